@@ -38,7 +38,7 @@ COMMANDS = [
     ("all commands at once", ["calls_have_one_status"]),
 ]
 LINK = {"Outcome.IsOutcome"}
-# The modules that a crate passes on by `pub use` in specs/Lib.antt, and where they stand.
+# The modules that a crate passes on by `pub use` in specs/Lib.antt or in the file of a folder, and where they stand.
 PASSED_ON = {}
 
 WORD = re.compile(r"[^\s(){}\[\].,;:λ→×⊎]+")
@@ -131,8 +131,9 @@ def all_definitions():
     definitions, brought = {}, {}
     for path in sorted(glob.glob("crates/*/specs/**/*.antt", recursive=True)):
         parts = path[:-5].split("/")
-        if parts[3:] == ["Lib"]:
-            PASSED_ON.update({(parts[1], name): home for name, home in imports(open(path).read())[1].items()})
+        front = "" if parts[3:] == ["Lib"] else ".".join(parts[3:]) + "."
+        passed = "\n".join(re.findall(r"^pub use .*$", open(path).read(), re.M))
+        PASSED_ON.update({(parts[1], front + name): home for name, home in imports(passed)[1].items()})
         read(path, (parts[1], ".".join(parts[3:])), definitions, brought)
     return definitions, brought
 

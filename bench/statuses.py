@@ -15,9 +15,9 @@ ROW = re.compile(r"^row_of (?:\((\w+)[^)]*\)|(\w+)) =\s+row (\d+) (.*?)\[\]\)?$"
 PART = re.compile(r'\((?:codes "([^"]*)"|\w+ \w+), (None|Some \w+)\)')
 
 
-def statuses(crate):
+def statuses(folder):
     """Of each status its name, its number, and a pattern of its lines."""
-    text = (TOP / "crates" / crate / "specs" / "Rows.antt").read_text(encoding="utf-8")
+    text = (TOP / "crates" / folder / "Rows.antt").read_text(encoding="utf-8")
     for with_numbers, alone, number, parts in ROW.findall(text):
         line = "".join((re.escape(word) if word else r"\w+") + (r"\d+" if behind != "None" else "") for word, behind in PART.findall(parts))
         yield with_numbers or alone, int(number), line
@@ -40,12 +40,12 @@ def is_example(number, example, status):
 
 
 def main():
-    table = [status for status in statuses("spiral_status") if status[2]]
+    table = [status for status in statuses("spiral_words/specs/SpiralStatus") if status[2]]
     shown = list(examples())
     faults = [f"no status {number} has the line {line}" for number, line in shown if not any(is_example(number, line, s) for s in table)]
     faults += [f"{status[0]} has no example" for status in table if not any(is_example(*example, status) for example in shown)]
     ours = {status[:2]: status[2] for status in table}
-    own = [s for s in statuses("fast_main") if s[2] and s[0] != "Usage" and ours.get(s[:2]) != s[2]]
+    own = [s for s in statuses("fast_main/specs") if s[2] and s[0] != "Usage" and ours.get(s[:2]) != s[2]]
     faults += [f"{name} of spiral-fast is not on the page" for name, _, line in own if not any(re.search(line, text) for text in re.findall(r"`([^`]*)`", PAGE))]
     for fault in faults:
         print(f"docs/STATUS.md: {fault}")

@@ -1,3 +1,4 @@
+pub mod InputRest
 pub mod Data
 pub mod Ending
 pub mod Held

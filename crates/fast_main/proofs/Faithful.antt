@@ -7,18 +7,18 @@ use Rattle.icode.specs.declared.program.Program.{Program}
 use Rattle.icode.specs.Machine.{IsApart, results}
 use Rattle.icode.specs.Plain.{PlainProgram}
 use Rattle.icode.specs.Program.{plain_program, code_of, Fits}
-use Rattle.in_place.specs.InPlace.{in_place}
-use Rattle.in_place.specs.Laws.{LeavesAlike}
-use Rattle.in_place.proofs.Fitting.{in_place_fits, in_place_apart}
-use Rattle.loop_interchange.specs.Interchange.{are_nests, interchanged_body, interchanged}
-use Rattle.loop_interchange.proofs.Law.{interchanged_leaves_the_same}
-use Rattle.loop_interchange.proofs.Programs.{modulus_stays}
-use Rattle.loop_lanes.specs.Lanes.{IsLanes, can_be_laned, laned, laned_body}
-use Rattle.loop_lanes.proofs.Law.{laned_leaves_the_same}
-use Rattle.two_tables.specs.Laws.{IsInPlaceOf}
-use Rattle.two_tables.specs.TwoTables.{factored, large_table}
-use Rattle.two_tables.proofs.Law.{factored_leaves_the_same}
-use Rattle.two_tables.proofs.Programs.{after}
+use Rattle.word_code.specs.InPlace.InPlace.{in_place}
+use Rattle.word_code.specs.InPlace.Laws.{LeavesAlike}
+use Rattle.word_code.proofs.InPlace.Fitting.{in_place_fits, in_place_apart}
+use Rattle.fast_loops.specs.Interchange.{are_nests, interchanged_body, interchanged}
+use Rattle.fast_loops.proofs.Law.{interchanged_leaves_the_same}
+use Rattle.fast_loops.proofs.Programs.{modulus_stays}
+use Rattle.fast_loops.specs.LoopLanes.Lanes.{IsLanes, can_be_laned, laned, laned_body}
+use Rattle.fast_loops.proofs.LoopLanes.Law.{laned_leaves_the_same}
+use Rattle.fast_loops.specs.TwoTables.Laws.{IsInPlaceOf}
+use Rattle.fast_loops.specs.TwoTables.TwoTables.{factored, large_table}
+use Rattle.fast_loops.proofs.TwoTables.Law.{factored_leaves_the_same}
+use Rattle.fast_loops.proofs.TwoTables.Programs.{after}
 use Rattle.word_code.specs.declared.program.WordProgram.{WordProgram}
 use Rattle.word_code.specs.declared.choose.WordSize.{WordSize}
 use Rattle.word_code.specs.Choice.{allows, fast_words, laziness_for}
@@ -28,7 +28,7 @@ use Rattle.word_code.specs.Same.{LeavesTheSame, FitsAs}
 use Rattle.word_code.specs.View.{plain_word_program}
 use Rattle.word_code.specs.WordMachine.{word_results}
 use Rattle.word_code.specs.WordProgram.{PlainWordProgram, word_code}
-use Rattle.fast_words.specs.Asked.{IsLaneCount}
+use Rattle.fast_main.specs.FastWords.Asked.{IsLaneCount}
 use Rattle.fast_main.specs.Translation.{has_cheap_products, on_lanes, prepared, words_for, IsFaithful, AreSoundWords}
 
 -- ---- the prepared program

@@ -1,3 +1,4 @@
+pub mod FastWords
 pub mod Refusals
 pub mod Faithful
 pub mod Rerouted

@@ -15,8 +15,8 @@ use Rattle.fast_main.specs.declared.status.Status.TheVariants.{ListingSyntax}
 use Rattle.fast_main.specs.Outcome.{action_limit, IsUnsound, IsTranslated, IsRefused, IsAnswer, IsOutcomeOfListing, IsOutcome}
 use Rattle.fast_main.specs.Status.{status_of_check}
 use Rattle.fast_main.specs.Translation.{fast_text}
-use Rattle.fast_words.specs.Asked.{Asked, asked}
-use Rattle.input_rest.specs.Part.{first_part}
+use Rattle.fast_main.specs.FastWords.Asked.{Asked, asked}
+use Rattle.data_stream.specs.InputRest.Part.{first_part}
 use Rattle.word_code.specs.declared.choose.WordSize.{WordSize}
 use Rattle.word_code.specs.Choice.{allows}
 

@@ -1,10 +1,10 @@
 -- Programs on words whose statements go by other routes can be spelt as those that they are made of.
 use Rattle.std.proofs.Common.{◌≡◌, ℕ, ◌+◌, ltb, ◌&&◌, List, [], ◌∷◌, map, refl, ap, ap₂}
 use Rattle.icode.specs.Plain.{PlainOp, PlainProgram, Load, Store, Zero, Add, Sub, Neg, MulConst, MulTable, Tile}
-use Rattle.in_place.specs.InPlace.{in_place, routes_of}
-use Rattle.in_place.specs.Routes.{rerouted_op, rerouted_stmt, rerouted_body, rerouted_phase}
+use Rattle.word_code.specs.InPlace.InPlace.{in_place, routes_of}
+use Rattle.word_code.specs.InPlace.Routes.{rerouted_op, rerouted_stmt, rerouted_body, rerouted_phase}
 use Rattle.word_code.specs.WordProgram.{WordStmt, WordBody, PlainWordProgram, Loop, Do, NoStmts, AndStmts}
-use Rattle.word_print.specs.WordNests.{is_tile_small, is_word_nest_within, are_word_nests_within, are_word_phases_within}
+use Rattle.word_code.specs.WordPrint.WordNests.{is_tile_small, is_word_nest_within, are_word_nests_within, are_word_phases_within}
 
 tile-same : (route : _) (op : PlainOp) → is_tile_small (rerouted_op route op) ≡ is_tile_small op
 tile-same route (Load register array place) = refl

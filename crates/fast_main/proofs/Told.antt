@@ -3,13 +3,13 @@ use Rattle.std.proofs.Common.{◌≡◌, ◌≢◌, ℕ, ◌<◌, ◌≤◌, Lis
 use Rattle.std.specs.declared.option.Option.{Option}
 use Rattle.std.specs.Io.KnownBytes.{Appends, Consumes, IsAtEnd, prepend_known}
 use Rattle.std.proofs.KnownBytes.{Appends-nil}
-use Rattle.fast_words.specs.Asked.{Asked, asked}
-use Rattle.fast_words.specs.declared.options.Refusal.{Refusal}
-use Rattle.fast_words.specs.declared.options.Refusal.TheVariants as words
-use Rattle.input_rest.specs.declared.RestFault.{RestFault}
-use Rattle.input_rest.specs.declared.RestFault.TheVariants as rest
-use Rattle.input_rest.specs.Part.{first_part, HasPartEnded, IsWholePart, GivesPart}
-use Rattle.input_rest.proofs.PartLemmas.{still_ended}
+use Rattle.fast_main.specs.FastWords.Asked.{Asked, asked}
+use Rattle.fast_main.specs.declared.fast_words.options.Refusal.{Refusal}
+use Rattle.fast_main.specs.declared.fast_words.options.Refusal.TheVariants as words
+use Rattle.data_stream.specs.declared.input_rest.RestFault.{RestFault}
+use Rattle.data_stream.specs.declared.input_rest.RestFault.TheVariants as rest
+use Rattle.data_stream.specs.InputRest.Part.{first_part, HasPartEnded, IsWholePart, GivesPart}
+use Rattle.data_stream.proofs.InputRest.PartLemmas.{still_ended}
 use Rattle.io_edge.specs.Feed.{Fed, to_come}
 use Rattle.io_edge.specs.Taken.{AppendsPrefix}
 use Rattle.fast_main.specs.declared.status.Status.{Status}

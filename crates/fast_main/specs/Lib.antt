@@ -1,3 +1,4 @@
+pub mod FastWords
 pub mod Words
 pub mod Translation
 pub mod Rows

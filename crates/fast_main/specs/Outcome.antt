@@ -17,8 +17,8 @@ use Rattle.fast_main.specs.declared.status.Status.TheVariants.{Success, Usage, L
 use Rattle.fast_main.specs.Status.{listing_limit, status_of_check}
 use Rattle.fast_main.specs.Translation.{fast_text, AreSoundWords}
 use Rattle.fast_main.specs.Words.{bits_of}
-use Rattle.fast_words.specs.Asked.{Asked, asked}
-use Rattle.input_rest.specs.Part.{first_part, HasPartEnded, IsInPart}
+use Rattle.fast_main.specs.FastWords.Asked.{Asked, asked}
+use Rattle.data_stream.specs.InputRest.Part.{first_part, HasPartEnded, IsInPart}
 
 -- how many actions a program has at most
 abbrev pub action_limit : ℕ

@@ -2,13 +2,13 @@
 use Rattle.std.specs.Prelude.{ℕ, ◌^◌, List, codes, Ok, Err, Result}
 use Rattle.code_check.specs.declared.CheckFault.{CheckFault}
 use Rattle.code_check.specs.declared.CheckFault.TheVariants as check
-use Rattle.fast_words.specs.declared.options.Refusal.{Refusal}
-use Rattle.fast_words.specs.declared.options.Refusal.TheVariants as words
-use Rattle.input_rest.specs.declared.RestFault.{RestFault}
-use Rattle.input_rest.specs.declared.RestFault.TheVariants as rest
+use Rattle.fast_main.specs.declared.fast_words.options.Refusal.{Refusal}
+use Rattle.fast_main.specs.declared.fast_words.options.Refusal.TheVariants as words
+use Rattle.data_stream.specs.declared.input_rest.RestFault.{RestFault}
+use Rattle.data_stream.specs.declared.input_rest.RestFault.TheVariants as rest
 use Rattle.listing_text.specs.declared.listing.ListingFault.{ListingFault}
 use Rattle.listing_text.specs.declared.listing.ListingFault.TheVariants as listing
-use Rattle.status_rows.specs.Rows.{line_of}
+use Rattle.io_edge.specs.StatusRows.Rows.{line_of}
 use Rattle.fast_main.specs.declared.status.Status.{Status}
 use Rattle.fast_main.specs.declared.status.Status.TheVariants.{Success, Usage, ListingSyntax, OverSteps, Address, Register, LineShared, ReadFault, WriteFault, NoMemory, TooLong}
 use Rattle.fast_main.specs.Rows.{row_of}

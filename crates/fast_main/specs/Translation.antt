@@ -3,18 +3,18 @@ use Rattle.std.specs.Prelude.{◌≡◌, ℕ, ◌==◌, ◌<◌, ◌≤◌, nat_
 use Rattle.icode.specs.Actions.{plain_code}
 use Rattle.icode.specs.Machine.{IsApart, results}
 use Rattle.icode.specs.Plain.{PlainProgram}
-use Rattle.fast_words.specs.Asked.{Asked}
-use Rattle.in_place.specs.InPlace.{in_place}
-use Rattle.loop_interchange.specs.Interchange.{interchanged}
-use Rattle.loop_lanes.specs.Lanes.{laned}
-use Rattle.two_tables.specs.TwoTables.{factored, large_table}
+use Rattle.fast_main.specs.FastWords.Asked.{Asked}
+use Rattle.word_code.specs.InPlace.InPlace.{in_place}
+use Rattle.fast_loops.specs.Interchange.{interchanged}
+use Rattle.fast_loops.specs.LoopLanes.Lanes.{laned}
+use Rattle.fast_loops.specs.TwoTables.TwoTables.{factored, large_table}
 use Rattle.word_code.specs.Bare.{WordsFit}
 use Rattle.word_code.specs.declared.choose.WordSize.{WordSize}
 use Rattle.word_code.specs.declared.choose.WordSize.TheVariants.{Any, Of32, Of52, Of64}
 use Rattle.word_code.specs.Choice.{fast_words}
 use Rattle.word_code.specs.WordMachine.{under, word_results}
 use Rattle.word_code.specs.WordProgram.{PlainWordProgram, word_code}
-use Rattle.word_print.specs.WordText.{words_text}
+use Rattle.word_code.specs.WordPrint.WordText.{words_text}
 
 -- the program where loops are interchanged, and where rounds of loops become lanes if several are asked for
 abbrev pub on_lanes : ℕ → PlainProgram → PlainProgram

@@ -5,12 +5,14 @@ ghost use Rattle.std.specs.Prelude.{◌≡◌, ℕ, List};
 ghost use Rattle.fast_main.specs.declared.status.Status.{Status as SpecStatus};
 ghost use Rattle.fast_main.specs.Outcome.{IsOutcome};
 
+mod fast_words;
 mod prepare;
 mod rows;
 mod run;
 mod status;
 mod words;
 
+pub use fast_words::{Options, Refusal, options_of};
 pub use run::{LISTING_LIMIT, fast_run};
 pub use status::Status;
 

@@ -2,15 +2,13 @@
 ghost use Rattle.std.specs.Prelude.{◌≡◌, ℕ, IfOk};
 ghost use Rattle.icode.specs.Machine.{IsApart};
 ghost use Rattle.icode.specs.Program.{plain_program, code_of, Fits};
-ghost use Rattle.fast_words.specs.Asked.{IsLaneCount};
+ghost use Rattle.fast_main.specs.FastWords.Asked.{IsLaneCount};
 ghost use Rattle.fast_main.specs.Translation.{has_cheap_products, on_lanes, prepared};
 
+use fast_loops::{LARGE_TABLE, factor_tables, interchange, lane_loops};
 use icode::program::Program;
-use loop_interchange::interchange;
-use loop_lanes::lane_loops;
 use memory::NoMemory;
 use std::alloc::Global;
-use two_tables::{LARGE_TABLE, factor_tables};
 use word_code::choose::WordSize;
 
 /// Whether two products cost less than an entry of a large table.

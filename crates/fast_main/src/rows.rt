@@ -2,13 +2,12 @@
 ghost use Rattle.std.specs.Prelude.{◌≡◌};
 ghost use Rattle.io_edge.specs.Faults.{HasCause};
 ghost use Rattle.io_edge.specs.Taken.{WritesAll};
-ghost use Rattle.status_rows.specs.View.{plain_row};
+ghost use Rattle.io_edge.specs.StatusRows.View.{plain_row};
 ghost use Rattle.fast_main.specs.Rows.{row_of};
 ghost use Rattle.fast_main.specs.Status.{code_of, note_line};
 
 use crate::Status;
-use io_edge::{Sink, WriteFault};
-use status_rows::{Row, row};
+use io_edge::{Row, Sink, WriteFault, row};
 
 impl Status {
     // The row of a status.

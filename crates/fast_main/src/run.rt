@@ -6,29 +6,28 @@ ghost use Rattle.icode.specs.Machine.{IsApart};
 ghost use Rattle.icode.specs.Program.{plain_program, code_of, Fits};
 ghost use Rattle.io_edge.specs.Faults.{Reports};
 ghost use Rattle.word_code.specs.Choice.{allows};
-ghost use Rattle.fast_words.specs.View.{plain_options};
+ghost use Rattle.fast_main.specs.FastWords.View.{plain_options};
 ghost use Rattle.fast_main.specs.Outcome.{IsRefused, IsTranslated, IsInside, IsDefined};
 ghost use Rattle.fast_main.specs.Outcome.{AreJudged, HasReadListing};
 ghost use Rattle.fast_main.specs.Outcome.{ToldAccounts, Notes};
 ghost use Rattle.fast_main.specs.Status.{note_line, status_of};
-ghost use Rattle.fast_words.specs.Asked.{IsLaneCount};
+ghost use Rattle.fast_main.specs.FastWords.Asked.{IsLaneCount};
 ghost use Rattle.fast_main.specs.Translation.{fast_text, AreSoundWords};
 
 use crate::Status;
+use crate::fast_words::{Options, options_of};
 use crate::prepare::prepare;
 use crate::rows::write_note;
 use crate::words::bits_of;
 use code_check::verify;
-use fast_words::{Options, options_of};
+use data_stream::read_part;
 use icode::program::Program;
-use in_place::work_in_place;
-use input_rest::read_part;
 use io_edge::{Feed, Sink, Source, write_all};
 use listing_text::read_listing;
 use memory::NoMemory;
 use std::alloc::Global;
 use word_code::choose::make_fast;
-use word_print::print_words;
+use word_code::{print_words, work_in_place};
 
 /// How many bytes a listing has at most.
 pub const LISTING_LIMIT: u64 = 1 << 26;

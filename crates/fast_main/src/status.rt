@@ -1,8 +1,8 @@
 // What a call answers with.
+use crate::fast_words::Refusal;
 use crate::run::LISTING_LIMIT;
 use code_check::CheckFault;
-use fast_words::Refusal;
-use input_rest::RestFault;
+use data_stream::RestFault;
 use io_edge::WriteFault;
 use listing_text::ListingFault;
 use memory::NoMemory;

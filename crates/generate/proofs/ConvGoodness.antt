@@ -3,7 +3,7 @@ use Rattle.std.proofs.Common.{◌≡◌, ℕ, ◌+◌, ◌*◌, ◌<◌, List, [
 use Rattle.std.proofs.lemmas.List.{length-map}
 use Rattle.matrix_meaning.specs.Convolution.{IsPrincipal}
 use Rattle.matrix_meaning.specs.Convolving.{IsConvRequest}
-use Rattle.formula_lower.specs.Merged.{tree_merged}
+use Rattle.sigma_lower.specs.Merged.{tree_merged}
 use Rattle.icode.specs.declared.program.Program.{Program}
 use Rattle.icode.specs.Machine.{padded, results, words_at}
 use Rattle.icode.specs.Program.{code_of, plain_program}
@@ -12,20 +12,20 @@ use Rattle.icode.proofs.Runs.{memory_of_runs}
 use Rattle.matrix_meaning.specs.Parts.{inverted}
 use Rattle.matrix_meaning.proofs.Requests.{valid_by_powers}
 use Rattle.tree_model.proofs.InverseTraffic.{inverse_loads, whole-same}
-use Rattle.joined_passes.specs.Joined.{joined, with_values}
-use Rattle.joined_passes.specs.Laws.{CountsBoth, JoinedCanProgram, JoinedCounts, JoinedMeans}
+use Rattle.loop_merge.specs.JoinedPasses.Joined.{joined, with_values}
+use Rattle.loop_merge.specs.JoinedPasses.Laws.{CountsBoth, JoinedCanProgram, JoinedCounts, JoinedMeans}
 use Rattle.matrix_meaning.specs.declared.Kind.TheVariants.{Dft}
 use Rattle.matrix_meaning.specs.declared.Request.{Request}
 use Rattle.matrix_meaning.specs.Valid.{IsValid}
 use Rattle.operators.proofs.Lists.{length-list_below}
-use Rattle.pass_programs.specs.Contract.{CanProgram, Performs}
-use Rattle.passes.specs.Good as passes
-use Rattle.passes.specs.Merged.{PlainMerged}
+use Rattle.code_gen.specs.PassCode.Contract.{CanProgram, Performs}
+use Rattle.sigma_spl.specs.Good as passes
+use Rattle.sigma_spl.specs.Merged.{PlainMerged}
 use Rattle.tree_model.specs.Breakdown.{Breakdown}
 use Rattle.tree_model.specs.Chosen.{IsWholeTree}
 use Rattle.tree_model.specs.Passes.{whole_passes}
-use Rattle.program_emit.specs.Machines.{machine_of}
-use Rattle.tree_passes.proofs.TreePrograms.{trees_can_program}
+use Rattle.code_gen.specs.Machines.{machine_of}
+use Rattle.generate.proofs.TreePasses.TreePrograms.{trees_can_program}
 use Rattle.generate.specs.Convolver.{IsConvolver}
 use Rattle.generate.specs.Factors.{factors_of}
 use Rattle.generate.specs.ConvLetters.{conv_merged}

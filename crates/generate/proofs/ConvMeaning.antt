@@ -4,10 +4,10 @@ use Rattle.std.specs.Prelude.{slice_index}
 use Rattle.matrix_meaning.specs.Convolution.{convolution, convolution_factor, IsPrincipal}
 use Rattle.matrix_meaning.specs.Convolving.{IsConvRequest}
 use Rattle.matrix_meaning.proofs.ConvolutionLaw.{convolution_by_diagonal}
-use Rattle.formula_lower.specs.Merged.{tree_merged}
+use Rattle.sigma_lower.specs.Merged.{tree_merged}
 use Rattle.matrix_meaning.specs.Parts.{inverted}
 use Rattle.matrix_meaning.proofs.Roots.{root-is}
-use Rattle.joined_passes.specs.Laws.{JoinedMeans}
+use Rattle.loop_merge.specs.JoinedPasses.Laws.{JoinedMeans}
 use Rattle.matrix_meaning.specs.declared.Kind.TheVariants.{Dft}
 use Rattle.matrix_meaning.specs.declared.Request.{Request}
 use Rattle.matrix_meaning.specs.Kind.{transform}
@@ -15,11 +15,11 @@ use Rattle.matrix_meaning.specs.Valid.{IsValid}
 use Rattle.operators.specs.Operator.{scale}
 use Rattle.operators.specs.Sum.{list_below}
 use Rattle.operators.proofs.Lists.{at-list_below, length-list_below, list_below-same}
-use Rattle.passes.specs.Good.{IsVector}
-use Rattle.passes.specs.Merged.{merged_on}
+use Rattle.sigma_spl.specs.Good.{IsVector}
+use Rattle.sigma_spl.specs.Merged.{merged_on}
 use Rattle.tree_model.specs.Breakdown.{Breakdown}
 use Rattle.tree_model.specs.Chosen.{IsWholeTree}
-use Rattle.tree_passes.proofs.Merged.{trees_are_merged}
+use Rattle.generate.proofs.TreePasses.Merged.{trees_are_merged}
 use Rattle.generate.specs.ConvLetters.{conv_merged}
 use Rattle.generate.specs.Factors.{factors_of}
 use Rattle.generate.proofs.ConvTrees.{conv_asked, conv_not_wht, conv_small}

@@ -1,6 +1,6 @@
 -- Trees of a request for convolutions, which is of one size and no inverse.
 use Rattle.std.proofs.Common.{◌≡◌, ◌≢◌, ℕ, List, None, refl, sym, ap, ◌∙◌, subst}
-use Rattle.formula_lower.specs.Merged.{layout_merged, tree_merged}
+use Rattle.sigma_lower.specs.Merged.{layout_merged, tree_merged}
 use Rattle.matrix_meaning.specs.Asked.{asked_of}
 use Rattle.matrix_meaning.specs.Convolving.{IsConvRequest}
 use Rattle.matrix_meaning.specs.declared.Kind.{Kind}
@@ -10,10 +10,10 @@ use Rattle.matrix_meaning.specs.Parts.{inverted}
 use Rattle.matrix_meaning.specs.Valid.{IsValid}
 use Rattle.matrix_meaning.proofs.Asked.{asked_of_one}
 use Rattle.matrix_meaning.proofs.Requests.{inverse_is_valid}
-use Rattle.pass_programs.specs.Contract.{all_passes}
-use Rattle.passes.specs.Merged.{PlainMerged}
-use Rattle.steps.specs.Targets.{target_of}
-use Rattle.steps.specs.Whole.{factor_by, whole_of}
+use Rattle.code_gen.specs.PassCode.Contract.{all_passes}
+use Rattle.sigma_spl.specs.Merged.{PlainMerged}
+use Rattle.smp_rewrite.specs.LayoutSteps.Targets.{target_of}
+use Rattle.smp_rewrite.specs.LayoutSteps.Whole.{factor_by, whole_of}
 use Rattle.tree_model.specs.Breakdown.{Breakdown}
 use Rattle.tree_model.specs.Chosen.{IsWholeTree, whole_cost}
 use Rattle.tree_model.specs.Cost.{cost_of}
@@ -22,13 +22,13 @@ use Rattle.tree_model.proofs.FlatTrees.{flat_costs}
 use Rattle.tree_model.proofs.InverseCosts.{inverse_costs}
 use Rattle.tree_model.proofs.InverseTrees.{inverse_admits}
 use Rattle.tree_model.proofs.WholeTrees.{admissible_is_whole, cost_itself, forward_itself, whole_is_admissible}
-use Rattle.program_emit.specs.Machines.{machine_of}
-use Rattle.formula_lower.proofs.TreeLayouts.{trees_can_lower}
-use Rattle.tree_passes.proofs.ClosedWholes.{wholes_merge}
-use Rattle.tree_passes.proofs.Small.{AreSmall, layout_small}
-use Rattle.tree_passes.proofs.TreeHosted.{tree_hosted}
+use Rattle.code_gen.specs.Machines.{machine_of}
+use Rattle.sigma_lower.proofs.TreeLayouts.{trees_can_lower}
+use Rattle.generate.proofs.TreePasses.ClosedWholes.{wholes_merge}
+use Rattle.generate.proofs.TreePasses.Small.{AreSmall, layout_small}
+use Rattle.generate.proofs.TreePasses.TreeHosted.{tree_hosted}
 use Rattle.generate.specs.Factors.{root_transform}
-use Rattle.tree_passes.specs.Closed.{closed_merged}
+use Rattle.generate.specs.TreePasses.Closed.{closed_merged}
 
 -- ---- one such request
 

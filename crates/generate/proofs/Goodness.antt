@@ -2,7 +2,7 @@
 use Rattle.std.proofs.Common.{◌≡◌, ℕ, zero, suc, ◌+◌, ◌*◌, ◌/◌, ◌<◌, List, [], sym, ap, ◌∙◌, arith, subst, flat_map, length}
 use Rattle.std.proofs.Math.Nat.{mul-div_cancel_left}
 use Rattle.std.specs.List.{range_with_len}
-use Rattle.formula_lower.specs.Merged.{tree_merged}
+use Rattle.sigma_lower.specs.Merged.{tree_merged}
 use Rattle.icode.specs.declared.program.Program.{Program}
 use Rattle.icode.specs.Machine.{acts, counts_of, padded, results, whole_counts, words_at}
 use Rattle.icode.specs.Program.{code_of, plain_program}
@@ -12,15 +12,15 @@ use Rattle.matrix_meaning.specs.Asked.{asked_of}
 use Rattle.matrix_meaning.specs.declared.Request.{Request}
 use Rattle.matrix_meaning.specs.Valid.{IsValid}
 use Rattle.operators.specs.Sum.{sum_below}
-use Rattle.pass_programs.specs.Contract.{Performs}
-use Rattle.passes.specs.Good as vectors
+use Rattle.code_gen.specs.PassCode.Contract.{Performs}
+use Rattle.sigma_spl.specs.Good as vectors
 use Rattle.tree_model.specs.Breakdown.{Breakdown}
 use Rattle.tree_model.specs.Chosen.{IsWholeTree, whole_cost}
 use Rattle.tree_model.specs.WholePasses.{request_passes, whole_loads, whole_stores}
 use Rattle.tree_model.proofs.WholeCosts.{passes_do_the_cost}
-use Rattle.program_emit.specs.Machines.{machine_of}
-use Rattle.tree_passes.specs.Merged.{IsMergedTree}
-use Rattle.tree_passes.proofs.Merged.{trees_are_merged}
+use Rattle.code_gen.specs.Machines.{machine_of}
+use Rattle.generate.specs.TreePasses.Merged.{IsMergedTree}
+use Rattle.generate.proofs.TreePasses.Merged.{trees_are_merged}
 use Rattle.generate.specs.Good.{IsGood, IsVector}
 use Rattle.generate.specs.Lean.{IsLean, IsLeanCode}
 use Rattle.generate.proofs.Parts.{IsShare, lean-code, share-of}

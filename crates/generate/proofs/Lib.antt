@@ -1,3 +1,6 @@
+pub mod FormulaCode
+pub mod FormulaPasses
+pub mod TreePasses
 pub mod ConvExistence
 pub mod ConvGoodness
 pub mod ConvMeaning

@@ -11,17 +11,17 @@ use Rattle.icode.specs.declared.action.Counts.{Counts}
 use Rattle.icode.specs.declared.program.Array.{Array}
 use Rattle.icode.specs.declared.program.Array.TheVariants.{X}
 use Rattle.matrix_meaning.specs.declared.Request.{Request}
-use Rattle.pass_actions.specs.Costs.{pass_cost, pass_loads}
-use Rattle.pass_programs.specs.Contract.{Performs, all_passes, joined}
-use Rattle.pass_programs.specs.Contract as contract
-use Rattle.pass_programs.specs.Program.{target_of}
-use Rattle.passes.specs.Merged.{PlainMerged}
-use Rattle.passes.specs.Nest.{PlainNest}
+use Rattle.code_gen.specs.PassActions.Costs.{pass_cost, pass_loads}
+use Rattle.code_gen.specs.PassCode.Contract.{Performs, all_passes, joined}
+use Rattle.code_gen.specs.PassCode.Contract as contract
+use Rattle.code_gen.specs.PassCode.Program.{target_of}
+use Rattle.sigma_spl.specs.Merged.{PlainMerged}
+use Rattle.sigma_spl.specs.Nest.{PlainNest}
 use Rattle.tree_model.specs.Breakdown.{Breakdown}
 use Rattle.tree_model.specs.WholePasses.{RequestPass, cost_of_pass, loads_of_pass, request_passes}
-use Rattle.program_emit.specs.Machines.{machine_of}
-use Rattle.tree_passes.specs.Merged.{IsMergedTree}
-use Rattle.tree_passes.proofs.Adding.{adds}
+use Rattle.code_gen.specs.Machines.{machine_of}
+use Rattle.generate.specs.TreePasses.Merged.{IsMergedTree}
+use Rattle.generate.proofs.TreePasses.Adding.{adds}
 use Rattle.generate.specs.Lean.{AreParts, IsLeanCode, IsLeanList, IsPart, start_of}
 
 cons-head : {x y : ℕ} {xs ys : List ℕ} → x ∷ xs ≡ y ∷ ys → x ≡ y

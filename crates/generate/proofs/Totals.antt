@@ -3,15 +3,15 @@ use Rattle.std.proofs.Common.{◌≡◌, ℕ, ◌+◌, List, [], ◌∷◌, leng
 use Rattle.std.specs.Prelude.{sum_by}
 use Rattle.std.proofs.lemmas.List.{length-map}
 use Rattle.std.proofs.lemmas.List.Sums.{sum_by-cons}
-use Rattle.formula_lower.specs.Merged.{tree_merged}
+use Rattle.sigma_lower.specs.Merged.{tree_merged}
 use Rattle.matrix_meaning.specs.Convolving.{IsConvRequest}
 use Rattle.matrix_meaning.specs.declared.Kind.{Kind}
 use Rattle.matrix_meaning.specs.declared.Request.{Request}
 use Rattle.matrix_meaning.specs.Parts.{forward_by}
 use Rattle.matrix_meaning.specs.Valid.{IsValid}
-use Rattle.pass_actions.specs.Costs.{pass_cost, pass_loads}
-use Rattle.pass_programs.specs.Contract.{all_passes}
-use Rattle.passes.specs.Nest.{PlainNest}
+use Rattle.code_gen.specs.PassActions.Costs.{pass_cost, pass_loads}
+use Rattle.code_gen.specs.PassCode.Contract.{all_passes}
+use Rattle.sigma_spl.specs.Nest.{PlainNest}
 use Rattle.tree_model.specs.declared.tree.Rule.TheVariants.{Gt, Ct, Split, Dim}
 use Rattle.tree_model.specs.Breakdown.{Breakdown, leaf, node}
 use Rattle.tree_model.specs.Chosen.{IsWholeTree, whole_cost}
@@ -20,8 +20,8 @@ use Rattle.tree_model.specs.Passes as trees
 use Rattle.tree_model.specs.Whole.{IsTreeOf}
 use Rattle.tree_model.specs.WholePasses.{pass_of, closed_by, cost_of_pass, flat_passes, loads_of_pass, request_passes}
 use Rattle.tree_model.proofs.WholeCosts.{passes_do_the_cost}
-use Rattle.tree_passes.specs.Counts.{CountsTree}
-use Rattle.tree_passes.proofs.Merged.{trees_are_merged}
+use Rattle.generate.specs.TreePasses.Counts.{CountsTree}
+use Rattle.generate.proofs.TreePasses.Merged.{trees_are_merged}
 use Rattle.generate.proofs.ConvTrees.{conv_tree}
 
 -- ---- what is listed alike has the same sum

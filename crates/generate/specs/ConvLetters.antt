@@ -1,14 +1,14 @@
 -- The program of a convolution, statement by statement.
 use Rattle.std.specs.Prelude.{ℕ, List}
-use Rattle.formula_lower.specs.Merged.{tree_merged}
+use Rattle.sigma_lower.specs.Merged.{tree_merged}
 use Rattle.icode.specs.Plain.{PlainProgram}
 use Rattle.matrix_meaning.specs.Parts.{inverted}
-use Rattle.joined_passes.specs.Joined.{joined}
+use Rattle.loop_merge.specs.JoinedPasses.Joined.{joined}
 use Rattle.matrix_meaning.specs.declared.Request.{Request}
-use Rattle.pass_programs.specs.Program.{program_of}
-use Rattle.passes.specs.Merged.{PlainMerged}
+use Rattle.code_gen.specs.PassCode.Program.{program_of}
+use Rattle.sigma_spl.specs.Merged.{PlainMerged}
 use Rattle.tree_model.specs.Breakdown.{Breakdown}
-use Rattle.program_emit.specs.Machines.{machine_of}
+use Rattle.code_gen.specs.Machines.{machine_of}
 use Rattle.generate.specs.Factors.{factors_of}
 
 -- the passes of the tree, a diagonal, and the passes of the tree by the inverse root

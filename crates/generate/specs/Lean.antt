@@ -10,8 +10,8 @@ use Rattle.icode.specs.Machine.{Code, acts, counts_of, weighted, whole_counts, w
 use Rattle.icode.specs.Program.{code_of}
 use Rattle.matrix_meaning.specs.declared.Request.{Request}
 use Rattle.operators.specs.Sum.{sum_below}
-use Rattle.pass_programs.specs.Contract.{Stays, joined}
-use Rattle.pass_programs.specs.Program.{target_of}
+use Rattle.code_gen.specs.PassCode.Contract.{Stays, joined}
+use Rattle.code_gen.specs.PassCode.Program.{target_of}
 use Rattle.tree_model.specs.Breakdown.{Breakdown}
 use Rattle.tree_model.specs.WholePasses.{RequestPass, cost_of_pass, loads_of_pass, request_passes, whole_loads, whole_stores}
 

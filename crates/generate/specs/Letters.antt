@@ -1,10 +1,10 @@
 -- The program of a request, statement by statement.
-use Rattle.formula_lower.specs.Merged.{tree_merged}
+use Rattle.sigma_lower.specs.Merged.{tree_merged}
 use Rattle.icode.specs.Plain.{PlainProgram}
 use Rattle.matrix_meaning.specs.declared.Request.{Request}
-use Rattle.pass_programs.specs.Program.{program_of}
+use Rattle.code_gen.specs.PassCode.Program.{program_of}
 use Rattle.tree_model.specs.Breakdown.{Breakdown}
-use Rattle.program_emit.specs.Machines.{machine_of}
+use Rattle.code_gen.specs.Machines.{machine_of}
 
 -- the program of the tree's merged passes, on the request's machine
 abbrev pub program_for : Request → Breakdown → PlainProgram

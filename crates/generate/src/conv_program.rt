@@ -11,18 +11,18 @@ ghost use Rattle.generate.specs.Factors.{factors_of, root_transform};
 ghost use Rattle.generate.specs.ConvLetters.{conv_program};
 ghost use Rattle.generate.specs.ConvPlanned.{IsConvPlanned};
 
+use crate::tree_passes::merge_tree;
 use breakdown::expand;
+use code_gen::emit_joined;
 use icode::program::Program;
-use joined_passes::join;
+use loop_merge::join;
 use matrix_meaning::Request;
 use memory::NoMemory;
 use plan_search::Plan;
-use program_emit::emit_joined;
 use ring_mod::Modulus;
 use spl_ast::Spl;
 use std::alloc::Global;
 use tree_model::{Ctx, Tree};
-use tree_passes::merge_tree;
 
 /// A program for convolutions with `h`, whose transforms go by the plan's tree.
 pub fn generate_conv(

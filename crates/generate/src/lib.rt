@@ -1,12 +1,15 @@
-//! From a request to a good program: one that computes what the request asks for under every order of its processors'
-//! turns, shares no line, and executes exactly the operations of the cheapest tree; and from a request for convolutions
-//! to its program.
+//! From a request or a formula to a good program: one that computes what is asked for under every order of its
+//! processors' turns, shares no line, and executes exactly the operations of the cheapest tree; and from a request
+//! for convolutions to its program.
 #![tactic(auto)]
 
 mod conv_plan;
 mod conv_program;
+mod formula_code;
+mod formula_passes;
 mod planning;
 mod program;
+mod tree_passes;
 
 ghost use Rattle.std.specs.Prelude.{◌≡◌, ◌≢◌, Ok, Err, Result, IfOk, IfErr};
 ghost use Rattle.generate.specs.ConvPlanned.{IsConvPlanned};
@@ -26,6 +29,8 @@ ghost use Rattle.tree_model.specs.Chosen.{whole_cost};
 
 pub use conv_plan::plan_conv;
 pub use conv_program::generate_conv;
+pub use formula_code::formula_program;
+pub use formula_passes::{formulas_can_program, formulas_compute};
 use icode::program::Program;
 use matrix_meaning::Request;
 use plan_search::{GenerateFault, Plan};
@@ -33,6 +38,7 @@ pub use planning::{admit, plan};
 use program::program_of_tree;
 use std::alloc::Global;
 use tree_model::Ctx;
+pub use tree_passes::{merge_tree, trees_are_merged, trees_can_program, trees_count};
 
 /// The cheapest tree with its cost, and its program.
 #[derive(Drop)]

@@ -1,19 +1,19 @@
 // The program of a request's tree.
 ghost use Rattle.std.specs.Prelude.{◌≡◌, IfOk};
-ghost use Rattle.formula_lower.specs.Merged.{tree_merged};
+ghost use Rattle.sigma_lower.specs.Merged.{tree_merged};
 ghost use Rattle.generate.specs.Letters.{program_for};
 ghost use Rattle.icode.specs.Program.{plain_program};
-ghost use Rattle.pass_programs.specs.Contract.{Performs};
+ghost use Rattle.code_gen.specs.PassCode.Contract.{Performs};
 ghost use Rattle.tree_model.specs.Breakdown.{breakdown_of};
 ghost use Rattle.tree_model.specs.Chosen.{IsWholeTree};
-ghost use Rattle.program_emit.specs.Machines.{machine_of};
+ghost use Rattle.code_gen.specs.Machines.{machine_of};
 
+use crate::tree_passes::merge_tree;
+use code_gen::emit;
 use icode::program::Program;
 use memory::NoMemory;
-use program_emit::emit;
 use std::alloc::Global;
 use tree_model::{Ctx, Tree};
-use tree_passes::merge_tree;
 
 /// The merged passes of the tree, written as code.
 pub fn program_of_tree(alloc: Global, c: &Ctx, tree: &Tree) -> Result<Program, NoMemory>

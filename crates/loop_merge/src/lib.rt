@@ -1,37 +1,71 @@
-//! Laws of a layout's passes: which permutations and diagonals go into each, their counts, and that each place is within the
-//! limits of programs (Franchetti et al., 2005).
+//! Terms merged into passes: permutations go into loads and stores, diagonals into the pass before them, and a copy
+//! pass takes what no pass can take within the limits. Copies side by side are joined, and so are the passes of two
+//! programs.
 #![tactic(auto)]
 
-ghost use Rattle.loop_merge.specs.Laws.{LayoutsCount, MergeCounts};
-ghost use Rattle.loop_merge.specs.Limits.{LoopsAreLimited, TreesMerge};
-ghost use Rattle.loop_merge.specs.Nests.{LoopsListed, TreeNests};
+mod copies;
+mod firsts;
+mod joined_copies;
+mod joined_passes;
+mod merging;
+mod multiplied_passes;
+mod multiplying;
+mod phases;
+mod state;
+mod steps;
 
-/// Merging makes the passes of the layout: a law of the definitions.
-pub fn merge_counts()
-    ensures { MergeCounts }
-{}
+ghost use Rattle.std.specs.Prelude.{◌≡◌, ◌^◌, ◌<◌, ◌≤◌, IfOk, map};
+ghost use Rattle.sigma_spl.specs.Limits.{HasSeveral};
+ghost use Rattle.sigma_spl.specs.Merge.{if_any};
+ghost use Rattle.sigma_spl.specs.Sigma.{passes_in_order};
+ghost use Rattle.sigma_spl.specs.Views.{plain_nest, plain_term};
+ghost use Rattle.sigma_spl.specs.Words.{AreWords};
+ghost use Rattle.loop_merge.specs.Known.{IsGood};
+ghost use Rattle.loop_nests.specs.Views.{plain_passes};
 
-/// Those of a tree's layout count as the passes of the cost model: a law of the definitions.
-pub fn layouts_count()
-    ensures { LayoutsCount }
-{}
+use crate::copies::with_first;
+use crate::firsts::{FirstPass, parted};
+use crate::merging::merged_alone;
+pub use joined_copies::{join_copies, joined_are_plain, joined_count, joined_mean};
+pub use joined_passes::{join, joined_can_program, joined_counts, joined_means};
+use loop_nests::copying;
+use memory::NoMemory;
+pub use multiplied_passes::{
+    multiplied_can_program, multiplied_counts, multiplied_means, multiply_last_pass,
+};
+pub use phases::merge;
+use sigma_spl::{Nest, Term};
+use std::alloc::Global;
 
-/// The loops of a phase's term are its passes: a law of the definitions.
-pub fn loops_listed()
-    ensures { LoopsListed }
-{}
+/// The passes of a term on lists of `size` words, in their order: within the limits of programs.
+pub fn merge_term(alloc: Global, size: u64, term: Term) -> Result<Vec<Vec<Nest>>, NoMemory>
+    requires size { (0 < size) × (size ≤ 2 ^ 20) }
+    requires good { IsGood size (plain_term term) }
+    requires several { HasSeveral (plain_term term) }
+    requires words { AreWords size (plain_term term) }
+    ensures { IfOk result (λ ps. map (λ zs. map plain_nest zs.items) ps.items
+        ≡ passes_in_order size (plain_term term)) }
+{
+    let passes = merged_alone(alloc, size, term, 64)?;
+    let mut passes = if_any(alloc, size, passes)?;
+    passes.reverse();
+    Ok(passes)
+}
 
-/// Each merged pass of a layout is one of its passes, as one nest: a law of the definitions.
-pub fn tree_nests()
-    ensures { TreeNests }
-{}
-
-/// No place of a layout's loops is over a limit of programs: a law of the definitions.
-pub fn loops_are_limited()
-    ensures { LoopsAreLimited }
-{}
-
-/// So the terms of a layout, merged within these limits, are its passes: a law of the definitions.
-pub fn trees_merge()
-    ensures { TreesMerge }
-{}
+// The passes, or a copy where there are none.
+fn if_any(alloc: Global, size: u64, passes: Vec<Vec<Nest>>) -> Result<Vec<Vec<Nest>>, NoMemory>
+    requires { (0 < size) × (size ≤ 2 ^ 20) }
+    ensures { IfOk result (λ ps. plain_passes ps.items ≡ if_any size (plain_passes passes.items)) }
+{
+    match parted(passes) {
+        None => {
+            let copies = copying(alloc, size)?;
+            let passes = with_first(copies, Vec::new(alloc))?;
+            Ok(passes)
+        }
+        Some(FirstPass { first, others }) => {
+            let passes = with_first(first, others)?;
+            Ok(passes)
+        }
+    }
+}

@@ -15,12 +15,12 @@ use Rattle.perm_algebra.proofs.AffineLaws.{value-le-top}
 use Rattle.perm_algebra.proofs.PartLaws.{in_range_at}
 use Rattle.operators.specs.Sum.{list_below}
 use Rattle.operators.proofs.Lists.{length-list_below}
-use Rattle.passes.specs.Good.{AreBelow}
-use Rattle.passes.specs.Limits.{AreSeveral, HasRows}
-use Rattle.passes.specs.Merge.{items_in, items_out, one_loop}
-use Rattle.passes.specs.Work.{PlainWork, kernel, rows, horner, tile, copy, work_size}
-use Rattle.passes.proofs.Small.{HasCounts, max-lt, divided-true}
-use Rattle.passes.proofs.Within.{IsSmall, constant-small, small-true, both-true}
+use Rattle.sigma_spl.specs.Good.{AreBelow}
+use Rattle.sigma_spl.specs.Limits.{AreSeveral, HasRows}
+use Rattle.sigma_spl.specs.Merge.{items_in, items_out, one_loop}
+use Rattle.sigma_spl.specs.Work.{PlainWork, kernel, rows, horner, tile, copy, work_size}
+use Rattle.sigma_spl.proofs.Small.{HasCounts, max-lt, divided-true}
+use Rattle.sigma_spl.proofs.Within.{IsSmall, constant-small, small-true, both-true}
 use Rattle.tensor_paths.specs.declared.Tensor.TheVariants.{Blocks, Columns}
 use Rattle.tensor_paths.specs.Path.{Path, count_of, size_under}
 use Rattle.loop_nests.specs.NewNests.{CanMove, new_limits}

@@ -1,3 +1,5 @@
+pub mod PassPlaces
+pub mod SumLimits
 pub mod Naming
 pub mod Items
 pub mod Lifting

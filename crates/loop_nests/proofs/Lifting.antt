@@ -12,13 +12,13 @@ use Rattle.perm_algebra.specs.Views.{plain_sum}
 use Rattle.perm_algebra.specs.declared.Affine.{Affine}
 use Rattle.perm_algebra.proofs.AffineLaws.{value-le-top}
 use Rattle.perm_algebra.proofs.PartLaws.{in_range_at}
-use Rattle.passes.specs.Limits.{AreSeveral}
-use Rattle.passes.specs.Merge.{total, is_divided, are_small, is_limited, is_within, is_multiplier_within, limits_of, renumbered}
-use Rattle.passes.specs.Nest.{PlainMultiplier, PlainNest}
-use Rattle.passes.specs.Work.{work_size}
-use Rattle.passes.proofs.Small.{renumbered-small, behind-small}
-use Rattle.passes.proofs.Walk.{and-left, and-right}
-use Rattle.passes.proofs.Within.{IsSmall}
+use Rattle.sigma_spl.specs.Limits.{AreSeveral}
+use Rattle.sigma_spl.specs.Merge.{total, is_divided, are_small, is_limited, is_within, is_multiplier_within, limits_of, renumbered}
+use Rattle.sigma_spl.specs.Nest.{PlainMultiplier, PlainNest}
+use Rattle.sigma_spl.specs.Work.{work_size}
+use Rattle.sigma_spl.proofs.Small.{renumbered-small, behind-small}
+use Rattle.sigma_spl.proofs.Walk.{and-left, and-right}
+use Rattle.sigma_spl.proofs.Within.{IsSmall}
 use Rattle.tensor_paths.specs.Path.{Path, count_of, size_under}
 use Rattle.loop_nests.specs.Ready.{AreReady, IsReadyMultiplier, IsReadyNest}
 use Rattle.loop_nests.specs.Lifted.{AreCounted, AreRaised, CanLift, CanRaise, IsCounted, counts_under}

@@ -6,12 +6,12 @@ use Rattle.perm_algebra.specs.Fits.{IsAffine}
 use Rattle.perm_algebra.specs.Room.{constant_of}
 use Rattle.perm_algebra.proofs.AffineLaws.{top-scaled, value-scaled, value-joined, value-le-top}
 use Rattle.perm_algebra.proofs.PartLaws.{in_range_at}
-use Rattle.passes.specs.Limits.{AreSeveral}
-use Rattle.passes.specs.Merge.{place_sum}
-use Rattle.passes.proofs.Natural.{sound-place_sum}
-use Rattle.passes.proofs.Small.{HasCounts, place-small, max-lt}
-use Rattle.passes.proofs.Within.{IsSmall}
-use Rattle.passes.specs.Room.{HasRoom}
+use Rattle.sigma_spl.specs.Limits.{AreSeveral}
+use Rattle.sigma_spl.specs.Merge.{place_sum}
+use Rattle.sigma_spl.proofs.Natural.{sound-place_sum}
+use Rattle.sigma_spl.proofs.Small.{HasCounts, place-small, max-lt}
+use Rattle.sigma_spl.proofs.Within.{IsSmall}
+use Rattle.sigma_spl.specs.Room.{HasRoom}
 use Rattle.tensor_paths.specs.declared.Tensor.TheVariants.{Blocks, Columns}
 use Rattle.tensor_paths.specs.Path.{Path, size_under}
 use Rattle.loop_nests.specs.Placed.{CanName}

@@ -6,9 +6,9 @@ use Rattle.index_fn.specs.Mapping.{Mapping, at}
 use Rattle.operators.specs.Sum.{list_below}
 use Rattle.perm_algebra.specs.Affine.{Sum, constant, variable, remainder, quotient, scaled, joined}
 use Rattle.perm_algebra.specs.Room.{HasCounts}
-use Rattle.passes.specs.Merge.{place_sum, items_in, items_out, new_nest, one_loop, copying}
-use Rattle.passes.specs.Work.{PlainWork, kernel, rows, horner, tile, copy, work_size, HasWords}
-use Rattle.passes.proofs.Natural.{sound-place_sum}
+use Rattle.sigma_spl.specs.Merge.{place_sum, items_in, items_out, new_nest, one_loop, copying}
+use Rattle.sigma_spl.specs.Work.{PlainWork, kernel, rows, horner, tile, copy, work_size, HasWords}
+use Rattle.sigma_spl.proofs.Natural.{sound-place_sum}
 use Rattle.tensor_paths.specs.declared.Tensor.TheVariants.{Blocks, Columns}
 use Rattle.tensor_paths.specs.Path.{Path, count_of, size_under}
 use Rattle.loop_nests.specs.Ready.{AreReady, IsReadyPass}

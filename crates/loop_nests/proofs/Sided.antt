@@ -4,9 +4,9 @@ use Rattle.std.specs.Prelude.{map}
 use Rattle.perm_algebra.specs.Affine.{Sum, constant, variable, remainder, quotient, IsSound, joined}
 use Rattle.perm_algebra.specs.Room.{HasCounts, IsReady}
 use Rattle.perm_algebra.proofs.Values.{sound-joined}
-use Rattle.passes.specs.Merge.{place_sum, copying, renumbered, renumbered_places, lifted, side, sides}
-use Rattle.passes.specs.Nest.{PlainMultiplier, PlainNest}
-use Rattle.passes.proofs.Natural.{sound-place_sum}
+use Rattle.sigma_spl.specs.Merge.{place_sum, copying, renumbered, renumbered_places, lifted, side, sides}
+use Rattle.sigma_spl.specs.Nest.{PlainMultiplier, PlainNest}
+use Rattle.sigma_spl.proofs.Natural.{sound-place_sum}
 use Rattle.tensor_paths.specs.Path.{Path, count_of}
 use Rattle.loop_nests.specs.Ready.{AreReady, IsReadyMultiplier, IsReadyNest, IsReadyPass, AreReadyPasses}
 use Rattle.loop_nests.proofs.Readies.{counts-joined, counts-place, depth-is, ready-copying}

@@ -7,14 +7,14 @@ use Rattle.std.proofs.lemmas.Bool.Decides.{nat_tests}
 use Rattle.std.proofs.lemmas.List.{map-append, reverse-append, reverse-reverse}
 use Rattle.perm_algebra.specs.Affine.{Sum, constant, variable, remainder, quotient, joined}
 use Rattle.perm_algebra.specs.Room.{constant_of}
-use Rattle.passes.specs.Limits.{AreSeveral, AreWithin}
-use Rattle.passes.specs.Merge.{is_limited, is_multiplier_within, is_within, items_in, lifted, limits_of, new_nest, one_loop, renumbered, renumbered_places}
-use Rattle.passes.specs.Nest.{PlainMultiplier, PlainNest}
-use Rattle.passes.specs.Views.{plain_nest}
-use Rattle.passes.specs.declared.nest.Nest.{Nest}
-use Rattle.passes.specs.Work.{copy}
-use Rattle.passes.proofs.Walk.{and-left, and-right}
-use Rattle.passes.proofs.Within.{both-true, constant-small, limited}
+use Rattle.sigma_spl.specs.Limits.{AreSeveral, AreWithin}
+use Rattle.sigma_spl.specs.Merge.{is_limited, is_multiplier_within, is_within, items_in, lifted, limits_of, new_nest, one_loop, renumbered, renumbered_places}
+use Rattle.sigma_spl.specs.Nest.{PlainMultiplier, PlainNest}
+use Rattle.sigma_spl.specs.Views.{plain_nest}
+use Rattle.sigma_spl.specs.declared.nest.Nest.{Nest}
+use Rattle.sigma_spl.specs.Work.{copy}
+use Rattle.sigma_spl.proofs.Walk.{and-left, and-right}
+use Rattle.sigma_spl.proofs.Within.{both-true, constant-small, limited}
 use Rattle.tensor_paths.specs.declared.Tensor.TheVariants.{Blocks}
 use Rattle.tensor_paths.specs.Path.{Path, size_under}
 use Rattle.loop_nests.specs.Ready.{AreReadyPasses, IsReadyNest, IsReadyPass}

@@ -1,3 +1,5 @@
+pub mod PassPlaces
+pub mod SumLimits
 pub mod Views
 pub mod Ready
 pub mod Placed

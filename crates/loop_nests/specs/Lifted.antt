@@ -1,8 +1,8 @@
 -- Nests of a part, which can be made part of a larger array with words of 64 bits.
 use Rattle.std.specs.Prelude.{ℕ, ◌+◌, ◌-◌, ◌^◌, ◌<◌, ◌≤◌, List, [], ◌∷◌, ◌++◌, map, length, slice_index, Option, Some, None}
-use Rattle.passes.specs.Merge.{copying, place_sum, renumbered}
-use Rattle.passes.specs.Nest.{PlainMultiplier, PlainNest}
-use Rattle.passes.specs.Work.{HasWords, work_size}
+use Rattle.sigma_spl.specs.Merge.{copying, place_sum, renumbered}
+use Rattle.sigma_spl.specs.Nest.{PlainMultiplier, PlainNest}
+use Rattle.sigma_spl.specs.Work.{HasWords, work_size}
 use Rattle.perm_algebra.specs.Affine.{Sum, constant, joined, value}
 use Rattle.perm_algebra.specs.Fits.{IsAffine, Stays}
 use Rattle.perm_algebra.specs.Room.{CanJoin, HasCounts, constant_of}

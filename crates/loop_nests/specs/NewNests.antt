@@ -2,9 +2,9 @@
 use Rattle.std.specs.Prelude.{ℕ, List, [], ◌∷◌, ◌++◌, length, map}
 use Rattle.index_fn.specs.Mapping.{Mapping, at}
 use Rattle.operators.specs.Sum.{list_below}
-use Rattle.passes.specs.Merge.{items_in, items_out, new_nest, place_sum}
-use Rattle.passes.specs.Nest.{PlainNest}
-use Rattle.passes.specs.Work.{PlainWork, copy, work_size}
+use Rattle.sigma_spl.specs.Merge.{items_in, items_out, new_nest, place_sum}
+use Rattle.sigma_spl.specs.Nest.{PlainNest}
+use Rattle.sigma_spl.specs.Work.{PlainWork, copy, work_size}
 use Rattle.perm_algebra.specs.Affine.{Sum, constant}
 use Rattle.tensor_paths.specs.Path.{Path, count_of}
 use Rattle.loop_nests.specs.Placed.{AllNamed}

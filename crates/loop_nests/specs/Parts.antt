@@ -1,7 +1,7 @@
 -- The passes of a part, as they are put beside those of another.
 use Rattle.std.specs.Prelude.{ℕ, List}
-use Rattle.passes.specs.Limits.{AreWithin}
-use Rattle.passes.specs.Nest.{PlainNest}
+use Rattle.sigma_spl.specs.Limits.{AreWithin}
+use Rattle.sigma_spl.specs.Nest.{PlainNest}
 use Rattle.loop_nests.specs.Ready.{AreReadyPasses}
 
 -- passes on n words, whose places are of so many parts at most and within the limits, and of words

@@ -3,8 +3,8 @@ use Rattle.std.specs.Prelude.{ℕ, ◌+◌, ◌^◌, ◌<◌, List, [], ◌∷�
 use Rattle.perm_algebra.specs.Affine.{Sum, constant, variable, value, scaled}
 use Rattle.perm_algebra.specs.Fits.{IsAffine, Stays}
 use Rattle.perm_algebra.specs.Room.{CanScale, CanJoin}
-use Rattle.passes.specs.Merge.{place_sum}
-use Rattle.passes.specs.Room.{HasRoom}
+use Rattle.sigma_spl.specs.Merge.{place_sum}
+use Rattle.sigma_spl.specs.Room.{HasRoom}
 use Rattle.tensor_paths.specs.declared.Tensor.TheVariants.{Blocks, Columns}
 use Rattle.tensor_paths.specs.Path.{Path, size_under}
 

@@ -2,8 +2,8 @@
 use Rattle.std.specs.Prelude.{ℕ, ◌+◌, List, [], ◌∷◌, length, Option, Some, None}
 use Rattle.perm_algebra.specs.Affine.{Sum}
 use Rattle.perm_algebra.specs.Room.{IsReady}
-use Rattle.passes.specs.Nest.{PlainMultiplier, PlainNest}
-use Rattle.passes.specs.Work.{HasWords}
+use Rattle.sigma_spl.specs.Nest.{PlainMultiplier, PlainNest}
+use Rattle.sigma_spl.specs.Work.{HasWords}
 
 -- so many variables have counts
 abbrev pub AreReady : ℕ → List Sum → Type 0

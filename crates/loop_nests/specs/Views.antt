@@ -1,9 +1,9 @@
 -- What the code's passes stand for.
 use Rattle.std.specs.Prelude.{List, map, reverse, Vec}
 use Rattle.std.proofs.Common.{Global}
-use Rattle.passes.specs.Nest.{PlainNest}
-use Rattle.passes.specs.Views.{plain_nest}
-use Rattle.passes.specs.declared.nest.Nest.{Nest}
+use Rattle.sigma_spl.specs.Nest.{PlainNest}
+use Rattle.sigma_spl.specs.Views.{plain_nest}
+use Rattle.sigma_spl.specs.declared.nest.Nest.{Nest}
 
 abbrev pub plain_pass : Vec Nest Global → List PlainNest
 plain_pass zs = map plain_nest zs.items

@@ -1,7 +1,7 @@
 // Passes side by side.
 ghost use Rattle.std.specs.Prelude.{◌≡◌, ◌+◌, ◌^◌, ◌<◌, ◌≤◌, ◌++◌, IfOk, OnOk, map};
-ghost use Rattle.passes.specs.Limits.{AreSeveral};
-ghost use Rattle.passes.specs.Merge.{lifted, side, sides};
+ghost use Rattle.sigma_spl.specs.Limits.{AreSeveral};
+ghost use Rattle.sigma_spl.specs.Merge.{lifted, side, sides};
 ghost use Rattle.tensor_paths.specs.Path.{size_under};
 ghost use Rattle.loop_nests.specs.Lifted.{AllLift, AreLifted, CanStand};
 ghost use Rattle.loop_nests.specs.Parts.{IsPart};
@@ -10,7 +10,7 @@ ghost use Rattle.loop_nests.specs.Views.{from_last, plain_pass, plain_passes};
 use crate::lifted::{lifted, raise_nests};
 use crate::nests::copying;
 use memory::NoMemory;
-use passes::Nest;
+use sigma_spl::Nest;
 use std::alloc::Global;
 use tensor_paths::Tensor;
 

@@ -1,10 +1,18 @@
-//! Loop nests with the places of their items: new ones, copies, and those of two parts side by side under tensors.
+//! Loop nests with the places of their items: new ones, copies, sides under tensors, and what a nest takes of a
+//! permutation or a diagonal within the limits of places.
 #![tactic(auto)]
 
 mod beside;
 mod lifted;
 mod nests;
+mod pass_places;
 mod placed;
+mod sum_limits;
 
 pub use beside::sides;
 pub use nests::{alone, copied_nest, copying, copying_words, moved_nest, natural_nest};
+pub use pass_places::{
+    Change, Diagonal, back_of, factor_count, factor_places, gathered, multiplied,
+    multiplied_in_order, scattered,
+};
+pub use sum_limits::{Limits, carry_within, is_within, simplify_within};

@@ -1,9 +1,9 @@
 // Nests of a part, under tensors behind the words before it.
 ghost use Rattle.std.specs.Prelude.{◌≡◌, ◌+◌, ◌-◌, ◌^◌, ◌<◌, ◌++◌, IfOk, All, length, map};
 ghost use Rattle.std.specs.Option.{option_map};
-ghost use Rattle.passes.specs.Merge.{lifted, renumbered, renumbered_places};
-ghost use Rattle.passes.specs.Views.{plain_multiplier, plain_nest};
-ghost use Rattle.passes.specs.Work.{HasWords};
+ghost use Rattle.sigma_spl.specs.Merge.{lifted, renumbered, renumbered_places};
+ghost use Rattle.sigma_spl.specs.Views.{plain_multiplier, plain_nest};
+ghost use Rattle.sigma_spl.specs.Work.{HasWords};
 ghost use Rattle.perm_algebra.specs.Affine.{constant, joined};
 ghost use Rattle.perm_algebra.specs.Room.{HasCounts, constant_of};
 ghost use Rattle.perm_algebra.specs.Views.{plain_sum};
@@ -12,8 +12,8 @@ ghost use Rattle.loop_nests.specs.Lifted.{AllFit, CanLift, CanRaise, IsCounted, 
 
 use crate::placed::{placed, renumbered};
 use memory::NoMemory;
-use passes::{Multiplier, Nest, counts, limits};
 use perm_algebra::{Affine, both};
+use sigma_spl::{Multiplier, Nest, counts, limits};
 use smallvec::SmallVec;
 use std::alloc::Global;
 use tensor_paths::Tensor;

@@ -1,13 +1,13 @@
 // Places of items under tensors, as sums of the loops' variables.
 ghost use Rattle.std.specs.Prelude.{◌≡◌, ◌-◌, IfOk, All, length, map};
-ghost use Rattle.passes.specs.Merge.{place_sum, renumbered};
+ghost use Rattle.sigma_spl.specs.Merge.{place_sum, renumbered};
 ghost use Rattle.perm_algebra.specs.Room.{HasCounts};
 ghost use Rattle.perm_algebra.specs.Views.{plain_sum};
 ghost use Rattle.loop_nests.specs.Placed.{CanPlace};
 
 use memory::NoMemory;
-use passes::size_of_whole;
 use perm_algebra::{Affine, both, copy, multiple};
+use sigma_spl::size_of_whole;
 use std::alloc::Global;
 use tensor_paths::Tensor;
 

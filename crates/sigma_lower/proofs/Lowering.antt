@@ -1,226 +1,80 @@
--- Each term does what its step does.
-use Rattle.std.proofs.Common.{◌≡◌, ◌≢◌, ℕ, zero, suc, ◌*◌, ◌%◌, ◌<◌, ◌≤◌, ◌+◌, ◌/◌, arith, refl, sym, ap, ap₂, ◌∙◌, List, [], ◌∷◌, ◌++◌, inl, inr, mod-lt, subst, mul_comm, div-lt_iff_lt-mul, mul-le-mul_left, mul-le-mul_right}
-use Rattle.std.specs.Prelude.{map}
-use Rattle.std.proofs.Math.Nat.{zero-mod, mod-eq_of_lt, div-add-mod'}
+-- Room for the paths of a formula, and the steps of a WHT.
+use Rattle.std.proofs.Common.{◌≡◌, ℕ, zero, suc, ◌*◌, ◌/◌, ◌^◌, ◌<◌, ◌≤◌, arith, refl, sym, ap, ◌∙◌, [], ◌∷◌, ◌++◌, inl, inr, subst, mul_comm}
+use Rattle.std.proofs.Math.Nat.{pow-succ'}
 use Rattle.std.proofs.lemmas.Bool.{cases_eq}
 use Rattle.std.proofs.lemmas.Bool.Decides.{nat_tests}
-use Rattle.std.proofs.lemmas.List.FromFn.{fill_by_all}
-use Rattle.std.proofs.lemmas.Nat.{mul-lt, mul-mod_second}
-use Rattle.index_fn.specs.Mapping.{Strided, ThomasIn, ThomasOut, ThomasBack, at, IsUnit}
-use Rattle.index_fn.proofs.Thomas.{thomas_out_undoes, unit_found}
-use Rattle.operators.specs.Loop.{scatter, IsPermutationBelow}
-use Rattle.operators.specs.Operator.{gather, scale, stride}
-use Rattle.operators.proofs.Lists.{at-list_below, place_below, row-of, column-of, factor_positive}
-use Rattle.operators.proofs.Places.{stride_below}
-use Rattle.operators.proofs.Scatters.{gather_as_scatter}
-use Rattle.ring_mod.proofs.Inverses.{AreInverses, inverse_of_s, inverse_of_r, inverses_of}
-use Rattle.kernel_gen.specs.Kernel.{CanMake}
-use Rattle.passes.specs.Work.{PlainWork, kernel, rows, horner, tile, copy, work_size, work_on}
-use Rattle.tree_model.specs.Trees.{PlainTrees, single, tensor, trees_size, AreWords}
-use Rattle.steps.specs.Layout.{Layout, work, by, layout_size, IsGoodWork, IsGoodRule, IsGoodLayout}
-use Rattle.steps.specs.declared.target.Target.{Target}
-use Rattle.smp_rewrite.proofs.Cores.{core-reads, core-gives}
-use Rattle.steps.specs.Meaning.{core_size, core_on, step_on, all_on}
-use Rattle.steps.specs.Step.{PlainCore, piece, turns, twiddles, thomas_in, thomas_out, PlainStep, rule_steps, steps_of}
-use Rattle.tree_model.proofs.Sizes.{word_sizes}
+use Rattle.matrix_meaning.specs.declared.Kind.TheVariants.{Wht}
+use Rattle.matrix_meaning.specs.Kind.{IsPowerOfTwo}
+use Rattle.sigma_spl.specs.Term.{same, nest, product}
+use Rattle.sigma_spl.specs.Work.{kernel}
+use Rattle.tree_model.specs.Trees.{single}
+use Rattle.sigma_lower.specs.Terms.{one_more, halvings, hadamard_term}
+use Rattle.sigma_lower.proofs.Lowers.{halvings-power, power-above}
+use Rattle.sigma_lower.proofs.Parts.{grown-one}
+use Rattle.sigma_spl.specs.Room.{HasRoom}
+use Rattle.spl_ast.specs.Formula.{Formula, Stride, Product, TensorLeft, TensorRight, size_of}
+use Rattle.spl_ast.specs.Shape.{IsShaped}
+use Rattle.spl_ast.proofs.Vectors.{size_is_size}
+use Rattle.tensor_paths.specs.declared.Tensor.{Tensor}
 use Rattle.tensor_paths.specs.declared.Tensor.TheVariants.{Blocks, Columns}
-use Rattle.tensor_paths.specs.Loop.{loop_on}
-use Rattle.tensor_paths.specs.Path.{Path, size_under, under, place}
-use Rattle.tensor_paths.proofs.Under.{size_under-push, under-size}
-use Rattle.tensor_paths.proofs.PathLoops.{loop_is_under}
-use Rattle.tree_model.specs.declared.tree.Rule.{Rule}
-use Rattle.tree_model.specs.declared.tree.Rule.TheVariants.{Gt, Ct, Split, Dim}
-use Rattle.tree_model.specs.Breakdown.{size_of}
-use Rattle.tree_model.proofs.Sizes.{one_le_size_of}
-use Rattle.vec_rewrite.specs.Vectors.{PlainFactor, lanes, diagonals, move_before, move_after, tiles, factor_step}
-use Rattle.sigma_lower.specs.Term.{nest, lowered_core, after_core, factor_term, term_on, terms_on, diagonal_at}
-use Rattle.sigma_lower.specs.Wrapped.{wrapped, unit_below, unit_of}
-use Rattle.sigma_lower.proofs.Permuted.{StaysBelow, gather-under, scale-under, wrapped-permutes}
-use Rattle.sigma_lower.proofs.Sizes.{within_whole}
--- ---- the steps of a layout are good: of the size of the whole, and with the factors that their permutations need
+use Rattle.tensor_paths.specs.Path.{Path, count_of, grown}
+use Rattle.tensor_paths.proofs.Under.{size_under-push}
+use Rattle.tree_model.specs.Breakdown.{leaf}
 
-pub use Rattle.sigma_lower.specs.Good.{AreCoprime, IsGoodPiece, IsGoodCore, IsGood, AreGood}
-pub use Rattle.sigma_lower.proofs.Sizes.{part-le}
+-- ---- room
 
-pub good-append : (n : ℕ) (ss ts : List PlainStep) → AreGood n ss → AreGood n ts → AreGood n (ss ++ ts)
-good-append n [] ts h k = k
-good-append n (s ∷ ss) ts h k = (h.0, good-append n ss ts h.1 k)
+room-push : (path : Path) (t : Tensor) (n : ℕ) → HasRoom path (grown t n) → n < 2 ^ 64 → HasRoom (path ++ t ∷ []) n
+room-push [] t n h small = (h, small)
+room-push (u ∷ path) t n h small = (subst (λ z. grown u z < 2 ^ 64) (sym (size_under-push path t n)) h.0, room-push path t n h.1 small)
 
-good_rule : (n : ℕ) (rule : Rule) (path : Path) (r s w : ℕ) (left right : List PlainStep) → size_under path (r * s) ≡ n → IsGoodRule rule r s →
-    AreGood n left → AreGood n right → AreGood n (rule_steps rule path r s w left right)
-good_rule n Gt path r s w left right e good on_left on_right =
-    let h : 2 ≤ r = good.left in
-    let g : 2 ≤ s = good.right in
-    let both : AreCoprime r s = record { left = omega (arith, h); right = omega (arith, g); gcd = good.parts; small = good.small } in
-    (record { size = e; core = both }, good-append n right _ on_right (good-append n left _ on_left (record { size = e; core = both }, tt)))
-good_rule n Ct path r s w left right e good on_left on_right =
-    let h : 2 ≤ r = good.left in
-    let g : 2 ≤ s = good.right in
-    (record { size = e; core = (omega (arith, h), omega (arith, g)) }, good-append n right _ on_right (record { size = e; core = tt }, on_left))
-good_rule n Split path r s w left right e good on_left on_right = good-append n right left on_right on_left
-good_rule n Dim path r s w left right e good on_left on_right = good-append n right left on_right on_left
-
--- trees that can be made, of few items, have words for sizes
-trees-some : (m : ℕ) (trees : PlainTrees) → CanMake m trees → 1 ≤ trees_size trees
-trees-some m (single kind root t) h = one_le_size_of kind t h.0
-trees-some m (tensor kind root t others) h =
-    let left : 1 ≤ size_of t = one_le_size_of kind t h.0.0 in
-    let right : 1 ≤ trees_size others = trees-some m others h.1 in
-    let more : size_of t * 1 ≤ size_of t * trees_size others = mul-le-mul_left (size_of t) right in omega (arith, left, more)
-
-trees-words : (m : ℕ) (trees : PlainTrees) → CanMake m trees → trees_size trees ≤ 1048576 → AreWords trees
-trees-words m (single kind root t) h small = word_sizes kind t h.0 (omega (arith, small))
-trees-words m (tensor kind root t others) h small =
-    let left : 1 ≤ size_of t = one_le_size_of kind t h.0.0 in
-    let right : 1 ≤ trees_size others = trees-some m others h.1 in
-    let one : size_of t * 1 ≤ size_of t * trees_size others = mul-le-mul_left (size_of t) right in
-    let two : 1 * trees_size others ≤ size_of t * trees_size others = mul-le-mul_right (trees_size others) left in
-    (word_sizes kind t h.0.0 (omega (arith, small, one)), trees-words m others h.1 (omega (arith, small, two)), omega (arith, small))
-
-work-words : (m : ℕ) (w : PlainWork) → IsGoodWork m w → work_size w ≤ 1048576 → IsGoodPiece w
-work-words m (kernel trees) h small = trees-words m trees h small
-work-words m (rows root size) h small = tt
-work-words m (horner root size) h small = absurd h
-work-words m (tile v) h small = absurd h
-work-words m (copy size) h small = absurd h
-
-pub good_steps : (m n : ℕ) (path : Path) (l : Layout) → 1 ≤ n → n ≤ 1048576 → IsGoodLayout m l → size_under path (layout_size l) ≡ n → AreGood n (steps_of path l)
-good_steps m n path (work w) some high h e = (record { size = e; core = work-words m w h.1 (omega (arith, high, within_whole path (work_size w) n some e)) }, tt)
-good_steps m n path (by rule root a b) some high h e =
-    let r = layout_size a in
-    let s = layout_size b in
-    good_rule n rule path r s root _ _ e h.0
-    (good_steps m n (path ++ Columns s ∷ []) a some high h.1 (size_under-push path (Columns s) r ∙ e))
-    (good_steps m n (path ++ Blocks r ∷ []) b some high h.2 (size_under-push path (Blocks r) s ∙ e))
-
--- ---- the numbers of the inverse of a Good-Thomas step
-
-unit_from : (r s bound k : ℕ) → bound ≤ r → 1 ≤ s → k < bound → (s * k) % r ≡ 1 % r → IsUnit r s (unit_below r s bound)
-unit_from r s zero k h g below e = absurd (omega arith)
-unit_from r s (suc b) k h g below e =
-    elim (cases_eq ((s * b) % r) (1 % r)) [
-      | inl here ↦ let is : unit_below r s (suc b) ≡ s * b = grind (arith, nat_tests) in rw is (unit_found r s b (omega arith) g here)
-      | inr other ↦
-          let is : unit_below r s (suc b) ≡ unit_below r s b = grind (arith, nat_tests) in
-          let apart : k ≢ b = λ same. other (ap (λ j. (s * j) % r) (sym same) ∙ e) in rw is (unit_from r s b k (omega arith) g (omega arith) e)
+room-more : (path : Path) (t : Tensor) (n : ℕ) → HasRoom path (grown t n) → n < 2 ^ 64 → HasRoom (one_more path t) n
+room-more path t n h small =
+    elim (cases_eq (count_of t) 1) [
+      | inl one ↦ let is : one_more path t ≡ path = grind (arith, nat_tests) in subst (λ p. HasRoom p n) (sym is) (subst (HasRoom path) (grown-one t n one) h)
+      | inr several ↦ let is : one_more path t ≡ path ++ t ∷ [] = grind (arith, nat_tests) in subst (λ p. HasRoom p n) (sym is) (room-push path t n h small)
     ]
 
-pub units_of : (r s u : ℕ) → 0 < r → 0 < s → (s * u) % r ≡ 1 % r → IsUnit r s (unit_of r s)
-units_of r s u h g e = unit_from r s r (u % r) (omega arith) (omega arith) (mod-lt u h) (mul-mod_second s u r ∙ e)
+part-small : (a : Formula) → IsShaped a → size_of a < 2 ^ 64
+part-small a h = let size = (size_is_size a h).1 in omega (arith, size)
 
-pub thomas_permutes : (r s : ℕ) → AreCoprime r s → IsPermutationBelow (r * s) (at (ThomasOut r s)) (at (ThomasBack r s (unit_of r s) (unit_of s r)))
-thomas_permutes r s h = from_inverses (inverses_of r s h.left h.gcd)
-  where
-    from_inverses : (u : ℕ) × (v : ℕ) × AreInverses r s u v → IsPermutationBelow (r * s) (at (ThomasOut r s)) (at (ThomasBack r s (unit_of r s) (unit_of s r)))
-    from_inverses (u, v, both) =
-        let undoes = thomas_out_undoes r s (unit_of r s) (unit_of s r) (omega (arith, h.left)) (omega (arith, h.right)) (omega (arith, h.small))
-        (units_of r s u h.left h.right (inverse_of_s r s u v both)) (units_of s r v h.right h.left (inverse_of_r r s u v both)) in
-        record {
-          there_below = λ i below. place_below (i % r) (i % s) r s (mod-lt i h.left) (mod-lt i h.right);
-          back_below = undoes.permutes.below;
-          back-there = undoes.undoes;
-          there-back = undoes.undone;
-        }
+pub room_left : (path : Path) (a : Formula) (k : ℕ) → IsShaped (TensorLeft a k) → HasRoom path (size_of a * k) → HasRoom (one_more path (Columns k)) (size_of a)
+room_left path a k shaped h = room-more path (Columns k) (size_of a) h (part-small a shaped.0)
 
--- a unit of a size that is at least 2 is not 0
-one-positive : (r e : ℕ) → 2 ≤ r → e % r ≡ 1 % r → 0 < e
-one-positive r zero h e =
-    let none : 0 % r ≡ 0 = zero-mod r in
-    let one : 1 % r ≡ 1 = mod-eq_of_lt (omega arith) in absurd (omega arith)
-one-positive r (suc e) h _ = omega arith
+pub room_right : (path : Path) (k : ℕ) (a : Formula) → IsShaped (TensorRight k a) → HasRoom path (k * size_of a) → HasRoom (one_more path (Blocks k)) (size_of a)
+room_right path k a shaped h = room-more path (Blocks k) (size_of a) h (part-small a shaped.1)
 
-pub unit_positive : (r s : ℕ) → AreCoprime r s → 2 ≤ r → 2 ≤ s → (0 < unit_of r s) × (0 < unit_of s r)
-unit_positive r s h two_r two_s = from_inverses (inverses_of r s h.left h.gcd)
-  where
-    from_inverses : (u : ℕ) × (v : ℕ) × AreInverses r s u v → (0 < unit_of r s) × (0 < unit_of s r)
-    from_inverses (u, v, both) =
-        let a = units_of r s u h.left h.right (inverse_of_s r s u v both) in
-        let b = units_of s r v h.right h.left (inverse_of_r r s u v both) in
-        (one-positive r (unit_of r s) two_r a.one, one-positive s (unit_of s r) two_s b.one)
+pub room_same : (path : Path) (a b : Formula) → IsShaped (Product a b) → HasRoom path (size_of a) → HasRoom path (size_of b)
+room_same path a b shaped h = subst (HasRoom path) shaped.2 h
 
-pub both_units : (r s : ℕ) → AreCoprime r s → IsUnit r s (unit_of r s) × IsUnit s r (unit_of s r)
-both_units r s h = from_inverses (inverses_of r s h.left h.gcd)
-  where
-    from_inverses : (u : ℕ) × (v : ℕ) × AreInverses r s u v → IsUnit r s (unit_of r s) × IsUnit s r (unit_of s r)
-    from_inverses (u, v, both) = (units_of r s u h.left h.right (inverse_of_s r s u v both), units_of s r v h.right h.left (inverse_of_r r s u v both))
+pub room_alone : (a : Formula) → IsShaped a → HasRoom [] (size_of a)
+room_alone a shaped = part-small a shaped
 
-pub unit_small : (r s : ℕ) → AreCoprime r s → (unit_of r s < r * s) × (unit_of s r < r * s)
-unit_small r s h = from_inverses (inverses_of r s h.left h.gcd)
-  where
-    from_inverses : (u : ℕ) × (v : ℕ) × AreInverses r s u v → (unit_of r s < r * s) × (unit_of s r < r * s)
-    from_inverses (u, v, both) =
-        let a = units_of r s u h.left h.right (inverse_of_s r s u v both) in
-        let b = units_of s r v h.right h.left (inverse_of_r r s u v both) in (a.below, subst (λ n. unit_of s r < n) (mul_comm s r) b.below)
+pub room_stride : (path : Path) (n r : ℕ) → IsShaped (Stride n r) → HasRoom path n → HasRoom path (r * (n / r))
+room_stride path n r shaped h = subst (HasRoom path) (sym (mul_comm r (n / r) ∙ shaped.2)) h
 
--- ---- each term
+-- ---- WHT
 
--- the loops over the copies
-pub nest_on : (h : Target) (path : Path) (w : PlainWork) (x : List ℕ) → size_under path (work_size w) ≡ h.size → term_on h (nest path w) x ≡ under path (work_size w) (work_on h.modulus w) x
-nest_on h path w x e =
-    let d = work_size w in
-    let a = work_on h.modulus w in
-    ap (λ n. loop_on n path d (place path d) (λ vs. a) (place path d) x) (sym e)
-    ∙ sym (fill_by_all _ (under path d a x) (size_under path d) 0 (under-size path d a (core-gives h.modulus (piece w)) x)
-    (λ k below. sym (loop_is_under path d a x (core-reads h.modulus (piece w)) k below) ∙ at-list_below (size_under path d) _ k below))
+pub hadamard_one : (path : Path) (n : ℕ) → n < 2 → hadamard_term path (halvings n n) ≡ same
+hadamard_one path zero h = refl
+hadamard_one path (suc zero) h = refl
+hadamard_one path (suc (suc n)) h = absurd (omega arith)
 
-pub turns_below : (r s : ℕ) → StaysBelow (r * s) (at (Strided r s))
-turns_below r s i below = (stride_below r s i below).1
+half-of : (k n : ℕ) → n ≡ 2 ^ suc k → n / 2 ≡ 2 ^ k
+half-of k n is = ap (λ z. z / 2) (is ∙ pow-succ' 2 k) ∙ omega arith
 
--- a stride permutation is undone by that of the other numbers
-turn-undone : (r s i : ℕ) → i < r * s → stride r s (stride s r i) ≡ i
-turn-undone r s i below =
-    let positive : 0 < r = factor_positive s r i (omega (arith, mul_comm r s)) in
-    let row : i / r < s = (div-lt_iff_lt-mul positive).1 (omega (arith, mul_comm r s)) in
-    ap₂ (λ a b. a * r + b) (column-of (i % r) (i / r) s row) (row-of (i % r) (i / r) s row) ∙ div-add-mod' i r
+halvings-of : (k n : ℕ) → n ≡ 2 ^ k → halvings n n ≡ k
+halvings-of k n is = ap (λ z. halvings z z) is ∙ halvings-power k (2 ^ k) (power-above k)
 
-pub turns-permute : (r s : ℕ) → IsPermutationBelow (r * s) (at (Strided r s)) (at (Strided s r))
-turns-permute r s =
-    let turned : s * r ≡ r * s = mul_comm s r in
-    record {
-      there_below = turns_below r s;
-      back_below = λ i below. omega (arith, turned, turns_below s r i (omega (arith, turned)));
-      back-there = λ i below. turn-undone s r i (omega (arith, turned));
-      there-back = turn-undone r s;
-    }
+pub half_power : (n : ℕ) → 2 ≤ n → IsPowerOfTwo n → IsPowerOfTwo (n / 2)
+half_power n two (zero, is) = absurd (omega (arith, is))
+half_power n two (suc k, is) = (k, half-of k n is)
 
-pub lowered_core_on : (h : Target) (path : Path) (k : PlainCore) (x : List ℕ) → size_under path (core_size k) ≡ h.size → IsGoodCore k →
-    term_on h (lowered_core path k) x ≡ under path (core_size k) (core_on h.modulus k) x
-lowered_core_on h path (piece w) x e g = nest_on h path w x e
-lowered_core_on h path (turns r s) x e g =
-    ap (λ n. gather n (at (wrapped path (r * s) (Strided r s))) x) (sym e)
-    ∙ sym (gather-under path (r * s) (Strided r s) x (turns_below r s))
-lowered_core_on h path (twiddles r s w) x e g =
-    ap (λ n. scale h.modulus n (diagonal_at h.modulus path r s w) x) (sym e) ∙ sym (scale-under path h.modulus (r * s) _ x)
-lowered_core_on h path (thomas_in r s) x e g =
-    let positive : 0 < r * s = mul-lt 0 0 r s g.left g.right in
-    ap (λ n. gather n (at (wrapped path (r * s) (ThomasIn r s))) x) (sym e)
-    ∙ sym (gather-under path (r * s) (ThomasIn r s) x (λ i below. mod-lt _ positive))
-lowered_core_on h path (thomas_out r s) x e g =
-    let both = thomas_permutes r s g in
-    ap (λ n. scatter n n (at (wrapped path (r * s) (ThomasBack r s (unit_of r s) (unit_of s r)))) x) (sym e)
-    ∙ sym (gather_as_scatter (size_under path (r * s)) _ _ x (wrapped-permutes path (r * s) (ThomasOut r s) (ThomasBack r s (unit_of r s) (unit_of s r)) both))
-    ∙ sym (gather-under path (r * s) (ThomasOut r s) x both.there_below)
-
-after_core_on : (h : Target) (path : Path) (k : PlainCore) (x : List ℕ) → size_under path (core_size k) ≡ h.size → IsGoodCore k →
-    term_on h (after_core path k) x ≡ under path (core_size k) (core_on h.modulus k) x
-after_core_on h path (piece w) x e g = lowered_core_on h path (piece w) x e g
-after_core_on h path (turns r s) x e g =
-    ap (λ n. scatter n n (at (wrapped path (r * s) (Strided s r))) x) (sym e)
-    ∙ sym (gather_as_scatter (size_under path (r * s)) _ _ x (wrapped-permutes path (r * s) (Strided r s) (Strided s r) (turns-permute r s)))
-    ∙ sym (gather-under path (r * s) (Strided r s) x (turns_below r s))
-after_core_on h path (twiddles r s w) x e g = lowered_core_on h path (twiddles r s w) x e g
-after_core_on h path (thomas_in r s) x e g = lowered_core_on h path (thomas_in r s) x e g
-after_core_on h path (thomas_out r s) x e g = lowered_core_on h path (thomas_out r s) x e g
-
--- the term of a factor does what its step does
-pub factor_on : (h : Target) (p v : ℕ) (f : PlainFactor) (x : List ℕ) → IsGood h.size (factor_step p v f) → term_on h (factor_term p v f) x ≡ step_on h.modulus (factor_step p v f) x
-factor_on h p v (lanes s) x g = lowered_core_on h (factor_step p v (lanes s)).path s.core x g.size g.core
-factor_on h p v (diagonals s) x g = lowered_core_on h s.path s.core x g.size g.core
-factor_on h p v (move_before s) x g = lowered_core_on h (factor_step p v (move_before s)).path s.core x g.size g.core
-factor_on h p v (move_after s) x g = after_core_on h (factor_step p v (move_after s)).path s.core x g.size g.core
-factor_on h p v (tiles path) x g = nest_on h (factor_step p v (tiles path)).path (tile v) x g.size
-
-pub factors_on : (h : Target) (p v : ℕ) (fs : List PlainFactor) (x : List ℕ) → AreGood h.size (map (factor_step p v) fs) → terms_on h (map (factor_term p v) fs) x ≡ all_on h.modulus (map (factor_step p v) fs) x
-factors_on h p v [] x g = refl
-factors_on h p v (f ∷ fs) x g =
-    ap (terms_on h (map (factor_term p v) fs)) (factor_on h p v f x g.0) ∙ factors_on h p v fs (step_on h.modulus (factor_step p v f) x) g.1
+pub hadamard_more : (path : Path) (n : ℕ) → 2 ≤ n → IsPowerOfTwo n →
+    hadamard_term path (halvings n n) ≡ product (hadamard_term (path ++ Blocks 2 ∷ []) (halvings (n / 2) (n / 2))) (nest (one_more path (Columns (n / 2))) (kernel (single Wht 0 (leaf 2))))
+hadamard_more path n two (zero, is) = absurd (omega (arith, is))
+hadamard_more path n two (suc k, is) =
+    let half : n / 2 ≡ 2 ^ k = half-of k n is in
+    let inner : halvings (n / 2) (n / 2) ≡ k = halvings-of k (n / 2) half in
+    ap (hadamard_term path) (halvings-of (suc k) n is)
+    ∙ ap (λ h. product (hadamard_term (path ++ Blocks 2 ∷ []) k) (nest (one_more path (Columns h)) (kernel (single Wht 0 (leaf 2))))) (sym half)
+    ∙ ap (λ j. product (hadamard_term (path ++ Blocks 2 ∷ []) j) (nest (one_more path (Columns (n / 2))) (kernel (single Wht 0 (leaf 2))))) (sym inner)

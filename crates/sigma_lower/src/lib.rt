@@ -1,63 +1,89 @@
-//! Laws of the terms that a layout's formula for processors and lanes stands for, and index functions of permutations under tensors.
+//! Formulas, and trees for processors and lanes, as terms: the same meaning, in as many operations; and laws of the terms
+//! of a layout's formula for processors and lanes.
 #![tactic(auto)]
 
-ghost use Rattle.std.specs.Prelude.{◌≡◌, ◌*◌, ◌^◌, ◌<◌, IfOk};
-ghost use Rattle.index_fn.specs.Index.{mapping_of};
-ghost use Rattle.passes.specs.Room.{HasRoom};
-ghost use Rattle.sigma_lower.specs.Root.{SharedTerms};
-ghost use Rattle.sigma_lower.specs.Term.{LoweredTransforms, PlainTerms};
-ghost use Rattle.sigma_lower.specs.Wrapped.{wrapped, unit_below, unit_of};
+mod formula;
+mod tree;
+mod tree_terms;
 
-use index_fn::Index;
-use memory::NoMemory;
-use passes::size_of_whole;
-use std::alloc::Global;
-use tensor_paths::Tensor;
+ghost use Rattle.sigma_lower.specs.Compiled.{FormulasCompile};
+ghost use Rattle.sigma_lower.specs.Merged.{PhasesHaveLoops, SigmaCosts, SigmaTransforms};
+ghost use Rattle.sigma_lower.specs.Merged.{TreesCanLower, TreesCanMerge, TreesKeep};
+ghost use Rattle.sigma_lower.specs.Operations.{LowerCounts};
+ghost use Rattle.sigma_lower.specs.Terms.{LowerKeeps};
+ghost use Rattle.sigma_lower.specs.Order.{TreesAreLoops, TreesOrdered};
+ghost use Rattle.sigma_lower.specs.Shared.{FactorsEmbed, SharedTreesMerge, TreesEmbed};
 
-/// The index function of a permutation of size `n` under the tensors of the path.
-pub fn under(alloc: Global, path: &[Tensor], n: u64, f: Index) -> Result<Index, NoMemory>
-    requires { HasRoom path.now n }
-    ensures { IfOk result (λ g. mapping_of g ≡ wrapped path.now n (mapping_of f)) }
-{
-    match path.split_first() {
-        None => Ok(f),
-        Some((tensor, rest)) => {
-            let size = size_of_whole(rest, n);
-            let inner = Box::new(alloc, under(alloc, rest, n, f)?)?;
-            let other = Box::new(alloc, Index::Identity)?;
-            match tensor {
-                Tensor::Blocks(_) => Ok(Index::Tensor(other, size, inner, size)),
-                Tensor::Columns(count) => Ok(Index::Tensor(inner, *count, other, *count)),
-            }
-        }
-    }
-}
+pub use formula::lower_formula;
+pub use tree::lower;
+pub use tree_terms::{lowered_transforms, plain_terms, shared_terms, under, unit};
 
-/// A multiple of `s` that leaves 1 by `r`, or 0 where there is none.
-pub fn unit(r: u64, s: u64) -> u64
-    requires { r * s < 2 ^ 64 }
-    ensures { result ≡ unit_of r s }
-{
-    let mut found = 0;
-    for k in 0..r {
-        if s * k % r == 1 % r {
-            found = s * k;
-        }
-    }
-    found
-}
-
-/// The terms of a layout do what it does: a law of the definitions.
-pub fn lowered_transforms()
-    ensures { LoweredTransforms }
+/// The term of a formula does what the formula does: a law of the definitions.
+pub fn lower_keeps()
+    ensures { LowerKeeps }
 {}
 
-/// On one processor and one lane the terms of a layout are those of its steps: a law of the definitions.
-pub fn plain_terms()
-    ensures { PlainTerms }
+/// The term of a formula has its operations: a law of the definitions.
+pub fn lower_counts()
+    ensures { LowerCounts }
 {}
 
-/// On several processors or lanes the terms of a layout are these: a law of the definitions.
-pub fn shared_terms()
-    ensures { SharedTerms }
+/// The passes of any formula do what it does, in its operations: a law of the definitions.
+pub fn formulas_compile()
+    ensures { FormulasCompile }
+{}
+
+/// The terms of trees for any processors and lanes are good terms, which do what they did: a law of the definitions.
+pub fn factors_embed()
+    ensures { FactorsEmbed }
+{}
+
+/// So are those of the phases of whole trees: a law of the definitions.
+pub fn trees_embed()
+    ensures { TreesEmbed }
+{}
+
+/// The passes of trees for any processors and lanes do their transforms, by the law of all terms: a law of the definitions.
+pub fn shared_trees_merge()
+    ensures { SharedTreesMerge }
+{}
+
+/// The merged passes of a layout do what it does: a law of the definitions.
+pub fn trees_keep()
+    ensures { TreesKeep }
+{}
+
+/// The terms of a whole have its operations: a law of the definitions.
+pub fn sigma_costs()
+    ensures { SigmaCosts }
+{}
+
+/// They do what it does: a law of the definitions.
+pub fn sigma_transforms()
+    ensures { SigmaTransforms }
+{}
+
+/// The terms of layouts are in order, so their passes are their loops, one by one: a law of the definitions.
+pub fn trees_ordered()
+    ensures { TreesOrdered }
+{}
+
+/// So the passes of each phase are its loops, one by one: a law of the definitions.
+pub fn trees_are_loops()
+    ensures { TreesAreLoops }
+{}
+
+/// Each phase of a layout has a loop: a law of the definitions.
+pub fn phases_have_loops()
+    ensures { PhasesHaveLoops }
+{}
+
+/// The terms of a whole can be merged: a law of the definitions.
+pub fn trees_can_merge()
+    ensures { TreesCanMerge }
+{}
+
+/// So can those of each tree that a request admits: a law of the definitions.
+pub fn trees_can_lower()
+    ensures { TreesCanLower }
 {}

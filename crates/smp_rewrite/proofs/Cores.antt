@@ -9,10 +9,10 @@ use Rattle.operators.specs.Operator.{Operator, gather, on_columns, scale, stride
 use Rattle.operators.proofs.Lists.{at-list_below, list_below-same, length-list_below, place_below, factor_positive}
 use Rattle.operators.proofs.Places.{stride_below}
 use Rattle.operators.proofs.Sums.{sum_below-same}
-use Rattle.passes.specs.Work.{PlainWork, kernel, rows, horner, tile, copy, work_size, work_on}
+use Rattle.sigma_spl.specs.Work.{PlainWork, kernel, rows, horner, tile, copy, work_size, work_on}
 use Rattle.tree_model.specs.Trees.{PlainTrees, single, tensor, trees_size, trees_on}
-use Rattle.steps.specs.Meaning.{core_size, core_on}
-use Rattle.steps.specs.Step.{PlainCore, piece, turns, twiddles, thomas_in, thomas_out}
+use Rattle.smp_rewrite.specs.LayoutSteps.Meaning.{core_size, core_on}
+use Rattle.smp_rewrite.specs.LayoutSteps.Step.{PlainCore, piece, turns, twiddles, thomas_in, thomas_out}
 use Rattle.smp_rewrite.specs.Laws.{IsPermutation}
 use Rattle.smp_rewrite.proofs.Tensors.{reads-one_under}
 use Rattle.tensor_paths.specs.Path.{Reads}

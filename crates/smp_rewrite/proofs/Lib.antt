@@ -1,3 +1,4 @@
+pub mod LayoutSteps
 pub mod Sized
 pub mod Tensors
 pub mod Cores

@@ -7,8 +7,8 @@ use Rattle.operators.specs.Operator.{Operator, gather, on_columns, column, block
 use Rattle.operators.proofs.Lists.{at-list_below, list_below-same_rows, row-of, column-of, place_below, factor_positive}
 use Rattle.operators.proofs.Places.{column_at, block_at}
 use Rattle.operators.proofs.WholeLines.{whole_lines}
-use Rattle.steps.specs.Meaning.{core_size, core_on, step_on}
-use Rattle.steps.specs.Step.{PlainCore, PlainStep, step}
+use Rattle.smp_rewrite.specs.LayoutSteps.Meaning.{core_size, core_on, step_on}
+use Rattle.smp_rewrite.specs.LayoutSteps.Step.{PlainCore, PlainStep, step}
 use Rattle.tensor_paths.specs.declared.Tensor.{Tensor}
 use Rattle.tensor_paths.specs.declared.Tensor.TheVariants.{Blocks, Columns}
 use Rattle.tensor_paths.specs.Path.{Path, grown, size_under, one_under, under}

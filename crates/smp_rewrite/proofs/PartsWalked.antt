@@ -5,11 +5,11 @@ use Rattle.matrix_meaning.specs.declared.Kind.{Kind}
 use Rattle.matrix_meaning.specs.declared.Kind.TheVariants.{Dft, Wht, Idft}
 use Rattle.matrix_meaning.specs.declared.Request.{Request}
 use Rattle.matrix_meaning.proofs.Parts.{is_of_one_size, several_kind}
-use Rattle.passes.specs.Work.{kernel, rows}
+use Rattle.sigma_spl.specs.Work.{kernel, rows}
 use Rattle.smp_rewrite.specs.Walk.{left_part, left_request, right_part, right_request}
-use Rattle.steps.specs.Layout.{long_work, node_work}
-use Rattle.steps.specs.Meaning.{IsNodeTree}
-use Rattle.steps.proofs.NodeTrees.{left_tree, right_tree, size-le}
+use Rattle.smp_rewrite.specs.LayoutSteps.Layout.{long_work, node_work}
+use Rattle.smp_rewrite.specs.LayoutSteps.Meaning.{IsNodeTree}
+use Rattle.smp_rewrite.proofs.LayoutSteps.NodeTrees.{left_tree, right_tree, size-le}
 use Rattle.tree_model.specs.Breakdown.{Breakdown, leaf, node, size_of, AllowsLeaf, AllowsRule, HasWordSizes}
 use Rattle.tree_model.specs.Chosen.{StandsIn}
 use Rattle.tree_model.specs.Cost.{is_kernel, node_root}

@@ -7,11 +7,11 @@ use Rattle.tensor_paths.specs.Path.{Path, size_under}
 use Rattle.tensor_paths.proofs.Under.{size_under-push}
 use Rattle.tree_model.specs.declared.tree.Rule.{Rule}
 use Rattle.tree_model.specs.declared.tree.Rule.TheVariants.{Gt, Ct, Split, Dim}
-use Rattle.steps.specs.Layout.{Layout, work, by, layout_size}
-use Rattle.steps.specs.declared.target.Target.{Target}
-use Rattle.steps.specs.Step.{PlainStep, rule_steps, steps_of}
-use Rattle.steps.specs.declared.Step.{Step}
-use Rattle.steps.specs.Views.{plain_step}
+use Rattle.smp_rewrite.specs.LayoutSteps.Layout.{Layout, work, by, layout_size}
+use Rattle.smp_rewrite.specs.declared.layout_steps.target.Target.{Target}
+use Rattle.smp_rewrite.specs.LayoutSteps.Step.{PlainStep, rule_steps, steps_of}
+use Rattle.smp_rewrite.specs.declared.layout_steps.Step.{Step}
+use Rattle.smp_rewrite.specs.LayoutSteps.Views.{plain_step}
 use Rattle.smp_rewrite.specs.Laws.{step_size}
 
 abbrev pub AreOfSize : ℕ → List PlainStep → Type 0

@@ -21,10 +21,10 @@ use Rattle.matrix_meaning.specs.declared.Kind.TheVariants.{Dft, Wht, Idft}
 use Rattle.matrix_meaning.specs.declared.Request.{Request}
 use Rattle.smp_rewrite.specs.Walk.{body_of, closing_in, node_steps, tree_steps}
 use Rattle.spl_ast.specs.Formula.{Formula}
-use Rattle.steps.specs.Layout.{Layout, work, by, layout_size, layout_of, node_work}
-use Rattle.steps.specs.Step.{PlainStep, step, turns, twiddles, thomas_in, thomas_out, rule_steps, steps_of}
-use Rattle.steps.specs.Whole.{factor_by}
-use Rattle.steps.proofs.Layouts.{layouts_have_size}
+use Rattle.smp_rewrite.specs.LayoutSteps.Layout.{Layout, work, by, layout_size, layout_of, node_work}
+use Rattle.smp_rewrite.specs.LayoutSteps.Step.{PlainStep, step, turns, twiddles, thomas_in, thomas_out, rule_steps, steps_of}
+use Rattle.smp_rewrite.specs.LayoutSteps.Whole.{factor_by}
+use Rattle.smp_rewrite.proofs.LayoutSteps.Layouts.{layouts_have_size}
 use Rattle.tensor_paths.specs.Path.{Path}
 use Rattle.tensor_paths.specs.declared.Tensor.TheVariants.{Blocks, Columns}
 use Rattle.tree_model.specs.Breakdown.{Breakdown, leaf, node, size_of, IsTree}

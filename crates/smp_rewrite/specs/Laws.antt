@@ -5,12 +5,12 @@ use Rattle.matrix_meaning.specs.Parts.{forward_of}
 use Rattle.matrix_meaning.specs.Valid.{IsValid}
 use Rattle.operators.specs.Identities.{MovesWholeLines}
 use Rattle.operators.specs.Operator.{gather}
-use Rattle.steps.specs.Layout.{layout_of}
-use Rattle.steps.specs.Whole.{Whole, whole_on, whole_operations}
-use Rattle.steps.specs.Targets.{target_of}
-use Rattle.steps.specs.declared.target.Target.{Target}
-use Rattle.steps.specs.Meaning.{core_size, step_on}
-use Rattle.steps.specs.Step.{PlainCore, piece, turns, twiddles, thomas_in, thomas_out, PlainStep}
+use Rattle.smp_rewrite.specs.LayoutSteps.Layout.{layout_of}
+use Rattle.smp_rewrite.specs.LayoutSteps.Whole.{Whole, whole_on, whole_operations}
+use Rattle.smp_rewrite.specs.LayoutSteps.Targets.{target_of}
+use Rattle.smp_rewrite.specs.declared.layout_steps.target.Target.{Target}
+use Rattle.smp_rewrite.specs.LayoutSteps.Meaning.{core_size, step_on}
+use Rattle.smp_rewrite.specs.LayoutSteps.Step.{PlainCore, piece, turns, twiddles, thomas_in, thomas_out, PlainStep}
 use Rattle.tensor_paths.specs.declared.Tensor.TheVariants.{Blocks, Columns}
 use Rattle.tensor_paths.specs.Path.{Path, size_under}
 use Rattle.tree_model.specs.Breakdown.{Breakdown}

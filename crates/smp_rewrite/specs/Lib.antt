@@ -1,3 +1,4 @@
+pub mod LayoutSteps
 pub mod Smp
 pub mod Walk
 pub mod Appends

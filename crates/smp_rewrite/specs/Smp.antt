@@ -1,10 +1,10 @@
 -- Formulas for processors: a list of factors, each of which every processor has an equal part in.
 use Rattle.std.specs.Prelude.{ℕ, ◌+◌, ◌/◌, ◌==◌, if◌then◌else◌, List, [], ◌∷◌, ◌++◌, map, Option}
 use Rattle.operators.specs.Operator.{Operator}
-use Rattle.steps.specs.Meaning.{all_on}
-use Rattle.steps.specs.Whole.{closed_on, closing_cost}
-use Rattle.steps.specs.declared.target.Target.{Target}
-use Rattle.steps.specs.Step.{PlainStep, step, operations_of}
+use Rattle.smp_rewrite.specs.LayoutSteps.Meaning.{all_on}
+use Rattle.smp_rewrite.specs.LayoutSteps.Whole.{closed_on, closing_cost}
+use Rattle.smp_rewrite.specs.declared.layout_steps.target.Target.{Target}
+use Rattle.smp_rewrite.specs.LayoutSteps.Step.{PlainStep, step, operations_of}
 use Rattle.tensor_paths.specs.declared.Tensor.{Tensor}
 use Rattle.tensor_paths.specs.declared.Tensor.TheVariants.{Blocks}
 use Rattle.tensor_paths.specs.Path.{Path, count_of}

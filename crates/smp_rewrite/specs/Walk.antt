@@ -1,9 +1,8 @@
 -- The steps of a tree by a walk over its formula: tensor products go to its parts, and other matrices are steps.
--- diagonals are steps.
 use Rattle.std.specs.Prelude.{ℕ, ◌*◌, ◌/◌, Bool, true, if◌then◌else◌, List, [], ◌∷◌, ◌++◌, Option, Some, None}
 use Rattle.matrix_meaning.specs.declared.Request.{Request}
-use Rattle.steps.specs.Layout.{node_work}
-use Rattle.steps.specs.Step.{PlainStep, step, piece, turns, twiddles, thomas_in, thomas_out}
+use Rattle.smp_rewrite.specs.LayoutSteps.Layout.{node_work}
+use Rattle.smp_rewrite.specs.LayoutSteps.Step.{PlainStep, step, piece, turns, twiddles, thomas_in, thomas_out}
 use Rattle.spl_ast.specs.Formula.{Formula, Identity, Fourier, Hadamard, Twiddles, Diagonal, Stride, Permutation}
 use Rattle.spl_ast.specs.Formula.{GoodThomasIn, GoodThomasOut, Product, TensorLeft, TensorRight, DirectSum, Pending}
 use Rattle.tensor_paths.specs.declared.Tensor.TheVariants.{Blocks, Columns}

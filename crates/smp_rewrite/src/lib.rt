@@ -3,6 +3,7 @@
 #![tactic(auto)]
 
 mod closing;
+mod layout_steps;
 mod walk;
 
 ghost use Rattle.std.specs.Prelude.{◌≡◌, ◌+◌, ◌*◌, ◌<◌, ◌≤◌, [], ◌∷◌, ◌++◌, All, IfOk, List, OnOk, drop, length, map, ℕ};
@@ -10,10 +11,10 @@ ghost use Rattle.std.specs.List.{flat_map};
 ghost use Rattle.breakdown.specs.Expansion.{formula_of};
 ghost use Rattle.matrix_meaning.specs.Asked.{asked_of};
 ghost use Rattle.spl_ast.specs.Meaning.{apply};
-ghost use Rattle.steps.specs.Targets.{target_of};
-ghost use Rattle.steps.specs.Step.{step, turns};
-ghost use Rattle.steps.specs.Views.{plain_core, plain_step};
-ghost use Rattle.steps.specs.Whole.{whole_of};
+ghost use Rattle.smp_rewrite.specs.LayoutSteps.Targets.{target_of};
+ghost use Rattle.smp_rewrite.specs.LayoutSteps.Step.{step, turns};
+ghost use Rattle.smp_rewrite.specs.LayoutSteps.Views.{plain_core, plain_step};
+ghost use Rattle.smp_rewrite.specs.LayoutSteps.Whole.{whole_of};
 ghost use Rattle.tensor_paths.specs.declared.Tensor.TheVariants.{Columns};
 ghost use Rattle.tree_model.specs.Breakdown.{breakdown_of};
 ghost use Rattle.tree_model.specs.Chosen.{IsWholeTree, whole_cost};
@@ -24,10 +25,12 @@ ghost use Rattle.smp_rewrite.specs.Views.{plain_factor, plain_smp};
 
 use crate::closing::{body_of, closing_in};
 use crate::walk::steps_by;
+pub use layout_steps::{
+    Core, Step, Target, layouts_do, steps_cost, steps_do, target_of, wholes_do,
+};
 use memory::NoMemory;
 use spl_ast::Spl;
 use std::alloc::Global;
-use steps::{Core, Step, Target, target_of};
 use tensor_paths::Tensor;
 use tree_model::{Ctx, Tree};
 

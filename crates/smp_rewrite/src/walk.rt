@@ -1,20 +1,20 @@
 // The steps of a tree, by a walk over its formula.
 ghost use Rattle.std.specs.Prelude.{◌≡◌, ◌∷◌, ◌++◌, [], IfOk, OnOk, map};
-ghost use Rattle.passes.specs.Views.{plain_work};
+ghost use Rattle.sigma_spl.specs.Views.{plain_work};
 ghost use Rattle.smp_rewrite.specs.Appends.{Appends};
 ghost use Rattle.smp_rewrite.specs.Walk.{is_piece, left_part, left_request, node_steps, right_part, right_request, tree_steps};
-ghost use Rattle.steps.specs.Layout.{node_work};
-ghost use Rattle.steps.specs.Meaning.{IsNodeTree};
-ghost use Rattle.steps.specs.Step.{step};
-ghost use Rattle.steps.specs.Views.{plain_core, plain_step};
+ghost use Rattle.smp_rewrite.specs.LayoutSteps.Layout.{node_work};
+ghost use Rattle.smp_rewrite.specs.LayoutSteps.Meaning.{IsNodeTree};
+ghost use Rattle.smp_rewrite.specs.LayoutSteps.Step.{step};
+ghost use Rattle.smp_rewrite.specs.LayoutSteps.Views.{plain_core, plain_step};
 ghost use Rattle.tree_model.specs.Breakdown.{breakdown_of, HasWordSizes};
 
+use crate::layout_steps::{Core, Step};
 use matrix_meaning::Kind;
 use memory::NoMemory;
-use passes::Work;
+use sigma_spl::Work;
 use spl_ast::{Node, Spl};
 use std::alloc::Global;
-use steps::{Core, Step};
 use tensor_paths::Tensor;
 use tree_model::{Ctx, Tree, is_kernel, node_root, rooted_of};
 
@@ -132,7 +132,7 @@ fn node_work(alloc: Global, p: &Ctx, tree: &Tree) -> Result<Work, NoMemory>
     let size = tree.size();
     if !is_kernel(p, size) && p.request().kind == Kind::Dft {
         let root = node_root(p, size);
-        return Ok(Work::Rows { root, size });
+        return Ok(Work::Dense { root, size });
     }
     let trees = rooted_of(alloc, p, tree.copied(alloc)?)?;
     Ok(Work::Kernel(trees))

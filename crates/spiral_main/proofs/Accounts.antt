@@ -9,24 +9,24 @@ use Rattle.io_edge.specs.Feed.{limit}
 use Rattle.spiral_words.specs.Asked.{IsAsked}
 use Rattle.spiral_words.specs.declared.Command.{Command}
 use Rattle.spiral_words.specs.declared.Command.TheVariants as command
-use Rattle.spiral_status.specs.declared.status.Status.{Status}
-use Rattle.spiral_status.specs.declared.status.Status.TheVariants.{ReadFault, WriteFault}
-use Rattle.spiral_input.specs.Commands.{commanded, AskForFormula, AskForConvolution, takes_convolution, takes_formula, takes_listing, takes_request}
-use Rattle.convolution_commands.specs.Convolved.{conv_outcomes}
-use Rattle.spiral_input.specs.Line.{data_of, HasEnded, room_behind}
-use Rattle.spiral_status.specs.Status.{IsDefined}
-use Rattle.request_commands.specs.Settled.{IsAccepted, Settles, BreaksOff, ComesTo}
-use Rattle.spiral_input.specs.Asking.{requested, spelt, AsksBy, Asks}
+use Rattle.spiral_words.specs.declared.spiral_status.status.Status.{Status}
+use Rattle.spiral_words.specs.declared.spiral_status.status.Status.TheVariants.{ReadFault, WriteFault}
+use Rattle.commands.specs.SpiralInput.Commands.{commanded, AskForFormula, AskForConvolution, takes_convolution, takes_formula, takes_listing, takes_request}
+use Rattle.commands.specs.ConvolutionCommands.Convolved.{conv_outcomes}
+use Rattle.commands.specs.SpiralInput.Line.{data_of, HasEnded, room_behind}
+use Rattle.spiral_words.specs.SpiralStatus.Status.{IsDefined}
+use Rattle.commands.specs.Settled.{IsAccepted, Settles, BreaksOff, ComesTo}
+use Rattle.commands.specs.SpiralInput.Asking.{requested, spelt, AsksBy, Asks}
 use Rattle.spiral_main.specs.Families.{Job, ordered, call_outcomes}
-use Rattle.spiral_input.specs.Refusals.{IsEarly}
-use Rattle.spiral_input.specs.Stage.{HasGiven}
-use Rattle.request_commands.specs.Performed.{request_outcomes}
-use Rattle.listing_commands.specs.Listed.{exec_outcomes}
-use Rattle.formula_commands.specs.Compiled.{formula_outcomes}
-use Rattle.spiral_input.specs.Outcomes.{Meets, ToldMeets}
-use Rattle.spiral_input.proofs.InputLemmas.{none_read, none_left, none_cut, still_ended}
-use Rattle.spiral_input.proofs.OutcomeLemmas.{meets_nothing, meets_wider}
-use Rattle.spiral_input.proofs.LineLemmas.{line_there, room_after}
+use Rattle.commands.specs.SpiralInput.Refusals.{IsEarly}
+use Rattle.commands.specs.SpiralInput.Stage.{HasGiven}
+use Rattle.commands.specs.Performed.{request_outcomes}
+use Rattle.commands.specs.ListingCommands.Listed.{exec_outcomes}
+use Rattle.commands.specs.FormulaCommands.Compiled.{formula_outcomes}
+use Rattle.commands.specs.SpiralInput.Outcomes.{Meets, ToldMeets}
+use Rattle.commands.proofs.SpiralInput.InputLemmas.{none_read, none_left, none_cut, still_ended}
+use Rattle.commands.proofs.SpiralInput.OutcomeLemmas.{meets_nothing, meets_wider}
+use Rattle.commands.proofs.SpiralInput.LineLemmas.{line_there, room_after}
 
 -- By a request
 

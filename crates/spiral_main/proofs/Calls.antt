@@ -4,8 +4,8 @@ use Rattle.spiral_words.specs.Asked.{IsAsked}
 use Rattle.spiral_words.specs.declared.Command.{Command}
 use Rattle.spiral_words.proofs.OneCommand.{asked_once}
 use Rattle.spiral_words.proofs.Usage.{usage_nothing}
-use Rattle.spiral_status.specs.declared.status.Status.{Status}
-use Rattle.spiral_input.proofs.Stages.{IsDecided, done, ended, answer_for}
+use Rattle.spiral_words.specs.declared.spiral_status.status.Status.{Status}
+use Rattle.commands.proofs.SpiralInput.Stages.{IsDecided, done, ended, answer_for}
 use Rattle.spiral_main.specs.Outcome.{outcomes_of, commanded, IsOutcome}
 use Rattle.spiral_main.proofs.Landed.{answer_from}
 use Rattle.spiral_main.proofs.OneOutcome as families

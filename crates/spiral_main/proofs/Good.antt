@@ -4,8 +4,8 @@ use Rattle.request_text.specs.Schedule.{Plan as Turns}
 use Rattle.request_text.specs.Turns.{named}
 use Rattle.spl_ast.specs.Formula.{Formula}
 use Rattle.spiral_words.specs.declared.Order.{Order}
-use Rattle.formula_commands.specs.Compiled.{written, IsFormulaListing}
-use Rattle.spiral_input.specs.Orders.{procs_in}
+use Rattle.commands.specs.FormulaCommands.Compiled.{written, IsFormulaListing}
+use Rattle.commands.specs.SpiralInput.Orders.{procs_in}
 use Rattle.spiral_main.specs.Front.{line}
 use Rattle.spiral_main.specs.Works.{Wants, all, the_first, writing, mapping, by_first}
 use Rattle.spiral_main.specs.Orders.{Planned, planned}

@@ -6,18 +6,18 @@ use Rattle.matrix_meaning.specs.declared.Request.{Request}
 use Rattle.spiral_words.specs.Asked.{IsAsked}
 use Rattle.spiral_words.specs.declared.Command.{Command}
 use Rattle.spiral_words.specs.declared.Command.TheVariants as command
-use Rattle.spiral_status.specs.declared.status.Status.{Status}
-use Rattle.spiral_input.specs.Asking.{requested}
-use Rattle.spiral_input.specs.Commands as commands
-use Rattle.spiral_input.specs.Commands.{takes_request, takes_formula, takes_convolution}
-use Rattle.spiral_input.specs.Line.{data_of, room_behind}
-use Rattle.spiral_input.specs.Outcomes.{Outcomes, ToldMeets}
-use Rattle.spiral_input.specs.Stage.{◌>>=◌, IsAnswerBy}
-use Rattle.request_commands.specs.Performed.{Ends}
-use Rattle.request_commands.specs.Settled.{IsAccepted, Settles, BreaksOff, ComesTo}
-use Rattle.formula_commands.specs.Compiled as families
-use Rattle.listing_commands.specs.Listed as listings
-use Rattle.convolution_commands.specs.Convolved.{conv_outcomes}
+use Rattle.spiral_words.specs.declared.spiral_status.status.Status.{Status}
+use Rattle.commands.specs.SpiralInput.Asking.{requested}
+use Rattle.commands.specs.SpiralInput.Commands as commands
+use Rattle.commands.specs.SpiralInput.Commands.{takes_request, takes_formula, takes_convolution}
+use Rattle.commands.specs.SpiralInput.Line.{data_of, room_behind}
+use Rattle.commands.specs.SpiralInput.Outcomes.{Outcomes, ToldMeets}
+use Rattle.commands.specs.SpiralInput.Stage.{◌>>=◌, IsAnswerBy}
+use Rattle.commands.specs.Performed.{Ends}
+use Rattle.commands.specs.Settled.{IsAccepted, Settles, BreaksOff, ComesTo}
+use Rattle.commands.specs.FormulaCommands.Compiled as families
+use Rattle.commands.specs.ListingCommands.Listed as listings
+use Rattle.commands.specs.ConvolutionCommands.Convolved.{conv_outcomes}
 use Rattle.spiral_main.specs.Families as landed
 use Rattle.spiral_main.specs.Families.{Job, accepted}
 use Rattle.spiral_main.specs.Outcome.{outcomes_of, IsOutcome, call_outcomes, Accounts}

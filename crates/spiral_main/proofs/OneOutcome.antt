@@ -9,23 +9,23 @@ use Rattle.spiral_words.specs.declared.Command.TheVariants as command
 use Rattle.spiral_words.proofs.Usage.{usage_nothing}
 use Rattle.plan_cert.proofs.OneVerdict.{one_verdict}
 use Rattle.request_text.proofs.OneAnswer.{one_answer}
-use Rattle.spiral_status.specs.declared.status.Status.{Status}
-use Rattle.request_commands.specs.Checked.{IsChecked, status_of_verdict}
-use Rattle.spiral_input.specs.Commands.{reads_certificate, takes_formula, takes_request, takes_convolution, commanded, scheduled, AskForFormula, AskForConvolution}
-use Rattle.convolution_commands.specs.Convolved.{IsConvAnswer}
-use Rattle.formula_commands.specs.Compiled.{IsFormulaAnswer}
-use Rattle.spiral_status.specs.Fault.{status_of_request, status_of_generate}
-use Rattle.spiral_input.specs.Line.{line_of, room_behind, data_of}
-use Rattle.spiral_input.specs.Asking.{spelt, requested}
-use Rattle.request_commands.specs.Settled.{IsRefused, IsShutOut, IsAccepted, IsDeclined, IsTextOf, IsTextOfData, Settles}
+use Rattle.spiral_words.specs.declared.spiral_status.status.Status.{Status}
+use Rattle.commands.specs.Checked.{IsChecked, status_of_verdict}
+use Rattle.commands.specs.SpiralInput.Commands.{reads_certificate, takes_formula, takes_request, takes_convolution, commanded, scheduled, AskForFormula, AskForConvolution}
+use Rattle.commands.specs.ConvolutionCommands.Convolved.{IsConvAnswer}
+use Rattle.commands.specs.FormulaCommands.Compiled.{IsFormulaAnswer}
+use Rattle.spiral_words.specs.SpiralStatus.Fault.{status_of_request, status_of_generate}
+use Rattle.commands.specs.SpiralInput.Line.{line_of, room_behind, data_of}
+use Rattle.commands.specs.SpiralInput.Asking.{spelt, requested}
+use Rattle.commands.specs.Settled.{IsRefused, IsShutOut, IsAccepted, IsDeclined, IsTextOf, IsTextOfData, Settles}
 use Rattle.spiral_main.specs.Families.{Job, accepted, ordered, IsAnswerToRequest, IsOutcome}
-use Rattle.listing_commands.specs.Listed.{IsExecution}
-use Rattle.spiral_input.specs.Stage.{given}
-use Rattle.convolution_commands.proofs.OneConvolution.{conv_status_once}
-use Rattle.listing_commands.proofs.OneExecution.{execution_status_once}
-use Rattle.formula_commands.proofs.OneFormula.{formula_status_once}
+use Rattle.commands.specs.ListingCommands.Listed.{IsExecution}
+use Rattle.commands.specs.SpiralInput.Stage.{given}
+use Rattle.commands.proofs.ConvolutionCommands.OneConvolution.{conv_status_once}
+use Rattle.commands.proofs.ListingCommands.OneExecution.{execution_status_once}
+use Rattle.commands.proofs.FormulaCommands.OneFormula.{formula_status_once}
 use Rattle.spiral_main.proofs.OnePlan.{bar_clash, bar_once, plan_clash, refusal_once}
-use Rattle.spiral_input.proofs.Stages.{IsDecided, done, ended, given_decided, bind_decided, of_answers}
+use Rattle.commands.proofs.SpiralInput.Stages.{IsDecided, done, ended, given_decided, bind_decided, of_answers}
 use Rattle.spiral_words.proofs.OneCommand.{asked_once}
 
 -- The words and the line

@@ -5,7 +5,7 @@ use Rattle.plan_search.specs.declared.generating.GenerateFault.{GenerateFault}
 use Rattle.plan_search.specs.declared.generating.GenerateFault.TheVariants as generate
 use Rattle.plan_search.proofs.OneTree.{whole_once}
 use Rattle.plan_search.proofs.WholeChosen.{whole_divides, whole_least_once}
-use Rattle.request_commands.specs.Planned.{IsAdmitted, IsBarred, IsPlanned}
+use Rattle.commands.specs.Planned.{IsAdmitted, IsBarred, IsPlanned}
 use Rattle.tree_model.specs.Breakdown.{Breakdown}
 use Rattle.tree_model.specs.Chosen.{whole_cost}
 

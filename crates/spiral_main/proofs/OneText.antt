@@ -14,32 +14,32 @@ use Rattle.icode.specs.declared.program.Program.{Program}
 use Rattle.listing_text.specs.Listing.{listing_of}
 use Rattle.runs.specs.Stream.{texts}
 use Rattle.tree_model.specs.WholePasses.{whole_loads, whole_stores}
-use Rattle.request_commands.specs.Letters.{program_for}
+use Rattle.commands.specs.Letters.{program_for}
 use Rattle.tree_model.specs.Chosen.{whole_cost}
 use Rattle.breakdown.specs.Expansion.{formula_of}
-use Rattle.request_commands.specs.PlanText.{plan_text}
+use Rattle.commands.specs.PlanText.{plan_text}
 use Rattle.spl_text.specs.Spelling.{spelling}
 use Rattle.plan_cert.proofs.OneText.{one_certificate}
 use Rattle.plan_cert.proofs.OneVerdict.{one_verdict}
-use Rattle.spiral_status.specs.declared.status.Status.{Status}
-use Rattle.request_commands.specs.Checked.{IsChecked, verdict_text}
-use Rattle.formula_commands.specs.Compiled.{IsFormulaAnswer}
-use Rattle.convolution_commands.specs.Convolved.{IsConvAnswer}
-use Rattle.spiral_input.specs.Line.{data_of, room_behind}
-use Rattle.listing_commands.specs.Listed.{IsExecution}
+use Rattle.spiral_words.specs.declared.spiral_status.status.Status.{Status}
+use Rattle.commands.specs.Checked.{IsChecked, verdict_text}
+use Rattle.commands.specs.FormulaCommands.Compiled.{IsFormulaAnswer}
+use Rattle.commands.specs.ConvolutionCommands.Convolved.{IsConvAnswer}
+use Rattle.commands.specs.SpiralInput.Line.{data_of, room_behind}
+use Rattle.commands.specs.ListingCommands.Listed.{IsExecution}
 use Rattle.spiral_main.specs.Families.{Job, ordered, IsAnswerToRequest, IsOutcome}
-use Rattle.request_commands.specs.Performed.{IsGoodCode}
-use Rattle.request_commands.specs.Settled.{product, IsListing, IsProgramFor, IsTextOf, IsTextOfData, Settles}
-use Rattle.request_commands.specs.Traced.{traced_text}
-use Rattle.request_commands.specs.Sample.{sample_vector, weighted_sum, sample_text}
+use Rattle.commands.specs.Performed.{IsGoodCode}
+use Rattle.commands.specs.Settled.{product, IsListing, IsProgramFor, IsTextOf, IsTextOfData, Settles}
+use Rattle.commands.specs.Traced.{traced_text}
+use Rattle.commands.specs.Sample.{sample_vector, weighted_sum, sample_text}
 use Rattle.spiral_words.proofs.OneCommand.{asked_once}
 use Rattle.spiral_main.specs.Programs.{IsCodeListed}
 use Rattle.spiral_main.proofs.OnePlan.{planned_once}
-use Rattle.convolution_commands.proofs.OneConvolution.{conv_text_once}
-use Rattle.listing_commands.proofs.OneExecution.{execution_text_once}
-use Rattle.formula_commands.proofs.OneFormula.{formula_text_once}
+use Rattle.commands.proofs.ConvolutionCommands.OneConvolution.{conv_text_once}
+use Rattle.commands.proofs.ListingCommands.OneExecution.{execution_text_once}
+use Rattle.commands.proofs.FormulaCommands.OneFormula.{formula_text_once}
 use Rattle.spiral_main.proofs.OneOutcome.{ordered_decided, data_or_text, data_or_check, text_or_check, no_both, listing_alone, request_alone, schedule_asked_once}
-use Rattle.spiral_input.proofs.Stages.{of_answers}
+use Rattle.commands.proofs.SpiralInput.Stages.{of_answers}
 
 -- the program of a request is one
 pub program_once : (r : Request) (p q : Program) → IsProgramFor r p → IsProgramFor r q

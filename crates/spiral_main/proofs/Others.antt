@@ -1,8 +1,8 @@
 -- Commands that go by a formula, by a listing or by a list: what the families say of them is what their own equations say.
 use Rattle.std.proofs.Common.{◌≡◌, ℕ, Bool, true, false, List, [], ◌∷◌, Ok, Result, refl, sym, subst, ◌∙◌, inl, inr}
-use Rattle.convolution_commands.specs.Convolution.{convolution}
+use Rattle.commands.specs.ConvolutionCommands.Convolution.{convolution}
 use Rattle.data_stream.specs.Data.{tokens, closed_part}
-use Rattle.convolution_commands.specs.ConvPlanned.{IsConvPlanned}
+use Rattle.commands.specs.ConvolutionCommands.ConvPlanned.{IsConvPlanned}
 use Rattle.matrix_meaning.specs.declared.Request.{Request}
 use Rattle.request_text.specs.Schedule.{Plan as Turns}
 use Rattle.request_text.specs.Turns.{named}
@@ -13,13 +13,13 @@ use Rattle.runs.specs.declared.stream.StreamFault.{StreamFault}
 use Rattle.tree_model.specs.Breakdown.{Breakdown}
 use Rattle.spiral_words.specs.declared.Command.{Command}
 use Rattle.spiral_words.specs.declared.Command.TheVariants as command
-use Rattle.spiral_status.specs.declared.status.Status.{Status}
-use Rattle.spiral_input.specs.Outcomes.{Outcomes}
-use Rattle.spiral_input.specs.Stage.{Stage, given, ◌>>=◌}
-use Rattle.formula_commands.specs.Compiled as families
-use Rattle.formula_commands.specs.Compiled.{written, IsFormulaListing}
-use Rattle.listing_commands.specs.Listed as listings
-use Rattle.convolution_commands.specs.Convolved.{conv_spelt, convolvable, conv_status, conv_outcomes, IsConvolvable, IsConvText, SettlesConv, BreaksOffConv, ComesToConv, GoesOnBehind}
+use Rattle.spiral_words.specs.declared.spiral_status.status.Status.{Status}
+use Rattle.commands.specs.SpiralInput.Outcomes.{Outcomes}
+use Rattle.commands.specs.SpiralInput.Stage.{Stage, given, ◌>>=◌}
+use Rattle.commands.specs.FormulaCommands.Compiled as families
+use Rattle.commands.specs.FormulaCommands.Compiled.{written, IsFormulaListing}
+use Rattle.commands.specs.ListingCommands.Listed as listings
+use Rattle.commands.specs.ConvolutionCommands.Convolved.{conv_spelt, convolvable, conv_status, conv_outcomes, IsConvolvable, IsConvText, SettlesConv, BreaksOffConv, ComesToConv, GoesOnBehind}
 use Rattle.spiral_main.specs.Front.{line, taken_from, room_behind, ordered, by_front, Work}
 use Rattle.spiral_main.specs.Works.{Wants, all, a_first, the_first, status_by, ReadsOn, by_first, writing, mapping}
 use Rattle.spiral_main.specs.Apply.{formed, apply_outcomes}

@@ -5,22 +5,22 @@ use Rattle.request_text.specs.Schedule.{Plan as Turns}
 use Rattle.runs.specs.Stream.{lines, data_vectors}
 use Rattle.plan_cert.specs.Table.{IsTableText}
 use Rattle.plan_cert.specs.Verdict.{IsVerdict}
-use Rattle.request_commands.specs.Planned.{IsPlanned}
+use Rattle.commands.specs.Planned.{IsPlanned}
 use Rattle.matrix_meaning.specs.Asked.{asked_of}
 use Rattle.matrix_meaning.specs.declared.Request.{Request}
 use Rattle.breakdown.specs.Expansion.{formula_of}
-use Rattle.request_commands.specs.PlanText.{plan_text}
+use Rattle.commands.specs.PlanText.{plan_text}
 use Rattle.tree_model.specs.Breakdown.{Breakdown}
 use Rattle.spiral_words.specs.declared.Command.{Command}
 use Rattle.spiral_words.specs.declared.Command.TheVariants as command
 use Rattle.spiral_words.specs.declared.Order.{Order}
-use Rattle.spiral_status.specs.declared.status.Status.{Status}
-use Rattle.spiral_input.specs.Asking.{spelt}
-use Rattle.spiral_input.specs.Commands.{procs_named, reads_certificate, takes_request}
-use Rattle.spiral_input.specs.Outcomes.{Outcomes}
-use Rattle.spiral_input.specs.Stage.{◌>>=◌}
-use Rattle.request_commands.specs.Performed.{request_outcomes}
-use Rattle.request_commands.specs.Settled.{IsAccepted, IsAffordable, IsDeclined, IsRefused, IsTextOf, IsTextOfData}
+use Rattle.spiral_words.specs.declared.spiral_status.status.Status.{Status}
+use Rattle.commands.specs.SpiralInput.Asking.{spelt}
+use Rattle.commands.specs.SpiralInput.Commands.{procs_named, reads_certificate, takes_request}
+use Rattle.commands.specs.SpiralInput.Outcomes.{Outcomes}
+use Rattle.commands.specs.SpiralInput.Stage.{◌>>=◌}
+use Rattle.commands.specs.Performed.{request_outcomes}
+use Rattle.commands.specs.Settled.{IsAccepted, IsAffordable, IsDeclined, IsRefused, IsTextOf, IsTextOfData}
 use Rattle.spiral_main.specs.Front.{line, by_front}
 use Rattle.spiral_main.specs.Works.{all, writing, mapping, judging}
 use Rattle.spiral_main.specs.Orders.{Planned, turned, chosen, planned}

@@ -5,35 +5,35 @@ use Rattle.matrix_meaning.specs.declared.Request.{Request}
 use Rattle.plan_cert.proofs.OneVerdict.{one_verdict}
 use Rattle.plan_cert.specs.declared.verdict.Verdict.TheVariants.{Least}
 use Rattle.icode.specs.Plain.{PlainProgram}
-use Rattle.input_rest.specs.Part.{second_part}
+use Rattle.data_stream.specs.InputRest.Part.{second_part}
 use Rattle.request_text.specs.Schedule.{Plan}
 use Rattle.spiral_words.specs.declared.Command.{Command}
 use Rattle.spiral_words.specs.declared.Command.TheVariants as command
-use Rattle.spiral_status.specs.declared.status.Status.{Status}
-use Rattle.spiral_status.specs.declared.status.Status.TheVariants.{Success, Usage, Syntax, Range, Shape, LanesLine, NotUnit, Turn, NotPrincipal, NoDivide, OverBudget, BadNumber, Truncated, ReadFault, WriteFault, NoMemory, TooLong, Unread, Wrong, FormulaShape, TooDeep, ListingSyntax, Address, Register, LineShared, OverSteps}
-use Rattle.spiral_status.specs.declared.status.Status.TheVariants as status
-use Rattle.request_commands.specs.Checked.{IsChecked, status_of_verdict}
-use Rattle.spiral_input.specs.Commands.{reads_certificate, takes_convolution}
-use Rattle.convolution_commands.specs.Convolved.{conv_in, list_status, conv_status, SettlesConv, IsConvAnswer}
+use Rattle.spiral_words.specs.declared.spiral_status.status.Status.{Status}
+use Rattle.spiral_words.specs.declared.spiral_status.status.Status.TheVariants.{Success, Usage, Syntax, Range, Shape, LanesLine, NotUnit, Turn, NotPrincipal, NoDivide, OverBudget, BadNumber, Truncated, ReadFault, WriteFault, NoMemory, TooLong, Unread, Wrong, FormulaShape, TooDeep, ListingSyntax, Address, Register, LineShared, OverSteps}
+use Rattle.spiral_words.specs.declared.spiral_status.status.Status.TheVariants as status
+use Rattle.commands.specs.Checked.{IsChecked, status_of_verdict}
+use Rattle.commands.specs.SpiralInput.Commands.{reads_certificate, takes_convolution}
+use Rattle.commands.specs.ConvolutionCommands.Convolved.{conv_in, list_status, conv_status, SettlesConv, IsConvAnswer}
 use Rattle.spl_ast.specs.Formula.{Formula, size_of}
-use Rattle.formula_commands.specs.Compiled.{formula_in, SettlesFormula, IsFormulaAnswer}
-use Rattle.spiral_status.specs.Fault.{status_of_stream}
-use Rattle.spiral_input.specs.Line.{data_of, room_behind}
-use Rattle.listing_commands.specs.Listed.{runnable, room_behind_listing, IsAnswerOfProgram, IsExecution}
+use Rattle.commands.specs.FormulaCommands.Compiled.{formula_in, SettlesFormula, IsFormulaAnswer}
+use Rattle.spiral_words.specs.SpiralStatus.Fault.{status_of_stream}
+use Rattle.commands.specs.SpiralInput.Line.{data_of, room_behind}
+use Rattle.commands.specs.ListingCommands.Listed.{runnable, room_behind_listing, IsAnswerOfProgram, IsExecution}
 use Rattle.spiral_main.specs.Families.{Job, ordered, IsAnswerToRequest, IsOutcome}
 use Rattle.spiral_main.specs.Outcome as calls
-use Rattle.request_commands.specs.Settled.{IsTextOfData, Settles}
+use Rattle.commands.specs.Settled.{IsTextOfData, Settles}
 use Rattle.spiral_main.specs.Right.{AreRightData, AreRightVectors, BeginWithList, IsRightRest, IsRightRequest, IsRightCall, Succeeds}
 use Rattle.spiral_main.specs.RightFront.{AreWholeVectors}
 use Rattle.spiral_main.proofs.RightRequests.{job_of, orders_job, orders_request}
 use Rattle.runs.specs.Stream.{data_answer}
 use Rattle.spiral_words.proofs.OneCommand.{asked_once}
-use Rattle.convolution_commands.proofs.OneConvolution.{conv_decided}
-use Rattle.listing_commands.proofs.OneExecution.{runnable_decided}
-use Rattle.formula_commands.proofs.OneFormula.{formula_decided}
+use Rattle.commands.proofs.ConvolutionCommands.OneConvolution.{conv_decided}
+use Rattle.commands.proofs.ListingCommands.OneExecution.{runnable_decided}
+use Rattle.commands.proofs.FormulaCommands.OneFormula.{formula_decided}
 use Rattle.spiral_main.proofs.Landed.{answer_from}
 use Rattle.spiral_main.proofs.OneOutcome.{ordered_decided, no_order, no_answer, no_formula, no_request, no_plain_request, no_convolution, no_both, listing_alone, schedule_asked_once}
-use Rattle.spiral_input.proofs.Stages.{answer_for}
+use Rattle.commands.proofs.SpiralInput.Stages.{answer_for}
 use Rattle.runs.proofs.StreamLemmas.{right_answer}
 
 data_right : (wanted : Command) (r : Request) (room : ℕ) (bytes : List ℕ) (vectors : List (List ℕ)) (text : List ℕ)

@@ -15,13 +15,13 @@ use Rattle.spl_ast.specs.Meaning as formulas
 use Rattle.runs.specs.Stream.{lines, vectors_of, bad_after, vectors_seen, data_vectors}
 use Rattle.runs.proofs.StreamLemmas.{bad_behind, right_answer}
 use Rattle.spiral_words.specs.declared.Command.TheVariants as command
-use Rattle.spiral_status.specs.Fault.{status_of_stream}
-use Rattle.spiral_status.specs.declared.status.Status.{Status}
-use Rattle.spiral_status.specs.declared.status.Status.TheVariants.{Success, ReadFault, WriteFault, NoMemory, TooLong}
-use Rattle.formula_commands.specs.Compiled.{written, IsFormulaListing}
-use Rattle.listing_commands.specs.Listed.{loaded, result_of}
-use Rattle.spiral_input.specs.Commands.{admitted}
-use Rattle.spiral_input.specs.Stage.{Stage}
+use Rattle.spiral_words.specs.SpiralStatus.Fault.{status_of_stream}
+use Rattle.spiral_words.specs.declared.spiral_status.status.Status.{Status}
+use Rattle.spiral_words.specs.declared.spiral_status.status.Status.TheVariants.{Success, ReadFault, WriteFault, NoMemory, TooLong}
+use Rattle.commands.specs.FormulaCommands.Compiled.{written, IsFormulaListing}
+use Rattle.commands.specs.ListingCommands.Listed.{loaded, result_of}
+use Rattle.commands.specs.SpiralInput.Commands.{admitted}
+use Rattle.commands.specs.SpiralInput.Stage.{Stage}
 use Rattle.spiral_main.specs.Front.{Front, line, part, room_behind, Work, by_front}
 use Rattle.spiral_main.specs.Works.{all, writing, mapping}
 use Rattle.spiral_main.specs.Orders.{Planned, planned}

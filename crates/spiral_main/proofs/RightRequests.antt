@@ -3,9 +3,9 @@ use Rattle.std.proofs.Common.{◌≡◌, ◌≢◌, ℕ, ◌≤◌, List, [], �
 use Rattle.std.specs.Prelude.{All, if◌then◌else◌, map}
 use Rattle.std.proofs.lemmas.Bool.{and_from, eq-eqb}
 use Rattle.std.proofs.lemmas.List.Elements.{All-head, All-tail}
-use Rattle.convolution_commands.specs.Convolving.{IsConvRequest}
-use Rattle.convolution_commands.specs.Convolved.{IsConvolvable, conv_in}
-use Rattle.convolution_commands.specs.ConvPlanned.{HasPrincipalRoot, both_halves}
+use Rattle.commands.specs.ConvolutionCommands.Convolving.{IsConvRequest}
+use Rattle.commands.specs.ConvolutionCommands.Convolved.{IsConvolvable, conv_in}
+use Rattle.commands.specs.ConvolutionCommands.ConvPlanned.{HasPrincipalRoot, both_halves}
 use Rattle.matrix_meaning.specs.Parts.{bad_power_by, first_bad, part_of, parts_in, root_power}
 use Rattle.matrix_meaning.specs.Valid.{HasRoot, IsInRange, IsValid}
 use Rattle.matrix_meaning.specs.declared.Dimension.{Dimension}
@@ -17,8 +17,8 @@ use Rattle.matrix_meaning.specs.declared.Request.{Request}
 use Rattle.matrix_meaning.proofs.Requests.{valid_by_powers}
 use Rattle.matrix_meaning.proofs.Roots.{HasItsRoot}
 use Rattle.plan_search.proofs.WholeChosen.{divides_plain, whole_divides, whole_exists, whole_is_least, whole_least_once}
-use Rattle.request_commands.specs.Planned.{IsAdmitted, IsRooted}
-use Rattle.request_commands.specs.Settled.{IsAccepted, IsAffordable}
+use Rattle.commands.specs.Planned.{IsAdmitted, IsRooted}
+use Rattle.commands.specs.Settled.{IsAccepted, IsAffordable}
 use Rattle.spiral_words.specs.declared.Command.{Command}
 use Rattle.spiral_words.specs.declared.Command.TheVariants as command
 use Rattle.tree_model.specs.Chosen.{CanDivideWhole, whole_cost}

@@ -8,10 +8,10 @@ use Rattle.matrix_meaning.specs.declared.Request.{Request}
 use Rattle.matrix_meaning.specs.Valid.{IsInRange}
 use Rattle.tree_model.specs.Chosen.{whole_cost}
 use Rattle.tree_model.specs.WholePasses.{whole_loads, whole_stores}
-use Rattle.request_commands.specs.Planned.{IsPlanned}
-use Rattle.request_commands.proofs.Existence.{plan_exists}
+use Rattle.commands.specs.Planned.{IsPlanned}
+use Rattle.commands.proofs.Existence.{plan_exists}
 use Rattle.breakdown.specs.Expansion.{formula_of}
-use Rattle.request_commands.specs.PlanText.{plan_text}
+use Rattle.commands.specs.PlanText.{plan_text}
 use Rattle.tree_model.specs.Breakdown.{Breakdown}
 use Rattle.spl_text.specs.Spelling.{spelling}
 use Rattle.runs.specs.Stream.{lines, data_answer, data_vectors}
@@ -23,21 +23,21 @@ use Rattle.request_text.specs.Schedule.{Plan as Turns}
 use Rattle.spl_ast.specs.Formula.{Formula}
 use Rattle.spl_ast.specs.Formula as formulas
 use Rattle.spl_ast.specs.Meaning as meanings
-use Rattle.convolution_commands.specs.Convolved.{IsConvText, conv_in, conv_lines, conv_spelt, conv_status}
-use Rattle.convolution_commands.proofs.Existence.{conv_spelt_has, convolvable_has}
-use Rattle.formula_commands.specs.Compiled.{formula_in, formula_line}
-use Rattle.formula_commands.proofs.Written.{formula_written}
+use Rattle.commands.specs.ConvolutionCommands.Convolved.{IsConvText, conv_in, conv_lines, conv_spelt, conv_status}
+use Rattle.commands.proofs.ConvolutionCommands.Existence.{conv_spelt_has, convolvable_has}
+use Rattle.commands.specs.FormulaCommands.Compiled.{formula_in, formula_line}
+use Rattle.commands.proofs.FormulaCommands.Written.{formula_written}
 use Rattle.spiral_words.proofs.Decided.{asked_or_usage}
-use Rattle.spiral_status.specs.Fault.{status_of_generate, status_of_request, status_of_stream}
-use Rattle.spiral_status.specs.declared.status.Status.{Status}
-use Rattle.spiral_status.specs.declared.status.Status.TheVariants.{Success, Usage, Turn}
-use Rattle.spiral_input.specs.Asking.{asked_by, requested, spelt}
-use Rattle.spiral_input.specs.Commands.{admitted, first_stranger, procs_named, scheduled, takes_request}
-use Rattle.spiral_input.specs.Line.{data_of, line_of, room_behind}
-use Rattle.spiral_input.specs.Stage.{Stage, ◌>>=◌, given}
-use Rattle.spiral_input.proofs.Stages.{done, done_ended, done_same}
-use Rattle.request_commands.specs.Sample.{sample_vector, weighted_sum, sample_text}
-use Rattle.request_commands.specs.Settled.{IsAccepted, IsAffordable, IsDeclined, IsRefused, Settles, product}
+use Rattle.spiral_words.specs.SpiralStatus.Fault.{status_of_generate, status_of_request, status_of_stream}
+use Rattle.spiral_words.specs.declared.spiral_status.status.Status.{Status}
+use Rattle.spiral_words.specs.declared.spiral_status.status.Status.TheVariants.{Success, Usage, Turn}
+use Rattle.commands.specs.SpiralInput.Asking.{asked_by, requested, spelt}
+use Rattle.commands.specs.SpiralInput.Commands.{admitted, first_stranger, procs_named, scheduled, takes_request}
+use Rattle.commands.specs.SpiralInput.Line.{data_of, line_of, room_behind}
+use Rattle.commands.specs.SpiralInput.Stage.{Stage, ◌>>=◌, given}
+use Rattle.commands.proofs.SpiralInput.Stages.{done, done_ended, done_same}
+use Rattle.commands.specs.Sample.{sample_vector, weighted_sum, sample_text}
+use Rattle.commands.specs.Settled.{IsAccepted, IsAffordable, IsDeclined, IsRefused, Settles, product}
 use Rattle.spiral_main.specs.Always.{is_by_equation}
 use Rattle.spiral_main.specs.Families.{Job, accepted, ordered, IsOutcome}
 use Rattle.spiral_main.specs.Outcome as calls

@@ -2,9 +2,9 @@
 use Rattle.std.proofs.Common.{◌≡◌, ℕ, List, [], ◌++◌, Ok, Err, Result, inl, inr}
 use Rattle.std.specs.declared.option.Option.{Option}
 use Rattle.std.specs.Io.KnownBytes.{IsAtEnd}
-use Rattle.spiral_status.specs.declared.status.Status.{Status}
-use Rattle.spiral_input.specs.Outcomes.{Outcomes, Meets}
-use Rattle.spiral_input.specs.Stage.{Stage, given, ◌>>=◌, IsAnswerBy}
+use Rattle.spiral_words.specs.declared.spiral_status.status.Status.{Status}
+use Rattle.commands.specs.SpiralInput.Outcomes.{Outcomes, Meets}
+use Rattle.commands.specs.SpiralInput.Stage.{Stage, given, ◌>>=◌, IsAnswerBy}
 use Rattle.spiral_main.specs.Front.{Front, taken_from, room_behind, MayGoOn, HasEnded, ordered, Work, by_front}
 use Rattle.spiral_main.proofs.Nested.{joined, split_off, nested, unnested, answer_map, broken_map, cut_map}
 

@@ -5,10 +5,10 @@ use Rattle.request_text.specs.Turns.{named}
 use Rattle.spl_ast.specs.Formula.{Formula, size_of}
 use Rattle.spl_ast.specs.Meaning as formulas
 use Rattle.runs.specs.Stream.{lines}
-use Rattle.formula_commands.specs.Compiled.{written}
-use Rattle.spiral_input.specs.Commands.{admitted, first_stranger}
-use Rattle.spiral_input.specs.Outcomes.{Outcomes}
-use Rattle.spiral_input.specs.Stage.{Stage, given, ◌>>=◌}
+use Rattle.commands.specs.FormulaCommands.Compiled.{written}
+use Rattle.commands.specs.SpiralInput.Commands.{admitted, first_stranger}
+use Rattle.commands.specs.SpiralInput.Outcomes.{Outcomes}
+use Rattle.commands.specs.SpiralInput.Stage.{Stage, given, ◌>>=◌}
 use Rattle.spiral_main.specs.Front.{line, by_front}
 use Rattle.spiral_main.specs.Works.{all, mapping}
 

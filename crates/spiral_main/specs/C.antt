@@ -3,8 +3,8 @@ use Rattle.std.specs.Prelude.{◌≡◌, ℕ, List, []}
 use Rattle.icode.specs.declared.program.Program.{Program}
 use Rattle.icode.specs.Program.{plain_program}
 use Rattle.c_print.specs.CText.{c_text_of}
-use Rattle.request_commands.specs.Settled.{IsProgramOf}
-use Rattle.spiral_input.specs.Outcomes.{Outcomes}
+use Rattle.commands.specs.Settled.{IsProgramOf}
+use Rattle.commands.specs.SpiralInput.Outcomes.{Outcomes}
 use Rattle.spiral_main.specs.Front.{line, by_front}
 use Rattle.spiral_main.specs.Works.{writing}
 use Rattle.spiral_main.specs.Orders.{Planned, planned}

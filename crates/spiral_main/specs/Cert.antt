@@ -1,7 +1,7 @@
 -- What is right for `cert`.
 use Rattle.std.specs.Prelude.{[]}
 use Rattle.plan_cert.specs.Table.{IsTableText}
-use Rattle.spiral_input.specs.Outcomes.{Outcomes}
+use Rattle.commands.specs.SpiralInput.Outcomes.{Outcomes}
 use Rattle.spiral_main.specs.Front.{line, by_front}
 use Rattle.spiral_main.specs.Works.{writing}
 use Rattle.spiral_main.specs.Orders.{Planned, planned}

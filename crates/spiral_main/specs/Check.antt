@@ -2,12 +2,12 @@
 use Rattle.std.specs.Prelude.{◌≡◌, Ok, Err}
 use Rattle.plan_search.specs.declared.generating.GenerateFault.{GenerateFault}
 use Rattle.plan_cert.specs.Verdict.{IsVerdict}
-use Rattle.request_commands.specs.Planned.{IsAdmitted, IsBarred}
+use Rattle.commands.specs.Planned.{IsAdmitted, IsBarred}
 use Rattle.matrix_meaning.specs.declared.Request.{Request}
-use Rattle.spiral_status.specs.Fault.{status_of_generate}
-use Rattle.spiral_input.specs.Asking.{spelt}
-use Rattle.spiral_input.specs.Outcomes.{Outcomes}
-use Rattle.spiral_input.specs.Stage.{Stage, ◌>>=◌}
+use Rattle.spiral_words.specs.SpiralStatus.Fault.{status_of_generate}
+use Rattle.commands.specs.SpiralInput.Asking.{spelt}
+use Rattle.commands.specs.SpiralInput.Outcomes.{Outcomes}
+use Rattle.commands.specs.SpiralInput.Stage.{Stage, ◌>>=◌}
 use Rattle.spiral_main.specs.Front.{line, by_front}
 use Rattle.spiral_main.specs.Works.{judging}
 

@@ -3,11 +3,11 @@ use Rattle.std.specs.Prelude.{◌≡◌, ℕ, List, []}
 use Rattle.icode.specs.declared.program.Program.{Program}
 use Rattle.icode.specs.Program.{plain_program}
 use Rattle.listing_text.specs.Listing.{listing_of}
-use Rattle.request_commands.specs.Settled.{IsProgramOf}
-use Rattle.request_commands.specs.Good.{IsGood}
-use Rattle.request_commands.specs.Lean.{IsLean}
+use Rattle.commands.specs.Settled.{IsProgramOf}
+use Rattle.commands.specs.Good.{IsGood}
+use Rattle.commands.specs.Lean.{IsLean}
 use Rattle.tree_model.specs.Chosen.{whole_cost}
-use Rattle.spiral_input.specs.Outcomes.{Outcomes}
+use Rattle.commands.specs.SpiralInput.Outcomes.{Outcomes}
 use Rattle.spiral_main.specs.Front.{line, by_front}
 use Rattle.spiral_main.specs.Works.{writing}
 use Rattle.spiral_main.specs.Orders.{Planned, planned}

@@ -1,12 +1,12 @@
 -- What is right for `compile`.
 use Rattle.std.specs.Prelude.{◌≡◌, ℕ, List}
-use Rattle.formula_commands.specs.Code.{IsCodeOf}
+use Rattle.commands.specs.FormulaCommands.Code.{IsCodeOf}
 use Rattle.icode.specs.declared.program.Program.{Program}
 use Rattle.icode.specs.Program.{plain_program}
 use Rattle.listing_text.specs.Listing.{listing_of}
 use Rattle.spl_ast.specs.Formula.{Formula}
-use Rattle.formula_commands.specs.Compiled.{written, IsFormulaListing}
-use Rattle.spiral_input.specs.Outcomes.{Outcomes}
+use Rattle.commands.specs.FormulaCommands.Compiled.{written, IsFormulaListing}
+use Rattle.commands.specs.SpiralInput.Outcomes.{Outcomes}
 use Rattle.spiral_main.specs.Front.{line, by_front}
 use Rattle.spiral_main.specs.Works.{writing}
 

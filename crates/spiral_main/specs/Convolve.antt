@@ -1,9 +1,9 @@
 -- What is right for `convolve`, with `--code` and without.
 use Rattle.std.specs.Prelude.{◌≡◌, ℕ, Bool, true, false, List, Ok, Err}
-use Rattle.convolution_commands.specs.Convolution.{convolution}
-use Rattle.convolution_commands.specs.Convolver.{IsConvolver}
-use Rattle.convolution_commands.specs.ConvLetters.{conv_program}
-use Rattle.convolution_commands.specs.ConvPlanned.{IsConvPlanned}
+use Rattle.commands.specs.ConvolutionCommands.Convolution.{convolution}
+use Rattle.commands.specs.ConvolutionCommands.Convolver.{IsConvolver}
+use Rattle.commands.specs.ConvolutionCommands.ConvLetters.{conv_program}
+use Rattle.commands.specs.ConvolutionCommands.ConvPlanned.{IsConvPlanned}
 use Rattle.icode.specs.declared.program.Program.{Program}
 use Rattle.icode.specs.Program.{plain_program}
 use Rattle.listing_text.specs.Listing.{listing_of}
@@ -11,13 +11,13 @@ use Rattle.matrix_meaning.specs.declared.Request.{Request}
 use Rattle.plan_search.specs.declared.convolving.ConvFault.{ConvFault}
 use Rattle.request_text.specs.Schedule.{Plan as Turns}
 use Rattle.request_text.specs.Turns.{named}
-use Rattle.spiral_status.specs.Fault.{status_of_conv}
+use Rattle.spiral_words.specs.SpiralStatus.Fault.{status_of_conv}
 use Rattle.runs.specs.Stream.{lines}
 use Rattle.tree_model.specs.Breakdown.{Breakdown}
-use Rattle.convolution_commands.specs.Convolved.{conv_spelt}
-use Rattle.spiral_input.specs.Commands.{admitted, first_stranger}
-use Rattle.spiral_input.specs.Outcomes.{Outcomes}
-use Rattle.spiral_input.specs.Stage.{Stage, given, ◌>>=◌}
+use Rattle.commands.specs.ConvolutionCommands.Convolved.{conv_spelt}
+use Rattle.commands.specs.SpiralInput.Commands.{admitted, first_stranger}
+use Rattle.commands.specs.SpiralInput.Outcomes.{Outcomes}
+use Rattle.commands.specs.SpiralInput.Stage.{Stage, given, ◌>>=◌}
 use Rattle.spiral_main.specs.Front.{line, by_front}
 use Rattle.spiral_main.specs.Works.{a_first, the_first, by_first, mapping}
 

@@ -3,8 +3,8 @@ use Rattle.std.specs.Prelude.{◌≡◌}
 use Rattle.icode.specs.Plain.{PlainProgram}
 use Rattle.request_text.specs.Schedule.{Plan as Turns}
 use Rattle.runs.specs.Stream.{lines}
-use Rattle.listing_commands.specs.Listed.{loaded, result_of}
-use Rattle.spiral_input.specs.Outcomes.{Outcomes}
+use Rattle.commands.specs.ListingCommands.Listed.{loaded, result_of}
+use Rattle.commands.specs.SpiralInput.Outcomes.{Outcomes}
 use Rattle.spiral_main.specs.Front.{part, by_front}
 use Rattle.spiral_main.specs.Works.{all, mapping}
 

@@ -6,16 +6,16 @@ use Rattle.request_text.specs.Schedule.{Plan as Turns}
 use Rattle.spiral_words.specs.Asked.{IsAsked}
 use Rattle.spiral_words.specs.declared.Command.{Command}
 use Rattle.spiral_words.specs.declared.Command.TheVariants as command
-use Rattle.spiral_status.specs.declared.status.Status.{Status}
-use Rattle.spiral_input.specs.Commands.{commanded, AskForRequest, AskForFormula, AskForConvolution}
-use Rattle.convolution_commands.specs.Convolved.{IsConvAnswer, IsBrokenConv, IsCutConv}
-use Rattle.formula_commands.specs.Compiled.{IsFormulaAnswer, IsBrokenFormula, IsCutFormula}
-use Rattle.spiral_input.specs.Line.{data_of, IsPartOfLine, HasEnded, room_behind}
-use Rattle.listing_commands.specs.Listed.{IsExecution, IsBrokenExecution, IsCutExecution}
-use Rattle.spiral_input.specs.Outcomes.{Outcomes, Meets}
-use Rattle.spiral_input.specs.Stage.{Stage, ◌>>=◌, IsAnswerBy, IsBrokenBy, IsCutBy}
-use Rattle.spiral_input.specs.Asking.{requested}
-use Rattle.request_commands.specs.Settled.{IsAccepted, IsDeclined, Settles, BreaksOff, ComesTo}
+use Rattle.spiral_words.specs.declared.spiral_status.status.Status.{Status}
+use Rattle.commands.specs.SpiralInput.Commands.{commanded, AskForRequest, AskForFormula, AskForConvolution}
+use Rattle.commands.specs.ConvolutionCommands.Convolved.{IsConvAnswer, IsBrokenConv, IsCutConv}
+use Rattle.commands.specs.FormulaCommands.Compiled.{IsFormulaAnswer, IsBrokenFormula, IsCutFormula}
+use Rattle.commands.specs.SpiralInput.Line.{data_of, IsPartOfLine, HasEnded, room_behind}
+use Rattle.commands.specs.ListingCommands.Listed.{IsExecution, IsBrokenExecution, IsCutExecution}
+use Rattle.commands.specs.SpiralInput.Outcomes.{Outcomes, Meets}
+use Rattle.commands.specs.SpiralInput.Stage.{Stage, ◌>>=◌, IsAnswerBy, IsBrokenBy, IsCutBy}
+use Rattle.commands.specs.SpiralInput.Asking.{requested}
+use Rattle.commands.specs.Settled.{IsAccepted, IsDeclined, Settles, BreaksOff, ComesTo}
 
 -- The stages
 

@@ -2,7 +2,7 @@
 use Rattle.std.specs.Prelude.{◌≡◌, [], ◌∷◌, ◌++◌}
 use Rattle.spl_text.specs.Spelling.{spelling}
 use Rattle.breakdown.specs.Expansion.{formula_of}
-use Rattle.spiral_input.specs.Outcomes.{Outcomes}
+use Rattle.commands.specs.SpiralInput.Outcomes.{Outcomes}
 use Rattle.spiral_main.specs.Front.{line, by_front}
 use Rattle.spiral_main.specs.Works.{writing}
 use Rattle.spiral_main.specs.Orders.{Planned, planned}

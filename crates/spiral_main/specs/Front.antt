@@ -2,12 +2,12 @@
 use Rattle.std.specs.Prelude.{◌≡◌, ◌⊎◌, ℕ, ◌-◌, ◌≤◌, nat_le, Bool, true, false, List, [], length, Ok, Err, Result, if◌then◌else◌}
 use Rattle.std.specs.List.{before_first, after_first, list_any}
 use Rattle.io_edge.specs.Feed.{limit}
-use Rattle.input_rest.specs.Part.{first_part, second_part, has_empty_line}
-use Rattle.spiral_status.specs.declared.status.Status.{Status}
-use Rattle.spiral_status.specs.declared.status.Status.TheVariants.{TooLong}
-use Rattle.spiral_input.specs.Line.{is_line_end}
-use Rattle.spiral_input.specs.Outcomes.{Outcomes}
-use Rattle.spiral_input.specs.Stage.{Stage, given, ◌>>=◌, IsAnswerBy, IsBrokenBy, IsCutBy}
+use Rattle.data_stream.specs.InputRest.Part.{first_part, second_part, has_empty_line}
+use Rattle.spiral_words.specs.declared.spiral_status.status.Status.{Status}
+use Rattle.spiral_words.specs.declared.spiral_status.status.Status.TheVariants.{TooLong}
+use Rattle.commands.specs.SpiralInput.Line.{is_line_end}
+use Rattle.commands.specs.SpiralInput.Outcomes.{Outcomes}
+use Rattle.commands.specs.SpiralInput.Stage.{Stage, given, ◌>>=◌, IsAnswerBy, IsBrokenBy, IsCutBy}
 
 -- A front of an input: what it is, what stands behind its end, whether this is there, and how many bytes it has at most
 pub record Front : Type 0 where

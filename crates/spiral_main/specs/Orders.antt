@@ -1,11 +1,11 @@
 -- What the line of a request orders: the request, and the tree that is chosen for it.
 use Rattle.std.specs.Prelude.{◌≡◌, ℕ, List, Ok, Err}
 use Rattle.plan_search.specs.declared.generating.GenerateFault.{GenerateFault}
-use Rattle.spiral_status.specs.Fault.{status_of_generate}
-use Rattle.spiral_input.specs.Asking.{spelt}
-use Rattle.spiral_input.specs.Commands.{admitted, first_stranger}
-use Rattle.spiral_input.specs.Stage.{Stage, given, ◌>>=◌}
-use Rattle.request_commands.specs.Planned.{IsPlanned}
+use Rattle.spiral_words.specs.SpiralStatus.Fault.{status_of_generate}
+use Rattle.commands.specs.SpiralInput.Asking.{spelt}
+use Rattle.commands.specs.SpiralInput.Commands.{admitted, first_stranger}
+use Rattle.commands.specs.SpiralInput.Stage.{Stage, given, ◌>>=◌}
+use Rattle.commands.specs.Planned.{IsPlanned}
 use Rattle.matrix_meaning.specs.declared.Request.{Request}
 use Rattle.tree_model.specs.Breakdown.{Breakdown}
 

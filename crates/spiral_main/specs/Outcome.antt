@@ -7,10 +7,10 @@ use Rattle.io_edge.specs.Taken.{AppendsPrefix}
 use Rattle.spiral_words.specs.Asked.{IsAsked, IsUsage}
 use Rattle.spiral_words.specs.declared.Command.{Command}
 use Rattle.spiral_words.specs.declared.Command.TheVariants.{Plan, Formula, Cert, Check, Code, C, Run, Trace, Sample, Compile, Apply, Exec, Convolve}
-use Rattle.spiral_status.specs.declared.status.Status.{Status}
-use Rattle.spiral_status.specs.declared.status.Status.TheVariants.{Usage}
-use Rattle.spiral_input.specs.Outcomes.{Outcomes, Meets}
-use Rattle.spiral_input.specs.Stage.{Stage, IsAnswerBy}
+use Rattle.spiral_words.specs.declared.spiral_status.status.Status.{Status}
+use Rattle.spiral_words.specs.declared.spiral_status.status.Status.TheVariants.{Usage}
+use Rattle.commands.specs.SpiralInput.Outcomes.{Outcomes, Meets}
+use Rattle.commands.specs.SpiralInput.Stage.{Stage, IsAnswerBy}
 use Rattle.spiral_main.specs.Plan.{plan_outcomes}
 use Rattle.spiral_main.specs.Formula.{formula_outcomes}
 use Rattle.spiral_main.specs.Code.{code_outcomes}

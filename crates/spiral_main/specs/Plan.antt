@@ -1,7 +1,7 @@
 -- What is right for `plan`.
 use Rattle.std.specs.Prelude.{◌≡◌, []}
-use Rattle.request_commands.specs.PlanText.{plan_text}
-use Rattle.spiral_input.specs.Outcomes.{Outcomes}
+use Rattle.commands.specs.PlanText.{plan_text}
+use Rattle.commands.specs.SpiralInput.Outcomes.{Outcomes}
 use Rattle.spiral_main.specs.Front.{line, by_front}
 use Rattle.spiral_main.specs.Works.{writing}
 use Rattle.spiral_main.specs.Orders.{Planned, planned}

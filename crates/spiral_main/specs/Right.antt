@@ -4,29 +4,29 @@ use Rattle.std.specs.declared.option.Option.{Option}
 use Rattle.std.specs.Io.KnownBytes.{Appends}
 use Rattle.matrix_meaning.specs.declared.Request.{Request}
 use Rattle.matrix_meaning.specs.Valid.{IsValid}
-use Rattle.convolution_commands.specs.Convolving.{IsConvRequest}
-use Rattle.convolution_commands.specs.ConvPlanned.{HasPrincipalRoot, both_halves}
-use Rattle.request_commands.specs.Planned.{IsRooted}
+use Rattle.commands.specs.ConvolutionCommands.Convolving.{IsConvRequest}
+use Rattle.commands.specs.ConvolutionCommands.ConvPlanned.{HasPrincipalRoot, both_halves}
+use Rattle.commands.specs.Planned.{IsRooted}
 use Rattle.tree_model.specs.Chosen.{CanDivideWhole, IsWholeLeast}
 use Rattle.plan_cert.specs.declared.verdict.Verdict.TheVariants.{Least}
 use Rattle.plan_cert.specs.Verdict.{IsVerdict}
 use Rattle.icode.specs.Plain.{PlainProgram}
-use Rattle.input_rest.specs.Part.{second_part}
+use Rattle.data_stream.specs.InputRest.Part.{second_part}
 use Rattle.request_text.specs.Schedule.{Plan as Turns}
 use Rattle.spl_ast.specs.Formula.{Formula, size_of}
 use Rattle.spiral_words.specs.Asked.{IsAsked}
 use Rattle.spiral_words.specs.declared.Command.{Command}
 use Rattle.spiral_words.specs.declared.Command.TheVariants as command
-use Rattle.spiral_status.specs.declared.status.Status.{Status}
-use Rattle.spiral_status.specs.declared.status.Status.TheVariants.{Success}
-use Rattle.request_commands.specs.Checked.{certificate_limit}
-use Rattle.spiral_input.specs.Asking.{asked_by, requested}
-use Rattle.spiral_input.specs.Commands.{commanded, AskForFormula, AskForConvolution}
-use Rattle.formula_commands.specs.Compiled.{formula_in}
-use Rattle.convolution_commands.specs.Convolved.{conv_spelt}
-use Rattle.spiral_input.specs.Line.{data_of, room_behind}
+use Rattle.spiral_words.specs.declared.spiral_status.status.Status.{Status}
+use Rattle.spiral_words.specs.declared.spiral_status.status.Status.TheVariants.{Success}
+use Rattle.commands.specs.Checked.{certificate_limit}
+use Rattle.commands.specs.SpiralInput.Asking.{asked_by, requested}
+use Rattle.commands.specs.SpiralInput.Commands.{commanded, AskForFormula, AskForConvolution}
+use Rattle.commands.specs.FormulaCommands.Compiled.{formula_in}
+use Rattle.commands.specs.ConvolutionCommands.Convolved.{conv_spelt}
+use Rattle.commands.specs.SpiralInput.Line.{data_of, room_behind}
 use Rattle.runs.specs.Stream.{data_vectors}
-use Rattle.listing_commands.specs.Listed.{runnable, room_behind_listing}
+use Rattle.commands.specs.ListingCommands.Listed.{runnable, room_behind_listing}
 use Rattle.spiral_main.specs.Outcome.{IsOutcome}
 use Rattle.spiral_main.specs.RightFront.{AreWholeVectors}
 

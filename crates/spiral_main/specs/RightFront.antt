@@ -2,10 +2,10 @@
 use Rattle.std.specs.Prelude.{◌≤◌, ◌≡◌, ◌%◌, ℕ, true, List, length, Ok, None}
 use Rattle.std.specs.List.{list_all}
 use Rattle.data_stream.specs.Data.{tokens, is_good}
-use Rattle.spiral_input.specs.Asking.{spelt}
-use Rattle.spiral_input.specs.Commands.{first_stranger}
+use Rattle.commands.specs.SpiralInput.Asking.{spelt}
+use Rattle.commands.specs.SpiralInput.Commands.{first_stranger}
 use Rattle.runs.specs.Stream.{vectors_of}
-use Rattle.request_commands.specs.Planned.{IsPlanned}
+use Rattle.commands.specs.Planned.{IsPlanned}
 use Rattle.spiral_main.specs.Front.{Front, line, room_behind}
 use Rattle.spiral_main.specs.Orders.{Planned}
 

@@ -3,8 +3,8 @@ use Rattle.std.specs.Prelude.{◌≡◌}
 use Rattle.matrix_meaning.specs.Asked.{asked_of}
 use Rattle.spiral_words.specs.declared.Order.{Order}
 use Rattle.runs.specs.Stream.{lines}
-use Rattle.spiral_input.specs.Orders.{procs_in}
-use Rattle.spiral_input.specs.Outcomes.{Outcomes}
+use Rattle.commands.specs.SpiralInput.Orders.{procs_in}
+use Rattle.commands.specs.SpiralInput.Outcomes.{Outcomes}
 use Rattle.spiral_main.specs.Front.{line, by_front}
 use Rattle.spiral_main.specs.Works.{all, mapping}
 use Rattle.spiral_main.specs.Orders.{Planned, planned}

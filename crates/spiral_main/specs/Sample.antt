@@ -5,8 +5,8 @@ use Rattle.request_text.specs.Turns.{named}
 use Rattle.tree_model.specs.WholePasses.{whole_loads, whole_stores}
 use Rattle.matrix_meaning.specs.Asked.{asked_of}
 use Rattle.tree_model.specs.Chosen.{whole_cost}
-use Rattle.request_commands.specs.Sample.{sample_vector, weighted_sum, sample_text}
-use Rattle.spiral_input.specs.Outcomes.{Outcomes}
+use Rattle.commands.specs.Sample.{sample_vector, weighted_sum, sample_text}
+use Rattle.commands.specs.SpiralInput.Outcomes.{Outcomes}
 use Rattle.spiral_main.specs.Front.{line, by_front}
 use Rattle.spiral_main.specs.Works.{writing}
 use Rattle.spiral_main.specs.Orders.{Planned, planned}

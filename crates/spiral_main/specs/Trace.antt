@@ -5,10 +5,10 @@ use Rattle.icode.specs.Program.{plain_program, code_of}
 use Rattle.listing_text.specs.Listing.{listing_of}
 use Rattle.spiral_words.specs.declared.Order.{Order}
 use Rattle.runs.specs.Stream.{texts}
-use Rattle.request_commands.specs.Settled.{IsProgramOf}
-use Rattle.request_commands.specs.Traced.{traced_text}
-use Rattle.spiral_input.specs.Orders.{procs_in}
-use Rattle.spiral_input.specs.Outcomes.{Outcomes}
+use Rattle.commands.specs.Settled.{IsProgramOf}
+use Rattle.commands.specs.Traced.{traced_text}
+use Rattle.commands.specs.SpiralInput.Orders.{procs_in}
+use Rattle.commands.specs.SpiralInput.Outcomes.{Outcomes}
 use Rattle.spiral_main.specs.Front.{line, by_front}
 use Rattle.spiral_main.specs.Works.{all, mapping}
 use Rattle.spiral_main.specs.Orders.{Planned, planned}

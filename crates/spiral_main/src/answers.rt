@@ -16,7 +16,7 @@ ghost use Rattle.spiral_main.specs.Plan.{plan_outcomes};
 ghost use Rattle.spiral_main.specs.Run.{run_outcomes};
 ghost use Rattle.spiral_main.specs.Sample.{sample_outcomes};
 ghost use Rattle.spiral_main.specs.Trace.{trace_outcomes, good_trace_outcomes};
-ghost use Rattle.spiral_status.specs.declared.status.Status.{Status as SpecStatus};
+ghost use Rattle.spiral_words.specs.declared.spiral_status.status.Status.{Status as SpecStatus};
 ghost use Rattle.spiral_words.specs.Asked.{IsAsked};
 ghost use Rattle.spiral_words.specs.declared.Command.TheVariants as command;
 ghost use Rattle.spiral_words.specs.declared.Command.{Command as SpecCommand};

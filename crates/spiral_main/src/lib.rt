@@ -6,14 +6,14 @@ ghost use Rattle.std.specs.declared.option.Option.{Option};
 ghost use Rattle.icode.specs.Machine.{Code};
 ghost use Rattle.icode.specs.Program.{plain_program};
 ghost use Rattle.icode.specs.declared.program.Program.{Program as SpecProgram};
-ghost use Rattle.request_commands.specs.Performed.{IsGoodCode};
-ghost use Rattle.request_commands.specs.Settled.{IsAffordable, IsListing, IsProgramFor};
+ghost use Rattle.commands.specs.Performed.{IsGoodCode};
+ghost use Rattle.commands.specs.Settled.{IsAffordable, IsListing, IsProgramFor};
 ghost use Rattle.matrix_meaning.specs.Valid.{IsInRange, IsValid};
 ghost use Rattle.matrix_meaning.specs.declared.Request.{Request as SpecRequest};
 ghost use Rattle.spiral_words.specs.Asked.{IsAsked};
 ghost use Rattle.spiral_words.specs.declared.Command.{Command as SpecCommand};
-ghost use Rattle.spiral_status.specs.declared.status.Status.{Status as SpecStatus};
-ghost use Rattle.spiral_status.specs.declared.status.Status.TheVariants.{ReadFault, WriteFault, NoMemory};
+ghost use Rattle.spiral_words.specs.declared.spiral_status.status.Status.{Status as SpecStatus};
+ghost use Rattle.spiral_words.specs.declared.spiral_status.status.Status.TheVariants.{ReadFault, WriteFault, NoMemory};
 ghost use Rattle.spiral_main.specs.Families as families;
 ghost use Rattle.spiral_main.specs.Always.{is_by_equation};
 ghost use Rattle.spiral_main.specs.Outcome.{Accounts, IsOutcome};
@@ -27,8 +27,7 @@ mod run;
 
 pub use run::spiral_run;
 pub use runs::{StreamFault, run_stream};
-pub use spiral_status::Status;
-pub use spiral_words::Command;
+pub use spiral_words::{Command, Status};
 
 /// The words and the bytes of a call determine its status.
 pub fn calls_have_one_status()

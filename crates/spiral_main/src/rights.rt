@@ -1,11 +1,11 @@
 // Calls that are right in all that their command asks of them, and what they come to.
 ghost use Rattle.std.specs.Prelude.{◌≡◌, ◌≢◌, ◌≤◌, ℕ, List, [], ◌∷◌, ◌++◌, length, Ok};
-ghost use Rattle.formula_commands.specs.Compiled.{written, IsFormulaListing};
+ghost use Rattle.commands.specs.FormulaCommands.Compiled.{written, IsFormulaListing};
 ghost use Rattle.icode.specs.Plain.{PlainProgram};
-ghost use Rattle.listing_commands.specs.Listed.{loaded, result_of};
+ghost use Rattle.commands.specs.ListingCommands.Listed.{loaded, result_of};
 ghost use Rattle.request_text.specs.Schedule.{Plan as SpecSchedule};
 ghost use Rattle.request_text.specs.Turns.{named};
-ghost use Rattle.spiral_input.specs.Orders.{procs_in};
+ghost use Rattle.commands.specs.SpiralInput.Orders.{procs_in};
 ghost use Rattle.spiral_main.specs.Apply.{formed};
 ghost use Rattle.spiral_main.specs.C.{IsCText};
 ghost use Rattle.spiral_main.specs.Code.{IsListing};
@@ -15,8 +15,8 @@ ghost use Rattle.spiral_main.specs.Outcome.{Accounts, IsOutcome};
 ghost use Rattle.spiral_main.specs.RightFront.{HasWholeVectors, IsRightLine, request_vectors, vectors_behind};
 ghost use Rattle.spiral_main.specs.Sample.{sample_lines};
 ghost use Rattle.spiral_main.specs.Trace.{IsTrace};
-ghost use Rattle.spiral_status.specs.declared.status.Status.TheVariants.{Success, ReadFault, WriteFault, NoMemory};
-ghost use Rattle.spiral_status.specs.declared.status.Status.{Status as SpecStatus};
+ghost use Rattle.spiral_words.specs.declared.spiral_status.status.Status.TheVariants.{Success, ReadFault, WriteFault, NoMemory};
+ghost use Rattle.spiral_words.specs.declared.spiral_status.status.Status.{Status as SpecStatus};
 ghost use Rattle.spiral_words.specs.Asked.{IsAsked};
 ghost use Rattle.spiral_words.specs.declared.Command.TheVariants as command;
 ghost use Rattle.spiral_words.specs.declared.Order.{Order as SpecOrder};
@@ -30,7 +30,7 @@ ghost use Rattle.runs.specs.Stream.{lines};
 ghost use Rattle.plan_cert.specs.Table.{IsTableText};
 ghost use Rattle.matrix_meaning.specs.Asked.{asked_of};
 ghost use Rattle.breakdown.specs.Expansion.{formula_of};
-ghost use Rattle.request_commands.specs.PlanText.{plan_text};
+ghost use Rattle.commands.specs.PlanText.{plan_text};
 
 /// An outcome that is Success is what a call comes to, unless a read or a write fails or memory runs out.
 pub fn outcomes_come()

@@ -3,24 +3,19 @@ ghost use Rattle.std.specs.Prelude.{◌≡◌, [], IfSome, MatchOption, Ok, map,
 ghost use Rattle.std.specs.declared.option.Option.{Option};
 ghost use Rattle.std.specs.Io.KnownBytes.{Appends, IsAtEnd};
 ghost use Rattle.io_edge.specs.Faults.{Reports};
-ghost use Rattle.spiral_input.specs.Commands.{takes_convolution, takes_formula, takes_listing};
-ghost use Rattle.spiral_input.specs.Commands.{AskForRest, AskForCommand, AreJudged};
-ghost use Rattle.spiral_input.specs.Outcomes.{ToldMeets};
+ghost use Rattle.commands.specs.SpiralInput.Commands.{takes_convolution, takes_formula, takes_listing};
+ghost use Rattle.commands.specs.SpiralInput.Commands.{AskForRest, AskForCommand, AreJudged};
+ghost use Rattle.commands.specs.SpiralInput.Outcomes.{ToldMeets};
 ghost use Rattle.spiral_main.specs.Families.{call_outcomes};
 ghost use Rattle.spiral_main.specs.Outcome.{Accounts, Notes};
-ghost use Rattle.spiral_input.specs.Stage.{status_of};
-ghost use Rattle.spiral_status.specs.Status.{note_line};
+ghost use Rattle.commands.specs.SpiralInput.Stage.{status_of};
+ghost use Rattle.spiral_words.specs.SpiralStatus.Status.{note_line};
 
 use crate::Status;
-use convolution_commands::convolve;
-use formula_commands::by_formula;
+use commands::{ask, asked, by_formula, convolve, exec, perform};
 use io_edge::{Feed, Sink, Source};
-use listing_commands::exec;
-use request_commands::perform;
 use request_text::Schedule;
-use spiral_input::{ask, asked};
-use spiral_status::write_note;
-use spiral_words::Command;
+use spiral_words::{Command, write_note};
 use std::alloc::Global;
 
 // The schedule of `exec`, if that is the command.

@@ -1,4 +1,4 @@
-//! What the words of a command line ask for.
+//! What the words of a command line ask for, and the statuses with which a call ends.
 #![tactic(auto)]
 
 ghost use Rattle.std.specs.Prelude.{◌≡◌, ◌⊎◌, List, None, false};
@@ -13,8 +13,10 @@ mod app;
 mod command;
 mod line;
 mod number;
+mod spiral_status;
 
 pub use command::{Command, Order, Refusal, command_of};
+pub use spiral_status::{CERTIFICATE_LIMIT, LINE_LIMIT, Status, write_note};
 
 /// Words name no command only where clap refuses them.
 pub fn clap_refuses()

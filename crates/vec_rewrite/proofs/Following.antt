@@ -9,9 +9,9 @@ use Rattle.smp_rewrite.specs.Smp as smp
 use Rattle.smp_rewrite.specs.Smp.{within}
 use Rattle.smp_rewrite.proofs.Cores.{core-reads, core-gives}
 use Rattle.smp_rewrite.proofs.Tensors.{under-within, under-within_all}
-use Rattle.steps.specs.Meaning.{core_size, core_on, step_on, all_on}
-use Rattle.steps.specs.Step.{PlainCore, piece, turns, twiddles, thomas_in, thomas_out, step}
-use Rattle.steps.proofs.StepMeanings.{all_on-append}
+use Rattle.smp_rewrite.specs.LayoutSteps.Meaning.{core_size, core_on, step_on, all_on}
+use Rattle.smp_rewrite.specs.LayoutSteps.Step.{PlainCore, piece, turns, twiddles, thomas_in, thomas_out, step}
+use Rattle.smp_rewrite.proofs.LayoutSteps.StepMeanings.{all_on-append}
 use Rattle.tensor_paths.specs.declared.Tensor.TheVariants.{Blocks, Columns}
 use Rattle.tensor_paths.specs.Path.{Path, size_under, under}
 use Rattle.vec_rewrite.specs.declared.Deal.{Deal}

@@ -5,12 +5,12 @@ use Rattle.std.proofs.lemmas.Bool.{cases_eq}
 use Rattle.std.proofs.lemmas.List.{map-append}
 use Rattle.smp_rewrite.specs.Smp as smp
 use Rattle.smp_rewrite.specs.Cut.{layout_smp, smp_of}
-use Rattle.steps.specs.Meaning.{all_on}
-use Rattle.steps.proofs.StepMeanings.{all_on-append}
+use Rattle.smp_rewrite.specs.LayoutSteps.Meaning.{all_on}
+use Rattle.smp_rewrite.proofs.LayoutSteps.StepMeanings.{all_on-append}
 use Rattle.smp_rewrite.specs.Fits.{CanShareLayout}
-use Rattle.steps.specs.Layout.{Layout}
-use Rattle.steps.specs.Whole.{Whole, closed_on, closing_cost}
-use Rattle.steps.specs.declared.target.Target.{Target}
+use Rattle.smp_rewrite.specs.LayoutSteps.Layout.{Layout}
+use Rattle.smp_rewrite.specs.LayoutSteps.Whole.{Whole, closed_on, closing_cost}
+use Rattle.smp_rewrite.specs.declared.layout_steps.target.Target.{Target}
 use Rattle.vec_rewrite.specs.declared.Deal.{Deal}
 use Rattle.vec_rewrite.specs.Laws.{Keeps, VecKeeps}
 use Rattle.vec_rewrite.specs.Turning.{kept, laned_from, phase_of, deal_of}

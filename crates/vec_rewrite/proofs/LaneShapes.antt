@@ -10,14 +10,14 @@ use Rattle.smp_rewrite.specs.Cut.{layout_smp}
 use Rattle.smp_rewrite.specs.Laws.{step_size, IsPermutation, IsMove, HasShape}
 use Rattle.smp_rewrite.proofs.Tensors.{size-within}
 use Rattle.smp_rewrite.proofs.TreeLaws.{smp_shaped}
-use Rattle.steps.specs.Meaning.{core_size}
-use Rattle.steps.specs.Step.{PlainCore, piece, turns, twiddles, thomas_in, thomas_out, step}
+use Rattle.smp_rewrite.specs.LayoutSteps.Meaning.{core_size}
+use Rattle.smp_rewrite.specs.LayoutSteps.Step.{PlainCore, piece, turns, twiddles, thomas_in, thomas_out, step}
 use Rattle.tensor_paths.specs.declared.Tensor.TheVariants.{Blocks, Columns}
 use Rattle.tensor_paths.specs.Path.{Path, size_under}
 use Rattle.smp_rewrite.specs.Fits.{CanShareLayout}
-use Rattle.steps.specs.Layout.{Layout}
-use Rattle.steps.specs.Whole.{only}
-use Rattle.steps.specs.declared.target.Target.{Target}
+use Rattle.smp_rewrite.specs.LayoutSteps.Layout.{Layout}
+use Rattle.smp_rewrite.specs.LayoutSteps.Whole.{only}
+use Rattle.smp_rewrite.specs.declared.layout_steps.target.Target.{Target}
 use Rattle.vec_rewrite.specs.declared.Deal.{Deal}
 use Rattle.vec_rewrite.specs.declared.Grid.{Grid}
 use Rattle.vec_rewrite.specs.Laws.{HasLanes, IsLaned, VecShaped}

@@ -10,7 +10,7 @@ use Rattle.smp_rewrite.specs.Views.{plain_factor, plain_smp}
 use Rattle.smp_rewrite.specs.declared.SmpSpl.{SmpSpl}
 use Rattle.smp_rewrite.proofs.TreeLaws.{smp_shaped}
 use Rattle.tensor_paths.specs.declared.Tensor.TheVariants.{Blocks, Columns}
-use Rattle.steps.specs.declared.target.Target.{Target}
+use Rattle.smp_rewrite.specs.declared.layout_steps.target.Target.{Target}
 use Rattle.tensor_paths.specs.Path.{Path, size_under}
 use Rattle.vec_rewrite.specs.Laws.{IsSmpOf, HasRowsUnder, HasRows}
 

@@ -10,8 +10,8 @@ use Rattle.smp_rewrite.specs.Smp.{within}
 use Rattle.smp_rewrite.specs.Cut.{cut_factors, factors_of}
 use Rattle.smp_rewrite.proofs.Factors.{rows_of}
 use Rattle.smp_rewrite.proofs.Sized.{AreOfSize}
-use Rattle.steps.specs.Meaning.{core_size}
-use Rattle.steps.specs.Step.{PlainCore, piece, turns, twiddles, thomas_in, thomas_out, PlainStep, step}
+use Rattle.smp_rewrite.specs.LayoutSteps.Meaning.{core_size}
+use Rattle.smp_rewrite.specs.LayoutSteps.Step.{PlainCore, piece, turns, twiddles, thomas_in, thomas_out, PlainStep, step}
 use Rattle.tensor_paths.specs.declared.Tensor.{Tensor}
 use Rattle.tensor_paths.specs.declared.Tensor.TheVariants.{Blocks, Columns}
 use Rattle.tensor_paths.specs.Path.{Path, count_of, grown, size_under}

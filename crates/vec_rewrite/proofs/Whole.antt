@@ -9,8 +9,8 @@ use Rattle.operators.proofs.Lists.{length-list_below}
 use Rattle.smp_rewrite.specs.Smp.{within}
 use Rattle.smp_rewrite.proofs.Cores.{core-reads, core-gives}
 use Rattle.smp_rewrite.proofs.Tensors.{under-within_all, reads-one_under}
-use Rattle.steps.specs.Meaning.{step_on, all_on}
-use Rattle.steps.specs.Step.{turns, step}
+use Rattle.smp_rewrite.specs.LayoutSteps.Meaning.{step_on, all_on}
+use Rattle.smp_rewrite.specs.LayoutSteps.Step.{turns, step}
 use Rattle.tensor_paths.specs.declared.Tensor.TheVariants.{Blocks, Columns}
 use Rattle.tensor_paths.proofs.Equal.{on_blocks-same}
 use Rattle.vec_rewrite.specs.declared.Deal.{Deal}

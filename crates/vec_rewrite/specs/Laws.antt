@@ -4,11 +4,11 @@ use Rattle.smp_rewrite.specs.Smp.{PlainFactor, blocks, diagonals, move_before, m
 use Rattle.smp_rewrite.specs.Cut.{layout_smp, smp_of}
 use Rattle.smp_rewrite.specs.Laws.{step_size, HasEqualParts, IsPermutation, IsDiagonal}
 use Rattle.smp_rewrite.specs.Fits.{CanShareLayout}
-use Rattle.steps.specs.Layout.{Layout}
-use Rattle.steps.specs.Whole.{Whole}
-use Rattle.steps.specs.Step.{steps_of}
-use Rattle.steps.specs.Targets.{is_alone}
-use Rattle.steps.specs.declared.target.Target.{Target}
+use Rattle.smp_rewrite.specs.LayoutSteps.Layout.{Layout}
+use Rattle.smp_rewrite.specs.LayoutSteps.Whole.{Whole}
+use Rattle.smp_rewrite.specs.LayoutSteps.Step.{steps_of}
+use Rattle.smp_rewrite.specs.LayoutSteps.Targets.{is_alone}
+use Rattle.smp_rewrite.specs.declared.layout_steps.target.Target.{Target}
 use Rattle.tensor_paths.specs.declared.Tensor.TheVariants.{Blocks, Columns}
 use Rattle.tensor_paths.specs.Path.{Path, size_under}
 use Rattle.vec_rewrite.specs.Vectors as vec

@@ -2,10 +2,10 @@
 use Rattle.std.specs.Prelude.{ℕ, ◌+◌, ◌*◌, ◌/◌, List, [], ◌∷◌, ◌++◌, map, Option}
 use Rattle.operators.specs.Operator.{Operator}
 use Rattle.smp_rewrite.specs.Smp.{within}
-use Rattle.steps.specs.Meaning.{all_on}
-use Rattle.steps.specs.Whole.{closed_on, closing_cost}
-use Rattle.steps.specs.declared.target.Target.{Target}
-use Rattle.steps.specs.Step.{PlainStep, step, turns, operations_of}
+use Rattle.smp_rewrite.specs.LayoutSteps.Meaning.{all_on}
+use Rattle.smp_rewrite.specs.LayoutSteps.Whole.{closed_on, closing_cost}
+use Rattle.smp_rewrite.specs.declared.layout_steps.target.Target.{Target}
+use Rattle.smp_rewrite.specs.LayoutSteps.Step.{PlainStep, step, turns, operations_of}
 use Rattle.tensor_paths.specs.declared.Tensor.TheVariants.{Blocks, Columns}
 use Rattle.tensor_paths.specs.Path.{Path}
 

@@ -3,20 +3,19 @@
 
 ghost use Rattle.std.specs.Prelude.{◌≡◌, ◌+◌, ◌*◌, ◌<◌, [], ◌∷◌, ◌++◌, All, IfOk, List, None, OnOk, map, ℕ};
 ghost use Rattle.tensor_paths.specs.declared.Tensor.TheVariants.{Blocks};
-ghost use Rattle.steps.specs.Targets.{target_of};
+ghost use Rattle.smp_rewrite.specs.LayoutSteps.Targets.{target_of};
 ghost use Rattle.smp_rewrite.specs.Smp.{smp_on, smp_share, within};
 ghost use Rattle.smp_rewrite.specs.Views.{plain_factor, plain_smp};
-ghost use Rattle.steps.specs.Step.{step, turns};
-ghost use Rattle.steps.specs.Views.{plain_core, plain_step};
+ghost use Rattle.smp_rewrite.specs.LayoutSteps.Step.{step, turns};
+ghost use Rattle.smp_rewrite.specs.LayoutSteps.Views.{plain_core, plain_step};
 ghost use Rattle.vec_rewrite.specs.Laws.{HasRows, HasRowsUnder, IsLaned, IsSmpOf, PlainSteps, VecKeeps, VecShaped};
 ghost use Rattle.vec_rewrite.specs.Turning.{block_factors, grid_after, grouped, joined, kept, laned, laned_from, narrowed, order_after, parted, phase_of, settled, vec_of};
 ghost use Rattle.vec_rewrite.specs.Vectors.{factor_step, vec_on, vec_share, vec_steps};
 ghost use Rattle.vec_rewrite.specs.Views.{plain_vec, plain_vec_factor};
 
 use memory::NoMemory;
-use smp_rewrite::{Factor, SmpSpl, step_within, within};
+use smp_rewrite::{Core, Factor, SmpSpl, Step, Target, step_within, within};
 use std::alloc::Global;
-use steps::{Core, Step, Target};
 use tensor_paths::Tensor;
 use tree_model::Ctx;
 

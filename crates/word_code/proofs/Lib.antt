@@ -1,3 +1,5 @@
+pub mod WordPrint
+pub mod InPlace
 pub mod Arithmetic
 pub mod Residues
 pub mod Bounds

@@ -1,3 +1,5 @@
+pub mod WordPrint
+pub mod InPlace
 pub mod Needs
 pub mod Words
 pub mod WordMachine

@@ -1,11 +1,16 @@
-//! Loop code on words: lazy residues, products by known factors, and why they leave what residues leave.
+//! Loop code on words: lazy residues, products by known factors, passes in place, and its C text.
 #![tactic(auto)]
 
 pub mod choose;
+mod in_place;
 pub mod laws;
 mod needs;
 mod note;
-pub mod program;
-pub mod quicken;
+mod program;
+mod quicken;
 mod settle;
 mod single;
+mod word_print;
+
+pub use in_place::work_in_place;
+pub use word_print::{Form, print_words};

@@ -3,12 +3,11 @@
 
 use crate::contexts::{context, tree_of};
 use crate::stages::{blocks_of, lanes_of};
-use passes::Work;
-use smp_rewrite::{Factor, SmpSpl};
+use sigma_spl::Work;
+use smp_rewrite::{Core, Factor, SmpSpl, Step};
 use std::alloc::{AllocError, Global};
 use std::fmt::Write;
 use std::test::Fail;
-use steps::{Core, Step};
 use tensor_paths::Tensor;
 use tree_model::{RootedTrees, admissible};
 use vec_rewrite::{VecFactor, VecSpl};

@@ -5,13 +5,13 @@ ghost use Rattle.tree_model.specs.Chosen.{IsWholeTree};
 
 use crate::contexts::{context, tree_of};
 use crate::stages::terms_of;
+use loop_merge::merge;
 use memory::NoMemory;
-use passes::{Merged, Nest};
 use perm_algebra::Affine;
+use sigma_spl::{Merged, Nest};
 use std::alloc::{AllocError, Global};
 use std::fmt::Write;
 use std::test::Fail;
-use term_merge::merge;
 use tree_model::{Ctx, Tree, admissible};
 use worked_rows::check;
 

@@ -1,13 +1,13 @@
 // Places of statements from sums of loop variables, by hand.
 
 ghost use Rattle.std.specs.Prelude.{IfOk};
-ghost use Rattle.pass_programs.specs.Conditions.{CanWrite};
+ghost use Rattle.code_gen.specs.PassCode.Conditions.{CanWrite};
 ghost use Rattle.perm_algebra.specs.Views.{plain_sum};
 
 use crate::same::same;
+use code_gen::{Frame, place_expr};
 use icode::program::{Expr, Part};
 use perm_algebra::Affine;
-use program_emit::{Frame, place_expr};
 use std::alloc::{AllocError, Global};
 use std::fmt::Write;
 use std::test::Fail;

@@ -13,8 +13,8 @@ use crate::stages::terms_of;
 use breakdown::expand;
 use matrix_meaning::{Dimensions, Request, times_plain};
 use memory::NoMemory;
-use plain_terms::apply_plain;
 use ring_mod::Modulus;
+use sigma_spl::Sigma;
 use spl_ast::Spl;
 use std::alloc::Global;
 use std::test::Fail;
@@ -30,7 +30,7 @@ fn times(alloc: Global, c: &Ctx, tree: &Tree, x: &[u64]) -> Result<Vec<u64>, NoM
     let request = c.request();
     let modulus = Modulus::new(request.modulus).unwrap();
     let terms = terms_of(alloc, c, tree)?;
-    let y = apply_plain(alloc, &modulus, &terms, x)?;
+    let y = Sigma::apply_plain(alloc, &modulus, &terms, x)?;
     Ok(y)
 }
 

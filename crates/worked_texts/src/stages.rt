@@ -2,14 +2,14 @@
 
 ghost use Rattle.std.specs.Prelude.{◌≡◌, IfOk, List, ℕ};
 ghost use Rattle.matrix_meaning.specs.Asked.{asked_of};
-ghost use Rattle.passes.specs.Good.{IsVector};
-ghost use Rattle.passes.specs.Sigma.{IsGoodSigma, sigma_on};
-ghost use Rattle.passes.specs.Views.{plain_sigma};
+ghost use Rattle.sigma_spl.specs.Good.{IsVector};
+ghost use Rattle.sigma_spl.specs.Sigma.{IsGoodSigma, sigma_on};
+ghost use Rattle.sigma_spl.specs.Views.{plain_sigma};
 ghost use Rattle.smp_rewrite.specs.Cut.{smp_of};
 ghost use Rattle.smp_rewrite.specs.Smp.{smp_on};
 ghost use Rattle.smp_rewrite.specs.Views.{plain_smp};
-ghost use Rattle.steps.specs.Targets.{target_of};
-ghost use Rattle.steps.specs.Whole.{whole_of};
+ghost use Rattle.smp_rewrite.specs.LayoutSteps.Targets.{target_of};
+ghost use Rattle.smp_rewrite.specs.LayoutSteps.Whole.{whole_of};
 ghost use Rattle.tree_model.specs.Breakdown.{breakdown_of};
 ghost use Rattle.tree_model.specs.Chosen.{IsWholeTree};
 ghost use Rattle.vec_rewrite.specs.Turning.{vec_of};
@@ -17,9 +17,9 @@ ghost use Rattle.vec_rewrite.specs.Vectors.{vec_on};
 ghost use Rattle.vec_rewrite.specs.Views.{plain_vec};
 
 use breakdown::expand;
-use formula_lower::lower;
 use memory::NoMemory;
-use passes::Sigma;
+use sigma_lower::lower;
+use sigma_spl::Sigma;
 use smp_rewrite::{SmpSpl, to_smp};
 use std::alloc::Global;
 use tree_model::{Ctx, Tree};

@@ -3,8 +3,7 @@
 ghost use Rattle.std.specs.Prelude.{◌<◌};
 
 use crate::same::same;
-use data_stream::{DataFault, Next, Vectors, write_vector};
-use input_rest::read_rest;
+use data_stream::{DataFault, Next, Vectors, read_rest, write_vector};
 use io_edge::{CountSink, Feed, MemSink, MemSource, WriteFault};
 use ring_mod::Modulus;
 use std::alloc::Global;

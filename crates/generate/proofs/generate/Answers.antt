@@ -1,10 +1,10 @@
 use Rattle.std.proofs.Common.{◌≡◌, subst}
-use Rattle.formula_lower.specs.Merged.{tree_merged}
+use Rattle.sigma_lower.specs.Merged.{tree_merged}
 use Rattle.icode.specs.Program.{plain_program}
 use Rattle.matrix_meaning.specs.declared.Request.{Request}
-use Rattle.pass_programs.specs.Contract.{Performs}
+use Rattle.code_gen.specs.PassCode.Contract.{Performs}
 use Rattle.tree_model.specs.Breakdown.{breakdown_of}
-use Rattle.program_emit.specs.Machines.{machine_of}
+use Rattle.code_gen.specs.Machines.{machine_of}
 use Rattle.generate.specs.Letters.{program_for}
 use Rattle.generate.proofs.Goodness.{good, lean}
 use Rattle.generate.proofs.generate.Goals as goal

@@ -8,11 +8,11 @@ use Rattle.smp_rewrite.specs.Walk.{closing_in, tree_steps}
 use Rattle.smp_rewrite.proofs.Sized.{sized_steps}
 use Rattle.smp_rewrite.proofs.TreeLaws.{smp_transforms, smp_costs, smp_shaped, layouts_fit}
 use Rattle.smp_rewrite.proofs.Walks.{whole_factor, whole_formula, whole_steps}
-use Rattle.steps.specs.Layout.{layout_of}
-use Rattle.steps.specs.Meaning.{IsNodeTree}
-use Rattle.steps.specs.Targets.{target_of}
-use Rattle.steps.specs.Whole.{whole_of}
-use Rattle.steps.proofs.Wholes.{forward_tree, wholes_do, wholes_cost}
+use Rattle.smp_rewrite.specs.LayoutSteps.Layout.{layout_of}
+use Rattle.smp_rewrite.specs.LayoutSteps.Meaning.{IsNodeTree}
+use Rattle.smp_rewrite.specs.LayoutSteps.Targets.{target_of}
+use Rattle.smp_rewrite.specs.LayoutSteps.Whole.{whole_of}
+use Rattle.smp_rewrite.proofs.LayoutSteps.Wholes.{forward_tree, wholes_do, wholes_cost}
 use Rattle.tree_model.specs.Breakdown.{breakdown_of}
 use Rattle.smp_rewrite.proofs.to_smp.Goals as goal
 

@@ -1,4 +1,4 @@
-use Rattle.steps.specs.Targets.{target_of}
+use Rattle.smp_rewrite.specs.LayoutSteps.Targets.{target_of}
 use Rattle.vec_rewrite.proofs.Rows.{first_rows, second_rows}
 use Rattle.vec_rewrite.proofs.lanes_of.Goals as goal
 

@@ -2,7 +2,7 @@ use Rattle.std.proofs.Common.{ap, sym, ◌∙◌}
 use Rattle.std.specs.Prelude.{if◌then◌else◌}
 use Rattle.icode.specs.Plain.{PlainProgram}
 use Rattle.icode.specs.Program.{plain_program}
-use Rattle.two_tables.specs.TwoTables.{factored, large_table}
+use Rattle.fast_loops.specs.TwoTables.TwoTables.{factored, large_table}
 use Rattle.fast_main.specs.Translation.{has_cheap_products, on_lanes}
 use Rattle.fast_main.proofs.Faithful.{lanes_fit, lanes_apart}
 use Rattle.fast_main.proofs.prepare.prepare.Goals as goal

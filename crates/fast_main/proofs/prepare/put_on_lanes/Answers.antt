@@ -1,8 +1,8 @@
 use Rattle.std.proofs.Common.{ne_eqb, ap, sym, ◌∙◌}
 use Rattle.std.specs.Prelude.{if◌then◌else◌}
 use Rattle.icode.specs.Program.{plain_program}
-use Rattle.loop_interchange.specs.Interchange.{interchanged}
-use Rattle.loop_lanes.specs.Lanes.{laned}
+use Rattle.fast_loops.specs.Interchange.{interchanged}
+use Rattle.fast_loops.specs.LoopLanes.Lanes.{laned}
 use Rattle.fast_main.proofs.prepare.put_on_lanes.Goals as goal
 
 pub returns : goal.returns

@@ -3,10 +3,10 @@ use Rattle.icode.specs.Program.{plain_program}
 use Rattle.word_code.specs.WordProgram.{PlainWordProgram}
 use Rattle.word_code.specs.Choice.{laziness_for}
 use Rattle.word_code.specs.View.{plain_word_program}
-use Rattle.word_print.specs.TextForm.{text_form}
-use Rattle.word_print.specs.WordText.{words_text}
-use Rattle.word_print.specs.WordNests.{are_word_phases_within}
-use Rattle.word_print.proofs.Nests.{quickened_nests}
+use Rattle.word_code.specs.WordPrint.TextForm.{text_form}
+use Rattle.word_code.specs.WordPrint.WordText.{words_text}
+use Rattle.word_code.specs.WordPrint.WordNests.{are_word_phases_within}
+use Rattle.word_code.proofs.WordPrint.Nests.{quickened_nests}
 use Rattle.fast_main.proofs.Faithful.{fits_from, allowed_from, words_from, sound_from}
 use Rattle.fast_main.proofs.Rerouted.{in_place_nests}
 use Rattle.fast_main.proofs.run.fast_text_of.Goals as goal

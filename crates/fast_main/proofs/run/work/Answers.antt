@@ -2,9 +2,9 @@ use Rattle.std.proofs.Common.{◌≡◌, ◌≤◌, ℕ, List, length, ap, sym, 
 use Rattle.std.proofs.lemmas.Result.{err_from_is_err_and}
 use Rattle.std.specs.Io.KnownBytes.{Consumes, IsAtEnd}
 use Rattle.io_edge.specs.Feed.{to_come}
-use Rattle.input_rest.specs.Part.{IsWholePart}
+use Rattle.data_stream.specs.InputRest.Part.{IsWholePart}
 use Rattle.fast_main.specs.Status.{listing_limit}
-use Rattle.fast_words.specs.View.{plain_options}
+use Rattle.fast_main.specs.FastWords.View.{plain_options}
 use Rattle.fast_main.proofs.Told.{prepend_nothing, listing_ended, told_no_words, judged_refused, judged, told_unread, told_refused, told_cut, told_whole, rest_is_no_usage}
 use Rattle.fast_main.proofs.run.work.Goals as goal
 

@@ -1,17 +1,17 @@
 use Rattle.std.proofs.Common.{◌≡◌, ◌<◌, All, sym, ap, ap₂, ◌∙◌, subst}
 use Rattle.icode.specs.Program.{plain_program}
-use Rattle.joined_passes.proofs.Counts.{joined_counts}
-use Rattle.joined_passes.proofs.Means.{joined_means}
-use Rattle.joined_passes.proofs.Programs.{joined_can_program}
+use Rattle.loop_merge.proofs.JoinedPasses.Counts.{joined_counts}
+use Rattle.loop_merge.proofs.JoinedPasses.Means.{joined_means}
+use Rattle.loop_merge.proofs.JoinedPasses.Programs.{joined_can_program}
 use Rattle.matrix_meaning.specs.declared.Request.{Request}
 use Rattle.matrix_meaning.specs.Valid.{IsValid}
-use Rattle.pass_programs.specs.Contract.{CanProgram, Performs}
-use Rattle.pass_programs.specs.Program.{program_of}
-use Rattle.passes.specs.Merged.{PlainMerged}
-use Rattle.passes.specs.Views.{plain_merged}
+use Rattle.code_gen.specs.PassCode.Contract.{CanProgram, Performs}
+use Rattle.code_gen.specs.PassCode.Program.{program_of}
+use Rattle.sigma_spl.specs.Merged.{PlainMerged}
+use Rattle.sigma_spl.specs.Views.{plain_merged}
 use Rattle.tree_model.specs.Breakdown.{breakdown_of}
 use Rattle.tree_model.specs.Chosen.{IsWholeTree}
-use Rattle.program_emit.specs.Machines.{machine_of}
+use Rattle.code_gen.specs.Machines.{machine_of}
 use Rattle.generate.specs.ConvLetters.{conv_merged}
 use Rattle.generate.specs.Factors.{factors_of}
 use Rattle.generate.proofs.ConvTrees.{inverse_tree, inverse_valid}

@@ -1,11 +1,11 @@
 use Rattle.std.proofs.Common.{ap, ◌∙◌, subst, sym}
 use Rattle.icode.specs.Program.{plain_program}
-use Rattle.pass_programs.specs.Contract.{CanProgram, Performs}
-use Rattle.pass_programs.specs.Program.{program_of}
-use Rattle.passes.specs.Merged.{PlainMerged}
+use Rattle.code_gen.specs.PassCode.Contract.{CanProgram, Performs}
+use Rattle.code_gen.specs.PassCode.Program.{program_of}
+use Rattle.sigma_spl.specs.Merged.{PlainMerged}
 use Rattle.tree_model.specs.Breakdown.{breakdown_of}
-use Rattle.program_emit.specs.Machines.{machine_of}
-use Rattle.tree_passes.proofs.TreePrograms.{trees_can_program}
+use Rattle.code_gen.specs.Machines.{machine_of}
+use Rattle.generate.proofs.TreePasses.TreePrograms.{trees_can_program}
 use Rattle.generate.proofs.program.program_of_tree.Goals as goal
 
 pub emit-requires : goal.emit-requires

@@ -1,6 +1,6 @@
 use Rattle.std.proofs.Common.{sym, ap, ◌∙◌, subst, map}
 use Rattle.std.proofs.lemmas.List.{with_items_is}
-use Rattle.passes.specs.Views.{plain_nest}
+use Rattle.sigma_spl.specs.Views.{plain_nest}
 use Rattle.loop_nests.specs.Lifted.{AllFit, behind}
 use Rattle.loop_nests.proofs.Standing.{all-fit, behind-lifted}
 use Rattle.loop_nests.proofs.beside.all_lifted.Goals as goal

@@ -1,5 +1,5 @@
 use Rattle.std.specs.Prelude.{◌≡◌, map, take}
-use Rattle.passes.specs.Merge.{renumbered}
+use Rattle.sigma_spl.specs.Merge.{renumbered}
 use Rattle.perm_algebra.specs.Views.{plain_sum}
 use Rattle.loop_nests.proofs.lifted.all_renumbered.Given as goal
 

@@ -1,5 +1,5 @@
 use Rattle.std.proofs.Common.{◌∙◌}
-use Rattle.passes.specs.Views.{plain_nest}
+use Rattle.sigma_spl.specs.Views.{plain_nest}
 use Rattle.loop_nests.specs.Lifted.{counts_under}
 use Rattle.loop_nests.proofs.Lifting.{all_raised}
 use Rattle.loop_nests.proofs.lifted.lifted.Goals as goal

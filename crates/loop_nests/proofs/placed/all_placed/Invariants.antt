@@ -1,5 +1,5 @@
 use Rattle.std.specs.Prelude.{◌≡◌, map, take}
-use Rattle.passes.specs.Merge.{place_sum}
+use Rattle.sigma_spl.specs.Merge.{place_sum}
 use Rattle.perm_algebra.specs.Views.{plain_sum}
 use Rattle.loop_nests.proofs.placed.all_placed.Given as goal
 

@@ -1,5 +1,5 @@
 use Rattle.std.proofs.Common.{◌≡◌, [], refl, inr}
-use Rattle.request_commands.specs.PlanText.{plan_text}
+use Rattle.commands.specs.PlanText.{plan_text}
 use Rattle.spiral_words.specs.declared.Command.TheVariants as command
 use Rattle.spiral_main.proofs.RightFront.{text_is_right}
 use Rattle.spiral_main.proofs.rights.plan_is_right.Goals as goal

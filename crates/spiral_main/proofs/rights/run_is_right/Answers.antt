@@ -2,7 +2,7 @@ use Rattle.std.proofs.Common.{◌≡◌, refl, inr}
 use Rattle.runs.specs.Stream.{lines}
 use Rattle.matrix_meaning.specs.Asked.{asked_of}
 use Rattle.spiral_words.specs.declared.Command.TheVariants as command
-use Rattle.spiral_input.specs.Orders.{procs_in}
+use Rattle.commands.specs.SpiralInput.Orders.{procs_in}
 use Rattle.spiral_main.proofs.RightFront.{data_are_right}
 use Rattle.spiral_main.proofs.rights.run_is_right.Goals as goal
 

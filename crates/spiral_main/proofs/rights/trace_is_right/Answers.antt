@@ -1,6 +1,6 @@
 use Rattle.std.proofs.Common.{inr}
 use Rattle.spiral_words.specs.declared.Command.TheVariants as command
-use Rattle.spiral_input.specs.Orders.{procs_in}
+use Rattle.commands.specs.SpiralInput.Orders.{procs_in}
 use Rattle.spiral_main.specs.Trace.{IsTrace}
 use Rattle.spiral_main.proofs.RightFront.{data_are_right}
 use Rattle.spiral_main.proofs.rights.trace_is_right.Goals as goal

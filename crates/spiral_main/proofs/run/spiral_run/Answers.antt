@@ -1,5 +1,5 @@
 use Rattle.std.proofs.Common.{Global, map, string_bytes}
-use Rattle.spiral_input.specs.Stage.{status_of}
+use Rattle.commands.specs.SpiralInput.Stage.{status_of}
 use Rattle.spiral_main.proofs.Landed.{told_to}
 use Rattle.spiral_main.proofs.run.spiral_run.Goals as goal
 

@@ -3,19 +3,19 @@ use Rattle.std.proofs.lemmas.Result.{err_from_is_err_and}
 use Rattle.io_edge.specs.Feed.{to_come, limit}
 use Rattle.spiral_words.specs.Asked.{IsAsked}
 use Rattle.spiral_words.specs.declared.Command.{Command}
-use Rattle.spiral_input.specs.Stage.{status_of}
-use Rattle.spiral_input.specs.Asking.{Asks, spelt}
-use Rattle.convolution_commands.specs.Convolved.{conv_outcomes}
-use Rattle.formula_commands.specs.Compiled.{formula_outcomes}
-use Rattle.listing_commands.specs.Listed.{exec_outcomes}
-use Rattle.request_commands.specs.Performed.{request_outcomes}
-use Rattle.spiral_input.specs.Outcomes.{ToldMeets}
-use Rattle.spiral_input.proofs.OutcomeLemmas.{meets_by_source}
-use Rattle.spiral_input.proofs.AskLemmas.{reads_same}
+use Rattle.commands.specs.SpiralInput.Stage.{status_of}
+use Rattle.commands.specs.SpiralInput.Asking.{Asks, spelt}
+use Rattle.commands.specs.ConvolutionCommands.Convolved.{conv_outcomes}
+use Rattle.commands.specs.FormulaCommands.Compiled.{formula_outcomes}
+use Rattle.commands.specs.ListingCommands.Listed.{exec_outcomes}
+use Rattle.commands.specs.Performed.{request_outcomes}
+use Rattle.commands.specs.SpiralInput.Outcomes.{ToldMeets}
+use Rattle.commands.proofs.SpiralInput.OutcomeLemmas.{meets_by_source}
+use Rattle.commands.proofs.SpiralInput.AskLemmas.{reads_same}
 use Rattle.spiral_main.proofs.Accounts.{accounted, accounted_words, accounted_line, executed_accounts, computed_accounts, convolved_accounts, goes_by_request}
-use Rattle.spiral_input.proofs.InputLemmas.{nothing_held, prepend_nothing, left_ended}
+use Rattle.commands.proofs.SpiralInput.InputLemmas.{nothing_held, prepend_nothing, left_ended}
 use Rattle.data_stream.proofs.TokensLemmas.{reports_none}
-use Rattle.spiral_input.proofs.StatusLemmas.{reports_after}
+use Rattle.commands.proofs.SpiralInput.StatusLemmas.{reports_after}
 use Rattle.spiral_main.proofs.run.work.Goals as goal
 
 pub returns-in_err-command-clause-told : goal.returns-in_err-command-clause-told

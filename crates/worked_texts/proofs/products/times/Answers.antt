@@ -1,7 +1,7 @@
 use Rattle.std.proofs.Common.{◌≡◌, ap, ◌∙◌, subst, sym}
 use Rattle.matrix_meaning.specs.declared.Request.{Request}
-use Rattle.passes.specs.Sigma.{sigma_on}
-use Rattle.passes.specs.Views.{plain_sigma}
+use Rattle.sigma_spl.specs.Sigma.{sigma_on}
+use Rattle.sigma_spl.specs.Views.{plain_sigma}
 use Rattle.spl_ast.specs.Meaning.{IsVector}
 use Rattle.spl_ast.proofs.Vectors.{residue_at}
 use Rattle.worked_texts.proofs.products.times.Goals as goal

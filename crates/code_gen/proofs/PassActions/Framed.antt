@@ -1,0 +1,228 @@
+-- The copies of a processor and a lane.
+use Rattle.std.proofs.Common.{◌≡◌, ◌≢◌, ℕ, suc, ◌+◌, ◌*◌, ◌/◌, ◌%◌, ◌<◌, Bool, true, false, arith, refl, sym, ap, ◌∙◌, List, [], ◌∷◌, ◌++◌, drop, subst, mod-lt, div-lt_iff_lt-mul, if◌then◌else◌}
+use Rattle.std.proofs.Math.Nat.{div-add-mod'}
+use Rattle.std.specs.Prelude.{◌==◌, slice_index}
+use Rattle.std.proofs.lemmas.Bool.Decides.{nat_tests}
+use Rattle.code_laws.specs.Nests.{AreInRange}
+use Rattle.operators.proofs.Lists.{factor_positive, place_below}
+use Rattle.code_gen.specs.PassActions.Laws.{CanWork, IsFramed, IsCopyOf}
+use Rattle.code_gen.specs.PassActions.Machine.{PlainMachine, one_if_several, if_several, first_loop, framed_lanes, loop_counts, item_of, values_of}
+use Rattle.sigma_spl.specs.Copies.{loops_of}
+use Rattle.sigma_spl.specs.Counts.{copies_in}
+use Rattle.sigma_spl.specs.Nest.{PlainNest}
+use Rattle.sigma_spl.specs.Work.{PlainWork, kernel, rows, horner, tile, copy, work_size, vectors_of}
+use Rattle.tensor_paths.specs.Path as paths
+
+-- what holds of one and of several
+pub one_or_several : (n : ℕ) (P : Bool → Type 0) → (n ≡ 1 → P true) → (n ≢ 1 → P false) → P (n == 1)
+one_or_several n P one several = pick (n == 1) refl
+  where
+    pick : (b : Bool) → (n == 1) ≡ b → P b
+    pick true e = one (grind (arith, nat_tests, e))
+    pick false e = several (λ is. grind (arith, nat_tests, e, is))
+
+-- ---- a variable that is left out where it has one value
+
+copies-several : (n : ℕ) (counts : List ℕ) → copies_in (if_several n n ++ counts) ≡ n * copies_in counts
+copies-several n counts =
+    one_or_several n (λ b. copies_in ((if b then [] else n ∷ []) ++ counts) ≡ n * copies_in counts)
+    (λ one. let same : copies_in counts ≡ 1 * copies_in counts = omega arith in same ∙ ap (λ k. k * copies_in counts) (sym one))
+    (λ several. refl)
+
+drop-several : (n : ℕ) (counts : List ℕ) (more : ℕ) → drop (one_if_several n + more) (if_several n n ++ counts) ≡ drop more counts
+drop-several n counts more =
+    one_or_several n (λ b. drop ((if b then 0 else 1) + more) ((if b then [] else n ∷ []) ++ counts) ≡ drop more counts)
+    (λ one. let none : 0 + more ≡ more = omega arith in ap (λ k. drop k counts) none)
+    (λ several. let next : 1 + more ≡ suc more = omega arith in ap (λ k. drop k (n ∷ counts)) next)
+
+range-several : (n : ℕ) (counts : List ℕ) (v : ℕ) (vs : List ℕ) → v < n → AreInRange counts vs → AreInRange (if_several n n ++ counts) (if_several n v ++ vs)
+range-several n counts v vs below range =
+    one_or_several n (λ b. AreInRange ((if b then [] else n ∷ []) ++ counts) ((if b then [] else v ∷ []) ++ vs))
+    (λ one. range)
+    (λ several. (below, range))
+
+-- values, taken apart
+record IsUnder (n : ℕ) (counts us : List ℕ) : Type 0 where
+  value : ℕ
+  rest : List ℕ
+  below : value < n
+  in_range : AreInRange counts rest
+  joined : us ≡ if_several n value ++ rest
+
+several-under : (n : ℕ) (counts us : List ℕ) → AreInRange (n ∷ counts) us → (v : ℕ) × (vs : List ℕ) × ((v < n) × AreInRange counts vs × (us ≡ v ∷ vs))
+several-under n counts [] range = absurd range
+several-under n counts (v ∷ vs) range = (v, vs, (range.0, range.1, refl))
+
+under-several : (n : ℕ) (counts us : List ℕ) → AreInRange (if_several n n ++ counts) us → IsUnder n counts us
+under-several n counts us = pick (n == 1) refl
+  where
+    pick : (b : Bool) → (n == 1) ≡ b → AreInRange ((if b then [] else n ∷ []) ++ counts) us → IsUnder n counts us
+    pick true e range =
+        record { value = 0; rest = us; below = grind (arith, nat_tests, e); in_range = range; joined = ap (λ b. (if b then [] else 0 ∷ []) ++ us) (sym e) }
+    pick false e range =
+        let parts = several-under n counts us range in
+        record { value = parts.0; rest = parts.1; below = parts.2.0; in_range = parts.2.1; joined = parts.2.2 ∙ ap (λ b. (if b then [] else parts.0 ∷ []) ++ parts.1) (sym e) }
+
+first_value : (n v : ℕ) (vs : List ℕ) → n ≢ 1 → slice_index (if_several n v ++ vs) 0 ≡ v
+first_value n v vs several = one_or_several n (λ b. slice_index ((if b then [] else v ∷ []) ++ vs) 0 ≡ v) (λ one. absurd (several one)) (λ other. refl)
+
+-- the value of a processor is known where there are several, and does not matter where there is one
+same_value : (n v q : ℕ) (vs : List ℕ) → (n ≢ 1 → v ≡ q) → if_several n v ++ vs ≡ if_several n q ++ vs
+same_value n v q vs is = one_or_several n (λ b. (if b then [] else v ∷ []) ++ vs ≡ (if b then [] else q ∷ []) ++ vs) (λ one. refl) (λ several. ap (λ u. u ∷ vs) (is several))
+
+-- ---- all variables of a nest
+
+-- the counts of the processors and lanes, before those of the loops
+abbrev pub framed : PlainMachine → PlainWork → List ℕ → List ℕ
+framed c w loops = if_several c.procs c.procs ++ (framed_lanes c w ++ loops)
+
+-- how many copies a processor has for each of its values of the loops
+abbrev pub copies_beside : PlainMachine → PlainWork → ℕ
+copies_beside c (tile lanes) = 1
+copies_beside c w = c.lanes
+
+module _ (c : PlainMachine) where
+  copies-lanes : (w : PlainWork) (loops : List ℕ) → copies_in (framed_lanes c w ++ loops) ≡ copies_beside c w * copies_in loops
+  copies-lanes (kernel trees) loops = copies-several c.lanes loops
+  copies-lanes (rows root size) loops = copies-several c.lanes loops
+  copies-lanes (horner root size) loops = copies-several c.lanes loops
+  copies-lanes (tile lanes) loops = omega arith
+  copies-lanes (copy size) loops = copies-several c.lanes loops
+
+  pub copies-framed : (w : PlainWork) (loops : List ℕ) → copies_in (framed c w loops) ≡ c.procs * (copies_beside c w * copies_in loops)
+  copies-framed w loops = copies-several c.procs (framed_lanes c w ++ loops) ∙ ap (λ n. c.procs * n) (copies-lanes w loops)
+
+  drop-lane : (loops : List ℕ) → drop (one_if_several c.lanes) (if_several c.lanes c.lanes ++ loops) ≡ loops
+  drop-lane loops = let all : one_if_several c.lanes ≡ one_if_several c.lanes + 0 = omega arith in ap (λ n. drop n (if_several c.lanes c.lanes ++ loops)) all ∙ drop-several c.lanes loops 0
+
+  loops-framed : (w : PlainWork) (loops : List ℕ) → drop (first_loop c w) (framed c w loops) ≡ loops
+  loops-framed (kernel trees) loops = drop-several c.procs (if_several c.lanes c.lanes ++ loops) (one_if_several c.lanes) ∙ drop-lane loops
+  loops-framed (rows root size) loops = drop-several c.procs (if_several c.lanes c.lanes ++ loops) (one_if_several c.lanes) ∙ drop-lane loops
+  loops-framed (horner root size) loops = drop-several c.procs (if_several c.lanes c.lanes ++ loops) (one_if_several c.lanes) ∙ drop-lane loops
+  loops-framed (tile lanes) loops = drop-several c.procs loops 0
+  loops-framed (copy size) loops = drop-several c.procs (if_several c.lanes c.lanes ++ loops) (one_if_several c.lanes) ∙ drop-lane loops
+
+  both-range : (loops : List ℕ) (q lane : ℕ) (vs : List ℕ) → q < c.procs → lane < c.lanes → AreInRange loops vs →
+      AreInRange (if_several c.procs c.procs ++ (if_several c.lanes c.lanes ++ loops)) (if_several c.procs q ++ (if_several c.lanes lane ++ vs))
+  both-range loops q lane vs part there range = range-several c.procs (if_several c.lanes c.lanes ++ loops) q (if_several c.lanes lane ++ vs) part (range-several c.lanes loops lane vs there range)
+
+  range-framed : (w : PlainWork) (loops : List ℕ) (q lane : ℕ) (vs : List ℕ) → q < c.procs → lane < c.lanes → AreInRange loops vs → AreInRange (framed c w loops) (values_of c w q lane vs)
+  range-framed (kernel trees) loops q lane vs part there range = both-range loops q lane vs part there range
+  range-framed (rows root size) loops q lane vs part there range = both-range loops q lane vs part there range
+  range-framed (horner root size) loops q lane vs part there range = both-range loops q lane vs part there range
+  range-framed (tile lanes) loops q lane vs part there range = range-several c.procs loops q vs part range
+  range-framed (copy size) loops q lane vs part there range = both-range loops q lane vs part there range
+
+  first-framed : (w : PlainWork) (q lane : ℕ) (vs : List ℕ) → c.procs ≢ 1 → slice_index (values_of c w q lane vs) 0 ≡ q
+  first-framed (kernel trees) q lane vs several = first_value c.procs q (if_several c.lanes lane ++ vs) several
+  first-framed (rows root size) q lane vs several = first_value c.procs q (if_several c.lanes lane ++ vs) several
+  first-framed (horner root size) q lane vs several = first_value c.procs q (if_several c.lanes lane ++ vs) several
+  first-framed (tile lanes) q lane vs several = first_value c.procs q vs several
+  first-framed (copy size) q lane vs several = first_value c.procs q (if_several c.lanes lane ++ vs) several
+
+  pub item-below : (w : PlainWork) (k lane : ℕ) → CanWork c w → k < vectors_of w → lane < c.lanes → item_of w k lane < work_size w
+  item-below (kernel trees) k lane can under there = under
+  item-below (rows root size) k lane can under there = under
+  item-below (horner root size) k lane can under there = under
+  item-below (tile v) k lane can under there = place_below k lane v v under (omega (arith, can, there))
+  item-below (copy size) k lane can under there = under
+
+-- ---- values in range, by counts and by paths
+
+pub in_counts : (counts vs : List ℕ) → paths.AreInRange (loops_of counts) vs → AreInRange counts vs
+in_counts [] [] h = tt
+in_counts [] (v ∷ vs) h = absurd h
+in_counts (t ∷ counts) [] h = absurd h
+in_counts (t ∷ counts) (v ∷ vs) h = (h.0, in_counts counts vs h.1)
+
+pub in_path : (counts vs : List ℕ) → AreInRange counts vs → paths.AreInRange (loops_of counts) vs
+in_path [] [] h = tt
+in_path [] (v ∷ vs) h = absurd h
+in_path (t ∷ counts) [] h = absurd h
+in_path (t ∷ counts) (v ∷ vs) h = (h.0, in_path counts vs h.1)
+
+-- ---- the other way round
+
+-- an item of a copy by its lane, its register and the values of the loops
+pub record IsOnLane (c : PlainMachine) (w : PlainWork) (loops : List ℕ) (q : ℕ) (us : List ℕ) (i : ℕ) : Type 0 where
+  pub values : List ℕ
+  pub lane : ℕ
+  pub number : ℕ
+  pub in_range : AreInRange loops values
+  pub there : lane < c.lanes
+  pub under : number < vectors_of w
+  pub copy_is : us ≡ values_of c w q lane values
+  pub item : i ≡ item_of w number lane
+
+-- the lane and the loops of a copy
+record HasLane (c : PlainMachine) (loops : List ℕ) (q : ℕ) (us : List ℕ) : Type 0 where
+  values : List ℕ
+  lane : ℕ
+  in_range : AreInRange loops values
+  there : lane < c.lanes
+  joined : us ≡ if_several c.procs q ++ (if_several c.lanes lane ++ values)
+
+has_lane : (c : PlainMachine) (loops : List ℕ) (q : ℕ) (us : List ℕ) → AreInRange (if_several c.procs c.procs ++ (if_several c.lanes c.lanes ++ loops)) us → (c.procs ≢ 1 → slice_index us 0 ≡ q) → HasLane c loops q us
+has_lane c loops q us range first =
+    let outer = under-several c.procs (if_several c.lanes c.lanes ++ loops) us range in
+    let inner = under-several c.lanes loops outer.rest outer.in_range in
+    record {
+      values = inner.rest;
+      lane = inner.value;
+      in_range = inner.in_range;
+      there = inner.below;
+      joined =
+          outer.joined
+          ∙ same_value c.procs outer.value q outer.rest (λ several. sym (first_value c.procs outer.value outer.rest several) ∙ ap (λ us. slice_index us 0) (sym outer.joined) ∙ first several)
+          ∙ ap (λ vs. if_several c.procs q ++ vs) inner.joined;
+    }
+
+on_lane : (c : PlainMachine) (w : PlainWork) (loops : List ℕ) (q : ℕ) (us : List ℕ) (i : ℕ) → CanWork c w → AreInRange (framed c w loops) us → (c.procs ≢ 1 → slice_index us 0 ≡ q) → i < work_size w → IsOnLane c w loops q us i
+on_lane c (kernel trees) loops q us i can range first below =
+    let h = has_lane c loops q us range first in record { values = h.values; lane = h.lane; number = i; in_range = h.in_range; there = h.there; under = below; copy_is = h.joined; item = refl }
+on_lane c (rows root size) loops q us i can range first below =
+    let h = has_lane c loops q us range first in record { values = h.values; lane = h.lane; number = i; in_range = h.in_range; there = h.there; under = below; copy_is = h.joined; item = refl }
+on_lane c (horner root size) loops q us i can range first below =
+    let h = has_lane c loops q us range first in record { values = h.values; lane = h.lane; number = i; in_range = h.in_range; there = h.there; under = below; copy_is = h.joined; item = refl }
+on_lane c (copy size) loops q us i can range first below =
+    let h = has_lane c loops q us range first in record { values = h.values; lane = h.lane; number = i; in_range = h.in_range; there = h.there; under = below; copy_is = h.joined; item = refl }
+on_lane c (tile v) loops q us i can range first below =
+    let outer = under-several c.procs loops us range in
+    let some : 0 < v = factor_positive v v i below in
+    record {
+      values = outer.rest;
+      lane = i % v;
+      number = i / v;
+      in_range = outer.in_range;
+      there = let low : i % v < v = mod-lt i some in omega (arith, can, low);
+      under = (div-lt_iff_lt-mul some).1 below;
+      copy_is =
+          outer.joined
+          ∙ same_value c.procs outer.value q outer.rest (λ several. sym (first_value c.procs outer.value outer.rest several) ∙ ap (λ us. slice_index us 0) (sym outer.joined) ∙ first several);
+      item = sym (div-add-mod' i v);
+    }
+
+-- ---- a nest
+
+module _ (c : PlainMachine) (p : PlainNest) (f : IsFramed c p) where
+  -- what the loops of a nest run over
+  pub loops-are : loop_counts c p ≡ f.loops
+  loops-are = ap (drop (first_loop c p.work)) f.counts ∙ loops-framed c p.work f.loops
+
+  -- the values of a processor, a lane and loops are those of a copy of the processor
+  pub copy-framed : (q lane : ℕ) (vs : List ℕ) → q < c.procs → lane < c.lanes → AreInRange f.loops vs → IsCopyOf c p q (values_of c p.work q lane vs)
+  copy-framed q lane vs part there range =
+      record {
+        in_range = in_path p.counts (values_of c p.work q lane vs) (subst (λ counts. AreInRange counts (values_of c p.work q lane vs)) (sym f.counts) (range-framed c p.work f.loops q lane vs part there range));
+        processor = λ several. first-framed c p.work q lane vs several;
+      }
+
+  pub copy-on_lane : (q : ℕ) (us : List ℕ) (i : ℕ) → CanWork c p.work → IsCopyOf c p q us → i < work_size p.work → IsOnLane c p.work f.loops q us i
+  copy-on_lane q us i can mine below =
+      on_lane c p.work f.loops q us i can (subst (λ counts. AreInRange counts us) f.counts (in_counts p.counts us mine.in_range)) mine.processor below
+
+  pub in_code : (vs : List ℕ) → AreInRange f.loops vs → AreInRange (loop_counts c p) vs
+  in_code vs range = subst (λ counts. AreInRange counts vs) (sym loops-are) range
+
+  pub of_code : (vs : List ℕ) → AreInRange (loop_counts c p) vs → AreInRange f.loops vs
+  of_code vs range = subst (λ counts. AreInRange counts vs) loops-are range

@@ -1,0 +1,326 @@
+-- The program of merged passes does what they do.
+use Rattle.std.proofs.Common.{◌≡◌, ℕ, zero, suc, ◌+◌, ◌*◌, ◌-◌, ◌/◌, ◌^◌, ◌<◌, ◌≤◌, All, inl, inr, true, ◌&&◌, nat_lt, List, [], ◌∷◌, ◌++◌, length, map, flat_map, replicate, refl, sym, ap, ap₂, ◌∙◌, arith, append-nil, length-append, subst, mul-le-mul_right}
+use Rattle.std.specs.Prelude.{slice_index, slice_index_or, IsTrue}
+use Rattle.std.specs.List.{list_all, range_with_len}
+use Rattle.std.proofs.Math.Nat.{lt-div-mul-add}
+use Rattle.std.proofs.lemmas.Bool.{cases_lt}
+use Rattle.std.proofs.lemmas.Bool.Decides.{nat_tests}
+use Rattle.std.proofs.lemmas.List.{length-replicate, length-map, get_or_append_left, get_or_past}
+use Rattle.std.proofs.lemmas.List.FromFn.{fill_by_all}
+use Rattle.code_laws.proofs.Placing.{slice_index-words_at}
+use Rattle.icode.specs.Actions.{array_start, StepFits, PlainFits, actions_of, plain_code, steps_of_body, steps_of_phase}
+use Rattle.icode.specs.Limits.{IsWithinLimits, is_body_within}
+use Rattle.icode.specs.Machine.{Code, IsApart, Whole, acts, phases_alone, results, runs, start, whole_lines, words_at}
+use Rattle.icode.specs.Plain.{PlainBody, PlainProgram, NoStmts}
+use Rattle.icode.specs.declared.action.Action.{Action}
+use Rattle.icode.specs.declared.program.Array.{Array}
+use Rattle.icode.specs.declared.program.Array.TheVariants.{X}
+use Rattle.icode.proofs.Lists.{code_is}
+use Rattle.icode.proofs.Runs.{memory_of_runs}
+use Rattle.icode.proofs.Words.{length-words_at}
+use Rattle.operators.specs.Sum.{sum_below}
+use Rattle.operators.proofs.Lists.{length-list_below}
+use Rattle.operators.proofs.Sums.{sum_below-append, sum_below-same}
+use Rattle.code_gen.specs.PassCode.Conditions.{HasTables}
+use Rattle.code_gen.specs.PassCode.Contract.{CanProgram, IsListed, Performs, ProgramsPerform, all_passes, most_actions}
+use Rattle.code_gen.specs.PassActions.Laws.{IsFit}
+use Rattle.code_gen.specs.PassActions.Machine.{PlainMachine}
+use Rattle.code_gen.specs.PassCode.Program.{array_after, count_in, phases_body, program_of, tables_of_phases, tables_through}
+use Rattle.sigma_spl.specs.Good.{IsVector}
+use Rattle.sigma_spl.specs.Merged.{PlainMerged, merged_on, phase_on, phases_on}
+use Rattle.sigma_spl.specs.Nest.{nests_on}
+use Rattle.code_gen.proofs.WholePrograms.Apart.{all-apart, phases-apart}
+use Rattle.code_gen.proofs.WholePrograms.Arrays.{first-other}
+use Rattle.code_gen.proofs.WholePrograms.Emitted.{passes-within, phases-longer}
+use Rattle.code_gen.proofs.WholePrograms.Fits.{length-actions, parts-fit, parts-short, steps-fit, sum-shares}
+use Rattle.code_gen.proofs.WholePrograms.Known.{Pass, PhasesKnown, passes_acts, phases_known}
+use Rattle.code_gen.proofs.WholePrograms.Lists.{InsidePhases, Listed, phases-listed}
+use Rattle.code_gen.proofs.WholePrograms.Parts.{all_parts, all-are, all-whole}
+use Rattle.code_gen.proofs.WholePrograms.Phases.{AllWide, Ready, RunsPhases, SharedFrom, all-phases, final_array, final-is, phases-shared}
+use Rattle.code_gen.proofs.WholePrograms.Registers.{AllBelow, all-below, few-all}
+use Rattle.code_gen.proofs.WholePrograms.Tables.{phases-tables-within}
+
+-- whole lines hold the words
+whole-enough : (n line : ℕ) → 0 < line → n ≤ whole_lines n line
+whole-enough n line some = let h : n + (line - 1) < (n + (line - 1)) / line * line + line = lt-div-mul-add some in omega (arith, h)
+
+passes-count : (pss : List (List Pass)) → length (all_passes pss) ≡ count_in pss
+passes-count [] = refl
+passes-count (ps ∷ more) = let all = length-append ps (all_passes more) in let rest = passes-count more in omega (arith, all, rest)
+
+replicate-at : {A : Type 0} (n : ℕ) (x : A) (d : A) (k : ℕ) → k < n → slice_index_or (replicate n x) k d ≡ x
+replicate-at zero x d k low = absurd (omega (arith, low))
+replicate-at (suc n) x d zero low = refl
+replicate-at (suc n) x d (suc k) low = replicate-at n x d k (omega (arith, low))
+
+some-phases : (n : ℕ) → 0 < n → nat_lt 0 n ≡ true
+some-phases n some = grind (arith, nat_tests)
+
+most-append : (c : PlainMachine) (ps qs : List Pass) → most_actions c (ps ++ qs) ≡ most_actions c ps + most_actions c qs
+most-append c [] qs = omega arith
+most-append c (p ∷ ps) qs = let rest = most-append c ps qs in omega (arith, rest)
+
+-- what passes make has the array's length
+length-made : (m n : ℕ) (ps : List Pass) (x : List ℕ) → length x ≡ n → length (phase_on m n ps x) ≡ n
+length-made m n [] x size = size
+length-made m n (p ∷ ps) x size = length-made m n ps (nests_on m n p x) (length-list_below n _)
+
+length-phases : (m n : ℕ) (pss : List (List Pass)) (x : List ℕ) → length x ≡ n → length (phases_on m n pss x) ≡ n
+length-phases m n [] x size = size
+length-phases m n (ps ∷ more) x size = length-phases m n more (phase_on m n ps x) (length-made m n ps x size)
+
+module _ (c : PlainMachine) (g : PlainMerged) (can : CanProgram c g) where
+  abbrev pss : List (List Pass)
+  pss = g.phases
+
+  abbrev p : PlainProgram
+  p = program_of c g
+
+  abbrev words : ℕ
+  words = whole_lines c.size c.line
+
+  abbrev code : Code
+  code = plain_code p
+
+  some-line : 0 < c.line
+  some-line = let line = can.host.line in omega (arith, line)
+
+  enough : c.size ≤ words
+  enough = whole-enough c.size c.line some-line
+
+  known : PhasesKnown c pss
+  known = phases_known c pss can.passes
+
+  count-some : 0 < count_in pss
+  count-some = let h = can.some in let e = passes-count pss in omega (arith, h, e)
+
+  has-tables : HasTables c (tables_of_phases c.modulus pss []) p
+  has-tables = record { size = refl; modulus = refl; line = refl; lanes = refl; more = []; tables_are = sym (append-nil (tables_of_phases c.modulus pss [])) }
+
+  listed : Listed c p refl refl refl enough 0 pss 0 X
+  listed = phases-listed c p refl refl refl enough [] pss 0 [] X refl has-tables can.tables known
+
+  shared : SharedFrom c words enough code refl refl refl pss 0 X
+  shared = phases-shared c words enough code refl refl refl pss 0 can.shared
+
+  bodies-long : (qss : List (List Pass)) (n : ℕ) (tables : List (List ℕ)) (source : Array) → length (phases_body c qss n tables source) ≡ length qss
+  bodies-long [] n tables source = refl
+  bodies-long (ps ∷ more) n tables source = ap suc (bodies-long more _ _ _)
+
+  phases-long : length p.phases ≡ length pss
+  phases-long = bodies-long pss 0 [] X
+
+  code-long : length code.lists ≡ length pss
+  code-long = length-map p.phases _ ∙ phases-long
+
+  apart : (phase : ℕ) → IsApart code phase
+  apart =
+      all-apart c words enough some-line ((c.size + (c.line - 1)) / c.line) refl code (code_is p) refl refl refl refl pss code-long
+      (phases-apart c words enough some-line ((c.size + (c.line - 1)) / c.line) refl code (code_is p) refl refl refl refl 0 pss 0 X known shared listed.0)
+
+  -- ---- it fits
+
+  below : AllBelow c p.regs pss
+  below = all-below c pss
+
+  -- the actions of a phase are those of its steps
+  steps-acts : (f q : ℕ) → f < length pss → q < c.procs → acts code f q ≡ actions_of (steps_of_phase p f q)
+  steps-acts f q low high = at_phase p.phases f q (let long = phases-long in omega (arith, low, long)) high
+    where
+      at-range : (n a k : ℕ) (h : ℕ → List Action) → k < n → slice_index_or (map h (range_with_len a n)) k [] ≡ h (a + k)
+      at-range zero a k h low = absurd (omega (arith, low))
+      at-range (suc n) a zero h low = ap h (omega arith)
+      at-range (suc n) a (suc k) h low = at-range n (a + 1) k h (omega (arith, low)) ∙ ap h (omega arith)
+
+      at_phase : (bodies : List PlainBody) (f q : ℕ) → f < length bodies → q < c.procs →
+          slice_index_or (slice_index_or (map (λ b. map (λ r. actions_of (steps_of_body p b [] r)) (range_with_len 0 c.procs)) bodies) f []) q [] ≡ actions_of (steps_of_body p (slice_index_or bodies f NoStmts) [] q)
+      at_phase [] f q low high = absurd (omega (arith, low))
+      at_phase (b ∷ bodies) zero q low high = at-range c.procs 0 q (λ r. actions_of (steps_of_body p b [] r)) high ∙ ap (λ r. actions_of (steps_of_body p b [] r)) (omega arith)
+      at_phase (b ∷ bodies) (suc f) q low high = at_phase bodies f q (omega (arith, low)) high
+
+  -- a phase's steps fit
+  abbrev PhaseFits : ℕ → Type 0
+  PhaseFits f = (q : ℕ) → q < c.procs → All (StepFits p) (steps_of_phase p f q)
+
+  abbrev AllFit : ℕ → List (List Pass) → Type 0
+  AllFit f [] = Unit {0}
+  AllFit f (ps ∷ more) = PhaseFits f × AllFit (f + 1) more
+
+  abbrev Runs : ℕ → List (List Pass) → ℕ → Array → Type 0
+  Runs f qss n source = RunsPhases c words enough code refl refl refl f qss n source
+
+  runs-acts : (f : ℕ) (ps : List Pass) (more : List (List Pass)) (n : ℕ) (source : Array) → f < length pss → Runs f (ps ∷ more) n source → (q : ℕ) → q < c.procs → passes_acts c words (count_in more) ps n source q ≡ actions_of (steps_of_phase p f q)
+  runs-acts f ps more n source here runs q low = sym (runs.0 q low) ∙ steps-acts f q here low
+
+  all-fit : (f : ℕ) (qss : List (List Pass)) (n : ℕ) (source : Array) → f + length qss ≡ length pss → PhasesKnown c qss → AllBelow c p.regs qss → Runs f qss n source → InsidePhases c p refl refl refl enough f qss → AllFit f qss
+  all-fit f [] n source e known below runs inside = tt
+  all-fit f (ps ∷ more) n source e known below runs inside = (
+    λ q low.
+        steps-fit p (steps_of_phase p f q) (inside.0 q low)
+        (subst (All (IsFit p.regs c.lanes c.modulus)) (runs-acts f ps more n source (omega (arith, e)) runs q low) (parts-fit c words p.regs (count_in more) ps n source q low known.0 below.0)),
+    all-fit (f + 1) more (n + length ps) (array_after (count_in more) ps n source) (omega (arith, e)) known.1 below.1 runs.1 inside.1,
+  )
+
+  fit-at : (f : ℕ) (qss : List (List Pass)) → AllFit f qss → (k : ℕ) → k < length qss → PhaseFits (f + k)
+  fit-at f [] h k low = absurd (omega (arith, low))
+  fit-at f (ps ∷ more) h zero low = subst PhaseFits (omega arith) h.0
+  fit-at f (ps ∷ more) h (suc k) low = subst PhaseFits (omega arith) (fit-at (f + 1) more h.1 k (omega (arith, low)))
+
+  no-steps : (f q : ℕ) → length pss ≤ f → steps_of_phase p f q ≡ []
+  no-steps f q past = ap (λ b. steps_of_body p b [] q) (get_or_past p.phases f NoStmts (let long = phases-long in omega (arith, past, long)))
+
+  phase-fits : (f : ℕ) → PhaseFits f
+  phase-fits f =
+      elim (cases_lt f (length pss)) [
+        | inl low ↦ subst PhaseFits (omega arith) (fit-at 0 pss (all-fit 0 pss 0 X (omega arith) known below listed.0 listed.1) f low)
+        | inr past ↦ λ q low. subst (All (StepFits p)) (sym (no-steps f q past)) (λ k d under. absurd (omega (arith, under)))
+      ]
+
+  -- how many steps all processors have in a phase
+  abbrev phase_steps : ℕ → ℕ
+  phase_steps f = sum_below c.procs (λ q. length (steps_of_phase p f q))
+
+  steps-few : (f : ℕ) (qss : List (List Pass)) (n : ℕ) (source : Array) → f + length qss ≡ length pss → PhasesKnown c qss → Runs f qss n source → sum_below (length qss) (λ k. phase_steps (f + k)) ≤ most_actions c (all_passes qss)
+  steps-few f [] n source e known runs = omega arith
+  steps-few f (ps ∷ more) n source e known runs =
+      let rest = steps-few (f + 1) more (n + length ps) (array_after (count_in more) ps n source) (omega (arith, e)) known.1 runs.1 in
+      let one : phase_steps f ≤ most_actions c ps =
+      sum-shares c.procs (most_actions c ps) (λ q. length (steps_of_phase p f q)) (λ q low.
+      let mine = parts-short c words (count_in more) ps n source q low known.0 in
+      let same = ap length (runs-acts f ps more n source (omega (arith, e)) runs q low) in
+      let long = length-actions (steps_of_phase p f q) in
+      subst (λ k. c.procs * k ≤ most_actions c ps) (same ∙ long) mine) in
+      let first : sum_below (1 + length more) (λ k. phase_steps (f + k)) ≡ (0 + phase_steps (f + 0)) + sum_below (length more) (λ k. phase_steps (f + (1 + k))) = sum_below-append 1 (length more) (λ k. phase_steps (f + k)) in
+      let next : sum_below (length more) (λ k. phase_steps (f + (1 + k))) ≡ sum_below (length more) (λ k. phase_steps (f + 1 + k)) = sum_below-same (length more) _ _ (λ k low. let moved : f + (1 + k) ≡ f + 1 + k = omega arith in ap phase_steps moved) in
+      let here : phase_steps (f + 0) ≡ phase_steps f = (let same : f + 0 ≡ f = omega arith in ap phase_steps same) in
+      let count : sum_below (suc (length more)) (λ k. phase_steps (f + k)) ≡ sum_below (1 + length more) (λ k. phase_steps (f + k)) = (let next : suc (length more) ≡ 1 + length more = omega arith in ap (λ k. sum_below k (λ j. phase_steps (f + j))) next) in
+      let all = most-append c ps (all_passes more) in
+      most_sum _ _ _ _ _ _ _ count first next here one rest all
+    where
+      most_sum : (whole parted first_one here rest next total : ℕ) → whole ≡ parted → parted ≡ 0 + first_one + rest → rest ≡ next → first_one ≡ here → here ≤ most_actions c ps → next ≤ most_actions c (all_passes more) → total ≡ most_actions c ps + most_actions c (all_passes more) → whole ≤ total
+      most_sum whole parted first_one here rest next total a b d e f g h = omega arith
+
+  fits : PlainFits p
+  fits =
+      record {
+        few =
+            let all = steps-few 0 pss 0 X (omega arith) known listed.0 in
+            let same : sum_below (length pss) (λ k. phase_steps (0 + k)) ≡ sum_below (length pss) phase_steps = sum_below-same (length pss) _ _ (λ k low. let moved : 0 + k ≡ k = omega arith in ap phase_steps moved) in
+            let long : sum_below (length p.phases) phase_steps ≡ sum_below (length pss) phase_steps = ap (λ n. sum_below n phase_steps) phases-long in
+            let few = can.few in
+            omega (arith, all, same, long, few);
+        each = λ f q low. phase-fits f q low;
+      }
+
+  -- ---- what it leaves
+
+  module _ (x : List ℕ) (vector : IsVector c.modulus c.size x) where
+    abbrev begun : Whole
+    begun = record { memory = (start code x).memory; registers = (start code x).registers }
+
+    abbrev made : List ℕ
+    made = phases_on c.modulus c.size pss x
+
+    ready : Ready c words enough code refl refl refl p.regs X x begun
+    ready =
+        record {
+          room = record {
+            memory =
+                let room = enough in
+                let rest = length-replicate {A = ℕ} (4 * words - c.size) 0 in
+                let long = length-append x (replicate (4 * words - c.size) 0) in
+                let size = vector.size in
+                omega (arith, room, rest, long, size);
+            files = length-replicate {A = List ℕ} c.procs (replicate {A = ℕ} (p.regs * c.lanes) 0);
+            each = λ r low.
+                let there : slice_index_or (replicate c.procs (replicate {A = ℕ} (p.regs * c.lanes) 0)) r [] ≡ replicate {A = ℕ} (p.regs * c.lanes) 0 = replicate-at c.procs (replicate {A = ℕ} (p.regs * c.lanes) 0) [] r low in
+                let long = length-replicate {A = ℕ} (p.regs * c.lanes) 0 in
+                let same = ap length there in
+                omega (arith, long, same);
+          };
+          held = λ i low. let here : 0 + i ≡ i = omega arith in let size = vector.size in ap (slice_index begun.memory) here ∙ get_or_append_left x (replicate (4 * words - c.size) 0) 0 i (omega (arith, low, size));
+          residues = vector.residues;
+        }
+
+    wide : (regs : ℕ) (qss : List (List Pass)) → AllBelow c regs qss → AllWide c words enough code refl refl refl regs qss
+    wide regs [] h = tt
+    wide regs (ps ∷ more) h = (mul-le-mul_right c.lanes h.0, wide regs more h.1)
+
+    ended : Ready c words enough code refl refl refl p.regs (final_array c words enough code refl refl refl pss 0 X) made (phases_alone code (length pss) 0 begun)
+    ended = all-phases c words enough code refl refl refl p.regs 0 pss 0 X x begun known (wide p.regs pss below) shared (λ some. first-other (count_in pss - 1)) listed.0 ready
+
+    memory-is : (runs code x []).memory ≡ (phases_alone code (length pss) 0 begun).memory
+    memory-is = memory_of_runs code (code_is p) apart x [] ∙ ap (λ n. (phases_alone code n 0 begun).memory) code-long
+
+    results-are : results code x [] ≡ merged_on c.modulus g x
+    results-are =
+        let after = (phases_alone code (length pss) 0 begun).memory in
+        ap (λ memory. words_at c.size memory words) memory-is
+        ∙ fill_by_all (slice_index made) (words_at c.size after words) c.size 0 (length-words_at c.size after words)
+        (λ k low.
+        slice_index-words_at c.size after words k low
+        ∙ subst (λ a. slice_index after (array_start words a + k) ≡ slice_index made k) (final-is c words enough code refl refl refl pss 0 X count-some) (ended.held k low))
+        ∙ sym (fill_by_all (slice_index made) made c.size 0 (length-phases c.modulus c.size pss x vector.size) (λ k low. refl))
+        ∙ ap (λ n. phases_on c.modulus n pss x) (sym can.size)
+
+  -- ---- its limits
+
+  bodies-within : (qss : List (List Pass)) (n : ℕ) (tables : List (List ℕ)) (source : Array) → PhasesKnown c qss → length (tables_of_phases c.modulus qss tables) < 2 ^ 32 →
+      IsTrue (list_all (λ body. is_body_within c.modulus body 0) (phases_body c qss n tables source))
+  bodies-within [] n tables source known few = refl
+  bodies-within (ps ∷ more) n tables source known few =
+      let through = tables_through c.modulus ps tables in
+      let longer = phases-longer c.modulus more through in
+      ap₂ (λ a b. a && b) (passes-within c (count_in more) ps n tables source known.0 (omega (arith, few, longer)))
+      (bodies-within more (n + length ps) through (array_after (count_in more) ps n source) known.1 few)
+
+  -- there is a phase
+  phases-some : 0 < length pss
+  phases-some = some_of pss count-some
+    where
+      some_of : (qss : List (List Pass)) → 0 < count_in qss → 0 < length qss
+      some_of [] some = some
+      some_of (ps ∷ more) some = omega arith
+
+  limits : IsWithinLimits p
+  limits =
+      let large = can.host.modulus in
+      record {
+        header = record {
+          of_size = can.host.size;
+          of_modulus = large;
+          of_procs = can.host.procs;
+          of_line = can.host.line;
+          of_lanes = can.host.lanes;
+          of_regs = few-all c pss known;
+        };
+        constants = phases-tables-within c (omega (arith, large)) pss [] known refl;
+        statements = ap₂ (λ a b. a && b) (some-phases (length p.phases) (let long = phases-long in let some = phases-some in omega (arith, long, some))) (bodies-within pss 0 [] X known can.tables);
+      }
+
+  parts-listed : (q : ℕ) → q < c.procs → IsListed c g (flat_map (λ phase. acts code phase q) (range_with_len 0 (length pss)))
+  parts-listed q low =
+      record {
+        parts = all_parts c enough code refl refl refl q low pss 0 X;
+        whole = all-whole c enough code refl refl refl q low 0 pss 0 X listed.0;
+        each = all-are c enough code refl refl refl q low pss 0 X known;
+      }
+
+  performs : Performs c g p
+  performs =
+      record {
+        size = refl;
+        modulus = refl;
+        procs = refl;
+        line = refl;
+        lanes = refl;
+        limits = limits;
+        fits = fits;
+        apart = apart;
+        results = results-are;
+        phases = phases-long;
+        parts = parts-listed;
+      }
+
+pub programs_perform : ProgramsPerform
+programs_perform c g can = performs c g can

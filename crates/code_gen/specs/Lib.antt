@@ -1,0 +1,9 @@
+pub mod WholePrograms
+pub mod PassCode
+pub mod PassActions
+pub mod Views
+pub mod Conditions
+pub mod Bodies
+pub mod Additions
+pub mod Sequences
+pub mod Machines

@@ -1,0 +1,28 @@
+-- What passes count.
+use Rattle.std.specs.Prelude.{ℕ, ◌+◌, ◌*◌, List, [], ◌∷◌}
+use Rattle.kernel_gen.specs.Kernel.{trees_cost}
+use Rattle.sigma_spl.specs.Counts.{copies_in}
+use Rattle.sigma_spl.specs.Counts as counts
+use Rattle.sigma_spl.specs.Nest.{PlainNest}
+use Rattle.sigma_spl.specs.Work.{PlainWork, kernel, rows, horner, tile, copy, work_size}
+
+-- the operations of one copy, where a product counts as several
+abbrev pub work_cost : ℕ → ℕ → PlainWork → ℕ
+work_cost weight m (kernel trees) = trees_cost weight m trees
+work_cost weight m (rows root size) = (1 + weight) * size * size
+work_cost weight m (horner root size) = (1 + weight) * size * size
+work_cost weight m (tile lanes) = 0
+work_cost weight m (copy size) = 0
+
+-- and of a pass, modulo m
+abbrev pub pass_cost : ℕ → ℕ → List PlainNest → ℕ
+pass_cost weight m zs = counts.pass_cost weight (work_cost weight m) zs
+
+abbrev pub work_loads : PlainWork → ℕ
+work_loads (rows root size) = size * size
+work_loads (horner root size) = size * size
+work_loads w = work_size w
+
+abbrev pub pass_loads : List PlainNest → ℕ
+pass_loads [] = 0
+pass_loads (z ∷ zs) = copies_in z.counts * work_loads z.work + pass_loads zs

@@ -1,0 +1,63 @@
+// The programs of merged passes for requests and for formulas.
+ghost use Rattle.std.specs.Prelude.{◌≡◌, IfOk};
+ghost use Rattle.icode.specs.Program.{plain_program};
+ghost use Rattle.code_gen.specs.PassCode.Contract.{CanProgram, Performs};
+ghost use Rattle.code_gen.specs.PassCode.Program.{program_of};
+ghost use Rattle.sigma_spl.specs.Views.{plain_merged};
+ghost use Rattle.code_gen.specs.Conditions.{machine_for};
+ghost use Rattle.code_gen.specs.Machines.{machine_of, AreAlike};
+
+use crate::program::emit_on;
+use icode::program::Program;
+use memory::NoMemory;
+use ring_mod::Modulus;
+use sigma_spl::Merged;
+use std::alloc::Global;
+use tree_model::Ctx;
+
+/// The program of merged passes on the request's machine. It stands within the limits of programs, and its processors
+/// share no line in a phase; run to its end, it leaves what the passes make of its input, in equal shares of what they
+/// count.
+pub fn emit(alloc: Global, c: &Ctx, merged: &Merged) -> Result<Program, NoMemory>
+    requires { CanProgram (machine_of c.now) (plain_merged merged.now) }
+    ensures code { IfOk result (λ p.
+        plain_program p ≡ program_of (machine_of c.now) (plain_merged merged.now)) }
+    ensures performs { IfOk result (λ p.
+        Performs (machine_of c.now) (plain_merged merged.now) (plain_program p)) }
+{
+    let request = c.request();
+    let modulus = Modulus::new(request.modulus).unwrap();
+    let program = emit_on(alloc, &modulus, request.line, merged)?;
+    Ok(program)
+}
+
+/// The same of passes for one processor of one lane: those of a formula.
+pub fn emit_formula(alloc: Global, m: &Modulus, merged: &Merged) -> Result<Program, NoMemory>
+    requires { CanProgram (machine_for m.now 1 (plain_merged merged.now)) (plain_merged merged.now) }
+    ensures code { IfOk result (λ p. let g = plain_merged merged.now in
+        plain_program p ≡ program_of (machine_for m.now 1 g) g) }
+    ensures performs { IfOk result (λ p. let g = plain_merged merged.now in
+        Performs (machine_for m.now 1 g) g (plain_program p)) }
+{
+    let program = emit_on(alloc, m, 1, merged)?;
+    Ok(program)
+}
+
+/// The same of passes that are joined from those of two requests for one machine.
+pub fn emit_joined(
+    alloc: Global,
+    first: &Ctx,
+    second: &Ctx,
+    merged: &Merged,
+) -> Result<Program, NoMemory>
+    requires alike { AreAlike first.now second.now }
+    requires passes { CanProgram (machine_of first.now) (plain_merged merged.now) }
+    ensures code { IfOk result (λ p.
+        plain_program p ≡ program_of (machine_of first.now) (plain_merged merged.now)) }
+    ensures performs { IfOk result (λ p.
+        Performs (machine_of first.now) (plain_merged merged.now) (plain_program p)) }
+{
+    let _ = second.request();
+    let program = emit(alloc, first, merged)?;
+    Ok(program)
+}

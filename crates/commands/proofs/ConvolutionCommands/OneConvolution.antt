@@ -1,0 +1,141 @@
+-- What `convolve` answers for its words and bytes is one.
+use Rattle.std.proofs.Common.{◌≡◌, ◌<◌, ◌≤◌, ℕ, Bool, true, false, List, [], ◌∷◌, None, Some, Ok, Err, Result, nat_lt, refl, sym, ap, ap₂, ◌∙◌, arith}
+use Rattle.std.proofs.lemmas.Grind.{common_steps}
+use Rattle.std.specs.declared.option.Option.{Option}
+use Rattle.matrix_meaning.specs.Convolution.{IsFirstBadPower}
+use Rattle.generate.specs.ConvLetters.{conv_program}
+use Rattle.generate.specs.ConvPlanned.{IsConvPlanned, both_halves}
+use Rattle.plan_search.specs.declared.convolving.ConvFault.{ConvFault}
+use Rattle.plan_search.specs.declared.convolving.ConvFault.TheVariants as conv
+use Rattle.icode.specs.Program.{plain_program}
+use Rattle.icode.specs.declared.program.Program.{Program}
+use Rattle.listing_text.specs.Listing.{listing_of}
+use Rattle.plan_search.proofs.OneTree.{whole_once}
+use Rattle.plan_search.proofs.WholeChosen.{whole_least_once}
+use Rattle.matrix_meaning.specs.declared.Request.{Request}
+use Rattle.matrix_meaning.specs.Parts.{bad_power}
+use Rattle.request_text.specs.declared.RequestFault.{RequestFault}
+use Rattle.request_text.proofs.OneAnswer.{one_conv_answer}
+use Rattle.spiral_words.specs.declared.Command.{Command}
+use Rattle.spiral_words.specs.declared.Command.TheVariants as command
+use Rattle.spiral_words.specs.declared.spiral_status.status.Status.{Status}
+use Rattle.spiral_words.specs.SpiralStatus.Fault.{status_of_conv, status_of_request}
+use Rattle.tree_model.specs.Breakdown.{Breakdown}
+use Rattle.tree_model.specs.Chosen.{whole_cost}
+use Rattle.commands.specs.SpiralInput.Asking.{asked_by}
+use Rattle.commands.specs.SpiralInput.Commands.{scheduled}
+use Rattle.commands.specs.ConvolutionCommands.Convolved.{conv_spelt, convolvable, conv_in, IsListProgram, IsListText, IsConvText, SettlesConv, IsConvAnswer}
+use Rattle.commands.specs.SpiralInput.Line.{line_of, data_of, room_behind}
+use Rattle.commands.specs.SpiralInput.Stage.{given}
+use Rattle.commands.proofs.SpiralInput.Stages.{IsDecided, done, ended, given_decided, bind_decided, of_answers}
+use Rattle.runs.specs.Stream.{data_vectors}
+
+-- The line
+
+abbrev the_request : Request → Result Request RequestFault
+the_request r = Ok r
+
+abbrev the_fault : RequestFault → Result Request RequestFault
+the_fault fault = Err fault
+
+same_request : (a b : Request) → the_request a ≡ the_request b → a ≡ b
+same_request a b e = cc
+
+same_fault : (f g : RequestFault) → the_fault f ≡ the_fault g → f ≡ g
+same_fault f g e = cc
+
+request_clash : (a : Request) (f : RequestFault) → the_request a ≡ the_fault f → ⊥
+request_clash a f e = absurd (cc)
+
+conv_spelt_decided : (line : List ℕ) → IsDecided (conv_spelt line)
+conv_spelt_decided line (Ok a) (Ok b) p q = ap done (same_request a b (one_conv_answer line (Ok a) (Ok b) p q))
+conv_spelt_decided line (Ok a) (Err t) p q = absurd (request_clash a q.0 (one_conv_answer line (Ok a) (Err q.0) p q.1))
+conv_spelt_decided line (Err s) (Ok b) p q = absurd (request_clash b p.0 (one_conv_answer line (Ok b) (Err p.0) q p.1))
+conv_spelt_decided line (Err s) (Err t) p q =
+    let same = same_fault p.0 q.0 (one_conv_answer line (Err p.0) (Err q.0) p.1 q.1) in
+    ap ended (p.2 ∙ ap status_of_request same ∙ sym q.2)
+
+-- The plan
+
+power_clash : (o : Option ℕ) (power : ℕ) → o ≡ None → o ≡ Some power → ⊥
+power_clash o power p q = absurd (cc)
+
+power_once : (o : Option ℕ) (j k : ℕ) → o ≡ Some j → o ≡ Some k → j ≡ k
+power_once o j k p q = cc
+
+plan_clash : (r : Request) (t : Breakdown) (fault : ConvFault) → IsConvPlanned r (Ok t) → IsConvPlanned r (Err fault) → ⊥
+plan_clash r t (conv.Root power) p q = power_clash (bad_power r) power p.0 q
+plan_clash r t (conv.NotPrincipal k) p q = q.1.bad (p.1 k q.1.from q.1.below)
+plan_clash r t (conv.OverBudget cost budget) p q =
+    let least = q.2.0 in
+    let bound : least ≤ whole_cost r t = q.2.1.bound t p.2.tree in
+    absurd (omega (arith, bound, p.3, q.2.2, q.3, q.4))
+plan_clash r t conv.NoMemory p q = q
+
+-- of two such places neither is less
+bad_first : (m n w j k : ℕ) → IsFirstBadPower m n w j → IsFirstBadPower m n w k → j < k → ⊥
+bad_first m n w j k p q less = p.bad (q.first j p.from less)
+
+bad_once : (m n w j k : ℕ) → IsFirstBadPower m n w j → IsFirstBadPower m n w k → j ≡ k
+bad_once m n w j k p q = cases (nat_lt j k) (nat_lt k j) refl refl
+  where
+    cases : (a b : Bool) → nat_lt j k ≡ a → nat_lt k j ≡ b → j ≡ k
+    cases true b e f = absurd (bad_first m n w j k p q (grind (arith, common_steps)))
+    cases false true e f = absurd (bad_first m n w k j q p (grind (arith, common_steps)))
+    cases false false e f = grind (arith, common_steps)
+
+refusal_once : (r : Request) (f g : ConvFault) → IsConvPlanned r (Err f) → IsConvPlanned r (Err g) → f ≡ g
+refusal_once r (conv.Root power) (conv.Root other) p q = ap conv.Root (power_once (bad_power r) power other p q)
+refusal_once r (conv.Root power) (conv.NotPrincipal k) p q = absurd (power_clash (bad_power r) power q.0 p)
+refusal_once r (conv.Root power) (conv.OverBudget cost budget) p q = absurd (power_clash (bad_power r) power q.0 p)
+refusal_once r (conv.NotPrincipal k) (conv.Root power) p q = absurd (power_clash (bad_power r) power p.0 q)
+refusal_once r (conv.NotPrincipal k) (conv.NotPrincipal j) p q = ap conv.NotPrincipal (bad_once r.modulus r.size r.root k j p.1 q.1)
+refusal_once r (conv.NotPrincipal k) (conv.OverBudget cost budget) p q = absurd (p.1.bad (q.1 k p.1.from p.1.below))
+refusal_once r (conv.OverBudget cost budget) (conv.Root power) p q = absurd (power_clash (bad_power r) power p.0 q)
+refusal_once r (conv.OverBudget cost budget) (conv.NotPrincipal k) p q = absurd (q.1.bad (p.1 k q.1.from q.1.below))
+refusal_once r (conv.OverBudget cost budget) (conv.OverBudget other limit) p q =
+    ap₂ conv.OverBudget (p.2.2 ∙ ap (both_halves r) (whole_least_once r p.2.0 q.2.0 p.2.1 q.2.1) ∙ sym q.2.2) (p.3 ∙ sym q.3)
+refusal_once r conv.NoMemory g p q = absurd p
+refusal_once r (conv.Root power) conv.NoMemory p q = absurd q
+refusal_once r (conv.NotPrincipal k) conv.NoMemory p q = absurd q
+refusal_once r (conv.OverBudget cost budget) conv.NoMemory p q = absurd q
+
+convolvable_decided : (r : Request) → IsDecided (convolvable r)
+convolvable_decided r (Ok a) (Ok b) p q = ap done (p.1 ∙ sym q.1)
+convolvable_decided r (Ok a) (Err t) p q = absurd (plan_clash r p.0.0 q.0 p.0.1 q.1)
+convolvable_decided r (Err s) (Ok b) p q = absurd (plan_clash r q.0.0 p.0 q.0.1 p.1)
+convolvable_decided r (Err s) (Err t) p q = ap ended (p.2 ∙ ap status_of_conv (refusal_once r p.0 q.0 p.1 q.1) ∙ sym q.2)
+
+asked_decided : (wanted : Command) (bytes : List ℕ) → IsDecided (asked_by conv_spelt wanted bytes)
+asked_decided wanted bytes =
+    bind_decided (given (line_of bytes)) _ (given_decided (line_of bytes)) (λ line.
+    bind_decided (conv_spelt line) _ (conv_spelt_decided line) (λ request. given_decided (scheduled wanted request.procs request)))
+
+pub conv_decided : (wanted : Command) (bytes : List ℕ) → IsDecided (conv_in wanted bytes)
+conv_decided wanted bytes = bind_decided (asked_by conv_spelt wanted bytes) _ (asked_decided wanted bytes) (λ request. convolvable_decided request)
+
+-- The answer
+
+-- the program of the list is one
+program_once : (r : Request) (h : List ℕ) (p q : Program) → IsListProgram r h p → IsListProgram r h q → plain_program p ≡ plain_program q
+program_once r h p q mine other =
+    mine.letters ∙ ap (λ t. conv_program r t h) (whole_once r mine.tree other.tree mine.planned.2 other.planned.2) ∙ sym other.letters
+
+list_text_once : (wanted : Command) (r : Request) (h : List ℕ) (later : List (List ℕ)) (s t : List ℕ) → IsListText wanted r h later s → IsListText wanted r h later t → s ≡ t
+list_text_once (command.Convolve schedule true) r h later s t p q = p.2 ∙ ap listing_of (program_once r h p.0 q.0 p.1 q.1) ∙ sym q.2
+list_text_once (command.Convolve schedule false) r h later s t p q = p ∙ sym q
+list_text_once _ r h later s t p q = absurd p
+
+text_once : (wanted : Command) (r : Request) (vectors : List (List ℕ)) (s t : List ℕ) → IsConvText wanted r vectors s → IsConvText wanted r vectors t → s ≡ t
+text_once wanted r [] s t p q = p ∙ sym q
+text_once wanted r (h ∷ later) s t p q = list_text_once wanted r h later s t p q
+
+pub conv_status_once : (wanted : Command) (bytes : List ℕ) (a b : Status) (s t : List ℕ) → IsConvAnswer wanted bytes a s → IsConvAnswer wanted bytes b t → a ≡ b
+conv_status_once wanted bytes a b s t =
+    of_answers (a ≡ b) (conv_in wanted bytes) (λ (r : Request). SettlesConv wanted r (room_behind bytes) (data_of bytes)) a b s t (conv_decided wanted bytes)
+    (λ same _. same) (λ _ _ p q. p.0 ∙ sym q.0)
+
+pub conv_text_once : (wanted : Command) (bytes : List ℕ) (a b : Status) (s t : List ℕ) → IsConvAnswer wanted bytes a s → IsConvAnswer wanted bytes b t → s ≡ t
+conv_text_once wanted bytes a b s t =
+    of_answers (s ≡ t) (conv_in wanted bytes) (λ (r : Request). SettlesConv wanted r (room_behind bytes) (data_of bytes)) a b s t (conv_decided wanted bytes)
+    (λ _ same. same) (λ r _ p q. text_once wanted r (data_vectors r.size r.modulus (room_behind bytes) (data_of bytes)) s t p.1 q.1)

@@ -1,0 +1,11 @@
+pub mod ConvolutionCommands
+pub mod ListingCommands
+pub mod FormulaCommands
+pub mod SpiralInput
+pub mod BufferedLemmas
+pub mod CountLemmas
+pub mod PerformedLemmas
+pub mod Requests
+pub mod RunLemmas
+pub mod SampleLemmas
+pub use Rattle.generate.proofs.Existence

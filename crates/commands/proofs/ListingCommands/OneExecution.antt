@@ -1,0 +1,94 @@
+-- The schedule and the bytes of a call of `exec` determine its status and its text.
+use Rattle.std.proofs.Common.{◌≡◌, ◌<◌, ◌≤◌, ◌-◌, ◌==◌, ℕ, zero, suc, Bool, true, false, List, [], ◌∷◌, ◌++◌, None, Ok, Err, Result, nat_lt, cond, refl, sym, ap, subst, ◌∙◌, arith, append_assoc}
+use Rattle.std.proofs.lemmas.Grind.{common_steps}
+use Rattle.icode.specs.Plain.{PlainProgram}
+use Rattle.grammar.specs.Grammar.{Begins, IsLost, first_lines}
+use Rattle.listing_text.specs.Lines.{Judges, read_lines}
+use Rattle.listing_text.specs.Listing.{listing_wording}
+use Rattle.listing_text.specs.ListingGrammar.{listing_grammar}
+use Rattle.listing_text.specs.Progress.{finish, step}
+use Rattle.listing_text.specs.Texts.{is_listing}
+use Rattle.listing_text.proofs.ListingReads.{listing_judges}
+use Rattle.code_check.proofs.Causes.{one_cause, none_if_passed}
+use Rattle.request_text.specs.Schedule.{Plan}
+use Rattle.spiral_words.specs.declared.spiral_status.status.Status.{Status}
+use Rattle.spiral_words.specs.declared.spiral_status.status.Status.TheVariants.{ListingSyntax}
+use Rattle.commands.specs.SpiralInput.Commands.{stranger, admitted}
+use Rattle.spiral_words.specs.SpiralStatus.Fault.{status_of_check}
+use Rattle.commands.specs.ListingCommands.Listed.{action_limit, listing_in, listed, verified, runnable, IsAnswerOfProgram, room_behind_listing, IsExecution}
+use Rattle.commands.specs.SpiralInput.Stage.{given}
+use Rattle.data_stream.specs.InputRest.Part.{second_part}
+use Rattle.commands.proofs.SpiralInput.Stages.{IsDecided, done, ended, given_decided, bind_decided, of_answers}
+
+-- A text is lost in one line
+
+fewer : (test : Bool) (a c : ℕ) → a ≤ c → cond test a (suc a) ≤ cond test c (suc c)
+fewer true a c h = h
+fewer false a c h = omega (arith, h)
+
+-- the first lines of a text are a front of more of them
+front_lines : (text : List ℕ) (a c : ℕ) → a ≤ c → (more : List ℕ) × (first_lines c text ≡ first_lines a text ++ more)
+front_lines text zero c h = (first_lines c text, refl)
+front_lines text (suc a) zero h = absurd (omega (arith, h))
+front_lines [] (suc a) (suc c) h = ([], refl)
+front_lines (b ∷ text) (suc a) (suc c) h =
+    let rest = front_lines text (cond (b == 10) a (suc a)) (cond (b == 10) c (suc c)) (fewer (b == 10) a c (omega (arith, h))) in
+    (rest.0, ap (λ l. b ∷ l) rest.1)
+
+fewer_begin : {A : Type 0} (spells : List ℕ → A → Type 0) (text : List ℕ) (a c : ℕ) → a ≤ c → Begins spells (first_lines c text) → Begins spells (first_lines a text)
+fewer_begin spells text a c h begins =
+    let front = front_lines text a c h in (
+      front.0 ++ begins.0,
+      begins.1,
+      subst (λ l. spells l begins.1) (ap (λ l. l ++ begins.0) front.1 ∙ append_assoc (first_lines a text) front.0 begins.0) begins.2,
+    )
+
+never_before : {A : Type 0} (spells : List ℕ → A → Type 0) (text : List ℕ) (a b : ℕ) → IsLost spells text a → IsLost spells text b → a < b → ⊥
+never_before spells text a b p q h =
+    p.here (omega (arith, q.counted.1, h)) (fewer_begin spells text a (b - 1) (omega (arith, h)) q.before)
+
+lost_once : {A : Type 0} (spells : List ℕ → A → Type 0) (text : List ℕ) (a b : ℕ) → IsLost spells text a → IsLost spells text b → a ≡ b
+lost_once spells text a b p q = at (nat_lt a b) (nat_lt b a) refl refl
+  where
+    at : (x y : Bool) → nat_lt a b ≡ x → nat_lt b a ≡ y → a ≡ b
+    at true y less other = let before : a < b = grind (arith, common_steps) in absurd (never_before spells text a b p q before)
+    at false true less other = let before : b < a = grind (arith, common_steps) in absurd (never_before spells text b a q p before)
+    at false false less other = grind (arith, common_steps)
+
+-- The stages
+
+listing_once : (text : List ℕ) (r : Result PlainProgram ℕ) (p q : PlainProgram) → Judges is_listing text r → is_listing text p → is_listing text q → p ≡ q
+listing_once text (Ok value) p q j l m = j.1 p l ∙ sym (j.1 q m)
+listing_once text (Err lines) p q j l m = absurd (j.nothing p l)
+
+listed_decided : (text : List ℕ) → IsDecided (listed text)
+listed_decided text (Ok a) (Ok b) p q =
+    let read = read_lines (step listing_wording listing_grammar) finish None [] text in
+    ap done (listing_once text read a b (listing_judges text read refl) p q)
+listed_decided text (Ok a) (Err t) p q = absurd (q.1.nothing a p)
+listed_decided text (Err s) (Ok b) p q = absurd (p.1.nothing b q)
+listed_decided text (Err s) (Err t) p q = ap ended (p.2 ∙ ap ListingSyntax (lost_once is_listing text p.0 q.0 p.1 q.1) ∙ sym q.2)
+
+verified_decided : (program : PlainProgram) → IsDecided (verified program)
+verified_decided program (Ok a) (Ok b) p q = ap done (p.1 ∙ sym q.1)
+verified_decided program (Ok a) (Err t) p q = absurd (none_if_passed action_limit program q.0 q.1 p.0 q.2)
+verified_decided program (Err s) (Ok b) p q = absurd (none_if_passed action_limit program p.0 p.1 q.0 p.2)
+verified_decided program (Err s) (Err t) p q = ap ended (p.3 ∙ ap status_of_check (one_cause action_limit program p.0 q.0 p.1 q.1 p.2 q.2) ∙ sym q.3)
+
+pub runnable_decided : (schedule : Plan) (bytes : List ℕ) → IsDecided (runnable schedule bytes)
+runnable_decided schedule bytes =
+    bind_decided (given (listing_in bytes)) _ (given_decided (listing_in bytes)) (λ text.
+    bind_decided (listed text) _ (listed_decided text) (λ program.
+    bind_decided (verified program) _ (verified_decided program) (λ passed. given_decided (admitted (stranger schedule passed.procs) passed.procs passed))))
+
+-- The call
+
+pub execution_status_once : (schedule : Plan) (bytes : List ℕ) (a b : Status) (s t : List ℕ) → IsExecution schedule bytes a s → IsExecution schedule bytes b t → a ≡ b
+execution_status_once schedule bytes a b s t =
+    of_answers (a ≡ b) (runnable schedule bytes) (λ (program : PlainProgram). IsAnswerOfProgram program (room_behind_listing bytes) (second_part bytes)) a b s t (runnable_decided schedule bytes)
+    (λ same _. same) (λ _ _ p q. p.0 ∙ sym q.0)
+
+pub execution_text_once : (schedule : Plan) (bytes : List ℕ) (a b : Status) (s t : List ℕ) → IsExecution schedule bytes a s → IsExecution schedule bytes b t → s ≡ t
+execution_text_once schedule bytes a b s t =
+    of_answers (s ≡ t) (runnable schedule bytes) (λ (program : PlainProgram). IsAnswerOfProgram program (room_behind_listing bytes) (second_part bytes)) a b s t (runnable_decided schedule bytes)
+    (λ _ same. same) (λ _ _ p q. p.1 ∙ sym q.1)

@@ -1,0 +1,161 @@
+-- The vector of a seed, and what a run on it counts.
+use Rattle.std.proofs.Common.{◌≡◌, ◌<◌, ◌≤◌, ◌+◌, ◌-◌, ◌*◌, ◌%◌, ◌^◌, ℕ, zero, suc, List, [], ◌∷◌, ◌++◌, length, slice_index, All, refl, sym, ap, ap₂, subst, ◌∙◌, arith, mod-lt, mul-zero, zero-add}
+use Rattle.std.proofs.lemmas.Nat.{mul-mod}
+use Rattle.std.proofs.lemmas.List.Elements.{All-map}
+use Rattle.std.proofs.lemmas.List.FromFn.{map-range_with_len_more}
+use Rattle.std.specs.List.{range_with_len}
+use Rattle.operators.specs.Sum.{sum_below}
+use Rattle.operators.proofs.Sums.{sum_below-same, sum_below_more}
+use Rattle.operators.proofs.Lists.{length-list_below}
+use Rattle.matrix_meaning.specs.declared.Request.{Request}
+use Rattle.matrix_meaning.specs.Valid.{IsInRange}
+use Rattle.tree_model.specs.Chosen.{whole_cost}
+use Rattle.icode.specs.declared.action.Action.{Action}
+use Rattle.icode.specs.declared.action.Counts.{Counts}
+use Rattle.icode.specs.Machine.{Code, State, IsCode, IsApart, results, runs, counts_of, counts_so_far, weighted, whole_counts}
+use Rattle.icode.specs.Program.{plain_program, code_of}
+use Rattle.icode.proofs.Lists.{code_is}
+use Rattle.icode.proofs.Runs.{counts_of_runs}
+use Rattle.par_machine.proofs.Executed.{AreSmall, counts_small}
+use Rattle.request_text.specs.Schedule.{Plan}
+use Rattle.request_text.specs.Turns.{next_state, state_after, turns_of}
+use Rattle.generate.specs.Good.{IsVector}
+use Rattle.tree_model.specs.WholePasses.{whole_loads, whole_stores}
+use Rattle.commands.specs.Settled.{product, sample_sum, IsSampleText}
+use Rattle.commands.specs.Sample.{sample_vector, weighted_sum, sample_text, AreCountable}
+use Rattle.commands.specs.Performed.{IsGoodCode}
+use Rattle.runs.specs.Stream.{HasNoStranger}
+use Rattle.commands.proofs.CountLemmas.{whole-of, within_word}
+use Rattle.commands.proofs.Requests.{limits}
+use Rattle.commands.proofs.RunLemmas.{good_turns}
+
+-- the generator goes on
+pub state_more : (n v : ℕ) → state_after (n + 1) v ≡ next_state (state_after n v)
+state_more zero v = refl
+state_more (suc n) v = let on : suc n + 1 ≡ suc (n + 1) = omega arith in ap (λ k. state_after k v) on ∙ state_more n (next_state v)
+
+-- one datum more
+pub sample_more : (modulus seed n state next v : ℕ) (front : List ℕ) → front ≡ sample_vector modulus n seed → state ≡ state_after n seed → next ≡ next_state state → v ≡ next % modulus
+    → front ++ v ∷ [] ≡ sample_vector modulus (n + 1) seed
+sample_more modulus seed n state next v front p s e d =
+    let datum : v ≡ state_after (n + 1) seed % modulus = d ∙ ap (λ k. k % modulus) (e ∙ ap next_state s ∙ sym (state_more n seed)) in
+    ap₂ (λ l w. l ++ w ∷ []) p datum ∙ sym (map-range_with_len_more (λ i. state_after (i + 1) seed % modulus) 0 n n (zero-add n))
+
+-- one term more
+pub weight_more : (m n sum weight x v term total : ℕ) (y : List ℕ) → sum ≡ sum_below n (λ k. (k + 1) * slice_index y k) % m → weight ≡ (n + 1) % m → x ≡ slice_index y n → v ≡ x % m → term ≡ (weight * v) % m
+    → total ≡ (sum + term) % m → total ≡ sum_below (n + 1) (λ k. (k + 1) * slice_index y k) % m
+weight_more m n sum weight x v term total y s w at d t all =
+    let item : term ≡ ((n + 1) * slice_index y n) % m = t ∙ ap₂ (λ a b. (a * b) % m) w (d ∙ ap (λ k. k % m) at) ∙ sym (mul-mod (n + 1) (slice_index y n) m) in
+    all ∙ sum_below_more m n sum term (λ k. (k + 1) * slice_index y k) s item
+
+pub sample_below : (modulus size seed : ℕ) → 0 < modulus → All (λ v. v < modulus) (sample_vector modulus size seed)
+sample_below modulus size seed some = All-map (λ v. v < modulus) (λ i. state_after (i + 1) seed % modulus) (range_with_len 0 size) (λ k d _. mod-lt _ some)
+
+-- and they are residues of a good program's machine
+pub sample_residues : (request : Request) (code : Code) (m n seed : ℕ) (xs : List ℕ) → IsGoodCode request code → IsInRange request → m ≡ code.modulus → xs ≡ sample_vector m n seed → All (λ v. v < code.modulus) xs
+sample_residues request code m n seed xs good in_range same is =
+    let of_request : code.modulus ≡ request.modulus = ap (λ (k : Code). k.modulus) good.2 ∙ good.1.2.good.header.modulus in
+    let some : 0 < code.modulus = omega (arith, of_request, (limits request in_range).modulus) in
+    rw (is, same) (sample_below code.modulus n seed some)
+
+-- a finished run of a good program is counted in 64 bits
+pub good_counts : (request : Request) (code : Code) (state : State) (vector turns : List ℕ) → IsGoodCode request code → IsInRange request → state ≡ runs code vector turns → AreCountable code state
+good_counts request code state vector turns good in_range ran =
+    let p = plain_program good.0 in
+    let header = good.1.2.good.header in
+    let few : p.lanes ≤ 16 = omega (arith, header.lanes, (limits request in_range).lanes) in
+    let is : IsCode code = subst IsCode (sym good.2) (code_is p) in
+    let apart : (phase : ℕ) → IsApart code phase = λ phase. subst (λ (k : Code). IsApart k phase) (sym good.2) (good.1.2.good.apart phase) in
+    let whole : (q : ℕ) → counts_so_far code state q ≡ whole_counts (code_of good.0) q = λ q.
+    ap (λ s. counts_so_far code s q) ran ∙ counts_of_runs code is vector turns q ∙ ap (λ (k : Code). whole_counts k q) good.2 in
+    let same : (pick : Counts → ℕ) → sum_below code.procs (λ q. pick (counts_so_far code state q)) ≡ sum_below p.procs (λ q. pick (whole_counts (code_of good.0) q)) = λ pick.
+    ap (λ (k : Code). sum_below k.procs (λ q. pick (counts_so_far code state q))) good.2 ∙ sum_below-same p.procs _ _ (λ q _. ap pick (whole q)) in
+    let small : (actions : List Action) → AreSmall (length actions * p.lanes) (counts_of p.lanes actions) = counts_small p.lanes in
+    record {
+      operations = omega (arith, same (λ c. c.operations), within_word p good.1.2.good.fits few (λ c. c.operations) (λ actions. (small actions).operations));
+      muls = omega (arith, same (λ c. c.muls), within_word p good.1.2.good.fits few (λ c. c.muls) (λ actions. (small actions).muls));
+      loads = omega (arith, same (λ c. c.loads), within_word p good.1.2.good.fits few (λ c. c.loads) (λ actions. (small actions).loads));
+      stores = omega (arith, same (λ c. c.stores), within_word p good.1.2.good.fits few (λ c. c.stores) (λ actions. (small actions).stores));
+    }
+
+-- the vector of a seed is one of the request
+pub sample_is : (request : Request) (code : Code) (m n seed : ℕ) → IsGoodCode request code → m ≡ code.modulus → n ≡ code.size → sample_vector m n seed ≡ sample_vector request.modulus request.size seed
+sample_is request code m n seed good modulus size =
+    ap₂ (λ k l. sample_vector k l seed) (modulus ∙ ap (λ (k : Code). k.modulus) good.2 ∙ good.1.2.good.header.modulus) (size ∙ ap (λ (k : Code). k.size) good.2 ∙ good.1.2.good.header.size)
+
+sample_fits : (request : Request) (seed : ℕ) → IsInRange request → IsVector request (sample_vector request.modulus request.size seed)
+sample_fits request seed in_range = record {
+  size = length-list_below request.size (λ i. state_after (i + 1) seed % request.modulus);
+  residues = sample_below request.modulus request.size seed (limits request in_range).modulus;
+}
+
+-- the operations of all, where a multiplication counts as several
+sum-weighted : (weight n : ℕ) (f : ℕ → Counts) → sum_below n (λ q. weighted weight (f q)) ≡ sum_below n (λ q. (f q).operations) + (weight - 1) * sum_below n (λ q. (f q).muls)
+sum-weighted weight zero f = let none = mul-zero (weight - 1) in omega arith
+sum-weighted weight (suc n) f =
+    ap (λ k. k + weighted weight (f n)) (sum-weighted weight n f)
+    ∙ more-weighted (weight - 1) (sum_below n (λ q. (f q).operations)) (sum_below n (λ q. (f q).muls)) (f n).operations (f n).muls
+  where
+    more-weighted : (more o m p n : ℕ) → o + more * m + (p + more * n) ≡ o + p + more * (m + n)
+    more-weighted more o m p n = omega arith
+
+-- all processors together have executed exactly what the chosen tree costs
+pub costs : (request : Request) (code after : Code) (vector turns : List ℕ) (state : State) (counts : Counts) → (good : IsGoodCode request code) → IsInRange request → after ≡ code → state ≡ runs code vector turns
+    → counts.operations ≡ sum_below after.procs (λ q. (counts_so_far after state q).operations)
+    → counts.muls ≡ sum_below after.procs (λ q. (counts_so_far after state q).muls)
+    → weighted request.weight counts ≡ whole_cost request good.1.0
+costs request code after vector turns state counts good in_range same ran operations muls =
+    let program = good.0 in
+    let is : IsCode code = subst IsCode (sym good.2) (code_is (plain_program program)) in
+    let apart : (phase : ℕ) → IsApart code phase = λ phase. subst (λ (k : Code). IsApart k phase) (sym good.2) (good.1.2.good.apart phase) in
+    let whole : (q : ℕ) → counts_so_far code state q ≡ whole_counts code q = λ q. ap (λ s. counts_so_far code s q) ran ∙ counts_of_runs code is vector turns q in
+    let some : 0 < (code_of program).procs = omega (arith, good.1.2.good.header.procs, (limits request in_range).procs) in
+    let share : (q : ℕ) → q < (code_of program).procs → (code_of program).procs * weighted request.weight (whole_counts (code_of program) q) ≡ whole_cost request good.1.0 =
+    λ q below. ap (λ n. n * weighted request.weight (whole_counts (code_of program) q)) good.1.2.good.header.procs ∙ good.1.2.good.operations q (subst (λ n. q < n) good.1.2.good.header.procs below) in
+    ap₂ (λ o m. o + (request.weight - 1) * m) operations muls
+    ∙ sym (sum-weighted request.weight after.procs (λ q. counts_so_far after state q))
+    ∙ ap (λ (k : Code). sum_below k.procs (λ q. weighted request.weight (counts_so_far k state q))) same
+    ∙ sum_below-same code.procs _ _ (λ q _. ap (weighted request.weight) (whole q))
+    ∙ ap (λ (k : Code). sum_below k.procs (λ q. weighted request.weight (whole_counts k q))) good.2
+    ∙ whole-of (code_of program).procs (whole_cost request good.1.0) (λ q. weighted request.weight (whole_counts (code_of program) q)) some share
+
+-- which is counted in 64 bits
+pub cost_fits : (request : Request) (code : Code) (n : ℕ) → (good : IsGoodCode request code) → IsInRange request → n ≡ whole_cost request good.1.0 → n < 2 ^ 64
+cost_fits request code n good in_range is = let within = good.1.1.2 in let high = (limits request in_range).budget in omega arith
+
+-- what the parts of a sample come to
+pub sampled : (request : Request) (code after : Code) (plan : Plan) (m n seed : ℕ) (vector y : List ℕ) (state : State) (sum : ℕ) (counts : Counts) (text : List ℕ)
+    → IsGoodCode request code → IsInRange request → HasNoStranger plan request.procs
+    → after ≡ code → m ≡ code.modulus → n ≡ code.size → vector ≡ sample_vector m n seed
+    → y ≡ results code vector (turns_of plan code.procs) → state ≡ runs code vector (turns_of plan code.procs) → sum ≡ weighted_sum m y
+    → counts.operations ≡ sum_below after.procs (λ q. (counts_so_far after state q).operations)
+    → counts.muls ≡ sum_below after.procs (λ q. (counts_so_far after state q).muls)
+    → counts.loads ≡ sum_below after.procs (λ q. (counts_so_far after state q).loads)
+    → counts.stores ≡ sum_below after.procs (λ q. (counts_so_far after state q).stores)
+    → text ≡ sample_text sum (weighted request.weight counts) counts.loads counts.stores
+    → IsSampleText request seed text
+sampled request code after plan m n seed vector y state sum counts text good in_range none same modulus size v run ran s operations muls loads stores t =
+    let turns = turns_of plan code.procs in
+    let program = good.0 in
+    let is : IsCode code = subst IsCode (sym good.2) (code_is (plain_program program)) in
+    let apart : (phase : ℕ) → IsApart code phase = λ phase. subst (λ (k : Code). IsApart k phase) (sym good.2) (good.1.2.good.apart phase) in
+    let here : vector ≡ sample_vector request.modulus request.size seed = v ∙ sample_is request code m n seed good modulus size in
+    let fits : IsVector request vector = subst (IsVector request) (sym here) (sample_fits request seed in_range) in
+    let times : y ≡ product request vector = run ∙ ap (λ k. results k vector turns) good.2 ∙ good.1.2.good.product vector turns fits (good_turns plan request code good in_range none) in
+    let of_request : m ≡ request.modulus = modulus ∙ ap (λ (k : Code). k.modulus) good.2 ∙ good.1.2.good.header.modulus in
+    let whole : (q : ℕ) → counts_so_far code state q ≡ whole_counts code q = λ q. ap (λ s. counts_so_far code s q) ran ∙ counts_of_runs code is vector turns q in
+    let sum_is = s ∙ ap₂ weighted_sum of_request (times ∙ ap (product request) here) in
+    let operations_is : weighted request.weight counts ≡ whole_cost request good.1.0 = costs request code after vector turns state counts good in_range same ran operations muls in
+    let loads_is : counts.loads ≡ whole_loads request good.1.0 =
+    loads ∙ ap (λ (k : Code). sum_below k.procs (λ q. (counts_so_far k state q).loads)) same
+    ∙ sum_below-same code.procs _ _ (λ q _. ap (λ (c : Counts). c.loads) (whole q)) ∙ ap (λ (k : Code). sum_below k.procs (λ q. (whole_counts k q).loads)) good.2
+    ∙ ap (λ n. sum_below n (λ q. (whole_counts (code_of program) q).loads)) good.1.2.good.header.procs ∙ good.1.2.lean.loads in
+    let stores_is : counts.stores ≡ whole_stores request good.1.0 =
+    stores ∙ ap (λ (k : Code). sum_below k.procs (λ q. (counts_so_far k state q).stores)) same
+    ∙ sum_below-same code.procs _ _ (λ q _. ap (λ (c : Counts). c.stores) (whole q)) ∙ ap (λ (k : Code). sum_below k.procs (λ q. (whole_counts k q).stores)) good.2
+    ∙ ap (λ n. sum_below n (λ q. (whole_counts (code_of program) q).stores)) good.1.2.good.header.procs ∙ good.1.2.lean.stores in
+    let text_is =
+    t ∙ ap (λ k. sample_text k (weighted request.weight counts) counts.loads counts.stores) sum_is
+    ∙ ap (λ k. sample_text (sample_sum request seed) k counts.loads counts.stores) operations_is
+    ∙ ap₂ (sample_text (sample_sum request seed) (whole_cost request good.1.0)) loads_is stores_is in
+    (good.1.0, good.1.1, text_is)

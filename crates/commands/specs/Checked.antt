@@ -1,0 +1,38 @@
+-- What `check` answers for the bytes behind the first line.
+use Rattle.std.specs.Prelude.{◌≡◌, ◌⊎◌, ℕ, ◌<◌, ◌≤◌, List, [], ◌∷◌, length, codes, decimal}
+use Rattle.std.specs.List.{concat}
+use Rattle.matrix_meaning.specs.declared.Request.{Request}
+use Rattle.plan_cert.specs.declared.verdict.Verdict.{Verdict}
+use Rattle.plan_cert.specs.declared.verdict.Verdict.TheVariants as verdict
+use Rattle.plan_cert.specs.Verdict.{IsVerdict}
+use Rattle.spiral_words.specs.declared.spiral_status.status.Status.{Status}
+use Rattle.spiral_words.specs.declared.spiral_status.status.Status.TheVariants.{Success, TooLong, Unread, Wrong}
+
+-- how many bytes a certificate has at most
+abbrev pub certificate_limit : ℕ
+certificate_limit = 65536
+
+abbrev pub status_of_verdict : Verdict → Status
+status_of_verdict (verdict.Least cost) = Success
+status_of_verdict verdict.Unread = Unread
+status_of_verdict (verdict.Wrong size given found) = Wrong size given found
+
+abbrev pub least_line : ℕ → List ℕ
+least_line cost = concat (codes "least " ∷ decimal cost ∷ codes "\n" ∷ [])
+
+-- only a right certificate has a text: the line of its cost
+abbrev pub verdict_text : Verdict → List ℕ
+verdict_text (verdict.Least cost) = least_line cost
+verdict_text _ = []
+
+-- the status and the text that the bytes' verdict calls for
+abbrev pub IsJudged : Request → List ℕ → Status → List ℕ → Type 0
+IsJudged request bytes status text = (found : Verdict) × IsVerdict request bytes found × (status ≡ status_of_verdict found) × (text ≡ verdict_text found)
+
+-- bytes that are no certificate by their number alone
+abbrev pub IsOverlong : List ℕ → Status → List ℕ → Type 0
+IsOverlong bytes status text = (certificate_limit < length bytes) × (status ≡ TooLong certificate_limit) × (text ≡ [])
+
+-- the status and the text for the bytes
+abbrev pub IsChecked : Request → List ℕ → Status → List ℕ → Type 0
+IsChecked request bytes status text = IsOverlong bytes status text ⊎ ((length bytes ≤ certificate_limit) × IsJudged request bytes status text)

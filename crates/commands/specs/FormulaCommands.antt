@@ -1,0 +1,2 @@
+pub mod Compiled
+pub use Rattle.generate.specs.FormulaCode.Code

@@ -1,0 +1,14 @@
+pub mod ConvolutionCommands
+pub mod ListingCommands
+pub mod FormulaCommands
+pub mod SpiralInput
+pub mod Checked
+pub mod Performed
+pub mod PlanText
+pub mod Sample
+pub mod Settled
+pub mod Traced
+pub use Rattle.generate.specs.Good
+pub use Rattle.generate.specs.Lean
+pub use Rattle.generate.specs.Letters
+pub use Rattle.generate.specs.Planned

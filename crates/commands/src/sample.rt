@@ -1,0 +1,122 @@
+// One vector of the generator: the sum of its transform, and what a run on it counts.
+ghost use Rattle.std.specs.Prelude.{◌≡◌, ◌<◌, ◌≤◌, ◌^◌, length, Ok, IfOk, IfErr, OnOk};
+ghost use Rattle.matrix_meaning.specs.Valid.{IsInRange};
+ghost use Rattle.icode.specs.Machine.{weighted};
+ghost use Rattle.commands.specs.Settled.{IsRefused, IsAffordable, IsSampleText};
+ghost use Rattle.commands.specs.Sample.{AreCountable, AreTotals};
+ghost use Rattle.commands.specs.Sample.{sample_vector, weighted_sum, sample_text};
+ghost use Rattle.spiral_words.specs.SpiralStatus.Status.{IsDefined};
+ghost use Rattle.commands.specs.SpiralInput.Refusals.{IsRefusal};
+ghost use Rattle.runs.specs.Stream.{HasNoStranger};
+
+use crate::texts::engine;
+use icode::action::Counts;
+use listing_text::put;
+use matrix_meaning::Request;
+use memory::NoMemory;
+use par_machine::Machine;
+use request_text::{Schedule, next_state};
+use ring_mod::Modulus;
+use runs::transform;
+use spiral_words::Status;
+use std::alloc::Global;
+
+// Puts the vector of the seed into the slice.
+fn fill(vector: &mut [u64], modulus: Modulus, seed: u64)
+    ensures { vector.new ≡ sample_vector modulus (length vector.old) seed }
+{
+    let mut state = seed;
+    for place in 0..vector.len() {
+        state = next_state(state);
+        vector[place] = modulus.reduce(state);
+    }
+}
+
+// The sum of the items, each as many times as its place, which is counted from 1.
+fn weighted_sum(modulus: Modulus, vector: &[u64]) -> u64
+    ensures { result ≡ weighted_sum modulus vector.now }
+{
+    let mut sum = modulus.reduce(0);
+    for place in 0..vector.len() {
+        let weight = modulus.reduce(place as u64 + 1);
+        let term = modulus.mul(weight, modulus.reduce(vector[place]));
+        sum = modulus.add(sum, term);
+    }
+    sum
+}
+
+// What the processors have executed together.
+fn all_counts(machine: &Machine) -> Counts
+    requires { AreCountable machine.now.code machine.now.state }
+    ensures { AreTotals machine.now.code machine.now.state result }
+{
+    let mut operations = 0;
+    let mut muls = 0;
+    let mut loads = 0;
+    let mut stores = 0;
+    for proc in 0..machine.procs() {
+        let counts = machine.counts(proc);
+        operations += counts.operations;
+        muls += counts.muls;
+        loads += counts.loads;
+        stores += counts.stores;
+    }
+    Counts {
+        operations,
+        muls,
+        loads,
+        stores,
+    }
+}
+
+// The operations, where a multiplication counts as so many of them.
+fn weighted(counts: &Counts, weight: u64) -> u64
+    requires weight { 1 ≤ weight }
+    requires room { weighted weight counts.now < 2 ^ 64 }
+    ensures { result ≡ weighted weight counts.now }
+{
+    counts.operations + (weight - 1) * counts.muls
+}
+
+fn sample_text(
+    alloc: Global,
+    sum: u64,
+    operations: u64,
+    counts: &Counts,
+) -> Result<Vec<u8>, NoMemory>
+    ensures { IfOk result (λ text.
+        text.items ≡ sample_text sum operations counts.now.loads counts.now.stores) }
+{
+    let mut text = Vec::new(alloc);
+    put(&mut text, b"sum ", sum)?;
+    put(&mut text, b"\noperations ", operations)?;
+    put(&mut text, b"\nloads ", counts.loads)?;
+    put(&mut text, b"\nstores ", counts.stores)?;
+    text.extend_from_slice(b"\n")?;
+    Ok(text)
+}
+
+/// The sum of the transform of the seed's vector, run under the schedule, and what the run counts.
+pub(crate) fn sample(
+    alloc: Global,
+    request: &Request,
+    seed: u64,
+    schedule: &Schedule,
+) -> Result<Vec<u8>, Status>
+    requires in_range { IsInRange request.now }
+    requires turns { HasNoStranger schedule.now request.now.procs }
+    ensures affordable { OnOk result (IsAffordable request.now) }
+    ensures text { IfOk result (λ text. IsSampleText request.now seed text.items) }
+    ensures refused { IfErr result (λ status. IsDefined status → IsRefused request.now status) }
+    ensures refusal { IfErr result IsRefusal }
+{
+    let (mut machine, mut vector) = engine(alloc, request)?;
+    let modulus = machine.modulus();
+    fill(&mut vector, modulus, seed);
+    transform(&mut machine, schedule, &mut vector);
+    let sum = weighted_sum(modulus, &vector);
+    let counts = all_counts(&machine);
+    let operations = weighted(&counts, request.weight);
+    let text = sample_text(alloc, sum, operations, &counts)?;
+    Ok(text)
+}

@@ -1,0 +1,91 @@
+// The input of a call: the command that its words ask for, the line with which the input begins, and the request that
+// this spells for the command.
+ghost use Rattle.std.specs.Prelude.{◌≡◌, ◌≤◌, ℕ, Some, None, Err, IfOk, IfErr, OnOk, map, string_bytes};
+ghost use Rattle.matrix_meaning.specs.Valid.{IsInRange};
+ghost use Rattle.io_edge.specs.Feed.{to_come};
+ghost use Rattle.spiral_words.specs.Asked.{IsAsked};
+ghost use Rattle.commands.specs.SpiralInput.Ends.{ReadsCleanly};
+ghost use Rattle.commands.specs.SpiralInput.Commands.{commanded, AreJudged, NamesNoStranger, first_stranger, procs_named};
+ghost use Rattle.commands.specs.SpiralInput.Orders.{procs_in};
+ghost use Rattle.spiral_words.specs.SpiralStatus.Status.{IsDefined};
+ghost use Rattle.commands.specs.SpiralInput.Asking.{Asks, spelt};
+ghost use Rattle.commands.specs.SpiralInput.Refusals.{IsEarly};
+
+mod line;
+
+use io_edge::{Feed, Source};
+pub use line::read_line;
+use matrix_meaning::Request;
+use request_text::read_request;
+use spiral_words::{Command, LINE_LIMIT, Order, Refusal, Status, command_of};
+use std::alloc::Global;
+
+/// The request that the first line of the input spells, for the command.
+pub fn ask<I: Source>(command: &Command, feed: &mut Feed, input: &mut I) -> Result<Request, Status>
+    requires fresh { feed.old.taken ≡ 0 }
+    ensures told { Asks spelt command.now (to_come feed.old (I.left input.old))
+        (to_come feed.new (I.left input.new)) feed.new.taken result }
+    ensures within { OnOk result (feed.new.taken ≤ 257) }
+    ensures request { IfOk result IsInRange }
+    ensures turns { IfOk result (λ request. NamesNoStranger command.now request.procs) }
+    ensures ends { ReadsCleanly result feed.new.held (I.faults input.old) (I.faults input.new) }
+{
+    let mut line = [0; LINE_LIMIT];
+    let count = read_line(feed, input, &mut line)?;
+    let request = read_request(&line[..count])?;
+    check_turns(stranger(command, request.procs), request.procs)?;
+    Ok(request)
+}
+
+/// The command that the words ask for.
+pub fn asked(alloc: Global, words: &Vec<String>) -> Result<Command, Status>
+    ensures command { IfOk result (λ command. IsAsked (map string_bytes words.now.items) command) }
+    ensures refused { IfErr result (λ status. IsDefined status
+        → commanded (map string_bytes words.now.items) (Err status)) }
+    ensures refusal { IfErr result IsEarly }
+    ensures words { IfErr result (AreJudged (map string_bytes words.now.items)) }
+{
+    match command_of(alloc, words) {
+        Ok(command) => Ok(command),
+        Err(Refusal::Usage) => Err(Status::Usage),
+        Err(Refusal::NoMemory) => Err(Status::NoMemory),
+    }
+}
+
+/// No turn is of a stranger to so many processors.
+pub fn check_turns(stranger: Option<u64>, p: u64) -> Result<(), Status>
+    ensures none { OnOk result (stranger ≡ None) }
+    ensures first { IfErr result (λ status.
+        (q : ℕ) × (stranger ≡ Some q) × (status ≡ Status.Turn q p)) }
+{
+    match stranger {
+        Some(q) => Err(Status::Turn { q, p }),
+        None => Ok(()),
+    }
+}
+
+// The first stranger to so many processors that the order names.
+fn stranger_in(order: &Order, p: u64) -> Option<u64>
+    ensures { result ≡ first_stranger (procs_in order.now) p }
+{
+    match order {
+        Order::Turns(schedule) => schedule.stranger(p),
+        Order::Buffered(schedule) => schedule.stranger(p),
+        Order::Mixed(mix) => mix.stranger(p),
+    }
+}
+
+/// The first stranger to so many processors that the words of the command name.
+pub fn stranger(command: &Command, p: u64) -> Option<u64>
+    ensures { result ≡ first_stranger (procs_named command.now) p }
+{
+    match command {
+        Command::Run { order } => stranger_in(order, p),
+        Command::Trace { order } => stranger_in(order, p),
+        Command::Sample { schedule, .. } => schedule.stranger(p),
+        Command::Apply { schedule, .. } => schedule.stranger(p),
+        Command::Exec { schedule } => schedule.stranger(p),
+        Command::Convolve { schedule, .. } => schedule.stranger(p),
+        _ => None,
+    }
+}

@@ -1,0 +1,97 @@
+-- Steps in place of others: they leave the same memory, and are some of them.
+use Rattle.std.proofs.Common.{◌≡◌, ℕ, zero, suc, ◌+◌, ◌<◌, ◌≤◌, List, [], ◌∷◌, ◌++◌, Contains, flat_map, refl, sym, ap, ◌∙◌, subst, arith, ⊎_elim}
+use Rattle.std.specs.List.{range_with_len}
+use Rattle.std.proofs.Math.Path.{fun_ext}
+use Rattle.std.proofs.lemmas.Bool.{cases_eq}
+use Rattle.std.proofs.lemmas.List.Elements.{Contains-append_left, Contains-append_right, Contains-append_cases}
+use Rattle.icode.specs.declared.action.Action.{Action}
+use Rattle.icode.specs.Actions.{Step, actions_of}
+use Rattle.icode.proofs.Lines.{Contains-nil}
+use Rattle.fast_loops.proofs.Acts.{DoTheSame}
+use Rattle.fast_loops.proofs.Same.{same-trans}
+
+pub record AreFor (m lanes : ℕ) (xs ys : List Step) : Type 0 where
+  pub same : DoTheSame m lanes (actions_of xs) (actions_of ys)
+  pub members : (s : Step) → Contains xs s → Contains ys s
+
+pub actions_of-append : (xs ys : List Step) → actions_of (xs ++ ys) ≡ actions_of xs ++ actions_of ys
+actions_of-append [] ys = refl
+actions_of-append (x ∷ xs) ys = ap (λ zs. x.action ∷ zs) (actions_of-append xs ys)
+
+pub actions_of-loop : (f : ℕ → List Step) (is : List ℕ) → actions_of (flat_map f is) ≡ flat_map (λ i. actions_of (f i)) is
+actions_of-loop f [] = refl
+actions_of-loop f (i ∷ is) = actions_of-append (f i) (flat_map f is) ∙ ap (λ zs. actions_of (f i) ++ zs) (actions_of-loop f is)
+
+-- a step of a round is one of the loop's, and the other way round
+pub in-loop : (f : ℕ → List Step) (a n i : ℕ) (s : Step) → a ≤ i → i < a + n → Contains (f i) s → Contains (flat_map f (range_with_len a n)) s
+in-loop f a zero i s low high h = absurd (omega arith)
+in-loop f a (suc n) i s low high h = ⊎_elim
+    (λ (e : a ≡ i). Contains-append_left (f a) (flat_map f (range_with_len (a + 1) n)) s (subst (λ k. Contains (f k) s) (sym e) h))
+    (λ ne. Contains-append_right (f a) (flat_map f (range_with_len (a + 1) n)) s (in-loop f (a + 1) n i s (omega arith) (omega arith) h))
+    (cases_eq a i)
+
+pub record InRound (f : ℕ → List Step) (a n : ℕ) (s : Step) : Type 0 where
+  pub round : ℕ
+  pub low : a ≤ round
+  pub high : round < a + n
+  pub inside : Contains (f round) s
+
+pub of-loop : (f : ℕ → List Step) (a n : ℕ) (s : Step) → Contains (flat_map f (range_with_len a n)) s → InRound f a n s
+of-loop f a zero s h = absurd (Contains-nil s h)
+of-loop f a (suc n) s h = ⊎_elim
+    (λ here. record { round = a; low = omega arith; high = omega arith; inside = here })
+    (λ later. let r = of-loop f (a + 1) n s later in
+    let low = r.low in let high = r.high in
+    record { round = r.round; low = omega arith; high = omega arith; inside = r.inside })
+    (Contains-append_cases (f a) (flat_map f (range_with_len (a + 1) n)) s h)
+
+module _ (m lanes : ℕ)
+    (same-append : (a b c d : List Action) → DoTheSame m lanes a b → DoTheSame m lanes c d → DoTheSame m lanes (a ++ c) (b ++ d)) where
+  pub for-nil : AreFor m lanes [] []
+  for-nil = record { same = λ r s memory e. refl; members = λ s h. h }
+
+  pub for-trans : (a b c : List Step) → AreFor m lanes a b → AreFor m lanes b c → AreFor m lanes a c
+  for-trans a b c h k =
+      record {
+        same = same-trans m lanes (actions_of a) (actions_of b) (actions_of c) h.same k.same;
+        members = λ s has. k.members s (h.members s has);
+      }
+
+  pub for-append : (a b c d : List Step) → AreFor m lanes a b → AreFor m lanes c d → AreFor m lanes (a ++ c) (b ++ d)
+  for-append a b c d h k =
+      record {
+        same = subst (λ xs. DoTheSame m lanes xs (actions_of (b ++ d))) (sym (actions_of-append a c))
+            (subst (DoTheSame m lanes (actions_of a ++ actions_of c)) (sym (actions_of-append b d))
+            (same-append (actions_of a) (actions_of b) (actions_of c) (actions_of d) h.same k.same));
+        members = λ s c_has. ⊎_elim (λ l. Contains-append_left b d s (h.members s l)) (λ r. Contains-append_right b d s (k.members s r)) (Contains-append_cases a c s c_has);
+      }
+
+  pub for-loop : (f g : ℕ → List Step) (a n : ℕ) → ((i : ℕ) → a ≤ i → i < a + n → AreFor m lanes (f i) (g i)) →
+      AreFor m lanes (flat_map f (range_with_len a n)) (flat_map g (range_with_len a n))
+  for-loop f g a zero h = for-nil
+  for-loop f g a (suc n) h =
+      for-append (f a) (g a) (flat_map f (range_with_len (a + 1) n)) (flat_map g (range_with_len (a + 1) n)) (h a (omega arith) (omega arith))
+      (for-loop f g (a + 1) n (λ i low high. h i (omega arith) (omega arith)))
+
+  -- two loops, one in the other, in either order
+  pub for-exchange : (outer inner : ℕ) (round : ℕ → ℕ → List Step) →
+      DoTheSame m lanes (flat_map (λ j. flat_map (λ i. actions_of (round i j)) (range_with_len 0 outer)) (range_with_len 0 inner))
+      (flat_map (λ i. flat_map (λ j. actions_of (round i j)) (range_with_len 0 inner)) (range_with_len 0 outer)) →
+      AreFor m lanes (flat_map (λ j. flat_map (λ i. round i j) (range_with_len 0 outer)) (range_with_len 0 inner))
+      (flat_map (λ i. flat_map (λ j. round i j) (range_with_len 0 inner)) (range_with_len 0 outer))
+  for-exchange outer inner round same =
+      let over_outer : ℕ → List Step = λ j. flat_map (λ i. round i j) (range_with_len 0 outer) in
+      let over_inner : ℕ → List Step = λ i. flat_map (λ j. round i j) (range_with_len 0 inner) in
+      let new : actions_of (flat_map over_outer (range_with_len 0 inner)) ≡ flat_map (λ j. flat_map (λ i. actions_of (round i j)) (range_with_len 0 outer)) (range_with_len 0 inner) =
+      actions_of-loop over_outer (range_with_len 0 inner) ∙ ap (λ h. flat_map h (range_with_len 0 inner)) (fun_ext (λ j. actions_of-loop (λ i. round i j) (range_with_len 0 outer))) in
+      let old : actions_of (flat_map over_inner (range_with_len 0 outer)) ≡ flat_map (λ i. flat_map (λ j. actions_of (round i j)) (range_with_len 0 inner)) (range_with_len 0 outer) =
+      actions_of-loop over_inner (range_with_len 0 outer) ∙ ap (λ h. flat_map h (range_with_len 0 outer)) (fun_ext (λ i. actions_of-loop (λ j. round i j) (range_with_len 0 inner))) in
+      record {
+        same = subst (λ xs. DoTheSame m lanes xs (actions_of (flat_map over_inner (range_with_len 0 outer)))) (sym new)
+            (subst (DoTheSame m lanes (flat_map (λ j. flat_map (λ i. actions_of (round i j)) (range_with_len 0 outer)) (range_with_len 0 inner))) (sym old) same);
+        members = λ s h.
+            let at = of-loop over_outer 0 inner s h in
+            let in_outer = of-loop (λ i. round i at.round) 0 outer s at.inside in
+            in-loop over_inner 0 outer in_outer.round s in_outer.low in_outer.high
+            (in-loop (λ j. round in_outer.round j) 0 inner at.round s at.low at.high in_outer.inside);
+      }

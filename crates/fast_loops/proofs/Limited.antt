@@ -1,0 +1,377 @@
+-- Interchanged loops stand within the limits of programs.
+use Rattle.std.proofs.Common.{◌≡◌, ◌≢◌, ◌⊎◌, inl, inr, ℕ, suc, ◌+◌, ◌<◌, ◌≤◌, List, [], ◌∷◌, Bool, true, false, ap, sym, ◌∙◌, arith, refl, ltb-true, lt-ltb, map, length}
+use Rattle.std.specs.Prelude.{◌&&◌, ◌==◌, nat_lt, nat_le, max, if◌then◌else◌}
+use Rattle.std.specs.List.{list_all}
+use Rattle.std.proofs.lemmas.Bool.{leb-true, le-leb, and_parts, and_from}
+use Rattle.std.proofs.lemmas.Bool.Decides.{eqb_tells}
+use Rattle.icode.specs.Limits.{rank, next_rank, is_small, is_small_positive, is_part_within, are_parts_within, all_parts, part_parts, parts_depth, part_depth, is_expr_within, is_op_within, is_stmt_within, is_body_within, are_phases_within}
+use Rattle.icode.specs.Plain.{PlainExpr, PlainParts, PlainOp, PlainStmt, PlainBody, Sum, NoParts, AndParts, Proc, Var, Product, Rem, Quot, Load, Store, Zero, Add, Sub, Neg, MulConst, MulTable, Tile, Loop, Do, NoStmts, AndStmts}
+use Rattle.fast_loops.specs.Interchange.{Nest, counts_in, round_in, looped, nest_stmt, within, sunk, ordered, interchanged_nest, interchanged_body}
+use Rattle.fast_loops.specs.Places.{exchanged_first, exchanged_parts, exchanged_place, exchanged_op, exchanged_round}
+use Rattle.fast_loops.specs.Rounds.{first_store, first_load, steps_less, are_independent}
+use Rattle.fast_loops.specs.View.{loops_in, is_shallow, are_shallow}
+use Rattle.fast_loops.proofs.Looped.{looped_is}
+
+-- ---- parts
+
+and_three : (a b c : Bool) → a ≡ true → b ≡ true → c ≡ true → (a && (b && c)) ≡ true
+and_three a b c ea eb ec = and_from a (b && c) ea (and_from b c eb ec)
+
+-- what stands behind a rank stands behind lower ones
+parts-lower : (parts : PlainParts) (n least lower : ℕ) → lower ≤ least → are_parts_within parts n least ≡ true → are_parts_within parts n lower ≡ true
+parts-lower NoParts n least lower le h = refl
+parts-lower (AndParts part rest) n least lower le h =
+    let within = and_parts (is_part_within part n) _ h in
+    let ranked = and_parts (nat_le least (rank part)) _ within.1 in
+    let bound : least ≤ rank part = leb-true least (rank part) ranked.0 in
+    and_three (is_part_within part n) (nat_le lower (rank part)) (are_parts_within rest n (next_rank part)) within.0 (le-leb lower (rank part) (omega (arith, bound, le))) ranked.1
+
+-- two multiples of loops' values in front
+pair-within : (loop a b n least : ℕ) (rest : PlainParts) → loop + 1 < n → least ≤ loop + 1 → is_small_positive a ≡ true → is_small_positive b ≡ true → are_parts_within rest n (loop + 3) ≡ true → are_parts_within (AndParts (Var loop a) (AndParts (Var (loop + 1) b) rest)) n least ≡ true
+pair-within loop a b n least rest deep le ea eb h =
+    and_three (nat_lt loop n && is_small_positive a) (nat_le least (1 + loop)) _ (and_from (nat_lt loop n) _ (lt-ltb loop n (omega (arith, deep))) ea) (le-leb least (1 + loop) (omega (arith, le)))
+    (and_three (nat_lt (loop + 1) n && is_small_positive b) (nat_le (2 + loop) (1 + (loop + 1))) _ (and_from (nat_lt (loop + 1) n) _ (lt-ltb (loop + 1) n deep) eb) (le-leb (2 + loop) (1 + (loop + 1)) (omega arith))
+    (parts-lower rest n (loop + 3) (2 + (loop + 1)) (omega arith) h))
+
+-- one in front
+one-within : (depth a n least behind : ℕ) (rest : PlainParts) → depth < n → least ≤ depth + 1 → is_small_positive a ≡ true → depth + 2 ≤ behind → are_parts_within rest n behind ≡ true → are_parts_within (AndParts (Var depth a) rest) n least ≡ true
+one-within depth a n least behind rest deep le ea lower h =
+    and_three (nat_lt depth n && is_small_positive a) (nat_le least (1 + depth)) _ (and_from (nat_lt depth n) _ (lt-ltb depth n deep) ea) (le-leb least (1 + depth) (omega (arith, le)))
+    (parts-lower rest n behind (2 + depth) (omega (arith, lower)) h)
+
+-- what is known of a multiple of a loop's value in front
+pub record IsVarWithin (depth a n least : ℕ) (rest : PlainParts) : Type 0 where
+  pub deep : depth < n
+  pub small : is_small_positive a ≡ true
+  pub ranked : least ≤ depth + 1
+  pub behind : are_parts_within rest n (depth + 2) ≡ true
+
+var-within : (depth a n least : ℕ) (rest : PlainParts) → are_parts_within (AndParts (Var depth a) rest) n least ≡ true → IsVarWithin depth a n least rest
+var-within depth a n least rest h =
+    let within = and_parts (nat_lt depth n && is_small_positive a) _ h in
+    let part = and_parts (nat_lt depth n) _ within.0 in
+    let ranked = and_parts (nat_le least (1 + depth)) _ within.1 in
+    let le : least ≤ 1 + depth = leb-true least (1 + depth) ranked.0 in
+    record {
+      deep = ltb-true depth n part.0;
+      small = part.1;
+      ranked = omega (arith, le);
+      behind = parts-lower rest n (2 + depth) (depth + 2) (omega arith) ranked.1;
+    }
+
+first-within : (loop factor n least : ℕ) (rest : PlainParts) → loop + 1 < n → n ≤ 64 → least ≤ loop + 1 → is_small_positive factor ≡ true → are_parts_within rest n (loop + 2) ≡ true → are_parts_within (exchanged_first loop factor rest) n least ≡ true
+first-within loop factor n least NoParts deep top le small h =
+    one-within (loop + 1) factor n least (loop + 3) NoParts deep (omega (arith, le)) small (omega arith) refl
+first-within loop factor n least (AndParts (Var depth inner) rest) deep top le small h =
+    by_test (depth == loop + 1) (eqb_tells depth (loop + 1))
+  where
+    known : IsVarWithin depth inner n (loop + 2) rest
+    known = var-within depth inner n (loop + 2) rest h
+
+    by_test : (t : Bool) → ((t ≡ true) × (depth ≡ loop + 1)) ⊎ ((t ≡ false) × (depth ≢ loop + 1)) →
+        are_parts_within (if t then AndParts (Var loop inner) (AndParts (Var (loop + 1) factor) rest) else AndParts (Var (loop + 1) factor) (AndParts (Var depth inner) rest)) n least ≡ true
+    by_test true (inl e) = pair-within loop inner factor n least rest deep le known.small small (parts-lower rest n (depth + 2) (loop + 3) (omega (arith, e.1)) known.behind)
+    by_test true (inr e) = cc
+    by_test false (inl e) = cc
+    by_test false (inr e) =
+        one-within (loop + 1) factor n least (loop + 3) (AndParts (Var depth inner) rest) deep (omega (arith, le)) small (omega arith)
+        (one-within depth inner n (loop + 3) (depth + 2) rest known.deep (let ne = e.1 in omega (arith, known.ranked, ne)) known.small (omega arith) known.behind)
+first-within loop factor n least (AndParts (Proc a) rest) deep top le small h =
+    let ranked = and_parts (nat_le (loop + 2) 0) _ (and_parts (is_small_positive a) _ h).1 in
+    let none : loop + 2 ≤ 0 = leb-true (loop + 2) 0 ranked.0 in
+    absurd (omega (arith, none))
+first-within loop factor n least (AndParts (Product outer inner a) rest) deep top le small h =
+    let within = and_parts (is_part_within (Product outer inner a) n) _ h in
+    let ranked = and_parts (nat_le (loop + 2) (rank (Product outer inner a))) _ within.1 in
+    one-within (loop + 1) factor n least (loop + 3) (AndParts (Product outer inner a) rest) deep (omega (arith, le)) small (omega arith)
+    (and_three (is_part_within (Product outer inner a) n) (nat_le (loop + 3) (rank (Product outer inner a))) (are_parts_within rest n (next_rank (Product outer inner a))) within.0 (le-leb (loop + 3) (rank (Product outer inner a)) (omega (arith, deep, top))) ranked.1)
+first-within loop factor n least (AndParts (Rem of divisor a) rest) deep top le small h =
+    let within = and_parts (is_part_within (Rem of divisor a) n) _ h in
+    let ranked = and_parts (nat_le (loop + 2) 5000) _ within.1 in
+    one-within (loop + 1) factor n least (loop + 3) (AndParts (Rem of divisor a) rest) deep (omega (arith, le)) small (omega arith)
+    (and_three (is_part_within (Rem of divisor a) n) (nat_le (loop + 3) 5000) (are_parts_within rest n 5000) within.0 (le-leb (loop + 3) 5000 (omega (arith, deep, top))) ranked.1)
+first-within loop factor n least (AndParts (Quot of divisor a) rest) deep top le small h =
+    let within = and_parts (is_part_within (Quot of divisor a) n) _ h in
+    let ranked = and_parts (nat_le (loop + 2) 5001) _ within.1 in
+    one-within (loop + 1) factor n least (loop + 3) (AndParts (Quot of divisor a) rest) deep (omega (arith, le)) small (omega arith)
+    (and_three (is_part_within (Quot of divisor a) n) (nat_le (loop + 3) 5001) (are_parts_within rest n 5001) within.0 (le-leb (loop + 3) 5001 (omega (arith, deep, top))) ranked.1)
+
+-- parts stand by their ranks where no part has that of the loop behind it
+parts-within : (loop n least : ℕ) (parts : PlainParts) → loop + 1 < n → n ≤ 64 → least ≢ loop + 2 → are_parts_within parts n least ≡ true → are_parts_within (exchanged_parts loop parts) n least ≡ true
+parts-within loop n least NoParts deep top ne h = refl
+parts-within loop n least (AndParts (Var depth factor) rest) deep top ne h =
+    by_tests (depth == loop) (depth == loop + 1) (eqb_tells depth loop) (eqb_tells depth (loop + 1))
+    (λ other. parts-within loop n (depth + 2) rest deep top (λ e. other (omega (arith, e))) known.behind)
+  where
+    known : IsVarWithin depth factor n least rest
+    known = var-within depth factor n least rest h
+
+    by_tests : (t u : Bool) → ((t ≡ true) × (depth ≡ loop)) ⊎ ((t ≡ false) × (depth ≢ loop)) → ((u ≡ true) × (depth ≡ loop + 1)) ⊎ ((u ≡ false) × (depth ≢ loop + 1)) →
+        (depth ≢ loop → are_parts_within (exchanged_parts loop rest) n (depth + 2) ≡ true) →
+        are_parts_within (if t then exchanged_first loop factor rest else if u then AndParts (Var loop factor) rest else AndParts (Var depth factor) (exchanged_parts loop rest)) n least ≡ true
+    by_tests true u (inl e) d more =
+        first-within loop factor n least rest deep top (omega (arith, known.ranked, e.1)) known.small (parts-lower rest n (depth + 2) (loop + 2) (omega (arith, e.1)) known.behind)
+    by_tests true u (inr e) d more = cc
+    by_tests false u (inl e) d more = cc
+    by_tests false true (inr e) (inl d) more =
+        one-within loop factor n least (depth + 2) rest (omega (arith, deep)) (omega (arith, known.ranked, d.1, ne)) known.small (omega (arith, d.1)) known.behind
+    by_tests false true (inr e) (inr d) more = cc
+    by_tests false false (inr e) (inl d) more = cc
+    by_tests false false (inr e) (inr d) more = one-within depth factor n least (depth + 2) (exchanged_parts loop rest) known.deep known.ranked known.small (omega arith) (more e.1)
+parts-within loop n least (AndParts (Proc a) rest) deep top ne h =
+    let within = and_parts (is_small_positive a) _ h in
+    let ranked = and_parts (nat_le least 0) _ within.1 in
+    and_three (is_small_positive a) (nat_le least 0) (are_parts_within (exchanged_parts loop rest) n 1) within.0 ranked.0 (parts-within loop n 1 rest deep top (λ e. omega (arith, e)) ranked.1)
+parts-within loop n least (AndParts (Product outer inner a) rest) deep top ne h =
+    let within = and_parts (is_part_within (Product outer inner a) n) _ h in
+    let ranked = and_parts (nat_le least (rank (Product outer inner a))) _ within.1 in
+    and_three (is_part_within (Product outer inner a) n) (nat_le least (rank (Product outer inner a))) (are_parts_within (exchanged_parts loop rest) n (next_rank (Product outer inner a))) within.0 ranked.0 (parts-within loop n (next_rank (Product outer inner a)) rest deep top (λ e. omega (arith, e, deep, top)) ranked.1)
+parts-within loop n least (AndParts (Rem of divisor a) rest) deep top ne h =
+    let within = and_parts (is_part_within (Rem of divisor a) n) _ h in
+    let ranked = and_parts (nat_le least 5000) _ within.1 in
+    and_three (is_part_within (Rem of divisor a) n) (nat_le least 5000) (are_parts_within (exchanged_parts loop rest) n 5000) within.0 ranked.0 (parts-within loop n 5000 rest deep top (λ e. omega (arith, e, deep, top)) ranked.1)
+parts-within loop n least (AndParts (Quot of divisor a) rest) deep top ne h =
+    let within = and_parts (is_part_within (Quot of divisor a) n) _ h in
+    let ranked = and_parts (nat_le least 5001) _ within.1 in
+    and_three (is_part_within (Quot of divisor a) n) (nat_le least 5001) (are_parts_within (exchanged_parts loop rest) n 5001) within.0 ranked.0 (parts-within loop n 5001 rest deep top (λ e. omega (arith, e, deep, top)) ranked.1)
+
+-- ---- counts of parts and of parentheses
+
+first-count : (loop factor : ℕ) (rest : PlainParts) → all_parts (exchanged_first loop factor rest) ≡ 1 + all_parts rest
+first-count loop factor NoParts = refl
+first-count loop factor (AndParts (Var depth inner) rest) = by_test (depth == loop + 1)
+  where
+    by_test : (t : Bool) → all_parts (if t then AndParts (Var loop inner) (AndParts (Var (loop + 1) factor) rest) else AndParts (Var (loop + 1) factor) (AndParts (Var depth inner) rest)) ≡ 1 + (1 + all_parts rest)
+    by_test true = refl
+    by_test false = refl
+first-count loop factor (AndParts (Proc a) rest) = refl
+first-count loop factor (AndParts (Product outer inner a) rest) = refl
+first-count loop factor (AndParts (Rem of divisor a) rest) = refl
+first-count loop factor (AndParts (Quot of divisor a) rest) = refl
+
+parts-count : (loop : ℕ) (parts : PlainParts) → all_parts (exchanged_parts loop parts) ≡ all_parts parts
+parts-count loop NoParts = refl
+parts-count loop (AndParts (Var depth factor) rest) = by_tests (depth == loop) (depth == loop + 1) (parts-count loop rest)
+  where
+    by_tests : (t u : Bool) → all_parts (exchanged_parts loop rest) ≡ all_parts rest →
+        all_parts (if t then exchanged_first loop factor rest else if u then AndParts (Var loop factor) rest else AndParts (Var depth factor) (exchanged_parts loop rest)) ≡ 1 + all_parts rest
+    by_tests true u h = first-count loop factor rest
+    by_tests false true h = refl
+    by_tests false false h = ap (λ n. 1 + n) h
+parts-count loop (AndParts (Proc a) rest) = ap (λ n. 1 + n) (parts-count loop rest)
+parts-count loop (AndParts (Product outer inner a) rest) = ap (λ n. 1 + n) (parts-count loop rest)
+parts-count loop (AndParts (Rem of divisor a) rest) = ap (λ n. part_parts (Rem of divisor a) + n) (parts-count loop rest)
+parts-count loop (AndParts (Quot of divisor a) rest) = ap (λ n. part_parts (Quot of divisor a) + n) (parts-count loop rest)
+
+first-depth : (loop factor : ℕ) (rest : PlainParts) → parts_depth (exchanged_first loop factor rest) ≡ max 0 (parts_depth rest)
+first-depth loop factor NoParts = refl
+first-depth loop factor (AndParts (Var depth inner) rest) = by_test (depth == loop + 1)
+  where
+    by_test : (t : Bool) → parts_depth (if t then AndParts (Var loop inner) (AndParts (Var (loop + 1) factor) rest) else AndParts (Var (loop + 1) factor) (AndParts (Var depth inner) rest)) ≡ max 0 (max 0 (parts_depth rest))
+    by_test true = refl
+    by_test false = refl
+first-depth loop factor (AndParts (Proc a) rest) = refl
+first-depth loop factor (AndParts (Product outer inner a) rest) = refl
+first-depth loop factor (AndParts (Rem of divisor a) rest) = refl
+first-depth loop factor (AndParts (Quot of divisor a) rest) = refl
+
+parts-depth : (loop : ℕ) (parts : PlainParts) → parts_depth (exchanged_parts loop parts) ≡ parts_depth parts
+parts-depth loop NoParts = refl
+parts-depth loop (AndParts (Var depth factor) rest) = by_tests (depth == loop) (depth == loop + 1) (parts-depth loop rest)
+  where
+    by_tests : (t u : Bool) → parts_depth (exchanged_parts loop rest) ≡ parts_depth rest →
+        parts_depth (if t then exchanged_first loop factor rest else if u then AndParts (Var loop factor) rest else AndParts (Var depth factor) (exchanged_parts loop rest)) ≡ max 0 (parts_depth rest)
+    by_tests true u h = first-depth loop factor rest
+    by_tests false true h = refl
+    by_tests false false h = ap (max 0) h
+parts-depth loop (AndParts (Proc a) rest) = ap (max 0) (parts-depth loop rest)
+parts-depth loop (AndParts (Product outer inner a) rest) = ap (max 0) (parts-depth loop rest)
+parts-depth loop (AndParts (Rem of divisor a) rest) = ap (max (part_depth (Rem of divisor a))) (parts-depth loop rest)
+parts-depth loop (AndParts (Quot of divisor a) rest) = ap (max (part_depth (Quot of divisor a))) (parts-depth loop rest)
+
+-- ---- statements
+
+place-within : (loop n : ℕ) (place : PlainExpr) → loop + 1 < n → n ≤ 64 → is_expr_within place n ≡ true → is_expr_within (exchanged_place loop place) n ≡ true
+place-within loop n (Sum constant parts) deep top h =
+    let within = and_parts (is_small constant && are_parts_within parts n 0) _ h in
+    let sum = and_parts (is_small constant) _ within.0 in
+    let zero_is : 0 ≢ loop + 2 = λ e. omega (arith, e) in
+    and_from (is_small constant && are_parts_within (exchanged_parts loop parts) n 0) _
+    (and_from (is_small constant) _ sum.0 (parts-within loop n 0 parts deep top zero_is sum.1))
+    (ap (λ k. nat_le k 64 && nat_le (parts_depth (exchanged_parts loop parts)) 64) (parts-count loop parts)
+    ∙ (ap (λ k. nat_le (all_parts parts) 64 && nat_le k 64) (parts-depth loop parts) ∙ within.1))
+
+op-within : (m loop n : ℕ) (op : PlainOp) → loop + 1 < n → n ≤ 64 → is_op_within m op n ≡ true → is_op_within m (exchanged_op loop op) n ≡ true
+op-within m loop n (Load register array place) deep top h =
+    let both = and_parts (is_small register) _ h in
+    and_from (is_small register) _ both.0 (place-within loop n place deep top both.1)
+op-within m loop n (Store array place register) deep top h =
+    let both = and_parts (is_small register) _ h in
+    and_from (is_small register) _ both.0 (place-within loop n place deep top both.1)
+op-within m loop n (MulTable register source table place step) deep top h =
+    let a = and_parts (is_small register) _ h in
+    let b = and_parts (is_small source) _ a.1 in
+    let c = and_parts (is_small table) _ b.1 in
+    let d = and_parts (nat_lt step 2) _ c.1 in
+    and_from (is_small register) _ a.0 (and_from (is_small source) _ b.0 (and_from (is_small table) _ c.0 (and_from (nat_lt step 2) _ d.0 (place-within loop n place deep top d.1))))
+op-within m loop n (Zero register) deep top h = h
+op-within m loop n (Add register left right) deep top h = h
+op-within m loop n (Sub register left right) deep top h = h
+op-within m loop n (Neg register source) deep top h = h
+op-within m loop n (MulConst register source factor) deep top h = h
+op-within m loop n (Tile register source) deep top h = h
+
+round-within : (m loop n : ℕ) (round : PlainBody) → loop + 1 < n → n ≤ 64 → is_body_within m round n ≡ true → is_body_within m (exchanged_round loop round) n ≡ true
+round-within m loop n NoStmts deep top h = refl
+round-within m loop n (AndStmts (Do op) rest) deep top h =
+    let both = and_parts (is_op_within m op n) _ h in
+    and_from (is_op_within m (exchanged_op loop op) n) _ (op-within m loop n op deep top both.0) (round-within m loop n rest deep top both.1)
+round-within m loop n (AndStmts (Loop count body) rest) deep top h =
+    let both = and_parts (is_stmt_within m (Loop count body) n) _ h in
+    and_from (is_stmt_within m (Loop count body) n) _ both.0 (round-within m loop n rest deep top both.1)
+
+-- what is known of a loop within the limits
+record IsLoopWithin (m count depth : ℕ) (body : PlainBody) : Type 0 where
+  small : is_small_positive count ≡ true
+  deep : depth < 64
+  within : is_body_within m body (depth + 1) ≡ true
+
+loop-within : (m count depth : ℕ) (body : PlainBody) → is_stmt_within m (Loop count body) depth ≡ true → IsLoopWithin m count depth body
+loop-within m count depth body h =
+    let a = and_parts (is_small_positive count) _ h in
+    let b = and_parts (nat_lt depth 64) _ a.1 in
+    record { small = a.0; deep = ltb-true depth 64 b.0; within = b.1 }
+
+loop-is : (m count depth : ℕ) (body : PlainBody) → IsLoopWithin m count depth body → is_stmt_within m (Loop count body) depth ≡ true
+loop-is m count depth body k = and_three (is_small_positive count) (nat_lt depth 64) (is_body_within m body (depth + 1)) k.small (lt-ltb depth 64 k.deep) k.within
+
+only-within : (m depth : ℕ) (stmt : PlainStmt) → is_body_within m (AndStmts stmt NoStmts) depth ≡ true → is_stmt_within m stmt depth ≡ true
+only-within m depth stmt h = (and_parts (is_stmt_within m stmt depth) _ h).0
+
+only-is : (m depth : ℕ) (stmt : PlainStmt) → is_stmt_within m stmt depth ≡ true → is_body_within m (AndStmts stmt NoStmts) depth ≡ true
+only-is m depth stmt h = and_from (is_stmt_within m stmt depth) true h refl
+
+-- what is known of loops of these counts within the limits, and of the round in them
+record AreLoopsWithin (m depth : ℕ) (counts : List ℕ) (round : PlainBody) : Type 0 where
+  small : list_all is_small_positive counts ≡ true
+  deep : depth + length counts ≤ 64
+  within : is_body_within m round (depth + length counts) ≡ true
+
+looped-within : (m depth : ℕ) (counts : List ℕ) (round : PlainBody) → depth ≤ 64 → is_body_within m (looped counts round) depth ≡ true → AreLoopsWithin m depth counts round
+looped-within m depth [] round top h = record { small = refl; deep = omega (arith, top); within = ap (λ n. is_body_within m round n) (omega arith) ∙ h }
+looped-within m depth (count ∷ counts) round top h =
+    let one = loop-within m count depth (looped counts round) (only-within m depth (Loop count (looped counts round)) h) in
+    let more = looped-within m (depth + 1) counts round (let deep = one.deep in omega (arith, deep)) one.within in
+    record {
+      small = and_from (is_small_positive count) _ one.small more.small;
+      deep = let deep = more.deep in omega (arith, deep);
+      within = ap (λ n. is_body_within m round n) (omega arith) ∙ more.within;
+    }
+
+looped-is : (m depth : ℕ) (counts : List ℕ) (round : PlainBody) → AreLoopsWithin m depth counts round → is_body_within m (looped counts round) depth ≡ true
+looped-is m depth [] round k = ap (λ n. is_body_within m round n) (omega arith) ∙ k.within
+looped-is m depth (count ∷ counts) round k =
+    let both = and_parts (is_small_positive count) _ k.small in
+    let deep = k.deep in
+    let more : AreLoopsWithin m (depth + 1) counts round = record { small = both.1; deep = omega (arith, deep); within = ap (λ n. is_body_within m round n) (omega arith) ∙ k.within } in
+    only-is m depth (Loop count (looped counts round)) (loop-is m count depth (looped counts round) (record { small = both.0; deep = omega (arith, deep); within = looped-is m (depth + 1) counts round more }))
+
+-- a nest within the limits, whose round stands in so many loops
+record IsNestWithin (m n many : ℕ) (nest : Nest) : Type 0 where
+  small : list_all is_small_positive (nest.outer ∷ nest.inner) ≡ true
+  many_are : length nest.inner ≡ many
+  within : is_body_within m nest.round n ≡ true
+
+sunk-within : (m n loop outer : ℕ) (counts : List ℕ) (round : PlainBody) → loop + length counts < n → n ≤ 64 → list_all is_small_positive (outer ∷ counts) ≡ true → is_body_within m round n ≡ true → IsNestWithin m n (length counts) (sunk loop outer counts round)
+sunk-within m n loop outer [] round deep top small h = record { small = small; many_are = refl; within = h }
+sunk-within m n loop outer (count ∷ counts) round deep top small h =
+    by_test (steps_less loop (first_load round))
+    (sunk-within m n (loop + 1) outer counts (exchanged_round loop round) (omega (arith, deep)) top (and_from (is_small_positive outer) _ first.0 second.1) (round-within m loop n round (omega (arith, deep)) top h))
+  where
+    first : (is_small_positive outer ≡ true) × (list_all is_small_positive (count ∷ counts) ≡ true)
+    first = and_parts (is_small_positive outer) _ small
+
+    second : (is_small_positive count ≡ true) × (list_all is_small_positive counts ≡ true)
+    second = and_parts (is_small_positive count) _ first.1
+
+    by_test : (t : Bool) → IsNestWithin m n (length counts) (sunk (loop + 1) outer counts (exchanged_round loop round)) →
+        IsNestWithin m n (suc (length counts)) (if t then within count (sunk (loop + 1) outer counts (exchanged_round loop round)) else record { outer = outer; inner = count ∷ counts; round = round })
+    by_test true k = record { small = and_from (is_small_positive count) _ second.0 k.small; many_are = ap suc k.many_are; within = k.within }
+    by_test false k = record { small = small; many_are = refl; within = h }
+
+ordered-within : (m n loop outer : ℕ) (counts : List ℕ) (round : PlainBody) → loop + length counts < n → n ≤ 64 → list_all is_small_positive (outer ∷ counts) ≡ true → is_body_within m round n ≡ true → IsNestWithin m n (length counts) (ordered loop outer counts round)
+ordered-within m n loop outer [] round deep top small h = record { small = small; many_are = refl; within = h }
+ordered-within m n loop outer (count ∷ counts) round deep top small h =
+    let first = and_parts (is_small_positive outer) _ small in
+    let rest = ordered (loop + 1) count counts round in
+    let k = ordered-within m n (loop + 1) count counts round (omega (arith, deep)) top first.1 h in
+    let many = k.many_are in
+    let made = sunk-within m n loop outer (rest.outer ∷ rest.inner) rest.round (omega (arith, deep, many)) top (and_from (is_small_positive outer) _ first.0 k.small) k.within in
+    record { small = made.small; many_are = made.many_are ∙ ap suc many; within = made.within }
+
+-- a nest that is interchanged stays within the limits
+pub nest-within : (m lanes : ℕ) (stmt : PlainStmt) → is_stmt_within m stmt 0 ≡ true → is_stmt_within m (interchanged_nest lanes stmt) 0 ≡ true
+nest-within m lanes (Do op) h = h
+nest-within m lanes (Loop count body) h =
+    by_test (are_independent lanes (count ∷ counts_in body) (first_store (round_in body)) (round_in body))
+  where
+    known : AreLoopsWithin m 0 (count ∷ counts_in body) (round_in body)
+    known = looped-within m 0 (count ∷ counts_in body) (round_in body) (omega arith) (ap (λ b. is_body_within m (AndStmts (Loop count b) NoStmts) 0) (looped_is body) ∙ only-is m 0 (Loop count body) h)
+
+    turned : IsNestWithin m (0 + length (count ∷ counts_in body)) (length (counts_in body)) (ordered 0 count (counts_in body) (round_in body))
+    turned = ordered-within m (0 + length (count ∷ counts_in body)) 0 count (counts_in body) (round_in body) (omega arith) known.deep known.small known.within
+
+    by_test : (t : Bool) → is_stmt_within m (if t then nest_stmt (ordered 0 count (counts_in body) (round_in body)) else Loop count body) 0 ≡ true
+    by_test false = h
+    by_test true =
+        let made = ordered 0 count (counts_in body) (round_in body) in
+        let same : 0 + length (count ∷ counts_in body) ≡ 0 + length (made.outer ∷ made.inner) = ap (λ n. 0 + suc n) (sym turned.many_are) in
+        only-within m 0 (nest_stmt made)
+        (looped-is m 0 (made.outer ∷ made.inner) made.round
+        (record { small = turned.small; deep = (let deep = known.deep in let many = turned.many_are in omega (arith, deep, many)); within = ap (λ n. is_body_within m made.round n) (sym same) ∙ turned.within }))
+
+body-within : (m lanes : ℕ) (body : PlainBody) → is_body_within m body 0 ≡ true → is_body_within m (interchanged_body lanes body) 0 ≡ true
+body-within m lanes NoStmts h = refl
+body-within m lanes (AndStmts stmt rest) h =
+    let both = and_parts (is_stmt_within m stmt 0) _ h in
+    and_from (is_stmt_within m (interchanged_nest lanes stmt) 0) _ (nest-within m lanes stmt both.0) (body-within m lanes rest both.1)
+
+-- the phases of a program whose loops are interchanged stay within the limits
+pub phases-within : (m lanes : ℕ) (phases : List PlainBody) → are_phases_within m phases ≡ true → are_phases_within m (map (interchanged_body lanes) phases) ≡ true
+phases-within m lanes [] h = h
+phases-within m lanes (body ∷ rest) h =
+    let both = and_parts (nat_lt 0 (length (body ∷ rest))) _ h in
+    and_from (nat_lt 0 (length (map (interchanged_body lanes) (body ∷ rest)))) _ (lt-ltb 0 _ (omega arith)) (all (body ∷ rest) both.1)
+  where
+    all : (bodies : List PlainBody) → list_all (λ b. is_body_within m b 0) bodies ≡ true → list_all (λ b. is_body_within m b 0) (map (interchanged_body lanes) bodies) ≡ true
+    all [] h = refl
+    all (b ∷ bs) h =
+        let both = and_parts (is_body_within m b 0) _ h in
+        and_from (is_body_within m (interchanged_body lanes b) 0) _ (body-within m lanes b both.0) (all bs both.1)
+
+-- ---- depths
+
+stmt-shallow : (m : ℕ) (stmt : PlainStmt) → is_stmt_within m stmt 0 ≡ true → is_shallow stmt ≡ true
+stmt-shallow m (Do op) h = refl
+stmt-shallow m (Loop count body) h =
+    let whole : is_body_within m (looped (count ∷ counts_in body) (round_in body)) 0 ≡ true =
+    ap (λ b. is_body_within m (AndStmts (Loop count b) NoStmts) 0) (looped_is body) ∙ only-is m 0 (Loop count body) h in
+    let known = looped-within m 0 (count ∷ counts_in body) (round_in body) (omega arith) whole in
+    let deep = known.deep in
+    lt-ltb (loops_in body) 64 (omega (arith, deep))
+
+body-shallow : (m : ℕ) (body : PlainBody) → is_body_within m body 0 ≡ true → are_shallow body ≡ true
+body-shallow m NoStmts h = refl
+body-shallow m (AndStmts stmt rest) h =
+    let both = and_parts (is_stmt_within m stmt 0) _ h in
+    and_from (is_shallow stmt) _ (stmt-shallow m stmt both.0) (body-shallow m rest both.1)
+
+-- the nests of a program within the limits are shallow
+pub phases-shallow : (m : ℕ) (phases : List PlainBody) → are_phases_within m phases ≡ true → list_all are_shallow phases ≡ true
+phases-shallow m phases h = all phases (and_parts (nat_lt 0 (length phases)) _ h).1
+  where
+    all : (bodies : List PlainBody) → list_all (λ b. is_body_within m b 0) bodies ≡ true → list_all are_shallow bodies ≡ true
+    all [] h = refl
+    all (b ∷ bs) h =
+        let both = and_parts (is_body_within m b 0) _ h in
+        and_from (are_shallow b) _ (body-shallow m b both.0) (all bs both.1)

@@ -1,0 +1,45 @@
+-- Words of different arrays.
+use Rattle.std.proofs.Common.{◌≡◌, ◌⊎◌, ℕ, ◌+◌, ◌*◌, ◌<◌, ◌≤◌, true, false, ap, sym, ◌∙◌, arith, inl, inr, eq-eqb, eqb-true, true≢false, mul-le-mul_left}
+use Rattle.std.proofs.lemmas.Bool.{cases_order}
+use Rattle.icode.specs.declared.program.Array.{Array}
+use Rattle.icode.specs.declared.program.Array.TheVariants.{X, Y, A, B}
+use Rattle.icode.specs.Actions.{array_start}
+use Rattle.fast_loops.specs.Rounds.{same_array}
+
+start_is : (words : ℕ) (a : Array) → array_start words a ≡ words * array_start 1 a
+start_is words X = omega arith
+start_is words Y = omega arith
+start_is words A = omega arith
+start_is words B = omega arith
+
+-- the same array begins at the same word
+pub same_start : (words : ℕ) (a c : Array) → same_array a c ≡ true → array_start words a ≡ array_start words c
+same_start words a c h =
+    start_is words a ∙ ap (λ n. words * n) (eqb-true (array_start 1 a) (array_start 1 c) h) ∙ sym (start_is words c)
+
+-- before the array or behind it
+abbrev pub IsOutside : ℕ → Array → ℕ → Type 0
+IsOutside words array k = (k < array_start words array) ⊎ (array_start words array + words ≤ k)
+
+-- a word of another array
+pub other_outside : (words : ℕ) (a c : Array) (k : ℕ) → same_array a c ≡ false →
+    array_start words a ≤ k → k < array_start words a + words → IsOutside words c k
+other_outside words a c k h from inside =
+    elim (cases_order first second) [
+      | inl same ↦ absurd (true≢false (sym (eq-eqb first second same) ∙ h))
+      | inr (inl less) ↦ inl (omega (arith, start_is words a, start_is words c, steps first second less, inside))
+      | inr (inr more) ↦ inr (omega (arith, start_is words a, start_is words c, steps second first more, from))
+    ]
+  where
+    first : ℕ
+    first = array_start 1 a
+
+    second : ℕ
+    second = array_start 1 c
+
+    steps : (i j : ℕ) → i < j → words * i + words ≤ words * j
+    steps i j less =
+        let next : i + 1 ≤ j = omega (arith, less) in
+        let far : words * (i + 1) ≤ words * j = mul-le-mul_left words next in
+        let out : words * (i + 1) ≡ words * i + words = omega arith in
+        omega (arith, far, out)

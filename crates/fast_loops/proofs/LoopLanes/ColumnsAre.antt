@@ -1,0 +1,295 @@
+-- Columns on v lanes, turned by tiles, leave what v rounds write.
+use Rattle.std.proofs.Common.{◌≡◌, ℕ, zero, suc, ◌+◌, ◌*◌, ◌/◌, ◌%◌, ◌<◌, ◌≤◌, Bool, true, not, List, [], ◌∷◌, ◌++◌, Contains, Option, Some, None, map, flat_map, length, take, refl, sym, ap, ap₂, ◌∙◌, arith, inl, inr, subst, eqb-true, leb-true, mul_comm, take-append-drop}
+use Rattle.std.specs.Prelude.{◌==◌, ◌&&◌, nat_le, slice_index}
+use Rattle.std.specs.List.{list_all, range_with_len}
+use Rattle.std.proofs.lemmas.List.{length-take-le}
+use Rattle.icode.specs.Limits.{is_small}
+use Rattle.icode.specs.Machine.{Local}
+use Rattle.icode.specs.Plain.{PlainOp, PlainProgram}
+use Rattle.icode.proofs.Bools.{both_true}
+use Rattle.code_laws.specs.Lanes.{lane_of}
+use Rattle.code_laws.proofs.ByLane.{lists_follow}
+use Rattle.code_laws.proofs.Stores.{length-registers}
+use Rattle.fast_loops.specs.Places.{are_linear, stride}
+use Rattle.fast_loops.specs.Rounds.{Stored, are_fresh}
+use Rattle.fast_loops.proofs.Linear.{wrong}
+use Rattle.fast_loops.specs.LoopLanes.Columns.{Columns, Factors, renumbered, renumbered_op, are_distinct, are_products, factored_registers, front_length, last_products, plain_columns, factored_columns, are_tiles, are_columns, are_by, in_columns}
+use Rattle.fast_loops.specs.LoopLanes.Layers.{Write, IsAfter, IsGroup, LeaveWrites, memory_by, ColumnsWrite, FactoredColumnsWrite, written, values_put, round_writes, group_writes}
+use Rattle.fast_loops.specs.LoopLanes.Rounds.{straight, is_store, is_by_lane, in_row, stores, others, stored_registers, stored_constants, are_from}
+use Rattle.fast_loops.proofs.LoopLanes.Held.{IsFront, HoldsFront, values_in, front_after}
+use Rattle.fast_loops.proofs.LoopLanes.FrontHeld.{front_held}
+use Rattle.fast_loops.proofs.LoopLanes.Orders.{some_lanes, group_fits}
+use Rattle.fast_loops.proofs.LoopLanes.Parted.{all_taken, from_at, others_put, others_fresh, taken_fresh, length-stored_registers, stored_low, puts_low}
+use Rattle.fast_loops.proofs.LoopLanes.Renumbered.{renumbered_is, renumbered_apart, renumbered_at}
+use Rattle.fast_loops.proofs.LoopLanes.RoundWrites.{acts_in, acts-append, others_values, values_follow, products_low, products_put, writes_in_order}
+use Rattle.fast_loops.proofs.LoopLanes.Tiled.{Leave, AreLinearBy, stored_in, write_in, wide_acts, wide-append, tile_ops, in_tiles}
+use Rattle.fast_loops.proofs.LoopLanes.Turned.{by_rounds, by_tiles, turned_after}
+
+-- ---- what the tests tell
+
+pub record AreColumns (v loop : ℕ) (to : Stored) (ops : List PlainOp) (c : Columns) : Type 0 where
+  pub many : length (stores ops) ≡ length c.turned
+  pub whole : length c.turned % v ≡ 0
+  pub few : length c.turned ≤ length c.front
+  pub from : are_from 0 (stored_constants ops) ≡ true
+  pub stores_by_lane : list_all (is_by_lane loop to) (stores ops) ≡ true
+  pub front_by_lane : list_all (is_by_lane loop to) c.front ≡ true
+  pub distinct : are_distinct c.turned ≡ true
+
+pub columns_told : (v loop : ℕ) (to : Stored) (ops : List PlainOp) (c : Columns) → are_columns v loop to ops c ≡ true →
+    AreColumns v loop to ops c
+columns_told v loop to ops c h =
+    let m : ℕ = length c.turned in
+    let tiles = both_true (are_tiles v loop to ops c) _ h in
+    let counts = both_true ((length (stores ops) == m) && ((m % v == 0) && nat_le m (length c.front))) _ tiles.0 in
+    let many = both_true (length (stores ops) == m) _ counts.0 in
+    let whole = both_true (m % v == 0) (nat_le m (length c.front)) many.1 in
+    let from = both_true (are_from 0 (stored_constants ops)) _ counts.1 in
+    let lanes = both_true (list_all (is_by_lane loop to) (stores ops)) _ tiles.1 in
+    let front = both_true (list_all (is_by_lane loop to) c.front) (are_distinct c.turned) lanes.1 in
+    record {
+      many = eqb-true (length (stores ops)) m many.0;
+      whole = eqb-true (m % v) 0 whole.0;
+      few = leb-true m (length c.front) whole.1;
+      from = from.0;
+      stores_by_lane = lanes.0;
+      front_by_lane = front.0;
+      distinct = front.1;
+    }
+
+-- ---- any columns
+
+loops_same : {X : Type 0} (f g : ℕ → List X) (j n : ℕ) → ((i : ℕ) → j ≤ i → i < j + n → f i ≡ g i) →
+    flat_map f (range_with_len j n) ≡ flat_map g (range_with_len j n)
+loops_same f g j zero h = refl
+loops_same f g j (suc n) h =
+    ap₂ (λ x xs. x ++ xs) (h j (omega arith) (omega arith))
+    (loops_same f g (j + 1) n (λ i from to. h i (omega (arith, from)) (omega (arith, to))))
+
+-- the operations before the tiles put registers of the program, and those that are turned are among these
+record IsBefore (p : PlainProgram) (c : Columns) : Type 0 where
+  fresh : are_fresh 1 0 (straight c.front) ≡ true
+  puts : list_all (λ op. not (is_store op)) c.front ≡ true
+  short : length c.front ≤ p.regs
+  low : (j : ℕ) → j < length c.turned → slice_index c.turned j < length c.front
+
+module _ (v : ℕ) (p : PlainProgram) (to : Stored) (ops : List PlainOp) (vs : List ℕ) (b q : ℕ) where
+  -- in round l, of the operations before the tiles, what is turned of column j
+  abbrev held_in : Columns → List ℕ → ℕ → ℕ → ℕ
+  held_in c memory l j = slice_index (values_in v p memory c.front vs b q l) (slice_index c.turned j)
+
+  -- the round stores what becomes of it
+  abbrev AreStored : Columns → Type 0
+  AreStored c =
+      (memory : List ℕ) (l j : ℕ) → l < v → j < length c.turned → length (values_in v p memory c.front vs b q l)
+      ≡ length c.front →
+      slice_index (values_in v p memory ops vs b q l) (slice_index (stored_registers ops) j)
+      ≡ stored_in v p to vs b q c.by l j (held_in c memory l j)
+
+  -- what the group writes
+  group-by_rounds : (c : Columns) (memory : List ℕ) → AreColumns v (length vs) to ops c →
+      ((l : ℕ) → l < v → length (values_in v p memory c.front vs b q l) ≡ length c.front) → AreStored c →
+      group_writes v p memory ops vs b q
+      ≡ by_rounds v (length c.turned) (write_in v p to vs b q c.by (held_in c memory))
+  group-by_rounds c memory are long stored =
+      loops_same (λ l. round_writes p memory ops (vs ++ (v * b + l) ∷ []) q) _ 0 v (λ l from to_there.
+      let below : l < v = omega (arith, to_there) in
+      writes_in_order p (vs ++ (v * b + l) ∷ []) q (length vs) to ops (values_in v p memory ops vs b q l)
+      (λ j. stored_in v p to vs b q c.by l j (held_in c memory l j)) 0 are.stores_by_lane are.from
+      (λ j low.
+      let first : j ≡ 0 + j = omega arith in
+      stored memory l j below (omega (arith, low, are.many)) (long l below)
+      ∙ ap (λ j. stored_in v p to vs b q c.by l j (held_in c memory l j)) first)
+      ∙ ap (λ n. map (write_in v p to vs b q c.by (held_in c memory) l) (range_with_len 0 n)) are.many)
+
+  -- the registers of the front are registers of the wider program
+  front-is : (c : Columns) → p.lanes ≡ 1 → AreColumns v (length vs) to ops c → IsBefore p c →
+      IsFront p (length vs) to (renumbered p.regs c.turned) c.front
+  front-is c alone are before =
+      record {
+        alone = alone;
+        fresh = before.fresh;
+        by_lane = are.front_by_lane;
+        puts = before.puts;
+        low = λ r below.
+            let small : r < p.regs = omega (arith, below, before.short) in
+            elim (renumbered_is p.regs c.turned r) [
+              | inl stays ↦ omega (arith, stays, small)
+              | inr two ↦ omega (arith, two.1, are.few, before.short)
+            ];
+        apart = λ r k below under e.
+            renumbered_apart p.regs c.turned r k (omega (arith, below, before.short))
+            (omega (arith, under, before.short)) e;
+      }
+
+  columns-write : (c : Columns) → IsGroup v p to ops vs b q → AreColumns v (length vs) to ops c → IsBefore p c →
+      AreLinearBy v p to vs b q c.by → AreStored c →
+      LeaveWrites v p (in_columns v p.regs (length vs) to c) ops vs b q
+  columns-write c group are before linear_by stored r memory room =
+      record {
+        done = turned.done;
+        is = leaves ∙ turned.is;
+        within = λ w has. subst (λ ws. Contains ws w) (sym same) (turned.within w has);
+        whole = λ w has. turned.whole w (subst (λ ws. Contains ws w) same has);
+      }
+    where
+      m : ℕ
+      m = length c.turned
+
+      f : ℕ → ℕ
+      f = renumbered p.regs c.turned
+
+      begun : Local
+      begun = record { memory = memory; registers = r }
+
+      after : Local
+      after = front_after v p f c.front vs b q begun
+
+      w : ℕ → ℕ → Write
+      w = write_in v p to vs b q c.by (held_in c memory)
+
+      done : List Write
+      done = by_tiles v m w
+
+      front : List PlainOp
+      front = map (λ op. renumbered_op f (in_row v (length vs) op)) c.front
+
+      tiles : List PlainOp
+      tiles = flat_map (tile_ops v p to vs b q group.linear c.by m) (range_with_len 0 (m / v))
+
+      held : HoldsFront v p f c.front vs b q begun
+      held = front_held v p to f c.front vs b q begun (front-is c group.alone are before) room
+
+      some : 0 < v
+      some = some_lanes v group.lanes
+
+      whole : m / v * v ≤ m
+      whole = let turn : m / v * v ≡ v * (m / v) = mul_comm (m / v) v in omega (arith, some, turn)
+
+      left : Leave p.modulus v (wide_acts v p to vs b q tiles) (λ i. i < p.regs + m) after done
+      left =
+          in_tiles v p to vs b q group.linear c.by m (m / v) after (held_in c memory) linear_by
+          (omega (arith, are.few, before.short)) whole
+          (omega (arith, room, length-registers p.modulus v (wide_acts v p to vs b q front) begun))
+          (λ l j low below.
+          ap (lane_of v after.registers l) (sym (renumbered_at p.regs c.turned j are.distinct below))
+          ∙ held.registers.held (slice_index c.turned j) l (before.low j below) low)
+
+      leaves : memory_by p.modulus v (wide_acts v p to vs b q (front ++ tiles)) r memory ≡ written memory done
+      leaves =
+          ap (λ acts. memory_by p.modulus v acts r memory) (wide-append v p to vs b q front tiles)
+          ∙ ap (λ (z : Local). z.memory)
+          (lists_follow p.modulus v (wide_acts v p to vs b q front) (wide_acts v p to vs b q tiles) begun)
+          ∙ left.memory
+          ∙ ap (λ words. written words done) held.memory
+
+      turned : IsAfter memory (written memory done) (by_rounds v m w)
+      turned = turned_after v m w memory some are.whole
+
+      same : group_writes v p memory ops vs b q ≡ by_rounds v m w
+      same = group-by_rounds c memory are held.registers.long stored
+
+-- ---- plain columns
+
+-- the first round fits, so the registers that are put are the program's
+short-others : (v : ℕ) (p : PlainProgram) (to : Stored) (ops : List PlainOp) (vs : List ℕ) (b q : ℕ) →
+    IsGroup v p to ops vs b q →
+    length (others ops) ≤ p.regs
+short-others v p to ops vs b q group =
+    omega (
+      arith,
+      puts_low p (vs ++ (v * b + 0) ∷ []) q ops 0 group.alone group.fresh
+          (group_fits v p ops vs b q 0 (some_lanes v group.lanes) group.fits) (omega arith),
+    )
+
+pub columns_write : ColumnsWrite
+columns_write v p to ops vs b q group h =
+    let c : Columns = plain_columns ops in
+    columns-write v p to ops vs b q c group (columns_told v (length vs) to ops c h)
+    (record {
+      fresh = others_fresh ops 0 group.fresh;
+      puts = others_put ops;
+      short = short-others v p to ops vs b q group;
+      low = λ j below. omega (arith, stored_low ops 0 j group.fresh below);
+    })
+    tt
+    (λ memory l j low below long.
+    ap (λ xs. slice_index xs (slice_index (stored_registers ops) j))
+    (others_values p (vs ++ (v * b + l) ∷ []) q memory [] ops))
+
+-- ---- factored columns
+
+-- what the test tells of products
+by_told : (v loop : ℕ) (ops : List PlainOp) (by : Factors) → are_by v loop ops (Some by) ≡ true →
+    (are_linear 0 by.parts ≡ true)
+    × (are_products by (front_length ops) 0 (last_products ops) ≡ true)
+    × (are_from (front_length ops) (stored_registers ops) ≡ true)
+by_told v loop ops by h =
+    let small : Bool = is_small (by.constant + (length (stores ops) + v * stride loop by.parts)) in
+    let both = both_true (are_linear 0 by.parts && small) _ h in
+    let two = both_true _ (are_from (front_length ops) (stored_registers ops)) both.1 in
+    ((both_true (are_linear 0 by.parts) small both.0).0, two.0, two.1)
+
+-- what is stored is a product, of what was put before the products
+factored-stored : (v : ℕ) (p : PlainProgram) (to : Stored) (ops : List PlainOp) (vs : List ℕ) (b q : ℕ)
+    (by : Option Factors) →
+    p.lanes ≡ 1 → are_by v (length vs) ops by ≡ true → length (stores ops) ≡ length (factored_columns ops).turned →
+    (memory : List ℕ) (l j : ℕ) → j < length (factored_columns ops).turned →
+    length (values_in v p memory (factored_columns ops).front vs b q l) ≡ length (factored_columns ops).front →
+    slice_index (values_in v p memory ops vs b q l) (slice_index (stored_registers ops) j)
+    ≡ stored_in v p to vs b q by l j (held_in v p to ops vs b q (factored_columns ops) memory l j)
+factored-stored v p to ops vs b q None alone h many memory l j below long = wrong h
+factored-stored v p to ops vs b q (Some by) alone h many memory l j below long =
+    let us : List ℕ = vs ++ (v * b + l) ∷ [] in
+    let n : ℕ = front_length ops in
+    let front : List PlainOp = take n (others ops) in
+    let products : List PlainOp = last_products ops in
+    let xs : List ℕ = values_in v p memory front vs b q l in
+    let told = by_told v (length vs) ops by h in
+    let size : length xs ≡ n = long ∙ length-take-le n (others ops) (omega arith) in
+    let last : slice_index (stored_registers ops) j ≡ length xs + j =
+    from_at n (stored_registers ops) j told.2 (omega (arith, below, many, length-stored_registers ops))
+    ∙ ap (λ k. k + j) (sym size) in
+    let parted : values_in v p memory ops vs b q l ≡ values_put p.modulus memory xs (acts_in p us q products) =
+    others_values p us q memory [] ops
+    ∙ ap (λ zs. values_put p.modulus memory [] (acts_in p us q zs)) (sym (take-append-drop n (others ops)))
+    ∙ ap (values_put p.modulus memory []) (acts-append p us q front products)
+    ∙ values_follow p.modulus memory [] (acts_in p us q front) (acts_in p us q products) in
+    let first : 0 + j ≡ j = omega arith in
+    let x : ℕ = slice_index xs (slice_index (factored_registers products) j) in
+    ap₂ (λ zs k. slice_index zs k) parted last
+    ∙ products_put p us q by n 0 products memory xs j alone told.1 (omega (arith, size)) below
+    ∙ ap (λ k. stored_in v p to vs b q (Some by) l k x) first
+
+-- registers that are multiplied were put before the products
+factored-low : (v loop : ℕ) (ops : List PlainOp) (by : Option Factors) → are_by v loop ops by ≡ true →
+    (j : ℕ) → j < length (factored_registers (last_products ops)) →
+    slice_index (factored_registers (last_products ops)) j < front_length ops
+factored-low v loop ops None h j below = wrong h
+factored-low v loop ops (Some by) h j below =
+    products_low by (front_length ops) 0 (last_products ops) j (by_told v loop ops by h).1 below
+
+-- factors are by linear places
+factored-linear : (v : ℕ) (p : PlainProgram) (to : Stored) (ops : List PlainOp) (vs : List ℕ) (b q : ℕ)
+    (by : Option Factors) →
+    are_by v (length vs) ops by ≡ true → AreLinearBy v p to vs b q by
+factored-linear v p to ops vs b q None h = tt
+factored-linear v p to ops vs b q (Some by) h = (by_told v (length vs) ops by h).0
+
+pub factored_columns_write : FactoredColumnsWrite
+factored_columns_write v p to ops vs b q group h =
+    let c : Columns = factored_columns ops in
+    let two = both_true (are_by v (length vs) ops c.by) (are_columns v (length vs) to ops c) h in
+    let are = columns_told v (length vs) to ops c two.1 in
+    let n : ℕ = front_length ops in
+    let size : length (take n (others ops)) ≡ n = length-take-le n (others ops) (omega arith) in
+    columns-write v p to ops vs b q c group are
+    (record {
+      fresh = taken_fresh (others ops) 0 n (others_fresh ops 0 group.fresh);
+      puts = all_taken (λ op. not (is_store op)) (others ops) n (others_put ops);
+      short = omega (arith, size, short-others v p to ops vs b q group);
+      low = λ j below. omega (arith, size, factored-low v (length vs) ops c.by two.0 j below);
+    })
+    (factored-linear v p to ops vs b q c.by two.0)
+    (λ memory l j low below long.
+    factored-stored v p to ops vs b q c.by group.alone two.0 are.many memory l j below long)

@@ -1,0 +1,290 @@
+-- Operations that are done in lanes touch words that those of the rounds touch, and fit.
+use Rattle.std.proofs.Common.{◌≡◌, ℕ, ◌+◌, ◌-◌, ◌*◌, ◌^◌, ◌<◌, ◌≤◌, true, not, List, [], ◌∷◌, ◌++◌, All, Contains, length, replicate, refl, sym, ap, ◌∙◌, subst, arith, eqb-true}
+use Rattle.std.specs.Prelude.{◌==◌, slice_index, slice_index_or}
+use Rattle.std.specs.List.{range_with_len}
+use Rattle.std.proofs.lemmas.List.Elements.{All-append, All-head, All-replicate}
+use Rattle.std.proofs.lemmas.List.FromFn.{get_or-map-range_with_len, length-map-range_with_len, length-range_with_len, get_or-range_with_len}
+use Rattle.operators.specs.Sum.{list_below}
+use Rattle.icode.specs.declared.program.Array.{Array}
+use Rattle.icode.specs.Actions.{Step, StepFits, array_start, lane_factors, step_of}
+use Rattle.icode.specs.Expression.{sum_numbers}
+use Rattle.icode.specs.Machine.{whole_lines}
+use Rattle.icode.specs.Plain.{PlainExpr, PlainOp, PlainProgram, Sum, Load, Store, Zero, Add, Sub, Neg, MulConst, MulTable, Tile}
+use Rattle.icode.proofs.Bools.{both_true}
+use Rattle.icode.proofs.Lines.{Contains-nil, Contains-range}
+use Rattle.fast_loops.specs.Places.{are_linear, is_linear, stride}
+use Rattle.fast_loops.specs.Rounds.{Stored, same_array}
+use Rattle.fast_loops.proofs.Linear.{wrong}
+use Rattle.fast_loops.specs.LoopLanes.Rounds.{widened, place_stride, is_store, is_by_lane, in_row}
+use Rattle.fast_loops.specs.LoopLanes.Columns.{renumbered_op}
+use Rattle.fast_loops.specs.LoopLanes.Layers.{group_at, on_lanes}
+use Rattle.fast_loops.proofs.LoopLanes.Covered.{IsCovered, IsInGroup, in_group, group}
+use Rattle.fast_loops.proofs.LoopLanes.Orders.{parts_same}
+use Rattle.fast_loops.proofs.LoopLanes.Wide.{widened_value, lane_value}
+
+-- ---- factors
+
+all-below : (P : ℕ → Type 0) (n : ℕ) (g : ℕ → ℕ) → ((l : ℕ) → l < n → P (g l)) → All P (list_below n g)
+all-below P n g each k d lt =
+    let few : k < n = omega (arith, lt, length-map-range_with_len g 0 n) in
+    subst P (sym (get_or-map-range_with_len g 0 n k k d few (omega arith))) (each k few)
+
+-- factors of lanes fit where each does, and there is a number below the modulus
+pub factors_fit : (m lanes : ℕ) (g : ℕ → ℕ) → 0 < m → ((l : ℕ) → l < lanes → g l < m) →
+    All (λ c. c < m) (lane_factors lanes g)
+factors_fit m lanes g some each =
+    All-append (λ c. c < m) (list_below lanes g) (replicate (16 - lanes) 0)
+    (all-below (λ c. c < m) lanes g each) (All-replicate (λ c. c < m) (16 - lanes) 0 some)
+
+pub no_steps : (at step : ℕ) → at + step * 0 ≡ at
+no_steps at step = omega arith
+
+-- the factor of one lane fits
+pub factor_fits : (m lanes : ℕ) (g : ℕ → ℕ) → lanes ≡ 1 → All (λ c. c < m) (lane_factors lanes g) → g 0 < m
+factor_fits m lanes g alone all =
+    All-head (λ c. c < m) (g 0) (replicate (16 - 1) 0) (subst (λ n. All (λ c. c < m) (lane_factors n g)) alone all)
+
+-- ---- words one behind the other
+
+pub record IsLaneWord (first n k : ℕ) : Type 0 where
+  pub lane : ℕ
+  pub low : lane < n
+  pub there : k ≡ first + lane
+
+pub lane_word : (first n k : ℕ) → Contains (range_with_len first n) k → IsLaneWord first n k
+lane_word first n k h =
+    let low : h.0 < n = omega (arith, h.1, length-range_with_len first n) in
+    record { lane = h.0; low = low; there = sym h.2 ∙ get_or-range_with_len first n h.0 k low }
+
+-- the word alone
+pub one_word : (a k : ℕ) → k ≡ a → Contains (range_with_len a 1) k
+one_word a k e = Contains-range 1 a k (omega (arith, e)) (omega (arith, e))
+
+-- ---- operations
+
+module _ (v : ℕ) (p : PlainProgram) (ops : List PlainOp) (vs : List ℕ) (b q : ℕ) (some : 0 < v) (alone : p.lanes ≡ 1)
+    (fits : All (StepFits p) (group_at v p ops vs b q)) where
+  abbrev loop : ℕ
+  loop = length vs
+
+  abbrev words : ℕ
+  words = whole_lines p.size p.line
+
+  abbrev wide_step : PlainOp → Step
+  wide_step op = step_of (on_lanes v p) op (vs ++ b ∷ []) q
+
+  abbrev pub Covered : PlainOp → Type 0
+  Covered op = IsCovered v p (group v p ops vs b q) (wide_step op)
+
+  abbrev known : (op : PlainOp) → Contains ops op → IsInGroup v p ops vs b q op
+  known = in_group v p ops vs b q fits
+
+  abbrev wide_place : PlainExpr → ℕ
+  wide_place place = (sum_numbers (widened v loop place) (vs ++ b ∷ []) q).value
+
+  -- the place in a round, from that of the wide step
+  place_in : (place : PlainExpr) (l : ℕ) → is_linear place ≡ true →
+      (sum_numbers place (vs ++ (v * b + l) ∷ []) q).value ≡ wide_place place + place_stride loop place * l
+  place_in place l linear =
+      lane_value loop place vs (v * b) l q linear refl
+      ∙ ap (λ n. n.value + place_stride loop place * l) (sym (widened_value v loop place vs b q linear refl))
+
+  peak_in : (place : PlainExpr) → is_linear place ≡ true →
+      (sum_numbers place (vs ++ (v * b + 0) ∷ []) q).peak < 2 ^ 64 →
+      (sum_numbers (widened v loop place) (vs ++ b ∷ []) q).peak < 2 ^ 64
+  peak_in place linear h =
+      let first : v * b + 0 ≡ v * b = omega arith in
+      subst (λ n. n.peak < 2 ^ 64)
+      (ap (λ i. sum_numbers place (vs ++ i ∷ []) q) first ∙ sym (widened_value v loop place vs b q linear refl)) h
+
+  -- places that step by one
+  place_by_one : (place : PlainExpr) (l : ℕ) → is_linear place ≡ true → place_stride loop place ≡ 1 →
+      (sum_numbers place (vs ++ (v * b + l) ∷ []) q).value ≡ wide_place place + l
+  place_by_one place l linear unit =
+      let far : place_stride loop place * l ≡ 1 * l = ap (λ s. s * l) unit in
+      omega (arith, place_in place l linear, far)
+
+  -- they end within the array
+  ends_within : (place : PlainExpr) (room : ℕ) → is_linear place ≡ true → place_stride loop place ≡ 1 →
+      ((l : ℕ) → l < v → (sum_numbers place (vs ++ (v * b + l) ∷ []) q).value + p.lanes ≤ room) →
+      wide_place place + v ≤ room
+  ends_within place room linear unit each =
+      let last : v - 1 < v = omega (arith, some) in
+      let end = each (v - 1) last in
+      omega (arith, some, end, alone, place_by_one place (v - 1) linear unit)
+
+  -- the words of a place that steps by one are those of the rounds
+  words_in : (start : ℕ) (place : PlainExpr) (P : ℕ → Type 0) → is_linear place ≡ true → place_stride loop place ≡ 1 →
+      ((l : ℕ) → l < v → (k : ℕ) →
+      Contains (range_with_len (start + (sum_numbers place (vs ++ (v * b + l) ∷ []) q).value) 1) k → P k) →
+      (k : ℕ) → Contains (range_with_len (start + wide_place place) v) k → P k
+  words_in start place P linear unit each k h =
+      let at = lane_word (start + wide_place place) v k h in
+      let there = at.there in
+      each at.lane at.low k (one_word (start + (sum_numbers place (vs ++ (v * b + at.lane) ∷ []) q).value) k
+      (omega (arith, there, place_by_one place at.lane linear unit)))
+
+  -- registers are still there under other numbers
+  abbrev pub AreLow : (ℕ → ℕ) → Type 0
+  AreLow f = (r : ℕ) → r < p.regs → f r < 3 * p.regs
+
+  module _ (f : ℕ → ℕ) (low : AreLow f) where
+    load_covered : (r : ℕ) (array : Array) (place : PlainExpr) → is_linear place ≡ true → place_stride loop place ≡ 1 →
+        Contains ops (Load r array place) → Covered (Load (f r) array (widened v loop place))
+    load_covered r array place linear unit has =
+        let old = known (Load r array place) has in
+        record {
+          stored = λ k h. absurd (Contains-nil k h);
+          touched = words_in (array_start words array) place _ linear unit old.touched;
+          fits =
+              record {
+                numbers = peak_in place linear (old.fits 0 some).numbers;
+                place = ends_within place words linear unit (λ l lt. (old.fits l lt).place);
+                registers = low r (old.fits 0 some).registers;
+                factors = tt;
+              };
+        }
+
+    store_covered : (array : Array) (place : PlainExpr) (r : ℕ) → is_linear place ≡ true →
+        place_stride loop place ≡ 1 →
+        Contains ops (Store array place r) → Covered (Store array (widened v loop place) (f r))
+    store_covered array place r linear unit has =
+        let old = known (Store array place r) has in
+        record {
+          stored = words_in (array_start words array) place _ linear unit old.stored;
+          touched = words_in (array_start words array) place _ linear unit old.touched;
+          fits =
+              record {
+                numbers = peak_in place linear (old.fits 0 some).numbers;
+                place = ends_within place words linear unit (λ l lt. (old.fits l lt).place);
+                registers = low r (old.fits 0 some).registers;
+                factors = tt;
+              };
+        }
+
+    zero_covered : (r : ℕ) → Contains ops (Zero r) → Covered (Zero (f r))
+    zero_covered r has =
+        let old = (known (Zero r) has).fits 0 some in
+        record {
+          stored = λ k h. absurd (Contains-nil k h);
+          touched = λ k h. absurd (Contains-nil k h);
+          fits = record { numbers = old.numbers; place = old.place; registers = low r old.registers; factors = tt };
+        }
+
+    add_covered : (r x y : ℕ) → Contains ops (Add r x y) → Covered (Add (f r) (f x) (f y))
+    add_covered r x y has =
+        let old = (known (Add r x y) has).fits 0 some in
+        record {
+          stored = λ k h. absurd (Contains-nil k h);
+          touched = λ k h. absurd (Contains-nil k h);
+          fits =
+              record {
+                numbers = old.numbers;
+                place = old.place;
+                registers = (low r old.registers.0, low x old.registers.1, low y old.registers.2);
+                factors = tt;
+              };
+        }
+
+    sub_covered : (r x y : ℕ) → Contains ops (Sub r x y) → Covered (Sub (f r) (f x) (f y))
+    sub_covered r x y has =
+        let old = (known (Sub r x y) has).fits 0 some in
+        record {
+          stored = λ k h. absurd (Contains-nil k h);
+          touched = λ k h. absurd (Contains-nil k h);
+          fits =
+              record {
+                numbers = old.numbers;
+                place = old.place;
+                registers = (low r old.registers.0, low x old.registers.1, low y old.registers.2);
+                factors = tt;
+              };
+        }
+
+    neg_covered : (r x : ℕ) → Contains ops (Neg r x) → Covered (Neg (f r) (f x))
+    neg_covered r x has =
+        let old = (known (Neg r x) has).fits 0 some in
+        record {
+          stored = λ k h. absurd (Contains-nil k h);
+          touched = λ k h. absurd (Contains-nil k h);
+          fits =
+              record {
+                numbers = old.numbers;
+                place = old.place;
+                registers = (low r old.registers.0, low x old.registers.1);
+                factors = tt;
+              };
+        }
+
+    constant_covered : (r x factor : ℕ) → Contains ops (MulConst r x factor) → Covered (MulConst (f r) (f x) factor)
+    constant_covered r x factor has =
+        let old = (known (MulConst r x factor) has).fits 0 some in
+        let small : factor < p.modulus = factor_fits p.modulus p.lanes (λ lane. factor) alone old.factors in
+        record {
+          stored = λ k h. absurd (Contains-nil k h);
+          touched = λ k h. absurd (Contains-nil k h);
+          fits =
+              record {
+                numbers = old.numbers;
+                place = old.place;
+                registers = (low r old.registers.0, low x old.registers.1);
+                factors = factors_fit p.modulus v (λ lane. factor) (omega (arith, small)) (λ l lt. small);
+              };
+        }
+
+    table_covered : (r x table : ℕ) (place : PlainExpr) (step : ℕ) → is_linear place ≡ true →
+        Contains ops (MulTable r x table place step) →
+        Covered (MulTable (f r) (f x) table (widened v loop place) (place_stride loop place))
+    table_covered r x table place step linear has =
+        let old = known (MulTable r x table place step) has in
+        let entries : List ℕ = slice_index_or p.tables table [] in
+        let at : ℕ → ℕ = λ l. (sum_numbers place (vs ++ (v * b + l) ∷ []) q).value in
+        let entry : (l : ℕ) → l < v → slice_index entries (at l) < p.modulus =
+        λ l lt. subst (λ i. slice_index entries i < p.modulus) (no_steps (at l) step)
+        (factor_fits p.modulus p.lanes (λ lane. slice_index entries (at l + step * lane)) alone
+        (old.fits l lt).factors) in
+        let last : v - 1 < v = omega (arith, some) in
+        let end = (old.fits (v - 1) last).place in
+        let first = entry 0 some in
+        record {
+          stored = λ k h. absurd (Contains-nil k h);
+          touched = λ k h. absurd (Contains-nil k h);
+          fits =
+              record {
+                numbers = peak_in place linear (old.fits 0 some).numbers;
+                place =
+                    reached (at (v - 1)) (wide_place place + place_stride loop place * (v - 1)) step p.lanes
+                    (length entries) (place_in place (v - 1) linear) end;
+                registers = (low r (old.fits 0 some).registers.0, low x (old.fits 0 some).registers.1);
+                factors =
+                    factors_fit p.modulus v
+                    (λ lane. slice_index entries (wide_place place + place_stride loop place * lane))
+                    (omega (arith, first))
+                    (λ l lt. subst (λ i. slice_index entries i < p.modulus) (place_in place l linear) (entry l lt));
+              };
+        }
+      where
+        reached : (a wide step lanes room : ℕ) → a ≡ wide → a + step * (lanes - 1) + 1 ≤ room → wide + 1 ≤ room
+        reached a wide step lanes room same h = omega (arith, same, h)
+
+    -- whatever is done in lanes
+    pub front_covered : (to : Stored) (op : PlainOp) → are_linear 0 to.parts ≡ true →
+        (is_store op ≡ true → stride loop to.parts ≡ 1) →
+        is_by_lane loop to op ≡ true → Contains ops op → Covered (renumbered_op f (in_row v loop op))
+    front_covered to (Load r array place) linear unit h has =
+        let two =
+        both_true (is_linear place) (place_stride loop place == 1)
+        (both_true (not (same_array array to.array)) _ h).1 in
+        load_covered r array place two.0 (eqb-true (place_stride loop place) 1 two.1) has
+    front_covered to (Store array (Sum constant parts) r) linear unit h has =
+        let same : to.parts ≡ parts = sym (parts_same parts to.parts (both_true (same_array array to.array) _ h).1) in
+        store_covered array (Sum constant parts) r (subst (λ parts. are_linear 0 parts ≡ true) same linear)
+        (subst (λ parts. stride loop parts ≡ 1) same (unit refl)) has
+    front_covered to (Zero r) linear unit h has = zero_covered r has
+    front_covered to (Add r x y) linear unit h has = add_covered r x y has
+    front_covered to (Sub r x y) linear unit h has = sub_covered r x y has
+    front_covered to (Neg r x) linear unit h has = neg_covered r x has
+    front_covered to (MulConst r x factor) linear unit h has = constant_covered r x factor has
+    front_covered to (MulTable r x table place step) linear unit h has =
+        table_covered r x table place step (both_true (is_linear place) _ h).0 has
+    front_covered to (Tile r x) linear unit h has = wrong h

@@ -1,0 +1,109 @@
+-- What code makes of lanes: numbers that it counts, and lists that grow by a row.
+use Rattle.std.proofs.Common.{◌≡◌, ℕ, zero, suc, ◌+◌, ◌*◌, ◌/◌, ◌%◌, ◌^◌, ◌<◌, ◌≤◌, Bool, true, false, List, [], ◌∷◌, ◌++◌, Option, Some, None, map, flat_map, length, refl, sym, ap, ◌∙◌, arith, append-nil, add-one, drop-cons, drop, get_or, eqb-true, leb-true, mul-le-mul_left}
+use Rattle.std.specs.Prelude.{not, ◌&&◌, ◌==◌, nat_le, if◌then◌else◌}
+use Rattle.std.specs.List.{list_all, range_with_len}
+use Rattle.std.proofs.Math.Nat.{div-add-mod}
+use Rattle.std.proofs.lemmas.List.{append_assoc, drop_all}
+use Rattle.std.proofs.lemmas.List.Concat.{flat_map-append}
+use Rattle.icode.specs.declared.program.Op.{Op}
+use Rattle.icode.specs.Plain.{PlainOp, PlainStmt, Sum, Load, Store, Zero, Add, Sub, Neg, MulConst, MulTable, Tile, Do, AndStmts, body_of, plain_op}
+use Rattle.icode.proofs.Bools.{both_true}
+use Rattle.code_laws.proofs.Statements.{range-last}
+use Rattle.fast_loops.specs.Places.{is_linear, stride, same_parts}
+use Rattle.fast_loops.specs.Rounds.{Stored, same_array}
+use Rattle.fast_loops.proofs.Linear.{wrong}
+use Rattle.fast_loops.specs.LoopLanes.Rounds.{straight, place_stride, is_by_lane}
+use Rattle.fast_loops.specs.LoopLanes.View.{stride_in, plain_ops}
+use Rattle.fast_loops.specs.LoopLanes.Lanes.{laned_nest, laned_body}
+use Rattle.fast_loops.proofs.LoopLanes.Orders.{parts_same}
+
+-- ---- numbers
+
+-- steps of fewer lanes are less wide
+pub less_wide : (v l s : ℕ) → l < v → s * l ≤ v * s
+less_wide v l s lt =
+    let le : l ≤ v = omega (arith, lt) in
+    let most : s * l ≤ s * v = mul-le-mul_left s le in
+    omega (arith, most)
+
+-- a whole tile is of words below the number of registers
+pub tile_low : (g m v : ℕ) → g < m / v → 1 ≤ v → g * v < m
+tile_low g m v lt some =
+    let all : v * (m / v) + m % v ≡ m = div-add-mod m v in
+    let next : g + 1 ≤ m / v = omega (arith, lt) in
+    let most : v * (g + 1) ≤ v * (m / v) = mul-le-mul_left v next in
+    omega (arith, all, most, some)
+
+-- an operation that can be done in lanes is not wide
+pub narrow : (v loop : ℕ) (to : Stored) (op : PlainOp) → v ≤ 16 → v * stride loop to.parts < 2 ^ 32 → is_by_lane loop to op ≡ true →
+    v * stride_in loop op < 2 ^ 64
+narrow v loop to (Load r array place) few wide h =
+    let two = both_true (is_linear place) (place_stride loop place == 1) (both_true (not (same_array array to.array)) _ h).1 in
+    let one : place_stride loop place ≡ 1 = eqb-true (place_stride loop place) 1 two.1 in
+    let same : v * place_stride loop place ≡ v * 1 = ap (λ s. v * s) one in
+    omega (arith, few, same)
+narrow v loop to (Store array (Sum constant parts) r) few wide h =
+    let same : v * stride loop parts ≡ v * stride loop to.parts =
+    ap (λ ps. v * stride loop ps) (parts_same parts to.parts (both_true (same_array array to.array) _ h).1) in
+    omega (arith, wide, same)
+narrow v loop to (MulTable r x table place step) few wide h =
+    let low : place_stride loop place ≤ 1 = leb-true (place_stride loop place) 1 (both_true (is_linear place) _ h).1 in
+    let most : v * place_stride loop place ≤ v * 1 = mul-le-mul_left v low in
+    omega (arith, few, most)
+narrow v loop to (Zero r) few wide h = omega arith
+narrow v loop to (Add r x y) few wide h = omega arith
+narrow v loop to (Sub r x y) few wide h = omega arith
+narrow v loop to (Neg r x) few wide h = omega arith
+narrow v loop to (MulConst r x factor) few wide h = omega arith
+narrow v loop to (Tile r x) few wide h = omega arith
+
+-- ---- lists
+
+-- one more row
+pub row_more : (f : ℕ → List PlainOp) (n : ℕ) → flat_map f (range_with_len 0 (n + 1)) ≡ flat_map f (range_with_len 0 n) ++ f n
+row_more f n =
+    let more : n + 1 ≡ suc n = omega arith in
+    let same : 0 + n ≡ n = omega arith in
+    ap (λ k. flat_map f (range_with_len 0 k)) more
+    ∙ ap (flat_map f) (range-last 0 n ∙ ap (λ k. range_with_len 0 n ++ k ∷ []) same)
+    ∙ flat_map-append f (range_with_len 0 n) (n ∷ [])
+    ∙ ap (λ (fs : List PlainOp). flat_map f (range_with_len 0 n) ++ fs) (append-nil (f n))
+
+-- operations, one by one
+pub straight_is : (ops : List PlainOp) → straight ops ≡ body_of (map Do ops)
+straight_is [] = refl
+straight_is (op ∷ ops) = ap (AndStmts (Do op)) (straight_is ops)
+
+-- nests, one by one
+pub body_laned : (v n : ℕ) (stmts : List PlainStmt) → laned_body v n (body_of stmts) ≡ body_of (map (laned_nest v n) stmts)
+body_laned v n [] = refl
+body_laned v n (stmt ∷ stmts) = ap (AndStmts (laned_nest v n stmt)) (body_laned v n stmts)
+
+-- ---- loops of the code
+
+-- what is made is all of it, where none is left
+pub whole : {X Y : Type 0} (f : List X → List Y) (i : ℕ) (xs : List X) (made : List Y) → length xs ≤ i → made ++ f (drop i xs) ≡ f xs →
+    f [] ≡ [] → made ≡ f xs
+whole f i xs made le h nothing =
+    sym (append-nil made) ∙ ap (λ ys. made ++ ys) (sym nothing ∙ ap f (sym (drop_all i xs le))) ∙ h
+
+-- the first operation that is left
+first_left : (i : ℕ) (ops : List Op) (op : Op) → i < length ops → op ≡ get_or ops i op → drop i ops ≡ op ∷ drop (i + 1) ops
+first_left i ops op lt e = rw (add-one, drop-cons ops i op) (ap (λ y. y ∷ drop (suc i) ops) (sym e))
+
+pub narrow_first : (v loop : ℕ) (to : Stored) (ops : List Op) (i : ℕ) (op copy : Op) → v ≤ 16 → v * stride loop to.parts < 2 ^ 32 →
+    i < length ops → op ≡ get_or ops i op → plain_op copy ≡ plain_op op → list_all (is_by_lane loop to) (plain_ops (drop i ops)) ≡ true →
+    v * stride_in loop (plain_op copy) < 2 ^ 64
+narrow_first v loop to ops i op copy few wide lt e same h =
+    let first = both_true (is_by_lane loop to (plain_op op)) _
+    (sym (ap (λ (xs : List Op). list_all (is_by_lane loop to) (plain_ops xs)) (first_left i ops op lt e)) ∙ h) in
+    narrow v loop to (plain_op copy) few wide (ap (is_by_lane loop to) same ∙ first.0)
+
+-- a list that has grown by a row
+pub grown : (f : ℕ → List PlainOp) (n : ℕ) (start front before now : List PlainOp) → now ≡ before ++ f n →
+    before ≡ start ++ (front ++ flat_map f (range_with_len 0 n)) → now ≡ start ++ (front ++ flat_map f (range_with_len 0 (n + 1)))
+grown f n start front before now e h =
+    e
+    ∙ ap (λ (xs : List PlainOp). xs ++ f n) h
+    ∙ append_assoc start (front ++ flat_map f (range_with_len 0 n)) (f n)
+    ∙ ap (λ (xs : List PlainOp). start ++ xs) (append_assoc front (flat_map f (range_with_len 0 n)) (f n) ∙ ap (λ (xs : List PlainOp). front ++ xs) (sym (row_more f n)))

@@ -1,0 +1,128 @@
+-- Operations of a round in the order of the text, and in others: those that put, and those that store.
+use Rattle.std.proofs.Common.{◌≡◌, ℕ, ◌+◌, ◌*◌, ◌<◌, true, false, List, [], ◌∷◌, ◌++◌, All, Contains, flat_map, length, refl, ap, ◌∙◌, arith, inl, inr, eqb-true, length-append, ⊎_elim}
+use Rattle.std.specs.Prelude.{slice_index, ◌==◌, ◌&&◌, nat_le}
+use Rattle.std.specs.List.{range_with_len}
+use Rattle.std.proofs.lemmas.Bool.{true≢false}
+use Rattle.std.proofs.lemmas.List.{get_or_append_left}
+use Rattle.std.proofs.lemmas.List.Elements.{All-contains, Contains-append_left, Contains-append_right, Contains-append_cases}
+use Rattle.icode.specs.declared.action.Action.{Action}
+use Rattle.icode.specs.declared.action.Action.TheVariants as actions
+use Rattle.icode.specs.declared.program.Array.TheVariants.{X}
+use Rattle.icode.specs.Actions.{Step, StepFits, actions_of, step_of}
+use Rattle.icode.specs.Machine.{value_put}
+use Rattle.icode.specs.Plain.{PlainParts, PlainOp, PlainProgram, Load, Store, Zero, Add, Sub, Neg, MulConst, MulTable, Tile}
+use Rattle.icode.proofs.Bools.{both_true}
+use Rattle.icode.proofs.Lines.{Contains-nil}
+use Rattle.fast_loops.specs.Places.{same_parts}
+use Rattle.fast_loops.specs.Rounds.{Stored, is_fresh}
+use Rattle.fast_loops.proofs.Changes.{in-loop}
+use Rattle.fast_loops.proofs.Linear.{store_told}
+use Rattle.fast_loops.proofs.Members.{all_of_members}
+use Rattle.fast_loops.specs.LoopLanes.Lanes.{IsLanes}
+use Rattle.fast_loops.specs.LoopLanes.Layers.{steps_at, group_at, values_put, writes_of}
+use Rattle.fast_loops.specs.LoopLanes.Rounds.{is_store}
+
+-- ---- groups
+
+pub some_lanes : (v : ℕ) → IsLanes v → 0 < v
+some_lanes v h =
+    elim h [
+      | inl two ↦ omega (arith, two)
+      | inr (inl four) ↦ omega (arith, four)
+      | inr (inr (inl eight)) ↦ omega (arith, eight)
+      | inr (inr (inr sixteen)) ↦ omega (arith, sixteen)
+    ]
+
+-- the steps of a round fit
+pub group_fits : (v : ℕ) (p : PlainProgram) (ops : List PlainOp) (vs : List ℕ) (b q l : ℕ) → l < v →
+    All (StepFits p) (group_at v p ops vs b q) → All (StepFits p) (steps_at p ops (vs ++ (v * b + l) ∷ []) q)
+group_fits v p ops vs b q l below fits =
+    let round : ℕ → List Step = λ l. steps_at p ops (vs ++ (v * b + l) ∷ []) q in
+    all_of_members (StepFits p) (round l) (λ s has.
+    All-contains (StepFits p) (flat_map round (range_with_len 0 v)) s fits
+    (in-loop round 0 v l s (omega arith) (omega (arith, below)) has))
+
+-- the register that is put is one of the program's
+pub register_low : (p : PlainProgram) (next : ℕ) (op : PlainOp) (ws : List ℕ) (q : ℕ) → p.lanes ≡ 1 →
+    is_store op ≡ false → is_fresh 1 next op ≡ true → StepFits p (step_of p op ws q) → next < p.regs
+register_low p next (Store array place r) ws q alone puts fresh fits = absurd (true≢false puts)
+register_low p next (Load r array place) ws q alone puts fresh fits =
+    omega (arith, eqb-true r next fresh, fits.registers)
+register_low p next (Zero r) ws q alone puts fresh fits = omega (arith, eqb-true r next fresh, fits.registers)
+register_low p next (Add r x y) ws q alone puts fresh fits =
+    omega (arith, eqb-true r next (both_true (r == next) _ fresh).0, fits.registers.0)
+register_low p next (Sub r x y) ws q alone puts fresh fits =
+    omega (arith, eqb-true r next (both_true (r == next) _ fresh).0, fits.registers.0)
+register_low p next (Neg r x) ws q alone puts fresh fits =
+    omega (arith, eqb-true r next (both_true (r == next) _ fresh).0, fits.registers.0)
+register_low p next (MulConst r x factor) ws q alone puts fresh fits =
+    omega (arith, eqb-true r next (both_true (r == next) _ fresh).0, fits.registers.0)
+register_low p next (MulTable r x table place step) ws q alone puts fresh fits =
+    omega (arith, eqb-true r next (both_true (r == next) _ fresh).0, fits.registers.0)
+register_low p next (Tile r x) ws q alone puts fresh fits =
+    omega (arith, alone, eqb-true r next (both_true (r == next) _ fresh).0, fits.registers.0)
+
+-- the same parts, by what the test tells of a store
+pub parts_same : (a c : PlainParts) → same_parts a c ≡ true → a ≡ c
+parts_same a c h =
+    let to : Stored = record { array = X; parts = c } in
+    (store_told 0 to 0 X 0 a 0 (ap (λ t. t && nat_le (0 + 0) 0) h)).by
+
+-- ---- values
+
+-- a register that is put keeps its value
+pub values_stay : (m : ℕ) (memory xs : List ℕ) (acts : List Action) (k : ℕ) → k < length xs →
+    slice_index (values_put m memory xs acts) k ≡ slice_index xs k
+values_stay m memory xs [] k below = refl
+values_stay m memory xs (act ∷ acts) k below =
+    let put : List ℕ = value_put m 1 act (record { memory = memory; registers = xs }) in
+    let size = length-append xs put in
+    values_stay m memory (xs ++ put) acts k (omega (arith, below, size)) ∙ get_or_append_left xs put 0 k below
+
+-- ---- writes
+
+writes-first : (xs : List ℕ) (act : Action) (acts : List Action) →
+    writes_of xs (act ∷ acts) ≡ writes_of xs (act ∷ []) ++ writes_of xs acts
+writes-first xs (actions.Load r address) acts = refl
+writes-first xs (actions.Store address r) acts = refl
+writes-first xs (actions.Zero r) acts = refl
+writes-first xs (actions.Add r x y) acts = refl
+writes-first xs (actions.Sub r x y) acts = refl
+writes-first xs (actions.Neg r x) acts = refl
+writes-first xs (actions.Mul r x factors) acts = refl
+writes-first xs (actions.Tile r x) acts = refl
+
+-- operation by operation
+pub writes_split : (p : PlainProgram) (xs : List ℕ) (ops : List PlainOp) (ws : List ℕ) (q : ℕ) →
+    writes_of xs (actions_of (steps_at p ops ws q))
+    ≡ flat_map (λ op. writes_of xs ((step_of p op ws q).action ∷ [])) ops
+writes_split p xs [] ws q = refl
+writes_split p xs (op ∷ ops) ws q =
+    writes-first xs (step_of p op ws q).action (actions_of (steps_at p ops ws q))
+    ∙ ap (λ more. writes_of xs ((step_of p op ws q).action ∷ []) ++ more) (writes_split p xs ops ws q)
+
+-- ---- members of lists of lists, in either order
+
+more_members : {X Y : Type 0} (g h : X → List Y) (xs : List X) →
+    ((x : X) (y : Y) → Contains (g x) y → Contains (h x) y) →
+    (y : Y) → Contains (flat_map g xs) y → Contains (flat_map h xs) y
+more_members g h [] each y has = has
+more_members g h (x ∷ xs) each y has =
+    ⊎_elim
+    (λ (here : Contains (g x) y). Contains-append_left (h x) (flat_map h xs) y (each x y here))
+    (λ (later : Contains (flat_map g xs) y).
+    Contains-append_right (h x) (flat_map h xs) y (more_members g h xs each y later))
+    (Contains-append_cases (g x) (flat_map g xs) y has)
+
+pub members_turned : {X Y Z : Type 0} (g : X → Y → List Z) (xs : List X) (ys : List Y) (z : Z) →
+    Contains (flat_map (λ x. flat_map (g x) ys) xs) z → Contains (flat_map (λ y. flat_map (λ x. g x y) xs) ys) z
+members_turned g [] ys z has = absurd (Contains-nil z has)
+members_turned g (x ∷ xs) ys z has =
+    ⊎_elim
+    (λ (here : Contains (flat_map (g x) ys) z).
+    more_members (g x) (λ y. g x y ++ flat_map (λ w. g w y) xs) ys
+    (λ y z in_x. Contains-append_left (g x y) (flat_map (λ w. g w y) xs) z in_x) z here)
+    (λ (later : Contains (flat_map (λ w. flat_map (g w) ys) xs) z).
+    more_members (λ y. flat_map (λ w. g w y) xs) (λ y. g x y ++ flat_map (λ w. g w y) xs) ys
+    (λ y z in_xs. Contains-append_right (g x y) (flat_map (λ w. g w y) xs) z in_xs) z (members_turned g xs ys z later))
+    (Contains-append_cases (flat_map (g x) ys) (flat_map (λ w. flat_map (g w) ys) xs) z has)

@@ -1,0 +1,243 @@
+-- What the tests of lanes tell of the operations of rounds.
+use Rattle.std.proofs.Common.{◌≡◌, ℕ, ◌+◌, ◌<◌, ◌≤◌, true, false, List, [], ◌∷◌, ◌++◌, take, All, Some, None, Option, refl, ap, ap₂, ◌∙◌, subst, arith, inl, inr, ⊎_elim, take-append-drop}
+use Rattle.std.specs.Prelude.{◌==◌, slice_index}
+use Rattle.std.specs.List.{list_all}
+use Rattle.std.proofs.lemmas.Bool.{not-true, or_cases}
+use Rattle.std.proofs.lemmas.List.Elements.{All-head, All-tail}
+use Rattle.icode.specs.declared.program.Array.{Array}
+use Rattle.icode.specs.Actions.{Step, StepFits, actions_of, array_start, step_of, steps_of_body}
+use Rattle.icode.specs.Expression.{sum_numbers, parts_numbers}
+use Rattle.icode.specs.Machine.{whole_lines}
+use Rattle.icode.specs.Plain.{PlainOp, PlainProgram, Sum, Load, Store, Zero, Add, Sub, Neg, MulConst, MulTable, Tile}
+use Rattle.icode.proofs.Bools.{both_true}
+use Rattle.fast_loops.specs.Places.{are_linear, stride, same_parts}
+use Rattle.fast_loops.specs.Rounds.{Stored, same_array, are_fresh}
+use Rattle.fast_loops.proofs.Acts.{IsRound}
+use Rattle.fast_loops.proofs.Linear.{wrong}
+use Rattle.fast_loops.proofs.Rows.{round_acts}
+use Rattle.fast_loops.specs.LoopLanes.Rounds.{straight, is_by_lane, stores, others, stored_registers, stored_constants, are_rows}
+use Rattle.fast_loops.specs.LoopLanes.Columns.{Columns, Factors, plain_columns, factored_columns, first_factors, front_length, last_products, are_products, are_by, are_tiles, are_columns, are_plain_columns, are_factored_columns}
+use Rattle.fast_loops.specs.LoopLanes.Lanes.{can_lane}
+use Rattle.fast_loops.specs.LoopLanes.Layers.{Write, steps_at, writes_of}
+use Rattle.fast_loops.proofs.LoopLanes.Arrays.{IsOutside, same_start, other_outside}
+use Rattle.fast_loops.proofs.LoopLanes.Orders.{parts_same}
+use Rattle.fast_loops.proofs.LoopLanes.OneLane.{IsPlaced, ArePlaced, IsLaneRound}
+
+-- ---- three kinds of rounds
+
+pub data IsOneOf (v loop : ℕ) (to : Stored) (ops : List PlainOp) : Type 0 where
+  InRows : are_rows v loop to ops ≡ true → IsOneOf v loop to ops
+  InColumns : are_plain_columns v loop to ops ≡ true → IsOneOf v loop to ops
+  InFactoredColumns : are_factored_columns v loop to ops ≡ true → IsOneOf v loop to ops
+
+pub kind_of : (v loop : ℕ) (to : Stored) (ops : List PlainOp) →
+    can_lane v loop (Some to) ops ≡ true → IsOneOf v loop to ops
+kind_of v loop to ops h =
+    elim (or_cases (are_rows v loop to ops) _ (both_true (are_linear 0 to.parts) _ h).1) [
+      | inl rows ↦ InRows rows
+      | inr columns ↦
+          elim (or_cases (are_plain_columns v loop to ops) (are_factored_columns v loop to ops) columns) [
+            | inl plain ↦ InColumns plain
+            | inr factored ↦ InFactoredColumns factored
+          ]
+    ]
+
+-- ---- what holds of operations of all kinds
+
+-- loads are from another array than the stores, and these are all by the same parts
+abbrev pub IsTold : Stored → PlainOp → Type 0
+IsTold to (Load r array place) = same_array array to.array ≡ false
+IsTold to (Store array (Sum constant parts) r) = (same_array array to.array ≡ true) × (parts ≡ to.parts)
+IsTold to (Zero r) = Unit {0}
+IsTold to (Add r x y) = Unit {0}
+IsTold to (Sub r x y) = Unit {0}
+IsTold to (Neg r x) = Unit {0}
+IsTold to (MulConst r x factor) = Unit {0}
+IsTold to (MulTable r x table place step) = Unit {0}
+IsTold to (Tile r x) = ⊥
+
+abbrev pub AreTold : Stored → List PlainOp → Type 0
+AreTold to [] = Unit {0}
+AreTold to (op ∷ ops) = IsTold to op × AreTold to ops
+
+told-op : (loop : ℕ) (to : Stored) (op : PlainOp) → is_by_lane loop to op ≡ true → IsTold to op
+told-op loop to (Load r array place) h = not-true (same_array array to.array) (both_true _ _ h).0
+told-op loop to (Store array (Sum constant parts) r) h =
+    let two = both_true (same_array array to.array) (same_parts parts to.parts) h in
+    (two.0, parts_same parts to.parts two.1)
+told-op loop to (Zero r) h = tt
+told-op loop to (Add r x y) h = tt
+told-op loop to (Sub r x y) h = tt
+told-op loop to (Neg r x) h = tt
+told-op loop to (MulConst r x factor) h = tt
+told-op loop to (MulTable r x table place step) h = tt
+told-op loop to (Tile r x) h = wrong h
+
+told-all : (loop : ℕ) (to : Stored) (ops : List PlainOp) → list_all (is_by_lane loop to) ops ≡ true → AreTold to ops
+told-all loop to [] h = tt
+told-all loop to (op ∷ ops) h =
+    let two = both_true (is_by_lane loop to op) (list_all (is_by_lane loop to) ops) h in
+    (told-op loop to op two.0, told-all loop to ops two.1)
+
+told-split : (to : Stored) (ops : List PlainOp) → AreTold to (stores ops) → AreTold to (others ops) → AreTold to ops
+told-split to [] s o = tt
+told-split to (Load r array place ∷ ops) s o = (o.0, told-split to ops s o.1)
+told-split to (Store array place r ∷ ops) s o = (s.0, told-split to ops s.1 o)
+told-split to (Zero r ∷ ops) s o = (tt, told-split to ops s o.1)
+told-split to (Add r x y ∷ ops) s o = (tt, told-split to ops s o.1)
+told-split to (Sub r x y ∷ ops) s o = (tt, told-split to ops s o.1)
+told-split to (Neg r x ∷ ops) s o = (tt, told-split to ops s o.1)
+told-split to (MulConst r x factor ∷ ops) s o = (tt, told-split to ops s o.1)
+told-split to (MulTable r x table place step ∷ ops) s o = (tt, told-split to ops s o.1)
+told-split to (Tile r x ∷ ops) s o = absurd o.0
+
+told-append : (to : Stored) (xs ys : List PlainOp) → AreTold to xs → AreTold to ys → AreTold to (xs ++ ys)
+told-append to [] ys h k = k
+told-append to (x ∷ xs) ys h k = (h.0, told-append to xs ys h.1 k)
+
+told-products : (to : Stored) (by : Factors) (bound k : ℕ) (ops : List PlainOp) →
+    are_products by bound k ops ≡ true → AreTold to ops
+told-products to by bound k [] h = tt
+told-products to by bound k (MulTable r x table (Sum constant parts) step ∷ ops) h =
+    (tt, told-products to by bound (k + 1) ops (both_true _ (are_products by bound (k + 1) ops) h).1)
+told-products to by bound k (_ ∷ ops) h = wrong h
+
+told-by : (v loop : ℕ) (to : Stored) (ops : List PlainOp) (by : Option Factors) →
+    are_by v loop ops by ≡ true → AreTold to (last_products ops)
+told-by v loop to ops None h = wrong h
+told-by v loop to ops (Some by) h =
+    told-products to by (front_length ops) 0 (last_products ops)
+    (both_true (are_products by (front_length ops) 0 (last_products ops)) _ (both_true _ _ h).1).0
+
+-- the tests of stores and of the front of columns
+by-lanes : (v loop : ℕ) (to : Stored) (ops : List PlainOp) (c : Columns) → are_columns v loop to ops c ≡ true →
+    (list_all (is_by_lane loop to) (stores ops) ≡ true) × (list_all (is_by_lane loop to) c.front ≡ true)
+by-lanes v loop to ops c h =
+    let two = both_true (list_all (is_by_lane loop to) (stores ops)) _ (both_true (are_tiles v loop to ops c) _ h).1 in
+    (two.0, (both_true (list_all (is_by_lane loop to) c.front) _ two.1).0)
+
+pub told : (v loop : ℕ) (to : Stored) (ops : List PlainOp) → can_lane v loop (Some to) ops ≡ true → AreTold to ops
+told v loop to ops h = of_kind (kind_of v loop to ops h)
+  where
+    of_kind : IsOneOf v loop to ops → AreTold to ops
+    of_kind (InRows rows) =
+        let two = both_true (stride loop to.parts == 1) _ rows in
+        told-all loop to ops (both_true (list_all (is_by_lane loop to) ops) _ two.1).0
+    of_kind (InColumns plain) =
+        let two = by-lanes v loop to ops (plain_columns ops) plain in
+        told-split to ops (told-all loop to (stores ops) two.0) (told-all loop to (others ops) two.1)
+    of_kind (InFactoredColumns factored) =
+        let both = both_true (are_by v loop ops (first_factors (last_products ops))) _ factored in
+        let two = by-lanes v loop to ops (factored_columns ops) both.1 in
+        told-split to ops
+        (told-all loop to (stores ops) two.0)
+        (subst (AreTold to) (take-append-drop (front_length ops) (others ops))
+        (told-append to (take (front_length ops) (others ops)) (last_products ops)
+        (told-all loop to (take (front_length ops) (others ops)) two.1)
+        (told-by v loop to ops (first_factors (last_products ops)) both.0)))
+
+-- ---- arrays
+
+-- the word stands in the array
+abbrev pub IsIn : ℕ → Array → ℕ → Type 0
+IsIn words a k = (array_start words a ≤ k) × (k < array_start words a + words)
+
+never-in : (words : ℕ) (array : Array) (k : ℕ) → IsOutside words array k → IsIn words array k → ⊥
+never-in words array k outside inside =
+    ⊎_elim
+    (λ (h : k < array_start words array). omega (arith, h, inside.0))
+    (λ (h : array_start words array + words ≤ k). omega (arith, h, inside.1))
+    outside
+
+-- ---- the actions of a round
+
+-- the words of the array that is stored into
+abbrev pub IsInto : PlainProgram → Stored → ℕ → Type 0
+IsInto p to = IsIn (whole_lines p.size p.line) to.array
+
+placed-op : (p : PlainProgram) (to : Stored) (op : PlainOp) (ws : List ℕ) (q : ℕ) → p.lanes ≡ 1 → IsTold to op →
+    StepFits p (step_of p op ws q) → IsPlaced (IsInto p to) p.regs (step_of p op ws q).action
+placed-op p to (Load r array place) ws q alone is fits =
+    let words : ℕ = whole_lines p.size p.line in
+    let room = fits.place in (
+      fits.registers,
+      λ into.
+          let k : ℕ = array_start words array + (sum_numbers place ws q).value in
+          never-in words to.array k
+          (other_outside words array to.array k is (omega arith) (omega (arith, room, alone))) into,
+    )
+placed-op p to (Store array (Sum constant parts) r) ws q alone is fits =
+    let words : ℕ = whole_lines p.size p.line in
+    let room = fits.place in
+    let start = same_start words array to.array is.0 in
+    (omega (arith, start), omega (arith, start, room, alone))
+placed-op p to (Zero r) ws q alone is fits = fits.registers
+placed-op p to (Add r x y) ws q alone is fits = fits.registers.0
+placed-op p to (Sub r x y) ws q alone is fits = fits.registers.0
+placed-op p to (Neg r x) ws q alone is fits = fits.registers.0
+placed-op p to (MulConst r x factor) ws q alone is fits = fits.registers.0
+placed-op p to (MulTable r x table place step) ws q alone is fits = fits.registers.0
+placed-op p to (Tile r x) ws q alone is fits = absurd is
+
+placed-ops : (p : PlainProgram) (to : Stored) (ops : List PlainOp) (ws : List ℕ) (q : ℕ) →
+    p.lanes ≡ 1 → AreTold to ops → All (StepFits p) (steps_at p ops ws q) →
+    ArePlaced (IsInto p to) p.regs (actions_of (steps_at p ops ws q))
+placed-ops p to [] ws q alone is fits = tt
+placed-ops p to (op ∷ ops) ws q alone is fits =
+    let first : Step = step_of p op ws q in
+    let more : List Step = steps_at p ops ws q in (
+      placed-op p to op ws q alone is.0 (All-head (StepFits p) first more fits),
+      placed-ops p to ops ws q alone is.1 (All-tail (StepFits p) first more fits),
+    )
+
+pub straight_steps : (p : PlainProgram) (ops : List PlainOp) (ws : List ℕ) (q : ℕ) →
+    steps_of_body p (straight ops) ws q ≡ steps_at p ops ws q
+straight_steps p [] ws q = refl
+straight_steps p (op ∷ ops) ws q = ap (λ steps. step_of p op ws q ∷ steps) (straight_steps p ops ws q)
+
+pub lane_round : (p : PlainProgram) (to : Stored) (ops : List PlainOp) (ws : List ℕ) (q : ℕ) → p.lanes ≡ 1 →
+    are_fresh 1 0 (straight ops) ≡ true → AreTold to ops → All (StepFits p) (steps_at p ops ws q) →
+    IsLaneRound (IsInto p to) p.regs (actions_of (steps_at p ops ws q))
+lane_round p to ops ws q alone fresh is fits =
+    record {
+      round =
+          subst (λ steps. IsRound 1 (actions_of steps)) (straight_steps p ops ws q)
+          (subst (λ lanes. IsRound lanes (actions_of (steps_of_body p (straight ops) ws q))) alone
+          (round_acts p q (straight ops) ws (ap (λ lanes. are_fresh lanes 0 (straight ops)) alone ∙ fresh)));
+      placed = placed-ops p to ops ws q alone is fits;
+    }
+
+-- ---- what a round stores
+
+-- values of these registers, into the words these constants behind a place
+abbrev pub stored_at : ℕ → List ℕ → List ℕ → List ℕ → List Write
+stored_at base zs [] rs = []
+stored_at base zs (c ∷ cs) [] = []
+stored_at base zs (c ∷ cs) (r ∷ rs) = record { word = base + c; value = slice_index zs r } ∷ stored_at base zs cs rs
+
+-- where the round stores
+abbrev pub store_base : PlainProgram → Stored → List ℕ → ℕ → ℕ
+store_base p to ws q = array_start (whole_lines p.size p.line) to.array + (parts_numbers to.parts ws q).value
+
+pub writes_are : (p : PlainProgram) (to : Stored) (ops : List PlainOp) (ws : List ℕ) (q : ℕ) (zs : List ℕ) →
+    AreTold to ops → writes_of zs (actions_of (steps_at p ops ws q))
+    ≡ stored_at (store_base p to ws q) zs (stored_constants ops) (stored_registers ops)
+writes_are p to [] ws q zs is = refl
+writes_are p to (Store array (Sum constant parts) r ∷ ops) ws q zs is =
+    let words : ℕ = whole_lines p.size p.line in
+    let start = same_start words array to.array is.0.0 in
+    let n : ℕ = (parts_numbers parts ws q).value in
+    let by : n ≡ (parts_numbers to.parts ws q).value = ap (λ parts. (parts_numbers parts ws q).value) is.0.1 in
+    let there : array_start words array + (constant + n) ≡ store_base p to ws q + constant =
+    omega (arith, start, by) in
+    ap₂ (λ (k : ℕ) (more : List Write). record { word = k; value = slice_index zs r } ∷ more)
+    there
+    (writes_are p to ops ws q zs is.1)
+writes_are p to (Load r array place ∷ ops) ws q zs is = writes_are p to ops ws q zs is.1
+writes_are p to (Zero r ∷ ops) ws q zs is = writes_are p to ops ws q zs is.1
+writes_are p to (Add r x y ∷ ops) ws q zs is = writes_are p to ops ws q zs is.1
+writes_are p to (Sub r x y ∷ ops) ws q zs is = writes_are p to ops ws q zs is.1
+writes_are p to (Neg r x ∷ ops) ws q zs is = writes_are p to ops ws q zs is.1
+writes_are p to (MulConst r x factor ∷ ops) ws q zs is = writes_are p to ops ws q zs is.1
+writes_are p to (MulTable r x table place step ∷ ops) ws q zs is = writes_are p to ops ws q zs is.1
+writes_are p to (Tile r x ∷ ops) ws q zs is = absurd is.0

@@ -1,0 +1,271 @@
+-- A product by an entry of the table, and the two products that it becomes.
+use Rattle.std.proofs.Common.{◌≡◌, ◌≢◌, ℕ, zero, suc, ◌+◌, ◌-◌, ◌*◌, ◌/◌, ◌%◌, ◌<◌, ◌≤◌, true, List, [], ◌∷◌, ◌++◌, All, map, replicate, length, refl, sym, ap, ap₂, ◌∙◌, subst, arith, eqb-true, ltb-true, length-append, mul-le-mul_left}
+use Rattle.std.specs.Prelude.{slice_index, slice_index_or, slice_set, nat_lt}
+use Rattle.std.specs.List.{range_with_len, list_all}
+use Rattle.std.proofs.lemmas.List.Elements.{All-nil, All-cons, All-append, All-map, All-replicate}
+use Rattle.operators.specs.Sum.{list_below}
+use Rattle.operators.proofs.Lists.{length-list_below, at-list_below}
+use Rattle.ring_mod.specs.Residue.{product_mod}
+use Rattle.icode.specs.declared.action.Action.{Action}
+use Rattle.icode.specs.declared.action.Action.TheVariants as actions
+use Rattle.icode.specs.Actions.{Step, StepFits, RegistersFit, step_of, lane_factors}
+use Rattle.icode.specs.Expression.{sum_numbers}
+use Rattle.icode.specs.Limits.{is_small_positive, is_small}
+use Rattle.icode.specs.Plain.{PlainExpr, PlainOp, PlainProgram, MulTable}
+use Rattle.icode.proofs.Bools.{both_true}
+use Rattle.fast_loops.specs.TwoTables.Factors.{Cut, first_factor, second_factor, first_place, second_place, is_cut}
+use Rattle.fast_loops.specs.TwoTables.Places.{is_even, place_in_first, place_in_second}
+use Rattle.fast_loops.specs.TwoTables.TwoTables.{has_room, is_usable, is_cut_well, can_split, in_factors, is_body_even}
+use Rattle.fast_loops.proofs.TwoTables.Dividing.{IsInBlock, in_block}
+use Rattle.fast_loops.proofs.TwoTables.Walked.{AreFactors, IsProduct, walked, table_small}
+use Rattle.fast_loops.proofs.TwoTables.Listed.{set-length, at-front, at-end, set-there, set-elsewhere, is-there}
+use Rattle.fast_loops.proofs.TwoTables.Placed.{place_even, first_value, first_peak, second_value, second_peak}
+use Rattle.fast_loops.proofs.TwoTables.Registers.{like_after, like_products}
+use Rattle.fast_loops.proofs.TwoTables.Replaced.{AreFor}
+
+-- ---- the factors of lanes
+
+front : (xs ys : List ℕ) (i : ℕ) → i < length xs → slice_index (xs ++ ys) i ≡ slice_index xs i
+front [] ys i lt = absurd (omega arith)
+front (x ∷ xs) ys zero lt = refl
+front (x ∷ xs) ys (suc i) lt = front xs ys i (omega arith)
+
+factor_at : (lanes : ℕ) (f : ℕ → ℕ) (lane : ℕ) → lane < lanes → slice_index (lane_factors lanes f) lane ≡ f lane
+factor_at lanes f lane lt =
+    front (list_below lanes f) (replicate (16 - lanes) 0) lane (let size = length-list_below lanes f in omega (arith, size, lt)) ∙ at-list_below lanes f lane lt
+
+factor_each : (lanes : ℕ) (f : ℕ → ℕ) → lanes ≤ length (lane_factors lanes f)
+factor_each lanes f =
+    let whole = length-append (list_below lanes f) (replicate (16 - lanes) 0) in
+    let own = length-list_below lanes f in
+    omega (arith, whole, own)
+
+factors_small : (m lanes : ℕ) (f : ℕ → ℕ) → 0 < m → ((lane : ℕ) → f lane < m) → All (λ c. c < m) (lane_factors lanes f)
+factors_small m lanes f some h =
+    All-append (λ c. c < m) (map f (range_with_len 0 lanes)) (replicate (16 - lanes) 0)
+    (All-map (λ c. c < m) f (range_with_len 0 lanes) (λ k d lt. h _))
+    (All-replicate (λ c. c < m) (16 - lanes) 0 some)
+
+-- ---- one more register
+
+more_registers : (regs lanes : ℕ) (a : Action) → RegistersFit regs lanes a → RegistersFit (regs + 1) lanes a
+more_registers regs lanes (actions.Load r address) h = omega (arith, h)
+more_registers regs lanes (actions.Store address r) h = omega (arith, h)
+more_registers regs lanes (actions.Zero r) h = omega (arith, h)
+more_registers regs lanes (actions.Add r x y) h = (omega (arith, h.0), omega (arith, h.1), omega (arith, h.2))
+more_registers regs lanes (actions.Sub r x y) h = (omega (arith, h.0), omega (arith, h.1), omega (arith, h.2))
+more_registers regs lanes (actions.Neg r x) h = (omega (arith, h.0), omega (arith, h.1))
+more_registers regs lanes (actions.Mul r x factors) h = (omega (arith, h.0), omega (arith, h.1))
+more_registers regs lanes (actions.Tile r x) h = (omega (arith, h.0), omega (arith, h.1), h.2)
+
+small_step : (step a b : ℕ) → step < 2 → a ≤ b → step * a ≤ b
+small_step zero a b low le = omega arith
+small_step (suc zero) a b low le = omega (arith, le)
+small_step (suc (suc step)) a b low le = absurd (omega (arith, low))
+
+-- ---- a program that can be split
+
+pub record IsSplit (p : PlainProgram) (table : ℕ) (cut : Cut) : Type 0 where
+  pub lanes : 1 < p.lanes
+  pub wide : 0 < cut.width
+  pub whole : cut.width % p.lanes ≡ 0
+  pub even : list_all (is_body_even p.lanes table) p.phases ≡ true
+  pub factors : let entries = slice_index_or p.tables table [] in
+      AreFactors p.modulus cut (first_factor cut entries) (second_factor cut entries) entries
+
+pub what_splits : (p : PlainProgram) (table : ℕ) (cut : Cut) → can_split p table cut ≡ true → IsSplit p table cut
+what_splits p table cut can =
+    let entries : List ℕ = slice_index_or p.tables table [] in
+    let both = both_true (is_usable p table cut) (is_cut_well p table cut) can in
+    let a = both_true (has_room p) _ both.0 in
+    let b = both_true (is_cut p.lanes cut) (list_all (is_body_even p.lanes table) p.phases) a.1 in
+    let width = both_true (is_small_positive cut.width) _ b.0 in
+    let across = both_true (is_small_positive cut.across) _ width.1 in
+    record {
+      lanes = ltb-true 1 p.lanes (both_true (nat_lt 1 p.lanes) _ a.0).0;
+      wide = ltb-true 0 cut.width (both_true (nat_lt 0 cut.width) (is_small cut.width) width.0).0;
+      whole = eqb-true (cut.width % p.lanes) 0 across.1;
+      even = b.1;
+      factors = walked p.modulus cut (first_factor cut entries) (second_factor cut entries) entries both.1;
+    }
+
+module _ (p : PlainProgram) (table : ℕ) (cut : Cut) (is : IsSplit p table cut) where
+  abbrev q : PlainProgram
+  q = in_factors p table cut
+
+  abbrev entries : List ℕ
+  entries = slice_index_or p.tables table []
+
+  abbrev first : List ℕ
+  first = first_factor cut entries
+
+  abbrev second : List ℕ
+  second = second_factor cut entries
+
+  -- ---- steps that stay
+
+  kept : (s : Step) → StepFits p s → AreFor p q (s ∷ []) (s ∷ [])
+  kept s fit =
+      record {
+        fits = All-cons (StepFits q) s []
+            (record { numbers = fit.numbers; place = fit.place; registers = more_registers p.regs p.lanes s.action fit.registers; factors = fit.factors })
+            (All-nil (StepFits q));
+        few = omega arith;
+        like = λ a b like. like_after p.modulus p.lanes p.regs s.action a b fit.registers like;
+        words = λ f others. refl;
+      }
+
+  kept_as : (s t : Step) → t ≡ s → StepFits p s → AreFor p q (t ∷ []) (s ∷ [])
+  kept_as s t e fit = subst (λ z. AreFor p q (z ∷ []) (s ∷ [])) (sym e) (kept s fit)
+
+  -- another table is as it was
+  other_table : (of : ℕ) → of ≢ table → of < length p.tables → slice_index_or q.tables of [] ≡ slice_index_or p.tables of []
+  other_table of ne lt =
+      at-front (slice_set p.tables table first) (second ∷ []) of (let size = set-length p.tables table first in omega (arith, size, lt))
+      ∙ set-elsewhere p.tables table of first ne
+
+  pub other_product : (r x of : ℕ) (place : PlainExpr) (step : ℕ) (vs : List ℕ) (i : ℕ) → of ≢ table → StepFits p (step_of p (MulTable r x of place step) vs i) →
+      AreFor p q (step_of q (MulTable r x of place step) vs i ∷ []) (step_of p (MulTable r x of place step) vs i ∷ [])
+  other_product r x of place step vs i ne fit =
+      let reach = fit.place in
+      let same = other_table of ne (is-there p.tables of (omega (arith, reach))) in
+      let at = sum_numbers place vs i in
+      let with_entries : List ℕ → Step = λ es.
+      record {
+        action = actions.Mul r x (lane_factors p.lanes (λ lane. slice_index es (at.value + step * lane)));
+        peak = at.peak;
+        reach = at.value + step * (p.lanes - 1) + 1;
+        room = length es;
+      } in
+      kept_as (step_of p (MulTable r x of place step) vs i) (step_of q (MulTable r x of place step) vs i) (ap with_entries same) fit
+
+  pub other_step : (op : PlainOp) (vs : List ℕ) (i : ℕ) → step_of q op vs i ≡ step_of p op vs i → StepFits p (step_of p op vs i) →
+      AreFor p q (step_of q op vs i ∷ []) (step_of p op vs i ∷ [])
+  other_step op vs i e fit = kept_as (step_of p op vs i) (step_of q op vs i) e fit
+
+  -- ---- two products in place of one
+
+  module _ (r x : ℕ) (place : PlainExpr) (step : ℕ) (vs : List ℕ) (i : ℕ) (low : step < 2) (even : is_even p.lanes place ≡ true)
+      (fit : StepFits p (step_of p (MulTable r x table place step) vs i)) where
+    abbrev at : ℕ
+    at = (sum_numbers place vs i).value
+
+    some : table < length p.tables
+    some = let reach = fit.place in is-there p.tables table (omega (arith, reach))
+
+    in_first : slice_index_or q.tables table [] ≡ first
+    in_first =
+        at-front (slice_set p.tables table first) (second ∷ []) table (let size = set-length p.tables table first in omega (arith, size, some))
+        ∙ set-there p.tables table first some
+
+    in_second : slice_index_or q.tables (length p.tables) [] ≡ second
+    in_second = at-end (slice_set p.tables table first) second (length p.tables) (sym (set-length p.tables table first))
+
+    -- the entry of a lane
+    lane_low : (lane : ℕ) → lane < p.lanes → step * lane < p.lanes
+    lane_low lane lt = let a = small_step step lane (p.lanes - 1) low (omega (arith, lt)) in omega (arith, a, lt)
+
+    lane_in : (lane : ℕ) → lane < p.lanes → at + step * lane < length entries
+    lane_in lane lt =
+        let le : lane ≤ p.lanes - 1 = omega (arith, lt) in
+        let a = mul-le-mul_left step le in
+        let reach = fit.place in
+        omega (arith, a, reach)
+
+    block : (lane : ℕ) → lane < p.lanes → IsInBlock cut.width at (step * lane)
+    block lane lt =
+        let many = is.lanes in
+        in_block cut.width p.lanes at (step * lane) (omega (arith, many)) is.wide (place_even p.lanes place vs i even) is.whole (lane_low lane lt)
+
+    product : (lane : ℕ) → lane < p.lanes → IsProduct p.modulus cut first second entries (at + step * lane)
+    product lane lt = is.factors.each (at + step * lane) (lane_in lane lt)
+
+    abbrev at_first : ℕ
+    at_first = (sum_numbers (place_in_first cut place) vs i).value
+
+    abbrev at_second : ℕ
+    at_second = (sum_numbers (place_in_second cut place) vs i).value
+
+    first_is : (lane : ℕ) → lane < p.lanes → at_first ≡ first_place cut (at + step * lane)
+    first_is lane lt = first_value cut place vs i ∙ sym (block lane lt).block
+
+    second_is : (lane : ℕ) → lane < p.lanes → at_second + step * lane ≡ second_place cut (at + step * lane)
+    second_is lane lt =
+        let b = block lane lt in
+        let rows : (at + step * lane) / cut.width / cut.across * cut.width ≡ at / cut.width / cut.across * cut.width = ap (λ n. n / cut.across * cut.width) b.block in
+        let there = b.place in
+        let value = second_value cut place vs i in
+        omega (arith, rows, there, value)
+
+    abbrev one : Step
+    one = step_of q (MulTable p.regs x table (place_in_first cut place) 0) vs i
+
+    abbrev two : Step
+    two = step_of q (MulTable r p.regs (length p.tables) (place_in_second cut place) step) vs i
+
+    abbrev factors_one : ℕ → ℕ
+    factors_one lane = slice_index (slice_index_or q.tables table []) (at_first + 0 * lane)
+
+    abbrev factors_two : ℕ → ℕ
+    factors_two lane = slice_index (slice_index_or q.tables (length p.tables) []) (at_second + step * lane)
+
+    abbrev factors_of : ℕ → ℕ
+    factors_of lane = slice_index entries (at + step * lane)
+
+    last : p.lanes - 1 < p.lanes
+    last = let many = is.lanes in omega (arith, many)
+
+    one_fits : StepFits q one
+    one_fits =
+        let peak = first_peak cut place vs i in
+        let whole = fit.numbers in
+        let there = (product (p.lanes - 1) last).first_there in
+        let here = first_is (p.lanes - 1) last in
+        let size = ap (λ (es : List ℕ). length es) in_first in
+        record {
+          numbers = omega (arith, peak, whole);
+          place = omega (arith, there, here, size);
+          registers = let fits = fit.registers in (omega arith, omega (arith, fits.1));
+          factors = factors_small p.modulus p.lanes factors_one is.factors.some
+              (λ lane. subst (λ es. slice_index es (at_first + 0 * lane) < p.modulus) (sym in_first) (table_small p.modulus first (at_first + 0 * lane) is.factors.first_small));
+        }
+
+    two_fits : StepFits q two
+    two_fits =
+        let peak = second_peak cut place vs i in
+        let whole = fit.numbers in
+        let there = (product (p.lanes - 1) last).second_there in
+        let here = second_is (p.lanes - 1) last in
+        let size = ap (λ (es : List ℕ). length es) in_second in
+        record {
+          numbers = omega (arith, peak, whole);
+          place = omega (arith, there, here, size);
+          registers = let fits = fit.registers in (omega (arith, fits.0), omega arith);
+          factors = factors_small p.modulus p.lanes factors_two is.factors.some
+              (λ lane. subst (λ es. slice_index es (at_second + step * lane) < p.modulus) (sym in_second) (table_small p.modulus second (at_second + step * lane) is.factors.second_small));
+        }
+
+    each : (lane : ℕ) → lane < p.lanes →
+        product_mod p.modulus (slice_index (lane_factors p.lanes factors_one) lane) (slice_index (lane_factors p.lanes factors_two) lane)
+        ≡ slice_index (lane_factors p.lanes factors_of) lane
+    each lane lt =
+        let left : at_first + 0 * lane ≡ first_place cut (at + step * lane) = let e = first_is lane lt in omega (arith, e) in
+        ap₂ (product_mod p.modulus)
+        (factor_at p.lanes factors_one lane lt ∙ ap₂ (λ es k. slice_index es k) in_first left)
+        (factor_at p.lanes factors_two lane lt ∙ ap₂ (λ es k. slice_index es k) in_second (second_is lane lt))
+        ∙ (product lane lt).product
+        ∙ sym (factor_at p.lanes factors_of lane lt)
+
+    pub products : AreFor p q (one ∷ two ∷ []) (step_of p (MulTable r x table place step) vs i ∷ [])
+    products =
+        record {
+          fits = All-cons (StepFits q) one (two ∷ []) one_fits (All-cons (StepFits q) two [] two_fits (All-nil (StepFits q)));
+          few = omega arith;
+          like = λ s t like.
+              like_products p.modulus p.lanes p.regs r x (lane_factors p.lanes factors_one) (lane_factors p.lanes factors_two) (lane_factors p.lanes factors_of) s t
+              (let fits = fit.registers in fits.1) (factor_each p.lanes factors_one) (factor_each p.lanes factors_two) (factor_each p.lanes factors_of) each like;
+          words = λ f others.
+              ap (λ xs. xs ++ (f two.action ++ [])) (others p.regs x (lane_factors p.lanes factors_one))
+              ∙ (ap (λ xs. xs ++ []) (others r p.regs (lane_factors p.lanes factors_two))
+              ∙ sym (ap (λ xs. xs ++ []) (others r x (lane_factors p.lanes factors_of))));
+        }

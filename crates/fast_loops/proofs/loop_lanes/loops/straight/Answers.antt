@@ -1,0 +1,13 @@
+use Rattle.std.proofs.Common.{◌∙◌, refl, sym, ap, arith}
+use Rattle.icode.specs.Plain.{plain_stmt, Do, body_of}
+use Rattle.fast_loops.specs.LoopLanes.View.{plain_ops}
+use Rattle.fast_loops.proofs.LoopLanes.Made.{straight_is, whole}
+use Rattle.fast_loops.proofs.loop_lanes.loops.straight.Goals as goal
+use Rattle.std.specs.Prelude.{map}
+use Rattle.icode.specs.declared.program.Op.{Op}
+use Rattle.std.proofs.Common.{List}
+
+pub returns : goal.returns
+returns c =
+    ap body_of (whole (λ (ops : List Op). map Do (plain_ops ops)) c.loop-op.op-index c.args.ops.now (map plain_stmt c.loop-op.stmts.items) (omega (arith, c.loop-op-test.false)) c.loop-op.invariant refl)
+    ∙ sym (straight_is (plain_ops c.args.ops.now))

@@ -1,0 +1,7 @@
+pub mod TwoTables
+pub mod LoopLanes
+pub mod Places
+pub mod Rounds
+pub mod Interchange
+pub mod Laws
+pub mod View

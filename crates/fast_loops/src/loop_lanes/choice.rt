@@ -1,0 +1,146 @@
+// Which way a number of rounds becomes one of lanes, and its operations.
+
+ghost use Rattle.std.specs.Prelude.{◌≡◌, ◌-◌, ◌<◌, ◌≤◌, ◌^◌, ◌*◌, true, length, IfOk};
+ghost use Rattle.std.specs.List.{list_all};
+ghost use Rattle.icode.specs.Plain.{plain_body};
+ghost use Rattle.fast_loops.specs.Places.{stride};
+ghost use Rattle.fast_loops.specs.View.{plain_parts, stored_into};
+ghost use Rattle.fast_loops.specs.LoopLanes.Rounds.{ops_in, stores, others, is_by_lane};
+ghost use Rattle.fast_loops.specs.LoopLanes.View.{plain_ops, plain_factors, are_factors, stored_target, ops_made, rows_of, ops_if, factored_if};
+
+use crate::loop_lanes::columns::{
+    Columns, Factors, Group, Target, are_columns, are_products, count_stores, factored_registers,
+    first_factors, others,
+};
+use crate::loop_lanes::rounds::{
+    are_from, are_rows, put_in_row, stored_constants, stored_registers,
+};
+use crate::loop_lanes::tiles::column_ops;
+use crate::{are_linear, stride};
+use icode::program::{Op, Stmt};
+use memory::NoMemory;
+use std::alloc::Global;
+
+// Copies of the operations.
+fn copied_ops(alloc: Global, round: &[Stmt]) -> Result<Vec<Op>, NoMemory>
+    ensures { IfOk result (λ ops. plain_ops ops.items ≡ ops_in (plain_body round.now)) }
+{
+    let mut ops = Vec::new(alloc);
+    for stmt in round {
+        if let Stmt::Do(op) = stmt {
+            ops.push(op.copied(alloc)?)?;
+        }
+    }
+    Ok(ops)
+}
+
+// The operations in rows.
+fn rows(alloc: Global, group: Group, target: Target<'_>, ops: &[Op]) -> Result<Vec<Op>, NoMemory>
+    requires few { group.lanes ≤ 16 }
+    requires unit { stride group.depth (plain_parts target.parts.now) ≡ 1 }
+    requires by_lane { list_all (is_by_lane group.depth (stored_target target)) (plain_ops ops.now) ≡ true }
+    ensures { IfOk result (λ rows. plain_ops rows.items ≡ rows_of group.lanes group.depth (plain_ops ops.now)) }
+{
+    let mut rows = Vec::new(alloc);
+    for op in ops {
+        let mut copy = op.copied(alloc)?;
+        put_in_row(group.lanes, group.depth, &mut copy);
+        rows.push(copy)?;
+    }
+    Ok(rows)
+}
+
+// Whether these are products by the factors of registers below the bound, and are stored in their order, so many in number.
+fn are_factors(
+    group: Group,
+    by: Factors<'_>,
+    bound: u64,
+    count: u64,
+    products: &[Op],
+    stored: &[u64],
+) -> bool
+    ensures { result ≡ are_factors group.lanes group.depth (plain_factors by.entry) bound count (plain_ops products.now) stored.now }
+{
+    let width = group.lanes as u128 * stride(group.depth, by.parts) as u128;
+    (are_linear(by.parts) && by.constant as u128 + (count as u128 + width) < (1 << 32))
+        && (are_products(by, bound, products) && are_from(bound as u128, stored))
+}
+
+// The operations in columns that are multiplied behind the tiles, if they can be so.
+fn factored(
+    alloc: Global,
+    group: Group,
+    regs: u64,
+    target: Target<'_>,
+    round: &[Stmt],
+    ops: &[Op],
+) -> Result<Option<Vec<Op>>, NoMemory>
+    requires some { 1 ≤ group.lanes }
+    requires few { group.lanes ≤ 16 }
+    requires registers { regs < 2 ^ 20 }
+    requires ops { plain_ops ops.now ≡ others (ops_in (plain_body round.now)) }
+    ensures { IfOk result (λ made. ops_made made
+        ≡ factored_if group.lanes regs group.depth (stored_target target.entry) (ops_in (plain_body round.now))) }
+{
+    let count = count_stores(round);
+    let stored = stored_registers(alloc, round)?;
+    let bound = (ops.len() as u64).saturating_sub(count);
+    let (front, products) = ops.split_at(bound as usize);
+    let Some(by) = first_factors(products) else {
+        return Ok(None);
+    };
+    let turned = factored_registers(alloc, products)?;
+    let columns = Columns {
+        front,
+        turned: &turned,
+        by: Some(by),
+    };
+    if are_factors(group, by, bound, count, products, &stored)
+        && are_columns(group, target.array, target.parts, round, columns)
+    {
+        return Ok(Some(column_ops(alloc, group, regs, target, columns)?));
+    }
+    Ok(None)
+}
+
+/// The operations of rounds that become lanes, on registers below this one, if they can.
+pub(crate) fn laned_ops(
+    alloc: Global,
+    group: Group,
+    regs: u64,
+    target: Target<'_>,
+    round: &[Stmt],
+) -> Result<Option<Vec<Op>>, NoMemory>
+    requires some { 1 ≤ group.lanes }
+    requires few { group.lanes ≤ 16 }
+    requires registers { regs < 2 ^ 20 }
+    ensures { IfOk result (λ made. ops_made made
+        ≡ ops_if group.lanes regs group.depth (stored_target target.entry) (ops_in (plain_body round.now))) }
+{
+    if !are_linear(target.parts) {
+        return Ok(None);
+    }
+    let constants = stored_constants(alloc, round)?;
+    if are_rows(
+        group.lanes,
+        group.depth,
+        target.array,
+        target.parts,
+        round,
+        &constants,
+    ) {
+        let ops = copied_ops(alloc, round)?;
+        return Ok(Some(rows(alloc, group, target, &ops)?));
+    }
+    let front = others(alloc, round)?;
+    let turned = stored_registers(alloc, round)?;
+    let columns = Columns {
+        front: &front,
+        turned: &turned,
+        by: None,
+    };
+    if are_columns(group, target.array, target.parts, round, columns) {
+        return Ok(Some(column_ops(alloc, group, regs, target, columns)?));
+    }
+    factored(alloc, group, regs, target, round, &front)
+}

@@ -1,0 +1,96 @@
+-- What the words of a command line ask for.
+use Rattle.std.specs.Prelude.{◌≡◌, ◌⊎◌, ℕ, ◌==◌, ◌&&◌, ◌||◌, nat_le, not, Bool, true, false, List, [], ◌∷◌, length, Option, Some, None, codes, if◌then◌else◌}
+use Rattle.std.specs.List.{list_all}
+use Rattle.std.specs.Option.{option_map_or}
+use Rattle.std.specs.Str.{bytes_eq}
+use Rattle.clap.specs.Words.{Row, Text, fault_of, first_of, matches_of}
+use Rattle.clap.specs.Walk.{is_empty}
+use Rattle.word_code.specs.declared.choose.WordSize.{WordSize}
+use Rattle.word_code.specs.declared.choose.WordSize.TheVariants.{Any, Of32, Of52, Of64}
+use Rattle.word_code.specs.WordPrint.TextForm.{TextForm, with_arrays, named_function, named_header}
+use Rattle.fast_main.specs.FastWords.CommandLine.{fast_app}
+
+-- ---- words of a size
+
+abbrev pub size_named : Text → Option WordSize
+size_named word =
+    if bytes_eq word (codes "32") then Some Of32
+    else (if bytes_eq word (codes "52") then Some Of52
+    else (if bytes_eq word (codes "64") then Some Of64 else None))
+
+-- without the option any will do
+abbrev pub size_in : List Row → Option WordSize
+size_in rows = option_map_or size_named (first_of (codes "words") rows) (Some Any)
+
+-- ---- lanes
+
+abbrev pub lanes_named : Text → Option ℕ
+lanes_named word =
+    if bytes_eq word (codes "2") then Some 2
+    else (if bytes_eq word (codes "4") then Some 4
+    else (if bytes_eq word (codes "8") then Some 8
+    else (if bytes_eq word (codes "16") then Some 16 else None)))
+
+-- one, or one of these
+abbrev pub IsLaneCount : ℕ → Type 0
+IsLaneCount lanes = (lanes ≡ 1) ⊎ ((lanes ≡ 2) ⊎ (lanes ≡ 4) ⊎ (lanes ≡ 8) ⊎ (lanes ≡ 16))
+
+-- without the option one
+abbrev pub lanes_in : List Row → Option ℕ
+lanes_in rows = option_map_or lanes_named (first_of (codes "lanes") rows) (Some 1)
+
+-- ---- names
+
+abbrev pub is_digit : ℕ → Bool
+is_digit byte = nat_le 48 byte && nat_le byte 57
+
+abbrev pub is_letter : ℕ → Bool
+is_letter byte = (nat_le 97 byte && nat_le byte 122) || (nat_le 65 byte && nat_le byte 90)
+
+abbrev pub is_name_byte : ℕ → Bool
+is_name_byte byte = is_letter byte || (is_digit byte || byte == 95)
+
+abbrev pub begins_with_digit : Text → Bool
+begins_with_digit [] = false
+begins_with_digit (byte ∷ name) = is_digit byte
+
+-- an identifier of C, of at most 64 bytes
+abbrev pub is_name : Text → Bool
+is_name name =
+    not (length name == 0) && (nat_le (length name) 64 && (not (begins_with_digit name) && list_all is_name_byte name))
+
+-- ---- which text
+
+-- the option without a value is given
+abbrev pub is_given : Text → List Row → Bool
+is_given name rows = option_map_or (λ word. bytes_eq word (codes "true")) (first_of name rows) false
+
+-- a function of this name, or its header
+abbrev pub named_form : Bool → Text → TextForm
+named_form false name = named_function name
+named_form true name = named_header name
+
+-- without a name there are arrays, and no header
+abbrev pub form_by : Bool → Option Text → Option TextForm
+form_by wants_header (Some name) = if is_name name then Some (named_form wants_header name) else None
+form_by wants_header None = if wants_header then None else Some with_arrays
+
+abbrev pub form_in : List Row → Option TextForm
+form_in rows = form_by (is_given (codes "header") rows) (first_of (codes "name") rows)
+
+-- ---- all of it
+
+-- words of which size, how many lanes, and which text
+pub record Asked : Type 0 where
+  pub size : WordSize
+  pub lanes : ℕ
+  pub form : TextForm
+
+abbrev pub together : Option WordSize → Option ℕ → Option TextForm → Option Asked
+together (Some size) (Some lanes) (Some form) = Some (record { size = size; lanes = lanes; form = form })
+together _ _ _ = None
+
+-- What the words ask for, the program's name first: what clap finds in them. They ask for nothing where clap refuses them.
+abbrev pub asked : List Text → Option Asked
+asked words =
+    if is_empty (fault_of fast_app words) then (let rows = matches_of fast_app words in together (size_in rows) (lanes_in rows) (form_in rows)) else None

@@ -1,9 +1,0 @@
-//! What the words of a call of `spiral-fast` ask for.
-#![tactic(auto)]
-
-mod app;
-mod form;
-mod line;
-mod options;
-
-pub use options::{Options, Refusal, options_of};

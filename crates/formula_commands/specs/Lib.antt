@@ -1,2 +1,0 @@
-pub mod Compiled
-pub use Rattle.formula_code.specs.Code

@@ -1,4 +1,0 @@
-use Rattle.formula_lower.proofs.formula.+hadamard.Given as goal
-
-abbrev pub decreases-hadamard : goal.decreases-hadamard
-decreases-hadamard l = l.n

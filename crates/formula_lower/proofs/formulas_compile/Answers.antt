@@ -1,5 +1,0 @@
-use Rattle.formula_lower.proofs.Compiling as laws
-use Rattle.formula_lower.proofs.formulas_compile.Goals as goal
-
-pub returns : goal.returns
-returns c = laws.formulas_compile

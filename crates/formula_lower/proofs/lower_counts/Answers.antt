@@ -1,5 +1,0 @@
-use Rattle.formula_lower.proofs.Counted as laws
-use Rattle.formula_lower.proofs.lower_counts.Goals as goal
-
-pub returns : goal.returns
-returns c = laws.lower_counts

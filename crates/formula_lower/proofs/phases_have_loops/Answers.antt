@@ -1,5 +1,0 @@
-use Rattle.formula_lower.proofs.HaveLoops as laws
-use Rattle.formula_lower.proofs.phases_have_loops.Goals as goal
-
-pub returns : goal.returns
-returns c = laws.phases_have_loops

@@ -1,5 +1,0 @@
-use Rattle.formula_lower.proofs.Sigmas as laws
-use Rattle.formula_lower.proofs.sigma_transforms.Goals as goal
-
-pub returns : goal.returns
-returns c = laws.sigma_transforms

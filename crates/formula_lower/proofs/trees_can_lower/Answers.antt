@@ -1,5 +1,0 @@
-use Rattle.formula_lower.proofs.TreeLayouts as laws
-use Rattle.formula_lower.proofs.trees_can_lower.Goals as goal
-
-pub returns : goal.returns
-returns c = laws.trees_can_lower

@@ -1,5 +1,0 @@
-use Rattle.formula_lower.proofs.SharedTrees as laws
-use Rattle.formula_lower.proofs.trees_embed.Goals as goal
-
-pub returns : goal.returns
-returns c = laws.trees_embed

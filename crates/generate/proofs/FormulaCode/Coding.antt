@@ -1,0 +1,80 @@
+-- A program that performs a formula's passes is its code.
+use Rattle.std.proofs.Common.{◌≡◌, ℕ, ◌^◌, ◌<◌, ◌≤◌, List, [], ◌∷◌, ◌++◌, refl, sym, ap, ◌∙◌, arith, subst}
+use Rattle.std.specs.Prelude.{reverse}
+use Rattle.std.proofs.lemmas.List.{length-map, reverse-append}
+use Rattle.generate.specs.FormulaCode.Code.{IsCodeOf}
+use Rattle.generate.specs.FormulaCode.Joined.{phases_joined}
+use Rattle.generate.specs.FormulaCode.Letters.{program_as_it_stands}
+use Rattle.sigma_lower.specs.OnePhase.{formula_sigma}
+use Rattle.sigma_lower.specs.Terms.{term_of}
+use Rattle.generate.specs.FormulaPasses.Computes.{formula_merged}
+use Rattle.generate.proofs.FormulaPasses.Formulas.{formulas_can_program}
+use Rattle.generate.proofs.FormulaPasses.Programs.{formulas_compute}
+use Rattle.icode.specs.Plain.{PlainProgram}
+use Rattle.icode.specs.Machine.{padded, results, words_at}
+use Rattle.icode.specs.Program.{code_of, plain_program}
+use Rattle.icode.specs.declared.program.Program.{Program}
+use Rattle.icode.proofs.Lists.{code_is}
+use Rattle.icode.proofs.Runs.{memory_of_runs}
+use Rattle.loop_merge.specs.JoinedCopies.Joined.{all_joined}
+use Rattle.loop_merge.proofs.JoinedCopies.Passes.{joined-order, joined_are_plain}
+use Rattle.code_gen.specs.PassActions.Machine.{plain_machine}
+use Rattle.code_gen.specs.PassCode.Contract.{CanProgram, Performs}
+use Rattle.code_gen.specs.PassCode.Program.{program_of}
+use Rattle.sigma_spl.specs.Merge.{passes_of}
+use Rattle.sigma_spl.specs.Merged.{PlainMerged}
+use Rattle.sigma_spl.specs.Nest.{PlainNest}
+use Rattle.sigma_spl.specs.Sigma.{merged_of}
+use Rattle.code_gen.specs.Conditions.{machine_for}
+use Rattle.code_gen.specs.WholePrograms.Plain.{in_order}
+use Rattle.code_gen.proofs.WholePrograms.Plain.{plain-can}
+use Rattle.spl_ast.specs.Formula.{Formula, parts_of, size_of}
+use Rattle.spl_ast.specs.Shape.{IsShaped}
+
+-- ---- passes in one phase
+
+same-order : (ps : List (List PlainNest)) → reverse ps ≡ in_order ps
+same-order [] = refl
+same-order (zs ∷ ps) = reverse-append (zs ∷ []) ps ∙ ap (λ qs. qs ++ zs ∷ []) (same-order ps)
+
+abbrev in_phase : ℕ → List (List PlainNest) → PlainMerged
+in_phase n ps = record { size = n; procs = 1; lanes = 1; phases = ps ∷ [] }
+
+pub formula_joined : (m : ℕ) (f : Formula) → phases_joined (merged_of (formula_sigma m f)) ≡ formula_merged m f
+formula_joined m f =
+    let ps = passes_of (size_of f) (term_of m [] f) in
+    ap (in_phase (size_of f)) (ap all_joined (same-order ps) ∙ sym (joined-order ps))
+
+pub can_emit : (m : ℕ) (f : Formula) (g : PlainMerged) → 2 ≤ m → m < 2 ^ 62 → IsShaped f → parts_of f ≤ 65536 → g ≡ formula_merged m f → CanProgram (machine_for m 1 g) g
+can_emit m f g large small shaped few is =
+    subst (λ h. CanProgram (machine_for m 1 h) h) (sym is) (plain-can (size_of f) m (all_joined (passes_of (size_of f) (term_of m [] f))) (joined_are_plain (size_of f) m (passes_of (size_of f) (term_of m [] f)) (formulas_can_program m f large small shaped few)))
+
+-- ---- code
+
+-- the turns that come first do not matter
+any-turns : (m : ℕ) (f : Formula) (p : Program) → Performs (plain_machine (size_of f) m) (formula_merged m f) (plain_program p) → (x turns : List ℕ) → results (code_of p) x turns ≡ results (code_of p) x []
+any-turns m f p performs x turns =
+    let first = memory_of_runs (code_of p) (code_is (plain_program p)) performs.apart x turns in
+    let none = memory_of_runs (code_of p) (code_is (plain_program p)) performs.apart x [] in
+    ap (λ memory. words_at p.size memory (padded (code_of p))) (first ∙ sym none)
+
+code-of : (m : ℕ) (f : Formula) (p : Program) → 2 ≤ m → m < 2 ^ 62 → IsShaped f → parts_of f ≤ 65536 → Performs (plain_machine (size_of f) m) (formula_merged m f) (plain_program p) → IsCodeOf m f p
+code-of m f p large small shaped few performs =
+    let computes = formulas_compute m f (plain_program p) large small shaped few performs in
+    record {
+      header = record { size = performs.size; modulus = performs.modulus; procs = performs.procs; line = performs.line; lanes = performs.lanes };
+      limits = performs.limits;
+      fits = performs.fits;
+      phases = length-map _ _ ∙ performs.phases;
+      apart = performs.apart;
+      product = λ x turns vector _. any-turns m f p performs x turns ∙ computes.results x vector;
+      operations = computes.cost 1 (omega arith);
+    }
+
+pub is_code : (m : ℕ) (f : Formula) (g : PlainMerged) (p : Program) → 2 ≤ m → m < 2 ^ 62 → IsShaped f → parts_of f ≤ 65536 → g ≡ formula_merged m f → Performs (machine_for m 1 g) g (plain_program p) → IsCodeOf m f p
+is_code m f g p large small shaped few is performs = code-of m f p large small shaped few (subst (λ h. Performs (machine_for m 1 h) h (plain_program p)) is performs)
+
+-- ---- letters
+
+pub has_letters : (m : ℕ) (f : Formula) (g : PlainMerged) (p : PlainProgram) → g ≡ formula_merged m f → p ≡ program_of (machine_for m 1 g) g → p ≡ program_as_it_stands m f
+has_letters m f g p is written = written ∙ ap (λ h. program_of (machine_for m 1 h) h) is

@@ -1,0 +1,191 @@
+-- The registers, operations, loads and tables of a formula's passes.
+use Rattle.std.proofs.Common.{◌≡◌, ℕ, zero, suc, ◌+◌, ◌-◌, ◌*◌, ◌/◌, ◌^◌, ◌<◌, ◌≤◌, Bool, true, false, List, [], ◌∷◌, length, map, sym, subst, ap, arith, Option, Some, None, if◌then◌else◌}
+use Rattle.std.specs.Prelude.{◌==◌, max, nat_le, nat_lt}
+use Rattle.std.proofs.Math.Nat.{mul-le-mul, mul-le-mul_left, mul-le-mul_right}
+use Rattle.sigma_lower.specs.Operations as formulas
+use Rattle.sigma_lower.specs.Terms.{halvings}
+use Rattle.kernel_gen.specs.Kernel.{AllowsRoot, kernel_cost, kernel_of, product_cost, products_cost}
+use Rattle.matrix_meaning.specs.declared.Kind.{Kind}
+use Rattle.matrix_meaning.specs.declared.Kind.TheVariants.{Dft, Wht, Idft}
+use Rattle.matrix_meaning.specs.Kind.{entry_of}
+use Rattle.operators.specs.Sum.{sum_below}
+use Rattle.code_gen.specs.PassActions.Acts.{nest_registers, pass_registers, with_multiplier}
+use Rattle.code_gen.specs.PassActions.Costs.{pass_cost, pass_loads, work_cost, work_loads}
+use Rattle.code_gen.proofs.PassActions.KernelActions.{trees-registers}
+use Rattle.code_gen.specs.PassCode.Program.{tables_through}
+use Rattle.code_gen.specs.PassCode.Statements.{diagonal_of, is_table, one_factor, powers_of, tables_after, tables_of_multiplier, tables_of_nest, tables_of_work, with_diagonal, with_table}
+use Rattle.sigma_spl.specs.Counts.{copies_in, multiplier_cost}
+use Rattle.sigma_spl.specs.Nest.{PlainMultiplier, PlainNest, copies_of}
+use Rattle.sigma_spl.specs.Work.{PlainWork, kernel, rows, horner, tile, copy, work_size}
+use Rattle.sigma_spl.proofs.Counting.{items_of}
+use Rattle.tree_model.specs.Trees.{single, tensor}
+use Rattle.spl_ast.specs.Formula.{Formula, Identity, Fourier, Hadamard, Twiddles, Diagonal, Stride, Permutation, GoodThomasIn, GoodThomasOut, Product, TensorLeft, TensorRight, DirectSum, Pending, size_of, parts_of}
+use Rattle.spl_ast.specs.Shape.{IsShaped}
+use Rattle.tree_model.specs.Breakdown.{leaf, node}
+use Rattle.generate.proofs.FormulaPasses.Counted.{work_tables, diagonal_tables, nests_tables, all_tables}
+use Rattle.generate.proofs.FormulaPasses.Made.{IsFormulaWork, AreMade}
+
+-- ---- kernels of leaves
+
+sum-le : (n b : ℕ) (f : ℕ → ℕ) → ((i : ℕ) → f i ≤ b) → sum_below n f ≤ n * b
+sum-le zero b f each = omega arith
+sum-le (suc n) b f each = let rest = sum-le n b f each in let last = each n in omega (arith, rest, last)
+
+price-le : (a b : Bool) → (if a then 0 else (if b then 0 else 1)) ≤ 1
+price-le true b = omega arith
+price-le false true = omega arith
+price-le false false = omega arith
+
+products-le : (m d : ℕ) (e : ℕ → ℕ → ℕ) → products_cost 1 m 0 e d d ≤ d * d
+products-le m d e =
+    sum-le d d (λ k. sum_below d (λ l. product_cost 1 m 0 (e k l))) (λ k. let row = sum-le d 1 (λ l. product_cost 1 m 0 (e k l)) (λ l. price-le (e k l == 1) (e k l == m - 1)) in omega (arith, row))
+
+leaf-size : (d x : ℕ) → x ≤ d * d → d * (d - 1) + x + d ≤ 2 * (d * d)
+leaf-size zero x h = omega (arith, h)
+leaf-size (suc d) x h =
+    let next : suc d - 1 + 1 ≡ suc d = omega arith in
+    let square : suc d * (suc d - 1 + 1) ≡ suc d * suc d = ap (λ n. suc d * n) next in
+    omega (arith, h, next, square)
+
+-- operations and items
+leaf-cost : (m d root : ℕ) (kind : Kind) → kernel_cost 1 m kind (leaf d) root + d ≤ 2 * (d * d)
+leaf-cost m d root kind =
+    leaf-size d (products_cost 1 m 0 (entry_of kind m d root) d d) (products-le m d (entry_of kind m d root))
+
+pub leaf-root : (m root d : ℕ) (kind : Kind) → AllowsRoot m root kind (leaf d)
+leaf-root m root d Dft = tt
+leaf-root m root d Wht = tt
+leaf-root m root d Idft = tt
+
+-- ---- registers
+
+with-le : (o : Option PlainMultiplier) (used more : ℕ) → with_multiplier o used more ≤ used + more
+with-le None used more = omega arith
+with-le (Some d) used more = omega arith
+
+nest-few : (m : ℕ) (z : PlainNest) (w : PlainWork) → 2 ≤ m → IsFormulaWork w → nest_registers m z w < 2 ^ 20
+nest-few m z (kernel (single kind root (leaf d))) large work =
+    let made = kernel_of m kind (leaf d) root in
+    let next = trees-registers m (single kind root (leaf d)) large (work.0, leaf-root m root d kind) in
+    let price = leaf-cost m d root kind in
+    let square : d * d ≤ 8 * 8 = mul-le-mul {n₁ = d} {m₁ = d} {n₂ = 8} {m₂ = 8} work.1 work.1 in
+    let used = with-le z.multiplier made.next d in
+    omega (arith, used, next, price, square, work.1)
+nest-few m z (kernel (single kind root (node rule a b))) large work = absurd work
+nest-few m z (kernel (tensor kind root t others)) large work = absurd work
+nest-few m z (rows root d) large work = absurd work
+nest-few m z (horner root d) large work = let used = with-le z.multiplier 3 1 in omega (arith, used)
+nest-few m z (tile v) large work = absurd work
+nest-few m z (copy d) large work = let used = with-le z.multiplier 1 1 in omega (arith, used)
+
+max-less : (a b n : ℕ) → a < n → b < n → max a b < n
+max-less a b n first second = omega (arith, first, second)
+
+pub pass-few : (m : ℕ) (zs : List PlainNest) → 2 ≤ m → AreMade m zs → pass_registers m zs < 2 ^ 20
+pass-few m [] large made = omega arith
+pass-few m (z ∷ zs) large made = max-less _ _ (2 ^ 20) (nest-few m z z.work large made.0.work) (pass-few m zs large made.1)
+
+-- ---- operations and loads
+
+square-le : (n : ℕ) → n ≤ n * n
+square-le zero = omega arith
+square-le (suc n) = omega arith
+
+-- each copy loads at most so many words as it has operations and items
+loads-le : (m : ℕ) (w : PlainWork) → IsFormulaWork w → work_loads w ≤ work_cost 1 m w + work_size w
+loads-le m (kernel trees) work = omega arith
+loads-le m (rows root d) work = absurd work
+loads-le m (horner root d) work = omega arith
+loads-le m (tile v) work = absurd work
+loads-le m (copy d) work = omega arith
+
+pub pass-loads-le : (m : ℕ) (zs : List PlainNest) → AreMade m zs → pass_loads zs ≤ pass_cost 1 m zs + items_of (map (copies_of m) zs)
+pass-loads-le m [] made = omega arith
+pass-loads-le m (z ∷ zs) made =
+    let copies = copies_in z.counts in
+    let cost = work_cost 1 m z.work + multiplier_cost 1 z.multiplier z.work in
+    let one = loads-le m z.work made.0.work in
+    let each : work_loads z.work ≤ cost + work_size z.work = omega (arith, one) in
+    let first : copies * work_loads z.work ≤ copies * (cost + work_size z.work) = mul-le-mul_left copies each in
+    let cut : copies * (cost + work_size z.work) ≡ copies * cost + copies * work_size z.work = omega arith in
+    let rest = pass-loads-le m zs made.1 in
+    omega (arith, first, cut, rest)
+
+-- ---- operations of a formula
+
+either-le : (b : Bool) (x y z : ℕ) → x ≤ z → y ≤ z → (if b then x else y) ≤ z
+either-le true x y z first second = first
+either-le false x y z first second = second
+
+halvings-le : (b n : ℕ) → halvings b n ≤ b
+halvings-le zero n = omega arith
+halvings-le (suc b) n = let rest = halvings-le b (n / 2) in either-le (nat_lt n 2) 0 (suc (halvings b (n / 2))) (suc b) (omega arith) (omega (arith, rest))
+
+under-le : (k s p x : ℕ) → x ≤ 2 * (s * s) * p → k * x ≤ 2 * ((k * s) * (k * s)) * p
+under-le k s p x h =
+    let one : k * x ≤ k * (2 * (s * s) * p) = mul-le-mul_left k h in
+    let more : k * (2 * (s * s) * p) ≤ k * k * (2 * (s * s) * p) = mul-le-mul_right (2 * (s * s) * p) (square-le k) in
+    let turned : k * k * (2 * (s * s) * p) ≡ 2 * ((k * s) * (k * s)) * p = omega arith in
+    omega (arith, one, more, turned)
+
+-- for each of its parts at most twice as many as a matrix of its size has entries
+pub operations-le : (m : ℕ) (f : Formula) → IsShaped f → formulas.operations 1 m f ≤ 2 * (size_of f * size_of f) * (parts_of f + 1)
+operations-le m (Identity n) shaped = omega arith
+operations-le m (Fourier n w) shaped =
+    let short = leaf-size n (products_cost 1 m 0 (entry_of Dft m n w) n n) (products-le m n (entry_of Dft m n w)) in
+    either-le (nat_le n 8) (n * (n - 1) + products_cost 1 m 0 (entry_of Dft m n w) n n) ((1 + 1) * n * n)
+    (2 * (n * n) * (0 + 1)) (omega (arith, short)) (omega arith)
+operations-le m (Hadamard n) shaped = let each : n * halvings n n ≤ n * n = mul-le-mul_left n (halvings-le n n) in omega (arith, each)
+operations-le m (Twiddles n s w) shaped = let square = square-le n in omega (arith, square)
+operations-le m (Diagonal c) shaped = let square = square-le (length c) in omega (arith, square)
+operations-le m (Stride n r) shaped = omega arith
+operations-le m (Permutation k) shaped = omega arith
+operations-le m (GoodThomasIn r s) shaped = omega arith
+operations-le m (GoodThomasOut r s) shaped = omega arith
+operations-le m (Product a b) shaped =
+    let first = operations-le m a shaped.0 in
+    let second = subst (λ n. formulas.operations 1 m b ≤ 2 * (n * n) * (parts_of b + 1)) (sym shaped.2) (operations-le m b shaped.1) in
+    omega (arith, first, second)
+operations-le m (TensorLeft a k) shaped = let all = under-le k (size_of a) (parts_of a + 1) (formulas.operations 1 m a) (operations-le m a shaped.0) in omega (arith, all)
+operations-le m (TensorRight k a) shaped = let all = under-le k (size_of a) (parts_of a + 1) (formulas.operations 1 m a) (operations-le m a shaped.1) in omega (arith, all)
+operations-le m (DirectSum a b) shaped =
+    let first = operations-le m a shaped.0 in
+    let second = operations-le m b shaped.1 in
+    omega (arith, first, second)
+operations-le m (Pending a) shaped = let inner = operations-le m a shaped in omega (arith, inner)
+
+-- ---- tables
+
+grown-pick : (b : Bool) (table : List ℕ) (tables more : List (List ℕ)) → length more ≤ suc (length tables) → length (if b then table ∷ tables else table ∷ more) ≤ suc (suc (length tables))
+grown-pick true table tables more h = omega arith
+grown-pick false table tables more h = omega (arith, h)
+
+with-grown : (tables : List (List ℕ)) (entries : List ℕ) → length (with_table tables entries) ≤ suc (length tables)
+with-grown [] entries = omega arith
+with-grown (table ∷ tables) entries = grown-pick (is_table table entries) table tables (with_table tables entries) (with-grown tables entries)
+
+work-grown : (m : ℕ) (w : PlainWork) (tables : List (List ℕ)) → length (tables_of_work m w tables) ≤ length tables + work_tables w
+work-grown m (kernel trees) tables = omega arith
+work-grown m (rows root d) tables = let more = with-grown tables (powers_of m root d) in omega (arith, more)
+work-grown m (horner root d) tables = let more = with-grown tables (powers_of m root d) in omega (arith, more)
+work-grown m (tile v) tables = omega arith
+work-grown m (copy d) tables = omega arith
+
+diagonal-grown : (o : Option ℕ) (tables : List (List ℕ)) (entries : List ℕ) → length (with_diagonal o tables entries) ≤ length tables + 1
+diagonal-grown None tables entries = let more = with-grown tables entries in omega (arith, more)
+diagonal-grown (Some value) tables entries = omega arith
+
+multiplier-grown : (m : ℕ) (o : Option PlainMultiplier) (tables : List (List ℕ)) → length (tables_of_multiplier m o tables) ≤ length tables + diagonal_tables o
+multiplier-grown m None tables = omega arith
+multiplier-grown m (Some d) tables = diagonal-grown (one_factor d.factors) tables (diagonal_of m d.factors)
+
+pass-grown : (m : ℕ) (zs : List PlainNest) (tables : List (List ℕ)) → length (tables_after m zs tables) ≤ length tables + nests_tables zs
+pass-grown m [] tables = omega arith
+pass-grown m (z ∷ zs) tables =
+    let first = work-grown m z.work tables in
+    let second = multiplier-grown m z.multiplier (tables_of_work m z.work tables) in
+    let rest = pass-grown m zs (tables_of_nest m z tables) in omega (arith, first, second, rest)
+
+pub passes-grown : (m : ℕ) (ps : List (List PlainNest)) (tables : List (List ℕ)) → length (tables_through m ps tables) ≤ length tables + all_tables ps
+passes-grown m [] tables = omega arith
+passes-grown m (zs ∷ ps) tables = let first = pass-grown m zs tables in let rest = passes-grown m ps (tables_after m zs tables) in omega (arith, first, rest)

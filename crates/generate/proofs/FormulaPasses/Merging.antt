@@ -1,0 +1,206 @@
+-- What is known of new nests is known of all nests that merging makes.
+use Rattle.std.proofs.Common.{◌≡◌, ℕ, zero, suc, ◌+◌, ◌*◌, ◌<◌, ◌≤◌, List, [], ◌∷◌, length, sym, arith, subst, inl, inr, map}
+use Rattle.std.specs.Prelude.{◌&&◌}
+use Rattle.std.proofs.lemmas.Bool.{cases_eq}
+use Rattle.std.proofs.lemmas.Bool.Decides.{nat_tests}
+use Rattle.index_fn.specs.Mapping.{Mapping, at}
+use Rattle.operators.specs.Sum.{list_below}
+use Rattle.operators.proofs.Lists.{length-list_below}
+use Rattle.sigma_spl.specs.Good.{IsFormed, IsGoodTerm, IsGoodPass}
+use Rattle.sigma_spl.specs.Limits.{AreSeveral, HasSeveral}
+use Rattle.sigma_spl.specs.Loops.{AreFormed}
+use Rattle.sigma_spl.specs.Merge.{Room, less, Merging, Taking, nothing, new_nest, items_in, one_loop, copying, can_gather, can_scatter, can_take, suits, gathered, scattered, take_gathers, copy_by, copies_before, settled, with_pass, factor_places, with_copy, with_diagonal, with_scatter, back_of, from_end, ended, sides, with_passes, merged, if_any, passes_within}
+use Rattle.sigma_spl.specs.Nest.{PlainFactors, spread, factor_count, PlainNest}
+use Rattle.sigma_spl.specs.Term.{PlainTerm, same, gath, scat, diag, nest, move, product, beside}
+use Rattle.sigma_spl.specs.Work.{PlainWork, copy, work_size}
+use Rattle.sigma_spl.proofs.Keeps.{merged-reaches, nothing-stands, inner_positive, inner-formed}
+use Rattle.sigma_spl.proofs.Moved.{moved-good, table-good}
+use Rattle.sigma_spl.proofs.Natural.{natural-good, copying-good}
+use Rattle.sigma_spl.proofs.Walk.{chosen, AreMoves, moves-end, places-formed, Stands}
+use Rattle.perm_algebra.specs.Affine.{constant}
+use Rattle.tensor_paths.specs.declared.Tensor.TheVariants.{Blocks, Columns}
+use Rattle.tensor_paths.specs.Path.{Path, size_under}
+use Rattle.generate.proofs.FormulaPasses.Made.{IsFormulaWork, AreResidues, IsDiagonal, AreMade, AllMade, all-append, made-gathered, made-scattered, made-multiplied, many-path, made-side, new-alike}
+
+-- ---- terms
+
+-- a term of short and long transforms, whose diagonals have residues
+abbrev pub IsFormulaTerm : ℕ → PlainTerm → Type 0
+IsFormulaTerm m (diag path factors) = AreResidues m factors
+IsFormulaTerm m (nest path w) = IsFormulaWork w
+IsFormulaTerm m (product a b) = IsFormulaTerm m a × IsFormulaTerm m b
+IsFormulaTerm m (beside path k a l b) = IsFormulaTerm m a × IsFormulaTerm m b
+IsFormulaTerm m t = Unit {0}
+
+-- ---- sizes
+
+at-least : (c n : ℕ) → 0 < c * n → n ≤ c * n
+at-least zero n h = let none : 0 * n ≡ 0 = omega arith in absurd (omega (arith, h, none))
+at-least (suc c) n h = let cut : suc c * n ≡ n + c * n = omega arith in omega (arith, cut)
+
+pub inner-least : (path : Path) (n : ℕ) → 0 < size_under path n → n ≤ size_under path n
+inner-least [] n h = omega arith
+inner-least (Blocks c ∷ path) n h =
+    let least = at-least c (size_under path n) h in
+    let rest = inner-least path n (inner_positive (Blocks c ∷ []) (size_under path n) h) in omega (arith, least, rest)
+inner-least (Columns c ∷ path) n h =
+    let turned : size_under path n * c ≡ c * size_under path n = omega arith in
+    let least = at-least c (size_under path n) (omega (arith, turned, h)) in
+    let rest = inner-least path n (inner_positive (Columns c ∷ []) (size_under path n) h) in omega (arith, least, rest, turned)
+
+-- ---- new passes
+
+pub new-made : (m n : ℕ) (path : Path) (w : PlainWork) → IsFormulaWork w → AreSeveral path → IsGoodPass 0 m n (new_nest path w (items_in w (length path)) ∷ []) → AreMade m (new_nest path w (items_in w (length path)) ∷ [])
+new-made m n path w work several good =
+    (record { work = work; counts = many-path path several; gathers = good.nests.0.gathers; scatters = good.nests.0.scatters; diagonal = tt; alike = new-alike path w }, tt)
+
+pub moved-made : (m n : ℕ) (path : Path) (ks : List ℕ) → 0 < length ks → AreSeveral path → IsGoodPass 0 m n (new_nest path (copy (length ks)) (map constant ks) ∷ []) → AreMade m (new_nest path (copy (length ks)) (map constant ks) ∷ [])
+moved-made m n path ks some several good =
+    (record { work = some; counts = many-path path several; gathers = good.nests.0.gathers; scatters = good.nests.0.scatters; diagonal = tt; alike = tt }, tt)
+
+several-loop : (n : ℕ) → 0 < n → AreSeveral (one_loop n)
+several-loop n some =
+    elim (cases_eq n 1) [
+      | inl one ↦ let is : one_loop n ≡ [] = grind (arith, nat_tests) in subst AreSeveral (sym is) tt
+      | inr several ↦ let is : one_loop n ≡ Blocks n ∷ [] = grind (arith, nat_tests) in subst AreSeveral (sym is) (omega (arith, some, several), tt)
+    ]
+
+module _ (m n : ℕ) (some : 0 < n) (high : n ≤ 1048576) where
+  copying-made : AreMade m (copying n)
+  copying-made = new-made m n (one_loop n) (copy 1) (omega arith) (several-loop n some) (copying-good 0 m n)
+
+  table-made : (f : Mapping) → ((i : ℕ) → i < n → at f i < n) → AreMade m (new_nest [] (copy (length (list_below n (at f)))) (map constant (list_below n (at f))) ∷ [])
+  table-made f stay = let size = length-list_below n (at f) in moved-made m n [] (list_below n (at f)) (omega (arith, size, some)) tt (table-good 0 m n f stay)
+
+  -- ---- gathers
+
+  made-take : (room : Room) (zs : List PlainNest) (fs : List Mapping) → AreMoves 0 n fs → AreMade m zs → AreMade m (take_gathers room n zs fs).pass
+  made-take room zs [] moves h = h
+  made-take room zs (f ∷ fs) moves h = chosen (λ (t : Taking). AreMade m t.pass) (can_gather room n f zs) _ _ (λ _. made-take room (gathered f zs) fs moves.1 (made-gathered m f zs moves.0.there h)) h
+
+  left-moves : (room : Room) (zs : List PlainNest) (fs : List Mapping) → AreMoves 0 n fs → AreMoves 0 n (take_gathers room n zs fs).left
+  left-moves room zs [] moves = tt
+  left-moves room zs (f ∷ fs) moves = chosen (λ (t : Taking). AreMoves 0 n t.left) (can_gather room n f zs) _ _ (λ _. left-moves room (gathered f zs) fs moves.1) moves
+
+  made-by : (room : Room) (f : Mapping) → AreMoves 0 n (f ∷ []) → AreMade m (copy_by room n f)
+  made-by room f moves = chosen (AreMade m) (can_gather room n f (copying n)) _ _ (λ _. made-gathered m f (copying n) moves.0.there copying-made) (table-made f moves.0.permutes.there_below)
+
+  made-copies : (room : Room) (zs : List PlainNest) (fs : List Mapping) → AreMoves 0 n fs → AreMade m zs → AllMade m (copies_before room n zs fs)
+  made-copies room zs [] moves h = (h, tt)
+  made-copies room zs (f ∷ fs) moves h =
+      chosen (AllMade m) (can_gather room n f zs) _ _
+      (λ _. made-copies room (gathered f zs) fs moves.1 (made-gathered m f zs moves.0.there h))
+      (h, made-copies room (copy_by room n f) fs moves.1 (made-by room f (moves.0, tt)))
+
+  made-settled : (room : Room) (fs : List Mapping) → AreMoves 0 n fs → AllMade m (settled room n fs)
+  made-settled room [] moves = tt
+  made-settled room (f ∷ fs) moves = made-copies room (copy_by room n f) fs moves.1 (made-by room f (moves.0, tt))
+
+  made-pass : (room : Room) (st : Merging) (zs : List PlainNest) → AreMoves 0 n st.waiting → AllMade m st.passes → AreMade m zs → AllMade m (with_pass room n st zs).passes
+  made-pass room st zs moves before h =
+      (made-take room zs st.waiting moves h, all-append m (settled room n (take_gathers room n zs st.waiting).left) st.passes (made-settled room _ (left-moves room zs st.waiting moves)) before)
+
+  -- ---- diagonals
+
+  diagonal-of : (path : Path) (factors : PlainFactors) → AreResidues m factors → size_under path (factor_count factors) ≡ n → IsDiagonal m factors
+  diagonal-of path factors residues count =
+      let positive : 0 < size_under path (factor_count factors) = omega (arith, count, some) in
+      let least = inner-least path (factor_count factors) positive in
+      record { residues = residues; some = inner_positive path (factor_count factors) positive; few = omega (arith, least, count, high) }
+
+  spread-of : (path : Path) (factors : PlainFactors) → AreResidues m factors → size_under path (factor_count factors) ≡ n → IsDiagonal m (spread path factors)
+  spread-of path factors residues count = record { residues = λ i. residues _; some = omega (arith, count, some); few = omega (arith, count, high) }
+
+  places-of : (waiting : List Mapping) (path : Path) (factors : PlainFactors) → AreMoves 0 n waiting → size_under path (factor_count factors) ≡ n → AreFormed (factor_places waiting path factors)
+  places-of waiting path factors moves count = places-formed 0 n waiting path factors moves (inner-formed path (factor_count factors) (omega (arith, count, some)))
+
+  made-copy : (room : Room) (st : Merging) (path : Path) (factors : PlainFactors) → AreResidues m factors → size_under path (factor_count factors) ≡ n → AreMoves 0 n st.waiting → AllMade m st.passes →
+      AllMade m (with_copy room n st path factors).passes
+  made-copy room st path factors residues count moves before =
+      chosen (λ (next : Merging). AllMade m next.passes) (can_take room n factors (factor_places st.waiting path factors) (copying n)) _ _
+      (λ _. (made-multiplied m factors (factor_places st.waiting path factors) (copying n) (diagonal-of path factors residues count) (places-of st.waiting path factors moves count) copying-made, before))
+      (made-multiplied m (spread path factors) [] (copying n) (spread-of path factors residues count) tt copying-made, all-append m (settled room n st.waiting) st.passes (made-settled room st.waiting moves) before)
+
+  made-diagonal : (room : Room) (waiting : List Mapping) (passes : List (List PlainNest)) (path : Path) (factors : PlainFactors) → AreResidues m factors → size_under path (factor_count factors) ≡ n → AreMoves 0 n waiting → AllMade m passes →
+      AllMade m (with_diagonal room n waiting passes path factors).passes
+  made-diagonal room waiting [] path factors residues count moves before = made-copy room (record { waiting = waiting; passes = [] }) path factors residues count moves before
+  made-diagonal room waiting (zs ∷ ps) path factors residues count moves before =
+      chosen (λ (next : Merging). AllMade m next.passes) (suits path zs && can_take room n factors (factor_places waiting path factors) zs) _ _
+      (λ _. (made-multiplied m factors (factor_places waiting path factors) zs (diagonal-of path factors residues count) (places-of waiting path factors moves count) before.0, before.1))
+      (made-copy room (record { waiting = waiting; passes = zs ∷ ps }) path factors residues count moves before)
+
+  -- ---- scatters
+
+  made-scatter : (room : Room) (waiting : List Mapping) (passes : List (List PlainNest)) (f : Mapping) → IsFormed f → AllMade m passes → AllMade m (with_scatter room n waiting passes f).passes
+  made-scatter room [] [] f form before = before
+  made-scatter room [] (zs ∷ ps) f form before = chosen (λ (next : Merging). AllMade m next.passes) (can_scatter room n f zs) _ _ (λ _. (made-scattered m f zs form before.0, before.1)) before
+  made-scatter room (g ∷ gs) passes f form before = before
+
+  made-ended : (room : Room) (fs : List Mapping) (passes : List (List PlainNest)) → AreMoves 0 n fs → AllMade m passes → AllMade m (ended room n fs passes)
+  made-ended room [] passes moves before = before
+  made-ended room (f ∷ fs) [] moves before = made-settled room (from_end (f ∷ fs)) (moves-end 0 n (f ∷ fs) moves)
+  made-ended room (f ∷ fs) (zs ∷ ps) moves before =
+      chosen (AllMade m) (can_scatter room n (back_of f) zs) _ _
+      (λ _. made-ended room fs (scattered (back_of f) zs ∷ ps) moves.1 (made-scattered m (back_of f) zs moves.0.back before.0, before.1))
+      (all-append m (settled room n (from_end (f ∷ fs))) (zs ∷ ps) (made-settled room (from_end (f ∷ fs)) (moves-end 0 n (f ∷ fs) moves)) before)
+
+  -- ---- several passes more
+
+  made-passes : (room : Room) (st : Merging) (ps : List (List PlainNest)) → AreMoves 0 n st.waiting → AllMade m st.passes → AllMade m ps → AllMade m (with_passes room n st ps).passes
+  made-passes room st [] moves before h = before
+  made-passes room st (zs ∷ []) moves before h = made-pass room st zs moves before h.0
+  made-passes room st (zs ∷ ys ∷ ps) moves before h = (h.0, made-passes room st (ys ∷ ps) moves before h.1)
+
+made-sides : (m k l : ℕ) (path : Path) (ps qs : List (List PlainNest)) → 0 < k → k ≤ 1048576 → 0 < l → l ≤ 1048576 → AreSeveral path → AllMade m ps → AllMade m qs → AllMade m (sides path k l ps qs)
+made-sides m k l path [] [] some small more low several h g = tt
+made-sides m k l path (zs ∷ ps) [] some small more low several h g = (made-side m path k l zs (copying l) several h.0 (copying-made m l more low), made-sides m k l path ps [] some small more low several h.1 tt)
+made-sides m k l path [] (ys ∷ qs) some small more low several h g = (made-side m path k l (copying k) ys several (copying-made m k some small) g.0, made-sides m k l path [] qs some small more low several tt g.1)
+made-sides m k l path (zs ∷ ps) (ys ∷ qs) some small more low several h g = (made-side m path k l zs ys several h.0 g.0, made-sides m k l path ps qs some small more low several h.1 g.1)
+
+-- ---- terms
+
+-- what is asked for of a term
+pub record IsCodable (m n : ℕ) (t : PlainTerm) : Type 0 where
+  pub good : IsGoodTerm 0 n t
+  pub several : HasSeveral t
+  pub formula : IsFormulaTerm m t
+
+made-merged : (m n : ℕ) (room : Room) (st : Merging) (t : PlainTerm) → 0 < m → 0 < n → n ≤ 1048576 → IsGoodTerm 0 n t → HasSeveral t → IsFormulaTerm m t → Stands 0 m n st → AllMade m st.passes → AllMade m (merged room n st t).passes
+made-merged m n room st same positive some high good several form stands before = before
+made-merged m n room st (gath f) positive some high good several form stands before = before
+made-merged m n room st (scat f) positive some high good several form stands before = made-scatter m n some high room st.waiting st.passes f good.0.there before
+made-merged m n room st (diag path factors) positive some high good several form stands before = made-diagonal m n some high room st.waiting st.passes path factors form good stands.moves before
+made-merged m n room st (nest path w) positive some high good several form stands before =
+    made-pass m n some high room st _ stands.moves before
+    (new-made m n path w form several.0 (natural-good 0 m n path w good.0 (inner_positive path (work_size w) (subst (λ z. 0 < z) (sym good.1) some)) good.1))
+made-merged m n room st (move path ks) positive some high good several form stands before =
+    made-pass m n some high room st _ stands.moves before
+    (moved-made m n path ks (inner_positive path (length ks) (subst (λ z. 0 < z) (sym good.1) some)) several (moved-good 0 m n path ks good.0 good.1))
+made-merged m n room st (product a b) positive some high good several form stands before =
+    let first = merged-reaches 0 m n room st a positive some good.0 stands in
+    made-merged m n room (merged room n st a) b positive some high good.1 several.1 form.1 first.stands (made-merged m n room st a positive some high good.0 several.0 form.0 stands before)
+made-merged m n room st (beside path k a l b) positive some high good several form stands before =
+    let inner = less room (length path) in
+    let least = inner-least path (k + l) (let size = good.2 in omega (arith, size, some)) in
+    let size = good.2 in
+    let left : k ≤ 1048576 = omega (arith, least, size, high) in
+    let right : l ≤ 1048576 = omega (arith, least, size, high) in
+    let one = merged-reaches 0 m k inner nothing a positive good.0 good.3 (nothing-stands 0 m k) in
+    let two = merged-reaches 0 m l inner nothing b positive good.1 good.4 (nothing-stands 0 m l) in
+    let first = merged inner k nothing a in
+    let second = merged inner l nothing b in
+    let ps = made-ended m k good.0 left inner (from_end first.waiting) first.passes (moves-end 0 k first.waiting one.stands.moves) (made-merged m k inner nothing a positive good.0 left good.3 several.1 form.0 (nothing-stands 0 m k) tt) in
+    let qs = made-ended m l good.1 right inner (from_end second.waiting) second.passes (moves-end 0 l second.waiting two.stands.moves) (made-merged m l inner nothing b positive good.1 right good.4 several.2 form.1 (nothing-stands 0 m l) tt) in
+    made-passes m n some high room st _ stands.moves before (made-sides m k l path _ _ good.0 left good.1 right several.0 ps qs)
+
+made-any : (m n : ℕ) (ps : List (List PlainNest)) → 0 < n → n ≤ 1048576 → AllMade m ps → AllMade m (if_any n ps)
+made-any m n [] some high h = (copying-made m n some high, tt)
+made-any m n (zs ∷ ps) some high h = h
+
+-- all nests of its passes
+pub passes-made : (m n : ℕ) (room : Room) (t : PlainTerm) → 0 < m → 0 < n → n ≤ 1048576 → IsCodable m n t → AllMade m (passes_within room n t)
+passes-made m n room t positive some high h =
+    let all = merged room n nothing t in
+    let reached = merged-reaches 0 m n room nothing t positive some h.good (nothing-stands 0 m n) in
+    made-any m n _ some high
+    (made-ended m n some high room (from_end all.waiting) all.passes (moves-end 0 n all.waiting reached.stands.moves) (made-merged m n room nothing t positive some high h.good h.several h.formula (nothing-stands 0 m n) tt))

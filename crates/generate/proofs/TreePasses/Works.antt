@@ -1,0 +1,25 @@
+-- The work of a layout's loops can be done, where its kernels are small.
+use Rattle.std.proofs.Common.{◌≤◌, arith}
+use Rattle.tree_loops.proofs.Shaped.{IsShapedWork}
+use Rattle.code_gen.specs.PassActions.Laws.{CanWork}
+use Rattle.sigma_spl.specs.Work.{PlainWork, kernel, rows, horner, tile, copy}
+use Rattle.tree_loops.specs.SharedPasses.Shared.{HasLanes}
+use Rattle.smp_rewrite.specs.declared.layout_steps.target.Target.{Target}
+use Rattle.tree_model.specs.Trees.{trees_size}
+use Rattle.generate.specs.TreePasses.Laws.{host_of}
+
+-- its code does what it stands for
+pub can-work : (c : Target) (w : PlainWork) → IsShapedWork c.modulus w → HasLanes c w → CanWork (host_of c) w
+can-work c (kernel trees) h lanes = h.1
+can-work c (rows root size) h lanes = (omega (arith, h.0), h.1)
+can-work c (horner root size) h lanes = absurd h
+can-work c (tile v) h lanes = lanes
+can-work c (copy size) h lanes = absurd h
+
+-- a kernel is of at most 64 items
+abbrev pub IsSmallWork : PlainWork → Type 0
+IsSmallWork (kernel trees) = trees_size trees ≤ 64
+IsSmallWork (rows root size) = Unit {0}
+IsSmallWork (horner root size) = Unit {0}
+IsSmallWork (tile v) = Unit {0}
+IsSmallWork (copy size) = Unit {0}

@@ -1,0 +1,18 @@
+use Rattle.icode.specs.Program.{plain_program}
+use Rattle.sigma_spl.specs.Views.{plain_merged}
+use Rattle.generate.proofs.FormulaCode.Coding.{can_emit, has_letters, is_code}
+use Rattle.generate.proofs.formula_code.code_of_formula.Goals as goal
+
+pub emit_formula-requires : goal.emit_formula-requires
+emit_formula-requires c =
+    can_emit c.args.modulus.now c.args.formula.now (plain_merged c.in_ok-merged.merged)
+    c.get-modulus.ensures.at_least_two c.get-modulus.ensures.below_limit c.rows-rows.ensures.shaped c.requires.few
+    c.in_ok-merged.ensures
+
+pub returns : goal.returns
+returns c =
+    record {
+      code = is_code c.args.modulus.now c.args.formula.now (plain_merged c.in_ok-merged.merged) c.in_ok-program.program c.get-modulus.ensures.at_least_two c.get-modulus.ensures.below_limit c.rows-rows.ensures.shaped c.requires.few
+          c.in_ok-merged.ensures c.in_ok-program.ensures.performs;
+      letters = has_letters c.args.modulus.now c.args.formula.now (plain_merged c.in_ok-merged.merged) (plain_program c.in_ok-program.program) c.in_ok-merged.ensures c.in_ok-program.ensures.code;
+    }

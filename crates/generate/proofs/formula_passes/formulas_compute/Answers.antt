@@ -1,0 +1,5 @@
+use Rattle.generate.proofs.FormulaPasses.Programs as laws
+use Rattle.generate.proofs.formula_passes.formulas_compute.Goals as goal
+
+pub returns : goal.returns
+returns c = laws.formulas_compute

@@ -1,9 +1,0 @@
-use Rattle.std.proofs.Common.{sym, ◌∙◌}
-use Rattle.in_place.specs.View.{homes_of}
-use Rattle.in_place.proofs.Housing.{words_go_on}
-use Rattle.in_place.proofs.homes.HomeTable.are_home.Goals as goal
-
-pub loop-word-preserved : goal.loop-word-preserved
-loop-word-preserved c =
-    c.loop-word.invariant
-    ∙ words_go_on (homes_of c.args.self.now) c.args.count c.args.at c.args.to c.loop-word.word c.loop-word-test.true (sym c.if-not-is_home.ensures)

@@ -1,9 +1,0 @@
-use Rattle.std.proofs.Common.{◌≡◌, ◌+◌, ◌-◌}
-use Rattle.in_place.specs.Homes.{are_home}
-use Rattle.in_place.specs.View.{homes_of}
-use Rattle.in_place.proofs.homes.HomeTable.are_home.Given as goal
-
--- whether all words stand there is whether those that are left do
-abbrev pub invariant-loop-word : goal.invariant-loop-word
-invariant-loop-word l =
-    are_home (homes_of l.self) l.count l.at l.to ≡ are_home (homes_of l.self) (l.count - l.word) (l.at + l.word) (l.to + l.word)

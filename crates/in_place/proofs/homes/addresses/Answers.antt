@@ -1,8 +1,0 @@
-use Rattle.std.proofs.Common.{sym, ap, ◌∙◌, ◌++◌, ◌∷◌, []}
-use Rattle.in_place.proofs.Housing.{range_more}
-use Rattle.in_place.proofs.homes.addresses.Goals as goal
-
-pub loop-address-preserved : goal.loop-address-preserved
-loop-address-preserved c =
-    c.in_ok-push.ensures.items
-    ∙ (ap (λ xs. xs ++ c.loop-address.address ∷ []) c.loop-address.invariant ∙ sym (range_more c.loop-address.address))

@@ -1,7 +1,0 @@
-use Rattle.std.proofs.Common.{◌≡◌, drop}
-use Rattle.icode.specs.Plain.{plain_body}
-use Rattle.in_place.specs.Choice.{first_array_in}
-use Rattle.in_place.proofs.places.+first.Given as goal
-
-abbrev pub invariant-first_array_in-loop-stmt : goal.invariant-first_array_in-loop-stmt
-invariant-first_array_in-loop-stmt l = first_array_in (plain_body (drop l.stmt-index l.body)) ≡ first_array_in (plain_body l.body)

@@ -1,9 +1,0 @@
-use Rattle.std.proofs.Common.{◌≡◌, drop, map}
-use Rattle.icode.specs.Plain.{plain_expr}
-use Rattle.in_place.specs.Choice.{same_places}
-use Rattle.in_place.proofs.places.same_places.Given as goal
-
-abbrev pub invariant-loop-index : goal.invariant-loop-index
-invariant-loop-index l =
-    same_places (map (λ e. plain_expr e.now) (drop l.index l.left)) (map (λ e. plain_expr e.now) (drop l.index l.right))
-    ≡ same_places (map (λ e. plain_expr e.now) l.left) (map (λ e. plain_expr e.now) l.right)

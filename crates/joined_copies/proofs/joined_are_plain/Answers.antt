@@ -1,5 +1,0 @@
-use Rattle.joined_copies.proofs.Passes as laws
-use Rattle.joined_copies.proofs.joined_are_plain.Goals as goal
-
-pub returns : goal.returns
-returns c = laws.joined_are_plain

@@ -1,5 +1,0 @@
-use Rattle.joined_passes.proofs.Phases.{phase-more}
-use Rattle.joined_passes.proofs.in_one_phase.Goals as goal
-
-pub loop-phase-preserved : goal.loop-phase-preserved
-loop-phase-preserved c = phase-more c.loop-phase.yielded c.in-Some.phase c.loop-phase.passes.items c.append.new.self.items c.in_ok-append.ensures.items c.loop-phase.invariant

@@ -1,5 +1,0 @@
-pub mod Places
-pub mod Rounds
-pub mod Interchange
-pub mod Laws
-pub mod View

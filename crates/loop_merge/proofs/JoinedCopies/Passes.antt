@@ -1,0 +1,79 @@
+-- Passes whose copies are joined.
+use Rattle.std.proofs.Common.{◌≡◌, ℕ, ◌+◌, ◌*◌, ◌%◌, ◌^◌, ◌<◌, ◌≤◌, refl, sym, ap, ap₂, ◌∙◌, subst, List, [], ◌∷◌, ◌++◌, length, All}
+use Rattle.std.proofs.lemmas.List.{map-append, length-map}
+use Rattle.std.proofs.lemmas.List.Elements.{All-nil, All-cons, All-head, All-tail}
+use Rattle.loop_merge.specs.JoinedCopies.Joined.{with_copies_joined, all_joined}
+use Rattle.loop_merge.specs.JoinedCopies.Laws.{JoinedMean, JoinedCost, JoinedLoad, JoinedArePlain}
+use Rattle.loop_merge.proofs.JoinedCopies.Joining.{all-alike}
+use Rattle.operators.proofs.Lists.{list_below-same}
+use Rattle.code_gen.specs.PassActions.Costs.{work_cost}
+use Rattle.code_gen.specs.PassActions.Machine.{plain_machine}
+use Rattle.code_gen.specs.PassCode.Contract.{most_actions}
+use Rattle.code_gen.specs.PassCode.Program.{tables_through}
+use Rattle.code_gen.specs.PassCode.Statements.{tables_after}
+use Rattle.sigma_spl.specs.Nest.{PlainNest, nests_on}
+use Rattle.code_gen.specs.WholePrograms.Plain.{IsPlainPass, in_order}
+
+-- ---- meaning and counts
+
+nests-mean : (m n : ℕ) (zs : List PlainNest) (x : List ℕ) → nests_on m n (with_copies_joined zs) x ≡ nests_on m n zs x
+nests-mean m n zs x = list_below-same n _ _ (λ w low. ap (λ a. a % m) ((all-alike zs).stores m x w))
+
+pub joined_mean : JoinedMean
+joined_mean m n [] x = refl
+joined_mean m n (p ∷ ps) x = nests-mean m n p _ ∙ ap (nests_on m n p) (joined_mean m n ps x)
+
+pub joined_cost : JoinedCost
+joined_cost weight cost [] free = refl
+joined_cost weight cost (p ∷ ps) free = ap₂ (λ a b. a + b) ((all-alike p).costs weight cost free) (joined_cost weight cost ps free)
+
+pub joined_load : JoinedLoad
+joined_load [] = refl
+joined_load (p ∷ ps) = ap₂ (λ a rest. a ∷ rest) (all-alike p).loads (joined_load ps)
+
+-- ---- programs
+
+pub joined-order : (ps : List (List PlainNest)) → in_order (all_joined ps) ≡ all_joined (in_order ps)
+joined-order [] = refl
+joined-order (p ∷ ps) = ap (λ qs. qs ++ with_copies_joined p ∷ []) (joined-order ps) ∙ sym (map-append with_copies_joined (in_order ps) (p ∷ []))
+
+module _ (n m : ℕ) (high : n ≤ 1048576) where
+  pass-plain : (zs : List PlainNest) → IsPlainPass n m zs → IsPlainPass n m (with_copies_joined zs)
+  pass-plain zs h =
+      let alike = all-alike zs in
+      record {
+        nests = alike.plain n m high h.nests;
+        once = λ w low. alike.hit m w ∙ h.once w low;
+        few = subst (λ a. a < 2 ^ 20) (sym (alike.registers m)) h.few;
+      }
+
+  passes-plain : (ps : List (List PlainNest)) → All (IsPlainPass n m) ps → All (IsPlainPass n m) (all_joined ps)
+  passes-plain [] h = All-nil (IsPlainPass n m)
+  passes-plain (p ∷ ps) h =
+      All-cons (IsPlainPass n m) (with_copies_joined p) (all_joined ps) (pass-plain p (All-head (IsPlainPass n m) p ps h)) (passes-plain ps (All-tail (IsPlainPass n m) p ps h))
+
+  actions-same : (ps : List (List PlainNest)) → most_actions (plain_machine n m) (all_joined ps) ≡ most_actions (plain_machine n m) ps
+  actions-same [] = refl
+  actions-same (p ∷ ps) =
+      let alike = all-alike p in
+      let cost = alike.costs 1 (work_cost 1 m) (λ d. refl) in
+      let loads = alike.loads in
+      let rest = actions-same ps in
+      ap₂ (λ a b. a + b) (ap₂ (λ a b. a + b + 2 * n) cost loads) rest
+
+tables-same : (m : ℕ) (ps : List (List PlainNest)) (tables : List (List ℕ)) → tables_through m (all_joined ps) tables ≡ tables_through m ps tables
+tables-same m [] tables = refl
+tables-same m (p ∷ ps) tables = tables-same m ps (tables_after m (with_copies_joined p) tables) ∙ ap (tables_through m ps) ((all-alike p).tables m tables)
+
+pub joined_are_plain : JoinedArePlain
+joined_are_plain n m ps h =
+    let high = h.size.1 in
+    let order = joined-order ps in
+    record {
+      size = h.size;
+      modulus = h.modulus;
+      some = subst (λ k. 0 < k) (sym (length-map ps with_copies_joined)) h.some;
+      passes = subst (All (IsPlainPass n m)) (sym order) (passes-plain n m high (in_order ps) h.passes);
+      few = subst (λ a. a < 2 ^ 59) (sym (ap (most_actions (plain_machine n m)) order ∙ actions-same n m high (in_order ps))) h.few;
+      tables = subst (λ tables. length tables < 2 ^ 32) (sym (ap (λ qs. tables_through m qs []) order ∙ tables-same m (in_order ps) [])) h.tables;
+    }

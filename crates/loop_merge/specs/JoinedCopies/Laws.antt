@@ -1,0 +1,23 @@
+-- Passes whose copies are joined do the same, at the same counts, and a program can be made of them.
+use Rattle.std.specs.Prelude.{◌≡◌, ℕ, List, map}
+use Rattle.loop_merge.specs.JoinedCopies.Joined.{all_joined}
+use Rattle.code_gen.specs.PassActions.Costs.{pass_loads}
+use Rattle.sigma_spl.specs.Counts.{passes_cost, CopiesAreFree}
+use Rattle.sigma_spl.specs.Nest.{PlainNest, passes_on}
+use Rattle.sigma_spl.specs.Work.{PlainWork}
+use Rattle.code_gen.specs.WholePrograms.Plain.{ArePlainPasses}
+
+-- modulo any number, on lists of any length
+abbrev pub JoinedMean : Type 0
+JoinedMean = (m n : ℕ) (ps : List (List PlainNest)) (x : List ℕ) → passes_on m n (all_joined ps) x ≡ passes_on m n ps x
+
+-- whatever a product counts
+abbrev pub JoinedCost : Type 0
+JoinedCost = (weight : ℕ) (cost : PlainWork → ℕ) (ps : List (List PlainNest)) → CopiesAreFree cost → passes_cost weight cost (all_joined ps) ≡ passes_cost weight cost ps
+
+-- pass by pass
+abbrev pub JoinedLoad : Type 0
+JoinedLoad = (ps : List (List PlainNest)) → map pass_loads (all_joined ps) ≡ map pass_loads ps
+
+abbrev pub JoinedArePlain : Type 0
+JoinedArePlain = (n m : ℕ) (ps : List (List PlainNest)) → ArePlainPasses n m ps → ArePlainPasses n m (all_joined ps)

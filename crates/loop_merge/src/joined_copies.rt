@@ -1,0 +1,80 @@
+// Copies of words that stand side by side in a pass, as one loop. Where one part of a direct sum has more passes than
+// the other, the shorter one copies its words in each pass that it lacks.
+ghost use Rattle.std.specs.Prelude.{◌≡◌, IfOk, OnOk, map, reverse};
+ghost use Rattle.loop_merge.specs.JoinedCopies.Joined.{all_joined, put_first, with_copies_joined};
+ghost use Rattle.loop_merge.specs.JoinedCopies.Laws.{JoinedArePlain, JoinedCost, JoinedLoad, JoinedMean};
+ghost use Rattle.loop_merge.specs.JoinedCopies.Views.{plain_passes};
+ghost use Rattle.sigma_spl.specs.Views.{plain_nest};
+
+mod runs;
+
+use crate::joined_copies::runs::{copying_run, run_of, together};
+use memory::NoMemory;
+use sigma_spl::Nest;
+use std::alloc::Global;
+
+/// The same passes, with copies of words that stand side by side as one loop.
+pub fn join_copies(alloc: Global, passes: Vec<Vec<Nest>>) -> Result<Vec<Vec<Nest>>, NoMemory>
+    ensures { IfOk result
+        (λ joined. plain_passes joined.items ≡ all_joined (plain_passes passes.items)) }
+{
+    let mut joined = Vec::with_capacity(alloc, passes.len())?;
+    for pass in passes {
+        joined.push(joined_pass(alloc, pass)?)?;
+    }
+    Ok(joined)
+}
+
+fn joined_pass(alloc: Global, nests: Vec<Nest>) -> Result<Vec<Nest>, NoMemory>
+    ensures { IfOk result (λ joined.
+        map plain_nest joined.items ≡ with_copies_joined (map plain_nest nests.items)) }
+{
+    let mut nests = nests;
+    nests.reverse();
+    let mut joined = Vec::new(alloc);
+    for nest in nests {
+        put_first(alloc, nest, &mut joined)?;
+    }
+    joined.reverse();
+    Ok(joined)
+}
+
+// Puts a nest before others, which stand the last of them first.
+fn put_first(alloc: Global, nest: Nest, others: &mut Vec<Nest>) -> Result<(), NoMemory>
+    ensures { OnOk result (map plain_nest (reverse others.new.items)
+        ≡ put_first (plain_nest nest) (map plain_nest (reverse others.old.items))) }
+{
+    match others.pop() {
+        None => {
+            others.push(nest)?;
+            Ok(())
+        }
+        Some(next) => match together(run_of(&nest), run_of(&next)) {
+            None => {
+                others.push(next)?;
+                others.push(nest)?;
+                Ok(())
+            }
+            Some(run) => {
+                others.push(copying_run(alloc, run)?)?;
+                Ok(())
+            }
+        },
+    }
+}
+
+/// Passes whose copies are joined do what they did: a law of the definitions.
+pub fn joined_mean()
+    ensures { JoinedMean }
+{}
+
+/// They have the same operations and loads: a law of the definitions.
+pub fn joined_count()
+    ensures operations { JoinedCost }
+    ensures loads { JoinedLoad }
+{}
+
+/// A program for one processor and one lane can be made of them where it could before: a law of the definitions.
+pub fn joined_are_plain()
+    ensures { JoinedArePlain }
+{}

@@ -1,0 +1,202 @@
+// What a diagonal does to a state of merging.
+ghost use Rattle.std.specs.Prelude.{◌≡◌, [], IfOk, false, map, not, true};
+ghost use Rattle.std.specs.List.{list_all};
+ghost use Rattle.sigma_spl.specs.Merge.{factor_places, is_tile, most, multiplied, suits, with_copy, with_diagonal};
+ghost use Rattle.sigma_spl.specs.Nest.{factor_count, spread};
+ghost use Rattle.sigma_spl.specs.Views.{plain_factors, plain_nest, plain_work};
+ghost use Rattle.loop_nests.specs.SumLimits.Leading.{CanCarry};
+ghost use Rattle.loop_nests.specs.SumLimits.Outcomes.{IfMade, IfRefused};
+ghost use Rattle.tensor_paths.specs.Path.{size_under};
+ghost use Rattle.loop_merge.specs.Known.{AreKnownPasses, HasRoom, IsKnown};
+ghost use Rattle.loop_nests.specs.PassPlaces.Known.{AreSteps, IsKnownPass};
+ghost use Rattle.loop_nests.specs.PassPlaces.Multiplied.{functions_of};
+ghost use Rattle.loop_nests.specs.PassPlaces.Views.{mappings_of};
+ghost use Rattle.loop_merge.specs.Suited.{nests_take, nests_with};
+ghost use Rattle.loop_merge.specs.Views.{plain_merging};
+ghost use Rattle.loop_nests.specs.Views.{plain_pass, plain_passes};
+
+use crate::copies::{settled, with_before, with_first};
+use crate::firsts::{FirstPass, parted};
+use crate::state::Merging;
+use loop_nests::{
+    Diagonal, Limits, copying, factor_count, factor_places, multiplied, multiplied_in_order,
+};
+use memory::NoMemory;
+use sigma_spl::{Factors, Nest, Work};
+use std::alloc::Global;
+use tensor_paths::Tensor;
+
+/// A diagonal goes into the last pass where that can take it, and else into a copy pass.
+pub(crate) fn with_diagonal(
+    alloc: Global,
+    state: Merging,
+    path: Vec<Tensor>,
+    factors: Factors,
+    limits: Limits,
+) -> Result<Merging, NoMemory>
+    requires room { HasRoom limits.room limits.size }
+    requires known { IsKnown limits.room limits.size (plain_merging state) }
+    requires size { size_under path.items (factor_count (plain_factors factors)) ≡ limits.size }
+    ensures { IfOk result (λ next. plain_merging next ≡ with_diagonal (most limits.room) limits.size
+        (plain_merging state).waiting (plain_merging state).passes path.items
+        (plain_factors factors)) }
+{
+    let count = factor_count(&path, &factors);
+    let places = factor_places(alloc, limits.size, &state.waiting, &path, &factors)?;
+    let diagonal = Diagonal {
+        factors,
+        count,
+        places,
+    };
+    let next = multiplied_last(alloc, state, path, diagonal, limits)?;
+    Ok(next)
+}
+
+fn multiplied_last(
+    alloc: Global,
+    state: Merging,
+    path: Vec<Tensor>,
+    diagonal: Diagonal,
+    limits: Limits,
+) -> Result<Merging, NoMemory>
+    requires room { HasRoom limits.room limits.size }
+    requires steps { AreSteps limits.size (mappings_of state.waiting.items) }
+    requires known { AreKnownPasses limits.room limits.size (plain_passes state.passes.items) }
+    requires count { diagonal.count ≡ factor_count (plain_factors diagonal.factors) }
+    requires places { functions_of diagonal
+        ≡ factor_places (mappings_of state.waiting.items) path.items
+        (plain_factors diagonal.factors) }
+    requires can { CanCarry limits.size (functions_of diagonal) }
+    ensures { IfOk result (λ next. plain_merging next ≡ with_diagonal (most limits.room) limits.size
+        (mappings_of state.waiting.items) (plain_passes state.passes.items) path.items
+        (plain_factors diagonal.factors)) }
+{
+    let Merging { waiting, passes } = state;
+    let Some(FirstPass { first, others }) = parted(passes) else {
+        let passes = Vec::new(alloc);
+        let next = with_copy(alloc, Merging { waiting, passes }, path, diagonal, limits)?;
+        return Ok(next);
+    };
+    match multiplied_if_suited(alloc, &path, &diagonal, &first, limits)? {
+        Some(pass) => {
+            let passes = with_first(pass, others)?;
+            Ok(Merging { waiting, passes })
+        }
+        None => {
+            let passes = with_first(first, others)?;
+            let state = Merging { waiting, passes };
+            let next = with_copy(alloc, state, path, diagonal, limits)?;
+            Ok(next)
+        }
+    }
+}
+
+// A diagonal goes into a copy pass, or into one behind the gathers, which then wait no more.
+fn with_copy(
+    alloc: Global,
+    state: Merging,
+    path: Vec<Tensor>,
+    diagonal: Diagonal,
+    limits: Limits,
+) -> Result<Merging, NoMemory>
+    requires room { HasRoom limits.room limits.size }
+    requires steps { AreSteps limits.size (mappings_of state.waiting.items) }
+    requires count { diagonal.count ≡ factor_count (plain_factors diagonal.factors) }
+    requires places { functions_of diagonal
+        ≡ factor_places (mappings_of state.waiting.items) path.items
+        (plain_factors diagonal.factors) }
+    requires can { CanCarry limits.size (functions_of diagonal) }
+    ensures { IfOk result (λ next. plain_merging next ≡ with_copy (most limits.room) limits.size
+        (plain_merging state) path.items (plain_factors diagonal.factors)) }
+{
+    let Merging { waiting, passes } = state;
+    let copies = copying(alloc, limits.size)?;
+    match multiplied(alloc, &diagonal, &copies, limits)? {
+        Some(pass) => {
+            let passes = with_first(pass, passes)?;
+            Ok(Merging { waiting, passes })
+        }
+        None => {
+            let pass = multiplied_whole(alloc, path, diagonal, &copies)?;
+            let before = settled(alloc, &waiting, limits)?;
+            let before = with_before(before, passes)?;
+            let passes = with_first(pass, before)?;
+            Ok(Merging {
+                waiting: Vec::new(alloc),
+                passes,
+            })
+        }
+    }
+}
+
+// A pass with the whole diagonal after it.
+fn multiplied_whole(
+    alloc: Global,
+    path: Vec<Tensor>,
+    diagonal: Diagonal,
+    nests: &[Nest],
+) -> Result<Vec<Nest>, NoMemory>
+    ensures { IfOk result (λ zs. plain_pass zs ≡ multiplied
+        (spread path.items (plain_factors diagonal.factors)) [] (map plain_nest nests.now)) }
+{
+    let Diagonal { factors, .. } = diagonal;
+    let factors = Factors::Spread {
+        path,
+        factors: Box::new(alloc, factors)?,
+    };
+    let pass = multiplied_in_order(alloc, &factors, nests)?;
+    Ok(pass)
+}
+
+// A pass with the diagonal after it, where its work suits that and it can take it.
+fn multiplied_if_suited(
+    alloc: Global,
+    path: &[Tensor],
+    diagonal: &Diagonal,
+    nests: &[Nest],
+    limits: Limits,
+) -> Result<Option<Vec<Nest>>, NoMemory>
+    requires room { HasRoom limits.room limits.size }
+    requires can { CanCarry limits.size (functions_of diagonal.now) }
+    requires count { diagonal.now.count ≡ factor_count (plain_factors diagonal.now.factors) }
+    requires known { IsKnownPass limits.room limits.size (map plain_nest nests.now) }
+    ensures some { IfMade result (λ zs. (nests_take limits path.now diagonal.now nests.now ≡ true)
+        × (plain_pass zs ≡ nests_with diagonal.now nests.now)) }
+    ensures none { IfRefused result (nests_take limits path.now diagonal.now nests.now ≡ false) }
+{
+    if !suits(path, nests) {
+        return Ok(None);
+    }
+    let changed = multiplied(alloc, diagonal, nests, limits)?;
+    Ok(changed)
+}
+
+// Whether no factors of a vector stand apart.
+fn suits(path: &[Tensor], nests: &[Nest]) -> bool
+    ensures { result ≡ suits path.now (map plain_nest nests.now) }
+{
+    match path.split_first() {
+        None => true,
+        Some(_) => has_no_tile(nests),
+    }
+}
+
+fn has_no_tile(nests: &[Nest]) -> bool
+    ensures { result ≡ list_all (λ z. not (is_tile z.work)) (map plain_nest nests.now) }
+{
+    for nest in nests {
+        if is_tile(&nest.work) {
+            return false;
+        }
+    }
+    true
+}
+
+fn is_tile(work: &Work) -> bool
+    ensures { result ≡ is_tile (plain_work work.now) }
+{
+    match work {
+        Work::Tile { .. } => true,
+        Work::Kernel(_) | Work::Dense { .. } | Work::Horner { .. } | Work::Copy { .. } => false,
+    }
+}

@@ -1,7 +1,0 @@
-use Rattle.std.specs.Prelude.{◌≡◌, map}
-use Rattle.multiplied_passes.specs.Multiplied.{Own, with_factors}
-use Rattle.passes.specs.Views.{plain_factors, plain_nest}
-use Rattle.multiplied_passes.proofs.multiply_each.Given as goal
-
-abbrev pub invariant-loop-nest : goal.invariant-loop-nest
-invariant-loop-nest l = map plain_nest l.changed.items ≡ map (with_factors Own (plain_factors l.factors)) (map plain_nest l.yielded)

@@ -1,8 +1,0 @@
-use Rattle.std.specs.Prelude.{◌≡◌, ◌*◌, map}
-use Rattle.std.specs.List.{range_with_len}
-use Rattle.perm_algebra.specs.Affine.{constant}
-use Rattle.perm_algebra.specs.Views.{plain_sum}
-use Rattle.passes.proofs.items.multiples.Given as goal
-
-abbrev pub invariant-loop-k : goal.invariant-loop-k
-invariant-loop-k l = map plain_sum l.items.items ≡ map (λ k. constant (k * l.lanes)) (range_with_len 0 l.k)

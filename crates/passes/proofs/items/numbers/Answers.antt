@@ -1,5 +1,0 @@
-use Rattle.passes.proofs.Numbered.{one-more}
-use Rattle.passes.proofs.items.numbers.Goals as goal
-
-pub loop-k-preserved : goal.loop-k-preserved
-loop-k-preserved c = one-more (λ i. i) c.loop-k.numbers.items c.push.new.self.items c.loop-k.k c.in_ok-push.ensures.items c.loop-k.invariant

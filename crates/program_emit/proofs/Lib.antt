@@ -1,7 +1,0 @@
-mod PlainRules
-mod CodeTables
-mod Powers
-mod StatementRules
-mod Diagonals
-mod Works
-mod Passes

@@ -1,8 +1,0 @@
-use Rattle.std.proofs.Common.{◌≡◌}
-use Rattle.program_emit.specs.Bodies.{loads_at}
-use Rattle.program_emit.specs.Views.{body_in}
-use Rattle.program_emit.proofs.inputs.loads.Given as goal
-
--- the loads so far
-abbrev pub invariant-loop-register : goal.invariant-loop-register
-invariant-loop-register l = body_in l.body ≡ loads_at l.site l.nest l.register

@@ -1,9 +1,0 @@
-use Rattle.std.specs.Option.{option_map}
-use Rattle.passes.specs.Nest.{PlainMultiplier}
-use Rattle.passes.specs.Views.{plain_multiplier}
-use Rattle.program_emit.proofs.Works.{has-factors}
-use Rattle.program_emit.proofs.nest.emit_nest.Goals as goal
-
-pub number_multiplier-requires : goal.number_multiplier-requires
-number_multiplier-requires c =
-    has-factors (option_map plain_multiplier c.args.nest.now.multiplier) (λ (d : PlainMultiplier) is. let known = c.requires.writes.multiplier d is in (known.2, known.3))

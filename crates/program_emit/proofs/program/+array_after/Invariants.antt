@@ -1,5 +1,0 @@
-use Rattle.std.proofs.Common.{length}
-use Rattle.program_emit.proofs.program.+array_after.Given as goal
-
-abbrev pub decreases-array_after : goal.decreases-array_after
-decreases-array_after l = length l.passes.now

@@ -1,5 +1,0 @@
-use Rattle.std.proofs.Common.{length}
-use Rattle.program_emit.proofs.program.+emit_phases.Given as goal
-
-abbrev pub decreases-emit_phases : goal.decreases-emit_phases
-decreases-emit_phases l = length l.phases.now

@@ -1,5 +1,0 @@
-use Rattle.std.proofs.Common.{length}
-use Rattle.program_emit.proofs.program.+put_passes.Given as goal
-
-abbrev pub decreases-put_passes : goal.decreases-put_passes
-decreases-put_passes l = length l.passes.now

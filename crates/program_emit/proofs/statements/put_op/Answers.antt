@@ -1,5 +1,0 @@
-use Rattle.program_emit.proofs.PlainRules.{plain-more}
-use Rattle.program_emit.proofs.statements.put_op.Goals as goal
-
-pub returns : goal.returns
-returns c = plain-more c.args.out.now.items c.push.new.self.items c.args.op c.in_ok-push.ensures.items

@@ -1,6 +1,0 @@
-pub mod Views
-pub mod Conditions
-pub mod Bodies
-pub mod Additions
-pub mod Sequences
-pub mod Machines

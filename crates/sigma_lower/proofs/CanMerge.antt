@@ -1,0 +1,153 @@
+-- The terms of a whole can be merged.
+use Rattle.std.proofs.Common.{◌≡◌, ℕ, ◌*◌, ◌<◌, ◌≤◌, ◌==◌, Bool, true, false, arith, refl, sym, List, [], ◌∷◌, ◌++◌, subst, if◌then◌else◌}
+use Rattle.std.specs.Prelude.{map}
+use Rattle.std.proofs.lemmas.Bool.Decides.{nat_tests}
+use Rattle.index_fn.specs.Mapping.{Mapping, Strided, ThomasIn, ThomasOut, ThomasBack}
+use Rattle.sigma_lower.specs.Machine.{IsMachine}
+use Rattle.sigma_spl.specs.Good.{IsGoodTerm}
+use Rattle.sigma_spl.specs.Limits.{AreSeveral, HasSeveral}
+use Rattle.sigma_spl.specs.Merge.{back_of, unit_below}
+use Rattle.sigma_spl.specs.Sigma.{AllCanMerge}
+use Rattle.sigma_spl.specs.Term.{scat}
+use Rattle.sigma_spl.specs.Words.{AreWords, HasNumbers}
+use Rattle.sigma_spl.specs.Work.{PlainWork, kernel, rows, horner, tile, copy, work_size, HasWords}
+use Rattle.sigma_lower.specs.Merged.{TreesCanMerge}
+use Rattle.sigma_lower.specs.Shared.{embed, phase_term, AllEmbed}
+use Rattle.sigma_lower.specs.Trees.{core_term}
+use Rattle.sigma_lower.proofs.Closing.{closed-can}
+use Rattle.sigma_lower.proofs.Embedded.{embed-core, sizes-of}
+use Rattle.sigma_lower.proofs.Moves.{back-wrapped, left_positive, right_positive}
+use Rattle.sigma_lower.proofs.Numbers.{numbers-wrapped, strided-closed, in-closed, out-closed}
+use Rattle.sigma_lower.proofs.SharedTrees.{trees_embed}
+use Rattle.sigma_lower.proofs.TightPaths.{IsTight, AreTightTerms, AreTightPhases, tree-tight}
+use Rattle.sigma_lower.specs.TreeTerms.Good.{IsGoodPiece, IsVecOf, IsGoodCore, IsGood, AreGood}
+use Rattle.sigma_lower.specs.TreeTerms.Term as lowered
+use Rattle.sigma_lower.specs.TreeTerms.Term.{lowered_after, factor_term, lowered_of}
+use Rattle.sigma_lower.specs.TreeTerms.Wrapped.{wrapped}
+use Rattle.sigma_lower.proofs.TreeTerms.Goods.{vec_good, phases_good}
+use Rattle.smp_rewrite.specs.Cut.{layout_smp}
+use Rattle.smp_rewrite.specs.Smp.{within}
+use Rattle.smp_rewrite.specs.LayoutSteps.Meaning.{core_size}
+use Rattle.smp_rewrite.specs.LayoutSteps.Step as steps
+use Rattle.smp_rewrite.specs.LayoutSteps.Step.{PlainCore, piece, turns, thomas_in, thomas_out, PlainStep, step}
+use Rattle.smp_rewrite.specs.Fits.{CanShareLayout}
+use Rattle.smp_rewrite.specs.LayoutSteps.Layout.{Layout, IsGoodLayout}
+use Rattle.smp_rewrite.specs.LayoutSteps.Whole.{only, IsGoodWhole}
+use Rattle.smp_rewrite.specs.declared.layout_steps.target.Target.{Target}
+use Rattle.tensor_paths.specs.declared.Tensor.TheVariants.{Blocks, Columns}
+use Rattle.tensor_paths.specs.Path.{Path, size_under}
+use Rattle.vec_rewrite.specs.Turning.{vec_of}
+use Rattle.vec_rewrite.specs.Vectors.{PlainFactor, lanes, diagonals, move_before, move_after, tiles, factor_step}
+
+-- ---- numbers
+
+piece-words : (w : PlainWork) → IsGoodPiece w → HasWords w
+piece-words (kernel trees) h = h
+piece-words (rows root size) h = tt
+piece-words (horner root size) h = tt
+piece-words (tile v) h = absurd h
+piece-words (copy size) h = absurd h
+
+-- a scatter by a permutation under tensors
+scat-words : (path : Path) (n : ℕ) (f : Mapping) → HasNumbers (size_under path n) (wrapped path n f) → HasNumbers (size_under path n) (wrapped path n (back_of f)) → AreWords (size_under path n) (scat (wrapped path n f))
+scat-words path n f h k = (h, subst (HasNumbers (size_under path n)) (sym (back-wrapped path n f)) k)
+
+core-words : (path : Path) (k : PlainCore) → IsGoodCore k → core_size k ≤ 1048576 → size_under path (core_size k) ≤ 1048576 → AreWords (size_under path (core_size k)) (core_term path k)
+core-words path (piece w) h low high = piece-words w h
+core-words path (turns r s) h low high =
+    let closed = strided-closed r s (omega (arith, h.0)) (omega (arith, h.1)) low in numbers-wrapped path (r * s) (Strided r s) high tt closed.0 closed.1
+core-words path (steps.twiddles r s w) h low high = tt
+core-words path (thomas_in r s) h low high =
+    let closed = in-closed r s h in numbers-wrapped path (r * s) (ThomasIn r s) high (omega (arith, low)) closed.0 closed.1
+core-words path (thomas_out r s) h low high =
+    let closed = out-closed r s h in
+    let back : Mapping = ThomasBack r s (unit_below r s r) (unit_below s r s) in
+    scat-words path (r * s) back (numbers-wrapped path (r * s) back high tt closed.1 closed.0) (numbers-wrapped path (r * s) (ThomasOut r s) high (omega (arith, low)) closed.0 closed.1)
+
+step-words : (c : Target) (s : PlainStep) → IsMachine c → IsGood c.size s → AreWords c.size (embed (lowered.lowered s))
+step-words c s valid h =
+    let sizes = sizes-of c s valid h in
+    subst (AreWords c.size) (sym (embed-core s.path s.core)) (subst (λ n. AreWords n (core_term s.path s.core)) h.size (core-words s.path s.core h.core sizes.low sizes.high))
+
+after-words : (c : Target) (path : Path) (k : PlainCore) → IsMachine c → IsGood c.size (step path k) → AreWords c.size (embed (lowered_after (step path k)))
+after-words c path (piece t) valid h = step-words c (step path (piece t)) valid h
+after-words c path (turns r s) valid h =
+    let n = r * s in
+    let sizes = sizes-of c (step path (turns r s)) valid h in
+    let closed = strided-closed r s (omega (arith, h.core.0)) (omega (arith, h.core.1)) sizes.low in
+    subst (λ m. AreWords m (scat (wrapped path n (Strided s r)))) h.size
+    (scat-words path n (Strided s r) (numbers-wrapped path n (Strided s r) sizes.high tt closed.1 closed.0) (numbers-wrapped path n (Strided r s) sizes.high tt closed.0 closed.1))
+after-words c path (steps.twiddles r s w) valid h = step-words c (step path (steps.twiddles r s w)) valid h
+after-words c path (thomas_in r s) valid h = step-words c (step path (thomas_in r s)) valid h
+after-words c path (thomas_out r s) valid h = step-words c (step path (thomas_out r s)) valid h
+
+factor-words : (c : Target) (p v : ℕ) (f : PlainFactor) → IsMachine c → IsGood c.size (factor_step p v f) → AreWords c.size (embed (factor_term p v f))
+factor-words c p v (lanes s) valid h = step-words c (factor_step p v (lanes s)) valid h
+factor-words c p v (diagonals s) valid h = step-words c s valid h
+factor-words c p v (move_before s) valid h = step-words c (factor_step p v (move_before s)) valid h
+factor-words c p v (move_after s) valid h = after-words c (within (Columns v) s.path) s.core valid h
+factor-words c p v (tiles path) valid h = let sizes = sizes-of c (factor_step p v (tiles path)) valid h in omega (arith, sizes.low)
+
+abbrev AreWordPhases : Target → List (List lowered.PlainTerm) → Type 0
+AreWordPhases c [] = Unit {0}
+AreWordPhases c (ts ∷ more) = AreWords c.size (phase_term ts) × AreWordPhases c more
+
+phase-words : (c : Target) (p v : ℕ) (fs : List PlainFactor) → IsMachine c → AreGood c.size (map (factor_step p v) fs) → AreWords c.size (phase_term (map (factor_term p v) fs))
+phase-words c p v [] valid h = tt
+phase-words c p v (f ∷ fs) valid h = (factor-words c p v f valid h.0, phase-words c p v fs valid h.1)
+
+pick-phases : (c : Target) (p v : ℕ) (b : Bool) (first second : List PlainFactor) → IsMachine c → AreGood c.size (map (factor_step p v) (first ++ second)) → AreGood c.size (map (factor_step p v) first) × AreGood c.size (map (factor_step p v) second) →
+    AreWordPhases c (map (map (factor_term p v)) (if b then (first ++ second) ∷ [] else first ∷ second ∷ []))
+pick-phases c p v true first second valid all each = (phase-words c p v (first ++ second) valid all, tt)
+pick-phases c p v false first second valid all each = (phase-words c p v first valid each.0, (phase-words c p v second valid each.1, tt))
+
+tree-words : (c : Target) (l : Layout) → IsMachine c → CanShareLayout c l → IsGoodLayout c.modulus l → AreWordPhases c (lowered_of c l)
+tree-words c l valid shares good =
+    let g = vec_of (layout_smp c l) in
+    let whole : IsGoodWhole c.modulus (only l) = record { layout = good; factor = tt } in
+    let is : IsVecOf c g = record { whole = only l; shares = shares; good = whole; form = refl } in
+    pick-phases c c.procs c.lanes (c.procs == 1) g.first g.second valid (vec_good c g is) (phases_good c g is)
+
+-- ---- several copies
+
+pub several-of : (n : ℕ) → 0 < n → (n == 1) ≡ false → 2 ≤ n
+several-of n some other = grind (arith, nat_tests)
+
+-- a path of some words, none of whose tensors has one copy
+several-path : (path : Path) (n : ℕ) → IsTight path → 0 < size_under path n → AreSeveral path
+several-path [] n h some = tt
+several-path (Blocks k ∷ path) n h some =
+    (several-of k (left_positive k (size_under path n) some) h.0, several-path path n h.1 (right_positive k (size_under path n) some))
+several-path (Columns k ∷ path) n h some =
+    (several-of k (right_positive (size_under path n) k some) h.0, several-path path n h.1 (left_positive (size_under path n) k some))
+
+term-several : (c : Target) (v : ℕ) (ts : List lowered.PlainTerm) → IsMachine c → IsGoodTerm v c.size (phase_term ts) → AreTightTerms ts → HasSeveral (phase_term ts)
+term-several c v [] valid good tight = tt
+term-several c v (lowered.gath f ∷ ts) valid good tight = (tt, term-several c v ts valid good.1 tight.1)
+term-several c v (lowered.scat f ∷ ts) valid good tight = (tt, term-several c v ts valid good.1 tight.1)
+term-several c v (lowered.diag path r s w ∷ ts) valid good tight = (tt, term-several c v ts valid good.1 tight.1)
+term-several c v (lowered.nest path w ∷ ts) valid good tight =
+    ((several-path path (work_size w) tight.0.0 (omega (arith, good.0.1, valid.size.0)), tight.0.1), term-several c v ts valid good.1 tight.1)
+
+-- ---- phases
+
+all-can : (c : Target) (phases : List (List lowered.PlainTerm)) → IsMachine c → AllEmbed c c.lanes phases → AreTightPhases phases → AreWordPhases c phases → AllCanMerge c.lanes c.size (map phase_term phases)
+all-can c [] valid embeds tight words = tt
+all-can c (ts ∷ more) valid embeds tight words = (
+  record { good = embeds.0.good; several = term-several c c.lanes ts valid embeds.0.good tight.0; words = words.0 },
+  all-can c more valid embeds.1 tight.1 words.1,
+)
+
+pub trees_can_merge : TreesCanMerge
+trees_can_merge c w can =
+    let l = w.layout in
+    let valid = can.machine in
+    let shares = can.shares in
+    let good = can.good.layout in
+    let embeds = trees_embed c l valid shares good in
+    let phases = all-can c (lowered_of c l) valid embeds (tree-tight c l shares good) (tree-words c l valid shares good) in
+    record {
+      some = valid.size.0;
+      most = omega (arith, valid.size.1);
+      phases = closed-can c.lanes c.size w.factor (map phase_term (lowered_of c l)) phases;
+    }

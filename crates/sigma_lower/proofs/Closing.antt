@@ -1,0 +1,101 @@
+-- The products after the last phase: what they do and cost, and that they can be merged.
+use Rattle.std.proofs.Common.{◌≡◌, ℕ, ◌+◌, ◌*◌, ◌==◌, Bool, true, false, arith, refl, sym, ap, ◌∙◌, List, [], ◌∷◌, ◌++◌, if◌then◌else◌}
+use Rattle.std.specs.Prelude.{map, Option, None, Some}
+use Rattle.std.proofs.lemmas.List.{map-append}
+use Rattle.sigma_lower.specs.Merged.{closing_term, close_last, closed_phases}
+use Rattle.sigma_lower.specs.Shared.{phase_term}
+use Rattle.operators.specs.Operator.{scale}
+use Rattle.sigma_spl.specs.Counts.{term_cost}
+use Rattle.sigma_spl.specs.Sigma.{AllCanMerge, terms_on, terms_cost}
+use Rattle.sigma_spl.specs.Term.{PlainTerm, product, term_on}
+use Rattle.sigma_spl.specs.Views.{plain_term}
+use Rattle.sigma_spl.specs.Work.{PlainWork}
+use Rattle.sigma_spl.specs.declared.term.Term.{Term}
+use Rattle.sigma_lower.specs.TreeTerms.Term.{factor_term, terms_in}
+use Rattle.smp_rewrite.specs.Smp.{within}
+use Rattle.smp_rewrite.proofs.Tensors.{size-within}
+use Rattle.smp_rewrite.specs.LayoutSteps.Whole.{closed_on, closing_cost}
+use Rattle.tensor_paths.specs.declared.Tensor.TheVariants.{Blocks}
+use Rattle.tensor_paths.specs.Path.{size_under}
+use Rattle.vec_rewrite.specs.Vectors.{PlainFactor, PlainVec}
+
+-- ---- there is a last phase
+
+abbrev pub HasPhase : List PlainTerm → Type 0
+HasPhase [] = ⊥
+HasPhase (t ∷ ts) = Unit {0}
+
+pick-phase : (p v : ℕ) (b : Bool) (fs gs : List PlainFactor) →
+    HasPhase (map phase_term (map (map (factor_term p v)) (if b then (fs ++ gs) ∷ [] else fs ∷ gs ∷ [])))
+pick-phase p v true fs gs = tt
+pick-phase p v false fs gs = tt
+
+pub has_phase : (g : PlainVec) → HasPhase (map phase_term (terms_in g))
+has_phase g = pick-phase g.target.procs g.target.lanes (g.target.procs == 1) g.first g.second
+
+-- ---- what the products do
+
+close-on : (m n v : ℕ) (ts : List PlainTerm) (x : List ℕ) → HasPhase ts →
+    terms_on m n (close_last n v ts) x ≡ scale m n (λ _. v) (terms_on m n ts x)
+close-on m n v [] x h = absurd h
+close-on m n v (t ∷ []) x h = refl
+close-on m n v (t ∷ u ∷ ts) x h = close-on m n v (u ∷ ts) (term_on m n t x) tt
+
+pub closed-on : (m n : ℕ) (o : Option ℕ) (ts : List PlainTerm) (x : List ℕ) → HasPhase ts →
+    terms_on m n (closed_phases n o ts) x ≡ closed_on m n o (terms_on m n ts x)
+closed-on m n None ts x h = refl
+closed-on m n (Some v) ts x h = close-on m n v ts x h
+
+-- ---- what they cost
+
+close-cost : (weight : ℕ) (cost : PlainWork → ℕ) (n v : ℕ) (ts : List PlainTerm) → HasPhase ts →
+    terms_cost weight cost n (close_last n v ts) ≡ terms_cost weight cost n ts + weight * n
+close-cost weight cost n v [] h = absurd h
+close-cost weight cost n v (t ∷ []) h = last (term_cost weight cost n t) (weight * n)
+  where
+    last : (a k : ℕ) → a + k + 0 ≡ a + 0 + k
+    last a k = omega arith
+close-cost weight cost n v (t ∷ u ∷ ts) h =
+    let a = term_cost weight cost n t in
+    ap (λ k. a + k) (close-cost weight cost n v (u ∷ ts) tt) ∙ grouped a (terms_cost weight cost n (u ∷ ts)) (weight * n)
+  where
+    grouped : (a b k : ℕ) → a + (b + k) ≡ a + b + k
+    grouped a b k = omega arith
+
+pub closed-cost : (weight : ℕ) (cost : PlainWork → ℕ) (n : ℕ) (o : Option ℕ) (ts : List PlainTerm) → HasPhase ts →
+    terms_cost weight cost n (closed_phases n o ts) ≡ terms_cost weight cost n ts + closing_cost weight n o
+closed-cost weight cost n None ts h = omega arith
+closed-cost weight cost n (Some v) ts h = close-cost weight cost n v ts h
+
+-- ---- they can be merged
+
+closing-size : (n : ℕ) → size_under (within (Blocks n) []) 1 ≡ n
+closing-size n = size-within (Blocks n) [] 1 ∙ omega arith
+
+close-can : (lanes n v : ℕ) (ts : List PlainTerm) → AllCanMerge lanes n ts → AllCanMerge lanes n (close_last n v ts)
+close-can lanes n v [] h = tt
+close-can lanes n v (t ∷ []) h =
+    (record { good = (h.0.good, closing-size n); several = (h.0.several, tt); words = (h.0.words, tt) }, tt)
+close-can lanes n v (t ∷ u ∷ ts) h = (h.0, close-can lanes n v (u ∷ ts) h.1)
+
+pub closed-can : (lanes n : ℕ) (o : Option ℕ) (ts : List PlainTerm) → AllCanMerge lanes n ts → AllCanMerge lanes n (closed_phases n o ts)
+closed-can lanes n None ts h = h
+closed-can lanes n (Some v) ts h = close-can lanes n v ts h
+
+-- ---- the code takes the last phase and puts it back with them
+
+close-append : (n v : ℕ) (ts : List PlainTerm) (t : PlainTerm) →
+    close_last n v (ts ++ t ∷ []) ≡ ts ++ product t (closing_term n v) ∷ []
+close-append n v [] t = refl
+close-append n v (u ∷ []) t = refl
+close-append n v (u ∷ w ∷ ts) t = ap (λ us. u ∷ us) (close-append n v (w ∷ ts) t)
+
+pub closed_last : (n v : ℕ) (all made rest : List Term) (last one : Term) → all ≡ rest ++ last ∷ [] → made ≡ rest ++ one ∷ [] →
+    plain_term one ≡ product (plain_term last) (closing_term n v) → map plain_term made ≡ close_last n v (map plain_term all)
+closed_last n v all made rest last one taken put is =
+    ap (map plain_term) put
+    ∙ map-append plain_term rest (one ∷ [])
+    ∙ ap (λ t. map plain_term rest ++ t ∷ []) is
+    ∙ sym (close-append n v (map plain_term rest) (plain_term last))
+    ∙ ap (close_last n v) (sym (map-append plain_term rest (last ∷ [])))
+    ∙ ap (λ ts. close_last n v (map plain_term ts)) (sym taken)

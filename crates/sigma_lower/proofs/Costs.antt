@@ -1,0 +1,175 @@
+-- The terms of a formula for lanes have its operations: each processor has its share.
+use Rattle.std.proofs.Common.{◌≡◌, ℕ, ◌+◌, ◌*◌, ◌/◌, ◌%◌, ◌<◌, ◌==◌, Bool, true, false, arith, refl, sym, ap, ap₂, ◌∙◌, List, [], ◌∷◌, ◌++◌, subst, if◌then◌else◌}
+use Rattle.std.specs.Prelude.{All, map, Option, None, Some}
+use Rattle.std.proofs.Math.Nat.{mul-div_right, zero-div}
+use Rattle.std.proofs.lemmas.List.Elements.{All-head, All-tail}
+use Rattle.smp_rewrite.specs.Fits.{CanShareLayout}
+use Rattle.smp_rewrite.specs.LayoutSteps.Layout.{Layout, work_cost}
+use Rattle.smp_rewrite.specs.declared.layout_steps.target.Target.{Target}
+use Rattle.sigma_spl.specs.Counts.{term_cost}
+use Rattle.sigma_spl.specs.Sigma.{sigma_cost, terms_cost}
+use Rattle.sigma_spl.specs.Term.{PlainTerm}
+use Rattle.sigma_lower.specs.Merged.{sigma_of, whole_sigma, SigmaCosts}
+use Rattle.sigma_lower.specs.Shared.{embed, phase_term}
+use Rattle.sigma_lower.proofs.Closing.{has_phase, closed-cost}
+use Rattle.sigma_lower.proofs.SharedTrees.{all-left, all-right}
+use Rattle.sigma_lower.specs.TreeTerms.Good.{IsVecOf}
+use Rattle.sigma_lower.specs.TreeTerms.Term.{lowered_core, after_core, factor_term, lowered_of, terms_in}
+use Rattle.smp_rewrite.specs.Cut.{layout_smp, smp_of}
+use Rattle.smp_rewrite.specs.Laws.{HasEqualParts, IsDiagonal, IsPermutation}
+use Rattle.smp_rewrite.specs.Smp.{within}
+use Rattle.smp_rewrite.proofs.Tensors.{copies-within}
+use Rattle.smp_rewrite.proofs.TreeLaws.{smp_costs}
+use Rattle.smp_rewrite.specs.LayoutSteps.Whole.{Whole, only, closing_cost}
+use Rattle.smp_rewrite.specs.LayoutSteps.Meaning.{core_size}
+use Rattle.smp_rewrite.specs.LayoutSteps.Step.{PlainCore, piece, turns, twiddles, thomas_in, thomas_out, core_cost}
+use Rattle.tensor_paths.specs.declared.Tensor.TheVariants.{Blocks, Columns}
+use Rattle.tensor_paths.specs.Path.{Path, size_under, copies_of}
+use Rattle.tensor_paths.proofs.Under.{size_under-copies}
+use Rattle.tree_model.proofs.Splits.{product_div}
+use Rattle.vec_rewrite.specs.Laws.{HasLanes}
+use Rattle.vec_rewrite.specs.Turning.{vec_of}
+use Rattle.vec_rewrite.specs.Vectors.{PlainFactor, lanes, diagonals, move_before, move_after, tiles, PlainVec, share_of, shares_in, vec_share}
+use Rattle.vec_rewrite.proofs.LaneLaws.{vec_keeps}
+use Rattle.vec_rewrite.proofs.LaneShapes.{vec_shaped}
+use Rattle.vec_rewrite.proofs.LaneShares.{shares_in-append}
+
+-- ---- factors
+
+abbrev cost_in : ℕ → Target → PlainTerm → ℕ
+cost_in weight c t = term_cost weight (work_cost weight c.modulus) c.size t
+
+copies-split : (p v : ℕ) (path : Path) → copies_of (within (Blocks p) (within (Columns v) path)) ≡ p * (v * copies_of path)
+copies-split p v path = copies-within (Blocks p) (within (Columns v) path) ∙ ap (λ k. p * k) (copies-within (Columns v) path)
+
+-- on each lane of each processor's block
+lane-cost : (weight : ℕ) (c : Target) (p v : ℕ) (path : Path) (k : PlainCore) → p * (v * size_under path (core_size k)) ≡ c.size →
+    cost_in weight c (embed (lowered_core (within (Blocks p) (within (Columns v) path)) k)) ≡ p * (v * (copies_of path * core_cost weight c.modulus k))
+lane-cost weight c p v path (piece t) size = ap (λ a. a * work_cost weight c.modulus t) (copies-split p v path) ∙ grouped p v (copies_of path) (work_cost weight c.modulus t)
+  where
+    grouped : (p v k x : ℕ) → p * (v * k) * x ≡ p * (v * (k * x))
+    grouped p v k x = omega arith
+lane-cost weight c p v path (turns r s) size = omega arith
+lane-cost weight c p v path (twiddles r s w) size = ap (λ n. weight * n) (sym (ap (λ n. p * (v * n)) (sym (size_under-copies path (r * s))) ∙ size)) ∙ grouped weight p v (copies_of path) (r * s)
+  where
+    grouped : (w p v k n : ℕ) → w * (p * (v * (k * n))) ≡ p * (v * (k * (w * n)))
+    grouped w p v k n = omega arith
+lane-cost weight c p v path (thomas_in r s) size = omega arith
+lane-cost weight c p v path (thomas_out r s) size = omega arith
+
+-- a diagonal that the processors share
+share-exact : (p w n : ℕ) → 0 < p → n % p ≡ 0 → p * (w * n / p) ≡ w * n
+share-exact p w n positive rest =
+    let whole : w * n ≡ p * (w * (n / p)) = ap (λ k. w * k) (sym (product_div n p rest)) ∙ turned w p (n / p) in
+    ap (λ k. p * (k / p)) whole ∙ ap (λ k. p * k) (mul-div_right (w * (n / p)) positive) ∙ sym whole
+  where
+    turned : (w p k : ℕ) → w * (p * k) ≡ p * (w * k)
+    turned w p k = omega arith
+
+diagonal-cost : (weight : ℕ) (c : Target) (p : ℕ) (path : Path) (k : PlainCore) → 0 < p → size_under path (core_size k) ≡ c.size → IsDiagonal k → c.size % p ≡ 0 → cost_in weight c (embed (lowered_core path k)) ≡ p * (copies_of path * core_cost weight c.modulus k / p)
+diagonal-cost weight c p path (piece t) positive size is rest = absurd is
+diagonal-cost weight c p path (turns r s) positive size is rest = absurd is
+diagonal-cost weight c p path (twiddles r s w) positive size is rest =
+    let all : copies_of path * (weight * (r * s)) ≡ weight * c.size = turned (copies_of path) weight (r * s) ∙ ap (λ n. weight * n) (sym (size_under-copies path (r * s)) ∙ size) in
+    sym (ap (λ n. p * (n / p)) all ∙ share-exact p weight c.size positive rest)
+  where
+    turned : (k w n : ℕ) → k * (w * n) ≡ w * (k * n)
+    turned k w n = omega arith
+diagonal-cost weight c p path (thomas_in r s) positive size is rest = absurd is
+diagonal-cost weight c p path (thomas_out r s) positive size is rest = absurd is
+
+-- permutations
+before-cost : (weight : ℕ) (c : Target) (p : ℕ) (path : Path) (k : PlainCore) → IsPermutation k → cost_in weight c (embed (lowered_core path k)) ≡ p * 0
+before-cost weight c p path (piece t) is = absurd is
+before-cost weight c p path (turns r s) is = omega arith
+before-cost weight c p path (twiddles r s w) is = absurd is
+before-cost weight c p path (thomas_in r s) is = omega arith
+before-cost weight c p path (thomas_out r s) is = omega arith
+
+after-cost : (weight : ℕ) (c : Target) (p : ℕ) (path : Path) (k : PlainCore) → IsPermutation k → cost_in weight c (embed (after_core path k)) ≡ p * 0
+after-cost weight c p path (piece t) is = absurd is
+after-cost weight c p path (turns r s) is = omega arith
+after-cost weight c p path (twiddles r s w) is = absurd is
+after-cost weight c p path (thomas_in r s) is = omega arith
+after-cost weight c p path (thomas_out r s) is = omega arith
+
+factor-cost : (weight : ℕ) (c : Target) (p v : ℕ) (f : PlainFactor) → 0 < p → HasLanes c.size p v f → cost_in weight c (embed (factor_term p v f)) ≡ p * share_of weight c.modulus p v f
+factor-cost weight c p v (lanes s) positive h = lane-cost weight c p v s.path s.core h
+factor-cost weight c p v (diagonals s) positive h = diagonal-cost weight c p s.path s.core positive h.0 h.1 h.2
+factor-cost weight c p v (move_before s) positive h = before-cost weight c p (within (Columns v) s.path) s.core h.1
+factor-cost weight c p v (move_after s) positive h = after-cost weight c p (within (Columns v) s.path) s.core h.1
+factor-cost weight c p v (tiles path) positive h = none (copies_of (within (Blocks p) path)) p
+  where
+    none : (k p : ℕ) → k * 0 ≡ p * 0
+    none k p = omega arith
+
+-- ---- phases
+
+phase-cost : (weight : ℕ) (c : Target) (p v : ℕ) (fs : List PlainFactor) → 0 < p → All (HasLanes c.size p v) fs → cost_in weight c (phase_term (map (factor_term p v) fs)) ≡ p * shares_in weight c.modulus p v fs
+phase-cost weight c p v [] positive h = omega arith
+phase-cost weight c p v (f ∷ fs) positive h =
+    ap₂ (λ a b. a + b) (factor-cost weight c p v f positive (All-head (HasLanes c.size p v) f fs h))
+    (phase-cost weight c p v fs positive (All-tail (HasLanes c.size p v) f fs h))
+    ∙ shared p (share_of weight c.modulus p v f) (shares_in weight c.modulus p v fs)
+  where
+    shared : (p a b : ℕ) → p * a + p * b ≡ p * (a + b)
+    shared p a b = omega arith
+
+-- one phase or two
+phases-cost : (weight : ℕ) (c : Target) (p v : ℕ) (b : Bool) (first second : List PlainFactor) →
+    cost_in weight c (phase_term (map (factor_term p v) (first ++ second))) ≡ p * shares_in weight c.modulus p v (first ++ second) →
+    cost_in weight c (phase_term (map (factor_term p v) first)) ≡ p * shares_in weight c.modulus p v first →
+    cost_in weight c (phase_term (map (factor_term p v) second)) ≡ p * shares_in weight c.modulus p v second →
+    terms_cost weight (work_cost weight c.modulus) c.size (map (phase_term) (map (map (factor_term p v)) (if b then (first ++ second) ∷ [] else first ∷ second ∷ []))) ≡ p * shares_in weight c.modulus p v (first ++ second)
+phases-cost weight c p v true first second all h k = omega (arith, all)
+phases-cost weight c p v false first second all h k =
+    let both = ap (λ n. p * n) (shares_in-append weight c.modulus p v first second) in
+    let shared : p * (shares_in weight c.modulus p v first + shares_in weight c.modulus p v second) ≡ p * shares_in weight c.modulus p v first + p * shares_in weight c.modulus p v second = omega arith in omega (arith, h, k, both, shared)
+
+layout-costs : (weight : ℕ) (c : Target) (l : Layout) → CanShareLayout c l →
+    terms_cost weight (work_cost weight c.modulus) c.size (map phase_term (lowered_of c l))
+    ≡ c.procs
+    * shares_in weight c.modulus c.procs c.lanes ((vec_of (layout_smp c l)).first ++ (vec_of (layout_smp c l)).second)
+layout-costs weight c l shares =
+    let g = vec_of (layout_smp c l) in
+    let p = c.procs in
+    let v = c.lanes in
+    let positive : 0 < p = omega (arith, shares.procs) in
+    let Shaped : PlainFactor → Type 0 = HasLanes c.size p v in
+    let shaped = (vec_shaped c (layout_smp c l) (record { whole = only l; shares = shares; form = refl })).0 in
+    phases-cost weight c p v (p == 1) g.first g.second (phase-cost weight c p v (g.first ++ g.second) positive shaped)
+    (phase-cost weight c p v g.first positive (all-left Shaped g.first g.second shaped))
+    (phase-cost weight c p v g.second positive (all-right Shaped g.first g.second shaped))
+
+-- the products at the end, of which each processor has an equal part
+closing-exact : (weight n p : ℕ) (o : Option ℕ) → 0 < p → HasEqualParts n p o →
+    closing_cost weight n o ≡ p * (closing_cost weight n o / p)
+closing-exact weight n p None positive even = sym (ap (λ k. p * k) (zero-div p) ∙ omega arith)
+closing-exact weight n p (Some v) positive even = sym (share-exact p weight n positive even)
+
+whole-costs : (weight : ℕ) (c : Target) (w : Whole) → CanShareLayout c w.layout →
+    sigma_cost weight (work_cost weight c.modulus) (whole_sigma c w)
+    ≡ c.procs * vec_share weight c.modulus (vec_of (smp_of c w))
+whole-costs weight c w shares =
+    let g = vec_of (smp_of c w) in
+    let p = c.procs in
+    let even = (vec_shaped c (smp_of c w) (record { whole = w; shares = shares; form = refl })).1 in
+    let positive : 0 < p = omega (arith, shares.procs) in
+    closed-cost weight (work_cost weight c.modulus) c.size w.factor (map phase_term (terms_in g)) (has_phase g)
+    ∙ ap₂ (λ a b. a + b) (layout-costs weight c w.layout shares) (closing-exact weight c.size p w.factor positive even)
+    ∙ both p (shares_in weight c.modulus p c.lanes (g.first ++ g.second)) (closing_cost weight c.size w.factor / p)
+  where
+    both : (p a b : ℕ) → p * a + p * b ≡ p * (a + b)
+    both p a b = omega arith
+
+-- the processors do the operations of the terms in equal shares
+pub vec_costs : (weight : ℕ) (c : Target) (g : PlainVec) → IsVecOf c g → sigma_cost weight (work_cost weight c.modulus) (sigma_of g) ≡ c.procs * vec_share weight c.modulus g
+vec_costs weight c g h =
+    subst (λ z. sigma_cost weight (work_cost weight c.modulus) (sigma_of z) ≡ c.procs * vec_share weight c.modulus z)
+    (sym h.form) (whole-costs weight c h.whole h.shares)
+
+-- which are those of the whole
+pub sigma_costs : SigmaCosts
+sigma_costs weight c w can =
+    let kept = vec_keeps weight c.modulus c (smp_of c w) (record { whole = w; shares = can.shares; form = refl }) in
+    whole-costs weight c w can.shares ∙ ap (λ k. c.procs * k) kept.1 ∙ smp_costs weight c w can.shares

@@ -1,0 +1,165 @@
+-- The terms of trees are good terms, which do what they did.
+use Rattle.std.proofs.Common.{◌≡◌, ℕ, ◌*◌, ◌<◌, ◌≤◌, Bool, true, false, arith, refl, sym, ap, ap₂, ◌∙◌, List, ◌∷◌, subst, if◌then◌else◌}
+use Rattle.std.specs.Prelude.{◌==◌}
+use Rattle.index_fn.specs.Mapping.{Mapping, Strided, ThomasIn, ThomasOut, ThomasBack, at}
+use Rattle.smp_rewrite.specs.declared.layout_steps.target.Target.{Target}
+use Rattle.sigma_lower.specs.Machine.{IsMachine}
+use Rattle.operators.specs.Operator.{gather}
+use Rattle.sigma_spl.specs.Good.{IsMove, IsGoodTerm, IsVector, AreBlocks}
+use Rattle.sigma_spl.specs.Merge.{unit_below, back_of}
+use Rattle.sigma_spl.specs.Term.{scat, nest, term_on}
+use Rattle.sigma_spl.specs.Work.{tile}
+use Rattle.sigma_spl.proofs.Keeps.{scatter-same}
+use Rattle.sigma_spl.proofs.Nests.{moves-no-words}
+use Rattle.sigma_lower.specs.Shared.{embed, Embeds, FactorsEmbed}
+use Rattle.sigma_lower.specs.Trees.{core_term}
+use Rattle.sigma_lower.proofs.Moves.{back-wrapped, strided-move, in-move, out-move}
+use Rattle.sigma_lower.proofs.Parts.{tile-under}
+use Rattle.sigma_lower.proofs.Trees.{piece-nests, core-lowers, flip}
+use Rattle.sigma_lower.proofs.Vectors.{laned-move}
+use Rattle.sigma_lower.proofs.TreeTerms.Vectors.{HasVectors, vectors-blocks, vectors-columns}
+use Rattle.sigma_lower.specs.TreeTerms.Good.{IsGoodCore, IsGood}
+use Rattle.sigma_lower.specs.TreeTerms.Term.{lowered_core, factor_term}
+use Rattle.sigma_lower.specs.TreeTerms.Wrapped.{wrapped}
+use Rattle.sigma_lower.proofs.TreeTerms.Lowering.{factor_on, part-le}
+use Rattle.sigma_lower.proofs.TreeTerms.Permuted.{gather-under}
+use Rattle.smp_rewrite.specs.Smp.{within}
+use Rattle.smp_rewrite.specs.Laws.{IsDiagonal}
+use Rattle.smp_rewrite.specs.LayoutSteps.Meaning.{core_size, step_on}
+use Rattle.smp_rewrite.specs.LayoutSteps.Step.{PlainCore, piece, turns, thomas_in, thomas_out, PlainStep}
+use Rattle.smp_rewrite.specs.LayoutSteps.Step as steps
+use Rattle.tensor_paths.specs.declared.Tensor.TheVariants.{Blocks, Columns}
+use Rattle.tensor_paths.specs.Path.{Path, copies_of, size_under}
+use Rattle.tensor_paths.proofs.Under.{size_under-copies}
+use Rattle.vec_rewrite.specs.Vectors.{PlainFactor, lanes, diagonals, move_before, move_after, tiles, factor_step}
+
+-- permutations move whole vectors
+abbrev MovesBy : ℕ → Path → PlainCore → Type 0
+MovesBy v path (piece t) = Unit {0}
+MovesBy v path (turns r s) = HasVectors v path
+MovesBy v path (steps.twiddles r s w) = Unit {0}
+MovesBy v path (thomas_in r s) = HasVectors v path
+MovesBy v path (thomas_out r s) = HasVectors v path
+
+vectors-move : (v : ℕ) (path : Path) (k : PlainCore) → HasVectors v path → MovesBy v path k
+vectors-move v path (piece t) h = tt
+vectors-move v path (turns r s) h = h
+vectors-move v path (steps.twiddles r s w) h = tt
+vectors-move v path (thomas_in r s) h = h
+vectors-move v path (thomas_out r s) h = h
+
+diagonal-moves : (v : ℕ) (path : Path) (k : PlainCore) → IsDiagonal k → MovesBy v path k
+diagonal-moves v path (piece t) h = tt
+diagonal-moves v path (turns r s) h = absurd h
+diagonal-moves v path (steps.twiddles r s w) h = tt
+diagonal-moves v path (thomas_in r s) h = absurd h
+diagonal-moves v path (thomas_out r s) h = absurd h
+
+pub embed-core : (path : Path) (k : PlainCore) → embed (lowered_core path k) ≡ core_term path k
+embed-core path (piece t) = refl
+embed-core path (turns r s) = refl
+embed-core path (steps.twiddles r s w) = refl
+embed-core path (thomas_in r s) = refl
+embed-core path (thomas_out r s) = refl
+
+-- a scatter by what undoes a permutation
+scat-good : (v : ℕ) (path : Path) (n : ℕ) (f : Mapping) → 0 < size_under path n → HasVectors v path → back_of (back_of f) ≡ f → IsMove 0 n f → IsMove 0 n (back_of f) → IsGoodTerm v (size_under path n) (scat (wrapped path n f))
+scat-good v path n f some vectors twice h g =
+    let there = laned-move v path n f some vectors h in
+    let other = laned-move v path n (back_of f) some vectors g in
+    (there, subst (IsMove v (size_under path n)) (sym (back-wrapped path n f)) other, flip (size_under path n) (at (wrapped path n f)) (at (back_of (wrapped path n f))) there.permutes)
+
+core-good : (v : ℕ) (path : Path) (k : PlainCore) → 0 < size_under path (core_size k) → IsGoodCore k → core_size k ≤ 1048576 → MovesBy v path k → IsGoodTerm v (size_under path (core_size k)) (core_term path k)
+core-good v path (piece w) some h low moves = (piece-nests v path w h, refl)
+core-good v path (turns r s) some h low moves = laned-move v path (r * s) (Strided r s) some moves (strided-move r s (omega (arith, h.0)) (omega (arith, h.1)) low)
+core-good v path (steps.twiddles r s w) some h low moves = refl
+core-good v path (thomas_in r s) some h low moves = laned-move v path (r * s) (ThomasIn r s) some moves (in-move r s h)
+core-good v path (thomas_out r s) some h low moves =
+    let out = out-move r s h in
+    let back : IsMove 0 (r * s) (ThomasBack r s (unit_below r s r) (unit_below s r s)) =
+    record { vectors = moves-no-words _; back_vectors = moves-no-words _; there = out.back; back = out.there; permutes = flip (r * s) (at (ThomasOut r s)) _ out.permutes } in
+    scat-good v path (r * s) (ThomasBack r s (unit_below r s r) (unit_below s r s)) some moves refl back out
+
+-- the sizes of a step
+pub record AreSizes (c : Target) (path : Path) (k : PlainCore) : Type 0 where
+  pub some : 0 < size_under path (core_size k)
+  pub high : size_under path (core_size k) ≤ 1048576
+  pub low : core_size k ≤ 1048576
+
+pub sizes-of : (c : Target) (s : PlainStep) → IsMachine c → IsGood c.size s → AreSizes c s.path s.core
+sizes-of c s valid h =
+    let size = h.size in
+    let d = core_size s.core in
+    let low : d ≤ c.size = part-le (copies_of s.path) d c.size (sym (size_under-copies s.path d) ∙ size) valid.size.0 in
+    record { some = omega (arith, size, valid.size.0); high = omega (arith, size, valid.size.1); low = omega (arith, low, valid.size.1) }
+
+core-embeds-good : (c : Target) (v : ℕ) (s : PlainStep) → IsMachine c → IsGood c.size s → MovesBy v s.path s.core → IsGoodTerm v c.size (embed (lowered_core s.path s.core))
+core-embeds-good c v s valid h moves =
+    let sizes = sizes-of c s valid h in
+    subst (λ t. IsGoodTerm v c.size t) (sym (embed-core s.path s.core)) (subst (λ n. IsGoodTerm v n (core_term s.path s.core)) h.size (core-good v s.path s.core sizes.some h.core sizes.low moves))
+
+core-embeds-on : (c : Target) (s : PlainStep) (x : List ℕ) → IsMachine c → IsGood c.size s → IsVector c.modulus c.size x → term_on c.modulus c.size (embed (lowered_core s.path s.core)) x ≡ step_on c.modulus s x
+core-embeds-on c s x valid h v =
+    let sizes = sizes-of c s valid h in
+    let lower = core-lowers c s.path s.core sizes.some h.core sizes.high sizes.low in
+    ap₂ (λ n t. term_on c.modulus n t x) (sym h.size) (embed-core s.path s.core) ∙ lower.on x (subst (λ n. IsVector c.modulus n x) (sym h.size) v)
+
+core-embeds : (c : Target) (p v : ℕ) (f : PlainFactor) → IsMachine c → IsGood c.size (factor_step p v f) → factor_term p v f ≡ lowered_core (factor_step p v f).path (factor_step p v f).core → MovesBy v (factor_step p v f).path (factor_step p v f).core → Embeds c p v f
+core-embeds c p v f valid h same moves =
+    let s = factor_step p v f in
+    record {
+      good = subst (λ t. IsGoodTerm v c.size (embed t)) (sym same) (core-embeds-good c v s valid h moves);
+      on = λ x w. ap (λ t. term_on c.modulus c.size (embed t) x) same ∙ core-embeds-on c s x valid h w ∙ sym (factor_on c p v f x h);
+    }
+
+-- a stride permutation after what comes before it
+turned-embeds : (c : Target) (p v : ℕ) (path : Path) (r s : ℕ) → IsMachine c → IsGood c.size (factor_step p v (move_after (steps.step path (turns r s)))) → Embeds c p v (move_after (steps.step path (turns r s)))
+turned-embeds c p v path r s valid h =
+    let all = within (Columns v) path in
+    let n = r * s in
+    let sizes = sizes-of c (steps.step all (turns r s)) valid h in
+    let turned = strided-move r s (omega (arith, h.core.0)) (omega (arith, h.core.1)) sizes.low in
+    let back : IsMove 0 n (Strided s r) = record { vectors = moves-no-words _; back_vectors = moves-no-words _; there = turned.back; back = turned.there; permutes = flip n (at (Strided r s)) (at (Strided s r)) turned.permutes } in
+    let good : IsGoodTerm v (size_under all n) (scat (wrapped all n (Strided s r))) = scat-good v all n (Strided s r) sizes.some (vectors-columns v path) refl back turned in
+    record {
+      good = subst (λ k. IsGoodTerm v k (scat (wrapped all n (Strided s r)))) h.size good;
+      on = λ x w.
+          let wide = subst (λ k. IsVector c.modulus k x) (sym h.size) w in
+          ap (λ k. term_on c.modulus k (scat (wrapped all n (Strided s r))) x) (sym h.size)
+          ∙ sym (scatter-same c.modulus (size_under all n) (wrapped all n (Strided s r)) x good.2 wide)
+          ∙ ap (λ g. gather (size_under all n) (at g) x) (back-wrapped all n (Strided s r))
+          ∙ sym (gather-under all n (Strided r s) x turned.permutes.there_below)
+          ∙ sym (factor_on c p v (move_after (steps.step path (turns r s))) x h);
+    }
+
+tile-embeds : (c : Target) (p v : ℕ) (path : Path) → IsMachine c → AreBlocks path → IsGood c.size (factor_step p v (tiles path)) → Embeds c p v (tiles path)
+tile-embeds c p v path valid blocks h =
+    record {
+      good = ((λ some. refl, blocks-within p path blocks), h.size);
+      on = λ x w.
+          let all = within (Blocks p) path in
+          ap (λ k. term_on c.modulus k (nest all (tile v)) x) (sym h.size)
+          ∙ tile-under c.modulus all v x (subst (λ k. IsVector c.modulus k x) (sym h.size) w)
+          ∙ sym (factor_on c p v (tiles path) x h);
+    } where
+      pick : (b : Bool) (p : ℕ) (path : Path) → AreBlocks path → AreBlocks (if b then path else Blocks p ∷ path)
+      pick true p path h = h
+      pick false p path h = h
+
+      blocks-within : (p : ℕ) (path : Path) → AreBlocks path → AreBlocks (within (Blocks p) path)
+      blocks-within p path h = pick (p == 1) p path h
+
+after-embeds : (c : Target) (p v : ℕ) (path : Path) (k : PlainCore) → IsMachine c → IsGood c.size (factor_step p v (move_after (steps.step path k))) → Embeds c p v (move_after (steps.step path k))
+after-embeds c p v path (piece t) valid h = core-embeds c p v (move_after (steps.step path (piece t))) valid h refl tt
+after-embeds c p v path (turns r s) valid h = turned-embeds c p v path r s valid h
+after-embeds c p v path (steps.twiddles r s w) valid h = core-embeds c p v (move_after (steps.step path (steps.twiddles r s w))) valid h refl tt
+after-embeds c p v path (thomas_in r s) valid h = core-embeds c p v (move_after (steps.step path (thomas_in r s))) valid h refl (vectors-columns v path)
+after-embeds c p v path (thomas_out r s) valid h = core-embeds c p v (move_after (steps.step path (thomas_out r s))) valid h refl (vectors-columns v path)
+
+pub factors_embed : FactorsEmbed
+factors_embed c p v (lanes s) valid laned blocks h =
+    core-embeds c p v (lanes s) valid h refl (vectors-move v (factor_step p v (lanes s)).path s.core (vectors-blocks v p (within (Columns v) s.path) (vectors-columns v s.path)))
+factors_embed c p v (diagonals s) valid laned blocks h = core-embeds c p v (diagonals s) valid h refl (diagonal-moves v s.path s.core laned.1)
+factors_embed c p v (move_before s) valid laned blocks h = core-embeds c p v (move_before s) valid h refl (vectors-move v (within (Columns v) s.path) s.core (vectors-columns v s.path))
+factors_embed c p v (move_after s) valid laned blocks h = after-embeds c p v s.path s.core valid h
+factors_embed c p v (tiles path) valid laned blocks h = tile-embeds c p v path valid blocks h

@@ -1,0 +1,218 @@
+-- What terms do under the tensors of a path.
+use Rattle.std.proofs.Common.{◌≡◌, ℕ, suc, ◌+◌, ◌*◌, ◌/◌, ◌%◌, ◌<◌, arith, refl, sym, ap, ap₂, ◌∙◌, List, [], ◌∷◌, ◌++◌, length, inl, inr, subst, mod-lt, mod-eq_of_lt, div-lt_iff_lt-mul}
+use Rattle.std.specs.Prelude.{slice_index}
+use Rattle.std.proofs.Math.Nat.{mod-mod, div-one, mod-one, div-eq_of_lt}
+use Rattle.std.proofs.lemmas.Bool.{cases_eq}
+use Rattle.std.proofs.lemmas.Bool.Decides.{nat_tests}
+use Rattle.std.proofs.lemmas.List.FromFn.{fill_by_all}
+use Rattle.matrix_meaning.specs.declared.Kind.{Kind}
+use Rattle.matrix_meaning.specs.Kind.{transform, entry_of}
+use Rattle.operators.specs.Operator.{Operator, gather, scale, stride, block, column, on_blocks, on_columns}
+use Rattle.operators.specs.Identities.{turn}
+use Rattle.operators.proofs.Places.{stride_below}
+use Rattle.operators.specs.Sum.{list_below}
+use Rattle.operators.proofs.Lists.{at-list_below, list_below-same, length-list_below, place_below, factor_positive}
+use Rattle.operators.proofs.Sums.{sum_below-same}
+use Rattle.sigma_spl.specs.Good.{AreBelow, CanNest, IsGoodTerm, IsVector}
+use Rattle.sigma_spl.specs.Nest.{PlainFactors, factor_count, factor_at}
+use Rattle.sigma_spl.specs.Term.{PlainTerm, nest, move, diag, product, term_on}
+use Rattle.sigma_spl.specs.Work.{PlainWork, tile, work_size, work_on}
+use Rattle.sigma_spl.proofs.Keeps.{under-vector, vector-fill}
+use Rattle.sigma_spl.proofs.Natural.{at-natural}
+use Rattle.sigma_spl.proofs.Walk.{vector-below}
+use Rattle.sigma_lower.specs.Terms.{one_more, Lowers}
+use Rattle.sigma_lower.proofs.TreeTerms.Permuted.{scale-under}
+use Rattle.tensor_paths.specs.declared.Tensor.{Tensor}
+use Rattle.tensor_paths.specs.declared.Tensor.TheVariants.{Blocks, Columns}
+use Rattle.tensor_paths.specs.Path.{Path, count_of, grown, size_under, one_under, under, place, Reads, local}
+use Rattle.tensor_paths.proofs.PathPlaces.{at-under, place-below}
+use Rattle.tensor_paths.proofs.Under.{size_under-push, under-push, under-product, under-size}
+
+-- ---- loops
+
+-- an operator that makes residues, and looks at no more than d items
+pub record IsWork (m d : ℕ) (a : Operator) : Type 0 where
+  pub reads : Reads d a
+  pub residue : (y : List ℕ) (k : ℕ) → k < d → slice_index (a y) k % m ≡ slice_index (a y) k
+  pub size : (y : List ℕ) → length (a y) ≡ d
+
+under-fill : (path : Path) (d : ℕ) (a : Operator) (x : List ℕ) (f : ℕ → ℕ) → ((y : List ℕ) → length (a y) ≡ d) → ((w : ℕ) → w < size_under path d → f w ≡ slice_index (under path d a x) w) → list_below (size_under path d) f ≡ under path d a x
+under-fill path d a x f size h = list_below-same (size_under path d) f (slice_index (under path d a x)) h ∙ sym (fill_by_all (slice_index (under path d a x)) (under path d a x) (size_under path d) 0 (under-size path d a size x) (λ k below. refl))
+
+pub nest-under : (m : ℕ) (path : Path) (w : PlainWork) (x : List ℕ) → IsWork m (work_size w) (work_on m w) → term_on m (size_under path (work_size w)) (nest path w) x ≡ under path (work_size w) (work_on m w) x
+nest-under m path w x h =
+    let d = work_size w in
+    under-fill path d (work_on m w) x _ h.size (λ p below.
+    at-natural path d p _ (λ s. (s + 0) % m ≡ slice_index (under path d (work_on m w) x) p) below (λ vs k range within there.
+    ap (λ s. s % m) (omega arith)
+    ∙ h.residue (local path d vs x) k within
+    ∙ sym (at-under path d (work_on m w) x vs k h.reads range within)
+    ∙ ap (slice_index (under path d (work_on m w) x)) there))
+
+pub nest-lowers : (m : ℕ) (path : Path) (w : PlainWork) → CanNest 0 path w → IsWork m (work_size w) (work_on m w) → Lowers m (size_under path (work_size w)) (nest path w) (under path (work_size w) (work_on m w))
+nest-lowers m path w loose h = record { good = (loose, refl); on = λ x v. nest-under m path w x h }
+
+pub transform-work : (kind : Kind) (m d w : ℕ) → IsWork m d (transform kind m d w)
+transform-work kind m d w =
+    record {
+      reads = λ x.
+          list_below-same d _ _ (λ k below. ap (λ s. s % m) (sum_below-same d _ _ (λ l within.
+          ap (λ v. entry_of kind m d w k l * v) (at-list_below d (slice_index x) l within))));
+      residue = λ y k below. ap (λ s. s % m) (at-list_below d _ k below) ∙ mod-mod _ m ∙ sym (at-list_below d _ k below);
+      size = λ y. length-list_below d _;
+    }
+
+-- ---- copies that move their items
+
+below-all : (n : ℕ) (ks : List ℕ) → ((i : ℕ) → i < length ks → slice_index ks i < n) → AreBelow n ks
+below-all n [] h = tt
+below-all n (k ∷ ks) h = (h 0 (omega arith), below-all n ks (λ i below. h (suc i) (omega arith)))
+
+pub move-lowers : (m : ℕ) (path : Path) (ks : List ℕ) → ((i : ℕ) → i < length ks → slice_index ks i < length ks) → Lowers m (size_under path (length ks)) (move path ks) (under path (length ks) (gather (length ks) (slice_index ks)))
+move-lowers m path ks h =
+    let d = length ks in
+    let a : Operator = gather d (slice_index ks) in
+    let reads : Reads d a = λ x. list_below-same d _ _ (λ k below. at-list_below d (slice_index x) (slice_index ks k) (h k below)) in
+    record {
+      good = (below-all d ks h, refl);
+      on = λ x v.
+          under-fill path d a x _ (λ y. length-list_below d _) (λ p below.
+          at-natural path d p _ (λ s. (s + 0) % m ≡ slice_index (under path d a x) p) below (λ vs k range within there.
+          let same : slice_index (under path d a x) p ≡ slice_index x (place path d vs (slice_index ks k)) =
+          ap (slice_index (under path d a x)) (sym there) ∙ at-under path d a x vs k reads range within ∙ at-list_below d _ k within ∙ at-list_below d _ (slice_index ks k) (h k within) in
+          ap (λ s. (s + 0) % m) (at-list_below d _ k within ∙ at-list_below d _ k within)
+          ∙ ap (λ s. s % m) (omega arith)
+          ∙ mod-eq_of_lt (v.residues (place path d vs (slice_index ks k)) (place-below path d vs (slice_index ks k) range (h k within)))
+          ∙ sym same));
+    }
+
+-- a tile turns its items round
+pub tile-under : (m : ℕ) (path : Path) (v : ℕ) (x : List ℕ) → IsVector m (size_under path (v * v)) x → term_on m (size_under path (v * v)) (nest path (tile v)) x ≡ under path (v * v) (turn v v) x
+tile-under m path v x h =
+    let d = v * v in
+    let a : Operator = turn v v in
+    let inside = λ (k : ℕ) (below : k < d). (stride_below v v k below).1 in
+    let reads : Reads d a = λ y. list_below-same d _ _ (λ k below. at-list_below d (slice_index y) (stride v v k) (inside k below)) in
+    under-fill path d a x _ (λ y. length-list_below d _) (λ p below.
+    at-natural path d p _ (λ s. (s + 0) % m ≡ slice_index (under path d a x) p) below (λ vs k range within there.
+    let q = stride v v k in
+    let item : slice_index (a (local path d vs x)) k ≡ slice_index x (place path d vs q) = at-list_below d _ k within ∙ at-list_below d _ q (inside k within) in
+    let same : slice_index (under path d a x) p ≡ slice_index (a (local path d vs x)) k = ap (slice_index (under path d a x)) (sym there) ∙ at-under path d a x vs k reads range within in
+    ap (λ s. (s + 0) % m) item
+    ∙ ap (λ s. s % m) (omega arith)
+    ∙ mod-eq_of_lt (h.residues (place path d vs q) (place-below path d vs q range (inside k within)))
+    ∙ sym item
+    ∙ sym same))
+
+-- ---- diagonals
+
+pub diag-lowers : (m : ℕ) (path : Path) (factors : PlainFactors) → Lowers m (size_under path (factor_count factors)) (diag path factors) (under path (factor_count factors) (scale m (factor_count factors) (factor_at m factors)))
+diag-lowers m path factors =
+    let n = factor_count factors in
+    record {
+      good = refl;
+      on = λ x v. sym (scale-under path m n (factor_at m factors) x);
+    }
+
+-- ---- vectors under a path
+
+pub under-keeps : (m : ℕ) (path : Path) (n : ℕ) (a : Operator) (x : List ℕ) → ((y : List ℕ) → IsVector m n y → IsVector m n (a y)) → IsVector m (size_under path n) x → IsVector m (size_under path n) (under path n a x)
+under-keeps m [] n a x h v = h x v
+under-keeps m (Blocks c ∷ path) n a x h v =
+    let size = size_under path n in
+    vector-below m (c * size) _ (λ p below.
+    let positive : 0 < size = factor_positive c size p below in
+    let copy : p / size < c = (div-lt_iff_lt-mul positive).1 below in
+    (under-keeps m path n a (block size (p / size) x) h (vector-below m size _ (λ j within. v.residues (p / size * size + j) (place_below (p / size) j c size copy within)))).residues (p % size) (mod-lt p positive))
+under-keeps m (Columns c ∷ path) n a x h v =
+    let size = size_under path n in
+    vector-below m (size * c) _ (λ p below.
+    let positive : 0 < c = factor_positive size c p below in
+    let row : p / c < size = (div-lt_iff_lt-mul positive).1 below in
+    (under-keeps m path n a (column size c (p % c) x) h (vector-below m size _ (λ i within. v.residues (i * c + p % c) (place_below i (p % c) size c within (mod-lt p positive))))).residues (p / c) row)
+
+-- a product under a path, for operators on vectors
+pub under-times : (m : ℕ) (path : Path) (n : ℕ) (a b : Operator) (x : List ℕ) → ((y : List ℕ) → IsVector m n y → IsVector m n (b y)) → IsVector m (size_under path n) x →
+    under path n (λ y. a (b y)) x ≡ under path n a (under path n b x)
+under-times m path n a b x h v =
+    let filled : Operator = λ y. list_below n (slice_index (b y)) in
+    let same = λ (y : List ℕ) (w : IsVector m n y). fill_by_all (slice_index (b y)) (b y) n 0 (h y w).size (λ k below. refl) in
+    under-vector m path n (λ y. a (b y)) (λ y. a (filled y)) x (λ y w. ap a (same y w)) v
+    ∙ under-product path n a filled x (λ y. length-list_below n _)
+    ∙ ap (under path n a) (sym (under-vector m path n b filled x same v))
+
+pub product-lowers : (m : ℕ) (path : Path) (n : ℕ) (s t : PlainTerm) (a b : Operator) → ((y : List ℕ) → IsVector m n y → IsVector m n (b y)) → Lowers m (size_under path n) s (under path n a) → Lowers m (size_under path n) t (under path n b) →
+    Lowers m (size_under path n) (product t s) (under path n (λ y. a (b y)))
+product-lowers m path n s t a b keep h g =
+    record {
+      good = (g.good, h.good);
+      on = λ x v.
+          ap (term_on m (size_under path n) s) (g.on x v)
+          ∙ h.on (under path n b x) (under-keeps m path n b x keep v)
+          ∙ sym (under-times m path n a b x keep v);
+    }
+
+-- the same operator on vectors
+pub lowers-as : (m : ℕ) (path : Path) (n : ℕ) (t : PlainTerm) (a b : Operator) → ((y : List ℕ) → IsVector m n y → a y ≡ b y) → Lowers m (size_under path n) t (under path n a) → Lowers m (size_under path n) t (under path n b)
+lowers-as m path n t a b equal h = record { good = h.good; on = λ x v. h.on x v ∙ under-vector m path n a b x equal v }
+
+-- ---- one tensor more
+
+one-block : (m c n : ℕ) (a : Operator) (y : List ℕ) → c ≡ 1 → IsVector m n y → length (a y) ≡ n → on_blocks c n a y ≡ a y
+one-block m c n a y one v size =
+    let whole : c * n ≡ n = ap (λ z. z * n) one ∙ omega arith in
+    ap (λ k. list_below k (λ p. slice_index (a (block n (p / n) y)) (p % n))) whole
+    ∙ list_below-same n _ (slice_index (a y)) (λ p below.
+    let none : p / n ≡ 0 = quotient-none p n below in
+    ap₂ (λ q r. slice_index (a (block n q y)) r) none (mod-eq_of_lt below)
+    ∙ ap (λ z. slice_index (a z) p) (vector-fill m n y _ v (λ i within. ap (slice_index y) (omega arith))))
+    ∙ sym (fill_by_all (slice_index (a y)) (a y) n 0 size (λ k below. refl)) where
+      quotient-none : (p n : ℕ) → p < n → p / n ≡ 0
+      quotient-none p n below = div-eq_of_lt below
+
+one-column : (m n c : ℕ) (a : Operator) (y : List ℕ) → c ≡ 1 → IsVector m n y → length (a y) ≡ n → on_columns n c a y ≡ a y
+one-column m n c a y one v size =
+    ap (λ k. on_columns n k a y) one
+    ∙ ap (λ k. list_below k (λ p. slice_index (a (column n 1 (p % 1) y)) (p / 1))) (omega arith)
+    ∙ list_below-same n _ (slice_index (a y)) (λ p below.
+    let none : p % 1 ≡ 0 = mod-one p in
+    let same : p / 1 ≡ p = div-one p in
+    ap₂ (λ q r. slice_index (a (column n 1 q y)) r) none same
+    ∙ ap (λ z. slice_index (a z) p) (vector-fill m n y _ v (λ i within. ap (slice_index y) (omega arith))))
+    ∙ sym (fill_by_all (slice_index (a y)) (a y) n 0 size (λ k below. refl))
+
+one-copy : (m : ℕ) (t : Tensor) (n : ℕ) (a : Operator) (y : List ℕ) → count_of t ≡ 1 → IsVector m n y → length (a y) ≡ n → one_under t n a y ≡ a y
+one-copy m (Blocks c) n a y one v size = one-block m c n a y one v size
+one-copy m (Columns c) n a y one v size = one-column m n c a y one v size
+
+pub grown-one : (t : Tensor) (n : ℕ) → count_of t ≡ 1 → grown t n ≡ n
+grown-one (Blocks c) n one = ap (λ z. z * n) one ∙ omega arith
+grown-one (Columns c) n one = ap (λ z. n * z) one ∙ omega arith
+
+pub size-more : (path : Path) (t : Tensor) (n : ℕ) → size_under (one_more path t) n ≡ size_under path (grown t n)
+size-more path t n =
+    elim (cases_eq (count_of t) 1) [
+      | inl one ↦ let is : one_more path t ≡ path = grind (arith, nat_tests) in ap (λ p. size_under p n) is ∙ ap (size_under path) (sym (grown-one t n one))
+      | inr several ↦ let is : one_more path t ≡ path ++ t ∷ [] = grind (arith, nat_tests) in ap (λ p. size_under p n) is ∙ size_under-push path t n
+    ]
+
+pub more-under : (m : ℕ) (path : Path) (t : Tensor) (n : ℕ) (a : Operator) (x : List ℕ) → ((y : List ℕ) → IsVector m n y → IsVector m n (a y)) → IsVector m (size_under path (grown t n)) x →
+    under (one_more path t) n a x ≡ under path (grown t n) (one_under t n a) x
+more-under m path t n a x keep v =
+    elim (cases_eq (count_of t) 1) [
+      | inl one ↦
+          let is : one_more path t ≡ path = grind (arith, nat_tests) in
+          ap (λ p. under p n a x) is
+          ∙ ap (λ k. under path k a x) (sym (grown-one t n one))
+          ∙ sym (under-vector m path (grown t n) (one_under t n a) a x (λ y w. let u = subst (λ k. IsVector m k y) (grown-one t n one) w in one-copy m t n a y one u (keep y u).size) v)
+      | inr several ↦ let is : one_more path t ≡ path ++ t ∷ [] = grind (arith, nat_tests) in ap (λ p. under p n a x) is ∙ under-push path t n a x
+    ]
+
+pub more-lowers : (m : ℕ) (path : Path) (t : Tensor) (n : ℕ) (s : PlainTerm) (a : Operator) → ((y : List ℕ) → IsVector m n y → IsVector m n (a y)) → Lowers m (size_under (one_more path t) n) s (under (one_more path t) n a) →
+    Lowers m (size_under path (grown t n)) s (under path (grown t n) (one_under t n a))
+more-lowers m path t n s a keep h =
+    let e = size-more path t n in
+    record {
+      good = subst (λ k. IsGoodTerm 0 k s) e h.good;
+      on = λ x v. ap (λ k. term_on m k s x) (sym e) ∙ h.on x (subst (λ k. IsVector m k x) (sym e) v) ∙ more-under m path t n a x keep v;
+    }

@@ -1,0 +1,51 @@
+-- The tensors in the term of a formula have several copies.
+use Rattle.std.proofs.Common.{◌≡◌, ℕ, zero, suc, ◌^◌, ◌≤◌, arith, sym, [], ◌∷◌, ◌++◌, inl, inr, subst, pow_pos}
+use Rattle.std.proofs.lemmas.Bool.{cases_eq, cases_lt}
+use Rattle.std.proofs.lemmas.Bool.Decides.{nat_tests}
+use Rattle.matrix_meaning.specs.declared.Kind.TheVariants.{Dft}
+use Rattle.sigma_spl.specs.Limits.{AreSeveral, HasSeveral}
+use Rattle.sigma_spl.specs.Term.{nest}
+use Rattle.sigma_spl.specs.Work.{kernel, horner}
+use Rattle.sigma_spl.proofs.Several.{several-push}
+use Rattle.tree_model.specs.Trees.{single}
+use Rattle.sigma_lower.specs.Terms.{one_more, halvings, hadamard_term, fourier_term, term_of}
+use Rattle.spl_ast.specs.Formula.{Formula, Identity, Fourier, Hadamard, Twiddles, Diagonal, Stride, Permutation, GoodThomasIn, GoodThomasOut, Product, TensorLeft, TensorRight, DirectSum, Pending}
+use Rattle.spl_ast.specs.Shape.{IsShaped}
+use Rattle.tensor_paths.specs.declared.Tensor.{Tensor}
+use Rattle.tensor_paths.specs.declared.Tensor.TheVariants.{Blocks, Columns}
+use Rattle.tensor_paths.specs.Path.{Path, count_of}
+use Rattle.tree_model.specs.Breakdown.{leaf}
+
+several-more : (path : Path) (t : Tensor) → AreSeveral path → 1 ≤ count_of t → AreSeveral (one_more path t)
+several-more path t h some =
+    elim (cases_eq (count_of t) 1) [
+      | inl one ↦ let is : one_more path t ≡ path = grind (arith, nat_tests) in subst AreSeveral (sym is) h
+      | inr other ↦ let is : one_more path t ≡ path ++ t ∷ [] = grind (arith, nat_tests) in subst AreSeveral (sym is) (several-push path t h (omega (arith, some, other)))
+    ]
+
+hadamard-several : (path : Path) (k : ℕ) → AreSeveral path → HasSeveral (hadamard_term path k)
+hadamard-several path zero h = tt
+hadamard-several path (suc k) h = (hadamard-several (path ++ Blocks 2 ∷ []) k (several-push path (Blocks 2) h (omega arith)), (several-more path (Columns (2 ^ k)) h (omega (arith, pow_pos k)), tt))
+
+fourier-several : (path : Path) (n w : ℕ) → AreSeveral path → HasSeveral (fourier_term path n w)
+fourier-several path n w h =
+    elim (cases_lt 8 n) [
+      | inl long ↦ let is : fourier_term path n w ≡ nest path (horner w n) = grind (arith, nat_tests) in subst HasSeveral (sym is) (h, omega (arith, long))
+      | inr short ↦ let is : fourier_term path n w ≡ nest path (kernel (single Dft w (leaf n))) = grind (arith, nat_tests) in subst HasSeveral (sym is) (h, tt)
+    ]
+
+pub term-several : (m : ℕ) (path : Path) (f : Formula) → AreSeveral path → IsShaped f → HasSeveral (term_of m path f)
+term-several m path (Identity n) h shaped = tt
+term-several m path (Fourier n w) h shaped = fourier-several path n w h
+term-several m path (Hadamard n) h shaped = hadamard-several path (halvings n n) h
+term-several m path (Twiddles n s w) h shaped = tt
+term-several m path (Diagonal c) h shaped = tt
+term-several m path (Stride n r) h shaped = tt
+term-several m path (Permutation k) h shaped = h
+term-several m path (GoodThomasIn r s) h shaped = tt
+term-several m path (GoodThomasOut r s) h shaped = tt
+term-several m path (Product a b) h shaped = (term-several m path b h shaped.1, term-several m path a h shaped.0)
+term-several m path (TensorLeft a k) h shaped = term-several m (one_more path (Columns k)) a (several-more path (Columns k) h shaped.1.0) shaped.0
+term-several m path (TensorRight k a) h shaped = term-several m (one_more path (Blocks k)) a (several-more path (Blocks k) h shaped.0.0) shaped.1
+term-several m path (DirectSum a b) h shaped = (h, term-several m [] a tt shaped.0, term-several m [] b tt shaped.1)
+term-several m path (Pending a) h shaped = term-several m path a h shaped

@@ -1,0 +1,10 @@
+pub mod Sizes
+pub mod Permuted
+pub mod Lowering
+pub mod Goods
+pub mod Closed
+pub mod Both
+pub mod Behind
+pub mod RootCuts
+pub mod RootTerms
+pub mod Vectors

@@ -1,0 +1,33 @@
+-- The operations of a formula.
+use Rattle.std.specs.Prelude.{◌≡◌, ℕ, ◌+◌, ◌-◌, ◌*◌, ◌<◌, nat_le, if◌then◌else◌, length}
+use Rattle.kernel_gen.specs.Kernel.{products_cost}
+use Rattle.matrix_meaning.specs.declared.Kind.TheVariants.{Dft}
+use Rattle.matrix_meaning.specs.Kind.{entry_of}
+use Rattle.sigma_spl.specs.Counts.{term_cost}
+use Rattle.sigma_lower.specs.Terms.{halvings, term_of}
+use Rattle.spl_ast.specs.Formula.{Formula, Identity, Fourier, Hadamard, Twiddles, Diagonal, Stride, Permutation, GoodThomasIn, GoodThomasOut, Product, TensorLeft, TensorRight, DirectSum, Pending, size_of}
+use Rattle.spl_ast.specs.Shape.{IsShaped}
+pub use Rattle.smp_rewrite.specs.LayoutSteps.Layout.{work_cost}
+use Rattle.tensor_paths.specs.Path.{Path, copies_of, size_under}
+
+-- A permutation has none, a diagonal a product for each item. A short DFT has an addition or subtraction for each entry but those of a column, and a product for each entry that is neither 1 nor -1; a longer one has a product and an addition for each entry
+abbrev pub operations : ℕ → ℕ → Formula → ℕ
+operations weight m (Identity n) = 0
+operations weight m (Fourier n w) =
+    if nat_le n 8 then n * (n - 1) + products_cost weight m 0 (entry_of Dft m n w) n n else (1 + weight) * n * n
+operations weight m (Hadamard n) = n * halvings n n
+operations weight m (Twiddles n s w) = weight * n
+operations weight m (Diagonal c) = weight * length c
+operations weight m (Stride n r) = 0
+operations weight m (Permutation k) = 0
+operations weight m (GoodThomasIn r s) = 0
+operations weight m (GoodThomasOut r s) = 0
+operations weight m (Product a b) = operations weight m a + operations weight m b
+operations weight m (TensorLeft a k) = k * operations weight m a
+operations weight m (TensorRight k a) = k * operations weight m a
+operations weight m (DirectSum a b) = operations weight m a + operations weight m b
+operations weight m (Pending a) = operations weight m a
+
+-- the term of a formula has its operations, for each copy under the path
+abbrev pub LowerCounts : Type 0
+LowerCounts = (weight m : ℕ) (path : Path) (f : Formula) → 0 < m → IsShaped f → term_cost weight (work_cost weight m) (size_under path (size_of f)) (term_of m path f) ≡ copies_of path * operations weight m f

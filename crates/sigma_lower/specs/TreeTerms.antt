@@ -1,0 +1,4 @@
+pub mod Wrapped
+pub mod Term
+pub mod Good
+pub mod Root

@@ -1,0 +1,6 @@
+use Rattle.std.specs.Prelude.{◌≡◌, map, take}
+use Rattle.tensor_paths.specs.Path.{count_of}
+use Rattle.sigma_spl.proofs.variables.counts.Given as goal
+
+abbrev pub invariant-loop-tensor : goal.invariant-loop-tensor
+invariant-loop-tensor l = l.counts.items ≡ map count_of (take l.tensor-index l.path)

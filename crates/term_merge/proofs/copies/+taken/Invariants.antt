@@ -1,5 +1,0 @@
-use Rattle.std.specs.Prelude.{length}
-use Rattle.term_merge.proofs.copies.+taken.Given as goal
-
-abbrev pub decreases-taken : goal.decreases-taken
-decreases-taken l = length l.waiting.now

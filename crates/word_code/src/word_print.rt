@@ -1,0 +1,11 @@
+// The C text of a program on words, in vectors of GCC and Clang.
+mod form;
+mod front;
+mod function;
+mod header;
+mod operations;
+mod places;
+mod printing;
+
+pub use form::Form;
+pub use printing::print_words;
