@@ -7,7 +7,7 @@ use Rattle.code_gen.specs.PassCode.Conditions.{CanWrite, CanWriteNest}
 use Rattle.sigma_spl.specs.Merged.{PlainMerged}
 use Rattle.sigma_spl.specs.Nest.{PlainFactors, values, twiddles, repeated, spread, PlainMultiplier, PlainNest, factor_count}
 use Rattle.perm_algebra.specs.Affine.{Sum}
-use Rattle.tensor_paths.specs.Path.{size_under}
+use Rattle.operators.specs.TensorPaths.Path.{size_under}
 
 -- a place for each of n registers, which can be written
 pub record HasPlaces (n : ℕ) (sums : List Sum) : Type 0 where

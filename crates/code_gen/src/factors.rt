@@ -8,13 +8,13 @@ ghost use Rattle.sigma_spl.specs.Nest.{inner_of};
 ghost use Rattle.sigma_spl.specs.Views.{plain_factors};
 ghost use Rattle.code_gen.specs.Additions.{entries_under};
 ghost use Rattle.code_gen.specs.Conditions.{CanList};
-ghost use Rattle.tensor_paths.specs.Path.{size_under};
+ghost use Rattle.operators.specs.TensorPaths.Path.{size_under};
 
 use memory::NoMemory;
+use operators::Tensor;
 use ring_mod::Modulus;
 use sigma_spl::Factors;
 use std::alloc::Global;
-use tensor_paths::Tensor;
 
 // The twiddle factors of so many columns.
 fn twiddles(

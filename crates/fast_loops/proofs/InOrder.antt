@@ -3,7 +3,7 @@ use Rattle.std.proofs.Common.{◌≡◌, ℕ, zero, suc, ◌+◌, ◌<◌, ◌�
 use Rattle.std.specs.Prelude.{slice_index_or, slice_set}
 use Rattle.icode.specs.declared.action.Action.{Action}
 use Rattle.icode.specs.Machine.{Code, Whole, Local, acts, effects, start, processor_alone, processors_alone, phases_alone, in_order}
-use Rattle.code_laws.proofs.Stores.{length-registers}
+use Rattle.icode.proofs.CodeLaws.Stores.{length-registers}
 use Rattle.fast_loops.proofs.Acts.{DoTheSame}
 
 abbrev lengths : List (List ℕ) → List ℕ

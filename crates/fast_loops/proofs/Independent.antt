@@ -12,7 +12,7 @@ use Rattle.icode.specs.Machine.{Local, effect, effects, memory_after, value_put,
 use Rattle.icode.proofs.Words.{same_from_slice_get, slice_index-agree, slice_get-set_agree, words_at-agree, length-words_at}
 use Rattle.icode.proofs.Lines.{Contains-nil, Contains-range}
 use Rattle.icode.proofs.Transposes.{length-transposed}
-use Rattle.code_laws.proofs.Placing.{length-slice_set, length-with_words, length-lane_by_lane, length-mapped}
+use Rattle.icode.proofs.CodeLaws.Placing.{length-slice_set, length-with_words, length-lane_by_lane, length-mapped}
 use Rattle.fast_loops.proofs.Acts.{IsFresh, AreFresh, IsWide, AreWide, IsRound, next_after, loaded_words, Loads, memory_by, DoTheSame}
 
 -- ---- words

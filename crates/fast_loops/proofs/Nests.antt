@@ -6,7 +6,7 @@ use Rattle.std.proofs.Math.Path.{fun_ext}
 use Rattle.std.proofs.lemmas.List.Elements.{Contains-append_left, Contains-append_right}
 use Rattle.icode.specs.Actions.{Step, StepFits, actions_of, steps_of_stmt, steps_of_body}
 use Rattle.icode.specs.Plain.{PlainStmt, PlainBody, PlainProgram, Loop, Do, NoStmts, AndStmts}
-use Rattle.code_laws.specs.Nests.{AreInRange}
+use Rattle.icode.specs.CodeLaws.Nests.{AreInRange}
 use Rattle.icode.proofs.Bools.{both_true}
 use Rattle.fast_loops.specs.Places.{are_linear, exchanged_round}
 use Rattle.fast_loops.specs.Rounds.{Stored, are_fresh, are_placed, are_nested, last_stride, first_store, first_load, are_independent, steps_less}

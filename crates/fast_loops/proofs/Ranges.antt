@@ -1,7 +1,7 @@
 -- Values of loops, one in the other, that are in range, and where two neighbours change places.
 use Rattle.std.proofs.Common.{◌≡◌, ◌≢◌, ◌⊎◌, ℕ, zero, suc, ◌<◌, List, [], ◌∷◌, ◌++◌, drop, length, refl, ap, ⊎_elim}
 use Rattle.std.specs.Prelude.{slice_index_or}
-use Rattle.code_laws.specs.Nests.{AreInRange}
+use Rattle.icode.specs.CodeLaws.Nests.{AreInRange}
 
 pub long_range : (bs vs : List ℕ) → AreInRange bs vs → length vs ≡ length bs
 long_range [] [] h = refl

@@ -8,7 +8,7 @@ use Rattle.icode.specs.Actions.{Step, StepFits, actions_of, lane_factors, step_o
 use Rattle.icode.specs.Plain.{PlainOp, PlainBody, PlainProgram, Load, Store, Zero, Add, Sub, Neg, MulConst, MulTable, Tile, Loop, Do, NoStmts, AndStmts}
 use Rattle.operators.specs.Sum.{list_below}
 use Rattle.operators.proofs.Lists.{length-list_below}
-use Rattle.code_laws.specs.Nests.{AreInRange}
+use Rattle.icode.specs.CodeLaws.Nests.{AreInRange}
 use Rattle.icode.proofs.Bools.{both_true}
 use Rattle.fast_loops.specs.Rounds.{are_fresh, put_after}
 use Rattle.fast_loops.specs.Interchange.{looped}

@@ -4,9 +4,9 @@ use Rattle.std.specs.List.{range_with_len}
 use Rattle.std.proofs.lemmas.List.Concat.{flat_map-append}
 use Rattle.icode.specs.declared.action.Action.{Action}
 use Rattle.icode.specs.Machine.{Local, effects}
-use Rattle.code_laws.proofs.ByLane.{lists_follow}
-use Rattle.code_laws.proofs.Statements.{range-last}
-use Rattle.code_laws.proofs.Stores.{length-registers}
+use Rattle.icode.proofs.CodeLaws.ByLane.{lists_follow}
+use Rattle.icode.proofs.CodeLaws.Statements.{range-last}
+use Rattle.icode.proofs.CodeLaws.Stores.{length-registers}
 use Rattle.fast_loops.proofs.Acts.{memory_by, DoTheSame}
 
 -- the last round of a loop

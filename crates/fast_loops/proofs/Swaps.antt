@@ -7,8 +7,8 @@ use Rattle.icode.specs.declared.action.Action.TheVariants.{Store}
 use Rattle.icode.specs.Machine.{Local, effect, effects, register_of, stored_words}
 use Rattle.icode.proofs.Words.{same_from_slice_get, with_words-other, length-words_at}
 use Rattle.icode.proofs.Lines.{Contains_or_not, Contains-range}
-use Rattle.code_laws.proofs.ByLane.{lists_follow}
-use Rattle.code_laws.proofs.Stores.{length-memory, length-registers}
+use Rattle.icode.proofs.CodeLaws.ByLane.{lists_follow}
+use Rattle.icode.proofs.CodeLaws.Stores.{length-memory, length-registers}
 use Rattle.fast_loops.proofs.Acts.{AreFresh, AreApart, Stores, Loads, memory_by, DoTheSame, AreWide, IsRound}
 use Rattle.fast_loops.proofs.Independent.{acts_alike}
 

@@ -8,7 +8,6 @@ ghost use Rattle.icode.specs.Program.{plain_program};
 ghost use Rattle.sigma_spl.specs.Views.{plain_merged};
 ghost use Rattle.spl_ast.specs.Formula.{parts_of};
 
-use balanced_sums::balance;
 use code_gen::emit_formula;
 use icode::program::Program;
 use loop_merge::{join_copies, merge};
@@ -16,7 +15,7 @@ use memory::NoMemory;
 use ring_mod::Modulus;
 use sigma_lower::lower_formula;
 use sigma_spl::Merged;
-use spl_ast::Spl;
+use spl_ast::{Spl, balance};
 use std::alloc::Global;
 
 /// The code of a formula modulo m, for one processor of one lane: its listing can be printed, and under every order of

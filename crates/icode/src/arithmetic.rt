@@ -5,7 +5,7 @@ ghost use Rattle.icode.specs.Machine.{lane_by_lane};
 ghost use Rattle.icode.specs.Operation.{operated};
 
 use crate::action::MAX_LANES;
-use quick_mod::QuickModulus;
+use ring_mod::QuickModulus;
 
 #[derive(Clone, Copy)]
 pub enum Operation {

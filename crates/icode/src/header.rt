@@ -4,8 +4,7 @@ ghost use Rattle.std.specs.Prelude.{◌≡◌};
 
 use crate::program::Program;
 use crate::shape::Shape;
-use quick_mod::QuickModulus;
-use ring_mod::Modulus;
+use ring_mod::{Modulus, QuickModulus};
 
 /// The numbers of the program's header.
 pub fn shape_of(program: &Program) -> Shape

@@ -4,7 +4,7 @@ ghost use Rattle.std.specs.Prelude.{◌≡◌};
 ghost use Rattle.icode.specs.Limits.{IsHeaderWithin};
 ghost use Rattle.icode.specs.Machine.{whole_lines};
 
-use quick_mod::QuickModulus;
+use ring_mod::QuickModulus;
 
 #[derive(Drop)]
 pub struct Shape {

@@ -6,7 +6,7 @@ use Rattle.std.proofs.lemmas.List.Elements.{All-nil, All-cons, All-append, All-r
 use Rattle.icode.specs.Actions.{lane_factors, plain, step_of}
 use Rattle.icode.specs.Machine.{counts_of}
 use Rattle.icode.specs.Plain.{PlainProgram}
-use Rattle.code_laws.specs.Lanes.{Registers, with_register, lane_effect, lane_effects, AreArithmetic, operations, weighted_of, weighted_operations}
+use Rattle.icode.specs.CodeLaws.Lanes.{Registers, with_register, lane_effect, lane_effects, AreArithmetic, operations, weighted_of, weighted_operations}
 use Rattle.operators.specs.Sum.{list_below}
 use Rattle.operators.proofs.Lists.{length-list_below, at-list_below}
 use Rattle.ring_mod.specs.Residue.{product_mod}

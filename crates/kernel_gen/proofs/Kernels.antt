@@ -1,10 +1,10 @@
 -- Kernels on the machine.
 use Rattle.std.proofs.Common.{◌≡◌, ℕ, ◌*◌, ◌<◌, ◌≤◌, ap, ◌∙◌, List, map}
 use Rattle.std.proofs.lemmas.List.FromFn.{fill_by_all}
-use Rattle.code_laws.specs.Lanes.{Registers, lane_of}
-use Rattle.code_laws.proofs.ByLane.{arithmetic_is_by_lane, weighted_is_by_lane}
+use Rattle.icode.specs.CodeLaws.Lanes.{Registers, lane_of}
+use Rattle.icode.proofs.CodeLaws.ByLane.{arithmetic_is_by_lane, weighted_is_by_lane}
 use Rattle.icode.specs.Machine.{counts_of, weighted}
-use Rattle.code_laws.proofs.Placing.{slice_index-map, length-mapped}
+use Rattle.icode.proofs.CodeLaws.Placing.{slice_index-map, length-mapped}
 use Rattle.matrix_meaning.specs.declared.Kind.{Kind}
 use Rattle.matrix_meaning.specs.declared.Kind.TheVariants.{Dft, Wht, Idft}
 use Rattle.matrix_meaning.specs.Kind.{transform}

@@ -2,8 +2,8 @@
 use Rattle.std.proofs.Common.{◌≡◌, ℕ, ◌+◌, ◌<◌, arith, refl, ap, ap₂, ◌∙◌, List, [], ◌∷◌, ◌++◌, length, map, subst}
 use Rattle.std.proofs.lemmas.List.{map-append}
 use Rattle.icode.specs.declared.action.Action.{Action}
-use Rattle.code_laws.specs.Lanes.{Registers, lane_effect, weighted_operations}
-use Rattle.code_laws.proofs.Placing.{length-mapped}
+use Rattle.icode.specs.CodeLaws.Lanes.{Registers, lane_effect, weighted_operations}
+use Rattle.icode.proofs.CodeLaws.Placing.{length-mapped}
 use Rattle.operators.specs.Operator.{Operator, gather}
 use Rattle.operators.proofs.Lists.{length-list_below}
 use Rattle.kernel_gen.specs.declared.straight.Instruction.{Instruction}

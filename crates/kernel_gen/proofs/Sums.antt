@@ -3,8 +3,8 @@ use Rattle.std.proofs.Common.{◌≡◌, ℕ, ◌+◌, ◌-◌, ◌*◌, ◌%◌
 use Rattle.std.specs.Prelude.{◌==◌}
 use Rattle.std.proofs.Math.Nat.{one-mul, mod-eq_of_lt, mod-mod}
 use Rattle.std.proofs.lemmas.Bool.{eqb-true}
-use Rattle.code_laws.specs.Lanes.{Registers, lane_effect}
-use Rattle.code_laws.proofs.ByLane.{this_register, other_register}
+use Rattle.icode.specs.CodeLaws.Lanes.{Registers, lane_effect}
+use Rattle.icode.proofs.CodeLaws.ByLane.{this_register, other_register}
 use Rattle.operators.specs.Operator.{Operator}
 use Rattle.ring_mod.proofs.Congruence.{same-add}
 use Rattle.ring_mod.proofs.LastResidue.{add_last_times}

@@ -1,6 +1,6 @@
 -- What instructions stand for: operations of a program, and actions of the machine.
 use Rattle.std.specs.Prelude.{ℕ, ◌<◌, List, [], ◌∷◌, map}
-use Rattle.code_laws.specs.Lanes.{Registers, lane_effects, weighted_operations}
+use Rattle.icode.specs.CodeLaws.Lanes.{Registers, lane_effects, weighted_operations}
 use Rattle.icode.specs.declared.action.Action.{Action}
 use Rattle.icode.specs.Actions.{step_of}
 use Rattle.icode.specs.Plain.{PlainOp, PlainProgram, Add, Sub, Neg, MulConst}

@@ -9,7 +9,7 @@ use Rattle.sigma_spl.specs.Nest.{PlainNest}
 use Rattle.sigma_spl.specs.Term.{PlainTerm, same, gath, scat, diag, nest, move, product, beside}
 use Rattle.sigma_spl.proofs.Limited.{IsRound, few-round, round-inner, sides-within}
 use Rattle.sigma_spl.proofs.Walk.{chosen}
-use Rattle.tensor_paths.specs.Path.{Path, size_under}
+use Rattle.operators.specs.TensorPaths.Path.{Path, size_under}
 use Rattle.loop_merge.specs.Known.{IsGood, AreKnownPasses, HasRoom, IsKnown}
 use Rattle.loop_nests.specs.Ready.{AreReadyPasses}
 use Rattle.loop_nests.specs.PassPlaces.Known.{IsKnownPass, AreSteps}

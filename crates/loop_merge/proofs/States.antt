@@ -16,7 +16,7 @@ use Rattle.sigma_spl.proofs.Limited.{IsRound, few-round, round-inner, new-within
 use Rattle.sigma_spl.proofs.Walk.{chosen, and-right}
 use Rattle.sigma_spl.proofs.Within.{within-multiplied}
 use Rattle.loop_nests.specs.SumLimits.Leading.{CanCarry}
-use Rattle.tensor_paths.specs.Path.{Path, size_under}
+use Rattle.operators.specs.TensorPaths.Path.{Path, size_under}
 use Rattle.loop_merge.specs.Known.{IsGood, AreKnownPasses, HasRoom}
 use Rattle.loop_nests.specs.NewNests.{moved_nest, natural_nest}
 use Rattle.loop_nests.specs.Ready.{AreReady, IsReadyPass}

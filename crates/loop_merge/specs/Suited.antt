@@ -7,7 +7,7 @@ use Rattle.sigma_spl.specs.Nest.{PlainNest}
 use Rattle.sigma_spl.specs.Views.{plain_factors, plain_nest}
 use Rattle.sigma_spl.specs.declared.nest.Nest.{Nest}
 use Rattle.loop_nests.specs.declared.sum_limits.Limits.{Limits}
-use Rattle.tensor_paths.specs.Path.{Path}
+use Rattle.operators.specs.TensorPaths.Path.{Path}
 use Rattle.loop_merge.specs.Taken.{takes_diagonal}
 
 -- whether the pass takes the diagonal, which stands under a path

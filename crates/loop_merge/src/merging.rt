@@ -20,9 +20,9 @@ use crate::state::Merging;
 use crate::steps::{ended, with_gather, with_pass, with_scatter};
 use loop_nests::{Limits, alone, moved_nest, natural_nest, sides};
 use memory::NoMemory;
+use operators::Tensor;
 use sigma_spl::{Nest, Term, Work};
 use std::alloc::Global;
-use tensor_paths::Tensor;
 
 /// What a term does to a state of merging.
 #[cycle(merged)]

@@ -6,7 +6,7 @@ ghost use Rattle.sigma_spl.specs.Nest.{factor_count, spread};
 ghost use Rattle.sigma_spl.specs.Views.{plain_factors, plain_nest, plain_work};
 ghost use Rattle.loop_nests.specs.SumLimits.Leading.{CanCarry};
 ghost use Rattle.loop_nests.specs.SumLimits.Outcomes.{IfMade, IfRefused};
-ghost use Rattle.tensor_paths.specs.Path.{size_under};
+ghost use Rattle.operators.specs.TensorPaths.Path.{size_under};
 ghost use Rattle.loop_merge.specs.Known.{AreKnownPasses, HasRoom, IsKnown};
 ghost use Rattle.loop_nests.specs.PassPlaces.Known.{AreSteps, IsKnownPass};
 ghost use Rattle.loop_nests.specs.PassPlaces.Multiplied.{functions_of};
@@ -22,9 +22,9 @@ use loop_nests::{
     Diagonal, Limits, copying, factor_count, factor_places, multiplied, multiplied_in_order,
 };
 use memory::NoMemory;
+use operators::Tensor;
 use sigma_spl::{Factors, Nest, Work};
 use std::alloc::Global;
-use tensor_paths::Tensor;
 
 /// A diagonal goes into the last pass where that can take it, and else into a copy pass.
 pub(crate) fn with_diagonal(

@@ -21,8 +21,8 @@ use Rattle.sigma_spl.specs.Merge.{items_in, items_out, one_loop}
 use Rattle.sigma_spl.specs.Work.{PlainWork, kernel, rows, horner, tile, copy, work_size}
 use Rattle.sigma_spl.proofs.Small.{HasCounts, max-lt, divided-true}
 use Rattle.sigma_spl.proofs.Within.{IsSmall, constant-small, small-true, both-true}
-use Rattle.tensor_paths.specs.declared.Tensor.TheVariants.{Blocks, Columns}
-use Rattle.tensor_paths.specs.Path.{Path, count_of, size_under}
+use Rattle.operators.specs.declared.tensor_paths.Tensor.TheVariants.{Blocks, Columns}
+use Rattle.operators.specs.TensorPaths.Path.{Path, count_of, size_under}
 use Rattle.loop_nests.specs.NewNests.{CanMove, new_limits}
 use Rattle.loop_nests.specs.Placed.{AllNamed, CanPlace}
 use Rattle.loop_nests.proofs.Naming.{can-name, le-mul_left}

@@ -19,7 +19,7 @@ use Rattle.sigma_spl.specs.Work.{work_size}
 use Rattle.sigma_spl.proofs.Small.{renumbered-small, behind-small}
 use Rattle.sigma_spl.proofs.Walk.{and-left, and-right}
 use Rattle.sigma_spl.proofs.Within.{IsSmall}
-use Rattle.tensor_paths.specs.Path.{Path, count_of, size_under}
+use Rattle.operators.specs.TensorPaths.Path.{Path, count_of, size_under}
 use Rattle.loop_nests.specs.Ready.{AreReady, IsReadyMultiplier, IsReadyNest}
 use Rattle.loop_nests.specs.Lifted.{AreCounted, AreRaised, CanLift, CanRaise, IsCounted, counts_under}
 use Rattle.loop_nests.proofs.Naming.{can-name, affine-joined, affine-sound, constant-le-top}

@@ -12,8 +12,8 @@ use Rattle.sigma_spl.proofs.Natural.{sound-place_sum}
 use Rattle.sigma_spl.proofs.Small.{HasCounts, place-small, max-lt}
 use Rattle.sigma_spl.proofs.Within.{IsSmall}
 use Rattle.sigma_spl.specs.Room.{HasRoom}
-use Rattle.tensor_paths.specs.declared.Tensor.TheVariants.{Blocks, Columns}
-use Rattle.tensor_paths.specs.Path.{Path, size_under}
+use Rattle.operators.specs.declared.tensor_paths.Tensor.TheVariants.{Blocks, Columns}
+use Rattle.operators.specs.TensorPaths.Path.{Path, size_under}
 use Rattle.loop_nests.specs.Placed.{CanName}
 
 -- ---- parts of sums

@@ -9,8 +9,8 @@ use Rattle.perm_algebra.specs.Room.{HasCounts}
 use Rattle.sigma_spl.specs.Merge.{place_sum, items_in, items_out, new_nest, one_loop, copying}
 use Rattle.sigma_spl.specs.Work.{PlainWork, kernel, rows, horner, tile, copy, work_size, HasWords}
 use Rattle.sigma_spl.proofs.Natural.{sound-place_sum}
-use Rattle.tensor_paths.specs.declared.Tensor.TheVariants.{Blocks, Columns}
-use Rattle.tensor_paths.specs.Path.{Path, count_of, size_under}
+use Rattle.operators.specs.declared.tensor_paths.Tensor.TheVariants.{Blocks, Columns}
+use Rattle.operators.specs.TensorPaths.Path.{Path, count_of, size_under}
 use Rattle.loop_nests.specs.Ready.{AreReady, IsReadyPass}
 
 -- ---- the variables of new nests

@@ -7,7 +7,7 @@ use Rattle.perm_algebra.proofs.Values.{sound-joined}
 use Rattle.sigma_spl.specs.Merge.{place_sum, copying, renumbered, renumbered_places, lifted, side, sides}
 use Rattle.sigma_spl.specs.Nest.{PlainMultiplier, PlainNest}
 use Rattle.sigma_spl.proofs.Natural.{sound-place_sum}
-use Rattle.tensor_paths.specs.Path.{Path, count_of}
+use Rattle.operators.specs.TensorPaths.Path.{Path, count_of}
 use Rattle.loop_nests.specs.Ready.{AreReady, IsReadyMultiplier, IsReadyNest, IsReadyPass, AreReadyPasses}
 use Rattle.loop_nests.proofs.Readies.{counts-joined, counts-place, depth-is, ready-copying}
 

@@ -15,8 +15,8 @@ use Rattle.sigma_spl.specs.declared.nest.Nest.{Nest}
 use Rattle.sigma_spl.specs.Work.{copy}
 use Rattle.sigma_spl.proofs.Walk.{and-left, and-right}
 use Rattle.sigma_spl.proofs.Within.{both-true, constant-small, limited}
-use Rattle.tensor_paths.specs.declared.Tensor.TheVariants.{Blocks}
-use Rattle.tensor_paths.specs.Path.{Path, size_under}
+use Rattle.operators.specs.declared.tensor_paths.Tensor.TheVariants.{Blocks}
+use Rattle.operators.specs.TensorPaths.Path.{Path, size_under}
 use Rattle.loop_nests.specs.Ready.{AreReadyPasses, IsReadyNest, IsReadyPass}
 use Rattle.loop_nests.specs.Lifted.{AllFit, AllLift, AreLifted, AreRaised, CanLift, CanStand, SumsFit, behind, counts_under}
 use Rattle.loop_nests.specs.Parts.{IsPart}

@@ -6,7 +6,7 @@ use Rattle.sigma_spl.specs.Work.{HasWords, work_size}
 use Rattle.perm_algebra.specs.Affine.{Sum, constant, joined, value}
 use Rattle.perm_algebra.specs.Fits.{IsAffine, Stays}
 use Rattle.perm_algebra.specs.Room.{CanJoin, HasCounts, constant_of}
-use Rattle.tensor_paths.specs.Path.{Path, count_of}
+use Rattle.operators.specs.TensorPaths.Path.{Path, count_of}
 use Rattle.loop_nests.specs.Placed.{CanPlace}
 
 -- a place of a part that begins behind so many words, in the whole

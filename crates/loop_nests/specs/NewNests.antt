@@ -6,7 +6,7 @@ use Rattle.sigma_spl.specs.Merge.{items_in, items_out, new_nest, place_sum}
 use Rattle.sigma_spl.specs.Nest.{PlainNest}
 use Rattle.sigma_spl.specs.Work.{PlainWork, copy, work_size}
 use Rattle.perm_algebra.specs.Affine.{Sum, constant}
-use Rattle.tensor_paths.specs.Path.{Path, count_of}
+use Rattle.operators.specs.TensorPaths.Path.{Path, count_of}
 use Rattle.loop_nests.specs.Placed.{AllNamed}
 
 -- what the variables run below: those of the path's loops, and the two of work on n words

@@ -5,8 +5,8 @@ use Rattle.perm_algebra.specs.Fits.{IsAffine, Stays}
 use Rattle.perm_algebra.specs.Room.{CanScale, CanJoin}
 use Rattle.sigma_spl.specs.Merge.{place_sum}
 use Rattle.sigma_spl.specs.Room.{HasRoom}
-use Rattle.tensor_paths.specs.declared.Tensor.TheVariants.{Blocks, Columns}
-use Rattle.tensor_paths.specs.Path.{Path, size_under}
+use Rattle.operators.specs.declared.tensor_paths.Tensor.TheVariants.{Blocks, Columns}
+use Rattle.operators.specs.TensorPaths.Path.{Path, size_under}
 
 -- with m counts, every number on the way to a place of the path fits
 abbrev pub CanName : ℕ → (ℕ → ℕ) → Path → ℕ → ℕ → Sum → Type 0

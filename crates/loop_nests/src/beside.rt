@@ -2,7 +2,7 @@
 ghost use Rattle.std.specs.Prelude.{◌≡◌, ◌+◌, ◌^◌, ◌<◌, ◌≤◌, ◌++◌, IfOk, OnOk, map};
 ghost use Rattle.sigma_spl.specs.Limits.{AreSeveral};
 ghost use Rattle.sigma_spl.specs.Merge.{lifted, side, sides};
-ghost use Rattle.tensor_paths.specs.Path.{size_under};
+ghost use Rattle.operators.specs.TensorPaths.Path.{size_under};
 ghost use Rattle.loop_nests.specs.Lifted.{AllLift, AreLifted, CanStand};
 ghost use Rattle.loop_nests.specs.Parts.{IsPart};
 ghost use Rattle.loop_nests.specs.Views.{from_last, plain_pass, plain_passes};
@@ -10,9 +10,9 @@ ghost use Rattle.loop_nests.specs.Views.{from_last, plain_pass, plain_passes};
 use crate::lifted::{lifted, raise_nests};
 use crate::nests::copying;
 use memory::NoMemory;
+use operators::Tensor;
 use sigma_spl::Nest;
 use std::alloc::Global;
-use tensor_paths::Tensor;
 
 /// The passes of two parts, on lists of so many words, under the tensors of a path: the latest first.
 pub fn sides(

@@ -7,16 +7,16 @@ ghost use Rattle.sigma_spl.specs.Work.{HasWords};
 ghost use Rattle.perm_algebra.specs.Affine.{constant, joined};
 ghost use Rattle.perm_algebra.specs.Room.{HasCounts, constant_of};
 ghost use Rattle.perm_algebra.specs.Views.{plain_sum};
-ghost use Rattle.tensor_paths.specs.Path.{count_of};
+ghost use Rattle.operators.specs.TensorPaths.Path.{count_of};
 ghost use Rattle.loop_nests.specs.Lifted.{AllFit, CanLift, CanRaise, IsCounted, SumsFit, behind, counts_under, raised};
 
 use crate::placed::{placed, renumbered};
 use memory::NoMemory;
+use operators::Tensor;
 use perm_algebra::{Affine, both};
 use sigma_spl::{Multiplier, Nest, counts, limits};
 use smallvec::SmallVec;
 use std::alloc::Global;
-use tensor_paths::Tensor;
 
 /// A nest of a part that begins behind so many words, under the tensors of a path round `size` words.
 pub(crate) fn lifted(

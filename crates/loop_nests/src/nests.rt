@@ -11,18 +11,18 @@ ghost use Rattle.sigma_spl.specs.Views.{plain_multiplier, plain_nest, plain_work
 ghost use Rattle.sigma_spl.specs.Work.{HasWords, work_size};
 ghost use Rattle.perm_algebra.specs.Affine.{constant};
 ghost use Rattle.perm_algebra.specs.Views.{plain_sum};
-ghost use Rattle.tensor_paths.specs.Path.{size_under};
+ghost use Rattle.operators.specs.TensorPaths.Path.{size_under};
 ghost use Rattle.sigma_spl.specs.Words.{IsDefinedBelow};
 ghost use Rattle.loop_nests.specs.NewNests.{CanMove, copied_by_word, loads_under, moved_nest, natural_nest, new_limits, stores_under};
 
 use crate::placed::all_placed;
 use index_fn::Index;
 use memory::NoMemory;
+use operators::Tensor;
 use perm_algebra::Affine;
 use sigma_spl::{Multiplier, Nest, Work, copied_sums, counts, items_in, items_out, limits};
 use smallvec::SmallVec;
 use std::alloc::Global;
-use tensor_paths::Tensor;
 
 /// Copies of some work, which load and store where their tensors put them.
 pub fn natural_nest(alloc: Global, path: &[Tensor], work: Work) -> Result<Nest, NoMemory>

@@ -6,10 +6,10 @@ ghost use Rattle.perm_algebra.specs.Views.{plain_sum};
 ghost use Rattle.loop_nests.specs.Placed.{CanPlace};
 
 use memory::NoMemory;
+use operators::Tensor;
 use perm_algebra::{Affine, both, copy, multiple};
 use sigma_spl::size_of_whole;
 use std::alloc::Global;
-use tensor_paths::Tensor;
 
 /// The place of each item in the copy that the variables of the path name.
 pub(crate) fn all_placed(

@@ -3,3 +3,4 @@ pub mod Loop
 pub mod Operator
 pub mod Sizes
 pub mod Sum
+pub mod TensorPaths

@@ -15,8 +15,8 @@ use Rattle.sigma_lower.specs.TreeTerms.Term.{factor_term, terms_in}
 use Rattle.smp_rewrite.specs.Smp.{within}
 use Rattle.smp_rewrite.proofs.Tensors.{size-within}
 use Rattle.smp_rewrite.specs.LayoutSteps.Whole.{closed_on, closing_cost}
-use Rattle.tensor_paths.specs.declared.Tensor.TheVariants.{Blocks}
-use Rattle.tensor_paths.specs.Path.{size_under}
+use Rattle.operators.specs.declared.tensor_paths.Tensor.TheVariants.{Blocks}
+use Rattle.operators.specs.TensorPaths.Path.{size_under}
 use Rattle.vec_rewrite.specs.Vectors.{PlainFactor, PlainVec}
 
 -- ---- there is a last phase

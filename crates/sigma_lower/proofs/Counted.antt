@@ -13,10 +13,10 @@ use Rattle.sigma_lower.proofs.Lowers.{halvings-power, power-above}
 use Rattle.sigma_lower.proofs.Parts.{size-more}
 use Rattle.spl_ast.specs.Formula.{Formula, Identity, Fourier, Hadamard, Twiddles, Diagonal, Stride, Permutation, GoodThomasIn, GoodThomasOut, Product, TensorLeft, TensorRight, DirectSum, Pending, size_of}
 use Rattle.spl_ast.specs.Shape.{IsShaped}
-use Rattle.tensor_paths.specs.declared.Tensor.{Tensor}
-use Rattle.tensor_paths.specs.declared.Tensor.TheVariants.{Blocks, Columns}
-use Rattle.tensor_paths.specs.Path.{Path, count_of, copies_of, size_under}
-use Rattle.tensor_paths.proofs.Under.{copies_of-push, size_under-copies}
+use Rattle.operators.specs.declared.tensor_paths.Tensor.{Tensor}
+use Rattle.operators.specs.declared.tensor_paths.Tensor.TheVariants.{Blocks, Columns}
+use Rattle.operators.specs.TensorPaths.Path.{Path, count_of, copies_of, size_under}
+use Rattle.operators.proofs.TensorPaths.Under.{copies_of-push, size_under-copies}
 use Rattle.tree_model.specs.Breakdown.{leaf}
 
 copies-more : (path : Path) (t : Tensor) → copies_of (one_more path t) ≡ copies_of path * count_of t

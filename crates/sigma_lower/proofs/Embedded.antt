@@ -2,7 +2,7 @@
 use Rattle.std.proofs.Common.{◌≡◌, ℕ, ◌*◌, ◌<◌, ◌≤◌, Bool, true, false, arith, refl, sym, ap, ap₂, ◌∙◌, List, ◌∷◌, subst, if◌then◌else◌}
 use Rattle.std.specs.Prelude.{◌==◌}
 use Rattle.index_fn.specs.Mapping.{Mapping, Strided, ThomasIn, ThomasOut, ThomasBack, at}
-use Rattle.smp_rewrite.specs.declared.layout_steps.target.Target.{Target}
+use Rattle.operators.specs.declared.target.Target.{Target}
 use Rattle.sigma_lower.specs.Machine.{IsMachine}
 use Rattle.operators.specs.Operator.{gather}
 use Rattle.sigma_spl.specs.Good.{IsMove, IsGoodTerm, IsVector, AreBlocks}
@@ -28,9 +28,9 @@ use Rattle.smp_rewrite.specs.Laws.{IsDiagonal}
 use Rattle.smp_rewrite.specs.LayoutSteps.Meaning.{core_size, step_on}
 use Rattle.smp_rewrite.specs.LayoutSteps.Step.{PlainCore, piece, turns, thomas_in, thomas_out, PlainStep}
 use Rattle.smp_rewrite.specs.LayoutSteps.Step as steps
-use Rattle.tensor_paths.specs.declared.Tensor.TheVariants.{Blocks, Columns}
-use Rattle.tensor_paths.specs.Path.{Path, copies_of, size_under}
-use Rattle.tensor_paths.proofs.Under.{size_under-copies}
+use Rattle.operators.specs.declared.tensor_paths.Tensor.TheVariants.{Blocks, Columns}
+use Rattle.operators.specs.TensorPaths.Path.{Path, copies_of, size_under}
+use Rattle.operators.proofs.TensorPaths.Under.{size_under-copies}
 use Rattle.vec_rewrite.specs.Vectors.{PlainFactor, lanes, diagonals, move_before, move_after, tiles, factor_step}
 
 -- permutations move whole vectors

@@ -17,8 +17,8 @@ use Rattle.sigma_lower.specs.TreeTerms.Wrapped.{wrapped}
 use Rattle.spl_ast.specs.Formula.{Formula, Identity, Fourier, Hadamard, Twiddles, Diagonal, Stride, Permutation, GoodThomasIn, GoodThomasOut, Product, TensorLeft, TensorRight, DirectSum, Pending, size_of}
 use Rattle.spl_ast.specs.Shape.{IsShaped}
 use Rattle.spl_ast.proofs.Vectors.{size_is_size}
-use Rattle.tensor_paths.specs.declared.Tensor.TheVariants.{Blocks, Columns}
-use Rattle.tensor_paths.specs.Path.{Path, size_under}
+use Rattle.operators.specs.declared.tensor_paths.Tensor.TheVariants.{Blocks, Columns}
+use Rattle.operators.specs.TensorPaths.Path.{Path, size_under}
 use Rattle.tree_model.specs.Breakdown.{leaf}
 
 hadamard-words : (n : ℕ) (path : Path) (k : ℕ) → AreWords n (hadamard_term path k)

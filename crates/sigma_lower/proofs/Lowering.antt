@@ -15,10 +15,10 @@ use Rattle.sigma_spl.specs.Room.{HasRoom}
 use Rattle.spl_ast.specs.Formula.{Formula, Stride, Product, TensorLeft, TensorRight, size_of}
 use Rattle.spl_ast.specs.Shape.{IsShaped}
 use Rattle.spl_ast.proofs.Vectors.{size_is_size}
-use Rattle.tensor_paths.specs.declared.Tensor.{Tensor}
-use Rattle.tensor_paths.specs.declared.Tensor.TheVariants.{Blocks, Columns}
-use Rattle.tensor_paths.specs.Path.{Path, count_of, grown}
-use Rattle.tensor_paths.proofs.Under.{size_under-push}
+use Rattle.operators.specs.declared.tensor_paths.Tensor.{Tensor}
+use Rattle.operators.specs.declared.tensor_paths.Tensor.TheVariants.{Blocks, Columns}
+use Rattle.operators.specs.TensorPaths.Path.{Path, count_of, grown}
+use Rattle.operators.proofs.TensorPaths.Under.{size_under-push}
 use Rattle.tree_model.specs.Breakdown.{leaf}
 
 -- ---- room

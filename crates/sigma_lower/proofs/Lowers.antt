@@ -37,9 +37,9 @@ use Rattle.spl_ast.specs.Formula.{Formula, Identity, Fourier, Hadamard, Twiddles
 use Rattle.spl_ast.specs.Meaning.{apply}
 use Rattle.spl_ast.specs.Shape.{IsShaped}
 use Rattle.spl_ast.proofs.Vectors.{apply_vector, residue_at, vector_of, shaped_size}
-use Rattle.tensor_paths.specs.declared.Tensor.TheVariants.{Blocks, Columns}
-use Rattle.tensor_paths.specs.Path.{Path, size_under, under}
-use Rattle.tensor_paths.proofs.Under.{size_under-push, under-push}
+use Rattle.operators.specs.declared.tensor_paths.Tensor.TheVariants.{Blocks, Columns}
+use Rattle.operators.specs.TensorPaths.Path.{Path, size_under, under}
+use Rattle.operators.proofs.TensorPaths.Under.{size_under-push, under-push}
 use Rattle.tree_model.specs.Breakdown.{leaf}
 
 -- ---- vectors

@@ -16,8 +16,8 @@ use Rattle.ring_mod.proofs.Inverses.{AreInverses, inverse_of_s, inverse_of_r, in
 use Rattle.sigma_lower.specs.TreeTerms.Wrapped.{wrapped, unit_of}
 use Rattle.sigma_lower.proofs.TreeTerms.Lowering.{AreCoprime, turns-permute, thomas_permutes, both_units}
 use Rattle.sigma_lower.proofs.TreeTerms.Permuted.{wrapped-permutes}
-use Rattle.tensor_paths.specs.declared.Tensor.TheVariants.{Blocks, Columns}
-use Rattle.tensor_paths.specs.Path.{Path, size_under}
+use Rattle.operators.specs.declared.tensor_paths.Tensor.TheVariants.{Blocks, Columns}
+use Rattle.operators.specs.TensorPaths.Path.{Path, size_under}
 
 -- ---- under tensors
 

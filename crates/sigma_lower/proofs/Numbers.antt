@@ -10,8 +10,8 @@ use Rattle.sigma_lower.proofs.Moves.{back-wrapped, strided-move, in-move, out-mo
 use Rattle.sigma_lower.specs.TreeTerms.Wrapped.{wrapped, unit_of}
 use Rattle.sigma_lower.proofs.TreeTerms.Closed.{IsClosed, wrapped-defined, thomas_in-closed, thomas_back-closed}
 use Rattle.sigma_lower.proofs.TreeTerms.Lowering.{AreCoprime, both_units}
-use Rattle.tensor_paths.specs.declared.Tensor.TheVariants.{Blocks, Columns}
-use Rattle.tensor_paths.specs.Path.{Path, size_under}
+use Rattle.operators.specs.declared.tensor_paths.Tensor.TheVariants.{Blocks, Columns}
+use Rattle.operators.specs.TensorPaths.Path.{Path, size_under}
 
 -- ---- under tensors
 

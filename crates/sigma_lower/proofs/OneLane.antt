@@ -4,7 +4,7 @@ use Rattle.index_fn.specs.Mapping.{Mapping}
 use Rattle.sigma_spl.specs.Good.{CanNest, IsGoodTerm, IsMove, MovesVectors}
 use Rattle.sigma_spl.specs.Term.{PlainTerm, same, gath, scat, diag, nest, move, product, beside}
 use Rattle.sigma_spl.specs.Work.{PlainWork, kernel, rows, horner, tile, copy}
-use Rattle.tensor_paths.specs.Path.{Path}
+use Rattle.operators.specs.TensorPaths.Path.{Path}
 
 -- any permutation moves vectors of one word
 moves-words : (f : ℕ → ℕ) → MovesVectors 1 f

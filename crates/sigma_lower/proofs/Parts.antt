@@ -22,11 +22,11 @@ use Rattle.sigma_spl.proofs.Natural.{at-natural}
 use Rattle.sigma_spl.proofs.Walk.{vector-below}
 use Rattle.sigma_lower.specs.Terms.{one_more, Lowers}
 use Rattle.sigma_lower.proofs.TreeTerms.Permuted.{scale-under}
-use Rattle.tensor_paths.specs.declared.Tensor.{Tensor}
-use Rattle.tensor_paths.specs.declared.Tensor.TheVariants.{Blocks, Columns}
-use Rattle.tensor_paths.specs.Path.{Path, count_of, grown, size_under, one_under, under, place, Reads, local}
-use Rattle.tensor_paths.proofs.PathPlaces.{at-under, place-below}
-use Rattle.tensor_paths.proofs.Under.{size_under-push, under-push, under-product, under-size}
+use Rattle.operators.specs.declared.tensor_paths.Tensor.{Tensor}
+use Rattle.operators.specs.declared.tensor_paths.Tensor.TheVariants.{Blocks, Columns}
+use Rattle.operators.specs.TensorPaths.Path.{Path, count_of, grown, size_under, one_under, under, place, Reads, local}
+use Rattle.operators.proofs.TensorPaths.PathPlaces.{at-under, place-below}
+use Rattle.operators.proofs.TensorPaths.Under.{size_under-push, under-push, under-product, under-size}
 
 -- ---- loops
 

@@ -13,10 +13,10 @@ use Rattle.sigma_spl.specs.Work.{PlainWork, kernel, rows, horner, tile, copy}
 use Rattle.smp_rewrite.specs.Fits.{CanShareLayout}
 use Rattle.smp_rewrite.specs.LayoutSteps.Layout.{Layout, work, by, layout_size, IsGoodWork, IsGoodLayout}
 use Rattle.smp_rewrite.specs.LayoutSteps.Targets.{is_alone}
-use Rattle.smp_rewrite.specs.declared.layout_steps.target.Target.{Target}
-use Rattle.tensor_paths.specs.declared.Tensor.{Tensor}
-use Rattle.tensor_paths.specs.declared.Tensor.TheVariants.{Blocks, Columns}
-use Rattle.tensor_paths.specs.Path.{Path, count_of}
+use Rattle.operators.specs.declared.target.Target.{Target}
+use Rattle.operators.specs.declared.tensor_paths.Tensor.{Tensor}
+use Rattle.operators.specs.declared.tensor_paths.Tensor.TheVariants.{Blocks, Columns}
+use Rattle.operators.specs.TensorPaths.Path.{Path, count_of}
 use Rattle.tree_model.specs.declared.tree.Rule.{Rule}
 use Rattle.tree_model.specs.declared.tree.Rule.TheVariants.{Gt, Ct, Split, Dim}
 

@@ -2,7 +2,7 @@
 use Rattle.std.proofs.Common.{◌≡◌, ℕ, ◌*◌, ◌<◌, ◌≤◌, arith, sym, ap, ◌∙◌, List, subst}
 use Rattle.index_fn.specs.Mapping.{Strided, ThomasIn, ThomasOut, ThomasBack, at}
 use Rattle.matrix_meaning.specs.declared.Kind.TheVariants.{Dft}
-use Rattle.smp_rewrite.specs.declared.layout_steps.target.Target.{Target}
+use Rattle.operators.specs.declared.target.Target.{Target}
 use Rattle.matrix_meaning.specs.Kind.{transform}
 use Rattle.sigma_lower.specs.Machine.{IsMachine}
 use Rattle.operators.specs.Loop.{IsPermutationBelow}
@@ -27,14 +27,14 @@ use Rattle.sigma_lower.proofs.TreeTerms.Lowering.{part-le}
 use Rattle.smp_rewrite.specs.LayoutSteps.Meaning.{core_size, core_on, step_on}
 use Rattle.smp_rewrite.specs.LayoutSteps.Step.{PlainCore, piece, turns, thomas_in, thomas_out, PlainStep}
 use Rattle.smp_rewrite.specs.LayoutSteps.Step as steps
-use Rattle.tensor_paths.specs.Path.{Path, copies_of, size_under, under}
-use Rattle.tensor_paths.proofs.Under.{size_under-copies}
+use Rattle.operators.specs.TensorPaths.Path.{Path, copies_of, size_under, under}
+use Rattle.operators.proofs.TensorPaths.Under.{size_under-copies}
 use Rattle.tree_model.specs.Breakdown.{size_of}
 use Rattle.std.proofs.Common.{mod-lt, div-lt_iff_lt-mul, ◌/◌, ◌%◌}
 use Rattle.std.specs.Prelude.{slice_index}
 use Rattle.operators.proofs.Lists.{at-list_below, length-list_below, factor_positive}
 use Rattle.smp_rewrite.proofs.Tensors.{reads-one_under}
-use Rattle.tensor_paths.specs.declared.Tensor.TheVariants.{Blocks}
+use Rattle.operators.specs.declared.tensor_paths.Tensor.TheVariants.{Blocks}
 use Rattle.sigma_lower.proofs.TreeTerms.Permuted.{gather-under}
 
 -- ---- works

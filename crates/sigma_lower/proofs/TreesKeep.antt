@@ -1,7 +1,7 @@
 -- The merged passes of a tree do its transform.
 use Rattle.std.proofs.Common.{◌≡◌, ℕ, List, [], ◌∷◌, refl, ap, ◌∙◌}
 use Rattle.std.specs.Prelude.{map}
-use Rattle.smp_rewrite.specs.declared.layout_steps.target.Target.{Target}
+use Rattle.operators.specs.declared.target.Target.{Target}
 use Rattle.sigma_spl.specs.Merge.{unbounded, passes_within}
 use Rattle.sigma_spl.specs.Merged.{phases_on}
 use Rattle.sigma_spl.specs.Nest.{passes_on}

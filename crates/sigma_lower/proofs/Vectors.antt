@@ -8,7 +8,7 @@ use Rattle.sigma_spl.specs.Merge.{back_of}
 use Rattle.sigma_lower.proofs.Moves.{back-wrapped, move-wrapped}
 use Rattle.sigma_lower.proofs.TreeTerms.Vectors.{KeepsVectors, HasVectors, keeps-wrapped}
 use Rattle.sigma_lower.specs.TreeTerms.Wrapped.{wrapped}
-use Rattle.tensor_paths.specs.Path.{Path, size_under}
+use Rattle.operators.specs.TensorPaths.Path.{Path, size_under}
 
 pub moves-vectors : (v : ℕ) (f : Mapping) → KeepsVectors v f → MovesVectors v (at f)
 moves-vectors v f h =

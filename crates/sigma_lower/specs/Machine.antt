@@ -2,7 +2,7 @@
 use Rattle.std.specs.Prelude.{◌-◌, ◌^◌}
 use Rattle.matrix_meaning.specs.Valid.{IsBetween}
 use Rattle.operators.specs.Sizes.{max_size}
-use Rattle.smp_rewrite.specs.declared.layout_steps.target.Target.{Target}
+use Rattle.operators.specs.declared.target.Target.{Target}
 
 pub record IsMachine (h : Target) : Type 0 where
   pub size : IsBetween 1 max_size h.size

@@ -1,6 +1,6 @@
 -- The merged passes of a layout, and that they do what it does.
 use Rattle.std.specs.Prelude.{◌≡◌, ℕ, List, [], ◌∷◌, map, reverse, Option, Some, None}
-use Rattle.smp_rewrite.specs.declared.layout_steps.target.Target.{Target}
+use Rattle.operators.specs.declared.target.Target.{Target}
 use Rattle.sigma_lower.specs.Machine.{IsMachine}
 use Rattle.matrix_meaning.specs.declared.Request.{Request}
 use Rattle.sigma_spl.specs.Good.{IsVector}
@@ -19,7 +19,7 @@ use Rattle.matrix_meaning.specs.Valid.{IsValid}
 use Rattle.smp_rewrite.specs.LayoutSteps.Layout.{Layout, layout_on, work_cost, IsGoodLayout}
 use Rattle.smp_rewrite.specs.LayoutSteps.Targets.{target_of}
 use Rattle.smp_rewrite.specs.LayoutSteps.Whole.{Whole, whole_of, whole_on, whole_operations, IsGoodWhole}
-use Rattle.tensor_paths.specs.declared.Tensor.TheVariants.{Blocks}
+use Rattle.operators.specs.declared.tensor_paths.Tensor.TheVariants.{Blocks}
 use Rattle.tree_model.specs.Breakdown.{Breakdown}
 use Rattle.tree_model.specs.Chosen.{IsWholeTree}
 use Rattle.vec_rewrite.specs.Turning.{vec_of}

@@ -1,6 +1,6 @@
 -- The order of a tree's terms: so its passes are its loops, one by one.
 use Rattle.std.specs.Prelude.{List, [], ◌∷◌, map}
-use Rattle.smp_rewrite.specs.declared.layout_steps.target.Target.{Target}
+use Rattle.operators.specs.declared.target.Target.{Target}
 use Rattle.sigma_lower.specs.Machine.{IsMachine}
 use Rattle.sigma_spl.specs.Loops.{begun, looped, loops_in, one_nest, HasLoop, InOrder}
 use Rattle.sigma_spl.specs.Merge.{unbounded, passes_within}

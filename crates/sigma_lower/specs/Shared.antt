@@ -1,6 +1,6 @@
 -- The terms of trees for any processors and lanes, as terms that any formula has.
 use Rattle.std.specs.Prelude.{◌≡◌, ℕ, List, [], ◌∷◌, map}
-use Rattle.smp_rewrite.specs.declared.layout_steps.target.Target.{Target}
+use Rattle.operators.specs.declared.target.Target.{Target}
 use Rattle.sigma_lower.specs.Machine.{IsMachine}
 use Rattle.operators.specs.Operator.{Operator}
 use Rattle.sigma_spl.specs.Good.{AreBlocks, AreGoodPasses, IsGoodTerm, IsVector}

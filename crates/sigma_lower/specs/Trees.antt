@@ -8,7 +8,7 @@ use Rattle.sigma_spl.specs.Term.{PlainTerm, same, gath, scat, diag, nest, produc
 use Rattle.sigma_lower.specs.TreeTerms.Wrapped.{wrapped}
 use Rattle.smp_rewrite.specs.LayoutSteps.Step.{PlainCore, piece, turns, thomas_in, thomas_out}
 use Rattle.smp_rewrite.specs.LayoutSteps.Step as steps
-use Rattle.tensor_paths.specs.Path.{Path}
+use Rattle.operators.specs.TensorPaths.Path.{Path}
 
 abbrev pub core_term : Path → PlainCore → PlainTerm
 core_term path (piece w) = nest path w

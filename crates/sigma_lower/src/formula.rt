@@ -17,18 +17,18 @@ ghost use Rattle.sigma_spl.specs.Room.{HasRoom};
 ghost use Rattle.sigma_lower.specs.TreeTerms.Wrapped.{wrapped};
 ghost use Rattle.spl_ast.specs.Formula.{size_of};
 ghost use Rattle.spl_ast.specs.Meaning.{apply};
-ghost use Rattle.tensor_paths.specs.declared.Tensor.TheVariants.{Columns};
+ghost use Rattle.operators.specs.declared.tensor_paths.Tensor.TheVariants.{Columns};
 ghost use Rattle.tree_model.specs.Breakdown.{leaf};
 
 use crate::tree_terms::under;
 use index_fn::Index;
 use matrix_meaning::Kind;
 use memory::NoMemory;
+use operators::Tensor;
 use ring_mod::Modulus;
 use sigma_spl::{Factors, Sigma, Term, Work};
 use spl_ast::{Node, Spl};
 use std::alloc::Global;
-use tensor_paths::Tensor;
 use tree_model::{RootedTree, RootedTrees, Tree};
 
 /// The longest DFT that is straight-line code.

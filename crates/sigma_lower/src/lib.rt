@@ -4,6 +4,7 @@
 
 mod formula;
 mod tree;
+mod tree_loops;
 mod tree_terms;
 
 ghost use Rattle.sigma_lower.specs.Compiled.{FormulasCompile};
@@ -16,6 +17,10 @@ ghost use Rattle.sigma_lower.specs.Shared.{FactorsEmbed, SharedTreesMerge, Trees
 
 pub use formula::lower_formula;
 pub use tree::lower;
+pub use tree_loops::{
+    layouts_count, loops_are_limited, loops_listed, merge_counts, passes_are_framed,
+    phases_are_shared, tree_nests, trees_merge,
+};
 pub use tree_terms::{lowered_transforms, plain_terms, shared_terms, under, unit};
 
 /// The term of a formula does what the formula does: a law of the definitions.

@@ -22,10 +22,10 @@ use crate::formula::{gather, in_turn};
 use crate::tree_terms::{under, unit};
 use index_fn::Index;
 use memory::NoMemory;
+use operators::Tensor;
 use sigma_spl::{Factors, Sigma, Term, Work};
 use smp_rewrite::{Core, within};
 use std::alloc::Global;
-use tensor_paths::Tensor;
 use tree_model::Ctx;
 use vec_rewrite::{VecFactor, VecSpl};
 

@@ -8,9 +8,9 @@ ghost use Rattle.sigma_lower.specs.TreeTerms.Wrapped.{wrapped, unit_below, unit_
 
 use index_fn::Index;
 use memory::NoMemory;
+use operators::Tensor;
 use sigma_spl::size_of_whole;
 use std::alloc::Global;
-use tensor_paths::Tensor;
 
 /// The index function of a permutation of size `n` under the tensors of the path.
 pub fn under(alloc: Global, path: &[Tensor], n: u64, f: Index) -> Result<Index, NoMemory>

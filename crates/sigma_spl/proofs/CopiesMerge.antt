@@ -14,11 +14,11 @@ use Rattle.operators.proofs.Scatters.{sum_below-only}
 use Rattle.operators.proofs.Sums.{sum_below-same, sum_below-zeros, mul-sum_below, same-sum_below}
 use Rattle.sigma_spl.specs.Copies.{loops_of, Copies, taken, stored, all_stored, hits, StoreOnce, IsInside, AreInside, loaded_by, stored_by, multiplied_by, behind, placed, first_of, others_of, under_one}
 use Rattle.sigma_spl.specs.CopiesLaws.{LoadsGather, StoresScatter, LoopsScale, StandSideBySide, StandUnder, KeepsOnce}
-use Rattle.tensor_paths.specs.declared.Tensor.{Tensor}
-use Rattle.tensor_paths.specs.declared.Tensor.TheVariants.{Blocks, Columns}
-use Rattle.tensor_paths.specs.Loop.{nest_sum, loop_at}
-use Rattle.tensor_paths.specs.Path.{Path, count_of, grown, AreInRange}
-use Rattle.tensor_paths.proofs.PathLoops.{nest_sum-same}
+use Rattle.operators.specs.declared.tensor_paths.Tensor.{Tensor}
+use Rattle.operators.specs.declared.tensor_paths.Tensor.TheVariants.{Blocks, Columns}
+use Rattle.operators.specs.TensorPaths.Loop.{nest_sum, loop_at}
+use Rattle.operators.specs.TensorPaths.Path.{Path, count_of, grown, AreInRange}
+use Rattle.operators.proofs.TensorPaths.PathLoops.{nest_sum-same}
 
 -- ---- tests
 

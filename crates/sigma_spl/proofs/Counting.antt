@@ -17,9 +17,9 @@ use Rattle.sigma_spl.proofs.Keeps.{merged-reaches, nothing-stands}
 use Rattle.sigma_spl.proofs.Nests.{AreFree, all-inside}
 use Rattle.sigma_spl.proofs.Natural.{copying-good}
 use Rattle.sigma_spl.proofs.Walk.{Stands, chosen, and-right, taken-free, copying-free}
-use Rattle.tensor_paths.specs.Loop.{nest_sum, loop_at}
-use Rattle.tensor_paths.specs.Path.{Path, count_of, AreInRange}
-use Rattle.tensor_paths.specs.Path as paths
+use Rattle.operators.specs.TensorPaths.Loop.{nest_sum, loop_at}
+use Rattle.operators.specs.TensorPaths.Path.{Path, count_of, AreInRange}
+use Rattle.operators.specs.TensorPaths.Path as paths
 use Rattle.std.proofs.lemmas.Bool.Decides.{nat_tests}
 
 -- ---- how many items a pass has

@@ -23,9 +23,9 @@ use Rattle.sigma_spl.proofs.Natural.{nest-natural, natural-good, copying-same, c
 use Rattle.sigma_spl.proofs.Moved.{moved-on, moved-good}
 use Rattle.sigma_spl.proofs.Sides.{side-on, side-good}
 use Rattle.sigma_spl.proofs.Walk.{waiting_on, gathers-end, moves-end, Stands, merging_on, Reaches, merging-vector, Copy, vector-below, pass-reaches, diagonal-reaches, scatter-reaches, ended-are}
-use Rattle.tensor_paths.specs.declared.Tensor.TheVariants.{Blocks, Columns}
-use Rattle.tensor_paths.specs.Path.{Path, size_under, under}
-use Rattle.tensor_paths.proofs.Under.{under-product}
+use Rattle.operators.specs.declared.tensor_paths.Tensor.TheVariants.{Blocks, Columns}
+use Rattle.operators.specs.TensorPaths.Path.{Path, size_under, under}
+use Rattle.operators.proofs.TensorPaths.Under.{under-product}
 
 -- ---- vectors under tensors and side by side
 

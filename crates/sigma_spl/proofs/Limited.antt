@@ -22,8 +22,8 @@ use Rattle.sigma_spl.proofs.Sides.{rest_of, rest-index}
 use Rattle.sigma_spl.proofs.Small.{max-lt, divided-true, HasCounts, place-small, renumbered-small, behind-small}
 use Rattle.sigma_spl.proofs.Walk.{chosen, and-left, and-right, AreMoves, Stands}
 use Rattle.sigma_spl.proofs.Within.{both-true, within-append, TablesFit, AreInside', within-settled, within-pass, within-scatter, inside-end, within-ended, within-multiplied, IsSmall, limited, small-true, constant-small}
-use Rattle.tensor_paths.specs.declared.Tensor.TheVariants.{Blocks, Columns}
-use Rattle.tensor_paths.specs.Path.{Path, count_of, size_under}
+use Rattle.operators.specs.declared.tensor_paths.Tensor.TheVariants.{Blocks, Columns}
+use Rattle.operators.specs.TensorPaths.Path.{Path, count_of, size_under}
 
 -- ---- from tests
 

@@ -13,7 +13,7 @@ use Rattle.sigma_spl.proofs.Carried.{all-mapped, all-same, taken-true, carried-r
 use Rattle.sigma_spl.proofs.Natural.{load-natural, store-natural, names-in, names-out, whole-in, whole-out, ranged}
 use Rattle.sigma_spl.proofs.Nests.{load-through, store-through}
 use Rattle.sigma_spl.proofs.Within.{both-true, carries-all}
-use Rattle.tensor_paths.specs.Path.{Path, count_of}
+use Rattle.operators.specs.TensorPaths.Path.{Path, count_of}
 
 -- ---- lists of sums
 

@@ -15,8 +15,8 @@ use Rattle.sigma_spl.specs.Work.{copy}
 use Rattle.sigma_spl.proofs.CopiesMerge.{loop-same}
 use Rattle.sigma_spl.proofs.Natural.{ranged, place-alone, store-natural, names-out, once-natural, sound-constants, sound-places, at-natural}
 use Rattle.sigma_spl.proofs.Nests.{stored-alike, at-map, length-map}
-use Rattle.tensor_paths.specs.Path.{Path, count_of, size_under, place, AreInRange}
-use Rattle.tensor_paths.proofs.PathPlaces.{place-below}
+use Rattle.operators.specs.TensorPaths.Path.{Path, count_of, size_under, place, AreInRange}
+use Rattle.operators.proofs.TensorPaths.PathPlaces.{place-below}
 
 -- ---- copies that move their items
 

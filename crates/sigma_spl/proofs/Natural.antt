@@ -20,11 +20,11 @@ use Rattle.sigma_spl.specs.Term.{natural}
 use Rattle.sigma_spl.specs.Work.{PlainWork, kernel, rows, horner, tile, copy, work_size, work_on}
 use Rattle.sigma_spl.proofs.CopiesMerge.{loop-same}
 use Rattle.sigma_spl.proofs.Nests.{stored-alike, length-map, at-map}
-use Rattle.tensor_paths.specs.declared.Tensor.TheVariants.{Blocks, Columns}
-use Rattle.tensor_paths.specs.Loop.{loop_at, IsOneToOne}
-use Rattle.tensor_paths.specs.Path.{Path, count_of, size_under, place, AreInRange}
-use Rattle.tensor_paths.proofs.PathLoops.{loop_at-place, place-one_to_one, reach, Reached}
-use Rattle.tensor_paths.proofs.PathPlaces.{place-below}
+use Rattle.operators.specs.declared.tensor_paths.Tensor.TheVariants.{Blocks, Columns}
+use Rattle.operators.specs.TensorPaths.Loop.{loop_at, IsOneToOne}
+use Rattle.operators.specs.TensorPaths.Path.{Path, count_of, size_under, place, AreInRange}
+use Rattle.operators.proofs.TensorPaths.PathLoops.{loop_at-place, place-one_to_one, reach, Reached}
+use Rattle.operators.proofs.TensorPaths.PathPlaces.{place-below}
 
 -- ---- ranges
 

@@ -15,8 +15,8 @@ use Rattle.sigma_spl.specs.Merge.{limits_of, gathered, scattered, all_simplified
 use Rattle.sigma_spl.specs.Nest.{PlainFactors, factor_at, PlainMultiplier, PlainNest, sum_value, load_place, store_place, multiplied_on, copies_of, nests_on}
 use Rattle.sigma_spl.specs.Work.{PlainWork, kernel, rows, horner, tile, copy, work_size}
 use Rattle.sigma_spl.proofs.CopiesMerge.{loop-same, loads_gather, stores_scatter, loops_scale, keeps_once}
-use Rattle.tensor_paths.specs.Loop.{loop_at}
-use Rattle.tensor_paths.specs.Path.{AreInRange}
+use Rattle.operators.specs.TensorPaths.Loop.{loop_at}
+use Rattle.operators.specs.TensorPaths.Path.{AreInRange}
 
 -- ---- loops that are alike
 

@@ -8,9 +8,9 @@ use Rattle.operators.proofs.Lists.{at-list_below}
 use Rattle.sigma_spl.specs.Copies.{loops_of, Copies, taken, stored, all_stored, hits, IsInside, AreInside}
 use Rattle.sigma_spl.specs.Places.{IsAmong, PassStores}
 use Rattle.sigma_spl.proofs.CopiesMerge.{loop-none}
-use Rattle.tensor_paths.specs.Loop.{nest_sum, loop_at, IsOneToOne}
-use Rattle.tensor_paths.specs.Path.{Path, count_of, AreInRange}
-use Rattle.tensor_paths.proofs.PathLoops.{loop_at-place}
+use Rattle.operators.specs.TensorPaths.Loop.{nest_sum, loop_at, IsOneToOne}
+use Rattle.operators.specs.TensorPaths.Path.{Path, count_of, AreInRange}
+use Rattle.operators.proofs.TensorPaths.PathLoops.{loop_at-place}
 
 -- ---- terms of a sum
 

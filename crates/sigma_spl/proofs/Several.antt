@@ -1,8 +1,8 @@
 -- Paths each of whose tensors has several copies.
 use Rattle.std.proofs.Common.{◌≤◌, [], ◌∷◌, ◌++◌}
 use Rattle.sigma_spl.specs.Limits.{AreSeveral}
-use Rattle.tensor_paths.specs.declared.Tensor.{Tensor}
-use Rattle.tensor_paths.specs.Path.{Path, count_of}
+use Rattle.operators.specs.declared.tensor_paths.Tensor.{Tensor}
+use Rattle.operators.specs.TensorPaths.Path.{Path, count_of}
 
 pub several-append : (path more : Path) → AreSeveral path → AreSeveral more → AreSeveral (path ++ more)
 several-append [] more h k = k

@@ -14,10 +14,10 @@ use Rattle.sigma_spl.specs.Work.{PlainWork, kernel, rows, horner, tile, copy, wo
 use Rattle.sigma_spl.proofs.CopiesMerge.{loop-same, stored-append, hits-append, stand_side_by_side, stand_under, keeps_once}
 use Rattle.sigma_spl.proofs.Natural.{loop_values, value-place_sum, sound-place_sum}
 use Rattle.sigma_spl.proofs.Nests.{stored-alike, at-map, length-map, all-inside}
-use Rattle.tensor_paths.specs.declared.Tensor.{Tensor}
-use Rattle.tensor_paths.specs.declared.Tensor.TheVariants.{Blocks, Columns}
-use Rattle.tensor_paths.specs.Loop.{loop_at}
-use Rattle.tensor_paths.specs.Path.{Path, count_of, grown, size_under, one_under, under, place, AreInRange}
+use Rattle.operators.specs.declared.tensor_paths.Tensor.{Tensor}
+use Rattle.operators.specs.declared.tensor_paths.Tensor.TheVariants.{Blocks, Columns}
+use Rattle.operators.specs.TensorPaths.Loop.{loop_at}
+use Rattle.operators.specs.TensorPaths.Path.{Path, count_of, grown, size_under, one_under, under, place, AreInRange}
 
 -- ---- values of the path's loops, and those behind them
 

@@ -11,8 +11,8 @@ use Rattle.sigma_spl.specs.Limits.{AreSeveral}
 use Rattle.sigma_spl.specs.Merge.{total, is_divided, are_small, place_sum, renumbered}
 use Rattle.sigma_spl.proofs.Walk.{and-left, and-right}
 use Rattle.sigma_spl.proofs.Within.{both-true, IsSmall, small-true}
-use Rattle.tensor_paths.specs.declared.Tensor.TheVariants.{Blocks, Columns}
-use Rattle.tensor_paths.specs.Path.{Path, count_of, size_under}
+use Rattle.operators.specs.declared.tensor_paths.Tensor.TheVariants.{Blocks, Columns}
+use Rattle.operators.specs.TensorPaths.Path.{Path, count_of, size_under}
 
 pub max-lt : (a b n : ℕ) → a < n → b < n → max a b < n
 max-lt a b n h k = grind (arith, nat_tests)

@@ -15,7 +15,7 @@ use Rattle.sigma_spl.specs.Work.{PlainWork, kernel, rows, horner, tile, copy}
 use Rattle.sigma_spl.proofs.Nests.{through, AreFormed, AreFree, Suits, AllSuit, AreSuited, suiting, nests-gathered, nests-scattered, nests-multiplied, gathered-good, scattered-good, multiplied-good}
 use Rattle.sigma_spl.proofs.Moved.{table-good, table-on}
 use Rattle.sigma_spl.proofs.Natural.{copying-same, copying-good}
-use Rattle.tensor_paths.specs.Path.{Path}
+use Rattle.operators.specs.TensorPaths.Path.{Path}
 
 -- ---- choices
 

@@ -3,8 +3,8 @@ use Rattle.std.specs.Prelude.{◌≡◌, ℕ, ◌+◌, ◌<◌, List, ◌++◌, 
 use Rattle.operators.specs.Loop.{IsPermutationBelow}
 use Rattle.operators.specs.Operator.{gather, scale}
 use Rattle.sigma_spl.specs.Copies.{Copies, pass_on, AreInside, StoreOnce, loaded_by, stored_by, multiplied_by, behind, under_one, both}
-use Rattle.tensor_paths.specs.declared.Tensor.{Tensor}
-use Rattle.tensor_paths.specs.Path.{grown, one_under}
+use Rattle.operators.specs.declared.tensor_paths.Tensor.{Tensor}
+use Rattle.operators.specs.TensorPaths.Path.{grown, one_under}
 
 abbrev pub LoadsGather : Type 0
 LoadsGather = (m n : ℕ) (cs : List Copies) (f : ℕ → ℕ) (x : List ℕ) → AreInside n cs → pass_on m n cs (gather n f x) ≡ pass_on m n (map (loaded_by f) cs) x

@@ -8,8 +8,8 @@ use Rattle.operators.specs.Sum.{list_below}
 use Rattle.sigma_spl.specs.Nest.{PlainFactors, spread, factor_count, PlainMultiplier, PlainNest}
 use Rattle.sigma_spl.specs.Term.{PlainTerm, same, gath, scat, diag, nest, move, product, beside, inner_of}
 use Rattle.sigma_spl.specs.Work.{PlainWork, rows, horner, tile, copy, work_size}
-use Rattle.tensor_paths.specs.declared.Tensor.TheVariants.{Blocks, Columns}
-use Rattle.tensor_paths.specs.Path.{Path, count_of, size_under}
+use Rattle.operators.specs.declared.tensor_paths.Tensor.TheVariants.{Blocks, Columns}
+use Rattle.operators.specs.TensorPaths.Path.{Path, count_of, size_under}
 
 -- ---- places as sums
 

@@ -1,8 +1,8 @@
 // Loops as code has them, and the passes and phases that they make up.
 use crate::Work;
+use operators::Tensor;
 use perm_algebra::Affine;
 use smallvec::SmallVec;
-use tensor_paths::Tensor;
 
 /// The factors of a diagonal, from its first place on: residues modulo the transform's modulus.
 #[derive(Drop)]

@@ -1,9 +1,9 @@
 // The sizes of matrices under the tensors of a path.
 ghost use Rattle.std.specs.Prelude.{◌≡◌};
 ghost use Rattle.sigma_spl.specs.Room.{HasRoom};
-ghost use Rattle.tensor_paths.specs.Path.{size_under};
+ghost use Rattle.operators.specs.TensorPaths.Path.{size_under};
 
-use tensor_paths::Tensor;
+use operators::Tensor;
 
 /// The size of the whole, around a matrix of size `n`.
 pub fn size_of_whole(path: &[Tensor], n: u64) -> u64

@@ -1,7 +1,7 @@
 // Terms, which merging makes passes of.
 use crate::{Factors, Work};
 use index_fn::Index;
-use tensor_paths::Tensor;
+use operators::Tensor;
 
 /// A term: a product of permutations, diagonals, loops over copies, and direct sums, on a list of items. The tensors of a
 /// path stand from the outside in. Clauses see it as a `PlainTerm`.

@@ -1,11 +1,11 @@
 // What the variables of a nest run below. Most nests have few loops, so these lists take no memory of an allocator.
 ghost use Rattle.std.specs.Prelude.{◌≡◌, ◌++◌, ◌∷◌, [], IfOk, map};
-ghost use Rattle.tensor_paths.specs.Path.{count_of};
+ghost use Rattle.operators.specs.TensorPaths.Path.{count_of};
 
 use memory::NoMemory;
+use operators::Tensor;
 use smallvec::SmallVec;
 use std::alloc::Global;
-use tensor_paths::Tensor;
 
 /// How often the loop of each tensor runs.
 pub fn counts(alloc: Global, path: &[Tensor]) -> Result<SmallVec<u64, 8>, NoMemory>

@@ -15,8 +15,8 @@ use Rattle.smp_rewrite.specs.LayoutSteps.Meaning.{core_size, core_on}
 use Rattle.smp_rewrite.specs.LayoutSteps.Step.{PlainCore, piece, turns, twiddles, thomas_in, thomas_out}
 use Rattle.smp_rewrite.specs.Laws.{IsPermutation}
 use Rattle.smp_rewrite.proofs.Tensors.{reads-one_under}
-use Rattle.tensor_paths.specs.Path.{Reads}
-use Rattle.tensor_paths.specs.declared.Tensor.TheVariants.{Blocks}
+use Rattle.operators.specs.TensorPaths.Path.{Reads}
+use Rattle.operators.specs.declared.tensor_paths.Tensor.TheVariants.{Blocks}
 use Rattle.tree_model.specs.Breakdown.{size_of}
 
 reads-transform : (kind : Kind) (m n w : ℕ) → Reads n (transform kind m n w)

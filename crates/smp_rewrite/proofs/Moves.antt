@@ -9,10 +9,10 @@ use Rattle.operators.proofs.Places.{column_at, block_at}
 use Rattle.operators.proofs.WholeLines.{whole_lines}
 use Rattle.smp_rewrite.specs.LayoutSteps.Meaning.{core_size, core_on, step_on}
 use Rattle.smp_rewrite.specs.LayoutSteps.Step.{PlainCore, PlainStep, step}
-use Rattle.tensor_paths.specs.declared.Tensor.{Tensor}
-use Rattle.tensor_paths.specs.declared.Tensor.TheVariants.{Blocks, Columns}
-use Rattle.tensor_paths.specs.Path.{Path, grown, size_under, one_under, under}
-use Rattle.tensor_paths.proofs.Equal.{on_columns-same, on_blocks-same}
+use Rattle.operators.specs.declared.tensor_paths.Tensor.{Tensor}
+use Rattle.operators.specs.declared.tensor_paths.Tensor.TheVariants.{Blocks, Columns}
+use Rattle.operators.specs.TensorPaths.Path.{Path, grown, size_under, one_under, under}
+use Rattle.operators.proofs.TensorPaths.Equal.{on_columns-same, on_blocks-same}
 use Rattle.smp_rewrite.specs.Laws.{step_size, IsPermutation, IsMove, MovesLines}
 use Rattle.smp_rewrite.proofs.Cores.{IsGather, core-gathers}
 

@@ -6,10 +6,10 @@ use Rattle.std.proofs.Math.Nat.{mul-mod_right, div-add-mod'}
 use Rattle.std.proofs.lemmas.List.Elements.{All-nil, All-cons}
 use Rattle.operators.proofs.Lists.{factor_positive}
 use Rattle.smp_rewrite.specs.LayoutSteps.Meaning.{core_size}
-use Rattle.smp_rewrite.specs.declared.layout_steps.target.Target.{Target}
+use Rattle.operators.specs.declared.target.Target.{Target}
 use Rattle.smp_rewrite.specs.LayoutSteps.Step.{PlainCore, piece, turns, twiddles, thomas_in, thomas_out, PlainStep, step}
-use Rattle.tensor_paths.specs.declared.Tensor.TheVariants.{Blocks, Columns}
-use Rattle.tensor_paths.specs.Path.{Path, size_under}
+use Rattle.operators.specs.declared.tensor_paths.Tensor.TheVariants.{Blocks, Columns}
+use Rattle.operators.specs.TensorPaths.Path.{Path, size_under}
 use Rattle.smp_rewrite.specs.Smp.{PlainFactor, blocks, within}
 use Rattle.smp_rewrite.specs.Cut.{cut_factors, factors_of, cut}
 use Rattle.smp_rewrite.specs.Laws.{step_size, width_of, IsMove, HasShape}

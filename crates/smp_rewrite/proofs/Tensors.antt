@@ -7,11 +7,11 @@ use Rattle.operators.specs.Identities.{HasSize}
 use Rattle.operators.specs.Operator.{Operator, on_columns, on_blocks, column, block}
 use Rattle.operators.specs.Sum.{list_below}
 use Rattle.operators.proofs.Lists.{at-list_below, list_below-same, row-of, column-of, place_below, factor_positive}
-use Rattle.tensor_paths.specs.declared.Tensor.{Tensor}
-use Rattle.tensor_paths.specs.declared.Tensor.TheVariants.{Blocks, Columns}
-use Rattle.tensor_paths.specs.Path.{Path, count_of, grown, size_under, copies_of, one_under, under, Reads}
-use Rattle.tensor_paths.proofs.Equal.{on_columns-same, on_blocks-same}
-use Rattle.tensor_paths.proofs.Under.{under-size}
+use Rattle.operators.specs.declared.tensor_paths.Tensor.{Tensor}
+use Rattle.operators.specs.declared.tensor_paths.Tensor.TheVariants.{Blocks, Columns}
+use Rattle.operators.specs.TensorPaths.Path.{Path, count_of, grown, size_under, copies_of, one_under, under, Reads}
+use Rattle.operators.proofs.TensorPaths.Equal.{on_columns-same, on_blocks-same}
+use Rattle.operators.proofs.TensorPaths.Under.{under-size}
 use Rattle.smp_rewrite.specs.Smp.{within}
 
 -- ---- one copy

@@ -11,7 +11,7 @@ use Rattle.std.specs.Prelude.{Option, None, Some}
 use Rattle.std.proofs.lemmas.Bool.{cases_eq}
 use Rattle.smp_rewrite.specs.LayoutSteps.Step.{steps_of}
 use Rattle.smp_rewrite.specs.LayoutSteps.Targets.{target_of}
-use Rattle.smp_rewrite.specs.declared.layout_steps.target.Target.{Target}
+use Rattle.operators.specs.declared.target.Target.{Target}
 use Rattle.smp_rewrite.proofs.LayoutSteps.StepCosts.{steps_cost}
 use Rattle.smp_rewrite.proofs.LayoutSteps.StepMeanings.{steps_do}
 use Rattle.smp_rewrite.specs.Laws.{HasEqualParts, LayoutsFit, SmpTransforms, SmpCosts, SmpShaped}

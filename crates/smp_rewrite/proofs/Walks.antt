@@ -25,8 +25,8 @@ use Rattle.smp_rewrite.specs.LayoutSteps.Layout.{Layout, work, by, layout_size, 
 use Rattle.smp_rewrite.specs.LayoutSteps.Step.{PlainStep, step, turns, twiddles, thomas_in, thomas_out, rule_steps, steps_of}
 use Rattle.smp_rewrite.specs.LayoutSteps.Whole.{factor_by}
 use Rattle.smp_rewrite.proofs.LayoutSteps.Layouts.{layouts_have_size}
-use Rattle.tensor_paths.specs.Path.{Path}
-use Rattle.tensor_paths.specs.declared.Tensor.TheVariants.{Blocks, Columns}
+use Rattle.operators.specs.TensorPaths.Path.{Path}
+use Rattle.operators.specs.declared.tensor_paths.Tensor.TheVariants.{Blocks, Columns}
 use Rattle.tree_model.specs.Breakdown.{Breakdown, leaf, node, size_of, IsTree}
 use Rattle.tree_model.specs.Cost.{is_kernel, node_root}
 use Rattle.tree_model.specs.Whole.{left_of, right_of}

@@ -8,11 +8,11 @@ use Rattle.operators.specs.Operator.{gather}
 use Rattle.smp_rewrite.specs.LayoutSteps.Layout.{layout_of}
 use Rattle.smp_rewrite.specs.LayoutSteps.Whole.{Whole, whole_on, whole_operations}
 use Rattle.smp_rewrite.specs.LayoutSteps.Targets.{target_of}
-use Rattle.smp_rewrite.specs.declared.layout_steps.target.Target.{Target}
+use Rattle.operators.specs.declared.target.Target.{Target}
 use Rattle.smp_rewrite.specs.LayoutSteps.Meaning.{core_size, step_on}
 use Rattle.smp_rewrite.specs.LayoutSteps.Step.{PlainCore, piece, turns, twiddles, thomas_in, thomas_out, PlainStep}
-use Rattle.tensor_paths.specs.declared.Tensor.TheVariants.{Blocks, Columns}
-use Rattle.tensor_paths.specs.Path.{Path, size_under}
+use Rattle.operators.specs.declared.tensor_paths.Tensor.TheVariants.{Blocks, Columns}
+use Rattle.operators.specs.TensorPaths.Path.{Path, size_under}
 use Rattle.tree_model.specs.Breakdown.{Breakdown}
 use Rattle.tree_model.specs.Chosen.{IsWholeTree}
 use Rattle.smp_rewrite.specs.Fits.{CanShareLayout}

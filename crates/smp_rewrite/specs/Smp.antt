@@ -3,11 +3,11 @@ use Rattle.std.specs.Prelude.{ℕ, ◌+◌, ◌/◌, ◌==◌, if◌then◌else�
 use Rattle.operators.specs.Operator.{Operator}
 use Rattle.smp_rewrite.specs.LayoutSteps.Meaning.{all_on}
 use Rattle.smp_rewrite.specs.LayoutSteps.Whole.{closed_on, closing_cost}
-use Rattle.smp_rewrite.specs.declared.layout_steps.target.Target.{Target}
+use Rattle.operators.specs.declared.target.Target.{Target}
 use Rattle.smp_rewrite.specs.LayoutSteps.Step.{PlainStep, step, operations_of}
-use Rattle.tensor_paths.specs.declared.Tensor.{Tensor}
-use Rattle.tensor_paths.specs.declared.Tensor.TheVariants.{Blocks}
-use Rattle.tensor_paths.specs.Path.{Path, count_of}
+use Rattle.operators.specs.declared.tensor_paths.Tensor.{Tensor}
+use Rattle.operators.specs.declared.tensor_paths.Tensor.TheVariants.{Blocks}
+use Rattle.operators.specs.TensorPaths.Path.{Path, count_of}
 
 -- the same block for each processor; a diagonal of an equal length for each; or a move of whole lines, merged into what comes after or before it
 pub data PlainFactor : Type 0 where

@@ -5,8 +5,8 @@ use Rattle.smp_rewrite.specs.LayoutSteps.Layout.{node_work}
 use Rattle.smp_rewrite.specs.LayoutSteps.Step.{PlainStep, step, piece, turns, twiddles, thomas_in, thomas_out}
 use Rattle.spl_ast.specs.Formula.{Formula, Identity, Fourier, Hadamard, Twiddles, Diagonal, Stride, Permutation}
 use Rattle.spl_ast.specs.Formula.{GoodThomasIn, GoodThomasOut, Product, TensorLeft, TensorRight, DirectSum, Pending}
-use Rattle.tensor_paths.specs.declared.Tensor.TheVariants.{Blocks, Columns}
-use Rattle.tensor_paths.specs.Path.{Path}
+use Rattle.operators.specs.declared.tensor_paths.Tensor.TheVariants.{Blocks, Columns}
+use Rattle.operators.specs.TensorPaths.Path.{Path}
 use Rattle.tree_model.specs.Breakdown.{Breakdown, leaf, node, size_of}
 use Rattle.tree_model.specs.Cost.{is_kernel}
 use Rattle.tree_model.specs.Whole.{left_of, right_of}

@@ -2,12 +2,12 @@
 ghost use Rattle.smp_rewrite.specs.LayoutSteps.Meaning.{LayoutsAreGood, LayoutsCost, LayoutsDo, LayoutsHaveSize, StepsCost, StepsDo};
 ghost use Rattle.smp_rewrite.specs.LayoutSteps.Whole.{WholesAreGood, WholesCost, WholesDo};
 
+use operators::Tensor;
 use sigma_spl::Work;
-use tensor_paths::Tensor;
 
 mod target;
 
-pub use target::{Target, target_of};
+pub use target::target_of;
 
 /// The matrix of a step.
 #[derive(Drop)]

@@ -15,7 +15,7 @@ ghost use Rattle.smp_rewrite.specs.LayoutSteps.Targets.{target_of};
 ghost use Rattle.smp_rewrite.specs.LayoutSteps.Step.{step, turns};
 ghost use Rattle.smp_rewrite.specs.LayoutSteps.Views.{plain_core, plain_step};
 ghost use Rattle.smp_rewrite.specs.LayoutSteps.Whole.{whole_of};
-ghost use Rattle.tensor_paths.specs.declared.Tensor.TheVariants.{Columns};
+ghost use Rattle.operators.specs.declared.tensor_paths.Tensor.TheVariants.{Columns};
 ghost use Rattle.tree_model.specs.Breakdown.{breakdown_of};
 ghost use Rattle.tree_model.specs.Chosen.{IsWholeTree, whole_cost};
 ghost use Rattle.smp_rewrite.specs.Cut.{cut, closed_cut, cut_factors, factors_of, first_count, is_left, right_count, smp_of, whole_factor};
@@ -25,13 +25,11 @@ ghost use Rattle.smp_rewrite.specs.Views.{plain_factor, plain_smp};
 
 use crate::closing::{body_of, closing_in};
 use crate::walk::steps_by;
-pub use layout_steps::{
-    Core, Step, Target, layouts_do, steps_cost, steps_do, target_of, wholes_do,
-};
+pub use layout_steps::{Core, Step, layouts_do, steps_cost, steps_do, target_of, wholes_do};
 use memory::NoMemory;
+use operators::{Target, Tensor};
 use spl_ast::Spl;
 use std::alloc::Global;
-use tensor_paths::Tensor;
 use tree_model::{Ctx, Tree};
 
 /// A factor of a formula for several processors, of which each does an equal part.

@@ -12,10 +12,10 @@ ghost use Rattle.tree_model.specs.Breakdown.{breakdown_of, HasWordSizes};
 use crate::layout_steps::{Core, Step};
 use matrix_meaning::Kind;
 use memory::NoMemory;
+use operators::Tensor;
 use sigma_spl::Work;
 use spl_ast::{Node, Spl};
 use std::alloc::Global;
-use tensor_paths::Tensor;
 use tree_model::{Ctx, Tree, is_kernel, node_root, rooted_of};
 
 /// The steps of a tree, in the order in which they are applied.

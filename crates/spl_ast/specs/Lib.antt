@@ -6,3 +6,4 @@ pub mod View
 pub mod Falls
 pub mod Rewriting
 pub mod Distribution
+pub mod BalancedSums

@@ -2,6 +2,7 @@
 //! how rules rewrite them.
 #![tactic(auto)]
 
+mod balanced_sums;
 mod build;
 mod distribute;
 mod places;
@@ -12,6 +13,7 @@ ghost use Rattle.std.specs.Prelude.{◌≡◌};
 ghost use Rattle.spl_ast.specs.Formula.{size_of};
 ghost use Rattle.spl_ast.specs.Shape.{IsShaped, IsSize};
 
+pub use balanced_sums::balance;
 pub use distribute::Distribute;
 pub use memory::NoMemory;
 pub use places::{by_places, turned};

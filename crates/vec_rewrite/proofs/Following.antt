@@ -12,8 +12,8 @@ use Rattle.smp_rewrite.proofs.Tensors.{under-within, under-within_all}
 use Rattle.smp_rewrite.specs.LayoutSteps.Meaning.{core_size, core_on, step_on, all_on}
 use Rattle.smp_rewrite.specs.LayoutSteps.Step.{PlainCore, piece, turns, twiddles, thomas_in, thomas_out, step}
 use Rattle.smp_rewrite.proofs.LayoutSteps.StepMeanings.{all_on-append}
-use Rattle.tensor_paths.specs.declared.Tensor.TheVariants.{Blocks, Columns}
-use Rattle.tensor_paths.specs.Path.{Path, size_under, under}
+use Rattle.operators.specs.declared.tensor_paths.Tensor.TheVariants.{Blocks, Columns}
+use Rattle.operators.specs.TensorPaths.Path.{Path, size_under, under}
 use Rattle.vec_rewrite.specs.declared.Deal.{Deal}
 use Rattle.vec_rewrite.specs.declared.Grid.{Grid}
 use Rattle.vec_rewrite.specs.Turning.{joined, settled, grid_after, order_after, narrowed, block_factors, laned, laned_from}

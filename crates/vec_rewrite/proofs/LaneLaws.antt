@@ -10,7 +10,7 @@ use Rattle.smp_rewrite.proofs.LayoutSteps.StepMeanings.{all_on-append}
 use Rattle.smp_rewrite.specs.Fits.{CanShareLayout}
 use Rattle.smp_rewrite.specs.LayoutSteps.Layout.{Layout}
 use Rattle.smp_rewrite.specs.LayoutSteps.Whole.{Whole, closed_on, closing_cost}
-use Rattle.smp_rewrite.specs.declared.layout_steps.target.Target.{Target}
+use Rattle.operators.specs.declared.target.Target.{Target}
 use Rattle.vec_rewrite.specs.declared.Deal.{Deal}
 use Rattle.vec_rewrite.specs.Laws.{Keeps, VecKeeps}
 use Rattle.vec_rewrite.specs.Turning.{kept, laned_from, phase_of, deal_of}

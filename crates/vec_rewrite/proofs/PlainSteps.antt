@@ -8,7 +8,7 @@ use Rattle.smp_rewrite.specs.Cut.{factors_of, cut}
 use Rattle.smp_rewrite.proofs.Factors.{cut-factors}
 use Rattle.smp_rewrite.specs.LayoutSteps.Step.{PlainStep, steps_of}
 use Rattle.smp_rewrite.specs.LayoutSteps.Targets.{is_alone}
-use Rattle.smp_rewrite.specs.declared.layout_steps.target.Target.{Target}
+use Rattle.operators.specs.declared.target.Target.{Target}
 use Rattle.vec_rewrite.specs.Laws.{PlainSteps}
 use Rattle.vec_rewrite.specs.Turning.{kept, vec_of}
 use Rattle.vec_rewrite.specs.Vectors.{factor_step, vec_steps}

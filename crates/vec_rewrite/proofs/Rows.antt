@@ -9,9 +9,9 @@ use Rattle.smp_rewrite.specs.Smp.{PlainFactor, blocks, diagonals, move_before, m
 use Rattle.smp_rewrite.specs.Views.{plain_factor, plain_smp}
 use Rattle.smp_rewrite.specs.declared.SmpSpl.{SmpSpl}
 use Rattle.smp_rewrite.proofs.TreeLaws.{smp_shaped}
-use Rattle.tensor_paths.specs.declared.Tensor.TheVariants.{Blocks, Columns}
-use Rattle.smp_rewrite.specs.declared.layout_steps.target.Target.{Target}
-use Rattle.tensor_paths.specs.Path.{Path, size_under}
+use Rattle.operators.specs.declared.tensor_paths.Tensor.TheVariants.{Blocks, Columns}
+use Rattle.operators.specs.declared.target.Target.{Target}
+use Rattle.operators.specs.TensorPaths.Path.{Path, size_under}
 use Rattle.vec_rewrite.specs.Laws.{IsSmpOf, HasRowsUnder, HasRows}
 
 rows-under : (n p k : ℕ) (path : Path) → 0 < n → p * size_under path k ≡ n → HasRowsUnder path

@@ -12,15 +12,15 @@ use Rattle.smp_rewrite.proofs.Dealt.{IsDealt, is_dealt}
 use Rattle.smp_rewrite.proofs.Sized.{AreOfSize, of_size}
 use Rattle.operators.proofs.Lists.{factor_positive}
 use Rattle.smp_rewrite.specs.LayoutSteps.Step.{turns, twiddles, PlainStep, step, rule_steps, steps_of}
-use Rattle.tensor_paths.specs.declared.Tensor.{Tensor}
-use Rattle.tensor_paths.specs.declared.Tensor.TheVariants.{Blocks, Columns}
-use Rattle.tensor_paths.specs.Path.{Path}
+use Rattle.operators.specs.declared.tensor_paths.Tensor.{Tensor}
+use Rattle.operators.specs.declared.tensor_paths.Tensor.TheVariants.{Blocks, Columns}
+use Rattle.operators.specs.TensorPaths.Path.{Path}
 use Rattle.tree_model.specs.declared.tree.Rule.{Rule}
 use Rattle.tree_model.specs.declared.tree.Rule.TheVariants.{Gt, Ct, Split, Dim}
 use Rattle.smp_rewrite.specs.Fits.{HasParts, RuleHasParts, RootHasParts, CanShareLayout}
 use Rattle.smp_rewrite.specs.LayoutSteps.Layout.{Layout, work, by, layout_size}
 use Rattle.smp_rewrite.specs.LayoutSteps.Targets.{is_alone}
-use Rattle.smp_rewrite.specs.declared.layout_steps.target.Target.{Target}
+use Rattle.operators.specs.declared.target.Target.{Target}
 use Rattle.vec_rewrite.specs.Turning.{deal_of}
 use Rattle.vec_rewrite.specs.declared.Deal.{Deal}
 use Rattle.vec_rewrite.proofs.Following.{IsWide, AllFollow}

@@ -11,8 +11,8 @@ use Rattle.smp_rewrite.proofs.Cores.{core-reads, core-gives}
 use Rattle.smp_rewrite.proofs.Tensors.{under-within_all, reads-one_under}
 use Rattle.smp_rewrite.specs.LayoutSteps.Meaning.{step_on, all_on}
 use Rattle.smp_rewrite.specs.LayoutSteps.Step.{turns, step}
-use Rattle.tensor_paths.specs.declared.Tensor.TheVariants.{Blocks, Columns}
-use Rattle.tensor_paths.proofs.Equal.{on_blocks-same}
+use Rattle.operators.specs.declared.tensor_paths.Tensor.TheVariants.{Blocks, Columns}
+use Rattle.operators.proofs.TensorPaths.Equal.{on_blocks-same}
 use Rattle.vec_rewrite.specs.declared.Deal.{Deal}
 use Rattle.vec_rewrite.specs.declared.Grid.{Grid}
 use Rattle.vec_rewrite.specs.Turning.{parted, joined}

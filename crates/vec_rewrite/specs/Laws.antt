@@ -8,9 +8,9 @@ use Rattle.smp_rewrite.specs.LayoutSteps.Layout.{Layout}
 use Rattle.smp_rewrite.specs.LayoutSteps.Whole.{Whole}
 use Rattle.smp_rewrite.specs.LayoutSteps.Step.{steps_of}
 use Rattle.smp_rewrite.specs.LayoutSteps.Targets.{is_alone}
-use Rattle.smp_rewrite.specs.declared.layout_steps.target.Target.{Target}
-use Rattle.tensor_paths.specs.declared.Tensor.TheVariants.{Blocks, Columns}
-use Rattle.tensor_paths.specs.Path.{Path, size_under}
+use Rattle.operators.specs.declared.target.Target.{Target}
+use Rattle.operators.specs.declared.tensor_paths.Tensor.TheVariants.{Blocks, Columns}
+use Rattle.operators.specs.TensorPaths.Path.{Path, size_under}
 use Rattle.vec_rewrite.specs.Vectors as vec
 use Rattle.vec_rewrite.specs.Vectors.{PlainVec, vec_steps, vec_on, vec_share}
 use Rattle.vec_rewrite.specs.Turning.{vec_of}

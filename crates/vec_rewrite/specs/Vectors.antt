@@ -4,10 +4,10 @@ use Rattle.operators.specs.Operator.{Operator}
 use Rattle.smp_rewrite.specs.Smp.{within}
 use Rattle.smp_rewrite.specs.LayoutSteps.Meaning.{all_on}
 use Rattle.smp_rewrite.specs.LayoutSteps.Whole.{closed_on, closing_cost}
-use Rattle.smp_rewrite.specs.declared.layout_steps.target.Target.{Target}
+use Rattle.operators.specs.declared.target.Target.{Target}
 use Rattle.smp_rewrite.specs.LayoutSteps.Step.{PlainStep, step, turns, operations_of}
-use Rattle.tensor_paths.specs.declared.Tensor.TheVariants.{Blocks, Columns}
-use Rattle.tensor_paths.specs.Path.{Path}
+use Rattle.operators.specs.declared.tensor_paths.Tensor.TheVariants.{Blocks, Columns}
+use Rattle.operators.specs.TensorPaths.Path.{Path}
 
 -- a step on all lanes of each processor's block; a diagonal on all words; a permutation of the vectors of all words; tiles under a path in each block
 pub data PlainFactor : Type 0 where

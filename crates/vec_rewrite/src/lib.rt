@@ -2,7 +2,7 @@
 #![tactic(auto)]
 
 ghost use Rattle.std.specs.Prelude.{◌≡◌, ◌+◌, ◌*◌, ◌<◌, [], ◌∷◌, ◌++◌, All, IfOk, List, None, OnOk, map, ℕ};
-ghost use Rattle.tensor_paths.specs.declared.Tensor.TheVariants.{Blocks};
+ghost use Rattle.operators.specs.declared.tensor_paths.Tensor.TheVariants.{Blocks};
 ghost use Rattle.smp_rewrite.specs.LayoutSteps.Targets.{target_of};
 ghost use Rattle.smp_rewrite.specs.Smp.{smp_on, smp_share, within};
 ghost use Rattle.smp_rewrite.specs.Views.{plain_factor, plain_smp};
@@ -14,9 +14,9 @@ ghost use Rattle.vec_rewrite.specs.Vectors.{factor_step, vec_on, vec_share, vec_
 ghost use Rattle.vec_rewrite.specs.Views.{plain_vec, plain_vec_factor};
 
 use memory::NoMemory;
-use smp_rewrite::{Core, Factor, SmpSpl, Step, Target, step_within, within};
+use operators::{Target, Tensor};
+use smp_rewrite::{Core, Factor, SmpSpl, Step, step_within, within};
 use std::alloc::Global;
-use tensor_paths::Tensor;
 use tree_model::Ctx;
 
 /// A factor of a formula for processors and lanes.

@@ -7,7 +7,7 @@ use Rattle.icode.specs.declared.action.Action.{Action}
 use Rattle.icode.specs.declared.action.Action.TheVariants.{Load, Store, Zero, Add, Sub, Neg, Mul, Tile}
 use Rattle.icode.specs.Machine.{Local, effect, value_put, memory_after, register_put, register_of, with_words, lane_by_lane}
 use Rattle.icode.proofs.Words.{length-words_at}
-use Rattle.code_laws.proofs.Placing.{length-lane_by_lane, length-mapped}
+use Rattle.icode.proofs.CodeLaws.Placing.{length-lane_by_lane, length-mapped}
 use Rattle.word_code.specs.Words.{base_of, sums_of, product_bound, wrapped_sum, wrapped_difference, biased_difference, lazy_product}
 use Rattle.word_code.specs.declared.program.Reduction.{Reduction}
 use Rattle.word_code.specs.WordMachine.{word_put, bare_effect, reduce_registers, lane_by_three}

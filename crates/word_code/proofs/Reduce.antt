@@ -6,7 +6,7 @@ use Rattle.std.proofs.lemmas.Bool.Decides.{nat_tests}
 use Rattle.std.proofs.lemmas.Nat.{div-add-mod', mod_below}
 use Rattle.icode.specs.Machine.{words_at, with_words, register_of}
 use Rattle.icode.proofs.Words.{length-words_at}
-use Rattle.code_laws.proofs.Placing.{length-mapped}
+use Rattle.icode.proofs.CodeLaws.Placing.{length-mapped}
 use Rattle.word_code.specs.Words.{reduced}
 use Rattle.word_code.specs.declared.program.Reduction.{Reduction}
 use Rattle.word_code.specs.WordMachine.{reduce_register, reduce_registers}

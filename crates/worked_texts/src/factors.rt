@@ -3,12 +3,12 @@
 
 use crate::contexts::{context, tree_of};
 use crate::stages::{blocks_of, lanes_of};
+use operators::Tensor;
 use sigma_spl::Work;
 use smp_rewrite::{Core, Factor, SmpSpl, Step};
 use std::alloc::{AllocError, Global};
 use std::fmt::Write;
 use std::test::Fail;
-use tensor_paths::Tensor;
 use tree_model::{RootedTrees, admissible};
 use vec_rewrite::{VecFactor, VecSpl};
 use worked_rows::check;

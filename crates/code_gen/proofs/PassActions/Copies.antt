@@ -3,8 +3,8 @@ use Rattle.std.proofs.Common.{◌≡◌, ℕ, ◌+◌, ◌-◌, ◌*◌, ◌%◌
 use Rattle.std.proofs.Math.Nat.{mod-eq_of_lt, div-add-mod'}
 use Rattle.std.specs.Prelude.{slice_index, ◌/◌, Option, Some, None}
 use Rattle.std.proofs.lemmas.List.Elements.{All-contains}
-use Rattle.code_laws.specs.Nests.{AreInRange}
-use Rattle.code_laws.proofs.Fills.{word}
+use Rattle.icode.specs.CodeLaws.Nests.{AreInRange}
+use Rattle.icode.proofs.CodeLaws.Fills.{word}
 use Rattle.icode.specs.Machine.{Local}
 use Rattle.operators.specs.Sum.{list_below}
 use Rattle.operators.proofs.Lists.{at-list_below, factor_positive, place_below}
@@ -19,7 +19,7 @@ use Rattle.code_gen.proofs.PassActions.Tasks.{Task, IsReady}
 use Rattle.sigma_spl.specs.Copies.{loops_of, all_stored}
 use Rattle.sigma_spl.specs.Nest.{PlainMultiplier, PlainNest, load_place, store_place, copies_of, multiplied_on, nests_on}
 use Rattle.sigma_spl.specs.Work.{PlainWork, kernel, rows, horner, tile, copy, work_size, work_on, vectors_of}
-use Rattle.tensor_paths.specs.Path as paths
+use Rattle.operators.specs.TensorPaths.Path as paths
 use Rattle.tree_model.proofs.TreeProducts.{trees-below}
 
 pub words_apart : (n source target i o a : ℕ) → AreApart n source target → i < n → o < n → a ≡ source + i → a ≡ target + o → ⊥

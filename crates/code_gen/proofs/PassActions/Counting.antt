@@ -4,8 +4,8 @@ use Rattle.std.specs.Prelude.{Option, Some, None}
 use Rattle.icode.specs.declared.action.Action.{Action}
 use Rattle.icode.specs.declared.action.Action.TheVariants.{Load, Store, Zero, Add, Sub, Neg, Mul, Tile}
 use Rattle.icode.specs.Machine.{counts_of}
-use Rattle.code_laws.specs.Lanes.{weighted_operations}
-use Rattle.code_laws.specs.Nests.{bodies, nest, loads}
+use Rattle.icode.specs.CodeLaws.Lanes.{weighted_operations}
+use Rattle.icode.specs.CodeLaws.Nests.{bodies, nest, loads}
 use Rattle.kernel_gen.specs.Instructions.{actions_by, code_cost}
 use Rattle.kernel_gen.specs.declared.straight.Instruction.{Instruction}
 use Rattle.kernel_gen.proofs.Instructions.{actions-cost, no-traffic}

@@ -3,8 +3,8 @@ use Rattle.std.proofs.Common.{◌≡◌, ℕ, zero, suc, ◌+◌, ◌*◌, ◌-�
 use Rattle.std.specs.Prelude.{slice_index}
 use Rattle.icode.specs.declared.action.Action.{Action}
 use Rattle.icode.specs.declared.action.Action.TheVariants.{Tile}
-use Rattle.code_laws.specs.Nests.{AreInRange}
-use Rattle.code_laws.proofs.Fills.{Fills}
+use Rattle.icode.specs.CodeLaws.Nests.{AreInRange}
+use Rattle.icode.proofs.CodeLaws.Fills.{Fills}
 use Rattle.kernel_gen.specs.Instructions.{actions_by}
 use Rattle.kernel_gen.specs.Kernel.{trees_kernel}
 use Rattle.kernel_gen.proofs.Products.{trees-does}

@@ -4,10 +4,10 @@ use Rattle.std.specs.Prelude.{Option, Some, None}
 use Rattle.icode.specs.Actions.{lane_factors}
 use Rattle.icode.specs.declared.action.Action.TheVariants.{Store, Mul}
 use Rattle.icode.specs.Machine.{Local, effect}
-use Rattle.code_laws.specs.Lanes.{Registers, lane_of}
-use Rattle.code_laws.proofs.ByLane.{effect_by_lane, this_register}
-use Rattle.code_laws.proofs.Fills.{Fills, fills-after}
-use Rattle.code_laws.proofs.Stores.{Stored, store_fills}
+use Rattle.icode.specs.CodeLaws.Lanes.{Registers, lane_of}
+use Rattle.icode.proofs.CodeLaws.ByLane.{effect_by_lane, this_register}
+use Rattle.icode.proofs.CodeLaws.Fills.{Fills, fills-after}
+use Rattle.icode.proofs.CodeLaws.Stores.{Stored, store_fills}
 use Rattle.code_gen.specs.PassActions.Machine.{PlainMachine, item_of, values_of}
 use Rattle.ring_mod.specs.Residue.{product_mod}
 use Rattle.sigma_spl.specs.Nest.{PlainMultiplier, PlainNest, factor_at, store_place}

@@ -6,7 +6,7 @@ use Rattle.icode.proofs.Lines.{Contains-head, Contains-tail}
 use Rattle.icode.specs.Actions.{lane_factors}
 use Rattle.icode.specs.declared.action.Action.{Action}
 use Rattle.icode.specs.declared.action.Action.TheVariants.{Load, Store, Zero, Add, Mul, Tile}
-use Rattle.code_laws.specs.Nests.{bodies, nest, loads}
+use Rattle.icode.specs.CodeLaws.Nests.{bodies, nest, loads}
 use Rattle.kernel_gen.specs.Instructions.{actions_by}
 use Rattle.kernel_gen.specs.Kernel.{trees_kernel}
 use Rattle.kernel_gen.proofs.Below.{at-AllBelow}

@@ -3,7 +3,7 @@ use Rattle.std.proofs.Common.{◌≡◌, ◌≢◌, ℕ, suc, ◌+◌, ◌*◌, 
 use Rattle.std.proofs.Math.Nat.{div-add-mod'}
 use Rattle.std.specs.Prelude.{◌==◌, slice_index}
 use Rattle.std.proofs.lemmas.Bool.Decides.{nat_tests}
-use Rattle.code_laws.specs.Nests.{AreInRange}
+use Rattle.icode.specs.CodeLaws.Nests.{AreInRange}
 use Rattle.operators.proofs.Lists.{factor_positive, place_below}
 use Rattle.code_gen.specs.PassActions.Laws.{CanWork, IsFramed, IsCopyOf}
 use Rattle.code_gen.specs.PassActions.Machine.{PlainMachine, one_if_several, if_several, first_loop, framed_lanes, loop_counts, item_of, values_of}
@@ -11,7 +11,7 @@ use Rattle.sigma_spl.specs.Copies.{loops_of}
 use Rattle.sigma_spl.specs.Counts.{copies_in}
 use Rattle.sigma_spl.specs.Nest.{PlainNest}
 use Rattle.sigma_spl.specs.Work.{PlainWork, kernel, rows, horner, tile, copy, work_size, vectors_of}
-use Rattle.tensor_paths.specs.Path as paths
+use Rattle.operators.specs.TensorPaths.Path as paths
 
 -- what holds of one and of several
 pub one_or_several : (n : ℕ) (P : Bool → Type 0) → (n ≡ 1 → P true) → (n ≢ 1 → P false) → P (n == 1)

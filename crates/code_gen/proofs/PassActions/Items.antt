@@ -1,9 +1,9 @@
 -- Items that are copied one by one fill their places.
 use Rattle.std.proofs.Common.{◌≡◌, ℕ, ◌+◌, ◌<◌, ◌≤◌, arith, List, ◌++◌}
 use Rattle.icode.specs.Machine.{Local}
-use Rattle.code_laws.specs.Nests.{loads}
-use Rattle.code_laws.proofs.Fills.{Fills, fills-loop, fills-after}
-use Rattle.code_laws.proofs.Stores.{Stored, loads-memory}
+use Rattle.icode.specs.CodeLaws.Nests.{loads}
+use Rattle.icode.proofs.CodeLaws.Fills.{Fills, fills-loop, fills-after}
+use Rattle.icode.proofs.CodeLaws.Stores.{Stored, loads-memory}
 use Rattle.code_gen.specs.PassActions.Acts.{store_at, finish_acts, items_acts, load_at, with_multiplier}
 use Rattle.code_gen.specs.PassActions.Machine.{PlainMachine}
 use Rattle.code_gen.proofs.PassActions.Finish.{finished_lane, finish-fills}

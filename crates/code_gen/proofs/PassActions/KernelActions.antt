@@ -3,7 +3,7 @@ use Rattle.std.proofs.Common.{◌≡◌, ℕ, ◌+◌, ◌<◌, ◌≤◌, arith
 use Rattle.std.specs.Prelude.{All}
 use Rattle.std.proofs.lemmas.List.{length-map}
 use Rattle.std.proofs.lemmas.List.Elements.{All-nil, All-cons}
-use Rattle.code_laws.proofs.ByLane.{weight_of_one}
+use Rattle.icode.proofs.CodeLaws.ByLane.{weight_of_one}
 use Rattle.kernel_gen.specs.Instructions.{AreWithin, IsWithin, action_by, actions_by, code_cost}
 use Rattle.kernel_gen.specs.Kernel.{CanMake, trees_cost, trees_kernel}
 use Rattle.kernel_gen.specs.declared.straight.Instruction.{Instruction}

@@ -4,9 +4,9 @@ use Rattle.std.specs.Prelude.{slice_index}
 use Rattle.std.proofs.Math.Nat.{mul-le-mul_right}
 use Rattle.icode.specs.declared.action.Action.{Action}
 use Rattle.icode.specs.Machine.{Local, effects}
-use Rattle.code_laws.specs.Lanes.{AreArithmetic, Registers, lane_of}
-use Rattle.code_laws.proofs.ByLane.{arithmetic_is_by_lane}
-use Rattle.code_laws.proofs.Placing.{slice_index-map}
+use Rattle.icode.specs.CodeLaws.Lanes.{AreArithmetic, Registers, lane_of}
+use Rattle.icode.proofs.CodeLaws.ByLane.{arithmetic_is_by_lane}
+use Rattle.icode.proofs.CodeLaws.Placing.{slice_index-map}
 use Rattle.kernel_gen.specs.Instructions.{actions_by, code_effect}
 use Rattle.kernel_gen.specs.Making.{Made}
 use Rattle.kernel_gen.proofs.Below.{AllBelow, AllBelow-at, at-AllBelow}

@@ -3,8 +3,8 @@ use Rattle.std.proofs.Common.{◌≡◌, ℕ, zero, suc, ◌+◌, ◌-◌, ◌<�
 use Rattle.std.specs.Prelude.{slice_index}
 use Rattle.icode.proofs.Lines.{Contains-head, Contains-tail, Contains-nil}
 use Rattle.icode.specs.Machine.{Local}
-use Rattle.code_laws.specs.Nests.{AreInRange}
-use Rattle.code_laws.proofs.Fills.{Fills, fills-none, fills-append, fills-fewer, fills-nest}
+use Rattle.icode.specs.CodeLaws.Nests.{AreInRange}
+use Rattle.icode.proofs.CodeLaws.Fills.{Fills, fills-none, fills-append, fills-fewer, fills-nest}
 use Rattle.code_gen.specs.PassActions.Acts.{store_at, copy_acts, nest_acts, pass_acts}
 use Rattle.code_gen.specs.PassActions.Laws.{AreApart, CanBegin, CanRun, IsStoredBy, Leaves}
 use Rattle.code_gen.specs.PassActions.Machine.{PlainMachine, loop_counts, values_of}
@@ -16,7 +16,7 @@ use Rattle.code_gen.proofs.PassActions.Tasks.{IsReady}
 use Rattle.sigma_spl.specs.Copies.{loops_of}
 use Rattle.sigma_spl.specs.Nest.{PlainNest, store_place, nests_on}
 use Rattle.sigma_spl.specs.Work.{vectors_of}
-use Rattle.tensor_paths.specs.Path as paths
+use Rattle.operators.specs.TensorPaths.Path as paths
 
 module _ (c : PlainMachine) (zs : List PlainNest) (can : CanRun c zs) (source target q : ℕ) (x : List ℕ) (apart : AreApart c.size source target) (part : q < c.procs) (small : (i : ℕ) → i < c.size → slice_index x i < c.modulus) where
   -- the words of all copies of the processor in a nest, and in nests

@@ -8,8 +8,8 @@ use Rattle.operators.proofs.Scatters.{sum_below-only}
 use Rattle.sigma_spl.specs.Copies.{loops_of, taken, stored, all_stored, hits}
 use Rattle.sigma_spl.specs.Nest.{PlainNest, copies_of}
 use Rattle.sigma_spl.proofs.CopiesMerge.{sum-none, nest-none}
-use Rattle.tensor_paths.specs.Loop.{nest_sum, loop_at}
-use Rattle.tensor_paths.specs.Path.{Path, count_of, AreInRange}
+use Rattle.operators.specs.TensorPaths.Loop.{nest_sum, loop_at}
+use Rattle.operators.specs.TensorPaths.Path.{Path, count_of, AreInRange}
 
 -- ---- sums of at most one
 

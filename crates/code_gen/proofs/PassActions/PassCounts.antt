@@ -5,8 +5,8 @@ use Rattle.std.proofs.lemmas.List.Elements.{All-contains}
 use Rattle.icode.proofs.Lines.{Contains-head, Contains-tail}
 use Rattle.icode.specs.declared.action.Action.TheVariants.{Tile}
 use Rattle.icode.specs.Machine.{counts_of, weighted}
-use Rattle.code_laws.proofs.ByLane.{weighted_is_by_lane}
-use Rattle.code_laws.specs.Nests.{nest}
+use Rattle.icode.proofs.CodeLaws.ByLane.{weighted_is_by_lane}
+use Rattle.icode.specs.CodeLaws.Nests.{nest}
 use Rattle.kernel_gen.specs.Instructions.{actions_by}
 use Rattle.kernel_gen.specs.Kernel.{trees_kernel, trees_cost}
 use Rattle.kernel_gen.proofs.Products.{trees-does}

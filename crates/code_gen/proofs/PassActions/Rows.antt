@@ -6,11 +6,11 @@ use Rattle.icode.specs.Actions.{lane_factors}
 use Rattle.icode.specs.declared.action.Action.{Action}
 use Rattle.icode.specs.declared.action.Action.TheVariants.{Load, Zero, Add, Mul}
 use Rattle.icode.specs.Machine.{Local, effect, effects}
-use Rattle.code_laws.specs.Lanes.{Registers, lane_of, lane_effect, with_register}
-use Rattle.code_laws.specs.Nests.{bodies}
-use Rattle.code_laws.proofs.ByLane.{effect_by_lane, lists_follow}
-use Rattle.code_laws.proofs.Fills.{Fills, fills-after, fills-loop}
-use Rattle.code_laws.proofs.Stores.{Stored, load_by_lane, length-registers}
+use Rattle.icode.specs.CodeLaws.Lanes.{Registers, lane_of, lane_effect, with_register}
+use Rattle.icode.specs.CodeLaws.Nests.{bodies}
+use Rattle.icode.proofs.CodeLaws.ByLane.{effect_by_lane, lists_follow}
+use Rattle.icode.proofs.CodeLaws.Fills.{Fills, fills-after, fills-loop}
+use Rattle.icode.proofs.CodeLaws.Stores.{Stored, load_by_lane, length-registers}
 use Rattle.code_gen.specs.PassActions.Machine.{PlainMachine}
 use Rattle.operators.specs.Sum.{sum_below}
 use Rattle.ring_mod.proofs.Congruence.{same-add}

@@ -4,7 +4,7 @@ use Rattle.std.specs.Prelude.{slice_index, Option, Some, None}
 use Rattle.icode.proofs.Lines.{Contains-head, Contains-tail}
 use Rattle.icode.specs.declared.action.Action.{Action}
 use Rattle.icode.specs.declared.action.Action.TheVariants.{Load, Tile}
-use Rattle.code_laws.specs.Nests.{bodies, nest, loads}
+use Rattle.icode.specs.CodeLaws.Nests.{bodies, nest, loads}
 use Rattle.kernel_gen.specs.Instructions.{actions_by, code_cost}
 use Rattle.kernel_gen.specs.Kernel.{trees_kernel}
 use Rattle.kernel_gen.specs.declared.straight.Instruction.{Instruction}

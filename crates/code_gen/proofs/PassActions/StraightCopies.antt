@@ -4,11 +4,11 @@ use Rattle.std.specs.Prelude.{Option, Some, None}
 use Rattle.icode.specs.declared.action.Action.{Action}
 use Rattle.icode.specs.declared.action.Action.TheVariants.{Mul}
 use Rattle.icode.specs.Machine.{Local, effect, effects}
-use Rattle.code_laws.specs.Lanes.{Registers, lane_of}
-use Rattle.code_laws.specs.Nests.{bodies, loads}
-use Rattle.code_laws.proofs.ByLane.{effect_by_lane, other_register, lists_follow}
-use Rattle.code_laws.proofs.Fills.{Fills, fills-loop, fills-after}
-use Rattle.code_laws.proofs.Stores.{Stored, loads-memory, loads-registers}
+use Rattle.icode.specs.CodeLaws.Lanes.{Registers, lane_of}
+use Rattle.icode.specs.CodeLaws.Nests.{bodies, loads}
+use Rattle.icode.proofs.CodeLaws.ByLane.{effect_by_lane, other_register, lists_follow}
+use Rattle.icode.proofs.CodeLaws.Fills.{Fills, fills-loop, fills-after}
+use Rattle.icode.proofs.CodeLaws.Stores.{Stored, loads-memory, loads-registers}
 use Rattle.code_gen.specs.PassActions.Machine.{PlainMachine}
 use Rattle.sigma_spl.specs.Nest.{PlainMultiplier, PlainNest}
 use Rattle.code_gen.specs.PassActions.Acts.{store_at, finish_acts, with_multiplier}

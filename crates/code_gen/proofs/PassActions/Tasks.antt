@@ -4,9 +4,9 @@ use Rattle.std.specs.Prelude.{slice_index}
 use Rattle.icode.specs.declared.action.Action.{Action}
 use Rattle.icode.specs.declared.action.Action.TheVariants.{Store}
 use Rattle.icode.specs.Machine.{Local, effect, effects}
-use Rattle.code_laws.specs.Lanes.{lane_of}
-use Rattle.code_laws.proofs.Fills.{word}
-use Rattle.code_laws.proofs.Stores.{other_word, length-memory, length-registers}
+use Rattle.icode.specs.CodeLaws.Lanes.{lane_of}
+use Rattle.icode.proofs.CodeLaws.Fills.{word}
+use Rattle.icode.proofs.CodeLaws.Stores.{other_word, length-memory, length-registers}
 
 -- a register, in one of so many lanes
 abbrev pub register : ℕ → Local → ℕ → ℕ → ℕ

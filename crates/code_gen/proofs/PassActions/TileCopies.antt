@@ -1,7 +1,7 @@
 -- What a tile computes.
 use Rattle.std.proofs.Common.{◌≡◌, ℕ, ◌+◌, ◌<◌, ◌≤◌, arith, refl, ap, ◌∙◌, [], ◌∷◌}
 use Rattle.icode.specs.declared.action.Action.TheVariants.{Tile}
-use Rattle.code_laws.proofs.Tiles.{tile_by_lane}
+use Rattle.icode.proofs.CodeLaws.Tiles.{tile_by_lane}
 use Rattle.code_gen.specs.PassActions.Machine.{PlainMachine}
 use Rattle.code_gen.proofs.PassActions.Tasks.{Task, register, ready-kept}
 use Rattle.code_gen.proofs.PassActions.StraightCopies.{Computes}

@@ -6,8 +6,8 @@ use Rattle.std.proofs.lemmas.List.Elements.{All-nil, All-cons, All-append}
 use Rattle.icode.specs.declared.action.Action.{Action}
 use Rattle.icode.specs.Actions.{Step, step_of, steps_of_body, actions_of}
 use Rattle.icode.specs.Plain.{PlainBody, PlainOp, PlainProgram, NoStmts, AndStmts, Loop, Do}
-use Rattle.code_laws.specs.Nests.{bodies, nest, AreInRange}
-use Rattle.code_laws.proofs.Statements.{range-last}
+use Rattle.icode.specs.CodeLaws.Nests.{bodies, nest, AreInRange}
+use Rattle.icode.proofs.CodeLaws.Statements.{range-last}
 use Rattle.code_gen.specs.PassCode.Conditions.{IsInside}
 use Rattle.code_gen.specs.PassCode.Statements.{do_only, followed_by, in_a_row, nested}
 use Rattle.code_gen.proofs.PassCode.PlainSteps.{steps-followed, actions_of-append}

@@ -9,7 +9,7 @@ use Rattle.icode.specs.Actions.{Step, plain, lane_factors, step_of, steps_of_bod
 use Rattle.icode.specs.Expression.{sum_numbers}
 use Rattle.icode.specs.Plain.{PlainBody, PlainExpr, PlainProgram, AndStmts, Do, Loop}
 use Rattle.icode.specs.Plain as statements
-use Rattle.code_laws.specs.Nests.{bodies, loads}
+use Rattle.icode.specs.CodeLaws.Nests.{bodies, loads}
 use Rattle.kernel_gen.specs.Instructions.{action_by, actions_by, op_of}
 use Rattle.kernel_gen.specs.Making.{Made}
 use Rattle.kernel_gen.specs.declared.straight.Instruction.{Instruction}

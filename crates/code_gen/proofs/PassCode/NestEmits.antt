@@ -4,7 +4,7 @@ use Rattle.std.specs.Prelude.{slice_index, slice_index_or, Option, Some, None}
 use Rattle.icode.specs.declared.program.Array.{Array}
 use Rattle.icode.specs.Actions.{steps_of_body}
 use Rattle.icode.specs.Plain.{PlainProgram}
-use Rattle.code_laws.specs.Nests.{AreInRange}
+use Rattle.icode.specs.CodeLaws.Nests.{AreInRange}
 use Rattle.kernel_gen.specs.Kernel.{trees_kernel}
 use Rattle.operators.proofs.Lists.{row-of, column-of}
 use Rattle.perm_algebra.specs.Affine.{Sum, constant, value}
@@ -26,7 +26,7 @@ use Rattle.sigma_spl.specs.Good.{AreSound}
 use Rattle.sigma_spl.specs.Merge.{limits_of}
 use Rattle.sigma_spl.specs.Nest.{PlainMultiplier, PlainNest, store_place, sum_value}
 use Rattle.sigma_spl.specs.Work.{PlainWork, kernel, rows, horner, tile, copy, work_size, vectors_of}
-use Rattle.tensor_paths.specs.Path as paths
+use Rattle.operators.specs.TensorPaths.Path as paths
 use Rattle.tree_model.specs.Trees.{trees_size}
 
 -- ---- tables

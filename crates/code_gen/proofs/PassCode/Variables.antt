@@ -1,7 +1,7 @@
 -- The values of all variables of a nest: those of its frame, and those of its loops.
 use Rattle.std.proofs.Common.{◌≡◌, ℕ, zero, suc, ◌+◌, ◌-◌, ◌<◌, ◌≤◌, Bool, true, false, arith, refl, ap, ◌∙◌, List, [], ◌∷◌, ◌++◌, length, if◌then◌else◌, append_assoc}
 use Rattle.std.specs.Prelude.{slice_index, not, ◌==◌}
-use Rattle.code_laws.specs.Nests.{AreInRange}
+use Rattle.icode.specs.CodeLaws.Nests.{AreInRange}
 use Rattle.code_gen.specs.PassActions.Machine.{PlainMachine, one_if_several, first_loop, frame_of, if_several, values_of}
 use Rattle.code_gen.proofs.PassCode.Numbers.{IsFramedBy, AreNoMore}
 use Rattle.sigma_spl.specs.Work.{PlainWork, kernel, rows, horner, tile, copy}

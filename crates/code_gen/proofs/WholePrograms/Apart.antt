@@ -15,7 +15,7 @@ use Rattle.icode.specs.declared.program.Array.{Array}
 use Rattle.icode.specs.declared.program.Array.TheVariants.{X, Y, A, B}
 use Rattle.icode.proofs.End.{acts_past}
 use Rattle.icode.proofs.Lines.{Contains-nil}
-use Rattle.code_laws.specs.Nests.{AreInRange}
+use Rattle.icode.specs.CodeLaws.Nests.{AreInRange}
 use Rattle.code_gen.specs.PassActions.Acts.{load_at, store_at, pass_acts}
 use Rattle.code_gen.specs.PassCode.Conditions.{CanWritePass}
 use Rattle.code_gen.specs.PassCode.Contract.{IsOwner}

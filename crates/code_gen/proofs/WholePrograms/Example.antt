@@ -12,8 +12,8 @@ use Rattle.sigma_spl.specs.Nest.{PlainNest, repeated, spread, copies_of, load_pl
 use Rattle.index_fn.specs.Mapping.{ThomasIn}
 use Rattle.sigma_spl.specs.Work.{copy, horner}
 use Rattle.perm_algebra.specs.Affine as sums
-use Rattle.tensor_paths.specs.Path.{AreInRange}
-use Rattle.tensor_paths.specs.declared.Tensor.TheVariants.{Blocks}
+use Rattle.operators.specs.TensorPaths.Path.{AreInRange}
+use Rattle.operators.specs.declared.tensor_paths.Tensor.TheVariants.{Blocks}
 use Rattle.code_gen.specs.PassCode.Conditions.{CanWrite, FitsWord, LoadsEachRow}
 use Rattle.code_gen.specs.PassCode.Expressions.{expr_of}
 use Rattle.code_gen.specs.PassActions.Machine.{PlainFrame, plain_machine}

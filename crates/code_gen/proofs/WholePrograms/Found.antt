@@ -14,7 +14,7 @@ use Rattle.sigma_spl.specs.Merge.{are_small, is_limited, is_multiplier_within, l
 use Rattle.sigma_spl.specs.Nest.{PlainMultiplier, PlainNest, factor_count, store_place, sum_value}
 use Rattle.sigma_spl.specs.Work.{PlainWork, kernel, rows, horner, tile, copy, work_size}
 use Rattle.sigma_spl.proofs.Walk.{and-left, and-right}
-use Rattle.tensor_paths.specs.Path.{AreInRange}
+use Rattle.operators.specs.TensorPaths.Path.{AreInRange}
 
 -- work that is no tile
 abbrev pub IsLoose : PlainWork → Type 0

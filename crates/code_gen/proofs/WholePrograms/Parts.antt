@@ -1,7 +1,7 @@
 -- The actions of each processor are one part for each pass, between the pass's arrays.
 use Rattle.std.proofs.Common.{◌≡◌, ℕ, suc, ◌+◌, ◌-◌, ◌<◌, ◌≤◌, List, [], ◌∷◌, ◌++◌, length, flat_map, refl, sym, ap, ap₂, ◌∙◌, arith, append_assoc, length-append, subst, Contains, All}
 use Rattle.std.specs.List.{range_with_len}
-use Rattle.code_laws.specs.Nests.{AreInRange}
+use Rattle.icode.specs.CodeLaws.Nests.{AreInRange}
 use Rattle.icode.specs.Actions.{array_start}
 use Rattle.icode.specs.Machine.{Code, acts, whole_lines}
 use Rattle.icode.specs.declared.action.Action.{Action}

@@ -7,7 +7,7 @@ use Rattle.std.proofs.lemmas.Bool.{cases_lt}
 use Rattle.std.proofs.lemmas.Bool.Decides.{nat_tests}
 use Rattle.std.proofs.lemmas.List.{length-replicate, length-map, get_or_append_left, get_or_past}
 use Rattle.std.proofs.lemmas.List.FromFn.{fill_by_all}
-use Rattle.code_laws.proofs.Placing.{slice_index-words_at}
+use Rattle.icode.proofs.CodeLaws.Placing.{slice_index-words_at}
 use Rattle.icode.specs.Actions.{array_start, StepFits, PlainFits, actions_of, plain_code, steps_of_body, steps_of_phase}
 use Rattle.icode.specs.Limits.{IsWithinLimits, is_body_within}
 use Rattle.icode.specs.Machine.{Code, IsApart, Whole, acts, phases_alone, results, runs, start, whole_lines, words_at}

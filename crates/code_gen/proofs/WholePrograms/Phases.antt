@@ -2,7 +2,7 @@
 use Rattle.std.proofs.Common.{◌≡◌, ◌≢◌, ℕ, zero, suc, ◌+◌, ◌-◌, ◌*◌, ◌<◌, ◌≤◌, inl, inr, ◌⊎◌, List, [], ◌∷◌, length, refl, sym, ap, ◌∙◌, arith, subst, get_or-set_same, get_or-set_other, length-set}
 use Rattle.std.specs.Prelude.{slice_index, slice_index_or, slice_set}
 use Rattle.std.proofs.lemmas.Bool.{cases_eq}
-use Rattle.code_laws.proofs.Stores.{length-memory, length-registers}
+use Rattle.icode.proofs.CodeLaws.Stores.{length-memory, length-registers}
 use Rattle.icode.specs.Actions.{array_start}
 use Rattle.icode.specs.Machine.{Code, Local, Whole, acts, effects, processor_alone, processors_alone, phases_alone}
 use Rattle.icode.specs.declared.action.Action.{Action}

@@ -2,8 +2,8 @@
 use Rattle.std.proofs.Common.{◌≡◌, ◌≢◌, ℕ, zero, suc, ◌+◌, ◌-◌, ◌*◌, ◌<◌, ◌≤◌, inl, inr, List, [], ◌∷◌, length, refl, sym, ap, ◌∙◌, arith, subst}
 use Rattle.std.specs.Prelude.{slice_index, max}
 use Rattle.std.proofs.Math.Nat.{le-max_left, le-max_right, mul-le-mul_right}
-use Rattle.code_laws.proofs.ByLane.{lists_follow}
-use Rattle.code_laws.proofs.Stores.{length-memory, length-registers}
+use Rattle.icode.proofs.CodeLaws.ByLane.{lists_follow}
+use Rattle.icode.proofs.CodeLaws.Stores.{length-memory, length-registers}
 use Rattle.icode.specs.Actions.{array_start}
 use Rattle.icode.specs.Machine.{Local, effects}
 use Rattle.icode.specs.declared.program.Array.{Array}

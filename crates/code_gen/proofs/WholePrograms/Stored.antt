@@ -3,7 +3,7 @@ use Rattle.std.proofs.Common.{◌≡◌, ◌≢◌, ℕ, zero, suc, ◌%◌, ◌
 use Rattle.std.specs.Prelude.{slice_index, ◌==◌}
 use Rattle.std.proofs.lemmas.Bool.{cases_eq, cases_lt}
 use Rattle.std.proofs.lemmas.Bool.Decides.{nat_tests}
-use Rattle.code_laws.specs.Nests as nests
+use Rattle.icode.specs.CodeLaws.Nests as nests
 use Rattle.operators.specs.Sum.{sum_below}
 use Rattle.operators.proofs.Lists.{at-list_below}
 use Rattle.icode.proofs.Lines.{Contains-head, Contains-tail}
@@ -14,8 +14,8 @@ use Rattle.code_gen.proofs.PassActions.Framed.{in_counts}
 use Rattle.sigma_spl.specs.Copies.{loops_of, hits, all_stored}
 use Rattle.sigma_spl.specs.Nest.{PlainNest, copies_of, store_place, nests_on}
 use Rattle.sigma_spl.specs.Work.{work_size}
-use Rattle.tensor_paths.specs.Loop.{nest_sum, loop_at}
-use Rattle.tensor_paths.specs.Path.{Path, count_of, AreInRange}
+use Rattle.operators.specs.TensorPaths.Loop.{nest_sum, loop_at}
+use Rattle.operators.specs.TensorPaths.Path.{Path, count_of, AreInRange}
 
 -- ---- a term of a sum that is not 0
 

@@ -11,7 +11,7 @@ use Rattle.code_gen.specs.PassActions.Costs.{pass_cost, pass_loads}
 use Rattle.sigma_spl.specs.Copies.{loops_of, StoreOnce, IsInside}
 use Rattle.sigma_spl.specs.Nest.{PlainMultiplier, PlainNest, factor_at, factor_count, copies_of, load_place, store_place, nests_on}
 use Rattle.sigma_spl.specs.Work.{PlainWork, kernel, rows, horner, tile, copy, work_size, vectors_of}
-use Rattle.tensor_paths.specs.Path.{AreInRange}
+use Rattle.operators.specs.TensorPaths.Path.{AreInRange}
 
 -- ---- passes that can be run
 

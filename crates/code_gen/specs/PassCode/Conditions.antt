@@ -16,7 +16,7 @@ use Rattle.sigma_spl.specs.Merge.{limits_of}
 use Rattle.sigma_spl.specs.Nest.{PlainMultiplier, PlainNest, factor_count}
 use Rattle.sigma_spl.specs.Work.{PlainWork, rows, horner, work_size}
 use Rattle.perm_algebra.specs.Affine.{Sum, constant, variable, remainder, quotient, top, value}
-use Rattle.tensor_paths.specs.Path.{AreInRange}
+use Rattle.operators.specs.TensorPaths.Path.{AreInRange}
 
 -- ---- conditions
 

@@ -7,9 +7,9 @@ use Rattle.icode.specs.Limits.{is_small}
 use Rattle.icode.specs.Machine.{Local}
 use Rattle.icode.specs.Plain.{PlainOp, PlainProgram}
 use Rattle.icode.proofs.Bools.{both_true}
-use Rattle.code_laws.specs.Lanes.{lane_of}
-use Rattle.code_laws.proofs.ByLane.{lists_follow}
-use Rattle.code_laws.proofs.Stores.{length-registers}
+use Rattle.icode.specs.CodeLaws.Lanes.{lane_of}
+use Rattle.icode.proofs.CodeLaws.ByLane.{lists_follow}
+use Rattle.icode.proofs.CodeLaws.Stores.{length-registers}
 use Rattle.fast_loops.specs.Places.{are_linear, stride}
 use Rattle.fast_loops.specs.Rounds.{Stored, are_fresh}
 use Rattle.fast_loops.proofs.Linear.{wrong}

@@ -16,9 +16,9 @@ use Rattle.icode.proofs.Bools.{both_true}
 use Rattle.icode.proofs.Lines.{Contains-head}
 use Rattle.operators.specs.Sum.{list_below}
 use Rattle.operators.proofs.Lists.{length-list_below, at-list_below}
-use Rattle.code_laws.specs.Lanes.{Registers, lane_of, with_register, lane_effect, IsArithmetic}
-use Rattle.code_laws.proofs.ByLane.{this_register, other_register, effect_by_lane, length-registers_after}
-use Rattle.code_laws.proofs.Stores.{load_by_lane}
+use Rattle.icode.specs.CodeLaws.Lanes.{Registers, lane_of, with_register, lane_effect, IsArithmetic}
+use Rattle.icode.proofs.CodeLaws.ByLane.{this_register, other_register, effect_by_lane, length-registers_after}
+use Rattle.icode.proofs.CodeLaws.Stores.{load_by_lane}
 use Rattle.fast_loops.specs.Places.{is_linear}
 use Rattle.fast_loops.specs.Rounds.{Stored, same_array, is_fresh, put_after, are_fresh}
 use Rattle.fast_loops.proofs.Acts.{loaded_words}

@@ -4,7 +4,7 @@ use Rattle.std.specs.List.{list_all}
 use Rattle.icode.specs.Actions.{actions_of}
 use Rattle.icode.specs.Machine.{Local, effects}
 use Rattle.icode.specs.Plain.{PlainOp, PlainProgram}
-use Rattle.code_laws.specs.Lanes.{lane_of}
+use Rattle.icode.specs.CodeLaws.Lanes.{lane_of}
 use Rattle.fast_loops.specs.Rounds.{Stored, are_fresh}
 use Rattle.fast_loops.specs.LoopLanes.Columns.{renumbered_op}
 use Rattle.fast_loops.specs.LoopLanes.Layers.{on_lanes, steps_at, values_put}

@@ -8,8 +8,8 @@ use Rattle.icode.specs.Actions.{Step, StepFits, actions_of}
 use Rattle.icode.specs.Machine.{Local, effects, stored_words, touched_words}
 use Rattle.icode.specs.Plain.{PlainProgram}
 use Rattle.icode.proofs.Lines.{Contains-nil}
-use Rattle.code_laws.proofs.ByLane.{lists_follow}
-use Rattle.code_laws.proofs.Stores.{length-registers}
+use Rattle.icode.proofs.CodeLaws.ByLane.{lists_follow}
+use Rattle.icode.proofs.CodeLaws.Stores.{length-registers}
 use Rattle.fast_loops.proofs.Changes.{actions_of-append}
 use Rattle.fast_loops.proofs.Members.{all_of_members}
 use Rattle.fast_loops.specs.LoopLanes.Layers.{AreLanesFor, memory_by, on_lanes}

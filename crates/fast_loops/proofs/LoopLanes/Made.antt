@@ -8,7 +8,7 @@ use Rattle.std.proofs.lemmas.List.Concat.{flat_map-append}
 use Rattle.icode.specs.declared.program.Op.{Op}
 use Rattle.icode.specs.Plain.{PlainOp, PlainStmt, Sum, Load, Store, Zero, Add, Sub, Neg, MulConst, MulTable, Tile, Do, AndStmts, body_of, plain_op}
 use Rattle.icode.proofs.Bools.{both_true}
-use Rattle.code_laws.proofs.Statements.{range-last}
+use Rattle.icode.proofs.CodeLaws.Statements.{range-last}
 use Rattle.fast_loops.specs.Places.{is_linear, stride, same_parts}
 use Rattle.fast_loops.specs.Rounds.{Stored, same_array}
 use Rattle.fast_loops.proofs.Linear.{wrong}

@@ -8,9 +8,9 @@ use Rattle.ring_mod.specs.Residue.{sum_mod, difference_mod, negation_mod, produc
 use Rattle.icode.specs.declared.action.Action.{Action}
 use Rattle.icode.specs.declared.action.Action.TheVariants.{Load, Store, Zero, Add, Sub, Neg, Mul, Tile}
 use Rattle.icode.specs.Machine.{Local, effect, effects, value_put, register_put, register_of, with_words, lane_by_lane}
-use Rattle.code_laws.proofs.ByLane.{lists_follow, length-registers_after}
-use Rattle.code_laws.proofs.Placing.{slice_index-slice_set}
-use Rattle.code_laws.proofs.Stores.{length-registers}
+use Rattle.icode.proofs.CodeLaws.ByLane.{lists_follow, length-registers_after}
+use Rattle.icode.proofs.CodeLaws.Placing.{slice_index-slice_set}
+use Rattle.icode.proofs.CodeLaws.Stores.{length-registers}
 use Rattle.fast_loops.proofs.Acts.{IsFresh, AreFresh, AreWide, IsRound, next_after}
 use Rattle.fast_loops.specs.LoopLanes.Layers.{memory_by, Write, written, values_put, writes_of}
 use Rattle.fast_loops.proofs.LoopLanes.Orders.{values_stay}

@@ -14,8 +14,8 @@ use Rattle.icode.specs.Plain.{PlainExpr, PlainParts, PlainOp, PlainProgram, Sum,
 use Rattle.icode.proofs.Bools.{both_true}
 use Rattle.icode.proofs.Lines.{Contains-nil}
 use Rattle.icode.proofs.Words.{length-words_at}
-use Rattle.code_laws.proofs.ByLane.{length-registers_after}
-use Rattle.code_laws.proofs.Placing.{with_words_elsewhere}
+use Rattle.icode.proofs.CodeLaws.ByLane.{length-registers_after}
+use Rattle.icode.proofs.CodeLaws.Placing.{with_words_elsewhere}
 use Rattle.fast_loops.specs.Places.{are_linear, stride}
 use Rattle.fast_loops.specs.Rounds.{Stored, same_array, is_fresh, put_after, are_fresh}
 use Rattle.fast_loops.proofs.Acts.{loaded_words}

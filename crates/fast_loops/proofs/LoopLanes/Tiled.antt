@@ -10,10 +10,10 @@ use Rattle.icode.specs.Actions.{actions_of, array_start, lane_factors, step_of}
 use Rattle.icode.specs.Expression.{sum_numbers}
 use Rattle.icode.specs.Machine.{Local, effect, effects, whole_lines}
 use Rattle.icode.specs.Plain.{PlainOp, PlainProgram, Sum}
-use Rattle.code_laws.specs.Lanes.{Registers, lane_of, with_register}
-use Rattle.code_laws.proofs.ByLane.{effect_by_lane, this_register, other_register, length-registers_after, lists_follow}
-use Rattle.code_laws.proofs.Stores.{length-registers}
-use Rattle.code_laws.proofs.Tiles.{tile_by_lane, tile_elsewhere}
+use Rattle.icode.specs.CodeLaws.Lanes.{Registers, lane_of, with_register}
+use Rattle.icode.proofs.CodeLaws.ByLane.{effect_by_lane, this_register, other_register, length-registers_after, lists_follow}
+use Rattle.icode.proofs.CodeLaws.Stores.{length-registers}
+use Rattle.icode.proofs.CodeLaws.Tiles.{tile_by_lane, tile_elsewhere}
 use Rattle.fast_loops.specs.Places.{are_linear}
 use Rattle.fast_loops.specs.Rounds.{Stored}
 use Rattle.fast_loops.specs.LoopLanes.Columns.{Factors, row_at, tile_at}

@@ -4,7 +4,7 @@ use Rattle.std.specs.Prelude.{slice_index, slice_set}
 use Rattle.std.proofs.lemmas.Bool.{cases_eq}
 use Rattle.icode.proofs.Lines.{Contains-head, Contains-tail, Contains-nil}
 use Rattle.icode.proofs.Words.{slice_get-set_other, slice_index-agree}
-use Rattle.code_laws.proofs.Placing.{length-slice_set, slice_index-slice_set}
+use Rattle.icode.proofs.CodeLaws.Placing.{length-slice_set, slice_index-slice_set}
 use Rattle.fast_loops.specs.LoopLanes.Layers.{Write, written, OrderIsFree}
 
 pub words_same : (xs ys : List ℕ) → length xs ≡ length ys → ((k : ℕ) → k < length xs → slice_index xs k ≡ slice_index ys k) → xs ≡ ys

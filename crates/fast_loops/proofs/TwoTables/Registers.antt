@@ -10,8 +10,8 @@ use Rattle.icode.specs.declared.action.Action.TheVariants.{Load, Store, Zero, Ad
 use Rattle.icode.specs.Actions.{RegistersFit}
 use Rattle.icode.specs.Machine.{Local, effect, memory_after, value_put, register_put, register_of, words_at, with_words, lane_by_lane, transposed}
 use Rattle.icode.proofs.Words.{slice_index-agree, words_at-agree, with_words-agree, with_words-other, length-words_at}
-use Rattle.code_laws.proofs.ByLane.{length-registers_after}
-use Rattle.code_laws.proofs.Placing.{length-lane_by_lane, length-slice_set, with_words_there}
+use Rattle.icode.proofs.CodeLaws.ByLane.{length-registers_after}
+use Rattle.icode.proofs.CodeLaws.Placing.{length-lane_by_lane, length-slice_set, with_words_there}
 
 -- ---- lists
 

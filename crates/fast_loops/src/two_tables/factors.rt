@@ -7,7 +7,7 @@ ghost use Rattle.fast_loops.specs.TwoTables.Factors.{are_factors};
 ghost use Rattle.fast_loops.specs.TwoTables.View.{plain_cut};
 
 use memory::NoMemory;
-use quick_mod::QuickModulus;
+use ring_mod::QuickModulus;
 use std::alloc::Global;
 
 /// A table in blocks of `width` entries, of which `across` are a row.

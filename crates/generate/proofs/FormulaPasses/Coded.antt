@@ -25,7 +25,7 @@ use Rattle.perm_algebra.specs.Affine.{Sum, constant, levels, parts, peak, top}
 use Rattle.perm_algebra.proofs.AffineLaws.{value-le-top}
 use Rattle.code_gen.specs.WholePrograms.Plain.{IsPlainNest}
 use Rattle.tree_model.specs.Trees.{single, tensor}
-use Rattle.tensor_paths.specs.Path.{AreInRange}
+use Rattle.operators.specs.TensorPaths.Path.{AreInRange}
 use Rattle.tree_model.specs.Breakdown.{leaf, node}
 use Rattle.generate.proofs.FormulaPasses.Costs.{leaf-root}
 use Rattle.generate.proofs.FormulaPasses.Made.{IsFormulaWork, IsAlike, HasDiagonal, AreMany, IsMade, AreMade}

@@ -9,7 +9,7 @@ use Rattle.sigma_spl.specs.Nest.{PlainFactors, spread, PlainMultiplier, PlainNes
 use Rattle.sigma_spl.specs.Term.{PlainTerm, same, gath, scat, diag, nest, move, product, beside}
 use Rattle.sigma_spl.specs.Work.{PlainWork, rows, horner}
 use Rattle.sigma_spl.proofs.Walk.{chosen}
-use Rattle.tensor_paths.specs.Path.{Path}
+use Rattle.operators.specs.TensorPaths.Path.{Path}
 
 -- ---- tables
 

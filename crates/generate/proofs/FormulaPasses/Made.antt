@@ -14,7 +14,7 @@ use Rattle.sigma_spl.proofs.Nests.{length-map, names-simplified, sum-simplified,
 use Rattle.sigma_spl.proofs.Sides.{rest_of, rest-range, sound-renumbered, up, lift-more, names-up}
 use Rattle.perm_algebra.specs.Affine.{Sum, constant, variable, remainder, value, simplified}
 use Rattle.tree_model.specs.Trees.{single, tensor}
-use Rattle.tensor_paths.specs.Path.{Path, AreInRange, count_of, place}
+use Rattle.operators.specs.TensorPaths.Path.{Path, AreInRange, count_of, place}
 use Rattle.tree_model.specs.Breakdown.{leaf, node, AllowsLeaf}
 
 -- ---- nests

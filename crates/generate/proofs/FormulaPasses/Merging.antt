@@ -18,8 +18,8 @@ use Rattle.sigma_spl.proofs.Moved.{moved-good, table-good}
 use Rattle.sigma_spl.proofs.Natural.{natural-good, copying-good}
 use Rattle.sigma_spl.proofs.Walk.{chosen, AreMoves, moves-end, places-formed, Stands}
 use Rattle.perm_algebra.specs.Affine.{constant}
-use Rattle.tensor_paths.specs.declared.Tensor.TheVariants.{Blocks, Columns}
-use Rattle.tensor_paths.specs.Path.{Path, size_under}
+use Rattle.operators.specs.declared.tensor_paths.Tensor.TheVariants.{Blocks, Columns}
+use Rattle.operators.specs.TensorPaths.Path.{Path, size_under}
 use Rattle.generate.proofs.FormulaPasses.Made.{IsFormulaWork, AreResidues, IsDiagonal, AreMade, AllMade, all-append, made-gathered, made-scattered, made-multiplied, many-path, made-side, new-alike}
 
 -- ---- terms

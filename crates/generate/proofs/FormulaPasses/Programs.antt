@@ -2,8 +2,8 @@
 use Rattle.std.proofs.Common.{◌≡◌, ℕ, suc, ◌+◌, ◌*◌, ◌<◌, List, [], ◌∷◌, ◌++◌, length, flat_map, refl, sym, ap, ap₂, ◌∙◌, arith}
 use Rattle.std.specs.List.{range_with_len}
 use Rattle.std.proofs.lemmas.List.{length-map, append-nil}
-use Rattle.code_laws.specs.Lanes.{weighted_operations}
-use Rattle.code_laws.proofs.ByLane.{weighted_is_by_lane}
+use Rattle.icode.specs.CodeLaws.Lanes.{weighted_operations}
+use Rattle.icode.proofs.CodeLaws.ByLane.{weighted_is_by_lane}
 use Rattle.sigma_lower.specs.Terms.{term_of}
 use Rattle.sigma_lower.proofs.Compiling.{formulas_compile}
 use Rattle.generate.specs.FormulaPasses.Computes.{FormulasCompute, formula_merged}

@@ -1,9 +1,9 @@
 -- How many actions and tables the passes of a tree have at most.
 use Rattle.std.proofs.Common.{◌≡◌, ℕ, zero, suc, ◌+◌, ◌*◌, ◌^◌, ◌≤◌, Bool, true, false, List, [], ◌∷◌, length, map, refl, sym, ap, ◌∙◌, arith, Option, Some, None, if◌then◌else◌, mul-le-mul_left}
 use Rattle.std.proofs.Math.Nat.{mul-le-mul}
-use Rattle.tree_loops.specs.Merge.{PlainPass}
-use Rattle.tree_loops.specs.Nests.{loop_of}
-use Rattle.smp_rewrite.specs.declared.layout_steps.target.Target.{Target}
+use Rattle.sigma_lower.specs.TreeLoops.Merge.{PlainPass}
+use Rattle.sigma_lower.specs.TreeLoops.Nests.{loop_of}
+use Rattle.operators.specs.declared.target.Target.{Target}
 use Rattle.code_gen.specs.PassActions.Costs.{pass_cost, pass_loads, work_cost, work_loads}
 use Rattle.code_gen.specs.PassCode.Contract.{IsHost, most_actions}
 use Rattle.code_gen.specs.PassCode.Program.{tables_of_phases, tables_through}
@@ -12,10 +12,10 @@ use Rattle.sigma_spl.specs.Counts.{copies_in, multiplier_cost}
 use Rattle.sigma_spl.specs.Loops.{nest_of, one_nest}
 use Rattle.sigma_spl.specs.Nest.{PlainMultiplier, PlainNest}
 use Rattle.sigma_spl.specs.Work.{PlainWork, kernel, rows, horner, tile, copy, work_size}
-use Rattle.tensor_paths.specs.Path.{Path, copies_of, count_of}
-use Rattle.tensor_paths.proofs.Under.{size_under-copies}
+use Rattle.operators.specs.TensorPaths.Path.{Path, copies_of, count_of}
+use Rattle.operators.proofs.TensorPaths.Under.{size_under-copies}
 use Rattle.kernel_gen.proofs.KernelSizes.{trees-few}
-use Rattle.tree_loops.proofs.Shaped.{IsShapedWork}
+use Rattle.sigma_lower.proofs.TreeLoops.Shaped.{IsShapedWork}
 use Rattle.tree_model.specs.Trees.{trees_size}
 use Rattle.generate.specs.TreePasses.Laws.{host_of}
 use Rattle.generate.proofs.TreePasses.Known.{AllKnown}

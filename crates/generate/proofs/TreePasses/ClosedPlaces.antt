@@ -12,8 +12,8 @@ use Rattle.sigma_spl.proofs.Within.{both-true}
 use Rattle.perm_algebra.specs.Affine.{Sum, constant, variable, remainder, quotient, Divided, divided, head, joined, rest_of, simplified, top}
 use Rattle.perm_algebra.specs.Room.{can_join, can_scale, has_room, has_top}
 use Rattle.smp_rewrite.specs.Smp.{within}
-use Rattle.tensor_paths.specs.declared.Tensor.TheVariants.{Blocks}
-use Rattle.tensor_paths.specs.Path.{Path}
+use Rattle.operators.specs.declared.tensor_paths.Tensor.TheVariants.{Blocks}
+use Rattle.operators.specs.TensorPaths.Path.{Path}
 
 -- where the diagonal stands, and the function that finds its entry
 abbrev pub closing_path : ℕ → Path

@@ -11,8 +11,8 @@ use Rattle.sigma_spl.specs.Term.{PlainTerm, diag, product}
 use Rattle.sigma_spl.specs.Work.{work_size}
 use Rattle.sigma_spl.proofs.Listed.{merge_listed}
 use Rattle.perm_algebra.specs.Affine.{Sum}
-use Rattle.tensor_paths.specs.declared.Tensor.TheVariants.{Blocks}
-use Rattle.tensor_paths.specs.Path.{count_of}
+use Rattle.operators.specs.declared.tensor_paths.Tensor.TheVariants.{Blocks}
+use Rattle.operators.specs.TensorPaths.Path.{count_of}
 use Rattle.generate.proofs.TreePasses.ClosedPlaces.{AllAlone, all-carried, all-first, closing_path, closing_place}
 
 -- a loop that can take it

@@ -11,17 +11,17 @@ use Rattle.sigma_lower.specs.Shared.{phase_term}
 use Rattle.sigma_lower.proofs.HaveLoops.{phases_have_loops}
 use Rattle.sigma_lower.proofs.Ordered.{trees_ordered}
 use Rattle.index_fn.specs.Mapping.{Mapping}
-use Rattle.tree_loops.specs.Limits.{AreLimitedPhases}
-use Rattle.tree_loops.specs.Merge.{PlainPass, in_order, passes_of_terms}
-use Rattle.tree_loops.specs.Merge as passes
-use Rattle.tree_loops.specs.Nests.{loop_of, taken_of}
-use Rattle.tree_loops.specs.Placed.{AllLimited, AreCounts, Fits, IsCarried, IsLimitedPass}
-use Rattle.tree_loops.proofs.LoopItems.{AllName, counts-from, names-of}
-use Rattle.tree_loops.proofs.LoopLimits.{loops_are_limited, tree_loops, trees_merge}
-use Rattle.tree_loops.proofs.LoopNests.{loops_listed}
-use Rattle.tree_loops.proofs.PlaceValues.{right_positive}
-use Rattle.tree_loops.proofs.Shaped.{AreShaped, IsShaped, IsShapedWork}
-use Rattle.tree_loops.proofs.TreePlaces.{tree_good_places}
+use Rattle.sigma_lower.specs.TreeLoops.Limits.{AreLimitedPhases}
+use Rattle.sigma_lower.specs.TreeLoops.Merge.{PlainPass, in_order, passes_of_terms}
+use Rattle.sigma_lower.specs.TreeLoops.Merge as passes
+use Rattle.sigma_lower.specs.TreeLoops.Nests.{loop_of, taken_of}
+use Rattle.sigma_lower.specs.TreeLoops.Placed.{AllLimited, AreCounts, Fits, IsCarried, IsLimitedPass}
+use Rattle.sigma_lower.proofs.TreeLoops.LoopItems.{AllName, counts-from, names-of}
+use Rattle.sigma_lower.proofs.TreeLoops.LoopLimits.{loops_are_limited, tree_loops, trees_merge}
+use Rattle.sigma_lower.proofs.TreeLoops.LoopNests.{loops_listed}
+use Rattle.sigma_lower.proofs.TreeLoops.PlaceValues.{right_positive}
+use Rattle.sigma_lower.proofs.TreeLoops.Shaped.{AreShaped, IsShaped, IsShapedWork}
+use Rattle.sigma_lower.proofs.TreeLoops.TreePlaces.{tree_good_places}
 use Rattle.loop_merge.specs.MultipliedPasses.Multiplied.{First, multiplied_last, on_last}
 use Rattle.sigma_spl.specs.Loops.{PlainLoop, limits_in, loops_in, one_nest, AreLimitedLoops, HasLoop, IsLimitedLoop, IsOrdered}
 use Rattle.sigma_spl.specs.Merge.{all_simplified, items_out, most, place_sum, unbounded}
@@ -35,9 +35,9 @@ use Rattle.perm_algebra.specs.Affine.{Sum, constant, variable, remainder, quotie
 use Rattle.sigma_lower.specs.TreeTerms.Term.{PlainTerm, lowered_of}
 use Rattle.smp_rewrite.specs.Fits.{CanShareLayout}
 use Rattle.smp_rewrite.specs.LayoutSteps.Layout.{Layout, IsGoodLayout}
-use Rattle.smp_rewrite.specs.declared.layout_steps.target.Target.{Target}
-use Rattle.tensor_paths.specs.Path.{copies_of}
-use Rattle.tensor_paths.proofs.Under.{size_under-copies}
+use Rattle.operators.specs.declared.target.Target.{Target}
+use Rattle.operators.specs.TensorPaths.Path.{copies_of}
+use Rattle.operators.proofs.TensorPaths.Under.{size_under-copies}
 use Rattle.generate.specs.TreePasses.Closed.{WholesMerge, closed_merged}
 use Rattle.generate.proofs.TreePasses.ClosedPlaces.{AllAlone}
 use Rattle.generate.proofs.TreePasses.ClosedTerms.{HasClosing, TakesClosing, closed-term}

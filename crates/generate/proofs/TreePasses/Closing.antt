@@ -12,7 +12,7 @@ use Rattle.sigma_spl.specs.Merged.{PlainMerged}
 use Rattle.sigma_spl.specs.Nest.{repeated}
 use Rattle.sigma_spl.specs.Sigma.{merged_of}
 use Rattle.smp_rewrite.specs.LayoutSteps.Whole.{Whole, IsGoodFactor}
-use Rattle.smp_rewrite.specs.declared.layout_steps.target.Target.{Target}
+use Rattle.operators.specs.declared.target.Target.{Target}
 use Rattle.generate.specs.TreePasses.Closed.{CountsClosed, closed_merged}
 use Rattle.generate.specs.TreePasses.Laws.{host_of}
 use Rattle.generate.proofs.TreePasses.ClosedWholes.{wholes_merge}

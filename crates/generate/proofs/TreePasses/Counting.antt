@@ -3,10 +3,10 @@ use Rattle.std.proofs.Common.{◌≡◌, ℕ, ◌+◌, ◌*◌, Bool, true, fals
 use Rattle.std.specs.Option.{option_map}
 use Rattle.sigma_lower.specs.Merged.{layout_merged}
 use Rattle.index_fn.specs.Mapping.{Mapping}
-use Rattle.tree_loops.specs.Laws.{Counted, counted, counted_as, counted_cost, counted_loads, has_diagonal, whole_passes}
-use Rattle.tree_loops.specs.Merge.{PlainDiagonal, PlainPass, merged_of}
-use Rattle.tree_loops.specs.Nests.{loop_of, taken_of}
-use Rattle.tree_loops.proofs.Counts.{merge_counts}
+use Rattle.sigma_lower.specs.TreeLoops.Laws.{Counted, counted, counted_as, counted_cost, counted_loads, has_diagonal, whole_passes}
+use Rattle.sigma_lower.specs.TreeLoops.Merge.{PlainDiagonal, PlainPass, merged_of}
+use Rattle.sigma_lower.specs.TreeLoops.Nests.{loop_of, taken_of}
+use Rattle.sigma_lower.proofs.TreeLoops.Counts.{merge_counts}
 use Rattle.code_gen.specs.PassActions.Costs.{pass_cost, pass_loads, work_cost}
 use Rattle.code_gen.specs.PassCode.Contract.{all_passes}
 use Rattle.sigma_spl.specs.Counts.{copies_in, multiplier_cost}
@@ -14,9 +14,9 @@ use Rattle.sigma_spl.specs.Loops.{PlainLoop, multiplier_of, one_nest}
 use Rattle.sigma_spl.specs.Nest.{PlainNest}
 use Rattle.sigma_spl.specs.Work.{PlainWork, kernel, rows, horner, tile, copy, work_size}
 use Rattle.smp_rewrite.specs.LayoutSteps.Layout.{Layout}
-use Rattle.smp_rewrite.specs.declared.layout_steps.target.Target.{Target}
-use Rattle.tensor_paths.specs.Path.{Path, copies_of, count_of}
-use Rattle.tensor_paths.proofs.Under.{size_under-copies}
+use Rattle.operators.specs.declared.target.Target.{Target}
+use Rattle.operators.specs.TensorPaths.Path.{Path, copies_of, count_of}
+use Rattle.operators.proofs.TensorPaths.Under.{size_under-copies}
 use Rattle.generate.proofs.TreePasses.Bounds.{copies-are}
 use Rattle.generate.proofs.TreePasses.Hosted.{IsHosted}
 use Rattle.generate.proofs.TreePasses.Known.{AllKnown, layout-known}

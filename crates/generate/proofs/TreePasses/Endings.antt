@@ -3,10 +3,10 @@ use Rattle.std.proofs.Common.{◌≡◌, ℕ, ◌*◌, Bool, true, false, List, 
 use Rattle.std.specs.Option.{option_map}
 use Rattle.std.proofs.lemmas.List.Elements.{All-nil, All-cons}
 use Rattle.sigma_lower.specs.Machine.{IsMachine}
-use Rattle.tree_loops.specs.Laws.{Counted, works, tiles, counted, counted_as, has_diagonal, passes_of, tiled_passes, twiddle_by, whole_passes}
-use Rattle.tree_loops.specs.Merge.{PlainDiagonal, PlainPass, merged_of}
-use Rattle.tree_loops.specs.Nests.{loop_of, taken_of}
-use Rattle.tree_loops.proofs.Counts.{merge_counts}
+use Rattle.sigma_lower.specs.TreeLoops.Laws.{Counted, works, tiles, counted, counted_as, has_diagonal, passes_of, tiled_passes, twiddle_by, whole_passes}
+use Rattle.sigma_lower.specs.TreeLoops.Merge.{PlainDiagonal, PlainPass, merged_of}
+use Rattle.sigma_lower.specs.TreeLoops.Nests.{loop_of, taken_of}
+use Rattle.sigma_lower.proofs.TreeLoops.Counts.{merge_counts}
 use Rattle.loop_merge.specs.MultipliedPasses.Laws.{HasNoTile, IsFree, LastHas}
 use Rattle.sigma_spl.specs.Loops.{multiplier_of, nest_of, one_nest}
 use Rattle.sigma_spl.specs.Merge.{is_tile}
@@ -14,7 +14,7 @@ use Rattle.sigma_spl.specs.Nest.{PlainNest}
 use Rattle.sigma_spl.specs.Work.{PlainWork, kernel, rows, horner, tile, copy}
 use Rattle.smp_rewrite.specs.Fits.{CanShareLayout}
 use Rattle.smp_rewrite.specs.LayoutSteps.Layout.{Layout, work, by, layout_size, IsGoodLayout}
-use Rattle.smp_rewrite.specs.declared.layout_steps.target.Target.{Target}
+use Rattle.operators.specs.declared.target.Target.{Target}
 use Rattle.tree_model.specs.declared.tree.Rule.TheVariants.{Gt, Ct, Split, Dim}
 
 -- a pass that can take a diagonal of one entry

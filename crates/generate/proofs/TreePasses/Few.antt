@@ -4,8 +4,8 @@ use Rattle.std.proofs.lemmas.Bool.{cases_lt}
 use Rattle.std.proofs.lemmas.List.{length-map}
 use Rattle.std.proofs.lemmas.Nat.{mul-le, pow-add}
 use Rattle.std.proofs.Math.Pow.{pow_mono}
-use Rattle.tree_loops.specs.Laws.{Counted, tiles, counted, passes_of, tiled_passes, twiddle_by, twiddle_last, whole_passes}
-use Rattle.tree_loops.specs.Merge.{PlainPass}
+use Rattle.sigma_lower.specs.TreeLoops.Laws.{Counted, tiles, counted, passes_of, tiled_passes, twiddle_by, twiddle_last, whole_passes}
+use Rattle.sigma_lower.specs.TreeLoops.Merge.{PlainPass}
 use Rattle.smp_rewrite.specs.LayoutSteps.Layout.{Layout, work, by, layout_size, IsGoodLayout}
 use Rattle.tree_model.specs.declared.tree.Rule.{Rule}
 use Rattle.tree_model.specs.declared.tree.Rule.TheVariants.{Gt, Ct, Split, Dim}

@@ -1,20 +1,20 @@
 -- The nest of a pass that processors and lanes share: its counts, its variables, and what they name.
 use Rattle.std.proofs.Common.{◌≡◌, ℕ, ◌<◌, Bool, true, false, List, [], ◌∷◌, ◌++◌, map, refl, sym, ap, ◌∙◌, arith, subst}
 use Rattle.std.specs.Prelude.{◌==◌, if◌then◌else◌}
-use Rattle.tree_loops.specs.Items as shared
-use Rattle.tree_loops.specs.Merge.{PlainPass}
-use Rattle.tree_loops.specs.Nests.{loop_of}
-use Rattle.smp_rewrite.specs.declared.layout_steps.target.Target.{Target}
+use Rattle.sigma_lower.specs.TreeLoops.Items as shared
+use Rattle.sigma_lower.specs.TreeLoops.Merge.{PlainPass}
+use Rattle.sigma_lower.specs.TreeLoops.Nests.{loop_of}
+use Rattle.operators.specs.declared.target.Target.{Target}
 use Rattle.operators.proofs.Lists.{place_below}
 use Rattle.code_gen.specs.PassActions.Machine.{framed_lanes, if_several, item_of, lane_step, values_of}
 use Rattle.code_gen.specs.PassActions.Laws as actions
 use Rattle.sigma_spl.specs.Loops.{nest_of}
 use Rattle.sigma_spl.specs.Work.{PlainWork, kernel, rows, horner, tile, copy, vectors_of, work_size}
-use Rattle.tree_loops.specs.SharedPasses.Shared.{framed, HasLanes, IsFramed, step_of}
+use Rattle.sigma_lower.specs.TreeLoops.SharedPasses.Shared.{framed, HasLanes, IsFramed, step_of}
 use Rattle.smp_rewrite.specs.Smp.{within}
-use Rattle.tensor_paths.specs.declared.Tensor.{Tensor}
-use Rattle.tensor_paths.specs.declared.Tensor.TheVariants.{Blocks, Columns}
-use Rattle.tensor_paths.specs.Path.{Path, count_of, AreInRange}
+use Rattle.operators.specs.declared.tensor_paths.Tensor.{Tensor}
+use Rattle.operators.specs.declared.tensor_paths.Tensor.TheVariants.{Blocks, Columns}
+use Rattle.operators.specs.TensorPaths.Path.{Path, count_of, AreInRange}
 use Rattle.generate.specs.TreePasses.Laws.{host_of}
 
 -- ---- work

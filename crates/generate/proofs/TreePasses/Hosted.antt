@@ -1,10 +1,10 @@
 -- Layouts of which programs can be made.
 use Rattle.sigma_lower.specs.Machine.{IsMachine}
-use Rattle.tree_loops.proofs.Shaped.{HasWorks}
+use Rattle.sigma_lower.proofs.TreeLoops.Shaped.{HasWorks}
 use Rattle.code_gen.specs.PassCode.Contract.{IsHost}
 use Rattle.smp_rewrite.specs.Fits.{CanShareLayout}
 use Rattle.smp_rewrite.specs.LayoutSteps.Layout.{Layout, IsGoodLayout}
-use Rattle.smp_rewrite.specs.declared.layout_steps.target.Target.{Target}
+use Rattle.operators.specs.declared.target.Target.{Target}
 use Rattle.generate.specs.TreePasses.Laws.{host_of}
 use Rattle.generate.proofs.TreePasses.Works.{IsSmallWork}
 

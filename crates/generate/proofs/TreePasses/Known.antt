@@ -8,27 +8,27 @@ use Rattle.sigma_lower.specs.Shared.{phase_term, AllEmbed, AllMerge}
 use Rattle.sigma_lower.proofs.HaveLoops.{phases_have_loops}
 use Rattle.sigma_lower.proofs.Ordered.{trees_are_loops, trees_ordered}
 use Rattle.sigma_lower.proofs.SharedTrees.{shared_trees_merge, trees_embed}
-use Rattle.tree_loops.specs.Merge.{PlainPass, passes_of_terms, in_order, merged_of}
-use Rattle.tree_loops.specs.Nests.{loop_of}
-use Rattle.tree_loops.proofs.Closed.{AreClosedPasses}
-use Rattle.tree_loops.proofs.GoodPlaces.{HaveGoodPlaces}
-use Rattle.tree_loops.proofs.LoopLimits.{tree_loops}
-use Rattle.tree_loops.proofs.LoopNests.{loops_listed}
-use Rattle.tree_loops.proofs.PlaceValues.{AreFormedPasses}
-use Rattle.tree_loops.proofs.Shaped.{AreShaped, IsShapedWork}
-use Rattle.tree_loops.proofs.TreePlaces.{good_places, tree_good_places}
+use Rattle.sigma_lower.specs.TreeLoops.Merge.{PlainPass, passes_of_terms, in_order, merged_of}
+use Rattle.sigma_lower.specs.TreeLoops.Nests.{loop_of}
+use Rattle.sigma_lower.proofs.TreeLoops.Closed.{AreClosedPasses}
+use Rattle.sigma_lower.proofs.TreeLoops.GoodPlaces.{HaveGoodPlaces}
+use Rattle.sigma_lower.proofs.TreeLoops.LoopLimits.{tree_loops}
+use Rattle.sigma_lower.proofs.TreeLoops.LoopNests.{loops_listed}
+use Rattle.sigma_lower.proofs.TreeLoops.PlaceValues.{AreFormedPasses}
+use Rattle.sigma_lower.proofs.TreeLoops.Shaped.{AreShaped, IsShapedWork}
+use Rattle.sigma_lower.proofs.TreeLoops.TreePlaces.{good_places, tree_good_places}
 use Rattle.code_gen.specs.PassCode.Contract.{IsHost}
 use Rattle.sigma_spl.specs.Good.{AreGoodPasses, IsGoodPass}
 use Rattle.sigma_spl.specs.Loops.{PlainLoop, AreGoodLoops, AreLimitedLoops, IsGoodLoop, loops_in, one_nest}
 use Rattle.sigma_spl.specs.Merge.{most, unbounded}
 use Rattle.sigma_spl.proofs.GoodLoops.{loops_are_good}
-use Rattle.tree_loops.specs.SharedPasses.Shared.{AllFramed}
-use Rattle.tree_loops.proofs.SharedPasses.Framed.{passes_are_framed}
+use Rattle.sigma_lower.specs.TreeLoops.SharedPasses.Shared.{AllFramed}
+use Rattle.sigma_lower.proofs.TreeLoops.SharedPasses.Framed.{passes_are_framed}
 use Rattle.sigma_lower.specs.TreeTerms.Term.{PlainTerm, lowered_of}
 use Rattle.sigma_lower.proofs.TreeTerms.Both.{plain_terms}
 use Rattle.sigma_lower.proofs.TreeTerms.RootTerms.{shared_terms}
 use Rattle.smp_rewrite.specs.LayoutSteps.Layout.{Layout}
-use Rattle.smp_rewrite.specs.declared.layout_steps.target.Target.{Target}
+use Rattle.operators.specs.declared.target.Target.{Target}
 use Rattle.generate.specs.TreePasses.Laws.{host_of}
 use Rattle.generate.proofs.TreePasses.Hosted.{IsHosted}
 use Rattle.generate.proofs.TreePasses.Works.{IsSmallWork}

@@ -5,20 +5,20 @@ use Rattle.std.proofs.lemmas.List.{length-append, length-map, map-append}
 use Rattle.std.proofs.lemmas.List.Elements.{All-nil, All-cons}
 use Rattle.sigma_lower.specs.Merged.{AllHaveLoops, layout_merged}
 use Rattle.sigma_lower.proofs.HaveLoops.{phases_have_loops}
-use Rattle.tree_loops.specs.Merge.{PlainPass, passes_of_terms, in_order, merged_phases, merged_of}
-use Rattle.tree_loops.specs.Nests.{loop_of, nests_of}
-use Rattle.tree_loops.proofs.Counts.{merge_counts}
-use Rattle.tree_loops.proofs.LoopNests.{loops_listed, tree_nests}
+use Rattle.sigma_lower.specs.TreeLoops.Merge.{PlainPass, passes_of_terms, in_order, merged_phases, merged_of}
+use Rattle.sigma_lower.specs.TreeLoops.Nests.{loop_of, nests_of}
+use Rattle.sigma_lower.proofs.TreeLoops.Counts.{merge_counts}
+use Rattle.sigma_lower.proofs.TreeLoops.LoopNests.{loops_listed, tree_nests}
 use Rattle.code_gen.specs.PassCode.Conditions.{CanWritePass}
 use Rattle.code_gen.specs.PassCode.Contract.{CanProgram, IsHost, all_passes, most_actions}
 use Rattle.sigma_spl.specs.Loops.{HasLoop}
 use Rattle.sigma_spl.specs.Merged.{PlainMerged}
 use Rattle.sigma_spl.specs.Nest.{PlainNest}
-use Rattle.tree_loops.proofs.SharedPasses.Phases.{phases_are_shared}
+use Rattle.sigma_lower.proofs.TreeLoops.SharedPasses.Phases.{phases_are_shared}
 use Rattle.sigma_lower.specs.TreeTerms.Term.{PlainTerm, lowered_of}
 use Rattle.sigma_lower.proofs.TreeTerms.RootTerms.{shared_terms}
 use Rattle.smp_rewrite.specs.LayoutSteps.Layout.{Layout, layout_size}
-use Rattle.smp_rewrite.specs.declared.layout_steps.target.Target.{Target}
+use Rattle.operators.specs.declared.target.Target.{Target}
 use Rattle.generate.specs.TreePasses.Laws.{host_of}
 use Rattle.generate.proofs.TreePasses.Bounds.{actions-few, phases-grown, total}
 use Rattle.generate.proofs.TreePasses.Few.{AreFewMerged, few_merged}

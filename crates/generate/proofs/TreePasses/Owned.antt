@@ -1,9 +1,9 @@
 -- In each phase of a tree every line belongs to one processor.
 use Rattle.std.proofs.Common.{◌≡◌, ℕ, zero, suc, ◌<◌, List, [], ◌∷◌, ◌++◌, map, sym, ap, ◌∙◌, arith, subst}
 use Rattle.std.specs.Prelude.{Contains}
-use Rattle.tree_loops.specs.Merge.{PlainPass, gather_place, scatter_place, in_order}
-use Rattle.tree_loops.specs.Nests.{loop_of}
-use Rattle.smp_rewrite.specs.declared.layout_steps.target.Target.{Target}
+use Rattle.sigma_lower.specs.TreeLoops.Merge.{PlainPass, gather_place, scatter_place, in_order}
+use Rattle.sigma_lower.specs.TreeLoops.Nests.{loop_of}
+use Rattle.operators.specs.declared.target.Target.{Target}
 use Rattle.code_gen.specs.PassActions.Laws.{IsLoadedBy, IsStoredBy}
 use Rattle.code_gen.specs.PassCode.Contract.{AllOwn, AllShared, ArePhasesShared, FirstOwns, IsOwner}
 use Rattle.sigma_spl.specs.Loops.{nest_of, one_nest}
@@ -11,8 +11,8 @@ use Rattle.sigma_spl.specs.Copies.{loops_of}
 use Rattle.sigma_spl.specs.Nest.{PlainNest, load_place, store_place}
 use Rattle.sigma_spl.specs.Work.{work_size}
 use Rattle.sigma_spl.proofs.Natural.{ranged}
-use Rattle.tree_loops.specs.SharedPasses.Shared as shared
-use Rattle.tensor_paths.specs.Path.{AreInRange}
+use Rattle.sigma_lower.specs.TreeLoops.SharedPasses.Shared as shared
+use Rattle.operators.specs.TensorPaths.Path.{AreInRange}
 use Rattle.generate.specs.TreePasses.Laws.{host_of}
 use Rattle.generate.proofs.TreePasses.Known.{AllKnown}
 use Rattle.generate.proofs.TreePasses.Places.{load-is, store-is}

@@ -3,14 +3,14 @@ use Rattle.std.proofs.Common.{◌≡◌, ℕ, ◌+◌, ◌*◌, ◌<◌, List, [
 use Rattle.std.specs.Option.{option_map}
 use Rattle.index_fn.specs.Mapping.{Mapping, at}
 use Rattle.kernel_gen.proofs.Residues.{power_below}
-use Rattle.tree_loops.specs.Items as shared
-use Rattle.tree_loops.specs.Merge.{diagonal_place}
-use Rattle.tree_loops.specs.Merge.{PlainDiagonal, PlainPass, through, gather_place, scatter_place}
-use Rattle.tree_loops.specs.Nests.{loop_of, taken_of}
-use Rattle.tree_loops.proofs.Closed.{AreClosed, IsClosedPass, inner-below}
-use Rattle.tree_loops.proofs.PlaceValues.{through-end}
-use Rattle.tree_loops.proofs.Shaped.{IsShaped, IsShapedWork}
-use Rattle.smp_rewrite.specs.declared.layout_steps.target.Target.{Target}
+use Rattle.sigma_lower.specs.TreeLoops.Items as shared
+use Rattle.sigma_lower.specs.TreeLoops.Merge.{diagonal_place}
+use Rattle.sigma_lower.specs.TreeLoops.Merge.{PlainDiagonal, PlainPass, through, gather_place, scatter_place}
+use Rattle.sigma_lower.specs.TreeLoops.Nests.{loop_of, taken_of}
+use Rattle.sigma_lower.proofs.TreeLoops.Closed.{AreClosed, IsClosedPass, inner-below}
+use Rattle.sigma_lower.proofs.TreeLoops.PlaceValues.{through-end}
+use Rattle.sigma_lower.proofs.TreeLoops.Shaped.{IsShaped, IsShapedWork}
+use Rattle.operators.specs.declared.target.Target.{Target}
 use Rattle.code_gen.specs.PassCode.Contract.{IsHost}
 use Rattle.code_gen.specs.PassActions.Laws.{FindsFactors, HasResidues, MovesVectors}
 use Rattle.code_gen.specs.PassActions.Machine.{item_of, values_of}
@@ -21,9 +21,9 @@ use Rattle.sigma_spl.specs.Nest.{PlainMultiplier, inner_of, load_place, store_pl
 use Rattle.sigma_spl.specs.Work.{PlainWork, vectors_of, work_size}
 use Rattle.sigma_spl.proofs.Natural.{looped, ranged}
 use Rattle.sigma_spl.proofs.Listed.{loops_have_places}
-use Rattle.tree_loops.specs.SharedPasses.Shared.{IsFramed}
-use Rattle.tensor_paths.specs.Path.{count_of, place, AreInRange}
-use Rattle.tensor_paths.proofs.PathPlaces.{place-below}
+use Rattle.sigma_lower.specs.TreeLoops.SharedPasses.Shared.{IsFramed}
+use Rattle.operators.specs.TensorPaths.Path.{count_of, place, AreInRange}
+use Rattle.operators.proofs.TensorPaths.PathPlaces.{place-below}
 use Rattle.generate.specs.TreePasses.Laws.{host_of}
 use Rattle.generate.proofs.TreePasses.Frames.{loop-values, loop-item, loop-step, range-of, named, values-named, IsShare, share-of, item-below}
 

@@ -3,8 +3,8 @@ use Rattle.std.proofs.Common.{◌≡◌, ◌*◌, ◌^◌, ◌<◌, ◌≤◌, L
 use Rattle.std.specs.Prelude.{sum_by}
 use Rattle.std.proofs.lemmas.List.Sums.{sum_by-cons}
 use Rattle.sigma_lower.specs.Merged.{layout_merged}
-use Rattle.tree_loops.specs.Merge.{PlainPass, merged_of}
-use Rattle.tree_loops.specs.Nests.{loop_of}
+use Rattle.sigma_lower.specs.TreeLoops.Merge.{PlainPass, merged_of}
+use Rattle.sigma_lower.specs.TreeLoops.Nests.{loop_of}
 use Rattle.loop_merge.specs.MultipliedPasses.Laws.{HasNoTile, IsFree, LastHas}
 use Rattle.code_gen.specs.PassActions.Acts.{nest_registers, pass_registers}
 use Rattle.code_gen.specs.PassActions.Machine.{PlainMachine}
@@ -12,7 +12,7 @@ use Rattle.code_gen.specs.PassCode.Contract.{IsHost, all_passes, most_actions}
 use Rattle.sigma_spl.specs.Loops.{nest_of, one_nest}
 use Rattle.sigma_spl.specs.Nest.{PlainNest}
 use Rattle.smp_rewrite.specs.LayoutSteps.Layout.{Layout}
-use Rattle.smp_rewrite.specs.declared.layout_steps.target.Target.{Target}
+use Rattle.operators.specs.declared.target.Target.{Target}
 use Rattle.generate.specs.TreePasses.Laws.{host_of}
 use Rattle.generate.proofs.TreePasses.Bounds.{actions-few}
 use Rattle.generate.proofs.TreePasses.Endings.{last_free, last_untiled, layout_ends}

@@ -2,8 +2,8 @@
 use Rattle.std.proofs.Common.{◌≡◌, List, [], ◌∷◌, map, refl, sym, ap, ap₂, ◌∙◌}
 use Rattle.sigma_lower.specs.Merged.{layout_merged}
 use Rattle.sigma_lower.proofs.TreeLayouts.{trees_can_lower}
-use Rattle.tree_loops.specs.Laws.{Counted, counted_cost, counted_loads, whole_passes, AllCount, IsForwardTree}
-use Rattle.tree_loops.proofs.LayoutCounts.{layouts_count}
+use Rattle.sigma_lower.specs.TreeLoops.Laws.{Counted, counted_cost, counted_loads, whole_passes, AllCount, IsForwardTree}
+use Rattle.sigma_lower.proofs.TreeLoops.LayoutCounts.{layouts_count}
 use Rattle.matrix_meaning.specs.Parts.{forward_by, forward_of}
 use Rattle.matrix_meaning.specs.Valid.{IsValid}
 use Rattle.matrix_meaning.specs.declared.Kind.{Kind}

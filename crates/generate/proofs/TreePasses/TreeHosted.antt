@@ -5,7 +5,7 @@ use Rattle.std.proofs.lemmas.Bool.Decides.{nat_tests}
 use Rattle.sigma_lower.specs.Merged.{CanLower}
 use Rattle.sigma_lower.proofs.TreeLayouts.{trees_can_lower}
 use Rattle.kernel_gen.proofs.NodeCosts.{kernel-short}
-use Rattle.tree_loops.proofs.Shaped.{HasWorks}
+use Rattle.sigma_lower.proofs.TreeLoops.Shaped.{HasWorks}
 use Rattle.matrix_meaning.specs.Parts.{forward_of}
 use Rattle.matrix_meaning.specs.Valid.{IsValid}
 use Rattle.matrix_meaning.specs.declared.Kind.{Kind}

@@ -1,10 +1,10 @@
 -- The work of a layout's loops can be done, where its kernels are small.
 use Rattle.std.proofs.Common.{◌≤◌, arith}
-use Rattle.tree_loops.proofs.Shaped.{IsShapedWork}
+use Rattle.sigma_lower.proofs.TreeLoops.Shaped.{IsShapedWork}
 use Rattle.code_gen.specs.PassActions.Laws.{CanWork}
 use Rattle.sigma_spl.specs.Work.{PlainWork, kernel, rows, horner, tile, copy}
-use Rattle.tree_loops.specs.SharedPasses.Shared.{HasLanes}
-use Rattle.smp_rewrite.specs.declared.layout_steps.target.Target.{Target}
+use Rattle.sigma_lower.specs.TreeLoops.SharedPasses.Shared.{HasLanes}
+use Rattle.operators.specs.declared.target.Target.{Target}
 use Rattle.tree_model.specs.Trees.{trees_size}
 use Rattle.generate.specs.TreePasses.Laws.{host_of}
 

@@ -7,13 +7,13 @@ use Rattle.std.specs.Option.{option_map}
 use Rattle.index_fn.specs.Mapping.{Mapping}
 use Rattle.kernel_gen.proofs.KernelSizes.{trees-few}
 use Rattle.kernel_gen.specs.Kernel.{trees_cost, trees_kernel}
-use Rattle.tree_loops.specs.Merge.{PlainDiagonal, PlainPass, through}
-use Rattle.tree_loops.specs.Nests.{loop_of, taken_of}
-use Rattle.tree_loops.proofs.LoopItems.{diagonal-size}
-use Rattle.tree_loops.proofs.Closed.{IsClosedPass}
-use Rattle.tree_loops.proofs.PlaceValues.{IsFormedPass, value-at_place}
-use Rattle.tree_loops.proofs.Shaped.{IsShaped, IsShapedWork}
-use Rattle.smp_rewrite.specs.declared.layout_steps.target.Target.{Target}
+use Rattle.sigma_lower.specs.TreeLoops.Merge.{PlainDiagonal, PlainPass, through}
+use Rattle.sigma_lower.specs.TreeLoops.Nests.{loop_of, taken_of}
+use Rattle.sigma_lower.proofs.TreeLoops.LoopItems.{diagonal-size}
+use Rattle.sigma_lower.proofs.TreeLoops.Closed.{IsClosedPass}
+use Rattle.sigma_lower.proofs.TreeLoops.PlaceValues.{IsFormedPass, value-at_place}
+use Rattle.sigma_lower.proofs.TreeLoops.Shaped.{IsShaped, IsShapedWork}
+use Rattle.operators.specs.declared.target.Target.{Target}
 use Rattle.code_gen.specs.PassCode.Contract.{IsHost}
 use Rattle.code_gen.proofs.PassActions.KernelActions.{trees-registers}
 use Rattle.code_gen.specs.PassActions.Acts.{nest_registers, with_multiplier}
@@ -32,8 +32,8 @@ use Rattle.sigma_spl.proofs.Nests.{names-simplified}
 use Rattle.sigma_spl.proofs.Within.{carries-all}
 use Rattle.perm_algebra.specs.Affine.{Sum, constant, variable, value, simplified}
 use Rattle.tree_model.specs.Trees.{PlainTrees, trees_size}
-use Rattle.tree_loops.specs.SharedPasses.Shared.{HasLanes, IsFramed}
-use Rattle.tensor_paths.specs.Path.{Path, AreInRange, count_of, place, size_under}
+use Rattle.sigma_lower.specs.TreeLoops.SharedPasses.Shared.{HasLanes, IsFramed}
+use Rattle.operators.specs.TensorPaths.Path.{Path, AreInRange, count_of, place, size_under}
 use Rattle.generate.specs.TreePasses.Laws.{host_of}
 use Rattle.generate.proofs.TreePasses.Frames.{nest-framed}
 use Rattle.generate.proofs.TreePasses.KernelSizes.{small_kernel}

@@ -1,6 +1,6 @@
 -- The program of a formula, statement by statement.
 use Rattle.std.specs.Prelude.{ℕ}
-use Rattle.balanced_sums.specs.Halves.{balanced}
+use Rattle.spl_ast.specs.BalancedSums.Halves.{balanced}
 use Rattle.generate.specs.FormulaPasses.Computes.{formula_merged}
 use Rattle.icode.specs.Plain.{PlainProgram}
 use Rattle.code_gen.specs.PassActions.Machine.{plain_machine}

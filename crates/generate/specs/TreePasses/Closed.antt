@@ -10,7 +10,7 @@ use Rattle.sigma_spl.specs.Merged.{PlainMerged}
 use Rattle.sigma_spl.specs.Nest.{repeated}
 use Rattle.sigma_spl.specs.Sigma.{merged_of}
 use Rattle.smp_rewrite.specs.LayoutSteps.Whole.{Whole}
-use Rattle.smp_rewrite.specs.declared.layout_steps.target.Target.{Target}
+use Rattle.operators.specs.declared.target.Target.{Target}
 
 abbrev pub closed_merged : Option ℕ → PlainMerged → PlainMerged
 closed_merged None g = g

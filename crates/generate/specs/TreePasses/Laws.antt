@@ -5,7 +5,7 @@ use Rattle.sigma_lower.specs.Merged.{tree_merged}
 use Rattle.code_gen.specs.PassActions.Machine.{PlainMachine}
 use Rattle.code_gen.specs.PassCode.Contract.{CanProgram}
 pub use Rattle.code_gen.specs.Machines.{machine_of}
-use Rattle.smp_rewrite.specs.declared.layout_steps.target.Target.{Target}
+use Rattle.operators.specs.declared.target.Target.{Target}
 use Rattle.tree_model.specs.Breakdown.{Breakdown}
 use Rattle.tree_model.specs.Chosen.{IsWholeTree}
 

@@ -10,7 +10,7 @@ use Rattle.sigma_spl.specs.Counts.{CopiesAreFree, copies_in, nest_cost, pass_cos
 use Rattle.sigma_spl.specs.Nest.{PlainNest, copies_of, store_place}
 use Rattle.sigma_spl.specs.Work.{PlainWork, work_size}
 use Rattle.code_gen.specs.WholePrograms.Plain.{IsPlainNest}
-use Rattle.tensor_paths.specs.Loop.{loop_at}
+use Rattle.operators.specs.TensorPaths.Loop.{loop_at}
 
 pub record AreAlike (zs ys : List PlainNest) : Type 0 where
   pub stores : (m : ℕ) (x : List ℕ) (w : ℕ) → all_stored (map (copies_of m) zs) x w ≡ all_stored (map (copies_of m) ys) x w

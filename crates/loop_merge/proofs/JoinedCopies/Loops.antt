@@ -18,8 +18,8 @@ use Rattle.sigma_spl.specs.Nest.{PlainNest, copies_of, sum_value}
 use Rattle.sigma_spl.specs.Work.{copy}
 use Rattle.perm_algebra.specs.Affine.{Sum, constant, variable}
 use Rattle.code_gen.specs.WholePrograms.Plain.{IsPlainNest}
-use Rattle.tensor_paths.specs.Loop.{loop_at, nest_sum}
-use Rattle.tensor_paths.specs.Path.{AreInRange}
+use Rattle.operators.specs.TensorPaths.Loop.{loop_at, nest_sum}
+use Rattle.operators.specs.TensorPaths.Path.{AreInRange}
 use Rattle.code_gen.specs.PassCode.Small.{CanBeCoded, IsFrame}
 use Rattle.code_gen.proofs.PassCode.TestedSums.{tested_sums_are_coded}
 use Rattle.code_gen.proofs.PassCode.Within.{expressions_are_within}

@@ -14,8 +14,8 @@ use Rattle.sigma_spl.specs.Merge.{is_tile, limits_of}
 use Rattle.sigma_spl.specs.Nest.{PlainFactors, PlainMultiplier, PlainNest, copies_of, factor_at, factor_count, store_place}
 use Rattle.sigma_spl.specs.Work.{PlainWork, kernel, rows, horner, tile, copy, work_size}
 use Rattle.perm_algebra.specs.Affine.{Sum}
-use Rattle.tensor_paths.specs.Loop.{loop_at}
-use Rattle.tensor_paths.specs.Path.{AreInRange}
+use Rattle.operators.specs.TensorPaths.Loop.{loop_at}
+use Rattle.operators.specs.TensorPaths.Path.{AreInRange}
 
 -- no tile takes the first factor
 abbrev Suits : Pick → PlainNest → Type 0

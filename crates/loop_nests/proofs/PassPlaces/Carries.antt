@@ -7,8 +7,8 @@ use Rattle.sigma_spl.specs.Merge.{back_of, backs_of, factor_places}
 use Rattle.sigma_spl.specs.Nest.{PlainFactors, factor_count, inner_of}
 use Rattle.sigma_spl.proofs.Keeps.{inner-formed, left_positive, right_positive}
 use Rattle.loop_nests.specs.SumLimits.Leading.{CanCarry}
-use Rattle.tensor_paths.specs.declared.Tensor.TheVariants.{Blocks, Columns}
-use Rattle.tensor_paths.specs.Path.{Path, size_under}
+use Rattle.operators.specs.declared.tensor_paths.Tensor.TheVariants.{Blocks, Columns}
+use Rattle.operators.specs.TensorPaths.Path.{Path, size_under}
 use Rattle.loop_nests.specs.PassPlaces.Known.{AreSteps}
 
 inner-below : (path : Path) (n i : ℕ) → i < size_under path n → at (inner_of path n) i < n

@@ -6,16 +6,16 @@ ghost use Rattle.sigma_spl.specs.Merge.{back_of, backs_of, factor_places, invers
 ghost use Rattle.sigma_spl.specs.Nest.{factor_count, inner_of};
 ghost use Rattle.sigma_spl.specs.Views.{plain_factors};
 ghost use Rattle.sigma_spl.specs.Room.{HasCount, HasRoom};
-ghost use Rattle.tensor_paths.specs.Path.{size_under};
+ghost use Rattle.operators.specs.TensorPaths.Path.{size_under};
 ghost use Rattle.loop_nests.specs.PassPlaces.Known.{AreSteps};
 ghost use Rattle.loop_nests.specs.PassPlaces.Views.{mappings_of};
 ghost use Rattle.sigma_spl.specs.Words.{HasSmallFactors};
 
 use index_fn::Index;
 use memory::NoMemory;
+use operators::Tensor;
 use sigma_spl::{Factors, size_of_whole};
 use std::alloc::Global;
-use tensor_paths::Tensor;
 
 /// The permutation that undoes one.
 pub fn back_of(alloc: Global, f: &Index) -> Result<Index, NoMemory>

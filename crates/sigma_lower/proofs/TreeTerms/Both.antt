@@ -18,7 +18,7 @@ use Rattle.smp_rewrite.specs.Fits.{CanShareLayout}
 use Rattle.smp_rewrite.specs.LayoutSteps.Layout.{Layout, layout_on}
 use Rattle.smp_rewrite.specs.LayoutSteps.Targets.{is_alone}
 use Rattle.smp_rewrite.specs.LayoutSteps.Whole.{only, IsGoodWhole}
-use Rattle.smp_rewrite.specs.declared.layout_steps.target.Target.{Target}
+use Rattle.operators.specs.declared.target.Target.{Target}
 use Rattle.vec_rewrite.specs.Turning.{kept, vec_of}
 use Rattle.vec_rewrite.specs.Vectors.{PlainVec, factor_step, vec_steps}
 use Rattle.vec_rewrite.proofs.LaneLaws.{vec_keeps}

@@ -7,8 +7,8 @@ use Rattle.operators.proofs.Lists.{factor_positive}
 use Rattle.sigma_lower.specs.TreeTerms.Wrapped.{wrapped}
 use Rattle.sigma_lower.proofs.TreeTerms.Permuted.{StaysBelow, wrapped-below}
 use Rattle.sigma_lower.proofs.TreeTerms.Sizes.{right_positive}
-use Rattle.tensor_paths.specs.declared.Tensor.TheVariants.{Blocks, Columns}
-use Rattle.tensor_paths.specs.Path.{Path, size_under}
+use Rattle.operators.specs.declared.tensor_paths.Tensor.TheVariants.{Blocks, Columns}
+use Rattle.operators.specs.TensorPaths.Path.{Path, size_under}
 
 -- a function of the numbers below n
 pub record IsClosed (n : ℕ) (f : Mapping) : Type 0 where

@@ -18,16 +18,16 @@ use Rattle.kernel_gen.specs.Kernel.{CanMake}
 use Rattle.sigma_spl.specs.Work.{PlainWork, kernel, rows, horner, tile, copy, work_size, work_on}
 use Rattle.tree_model.specs.Trees.{PlainTrees, single, tensor, trees_size, AreWords}
 use Rattle.smp_rewrite.specs.LayoutSteps.Layout.{Layout, work, by, layout_size, IsGoodWork, IsGoodRule, IsGoodLayout}
-use Rattle.smp_rewrite.specs.declared.layout_steps.target.Target.{Target}
+use Rattle.operators.specs.declared.target.Target.{Target}
 use Rattle.smp_rewrite.proofs.Cores.{core-reads, core-gives}
 use Rattle.smp_rewrite.specs.LayoutSteps.Meaning.{core_size, core_on, step_on, all_on}
 use Rattle.smp_rewrite.specs.LayoutSteps.Step.{PlainCore, piece, turns, twiddles, thomas_in, thomas_out, PlainStep, rule_steps, steps_of}
 use Rattle.tree_model.proofs.Sizes.{word_sizes}
-use Rattle.tensor_paths.specs.declared.Tensor.TheVariants.{Blocks, Columns}
-use Rattle.tensor_paths.specs.Loop.{loop_on}
-use Rattle.tensor_paths.specs.Path.{Path, size_under, under, place}
-use Rattle.tensor_paths.proofs.Under.{size_under-push, under-size}
-use Rattle.tensor_paths.proofs.PathLoops.{loop_is_under}
+use Rattle.operators.specs.declared.tensor_paths.Tensor.TheVariants.{Blocks, Columns}
+use Rattle.operators.specs.TensorPaths.Loop.{loop_on}
+use Rattle.operators.specs.TensorPaths.Path.{Path, size_under, under, place}
+use Rattle.operators.proofs.TensorPaths.Under.{size_under-push, under-size}
+use Rattle.operators.proofs.TensorPaths.PathLoops.{loop_is_under}
 use Rattle.tree_model.specs.declared.tree.Rule.{Rule}
 use Rattle.tree_model.specs.declared.tree.Rule.TheVariants.{Gt, Ct, Split, Dim}
 use Rattle.tree_model.specs.Breakdown.{size_of}

@@ -14,13 +14,13 @@ use Rattle.smp_rewrite.specs.Smp as smp
 use Rattle.smp_rewrite.proofs.Dealt.{IsDealt, is_dealt}
 use Rattle.smp_rewrite.proofs.Factors.{rows_of}
 use Rattle.smp_rewrite.specs.LayoutSteps.Step.{turns, twiddles, PlainStep, step, rule_steps, steps_of}
-use Rattle.tensor_paths.specs.declared.Tensor.TheVariants.{Blocks, Columns}
+use Rattle.operators.specs.declared.tensor_paths.Tensor.TheVariants.{Blocks, Columns}
 use Rattle.tree_model.specs.declared.tree.Rule.{Rule}
 use Rattle.tree_model.specs.declared.tree.Rule.TheVariants.{Gt, Ct, Split, Dim}
 use Rattle.smp_rewrite.specs.Fits.{HasParts, RuleHasParts, RootHasParts, CanShareLayout}
 use Rattle.smp_rewrite.specs.LayoutSteps.Layout.{Layout, work, by, layout_size, IsGoodLayout}
 use Rattle.smp_rewrite.specs.LayoutSteps.Targets.{is_alone}
-use Rattle.smp_rewrite.specs.declared.layout_steps.target.Target.{Target}
+use Rattle.operators.specs.declared.target.Target.{Target}
 use Rattle.vec_rewrite.specs.declared.Grid.{Grid}
 use Rattle.vec_rewrite.specs.Turning.{kept, laned_from, phase_of, vec_of}
 use Rattle.sigma_lower.specs.TreeTerms.Root.{SharedTerms, right_path, turned_in, tiled_before, tiled_after, left_core, left_terms, right_terms, in_phases, root_terms}

@@ -2,9 +2,9 @@
 use Rattle.std.proofs.Common.{◌≡◌, ℕ, zero, suc, ◌*◌, ◌<◌, ◌≤◌, arith, sym, ap, ◌∙◌, [], ◌∷◌, inl, inr, mul-zero, eq-zero-or-pos, mul_comm}
 use Rattle.std.proofs.Math.Nat.{suc-mul, zero-mul}
 use Rattle.sigma_spl.specs.Room.{HasRoom}
-use Rattle.tensor_paths.specs.declared.Tensor.TheVariants.{Blocks, Columns}
-use Rattle.tensor_paths.specs.Path.{Path, size_under, copies_of}
-use Rattle.tensor_paths.proofs.Under.{size_under-copies}
+use Rattle.operators.specs.declared.tensor_paths.Tensor.TheVariants.{Blocks, Columns}
+use Rattle.operators.specs.TensorPaths.Path.{Path, size_under, copies_of}
+use Rattle.operators.proofs.TensorPaths.Under.{size_under-copies}
 
 -- a part is at most the whole
 pub part-le : (q d n : ℕ) → q * d ≡ n → 1 ≤ n → d ≤ n

@@ -8,8 +8,8 @@ use Rattle.index_fn.specs.Mapping.{Mapping, at}
 use Rattle.operators.proofs.Lists.{row-of, column-of, place_below}
 use Rattle.sigma_lower.specs.TreeTerms.Wrapped.{wrapped}
 use Rattle.smp_rewrite.specs.Smp.{within}
-use Rattle.tensor_paths.specs.declared.Tensor.TheVariants.{Blocks, Columns}
-use Rattle.tensor_paths.specs.Path.{Path, size_under}
+use Rattle.operators.specs.declared.tensor_paths.Tensor.TheVariants.{Blocks, Columns}
+use Rattle.operators.specs.TensorPaths.Path.{Path, size_under}
 
 -- ---- vectors in rows of m vectors
 

@@ -6,10 +6,10 @@ use Rattle.sigma_spl.specs.Work.{PlainWork, tile, copy, HasWords}
 use Rattle.smp_rewrite.specs.Cut.{smp_of}
 use Rattle.smp_rewrite.specs.Fits.{CanShareLayout}
 use Rattle.smp_rewrite.specs.LayoutSteps.Whole.{Whole, IsGoodWhole}
-use Rattle.smp_rewrite.specs.declared.layout_steps.target.Target.{Target}
+use Rattle.operators.specs.declared.target.Target.{Target}
 use Rattle.smp_rewrite.specs.LayoutSteps.Meaning.{core_size}
 use Rattle.smp_rewrite.specs.LayoutSteps.Step.{PlainCore, piece, turns, twiddles, thomas_in, thomas_out, PlainStep}
-use Rattle.tensor_paths.specs.Path.{size_under}
+use Rattle.operators.specs.TensorPaths.Path.{size_under}
 use Rattle.vec_rewrite.specs.Turning.{vec_of}
 use Rattle.vec_rewrite.specs.Vectors.{PlainVec}
 

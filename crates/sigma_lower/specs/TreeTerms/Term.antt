@@ -9,11 +9,11 @@ use Rattle.smp_rewrite.specs.Smp.{within}
 use Rattle.smp_rewrite.specs.Fits.{CanShareLayout}
 use Rattle.smp_rewrite.specs.LayoutSteps.Layout.{Layout, layout_on, IsGoodLayout}
 use Rattle.smp_rewrite.specs.LayoutSteps.Targets.{is_alone}
-use Rattle.smp_rewrite.specs.declared.layout_steps.target.Target.{Target}
+use Rattle.operators.specs.declared.target.Target.{Target}
 use Rattle.smp_rewrite.specs.LayoutSteps.Step.{PlainStep, PlainCore, piece, turns, twiddles, thomas_in, thomas_out, steps_of}
-use Rattle.tensor_paths.specs.declared.Tensor.TheVariants.{Blocks}
-use Rattle.tensor_paths.specs.Loop.{loop_on}
-use Rattle.tensor_paths.specs.Path.{Path, place}
+use Rattle.operators.specs.declared.tensor_paths.Tensor.TheVariants.{Blocks}
+use Rattle.operators.specs.TensorPaths.Loop.{loop_on}
+use Rattle.operators.specs.TensorPaths.Path.{Path, place}
 use Rattle.vec_rewrite.specs.Turning.{vec_of}
 use Rattle.vec_rewrite.specs.Vectors.{PlainFactor, lanes, diagonals, move_before, move_after, tiles, PlainVec, factor_step}
 use Rattle.sigma_spl.specs.Work.{PlainWork, tile, work_size, work_on}

@@ -25,9 +25,9 @@ use Rattle.sigma_spl.proofs.PlainTerms.Vectors.{Keeps, reduced, under_keeps, tre
 use Rattle.tree_model.specs.Trees.{PlainTrees, single, tensor, trees_size, trees_on}
 use Rattle.spl_ast.specs.Meaning.{IsVector}
 use Rattle.spl_ast.proofs.Vectors.{residue_at, list_vector, take_vector, drop_vector}
-use Rattle.tensor_paths.specs.Loop.{loop_at}
-use Rattle.tensor_paths.specs.Path.{Path, count_of, size_under, under, place, local, AreInRange, Reads}
-use Rattle.tensor_paths.proofs.PathPlaces.{at-under}
+use Rattle.operators.specs.TensorPaths.Loop.{loop_at}
+use Rattle.operators.specs.TensorPaths.Path.{Path, count_of, size_under, under, place, local, AreInRange, Reads}
+use Rattle.operators.proofs.TensorPaths.PathPlaces.{at-under}
 use Rattle.tree_model.specs.Breakdown.{size_of}
 
 -- ---- the items that are looked at

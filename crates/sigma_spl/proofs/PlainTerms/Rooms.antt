@@ -7,8 +7,8 @@ use Rattle.sigma_spl.proofs.Fitting as fitting
 use Rattle.matrix_meaning.specs.Laws.{twiddle}
 use Rattle.spl_ast.specs.Shape.{IsSize}
 use Rattle.spl_ast.proofs.Residues.{power_of_reduced}
-use Rattle.tensor_paths.specs.declared.Tensor.TheVariants.{Blocks, Columns}
-use Rattle.tensor_paths.specs.Path.{Path, size_under}
+use Rattle.operators.specs.declared.tensor_paths.Tensor.TheVariants.{Blocks, Columns}
+use Rattle.operators.specs.TensorPaths.Path.{Path, size_under}
 
 pub part_room : (path : Path) (n : ℕ) → IsSize (size_under path n) → HasRoom path n
 part_room path n h = fitting.part_room path n (omega (arith, h.0)) (omega (arith, h.1))

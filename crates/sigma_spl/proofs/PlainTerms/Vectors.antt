@@ -16,8 +16,8 @@ use Rattle.sigma_spl.specs.PlainTerms.Shape.{AllFit, Fits}
 use Rattle.tree_model.specs.Trees.{PlainTrees, single, tensor, trees_size, trees_on}
 use Rattle.spl_ast.specs.Meaning.{IsVector}
 use Rattle.spl_ast.proofs.Vectors.{residue_at, list_vector, column_vector, block_vector}
-use Rattle.tensor_paths.specs.declared.Tensor.TheVariants.{Blocks, Columns}
-use Rattle.tensor_paths.specs.Path.{Path, size_under, under}
+use Rattle.operators.specs.declared.tensor_paths.Tensor.TheVariants.{Blocks, Columns}
+use Rattle.operators.specs.TensorPaths.Path.{Path, size_under, under}
 use Rattle.tree_model.specs.Breakdown.{size_of}
 
 -- the operator takes n residues to n residues

@@ -8,7 +8,7 @@ use Rattle.sigma_spl.specs.Nest.{PlainFactors, factor_at, factor_count, inner_of
 use Rattle.sigma_spl.specs.Term.{PlainTerm, nest, move, product, beside, term_on}
 use Rattle.sigma_spl.specs.Work.{work_size, work_on}
 use Rattle.tree_model.specs.Trees.{PlainTrees, single, tensor, trees_on, trees_size}
-use Rattle.tensor_paths.specs.Path.{Path, size_under, under}
+use Rattle.operators.specs.TensorPaths.Path.{Path, size_under, under}
 
 -- how many items a copy has
 abbrev pub copy_size : PlainTerm → ℕ

@@ -5,7 +5,7 @@ use Rattle.sigma_spl.specs.Good.{AreBelow}
 use Rattle.sigma_spl.specs.Nest.{factor_count}
 use Rattle.sigma_spl.specs.Term.{PlainTerm, same, gath, scat, diag, nest, move, product, beside}
 use Rattle.sigma_spl.specs.Work.{HasWords, work_size}
-use Rattle.tensor_paths.specs.Path.{size_under}
+use Rattle.operators.specs.TensorPaths.Path.{size_under}
 
 -- f takes the numbers below n to numbers below n
 pub record StaysInside (n : ℕ) (f : Mapping) : Type 0 where

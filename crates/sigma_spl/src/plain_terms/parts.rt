@@ -12,15 +12,15 @@ ghost use Rattle.sigma_spl.specs.PlainTerms.Copies.{scaled, scaled_at};
 ghost use Rattle.sigma_spl.specs.PlainTerms.Shape.{StaysInside};
 ghost use Rattle.spl_ast.specs.Meaning.{IsVector};
 ghost use Rattle.spl_ast.specs.Shape.{IsSize};
-ghost use Rattle.tensor_paths.specs.Path.{size_under};
+ghost use Rattle.operators.specs.TensorPaths.Path.{size_under};
 
 use crate::{Factors, size_of_whole};
 use index_fn::Index;
 use matrix_meaning::twiddle_factor;
 use memory::NoMemory;
+use operators::Tensor;
 use ring_mod::Modulus;
 use std::alloc::Global;
-use tensor_paths::Tensor;
 
 /// The item of `x` at the function's value for each place.
 pub(crate) fn gathered(alloc: Global, n: u64, f: &Index, x: &[u64]) -> Result<Vec<u64>, NoMemory>

@@ -12,10 +12,10 @@ use crate::plain_terms::parts::{gathered, multiplied, scattered};
 use crate::plain_terms::works::worked;
 use crate::{Sigma, Term};
 use memory::NoMemory;
+use operators::Tensor;
 use ring_mod::Modulus;
 use spl_ast::{by_places, turned};
 use std::alloc::Global;
-use tensor_paths::Tensor;
 
 impl Sigma {
     /// What the terms do to the residues `x` modulo `m`, each part by its definition.

@@ -3,9 +3,9 @@ use Rattle.std.proofs.Common.{◌≡◌, ℕ, ◌+◌, ◌*◌, List, [], ◌∷
 use Rattle.smp_rewrite.specs.LayoutSteps.Layout.{work, by, layout_size, rule_cost, layout_cost}
 use Rattle.smp_rewrite.specs.LayoutSteps.Meaning.{StepsCost}
 use Rattle.smp_rewrite.specs.LayoutSteps.Step.{PlainStep, step, thomas_out, twiddles, rule_steps, steps_of, operations_in}
-use Rattle.tensor_paths.specs.Path.{Path, copies_of}
-use Rattle.tensor_paths.specs.declared.Tensor.TheVariants.{Blocks, Columns}
-use Rattle.tensor_paths.proofs.Under.{copies_of-push}
+use Rattle.operators.specs.TensorPaths.Path.{Path, copies_of}
+use Rattle.operators.specs.declared.tensor_paths.Tensor.TheVariants.{Blocks, Columns}
+use Rattle.operators.proofs.TensorPaths.Under.{copies_of-push}
 use Rattle.tree_model.specs.declared.tree.Rule.{Rule}
 use Rattle.tree_model.specs.declared.tree.Rule.TheVariants.{Gt, Ct, Split, Dim}
 

@@ -7,9 +7,9 @@ use Rattle.operators.proofs.Lists.{length-list_below}
 use Rattle.smp_rewrite.specs.LayoutSteps.Layout.{work, by, layout_size, layout_on, rule_on}
 use Rattle.smp_rewrite.specs.LayoutSteps.Meaning.{step_on, all_on, StepsDo}
 use Rattle.smp_rewrite.specs.LayoutSteps.Step.{PlainStep, step, rule_steps, steps_of, twiddles, thomas_out}
-use Rattle.tensor_paths.specs.Path.{Path, under}
-use Rattle.tensor_paths.specs.declared.Tensor.TheVariants.{Blocks, Columns}
-use Rattle.tensor_paths.proofs.Under.{under-push, under-product}
+use Rattle.operators.specs.TensorPaths.Path.{Path, under}
+use Rattle.operators.specs.declared.tensor_paths.Tensor.TheVariants.{Blocks, Columns}
+use Rattle.operators.proofs.TensorPaths.Under.{under-push, under-product}
 use Rattle.tree_model.specs.declared.tree.Rule.{Rule}
 use Rattle.tree_model.specs.declared.tree.Rule.TheVariants.{Gt, Ct, Split, Dim}
 

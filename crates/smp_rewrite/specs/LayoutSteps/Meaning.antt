@@ -8,7 +8,7 @@ use Rattle.operators.specs.Operator.{Operator, gather, scale, good_thomas_in, go
 use Rattle.sigma_spl.specs.Work.{work_size, work_on}
 use Rattle.smp_rewrite.specs.LayoutSteps.Layout.{Layout, layout_size, layout_on, layout_cost, layout_of, IsGoodLayout}
 use Rattle.smp_rewrite.specs.LayoutSteps.Step.{PlainCore, piece, turns, twiddles, thomas_in, thomas_out, PlainStep, steps_of, operations_in}
-use Rattle.tensor_paths.specs.Path.{Path, copies_of, under}
+use Rattle.operators.specs.TensorPaths.Path.{Path, copies_of, under}
 use Rattle.tree_model.specs.Admissible.{RootFits}
 use Rattle.tree_model.specs.Breakdown.{Breakdown, size_of}
 use Rattle.tree_model.specs.Cost.{is_plain}

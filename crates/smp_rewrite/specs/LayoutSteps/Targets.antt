@@ -1,7 +1,7 @@
 -- The machine that a request names.
 use Rattle.std.specs.Prelude.{◌==◌, ◌&&◌, Bool}
 use Rattle.matrix_meaning.specs.declared.Request.{Request}
-use Rattle.smp_rewrite.specs.declared.layout_steps.target.Target.{Target}
+use Rattle.operators.specs.declared.target.Target.{Target}
 
 abbrev pub target_of : Request → Target
 target_of c = record { size = c.size; modulus = c.modulus; procs = c.procs; line = c.line; lanes = c.lanes }

@@ -2,17 +2,8 @@
 ghost use Rattle.std.specs.Prelude.{◌≡◌};
 ghost use Rattle.smp_rewrite.specs.LayoutSteps.Targets.{target_of};
 
+use operators::Target;
 use tree_model::Ctx;
-
-/// For which machine: words, modulus, processors, words of a line, lanes of a register.
-#[derive(Clone, Copy, Debug)]
-pub struct Target {
-    pub size: u64,
-    pub modulus: u64,
-    pub procs: u64,
-    pub line: u64,
-    pub lanes: u64,
-}
 
 /// The machine of a request.
 pub fn target_of(c: &Ctx) -> Target

@@ -3,7 +3,7 @@ use Rattle.perm_algebra.specs.Affine.{value}
 use Rattle.perm_algebra.specs.Views.{plain_sum}
 use Rattle.sigma_spl.specs.Merge.{place_sum}
 use Rattle.loop_nests.proofs.Naming.{blocks-value, columns-value}
-use Rattle.tensor_paths.specs.Path.{size_under}
+use Rattle.operators.specs.TensorPaths.Path.{size_under}
 use Rattle.loop_nests.proofs.placed.+placed.Goals as goal
 
 pub both-requires-clause-fits : goal.both-requires-clause-fits

@@ -10,7 +10,7 @@ use Rattle.sigma_spl.proofs.PlainTerms.Copies.{copy_sized, nest_times, move_time
 use Rattle.sigma_spl.proofs.PlainTerms.Steps.{block_part, column_part, one_block, turned_size}
 use Rattle.spl_ast.specs.Meaning.{IsVector}
 use Rattle.spl_ast.proofs.Blocks.{columns_from_turns, turned_vector}
-use Rattle.tensor_paths.proofs.Under.{under-size}
+use Rattle.operators.proofs.TensorPaths.Under.{under-size}
 use Rattle.sigma_spl.proofs.plain_terms.terms.+terms.Goals as goal
 
 pub in_blocks-loop-i-preserved : goal.in_blocks-loop-i-preserved

@@ -1,0 +1,65 @@
+-- The item of its copy that stands at a natural place.
+use Rattle.std.proofs.Common.{◌≡◌, ℕ, ◌+◌, ◌*◌, ◌<◌, ◌≤◌, arith, refl, sym, ap, ◌∙◌, [], ◌∷◌, subst, le-mul_of_pos_right}
+use Rattle.perm_algebra.specs.Affine.{Sum, constant, variable, scaled, joined, Divided, simplified}
+use Rattle.perm_algebra.specs.Room.{CanScale, CanJoin, HasRoomFor}
+use Rattle.perm_algebra.proofs.AffineLaws.{top-scaled}
+use Rattle.perm_algebra.proofs.Shape.{divided-joined, joined-zero}
+use Rattle.perm_algebra.proofs.Sizes.{joined-end, scaled-one}
+use Rattle.sigma_lower.specs.TreeTerms.Wrapped.{inner_of}
+use Rattle.sigma_lower.specs.TreeLoops.Placed.{Fits, place_sum, AreCounts}
+use Rattle.sigma_lower.proofs.TreeLoops.PlaceRoom.{can_divide, can_join, can_scale, le-mul_left}
+use Rattle.sigma_lower.proofs.TreeLoops.PlaceSums.{place_sum-fits, size-positive, variable-fits}
+use Rattle.operators.specs.declared.tensor_paths.Tensor.TheVariants.{Blocks, Columns}
+use Rattle.operators.specs.TensorPaths.Path.{Path, size_under}
+
+-- an item's place in its copy, at a natural place
+pub inner-place : (path : Path) (n d : ℕ) (e : Sum) (cs : ℕ → ℕ) → AreCounts path n d cs → Fits n e cs → simplified cs (inner_of path n) (place_sum path n d e) ≡ e
+inner-place [] n d e cs h fits = refl
+inner-place (Blocks c ∷ path) n d e cs h fits =
+    let inside = place_sum-fits path n (d + 1) e cs h.2 fits in
+    ap (λ (z : Divided). joined (constant 0) (simplified cs (inner_of path n) z.rem))
+    (divided-joined (size_under path n) (variable 1 d (constant 0)) (place_sum path n (d + 1) e) cs (size-positive path n (d + 1) cs h.2) inside.proper inside.small)
+    ∙ joined-zero _
+    ∙ inner-place path n (d + 1) e cs h.2 fits
+inner-place (Columns c ∷ path) n d e cs h fits =
+    let v = variable-fits c d cs h.0 h.1 in
+    ap (λ (z : Divided). joined (scaled 1 (simplified cs (inner_of path n) z.quot)) (constant 0))
+    (divided-joined c (place_sum path n (d + 1) e) (variable 1 d (constant 0)) cs (omega (arith, h.1)) v.proper v.small)
+    ∙ joined-end _
+    ∙ scaled-one _
+    ∙ inner-place path n (d + 1) e cs h.2 fits
+
+-- and every number on the way to it fits 64 bits
+pub room-inner : (path : Path) (n d : ℕ) (e : Sum) (cs : ℕ → ℕ) → AreCounts path n d cs → Fits n e cs → n ≤ 1048576 → size_under path n ≤ 1048576 → HasRoomFor cs (inner_of path n) (place_sum path n d e)
+room-inner [] n d e cs h fits low high = tt
+room-inner (Blocks c ∷ path) n d e cs h fits low high =
+    let size = size_under path n in
+    let positive : 0 < size = size-positive path n (d + 1) cs h.2 in
+    let v = variable 1 d (constant 0) in
+    let inner = place_sum-fits path n (d + 1) e cs h.2 fits in
+    let within : size ≤ c * size = le-mul_left c size (omega (arith, h.1)) in
+    let apart = divided-joined size v (place_sum path n (d + 1) e) cs positive inner.proper inner.small in
+    let is : simplified cs (inner_of path n) (place_sum path n (d + 1) e) ≡ e = inner-place path n (d + 1) e cs h.2 fits in (
+      can_divide size v (place_sum path n (d + 1) e) cs positive (omega arith) inner.proper inner.small,
+      tt,
+      subst (λ (z : Divided). HasRoomFor cs (inner_of path n) z.rem) (sym apart) (room-inner path n (d + 1) e cs h.2 fits low (omega arith)),
+      omega arith,
+      subst (λ (z : Divided). CanJoin (constant (0 * 0)) (simplified cs (inner_of path n) z.rem)) (sym apart)
+          (subst (CanJoin (constant (0 * 0))) (sym is) (can_join (constant (0 * 0)) e cs (omega (arith, fits.small)))),
+    )
+room-inner (Columns c ∷ path) n d e cs h fits low high =
+    let size = size_under path n in
+    let v = variable 1 d (constant 0) in
+    let fit = variable-fits c d cs h.0 h.1 in
+    let positive : 0 < size = size-positive path n (d + 1) cs h.2 in
+    let within : size ≤ size * c = le-mul_of_pos_right {m = c} size (omega (arith, h.1)) in
+    let count : c ≤ size * c = le-mul_left size c positive in
+    let apart = divided-joined c (place_sum path n (d + 1) e) v cs (omega (arith, h.1)) fit.proper fit.small in
+    let is : simplified cs (inner_of path n) (place_sum path n (d + 1) e) ≡ e = inner-place path n (d + 1) e cs h.2 fits in (
+      can_divide c (place_sum path n (d + 1) e) v cs (omega (arith, h.1)) (omega arith) fit.proper fit.small,
+      subst (λ (z : Divided). HasRoomFor cs (inner_of path n) z.quot) (sym apart) (room-inner path n (d + 1) e cs h.2 fits low (omega arith)),
+      tt,
+      subst (λ (z : Divided). CanScale 1 (simplified cs (inner_of path n) z.quot)) (sym apart) (subst (CanScale 1) (sym is) (can_scale 1 e cs fits.proper (omega (arith, fits.small)))),
+      subst (λ (z : Divided). CanJoin (scaled 1 (simplified cs (inner_of path n) z.quot)) (constant 0)) (sym apart)
+          (subst (λ y. CanJoin (scaled 1 y) (constant 0)) (sym is) (can_join (scaled 1 e) (constant 0) cs (omega (arith, top-scaled 1 e cs, fits.small)))),
+    )

@@ -1,0 +1,293 @@
+-- The passes of the layout of a request's tree count as those of the tree in the cost model.
+use Rattle.std.proofs.Common.{◌≡◌, ◌≢◌, ℕ, ◌+◌, ◌*◌, ◌%◌, ◌==◌, Bool, true, false, arith, refl, sym, ap, ap₂, ◌∙◌, List, [], ◌∷◌, ◌++◌, if◌then◌else◌, subst}
+use Rattle.std.specs.Prelude.{map, nat_le}
+use Rattle.std.proofs.lemmas.Bool.Decides.{nat_tests}
+use Rattle.std.proofs.Math.Nat.{mod_self, one-mul}
+use Rattle.sigma_lower.specs.TreeLoops.Laws.{Counted, works, tiles, passes_of, tiled_passes, whole_passes, CountsAs, AllCount, IsForwardTree, LayoutsCount}
+use Rattle.sigma_lower.proofs.TreeLoops.FlatCounts.{ArePasses, IsFlatTree, IsPass, flat_node_passes, flat_root_passes, kernel-matches, not-kernel}
+use Rattle.matrix_meaning.specs.Parts.{first_of, forward_by, rest_of}
+use Rattle.matrix_meaning.specs.declared.Dimensions.TheVariants.{One}
+use Rattle.matrix_meaning.specs.declared.Kind.{Kind}
+use Rattle.matrix_meaning.specs.declared.Kind.TheVariants.{Dft, Wht, Idft}
+use Rattle.matrix_meaning.specs.declared.Request.{Request}
+use Rattle.matrix_meaning.proofs.Parts.{first_is_one}
+use Rattle.sigma_spl.specs.Work.{PlainWork}
+use Rattle.smp_rewrite.specs.LayoutSteps.Layout.{Layout, work, by, layout_size, layout_of, layout_cost, node_work, work_cost}
+use Rattle.smp_rewrite.specs.LayoutSteps.Meaning.{FitsWhole, IsNodeTree}
+use Rattle.smp_rewrite.proofs.LayoutSteps.Layouts.{layouts_cost, layouts_have_size}
+use Rattle.smp_rewrite.proofs.LayoutSteps.NodeTrees.{HasFields, left_fields, left_fits, left_tree, rest_is_part, right_fields, right_tree}
+use Rattle.tree_model.specs.Breakdown.{Breakdown, leaf, node, size_of, AllowsLeaf, AllowsRule}
+use Rattle.tree_model.specs.Cost.{is_kernel, is_plain, node_root}
+use Rattle.tree_model.specs.Passes as trees
+use Rattle.tree_model.specs.Whole.{cost_in}
+use Rattle.tree_model.specs.WholePasses.{RequestPass, pass_of, closed_by, flat_passes, node_passes, passes_in, shared_passes}
+use Rattle.tree_model.specs.declared.tree.Rule.{Rule}
+use Rattle.tree_model.specs.declared.tree.Rule.TheVariants.{Gt, Ct, Split, Dim}
+
+-- fields of a request, of the request for a part, and of that for a part of the part
+fields-both : (c p q : Request) → HasFields c p → HasFields p q → HasFields c q
+fields-both c p q h k = record { modulus = k.modulus ∙ h.modulus; weight = k.weight ∙ h.weight }
+
+module _ (c : Request) where
+  -- ---- passes of one size
+
+  pass-counts : (p : Request) (z : Counted) (q : trees.Pass) → HasFields c p → IsPass c.size p z q →
+      CountsAs c z (pass_of p q)
+  pass-counts p (works k w b) (trees.nodes count t d) like h = record {
+    operations =
+        ap₂ (λ x y. k * work_cost x y w + (if b then x * c.size else 0)) (sym like.weight) (sym like.modulus)
+        ∙ ap₂ (λ x y. x + y) (ap₂ (λ x y. x * y) h.0.copies h.0.operations)
+        (ap (λ y. if y then p.weight * c.size else 0) h.1);
+    loads = h.0.loads;
+  }
+  pass-counts p (works k w b) (trees.tiles d) like h = absurd h
+  pass-counts p (tiles b) (trees.nodes count t d) like h = absurd h
+  pass-counts p (tiles b) (trees.tiles d) like h = record {
+    operations = ap₂ (λ x y. if y then x * c.size else 0) (sym like.weight) h;
+    loads = refl;
+  }
+
+  all-count : (p : Request) (zs : List Counted) (qs : List trees.Pass) → HasFields c p → ArePasses c.size p zs qs →
+      AllCount c zs (map (pass_of p) qs)
+  all-count p [] [] like h = tt
+  all-count p [] (q ∷ qs) like h = absurd h
+  all-count p (z ∷ zs) [] like h = absurd h
+  all-count p (z ∷ zs) (q ∷ qs) like h = (pass-counts p z q like h.0, all-count p zs qs like h.1)
+
+  -- a node of one size, so many times
+  node-counts : (p : Request) (count : ℕ) (t : Breakdown) → HasFields c p → IsFlatTree p t →
+      AllCount c (passes_of count (layout_of p t)) (node_passes p count t)
+  node-counts p count t like h =
+      all-count p (passes_of count (layout_of p t)) (trees.passes_of p count t) like
+      (flat_node_passes c.size p count t h)
+
+  -- ---- lists of passes
+
+  counts-append : (zs rest : List Counted) (qs more : List RequestPass) → AllCount c zs qs → AllCount c rest more →
+      AllCount c (zs ++ rest) (qs ++ more)
+  counts-append [] rest [] more h k = k
+  counts-append [] rest (q ∷ qs) more h k = absurd h
+  counts-append (z ∷ zs) rest [] more h k = absurd h
+  counts-append (z ∷ zs) rest (q ∷ qs) more h k = (h.0, counts-append zs rest qs more h.1 k)
+
+  tile-counts : (p : Request) → CountsAs c (tiles false) (pass_of p (trees.tiles false))
+  tile-counts p = record { operations = refl; loads = refl }
+
+  -- ---- on one processor and one lane
+
+  -- a tree that stands in a request, of one size
+  flat : (p : Request) (t : Breakdown) → IsNodeTree p t → FitsWhole p t → p.dimensions ≡ One → IsFlatTree p t
+  flat p t h fits one = record { one = one; tree = h; fits = fits }
+
+  -- it is fit where there is one processor and one lane
+  plain-fits : (p : Request) (t : Breakdown) → is_plain p ≡ true → FitsWhole p t
+  plain-fits p t plain is shared = absurd (let clash : true ≡ false = sym plain ∙ shared in cc)
+
+  -- a node is straight-line code where it is short
+  alone-kernel : (p : Request) (d : ℕ) → is_plain p ≡ true → is_kernel p d ≡ nat_le d p.unroll
+  alone-kernel p d plain = pick (nat_le d p.unroll) (d == p.size) (is_plain p) plain
+    where
+      pick : (short whole alone : Bool) → alone ≡ true →
+          (if short then (if whole then alone else true) else false) ≡ short
+      pick true true alone e = e
+      pick true false alone e = refl
+      pick false whole alone e = refl
+
+  -- the rows, and then the columns
+  module _ (p : Request) (a b : Breakdown) (left right : Layout)
+      (is_left : layout_size left ≡ size_of a) (is_right : layout_size right ≡ size_of b)
+      (on_left : (k : ℕ) → AllCount c (passes_of k left) (node_passes (first_of p) k a))
+      (on_right : (k : ℕ) → AllCount c (passes_of k right) (passes_in (rest_of p) k b)) where
+    rows : (k : ℕ) → AllCount c (passes_of (k * layout_size left) right) (passes_in (rest_of p) (k * size_of a) b)
+    rows k =
+        subst (λ z. AllCount c (passes_of (k * z) right) (passes_in (rest_of p) (k * size_of a) b)) (sym is_left)
+        (on_right (k * size_of a))
+
+    columns : (k : ℕ) → AllCount c (passes_of (k * layout_size right) left) (node_passes (first_of p) (k * size_of b) a)
+    columns k =
+        subst (λ z. AllCount c (passes_of (k * z) left) (node_passes (first_of p) (k * size_of b) a)) (sym is_right)
+        (on_left (k * size_of b))
+
+    both : (k : ℕ) → AllCount c (passes_of (k * layout_size left) right ++ passes_of (k * layout_size right) left)
+        (passes_in (rest_of p) (k * size_of a) b ++ node_passes (first_of p) (k * size_of b) a)
+    both k =
+        counts-append (passes_of (k * layout_size left) right) (passes_of (k * layout_size right) left)
+        (passes_in (rest_of p) (k * size_of a) b) (node_passes (first_of p) (k * size_of b) a) (rows k) (columns k)
+
+    dim-pick : (k root : ℕ) (w : PlainWork) (short few : Bool) → short ≡ few →
+        (short ≡ true → CountsAs c (works k w false) (pass_of p (trees.nodes k (node Dim a b) false))) →
+        AllCount c (passes_of k (if short then work w else by Dim root left right))
+        (if few then pass_of p (trees.nodes k (node Dim a b) false) ∷ []
+        else passes_in (rest_of p) (k * size_of a) b ++ node_passes (first_of p) (k * size_of b) a)
+    dim-pick k root w true true e h = (h refl, tt)
+    dim-pick k root w false false e h = both k
+    dim-pick k root w true false e h = absurd (cc)
+    dim-pick k root w false true e h = absurd (cc)
+
+    -- the whole of a dim that processors or lanes share
+    rows-once : AllCount c (passes_of (layout_size left) right) (passes_in (rest_of p) (size_of a) b)
+    rows-once =
+        subst (λ z. AllCount c (passes_of z right) (passes_in (rest_of p) (size_of a) b)) (sym is_left)
+        (on_right (size_of a))
+
+    columns-once : AllCount c (passes_of (layout_size right) left) (node_passes (first_of p) (size_of b) a)
+    columns-once =
+        subst (λ z. AllCount c (passes_of z left) (node_passes (first_of p) (size_of b) a)) (sym is_right)
+        (on_left (size_of b))
+
+    shared-pick : (root : ℕ) (one : Bool) →
+        AllCount c (if one then passes_of 1 (by Dim root left right) else tiled_passes (by Dim root left right))
+        (if one then passes_in (rest_of p) (size_of a) b ++ node_passes (first_of p) (size_of b) a
+        else pass_of p (trees.tiles false)
+        ∷ (passes_in (rest_of p) (size_of a) b ++
+        (pass_of p (trees.tiles false) ∷ node_passes (first_of p) (size_of b) a)))
+    shared-pick root true =
+        let same : passes_of (1 * layout_size left) right ++ passes_of (1 * layout_size right) left
+        ≡ passes_of (layout_size left) right ++ passes_of (layout_size right) left =
+        ap₂ (λ x y. passes_of x right ++ passes_of y left) (one-mul (layout_size left)) (one-mul (layout_size right)) in
+        subst (λ zs. AllCount c zs (passes_in (rest_of p) (size_of a) b ++ node_passes (first_of p) (size_of b) a))
+        (sym same)
+        (counts-append (passes_of (layout_size left) right) (passes_of (layout_size right) left)
+        (passes_in (rest_of p) (size_of a) b) (node_passes (first_of p) (size_of b) a) rows-once columns-once)
+    shared-pick root false = (
+      tile-counts p,
+      counts-append (passes_of (layout_size left) right) (tiles false ∷ passes_of (layout_size right) left)
+          (passes_in (rest_of p) (size_of a) b)
+          (pass_of p (trees.tiles false) ∷ node_passes (first_of p) (size_of b) a) rows-once
+          (tile-counts p, columns-once),
+    )
+
+  -- straight-line code of a dim
+  dim-code : (p : Request) (a b : Breakdown) (l : Layout) (k : ℕ) → HasFields c p →
+      is_kernel p (size_of a * size_of b) ≡ true →
+      layout_cost p.weight p.modulus (if is_kernel p (size_of a * size_of b) then work (node_work p (node Dim a b))
+      else l) ≡ cost_in p (node Dim a b) →
+      CountsAs c (works k (node_work p (node Dim a b)) false) (pass_of p (trees.nodes k (node Dim a b) false))
+  dim-code p a b l k like short cost =
+      pass-counts p (works k (node_work p (node Dim a b)) false) (trees.nodes k (node Dim a b) false) like
+      (kernel-matches c.size p Dim a b l k short cost, refl)
+
+  all-in : (p : Request) (count : ℕ) (t : Breakdown) → HasFields c p → IsNodeTree p t → is_plain p ≡ true →
+      AllCount c (passes_of count (layout_of p t)) (passes_in p count t)
+  all-in p count (leaf d) like h plain =
+      node-counts p count (leaf d) like (flat p (leaf d) h (plain-fits p (leaf d) plain) h.tree.0)
+  all-in p count (node Gt a b) like h plain =
+      node-counts p count (node Gt a b) like
+      (flat p (node Gt a b) h (plain-fits p (node Gt a b) plain) h.tree.2.0)
+  all-in p count (node Ct a b) like h plain =
+      node-counts p count (node Ct a b) like
+      (flat p (node Ct a b) h (plain-fits p (node Ct a b) plain) h.tree.2.0)
+  all-in p count (node Split a b) like h plain =
+      node-counts p count (node Split a b) like
+      (flat p (node Split a b) h (plain-fits p (node Split a b) plain) h.tree.2.0)
+  all-in p count (node Dim a b) like h plain =
+      let d = size_of a * size_of b in
+      let first = left_tree p Dim a b h in
+      let rest = right_tree p Dim a b h in
+      let on_first = fields-both c p (first_of p) like (left_fields p Dim a b h) in
+      let on_rest = fields-both c p (rest_of p) like (right_fields p Dim a b h) in
+      let cost = layouts_cost p (node Dim a b) h (plain-fits p (node Dim a b) plain) in
+      dim-pick p a b (layout_of (first_of p) a) (layout_of (rest_of p) b) (layouts_have_size (first_of p) a)
+      (layouts_have_size (rest_of p) b)
+      (λ k. node-counts (first_of p) k a on_first
+      (flat (first_of p) a first (left_fits p Dim a b h) (first_is_one p h.tree.2.0)))
+      (λ k. all-in (rest_of p) k b on_rest rest (rest_is_part p h.tree.2.0).plain) count (node_root p d)
+      (node_work p (node Dim a b)) (is_kernel p d) (nat_le d p.unroll) (alone-kernel p d plain)
+      (λ short. dim-code p a b (by Dim (node_root p d) (layout_of (first_of p) a) (layout_of (rest_of p) b)) count like
+      short cost)
+
+-- ---- the whole, of one size
+
+-- a request that is no inverse has its own passes
+open-passes : (kind : Kind) (p : Request) (t : Breakdown) → kind ≢ Idft →
+    map (pass_of (forward_by kind p)) (closed_by kind (trees.whole_passes (forward_by kind p) t))
+    ≡ map (pass_of p) (trees.whole_passes p t)
+open-passes Dft p t forward = refl
+open-passes Wht p t forward = refl
+open-passes Idft p t forward = absurd (forward refl)
+
+no-inverse-leaf : (kind : Kind) (d : ℕ) → AllowsLeaf kind d → kind ≢ Idft
+no-inverse-leaf kind d h is = subst (λ k. AllowsLeaf k d) is h
+
+no-inverse-rule : (kind : Kind) (rule : Rule) (r s : ℕ) → AllowsRule kind rule r s → kind ≢ Idft
+no-inverse-rule kind rule r s h is = subst (λ k. AllowsRule k rule r s) is h
+
+-- the whole tree
+whole-tree : (p : Request) (t : Breakdown) → IsForwardTree p t → IsNodeTree p t
+whole-tree p t h = record {
+  valid = h.valid;
+  tree = h.tree;
+  divides = ap (λ n. p.size % n) h.size ∙ mod_self p.size;
+}
+
+itself : (p : Request) → HasFields p p
+itself p = record { modulus = refl; weight = refl }
+
+flat-counts : (p : Request) (t : Breakdown) → IsForwardTree p t → p.dimensions ≡ One → p.kind ≢ Idft →
+    AllCount p (whole_passes p.lanes (layout_of p t)) (flat_passes p t)
+flat-counts p t h one forward =
+    subst (AllCount p (whole_passes p.lanes (layout_of p t))) (sym (open-passes p.kind p t forward))
+    (all-count p p (whole_passes p.lanes (layout_of p t)) (trees.whole_passes p t) (itself p)
+    (flat_root_passes p.size p t (flat p p t (whole-tree p t h) (λ is shared. h.root shared) one) h.size))
+
+-- ---- several dimensions
+
+module _ (p : Request) (a b : Breakdown) (h : IsForwardTree p (node Dim a b)) where
+  abbrev d : ℕ
+  d = size_of a * size_of b
+
+  abbrev first : Request
+  first = first_of p
+
+  abbrev rest : Request
+  rest = rest_of p
+
+  tree : IsNodeTree p (node Dim a b)
+  tree = whole-tree p (node Dim a b) h
+
+  on-first : (k : ℕ) → AllCount p (passes_of k (layout_of first a)) (node_passes first k a)
+  on-first k =
+      node-counts p first k a (left_fields p Dim a b tree)
+      (flat p first a (left_tree p Dim a b tree) (left_fits p Dim a b tree) (first_is_one p h.tree.2.0))
+
+  on-rest : (k : ℕ) → AllCount p (passes_of k (layout_of rest b)) (passes_in rest k b)
+  on-rest k =
+      all-in p rest k b (right_fields p Dim a b tree) (right_tree p Dim a b tree) (rest_is_part p h.tree.2.0).plain
+
+  alone : is_plain p ≡ true → AllCount p (passes_of 1 (layout_of p (node Dim a b))) (passes_in p 1 (node Dim a b))
+  alone plain = all-in p p 1 (node Dim a b) (itself p) tree plain
+
+  one-lane : is_plain p ≡ true → nat_le p.lanes 1 ≡ true
+  one-lane plain = grind (arith, nat_tests)
+
+  by-lanes : (one : Bool) → nat_le p.lanes 1 ≡ one → is_plain p ≡ true →
+      AllCount p (if one then passes_of 1 (layout_of p (node Dim a b)) else tiled_passes (layout_of p (node Dim a b)))
+      (passes_in p 1 (node Dim a b))
+  by-lanes true is plain = alone plain
+  by-lanes false is plain = let clash : true ≡ false = sym (one-lane plain) ∙ is in absurd (cc)
+
+  shared-root : (z : Bool) (l : Layout) → z ≡ false →
+      AllCount p (whole_passes p.lanes l) (shared_passes p a b) →
+      AllCount p (whole_passes p.lanes (if z then work (node_work p (node Dim a b)) else l)) (shared_passes p a b)
+  shared-root true l e k = absurd (cc)
+  shared-root false l e k = k
+
+  dim-whole : (plain : Bool) → is_plain p ≡ plain →
+      AllCount p (whole_passes p.lanes (layout_of p (node Dim a b)))
+      (if plain then passes_in p 1 (node Dim a b) else shared_passes p a b)
+  dim-whole true is = by-lanes (nat_le p.lanes 1) refl is
+  dim-whole false is =
+      shared-root (is_kernel p d) (by Dim (node_root p d) (layout_of first a) (layout_of rest b))
+      (not-kernel p d h.size is)
+      (shared-pick p p a b (layout_of first a) (layout_of rest b) (layouts_have_size first a) (layouts_have_size rest b)
+      on-first on-rest (node_root p d) (nat_le p.lanes 1))
+
+pub layouts_count : LayoutsCount
+layouts_count p (leaf d) h = flat-counts p (leaf d) h h.tree.0 (no-inverse-leaf p.kind d h.tree.1)
+layouts_count p (node Gt a b) h =
+    flat-counts p (node Gt a b) h h.tree.2.0 (no-inverse-rule p.kind Gt (size_of a) (size_of b) h.tree.2.1)
+layouts_count p (node Ct a b) h =
+    flat-counts p (node Ct a b) h h.tree.2.0 (no-inverse-rule p.kind Ct (size_of a) (size_of b) h.tree.2.1)
+layouts_count p (node Split a b) h =
+    flat-counts p (node Split a b) h h.tree.2.0 (no-inverse-rule p.kind Split (size_of a) (size_of b) h.tree.2.1)
+layouts_count p (node Dim a b) h = dim-whole p a b h (is_plain p) refl

@@ -1,0 +1,195 @@
+-- The places of the left part of a shared root: those of the part alone, in the copies that processors, lanes and loops name.
+use Rattle.std.proofs.Common.{◌≡◌, ℕ, ◌+◌, ◌*◌, ◌/◌, ◌<◌, ◌≤◌, arith, refl, sym, ap, ap₂, ◌∙◌, List, [], ◌∷◌, ◌++◌, length, if◌then◌else◌, subst, mul_comm}
+use Rattle.std.specs.Prelude.{◌==◌, map, Option, None, Some}
+use Rattle.std.specs.Option.{option_map}
+use Rattle.index_fn.specs.Mapping.{Mapping}
+use Rattle.operators.specs.declared.target.Target.{Target}
+use Rattle.sigma_spl.specs.Limits.{AreSeveral}
+use Rattle.perm_algebra.specs.Affine.{Sum, constant, variable, scaled, joined, Divided, simplified}
+use Rattle.perm_algebra.specs.Room.{CanScale, CanJoin, HasRoomFor}
+use Rattle.perm_algebra.proofs.AffineLaws.{top-scaled}
+use Rattle.perm_algebra.proofs.Shape.{divided-joined}
+use Rattle.perm_algebra.proofs.Sizes.{joined-end, scaled-one}
+use Rattle.sigma_lower.specs.TreeLoops.Merge.{PlainDiagonal, PlainPass}
+use Rattle.sigma_lower.specs.TreeLoops.Placed.{Fits, IsCarried, place_sum, AreCounts, all_simplified, diagonal_places, IsLimitedPass}
+use Rattle.sigma_lower.proofs.TreeLoops.InCopies.{placed, AreCopies, placed-fits}
+use Rattle.sigma_lower.proofs.TreeLoops.LineMoves.{LeadsTo, AreThree, leads-none, leads-step, leads-join, leads-same, dealt-leads}
+use Rattle.sigma_lower.proofs.TreeLoops.Moved.{placed-columns}
+use Rattle.sigma_lower.proofs.TreeLoops.PlaceLimits.{IsMultiplied, IsPlacedPass}
+use Rattle.sigma_lower.proofs.TreeLoops.PlaceRoom.{can_scale, can_join, can_divide}
+use Rattle.sigma_lower.proofs.TreeLoops.PlaceSums.{parts-fit, size-positive}
+use Rattle.sigma_lower.proofs.TreeLoops.RightPlaces.{wide-all}
+use Rattle.sigma_lower.proofs.TreeLoops.RootPasses.{on_all, if_dealt, left_diagonal, left_pass}
+use Rattle.sigma_lower.proofs.TreeLoops.RootShares.{AreShares, columns_some, tiles_are, tiles_fill, dealt_small, columns_high, rows_high}
+use Rattle.sigma_lower.proofs.TreeLoops.Staying.{StaysIn, stays-begin, carried-end, carried-push}
+use Rattle.sigma_lower.proofs.TreeLoops.WithinPlaces.{size-all, simplified-within, room-within, natural-placed, natural-copies}
+use Rattle.sigma_lower.specs.TreeTerms.Root.{left_path}
+use Rattle.sigma_spl.specs.Work.{work_size}
+use Rattle.sigma_lower.specs.TreeTerms.Wrapped.{inner_of}
+use Rattle.operators.specs.declared.tensor_paths.Tensor.TheVariants.{Blocks, Columns}
+use Rattle.operators.specs.TensorPaths.Path.{Path, grown, size_under}
+
+-- ---- a longer path
+
+pub size_under-append : (path more : Path) (n : ℕ) → size_under (path ++ more) n ≡ size_under path (size_under more n)
+size_under-append [] more n = refl
+size_under-append (t ∷ path) more n = ap (grown t) (size_under-append path more n)
+
+pub place_sum-append : (path more : Path) (n d : ℕ) (e : Sum) → place_sum (path ++ more) n d e ≡ place_sum path (size_under more n) d (place_sum more n (d + length path) e)
+place_sum-append [] more n d e = ap (λ i. place_sum more n i e) (omega arith)
+place_sum-append (Blocks c ∷ path) more n d e =
+    ap₂ (λ size g. joined (scaled size (variable 1 d (constant 0))) g) (size_under-append path more n)
+    (place_sum-append path more n (d + 1) e ∙ ap (λ i. place_sum path (size_under more n) (d + 1) (place_sum more n i e)) (omega arith))
+place_sum-append (Columns c ∷ path) more n d e =
+    ap (λ g. joined (scaled c g) (variable 1 d (constant 0))) (place_sum-append path more n (d + 1) e ∙ ap (λ i. place_sum path (size_under more n) (d + 1) (place_sum more n i e)) (omega arith))
+
+pub counts-append : (path more : Path) (n d : ℕ) (cs : ℕ → ℕ) → AreCounts (path ++ more) n d cs → AreCounts path (size_under more n) d cs × AreCounts more n (d + length path) cs
+counts-append [] more n d cs h = (size-positive more n d cs h, subst (λ i. AreCounts more n i cs) (omega arith) h)
+counts-append (Blocks c ∷ path) more n d cs h =
+    let inner = counts-append path more n (d + 1) cs h.2 in ((h.0, h.1, inner.0), subst (λ i. AreCounts more n i cs) (omega arith) inner.1)
+counts-append (Columns c ∷ path) more n d cs h =
+    let inner = counts-append path more n (d + 1) cs h.2 in ((h.0, h.1, inner.0), subst (λ i. AreCounts more n i cs) (omega arith) inner.1)
+
+-- ---- diagonals
+
+some-is : {A : Type 0} (a b : A) → ◌≡◌ {A = Option A} (Some a) (Some b) → a ≡ b
+some-is a b e = cc
+
+-- what is mapped to something is something
+pub mapped-some : {A B : Type 0} (f : A → B) (o : Option A) (x : B) → option_map f o ≡ Some x → (d : A) × (o ≡ Some d) × (f d ≡ x)
+mapped-some f None x e = absurd (cc)
+mapped-some f (Some d) x e = (d, refl, some-is (f d) x e)
+
+-- ---- a pass of the part alone, in all copies
+
+module _ (size p v m s : ℕ) (h : AreShares size p v m s) where
+  abbrev three : Path
+  three = Blocks p ∷ Columns v ∷ Columns (s / p / v) ∷ []
+
+  abbrev whole : Path
+  whole = Columns v ∷ Columns (s / v) ∷ []
+
+  left_whole : size_under three m ≡ size
+  left_whole = let columns : m * s ≡ m * (p * (v * (s / p / v))) = ap (λ k. m * k) h.columns in omega (arith, h.product, columns)
+
+  pub left_fills : size_under (left_path p v s) m ≡ size
+  left_fills = size-all three m ∙ left_whole
+
+  pub left_wide : AreSeveral (left_path p v s)
+  left_wide = wide-all three (h.procs, (h.lanes, (columns_some size p v m s h, tt)))
+
+  whole_fills : size_under whole m ≡ size
+  whole_fills = let columns : m * (v * (s / v)) ≡ m * s = ap (λ k. m * k) (tiles_fill size p v m s h) in omega (arith, h.product, columns)
+
+  -- the sums of the lane, and of the processor and the loop together
+  pub record Spread (cs : ℕ → ℕ) (d : ℕ) : Type 0 where
+    pub lane : Sum
+    pub column : Sum
+    pub copies : AreCopies whole (lane ∷ column ∷ []) cs
+    pub dealt : (k : ℕ) (e : Sum) → k ≡ p * m → Fits m e cs → LeadsTo cs size (if_dealt k p v m s) (place_sum (left_path p v s) m d e) (placed whole m (lane ∷ column ∷ []) e)
+
+  pub spread : (cs : ℕ → ℕ) (d : ℕ) → AreCounts (left_path p v s) m d cs → Spread cs d
+  spread cs d counts =
+      let k : ℕ = s / p / v in
+      let q : Sum = if p == 1 then constant 0 else variable 1 d (constant 0) in
+      let d1 : ℕ = if p == 1 then d else d + 1 in
+      let l : Sum = if v == 1 then constant 0 else variable 1 d1 (constant 0) in
+      let d2 : ℕ = if v == 1 then d1 else d1 + 1 in
+      let j : Sum = if k == 1 then constant 0 else variable 1 d2 (constant 0) in
+      let named = natural-copies three m d cs counts in
+      let both : AreThree cs p v k q l j = record { processor = named.0; lane = named.1.0; other = named.1.1.0 } in
+      let column : Sum = joined (scaled k q) j in
+      let fits : Fits (s / v) column cs = subst (λ i. Fits i column cs) (sym (tiles_are size p v m s h ∙ mul_comm k p)) (parts-fit p k q j cs (columns_some size p v m s h) named.0 named.1.1.0) in
+      record {
+        lane = l;
+        column = column;
+        copies = (named.1.0, (fits, tt));
+        dealt = λ i e is inside.
+            leads-same cs size (if_dealt i p v m s) (place_sum (left_path p v s) m d e) _ _ (natural-placed three m d e)
+            (subst (LeadsTo cs size (if_dealt i p v m s) (placed three m (q ∷ l ∷ j ∷ []) e))
+            (ap (λ g. joined (scaled v g) l) (placed-columns k p [] m j q [] e ∙ ap (λ c. placed (Columns c ∷ []) m (column ∷ []) e) (sym (tiles_are size p v m s h))))
+            (dealt-leads p v k m size i q l j e cs both inside is left_whole h.whole.high (dealt_small size p v m s h)));
+      }
+
+  -- what a permutation of the m words does to the places of all copies
+  pub mapped-leads : (cs : ℕ → ℕ) (us : List Sum) (fs : List Mapping) (e : Sum) → AreCopies whole us cs → StaysIn cs m fs e → LeadsTo cs size (map (on_all v m s) fs) (placed whole m us e) (placed whole m us (all_simplified cs fs e))
+  mapped-leads cs us [] e copies stays = leads-none cs size (placed whole m us e) (placed whole m us e) (subst (λ n. Fits n (placed whole m us e) cs) whole_fills (placed-fits whole m us e cs copies stays)) refl
+  mapped-leads cs us (f ∷ fs) e copies stays =
+      let here = placed whole m us e in
+      let made : Fits m (simplified cs f e) cs = stays-begin cs m fs (simplified cs f e) stays.2 in
+      leads-step cs size (on_all v m s f) (map (on_all v m s) fs) here here (placed whole m us (simplified cs f e)) _ refl
+      (subst (λ n. Fits n here cs) whole_fills (placed-fits whole m us e cs copies stays.0))
+      (room-within whole m us f e cs copies stays.0 made (omega (arith, whole_fills, h.whole.high)) stays.1)
+      (simplified-within whole m us f e cs copies stays.0)
+      (mapped-leads cs us fs (simplified cs f e) copies stays.2)
+
+  -- functions of the part alone, at the natural place under its path and the root's
+  pub part-leads : (cs : ℕ → ℕ) (path : Path) (fs : List Mapping) (n k : ℕ) (e : Sum) (sp : Spread cs 0) → size_under path n ≡ m → k ≡ p * m → StaysIn cs m fs (place_sum path n (0 + length (left_path p v s)) e) →
+      LeadsTo cs size (if_dealt k p v m s ++ map (on_all v m s) fs) (place_sum (left_path p v s ++ path) n 0 e)
+      (placed whole m (sp.lane ∷ sp.column ∷ []) (all_simplified cs fs (place_sum path n (0 + length (left_path p v s)) e)))
+  part-leads cs path fs n k e sp fills is stays =
+      let inner = place_sum path n (0 + length (left_path p v s)) e in
+      let same : place_sum (left_path p v s ++ path) n 0 e ≡ place_sum (left_path p v s) m 0 inner =
+      place_sum-append (left_path p v s) path n 0 e ∙ ap (λ i. place_sum (left_path p v s) i 0 inner) fills in
+      leads-same cs size (if_dealt k p v m s ++ map (on_all v m s) fs) _ _ _ same
+      (leads-join cs size (if_dealt k p v m s) (map (on_all v m s) fs) _ _ _ (sp.dealt k inner is (stays-begin cs m fs inner stays)) (mapped-leads cs (sp.lane ∷ sp.column ∷ []) fs inner sp.copies stays))
+
+  -- ---- within the limits
+
+  -- the item of its copy, at the place in all copies
+  inner-whole : (cs : ℕ → ℕ) (sp : Spread cs 0) (path : Path) (n : ℕ) (y : Sum) → Fits m y cs → n ≤ 1048576 → HasRoomFor cs (inner_of path n) y → Fits n (simplified cs (inner_of path n) y) cs →
+      (simplified cs (inner_of (Columns s ∷ path) n) (placed whole m (sp.lane ∷ sp.column ∷ []) y) ≡ simplified cs (inner_of path n) y) × HasRoomFor cs (inner_of (Columns s ∷ path) n) (placed whole m (sp.lane ∷ sp.column ∷ []) y)
+  inner-whole cs sp path n y fits low room made =
+      let u : Sum = joined (scaled v sp.column) sp.lane in
+      let z : Sum = simplified cs (inner_of path n) y in
+      let fit : Fits s u cs = subst (λ i. Fits i u cs) (mul_comm (s / v) v ∙ tiles_fill size p v m s h) (parts-fit (s / v) v sp.column sp.lane cs h.lanes sp.copies.1.0 sp.copies.0) in
+      let some : 0 < s = omega (arith, h.right) in
+      let high : s ≤ 1048576 = omega (arith, columns_high size p v m s h) in
+      let same : placed whole m (sp.lane ∷ sp.column ∷ []) y ≡ joined (scaled s y) u =
+      placed-columns v (s / v) [] m sp.lane sp.column [] y ∙ ap (λ c. joined (scaled c y) u) (tiles_fill size p v m s h) in
+      let apart = divided-joined s y u cs some fit.proper fit.small in
+      let is : simplified cs (inner_of (Columns s ∷ path) n) (joined (scaled s y) u) ≡ z =
+      ap (λ (d : Divided). joined (scaled 1 (simplified cs (inner_of path n) d.quot)) (constant 0)) apart ∙ joined-end (scaled 1 z) ∙ scaled-one z in (
+        ap (simplified cs (inner_of (Columns s ∷ path) n)) same ∙ is,
+        subst (HasRoomFor cs (inner_of (Columns s ∷ path) n)) (sym same) (
+          can_divide s y u cs some (omega arith) fit.proper fit.small,
+          subst (λ (d : Divided). HasRoomFor cs (inner_of path n) d.quot) (sym apart) room,
+          tt,
+          subst (λ (d : Divided). CanScale 1 (simplified cs (inner_of path n) d.quot)) (sym apart) (can_scale 1 z cs made.proper (omega (arith, made.small))),
+          subst (λ (d : Divided). CanJoin (scaled 1 (simplified cs (inner_of path n) d.quot)) (constant 0)) (sym apart) (can_join (scaled 1 z) (constant 0) cs (omega (arith, top-scaled 1 z cs, made.small))),
+        ),
+      )
+
+  -- the places of a diagonal within the part are those in all copies
+  left_multiplied : (cs : ℕ → ℕ) (sp : Spread cs 0) (q : PlainPass) (e : Sum) (o : PlainDiagonal) → size_under q.path (work_size q.work) ≡ m → IsMultiplied cs m q o (0 + length (left_path p v s)) e → o.rows * o.cols ≤ m →
+      IsCarried cs size (o.rows * o.cols) (diagonal_places (left_diagonal p v m s o)) (place_sum (left_path p v s ++ q.path) (work_size q.work) 0 e)
+  left_multiplied cs sp q e o fills part within =
+      let n : ℕ = work_size q.work in
+      let rc : ℕ = o.rows * o.cols in
+      let from : Sum = place_sum (left_path p v s ++ q.path) n 0 e in
+      let inner : Sum = place_sum q.path n (0 + length (left_path p v s)) e in
+      let places : List Mapping = if_dealt (m * p) p v m s ++ map (on_all v m s) o.places in
+      let item : Mapping = inner_of (Columns s ∷ o.path) rc in
+      let lead = part-leads cs q.path o.places n (m * p) e sp fills (mul_comm m p) part.stays in
+      let at_item = inner-whole cs sp o.path rc (all_simplified cs o.places inner) (carried-end cs m m o.places inner part.stays) (omega (arith, within, rows_high size p v m s h)) part.room part.fits in
+      carried-push cs size rc places item from lead.stays (subst (HasRoomFor cs item) (sym lead.is) at_item.1) (subst (λ g. Fits rc g cs) (sym (ap (simplified cs item) lead.is ∙ at_item.0)) part.fits)
+
+  -- a pass of the part alone within the limits is so in all copies
+  pub left_limited : (c : Target) (q : PlainPass) → c.size ≡ size → size_under q.path (work_size q.work) ≡ m → IsPlacedPass m [] m q → IsLimitedPass c (left_pass p v m s q)
+  left_limited c q sized fills placed_part cs e counts fits name =
+      let n : ℕ = work_size q.work in
+      let d : ℕ = 0 + length (left_path p v s) in
+      let split = counts-append (left_path p v s) q.path n 0 cs counts in
+      let sp : Spread cs 0 = spread cs 0 (subst (λ i. AreCounts (left_path p v s) i 0 cs) fills split.0) in
+      let from : Sum = place_sum (left_path p v s ++ q.path) n 0 e in
+      let befores : List Mapping = if_dealt (p * m) p v m s ++ map (on_all v m s) q.befores in
+      let afters : List Mapping = if_dealt (m * p) p v m s ++ map (on_all v m s) q.afters in
+      record {
+        loads = subst (λ i. IsCarried cs i i befores from) (sym sized) (part-leads cs q.path q.befores n (p * m) e sp fills refl (placed_part.gathers cs d e split.1 fits)).stays;
+        stores = subst (λ i. IsCarried cs i i afters from) (sym sized) (part-leads cs q.path q.afters n (m * p) e sp fills (mul_comm m p) (placed_part.scatters.stays cs d e split.1 fits)).stays;
+        factors = λ o is.
+            let found = mapped-some (left_diagonal p v m s) q.diagonal o is in
+            let part = placed_part.multiplies found.0 found.1 in
+            subst (λ x. IsCarried cs c.size (x.rows * x.cols) (diagonal_places x) from) found.2
+            (subst (λ i. IsCarried cs i (found.0.rows * found.0.cols) (diagonal_places (left_diagonal p v m s found.0)) from) (sym sized) (left_multiplied cs sp q e found.0 fills (part.0 cs d e split.1 fits) part.1));
+      }

@@ -1,0 +1,121 @@
+-- The loops of a phase's term are its passes, the latest first, so each pass of a layout is one nest.
+use Rattle.std.proofs.Common.{◌≡◌, refl, sym, ap, ap₂, ◌∙◌, List, [], ◌∷◌, ◌++◌, Some}
+use Rattle.std.specs.Prelude.{map, reverse}
+use Rattle.std.proofs.lemmas.List.{map-append, reverse-append, reverse-reverse}
+use Rattle.sigma_lower.specs.Merged.{AllHaveLoops, phase_passes}
+use Rattle.sigma_lower.specs.Order.{AllLoops}
+use Rattle.sigma_lower.specs.Shared.{embed, phase_term}
+use Rattle.sigma_lower.proofs.HaveLoops.{phases_have_loops}
+use Rattle.sigma_lower.proofs.Ordered.{trees_are_loops}
+use Rattle.index_fn.specs.Mapping.{Mapping}
+use Rattle.sigma_lower.specs.TreeLoops.Merge.{PlainPass, Merging, new_pass, scattered, multiplied, at_last, merge_term, merged, passes_of_terms}
+use Rattle.sigma_lower.specs.TreeLoops.Nests.{loop_of, LoopsListed, TreeNests}
+use Rattle.operators.specs.declared.target.Target.{Target}
+use Rattle.sigma_spl.specs.Loops.{PlainLoop, Looping, stored_last, scaled_last, looped, loops_in, one_nest}
+use Rattle.sigma_spl.specs.Merged.{PlainMerged}
+use Rattle.sigma_spl.specs.Nest.{PlainFactors, PlainNest, factor_count, twiddles, inner_of}
+use Rattle.sigma_lower.specs.TreeTerms.Term.{PlainTerm, gath, scat, diag, nest, lowered_of}
+use Rattle.operators.specs.TensorPaths.Path.{Path}
+
+-- ---- the first of a list from its end
+
+abbrev at_first : (PlainLoop → PlainLoop) → List PlainLoop → List PlainLoop
+at_first g [] = []
+at_first g (p ∷ ps) = g p ∷ ps
+
+reverse-first : (p : PlainLoop) (ps : List PlainLoop) → reverse (p ∷ ps) ≡ reverse ps ++ p ∷ []
+reverse-first p ps = reverse-append (p ∷ []) ps
+
+first-of : (g : PlainLoop → PlainLoop) (ps : List PlainLoop) (p q : PlainLoop) → at_first g ((ps ++ p ∷ []) ++ q ∷ []) ≡ at_first g (ps ++ p ∷ []) ++ q ∷ []
+first-of g [] p q = refl
+first-of g (o ∷ ps) p q = refl
+
+first-more : (g : PlainLoop → PlainLoop) (p : PlainLoop) (ps : List PlainLoop) (q : PlainLoop) → at_first g (reverse (p ∷ ps) ++ q ∷ []) ≡ at_first g (reverse (p ∷ ps)) ++ q ∷ []
+first-more g p ps q =
+    ap (λ xs. at_first g (xs ++ q ∷ [])) (reverse-first p ps) ∙ first-of g (reverse ps) p q ∙ ap (λ xs. at_first g xs ++ q ∷ []) (sym (reverse-first p ps))
+
+-- a change of the last pass is one of the first loop
+at_last-first : (f : PlainPass → PlainPass) (g : PlainLoop → PlainLoop) → ((p : PlainPass) → g (loop_of p) ≡ loop_of (f p)) → (ps : List PlainPass) →
+    at_first g (reverse (map loop_of ps)) ≡ reverse (map loop_of (at_last f ps))
+at_last-first f g same [] = refl
+at_last-first f g same (p ∷ []) = ap (λ q. q ∷ []) (same p)
+at_last-first f g same (p ∷ q ∷ ps) =
+    let rest = map loop_of ps in
+    ap (at_first g) (reverse-first (loop_of p) (loop_of q ∷ rest))
+    ∙ first-more g (loop_of q) rest (loop_of p)
+    ∙ ap (λ xs. xs ++ loop_of p ∷ []) (at_last-first f g same (q ∷ ps))
+    ∙ sym (reverse-first (loop_of p) (map loop_of (at_last f (q ∷ ps))))
+
+-- ---- each term
+
+abbrev looping_of : Merging → Looping
+looping_of st = record { waiting = st.waiting; loops = reverse (map loop_of st.passes) }
+
+abbrev stored_by : Mapping → PlainLoop → PlainLoop
+stored_by f p = record { path = p.path; work = p.work; befores = p.befores; taken = p.taken; afters = p.afters ++ f ∷ [] }
+
+stored-first : (f : Mapping) (ps : List PlainLoop) → stored_last f ps ≡ at_first (stored_by f) ps
+stored-first f [] = refl
+stored-first f (p ∷ ps) = refl
+
+abbrev scaled_by : Path → PlainFactors → PlainLoop → PlainLoop
+scaled_by path factors p =
+    record { path = p.path; work = p.work; befores = p.befores; taken = Some (record { factors = factors; places = p.afters ++ inner_of path (factor_count factors) ∷ [] }); afters = p.afters }
+
+scaled-first : (path : Path) (factors : PlainFactors) (ps : List PlainLoop) → scaled_last path factors ps ≡ at_first (scaled_by path factors) ps
+scaled-first path factors [] = refl
+scaled-first path factors (p ∷ ps) = refl
+
+new-first : (ps : List PlainPass) (p : PlainPass) → loop_of p ∷ reverse (map loop_of ps) ≡ reverse (map loop_of (ps ++ p ∷ []))
+new-first ps p = sym (ap reverse (map-append loop_of ps (p ∷ [])) ∙ reverse-append (map loop_of ps) (loop_of p ∷ []))
+
+abbrev with_loops : List Mapping → List PlainLoop → Looping
+with_loops waiting loops = record { waiting = waiting; loops = loops }
+
+one-term : (st : Merging) (t : PlainTerm) → looped (looping_of st) (embed t) ≡ looping_of (merge_term st t)
+one-term st (gath f) = refl
+one-term st (scat f) =
+    ap (with_loops st.waiting) (stored-first f (reverse (map loop_of st.passes)) ∙ at_last-first (scattered f) (stored_by f) (λ p. refl) st.passes)
+one-term st (diag path r s w) =
+    let factors = twiddles r s w in
+    ap (with_loops st.waiting) (scaled-first path factors (reverse (map loop_of st.passes)) ∙ at_last-first (multiplied path r s w) (scaled_by path factors) (λ p. refl) st.passes)
+one-term st (nest path w) = ap (with_loops []) (new-first st.passes (new_pass path w st.waiting))
+
+all-terms : (st : Merging) (ts : List PlainTerm) → looped (looping_of st) (phase_term ts) ≡ looping_of (merged st ts)
+all-terms st [] = refl
+all-terms st (t ∷ ts) = ap (λ l. looped l (phase_term ts)) (one-term st t) ∙ all-terms (merge_term st t) ts
+
+pub loops_listed : LoopsListed
+loops_listed ts = ap (λ (l : Looping). l.loops) (all-terms (record { waiting = []; passes = [] }) ts)
+
+-- ---- the passes of a phase
+
+map-reverse : (ps : List PlainLoop) → map one_nest (reverse ps) ≡ reverse (map one_nest ps)
+map-reverse [] = refl
+map-reverse (p ∷ ps) =
+    ap (map one_nest) (reverse-first p ps)
+    ∙ map-append one_nest (reverse ps) (p ∷ [])
+    ∙ ap (λ qs. qs ++ one_nest p ∷ []) (map-reverse ps)
+    ∙ sym (reverse-append (one_nest p ∷ []) (map one_nest ps))
+
+maps : (ps : List PlainPass) → map one_nest (map loop_of ps) ≡ map (λ p. one_nest (loop_of p)) ps
+maps [] = refl
+maps (p ∷ ps) = ap (λ qs. one_nest (loop_of p) ∷ qs) (maps ps)
+
+-- the nests of a phase's loops, the earliest first
+pub phase-nests : (ts : List PlainTerm) → reverse (map one_nest (loops_in (phase_term ts))) ≡ map (λ p. one_nest (loop_of p)) (passes_of_terms ts)
+phase-nests ts =
+    let loops = map loop_of (passes_of_terms ts) in
+    ap (λ ps. reverse (map one_nest ps)) (loops_listed ts)
+    ∙ ap reverse (map-reverse loops)
+    ∙ reverse-reverse (map one_nest loops)
+    ∙ maps (passes_of_terms ts)
+
+phases-nests : (c : Target) (phases : List (List PlainTerm)) → AllHaveLoops c phases → AllLoops c phases → map (phase_passes c) phases ≡ map (map (λ p. one_nest (loop_of p))) (map passes_of_terms phases)
+phases-nests c [] have loops = refl
+phases-nests c (ts ∷ more) have loops = ap₂ (λ ps rest. ps ∷ rest) (ap reverse (loops.0 have.0) ∙ phase-nests ts) (phases-nests c more have.1 loops.1)
+
+pub tree_nests : TreeNests
+tree_nests c l machine shares good =
+    ap (λ (phases : List (List (List PlainNest))). let g : PlainMerged = record { size = c.size; procs = c.procs; lanes = c.lanes; phases = phases } in g)
+    (phases-nests c (lowered_of c l) (phases_have_loops c l machine shares good) (trees_are_loops c l machine shares good))

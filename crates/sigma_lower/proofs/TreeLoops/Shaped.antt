@@ -1,0 +1,95 @@
+-- The passes of a layout: their paths have factors of at least 2, round works of the layout.
+use Rattle.std.proofs.Common.{◌≡◌, ℕ, ◌*◌, ◌≤◌, ◌∙◌, List, [], ◌∷◌, ◌++◌, subst}
+use Rattle.std.specs.Prelude.{Some}
+use Rattle.index_fn.specs.Mapping.{Mapping}
+use Rattle.sigma_lower.specs.TreeLoops.Merge.{PlainDiagonal, PlainPass, new_pass, scattered, multiplied, at_last}
+use Rattle.sigma_lower.proofs.TreeLoops.PlaceLimits.{none_is_some, multiplied-is}
+use Rattle.sigma_lower.proofs.TreeLoops.TreePasses.{rule_waiting, rule_passes, layout_passes}
+use Rattle.kernel_gen.specs.Kernel.{CanMake}
+use Rattle.sigma_spl.specs.Limits.{AreSeveral}
+use Rattle.sigma_spl.proofs.Several.{several-push}
+use Rattle.sigma_spl.specs.Work.{PlainWork, kernel, rows, horner, tile, copy, work_size}
+use Rattle.tree_model.specs.Trees.{trees_size}
+use Rattle.smp_rewrite.specs.LayoutSteps.Layout.{Layout, work, by, layout_size, IsGoodWork, IsGoodLayout}
+use Rattle.operators.specs.declared.tensor_paths.Tensor.TheVariants.{Blocks, Columns}
+use Rattle.operators.specs.TensorPaths.Path.{Path, size_under}
+use Rattle.operators.proofs.TensorPaths.Under.{size_under-push}
+use Rattle.tree_model.specs.declared.tree.Rule.{Rule}
+use Rattle.tree_model.specs.declared.tree.Rule.TheVariants.{Gt, Ct, Split, Dim}
+
+-- each work of the layout is such
+abbrev pub HasWorks : (PlainWork → Type 0) → Layout → Type 0
+HasWorks P (work w) = P w
+HasWorks P (by rule root a b) = HasWorks P a × HasWorks P b
+
+-- a work of a good layout, or a tile
+abbrev pub IsShapedWork : ℕ → PlainWork → Type 0
+IsShapedWork m (kernel trees) = (1 ≤ trees_size trees) × CanMake m trees
+IsShapedWork m (rows root size) = IsGoodWork m (rows root size)
+IsShapedWork m (horner root size) = ⊥
+IsShapedWork m (tile v) = Unit {0}
+IsShapedWork m (copy size) = ⊥
+
+shaped-work : (m : ℕ) (w : PlainWork) → 1 ≤ work_size w → IsGoodWork m w → IsShapedWork m w
+shaped-work m (kernel trees) some h = (some, h)
+shaped-work m (rows root size) some h = h
+shaped-work m (horner root size) some h = absurd h
+shaped-work m (tile v) some h = absurd h
+shaped-work m (copy size) some h = absurd h
+
+pub shaped_works : (m : ℕ) (l : Layout) → IsGoodLayout m l → HasWorks (IsShapedWork m) l
+shaped_works m (work w) h = shaped-work m w h.0 h.1
+shaped_works m (by rule root a b) h = (shaped_works m a h.1, shaped_works m b h.2)
+
+-- the copies fill so many words, and so do those of a diagonal; and the work is such
+pub record IsShaped (P : PlainWork → Type 0) (size : ℕ) (p : PlainPass) : Type 0 where
+  pub wide : AreSeveral p.path
+  pub fills : size_under p.path (work_size p.work) ≡ size
+  pub work : P p.work
+  pub multiplies : (d : PlainDiagonal) → p.diagonal ≡ Some d → size_under d.path (d.rows * d.cols) ≡ size
+
+abbrev pub AreShaped : (PlainWork → Type 0) → ℕ → List PlainPass → Type 0
+AreShaped P size [] = Unit {0}
+AreShaped P size (p ∷ ps) = IsShaped P size p × AreShaped P size ps
+
+pub shaped-append : (P : PlainWork → Type 0) (size : ℕ) (ps qs : List PlainPass) → AreShaped P size ps → AreShaped P size qs → AreShaped P size (ps ++ qs)
+shaped-append P size [] qs h k = k
+shaped-append P size (p ∷ ps) qs h k = (h.0, shaped-append P size ps qs h.1 k)
+
+pub shaped-last : (P : PlainWork → Type 0) (size : ℕ) (f : PlainPass → PlainPass) (ps : List PlainPass) → ((p : PlainPass) → IsShaped P size p → IsShaped P size (f p)) → AreShaped P size ps → AreShaped P size (at_last f ps)
+shaped-last P size f [] step h = tt
+shaped-last P size f (p ∷ []) step h = (step p h.0, tt)
+shaped-last P size f (p ∷ q ∷ ps) step h = (h.0, shaped-last P size f (q ∷ ps) step h.1)
+
+pub new-shaped : (P : PlainWork → Type 0) (size : ℕ) (path : Path) (waiting : List Mapping) (w : PlainWork) → AreSeveral path → size_under path (work_size w) ≡ size → P w → IsShaped P size (new_pass path w waiting)
+new-shaped P size path waiting w wide fills does = record { wide = wide; fills = fills; work = does; multiplies = λ d e. absurd (none_is_some d e) }
+
+pub scattered-shaped : (P : PlainWork → Type 0) (size : ℕ) (f : Mapping) (p : PlainPass) → IsShaped P size p → IsShaped P size (scattered f p)
+scattered-shaped P size f p h = record { wide = h.wide; fills = h.fills; work = h.work; multiplies = h.multiplies }
+
+pub multiplied-shaped : (P : PlainWork → Type 0) (size : ℕ) (path : Path) (r s w : ℕ) (p : PlainPass) → size_under path (r * s) ≡ size → IsShaped P size p → IsShaped P size (multiplied path r s w p)
+multiplied-shaped P size path r s w p fills h =
+    record {
+      wide = h.wide;
+      fills = h.fills;
+      work = h.work;
+      multiplies = λ d e. subst (λ (z : PlainDiagonal). size_under z.path (z.rows * z.cols) ≡ size) (multiplied-is path r s w p.afters d e) fills;
+    }
+
+shaped_rule : (P : PlainWork → Type 0) (size : ℕ) (rule : Rule) (path : Path) (r s w : ℕ) (left right : List PlainPass) → size_under path (r * s) ≡ size → AreShaped P size left → AreShaped P size right →
+    AreShaped P size (rule_passes rule path r s w left right)
+shaped_rule P size Gt path r s w left right fills l k = shaped-append P size right _ k (shaped-last P size _ left (λ p h. scattered-shaped P size _ p h) l)
+shaped_rule P size Ct path r s w left right fills l k = shaped-append P size _ left (shaped-last P size (multiplied path r s w) right (λ p h. multiplied-shaped P size path r s w p fills h) k) l
+shaped_rule P size Split path r s w left right fills l k = shaped-append P size right left k l
+shaped_rule P size Dim path r s w left right fills l k = shaped-append P size right left k l
+
+pub shaped_passes : (P : PlainWork → Type 0) (m size : ℕ) (path : Path) (waiting : List Mapping) (l : Layout) → AreSeveral path → IsGoodLayout m l →
+    HasWorks P l → size_under path (layout_size l) ≡ size → AreShaped P size (layout_passes path waiting l)
+shaped_passes P m size path waiting (work w) wide h all e = (new-shaped P size path waiting w wide e all, tt)
+shaped_passes P m size path waiting (by rule root a b) wide h all e =
+    let r = layout_size a in
+    let s = layout_size b in
+    shaped_rule P size rule path r s root _ _ e
+    (shaped_passes P m size (path ++ Columns s ∷ []) [] a (several-push path (Columns s) wide h.0.right) h.1 all.0 (size_under-push path (Columns s) r ∙ e))
+    (shaped_passes P m size (path ++ Blocks r ∷ []) (rule_waiting rule path r s waiting) b (several-push path (Blocks r) wide h.0.left) h.2 all.1
+    (size_under-push path (Blocks r) s ∙ e))

@@ -1,0 +1,294 @@
+-- In each phase of a layout every line belongs to one processor.
+use Rattle.std.proofs.Common.{◌≡◌, ℕ, ◌+◌, ◌*◌, ◌/◌, ◌%◌, ◌<◌, ◌≤◌, Bool, true, false, arith, refl, sym, ap, ◌∙◌, [], ◌∷◌, ◌++◌, if◌then◌else◌, subst, inl, inr, append-nil, mod-lt, mul_comm}
+use Rattle.std.specs.Prelude.{◌==◌, map}
+use Rattle.std.proofs.lemmas.Bool.{cases_eq}
+use Rattle.index_fn.specs.Mapping.{Mapping, Strided, ThomasIn, ThomasBack, at}
+use Rattle.operators.specs.declared.target.Target.{Target}
+use Rattle.operators.specs.Operator.{stride}
+use Rattle.operators.proofs.Lists.{factor_positive}
+use Rattle.operators.proofs.Places.{stride_below}
+use Rattle.sigma_lower.specs.TreeLoops.Merge.{Merging, merge_term, merged, passes_of_terms, merged_phases}
+use Rattle.sigma_lower.specs.TreeTerms.Root.{right_path, left_path, whole_path, tile_path, turned_in, vectors_grouped, tiled_before, tiled_after, lines_moved, vectors_turned, lines_dealt, left_core, left_terms, right_terms, in_phases, root_terms, SharedTerms}
+use Rattle.sigma_lower.specs.TreeTerms.Term.{gath, scat, diag, nest, lowered}
+use Rattle.sigma_spl.specs.Work.{PlainWork, tile, work_size}
+use Rattle.sigma_lower.specs.TreeTerms.Wrapped.{wrapped, unit_of}
+use Rattle.sigma_lower.proofs.TreeTerms.Permuted.{StaysBelow}
+use Rattle.sigma_lower.specs.TreeLoops.SharedPasses.Shared.{ArePhasesShared, PhasesAreShared}
+use Rattle.sigma_lower.proofs.TreeLoops.SharedPasses.Merging.{nothing, merged-append, after, as_lowered, merged-lowered, merged-emitted, Keeps, steps-finish}
+use Rattle.sigma_lower.proofs.TreeLoops.SharedPasses.Naturals.{within-append}
+use Rattle.sigma_lower.proofs.TreeLoops.SharedPasses.Owners.{KeepsOwner, First, first-gath, first-scat, first-diag, first-nest, Shared, shared-gath, shared-scat, shared-diag, shared-dealt, alone-phases}
+use Rattle.sigma_lower.proofs.TreeLoops.SharedPasses.Shares.{fits-of, AreShares, shares, block-of, row-block, column-block, block_owner, column_owner, block-owner, column-owner, OwnsNatural, block-natural, block-keeps, columns-keeps, both-columns, stays-in_column, dealt-owner}
+use Rattle.smp_rewrite.specs.Smp.{within}
+use Rattle.smp_rewrite.proofs.Dealt.{not_alone}
+use Rattle.smp_rewrite.proofs.Tensors.{size-within}
+use Rattle.smp_rewrite.specs.LayoutSteps.Step.{steps_of}
+use Rattle.operators.specs.declared.tensor_paths.Tensor.TheVariants.{Blocks, Columns}
+use Rattle.operators.specs.TensorPaths.Path.{Path, size_under, place}
+use Rattle.tree_model.specs.declared.tree.Rule.{Rule}
+use Rattle.tree_model.specs.declared.tree.Rule.TheVariants.{Gt, Ct, Split, Dim}
+use Rattle.smp_rewrite.specs.Fits.{RuleHasParts, RootHasParts, CanShareLayout}
+use Rattle.smp_rewrite.specs.LayoutSteps.Layout.{Layout, work, by, layout_size, IsGoodLayout}
+use Rattle.vec_rewrite.proofs.StepFollows.{unequal, within-wide}
+
+-- ---- permutations stay below their sizes
+
+stride-stays : (r s : ℕ) → StaysBelow (r * s) (at (Strided r s))
+stride-stays r s i below = (stride_below r s i below).1
+
+thomas_in-stays : (r s : ℕ) → StaysBelow (r * s) (at (ThomasIn r s))
+thomas_in-stays r s i below = mod-lt _ (omega (arith, below))
+
+thomas_back-stays : (r s e g : ℕ) → StaysBelow (r * s) (at (ThomasBack r s e g))
+thomas_back-stays r s e g i below = mod-lt _ (omega (arith, below))
+
+-- ---- the first phase: blocks of n / p words
+
+several-path : (c : Target) (rest : Path) → 1 < c.procs → within (Blocks c.procs) rest ≡ Blocks c.procs ∷ rest
+several-path c rest several = within-wide (Blocks c.procs) rest (λ one. omega (arith, one, several))
+
+first-keeps : (c : Target) (rest : Path) (n : ℕ) (f : Mapping) → 1 < c.procs → 1 ≤ c.size → c.procs * size_under rest n ≡ c.size → StaysBelow n (at f) → KeepsOwner (block_owner c) (wrapped (Blocks c.procs ∷ rest) n f)
+first-keeps c rest n f several low e stays =
+    let size : c.size / c.procs ≡ size_under rest n = block-of c (size_under rest n) several e in
+    let positive : 0 < c.size / c.procs = rw size (factor_positive c.procs (size_under rest n) 0 (omega (arith, e, low))) in
+    block-keeps (c.size / c.procs) c.procs rest n f (sym size) positive stays
+
+first-lowered : (c : Target) (rest : Path) → 1 < c.procs → 1 ≤ c.size → Keeps c.modulus (Blocks c.procs ∷ rest) c.size as_lowered (First c (block_owner c)) (First c (block_owner c))
+first-lowered c rest several low =
+    let owner = block_owner c in
+    let all = λ (path : Path). Blocks c.procs ∷ (rest ++ path) in
+    record {
+      ready = λ st h. h;
+      pieces = λ path w st good e h. first-nest c owner st (all path) w (block-natural c (rest ++ path) (work_size w) several e) h;
+      turned = λ path r s st e h. first-gath c owner st (wrapped (all path) (r * s) (Strided r s)) (first-keeps c (rest ++ path) (r * s) (Strided r s) several low e (stride-stays r s)) h;
+      twiddled = λ path r s w st e h. first-diag c owner st (all path) r s w h;
+      gathered = λ path r s st e h. first-gath c owner st (wrapped (all path) (r * s) (ThomasIn r s)) (first-keeps c (rest ++ path) (r * s) (ThomasIn r s) several low e (thomas_in-stays r s)) h;
+      scattered = λ path r s st e h.
+          first-scat c owner st (wrapped (all path) (r * s) (ThomasBack r s (unit_of r s) (unit_of s r)))
+          (first-keeps c (rest ++ path) (r * s) (ThomasBack r s (unit_of r s) (unit_of s r)) several low e (thomas_back-stays r s (unit_of r s) (unit_of s r))) h;
+    }
+
+-- the lowered steps of the right part
+first-steps : (c : Target) (r : ℕ) (b : Layout) (st : Merging) → IsGoodLayout c.modulus b → AreShares c r (layout_size b) → First c (block_owner c) st →
+    First c (block_owner c) (merged st (map lowered (steps_of (right_path c.procs c.lanes r) b)))
+first-steps c r b st good h k =
+    let owner = block_owner c in
+    let p = c.procs in
+    let v = c.lanes in
+    let s = layout_size b in
+    let blocks = within (Blocks (r / p / v)) [] in
+    let rest = within (Columns v) blocks in
+    let size : size_under rest s ≡ r / p * s = size-within (Columns v) blocks s ∙ ap (λ n. n * v) (size-within (Blocks (r / p / v)) [] s) ∙ omega arith ∙ ap (λ n. n * s) (sym h.row_vectors) in
+    let path : Blocks p ∷ (rest ++ []) ≡ right_path p v r = ap (λ z. Blocks p ∷ z) (append-nil rest) ∙ sym (several-path c rest h.several) in
+    let whole : size_under (Blocks p ∷ (rest ++ [])) s ≡ c.size = ap (λ z. size_under (Blocks p ∷ z) s) (append-nil rest) ∙ ap (λ n. p * n) size ∙ row-block c r s h in
+    subst (First c owner) (sym (merged-lowered st (steps_of (right_path p v r) b)))
+    (subst (λ z. First c owner (after as_lowered st (steps_of z b))) path (steps-finish c.modulus (Blocks p ∷ rest) c.size as_lowered (First c owner) (First c owner) [] b (first-lowered c rest h.several h.low) good whole st k))
+
+-- ---- tiles
+
+tiles-natural : (c : Target) (r s : ℕ) → AreShares c r s → OwnsNatural c (tile_path c.procs c.lanes r s) (c.lanes * c.lanes) (block_owner c)
+tiles-natural c r s h =
+    let p = c.procs in
+    let v = c.lanes in
+    let inner = within (Blocks (s / v)) [] in
+    let rest = within (Blocks (r / p / v)) inner in
+    let size : size_under rest (v * v) ≡ r / p * s =
+    size-within (Blocks (r / p / v)) inner (v * v) ∙ ap (λ n. r / p / v * n) (size-within (Blocks (s / v)) [] (v * v)) ∙ omega arith ∙ ap (λ n. n * (s / v * v)) (sym h.row_vectors) ∙ ap (λ n. r / p * n) (sym h.vectors) in
+    subst (λ z. OwnsNatural c z (v * v) (block_owner c)) (sym (several-path c rest h.several))
+    (block-natural c rest (v * v) h.several (ap (λ n. p * n) size ∙ row-block c r s h))
+
+grouped-keeps : (c : Target) (size r s : ℕ) → size ≡ s → StaysBelow size (at (Strided (s / c.lanes) c.lanes)) → AreShares c r s → KeepsOwner (block_owner c) (vectors_grouped size c.procs c.lanes r s)
+grouped-keeps c size r s e stays h =
+    let p = c.procs in
+    let v = c.lanes in
+    let f = Strided (s / v) v in
+    let inner = within (Blocks (r / p / v)) [] in
+    let rest = within (Blocks p) inner in
+    let part = r / p / v * s in
+    let positive : 0 < v = omega (arith, h.lanes) in
+    let width : size_under inner size ≡ part = size-within (Blocks (r / p / v)) [] size ∙ ap (λ n. r / p / v * n) e in
+    let block : v * part ≡ c.size / p = omega arith ∙ ap (λ n. n * s) (sym h.row_vectors) ∙ sym (block-of c (r / p * s) h.several (row-block c r s h)) in
+    let low : 1 ≤ c.size = h.low in
+    let whole : p * (v * part) ≡ c.size = ap (λ n. p * n) (omega arith ∙ ap (λ n. n * s) (sym h.row_vectors)) ∙ row-block c r s h in
+    let some : 0 < v * part = factor_positive p (v * part) 0 (omega (arith, whole, low)) in
+    let filled : 0 < part = factor_positive v part 0 some in
+    let keeps : (i : ℕ) → at (wrapped rest size f) i / part ≡ i / part =
+    subst (λ z. (i : ℕ) → at (wrapped z size f) i / part ≡ i / part) (sym (several-path c inner h.several)) (block-keeps part p inner size f width filled stays) in
+    subst (λ b. (i : ℕ) → at (vectors_grouped size p v r s) i / b ≡ i / b) block (columns-keeps part v rest size f positive keeps)
+
+grouped-before : (c : Target) (r s : ℕ) → AreShares c r s → KeepsOwner (block_owner c) (vectors_grouped (s / c.lanes * c.lanes) c.procs c.lanes r s)
+grouped-before c r s h = grouped-keeps c (s / c.lanes * c.lanes) r s (sym h.vectors) (stride-stays (s / c.lanes) c.lanes) h
+
+grouped-after : (c : Target) (r s : ℕ) → AreShares c r s → KeepsOwner (block_owner c) (vectors_grouped (c.lanes * (s / c.lanes)) c.procs c.lanes r s)
+grouped-after c r s h =
+    let turned = mul_comm (s / c.lanes) c.lanes in
+    grouped-keeps c (c.lanes * (s / c.lanes)) r s (sym (h.vectors ∙ turned)) (subst (λ n. StaysBelow n (at (Strided (s / c.lanes) c.lanes))) turned (stride-stays (s / c.lanes) c.lanes)) h
+
+before-pick : (c : Target) (owner : ℕ → ℕ) (b : Bool) (st : Merging) (path : Path) (w : PlainWork) (f : Mapping) → KeepsOwner owner f → OwnsNatural c path (work_size w) owner → First c owner st →
+    First c owner (merged st (if b then [] else gath f ∷ nest path w ∷ []))
+before-pick c owner true st path w f k l h = h
+before-pick c owner false st path w f k l h = first-nest c owner (merge_term st (gath f)) path w l (first-gath c owner st f k h)
+
+first-before : (c : Target) (r s : ℕ) (st : Merging) → AreShares c r s → First c (block_owner c) st → First c (block_owner c) (merged st (tiled_before c.procs c.lanes r s))
+first-before c r s st h k =
+    before-pick c (block_owner c) (c.lanes == 1) st (tile_path c.procs c.lanes r s) (tile c.lanes) (vectors_grouped (s / c.lanes * c.lanes) c.procs c.lanes r s) (grouped-before c r s h) (tiles-natural c r s h) k
+
+after-pick : (c : Target) (owner : ℕ → ℕ) (b : Bool) (st : Merging) (path : Path) (w : PlainWork) (f : Mapping) → KeepsOwner owner f → OwnsNatural c path (work_size w) owner → First c owner st →
+    First c owner (merged st (if b then [] else nest path w ∷ scat f ∷ []))
+after-pick c owner true st path w f k l h = h
+after-pick c owner false st path w f k l h = first-scat c owner (merge_term st (nest path w)) f k (first-nest c owner st path w l h)
+
+first-after : (c : Target) (r s : ℕ) (st : Merging) → AreShares c r s → First c (block_owner c) st → First c (block_owner c) (merged st (tiled_after c.procs c.lanes r s))
+first-after c r s st h k =
+    after-pick c (block_owner c) (c.lanes == 1) st (tile_path c.procs c.lanes r s) (tile c.lanes) (vectors_grouped (c.lanes * (s / c.lanes)) c.procs c.lanes r s) (grouped-after c r s h) (tiles-natural c r s h) k
+
+-- what waits for the first pass is free
+turned-pick : (c : Target) (owner : ℕ → ℕ) (b : Bool) (f g : Mapping) → First c owner (merged nothing ((if b then [] else gath f ∷ []) ++ gath g ∷ []))
+turned-pick c owner true f g = (tt, tt)
+turned-pick c owner false f g = (tt, tt)
+
+first-root : (c : Target) (rule : Rule) (w : ℕ) (a b : Layout) → RuleHasParts c rule (layout_size a) (layout_size b) → IsGoodLayout c.modulus b → AreShares c (layout_size a) (layout_size b) →
+    First c (block_owner c) (merged nothing (right_terms c.procs c.lanes rule w a b))
+first-root c Gt w a b fits good h = absurd fits
+first-root c Ct w a b fits good h =
+    let owner = block_owner c in
+    let r = layout_size a in
+    let s = layout_size b in
+    let turned = turned_in c.procs c.lanes r s in
+    let steps = map lowered (steps_of (right_path c.procs c.lanes r) b) in
+    let tiles = tiled_after c.procs c.lanes r s in
+    let one = merged nothing turned in
+    let two = merged one steps in
+    let three = merged two tiles in
+    let whole = merged-append nothing turned (steps ++ (tiles ++ diag [] r s w ∷ [])) ∙ merged-append one steps (tiles ++ diag [] r s w ∷ []) ∙ merged-append two tiles (diag [] r s w ∷ []) in
+    let begun : First c owner one = turned-pick c owner (c.procs == 1) (lines_moved c.procs c.lanes r s) (vectors_turned c.procs c.lanes r s) in
+    subst (First c owner) (sym whole) (first-diag c owner three [] r s w (first-after c r s two h (first-steps c r b one good h begun)))
+first-root c Split w a b fits good h =
+    let owner = block_owner c in
+    let r = layout_size a in
+    let s = layout_size b in
+    let before = tiled_before c.procs c.lanes r s in
+    let steps = map lowered (steps_of (right_path c.procs c.lanes r) b) in
+    let tiles = tiled_after c.procs c.lanes r s in
+    let one = merged nothing before in
+    let two = merged one steps in
+    let whole = merged-append nothing before (steps ++ tiles) ∙ merged-append one steps tiles in
+    subst (First c owner) (sym whole) (first-after c r s two h (first-steps c r b one good h (first-before c r s nothing h (tt, tt))))
+first-root c Dim w a b fits good h =
+    let owner = block_owner c in
+    let r = layout_size a in
+    let s = layout_size b in
+    let before = tiled_before c.procs c.lanes r s in
+    let steps = map lowered (steps_of (right_path c.procs c.lanes r) b) in
+    let tiles = tiled_after c.procs c.lanes r s in
+    let one = merged nothing before in
+    let two = merged one steps in
+    let whole = merged-append nothing before (steps ++ tiles) ∙ merged-append one steps tiles in
+    subst (First c owner) (sym whole)
+    (first-after c r s two h (first-steps c r b one good h (first-before c r s nothing h (tt, tt))))
+
+-- ---- the second phase: s / p columns of each row
+
+whole-keeps : (c : Target) (r s : ℕ) (path : Path) (n : ℕ) (f : Mapping) → AreShares c r s → KeepsOwner (column_owner c s) (wrapped (whole_path c.lanes s ++ path) n f)
+whole-keeps c r s path n f h =
+    let v = c.lanes in
+    let inner = within (Columns (s / v)) [] in
+    let low : 1 ≤ c.size = h.low in
+    let positive : 0 < s = factor_positive r s 0 (omega (arith, h.size, low)) in
+    let hv : 0 < v = omega (arith, h.lanes) in
+    let wide = h.vectors in
+    let hw : 0 < s / v = factor_positive v (s / v) 0 (omega (arith, positive, wide)) in
+    let shape : whole_path v s ++ path ≡ within (Columns v) (within (Columns (s / v)) path) = within-append (Columns v) inner path ∙ ap (within (Columns v)) (within-append (Columns (s / v)) [] path) in
+    subst (λ z. KeepsOwner (column_owner c s) (wrapped z n f)) (sym shape)
+    (stays-in_column c s (at (wrapped path n f)) (at (wrapped (within (Columns v) (within (Columns (s / v)) path)) n f)) positive (both-columns v (s / v) s path n f hv hw (sym wide)))
+
+dealt-natural : (c : Target) (m s size n : ℕ) (path : Path) → AreShares c m s → OwnsNatural c path n (block_owner c) → OwnsNatural c path n (λ i. column_owner c s (at (lines_dealt size c.procs c.lanes m s) i))
+dealt-natural c m s size n path h natural q vs k below range head inside =
+    let p = c.procs in
+    let v = c.lanes in
+    let u = s / p in
+    let f = Strided p m in
+    let i = place path n vs k in
+    let low : 1 ≤ c.size = h.low in
+    let some : 0 < s = factor_positive m s 0 (omega (arith, h.size, low)) in
+    let parts : s ≡ p * u = h.columns.parts in
+    let positive : 0 < u = factor_positive p u 0 (omega (arith, parts, some)) in
+    let hv : 0 < v = omega (arith, h.lanes) in
+    let wide : u ≡ u / v * v = h.column_vectors in
+    let hw : 0 < u / v = factor_positive v (u / v) 0 (omega (arith, positive, wide)) in
+    let dealt : at (lines_dealt size p v m s) i ≡ stride p m (i / u) * u + i % u = both-columns v (u / v) u [] size f hv hw (sym wide) i in
+    let block : c.size / p ≡ u * m = block-of c (u * m) h.several (column-block c m s h) in
+    let here : i / (u * m) ≡ q = ap (λ b. i / b) (sym block) ∙ natural q vs k below range head inside in
+    ap (λ x. x % s / u) dealt ∙ ap (λ z. (stride p m (i / u) * u + i % u) % z / u) parts ∙ dealt-owner p m u i positive (omega (arith, here, below)) ∙ here
+
+left-natural : (c : Target) (m s : ℕ) (path : Path) (n : ℕ) → AreShares c m s → size_under path n ≡ m → OwnsNatural c (left_path c.procs c.lanes s ++ path) n (block_owner c)
+left-natural c m s path n h e =
+    let p = c.procs in
+    let v = c.lanes in
+    let columns = within (Columns (s / p / v)) [] in
+    let rest = within (Columns v) (within (Columns (s / p / v)) path) in
+    let shape : left_path p v s ++ path ≡ Blocks p ∷ rest =
+    within-append (Blocks p) (within (Columns v) columns) path
+    ∙ ap (within (Blocks p)) (within-append (Columns v) columns path ∙ ap (within (Columns v)) (within-append (Columns (s / p / v)) [] path))
+    ∙ several-path c rest h.several in
+    let size : size_under rest n ≡ s / p * m =
+    size-within (Columns v) (within (Columns (s / p / v)) path) n
+    ∙ ap (λ k. k * v) (size-within (Columns (s / p / v)) path n ∙ ap (λ k. k * (s / p / v)) e)
+    ∙ omega arith
+    ∙ ap (λ k. k * m) (sym h.column_vectors) in
+    subst (λ z. OwnsNatural c z n (block_owner c)) (sym shape) (block-natural c rest n h.several (ap (λ k. p * k) size ∙ column-block c m s h))
+
+left-keeps : (c : Target) (m s : ℕ) → AreShares c m s → Keeps c.modulus [] m (left_core c.procs c.lanes m s) (Shared c (column_owner c s)) (Shared c (column_owner c s))
+left-keeps c m s h =
+    let p = c.procs in
+    let v = c.lanes in
+    let owner = column_owner c s in
+    let one : (p == 1) ≡ false = unequal p (λ e. omega (arith, e, h.several)) in
+    let outer = λ (path : Path). left_path p v s ++ path in
+    let dealt = λ (path : Path) (n size : ℕ) (e : size_under path n ≡ m). dealt-natural c m s size n (left_path p v s ++ path) h (left-natural c m s path n h e) in
+    record {
+      ready = λ st k. k;
+      pieces = λ path w st good e k.
+          subst (λ b. Shared c owner (merged st (if b then nest (outer path) w ∷ [] else gath (lines_dealt (p * m) p v m s) ∷ nest (outer path) w ∷ scat (lines_dealt (m * p) p v m s) ∷ [])))
+          (sym one)
+          (shared-dealt c owner st (outer path) w (lines_dealt (p * m) p v m s) (lines_dealt (m * p) p v m s) (dealt path (work_size w) (p * m) e) (dealt path (work_size w) (m * p) e) k);
+      turned = λ path a b st e k. shared-gath c owner st (wrapped (whole_path v s ++ path) (a * b) (Strided a b)) (whole-keeps c m s path (a * b) (Strided a b) h) k;
+      twiddled = λ path a b w st e k. shared-diag c owner st (Columns s ∷ path) a b w k;
+      gathered = λ path a b st e k. shared-gath c owner st (wrapped (whole_path v s ++ path) (a * b) (ThomasIn a b)) (whole-keeps c m s path (a * b) (ThomasIn a b) h) k;
+      scattered = λ path a b st e k.
+          shared-scat c owner st (wrapped (whole_path v s ++ path) (a * b) (ThomasBack a b (unit_of a b) (unit_of b a))) (whole-keeps c m s path (a * b) (ThomasBack a b (unit_of a b) (unit_of b a)) h) k;
+    }
+
+second-root : (c : Target) (s : ℕ) (a : Layout) → IsGoodLayout c.modulus a → AreShares c (layout_size a) s → Shared c (column_owner c s) (merged nothing (left_terms c.procs c.lanes (layout_size a) s (steps_of [] a)))
+second-root c s a good h =
+    let owner = column_owner c s in
+    let emit = left_core c.procs c.lanes (layout_size a) s in
+    subst (Shared c owner) (sym (merged-emitted emit nothing (steps_of [] a))) (steps-finish c.modulus [] (layout_size a) emit (Shared c owner) (Shared c owner) [] a (left-keeps c (layout_size a) s h) good refl nothing (tt, tt))
+
+-- ---- the root
+
+root-phases : (c : Target) (l : Layout) → CanShareLayout c l → IsGoodLayout c.modulus l → 1 < c.procs → RootHasParts c l → ArePhasesShared c (map passes_of_terms (root_terms c l))
+root-phases c (work w) can good several fits = absurd fits
+root-phases c (by rule w a b) can good several fits =
+    let r = layout_size a in
+    let s = layout_size b in
+    let first = right_terms c.procs c.lanes rule w a b in
+    let second = left_terms c.procs c.lanes r s (steps_of [] a) in
+    let here : AreShares c r s = shares c (by rule w a b) r s can several (fits-of c rule r s fits) can.size in
+    let phases : in_phases c.procs first second ≡ first ∷ second ∷ [] =
+    ap (λ b. if b then (first ++ second) ∷ [] else first ∷ second ∷ []) (unequal c.procs (λ one. omega (arith, one, several))) in
+    subst (λ ts. ArePhasesShared c (map passes_of_terms ts)) (sym phases) (
+      record { owner = block_owner c; is_owner = block-owner c r s here; owns = (first-root c rule w a b fits good.2 here).0 },
+      (record { owner = column_owner c s; is_owner = column-owner c r s can.line here; owns = (second-root c s a good.1 here).0 }, tt),
+    )
+
+-- by the law of terms
+pub phases_are_shared : SharedTerms → PhasesAreShared
+phases_are_shared shared c l can good =
+    elim (cases_eq c.procs 1) [
+      | inl one ↦ alone-phases c (merged_phases c l) can.procs one
+      | inr many ↦
+          let low : 1 ≤ c.procs = can.procs in
+          let several : 1 < c.procs = omega (arith, low, many) in
+          let several_either = not_alone c several in
+          subst (λ ts. ArePhasesShared c (map passes_of_terms ts)) (sym (shared c l can good several_either)) (root-phases c l can good several (can.root several_either))
+    ]
