@@ -10,7 +10,7 @@ use Rattle.operators.proofs.Lists.{length-list_below, list_below-same_rows, row-
 use Rattle.ring_mod.proofs.LastResidue.{last_times}
 use Rattle.kernel_gen.specs.declared.straight.Instruction.TheVariants.{Neg, Mul}
 use Rattle.kernel_gen.specs.Making.{factor_make, diagonal_make}
-use Rattle.kernel_gen.specs.Kernel.{product_cost}
+use Rattle.tree_model.specs.KernelCosts.{product_cost}
 use Rattle.kernel_gen.proofs.Below.{AllBelow}
 use Rattle.kernel_gen.proofs.Pieces.{Does, DoesAt, piece, does-as, does-size}
 use Rattle.kernel_gen.proofs.Rows.{in_rows}

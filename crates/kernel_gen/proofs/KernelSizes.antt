@@ -16,7 +16,7 @@ use Rattle.tree_model.specs.declared.tree.Rule.TheVariants.{Gt, Ct, Split, Dim}
 use Rattle.tree_model.specs.Breakdown.{Breakdown, leaf, node, size_of, AllowsLeaf, IsWellFormed}
 use Rattle.tree_model.proofs.CostBounds.{sum_le_product}
 use Rattle.tree_model.proofs.Sizes.{one_le_size_of}
-use Rattle.kernel_gen.specs.Kernel.{CanMake, product_cost, products_cost, rule_cost, kernel_cost, trees_cost}
+use Rattle.tree_model.specs.KernelCosts.{CanMake, product_cost, products_cost, rule_cost, kernel_cost, trees_cost}
 
 -- ---- products
 

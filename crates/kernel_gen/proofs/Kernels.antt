@@ -11,7 +11,8 @@ use Rattle.matrix_meaning.specs.Kind.{transform}
 use Rattle.operators.specs.Sum.{list_below}
 use Rattle.operators.proofs.Lists.{length-list_below, at-list_below}
 use Rattle.tree_model.specs.Breakdown.{Breakdown, leaf, node, size_of, IsWellFormed}
-use Rattle.kernel_gen.specs.Kernel.{IsRoot, AllowsRoot, tree_make, kernel_of, kernel_cost}
+use Rattle.kernel_gen.specs.Kernel.{tree_make, kernel_of}
+use Rattle.tree_model.specs.KernelCosts.{IsRoot, AllowsRoot, kernel_cost}
 use Rattle.kernel_gen.specs.Instructions.{actions_by}
 use Rattle.kernel_gen.specs.Kernels.{IsStraight, TransformsBy}
 use Rattle.kernel_gen.proofs.Below.{AllBelow, AllBelow-all, AllBelow-at}

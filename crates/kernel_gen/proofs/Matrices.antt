@@ -9,7 +9,7 @@ use Rattle.operators.specs.Sum.{sum_below, list_below}
 use Rattle.operators.proofs.Lists.{length-list_below}
 use Rattle.operators.proofs.Sums.{sum_below-same, sum_below-add}
 use Rattle.kernel_gen.specs.Making.{row_make, matrix_make}
-use Rattle.kernel_gen.specs.Kernel.{product_cost, products_cost}
+use Rattle.tree_model.specs.KernelCosts.{product_cost, products_cost}
 use Rattle.kernel_gen.proofs.Below.{AllBelow}
 use Rattle.kernel_gen.proofs.Pieces.{Does, DoesAt, does_at-same, does-same, does-size, does-none, does-beside}
 use Rattle.kernel_gen.proofs.Rows.{sum_below-constant}

@@ -13,7 +13,7 @@ use Rattle.tree_model.specs.Cost.{is_plain, is_kernel, cost_of, leaf_cost, node_
 use Rattle.tree_model.specs.Cost as trees
 use Rattle.tree_model.proofs.Sizes.{one_le_size_of}
 use Rattle.tree_model.proofs.Splits.{div-product, below_product, other_below}
-use Rattle.kernel_gen.specs.Kernel.{rule_cost, kernel_cost}
+use Rattle.tree_model.specs.KernelCosts.{rule_cost, kernel_cost}
 
 -- a kernel is short
 pub kernel-short : (c : Request) (d : ℕ) → is_kernel c d ≡ true → nat_le d c.unroll ≡ true

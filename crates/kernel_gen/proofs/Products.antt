@@ -7,7 +7,8 @@ use Rattle.tree_model.specs.Trees.{PlainTrees, single, tensor, trees_size, trees
 use Rattle.tree_model.specs.Breakdown.{size_of}
 use Rattle.tree_model.proofs.Sizes.{one_le_size_of, word_sizes}
 use Rattle.tree_model.specs.declared.tree.Rule.TheVariants.{Split}
-use Rattle.kernel_gen.specs.Kernel.{CanMake, kernel_cost, node_make, tree_make, trees_cost, trees_kernel, trees_make}
+use Rattle.kernel_gen.specs.Kernel.{node_make, tree_make, trees_kernel, trees_make}
+use Rattle.tree_model.specs.KernelCosts.{CanMake, kernel_cost, trees_cost}
 use Rattle.kernel_gen.proofs.KernelSizes.{trees-positive}
 use Rattle.kernel_gen.proofs.Kernels.{does-any, firsts, firsts-below}
 use Rattle.kernel_gen.proofs.Pieces.{Does, DoesAt, does-same}

@@ -10,7 +10,8 @@ use Rattle.ring_mod.proofs.Powers.{power_mod_of_power}
 use Rattle.tree_model.specs.Breakdown.{Breakdown, size_of, IsWellFormed}
 use Rattle.tree_model.specs.Cost.{node_root}
 use Rattle.tree_model.proofs.Splits.{product_div}
-use Rattle.kernel_gen.specs.Kernel.{IsRoot, AllowsRoot, kernel_of, node_kernel}
+use Rattle.kernel_gen.specs.Kernel.{kernel_of, node_kernel}
+use Rattle.tree_model.specs.KernelCosts.{IsRoot, AllowsRoot}
 use Rattle.kernel_gen.specs.Making.{Made}
 use Rattle.kernel_gen.specs.Kernels.{TransformsNode, CostsNode, IsStraight}
 use Rattle.kernel_gen.proofs.Kernels.{root-any, kernels_transform, kernels_cost, kernels_straight}

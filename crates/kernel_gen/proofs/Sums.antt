@@ -11,7 +11,7 @@ use Rattle.ring_mod.proofs.LastResidue.{add_last_times}
 use Rattle.kernel_gen.specs.declared.straight.Instruction.TheVariants.{Add, Sub, Mul}
 use Rattle.kernel_gen.specs.Instructions.{action_by, code_effect, code_cost, AreWithin}
 use Rattle.kernel_gen.specs.Making.{Made, Term, term_make, sum_make}
-use Rattle.kernel_gen.specs.Kernel.{product_cost}
+use Rattle.tree_model.specs.KernelCosts.{product_cost}
 use Rattle.kernel_gen.proofs.Below.{AllBelow, AllBelow-more, map-agree}
 use Rattle.kernel_gen.proofs.Instructions.{AreWithin-more, AreWithin-append}
 use Rattle.kernel_gen.proofs.Pieces.{DoesAt, code_effect-append, code_cost-append, length-code}

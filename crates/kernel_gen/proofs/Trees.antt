@@ -25,7 +25,8 @@ use Rattle.ring_mod.proofs.Powers.{power_mod-zero, power_mod-part}
 use Rattle.tree_model.specs.declared.tree.Rule.TheVariants.{Gt, Ct, Split, Dim}
 use Rattle.tree_model.specs.Breakdown.{Breakdown, leaf, node, size_of, AllowsLeaf, IsWellFormed}
 use Rattle.kernel_gen.specs.Making.{Maker}
-use Rattle.kernel_gen.specs.Kernel.{IsRoot, node_make, tree_make, product_cost, rule_cost, kernel_cost}
+use Rattle.kernel_gen.specs.Kernel.{node_make, tree_make}
+use Rattle.tree_model.specs.KernelCosts.{IsRoot, product_cost, rule_cost, kernel_cost}
 use Rattle.kernel_gen.proofs.Pieces.{Does, Piece, piece, picked, joined, does-as}
 use Rattle.kernel_gen.proofs.Residues.{power_below, entry_below}
 use Rattle.kernel_gen.proofs.Rows.{sum_below-constant, in_rows, in_columns}

@@ -3,7 +3,7 @@ use Rattle.std.proofs.Common.{◌≡◌, ℕ, zero, suc, ◌+◌, ◌-◌, ◌*�
 use Rattle.std.proofs.Math.Nat.{pow-succ'}
 use Rattle.std.proofs.lemmas.Bool.{cases_eq, cases_lt}
 use Rattle.std.proofs.lemmas.Bool.Decides.{nat_tests}
-use Rattle.kernel_gen.specs.Kernel.{kernel_cost, product_cost}
+use Rattle.tree_model.specs.KernelCosts.{kernel_cost, product_cost}
 use Rattle.matrix_meaning.specs.declared.Kind.TheVariants.{Wht}
 use Rattle.matrix_meaning.specs.Kind.{IsPowerOfTwo}
 use Rattle.sigma_spl.specs.Counts.{term_cost}

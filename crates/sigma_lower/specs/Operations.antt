@@ -1,6 +1,6 @@
 -- The operations of a formula.
 use Rattle.std.specs.Prelude.{◌≡◌, ℕ, ◌+◌, ◌-◌, ◌*◌, ◌<◌, nat_le, if◌then◌else◌, length}
-use Rattle.kernel_gen.specs.Kernel.{products_cost}
+use Rattle.tree_model.specs.KernelCosts.{products_cost}
 use Rattle.matrix_meaning.specs.declared.Kind.TheVariants.{Dft}
 use Rattle.matrix_meaning.specs.Kind.{entry_of}
 use Rattle.sigma_spl.specs.Counts.{term_cost}

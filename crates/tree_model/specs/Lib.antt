@@ -3,6 +3,7 @@ pub mod Cost
 pub mod Order
 pub mod Text
 pub mod Trees
+pub mod KernelCosts
 pub mod Admissible
 pub mod Passes
 pub mod Inverses

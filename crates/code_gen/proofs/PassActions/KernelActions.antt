@@ -5,7 +5,8 @@ use Rattle.std.proofs.lemmas.List.{length-map}
 use Rattle.std.proofs.lemmas.List.Elements.{All-nil, All-cons}
 use Rattle.icode.proofs.CodeLaws.ByLane.{weight_of_one}
 use Rattle.kernel_gen.specs.Instructions.{AreWithin, IsWithin, action_by, actions_by, code_cost}
-use Rattle.kernel_gen.specs.Kernel.{CanMake, trees_cost, trees_kernel}
+use Rattle.kernel_gen.specs.Kernel.{trees_kernel}
+use Rattle.tree_model.specs.KernelCosts.{CanMake, trees_cost}
 use Rattle.kernel_gen.specs.declared.straight.Instruction.{Instruction}
 use Rattle.kernel_gen.specs.declared.straight.Instruction.TheVariants.{Add, Sub, Neg, Mul}
 use Rattle.kernel_gen.proofs.Instructions.{actions-operations, factors-fit}

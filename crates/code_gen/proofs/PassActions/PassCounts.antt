@@ -8,7 +8,8 @@ use Rattle.icode.specs.Machine.{counts_of, weighted}
 use Rattle.icode.proofs.CodeLaws.ByLane.{weighted_is_by_lane}
 use Rattle.icode.specs.CodeLaws.Nests.{nest}
 use Rattle.kernel_gen.specs.Instructions.{actions_by}
-use Rattle.kernel_gen.specs.Kernel.{trees_kernel, trees_cost}
+use Rattle.kernel_gen.specs.Kernel.{trees_kernel}
+use Rattle.tree_model.specs.KernelCosts.{trees_cost}
 use Rattle.kernel_gen.proofs.Products.{trees-does}
 use Rattle.code_gen.specs.PassActions.Acts.{load_at, copy_acts, nest_acts, pass_acts, term_acts, horner_acts}
 use Rattle.code_gen.specs.PassActions.Laws.{CanRun, CanRunNest, CanWork, IsFramed}

@@ -1,6 +1,6 @@
 -- What passes count.
 use Rattle.std.specs.Prelude.{ℕ, ◌+◌, ◌*◌, List, [], ◌∷◌}
-use Rattle.kernel_gen.specs.Kernel.{trees_cost}
+use Rattle.tree_model.specs.KernelCosts.{trees_cost}
 use Rattle.sigma_spl.specs.Counts.{copies_in}
 use Rattle.sigma_spl.specs.Counts as counts
 use Rattle.sigma_spl.specs.Nest.{PlainNest}

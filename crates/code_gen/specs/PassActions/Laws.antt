@@ -3,7 +3,7 @@ use Rattle.std.specs.Prelude.{◌≡◌, ◌≢◌, ℕ, ◌+◌, ◌*◌, ◌%�
 use Rattle.icode.specs.Actions.{RegistersFit, FactorsFit}
 use Rattle.icode.specs.declared.action.Action.{Action}
 use Rattle.icode.specs.Machine.{Local, effects, counts_of, weighted}
-use Rattle.kernel_gen.specs.Kernel.{CanMake}
+use Rattle.tree_model.specs.KernelCosts.{CanMake}
 use Rattle.ring_mod.specs.Residue.{power_mod}
 use Rattle.code_gen.specs.PassActions.Acts.{pass_acts, pass_registers}
 use Rattle.code_gen.specs.PassActions.Machine.{PlainMachine, if_several, values_of, item_of, lane_step, framed_lanes}

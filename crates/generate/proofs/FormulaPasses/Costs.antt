@@ -4,7 +4,8 @@ use Rattle.std.specs.Prelude.{◌==◌, max, nat_le, nat_lt}
 use Rattle.std.proofs.Math.Nat.{mul-le-mul, mul-le-mul_left, mul-le-mul_right}
 use Rattle.sigma_lower.specs.Operations as formulas
 use Rattle.sigma_lower.specs.Terms.{halvings}
-use Rattle.kernel_gen.specs.Kernel.{AllowsRoot, kernel_cost, kernel_of, product_cost, products_cost}
+use Rattle.kernel_gen.specs.Kernel.{kernel_of}
+use Rattle.tree_model.specs.KernelCosts.{AllowsRoot, kernel_cost, product_cost, products_cost}
 use Rattle.matrix_meaning.specs.declared.Kind.{Kind}
 use Rattle.matrix_meaning.specs.declared.Kind.TheVariants.{Dft, Wht, Idft}
 use Rattle.matrix_meaning.specs.Kind.{entry_of}

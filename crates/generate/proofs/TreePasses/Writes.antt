@@ -6,7 +6,8 @@ use Rattle.std.specs.List.{list_all}
 use Rattle.std.specs.Option.{option_map}
 use Rattle.index_fn.specs.Mapping.{Mapping}
 use Rattle.kernel_gen.proofs.KernelSizes.{trees-few}
-use Rattle.kernel_gen.specs.Kernel.{trees_cost, trees_kernel}
+use Rattle.kernel_gen.specs.Kernel.{trees_kernel}
+use Rattle.tree_model.specs.KernelCosts.{trees_cost}
 use Rattle.sigma_lower.specs.TreeLoops.Merge.{PlainDiagonal, PlainPass, through}
 use Rattle.sigma_lower.specs.TreeLoops.Nests.{loop_of, taken_of}
 use Rattle.sigma_lower.proofs.TreeLoops.LoopItems.{diagonal-size}

@@ -5,7 +5,7 @@ use Rattle.index_fn.specs.Mapping.{Mapping}
 use Rattle.sigma_lower.specs.TreeLoops.Merge.{PlainDiagonal, PlainPass, new_pass, scattered, multiplied, at_last}
 use Rattle.sigma_lower.proofs.TreeLoops.PlaceLimits.{none_is_some, multiplied-is}
 use Rattle.sigma_lower.proofs.TreeLoops.TreePasses.{rule_waiting, rule_passes, layout_passes}
-use Rattle.kernel_gen.specs.Kernel.{CanMake}
+use Rattle.tree_model.specs.KernelCosts.{CanMake}
 use Rattle.sigma_spl.specs.Limits.{AreSeveral}
 use Rattle.sigma_spl.proofs.Several.{several-push}
 use Rattle.sigma_spl.specs.Work.{PlainWork, kernel, rows, horner, tile, copy, work_size}

@@ -14,7 +14,7 @@ use Rattle.operators.proofs.Lists.{at-list_below, place_below, row-of, column-of
 use Rattle.operators.proofs.Places.{stride_below}
 use Rattle.operators.proofs.Scatters.{gather_as_scatter}
 use Rattle.ring_mod.proofs.Inverses.{AreInverses, inverse_of_s, inverse_of_r, inverses_of}
-use Rattle.kernel_gen.specs.Kernel.{CanMake}
+use Rattle.tree_model.specs.KernelCosts.{CanMake}
 use Rattle.sigma_spl.specs.Work.{PlainWork, kernel, rows, horner, tile, copy, work_size, work_on}
 use Rattle.tree_model.specs.Trees.{PlainTrees, single, tensor, trees_size, AreWords}
 use Rattle.smp_rewrite.specs.LayoutSteps.Layout.{Layout, work, by, layout_size, IsGoodWork, IsGoodRule, IsGoodLayout}

@@ -5,7 +5,7 @@ use Rattle.std.proofs.Math.Nat.{mod-eq_of_lt}
 use Rattle.std.proofs.lemmas.Bool.{cases_lt}
 use Rattle.std.proofs.lemmas.Bool.Decides.{nat_tests}
 use Rattle.std.proofs.lemmas.Nat.{mul-lt}
-use Rattle.kernel_gen.specs.Kernel.{IsRoot, trees_cost}
+use Rattle.tree_model.specs.KernelCosts.{IsRoot, trees_cost}
 use Rattle.kernel_gen.proofs.RequestNodes.{root-of}
 use Rattle.matrix_meaning.specs.Kind.{transform, IsPowerOfTwo}
 use Rattle.matrix_meaning.specs.Valid.{HasRoot}

@@ -2,7 +2,7 @@
 use Rattle.std.proofs.Common.{◌≡◌, ℕ, ◌+◌, ◌*◌, ◌/◌, ◌<◌, Bool, true, false, List, refl, sym, ap, ap₂, ◌∙◌, arith, if◌then◌else◌, subst}
 use Rattle.std.specs.Prelude.{nat_le, ◌==◌}
 use Rattle.std.proofs.lemmas.Bool.Decides.{nat_tests}
-use Rattle.kernel_gen.specs.Kernel.{AllowsRoot, CanMake, kernel_cost, trees_cost}
+use Rattle.tree_model.specs.KernelCosts.{AllowsRoot, CanMake, kernel_cost, trees_cost}
 use Rattle.kernel_gen.proofs.NodeCosts.{cost-same, kernel-short}
 use Rattle.kernel_gen.proofs.RequestNodes.{any-root}
 use Rattle.matrix_meaning.specs.Kind.{transform}

@@ -1,7 +1,7 @@
 -- A tree as the stages see it: kernels and longer leaves as works, and above them rules with their roots.
 use Rattle.std.specs.Prelude.{◌≡◌, ℕ, ◌+◌, ◌*◌, ◌%◌, ◌≤◌, if◌then◌else◌}
 use Rattle.std.specs.Int.{IsGcd}
-use Rattle.kernel_gen.specs.Kernel.{CanMake, trees_cost}
+use Rattle.tree_model.specs.KernelCosts.{CanMake, trees_cost}
 use Rattle.matrix_meaning.specs.Laws.{twiddle}
 use Rattle.matrix_meaning.specs.declared.Kind.{Kind}
 use Rattle.matrix_meaning.specs.declared.Kind.TheVariants.{Dft, Wht, Idft}
