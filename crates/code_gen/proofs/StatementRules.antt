@@ -4,7 +4,7 @@ use Rattle.std.specs.Prelude.{Option, Some}
 use Rattle.std.proofs.lemmas.List.{get_or-map, length-map}
 use Rattle.icode.specs.declared.program.Array.{Array}
 use Rattle.icode.specs.Plain.{PlainBody, PlainExpr, PlainOp, AndStmts, Do, Store}
-use Rattle.code_gen.specs.PassActions.Machine.{PlainFrame}
+use Rattle.sigma_spl.specs.Shared.Machine.{PlainFrame}
 use Rattle.code_gen.specs.PassCode.Conditions.{CanWrite}
 use Rattle.code_gen.specs.PassCode.Statements.{do_only, finish_body, followed_by, one_factor, place_at, product_op}
 use Rattle.sigma_spl.specs.Nest.{PlainMultiplier}

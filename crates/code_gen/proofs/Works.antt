@@ -5,10 +5,11 @@ use Rattle.std.proofs.lemmas.List.{get_or-map, length-map}
 use Rattle.kernel_gen.specs.Kernel.{trees_kernel}
 use Rattle.kernel_gen.proofs.Products.{trees-does, trees-words}
 use Rattle.code_gen.specs.PassActions.Acts.{nest_registers, pass_registers}
-use Rattle.code_gen.specs.PassActions.Laws.{CanWork}
-use Rattle.code_gen.specs.PassActions.Machine.{PlainMachine}
+use Rattle.sigma_spl.specs.Shared.Running.{CanWork}
+use Rattle.operators.specs.declared.target.Target.{Target}
 use Rattle.code_gen.specs.PassCode.Conditions.{CanWritePass}
-use Rattle.code_gen.specs.PassCode.Contract.{CanProgram, IsHost, all_passes, most_actions}
+use Rattle.code_gen.specs.PassCode.Contract.{CanProgram}
+use Rattle.sigma_spl.specs.Shared.Owners.{IsHost, all_passes, most_actions}
 use Rattle.code_gen.specs.PassCode.Program.{count_in}
 use Rattle.sigma_spl.specs.Merged.{PlainMerged}
 use Rattle.sigma_spl.specs.Nest.{PlainFactors, values, twiddles, repeated, spread, PlainMultiplier, PlainNest, factor_count}
@@ -21,17 +22,17 @@ use Rattle.code_gen.proofs.Diagonals.{columns-some, inner-some}
 
 -- ---- works
 
-work-of : (h : PlainMachine) (z : PlainNest) (w : PlainWork) → z.work ≡ w → CanEmit h z → CanWork h w × (work_size w < 2 ^ 32)
+work-of : (h : Target) (z : PlainNest) (w : PlainWork) → z.work ≡ w → CanEmit h z → CanWork h w × (work_size w < 2 ^ 32)
 work-of h z w is can = (subst (CanWork h) is can.runs.work, subst (λ (v : PlainWork). work_size v < 2 ^ 32) is can.writes.items)
 
-pub kernel-words : (h : PlainMachine) (z : PlainNest) (trees : PlainTrees) → z.work ≡ kernel trees → CanEmit h z → AreWords trees
+pub kernel-words : (h : Target) (z : PlainNest) (trees : PlainTrees) → z.work ≡ kernel trees → CanEmit h z → AreWords trees
 kernel-words h z trees is can = let work = work-of h z (kernel trees) is can in trees-words h.modulus trees work.0 work.1
 
-pub kernel-small : (h : PlainMachine) (z : PlainNest) (trees : PlainTrees) → z.work ≡ kernel trees → CanEmit h z → trees_size trees < 2 ^ 32
+pub kernel-small : (h : Target) (z : PlainNest) (trees : PlainTrees) → z.work ≡ kernel trees → CanEmit h z → trees_size trees < 2 ^ 32
 kernel-small h z trees is can = (work-of h z (kernel trees) is can).1
 
 -- the code of a kernel has an output for each item
-pub kernel-sized : (h : PlainMachine) (z : PlainNest) (trees : PlainTrees) → z.work ≡ kernel trees → CanEmit h z → length (trees_kernel h.modulus trees).outs ≡ trees_size trees
+pub kernel-sized : (h : Target) (z : PlainNest) (trees : PlainTrees) → z.work ≡ kernel trees → CanEmit h z → length (trees_kernel h.modulus trees).outs ≡ trees_size trees
 kernel-sized h z trees is can =
     let work = work-of h z (kernel trees) is can in
     (trees-does h.modulus 1 trees can.modulus work.0).sized
@@ -50,12 +51,12 @@ has-factors (Some d) h = let known = h d refl in can-list d.factors known.0 know
 
 -- ---- passes
 
-registers-le : (h : PlainMachine) (zs : List PlainNest) (k : ℕ) (d : PlainNest) → k < length zs → nest_registers h.modulus (get_or zs k d) (get_or zs k d).work ≤ pass_registers h.modulus zs
+registers-le : (h : Target) (zs : List PlainNest) (k : ℕ) (d : PlainNest) → k < length zs → nest_registers h.modulus (get_or zs k d) (get_or zs k d).work ≤ pass_registers h.modulus zs
 registers-le h [] k d below = absurd (omega arith)
 registers-le h (z ∷ zs) zero d below = omega arith
 registers-le h (z ∷ zs) (suc k) d below = let rest = registers-le h zs k d (omega arith) in omega arith
 
-can-pass : (h : PlainMachine) (zs : List PlainNest) → IsHost h → CanWritePass h zs → All (CanEmit h) zs
+can-pass : (h : Target) (zs : List PlainNest) → IsHost h → CanWritePass h zs → All (CanEmit h) zs
 can-pass h zs host can k d below =
     record {
       modulus = host.modulus.0;
@@ -65,7 +66,7 @@ can-pass h zs host can k d below =
       few = let low = registers-le h zs k d below in let few = can.few in omega arith;
     }
 
-module _ (h : PlainMachine) (host : IsHost h) where
+module _ (h : Target) (host : IsHost h) where
   first-passes : (ps qs : List (List PlainNest)) → All (CanWritePass h) (ps ++ qs) → CanEmitAll h ps × All (CanWritePass h) qs
   first-passes [] qs all = (tt, all)
   first-passes (zs ∷ ps) qs all =
@@ -84,14 +85,14 @@ count-is : (pss : List (List (List PlainNest))) → count_in pss ≡ length (all
 count-is [] = refl
 count-is (ps ∷ more) = let all = length-append ps (all_passes more) in let rest = count-is more in omega (arith, all, rest)
 
-pub can-emit : (h : PlainMachine) (g : PlainMerged) → CanProgram h g → CanEmitPhases h g.phases
+pub can-emit : (h : Target) (g : PlainMerged) → CanProgram h g → CanEmitPhases h g.phases
 can-emit h g can = can-phases h can.host g.phases can.passes
 
-pub few-passes : (h : PlainMachine) (g : PlainMerged) → CanProgram h g → 0 + count_in g.phases < 2 ^ 64
+pub few-passes : (h : Target) (g : PlainMerged) → CanProgram h g → 0 + count_in g.phases < 2 ^ 64
 few-passes h g can = let all = count-is g.phases in let most = most-passes h can.host (all_passes g.phases) in let few = can.few in omega (arith, all, most, few)
 
 -- a nest of a pass
-pub nest-at : (h : PlainMachine) (nests : List Nest) (i : ℕ) (z : Nest) → All (CanEmit h) (map plain_nest nests) → i < length nests → z ≡ get_or nests i z → CanEmit h (plain_nest z)
+pub nest-at : (h : Target) (nests : List Nest) (i : ℕ) (z : Nest) → All (CanEmit h) (map plain_nest nests) → i < length nests → z ≡ get_or nests i z → CanEmit h (plain_nest z)
 nest-at h nests i z all below is =
     let long : length (map plain_nest nests) ≡ length nests = length-map nests plain_nest in
     subst (CanEmit h) (get_or-map plain_nest nests i z (plain_nest z) below ∙ ap plain_nest (sym is)) (all i (plain_nest z) (omega arith))

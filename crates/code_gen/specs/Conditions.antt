@@ -1,8 +1,8 @@
 -- What the emission of nests and passes asks for.
 use Rattle.std.specs.Prelude.{◌≡◌, ℕ, ◌*◌, ◌^◌, ◌<◌, ◌≤◌, List, [], ◌∷◌, length, All, Option, Some, None}
 use Rattle.code_gen.specs.PassActions.Acts.{nest_registers}
-use Rattle.code_gen.specs.PassActions.Laws.{CanRunNest}
-use Rattle.code_gen.specs.PassActions.Machine.{PlainMachine}
+use Rattle.sigma_spl.specs.Shared.Running.{CanRunNest}
+use Rattle.operators.specs.declared.target.Target.{Target}
 use Rattle.code_gen.specs.PassCode.Conditions.{CanWrite, CanWriteNest}
 use Rattle.sigma_spl.specs.Merged.{PlainMerged}
 use Rattle.sigma_spl.specs.Nest.{PlainFactors, values, twiddles, repeated, spread, PlainMultiplier, PlainNest, factor_count}
@@ -34,22 +34,22 @@ HasFactors None = Unit {0}
 HasFactors (Some d) = CanList d.factors
 
 -- a nest that can be run and written, in registers of few numbers
-pub record CanEmit (h : PlainMachine) (z : PlainNest) : Type 0 where
+pub record CanEmit (h : Target) (z : PlainNest) : Type 0 where
   pub modulus : 2 ≤ h.modulus
   pub lanes : (1 ≤ h.lanes) × (h.lanes ≤ 16)
   pub runs : CanRunNest h z
   pub writes : CanWriteNest h z
   pub few : nest_registers h.modulus z z.work < 2 ^ 20
 
-abbrev pub CanEmitAll : PlainMachine → List (List PlainNest) → Type 0
+abbrev pub CanEmitAll : Target → List (List PlainNest) → Type 0
 CanEmitAll h [] = Unit {0}
 CanEmitAll h (zs ∷ ps) = All (CanEmit h) zs × CanEmitAll h ps
 
-abbrev pub CanEmitPhases : PlainMachine → List (List (List PlainNest)) → Type 0
+abbrev pub CanEmitPhases : Target → List (List (List PlainNest)) → Type 0
 CanEmitPhases h [] = Unit {0}
 CanEmitPhases h (ps ∷ more) = CanEmitAll h ps × CanEmitPhases h more
 
 -- the machine of merged passes, for residues of a modulus and lines of so many words
-abbrev pub machine_for : ℕ → ℕ → PlainMerged → PlainMachine
+abbrev pub machine_for : ℕ → ℕ → PlainMerged → Target
 machine_for modulus line g =
     record { size = g.size; modulus = modulus; procs = g.procs; line = line; lanes = g.lanes }

@@ -1,4 +1,2 @@
-pub mod Machine
 pub mod Acts
-pub mod Costs
 pub mod Laws

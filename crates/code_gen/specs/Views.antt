@@ -4,14 +4,15 @@ use Rattle.std.proofs.Common.{Global}
 use Rattle.icode.specs.Plain.{PlainBody, PlainParts, parts_of, plain_body, plain_part, plain_tables}
 use Rattle.icode.specs.declared.program.Part.{Part}
 use Rattle.icode.specs.declared.program.Stmt.{Stmt}
-use Rattle.code_gen.specs.PassActions.Machine.{PlainMachine, PlainFrame}
+use Rattle.operators.specs.declared.target.Target.{Target}
+use Rattle.sigma_spl.specs.Shared.Machine.{PlainFrame}
 use Rattle.sigma_spl.specs.Nest.{PlainNest}
 use Rattle.sigma_spl.specs.Views.{plain_nest}
 use Rattle.sigma_spl.specs.declared.nest.Nest.{Nest}
 use Rattle.code_gen.specs.declared.host.Frame.{Frame}
 use Rattle.code_gen.specs.declared.host.Host.{Host}
 
-abbrev pub plain_host : Host → PlainMachine
+abbrev pub plain_host : Host → Target
 plain_host h =
     record { size = h.size; modulus = h.modulus; procs = h.procs; line = h.line; lanes = h.lanes }
 

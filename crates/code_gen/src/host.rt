@@ -1,6 +1,6 @@
 // The machine that a program is for.
 ghost use Rattle.std.specs.Prelude.{◌≡◌, ◌≤◌};
-ghost use Rattle.code_gen.specs.PassActions.Machine as machine;
+ghost use Rattle.sigma_spl.specs.Shared.Machine as machine;
 ghost use Rattle.sigma_spl.specs.Views.{plain_work};
 ghost use Rattle.code_gen.specs.Views.{plain_frame, plain_host};
 

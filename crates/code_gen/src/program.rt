@@ -37,8 +37,8 @@ struct Start {
 }
 
 // The array that a pass writes, where so many passes come after it.
-fn target_of(number: u64, after: u64) -> Array
-    ensures { result ≡ program.target_of number after }
+fn written_array(number: u64, after: u64) -> Array
+    ensures { result ≡ program.written_array number after }
 {
     if after == 0 {
         Array::Y
@@ -57,7 +57,7 @@ fn array_after(passes: &[Vec<Nest>], start: Start) -> Array
     match passes.split_first() {
         None => start.source,
         Some((_, rest)) => {
-            let source = target_of(start.number, start.after + rest.len() as u64);
+            let source = written_array(start.number, start.after + rest.len() as u64);
             let next = Start {
                 number: start.number + 1,
                 source,
@@ -98,7 +98,7 @@ fn put_passes(
     match passes.split_first() {
         None => Ok(0),
         Some((nests, rest)) => {
-            let target = target_of(start.number, start.after + rest.len() as u64);
+            let target = written_array(start.number, start.after + rest.len() as u64);
             let mut first = emit_pass(alloc, host, nests, start.source, target, tables)?;
             out.append(&mut first.statements)?;
             let next = Start {

@@ -5,7 +5,8 @@ ghost use Rattle.code_gen.specs.PassCode.Contract.{CanProgram, Performs};
 ghost use Rattle.code_gen.specs.PassCode.Program.{program_of};
 ghost use Rattle.sigma_spl.specs.Views.{plain_merged};
 ghost use Rattle.code_gen.specs.Conditions.{machine_for};
-ghost use Rattle.code_gen.specs.Machines.{machine_of, AreAlike};
+ghost use Rattle.code_gen.specs.Machines.{AreAlike};
+ghost use Rattle.sigma_spl.specs.Shared.Targets.{target_of};
 
 use crate::program::emit_on;
 use icode::program::Program;
@@ -19,11 +20,11 @@ use tree_model::Ctx;
 /// share no line in a phase; run to its end, it leaves what the passes make of its input, in equal shares of what they
 /// count.
 pub fn emit(alloc: Global, c: &Ctx, merged: &Merged) -> Result<Program, NoMemory>
-    requires { CanProgram (machine_of c.now) (plain_merged merged.now) }
+    requires { CanProgram (target_of c.now) (plain_merged merged.now) }
     ensures code { IfOk result (λ p.
-        plain_program p ≡ program_of (machine_of c.now) (plain_merged merged.now)) }
+        plain_program p ≡ program_of (target_of c.now) (plain_merged merged.now)) }
     ensures performs { IfOk result (λ p.
-        Performs (machine_of c.now) (plain_merged merged.now) (plain_program p)) }
+        Performs (target_of c.now) (plain_merged merged.now) (plain_program p)) }
 {
     let request = c.request();
     let modulus = Modulus::new(request.modulus).unwrap();
@@ -51,11 +52,11 @@ pub fn emit_joined(
     merged: &Merged,
 ) -> Result<Program, NoMemory>
     requires alike { AreAlike first.now second.now }
-    requires passes { CanProgram (machine_of first.now) (plain_merged merged.now) }
+    requires passes { CanProgram (target_of first.now) (plain_merged merged.now) }
     ensures code { IfOk result (λ p.
-        plain_program p ≡ program_of (machine_of first.now) (plain_merged merged.now)) }
+        plain_program p ≡ program_of (target_of first.now) (plain_merged merged.now)) }
     ensures performs { IfOk result (λ p.
-        Performs (machine_of first.now) (plain_merged merged.now) (plain_program p)) }
+        Performs (target_of first.now) (plain_merged merged.now) (plain_program p)) }
 {
     let _ = second.request();
     let program = emit(alloc, first, merged)?;

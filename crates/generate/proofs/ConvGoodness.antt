@@ -24,7 +24,7 @@ use Rattle.sigma_spl.specs.Merged.{PlainMerged}
 use Rattle.tree_model.specs.Breakdown.{Breakdown}
 use Rattle.tree_model.specs.Chosen.{IsWholeTree}
 use Rattle.tree_model.specs.Passes.{whole_passes}
-use Rattle.code_gen.specs.Machines.{machine_of}
+use Rattle.sigma_spl.specs.Shared.Targets.{target_of}
 use Rattle.generate.proofs.TreePasses.TreePrograms.{trees_can_program}
 use Rattle.generate.specs.Convolver.{IsConvolver}
 use Rattle.generate.specs.Factors.{factors_of}
@@ -62,7 +62,7 @@ module _ (r : Request) (t : Breakdown) (ls : List ℕ) (request : IsConvRequest 
   h' : IsWholeTree (inverted r) t
   h' = inverse_tree r request valid t h
 
-  pub can-convolve : JoinedCanProgram → All (λ d. d < r.modulus) ds → CanProgram (machine_of r) (conv_merged r t ds)
+  pub can-convolve : JoinedCanProgram → All (λ d. d < r.modulus) ds → CanProgram (target_of r) (conv_merged r t ds)
   can-convolve can residues =
       let first = conv_small r request t h valid in
       let second = conv_small (inverted r) request' t h' valid' in
@@ -71,7 +71,7 @@ module _ (r : Request) (t : Breakdown) (ls : List ℕ) (request : IsConvRequest 
       let low = first.actions in
       let low' = second.actions in
       let most = request.in_range.size.1 in
-      can (machine_of r) (tree_merged r t) (tree_merged (inverted r) t) ds (record {
+      can (target_of r) (tree_merged r t) (tree_merged (inverted r) t) ds (record {
         procs = request.procs;
         lanes = request.lanes;
         first = trees_can_program r t valid h;
@@ -84,16 +84,16 @@ module _ (r : Request) (t : Breakdown) (ls : List ℕ) (request : IsConvRequest 
         tables = omega (arith, few, few');
       })
 
-  module _ (p : Program) (performs : Performs (machine_of r) (conv_merged r t ds) (plain_program p)) where
+  module _ (p : Program) (performs : Performs (target_of r) (conv_merged r t ds) (plain_program p)) where
     any-turns : (x turns : List ℕ) → results (code_of p) x turns ≡ results (code_of p) x []
     any-turns x turns =
         let first = memory_of_runs (code_of p) (code_is (plain_program p)) performs.apart x turns in
         let none = memory_of_runs (code_of p) (code_is (plain_program p)) performs.apart x [] in
         ap (λ memory. words_at p.size memory (padded (code_of p))) (first ∙ sym none)
 
-    counts-both : JoinedCounts → CountsBoth (machine_of r) (tree_merged r t) (tree_merged (inverted r) t) (plain_program p)
+    counts-both : JoinedCounts → CountsBoth (target_of r) (tree_merged r t) (tree_merged (inverted r) t) (plain_program p)
     counts-both counts =
-        (counts (tree_merged r t) (tree_merged (inverted r) t) ds (machine_of r) (trees_can_program r t valid h)
+        (counts (tree_merged r t) (tree_merged (inverted r) t) ds (target_of r) (trees_can_program r t valid h)
         (conv_small r request t h valid).free).program (plain_program p) request.procs performs
 
     pub is-convolver : JoinedMeans → JoinedCounts → IsPrincipal r.modulus r.size r.root → IsConvolver r t ls p

@@ -10,9 +10,9 @@ use Rattle.matrix_meaning.specs.Parts.{inverted}
 use Rattle.matrix_meaning.specs.Valid.{IsValid}
 use Rattle.matrix_meaning.proofs.Asked.{asked_of_one}
 use Rattle.matrix_meaning.proofs.Requests.{inverse_is_valid}
-use Rattle.code_gen.specs.PassCode.Contract.{all_passes}
+use Rattle.sigma_spl.specs.Shared.Owners.{all_passes}
 use Rattle.sigma_spl.specs.Merged.{PlainMerged}
-use Rattle.smp_rewrite.specs.LayoutSteps.Targets.{target_of}
+use Rattle.sigma_spl.specs.Shared.Targets.{target_of}
 use Rattle.smp_rewrite.specs.LayoutSteps.Whole.{factor_by, whole_of}
 use Rattle.tree_model.specs.Breakdown.{Breakdown}
 use Rattle.tree_model.specs.Chosen.{IsWholeTree, whole_cost}
@@ -22,7 +22,6 @@ use Rattle.tree_model.proofs.FlatTrees.{flat_costs}
 use Rattle.tree_model.proofs.InverseCosts.{inverse_costs}
 use Rattle.tree_model.proofs.InverseTrees.{inverse_admits}
 use Rattle.tree_model.proofs.WholeTrees.{admissible_is_whole, cost_itself, forward_itself, whole_is_admissible}
-use Rattle.code_gen.specs.Machines.{machine_of}
 use Rattle.sigma_lower.proofs.TreeLayouts.{trees_can_lower}
 use Rattle.generate.proofs.TreePasses.ClosedWholes.{wholes_merge}
 use Rattle.generate.proofs.TreePasses.Small.{AreSmall, layout_small}
@@ -52,7 +51,7 @@ module _ (r : Request) (request : IsConvRequest r) where
     flat_cost = cost_itself r t conv_not_idft ∙ flat_costs r t request.dimensions conv_tree
 
     -- its passes are those of the layout, which are few, and of which the last has no diagonal
-    pub conv_small : IsValid r → AreSmall (machine_of r) (all_passes (tree_merged r t).phases)
+    pub conv_small : IsValid r → AreSmall (target_of r) (all_passes (tree_merged r t).phases)
     conv_small valid =
         let whole = whole_of r t in
         let open_passes : PlainMerged = layout_merged (target_of r) whole.layout in
@@ -60,7 +59,7 @@ module _ (r : Request) (request : IsConvRequest r) where
         let same : tree_merged r t ≡ open_passes =
         wholes_merge (target_of r) whole (trees_can_lower r t valid h)
         ∙ ap (λ factor. closed_merged factor open_passes) none in
-        subst (λ (g : PlainMerged). AreSmall (machine_of r) (all_passes g.phases)) (sym same)
+        subst (λ (g : PlainMerged). AreSmall (target_of r) (all_passes g.phases)) (sym same)
         (layout_small (target_of r) whole.layout (tree_hosted r t valid h))
 
 -- ---- the request by the inverse root

@@ -18,7 +18,7 @@ use Rattle.tree_model.specs.Breakdown.{Breakdown}
 use Rattle.tree_model.specs.Chosen.{IsWholeTree, whole_cost}
 use Rattle.tree_model.specs.WholePasses.{request_passes, whole_loads, whole_stores}
 use Rattle.tree_model.proofs.WholeCosts.{passes_do_the_cost}
-use Rattle.code_gen.specs.Machines.{machine_of}
+use Rattle.sigma_spl.specs.Shared.Targets.{target_of}
 use Rattle.generate.specs.TreePasses.Merged.{IsMergedTree}
 use Rattle.generate.proofs.TreePasses.Merged.{trees_are_merged}
 use Rattle.generate.specs.Good.{IsGood, IsVector}
@@ -40,7 +40,7 @@ whole-of : (p whole : ℕ) (f : ℕ → ℕ) → 0 < p → ((q : ℕ) → q < p 
 whole-of p whole f some each = sym (mul-div_cancel_left (sum_below p f) some) ∙ ap (λ n. n / p) (shares-sum p whole f p each) ∙ mul-div_cancel_left whole some
 
 module _ (r : Request) (t : Breakdown) (p : Program) (valid : IsValid r) (h : IsWholeTree r t)
-    (performs : Performs (machine_of r) (tree_merged r t) (plain_program p)) where
+    (performs : Performs (target_of r) (tree_merged r t) (plain_program p)) where
   known : IsMergedTree r t (tree_merged r t)
   known = trees_are_merged r t valid h
 

@@ -11,15 +11,16 @@ use Rattle.icode.specs.declared.action.Counts.{Counts}
 use Rattle.icode.specs.declared.program.Array.{Array}
 use Rattle.icode.specs.declared.program.Array.TheVariants.{X}
 use Rattle.matrix_meaning.specs.declared.Request.{Request}
-use Rattle.code_gen.specs.PassActions.Costs.{pass_cost, pass_loads}
-use Rattle.code_gen.specs.PassCode.Contract.{Performs, all_passes, joined}
+use Rattle.sigma_spl.specs.Shared.Costs.{pass_cost, pass_loads}
+use Rattle.code_gen.specs.PassCode.Contract.{Performs, joined}
+use Rattle.sigma_spl.specs.Shared.Owners.{all_passes}
 use Rattle.code_gen.specs.PassCode.Contract as contract
-use Rattle.code_gen.specs.PassCode.Program.{target_of}
+use Rattle.code_gen.specs.PassCode.Program.{written_array}
 use Rattle.sigma_spl.specs.Merged.{PlainMerged}
 use Rattle.sigma_spl.specs.Nest.{PlainNest}
 use Rattle.tree_model.specs.Breakdown.{Breakdown}
 use Rattle.tree_model.specs.WholePasses.{RequestPass, cost_of_pass, loads_of_pass, request_passes}
-use Rattle.code_gen.specs.Machines.{machine_of}
+use Rattle.sigma_spl.specs.Shared.Targets.{target_of}
 use Rattle.generate.specs.TreePasses.Merged.{IsMergedTree}
 use Rattle.generate.proofs.TreePasses.Adding.{adds}
 use Rattle.generate.specs.Lean.{AreParts, IsLeanCode, IsLeanList, IsPart, start_of}
@@ -59,7 +60,7 @@ module _ (r : Request) where
   count-same (zs ∷ ps) [] h = absurd h
   count-same (zs ∷ ps) (pass ∷ passes) h = ap suc (count-same ps passes h.1)
 
-  one-part : (zs : List PlainNest) (pass : RequestPass) (source target : ℕ) (part : List Action) → 0 < r.weight → CountsAs zs pass → contract.IsPart (machine_of r) zs source target part → IsPart r pass source target part
+  one-part : (zs : List PlainNest) (pass : RequestPass) (source target : ℕ) (part : List Action) → 0 < r.weight → CountsAs zs pass → contract.IsPart (target_of r) zs source target part → IsPart r pass source target part
   one-part zs pass source target part some counts h =
       record {
         stays = h.stays;
@@ -68,7 +69,7 @@ module _ (r : Request) where
         stores = h.stores;
       }
 
-  parts-are : (t : ℕ) (source : Array) (ps : List (List PlainNest)) (passes : List RequestPass) (parts : List (List Action)) → 0 < r.weight → AllCount ps passes → contract.AreParts (machine_of r) t source ps parts →
+  parts-are : (t : ℕ) (source : Array) (ps : List (List PlainNest)) (passes : List RequestPass) (parts : List (List Action)) → 0 < r.weight → AllCount ps passes → contract.AreParts (target_of r) t source ps parts →
       AreParts r t source passes parts
   parts-are t source [] [] [] some counts h = tt
   parts-are t source [] [] (part ∷ parts) some counts h = absurd h
@@ -76,8 +77,8 @@ module _ (r : Request) where
   parts-are t source (zs ∷ ps) [] parts some counts h = absurd counts
   parts-are t source (zs ∷ ps) (pass ∷ passes) [] some counts h = absurd h
   parts-are t source (zs ∷ ps) (pass ∷ passes) (part ∷ parts) some counts h =
-      subst (λ n. IsPart r pass (start_of r source) (start_of r (target_of t n)) part × AreParts r (suc t) (target_of t n) passes parts) (count-same ps passes counts.1)
-      (one-part zs pass _ _ part some counts.0 h.0, parts-are (suc t) (target_of t (length ps)) ps passes parts some counts.1 h.1)
+      subst (λ n. IsPart r pass (start_of r source) (start_of r (written_array t n)) part × AreParts r (suc t) (written_array t n) passes parts) (count-same ps passes counts.1)
+      (one-part zs pass _ _ part some counts.0 h.0, parts-are (suc t) (written_array t (length ps)) ps passes parts some counts.1 h.1)
 
   -- ---- shares
 
@@ -101,7 +102,7 @@ module _ (r : Request) where
   sums t source [] (part ∷ parts) h = absurd h
   sums t source (pass ∷ passes) [] h = absurd h
   sums t source (pass ∷ passes) (part ∷ parts) h =
-      let rest = sums (suc t) (target_of t (length passes)) passes parts h.1 in
+      let rest = sums (suc t) (written_array t (length passes)) passes parts h.1 in
       let all = adds r.lanes r.weight part (joined parts) in
       record {
         operations = both r.procs _ _ _ _ _ all.operations h.0.operations rest.operations ∙ sym (sum_by-cons (cost_of_pass r.size) pass passes);
@@ -113,7 +114,7 @@ module _ (r : Request) where
   share-of t actions lean = subst (λ list. IsShare (request_passes r t) (counts_of r.lanes list)) lean.whole (sums 0 X (request_passes r t) lean.parts lean.each)
 
 module _ (r : Request) (t : Breakdown) (g : PlainMerged) (p : PlainProgram) (some : 0 < r.weight)
-    (known : IsMergedTree r t g) (performs : Performs (machine_of r) g p) where
+    (known : IsMergedTree r t g) (performs : Performs (target_of r) g p) where
   lists-length : length (plain_code p).lists ≡ length g.phases
   lists-length = length-map p.phases _ ∙ performs.phases
 

@@ -9,8 +9,8 @@ use Rattle.matrix_meaning.specs.declared.Kind.{Kind}
 use Rattle.matrix_meaning.specs.declared.Request.{Request}
 use Rattle.matrix_meaning.specs.Parts.{forward_by}
 use Rattle.matrix_meaning.specs.Valid.{IsValid}
-use Rattle.code_gen.specs.PassActions.Costs.{pass_cost, pass_loads}
-use Rattle.code_gen.specs.PassCode.Contract.{all_passes}
+use Rattle.sigma_spl.specs.Shared.Costs.{pass_cost, pass_loads}
+use Rattle.sigma_spl.specs.Shared.Owners.{all_passes}
 use Rattle.sigma_spl.specs.Nest.{PlainNest}
 use Rattle.tree_model.specs.declared.tree.Rule.TheVariants.{Gt, Ct, Split, Dim}
 use Rattle.tree_model.specs.Breakdown.{Breakdown, leaf, node}

@@ -11,7 +11,7 @@ use Rattle.icode.specs.Program.{code_of}
 use Rattle.matrix_meaning.specs.declared.Request.{Request}
 use Rattle.operators.specs.Sum.{sum_below}
 use Rattle.code_gen.specs.PassCode.Contract.{Stays, joined}
-use Rattle.code_gen.specs.PassCode.Program.{target_of}
+use Rattle.code_gen.specs.PassCode.Program.{written_array}
 use Rattle.tree_model.specs.Breakdown.{Breakdown}
 use Rattle.tree_model.specs.WholePasses.{RequestPass, cost_of_pass, loads_of_pass, request_passes, whole_loads, whole_stores}
 
@@ -33,8 +33,8 @@ AreParts r t source [] [] = Unit {0}
 AreParts r t source [] (part ∷ parts) = ⊥
 AreParts r t source (pass ∷ passes) [] = ⊥
 AreParts r t source (pass ∷ passes) (part ∷ parts) =
-    IsPart r pass (start_of r source) (start_of r (target_of t (length passes))) part
-    × AreParts r (suc t) (target_of t (length passes)) passes parts
+    IsPart r pass (start_of r source) (start_of r (written_array t (length passes))) part
+    × AreParts r (suc t) (written_array t (length passes)) passes parts
 
 -- the actions are one part for each pass of the tree, in order
 pub record IsLeanList (r : Request) (t : Breakdown) (actions : List Action) : Type 0 where

@@ -6,7 +6,7 @@ ghost use Rattle.icode.specs.Program.{plain_program};
 ghost use Rattle.code_gen.specs.PassCode.Contract.{Performs};
 ghost use Rattle.tree_model.specs.Breakdown.{breakdown_of};
 ghost use Rattle.tree_model.specs.Chosen.{IsWholeTree};
-ghost use Rattle.code_gen.specs.Machines.{machine_of};
+ghost use Rattle.sigma_spl.specs.Shared.Targets.{target_of};
 
 use crate::tree_passes::merge_tree;
 use code_gen::emit;
@@ -21,7 +21,7 @@ pub fn program_of_tree(alloc: Global, c: &Ctx, tree: &Tree) -> Result<Program, N
     ensures letters { IfOk result (λ p.
         plain_program p ≡ program_for c.now (breakdown_of tree.now)) }
     ensures performs { IfOk result (λ p.
-        Performs (machine_of c.now) (tree_merged c.now (breakdown_of tree.now))
+        Performs (target_of c.now) (tree_merged c.now (breakdown_of tree.now))
         (plain_program p)) }
 {
     let _request = c.request();

@@ -3,7 +3,7 @@ ghost use Rattle.std.specs.Prelude.{◌≡◌, IfOk};
 ghost use Rattle.loop_merge.specs.JoinedPasses.Joined.{joined};
 ghost use Rattle.loop_merge.specs.JoinedPasses.Laws.{AreInTurn, CountBoth, JoinedCanProgram, JoinedCounts, JoinedMeans};
 ghost use Rattle.loop_merge.specs.MultipliedPasses.Views.{plain_passes, plain_phases};
-ghost use Rattle.code_gen.specs.PassCode.Contract.{all_passes};
+ghost use Rattle.sigma_spl.specs.Shared.Owners.{all_passes};
 ghost use Rattle.sigma_spl.specs.Views.{plain_merged};
 
 use crate::multiplied_passes::multiply_last_pass;

@@ -5,7 +5,8 @@ use Rattle.sigma_spl.proofs.Limited.{merge_limits}
 use Rattle.sigma_spl.specs.Merge.{most}
 use Rattle.sigma_spl.proofs.Keeps.{merge_keeps}
 use Rattle.sigma_lower.specs.Compiled.{FormulasCompile}
-use Rattle.sigma_lower.specs.Operations.{work_cost, operations}
+use Rattle.sigma_spl.specs.Shared.Costs.{work_cost}
+use Rattle.sigma_lower.specs.Operations.{operations}
 use Rattle.sigma_lower.specs.Terms.{term_of}
 use Rattle.sigma_lower.proofs.Counted.{lower_counts}
 use Rattle.sigma_lower.proofs.Lowers.{lowers}

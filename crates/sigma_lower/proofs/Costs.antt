@@ -4,7 +4,8 @@ use Rattle.std.specs.Prelude.{All, map, Option, None, Some}
 use Rattle.std.proofs.Math.Nat.{mul-div_right, zero-div}
 use Rattle.std.proofs.lemmas.List.Elements.{All-head, All-tail}
 use Rattle.smp_rewrite.specs.Fits.{CanShareLayout}
-use Rattle.smp_rewrite.specs.LayoutSteps.Layout.{Layout, work_cost}
+use Rattle.smp_rewrite.specs.LayoutSteps.Layout.{Layout}
+use Rattle.sigma_spl.specs.Shared.Costs.{work_cost}
 use Rattle.operators.specs.declared.target.Target.{Target}
 use Rattle.sigma_spl.specs.Counts.{term_cost}
 use Rattle.sigma_spl.specs.Sigma.{sigma_cost, terms_cost}

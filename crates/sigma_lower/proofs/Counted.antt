@@ -7,7 +7,8 @@ use Rattle.tree_model.specs.KernelCosts.{kernel_cost, product_cost}
 use Rattle.matrix_meaning.specs.declared.Kind.TheVariants.{Wht}
 use Rattle.matrix_meaning.specs.Kind.{IsPowerOfTwo}
 use Rattle.sigma_spl.specs.Counts.{term_cost}
-use Rattle.sigma_lower.specs.Operations.{work_cost, operations, LowerCounts}
+use Rattle.sigma_spl.specs.Shared.Costs.{work_cost}
+use Rattle.sigma_lower.specs.Operations.{operations, LowerCounts}
 use Rattle.sigma_lower.specs.Terms.{one_more, halvings, hadamard_term, fourier_term, term_of}
 use Rattle.sigma_lower.proofs.Lowers.{halvings-power, power-above}
 use Rattle.sigma_lower.proofs.Parts.{size-more}

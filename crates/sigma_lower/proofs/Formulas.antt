@@ -1,7 +1,8 @@
 -- The term of a whole formula as one phase: it does what the formula does, in its operations, and can be merged.
 use Rattle.std.proofs.Common.{◌≡◌, ℕ, ◌+◌, ◌*◌, ◌<◌, ◌∙◌, [], List, ap, arith, subst, sym}
 use Rattle.sigma_lower.specs.OnePhase.{formula_sigma}
-use Rattle.sigma_lower.specs.Operations.{operations, work_cost}
+use Rattle.sigma_lower.specs.Operations.{operations}
+use Rattle.sigma_spl.specs.Shared.Costs.{work_cost}
 use Rattle.sigma_lower.specs.Terms.{term_of}
 use Rattle.sigma_lower.proofs.Counted.{lower_counts}
 use Rattle.sigma_lower.proofs.FormulaWords.{term-words}

@@ -16,7 +16,7 @@ use Rattle.index_fn.specs.Mapping.{Mapping}
 use Rattle.smp_rewrite.specs.LayoutSteps.Step.{PlainCore, piece, turns, twiddles, thomas_in, thomas_out, PlainStep, step, rule_steps, steps_of}
 use Rattle.smp_rewrite.specs.Fits.{CanShareLayout}
 use Rattle.smp_rewrite.specs.LayoutSteps.Layout.{Layout, work, by, layout_size, IsGoodWork, IsGoodLayout}
-use Rattle.smp_rewrite.specs.LayoutSteps.Targets.{is_alone}
+use Rattle.sigma_spl.specs.Shared.Targets.{is_alone}
 use Rattle.operators.specs.declared.target.Target.{Target}
 use Rattle.operators.specs.declared.tensor_paths.Tensor.TheVariants.{Blocks, Columns}
 use Rattle.operators.specs.TensorPaths.Path.{Path}

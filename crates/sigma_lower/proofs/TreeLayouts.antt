@@ -4,7 +4,7 @@ use Rattle.sigma_lower.specs.Merged.{TreesCanLower}
 use Rattle.matrix_meaning.specs.Valid.{IsValid}
 use Rattle.matrix_meaning.specs.declared.Request.{Request}
 use Rattle.smp_rewrite.proofs.TreeLaws.{layouts_fit}
-use Rattle.smp_rewrite.specs.LayoutSteps.Targets.{target_of}
+use Rattle.sigma_spl.specs.Shared.Targets.{target_of}
 use Rattle.smp_rewrite.proofs.LayoutSteps.Wholes.{wholes_are_good}
 
 -- the machine of a valid request

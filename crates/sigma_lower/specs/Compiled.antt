@@ -5,7 +5,8 @@ use Rattle.sigma_spl.specs.Good.{AreGoodPasses, IsVector}
 use Rattle.sigma_spl.specs.Limits.{AreWithin}
 use Rattle.sigma_spl.specs.Merge.{passes_of}
 use Rattle.sigma_spl.specs.Nest.{passes_on}
-use Rattle.sigma_lower.specs.Operations.{work_cost, operations}
+use Rattle.sigma_spl.specs.Shared.Costs.{work_cost}
+use Rattle.sigma_lower.specs.Operations.{operations}
 use Rattle.sigma_lower.specs.Terms.{term_of}
 use Rattle.spl_ast.specs.Formula.{Formula, size_of}
 use Rattle.spl_ast.specs.Meaning.{apply}

@@ -16,8 +16,9 @@ use Rattle.smp_rewrite.specs.Cut.{layout_smp, smp_of}
 use Rattle.smp_rewrite.specs.Smp.{within}
 use Rattle.smp_rewrite.specs.Fits.{CanShareLayout}
 use Rattle.matrix_meaning.specs.Valid.{IsValid}
-use Rattle.smp_rewrite.specs.LayoutSteps.Layout.{Layout, layout_on, work_cost, IsGoodLayout}
-use Rattle.smp_rewrite.specs.LayoutSteps.Targets.{target_of}
+use Rattle.smp_rewrite.specs.LayoutSteps.Layout.{Layout, layout_on, IsGoodLayout}
+use Rattle.sigma_spl.specs.Shared.Costs.{work_cost}
+use Rattle.sigma_spl.specs.Shared.Targets.{target_of}
 use Rattle.smp_rewrite.specs.LayoutSteps.Whole.{Whole, whole_of, whole_on, whole_operations, IsGoodWhole}
 use Rattle.operators.specs.declared.tensor_paths.Tensor.TheVariants.{Blocks}
 use Rattle.tree_model.specs.Breakdown.{Breakdown}

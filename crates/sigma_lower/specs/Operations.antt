@@ -7,7 +7,7 @@ use Rattle.sigma_spl.specs.Counts.{term_cost}
 use Rattle.sigma_lower.specs.Terms.{halvings, term_of}
 use Rattle.spl_ast.specs.Formula.{Formula, Identity, Fourier, Hadamard, Twiddles, Diagonal, Stride, Permutation, GoodThomasIn, GoodThomasOut, Product, TensorLeft, TensorRight, DirectSum, Pending, size_of}
 use Rattle.spl_ast.specs.Shape.{IsShaped}
-pub use Rattle.smp_rewrite.specs.LayoutSteps.Layout.{work_cost}
+use Rattle.sigma_spl.specs.Shared.Costs.{work_cost}
 use Rattle.operators.specs.TensorPaths.Path.{Path, copies_of, size_under}
 
 -- A permutation has none, a diagonal a product for each item. A short DFT has an addition or subtraction for each entry but those of a column, and a product for each entry that is neither 1 nor -1; a longer one has a product and an addition for each entry

@@ -1,7 +1,8 @@
 // The term of a formula, as one phase.
 ghost use Rattle.std.specs.Prelude.{◌≡◌, ◌%◌, ℕ, List, IfOk, map};
 ghost use Rattle.sigma_lower.specs.OnePhase.{formula_sigma};
-ghost use Rattle.sigma_lower.specs.Operations.{operations, work_cost};
+ghost use Rattle.sigma_lower.specs.Operations.{operations};
+ghost use Rattle.sigma_spl.specs.Shared.Costs.{work_cost};
 ghost use Rattle.sigma_lower.specs.Terms.{one_more, halvings, hadamard_term, fourier_term, term_of};
 ghost use Rattle.index_fn.specs.Index.{mapping_of};
 ghost use Rattle.matrix_meaning.specs.declared.Kind.TheVariants.{Wht};

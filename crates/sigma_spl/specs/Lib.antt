@@ -16,3 +16,4 @@ pub mod Room
 pub mod Words
 pub mod Sigma
 pub mod Views
+pub mod Shared

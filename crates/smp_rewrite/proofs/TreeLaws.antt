@@ -10,7 +10,7 @@ use Rattle.smp_rewrite.specs.Smp.{smp_on}
 use Rattle.std.specs.Prelude.{Option, None, Some}
 use Rattle.std.proofs.lemmas.Bool.{cases_eq}
 use Rattle.smp_rewrite.specs.LayoutSteps.Step.{steps_of}
-use Rattle.smp_rewrite.specs.LayoutSteps.Targets.{target_of}
+use Rattle.sigma_spl.specs.Shared.Targets.{target_of}
 use Rattle.operators.specs.declared.target.Target.{Target}
 use Rattle.smp_rewrite.proofs.LayoutSteps.StepCosts.{steps_cost}
 use Rattle.smp_rewrite.proofs.LayoutSteps.StepMeanings.{steps_do}

@@ -7,7 +7,7 @@ use Rattle.operators.specs.Identities.{MovesWholeLines}
 use Rattle.operators.specs.Operator.{gather}
 use Rattle.smp_rewrite.specs.LayoutSteps.Layout.{layout_of}
 use Rattle.smp_rewrite.specs.LayoutSteps.Whole.{Whole, whole_on, whole_operations}
-use Rattle.smp_rewrite.specs.LayoutSteps.Targets.{target_of}
+use Rattle.sigma_spl.specs.Shared.Targets.{target_of}
 use Rattle.operators.specs.declared.target.Target.{Target}
 use Rattle.smp_rewrite.specs.LayoutSteps.Meaning.{core_size, step_on}
 use Rattle.smp_rewrite.specs.LayoutSteps.Step.{PlainCore, piece, turns, twiddles, thomas_in, thomas_out, PlainStep}

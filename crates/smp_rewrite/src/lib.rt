@@ -11,7 +11,7 @@ ghost use Rattle.std.specs.List.{flat_map};
 ghost use Rattle.breakdown.specs.Expansion.{formula_of};
 ghost use Rattle.matrix_meaning.specs.Asked.{asked_of};
 ghost use Rattle.spl_ast.specs.Meaning.{apply};
-ghost use Rattle.smp_rewrite.specs.LayoutSteps.Targets.{target_of};
+ghost use Rattle.sigma_spl.specs.Shared.Targets.{target_of};
 ghost use Rattle.smp_rewrite.specs.LayoutSteps.Step.{step, turns};
 ghost use Rattle.smp_rewrite.specs.LayoutSteps.Views.{plain_core, plain_step};
 ghost use Rattle.smp_rewrite.specs.LayoutSteps.Whole.{whole_of};

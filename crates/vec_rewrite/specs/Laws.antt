@@ -7,7 +7,7 @@ use Rattle.smp_rewrite.specs.Fits.{CanShareLayout}
 use Rattle.smp_rewrite.specs.LayoutSteps.Layout.{Layout}
 use Rattle.smp_rewrite.specs.LayoutSteps.Whole.{Whole}
 use Rattle.smp_rewrite.specs.LayoutSteps.Step.{steps_of}
-use Rattle.smp_rewrite.specs.LayoutSteps.Targets.{is_alone}
+use Rattle.sigma_spl.specs.Shared.Targets.{is_alone}
 use Rattle.operators.specs.declared.target.Target.{Target}
 use Rattle.operators.specs.declared.tensor_paths.Tensor.TheVariants.{Blocks, Columns}
 use Rattle.operators.specs.TensorPaths.Path.{Path, size_under}

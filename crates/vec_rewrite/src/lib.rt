@@ -3,7 +3,7 @@
 
 ghost use Rattle.std.specs.Prelude.{◌≡◌, ◌+◌, ◌*◌, ◌<◌, [], ◌∷◌, ◌++◌, All, IfOk, List, None, OnOk, map, ℕ};
 ghost use Rattle.operators.specs.declared.tensor_paths.Tensor.TheVariants.{Blocks};
-ghost use Rattle.smp_rewrite.specs.LayoutSteps.Targets.{target_of};
+ghost use Rattle.sigma_spl.specs.Shared.Targets.{target_of};
 ghost use Rattle.smp_rewrite.specs.Smp.{smp_on, smp_share, within};
 ghost use Rattle.smp_rewrite.specs.Views.{plain_factor, plain_smp};
 ghost use Rattle.smp_rewrite.specs.LayoutSteps.Step.{step, turns};

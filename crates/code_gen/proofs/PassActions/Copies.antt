@@ -10,8 +10,10 @@ use Rattle.operators.specs.Sum.{list_below}
 use Rattle.operators.proofs.Lists.{at-list_below, factor_positive, place_below}
 use Rattle.operators.proofs.Places.{turn_at}
 use Rattle.code_gen.specs.PassActions.Acts.{load_at, store_at, pass_registers}
-use Rattle.code_gen.specs.PassActions.Laws.{AreApart, CanBegin, CanRun, CanRunNest, IsLoadedBy, IsStoredBy}
-use Rattle.code_gen.specs.PassActions.Machine.{PlainMachine, item_of, values_of}
+use Rattle.code_gen.specs.PassActions.Laws.{AreApart, CanBegin}
+use Rattle.sigma_spl.specs.Shared.Running.{CanRun, CanRunNest, IsLoadedBy, IsStoredBy}
+use Rattle.operators.specs.declared.target.Target.{Target}
+use Rattle.sigma_spl.specs.Shared.Machine.{item_of, values_of}
 use Rattle.code_gen.proofs.PassActions.Finish.{finished, finished_lane}
 use Rattle.code_gen.proofs.PassActions.Framed.{copy-framed, item-below}
 use Rattle.code_gen.proofs.PassActions.Once.{stored-once}
@@ -29,7 +31,7 @@ words_apart n source target i o a (inr after) low high is meant = omega (arith, 
 past : (a b : ℕ) → a + b - a ≡ b
 past a b = omega arith
 
-multiplied-finished : (c : PlainMachine) (p : PlainNest) (o : Option PlainMultiplier) (vs y : List ℕ) (k : ℕ) → k < work_size p.work → slice_index (multiplied_on c.modulus p o vs y) k ≡ finished c p o vs k (slice_index (work_on c.modulus p.work y) k)
+multiplied-finished : (c : Target) (p : PlainNest) (o : Option PlainMultiplier) (vs y : List ℕ) (k : ℕ) → k < work_size p.work → slice_index (multiplied_on c.modulus p o vs y) k ≡ finished c p o vs k (slice_index (work_on c.modulus p.work y) k)
 multiplied-finished c p None vs y k below = refl
 multiplied-finished c p (Some d) vs y k below = at-list_below (work_size p.work) _ k below ∙ ap (λ z. z % c.modulus) (mul_comm _ (slice_index (work_on c.modulus p.work y) k))
 
@@ -49,13 +51,13 @@ worked-below m (tile v) y k some small below =
     subst (λ z. z < m) (sym (turn_at v v y k (k / v) (k % v) row column (sym (div-add-mod' k v)))) (small (k % v * v + k / v) (place_below (k % v) (k / v) v v column row))
 worked-below m (copy size) y k some small below = subst (λ v. v < m) (sym (at-list_below size (slice_index y) k below)) (small k below)
 
-multiplied-below : (c : PlainMachine) (p : PlainNest) (o : Option PlainMultiplier) (vs y : List ℕ) (k : ℕ) → 0 < c.modulus → k < work_size p.work → slice_index (work_on c.modulus p.work y) k < c.modulus → slice_index (multiplied_on c.modulus p o vs y) k < c.modulus
+multiplied-below : (c : Target) (p : PlainNest) (o : Option PlainMultiplier) (vs y : List ℕ) (k : ℕ) → 0 < c.modulus → k < work_size p.work → slice_index (work_on c.modulus p.work y) k < c.modulus → slice_index (multiplied_on c.modulus p o vs y) k < c.modulus
 multiplied-below c p None vs y k some below small = small
 multiplied-below c p (Some d) vs y k some below small = sums-below c.modulus (work_size p.work) _ k some below
 
 -- ---- a pass
 
-module _ (c : PlainMachine) (zs : List PlainNest) (can : CanRun c zs) where
+module _ (c : Target) (zs : List PlainNest) (can : CanRun c zs) where
   -- what is known of one of its nests
   pub nest-can : (p : PlainNest) → Contains zs p → CanRunNest c p
   nest-can p one = All-contains (CanRunNest c) zs p can.nests one

@@ -11,7 +11,7 @@ use Rattle.kernel_gen.specs.declared.straight.Instruction.{Instruction}
 use Rattle.kernel_gen.proofs.Instructions.{actions-cost, no-traffic}
 use Rattle.kernel_gen.proofs.Pieces.{weighted-append}
 use Rattle.code_gen.specs.PassActions.Acts.{finish_acts, items_acts, load_at, rows_acts}
-use Rattle.code_gen.specs.PassActions.Machine.{PlainMachine}
+use Rattle.operators.specs.declared.target.Target.{Target}
 use Rattle.code_gen.proofs.PassActions.Rows.{row_acts}
 use Rattle.code_gen.proofs.PassActions.StraightCopies.{ends_of, copy_body}
 use Rattle.sigma_spl.specs.Counts.{copies_in}
@@ -100,7 +100,7 @@ module _ (weight lanes : ℕ) where
 pub counts-code : (weight lanes price : ℕ) (code : List Instruction) → code_cost weight code ≡ price → tally weight lanes (actions_by lanes code) ≡ counts (lanes * price) 0 0
 counts-code weight lanes price code costs = let none = no-traffic lanes code in counts-same _ _ (ap (λ o. lanes * o) (actions-cost weight lanes code ∙ costs)) none.0 none.1
 
-module _ (weight : ℕ) (c : PlainMachine) (p : PlainNest) (target q : ℕ) (vs : List ℕ) where
+module _ (weight : ℕ) (c : Target) (p : PlainNest) (target q : ℕ) (vs : List ℕ) where
   counts-finish : (o : Option PlainMultiplier) (k from free : ℕ) → tally weight c.lanes (finish_acts c p o target q vs k from free) ≡ counts (c.lanes * products_of weight o) 0 c.lanes
   counts-finish None k from free = counts-same _ _ (omega arith) refl (omega arith)
   counts-finish (Some d) k from free = counts-same _ _ (omega arith) refl (omega arith)

@@ -14,8 +14,9 @@ use Rattle.operators.proofs.Places.{turn_at}
 use Rattle.operators.proofs.Sums.{sum_below-same}
 use Rattle.ring_mod.specs.Residue.{power_mod}
 use Rattle.code_gen.specs.PassActions.Acts.{load_at, copy_acts, with_multiplier, nest_registers, pass_registers}
-use Rattle.code_gen.specs.PassActions.Laws.{AreApart, CanRun}
-use Rattle.code_gen.specs.PassActions.Machine.{PlainMachine}
+use Rattle.code_gen.specs.PassActions.Laws.{AreApart}
+use Rattle.sigma_spl.specs.Shared.Running.{CanRun}
+use Rattle.operators.specs.declared.target.Target.{Target}
 use Rattle.code_gen.proofs.PassActions.Copies.{facts, task_of, items, on, input-word, output-word, input-is, input-below, output-is}
 use Rattle.code_gen.proofs.PassActions.Horner.{scaled-sum}
 use Rattle.code_gen.proofs.PassActions.Items.{items-fill}
@@ -33,12 +34,12 @@ abbrev pub working : PlainNest → PlainWork → PlainNest
 working p w = record { counts = p.counts; work = w; gathers = p.gathers; multiplier = p.multiplier; scatters = p.scatters }
 
 -- the registers of a nest are among those of its pass
-pub registers-le : (c : PlainMachine) (zs : List PlainNest) (p : PlainNest) → Contains zs p → nest_registers c.modulus p p.work ≤ pass_registers c.modulus zs
+pub registers-le : (c : Target) (zs : List PlainNest) (p : PlainNest) → Contains zs p → nest_registers c.modulus p p.work ≤ pass_registers c.modulus zs
 registers-le c [] p one = absurd (omega (arith, one.1))
 registers-le c (z ∷ zs) p (zero, low, e) = let same : nest_registers c.modulus z z.work ≡ nest_registers c.modulus p p.work = ap (λ (y : PlainNest). nest_registers c.modulus y y.work) e in omega arith
 registers-le c (z ∷ zs) p (suc i, low, e) = let rest = registers-le c zs p (i, omega arith, e) in omega arith
 
-module _ (c : PlainMachine) (zs : List PlainNest) (can : CanRun c zs) (source target q : ℕ) (x : List ℕ) (apart : AreApart c.size source target) (part : q < c.procs) (small : (i : ℕ) → i < c.size → slice_index x i < c.modulus) where
+module _ (c : Target) (zs : List PlainNest) (can : CanRun c zs) (source target q : ℕ) (x : List ℕ) (apart : AreApart c.size source target) (part : q < c.procs) (small : (i : ℕ) → i < c.size → slice_index x i < c.modulus) where
   abbrev pub regs : ℕ
   regs = pass_registers c.modulus zs
 

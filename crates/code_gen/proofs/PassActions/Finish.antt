@@ -8,7 +8,8 @@ use Rattle.icode.specs.CodeLaws.Lanes.{Registers, lane_of}
 use Rattle.icode.proofs.CodeLaws.ByLane.{effect_by_lane, this_register}
 use Rattle.icode.proofs.CodeLaws.Fills.{Fills, fills-after}
 use Rattle.icode.proofs.CodeLaws.Stores.{Stored, store_fills}
-use Rattle.code_gen.specs.PassActions.Machine.{PlainMachine, item_of, values_of}
+use Rattle.operators.specs.declared.target.Target.{Target}
+use Rattle.sigma_spl.specs.Shared.Machine.{item_of, values_of}
 use Rattle.ring_mod.specs.Residue.{product_mod}
 use Rattle.sigma_spl.specs.Nest.{PlainMultiplier, PlainNest, factor_at, store_place}
 use Rattle.code_gen.specs.PassActions.Acts.{store_at, finish_acts, with_multiplier}
@@ -16,12 +17,12 @@ use Rattle.code_gen.proofs.PassActions.Factors.{factor_of, factor_each}
 use Rattle.code_gen.proofs.PassActions.Tasks.{register, Task, IsReady, AreOutputs}
 
 -- what an item of a copy becomes
-abbrev pub finished : PlainMachine → PlainNest → Option PlainMultiplier → List ℕ → ℕ → ℕ → ℕ
+abbrev pub finished : Target → PlainNest → Option PlainMultiplier → List ℕ → ℕ → ℕ → ℕ
 finished c p None vs k v = v
 finished c p (Some d) vs k v = product_mod c.modulus v (factor_at c.modulus d.factors (store_place p.work d.places vs k))
 
 -- what the lanes of the register number k become
-abbrev pub finished_lane : PlainMachine → PlainNest → Option PlainMultiplier → ℕ → List ℕ → ℕ → ℕ → ℕ → ℕ
+abbrev pub finished_lane : Target → PlainNest → Option PlainMultiplier → ℕ → List ℕ → ℕ → ℕ → ℕ → ℕ
 finished_lane c p o q vs k lane v = finished c p o (values_of c p.work q lane vs) (item_of p.work k lane) v
 
 module _ (m lanes regs : ℕ) (t : Task) (Ready : Local → Type 0) (ready : (s : Local) → Ready s → IsReady lanes regs t s)
@@ -73,7 +74,7 @@ module _ (m lanes regs : ℕ) (t : Task) (Ready : Local → Type 0) (ready : (s 
       (λ s h. h.0)
       (store-fills m lanes regs t (Known (product x)) (λ s h. ready s h.0) (λ address r there s h. (after_store address r there s h.0, h.1)) to free (product x) some are meant (λ s h. h.1))
 
-pub finish-fills : (c : PlainMachine) (p : PlainNest) (o : Option PlainMultiplier) (q : ℕ) (vs : List ℕ) (k target from free used more : ℕ) (v : ℕ → ℕ) (regs : ℕ) (t : Task) (Ready : Local → Type 0) → 0 < c.lanes →
+pub finish-fills : (c : Target) (p : PlainNest) (o : Option PlainMultiplier) (q : ℕ) (vs : List ℕ) (k target from free used more : ℕ) (v : ℕ → ℕ) (regs : ℕ) (t : Task) (Ready : Local → Type 0) → 0 < c.lanes →
     ((s : Local) → Ready s → IsReady c.lanes regs t s) →
     ((address r : ℕ) → AreOutputs c.modulus c.lanes regs t address → (s : Local) → Ready s → Ready (effect c.modulus c.lanes (Store address r) s)) →
     ((s : Local) → Ready s → (lane : ℕ) → lane < c.lanes → register c.lanes s lane from ≡ v lane) →

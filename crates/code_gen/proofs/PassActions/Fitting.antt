@@ -15,8 +15,10 @@ use Rattle.kernel_gen.proofs.Products.{trees-does}
 use Rattle.kernel_gen.proofs.Residues.{power_below}
 use Rattle.ring_mod.specs.Residue.{power_mod}
 use Rattle.code_gen.specs.PassActions.Acts.{load_at, store_at, factors_at, finish_acts, rows_acts, items_acts, term_acts, horner_acts, copy_acts, nest_acts, pass_acts, with_multiplier, nest_registers, pass_registers}
-use Rattle.code_gen.specs.PassActions.Laws.{CanRun, CanRunNest, IsFit}
-use Rattle.code_gen.specs.PassActions.Machine.{PlainMachine, loop_counts}
+use Rattle.sigma_spl.specs.Shared.Running.{CanRun, CanRunNest}
+use Rattle.code_gen.specs.PassActions.Laws.{IsFit}
+use Rattle.operators.specs.declared.target.Target.{Target}
+use Rattle.sigma_spl.specs.Shared.Machine.{loop_counts}
 use Rattle.code_gen.proofs.PassActions.Copies.{nest-can}
 use Rattle.code_gen.proofs.PassActions.Fillings.{working, registers-le}
 use Rattle.code_gen.proofs.PassActions.KernelActions.{code-fits}
@@ -50,7 +52,7 @@ module _ (regs lanes m : ℕ) where
   fit-loads : (n : ℕ) (from : ℕ → ℕ) → n ≤ regs → Fit (loads n from)
   fit-loads n from low = fit-bodies n (λ k. Load k (from k) ∷ []) (λ k below. fit-cons (Load k (from k)) [] (record { registers = omega arith; factors = tt }) fit-none)
 
-module _ (c : PlainMachine) (p : PlainNest) (target q regs : ℕ) (vs : List ℕ) (some : 0 < c.modulus) where
+module _ (c : Target) (p : PlainNest) (target q regs : ℕ) (vs : List ℕ) (some : 0 < c.modulus) where
   -- each action is fit
   abbrev AreFit : List Action → Type 0
   AreFit actions = All (IsFit regs c.lanes c.modulus) actions
@@ -114,7 +116,7 @@ module _ (c : PlainMachine) (p : PlainNest) (target q regs : ℕ) (vs : List ℕ
 
 -- ---- copies
 
-module _ (c : PlainMachine) (lanes : 0 < c.lanes) (modulus : 2 ≤ c.modulus) (regs source target q : ℕ) where
+module _ (c : Target) (lanes : 0 < c.lanes) (modulus : 2 ≤ c.modulus) (regs source target q : ℕ) where
   some : 0 < c.modulus
   some = omega arith
 
@@ -155,5 +157,5 @@ module _ (c : PlainMachine) (lanes : 0 < c.lanes) (modulus : 2 ≤ c.modulus) (r
       (fit-nest regs c.lanes c.modulus (loop_counts c z) (copy_acts c z z.work source target q) (copy-fits z z.work (can z (Contains-head z zs)) (few z (Contains-head z zs))) [])
       (nests-fit zs (λ p one. can p (Contains-tail z zs p one)) (λ p one. few p (Contains-tail z zs p one)))
 
-pub pass-fits : (c : PlainMachine) (zs : List PlainNest) → CanRun c zs → (source target q : ℕ) → All (IsFit (pass_registers c.modulus zs) c.lanes c.modulus) (pass_acts c zs source target q)
+pub pass-fits : (c : Target) (zs : List PlainNest) → CanRun c zs → (source target q : ℕ) → All (IsFit (pass_registers c.modulus zs) c.lanes c.modulus) (pass_acts c zs source target q)
 pass-fits c zs can source target q = nests-fit c can.lanes can.modulus (pass_registers c.modulus zs) source target q zs (nest-can c zs can) (registers-le c zs)

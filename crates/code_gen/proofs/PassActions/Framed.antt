@@ -5,8 +5,9 @@ use Rattle.std.specs.Prelude.{◌==◌, slice_index}
 use Rattle.std.proofs.lemmas.Bool.Decides.{nat_tests}
 use Rattle.icode.specs.CodeLaws.Nests.{AreInRange}
 use Rattle.operators.proofs.Lists.{factor_positive, place_below}
-use Rattle.code_gen.specs.PassActions.Laws.{CanWork, IsFramed, IsCopyOf}
-use Rattle.code_gen.specs.PassActions.Machine.{PlainMachine, one_if_several, if_several, first_loop, framed_lanes, loop_counts, item_of, values_of}
+use Rattle.sigma_spl.specs.Shared.Running.{CanWork, IsFramed, IsCopyOf}
+use Rattle.operators.specs.declared.target.Target.{Target}
+use Rattle.sigma_spl.specs.Shared.Machine.{one_if_several, if_several, first_loop, framed_lanes, loop_counts, item_of, values_of}
 use Rattle.sigma_spl.specs.Copies.{loops_of}
 use Rattle.sigma_spl.specs.Counts.{copies_in}
 use Rattle.sigma_spl.specs.Nest.{PlainNest}
@@ -73,15 +74,15 @@ same_value n v q vs is = one_or_several n (λ b. (if b then [] else v ∷ []) ++
 -- ---- all variables of a nest
 
 -- the counts of the processors and lanes, before those of the loops
-abbrev pub framed : PlainMachine → PlainWork → List ℕ → List ℕ
+abbrev pub framed : Target → PlainWork → List ℕ → List ℕ
 framed c w loops = if_several c.procs c.procs ++ (framed_lanes c w ++ loops)
 
 -- how many copies a processor has for each of its values of the loops
-abbrev pub copies_beside : PlainMachine → PlainWork → ℕ
+abbrev pub copies_beside : Target → PlainWork → ℕ
 copies_beside c (tile lanes) = 1
 copies_beside c w = c.lanes
 
-module _ (c : PlainMachine) where
+module _ (c : Target) where
   copies-lanes : (w : PlainWork) (loops : List ℕ) → copies_in (framed_lanes c w ++ loops) ≡ copies_beside c w * copies_in loops
   copies-lanes (kernel trees) loops = copies-several c.lanes loops
   copies-lanes (rows root size) loops = copies-several c.lanes loops
@@ -144,7 +145,7 @@ in_path (t ∷ counts) (v ∷ vs) h = (h.0, in_path counts vs h.1)
 -- ---- the other way round
 
 -- an item of a copy by its lane, its register and the values of the loops
-pub record IsOnLane (c : PlainMachine) (w : PlainWork) (loops : List ℕ) (q : ℕ) (us : List ℕ) (i : ℕ) : Type 0 where
+pub record IsOnLane (c : Target) (w : PlainWork) (loops : List ℕ) (q : ℕ) (us : List ℕ) (i : ℕ) : Type 0 where
   pub values : List ℕ
   pub lane : ℕ
   pub number : ℕ
@@ -155,14 +156,14 @@ pub record IsOnLane (c : PlainMachine) (w : PlainWork) (loops : List ℕ) (q : �
   pub item : i ≡ item_of w number lane
 
 -- the lane and the loops of a copy
-record HasLane (c : PlainMachine) (loops : List ℕ) (q : ℕ) (us : List ℕ) : Type 0 where
+record HasLane (c : Target) (loops : List ℕ) (q : ℕ) (us : List ℕ) : Type 0 where
   values : List ℕ
   lane : ℕ
   in_range : AreInRange loops values
   there : lane < c.lanes
   joined : us ≡ if_several c.procs q ++ (if_several c.lanes lane ++ values)
 
-has_lane : (c : PlainMachine) (loops : List ℕ) (q : ℕ) (us : List ℕ) → AreInRange (if_several c.procs c.procs ++ (if_several c.lanes c.lanes ++ loops)) us → (c.procs ≢ 1 → slice_index us 0 ≡ q) → HasLane c loops q us
+has_lane : (c : Target) (loops : List ℕ) (q : ℕ) (us : List ℕ) → AreInRange (if_several c.procs c.procs ++ (if_several c.lanes c.lanes ++ loops)) us → (c.procs ≢ 1 → slice_index us 0 ≡ q) → HasLane c loops q us
 has_lane c loops q us range first =
     let outer = under-several c.procs (if_several c.lanes c.lanes ++ loops) us range in
     let inner = under-several c.lanes loops outer.rest outer.in_range in
@@ -177,7 +178,7 @@ has_lane c loops q us range first =
           ∙ ap (λ vs. if_several c.procs q ++ vs) inner.joined;
     }
 
-on_lane : (c : PlainMachine) (w : PlainWork) (loops : List ℕ) (q : ℕ) (us : List ℕ) (i : ℕ) → CanWork c w → AreInRange (framed c w loops) us → (c.procs ≢ 1 → slice_index us 0 ≡ q) → i < work_size w → IsOnLane c w loops q us i
+on_lane : (c : Target) (w : PlainWork) (loops : List ℕ) (q : ℕ) (us : List ℕ) (i : ℕ) → CanWork c w → AreInRange (framed c w loops) us → (c.procs ≢ 1 → slice_index us 0 ≡ q) → i < work_size w → IsOnLane c w loops q us i
 on_lane c (kernel trees) loops q us i can range first below =
     let h = has_lane c loops q us range first in record { values = h.values; lane = h.lane; number = i; in_range = h.in_range; there = h.there; under = below; copy_is = h.joined; item = refl }
 on_lane c (rows root size) loops q us i can range first below =
@@ -204,7 +205,7 @@ on_lane c (tile v) loops q us i can range first below =
 
 -- ---- a nest
 
-module _ (c : PlainMachine) (p : PlainNest) (f : IsFramed c p) where
+module _ (c : Target) (p : PlainNest) (f : IsFramed c p) where
   -- what the loops of a nest run over
   pub loops-are : loop_counts c p ≡ f.loops
   loops-are = ap (drop (first_loop c p.work)) f.counts ∙ loops-framed c p.work f.loops

@@ -5,13 +5,13 @@ use Rattle.icode.specs.CodeLaws.Nests.{loads}
 use Rattle.icode.proofs.CodeLaws.Fills.{Fills, fills-loop, fills-after}
 use Rattle.icode.proofs.CodeLaws.Stores.{Stored, loads-memory}
 use Rattle.code_gen.specs.PassActions.Acts.{store_at, finish_acts, items_acts, load_at, with_multiplier}
-use Rattle.code_gen.specs.PassActions.Machine.{PlainMachine}
+use Rattle.operators.specs.declared.target.Target.{Target}
 use Rattle.code_gen.proofs.PassActions.Finish.{finished_lane, finish-fills}
 use Rattle.code_gen.proofs.PassActions.StraightCopies.{CopyWords, IsLoaded, loads-load, holds-after_product, finish-few}
 use Rattle.code_gen.proofs.PassActions.Tasks.{Task, IsReady, AreInputs, AreOutputs, ready-after_store}
 use Rattle.sigma_spl.specs.Nest.{PlainNest}
 
-module _ (c : PlainMachine) (p : PlainNest) (n regs source target q : ℕ) (t : Task) (vs : List ℕ) (some : 0 < c.lanes) (few : with_multiplier p.multiplier 1 1 ≤ regs)
+module _ (c : Target) (p : PlainNest) (n regs source target q : ℕ) (t : Task) (vs : List ℕ) (some : 0 < c.lanes) (few : with_multiplier p.multiplier 1 1 ≤ regs)
     (inputs : (k : ℕ) → k < n → AreInputs c.modulus c.lanes regs t (source + load_at c p q vs k)) (outputs : (k : ℕ) → k < n → AreOutputs c.modulus c.lanes regs t (target + store_at c p q vs k))
     (meant : (k lane : ℕ) → k < n → lane < c.lanes → t.output (target + store_at c p q vs k + lane) ≡ finished_lane c p p.multiplier q vs k lane (t.input (source + load_at c p q vs k + lane))) where
   item-fills : (k : ℕ) → k < n → Fills c.modulus c.lanes (IsReady c.lanes regs t) t.IsOutput t.output (Stored c.lanes (target + store_at c p q vs k)) (loads 1 (λ _. source + load_at c p q vs k) ++ finish_acts c p p.multiplier target q vs k 0 1)

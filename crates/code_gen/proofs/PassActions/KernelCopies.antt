@@ -13,7 +13,7 @@ use Rattle.kernel_gen.proofs.Below.{AllBelow, AllBelow-at, at-AllBelow}
 use Rattle.kernel_gen.proofs.Instructions.{actions-arithmetic, actions-effect}
 use Rattle.kernel_gen.proofs.Kernels.{firsts, map-firsts}
 use Rattle.kernel_gen.proofs.Pieces.{DoesAt}
-use Rattle.code_gen.specs.PassActions.Machine.{PlainMachine}
+use Rattle.operators.specs.declared.target.Target.{Target}
 use Rattle.operators.specs.Operator.{Operator}
 use Rattle.operators.specs.Sum.{list_below}
 use Rattle.operators.proofs.Lists.{length-list_below, at-list_below, list_below-same}
@@ -24,7 +24,7 @@ use Rattle.code_gen.proofs.PassActions.StraightCopies.{Holds, IsLoaded, Computes
 abbrev pub value_of : Task → ℕ → (ℕ → ℕ) → Operator → ℕ → ℕ → ℕ
 value_of t n from f k lane = slice_index (f (list_below n (λ j. t.input (from j + lane)))) k
 
-module _ (c : PlainMachine) (regs : ℕ) (t : Task) (weight n price : ℕ) (from : ℕ → ℕ) (made : Made) (f : Operator) (room : made.next ≤ regs) (done : DoesAt c.modulus weight n price (firsts n) n made f) where
+module _ (c : Target) (regs : ℕ) (t : Task) (weight n price : ℕ) (from : ℕ → ℕ) (made : Made) (f : Operator) (room : made.next ≤ regs) (done : DoesAt c.modulus weight n price (firsts n) n made f) where
   abbrev acts : List Action
   acts = actions_by c.lanes made.code
 

@@ -6,8 +6,10 @@ use Rattle.icode.specs.Machine.{Local}
 use Rattle.icode.specs.CodeLaws.Nests.{AreInRange}
 use Rattle.icode.proofs.CodeLaws.Fills.{Fills, fills-none, fills-append, fills-fewer, fills-nest}
 use Rattle.code_gen.specs.PassActions.Acts.{store_at, copy_acts, nest_acts, pass_acts}
-use Rattle.code_gen.specs.PassActions.Laws.{AreApart, CanBegin, CanRun, IsStoredBy, Leaves}
-use Rattle.code_gen.specs.PassActions.Machine.{PlainMachine, loop_counts, values_of}
+use Rattle.code_gen.specs.PassActions.Laws.{AreApart, CanBegin, Leaves}
+use Rattle.sigma_spl.specs.Shared.Running.{CanRun, IsStoredBy}
+use Rattle.operators.specs.declared.target.Target.{Target}
+use Rattle.sigma_spl.specs.Shared.Machine.{loop_counts, values_of}
 use Rattle.code_gen.proofs.PassActions.Copies.{nest-can, ready-at}
 use Rattle.code_gen.proofs.PassActions.Fillings.{regs, whole, copies-fill}
 use Rattle.code_gen.proofs.PassActions.Framed.{IsOnLane, copy-on_lane, in_code, of_code}
@@ -18,7 +20,7 @@ use Rattle.sigma_spl.specs.Nest.{PlainNest, store_place, nests_on}
 use Rattle.sigma_spl.specs.Work.{vectors_of}
 use Rattle.operators.specs.TensorPaths.Path as paths
 
-module _ (c : PlainMachine) (zs : List PlainNest) (can : CanRun c zs) (source target q : ℕ) (x : List ℕ) (apart : AreApart c.size source target) (part : q < c.procs) (small : (i : ℕ) → i < c.size → slice_index x i < c.modulus) where
+module _ (c : Target) (zs : List PlainNest) (can : CanRun c zs) (source target q : ℕ) (x : List ℕ) (apart : AreApart c.size source target) (part : q < c.procs) (small : (i : ℕ) → i < c.size → slice_index x i < c.modulus) where
   -- the words of all copies of the processor in a nest, and in nests
   abbrev NestWords : PlainNest → ℕ → Type 0
   NestWords p a = (vs : List ℕ) × AreInRange (loop_counts c p) vs × CopyWords c p (vectors_of p.work) target q vs a

@@ -12,9 +12,9 @@ use Rattle.kernel_gen.specs.Kernel.{trees_kernel}
 use Rattle.tree_model.specs.KernelCosts.{trees_cost}
 use Rattle.kernel_gen.proofs.Products.{trees-does}
 use Rattle.code_gen.specs.PassActions.Acts.{load_at, copy_acts, nest_acts, pass_acts, term_acts, horner_acts}
-use Rattle.code_gen.specs.PassActions.Laws.{CanRun, CanRunNest, CanWork, IsFramed}
-use Rattle.code_gen.specs.PassActions.Machine.{PlainMachine}
-use Rattle.code_gen.specs.PassActions.Costs.{work_cost, work_loads, pass_cost, pass_loads}
+use Rattle.sigma_spl.specs.Shared.Running.{CanRun, CanRunNest, CanWork, IsFramed}
+use Rattle.operators.specs.declared.target.Target.{Target}
+use Rattle.sigma_spl.specs.Shared.Costs.{work_cost, work_loads, pass_cost, pass_loads}
 use Rattle.code_gen.proofs.PassActions.Counting.{Tally, counts, tally, counts-same, products_of, counts-append, counts-nest, counts-body, counts-code, counts-rows, counts-items}
 use Rattle.code_gen.proofs.PassActions.Fillings.{working}
 use Rattle.code_gen.proofs.PassActions.Framed.{loops-are, copies_beside, copies-framed}
@@ -56,7 +56,7 @@ rows_loads lanes n = omega arith
 times_one : (n : ℕ) → n ≡ 1 * n
 times_one n = omega arith
 
-module _ (weight : ℕ) (c : PlainMachine) (lanes : 0 < c.lanes) (modulus : 2 ≤ c.modulus) (source target q : ℕ) where
+module _ (weight : ℕ) (c : Target) (lanes : 0 < c.lanes) (modulus : 2 ≤ c.modulus) (source target q : ℕ) where
   -- so many for each item and lane
   abbrev CopyCounts : PlainNest → Type 0
   CopyCounts p =

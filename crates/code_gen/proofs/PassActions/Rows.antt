@@ -11,7 +11,7 @@ use Rattle.icode.specs.CodeLaws.Nests.{bodies}
 use Rattle.icode.proofs.CodeLaws.ByLane.{effect_by_lane, lists_follow}
 use Rattle.icode.proofs.CodeLaws.Fills.{Fills, fills-after, fills-loop}
 use Rattle.icode.proofs.CodeLaws.Stores.{Stored, load_by_lane, length-registers}
-use Rattle.code_gen.specs.PassActions.Machine.{PlainMachine}
+use Rattle.operators.specs.declared.target.Target.{Target}
 use Rattle.operators.specs.Sum.{sum_below}
 use Rattle.ring_mod.proofs.Congruence.{same-add}
 use Rattle.sigma_spl.specs.Nest.{PlainNest}
@@ -152,10 +152,10 @@ module _ (m lanes regs : ℕ) (t : Task) (enough_registers : 3 ≤ regs) where
 -- ---- rows
 
 -- a row, which ends in its item
-abbrev pub row_acts : PlainMachine → PlainNest → ℕ → (ℕ → List Action) → ℕ → ℕ → List ℕ → ℕ → List Action
+abbrev pub row_acts : Target → PlainNest → ℕ → (ℕ → List Action) → ℕ → ℕ → List ℕ → ℕ → List Action
 row_acts c p n turn target q vs k = Zero 0 ∷ (bodies n turn ++ finish_acts c p p.multiplier target q vs k 0 3)
 
-pub row-fills : (c : PlainMachine) (p : PlainNest) (n regs target q : ℕ) (t : Task) (turn : ℕ → List Action) (total : ℕ → ℕ → ℕ) (vs : List ℕ) (k : ℕ) → 0 < c.lanes → (room : 3 ≤ regs) → with_multiplier p.multiplier 3 1 ≤ regs →
+pub row-fills : (c : Target) (p : PlainNest) (n regs target q : ℕ) (t : Task) (turn : ℕ → List Action) (total : ℕ → ℕ → ℕ) (vs : List ℕ) (k : ℕ) → 0 < c.lanes → (room : 3 ≤ regs) → with_multiplier p.multiplier 3 1 ≤ regs →
     AreTurns c.modulus c.lanes regs t room n turn total → AreOutputs c.modulus c.lanes regs t (target + store_at c p q vs k) →
     ((lane : ℕ) → lane < c.lanes → t.output (target + store_at c p q vs k + lane) ≡ finished_lane c p p.multiplier q vs k lane (total n lane)) →
     Fills c.modulus c.lanes (IsReady c.lanes regs t) t.IsOutput t.output (Stored c.lanes (target + store_at c p q vs k)) (row_acts c p n turn target q vs k)
@@ -175,7 +175,7 @@ row-fills c p n regs target q t turn total vs k some room few turns are meant =
     (omega arith) (omega arith) few are meant)
 
 -- all rows
-pub rows-fill : (c : PlainMachine) (p : PlainNest) (n regs target q : ℕ) (t : Task) (turn : ℕ → ℕ → List Action) (total : ℕ → ℕ → ℕ → ℕ) (vs : List ℕ) → 0 < c.lanes → (room : 3 ≤ regs) → with_multiplier p.multiplier 3 1 ≤ regs →
+pub rows-fill : (c : Target) (p : PlainNest) (n regs target q : ℕ) (t : Task) (turn : ℕ → ℕ → List Action) (total : ℕ → ℕ → ℕ → ℕ) (vs : List ℕ) → 0 < c.lanes → (room : 3 ≤ regs) → with_multiplier p.multiplier 3 1 ≤ regs →
     ((k : ℕ) → k < n → AreTurns c.modulus c.lanes regs t room n (turn k) (total k)) → ((k : ℕ) → k < n → AreOutputs c.modulus c.lanes regs t (target + store_at c p q vs k)) →
     ((k lane : ℕ) → k < n → lane < c.lanes → t.output (target + store_at c p q vs k + lane) ≡ finished_lane c p p.multiplier q vs k lane (total k n lane)) →
     Fills c.modulus c.lanes (IsReady c.lanes regs t) t.IsOutput t.output (CopyWords c p n target q vs) (rows_acts c p n turn target q vs)

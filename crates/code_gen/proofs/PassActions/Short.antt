@@ -9,9 +9,10 @@ use Rattle.kernel_gen.specs.Instructions.{actions_by, code_cost}
 use Rattle.kernel_gen.specs.Kernel.{trees_kernel}
 use Rattle.kernel_gen.specs.declared.straight.Instruction.{Instruction}
 use Rattle.code_gen.specs.PassActions.Acts.{load_at, finish_acts, rows_acts, items_acts, term_acts, horner_acts, copy_acts, nest_acts, pass_acts}
-use Rattle.code_gen.specs.PassActions.Laws.{CanRun, CanRunNest, CanWork}
-use Rattle.code_gen.specs.PassActions.Machine.{PlainMachine, loop_counts}
-use Rattle.code_gen.specs.PassActions.Costs.{pass_cost, pass_loads}
+use Rattle.sigma_spl.specs.Shared.Running.{CanRun, CanRunNest, CanWork}
+use Rattle.operators.specs.declared.target.Target.{Target}
+use Rattle.sigma_spl.specs.Shared.Machine.{loop_counts}
+use Rattle.sigma_spl.specs.Shared.Costs.{pass_cost, pass_loads}
 use Rattle.code_gen.proofs.PassActions.Copies.{nest-can}
 use Rattle.code_gen.proofs.PassActions.Counting.{Tally, counts-append, counts-code, tally}
 use Rattle.code_gen.proofs.PassActions.Fillings.{working}
@@ -69,7 +70,7 @@ module _ (lanes : ℕ) (some : 0 < lanes) where
       let several : code_cost 1 code * 1 ≤ code_cost 1 code * lanes = mul-le-mul_left (code_cost 1 code) some in
       omega (arith, long, o, several)
 
-module _ (c : PlainMachine) (p : PlainNest) (target q : ℕ) (vs : List ℕ) (some : 0 < c.lanes) where
+module _ (c : Target) (p : PlainNest) (target q : ℕ) (vs : List ℕ) (some : 0 < c.lanes) where
   room-finish : (o : Option PlainMultiplier) (k from free : ℕ) → HasRoom c.lanes some 1 (finish_acts c p o target q vs k from free)
   room-finish None k from free = omega arith
   room-finish (Some d) k from free = omega arith
@@ -93,7 +94,7 @@ module _ (c : PlainMachine) (p : PlainNest) (target q : ℕ) (vs : List ℕ) (so
       less c.lanes some 0 (n * 0) (items_acts c p n source target q vs) (omega arith)
       (room-bodies c.lanes some 0 n (λ k. Load 0 (source + load_at c p q vs k) ∷ finish_acts c p p.multiplier target q vs k 0 1) (λ k. let last = room-finish p.multiplier k 0 1 in omega (arith, last)))
 
-module _ (c : PlainMachine) (some : 0 < c.lanes) (source target q : ℕ) where
+module _ (c : Target) (some : 0 < c.lanes) (source target q : ℕ) where
   copy-room : (p : PlainNest) (w : PlainWork) → CanWork c w → (vs : List ℕ) → HasRoom c.lanes some 0 (copy_acts c (working p w) w source target q vs)
   copy-room p (kernel trees) can vs =
       let z : PlainNest = working p (kernel trees) in
@@ -128,7 +129,7 @@ short_of procs o l s n cost loads size low co lo si =
     omega arith
 
 -- all processors together
-pub pass-short : (c : PlainMachine) (zs : List PlainNest) → CanRun c zs → (source target q : ℕ) → c.procs * length (pass_acts c zs source target q) ≤ pass_cost 1 c.modulus zs + pass_loads zs + 2 * c.size
+pub pass-short : (c : Target) (zs : List PlainNest) → CanRun c zs → (source target q : ℕ) → c.procs * length (pass_acts c zs source target q) ≤ pass_cost 1 c.modulus zs + pass_loads zs + 2 * c.size
 pass-short c zs can source target q =
     let are = counts-are 1 c can.lanes can.modulus source target q zs can in
     short_of c.procs _ _ _ (length (pass_acts c zs source target q)) _ _ _ (nests-room c can.lanes source target q zs (nest-can c zs can)) are.operations are.loads (stores-are 1 c can.lanes can.modulus source target q zs can)

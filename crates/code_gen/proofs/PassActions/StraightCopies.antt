@@ -9,7 +9,7 @@ use Rattle.icode.specs.CodeLaws.Nests.{bodies, loads}
 use Rattle.icode.proofs.CodeLaws.ByLane.{effect_by_lane, other_register, lists_follow}
 use Rattle.icode.proofs.CodeLaws.Fills.{Fills, fills-loop, fills-after}
 use Rattle.icode.proofs.CodeLaws.Stores.{Stored, loads-memory, loads-registers}
-use Rattle.code_gen.specs.PassActions.Machine.{PlainMachine}
+use Rattle.operators.specs.declared.target.Target.{Target}
 use Rattle.sigma_spl.specs.Nest.{PlainMultiplier, PlainNest}
 use Rattle.code_gen.specs.PassActions.Acts.{store_at, finish_acts, with_multiplier}
 use Rattle.code_gen.proofs.PassActions.Tasks.{register, Task, IsReady, AreInputs, AreOutputs, ready-after_store, ready-kept}
@@ -52,25 +52,25 @@ module _ (m lanes regs : ℕ) (t : Task) where
       }
 
 -- the ends of n outputs, with free registers from `used` on
-abbrev pub ends_of : PlainMachine → PlainNest → Option PlainMultiplier → (ℕ → ℕ) → ℕ → ℕ → ℕ → List ℕ → ℕ → List Action
+abbrev pub ends_of : Target → PlainNest → Option PlainMultiplier → (ℕ → ℕ) → ℕ → ℕ → ℕ → List ℕ → ℕ → List Action
 ends_of c p o out used target q vs k = finish_acts c p o target q vs k (out k) (used + k)
 
 -- the actions of a copy, from its places
-abbrev pub copy_body : PlainMachine → PlainNest → Option PlainMultiplier → List Action → (ℕ → ℕ) → ℕ → ℕ → (ℕ → ℕ) → ℕ → ℕ → List ℕ → List Action
+abbrev pub copy_body : Target → PlainNest → Option PlainMultiplier → List Action → (ℕ → ℕ) → ℕ → ℕ → (ℕ → ℕ) → ℕ → ℕ → List ℕ → List Action
 copy_body c p o middle out used n from target q vs = loads n from ++ (middle ++ bodies n (ends_of c p o out used target q vs))
 
 -- the words that a copy fills, on all lanes
-abbrev pub CopyWords : PlainMachine → PlainNest → ℕ → ℕ → ℕ → List ℕ → ℕ → Type 0
+abbrev pub CopyWords : Target → PlainNest → ℕ → ℕ → ℕ → List ℕ → ℕ → Type 0
 CopyWords c p n target q vs a = (k : ℕ) × (k < n) × Stored c.lanes (target + store_at c p q vs k) a
 
 -- code between the loads and the ends: from the inputs it makes these values of the outputs, in registers below a bound
-pub record Computes (c : PlainMachine) (regs : ℕ) (t : Task) (n : ℕ) (from : ℕ → ℕ) (middle : List Action) (out : ℕ → ℕ) (used : ℕ) (value : ℕ → ℕ → ℕ) : Type 0 where
+pub record Computes (c : Target) (regs : ℕ) (t : Task) (n : ℕ) (from : ℕ → ℕ) (middle : List Action) (out : ℕ → ℕ) (used : ℕ) (value : ℕ → ℕ → ℕ) : Type 0 where
   pub enough : n ≤ used
   pub below : (k : ℕ) → k < n → out k < used
   pub memory : (s : Local) → IsReady c.lanes regs t s → (effects c.modulus c.lanes middle s).memory ≡ s.memory
   pub holds : (s : Local) → IsLoaded c.modulus c.lanes regs t n from s → Holds c.modulus c.lanes regs t out n value (effects c.modulus c.lanes middle s)
 
-pub body-fills : (c : PlainMachine) (p : PlainNest) (o : Option PlainMultiplier) (regs target q : ℕ) (t : Task) (n : ℕ) (from : ℕ → ℕ) (middle : List Action) (out : ℕ → ℕ) (used : ℕ) (value : ℕ → ℕ → ℕ) (vs : List ℕ) →
+pub body-fills : (c : Target) (p : PlainNest) (o : Option PlainMultiplier) (regs target q : ℕ) (t : Task) (n : ℕ) (from : ℕ → ℕ) (middle : List Action) (out : ℕ → ℕ) (used : ℕ) (value : ℕ → ℕ → ℕ) (vs : List ℕ) →
     0 < c.lanes → with_multiplier o used n ≤ regs → Computes c regs t n from middle out used value →
     ((k : ℕ) → k < n → AreInputs c.modulus c.lanes regs t (from k)) → ((k : ℕ) → k < n → AreOutputs c.modulus c.lanes regs t (target + store_at c p q vs k)) →
     ((k lane : ℕ) → k < n → lane < c.lanes → t.output (target + store_at c p q vs k + lane) ≡ finished_lane c p o q vs k lane (value k lane)) →

@@ -2,11 +2,11 @@
 use Rattle.std.proofs.Common.{◌≡◌, ℕ, ◌+◌, ◌<◌, ◌≤◌, arith, refl, ap, ◌∙◌, [], ◌∷◌}
 use Rattle.icode.specs.declared.action.Action.TheVariants.{Tile}
 use Rattle.icode.proofs.CodeLaws.Tiles.{tile_by_lane}
-use Rattle.code_gen.specs.PassActions.Machine.{PlainMachine}
+use Rattle.operators.specs.declared.target.Target.{Target}
 use Rattle.code_gen.proofs.PassActions.Tasks.{Task, register, ready-kept}
 use Rattle.code_gen.proofs.PassActions.StraightCopies.{Computes}
 
-module _ (c : PlainMachine) (regs : ℕ) (t : Task) (from : ℕ → ℕ) (some : 0 < c.lanes) (room : c.lanes + c.lanes ≤ regs) where
+module _ (c : Target) (regs : ℕ) (t : Task) (from : ℕ → ℕ) (some : 0 < c.lanes) (room : c.lanes + c.lanes ≤ regs) where
   -- lane l of output k is lane k of input l
   abbrev pub turned : ℕ → ℕ → ℕ
   turned k lane = t.input (from lane + k)

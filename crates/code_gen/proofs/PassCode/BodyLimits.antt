@@ -9,7 +9,7 @@ use Rattle.icode.specs.Plain.{PlainBody, PlainExpr, PlainOp, NoStmts, AndStmts, 
 use Rattle.kernel_gen.specs.Instructions.{AreWithin, IsWithin, op_of}
 use Rattle.kernel_gen.specs.declared.straight.Instruction.{Instruction}
 use Rattle.kernel_gen.specs.declared.straight.Instruction.TheVariants as instructions
-use Rattle.code_gen.specs.PassActions.Machine.{PlainFrame}
+use Rattle.sigma_spl.specs.Shared.Machine.{PlainFrame}
 use Rattle.code_gen.specs.PassCode.Statements.{do_only, finish_body, followed_by, in_a_row, loads_body, loop_value, nested, one_factor, place_at, product_op, product_place, straight_body}
 use Rattle.code_gen.proofs.PassCode.OneFactor.{OneIsBelow}
 use Rattle.sigma_spl.specs.Nest.{PlainMultiplier, PlainNest}

@@ -7,7 +7,8 @@ use Rattle.perm_algebra.specs.Affine.{Sum, constant, variable, remainder, quotie
 use Rattle.perm_algebra.proofs.AffineLaws.{value-le-top}
 use Rattle.code_gen.specs.PassCode.Conditions.{DividesWords, FitsWord}
 use Rattle.code_gen.specs.PassCode.Expressions.{expr_of}
-use Rattle.code_gen.specs.PassActions.Machine.{PlainMachine, PlainFrame, frame_of, values_of}
+use Rattle.operators.specs.declared.target.Target.{Target}
+use Rattle.sigma_spl.specs.Shared.Machine.{PlainFrame, frame_of, values_of}
 use Rattle.code_gen.proofs.PassCode.Numbers.{DividesLow, expr-value, expr-peak}
 use Rattle.code_gen.proofs.PassCode.Variables.{framed-values, no-more}
 use Rattle.sigma_spl.specs.Good.{AreSound}
@@ -40,7 +41,7 @@ sound-at [] i h = tt
 sound-at (e ∷ es) zero h = h.0
 sound-at (e ∷ es) (suc i) h = sound-at es i h.1
 
-pub coded : (c : PlainMachine) (w : PlainWork) (cs : ℕ → ℕ) (n : ℕ) (sums : List Sum) (i q : ℕ) (us : List ℕ) → All (FitsWord cs) sums → AreSound sums → length us ≡ n →
+pub coded : (c : Target) (w : PlainWork) (cs : ℕ → ℕ) (n : ℕ) (sums : List Sum) (i q : ℕ) (us : List ℕ) → All (FitsWord cs) sums → AreSound sums → length us ≡ n →
     ((d : ℕ) → slice_index (values_of c w q 0 us) d ≤ cs d - 1) → IsCoded (frame_of c w) n sums i us q (sum_value sums i (values_of c w q 0 us))
 coded c w cs n sums i q us words sound size low =
     let e : Sum = slice_index_or sums i (constant 0) in

@@ -17,7 +17,8 @@ use Rattle.kernel_gen.proofs.Instructions.{step-is}
 use Rattle.operators.proofs.Lists.{length-list_below, at-list_below}
 use Rattle.code_gen.specs.PassActions.Acts.{load_at, store_at, factors_at, finish_acts, made_acts, tile_acts, rows_acts, items_acts, term_acts, horner_acts}
 use Rattle.code_gen.specs.PassCode.Conditions.{IsInside}
-use Rattle.code_gen.specs.PassActions.Machine.{PlainMachine, frame_of, item_of, values_of, loop_counts}
+use Rattle.operators.specs.declared.target.Target.{Target}
+use Rattle.sigma_spl.specs.Shared.Machine.{frame_of, item_of, values_of, loop_counts}
 use Rattle.code_gen.specs.PassCode.Statements.{diagonal_of, one_factor, powers_of, product_op, do_only, in_a_row, followed_by, place_at, finish_body, straight_body, loads_body, made_body, tile_body, rows_body, items_body, loop_value, product_place, term_body, horner_body}
 use Rattle.code_gen.proofs.PassCode.Coded.{IsCoded}
 use Rattle.code_gen.proofs.PassCode.Emits.{Emits, emits-none, emits-one, emits-append, emits-followed, emits-in_a_row, emits-looped, emits-loop, emits-then}
@@ -32,7 +33,7 @@ use Rattle.ring_mod.proofs.Powers.{power_mod-exponent}
 inside-plain : (a : Action) → IsInside (plain a)
 inside-plain a = record { numbers = omega arith; place = omega arith }
 
-module _ (c : PlainMachine) (pass : PlainNest) (q : ℕ) where
+module _ (c : Target) (pass : PlainNest) (q : ℕ) where
   -- where the factors of a register's lanes stand in the diagonal
   abbrev pub entry_place : PlainMultiplier → List ℕ → ℕ → ℕ → ℕ
   entry_place d vs k lane = store_place pass.work d.places (values_of c pass.work q lane vs) (item_of pass.work k lane)
@@ -54,7 +55,7 @@ module _ (c : PlainMachine) (pass : PlainNest) (q : ℕ) where
     pub inside : store_at c pass q vs k + c.lanes ≤ c.size
     pub multiplied : (d : PlainMultiplier) → pass.multiplier ≡ Some d → IsMultipliedAt d step open_loops i us vs k
 
-module _ (c : PlainMachine) (pass : PlainNest) (p : PlainProgram) (here : IsFor c p) (some : 1 ≤ c.lanes) (q : ℕ) (source target : Array) where
+module _ (c : Target) (pass : PlainNest) (p : PlainProgram) (here : IsFor c p) (some : 1 ≤ c.lanes) (q : ℕ) (source target : Array) where
   -- the diagonal's table, where it has one
   abbrev pub HasDiagonal : ℕ → Type 0
   HasDiagonal table = (d : PlainMultiplier) → pass.multiplier ≡ Some d → one_factor d.factors ≡ None → slice_index_or p.tables table [] ≡ diagonal_of c.modulus d.factors

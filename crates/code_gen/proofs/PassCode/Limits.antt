@@ -11,8 +11,9 @@ use Rattle.kernel_gen.proofs.Products.{trees-does}
 use Rattle.perm_algebra.specs.Affine.{Sum, constant}
 use Rattle.code_gen.specs.PassActions.Acts.{nest_registers}
 use Rattle.code_gen.specs.PassCode.Conditions.{AreWithin, CanWriteNest}
-use Rattle.code_gen.specs.PassActions.Laws.{CanRunNest}
-use Rattle.code_gen.specs.PassActions.Machine.{PlainMachine, PlainFrame, frame_of, loop_counts}
+use Rattle.sigma_spl.specs.Shared.Running.{CanRunNest}
+use Rattle.operators.specs.declared.target.Target.{Target}
+use Rattle.sigma_spl.specs.Shared.Machine.{PlainFrame, frame_of, loop_counts}
 use Rattle.code_gen.specs.PassCode.Statements.{diagonal_of, diagonal_number, one_factor, powers_of, finish_body, followed_by, horner_body, in_a_row, product_place, loads_body, multiplier_number, nest_body, place_at, powers_number, rows_body, straight_body, tables_of_multiplier, tables_of_nest, tables_of_work, term_body, with_diagonal, work_body}
 use Rattle.code_gen.proofs.PassCode.BodyLimits.{ArePlaces, both, finish-within, horner-within, loads-within, product-within, small-is, straight-within, term-within, within-do, within-followed, within-in_a_row, within-loop, within-nested}
 use Rattle.code_gen.proofs.PassActions.Fillings.{working}
@@ -64,7 +65,7 @@ nest-longer m z ts = let first = work-longer m z.work ts in let second = multipl
 
 -- ---- work
 
-module _ (c : PlainMachine) (modulus : 2 ≤ c.modulus) (source target : Array) (powers table : ℕ) (first : powers < 2 ^ 32) (second : table < 2 ^ 32) where
+module _ (c : Target) (modulus : 2 ≤ c.modulus) (source target : Array) (powers table : ℕ) (first : powers < 2 ^ 32) (second : table < 2 ^ 32) where
   abbrev m : ℕ
   m = c.modulus
 
@@ -151,7 +152,7 @@ module _ (c : PlainMachine) (modulus : 2 ≤ c.modulus) (source target : Array) 
 
 -- ---- a nest
 
-pub nest-within : (c : PlainMachine) (z : PlainNest) (tables : List (List ℕ)) (source target : Array) → 2 ≤ c.modulus → CanRunNest c z → CanWriteNest c z → nest_registers c.modulus z z.work < 2 ^ 20 → length (tables_of_nest c.modulus z tables) < 2 ^ 32 →
+pub nest-within : (c : Target) (z : PlainNest) (tables : List (List ℕ)) (source target : Array) → 2 ≤ c.modulus → CanRunNest c z → CanWriteNest c z → nest_registers c.modulus z z.work < 2 ^ 20 → length (tables_of_nest c.modulus z tables) < 2 ^ 32 →
     is_body_within c.modulus (nest_body c z tables source target) 0 ≡ true
 nest-within c z tables source target modulus can writes few some =
     let powers = powers_number c.modulus z.work tables in

@@ -10,8 +10,9 @@ use Rattle.operators.proofs.Lists.{row-of, column-of}
 use Rattle.perm_algebra.specs.Affine.{Sum, constant, value}
 use Rattle.code_gen.specs.PassActions.Acts.{load_at, store_at, copy_acts, nest_acts, term_acts, horner_acts}
 use Rattle.code_gen.specs.PassCode.Conditions.{AreWithin, CanWriteNest}
-use Rattle.code_gen.specs.PassActions.Laws.{CanRunNest}
-use Rattle.code_gen.specs.PassActions.Machine.{PlainMachine, frame_of, item_of, values_of, loop_counts, lane_step}
+use Rattle.sigma_spl.specs.Shared.Running.{CanRunNest}
+use Rattle.operators.specs.declared.target.Target.{Target}
+use Rattle.sigma_spl.specs.Shared.Machine.{frame_of, item_of, values_of, loop_counts, lane_step}
 use Rattle.code_gen.specs.PassCode.Statements.{diagonal_of, diagonal_number, one_factor, powers_of, multiplier_number, nest_body, nested, place_at, powers_number, table_number, tables_of_multiplier, tables_of_nest, tables_of_work, term_body, horner_body, with_diagonal, with_table, work_body}
 use Rattle.code_gen.proofs.PassCode.Coded.{IsCoded, coded}
 use Rattle.code_gen.proofs.PassCode.Emits.{Emits, emits-nested}
@@ -53,10 +54,10 @@ tile-first sums vs k v some =
     let none : sum_value sums k vs + 0 ≡ sum_value sums k vs = omega arith in
     ap₂ (λ i l. sum_value sums i vs + l) (row-of k 0 v some) (column-of k 0 v some) ∙ none
 
-place-is : (c : PlainMachine) (n i : ℕ) (z : PlainNest) (sums : List Sum) (us : List ℕ) (q a b : ℕ) → a ≡ b → IsCoded (frame_of c z.work) n sums i us q a → IsCoded (frame_of c z.work) n sums i us q b
+place-is : (c : Target) (n i : ℕ) (z : PlainNest) (sums : List Sum) (us : List ℕ) (q a b : ℕ) → a ≡ b → IsCoded (frame_of c z.work) n sums i us q a → IsCoded (frame_of c z.work) n sums i us q b
 place-is c n i z sums us q a b is h = subst (λ (p : ℕ). IsCoded (frame_of c z.work) n sums i us q p) is h
 
-module _ (c : PlainMachine) (lanes : 0 < c.lanes) (z : PlainNest) (can : CanRunNest c z) (writes : CanWriteNest c z) (q : ℕ) (part : q < c.procs) (vs : List ℕ) (range : AreInRange can.framed.loops vs) where
+module _ (c : Target) (lanes : 0 < c.lanes) (z : PlainNest) (can : CanRunNest c z) (writes : CanWriteNest c z) (q : ℕ) (part : q < c.procs) (vs : List ℕ) (range : AreInRange can.framed.loops vs) where
   -- the values of all variables on a lane
   abbrev on : ℕ → List ℕ
   on lane = values_of c z.work q lane vs
@@ -160,7 +161,7 @@ module _ (c : PlainMachine) (lanes : 0 < c.lanes) (z : PlainNest) (can : CanRunN
 
 -- ---- copies
 
-module _ (c : PlainMachine) (lanes : 0 < c.lanes) (program : PlainProgram) (here : IsFor c program) (q : ℕ) (part : q < c.procs) (source target : Array) (powers table : ℕ) where
+module _ (c : Target) (lanes : 0 < c.lanes) (program : PlainProgram) (here : IsFor c program) (q : ℕ) (part : q < c.procs) (source target : Array) (powers table : ℕ) where
   -- the tables of a nest
   pub record HasNestTables (z : PlainNest) : Type 0 where
     pub diagonal : (d : PlainMultiplier) → z.multiplier ≡ Some d → one_factor d.factors ≡ None → slice_index_or program.tables table [] ≡ diagonal_of c.modulus d.factors
@@ -248,7 +249,7 @@ nest-extends m z ts = extends-more (tables_of_nest m z ts) (tables_of_work m z.w
 powers-there : (m : ℕ) (o : Option PlainMultiplier) (entries : List ℕ) (ts more : List (List ℕ)) → slice_index_or (tables_of_multiplier m o (with_table ts entries) ++ more) (table_number ts entries) [] ≡ entries
 powers-there m o entries ts more = number-stays ts entries (tables_of_multiplier m o (with_table ts entries)) more (multiplier-extends m o (with_table ts entries))
 
-module _ (c : PlainMachine) (lanes : 0 < c.lanes) (program : PlainProgram) (here : IsFor c program) (q : ℕ) (part : q < c.procs) (source target : Array) (tables more : List (List ℕ)) where
+module _ (c : Target) (lanes : 0 < c.lanes) (program : PlainProgram) (here : IsFor c program) (q : ℕ) (part : q < c.procs) (source target : Array) (tables more : List (List ℕ)) where
   rows-table : (w : PlainWork) (o : Option PlainMultiplier) (root n : ℕ) → w ≡ rows root n → slice_index_or (tables_of_multiplier c.modulus o (tables_of_work c.modulus w tables) ++ more) (powers_number c.modulus w tables) [] ≡ powers_of c.modulus root n
   rows-table w o root n is =
       subst (λ (u : PlainWork). slice_index_or (tables_of_multiplier c.modulus o (tables_of_work c.modulus u tables) ++ more) (powers_number c.modulus u tables) [] ≡ powers_of c.modulus root n) (sym is)

@@ -1,8 +1,8 @@
 -- A diagonal that repeats one factor.
 use Rattle.std.proofs.Common.{◌≡◌, ℕ, ◌<◌, subst}
 use Rattle.std.specs.Prelude.{Option, Some}
-use Rattle.code_gen.specs.PassActions.Laws.{HasResidues}
-use Rattle.code_gen.specs.PassActions.Machine.{PlainMachine}
+use Rattle.sigma_spl.specs.Shared.Running.{HasResidues}
+use Rattle.operators.specs.declared.target.Target.{Target}
 use Rattle.code_gen.specs.PassCode.Statements.{one_factor}
 use Rattle.sigma_spl.specs.Nest.{PlainFactors, values, twiddles, repeated, spread, PlainMultiplier, PlainNest, factor_at}
 
@@ -17,5 +17,5 @@ one-factor m (spread path factors) value is i = one-factor m factors value is _
 abbrev pub OneIsBelow : ℕ → Option PlainMultiplier → Type 0
 OneIsBelow m o = (d : PlainMultiplier) (value : ℕ) → o ≡ Some d → one_factor d.factors ≡ Some value → value < m
 
-pub one-below : (c : PlainMachine) (z : PlainNest) → HasResidues c z → OneIsBelow c.modulus z.multiplier
+pub one-below : (c : Target) (z : PlainNest) → HasResidues c z → OneIsBelow c.modulus z.multiplier
 one-below c z residues d value is one = subst (λ n. n < c.modulus) (one-factor c.modulus d.factors value one 0) (residues d is 0)

@@ -8,8 +8,8 @@ use Rattle.icode.specs.Limits.{is_body_within}
 use Rattle.icode.specs.Plain.{PlainProgram}
 use Rattle.code_gen.specs.PassActions.Acts.{nest_acts, nest_registers, pass_acts}
 use Rattle.code_gen.specs.PassCode.Conditions.{CanWriteNest, HasTables, PassesAreEmitted}
-use Rattle.code_gen.specs.PassActions.Laws.{CanRunNest}
-use Rattle.code_gen.specs.PassActions.Machine.{PlainMachine}
+use Rattle.sigma_spl.specs.Shared.Running.{CanRunNest}
+use Rattle.operators.specs.declared.target.Target.{Target}
 use Rattle.code_gen.specs.PassCode.Statements.{nest_body, pass_body, tables_after, tables_of_nest}
 use Rattle.code_gen.proofs.PassCode.BodyLimits.{within-followed}
 use Rattle.code_gen.proofs.PassActions.Copies.{nest-can}
@@ -30,10 +30,10 @@ pass-longer m [] ts = omega arith
 pass-longer m (z ∷ zs) ts = let first = nest-longer m z ts in let rest = pass-longer m zs (tables_of_nest m z ts) in omega arith
 
 -- nests that can be run and written
-abbrev CanDo : PlainMachine → List PlainNest → Type 0
+abbrev CanDo : Target → List PlainNest → Type 0
 CanDo c zs = (z : PlainNest) → Contains zs z → CanRunNest c z × CanWriteNest c z × (nest_registers c.modulus z z.work < 2 ^ 20)
 
-module _ (c : PlainMachine) (lanes : 0 < c.lanes) (modulus : 2 ≤ c.modulus) (source target : Array) where
+module _ (c : Target) (lanes : 0 < c.lanes) (modulus : 2 ≤ c.modulus) (source target : Array) where
   module _ (program : PlainProgram) (here : IsFor c program) (q : ℕ) (part : q < c.procs) where
     emits-nests : (zs : List PlainNest) → CanDo c zs → (tables more : List (List ℕ)) → program.tables ≡ tables_after c.modulus zs tables ++ more →
         Emits (steps_of_body program (pass_body c zs tables source target) [] q) (pass_acts c zs (start_of c source) (start_of c target) q)

@@ -10,7 +10,8 @@ use Rattle.icode.specs.Machine.{whole_lines}
 use Rattle.icode.specs.Plain.{PlainExpr, PlainProgram, Load, Store, MulTable}
 use Rattle.code_gen.specs.PassCode.Statements.{do_only, place_at}
 use Rattle.code_gen.proofs.PassCode.Emits.{Emits, emits-do}
-use Rattle.code_gen.specs.PassActions.Machine.{PlainMachine, PlainFrame}
+use Rattle.operators.specs.declared.target.Target.{Target}
+use Rattle.sigma_spl.specs.Shared.Machine.{PlainFrame}
 use Rattle.code_gen.proofs.PassCode.Coded.{IsCoded}
 use Rattle.operators.proofs.Lists.{list_below-same}
 use Rattle.perm_algebra.specs.Affine.{Sum}
@@ -20,21 +21,21 @@ whole-enough : (n line : ℕ) → 0 < line → n ≤ whole_lines n line
 whole-enough n line some = let h : n + (line - 1) < (n + (line - 1)) / line * line + line = lt-div-mul-add some in omega arith
 
 -- the program is for the machine
-pub record IsFor (c : PlainMachine) (p : PlainProgram) : Type 0 where
+pub record IsFor (c : Target) (p : PlainProgram) : Type 0 where
   pub size : p.size ≡ c.size
   pub line : p.line ≡ c.line
   pub lanes : p.lanes ≡ c.lanes
   pub some : 0 < c.line
 
 -- where an array of the machine's size begins
-abbrev pub start_of : PlainMachine → Array → ℕ
+abbrev pub start_of : Target → Array → ℕ
 start_of c array = array_start (whole_lines c.size c.line) array
 
 -- factors that agree on the lanes
 pub factors-same : (lanes : ℕ) (f g : ℕ → ℕ) → ((lane : ℕ) → lane < lanes → f lane ≡ g lane) → lane_factors lanes f ≡ lane_factors lanes g
 factors-same lanes f g h = ap (λ (xs : List ℕ). xs ++ replicate (16 - lanes) 0) (list_below-same lanes f g h)
 
-module _ (c : PlainMachine) (p : PlainProgram) (here : IsFor c p) (q : ℕ) where
+module _ (c : Target) (p : PlainProgram) (here : IsFor c p) (q : ℕ) where
   words-are : whole_lines p.size p.line ≡ whole_lines c.size c.line
   words-are = ap₂ (λ (n line : ℕ). whole_lines n line) here.size here.line
 

@@ -4,7 +4,8 @@ use Rattle.std.specs.Prelude.{◌==◌, if◌then◌else◌, not, IsTrue}
 use Rattle.std.specs.List.{list_all}
 use Rattle.std.proofs.lemmas.List.Elements.{All-nil, All-cons, All-weaker}
 use Rattle.icode.specs.Limits.{is_expr_within}
-use Rattle.code_gen.specs.PassActions.Machine.{PlainMachine, frame_of, lane_variables}
+use Rattle.operators.specs.declared.target.Target.{Target}
+use Rattle.sigma_spl.specs.Shared.Machine.{frame_of, lane_variables}
 use Rattle.code_gen.specs.PassCode.Conditions.{AreWithin, CanWrite, FitsWord, loads_inside, stores_inside}
 use Rattle.code_gen.specs.PassCode.Expressions.{expr_of}
 use Rattle.code_gen.specs.PassCode.Small.{CanBeCoded, IsFrame}
@@ -29,10 +30,10 @@ frame-pick : (b : Bool) (more : ℕ) → not b ≡ true → 0 < (if b then 0 els
 frame-pick true more is = absurd (cc)
 frame-pick false more is = omega arith
 
-frame-is : (h : PlainMachine) (w : PlainWork) → IsFrame (frame_of h w)
+frame-is : (h : Target) (w : PlainWork) → IsFrame (frame_of h w)
 frame-is h w is = frame-pick (h.procs == 1) (lane_variables h w) is
 
-pub sums-written : (room n : ℕ) (cs : ℕ → ℕ) (h : PlainMachine) (w : PlainWork) (open_loops : ℕ) (sums : List Sum) → open_loops ≤ 64 → room ≤ 64 → n ≤ 2 ^ 20 → list_all (is_limited room n cs) sums ≡ true → AreWithin cs (frame_of h w) open_loops sums
+pub sums-written : (room n : ℕ) (cs : ℕ → ℕ) (h : Target) (w : PlainWork) (open_loops : ℕ) (sums : List Sum) → open_loops ≤ 64 → room ≤ 64 → n ≤ 2 ^ 20 → list_all (is_limited room n cs) sums ≡ true → AreWithin cs (frame_of h w) open_loops sums
 sums-written room n cs h w open_loops sums shallow few high tested =
     let all = coded-all room n cs sums few high tested in
     record {

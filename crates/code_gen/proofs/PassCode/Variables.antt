@@ -2,7 +2,8 @@
 use Rattle.std.proofs.Common.{◌≡◌, ℕ, zero, suc, ◌+◌, ◌-◌, ◌<◌, ◌≤◌, Bool, true, false, arith, refl, ap, ◌∙◌, List, [], ◌∷◌, ◌++◌, length, if◌then◌else◌, append_assoc}
 use Rattle.std.specs.Prelude.{slice_index, not, ◌==◌}
 use Rattle.icode.specs.CodeLaws.Nests.{AreInRange}
-use Rattle.code_gen.specs.PassActions.Machine.{PlainMachine, one_if_several, first_loop, frame_of, if_several, values_of}
+use Rattle.operators.specs.declared.target.Target.{Target}
+use Rattle.sigma_spl.specs.Shared.Machine.{one_if_several, first_loop, frame_of, if_several, values_of}
 use Rattle.code_gen.proofs.PassCode.Numbers.{IsFramedBy, AreNoMore}
 use Rattle.sigma_spl.specs.Work.{PlainWork, kernel, rows, horner, tile, copy}
 
@@ -53,7 +54,7 @@ framed-two false g q us =
     beside false (suc zero) low positive = refl
     beside false (suc (suc d)) low positive = absurd (omega arith)
 
-module _ (c : PlainMachine) where
+module _ (c : Target) where
   pub framed-values : (w : PlainWork) (q : ℕ) (us : List ℕ) → IsFramedBy (frame_of c w) (slice_index (values_of c w q 0 us)) (slice_index us) q
   framed-values (kernel trees) q us = framed-two (c.procs == 1) (c.lanes == 1) q us
   framed-values (rows root size) q us = framed-two (c.procs == 1) (c.lanes == 1) q us
@@ -101,7 +102,7 @@ past-end (x ∷ xs) zero h = absurd (omega arith)
 past-end (x ∷ xs) (suc d) h = past-end xs d (omega arith)
 
 -- all values are those of the frame and of the open loops
-pub no-more : (c : PlainMachine) (w : PlainWork) (q n : ℕ) (us : List ℕ) → length us ≡ n → AreNoMore (first_loop c w + n) (slice_index (values_of c w q 0 us))
+pub no-more : (c : Target) (w : PlainWork) (q n : ℕ) (us : List ℕ) → length us ≡ n → AreNoMore (first_loop c w + n) (slice_index (values_of c w q 0 us))
 no-more c w q n us size d high = past-end (values_of c w q 0 us) d (let whole = length-values c w q us in omega arith)
 
 -- values in range are below their counts

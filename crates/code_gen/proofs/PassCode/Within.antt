@@ -8,7 +8,7 @@ use Rattle.icode.specs.Plain.{PlainParts, PlainPart, AndParts, Proc, Var}
 use Rattle.perm_algebra.specs.Affine.{Sum, constant, variable, remainder, quotient, levels, parts}
 use Rattle.perm_algebra.specs.Room.{constant_of}
 use Rattle.code_gen.specs.PassCode.Expressions.{factor_at, variables_of, processor_of, remainders_of, quotients_of, divisions_of, expr_of}
-use Rattle.code_gen.specs.PassActions.Machine.{PlainFrame}
+use Rattle.sigma_spl.specs.Shared.Machine.{PlainFrame}
 use Rattle.code_gen.specs.PassCode.Small.{DividesSmall, ExpressionsAreWithin, HasSmall, IsFrame, IsSmallPositive}
 use Rattle.code_gen.proofs.PassCode.Numbers.{with_factor_of}
 use Rattle.code_gen.proofs.PassCode.Writing.{is-zero, not-zero, factor-other}

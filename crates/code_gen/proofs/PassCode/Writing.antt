@@ -4,7 +4,7 @@ use Rattle.std.specs.Prelude.{◌==◌}
 use Rattle.std.proofs.lemmas.Bool.Decides.{nat_tests}
 use Rattle.icode.specs.Plain.{PlainParts, AndParts, Var}
 use Rattle.perm_algebra.specs.Affine.{Sum, variable}
-use Rattle.code_gen.specs.PassActions.Machine.{PlainFrame}
+use Rattle.sigma_spl.specs.Shared.Machine.{PlainFrame}
 use Rattle.code_gen.specs.PassCode.Expressions.{factor_at, variables_of}
 
 pub is-zero : (n : ℕ) → n ≡ 0 → (n == 0) ≡ true

@@ -18,25 +18,26 @@ use Rattle.icode.proofs.Lines.{Contains-nil}
 use Rattle.icode.specs.CodeLaws.Nests.{AreInRange}
 use Rattle.code_gen.specs.PassActions.Acts.{load_at, store_at, pass_acts}
 use Rattle.code_gen.specs.PassCode.Conditions.{CanWritePass}
-use Rattle.code_gen.specs.PassCode.Contract.{IsOwner}
-use Rattle.code_gen.specs.PassActions.Laws.{CanRunNest}
-use Rattle.code_gen.specs.PassActions.Machine.{PlainMachine, item_of, values_of}
+use Rattle.sigma_spl.specs.Shared.Owners.{IsOwner}
+use Rattle.sigma_spl.specs.Shared.Running.{CanRunNest}
+use Rattle.operators.specs.declared.target.Target.{Target}
+use Rattle.sigma_spl.specs.Shared.Machine.{item_of, values_of}
 use Rattle.code_gen.proofs.PassActions.Copies.{nest-can}
 use Rattle.code_gen.proofs.PassActions.Framed.{copy-framed, item-below, of_code}
 use Rattle.sigma_spl.specs.Nest.{PlainNest, load_place, store_place}
 use Rattle.sigma_spl.specs.Work.{work_size, vectors_of}
-use Rattle.code_gen.specs.PassCode.Program.{target_of, array_after, count_in}
+use Rattle.code_gen.specs.PassCode.Program.{written_array, array_after, count_in}
 use Rattle.code_gen.proofs.WholePrograms.Arrays.{number, IsOther, last-number, scratch-number}
 use Rattle.code_gen.proofs.WholePrograms.Every.{IsFree, every}
 use Rattle.code_gen.proofs.WholePrograms.Known.{Pass, AllKnown, PhasesKnown, passes_acts}
 use Rattle.code_gen.proofs.WholePrograms.Phases.{SharedFrom, RunsPhases}
 use Rattle.code_gen.proofs.WholePrograms.Processor.{MayRead, Owns, Reads, Owned}
 
-pub target-not_first : (t k : ℕ) → IsOther X (target_of t k)
+pub target-not_first : (t k : ℕ) → IsOther X (written_array t k)
 target-not_first t zero = λ e. let is = last-number t in absurd (omega (arith, e, is))
 target-not_first t (suc k) = λ e. let is = scratch-number t k in absurd (omega (arith, e, is))
 
-module _ (c : PlainMachine) (words : ℕ) (enough : c.size ≤ words) (owner : ℕ → ℕ) (after : ℕ) where
+module _ (c : Target) (words : ℕ) (enough : c.size ≤ words) (owner : ℕ → ℕ) (after : ℕ) where
   -- a word that a processor may read, and one that is its own
   pub record IsReadable (q w : ℕ) : Type 0 where
     pub array : Array
@@ -121,7 +122,7 @@ module _ (c : PlainMachine) (words : ℕ) (enough : c.size ≤ words) (owner : �
       All (Keeps q) (passes_acts c words after ps t source q)
   parts-keep [] t source known owned q low = All-nil (Keeps q)
   parts-keep (p ∷ ps) t source known owned q low =
-      let target = target_of t (after + length ps) in
+      let target = written_array t (after + length ps) in
       All-append (Keeps q) (pass_acts c p (array_start words source) (array_start words target) q) (passes_acts c words after ps (suc t) target q)
       (pass-keeps p known.0 source target (target-not_first t (after + length ps)) owned.0 owned.1 q low)
       (parts-keep ps (suc t) target known.1 owned.2 q low)
@@ -234,7 +235,7 @@ module _ (c : PlainMachine) (words : ℕ) (enough : c.size ≤ words) (owner : �
 
 -- ---- phases of a program
 
-module _ (c : PlainMachine) (words : ℕ) (enough : c.size ≤ words) (some : 0 < c.line) (whole : ℕ) (words_are : words ≡ whole * c.line) (code : Code) (is_code : IsCode code) (modulus_is : code.modulus ≡ c.modulus)
+module _ (c : Target) (words : ℕ) (enough : c.size ≤ words) (some : 0 < c.line) (whole : ℕ) (words_are : words ≡ whole * c.line) (code : Code) (is_code : IsCode code) (modulus_is : code.modulus ≡ c.modulus)
     (lanes_are : code.lanes ≡ c.lanes) (procs_are : code.procs ≡ c.procs) (line_is : code.line ≡ c.line) where
   none-written : (f q : ℕ) → c.procs ≤ q → acts code f q ≡ []
   none-written f q past = acts_past code is_code f q (omega (arith, past, procs_are))

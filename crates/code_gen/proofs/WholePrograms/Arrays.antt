@@ -7,7 +7,7 @@ use Rattle.icode.specs.Actions.{array_start}
 use Rattle.icode.specs.declared.program.Array.{Array}
 use Rattle.icode.specs.declared.program.Array.TheVariants.{X, Y, A, B}
 use Rattle.code_gen.specs.PassActions.Laws.{AreApart}
-use Rattle.code_gen.specs.PassCode.Program.{target_of}
+use Rattle.code_gen.specs.PassCode.Program.{written_array}
 
 -- the arrays in their order
 abbrev pub number : Array → ℕ
@@ -53,22 +53,22 @@ is-not_zero : (n : ℕ) → n ≢ 0 → (n == 0) ≡ false
 is-not_zero n e = grind (arith, nat_tests)
 
 -- passes that others follow write A where their number is even, and else B
-pub scratch-number : (t k : ℕ) → number (target_of t (suc k)) ≡ 2 + t % 2
+pub scratch-number : (t k : ℕ) → number (written_array t (suc k)) ≡ 2 + t % 2
 scratch-number t k =
     elim (cases_eq (t % 2) 0) [
       | inl even ↦ ap (λ b. number (if b then A else B)) (is-zero (t % 2) even) ∙ omega arith
       | inr odd ↦ ap (λ b. number (if b then A else B)) (is-not_zero (t % 2) odd) ∙ omega arith
     ]
 
-pub last-number : (t : ℕ) → number (target_of t zero) ≡ 1
+pub last-number : (t : ℕ) → number (written_array t zero) ≡ 1
 last-number t = refl
 
 -- the first pass reads X
-pub first-other : (k : ℕ) → IsOther X (target_of 0 k)
+pub first-other : (k : ℕ) → IsOther X (written_array 0 k)
 first-other zero = λ e. absurd (omega arith)
 first-other (suc k) = λ e. absurd (omega arith)
 
 -- the next pass reads what this one wrote
-pub next-other : (t k j : ℕ) → IsOther (target_of t (suc k)) (target_of (suc t) j)
+pub next-other : (t k j : ℕ) → IsOther (written_array t (suc k)) (written_array (suc t) j)
 next-other t k zero = λ e. let this = scratch-number t k in absurd (omega arith)
 next-other t k (suc j) = λ e. let this = scratch-number t k in let next = scratch-number (suc t) j in absurd (omega arith)

@@ -8,8 +8,8 @@ use Rattle.icode.specs.Plain.{PlainProgram}
 use Rattle.icode.specs.declared.action.Action.{Action}
 use Rattle.icode.specs.declared.program.Array.{Array}
 use Rattle.code_gen.specs.PassCode.Conditions.{HasTables, IsInside}
-use Rattle.code_gen.specs.PassActions.Machine.{PlainMachine}
-use Rattle.code_gen.specs.PassCode.Program.{target_of, phase_body, tables_through, tables_of_phases}
+use Rattle.operators.specs.declared.target.Target.{Target}
+use Rattle.code_gen.specs.PassCode.Program.{written_array, phase_body, tables_through, tables_of_phases}
 use Rattle.code_gen.specs.PassCode.Statements.{pass_body, tables_after}
 use Rattle.code_gen.proofs.PassCode.BodyLimits.{within-followed}
 use Rattle.code_gen.proofs.PassCode.NestEmits.{extends-more}
@@ -34,7 +34,7 @@ pub phases-longer : (m : ℕ) (pss : List (List Pass)) (ts : List (List ℕ)) �
 phases-longer m [] ts = omega arith
 phases-longer m (ps ∷ more) ts = let first = through-longer m ps ts in let rest = phases-longer m more (tables_through m ps ts) in omega arith
 
-module _ (c : PlainMachine) where
+module _ (c : Target) where
   -- a program with more tables has the first ones
   pub fewer-tables : (a b : List (List ℕ)) (program : PlainProgram) → Extends b a → HasTables c b program → HasTables c a program
   fewer-tables a b program g h =
@@ -56,7 +56,7 @@ module _ (c : PlainMachine) where
     passes-acts [] t tables source all few has = refl
     passes-acts (p ∷ ps) t tables source all few has =
         let so_far = tables_after c.modulus p tables in
-        let target = target_of t (after + length ps) in
+        let target = written_array t (after + length ps) in
         let longer = through-longer c.modulus ps so_far in
         let mine = fewer-tables so_far (tables_through c.modulus ps so_far) program (through-extends c.modulus ps so_far) has in
         let first = (passes_are_emitted c p tables source target all.0 (omega arith)).acts program q low mine in
@@ -70,7 +70,7 @@ module _ (c : PlainMachine) where
     passes-inside [] t tables source all few has = All-nil IsInside
     passes-inside (p ∷ ps) t tables source all few has =
         let so_far = tables_after c.modulus p tables in
-        let target = target_of t (after + length ps) in
+        let target = written_array t (after + length ps) in
         let longer = through-longer c.modulus ps so_far in
         let mine = fewer-tables so_far (tables_through c.modulus ps so_far) program (through-extends c.modulus ps so_far) has in
         let first = (passes_are_emitted c p tables source target all.0 (omega arith)).inside program q low mine in
@@ -82,7 +82,7 @@ module _ (c : PlainMachine) where
   passes-within after [] t tables source all few = refl
   passes-within after (p ∷ ps) t tables source all few =
       let so_far = tables_after c.modulus p tables in
-      let target = target_of t (after + length ps) in
+      let target = written_array t (after + length ps) in
       let longer = through-longer c.modulus ps so_far in
       within-followed c.modulus (pass_body c p tables source target) (phase_body c after ps (suc t) so_far target) 0
       (passes_are_emitted c p tables source target all.0 (omega arith)).within

@@ -14,7 +14,8 @@ use Rattle.kernel_gen.specs.declared.straight.Instruction.{Instruction}
 use Rattle.kernel_gen.specs.declared.straight.Instruction.TheVariants as instructions
 use Rattle.ring_mod.specs.Residue.{power_mod}
 use Rattle.code_gen.specs.PassActions.Acts.{load_at, store_at, factors_at, finish_acts, made_acts, tile_acts, rows_acts, items_acts, term_acts, horner_acts, copy_acts, nest_acts, pass_acts}
-use Rattle.code_gen.specs.PassActions.Machine.{PlainMachine, loop_counts}
+use Rattle.operators.specs.declared.target.Target.{Target}
+use Rattle.sigma_spl.specs.Shared.Machine.{loop_counts}
 use Rattle.code_gen.proofs.PassActions.Fillings.{working}
 use Rattle.code_gen.proofs.PassActions.Rows.{row_acts}
 use Rattle.sigma_spl.specs.Nest.{PlainMultiplier, PlainNest}
@@ -57,7 +58,7 @@ module _ (P : Action → Type 0) (free : IsFree P) where
   in-code lanes [] = All-nil P
   in-code lanes (i ∷ code) = cons (action_by lanes i) (actions_by lanes code) (action-has lanes i) (in-code lanes code)
 
-  module _ (c : PlainMachine) (p : PlainNest) (source target q : ℕ) where
+  module _ (c : Target) (p : PlainNest) (source target q : ℕ) where
     in-finish : (o : Option PlainMultiplier) (vs : List ℕ) (k from other : ℕ) → ((r : ℕ) → P (Store (target + store_at c p q vs k) r)) → All P (finish_acts c p o target q vs k from other)
     in-finish None vs k from other store = cons (Store (target + store_at c p q vs k) from) [] (store from) (All-nil P)
     in-finish (Some d) vs k from other store =
@@ -106,7 +107,7 @@ module _ (P : Action → Type 0) (free : IsFree P) where
           in-bodies n (λ k. Load 0 (source + load_at c p q vs k) ∷ finish_acts c p p.multiplier target q vs k 0 1) (λ k below.
           cons (Load 0 (source + load_at c p q vs k)) (finish_acts c p p.multiplier target q vs k 0 1) (load k 0 below) (in-finish p.multiplier vs k 0 1 (λ r. store k r below)))
 
-  module _ (c : PlainMachine) (source target q : ℕ) where
+  module _ (c : Target) (source target q : ℕ) where
     -- what is loaded and stored at the values of the loops
     abbrev pub LoadsHave : PlainNest → Type 0
     LoadsHave p = (vs : List ℕ) (k r : ℕ) → AreInRange (loop_counts c p) vs → k < vectors_of p.work → P (Load r (source + load_at c p q vs k))

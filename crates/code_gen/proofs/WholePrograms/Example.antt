@@ -16,7 +16,7 @@ use Rattle.operators.specs.TensorPaths.Path.{AreInRange}
 use Rattle.operators.specs.declared.tensor_paths.Tensor.TheVariants.{Blocks}
 use Rattle.code_gen.specs.PassCode.Conditions.{CanWrite, FitsWord, LoadsEachRow}
 use Rattle.code_gen.specs.PassCode.Expressions.{expr_of}
-use Rattle.code_gen.specs.PassActions.Machine.{PlainFrame, plain_machine}
+use Rattle.sigma_spl.specs.Shared.Machine.{PlainFrame, plain_machine}
 use Rattle.code_gen.specs.PassCode.Program.{program_of}
 use Rattle.code_gen.specs.PassCode.Statements.{nest_body, tables_of_nest}
 use Rattle.code_gen.proofs.WholePrograms.Plain.{plain_programs_perform}

@@ -8,13 +8,13 @@ use Rattle.icode.specs.Plain.{PlainProgram}
 use Rattle.icode.specs.declared.action.Action.{Action}
 use Rattle.icode.specs.declared.action.Action.TheVariants as actions
 use Rattle.icode.specs.declared.program.Array.{Array}
-use Rattle.code_gen.specs.PassActions.Machine.{PlainMachine}
+use Rattle.operators.specs.declared.target.Target.{Target}
 use Rattle.operators.specs.Sum.{sum_below}
 use Rattle.code_gen.specs.PassActions.Acts.{pass_acts, pass_registers}
 use Rattle.code_gen.specs.PassCode.Conditions.{IsInside}
-use Rattle.code_gen.specs.PassCode.Contract.{most_actions}
+use Rattle.sigma_spl.specs.Shared.Owners.{most_actions}
 use Rattle.code_gen.specs.PassActions.Laws.{IsFit}
-use Rattle.code_gen.specs.PassCode.Program.{target_of, most_of}
+use Rattle.code_gen.specs.PassCode.Program.{written_array, most_of}
 use Rattle.code_gen.proofs.WholePrograms.Known.{Pass, AllKnown, passes_acts, runs-of}
 
 -- a bound on registers may be greater
@@ -77,13 +77,13 @@ sum-shares (suc n) b f each =
         let spread : suc n * k ≡ n * k + k = omega arith in
         omega (arith, rest, last, spread)
 
-module _ (c : PlainMachine) (words : ℕ) where
+module _ (c : Target) (words : ℕ) where
   pub parts-fit : (regs after : ℕ) (ps : List Pass) (t : ℕ) (source : Array) (q : ℕ) → q < c.procs → AllKnown c ps → most_of c ps ≤ regs →
       All (IsFit regs c.lanes c.modulus) (passes_acts c words after ps t source q)
   parts-fit regs after [] t source q low known le = λ k d below. absurd (omega arith)
   parts-fit regs after (p ∷ ps) t source q low known le =
       let from = array_start words source in
-      let target = target_of t (after + length ps) in
+      let target = written_array t (after + length ps) in
       All-append (IsFit regs c.lanes c.modulus) (pass_acts c p from (array_start words target) q) (passes_acts c words after ps (suc t) target q)
       (all-wider (pass_registers c.modulus p) regs c.lanes c.modulus (pass_acts c p from (array_start words target) q) (omega (arith, le)) ((runs-of c p known.0).fit from (array_start words target) q low))
       (parts-fit regs after ps (suc t) target q low known.1 (omega (arith, le)))
@@ -93,7 +93,7 @@ module _ (c : PlainMachine) (words : ℕ) where
   parts-short after [] t source q low known = omega arith
   parts-short after (p ∷ ps) t source q low known =
       let from = array_start words source in
-      let target = target_of t (after + length ps) in
+      let target = written_array t (after + length ps) in
       let first = (runs-of c p known.0).short from (array_start words target) q low in
       let rest = parts-short after ps (suc t) target q low known.1 in
       let joined = length-append (pass_acts c p from (array_start words target) q) (passes_acts c words after ps (suc t) target q) in

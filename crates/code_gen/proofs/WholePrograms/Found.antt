@@ -5,7 +5,7 @@ use Rattle.std.specs.List.{list_all}
 use Rattle.std.proofs.lemmas.Bool.Decides.{nat_tests}
 use Rattle.perm_algebra.specs.Affine.{Sum, constant, IsSound, levels, parts, peak, top}
 use Rattle.perm_algebra.proofs.AffineLaws.{value-le-top}
-use Rattle.code_gen.specs.PassActions.Laws.{FindsFactors}
+use Rattle.sigma_spl.specs.Shared.Running.{FindsFactors}
 use Rattle.code_gen.proofs.PassActions.Framed.{in_counts}
 use Rattle.code_gen.proofs.PassCode.Variables.{below-limits}
 use Rattle.sigma_spl.specs.Copies.{loops_of}

@@ -6,10 +6,10 @@ use Rattle.icode.specs.declared.action.Action.{Action}
 use Rattle.icode.specs.declared.program.Array.{Array}
 use Rattle.code_gen.specs.PassActions.Acts.{pass_acts}
 use Rattle.code_gen.specs.PassCode.Conditions.{CanWritePass}
-use Rattle.code_gen.specs.PassCode.Contract.{all_passes}
+use Rattle.sigma_spl.specs.Shared.Owners.{all_passes}
 use Rattle.code_gen.specs.PassActions.Laws.{Runs}
-use Rattle.code_gen.specs.PassActions.Machine.{PlainMachine}
-use Rattle.code_gen.specs.PassCode.Program.{target_of}
+use Rattle.operators.specs.declared.target.Target.{Target}
+use Rattle.code_gen.specs.PassCode.Program.{written_array}
 use Rattle.code_gen.proofs.PassActions.PassesRun.{passes_run}
 use Rattle.sigma_spl.specs.Nest.{PlainNest}
 
@@ -17,35 +17,35 @@ use Rattle.sigma_spl.specs.Nest.{PlainNest}
 abbrev pub Pass : Type 0
 Pass = List PlainNest
 
-abbrev pub AllKnown : PlainMachine → List Pass → Type 0
+abbrev pub AllKnown : Target → List Pass → Type 0
 AllKnown c [] = Unit {0}
 AllKnown c (p ∷ ps) = CanWritePass c p × AllKnown c ps
 
-abbrev pub PhasesKnown : PlainMachine → List (List Pass) → Type 0
+abbrev pub PhasesKnown : Target → List (List Pass) → Type 0
 PhasesKnown c [] = Unit {0}
 PhasesKnown c (ps ∷ more) = AllKnown c ps × PhasesKnown c more
 
-all_known : (c : PlainMachine) (ps : List Pass) → All (CanWritePass c) ps → AllKnown c ps
+all_known : (c : Target) (ps : List Pass) → All (CanWritePass c) ps → AllKnown c ps
 all_known c [] h = tt
 all_known c (p ∷ ps) h = (All-head (CanWritePass c) p ps h, all_known c ps (All-tail (CanWritePass c) p ps h))
 
-known-split : (c : PlainMachine) (ps qs : List Pass) → AllKnown c (ps ++ qs) → AllKnown c ps × AllKnown c qs
+known-split : (c : Target) (ps qs : List Pass) → AllKnown c (ps ++ qs) → AllKnown c ps × AllKnown c qs
 known-split c [] qs h = (tt, h)
 known-split c (p ∷ ps) qs h = let rest = known-split c ps qs h.1 in ((h.0, rest.0), rest.1)
 
-known-parts : (c : PlainMachine) (pss : List (List Pass)) → AllKnown c (all_passes pss) → PhasesKnown c pss
+known-parts : (c : Target) (pss : List (List Pass)) → AllKnown c (all_passes pss) → PhasesKnown c pss
 known-parts c [] h = tt
 known-parts c (ps ∷ more) h = let parts = known-split c ps (all_passes more) h in (parts.0, known-parts c more parts.1)
 
-pub phases_known : (c : PlainMachine) (pss : List (List Pass)) → All (CanWritePass c) (all_passes pss) → PhasesKnown c pss
+pub phases_known : (c : Target) (pss : List (List Pass)) → All (CanWritePass c) (all_passes pss) → PhasesKnown c pss
 phases_known c pss h = known-parts c pss (all_known c (all_passes pss) h)
 
-pub runs-of : (c : PlainMachine) (p : Pass) → CanWritePass c p → Runs c p
+pub runs-of : (c : Target) (p : Pass) → CanWritePass c p → Runs c p
 runs-of c p can = passes_run c p can.runs
 
 -- the actions of passes, the first of which has number t and reads the source, where so many come after them and an array has so many words
-abbrev pub passes_acts : PlainMachine → ℕ → ℕ → List Pass → ℕ → Array → ℕ → List Action
+abbrev pub passes_acts : Target → ℕ → ℕ → List Pass → ℕ → Array → ℕ → List Action
 passes_acts c words after [] t source q = []
 passes_acts c words after (p ∷ ps) t source q =
-    pass_acts c p (array_start words source) (array_start words (target_of t (after + length ps))) q
-    ++ passes_acts c words after ps (suc t) (target_of t (after + length ps)) q
+    pass_acts c p (array_start words source) (array_start words (written_array t (after + length ps))) q
+    ++ passes_acts c words after ps (suc t) (written_array t (after + length ps)) q

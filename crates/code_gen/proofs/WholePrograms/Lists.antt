@@ -8,7 +8,7 @@ use Rattle.icode.specs.Plain.{PlainBody, PlainProgram, NoStmts}
 use Rattle.icode.specs.declared.action.Action.{Action}
 use Rattle.icode.specs.declared.program.Array.{Array}
 use Rattle.code_gen.specs.PassCode.Conditions.{HasTables, IsInside}
-use Rattle.code_gen.specs.PassActions.Machine.{PlainMachine}
+use Rattle.operators.specs.declared.target.Target.{Target}
 use Rattle.code_gen.specs.PassCode.Program.{phase_body, phases_body, count_in, array_after, tables_through, tables_of_phases}
 use Rattle.code_gen.proofs.WholePrograms.Emitted.{fewer-tables, passes-acts, passes-inside, phases-extend, phases-longer}
 use Rattle.code_gen.proofs.WholePrograms.Known.{Pass, PhasesKnown}
@@ -44,7 +44,7 @@ module _ (p : PlainProgram) where
       body-at [] = refl
       body-at (x ∷ xs) = body-at xs
 
-module _ (c : PlainMachine) where
+module _ (c : Target) where
   abbrev words : ℕ
   words = whole_lines c.size c.line
 

@@ -8,10 +8,12 @@ use Rattle.icode.specs.declared.action.Action.{Action}
 use Rattle.icode.specs.declared.program.Array.{Array}
 use Rattle.code_gen.specs.PassActions.Acts.{load_at, store_at, pass_acts}
 use Rattle.code_gen.specs.PassCode.Conditions.{CanWritePass}
-use Rattle.code_gen.specs.PassCode.Contract.{AreParts, IsPart, Stays, all_passes, joined}
-use Rattle.code_gen.specs.PassActions.Laws.{CanRunNest}
-use Rattle.code_gen.specs.PassActions.Machine.{PlainMachine, item_of, values_of}
-use Rattle.code_gen.specs.PassCode.Program.{array_after, count_in, target_of}
+use Rattle.code_gen.specs.PassCode.Contract.{AreParts, IsPart, Stays, joined}
+use Rattle.sigma_spl.specs.Shared.Owners.{all_passes}
+use Rattle.sigma_spl.specs.Shared.Running.{CanRunNest}
+use Rattle.operators.specs.declared.target.Target.{Target}
+use Rattle.sigma_spl.specs.Shared.Machine.{item_of, values_of}
+use Rattle.code_gen.specs.PassCode.Program.{array_after, count_in, written_array}
 use Rattle.code_gen.proofs.PassActions.Copies.{nest-can}
 use Rattle.code_gen.proofs.PassActions.Framed.{copy-framed, item-below, of_code}
 use Rattle.sigma_spl.specs.Nest.{PlainNest}
@@ -33,7 +35,7 @@ stays-free n lanes source target =
       tile_has = λ r x. tt;
     }
 
-module _ (c : PlainMachine) (p : Pass) (known : CanWritePass c p) (q : ℕ) (low : q < c.procs) where
+module _ (c : Target) (p : Pass) (known : CanWritePass c p) (q : ℕ) (low : q < c.procs) where
   module _ (z : PlainNest) (one : Contains p z) (vs : List ℕ) (k : ℕ) (range : AreInRange (nest-can c p known.runs z one).framed.loops vs) (below : k < vectors_of z.work) where
     abbrev can : CanRunNest c z
     can = nest-can c p known.runs z one
@@ -70,7 +72,7 @@ joined-append : (xs ys : List (List Action)) → joined (xs ++ ys) ≡ joined xs
 joined-append [] ys = refl
 joined-append (x ∷ xs) ys = ap (λ z. x ++ z) (joined-append xs ys) ∙ sym (append_assoc x (joined xs) (joined ys))
 
-module _ (c : PlainMachine) (enough : c.size ≤ whole_lines c.size c.line) (code : Code) (modulus_is : code.modulus ≡ c.modulus) (lanes_are : code.lanes ≡ c.lanes) (procs_are : code.procs ≡ c.procs) (q : ℕ) (low : q < c.procs) where
+module _ (c : Target) (enough : c.size ≤ whole_lines c.size c.line) (code : Code) (modulus_is : code.modulus ≡ c.modulus) (lanes_are : code.lanes ≡ c.lanes) (procs_are : code.procs ≡ c.procs) (q : ℕ) (low : q < c.procs) where
   abbrev words : ℕ
   words = whole_lines c.size c.line
 
@@ -78,7 +80,7 @@ module _ (c : PlainMachine) (enough : c.size ≤ whole_lines c.size c.line) (cod
   abbrev parts_of : ℕ → List Pass → ℕ → Array → List (List Action)
   parts_of after [] t source = []
   parts_of after (p ∷ ps) t source =
-      pass_acts c p (array_start words source) (array_start words (target_of t (after + length ps))) q ∷ parts_of after ps (suc t) (target_of t (after + length ps))
+      pass_acts c p (array_start words source) (array_start words (written_array t (after + length ps))) q ∷ parts_of after ps (suc t) (written_array t (after + length ps))
 
   abbrev pub all_parts : List (List Pass) → ℕ → Array → List (List Action)
   all_parts [] t source = []
@@ -87,7 +89,7 @@ module _ (c : PlainMachine) (enough : c.size ≤ whole_lines c.size c.line) (cod
   parts-whole : (after : ℕ) (ps : List Pass) (t : ℕ) (source : Array) → joined (parts_of after ps t source) ≡ passes_acts c words after ps t source q
   parts-whole after [] t source = refl
   parts-whole after (p ∷ ps) t source =
-      ap (λ rest. pass_acts c p (array_start words source) (array_start words (target_of t (after + length ps))) q ++ rest) (parts-whole after ps (suc t) (target_of t (after + length ps)))
+      ap (λ rest. pass_acts c p (array_start words source) (array_start words (written_array t (after + length ps))) q ++ rest) (parts-whole after ps (suc t) (written_array t (after + length ps)))
 
   pub all-whole : (f : ℕ) (pss : List (List Pass)) (t : ℕ) (source : Array) → RunsPhases c words enough code modulus_is lanes_are procs_are f pss t source →
       joined (all_parts pss t source) ≡ flat_map (λ phase. acts code phase q) (range_with_len f (length pss))
@@ -116,11 +118,11 @@ module _ (c : PlainMachine) (enough : c.size ≤ whole_lines c.size c.line) (cod
       AreParts c (t + length ps) (array_after (count_in more) ps t source) (all_passes more) rest → AreParts c t source (ps ++ all_passes more) (parts_of (count_in more) ps t source ++ rest)
   phase-parts more rest [] t source known h = subst (λ n. AreParts c n source (all_passes more) rest) (omega arith) h
   phase-parts more rest (p ∷ ps) t source known h =
-      let target = target_of t (count_in more + length ps) in
+      let target = written_array t (count_in more + length ps) in
       let long : length (ps ++ all_passes more) ≡ count_in more + length ps = let both = length-append ps (all_passes more) in let last = count-is more in omega arith in
       subst
-      (λ n. IsPart c p (array_start words source) (array_start words (target_of t n)) (pass_acts c p (array_start words source) (array_start words target) q)
-      × AreParts c (suc t) (target_of t n) (ps ++ all_passes more) (parts_of (count_in more) ps (suc t) target ++ rest))
+      (λ n. IsPart c p (array_start words source) (array_start words (written_array t n)) (pass_acts c p (array_start words source) (array_start words target) q)
+      × AreParts c (suc t) (written_array t n) (ps ++ all_passes more) (parts_of (count_in more) ps (suc t) target ++ rest))
       (sym long) (
         is-part p source target known.0,
         phase-parts more rest ps (suc t) target known.1 (subst (λ n. AreParts c n (array_after (count_in more) ps (suc t) target) (all_passes more) rest) (omega arith) h),

@@ -22,9 +22,10 @@ use Rattle.operators.specs.Sum.{sum_below}
 use Rattle.operators.proofs.Lists.{length-list_below}
 use Rattle.operators.proofs.Sums.{sum_below-append, sum_below-same}
 use Rattle.code_gen.specs.PassCode.Conditions.{HasTables}
-use Rattle.code_gen.specs.PassCode.Contract.{CanProgram, IsListed, Performs, ProgramsPerform, all_passes, most_actions}
+use Rattle.code_gen.specs.PassCode.Contract.{CanProgram, IsListed, Performs, ProgramsPerform}
+use Rattle.sigma_spl.specs.Shared.Owners.{all_passes, most_actions}
 use Rattle.code_gen.specs.PassActions.Laws.{IsFit}
-use Rattle.code_gen.specs.PassActions.Machine.{PlainMachine}
+use Rattle.operators.specs.declared.target.Target.{Target}
 use Rattle.code_gen.specs.PassCode.Program.{array_after, count_in, phases_body, program_of, tables_of_phases, tables_through}
 use Rattle.sigma_spl.specs.Good.{IsVector}
 use Rattle.sigma_spl.specs.Merged.{PlainMerged, merged_on, phase_on, phases_on}
@@ -56,7 +57,7 @@ replicate-at (suc n) x d (suc k) low = replicate-at n x d k (omega (arith, low))
 some-phases : (n : ℕ) → 0 < n → nat_lt 0 n ≡ true
 some-phases n some = grind (arith, nat_tests)
 
-most-append : (c : PlainMachine) (ps qs : List Pass) → most_actions c (ps ++ qs) ≡ most_actions c ps + most_actions c qs
+most-append : (c : Target) (ps qs : List Pass) → most_actions c (ps ++ qs) ≡ most_actions c ps + most_actions c qs
 most-append c [] qs = omega arith
 most-append c (p ∷ ps) qs = let rest = most-append c ps qs in omega (arith, rest)
 
@@ -69,7 +70,7 @@ length-phases : (m n : ℕ) (pss : List (List Pass)) (x : List ℕ) → length x
 length-phases m n [] x size = size
 length-phases m n (ps ∷ more) x size = length-phases m n more (phase_on m n ps x) (length-made m n ps x size)
 
-module _ (c : PlainMachine) (g : PlainMerged) (can : CanProgram c g) where
+module _ (c : Target) (g : PlainMerged) (can : CanProgram c g) where
   abbrev pss : List (List Pass)
   pss = g.phases
 

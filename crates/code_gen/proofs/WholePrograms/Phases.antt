@@ -10,15 +10,15 @@ use Rattle.icode.specs.declared.program.Array.{Array}
 use Rattle.icode.specs.declared.program.Array.TheVariants.{X, Y}
 use Rattle.sigma_spl.specs.Merged.{phase_on, phases_on}
 use Rattle.sigma_spl.specs.Nest.{nests_on}
-use Rattle.code_gen.specs.PassActions.Machine.{PlainMachine}
-use Rattle.code_gen.specs.PassCode.Contract.{IsOwner, AllShared, ArePhasesShared}
-use Rattle.code_gen.specs.PassCode.Program.{target_of, array_after, count_in, most_of}
+use Rattle.operators.specs.declared.target.Target.{Target}
+use Rattle.sigma_spl.specs.Shared.Owners.{IsOwner, AllShared, ArePhasesShared}
+use Rattle.code_gen.specs.PassCode.Program.{written_array, array_after, count_in, most_of}
 use Rattle.code_gen.proofs.WholePrograms.Arrays.{IsOther, next-other}
 use Rattle.code_gen.proofs.WholePrograms.Known.{Pass, AllKnown, PhasesKnown, passes_acts}
 use Rattle.code_gen.proofs.WholePrograms.Stored.{made-residues}
 use Rattle.code_gen.proofs.WholePrograms.Processor.{MayRead, Owned, all-owned, first-owned, Left, parts-leave}
 
-module _ (c : PlainMachine) (words : ℕ) (enough : c.size ≤ words) (code : Code) (modulus_is : code.modulus ≡ c.modulus) (lanes_are : code.lanes ≡ c.lanes) (procs_are : code.procs ≡ c.procs) where
+module _ (c : Target) (words : ℕ) (enough : c.size ≤ words) (code : Code) (modulus_is : code.modulus ≡ c.modulus) (lanes_are : code.lanes ≡ c.lanes) (procs_are : code.procs ≡ c.procs) where
   -- processor q's effects are those of the request's machine
   alone-effects : (actions : List Action) (s : Local) → effects code.modulus code.lanes actions s ≡ effects c.modulus c.lanes actions s
   alone-effects actions s = ap (λ m. effects m code.lanes actions s) modulus_is ∙ ap (λ l. effects c.modulus l actions s) lanes_are
@@ -29,7 +29,7 @@ module _ (c : PlainMachine) (words : ℕ) (enough : c.size ≤ words) (code : Co
     pub each : (r : ℕ) → r < c.procs → regs * c.lanes ≤ length (slice_index_or w.registers r [])
 
   module _ (owner : ℕ → ℕ) (after phase : ℕ) (ps : List Pass) (t : ℕ) (source : Array) (x : List ℕ) (regs : ℕ) (wide : most_of c ps * c.lanes ≤ regs * c.lanes) (known : AllKnown c ps)
-      (owned : Owned c words enough owner after ps t source) (residues : (i : ℕ) → i < c.size → slice_index x i < c.modulus) (other : 0 < length ps → IsOther source (target_of t (after + length ps - 1)))
+      (owned : Owned c words enough owner after ps t source) (residues : (i : ℕ) → i < c.size → slice_index x i < c.modulus) (other : 0 < length ps → IsOther source (written_array t (after + length ps - 1)))
       (acts_are : (q : ℕ) → q < c.procs → acts code phase q ≡ passes_acts c words after ps t source q) where
     -- the first q processors have done the phase
     pub record During (q : ℕ) (w : Whole) : Type 0 where
@@ -174,7 +174,7 @@ module _ (c : PlainMachine) (words : ℕ) (enough : c.size ≤ words) (code : Co
 
   -- what the next pass reads, if there is one, is not what it writes
   abbrev pub IsOtherNext : ℕ → ℕ → Array → Type 0
-  IsOtherNext count t source = 0 < count → IsOther source (target_of t (count - 1))
+  IsOtherNext count t source = 0 < count → IsOther source (written_array t (count - 1))
 
   one-phase : (regs f : ℕ) (ps : List Pass) (more : List (List Pass)) (t : ℕ) (source : Array) (x : List ℕ) (w : Whole) → AllKnown c ps → most_of c ps * c.lanes ≤ regs * c.lanes →
       IsSharedFrom (count_in more) t source ps → IsOtherNext (count_in more + length ps) t source →
@@ -191,21 +191,21 @@ module _ (c : PlainMachine) (words : ℕ) (enough : c.size ≤ words) (code : Co
       }
 
   -- what the last pass of a phase writes, and others follow, is not what the next one does
-  other-last : (after : ℕ) (qs : List Pass) (u j : ℕ) (a : Array) → 0 < after → a ≡ target_of u (after + length qs) → IsOther (array_after after qs (suc u) a) (target_of (u + suc (length qs)) j)
+  other-last : (after : ℕ) (qs : List Pass) (u j : ℕ) (a : Array) → 0 < after → a ≡ written_array u (after + length qs) → IsOther (array_after after qs (suc u) a) (written_array (u + suc (length qs)) j)
   other-last after [] u j a some e =
       let is : after + 0 ≡ suc (after - 1) = omega (arith, some) in
       let next : u + 1 ≡ suc u = omega arith in
-      subst (λ n. IsOther a (target_of n j)) (sym next) (subst (λ b. IsOther b (target_of (suc u) j)) (sym (e ∙ ap (target_of u) is)) (next-other u (after - 1) j))
+      subst (λ n. IsOther a (written_array n j)) (sym next) (subst (λ b. IsOther b (written_array (suc u) j)) (sym (e ∙ ap (written_array u) is)) (next-other u (after - 1) j))
   other-last after (q ∷ qs) u j a some e =
       let shift : suc u + suc (length qs) ≡ u + suc (suc (length qs)) = omega arith in
-      subst (λ n. IsOther (array_after after qs (suc (suc u)) (target_of (suc u) (after + length qs))) (target_of n j)) shift (other-last after qs (suc u) j (target_of (suc u) (after + length qs)) some refl)
+      subst (λ n. IsOther (array_after after qs (suc (suc u)) (written_array (suc u) (after + length qs))) (written_array n j)) shift (other-last after qs (suc u) j (written_array (suc u) (after + length qs)) some refl)
 
   other-after : (after : ℕ) (ps : List Pass) (t : ℕ) (source : Array) → IsOtherNext (after + length ps) t source → IsOtherNext after (t + length ps) (array_after after ps t source)
   other-after after [] t source other some =
       let here : t + 0 ≡ t = omega arith in
       let count : after + 0 ≡ after = omega arith in
-      subst (λ n. IsOther source (target_of n (after - 1))) (sym here) (subst (λ k. IsOther source (target_of t (k - 1))) count (other (omega (arith, some))))
-  other-after after (p ∷ ps) t source other some = other-last after ps t (after - 1) (target_of t (after + length ps)) some refl
+      subst (λ n. IsOther source (written_array n (after - 1))) (sym here) (subst (λ k. IsOther source (written_array t (k - 1))) count (other (omega (arith, some))))
+  other-after after (p ∷ ps) t source other some = other-last after ps t (after - 1) (written_array t (after + length ps)) some refl
 
   pub all-phases : (regs f : ℕ) (pss : List (List Pass)) (t : ℕ) (source : Array) (x : List ℕ) (w : Whole) → PhasesKnown c pss → AllWide regs pss → SharedFrom pss t source →
       IsOtherNext (count_in pss) t source → RunsPhases f pss t source → Ready regs source x w → Ready regs (final_array pss t source) (phases_on c.modulus c.size pss x) (phases_alone code (length pss) f w)
@@ -223,7 +223,7 @@ module _ (c : PlainMachine) (words : ℕ) (enough : c.size ≤ words) (code : Co
   last-is_last : (ps : List Pass) (t : ℕ) (source : Array) → 0 < length ps → array_after 0 ps t source ≡ Y
   last-is_last [] t source some = absurd (omega (arith, some))
   last-is_last (p ∷ []) t source some = refl
-  last-is_last (p ∷ q ∷ ps) t source some = last-is_last (q ∷ ps) (suc t) (target_of t (0 + length (q ∷ ps))) (omega arith)
+  last-is_last (p ∷ q ∷ ps) t source some = last-is_last (q ∷ ps) (suc t) (written_array t (0 + length (q ∷ ps))) (omega arith)
 
   final-empty : (pss : List (List Pass)) (t : ℕ) (source : Array) → count_in pss ≡ 0 → final_array pss t source ≡ source
   final-empty [] t source e = refl

@@ -5,9 +5,10 @@ use Rattle.sigma_spl.specs.Merged.{phase_on}
 use Rattle.sigma_spl.specs.Nest.{PlainNest, nests_on, passes_on, store_place}
 use Rattle.sigma_spl.specs.Work.{PlainWork, kernel, rows, horner, tile, copy}
 use Rattle.code_gen.specs.PassCode.Conditions.{CanWriteNest, CanWritePass}
-use Rattle.code_gen.specs.PassCode.Contract.{AllOwn, CanProgram, IsFirstShared, all_passes, most_actions}
-use Rattle.code_gen.specs.PassActions.Laws.{CanRunNest, MovesVectors}
-use Rattle.code_gen.specs.PassActions.Machine.{plain_machine, if_several, framed_lanes, item_of, lane_step, values_of}
+use Rattle.sigma_spl.specs.Shared.Owners.{AllOwn, IsFirstShared, all_passes, most_actions}
+use Rattle.code_gen.specs.PassCode.Contract.{CanProgram}
+use Rattle.sigma_spl.specs.Shared.Running.{CanRunNest, MovesVectors}
+use Rattle.sigma_spl.specs.Shared.Machine.{plain_machine, if_several, framed_lanes, item_of, lane_step, values_of}
 use Rattle.code_gen.proofs.WholePrograms.Performs.{programs_perform}
 use Rattle.code_gen.specs.WholePrograms.Plain.{ArePlainPasses, IsPlainNest, IsPlainPass, PlainProgramsPerform, in_order, plain_merged}
 

@@ -10,18 +10,19 @@ use Rattle.icode.specs.declared.program.Array.{Array}
 use Rattle.icode.specs.declared.program.Array.TheVariants.{X, Y, A, B}
 use Rattle.sigma_spl.specs.Merged.{phase_on}
 use Rattle.sigma_spl.specs.Nest.{nests_on}
-use Rattle.code_gen.specs.PassActions.Machine.{PlainMachine}
+use Rattle.operators.specs.declared.target.Target.{Target}
 use Rattle.code_gen.specs.PassActions.Acts.{pass_acts, pass_registers}
-use Rattle.code_gen.specs.PassActions.Laws.{AreApart, CanBegin, Leaves, IsLoadedBy, IsStoredBy}
+use Rattle.code_gen.specs.PassActions.Laws.{AreApart, CanBegin, Leaves}
+use Rattle.sigma_spl.specs.Shared.Running.{IsLoadedBy, IsStoredBy}
 use Rattle.code_gen.specs.PassCode.Conditions.{CanWritePass}
-use Rattle.code_gen.specs.PassCode.Contract.{AllOwn, FirstOwns}
+use Rattle.sigma_spl.specs.Shared.Owners.{AllOwn, FirstOwns}
 use Rattle.code_gen.proofs.PassActions.Copies.{loaded-below, stored-below}
-use Rattle.code_gen.specs.PassCode.Program.{target_of, array_after, most_of}
+use Rattle.code_gen.specs.PassCode.Program.{written_array, array_after, most_of}
 use Rattle.code_gen.proofs.WholePrograms.Arrays.{IsOther, apart, inside-memory, last-number, scratch-number, next-other}
 use Rattle.code_gen.proofs.WholePrograms.Known.{Pass, AllKnown, passes_acts, runs-of}
 use Rattle.code_gen.proofs.WholePrograms.Stored.{made-residues, stored-own}
 
-module _ (c : PlainMachine) (words : ℕ) (enough : c.size ≤ words) (owner : ℕ → ℕ) (after : ℕ) where
+module _ (c : Target) (words : ℕ) (enough : c.size ≤ words) (owner : ℕ → ℕ) (after : ℕ) where
   -- what a processor may read: all of X, which nobody writes, and its own words of the other arrays
   abbrev pub MayRead : Array → ℕ → ℕ → Type 0
   MayRead X q i = Unit {0}
@@ -44,16 +45,16 @@ module _ (c : PlainMachine) (words : ℕ) (enough : c.size ≤ words) (owner : �
   -- the passes read what they may, and write what is their own
   abbrev pub Owned : List Pass → ℕ → Array → Type 0
   Owned [] t source = Unit {0}
-  Owned (p ∷ ps) t source = Reads p source × Owns p × Owned ps (suc t) (target_of t (after + length ps))
+  Owned (p ∷ ps) t source = Reads p source × Owns p × Owned ps (suc t) (written_array t (after + length ps))
 
   pub all-owned : (ps : List Pass) (t : ℕ) (source : Array) → AllOwn c owner ps → Owned ps t source
   all-owned [] t source h = tt
   all-owned (p ∷ ps) t source h =
-      (λ q w low is. own-read source q w (h.0 q w low is), h.1, all-owned ps (suc t) (target_of t (after + length ps)) h.2)
+      (λ q w low is. own-read source q w (h.0 q w low is), h.1, all-owned ps (suc t) (written_array t (after + length ps)) h.2)
 
   pub first-owned : (ps : List Pass) (t : ℕ) → FirstOwns c owner ps → Owned ps t X
   first-owned [] t h = tt
-  first-owned (p ∷ ps) t h = (λ q w low is. tt, h.0, all-owned ps (suc t) (target_of t (after + length ps)) h.1)
+  first-owned (p ∷ ps) t h = (λ q w low is. tt, h.0, all-owned ps (suc t) (written_array t (after + length ps)) h.1)
 
   -- there is room for a processor's parts of the passes, and what it may read of their source holds residues
   pub record Holds (ps : List Pass) (t : ℕ) (source : Array) (q : ℕ) (x : List ℕ) (s : Local) : Type 0 where
@@ -61,7 +62,7 @@ module _ (c : PlainMachine) (words : ℕ) (enough : c.size ≤ words) (owner : �
     pub registers : most_of c ps * c.lanes ≤ length s.registers
     pub held : (i : ℕ) → i < c.size → MayRead source q i → slice_index s.memory (array_start words source + i) ≡ slice_index x i
     pub residues : (i : ℕ) → i < c.size → slice_index x i < c.modulus
-    pub other : 0 < length ps → IsOther source (target_of t (after + length ps - 1))
+    pub other : 0 < length ps → IsOther source (written_array t (after + length ps - 1))
 
   -- its own words of the last array have what the passes make, and what belongs to another and all of X are unchanged
   pub record Left (ps : List Pass) (t : ℕ) (source : Array) (q : ℕ) (x : List ℕ) (s end : Local) : Type 0 where
@@ -72,7 +73,7 @@ module _ (c : PlainMachine) (words : ℕ) (enough : c.size ≤ words) (owner : �
   module _ (p : Pass) (ps : List Pass) (t : ℕ) (source : Array) (q : ℕ) (low : q < c.procs) (x : List ℕ) (s : Local) (known : CanWritePass c p) (reads : Reads p source)
       (owns : Owns p) (h : Holds (p ∷ ps) t source q x s) where
     abbrev target : Array
-    target = target_of t (after + length ps)
+    target = written_array t (after + length ps)
 
     abbrev from : ℕ
     from = array_start words source
@@ -83,7 +84,7 @@ module _ (c : PlainMachine) (words : ℕ) (enough : c.size ≤ words) (owner : �
     apart-arrays : AreApart c.size from to
     apart-arrays =
         let rest : after + suc (length ps) - 1 ≡ after + length ps = omega arith in
-        apart words c.size enough source target (subst (λ (n : ℕ). IsOther source (target_of t n)) rest (h.other (omega arith)))
+        apart words c.size enough source target (subst (λ (n : ℕ). IsOther source (written_array t n)) rest (h.other (omega arith)))
 
     begins : CanBegin c p from to q x s
     begins =
@@ -130,7 +131,7 @@ module _ (c : PlainMachine) (words : ℕ) (enough : c.size ≤ words) (owner : �
     not-first : IsOther X target
     not-first = target-not_first t (after + length ps)
       where
-        target-not_first : (t k : ℕ) → IsOther X (target_of t k)
+        target-not_first : (t k : ℕ) → IsOther X (written_array t k)
         target-not_first t zero = λ e. let is = last-number t in absurd (omega (arith, e, is))
         target-not_first t (suc k) = λ e. let is = scratch-number t k in absurd (omega (arith, e, is))
 
@@ -180,10 +181,10 @@ module _ (c : PlainMachine) (words : ℕ) (enough : c.size ≤ words) (owner : �
           other = λ some. other-next;
         }
       where
-        other-next : IsOther target (target_of (suc t) (after + length ps - 1))
+        other-next : IsOther target (written_array (suc t) (after + length ps - 1))
         other-next =
             let is : after + length ps ≡ suc (after + k) = omega (arith, more) in
-            subst (λ (n : ℕ). IsOther (target_of t n) (target_of (suc t) (after + length ps - 1))) (sym is) (next-other t (after + k) (after + length ps - 1))
+            subst (λ (n : ℕ). IsOther (written_array t n) (written_array (suc t) (after + length ps - 1))) (sym is) (next-other t (after + k) (after + length ps - 1))
 
   -- all parts of a processor
   pub parts-leave : (ps : List Pass) (t : ℕ) (source : Array) (q : ℕ) (x : List ℕ) (s : Local) → q < c.procs → AllKnown c ps → Owned ps t source → Holds ps t source q x s →
@@ -191,7 +192,7 @@ module _ (c : PlainMachine) (words : ℕ) (enough : c.size ≤ words) (owner : �
   parts-leave [] t source q x s low known owned h =
       record { stored = λ i below own. h.held i below (own-read source q i own); kept = λ a i below other. refl; first = λ i below. refl }
   parts-leave (p ∷ []) t source q x s low known owned h =
-      let target = target_of t (after + 0) in
+      let target = written_array t (after + 0) in
       let alone : effects c.modulus c.lanes (passes_acts c words after (p ∷ []) t source q) s ≡ next p [] t source q low x s known.0 owned.0 owned.1 h =
       lists_follow c.modulus c.lanes (pass_acts c p (array_start words source) (array_start words target) q) [] s in
       subst (Left (p ∷ []) t source q x s) (sym alone)
@@ -202,7 +203,7 @@ module _ (c : PlainMachine) (words : ℕ) (enough : c.size ≤ words) (owner : �
       })
   parts-leave (p ∷ r ∷ ps) t source q x s low known owned h =
       let more = r ∷ ps in
-      let target = target_of t (after + length more) in
+      let target = written_array t (after + length more) in
       let middle = next p more t source q low x s known.0 owned.0 owned.1 h in
       let rest = parts-leave (r ∷ ps) (suc t) target q (nests_on c.modulus c.size p x) middle low known.1 owned.2 (holds-next p more t source q low x s known.0 owned.0 owned.1 h (length ps) refl) in
       let follow : effects c.modulus c.lanes (passes_acts c words after (p ∷ more) t source q) s ≡ effects c.modulus c.lanes (passes_acts c words after more (suc t) target q) middle =

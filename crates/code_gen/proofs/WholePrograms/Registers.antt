@@ -1,10 +1,10 @@
 -- The registers of a program are those of the pass that uses most.
 use Rattle.std.proofs.Common.{ℕ, ◌^◌, ◌<◌, ◌≤◌, List, [], ◌∷◌, arith}
-use Rattle.code_gen.specs.PassActions.Machine.{PlainMachine}
+use Rattle.operators.specs.declared.target.Target.{Target}
 use Rattle.code_gen.specs.PassCode.Program.{most_of, most_of_phases}
 use Rattle.code_gen.proofs.WholePrograms.Known.{Pass, AllKnown, PhasesKnown}
 
-module _ (c : PlainMachine) where
+module _ (c : Target) where
   -- each phase has its registers among those of all
   abbrev pub AllBelow : ℕ → List (List Pass) → Type 0
   AllBelow regs [] = Unit {0}

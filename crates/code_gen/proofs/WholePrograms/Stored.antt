@@ -7,8 +7,9 @@ use Rattle.icode.specs.CodeLaws.Nests as nests
 use Rattle.operators.specs.Sum.{sum_below}
 use Rattle.operators.proofs.Lists.{at-list_below}
 use Rattle.icode.proofs.Lines.{Contains-head, Contains-tail}
-use Rattle.code_gen.specs.PassActions.Laws.{CanRun, IsStoredBy}
-use Rattle.code_gen.specs.PassActions.Machine.{PlainMachine, framed_lanes, if_several}
+use Rattle.sigma_spl.specs.Shared.Running.{CanRun, IsStoredBy}
+use Rattle.operators.specs.declared.target.Target.{Target}
+use Rattle.sigma_spl.specs.Shared.Machine.{framed_lanes, if_several}
 use Rattle.code_gen.proofs.PassActions.Copies.{nest-can}
 use Rattle.code_gen.proofs.PassActions.Framed.{in_counts}
 use Rattle.sigma_spl.specs.Copies.{loops_of, hits, all_stored}
@@ -71,7 +72,7 @@ head-below n counts vs several range = by_test (n == 1) (grind (arith, nat_tests
     by_test true e r = absurd (grind (arith, e))
     by_test false e r = head vs r
 
-module _ (c : PlainMachine) (zs : List PlainNest) (can : CanRun c zs) where
+module _ (c : Target) (zs : List PlainNest) (can : CanRun c zs) where
   pub stored-by : (w : ℕ) → w < c.size → 0 < c.procs → (q : ℕ) × (q < c.procs) × IsStoredBy c zs q w
   stored-by w low some =
       let found = pass-hit c.modulus zs w (let once = can.once w low in omega arith) in

@@ -9,8 +9,8 @@ use Rattle.icode.specs.Limits.{are_tables_within}
 use Rattle.operators.specs.Sum.{list_below}
 use Rattle.operators.proofs.Lists.{length-list_below}
 use Rattle.code_gen.specs.PassCode.Conditions.{CanWriteNest}
-use Rattle.code_gen.specs.PassActions.Laws.{CanRunNest, CanWork}
-use Rattle.code_gen.specs.PassActions.Machine.{PlainMachine}
+use Rattle.sigma_spl.specs.Shared.Running.{CanRunNest, CanWork}
+use Rattle.operators.specs.declared.target.Target.{Target}
 use Rattle.code_gen.specs.PassCode.Program.{tables_through, tables_of_phases}
 use Rattle.code_gen.specs.PassCode.Statements.{with_diagonal, with_table, is_table, one_factor, tables_after, tables_of_nest, tables_of_work, tables_of_multiplier, powers_of, diagonal_of}
 use Rattle.code_gen.proofs.PassActions.Copies.{nest-can}
@@ -66,7 +66,7 @@ module _ (m : ℕ) (some : 0 < m) where
       both (nat_lt 0 (length table) && list_all (λ c. nat_lt c m) table) (are_tables_within m (with_table tables entries)) (first-within table tables h)
       (with_table-within tables entries (rest-within table tables h) one))
 
-module _ (c : PlainMachine) (residues : 0 < c.modulus) where
+module _ (c : Target) (residues : 0 < c.modulus) where
   abbrev AreWithin : List (List ℕ) → Type 0
   AreWithin tables = IsTrue (are_tables_within c.modulus tables)
 

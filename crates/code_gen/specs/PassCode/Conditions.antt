@@ -7,8 +7,9 @@ use Rattle.icode.specs.Plain.{PlainProgram}
 use Rattle.icode.specs.declared.program.Array.{Array}
 use Rattle.code_gen.specs.PassActions.Acts.{pass_acts, pass_registers}
 use Rattle.code_gen.specs.PassCode.Expressions.{factor_at, expr_of}
-use Rattle.code_gen.specs.PassActions.Laws.{CanRun}
-use Rattle.code_gen.specs.PassActions.Machine.{PlainMachine, PlainFrame, frame_of, loop_counts}
+use Rattle.sigma_spl.specs.Shared.Running.{CanRun}
+use Rattle.operators.specs.declared.target.Target.{Target}
+use Rattle.sigma_spl.specs.Shared.Machine.{PlainFrame, frame_of, loop_counts}
 use Rattle.code_gen.specs.PassCode.Statements.{pass_body, tables_after}
 use Rattle.sigma_spl.specs.Copies.{loops_of}
 use Rattle.sigma_spl.specs.Good.{NamesItems}
@@ -66,7 +67,7 @@ LoadsAlike z (rows root size) = LoadsEachRow z
 LoadsAlike z (horner root size) = LoadsEachRow z
 LoadsAlike z w = Unit {0}
 
-pub record CanWriteNest (h : PlainMachine) (z : PlainNest) : Type 0 where
+pub record CanWriteNest (h : Target) (z : PlainNest) : Type 0 where
   pub gathers : NamesItems z.work z.gathers × AreWithin (limits_of z) (frame_of h z.work) (length (loop_counts h z) + loads_inside z.work) z.gathers
   pub scatters : NamesItems z.work z.scatters × AreWithin (limits_of z) (frame_of h z.work) (length (loop_counts h z) + stores_inside z.work) z.scatters
   pub multiplier : (d : PlainMultiplier) → z.multiplier ≡ Some d →
@@ -77,7 +78,7 @@ pub record CanWriteNest (h : PlainMachine) (z : PlainNest) : Type 0 where
   pub counts : All (λ c. (1 ≤ c) × (c < 2 ^ 32)) (loop_counts h z)
 
 -- a pass that can be run and written
-pub record CanWritePass (h : PlainMachine) (zs : List PlainNest) : Type 0 where
+pub record CanWritePass (h : Target) (zs : List PlainNest) : Type 0 where
   pub line : 0 < h.line
   pub runs : CanRun h zs
   pub nests : All (CanWriteNest h) zs
@@ -86,7 +87,7 @@ pub record CanWritePass (h : PlainMachine) (zs : List PlainNest) : Type 0 where
 -- ---- the law of statements
 
 -- a program for the machine, with these tables first
-pub record HasTables (h : PlainMachine) (tables : List (List ℕ)) (program : PlainProgram) : Type 0 where
+pub record HasTables (h : Target) (tables : List (List ℕ)) (program : PlainProgram) : Type 0 where
   pub size : program.size ≡ h.size
   pub modulus : program.modulus ≡ h.modulus
   pub line : program.line ≡ h.line
@@ -100,7 +101,7 @@ pub record IsInside (s : Step) : Type 0 where
   pub place : s.reach ≤ s.room
 
 -- in every program with its tables the statements of a pass are its actions, on each processor, at places that are inside
-pub record IsEmitted (h : PlainMachine) (zs : List PlainNest) (tables : List (List ℕ)) (source target : Array) : Type 0 where
+pub record IsEmitted (h : Target) (zs : List PlainNest) (tables : List (List ℕ)) (source target : Array) : Type 0 where
   pub acts : (program : PlainProgram) (q : ℕ) → q < h.procs → HasTables h (tables_after h.modulus zs tables) program →
       actions_of (steps_of_body program (pass_body h zs tables source target) [] q)
       ≡ pass_acts h zs (array_start (whole_lines h.size h.line) source) (array_start (whole_lines h.size h.line) target) q
@@ -110,4 +111,4 @@ pub record IsEmitted (h : PlainMachine) (zs : List PlainNest) (tables : List (Li
 
 -- every pass that can be written is, where there are not too many tables
 abbrev pub PassesAreEmitted : Type 0
-PassesAreEmitted = (h : PlainMachine) (zs : List PlainNest) (tables : List (List ℕ)) (source target : Array) → CanWritePass h zs → length (tables_after h.modulus zs tables) < 2 ^ 32 → IsEmitted h zs tables source target
+PassesAreEmitted = (h : Target) (zs : List PlainNest) (tables : List (List ℕ)) (source target : Array) → CanWritePass h zs → length (tables_after h.modulus zs tables) < 2 ^ 32 → IsEmitted h zs tables source target

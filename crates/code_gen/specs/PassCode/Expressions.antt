@@ -1,7 +1,7 @@
 -- Sums of variables as expressions of code.
 use Rattle.std.specs.Prelude.{ℕ, zero, suc, ◌+◌, ◌==◌, if◌then◌else◌}
 use Rattle.icode.specs.Plain.{PlainExpr, PlainParts, Sum, NoParts, AndParts, Proc, Var, Rem, Quot}
-use Rattle.code_gen.specs.PassActions.Machine.{PlainFrame}
+use Rattle.sigma_spl.specs.Shared.Machine.{PlainFrame}
 use Rattle.perm_algebra.specs.Affine.{Sum as LoopSum, constant, variable, remainder, quotient}
 use Rattle.perm_algebra.specs.Room.{constant_of}
 

@@ -3,7 +3,7 @@ use Rattle.std.specs.Prelude.{◌≡◌, ℕ, ◌^◌, ◌<◌, ◌≤◌, true,
 use Rattle.icode.specs.Limits.{is_expr_within}
 use Rattle.code_gen.specs.PassCode.Conditions.{CanWrite, FitsWord}
 use Rattle.code_gen.specs.PassCode.Expressions.{expr_of, factor_at}
-use Rattle.code_gen.specs.PassActions.Machine.{PlainFrame}
+use Rattle.sigma_spl.specs.Shared.Machine.{PlainFrame}
 use Rattle.sigma_spl.specs.Merge.{is_limited}
 use Rattle.perm_algebra.specs.Affine.{Sum, constant, variable, remainder, quotient, levels, parts}
 use Rattle.perm_algebra.specs.Room.{constant_of}

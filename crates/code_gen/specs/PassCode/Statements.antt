@@ -8,7 +8,8 @@ use Rattle.kernel_gen.specs.Making.{Made}
 use Rattle.kernel_gen.specs.declared.straight.Instruction.{Instruction}
 use Rattle.operators.specs.Sum.{list_below}
 use Rattle.code_gen.specs.PassCode.Expressions.{expr_of}
-use Rattle.code_gen.specs.PassActions.Machine.{PlainMachine, PlainFrame, frame_of, loop_counts}
+use Rattle.operators.specs.declared.target.Target.{Target}
+use Rattle.sigma_spl.specs.Shared.Machine.{PlainFrame, frame_of, loop_counts}
 use Rattle.sigma_spl.specs.Nest.{PlainFactors, values, twiddles, repeated, spread, factor_count, factor_at, PlainMultiplier, PlainNest}
 use Rattle.sigma_spl.specs.Work.{PlainWork, kernel, rows, horner, tile, copy, work_size}
 use Rattle.perm_algebra.specs.Affine.{constant}
@@ -154,7 +155,7 @@ abbrev pub items_body : PlainFrame → PlainNest → ℕ → ℕ → ℕ → Arr
 items_body f z open_loops size table source target =
     in_a_row size (λ k. AndStmts (Do (Load 0 source (place_at f open_loops z.gathers k))) (finish_body f 0 z.multiplier z.scatters open_loops table target k 0 1))
 
-abbrev pub work_body : PlainMachine → PlainNest → PlainWork → ℕ → ℕ → ℕ → Array → Array → PlainBody
+abbrev pub work_body : Target → PlainNest → PlainWork → ℕ → ℕ → ℕ → Array → Array → PlainBody
 work_body h z (kernel trees) open_loops powers table source target =
     made_body (frame_of h z.work) z open_loops (work_size (kernel trees)) (trees_kernel h.modulus trees) table source target
 work_body h z (rows root size) open_loops powers table source target =
@@ -170,12 +171,12 @@ powers_number m (horner root size) tables = table_number tables (powers_of m roo
 powers_number m w tables = 0
 
 -- a nest, where these are the tables before it
-abbrev pub nest_body : PlainMachine → PlainNest → List (List ℕ) → Array → Array → PlainBody
+abbrev pub nest_body : Target → PlainNest → List (List ℕ) → Array → Array → PlainBody
 nest_body h z tables source target =
     let loops = loop_counts h z in
     nested loops (work_body h z z.work (length loops) (powers_number h.modulus z.work tables) (multiplier_number h.modulus z.multiplier (tables_of_work h.modulus z.work tables)) source target)
 
 -- a pass: its nests in a row
-abbrev pub pass_body : PlainMachine → List PlainNest → List (List ℕ) → Array → Array → PlainBody
+abbrev pub pass_body : Target → List PlainNest → List (List ℕ) → Array → Array → PlainBody
 pass_body h [] tables source target = NoStmts
 pass_body h (z ∷ zs) tables source target = followed_by (nest_body h z tables source target) (pass_body h zs (tables_of_nest h.modulus z tables) source target)

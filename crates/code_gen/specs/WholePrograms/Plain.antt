@@ -6,9 +6,10 @@ use Rattle.sigma_spl.specs.Merged.{PlainMerged, merged_on}
 use Rattle.sigma_spl.specs.Nest.{PlainNest, copies_of, passes_on}
 use Rattle.code_gen.specs.PassActions.Acts.{pass_registers}
 use Rattle.code_gen.specs.PassCode.Conditions.{CanWriteNest}
-use Rattle.code_gen.specs.PassCode.Contract.{Performs, most_actions}
-use Rattle.code_gen.specs.PassActions.Laws.{CanWork, FindsFactors, HasResidues}
-use Rattle.code_gen.specs.PassActions.Machine.{plain_machine}
+use Rattle.code_gen.specs.PassCode.Contract.{Performs}
+use Rattle.sigma_spl.specs.Shared.Owners.{most_actions}
+use Rattle.sigma_spl.specs.Shared.Running.{CanWork, FindsFactors, HasResidues}
+use Rattle.sigma_spl.specs.Shared.Machine.{plain_machine}
 use Rattle.code_gen.specs.PassCode.Program.{program_of, tables_of_phases}
 
 -- passes, the latest first, in their order

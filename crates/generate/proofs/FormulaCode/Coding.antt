@@ -18,7 +18,7 @@ use Rattle.icode.proofs.Lists.{code_is}
 use Rattle.icode.proofs.Runs.{memory_of_runs}
 use Rattle.loop_merge.specs.JoinedCopies.Joined.{all_joined}
 use Rattle.loop_merge.proofs.JoinedCopies.Passes.{joined-order, joined_are_plain}
-use Rattle.code_gen.specs.PassActions.Machine.{plain_machine}
+use Rattle.sigma_spl.specs.Shared.Machine.{plain_machine}
 use Rattle.code_gen.specs.PassCode.Contract.{CanProgram, Performs}
 use Rattle.code_gen.specs.PassCode.Program.{program_of}
 use Rattle.sigma_spl.specs.Merge.{passes_of}

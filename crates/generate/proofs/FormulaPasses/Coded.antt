@@ -8,8 +8,8 @@ use Rattle.std.proofs.lemmas.Bool.{cases_lt}
 use Rattle.std.proofs.lemmas.Bool.Decides.{nat_tests}
 use Rattle.std.proofs.lemmas.List.Elements.{All-nil, All-cons}
 use Rattle.matrix_meaning.specs.declared.Kind.TheVariants.{Dft, Wht, Idft}
-use Rattle.code_gen.specs.PassActions.Laws.{CanWork}
-use Rattle.code_gen.specs.PassActions.Machine.{plain_machine, first_loop, loop_counts}
+use Rattle.sigma_spl.specs.Shared.Running.{CanWork}
+use Rattle.sigma_spl.specs.Shared.Machine.{plain_machine, first_loop, loop_counts}
 use Rattle.code_gen.specs.PassCode.Conditions.{CanWriteNest, LoadsAlike}
 use Rattle.code_gen.proofs.PassCode.TestedLists.{loads-le, stores-le, sums-written}
 use Rattle.sigma_spl.specs.Copies.{loops_of}

@@ -11,7 +11,7 @@ use Rattle.matrix_meaning.specs.declared.Kind.TheVariants.{Dft, Wht, Idft}
 use Rattle.matrix_meaning.specs.Kind.{entry_of}
 use Rattle.operators.specs.Sum.{sum_below}
 use Rattle.code_gen.specs.PassActions.Acts.{nest_registers, pass_registers, with_multiplier}
-use Rattle.code_gen.specs.PassActions.Costs.{pass_cost, pass_loads, work_cost, work_loads}
+use Rattle.sigma_spl.specs.Shared.Costs.{pass_cost, pass_loads, work_cost, work_loads}
 use Rattle.code_gen.proofs.PassActions.KernelActions.{trees-registers}
 use Rattle.code_gen.specs.PassCode.Program.{tables_through}
 use Rattle.code_gen.specs.PassCode.Statements.{diagonal_of, is_table, one_factor, powers_of, tables_after, tables_of_multiplier, tables_of_nest, tables_of_work, with_diagonal, with_table}

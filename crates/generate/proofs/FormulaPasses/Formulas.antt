@@ -21,9 +21,9 @@ use Rattle.generate.proofs.FormulaPasses.Made.{AreMade, AllMade}
 use Rattle.generate.proofs.FormulaPasses.Merging.{IsFormulaTerm, passes-made}
 use Rattle.matrix_meaning.specs.declared.Kind.TheVariants.{Dft}
 use Rattle.matrix_meaning.specs.Kind.{IsPowerOfTwo}
-use Rattle.code_gen.specs.PassActions.Costs.{work_cost}
-use Rattle.code_gen.specs.PassActions.Machine.{plain_machine}
-use Rattle.code_gen.specs.PassCode.Contract.{most_actions}
+use Rattle.sigma_spl.specs.Shared.Costs.{work_cost}
+use Rattle.sigma_spl.specs.Shared.Machine.{plain_machine}
+use Rattle.sigma_spl.specs.Shared.Owners.{most_actions}
 use Rattle.sigma_spl.specs.Counts.{passes_cost}
 use Rattle.sigma_spl.specs.Good.{AreGoodPasses, IsGoodPass}
 use Rattle.sigma_spl.specs.Limits.{AreWithin}

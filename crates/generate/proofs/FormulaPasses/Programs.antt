@@ -17,10 +17,11 @@ use Rattle.icode.specs.declared.program.Array.TheVariants.{X}
 use Rattle.loop_merge.specs.JoinedCopies.Joined.{all_joined}
 use Rattle.loop_merge.proofs.JoinedCopies.Passes.{joined_mean, joined_cost, joined_are_plain}
 use Rattle.kernel_gen.proofs.Pieces.{weighted-append}
-use Rattle.code_gen.specs.PassActions.Costs.{pass_cost, work_cost}
-use Rattle.code_gen.specs.PassActions.Machine.{plain_machine}
-use Rattle.code_gen.specs.PassCode.Contract.{AreParts, Performs, all_passes, joined}
-use Rattle.code_gen.specs.PassCode.Program.{target_of}
+use Rattle.sigma_spl.specs.Shared.Costs.{pass_cost, work_cost}
+use Rattle.sigma_spl.specs.Shared.Machine.{plain_machine}
+use Rattle.code_gen.specs.PassCode.Contract.{AreParts, Performs, joined}
+use Rattle.sigma_spl.specs.Shared.Owners.{all_passes}
+use Rattle.code_gen.specs.PassCode.Program.{written_array}
 use Rattle.sigma_spl.specs.Counts.{passes_cost}
 use Rattle.sigma_spl.specs.Merge.{passes_of}
 use Rattle.sigma_spl.specs.Nest.{PlainNest}
@@ -39,7 +40,7 @@ module _ (n m weight : ℕ) (counted : 0 < weight) where
   parts-cost t source (zs ∷ ps) [] h = absurd h
   parts-cost t source (zs ∷ ps) (part ∷ parts) h =
       weighted-append weight part (joined parts)
-      ∙ ap₂ (λ a b. a + b) (one-part part (pass_cost weight m zs) (h.0.operations weight counted)) (parts-cost (suc t) (target_of t (length ps)) ps parts h.1)
+      ∙ ap₂ (λ a b. a + b) (one-part part (pass_cost weight m zs) (h.0.operations weight counted)) (parts-cost (suc t) (written_array t (length ps)) ps parts h.1)
 
   cost-append : (ps qs : List (List PlainNest)) → passes_cost weight (work_cost weight m) (ps ++ qs) ≡ passes_cost weight (work_cost weight m) ps + passes_cost weight (work_cost weight m) qs
   cost-append [] qs = omega arith

@@ -4,8 +4,8 @@ use Rattle.std.proofs.Math.Nat.{mul-le-mul}
 use Rattle.sigma_lower.specs.TreeLoops.Merge.{PlainPass}
 use Rattle.sigma_lower.specs.TreeLoops.Nests.{loop_of}
 use Rattle.operators.specs.declared.target.Target.{Target}
-use Rattle.code_gen.specs.PassActions.Costs.{pass_cost, pass_loads, work_cost, work_loads}
-use Rattle.code_gen.specs.PassCode.Contract.{IsHost, most_actions}
+use Rattle.sigma_spl.specs.Shared.Costs.{pass_cost, pass_loads, work_cost, work_loads}
+use Rattle.sigma_spl.specs.Shared.Owners.{IsHost, most_actions}
 use Rattle.code_gen.specs.PassCode.Program.{tables_of_phases, tables_through}
 use Rattle.code_gen.specs.PassCode.Statements.{diagonal_of, is_table, one_factor, powers_of, tables_of_multiplier, tables_of_nest, tables_of_work, with_diagonal, with_table}
 use Rattle.sigma_spl.specs.Counts.{copies_in, multiplier_cost}
@@ -17,7 +17,6 @@ use Rattle.operators.proofs.TensorPaths.Under.{size_under-copies}
 use Rattle.kernel_gen.proofs.KernelSizes.{trees-few}
 use Rattle.sigma_lower.proofs.TreeLoops.Shaped.{IsShapedWork}
 use Rattle.tree_model.specs.Trees.{trees_size}
-use Rattle.generate.specs.TreePasses.Laws.{host_of}
 use Rattle.generate.proofs.TreePasses.Known.{AllKnown}
 use Rattle.generate.proofs.TreePasses.Owned.{nests_in}
 use Rattle.generate.proofs.TreePasses.Writes.{IsKnown, n-small}
@@ -102,7 +101,7 @@ spread copies n size cost more loads whole high small low one each =
     let cut : copies * (cost + more + loads) ≡ copies * (cost + more) + copies * loads = omega arith in
     omega (arith, product, turned, same, bound, cut, high)
 
-module _ (c : Target) (host : IsHost (host_of c)) where
+module _ (c : Target) (host : IsHost c) where
   -- operations and loads of one copy
   pub record IsModest (n : ℕ) (w : PlainWork) : Type 0 where
     pub operations : work_cost 1 c.modulus w ≤ 2 * (n * n)
@@ -133,7 +132,7 @@ module _ (c : Target) (host : IsHost (host_of c)) where
       (work_loads w) whole high (n-small c p host known) m.operations (multiplier-le 1 z.multiplier w) m.loads
 
   pub actions-few : (ps : List PlainPass) → AllKnown c ps →
-      most_actions (host_of c) (nests_in c ps) ≤ 2 ^ 44 * length ps
+      most_actions c (nests_in c ps) ≤ 2 ^ 44 * length ps
   actions-few [] known = omega arith
   actions-few (p ∷ ps) known =
       let first = pass-actions p known.0 in

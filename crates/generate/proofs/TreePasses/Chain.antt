@@ -9,7 +9,7 @@ use Rattle.sigma_spl.specs.Sigma.{PlainSigma, merged_of}
 use Rattle.sigma_lower.specs.TreeTerms.Good.{IsVecOf}
 use Rattle.smp_rewrite.specs.Cut.{smp_of}
 use Rattle.smp_rewrite.specs.Smp.{PlainSmp}
-use Rattle.smp_rewrite.specs.LayoutSteps.Targets.{target_of}
+use Rattle.sigma_spl.specs.Shared.Targets.{target_of}
 use Rattle.smp_rewrite.specs.LayoutSteps.Whole.{whole_of}
 use Rattle.smp_rewrite.proofs.LayoutSteps.Wholes.{forward_tree}
 use Rattle.tree_model.specs.Breakdown.{Breakdown, size_of}

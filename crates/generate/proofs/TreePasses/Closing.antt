@@ -6,19 +6,18 @@ use Rattle.loop_merge.specs.MultipliedPasses.Laws.{CanMultiply}
 use Rattle.loop_merge.specs.MultipliedPasses.Multiplied.{First}
 use Rattle.loop_merge.proofs.MultipliedPasses.Counts.{multiplied_counts}
 use Rattle.loop_merge.proofs.MultipliedPasses.Programs.{multiplied_can_program}
-use Rattle.code_gen.specs.PassActions.Machine.{PlainMachine}
-use Rattle.code_gen.specs.PassCode.Contract.{CanProgram, all_passes}
+use Rattle.operators.specs.declared.target.Target.{Target}
+use Rattle.code_gen.specs.PassCode.Contract.{CanProgram}
+use Rattle.sigma_spl.specs.Shared.Owners.{all_passes}
 use Rattle.sigma_spl.specs.Merged.{PlainMerged}
 use Rattle.sigma_spl.specs.Nest.{repeated}
 use Rattle.sigma_spl.specs.Sigma.{merged_of}
 use Rattle.smp_rewrite.specs.LayoutSteps.Whole.{Whole, IsGoodFactor}
-use Rattle.operators.specs.declared.target.Target.{Target}
 use Rattle.generate.specs.TreePasses.Closed.{CountsClosed, closed_merged}
-use Rattle.generate.specs.TreePasses.Laws.{host_of}
 use Rattle.generate.proofs.TreePasses.ClosedWholes.{wholes_merge}
 use Rattle.generate.proofs.TreePasses.Small.{AreSmall}
 
-module _ (h : PlainMachine) (g : PlainMerged) (can : CanProgram h g) (small : AreSmall h (all_passes g.phases)) where
+module _ (h : Target) (g : PlainMerged) (can : CanProgram h g) (small : AreSmall h (all_passes g.phases)) where
   can-multiply : (v : ℕ) → v < h.modulus → CanMultiply h First (repeated v 1) g
   can-multiply v low =
       let few = small.nests in
@@ -46,14 +45,14 @@ module _ (h : PlainMachine) (g : PlainMerged) (can : CanProgram h g) (small : Ar
 
 -- ---- of a whole
 
-module _ (h : Target) (w : Whole) (lower : CanLower h w) (can : CanProgram (host_of h) (layout_merged h w.layout))
-    (small : AreSmall (host_of h) (all_passes (layout_merged h w.layout).phases)) where
-  pub whole_can_program : CanProgram (host_of h) (merged_of (whole_sigma h w))
+module _ (h : Target) (w : Whole) (lower : CanLower h w) (can : CanProgram h (layout_merged h w.layout))
+    (small : AreSmall h (all_passes (layout_merged h w.layout).phases)) where
+  pub whole_can_program : CanProgram h (merged_of (whole_sigma h w))
   whole_can_program =
-      subst (CanProgram (host_of h)) (sym (wholes_merge h w lower))
-      (closed_can_program (host_of h) (layout_merged h w.layout) can small w.factor lower.good.factor)
+      subst (CanProgram h) (sym (wholes_merge h w lower))
+      (closed_can_program h (layout_merged h w.layout) can small w.factor lower.good.factor)
 
-  pub whole_counts : CountsClosed (host_of h) w.factor (layout_merged h w.layout) (merged_of (whole_sigma h w))
+  pub whole_counts : CountsClosed h w.factor (layout_merged h w.layout) (merged_of (whole_sigma h w))
   whole_counts =
-      subst (CountsClosed (host_of h) w.factor (layout_merged h w.layout)) (sym (wholes_merge h w lower))
-      (closed_counts (host_of h) (layout_merged h w.layout) can small w.factor)
+      subst (CountsClosed h w.factor (layout_merged h w.layout)) (sym (wholes_merge h w lower))
+      (closed_counts h (layout_merged h w.layout) can small w.factor)

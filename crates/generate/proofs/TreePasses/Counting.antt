@@ -7,8 +7,8 @@ use Rattle.sigma_lower.specs.TreeLoops.Laws.{Counted, counted, counted_as, count
 use Rattle.sigma_lower.specs.TreeLoops.Merge.{PlainDiagonal, PlainPass, merged_of}
 use Rattle.sigma_lower.specs.TreeLoops.Nests.{loop_of, taken_of}
 use Rattle.sigma_lower.proofs.TreeLoops.Counts.{merge_counts}
-use Rattle.code_gen.specs.PassActions.Costs.{pass_cost, pass_loads, work_cost}
-use Rattle.code_gen.specs.PassCode.Contract.{all_passes}
+use Rattle.sigma_spl.specs.Shared.Costs.{pass_cost, pass_loads, work_cost}
+use Rattle.sigma_spl.specs.Shared.Owners.{all_passes}
 use Rattle.sigma_spl.specs.Counts.{copies_in, multiplier_cost}
 use Rattle.sigma_spl.specs.Loops.{PlainLoop, multiplier_of, one_nest}
 use Rattle.sigma_spl.specs.Nest.{PlainNest}

@@ -6,7 +6,7 @@ use Rattle.sigma_lower.specs.TreeLoops.Merge.{PlainPass}
 use Rattle.sigma_lower.specs.TreeLoops.Nests.{loop_of}
 use Rattle.operators.specs.declared.target.Target.{Target}
 use Rattle.operators.proofs.Lists.{place_below}
-use Rattle.code_gen.specs.PassActions.Machine.{framed_lanes, if_several, item_of, lane_step, values_of}
+use Rattle.sigma_spl.specs.Shared.Machine.{framed_lanes, if_several, item_of, lane_step, values_of}
 use Rattle.code_gen.specs.PassActions.Laws as actions
 use Rattle.sigma_spl.specs.Loops.{nest_of}
 use Rattle.sigma_spl.specs.Work.{PlainWork, kernel, rows, horner, tile, copy, vectors_of, work_size}
@@ -15,12 +15,11 @@ use Rattle.smp_rewrite.specs.Smp.{within}
 use Rattle.operators.specs.declared.tensor_paths.Tensor.{Tensor}
 use Rattle.operators.specs.declared.tensor_paths.Tensor.TheVariants.{Blocks, Columns}
 use Rattle.operators.specs.TensorPaths.Path.{Path, count_of, AreInRange}
-use Rattle.generate.specs.TreePasses.Laws.{host_of}
 
 -- ---- work
 
 pub loop-values : (c : Target) (w : PlainWork) (q lane : ℕ) (vs : List ℕ) →
-    values_of (host_of c) w q lane vs ≡ shared.values_of c w q lane vs
+    values_of c w q lane vs ≡ shared.values_of c w q lane vs
 loop-values c (kernel trees) q lane vs = refl
 loop-values c (rows root size) q lane vs = refl
 loop-values c (horner root size) q lane vs = refl
@@ -56,14 +55,14 @@ counts-lanes p v loops =
     ∙ ap (λ xs. if_several p p ++ xs) (counts-pick (v == 1) (Columns v) loops)
 
 counts-framed : (c : Target) (w : PlainWork) (loops : Path) →
-    map count_of (framed c w loops) ≡ if_several c.procs c.procs ++ (framed_lanes (host_of c) w ++ map count_of loops)
+    map count_of (framed c w loops) ≡ if_several c.procs c.procs ++ (framed_lanes c w ++ map count_of loops)
 counts-framed c (kernel trees) loops = counts-lanes c.procs c.lanes loops
 counts-framed c (rows root size) loops = counts-lanes c.procs c.lanes loops
 counts-framed c (horner root size) loops = counts-lanes c.procs c.lanes loops
 counts-framed c (tile v) loops = counts-pick (c.procs == 1) (Blocks c.procs) loops
 counts-framed c (copy size) loops = counts-lanes c.procs c.lanes loops
 
-pub nest-framed : (c : Target) (p : PlainPass) → IsFramed c p → actions.IsFramed (host_of c) (nest_of (loop_of p))
+pub nest-framed : (c : Target) (p : PlainPass) → IsFramed c p → actions.IsFramed c (nest_of (loop_of p))
 nest-framed c p frame = record { loops = map count_of frame.loops; counts = ap (map count_of) frame.path ∙ counts-framed c p.work frame.loops }
 
 -- ---- the values of the variables

@@ -17,7 +17,7 @@ use Rattle.sigma_lower.proofs.TreeLoops.LoopNests.{loops_listed}
 use Rattle.sigma_lower.proofs.TreeLoops.PlaceValues.{AreFormedPasses}
 use Rattle.sigma_lower.proofs.TreeLoops.Shaped.{AreShaped, IsShapedWork}
 use Rattle.sigma_lower.proofs.TreeLoops.TreePlaces.{good_places, tree_good_places}
-use Rattle.code_gen.specs.PassCode.Contract.{IsHost}
+use Rattle.sigma_spl.specs.Shared.Owners.{IsHost}
 use Rattle.sigma_spl.specs.Good.{AreGoodPasses, IsGoodPass}
 use Rattle.sigma_spl.specs.Loops.{PlainLoop, AreGoodLoops, AreLimitedLoops, IsGoodLoop, loops_in, one_nest}
 use Rattle.sigma_spl.specs.Merge.{most, unbounded}
@@ -29,7 +29,6 @@ use Rattle.sigma_lower.proofs.TreeTerms.Both.{plain_terms}
 use Rattle.sigma_lower.proofs.TreeTerms.RootTerms.{shared_terms}
 use Rattle.smp_rewrite.specs.LayoutSteps.Layout.{Layout}
 use Rattle.operators.specs.declared.target.Target.{Target}
-use Rattle.generate.specs.TreePasses.Laws.{host_of}
 use Rattle.generate.proofs.TreePasses.Hosted.{IsHosted}
 use Rattle.generate.proofs.TreePasses.Works.{IsSmallWork}
 use Rattle.generate.proofs.TreePasses.Writes.{IsKnown}
@@ -66,7 +65,7 @@ good-phase : (c : Target) (ts : List PlainTerm) → AreGood c (loops_in (phase_t
     AreGood c (map loop_of (passes_of_terms ts))
 good-phase c ts h = good-back c (map loop_of (passes_of_terms ts)) (subst (AreGood c) (loops_listed ts) h)
 
-good-phases : (c : Target) (phases : List (List PlainTerm)) → IsHost (host_of c) → AllEmbed c c.lanes phases →
+good-phases : (c : Target) (phases : List (List PlainTerm)) → IsHost c → AllEmbed c c.lanes phases →
     AllOrdered c phases → AllHaveLoops c phases → AllLoops c phases →
     AllMerge unbounded c phases →
     AreGood c (map loop_of (in_order (map passes_of_terms phases)))

@@ -10,7 +10,8 @@ use Rattle.sigma_lower.specs.TreeLoops.Nests.{loop_of, nests_of}
 use Rattle.sigma_lower.proofs.TreeLoops.Counts.{merge_counts}
 use Rattle.sigma_lower.proofs.TreeLoops.LoopNests.{loops_listed, tree_nests}
 use Rattle.code_gen.specs.PassCode.Conditions.{CanWritePass}
-use Rattle.code_gen.specs.PassCode.Contract.{CanProgram, IsHost, all_passes, most_actions}
+use Rattle.code_gen.specs.PassCode.Contract.{CanProgram}
+use Rattle.sigma_spl.specs.Shared.Owners.{IsHost, all_passes, most_actions}
 use Rattle.sigma_spl.specs.Loops.{HasLoop}
 use Rattle.sigma_spl.specs.Merged.{PlainMerged}
 use Rattle.sigma_spl.specs.Nest.{PlainNest}
@@ -19,7 +20,6 @@ use Rattle.sigma_lower.specs.TreeTerms.Term.{PlainTerm, lowered_of}
 use Rattle.sigma_lower.proofs.TreeTerms.RootTerms.{shared_terms}
 use Rattle.smp_rewrite.specs.LayoutSteps.Layout.{Layout, layout_size}
 use Rattle.operators.specs.declared.target.Target.{Target}
-use Rattle.generate.specs.TreePasses.Laws.{host_of}
 use Rattle.generate.proofs.TreePasses.Bounds.{actions-few, phases-grown, total}
 use Rattle.generate.proofs.TreePasses.Few.{AreFewMerged, few_merged}
 use Rattle.generate.proofs.TreePasses.Hosted.{IsHosted}
@@ -49,11 +49,11 @@ module _ (c : Target) where
       All-cons (λ ps. 0 < length ps) (nests_in c (passes_of_terms ts)) (map (nests_in c) (map passes_of_terms more))
       (some-nest (passes_of_terms ts) (subst HasLoop (loops_listed ts) h.0)) (each-some more h.1)
 
-  all-write : (ps : List PlainPass) → IsHost (host_of c) → AllKnown c ps →
-      All (CanWritePass (host_of c)) (nests_in c ps)
-  all-write [] host known = All-nil (CanWritePass (host_of c))
+  all-write : (ps : List PlainPass) → IsHost c → AllKnown c ps →
+      All (CanWritePass c) (nests_in c ps)
+  all-write [] host known = All-nil (CanWritePass c)
   all-write (p ∷ ps) host known =
-      All-cons (CanWritePass (host_of c)) _ (nests_in c ps) (can-write-pass c p host known.0)
+      All-cons (CanWritePass c) _ (nests_in c ps) (can-write-pass c p host known.0)
       (all-write ps host known.1)
 
   module _ (l : Layout) (is : IsHosted c l) where
@@ -74,7 +74,7 @@ module _ (c : Target) where
         ap (λ (g : PlainMerged). all_passes g.phases) (tree_nests c l is.machine is.shares is.good)
         ∙ passes-are (merged_phases c l)
 
-    can-nests : CanProgram (host_of c) (nests_of c l)
+    can-nests : CanProgram c (nests_of c l)
     can-nests =
         let passes = passes-are (merged_phases c l) in
         let many = length-map (merged_of c l) _ in
@@ -90,17 +90,17 @@ module _ (c : Target) where
           size = refl;
           procs = refl;
           lanes = refl;
-          passes = subst (All (CanWritePass (host_of c))) (sym passes) (all-write (merged_of c l) is.host known);
+          passes = subst (All (CanWritePass c)) (sym passes) (all-write (merged_of c l) is.host known);
           some = omega (arith, count, one);
           each_some = each-some (lowered_of c l) (phases_have_loops c l is.machine is.shares is.good);
           few =
-              subst (λ (ps : List (List PlainNest)). most_actions (host_of c) ps < 2 ^ 59) (sym passes)
+              subst (λ (ps : List (List PlainNest)). most_actions c ps < 2 ^ 59) (sym passes)
               (omega (arith, actions, most));
           tables = omega (arith, tables, same, most);
           shared =
               phases-shared c (merged_phases c l) known (phases_are_shared shared_terms c l is.shares is.good);
         }
 
-    pub layout_can_program : CanProgram (host_of c) (layout_merged c l)
+    pub layout_can_program : CanProgram c (layout_merged c l)
     layout_can_program =
-        subst (CanProgram (host_of c)) (sym (tree_nests c l is.machine is.shares is.good)) can-nests
+        subst (CanProgram c) (sym (tree_nests c l is.machine is.shares is.good)) can-nests

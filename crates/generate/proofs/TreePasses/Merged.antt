@@ -16,7 +16,7 @@ use Rattle.sigma_spl.specs.Term.{PlainTerm}
 use Rattle.sigma_spl.proofs.Phases.{sigma_merges}
 use Rattle.sigma_lower.specs.TreeTerms.Term.{factor_term, terms_in}
 use Rattle.smp_rewrite.specs.Cut.{smp_of}
-use Rattle.smp_rewrite.specs.LayoutSteps.Targets.{target_of}
+use Rattle.sigma_spl.specs.Shared.Targets.{target_of}
 use Rattle.smp_rewrite.specs.LayoutSteps.Whole.{whole_of}
 use Rattle.smp_rewrite.proofs.LayoutSteps.Wholes.{wholes_do}
 use Rattle.tree_model.specs.Breakdown.{Breakdown}

@@ -4,8 +4,8 @@ use Rattle.std.specs.Prelude.{Contains}
 use Rattle.sigma_lower.specs.TreeLoops.Merge.{PlainPass, gather_place, scatter_place, in_order}
 use Rattle.sigma_lower.specs.TreeLoops.Nests.{loop_of}
 use Rattle.operators.specs.declared.target.Target.{Target}
-use Rattle.code_gen.specs.PassActions.Laws.{IsLoadedBy, IsStoredBy}
-use Rattle.code_gen.specs.PassCode.Contract.{AllOwn, AllShared, ArePhasesShared, FirstOwns, IsOwner}
+use Rattle.sigma_spl.specs.Shared.Running.{IsLoadedBy, IsStoredBy}
+use Rattle.sigma_spl.specs.Shared.Owners.{AllOwn, AllShared, ArePhasesShared, FirstOwns, IsOwner}
 use Rattle.sigma_spl.specs.Loops.{nest_of, one_nest}
 use Rattle.sigma_spl.specs.Copies.{loops_of}
 use Rattle.sigma_spl.specs.Nest.{PlainNest, load_place, store_place}
@@ -13,7 +13,6 @@ use Rattle.sigma_spl.specs.Work.{work_size}
 use Rattle.sigma_spl.proofs.Natural.{ranged}
 use Rattle.sigma_lower.specs.TreeLoops.SharedPasses.Shared as shared
 use Rattle.operators.specs.TensorPaths.Path.{AreInRange}
-use Rattle.generate.specs.TreePasses.Laws.{host_of}
 use Rattle.generate.proofs.TreePasses.Known.{AllKnown}
 use Rattle.generate.proofs.TreePasses.Places.{load-is, store-is}
 use Rattle.generate.proofs.TreePasses.Writes.{IsKnown}
@@ -29,7 +28,7 @@ module _ (c : Target) where
   nests_in ps = map (λ p. one_nest (loop_of p)) ps
 
   loads-own : (owner : ℕ → ℕ) (p : PlainPass) → IsKnown c p → shared.Owns c p (gather_place p) owner → (q w : ℕ) →
-      q < c.procs → IsLoadedBy (host_of c) (one_nest (loop_of p)) q w → owner w ≡ q
+      q < c.procs → IsLoadedBy c (one_nest (loop_of p)) q w → owner w ≡ q
   loads-own owner p known owns q w below by =
       subst (λ (y : PlainNest). AreInRange (loops_of y.counts) by.values → by.item < work_size y.work → load_place
       y.work y.gathers by.values by.item ≡ w → owner w ≡ q)
@@ -41,7 +40,7 @@ module _ (c : Target) where
       by.copy.in_range by.below by.there
 
   stores-own : (owner : ℕ → ℕ) (p : PlainPass) → IsKnown c p → shared.Owns c p (scatter_place p) owner → (q w : ℕ) →
-      q < c.procs → IsStoredBy (host_of c) (one_nest (loop_of p)) q w → owner w ≡ q
+      q < c.procs → IsStoredBy c (one_nest (loop_of p)) q w → owner w ≡ q
   stores-own owner p known owns q w below by =
       subst (λ (y : PlainNest). AreInRange (loops_of y.counts) by.values → by.item < work_size y.work → store_place
       y.work y.scatters by.values by.item ≡ w → owner w ≡ q)
@@ -53,17 +52,17 @@ module _ (c : Target) where
       by.copy.in_range by.below by.there
 
   all-own : (owner : ℕ → ℕ) (ps : List PlainPass) → AllKnown c ps → shared.AllOwn c owner ps →
-      AllOwn (host_of c) owner (nests_in ps)
+      AllOwn c owner (nests_in ps)
   all-own owner [] known own = tt
   all-own owner (p ∷ ps) known own =
       (loads-own owner p known.0 own.0, stores-own owner p known.0 own.1, all-own owner ps known.1 own.2)
 
   first-own : (owner : ℕ → ℕ) (ps : List PlainPass) → AllKnown c ps → shared.FirstOwns c owner ps →
-      FirstOwns (host_of c) owner (nests_in ps)
+      FirstOwns c owner (nests_in ps)
   first-own owner [] known own = tt
   first-own owner (p ∷ ps) known own = (stores-own owner p known.0 own.0, all-own owner ps known.1 own.1)
 
-  same-owner : (owner : ℕ → ℕ) → shared.IsOwner c owner → IsOwner (host_of c) owner
+  same-owner : (owner : ℕ → ℕ) → shared.IsOwner c owner → IsOwner c owner
   same-owner owner is = record { lines = is.lines; procs = is.procs }
 
   known-front : (ps qs : List PlainPass) → AllKnown c (ps ++ qs) → AllKnown c ps
@@ -75,7 +74,7 @@ module _ (c : Target) where
   known-back (p ∷ ps) qs h = known-back ps qs h.1
 
   all-shared : (phases : List (List PlainPass)) → AllKnown c (in_order phases) → shared.AllShared c phases →
-      AllShared (host_of c) (map nests_in phases)
+      AllShared c (map nests_in phases)
   all-shared [] known h = tt
   all-shared (ps ∷ more) known h = (
     record { owner = h.0.owner; is_owner = same-owner h.0.owner h.0.is_owner; owns = all-own h.0.owner ps (known-front ps (in_order more) known) h.0.owns },
@@ -83,7 +82,7 @@ module _ (c : Target) where
   )
 
   pub phases-shared : (phases : List (List PlainPass)) → AllKnown c (in_order phases) →
-      shared.ArePhasesShared c phases → ArePhasesShared (host_of c) (map nests_in phases)
+      shared.ArePhasesShared c phases → ArePhasesShared c (map nests_in phases)
   phases-shared [] known h = tt
   phases-shared (ps ∷ more) known h = (
     record { owner = h.0.owner; is_owner = same-owner h.0.owner h.0.is_owner; owns = first-own h.0.owner ps (known-front ps (in_order more) known) h.0.owns },

@@ -11,9 +11,9 @@ use Rattle.sigma_lower.proofs.TreeLoops.Closed.{AreClosed, IsClosedPass, inner-b
 use Rattle.sigma_lower.proofs.TreeLoops.PlaceValues.{through-end}
 use Rattle.sigma_lower.proofs.TreeLoops.Shaped.{IsShaped, IsShapedWork}
 use Rattle.operators.specs.declared.target.Target.{Target}
-use Rattle.code_gen.specs.PassCode.Contract.{IsHost}
-use Rattle.code_gen.specs.PassActions.Laws.{FindsFactors, HasResidues, MovesVectors}
-use Rattle.code_gen.specs.PassActions.Machine.{item_of, values_of}
+use Rattle.sigma_spl.specs.Shared.Owners.{IsHost}
+use Rattle.sigma_spl.specs.Shared.Running.{FindsFactors, HasResidues, MovesVectors}
+use Rattle.sigma_spl.specs.Shared.Machine.{item_of, values_of}
 use Rattle.sigma_spl.specs.Copies.{loops_of}
 use Rattle.sigma_spl.specs.Loops.{nest_of, multiplier_of, places_by, IsGoodLoop}
 use Rattle.sigma_spl.specs.Merge.{items_out}
@@ -24,7 +24,6 @@ use Rattle.sigma_spl.proofs.Listed.{loops_have_places}
 use Rattle.sigma_lower.specs.TreeLoops.SharedPasses.Shared.{IsFramed}
 use Rattle.operators.specs.TensorPaths.Path.{count_of, place, AreInRange}
 use Rattle.operators.proofs.TensorPaths.PathPlaces.{place-below}
-use Rattle.generate.specs.TreePasses.Laws.{host_of}
 use Rattle.generate.proofs.TreePasses.Frames.{loop-values, loop-item, loop-step, range-of, named, values-named, IsShare, share-of, item-below}
 
 -- a nest's diagonal is that of its pass
@@ -76,13 +75,13 @@ module _ (c : Target) (p : PlainPass) (good : IsGoodLoop c.lanes (loop_of p)) wh
 
   -- ---- lanes
 
-  module _ (host : IsHost (host_of c)) (frame : IsFramed c p) (q : ℕ) (vs : List ℕ) (lane k : ℕ)
-      (range : AreInRange (loops_of (map count_of p.path)) (values_of (host_of c) w q lane vs)) (on : lane < c.lanes)
+  module _ (host : IsHost c) (frame : IsFramed c p) (q : ℕ) (vs : List ℕ) (lane k : ℕ)
+      (range : AreInRange (loops_of (map count_of p.path)) (values_of c w q lane vs)) (on : lane < c.lanes)
       (below : k < vectors_of w) where
     some : 0 < c.procs
     some = let procs = host.procs.0 in omega (arith, procs)
 
-    values-are : (l : ℕ) → values_of (host_of c) w q l vs ≡ shared.values_of c p.work (named c q) l vs
+    values-are : (l : ℕ) → values_of c w q l vs ≡ shared.values_of c p.work (named c q) l vs
     values-are l = loop-values c p.work q l vs ∙ values-named c p.work q l vs
 
     share : IsShare c frame.loops q vs
@@ -97,7 +96,7 @@ module _ (c : Target) (p : PlainPass) (good : IsGoodLoop c.lanes (loop_of p)) wh
     in_copy l high = item-below c p.work k l frame.lanes below high
 
     load-at : (l : ℕ) → l < c.lanes →
-        load_place w (nest_of (loop_of p)).gathers (values_of (host_of c) w q l vs) (item_of w k l)
+        load_place w (nest_of (loop_of p)).gathers (values_of c w q l vs) (item_of w k l)
         ≡ gather_place p (shared.values_of c p.work (named c q) l vs) (shared.item_of p.work k l)
     load-at l high =
         ap₂ (λ us i. load_place w (nest_of (loop_of p)).gathers us i) (values-are l) (loop-item p.work k l)
@@ -105,7 +104,7 @@ module _ (c : Target) (p : PlainPass) (good : IsGoodLoop c.lanes (loop_of p)) wh
         (in_copy l high)
 
     store-at : (l : ℕ) → l < c.lanes →
-        store_place w (nest_of (loop_of p)).scatters (values_of (host_of c) w q l vs) (item_of w k l)
+        store_place w (nest_of (loop_of p)).scatters (values_of c w q l vs) (item_of w k l)
         ≡ scatter_place p (shared.values_of c p.work (named c q) l vs) (shared.item_of p.work k l)
     store-at l high =
         ap₂ (λ us i. store_place w (nest_of (loop_of p)).scatters us i) (values-are l) (loop-item p.work k l)
@@ -116,16 +115,16 @@ module _ (c : Target) (p : PlainPass) (good : IsGoodLoop c.lanes (loop_of p)) wh
     first = omega (arith, on)
 
     factor-at : (m : PlainMultiplier) (t : IsTaken p m) (l : ℕ) → l < c.lanes →
-        store_place w m.places (values_of (host_of c) w q l vs) (item_of w k l)
+        store_place w m.places (values_of c w q l vs) (item_of w k l)
         ≡ diagonal_place p t.diagonal (shared.values_of c p.work (named c q) l vs) (shared.item_of p.work k l)
     factor-at m t l high =
-        ap (λ (n : PlainMultiplier). store_place w n.places (values_of (host_of c) w q l vs) (item_of w k l)) t.same
+        ap (λ (n : PlainMultiplier). store_place w n.places (values_of c w q l vs) (item_of w k l)) t.same
         ∙ ap₂ (λ us i. store_place w (places_by (loop_of p) (taken_of t.diagonal).places
         (items_out w (length p.path))) us i) (values-are l) (loop-item p.work k l)
         ∙ factor-is (shared.values_of c p.work (named c q) l vs) (shared.item_of p.work k l) (in_range l high)
         (in_copy l high) t.diagonal t.is
 
-    pub moves-vectors : MovesVectors (host_of c) (nest_of (loop_of p)) q vs lane k
+    pub moves-vectors : MovesVectors c (nest_of (loop_of p)) q vs lane k
     moves-vectors =
         let moved = frame.vectors vs (named c q) lane k share.inner share.proc on below in
         record {
@@ -162,7 +161,7 @@ module _ (c : Target) (p : PlainPass) (good : IsGoodLoop c.lanes (loop_of p)) wh
       ≡ d.rows * d.cols = ap (λ (n : PlainMultiplier). factor_count n.factors) t.same in
       omega (arith, inside, value, count)
 
-pub residues-of : (c : Target) (p : PlainPass) → 0 < c.modulus → HasResidues (host_of c) (nest_of (loop_of p))
+pub residues-of : (c : Target) (p : PlainPass) → 0 < c.modulus → HasResidues c (nest_of (loop_of p))
 residues-of c p some m is i =
     let t = taken-is p m is in
     subst (λ (n : PlainMultiplier). factor_at c.modulus n.factors i < c.modulus) (sym t.same)

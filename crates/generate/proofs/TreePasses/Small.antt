@@ -7,13 +7,11 @@ use Rattle.sigma_lower.specs.TreeLoops.Merge.{PlainPass, merged_of}
 use Rattle.sigma_lower.specs.TreeLoops.Nests.{loop_of}
 use Rattle.loop_merge.specs.MultipliedPasses.Laws.{HasNoTile, IsFree, LastHas}
 use Rattle.code_gen.specs.PassActions.Acts.{nest_registers, pass_registers}
-use Rattle.code_gen.specs.PassActions.Machine.{PlainMachine}
-use Rattle.code_gen.specs.PassCode.Contract.{IsHost, all_passes, most_actions}
+use Rattle.operators.specs.declared.target.Target.{Target}
+use Rattle.sigma_spl.specs.Shared.Owners.{IsHost, all_passes, most_actions}
 use Rattle.sigma_spl.specs.Loops.{nest_of, one_nest}
 use Rattle.sigma_spl.specs.Nest.{PlainNest}
 use Rattle.smp_rewrite.specs.LayoutSteps.Layout.{Layout}
-use Rattle.operators.specs.declared.target.Target.{Target}
-use Rattle.generate.specs.TreePasses.Laws.{host_of}
 use Rattle.generate.proofs.TreePasses.Bounds.{actions-few}
 use Rattle.generate.proofs.TreePasses.Endings.{last_free, last_untiled, layout_ends}
 use Rattle.generate.proofs.TreePasses.Hosted.{IsHosted}
@@ -27,7 +25,7 @@ abbrev pub KeepsWork : (PlainNest → PlainNest) → Type 0
 KeepsWork f = (z : PlainNest) → (f z).work ≡ z.work
 
 -- passes of which the last can take a diagonal: they are few, and each of them is one nest
-pub record AreSmall (h : PlainMachine) (ps : List (List PlainNest)) : Type 0 where
+pub record AreSmall (h : Target) (ps : List (List PlainNest)) : Type 0 where
   pub free : LastHas IsFree ps
   pub untiled : LastHas HasNoTile ps
   pub registers : (f : PlainNest → PlainNest) → KeepsWork f →
@@ -43,7 +41,7 @@ module _ (c : Target) where
       let first = sum_by-cons length (one_nest (loop_of p)) (nests_in c ps) in
       omega (arith, rest, first)
 
-  module _ (host : IsHost (host_of c)) where
+  module _ (host : IsHost c) where
     registers-last : (f : PlainNest → PlainNest) → KeepsWork f → (ps : List PlainPass) → AllKnown c ps → 0 < length ps →
         LastHas (λ zs. pass_registers c.modulus (map f zs) < 2 ^ 20) (nests_in c ps)
     registers-last f keeps [] known some = absurd (omega arith)
@@ -54,7 +52,7 @@ module _ (c : Target) where
         omega (arith, few)
     registers-last f keeps (p ∷ q ∷ ps) known some = registers-last f keeps (q ∷ ps) known.1 (omega arith)
 
-  pub layout_small : (l : Layout) → IsHosted c l → AreSmall (host_of c) (all_passes (layout_merged c l).phases)
+  pub layout_small : (l : Layout) → IsHosted c l → AreSmall c (all_passes (layout_merged c l).phases)
   layout_small l is =
       let known = layout-known c l is in
       let ends = layout_ends c l is.machine is.shares is.good in
@@ -63,7 +61,7 @@ module _ (c : Target) where
       let few = number.few in
       let one = nests-one (merged_of c l) in
       let acts = actions-few c is.host (merged_of c l) known in
-      subst (AreSmall (host_of c)) (sym (layout-passes c l is)) (record {
+      subst (AreSmall c) (sym (layout-passes c l is)) (record {
         free = last_free (merged_of c l) ends;
         untiled = last_untiled (merged_of c l) ends;
         registers = λ f keeps. registers-last is.host f keeps (merged_of c l) known (omega (arith, some));

@@ -10,11 +10,11 @@ use Rattle.matrix_meaning.specs.declared.Kind.{Kind}
 use Rattle.matrix_meaning.specs.declared.Kind.TheVariants.{Dft, Wht, Idft}
 use Rattle.matrix_meaning.specs.declared.Request.{Request}
 use Rattle.matrix_meaning.proofs.Requests.{forward_is_valid}
-use Rattle.code_gen.specs.PassActions.Costs.{pass_cost, pass_loads}
-use Rattle.code_gen.specs.PassCode.Contract.{all_passes}
+use Rattle.sigma_spl.specs.Shared.Costs.{pass_cost, pass_loads}
+use Rattle.sigma_spl.specs.Shared.Owners.{all_passes}
 use Rattle.sigma_spl.specs.Merged.{PlainMerged}
 use Rattle.smp_rewrite.specs.LayoutSteps.Layout.{Layout, layout_of}
-use Rattle.smp_rewrite.specs.LayoutSteps.Targets.{target_of}
+use Rattle.sigma_spl.specs.Shared.Targets.{target_of}
 use Rattle.smp_rewrite.specs.LayoutSteps.Whole.{factor_by, whole_of}
 use Rattle.smp_rewrite.proofs.LayoutSteps.Wholes.{forward_fits}
 use Rattle.tree_model.specs.Breakdown.{Breakdown}

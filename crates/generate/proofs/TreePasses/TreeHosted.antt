@@ -11,11 +11,11 @@ use Rattle.matrix_meaning.specs.Valid.{IsValid}
 use Rattle.matrix_meaning.specs.declared.Kind.{Kind}
 use Rattle.matrix_meaning.specs.declared.Kind.TheVariants.{Dft, Wht, Idft}
 use Rattle.matrix_meaning.specs.declared.Request.{Request}
-use Rattle.code_gen.specs.PassCode.Contract.{IsHost}
+use Rattle.sigma_spl.specs.Shared.Owners.{IsHost}
 use Rattle.sigma_spl.specs.Work.{kernel}
 use Rattle.smp_rewrite.specs.LayoutSteps.Layout.{Layout, work, by, layout_of, long_work}
 use Rattle.smp_rewrite.specs.LayoutSteps.Meaning.{IsNodeTree}
-use Rattle.smp_rewrite.specs.LayoutSteps.Targets.{target_of}
+use Rattle.sigma_spl.specs.Shared.Targets.{target_of}
 use Rattle.smp_rewrite.specs.LayoutSteps.Whole.{whole_of}
 use Rattle.smp_rewrite.proofs.LayoutSteps.NodeTrees.{left_tree, right_tree}
 use Rattle.smp_rewrite.proofs.LayoutSteps.Rooted.{rooted_size}
@@ -25,7 +25,6 @@ use Rattle.tree_model.specs.Chosen.{IsWholeTree}
 use Rattle.tree_model.specs.Cost.{is_kernel, node_root}
 use Rattle.tree_model.specs.Trees.{trees_size}
 use Rattle.tree_model.specs.Whole.{left_of, right_of, rooted_of}
-use Rattle.generate.specs.TreePasses.Laws.{machine_of}
 use Rattle.generate.proofs.TreePasses.Hosted.{IsHosted}
 use Rattle.generate.proofs.TreePasses.Works.{IsSmallWork}
 
@@ -69,7 +68,7 @@ small-works p (node rule a b) h =
 
 -- ---- on the request's machine
 
-is-host : (c : Request) → IsValid c → IsHost (machine_of c)
+is-host : (c : Request) → IsValid c → IsHost (target_of c)
 is-host c valid =
     let range = valid.in_range in
     let large = range.modulus in

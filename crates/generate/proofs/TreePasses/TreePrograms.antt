@@ -2,7 +2,7 @@
 use Rattle.sigma_lower.proofs.TreeLayouts.{trees_can_lower}
 use Rattle.matrix_meaning.specs.Parts.{forward_of}
 use Rattle.smp_rewrite.specs.LayoutSteps.Layout.{layout_of}
-use Rattle.smp_rewrite.specs.LayoutSteps.Targets.{target_of}
+use Rattle.sigma_spl.specs.Shared.Targets.{target_of}
 use Rattle.smp_rewrite.specs.LayoutSteps.Whole.{whole_of}
 use Rattle.generate.specs.TreePasses.Laws.{TreesCanProgram}
 use Rattle.generate.proofs.TreePasses.Closing.{whole_can_program}

@@ -1,15 +1,14 @@
 -- The work of a layout's loops can be done, where its kernels are small.
 use Rattle.std.proofs.Common.{◌≤◌, arith}
 use Rattle.sigma_lower.proofs.TreeLoops.Shaped.{IsShapedWork}
-use Rattle.code_gen.specs.PassActions.Laws.{CanWork}
+use Rattle.sigma_spl.specs.Shared.Running.{CanWork}
 use Rattle.sigma_spl.specs.Work.{PlainWork, kernel, rows, horner, tile, copy}
 use Rattle.sigma_lower.specs.TreeLoops.SharedPasses.Shared.{HasLanes}
 use Rattle.operators.specs.declared.target.Target.{Target}
 use Rattle.tree_model.specs.Trees.{trees_size}
-use Rattle.generate.specs.TreePasses.Laws.{host_of}
 
 -- its code does what it stands for
-pub can-work : (c : Target) (w : PlainWork) → IsShapedWork c.modulus w → HasLanes c w → CanWork (host_of c) w
+pub can-work : (c : Target) (w : PlainWork) → IsShapedWork c.modulus w → HasLanes c w → CanWork c w
 can-work c (kernel trees) h lanes = h.1
 can-work c (rows root size) h lanes = (omega (arith, h.0), h.1)
 can-work c (horner root size) h lanes = absurd h

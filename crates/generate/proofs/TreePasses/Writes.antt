@@ -15,11 +15,11 @@ use Rattle.sigma_lower.proofs.TreeLoops.Closed.{IsClosedPass}
 use Rattle.sigma_lower.proofs.TreeLoops.PlaceValues.{IsFormedPass, value-at_place}
 use Rattle.sigma_lower.proofs.TreeLoops.Shaped.{IsShaped, IsShapedWork}
 use Rattle.operators.specs.declared.target.Target.{Target}
-use Rattle.code_gen.specs.PassCode.Contract.{IsHost}
+use Rattle.sigma_spl.specs.Shared.Owners.{IsHost}
 use Rattle.code_gen.proofs.PassActions.KernelActions.{trees-registers}
 use Rattle.code_gen.specs.PassActions.Acts.{nest_registers, with_multiplier}
-use Rattle.code_gen.specs.PassActions.Laws.{CanRun, CanRunNest}
-use Rattle.code_gen.specs.PassActions.Machine.{PlainMachine, frame_of, first_loop, loop_counts}
+use Rattle.sigma_spl.specs.Shared.Running.{CanRun, CanRunNest}
+use Rattle.sigma_spl.specs.Shared.Machine.{frame_of, first_loop, loop_counts}
 use Rattle.code_gen.specs.PassCode.Conditions.{AreWithin, CanWriteNest, CanWritePass, LoadsAlike, loads_inside, stores_inside}
 use Rattle.code_gen.proofs.PassCode.TestedLists.{loads-le, stores-le, sums-written}
 use Rattle.sigma_spl.specs.Copies.{loops_of}
@@ -35,7 +35,6 @@ use Rattle.perm_algebra.specs.Affine.{Sum, constant, variable, value, simplified
 use Rattle.tree_model.specs.Trees.{PlainTrees, trees_size}
 use Rattle.sigma_lower.specs.TreeLoops.SharedPasses.Shared.{HasLanes, IsFramed}
 use Rattle.operators.specs.TensorPaths.Path.{Path, AreInRange, count_of, place, size_under}
-use Rattle.generate.specs.TreePasses.Laws.{host_of}
 use Rattle.generate.proofs.TreePasses.Frames.{nest-framed}
 use Rattle.generate.proofs.TreePasses.KernelSizes.{small_kernel}
 use Rattle.generate.proofs.TreePasses.Loops.{IsCount, counts-drop, length-drop, length-tensors, loop-counts, path-weight, under-least, weight-small}
@@ -103,9 +102,9 @@ at-second [] (v ∷ vs) k l h = absurd h
 at-second (t ∷ path) [] k l h = absurd h
 at-second (t ∷ path) (v ∷ vs) k l h = at-second path vs k l h.1
 
-module _ (c : Target) (p : PlainPass) (host : IsHost (host_of c)) (known : IsKnown c p) where
-  abbrev h : PlainMachine
-  h = host_of c
+module _ (c : Target) (p : PlainPass) (host : IsHost c) (known : IsKnown c p) where
+  abbrev h : Target
+  h = c
 
   abbrev w : PlainWork
   w = p.work

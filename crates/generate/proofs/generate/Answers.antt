@@ -4,18 +4,18 @@ use Rattle.icode.specs.Program.{plain_program}
 use Rattle.matrix_meaning.specs.declared.Request.{Request}
 use Rattle.code_gen.specs.PassCode.Contract.{Performs}
 use Rattle.tree_model.specs.Breakdown.{breakdown_of}
-use Rattle.code_gen.specs.Machines.{machine_of}
+use Rattle.sigma_spl.specs.Shared.Targets.{target_of}
 use Rattle.generate.specs.Letters.{program_for}
 use Rattle.generate.proofs.Goodness.{good, lean}
 use Rattle.generate.proofs.generate.Goals as goal
 
 -- the program performs the merged passes of the request
 performs : (c : goal.In_ok-program) →
-    Performs (machine_of c.args.request.now) (tree_merged c.args.request.now (breakdown_of c.in_ok-plan.plan.tree))
+    Performs (target_of c.args.request.now) (tree_merged c.args.request.now (breakdown_of c.in_ok-plan.plan.tree))
     (plain_program c.in_ok-program.program)
 performs c =
     let t = breakdown_of c.in_ok-plan.plan.tree in
-    subst (λ (r : Request). Performs (machine_of r) (tree_merged r t) (plain_program c.in_ok-program.program))
+    subst (λ (r : Request). Performs (target_of r) (tree_merged r t) (plain_program c.in_ok-program.program))
     c.new-context.ensures c.in_ok-program.ensures.performs
 
 pub returns-clause-good : goal.returns-clause-good

@@ -3,7 +3,7 @@ use Rattle.std.specs.Prelude.{ℕ}
 use Rattle.spl_ast.specs.BalancedSums.Halves.{balanced}
 use Rattle.generate.specs.FormulaPasses.Computes.{formula_merged}
 use Rattle.icode.specs.Plain.{PlainProgram}
-use Rattle.code_gen.specs.PassActions.Machine.{plain_machine}
+use Rattle.sigma_spl.specs.Shared.Machine.{plain_machine}
 use Rattle.code_gen.specs.PassCode.Program.{program_of}
 use Rattle.spl_ast.specs.Formula.{Formula, size_of}
 

@@ -7,7 +7,7 @@ use Rattle.icode.specs.Limits.{IsWithinLimits}
 use Rattle.icode.specs.Machine.{results, weighted, whole_counts}
 use Rattle.icode.specs.Plain.{PlainProgram}
 use Rattle.loop_merge.specs.JoinedCopies.Joined.{all_joined}
-use Rattle.code_gen.specs.PassActions.Machine.{plain_machine}
+use Rattle.sigma_spl.specs.Shared.Machine.{plain_machine}
 use Rattle.code_gen.specs.PassCode.Contract.{Performs}
 use Rattle.sigma_spl.specs.Good.{IsVector}
 use Rattle.sigma_spl.specs.Merge.{passes_of}

@@ -3,14 +3,13 @@ use Rattle.std.specs.Prelude.{◌≡◌, ℕ, ◌*◌, List, length, map, Option
 use Rattle.sigma_lower.specs.Merged.{CanLower, layout_merged, whole_sigma}
 use Rattle.loop_merge.specs.MultipliedPasses.Laws.{more_last}
 use Rattle.loop_merge.specs.MultipliedPasses.Multiplied.{First, multiplied}
-use Rattle.code_gen.specs.PassActions.Costs.{pass_cost, pass_loads}
-use Rattle.code_gen.specs.PassActions.Machine.{PlainMachine}
-use Rattle.code_gen.specs.PassCode.Contract.{all_passes}
+use Rattle.sigma_spl.specs.Shared.Costs.{pass_cost, pass_loads}
+use Rattle.operators.specs.declared.target.Target.{Target}
+use Rattle.sigma_spl.specs.Shared.Owners.{all_passes}
 use Rattle.sigma_spl.specs.Merged.{PlainMerged}
 use Rattle.sigma_spl.specs.Nest.{repeated}
 use Rattle.sigma_spl.specs.Sigma.{merged_of}
 use Rattle.smp_rewrite.specs.LayoutSteps.Whole.{Whole}
-use Rattle.operators.specs.declared.target.Target.{Target}
 
 abbrev pub closed_merged : Option ℕ → PlainMerged → PlainMerged
 closed_merged None g = g
@@ -28,7 +27,7 @@ more_by weight n None cs = cs
 more_by weight n (Some v) cs = more_last (weight * n) cs
 
 -- passes that count as those of g, but for these products in the last of them
-pub record CountsClosed (h : PlainMachine) (factor : Option ℕ) (g closed : PlainMerged) : Type 0 where
+pub record CountsClosed (h : Target) (factor : Option ℕ) (g closed : PlainMerged) : Type 0 where
   pub phases : length closed.phases ≡ length g.phases
   pub costs : (weight : ℕ) →
       map (pass_cost weight h.modulus) (all_passes closed.phases)

@@ -3,8 +3,8 @@ use Rattle.std.specs.Prelude.{◌≡◌, map}
 use Rattle.sigma_lower.specs.Merged.{tree_merged}
 use Rattle.matrix_meaning.specs.declared.Request.{Request}
 use Rattle.matrix_meaning.specs.Valid.{IsValid}
-use Rattle.code_gen.specs.PassActions.Costs.{pass_cost, pass_loads}
-use Rattle.code_gen.specs.PassCode.Contract.{all_passes}
+use Rattle.sigma_spl.specs.Shared.Costs.{pass_cost, pass_loads}
+use Rattle.sigma_spl.specs.Shared.Owners.{all_passes}
 use Rattle.sigma_spl.specs.Merged.{PlainMerged}
 use Rattle.tree_model.specs.Breakdown.{Breakdown}
 use Rattle.tree_model.specs.Chosen.{IsWholeTree}

@@ -3,7 +3,7 @@ use Rattle.std.proofs.Common.{◌≡◌, ℕ, ◌+◌, ◌*◌, ◌≤◌, refl,
 use Rattle.std.specs.Prelude.{map, max}
 use Rattle.std.proofs.lemmas.List.Elements.{All-cons, All-head, All-tail}
 use Rattle.code_gen.specs.PassActions.Acts.{nest_registers, pass_registers}
-use Rattle.code_gen.specs.PassActions.Costs.{pass_loads, work_loads}
+use Rattle.sigma_spl.specs.Shared.Costs.{pass_loads, work_loads}
 use Rattle.code_gen.specs.PassCode.Statements.{tables_after, tables_of_nest}
 use Rattle.sigma_spl.specs.Copies.{all_stored, hits, loops_of, stored}
 use Rattle.sigma_spl.specs.Counts.{CopiesAreFree, copies_in, nest_cost, pass_cost}

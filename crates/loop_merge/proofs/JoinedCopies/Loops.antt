@@ -7,10 +7,10 @@ use Rattle.icode.specs.Limits.{is_expr_within}
 use Rattle.loop_merge.specs.JoinedCopies.Joined.{copying_run}
 use Rattle.operators.specs.Sum.{sum_below}
 use Rattle.operators.proofs.Sums.{sum_below-same}
-use Rattle.code_gen.specs.PassActions.Machine.{plain_machine}
+use Rattle.sigma_spl.specs.Shared.Machine.{plain_machine}
 use Rattle.code_gen.specs.PassCode.Conditions.{AreWithin, CanWrite, CanWriteNest, FitsWord}
 use Rattle.code_gen.specs.PassCode.Expressions.{expr_of}
-use Rattle.code_gen.specs.PassActions.Machine.{PlainFrame, frame_of}
+use Rattle.sigma_spl.specs.Shared.Machine.{PlainFrame, frame_of}
 use Rattle.sigma_spl.specs.Copies.{loops_of, stored}
 use Rattle.sigma_spl.specs.Counts.{copies_in}
 use Rattle.sigma_spl.specs.Merge.{is_limited, limits_of}

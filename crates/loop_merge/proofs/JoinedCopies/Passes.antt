@@ -6,9 +6,9 @@ use Rattle.loop_merge.specs.JoinedCopies.Joined.{with_copies_joined, all_joined}
 use Rattle.loop_merge.specs.JoinedCopies.Laws.{JoinedMean, JoinedCost, JoinedLoad, JoinedArePlain}
 use Rattle.loop_merge.proofs.JoinedCopies.Joining.{all-alike}
 use Rattle.operators.proofs.Lists.{list_below-same}
-use Rattle.code_gen.specs.PassActions.Costs.{work_cost}
-use Rattle.code_gen.specs.PassActions.Machine.{plain_machine}
-use Rattle.code_gen.specs.PassCode.Contract.{most_actions}
+use Rattle.sigma_spl.specs.Shared.Costs.{work_cost}
+use Rattle.sigma_spl.specs.Shared.Machine.{plain_machine}
+use Rattle.sigma_spl.specs.Shared.Owners.{most_actions}
 use Rattle.code_gen.specs.PassCode.Program.{tables_through}
 use Rattle.code_gen.specs.PassCode.Statements.{tables_after}
 use Rattle.sigma_spl.specs.Nest.{PlainNest, nests_on}

@@ -11,22 +11,23 @@ use Rattle.loop_merge.specs.MultipliedPasses.Multiplied.{Own, multiplied_last}
 use Rattle.loop_merge.proofs.MultipliedPasses.Adding.{CountsPasses, executed, performed-count}
 use Rattle.loop_merge.proofs.MultipliedPasses.Counts.{last-costs, last-loads, most-last, sum-costs, sum-loads}
 use Rattle.loop_merge.proofs.MultipliedPasses.Lasts.{length-last}
-use Rattle.code_gen.specs.PassActions.Costs.{pass_cost, pass_loads}
-use Rattle.code_gen.specs.PassActions.Machine.{PlainMachine}
+use Rattle.sigma_spl.specs.Shared.Costs.{pass_cost, pass_loads}
+use Rattle.operators.specs.declared.target.Target.{Target}
 use Rattle.code_gen.specs.PassCode.Conditions.{CanWritePass}
-use Rattle.code_gen.specs.PassCode.Contract.{CanProgram, Performs, all_passes, most_actions}
+use Rattle.code_gen.specs.PassCode.Contract.{CanProgram, Performs}
+use Rattle.sigma_spl.specs.Shared.Owners.{all_passes, most_actions}
 use Rattle.sigma_spl.specs.Merged.{PlainMerged}
 use Rattle.sigma_spl.specs.Nest.{PlainNest, values}
 
-most-append : (h : PlainMachine) (ps qs : List (List PlainNest)) → most_actions h (ps ++ qs) ≡ most_actions h ps + most_actions h qs
+most-append : (h : Target) (ps qs : List (List PlainNest)) → most_actions h (ps ++ qs) ≡ most_actions h ps + most_actions h qs
 most-append h [] qs = omega arith
 most-append h (zs ∷ ps) qs = let rest = most-append h ps qs in omega (arith, rest)
 
-pub most-joined : (h : PlainMachine) (ds : List ℕ) (ps qs : List (List PlainNest)) → All (CanWritePass h) ps → LastHas IsFree ps →
+pub most-joined : (h : Target) (ds : List ℕ) (ps qs : List (List PlainNest)) → All (CanWritePass h) ps → LastHas IsFree ps →
     most_actions h (multiplied_last Own (values ds) ps ++ qs) ≡ most_actions h ps + h.size + most_actions h qs
 most-joined h ds ps qs can free = most-append h (multiplied_last Own (values ds) ps) qs ∙ ap (λ n. n + most_actions h qs) (most-last h Own (values ds) ps can free)
 
-module _ (h : PlainMachine) (g k : PlainMerged) (ds : List ℕ) (can : CanProgram h g) (free : LastHas IsFree (all_passes g.phases)) where
+module _ (h : Target) (g k : PlainMerged) (ds : List ℕ) (can : CanProgram h g) (free : LastHas IsFree (all_passes g.phases)) where
   abbrev changed : List (List PlainNest)
   changed = multiplied_last Own (values ds) (all_passes g.phases)
 

@@ -6,7 +6,7 @@ use Rattle.loop_merge.specs.JoinedPasses.Laws.{AreInTurn, JoinedMeans}
 use Rattle.loop_merge.specs.MultipliedPasses.Multiplied.{Own, multiplied_last}
 use Rattle.loop_merge.proofs.MultipliedPasses.Means.{last-scaled, one-phase, phase-append}
 use Rattle.operators.specs.Operator.{scale}
-use Rattle.code_gen.specs.PassCode.Contract.{all_passes}
+use Rattle.sigma_spl.specs.Shared.Owners.{all_passes}
 use Rattle.sigma_spl.specs.Merged.{PlainMerged, phase_on, phases_on, merged_on}
 use Rattle.sigma_spl.specs.Nest.{PlainNest, values}
 

@@ -1,7 +1,7 @@
 -- Phases as one, pass by pass.
 use Rattle.std.proofs.Common.{◌≡◌, List, [], ◌∷◌, ◌++◌, map, sym, ap, ap₂, ◌∙◌, append_assoc, append-nil, Vec, Global}
 use Rattle.std.proofs.lemmas.List.{map-append}
-use Rattle.code_gen.specs.PassCode.Contract.{all_passes}
+use Rattle.sigma_spl.specs.Shared.Owners.{all_passes}
 use Rattle.sigma_spl.specs.Nest.{PlainNest}
 use Rattle.sigma_spl.specs.Views.{plain_nest}
 use Rattle.sigma_spl.specs.declared.nest.Nest.{Nest}

@@ -5,9 +5,10 @@ use Rattle.std.proofs.lemmas.Bool.{cases_lt}
 use Rattle.std.proofs.lemmas.List.{get_or_past}
 use Rattle.std.proofs.lemmas.List.Elements.{All-nil, All-cons, All-append}
 use Rattle.std.proofs.lemmas.List.Sums.{sum_by-append}
-use Rattle.code_gen.specs.PassActions.Machine.{PlainMachine}
+use Rattle.operators.specs.declared.target.Target.{Target}
 use Rattle.code_gen.specs.PassCode.Conditions.{CanWritePass}
-use Rattle.code_gen.specs.PassCode.Contract.{AllOwn, CanProgram, IsFirstShared, all_passes, most_actions}
+use Rattle.sigma_spl.specs.Shared.Owners.{AllOwn, IsFirstShared, all_passes, most_actions}
+use Rattle.code_gen.specs.PassCode.Contract.{CanProgram}
 use Rattle.sigma_spl.specs.Merged.{PlainMerged}
 use Rattle.sigma_spl.specs.Nest.{PlainNest, values}
 use Rattle.loop_merge.specs.JoinedPasses.Joined.{joined, with_values}
@@ -35,7 +36,7 @@ any-suits (zs ∷ ys ∷ ps) free = any-suits (ys ∷ ps) free
 
 -- ---- all words are of the one processor
 
-module _ (h : PlainMachine) (procs : h.procs ≡ 1) where
+module _ (h : Target) (procs : h.procs ≡ 1) where
   own-all : (ps : List (List PlainNest)) → AllOwn h (λ _. 0) ps
   own-all [] = tt
   own-all (zs ∷ ps) = (λ q w low is. omega (arith, low, procs), λ q w low is. omega (arith, low, procs), own-all ps)
@@ -44,7 +45,7 @@ module _ (h : PlainMachine) (procs : h.procs ≡ 1) where
   shared-first [] = record { owner = λ _. 0; is_owner = record { lines = λ a b low high same. refl; procs = λ a low. omega (arith, procs) }; owns = tt }
   shared-first (zs ∷ ps) = record { owner = λ _. 0; is_owner = record { lines = λ a b low high same. refl; procs = λ a low. omega (arith, procs) }; owns = (λ q w low is. omega (arith, low, procs), own-all ps) }
 
-module _ (h : PlainMachine) (g k : PlainMerged) (ds : List ℕ) (can : CanJoin h g ds k) where
+module _ (h : Target) (g k : PlainMerged) (ds : List ℕ) (can : CanJoin h g ds k) where
   abbrev first : List (List PlainNest)
   first = all_passes g.phases
 

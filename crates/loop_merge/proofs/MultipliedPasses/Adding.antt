@@ -11,20 +11,21 @@ use Rattle.icode.specs.Plain.{PlainProgram}
 use Rattle.icode.specs.declared.action.Action.{Action}
 use Rattle.icode.specs.declared.program.Array.{Array}
 use Rattle.icode.specs.declared.program.Array.TheVariants.{X}
-use Rattle.code_gen.specs.PassActions.Costs.{pass_cost, pass_loads}
-use Rattle.code_gen.specs.PassActions.Machine.{PlainMachine}
-use Rattle.code_gen.specs.PassCode.Contract.{AreParts, Performs, all_passes, joined}
-use Rattle.code_gen.specs.PassCode.Program.{target_of}
+use Rattle.sigma_spl.specs.Shared.Costs.{pass_cost, pass_loads}
+use Rattle.operators.specs.declared.target.Target.{Target}
+use Rattle.code_gen.specs.PassCode.Contract.{AreParts, Performs, joined}
+use Rattle.sigma_spl.specs.Shared.Owners.{all_passes}
+use Rattle.code_gen.specs.PassCode.Program.{written_array}
 use Rattle.sigma_spl.specs.Merged.{PlainMerged}
 use Rattle.sigma_spl.specs.Nest.{PlainNest}
 
 -- so many processors that do as much count what their passes do
-pub record CountsPasses (h : PlainMachine) (ps : List (List PlainNest)) (actions : List Action) : Type 0 where
+pub record CountsPasses (h : Target) (ps : List (List PlainNest)) (actions : List Action) : Type 0 where
   pub operations : (weight : ℕ) → 0 < weight → h.procs * weighted weight (counts_of h.lanes actions) ≡ sum_by (pass_cost weight h.modulus) ps
   pub loads : h.procs * (counts_of h.lanes actions).loads ≡ sum_by pass_loads ps
   pub stores : h.procs * (counts_of h.lanes actions).stores ≡ h.size * length ps
 
-module _ (h : PlainMachine) where
+module _ (h : Target) where
   shares : (p a b x y : ℕ) → p * a ≡ x → p * b ≡ y → p * (a + b) ≡ x + y
   shares p a b x y first rest = (let out : p * (a + b) ≡ p * a + p * b = omega arith in out) ∙ ap₂ (λ n k. n + k) first rest
 
@@ -33,7 +34,7 @@ module _ (h : PlainMachine) where
   parts-count t source [] (part ∷ parts) are = absurd are
   parts-count t source (zs ∷ ps) [] are = absurd are
   parts-count t source (zs ∷ ps) (part ∷ parts) are =
-      let rest = parts-count (suc t) (target_of t (length ps)) ps parts are.1 in
+      let rest = parts-count (suc t) (written_array t (length ps)) ps parts are.1 in
       let both = add-up h.lanes part (joined parts) in
       record {
         operations = λ weight some.
@@ -47,7 +48,7 @@ abbrev pub executed : PlainProgram → ℕ → List Action
 executed p q = flat_map (λ phase. acts (plain_code p) phase q) (range_with_len 0 (length (plain_code p).lists))
 
 -- so does each processor of a program that performs them
-pub performed-count : (h : PlainMachine) (g : PlainMerged) (p : PlainProgram) (q : ℕ) → q < h.procs → Performs h g p → CountsPasses h (all_passes g.phases) (executed p q)
+pub performed-count : (h : Target) (g : PlainMerged) (p : PlainProgram) (q : ℕ) → q < h.procs → Performs h g p → CountsPasses h (all_passes g.phases) (executed p q)
 performed-count h g p q low performs =
     let long : length (plain_code p).lists ≡ length g.phases = length-map p.phases _ ∙ performs.phases in
     let listed = performs.parts q low in

@@ -5,8 +5,9 @@ use Rattle.loop_merge.specs.MultipliedPasses.Laws.{CanFollow, HasFactors, LastHa
 use Rattle.loop_merge.specs.MultipliedPasses.Multiplied.{First, Own, Pick, factor_places, multiplied_last, with_factors}
 use Rattle.loop_merge.proofs.MultipliedPasses.Places.{first-is, first-names, first-within, one-step}
 use Rattle.code_gen.specs.PassActions.Acts.{pass_registers}
-use Rattle.code_gen.specs.PassActions.Laws.{CanRunNest, MovesVectors}
-use Rattle.code_gen.specs.PassActions.Machine.{PlainMachine, frame_of, item_of, lane_step, loop_counts, values_of}
+use Rattle.sigma_spl.specs.Shared.Running.{CanRunNest, MovesVectors}
+use Rattle.operators.specs.declared.target.Target.{Target}
+use Rattle.sigma_spl.specs.Shared.Machine.{frame_of, item_of, lane_step, loop_counts, values_of}
 use Rattle.code_gen.specs.PassCode.Conditions.{AreWithin, CanWriteNest, CanWritePass, LoadsAlike, stores_inside}
 use Rattle.sigma_spl.specs.Copies.{hits, loops_of}
 use Rattle.sigma_spl.specs.Good.{NamesItems}
@@ -41,7 +42,7 @@ alike-with pick ds z (horner root size) h = h
 alike-with pick ds z (tile lanes) h = h
 alike-with pick ds z (copy size) h = h
 
-module _ (h : PlainMachine) (words : 0 < h.size) where
+module _ (h : Target) (words : 0 < h.size) where
   -- ---- the places of the factors
 
   any-factors : (pick : Pick) (ds : PlainFactors) → HasFactors pick h ds → 0 < factor_count ds

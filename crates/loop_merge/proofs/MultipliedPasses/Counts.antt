@@ -9,11 +9,12 @@ use Rattle.loop_merge.specs.MultipliedPasses.Laws.{CountsMore, CountsMultiplied,
 use Rattle.loop_merge.specs.MultipliedPasses.Multiplied.{Pick, multiplied, multiplied_last, with_factors}
 use Rattle.loop_merge.proofs.MultipliedPasses.Adding.{CountsPasses, executed, performed-count}
 use Rattle.loop_merge.proofs.MultipliedPasses.Lasts.{length-last, phases-last}
-use Rattle.code_gen.specs.PassActions.Costs.{pass_cost, pass_loads, work_cost, work_loads}
-use Rattle.code_gen.specs.PassActions.Laws.{CanRun, CanRunNest}
-use Rattle.code_gen.specs.PassActions.Machine.{PlainMachine}
+use Rattle.sigma_spl.specs.Shared.Costs.{pass_cost, pass_loads, work_cost, work_loads}
+use Rattle.sigma_spl.specs.Shared.Running.{CanRun, CanRunNest}
+use Rattle.operators.specs.declared.target.Target.{Target}
 use Rattle.code_gen.specs.PassCode.Conditions.{CanWritePass}
-use Rattle.code_gen.specs.PassCode.Contract.{CanProgram, Performs, all_passes, most_actions}
+use Rattle.code_gen.specs.PassCode.Contract.{CanProgram, Performs}
+use Rattle.sigma_spl.specs.Shared.Owners.{all_passes, most_actions}
 use Rattle.sigma_spl.specs.Copies.{AreInside}
 use Rattle.sigma_spl.specs.Counts.{copies_in, multiplier_cost}
 use Rattle.sigma_spl.specs.Merged.{PlainMerged}
@@ -21,7 +22,7 @@ use Rattle.sigma_spl.specs.Nest.{PlainFactors, PlainMultiplier, PlainNest, copie
 use Rattle.sigma_spl.specs.Work.{work_size}
 use Rattle.sigma_spl.proofs.Counting.{items_of, items-once}
 
-module _ (h : PlainMachine) (pick : Pick) (ds : PlainFactors) where
+module _ (h : Target) (pick : Pick) (ds : PlainFactors) where
   -- ---- one pass
 
   inside-all : (zs : List PlainNest) → All (CanRunNest h) zs → AreInside h.size (map (copies_of h.modulus) zs)
@@ -98,7 +99,7 @@ module _ (h : PlainMachine) (pick : Pick) (ds : PlainFactors) where
 
 -- ---- phases and programs
 
-module _ (h : PlainMachine) (pick : Pick) (ds : PlainFactors) (g : PlainMerged) (can : CanProgram h g) (free : LastHas IsFree (all_passes g.phases)) where
+module _ (h : Target) (pick : Pick) (ds : PlainFactors) (g : PlainMerged) (can : CanProgram h g) (free : LastHas IsFree (all_passes g.phases)) where
   whole : all_passes (multiplied pick ds g).phases ≡ multiplied_last pick ds (all_passes g.phases)
   whole = phases-last (map (with_factors pick ds)) g.phases can.each_some
 

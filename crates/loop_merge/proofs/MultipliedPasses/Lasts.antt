@@ -3,7 +3,7 @@ use Rattle.std.proofs.Common.{◌≡◌, suc, ◌<◌, List, [], ◌∷◌, ◌+
 use Rattle.std.proofs.lemmas.List.{map-append}
 use Rattle.std.proofs.lemmas.List.Elements.{All-tail, All-head}
 use Rattle.loop_merge.specs.MultipliedPasses.Multiplied.{on_last}
-use Rattle.code_gen.specs.PassCode.Contract.{all_passes}
+use Rattle.sigma_spl.specs.Shared.Owners.{all_passes}
 use Rattle.sigma_spl.specs.Nest.{PlainNest}
 
 pub length-last : {A : Type 0} (f : A → A) (xs : List A) → length (on_last f xs) ≡ length xs

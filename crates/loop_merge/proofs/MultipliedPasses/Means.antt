@@ -7,7 +7,7 @@ use Rattle.loop_merge.specs.MultipliedPasses.Multiplied.{First, Own, Pick, facto
 use Rattle.loop_merge.proofs.MultipliedPasses.Lasts.{phases-last}
 use Rattle.operators.specs.Operator.{scale}
 use Rattle.operators.specs.Sum.{list_below}
-use Rattle.code_gen.specs.PassCode.Contract.{all_passes}
+use Rattle.sigma_spl.specs.Shared.Owners.{all_passes}
 use Rattle.sigma_spl.specs.Copies.{pass_on, multiplied_by}
 use Rattle.sigma_spl.specs.Merged.{phase_on, phases_on}
 use Rattle.sigma_spl.specs.Nest.{PlainFactors, PlainMultiplier, PlainNest, copies_of, factor_at, load_place, multiplied_on, nests_on, store_place}

@@ -3,9 +3,9 @@ use Rattle.std.proofs.Common.{◌≡◌, ℕ, ◌<◌, List, [], ◌∷◌, map,
 use Rattle.std.specs.Prelude.{Contains}
 use Rattle.std.proofs.lemmas.List.Elements.{All-contains, All-contains_itself, All-map, All-weaker}
 use Rattle.loop_merge.specs.MultipliedPasses.Multiplied.{Pick, multiplied_last, on_last, with_factors}
-use Rattle.code_gen.specs.PassActions.Laws.{IsCopyOf, IsLoadedBy, IsStoredBy}
-use Rattle.code_gen.specs.PassActions.Machine.{PlainMachine}
-use Rattle.code_gen.specs.PassCode.Contract.{AllOwn, AllShared, ArePhasesShared, FirstOwns}
+use Rattle.sigma_spl.specs.Shared.Running.{IsCopyOf, IsLoadedBy, IsStoredBy}
+use Rattle.operators.specs.declared.target.Target.{Target}
+use Rattle.sigma_spl.specs.Shared.Owners.{AllOwn, AllShared, ArePhasesShared, FirstOwns}
 use Rattle.sigma_spl.specs.Nest.{PlainFactors, PlainNest, load_place, store_place}
 use Rattle.sigma_spl.specs.Work.{work_size}
 
@@ -16,7 +16,7 @@ IsMadeOf {X} f xs y = (x : X) × Contains xs x × (f x ≡ y)
 made-of : {X Y : Type 0} (f : X → Y) (xs : List X) (y : Y) → Contains (map f xs) y → IsMadeOf f xs y
 made-of f xs y there = All-contains (IsMadeOf f xs) (map f xs) y (All-map (IsMadeOf f xs) f xs (All-weaker (Contains xs) (λ x. IsMadeOf f xs (f x)) (λ x one. (x, one, refl)) xs (All-contains_itself xs))) there
 
-module _ (h : PlainMachine) (pick : Pick) (ds : PlainFactors) where
+module _ (h : Target) (pick : Pick) (ds : PlainFactors) where
   abbrev passed : List PlainNest → List PlainNest
   passed zs = map (with_factors pick ds) zs
 

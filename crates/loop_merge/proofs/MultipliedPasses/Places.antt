@@ -6,7 +6,7 @@ use Rattle.std.proofs.lemmas.List.Elements.{All-map}
 use Rattle.icode.specs.Limits.{is_expr_within}
 use Rattle.icode.specs.Plain.{PlainExpr, PlainParts, Sum, NoParts}
 use Rattle.loop_merge.specs.MultipliedPasses.Multiplied.{First, factor_places}
-use Rattle.code_gen.specs.PassActions.Machine.{PlainFrame, lane_step}
+use Rattle.sigma_spl.specs.Shared.Machine.{PlainFrame, lane_step}
 use Rattle.code_gen.specs.PassCode.Conditions.{AreWithin, CanWrite, FitsWord}
 use Rattle.code_gen.specs.PassCode.Expressions.{expr_of, variables_of}
 use Rattle.sigma_spl.specs.Good.{AreSound, NamesItems, named}

@@ -8,9 +8,10 @@ use Rattle.loop_merge.proofs.MultipliedPasses.Counts.{most-last}
 use Rattle.loop_merge.proofs.MultipliedPasses.Lasts.{length-last, phases-last}
 use Rattle.loop_merge.proofs.MultipliedPasses.Owners.{phases-shared}
 use Rattle.loop_merge.proofs.MultipliedPasses.Tables.{nests-last, passes-grown, phases-grown}
-use Rattle.code_gen.specs.PassActions.Machine.{PlainMachine}
+use Rattle.operators.specs.declared.target.Target.{Target}
 use Rattle.code_gen.specs.PassCode.Conditions.{CanWritePass}
-use Rattle.code_gen.specs.PassCode.Contract.{CanProgram, all_passes, most_actions}
+use Rattle.code_gen.specs.PassCode.Contract.{CanProgram}
+use Rattle.sigma_spl.specs.Shared.Owners.{all_passes, most_actions}
 use Rattle.code_gen.specs.PassCode.Program.{tables_through}
 use Rattle.sigma_spl.specs.Merged.{PlainMerged}
 use Rattle.sigma_spl.specs.Nest.{PlainFactors, PlainNest}
@@ -25,7 +26,7 @@ each-some f (ps ∷ qs ∷ phases) each =
     All-cons (λ (ps : List (List PlainNest)). 0 < length ps) ps (on_last (on_last f) (qs ∷ phases)) (All-head (λ (ps : List (List PlainNest)). 0 < length ps) ps (qs ∷ phases) each)
     (each-some f (qs ∷ phases) (All-tail (λ (ps : List (List PlainNest)). 0 < length ps) ps (qs ∷ phases) each))
 
-module _ (h : PlainMachine) (pick : Pick) (ds : PlainFactors) (g : PlainMerged) (can : CanMultiply h pick ds g) where
+module _ (h : Target) (pick : Pick) (ds : PlainFactors) (g : PlainMerged) (can : CanMultiply h pick ds g) where
   abbrev passes : List (List PlainNest)
   passes = all_passes g.phases
 

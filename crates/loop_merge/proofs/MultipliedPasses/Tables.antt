@@ -4,7 +4,7 @@ use Rattle.std.specs.Prelude.{sum_by}
 use Rattle.std.proofs.lemmas.List.{length-map}
 use Rattle.std.proofs.lemmas.List.Sums.{sum_by-cons}
 use Rattle.loop_merge.specs.MultipliedPasses.Multiplied.{Pick, multiplied_last, with_factors}
-use Rattle.code_gen.specs.PassCode.Contract.{all_passes}
+use Rattle.sigma_spl.specs.Shared.Owners.{all_passes}
 use Rattle.code_gen.specs.PassCode.Program.{tables_of_phases, tables_through}
 use Rattle.code_gen.specs.PassCode.Statements.{diagonal_of, one_factor, powers_of, tables_after, tables_of_multiplier, tables_of_nest, tables_of_work, with_diagonal}
 use Rattle.code_gen.proofs.PassCode.SharedTables.{with_table-length}

@@ -1,7 +1,7 @@
 -- Passes whose copies are joined do the same, at the same counts, and a program can be made of them.
 use Rattle.std.specs.Prelude.{◌≡◌, ℕ, List, map}
 use Rattle.loop_merge.specs.JoinedCopies.Joined.{all_joined}
-use Rattle.code_gen.specs.PassActions.Costs.{pass_loads}
+use Rattle.sigma_spl.specs.Shared.Costs.{pass_loads}
 use Rattle.sigma_spl.specs.Counts.{passes_cost, CopiesAreFree}
 use Rattle.sigma_spl.specs.Nest.{PlainNest, passes_on}
 use Rattle.sigma_spl.specs.Work.{PlainWork}

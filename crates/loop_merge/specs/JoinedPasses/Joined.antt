@@ -1,7 +1,7 @@
 -- Passes, a diagonal of listed values after the last of them, and then other passes.
 use Rattle.std.specs.Prelude.{ℕ, List, [], ◌∷◌, ◌++◌}
 use Rattle.loop_merge.specs.MultipliedPasses.Multiplied.{Own, multiplied_last, with_factors}
-use Rattle.code_gen.specs.PassCode.Contract.{all_passes}
+use Rattle.sigma_spl.specs.Shared.Owners.{all_passes}
 use Rattle.sigma_spl.specs.Merged.{PlainMerged}
 use Rattle.sigma_spl.specs.Nest.{PlainNest, values}
 

@@ -24,7 +24,7 @@ use Rattle.operators.specs.TensorPaths.Path.{Path, count_of, copies_of}
 use Rattle.tree_model.specs.declared.tree.Rule.{Rule}
 use Rattle.tree_model.specs.declared.tree.Rule.TheVariants.{Gt, Ct, Split, Dim}
 use Rattle.smp_rewrite.specs.Fits.{HasParts, RuleHasParts, CanShareLayout}
-use Rattle.smp_rewrite.specs.LayoutSteps.Targets.{is_alone}
+use Rattle.sigma_spl.specs.Shared.Targets.{is_alone}
 
 -- ---- n times as many copies
 

@@ -11,7 +11,8 @@ use Rattle.matrix_meaning.specs.declared.Kind.{Kind}
 use Rattle.matrix_meaning.specs.declared.Kind.TheVariants.{Dft, Wht, Idft}
 use Rattle.matrix_meaning.specs.declared.Request.{Request}
 use Rattle.sigma_spl.specs.Work.{PlainWork, kernel}
-use Rattle.smp_rewrite.specs.LayoutSteps.Layout.{Layout, work, by, layout_cost, layout_size, layout_of, long_work, node_work, work_cost}
+use Rattle.smp_rewrite.specs.LayoutSteps.Layout.{Layout, work, by, layout_cost, layout_size, layout_of, long_work, node_work}
+use Rattle.sigma_spl.specs.Shared.Costs.{work_cost}
 use Rattle.smp_rewrite.specs.LayoutSteps.Meaning.{FitsWhole, IsNodeTree}
 use Rattle.smp_rewrite.proofs.LayoutSteps.Layouts.{layouts_cost, layouts_have_size}
 use Rattle.smp_rewrite.proofs.LayoutSteps.NodeTrees.{left_fits, left_tree, right_fits, right_tree}

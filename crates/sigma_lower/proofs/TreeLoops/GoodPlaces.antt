@@ -12,7 +12,7 @@ use Rattle.sigma_lower.proofs.TreeLoops.Wholes.{plain_passes}
 use Rattle.sigma_spl.specs.Work.{PlainWork}
 use Rattle.smp_rewrite.specs.Fits.{CanShareLayout}
 use Rattle.smp_rewrite.specs.LayoutSteps.Layout.{Layout, IsGoodLayout}
-use Rattle.smp_rewrite.specs.LayoutSteps.Targets.{is_alone}
+use Rattle.sigma_spl.specs.Shared.Targets.{is_alone}
 use Rattle.operators.specs.declared.target.Target.{Target}
 
 -- P holds of each pass's work

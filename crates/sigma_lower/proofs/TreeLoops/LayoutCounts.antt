@@ -12,7 +12,8 @@ use Rattle.matrix_meaning.specs.declared.Kind.TheVariants.{Dft, Wht, Idft}
 use Rattle.matrix_meaning.specs.declared.Request.{Request}
 use Rattle.matrix_meaning.proofs.Parts.{first_is_one}
 use Rattle.sigma_spl.specs.Work.{PlainWork}
-use Rattle.smp_rewrite.specs.LayoutSteps.Layout.{Layout, work, by, layout_size, layout_of, layout_cost, node_work, work_cost}
+use Rattle.smp_rewrite.specs.LayoutSteps.Layout.{Layout, work, by, layout_size, layout_of, layout_cost, node_work}
+use Rattle.sigma_spl.specs.Shared.Costs.{work_cost}
 use Rattle.smp_rewrite.specs.LayoutSteps.Meaning.{FitsWhole, IsNodeTree}
 use Rattle.smp_rewrite.proofs.LayoutSteps.Layouts.{layouts_cost, layouts_have_size}
 use Rattle.smp_rewrite.proofs.LayoutSteps.NodeTrees.{HasFields, left_fields, left_fits, left_tree, rest_is_part, right_fields, right_tree}

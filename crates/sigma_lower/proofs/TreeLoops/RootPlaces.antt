@@ -34,7 +34,7 @@ use Rattle.operators.specs.TensorPaths.Path.{Path, size_under, copies_of}
 use Rattle.operators.proofs.TensorPaths.Under.{size_under-copies}
 use Rattle.tree_model.specs.declared.tree.Rule.TheVariants.{Gt, Ct, Split, Dim}
 use Rattle.smp_rewrite.specs.Fits.{CanShareLayout}
-use Rattle.smp_rewrite.specs.LayoutSteps.Targets.{is_alone}
+use Rattle.sigma_spl.specs.Shared.Targets.{is_alone}
 
 -- ---- lists of passes
 

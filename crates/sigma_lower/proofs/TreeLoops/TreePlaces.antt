@@ -9,7 +9,7 @@ use Rattle.sigma_lower.proofs.TreeLoops.Shaped.{HasWorks, IsShapedWork, shaped_w
 use Rattle.sigma_spl.specs.Work.{PlainWork, tile}
 use Rattle.smp_rewrite.specs.Fits.{CanShareLayout}
 use Rattle.smp_rewrite.specs.LayoutSteps.Layout.{Layout, IsGoodLayout}
-use Rattle.smp_rewrite.specs.LayoutSteps.Targets.{is_alone}
+use Rattle.sigma_spl.specs.Shared.Targets.{is_alone}
 use Rattle.operators.specs.declared.target.Target.{Target}
 
 good_either : (c : Target) (P : PlainWork → Type 0) (l : Layout) → CanShareLayout c l → IsGoodLayout c.modulus l → HasWorks P l → P (tile c.lanes) → (b : Bool) → is_alone c ≡ b →

@@ -7,7 +7,7 @@ use Rattle.sigma_lower.specs.TreeLoops.Merge.{passes_of_terms, in_order, merged_
 use Rattle.sigma_lower.proofs.TreeLoops.TreePasses.{layout_passes, passes_of_terms-tree}
 use Rattle.sigma_lower.proofs.TreeTerms.Both.{plain_terms}
 use Rattle.smp_rewrite.specs.LayoutSteps.Layout.{Layout}
-use Rattle.smp_rewrite.specs.LayoutSteps.Targets.{is_alone}
+use Rattle.sigma_spl.specs.Shared.Targets.{is_alone}
 
 pub plain_phases : (c : Target) (l : Layout) → is_alone c ≡ true → merged_phases c l ≡ layout_passes [] [] l ∷ []
 plain_phases c l plain = ap (map passes_of_terms) (plain_terms c l plain) ∙ ap (λ ps. ps ∷ []) (passes_of_terms-tree l)

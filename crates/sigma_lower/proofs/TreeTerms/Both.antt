@@ -16,7 +16,7 @@ use Rattle.smp_rewrite.specs.LayoutSteps.Step.{PlainStep, steps_of}
 use Rattle.smp_rewrite.proofs.LayoutSteps.StepMeanings.{all_on-append}
 use Rattle.smp_rewrite.specs.Fits.{CanShareLayout}
 use Rattle.smp_rewrite.specs.LayoutSteps.Layout.{Layout, layout_on}
-use Rattle.smp_rewrite.specs.LayoutSteps.Targets.{is_alone}
+use Rattle.sigma_spl.specs.Shared.Targets.{is_alone}
 use Rattle.smp_rewrite.specs.LayoutSteps.Whole.{only, IsGoodWhole}
 use Rattle.operators.specs.declared.target.Target.{Target}
 use Rattle.vec_rewrite.specs.Turning.{kept, vec_of}

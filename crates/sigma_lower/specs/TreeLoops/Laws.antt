@@ -6,7 +6,8 @@ use Rattle.matrix_meaning.specs.Valid.{IsValid}
 use Rattle.matrix_meaning.specs.declared.Request.{Request}
 use Rattle.sigma_spl.specs.Work.{PlainWork, kernel, rows, horner, tile, copy}
 use Rattle.smp_rewrite.specs.Fits.{CanShareLayout}
-use Rattle.smp_rewrite.specs.LayoutSteps.Layout.{Layout, work, by, layout_size, layout_of, work_cost, IsGoodLayout}
+use Rattle.smp_rewrite.specs.LayoutSteps.Layout.{Layout, work, by, layout_size, layout_of, IsGoodLayout}
+use Rattle.sigma_spl.specs.Shared.Costs.{work_cost}
 use Rattle.operators.specs.declared.target.Target.{Target}
 use Rattle.operators.specs.TensorPaths.Path.{copies_of}
 use Rattle.tree_model.specs.Admissible.{RootFits}

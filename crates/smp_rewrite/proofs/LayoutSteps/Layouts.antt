@@ -21,7 +21,8 @@ use Rattle.operators.specs.Sizes.{max_size}
 use Rattle.sigma_spl.specs.Work.{PlainWork, kernel, work_size, work_on}
 use Rattle.ring_mod.specs.Residue.{power_mod}
 use Rattle.ring_mod.proofs.Powers.{power_mod_of_power}
-use Rattle.smp_rewrite.specs.LayoutSteps.Layout.{Layout, work, by, layout_size, layout_on, layout_cost, layout_of, node_work, long_work, rule_on, work_cost, IsGoodWork, CanPart, IsGoodRule, IsGoodLayout}
+use Rattle.smp_rewrite.specs.LayoutSteps.Layout.{Layout, work, by, layout_size, layout_on, layout_cost, layout_of, node_work, long_work, rule_on, IsGoodWork, CanPart, IsGoodRule, IsGoodLayout}
+use Rattle.sigma_spl.specs.Shared.Costs.{work_cost}
 use Rattle.smp_rewrite.specs.LayoutSteps.Layout as layouts
 use Rattle.smp_rewrite.specs.LayoutSteps.Meaning.{IsNodeTree, FitsWhole, LayoutsHaveSize, LayoutsDo, LayoutsCost, LayoutsAreGood}
 use Rattle.smp_rewrite.proofs.LayoutSteps.NodeTrees.{left_tree, right_tree, left_fits, right_fits, left_fields, right_fields, left_less, times_size, size-le}

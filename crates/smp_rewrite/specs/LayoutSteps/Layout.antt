@@ -1,7 +1,7 @@
 -- A tree as the stages see it: kernels and longer leaves as works, and above them rules with their roots.
 use Rattle.std.specs.Prelude.{◌≡◌, ℕ, ◌+◌, ◌*◌, ◌%◌, ◌≤◌, if◌then◌else◌}
 use Rattle.std.specs.Int.{IsGcd}
-use Rattle.tree_model.specs.KernelCosts.{CanMake, trees_cost}
+use Rattle.tree_model.specs.KernelCosts.{CanMake}
 use Rattle.matrix_meaning.specs.Laws.{twiddle}
 use Rattle.matrix_meaning.specs.declared.Kind.{Kind}
 use Rattle.matrix_meaning.specs.declared.Kind.TheVariants.{Dft, Wht, Idft}
@@ -17,6 +17,7 @@ use Rattle.tree_model.specs.Cost.{is_kernel, node_root}
 use Rattle.tree_model.specs.declared.tree.Rule.{Rule}
 use Rattle.tree_model.specs.declared.tree.Rule.TheVariants.{Gt, Ct, Split, Dim}
 use Rattle.tree_model.specs.Whole.{left_of, right_of, rooted_of}
+use Rattle.sigma_spl.specs.Shared.Costs.{work_cost}
 
 pub data Layout : Type 0 where
   work : (w : PlainWork) → Layout
@@ -37,14 +38,6 @@ rule_on Dim m r s w a b x = on_columns r s a (on_blocks r s b x)
 abbrev pub layout_on : ℕ → Layout → Operator
 layout_on m (work w) x = work_on m w x
 layout_on m (by rule root a b) x = rule_on rule m (layout_size a) (layout_size b) root (layout_on m a) (layout_on m b) x
-
--- the operations of a work, where a product counts as `weight`
-abbrev pub work_cost : ℕ → ℕ → PlainWork → ℕ
-work_cost weight m (kernel trees) = trees_cost weight m trees
-work_cost weight m (rows root size) = (1 + weight) * size * size
-work_cost weight m (horner root size) = (1 + weight) * size * size
-work_cost weight m (tile lanes) = 0
-work_cost weight m (copy size) = 0
 
 -- what a rule has on n words beside its parts: a ct multiplies each of them
 abbrev pub rule_cost : ℕ → Rule → ℕ → ℕ

@@ -1,7 +1,8 @@
 -- The steps of a layout, in the order in which they are applied: each is a matrix under the tensors of a path.
 use Rattle.std.specs.Prelude.{ℕ, ◌+◌, ◌*◌, List, [], ◌∷◌, ◌++◌}
 use Rattle.sigma_spl.specs.Work.{PlainWork}
-use Rattle.smp_rewrite.specs.LayoutSteps.Layout.{Layout, work, by, layout_size, work_cost}
+use Rattle.smp_rewrite.specs.LayoutSteps.Layout.{Layout, work, by, layout_size}
+use Rattle.sigma_spl.specs.Shared.Costs.{work_cost}
 use Rattle.operators.specs.declared.tensor_paths.Tensor.TheVariants.{Blocks, Columns}
 use Rattle.operators.specs.TensorPaths.Path.{Path, copies_of}
 use Rattle.tree_model.specs.declared.tree.Rule.{Rule}

@@ -1,6 +1,6 @@
 // The machine that a request names.
 ghost use Rattle.std.specs.Prelude.{◌≡◌};
-ghost use Rattle.smp_rewrite.specs.LayoutSteps.Targets.{target_of};
+ghost use Rattle.sigma_spl.specs.Shared.Targets.{target_of};
 
 use operators::Target;
 use tree_model::Ctx;

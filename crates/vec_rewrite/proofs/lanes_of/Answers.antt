@@ -1,4 +1,4 @@
-use Rattle.smp_rewrite.specs.LayoutSteps.Targets.{target_of}
+use Rattle.sigma_spl.specs.Shared.Targets.{target_of}
 use Rattle.vec_rewrite.proofs.Rows.{first_rows, second_rows}
 use Rattle.vec_rewrite.proofs.lanes_of.Goals as goal
 

@@ -1,7 +1,7 @@
 use Rattle.std.proofs.Common.{◌+◌, List, Vec, Global, map, sym, ap, ◌∙◌}
 use Rattle.std.proofs.lemmas.List.{length-map}
 use Rattle.icode.specs.Plain.{plain_body, plain_tables}
-use Rattle.code_gen.specs.PassCode.Program.{target_of}
+use Rattle.code_gen.specs.PassCode.Program.{written_array}
 use Rattle.code_gen.specs.PassCode.Statements.{pass_body, tables_after}
 use Rattle.sigma_spl.specs.Views.{plain_nest}
 use Rattle.sigma_spl.specs.declared.nest.Nest.{Nest}
@@ -21,10 +21,10 @@ returns-in_ok-more-in-Some-clause-body t c =
     let rest = c.in-Some.rest.now in
     let tables = plain_tables c.args.tables.now.items in
     first_and_more h c.args.start.after (map plain_nest nests) (plain_passes rest) (plain_passes c.args.passes.now) c.args.start.number
-    tables (plain_tables c.emit_pass.new.tables.items) c.args.start.source c.target_of-target.result
+    tables (plain_tables c.emit_pass.new.tables.items) c.args.start.source c.written_array-target.result
     c.args.out.now.items c.in_ok-first-in-Some.first.statements.items c.append.new.self.items (plain_body c.put_passes.new.out.items)
     (ap plain_passes c.in-Some.ensures.cases.0)
-    (c.target_of-target.ensures ∙ ap (λ n. target_of c.args.start.number (c.args.start.after + n)) (sym (length-map rest (λ (zs : Vec Nest Global). map plain_nest zs.items))))
-    (c.in_ok-first-in-Some.ensures.body ∙ ap (λ (xs : List Nest). pass_body h (map plain_nest xs) tables c.args.start.source c.target_of-target.result) c.deref.ensures.value)
+    (c.written_array-target.ensures ∙ ap (λ n. written_array c.args.start.number (c.args.start.after + n)) (sym (length-map rest (λ (zs : Vec Nest Global). map plain_nest zs.items))))
+    (c.in_ok-first-in-Some.ensures.body ∙ ap (λ (xs : List Nest). pass_body h (map plain_nest xs) tables c.args.start.source c.written_array-target.result) c.deref.ensures.value)
     (c.in_ok-first-in-Some.ensures.tables ∙ ap (λ (xs : List Nest). tables_after h.modulus (map plain_nest xs) tables) c.deref.ensures.value)
     c.in_ok-append-in-Some.ensures.items c.in_ok-more-in-Some.ensures.body

@@ -11,7 +11,7 @@ use Rattle.sigma_spl.specs.Merged.{PlainMerged}
 use Rattle.sigma_spl.specs.Views.{plain_merged}
 use Rattle.tree_model.specs.Breakdown.{breakdown_of}
 use Rattle.tree_model.specs.Chosen.{IsWholeTree}
-use Rattle.code_gen.specs.Machines.{machine_of}
+use Rattle.sigma_spl.specs.Shared.Targets.{target_of}
 use Rattle.generate.specs.ConvLetters.{conv_merged}
 use Rattle.generate.specs.Factors.{factors_of}
 use Rattle.generate.proofs.ConvTrees.{inverse_tree, inverse_valid}
@@ -44,7 +44,7 @@ merge_tree-requires-2 c =
 -- both requests are for one machine
 pub emit_joined-requires-clause-alike : goal.emit_joined-requires-clause-alike
 emit_joined-requires-clause-alike c =
-    ap machine_of c.new-forward.ensures ∙ sym (ap machine_of (c.new-backward.ensures ∙ c.inverted.ensures.value))
+    ap target_of c.new-forward.ensures ∙ sym (ap target_of (c.new-backward.ensures ∙ c.inverted.ensures.value))
 
 pub emit_joined-requires-clause-passes : goal.emit_joined-requires-clause-passes
 emit_joined-requires-clause-passes c =
@@ -61,8 +61,8 @@ emit_joined-requires-clause-passes c =
     subst (λ (z : Request). All (λ d. d < z.modulus) (factors_of z ls)) c.new-forward.ensures
     (subst (All (λ d. d < c.new-forward.result.modulus)) c.in_ok-diagonal.ensures.value
     c.in_ok-diagonal.ensures.residues) in
-    subst (λ (z : Request). CanProgram (machine_of z) (plain_merged c.in_ok-joined.joined)) (sym c.new-forward.ensures)
-    (subst (CanProgram (machine_of r)) (sym same)
+    subst (λ (z : Request). CanProgram (target_of z) (plain_merged c.in_ok-joined.joined)) (sym c.new-forward.ensures)
+    (subst (CanProgram (target_of r)) (sym same)
     (can-convolve r t ls c.requires.request valid c.requires.plan.2.tree joined_can_program residues))
 
 pub returns-clause-convolver : goal.returns-clause-convolver
@@ -77,9 +77,9 @@ returns-clause-convolver c =
     (plain_merged c.in_ok-first.first) (plain_merged c.in_ok-second.second) (plain_merged c.in_ok-joined.joined)
     c.new-forward.ensures (c.new-backward.ensures ∙ c.inverted.ensures.value) c.in_ok-diagonal.ensures.value
     c.in_ok-first.ensures.merged c.in_ok-second.ensures.merged c.in_ok-joined.ensures.joined in
-    let performs : Performs (machine_of r) (conv_merged r t (factors_of r ls)) (plain_program p) =
-    subst (λ (g : PlainMerged). Performs (machine_of r) g (plain_program p)) same
-    (subst (λ (z : Request). Performs (machine_of z) (plain_merged c.in_ok-joined.joined) (plain_program p))
+    let performs : Performs (target_of r) (conv_merged r t (factors_of r ls)) (plain_program p) =
+    subst (λ (g : PlainMerged). Performs (target_of r) g (plain_program p)) same
+    (subst (λ (z : Request). Performs (target_of z) (plain_merged c.in_ok-joined.joined) (plain_program p))
     c.new-forward.ensures c.in_ok-program.ensures.performs) in
     is-convolver r t ls c.requires.request valid c.requires.plan.2.tree p performs joined_means joined_counts
     c.requires.plan.1
@@ -94,4 +94,4 @@ returns-clause-letters c =
     (plain_merged c.in_ok-first.first) (plain_merged c.in_ok-second.second) (plain_merged c.in_ok-joined.joined)
     c.new-forward.ensures (c.new-backward.ensures ∙ c.inverted.ensures.value) c.in_ok-diagonal.ensures.value
     c.in_ok-first.ensures.merged c.in_ok-second.ensures.merged c.in_ok-joined.ensures.joined in
-    c.in_ok-program.ensures.code ∙ ap₂ (λ z g. program_of (machine_of z) g) c.new-forward.ensures same
+    c.in_ok-program.ensures.code ∙ ap₂ (λ z g. program_of (target_of z) g) c.new-forward.ensures same

@@ -1,5 +1,5 @@
 use Rattle.std.specs.Prelude.{◌≡◌}
-use Rattle.code_gen.specs.PassCode.Contract.{all_passes}
+use Rattle.sigma_spl.specs.Shared.Owners.{all_passes}
 use Rattle.loop_merge.specs.MultipliedPasses.Views.{plain_passes, plain_phases}
 use Rattle.loop_merge.proofs.joined_passes.in_one_phase.Given as goal
 

@@ -25,7 +25,7 @@ use Rattle.tree_model.specs.declared.tree.Rule.{Rule}
 use Rattle.tree_model.specs.declared.tree.Rule.TheVariants.{Gt, Ct, Split, Dim}
 use Rattle.smp_rewrite.specs.Fits.{HasParts, RootHasParts, CanShareLayout}
 use Rattle.smp_rewrite.specs.LayoutSteps.Layout.{Layout, work, by, layout_size, IsGoodLayout, IsGoodWork}
-use Rattle.smp_rewrite.specs.LayoutSteps.Targets.{is_alone}
+use Rattle.sigma_spl.specs.Shared.Targets.{is_alone}
 
 -- a pass of any work, and one of a transform
 abbrev Whatever : PlainWork → Type 0

@@ -6,8 +6,8 @@ use Rattle.sigma_lower.proofs.Sigmas.{of_phases, vec_can_merge, vec_means}
 use Rattle.sigma_lower.proofs.TreeLayouts.{machine_of}
 use Rattle.sigma_spl.specs.Sigma.{IsGoodSigma, sigma_cost, sigma_on}
 use Rattle.sigma_lower.proofs.TreeTerms.Goods.{phases_good}
-use Rattle.smp_rewrite.specs.LayoutSteps.Layout.{work_cost}
-use Rattle.smp_rewrite.specs.LayoutSteps.Targets.{target_of}
+use Rattle.sigma_spl.specs.Shared.Costs.{work_cost}
+use Rattle.sigma_spl.specs.Shared.Targets.{target_of}
 use Rattle.vec_rewrite.specs.Views.{plain_vec}
 use Rattle.sigma_lower.proofs.tree.lower.Goals as goal
 

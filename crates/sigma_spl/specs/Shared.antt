@@ -1,0 +1,5 @@
+pub mod Machine
+pub mod Targets
+pub mod Costs
+pub mod Running
+pub mod Owners
