@@ -1,12 +1,12 @@
 -- The conditions can be met: a transform of size 2 modulo 5 by the root 3, which is none of its size, by Horner's rule.
 use Rattle.std.proofs.Common.{◌≡◌, ℕ, zero, suc, ◌+◌, ◌*◌, ◌-◌, ◌%◌, ◌^◌, ◌<◌, ◌≤◌, refl, arith, List, [], ◌∷◌, mod-lt, All}
-use Rattle.std.specs.Prelude.{IsTrue, Some, true, false, map, ◌==◌, if◌then◌else◌}
+use Rattle.std.specs.Prelude.{Some, true, false, map, ◌==◌, if◌then◌else◌}
 use Rattle.std.proofs.lemmas.Bool.Decides.{nat_tests}
 use Rattle.std.proofs.lemmas.List.Elements.{All-nil, All-cons}
 use Rattle.icode.specs.Limits.{is_expr_within}
 use Rattle.icode.specs.Plain.{NoStmts, AndStmts, Loop, Do, Load, Store, Zero, Add, MulConst, MulTable, Sum, NoParts, AndParts, Var, Rem}
 use Rattle.icode.specs.declared.program.Array.TheVariants.{X, Y}
-use Rattle.sigma_spl.specs.Merge.{limits_of, new_nest, items_in}
+use Rattle.sigma_spl.specs.Merge.{new_nest, items_in}
 use Rattle.sigma_spl.specs.Copies.{hits}
 use Rattle.sigma_spl.specs.Nest.{PlainNest, repeated, spread, copies_of, load_place, store_place}
 use Rattle.index_fn.specs.Mapping.{ThomasIn}
@@ -14,13 +14,16 @@ use Rattle.sigma_spl.specs.Work.{copy, horner}
 use Rattle.perm_algebra.specs.Affine as sums
 use Rattle.operators.specs.TensorPaths.Path.{AreInRange}
 use Rattle.operators.specs.declared.tensor_paths.Tensor.TheVariants.{Blocks}
-use Rattle.code_gen.specs.PassCode.Conditions.{CanWrite, FitsWord, LoadsEachRow}
+use Rattle.sigma_spl.specs.Shared.Ready.{LoadsEachRow}
 use Rattle.code_gen.specs.PassCode.Expressions.{expr_of}
 use Rattle.sigma_spl.specs.Shared.Machine.{PlainFrame, plain_machine}
 use Rattle.code_gen.specs.PassCode.Program.{program_of}
 use Rattle.code_gen.specs.PassCode.Statements.{nest_body, tables_of_nest}
-use Rattle.code_gen.proofs.WholePrograms.Plain.{plain_programs_perform}
-use Rattle.code_gen.specs.WholePrograms.Plain.{ArePlainPasses, IsPlainNest, IsPlainPass, PlainPerforms, plain_merged}
+use Rattle.code_gen.proofs.WholePrograms.Performs.{programs_perform}
+use Rattle.code_gen.proofs.WholePrograms.ReadyPrograms.{ready_can_program}
+use Rattle.code_gen.specs.PassCode.Contract.{Performs}
+use Rattle.loop_merge.proofs.PlainPasses.{plain_are_ready}
+use Rattle.loop_merge.specs.PlainPasses.{ArePlainPasses, IsPlainNest, IsPlainPass, plain_phase}
 
 abbrev pub nest : PlainNest
 nest = new_nest [] (horner 3 2) (items_in (horner 3 2) 0)
@@ -28,18 +31,8 @@ nest = new_nest [] (horner 3 2) (items_in (horner 3 2) 0)
 abbrev frame : PlainFrame
 frame = record { shared = false; first_loop = 0 }
 
--- the sums of the loads and of the stores
-abbrev load_sum : sums.Sum
-load_sum = sums.remainder 1 (sums.variable 1 1 (sums.constant 1)) 2 (sums.constant 0)
-
-abbrev store_sum : sums.Sum
-store_sum = sums.variable 1 0 (sums.constant 0)
-
 one : {X : Type 0} (P : X → Type 0) (x : X) → P x → All P (x ∷ [])
 one P x h = All-cons P x [] h (All-nil P)
-
-small-factor : (a b : ℕ) → (if a == b then 1 + 0 else 0) < 2 ^ 64
-small-factor a b = grind (arith, nat_tests)
 
 loads-inside : (vs : List ℕ) (k : ℕ) → AreInRange [] vs → load_place nest.work nest.gathers vs k < 2
 loads-inside [] k range = let low : (1 * (2 - 1 - k) + 1) % 2 < 2 = mod-lt (1 * (2 - 1 - k) + 1) (omega arith) in omega arith
@@ -63,15 +56,17 @@ nest-plain =
       };
       factors = λ d is. absurd (cc);
       residues = λ d is. absurd (cc);
-      writes = record {
-        gathers = (record { enough = omega arith; sound = ((omega arith, tt, tt), tt) }, record { writable = one CanWrite load_sum ((λ e. small-factor e 1, tt), tt); words = one (FitsWord (limits_of nest)) load_sum (record { whole = omega arith; divided = (omega arith, tt, tt) }); within = one (λ e. IsTrue (is_expr_within (expr_of frame 2 e) 2)) load_sum refl });
-        scatters = (record { enough = omega arith; sound = (tt, tt) }, record { writable = one CanWrite store_sum (λ e. small-factor e 0, tt); words = one (FitsWord (limits_of nest)) store_sum (record { whole = omega arith; divided = tt }); within = one (λ e. IsTrue (is_expr_within (expr_of frame 1 e) 1)) store_sum refl });
+      ready = record {
+        gathers = record { enough = omega arith; sound = ((omega arith, tt, tt), tt) };
+        scatters = record { enough = omega arith; sound = (tt, tt) };
         multiplier = λ d is. absurd (cc);
         alike = alike;
+        small = tt;
         items = omega arith;
         shallow = omega arith;
-        counts = All-nil (λ c. (1 ≤ c) × (c < 2 ^ 32));
+        counts = All-nil (λ c. (1 ≤ c) × (c ≤ 1048576));
       };
+      within = refl;
     }
 
 passes-plain : ArePlainPasses 2 5 ((nest ∷ []) ∷ [])
@@ -80,7 +75,7 @@ passes-plain =
       size = (omega arith, omega arith);
       modulus = (omega arith, omega arith);
       some = omega arith;
-      passes = one (IsPlainPass 2 5) (nest ∷ []) (record { nests = one (IsPlainNest 2 5) nest nest-plain; once = λ w low. stored-once w low; few = omega arith });
+      passes = one (IsPlainPass 2 5) (nest ∷ []) (record { nests = one (IsPlainNest 2 5) nest nest-plain; once = λ w low. stored-once w low });
       few = omega arith;
       tables = omega arith;
     }
@@ -91,12 +86,14 @@ passes-plain =
     stored-once (suc (suc w)) low = absurd (omega arith)
 
 -- so its program performs it
-pub example : PlainPerforms 2 5 ((nest ∷ []) ∷ [])
-example = plain_programs_perform 2 5 ((nest ∷ []) ∷ []) passes-plain
+pub example : Performs (plain_machine 2 5) (plain_phase 2 ((nest ∷ []) ∷ [])) (program_of (plain_machine 2 5) (plain_phase 2 ((nest ∷ []) ∷ [])))
+example =
+    programs_perform (plain_machine 2 5) (plain_phase 2 ((nest ∷ []) ∷ []))
+    (ready_can_program (plain_machine 2 5) (plain_phase 2 ((nest ∷ []) ∷ [])) (plain_are_ready 2 5 ((nest ∷ []) ∷ []) passes-plain))
 
 -- and these are its statements
 listing :
-    (program_of (plain_machine 2 5) (plain_merged 2 ((nest ∷ []) ∷ []))).phases
+    (program_of (plain_machine 2 5) (plain_phase 2 ((nest ∷ []) ∷ []))).phases
     ≡ AndStmts
     (Loop 2
     (AndStmts (Do (Zero 0))
