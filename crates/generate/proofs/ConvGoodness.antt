@@ -4,9 +4,9 @@ use Rattle.std.proofs.lemmas.List.{length-map}
 use Rattle.matrix_meaning.specs.Convolution.{IsPrincipal}
 use Rattle.matrix_meaning.specs.Convolving.{IsConvRequest}
 use Rattle.sigma_lower.specs.Merged.{tree_merged}
-use Rattle.icode.specs.declared.program.Program.{Program}
+use Rattle.icode.specs.Actions.{plain_code}
 use Rattle.icode.specs.Machine.{padded, results, words_at}
-use Rattle.icode.specs.Program.{code_of, plain_program}
+use Rattle.icode.specs.Plain.{PlainProgram}
 use Rattle.icode.proofs.Lists.{code_is}
 use Rattle.icode.proofs.Runs.{memory_of_runs}
 use Rattle.matrix_meaning.specs.Parts.{inverted}
@@ -84,17 +84,17 @@ module _ (r : Request) (t : Breakdown) (ls : List ℕ) (request : IsConvRequest 
         tables = omega (arith, few, few');
       })
 
-  module _ (p : Program) (performs : Performs (target_of r) (conv_merged r t ds) (plain_program p)) where
-    any-turns : (x turns : List ℕ) → results (code_of p) x turns ≡ results (code_of p) x []
+  module _ (p : PlainProgram) (performs : Performs (target_of r) (conv_merged r t ds) p) where
+    any-turns : (x turns : List ℕ) → results (plain_code p) x turns ≡ results (plain_code p) x []
     any-turns x turns =
-        let first = memory_of_runs (code_of p) (code_is (plain_program p)) performs.apart x turns in
-        let none = memory_of_runs (code_of p) (code_is (plain_program p)) performs.apart x [] in
-        ap (λ memory. words_at p.size memory (padded (code_of p))) (first ∙ sym none)
+        let first = memory_of_runs (plain_code p) (code_is p) performs.apart x turns in
+        let none = memory_of_runs (plain_code p) (code_is p) performs.apart x [] in
+        ap (λ memory. words_at p.size memory (padded (plain_code p))) (first ∙ sym none)
 
-    counts-both : JoinedCounts → CountsBoth (target_of r) (tree_merged r t) (tree_merged (inverted r) t) (plain_program p)
+    counts-both : JoinedCounts → CountsBoth (target_of r) (tree_merged r t) (tree_merged (inverted r) t) p
     counts-both counts =
         (counts (tree_merged r t) (tree_merged (inverted r) t) ds (target_of r) (trees_can_program r t valid h)
-        (conv_small r request t h valid).free).program (plain_program p) request.procs performs
+        (conv_small r request t h valid).free).program p request.procs performs
 
     pub is-convolver : JoinedMeans → JoinedCounts → IsPrincipal r.modulus r.size r.root → IsConvolver r t ls p
     is-convolver means counts principal =

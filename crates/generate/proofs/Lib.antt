@@ -8,5 +8,6 @@ pub mod ConvTrees
 pub mod Existence
 pub mod Factors
 pub mod Goodness
+pub mod GoodPrograms
 pub mod Parts
 pub mod Totals

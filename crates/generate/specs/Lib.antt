@@ -3,6 +3,8 @@ pub mod FormulaPasses
 pub mod TreePasses
 pub mod Planned
 pub mod Good
+pub mod Emission
+pub mod GoodPrograms
 pub mod Lean
 pub mod Letters
 pub mod ConvPlanned

@@ -34,8 +34,8 @@ pub fn generate_conv(
     requires request { IsConvRequest request.now }
     requires plan { IsConvPlanned request.now (Ok (breakdown_of plan.now.tree)) }
     requires list { IsVector request.now h.now }
-    ensures convolver { IfOk result
-        (IsConvolver request.now (breakdown_of plan.now.tree) h.now) }
+    ensures convolver { IfOk result (λ p.
+        IsConvolver request.now (breakdown_of plan.now.tree) h.now (plain_program p)) }
     ensures letters { IfOk result (λ p.
         plain_program p ≡ conv_program request.now (breakdown_of plan.now.tree) h.now) }
 {

@@ -7,6 +7,7 @@ mod conv_plan;
 mod conv_program;
 mod formula_code;
 mod formula_passes;
+mod good_programs;
 mod planning;
 mod program;
 mod tree_passes;
@@ -31,6 +32,7 @@ pub use conv_plan::plan_conv;
 pub use conv_program::generate_conv;
 pub use formula_code::formula_program;
 pub use formula_passes::{formulas_can_program, formulas_compute};
+pub use good_programs::{conv_programs_convolve, formula_programs_are_code, programs_are_good};
 use icode::program::Program;
 use matrix_meaning::Request;
 use plan_search::{GenerateFault, Plan};
@@ -56,9 +58,10 @@ pub fn generate(alloc: Global, request: &Request) -> Result<Product, GenerateFau
         product.plan.cost ≡ whole_cost request.now (breakdown_of product.plan.tree)) }
     ensures good { IfOk result (λ product.
         IsGood request.now (whole_cost request.now (breakdown_of product.plan.tree))
-        product.program) }
+        (plain_program product.program)) }
     ensures lean { IfOk result (λ product.
-        IsLean request.now (breakdown_of product.plan.tree) product.program) }
+        IsLean request.now (breakdown_of product.plan.tree)
+        (plain_program product.program)) }
     ensures letters { IfOk result (λ product.
         plain_program product.program
         ≡ program_for request.now (breakdown_of product.plan.tree)) }

@@ -11,9 +11,8 @@ use Rattle.generate.specs.FormulaPasses.Computes.{formula_merged}
 use Rattle.generate.proofs.FormulaPasses.Formulas.{formulas_can_program}
 use Rattle.generate.proofs.FormulaPasses.Programs.{formulas_compute}
 use Rattle.icode.specs.Plain.{PlainProgram}
+use Rattle.icode.specs.Actions.{plain_code}
 use Rattle.icode.specs.Machine.{padded, results, words_at}
-use Rattle.icode.specs.Program.{code_of, plain_program}
-use Rattle.icode.specs.declared.program.Program.{Program}
 use Rattle.icode.proofs.Lists.{code_is}
 use Rattle.icode.proofs.Runs.{memory_of_runs}
 use Rattle.loop_merge.specs.JoinedCopies.Joined.{all_joined}
@@ -52,15 +51,15 @@ can_emit m f g large small shaped few is =
 -- ---- code
 
 -- the turns that come first do not matter
-any-turns : (m : ℕ) (f : Formula) (p : Program) → Performs (plain_machine (size_of f) m) (formula_merged m f) (plain_program p) → (x turns : List ℕ) → results (code_of p) x turns ≡ results (code_of p) x []
+any-turns : (m : ℕ) (f : Formula) (p : PlainProgram) → Performs (plain_machine (size_of f) m) (formula_merged m f) p → (x turns : List ℕ) → results (plain_code p) x turns ≡ results (plain_code p) x []
 any-turns m f p performs x turns =
-    let first = memory_of_runs (code_of p) (code_is (plain_program p)) performs.apart x turns in
-    let none = memory_of_runs (code_of p) (code_is (plain_program p)) performs.apart x [] in
-    ap (λ memory. words_at p.size memory (padded (code_of p))) (first ∙ sym none)
+    let first = memory_of_runs (plain_code p) (code_is p) performs.apart x turns in
+    let none = memory_of_runs (plain_code p) (code_is p) performs.apart x [] in
+    ap (λ memory. words_at p.size memory (padded (plain_code p))) (first ∙ sym none)
 
-code-of : (m : ℕ) (f : Formula) (p : Program) → 2 ≤ m → m < 2 ^ 62 → IsShaped f → parts_of f ≤ 65536 → Performs (plain_machine (size_of f) m) (formula_merged m f) (plain_program p) → IsCodeOf m f p
+code-of : (m : ℕ) (f : Formula) (p : PlainProgram) → 2 ≤ m → m < 2 ^ 62 → IsShaped f → parts_of f ≤ 65536 → Performs (plain_machine (size_of f) m) (formula_merged m f) p → IsCodeOf m f p
 code-of m f p large small shaped few performs =
-    let computes = formulas_compute m f (plain_program p) large small shaped few performs in
+    let computes = formulas_compute m f p large small shaped few performs in
     record {
       header = record { size = performs.size; modulus = performs.modulus; procs = performs.procs; line = performs.line; lanes = performs.lanes };
       limits = performs.limits;
@@ -71,8 +70,8 @@ code-of m f p large small shaped few performs =
       operations = computes.cost 1 (omega arith);
     }
 
-pub is_code : (m : ℕ) (f : Formula) (g : PlainMerged) (p : Program) → 2 ≤ m → m < 2 ^ 62 → IsShaped f → parts_of f ≤ 65536 → g ≡ formula_merged m f → Performs (machine_for m 1 g) g (plain_program p) → IsCodeOf m f p
-is_code m f g p large small shaped few is performs = code-of m f p large small shaped few (subst (λ h. Performs (machine_for m 1 h) h (plain_program p)) is performs)
+pub is_code : (m : ℕ) (f : Formula) (g : PlainMerged) (p : PlainProgram) → 2 ≤ m → m < 2 ^ 62 → IsShaped f → parts_of f ≤ 65536 → g ≡ formula_merged m f → Performs (machine_for m 1 g) g p → IsCodeOf m f p
+is_code m f g p large small shaped few is performs = code-of m f p large small shaped few (subst (λ h. Performs (machine_for m 1 h) h p) is performs)
 
 -- ---- letters
 

@@ -19,10 +19,10 @@ performs c =
     c.new-context.ensures c.in_ok-program.ensures.performs
 
 pub returns-clause-good : goal.returns-clause-good
-returns-clause-good c = good c.args.request.now (breakdown_of c.in_ok-plan.plan.tree) c.in_ok-program.program c.in_ok-plan.ensures.valid c.in_ok-plan.ensures.planned.1.tree (performs c)
+returns-clause-good c = good c.args.request.now (breakdown_of c.in_ok-plan.plan.tree) (plain_program c.in_ok-program.program) c.in_ok-plan.ensures.valid c.in_ok-plan.ensures.planned.1.tree (performs c)
 
 pub returns-clause-lean : goal.returns-clause-lean
-returns-clause-lean c = lean c.args.request.now (breakdown_of c.in_ok-plan.plan.tree) c.in_ok-program.program c.in_ok-plan.ensures.valid c.in_ok-plan.ensures.planned.1.tree (performs c)
+returns-clause-lean c = lean c.args.request.now (breakdown_of c.in_ok-plan.plan.tree) (plain_program c.in_ok-program.program) c.in_ok-plan.ensures.valid c.in_ok-plan.ensures.planned.1.tree (performs c)
 
 -- statement by statement it is theirs
 pub returns-clause-letters : goal.returns-clause-letters

@@ -70,16 +70,16 @@ returns-clause-convolver c =
     let r = c.args.request.now in
     let t = breakdown_of c.args.plan.now.tree in
     let ls = c.args.h.now in
-    let p = c.in_ok-program.program in
+    let p = plain_program c.in_ok-program.program in
     let valid = planned-valid r t c.requires.request c.requires.plan in
     let same : plain_merged c.in_ok-joined.joined ≡ conv_merged r t (factors_of r ls) =
     joined-same r c.new-forward.result c.new-backward.result t ls c.in_ok-diagonal.diagonal.items
     (plain_merged c.in_ok-first.first) (plain_merged c.in_ok-second.second) (plain_merged c.in_ok-joined.joined)
     c.new-forward.ensures (c.new-backward.ensures ∙ c.inverted.ensures.value) c.in_ok-diagonal.ensures.value
     c.in_ok-first.ensures.merged c.in_ok-second.ensures.merged c.in_ok-joined.ensures.joined in
-    let performs : Performs (target_of r) (conv_merged r t (factors_of r ls)) (plain_program p) =
-    subst (λ (g : PlainMerged). Performs (target_of r) g (plain_program p)) same
-    (subst (λ (z : Request). Performs (target_of z) (plain_merged c.in_ok-joined.joined) (plain_program p))
+    let performs : Performs (target_of r) (conv_merged r t (factors_of r ls)) p =
+    subst (λ (g : PlainMerged). Performs (target_of r) g p) same
+    (subst (λ (z : Request). Performs (target_of z) (plain_merged c.in_ok-joined.joined) p)
     c.new-forward.ensures c.in_ok-program.ensures.performs) in
     is-convolver r t ls c.requires.request valid c.requires.plan.2.tree p performs joined_means joined_counts
     c.requires.plan.1

@@ -1,0 +1,48 @@
+-- The programs of requests and of convolutions are good.
+use Rattle.std.proofs.Common.{◌≡◌, ℕ, ◌<◌, List, All, arith, mod-lt}
+use Rattle.std.proofs.lemmas.List.Elements.{All-from_recursion, All-map}
+use Rattle.std.specs.Prelude.{slice_index}
+use Rattle.std.specs.List.{range_with_len}
+use Rattle.matrix_meaning.specs.Convolution.{convolution_factor}
+use Rattle.matrix_meaning.specs.declared.Kind.TheVariants.{Dft}
+use Rattle.matrix_meaning.specs.declared.Request.{Request}
+use Rattle.matrix_meaning.specs.Kind.{transform}
+use Rattle.matrix_meaning.proofs.Requests.{valid_by_powers}
+use Rattle.ring_mod.specs.Inverse.{inverse_mod}
+use Rattle.sigma_lower.specs.Merged.{tree_merged}
+use Rattle.sigma_spl.specs.Shared.Targets.{target_of}
+use Rattle.code_gen.proofs.WholePrograms.Performs.{programs_perform}
+use Rattle.loop_merge.proofs.JoinedPasses.Counts.{joined_counts}
+use Rattle.loop_merge.proofs.JoinedPasses.Means.{joined_means}
+use Rattle.loop_merge.proofs.JoinedPasses.Programs.{joined_can_program}
+use Rattle.generate.specs.ConvLetters.{conv_merged, conv_program}
+use Rattle.generate.specs.Factors.{factors_of}
+use Rattle.generate.specs.GoodPrograms.{ConvProgramsConvolve, ProgramsAreGood}
+use Rattle.generate.specs.Letters.{program_for}
+use Rattle.generate.proofs.ConvGoodness.{can-convolve, is-convolver, planned-valid}
+use Rattle.generate.proofs.Goodness.{good, lean}
+use Rattle.generate.proofs.TreePasses.TreePrograms.{trees_can_program}
+
+pub programs_are_good : ProgramsAreGood
+programs_are_good r t range planned =
+    let valid = valid_by_powers r range planned.0 in
+    let h = planned.1.tree in
+    let performs = programs_perform (target_of r) (tree_merged r t) (trees_can_program r t valid h) in
+    (good r t (program_for r t) valid h performs, lean r t (program_for r t) valid h performs)
+
+-- the diagonal of a convolution is of residues
+all-numbers : (P : ℕ → Type 0) → ((k : ℕ) → P k) → (ks : List ℕ) → All P ks
+all-numbers P each ks = λ i d low. each _
+
+factors-residues : (r : Request) (h : List ℕ) → 0 < r.modulus → All (λ d. d < r.modulus) (factors_of r h)
+factors-residues r h some =
+    All-map (λ d. d < r.modulus) (convolution_factor r.modulus r.size r.root h) (range_with_len 0 r.size)
+    (all-numbers _ (λ k. mod-lt (inverse_mod r.modulus r.size * slice_index (transform Dft r.modulus r.size r.root h) k) some) (range_with_len 0 r.size))
+
+pub conv_programs_convolve : ConvProgramsConvolve
+conv_programs_convolve r t h request planned =
+    let valid = planned-valid r t request planned in
+    let two = request.in_range.modulus.0 in
+    let can = can-convolve r t h request valid planned.2.tree joined_can_program (factors-residues r h (omega (arith, two))) in
+    is-convolver r t h request valid planned.2.tree (conv_program r t h)
+    (programs_perform (target_of r) (conv_merged r t (factors_of r h)) can) joined_means joined_counts planned.1
