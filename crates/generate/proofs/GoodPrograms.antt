@@ -12,22 +12,21 @@ use Rattle.ring_mod.specs.Inverse.{inverse_mod}
 use Rattle.sigma_lower.specs.Merged.{tree_merged}
 use Rattle.sigma_spl.specs.Shared.Targets.{target_of}
 use Rattle.code_gen.proofs.WholePrograms.Performs.{programs_perform}
-use Rattle.loop_merge.proofs.JoinedPasses.Counts.{joined_counts}
-use Rattle.loop_merge.proofs.JoinedPasses.Means.{joined_means}
-use Rattle.loop_merge.proofs.JoinedPasses.Programs.{joined_can_program}
+use Rattle.code_gen.proofs.WholePrograms.ReadyPrograms.{ready_can_program}
 use Rattle.generate.specs.ConvLetters.{conv_merged, conv_program}
 use Rattle.generate.specs.Factors.{factors_of}
 use Rattle.generate.specs.GoodPrograms.{ConvProgramsConvolve, ProgramsAreGood}
 use Rattle.generate.specs.Letters.{program_for}
 use Rattle.generate.proofs.ConvGoodness.{can-convolve, is-convolver, planned-valid}
 use Rattle.generate.proofs.Goodness.{good, lean}
-use Rattle.generate.proofs.TreePasses.TreePrograms.{trees_can_program}
+use Rattle.generate.proofs.TreePasses.Merged.{trees_are_merged}
 
 pub programs_are_good : ProgramsAreGood
 programs_are_good r t range planned =
     let valid = valid_by_powers r range planned.0 in
     let h = planned.1.tree in
-    let performs = programs_perform (target_of r) (tree_merged r t) (trees_can_program r t valid h) in
+    let performs = programs_perform (target_of r) (tree_merged r t)
+    (ready_can_program (target_of r) (tree_merged r t) (trees_are_merged r t valid h).ready) in
     (good r t (program_for r t) valid h performs, lean r t (program_for r t) valid h performs)
 
 -- the diagonal of a convolution is of residues
@@ -43,6 +42,8 @@ pub conv_programs_convolve : ConvProgramsConvolve
 conv_programs_convolve r t h request planned =
     let valid = planned-valid r t request planned in
     let two = request.in_range.modulus.0 in
-    let can = can-convolve r t h request valid planned.2.tree joined_can_program (factors-residues r h (omega (arith, two))) in
-    is-convolver r t h request valid planned.2.tree (conv_program r t h)
-    (programs_perform (target_of r) (conv_merged r t (factors_of r h)) can) joined_means joined_counts planned.1
+    let residues = factors-residues r h (omega (arith, two)) in
+    let ready = can-convolve r t h request valid planned.2.tree residues in
+    let g = conv_merged r t (factors_of r h) in
+    is-convolver r t h request valid planned.2.tree (conv_program r t h) residues
+    (programs_perform (target_of r) g (ready_can_program (target_of r) g ready)) planned.1

@@ -19,8 +19,8 @@ use Rattle.tree_model.specs.Chosen.{IsWholeTree, whole_cost}
 use Rattle.tree_model.specs.WholePasses.{request_passes, whole_loads, whole_stores}
 use Rattle.tree_model.proofs.WholeCosts.{passes_do_the_cost}
 use Rattle.sigma_spl.specs.Shared.Targets.{target_of}
-use Rattle.generate.specs.TreePasses.Merged.{IsMergedTree}
-use Rattle.generate.proofs.TreePasses.Merged.{trees_are_merged}
+use Rattle.sigma_spl.specs.Trees.{IsMergedTree}
+use Rattle.generate.proofs.TreePasses.Merged.{trees_are_merged, trees_mean}
 use Rattle.generate.specs.Good.{IsGood, IsVector}
 use Rattle.generate.specs.Lean.{IsLean, IsLeanCode}
 use Rattle.generate.proofs.Parts.{IsShare, lean-code, share-of}
@@ -68,7 +68,7 @@ module _ (r : Request) (t : Breakdown) (p : PlainProgram) (valid : IsValid r) (h
   transforms x vector =
       let size = vector.size in
       let same : vectors.IsVector r.modulus r.size x = record { size = size; residues = λ i low. vector.residues i 0 (omega (arith, low, size)) } in
-      performs.results x same ∙ known.meaning x same
+      performs.results x same ∙ trees_mean r t valid h x same
 
   pub good : IsGood r (whole_cost r t) p
   good =

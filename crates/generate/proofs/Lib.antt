@@ -1,6 +1,8 @@
 pub mod FormulaCode
 pub mod FormulaPasses
 pub mod TreePasses
+pub mod Adding
+pub mod ConvCounts
 pub mod ConvExistence
 pub mod ConvGoodness
 pub mod ConvMeaning

@@ -1,6 +1,5 @@
 pub mod FormulaCode
 pub mod FormulaPasses
-pub mod TreePasses
 pub mod Planned
 pub mod Good
 pub mod Emission

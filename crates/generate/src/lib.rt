@@ -31,7 +31,7 @@ ghost use Rattle.tree_model.specs.Chosen.{whole_cost};
 pub use conv_plan::plan_conv;
 pub use conv_program::generate_conv;
 pub use formula_code::formula_program;
-pub use formula_passes::{formulas_can_program, formulas_compute};
+pub use formula_passes::{formulas_are_ready, formulas_compute};
 pub use good_programs::{conv_programs_convolve, formula_programs_are_code, programs_are_good};
 use icode::program::Program;
 use matrix_meaning::Request;
@@ -40,7 +40,7 @@ pub use planning::{admit, plan};
 use program::program_of_tree;
 use std::alloc::Global;
 use tree_model::Ctx;
-pub use tree_passes::{merge_tree, trees_are_merged, trees_can_program, trees_count};
+pub use tree_passes::merge_tree;
 
 /// The cheapest tree with its cost, and its program.
 #[derive(Drop)]

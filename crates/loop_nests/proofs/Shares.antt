@@ -58,5 +58,5 @@ module _ (h : Target) (weight : ℕ) where
         operations = are.operations;
         loads = are.loads;
         stores = are.stores
-        ∙ items-once h.size (map (copies_of h.modulus) zs) (all-inside zs can.nests) can.once;
+            ∙ items-once h.size (map (copies_of h.modulus) zs) (all-inside zs can.nests) can.once;
       }

@@ -62,7 +62,7 @@ passes-grown m (zs ∷ ps) tables =
     omega (arith, first, rest)
 
 tables-append : (ps qs : List (List PlainNest)) → passes_tables (ps ++ qs) ≡ passes_tables ps + passes_tables qs
-tables-append [] qs = refl
+tables-append [] qs = omega arith
 tables-append (zs ∷ ps) qs = let rest = tables-append ps qs in omega (arith, rest)
 
 phases-grown : (m : ℕ) (pss : List (List (List PlainNest))) (tables : List (List ℕ)) →

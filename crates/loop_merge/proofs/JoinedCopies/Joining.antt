@@ -65,7 +65,7 @@ module _ (cs ds : List ℕ) (k n p : ℕ) (first : AreCounted cs k) (second : Ar
         hit = λ m w. let all = reach m w in omega (arith, all);
         costs = λ weight cost free. three _ _ _ _ (pass_cost weight cost zs) (no-cost cost ((k + n) ∷ []) free) (none cost free);
         loads = let all = copies in omega (arith, all);
-        tables = refl;
+        tables = omega arith;
         plain = λ size m high all.
             let rest = All-tail (IsPlainNest size m) left (right ∷ zs) all in
             All-cons (IsPlainNest size m) loop zs (plain size m high (All-head (IsPlainNest size m) left (right ∷ zs) all) (All-head (IsPlainNest size m) right zs rest)) (All-tail (IsPlainNest size m) right zs rest);

@@ -26,7 +26,7 @@ at-residues m ds some h i =
     ]
 
 tables-append : (ps qs : List (List PlainNest)) → passes_tables (ps ++ qs) ≡ passes_tables ps + passes_tables qs
-tables-append [] qs = refl
+tables-append [] qs = omega arith
 tables-append (zs ∷ ps) qs = let rest = tables-append ps qs in omega (arith, rest)
 
 module _ (h : Target) (g k : PlainMerged) (ds : List ℕ) (can : CanJoin h g ds k) where
