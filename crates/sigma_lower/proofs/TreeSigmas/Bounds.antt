@@ -42,7 +42,7 @@ spread copies n size cost more loads whole high small low one each =
     let cut : copies * (cost + more + loads) ≡ copies * (cost + more) + copies * loads = omega arith in
     omega (arith, product, turned, same, bound, cut, high)
 
-module _ (c : Target) (host : IsHost c) where
+module _ (c : Target) where
   -- operations and loads of one copy
   record IsModest (n : ℕ) (w : PlainWork) : Type 0 where
     operations : work_cost 1 c.modulus w ≤ 2 * (n * n)
@@ -68,35 +68,36 @@ module _ (c : Target) (host : IsHost c) where
     pub operations : work_cost 1 c.modulus p.work ≤ 2 * (work_size p.work * work_size p.work)
     pub loads : work_loads p.work ≤ work_size p.work * work_size p.work
 
-  bounded : (p : PlainPass) → IsKnown c p → IsBounded (loop_of p)
-  bounded p known =
-      let m = modest p.work known.shaped.work in
-      record {
-        fills =
-            ap (λ x. x * work_size p.work) (copies-are p.path)
-            ∙ sym (size_under-copies p.path (work_size p.work))
-            ∙ known.shaped.fills;
-        items = n-small c p host known;
-        operations = m.operations;
-        loads = m.loads;
-      }
+  module _ (host : IsHost c) where
+    bounded : (p : PlainPass) → IsKnown c p → IsBounded (loop_of p)
+    bounded p known =
+        let m = modest p.work known.shaped.work in
+        record {
+          fills =
+              ap (λ x. x * work_size p.work) (copies-are p.path)
+              ∙ sym (size_under-copies p.path (work_size p.work))
+              ∙ known.shaped.fills;
+          items = n-small c p host known;
+          operations = m.operations;
+          loads = m.loads;
+        }
 
-  pub all-bounded : (ps : List PlainPass) → AllKnown c ps → All IsBounded (map loop_of ps)
-  all-bounded [] known = All-nil IsBounded
-  all-bounded (p ∷ ps) known =
-      All-cons IsBounded (loop_of p) (map loop_of ps) (bounded p known.0) (all-bounded ps known.1)
+    pub all-bounded : (ps : List PlainPass) → AllKnown c ps → All IsBounded (map loop_of ps)
+    all-bounded [] known = All-nil IsBounded
+    all-bounded (p ∷ ps) known =
+        All-cons IsBounded (loop_of p) (map loop_of ps) (bounded p known.0) (all-bounded ps known.1)
 
-  loop-actions : (p : PlainLoop) → IsBounded p →
-      pass_cost 1 c.modulus (one_nest p) + pass_loads (one_nest p) + 2 * c.size ≤ 2 ^ 44
-  loop-actions p is =
-      let z = nest_of p in
-      spread (copies_in (map count_of p.path)) (work_size p.work) c.size (work_cost 1 c.modulus p.work)
-      (multiplier_cost 1 z.multiplier p.work) (work_loads p.work) is.fills host.size.1 is.items is.operations
-      (multiplier-le 1 z.multiplier p.work) is.loads
+    loop-actions : (p : PlainLoop) → IsBounded p →
+        pass_cost 1 c.modulus (one_nest p) + pass_loads (one_nest p) + 2 * c.size ≤ 2 ^ 44
+    loop-actions p is =
+        let z = nest_of p in
+        spread (copies_in (map count_of p.path)) (work_size p.work) c.size (work_cost 1 c.modulus p.work)
+        (multiplier_cost 1 z.multiplier p.work) (work_loads p.work) is.fills host.size.1 is.items is.operations
+        (multiplier-le 1 z.multiplier p.work) is.loads
 
-  pub actions-few : (ps : List PlainLoop) → All IsBounded ps → most_actions c (map one_nest ps) ≤ 2 ^ 44 * length ps
-  actions-few [] all = omega arith
-  actions-few (p ∷ ps) all =
-      let first = loop-actions p (All-head IsBounded p ps all) in
-      let rest = actions-few ps (All-tail IsBounded p ps all) in
-      omega (arith, first, rest)
+    pub actions-few : (ps : List PlainLoop) → All IsBounded ps → most_actions c (map one_nest ps) ≤ 2 ^ 44 * length ps
+    actions-few [] all = omega arith
+    actions-few (p ∷ ps) all =
+        let first = loop-actions p (All-head IsBounded p ps all) in
+        let rest = actions-few ps (All-tail IsBounded p ps all) in
+        omega (arith, first, rest)

@@ -125,11 +125,11 @@ module _ (h : Target) where
   each-some [] have = All-nil HasItem
   each-some (ts ∷ more) have =
       All-cons HasItem (map loop_of (passes_of_terms ts)) (loops_by more)
-      (some (map loop_of (passes_of_terms ts)) (subst HasLoop (loops_listed ts) have.0)) (each-some more have.1)
+      (any (map loop_of (passes_of_terms ts)) (subst HasLoop (loops_listed ts) have.0)) (each-some more have.1)
     where
-      some : (ps : List PlainLoop) → HasLoop (reverse ps) → HasItem ps
-      some [] has = absurd has
-      some (p ∷ ps) has = omega arith
+      any : (ps : List PlainLoop) → HasLoop (reverse ps) → HasItem ps
+      any [] has = absurd has
+      any (p ∷ ps) has = omega arith
 
   open-phase : (ts : List PlainTerm) → reverse (loops_in (phase_term ts)) ≡ map loop_of (passes_of_terms ts)
   open-phase ts = ap reverse (loops_listed ts) ∙ reverse-reverse (map loop_of (passes_of_terms ts))

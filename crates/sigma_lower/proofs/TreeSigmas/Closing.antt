@@ -9,7 +9,7 @@ use Rattle.sigma_spl.specs.Lists.{LastIs, on_last}
 use Rattle.sigma_spl.specs.Loops.{PlainLoop, PlainTaken, multiplier_of, nest_of, one_nest}
 use Rattle.sigma_spl.specs.Nest.{PlainNest, load_place, store_place}
 use Rattle.sigma_spl.specs.Shared.Costs.{pass_cost, pass_loads, work_cost}
-use Rattle.sigma_spl.specs.Shared.Owners.{AllOwn, AllShared, ArePhasesShared, FirstOwns, IsHost}
+use Rattle.sigma_spl.specs.Shared.Owners.{AllOwn, AllShared, ArePhasesShared, FirstOwns}
 use Rattle.sigma_spl.specs.Shared.Running.{IsCopyOf, IsLoadedBy, IsStoredBy}
 use Rattle.sigma_spl.specs.Trees.{IsReadyLoop}
 use Rattle.sigma_spl.specs.Work.{work_size}
@@ -113,39 +113,38 @@ module _ (h : Target) (v : ℕ) where
 
   -- ---- what they count
 
-  module _ (host : IsHost h) where
-    bounded-closed : (p : PlainLoop) → IsBounded h host p → IsBounded h host (closed p)
-    bounded-closed p is =
-        record { fills = is.fills; items = is.items; operations = is.operations; loads = is.loads }
+  bounded-closed : (p : PlainLoop) → IsBounded h p → IsBounded h (closed p)
+  bounded-closed p is =
+      record { fills = is.fills; items = is.items; operations = is.operations; loads = is.loads }
 
-    more-cost : (copies n size weight x : ℕ) → copies * n ≡ size →
-        copies * (x + weight * n) + 0 ≡ copies * (x + 0) + 0 + weight * size
-    more-cost copies n size weight x whole =
-        let turned : copies * (weight * n) ≡ weight * (copies * n) = omega arith in
-        let same : weight * (copies * n) ≡ weight * size = ap (λ y. weight * y) whole in
-        let cut : copies * (x + weight * n) ≡ copies * x + copies * (weight * n) = omega arith in
-        omega (arith, turned, same, cut)
+  more-cost : (copies n size weight x : ℕ) → copies * n ≡ size →
+      copies * (x + weight * n) + 0 ≡ copies * (x + 0) + 0 + weight * size
+  more-cost copies n size weight x whole =
+      let turned : copies * (weight * n) ≡ weight * (copies * n) = omega arith in
+      let same : weight * (copies * n) ≡ weight * size = ap (λ y. weight * y) whole in
+      let cut : copies * (x + weight * n) ≡ copies * x + copies * (weight * n) = omega arith in
+      omega (arith, turned, same, cut)
 
-    closed-cost : (weight : ℕ) (p : PlainLoop) → IsBounded h host p → TakesClosing h.size p →
-        pass_cost weight h.modulus (one_nest (closed p)) ≡ pass_cost weight h.modulus (one_nest p) + weight * h.size
-    closed-cost weight p is takes =
-        let copies = copies_in (map count_of p.path) in
-        let x = work_cost weight h.modulus p.work in
-        more-cost copies (work_size p.work) h.size weight x is.fills
-        ∙ ap
-        (λ (o : Option PlainTaken).
-        copies * (x + multiplier_cost weight (multiplier_of p o) p.work) + 0 + weight * h.size)
-        (sym takes.free)
+  closed-cost : (weight : ℕ) (p : PlainLoop) → IsBounded h p → TakesClosing h.size p →
+      pass_cost weight h.modulus (one_nest (closed p)) ≡ pass_cost weight h.modulus (one_nest p) + weight * h.size
+  closed-cost weight p is takes =
+      let copies = copies_in (map count_of p.path) in
+      let x = work_cost weight h.modulus p.work in
+      more-cost copies (work_size p.work) h.size weight x is.fills
+      ∙ ap
+      (λ (o : Option PlainTaken).
+      copies * (x + multiplier_cost weight (multiplier_of p o) p.work) + 0 + weight * h.size)
+      (sym takes.free)
 
-    costs-last : (weight : ℕ) (ps : List PlainLoop) → All (IsBounded h host) ps → LastIs (TakesClosing h.size) ps →
-        map (pass_cost weight h.modulus) (nests (on_last closed ps))
-        ≡ more_last (weight * h.size) (map (pass_cost weight h.modulus) (nests ps))
-    costs-last weight [] all takes = absurd takes
-    costs-last weight (p ∷ []) all takes =
-        ap (λ n. n ∷ []) (closed-cost weight p (All-head (IsBounded h host) p [] all) takes)
-    costs-last weight (p ∷ r ∷ ps) all takes =
-        ap (λ ns. pass_cost weight h.modulus (one_nest p) ∷ ns)
-        (costs-last weight (r ∷ ps) (All-tail (IsBounded h host) p (r ∷ ps) all) takes)
+  costs-last : (weight : ℕ) (ps : List PlainLoop) → All (IsBounded h) ps → LastIs (TakesClosing h.size) ps →
+      map (pass_cost weight h.modulus) (nests (on_last closed ps))
+      ≡ more_last (weight * h.size) (map (pass_cost weight h.modulus) (nests ps))
+  costs-last weight [] all takes = absurd takes
+  costs-last weight (p ∷ []) all takes =
+      ap (λ n. n ∷ []) (closed-cost weight p (All-head (IsBounded h) p [] all) takes)
+  costs-last weight (p ∷ r ∷ ps) all takes =
+      ap (λ ns. pass_cost weight h.modulus (one_nest p) ∷ ns)
+      (costs-last weight (r ∷ ps) (All-tail (IsBounded h) p (r ∷ ps) all) takes)
 
   loads-last : (ps : List PlainLoop) → map pass_loads (nests (on_last closed ps)) ≡ map pass_loads (nests ps)
   loads-last [] = refl
@@ -175,13 +174,13 @@ module _ (h : Target) (phases : List (List PlainLoop)) (each : All HasItem phase
   whole-shared None shared = shared
   whole-shared (Some v) shared = shared-closed h v phases shared
 
-  module _ (host : IsHost h) (bounded : All (IsBounded h host) (in_order phases)) where
-    pub whole-bounded : (o : Option ℕ) → All (IsBounded h host) (in_order (closing_loops h o phases))
+  module _ (bounded : All (IsBounded h) (in_order phases)) where
+    pub whole-bounded : (o : Option ℕ) → All (IsBounded h) (in_order (closing_loops h o phases))
     whole-bounded None = bounded
     whole-bounded (Some v) =
-        subst (All (IsBounded h host)) (sym (order-last (closed_loop h.size v) phases each))
-        (all-last (IsBounded h host) (TakesClosing h.size) (closed_loop h.size v)
-        (λ p is this. bounded-closed h v host p is) (in_order phases) bounded takes)
+        subst (All (IsBounded h)) (sym (order-last (closed_loop h.size v) phases each))
+        (all-last (IsBounded h) (TakesClosing h.size) (closed_loop h.size v)
+        (λ p is this. bounded-closed h v p is) (in_order phases) bounded takes)
 
     pub whole-costs : (weight : ℕ) (o : Option ℕ) →
         map (pass_cost weight h.modulus) (map one_nest (in_order (closing_loops h o phases)))
@@ -189,7 +188,7 @@ module _ (h : Target) (phases : List (List PlainLoop)) (each : All HasItem phase
     whole-costs weight None = refl
     whole-costs weight (Some v) =
         ap (λ ps. map (pass_cost weight h.modulus) (map one_nest ps)) (order-last (closed_loop h.size v) phases each)
-        ∙ costs-last h v host weight (in_order phases) bounded takes
+        ∙ costs-last h v weight (in_order phases) bounded takes
 
   pub whole-loads : (o : Option ℕ) →
       map pass_loads (map one_nest (in_order (closing_loops h o phases)))

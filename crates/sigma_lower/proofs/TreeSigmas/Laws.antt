@@ -44,7 +44,7 @@ use Rattle.sigma_lower.proofs.TreeTerms.RootTerms.{shared_terms}
 use Rattle.sigma_lower.proofs.TreeSigmas.Bounds.{IsBounded, actions-few, all-bounded}
 use Rattle.sigma_lower.proofs.TreeSigmas.ClosedCounts.{closed_costs, closed_loads, more_by}
 use Rattle.sigma_lower.proofs.TreeSigmas.ClosedLoops.{TakesClosing}
-use Rattle.sigma_lower.proofs.TreeSigmas.ClosedPhases.{ArePhases, IsPhase, closing_loops, each-some, layout-takes, loops_by, whole-loops, whole-phases}
+use Rattle.sigma_lower.proofs.TreeSigmas.ClosedPhases.{IsPhase, closing_loops, each-some, layout-takes, loops_by, whole-loops, whole-phases}
 use Rattle.sigma_lower.proofs.TreeSigmas.Closing.{takes-phases, whole-bounded, whole-costs, whole-length, whole-loads, whole-ready, whole-shared}
 use Rattle.sigma_lower.proofs.TreeSigmas.Few.{AreFewMerged, few_merged}
 use Rattle.sigma_lower.proofs.TreeSigmas.Hosted.{IsHosted}
@@ -204,8 +204,8 @@ module _ (c : Request) (t : Breakdown) (valid : IsValid c) (whole : IsWholeTree 
 
   -- ---- they are few
 
-  bounded : All (IsBounded h is.host) (in_order loops)
-  bounded = subst (All (IsBounded h is.host)) (sym flat) (all-bounded h is.host (merged_of h l) known)
+  bounded : All (IsBounded h) (in_order loops)
+  bounded = subst (All (IsBounded h)) (sym flat) (all-bounded h is.host (merged_of h l) known)
 
   number : length (in_order closed) ≤ 22
   number =
@@ -221,7 +221,7 @@ module _ (c : Request) (t : Breakdown) (valid : IsValid c) (whole : IsWholeTree 
 
   few : most_actions h (all_passes (map (map one_nest) closed)) < 2 ^ 50
   few =
-      let acts = actions-few h is.host (in_order closed) (whole-bounded h loops each takes is.host bounded factor) in
+      let acts = actions-few h is.host (in_order closed) (whole-bounded h loops each takes bounded factor) in
       let most = number in
       subst (λ ps. most_actions h ps < 2 ^ 50) (sym (passes-flat closed)) (omega (arith, acts, most))
 
@@ -244,7 +244,7 @@ module _ (c : Request) (t : Breakdown) (valid : IsValid c) (whole : IsWholeTree 
       record {
         costs =
             ap (map (pass_cost c.weight c.modulus)) (passes-flat closed)
-            ∙ whole-costs h loops each takes is.host bounded c.weight factor
+            ∙ whole-costs h loops each takes bounded c.weight factor
             ∙ ap (more_by c.weight c.size factor)
             (ap (λ ps. map (pass_cost c.weight c.modulus) (map one_nest ps)) flat ∙ forward_costs c t valid whole)
             ∙ sym (closed_costs c t valid whole);
