@@ -178,15 +178,15 @@ module _ (c : Target) (p : PlainPass) (host : IsHost c) (known : IsKnown c p) wh
       let sums = map (place_sum p.path (work_size w) 0) (items_out w (length p.path)) in
       let there = names-out c.lanes p.path w known.loop.nested in
       let ready : IsReadyMultiplier w
-          (record {
-            factors = (taken_of t.diagonal).factors;
-            places = map (all_simplified (limits_in (loop_of p)) (taken_of t.diagonal).places) sums;
-          }) =
-          record {
-            named = names-all w (limits_in (loop_of p)) (taken_of t.diagonal).places sums formed there;
-            some = omega (arith, some);
-            few = omega (arith, most, high);
-          } in
+      (record {
+        factors = (taken_of t.diagonal).factors;
+        places = map (all_simplified (limits_in (loop_of p)) (taken_of t.diagonal).places) sums;
+      }) =
+      record {
+        named = names-all w (limits_in (loop_of p)) (taken_of t.diagonal).places sums formed there;
+        some = omega (arith, some);
+        few = omega (arith, most, high);
+      } in
       subst (IsReadyMultiplier w) (sym t.same) ready
 
   -- ---- the loop
