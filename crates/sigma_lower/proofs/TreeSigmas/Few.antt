@@ -1,0 +1,131 @@
+-- A layout has at least one pass, and few.
+use Rattle.std.proofs.Common.{◌≡◌, ℕ, ◌+◌, ◌*◌, ◌^◌, ◌≤◌, Bool, true, false, List, [], ◌∷◌, ◌++◌, length, map, suc, refl, sym, ap, ap₂, ◌∙◌, inl, inr, arith, subst, if◌then◌else◌, nat_le, length-append}
+use Rattle.std.proofs.lemmas.Bool.{cases_lt}
+use Rattle.std.proofs.lemmas.List.{length-map}
+use Rattle.std.proofs.lemmas.Nat.{mul-le, pow-add}
+use Rattle.std.proofs.Math.Pow.{pow_mono}
+use Rattle.sigma_lower.specs.TreeLoops.Laws.{Counted, tiles, counted, passes_of, tiled_passes, twiddle_by, twiddle_last, whole_passes}
+use Rattle.sigma_lower.specs.TreeLoops.Merge.{PlainPass}
+use Rattle.smp_rewrite.specs.LayoutSteps.Layout.{Layout, work, by, layout_size, IsGoodLayout}
+use Rattle.tree_model.specs.declared.tree.Rule.{Rule}
+use Rattle.tree_model.specs.declared.tree.Rule.TheVariants.{Gt, Ct, Split, Dim}
+
+-- ---- how many passes a layout has
+
+abbrev number : Layout → ℕ
+number (work w) = 1
+number (by rule root a b) = number b + number a
+
+length-twiddled : (ps : List Counted) → length (twiddle_last ps) ≡ length ps
+length-twiddled [] = refl
+length-twiddled (p ∷ []) = refl
+length-twiddled (p ∷ q ∷ ps) = ap suc (length-twiddled (q ∷ ps))
+
+length-by : (rule : Rule) (ps : List Counted) → length (twiddle_by rule ps) ≡ length ps
+length-by Gt ps = refl
+length-by Ct ps = length-twiddled ps
+length-by Split ps = refl
+length-by Dim ps = refl
+
+length-passes : (n : ℕ) (l : Layout) → length (passes_of n l) ≡ number l
+length-passes n (work w) = refl
+length-passes n (by rule root a b) =
+    length-append (twiddle_by rule (passes_of (n * layout_size a) b)) (passes_of (n * layout_size b) a)
+    ∙ ap₂ (λ x y. x + y) (length-by rule (passes_of (n * layout_size a) b) ∙ length-passes (n * layout_size a) b)
+    (length-passes (n * layout_size b) a)
+
+number-some : (l : Layout) → 1 ≤ number l
+number-some (work w) = omega arith
+number-some (by rule root a b) = let some = number-some a in omega arith
+
+-- each pass but the first at least doubles the size
+number-few : (m : ℕ) (l : Layout) → IsGoodLayout m l → 2 ≤ layout_size l → 2 ^ number l ≤ layout_size l
+number-few m (work w) h two = omega (arith, two)
+number-few m (by rule root a b) h two =
+    let x = number a in
+    let y = number b in
+    let both : 2 ^ x * 2 ^ y ≤ layout_size a * layout_size b =
+    mul-le (2 ^ x) (2 ^ y) (layout_size a) (layout_size b) (number-few m a h.1 h.0.left)
+    (number-few m b h.2 h.0.right) in
+    let turned : x + y ≡ y + x = omega arith in
+    subst (λ e. 2 ^ e ≤ layout_size a * layout_size b) turned
+    (subst (λ n. n ≤ layout_size a * layout_size b) (sym (pow-add 2 x y)) both)
+
+-- powers of two up to 1048576
+exponent-small : (k n : ℕ) → 2 ^ k ≤ n → n ≤ 1048576 → k ≤ 20
+exponent-small k n low high =
+    elim (cases_lt 20 k) [
+      | inl large ↦ let great : 2 ^ 21 ≤ 2 ^ k = pow_mono {i = 21} {j = k} (omega arith) in absurd (omega arith)
+      | inr small ↦ small
+    ]
+
+number-small : (m : ℕ) (l : Layout) → IsGoodLayout m l → layout_size l ≤ 1048576 → number l ≤ 20
+number-small m (work w) h high = omega arith
+number-small m (by rule root a b) h high =
+    let n = layout_size a * layout_size b in
+    let two : 2 * 2 ≤ n = mul-le 2 2 (layout_size a) (layout_size b) h.0.left h.0.right in
+    exponent-small (number b + number a) n (number-few m (by rule root a b) h (omega (arith, two))) high
+
+-- ---- a layout of at most 1048576 words has at most 22 passes
+
+record AreFew (passes : List Counted) : Type 0 where
+  some : 1 ≤ length passes
+  few : length passes ≤ 22
+
+few-plain : (m : ℕ) (l : Layout) → IsGoodLayout m l → layout_size l ≤ 1048576 → AreFew (passes_of 1 l)
+few-plain m l h high =
+    let is = length-passes 1 l in
+    let some = number-some l in
+    let few = number-small m l h high in
+    record { some = omega (arith, is, some); few = omega (arith, is, few) }
+
+-- the passes of both parts, and one over tiles between them
+few-between : (m root : ℕ) (rule : Rule) (a b : Layout) (t : Bool) → IsGoodLayout m (by rule root a b) →
+    layout_size a * layout_size b ≤ 1048576 →
+    length (passes_of (layout_size a) b ++ (tiles t ∷ passes_of (layout_size b) a)) ≤ 21
+few-between m root rule a b t h high =
+    let all = length-append (passes_of (layout_size a) b) (tiles t ∷ passes_of (layout_size b) a) in
+    let left = length-passes (layout_size b) a in
+    let right = length-passes (layout_size a) b in
+    let few = number-small m (by rule root a b) h high in
+    omega (arith, all, left, right, few)
+
+some-between : (a b : Layout) (t : Bool) →
+    1 ≤ length (passes_of (layout_size a) b ++ (tiles t ∷ passes_of (layout_size b) a))
+some-between a b t =
+    let all = length-append (passes_of (layout_size a) b) (tiles t ∷ passes_of (layout_size b) a) in
+    omega (arith, all)
+
+few-tiled : (m : ℕ) (l : Layout) → IsGoodLayout m l → layout_size l ≤ 1048576 → AreFew (tiled_passes l)
+few-tiled m (work w) h high = few-plain m (work w) h high
+few-tiled m (by Gt root a b) h high = few-plain m (by Gt root a b) h high
+few-tiled m (by Ct root a b) h high =
+    let some = some-between a b true in
+    let few = few-between m root Ct a b true h high in
+    record { some = some; few = omega (arith, few) }
+few-tiled m (by Split root a b) h high =
+    let few = few-between m root Split a b false h high in record { some = omega arith; few = omega (arith, few) }
+few-tiled m (by Dim root a b) h high =
+    let few = few-between m root Dim a b false h high in record { some = omega arith; few = omega (arith, few) }
+
+few-whole : (m lanes : ℕ) (l : Layout) → IsGoodLayout m l → layout_size l ≤ 1048576 → AreFew (whole_passes lanes l)
+few-whole m lanes l h high = by-lanes (nat_le lanes 1)
+  where
+    by-lanes : (b : Bool) → AreFew (if b then passes_of 1 l else tiled_passes l)
+    by-lanes true = few-plain m l h high
+    by-lanes false = few-tiled m l h high
+
+-- the merged passes of a layout, which are as many
+pub record AreFewMerged (ps : List PlainPass) : Type 0 where
+  pub some : 1 ≤ length ps
+  pub few : length ps ≤ 22
+
+pub few_merged : (m lanes : ℕ) (l : Layout) (ps : List PlainPass) → IsGoodLayout m l → layout_size l ≤ 1048576 →
+    map counted ps ≡ whole_passes lanes l → AreFewMerged ps
+few_merged m lanes l ps h high counts =
+    let all = few-whole m lanes l h high in
+    let some = all.some in
+    let few = all.few in
+    let same = ap length counts in
+    let long = length-map ps counted in
+    record { some = omega (arith, some, same, long); few = omega (arith, few, same, long) }
