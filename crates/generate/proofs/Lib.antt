@@ -7,6 +7,7 @@ pub mod ConvExistence
 pub mod ConvGoodness
 pub mod ConvMeaning
 pub mod ConvTrees
+pub mod Emission
 pub mod Existence
 pub mod Factors
 pub mod Goodness

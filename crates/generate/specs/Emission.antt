@@ -2,3 +2,4 @@ pub mod Places
 pub mod Passes
 pub mod Root
 pub mod Whole
+pub mod Worked

@@ -32,4 +32,5 @@ ConvProgramsConvolve =
 -- the program of a formula is its code
 abbrev pub FormulaProgramsAreCode : Type 0
 FormulaProgramsAreCode =
-    (m : ℕ) (f : Formula) → 2 ≤ m → m < 2 ^ 62 → IsShaped f → parts_of f ≤ 65536 → IsCodeOf m f (formula.program_for m f)
+    (m : ℕ) (f : Formula) → 2 ≤ m → m < 2 ^ 62 → IsShaped f → parts_of f ≤ 65536 →
+    IsCodeOf m f (formula.program_for m f)

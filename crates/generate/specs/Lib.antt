@@ -3,6 +3,7 @@ pub mod FormulaPasses
 pub mod Planned
 pub mod Good
 pub mod Emission
+pub mod EmittedPrograms
 pub mod GoodPrograms
 pub mod Lean
 pub mod Letters

@@ -5,6 +5,7 @@
 
 mod conv_plan;
 mod conv_program;
+mod emissions;
 mod formula_code;
 mod formula_passes;
 mod good_programs;
@@ -30,6 +31,7 @@ ghost use Rattle.tree_model.specs.Chosen.{whole_cost};
 
 pub use conv_plan::plan_conv;
 pub use conv_program::generate_conv;
+pub use emissions::{conv_programs_are_emissions, programs_are_emissions, worked_emissions};
 pub use formula_code::formula_program;
 pub use formula_passes::{formulas_are_ready, formulas_compute};
 pub use good_programs::{conv_programs_convolve, formula_programs_are_code, programs_are_good};

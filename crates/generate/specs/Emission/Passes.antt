@@ -24,8 +24,8 @@ pub record Pass : Type 0 where
   pub factors : Factors
   pub store : PlaceFunction
 
--- a node inside of loops: where its first pass loads, where its passes keep words between them, and where and by what factors its
--- last pass stores
+-- a node inside of loops: where its first pass loads, where its passes keep words between them, and where and by what
+-- factors its last pass stores
 pub record Site : Type 0 where
   pub counts : List ℕ
   pub load : PlaceFunction
@@ -78,4 +78,4 @@ passes c o (leaf d) = pass_at o (node_work c (leaf d)) ∷ []
 passes c o (node rule a b) =
     if is_kernel c (size_of a * size_of b) then pass_at o (node_work c (node rule a b)) ∷ []
     else passes (right_of rule c) (right_site rule (size_of a) (size_of b) (node_root c (size_of a * size_of b)) o) b
-        ++ passes (left_of rule c) (left_site rule (size_of a) (size_of b) o) a
+    ++ passes (left_of rule c) (left_site rule (size_of a) (size_of b) o) a

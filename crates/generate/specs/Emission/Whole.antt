@@ -20,10 +20,12 @@ use Rattle.generate.specs.Factors.{factors_of}
 
 -- ---- a pass as loops round its loads, its work and its stores
 
--- Kernels and tiles name what they load and store one by one. A longer leaf has a loop over what it stores, and in it one over what it
--- loads
+-- Kernels and tiles name what they load and store one by one. A longer leaf has a loop over what it stores, and in it one
+-- over what it loads
 abbrev pub each : PlainWork → ℕ → List Sum
-each work d = if is_straight work then map constant (range_with_len 0 (vectors_of work)) else variable 1 d (constant 0) ∷ []
+each work d =
+    if is_straight work then map constant (range_with_len 0 (vectors_of work))
+    else variable 1 d (constant 0) ∷ []
 
 -- what the variables run below
 abbrev pub limits : Pass → ℕ → ℕ
@@ -59,13 +61,16 @@ closing_factors (Some v) = entries (repeated v 1) (λ counts k. constant 0)
 
 abbrev pub program_in : Request → List (List Pass) → PlainProgram
 program_in c phases =
-    let g : PlainMerged = record { size = c.size; procs = c.procs; lanes = c.lanes; phases = map (map (λ p. nest_of p ∷ [])) phases } in
+    let nests = map (map (λ p. nest_of p ∷ [])) phases in
+    let g : PlainMerged = record { size = c.size; procs = c.procs; lanes = c.lanes; phases = nests } in
     program_of (target_of c) g
 
 abbrev pub emission : Request → Breakdown → PlainProgram
 emission c t = program_in c (phases_of (forward_of c) (closing_factors (factor_by c.kind c)) t)
 
--- a convolution with h: the passes of the transform, of which the last one multiplies by the diagonal of h, and those of the inverse
+-- a convolution with h: the passes of the transform, of which the last one multiplies by the diagonal of h, and those of
+-- the inverse
 abbrev pub conv_emission : Request → Breakdown → List ℕ → PlainProgram
 conv_emission c t h =
-    program_in c ((passes c (whole_site (entries (values (factors_of c h)) same)) t ++ passes (inverted c) (whole_site none) t) ∷ [])
+    let first = passes c (whole_site (entries (values (factors_of c h)) same)) t in
+    program_in c ((first ++ passes (inverted c) (whole_site none) t) ∷ [])
