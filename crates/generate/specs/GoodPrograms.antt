@@ -1,13 +1,12 @@
 -- The programs of requests, of convolutions and of formulas are good.
 use Rattle.std.specs.Prelude.{ℕ, ◌^◌, ◌<◌, ◌≤◌, List, Ok}
-use Rattle.generate.specs.ConvLetters.{conv_program}
 use Rattle.generate.specs.ConvPlanned.{IsConvPlanned}
 use Rattle.generate.specs.Convolver.{IsConvolver}
+use Rattle.generate.specs.Emission.Whole.{conv_emission, emission}
 use Rattle.generate.specs.FormulaCode.Code.{IsCodeOf}
 use Rattle.generate.specs.FormulaCode.Letters as formula
 use Rattle.generate.specs.Good.{IsGood}
 use Rattle.generate.specs.Lean.{IsLean}
-use Rattle.generate.specs.Letters.{program_for}
 use Rattle.generate.specs.Planned.{IsPlanned}
 use Rattle.matrix_meaning.specs.Convolving.{IsConvRequest}
 use Rattle.matrix_meaning.specs.Valid.{IsInRange}
@@ -21,13 +20,13 @@ use Rattle.tree_model.specs.Chosen.{whole_cost}
 abbrev pub ProgramsAreGood : Type 0
 ProgramsAreGood =
     (r : Request) (t : Breakdown) → IsInRange r → IsPlanned r (Ok t) →
-    IsGood r (whole_cost r t) (program_for r t) × IsLean r t (program_for r t)
+    IsGood r (whole_cost r t) (emission r t) × IsLean r t (emission r t)
 
 -- the program of a planned tree and a list is one for convolutions with the list
 abbrev pub ConvProgramsConvolve : Type 0
 ConvProgramsConvolve =
     (r : Request) (t : Breakdown) (h : List ℕ) → IsConvRequest r → IsConvPlanned r (Ok t) →
-    IsConvolver r t h (conv_program r t h)
+    IsConvolver r t h (conv_emission r t h)
 
 -- the program of a formula is its code
 abbrev pub FormulaProgramsAreCode : Type 0

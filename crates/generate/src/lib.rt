@@ -17,7 +17,7 @@ ghost use Rattle.std.specs.Prelude.{◌≡◌, ◌≢◌, Ok, Err, Result, IfOk,
 ghost use Rattle.generate.specs.ConvPlanned.{IsConvPlanned};
 ghost use Rattle.generate.specs.Good.{IsGood};
 ghost use Rattle.generate.specs.Lean.{IsLean};
-ghost use Rattle.generate.specs.Letters.{program_for};
+ghost use Rattle.generate.specs.Emission.Whole.{emission};
 ghost use Rattle.generate.specs.Planned.{IsPlanned};
 ghost use Rattle.icode.specs.Program.{plain_program};
 ghost use Rattle.matrix_meaning.specs.Convolving.{IsConvRequest};
@@ -66,7 +66,7 @@ pub fn generate(alloc: Global, request: &Request) -> Result<Product, GenerateFau
         (plain_program product.program)) }
     ensures letters { IfOk result (λ product.
         plain_program product.program
-        ≡ program_for request.now (breakdown_of product.plan.tree)) }
+        ≡ emission request.now (breakdown_of product.plan.tree)) }
     ensures refused { IfErr result (λ cause.
         cause ≢ fault.NoMemory → IsPlanned request.now (Err cause)) }
 {

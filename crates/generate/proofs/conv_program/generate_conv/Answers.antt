@@ -14,6 +14,8 @@ use Rattle.generate.proofs.ConvTrees.{inverse_tree, inverse_valid}
 use Rattle.generate.specs.ConvLetters.{conv_program}
 use Rattle.generate.specs.Convolver.{IsConvolver}
 use Rattle.generate.proofs.ConvGoodness.{can-convolve, joined-same, planned-valid}
+use Rattle.generate.specs.Emission.Whole.{conv_emission}
+use Rattle.generate.proofs.Emission.Programs.{conv_programs_are_emissions}
 use Rattle.generate.proofs.GoodPrograms.{conv_programs_convolve}
 use Rattle.generate.proofs.conv_program.generate_conv.Goals as goal
 
@@ -76,12 +78,20 @@ letters : (c : goal.In_ok-program) →
 letters c =
     c.in_ok-program.ensures.code ∙ ap₂ (λ z g. program_of (target_of z) g) c.new-forward.ensures (are-joined c)
 
+emitted : (c : goal.In_ok-program) →
+    plain_program c.in_ok-program.program
+    ≡ conv_emission c.args.request.now (breakdown_of c.args.plan.now.tree) c.args.h.now
+emitted c =
+    letters c
+    ∙ conv_programs_are_emissions c.args.request.now (breakdown_of c.args.plan.now.tree) c.args.h.now
+    c.requires.request c.requires.plan
+
 pub returns-clause-convolver : goal.returns-clause-convolver
 returns-clause-convolver c =
     let r = c.args.request.now in
     let t = breakdown_of c.args.plan.now.tree in
-    subst (IsConvolver r t c.args.h.now) (sym (letters c))
+    subst (IsConvolver r t c.args.h.now) (sym (emitted c))
     (conv_programs_convolve r t c.args.h.now c.requires.request c.requires.plan)
 
 pub returns-clause-letters : goal.returns-clause-letters
-returns-clause-letters c = letters c
+returns-clause-letters c = emitted c
