@@ -44,7 +44,9 @@ all-numbers P each ks = λ i d low. each _
 factors-residues : (r : Request) (h : List ℕ) → 0 < r.modulus → All (λ d. d < r.modulus) (factors_of r h)
 factors-residues r h some =
     All-map (λ d. d < r.modulus) (convolution_factor r.modulus r.size r.root h) (range_with_len 0 r.size)
-    (all-numbers _ (λ k. mod-lt (inverse_mod r.modulus r.size * slice_index (transform Dft r.modulus r.size r.root h) k) some) (range_with_len 0 r.size))
+    (all-numbers _ (λ k. mod-lt
+    (inverse_mod r.modulus r.size * slice_index (transform Dft r.modulus r.size r.root h) k) some)
+    (range_with_len 0 r.size))
 
 pub conv_programs_convolve : ConvProgramsConvolve
 conv_programs_convolve r t h request planned =

@@ -64,30 +64,37 @@ in-order (p ∷ ps) =
     ∙ sym (ap (map one_nest) (reverse-append (p ∷ []) ps))
 
 module _ (h : Target) where
-  merged-loops : (us : List terms.PlainTerm) → All (IsPhase h) us → map (passes_in_order h.size) us ≡ map (map one_nest) (map (λ t. reverse (loops_in t)) us)
+  merged-loops : (us : List terms.PlainTerm) → All (IsPhase h) us →
+      map (passes_in_order h.size) us ≡ map (map one_nest) (map (λ t. reverse (loops_in t)) us)
   merged-loops [] are = refl
   merged-loops (t ∷ us) are =
       let is = All-head (IsPhase h) t us are in
-      ap₂ (λ z zs. z ∷ zs) (ap reverse (merge_listed (most 64) h.size t is.ordered is.limited) ∙ in-order (loops_in t)) (merged-loops us (All-tail (IsPhase h) t us are))
+      ap₂ (λ z zs. z ∷ zs) (ap reverse (merge_listed (most 64) h.size t is.ordered is.limited) ∙ in-order (loops_in t))
+      (merged-loops us (All-tail (IsPhase h) t us are))
 
 -- ---- the last loop takes the factor
 
-last-mapped : {A B : Type 0} (F : A → B) (f : A → A) (g : B → B) (Q : A → Type 0) → ((x : A) → Q x → F (f x) ≡ g (F x)) → (xs : List A) → LastIs Q xs → map F (on_last f xs) ≡ on_last g (map F xs)
+last-mapped : {A B : Type 0} (F : A → B) (f : A → A) (g : B → B) (Q : A → Type 0) →
+    ((x : A) → Q x → F (f x) ≡ g (F x)) → (xs : List A) → LastIs Q xs → map F (on_last f xs) ≡ on_last g (map F xs)
 last-mapped F f g Q step [] last = absurd last
 last-mapped F f g Q step (x ∷ []) last = ap (λ z. z ∷ []) (step x last)
 last-mapped F f g Q step (x ∷ y ∷ xs) last = ap (λ zs. F x ∷ zs) (last-mapped F f g Q step (y ∷ xs) last)
 
-closed-nest : (n v : ℕ) (p : PlainLoop) → TakesClosing n p → one_nest (closed_loop n v p) ≡ map (multiplying (repeated v 1) firsts) (one_nest p)
+closed-nest : (n v : ℕ) (p : PlainLoop) → TakesClosing n p →
+    one_nest (closed_loop n v p) ≡ map (multiplying (repeated v 1) firsts) (one_nest p)
 closed-nest n v p takes =
     ap (λ es. multiplying (repeated v 1) (λ _. es) (nest_of p) ∷ [])
-    (all-first (limits_in p) n p.afters (map (place_sum p.path (work_size p.work) 0) (items_out p.work (length p.path))) takes.alone)
+    (all-first (limits_in p) n p.afters
+    (map (place_sum p.path (work_size p.work) 0) (items_out p.work (length p.path))) takes.alone)
 
-closed-loops : (h : Target) (o : Option ℕ) (phases : List (List PlainLoop)) → LastIs (LastIs (TakesClosing h.size)) phases →
+closed-loops : (h : Target) (o : Option ℕ) (phases : List (List PlainLoop)) →
+    LastIs (LastIs (TakesClosing h.size)) phases →
     map (map one_nest) (closing_loops h o phases) ≡ closed-phases o (map (map one_nest) phases)
 closed-loops h None phases last = refl
 closed-loops h (Some v) phases last =
     last-mapped (map one_nest) (on_last (closed_loop h.size v)) (closing (Some v)) (LastIs (TakesClosing h.size))
-    (λ ps takes. last-mapped one_nest (closed_loop h.size v) (map (multiplying (repeated v 1) firsts)) (TakesClosing h.size) (closed-nest h.size v) ps takes) phases last
+    (λ ps takes. last-mapped one_nest (closed_loop h.size v) (map (multiplying (repeated v 1) firsts))
+    (TakesClosing h.size) (closed-nest h.size v) ps takes) phases last
 
 nests-of : (ps : List PlainPass) → map one_nest (map loop_of ps) ≡ nests ps
 nests-of [] = refl
@@ -98,7 +105,8 @@ all-nests [] = refl
 all-nests (ps ∷ phases) = ap₂ (λ z zs. z ∷ zs) (nests-of ps) (all-nests phases)
 
 pub closed_tree : (c : Request) (t : Breakdown) → IsValid c → IsWholeTree c t →
-    tree_merged c t ≡ phases-in c (closed-phases (factor_by c.kind c) (map nests (merged_phases (target_of c) (layout_of (forward_of c) t))))
+    tree_merged c t ≡ phases-in c
+    (closed-phases (factor_by c.kind c) (map nests (merged_phases (target_of c) (layout_of (forward_of c) t))))
 closed_tree c t valid tree =
     let h = target_of c in
     let l = layout_of (forward_of c) t in
@@ -112,7 +120,8 @@ closed_tree c t valid tree =
     } in
     let loops = loops_by h ts in
     let flat : in_order loops ≡ map loop_of (merged_of h l) = order-map loop_of (merged_phases h l) in
-    let takes = takes-phases h loops (each-some h ts are.have) (subst (LastIs (TakesClosing c.size)) (sym flat) (layout-takes h l can.machine can.shares can.good.layout)) in
+    let takes = takes-phases h loops (each-some h ts are.have)
+    (subst (LastIs (TakesClosing c.size)) (sym flat) (layout-takes h l can.machine can.shares can.good.layout)) in
     ap (phases-in c)
     (merged-loops h (closed_phases h.size o (map phase_term ts)) (whole-phases h o ts are takes)
     ∙ ap (map (map one_nest)) (whole-loops h o ts)

@@ -17,7 +17,8 @@ layout_emitted o (by rule root a b) =
     layout_emitted (right_site rule (layout_size a) (layout_size b) root o) b
     ++ layout_emitted (left_site rule (layout_size a) (layout_size b) o) a
 
-either : (k : Bool) (o : Site) (w : PlainWork) (rule : Rule) (root : ℕ) (a b : Layout) (ps : List Pass) → ps ≡ layout_emitted o (by rule root a b) →
+either : (k : Bool) (o : Site) (w : PlainWork) (rule : Rule) (root : ℕ) (a b : Layout) (ps : List Pass) →
+    ps ≡ layout_emitted o (by rule root a b) →
     (if k then pass_at o w ∷ [] else ps) ≡ layout_emitted o (if k then work w else by rule root a b)
 either true o w rule root a b ps is = refl
 either false o w rule root a b ps is = is
@@ -28,6 +29,8 @@ passes_of_layout c o (node rule a b) =
     let root = node_root c (size_of a * size_of b) in
     let r : size_of a ≡ layout_size (layout_of (left_of rule c) a) = sym (layouts_have_size (left_of rule c) a) in
     let s : size_of b ≡ layout_size (layout_of (right_of rule c) b) = sym (layouts_have_size (right_of rule c) b) in
-    either (is_kernel c (size_of a * size_of b)) o (node_work c (node rule a b)) rule root (layout_of (left_of rule c) a) (layout_of (right_of rule c) b) _
-    (ap₂ (λ x y. passes (right_of rule c) (right_site rule x y root o) b ++ passes (left_of rule c) (left_site rule x y o) a) r s
+    either (is_kernel c (size_of a * size_of b)) o (node_work c (node rule a b)) rule root
+    (layout_of (left_of rule c) a) (layout_of (right_of rule c) b) _
+    (ap₂ (λ x y. passes (right_of rule c) (right_site rule x y root o) b ++ passes (left_of rule c)
+    (left_site rule x y o) a) r s
     ∙ ap₂ (λ ps qs. ps ++ qs) (passes_of_layout (right_of rule c) _ b) (passes_of_layout (left_of rule c) _ a))

@@ -85,7 +85,8 @@ module _ (c : Request) (r s : ℕ) (h : AreShares c.size c.procs c.lanes r s) wh
   -- where emission's turns stand
   strided-placed : (cs : ℕ → ℕ) (y : Sum) → strided c s cs y ≡ placed whole r us y
   strided-placed cs y =
-      ap (λ n. joined (scaled s y) (joined (scaled v (joined (scaled n q) (turn_of (lane_loops c) n))) l)) (columns-each c r s h)
+      ap (λ n. joined (scaled s y) (joined (scaled v (joined (scaled n q) (turn_of (lane_loops c) n))) l))
+      (columns-each c r s h)
       ∙ ap (λ n. joined (scaled n y) (joined (scaled v column) l)) (sym (tiles_fill size p v r s h))
       ∙ sym (placed-columns v (s / v) [] r l column [] y)
 
@@ -94,7 +95,9 @@ module _ (c : Request) (r s : ℕ) (h : AreShares c.size c.procs c.lanes r s) wh
   spread cs counts =
       let named = subst (λ ts. AreCopies three ts cs) (sym (turns-are [] three)) (natural-copies three r 0 cs counts) in
       let both : AreThree cs p v k q l j = record { processor = named.0; lane = named.1.0; other = named.1.1.0 } in
-      let fits : Fits (s / v) column cs = subst (λ n. Fits n column cs) (sym (tiles_are size p v r s h ∙ mul_comm k p)) (parts-fit p k q j cs (columns_some size p v r s h) named.0 named.1.1.0) in
+      let fits : Fits (s / v) column cs =
+      subst (λ n. Fits n column cs) (sym (tiles_are size p v r s h ∙ mul_comm k p))
+      (parts-fit p k q j cs (columns_some size p v r s h) named.0 named.1.1.0) in
       record {
         lane = l;
         column = column;
@@ -102,8 +105,11 @@ module _ (c : Request) (r s : ℕ) (h : AreShares c.size c.procs c.lanes r s) wh
         dealt = λ n e is inside.
             leads-same cs size (if_dealt n p v r s) (place_sum (left_path p v s) r 0 e) _ _ (natural-turns three r e)
             (subst (LeadsTo cs size (if_dealt n p v r s) (placed three r (q ∷ l ∷ j ∷ []) e))
-            (ap (λ g. joined (scaled v g) l) (placed-columns k p [] r j q [] e ∙ ap (λ n. placed (Columns n ∷ []) r (column ∷ []) e) (sym (tiles_are size p v r s h))))
-            (dealt-leads p v k r size n q l j e cs both inside is left_whole h.whole.high (dealt_small size p v r s h)));
+            (ap (λ g. joined (scaled v g) l)
+            (placed-columns k p [] r j q [] e
+            ∙ ap (λ n. placed (Columns n ∷ []) r (column ∷ []) e) (sym (tiles_are size p v r s h))))
+            (dealt-leads p v k r size n q l j e cs both inside is left_whole h.whole.high
+            (dealt_small size p v r s h)));
       }
 
   -- a pass of the part alone, within its limits
@@ -134,31 +140,41 @@ module _ (c : Request) (r s : ℕ) (h : AreShares c.size c.procs c.lanes r s) wh
         }
 
     -- where functions of the part alone lead in all copies
-    led : (cs : ℕ → ℕ) (e : Sum) (fs : List Mapping) (i : ℕ) → AreCounts (left_path p v s ++ z.path) n 0 cs → i ≡ p * r → StaysIn cs r fs (place_sum z.path n d e) →
-        all_simplified cs (if_dealt i p v r s ++ map (on_all v r s) fs) (place_sum (left_path p v s ++ z.path) n 0 e) ≡ placed whole r us (all_simplified cs fs (place_sum z.path n d e))
+    led : (cs : ℕ → ℕ) (e : Sum) (fs : List Mapping) (i : ℕ) → AreCounts (left_path p v s ++ z.path) n 0 cs →
+        i ≡ p * r → StaysIn cs r fs (place_sum z.path n d e) →
+        all_simplified cs (if_dealt i p v r s ++ map (on_all v r s) fs) (place_sum (left_path p v s ++ z.path) n 0 e)
+        ≡ placed whole r us (all_simplified cs fs (place_sum z.path n d e))
     led cs e fs i counts is stays =
         let there = spread-pass cs e counts in
         (part-leads size p v r s h cs z.path fs n i e there.sums part.shape.fills is stays).is
-        ∙ ap₂ (λ a b. placed whole r (a ∷ b ∷ []) (all_simplified cs fs (place_sum z.path n d e))) there.same_lane there.same_column
+        ∙ ap₂ (λ a b. placed whole r (a ∷ b ∷ []) (all_simplified cs fs (place_sum z.path n d e))) there.same_lane
+        there.same_column
 
     -- the item of its copy, at the place in all copies
-    inner-whole : (cs : ℕ → ℕ) (path : Path) (count : ℕ) (y : Sum) → Fits v l cs × Fits (s / v) column cs → simplified cs (inner_of (Columns s ∷ path) count) (placed whole r us y) ≡ simplified cs (inner_of path count) y
+    inner-whole : (cs : ℕ → ℕ) (path : Path) (count : ℕ) (y : Sum) → Fits v l cs × Fits (s / v) column cs →
+        simplified cs (inner_of (Columns s ∷ path) count) (placed whole r us y) ≡ simplified cs (inner_of path count) y
     inner-whole cs path count y (lane, other) =
         let u : Sum = joined (scaled v column) l in
-        let fit : Fits s u cs = subst (λ i. Fits i u cs) (mul_comm (s / v) v ∙ tiles_fill size p v r s h) (parts-fit (s / v) v column l cs h.lanes other lane) in
-        let same_place : placed whole r us y ≡ joined (scaled s y) u = placed-columns v (s / v) [] r l column [] y ∙ ap (λ a. joined (scaled a y) u) (tiles_fill size p v r s h) in
+        let fit : Fits s u cs =
+        subst (λ i. Fits i u cs) (mul_comm (s / v) v ∙ tiles_fill size p v r s h)
+        (parts-fit (s / v) v column l cs h.lanes other lane) in
+        let same_place : placed whole r us y ≡ joined (scaled s y) u = placed-columns v (s / v) [] r l column [] y
+        ∙ ap (λ a. joined (scaled a y) u) (tiles_fill size p v r s h) in
         ap (simplified cs (inner_of (Columns s ∷ path) count)) same_place
-        ∙ ap (λ (x : Divided). joined (scaled 1 (simplified cs (inner_of path count) x.quot)) (constant 0)) (divided-joined s y u cs (let two = h.right in omega (arith, two)) fit.proper fit.small)
+        ∙ ap (λ (x : Divided). joined (scaled 1 (simplified cs (inner_of path count) x.quot)) (constant 0))
+        (divided-joined s y u cs (let two = h.right in omega (arith, two)) fit.proper fit.small)
         ∙ joined-end _
         ∙ scaled-one _
 
-    fits-of : (cs : ℕ → ℕ) (e : Sum) → AreCounts (left_path p v s ++ z.path) n 0 cs → Fits v l cs × Fits (s / v) column cs
+    fits-of : (cs : ℕ → ℕ) (e : Sum) → AreCounts (left_path p v s ++ z.path) n 0 cs →
+        Fits v l cs × Fits (s / v) column cs
     fits-of cs e counts =
         let there = spread-pass cs e counts in
         let copies = there.sums.copies in
         (subst (λ a. Fits v a cs) there.same_lane copies.0, subst (λ a. Fits (s / v) a cs) there.same_column copies.1.0)
 
-    diagonals : (q' : Pass) (x : Option PlainDiagonal) → z.diagonal ≡ x → HasDiagonal outer d (strided c s) z q' x → HasDiagonal [] 0 same (left_pass p v r s z) q' (option_map (left_diagonal p v r s) x)
+    diagonals : (q' : Pass) (x : Option PlainDiagonal) → z.diagonal ≡ x → HasDiagonal outer d (strided c s) z q' x →
+        HasDiagonal [] 0 same (left_pass p v r s z) q' (option_map (left_diagonal p v r s) x)
     diagonals q' None is has = has
     diagonals q' (Some x) is has = (
       has.0,
@@ -167,8 +183,10 @@ module _ (c : Request) (r s : ℕ) (h : AreShares c.size c.procs c.lanes r s) wh
           let there = spread-pass cs e counts in
           let multiplied = (part.placed.multiplies x is).0 cs d e there.inner fits in
           has.2 cs e there.inner fits
-          ∙ sym (inner-whole cs x.path (x.rows * x.cols) (all_simplified cs x.places (place_sum z.path n d e)) (fits-of cs e counts))
-          ∙ ap (simplified cs (inner_of (Columns s ∷ x.path) (x.rows * x.cols))) (sym (led cs e x.places (r * p) counts (mul_comm r p) multiplied.stays)),
+          ∙ sym (inner-whole cs x.path (x.rows * x.cols) (all_simplified cs x.places (place_sum z.path n d e))
+          (fits-of cs e counts))
+          ∙ ap (simplified cs (inner_of (Columns s ∷ x.path) (x.rows * x.cols)))
+          (sym (led cs e x.places (r * p) counts (mul_comm r p) multiplied.stays)),
     )
 
     pub left_same : (q' : Pass) → IsSame outer d (strided c s) z q' → IsSame [] 0 same (left_pass p v r s z) q'
@@ -193,10 +211,13 @@ module _ (c : Request) (r s : ℕ) (h : AreShares c.size c.procs c.lanes r s) wh
     left_looped : IsLooped m size (left_pass p v r s z)
     left_looped = record {
       wide = several-append (left_path p v s) z.path (left_wide size p v r s h) part.shape.wide;
-      fills = size_under-append (left_path p v s) z.path n ∙ ap (size_under (left_path p v s)) part.shape.fills ∙ left_fills size p v r s h;
+      fills = size_under-append (left_path p v s) z.path n ∙ ap (size_under (left_path p v s)) part.shape.fills
+          ∙ left_fills size p v r s h;
       work = part.shape.work;
       node = part.node;
     }
 
-    pub left_nest : (q' : Pass) → IsSame outer d (strided c s) z q' → nest_of (loop_of (left_pass p v r s z)) ≡ emission.nest_of q'
-    left_nest q' is = same-nest m size (left_pass p v r s z) q' (let low = h.whole.low in omega (arith, low)) left_looped (left_same q' is)
+    pub left_nest : (q' : Pass) → IsSame outer d (strided c s) z q' →
+        nest_of (loop_of (left_pass p v r s z)) ≡ emission.nest_of q'
+    left_nest q' is = same-nest m size (left_pass p v r s z) q'
+        (let low = h.whole.low in omega (arith, low)) left_looped (left_same q' is)

@@ -25,7 +25,8 @@ module _ (outer : List ℕ) (d : ℕ) (whole : PlaceFunction) where
   -- a node of n places under the tensors of the path, where these functions wait
   pub record IsAround (path : Path) (waiting : List Mapping) (n : ℕ) (o : Site) : Type 0 where
     pub counts : o.counts ≡ outer ++ map count_of path
-    pub load : (cs : ℕ → ℕ) (e : Sum) → AreCounts path n d cs → Fits n e cs → o.load cs e ≡ whole cs (all_simplified cs waiting (place_sum path n d e))
+    pub load : (cs : ℕ → ℕ) (e : Sum) → AreCounts path n d cs → Fits n e cs →
+        o.load cs e ≡ whole cs (all_simplified cs waiting (place_sum path n d e))
     pub keep : (cs : ℕ → ℕ) (e : Sum) → o.keep cs e ≡ whole cs (place_sum path n d e)
 
   -- both do the same work in the same loops, on what they load at the same places
@@ -41,7 +42,8 @@ module _ (outer : List ℕ) (d : ℕ) (whole : PlaceFunction) where
   abbrev pub HasDiagonal : PlainPass → Pass → Option PlainDiagonal → Type 0
   HasDiagonal p q None = q.factors ≡ none
   HasDiagonal p q (Some x) =
-      (place : PlaceFunction) × (q.factors ≡ entries (twiddles x.rows x.cols x.root) place) × Always p (λ cs e. place cs e ≡ factor_at p x cs e)
+      (place : PlaceFunction) × (q.factors ≡ entries (twiddles x.rows x.cols x.root) place) × Always p
+      (λ cs e. place cs e ≡ factor_at p x cs e)
 
   -- and store it alike
   pub record IsSame (p : PlainPass) (q : Pass) : Type 0 where
@@ -80,25 +82,30 @@ module _ (outer : List ℕ) (d : ℕ) (whole : PlaceFunction) where
   ArePasses path n o (p ∷ ps) [] = ⊥
   ArePasses path n o (p ∷ ps) (q ∷ qs) = AreUpTo path n o p q ps qs
 
-  pub same-append : (ps rs : List PlainPass) (qs ts : List Pass) → AreSame ps qs → AreSame rs ts → AreSame (ps ++ rs) (qs ++ ts)
+  pub same-append : (ps rs : List PlainPass) (qs ts : List Pass) → AreSame ps qs → AreSame rs ts →
+      AreSame (ps ++ rs) (qs ++ ts)
   same-append [] rs [] ts h k = k
   same-append [] rs (q ∷ qs) ts h k = absurd h
   same-append (p ∷ ps) rs [] ts h k = absurd h
   same-append (p ∷ ps) rs (q ∷ qs) ts h k = (h.0, same-append ps rs qs ts h.1 k)
 
-  passes-cons : (path : Path) (n : ℕ) (o : Site) (p : PlainPass) (q : Pass) (ps : List PlainPass) (qs : List Pass) → IsSame p q → ArePasses path n o ps qs → ArePasses path n o (p ∷ ps) (q ∷ qs)
+  passes-cons : (path : Path) (n : ℕ) (o : Site) (p : PlainPass) (q : Pass) (ps : List PlainPass) (qs : List Pass) →
+      IsSame p q → ArePasses path n o ps qs → ArePasses path n o (p ∷ ps) (q ∷ qs)
   passes-cons path n o p q [] qs h k = absurd k
   passes-cons path n o p q (x ∷ xs) [] h k = absurd k
   passes-cons path n o p q (x ∷ xs) (y ∷ ys) h k = (h, k)
 
-  pub passes-append : (path : Path) (n : ℕ) (o : Site) (ps rs : List PlainPass) (qs ts : List Pass) → AreSame ps qs → ArePasses path n o rs ts → ArePasses path n o (ps ++ rs) (qs ++ ts)
+  pub passes-append : (path : Path) (n : ℕ) (o : Site) (ps rs : List PlainPass) (qs ts : List Pass) → AreSame ps qs →
+      ArePasses path n o rs ts → ArePasses path n o (ps ++ rs) (qs ++ ts)
   passes-append path n o [] rs [] ts h k = k
   passes-append path n o [] rs (q ∷ qs) ts h k = absurd h
   passes-append path n o (p ∷ ps) rs [] ts h k = absurd h
-  passes-append path n o (p ∷ ps) rs (q ∷ qs) ts h k = passes-cons path n o p q (ps ++ rs) (qs ++ ts) h.0 (passes-append path n o ps rs qs ts h.1 k)
+  passes-append path n o (p ∷ ps) rs (q ∷ qs) ts h k =
+      passes-cons path n o p q (ps ++ rs) (qs ++ ts) h.0 (passes-append path n o ps rs qs ts h.1 k)
 
   -- the last one changed, and then the same
-  pub last-same : (path : Path) (n : ℕ) (o : Site) (f : PlainPass → PlainPass) → ((p : PlainPass) (q : Pass) → IsLast path n o p q → IsSame (f p) q) → (ps : List PlainPass) (qs : List Pass) →
+  pub last-same : (path : Path) (n : ℕ) (o : Site) (f : PlainPass → PlainPass) →
+      ((p : PlainPass) (q : Pass) → IsLast path n o p q → IsSame (f p) q) → (ps : List PlainPass) (qs : List Pass) →
       ArePasses path n o ps qs → AreSame (at_last f ps) qs
   last-same path n o f step [] qs h = absurd h
   last-same path n o f step (p ∷ ps) [] h = absurd h
@@ -107,11 +114,14 @@ module _ (outer : List ℕ) (d : ℕ) (whole : PlaceFunction) where
   last-same path n o f step (p ∷ x ∷ xs) (q ∷ []) h = absurd h
   last-same path n o f step (p ∷ x ∷ xs) (q ∷ y ∷ ys) h = (h.0, last-same path n o f step (x ∷ xs) (y ∷ ys) h.1)
 
-  up-to-cons : (path : Path) (n : ℕ) (o : Site) (p : PlainPass) (q : Pass) (ps : List PlainPass) (y : Pass) (ys : List Pass) → IsSame p q → ArePasses path n o ps (y ∷ ys) → ArePasses path n o (p ∷ ps) (q ∷ y ∷ ys)
+  up-to-cons : (path : Path) (n : ℕ) (o : Site) (p : PlainPass) (q : Pass) (ps : List PlainPass) (y : Pass)
+      (ys : List Pass) → IsSame p q → ArePasses path n o ps (y ∷ ys) → ArePasses path n o (p ∷ ps) (q ∷ y ∷ ys)
   up-to-cons path n o p q ps y ys h k = passes-cons path n o p q ps (y ∷ ys) h k
 
   -- the last one changed, as the last of another node
-  pub last-other : (path inner : Path) (n k : ℕ) (o i : Site) (f : PlainPass → PlainPass) → ((p : PlainPass) (q : Pass) → IsLast inner k i p q → IsLast path n o (f p) q) → (ps : List PlainPass) (qs : List Pass) →
+  pub last-other : (path inner : Path) (n k : ℕ) (o i : Site) (f : PlainPass → PlainPass) →
+      ((p : PlainPass) (q : Pass) → IsLast inner k i p q → IsLast path n o (f p) q) →
+      (ps : List PlainPass) (qs : List Pass) →
       ArePasses inner k i ps qs → ArePasses path n o (at_last f ps) qs
   last-other path inner n k o i f step [] qs h = absurd h
   last-other path inner n k o i f step (p ∷ ps) [] h = absurd h

@@ -27,9 +27,11 @@ use Rattle.generate.proofs.Emission.Matches.{HasDiagonal, IsBegun, IsSame}
 
 -- ---- lists of sums
 
-map-named : (w : PlainWork) (cs : ℕ → ℕ) (n : ℕ) (f g : Sum → Sum) (es : List Sum) → AllName w cs n es → ((e : Sum) → Fits n e cs → f e ≡ g e) → map f es ≡ map g es
+map-named : (w : PlainWork) (cs : ℕ → ℕ) (n : ℕ) (f g : Sum → Sum) (es : List Sum) → AllName w cs n es →
+    ((e : Sum) → Fits n e cs → f e ≡ g e) → map f es ≡ map g es
 map-named w cs n f g [] named step = refl
-map-named w cs n f g (e ∷ es) named step = ap₂ (λ x xs. x ∷ xs) (step e named.0.0) (map-named w cs n f g es named.1 step)
+map-named w cs n f g (e ∷ es) named step =
+    ap₂ (λ x xs. x ∷ xs) (step e named.0.0) (map-named w cs n f g es named.1 step)
 
 pub maps-twice : (f g : Sum → Sum) (es : List Sum) → map f (map g es) ≡ map (λ e. f (g e)) es
 maps-twice f g [] = refl
@@ -89,7 +91,8 @@ module _ (m size : ℕ) (p : PlainPass) (q : Pass) (low : 0 < size) (shape : IsL
 
   some : 0 < n
   some =
-      let fills : copies_of p.path * work_size p.work ≡ size = sym (size_under-copies p.path (work_size p.work)) ∙ shape.fills in
+      let fills : copies_of p.path * work_size p.work ≡ size = sym (size_under-copies p.path (work_size p.work))
+      ∙ shape.fills in
       right_positive (copies_of p.path) (work_size p.work) (omega (arith, fills, low))
 
   counts : AreCounts p.path n 0 cs
@@ -101,28 +104,38 @@ module _ (m size : ℕ) (p : PlainPass) (q : Pass) (low : 0 < size) (shape : IsL
   abbrev loops : List ℕ
   loops = map count_of p.path
 
-  placed-by : (fs : List Mapping) (g : Sum → Sum) (es : List Sum) → AllName p.work cs n es → ((e : Sum) → Fits n e cs → g e ≡ all_simplified cs fs (place_sum p.path n 0 e)) → places_by (loop_of p) fs es ≡ map g es
+  placed-by : (fs : List Mapping) (g : Sum → Sum) (es : List Sum) → AllName p.work cs n es →
+      ((e : Sum) → Fits n e cs → g e ≡ all_simplified cs fs (place_sum p.path n 0 e)) →
+      places_by (loop_of p) fs es ≡ map g es
   placed-by fs g es named step =
       maps-twice (all_simplified cs fs) (place_sum p.path n 0) es
-      ∙ map-named p.work cs n (λ e. all_simplified cs fs (place_sum p.path n 0 e)) g es named (λ e fits. sym (step e fits))
+      ∙ map-named p.work cs n (λ e. all_simplified cs fs (place_sum p.path n 0 e)) g es named
+      (λ e fits. sym (step e fits))
 
-  loads : IsBegun [] 0 same p q → places_by (loop_of p) p.befores (items_in p.work depth) ≡ map (q.load cs) (emission.each p.work (length loops + 1))
+  loads : IsBegun [] 0 same p q →
+      places_by (loop_of p) p.befores (items_in p.work depth)
+      ≡ map (q.load cs) (emission.each p.work (length loops + 1))
   loads begun =
       placed-by p.befores (q.load cs) (items_in p.work depth) names.loads (λ e fits. begun.load cs e counts fits)
-      ∙ ap (map (q.load cs)) (items-in p.work depth shape.node ∙ ap (λ k. emission.each p.work (k + 1)) (sym (length-map p.path count_of)))
+      ∙ ap (map (q.load cs))
+      (items-in p.work depth shape.node ∙ ap (λ k. emission.each p.work (k + 1)) (sym (length-map p.path count_of)))
 
-  out : (fs : List Mapping) (g : Sum → Sum) → ((e : Sum) → Fits n e cs → g e ≡ all_simplified cs fs (place_sum p.path n 0 e)) → places_by (loop_of p) fs (items_out p.work depth) ≡ map g (emission.each p.work (length loops))
+  out : (fs : List Mapping) (g : Sum → Sum) →
+      ((e : Sum) → Fits n e cs → g e ≡ all_simplified cs fs (place_sum p.path n 0 e)) →
+      places_by (loop_of p) fs (items_out p.work depth) ≡ map g (emission.each p.work (length loops))
   out fs g step =
       placed-by fs g (items_out p.work depth) names.stores step
       ∙ ap (map g) (items-out p.work depth shape.node ∙ ap (emission.each p.work) (sym (length-map p.path count_of)))
 
-  multipliers : (x : Option PlainDiagonal) → HasDiagonal [] 0 same p q x → multiplier_of (loop_of p) (option_map taken_of x) ≡ emission.multiplier_of (put q loops p.work) q.factors
+  multipliers : (x : Option PlainDiagonal) → HasDiagonal [] 0 same p q x →
+      multiplier_of (loop_of p) (option_map taken_of x) ≡ emission.multiplier_of (put q loops p.work) q.factors
   multipliers None h = ap (emission.multiplier_of (put q loops p.work)) (sym h)
   multipliers (Some x) h =
       let place = h.0 in
       let fs = x.places ++ inner_of x.path (x.rows * x.cols) ∷ [] in
       ap (λ es. Some (record { factors = twiddles x.rows x.cols x.root; places = es }))
-      (out fs (place cs) (λ e fits. h.2 cs e counts fits ∙ sym (all_simplified-append cs x.places (inner_of x.path (x.rows * x.cols)) (place_sum p.path n 0 e))))
+      (out fs (place cs) (λ e fits. h.2 cs e counts fits
+      ∙ sym (all_simplified-append cs x.places (inner_of x.path (x.rows * x.cols)) (place_sum p.path n 0 e))))
       ∙ ap (emission.multiplier_of (put q loops p.work)) (sym h.1)
 
   with-loops : IsBegun [] 0 same p q → emission.nest_of (put q loops p.work) ≡ emission.nest_of q
@@ -133,8 +146,20 @@ module _ (m size : ℕ) (p : PlainPass) (q : Pass) (low : 0 < size) (shape : IsL
       let first = loads h.begun in
       let second = multipliers p.diagonal h.factors in
       let third = out p.afters (q.store cs) (λ e fits. h.store cs e counts fits) in
-      ap₂ (λ gs us. record { counts = loops; work = p.work; gathers = gs; multiplier = us; scatters = places_by (loop_of p) p.afters (items_out p.work depth) }) first second
-      ∙ ap (λ ss. record { counts = loops; work = p.work; gathers = map (q.load cs) (emission.each p.work (length loops + 1)); multiplier = emission.multiplier_of (put q loops p.work) q.factors; scatters = ss }) third
+      ap₂ (λ gs us. record {
+        counts = loops;
+        work = p.work;
+        gathers = gs;
+        multiplier = us;
+        scatters = places_by (loop_of p) p.afters (items_out p.work depth);
+      }) first second
+      ∙ ap (λ ss. record {
+        counts = loops;
+        work = p.work;
+        gathers = map (q.load cs) (emission.each p.work (length loops + 1));
+        multiplier = emission.multiplier_of (put q loops p.work) q.factors;
+        scatters = ss;
+      }) third
       ∙ with-loops h.begun
 
 -- ---- the last pass of the whole, with factors or without
@@ -145,15 +170,35 @@ freed q = record { counts = q.counts; work = q.work; load = q.load; factors = no
 -- a nest that multiplies what it stores by factors, where f tells their places from those of the stores
 abbrev pub multiplying : PlainFactors → (List Sum → List Sum) → PlainNest → PlainNest
 multiplying ds f z =
-    record { counts = z.counts; work = z.work; gathers = z.gathers; multiplier = Some (record { factors = ds; places = f z.scatters }); scatters = z.scatters }
+    record {
+      counts = z.counts;
+      work = z.work;
+      gathers = z.gathers;
+      multiplier = Some (record { factors = ds; places = f z.scatters });
+      scatters = z.scatters;
+    }
 
-pub multiplied-nest : (ds : PlainFactors) (place : PlaceFunction) (f : List Sum → List Sum) (q : Pass) → q.factors ≡ entries ds place →
-    ((cs : ℕ → ℕ) (es : List Sum) → f (map (q.store cs) es) ≡ map (place cs) es) → multiplying ds f (emission.nest_of (freed q)) ≡ emission.nest_of q
+pub multiplied-nest : (ds : PlainFactors) (place : PlaceFunction) (f : List Sum → List Sum) (q : Pass) →
+    q.factors ≡ entries ds place →
+    ((cs : ℕ → ℕ) (es : List Sum) → f (map (q.store cs) es) ≡ map (place cs) es) →
+    multiplying ds f (emission.nest_of (freed q)) ≡ emission.nest_of q
 multiplied-nest ds place f q is at =
     let cs = emission.limits q in
     let es = emission.each q.work (length q.counts) in
-    ap (λ ps. record { counts = q.counts; work = q.work; gathers = map (q.load cs) (emission.each q.work (length q.counts + 1)); multiplier = Some (record { factors = ds; places = ps }); scatters = map (q.store cs) es }) (at cs es)
-    ∙ ap (λ g. record { counts = q.counts; work = q.work; gathers = map (q.load cs) (emission.each q.work (length q.counts + 1)); multiplier = emission.multiplier_of q g; scatters = map (q.store cs) es }) (sym is)
+    ap (λ ps. record {
+      counts = q.counts;
+      work = q.work;
+      gathers = map (q.load cs) (emission.each q.work (length q.counts + 1));
+      multiplier = Some (record { factors = ds; places = ps });
+      scatters = map (q.store cs) es;
+    }) (at cs es)
+    ∙ ap (λ g. record {
+      counts = q.counts;
+      work = q.work;
+      gathers = map (q.load cs) (emission.each q.work (length q.counts + 1));
+      multiplier = emission.multiplier_of q g;
+      scatters = map (q.store cs) es;
+    }) (sym is)
 
 -- ---- lists of passes
 

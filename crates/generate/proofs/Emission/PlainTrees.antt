@@ -67,42 +67,54 @@ module _ (c : Request) (t : Breakdown) (valid : IsValid c) (h : IsWholeTree c t)
       let size = can.shares.size in
       let some = can.shares.some in
       let small = can.shares.small in
-      layouts_match [] 0 same refl c.modulus (layout_size l) [] [] (whole_site f) l (record { low = omega (arith, size, some); high = omega (arith, size, small) }) can.good.layout refl (whole-around (layout_size l) f)
+      layouts_match [] 0 same refl c.modulus (layout_size l) [] [] (whole_site f) l
+      (record { low = omega (arith, size, some); high = omega (arith, size, small) }) can.good.layout refl
+      (whole-around (layout_size l) f)
 
   some : 0 < layout_size l
   some = let size = can.shares.size in let low = can.shares.some in omega (arith, size, low)
 
   good : AllPasses (IsLooped c.modulus (layout_size l)) ps
   good =
-      looped-all c.modulus (layout_size l) ps (shaped_passes (IsShapedWork c.modulus) c.modulus (layout_size l) [] [] l tt can.good.layout (shaped_works c.modulus l can.good.layout) refl)
-      (shaped_passes IsNodeWork c.modulus (layout_size l) [] [] l tt can.good.layout (node_works c.modulus l can.good.layout) refl)
+      looped-all c.modulus (layout_size l) ps
+      (shaped_passes (IsShapedWork c.modulus) c.modulus (layout_size l) [] [] l tt can.good.layout
+      (shaped_works c.modulus l can.good.layout) refl)
+      (shaped_passes IsNodeWork c.modulus (layout_size l) [] [] l tt can.good.layout
+      (node_works c.modulus l can.good.layout) refl)
 
   -- a pass that is the same is the same nest
-  nest : (p : PlainPass) (q : Pass) → IsLooped c.modulus (layout_size l) p → IsSame [] 0 same p q → nest_of (loop_of p) ≡ emissions.nest_of q
+  nest : (p : PlainPass) (q : Pass) → IsLooped c.modulus (layout_size l) p → IsSame [] 0 same p q →
+      nest_of (loop_of p) ≡ emissions.nest_of q
   nest p q looped is = same-nest c.modulus (layout_size l) p q some looped is
 
   -- the nests of the layout's passes, in one phase
   pub closed_passes : tree_merged c t ≡ phases-in c (closed-phases (factor_by c.kind c) (nests ps ∷ []))
-  closed_passes = closed_tree c t valid h ∙ ap (λ qs. phases-in c (closed-phases (factor_by c.kind c) (map nests qs))) (plain_phases (target_of c) l plain)
+  closed_passes = closed_tree c t valid h
+      ∙ ap (λ qs. phases-in c (closed-phases (factor_by c.kind c) (map nests qs))) (plain_phases (target_of c) l plain)
 
   abbrev qs : Factors → List Pass
   qs f = passes (forward_of c) (whole_site f) t
 
   pub with-none : nests ps ≡ emitted (qs none)
   with-none =
-      free-passes [] 0 same (λ p. p) (IsLooped c.modulus (layout_size l)) nest (layout_size l) (whole_site none) (λ cs e. refl) ps _ refl good (matches none)
+      free-passes [] 0 same (λ p. p) (IsLooped c.modulus (layout_size l)) nest (layout_size l) (whole_site none)
+      (λ cs e. refl) ps _ refl good (matches none)
       ∙ ap emitted (sym (passes_of_layout (forward_of c) (whole_site none) t))
 
-  pub with-own : (ds : List ℕ) → on_last (map (multiplying (values ds) (λ es. es))) (nests ps) ≡ emitted (qs (entries (values ds) same))
+  pub with-own : (ds : List ℕ) →
+      on_last (map (multiplying (values ds) (λ es. es))) (nests ps) ≡ emitted (qs (entries (values ds) same))
   with-own ds =
-      factors-passes [] 0 same (λ p. p) (IsLooped c.modulus (layout_size l)) nest (layout_size l) (whole_site (entries (values ds) same)) (λ cs e. refl) (values ds) same (λ es. es) refl (λ cs stored own es step. maps-same stored own es step) ps _ good (matches (entries (values ds) same))
+      factors-passes [] 0 same (λ p. p) (IsLooped c.modulus (layout_size l)) nest (layout_size l)
+      (whole_site (entries (values ds) same)) (λ cs e. refl) (values ds) same (λ es. es) refl
+      (λ cs stored own es step. maps-same stored own es step) ps _ good (matches (entries (values ds) same))
       ∙ ap emitted (sym (passes_of_layout (forward_of c) (whole_site (entries (values ds) same)) t))
 
   all-closed : (o : Option ℕ) → closed-phases o (nests ps ∷ []) ≡ emitted (qs (closing_factors o)) ∷ []
   all-closed None = ap (λ z. z ∷ []) with-none
   all-closed (Some v) =
       ap (λ z. z ∷ [])
-      (factors-passes [] 0 same (λ p. p) (IsLooped c.modulus (layout_size l)) nest (layout_size l) (whole_site (closing_factors (Some v))) (λ cs e. refl) (repeated v 1) (λ counts k. constant 0) firsts refl
+      (factors-passes [] 0 same (λ p. p) (IsLooped c.modulus (layout_size l)) nest (layout_size l)
+      (whole_site (closing_factors (Some v))) (λ cs e. refl) (repeated v 1) (λ counts k. constant 0) firsts refl
       (λ cs stored own es step. maps-twice (λ _. constant 0) stored es) ps _ good (matches (closing_factors (Some v)))
       ∙ ap emitted (sym (passes_of_layout (forward_of c) (whole_site (closing_factors (Some v))) t)))
 
@@ -116,11 +128,14 @@ module _ (c : Request) (t : Breakdown) (valid : IsValid c) (h : IsWholeTree c t)
       ap (program_of (target_of c))
       (closed_passes
       ∙ ap (phases-in c) (all-closed (factor_by c.kind c))
-      ∙ ap (λ b. phases-in c (map emitted (if b then qs (closing_factors (factor_by c.kind c)) ∷ [] else root_phases (forward_of c) (closing_factors (factor_by c.kind c)) t))) (sym (plain-forward c.kind ∙ plain)))
+      ∙ ap (λ b. phases-in c
+      (map emitted (if b then qs (closing_factors (factor_by c.kind c)) ∷ [] else root_phases (forward_of c)
+      (closing_factors (factor_by c.kind c)) t))) (sym (plain-forward c.kind ∙ plain)))
 
 -- ---- convolutions
 
-pub conv_emissions : (r : Request) (t : Breakdown) (ls : List ℕ) → IsConvRequest r → IsValid r → IsWholeTree r t → conv_program r t ls ≡ conv_emission r t ls
+pub conv_emissions : (r : Request) (t : Breakdown) (ls : List ℕ) → IsConvRequest r → IsValid r → IsWholeTree r t →
+    conv_program r t ls ≡ conv_emission r t ls
 conv_emissions r t ls request valid h =
     let ds = factors_of r ls in
     let o = whole_site (entries (values ds) same) in
@@ -128,15 +143,19 @@ conv_emissions r t ls request valid h =
     let valid' = inverse_valid r request valid in
     let h' = inverse_tree r request valid t h in
     let plain : is_plain r ≡ true = ap₂ (λ p v. p == 1 && v == 1) request.procs request.lanes in
-    let forward : forward_of r ≡ r = forward_itself r (λ inverse. let other : Dft ≡ Idft = sym request.kind ∙ inverse in cc) in
+    let forward : forward_of r ≡ r =
+    forward_itself r (λ inverse. let other : Dft ≡ Idft = sym request.kind ∙ inverse in cc) in
     let ps = layout_passes [] [] (layout_of (forward_of r) t) in
     let qs = layout_passes [] [] (layout_of back t) in
     ap (program_of (target_of r))
     (ap₂ (λ g k. joined g ds k)
-    (closed_passes r t valid h plain ∙ ap (λ kind. phases-in r (closed-phases (factor_by kind r) (nests ps ∷ []))) request.kind)
+    (closed_passes r t valid h plain
+    ∙ ap (λ kind. phases-in r (closed-phases (factor_by kind r) (nests ps ∷ []))) request.kind)
     (closed_passes back t valid' h' plain)
-    ∙ ap₂ (λ xs ys. phases-in r ((on_last (map (multiplying (values ds) (λ es. es))) xs ++ ys) ∷ [])) (append-nil (nests ps)) (append-nil (nests qs))
+    ∙ ap₂ (λ xs ys. phases-in r ((on_last (map (multiplying (values ds) (λ es. es))) xs ++ ys) ∷ []))
+    (append-nil (nests ps)) (append-nil (nests qs))
     ∙ ap₂ (λ xs ys. phases-in r ((xs ++ ys) ∷ []))
     (with-own r t valid h plain ds ∙ ap (λ z. emitted (passes z o t)) forward)
     (with-none back t valid' h' plain)
-    ∙ ap (λ zs. phases-in r (zs ∷ [])) (sym (map-append (λ q. emissions.nest_of q ∷ []) (passes r o t) (passes back (whole_site none) t))))
+    ∙ ap (λ zs. phases-in r (zs ∷ []))
+    (sym (map-append (λ q. emissions.nest_of q ∷ []) (passes r o t) (passes back (whole_site none) t))))

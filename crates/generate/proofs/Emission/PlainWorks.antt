@@ -18,6 +18,8 @@ pub node_works : (m : ℕ) (l : Layout) → IsGoodLayout m l → HasWorks IsNode
 node_works m (work w) h = node-work m w h.1
 node_works m (by rule root a b) h = (node_works m a h.1, node_works m b h.2)
 
-pub looped-all : (m size : ℕ) (ps : List PlainPass) → AreShaped (IsShapedWork m) size ps → AreShaped IsNodeWork size ps → AllPasses (IsLooped m size) ps
+pub looped-all : (m size : ℕ) (ps : List PlainPass) → AreShaped (IsShapedWork m) size ps →
+    AreShaped IsNodeWork size ps → AllPasses (IsLooped m size) ps
 looped-all m size [] shapes works = tt
-looped-all m size (p ∷ ps) shapes works = (looped-of m size p shapes.0 works.0.work, looped-all m size ps shapes.1 works.1)
+looped-all m size (p ∷ ps) shapes works =
+    (looped-of m size p shapes.0 works.0.work, looped-all m size ps shapes.1 works.1)

@@ -15,4 +15,5 @@ programs_are_emissions r t valid tree = elim (cases_Bool (is_plain r)) [
 ]
 
 pub conv_programs_are_emissions : ConvProgramsAreEmissions
-conv_programs_are_emissions r t h request planned = conv_emissions r t h request (planned-valid r t request planned) planned.2.tree
+conv_programs_are_emissions r t h request planned =
+    conv_emissions r t h request (planned-valid r t request planned) planned.2.tree

@@ -39,15 +39,19 @@ nests-append ps qs = map-append (λ p. one_nest (loop_of p)) ps qs
 pub emitted-append : (ps qs : List Pass) → emitted (ps ++ qs) ≡ emitted ps ++ emitted qs
 emitted-append ps qs = map-append (λ q. emission.nest_of q ∷ []) ps qs
 
-looped-last : (m size : ℕ) (f : PlainPass → PlainPass) → ((p : PlainPass) → IsLooped m size p → IsLooped m size (f p)) → (ps : List PlainPass) → AllPasses (IsLooped m size) ps → AllPasses (IsLooped m size) (at_last f ps)
+looped-last : (m size : ℕ) (f : PlainPass → PlainPass) →
+    ((p : PlainPass) → IsLooped m size p → IsLooped m size (f p)) → (ps : List PlainPass) →
+    AllPasses (IsLooped m size) ps → AllPasses (IsLooped m size) (at_last f ps)
 looped-last m size f step [] h = tt
 looped-last m size f step (p ∷ []) h = (step p h.0, tt)
 looped-last m size f step (p ∷ q ∷ ps) h = (h.0, looped-last m size f step (q ∷ ps) h.1)
 
-looped-multiplied : (m size r s root : ℕ) (p : PlainPass) → IsLooped m size p → IsLooped m size (multiplied [] r s root p)
+looped-multiplied : (m size r s root : ℕ) (p : PlainPass) → IsLooped m size p →
+    IsLooped m size (multiplied [] r s root p)
 looped-multiplied m size r s root p h = record { wide = h.wide; fills = h.fills; work = h.work; node = h.node }
 
-module _ (c : Request) (r s root : ℕ) (h : AreShares c.size c.procs c.lanes r s) (b : Layout) (good : IsGoodLayout c.modulus b) (is : layout_size b ≡ s) where
+module _ (c : Request) (r s root : ℕ) (h : AreShares c.size c.procs c.lanes r s) (b : Layout)
+    (good : IsGoodLayout c.modulus b) (is : layout_size b ≡ s) where
   abbrev p : ℕ
   p = c.procs
 
@@ -60,7 +64,8 @@ module _ (c : Request) (r s root : ℕ) (h : AreShares c.size c.procs c.lanes r 
   low : 0 < c.size
   low = let some = h.whole.low in omega (arith, some)
 
-  module _ (rule : Rule) (waiting : List Mapping) (around : IsAround [] 0 same (right_path p v r) waiting s (right_root rule c r s root)) where
+  module _ (rule : Rule) (waiting : List Mapping)
+      (around : IsAround [] 0 same (right_path p v r) waiting s (right_root rule c r s root)) where
     abbrev pub ps : List PlainPass
     ps = layout_passes (right_path p v r) waiting b
 
@@ -76,28 +81,37 @@ module _ (c : Request) (r s root : ℕ) (h : AreShares c.size c.procs c.lanes r 
     matches : ArePasses [] 0 same (right_path p v r) s o ps qs
     matches =
         subst (λ n. ArePasses [] 0 same (right_path p v r) n o ps qs) is
-        (layouts_match [] 0 same refl m c.size (right_path p v r) waiting o b h.whole good fills (subst (λ n. IsAround [] 0 same (right_path p v r) waiting n o) (sym is) around))
+        (layouts_match [] 0 same refl m c.size (right_path p v r) waiting o b h.whole good fills
+        (subst (λ n. IsAround [] 0 same (right_path p v r) waiting n o) (sym is) around))
 
     all : AllPasses (IsLooped m c.size) ps
     all =
-        looped-all m c.size ps (shaped_passes (IsShapedWork m) m c.size (right_path p v r) waiting b (right_wide c.size p v r s h) good (shaped_works m b good) fills)
-        (shaped_passes IsNodeWork m c.size (right_path p v r) waiting b (right_wide c.size p v r s h) good (node_works m b good) fills)
+        looped-all m c.size ps
+        (shaped_passes (IsShapedWork m) m c.size (right_path p v r) waiting b (right_wide c.size p v r s h) good
+        (shaped_works m b good) fills)
+        (shaped_passes IsNodeWork m c.size (right_path p v r) waiting b (right_wide c.size p v r s h) good
+        (node_works m b good) fills)
 
-    nest : (z : PlainPass) (q : Pass) → IsLooped m c.size z → IsSame [] 0 same z q → nest_of (loop_of z) ≡ emission.nest_of q
+    nest : (z : PlainPass) (q : Pass) → IsLooped m c.size z → IsSame [] 0 same z q →
+        nest_of (loop_of z) ≡ emission.nest_of q
     nest z q looped equal = same-nest m c.size z q low looped equal
 
     -- the last pass stores at natural places
-    last-free : o.factors ≡ none → (z : PlainPass) (q : Pass) → IsLast [] 0 same (right_path p v r) s o z q → IsSame [] 0 same z q
+    last-free : o.factors ≡ none → (z : PlainPass) (q : Pass) → IsLast [] 0 same (right_path p v r) s o z q →
+        IsSame [] 0 same z q
     last-free free z q last = record {
       begun = last.begun;
-      store = λ cs e counts fits. last.store cs e ∙ packed-natural c r s h cs (last.own cs e) ∙ sym (last.place cs e counts fits);
+      store = λ cs e counts fits. last.store cs e ∙ packed-natural c r s h cs (last.own cs e)
+          ∙ sym (last.place cs e counts fits);
       factors = subst (HasDiagonal [] 0 same z q) (sym last.free) (last.factors ∙ ap (λ f. moved f last.own) free);
     }
 
-    last-twiddled : o.factors ≡ entries (twiddles r s root) (packed c r s) → (z : PlainPass) (q : Pass) → IsLast [] 0 same (right_path p v r) s o z q → IsSame [] 0 same (multiplied [] r s root z) q
+    last-twiddled : o.factors ≡ entries (twiddles r s root) (packed c r s) → (z : PlainPass) (q : Pass) →
+        IsLast [] 0 same (right_path p v r) s o z q → IsSame [] 0 same (multiplied [] r s root z) q
     last-twiddled has z q last = record {
       begun = record { counts = last.begun.counts; work = last.begun.work; load = last.begun.load };
-      store = λ cs e counts fits. last.store cs e ∙ packed-natural c r s h cs (last.own cs e) ∙ sym (last.place cs e counts fits);
+      store = λ cs e counts fits. last.store cs e ∙ packed-natural c r s h cs (last.own cs e)
+          ∙ sym (last.place cs e counts fits);
       factors = (
         after (packed c r s) last.own,
         last.factors ∙ ap (λ f. moved f last.own) has,
@@ -110,9 +124,11 @@ module _ (c : Request) (r s root : ℕ) (h : AreShares c.size c.procs c.lanes r 
     pub free-nests : o.factors ≡ none → nests ps ≡ emitted qs
     free-nests free =
         same-passes [] 0 same (λ z. z) (IsLooped m c.size) nest ps qs all
-        (subst (λ zs. AreSame [] 0 same zs qs) (at_last-none ps) (last-same [] 0 same (right_path p v r) s o (λ z. z) (last-free free) ps qs matches))
+        (subst (λ zs. AreSame [] 0 same zs qs) (at_last-none ps)
+        (last-same [] 0 same (right_path p v r) s o (λ z. z) (last-free free) ps qs matches))
 
-    pub twiddled-nests : o.factors ≡ entries (twiddles r s root) (packed c r s) → nests (at_last (multiplied [] r s root) ps) ≡ emitted qs
+    pub twiddled-nests : o.factors ≡ entries (twiddles r s root) (packed c r s) →
+        nests (at_last (multiplied [] r s root) ps) ≡ emitted qs
     twiddled-nests has =
         same-passes [] 0 same (λ z. z) (IsLooped m c.size) nest (at_last (multiplied [] r s root) ps) qs
         (looped-last m c.size (multiplied [] r s root) (looped-multiplied m c.size r s root) ps all)
@@ -120,18 +136,32 @@ module _ (c : Request) (r s root : ℕ) (h : AreShares c.size c.procs c.lanes r 
 
   -- ---- tiles
 
-  before : nest_of (loop_of (tile_before p v r s)) ≡ emission.nest_of (emitted-tile c r s h (across c r s) none (along c r s))
+  before : nest_of (loop_of (tile_before p v r s))
+      ≡ emission.nest_of (emitted-tile c r s h (across c r s) none (along c r s))
   before =
-      tile-nest c r s h (vectors_grouped (s / v * v) p v r s ∷ []) [] (across c r s) (along c r s) (lead-across c r s h (s / v * v) refl) (lead-along c r s h) None none refl
+      tile-nest c r s h (vectors_grouped (s / v * v) p v r s ∷ []) [] (across c r s) (along c r s)
+      (lead-across c r s h (s / v * v) refl) (lead-along c r s h) None none refl
 
-  behind : nest_of (loop_of (tile_after p v r s)) ≡ emission.nest_of (emitted-tile c r s h (along c r s) none (across c r s))
+  behind : nest_of (loop_of (tile_after p v r s))
+      ≡ emission.nest_of (emitted-tile c r s h (along c r s) none (across c r s))
   behind =
-      tile-nest c r s h [] (vectors_grouped (v * (s / v)) p v r s ∷ []) (along c r s) (across c r s) (lead-along c r s h) (lead-across c r s h (v * (s / v)) (mul_comm v (s / v))) None none refl
+      tile-nest c r s h [] (vectors_grouped (v * (s / v)) p v r s ∷ []) (along c r s) (across c r s)
+      (lead-along c r s h) (lead-across c r s h (v * (s / v)) (mul_comm v (s / v))) None none refl
 
-  twiddled-behind : nest_of (loop_of (multiplied [] r s root (tile_after p v r s))) ≡ emission.nest_of (emitted-tile c r s h (along c r s) (entries (twiddles r s root) (across c r s)) (across c r s))
+  twiddled-behind : nest_of (loop_of (multiplied [] r s root (tile_after p v r s)))
+      ≡ emission.nest_of (emitted-tile c r s h (along c r s) (entries (twiddles r s root) (across c r s))
+      (across c r s))
   twiddled-behind =
-      tile-nest c r s h [] (vectors_grouped (v * (s / v)) p v r s ∷ []) (along c r s) (across c r s) (lead-along c r s h) (lead-across c r s h (v * (s / v)) (mul_comm v (s / v)))
-      (Some (record { path = []; rows = r; cols = s; root = root; places = vectors_grouped (v * (s / v)) p v r s ∷ [] })) (entries (twiddles r s root) (across c r s)) (root, refl, refl)
+      tile-nest c r s h [] (vectors_grouped (v * (s / v)) p v r s ∷ []) (along c r s) (across c r s)
+      (lead-along c r s h) (lead-across c r s h (v * (s / v)) (mul_comm v (s / v)))
+      (Some (record {
+        path = [];
+        rows = r;
+        cols = s;
+        root = root;
+        places = vectors_grouped (v * (s / v)) p v r s ∷ [];
+      })) (entries (twiddles r s root) (across c r s))
+      (root, refl, refl)
 
   -- ---- a ct
 
@@ -144,23 +174,30 @@ module _ (c : Request) (r s root : ℕ) (h : AreShares c.size c.procs c.lanes r 
   abbrev twiddled-tile : Pass
   twiddled-tile = emitted-tile c r s h (along c r s) (entries (twiddles r s root) (across c r s)) (across c r s)
 
-  ct-either : (one : Bool) → v == 1 ≡ one → nests (at_last (multiplied [] r s root) (turned ++ (if one then [] else tile_after p v r s ∷ []))) ≡ emitted (cts ++ (if one then [] else twiddled-tile ∷ []))
+  ct-either : (one : Bool) → v == 1 ≡ one →
+      nests (at_last (multiplied [] r s root) (turned ++ (if one then [] else tile_after p v r s ∷ [])))
+      ≡ emitted (cts ++ (if one then [] else twiddled-tile ∷ []))
   ct-either true e =
       ap (λ zs. nests (at_last (multiplied [] r s root) zs)) (append-nil turned)
-      ∙ twiddled-nests Ct (turned_waiting p v r s) (turned_around c r s h root) (ap (λ x. if x then entries (twiddles r s root) (packed c r s) else none) e)
+      ∙ twiddled-nests Ct (turned_waiting p v r s) (turned_around c r s h root)
+      (ap (λ x. if x then entries (twiddles r s root) (packed c r s) else none) e)
       ∙ ap emitted (sym (append-nil cts))
   ct-either false e =
       ap nests (at_last-append (multiplied [] r s root) turned (tile_after p v r s ∷ []) tt)
       ∙ nests-append turned (multiplied [] r s root (tile_after p v r s) ∷ [])
-      ∙ ap₂ (λ xs x. xs ++ (x ∷ []) ∷ []) (free-nests Ct (turned_waiting p v r s) (turned_around c r s h root) (ap (λ x. if x then entries (twiddles r s root) (packed c r s) else none) e)) twiddled-behind
+      ∙ ap₂ (λ xs x. xs ++ (x ∷ []) ∷ [])
+      (free-nests Ct (turned_waiting p v r s) (turned_around c r s h root)
+      (ap (λ x. if x then entries (twiddles r s root) (packed c r s) else none) e)) twiddled-behind
       ∙ sym (emitted-append cts (twiddled-tile ∷ []))
 
-  pub ct_right : nests (at_last (multiplied [] r s root) (turned ++ (if v == 1 then [] else tile_after p v r s ∷ []))) ≡ emitted (tiles_before Ct c r s ++ (cts ++ tiles_after Ct c r s root))
+  pub ct_right : nests (at_last (multiplied [] r s root) (turned ++ (if v == 1 then [] else tile_after p v r s ∷ [])))
+      ≡ emitted (tiles_before Ct c r s ++ (cts ++ tiles_after Ct c r s root))
   ct_right = ct-either (v == 1) refl
 
   -- ---- a split, or a dim
 
-  module _ (rule : Rule) (into : (cs : ℕ → ℕ) (e : Sum) → root_in rule c r s cs e ≡ packed c r s cs e) (free : (right_root rule c r s root).factors ≡ none) where
+  module _ (rule : Rule) (into : (cs : ℕ → ℕ) (e : Sum) → root_in rule c r s cs e ≡ packed c r s cs e)
+      (free : (right_root rule c r s root).factors ≡ none) where
     abbrev splits : List Pass
     splits = layout_emitted (right_root rule c r s root) b
 
@@ -176,15 +213,21 @@ module _ (c : Request) (r s root : ℕ) (h : AreShares c.size c.procs c.lanes r 
     middle : nests natural ≡ emitted splits
     middle = free-nests rule [] (packed_around c r s h rule root into) free
 
-    split-either : (one : Bool) → nests ((if one then [] else tile_before p v r s ∷ []) ++ (natural ++ (if one then [] else tile_after p v r s ∷ [])))
+    split-either : (one : Bool) →
+        nests ((if one then [] else tile_before p v r s ∷ []) ++
+        (natural ++ (if one then [] else tile_after p v r s ∷ [])))
         ≡ emitted ((if one then [] else first-tile ∷ []) ++ (splits ++ (if one then [] else last-tile ∷ [])))
     split-either true = ap nests (append-nil natural) ∙ middle ∙ ap emitted (sym (append-nil splits))
     split-either false =
         ap₂ (λ x xs. (x ∷ []) ∷ xs) before
-        (nests-append natural (tile_after p v r s ∷ []) ∙ ap₂ (λ xs x. xs ++ (x ∷ []) ∷ []) middle behind ∙ sym (emitted-append splits (last-tile ∷ [])))
+        (nests-append natural (tile_after p v r s ∷ []) ∙ ap₂ (λ xs x. xs ++ (x ∷ []) ∷ []) middle behind
+        ∙ sym (emitted-append splits (last-tile ∷ [])))
 
-    pub split_right : nests ((if v == 1 then [] else tile_before p v r s ∷ []) ++ (natural ++ (if v == 1 then [] else tile_after p v r s ∷ [])))
-        ≡ emitted (tiles c r s (across c r s) none (along c r s) ++ (splits ++ tiles c r s (along c r s) none (across c r s)))
+    pub split_right : nests
+        ((if v == 1 then [] else tile_before p v r s ∷ []) ++
+        (natural ++ (if v == 1 then [] else tile_after p v r s ∷ [])))
+        ≡ emitted (tiles c r s (across c r s) none
+        (along c r s) ++ (splits ++ tiles c r s (along c r s) none (across c r s)))
     split_right = split-either (v == 1)
 
 pub none-either : (b : Bool) → (if b then none else none) ≡ none

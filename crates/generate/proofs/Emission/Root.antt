@@ -77,11 +77,13 @@ module _ (c : Request) (r s : ℕ) (h : AreShares c.size c.procs c.lanes r s) wh
   right_whole : size_under three s ≡ c.size
   right_whole = let rows' : r * s ≡ p * (v * rows) * s = ap (λ k. k * s) h.rows in omega (arith, h.product, rows')
 
-  right-turned : (cs : ℕ → ℕ) (e : Sum) → AreCounts (right_path p v r) s 0 cs → Fits s e cs → root_in Ct c r s cs e ≡ all_simplified cs (turned_waiting p v r s) (place_sum (right_path p v r) s 0 e)
+  right-turned : (cs : ℕ → ℕ) (e : Sum) → AreCounts (right_path p v r) s 0 cs → Fits s e cs →
+      root_in Ct c r s cs e ≡ all_simplified cs (turned_waiting p v r s) (place_sum (right_path p v r) s 0 e)
   right-turned cs e counts fits =
       let named = subst (λ us. AreCopies three us cs) (sym (turns-are [] three)) (natural-copies three s 0 cs counts) in
       let copies : AreThree cs p v rows q l j = record { processor = named.0; lane = named.1.0; other = named.1.1.0 } in
-      let lead = turned-leads p v rows s c.size q l j e cs copies fits right_whole h.whole.high (lines_small c.size p v r s h) (vectors_small c.size p v r s h) in
+      let lead = turned-leads p v rows s c.size q l j e cs copies fits right_whole h.whole.high
+      (lines_small c.size p v r s h) (vectors_small c.size p v r s h) in
       ap (λ i. joined (scaled r e) (joined (scaled v i) l)) shared-is
       ∙ ap (λ n. joined (scaled n e) (joined (scaled v (joined (scaled rows q) j)) l)) h.rows
       ∙ sym (strided-is p v rows q j e l)
@@ -89,12 +91,16 @@ module _ (c : Request) (r s : ℕ) (h : AreShares c.size c.procs c.lanes r s) wh
       ∙ ap (all_simplified cs (turned_waiting p v r s)) (sym (natural-turns three s e))
 
   -- the site of a ct's right part
-  pub turned_around : (root : ℕ) → IsAround [] 0 same (right_path p v r) (turned_waiting p v r s) s (right_root Ct c r s root)
+  pub turned_around : (root : ℕ) →
+      IsAround [] 0 same (right_path p v r) (turned_waiting p v r s) s (right_root Ct c r s root)
   turned_around root = record { counts = right-counts; load = right-turned; keep = packed-natural }
 
   -- and of a split's
-  pub packed_around : (rule : Rule) (root : ℕ) → ((cs : ℕ → ℕ) (e : Sum) → root_in rule c r s cs e ≡ packed c r s cs e) → IsAround [] 0 same (right_path p v r) [] s (right_root rule c r s root)
-  packed_around rule root is = record { counts = right-counts; load = λ cs e counts fits. is cs e ∙ packed-natural cs e; keep = packed-natural }
+  pub packed_around : (rule : Rule) (root : ℕ) →
+      ((cs : ℕ → ℕ) (e : Sum) → root_in rule c r s cs e ≡ packed c r s cs e) →
+      IsAround [] 0 same (right_path p v r) [] s (right_root rule c r s root)
+  packed_around rule root is =
+      record { counts = right-counts; load = λ cs e counts fits. is cs e ∙ packed-natural cs e; keep = packed-natural }
 
   -- ---- the left part: its own places, in each turn of the processors, the lanes and the loop
 
@@ -107,5 +113,12 @@ module _ (c : Request) (r s : ℕ) (h : AreShares c.size c.procs c.lanes r s) wh
   left-counts : inside (lane_loops c) (s / v / p) ≡ map count_of (left_path p v s)
   left-counts = ap (inside (lane_loops c)) columns-each ∙ insides-are [] (Blocks p ∷ Columns v ∷ Columns columns ∷ [])
 
-  pub left_around : (factors : Factors) → IsAround (map count_of (left_path p v s)) (0 + length (left_path p v s)) (strided c s) [] [] r (left_root c s factors)
-  left_around factors = record { counts = left-counts ∙ sym (append-nil (map count_of (left_path p v s))); load = λ cs e counts fits. refl; keep = λ cs e. refl }
+  pub left_around : (factors : Factors) →
+      IsAround (map count_of (left_path p v s)) (0 + length (left_path p v s)) (strided c s) [] [] r
+      (left_root c s factors)
+  left_around factors =
+      record {
+        counts = left-counts ∙ sym (append-nil (map count_of (left_path p v s)));
+        load = λ cs e counts fits. refl;
+        keep = λ cs e. refl;
+      }

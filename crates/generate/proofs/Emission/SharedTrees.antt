@@ -58,10 +58,13 @@ maps-passes g (p ∷ ps) = ap (λ zs. one_nest (loop_of (g p)) ∷ zs) (maps-pas
 
 -- ---- the left part
 
-module _ (c : Request) (r s : ℕ) (h : AreShares c.size c.procs c.lanes r s) (a : Layout) (good : IsGoodLayout c.modulus a) (is : layout_size a ≡ r) where
-  parts : (ps : List PlainPass) → ArePlaced r [] r ps → AreShaped (IsShapedWork c.modulus) r ps → AreShaped IsNodeWork r ps → AllPasses (IsPart c r s h c.modulus) ps
+module _ (c : Request) (r s : ℕ) (h : AreShares c.size c.procs c.lanes r s) (a : Layout)
+    (good : IsGoodLayout c.modulus a) (is : layout_size a ≡ r) where
+  parts : (ps : List PlainPass) → ArePlaced r [] r ps → AreShaped (IsShapedWork c.modulus) r ps →
+      AreShaped IsNodeWork r ps → AllPasses (IsPart c r s h c.modulus) ps
   parts [] placed shapes works = tt
-  parts (z ∷ zs) placed shapes works = (record { placed = placed.0; shape = shapes.0; node = works.0.work }, parts zs placed.1 shapes.1 works.1)
+  parts (z ∷ zs) placed shapes works =
+      (record { placed = placed.0; shape = shapes.0; node = works.0.work }, parts zs placed.1 shapes.1 works.1)
 
   abbrev alone : List PlainPass
   alone = layout_passes [] [] a
@@ -99,11 +102,17 @@ module _ (c : Request) (r s : ℕ) (h : AreShares c.size c.procs c.lanes r s) (a
   left-closed : (o : Option ℕ) → closing o (nests lefts) ≡ emitted (qs (closing_factors o))
   left-closed None =
       maps-passes (left_pass c.procs c.lanes r s) alone
-      ∙ free-passes outer d (strided c s) (left_pass c.procs c.lanes r s) (IsPart c r s h c.modulus) (λ z q part is. left_nest c r s h c.modulus z part q is) r (left_root c s none) (λ cs e. refl) alone (qs none) refl all (matches none)
+      ∙ free-passes outer d (strided c s) (left_pass c.procs c.lanes r s) (IsPart c r s h c.modulus)
+      (λ z q part is. left_nest c r s h c.modulus z part q is) r (left_root c s none) (λ cs e. refl) alone
+      (qs none) refl all (matches none)
   left-closed (Some v) =
       ap (closing (Some v)) (maps-passes (left_pass c.procs c.lanes r s) alone)
-      ∙ factors-passes outer d (strided c s) (left_pass c.procs c.lanes r s) (IsPart c r s h c.modulus) (λ z q part is. left_nest c r s h c.modulus z part q is) r (left_root c s (closing_factors (Some v))) (λ cs e. refl)
-      (repeated v 1) (λ counts k. constant 0) firsts refl (λ cs stored own es step. maps-twice (λ _. constant 0) stored es) alone (qs (closing_factors (Some v))) all (matches (closing_factors (Some v)))
+      ∙ factors-passes outer d (strided c s) (left_pass c.procs c.lanes r s) (IsPart c r s h c.modulus)
+      (λ z q part is. left_nest c r s h c.modulus z part q is) r (left_root c s (closing_factors (Some v)))
+      (λ cs e. refl)
+      (repeated v 1) (λ counts k. constant 0) firsts refl
+      (λ cs stored own es step. maps-twice (λ _. constant 0) stored es) alone (qs (closing_factors (Some v))) all
+      (matches (closing_factors (Some v)))
 
 -- ---- lists of which the last is changed
 
@@ -115,7 +124,8 @@ some-behind : (zs ys : List (List PlainNest)) → IsSome ys → IsSome (zs ++ ys
 some-behind [] ys h = h
 some-behind (z ∷ zs) ys h = tt
 
-last-behind : (f : List PlainNest → List PlainNest) (zs ys : List (List PlainNest)) → IsSome ys → on_last f (zs ++ ys) ≡ zs ++ on_last f ys
+last-behind : (f : List PlainNest → List PlainNest) (zs ys : List (List PlainNest)) → IsSome ys →
+    on_last f (zs ++ ys) ≡ zs ++ on_last f ys
 last-behind f [] ys h = refl
 last-behind f (z ∷ []) [] h = absurd h
 last-behind f (z ∷ []) (y ∷ ys) h = refl
@@ -138,17 +148,20 @@ some-map g (p ∷ ps) h = tt
 abbrev phases-of : Bool → List (List PlainNest) → List (List PlainNest) → List (List (List PlainNest))
 phases-of one right left = if one then (right ++ left) ∷ [] else right ∷ left ∷ []
 
-closed-parts : (one : Bool) (o : Option ℕ) (right left : List (List PlainNest)) → IsSome left → closed-phases o (phases-of one right left) ≡ phases-of one right (closing o left)
+closed-parts : (one : Bool) (o : Option ℕ) (right left : List (List PlainNest)) → IsSome left →
+    closed-phases o (phases-of one right left) ≡ phases-of one right (closing o left)
 closed-parts true None right left h = refl
 closed-parts false None right left h = refl
 closed-parts true (Some v) right left h = ap (λ z. z ∷ []) (closed-behind (Some v) right left h)
 closed-parts false (Some v) right left h = refl
 
-nests-phases : (one : Bool) (right left : List PlainPass) → map nests (if one then (right ++ left) ∷ [] else right ∷ left ∷ []) ≡ phases-of one (nests right) (nests left)
+nests-phases : (one : Bool) (right left : List PlainPass) →
+    map nests (if one then (right ++ left) ∷ [] else right ∷ left ∷ []) ≡ phases-of one (nests right) (nests left)
 nests-phases true right left = ap (λ z. z ∷ []) (nests-append right left)
 nests-phases false right left = refl
 
-emitted-phases : (one : Bool) (right left : List Pass) → map emitted (if one then (right ++ left) ∷ [] else right ∷ left ∷ []) ≡ phases-of one (emitted right) (emitted left)
+emitted-phases : (one : Bool) (right left : List Pass) →
+    map emitted (if one then (right ++ left) ∷ [] else right ∷ left ∷ []) ≡ phases-of one (emitted right) (emitted left)
 emitted-phases true right left = ap (λ z. z ∷ []) (emitted-append right left)
 emitted-phases false right left = refl
 
@@ -158,37 +171,51 @@ root_emitted c factors (work w) = []
 root_emitted c factors (by rule root a b) =
     let r = layout_size a in
     let s = layout_size b in
-    let first = tiles_before rule c r s ++ (layout_emitted (right_root rule c r s root) b ++ tiles_after rule c r s root) in
+    let first = tiles_before rule c r
+    s ++ (layout_emitted (right_root rule c r s root) b ++ tiles_after rule c r s root) in
     let second = layout_emitted (left_root c s factors) a in
     if c.procs == 1 then (first ++ second) ∷ [] else first ∷ second ∷ []
 
 module _ (c : Request) (o : Option ℕ) where
-  both : (rule : Rule) (root : ℕ) (a b : Layout) (right : List PlainPass) (first : List Pass) → AreShares c.size c.procs c.lanes (layout_size a) (layout_size b) → IsGoodLayout c.modulus a → nests right ≡ emitted first →
+  both : (rule : Rule) (root : ℕ) (a b : Layout) (right : List PlainPass) (first : List Pass) →
+      AreShares c.size c.procs c.lanes (layout_size a) (layout_size b) → IsGoodLayout c.modulus a →
+      nests right ≡ emitted first →
       closed-phases o (map nests (pass_phases c.procs right (left_passes c.procs c.lanes (layout_size b) a)))
-      ≡ map emitted (if c.procs == 1 then (first ++ layout_emitted (left_root c (layout_size b) (closing_factors o)) a) ∷ [] else first ∷ layout_emitted (left_root c (layout_size b) (closing_factors o)) a ∷ [])
+      ≡ map emitted (if c.procs == 1 then
+      (first ++ layout_emitted (left_root c (layout_size b) (closing_factors o)) a) ∷ [] else first ∷ layout_emitted
+      (left_root c (layout_size b) (closing_factors o)) a ∷ [])
   both rule root a b right first dealt good is =
       let r = layout_size a in
       let s = layout_size b in
       let left = left_passes c.procs c.lanes s a in
       let one = c.procs == 1 in
       ap (closed-phases o) (nests-phases one right left)
-      ∙ closed-parts one o (nests right) (nests left) (some-nests left (some-map (left_pass c.procs c.lanes r s) (layout_passes [] [] a) (full_passes [] [] a)))
+      ∙ closed-parts one o (nests right) (nests left)
+      (some-nests left (some-map (left_pass c.procs c.lanes r s) (layout_passes [] [] a) (full_passes [] [] a)))
       ∙ ap₂ (phases-of one) is (left-closed c r s dealt a good refl o)
       ∙ sym (emitted-phases one first (layout_emitted (left_root c s (closing_factors o)) a))
 
-  root-closed : (l : Layout) → CanShareLayout (target_of c) l → IsGoodLayout c.modulus l → is_alone (target_of c) ≡ false →
+  root-closed : (l : Layout) → CanShareLayout (target_of c) l → IsGoodLayout c.modulus l →
+      is_alone (target_of c) ≡ false →
       closed-phases o (map nests (root_passes (target_of c) l)) ≡ map emitted (root_emitted c (closing_factors o) l)
   root-closed (work w) can good shared = absurd (can.root shared)
   root-closed (by Gt root a b) can good shared = absurd (can.root shared)
   root-closed (by Ct root a b) can good shared =
-      let dealt = shares_of (target_of c) (by Ct root a b) (layout_size a) (layout_size b) can (can.root shared) good.0.left good.0.right can.size in
+      let dealt = shares_of (target_of c) (by Ct root a b) (layout_size a) (layout_size b) can
+      (can.root shared) good.0.left good.0.right can.size in
       both Ct root a b _ _ dealt good.1 (ct_right c (layout_size a) (layout_size b) root dealt b good.2 refl)
   root-closed (by Split root a b) can good shared =
-      let dealt = shares_of (target_of c) (by Split root a b) (layout_size a) (layout_size b) can (can.root shared) good.0.left good.0.right can.size in
-      both Split root a b _ _ dealt good.1 (split_right c (layout_size a) (layout_size b) root dealt b good.2 refl Split (λ cs e. refl) (none-either (c.lanes == 1)))
+      let dealt = shares_of (target_of c) (by Split root a b) (layout_size a) (layout_size b) can
+      (can.root shared) good.0.left good.0.right can.size in
+      both Split root a b _ _ dealt good.1
+      (split_right c (layout_size a) (layout_size b) root dealt b good.2 refl Split (λ cs e. refl)
+      (none-either (c.lanes == 1)))
   root-closed (by Dim root a b) can good shared =
-      let dealt = shares_of (target_of c) (by Dim root a b) (layout_size a) (layout_size b) can (can.root shared) good.0.left good.0.right can.size in
-      both Dim root a b _ _ dealt good.1 (split_right c (layout_size a) (layout_size b) root dealt b good.2 refl Dim (λ cs e. refl) (none-either (c.lanes == 1)))
+      let dealt = shares_of (target_of c) (by Dim root a b) (layout_size a) (layout_size b) can
+      (can.root shared) good.0.left good.0.right can.size in
+      both Dim root a b _ _ dealt good.1
+      (split_right c (layout_size a) (layout_size b) root dealt b good.2 refl Dim (λ cs e. refl)
+      (none-either (c.lanes == 1)))
 
 -- ---- trees
 
@@ -204,17 +231,23 @@ no-kernel z n is shared = by (nat_le n z.unroll)
     by false = refl
 
 -- the same passes, by the tree and by its layout
-emitted-tree : (z : Request) (factors : Factors) (t : Breakdown) → size_of t ≡ z.size → is_plain z ≡ false → map emitted (root_phases z factors t) ≡ map emitted (root_emitted z factors (layout_of z t))
-emitted-tree z factors (leaf n) is shared = ap (λ k. map emitted (root_emitted z factors (work (node_work z (leaf n))))) shared
+emitted-tree : (z : Request) (factors : Factors) (t : Breakdown) → size_of t ≡ z.size → is_plain z ≡ false →
+    map emitted (root_phases z factors t) ≡ map emitted (root_emitted z factors (layout_of z t))
+emitted-tree z factors (leaf n) is shared =
+    ap (λ k. map emitted (root_emitted z factors (work (node_work z (leaf n))))) shared
 emitted-tree z factors (node rule a b) is shared =
     let root = node_root z (size_of a * size_of b) in
     let la = layout_of (left_of rule z) a in
     let lb = layout_of (right_of rule z) b in
     let r : size_of a ≡ layout_size la = sym (layouts_have_size (left_of rule z) a) in
     let s : size_of b ≡ layout_size lb = sym (layouts_have_size (right_of rule z) b) in
-    ap₂ (λ ps qs. map emitted (phases ps qs)) (passes_of_layout (right_of rule z) (right_root rule z (size_of a) (size_of b) root) b) (passes_of_layout (left_of rule z) (left_root z (size_of b) factors) a)
+    ap₂ (λ ps qs. map emitted (phases ps qs))
+    (passes_of_layout (right_of rule z) (right_root rule z (size_of a) (size_of b) root) b)
+    (passes_of_layout (left_of rule z) (left_root z (size_of b) factors) a)
     ∙ ap₂ (λ x y. map emitted (by_sizes root la lb x y)) r s
-    ∙ ap (λ k. map emitted (root_emitted z factors (if k then work (node_work z (node rule a b)) else by rule root la lb))) (sym (no-kernel z (size_of a * size_of b) is shared))
+    ∙ ap (λ k. map emitted
+    (root_emitted z factors (if k then work (node_work z (node rule a b)) else by rule root la lb)))
+    (sym (no-kernel z (size_of a * size_of b) is shared))
   where
     phases : List Pass → List Pass → List (List Pass)
     phases ps qs =
@@ -225,7 +258,8 @@ emitted-tree z factors (node rule a b) is shared =
 
     by_sizes : ℕ → Layout → Layout → ℕ → ℕ → List (List Pass)
     by_sizes root la lb r s =
-        let first = tiles_before rule z r s ++ (layout_emitted (right_root rule z r s root) lb ++ tiles_after rule z r s root) in
+        let first = tiles_before rule z r
+        s ++ (layout_emitted (right_root rule z r s root) lb ++ tiles_after rule z r s root) in
         let second = layout_emitted (left_root z s factors) la in
         if z.procs == 1 then (first ++ second) ∷ [] else first ∷ second ∷ []
 
@@ -240,13 +274,15 @@ size-forward c Wht = refl
 size-forward c Idft = refl
 
 -- the machine of the request whose trees it has is its own
-root-inverted : (c : Request) (factors : Factors) (rule : Rule) (root : ℕ) (a b : Layout) → root_emitted (inverted c) factors (by rule root a b) ≡ root_emitted c factors (by rule root a b)
+root-inverted : (c : Request) (factors : Factors) (rule : Rule) (root : ℕ) (a b : Layout) →
+    root_emitted (inverted c) factors (by rule root a b) ≡ root_emitted c factors (by rule root a b)
 root-inverted c factors Gt root a b = refl
 root-inverted c factors Ct root a b = refl
 root-inverted c factors Split root a b = refl
 root-inverted c factors Dim root a b = refl
 
-root-forward : (c : Request) (factors : Factors) (l : Layout) (kind : Kind) → root_emitted (forward_by kind c) factors l ≡ root_emitted c factors l
+root-forward : (c : Request) (factors : Factors) (l : Layout) (kind : Kind) →
+    root_emitted (forward_by kind c) factors l ≡ root_emitted c factors l
 root-forward c factors l Dft = refl
 root-forward c factors l Wht = refl
 root-forward c factors (work w) Idft = refl
@@ -272,9 +308,12 @@ module _ (c : Request) (t : Breakdown) (valid : IsValid c) (tree : IsWholeTree c
   shared_emission =
       ap (program_of (target_of c))
       (closed_tree c t valid tree
-      ∙ ap (λ qs. phases-in c (closed-phases (factor_by c.kind c) (map nests qs))) (root_merged (target_of c) l can.shares can.good.layout shared)
+      ∙ ap (λ qs. phases-in c (closed-phases (factor_by c.kind c) (map nests qs)))
+      (root_merged (target_of c) l can.shares can.good.layout shared)
       ∙ ap (phases-in c)
       (root-closed c (factor_by c.kind c) l can.shares can.good.layout shared
       ∙ ap (map emitted) (sym (root-forward c factors l c.kind))
       ∙ sym (emitted-tree (forward_of c) factors t forward_size forward_shared))
-      ∙ ap (λ b. phases-in c (map emitted (if b then passes (forward_of c) (whole_site factors) t ∷ [] else root_phases (forward_of c) factors t))) (sym forward_shared))
+      ∙ ap (λ b. phases-in c
+      (map emitted (if b then passes (forward_of c) (whole_site factors) t ∷ [] else root_phases
+      (forward_of c) factors t))) (sym forward_shared))

@@ -31,7 +31,8 @@ summands-halved : (depth : ℕ) (fs : List Formula) → 0 < length fs → summan
 summands-halved zero fs some = summands-sum fs some
 summands-halved (suc depth) fs some = elim (cases_Bool (nat_le (length fs) 1)) [
   | inl few ↦
-      ap (λ b. summands (if b then sum_of fs else DirectSum (halved depth (take (length fs / 2) fs)) (halved depth (drop (length fs / 2) fs)))) few
+      ap (λ b. summands (if b then sum_of fs else DirectSum (halved depth (take (length fs / 2) fs))
+      (halved depth (drop (length fs / 2) fs)))) few
       ∙ summands-sum fs some
   | inr many ↦
       let two : 2 ≤ length fs = grind (arith, nat_tests) in
@@ -39,7 +40,8 @@ summands-halved (suc depth) fs some = elim (cases_Bool (nat_le (length fs) 1)) [
       let least : 1 ≤ length fs / 2 = omega (arith, two) in
       let front = length-take fs (length fs / 2) (omega (arith, half)) in
       let both = length-halves fs (length fs / 2) in
-      ap (λ b. summands (if b then sum_of fs else DirectSum (halved depth (take (length fs / 2) fs)) (halved depth (drop (length fs / 2) fs)))) many
+      ap (λ b. summands (if b then sum_of fs else DirectSum (halved depth (take (length fs / 2) fs))
+      (halved depth (drop (length fs / 2) fs)))) many
       ∙ ap₂ (λ xs ys. xs ++ ys) (summands-halved depth (take (length fs / 2) fs) (omega (arith, front, least)))
       (summands-halved depth (drop (length fs / 2) fs) (omega (arith, front, both, half, least)))
       ∙ sym (flat_map-append summands (take (length fs / 2) fs) (drop (length fs / 2) fs))
@@ -79,11 +81,13 @@ same-summands (Stride n r) = refl
 same-summands (Permutation k) = refl
 same-summands (GoodThomasIn r s) = refl
 same-summands (GoodThomasOut r s) = refl
-same-summands (Product a b) = ap₂ (λ fs gs. Product (sum_of fs) (sum_of gs) ∷ []) (whole a (same-summands a)) (whole b (same-summands b))
+same-summands (Product a b) =
+    ap₂ (λ fs gs. Product (sum_of fs) (sum_of gs) ∷ []) (whole a (same-summands a)) (whole b (same-summands b))
 same-summands (TensorLeft a k) = ap (λ fs. TensorLeft (sum_of fs) k ∷ []) (whole a (same-summands a))
 same-summands (TensorRight k a) = ap (λ fs. TensorRight k (sum_of fs) ∷ []) (whole a (same-summands a))
 same-summands (Pending a) = ap (λ fs. Pending (sum_of fs) ∷ []) (whole a (same-summands a))
-same-summands (DirectSum a b) = flat_map-append summands (balanced_summands a) (balanced_summands b) ∙ ap₂ (λ fs gs. fs ++ gs) (same-summands a) (same-summands b)
+same-summands (DirectSum a b) = flat_map-append summands (balanced_summands a) (balanced_summands b)
+    ∙ ap₂ (λ fs gs. fs ++ gs) (same-summands a) (same-summands b)
 
 pub balanced_alike : (f : Formula) → summands (balanced f) ≡ summands f
 balanced_alike f = whole f (same-summands f)
@@ -102,11 +106,14 @@ is-size e h = subst IsSize (sym e) h
 shapes-know : KnowsSums AreAlike
 shapes-know = record {
   same = λ f. record { size = refl; there = λ s. s; back = λ s. s };
-  chain = λ f g h r q. record { size = q.size ∙ r.size; there = λ s. q.there (r.there s); back = λ s. r.back (q.back s) };
+  chain = λ f g h r q. record
+      { size = q.size ∙ r.size; there = λ s. q.there (r.there s); back = λ s. r.back (q.back s) };
   grouped = λ a b c. record {
     size = sym (add_assoc (size_of a) (size_of b) (size_of c));
-    there = λ s. let some = shaped_size b s.0.1 in (s.0.0, (s.0.1, s.1, (omega arith, omega (arith, s.2))), (omega (arith, s.2), omega (arith, s.2)));
-    back = λ s. let some = shaped_size b s.1.0 in ((s.0, s.1.0, (omega arith, omega (arith, s.2))), s.1.1, (omega (arith, s.2), omega (arith, s.2)));
+    there = λ s. let some = shaped_size b s.0.1 in
+        (s.0.0, (s.0.1, s.1, (omega arith, omega (arith, s.2))), (omega (arith, s.2), omega (arith, s.2)));
+    back = λ s. let some = shaped_size b s.1.0 in
+        ((s.0, s.1.0, (omega arith, omega (arith, s.2))), s.1.1, (omega (arith, s.2), omega (arith, s.2)));
   };
   sum = λ a b c d r q.
       let size : size_of c + size_of d ≡ size_of a + size_of b = ap₂ (λ n k. n + k) r.size q.size in
@@ -122,10 +129,18 @@ shapes-know = record {
   };
   left = λ a c k r.
       let size : size_of c * k ≡ size_of a * k = ap (λ n. n * k) r.size in
-      record { size = size; there = λ s. (r.there s.0, s.1, is-size size s.2); back = λ s. (r.back s.0, s.1, is-size (sym size) s.2) };
+      record {
+        size = size;
+        there = λ s. (r.there s.0, s.1, is-size size s.2);
+        back = λ s. (r.back s.0, s.1, is-size (sym size) s.2);
+      };
   right = λ k a c r.
       let size : k * size_of c ≡ k * size_of a = ap (λ n. k * n) r.size in
-      record { size = size; there = λ s. (s.0, r.there s.1, is-size size s.2); back = λ s. (s.0, r.back s.1, is-size (sym size) s.2) };
+      record {
+        size = size;
+        there = λ s. (s.0, r.there s.1, is-size size s.2);
+        back = λ s. (s.0, r.back s.1, is-size (sym size) s.2);
+      };
   pending = λ a c r. record { size = r.size; there = r.there; back = r.back };
 }
 
