@@ -218,6 +218,6 @@ module _ (c : Request) (r s : ℕ) (h : AreShares c.size c.procs c.lanes r s) wh
     }
 
     pub left_nest : (q' : Pass) → IsSame outer d (strided c s) z q' →
-        nest_of (loop_of (left_pass p v r s z)) ≡ emission.nest_of q'
+        nest_of (loop_of (left_pass p v r s z)) ≡ emission.emitted_nest q'
     left_nest q' is = same-nest m size (left_pass p v r s z) q'
         (let low = h.whole.low in omega (arith, low)) left_looped (left_same q' is)

@@ -29,7 +29,7 @@ nests_as g ps = map (λ p. one_nest (loop_of (g p))) ps
 
 module _ (outer : List ℕ) (d : ℕ) (whole : PlaceFunction) (g : PlainPass → PlainPass) (Good : PlainPass → Type 0)
     (nest : (p : PlainPass) (q : Pass) → Good p → IsSame outer d whole p q →
-    nest_of (loop_of (g p)) ≡ emission.nest_of q) where
+    nest_of (loop_of (g p)) ≡ emission.emitted_nest q) where
   pub same-passes : (ps : List PlainPass) (qs : List Pass) → AllPasses Good ps → AreSame outer d whole ps qs →
       nests_as g ps ≡ emitted qs
   same-passes [] [] good h = refl
@@ -51,10 +51,10 @@ module _ (outer : List ℕ) (d : ℕ) (whole : PlaceFunction) (g : PlainPass →
     -- ---- with no factors
 
     free-nest : (p : PlainPass) (q : Pass) → o.factors ≡ none → Good p → IsLast outer d whole [] n o p q →
-        nest_of (loop_of (g p)) ≡ emission.nest_of q
+        nest_of (loop_of (g p)) ≡ emission.emitted_nest q
     free-nest p q free good last =
         nest p (freed q) good (whole-last p q last)
-        ∙ ap (λ f. emission.nest_of
+        ∙ ap (λ f. emission.emitted_nest
         (record { counts = q.counts; work = q.work; load = q.load; factors = f; store = q.store }))
         (sym (last.factors ∙ ap (λ f. moved f last.own) free))
 
@@ -78,7 +78,7 @@ module _ (outer : List ℕ) (d : ℕ) (whole : PlaceFunction) (g : PlainPass →
         (at : (cs : ℕ → ℕ) (stored own : Sum → Sum) (es : List Sum) → ((e : Sum) → stored e ≡ o.store cs (own e)) →
         f (map stored es) ≡ map (λ e. place cs (own e)) es) where
       factors-nest : (p : PlainPass) (q : Pass) → Good p → IsLast outer d whole [] n o p q →
-          multiplying ds f (nest_of (loop_of (g p))) ≡ emission.nest_of q
+          multiplying ds f (nest_of (loop_of (g p))) ≡ emission.emitted_nest q
       factors-nest p q good last =
           ap (multiplying ds f) (nest p (freed q) good (whole-last p q last))
           ∙ multiplied-nest ds (after place last.own) f q (last.factors ∙ ap (λ x. moved x last.own) is)

@@ -128,20 +128,20 @@ module _ (m size : ℕ) (p : PlainPass) (q : Pass) (low : 0 < size) (shape : IsL
       ∙ ap (map g) (items-out p.work depth shape.node ∙ ap (emission.each p.work) (sym (length-map p.path count_of)))
 
   multipliers : (x : Option PlainDiagonal) → HasDiagonal [] 0 same p q x →
-      multiplier_of (loop_of p) (option_map taken_of x) ≡ emission.multiplier_of (put q loops p.work) q.factors
-  multipliers None h = ap (emission.multiplier_of (put q loops p.work)) (sym h)
+      multiplier_of (loop_of p) (option_map taken_of x) ≡ emission.emitted_multiplier (put q loops p.work) q.factors
+  multipliers None h = ap (emission.emitted_multiplier (put q loops p.work)) (sym h)
   multipliers (Some x) h =
       let place = h.0 in
       let fs = x.places ++ inner_of x.path (x.rows * x.cols) ∷ [] in
       ap (λ es. Some (record { factors = twiddles x.rows x.cols x.root; places = es }))
       (out fs (place cs) (λ e fits. h.2 cs e counts fits
       ∙ sym (all_simplified-append cs x.places (inner_of x.path (x.rows * x.cols)) (place_sum p.path n 0 e))))
-      ∙ ap (emission.multiplier_of (put q loops p.work)) (sym h.1)
+      ∙ ap (emission.emitted_multiplier (put q loops p.work)) (sym h.1)
 
-  with-loops : IsBegun [] 0 same p q → emission.nest_of (put q loops p.work) ≡ emission.nest_of q
-  with-loops begun = ap₂ (λ ls w. emission.nest_of (put q ls w)) (sym begun.counts) (sym begun.work)
+  with-loops : IsBegun [] 0 same p q → emission.emitted_nest (put q loops p.work) ≡ emission.emitted_nest q
+  with-loops begun = ap₂ (λ ls w. emission.emitted_nest (put q ls w)) (sym begun.counts) (sym begun.work)
 
-  pub same-nest : IsSame [] 0 same p q → nest_of (loop_of p) ≡ emission.nest_of q
+  pub same-nest : IsSame [] 0 same p q → nest_of (loop_of p) ≡ emission.emitted_nest q
   same-nest h =
       let first = loads h.begun in
       let second = multipliers p.diagonal h.factors in
@@ -157,7 +157,7 @@ module _ (m size : ℕ) (p : PlainPass) (q : Pass) (low : 0 < size) (shape : IsL
         counts = loops;
         work = p.work;
         gathers = map (q.load cs) (emission.each p.work (length loops + 1));
-        multiplier = emission.multiplier_of (put q loops p.work) q.factors;
+        multiplier = emission.emitted_multiplier (put q loops p.work) q.factors;
         scatters = ss;
       }) third
       ∙ with-loops h.begun
@@ -181,7 +181,7 @@ multiplying ds f z =
 pub multiplied-nest : (ds : PlainFactors) (place : PlaceFunction) (f : List Sum → List Sum) (q : Pass) →
     q.factors ≡ entries ds place →
     ((cs : ℕ → ℕ) (es : List Sum) → f (map (q.store cs) es) ≡ map (place cs) es) →
-    multiplying ds f (emission.nest_of (freed q)) ≡ emission.nest_of q
+    multiplying ds f (emission.emitted_nest (freed q)) ≡ emission.emitted_nest q
 multiplied-nest ds place f q is at =
     let cs = emission.limits q in
     let es = emission.each q.work (length q.counts) in
@@ -196,7 +196,7 @@ multiplied-nest ds place f q is at =
       counts = q.counts;
       work = q.work;
       gathers = map (q.load cs) (emission.each q.work (length q.counts + 1));
-      multiplier = emission.multiplier_of q g;
+      multiplier = emission.emitted_multiplier q g;
       scatters = map (q.store cs) es;
     }) (sym is)
 
@@ -206,4 +206,4 @@ abbrev pub nests : List PlainPass → List (List PlainNest)
 nests ps = map (λ p. one_nest (loop_of p)) ps
 
 abbrev pub emitted : List Pass → List (List PlainNest)
-emitted qs = map (λ q. emission.nest_of q ∷ []) qs
+emitted qs = map (λ q. emission.emitted_nest q ∷ []) qs

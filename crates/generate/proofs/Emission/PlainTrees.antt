@@ -84,7 +84,7 @@ module _ (c : Request) (t : Breakdown) (valid : IsValid c) (h : IsWholeTree c t)
 
   -- a pass that is the same is the same nest
   nest : (p : PlainPass) (q : Pass) → IsLooped c.modulus (layout_size l) p → IsSame [] 0 same p q →
-      nest_of (loop_of p) ≡ emissions.nest_of q
+      nest_of (loop_of p) ≡ emissions.emitted_nest q
   nest p q looped is = same-nest c.modulus (layout_size l) p q some looped is
 
   -- the nests of the layout's passes, in one phase
@@ -158,4 +158,4 @@ conv_emissions r t ls request valid h =
     (with-own r t valid h plain ds ∙ ap (λ z. emitted (passes z o t)) forward)
     (with-none back t valid' h' plain)
     ∙ ap (λ zs. phases-in r (zs ∷ []))
-    (sym (map-append (λ q. emissions.nest_of q ∷ []) (passes r o t) (passes back (whole_site none) t))))
+    (sym (map-append (λ q. emissions.emitted_nest q ∷ []) (passes r o t) (passes back (whole_site none) t))))

@@ -37,7 +37,7 @@ pub nests-append : (ps qs : List PlainPass) → nests (ps ++ qs) ≡ nests ps ++
 nests-append ps qs = map-append (λ p. one_nest (loop_of p)) ps qs
 
 pub emitted-append : (ps qs : List Pass) → emitted (ps ++ qs) ≡ emitted ps ++ emitted qs
-emitted-append ps qs = map-append (λ q. emission.nest_of q ∷ []) ps qs
+emitted-append ps qs = map-append (λ q. emission.emitted_nest q ∷ []) ps qs
 
 looped-last : (m size : ℕ) (f : PlainPass → PlainPass) →
     ((p : PlainPass) → IsLooped m size p → IsLooped m size (f p)) → (ps : List PlainPass) →
@@ -93,7 +93,7 @@ module _ (c : Request) (r s root : ℕ) (h : AreShares c.size c.procs c.lanes r 
         (node_works m b good) fills)
 
     nest : (z : PlainPass) (q : Pass) → IsLooped m c.size z → IsSame [] 0 same z q →
-        nest_of (loop_of z) ≡ emission.nest_of q
+        nest_of (loop_of z) ≡ emission.emitted_nest q
     nest z q looped equal = same-nest m c.size z q low looped equal
 
     -- the last pass stores at natural places
@@ -137,19 +137,19 @@ module _ (c : Request) (r s root : ℕ) (h : AreShares c.size c.procs c.lanes r 
   -- ---- tiles
 
   before : nest_of (loop_of (tile_before p v r s))
-      ≡ emission.nest_of (emitted-tile c r s h (across c r s) none (along c r s))
+      ≡ emission.emitted_nest (emitted-tile c r s h (across c r s) none (along c r s))
   before =
       tile-nest c r s h (vectors_grouped (s / v * v) p v r s ∷ []) [] (across c r s) (along c r s)
       (lead-across c r s h (s / v * v) refl) (lead-along c r s h) None none refl
 
   behind : nest_of (loop_of (tile_after p v r s))
-      ≡ emission.nest_of (emitted-tile c r s h (along c r s) none (across c r s))
+      ≡ emission.emitted_nest (emitted-tile c r s h (along c r s) none (across c r s))
   behind =
       tile-nest c r s h [] (vectors_grouped (v * (s / v)) p v r s ∷ []) (along c r s) (across c r s)
       (lead-along c r s h) (lead-across c r s h (v * (s / v)) (mul_comm v (s / v))) None none refl
 
   twiddled-behind : nest_of (loop_of (multiplied [] r s root (tile_after p v r s)))
-      ≡ emission.nest_of (emitted-tile c r s h (along c r s) (entries (twiddles r s root) (across c r s))
+      ≡ emission.emitted_nest (emitted-tile c r s h (along c r s) (entries (twiddles r s root) (across c r s))
       (across c r s))
   twiddled-behind =
       tile-nest c r s h [] (vectors_grouped (v * (s / v)) p v r s ∷ []) (along c r s) (across c r s)

@@ -222,19 +222,19 @@ module _ (c : Request) (r s : ℕ) (h : AreShares c.size c.procs c.lanes r s) wh
     ending fs f lead cs k low counts = all_simplified-append cs fs Same _ ∙ lead cs k low counts
 
     pub tile-nest : (x : Option PlainDiagonal) (factors : Factors) → AreTileFactors x factors afters store →
-        nest_of (loop_of (tile-pass befores x afters)) ≡ emission.nest_of (emitted-tile load factors store)
+        nest_of (loop_of (tile-pass befores x afters)) ≡ emission.emitted_nest (emitted-tile load factors store)
     tile-nest x factors is = by x is
-        ∙ ap (λ ls. emission.nest_of
+        ∙ ap (λ ls. emission.emitted_nest
         (record { counts = ls; work = tile v; load = load; factors = factors; store = store })) (sym tile-counts)
       where
         by : (x : Option PlainDiagonal) → AreTileFactors x factors afters store →
             nest_of (loop_of (tile-pass befores x afters))
-            ≡ emission.nest_of (record
+            ≡ emission.emitted_nest (record
             { counts = loops; work = tile v; load = load; factors = factors; store = store })
         by None is =
             ap₂ (λ gs ss. record { counts = loops; work = tile v; gathers = gs; multiplier = None; scatters = ss })
             (placed-by befores load into) (placed-by afters store out)
-            ∙ ap (λ f. emission.nest_of
+            ∙ ap (λ f. emission.emitted_nest
             (record { counts = loops; work = tile v; load = load; factors = f; store = store })) (sym is)
         by (Some x) is =
             ap (λ d. nest_of (loop_of (tile-pass befores (Some d) afters))) is.1
@@ -257,5 +257,5 @@ module _ (c : Request) (r s : ℕ) (h : AreShares c.size c.procs c.lanes r s) wh
               scatters = map (store cs) (map constant (range_with_len 0 v));
             })
             (placed-by (afters ++ Same ∷ []) store (ending afters store out))
-            ∙ ap (λ f. emission.nest_of
+            ∙ ap (λ f. emission.emitted_nest
             (record { counts = loops; work = tile v; load = load; factors = f; store = store })) (sym is.2)

@@ -31,17 +31,17 @@ each work d =
 abbrev pub limits : Pass → ℕ → ℕ
 limits p = slice_index (p.counts ++ work_size p.work ∷ work_size p.work ∷ [])
 
-abbrev pub multiplier_of : Pass → Factors → Option PlainMultiplier
-multiplier_of p none = None
-multiplier_of p (entries diagonal place) =
+abbrev pub emitted_multiplier : Pass → Factors → Option PlainMultiplier
+emitted_multiplier p none = None
+emitted_multiplier p (entries diagonal place) =
     Some (record { factors = diagonal; places = map (place (limits p)) (each p.work (length p.counts)) })
 
-abbrev pub nest_of : Pass → PlainNest
-nest_of p = record {
+abbrev pub emitted_nest : Pass → PlainNest
+emitted_nest p = record {
   counts = p.counts;
   work = p.work;
   gathers = map (p.load (limits p)) (each p.work (length p.counts + 1));
-  multiplier = multiplier_of p p.factors;
+  multiplier = emitted_multiplier p p.factors;
   scatters = map (p.store (limits p)) (each p.work (length p.counts));
 }
 
@@ -61,7 +61,7 @@ closing_factors (Some v) = entries (repeated v 1) (λ counts k. constant 0)
 
 abbrev pub program_in : Request → List (List Pass) → PlainProgram
 program_in c phases =
-    let nests = map (map (λ p. nest_of p ∷ [])) phases in
+    let nests = map (map (λ p. emitted_nest p ∷ [])) phases in
     let g : PlainMerged = record { size = c.size; procs = c.procs; lanes = c.lanes; phases = nests } in
     program_of (target_of c) g
 
