@@ -20,8 +20,8 @@ use Rattle.generate.specs.Factors.{factors_of}
 
 -- ---- a pass as loops round its loads, its work and its stores
 
--- Kernels and tiles name what they load and store one by one. A longer leaf has a loop over what it stores, and in it one
--- over what it loads
+-- Kernels and tiles name what they load and store one by one. A longer leaf has a loop over what it stores, and in it
+-- one over what it loads
 abbrev pub each : PlainWork → ℕ → List Sum
 each work d =
     if is_straight work then map constant (range_with_len 0 (vectors_of work))
@@ -68,8 +68,8 @@ program_in c phases =
 abbrev pub emission : Request → Breakdown → PlainProgram
 emission c t = program_in c (phases_of (forward_of c) (closing_factors (factor_by c.kind c)) t)
 
--- a convolution with h: the passes of the transform, of which the last one multiplies by the diagonal of h, and those of
--- the inverse
+-- a convolution with h: the passes of the transform, of which the last one multiplies by the diagonal of h, and those
+-- of the inverse
 abbrev pub conv_emission : Request → Breakdown → List ℕ → PlainProgram
 conv_emission c t h =
     let first = passes c (whole_site (entries (values (factors_of c h)) same)) t in
