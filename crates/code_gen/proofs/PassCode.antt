@@ -16,4 +16,4 @@ pub mod PassesEmit
 pub mod Within
 pub mod TestedSums
 pub mod TestedLists
-mod ReadyNests
+pub mod ReadyNests

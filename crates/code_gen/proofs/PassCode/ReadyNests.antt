@@ -24,7 +24,6 @@ use Rattle.code_gen.specs.PassCode.Conditions.{CanWriteNest, CanWritePass}
 
 -- ---- merging's test of a nest
 
-
 record IsTested (n : ℕ) (z : PlainNest) : Type 0 where
   pub loads : list_all (is_limited 64 n (limits_of z)) z.gathers ≡ true
   pub stores : list_all (is_limited 64 n (limits_of z)) z.scatters ≡ true
@@ -71,8 +70,7 @@ module _ (h : Target) (host : IsHost h) where
         multiplier = λ d is.
             let can = ready.multiplier d is in
             let some = can.some in
-            let most = can.few in
-            (
+            let most = can.few in (
               can.named,
               sums-written 64 (factor_count d.factors) (limits_of z) h z.work _ d.places (omega (arith, few, stores))
                   (omega arith) (omega (arith, most))
