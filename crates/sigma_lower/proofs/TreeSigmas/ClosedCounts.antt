@@ -1,5 +1,5 @@
 -- The passes of an inverse in the cost model are those of the forward request, with products more in the last.
-use Rattle.std.proofs.Common.{◌≡◌, ℕ, ◌+◌, ◌*◌, true, false, List, [], ◌∷◌, refl, sym, ap, ◌∙◌, arith, subst}
+use Rattle.std.proofs.Common.{◌≡◌, ℕ, ◌+◌, ◌*◌, true, false, List, [], ◌∷◌, Option, None, Some, refl, sym, ap, ◌∙◌, arith, subst}
 use Rattle.std.specs.Prelude.{map}
 use Rattle.std.proofs.lemmas.Simd.{map-map}
 use Rattle.matrix_meaning.specs.declared.Dimensions.TheVariants.{One}
@@ -9,7 +9,7 @@ use Rattle.matrix_meaning.specs.declared.Request.{Request}
 use Rattle.matrix_meaning.specs.Parts.{forward_by, forward_of, inverted}
 use Rattle.matrix_meaning.specs.Valid.{IsValid}
 use Rattle.matrix_meaning.proofs.Parts.{is_of_one_size}
-use Rattle.loop_merge.specs.MultipliedPasses.Laws.{more_last}
+use Rattle.sigma_spl.specs.Lists.{on_last}
 use Rattle.smp_rewrite.specs.LayoutSteps.Whole.{factor_by}
 use Rattle.tree_model.specs.declared.tree.Rule.TheVariants.{Gt, Ct, Split, Dim}
 use Rattle.tree_model.specs.Breakdown.{Breakdown, leaf, node}
@@ -21,9 +21,17 @@ use Rattle.tree_model.specs.WholePasses.{closed_by, cost_of_pass, flat_passes, l
 use Rattle.tree_model.proofs.PassLaws.{IsPlainAtEnd, IsPlainPass}
 use Rattle.tree_model.proofs.WholeCosts.{whole_plain}
 use Rattle.tree_model.proofs.WholeTraffic.{IsFlat}
-use Rattle.generate.specs.TreePasses.Closed.{more_by}
 
 -- ---- a diagonal more in the last pass
+
+-- the last number grown by so many
+abbrev pub more_last : ℕ → List ℕ → List ℕ
+more_last more cs = on_last (λ c. c + more) cs
+
+-- and by what the products of n words with a factor cost
+abbrev pub more_by : ℕ → ℕ → Option ℕ → List ℕ → List ℕ
+more_by weight n None cs = cs
+more_by weight n (Some v) cs = more_last (weight * n) cs
 
 module _ (p : Request) (n : ℕ) where
   closed-cost : (pass : Pass) → IsPlainPass pass →

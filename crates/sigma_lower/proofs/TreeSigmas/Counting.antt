@@ -1,14 +1,12 @@
--- The merged passes of a layout have the operations and loads that it counts.
+-- The loops of a layout have the operations and loads that it counts.
 use Rattle.std.proofs.Common.{◌≡◌, ℕ, ◌+◌, ◌*◌, Bool, true, false, List, [], ◌∷◌, map, refl, sym, ap, ap₂, ◌∙◌, arith, Option, Some, None, if◌then◌else◌}
 use Rattle.std.specs.Option.{option_map}
-use Rattle.sigma_lower.specs.Merged.{layout_merged}
 use Rattle.index_fn.specs.Mapping.{Mapping}
 use Rattle.sigma_lower.specs.TreeLoops.Laws.{Counted, counted, counted_as, counted_cost, counted_loads, has_diagonal, whole_passes}
 use Rattle.sigma_lower.specs.TreeLoops.Merge.{PlainDiagonal, PlainPass, merged_of}
 use Rattle.sigma_lower.specs.TreeLoops.Nests.{loop_of, taken_of}
 use Rattle.sigma_lower.proofs.TreeLoops.Counts.{merge_counts}
 use Rattle.sigma_spl.specs.Shared.Costs.{pass_cost, pass_loads, work_cost}
-use Rattle.sigma_spl.specs.Shared.Owners.{all_passes}
 use Rattle.sigma_spl.specs.Counts.{copies_in, multiplier_cost}
 use Rattle.sigma_spl.specs.Loops.{PlainLoop, multiplier_of, one_nest}
 use Rattle.sigma_spl.specs.Nest.{PlainNest}
@@ -17,12 +15,10 @@ use Rattle.smp_rewrite.specs.LayoutSteps.Layout.{Layout}
 use Rattle.operators.specs.declared.target.Target.{Target}
 use Rattle.operators.specs.TensorPaths.Path.{Path, copies_of, count_of}
 use Rattle.operators.proofs.TensorPaths.Under.{size_under-copies}
-use Rattle.generate.proofs.TreePasses.Bounds.{copies-are}
-use Rattle.generate.proofs.TreePasses.Hosted.{IsHosted}
-use Rattle.generate.proofs.TreePasses.Known.{AllKnown, layout-known}
-use Rattle.generate.proofs.TreePasses.LayoutPrograms.{layout-passes}
-use Rattle.generate.proofs.TreePasses.Owned.{nests_in}
-use Rattle.generate.proofs.TreePasses.Writes.{IsKnown}
+use Rattle.sigma_lower.proofs.TreeSigmas.Bounds.{copies-are}
+use Rattle.sigma_lower.proofs.TreeSigmas.Hosted.{IsHosted}
+use Rattle.sigma_lower.proofs.TreeSigmas.Known.{AllKnown, IsKnown, layout-known}
+use Rattle.sigma_lower.proofs.TreeSigmas.Owned.{pass_nests}
 
 -- a diagonal's products, for each item
 diagonal-cost : (weight : ℕ) (w : PlainWork) (o : Option PlainDiagonal) (l : PlainLoop) →
@@ -90,28 +86,26 @@ pass-counts weight c p known =
 
 -- pass by pass
 costs-are : (weight : ℕ) (c : Target) (ps : List PlainPass) → AllKnown c ps →
-    map (pass_cost weight c.modulus) (nests_in c ps) ≡ map (counted_cost weight c.modulus c.size) (map counted ps)
+    map (pass_cost weight c.modulus) (pass_nests c ps) ≡ map (counted_cost weight c.modulus c.size) (map counted ps)
 costs-are weight c [] known = refl
 costs-are weight c (p ∷ ps) known =
     ap₂ (λ x xs. x ∷ xs) (pass-counts weight c p known.0).operations (costs-are weight c ps known.1)
 
 loads-are : (c : Target) (ps : List PlainPass) → AllKnown c ps →
-    map pass_loads (nests_in c ps) ≡ map (counted_loads c.size) (map counted ps)
+    map pass_loads (pass_nests c ps) ≡ map (counted_loads c.size) (map counted ps)
 loads-are c [] known = refl
 loads-are c (p ∷ ps) known = ap₂ (λ x xs. x ∷ xs) (pass-counts 1 c p known.0).loads (loads-are c ps known.1)
 
 module _ (c : Target) (l : Layout) (is : IsHosted c l) where
   pub layout_costs : (weight : ℕ) →
-      map (pass_cost weight c.modulus) (all_passes (layout_merged c l).phases)
+      map (pass_cost weight c.modulus) (pass_nests c (merged_of c l))
       ≡ map (counted_cost weight c.modulus c.size) (whole_passes c.lanes l)
   layout_costs weight =
-      ap (map (pass_cost weight c.modulus)) (layout-passes c l is)
-      ∙ costs-are weight c (merged_of c l) (layout-known c l is)
+      costs-are weight c (merged_of c l) (layout-known c l is)
       ∙ ap (map (counted_cost weight c.modulus c.size)) (merge_counts c l is.machine is.shares is.good)
 
-  pub layout_loads : map pass_loads (all_passes (layout_merged c l).phases)
-      ≡ map (counted_loads c.size) (whole_passes c.lanes l)
+  pub layout_loads :
+      map pass_loads (pass_nests c (merged_of c l)) ≡ map (counted_loads c.size) (whole_passes c.lanes l)
   layout_loads =
-      ap (map pass_loads) (layout-passes c l is)
-      ∙ loads-are c (merged_of c l) (layout-known c l is)
+      loads-are c (merged_of c l) (layout-known c l is)
       ∙ ap (map (counted_loads c.size)) (merge_counts c l is.machine is.shares is.good)

@@ -7,7 +7,7 @@ use Rattle.sigma_lower.specs.TreeLoops.Nests.{loop_of}
 use Rattle.operators.specs.declared.target.Target.{Target}
 use Rattle.operators.proofs.Lists.{place_below}
 use Rattle.sigma_spl.specs.Shared.Machine.{framed_lanes, if_several, item_of, lane_step, values_of}
-use Rattle.code_gen.specs.PassActions.Laws as actions
+use Rattle.sigma_spl.specs.Shared.Running as running
 use Rattle.sigma_spl.specs.Loops.{nest_of}
 use Rattle.sigma_spl.specs.Work.{PlainWork, kernel, rows, horner, tile, copy, vectors_of, work_size}
 use Rattle.sigma_lower.specs.TreeLoops.SharedPasses.Shared.{framed, HasLanes, IsFramed, step_of}
@@ -62,7 +62,7 @@ counts-framed c (horner root size) loops = counts-lanes c.procs c.lanes loops
 counts-framed c (tile v) loops = counts-pick (c.procs == 1) (Blocks c.procs) loops
 counts-framed c (copy size) loops = counts-lanes c.procs c.lanes loops
 
-pub nest-framed : (c : Target) (p : PlainPass) → IsFramed c p → actions.IsFramed c (nest_of (loop_of p))
+pub nest-framed : (c : Target) (p : PlainPass) → IsFramed c p → running.IsFramed c (nest_of (loop_of p))
 nest-framed c p frame = record { loops = map count_of frame.loops; counts = ap (map count_of) frame.path ∙ counts-framed c p.work frame.loops }
 
 -- ---- the values of the variables

@@ -10,28 +10,37 @@ use Rattle.sigma_lower.proofs.Ordered.{trees_are_loops, trees_ordered}
 use Rattle.sigma_lower.proofs.SharedTrees.{shared_trees_merge, trees_embed}
 use Rattle.sigma_lower.specs.TreeLoops.Merge.{PlainPass, passes_of_terms, in_order, merged_of}
 use Rattle.sigma_lower.specs.TreeLoops.Nests.{loop_of}
-use Rattle.sigma_lower.proofs.TreeLoops.Closed.{AreClosedPasses}
+use Rattle.sigma_lower.proofs.TreeLoops.Closed.{AreClosedPasses, IsClosedPass}
 use Rattle.sigma_lower.proofs.TreeLoops.GoodPlaces.{HaveGoodPlaces}
 use Rattle.sigma_lower.proofs.TreeLoops.LoopLimits.{tree_loops}
 use Rattle.sigma_lower.proofs.TreeLoops.LoopNests.{loops_listed}
-use Rattle.sigma_lower.proofs.TreeLoops.PlaceValues.{AreFormedPasses}
-use Rattle.sigma_lower.proofs.TreeLoops.Shaped.{AreShaped, IsShapedWork}
+use Rattle.sigma_lower.proofs.TreeLoops.PlaceValues.{AreFormedPasses, IsFormedPass}
+use Rattle.sigma_lower.proofs.TreeLoops.Shaped.{AreShaped, IsShaped, IsShapedWork}
 use Rattle.sigma_lower.proofs.TreeLoops.TreePlaces.{good_places, tree_good_places}
 use Rattle.sigma_spl.specs.Shared.Owners.{IsHost}
+use Rattle.sigma_spl.specs.Shared.Ready.{IsSmallWork}
 use Rattle.sigma_spl.specs.Good.{AreGoodPasses, IsGoodPass}
-use Rattle.sigma_spl.specs.Loops.{PlainLoop, AreGoodLoops, AreLimitedLoops, IsGoodLoop, loops_in, one_nest}
+use Rattle.sigma_spl.specs.Loops.{PlainLoop, AreGoodLoops, AreLimitedLoops, IsGoodLoop, IsLimitedLoop, loops_in, one_nest}
 use Rattle.sigma_spl.specs.Merge.{most, unbounded}
 use Rattle.sigma_spl.proofs.GoodLoops.{loops_are_good}
-use Rattle.sigma_lower.specs.TreeLoops.SharedPasses.Shared.{AllFramed}
+use Rattle.sigma_lower.specs.TreeLoops.SharedPasses.Shared.{AllFramed, IsFramed}
 use Rattle.sigma_lower.proofs.TreeLoops.SharedPasses.Framed.{passes_are_framed}
 use Rattle.sigma_lower.specs.TreeTerms.Term.{PlainTerm, lowered_of}
 use Rattle.sigma_lower.proofs.TreeTerms.Both.{plain_terms}
 use Rattle.sigma_lower.proofs.TreeTerms.RootTerms.{shared_terms}
 use Rattle.smp_rewrite.specs.LayoutSteps.Layout.{Layout}
 use Rattle.operators.specs.declared.target.Target.{Target}
-use Rattle.generate.proofs.TreePasses.Hosted.{IsHosted}
-use Rattle.generate.proofs.TreePasses.Works.{IsSmallWork}
-use Rattle.generate.proofs.TreePasses.Writes.{IsKnown}
+use Rattle.sigma_lower.proofs.TreeSigmas.Hosted.{IsHosted}
+
+pub record IsKnown (c : Target) (p : PlainPass) : Type 0 where
+  pub framed : IsFramed c p
+  pub shaped : IsShaped (IsShapedWork c.modulus) c.size p
+  pub small : IsSmallWork p.work
+  pub limited : IsLimitedLoop 64 c.size (loop_of p)
+  pub formed : IsFormedPass p
+  pub closed : IsClosedPass c.size p
+  pub loop : IsGoodLoop c.lanes (loop_of p)
+  pub good : IsGoodPass c.lanes c.modulus c.size (one_nest (loop_of p))
 
 -- a loop whose nest is a good pass
 record IsGood (c : Target) (l : PlainLoop) : Type 0 where

@@ -24,7 +24,7 @@ use Rattle.sigma_spl.proofs.Listed.{loops_have_places}
 use Rattle.sigma_lower.specs.TreeLoops.SharedPasses.Shared.{IsFramed}
 use Rattle.operators.specs.TensorPaths.Path.{count_of, place, AreInRange}
 use Rattle.operators.proofs.TensorPaths.PathPlaces.{place-below}
-use Rattle.generate.proofs.TreePasses.Frames.{loop-values, loop-item, loop-step, range-of, named, values-named, IsShare, share-of, item-below}
+use Rattle.sigma_lower.proofs.TreeSigmas.Frames.{loop-values, loop-item, loop-step, range-of, named, values-named, IsShare, share-of, item-below}
 
 -- a nest's diagonal is that of its pass
 pub record IsTaken (p : PlainPass) (m : PlainMultiplier) : Type 0 where

@@ -1,7 +1,5 @@
--- The merged passes of a tree count what its passes do in the cost model.
+-- The loops of the layout of a tree count what the forward request's passes do in the cost model.
 use Rattle.std.proofs.Common.{◌≡◌, List, [], ◌∷◌, map, refl, sym, ap, ap₂, ◌∙◌}
-use Rattle.sigma_lower.specs.Merged.{layout_merged}
-use Rattle.sigma_lower.proofs.TreeLayouts.{trees_can_lower}
 use Rattle.sigma_lower.specs.TreeLoops.Laws.{Counted, counted_cost, counted_loads, whole_passes, AllCount, IsForwardTree}
 use Rattle.sigma_lower.proofs.TreeLoops.LayoutCounts.{layouts_count}
 use Rattle.matrix_meaning.specs.Parts.{forward_by, forward_of}
@@ -11,24 +9,18 @@ use Rattle.matrix_meaning.specs.declared.Kind.TheVariants.{Dft, Wht, Idft}
 use Rattle.matrix_meaning.specs.declared.Request.{Request}
 use Rattle.matrix_meaning.proofs.Requests.{forward_is_valid}
 use Rattle.sigma_spl.specs.Shared.Costs.{pass_cost, pass_loads}
-use Rattle.sigma_spl.specs.Shared.Owners.{all_passes}
-use Rattle.sigma_spl.specs.Merged.{PlainMerged}
 use Rattle.smp_rewrite.specs.LayoutSteps.Layout.{Layout, layout_of}
 use Rattle.sigma_spl.specs.Shared.Targets.{target_of}
-use Rattle.smp_rewrite.specs.LayoutSteps.Whole.{factor_by, whole_of}
 use Rattle.smp_rewrite.proofs.LayoutSteps.Wholes.{forward_fits}
 use Rattle.tree_model.specs.Breakdown.{Breakdown}
 use Rattle.tree_model.specs.Chosen.{IsWholeTree}
 use Rattle.tree_model.specs.WholePasses.{RequestPass, cost_of_pass, loads_of_pass, request_passes}
 use Rattle.tree_model.proofs.WholeTrees.{forward_size}
-use Rattle.generate.specs.TreePasses.Closed.{more_by}
-use Rattle.generate.specs.TreePasses.Counts.{TreesCount}
-use Rattle.generate.proofs.TreePasses.ClosedCounts.{closed_costs, closed_loads}
-use Rattle.generate.proofs.TreePasses.Closing.{whole_counts}
-use Rattle.generate.proofs.TreePasses.Counting.{layout_costs, layout_loads}
-use Rattle.generate.proofs.TreePasses.LayoutPrograms.{layout_can_program}
-use Rattle.generate.proofs.TreePasses.Small.{layout_small}
-use Rattle.generate.proofs.TreePasses.TreeHosted.{tree_hosted}
+use Rattle.sigma_lower.proofs.TreeSigmas.Counting.{layout_costs, layout_loads}
+use Rattle.sigma_lower.specs.TreeLoops.Merge.{merged_of}
+use Rattle.sigma_spl.specs.Nest.{PlainNest}
+use Rattle.sigma_lower.proofs.TreeSigmas.Owned.{pass_nests}
+use Rattle.sigma_lower.proofs.TreeSigmas.TreeHosted.{tree_hosted}
 
 -- ---- the forward request has the request's numbers
 
@@ -71,7 +63,7 @@ loads-are p [] (q ∷ qs) h = absurd h
 loads-are p (z ∷ zs) [] h = absurd h
 loads-are p (z ∷ zs) (q ∷ qs) h = ap₂ (λ x xs. x ∷ xs) h.0.loads (loads-are p zs qs h.1)
 
--- ---- the passes of the layout, and those of the whole
+-- ---- the loops of the layout
 
 module _ (c : Request) (t : Breakdown) (valid : IsValid c) (h : IsWholeTree c t) where
   abbrev p : Request
@@ -80,8 +72,8 @@ module _ (c : Request) (t : Breakdown) (valid : IsValid c) (h : IsWholeTree c t)
   abbrev l : Layout
   l = layout_of p t
 
-  abbrev g : PlainMerged
-  g = layout_merged (target_of c) l
+  abbrev nests : List (List PlainNest)
+  nests = pass_nests (target_of c) (merged_of (target_of c) l)
 
   forward : IsForwardTree p t
   forward = record {
@@ -94,31 +86,16 @@ module _ (c : Request) (t : Breakdown) (valid : IsValid c) (h : IsWholeTree c t)
   all : AllCount p (whole_passes p.lanes l) (request_passes p t)
   all = layouts_count p t forward
 
-  open-costs : map (pass_cost c.weight c.modulus) (all_passes g.phases) ≡ map (cost_of_pass c.size) (request_passes p t)
-  open-costs =
+  pub forward_costs : map (pass_cost c.weight c.modulus) nests ≡ map (cost_of_pass c.size) (request_passes p t)
+  forward_costs =
       layout_costs (target_of c) l (tree_hosted c t valid h) c.weight
       ∙ costs-same c p (numbers c.kind c) l
       ∙ costs-are p (whole_passes p.lanes l) (request_passes p t) all
       ∙ ap (λ n. map (cost_of_pass n) (request_passes p t)) (forward_size c)
 
-  open-loads : map pass_loads (all_passes g.phases) ≡ map (loads_of_pass c.size) (request_passes p t)
-  open-loads =
+  pub forward_loads : map pass_loads nests ≡ map (loads_of_pass c.size) (request_passes p t)
+  forward_loads =
       layout_loads (target_of c) l (tree_hosted c t valid h)
       ∙ loads-same c p (numbers c.kind c) l
       ∙ loads-are p (whole_passes p.lanes l) (request_passes p t) all
       ∙ ap (λ n. map (loads_of_pass n) (request_passes p t)) (forward_size c)
-
-pub trees_count : TreesCount
-trees_count c t valid h =
-    let target = target_of c in
-    let l = layout_of (forward_of c) t in
-    let is = tree_hosted c t valid h in
-    let counts = whole_counts target (whole_of c t) (trees_can_lower c t valid h) (layout_can_program target l is)
-    (layout_small target l is) in
-    record {
-      costs =
-          counts.costs c.weight
-          ∙ ap (more_by c.weight c.size (factor_by c.kind c)) (open-costs c t valid h)
-          ∙ sym (closed_costs c t valid h);
-      loads = counts.loads ∙ open-loads c t valid h ∙ sym (closed_loads c t valid h);
-    }

@@ -1,4 +1,4 @@
--- A program can be made of the layout of a request's tree.
+-- The layout of a request's tree can be hosted by the request's machine.
 use Rattle.std.proofs.Common.{◌≡◌, ℕ, ◌*◌, ◌≤◌, Bool, true, false, arith, refl, subst, sym, if◌then◌else◌}
 use Rattle.std.specs.Prelude.{nat_le}
 use Rattle.std.proofs.lemmas.Bool.Decides.{nat_tests}
@@ -25,8 +25,8 @@ use Rattle.tree_model.specs.Chosen.{IsWholeTree}
 use Rattle.tree_model.specs.Cost.{is_kernel, node_root}
 use Rattle.tree_model.specs.Trees.{trees_size}
 use Rattle.tree_model.specs.Whole.{left_of, right_of, rooted_of}
-use Rattle.generate.proofs.TreePasses.Hosted.{IsHosted}
-use Rattle.generate.proofs.TreePasses.Works.{IsSmallWork}
+use Rattle.sigma_lower.proofs.TreeSigmas.Hosted.{IsHosted}
+use Rattle.sigma_spl.specs.Shared.Ready.{IsSmallWork}
 
 -- ---- its works are small
 
@@ -68,7 +68,7 @@ small-works p (node rule a b) h =
 
 -- ---- on the request's machine
 
-is-host : (c : Request) → IsValid c → IsHost (target_of c)
+pub is-host : (c : Request) → IsValid c → IsHost (target_of c)
 is-host c valid =
     let range = valid.in_range in
     let large = range.modulus in
