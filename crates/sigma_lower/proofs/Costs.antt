@@ -5,7 +5,6 @@ use Rattle.std.specs.List.{sum}
 use Rattle.std.proofs.Math.Nat.{mul-div_right, zero-div}
 use Rattle.std.proofs.lemmas.List.Elements.{All-head, All-tail}
 use Rattle.smp_rewrite.specs.Fits.{CanShareLayout}
-use Rattle.smp_rewrite.specs.LayoutSteps.Layout.{Layout}
 use Rattle.sigma_spl.specs.Shared.Costs.{work_cost}
 use Rattle.operators.specs.declared.target.Target.{Target}
 use Rattle.sigma_spl.specs.Counts.{term_cost}
@@ -16,13 +15,13 @@ use Rattle.sigma_lower.specs.Merged.{closed_phases, phase_costs, sigma_of, whole
 use Rattle.sigma_lower.specs.Shared.{embed, phase_term}
 use Rattle.sigma_lower.proofs.SharedTrees.{all-left, all-right}
 use Rattle.sigma_lower.specs.TreeTerms.Good.{IsVecOf}
-use Rattle.sigma_lower.specs.TreeTerms.Term.{lowered_core, after_core, factor_term, lowered_of, terms_in}
-use Rattle.smp_rewrite.specs.Cut.{layout_smp, smp_of}
+use Rattle.sigma_lower.specs.TreeTerms.Term.{lowered_core, after_core, factor_term}
+use Rattle.smp_rewrite.specs.Cut.{smp_of}
 use Rattle.smp_rewrite.specs.Laws.{HasEqualParts, IsDiagonal, IsPermutation}
 use Rattle.smp_rewrite.specs.Smp.{by_phase, within}
 use Rattle.smp_rewrite.proofs.Tensors.{copies-within}
 use Rattle.smp_rewrite.proofs.TreeLaws.{smp_costs}
-use Rattle.smp_rewrite.specs.LayoutSteps.Whole.{Whole, only, closing_cost}
+use Rattle.smp_rewrite.specs.LayoutSteps.Whole.{Whole, closing_cost}
 use Rattle.smp_rewrite.specs.LayoutSteps.Meaning.{core_size}
 use Rattle.smp_rewrite.specs.LayoutSteps.Step.{PlainCore, piece, turns, twiddles, thomas_in, thomas_out, core_cost}
 use Rattle.operators.specs.declared.tensor_paths.Tensor.TheVariants.{Blocks, Columns}

@@ -1,8 +1,7 @@
 -- The closing diagonal of a term is taken into its last loop, each item of which then takes the first entry.
 use Rattle.std.proofs.Common.{◌≡◌, ℕ, zero, suc, ◌+◌, ◌*◌, ◌<◌, ◌≤◌, Bool, true, false, List, [], ◌∷◌, ◌++◌, length, refl, sym, ap, ◌∙◌, arith, subst, Some, None, if◌then◌else◌}
-use Rattle.std.specs.Prelude.{All, map, not, reverse, slice_index, slice_index_or, ◌==◌, ◌&&◌}
+use Rattle.std.specs.Prelude.{map, not, reverse, slice_index, slice_index_or, ◌==◌, ◌&&◌}
 use Rattle.std.proofs.lemmas.List.{length-map, reverse-append, reverse-reverse}
-use Rattle.operators.specs.Sizes.{max_size}
 use Rattle.operators.specs.declared.target.Target.{Target}
 use Rattle.operators.specs.declared.tensor_paths.Tensor.TheVariants.{Blocks}
 use Rattle.perm_algebra.specs.Affine.{Sum, constant, value}

@@ -1,5 +1,5 @@
 -- The last pass of a layout has no diagonal, and its work is no tile.
-use Rattle.std.proofs.Common.{◌≡◌, ℕ, ◌*◌, Bool, true, false, List, [], ◌∷◌, ◌++◌, map, refl, sym, ap, subst, Option, Some, None, if◌then◌else◌, nat_le}
+use Rattle.std.proofs.Common.{◌≡◌, ℕ, ◌*◌, Bool, true, false, List, [], ◌∷◌, ◌++◌, map, refl, sym, subst, Option, Some, None, if◌then◌else◌, nat_le}
 use Rattle.sigma_lower.specs.Machine.{IsMachine}
 use Rattle.sigma_lower.specs.TreeLoops.Laws.{Counted, works, tiles, counted, counted_as, has_diagonal, passes_of, tiled_passes, twiddle_by, whole_passes}
 use Rattle.sigma_lower.specs.TreeLoops.Merge.{PlainDiagonal, PlainPass, merged_of}

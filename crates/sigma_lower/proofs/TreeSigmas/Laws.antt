@@ -1,6 +1,6 @@
 -- The terms of each tree that a valid request admits are a tree's.
-use Rattle.std.proofs.Common.{◌≡◌, ◌≢◌, ℕ, ◌+◌, ◌*◌, ◌^◌, ◌<◌, ◌≤◌, ◌==◌, Bool, true, false, List, [], ◌∷◌, ◌++◌, length, suc, refl, sym, ap, ◌∙◌, arith, subst, Option, None, Some, if◌then◌else◌}
-use Rattle.std.specs.Prelude.{All, map, reverse}
+use Rattle.std.proofs.Common.{◌≡◌, ◌≢◌, ℕ, ◌*◌, ◌^◌, ◌<◌, ◌≤◌, ◌==◌, Bool, true, false, List, [], ◌∷◌, length, suc, refl, sym, ap, ◌∙◌, arith, subst, Option, None, Some, if◌then◌else◌}
+use Rattle.std.specs.Prelude.{All, map}
 use Rattle.std.proofs.lemmas.List.{length-map}
 use Rattle.std.proofs.lemmas.List.Elements.{All-nil, All-cons, All-weaker}
 use Rattle.matrix_meaning.specs.declared.Kind.{Kind}
@@ -15,7 +15,7 @@ use Rattle.sigma_spl.specs.Merge.{most}
 use Rattle.sigma_spl.specs.Nest.{PlainMultiplier, PlainNest}
 use Rattle.sigma_spl.specs.Shared.Costs.{pass_cost, pass_loads}
 use Rattle.sigma_spl.specs.Shared.Owners.{ArePhasesShared, all_passes, most_actions}
-use Rattle.sigma_spl.specs.Shared.Ready.{diagonal_tables, nests_tables, passes_tables, work_tables}
+use Rattle.sigma_spl.specs.Shared.Ready.{diagonal_tables, passes_tables, work_tables}
 use Rattle.sigma_spl.specs.Shared.Targets.{target_of}
 use Rattle.sigma_spl.specs.Sigma.{PlainSigma}
 use Rattle.sigma_spl.specs.Term as terms

@@ -1,5 +1,5 @@
 -- Each loop of a layout can be run, and a program can be made of it.
-use Rattle.std.proofs.Common.{◌≡◌, ℕ, zero, suc, ◌+◌, ◌-◌, ◌*◌, ◌<◌, ◌≤◌, List, [], ◌∷◌, ◌++◌, All, length, map, refl, sym, ap, ap₂, ◌∙◌, arith, subst, Option, Some}
+use Rattle.std.proofs.Common.{◌≡◌, ℕ, zero, suc, ◌+◌, ◌-◌, ◌<◌, ◌≤◌, List, [], ◌∷◌, ◌++◌, All, length, map, refl, sym, ap, ap₂, ◌∙◌, arith, subst, Some}
 use Rattle.std.specs.Prelude.{slice_index, slice_index_or}
 use Rattle.std.specs.Option.{option_map}
 use Rattle.std.proofs.lemmas.List.Elements.{All-weaker}
@@ -12,16 +12,16 @@ use Rattle.sigma_spl.specs.Copies.{loops_of}
 use Rattle.sigma_spl.specs.Good.{NamesItems}
 use Rattle.sigma_spl.specs.Loops.{AreFormed, limits_in, nest_of}
 use Rattle.sigma_spl.specs.Merge.{items_out, all_simplified, place_sum}
-use Rattle.sigma_spl.specs.Nest.{PlainMultiplier, PlainNest, factor_count}
+use Rattle.sigma_spl.specs.Nest.{PlainMultiplier, PlainNest}
 use Rattle.sigma_spl.specs.Shared.Machine.{first_loop, loop_counts}
 use Rattle.sigma_spl.specs.Shared.Owners.{IsHost}
-use Rattle.sigma_spl.specs.Shared.Ready.{IsReadyMultiplier, IsReadyNest, IsSmallWork, LoadsAlike}
+use Rattle.sigma_spl.specs.Shared.Ready.{IsReadyMultiplier, IsReadyNest, LoadsAlike}
 use Rattle.sigma_spl.specs.Shared.Running.{CanRunNest}
 use Rattle.sigma_spl.specs.Trees.{IsReadyLoop}
 use Rattle.sigma_spl.specs.Work.{PlainWork, kernel, rows, horner, tile, copy, work_size}
 use Rattle.sigma_spl.proofs.Natural.{names-out, ranged, values-are}
 use Rattle.sigma_spl.proofs.Nests.{names-simplified}
-use Rattle.sigma_lower.specs.TreeLoops.Merge.{PlainDiagonal, PlainPass, through}
+use Rattle.sigma_lower.specs.TreeLoops.Merge.{PlainPass, through}
 use Rattle.sigma_lower.specs.TreeLoops.Nests.{loop_of, taken_of}
 use Rattle.sigma_lower.proofs.TreeLoops.LoopItems.{diagonal-size}
 use Rattle.sigma_lower.proofs.TreeLoops.PlaceValues.{value-at_place}
