@@ -2,14 +2,14 @@
 ghost use Rattle.std.specs.Prelude.{◌≡◌, [], ◌∷◌, IfOk, false, map};
 ghost use Rattle.clap.specs.Words.{app_of, shape_of, rule_of};
 ghost use Rattle.clap.specs.declared.Command.TheViews.{out-Command as fields_of};
-ghost use Rattle.spiral_words.specs.CommandLine.{name_of, option_rule, long_rule, command_shape, bare_app, spiral_app};
+ghost use Rattle.spiral_words.specs.CommandLine.{name_of, option_rule, command_shape, app_with, bare_app, spiral_app};
 
 use clap::{Arg, ArgAction, Command};
 use std::alloc::{AllocError, Global};
 
 /// An option of a command.
-#[derive(Clone, Copy, Debug, PartialEq, Eq)]
-pub enum OptionName {
+#[derive(Clone, Copy)]
+pub(crate) enum OptionName {
     Schedule,
     Seed,
     Modulus,
@@ -38,8 +38,8 @@ const COMMANDS: [(&str, &[OptionName]); 13] = [
 
 impl OptionName {
     /// The name, without its hyphens.
-    pub(crate) fn name(self) -> &'static str
-        ensures { result.now ≡ name_of self.entry }
+    pub(crate) fn name<'a>(self) -> &'a str
+        ensures { result.now ≡ name_of self }
     {
         match self {
             Schedule => "schedule",
@@ -51,7 +51,7 @@ impl OptionName {
     }
 
     fn rule<'a>(self, alloc: Global) -> Arg<'a>
-        ensures rule { rule_of result ≡ option_rule self.entry }
+        ensures rule { rule_of result ≡ option_rule self }
         ensures local { result.global ≡ false }
     {
         let name = self.name();
@@ -73,7 +73,7 @@ fn command<'a>(
     options: &[OptionName],
 ) -> Result<Command<'a>, AllocError>
     ensures shape { IfOk result
-        (λ r. shape_of r ≡ command_shape (name.now, options.now.items)) }
+        (λ r. shape_of r ≡ command_shape (name.now, options.now)) }
     ensures local { IfOk result (λ r. (fields_of r).has_globals ≡ false) }
 {
     let mut command = Command::new(alloc, name);
@@ -92,14 +92,24 @@ fn bare<'a>(alloc: Global) -> Command<'a>
         .subcommand_required(true)
 }
 
+/// The command line with these commands.
+fn with_commands<'a>(
+    alloc: Global,
+    rows: &[(&'a str, &'a [OptionName])],
+) -> Result<Command<'a>, AllocError>
+    ensures { IfOk result (λ r. app_of r ≡ app_with (map (λ row. (row.0.now, row.1.now)) rows.now)) }
+{
+    let mut app = bare(alloc);
+    for row in rows {
+        let command = command(alloc, row.0, row.1)?;
+        app = app.subcommand(command)?;
+    }
+    Ok(app)
+}
+
 /// The whole command line.
 pub(crate) fn spiral_app<'a>(alloc: Global) -> Result<Command<'a>, AllocError>
     ensures { IfOk result (λ r. app_of r ≡ spiral_app) }
 {
-    let mut app = bare(alloc);
-    for (name, options) in COMMANDS {
-        let command = command(alloc, name, options)?;
-        app = app.subcommand(command)?;
-    }
-    Ok(app)
+    with_commands(alloc, &COMMANDS)
 }
