@@ -1,5 +1,5 @@
 -- Words ask for a command, or are refused.
-use Rattle.std.proofs.Common.{◌≡◌, ◌⊎◌, ◌↔◌, ℕ, ◌^◌, List, [], ◌∷◌, Bool, true, false, Option, Some, None, Result, Ok, Err, refl, sym, subst, ◌∙◌, codes, inl, inr, arith}
+use Rattle.std.proofs.Common.{◌≡◌, ◌⊎◌, ◌↔◌, ℕ, ◌^◌, List, [], ◌∷◌, Bool, true, false, Some, Result, Ok, Err, refl, sym, subst, ◌∙◌, codes, inl, inr, arith}
 use Rattle.std.proofs.lemmas.Bool.{cases_lt}
 use Rattle.std.specs.List.{Any}
 use Rattle.clap.specs.Words.{Row, Text, fault_of}
@@ -20,7 +20,7 @@ use Rattle.spiral_words.specs.declared.command.Document.TheVariants as document
 use Rattle.spiral_words.specs.declared.command.FormulaCommand.TheVariants.{Compile, Apply}
 use Rattle.spiral_words.specs.declared.command.Order.{Order}
 use Rattle.spiral_words.specs.declared.command.Order.TheVariants as order
-use Rattle.spiral_words.specs.CommandLine.{commands, found_in, is_given, spiral_app, text_of}
+use Rattle.spiral_words.specs.CommandLine.{commands, is_given, spiral_app, text_of}
 use Rattle.spiral_words.specs.Asked.{IsAsked, IsUsage, Means, SpellsOrder, modulus_word, seed_word}
 use Rattle.spiral_words.specs.Refused.{HasOtherText, IsNoOrder, IsOther, IsRefused}
 use Rattle.spiral_words.proofs.Each.{Each, any_here, any_later, both}
@@ -113,21 +113,46 @@ convolved rows = elim (schedule_or_not (text_of option.Schedule rows)) [
 ]
 
 meant : (rows : List Row) → Each (Meant rows) commands
-meant rows =
-    (inl (ByRequest (Writes document.Plan), refl),
-    (inl (ByRequest (Writes document.Formula), refl),
-    (inl (ByRequest (Writes document.Code), refl),
-    (inl (ByRequest (Writes document.C), refl),
-    (ordered rows (codes "run") (λ order. ByRequest (Runs order)) (λ order h. (refl, h)),
-    (ordered rows (codes "trace") (λ order. ByRequest (Traces order)) (λ order h. (refl, h)),
-    (inl (ByRequest (Writes document.Cert), refl),
-    (inl (ByRequest request.Judges, refl),
-    (sampled rows,
-    (compiled rows,
-    (applied rows,
-    (listed rows,
-    (convolved rows,
-    tt)))))))))))))
+meant rows = (
+  inl (ByRequest (Writes document.Plan), refl),
+  (
+    inl (ByRequest (Writes document.Formula), refl),
+    (
+      inl (ByRequest (Writes document.Code), refl),
+      (
+        inl (ByRequest (Writes document.C), refl),
+        (
+          ordered rows (codes "run") (λ order. ByRequest (Runs order)) (λ order h. (refl, h)),
+          (
+            ordered rows (codes "trace") (λ order. ByRequest (Traces order)) (λ order h. (refl, h)),
+            (
+              inl (ByRequest (Writes document.Cert), refl),
+              (
+                inl (ByRequest request.Judges, refl),
+                (
+                  sampled rows,
+                  (
+                    compiled rows,
+                    (
+                      applied rows,
+                      (
+                        listed rows,
+                        (
+                          convolved rows,
+                          tt,
+                        ),
+                      ),
+                    ),
+                  ),
+                ),
+              ),
+            ),
+          ),
+        ),
+      ),
+    ),
+  ),
+)
 
 meant_or_other : (name : Text) (rows : List Row) → IsKnown name → ((asked : Command) × Means name rows asked) ⊎ HasOtherText name rows
 meant_or_other name rows known =

@@ -1,5 +1,5 @@
 -- What holds of each item of a list that is written out, and of some item.
-use Rattle.std.proofs.Common.{◌≡◌, ◌⊎◌, ℕ, ◌<◌, List, [], ◌∷◌, length, zero, suc, refl, sym, subst, inl, inr, arith}
+use Rattle.std.proofs.Common.{◌⊎◌, List, [], ◌∷◌, zero, suc, refl, sym, subst, inl, inr, arith}
 use Rattle.std.specs.List.{Any}
 
 abbrev pub Each : {A : Type 0} → (A → Type 0) → List A → Type 0

@@ -1,14 +1,13 @@
 -- Names and options that mean nothing.
-use Rattle.std.proofs.Common.{◌≡◌, ◌⊎◌, ℕ, List, [], ◌∷◌, Bool, true, false, codes, sym, subst, inl, inr}
+use Rattle.std.proofs.Common.{◌≡◌, List, [], ◌∷◌, Bool, true, false, codes, subst, inl, inr}
 use Rattle.std.specs.List.{Any}
 use Rattle.clap.specs.Words.{Row, Text}
 use Rattle.spiral_words.specs.declared.app.OptionName.{OptionName}
 use Rattle.spiral_words.specs.declared.app.OptionName.TheVariants.{Schedule, Seed, Modulus, Buffers, Code}
-use Rattle.spiral_words.specs.declared.command.Command.{Command}
 use Rattle.spiral_words.specs.declared.command.Order.{Order}
 use Rattle.spiral_words.specs.declared.command.Order.TheVariants as order
-use Rattle.spiral_words.specs.CommandLine.{commands, is_given, text_of}
-use Rattle.spiral_words.specs.Asked.{Means, SpellsOrder}
+use Rattle.spiral_words.specs.CommandLine.{commands, text_of}
+use Rattle.spiral_words.specs.Asked.{SpellsOrder}
 use Rattle.spiral_words.specs.Refused.{AsksNoOrder, HasOtherText, IsNoModulus, IsNoOrder, IsNoSchedule, IsNoSeed, IsOther, MeansNothing}
 use Rattle.spiral_words.proofs.Each.{Each, any_none, any_split, both}
 use Rattle.spiral_words.proofs.Meanings.{sample_only, run_only, trace_only, compile_only, apply_only, exec_only, convolve_only}
@@ -63,21 +62,46 @@ two : (options : List OptionName) (rows : List Row) (a b : OptionName) (P : Type
 two options rows a b P left right h = elim (any_split (IsOther options rows) a (b ∷ []) h) [ inl here ↦ left here | inr later ↦ one options rows b P right later ]
 
 stops : (rows : List Row) → Each (Stops rows) commands
-stops rows =
-    (bare rows (codes "plan"),
-    (bare rows (codes "formula"),
-    (bare rows (codes "code"),
-    (bare rows (codes "c"),
-    (two (Schedule ∷ Buffers ∷ []) rows Schedule Buffers (MeansNothing (codes "run") rows) (run_nothing rows) (λ none. absurd none),
-    (two (Schedule ∷ Buffers ∷ []) rows Schedule Buffers (MeansNothing (codes "trace") rows) (trace_nothing rows) (λ none. absurd none),
-    (bare rows (codes "cert"),
-    (bare rows (codes "check"),
-    (two (Seed ∷ Schedule ∷ []) rows Seed Schedule (MeansNothing (codes "sample") rows) (sample_no_seed rows) (sample_no_schedule rows),
-    (one (Modulus ∷ []) rows Modulus (MeansNothing (codes "compile") rows) (compile_nothing rows),
-    (two (Modulus ∷ Schedule ∷ []) rows Modulus Schedule (MeansNothing (codes "apply") rows) (apply_no_modulus rows) (apply_no_schedule rows),
-    (one (Schedule ∷ []) rows Schedule (MeansNothing (codes "exec") rows) (exec_nothing rows),
-    (two (Schedule ∷ Code ∷ []) rows Schedule Code (MeansNothing (codes "convolve") rows) (convolve_nothing rows) (λ none. absurd none),
-    tt)))))))))))))
+stops rows = (
+  bare rows (codes "plan"),
+  (
+    bare rows (codes "formula"),
+    (
+      bare rows (codes "code"),
+      (
+        bare rows (codes "c"),
+        (
+          two (Schedule ∷ Buffers ∷ []) rows Schedule Buffers (MeansNothing (codes "run") rows) (run_nothing rows) (λ none. absurd none),
+          (
+            two (Schedule ∷ Buffers ∷ []) rows Schedule Buffers (MeansNothing (codes "trace") rows) (trace_nothing rows) (λ none. absurd none),
+            (
+              bare rows (codes "cert"),
+              (
+                bare rows (codes "check"),
+                (
+                  two (Seed ∷ Schedule ∷ []) rows Seed Schedule (MeansNothing (codes "sample") rows) (sample_no_seed rows) (sample_no_schedule rows),
+                  (
+                    one (Modulus ∷ []) rows Modulus (MeansNothing (codes "compile") rows) (compile_nothing rows),
+                    (
+                      two (Modulus ∷ Schedule ∷ []) rows Modulus Schedule (MeansNothing (codes "apply") rows) (apply_no_modulus rows) (apply_no_schedule rows),
+                      (
+                        one (Schedule ∷ []) rows Schedule (MeansNothing (codes "exec") rows) (exec_nothing rows),
+                        (
+                          two (Schedule ∷ Code ∷ []) rows Schedule Code (MeansNothing (codes "convolve") rows) (convolve_nothing rows) (λ none. absurd none),
+                          tt,
+                        ),
+                      ),
+                    ),
+                  ),
+                ),
+              ),
+            ),
+          ),
+        ),
+      ),
+    ),
+  ),
+)
 
 pub other_means_nothing : (name : Text) (rows : List Row) → HasOtherText name rows → MeansNothing name rows
 other_means_nothing name rows other =

@@ -1,12 +1,12 @@
 -- Where clap takes words, they name a command of the table.
-use Rattle.std.proofs.Common.{◌≡◌, List, [], ◌∷◌, Bool, true, false, Option, Some, None, is_some, option_map, find, refl, sym, subst, ◌∙◌, arith}
+use Rattle.std.proofs.Common.{◌≡◌, List, [], ◌∷◌, Bool, true, false, Option, Some, None, is_some, option_map, find, refl, subst, ◌∙◌, arith}
 use Rattle.std.specs.List.{Any}
 use Rattle.std.proofs.lemmas.Bool.Decides.{nat_tests}
 use Rattle.clap.specs.Words.{App, Shape, Row, Text, Kinds, built, fault_of, subcommand_of}
 use Rattle.clap.specs.Kinds.{or_else}
 use Rattle.clap.specs.Faults.{check_fault, defaults_fault, settle_fault, entered_fault, walk_fault}
 use Rattle.clap.specs.Simple.{argument_words, names_of, label_of, entered, rows_at}
-use Rattle.clap.specs.Walk.{is_empty, nothing_held, walk, walk_from, finished, settled, answers_to, rows_after, stop_after}
+use Rattle.clap.specs.Walk.{is_empty, nothing_held, walk, walk_from, finished, settled, answers_to, stop_after}
 use Rattle.spiral_words.specs.CommandLine.{commands, found_in, spiral_app}
 use Rattle.spiral_words.proofs.Each.{Each}
 use Rattle.spiral_words.proofs.Refused.{taken_found}
@@ -50,21 +50,46 @@ abbrev pub IsKnown : Text → Type 0
 IsKnown name = Any (λ row. row.0 ≡ name) commands
 
 known : Each (λ s. IsKnown s.name) (built spiral_app).subs
-known =
-    ((0, _, omega arith, refl, refl),
-    ((1, _, omega arith, refl, refl),
-    ((2, _, omega arith, refl, refl),
-    ((3, _, omega arith, refl, refl),
-    ((4, _, omega arith, refl, refl),
-    ((5, _, omega arith, refl, refl),
-    ((6, _, omega arith, refl, refl),
-    ((7, _, omega arith, refl, refl),
-    ((8, _, omega arith, refl, refl),
-    ((9, _, omega arith, refl, refl),
-    ((10, _, omega arith, refl, refl),
-    ((11, _, omega arith, refl, refl),
-    ((12, _, omega arith, refl, refl),
-    tt)))))))))))))
+known = (
+  (0, _, omega arith, refl, refl),
+  (
+    (1, _, omega arith, refl, refl),
+    (
+      (2, _, omega arith, refl, refl),
+      (
+        (3, _, omega arith, refl, refl),
+        (
+          (4, _, omega arith, refl, refl),
+          (
+            (5, _, omega arith, refl, refl),
+            (
+              (6, _, omega arith, refl, refl),
+              (
+                (7, _, omega arith, refl, refl),
+                (
+                  (8, _, omega arith, refl, refl),
+                  (
+                    (9, _, omega arith, refl, refl),
+                    (
+                      (10, _, omega arith, refl, refl),
+                      (
+                        (11, _, omega arith, refl, refl),
+                        (
+                          (12, _, omega arith, refl, refl),
+                          tt,
+                        ),
+                      ),
+                    ),
+                  ),
+                ),
+              ),
+            ),
+          ),
+        ),
+      ),
+    ),
+  ),
+)
 
 some_first : (a b : Text × List Row) → Some a ≡ Some b → a.0 ≡ b.0
 some_first a b e = cc

@@ -8,7 +8,7 @@ use Rattle.request_text.specs.Mix.{mix_word}
 use Rattle.request_text.specs.Schedule.{Plan, schedule_word}
 use Rattle.spiral_words.specs.declared.command.Command.{Command}
 use Rattle.spiral_words.specs.declared.app.OptionName.{OptionName}
-use Rattle.spiral_words.specs.declared.app.OptionName.TheVariants.{Schedule, Seed, Modulus, Buffers, Code}
+use Rattle.spiral_words.specs.declared.app.OptionName.TheVariants.{Schedule, Seed, Modulus, Buffers}
 use Rattle.spiral_words.specs.CommandLine.{commands, found_in, is_given, spiral_app, text_of}
 use Rattle.spiral_words.specs.Asked.{Means, modulus_word, seed_word}
 

@@ -47,10 +47,7 @@ pub enum Document {
     Code,
     C,
     Cert,
-    Sample {
-        seed: u64,
-        schedule: Schedule,
-    },
+    Sample { seed: u64, schedule: Schedule },
 }
 
 /// What is done with a formula.

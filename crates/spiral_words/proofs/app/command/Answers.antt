@@ -1,6 +1,6 @@
-use Rattle.std.proofs.Common.{◌≡◌, false, ap₂, ◌∙◌, take, ◌+◌, ◌||◌}
-use Rattle.clap.specs.Words.{app_of, with_rule}
-use Rattle.spiral_words.proofs.Table.{command_app, one_option}
+use Rattle.std.proofs.Common.{ap₂, ◌∙◌, ◌||◌}
+use Rattle.clap.specs.Words.{with_rule}
+use Rattle.spiral_words.proofs.Table.{one_option}
 use Rattle.spiral_words.proofs.app.command.Goals as goal
 
 pub loop-option-preserved : goal.loop-option-preserved
