@@ -6,14 +6,14 @@ use Rattle.spl_ast.specs.Formula.{Formula}
 use Rattle.spiral_words.specs.declared.Order.{Order}
 use Rattle.commands.specs.FormulaCommands.Compiled.{written, IsFormulaListing}
 use Rattle.commands.specs.SpiralInput.Orders.{procs_in}
-use Rattle.spiral_main.specs.Front.{line}
-use Rattle.spiral_main.specs.Works.{Wants, all, the_first, writing, mapping, by_first}
-use Rattle.spiral_main.specs.Orders.{Planned, planned}
-use Rattle.spiral_main.specs.Code.{IsListing, IsGoodListing, code_outcomes, good_code_outcomes}
-use Rattle.spiral_main.specs.C.{IsCText, IsGoodCText, c_outcomes, good_c_outcomes}
-use Rattle.spiral_main.specs.Trace.{IsTrace, IsGoodTrace, trace_outcomes, good_trace_outcomes}
-use Rattle.spiral_main.specs.Compile.{IsCodeListing, compile_outcomes, good_compile_outcomes}
-use Rattle.spiral_main.specs.Convolve.{ConvPlanned, conv_planned, IsConvListing, IsConvolverListing, convolve_outcomes, good_convolver_outcomes}
+use Rattle.commands.specs.Equations.Front.{line}
+use Rattle.commands.specs.Equations.Works.{Wants, all, the_first, writing, mapping, by_first}
+use Rattle.commands.specs.Equations.Orders.{Planned, planned}
+use Rattle.commands.specs.Equations.Code.{IsListing, IsGoodListing, code_outcomes, good_code_outcomes}
+use Rattle.commands.specs.Equations.C.{IsCText, IsGoodCText, c_outcomes, good_c_outcomes}
+use Rattle.commands.specs.Equations.Trace.{IsTrace, IsGoodTrace, trace_outcomes, good_trace_outcomes}
+use Rattle.commands.specs.Equations.Compile.{IsCodeListing, compile_outcomes, good_compile_outcomes}
+use Rattle.commands.specs.Equations.Convolve.{ConvPlanned, conv_planned, IsConvListing, IsConvolverListing, convolve_outcomes, good_convolver_outcomes}
 use Rattle.spiral_main.proofs.Within.{Within, front_within}
 
 more_written : (P Q : List ℕ → Type 0) (room : ℕ) → ((t : List ℕ) → P t → Q t)

@@ -20,12 +20,12 @@ use Rattle.commands.specs.FormulaCommands.Compiled as families
 use Rattle.commands.specs.FormulaCommands.Compiled.{written, IsFormulaListing}
 use Rattle.commands.specs.ListingCommands.Listed as listings
 use Rattle.commands.specs.ConvolutionCommands.Convolved.{conv_spelt, convolvable, conv_status, conv_outcomes, IsConvolvable, IsConvText, SettlesConv, BreaksOffConv, ComesToConv, GoesOnBehind}
-use Rattle.spiral_main.specs.Front.{line, taken_from, room_behind, ordered, by_front, Work}
-use Rattle.spiral_main.specs.Works.{Wants, all, a_first, the_first, status_by, ReadsOn, by_first, writing, mapping}
-use Rattle.spiral_main.specs.Apply.{formed, apply_outcomes}
-use Rattle.spiral_main.specs.Compile.{compile_outcomes}
-use Rattle.spiral_main.specs.Exec.{exec_outcomes}
-use Rattle.spiral_main.specs.Convolve.{ConvPlanned, conv_turned, conv_chosen, convolve_outcomes, IsConvListing}
+use Rattle.commands.specs.Equations.Front.{line, taken_from, room_behind, ordered, by_front, Work}
+use Rattle.commands.specs.Equations.Works.{Wants, all, a_first, the_first, status_by, ReadsOn, by_first, writing, mapping}
+use Rattle.commands.specs.Equations.Apply.{formed, apply_outcomes}
+use Rattle.commands.specs.Equations.Compile.{compile_outcomes}
+use Rattle.commands.specs.Equations.Exec.{exec_outcomes}
+use Rattle.commands.specs.Equations.Convolve.{ConvPlanned, conv_turned, conv_chosen, convolve_outcomes, IsConvListing}
 use Rattle.spiral_main.proofs.Nested.{with_unit, no_unit, joined, split_off, answer_map}
 use Rattle.spiral_main.proofs.Within.{Within, within_then, front_within, front_split, front_join, staged}
 

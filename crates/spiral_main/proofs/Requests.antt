@@ -21,14 +21,14 @@ use Rattle.commands.specs.SpiralInput.Outcomes.{Outcomes}
 use Rattle.commands.specs.SpiralInput.Stage.{◌>>=◌}
 use Rattle.commands.specs.Performed.{request_outcomes}
 use Rattle.commands.specs.Settled.{IsAccepted, IsAffordable, IsDeclined, IsRefused, IsTextOf, IsTextOfData}
-use Rattle.spiral_main.specs.Front.{line, by_front}
-use Rattle.spiral_main.specs.Works.{all, writing, mapping, judging}
-use Rattle.spiral_main.specs.Orders.{Planned, turned, chosen, planned}
-use Rattle.spiral_main.specs.Code.{IsListing}
-use Rattle.spiral_main.specs.C.{IsCText}
-use Rattle.spiral_main.specs.Trace.{IsTrace}
-use Rattle.spiral_main.specs.Sample.{sample_lines}
-use Rattle.spiral_main.specs.Check.{fitting}
+use Rattle.commands.specs.Equations.Front.{line, by_front}
+use Rattle.commands.specs.Equations.Works.{all, writing, mapping, judging}
+use Rattle.commands.specs.Equations.Orders.{Planned, turned, chosen, planned}
+use Rattle.commands.specs.Equations.Code.{IsListing}
+use Rattle.commands.specs.Equations.C.{IsCText}
+use Rattle.commands.specs.Equations.Trace.{IsTrace}
+use Rattle.commands.specs.Equations.Sample.{sample_lines}
+use Rattle.commands.specs.Equations.Check.{fitting}
 use Rattle.spiral_main.specs.Outcome.{outcomes_of}
 use Rattle.spiral_main.proofs.Nested.{with_unit, no_unit}
 use Rattle.spiral_main.proofs.Within.{Within, within_then, front_within, front_split, front_join, staged}

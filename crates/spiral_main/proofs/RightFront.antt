@@ -22,10 +22,10 @@ use Rattle.commands.specs.FormulaCommands.Compiled.{written, IsFormulaListing}
 use Rattle.commands.specs.ListingCommands.Listed.{loaded, result_of}
 use Rattle.commands.specs.SpiralInput.Commands.{admitted}
 use Rattle.commands.specs.SpiralInput.Stage.{Stage}
-use Rattle.spiral_main.specs.Front.{Front, line, part, room_behind, Work, by_front}
-use Rattle.spiral_main.specs.Works.{all, writing, mapping}
-use Rattle.spiral_main.specs.Orders.{Planned, planned}
-use Rattle.spiral_main.specs.Apply.{formed}
+use Rattle.commands.specs.Equations.Front.{Front, line, part, room_behind, Work, by_front}
+use Rattle.commands.specs.Equations.Works.{all, writing, mapping}
+use Rattle.commands.specs.Equations.Orders.{Planned, planned}
+use Rattle.commands.specs.Equations.Apply.{formed}
 use Rattle.spiral_main.specs.Outcome.{outcomes_of, IsOutcome, Accounts}
 use Rattle.spiral_main.specs.RightFront.{AreWholeVectors, HasWholeVectors, IsRightLine, request_vectors, vectors_behind}
 use Rattle.spiral_main.proofs.Calls.{one_status, one_text}

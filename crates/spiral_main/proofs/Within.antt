@@ -5,7 +5,7 @@ use Rattle.std.specs.Io.KnownBytes.{IsAtEnd}
 use Rattle.spiral_words.specs.declared.spiral_status.status.Status.{Status}
 use Rattle.commands.specs.SpiralInput.Outcomes.{Outcomes, Meets}
 use Rattle.commands.specs.SpiralInput.Stage.{Stage, given, ◌>>=◌, IsAnswerBy}
-use Rattle.spiral_main.specs.Front.{Front, taken_from, room_behind, MayGoOn, HasEnded, ordered, Work, by_front}
+use Rattle.commands.specs.Equations.Front.{Front, taken_from, room_behind, MayGoOn, HasEnded, ordered, Work, by_front}
 use Rattle.spiral_main.proofs.Nested.{joined, split_off, nested, unnested, answer_map, broken_map, cut_map}
 
 -- all that is right for the first is right for the second

@@ -11,19 +11,19 @@ use Rattle.spiral_words.specs.declared.spiral_status.status.Status.{Status}
 use Rattle.spiral_words.specs.declared.spiral_status.status.Status.TheVariants.{Usage}
 use Rattle.commands.specs.SpiralInput.Outcomes.{Outcomes, Meets}
 use Rattle.commands.specs.SpiralInput.Stage.{Stage, IsAnswerBy}
-use Rattle.spiral_main.specs.Plan.{plan_outcomes}
-use Rattle.spiral_main.specs.Formula.{formula_outcomes}
-use Rattle.spiral_main.specs.Code.{code_outcomes}
-use Rattle.spiral_main.specs.C.{c_outcomes}
-use Rattle.spiral_main.specs.Run.{run_outcomes}
-use Rattle.spiral_main.specs.Trace.{trace_outcomes}
-use Rattle.spiral_main.specs.Cert.{cert_outcomes}
-use Rattle.spiral_main.specs.Check.{check_outcomes}
-use Rattle.spiral_main.specs.Sample.{sample_outcomes}
-use Rattle.spiral_main.specs.Compile.{compile_outcomes}
-use Rattle.spiral_main.specs.Apply.{apply_outcomes}
-use Rattle.spiral_main.specs.Exec.{exec_outcomes}
-use Rattle.spiral_main.specs.Convolve.{convolve_outcomes}
+use Rattle.commands.specs.Equations.Plan.{plan_outcomes}
+use Rattle.commands.specs.Equations.Formula.{formula_outcomes}
+use Rattle.commands.specs.Equations.Code.{code_outcomes}
+use Rattle.commands.specs.Equations.C.{c_outcomes}
+use Rattle.commands.specs.Equations.Run.{run_outcomes}
+use Rattle.commands.specs.Equations.Trace.{trace_outcomes}
+use Rattle.commands.specs.Equations.Cert.{cert_outcomes}
+use Rattle.commands.specs.Equations.Check.{check_outcomes}
+use Rattle.commands.specs.Equations.Sample.{sample_outcomes}
+use Rattle.commands.specs.Equations.Compile.{compile_outcomes}
+use Rattle.commands.specs.Equations.Apply.{apply_outcomes}
+use Rattle.commands.specs.Equations.Exec.{exec_outcomes}
+use Rattle.commands.specs.Equations.Convolve.{convolve_outcomes}
 
 -- what is right for a command
 abbrev pub outcomes_of : Command → Outcomes

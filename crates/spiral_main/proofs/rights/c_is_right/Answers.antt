@@ -1,6 +1,6 @@
 use Rattle.std.proofs.Common.{[], inr}
 use Rattle.spiral_words.specs.declared.Command.TheVariants as command
-use Rattle.spiral_main.specs.C.{IsCText}
+use Rattle.commands.specs.Equations.C.{IsCText}
 use Rattle.spiral_main.proofs.RightFront.{text_is_right}
 use Rattle.spiral_main.proofs.rights.c_is_right.Goals as goal
 

@@ -1,6 +1,6 @@
 use Rattle.std.proofs.Common.{[], inr}
 use Rattle.spiral_words.specs.declared.Command.TheVariants as command
-use Rattle.spiral_main.specs.Code.{IsListing}
+use Rattle.commands.specs.Equations.Code.{IsListing}
 use Rattle.spiral_main.proofs.RightFront.{text_is_right}
 use Rattle.spiral_main.proofs.rights.code_is_right.Goals as goal
 

@@ -1,7 +1,7 @@
 use Rattle.std.proofs.Common.{◌≡◌, refl, inr}
 use Rattle.request_text.specs.Turns.{named}
 use Rattle.spiral_words.specs.declared.Command.TheVariants as command
-use Rattle.spiral_main.specs.Sample.{sample_lines}
+use Rattle.commands.specs.Equations.Sample.{sample_lines}
 use Rattle.spiral_main.proofs.RightFront.{text_is_right}
 use Rattle.spiral_main.proofs.rights.sample_is_right.Goals as goal
 

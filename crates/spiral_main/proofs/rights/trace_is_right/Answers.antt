@@ -1,7 +1,7 @@
 use Rattle.std.proofs.Common.{inr}
 use Rattle.spiral_words.specs.declared.Command.TheVariants as command
 use Rattle.commands.specs.SpiralInput.Orders.{procs_in}
-use Rattle.spiral_main.specs.Trace.{IsTrace}
+use Rattle.commands.specs.Equations.Trace.{IsTrace}
 use Rattle.spiral_main.proofs.RightFront.{data_are_right}
 use Rattle.spiral_main.proofs.rights.trace_is_right.Goals as goal
 

@@ -18,8 +18,8 @@ use Rattle.commands.specs.ConvolutionCommands.Convolved.{conv_spelt}
 use Rattle.commands.specs.SpiralInput.Commands.{admitted, first_stranger}
 use Rattle.commands.specs.SpiralInput.Outcomes.{Outcomes}
 use Rattle.commands.specs.SpiralInput.Stage.{Stage, given, ◌>>=◌}
-use Rattle.spiral_main.specs.Front.{line, by_front}
-use Rattle.spiral_main.specs.Works.{a_first, the_first, by_first, mapping}
+use Rattle.commands.specs.Equations.Front.{line, by_front}
+use Rattle.commands.specs.Equations.Works.{a_first, the_first, by_first, mapping}
 
 -- a request for convolutions with the tree of its transforms
 pub record ConvPlanned : Type 0 where

@@ -10,7 +10,7 @@ use Rattle.runs.specs.Stream.{vectors_of, data_answer, data_vectors}
 use Rattle.runs.specs.declared.stream.StreamFault.{StreamFault}
 use Rattle.commands.specs.SpiralInput.Fine.{IsFine}
 use Rattle.commands.specs.Checked.{certificate_limit, status_of_verdict, verdict_text, IsOverlong}
-use Rattle.spiral_main.specs.Front.{Work}
+use Rattle.commands.specs.Equations.Front.{Work}
 
 -- It writes a text, and reads nothing more
 

@@ -9,10 +9,10 @@ use Rattle.commands.specs.Settled.{IsProgramOf}
 use Rattle.commands.specs.Traced.{traced_text}
 use Rattle.commands.specs.SpiralInput.Orders.{procs_in}
 use Rattle.commands.specs.SpiralInput.Outcomes.{Outcomes}
-use Rattle.spiral_main.specs.Front.{line, by_front}
-use Rattle.spiral_main.specs.Works.{all, mapping}
-use Rattle.spiral_main.specs.Orders.{Planned, planned}
-use Rattle.spiral_main.specs.Code.{IsGoodProgram}
+use Rattle.commands.specs.Equations.Front.{line, by_front}
+use Rattle.commands.specs.Equations.Works.{all, mapping}
+use Rattle.commands.specs.Equations.Orders.{Planned, planned}
+use Rattle.commands.specs.Equations.Code.{IsGoodProgram}
 
 -- the listing of the program of the tree, and for each vector the lines of its run in the order and of its results
 abbrev pub IsTrace : Order → Planned → List (List ℕ) → List ℕ → Type 0

@@ -5,9 +5,9 @@ use Rattle.spiral_words.specs.declared.Order.{Order}
 use Rattle.runs.specs.Stream.{lines}
 use Rattle.commands.specs.SpiralInput.Orders.{procs_in}
 use Rattle.commands.specs.SpiralInput.Outcomes.{Outcomes}
-use Rattle.spiral_main.specs.Front.{line, by_front}
-use Rattle.spiral_main.specs.Works.{all, mapping}
-use Rattle.spiral_main.specs.Orders.{Planned, planned}
+use Rattle.commands.specs.Equations.Front.{line, by_front}
+use Rattle.commands.specs.Equations.Works.{all, mapping}
+use Rattle.commands.specs.Equations.Orders.{Planned, planned}
 
 -- a line for each vector, of the request's matrix times it
 abbrev pub run_outcomes : Order → Outcomes

@@ -7,9 +7,9 @@ use Rattle.matrix_meaning.specs.Asked.{asked_of}
 use Rattle.tree_model.specs.Chosen.{whole_cost}
 use Rattle.commands.specs.Sample.{sample_vector, weighted_sum, sample_text}
 use Rattle.commands.specs.SpiralInput.Outcomes.{Outcomes}
-use Rattle.spiral_main.specs.Front.{line, by_front}
-use Rattle.spiral_main.specs.Works.{writing}
-use Rattle.spiral_main.specs.Orders.{Planned, planned}
+use Rattle.commands.specs.Equations.Front.{line, by_front}
+use Rattle.commands.specs.Equations.Works.{writing}
+use Rattle.commands.specs.Equations.Orders.{Planned, planned}
 
 -- the weighted sum of the matrix times the seed's vector
 abbrev pub sum_for : Planned → ℕ → ℕ

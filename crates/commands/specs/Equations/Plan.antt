@@ -2,9 +2,9 @@
 use Rattle.std.specs.Prelude.{◌≡◌, []}
 use Rattle.commands.specs.PlanText.{plan_text}
 use Rattle.commands.specs.SpiralInput.Outcomes.{Outcomes}
-use Rattle.spiral_main.specs.Front.{line, by_front}
-use Rattle.spiral_main.specs.Works.{writing}
-use Rattle.spiral_main.specs.Orders.{Planned, planned}
+use Rattle.commands.specs.Equations.Front.{line, by_front}
+use Rattle.commands.specs.Equations.Works.{writing}
+use Rattle.commands.specs.Equations.Orders.{Planned, planned}
 
 -- the tree, its cost, the phases and each processor's operations
 abbrev pub plan_outcomes : Outcomes

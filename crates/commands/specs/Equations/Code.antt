@@ -8,9 +8,9 @@ use Rattle.commands.specs.Good.{IsGood}
 use Rattle.commands.specs.Lean.{IsLean}
 use Rattle.tree_model.specs.Chosen.{whole_cost}
 use Rattle.commands.specs.SpiralInput.Outcomes.{Outcomes}
-use Rattle.spiral_main.specs.Front.{line, by_front}
-use Rattle.spiral_main.specs.Works.{writing}
-use Rattle.spiral_main.specs.Orders.{Planned, planned}
+use Rattle.commands.specs.Equations.Front.{line, by_front}
+use Rattle.commands.specs.Equations.Works.{writing}
+use Rattle.commands.specs.Equations.Orders.{Planned, planned}
 
 -- the text is the listing of the program of the tree
 abbrev pub IsListing : Planned → List ℕ → Type 0

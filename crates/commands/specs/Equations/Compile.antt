@@ -7,8 +7,8 @@ use Rattle.listing_text.specs.Listing.{listing_of}
 use Rattle.spl_ast.specs.Formula.{Formula}
 use Rattle.commands.specs.FormulaCommands.Compiled.{written, IsFormulaListing}
 use Rattle.commands.specs.SpiralInput.Outcomes.{Outcomes}
-use Rattle.spiral_main.specs.Front.{line, by_front}
-use Rattle.spiral_main.specs.Works.{writing}
+use Rattle.commands.specs.Equations.Front.{line, by_front}
+use Rattle.commands.specs.Equations.Works.{writing}
 
 -- the listing of the formula's program
 abbrev pub compile_outcomes : ℕ → Outcomes

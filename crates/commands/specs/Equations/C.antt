@@ -5,10 +5,10 @@ use Rattle.icode.specs.Program.{plain_program}
 use Rattle.c_print.specs.CText.{c_text_of}
 use Rattle.commands.specs.Settled.{IsProgramOf}
 use Rattle.commands.specs.SpiralInput.Outcomes.{Outcomes}
-use Rattle.spiral_main.specs.Front.{line, by_front}
-use Rattle.spiral_main.specs.Works.{writing}
-use Rattle.spiral_main.specs.Orders.{Planned, planned}
-use Rattle.spiral_main.specs.Code.{IsGoodProgram}
+use Rattle.commands.specs.Equations.Front.{line, by_front}
+use Rattle.commands.specs.Equations.Works.{writing}
+use Rattle.commands.specs.Equations.Orders.{Planned, planned}
+use Rattle.commands.specs.Equations.Code.{IsGoodProgram}
 
 -- the text is the C text of the program of the tree
 abbrev pub IsCText : Planned → List ℕ → Type 0

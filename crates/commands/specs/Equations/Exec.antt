@@ -5,8 +5,8 @@ use Rattle.request_text.specs.Schedule.{Plan as Turns}
 use Rattle.runs.specs.Stream.{lines}
 use Rattle.commands.specs.ListingCommands.Listed.{loaded, result_of}
 use Rattle.commands.specs.SpiralInput.Outcomes.{Outcomes}
-use Rattle.spiral_main.specs.Front.{part, by_front}
-use Rattle.spiral_main.specs.Works.{all, mapping}
+use Rattle.commands.specs.Equations.Front.{part, by_front}
+use Rattle.commands.specs.Equations.Works.{all, mapping}
 
 -- a line for each vector, of what the listing's program leaves for it
 abbrev pub exec_outcomes : Turns → Outcomes

@@ -8,8 +8,8 @@ use Rattle.spiral_words.specs.SpiralStatus.Fault.{status_of_generate}
 use Rattle.commands.specs.SpiralInput.Asking.{spelt}
 use Rattle.commands.specs.SpiralInput.Outcomes.{Outcomes}
 use Rattle.commands.specs.SpiralInput.Stage.{Stage, ◌>>=◌}
-use Rattle.spiral_main.specs.Front.{line, by_front}
-use Rattle.spiral_main.specs.Works.{judging}
+use Rattle.commands.specs.Equations.Front.{line, by_front}
+use Rattle.commands.specs.Equations.Works.{judging}
 
 -- the request, if its roots are right and some tree fits, whatever it costs
 abbrev pub fitting : Request → Stage Request

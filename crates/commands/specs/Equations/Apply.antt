@@ -9,8 +9,8 @@ use Rattle.commands.specs.FormulaCommands.Compiled.{written}
 use Rattle.commands.specs.SpiralInput.Commands.{admitted, first_stranger}
 use Rattle.commands.specs.SpiralInput.Outcomes.{Outcomes}
 use Rattle.commands.specs.SpiralInput.Stage.{Stage, given, ◌>>=◌}
-use Rattle.spiral_main.specs.Front.{line, by_front}
-use Rattle.spiral_main.specs.Works.{all, mapping}
+use Rattle.commands.specs.Equations.Front.{line, by_front}
+use Rattle.commands.specs.Equations.Works.{all, mapping}
 
 -- the formula that the text spells, if the words name no processor but the one
 abbrev pub formed : List ℕ → List ℕ → Stage Formula

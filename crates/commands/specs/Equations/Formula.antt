@@ -3,9 +3,9 @@ use Rattle.std.specs.Prelude.{◌≡◌, [], ◌∷◌, ◌++◌}
 use Rattle.spl_text.specs.Spelling.{spelling}
 use Rattle.breakdown.specs.Expansion.{formula_of}
 use Rattle.commands.specs.SpiralInput.Outcomes.{Outcomes}
-use Rattle.spiral_main.specs.Front.{line, by_front}
-use Rattle.spiral_main.specs.Works.{writing}
-use Rattle.spiral_main.specs.Orders.{Planned, planned}
+use Rattle.commands.specs.Equations.Front.{line, by_front}
+use Rattle.commands.specs.Equations.Works.{writing}
+use Rattle.commands.specs.Equations.Orders.{Planned, planned}
 
 -- the formula of the tree, and a line end
 abbrev pub formula_outcomes : Outcomes

@@ -1,0 +1,17 @@
+pub mod Front
+pub mod Works
+pub mod Orders
+pub mod Plan
+pub mod Formula
+pub mod Code
+pub mod C
+pub mod Cert
+pub mod Sample
+pub mod Run
+pub mod Trace
+pub mod Check
+pub mod Compile
+pub mod Apply
+pub mod Exec
+pub mod Convolve
+pub mod Requests
