@@ -2,7 +2,7 @@
 use Rattle.std.specs.Prelude.{◌≡◌, Ok, Err}
 use Rattle.plan_search.specs.declared.generating.GenerateFault.{GenerateFault}
 use Rattle.plan_cert.specs.Verdict.{IsVerdict}
-use Rattle.commands.specs.Planned.{IsAdmitted, IsBarred}
+use Rattle.generate.specs.Planned.{IsAdmitted, IsBarred}
 use Rattle.matrix_meaning.specs.declared.Request.{Request}
 use Rattle.spiral_words.specs.SpiralStatus.Fault.{status_of_generate}
 use Rattle.commands.specs.SpiralInput.Asking.{spelt}

@@ -1,11 +1,10 @@
 -- The front of an input, by which a command goes, and what is right for a command behind it.
-use Rattle.std.specs.Prelude.{◌≡◌, ◌⊎◌, ℕ, ◌-◌, ◌≤◌, nat_le, Bool, true, false, List, [], length, Ok, Err, Result, if◌then◌else◌}
+use Rattle.std.specs.Prelude.{◌≡◌, ◌⊎◌, ℕ, ◌-◌, ◌≤◌, ◌==◌, nat_le, Bool, true, false, List, [], length, Ok, Err, Result, if◌then◌else◌}
 use Rattle.std.specs.List.{before_first, after_first, list_any}
 use Rattle.io_edge.specs.Feed.{limit}
 use Rattle.data_stream.specs.InputRest.Part.{first_part, second_part, has_empty_line}
 use Rattle.spiral_words.specs.declared.spiral_status.status.Status.{Status}
 use Rattle.spiral_words.specs.declared.spiral_status.status.Status.TheVariants.{TooLong}
-use Rattle.commands.specs.SpiralInput.Line.{is_line_end}
 use Rattle.commands.specs.SpiralInput.Outcomes.{Outcomes}
 use Rattle.commands.specs.SpiralInput.Stage.{Stage, given, ◌>>=◌, IsAnswerBy, IsBrokenBy, IsCutBy}
 
@@ -15,6 +14,9 @@ pub record Front : Type 0 where
   pub behind : List ℕ → List ℕ
   pub has_end : List ℕ → Bool
   pub most : ℕ
+
+abbrev pub is_line_end : ℕ → Bool
+is_line_end byte = byte == 10
 
 -- the first line
 abbrev pub line : ℕ → Front
@@ -66,4 +68,12 @@ by_front {A} front orders work = record {
       (λ (value : A). (work value (room_behind front read)).broken (front.behind read) ended);
   cut = λ read left. IsCutBy (HasEnded front read (left ≡ [])) (ordered front orders read)
       (λ (value : A). (work value (room_behind front read)).cut (front.behind read) left);
+}
+
+-- a further stage behind a front, and then the work
+abbrev pub staged : {A : Type 0} → Stage A → (A → Work) → Work
+staged {A} stage work room = record {
+  answer = λ bytes. IsAnswerBy stage (λ (value : A). (work value room).answer bytes);
+  broken = λ read ended text. (value : A) × stage (Ok value) × (work value room).broken read ended text;
+  cut = λ read left text. (value : A) × stage (Ok value) × (work value room).cut read left text;
 }

@@ -5,7 +5,7 @@ use Rattle.spiral_words.specs.SpiralStatus.Fault.{status_of_generate}
 use Rattle.commands.specs.SpiralInput.Asking.{spelt}
 use Rattle.commands.specs.SpiralInput.Commands.{admitted, first_stranger}
 use Rattle.commands.specs.SpiralInput.Stage.{Stage, given, ◌>>=◌}
-use Rattle.commands.specs.Planned.{IsPlanned}
+use Rattle.generate.specs.Planned.{IsPlanned}
 use Rattle.matrix_meaning.specs.declared.Request.{Request}
 use Rattle.tree_model.specs.Breakdown.{Breakdown}
 
