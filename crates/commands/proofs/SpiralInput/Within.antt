@@ -1,12 +1,12 @@
 -- What is right for one call is right for another.
-use Rattle.std.proofs.Common.{◌≡◌, ℕ, List, [], ◌++◌, Ok, Err, Result, inl, inr}
+use Rattle.std.proofs.Common.{◌≡◌, ℕ, List, [], ◌++◌, None, Some, Ok, Err, Result, inl, inr}
 use Rattle.std.specs.declared.option.Option.{Option}
 use Rattle.std.specs.Io.KnownBytes.{IsAtEnd}
 use Rattle.spiral_words.specs.declared.spiral_status.status.Status.{Status}
-use Rattle.commands.specs.SpiralInput.Outcomes.{Outcomes, Meets}
+use Rattle.commands.specs.SpiralInput.Outcomes.{Outcomes, Meets, ToldMeets}
 use Rattle.commands.specs.SpiralInput.Stage.{Stage, given, ◌>>=◌, IsAnswerBy}
-use Rattle.commands.specs.Equations.Front.{Front, taken_from, room_behind, MayGoOn, HasEnded, ordered, Work, by_front}
-use Rattle.spiral_main.proofs.Nested.{joined, split_off, nested, unnested, answer_map, broken_map, cut_map}
+use Rattle.commands.specs.Equations.Front.{Front, taken_from, room_behind, MayGoOn, HasEnded, ordered, Work, by_front, staged}
+use Rattle.commands.proofs.SpiralInput.Nested.{joined, split_off, nested, unnested, answer_map, broken_map, cut_map}
 
 -- all that is right for the first is right for the second
 pub record Within (a b : Outcomes) : Type 1 where
@@ -21,6 +21,11 @@ meets_within a b bytes left before after s w m = record {
   read_fault = λ fault. let p = m.read_fault fault in (p.0, p.1, p.2, w.broken p.0 (IsAtEnd left) p.1 p.3, p.4);
   write_fault = λ fault. let p = m.write_fault fault in (p.0, p.1, p.2, p.3, p.4, p.5, w.cut p.0 (p.1 ++ p.2) p.3 p.6, p.7);
 }
+
+pub told_within : (a b : Outcomes) (before left out out' : Option (List ℕ)) (s : Status) → Within a b
+    → ToldMeets a before left out out' s → ToldMeets b before left out out' s
+told_within a b None left out out' s w m = tt
+told_within a b (Some bytes) left out out' s w m = meets_within a b bytes left out out' s w m
 
 pub within_then : (a b c : Outcomes) → Within a b → Within b c → Within a c
 within_then a b c v w = record {
@@ -53,14 +58,6 @@ front_within {A} front orders others v w g h = record {
       cut_map (HasEnded front read (left ≡ [])) (ordered front orders read) (ordered front others read)
       (λ (a : A). (v a (room_behind front read)).cut (front.behind read) left) (λ (a : A). (w a (room_behind front read)).cut (front.behind read) left) t
       (ordered_map front orders others read g) (λ a q. (h a (room_behind front read)).cut (front.behind read) left t q) p;
-}
-
--- a further stage behind the front, and then the work
-abbrev pub staged : {A : Type 0} → Stage A → (A → Work) → Work
-staged {A} stage work room = record {
-  answer = λ bytes. IsAnswerBy stage (λ (a : A). (work a room).answer bytes);
-  broken = λ read ended t. (a : A) × stage (Ok a) × (work a room).broken read ended t;
-  cut = λ read left t. (a : A) × stage (Ok a) × (work a room).cut read left t;
 }
 
 split_broken : {A B : Type 0} (front : Front) (orders : List ℕ → Stage A) (next : A → Stage B) (work : B → Work)
