@@ -21,9 +21,13 @@ use Rattle.request_text.specs.Schedule.{Plan}
 use Rattle.request_text.specs.Turns.{next_state, state_after, turns_of}
 use Rattle.generate.specs.Good.{IsVector}
 use Rattle.tree_model.specs.WholePasses.{whole_loads, whole_stores}
-use Rattle.commands.specs.Settled.{product, sample_sum, IsSampleText}
+use Rattle.matrix_meaning.specs.Asked.{asked_of}
+use Rattle.spiral_words.specs.declared.Document.TheVariants as document
+use Rattle.commands.specs.Equations.Requests.{IsDocument}
+use Rattle.commands.specs.Equations.Sample.{sum_for}
+use Rattle.commands.proofs.Documents.{document_of, with_tree}
 use Rattle.commands.specs.Sample.{sample_vector, weighted_sum, sample_text, AreCountable}
-use Rattle.commands.specs.Performed.{IsGoodCode}
+use Rattle.commands.specs.Programs.{IsGoodCode}
 use Rattle.runs.specs.Stream.{HasNoStranger}
 use Rattle.commands.proofs.CountLemmas.{whole-of, within_word}
 use Rattle.commands.proofs.Requests.{limits}
@@ -133,7 +137,7 @@ pub sampled : (request : Request) (code after : Code) (plan : Plan) (m n seed : 
     → counts.loads ≡ sum_below after.procs (λ q. (counts_so_far after state q).loads)
     → counts.stores ≡ sum_below after.procs (λ q. (counts_so_far after state q).stores)
     → text ≡ sample_text sum (weighted request.weight counts) counts.loads counts.stores
-    → IsSampleText request seed text
+    → IsDocument (document.Sample seed plan) request text
 sampled request code after plan m n seed vector y state sum counts text good in_range none same modulus size v run ran s operations muls loads stores t =
     let turns = turns_of plan code.procs in
     let program = good.0 in
@@ -141,10 +145,10 @@ sampled request code after plan m n seed vector y state sum counts text good in_
     let apart : (phase : ℕ) → IsApart code phase = λ phase. subst (λ (k : Code). IsApart k phase) (sym good.2) (good.1.2.good.apart phase) in
     let here : vector ≡ sample_vector request.modulus request.size seed = v ∙ sample_is request code m n seed good modulus size in
     let fits : IsVector request vector = subst (IsVector request) (sym here) (sample_fits request seed in_range) in
-    let times : y ≡ product request vector = run ∙ ap (λ k. results k vector turns) good.2 ∙ good.1.2.good.product vector turns fits (good_turns plan request code good in_range none) in
+    let times : y ≡ asked_of request vector = run ∙ ap (λ k. results k vector turns) good.2 ∙ good.1.2.good.product vector turns fits (good_turns plan request code good in_range none) in
     let of_request : m ≡ request.modulus = modulus ∙ ap (λ (k : Code). k.modulus) good.2 ∙ good.1.2.good.header.modulus in
     let whole : (q : ℕ) → counts_so_far code state q ≡ whole_counts code q = λ q. ap (λ s. counts_so_far code s q) ran ∙ counts_of_runs code is vector turns q in
-    let sum_is = s ∙ ap₂ weighted_sum of_request (times ∙ ap (product request) here) in
+    let sum_is = s ∙ ap₂ weighted_sum of_request (times ∙ ap (asked_of request) here) in
     let operations_is : weighted request.weight counts ≡ whole_cost request good.1.0 = costs request code after vector turns state counts good in_range same ran operations muls in
     let loads_is : counts.loads ≡ whole_loads request good.1.0 =
     loads ∙ ap (λ (k : Code). sum_below k.procs (λ q. (counts_so_far k state q).loads)) same
@@ -156,6 +160,6 @@ sampled request code after plan m n seed vector y state sum counts text good in_
     ∙ ap (λ n. sum_below n (λ q. (whole_counts (code_of program) q).stores)) good.1.2.good.header.procs ∙ good.1.2.lean.stores in
     let text_is =
     t ∙ ap (λ k. sample_text k (weighted request.weight counts) counts.loads counts.stores) sum_is
-    ∙ ap (λ k. sample_text (sample_sum request seed) k counts.loads counts.stores) operations_is
-    ∙ ap₂ (sample_text (sample_sum request seed) (whole_cost request good.1.0)) loads_is stores_is in
-    (good.1.0, good.1.1, text_is)
+    ∙ ap (λ k. sample_text (sum_for (with_tree request good.1.0) seed) k counts.loads counts.stores) operations_is
+    ∙ ap₂ (sample_text (sum_for (with_tree request good.1.0) seed) (whole_cost request good.1.0)) loads_is stores_is in
+    document_of (document.Sample seed plan) request good.1.0 text good.1.1 text_is

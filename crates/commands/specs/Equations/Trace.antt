@@ -1,11 +1,11 @@
 -- What is right for `trace`.
-use Rattle.std.specs.Prelude.{◌≡◌, ◌++◌, List, ℕ}
+use Rattle.std.specs.Prelude.{◌≡◌, ◌++◌, true, List, ℕ}
 use Rattle.icode.specs.Actions.{plain_code}
 use Rattle.listing_text.specs.Listing.{listing_of}
 use Rattle.generate.specs.Letters.{program_for}
 use Rattle.spiral_words.specs.declared.Order.{Order}
 use Rattle.runs.specs.Stream.{texts}
-use Rattle.commands.specs.Traced.{traced_text}
+use Rattle.commands.specs.OrderText.{order_text}
 use Rattle.commands.specs.SpiralInput.Orders.{procs_in}
 use Rattle.commands.specs.SpiralInput.Outcomes.{Outcomes}
 use Rattle.commands.specs.Equations.Front.{line, by_front, Work}
@@ -15,7 +15,7 @@ use Rattle.commands.specs.Equations.Orders.{Planned, planned}
 -- the lines of each vector's run in the order, and of its results
 abbrev pub run_lines : Order → Planned → List (List ℕ) → List ℕ
 run_lines order plan vectors =
-    texts (traced_text order plan.request.procs (plain_code (program_for plan.request plan.tree))) vectors
+    texts (order_text true order plan.request.procs (plain_code (program_for plan.request plan.tree))) vectors
 
 -- the listing of the tree's program, and the lines of its runs
 abbrev pub trace_work : Order → Planned → Work
