@@ -43,9 +43,10 @@ told_nothing outcomes (Some bytes) left out =
 -- The front is not written whole
 
 pub front_cut : (made : Prepared) (way : Order) (room : ℕ) (before out out' : Option (List ℕ))
-    → 0 < made.program.size → AppendsPrefix out out' made.front.items → ToldMeets (stream_work made way room) before before out out' WriteFault
-front_cut made way room None out out' some wrote = tt
-front_cut made way room (Some bytes) out out' some wrote =
+    → AppendsPrefix out out' made.front.items → ToldMeets (stream_work made way room) before before out out' WriteFault
+front_cut made way room None out out' wrote = tt
+front_cut made way room (Some bytes) out out' wrote =
+    let some : 0 < made.program.size = omega (arith, made.program.header.of_size.0) in
     let size = made.program.size in
     let modulus = made.program.modulus in
     let none : vectors_of size modulus [] ≡ [] = vectors_few size modulus [] some in

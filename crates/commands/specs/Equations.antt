@@ -10,8 +10,11 @@ pub mod Sample
 pub mod Run
 pub mod Trace
 pub mod Check
+pub mod Requests
+pub mod Formulas
 pub mod Compile
 pub mod Apply
 pub mod Exec
+pub mod Convolutions
 pub mod Convolve
-pub mod Requests
+pub mod Commands

@@ -20,7 +20,7 @@ returns-in_err-write_all-clause-told g c =
     let p = err_from_is_err_and c.from_residual-in_err-write_all.result c.from_residual-in_err-write_all.ensures.1 in
     let wrote = rw c.deref.ensures.value at c.in_err-write_all.ensures.bytes in
     rw (p.1, p.2) (front_cut c.args.made.now (order_of c.args.events) (limit - c.args.feed.now.taken)
-    (to_come c.args.feed.now (g.I.Source.left c.args.input.now)) (taken c.args.output.now) (taken c.write_all.new.sink) c.requires.fits.size wrote)
+    (to_come c.args.feed.now (g.I.Source.left c.args.input.now)) (taken c.args.output.now) (taken c.write_all.new.sink) wrote)
 
 pub returns-in_err-run_buffered-clause-told : goal.returns-in_err-run_buffered-clause-told
 returns-in_err-run_buffered-clause-told g c =
