@@ -43,12 +43,12 @@ document_of wanted request tree text planned told = (with_tree request tree, (re
 pub listing_document : (request : Request) (program : Program) (text : List ℕ)
     → IsProgramFor request program → text ≡ listing_of (plain_program program) → IsDocument document.Code request text
 listing_document request program text made told =
-    document_of document.Code request made.0 text made.1 (told ∙ ap listing_of made.2.letters)
+    document_of document.Code request made.0 text made.1 (told ∙ ap listing_of made.2)
 
 pub c_document : (request : Request) (program : Program) (text : List ℕ)
     → IsProgramFor request program → text ≡ c_text_of (plain_program program) → IsDocument document.C request text
 c_document request program text made told =
-    document_of document.C request made.0 text made.1 (told ∙ ap c_text_of made.2.letters)
+    document_of document.C request made.0 text made.1 (told ∙ ap c_text_of made.2)
 
 -- What the command comes to
 

@@ -6,6 +6,7 @@ pub mod CheckLemmas
 pub mod CountLemmas
 pub mod Documents
 pub mod Performs
+pub mod Programs
 pub mod Requests
 pub mod RunLemmas
 pub mod SampleLemmas

@@ -42,13 +42,14 @@ use Rattle.commands.specs.Equations.Trace.{trace_work, run_lines}
 use Rattle.commands.specs.Equations.Works.{all, mapping}
 use Rattle.commands.specs.OrderText.{order_text}
 use Rattle.commands.specs.Prepared.{stream_work}
-use Rattle.commands.specs.Programs.{IsGoodCode, IsProgramFor}
+use Rattle.commands.specs.Programs.{IsProgramFor}
 use Rattle.commands.specs.SpiralInput.Commands.{first_stranger}
 use Rattle.commands.specs.SpiralInput.Ends.{EndsCleanly}
 use Rattle.commands.specs.SpiralInput.Orders.{procs_in}
 use Rattle.commands.specs.SpiralInput.Outcomes.{ToldMeets}
 use Rattle.commands.specs.declared.streams.Prepared.{Prepared}
 use Rattle.commands.proofs.Documents.{with_tree}
+use Rattle.commands.proofs.Programs.{IsGoodCode, code_made, good_code, program_modulus, program_procs, program_size}
 use Rattle.commands.proofs.Requests.{limits}
 use Rattle.commands.proofs.SpiralInput.DataLemmas.{lines_equal}
 use Rattle.commands.proofs.SpiralInput.StageLemmas.{stage_told}
@@ -59,7 +60,7 @@ use Rattle.commands.proofs.StreamLemmas.{mapping_within}
 
 -- a good program has the request's processors
 good_procs : (request : Request) (code : Code) → IsGoodCode request code → code.procs ≡ request.procs
-good_procs request code good = ap (λ (k : Code). k.procs) good.2 ∙ good.1.2.good.header.procs
+good_procs request code good = ap (λ (k : Code). k.procs) good.is ∙ good.good.header.procs
 
 -- the turns of a schedule are of these processors
 pub good_turns : (plan : Plan) (request : Request) (code : Code) → IsGoodCode request code → IsInRange request → HasNoStranger plan request.procs → All (λ q. q < request.procs) (turns_of plan code.procs)
@@ -68,9 +69,9 @@ good_turns plan request code good in_range none =
     (All-from_get_or (λ q. q < request.procs) (turns_of plan request.procs) 0 (turns_there plan request.procs (limits request in_range).procs none))
 
 -- where the request has no stranger, its program has none
-pub no_stranger : (names : List ℕ) (request : Request) (program : Program) → IsProgramFor request program → first_stranger names request.procs ≡ None
+pub no_stranger : (names : List ℕ) (request : Request) (program : Program) → IsInRange request → IsProgramFor request program → first_stranger names request.procs ≡ None
     → first_stranger names program.procs ≡ None
-no_stranger names request program made none = subst (λ p. first_stranger names p ≡ None) (sym made.2.good.header.procs) none
+no_stranger names request program in_range made none = subst (λ p. first_stranger names p ≡ None) (sym (program_procs request program in_range made)) none
 
 -- The lines of a run
 
@@ -78,35 +79,35 @@ no_stranger names request program made none = subst (λ p. first_stranger names 
 good_lines : (request : Request) (code : Code) (turns : List ℕ) (vectors : List (List ℕ)) → IsGoodCode request code → 0 < request.modulus → All (λ q. q < request.procs) turns
     → (ts : List (List ℕ)) × (vectors_of request.size request.modulus ts ≡ vectors) → lines (λ x. results code x turns) vectors ≡ lines (asked_of request) vectors
 good_lines request code turns vectors good some there made =
-    let apart = good.1.2.good.product in
+    let apart = good.good.product in
     let f : List ℕ → List ℕ = λ x. results code x turns in
     let same : (x : List ℕ) → length x ≡ request.size → All (λ v. v < request.modulus) x → f x ≡ asked_of request x =
-    λ x full below. ap (λ k. results k x turns) good.2 ∙ apart x turns (record { size = full; residues = below }) there in
+    λ x full below. ap (λ k. results k x turns) good.is ∙ apart x turns (record { size = full; residues = below }) there in
     subst (λ (v : List (List ℕ)). lines f v ≡ lines (asked_of request) v) made.1
     (lines_equal request.size request.modulus f (asked_of request) same some (length made.0 / request.size) made.0 (div-mul-le_self (length made.0) request.size))
 
 -- with store buffers a good program leaves what it leaves without
 good_memory : (request : Request) (code : Code) → IsGoodCode request code → (x : List ℕ) (events : List Event) → buffered_results code x events ≡ results code x []
 good_memory request code good x events =
-    let own : Code = code_of good.0 in
-    let is : IsCode own = code_is (plain_program good.0) in
-    let same : buffered_results own x events ≡ results own x [] = ap (λ (m : List ℕ). words_at own.size m (padded own)) (memory_of_buffered own is good.1.2.good.apart x events ∙ sym (memory_of_runs own is good.1.2.good.apart x [])) in
-    subst (λ (k : Code). buffered_results k x events ≡ results k x []) (sym good.2) same
+    let own : Code = plain_code (program_for request good.tree) in
+    let is : IsCode own = code_is (program_for request good.tree) in
+    let same : buffered_results own x events ≡ results own x [] = ap (λ (m : List ℕ). words_at own.size m (padded own)) (memory_of_buffered own is good.good.apart x events ∙ sym (memory_of_runs own is good.good.apart x [])) in
+    subst (λ (k : Code). buffered_results k x events ≡ results k x []) (sym good.is) same
 
-buffered_lines : (request : Request) (program : Program) (drains : List Event) (ts : List (List ℕ)) → IsProgramFor request program → IsInRange request
+buffered_lines : (request : Request) (program : Program) (drains : List Event) (ts : List (List ℕ)) → IsInRange request → IsProgramFor request program
     → texts (buffered_text false (code_of program) drains) (vectors_of request.size request.modulus ts) ≡ lines (asked_of request) (vectors_of request.size request.modulus ts)
 buffered_lines request program drains ts made in_range =
     let code : Code = code_of program in
-    let good : IsGoodCode request code = (program, made, refl) in
+    let good : IsGoodCode request code = good_code request code in_range (code_made request program made) in
     texts_same (buffered_text false code drains) (λ x. line_of (results code x [])) (λ x. ap line_of (good_memory request code good x drains)) (vectors_of request.size request.modulus ts)
     ∙ good_lines request code [] (vectors_of request.size request.modulus ts) good (limits request in_range).modulus (λ i d lt. absurd (omega arith)) (ts, refl)
 
 -- in any order they are those of the matrix
-order_lines : (way : Order) (request : Request) (program : Program) (ts : List (List ℕ)) → IsProgramFor request program → IsInRange request
+order_lines : (way : Order) (request : Request) (program : Program) (ts : List (List ℕ)) → IsInRange request → IsProgramFor request program
     → first_stranger (procs_in way) request.procs ≡ None
     → texts (order_text false way program.procs (code_of program)) (vectors_of request.size request.modulus ts) ≡ lines (asked_of request) (vectors_of request.size request.modulus ts)
 order_lines (order.Turns schedule) request program ts made in_range none =
-    let good : IsGoodCode request (code_of program) = (program, made, refl) in
+    let good : IsGoodCode request (code_of program) = good_code request (code_of program) in_range (code_made request program made) in
     good_lines request (code_of program) (turns_of schedule program.procs) (vectors_of request.size request.modulus ts) good (limits request in_range).modulus
     (good_turns schedule request (code_of program) good in_range none) (ts, refl)
 order_lines (order.Buffered schedule) request program ts made in_range none = buffered_lines request program _ ts made in_range
@@ -116,14 +117,14 @@ order_lines (order.Mixed mix) request program ts made in_range none = buffered_l
 
 -- the program's data are those of its request
 sized : (request : Request) (program : Program) (IsText : List (List ℕ) → List ℕ → Type 0) (room : ℕ) (before after out out' : Option (List ℕ)) (status : Status)
-    → IsProgramFor request program → ToldMeets (mapping all program.size program.modulus IsText room) before after out out' status
+    → IsInRange request → IsProgramFor request program → ToldMeets (mapping all program.size program.modulus IsText room) before after out out' status
     → ToldMeets (mapping all request.size request.modulus IsText room) before after out out' status
-sized request program IsText room before after out out' status made p =
-    subst (λ n. ToldMeets (mapping all request.size n IsText room) before after out out' status) made.2.good.header.modulus
-    (subst (λ n. ToldMeets (mapping all n program.modulus IsText room) before after out out' status) made.2.good.header.size p)
+sized request program IsText room before after out out' status in_range made p =
+    subst (λ n. ToldMeets (mapping all request.size n IsText room) before after out out' status) (program_modulus request program in_range made)
+    (subst (λ n. ToldMeets (mapping all n program.modulus IsText room) before after out out' status) (program_size request program in_range made) p)
 
 pub run_told : (request : Request) (program : Program) (front : Vec ℕ Global) (way : Order) (room : ℕ) (before after out out' : Option (List ℕ)) (status : Status)
-    → IsProgramFor request program → IsInRange request → first_stranger (procs_in way) request.procs ≡ None → front.items ≡ []
+    → IsInRange request → IsProgramFor request program → first_stranger (procs_in way) request.procs ≡ None → front.items ≡ []
     → ToldMeets (stream_work (record { program = program; front = front; lines = false }) way room) before after out out' status
     → ToldMeets (work_for (command.Runs way) request room) before after out out' status
 run_told request program front way room before after out out' status made in_range none alone p =
@@ -134,25 +135,25 @@ run_told request program front way room before after out out' status made in_ran
     (told_within (mapping all request.size request.modulus Writes room) (mapping all request.size request.modulus Wanted room) before after out out' status
     (mapping_within request.size request.modulus Writes Wanted room (λ ts t written.
     written ∙ ap (λ l. l ++ texts text (vectors_of request.size request.modulus ts)) alone ∙ order_lines way request program ts made in_range none))
-    (sized request program Writes room before after out out' status made p))
+    (sized request program Writes room before after out out' status in_range made p))
 
 pub trace_told : (request : Request) (program : Program) (front : Vec ℕ Global) (way : Order) (room : ℕ) (before after out out' : Option (List ℕ)) (status : Status)
-    → IsProgramFor request program → front.items ≡ listing_of (plain_program program)
+    → IsInRange request → IsProgramFor request program → front.items ≡ listing_of (plain_program program)
     → ToldMeets (stream_work (record { program = program; front = front; lines = true }) way room) before after out out' status
     → ToldMeets (work_for (command.Traces way) request room) before after out out' status
-trace_told request program front way room before after out out' status made listed p =
+trace_told request program front way room before after out out' status in_range made listed p =
     let own : PlainProgram = program_for request made.0 in
     let text : List ℕ → List ℕ = order_text true way program.procs (code_of program) in
     let same : text ≡ order_text true way request.procs (plain_code own) =
-    ap (λ n. order_text true way n (code_of program)) made.2.good.header.procs ∙ ap (λ (q : PlainProgram). order_text true way request.procs (plain_code q)) made.2.letters in
+    ap (λ n. order_text true way n (code_of program)) (program_procs request program in_range made) ∙ ap (λ (q : PlainProgram). order_text true way request.procs (plain_code q)) made.2 in
     let Writes : List (List ℕ) → List ℕ → Type 0 = λ vectors t. t ≡ front.items ++ texts text vectors in
     let Wanted : List (List ℕ) → List ℕ → Type 0 = λ vectors t. t ≡ listing_of own ++ run_lines way (with_tree request made.0) vectors in
     stage_told (chosen request) (trace_work way) room (with_tree request made.0) before after out out' status (refl, made.1)
     (told_within (mapping all request.size request.modulus Writes room) (mapping all request.size request.modulus Wanted room) before after out out' status
     (mapping_within request.size request.modulus Writes Wanted room (λ ts t written.
     let vectors = vectors_of request.size request.modulus ts in
-    written ∙ ap (λ l. l ++ texts text vectors) (listed ∙ ap listing_of made.2.letters) ∙ ap (λ (f : List ℕ → List ℕ). listing_of own ++ texts f vectors) same))
-    (sized request program Writes room before after out out' status made p))
+    written ∙ ap (λ l. l ++ texts text vectors) (listed ∙ ap listing_of made.2) ∙ ap (λ (f : List ℕ → List ℕ). listing_of own ++ texts f vectors) same))
+    (sized request program Writes room before after out out' status in_range made p))
 
 -- How it ends
 

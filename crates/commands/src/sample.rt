@@ -4,7 +4,7 @@ ghost use Rattle.matrix_meaning.specs.Valid.{IsInRange};
 ghost use Rattle.icode.specs.Machine.{weighted};
 ghost use Rattle.commands.specs.Equations.Orders.{chosen};
 ghost use Rattle.commands.specs.Equations.Requests.{IsDocument};
-ghost use Rattle.commands.specs.Programs.{IsGoodCode};
+ghost use Rattle.commands.specs.Programs.{IsCodeFor};
 ghost use Rattle.commands.specs.Sample.{AreCountable, AreTotals};
 ghost use Rattle.commands.specs.Sample.{sample_vector, weighted_sum, sample_text};
 ghost use Rattle.spiral_words.specs.SpiralStatus.Status.{IsDefined};
@@ -101,7 +101,7 @@ fn sample_text(
 // A machine with a good program for the request, and room for a vector.
 fn engine(alloc: Global, request: &Request) -> Result<(Machine, Vec<u64>), Status>
     requires in_range { IsInRange request.now }
-    ensures machine { IfOk result (λ made. IsGoodCode request.now made.0.code) }
+    ensures machine { IfOk result (λ made. IsCodeFor request.now made.0.code) }
     ensures room { IfOk result (λ made. vec_len made.1 ≡ made.0.code.size) }
     ensures some { IfOk result (λ made. 0 < vec_len made.1) }
     ensures refused { IfErr result (λ status. IsDefined status → chosen request.now (Err status)) }

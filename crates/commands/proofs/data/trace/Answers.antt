@@ -13,7 +13,7 @@ use Rattle.commands.proofs.StreamLemmas.{told_nothing}
 use Rattle.commands.proofs.data.trace.Goals as goal
 
 pub stream-requires-clause-turns : goal.stream-requires-clause-turns
-stream-requires-clause-turns g c = no_stranger (procs_in c.args.order.now) c.args.request.now c.in_ok-program.program c.in_ok-program.ensures.program c.requires.turns
+stream-requires-clause-turns g c = no_stranger (procs_in c.args.order.now) c.args.request.now c.in_ok-program.program c.requires.in_range c.in_ok-program.ensures.program c.requires.turns
 
 pub returns-in_err-program-clause-told : goal.returns-in_err-program-clause-told
 returns-in_err-program-clause-told g c =
@@ -33,4 +33,4 @@ returns-clause-told g c =
     trace_told c.args.request.now c.in_ok-program.program c.in_ok-front.front c.args.order.now (limit - c.args.feed.now.taken)
     (to_come c.args.feed.now (g.I.Source.left c.args.input.now)) (to_come c.stream.new.feed (g.I.Source.left c.stream.new.input))
     (g.O.Sink.taken c.args.output.now) (g.O.Sink.taken c.stream.new.output) (status_of c.stream.result)
-    c.in_ok-program.ensures.program c.in_ok-front.ensures.text c.stream.ensures.told
+    c.requires.in_range c.in_ok-program.ensures.program c.in_ok-front.ensures.text c.stream.ensures.told

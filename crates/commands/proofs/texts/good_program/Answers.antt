@@ -2,8 +2,4 @@ use Rattle.tree_model.specs.Breakdown.{breakdown_of}
 use Rattle.commands.proofs.texts.good_program.Goals as goal
 
 pub returns-clause-program : goal.returns-clause-program
-returns-clause-program c = (
-  breakdown_of c.in_ok-product.product.plan.tree,
-  c.in_ok-product.ensures.planned,
-  record { letters = c.in_ok-product.ensures.letters; good = c.in_ok-product.ensures.good; lean = c.in_ok-product.ensures.lean },
-)
+returns-clause-program c = (breakdown_of c.in_ok-product.product.plan.tree, c.in_ok-product.ensures.planned, c.in_ok-product.ensures.letters)
