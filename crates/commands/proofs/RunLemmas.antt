@@ -96,7 +96,7 @@ good_memory request code good x events =
 
 buffered_lines : (request : Request) (program : Program) (drains : List Event) (ts : List (List ℕ)) → IsInRange request → IsProgramFor request program
     → texts (buffered_text false (code_of program) drains) (vectors_of request.size request.modulus ts) ≡ lines (asked_of request) (vectors_of request.size request.modulus ts)
-buffered_lines request program drains ts made in_range =
+buffered_lines request program drains ts in_range made =
     let code : Code = code_of program in
     let good : IsGoodCode request code = good_code request code in_range (code_made request program made) in
     texts_same (buffered_text false code drains) (λ x. line_of (results code x [])) (λ x. ap line_of (good_memory request code good x drains)) (vectors_of request.size request.modulus ts)
@@ -106,12 +106,12 @@ buffered_lines request program drains ts made in_range =
 order_lines : (way : Order) (request : Request) (program : Program) (ts : List (List ℕ)) → IsInRange request → IsProgramFor request program
     → first_stranger (procs_in way) request.procs ≡ None
     → texts (order_text false way program.procs (code_of program)) (vectors_of request.size request.modulus ts) ≡ lines (asked_of request) (vectors_of request.size request.modulus ts)
-order_lines (order.Turns schedule) request program ts made in_range none =
+order_lines (order.Turns schedule) request program ts in_range made none =
     let good : IsGoodCode request (code_of program) = good_code request (code_of program) in_range (code_made request program made) in
     good_lines request (code_of program) (turns_of schedule program.procs) (vectors_of request.size request.modulus ts) good (limits request in_range).modulus
     (good_turns schedule request (code_of program) good in_range none) (ts, refl)
-order_lines (order.Buffered schedule) request program ts made in_range none = buffered_lines request program _ ts made in_range
-order_lines (order.Mixed mix) request program ts made in_range none = buffered_lines request program mix ts made in_range
+order_lines (order.Buffered schedule) request program ts in_range made none = buffered_lines request program _ ts in_range made
+order_lines (order.Mixed mix) request program ts in_range made none = buffered_lines request program mix ts in_range made
 
 -- What a run comes to
 
@@ -127,14 +127,14 @@ pub run_told : (request : Request) (program : Program) (front : Vec ℕ Global) 
     → IsInRange request → IsProgramFor request program → first_stranger (procs_in way) request.procs ≡ None → front.items ≡ []
     → ToldMeets (stream_work (record { program = program; front = front; lines = false }) way room) before after out out' status
     → ToldMeets (work_for (command.Runs way) request room) before after out out' status
-run_told request program front way room before after out out' status made in_range none alone p =
+run_told request program front way room before after out out' status in_range made none alone p =
     let text : List ℕ → List ℕ = order_text false way program.procs (code_of program) in
     let Writes : List (List ℕ) → List ℕ → Type 0 = λ vectors t. t ≡ front.items ++ texts text vectors in
     let Wanted : List (List ℕ) → List ℕ → Type 0 = λ vectors t. t ≡ lines (asked_of request) vectors in
     stage_told (chosen request) run_work room (with_tree request made.0) before after out out' status (refl, made.1)
     (told_within (mapping all request.size request.modulus Writes room) (mapping all request.size request.modulus Wanted room) before after out out' status
     (mapping_within request.size request.modulus Writes Wanted room (λ ts t written.
-    written ∙ ap (λ l. l ++ texts text (vectors_of request.size request.modulus ts)) alone ∙ order_lines way request program ts made in_range none))
+    written ∙ ap (λ l. l ++ texts text (vectors_of request.size request.modulus ts)) alone ∙ order_lines way request program ts in_range made none))
     (sized request program Writes room before after out out' status in_range made p))
 
 pub trace_told : (request : Request) (program : Program) (front : Vec ℕ Global) (way : Order) (room : ℕ) (before after out out' : Option (List ℕ)) (status : Status)
