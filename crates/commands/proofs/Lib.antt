@@ -12,3 +12,4 @@ pub mod RunLemmas
 pub mod SampleLemmas
 pub mod StreamLemmas
 pub use Rattle.generate.proofs.Existence
+pub use Rattle.generate.proofs.GoodPrograms
