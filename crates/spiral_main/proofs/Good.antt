@@ -82,7 +82,7 @@ admitted_same None procs a b is = done_same a b (sym is)
 admitted_same (Some q) procs a b is = absurd (done_ended b (Turn q procs) is)
 
 -- the request that a line spells, if it has the processors
-turned_spelt : (spells : List ℕ → Stage Request) (names text : List ℕ) (request : Request)
+pub turned_spelt : (spells : List ℕ → Stage Request) (names text : List ℕ) (request : Request)
     → (spells text >>= turned names) (Ok request) → spells text (Ok request)
 turned_spelt spells names text request p =
     let own = p.value in

@@ -5,10 +5,12 @@ use Rattle.listing_text.specs.Listing.{listing_of}
 use Rattle.spl_ast.specs.Formula.{Formula}
 use Rattle.commands.specs.SpiralInput.Outcomes.{Outcomes}
 use Rattle.commands.specs.Equations.Formulas.{written}
-use Rattle.commands.specs.Equations.Front.{line, by_front}
+use Rattle.commands.specs.Equations.Front.{line, by_front, Work}
 use Rattle.commands.specs.Equations.Works.{writing}
 
 -- the listing of the formula's program
+abbrev pub compile_work : ℕ → Formula → Work
+compile_work m formula = writing (λ text. text ≡ listing_of (program_for m formula))
+
 abbrev pub compile_outcomes : ℕ → Outcomes
-compile_outcomes m = by_front (line 65536) written
-    (λ (formula : Formula). writing (λ text. text ≡ listing_of (program_for m formula)))
+compile_outcomes m = by_front (line 65536) written (compile_work m)
