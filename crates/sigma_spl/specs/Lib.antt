@@ -17,3 +17,4 @@ pub mod Words
 pub mod Sigma
 pub mod Views
 pub mod Shared
+pub mod Trees

@@ -3,3 +3,5 @@ pub mod Targets
 pub mod Costs
 pub mod Running
 pub mod Owners
+pub mod Names
+pub mod Ready

@@ -1,4 +1,4 @@
-use Rattle.spiral_words.proofs.command.mix_of.Goals as goal
+use Rattle.spiral_words.proofs.order.mix_of.Goals as goal
 
 pub returns-in-Err-Syntax-clause-usage : goal.returns-in-Err-Syntax-clause-usage
 returns-in-Err-Syntax-clause-usage c =

@@ -1,5 +1,5 @@
 use Rattle.std.proofs.lemmas.Result.{err_from_is_err_and}
-use Rattle.spiral_words.proofs.command.buffered_order.Goals as goal
+use Rattle.spiral_words.proofs.order.buffered_order.Goals as goal
 
 pub returns-in_err-mix-in-Err-Usage-clause-usage : goal.returns-in_err-mix-in-Err-Usage-clause-usage
 returns-in_err-mix-in-Err-Usage-clause-usage c =
