@@ -1,11 +1,6 @@
 -- Where words ask for nothing, by what clap refuses and by the grammars of the options.
-<<<<<<< HEAD
-use Rattle.std.specs.Prelude.{◌≡◌, ◌⊎◌, ℕ, List, Bool, true, false, Some, ◌&&◌}
-use Rattle.std.specs.List.{Any, Contains, list_any}
-=======
 use Rattle.std.specs.Prelude.{◌≡◌, ◌⊎◌, ℕ, List, [], ◌∷◌, Bool, true, false, Some}
 use Rattle.std.specs.List.{Any}
->>>>>>> 6c6a429aaad86960927861da66c187fbf7ece583
 use Rattle.clap.specs.Words.{Row, Text, fault_of}
 use Rattle.clap.specs.Walk.{is_empty}
 use Rattle.icode.specs.declared.event.Event.{Event}
@@ -53,15 +48,9 @@ IsOther options rows Seed = IsNoSeed (text_of Seed rows)
 IsOther options rows Modulus = IsNoModulus (text_of Modulus rows)
 IsOther options rows _ = ⊥
 
-<<<<<<< HEAD
--- an option's text is outside its grammar
-abbrev pub HasOtherText : Text → List Row → Type 0
-HasOtherText name rows = (options : List OptionName) × Contains commands (name, options) × Any (IsOther options rows) options
-=======
 -- the command of this name has an option whose text is outside its grammar
 abbrev pub HasOtherText : Text → List Row → Type 0
 HasOtherText name rows = Any (λ row. (row.0 ≡ name) × Any (IsOther row.1 rows) row.1) commands
->>>>>>> 6c6a429aaad86960927861da66c187fbf7ece583
 
 -- clap refuses the words, or finds an option's text that is outside its grammar
 abbrev pub IsRefused : List Text → Type 0

@@ -2,23 +2,14 @@
 ghost use Rattle.std.specs.Prelude.{◌≡◌, [], ◌∷◌, IfOk, false, map};
 ghost use Rattle.clap.specs.Words.{app_of, shape_of, rule_of};
 ghost use Rattle.clap.specs.declared.Command.TheViews.{out-Command as fields_of};
-<<<<<<< HEAD
-ghost use Rattle.spiral_words.specs.CommandLine.{name_of, option_rule, long_rule, command_shape, bare_app, spiral_app};
-=======
 ghost use Rattle.spiral_words.specs.CommandLine.{name_of, option_rule, command_shape, app_with, bare_app, spiral_app};
->>>>>>> 6c6a429aaad86960927861da66c187fbf7ece583
 
 use clap::{Arg, ArgAction, Command};
 use std::alloc::{AllocError, Global};
 
 /// An option of a command.
-<<<<<<< HEAD
-#[derive(Clone, Copy, Debug, PartialEq, Eq)]
-pub enum OptionName {
-=======
 #[derive(Clone, Copy)]
 pub(crate) enum OptionName {
->>>>>>> 6c6a429aaad86960927861da66c187fbf7ece583
     Schedule,
     Seed,
     Modulus,
@@ -47,13 +38,8 @@ const COMMANDS: [(&str, &[OptionName]); 13] = [
 
 impl OptionName {
     /// The name, without its hyphens.
-<<<<<<< HEAD
-    pub(crate) fn name(self) -> &'static str
-        ensures { result.now ≡ name_of self.entry }
-=======
     pub(crate) fn name<'a>(self) -> &'a str
         ensures { result.now ≡ name_of self }
->>>>>>> 6c6a429aaad86960927861da66c187fbf7ece583
     {
         match self {
             Schedule => "schedule",
@@ -65,11 +51,7 @@ impl OptionName {
     }
 
     fn rule<'a>(self, alloc: Global) -> Arg<'a>
-<<<<<<< HEAD
-        ensures rule { rule_of result ≡ option_rule self.entry }
-=======
         ensures rule { rule_of result ≡ option_rule self }
->>>>>>> 6c6a429aaad86960927861da66c187fbf7ece583
         ensures local { result.global ≡ false }
     {
         let name = self.name();
@@ -91,11 +73,7 @@ fn command<'a>(
     options: &[OptionName],
 ) -> Result<Command<'a>, AllocError>
     ensures shape { IfOk result
-<<<<<<< HEAD
-        (λ r. shape_of r ≡ command_shape (name.now, options.now.items)) }
-=======
         (λ r. shape_of r ≡ command_shape (name.now, options.now)) }
->>>>>>> 6c6a429aaad86960927861da66c187fbf7ece583
     ensures local { IfOk result (λ r. (fields_of r).has_globals ≡ false) }
 {
     let mut command = Command::new(alloc, name);
@@ -114,8 +92,6 @@ fn bare<'a>(alloc: Global) -> Command<'a>
         .subcommand_required(true)
 }
 
-<<<<<<< HEAD
-=======
 /// The command line with these commands.
 fn with_commands<'a>(
     alloc: Global,
@@ -131,19 +107,9 @@ fn with_commands<'a>(
     Ok(app)
 }
 
->>>>>>> 6c6a429aaad86960927861da66c187fbf7ece583
 /// The whole command line.
 pub(crate) fn spiral_app<'a>(alloc: Global) -> Result<Command<'a>, AllocError>
     ensures { IfOk result (λ r. app_of r ≡ spiral_app) }
 {
-<<<<<<< HEAD
-    let mut app = bare(alloc);
-    for (name, options) in COMMANDS {
-        let command = command(alloc, name, options)?;
-        app = app.subcommand(command)?;
-    }
-    Ok(app)
-=======
     with_commands(alloc, &COMMANDS)
->>>>>>> 6c6a429aaad86960927861da66c187fbf7ece583
 }
