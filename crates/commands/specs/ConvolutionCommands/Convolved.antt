@@ -29,11 +29,6 @@ use Rattle.tree_model.specs.Breakdown.{Breakdown}
 
 -- The request
 
--- the request that the line spells, if it is in range and its size has an inverse
-abbrev pub conv_spelt : List ℕ → Stage Request
-conv_spelt line (Ok request) = ConvAnswers line (Ok request)
-conv_spelt line (Err status) = (fault : RequestFault) × ConvAnswers line (Err fault) × (status ≡ status_of_request fault)
-
 -- the root is one of the size, its power sums are 0, and the least cost is within the budget
 abbrev pub IsConvolvable : Request → Type 0
 IsConvolvable request = (tree : Breakdown) × IsConvPlanned request (Ok tree)

@@ -36,12 +36,6 @@ formula_limit = 65536
 abbrev pub formula_line : List ℕ → Result (List ℕ) Status
 formula_line bytes = if nat_le (length (first_line bytes)) formula_limit then Ok (first_line bytes) else Err (TooLong formula_limit)
 
--- the formula that the text spells, or the first fault from left to right
-abbrev pub written : List ℕ → Stage Formula
-written text (Ok formula) = IsFirst text (Ok formula) × Shows text (Ok formula)
-written text (Err status) =
-    (fault : SplFault) × (fault ≢ spl.NoMemory) × IsFirst text (Err fault) × Shows text (Err fault) × (status ≡ status_of_spl fault)
-
 -- the formula for the command. Its program has one processor, and the schedule names no other
 abbrev pub formed : Command → List ℕ → Stage Formula
 formed wanted text = do
