@@ -8,10 +8,9 @@ ghost use Rattle.commands.specs.SpiralInput.Ends.{ReadsCleanly};
 ghost use Rattle.commands.specs.SpiralInput.Commands.{commanded, AreJudged, NamesNoStranger, first_stranger, procs_named};
 ghost use Rattle.commands.specs.SpiralInput.Orders.{procs_in};
 ghost use Rattle.spiral_words.specs.SpiralStatus.Status.{IsDefined};
-ghost use Rattle.commands.specs.SpiralInput.Asking.{Asks, spelt};
-ghost use Rattle.commands.specs.SpiralInput.Stage.{◌>>=◌};
+ghost use Rattle.commands.specs.SpiralInput.Asking.{Asks};
 ghost use Rattle.commands.specs.Equations.Front as fronts;
-ghost use Rattle.commands.specs.Equations.Orders.{turned};
+ghost use Rattle.commands.specs.Equations.Orders.{spelt_for};
 ghost use Rattle.commands.specs.SpiralInput.Refusals.{IsEarly};
 
 mod line;
@@ -28,7 +27,7 @@ use std::alloc::Global;
 /// The request that the first line of the input spells, for the command.
 pub(crate) fn ask<I: Source>(command: &RequestCommand, feed: &mut Feed, input: &mut I) -> Result<Request, Status>
     requires fresh { feed.old.taken ≡ 0 }
-    ensures told { Asks (fronts.line 256) (λ text. spelt text >>= turned (procs_named command.now))
+    ensures told { Asks (fronts.line 256) (spelt_for (procs_named command.now))
         (to_come feed.old (I.left input.old)) (to_come feed.new (I.left input.new)) feed.new.taken result }
     ensures within { OnOk result (feed.new.taken ≤ 257) }
     ensures request { IfOk result IsInRange }

@@ -39,7 +39,7 @@ pub asked_request_fault : (spells : List ℕ → Stage Request) (names : List �
     → Consumes before after read → IsWhole (line 256) read (IsAtEnd after) text → length text ≤ 256 → spells text (Err (status_of_request fault))
     → Asks (line 256) (λ text. spells text >>= turned names) before after taken (Err (status_of_request fault))
 asked_request_fault spells names before after taken read text fault consumed whole short answer =
-    asks_refused (line 256) (λ text. spells text >>= turned names) before after taken read text (status_of_request fault) consumed whole short (inl answer) (request_fault_other fault)
+    asks_refused (line 256) (λ text. spells text >>= turned names) before after taken read text (status_of_request fault) consumed whole short (λ _. inl answer) (request_fault_other fault)
 
 -- a turn is of a processor that is not there
 pub asked_turn_fault : (spells : List ℕ → Stage Request) (names : List ℕ) (before after : Option (List ℕ)) (taken : ℕ) (read text : List ℕ) (wanted : Request) (q : ℕ)
@@ -48,7 +48,7 @@ pub asked_turn_fault : (spells : List ℕ → Stage Request) (names : List ℕ) 
     → Asks (line 256) (λ text. spells text >>= turned names) before after taken (Err (Turn q wanted.procs))
 asked_turn_fault spells names before after taken read text wanted q consumed whole short answer found =
     asks_refused (line 256) (λ text. spells text >>= turned names) before after taken read text (Turn q wanted.procs) consumed whole short
-    (inr (record { value = wanted; before = answer; behind = sym (ap (λ o. admitted o wanted.procs wanted) found) })) (λ e. cc)
+    (λ _. inr (record { value = wanted; before = answer; behind = sym (ap (λ o. admitted o wanted.procs wanted) found) })) (λ e. cc)
 
 -- the request
 pub asked_request : (spells : List ℕ → Stage Request) (names : List ℕ) (before after : Option (List ℕ)) (taken : ℕ) (read text : List ℕ) (wanted : Request)

@@ -5,6 +5,7 @@ use Rattle.std.proofs.KnownBytes.{Appends-nil, Consumes-trans}
 use Rattle.std.specs.declared.option.Option.{Option}
 use Rattle.std.specs.Io.KnownBytes.{Consumes, IsAtEnd}
 use Rattle.io_edge.specs.Feed.{limit}
+use Rattle.spiral_words.specs.SpiralStatus.Status.{IsDefined}
 use Rattle.spiral_words.specs.declared.spiral_status.status.Status.{Status}
 use Rattle.spiral_words.specs.declared.spiral_status.status.Status.TheVariants.{ReadFault, WriteFault, TooLong}
 use Rattle.commands.specs.SpiralInput.Asking.{AsksBy, Asks}
@@ -152,13 +153,13 @@ asks_too_long front orders (Some bytes) (Some rest) taken read consumed long =
 
 -- its text orders nothing
 pub asks_refused : {A : Type 0} (front : Front) (orders : List ℕ → Stage A) (before after : Option (List ℕ)) (taken : ℕ) (read text : List ℕ) (status : Status)
-    → Consumes before after read → IsWhole front read (IsAtEnd after) text → length text ≤ front.most → orders text (Err status) → status ≢ ReadFault
+    → Consumes before after read → IsWhole front read (IsAtEnd after) text → length text ≤ front.most → (IsDefined status → orders text (Err status)) → status ≢ ReadFault
     → Asks front orders before after taken (Err status)
 asks_refused front orders None after taken read text status consumed whole short refused other = tt
 asks_refused front orders (Some bytes) None taken read text status consumed whole short refused other = consumed
 asks_refused front orders (Some bytes) (Some rest) taken read text status consumed whole short refused other =
     let there = front_short front (read ++ rest) text (whole rest (λ e. e)).0 short in
-    (read, consumed, (λ _. inr (record { value = text; before = sym there; behind = refused }), λ e. absurd (other e)))
+    (read, consumed, (λ d. inr (record { value = text; before = sym there; behind = refused d }), λ e. absurd (other e)))
 
 -- its text orders a value
 pub asks_value : {A : Type 0} (front : Front) (orders : List ℕ → Stage A) (before after : Option (List ℕ)) (taken : ℕ) (read text : List ℕ) (value : A)

@@ -14,6 +14,10 @@ abbrev pub conv_spelt : List ℕ → Stage Request
 conv_spelt line (Ok request) = ConvAnswers line (Ok request)
 conv_spelt line (Err status) = (fault : RequestFault) × ConvAnswers line (Err fault) × (status ≡ status_of_request fault)
 
+-- the same for a command whose words name these processors
+abbrev pub conv_spelt_for : List ℕ → List ℕ → Stage Request
+conv_spelt_for names text = conv_spelt text >>= turned names
+
 -- the request with the tree chosen for it, or the first cause to refuse it
 abbrev pub conv_chosen : Request → Stage Planned
 conv_chosen request (Ok plan) = (plan.request ≡ request) × IsConvPlanned request (Ok plan.tree)
@@ -21,4 +25,4 @@ conv_chosen request (Err status) =
     (fault : ConvFault) × IsConvPlanned request (Err fault) × (status ≡ status_of_conv fault)
 
 abbrev pub conv_planned : List ℕ → List ℕ → Stage Planned
-conv_planned names text = conv_spelt text >>= turned names >>= conv_chosen
+conv_planned names text = conv_spelt_for names text >>= conv_chosen

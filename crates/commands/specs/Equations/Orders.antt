@@ -18,6 +18,10 @@ pub record Planned : Type 0 where
 abbrev pub turned : List ℕ → Request → Stage Request
 turned names request = given (admitted (first_stranger names request.procs) request.procs request)
 
+-- the request that the text spells, for a command whose words name these processors
+abbrev pub spelt_for : List ℕ → List ℕ → Stage Request
+spelt_for names text = spelt text >>= turned names
+
 -- the request with the tree chosen for it, or the first cause to refuse it
 abbrev pub chosen : Request → Stage Planned
 chosen request (Ok plan) = (plan.request ≡ request) × IsPlanned request (Ok plan.tree)
@@ -26,4 +30,4 @@ chosen request (Err status) =
 
 -- what a line orders, for a command whose words name these processors
 abbrev pub planned : List ℕ → List ℕ → Stage Planned
-planned names text = spelt text >>= turned names >>= chosen
+planned names text = spelt_for names text >>= chosen
