@@ -1,3 +1,4 @@
 pub mod CompiledLemmas
 pub mod OneFormula
 pub mod Written
+pub mod Shaped

@@ -2,10 +2,14 @@ pub mod ConvolutionCommands
 pub mod ListingCommands
 pub mod FormulaCommands
 pub mod SpiralInput
-pub mod BufferedLemmas
+pub mod CheckLemmas
 pub mod CountLemmas
-pub mod PerformedLemmas
+pub mod Documents
+pub mod Performs
+pub mod Programs
 pub mod Requests
 pub mod RunLemmas
 pub mod SampleLemmas
+pub mod StreamLemmas
 pub use Rattle.generate.proofs.Existence
+pub use Rattle.generate.proofs.GoodPrograms

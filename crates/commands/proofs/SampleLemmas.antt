@@ -13,7 +13,8 @@ use Rattle.tree_model.specs.Chosen.{whole_cost}
 use Rattle.icode.specs.declared.action.Action.{Action}
 use Rattle.icode.specs.declared.action.Counts.{Counts}
 use Rattle.icode.specs.Machine.{Code, State, IsCode, IsApart, results, runs, counts_of, counts_so_far, weighted, whole_counts}
-use Rattle.icode.specs.Program.{plain_program, code_of}
+use Rattle.icode.specs.Actions.{plain_code}
+use Rattle.generate.specs.Letters.{program_for}
 use Rattle.icode.proofs.Lists.{code_is}
 use Rattle.icode.proofs.Runs.{counts_of_runs}
 use Rattle.par_machine.proofs.Executed.{AreSmall, counts_small}
@@ -21,9 +22,13 @@ use Rattle.request_text.specs.Schedule.{Plan}
 use Rattle.request_text.specs.Turns.{next_state, state_after, turns_of}
 use Rattle.generate.specs.Good.{IsVector}
 use Rattle.tree_model.specs.WholePasses.{whole_loads, whole_stores}
-use Rattle.commands.specs.Settled.{product, sample_sum, IsSampleText}
+use Rattle.matrix_meaning.specs.Asked.{asked_of}
+use Rattle.spiral_words.specs.declared.Document.TheVariants as document
+use Rattle.commands.specs.Equations.Requests.{IsDocument}
+use Rattle.commands.specs.Equations.Sample.{sum_for}
+use Rattle.commands.proofs.Documents.{document_of, with_tree}
 use Rattle.commands.specs.Sample.{sample_vector, weighted_sum, sample_text, AreCountable}
-use Rattle.commands.specs.Performed.{IsGoodCode}
+use Rattle.commands.proofs.Programs.{IsGoodCode}
 use Rattle.runs.specs.Stream.{HasNoStranger}
 use Rattle.commands.proofs.CountLemmas.{whole-of, within_word}
 use Rattle.commands.proofs.Requests.{limits}
@@ -54,34 +59,34 @@ sample_below modulus size seed some = All-map (λ v. v < modulus) (λ i. state_a
 -- and they are residues of a good program's machine
 pub sample_residues : (request : Request) (code : Code) (m n seed : ℕ) (xs : List ℕ) → IsGoodCode request code → IsInRange request → m ≡ code.modulus → xs ≡ sample_vector m n seed → All (λ v. v < code.modulus) xs
 sample_residues request code m n seed xs good in_range same is =
-    let of_request : code.modulus ≡ request.modulus = ap (λ (k : Code). k.modulus) good.2 ∙ good.1.2.good.header.modulus in
+    let of_request : code.modulus ≡ request.modulus = ap (λ (k : Code). k.modulus) good.is ∙ good.good.header.modulus in
     let some : 0 < code.modulus = omega (arith, of_request, (limits request in_range).modulus) in
     rw (is, same) (sample_below code.modulus n seed some)
 
 -- a finished run of a good program is counted in 64 bits
 pub good_counts : (request : Request) (code : Code) (state : State) (vector turns : List ℕ) → IsGoodCode request code → IsInRange request → state ≡ runs code vector turns → AreCountable code state
 good_counts request code state vector turns good in_range ran =
-    let p = plain_program good.0 in
-    let header = good.1.2.good.header in
+    let p = program_for request good.tree in
+    let header = good.good.header in
     let few : p.lanes ≤ 16 = omega (arith, header.lanes, (limits request in_range).lanes) in
-    let is : IsCode code = subst IsCode (sym good.2) (code_is p) in
-    let apart : (phase : ℕ) → IsApart code phase = λ phase. subst (λ (k : Code). IsApart k phase) (sym good.2) (good.1.2.good.apart phase) in
-    let whole : (q : ℕ) → counts_so_far code state q ≡ whole_counts (code_of good.0) q = λ q.
-    ap (λ s. counts_so_far code s q) ran ∙ counts_of_runs code is vector turns q ∙ ap (λ (k : Code). whole_counts k q) good.2 in
-    let same : (pick : Counts → ℕ) → sum_below code.procs (λ q. pick (counts_so_far code state q)) ≡ sum_below p.procs (λ q. pick (whole_counts (code_of good.0) q)) = λ pick.
-    ap (λ (k : Code). sum_below k.procs (λ q. pick (counts_so_far code state q))) good.2 ∙ sum_below-same p.procs _ _ (λ q _. ap pick (whole q)) in
+    let is : IsCode code = subst IsCode (sym good.is) (code_is p) in
+    let apart : (phase : ℕ) → IsApart code phase = λ phase. subst (λ (k : Code). IsApart k phase) (sym good.is) (good.good.apart phase) in
+    let whole : (q : ℕ) → counts_so_far code state q ≡ whole_counts (plain_code p) q = λ q.
+    ap (λ s. counts_so_far code s q) ran ∙ counts_of_runs code is vector turns q ∙ ap (λ (k : Code). whole_counts k q) good.is in
+    let same : (pick : Counts → ℕ) → sum_below code.procs (λ q. pick (counts_so_far code state q)) ≡ sum_below p.procs (λ q. pick (whole_counts (plain_code p) q)) = λ pick.
+    ap (λ (k : Code). sum_below k.procs (λ q. pick (counts_so_far code state q))) good.is ∙ sum_below-same p.procs _ _ (λ q _. ap pick (whole q)) in
     let small : (actions : List Action) → AreSmall (length actions * p.lanes) (counts_of p.lanes actions) = counts_small p.lanes in
     record {
-      operations = omega (arith, same (λ c. c.operations), within_word p good.1.2.good.fits few (λ c. c.operations) (λ actions. (small actions).operations));
-      muls = omega (arith, same (λ c. c.muls), within_word p good.1.2.good.fits few (λ c. c.muls) (λ actions. (small actions).muls));
-      loads = omega (arith, same (λ c. c.loads), within_word p good.1.2.good.fits few (λ c. c.loads) (λ actions. (small actions).loads));
-      stores = omega (arith, same (λ c. c.stores), within_word p good.1.2.good.fits few (λ c. c.stores) (λ actions. (small actions).stores));
+      operations = omega (arith, same (λ c. c.operations), within_word p good.good.fits few (λ c. c.operations) (λ actions. (small actions).operations));
+      muls = omega (arith, same (λ c. c.muls), within_word p good.good.fits few (λ c. c.muls) (λ actions. (small actions).muls));
+      loads = omega (arith, same (λ c. c.loads), within_word p good.good.fits few (λ c. c.loads) (λ actions. (small actions).loads));
+      stores = omega (arith, same (λ c. c.stores), within_word p good.good.fits few (λ c. c.stores) (λ actions. (small actions).stores));
     }
 
 -- the vector of a seed is one of the request
 pub sample_is : (request : Request) (code : Code) (m n seed : ℕ) → IsGoodCode request code → m ≡ code.modulus → n ≡ code.size → sample_vector m n seed ≡ sample_vector request.modulus request.size seed
 sample_is request code m n seed good modulus size =
-    ap₂ (λ k l. sample_vector k l seed) (modulus ∙ ap (λ (k : Code). k.modulus) good.2 ∙ good.1.2.good.header.modulus) (size ∙ ap (λ (k : Code). k.size) good.2 ∙ good.1.2.good.header.size)
+    ap₂ (λ k l. sample_vector k l seed) (modulus ∙ ap (λ (k : Code). k.modulus) good.is ∙ good.good.header.modulus) (size ∙ ap (λ (k : Code). k.size) good.is ∙ good.good.header.size)
 
 sample_fits : (request : Request) (seed : ℕ) → IsInRange request → IsVector request (sample_vector request.modulus request.size seed)
 sample_fits request seed in_range = record {
@@ -103,25 +108,25 @@ sum-weighted weight (suc n) f =
 pub costs : (request : Request) (code after : Code) (vector turns : List ℕ) (state : State) (counts : Counts) → (good : IsGoodCode request code) → IsInRange request → after ≡ code → state ≡ runs code vector turns
     → counts.operations ≡ sum_below after.procs (λ q. (counts_so_far after state q).operations)
     → counts.muls ≡ sum_below after.procs (λ q. (counts_so_far after state q).muls)
-    → weighted request.weight counts ≡ whole_cost request good.1.0
+    → weighted request.weight counts ≡ whole_cost request good.tree
 costs request code after vector turns state counts good in_range same ran operations muls =
-    let program = good.0 in
-    let is : IsCode code = subst IsCode (sym good.2) (code_is (plain_program program)) in
-    let apart : (phase : ℕ) → IsApart code phase = λ phase. subst (λ (k : Code). IsApart k phase) (sym good.2) (good.1.2.good.apart phase) in
+    let program = program_for request good.tree in
+    let is : IsCode code = subst IsCode (sym good.is) (code_is program) in
+    let apart : (phase : ℕ) → IsApart code phase = λ phase. subst (λ (k : Code). IsApart k phase) (sym good.is) (good.good.apart phase) in
     let whole : (q : ℕ) → counts_so_far code state q ≡ whole_counts code q = λ q. ap (λ s. counts_so_far code s q) ran ∙ counts_of_runs code is vector turns q in
-    let some : 0 < (code_of program).procs = omega (arith, good.1.2.good.header.procs, (limits request in_range).procs) in
-    let share : (q : ℕ) → q < (code_of program).procs → (code_of program).procs * weighted request.weight (whole_counts (code_of program) q) ≡ whole_cost request good.1.0 =
-    λ q below. ap (λ n. n * weighted request.weight (whole_counts (code_of program) q)) good.1.2.good.header.procs ∙ good.1.2.good.operations q (subst (λ n. q < n) good.1.2.good.header.procs below) in
+    let some : 0 < (plain_code program).procs = omega (arith, good.good.header.procs, (limits request in_range).procs) in
+    let share : (q : ℕ) → q < (plain_code program).procs → (plain_code program).procs * weighted request.weight (whole_counts (plain_code program) q) ≡ whole_cost request good.tree =
+    λ q below. ap (λ n. n * weighted request.weight (whole_counts (plain_code program) q)) good.good.header.procs ∙ good.good.operations q (subst (λ n. q < n) good.good.header.procs below) in
     ap₂ (λ o m. o + (request.weight - 1) * m) operations muls
     ∙ sym (sum-weighted request.weight after.procs (λ q. counts_so_far after state q))
     ∙ ap (λ (k : Code). sum_below k.procs (λ q. weighted request.weight (counts_so_far k state q))) same
     ∙ sum_below-same code.procs _ _ (λ q _. ap (weighted request.weight) (whole q))
-    ∙ ap (λ (k : Code). sum_below k.procs (λ q. weighted request.weight (whole_counts k q))) good.2
-    ∙ whole-of (code_of program).procs (whole_cost request good.1.0) (λ q. weighted request.weight (whole_counts (code_of program) q)) some share
+    ∙ ap (λ (k : Code). sum_below k.procs (λ q. weighted request.weight (whole_counts k q))) good.is
+    ∙ whole-of (plain_code program).procs (whole_cost request good.tree) (λ q. weighted request.weight (whole_counts (plain_code program) q)) some share
 
 -- which is counted in 64 bits
-pub cost_fits : (request : Request) (code : Code) (n : ℕ) → (good : IsGoodCode request code) → IsInRange request → n ≡ whole_cost request good.1.0 → n < 2 ^ 64
-cost_fits request code n good in_range is = let within = good.1.1.2 in let high = (limits request in_range).budget in omega arith
+pub cost_fits : (request : Request) (code : Code) (n : ℕ) → (good : IsGoodCode request code) → IsInRange request → n ≡ whole_cost request good.tree → n < 2 ^ 64
+cost_fits request code n good in_range is = let within = good.planned.2 in let high = (limits request in_range).budget in omega arith
 
 -- what the parts of a sample come to
 pub sampled : (request : Request) (code after : Code) (plan : Plan) (m n seed : ℕ) (vector y : List ℕ) (state : State) (sum : ℕ) (counts : Counts) (text : List ℕ)
@@ -133,29 +138,29 @@ pub sampled : (request : Request) (code after : Code) (plan : Plan) (m n seed : 
     → counts.loads ≡ sum_below after.procs (λ q. (counts_so_far after state q).loads)
     → counts.stores ≡ sum_below after.procs (λ q. (counts_so_far after state q).stores)
     → text ≡ sample_text sum (weighted request.weight counts) counts.loads counts.stores
-    → IsSampleText request seed text
+    → IsDocument (document.Sample seed plan) request text
 sampled request code after plan m n seed vector y state sum counts text good in_range none same modulus size v run ran s operations muls loads stores t =
     let turns = turns_of plan code.procs in
-    let program = good.0 in
-    let is : IsCode code = subst IsCode (sym good.2) (code_is (plain_program program)) in
-    let apart : (phase : ℕ) → IsApart code phase = λ phase. subst (λ (k : Code). IsApart k phase) (sym good.2) (good.1.2.good.apart phase) in
+    let program = program_for request good.tree in
+    let is : IsCode code = subst IsCode (sym good.is) (code_is program) in
+    let apart : (phase : ℕ) → IsApart code phase = λ phase. subst (λ (k : Code). IsApart k phase) (sym good.is) (good.good.apart phase) in
     let here : vector ≡ sample_vector request.modulus request.size seed = v ∙ sample_is request code m n seed good modulus size in
     let fits : IsVector request vector = subst (IsVector request) (sym here) (sample_fits request seed in_range) in
-    let times : y ≡ product request vector = run ∙ ap (λ k. results k vector turns) good.2 ∙ good.1.2.good.product vector turns fits (good_turns plan request code good in_range none) in
-    let of_request : m ≡ request.modulus = modulus ∙ ap (λ (k : Code). k.modulus) good.2 ∙ good.1.2.good.header.modulus in
+    let times : y ≡ asked_of request vector = run ∙ ap (λ k. results k vector turns) good.is ∙ good.good.product vector turns fits (good_turns plan request code good in_range none) in
+    let of_request : m ≡ request.modulus = modulus ∙ ap (λ (k : Code). k.modulus) good.is ∙ good.good.header.modulus in
     let whole : (q : ℕ) → counts_so_far code state q ≡ whole_counts code q = λ q. ap (λ s. counts_so_far code s q) ran ∙ counts_of_runs code is vector turns q in
-    let sum_is = s ∙ ap₂ weighted_sum of_request (times ∙ ap (product request) here) in
-    let operations_is : weighted request.weight counts ≡ whole_cost request good.1.0 = costs request code after vector turns state counts good in_range same ran operations muls in
-    let loads_is : counts.loads ≡ whole_loads request good.1.0 =
+    let sum_is = s ∙ ap₂ weighted_sum of_request (times ∙ ap (asked_of request) here) in
+    let operations_is : weighted request.weight counts ≡ whole_cost request good.tree = costs request code after vector turns state counts good in_range same ran operations muls in
+    let loads_is : counts.loads ≡ whole_loads request good.tree =
     loads ∙ ap (λ (k : Code). sum_below k.procs (λ q. (counts_so_far k state q).loads)) same
-    ∙ sum_below-same code.procs _ _ (λ q _. ap (λ (c : Counts). c.loads) (whole q)) ∙ ap (λ (k : Code). sum_below k.procs (λ q. (whole_counts k q).loads)) good.2
-    ∙ ap (λ n. sum_below n (λ q. (whole_counts (code_of program) q).loads)) good.1.2.good.header.procs ∙ good.1.2.lean.loads in
-    let stores_is : counts.stores ≡ whole_stores request good.1.0 =
+    ∙ sum_below-same code.procs _ _ (λ q _. ap (λ (c : Counts). c.loads) (whole q)) ∙ ap (λ (k : Code). sum_below k.procs (λ q. (whole_counts k q).loads)) good.is
+    ∙ ap (λ n. sum_below n (λ q. (whole_counts (plain_code program) q).loads)) good.good.header.procs ∙ good.lean.loads in
+    let stores_is : counts.stores ≡ whole_stores request good.tree =
     stores ∙ ap (λ (k : Code). sum_below k.procs (λ q. (counts_so_far k state q).stores)) same
-    ∙ sum_below-same code.procs _ _ (λ q _. ap (λ (c : Counts). c.stores) (whole q)) ∙ ap (λ (k : Code). sum_below k.procs (λ q. (whole_counts k q).stores)) good.2
-    ∙ ap (λ n. sum_below n (λ q. (whole_counts (code_of program) q).stores)) good.1.2.good.header.procs ∙ good.1.2.lean.stores in
+    ∙ sum_below-same code.procs _ _ (λ q _. ap (λ (c : Counts). c.stores) (whole q)) ∙ ap (λ (k : Code). sum_below k.procs (λ q. (whole_counts k q).stores)) good.is
+    ∙ ap (λ n. sum_below n (λ q. (whole_counts (plain_code program) q).stores)) good.good.header.procs ∙ good.lean.stores in
     let text_is =
     t ∙ ap (λ k. sample_text k (weighted request.weight counts) counts.loads counts.stores) sum_is
-    ∙ ap (λ k. sample_text (sample_sum request seed) k counts.loads counts.stores) operations_is
-    ∙ ap₂ (sample_text (sample_sum request seed) (whole_cost request good.1.0)) loads_is stores_is in
-    (good.1.0, good.1.1, text_is)
+    ∙ ap (λ k. sample_text (sum_for (with_tree request good.tree) seed) k counts.loads counts.stores) operations_is
+    ∙ ap₂ (sample_text (sum_for (with_tree request good.tree) seed) (whole_cost request good.tree)) loads_is stores_is in
+    document_of (document.Sample seed plan) request good.tree text good.planned text_is

@@ -1,7 +1,11 @@
 pub mod AskLemmas
 pub mod DataLemmas
+pub mod FrontLemmas
 pub mod InputLemmas
 pub mod LineLemmas
+pub mod Nested
 pub mod OutcomeLemmas
+pub mod StageLemmas
 pub mod Stages
 pub mod StatusLemmas
+pub mod Within

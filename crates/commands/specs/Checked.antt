@@ -1,10 +1,8 @@
 -- What `check` answers for the bytes behind the first line.
-use Rattle.std.specs.Prelude.{◌≡◌, ◌⊎◌, ℕ, ◌<◌, ◌≤◌, List, [], ◌∷◌, length, codes, decimal}
+use Rattle.std.specs.Prelude.{◌≡◌, ℕ, ◌<◌, List, [], ◌∷◌, length, codes, decimal}
 use Rattle.std.specs.List.{concat}
-use Rattle.matrix_meaning.specs.declared.Request.{Request}
 use Rattle.plan_cert.specs.declared.verdict.Verdict.{Verdict}
 use Rattle.plan_cert.specs.declared.verdict.Verdict.TheVariants as verdict
-use Rattle.plan_cert.specs.Verdict.{IsVerdict}
 use Rattle.spiral_words.specs.declared.spiral_status.status.Status.{Status}
 use Rattle.spiral_words.specs.declared.spiral_status.status.Status.TheVariants.{Success, TooLong, Unread, Wrong}
 
@@ -25,14 +23,6 @@ abbrev pub verdict_text : Verdict → List ℕ
 verdict_text (verdict.Least cost) = least_line cost
 verdict_text _ = []
 
--- the status and the text that the bytes' verdict calls for
-abbrev pub IsJudged : Request → List ℕ → Status → List ℕ → Type 0
-IsJudged request bytes status text = (found : Verdict) × IsVerdict request bytes found × (status ≡ status_of_verdict found) × (text ≡ verdict_text found)
-
 -- bytes that are no certificate by their number alone
 abbrev pub IsOverlong : List ℕ → Status → List ℕ → Type 0
 IsOverlong bytes status text = (certificate_limit < length bytes) × (status ≡ TooLong certificate_limit) × (text ≡ [])
-
--- the status and the text for the bytes
-abbrev pub IsChecked : Request → List ℕ → Status → List ℕ → Type 0
-IsChecked request bytes status text = IsOverlong bytes status text ⊎ ((length bytes ≤ certificate_limit) × IsJudged request bytes status text)

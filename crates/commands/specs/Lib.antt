@@ -3,11 +3,12 @@ pub mod ListingCommands
 pub mod FormulaCommands
 pub mod SpiralInput
 pub mod Checked
-pub mod Performed
+pub mod Equations
+pub mod OrderText
+pub mod Prepared
+pub mod Programs
 pub mod PlanText
 pub mod Sample
-pub mod Settled
-pub mod Traced
 pub use Rattle.generate.specs.Good
 pub use Rattle.generate.specs.Lean
 pub use Rattle.generate.specs.Letters

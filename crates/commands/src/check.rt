@@ -9,7 +9,7 @@ ghost use Rattle.commands.specs.Checked.{least_line};
 ghost use Rattle.commands.specs.SpiralInput.Stage.{status_of};
 ghost use Rattle.commands.specs.SpiralInput.Ends.{EndsCleanly};
 ghost use Rattle.commands.specs.SpiralInput.Outcomes.{ToldMeets};
-ghost use Rattle.commands.specs.Performed.{request_outcomes};
+ghost use Rattle.commands.specs.Equations.Requests.{work_for};
 
 use data_stream::read_rest;
 use generate::admit;
@@ -17,7 +17,7 @@ use io_edge::{Feed, Sink, Source, WriteFault, write_parts};
 use itoa::Buffer;
 use matrix_meaning::Request;
 use plan_cert::{Verdict, check_cert};
-use spiral_words::{CERTIFICATE_LIMIT, Command, Status};
+use spiral_words::{CERTIFICATE_LIMIT, RequestCommand, Status};
 use std::alloc::Global;
 use tree_model::Ctx;
 
@@ -40,7 +40,7 @@ pub(crate) fn check<I: Source, O: Sink>(
 ) -> Result<(), Status>
     requires in_range { IsInRange request.now }
     requires line { feed.old.taken ≤ 257 }
-    ensures told { ToldMeets (request_outcomes Command.Check request.now (limit - feed.old.taken))
+    ensures told { ToldMeets (work_for RequestCommand.Judges request.now (limit - feed.old.taken))
         (to_come feed.old (I.left input.old)) (to_come feed.new (I.left input.new))
         (O.taken output.old) (O.taken output.new) (status_of result) }
     ensures end { status_of result ≡ Status.Success

@@ -1,22 +1,24 @@
 // The command that convolves the vectors of the data with the first of them.
-ghost use Rattle.std.specs.Prelude.{◌≡◌, ◌-◌, ◌≤◌, ◌∷◌, List, ℕ, [], false, true, vec_len, IfOk, IfErr, OnOk};
+ghost use Rattle.std.specs.Prelude.{◌≡◌, ◌-◌, ◌≤◌, ◌∷◌, Bool, List, ℕ, [], true, false, vec_len, IfOk, IfErr, OnOk};
 ghost use Rattle.std.specs.declared.option.Option.{Option};
 ghost use Rattle.std.specs.Io.KnownBytes.{IsAtEnd};
 ghost use Rattle.matrix_meaning.specs.Convolving.{IsConvRequest};
 ghost use Rattle.data_stream.specs.Vectors.{IsReady};
 ghost use Rattle.io_edge.specs.Feed.{to_come, limit};
-ghost use Rattle.spiral_words.specs.declared.Command.{Command as SpecCommand};
-ghost use Rattle.commands.specs.SpiralInput.Commands.{reads_rest, takes_convolution, NamesNoStranger};
+ghost use Rattle.request_text.specs.Turns.{named};
+ghost use Rattle.commands.specs.ConvolutionCommands.Convolved.{IsListProgram, work_by_list};
+ghost use Rattle.commands.specs.Equations.Convolutions.{conv_spelt_for};
+ghost use Rattle.commands.specs.Equations.Convolve.{outcomes_by_list};
+ghost use Rattle.commands.specs.Equations.Front as fronts;
 ghost use Rattle.commands.specs.SpiralInput.Asking.{Asks};
-ghost use Rattle.commands.specs.ConvolutionCommands.Convolved.{conv_outcomes, data_outcomes, IsListProgram};
-ghost use Rattle.commands.specs.ConvolutionCommands.Convolved.{conv_spelt};
+ghost use Rattle.commands.specs.SpiralInput.Commands.{reads_rest};
 ghost use Rattle.commands.specs.SpiralInput.Ends.{EndsCleanly, ReadsCleanly};
 ghost use Rattle.commands.specs.SpiralInput.Outcomes.{ToldMeets};
 ghost use Rattle.commands.specs.SpiralInput.Stage.{status_of};
 ghost use Rattle.runs.specs.Progress.{HasCome};
 ghost use Rattle.runs.specs.Stream.{HasNoStranger};
 
-use crate::spiral_input::{check_turns, read_line, stranger};
+use crate::spiral_input::{check_turns, read_line};
 use data_stream::Vectors;
 use generate::{generate_conv, plan_conv};
 use icode::program::Program;
@@ -30,20 +32,25 @@ use runs::{read_first, run_vectors};
 use spiral_words::{Command, LINE_LIMIT, Status};
 use std::alloc::Global;
 
-// The request for convolutions that the first line of the input spells, for the command.
-fn ask_conv<I: Source>(command: &Command, feed: &mut Feed, input: &mut I) -> Result<Request, Status>
+// The request for convolutions that the first line of the input spells, whose processors are all that the schedule names.
+fn ask_conv<I: Source>(
+    schedule: &Schedule,
+    feed: &mut Feed,
+    input: &mut I,
+) -> Result<Request, Status>
     requires fresh { feed.old.taken ≡ 0 }
-    ensures told { Asks conv_spelt command.now (to_come feed.old (I.left input.old))
-        (to_come feed.new (I.left input.new)) feed.new.taken result }
+    ensures told { Asks (fronts.line 256) (conv_spelt_for (named schedule.now))
+        (to_come feed.old (I.left input.old)) (to_come feed.new (I.left input.new))
+        feed.new.taken result }
     ensures within { OnOk result (feed.new.taken ≤ 257) }
     ensures request { IfOk result IsConvRequest }
-    ensures turns { IfOk result (λ request. NamesNoStranger command.now request.procs) }
+    ensures turns { IfOk result (λ request. HasNoStranger schedule.now request.procs) }
     ensures ends { ReadsCleanly result feed.new.held (I.faults input.old) (I.faults input.new) }
 {
     let mut line = [0; LINE_LIMIT];
     let count = read_line(feed, input, &mut line)?;
     let request = read_conv(&line[..count])?;
-    check_turns(stranger(command, request.procs), request.procs)?;
+    check_turns(schedule.stranger(request.procs), request.procs)?;
     Ok(request)
 }
 
@@ -65,8 +72,8 @@ fn listed_program<I: Source>(
     ensures cut { IfOk result (λ made. made.1.size ≡ request.now.size) }
     ensures room { IfOk result (λ made. vec_len made.2 ≡ request.now.size) }
     ensures within { OnOk result (feed.new.taken ≤ limit) }
-    ensures told { IfErr result (λ status. (wanted : SpecCommand) (out : Option (List ℕ)) →
-        ToldMeets (data_outcomes wanted request.now (limit - feed.old.taken))
+    ensures told { IfErr result (λ status. (code : Bool) (out : Option (List ℕ)) →
+        ToldMeets (work_by_list code request.now (limit - feed.old.taken))
         (to_come feed.old (I.left input.old))
         (to_come feed.new (I.left input.new)) out out status) }
     ensures ends { ReadsCleanly result feed.new.held (I.faults input.old) (I.faults input.new) }
@@ -83,7 +90,6 @@ fn listed_program<I: Source>(
 // Writes the listing of the program, and reads nothing behind the list.
 fn print_convolver<I: Source, O: Sink>(
     alloc: Global,
-    schedule: &Schedule,
     request: &Request,
     feed: &mut Feed,
     input: &mut I,
@@ -91,8 +97,7 @@ fn print_convolver<I: Source, O: Sink>(
 ) -> Result<(), Status>
     requires request { IsConvRequest request.now }
     requires within { feed.old.taken ≤ limit }
-    ensures told { ToldMeets
-        (data_outcomes (Command.Convolve schedule.now true) request.now (limit - feed.old.taken))
+    ensures told { ToldMeets (work_by_list true request.now (limit - feed.old.taken))
         (to_come feed.old (I.left input.old)) (to_come feed.new (I.left input.new))
         (O.taken output.old) (O.taken output.new) (status_of result) }
     ensures ends { EndsCleanly (status_of result) feed.new.held
@@ -117,8 +122,7 @@ fn run_convolver<I: Source, O: Sink>(
     requires request { IsConvRequest request.now }
     requires turns { HasNoStranger schedule.now 1 }
     requires within { feed.old.taken ≤ limit }
-    ensures told { ToldMeets
-        (data_outcomes (Command.Convolve schedule.now false) request.now (limit - feed.old.taken))
+    ensures told { ToldMeets (work_by_list false request.now (limit - feed.old.taken))
         (to_come feed.old (I.left input.old)) (to_come feed.new (I.left input.new))
         (O.taken output.old) (O.taken output.new) (status_of result) }
     ensures end { status_of result ≡ Status.Success
@@ -142,60 +146,30 @@ fn run_convolver<I: Source, O: Sink>(
     Ok(())
 }
 
-// Does the command for the request.
-fn convolve_for<I: Source, O: Sink>(
-    alloc: Global,
-    command: &Command,
-    request: &Request,
-    feed: &mut Feed,
-    input: &mut I,
-    output: &mut O,
-) -> Result<(), Status>
-    requires request { IsConvRequest request.now }
-    requires turns { NamesNoStranger command.now request.now.procs }
-    requires within { feed.old.taken ≤ limit }
-    requires convolution { takes_convolution command.now ≡ true }
-    ensures told { ToldMeets (data_outcomes command.now request.now (limit - feed.old.taken))
-        (to_come feed.old (I.left input.old)) (to_come feed.new (I.left input.new))
-        (O.taken output.old) (O.taken output.new) (status_of result) }
-    ensures end { status_of result ≡ Status.Success → reads_rest command.now ≡ true
-        → IsAtEnd (to_come feed.new (I.left input.new)) }
-    ensures ends { EndsCleanly (status_of result) feed.new.held
-        (I.faults input.old) (I.faults input.new) (O.faults output.old) (O.faults output.new)
-        (O.taken output.old) (O.taken output.new) }
-{
-    match command {
-        Command::Convolve {
-            schedule,
-            code: true,
-        } => print_convolver(alloc, schedule, request, feed, input, output),
-        Command::Convolve {
-            schedule,
-            code: false,
-        } => run_convolver(alloc, schedule, request, feed, input, output),
-        _ => unreachable!(),
-    }
-}
-
-/// Does a command that convolves, for the request that the first line spells.
+/// Does what is done by the list, for the request that the first line spells. `code`: the program is written.
 pub fn convolve<I: Source, O: Sink>(
     alloc: Global,
-    command: &Command,
+    schedule: &Schedule,
+    code: bool,
     feed: &mut Feed,
     input: &mut I,
     output: &mut O,
 ) -> Result<(), Status>
     requires fresh { feed.old.taken ≡ 0 }
-    requires convolution { takes_convolution command.now ≡ true }
-    ensures told { ToldMeets (conv_outcomes command.now)
+    ensures told { ToldMeets (outcomes_by_list schedule.now code)
         (to_come feed.old (I.left input.old)) (to_come feed.new (I.left input.new))
         (O.taken output.old) (O.taken output.new) (status_of result) }
-    ensures end { status_of result ≡ Status.Success → reads_rest command.now ≡ true
+    ensures end { status_of result ≡ Status.Success
+        → reads_rest (Command.ByList schedule.now code) ≡ true
         → IsAtEnd (to_come feed.new (I.left input.new)) }
     ensures ends { EndsCleanly (status_of result) feed.new.held
         (I.faults input.old) (I.faults input.new) (O.faults output.old) (O.faults output.new)
         (O.taken output.old) (O.taken output.new) }
 {
-    let request = ask_conv(command, feed, input)?;
-    convolve_for(alloc, command, &request, feed, input, output)
+    let request = ask_conv(schedule, feed, input)?;
+    if code {
+        print_convolver(alloc, &request, feed, input, output)
+    } else {
+        run_convolver(alloc, schedule, &request, feed, input, output)
+    }
 }

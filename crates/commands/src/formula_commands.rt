@@ -2,10 +2,10 @@
 ghost use Rattle.std.specs.Prelude.{◌≡◌, true};
 ghost use Rattle.std.specs.Io.KnownBytes.{IsAtEnd};
 ghost use Rattle.io_edge.specs.Feed.{to_come};
-ghost use Rattle.commands.specs.SpiralInput.Commands.{reads_rest, takes_formula};
+ghost use Rattle.commands.specs.Equations.Commands.{outcomes_by_formula};
+ghost use Rattle.commands.specs.SpiralInput.Commands.{reads_rest};
 ghost use Rattle.commands.specs.SpiralInput.Ends.{EndsCleanly};
 ghost use Rattle.commands.specs.SpiralInput.Outcomes.{ToldMeets};
-ghost use Rattle.commands.specs.FormulaCommands.Compiled.{formula_outcomes};
 ghost use Rattle.commands.specs.SpiralInput.Stage.{status_of};
 
 mod apply;
@@ -13,33 +13,34 @@ mod compile;
 mod formula_line;
 
 use io_edge::{Feed, Sink, Source};
-use spiral_words::{Command, Status};
+use ring_mod::Modulus;
+use spiral_words::{Command, FormulaCommand, Status};
 use std::alloc::Global;
 
-/// Does a command that goes by a formula.
+/// Does a command that goes by a formula, which the first line of the input spells, modulo this.
 pub fn by_formula<I: Source, O: Sink>(
     alloc: Global,
-    command: &Command,
+    modulus: &Modulus,
+    command: &FormulaCommand,
     feed: &mut Feed,
     input: &mut I,
     output: &mut O,
 ) -> Result<(), Status>
     requires fresh { feed.old.taken ≡ 0 }
-    requires formula { takes_formula command.now ≡ true }
-    ensures told { ToldMeets (formula_outcomes command.now)
+    ensures told { ToldMeets (outcomes_by_formula modulus.now command.now)
         (to_come feed.old (I.left input.old)) (to_come feed.new (I.left input.new))
         (O.taken output.old) (O.taken output.new) (status_of result) }
-    ensures end { status_of result ≡ Status.Success → reads_rest command.now ≡ true
+    ensures end { status_of result ≡ Status.Success
+        → reads_rest (Command.ByFormula modulus.now command.now) ≡ true
         → IsAtEnd (to_come feed.new (I.left input.new)) }
     ensures ends { EndsCleanly (status_of result) feed.new.held
         (I.faults input.old) (I.faults input.new) (O.faults output.old) (O.faults output.new)
         (O.taken output.old) (O.taken output.new) }
 {
     match command {
-        Command::Compile { modulus } => compile::compile(alloc, modulus, feed, input, output),
-        Command::Apply { modulus, schedule } => {
+        FormulaCommand::Compile => compile::compile(alloc, modulus, feed, input, output),
+        FormulaCommand::Apply(schedule) => {
             apply::apply(alloc, modulus, schedule, feed, input, output)
         }
-        _ => unreachable!(),
     }
 }

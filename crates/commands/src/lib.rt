@@ -1,26 +1,26 @@
 //! The commands of a call, from the input to what they write: by a request, by a formula, by a listing and by a list.
 #![tactic(auto)]
 
-ghost use Rattle.std.specs.Prelude.{◌≡◌, ◌≢◌, ◌-◌, ◌≤◌, ℕ, List, [], Ok, true};
+ghost use Rattle.std.specs.Prelude.{◌≡◌, ◌≢◌, ◌-◌, ◌≤◌, ℕ, List, [], Some, true};
 ghost use Rattle.std.specs.Io.KnownBytes.{Appends, IsAtEnd};
 ghost use Rattle.matrix_meaning.specs.Valid.{IsInRange};
 ghost use Rattle.io_edge.specs.Faults.{Reports};
 ghost use Rattle.io_edge.specs.Feed.{to_come, limit};
-ghost use Rattle.commands.specs.SpiralInput.Commands.{reads_rest, takes_request, has_text, NamesNoStranger};
+ghost use Rattle.commands.specs.SpiralInput.Commands.{reads_rest, NamesNoStranger};
 ghost use Rattle.commands.specs.SpiralInput.Stage.{status_of};
 ghost use Rattle.commands.specs.SpiralInput.Ends.{EndsCleanly};
 ghost use Rattle.commands.specs.SpiralInput.Outcomes.{Meets, ToldMeets};
-ghost use Rattle.commands.specs.Performed.{request_outcomes};
+ghost use Rattle.commands.specs.Equations.Requests.{outcomes_by_request, work_for};
 
 mod check;
 mod convolution_commands;
 mod data;
-mod events;
 mod formula_commands;
 mod listing_commands;
 mod plans;
 mod sample;
 mod spiral_input;
+mod streams;
 mod texts;
 
 pub use convolution_commands::convolve;
@@ -29,23 +29,23 @@ pub use formula_commands::by_formula;
 use io_edge::{Feed, Sink, Source, write_all};
 pub use listing_commands::exec;
 use matrix_meaning::Request;
-pub use spiral_input::{ask, asked, check_turns, read_line, stranger};
-use spiral_words::{Command, Status};
+use spiral_input::ask;
+pub use spiral_input::asked;
+use spiral_words::{Command, Document, RequestCommand, Status};
 use std::alloc::Global;
 use texts::text_of;
 
-// Writes the text of a command that needs no data.
+// Writes the text of a document.
 fn write_text<O: Sink>(
     alloc: Global,
-    command: &Command,
+    document: &Document,
     request: &Request,
     output: &mut O,
 ) -> Result<(), Status>
     requires in_range { IsInRange request.now }
-    requires turns { NamesNoStranger command.now request.now.procs }
-    requires textual { has_text command.now ≡ true }
+    requires turns { NamesNoStranger (RequestCommand.Writes document.now) request.now.procs }
     ensures told { (room : ℕ) (bytes : List ℕ) →
-        Meets (request_outcomes command.now request.now room) bytes (Some bytes)
+        Meets (work_for (RequestCommand.Writes document.now) request.now room) bytes (Some bytes)
         (O.taken output.old) (O.taken output.new) (status_of result) }
     ensures read { status_of result ≢ Status.ReadFault }
     ensures usage { status_of result ≢ Status.Usage }
@@ -54,15 +54,15 @@ fn write_text<O: Sink>(
     ensures memory { status_of result ≡ Status.NoMemory
         → Appends (O.taken output.old) (O.taken output.new) [] }
 {
-    let text = text_of(alloc, command, request)?;
+    let text = text_of(alloc, document, request)?;
     write_all(output, &text)?;
     Ok(())
 }
 
-/// Does a command for a request.
-pub fn perform<I: Source, O: Sink>(
+// Does a command for the request.
+fn perform_for<I: Source, O: Sink>(
     alloc: Global,
-    command: &Command,
+    command: &RequestCommand,
     request: &Request,
     feed: &mut Feed,
     input: &mut I,
@@ -71,20 +71,43 @@ pub fn perform<I: Source, O: Sink>(
     requires in_range { IsInRange request.now }
     requires turns { NamesNoStranger command.now request.now.procs }
     requires line { feed.old.taken ≤ 257 }
-    requires request { takes_request command.now ≡ true }
-    ensures told { ToldMeets (request_outcomes command.now request.now (limit - feed.old.taken))
+    ensures told { ToldMeets (work_for command.now request.now (limit - feed.old.taken))
         (to_come feed.old (I.left input.old)) (to_come feed.new (I.left input.new))
         (O.taken output.old) (O.taken output.new) (status_of result) }
-    ensures end { status_of result ≡ Status.Success → reads_rest command.now ≡ true
+    ensures end { status_of result ≡ Status.Success
+        → reads_rest (Command.ByRequest command.now) ≡ true
         → IsAtEnd (to_come feed.new (I.left input.new)) }
     ensures ends { EndsCleanly (status_of result) feed.new.held
         (I.faults input.old) (I.faults input.new) (O.faults output.old) (O.faults output.new)
         (O.taken output.old) (O.taken output.new) }
 {
     match command {
-        Command::Run { order } => run(alloc, request, order, feed, input, output),
-        Command::Trace { order } => trace(alloc, request, order, feed, input, output),
-        Command::Check => check::check(alloc, request, feed, input, output),
-        _ => write_text(alloc, command, request, output),
+        RequestCommand::Writes(document) => write_text(alloc, document, request, output),
+        RequestCommand::Runs(order) => run(alloc, request, order, feed, input, output),
+        RequestCommand::Traces(order) => trace(alloc, request, order, feed, input, output),
+        RequestCommand::Judges => check::check(alloc, request, feed, input, output),
     }
+}
+
+/// Does a command that goes by a request, which the first line of the input spells.
+pub fn perform<I: Source, O: Sink>(
+    alloc: Global,
+    command: &RequestCommand,
+    feed: &mut Feed,
+    input: &mut I,
+    output: &mut O,
+) -> Result<(), Status>
+    requires fresh { feed.old.taken ≡ 0 }
+    ensures told { ToldMeets (outcomes_by_request command.now)
+        (to_come feed.old (I.left input.old)) (to_come feed.new (I.left input.new))
+        (O.taken output.old) (O.taken output.new) (status_of result) }
+    ensures end { status_of result ≡ Status.Success
+        → reads_rest (Command.ByRequest command.now) ≡ true
+        → IsAtEnd (to_come feed.new (I.left input.new)) }
+    ensures ends { EndsCleanly (status_of result) feed.new.held
+        (I.faults input.old) (I.faults input.new) (O.faults output.old) (O.faults output.new)
+        (O.taken output.old) (O.taken output.new) }
+{
+    let request = ask(command, feed, input)?;
+    perform_for(alloc, command, &request, feed, input, output)
 }

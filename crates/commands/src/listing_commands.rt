@@ -1,8 +1,10 @@
 // The command that runs a listing.
-ghost use Rattle.std.specs.Prelude.{◌≡◌, ◌<◌, ℕ, List, Err, IfOk, IfErr, vec_len};
+ghost use Rattle.std.specs.Prelude.{◌≡◌, ℕ, List, Ok, Err, IfOk, IfErr};
 ghost use Rattle.std.specs.Io.KnownBytes.{Consumes, IsAtEnd};
 ghost use Rattle.io_edge.specs.Feed.{to_come};
-ghost use Rattle.commands.specs.ListingCommands.Listed.{loaded, exec_outcomes, GivesListing, IsLoadedCode};
+ghost use Rattle.icode.specs.Program.{Fits, plain_program};
+ghost use Rattle.commands.specs.Equations.Exec.{exec_outcomes};
+ghost use Rattle.commands.specs.ListingCommands.Listed.{loaded, GivesListing};
 ghost use Rattle.commands.specs.SpiralInput.Ends.{EndsCleanly, ReadsCleanly};
 ghost use Rattle.commands.specs.SpiralInput.Outcomes.{ToldMeets};
 ghost use Rattle.commands.specs.SpiralInput.Stage.{status_of};
@@ -11,13 +13,13 @@ ghost use Rattle.commands.specs.SpiralInput.Refusals.{IsRefusal};
 ghost use Rattle.runs.specs.Stream.{HasNoStranger};
 
 use crate::spiral_input::check_turns;
+use crate::streams::{Prepared, stream_turns};
 use code_check::verify;
 use data_stream::{RestFault, read_part};
+use icode::program::Program;
 use io_edge::{Feed, Sink, Source};
 use listing_text::read_listing;
-use par_machine::Machine;
 use request_text::Schedule;
-use runs::run_stream;
 use spiral_words::Status;
 use std::alloc::Global;
 
@@ -42,27 +44,20 @@ fn listing_text<I: Source>(alloc: Global, feed: &mut Feed, input: &mut I) -> Res
     }
 }
 
-// A machine with the listing's program, if it passes the check and has the schedule's processors, and room for a
-// vector.
-fn loaded_engine(
-    alloc: Global,
-    text: &[u8],
-    schedule: &Schedule,
-) -> Result<(Machine, Vec<u64>), Status>
-    ensures code { IfOk result (λ made. IsLoadedCode schedule.now text.now made.0.code) }
-    ensures turns { IfOk result (λ made. HasNoStranger schedule.now made.0.code.procs) }
-    ensures room { IfOk result (λ made. vec_len made.1 ≡ made.0.code.size) }
-    ensures some { IfOk result (λ made. 0 < vec_len made.1) }
+// The listing's program, if it passes the check and has the schedule's processors.
+fn loaded_program(alloc: Global, text: &[u8], schedule: &Schedule) -> Result<Program, Status>
+    ensures program { IfOk result
+        (λ program. loaded schedule.now text.now (Ok (plain_program program))) }
+    ensures fits { IfOk result Fits }
+    ensures turns { IfOk result (λ program. HasNoStranger schedule.now program.procs) }
     ensures refused { IfErr result
         (λ status. IsDefined status → loaded schedule.now text.now (Err status)) }
     ensures refusal { IfErr result IsRefusal }
 {
     let program = read_listing(alloc, text)?;
-    let verified = verify(alloc, &program)?;
+    verify(alloc, &program)?;
     check_turns(schedule.stranger(program.procs), program.procs)?;
-    let machine = Machine::new(alloc, verified.program())?;
-    let vector = vec![in alloc; 0; program.size as usize]?;
-    Ok((machine, vector))
+    Ok(program)
 }
 
 /// Runs the program of the listing with which the input begins on each vector of the data behind it, and writes the
@@ -85,15 +80,11 @@ pub fn exec<I: Source, O: Sink>(
         (O.taken output.old) (O.taken output.new) }
 {
     let text = listing_text(alloc, feed, input)?;
-    let (mut machine, mut vector) = loaded_engine(alloc, &text, schedule)?;
-    run_stream(
-        &mut machine,
-        schedule,
-        false,
-        feed,
-        input,
-        output,
-        &mut vector,
-    )?;
-    Ok(())
+    let program = loaded_program(alloc, &text, schedule)?;
+    let made = Prepared {
+        program,
+        front: Vec::new(alloc),
+        lines: false,
+    };
+    stream_turns(alloc, &made, schedule, feed, input, output)
 }

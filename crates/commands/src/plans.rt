@@ -1,12 +1,12 @@
 // The texts of a request's plan: its lines, its formula and its certificate.
-ghost use Rattle.std.specs.Prelude.{◌≡◌, ◌++◌, ◌∷◌, ◌<◌, [], Ok, IfOk, IfErr, OnOk, string_bytes};
+ghost use Rattle.std.specs.Prelude.{◌≡◌, ◌++◌, ◌∷◌, ◌<◌, [], Ok, Err, IfOk, IfErr};
 ghost use Rattle.generate.specs.Planned.{IsPlanned};
 ghost use Rattle.matrix_meaning.specs.Valid.{IsInRange, IsValid};
-ghost use Rattle.plan_cert.specs.Table.{IsTableText};
 ghost use Rattle.tree_model.specs.Breakdown.{breakdown_of};
 ghost use Rattle.tree_model.specs.Chosen.{whole_cost};
 ghost use Rattle.commands.specs.PlanText.{plan_text};
-ghost use Rattle.commands.specs.Settled.{IsRefused, IsAffordable, IsPlanText, IsFormulaText};
+ghost use Rattle.commands.specs.Equations.Orders.{chosen};
+ghost use Rattle.commands.specs.Equations.Requests.{IsDocument};
 ghost use Rattle.spiral_words.specs.SpiralStatus.Status.{IsDefined};
 ghost use Rattle.commands.specs.SpiralInput.Refusals.{IsRefusal};
 
@@ -16,20 +16,19 @@ use matrix_meaning::Request;
 use memory::NoMemory;
 use plan_cert::certify;
 use plan_search::Plan;
-use spiral_words::Status;
+use spiral_words::{Document, Status};
 use spl_text::print_spl;
 use std::alloc::{AllocError, Global};
 use tree_model::{Ctx, Tree};
 
 // The cheapest tree of the request.
-fn chosen(alloc: Global, request: &Request) -> Result<Plan, Status>
+fn chosen_plan(alloc: Global, request: &Request) -> Result<Plan, Status>
     requires { IsInRange request.now }
     ensures planned { IfOk result (λ plan. IsPlanned request.now (Ok (breakdown_of plan.tree))) }
     ensures cost { IfOk result (λ plan.
         plan.cost ≡ whole_cost request.now (breakdown_of plan.tree)) }
     ensures valid { IfOk result (λ plan. IsValid request.now) }
-    ensures affordable { OnOk result (IsAffordable request.now) }
-    ensures refused { IfErr result (λ status. IsDefined status → IsRefused request.now status) }
+    ensures refused { IfErr result (λ status. IsDefined status → chosen request.now (Err status)) }
     ensures refusal { IfErr result IsRefusal }
 {
     let plan = plan(alloc, request)?;
@@ -56,12 +55,11 @@ fn text_of_plan(
 /// The tree, its cost, the phases, and the operations of each processor.
 pub(crate) fn plan_lines(alloc: Global, request: &Request) -> Result<Vec<u8>, Status>
     requires in_range { IsInRange request.now }
-    ensures affordable { OnOk result (IsAffordable request.now) }
-    ensures text { IfOk result (λ text. IsPlanText request.now text.items) }
-    ensures refused { IfErr result (λ status. IsDefined status → IsRefused request.now status) }
+    ensures text { IfOk result (λ text. IsDocument Document.Plan request.now text.items) }
+    ensures refused { IfErr result (λ status. IsDefined status → chosen request.now (Err status)) }
     ensures refusal { IfErr result IsRefusal }
 {
-    let plan = chosen(alloc, request)?;
+    let plan = chosen_plan(alloc, request)?;
     let text = text_of_plan(alloc, request, &plan.tree, plan.cost)?;
     Ok(text)
 }
@@ -77,12 +75,11 @@ fn ended(mut text: Vec<u8>) -> Result<Vec<u8>, NoMemory>
 /// The formula of the tree.
 pub(crate) fn formula(alloc: Global, request: &Request) -> Result<Vec<u8>, Status>
     requires in_range { IsInRange request.now }
-    ensures affordable { OnOk result (IsAffordable request.now) }
-    ensures text { IfOk result (λ text. IsFormulaText request.now text.items) }
-    ensures refused { IfErr result (λ status. IsDefined status → IsRefused request.now status) }
+    ensures text { IfOk result (λ text. IsDocument Document.Formula request.now text.items) }
+    ensures refused { IfErr result (λ status. IsDefined status → chosen request.now (Err status)) }
     ensures refusal { IfErr result IsRefusal }
 {
-    let plan = chosen(alloc, request)?;
+    let plan = chosen_plan(alloc, request)?;
     let formula = expand(alloc, &Ctx::new(request), &plan.tree)?;
     let text = ended(print_spl(alloc, &formula)?)?;
     Ok(text)
@@ -91,12 +88,11 @@ pub(crate) fn formula(alloc: Global, request: &Request) -> Result<Vec<u8>, Statu
 /// The certificate of the tree's cost.
 pub(crate) fn certificate(alloc: Global, request: &Request) -> Result<Vec<u8>, Status>
     requires in_range { IsInRange request.now }
-    ensures affordable { OnOk result (IsAffordable request.now) }
-    ensures text { IfOk result (λ text. IsTableText request.now text.items) }
-    ensures refused { IfErr result (λ status. IsDefined status → IsRefused request.now status) }
+    ensures text { IfOk result (λ text. IsDocument Document.Cert request.now text.items) }
+    ensures refused { IfErr result (λ status. IsDefined status → chosen request.now (Err status)) }
     ensures refusal { IfErr result IsRefusal }
 {
-    chosen(alloc, request)?;
+    chosen_plan(alloc, request)?;
     let text = certify(alloc, &Ctx::new(request))?;
     Ok(text)
 }

@@ -1,15 +1,17 @@
 // One vector of the generator: the sum of its transform, and what a run on it counts.
-ghost use Rattle.std.specs.Prelude.{◌≡◌, ◌<◌, ◌≤◌, ◌^◌, length, Ok, IfOk, IfErr, OnOk};
+ghost use Rattle.std.specs.Prelude.{◌≡◌, ◌<◌, ◌≤◌, ◌^◌, length, vec_len, Err, IfOk, IfErr};
 ghost use Rattle.matrix_meaning.specs.Valid.{IsInRange};
 ghost use Rattle.icode.specs.Machine.{weighted};
-ghost use Rattle.commands.specs.Settled.{IsRefused, IsAffordable, IsSampleText};
+ghost use Rattle.commands.specs.Equations.Orders.{chosen};
+ghost use Rattle.commands.specs.Equations.Requests.{IsDocument};
+ghost use Rattle.commands.specs.Programs.{IsCodeFor};
 ghost use Rattle.commands.specs.Sample.{AreCountable, AreTotals};
 ghost use Rattle.commands.specs.Sample.{sample_vector, weighted_sum, sample_text};
 ghost use Rattle.spiral_words.specs.SpiralStatus.Status.{IsDefined};
 ghost use Rattle.commands.specs.SpiralInput.Refusals.{IsRefusal};
 ghost use Rattle.runs.specs.Stream.{HasNoStranger};
 
-use crate::texts::engine;
+use crate::texts::good_program;
 use icode::action::Counts;
 use listing_text::put;
 use matrix_meaning::Request;
@@ -18,7 +20,7 @@ use par_machine::Machine;
 use request_text::{Schedule, next_state};
 use ring_mod::Modulus;
 use runs::transform;
-use spiral_words::Status;
+use spiral_words::{Document, Status};
 use std::alloc::Global;
 
 // Puts the vector of the seed into the slice.
@@ -96,6 +98,21 @@ fn sample_text(
     Ok(text)
 }
 
+// A machine with a good program for the request, and room for a vector.
+fn engine(alloc: Global, request: &Request) -> Result<(Machine, Vec<u64>), Status>
+    requires in_range { IsInRange request.now }
+    ensures machine { IfOk result (λ made. IsCodeFor request.now made.0.code) }
+    ensures room { IfOk result (λ made. vec_len made.1 ≡ made.0.code.size) }
+    ensures some { IfOk result (λ made. 0 < vec_len made.1) }
+    ensures refused { IfErr result (λ status. IsDefined status → chosen request.now (Err status)) }
+    ensures refusal { IfErr result IsRefusal }
+{
+    let program = good_program(alloc, request)?;
+    let machine = Machine::new(alloc, &program)?;
+    let vector = vec![in alloc; 0; request.size as usize]?;
+    Ok((machine, vector))
+}
+
 /// The sum of the transform of the seed's vector, run under the schedule, and what the run counts.
 pub(crate) fn sample(
     alloc: Global,
@@ -105,9 +122,9 @@ pub(crate) fn sample(
 ) -> Result<Vec<u8>, Status>
     requires in_range { IsInRange request.now }
     requires turns { HasNoStranger schedule.now request.now.procs }
-    ensures affordable { OnOk result (IsAffordable request.now) }
-    ensures text { IfOk result (λ text. IsSampleText request.now seed text.items) }
-    ensures refused { IfErr result (λ status. IsDefined status → IsRefused request.now status) }
+    ensures text { IfOk result (λ text.
+        IsDocument (Document.Sample seed schedule.now) request.now text.items) }
+    ensures refused { IfErr result (λ status. IsDefined status → chosen request.now (Err status)) }
     ensures refusal { IfErr result IsRefusal }
 {
     let (mut machine, mut vector) = engine(alloc, request)?;

@@ -8,23 +8,27 @@ ghost use Rattle.commands.specs.SpiralInput.Ends.{ReadsCleanly};
 ghost use Rattle.commands.specs.SpiralInput.Commands.{commanded, AreJudged, NamesNoStranger, first_stranger, procs_named};
 ghost use Rattle.commands.specs.SpiralInput.Orders.{procs_in};
 ghost use Rattle.spiral_words.specs.SpiralStatus.Status.{IsDefined};
-ghost use Rattle.commands.specs.SpiralInput.Asking.{Asks, spelt};
+ghost use Rattle.commands.specs.SpiralInput.Asking.{Asks};
+ghost use Rattle.commands.specs.Equations.Front as fronts;
+ghost use Rattle.commands.specs.Equations.Orders.{spelt_for};
 ghost use Rattle.commands.specs.SpiralInput.Refusals.{IsEarly};
 
 mod line;
 
 use io_edge::{Feed, Source};
-pub use line::read_line;
+pub(crate) use line::read_line;
 use matrix_meaning::Request;
 use request_text::read_request;
-use spiral_words::{Command, LINE_LIMIT, Order, Refusal, Status, command_of};
+use spiral_words::{
+    Command, Document, LINE_LIMIT, Order, Refusal, RequestCommand, Status, command_of,
+};
 use std::alloc::Global;
 
 /// The request that the first line of the input spells, for the command.
-pub fn ask<I: Source>(command: &Command, feed: &mut Feed, input: &mut I) -> Result<Request, Status>
+pub(crate) fn ask<I: Source>(command: &RequestCommand, feed: &mut Feed, input: &mut I) -> Result<Request, Status>
     requires fresh { feed.old.taken ≡ 0 }
-    ensures told { Asks spelt command.now (to_come feed.old (I.left input.old))
-        (to_come feed.new (I.left input.new)) feed.new.taken result }
+    ensures told { Asks (fronts.line 256) (spelt_for (procs_named command.now))
+        (to_come feed.old (I.left input.old)) (to_come feed.new (I.left input.new)) feed.new.taken result }
     ensures within { OnOk result (feed.new.taken ≤ 257) }
     ensures request { IfOk result IsInRange }
     ensures turns { IfOk result (λ request. NamesNoStranger command.now request.procs) }
@@ -53,7 +57,7 @@ pub fn asked(alloc: Global, words: &Vec<String>) -> Result<Command, Status>
 }
 
 /// No turn is of a stranger to so many processors.
-pub fn check_turns(stranger: Option<u64>, p: u64) -> Result<(), Status>
+pub(crate) fn check_turns(stranger: Option<u64>, p: u64) -> Result<(), Status>
     ensures none { OnOk result (stranger ≡ None) }
     ensures first { IfErr result (λ status.
         (q : ℕ) × (stranger ≡ Some q) × (status ≡ Status.Turn q p)) }
@@ -75,17 +79,24 @@ fn stranger_in(order: &Order, p: u64) -> Option<u64>
     }
 }
 
-/// The first stranger to so many processors that the words of the command name.
-pub fn stranger(command: &Command, p: u64) -> Option<u64>
+// The first stranger to so many processors that the words of a document name.
+fn stranger_to(document: &Document, p: u64) -> Option<u64>
+    ensures { result ≡ first_stranger (procs_named (RequestCommand.Writes document.now)) p }
+{
+    match document {
+        Document::Sample { schedule, .. } => schedule.stranger(p),
+        _ => None,
+    }
+}
+
+// The first stranger to so many processors that the words of the command name.
+fn stranger(command: &RequestCommand, p: u64) -> Option<u64>
     ensures { result ≡ first_stranger (procs_named command.now) p }
 {
     match command {
-        Command::Run { order } => stranger_in(order, p),
-        Command::Trace { order } => stranger_in(order, p),
-        Command::Sample { schedule, .. } => schedule.stranger(p),
-        Command::Apply { schedule, .. } => schedule.stranger(p),
-        Command::Exec { schedule } => schedule.stranger(p),
-        Command::Convolve { schedule, .. } => schedule.stranger(p),
-        _ => None,
+        RequestCommand::Writes(document) => stranger_to(document, p),
+        RequestCommand::Runs(order) => stranger_in(order, p),
+        RequestCommand::Traces(order) => stranger_in(order, p),
+        RequestCommand::Judges => None,
     }
 }

@@ -3,18 +3,17 @@ use Rattle.std.proofs.Common.{◌≡◌, ℕ, List, Ok, Err, sym, ap, ◌∙◌}
 use Rattle.spiral_words.specs.Asked.{IsAsked}
 use Rattle.spiral_words.specs.declared.Command.{Command}
 use Rattle.spiral_words.proofs.OneCommand.{asked_once}
-use Rattle.spiral_words.proofs.Usage.{usage_nothing}
 use Rattle.spiral_words.specs.declared.spiral_status.status.Status.{Status}
-use Rattle.commands.proofs.SpiralInput.Stages.{IsDecided, done, ended, answer_for}
-use Rattle.spiral_main.specs.Outcome.{outcomes_of, commanded, IsOutcome}
-use Rattle.spiral_main.proofs.Landed.{answer_from}
-use Rattle.spiral_main.proofs.OneOutcome as families
-use Rattle.spiral_main.proofs.OneText as texts
+use Rattle.commands.specs.Equations.Commands.{outcomes_of}
+use Rattle.commands.specs.SpiralInput.Commands.{commanded}
+use Rattle.commands.proofs.SpiralInput.Stages.{IsDecided, done, ended, answer_for, of_answers}
+use Rattle.spiral_main.specs.Outcome.{IsOutcome}
+use Rattle.spiral_main.proofs.OneAnswer.{command_one}
 
 commanded_decided : (words : List (List ℕ)) → IsDecided (commanded words)
 commanded_decided words (Ok a) (Ok b) p q = ap done (asked_once words a b p q)
-commanded_decided words (Ok a) (Err t) p q = absurd (usage_nothing words a q.1 p)
-commanded_decided words (Err s) (Ok b) p q = absurd (usage_nothing words b p.1 q)
+commanded_decided words (Ok a) (Err t) p q = absurd (q.1 a p)
+commanded_decided words (Err s) (Ok b) p q = absurd (p.1 b q)
 commanded_decided words (Err s) (Err t) p q = ap ended (p.0 ∙ sym q.0)
 
 pub outcome_of : (words : List (List ℕ)) (bytes : List ℕ) (wanted : Command) (s : Status) (t : List ℕ)
@@ -25,8 +24,12 @@ outcome_of words bytes wanted s t asked p =
 
 pub one_status : (words : List (List ℕ)) (bytes : List ℕ) (a b : Status) (s t : List ℕ) → IsOutcome words bytes a s
     → IsOutcome words bytes b t → a ≡ b
-one_status words bytes a b s t p q = families.one_status words bytes a b s t (answer_from words bytes a s p) (answer_from words bytes b t q)
+one_status words bytes a b s t =
+    of_answers (a ≡ b) (commanded words) (λ (c : Command). (outcomes_of c).answer bytes) a b s t (commanded_decided words) (λ same _. same)
+    (λ c _ p q. (command_one c).status bytes a b s t p q)
 
 pub one_text : (words : List (List ℕ)) (bytes : List ℕ) (a b : Status) (s t : List ℕ) → IsOutcome words bytes a s
     → IsOutcome words bytes b t → s ≡ t
-one_text words bytes a b s t p q = texts.one_text words bytes a b s t (answer_from words bytes a s p) (answer_from words bytes b t q)
+one_text words bytes a b s t =
+    of_answers (s ≡ t) (commanded words) (λ (c : Command). (outcomes_of c).answer bytes) a b s t (commanded_decided words) (λ _ same. same)
+    (λ c _ p q. (command_one c).text bytes a b s t p q)

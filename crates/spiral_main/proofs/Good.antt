@@ -1,20 +1,62 @@
--- What the commands that print a program answer is right, too, where the program's statements are forgotten.
-use Rattle.std.proofs.Common.{ℕ, true, List, [], ◌∷◌}
+-- What the commands that write a program answer is right, too, where the program's statements are forgotten.
+use Rattle.std.proofs.Common.{◌≡◌, ℕ, List, [], ◌∷◌, Ok, Err, None, Some, Result, refl, sym, subst, inl, inr, true}
+use Rattle.std.specs.declared.option.Option.{Option}
+use Rattle.commands.specs.ConvolutionCommands.ConvPlanned.{IsConvPlanned}
+use Rattle.commands.specs.Equations.C.{c_outcomes}
+use Rattle.commands.specs.Equations.Code.{code_outcomes}
+use Rattle.commands.specs.Equations.Convolutions.{conv_chosen, conv_planned, conv_spelt}
+use Rattle.commands.specs.Equations.Convolve.{convolver_outcomes, convolver_work}
+use Rattle.commands.specs.Equations.Front.{Front, HasEnded, MayGoOn, Work, by_front, line, ordered, room_behind}
+use Rattle.commands.specs.Equations.Orders.{Planned, chosen, planned, turned}
+use Rattle.commands.specs.Equations.Trace.{run_lines, trace_outcomes, trace_work}
+use Rattle.commands.specs.Equations.Works.{Wants, all, the_first, by_first, mapping, writing}
+use Rattle.commands.specs.Letters.{program_for}
+use Rattle.commands.specs.Planned.{IsPlanned}
+use Rattle.commands.specs.SpiralInput.Asking.{spelt}
+use Rattle.commands.specs.SpiralInput.Commands.{admitted, first_stranger}
+use Rattle.commands.specs.SpiralInput.Orders.{procs_in}
+use Rattle.commands.specs.SpiralInput.Stage.{HasGiven, Stage, ◌>>=◌}
+use Rattle.commands.specs.ConvolutionCommands.ConvLetters.{conv_program}
+use Rattle.c_print.specs.CText.{c_text_of}
+use Rattle.listing_text.specs.Listing.{listing_of}
+use Rattle.commands.proofs.GoodPrograms.{conv_programs_convolve, programs_are_good}
+use Rattle.commands.proofs.SpiralInput.Stages.{done, done_ended, done_same}
+use Rattle.commands.proofs.SpiralInput.Within.{Within}
+use Rattle.matrix_meaning.specs.Valid.{IsInRange}
+use Rattle.matrix_meaning.specs.declared.Request.{Request}
+use Rattle.commands.specs.ConvolutionCommands.Convolving.{IsConvRequest}
 use Rattle.request_text.specs.Schedule.{Plan as Turns}
 use Rattle.request_text.specs.Turns.{named}
-use Rattle.spl_ast.specs.Formula.{Formula}
 use Rattle.spiral_words.specs.declared.Order.{Order}
-use Rattle.commands.specs.FormulaCommands.Compiled.{written, IsFormulaListing}
-use Rattle.commands.specs.SpiralInput.Orders.{procs_in}
-use Rattle.spiral_main.specs.Front.{line}
-use Rattle.spiral_main.specs.Works.{Wants, all, the_first, writing, mapping, by_first}
-use Rattle.spiral_main.specs.Orders.{Planned, planned}
-use Rattle.spiral_main.specs.Code.{IsListing, IsGoodListing, code_outcomes, good_code_outcomes}
-use Rattle.spiral_main.specs.C.{IsCText, IsGoodCText, c_outcomes, good_c_outcomes}
-use Rattle.spiral_main.specs.Trace.{IsTrace, IsGoodTrace, trace_outcomes, good_trace_outcomes}
-use Rattle.spiral_main.specs.Compile.{IsCodeListing, compile_outcomes, good_compile_outcomes}
-use Rattle.spiral_main.specs.Convolve.{ConvPlanned, conv_planned, IsConvListing, IsConvolverListing, convolve_outcomes, good_convolver_outcomes}
-use Rattle.spiral_main.proofs.Within.{Within, front_within}
+use Rattle.spiral_words.specs.declared.spiral_status.status.Status.{Status}
+use Rattle.spiral_words.specs.declared.spiral_status.status.Status.TheVariants.{Turn}
+use Rattle.tree_model.specs.Breakdown.{Breakdown}
+use Rattle.spiral_main.specs.Good.{IsConvolverListing, IsGoodCText, IsGoodListing, IsGoodProgram, IsGoodTrace, good_c_outcomes, good_code_outcomes, good_convolver_outcomes, good_trace_outcomes}
+
+-- More is right behind a front for each value that the front may order
+
+known_answer : {A : Type 0} (front : Front) (orders : List ℕ → Stage A) (v w : A → Work)
+    → ((text : List ℕ) (a : A) (room : ℕ) → orders text (Ok a) → Within (v a room) (w a room))
+    → (bytes : List ℕ) (s : Status) (t : List ℕ) → (by_front front orders v).answer bytes s t → (by_front front orders w).answer bytes s t
+known_answer front orders v w h bytes s t (inl p) = inl p
+known_answer front orders v w h bytes s t (inr (a, gives, p)) =
+    inr (a, gives, (h gives.value a (room_behind front bytes) gives.behind).answer (front.behind bytes) s t p)
+
+known_broken : {A : Type 0} (front : Front) (orders : List ℕ → Stage A) (v w : A → Work)
+    → ((text : List ℕ) (a : A) (room : ℕ) → orders text (Ok a) → Within (v a room) (w a room))
+    → (read : List ℕ) (ended : Type 0) (t : List ℕ) → (by_front front orders v).broken read ended t → (by_front front orders w).broken read ended t
+known_broken front orders v w h read ended t (inl p) = inl p
+known_broken front orders v w h read ended t (inr (a, given, p)) =
+    inr (a, given, (h given.gives.value a (room_behind front read) given.gives.behind).broken (front.behind read) ended t p)
+
+front_known : {A : Type 0} (front : Front) (orders : List ℕ → Stage A) (v w : A → Work)
+    → ((text : List ℕ) (a : A) (room : ℕ) → orders text (Ok a) → Within (v a room) (w a room))
+    → Within (by_front front orders v) (by_front front orders w)
+front_known front orders v w h = record {
+  answer = known_answer front orders v w h;
+  broken = known_broken front orders v w h;
+  cut = λ read left t p. (p.0, p.1, (h p.1.gives.value p.0 (room_behind front read) p.1.gives.behind).cut (front.behind read) left t p.2);
+}
 
 more_written : (P Q : List ℕ → Type 0) (room : ℕ) → ((t : List ℕ) → P t → Q t)
     → Within (writing P room) (writing Q room)
@@ -33,33 +75,68 @@ more_mapped wants size modulus P Q room h = record {
   cut = λ read left t p. (p.0, p.1, h _ t p.2);
 }
 
+-- The tree that a line orders is chosen for a request in range
+
+admitted_same : (stranger : Option ℕ) (procs : ℕ) (a b : Request) → done b ≡ admitted stranger procs a → a ≡ b
+admitted_same None procs a b is = done_same a b (sym is)
+admitted_same (Some q) procs a b is = absurd (done_ended b (Turn q procs) is)
+
+-- the request that a line spells, if it has the processors
+pub turned_spelt : (spells : List ℕ → Stage Request) (names text : List ℕ) (request : Request)
+    → (spells text >>= turned names) (Ok request) → spells text (Ok request)
+turned_spelt spells names text request p =
+    let own = p.value in
+    subst (λ (r : Request). spells text (Ok r)) (admitted_same (first_stranger names own.procs) own.procs own request p.behind) p.before
+
+good_plan : (names text : List ℕ) (plan : Planned) → planned names text (Ok plan) → IsGoodProgram plan (program_for plan.request plan.tree)
+good_plan names text plan p =
+    let request = p.value in
+    let in_range : IsInRange request = (turned_spelt spelt names text request p.before).1 in
+    let own : IsPlanned plan.request (Ok plan.tree) = subst (λ (r : Request). IsPlanned r (Ok plan.tree)) (sym p.behind.0) p.behind.1 in
+    let known = programs_are_good plan.request plan.tree (subst IsInRange (sym p.behind.0) in_range) own in
+    record { good = known.0; lean = known.1 }
+
+-- Command by command
+
 pub good_code : Within code_outcomes good_code_outcomes
-good_code = front_within (line 256) (planned []) (planned []) (λ (plan : Planned). writing (IsListing plan)) (λ (plan : Planned). writing (IsGoodListing plan)) (λ text r p. p)
-    (λ plan room. more_written (IsListing plan) (IsGoodListing plan) room (λ t p. (p.0, record { good = p.1.good; lean = p.1.lean }, p.2)))
+good_code =
+    front_known (line 256) (planned []) (λ (plan : Planned). writing (λ t. t ≡ listing_of (program_for plan.request plan.tree))) (λ (plan : Planned). writing (IsGoodListing plan))
+    (λ text plan room orders. more_written (λ t. t ≡ listing_of (program_for plan.request plan.tree)) (IsGoodListing plan) room
+    (λ t is. (program_for plan.request plan.tree, good_plan [] text plan orders, is)))
 
 pub good_c : Within c_outcomes good_c_outcomes
-good_c = front_within (line 256) (planned []) (planned []) (λ (plan : Planned). writing (IsCText plan)) (λ (plan : Planned). writing (IsGoodCText plan)) (λ text r p. p)
-    (λ plan room. more_written (IsCText plan) (IsGoodCText plan) room (λ t p. (p.0, record { good = p.1.good; lean = p.1.lean }, p.2)))
+good_c =
+    front_known (line 256) (planned []) (λ (plan : Planned). writing (λ t. t ≡ c_text_of (program_for plan.request plan.tree))) (λ (plan : Planned). writing (IsGoodCText plan))
+    (λ text plan room orders. more_written (λ t. t ≡ c_text_of (program_for plan.request plan.tree)) (IsGoodCText plan) room
+    (λ t is. (program_for plan.request plan.tree, good_plan [] text plan orders, is)))
 
 pub good_trace : (order : Order) → Within (trace_outcomes order) (good_trace_outcomes order)
-good_trace order = front_within (line 256) (planned (procs_in order)) (planned (procs_in order))
-    (λ (plan : Planned). mapping all plan.request.size plan.request.modulus (IsTrace order plan))
-    (λ (plan : Planned). mapping all plan.request.size plan.request.modulus (IsGoodTrace order plan)) (λ text r p. p)
-    (λ plan room. more_mapped all plan.request.size plan.request.modulus (IsTrace order plan)
-    (IsGoodTrace order plan) room
-    (λ vectors t p. (p.0, record { good = p.1.good; lean = p.1.lean }, p.2)))
+good_trace order =
+    front_known (line 256) (planned (procs_in order)) (trace_work order) (λ (plan : Planned). mapping all plan.request.size plan.request.modulus (IsGoodTrace order plan))
+    (λ text plan room orders. more_mapped all plan.request.size plan.request.modulus _ (IsGoodTrace order plan) room
+    (λ vectors t is. (program_for plan.request plan.tree, good_plan (procs_in order) text plan orders, is)))
 
-pub good_compile : (m : ℕ) → Within (compile_outcomes m) (good_compile_outcomes m)
-good_compile m = front_within (line 65536) written written (λ (formula : Formula). writing (IsFormulaListing m formula)) (λ (formula : Formula). writing (IsCodeListing m formula)) (λ text r p. p)
-    (λ formula room. more_written (IsFormulaListing m formula) (IsCodeListing m formula) room (λ t p. (p.0, p.1.code, p.2)))
+good_list : (names text : List ℕ) (plan : Planned) (h : List ℕ) (later : List (List ℕ)) (t : List ℕ)
+    → conv_planned names text (Ok plan) → t ≡ listing_of (conv_program plan.request plan.tree h) → IsConvolverListing plan h later t
+good_list names text plan h later t p is =
+    let request = p.value in
+    let able : IsConvRequest request = (turned_spelt conv_spelt names text request p.before).1 in
+    let own : IsConvPlanned plan.request (Ok plan.tree) = subst (λ (r : Request). IsConvPlanned r (Ok plan.tree)) (sym p.behind.0) p.behind.1 in (
+      conv_program plan.request plan.tree h,
+      conv_programs_convolve plan.request plan.tree h (subst IsConvRequest (sym p.behind.0) able) own,
+      is,
+    )
 
-list_kept : (plan : ConvPlanned) (vectors : List (List ℕ)) (t : List ℕ) → by_first (IsConvListing plan) vectors t
-    → by_first (IsConvolverListing plan) vectors t
-list_kept plan [] t p = p
-list_kept plan (h ∷ later) t p = (p.0, p.1.convolver, p.2)
+first_more : (P Q : List ℕ → List (List ℕ) → List ℕ → Type 0) → ((h : List ℕ) (later : List (List ℕ)) (t : List ℕ) → P h later t → Q h later t)
+    → (vectors : List (List ℕ)) (t : List ℕ) → by_first P vectors t → by_first Q vectors t
+first_more P Q each [] t p = p
+first_more P Q each (h ∷ later) t p = each h later t p
 
-pub good_convolver : (schedule : Turns) → Within (convolve_outcomes schedule true) (good_convolver_outcomes schedule)
-good_convolver schedule = front_within (line 256) (conv_planned (named schedule)) (conv_planned (named schedule))
-    (λ (plan : ConvPlanned). mapping the_first plan.request.size plan.request.modulus (by_first (IsConvListing plan)))
-    (λ (plan : ConvPlanned). mapping the_first plan.request.size plan.request.modulus (by_first (IsConvolverListing plan))) (λ text r p. p)
-    (λ plan room. more_mapped the_first plan.request.size plan.request.modulus (by_first (IsConvListing plan)) (by_first (IsConvolverListing plan)) room (list_kept plan))
+pub good_convolver : (schedule : Turns) → Within (convolver_outcomes schedule) (good_convolver_outcomes schedule)
+good_convolver schedule =
+    front_known (line 256) (conv_planned (named schedule)) convolver_work
+    (λ (plan : Planned). mapping the_first plan.request.size plan.request.modulus (by_first (IsConvolverListing plan)))
+    (λ text plan room orders. more_mapped the_first plan.request.size plan.request.modulus
+    (by_first (λ h later t. t ≡ listing_of (conv_program plan.request plan.tree h))) (by_first (IsConvolverListing plan)) room
+    (first_more (λ h later t. t ≡ listing_of (conv_program plan.request plan.tree h)) (IsConvolverListing plan)
+    (λ h later t is. good_list (named schedule) text plan h later t orders is)))

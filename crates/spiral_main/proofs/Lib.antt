@@ -1,15 +1,10 @@
 pub mod Accounts
 pub mod Calls
 pub mod Good
-pub mod Landed
-pub mod Nested
-pub mod OneOutcome
+pub mod OneAnswer
 pub mod OnePlan
-pub mod OneText
-pub mod Others
-pub mod Requests
+pub mod OneWork
 pub mod RightCalls
 pub mod RightFront
 pub mod RightRequests
 pub mod SomeOutcome
-pub mod Within

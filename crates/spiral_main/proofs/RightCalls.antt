@@ -1,145 +1,161 @@
 -- A call that is right succeeds, unless the outside fails or memory runs out.
-use Rattle.std.proofs.Common.{◌≡◌, ◌≢◌, ◌⊎◌, ℕ, true, false, List, Ok, refl, ap, subst, ◌∙◌, arith, inl, inr}
+use Rattle.std.proofs.Common.{◌≡◌, ◌≢◌, ◌⊎◌, ◌≤◌, ◌∷◌, ℕ, Bool, true, false, List, [], Ok, refl, ap, subst, ◌∙◌, arith, inl, inr}
 use Rattle.std.specs.declared.option.Option.{Option}
+use Rattle.matrix_meaning.specs.Valid.{IsValid}
 use Rattle.matrix_meaning.specs.declared.Request.{Request}
+use Rattle.tree_model.specs.Chosen.{CanDivideWhole}
 use Rattle.plan_cert.proofs.OneVerdict.{one_verdict}
+use Rattle.plan_cert.specs.Verdict.{IsVerdict}
 use Rattle.plan_cert.specs.declared.verdict.Verdict.TheVariants.{Least}
-use Rattle.icode.specs.Plain.{PlainProgram}
-use Rattle.data_stream.specs.InputRest.Part.{second_part}
-use Rattle.request_text.specs.Schedule.{Plan}
-use Rattle.spiral_words.specs.declared.Command.{Command}
+use Rattle.request_text.specs.Schedule.{Plan as Turns}
+use Rattle.request_text.specs.Turns.{named}
+use Rattle.runs.proofs.StreamLemmas.{right_answer}
+use Rattle.runs.specs.Stream.{data_answer, data_vectors}
+use Rattle.spiral_words.specs.SpiralStatus.Fault.{status_of_stream}
 use Rattle.spiral_words.specs.declared.Command.TheVariants as command
+use Rattle.spiral_words.specs.declared.Document.{Document}
+use Rattle.spiral_words.specs.declared.Document.TheVariants as document
+use Rattle.spiral_words.specs.declared.FormulaCommand.{FormulaCommand}
+use Rattle.spiral_words.specs.declared.FormulaCommand.TheVariants as formula
+use Rattle.spiral_words.specs.declared.RequestCommand.{RequestCommand}
+use Rattle.spiral_words.specs.declared.RequestCommand.TheVariants as request
+use Rattle.spl_ast.specs.Formula.{Formula, size_of}
 use Rattle.spiral_words.specs.declared.spiral_status.status.Status.{Status}
 use Rattle.spiral_words.specs.declared.spiral_status.status.Status.TheVariants.{Success, Usage, Syntax, Range, Shape, LanesLine, NotUnit, Turn, NotPrincipal, NoDivide, OverBudget, BadNumber, Truncated, ReadFault, WriteFault, NoMemory, TooLong, Unread, Wrong, FormulaShape, TooDeep, ListingSyntax, Address, Register, LineShared, OverSteps}
 use Rattle.spiral_words.specs.declared.spiral_status.status.Status.TheVariants as status
-use Rattle.commands.specs.Checked.{IsChecked, status_of_verdict}
-use Rattle.commands.specs.SpiralInput.Commands.{reads_certificate, takes_convolution}
-use Rattle.commands.specs.ConvolutionCommands.Convolved.{conv_in, list_status, conv_status, SettlesConv, IsConvAnswer}
-use Rattle.spl_ast.specs.Formula.{Formula, size_of}
-use Rattle.commands.specs.FormulaCommands.Compiled.{formula_in, SettlesFormula, IsFormulaAnswer}
-use Rattle.spiral_words.specs.SpiralStatus.Fault.{status_of_stream}
-use Rattle.commands.specs.SpiralInput.Line.{data_of, room_behind}
-use Rattle.commands.specs.ListingCommands.Listed.{runnable, room_behind_listing, IsAnswerOfProgram, IsExecution}
-use Rattle.spiral_main.specs.Families.{Job, ordered, IsAnswerToRequest, IsOutcome}
-use Rattle.spiral_main.specs.Outcome as calls
-use Rattle.commands.specs.Settled.{IsTextOfData, Settles}
-use Rattle.spiral_main.specs.Right.{AreRightData, AreRightVectors, BeginWithList, IsRightRest, IsRightRequest, IsRightCall, Succeeds}
-use Rattle.spiral_main.specs.RightFront.{AreWholeVectors}
-use Rattle.spiral_main.proofs.RightRequests.{job_of, orders_job, orders_request}
-use Rattle.runs.specs.Stream.{data_answer}
-use Rattle.spiral_words.proofs.OneCommand.{asked_once}
-use Rattle.commands.proofs.ConvolutionCommands.OneConvolution.{conv_decided}
-use Rattle.commands.proofs.ListingCommands.OneExecution.{runnable_decided}
-use Rattle.commands.proofs.FormulaCommands.OneFormula.{formula_decided}
-use Rattle.spiral_main.proofs.Landed.{answer_from}
-use Rattle.spiral_main.proofs.OneOutcome.{ordered_decided, no_order, no_answer, no_formula, no_request, no_plain_request, no_convolution, no_both, listing_alone, schedule_asked_once}
-use Rattle.commands.proofs.SpiralInput.Stages.{answer_for}
-use Rattle.runs.proofs.StreamLemmas.{right_answer}
+use Rattle.commands.specs.Checked.{status_of_verdict}
+use Rattle.commands.specs.Equations.Apply.{apply_work}
+use Rattle.commands.specs.Equations.Check.{fitting}
+use Rattle.commands.specs.Equations.Commands.{outcomes_by_formula}
+use Rattle.commands.specs.Equations.Convolutions.{conv_planned}
+use Rattle.commands.specs.Equations.Convolve.{convolve_work, convolver_work, outcomes_by_list}
+use Rattle.commands.specs.Equations.Exec.{exec_work}
+use Rattle.commands.specs.Equations.Compile.{compile_work}
+use Rattle.commands.specs.Equations.Formulas.{formed, written}
+use Rattle.commands.specs.Equations.Front.{Front, Work, by_front, line, ordered, part, room_behind}
+use Rattle.commands.specs.Equations.Orders.{Planned, planned, turned}
+use Rattle.commands.specs.Equations.Requests.{document_outcomes, document_work, outcomes_by_request}
+use Rattle.commands.specs.Equations.Run.{run_work}
+use Rattle.commands.specs.Equations.Trace.{trace_work}
+use Rattle.commands.specs.Equations.Works.{a_first, all, judging, mapping, status_by, the_first}
+use Rattle.commands.specs.ListingCommands.Listed.{loaded}
+use Rattle.commands.specs.SpiralInput.Asking.{spelt}
+use Rattle.commands.specs.SpiralInput.Commands.{procs_named}
+use Rattle.commands.specs.SpiralInput.Orders.{procs_in}
+use Rattle.commands.specs.SpiralInput.Stage.{Stage, ◌>>=◌}
+use Rattle.commands.proofs.ConvolutionCommands.OneConvolution.{conv_planned_decided}
+use Rattle.commands.proofs.FormulaCommands.OneFormula.{formed_decided, written_decided}
+use Rattle.commands.proofs.ListingCommands.OneExecution.{loaded_decided}
+use Rattle.commands.proofs.SpiralInput.Stages.{IsDecided, answer_for}
+use Rattle.spiral_main.specs.Outcome.{Accounts, IsOutcome}
+use Rattle.spiral_main.specs.Right.{AreRightData, AreRightVectors, BeginWithList, HasBudgetFor, IsRightCall, IsRightCertificate, IsRightRest, Succeeds, formula_for}
+use Rattle.spiral_main.specs.RightFront.{AreWholeVectors, HasWholeVectors}
+use Rattle.spiral_main.proofs.Calls.{outcome_of}
+use Rattle.spiral_main.proofs.OneAnswer.{fits_decided, planned_decided}
+use Rattle.spiral_main.proofs.OneWork.{ordered_decided}
+use Rattle.spiral_main.proofs.RightRequests.{orders_conv, orders_fitting, orders_plan}
 
-data_right : (wanted : Command) (r : Request) (room : ℕ) (bytes : List ℕ) (vectors : List (List ℕ)) (text : List ℕ)
-    → IsRightRest wanted r room bytes → IsTextOfData wanted r vectors text
-    → data_answer r.size room bytes ≡ Ok tt
-data_right (command.Run order) r room bytes vectors text right p =
-    right_answer r.size room bytes right.few right.good right.whole
-data_right (command.Trace order) r room bytes vectors text right p =
-    right_answer r.size room bytes right.few right.good right.whole
-data_right command.Plan r room bytes vectors text right p = absurd p
-data_right command.Formula r room bytes vectors text right p = absurd p
-data_right command.Code r room bytes vectors text right p = absurd p
-data_right command.C r room bytes vectors text right p = absurd p
-data_right command.Cert r room bytes vectors text right p = absurd p
-data_right command.Check r room bytes vectors text right p = absurd p
-data_right (command.Sample seed schedule) r room bytes vectors text right p = absurd p
-data_right (command.Compile modulus) r room bytes vectors text right p = absurd p
-data_right (command.Apply modulus schedule) r room bytes vectors text right p = absurd p
-data_right (command.Exec schedule) r room bytes vectors text right p = absurd p
-data_right (command.Convolve schedule as_code) r room bytes vectors text right p = absurd p
+-- where the front orders a value, the answer is right for it
+front_gives : {A : Type 0} (front : Front) (orders : List ℕ → Stage A) (work : A → Work) (value : A) (bytes : List ℕ) (s : Status) (t : List ℕ)
+    → ((text : List ℕ) → IsDecided (orders text)) → ordered front orders bytes (Ok value)
+    → (by_front front orders work).answer bytes s t → (work value (room_behind front bytes)).answer (front.behind bytes) s t
+front_gives {A} front orders work value bytes s t decided gives p =
+    answer_for (ordered front orders bytes) (λ (v : A). (work v (room_behind front bytes)).answer (front.behind bytes)) value s t
+    (ordered_decided front orders bytes decided) gives p
 
-check_right : (wanted : Command) (r : Request) (room : ℕ) (bytes : List ℕ) (s : Status) (text : List ℕ)
-    → IsRightRest wanted r room bytes → reads_certificate wanted ≡ true → IsChecked r bytes s text → s ≡ Success
-check_right command.Check r room bytes s text right h (inl p) = absurd (omega (arith, p.0, right.few))
-check_right command.Check r room bytes s text right h (inr p) = p.1.2 ∙ ap status_of_verdict (one_verdict r bytes p.1.0 (Least right.cost) p.1.1 right.judged)
-check_right (command.Run order) r room bytes s text right h p = absurd (cc)
-check_right (command.Trace order) r room bytes s text right h p = absurd (cc)
-check_right command.Plan r room bytes s text right h p = absurd (cc)
-check_right command.Formula r room bytes s text right h p = absurd (cc)
-check_right command.Code r room bytes s text right h p = absurd (cc)
-check_right command.C r room bytes s text right h p = absurd (cc)
-check_right command.Cert r room bytes s text right h p = absurd (cc)
-check_right (command.Sample seed schedule) r room bytes s text right h p = absurd (cc)
-check_right (command.Compile modulus) r room bytes s text right h p = absurd (cc)
-check_right (command.Apply modulus schedule) r room bytes s text right h p = absurd (cc)
-check_right (command.Exec schedule) r room bytes s text right h p = absurd (cc)
-check_right (command.Convolve schedule as_code) r room bytes s text right h p = absurd (cc)
+-- By a request
 
-settled_right : (wanted : Command) (r : Request) (room : ℕ) (bytes : List ℕ) (s : Status) (text : List ℕ)
-    → IsRightRest wanted r room bytes → Settles wanted r room bytes s text → s ≡ Success
-settled_right wanted r room bytes s text right (inl p) = p.0 ∙ ap status_of_stream (data_right wanted r room bytes _ text right p.1)
-settled_right wanted r room bytes s text right (inr (inl p)) = p.0
-settled_right wanted r room bytes s text right (inr (inr p)) = check_right wanted r room bytes s text right p.0 p.1
+document_success : (wanted : Document) (bytes : List ℕ) (plan : Planned) (s : Status) (t : List ℕ)
+    → ordered (line 256) (planned (procs_named (request.Writes wanted))) bytes (Ok plan) → (document_outcomes wanted).answer bytes s t → s ≡ Success
+document_success document.Plan bytes plan s t gives p = (front_gives (line 256) (planned []) (document_work document.Plan) plan bytes s t (planned_decided []) gives p).0
+document_success document.Formula bytes plan s t gives p = (front_gives (line 256) (planned []) (document_work document.Formula) plan bytes s t (planned_decided []) gives p).0
+document_success document.Code bytes plan s t gives p = (front_gives (line 256) (planned []) (document_work document.Code) plan bytes s t (planned_decided []) gives p).0
+document_success document.C bytes plan s t gives p = (front_gives (line 256) (planned []) (document_work document.C) plan bytes s t (planned_decided []) gives p).0
+document_success document.Cert bytes plan s t gives p = (front_gives (line 256) (planned []) (document_work document.Cert) plan bytes s t (planned_decided []) gives p).0
+document_success (document.Sample seed schedule) bytes plan s t gives p =
+    (front_gives (line 256) (planned (named schedule)) (document_work (document.Sample seed schedule)) plan bytes s t (planned_decided (named schedule)) gives p).0
 
-answer_success : (words : List (List ℕ)) (bytes : List ℕ) (s : Status) (text : List ℕ) → IsRightRequest words bytes → IsAnswerToRequest words bytes s text → s ≡ Success
-answer_success words bytes s text right p =
-    settled_right right.wanted right.request (room_behind bytes) (data_of bytes) s text right.rest
-    (answer_for (ordered words bytes) (λ (job : Job). Settles job.command job.request (room_behind bytes) (data_of bytes)) (job_of words bytes right) s text
-    (ordered_decided words bytes) (orders_job words bytes right) p)
+whole_status : (size room : ℕ) (bytes : List ℕ) → AreWholeVectors size room bytes → status_of_stream (data_answer size room bytes) ≡ Success
+whole_status size room bytes right = ap status_of_stream (right_answer size room bytes right.few right.good right.whole)
 
-execution_success : (schedule : Plan) (bytes : List ℕ) (program : PlainProgram) (s : Status) (text : List ℕ) → runnable schedule bytes (Ok program)
-    → AreWholeVectors program.size (room_behind_listing bytes) (second_part bytes) → IsExecution schedule bytes s text → s ≡ Success
-execution_success schedule bytes program s text runs right p =
-    let answer : IsAnswerOfProgram program (room_behind_listing bytes) (second_part bytes) s text =
-    answer_for (runnable schedule bytes) (λ (q : PlainProgram). IsAnswerOfProgram q (room_behind_listing bytes) (second_part bytes)) program s text (runnable_decided schedule bytes) runs p in
-    answer.0 ∙ ap status_of_stream (right_answer program.size (room_behind_listing bytes) (second_part bytes) right.few right.good right.whole)
+-- whole vectors of a request that is the plan's
+plan_status : (plan : Planned) (r : Request) (bytes : List ℕ) → plan.request ≡ r → HasWholeVectors (line 256) r.size bytes
+    → status_of_stream (data_answer plan.request.size (room_behind (line 256) bytes) ((line 256).behind bytes)) ≡ Success
+plan_status plan r bytes same right =
+    ap (λ (q : Request). status_of_stream (data_answer q.size (room_behind (line 256) bytes) ((line 256).behind bytes))) same
+    ∙ whole_status r.size (room_behind (line 256) bytes) ((line 256).behind bytes) right
 
-settled_formula : (wanted : Command) (formula : Formula) (room : ℕ) (bytes : List ℕ) (s : Status) (text : List ℕ) → AreRightData wanted formula room bytes
-    → SettlesFormula wanted formula room bytes s text → s ≡ Success
-settled_formula (command.Compile modulus) formula room bytes s text right p = p.0
-settled_formula (command.Apply modulus schedule) formula room bytes s text right p =
-    p.0 ∙ ap status_of_stream (right_answer (size_of formula) room bytes right.few right.good right.whole)
-settled_formula _ formula room bytes s text right p = absurd p
+judged_success : (r : Request) (room : ℕ) (bytes : List ℕ) (s : Status) (t : List ℕ) → IsRightCertificate r bytes
+    → (judging (IsVerdict r) room).answer bytes s t → s ≡ Success
+judged_success r room bytes s t right (inl p) = absurd (omega (arith, p.0, right.few))
+judged_success r room bytes s t right (inr p) = p.1.2 ∙ ap status_of_verdict (one_verdict r bytes p.1.0 (Least right.cost) p.1.1 right.judged)
 
-formula_success : (wanted : Command) (bytes : List ℕ) (formula : Formula) (s : Status) (text : List ℕ) → formula_in wanted bytes (Ok formula)
-    → AreRightData wanted formula (room_behind bytes) (data_of bytes) → IsFormulaAnswer wanted bytes s text → s ≡ Success
-formula_success wanted bytes formula s text orders right p =
-    settled_formula wanted formula (room_behind bytes) (data_of bytes) s text right
-    (answer_for (formula_in wanted bytes) (λ (f : Formula). SettlesFormula wanted f (room_behind bytes) (data_of bytes)) formula s text (formula_decided wanted bytes) orders p)
+plain_success : (wanted : RequestCommand) (r : Request) (bytes : List ℕ) (s : Status) (t : List ℕ)
+    → IsValid r → CanDivideWhole r → HasBudgetFor wanted r → ordered (line 256) (λ text. spelt text >>= turned (procs_named wanted)) bytes (Ok r)
+    → IsRightRest wanted r (room_behind (line 256) bytes) ((line 256).behind bytes)
+    → (outcomes_by_request wanted).answer bytes s t → s ≡ Success
+plain_success (request.Writes wanted) r bytes s t valid can pays orders rest p =
+    let plan = orders_plan (procs_named (request.Writes wanted)) bytes r valid can pays orders in
+    document_success wanted bytes plan.0 s t plan.2 p
+plain_success (request.Runs order) r bytes s t valid can pays orders rest p =
+    let plan = orders_plan (procs_in order) bytes r valid can pays orders in
+    (front_gives (line 256) (planned (procs_in order)) run_work plan.0 bytes s t (planned_decided (procs_in order)) plan.2 p).0
+    ∙ plan_status plan.0 r bytes plan.1 rest
+plain_success (request.Traces order) r bytes s t valid can pays orders rest p =
+    let plan = orders_plan (procs_in order) bytes r valid can pays orders in
+    (front_gives (line 256) (planned (procs_in order)) (trace_work order) plan.0 bytes s t (planned_decided (procs_in order)) plan.2 p).0
+    ∙ plan_status plan.0 r bytes plan.1 rest
+plain_success request.Judges r bytes s t valid can pays orders rest p =
+    let fits = orders_fitting bytes r valid can orders in
+    judged_success r (room_behind (line 256) bytes) ((line 256).behind bytes) s t rest
+    (front_gives (line 256) (λ text. spelt text >>= fitting) (λ (q : Request). judging (IsVerdict q)) r bytes s t fits_decided fits p)
 
-list_right : (wanted : Command) (request : Request) (room : ℕ) (bytes : List ℕ) → takes_convolution wanted ≡ true → AreRightVectors wanted request room bytes
-    → list_status wanted (data_answer request.size room bytes) ≡ Success
-list_right (command.Convolve schedule true) request room bytes h right = refl
-list_right (command.Convolve schedule false) request room bytes h right = ap status_of_stream (right_answer request.size room bytes right.few right.good right.whole)
-list_right _ request room bytes h right = absurd (cc)
+-- By a formula
 
-conv_success : (wanted : Command) (bytes : List ℕ) (request : Request) (s : Status) (text : List ℕ) → takes_convolution wanted ≡ true → conv_in wanted bytes (Ok request)
-    → BeginWithList request (room_behind bytes) (data_of bytes) → AreRightVectors wanted request (room_behind bytes) (data_of bytes) → IsConvAnswer wanted bytes s text → s ≡ Success
-conv_success wanted bytes request s text h orders list right p =
-    let settles : SettlesConv wanted request (room_behind bytes) (data_of bytes) s text =
-    answer_for (conv_in wanted bytes) (λ (r : Request). SettlesConv wanted r (room_behind bytes) (data_of bytes)) request s text (conv_decided wanted bytes) orders p in
-    settles.0 ∙ ap (conv_status wanted request.size (data_answer request.size (room_behind bytes) (data_of bytes))) list.2
-    ∙ list_right wanted request (room_behind bytes) (data_of bytes) h right
+formula_success : (m : ℕ) (wanted : FormulaCommand) (f : Formula) (bytes : List ℕ) (s : Status) (t : List ℕ)
+    → ordered (line 65536) (formula_for wanted) bytes (Ok f) → AreRightData wanted f bytes
+    → (outcomes_by_formula m wanted).answer bytes s t → s ≡ Success
+formula_success m formula.Compile f bytes s t orders rest p = (front_gives (line 65536) written (compile_work m) f bytes s t written_decided orders p).0
+formula_success m (formula.Apply schedule) f bytes s t orders rest p =
+    (front_gives (line 65536) (formed (named schedule)) (apply_work m) f bytes s t (formed_decided (named schedule)) orders p).0
+    ∙ whole_status (size_of f) (room_behind (line 65536) bytes) ((line 65536).behind bytes) rest
 
-right_success : (words : List (List ℕ)) (bytes : List ℕ) (s : Status) (text : List ℕ) → IsRightCall words bytes → IsOutcome words bytes s text → s ≡ Success
-right_success words bytes s text (inl right) (inl p) = answer_success words bytes s text right p
-right_success words bytes s text (inl right) (inr (inl p)) = absurd (no_order words (command.Exec p.0) bytes (Ok (job_of words bytes right)) p.1 refl (orders_job words bytes right))
-right_success words bytes s text (inl right) (inr (inr (inl p))) = absurd (no_order words p.0 bytes (Ok (job_of words bytes right)) p.1.0 (no_request p.0 p.1.1) (orders_job words bytes right))
-right_success words bytes s text (inl right) (inr (inr (inr p))) = absurd (no_order words p.0 bytes (Ok (job_of words bytes right)) p.1.0 (no_plain_request p.0 p.1.1) (orders_job words bytes right))
-right_success words bytes s text (inr (inl right)) (inl p) = absurd (no_answer words (command.Exec right.schedule) bytes s text right.asked refl p)
-right_success words bytes s text (inr (inl right)) (inr (inr p)) = absurd (listing_alone words bytes right.schedule s text right.asked p)
-right_success words bytes s text (inr (inr (inl right))) (inl p) = absurd (no_answer words right.wanted bytes s text right.asked.0 (no_request right.wanted right.asked.1) p)
-right_success words bytes s text (inr (inr (inl right))) (inr (inl p)) = absurd (no_formula words p.0 right.wanted p.1 right.asked)
-right_success words bytes s text (inr (inr (inl right))) (inr (inr (inl p))) =
-    let same : p.0 ≡ right.wanted = asked_once words p.0 right.wanted p.1.0 right.asked.0 in
-    formula_success right.wanted bytes right.formula s text right.orders right.rest (subst (λ (k : Command). IsFormulaAnswer k bytes s text) same p.2)
-right_success words bytes s text (inr (inr (inl right))) (inr (inr (inr p))) = absurd (no_both words right.wanted p.0 right.asked p.1)
-right_success words bytes s text (inr (inr (inr right))) (inl p) = absurd (no_answer words right.wanted bytes s text right.asked.0 (no_plain_request right.wanted right.asked.1) p)
-right_success words bytes s text (inr (inr (inr right))) (inr (inl p)) = absurd (no_convolution words p.0 right.wanted p.1 right.asked)
-right_success words bytes s text (inr (inr (inr right))) (inr (inr (inl p))) = absurd (no_both words p.0 right.wanted p.1 right.asked)
-right_success words bytes s text (inr (inr (inr right))) (inr (inr (inr p))) =
-    let same : p.0 ≡ right.wanted = asked_once words p.0 right.wanted p.1.0 right.asked.0 in
-    conv_success right.wanted bytes right.request s text right.asked.1 (orders_request words bytes right) right.list right.rest (subst (λ (k : Command). IsConvAnswer k bytes s text) same p.2)
-right_success words bytes s text (inr (inl right)) (inr (inl p)) =
-    let same : p.0 ≡ right.schedule = schedule_asked_once words p.0 right.schedule p.1 right.asked in
-    execution_success right.schedule bytes right.program s text right.runs right.rest (subst (λ (k : Plan). IsExecution k bytes s text) same p.2)
+-- By a list
+
+list_success : (schedule : Turns) (code : Bool) (r : Request) (bytes : List ℕ) (s : Status) (t : List ℕ)
+    → (plan : Planned) × (plan.request ≡ r) × ordered (line 256) (conv_planned (named schedule)) bytes (Ok plan)
+    → BeginWithList r (room_behind (line 256) bytes) ((line 256).behind bytes) → AreRightVectors code r bytes
+    → (outcomes_by_list schedule code).answer bytes s t → s ≡ Success
+list_success schedule false r bytes s t (plan, same, orders) list rest p =
+    let room = room_behind (line 256) bytes in
+    let behind = (line 256).behind bytes in
+    let vectors : data_vectors plan.request.size plan.request.modulus room behind ≡ list.0 ∷ list.1 =
+    ap (λ (q : Request). data_vectors q.size q.modulus room behind) same ∙ list.2 in
+    (front_gives (line 256) (conv_planned (named schedule)) convolve_work plan bytes s t (conv_planned_decided (named schedule)) orders p).0
+    ∙ ap (status_by a_first plan.request.size (data_answer plan.request.size room behind)) vectors ∙ plan_status plan r bytes same rest
+list_success schedule true r bytes s t (plan, same, orders) list rest p =
+    let room = room_behind (line 256) bytes in
+    let behind = (line 256).behind bytes in
+    let vectors : data_vectors plan.request.size plan.request.modulus room behind ≡ list.0 ∷ list.1 =
+    ap (λ (q : Request). data_vectors q.size q.modulus room behind) same ∙ list.2 in
+    (front_gives (line 256) (conv_planned (named schedule)) convolver_work plan bytes s t (conv_planned_decided (named schedule)) orders p).0
+    ∙ ap (status_by the_first plan.request.size (data_answer plan.request.size room behind)) vectors
+
+right_success : (words : List (List ℕ)) (bytes : List ℕ) (s : Status) (t : List ℕ) → IsRightCall words bytes → IsOutcome words bytes s t → s ≡ Success
+right_success words bytes s t (inl right) p =
+    plain_success right.wanted right.request bytes s t right.valid right.divides right.budget right.orders right.rest
+    (outcome_of words bytes (command.ByRequest right.wanted) s t right.asked p)
+right_success words bytes s t (inr (inl right)) p =
+    (front_gives (part 1048576) (loaded right.schedule) exec_work right.program bytes s t (loaded_decided right.schedule) right.orders
+    (outcome_of words bytes (command.ByListing right.schedule) s t right.asked p)).0
+    ∙ whole_status right.program.size (room_behind (part 1048576) bytes) ((part 1048576).behind bytes) right.rest
+right_success words bytes s t (inr (inr (inl right))) p =
+    formula_success right.modulus right.wanted right.formula bytes s t right.orders right.rest
+    (outcome_of words bytes (command.ByFormula right.modulus right.wanted) s t right.asked p)
+right_success words bytes s t (inr (inr (inr right))) p =
+    list_success right.schedule right.code right.request bytes s t
+    (orders_conv (named right.schedule) bytes right.request right.able right.rooted right.principal right.budget right.orders) right.list right.rest
+    (outcome_of words bytes (command.ByList right.schedule right.code) s t right.asked p)
 
 memory_or : (s : Status) → (s ≡ NoMemory) ⊎ (s ≢ NoMemory)
 memory_or NoMemory = inl refl
@@ -170,13 +186,13 @@ memory_or (Register phase proc action) = inr (λ e. cc)
 memory_or (LineShared phase line a b) = inr (λ e. cc)
 memory_or (OverSteps limit) = inr (λ e. cc)
 
-pub right_calls : (words : List (List ℕ)) (bytes : List ℕ) (left before after : Option (List ℕ)) (s : Status) → IsRightCall words bytes → calls.Accounts words bytes left before after s
+pub right_calls : (words : List (List ℕ)) (bytes : List ℕ) (left before after : Option (List ℕ)) (s : Status) → IsRightCall words bytes → Accounts words bytes left before after s
     → s ≢ ReadFault → s ≢ WriteFault → (s ≡ NoMemory) ⊎ Succeeds words bytes before after s
 right_calls words bytes left before after s right accounts read write =
     elim (memory_or s) [
       | inl none ↦ inl none
       | inr memory ↦
           let found = accounts.answer (record { read = read; write = write; memory = memory }) in
-          let success = right_success words bytes s found.0 right (answer_from words bytes s found.0 found.1) in
-          inr (record { success = success; text = found.0; outcome = subst (λ (t : Status). calls.IsOutcome words bytes t found.0) success found.1; took = found.2 })
+          let success = right_success words bytes s found.0 right found.1 in
+          inr (record { success = success; text = found.0; outcome = subst (λ (t : Status). IsOutcome words bytes t found.0) success found.1; took = found.2 })
     ]

@@ -14,19 +14,22 @@ use Rattle.spl_ast.specs.Formula as spl
 use Rattle.spl_ast.specs.Meaning as formulas
 use Rattle.runs.specs.Stream.{lines, vectors_of, bad_after, vectors_seen, data_vectors}
 use Rattle.runs.proofs.StreamLemmas.{bad_behind, right_answer}
-use Rattle.spiral_words.specs.declared.Command.TheVariants as command
 use Rattle.spiral_words.specs.SpiralStatus.Fault.{status_of_stream}
 use Rattle.spiral_words.specs.declared.spiral_status.status.Status.{Status}
 use Rattle.spiral_words.specs.declared.spiral_status.status.Status.TheVariants.{Success, ReadFault, WriteFault, NoMemory, TooLong}
-use Rattle.commands.specs.FormulaCommands.Compiled.{written, IsFormulaListing}
+use Rattle.commands.specs.FormulaCommands.Letters.{program_for}
+use Rattle.listing_text.specs.Listing.{listing_of}
+use Rattle.commands.specs.Equations.Compile.{compile_outcomes}
+use Rattle.commands.specs.Equations.Exec.{exec_outcomes, exec_work}
+use Rattle.commands.specs.Equations.Formulas.{formed, written}
 use Rattle.commands.specs.ListingCommands.Listed.{loaded, result_of}
 use Rattle.commands.specs.SpiralInput.Commands.{admitted}
 use Rattle.commands.specs.SpiralInput.Stage.{Stage}
-use Rattle.spiral_main.specs.Front.{Front, line, part, room_behind, Work, by_front}
-use Rattle.spiral_main.specs.Works.{all, writing, mapping}
-use Rattle.spiral_main.specs.Orders.{Planned, planned}
-use Rattle.spiral_main.specs.Apply.{formed}
-use Rattle.spiral_main.specs.Outcome.{outcomes_of, IsOutcome, Accounts}
+use Rattle.commands.specs.Equations.Front.{Front, line, part, room_behind, Work, by_front}
+use Rattle.commands.specs.Equations.Works.{all, writing, mapping}
+use Rattle.commands.specs.Equations.Orders.{Planned, planned}
+use Rattle.commands.specs.Equations.Apply.{apply_outcomes, apply_work}
+use Rattle.spiral_main.specs.Outcome.{IsOutcome, Accounts}
 use Rattle.spiral_main.specs.RightFront.{AreWholeVectors, HasWholeVectors, IsRightLine, request_vectors, vectors_behind}
 use Rattle.spiral_main.proofs.Calls.{one_status, one_text}
 
@@ -88,45 +91,50 @@ line_answer names bytes work plan t right p = front_answer (line 256) (planned n
 
 -- By a request
 
-pub text_is_right : (names bytes : List ℕ) (IsText : Planned → List ℕ → Type 0) (plan : Planned) (t : List ℕ)
+pub written_is_right : (names bytes : List ℕ) (IsText : Planned → List ℕ → Type 0) (plan : Planned) (t : List ℕ)
     → IsRightLine names bytes plan → IsText plan t
     → (by_front (line 256) (planned names) (λ (p : Planned). writing (IsText p))).answer bytes Success t
-text_is_right names bytes IsText plan t right is = line_answer names bytes (λ (p : Planned). writing (IsText p)) plan t right (refl, is)
+written_is_right names bytes IsText plan t right is = line_answer names bytes (λ (p : Planned). writing (IsText p)) plan t right (refl, is)
 
-pub data_are_right : (names bytes : List ℕ) (IsText : Planned → List (List ℕ) → List ℕ → Type 0) (plan : Planned)
-    (t : List ℕ) → IsRightLine names bytes plan
-    → HasWholeVectors (line 256) plan.request.size bytes → IsText plan (request_vectors plan bytes) t
-    → (by_front (line 256) (planned names)
-    (λ (p : Planned). mapping all p.request.size p.request.modulus (IsText p))).answer bytes Success t
-data_are_right names bytes IsText plan t right vectors is =
-    line_answer names bytes (λ (p : Planned). mapping all p.request.size p.request.modulus (IsText p)) plan t right
-    (whole_answer plan.request.size plan.request.modulus (IsText plan) (room_behind (line 256) bytes)
-    ((line 256).behind bytes) t vectors is)
+pub text_is_right : (names bytes : List ℕ) (text : Planned → List ℕ) (plan : Planned) → IsRightLine names bytes plan
+    → (by_front (line 256) (planned names) (λ (p : Planned). writing (λ t. t ≡ text p))).answer bytes Success (text plan)
+text_is_right names bytes text plan right = written_is_right names bytes (λ p t. t ≡ text p) plan (text plan) right refl
+
+pub data_are_right : (names bytes : List ℕ) (text : Planned → List (List ℕ) → List ℕ) (plan : Planned) → IsRightLine names bytes plan
+    → HasWholeVectors (line 256) plan.request.size bytes
+    → (by_front (line 256) (planned names) (λ (p : Planned). mapping all p.request.size p.request.modulus (λ vs t. t ≡ text p vs))).answer
+        bytes Success (text plan (request_vectors plan bytes))
+data_are_right names bytes text plan right vectors =
+    let written = text plan (request_vectors plan bytes) in
+    line_answer names bytes (λ (p : Planned). mapping all p.request.size p.request.modulus (λ vs t. t ≡ text p vs)) plan written right
+    (whole_answer plan.request.size plan.request.modulus (λ vs t. t ≡ text plan vs) (room_behind (line 256) bytes)
+    ((line 256).behind bytes) written vectors refl)
 
 -- By a formula or a listing
 
-pub listing_is_right : (m : ℕ) (bytes : List ℕ) (formula : Formula) (t : List ℕ)
+pub listing_is_right : (m : ℕ) (bytes : List ℕ) (formula : Formula)
     → length ((line 65536).first bytes) ≤ 65536 → written ((line 65536).first bytes) (Ok formula)
-    → IsFormulaListing m formula t → (outcomes_of (command.Compile m)).answer bytes Success t
-listing_is_right m bytes formula t short gives is =
-    front_answer (line 65536) written (λ (f : Formula). writing (IsFormulaListing m f)) formula bytes Success t short gives (refl, is)
+    → (compile_outcomes m).answer bytes Success (listing_of (program_for m formula))
+listing_is_right m bytes formula short gives =
+    front_answer (line 65536) written (λ (f : Formula). writing (λ t. t ≡ listing_of (program_for m f))) formula bytes Success
+    (listing_of (program_for m formula)) short gives (refl, refl)
 
 pub applied_is_right : (m : ℕ) (schedule : Turns) (bytes : List ℕ) (formula : Formula)
     → length ((line 65536).first bytes) ≤ 65536 → formed (named schedule) ((line 65536).first bytes) (Ok formula)
     → HasWholeVectors (line 65536) (spl.size_of formula) bytes
-    → (outcomes_of (command.Apply m schedule)).answer bytes Success (lines (formulas.apply m formula) (vectors_behind (line 65536) (spl.size_of formula) m bytes))
+    → (apply_outcomes m schedule).answer bytes Success (lines (formulas.apply m formula) (vectors_behind (line 65536) (spl.size_of formula) m bytes))
 applied_is_right m schedule bytes formula short gives vectors =
     let text = lines (formulas.apply m formula) (vectors_behind (line 65536) (spl.size_of formula) m bytes) in
-    front_answer (line 65536) (formed (named schedule)) (λ (f : Formula). mapping all (spl.size_of f) m (λ vs t. t ≡ lines (formulas.apply m f) vs)) formula bytes Success text short gives
+    front_answer (line 65536) (formed (named schedule)) (apply_work m) formula bytes Success text short gives
     (whole_answer (spl.size_of formula) m (λ vs t. t ≡ lines (formulas.apply m formula) vs) (room_behind (line 65536) bytes) ((line 65536).behind bytes) text vectors refl)
 
 pub executed_is_right : (schedule : Turns) (bytes : List ℕ) (program : PlainProgram)
     → length ((part 1048576).first bytes) ≤ 1048576 → loaded schedule ((part 1048576).first bytes) (Ok program)
     → HasWholeVectors (part 1048576) program.size bytes
-    → (outcomes_of (command.Exec schedule)).answer bytes Success (lines (result_of program) (vectors_behind (part 1048576) program.size program.modulus bytes))
+    → (exec_outcomes schedule).answer bytes Success (lines (result_of program) (vectors_behind (part 1048576) program.size program.modulus bytes))
 executed_is_right schedule bytes program short gives vectors =
     let text = lines (result_of program) (vectors_behind (part 1048576) program.size program.modulus bytes) in
-    front_answer (part 1048576) (loaded schedule) (λ (p : PlainProgram). mapping all p.size p.modulus (λ vs t. t ≡ lines (result_of p) vs)) program bytes Success text short gives
+    front_answer (part 1048576) (loaded schedule) exec_work program bytes Success text short gives
     (whole_answer program.size program.modulus (λ vs t. t ≡ lines (result_of program) vs) (room_behind (part 1048576) bytes) ((part 1048576).behind bytes) text vectors refl)
 
 -- a call whose outcome is Success with this text succeeds with it, but for the outside and memory

@@ -4,8 +4,7 @@ use Rattle.std.specs.Prelude.{All, if◌then◌else◌, map}
 use Rattle.std.proofs.lemmas.Bool.{and_from, eq-eqb}
 use Rattle.std.proofs.lemmas.List.Elements.{All-head, All-tail}
 use Rattle.commands.specs.ConvolutionCommands.Convolving.{IsConvRequest}
-use Rattle.commands.specs.ConvolutionCommands.Convolved.{IsConvolvable, conv_in}
-use Rattle.commands.specs.ConvolutionCommands.ConvPlanned.{HasPrincipalRoot, both_halves}
+use Rattle.commands.specs.ConvolutionCommands.ConvPlanned.{HasPrincipalRoot, IsConvPlanned, both_halves}
 use Rattle.matrix_meaning.specs.Parts.{bad_power_by, first_bad, part_of, parts_in, root_power}
 use Rattle.matrix_meaning.specs.Valid.{HasRoot, IsInRange, IsValid}
 use Rattle.matrix_meaning.specs.declared.Dimension.{Dimension}
@@ -17,13 +16,17 @@ use Rattle.matrix_meaning.specs.declared.Request.{Request}
 use Rattle.matrix_meaning.proofs.Requests.{valid_by_powers}
 use Rattle.matrix_meaning.proofs.Roots.{HasItsRoot}
 use Rattle.plan_search.proofs.WholeChosen.{divides_plain, whole_divides, whole_exists, whole_is_least, whole_least_once}
-use Rattle.commands.specs.Planned.{IsAdmitted, IsRooted}
-use Rattle.commands.specs.Settled.{IsAccepted, IsAffordable}
-use Rattle.spiral_words.specs.declared.Command.{Command}
-use Rattle.spiral_words.specs.declared.Command.TheVariants as command
+use Rattle.commands.specs.Planned.{IsPlanned, IsRooted}
+use Rattle.commands.proofs.SpiralInput.Nested.{joined, no_unit}
+use Rattle.commands.proofs.SpiralInput.Within.{ordered_map}
+use Rattle.commands.specs.Equations.Check.{fitting}
+use Rattle.commands.specs.Equations.Convolutions.{conv_chosen, conv_planned, conv_spelt}
+use Rattle.commands.specs.Equations.Front.{line, ordered, taken_from}
+use Rattle.commands.specs.Equations.Orders.{Planned, chosen, planned, turned}
+use Rattle.commands.specs.SpiralInput.Asking.{spelt}
+use Rattle.commands.specs.SpiralInput.Stage.{given, ◌>>=◌}
+use Rattle.tree_model.specs.Breakdown.{Breakdown}
 use Rattle.tree_model.specs.Chosen.{CanDivideWhole, whole_cost}
-use Rattle.spiral_main.specs.Families.{Job, ordered}
-use Rattle.spiral_main.specs.Right.{HasBudgetFor, IsRightConvolution, IsRightRequest}
 use Rattle.spiral_main.specs.Right.{IsWithinBudget, IsWithinConvBudget}
 
 -- ---- the roots of a valid request are right
@@ -60,34 +63,16 @@ rooted_by Idft r is valid = none_bad r r.dimensions (λ wht. let clash : Idft �
 rooted : (r : Request) → IsValid r → IsRooted r
 rooted r valid = rooted_by r.kind r refl valid
 
--- ---- a right request is accepted
+-- ---- a right request has a tree
 
-admitted : (r : Request) → IsValid r → CanDivideWhole r → IsAdmitted r
-admitted r valid can = (rooted r valid, can)
-
-affordable : (r : Request) → IsValid r → CanDivideWhole r → IsWithinBudget r → IsAffordable r
+affordable : (r : Request) → IsValid r → CanDivideWhole r → IsWithinBudget r → (tree : Breakdown) × IsPlanned r (Ok tree)
 affordable r valid can pays =
     let tree = whole_exists r valid.in_range can in
     let same : pays.0 ≡ whole_cost r tree.0 =
     whole_least_once r pays.0 (whole_cost r tree.0) pays.1 (whole_is_least r tree.0 tree.1) in
     (tree.0, (rooted r valid, tree.1, subst (λ k. k ≤ r.budget) same pays.2))
 
-accepts : (wanted : Command) (r : Request) → IsValid r → CanDivideWhole r → HasBudgetFor wanted r → IsAccepted wanted r
-accepts command.Check r valid can pays = admitted r valid can
-accepts command.Plan r valid can pays = affordable r valid can pays
-accepts command.Formula r valid can pays = affordable r valid can pays
-accepts command.Code r valid can pays = affordable r valid can pays
-accepts command.C r valid can pays = affordable r valid can pays
-accepts (command.Run order) r valid can pays = affordable r valid can pays
-accepts (command.Trace order) r valid can pays = affordable r valid can pays
-accepts command.Cert r valid can pays = affordable r valid can pays
-accepts (command.Sample seed schedule) r valid can pays = affordable r valid can pays
-accepts (command.Compile modulus) r valid can pays = affordable r valid can pays
-accepts (command.Apply modulus schedule) r valid can pays = affordable r valid can pays
-accepts (command.Exec schedule) r valid can pays = affordable r valid can pays
-accepts (command.Convolve schedule as_code) r valid can pays = affordable r valid can pays
-
-convolvable_by : (r : Request) → IsConvRequest r → IsRooted r → HasPrincipalRoot r → IsWithinConvBudget r → IsConvolvable r
+convolvable_by : (r : Request) → IsConvRequest r → IsRooted r → HasPrincipalRoot r → IsWithinConvBudget r → (tree : Breakdown) × IsConvPlanned r (Ok tree)
 convolvable_by r able right principal pays =
     let plain = and_from _ _ (eq-eqb r.procs 1 able.procs) (eq-eqb r.lanes 1 able.lanes) in
     let tree = whole_exists r able.in_range (divides_plain r plain) in
@@ -95,33 +80,49 @@ convolvable_by r able right principal pays =
     whole_least_once r pays.0 (whole_cost r tree.0) pays.1 (whole_is_least r tree.0 tree.1) in
     (tree.0, (right, principal, tree.1, subst (λ k. both_halves r k ≤ r.budget) same pays.2))
 
--- what a right call by a request orders
-abbrev pub job_of : (words : List (List ℕ)) (bytes : List ℕ) → IsRightRequest words bytes → Job
-job_of words bytes right = record { command = right.wanted; request = right.request }
+-- ---- what the lines of right calls order
 
-pub orders_job : (words : List (List ℕ)) (bytes : List ℕ) (right : IsRightRequest words bytes) → ordered words bytes (Ok (job_of words bytes right))
-orders_job words bytes right = record {
-  value = right.wanted;
-  before = right.asked;
-  behind = record {
-    value = right.request;
-    before = right.orders;
-    behind = (accepts right.wanted right.request right.valid right.divides right.budget, refl);
-  };
-}
+abbrev with_tree : Request → Breakdown → Planned
+with_tree request tree = record { request = request; tree = tree }
 
--- what a right call by a list orders
-pub orders_request : (words : List (List ℕ)) (bytes : List ℕ) (right : IsRightConvolution words bytes) → conv_in right.wanted bytes (Ok right.request)
-orders_request words bytes right = record {
-  value = right.request;
-  before = right.orders;
-  behind = (convolvable_by right.request right.able right.rooted right.principal right.budget, refl);
-}
+-- by a request
+pub orders_plan : (names bytes : List ℕ) (r : Request) → IsValid r → CanDivideWhole r → IsWithinBudget r
+    → ordered (line 256) (λ text. spelt text >>= turned names) bytes (Ok r) → (plan : Planned) × (plan.request ≡ r) × ordered (line 256) (planned names) bytes (Ok plan)
+orders_plan names bytes r valid can pays orders =
+    let found = affordable r valid can pays in
+    let plan = with_tree r found.0 in (
+      plan,
+      refl,
+      joined (given (taken_from (line 256) bytes)) (λ text. spelt text >>= turned names) chosen (Ok plan)
+          (record { value = r; before = orders; behind = (refl, found.1) }),
+    )
+
+-- by a request whatever its budget
+pub orders_fitting : (bytes : List ℕ) (r : Request) → IsValid r → CanDivideWhole r
+    → ordered (line 256) (λ text. spelt text >>= turned []) bytes (Ok r) → ordered (line 256) (λ text. spelt text >>= fitting) bytes (Ok r)
+orders_fitting bytes r valid can orders =
+    joined (given (taken_from (line 256) bytes)) spelt fitting (Ok r) (record {
+      value = r;
+      before = ordered_map (line 256) (λ text. spelt text >>= turned []) spelt bytes (λ text result p. no_unit (spelt text) result p) (Ok r) orders;
+      behind = (refl, (rooted r valid, can));
+    })
+
+-- by a list
+pub orders_conv : (names bytes : List ℕ) (r : Request) → IsConvRequest r → IsRooted r → HasPrincipalRoot r → IsWithinConvBudget r
+    → ordered (line 256) (λ text. conv_spelt text >>= turned names) bytes (Ok r) → (plan : Planned) × (plan.request ≡ r) × ordered (line 256) (conv_planned names) bytes (Ok plan)
+orders_conv names bytes r able right principal pays orders =
+    let found = convolvable_by r able right principal pays in
+    let plan = with_tree r found.0 in (
+      plan,
+      refl,
+      joined (given (taken_from (line 256) bytes)) (λ text. conv_spelt text >>= turned names) conv_chosen (Ok plan)
+          (record { value = r; before = orders; behind = (refl, found.1) }),
+    )
 
 -- ---- a request that has a plan is right
 
-pub planned_is_right : (r : Request) → IsInRange r → IsAffordable r → IsValid r × CanDivideWhole r × IsWithinBudget r
-planned_is_right r range (t, planned) = (
+pub planned_is_right : (r : Request) (t : Breakdown) → IsInRange r → IsPlanned r (Ok t) → IsValid r × CanDivideWhole r × IsWithinBudget r
+planned_is_right r t range planned = (
   valid_by_powers r range planned.0,
   whole_divides r t planned.1.tree,
   (whole_cost r t, whole_is_least r t planned.1, planned.2),

@@ -1,47 +1,64 @@
 -- Each call has an outcome.
-use Rattle.std.proofs.Common.{◌≡◌, ℕ, ◌++◌, ◌∷◌, [], true, false, List, Option, Result, Ok, Err, Some, None, refl, sym, subst, inl, inr}
-use Rattle.plan_search.specs.declared.generating.GenerateFault.{GenerateFault}
-use Rattle.request_text.specs.declared.RequestFault.{RequestFault}
-use Rattle.request_text.specs.Answer.{Answers}
-use Rattle.request_text.proofs.OneAnswer.{line_answered}
-use Rattle.matrix_meaning.specs.declared.Request.{Request}
+use Rattle.std.proofs.Common.{◌≡◌, ◌++◌, ◌∷◌, ℕ, Bool, true, false, List, [], Ok, Err, Result, refl, inl, inr}
+use Rattle.c_print.specs.CText.{c_text_of}
+use Rattle.listing_text.specs.Listing.{listing_of}
+use Rattle.matrix_meaning.specs.Asked.{asked_of}
+use Rattle.commands.specs.ConvolutionCommands.Convolution.{convolution}
 use Rattle.matrix_meaning.specs.Valid.{IsInRange}
-use Rattle.tree_model.specs.Chosen.{whole_cost}
-use Rattle.tree_model.specs.WholePasses.{whole_loads, whole_stores}
-use Rattle.commands.specs.Planned.{IsPlanned}
-use Rattle.commands.proofs.Existence.{plan_exists}
-use Rattle.breakdown.specs.Expansion.{formula_of}
-use Rattle.commands.specs.PlanText.{plan_text}
-use Rattle.tree_model.specs.Breakdown.{Breakdown}
-use Rattle.spl_text.specs.Spelling.{spelling}
-use Rattle.runs.specs.Stream.{lines, data_answer, data_vectors}
-use Rattle.spiral_words.specs.Asked.{IsAsked, IsUsage}
+use Rattle.matrix_meaning.specs.declared.Request.{Request}
+use Rattle.plan_search.specs.declared.generating.GenerateFault.{GenerateFault}
+use Rattle.request_text.proofs.OneAnswer.{line_answered}
+use Rattle.request_text.specs.Answer.{Answers}
+use Rattle.request_text.specs.Schedule.{Plan as Turns}
+use Rattle.request_text.specs.Turns.{named}
+use Rattle.request_text.specs.declared.RequestFault.{RequestFault}
+use Rattle.runs.specs.Stream.{data_answer, data_vectors, lines}
+use Rattle.spiral_words.proofs.Decided.{asked_or_usage}
+use Rattle.spiral_words.specs.Asked.{IsAsked}
+use Rattle.spiral_words.specs.SpiralStatus.Fault.{status_of_generate, status_of_request}
 use Rattle.spiral_words.specs.declared.Command.{Command}
 use Rattle.spiral_words.specs.declared.Command.TheVariants as command
-use Rattle.spiral_words.specs.declared.Order.{Order}
-use Rattle.request_text.specs.Schedule.{Plan as Turns}
-use Rattle.spl_ast.specs.Formula.{Formula}
-use Rattle.spl_ast.specs.Formula as formulas
+use Rattle.spiral_words.specs.declared.Document.{Document}
+use Rattle.spiral_words.specs.declared.Document.TheVariants as document
+use Rattle.spiral_words.specs.declared.FormulaCommand.{FormulaCommand}
+use Rattle.spiral_words.specs.declared.FormulaCommand.TheVariants as formula
+use Rattle.spiral_words.specs.declared.RequestCommand.{RequestCommand}
+use Rattle.spiral_words.specs.declared.RequestCommand.TheVariants as request
+use Rattle.spl_ast.specs.Formula.{Formula, size_of}
 use Rattle.spl_ast.specs.Meaning as meanings
-use Rattle.commands.specs.ConvolutionCommands.Convolved.{IsConvText, conv_in, conv_lines, conv_spelt, conv_status}
-use Rattle.commands.proofs.ConvolutionCommands.Existence.{conv_spelt_has, convolvable_has}
-use Rattle.commands.specs.FormulaCommands.Compiled.{formula_in, formula_line}
-use Rattle.commands.proofs.FormulaCommands.Written.{formula_written}
-use Rattle.spiral_words.proofs.Decided.{asked_or_usage}
-use Rattle.spiral_words.specs.SpiralStatus.Fault.{status_of_generate, status_of_request, status_of_stream}
 use Rattle.spiral_words.specs.declared.spiral_status.status.Status.{Status}
-use Rattle.spiral_words.specs.declared.spiral_status.status.Status.TheVariants.{Success, Usage, Turn}
-use Rattle.commands.specs.SpiralInput.Asking.{asked_by, requested, spelt}
-use Rattle.commands.specs.SpiralInput.Commands.{admitted, first_stranger, procs_named, scheduled, takes_request}
-use Rattle.commands.specs.SpiralInput.Line.{data_of, line_of, room_behind}
+use Rattle.spiral_words.specs.declared.spiral_status.status.Status.TheVariants.{Success, Usage}
+use Rattle.tree_model.specs.Breakdown.{Breakdown}
+use Rattle.commands.proofs.ConvolutionCommands.Existence.{conv_planned_has}
+use Rattle.commands.proofs.Existence.{plan_exists}
+use Rattle.commands.proofs.FormulaCommands.Written.{formula_written}
+use Rattle.commands.specs.ConvolutionCommands.ConvLetters.{conv_program}
+use Rattle.commands.specs.Equations.Apply.{apply_work}
+use Rattle.commands.specs.Equations.Commands.{outcomes_by_formula, outcomes_of}
+use Rattle.commands.specs.Equations.Compile.{compile_work}
+use Rattle.commands.specs.Equations.Convolutions.{conv_planned}
+use Rattle.commands.specs.Equations.Convolve.{convolve_work, convolver_work, outcomes_by_list}
+use Rattle.commands.specs.Equations.Formula.{formula_text}
+use Rattle.commands.specs.Equations.Formulas.{formed, written}
+use Rattle.commands.specs.Equations.Front.{Front, Work, by_front, line, ordered, room_behind, taken_from}
+use Rattle.commands.specs.Equations.Orders.{Planned, chosen, planned, turned}
+use Rattle.commands.specs.Equations.Requests.{document_outcomes, outcomes_by_request}
+use Rattle.commands.specs.Equations.Run.{run_work}
+use Rattle.commands.specs.Equations.Sample.{sample_lines}
+use Rattle.commands.specs.Equations.Trace.{run_lines, trace_work}
+use Rattle.commands.specs.Equations.Works.{Wants, a_first, all, by_first, mapping, status_by, the_first, writing}
+use Rattle.commands.specs.FormulaCommands.Letters as formulas
+use Rattle.commands.specs.Letters.{program_for}
+use Rattle.commands.specs.PlanText.{plan_text}
+use Rattle.commands.specs.Planned.{IsPlanned}
+use Rattle.commands.specs.SpiralInput.Asking.{spelt}
+use Rattle.commands.specs.SpiralInput.Commands.{admitted, first_stranger}
+use Rattle.commands.specs.SpiralInput.Orders.{procs_in}
+use Rattle.commands.specs.SpiralInput.Outcomes.{Outcomes}
 use Rattle.commands.specs.SpiralInput.Stage.{Stage, ◌>>=◌, given}
-use Rattle.commands.proofs.SpiralInput.Stages.{done, done_ended, done_same}
-use Rattle.commands.specs.Sample.{sample_vector, weighted_sum, sample_text}
-use Rattle.commands.specs.Settled.{IsAccepted, IsAffordable, IsDeclined, IsRefused, Settles, product}
 use Rattle.spiral_main.specs.Always.{is_by_equation}
-use Rattle.spiral_main.specs.Families.{Job, accepted, ordered, IsOutcome}
-use Rattle.spiral_main.specs.Outcome as calls
-use Rattle.spiral_main.proofs.Landed.{answer_to}
+use Rattle.spiral_main.specs.Outcome.{IsOutcome}
+use Rattle.spiral_main.proofs.Good.{turned_spelt}
 
 -- a stage has an answer
 abbrev HasAnswer : {A : Type 0} → Stage A → Type 0
@@ -58,202 +75,124 @@ both_have : {A B : Type 0} (first : Stage A) (next : A → Stage B) → HasAnswe
 both_have first next (Ok value, before) later = behind_has first next value before (later value before)
 both_have first next (Err status, before) later = (Err status, inl before)
 
--- ---- the request
+-- ---- what a line orders
 
-spelt_has : (line : List ℕ) → HasAnswer (spelt line)
-spelt_has line = by (line_answered line)
+spelt_has : (text : List ℕ) → HasAnswer (spelt text)
+spelt_has text = by (line_answered text)
   where
-    by : (answer : Result Request RequestFault) × Answers line answer → HasAnswer (spelt line)
+    by : (answer : Result Request RequestFault) × Answers text answer → HasAnswer (spelt text)
     by (Ok request, h) = (Ok request, h)
     by (Err fault, h) = (Err (status_of_request fault), (fault, h, refl))
 
--- a line that spells something in each case has an answer for the command
-asked_has : (spells : List ℕ → Stage Request) → ((line : List ℕ) → HasAnswer (spells line)) → (wanted : Command)
-    (bytes : List ℕ) → HasAnswer (asked_by spells wanted bytes)
-asked_has spells each wanted bytes =
-    both_have _ _ (given_has (line_of bytes)) (λ line is.
-    both_have _ _ (each line) (λ request h. given_has (scheduled wanted request.procs request)))
+chosen_has : (r : Request) (answer : Result Breakdown GenerateFault) → IsPlanned r answer → HasAnswer (chosen r)
+chosen_has r (Ok tree) h = (Ok (record { request = r; tree = tree }), (refl, h))
+chosen_has r (Err fault) h = (Err (status_of_generate fault), (fault, h, refl))
 
-admitted_same : (stranger : Option ℕ) (procs : ℕ) (a b : Request) → done b ≡ admitted stranger procs a → a ≡ b
-admitted_same None procs a b is = done_same a b (sym is)
-admitted_same (Some q) procs a b is = absurd (done_ended b (Turn q procs) is)
+planned_has : (names text : List ℕ) → HasAnswer (planned names text)
+planned_has names text =
+    both_have (spelt text >>= turned names) chosen
+    (both_have (spelt text) (turned names) (spelt_has text) (λ r h. given_has (admitted (first_stranger names r.procs) r.procs r)))
+    (λ r h.
+    let range : IsInRange r = (turned_spelt spelt names text r h).1 in
+    let plan = plan_exists r range in chosen_has r plan.0 plan.1)
 
--- what is asked for is what a line spells
-asked_spelt : (spells : List ℕ → Stage Request) (wanted : Command) (bytes : List ℕ) (request : Request)
-    → asked_by spells wanted bytes (Ok request) → (line : List ℕ) × spells line (Ok request)
-asked_spelt spells wanted bytes request h =
-    let spelling = h.behind in
-    let count : ℕ = spelling.value.procs in
-    let same : spelling.value ≡ request = admitted_same (first_stranger (procs_named wanted) count) count spelling.value request spelling.behind in
-    (h.value, subst (λ (r : Request). spells h.value (Ok r)) same spelling.before)
+formed_has : (names text : List ℕ) → HasAnswer (formed names text)
+formed_has names text = both_have (written text) _ (formula_written text) (λ f h. given_has (admitted (first_stranger names 1) 1 f))
 
-requested_has : (wanted : Command) (bytes : List ℕ) → HasAnswer (requested wanted bytes)
-requested_has wanted bytes = asked_has spelt spelt_has wanted bytes
+-- ---- what is right behind it
 
-requested_in_range : (wanted : Command) (bytes : List ℕ) (request : Request) → requested wanted bytes (Ok request)
-    → IsInRange request
-requested_in_range wanted bytes request h = let spelling = asked_spelt spelt wanted bytes request h in spelling.1.1
+-- some status and text are right
+abbrev HasText : Outcomes → List ℕ → Type 0
+HasText outcomes bytes = (status : Status) × (text : List ℕ) × outcomes.answer bytes status text
 
--- ---- what the command does with it
+by_answer : {A : Type 0} (front : Front) (orders : List ℕ → Stage A) (work : A → Work) (bytes : List ℕ)
+    → ((value : A) (room : ℕ) (behind : List ℕ) → HasText (work value room) behind) → HasAnswer (ordered front orders bytes)
+    → HasText (by_front front orders work) bytes
+by_answer front orders work bytes has (Ok value, gives) =
+    let found = has value (room_behind front bytes) (front.behind bytes) in (found.0, found.1, inr (value, gives, found.2))
+by_answer front orders work bytes has (Err status, gives) = (status, [], inl (gives, refl))
 
--- what a command for a request answers is an equation in the request, its tree and the data
-record GoesByEquation (wanted : Command) : Type 0 where
-  takes : takes_request wanted ≡ true
-  accepts : (r : Request) → IsAffordable r → IsAccepted wanted r
-  declines : (r : Request) (status : Status) → IsRefused r status → IsDeclined wanted r status
-  settles : (r : Request) (tree : Breakdown) (room : ℕ) (bytes : List ℕ) → IsPlanned r (Ok tree)
-      → (status : Status) × (text : List ℕ) × Settles wanted r room bytes status text
+front_has : {A : Type 0} (front : Front) (orders : List ℕ → Stage A) (work : A → Work) (bytes : List ℕ)
+    → ((text : List ℕ) → HasAnswer (orders text)) → ((value : A) (room : ℕ) (behind : List ℕ) → HasText (work value room) behind)
+    → HasText (by_front front orders work) bytes
+front_has front orders work bytes each has =
+    by_answer front orders work bytes has (both_have (given (taken_from front bytes)) orders (given_has (taken_from front bytes)) (λ text is. each text))
 
-plan_goes : GoesByEquation command.Plan
-plan_goes = record {
-  takes = refl;
-  accepts = λ r h. h;
-  declines = λ r status h. h;
-  settles = λ r tree room bytes planned. (Success, plan_text r tree, inr (inl (refl, (tree, planned, refl))));
-}
+equation_has : (text : List ℕ) (room : ℕ) (bytes : List ℕ) → HasText (writing (λ t. t ≡ text) room) bytes
+equation_has text room bytes = (Success, text, (refl, refl))
 
-formula_goes : GoesByEquation command.Formula
-formula_goes = record {
-  takes = refl;
-  accepts = λ r h. h;
-  declines = λ r status h. h;
-  settles = λ r tree room bytes planned.
-      (Success, spelling (formula_of r tree) ++ 10 ∷ [], inr (inl (refl, (tree, planned, refl))));
-}
+mapping_has : (wants : Wants) (size modulus : ℕ) (P : List (List ℕ) → List ℕ → Type 0) (room : ℕ) (bytes : List ℕ)
+    → ((vectors : List (List ℕ)) → (t : List ℕ) × P vectors t) → HasText (mapping wants size modulus P room) bytes
+mapping_has wants size modulus P room bytes each =
+    let vectors = data_vectors size modulus room bytes in
+    let found = each vectors in
+    (status_by wants size (data_answer size room bytes) vectors, found.0, (refl, found.1))
 
-run_goes : (order : Order) → GoesByEquation (command.Run order)
-run_goes order = record {
-  takes = refl;
-  accepts = λ r h. h;
-  declines = λ r status h. h;
-  settles = λ r tree room bytes planned.
-      let vectors = data_vectors r.size r.modulus room bytes in
-      (status_of_stream (data_answer r.size room bytes), lines (product r) vectors, inl (refl, refl));
-}
+first_has : (text : List ℕ → List (List ℕ) → List ℕ) (vectors : List (List ℕ)) → (t : List ℕ) × by_first (λ h later t. t ≡ text h later) vectors t
+first_has text [] = ([], refl)
+first_has text (h ∷ later) = (text h later, refl)
 
-sample_goes : (seed : ℕ) (schedule : Turns) → GoesByEquation (command.Sample seed schedule)
-sample_goes seed schedule = record {
-  takes = refl;
-  accepts = λ r h. h;
-  declines = λ r status h. h;
-  settles = λ r tree room bytes planned.
-      let sum = weighted_sum r.modulus (product r (sample_vector r.modulus r.size seed)) in
-      let lines = sample_text sum (whole_cost r tree) (whole_loads r tree) (whole_stores r tree) in
-      (Success, lines, inr (inl (refl, (tree, planned, refl))));
-}
+-- ---- command by command
 
--- ---- the call
+each_has : (names : List ℕ) (text : Planned → List ℕ) (bytes : List ℕ) → HasText (by_front (line 256) (planned names) (λ (plan : Planned). writing (λ t. t ≡ text plan))) bytes
+each_has names text bytes =
+    front_has (line 256) (planned names) (λ (plan : Planned). writing (λ t. t ≡ text plan)) bytes (planned_has names) (λ plan room behind. equation_has (text plan) room behind)
 
-abbrev HasOutcome : List (List ℕ) → List ℕ → Type 0
-HasOutcome words bytes = (status : Status) × (text : List ℕ) × IsOutcome words bytes status text
+document_has : (wanted : Document) (bytes : List ℕ) → is_by_equation (command.ByRequest (request.Writes wanted)) ≡ true → HasText (document_outcomes wanted) bytes
+document_has document.Plan bytes is = each_has [] (λ plan. plan_text plan.request plan.tree) bytes
+document_has document.Formula bytes is = each_has [] formula_text bytes
+document_has document.Code bytes is = each_has [] (λ plan. listing_of (program_for plan.request plan.tree)) bytes
+document_has document.C bytes is = each_has [] (λ plan. c_text_of (program_for plan.request plan.tree)) bytes
+document_has document.Cert bytes is = absurd (cc)
+document_has (document.Sample seed schedule) bytes is = each_has (named schedule) (λ plan. sample_lines plan seed) bytes
 
-module _ (words : List (List ℕ)) (bytes : List ℕ) (wanted : Command) (asked : IsAsked words wanted) (goes : GoesByEquation wanted) where
-  of_tree : (request : Request) (tree : Breakdown) → requested wanted bytes (Ok request) → IsPlanned request (Ok tree)
-      → HasOutcome words bytes
-  of_tree request tree gives planned =
-      let job : Job = record { command = wanted; request = request } in
-      let accepts : accepted wanted request (Ok job) = (goes.accepts request (tree, planned), refl) in
-      let orders : ordered words bytes (Ok job) = record {
-        value = wanted;
-        before = (asked, goes.takes);
-        behind = record { value = request; before = gives; behind = accepts };
-      } in
-      let settled = goes.settles request tree (room_behind bytes) (data_of bytes) planned in
-      (settled.0, settled.1, inl (inr (job, orders, settled.2)))
+request_has : (wanted : RequestCommand) (bytes : List ℕ) → is_by_equation (command.ByRequest wanted) ≡ true → HasText (outcomes_by_request wanted) bytes
+request_has (request.Writes wanted) bytes is = document_has wanted bytes is
+request_has (request.Runs order) bytes is =
+    front_has (line 256) (planned (procs_in order)) run_work bytes (planned_has (procs_in order))
+    (λ plan room behind. mapping_has all plan.request.size plan.request.modulus (λ vectors t. t ≡ lines (asked_of plan.request) vectors) room behind
+    (λ vectors. (lines (asked_of plan.request) vectors, refl)))
+request_has (request.Traces order) bytes is =
+    front_has (line 256) (planned (procs_in order)) (trace_work order) bytes (planned_has (procs_in order))
+    (λ plan room behind. mapping_has all plan.request.size plan.request.modulus
+    (λ vectors t. t ≡ listing_of (program_for plan.request plan.tree) ++ run_lines order plan vectors) room behind
+    (λ vectors. (listing_of (program_for plan.request plan.tree) ++ run_lines order plan vectors, refl)))
+request_has request.Judges bytes is = absurd (cc)
 
-  of_refusal : (request : Request) (fault : GenerateFault) → requested wanted bytes (Ok request)
-      → IsPlanned request (Err fault) → HasOutcome words bytes
-  of_refusal request fault gives planned =
-      let status : Status = status_of_generate fault in
-      let orders : ordered words bytes (Err status) = inr (record {
-        value = wanted;
-        before = (asked, goes.takes);
-        behind = inr (record { value = request; before = gives; behind = goes.declines request status (fault, planned, refl) });
-      }) in
-      (status, [], inl (inl (orders, refl)))
+formula_has : (m : ℕ) (wanted : FormulaCommand) (bytes : List ℕ) → HasText (outcomes_by_formula m wanted) bytes
+formula_has m formula.Compile bytes =
+    front_has (line 65536) written (compile_work m) bytes formula_written (λ f room behind. equation_has (listing_of (formulas.program_for m f)) room behind)
+formula_has m (formula.Apply schedule) bytes =
+    front_has (line 65536) (formed (named schedule)) (apply_work m) bytes (formed_has (named schedule))
+    (λ f room behind. mapping_has all (size_of f) m (λ vectors t. t ≡ lines (meanings.apply m f) vectors) room behind (λ vectors. (lines (meanings.apply m f) vectors, refl)))
 
-  of_fault : (status : Status) → requested wanted bytes (Err status) → HasOutcome words bytes
-  of_fault status gives =
-      let orders : ordered words bytes (Err status) = inr (record { value = wanted; before = (asked, goes.takes); behind = inl gives }) in
-      (status, [], inl (inl (orders, refl)))
+list_has : (schedule : Turns) (code : Bool) (bytes : List ℕ) → HasText (outcomes_by_list schedule code) bytes
+list_has schedule false bytes =
+    front_has (line 256) (conv_planned (named schedule)) convolve_work bytes (conv_planned_has (named schedule))
+    (λ plan room behind. mapping_has a_first plan.request.size plan.request.modulus
+    (by_first (λ h later t. t ≡ lines (convolution plan.request.modulus plan.request.size h) later)) room behind
+    (first_has (λ h later. lines (convolution plan.request.modulus plan.request.size h) later)))
+list_has schedule true bytes =
+    front_has (line 256) (conv_planned (named schedule)) convolver_work bytes (conv_planned_has (named schedule))
+    (λ plan room behind. mapping_has the_first plan.request.size plan.request.modulus
+    (by_first (λ h later t. t ≡ listing_of (conv_program plan.request plan.tree h))) room behind
+    (first_has (λ h later. listing_of (conv_program plan.request plan.tree h))))
 
-  of_plan : (request : Request) (answer : Result Breakdown GenerateFault) → requested wanted bytes (Ok request)
-      → IsPlanned request answer → HasOutcome words bytes
-  of_plan request (Ok tree) gives planned = of_tree request tree gives planned
-  of_plan request (Err fault) gives planned = of_refusal request fault gives planned
-
-  of_request : (answer : Result Request Status) → requested wanted bytes answer → HasOutcome words bytes
-  of_request (Ok request) gives =
-      let plan = plan_exists request (requested_in_range wanted bytes request gives) in
-      of_plan request plan.0 gives plan.1
-  of_request (Err status) gives = of_fault status gives
-
-  of_command : HasOutcome words bytes
-  of_command = let requests = requested_has wanted bytes in of_request requests.0 requests.1
-
--- ---- formulas
-
-formed_has : (wanted : Command) (bytes : List ℕ) → HasAnswer (formula_in wanted bytes)
-formed_has wanted bytes =
-    both_have _ _ (given_has (formula_line bytes)) (λ text is.
-    both_have _ _ (formula_written text) (λ formula h. given_has (admitted (first_stranger (procs_named wanted) 1) 1 formula)))
-
-of_apply : (words : List (List ℕ)) (bytes : List ℕ) (modulus : ℕ) (schedule : Turns) → IsAsked words (command.Apply modulus schedule)
-    → (result : Result Formula Status) → formula_in (command.Apply modulus schedule) bytes result → HasOutcome words bytes
-of_apply words bytes modulus schedule asked (Ok formula) gives =
-    let size : ℕ = formulas.size_of formula in
-    let room : ℕ = room_behind bytes in
-    let text : List ℕ = lines (meanings.apply modulus formula) (data_vectors size modulus room (data_of bytes)) in
-    (status_of_stream (data_answer size room (data_of bytes)), text, inr (inr (inl (command.Apply modulus schedule, (asked, refl), inr (formula, gives, (refl, refl))))))
-of_apply words bytes modulus schedule asked (Err status) gives = (status, [], inr (inr (inl (command.Apply modulus schedule, (asked, refl), inl (gives, refl)))))
-
--- ---- convolutions
-
-conv_has : (wanted : Command) (bytes : List ℕ) → HasAnswer (conv_in wanted bytes)
-conv_has wanted bytes =
-    both_have _ _ (asked_has conv_spelt conv_spelt_has wanted bytes) (λ request h.
-    let spelling = asked_spelt conv_spelt wanted bytes request h in convolvable_has request spelling.1.1)
-
-conv_text : (schedule : Turns) (request : Request) (vectors : List (List ℕ)) → (text : List ℕ) × IsConvText (command.Convolve schedule false) request vectors text
-conv_text schedule request [] = ([], refl)
-conv_text schedule request (h ∷ later) = (conv_lines request h later, refl)
-
-of_convolve : (words : List (List ℕ)) (bytes : List ℕ) (schedule : Turns) → IsAsked words (command.Convolve schedule false)
-    → (result : Result Request Status) → conv_in (command.Convolve schedule false) bytes result → HasOutcome words bytes
-of_convolve words bytes schedule asked (Ok request) gives =
-    let room : ℕ = room_behind bytes in
-    let vectors : List (List ℕ) = data_vectors request.size request.modulus room (data_of bytes) in
-    let written = conv_text schedule request vectors in (
-      conv_status (command.Convolve schedule false) request.size (data_answer request.size room (data_of bytes)) vectors,
-      written.0,
-      inr (inr (inr (command.Convolve schedule false, (asked, refl), inr (request, gives, (refl, written.1))))),
-    )
-of_convolve words bytes schedule asked (Err status) gives = (status, [], inr (inr (inr (command.Convolve schedule false, (asked, refl), inl (gives, refl)))))
+command_has : (wanted : Command) (bytes : List ℕ) → is_by_equation wanted ≡ true → HasText (outcomes_of wanted) bytes
+command_has (command.ByRequest wanted) bytes is = request_has wanted bytes is
+command_has (command.ByFormula m wanted) bytes is = formula_has m wanted bytes
+command_has (command.ByListing schedule) bytes is = absurd (cc)
+command_has (command.ByList schedule code) bytes is = list_has schedule code bytes
 
 -- ---- every call
 
-of_usage : (words : List (List ℕ)) (bytes : List ℕ) → IsUsage words → HasOutcome words bytes
-of_usage words bytes usage = let orders : ordered words bytes (Err Usage) = inl (refl, usage) in (Usage, [], inl (inl (orders, refl)))
-
-of_asked : (words : List (List ℕ)) (bytes : List ℕ) (wanted : Command) → IsAsked words wanted → is_by_equation wanted ≡ true → HasOutcome words bytes
-of_asked words bytes command.Plan asked is = of_command words bytes command.Plan asked plan_goes
-of_asked words bytes command.Formula asked is = of_command words bytes command.Formula asked formula_goes
-of_asked words bytes (command.Run order) asked is = of_command words bytes (command.Run order) asked (run_goes order)
-of_asked words bytes (command.Sample seed schedule) asked is = of_command words bytes (command.Sample seed schedule) asked (sample_goes seed schedule)
-of_asked words bytes (command.Apply modulus schedule) asked is =
-    let formed = formed_has (command.Apply modulus schedule) bytes in of_apply words bytes modulus schedule asked formed.0 formed.1
-of_asked words bytes (command.Convolve schedule false) asked is =
-    let orders = conv_has (command.Convolve schedule false) bytes in of_convolve words bytes schedule asked orders.0 orders.1
-of_asked words bytes _ asked is = absurd (cc)
-
-some_family_outcome : (words : List (List ℕ)) (bytes : List ℕ) → ((wanted : Command) → IsAsked words wanted → is_by_equation wanted ≡ true) → (status : Status) × (text : List ℕ) × IsOutcome words bytes status text
-some_family_outcome words bytes each = elim (asked_or_usage words) [
-  | inl asked ↦ of_asked words bytes asked.0 asked.1 (each asked.0 asked.1)
-  | inr usage ↦ of_usage words bytes usage
-]
+called_has : (words : List (List ℕ)) (bytes : List ℕ) (wanted : Command) → IsAsked words wanted → HasText (outcomes_of wanted) bytes
+    → (status : Status) × (text : List ℕ) × IsOutcome words bytes status text
+called_has words bytes wanted asked found = (found.0, found.1, inr (wanted, asked, found.2))
 
 pub some_outcome : (words : List (List ℕ)) (bytes : List ℕ) → ((wanted : Command) → IsAsked words wanted → is_by_equation wanted ≡ true)
-    → (status : Status) × (text : List ℕ) × calls.IsOutcome words bytes status text
-some_outcome words bytes each =
-    let found = some_family_outcome words bytes each in
-    (found.0, found.1, answer_to words bytes found.0 found.1 found.2)
+    → (status : Status) × (text : List ℕ) × IsOutcome words bytes status text
+some_outcome words bytes each = elim (asked_or_usage words) [
+  | inl asked ↦ called_has words bytes asked.0 asked.1 (command_has asked.0 bytes (each asked.0 asked.1))
+  | inr usage ↦ (Usage, [], inl ((refl, usage), refl))
+]

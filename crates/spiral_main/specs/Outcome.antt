@@ -1,50 +1,16 @@
--- What the program answers for its words and the bytes of its input, and what it writes: one equation for each command.
-use Rattle.std.specs.Prelude.{◌≡◌, ◌⊎◌, ℕ, List, Ok, Err}
+-- What the program answers for its words and the bytes of its input, and what it writes.
+use Rattle.std.specs.Prelude.{◌≡◌, ◌⊎◌, ℕ, List}
 use Rattle.std.specs.declared.option.Option.{Option}
 use Rattle.std.specs.Io.KnownBytes.{Appends}
 use Rattle.io_edge.specs.Faults.{Rose}
 use Rattle.io_edge.specs.Taken.{AppendsPrefix}
-use Rattle.spiral_words.specs.Asked.{IsAsked, IsUsage}
+use Rattle.spiral_words.specs.Asked.{IsAsked}
 use Rattle.spiral_words.specs.declared.Command.{Command}
-use Rattle.spiral_words.specs.declared.Command.TheVariants.{Plan, Formula, Cert, Check, Code, C, Run, Trace, Sample, Compile, Apply, Exec, Convolve}
 use Rattle.spiral_words.specs.declared.spiral_status.status.Status.{Status}
-use Rattle.spiral_words.specs.declared.spiral_status.status.Status.TheVariants.{Usage}
+use Rattle.commands.specs.Equations.Commands.{outcomes_of}
+use Rattle.commands.specs.SpiralInput.Commands.{commanded}
 use Rattle.commands.specs.SpiralInput.Outcomes.{Outcomes, Meets}
-use Rattle.commands.specs.SpiralInput.Stage.{Stage, IsAnswerBy}
-use Rattle.spiral_main.specs.Plan.{plan_outcomes}
-use Rattle.spiral_main.specs.Formula.{formula_outcomes}
-use Rattle.spiral_main.specs.Code.{code_outcomes}
-use Rattle.spiral_main.specs.C.{c_outcomes}
-use Rattle.spiral_main.specs.Run.{run_outcomes}
-use Rattle.spiral_main.specs.Trace.{trace_outcomes}
-use Rattle.spiral_main.specs.Cert.{cert_outcomes}
-use Rattle.spiral_main.specs.Check.{check_outcomes}
-use Rattle.spiral_main.specs.Sample.{sample_outcomes}
-use Rattle.spiral_main.specs.Compile.{compile_outcomes}
-use Rattle.spiral_main.specs.Apply.{apply_outcomes}
-use Rattle.spiral_main.specs.Exec.{exec_outcomes}
-use Rattle.spiral_main.specs.Convolve.{convolve_outcomes}
-
--- what is right for a command
-abbrev pub outcomes_of : Command → Outcomes
-outcomes_of Plan = plan_outcomes
-outcomes_of Formula = formula_outcomes
-outcomes_of Code = code_outcomes
-outcomes_of C = c_outcomes
-outcomes_of (Run order) = run_outcomes order
-outcomes_of (Trace order) = trace_outcomes order
-outcomes_of Cert = cert_outcomes
-outcomes_of Check = check_outcomes
-outcomes_of (Sample seed schedule) = sample_outcomes seed schedule
-outcomes_of (Compile modulus) = compile_outcomes modulus
-outcomes_of (Apply modulus schedule) = apply_outcomes modulus schedule
-outcomes_of (Exec schedule) = exec_outcomes schedule
-outcomes_of (Convolve schedule as_code) = convolve_outcomes schedule as_code
-
--- the command that the words ask for
-abbrev pub commanded : List (List ℕ) → Stage Command
-commanded words (Ok command) = IsAsked words command
-commanded words (Err status) = (status ≡ Usage) × IsUsage words
+use Rattle.commands.specs.SpiralInput.Stage.{IsAnswerBy}
 
 -- the status and the text: the words ask for no command, and nothing is written, or they are right for this command
 abbrev pub IsOutcome : List (List ℕ) → List ℕ → Status → List ℕ → Type 0

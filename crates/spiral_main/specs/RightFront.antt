@@ -6,8 +6,8 @@ use Rattle.commands.specs.SpiralInput.Asking.{spelt}
 use Rattle.commands.specs.SpiralInput.Commands.{first_stranger}
 use Rattle.runs.specs.Stream.{vectors_of}
 use Rattle.commands.specs.Planned.{IsPlanned}
-use Rattle.spiral_main.specs.Front.{Front, line, room_behind}
-use Rattle.spiral_main.specs.Orders.{Planned}
+use Rattle.commands.specs.Equations.Front.{Front, line, room_behind}
+use Rattle.commands.specs.Equations.Orders.{Planned}
 
 -- good tokens in whole vectors, and no more bytes than may come
 pub record AreWholeVectors (size room : ℕ) (bytes : List ℕ) : Type 0 where

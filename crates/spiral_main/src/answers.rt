@@ -1,24 +1,29 @@
 // What each command answers: an outcome of words that ask for it is an answer of its equation. A law cites no other command's
 // definitions.
-ghost use Rattle.std.specs.Prelude.{ℕ, Bool, true, List};
+ghost use Rattle.std.specs.Prelude.{ℕ, true, false, List};
 ghost use Rattle.request_text.specs.Schedule.{Plan as SpecSchedule};
-ghost use Rattle.spiral_main.specs.Apply.{apply_outcomes};
-ghost use Rattle.spiral_main.specs.C.{c_outcomes, good_c_outcomes};
-ghost use Rattle.spiral_main.specs.Cert.{cert_outcomes};
-ghost use Rattle.spiral_main.specs.Check.{check_outcomes};
-ghost use Rattle.spiral_main.specs.Code.{code_outcomes, good_code_outcomes};
-ghost use Rattle.spiral_main.specs.Compile.{compile_outcomes, good_compile_outcomes};
-ghost use Rattle.spiral_main.specs.Convolve.{convolve_outcomes, good_convolver_outcomes};
-ghost use Rattle.spiral_main.specs.Exec.{exec_outcomes};
-ghost use Rattle.spiral_main.specs.Formula.{formula_outcomes};
-ghost use Rattle.spiral_main.specs.Outcome.{outcomes_of, IsOutcome};
-ghost use Rattle.spiral_main.specs.Plan.{plan_outcomes};
-ghost use Rattle.spiral_main.specs.Run.{run_outcomes};
-ghost use Rattle.spiral_main.specs.Sample.{sample_outcomes};
-ghost use Rattle.spiral_main.specs.Trace.{trace_outcomes, good_trace_outcomes};
+ghost use Rattle.commands.specs.Equations.Apply.{apply_outcomes};
+ghost use Rattle.commands.specs.Equations.C.{c_outcomes};
+ghost use Rattle.commands.specs.Equations.Code.{code_outcomes};
+ghost use Rattle.commands.specs.Equations.Commands.{outcomes_of};
+ghost use Rattle.commands.specs.Equations.Compile.{compile_outcomes};
+ghost use Rattle.commands.specs.Equations.Convolve.{convolve_outcomes, convolver_outcomes};
+ghost use Rattle.commands.specs.Equations.Trace.{trace_outcomes};
+ghost use Rattle.commands.specs.Equations.Cert.{cert_outcomes};
+ghost use Rattle.commands.specs.Equations.Check.{check_outcomes};
+ghost use Rattle.commands.specs.Equations.Exec.{exec_outcomes};
+ghost use Rattle.commands.specs.Equations.Formula.{formula_outcomes};
+ghost use Rattle.spiral_main.specs.Good.{good_c_outcomes, good_code_outcomes, good_convolver_outcomes, good_trace_outcomes};
+ghost use Rattle.spiral_main.specs.Outcome.{IsOutcome};
+ghost use Rattle.commands.specs.Equations.Plan.{plan_outcomes};
+ghost use Rattle.commands.specs.Equations.Run.{run_outcomes};
+ghost use Rattle.commands.specs.Equations.Sample.{sample_outcomes};
 ghost use Rattle.spiral_words.specs.declared.spiral_status.status.Status.{Status as SpecStatus};
 ghost use Rattle.spiral_words.specs.Asked.{IsAsked};
 ghost use Rattle.spiral_words.specs.declared.Command.TheVariants as command;
+ghost use Rattle.spiral_words.specs.declared.Document.TheVariants as document;
+ghost use Rattle.spiral_words.specs.declared.FormulaCommand.TheVariants as formula_command;
+ghost use Rattle.spiral_words.specs.declared.RequestCommand.TheVariants as request;
 ghost use Rattle.spiral_words.specs.declared.Command.{Command as SpecCommand};
 ghost use Rattle.spiral_words.specs.declared.Order.{Order as SpecOrder};
 
@@ -32,126 +37,126 @@ pub fn answers_are_outcomes()
 /// What `plan` answers.
 pub fn plan_answers()
     ensures { (words : List (List ℕ)) (bytes : List ℕ)
-        (status : SpecStatus) (text : List ℕ) → IsAsked words command.Plan
+        (status : SpecStatus) (text : List ℕ) → IsAsked words (command.ByRequest (request.Writes document.Plan))
         → IsOutcome words bytes status text → plan_outcomes.answer bytes status text }
 {}
 
 /// What `formula` answers.
 pub fn formula_answers()
     ensures { (words : List (List ℕ)) (bytes : List ℕ)
-        (status : SpecStatus) (text : List ℕ) → IsAsked words command.Formula
+        (status : SpecStatus) (text : List ℕ) → IsAsked words (command.ByRequest (request.Writes document.Formula))
         → IsOutcome words bytes status text → formula_outcomes.answer bytes status text }
 {}
 
 /// What `code` answers.
 pub fn code_answers()
     ensures { (words : List (List ℕ)) (bytes : List ℕ)
-        (status : SpecStatus) (text : List ℕ) → IsAsked words command.Code
+        (status : SpecStatus) (text : List ℕ) → IsAsked words (command.ByRequest (request.Writes document.Code))
         → IsOutcome words bytes status text → code_outcomes.answer bytes status text }
 {}
 
 /// What `c` answers.
 pub fn c_answers()
     ensures { (words : List (List ℕ)) (bytes : List ℕ)
-        (status : SpecStatus) (text : List ℕ) → IsAsked words command.C
+        (status : SpecStatus) (text : List ℕ) → IsAsked words (command.ByRequest (request.Writes document.C))
         → IsOutcome words bytes status text → c_outcomes.answer bytes status text }
 {}
 
 /// What `run` answers.
 pub fn run_answers()
     ensures { (order : SpecOrder) (words : List (List ℕ)) (bytes : List ℕ)
-        (status : SpecStatus) (text : List ℕ) → IsAsked words (command.Run order)
+        (status : SpecStatus) (text : List ℕ) → IsAsked words (command.ByRequest (request.Runs order))
         → IsOutcome words bytes status text → (run_outcomes order).answer bytes status text }
 {}
 
 /// What `trace` answers.
 pub fn trace_answers()
     ensures { (order : SpecOrder) (words : List (List ℕ)) (bytes : List ℕ)
-        (status : SpecStatus) (text : List ℕ) → IsAsked words (command.Trace order)
+        (status : SpecStatus) (text : List ℕ) → IsAsked words (command.ByRequest (request.Traces order))
         → IsOutcome words bytes status text → (trace_outcomes order).answer bytes status text }
 {}
 
 /// What `cert` answers.
 pub fn cert_answers()
     ensures { (words : List (List ℕ)) (bytes : List ℕ)
-        (status : SpecStatus) (text : List ℕ) → IsAsked words command.Cert
+        (status : SpecStatus) (text : List ℕ) → IsAsked words (command.ByRequest (request.Writes document.Cert))
         → IsOutcome words bytes status text → cert_outcomes.answer bytes status text }
 {}
 
 /// What `check` answers.
 pub fn check_answers()
     ensures { (words : List (List ℕ)) (bytes : List ℕ)
-        (status : SpecStatus) (text : List ℕ) → IsAsked words command.Check
+        (status : SpecStatus) (text : List ℕ) → IsAsked words (command.ByRequest request.Judges)
         → IsOutcome words bytes status text → check_outcomes.answer bytes status text }
 {}
 
 /// What `sample` answers.
 pub fn sample_answers()
     ensures { (seed : ℕ) (schedule : SpecSchedule) (words : List (List ℕ)) (bytes : List ℕ)
-        (status : SpecStatus) (text : List ℕ) → IsAsked words (command.Sample seed schedule)
+        (status : SpecStatus) (text : List ℕ) → IsAsked words (command.ByRequest (request.Writes (document.Sample seed schedule)))
         → IsOutcome words bytes status text → (sample_outcomes seed schedule).answer bytes status text }
 {}
 
 /// What `compile` answers.
 pub fn compile_answers()
     ensures { (m : ℕ) (words : List (List ℕ)) (bytes : List ℕ)
-        (status : SpecStatus) (text : List ℕ) → IsAsked words (command.Compile m)
+        (status : SpecStatus) (text : List ℕ) → IsAsked words (command.ByFormula m formula_command.Compile)
         → IsOutcome words bytes status text → (compile_outcomes m).answer bytes status text }
 {}
 
 /// What `apply` answers.
 pub fn apply_answers()
     ensures { (m : ℕ) (schedule : SpecSchedule) (words : List (List ℕ)) (bytes : List ℕ)
-        (status : SpecStatus) (text : List ℕ) → IsAsked words (command.Apply m schedule)
+        (status : SpecStatus) (text : List ℕ) → IsAsked words (command.ByFormula m (formula_command.Apply schedule))
         → IsOutcome words bytes status text → (apply_outcomes m schedule).answer bytes status text }
 {}
 
 /// What `exec` answers.
 pub fn exec_answers()
     ensures { (schedule : SpecSchedule) (words : List (List ℕ)) (bytes : List ℕ)
-        (status : SpecStatus) (text : List ℕ) → IsAsked words (command.Exec schedule)
+        (status : SpecStatus) (text : List ℕ) → IsAsked words (command.ByListing schedule)
         → IsOutcome words bytes status text → (exec_outcomes schedule).answer bytes status text }
 {}
 
 /// What `convolve` answers.
 pub fn convolve_answers()
-    ensures { (schedule : SpecSchedule) (code : Bool) (words : List (List ℕ)) (bytes : List ℕ)
-        (status : SpecStatus) (text : List ℕ) → IsAsked words (command.Convolve schedule code)
-        → IsOutcome words bytes status text → (convolve_outcomes schedule code).answer bytes status text }
+    ensures { (schedule : SpecSchedule) (words : List (List ℕ)) (bytes : List ℕ)
+        (status : SpecStatus) (text : List ℕ) → IsAsked words (command.ByList schedule false)
+        → IsOutcome words bytes status text → (convolve_outcomes schedule).answer bytes status text }
+{}
+
+/// What `convolve --code` answers.
+pub fn convolver_answers()
+    ensures { (schedule : SpecSchedule) (words : List (List ℕ)) (bytes : List ℕ)
+        (status : SpecStatus) (text : List ℕ) → IsAsked words (command.ByList schedule true)
+        → IsOutcome words bytes status text → (convolver_outcomes schedule).answer bytes status text }
 {}
 
 /// A listing that `code` prints is that of a program that is good for the request, executes exactly the operations of its
 /// tree, and loads and stores what the tree does.
 pub fn code_is_good()
     ensures { (words : List (List ℕ)) (bytes : List ℕ)
-        (status : SpecStatus) (text : List ℕ) → IsAsked words command.Code
+        (status : SpecStatus) (text : List ℕ) → IsAsked words (command.ByRequest (request.Writes document.Code))
         → IsOutcome words bytes status text → good_code_outcomes.answer bytes status text }
 {}
 
 /// The same of a C text that `c` prints.
 pub fn c_is_good()
     ensures { (words : List (List ℕ)) (bytes : List ℕ)
-        (status : SpecStatus) (text : List ℕ) → IsAsked words command.C
+        (status : SpecStatus) (text : List ℕ) → IsAsked words (command.ByRequest (request.Writes document.C))
         → IsOutcome words bytes status text → good_c_outcomes.answer bytes status text }
 {}
 
 /// The same of the listing that `trace` prints and runs.
 pub fn trace_is_good()
     ensures { (order : SpecOrder) (words : List (List ℕ)) (bytes : List ℕ)
-        (status : SpecStatus) (text : List ℕ) → IsAsked words (command.Trace order)
+        (status : SpecStatus) (text : List ℕ) → IsAsked words (command.ByRequest (request.Traces order))
         → IsOutcome words bytes status text → (good_trace_outcomes order).answer bytes status text }
-{}
-
-/// A listing that `compile` prints is that of code of the formula.
-pub fn compile_is_good()
-    ensures { (m : ℕ) (words : List (List ℕ)) (bytes : List ℕ)
-        (status : SpecStatus) (text : List ℕ) → IsAsked words (command.Compile m)
-        → IsOutcome words bytes status text → (good_compile_outcomes m).answer bytes status text }
 {}
 
 /// A listing that `convolve --code` prints is that of a program that convolves with the list.
 pub fn convolver_is_good()
     ensures { (schedule : SpecSchedule) (words : List (List ℕ)) (bytes : List ℕ)
-        (status : SpecStatus) (text : List ℕ) → IsAsked words (command.Convolve schedule true)
+        (status : SpecStatus) (text : List ℕ) → IsAsked words (command.ByList schedule true)
         → IsOutcome words bytes status text → (good_convolver_outcomes schedule).answer bytes status text }
 {}

@@ -1,35 +1,38 @@
 // Calls that are right in all that their command asks of them, and what they come to.
 ghost use Rattle.std.specs.Prelude.{◌≡◌, ◌≢◌, ◌≤◌, ℕ, List, [], ◌∷◌, ◌++◌, length, Ok};
-ghost use Rattle.commands.specs.FormulaCommands.Compiled.{written, IsFormulaListing};
+ghost use Rattle.commands.specs.FormulaCommands.Letters as programs;
+ghost use Rattle.commands.specs.Letters.{program_for};
+ghost use Rattle.c_print.specs.CText.{c_text_of};
+ghost use Rattle.listing_text.specs.Listing.{listing_of};
+ghost use Rattle.commands.specs.Equations.Formulas.{formed, written};
 ghost use Rattle.icode.specs.Plain.{PlainProgram};
 ghost use Rattle.commands.specs.ListingCommands.Listed.{loaded, result_of};
 ghost use Rattle.request_text.specs.Schedule.{Plan as SpecSchedule};
 ghost use Rattle.request_text.specs.Turns.{named};
 ghost use Rattle.commands.specs.SpiralInput.Orders.{procs_in};
-ghost use Rattle.spiral_main.specs.Apply.{formed};
-ghost use Rattle.spiral_main.specs.C.{IsCText};
-ghost use Rattle.spiral_main.specs.Code.{IsListing};
-ghost use Rattle.spiral_main.specs.Front.{line, part};
-ghost use Rattle.spiral_main.specs.Orders.{Planned};
+ghost use Rattle.commands.specs.Equations.Front.{line, part};
+ghost use Rattle.commands.specs.Equations.Orders.{Planned};
 ghost use Rattle.spiral_main.specs.Outcome.{Accounts, IsOutcome};
 ghost use Rattle.spiral_main.specs.RightFront.{HasWholeVectors, IsRightLine, request_vectors, vectors_behind};
-ghost use Rattle.spiral_main.specs.Sample.{sample_lines};
-ghost use Rattle.spiral_main.specs.Trace.{IsTrace};
+ghost use Rattle.commands.specs.Equations.Sample.{sample_lines};
+ghost use Rattle.commands.specs.Equations.Trace.{run_lines};
 ghost use Rattle.spiral_words.specs.declared.spiral_status.status.Status.TheVariants.{Success, ReadFault, WriteFault, NoMemory};
 ghost use Rattle.spiral_words.specs.declared.spiral_status.status.Status.{Status as SpecStatus};
 ghost use Rattle.spiral_words.specs.Asked.{IsAsked};
 ghost use Rattle.spiral_words.specs.declared.Command.TheVariants as command;
+ghost use Rattle.spiral_words.specs.declared.Document.TheVariants as document;
+ghost use Rattle.spiral_words.specs.declared.FormulaCommand.TheVariants as formula_command;
+ghost use Rattle.spiral_words.specs.declared.RequestCommand.TheVariants as request;
 ghost use Rattle.spiral_words.specs.declared.Order.{Order as SpecOrder};
 ghost use Rattle.spl_ast.specs.Formula as formulas;
 ghost use Rattle.spl_ast.specs.Formula.{Formula};
 ghost use Rattle.spl_ast.specs.Meaning as meanings;
-ghost use Rattle.spl_text.specs.Spelling.{spelling};
 ghost use Rattle.std.specs.Io.KnownBytes.{Appends};
 ghost use Rattle.std.specs.declared.option.Option.{Option};
 ghost use Rattle.runs.specs.Stream.{lines};
 ghost use Rattle.plan_cert.specs.Table.{IsTableText};
 ghost use Rattle.matrix_meaning.specs.Asked.{asked_of};
-ghost use Rattle.breakdown.specs.Expansion.{formula_of};
+ghost use Rattle.commands.specs.Equations.Formula.{formula_text};
 ghost use Rattle.commands.specs.PlanText.{plan_text};
 
 /// An outcome that is Success is what a call comes to, unless a read or a write fails or memory runs out.
@@ -43,75 +46,76 @@ pub fn outcomes_come()
 
 /// A right call of `plan` has the outcome Success with the tree that is chosen for the request.
 pub fn plan_is_right()
-    ensures { (words : List (List ℕ)) (bytes : List ℕ) (plan : Planned) → IsAsked words command.Plan
+    ensures { (words : List (List ℕ)) (bytes : List ℕ) (plan : Planned) → IsAsked words (command.ByRequest (request.Writes document.Plan))
         → IsRightLine [] bytes plan
         → IsOutcome words bytes Success (plan_text plan.request plan.tree) }
 {}
 
 /// A right call of `formula` has the outcome Success with the formula of this tree.
 pub fn formula_is_right()
-    ensures { (words : List (List ℕ)) (bytes : List ℕ) (plan : Planned) → IsAsked words command.Formula
+    ensures { (words : List (List ℕ)) (bytes : List ℕ) (plan : Planned) → IsAsked words (command.ByRequest (request.Writes document.Formula))
         → IsRightLine [] bytes plan
-        → IsOutcome words bytes Success (spelling (formula_of plan.request plan.tree) ++ 10 ∷ []) }
+        → IsOutcome words bytes Success (formula_text plan) }
 {}
 
 /// A right call of `code` has the outcome Success with the listing of the tree's program.
 pub fn code_is_right()
-    ensures { (words : List (List ℕ)) (bytes : List ℕ) (plan : Planned) (text : List ℕ) →
-        IsAsked words command.Code → IsRightLine [] bytes plan → IsListing plan text
-        → IsOutcome words bytes Success text }
+    ensures { (words : List (List ℕ)) (bytes : List ℕ) (plan : Planned) →
+        IsAsked words (command.ByRequest (request.Writes document.Code)) → IsRightLine [] bytes plan
+        → IsOutcome words bytes Success (listing_of (program_for plan.request plan.tree)) }
 {}
 
 /// A right call of `c` has the outcome Success with the C text of the tree's program.
 pub fn c_is_right()
-    ensures { (words : List (List ℕ)) (bytes : List ℕ) (plan : Planned) (text : List ℕ) →
-        IsAsked words command.C → IsRightLine [] bytes plan → IsCText plan text
-        → IsOutcome words bytes Success text }
+    ensures { (words : List (List ℕ)) (bytes : List ℕ) (plan : Planned) →
+        IsAsked words (command.ByRequest (request.Writes document.C)) → IsRightLine [] bytes plan
+        → IsOutcome words bytes Success (c_text_of (program_for plan.request plan.tree)) }
 {}
 
 /// A right call of `cert` has the outcome Success with the certificate of the request.
 pub fn cert_is_right()
     ensures { (words : List (List ℕ)) (bytes : List ℕ) (plan : Planned) (text : List ℕ) →
-        IsAsked words command.Cert → IsRightLine [] bytes plan → IsTableText plan.request text
+        IsAsked words (command.ByRequest (request.Writes document.Cert)) → IsRightLine [] bytes plan → IsTableText plan.request text
         → IsOutcome words bytes Success text }
 {}
 
 /// A right call of `sample` has the outcome Success with the sum and the counts of the seed's vector.
 pub fn sample_is_right()
     ensures { (words : List (List ℕ)) (bytes : List ℕ) (seed : ℕ) (schedule : SpecSchedule) (plan : Planned) →
-        IsAsked words (command.Sample seed schedule) → IsRightLine (named schedule) bytes plan
+        IsAsked words (command.ByRequest (request.Writes (document.Sample seed schedule))) → IsRightLine (named schedule) bytes plan
         → IsOutcome words bytes Success (sample_lines plan seed) }
 {}
 
 /// A right call of `run` has the outcome Success with a line for each vector, of the matrix times it.
 pub fn run_is_right()
     ensures { (words : List (List ℕ)) (bytes : List ℕ) (order : SpecOrder) (plan : Planned) →
-        IsAsked words (command.Run order) → IsRightLine (procs_in order) bytes plan
+        IsAsked words (command.ByRequest (request.Runs order)) → IsRightLine (procs_in order) bytes plan
         → HasWholeVectors (line 256) plan.request.size bytes
         → IsOutcome words bytes Success (lines (asked_of plan.request) (request_vectors plan bytes)) }
 {}
 
 /// A right call of `trace` has the outcome Success with the listing and the lines of each vector's run.
 pub fn trace_is_right()
-    ensures { (words : List (List ℕ)) (bytes : List ℕ) (order : SpecOrder) (plan : Planned) (text : List ℕ) →
-        IsAsked words (command.Trace order) → IsRightLine (procs_in order) bytes plan
+    ensures { (words : List (List ℕ)) (bytes : List ℕ) (order : SpecOrder) (plan : Planned) →
+        IsAsked words (command.ByRequest (request.Traces order)) → IsRightLine (procs_in order) bytes plan
         → HasWholeVectors (line 256) plan.request.size bytes
-        → IsTrace order plan (request_vectors plan bytes) text
-        → IsOutcome words bytes Success text }
+        → IsOutcome words bytes Success (listing_of (program_for plan.request plan.tree)
+        ++ run_lines order plan (request_vectors plan bytes)) }
 {}
 
 /// A right call of `compile` has the outcome Success with the listing of the formula's program.
 pub fn compile_is_right()
-    ensures { (words : List (List ℕ)) (bytes : List ℕ) (m : ℕ) (formula : Formula) (text : List ℕ) →
-        IsAsked words (command.Compile m) → length ((line 65536).first bytes) ≤ 65536
-        → written ((line 65536).first bytes) (Ok formula) → IsFormulaListing m formula text
-        → IsOutcome words bytes Success text }
+    ensures { (words : List (List ℕ)) (bytes : List ℕ) (m : ℕ) (formula : Formula) →
+        IsAsked words (command.ByFormula m formula_command.Compile)
+        → length ((line 65536).first bytes) ≤ 65536
+        → written ((line 65536).first bytes) (Ok formula)
+        → IsOutcome words bytes Success (listing_of (programs.program_for m formula)) }
 {}
 
 /// A right call of `apply` has the outcome Success with a line for each vector, of the formula's matrix times it.
 pub fn apply_is_right()
     ensures { (words : List (List ℕ)) (bytes : List ℕ) (m : ℕ) (schedule : SpecSchedule) (formula : Formula) →
-        IsAsked words (command.Apply m schedule) → length ((line 65536).first bytes) ≤ 65536
+        IsAsked words (command.ByFormula m (formula_command.Apply schedule)) → length ((line 65536).first bytes) ≤ 65536
         → formed (named schedule) ((line 65536).first bytes) (Ok formula)
         → HasWholeVectors (line 65536) (formulas.size_of formula) bytes
         → IsOutcome words bytes Success (lines (meanings.apply m formula)
@@ -121,7 +125,7 @@ pub fn apply_is_right()
 /// A right call of `exec` has the outcome Success with a line for each vector, of what the listing's program leaves for it.
 pub fn exec_is_right()
     ensures { (words : List (List ℕ)) (bytes : List ℕ) (schedule : SpecSchedule) (program : PlainProgram) →
-        IsAsked words (command.Exec schedule) → length ((part 1048576).first bytes) ≤ 1048576
+        IsAsked words (command.ByListing schedule) → length ((part 1048576).first bytes) ≤ 1048576
         → loaded schedule ((part 1048576).first bytes) (Ok program)
         → HasWholeVectors (part 1048576) program.size bytes
         → IsOutcome words bytes Success (lines (result_of program)

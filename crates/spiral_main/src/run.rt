@@ -1,47 +1,18 @@
 // The top call.
-ghost use Rattle.std.specs.Prelude.{◌≡◌, [], IfSome, MatchOption, Ok, map, string_bytes, false};
-ghost use Rattle.std.specs.declared.option.Option.{Option};
+ghost use Rattle.std.specs.Prelude.{◌≡◌, [], IfSome, map, string_bytes};
 ghost use Rattle.std.specs.Io.KnownBytes.{Appends, IsAtEnd};
 ghost use Rattle.io_edge.specs.Faults.{Reports};
-ghost use Rattle.commands.specs.SpiralInput.Commands.{takes_convolution, takes_formula, takes_listing};
 ghost use Rattle.commands.specs.SpiralInput.Commands.{AskForRest, AskForCommand, AreJudged};
 ghost use Rattle.commands.specs.SpiralInput.Outcomes.{ToldMeets};
-ghost use Rattle.spiral_main.specs.Families.{call_outcomes};
-ghost use Rattle.spiral_main.specs.Outcome.{Accounts, Notes};
+ghost use Rattle.spiral_main.specs.Outcome.{call_outcomes, Accounts, Notes};
 ghost use Rattle.commands.specs.SpiralInput.Stage.{status_of};
 ghost use Rattle.spiral_words.specs.SpiralStatus.Status.{note_line};
 
 use crate::Status;
-use commands::{ask, asked, by_formula, convolve, exec, perform};
+use commands::{asked, by_formula, convolve, exec, perform};
 use io_edge::{Feed, Sink, Source};
-use request_text::Schedule;
 use spiral_words::{Command, write_note};
 use std::alloc::Global;
-
-// The schedule of `exec`, if that is the command.
-fn schedule_of_exec(command: &Command) -> Option<&Schedule>
-    ensures { MatchOption result (takes_listing command.now ≡ false)
-        (λ schedule. command.now ≡ Command.Exec schedule.now) }
-{
-    match command {
-        Command::Exec { schedule } => Some(schedule),
-        _ => None,
-    }
-}
-
-// Whether the command goes by a formula.
-fn takes_formula(command: &Command) -> bool
-    ensures { result ≡ takes_formula command.now }
-{
-    matches!(command, Command::Compile { .. } | Command::Apply { .. })
-}
-
-// Whether the command convolves.
-fn takes_convolution(command: &Command) -> bool
-    ensures { result ≡ takes_convolution command.now }
-{
-    matches!(command, Command::Convolve { .. })
-}
 
 // Does what the words and the input ask for.
 fn work<I: Source, O: Sink>(
@@ -67,17 +38,16 @@ fn work<I: Source, O: Sink>(
 {
     let mut feed = Feed::new(alloc)?;
     let command = asked(alloc, words)?;
-    if let Some(schedule) = schedule_of_exec(&command) {
-        return exec(alloc, schedule, &mut feed, input, output);
+    match command {
+        Command::ByRequest(command) => perform(alloc, &command, &mut feed, input, output),
+        Command::ByFormula { modulus, command } => {
+            by_formula(alloc, &modulus, &command, &mut feed, input, output)
+        }
+        Command::ByListing(schedule) => exec(alloc, &schedule, &mut feed, input, output),
+        Command::ByList { schedule, code } => {
+            convolve(alloc, &schedule, code, &mut feed, input, output)
+        }
     }
-    if takes_formula(&command) {
-        return by_formula(alloc, &command, &mut feed, input, output);
-    }
-    if takes_convolution(&command) {
-        return convolve(alloc, &command, &mut feed, input, output);
-    }
-    let request = ask(&command, &mut feed, input)?;
-    perform(alloc, &command, &request, &mut feed, input, output)
 }
 
 // The status that a call ends with.

@@ -1,6 +1,6 @@
 -- Words ask for one command.
 use Rattle.std.proofs.Common.{◌≡◌, ℕ, ◌^◌, List, [], ◌∷◌, ◌++◌, Bool, true, false, Result, Ok, Err, Some, refl, sym, ap, ap₂, subst, ◌∙◌, codes, arith, inl, inr}
-use Rattle.clap.specs.Words.{Text}
+use Rattle.clap.specs.Words.{Row, Text}
 use Rattle.grammar.specs.Grammar.{Judges, number, one_of}
 use Rattle.icode.specs.declared.event.Event.{Event}
 use Rattle.request_text.specs.Mix.{mix_word}
@@ -8,13 +8,18 @@ use Rattle.request_text.specs.Schedule.{Plan, schedule_word}
 use Rattle.request_text.proofs.MixWord.{mix_judges}
 use Rattle.request_text.proofs.ScheduleWord.{word_judges}
 use Rattle.spiral_words.proofs.NumberWord.{seed_judges, small_judges}
+use Rattle.spiral_words.specs.declared.app.OptionName.TheVariants as option
 use Rattle.spiral_words.specs.declared.command.Command.{Command}
-use Rattle.spiral_words.specs.declared.command.Command.TheVariants as command
+use Rattle.spiral_words.specs.declared.command.Command.TheVariants.{ByRequest, ByFormula, ByListing, ByList}
+use Rattle.spiral_words.specs.declared.command.RequestCommand.TheVariants.{Writes, Runs, Traces}
+use Rattle.spiral_words.specs.declared.command.RequestCommand.TheVariants as request
+use Rattle.spiral_words.specs.declared.command.Document.TheVariants as document
+use Rattle.spiral_words.specs.declared.command.FormulaCommand.TheVariants.{Compile, Apply}
 use Rattle.spiral_words.specs.declared.command.Order.{Order}
 use Rattle.spiral_words.specs.declared.command.Order.TheVariants as order
-use Rattle.spiral_words.specs.Named.{NamedTexts}
-use Rattle.spiral_words.specs.Named as named
-use Rattle.spiral_words.specs.Asked.{Means, IsAsked, SpellsOrder, modulus_word, seed_word}
+use Rattle.spiral_words.specs.CommandLine.{is_given, text_of}
+use Rattle.spiral_words.specs.Asked.{AsksOrder, IsAsked, Means, SpellsOrder, modulus_word, seed_word}
+use Rattle.spiral_words.proofs.Meanings.{plan_only, formula_only, code_only, c_only, cert_only, check_only, sample_only, run_only, trace_only, compile_only, apply_only, exec_only, convolve_only}
 
 -- a text spells one value
 spelt_once : {S A : Type 0} (L : List S → A → Type 0) (text : List S) (r : Result A ℕ) (a b : A) → Judges L text r → L text a → L text b → a ≡ b
@@ -70,27 +75,46 @@ order_once true word (order.Mixed s) (order.Turns t) p q = absurd q
 order_once true word (order.Mixed s) (order.Buffered t) p q = absurd (not_both word t s q p)
 order_once true word (order.Mixed s) (order.Mixed t) p q = ap order.Mixed (mix_once word s t p q)
 
+asks_once : (rows : List Row) (a b : Order) → AsksOrder rows a → AsksOrder rows b → a ≡ b
+asks_once rows = order_once (is_given option.Buffers rows) (text_of option.Schedule rows)
+
 -- ---- commands
+
+means_once : (name : Text) (rows : List Row) (a b : Command) → Means name rows a → Means name rows b → a ≡ b
+means_once name rows (ByRequest (Writes document.Plan)) b p q = sym (plan_only rows b (subst (λ n. Means n rows b) p q))
+means_once name rows (ByRequest (Writes document.Formula)) b p q = sym (formula_only rows b (subst (λ n. Means n rows b) p q))
+means_once name rows (ByRequest (Writes document.Code)) b p q = sym (code_only rows b (subst (λ n. Means n rows b) p q))
+means_once name rows (ByRequest (Writes document.C)) b p q = sym (c_only rows b (subst (λ n. Means n rows b) p q))
+means_once name rows (ByRequest (Writes document.Cert)) b p q = sym (cert_only rows b (subst (λ n. Means n rows b) p q))
+means_once name rows (ByRequest request.Judges) b p q = sym (check_only rows b (subst (λ n. Means n rows b) p q))
+means_once name rows (ByRequest (Writes (document.Sample seed schedule))) b p q =
+    let r = sample_only rows b (subst (λ n. Means n rows b) p.0 q) in
+    let same = ap₂ document.Sample (seed_once (text_of option.Seed rows) seed r.0 p.1 r.3) (schedule_once (text_of option.Schedule rows) schedule r.1 p.2 r.4) in
+    ap (λ d. ByRequest (Writes d)) same ∙ sym r.2
+means_once name rows (ByRequest (Runs order)) b p q =
+    let r = run_only rows b (subst (λ n. Means n rows b) p.0 q) in
+    ap (λ o. ByRequest (Runs o)) (asks_once rows order r.0 p.1 r.2) ∙ sym r.1
+means_once name rows (ByRequest (Traces order)) b p q =
+    let r = trace_only rows b (subst (λ n. Means n rows b) p.0 q) in
+    ap (λ o. ByRequest (Traces o)) (asks_once rows order r.0 p.1 r.2) ∙ sym r.1
+means_once name rows (ByFormula modulus Compile) b p q =
+    let r = compile_only rows b (subst (λ n. Means n rows b) p.0 q) in
+    ap (λ m. ByFormula m Compile) (modulus_once (text_of option.Modulus rows) modulus r.0 p.1 r.2) ∙ sym r.1
+means_once name rows (ByFormula modulus (Apply schedule)) b p q =
+    let r = apply_only rows b (subst (λ n. Means n rows b) p.0 q) in
+    let same = schedule_once (text_of option.Schedule rows) schedule r.1 p.2 r.4 in
+    ap₂ (λ m s. ByFormula m (Apply s)) (modulus_once (text_of option.Modulus rows) modulus r.0 p.1 r.3) same ∙ sym r.2
+means_once name rows (ByListing schedule) b p q =
+    let r = exec_only rows b (subst (λ n. Means n rows b) p.0 q) in
+    ap ByListing (schedule_once (text_of option.Schedule rows) schedule r.0 p.1 r.2) ∙ sym r.1
+means_once name rows (ByList schedule as_code) b p q =
+    let r = convolve_only rows b (subst (λ n. Means n rows b) p.0 q) in
+    ap₂ ByList (schedule_once (text_of option.Schedule rows) schedule r.0 p.1 r.3) (p.2 ∙ sym r.4) ∙ sym r.2
 
 some_same : {A : Type 0} (a b : A) → Some a ≡ Some b → a ≡ b
 some_same a b e = cc
 
-means_once : (texts : NamedTexts) (a b : Command) → Means texts a → Means texts b → a ≡ b
-means_once named.plan a b p q = p ∙ sym q
-means_once named.formula a b p q = p ∙ sym q
-means_once named.code a b p q = p ∙ sym q
-means_once named.c a b p q = p ∙ sym q
-means_once (named.run buffers word) a b p q = p.2 ∙ ap command.Run (order_once buffers word p.0 q.0 p.1 q.1) ∙ sym q.2
-means_once (named.trace buffers word) a b p q = p.2 ∙ ap command.Trace (order_once buffers word p.0 q.0 p.1 q.1) ∙ sym q.2
-means_once named.cert a b p q = p ∙ sym q
-means_once named.check a b p q = p ∙ sym q
-means_once (named.sample number word) a b p q = p.4 ∙ ap₂ command.Sample (seed_once number p.0 q.0 p.2 q.2) (schedule_once word p.1 q.1 p.3 q.3) ∙ sym q.4
-means_once (named.compile number) a b p q = p.2 ∙ ap command.Compile (modulus_once number p.0 q.0 p.1 q.1) ∙ sym q.2
-means_once (named.apply number word) a b p q = p.4 ∙ ap₂ command.Apply (modulus_once number p.0 q.0 p.2 q.2) (schedule_once word p.1 q.1 p.3 q.3) ∙ sym q.4
-means_once (named.exec word) a b p q = p.2 ∙ ap command.Exec (schedule_once word p.0 q.0 p.1 q.1) ∙ sym q.2
-means_once (named.convolve word as_code) a b p q = p.2 ∙ ap (λ s. command.Convolve s as_code) (schedule_once word p.0 q.0 p.1 q.1) ∙ sym q.2
-
 pub asked_once : (words : List Text) (a b : Command) → IsAsked words a → IsAsked words b → a ≡ b
 asked_once words a b p q =
-    let same : p.0 ≡ q.0 = some_same p.0 q.0 (sym p.1 ∙ q.1) in
-    means_once q.0 a b (subst (λ (t : NamedTexts). Means t a) same p.2) q.2
+    let same : (p.0, p.1) ≡ (q.0, q.1) = some_same (p.0, p.1) (q.0, q.1) (sym p.2 ∙ q.2) in
+    means_once q.0 q.1 a b (subst (λ (t : Text × List Row). Means t.0 t.1 a) same p.3) q.3

@@ -1,4 +1,4 @@
 pub mod SpiralStatus
 pub mod CommandLine
-pub mod Named
 pub mod Asked
+pub mod Refused

@@ -1,116 +1,86 @@
-// The command line, as `clap` is told of it.
-ghost use Rattle.std.specs.Prelude.{◌≡◌, [], ◌∷◌, IfOk, false};
-ghost use Rattle.clap.specs.Words.{app_of, shape_of, rule_of, with_subcommand};
+// The command line as a table, and as `clap` is told of it.
+ghost use Rattle.std.specs.Prelude.{◌≡◌, [], ◌∷◌, IfOk, false, map};
+ghost use Rattle.clap.specs.Words.{app_of, shape_of, rule_of};
 ghost use Rattle.clap.specs.declared.Command.TheViews.{out-Command as fields_of};
-ghost use Rattle.spiral_words.specs.CommandLine.{option_rule, required_rule, flag_rule, schedule_rule, seed_rule, mod_rule, command, flagged, bare_app, with_bare, plain_app, running_app, formula_app, listing_app, spiral_app};
+ghost use Rattle.spiral_words.specs.CommandLine.{name_of, option_rule, command_shape, app_with, bare_app, spiral_app};
 
 use clap::{Arg, ArgAction, Command};
 use std::alloc::{AllocError, Global};
 
-/// An option of one value, with its default.
-fn option<'a>(alloc: Global, name: &'a str, default: &'a str) -> Arg<'a>
-    ensures rule { rule_of result ≡ option_rule name.now default.now }
-    ensures local { result.global ≡ false }
-{
-    Arg::new(alloc, name)
-        .long(name)
-        .action(ArgAction::Set)
-        .default_value(default)
+/// An option of a command.
+#[derive(Clone, Copy)]
+pub(crate) enum OptionName {
+    Schedule,
+    Seed,
+    Modulus,
+    Buffers,
+    Code,
 }
 
-/// An option of one value, which has to be given.
-fn required<'a>(alloc: Global, name: &'a str) -> Arg<'a>
-    ensures rule { rule_of result ≡ required_rule name.now }
-    ensures local { result.global ≡ false }
-{
-    Arg::new(alloc, name)
-        .long(name)
-        .action(ArgAction::Set)
-        .required(true)
+use OptionName::{Buffers, Code, Modulus, Schedule, Seed};
+
+/// The commands, each with its options.
+const COMMANDS: [(&str, &[OptionName]); 13] = [
+    ("plan", &[]),
+    ("formula", &[]),
+    ("code", &[]),
+    ("c", &[]),
+    ("run", &[Schedule, Buffers]),
+    ("trace", &[Schedule, Buffers]),
+    ("cert", &[]),
+    ("check", &[]),
+    ("sample", &[Seed, Schedule]),
+    ("compile", &[Modulus]),
+    ("apply", &[Modulus, Schedule]),
+    ("exec", &[Schedule]),
+    ("convolve", &[Schedule, Code]),
+];
+
+impl OptionName {
+    /// The name, without its hyphens.
+    pub(crate) fn name<'a>(self) -> &'a str
+        ensures { result.now ≡ name_of self }
+    {
+        match self {
+            Schedule => "schedule",
+            Seed => "seed",
+            Modulus => "mod",
+            Buffers => "buffers",
+            Code => "code",
+        }
+    }
+
+    fn rule<'a>(self, alloc: Global) -> Arg<'a>
+        ensures rule { rule_of result ≡ option_rule self }
+        ensures local { result.global ≡ false }
+    {
+        let name = self.name();
+        let arg = Arg::new(alloc, name).long(name);
+        match self {
+            Schedule => arg.action(ArgAction::Set).default_value("seq"),
+            Seed => arg.action(ArgAction::Set).default_value("0"),
+            Modulus => arg.action(ArgAction::Set).required(true),
+            Buffers => arg.action(ArgAction::SetTrue),
+            Code => arg.action(ArgAction::SetTrue),
+        }
+    }
 }
 
-/// An option without a value.
-fn flag<'a>(alloc: Global, name: &'a str) -> Arg<'a>
-    ensures rule { rule_of result ≡ flag_rule name.now }
-    ensures local { result.global ≡ false }
-{
-    Arg::new(alloc, name).long(name).action(ArgAction::SetTrue)
-}
-
-/// A subcommand that takes a schedule.
-fn scheduled<'a>(alloc: Global, name: &'a str) -> Result<Command<'a>, AllocError>
-    ensures shape { IfOk result (λ r. shape_of r ≡ command name.now (schedule_rule ∷ [])) }
-    ensures local { IfOk result (λ r. (fields_of r).has_globals ≡ false) }
-{
-    let schedule = option(alloc, "schedule", "seq");
-    Command::new(alloc, name).arg(schedule)
-}
-
-/// A subcommand that takes a schedule, and may be given an option without a value.
-fn flagged<'a>(alloc: Global, name: &'a str, option: &'a str) -> Result<Command<'a>, AllocError>
-    ensures shape { IfOk result (λ r. shape_of r ≡ flagged name.now option.now) }
-    ensures local { IfOk result (λ r. (fields_of r).has_globals ≡ false) }
-{
-    let scheduled = scheduled(alloc, name)?;
-    let option = flag(alloc, option);
-    scheduled.arg(option)
-}
-
-/// A subcommand that takes a seed and a schedule.
-fn sampled<'a>(alloc: Global, name: &'a str) -> Result<Command<'a>, AllocError>
-    ensures shape { IfOk result
-        (λ r. shape_of r ≡ command name.now (seed_rule ∷ schedule_rule ∷ [])) }
-    ensures local { IfOk result (λ r. (fields_of r).has_globals ≡ false) }
-{
-    let seed = option(alloc, "seed", "0");
-    let seeded = Command::new(alloc, name).arg(seed)?;
-    let schedule = option(alloc, "schedule", "seq");
-    seeded.arg(schedule)
-}
-
-/// A subcommand that takes a modulus.
-fn reduced<'a>(alloc: Global, name: &'a str) -> Result<Command<'a>, AllocError>
-    ensures shape { IfOk result (λ r. shape_of r ≡ command name.now (mod_rule ∷ [])) }
-    ensures local { IfOk result (λ r. (fields_of r).has_globals ≡ false) }
-{
-    let modulus = required(alloc, "mod");
-    Command::new(alloc, name).arg(modulus)
-}
-
-/// A subcommand that takes a modulus and a schedule.
-fn applied<'a>(alloc: Global, name: &'a str) -> Result<Command<'a>, AllocError>
-    ensures shape { IfOk result
-        (λ r. shape_of r ≡ command name.now (mod_rule ∷ schedule_rule ∷ [])) }
-    ensures local { IfOk result (λ r. (fields_of r).has_globals ≡ false) }
-{
-    let reduced = reduced(alloc, name)?;
-    let schedule = option(alloc, "schedule", "seq");
-    reduced.arg(schedule)
-}
-
-/// The command with one more subcommand, which has no options.
-fn with_bare<'a>(
+/// The command of this name, with these options.
+fn command<'a>(
     alloc: Global,
-    command: Command<'a>,
     name: &'a str,
+    options: &[OptionName],
 ) -> Result<Command<'a>, AllocError>
-    ensures { IfOk result (λ r. app_of r ≡ with_bare name.now (app_of command.entry)) }
+    ensures shape { IfOk result
+        (λ r. shape_of r ≡ command_shape (name.now, options.now)) }
+    ensures local { IfOk result (λ r. (fields_of r).has_globals ≡ false) }
 {
-    command.subcommand(Command::new(alloc, name))
-}
-
-/// The command with one more subcommand, which takes a schedule and may be given an option without a value.
-fn with_flagged<'a>(
-    alloc: Global,
-    command: Command<'a>,
-    name: &'a str,
-    option: &'a str,
-) -> Result<Command<'a>, AllocError>
-    ensures { IfOk result
-        (λ r. app_of r ≡ with_subcommand (app_of command.entry) (flagged name.now option.now)) }
-{
-    let subcommand = flagged(alloc, name, option)?;
-    command.subcommand(subcommand)
+    let mut command = Command::new(alloc, name);
+    for option in options {
+        command = command.arg(option.rule(alloc))?;
+    }
+    Ok(command)
 }
 
 fn bare<'a>(alloc: Global) -> Command<'a>
@@ -122,52 +92,24 @@ fn bare<'a>(alloc: Global) -> Command<'a>
         .subcommand_required(true)
 }
 
-/// The commands that have no options.
-fn plain<'a>(alloc: Global) -> Result<Command<'a>, AllocError>
-    ensures { IfOk result (λ r. app_of r ≡ plain_app) }
+/// The command line with these commands.
+fn with_commands<'a>(
+    alloc: Global,
+    rows: &[(&'a str, &'a [OptionName])],
+) -> Result<Command<'a>, AllocError>
+    ensures { IfOk result (λ r. app_of r ≡ app_with (map (λ row. (row.0.now, row.1.now)) rows.now)) }
 {
-    let plan = with_bare(alloc, bare(alloc), "plan")?;
-    let formula = with_bare(alloc, plan, "formula")?;
-    let code = with_bare(alloc, formula, "code")?;
-    let c = with_bare(alloc, code, "c")?;
-    let cert = with_bare(alloc, c, "cert")?;
-    with_bare(alloc, cert, "check")
+    let mut app = bare(alloc);
+    for row in rows {
+        let command = command(alloc, row.0, row.1)?;
+        app = app.subcommand(command)?;
+    }
+    Ok(app)
 }
 
-/// Those, and the commands that run a request's program.
-fn running<'a>(alloc: Global) -> Result<Command<'a>, AllocError>
-    ensures { IfOk result (λ r. app_of r ≡ running_app) }
-{
-    let plain = plain(alloc)?;
-    let run = with_flagged(alloc, plain, "run", "buffers")?;
-    let trace = with_flagged(alloc, run, "trace", "buffers")?;
-    let sample = sampled(alloc, "sample")?;
-    trace.subcommand(sample)
-}
-
-/// And those that are given a formula.
-fn formulas<'a>(alloc: Global) -> Result<Command<'a>, AllocError>
-    ensures { IfOk result (λ r. app_of r ≡ formula_app) }
-{
-    let running = running(alloc)?;
-    let compile = reduced(alloc, "compile")?;
-    let with_compile = running.subcommand(compile)?;
-    let apply = applied(alloc, "apply")?;
-    with_compile.subcommand(apply)
-}
-
-/// And the one that is given a listing.
-fn listings<'a>(alloc: Global) -> Result<Command<'a>, AllocError>
-    ensures { IfOk result (λ r. app_of r ≡ listing_app) }
-{
-    let exec = scheduled(alloc, "exec")?;
-    formulas(alloc)?.subcommand(exec)
-}
-
-/// The whole command line: these, and the one that convolves.
+/// The whole command line.
 pub(crate) fn spiral_app<'a>(alloc: Global) -> Result<Command<'a>, AllocError>
     ensures { IfOk result (λ r. app_of r ≡ spiral_app) }
 {
-    let listings = listings(alloc)?;
-    with_flagged(alloc, listings, "convolve", "code")
+    with_commands(alloc, &COMMANDS)
 }

@@ -1,52 +1,62 @@
-// Commands, with their options.
-ghost use Rattle.std.specs.Prelude.{◌≡◌, Err, IfOk, map, string_bytes, true};
-ghost use Rattle.request_text.specs.Mix.{mix_word};
-ghost use Rattle.request_text.specs.Schedule.{schedule_word};
+// Commands, with what their options say, and why words ask for none.
+ghost use Rattle.std.specs.Prelude.{◌≡◌};
 ghost use Rattle.spiral_words.specs.declared.command.Refusal.TheVariants.{NoMemory};
-ghost use Rattle.spiral_words.specs.Named.{exec, convolve, texts_of};
-ghost use Rattle.spiral_words.specs.Asked.{IsNoMix, IsNoOrder, IsNoSchedule, SpellsOrder, Means, HasOtherText, IsAsked, IsUsage};
 
-use crate::line::{Named, command_found, parsed};
-use crate::number::{modulus_of, seed_of};
-use request_text::{Mix, MixFault, Schedule, ScheduleFault, read_mix, read_schedule};
+use request_text::{Mix, Schedule};
 use ring_mod::Modulus;
-use std::alloc::{AllocError, Global};
+use std::alloc::AllocError;
 use thiserror::Error;
 
-/// What the words ask for.
+/// What the words ask for: what the command goes by, and what it does with that.
 #[derive(Drop)]
 pub enum Command {
+    /// By a request.
+    ByRequest(RequestCommand),
+    /// By a formula, modulo this.
+    ByFormula {
+        modulus: Modulus,
+        command: FormulaCommand,
+    },
+    /// `exec`: by a listing.
+    ByListing(Schedule),
+    /// `convolve`: by a request for convolutions and a list. `code`: the program is written, and not run.
+    ByList {
+        schedule: Schedule,
+        code: bool,
+    },
+}
+
+/// What is done with a request.
+#[derive(Drop)]
+pub enum RequestCommand {
+    /// A text is written for it alone.
+    Writes(Document),
+    /// `run`: its program runs over data.
+    Runs(Order),
+    /// `trace`: its program and the turns of the run are written too.
+    Traces(Order),
+    /// `check`: a certificate is judged.
+    Judges,
+}
+
+/// The text that is written for a request.
+#[derive(Drop)]
+pub enum Document {
     Plan,
     Formula,
     Code,
     C,
-    Run {
-        order: Order,
-    },
-    Trace {
-        order: Order,
-    },
     Cert,
-    Check,
-    Sample {
-        seed: u64,
-        schedule: Schedule,
-    },
-    Compile {
-        modulus: Modulus,
-    },
-    Apply {
-        modulus: Modulus,
-        schedule: Schedule,
-    },
-    Exec {
-        schedule: Schedule,
-    },
-    /// `code`: the program is written, and not run.
-    Convolve {
-        schedule: Schedule,
-        code: bool,
-    },
+    Sample { seed: u64, schedule: Schedule },
+}
+
+/// What is done with a formula.
+#[derive(Drop)]
+pub enum FormulaCommand {
+    /// Its program is written.
+    Compile,
+    /// Its program runs over data.
+    Apply(Schedule),
 }
 
 /// The order in which the processors of a request's program go on.
@@ -76,121 +86,5 @@ impl From<AllocError> for Refusal {
 
     fn from(_: AllocError) -> Self {
         Refusal::NoMemory
-    }
-}
-
-/// What the words ask for, the program's name first.
-pub fn command_of(alloc: Global, words: &Vec<String>) -> Result<Command, Refusal>
-    ensures ok { IfOk result (λ command. IsAsked (map string_bytes words.now.items) command) }
-    ensures usage { result ≡ Err Refusal.Usage → IsUsage (map string_bytes words.now.items) }
-{
-    let matches = parsed(alloc, words)?;
-    match command_found(&matches) {
-        Some(named) => read(alloc, named),
-        None => Err(Refusal::Usage),
-    }
-}
-
-/// The command, with its options read.
-fn read(alloc: Global, named: Named) -> Result<Command, Refusal>
-    ensures ok { IfOk result (λ command. Means (texts_of named.entry) command) }
-    ensures usage { result ≡ Err Refusal.Usage → HasOtherText (texts_of named.entry) }
-{
-    match named {
-        Named::Plan => Ok(Command::Plan),
-        Named::Formula => Ok(Command::Formula),
-        Named::Code => Ok(Command::Code),
-        Named::C => Ok(Command::C),
-        Named::Run { buffers, schedule } => {
-            let order = order_of(alloc, buffers, schedule)?;
-            Ok(Command::Run { order })
-        }
-        Named::Trace { buffers, schedule } => {
-            let order = order_of(alloc, buffers, schedule)?;
-            Ok(Command::Trace { order })
-        }
-        Named::Cert => Ok(Command::Cert),
-        Named::Check => Ok(Command::Check),
-        Named::Sample { seed, schedule } => {
-            let seed = seed_of(seed)?;
-            let schedule = schedule_of(alloc, schedule)?;
-            Ok(Command::Sample { seed, schedule })
-        }
-        Named::Compile { modulus } => {
-            let modulus = modulus_of(modulus)?;
-            Ok(Command::Compile { modulus })
-        }
-        Named::Apply { modulus, schedule } => {
-            let modulus = modulus_of(modulus)?;
-            let schedule = schedule_of(alloc, schedule)?;
-            Ok(Command::Apply { modulus, schedule })
-        }
-        Named::Exec { schedule } => exec_of(alloc, schedule),
-        Named::Convolve { schedule, code } => convolve_of(alloc, schedule, code),
-    }
-}
-
-fn exec_of(alloc: Global, word: &str) -> Result<Command, Refusal>
-    ensures ok { IfOk result (λ command. Means (exec word.now) command) }
-    ensures usage { result ≡ Err Refusal.Usage → HasOtherText (exec word.now) }
-{
-    let schedule = schedule_of(alloc, word)?;
-    Ok(Command::Exec { schedule })
-}
-
-fn convolve_of(alloc: Global, word: &str, code: bool) -> Result<Command, Refusal>
-    ensures ok { IfOk result (λ command. Means (convolve word.now code) command) }
-    ensures usage { result ≡ Err Refusal.Usage → HasOtherText (convolve word.now code) }
-{
-    let schedule = schedule_of(alloc, word)?;
-    Ok(Command::Convolve { schedule, code })
-}
-
-fn order_of(alloc: Global, buffers: bool, word: &str) -> Result<Order, Refusal>
-    ensures ok { IfOk result (λ order. SpellsOrder buffers word.now order) }
-    ensures usage { result ≡ Err Refusal.Usage → IsNoOrder buffers word.now }
-{
-    if buffers {
-        buffered_order(alloc, word)
-    } else {
-        let schedule = schedule_of(alloc, word)?;
-        Ok(Order::Turns(schedule))
-    }
-}
-
-/// A schedule, or turns and drains.
-fn buffered_order(alloc: Global, word: &str) -> Result<Order, Refusal>
-    ensures ok { IfOk result (λ order. SpellsOrder true word.now order) }
-    ensures usage { result ≡ Err Refusal.Usage → IsNoOrder true word.now }
-{
-    match schedule_of(alloc, word) {
-        Ok(schedule) => Ok(Order::Buffered(schedule)),
-        Err(Refusal::NoMemory) => Err(Refusal::NoMemory),
-        Err(Refusal::Usage) => {
-            let mix = mix_of(alloc, word)?;
-            Ok(Order::Mixed(mix))
-        }
-    }
-}
-
-fn mix_of(alloc: Global, word: &str) -> Result<Mix, Refusal>
-    ensures ok { IfOk result (λ mix. mix_word word.now mix) }
-    ensures usage { result ≡ Err Refusal.Usage → IsNoMix word.now }
-{
-    match read_mix(alloc, word.as_bytes()) {
-        Ok(mix) => Ok(mix),
-        Err(MixFault::Syntax { .. }) => Err(Refusal::Usage),
-        Err(MixFault::NoMemory) => Err(Refusal::NoMemory),
-    }
-}
-
-fn schedule_of(alloc: Global, word: &str) -> Result<Schedule, Refusal>
-    ensures ok { IfOk result (λ schedule. schedule_word word.now schedule) }
-    ensures usage { result ≡ Err Refusal.Usage → IsNoSchedule word.now }
-{
-    match read_schedule(alloc, word.as_bytes()) {
-        Ok(schedule) => Ok(schedule),
-        Err(ScheduleFault::Syntax { .. }) => Err(Refusal::Usage),
-        Err(ScheduleFault::NoMemory) => Err(Refusal::NoMemory),
     }
 }

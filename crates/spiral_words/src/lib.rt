@@ -1,32 +1,27 @@
 //! What the words of a command line ask for, and the statuses with which a call ends.
 #![tactic(auto)]
 
-ghost use Rattle.std.specs.Prelude.{◌≡◌, ◌⊎◌, List, None, false};
-ghost use Rattle.clap.specs.Words.{Text, fault_of};
-ghost use Rattle.clap.specs.Walk.{is_empty};
+ghost use Rattle.std.specs.Prelude.{◌≡◌, ◌⊎◌, ◌↔◌, List};
+ghost use Rattle.clap.specs.Words.{Text};
 ghost use Rattle.spiral_words.specs.declared.command.Command.{Command};
-ghost use Rattle.spiral_words.specs.CommandLine.{spiral_app};
-ghost use Rattle.spiral_words.specs.Named.{named_of};
 ghost use Rattle.spiral_words.specs.Asked.{IsAsked, IsUsage};
+ghost use Rattle.spiral_words.specs.Refused.{IsRefused};
 
 mod app;
 mod command;
 mod line;
 mod number;
+mod order;
+mod reading;
 mod spiral_status;
 
-pub use command::{Command, Order, Refusal, command_of};
+pub use command::{Command, Document, FormulaCommand, Order, Refusal, RequestCommand};
+pub use reading::command_of;
 pub use spiral_status::{CERTIFICATE_LIMIT, LINE_LIMIT, Status, write_note};
 
-/// Words name no command only where clap refuses them.
-pub fn clap_refuses()
-    ensures { (words : List Text) → named_of words ≡ None
-        → is_empty (fault_of spiral_app words) ≡ false }
-{}
-
-/// Words that are no command line ask for nothing.
-pub fn usage_asks_nothing()
-    ensures { (words : List Text) (command : Command) → IsUsage words → IsAsked words command → ⊥ }
+/// Words ask for nothing where clap refuses them, or an option's text is outside its grammar, and there alone.
+pub fn usage_is_refusal()
+    ensures { (words : List Text) → IsUsage words ↔ IsRefused words }
 {}
 
 /// Words ask for one command.

@@ -2,7 +2,8 @@
 ghost use Rattle.std.specs.Prelude.{◌≡◌, ◌+◌, ◌<◌, ◌^◌, Err, IfOk};
 ghost use Rattle.grammar.specs.Cursor.{GivesAll};
 ghost use Rattle.grammar.specs.Reading.{number_at, whole};
-ghost use Rattle.spiral_words.specs.Asked.{IsNoModulus, IsNoSeed, modulus_word, seed_word};
+ghost use Rattle.spiral_words.specs.Asked.{modulus_word, seed_word};
+ghost use Rattle.spiral_words.specs.Refused.{IsNoModulus, IsNoSeed};
 
 use crate::command::Refusal;
 use grammar::{Cursor, Stuck};

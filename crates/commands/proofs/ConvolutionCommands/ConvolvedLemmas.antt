@@ -1,6 +1,6 @@
 -- What `convolve` comes to.
-use Rattle.std.proofs.Common.{◌≡◌, ◌≢◌, ◌⊎◌, ◌<◌, ◌≤◌, ◌+◌, ◌*◌, ◌-◌, ◌/◌, ℕ, zero, suc, true, false, List, [], ◌∷◌, ◌++◌, None, Some, Ok, Err, Result, length, drop, refl, sym, ap, subst, ◌∙◌, arith, append_assoc, length-append, inl, inr}
-use Rattle.std.proofs.KnownBytes.{Appends-nil, Consumes-trans}
+use Rattle.std.proofs.Common.{◌≡◌, ◌≢◌, ◌<◌, ◌≤◌, ◌+◌, ◌*◌, ◌-◌, ◌/◌, ℕ, zero, suc, Bool, true, false, List, [], ◌∷◌, ◌++◌, None, Some, Ok, Err, Result, length, drop, refl, sym, ap, subst, ◌∙◌, arith}
+use Rattle.std.proofs.KnownBytes.{Appends-nil}
 use Rattle.std.proofs.Math.Nat.{div-mul-le_self}
 use Rattle.std.proofs.lemmas.List.Elements.{All-from_get_or}
 use Rattle.std.proofs.lemmas.List.{length-drop}
@@ -8,10 +8,11 @@ use Rattle.std.specs.List.{All}
 use Rattle.std.specs.declared.option.Option.{Option}
 use Rattle.std.specs.Io.KnownBytes.{Appends, IsAtEnd}
 use Rattle.matrix_meaning.specs.Convolution.{convolution}
+use Rattle.generate.specs.ConvLetters.{conv_program}
 use Rattle.generate.specs.ConvPlanned.{IsConvPlanned}
 use Rattle.plan_search.specs.declared.convolving.ConvFault.{ConvFault}
 use Rattle.plan_search.specs.declared.convolving.ConvFault.TheVariants as conv
-use Rattle.data_stream.specs.Data.{tokens}
+use Rattle.data_stream.specs.Data.{tokens, closed_part}
 use Rattle.data_stream.specs.Vectors.{Cut}
 use Rattle.icode.specs.Machine.{Code, results}
 use Rattle.icode.specs.Program.{plain_program, code_of}
@@ -22,33 +23,34 @@ use Rattle.listing_text.specs.Listing.{listing_of}
 use Rattle.matrix_meaning.specs.declared.Request.{Request}
 use Rattle.par_machine.proofs.Schedules.{turns_there}
 use Rattle.request_text.specs.Schedule.{Plan}
-use Rattle.request_text.specs.Turns.{turns_of}
-use Rattle.spiral_words.specs.declared.Command.{Command}
-use Rattle.spiral_words.specs.declared.Command.TheVariants as command
+use Rattle.request_text.specs.Turns.{named, turns_of}
 use Rattle.spiral_words.specs.declared.spiral_status.status.Status.{Status}
 use Rattle.spiral_words.specs.declared.spiral_status.status.Status.TheVariants.{Success, WriteFault}
 use Rattle.spiral_words.specs.SpiralStatus.Fault.{status_of_conv, status_of_fault, status_of_stream}
 use Rattle.spiral_words.specs.SpiralStatus.Status.{IsDefined}
-use Rattle.commands.specs.SpiralInput.Asking.{asked_by, AsksBy, Asks}
-use Rattle.commands.specs.ConvolutionCommands.Convolved.{conv_spelt, IsConvolvable, IsConvRefused, conv_lines, IsConvText, conv_status, SettlesConv, conv_in, GoesOnBehind, BreaksOffConv, ComesToConv, conv_outcomes, data_outcomes, IsListProgram}
-use Rattle.commands.specs.SpiralInput.Line.{data_of, room_behind, HasEnded}
-use Rattle.commands.specs.SpiralInput.Refusals.{IsRefusal}
-use Rattle.commands.specs.SpiralInput.Stage.{HasGiven}
-use Rattle.commands.proofs.SpiralInput.InputLemmas.{none_read, none_left, none_cut, still_ended}
-use Rattle.commands.specs.SpiralInput.Outcomes.{Meets, ToldMeets}
-use Rattle.commands.proofs.SpiralInput.OutcomeLemmas.{meets_nothing}
-use Rattle.commands.proofs.SpiralInput.DataLemmas.{fine_by, reads_vectors, lines_equal}
-use Rattle.commands.proofs.SpiralInput.LineLemmas.{room_after, line_there}
 use Rattle.runs.specs.Progress.{HasCome, ReadsData, StreamsBehind, StreamsOn, lacking, HasNoVector}
 use Rattle.runs.specs.Texts.{run_text}
 use Rattle.runs.specs.Stream.{lines, group_vectors, vectors_of, data_answer, data_vectors, HasNoStranger, Writes}
 use Rattle.runs.specs.declared.stream.StreamFault.{StreamFault}
 use Rattle.runs.specs.declared.stream.StreamFault.TheVariants as stream
 use Rattle.runs.proofs.ProgressLemmas.{vectors_begin, come_unwritten}
+use Rattle.commands.specs.ConvolutionCommands.Convolved.{IsListProgram, list_work, work_by_list}
+use Rattle.commands.specs.Equations.Convolutions.{conv_spelt, conv_chosen}
+use Rattle.commands.specs.Equations.Convolve.{convolve_work, convolver_work, outcomes_by_list}
+use Rattle.commands.specs.Equations.Front.{line, by_front}
+use Rattle.commands.specs.Equations.Orders.{Planned, turned}
+use Rattle.commands.specs.Equations.Works.{Wants, a_first, the_first, by_first, mapping, status_by, ReadsOn}
+use Rattle.commands.specs.SpiralInput.Outcomes.{Outcomes, Meets, ToldMeets}
+use Rattle.commands.specs.SpiralInput.Refusals.{IsRefusal}
+use Rattle.commands.specs.SpiralInput.Stage.{◌>>=◌}
+use Rattle.commands.proofs.Documents.{with_tree}
+use Rattle.commands.proofs.SpiralInput.DataLemmas.{fine_by, reads_vectors, lines_equal}
+use Rattle.commands.proofs.SpiralInput.StageLemmas.{stage_told}
+use Rattle.commands.proofs.SpiralInput.Within.{Within, front_join}
 
 -- Refusals
 
-pub conv_refused : (request : Request) (fault : ConvFault) → (fault ≢ conv.NoMemory → IsConvPlanned request (Err fault)) → IsDefined (status_of_conv fault) → IsConvRefused request (status_of_conv fault)
+pub conv_refused : (request : Request) (fault : ConvFault) → (fault ≢ conv.NoMemory → IsConvPlanned request (Err fault)) → IsDefined (status_of_conv fault) → conv_chosen request (Err (status_of_conv fault))
 conv_refused request (conv.Root power) p d = (conv.Root power, p (λ e. cc), refl)
 conv_refused request (conv.NotPrincipal k) p d = (conv.NotPrincipal k, p (λ e. cc), refl)
 conv_refused request (conv.OverBudget cost budget) p d = (conv.OverBudget cost budget, p (λ e. cc), refl)
@@ -60,106 +62,115 @@ conv_refusal (conv.NotPrincipal k) = record { success = λ e. cc; read = λ e. c
 conv_refusal (conv.OverBudget cost budget) = record { success = λ e. cc; read = λ e. cc; write = λ e. cc; usage = λ e. cc }
 conv_refusal conv.NoMemory = record { success = λ e. cc; read = λ e. cc; write = λ e. cc; usage = λ e. cc }
 
--- there is no program
-pub convolves_refused : (wanted : Command) (request : Request) (room : ℕ) (before left out : Option (List ℕ)) (status : Status)
-    → (IsDefined status → IsConvRefused request status) → IsRefusal status → ToldMeets (data_outcomes wanted request room) before left out out status
-convolves_refused wanted request room None left out status refused r = tt
-convolves_refused wanted request room (Some bytes) left out status refused r =
-    meets_nothing (data_outcomes wanted request room) bytes left out status (λ d. inl (refused d, refl)) r.read r.write
-
 -- Data without a list
 
-none_behind : (wanted : Command) → GoesOnBehind wanted []
-none_behind (command.Convolve schedule true) = refl
-none_behind (command.Convolve schedule false) = tt
-none_behind _ = tt
+-- where no vector is there, a work that wants one lacks it
+pub record WantsList (wants : Wants) (size : ℕ) : Type 0 where
+  pub lacks : (answer : Result (Unit {0}) StreamFault) → status_by wants size answer [] ≡ status_of_fault (lacking size answer)
+  pub on : ReadsOn wants []
 
--- the status of an answer that has no vector
-no_list : (wanted : Command) (request : Request) (room : ℕ) (bytes : List ℕ) (answer : Result (Unit {0}) StreamFault) (status : Status)
-    → status ≡ status_of_fault (lacking request.size answer) → data_answer request.size room bytes ≡ answer → data_vectors request.size request.modulus room bytes ≡ []
-    → SettlesConv wanted request room bytes status []
-no_list wanted request room bytes answer status same a v = (
-  same ∙ sym (ap (λ r. status_of_fault (lacking request.size r)) a) ∙ sym (ap (conv_status wanted request.size (data_answer request.size room bytes)) v),
-  subst (λ vectors. IsConvText wanted request vectors []) (sym v) refl,
-)
+module _ (wants : Wants) (size modulus : ℕ) (list : WantsList wants size) (IsText : List ℕ → List (List ℕ) → List ℕ → Type 0) where
+  abbrev work : ℕ → Outcomes
+  work = mapping wants size modulus (by_first IsText)
 
-lacks : (wanted : Command) (request : Request) (old new : Fed) (bytes rest : List ℕ) (out : Option (List ℕ)) (result : Result (Unit {0}) StreamFault)
-    → IsConvolvable request → old.taken ≤ limit → (lacking request.size result ≢ stream.TooLong → new.taken ≤ limit) → result ≢ Err stream.WriteFault → ReadsData request.size request.modulus old new (Some bytes) (Some rest) [] result
-    → Meets (data_outcomes wanted request (limit - old.taken)) bytes (Some rest) out out (status_of_fault (lacking request.size result))
-lacks wanted request old new bytes rest out (Ok u) able start ends other r = record {
-  answer = λ d. ([], inr (able, no_list wanted request (limit - old.taken) bytes (Ok u) _ refl (r.told start).0 (r.told start).1), Appends-nil out);
-  read_fault = λ e. absurd (cc);
-  write_fault = λ e. absurd (cc);
-}
-lacks wanted request old new bytes rest out (Err (stream.Truncated have need)) able start ends other r = record {
-  answer = λ d. ([], inr (able, no_list wanted request (limit - old.taken) bytes (Err (stream.Truncated have need)) _ refl (r.told start).0 (r.told start).1), Appends-nil out);
-  read_fault = λ e. absurd (cc);
-  write_fault = λ e. absurd (cc);
-}
-lacks wanted request old new bytes rest out (Err (stream.BadNumber token)) able start ends other r = record {
-  answer = λ d. ([], inr (able, no_list wanted request (limit - old.taken) bytes (Err (stream.BadNumber token)) _ refl (r.told start).0 (r.told start).1), Appends-nil out);
-  read_fault = λ e. absurd (cc);
-  write_fault = λ e. absurd (cc);
-}
-lacks wanted request old new bytes rest out (Err stream.TooLong) able start ends other r = record {
-  answer = λ d. ([], inr (able, no_list wanted request (limit - old.taken) bytes (Err stream.TooLong) _ refl (r.told start).0 (r.told start).1), Appends-nil out);
-  read_fault = λ e. absurd (cc);
-  write_fault = λ e. absurd (cc);
-}
-lacks wanted request old new bytes rest out (Err stream.ReadFault) able start ends other r = record {
-  answer = λ d. absurd (d.read refl);
-  read_fault = λ _. (
-    r.read,
+  lacked : (room : ℕ) (bytes : List ℕ) (answer : Result (Unit {0}) StreamFault) (out : Option (List ℕ))
+      → data_answer size room bytes ≡ answer → data_vectors size modulus room bytes ≡ []
+      → (text : List ℕ) × (work room).answer bytes (status_of_fault (lacking size answer)) text × Appends out out text
+  lacked room bytes answer out a v = (
     [],
-    r.consumed,
     (
-      able,
-      (
-        fine_by old.taken new.taken r.read r.answer.0 (ends (λ e. cc)) r.answer.1,
-        subst (GoesOnBehind wanted) (sym r.answer.2) (none_behind wanted),
-        subst (λ vectors. IsConvText wanted request vectors []) (sym r.answer.2) refl,
-      ),
+      sym (list.lacks answer) ∙ sym (ap (λ r. status_by wants size r []) a) ∙ sym (ap (status_by wants size (data_answer size room bytes)) v),
+      subst (λ vectors. by_first IsText vectors []) (sym v) refl,
     ),
     Appends-nil out,
-  );
-  write_fault = λ e. absurd (cc);
-}
-lacks wanted request old new bytes rest out (Err stream.WriteFault) able start ends other r = absurd (other refl)
+  )
 
-pub convolves_lacking : (wanted : Command) (request : Request) (old new : Fed) (before after out : Option (List ℕ)) (fault : StreamFault)
-    → IsConvolvable request → old.taken ≤ limit → (fault ≢ stream.TooLong → new.taken ≤ limit) → HasNoVector request.size request.modulus old new before after fault
-    → ToldMeets (data_outcomes wanted request (limit - old.taken)) before after out out (status_of_fault fault)
-convolves_lacking wanted request old new None after out fault able start ends none = tt
-convolves_lacking wanted request old new (Some bytes) None out fault able start ends none = absurd none.2.consumed
-convolves_lacking wanted request old new (Some bytes) (Some rest) out fault able start ends none =
-    subst (λ f. Meets (data_outcomes wanted request (limit - old.taken)) bytes (Some rest) out out (status_of_fault f)) (sym none.3)
-    (lacks wanted request old new bytes rest out none.0 able start (subst (λ (f : StreamFault). f ≢ stream.TooLong → new.taken ≤ limit) none.3 ends) none.1 none.2)
+  lacks : (old new : Fed) (bytes rest : List ℕ) (out : Option (List ℕ)) (result : Result (Unit {0}) StreamFault)
+      → old.taken ≤ limit → (lacking size result ≢ stream.TooLong → new.taken ≤ limit) → result ≢ Err stream.WriteFault
+      → ReadsData size modulus old new (Some bytes) (Some rest) [] result
+      → Meets (work (limit - old.taken)) bytes (Some rest) out out (status_of_fault (lacking size result))
+  lacks old new bytes rest out (Ok u) start ends other r = record {
+    answer = λ d. lacked (limit - old.taken) bytes (Ok u) out (r.told start).0 (r.told start).1;
+    read_fault = λ e. absurd (cc);
+    write_fault = λ e. absurd (cc);
+  }
+  lacks old new bytes rest out (Err (stream.Truncated have need)) start ends other r = record {
+    answer = λ d. lacked (limit - old.taken) bytes (Err (stream.Truncated have need)) out (r.told start).0 (r.told start).1;
+    read_fault = λ e. absurd (cc);
+    write_fault = λ e. absurd (cc);
+  }
+  lacks old new bytes rest out (Err (stream.BadNumber token)) start ends other r = record {
+    answer = λ d. lacked (limit - old.taken) bytes (Err (stream.BadNumber token)) out (r.told start).0 (r.told start).1;
+    read_fault = λ e. absurd (cc);
+    write_fault = λ e. absurd (cc);
+  }
+  lacks old new bytes rest out (Err stream.TooLong) start ends other r = record {
+    answer = λ d. lacked (limit - old.taken) bytes (Err stream.TooLong) out (r.told start).0 (r.told start).1;
+    read_fault = λ e. absurd (cc);
+    write_fault = λ e. absurd (cc);
+  }
+  lacks old new bytes rest out (Err stream.ReadFault) start ends other r = record {
+    answer = λ d. absurd (d.read refl);
+    read_fault = λ _. (
+      r.read,
+      [],
+      r.consumed,
+      (
+        fine_by old.taken new.taken r.read r.answer.0 (ends (λ e. cc)) r.answer.1,
+        subst (ReadsOn wants) (sym r.answer.2) list.on,
+        subst (λ vectors. by_first IsText vectors []) (sym r.answer.2) refl,
+      ),
+      Appends-nil out,
+    );
+    write_fault = λ e. absurd (cc);
+  }
+  lacks old new bytes rest out (Err stream.WriteFault) start ends other r = absurd (other refl)
+
+  pub list_lacking : (old new : Fed) (before after out : Option (List ℕ)) (fault : StreamFault)
+      → old.taken ≤ limit → (fault ≢ stream.TooLong → new.taken ≤ limit) → HasNoVector size modulus old new before after fault
+      → ToldMeets (work (limit - old.taken)) before after out out (status_of_fault fault)
+  list_lacking old new None after out fault start ends none = tt
+  list_lacking old new (Some bytes) None out fault start ends none = absurd none.2.consumed
+  list_lacking old new (Some bytes) (Some rest) out fault start ends none =
+      subst (λ f. Meets (work (limit - old.taken)) bytes (Some rest) out out (status_of_fault f)) (sym none.3)
+      (lacks old new bytes rest out none.0 start (subst (λ (f : StreamFault). f ≢ stream.TooLong → new.taken ≤ limit) none.3 ends) none.1 none.2)
+
+list_told : (code : Bool) (plan : Planned) (old new : Fed) (before after out : Option (List ℕ)) (fault : StreamFault)
+    → old.taken ≤ limit → (fault ≢ stream.TooLong → new.taken ≤ limit) → HasNoVector plan.request.size plan.request.modulus old new before after fault
+    → ToldMeets (list_work code plan (limit - old.taken)) before after out out (status_of_fault fault)
+list_told false plan old new before after out fault start ends none =
+    list_lacking a_first plan.request.size plan.request.modulus (record { lacks = λ answer. refl; on = tt }) _ old new before after out fault start ends none
+list_told true plan old new before after out fault start ends none =
+    list_lacking the_first plan.request.size plan.request.modulus (record { lacks = λ answer. refl; on = refl }) _ old new before after out fault start ends none
+
+pub convolves_lacking : (code : Bool) (plan : Planned) (request : Request) (old new : Fed) (before after out : Option (List ℕ)) (fault : StreamFault)
+    → conv_chosen request (Ok plan) → old.taken ≤ limit → (fault ≢ stream.TooLong → new.taken ≤ limit)
+    → HasNoVector plan.request.size plan.request.modulus old new before after fault
+    → ToldMeets (work_by_list code request (limit - old.taken)) before after out out (status_of_fault fault)
+convolves_lacking code plan request old new before after out fault chosen start ends none =
+    stage_told (conv_chosen request) (list_work code) (limit - old.taken) plan before after out out (status_of_fault fault) chosen
+    (list_told code plan old new before after out fault start ends none)
 
 -- The listing
 
-abbrev listing_for : Plan → Command
-listing_for schedule = command.Convolve schedule true
-
 -- all of it is written
-pub convolves_listing : (schedule : Plan) (request : Request) (cut : Cut) (old new : Fed) (before after out out' : Option (List ℕ)) (h listing : List ℕ) (program : Program)
-    → cut.size ≡ request.size → HasCome request.modulus cut old new before after (h ∷ []) → old.taken ≤ limit → new.taken ≤ limit → (cut.ended ≡ true → IsAtEnd after)
-    → IsListProgram request h program → listing ≡ listing_of (plain_program program) → Appends out out' listing
-    → ToldMeets (data_outcomes (listing_for schedule) request (limit - old.taken)) before after out out' Success
-convolves_listing schedule request cut old new None after out out' h listing program size come start within end made same wrote = tt
-convolves_listing schedule request cut old new (Some bytes) None out out' h listing program size come start within end made same wrote = absurd come.progress.consumed
-convolves_listing schedule request cut old new (Some bytes) (Some rest) out out' h listing program size come start within end made same wrote =
+listing_told : (plan : Planned) (cut : Cut) (old new : Fed) (before after out out' : Option (List ℕ)) (h listing : List ℕ)
+    → cut.size ≡ plan.request.size → HasCome plan.request.modulus cut old new before after (h ∷ []) → old.taken ≤ limit → new.taken ≤ limit → (cut.ended ≡ true → IsAtEnd after)
+    → listing ≡ listing_of (conv_program plan.request plan.tree h) → Appends out out' listing
+    → ToldMeets (convolver_work plan (limit - old.taken)) before after out out' Success
+listing_told plan cut old new None after out out' h listing size come start within end same wrote = tt
+listing_told plan cut old new (Some bytes) None out out' h listing size come start within end same wrote = absurd come.progress.consumed
+listing_told plan cut old new (Some bytes) (Some rest) out out' h listing size come start within end same wrote =
+    let request : Request = plan.request in
     let room = limit - old.taken in
     let first = vectors_begin request.modulus cut old new bytes rest (h ∷ []) come start within end in
     let seen : data_vectors request.size request.modulus room bytes ≡ h ∷ first.0 = ap (λ n. data_vectors n request.modulus room bytes) (sym size) ∙ first.1 in
     record {
       answer = λ d. (
         listing,
-        inr (
-          (made.tree, made.planned),
-          (
-            sym (ap (conv_status (listing_for schedule) request.size (data_answer request.size room bytes)) seen),
-            subst (λ vectors. IsConvText (listing_for schedule) request vectors listing) (sym seen) (program, made, same),
-          ),
+        (
+          sym (ap (status_by the_first request.size (data_answer request.size room bytes)) seen),
+          subst (λ vectors. by_first (λ x later text. text ≡ listing_of (conv_program request plan.tree x)) vectors listing) (sym seen) same,
         ),
         wrote,
       );
@@ -167,14 +178,23 @@ convolves_listing schedule request cut old new (Some bytes) (Some rest) out out'
       write_fault = λ e. absurd (cc);
     }
 
+pub convolves_listing : (request : Request) (cut : Cut) (old new : Fed) (before after out out' : Option (List ℕ)) (h listing : List ℕ) (program : Program)
+    → cut.size ≡ request.size → HasCome request.modulus cut old new before after (h ∷ []) → old.taken ≤ limit → new.taken ≤ limit → (cut.ended ≡ true → IsAtEnd after)
+    → IsListProgram request h program → listing ≡ listing_of (plain_program program) → Appends out out' listing
+    → ToldMeets (work_by_list true request (limit - old.taken)) before after out out' Success
+convolves_listing request cut old new before after out out' h listing program size come start within end made same wrote =
+    stage_told (conv_chosen request) convolver_work (limit - old.taken) (with_tree request made.tree) before after out out' Success (refl, made.planned)
+    (listing_told (with_tree request made.tree) cut old new before after out out' h listing size come start within end (same ∙ ap listing_of made.letters) wrote)
+
 -- a front of it is written
-pub convolves_cut : (schedule : Plan) (request : Request) (cut : Cut) (old new : Fed) (before after out out' : Option (List ℕ)) (h listing : List ℕ) (program : Program)
-    → cut.size ≡ request.size → 0 < request.size → HasCome request.modulus cut old new before after (h ∷ []) → new.taken ≤ limit → (cut.ended ≡ true → IsAtEnd after)
-    → IsListProgram request h program → listing ≡ listing_of (plain_program program) → AppendsPrefix out out' listing
-    → ToldMeets (data_outcomes (listing_for schedule) request (limit - old.taken)) before after out out' WriteFault
-convolves_cut schedule request cut old new None after out out' h listing program size some come within end made same wrote = tt
-convolves_cut schedule request cut old new (Some bytes) None out out' h listing program size some come within end made same wrote = absurd come.progress.consumed
-convolves_cut schedule request cut old new (Some bytes) (Some rest) out out' h listing program size some come within end made same wrote =
+listing_cut : (plan : Planned) (cut : Cut) (old new : Fed) (before after out out' : Option (List ℕ)) (h listing : List ℕ)
+    → cut.size ≡ plan.request.size → 0 < plan.request.size → HasCome plan.request.modulus cut old new before after (h ∷ []) → new.taken ≤ limit → (cut.ended ≡ true → IsAtEnd after)
+    → listing ≡ listing_of (conv_program plan.request plan.tree h) → AppendsPrefix out out' listing
+    → ToldMeets (convolver_work plan (limit - old.taken)) before after out out' WriteFault
+listing_cut plan cut old new None after out out' h listing size some come within end same wrote = tt
+listing_cut plan cut old new (Some bytes) None out out' h listing size some come within end same wrote = absurd come.progress.consumed
+listing_cut plan cut old new (Some bytes) (Some rest) out out' h listing size some come within end same wrote =
+    let request : Request = plan.request in
     let r = come_unwritten request.modulus cut old new (Some bytes) (Some rest) (h ∷ []) (omega (arith, some, size)) within end come in
     let seen : vectors_of request.size request.modulus (tokens r.read) ≡ h ∷ [] = ap (λ n. vectors_of n request.modulus (tokens r.read)) (sym size) ∙ r.answer.3 in
     record {
@@ -188,21 +208,26 @@ convolves_cut schedule request cut old new (Some bytes) (Some rest) out out' h l
         r.consumed,
         refl,
         (
-          (made.tree, made.planned),
-          (
-            fine_by old.taken new.taken r.read r.answer.0 within r.answer.1,
-            r.answer.2,
-            subst (λ vectors. IsConvText (listing_for schedule) request vectors listing) (sym seen) (program, made, same),
-          ),
+          fine_by old.taken new.taken r.read r.answer.0 within r.answer.1,
+          r.answer.2,
+          subst (λ vectors. by_first (λ x later text. text ≡ listing_of (conv_program request plan.tree x)) vectors listing) (sym seen) same,
         ),
         wrote,
       );
     }
 
+pub convolves_cut : (request : Request) (cut : Cut) (old new : Fed) (before after out out' : Option (List ℕ)) (h listing : List ℕ) (program : Program)
+    → cut.size ≡ request.size → 0 < request.size → HasCome request.modulus cut old new before after (h ∷ []) → new.taken ≤ limit → (cut.ended ≡ true → IsAtEnd after)
+    → IsListProgram request h program → listing ≡ listing_of (plain_program program) → AppendsPrefix out out' listing
+    → ToldMeets (work_by_list true request (limit - old.taken)) before after out out' WriteFault
+convolves_cut request cut old new before after out out' h listing program size some come within end made same wrote =
+    stage_told (conv_chosen request) convolver_work (limit - old.taken) (with_tree request made.tree) before after out out' WriteFault (refl, made.planned)
+    (listing_cut (with_tree request made.tree) cut old new before after out out' h listing size some come within end (same ∙ ap listing_of made.letters) wrote)
+
 -- The lines of a run
 
-abbrev lines_for : Plan → Command
-lines_for schedule = command.Convolve schedule false
+abbrev conv_lines : Request → List ℕ → List (List ℕ) → List ℕ
+conv_lines request h vectors = lines (convolution request.modulus request.size h) vectors
 
 tail_same : (x y : List ℕ) (xs ys : List (List ℕ)) → x ∷ xs ≡ y ∷ ys → xs ≡ ys
 tail_same x y xs ys e = cc
@@ -227,71 +252,76 @@ convolved_lines request h program code turns later made same some there whole =
     λ x full below. ap (λ k. results k x turns) same ∙ made.convolver.product x turns (record { size = full; residues = below }) there in
     later_lines request.size request.modulus f g each some (length whole.0 / request.size) whole.0 h later (div-mul-le_self (length whole.0) request.size) whole.1
 
--- where nothing failed
-lines_answer : (schedule : Plan) (request : Request) (room : ℕ) (bytes h : List ℕ) (later : List (List ℕ)) (result : Result (Unit {0}) StreamFault) (text : List ℕ) (out out' : Option (List ℕ))
-    → IsConvolvable request → data_answer request.size room bytes ≡ result → data_vectors request.size request.modulus room bytes ≡ h ∷ later → text ≡ conv_lines request h later → Appends out out' text
-    → (written : List ℕ) × ((IsConvRefused request (status_of_stream result) × (written ≡ [])) ⊎ (IsConvolvable request × SettlesConv (lines_for schedule) request room bytes (status_of_stream result) written)) × Appends out out' written
-lines_answer schedule request room bytes h later result text out out' able a v same wrote = (
-  text,
-  inr (
-    able,
-    (
-      sym (ap (conv_status (lines_for schedule) request.size (data_answer request.size room bytes)) v ∙ ap status_of_stream a),
-      subst (λ vectors. IsConvText (lines_for schedule) request vectors text) (sym v) same,
-    ),
-  ),
-  wrote,
-)
+module _ (request : Request) where
+  abbrev IsLines : List (List ℕ) → List ℕ → Type 0
+  IsLines = by_first (λ h later text. text ≡ conv_lines request h later)
 
--- by each way in which it may end
-lines_ended : (schedule : Plan) (request : Request) (old new : Fed) (bytes rest h : List ℕ) (later : List (List ℕ)) (out out' : Option (List ℕ)) (text : List ℕ) (result : Result (Unit {0}) StreamFault)
-    → IsConvolvable request → old.taken ≤ limit → (result ≢ Err stream.TooLong → new.taken ≤ limit) → ReadsData request.size request.modulus old new (Some bytes) (Some rest) (h ∷ later) result → text ≡ conv_lines request h later → Writes out out' result text
-    → Meets (data_outcomes (lines_for schedule) request (limit - old.taken)) bytes (Some rest) out out' (status_of_stream result)
-lines_ended schedule request old new bytes rest h later out out' text (Ok u) able start ends r same wrote = record {
-  answer = λ d. lines_answer schedule request (limit - old.taken) bytes h later (Ok u) text out out' able (r.told start).0 (r.told start).1 same wrote;
-  read_fault = λ e. absurd (cc);
-  write_fault = λ e. absurd (cc);
-}
-lines_ended schedule request old new bytes rest h later out out' text (Err (stream.Truncated have need)) able start ends r same wrote = record {
-  answer = λ d. lines_answer schedule request (limit - old.taken) bytes h later (Err (stream.Truncated have need)) text out out' able (r.told start).0 (r.told start).1 same wrote;
-  read_fault = λ e. absurd (cc);
-  write_fault = λ e. absurd (cc);
-}
-lines_ended schedule request old new bytes rest h later out out' text (Err (stream.BadNumber token)) able start ends r same wrote = record {
-  answer = λ d. lines_answer schedule request (limit - old.taken) bytes h later (Err (stream.BadNumber token)) text out out' able (r.told start).0 (r.told start).1 same wrote;
-  read_fault = λ e. absurd (cc);
-  write_fault = λ e. absurd (cc);
-}
-lines_ended schedule request old new bytes rest h later out out' text (Err stream.TooLong) able start ends r same wrote = record {
-  answer = λ d. lines_answer schedule request (limit - old.taken) bytes h later (Err stream.TooLong) text out out' able (r.told start).0 (r.told start).1 same wrote;
-  read_fault = λ e. absurd (cc);
-  write_fault = λ e. absurd (cc);
-}
-lines_ended schedule request old new bytes rest h later out out' text (Err stream.ReadFault) able start ends r same wrote = record {
-  answer = λ d. absurd (d.read refl);
-  read_fault = λ _. (
-    r.read,
+  abbrev convolving : ℕ → Outcomes
+  convolving = mapping a_first request.size request.modulus IsLines
+
+  -- where nothing failed
+  lines_answer : (room : ℕ) (bytes h : List ℕ) (later : List (List ℕ)) (result : Result (Unit {0}) StreamFault) (text : List ℕ) (out out' : Option (List ℕ))
+      → data_answer request.size room bytes ≡ result → data_vectors request.size request.modulus room bytes ≡ h ∷ later → text ≡ conv_lines request h later → Appends out out' text
+      → (written : List ℕ) × (convolving room).answer bytes (status_of_stream result) written × Appends out out' written
+  lines_answer room bytes h later result text out out' a v same wrote = (
     text,
-    r.consumed,
-    (able, (fine_by old.taken new.taken r.read r.answer.0 (ends (λ e. cc)) r.answer.1, tt, subst (λ vectors. IsConvText (lines_for schedule) request vectors text) (sym r.answer.2) same)),
+    (
+      sym (ap (status_by a_first request.size (data_answer request.size room bytes)) v ∙ ap status_of_stream a),
+      subst (λ vectors. IsLines vectors text) (sym v) same,
+    ),
     wrote,
-  );
-  write_fault = λ e. absurd (cc);
-}
-lines_ended schedule request old new bytes rest h later out out' text (Err stream.WriteFault) able start ends r same wrote = record {
-  answer = λ d. absurd (d.write refl);
-  read_fault = λ e. absurd (cc);
-  write_fault = λ _. (
-    r.read,
-    [],
-    rest,
-    text,
-    r.consumed,
-    refl,
-    (able, (fine_by old.taken new.taken r.read r.answer.0 (ends (λ e. cc)) r.answer.1, r.answer.2, subst (λ vectors. IsConvText (lines_for schedule) request vectors text) (sym r.answer.3) same)),
-    wrote,
-  );
-}
+  )
+
+  -- by each way in which it may end
+  lines_ended : (old new : Fed) (bytes rest h : List ℕ) (later : List (List ℕ)) (out out' : Option (List ℕ)) (text : List ℕ) (result : Result (Unit {0}) StreamFault)
+      → old.taken ≤ limit → (result ≢ Err stream.TooLong → new.taken ≤ limit) → ReadsData request.size request.modulus old new (Some bytes) (Some rest) (h ∷ later) result
+      → text ≡ conv_lines request h later → Writes out out' result text
+      → Meets (convolving (limit - old.taken)) bytes (Some rest) out out' (status_of_stream result)
+  lines_ended old new bytes rest h later out out' text (Ok u) start ends r same wrote = record {
+    answer = λ d. lines_answer (limit - old.taken) bytes h later (Ok u) text out out' (r.told start).0 (r.told start).1 same wrote;
+    read_fault = λ e. absurd (cc);
+    write_fault = λ e. absurd (cc);
+  }
+  lines_ended old new bytes rest h later out out' text (Err (stream.Truncated have need)) start ends r same wrote = record {
+    answer = λ d. lines_answer (limit - old.taken) bytes h later (Err (stream.Truncated have need)) text out out' (r.told start).0 (r.told start).1 same wrote;
+    read_fault = λ e. absurd (cc);
+    write_fault = λ e. absurd (cc);
+  }
+  lines_ended old new bytes rest h later out out' text (Err (stream.BadNumber token)) start ends r same wrote = record {
+    answer = λ d. lines_answer (limit - old.taken) bytes h later (Err (stream.BadNumber token)) text out out' (r.told start).0 (r.told start).1 same wrote;
+    read_fault = λ e. absurd (cc);
+    write_fault = λ e. absurd (cc);
+  }
+  lines_ended old new bytes rest h later out out' text (Err stream.TooLong) start ends r same wrote = record {
+    answer = λ d. lines_answer (limit - old.taken) bytes h later (Err stream.TooLong) text out out' (r.told start).0 (r.told start).1 same wrote;
+    read_fault = λ e. absurd (cc);
+    write_fault = λ e. absurd (cc);
+  }
+  lines_ended old new bytes rest h later out out' text (Err stream.ReadFault) start ends r same wrote = record {
+    answer = λ d. absurd (d.read refl);
+    read_fault = λ _. (
+      r.read,
+      text,
+      r.consumed,
+      (fine_by old.taken new.taken r.read r.answer.0 (ends (λ e. cc)) r.answer.1, tt, subst (λ vectors. IsLines vectors text) (sym r.answer.2) same),
+      wrote,
+    );
+    write_fault = λ e. absurd (cc);
+  }
+  lines_ended old new bytes rest h later out out' text (Err stream.WriteFault) start ends r same wrote = record {
+    answer = λ d. absurd (d.write refl);
+    read_fault = λ e. absurd (cc);
+    write_fault = λ _. (
+      r.read,
+      [],
+      rest,
+      text,
+      r.consumed,
+      refl,
+      (fine_by old.taken new.taken r.read r.answer.0 (ends (λ e. cc)) r.answer.1, r.answer.2, subst (λ vectors. IsLines vectors text) (sym r.answer.3) same),
+      wrote,
+    );
+  }
 
 -- the turns of the schedule are of the one processor
 conv_turns : (schedule : Plan) (request : Request) (procs : ℕ) → request.procs ≡ 1 → procs ≡ 1 → HasNoStranger schedule 1 → All (λ q. q < request.procs) (turns_of schedule procs)
@@ -303,14 +333,14 @@ run_told : {S : Type 0} (schedule : Plan) (request : Request) (code : Code) (old
     (result : Result (Unit {0}) StreamFault)
     → IsListProgram request h program → code ≡ code_of program → request.procs ≡ 1 → 0 < request.modulus → HasNoStranger schedule 1 → old.taken ≤ limit → (result ≢ Err stream.TooLong → new.taken ≤ limit)
     → StreamsBehind (h ∷ []) (run_text false code (turns_of schedule code.procs)) leaves request.size request.modulus old new before after out out' first last result
-    → ToldMeets (data_outcomes (lines_for schedule) request (limit - old.taken)) before after out out' (status_of_stream result)
+    → ToldMeets (convolving request (limit - old.taken)) before after out out' (status_of_stream result)
 run_told schedule request code old new None after out out' h program leaves first last result made same own some none start ends s = tt
 run_told schedule request code old new (Some bytes) None out out' h program leaves first last result made same own some none start ends s = absurd s.reads.consumed
 run_told schedule request code old new (Some bytes) (Some rest) out out' h program leaves first last result made same own some none start ends s =
     let turns = turns_of schedule code.procs in
     let one : code.procs ≡ 1 = ap (λ (k : Code). k.procs) same ∙ made.convolver.header.procs ∙ own in
     let whole = reads_vectors request.size request.modulus old new s.reads.read (rest ≡ []) (h ∷ s.later) result s.reads.answer in
-    lines_ended schedule request old new bytes rest h s.later out out' (lines (λ x. results code x turns) s.later) result (made.tree, made.planned) start ends s.reads
+    lines_ended request old new bytes rest h s.later out out' (lines (λ x. results code x turns) s.later) result start ends s.reads
     (convolved_lines request h program code turns s.later made same some (conv_turns schedule request code.procs own one none) whole) s.wrote
 
 -- the list has come, by what the machine's code says of the modulus
@@ -325,96 +355,22 @@ pub convolves_run : {S : Type 0} (schedule : Plan) (request : Request) (code : C
     → IsListProgram request h program → code ≡ code_of program → cut.size ≡ request.size → request.procs ≡ 1 → 0 < request.modulus → HasNoStranger schedule 1 → old.taken ≤ limit → (result ≢ Err stream.TooLong → new.taken ≤ limit)
     → HasCome request.modulus cut old now before mid (h ∷ [])
     → StreamsOn (run_text false code (turns_of schedule code.procs)) leaves code.modulus cut now new mid after out out' first last result
-    → ToldMeets (data_outcomes (lines_for schedule) request (limit - old.taken)) before after out out' (status_of_stream result)
+    → ToldMeets (work_by_list false request (limit - old.taken)) before after out out' (status_of_stream result)
 convolves_run schedule request code cut old now new before mid after out out' h program leaves first last result made same size own some none start ends come s =
     let text : List ℕ → List ℕ = run_text false code (turns_of schedule code.procs) in
     let modulus : code.modulus ≡ request.modulus = ap (λ (k : Code). k.modulus) same ∙ made.convolver.header.modulus in
-    run_told schedule request code old new before after out out' h program leaves first last result made same own some none start ends
+    stage_told (conv_chosen request) convolve_work (limit - old.taken) (with_tree request made.tree) before after out out' (status_of_stream result) (refl, made.planned)
+    (run_told schedule request code old new before after out out' h program leaves first last result made same own some none start ends
     (subst (λ n. StreamsBehind (h ∷ []) text leaves n request.modulus old new before after out out' first last result) size
     (subst (λ m. StreamsBehind (h ∷ []) text leaves cut.size m old new before after out out' first last result) modulus
-    (s old before (h ∷ []) (list_come request code cut old now before mid h program made same come))))
+    (s old before (h ∷ []) (list_come request code cut old now before mid h program made same come)))))
 
 -- From what stands behind the line to the whole input
 
--- the call ends with the line
-pub convolves_line : (wanted : Command) (before after out : Option (List ℕ)) (taken : ℕ) (status : Status)
-    → Asks conv_spelt wanted before after taken (Err status) → status ≢ WriteFault → ToldMeets (conv_outcomes wanted) before after out out status
-convolves_line wanted None after out taken status a other = tt
-convolves_line wanted (Some bytes) None out taken status a other = absurd a
-convolves_line wanted (Some bytes) (Some rest) out taken status a other = record {
-  answer = λ d. ([], inl (inl (subst (λ b. asked_by conv_spelt wanted b (Err status)) (sym a.1) (a.2.0 d)), refl), Appends-nil out);
-  read_fault = λ e. (a.0, [], a.1, inl (a.2.1 e, refl), Appends-nil out);
-  write_fault = λ e. absurd (other e);
-}
+-- what is right by the line of a request, and then behind it
+abbrev pub by_line : Plan → Bool → Outcomes
+by_line schedule code = by_front (line 256) (λ text. conv_spelt text >>= turned (named schedule)) (work_by_list code)
 
--- what is done behind the line is what the call does
-convolves_after : (wanted : Command) (bytes read rest : List ℕ) (taken : ℕ) (request : Request) (left out out' : Option (List ℕ)) (status : Status)
-    → bytes ≡ read ++ rest → AsksBy conv_spelt wanted read rest taken (Ok request) → Meets (data_outcomes wanted request (limit - taken)) rest left out out' status
-    → Meets (conv_outcomes wanted) bytes left out out' status
-convolves_after wanted bytes read rest taken request left out out' status whole asked p =
-    let here = asked.1 rest (λ e. e) in
-    let data_here : data_of bytes ≡ rest = ap data_of whole ∙ here.1 in
-    let count : length bytes ≡ length read + length rest = ap length whole ∙ length-append read rest in
-    let same : length (data_of bytes) ≡ length rest = ap length data_here in
-    let room : limit - taken ≡ room_behind bytes = ap (λ n. limit - n) (let first = asked.0 in omega arith) in
-    let line : HasEnded read (rest ≡ []) = line_there read rest (λ more none. (asked.1 more none).1) in
-    let over : (more : List ℕ) (ended : Type 0) → (rest ≡ [] → more ≡ []) → (rest ≡ [] → ended) → IsConvolvable request → HasGiven (HasEnded (read ++ more) ended) (conv_in wanted (read ++ more)) request =
-    λ more ended none goes able. record {
-      front = still_ended read more (rest ≡ []) ended line goes;
-      gives = record { value = request; before = (asked.1 more none).0; behind = (able, refl) };
-    } in
-    let asked_here : asked_by conv_spelt wanted bytes (Ok request) = subst (λ b. asked_by conv_spelt wanted b (Ok request)) (sym whole) here.0 in
-    record {
-      answer = λ d.
-          let found = p.answer d in (
-            found.0,
-            elim found.1 [
-              | inl refused ↦ inl (inr (record { value = request; before = asked_here; behind = refused.0 }), refused.1)
-              | inr settled ↦ inr (
-                request,
-                record { value = request; before = asked_here; behind = (settled.0, refl) },
-                subst (λ n. SettlesConv wanted request n (data_of bytes) status found.0) room
-                    (subst (λ b. SettlesConv wanted request (limit - taken) b status found.0) (sym data_here) settled.1),
-              )
-            ],
-            found.2,
-          );
-      read_fault = λ e.
-          let found = p.read_fault e in
-          let none : rest ≡ [] → found.0 ≡ [] = none_read rest found.0 left found.2 in (
-            read ++ found.0,
-            found.1,
-            Consumes-trans (Some bytes) (Some rest) left read found.0 whole found.2,
-            inr (
-              request,
-              over found.0 (IsAtEnd left) none (none_left rest found.0 left found.2) found.3.0,
-              subst (λ n. BreaksOffConv wanted request n (data_of (read ++ found.0)) found.1) (room_after read found.0 taken asked.0 (asked.1 found.0 none).1)
-                  (subst (λ b. BreaksOffConv wanted request (limit - taken) b found.1) (sym (asked.1 found.0 none).1) found.3.1),
-            ),
-            found.4,
-          );
-      write_fault = λ e.
-          let found = p.write_fault e in
-          let later : List ℕ = found.1 ++ found.2 in
-          let none : rest ≡ [] → found.0 ≡ [] = λ end. (none_cut rest found.0 later found.4 end).0 in (
-            read ++ found.0,
-            found.1,
-            found.2,
-            found.3,
-            whole ∙ ap (λ l. read ++ l) found.4 ∙ sym (append_assoc read found.0 later),
-            found.5,
-            (
-              request,
-              over found.0 (later ≡ []) none (λ end. (none_cut rest found.0 later found.4 end).1) found.6.0,
-              subst (λ n. ComesToConv wanted request n (data_of (read ++ found.0)) later found.3) (room_after read found.0 taken asked.0 (asked.1 found.0 none).1)
-                  (subst (λ b. ComesToConv wanted request (limit - taken) b later found.3) (sym (asked.1 found.0 none).1) found.6.1),
-            ),
-            found.7,
-          );
-    }
-
-pub convolves_asked : (wanted : Command) (before mid left : Option (List ℕ)) (taken : ℕ) (request : Request) (out out' : Option (List ℕ)) (status : Status)
-    → Asks conv_spelt wanted before mid taken (Ok request) → ToldMeets (data_outcomes wanted request (limit - taken)) mid left out out' status → ToldMeets (conv_outcomes wanted) before left out out' status
-convolves_asked wanted None mid left taken request out out' status a p = tt
-convolves_asked wanted (Some bytes) None left taken request out out' status a p = absurd a
-convolves_asked wanted (Some bytes) (Some rest) left taken request out out' status a p = convolves_after wanted bytes a.0 rest taken request left out out' status a.1 a.2 p
+pub list_within : (schedule : Plan) (code : Bool) → Within (by_line schedule code) (outcomes_by_list schedule code)
+list_within schedule false = front_join (line 256) (λ text. conv_spelt text >>= turned (named schedule)) conv_chosen convolve_work
+list_within schedule true = front_join (line 256) (λ text. conv_spelt text >>= turned (named schedule)) conv_chosen convolver_work

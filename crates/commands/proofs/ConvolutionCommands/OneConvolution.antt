@@ -1,34 +1,26 @@
--- What `convolve` answers for its words and bytes is one.
+-- A line orders one plan for convolutions, or is refused with one status.
 use Rattle.std.proofs.Common.{◌≡◌, ◌<◌, ◌≤◌, ℕ, Bool, true, false, List, [], ◌∷◌, None, Some, Ok, Err, Result, nat_lt, refl, sym, ap, ap₂, ◌∙◌, arith}
 use Rattle.std.proofs.lemmas.Grind.{common_steps}
 use Rattle.std.specs.declared.option.Option.{Option}
 use Rattle.matrix_meaning.specs.Convolution.{IsFirstBadPower}
-use Rattle.generate.specs.ConvLetters.{conv_program}
 use Rattle.generate.specs.ConvPlanned.{IsConvPlanned, both_halves}
 use Rattle.plan_search.specs.declared.convolving.ConvFault.{ConvFault}
 use Rattle.plan_search.specs.declared.convolving.ConvFault.TheVariants as conv
-use Rattle.icode.specs.Program.{plain_program}
-use Rattle.icode.specs.declared.program.Program.{Program}
-use Rattle.listing_text.specs.Listing.{listing_of}
 use Rattle.plan_search.proofs.OneTree.{whole_once}
 use Rattle.plan_search.proofs.WholeChosen.{whole_least_once}
 use Rattle.matrix_meaning.specs.declared.Request.{Request}
 use Rattle.matrix_meaning.specs.Parts.{bad_power}
 use Rattle.request_text.specs.declared.RequestFault.{RequestFault}
 use Rattle.request_text.proofs.OneAnswer.{one_conv_answer}
-use Rattle.spiral_words.specs.declared.Command.{Command}
-use Rattle.spiral_words.specs.declared.Command.TheVariants as command
 use Rattle.spiral_words.specs.declared.spiral_status.status.Status.{Status}
 use Rattle.spiral_words.specs.SpiralStatus.Fault.{status_of_conv, status_of_request}
 use Rattle.tree_model.specs.Breakdown.{Breakdown}
 use Rattle.tree_model.specs.Chosen.{whole_cost}
-use Rattle.commands.specs.SpiralInput.Asking.{asked_by}
-use Rattle.commands.specs.SpiralInput.Commands.{scheduled}
-use Rattle.commands.specs.ConvolutionCommands.Convolved.{conv_spelt, convolvable, conv_in, IsListProgram, IsListText, IsConvText, SettlesConv, IsConvAnswer}
-use Rattle.commands.specs.SpiralInput.Line.{line_of, data_of, room_behind}
-use Rattle.commands.specs.SpiralInput.Stage.{given}
-use Rattle.commands.proofs.SpiralInput.Stages.{IsDecided, done, ended, given_decided, bind_decided, of_answers}
-use Rattle.runs.specs.Stream.{data_vectors}
+use Rattle.commands.specs.SpiralInput.Commands.{admitted, first_stranger}
+use Rattle.commands.specs.Equations.Convolutions.{conv_spelt, conv_chosen, conv_planned}
+use Rattle.commands.specs.Equations.Orders.{Planned, turned}
+use Rattle.commands.specs.SpiralInput.Stage.{◌>>=◌}
+use Rattle.commands.proofs.SpiralInput.Stages.{IsDecided, done, ended, given_decided, bind_decided}
 
 -- The line
 
@@ -100,42 +92,18 @@ refusal_once r (conv.Root power) conv.NoMemory p q = absurd q
 refusal_once r (conv.NotPrincipal k) conv.NoMemory p q = absurd q
 refusal_once r (conv.OverBudget cost budget) conv.NoMemory p q = absurd q
 
-convolvable_decided : (r : Request) → IsDecided (convolvable r)
-convolvable_decided r (Ok a) (Ok b) p q = ap done (p.1 ∙ sym q.1)
-convolvable_decided r (Ok a) (Err t) p q = absurd (plan_clash r p.0.0 q.0 p.0.1 q.1)
-convolvable_decided r (Err s) (Ok b) p q = absurd (plan_clash r q.0.0 p.0 q.0.1 p.1)
-convolvable_decided r (Err s) (Err t) p q = ap ended (p.2 ∙ ap status_of_conv (refusal_once r p.0 q.0 p.1 q.1) ∙ sym q.2)
+plan_of : Request → Breakdown → Planned
+plan_of request tree = record { request = request; tree = tree }
 
-asked_decided : (wanted : Command) (bytes : List ℕ) → IsDecided (asked_by conv_spelt wanted bytes)
-asked_decided wanted bytes =
-    bind_decided (given (line_of bytes)) _ (given_decided (line_of bytes)) (λ line.
-    bind_decided (conv_spelt line) _ (conv_spelt_decided line) (λ request. given_decided (scheduled wanted request.procs request)))
+chosen_decided : (r : Request) → IsDecided (conv_chosen r)
+chosen_decided r (Ok a) (Ok b) p q =
+    ap done (ap₂ plan_of (p.0 ∙ sym q.0) (whole_once r a.tree b.tree p.1.2 q.1.2))
+chosen_decided r (Ok a) (Err t) p q = absurd (plan_clash r a.tree q.0 p.1 q.1)
+chosen_decided r (Err s) (Ok b) p q = absurd (plan_clash r b.tree p.0 q.1 p.1)
+chosen_decided r (Err s) (Err t) p q = ap ended (p.2 ∙ ap status_of_conv (refusal_once r p.0 q.0 p.1 q.1) ∙ sym q.2)
 
-pub conv_decided : (wanted : Command) (bytes : List ℕ) → IsDecided (conv_in wanted bytes)
-conv_decided wanted bytes = bind_decided (asked_by conv_spelt wanted bytes) _ (asked_decided wanted bytes) (λ request. convolvable_decided request)
-
--- The answer
-
--- the program of the list is one
-program_once : (r : Request) (h : List ℕ) (p q : Program) → IsListProgram r h p → IsListProgram r h q → plain_program p ≡ plain_program q
-program_once r h p q mine other =
-    mine.letters ∙ ap (λ t. conv_program r t h) (whole_once r mine.tree other.tree mine.planned.2 other.planned.2) ∙ sym other.letters
-
-list_text_once : (wanted : Command) (r : Request) (h : List ℕ) (later : List (List ℕ)) (s t : List ℕ) → IsListText wanted r h later s → IsListText wanted r h later t → s ≡ t
-list_text_once (command.Convolve schedule true) r h later s t p q = p.2 ∙ ap listing_of (program_once r h p.0 q.0 p.1 q.1) ∙ sym q.2
-list_text_once (command.Convolve schedule false) r h later s t p q = p ∙ sym q
-list_text_once _ r h later s t p q = absurd p
-
-text_once : (wanted : Command) (r : Request) (vectors : List (List ℕ)) (s t : List ℕ) → IsConvText wanted r vectors s → IsConvText wanted r vectors t → s ≡ t
-text_once wanted r [] s t p q = p ∙ sym q
-text_once wanted r (h ∷ later) s t p q = list_text_once wanted r h later s t p q
-
-pub conv_status_once : (wanted : Command) (bytes : List ℕ) (a b : Status) (s t : List ℕ) → IsConvAnswer wanted bytes a s → IsConvAnswer wanted bytes b t → a ≡ b
-conv_status_once wanted bytes a b s t =
-    of_answers (a ≡ b) (conv_in wanted bytes) (λ (r : Request). SettlesConv wanted r (room_behind bytes) (data_of bytes)) a b s t (conv_decided wanted bytes)
-    (λ same _. same) (λ _ _ p q. p.0 ∙ sym q.0)
-
-pub conv_text_once : (wanted : Command) (bytes : List ℕ) (a b : Status) (s t : List ℕ) → IsConvAnswer wanted bytes a s → IsConvAnswer wanted bytes b t → s ≡ t
-conv_text_once wanted bytes a b s t =
-    of_answers (s ≡ t) (conv_in wanted bytes) (λ (r : Request). SettlesConv wanted r (room_behind bytes) (data_of bytes)) a b s t (conv_decided wanted bytes)
-    (λ _ same. same) (λ r _ p q. text_once wanted r (data_vectors r.size r.modulus (room_behind bytes) (data_of bytes)) s t p.1 q.1)
+pub conv_planned_decided : (names text : List ℕ) → IsDecided (conv_planned names text)
+conv_planned_decided names text =
+    bind_decided (conv_spelt text >>= turned names) _
+    (bind_decided (conv_spelt text) _ (conv_spelt_decided text) (λ request. given_decided (admitted (first_stranger names request.procs) request.procs request)))
+    chosen_decided

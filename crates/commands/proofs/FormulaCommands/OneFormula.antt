@@ -1,4 +1,4 @@
--- The bytes of a call of `compile` or `apply` determine its status and its text.
+-- A text spells one formula, or has one first fault.
 use Rattle.std.proofs.Common.{◌≡◌, ◌≢◌, ℕ, List, Ok, Err, Result, refl, sym, ap, ap₂, ◌∙◌, arith}
 use Rattle.grammar.specs.Stops.{Stop, Lost, Fault}
 use Rattle.spl_ast.specs.Formula.{Formula}
@@ -6,16 +6,11 @@ use Rattle.spl_text.specs.Answer.{IsFirst, IsLeft}
 use Rattle.spl_text.specs.Fault.{TextFault, TooDeep, Shape}
 use Rattle.spl_text.specs.declared.reading.SplFault.{SplFault}
 use Rattle.spl_text.specs.declared.reading.SplFault.TheVariants as spl
-use Rattle.spiral_words.specs.declared.Command.{Command}
-use Rattle.spiral_words.specs.declared.Command.TheVariants as command
 use Rattle.spiral_words.specs.declared.spiral_status.status.Status.{Status}
-use Rattle.commands.specs.SpiralInput.Commands.{admitted, first_stranger, procs_named}
-use Rattle.listing_text.specs.Listing.{listing_of}
-use Rattle.commands.specs.FormulaCommands.Compiled.{formula_line, written, formula_in, SettlesFormula, IsFormulaAnswer}
+use Rattle.commands.specs.SpiralInput.Commands.{admitted, first_stranger}
+use Rattle.commands.specs.Equations.Formulas.{formed, written}
 use Rattle.spiral_words.specs.SpiralStatus.Fault.{status_of_spl}
-use Rattle.commands.specs.SpiralInput.Line.{data_of, room_behind}
-use Rattle.commands.specs.SpiralInput.Stage.{given}
-use Rattle.commands.proofs.SpiralInput.Stages.{IsDecided, done, ended, given_decided, bind_decided, of_answers}
+use Rattle.commands.proofs.SpiralInput.Stages.{IsDecided, done, ended, given_decided, bind_decided}
 
 -- A text has one first fault
 
@@ -87,37 +82,11 @@ formula_or_fault text a spl.NoMemory m p q = m refl
 
 -- The stages
 
-written_decided : (text : List ℕ) → IsDecided (written text)
+pub written_decided : (text : List ℕ) → IsDecided (written text)
 written_decided text (Ok a) (Ok b) p q = ap done (whole_same a b (sym p.0 ∙ q.0))
 written_decided text (Ok a) (Err t) p q = absurd (formula_or_fault text a q.0 q.1 p.0 q.2)
 written_decided text (Err s) (Ok b) p q = absurd (formula_or_fault text b p.0 p.1 q.0 p.2)
 written_decided text (Err s) (Err t) p q = ap ended (p.4 ∙ ap status_of_spl (fault_once text p.0 q.0 p.1 q.1 p.2 q.2) ∙ sym q.4)
 
-pub formula_decided : (wanted : Command) (bytes : List ℕ) → IsDecided (formula_in wanted bytes)
-formula_decided wanted bytes =
-    bind_decided (given (formula_line bytes)) _ (given_decided (formula_line bytes)) (λ text.
-    bind_decided (written text) _ (written_decided text) (λ formula. given_decided (admitted (first_stranger (procs_named wanted) 1) 1 formula)))
-
--- The call
-
-settled_once : (wanted : Command) (formula : Formula) (room : ℕ) (bytes : List ℕ) (a b : Status) (s t : List ℕ)
-    → SettlesFormula wanted formula room bytes a s → SettlesFormula wanted formula room bytes b t → a ≡ b
-settled_once (command.Compile modulus) formula room bytes a b s t p q = p.0 ∙ sym q.0
-settled_once (command.Apply modulus schedule) formula room bytes a b s t p q = p.0 ∙ sym q.0
-settled_once _ formula room bytes a b s t p q = absurd p
-
-text_once : (wanted : Command) (formula : Formula) (room : ℕ) (bytes : List ℕ) (a b : Status) (s t : List ℕ)
-    → SettlesFormula wanted formula room bytes a s → SettlesFormula wanted formula room bytes b t → s ≡ t
-text_once (command.Compile modulus) formula room bytes a b s t p q = p.1.2 ∙ ap listing_of (p.1.1.letters ∙ sym q.1.1.letters) ∙ sym q.1.2
-text_once (command.Apply modulus schedule) formula room bytes a b s t p q = p.1 ∙ sym q.1
-text_once _ formula room bytes a b s t p q = absurd p
-
-pub formula_status_once : (wanted : Command) (bytes : List ℕ) (a b : Status) (s t : List ℕ) → IsFormulaAnswer wanted bytes a s → IsFormulaAnswer wanted bytes b t → a ≡ b
-formula_status_once wanted bytes a b s t =
-    of_answers (a ≡ b) (formula_in wanted bytes) (λ (f : Formula). SettlesFormula wanted f (room_behind bytes) (data_of bytes)) a b s t (formula_decided wanted bytes)
-    (λ same _. same) (λ f _ p q. settled_once wanted f (room_behind bytes) (data_of bytes) a b s t p q)
-
-pub formula_text_once : (wanted : Command) (bytes : List ℕ) (a b : Status) (s t : List ℕ) → IsFormulaAnswer wanted bytes a s → IsFormulaAnswer wanted bytes b t → s ≡ t
-formula_text_once wanted bytes a b s t =
-    of_answers (s ≡ t) (formula_in wanted bytes) (λ (f : Formula). SettlesFormula wanted f (room_behind bytes) (data_of bytes)) a b s t (formula_decided wanted bytes)
-    (λ _ same. same) (λ f _ p q. text_once wanted f (room_behind bytes) (data_of bytes) a b s t p q)
+pub formed_decided : (names text : List ℕ) → IsDecided (formed names text)
+formed_decided names text = bind_decided (written text) _ (written_decided text) (λ formula. given_decided (admitted (first_stranger names 1) 1 formula))

@@ -1,52 +1,78 @@
 -- What `exec` comes to.
-use Rattle.std.proofs.Common.{◌≡◌, ◌≢◌, ◌<◌, ◌≤◌, ◌+◌, ◌-◌, ℕ, true, false, List, [], ◌∷◌, ◌++◌, None, Some, Ok, Err, Result, nat_le, length, cond, refl, sym, ap, subst, ◌∙◌, arith, append_assoc, length-append, inl, inr}
-use Rattle.std.proofs.lemmas.Grind.{common_steps}
-use Rattle.std.proofs.KnownBytes.{Appends-nil, Consumes-trans}
+use Rattle.std.proofs.Common.{◌≡◌, ◌≢◌, ◌⊎◌, ◌≤◌, ◌+◌, ◌-◌, ◌&&◌, ◌||◌, ℕ, Bool, true, false, List, [], ◌∷◌, ◌++◌, None, Some, Ok, Err, Result, Vec, length, cond, refl, sym, ap, subst, ◌∙◌, zero-add, append-nil, inl, inr}
 use Rattle.std.specs.declared.option.Option.{Option}
 use Rattle.std.specs.Io.KnownBytes.{Consumes, IsAtEnd}
+use Rattle.std.proofs.Common.{Global}
 use Rattle.icode.specs.Actions.{plain_code}
-use Rattle.icode.specs.Machine.{Code, State, results, runs, words_at, padded}
+use Rattle.icode.specs.Machine.{results, words_at, padded}
 use Rattle.icode.specs.Plain.{PlainProgram}
+use Rattle.icode.specs.Program.{plain_program}
+use Rattle.icode.specs.declared.program.Program.{Program}
 use Rattle.icode.proofs.Lists.{code_is}
 use Rattle.icode.proofs.Runs.{memory_of_runs}
 use Rattle.listing_text.specs.Texts.{is_listing}
 use Rattle.code_check.specs.Refusals.{PassesCheck}
-use Rattle.io_edge.specs.Feed.{Fed, limit}
+use Rattle.io_edge.specs.Feed.{limit}
 use Rattle.data_stream.specs.declared.input_rest.RestFault.{RestFault}
 use Rattle.data_stream.specs.declared.input_rest.RestFault.TheVariants as rest_fault
-use Rattle.data_stream.specs.InputRest.Part.{first_part, second_part, IsWholePart, GivesPart}
+use Rattle.data_stream.specs.InputRest.Part.{ends_line, has_empty_line, behind_empty_line, second_part, IsWholePart, GivesPart}
 use Rattle.data_stream.proofs.InputRest.PartLemmas.{still_ended}
 use Rattle.data_stream.specs.Line.{line_of}
 use Rattle.request_text.specs.Schedule.{Plan}
-use Rattle.spiral_words.specs.declared.spiral_status.status.Status.{Status}
-use Rattle.spiral_words.specs.declared.spiral_status.status.Status.TheVariants.{Turn, ReadFault, WriteFault, NoMemory, TooLong}
-use Rattle.runs.specs.declared.stream.StreamFault.{StreamFault}
-use Rattle.runs.specs.declared.stream.StreamFault.TheVariants as stream
-use Rattle.commands.specs.SpiralInput.Commands.{stranger, admitted}
-use Rattle.spiral_words.specs.SpiralStatus.Fault.{status_of_part, status_of_stream}
-use Rattle.commands.specs.ListingCommands.Listed.{listing_limit, action_limit, listing_in, loaded, runnable, result_of, IsResultText, room_behind_listing, IsAnswerOfProgram, BreaksOffProgram, ComesToProgram, exec_outcomes}
+use Rattle.request_text.specs.Turns.{turns_of}
+use Rattle.spiral_words.specs.SpiralStatus.Fault.{status_of_part}
 use Rattle.spiral_words.specs.SpiralStatus.Status.{IsDefined}
-use Rattle.commands.specs.SpiralInput.Refusals.{IsRefusal}
-use Rattle.runs.specs.Stream.{texts, lines, vectors_of, Streams}
+use Rattle.spiral_words.specs.declared.Order.TheVariants as order
+use Rattle.spiral_words.specs.declared.spiral_status.status.Status.{Status}
+use Rattle.spiral_words.specs.declared.spiral_status.status.Status.TheVariants.{Turn, ReadFault, TooLong}
+use Rattle.runs.specs.Stream.{texts, lines, vectors_of}
 use Rattle.runs.specs.Texts.{run_text}
-use Rattle.commands.proofs.SpiralInput.InputLemmas.{none_read, none_left, none_cut}
-use Rattle.commands.specs.SpiralInput.Outcomes.{Meets, ToldMeets}
-use Rattle.commands.proofs.SpiralInput.OutcomeLemmas.{meets_nothing}
-use Rattle.commands.proofs.SpiralInput.DataLemmas.{RunsOver, runs_over}
+use Rattle.commands.specs.ListingCommands.Listed.{action_limit, loaded, result_of}
+use Rattle.commands.specs.Prepared.{stream_work}
+use Rattle.commands.specs.Equations.Exec.{exec_outcomes, exec_work}
+use Rattle.commands.specs.Equations.Front.{HasEnded, part}
+use Rattle.commands.specs.SpiralInput.Commands.{stranger, admitted}
+use Rattle.commands.specs.SpiralInput.Outcomes.{ToldMeets}
+use Rattle.commands.specs.SpiralInput.Refusals.{IsRefusal}
+use Rattle.commands.proofs.SpiralInput.FrontLemmas.{IsFront, asks_read_fault, asks_too_long, asks_refused, asks_value, front_refused, front_told}
+use Rattle.commands.proofs.SpiralInput.Within.{told_within}
+use Rattle.commands.proofs.StreamLemmas.{mapping_within, told_nothing}
 
--- The listing
+-- The front
 
--- a listing that is short enough, and one that is not
-listing_short : (bytes text : List ℕ) → first_part bytes ≡ text → length text ≤ listing_limit → listing_in bytes ≡ Ok text
-listing_short bytes text same short =
-    let test : nat_le (length text) listing_limit ≡ true = grind (arith, common_steps) in
-    ap (λ l. cond {A = Result (List ℕ) Status} (nat_le (length l) listing_limit) (Ok l) (Err (TooLong listing_limit))) same
-    ∙ ap (λ b. cond {A = Result (List ℕ) Status} b (Ok text) (Err (TooLong listing_limit))) test
+-- a byte that ends no line leaves a part unended, and nothing behind it
+unended_push : (begins : Bool) (read : List ℕ) → has_empty_line begins read ≡ false → behind_empty_line begins (read ++ 0 ∷ []) ≡ []
+unended_push true [] none = refl
+unended_push false [] none = refl
+unended_push begins (byte ∷ read) none = at (begins && ends_line byte) refl none (unended_push (ends_line byte) read)
+  where
+    at : (b : Bool) → (begins && ends_line byte) ≡ b → (b || has_empty_line (ends_line byte) read) ≡ false
+        → (has_empty_line (ends_line byte) read ≡ false → behind_empty_line (ends_line byte) (read ++ 0 ∷ []) ≡ [])
+        → cond (begins && ends_line byte) (read ++ 0 ∷ []) (behind_empty_line (ends_line byte) (read ++ 0 ∷ [])) ≡ []
+    at true is none later = absurd (cc)
+    at false is none later = ap (λ b. cond b (read ++ 0 ∷ []) (behind_empty_line (ends_line byte) (read ++ 0 ∷ []))) is ∙ later none
 
-listing_long : (bytes : List ℕ) → listing_limit < length (first_part bytes) → listing_in bytes ≡ Err (TooLong listing_limit)
-listing_long bytes long =
-    let test : nat_le (length (first_part bytes)) listing_limit ≡ false = grind (arith, common_steps) in
-    ap (λ b. cond {A = Result (List ℕ) Status} b (Ok (first_part bytes)) (Err (TooLong listing_limit))) test
+two_cases : (b : Bool) → (b ≡ true) ⊎ (b ≡ false)
+two_cases true = inl refl
+two_cases false = inr refl
+
+part_there : (most : ℕ) (read rest : List ℕ) → ((more : List ℕ) → (rest ≡ [] → more ≡ []) → second_part (read ++ more) ≡ more)
+    → HasEnded (part most) read (rest ≡ [])
+part_there most read [] behind = inr refl
+part_there most read (x ∷ rest) behind =
+    elim (two_cases (has_empty_line true read)) [
+      | inl there ↦ inl there
+      | inr none ↦
+          let byte : second_part (read ++ 0 ∷ []) ≡ 0 ∷ [] = behind (0 ∷ []) (λ e. absurd (cc)) in
+          let nothing : second_part (read ++ 0 ∷ []) ≡ [] = unended_push true read none in
+          absurd (cc)
+    ]
+
+ended_kept : (most : ℕ) (read more : List ℕ) → has_empty_line true read ≡ true → has_empty_line true (read ++ more) ≡ true
+ended_kept most read more there = elim (still_ended read more ⊥ ⊥ (inl there) (λ e. e)) [ inl kept ↦ kept | inr e ↦ absurd e ]
+
+part_is_front : (most : ℕ) → IsFront (part most)
+part_is_front most = record { kept = ended_kept most; there = part_there most }
 
 -- The program of the listing
 
@@ -97,120 +123,43 @@ same_lines program turns passes (x ∷ vectors) =
     ap (λ y. line_of y ++ texts (run_text false (plain_code program) turns) vectors) (same_results program x turns passes)
     ∙ ap (λ l. line_of (result_of program x) ++ l) (same_lines program turns passes vectors)
 
--- Without a program
-
-executes_nothing : (schedule : Plan) (bytes : List ℕ) (left out : Option (List ℕ)) (status : Status) → (IsDefined status → runnable schedule bytes (Err status)) → status ≢ ReadFault → status ≢ WriteFault → Meets (exec_outcomes schedule) bytes left out out status
-executes_nothing schedule bytes left out status refused read write = meets_nothing (exec_outcomes schedule) bytes left out status (λ d. inl (refused d, refl)) read write
+-- The call
 
 -- the listing is not read
-pub executes_unread : (schedule : Plan) (before after out : Option (List ℕ)) (first taken : ℕ) (read : List ℕ) (fault : RestFault)
-    → Consumes before after read → GivesPart listing_limit read (IsAtEnd after) first taken (Err fault) → ToldMeets (exec_outcomes schedule) before after out out (status_of_part fault)
-executes_unread schedule None after out first taken read fault consumed given = tt
-executes_unread schedule (Some bytes) None out first taken read fault consumed given = absurd consumed
-executes_unread schedule (Some bytes) (Some rest) out first taken read rest_fault.TooLong consumed given =
-    executes_nothing schedule bytes (Some rest) out (TooLong listing_limit)
-    (λ d. inl (sym (listing_long bytes (subst (λ b. listing_limit < length (first_part b)) (sym consumed) (given rest))))) (λ e. cc) (λ e. cc)
-executes_unread schedule (Some bytes) (Some rest) out first taken read rest_fault.ReadFault consumed given = record {
-  answer = λ d. absurd (d.read refl);
-  read_fault = λ _. (read, [], consumed, inl (given, refl), Appends-nil out);
-  write_fault = λ e. absurd (cc);
-}
-executes_unread schedule (Some bytes) (Some rest) out first taken read rest_fault.NoMemory consumed given =
-    executes_nothing schedule bytes (Some rest) out NoMemory (λ d. absurd (d.memory refl)) (λ e. cc) (λ e. cc)
+pub exec_unread : (schedule : Plan) (before after out : Option (List ℕ)) (taken : ℕ) (read : List ℕ) (fault : RestFault)
+    → Consumes before after read → GivesPart 1048576 read (IsAtEnd after) 0 taken (Err fault)
+    → ToldMeets (exec_outcomes schedule) before after out out (status_of_part fault)
+exec_unread schedule before after out taken read rest_fault.TooLong consumed given =
+    front_refused (part 1048576) (loaded schedule) exec_work before after out taken (TooLong 1048576)
+    (asks_too_long (part 1048576) (loaded schedule) before after taken read consumed given) (λ e. cc)
+exec_unread schedule before after out taken read rest_fault.ReadFault consumed given =
+    front_refused (part 1048576) (loaded schedule) exec_work before after out taken ReadFault
+    (asks_read_fault (part 1048576) (loaded schedule) before after taken read consumed (record { unended = given.unended; short = given.short })) (λ e. cc)
+exec_unread schedule before after out taken read rest_fault.NoMemory consumed given = told_nothing (exec_outcomes schedule) before after out
 
 -- the listing orders no program to run
-pub executes_refused : (schedule : Plan) (before after out : Option (List ℕ)) (read text : List ℕ) (status : Status)
-    → Consumes before after read → IsWholePart read (IsAtEnd after) text → length text ≤ listing_limit → (IsDefined status → loaded schedule text (Err status)) → IsRefusal status
-    → ToldMeets (exec_outcomes schedule) before after out out status
-executes_refused schedule None after out read text status consumed whole short refused refusal = tt
-executes_refused schedule (Some bytes) None out read text status consumed whole short refused refusal = absurd consumed
-executes_refused schedule (Some bytes) (Some rest) out read text status consumed whole short refused refusal =
-    let there : listing_in bytes ≡ Ok text = ap listing_in consumed ∙ listing_short (read ++ rest) text (whole.parts rest (λ e. e)).0 short in
-    executes_nothing schedule bytes (Some rest) out status (λ d. inr (record { value = text; before = sym there; behind = refused d })) refusal.read refusal.write
+pub exec_refused : (schedule : Plan) (before after out : Option (List ℕ)) (taken : ℕ) (read text : List ℕ) (status : Status)
+    → Consumes before after read → IsWholePart read (IsAtEnd after) text → length text ≤ 1048576
+    → (IsDefined status → loaded schedule text (Err status)) → IsRefusal status → ToldMeets (exec_outcomes schedule) before after out out status
+exec_refused schedule before after out taken read text status consumed whole short refused refusal =
+    front_refused (part 1048576) (loaded schedule) exec_work before after out taken status
+    (asks_refused (part 1048576) (loaded schedule) before after taken read text status consumed whole.parts short refused refusal.read) refusal.write
 
--- A program over its data
-
--- what a program does behind its listing is what the call does
-executes_after : (schedule : Plan) (bytes read rest text : List ℕ) (taken : ℕ) (program : PlainProgram) (left out out' : Option (List ℕ)) (status : Status)
-    → bytes ≡ read ++ rest → taken ≡ length read → IsWholePart read (rest ≡ []) text → length text ≤ listing_limit → loaded schedule text (Ok program)
-    → RunsOver (IsResultText program) program.size program.modulus (limit - taken) rest left out out' status → Meets (exec_outcomes schedule) bytes left out out' status
-executes_after schedule bytes read rest text taken program left out out' status cut count whole short load p =
-    let here = whole.parts rest (λ e. e) in
-    let behind : second_part bytes ≡ rest = ap second_part cut ∙ here.1 in
-    let all : length bytes ≡ length read + length rest = ap length cut ∙ length-append read rest in
-    let same : length (second_part bytes) ≡ length rest = ap length behind in
-    let room : limit - taken ≡ room_behind_listing bytes = ap (λ n. limit - n) (omega (arith, count, all, same)) in
-    let room_there : (more : List ℕ) → second_part (read ++ more) ≡ more → limit - taken ≡ room_behind_listing (read ++ more) = λ more is.
-    let whole : length (read ++ more) ≡ length read + length more = length-append read more in
-    let behind : length (second_part (read ++ more)) ≡ length more = ap length is in
-    ap (λ n. limit - n) (omega (arith, count, whole, behind)) in
-    let runs : (more : List ℕ) → (rest ≡ [] → more ≡ []) → runnable schedule (read ++ more) (Ok program) =
-    λ more none. record { value = text; before = sym (listing_short (read ++ more) text (whole.parts more none).0 short); behind = load } in
-    record {
-      answer = λ d.
-          let found = p.answer d in (
-            found.0,
-            inr (
-              program,
-              subst (λ b. runnable schedule b (Ok program)) (sym cut) (runs rest (λ e. e)),
-              subst (λ n. IsAnswerOfProgram program n (second_part bytes) status found.0) room
-                  (subst (λ b. IsAnswerOfProgram program (limit - taken) b status found.0) (sym behind) (found.1, found.2)),
-            ),
-            found.3,
-          );
-      read_fault = λ e.
-          let found = p.read_fault e in
-          let none : rest ≡ [] → found.0 ≡ [] = none_read rest found.0 left found.2 in
-          let data_is : second_part (read ++ found.0) ≡ found.0 = (whole.parts found.0 none).1 in (
-            read ++ found.0,
-            found.1,
-            Consumes-trans (Some bytes) (Some rest) left read found.0 cut found.2,
-            inr (
-              program,
-              record {
-                front = still_ended read found.0 (rest ≡ []) (IsAtEnd left) whole.end (none_left rest found.0 left found.2);
-                gives = runs found.0 none;
-              },
-              subst (λ n. BreaksOffProgram program n (second_part (read ++ found.0)) found.1) (room_there found.0 data_is)
-                  (subst (λ b. BreaksOffProgram program (limit - taken) b found.1) (sym data_is) (found.3, found.4)),
-            ),
-            found.5,
-          );
-      write_fault = λ e.
-          let found = p.write_fault e in
-          let none = none_cut rest found.0 found.1 found.3 in
-          let data_is : second_part (read ++ found.0) ≡ found.0 = (whole.parts found.0 (λ end. (none end).0)).1 in (
-            read ++ found.0,
-            [],
-            found.1,
-            found.2,
-            cut ∙ ap (λ l. read ++ l) found.3 ∙ sym (append_assoc read found.0 found.1),
-            found.4,
-            (
-              program,
-              record {
-                front = still_ended read found.0 (rest ≡ []) (found.1 ≡ []) whole.end (λ end. (none end).1);
-                gives = runs found.0 (λ end. (none end).0);
-              },
-              subst (λ n. ComesToProgram program n (second_part (read ++ found.0)) found.1 found.2) (room_there found.0 data_is)
-                  (subst (λ b. ComesToProgram program (limit - taken) b found.1 found.2) (sym data_is) (found.5, found.6, found.7)),
-            ),
-            found.8,
-          );
-    }
-
-pub executes_run : (schedule : Plan) (turns : List ℕ) (program : PlainProgram) (code : Code) (old new : Fed) (before mid after out out' : Option (List ℕ)) (read text : List ℕ) (first last : State) (result : Result (Unit {0}) StreamFault)
-    → Consumes before mid read → old.taken ≡ length read → IsWholePart read (IsAtEnd mid) text → length text ≤ listing_limit → length read ≤ length text + 1 → (result ≢ Err stream.TooLong → new.taken ≤ limit) → loaded schedule text (Ok program) → code ≡ plain_code program
-    → Streams (run_text false code turns) (λ x. runs code x turns) code.size code.modulus old new mid after out out' first last result
-    → ToldMeets (exec_outcomes schedule) before after out out' (status_of_stream result)
-executes_run schedule turns program code old new None mid after out out' read text first last result consumed count whole short few ends load made s = tt
-executes_run schedule turns program code old new (Some bytes) None after out out' read text first last result consumed count whole short few ends load made s = absurd consumed
-executes_run schedule turns program code old new (Some bytes) (Some rest) None out out' read text first last result consumed count whole short few ends load made s = absurd s.consumed
-executes_run schedule turns program code old new (Some bytes) (Some rest) (Some left) out out' read text first last result consumed count whole short few ends load made s =
-    let own = plain_code program in
-    let passes = loaded_passes schedule text program load in
-    let same : Streams (run_text false own turns) (λ x. runs own x turns) own.size own.modulus old new (Some rest) (Some left) out out' first last result =
-    subst (λ (k : Code). Streams (run_text false k turns) (λ x. runs k x turns) k.size k.modulus old new (Some rest) (Some left) out out' first last result) made s in
-    executes_after schedule bytes read rest text old.taken program (Some left) out out' (status_of_stream result) consumed count whole short load
-    (runs_over (IsResultText program) program.size program.modulus [] (run_text false own turns) (λ x. runs own x turns) old new rest left out out out' first last result
-    (λ ts. same_lines program turns passes (vectors_of program.size program.modulus ts)) (Appends-nil out) (omega (arith, count, short, few)) ends same)
+-- its program runs
+pub exec_told : (schedule : Plan) (program : Program) (front : Vec ℕ Global) (before mid left out out' : Option (List ℕ)) (taken : ℕ) (read text : List ℕ) (status : Status)
+    → Consumes before mid read → taken ≡ length read → IsWholePart read (IsAtEnd mid) text → length text ≤ 1048576
+    → loaded schedule text (Ok (plain_program program)) → front.items ≡ []
+    → ToldMeets (stream_work (record { program = program; front = front; lines = false }) (order.Turns schedule) (limit - taken)) mid left out out' status
+    → ToldMeets (exec_outcomes schedule) before left out out' status
+exec_told schedule program front before mid left out out' taken read text status consumed count whole short load alone p =
+    let own : PlainProgram = plain_program program in
+    let turns = turns_of schedule program.procs in
+    let Writes : List (List ℕ) → List ℕ → Type 0 = λ vectors t. t ≡ front.items ++ texts (run_text false (plain_code own) turns) vectors in
+    let Wanted : List (List ℕ) → List ℕ → Type 0 = λ vectors t. t ≡ lines (result_of own) vectors in
+    let passes = loaded_passes schedule text own load in
+    front_told (part 1048576) (part_is_front 1048576) (loaded schedule) exec_work before mid left taken own out out' status
+    (asks_value (part 1048576) (loaded schedule) before mid taken read text own consumed count whole.parts short load)
+    (told_within (stream_work (record { program = program; front = front; lines = false }) (order.Turns schedule) (limit - taken)) (exec_work own (limit - taken)) mid left out out' status
+    (mapping_within own.size own.modulus Writes Wanted (limit - taken) (λ ts t written.
+    let vectors = vectors_of own.size own.modulus ts in
+    written ∙ ap (λ l. l ++ texts (run_text false (plain_code own) turns) vectors) alone ∙ same_lines own turns passes vectors)) p)

@@ -1,4 +1,4 @@
--- The schedule and the bytes of a call of `exec` determine its status and its text.
+-- A listing orders one program to run, or is refused with one status.
 use Rattle.std.proofs.Common.{◌≡◌, ◌<◌, ◌≤◌, ◌-◌, ◌==◌, ℕ, zero, suc, Bool, true, false, List, [], ◌∷◌, ◌++◌, None, Ok, Err, Result, nat_lt, cond, refl, sym, ap, subst, ◌∙◌, arith, append_assoc}
 use Rattle.std.proofs.lemmas.Grind.{common_steps}
 use Rattle.icode.specs.Plain.{PlainProgram}
@@ -15,10 +15,8 @@ use Rattle.spiral_words.specs.declared.spiral_status.status.Status.{Status}
 use Rattle.spiral_words.specs.declared.spiral_status.status.Status.TheVariants.{ListingSyntax}
 use Rattle.commands.specs.SpiralInput.Commands.{stranger, admitted}
 use Rattle.spiral_words.specs.SpiralStatus.Fault.{status_of_check}
-use Rattle.commands.specs.ListingCommands.Listed.{action_limit, listing_in, listed, verified, runnable, IsAnswerOfProgram, room_behind_listing, IsExecution}
-use Rattle.commands.specs.SpiralInput.Stage.{given}
-use Rattle.data_stream.specs.InputRest.Part.{second_part}
-use Rattle.commands.proofs.SpiralInput.Stages.{IsDecided, done, ended, given_decided, bind_decided, of_answers}
+use Rattle.commands.specs.ListingCommands.Listed.{action_limit, listed, verified, loaded}
+use Rattle.commands.proofs.SpiralInput.Stages.{IsDecided, done, ended, given_decided, bind_decided}
 
 -- A text is lost in one line
 
@@ -75,20 +73,7 @@ verified_decided program (Ok a) (Err t) p q = absurd (none_if_passed action_limi
 verified_decided program (Err s) (Ok b) p q = absurd (none_if_passed action_limit program p.0 p.1 q.0 p.2)
 verified_decided program (Err s) (Err t) p q = ap ended (p.3 ∙ ap status_of_check (one_cause action_limit program p.0 q.0 p.1 q.1 p.2 q.2) ∙ sym q.3)
 
-pub runnable_decided : (schedule : Plan) (bytes : List ℕ) → IsDecided (runnable schedule bytes)
-runnable_decided schedule bytes =
-    bind_decided (given (listing_in bytes)) _ (given_decided (listing_in bytes)) (λ text.
+pub loaded_decided : (schedule : Plan) (text : List ℕ) → IsDecided (loaded schedule text)
+loaded_decided schedule text =
     bind_decided (listed text) _ (listed_decided text) (λ program.
-    bind_decided (verified program) _ (verified_decided program) (λ passed. given_decided (admitted (stranger schedule passed.procs) passed.procs passed))))
-
--- The call
-
-pub execution_status_once : (schedule : Plan) (bytes : List ℕ) (a b : Status) (s t : List ℕ) → IsExecution schedule bytes a s → IsExecution schedule bytes b t → a ≡ b
-execution_status_once schedule bytes a b s t =
-    of_answers (a ≡ b) (runnable schedule bytes) (λ (program : PlainProgram). IsAnswerOfProgram program (room_behind_listing bytes) (second_part bytes)) a b s t (runnable_decided schedule bytes)
-    (λ same _. same) (λ _ _ p q. p.0 ∙ sym q.0)
-
-pub execution_text_once : (schedule : Plan) (bytes : List ℕ) (a b : Status) (s t : List ℕ) → IsExecution schedule bytes a s → IsExecution schedule bytes b t → s ≡ t
-execution_text_once schedule bytes a b s t =
-    of_answers (s ≡ t) (runnable schedule bytes) (λ (program : PlainProgram). IsAnswerOfProgram program (room_behind_listing bytes) (second_part bytes)) a b s t (runnable_decided schedule bytes)
-    (λ _ same. same) (λ _ _ p q. p.1 ∙ sym q.1)
+    bind_decided (verified program) _ (verified_decided program) (λ passed. given_decided (admitted (stranger schedule passed.procs) passed.procs passed)))

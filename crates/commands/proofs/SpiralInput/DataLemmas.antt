@@ -1,33 +1,23 @@
 -- What a run over data answers, reads and writes, by the texts of its vectors.
-use Rattle.std.proofs.Common.{◌≡◌, ◌≢◌, ◌≤◌, ◌+◌, ◌-◌, ◌⊎◌, ℕ, true, List, [], ◌++◌, Some, Ok, Err, Result, refl, sym, ap, subst, ◌<◌, ◌*◌, zero, suc, length, take, drop, ◌∙◌, arith}
+use Rattle.std.proofs.Common.{◌≡◌, ◌≢◌, ◌≤◌, ◌+◌, ◌-◌, ◌⊎◌, ℕ, true, List, [], ◌++◌, None, Some, Ok, Err, Result, refl, sym, ap, subst, ◌<◌, ◌*◌, zero, suc, length, take, drop, ◌∙◌, arith}
 use Rattle.std.proofs.KnownBytes.{Appends-trans}
 use Rattle.std.specs.List.{list_all, All}
 use Rattle.std.specs.declared.option.Option.{Option}
-use Rattle.std.specs.Io.KnownBytes.{Appends, Consumes}
+use Rattle.std.specs.Io.KnownBytes.{Appends}
 use Rattle.std.proofs.lemmas.List.{length-take-le, length-drop, length-map}
 use Rattle.io_edge.specs.Feed.{Fed, limit}
-use Rattle.io_edge.specs.Taken.{AppendsPrefix}
 use Rattle.io_edge.proofs.TakenLemmas.{prefix_after}
 use Rattle.data_stream.specs.Data.{tokens, closed_part, is_good}
 use Rattle.data_stream.specs.Line.{line_of}
 use Rattle.data_stream.specs.Reading.{residues}
 use Rattle.data_stream.proofs.VectorLemmas.{residues_below}
-use Rattle.spiral_words.specs.declared.spiral_status.status.Status.{Status}
-use Rattle.spiral_words.specs.declared.spiral_status.status.Status.TheVariants.{ReadFault, WriteFault}
 use Rattle.spiral_words.specs.SpiralStatus.Fault.{status_of_stream}
-use Rattle.spiral_words.specs.SpiralStatus.Status.{IsDefined}
+use Rattle.commands.specs.SpiralInput.Outcomes.{Meets, ToldMeets}
+use Rattle.commands.specs.Equations.Works.{all, mapping}
 use Rattle.commands.specs.SpiralInput.Fine.{IsFine}
 use Rattle.runs.specs.declared.stream.StreamFault.{StreamFault}
 use Rattle.runs.specs.declared.stream.StreamFault.TheVariants as stream
 use Rattle.runs.specs.Stream.{vectors_of, texts, data_answer, data_vectors, Reads, Streams, group_vectors, lines}
-
--- Status and output of a run over the data, where it is known which text belongs to which whole vectors
-pub record RunsOver (IsText : List (List ℕ) → List ℕ → Type 0) (size modulus room : ℕ) (bytes : List ℕ) (left before after : Option (List ℕ)) (status : Status) : Type 0 where
-  pub answer : IsDefined status → (text : List ℕ) × (status ≡ status_of_stream (data_answer size room bytes)) × IsText (data_vectors size modulus room bytes) text × Appends before after text
-  pub read_fault : status ≡ ReadFault → (read : List ℕ) × (text : List ℕ) × Consumes (Some bytes) left read
-      × IsFine room read × IsText (vectors_of size modulus (tokens (closed_part read))) text × Appends before after text
-  pub write_fault : status ≡ WriteFault → (read : List ℕ) × (rest : List ℕ) × (text : List ℕ) × (bytes ≡ read ++ rest) × (left ≡ Some rest)
-      × IsFine room read × ((closed_part read ≡ read) ⊎ (rest ≡ [])) × IsText (vectors_of size modulus (tokens read)) text × AppendsPrefix before after text
 
 pub reads_vectors : (size modulus : ℕ) (old new : Fed) (read : List ℕ) (ended : Type 0) (vectors : List (List ℕ)) (result : Result (Unit {0}) StreamFault)
     → Reads size modulus old new read ended vectors result → (ts : List (List ℕ)) × (vectors_of size modulus ts ≡ vectors)
@@ -41,9 +31,9 @@ reads_vectors size modulus old new read ended vectors (Err stream.WriteFault) s 
 -- the text is known by what the data call for
 stream_answer : (IsText : List (List ℕ) → List ℕ → Type 0) (size modulus room : ℕ) (bytes text : List ℕ) (vectors : List (List ℕ)) (out out' : Option (List ℕ)) (result : Result (Unit {0}) StreamFault)
     → IsText vectors text → data_answer size room bytes ≡ result → data_vectors size modulus room bytes ≡ vectors → Appends out out' text
-    → (text : List ℕ) × (status_of_stream result ≡ status_of_stream (data_answer size room bytes)) × IsText (data_vectors size modulus room bytes) text × Appends out out' text
+    → (text : List ℕ) × (mapping all size modulus IsText room).answer bytes (status_of_stream result) text × Appends out out' text
 stream_answer IsText size modulus room bytes text vectors out out' result told answer seen w =
-    (text, ap status_of_stream (sym answer), subst (λ (v : List (List ℕ)). IsText v text) (sym seen) told, w)
+    (text, (ap status_of_stream (sym answer), subst (λ (v : List (List ℕ)). IsText v text) (sym seen) told), w)
 
 -- what was read within the limit
 pub fine_by : (old new : ℕ) (read : List ℕ) → new ≡ old + length read → new ≤ limit → list_all is_good (tokens read) ≡ true → IsFine (limit - old) read
@@ -54,7 +44,7 @@ ended : {S : Type 0} (IsText : List (List ℕ) → List ℕ → Type 0) (size mo
     (result : Result (Unit {0}) StreamFault)
     → (s : Streams text leaves size modulus old new (Some bytes) (Some rest) out out' first last result)
     → IsText s.vectors (front ++ texts text s.vectors) → Appends start out front → old.taken ≤ limit → (result ≢ Err stream.TooLong → new.taken ≤ limit)
-    → RunsOver IsText size modulus (limit - old.taken) bytes (Some rest) start out' (status_of_stream result)
+    → Meets (mapping all size modulus IsText (limit - old.taken)) bytes (Some rest) start out' (status_of_stream result)
 ended IsText size modulus front text leaves old new bytes rest start out out' first last (Ok u) s told begun within ends = record {
   answer = λ d. stream_answer IsText size modulus _ bytes (front ++ texts text s.vectors) s.vectors start out' (Ok u) told (s.told within).0 (s.told within).1 (Appends-trans start out out' front (texts text s.vectors) begun s.wrote);
   read_fault = λ e. absurd (cc);
@@ -81,8 +71,11 @@ ended IsText size modulus front text leaves old new bytes rest start out out' fi
     s.read,
     front ++ texts text s.vectors,
     s.consumed,
-    fine_by old.taken new.taken s.read s.answer.0 (ends (λ e. cc)) s.answer.1,
-    subst (λ (v : List (List ℕ)). IsText v (front ++ texts text s.vectors)) (sym s.answer.2) told,
+    (
+      fine_by old.taken new.taken s.read s.answer.0 (ends (λ e. cc)) s.answer.1,
+      tt,
+      subst (λ (v : List (List ℕ)). IsText v (front ++ texts text s.vectors)) (sym s.answer.2) told,
+    ),
     Appends-trans start out out' front (texts text s.vectors) begun s.wrote,
   );
   write_fault = λ e. absurd (cc);
@@ -92,27 +85,41 @@ ended IsText size modulus front text leaves old new bytes rest start out out' fi
   read_fault = λ e. absurd (cc);
   write_fault = λ _. (
     s.read,
+    [],
     rest,
     front ++ texts text s.vectors,
     s.consumed,
     refl,
-    fine_by old.taken new.taken s.read s.answer.0 (ends (λ e. cc)) s.answer.1,
-    s.answer.2,
-    subst (λ (v : List (List ℕ)). IsText v (front ++ texts text s.vectors)) (sym s.answer.3) told,
+    (
+      fine_by old.taken new.taken s.read s.answer.0 (ends (λ e. cc)) s.answer.1,
+      s.answer.2,
+      subst (λ (v : List (List ℕ)). IsText v (front ++ texts text s.vectors)) (sym s.answer.3) told,
+    ),
     prefix_after start out out' front (texts text s.vectors) begun s.wrote,
   );
 }
 
 -- behind the front, the texts of whole vectors are texts of them
-pub runs_over : {S : Type 0} (IsText : List (List ℕ) → List ℕ → Type 0) (size modulus : ℕ) (front : List ℕ) (text : List ℕ → List ℕ) (leaves : List ℕ → S) (old new : Fed) (bytes rest : List ℕ) (start out out' : Option (List ℕ)) (first last : S)
+runs_over : {S : Type 0} (IsText : List (List ℕ) → List ℕ → Type 0) (size modulus : ℕ) (front : List ℕ) (text : List ℕ → List ℕ) (leaves : List ℕ → S) (old new : Fed) (bytes rest : List ℕ) (start out out' : Option (List ℕ)) (first last : S)
     (result : Result (Unit {0}) StreamFault)
     → ((ts : List (List ℕ)) → IsText (vectors_of size modulus ts) (front ++ texts text (vectors_of size modulus ts))) → Appends start out front → old.taken ≤ limit → (result ≢ Err stream.TooLong → new.taken ≤ limit)
     → Streams text leaves size modulus old new (Some bytes) (Some rest) out out' first last result
-    → RunsOver IsText size modulus (limit - old.taken) bytes (Some rest) start out' (status_of_stream result)
+    → Meets (mapping all size modulus IsText (limit - old.taken)) bytes (Some rest) start out' (status_of_stream result)
 runs_over IsText size modulus front text leaves old new bytes rest start out out' first last result writes begun within ends s =
     let made = reads_vectors size modulus old new s.read (rest ≡ []) s.vectors result s.answer in
     let told : IsText s.vectors (front ++ texts text s.vectors) = subst (λ (v : List (List ℕ)). IsText v (front ++ texts text v)) made.1 (writes made.0) in
     ended IsText size modulus front text leaves old new bytes rest start out out' first last result s told begun within ends
+
+-- the same over a source that may tell its bytes
+pub streams_told : {S : Type 0} (IsText : List (List ℕ) → List ℕ → Type 0) (size modulus : ℕ) (front : List ℕ) (text : List ℕ → List ℕ) (leaves : List ℕ → S) (old new : Fed) (before after start out out' : Option (List ℕ)) (first last : S)
+    (result : Result (Unit {0}) StreamFault)
+    → ((ts : List (List ℕ)) → IsText (vectors_of size modulus ts) (front ++ texts text (vectors_of size modulus ts))) → Appends start out front → old.taken ≤ limit → (result ≢ Err stream.TooLong → new.taken ≤ limit)
+    → Streams text leaves size modulus old new before after out out' first last result
+    → ToldMeets (mapping all size modulus IsText (limit - old.taken)) before after start out' (status_of_stream result)
+streams_told IsText size modulus front text leaves old new None after start out out' first last result writes begun within ends s = tt
+streams_told IsText size modulus front text leaves old new (Some bytes) None start out out' first last result writes begun within ends s = absurd s.consumed
+streams_told IsText size modulus front text leaves old new (Some bytes) (Some rest) start out out' first last result writes begun within ends s =
+    runs_over IsText size modulus front text leaves old new bytes rest start out out' first last result writes begun within ends s
 
 -- programs that do the same to each vector write the same lines
 pub lines_equal : (size modulus : ℕ) (f h : List ℕ → List ℕ) → ((x : List ℕ) → length x ≡ size → All (λ v. v < modulus) x → f x ≡ h x) → 0 < modulus

@@ -1,11 +1,8 @@
 -- The bytes of an input that are read, those that are left, and those that the feed holds.
-use Rattle.std.proofs.Common.{◌≡◌, ◌||◌, ℕ, List, [], ◌∷◌, ◌++◌, None, Some, refl, sym, ap, ◌∙◌, inl, inr}
-use Rattle.std.proofs.lemmas.List.Folds.{list_any-append}
-use Rattle.std.specs.List.{list_any}
+use Rattle.std.proofs.Common.{◌≡◌, ℕ, List, [], ◌∷◌, ◌++◌, None, Some, refl, sym, ap, ◌∙◌}
 use Rattle.std.specs.declared.option.Option.{Option}
 use Rattle.std.specs.Io.KnownBytes.{Consumes, IsAtEnd, prepend_known}
 use Rattle.io_edge.specs.Feed.{Fed, to_come}
-use Rattle.commands.specs.SpiralInput.Line.{is_line_end, HasEnded}
 
 -- Bytes that are read, and bytes that are left
 
@@ -29,11 +26,6 @@ none_left rest read (Some more) r e = nothing_behind read more (sym r ∙ e)
 -- the same of bytes that are cut in two
 pub none_cut : (rest read left : List ℕ) → rest ≡ read ++ left → rest ≡ [] → (read ≡ []) × (left ≡ [])
 none_cut rest read left whole end = (nothing_before read left (sym whole ∙ end), nothing_behind read left (sym whole ∙ end))
-
--- a line that has ended has ended behind further bytes too
-pub still_ended : (read more : List ℕ) (now later : Type 0) → HasEnded read now → (now → later) → HasEnded (read ++ more) later
-still_ended read more now later (inl there) goes = inl (list_any-append is_line_end read more ∙ ap (λ b. b || list_any is_line_end more) there)
-still_ended read more now later (inr e) goes = inr (goes e)
 
 -- What the feed holds
 

@@ -3,9 +3,17 @@ use Rattle.std.proofs.Common.{◌≡◌, ◌⊎◌, ◌≤◌, ◌+◌, ◌-◌,
 use Rattle.std.proofs.Math.Seq.{take-append_seam, take-append-add, drop-append-add}
 use Rattle.std.proofs.lemmas.List.{take_all}
 use Rattle.std.proofs.lemmas.List.Folds.{list_any-append}
-use Rattle.std.specs.List.{list_any, position_or_len}
-use Rattle.io_edge.specs.Feed.{limit}
-use Rattle.commands.specs.SpiralInput.Line.{is_line_end, first_line, data_of, room_behind, HasEnded, IsWholeLine}
+use Rattle.std.specs.List.{before_first, after_first, list_any, position_or_len}
+use Rattle.commands.specs.SpiralInput.Line.{IsWhole}
+use Rattle.commands.specs.Equations.Front.{is_line_end, line, HasEnded}
+use Rattle.commands.proofs.SpiralInput.FrontLemmas.{IsFront}
+
+-- the first line, and what stands behind its end
+abbrev first_line : List ℕ → List ℕ
+first_line bytes = before_first is_line_end bytes
+
+abbrev data_of : List ℕ → List ℕ
+data_of bytes = after_first is_line_end bytes
 
 neither : (a b : Bool) → (a || b) ≡ false → (a ≡ false) × (b ≡ false)
 neither true b h = absurd (cc)
@@ -25,8 +33,8 @@ unended_push text byte h other =
     list_any-append is_line_end text (byte ∷ []) ∙ ap (λ t. t || (is_line_end byte || false)) h ∙ ap (λ t. t || false) other
 
 -- a line and its end
-pub line_ended : (text : List ℕ) (byte : ℕ) (ended : Type 0) → list_any is_line_end text ≡ false → is_line_end byte ≡ true → IsWholeLine (text ++ byte ∷ []) ended text
-line_ended text byte ended h end more none =
+pub line_ended : (most : ℕ) (text : List ℕ) (byte : ℕ) (ended : Type 0) → list_any is_line_end text ≡ false → is_line_end byte ≡ true → IsWhole (line most) (text ++ byte ∷ []) ended text
+line_ended most text byte ended h end more none =
     let all : (text ++ byte ∷ []) ++ more ≡ text ++ byte ∷ more = append_assoc text (byte ∷ []) more in
     let at : position_or_len is_line_end (text ++ byte ∷ more) ≡ length text =
     goes_past text (byte ∷ more) h ∙ ap (λ t. length text + cond (not t) (1 + position_or_len is_line_end more) 0) end ∙ add-zero (length text) in (
@@ -35,8 +43,8 @@ line_ended text byte ended h end more none =
     )
 
 -- a line that the input ends
-pub line_cut : (text : List ℕ) (ended : Type 0) → list_any is_line_end text ≡ false → ended → IsWholeLine text ended text
-line_cut text ended h end more none =
+pub line_cut : (most : ℕ) (text : List ℕ) (ended : Type 0) → list_any is_line_end text ≡ false → ended → IsWhole (line most) text ended text
+line_cut most text ended h end more none =
     let all : text ++ more ≡ text = ap (λ l. text ++ l) (none end) ∙ append-nil text in
     let at : position_or_len is_line_end text ≡ length text = ap (position_or_len is_line_end) (sym (append-nil text)) ∙ goes_past text [] h ∙ add-zero (length text) in (
       ap first_line all ∙ ap (λ n. take n text) at ∙ take_all (length text) text (omega arith),
@@ -55,22 +63,21 @@ two_cases : (b : Bool) → (b ≡ true) ⊎ (b ≡ false)
 two_cases true = inl refl
 two_cases false = inr refl
 
--- as many bytes may come behind the line as the limit leaves behind what was taken for it
-pub room_after : (read more : List ℕ) (taken : ℕ) → taken ≡ length read → data_of (read ++ more) ≡ more → limit - taken ≡ room_behind (read ++ more)
-room_after read more taken count is =
-    let whole : length (read ++ more) ≡ length read + length more = length-append read more in
-    let behind : length (data_of (read ++ more)) ≡ length more = ap length is in
-    ap (λ n. limit - n) (omega (arith, count, whole, behind))
-
 -- the first line has ended where what stands behind it is known, whatever follows
-pub line_there : (read rest : List ℕ) → ((more : List ℕ) → (rest ≡ [] → more ≡ []) → data_of (read ++ more) ≡ more) → HasEnded read (rest ≡ [])
-line_there read [] behind = inr refl
-line_there read (x ∷ rest) behind =
+line_there : (most : ℕ) (read rest : List ℕ) → ((more : List ℕ) → (rest ≡ [] → more ≡ []) → data_of (read ++ more) ≡ more) → HasEnded (line most) read (rest ≡ [])
+line_there most read [] behind = inr refl
+line_there most read (x ∷ rest) behind =
     elim (two_cases (list_any is_line_end read)) [
       | inl there ↦ inl there
       | inr none ↦
           let zero_behind : data_of (read ++ 0 ∷ []) ≡ 0 ∷ [] = behind (0 ∷ []) (λ e. absurd (cc)) in
-          let cut = line_cut (read ++ 0 ∷ []) (Unit {0}) (unended_push read 0 none refl) tt [] (λ _. refl) in
+          let cut = line_cut most (read ++ 0 ∷ []) (Unit {0}) (unended_push read 0 none refl) tt [] (λ _. refl) in
           let nothing : data_of (read ++ 0 ∷ []) ≡ [] = ap data_of (sym (append-nil (read ++ 0 ∷ []))) ∙ cut.1 in
           absurd (cc)
     ]
+
+pub line_is_front : (most : ℕ) → IsFront (line most)
+line_is_front most = record {
+  kept = λ read more there. list_any-append is_line_end read more ∙ ap (λ b. b || list_any is_line_end more) there;
+  there = line_there most;
+}

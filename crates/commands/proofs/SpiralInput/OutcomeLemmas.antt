@@ -2,7 +2,6 @@
 use Rattle.std.proofs.Common.{◌≡◌, ◌≢◌, ℕ, List, [], ◌++◌, None, Some, refl, sym, ap, subst, ◌∙◌, append_assoc}
 use Rattle.std.proofs.KnownBytes.{Appends-nil}
 use Rattle.std.specs.declared.option.Option.{Option}
-use Rattle.std.specs.Io.KnownBytes.{IsAtEnd}
 use Rattle.io_edge.specs.Feed.{Fed, to_come}
 use Rattle.io_edge.specs.Taken.{AppendsPrefix}
 use Rattle.spiral_words.specs.SpiralStatus.Status.{IsDefined}
@@ -18,19 +17,6 @@ meets_nothing outcomes bytes left out status right read write = record {
   answer = λ d. ([], right d, Appends-nil out);
   read_fault = λ e. absurd (read e);
   write_fault = λ e. absurd (write e);
-}
-
--- what is right for a part of the calls is right for all of them
-pub meets_wider : (narrow wide : Outcomes) (before left out out' : Option (List ℕ)) (status : Status)
-    → ((bytes : List ℕ) (s : Status) (text : List ℕ) → narrow.answer bytes s text → wide.answer bytes s text)
-    → ((read text : List ℕ) → narrow.broken read (IsAtEnd left) text → wide.broken read (IsAtEnd left) text)
-    → ((read rest text : List ℕ) → narrow.cut read rest text → wide.cut read rest text)
-    → ToldMeets narrow before left out out' status → ToldMeets wide before left out out' status
-meets_wider narrow wide None left out out' status answer broken cut p = tt
-meets_wider narrow wide (Some bytes) left out out' status answer broken cut p = record {
-  answer = λ d. let found = p.answer d in (found.0, answer bytes status found.0 found.1, found.2);
-  read_fault = λ e. let found = p.read_fault e in (found.0, found.1, found.2, broken found.0 found.1 found.3, found.4);
-  write_fault = λ e. let found = p.write_fault e in (found.0, found.1, found.2, found.3, found.4, found.5, cut found.0 (found.1 ++ found.2) found.3 found.6, found.7);
 }
 
 some_rest : (held rest more : List ℕ) → Some (held ++ more) ≡ Some rest → rest ≡ held ++ more

@@ -1,10 +1,38 @@
-use Rattle.io_edge.specs.Feed.{to_come, limit}
-use Rattle.std.proofs.Common.{◌-◌}
-use Rattle.commands.specs.SpiralInput.Stage.{status_of}
-use Rattle.commands.proofs.PerformedLemmas.{told_any}
+use Rattle.std.proofs.lemmas.Result.{err_from_is_err_and}
+use Rattle.io_edge.specs.Feed.{to_come}
+use Rattle.commands.specs.Equations.Front.{line}
+use Rattle.commands.specs.Equations.Orders.{turned}
+use Rattle.commands.specs.Equations.Requests.{outcomes_by_request, work_for}
+use Rattle.commands.specs.SpiralInput.Asking.{spelt}
+use Rattle.commands.specs.SpiralInput.Commands.{procs_named}
+use Rattle.commands.specs.SpiralInput.Stage.{◌>>=◌, status_of}
+use Rattle.commands.proofs.Performs.{by_line, request_within}
+use Rattle.commands.proofs.SpiralInput.FrontLemmas.{front_refused, front_told}
+use Rattle.commands.proofs.SpiralInput.LineLemmas.{line_is_front}
+use Rattle.commands.proofs.SpiralInput.Within.{told_within}
 use Rattle.commands.proofs.perform.Goals as goal
 
-pub returns-in_default-clause-told : goal.returns-in_default-clause-told
-returns-in_default-clause-told g c =
-    told_any c.args.command.now c.args.request.now (limit - c.args.feed.now.taken) (to_come c.args.feed.now (g.I.Source.left c.args.input.now))
-    (g.O.Sink.taken c.args.output.now) (g.O.Sink.taken c.write_text.new.output) (status_of c.write_text.result) c.write_text.ensures.told
+pub returns-in_err-request-clause-told : goal.returns-in_err-request-clause-told
+returns-in_err-request-clause-told g c =
+    let command = c.args.command.now in
+    let start = to_come c.args.feed.now (g.I.Source.left c.args.input.now) in
+    let reached = to_come c.ask.new.feed (g.I.Source.left c.ask.new.input) in
+    let out = g.O.Sink.taken c.args.output.now in
+    let fault = c.in_err-request.field-0.0 in
+    let p = err_from_is_err_and c.from_residual.result c.from_residual.ensures.1 in
+    rw (p.1, p.2) (told_within (by_line command) (outcomes_by_request command) start reached out out fault (request_within command)
+    (front_refused (line 256) (λ text. spelt text >>= turned (procs_named command)) (work_for command) start reached out c.ask.new.feed.taken fault
+    c.in_err-request.ensures.told c.in_err-request.ensures.ends.others.write))
+
+pub returns-clause-told : goal.returns-clause-told
+returns-clause-told g c =
+    let command = c.args.command.now in
+    let start = to_come c.args.feed.now (g.I.Source.left c.args.input.now) in
+    let reached = to_come c.ask.new.feed (g.I.Source.left c.ask.new.input) in
+    let last = to_come c.perform_for.new.feed (g.I.Source.left c.perform_for.new.input) in
+    let out = g.O.Sink.taken c.args.output.now in
+    let written = g.O.Sink.taken c.perform_for.new.output in
+    let status = status_of c.perform_for.result in
+    told_within (by_line command) (outcomes_by_request command) start last out written status (request_within command)
+    (front_told (line 256) (line_is_front 256) (λ text. spelt text >>= turned (procs_named command)) (work_for command) start reached last c.ask.new.feed.taken c.in_ok-request.request
+    out written status c.in_ok-request.ensures.told c.perform_for.ensures.told)

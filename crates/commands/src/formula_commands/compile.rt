@@ -2,7 +2,9 @@
 ghost use Rattle.std.specs.Prelude.{◌≡◌, ◌≤◌, Ok, Err, IfOk, IfErr, length};
 ghost use Rattle.io_edge.specs.Feed.{to_come};
 ghost use Rattle.spl_ast.specs.Formula.{parts_of};
-ghost use Rattle.commands.specs.FormulaCommands.Compiled.{IsCompiledText, formed, formula_outcomes, written};
+ghost use Rattle.commands.specs.Equations.Compile.{compile_outcomes};
+ghost use Rattle.commands.specs.Equations.Formulas.{written};
+ghost use Rattle.commands.specs.FormulaCommands.Compiled.{IsCompiledText};
 ghost use Rattle.commands.specs.SpiralInput.Ends.{EndsCleanly};
 ghost use Rattle.commands.specs.SpiralInput.Outcomes.{ToldMeets};
 ghost use Rattle.commands.specs.SpiralInput.Stage.{status_of};
@@ -14,7 +16,7 @@ use generate::formula_program;
 use io_edge::{Feed, Sink, Source, write_all};
 use listing_text::print_listing;
 use ring_mod::Modulus;
-use spiral_words::{Command, Status};
+use spiral_words::Status;
 use spl_ast::Spl;
 use spl_text::read_spl;
 use std::alloc::Global;
@@ -34,8 +36,7 @@ pub(crate) fn written_formula(alloc: Global, text: &[u8]) -> Result<Spl, Status>
 fn formula_listing(alloc: Global, modulus: &Modulus, text: &[u8]) -> Result<Vec<u8>, Status>
     requires short { length text.now ≤ 65536 }
     ensures text { IfOk result (λ listing. IsCompiledText modulus.now text.now listing.items) }
-    ensures refused { IfErr result
-        (λ status. IsDefined status → formed (Command.Compile modulus.now) text.now (Err status)) }
+    ensures refused { IfErr result (λ status. IsDefined status → written text.now (Err status)) }
     ensures refusal { IfErr result IsRefusal }
 {
     let formula = written_formula(alloc, text)?;
@@ -53,7 +54,7 @@ pub(crate) fn compile<I: Source, O: Sink>(
     output: &mut O,
 ) -> Result<(), Status>
     requires fresh { feed.old.taken ≡ 0 }
-    ensures told { ToldMeets (formula_outcomes (Command.Compile modulus.now))
+    ensures told { ToldMeets (compile_outcomes modulus.now)
         (to_come feed.old (I.left input.old)) (to_come feed.new (I.left input.new))
         (O.taken output.old) (O.taken output.new) (status_of result) }
     ensures ends { EndsCleanly (status_of result) feed.new.held

@@ -10,7 +10,7 @@ use spiral_words::LINE_LIMIT;
 
 /// Reads the first line, to its end or the end of the input, and answers how many bytes it has.
 /// `TooLong` is a line that has more than the buffer takes.
-pub fn read_line<S: Source>(
+pub(crate) fn read_line<S: Source>(
     feed: &mut Feed,
     source: &mut S,
     buffer: &mut [u8],

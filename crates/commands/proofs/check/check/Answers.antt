@@ -4,8 +4,8 @@ use Rattle.std.proofs.KnownBytes.{Appends-nil}
 use Rattle.io_edge.specs.Feed.{to_come, limit}
 use Rattle.plan_cert.specs.declared.verdict.Verdict.TheVariants as verdict
 use Rattle.spiral_words.specs.SpiralStatus.Fault.{status_of_generate}
-use Rattle.spiral_words.specs.declared.Command.TheVariants as command
-use Rattle.commands.proofs.PerformedLemmas.{generate_barred, generate_refusal, told_refused, performs_unread, judged_of, performs_judged, performs_judged_cut}
+use Rattle.commands.proofs.CheckLemmas.{check_barred, check_unread, judged_of, check_judged, check_cut}
+use Rattle.commands.proofs.Documents.{generate_refusal}
 use Rattle.commands.proofs.SpiralInput.StatusLemmas.{rest_usage, refusal_ends}
 use Rattle.commands.proofs.check.check.Goals as goal
 
@@ -13,8 +13,8 @@ pub returns-in_err-admit-clause-told : goal.returns-in_err-admit-clause-told
 returns-in_err-admit-clause-told g c =
     let fault = c.in_err-admit.field-0.0 in
     let p = err_from_is_err_and c.from_residual.result c.from_residual.ensures.1 in
-    rw (p.1, p.2) (told_refused command.Check c.args.request.now (limit - c.args.feed.now.taken) (to_come c.args.feed.now (g.I.Source.left c.args.input.now)) (to_come c.args.feed.now (g.I.Source.left c.args.input.now)) (g.O.Sink.taken c.args.output.now) _
-    (λ _. generate_barred c.args.request.now fault c.in_err-admit.ensures.barred) (generate_refusal fault))
+    rw (p.1, p.2) (check_barred c.args.request.now (limit - c.args.feed.now.taken) (to_come c.args.feed.now (g.I.Source.left c.args.input.now)) (to_come c.args.feed.now (g.I.Source.left c.args.input.now)) (g.O.Sink.taken c.args.output.now) fault
+    c.in_err-admit.ensures.barred)
 
 pub returns-in_err-text-clause-told : goal.returns-in_err-text-clause-told
 returns-in_err-text-clause-told g c =
@@ -22,7 +22,7 @@ returns-in_err-text-clause-told g c =
     let reached = to_come c.read_rest.new.feed (g.I.Source.left c.read_rest.new.source) in
     let answer = c.in_err-text.ensures.answer in
     let p = err_from_is_err_and c.from_residual-in_err-text.result c.from_residual-in_err-text.ensures.1 in
-    rw (p.1, p.2) (performs_unread c.args.request.now (limit - c.args.feed.now.taken) start reached (g.O.Sink.taken c.args.output.now) answer.0 c.in_err-text.field-0.0
+    rw (p.1, p.2) (check_unread c.args.request.now (limit - c.args.feed.now.taken) start reached (g.O.Sink.taken c.args.output.now) answer.0 c.in_err-text.field-0.0
     c.in_ok-admit.ensures.admitted answer.1 answer.2)
 
 pub returns-in_err-write_least-in-Least-clause-told : goal.returns-in_err-write_least-in-Least-clause-told
@@ -35,7 +35,7 @@ returns-in_err-write_least-in-Least-clause-told g c =
     let judged = judged_of request c.new.result text c.deref.result.now (verdict.Least c.in-Least.cost)
     c.in_ok-cost.field-0 c.new.ensures c.deref.ensures.value c.in-Least.is c.in_ok-cost.ensures.verdict in
     let p = err_from_is_err_and c.from_residual-in_err-write_least-in-Least.result c.from_residual-in_err-write_least-in-Least.ensures.1 in
-    rw (p.1, p.2) (performs_judged_cut request (limit - c.args.feed.now.taken) start reached (g.O.Sink.taken c.args.output.now) (g.O.Sink.taken c.write_least.new.output) answer.0 text c.in-Least.cost
+    rw (p.1, p.2) (check_cut request (limit - c.args.feed.now.taken) start reached (g.O.Sink.taken c.args.output.now) (g.O.Sink.taken c.write_least.new.output) answer.0 text c.in-Least.cost
     c.in_ok-admit.ensures.admitted answer.1 answer.2.0 answer.2.1 answer.2.2 judged c.in_err-write_least-in-Least.ensures.bytes)
 
 pub returns-in-Least-clause-told : goal.returns-in-Least-clause-told
@@ -47,7 +47,7 @@ returns-in-Least-clause-told g c =
     let answer = c.in_ok-text.ensures.answer in
     let judged = judged_of request c.new.result text c.deref.result.now (verdict.Least c.in-Least.cost)
     c.in_ok-cost.field-0 c.new.ensures c.deref.ensures.value c.in-Least.is c.in_ok-cost.ensures.verdict in
-    performs_judged request (limit - c.args.feed.now.taken) start reached (g.O.Sink.taken c.args.output.now) (g.O.Sink.taken c.write_least.new.output) answer.0 text (verdict.Least c.in-Least.cost)
+    check_judged request (limit - c.args.feed.now.taken) start reached (g.O.Sink.taken c.args.output.now) (g.O.Sink.taken c.write_least.new.output) answer.0 text (verdict.Least c.in-Least.cost)
     c.in_ok-admit.ensures.admitted answer.1 answer.2.0 answer.2.1 answer.2.2 judged c.in_ok-write_least-in-Least.ensures.bytes
 
 pub returns-in-Unread-clause-told : goal.returns-in-Unread-clause-told
@@ -60,7 +60,7 @@ returns-in-Unread-clause-told g c =
     let judged = judged_of request c.new.result text c.deref.result.now verdict.Unread
     c.in_ok-cost.field-0 c.new.ensures c.deref.ensures.value c.in-Unread.is c.in_ok-cost.ensures.verdict in
     let out = g.O.Sink.taken c.args.output.now in
-    performs_judged request (limit - c.args.feed.now.taken) start reached out out answer.0 text verdict.Unread
+    check_judged request (limit - c.args.feed.now.taken) start reached out out answer.0 text verdict.Unread
     c.in_ok-admit.ensures.admitted answer.1 answer.2.0 answer.2.1 answer.2.2 judged (Appends-nil out)
 
 pub returns-clause-told : goal.returns-clause-told
@@ -73,7 +73,7 @@ returns-clause-told g c =
     let judged = judged_of request c.new.result text c.deref.result.now (verdict.Wrong c.in-Wrong.size c.in-Wrong.given c.in-Wrong.found)
     c.in_ok-cost.field-0 c.new.ensures c.deref.ensures.value c.in-Wrong.is c.in_ok-cost.ensures.verdict in
     let out = g.O.Sink.taken c.args.output.now in
-    performs_judged request (limit - c.args.feed.now.taken) start reached out out answer.0 text (verdict.Wrong c.in-Wrong.size c.in-Wrong.given c.in-Wrong.found)
+    check_judged request (limit - c.args.feed.now.taken) start reached out out answer.0 text (verdict.Wrong c.in-Wrong.size c.in-Wrong.given c.in-Wrong.found)
     c.in_ok-admit.ensures.admitted answer.1 answer.2.0 answer.2.1 answer.2.2 judged (Appends-nil out)
 
 pub returns-in_err-admit-clause-ends : goal.returns-in_err-admit-clause-ends

@@ -1,22 +1,54 @@
+use Rattle.std.proofs.Common.{true, false}
 use Rattle.std.proofs.lemmas.Result.{err_from_is_err_and}
 use Rattle.io_edge.specs.Feed.{to_come}
-use Rattle.commands.specs.SpiralInput.Stage.{status_of}
-use Rattle.commands.proofs.ConvolutionCommands.ConvolvedLemmas.{convolves_line, convolves_asked}
+use Rattle.request_text.specs.Turns.{named}
+use Rattle.commands.specs.ConvolutionCommands.Convolved.{work_by_list}
+use Rattle.commands.specs.Equations.Convolutions.{conv_spelt}
+use Rattle.commands.specs.Equations.Convolve.{outcomes_by_list}
+use Rattle.commands.specs.Equations.Front.{line}
+use Rattle.commands.specs.Equations.Orders.{turned}
+use Rattle.commands.specs.SpiralInput.Stage.{◌>>=◌, status_of}
+use Rattle.commands.proofs.ConvolutionCommands.ConvolvedLemmas.{by_line, list_within}
+use Rattle.commands.proofs.SpiralInput.FrontLemmas.{front_refused, front_told}
+use Rattle.commands.proofs.SpiralInput.LineLemmas.{line_is_front}
+use Rattle.commands.proofs.SpiralInput.Within.{told_within}
 use Rattle.commands.proofs.convolution_commands.convolve.Goals as goal
 
 pub returns-in_err-request-clause-told : goal.returns-in_err-request-clause-told
 returns-in_err-request-clause-told g c =
+    let schedule = c.args.schedule.now in
+    let code = c.args.code in
     let start = to_come c.args.feed.now (g.I.Source.left c.args.input.now) in
     let reached = to_come c.ask_conv.new.feed (g.I.Source.left c.ask_conv.new.input) in
+    let out = g.O.Sink.taken c.args.output.now in
+    let fault = c.in_err-request.field-0.0 in
     let p = err_from_is_err_and c.from_residual.result c.from_residual.ensures.1 in
-    rw (p.1, p.2) (convolves_line c.args.command.now start reached (g.O.Sink.taken c.args.output.now) c.ask_conv.new.feed.taken c.in_err-request.field-0.0
-    c.in_err-request.ensures.told c.in_err-request.ensures.ends.others.write)
+    rw (p.1, p.2) (told_within (by_line schedule code) (outcomes_by_list schedule code) start reached out out fault (list_within schedule code)
+    (front_refused (line 256) (λ text. conv_spelt text >>= turned (named schedule)) (work_by_list code) start reached out c.ask_conv.new.feed.taken fault
+    c.in_err-request.ensures.told c.in_err-request.ensures.ends.others.write))
 
-pub returns-clause-told : goal.returns-clause-told
-returns-clause-told g c =
+pub returns-then-code-clause-told : goal.returns-then-code-clause-told
+returns-then-code-clause-told g c =
+    let schedule = c.args.schedule.now in
     let start = to_come c.args.feed.now (g.I.Source.left c.args.input.now) in
-    let mid = to_come c.ask_conv.new.feed (g.I.Source.left c.ask_conv.new.input) in
-    let reached = to_come c.convolve_for.new.feed (g.I.Source.left c.convolve_for.new.input) in
-    let taken = g.O.Sink.taken in
-    convolves_asked c.args.command.now start mid reached c.ask_conv.new.feed.taken c.in_ok-request.request (taken c.args.output.now) (taken c.convolve_for.new.output)
-    (status_of c.convolve_for.result) c.in_ok-request.ensures.told c.convolve_for.ensures.told
+    let reached = to_come c.ask_conv.new.feed (g.I.Source.left c.ask_conv.new.input) in
+    let last = to_come c.print_convolver.new.feed (g.I.Source.left c.print_convolver.new.input) in
+    let out = g.O.Sink.taken c.args.output.now in
+    let written = g.O.Sink.taken c.print_convolver.new.output in
+    let status = status_of c.print_convolver.result in
+    rw c.if-code.true (told_within (by_line schedule true) (outcomes_by_list schedule true) start last out written status (list_within schedule true)
+    (front_told (line 256) (line_is_front 256) (λ text. conv_spelt text >>= turned (named schedule)) (work_by_list true) start reached last c.ask_conv.new.feed.taken c.in_ok-request.request
+    out written status c.in_ok-request.ensures.told c.print_convolver.ensures.told))
+
+pub returns-else-code-clause-told : goal.returns-else-code-clause-told
+returns-else-code-clause-told g c =
+    let schedule = c.args.schedule.now in
+    let start = to_come c.args.feed.now (g.I.Source.left c.args.input.now) in
+    let reached = to_come c.ask_conv.new.feed (g.I.Source.left c.ask_conv.new.input) in
+    let last = to_come c.run_convolver.new.feed (g.I.Source.left c.run_convolver.new.input) in
+    let out = g.O.Sink.taken c.args.output.now in
+    let written = g.O.Sink.taken c.run_convolver.new.output in
+    let status = status_of c.run_convolver.result in
+    rw c.if-code.false (told_within (by_line schedule false) (outcomes_by_list schedule false) start last out written status (list_within schedule false)
+    (front_told (line 256) (line_is_front 256) (λ text. conv_spelt text >>= turned (named schedule)) (work_by_list false) start reached last c.ask_conv.new.feed.taken c.in_ok-request.request
+    out written status c.in_ok-request.ensures.told c.run_convolver.ensures.told))

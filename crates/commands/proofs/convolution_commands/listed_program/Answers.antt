@@ -1,4 +1,4 @@
-use Rattle.std.proofs.Common.{◌≡◌, ◌<◌, ◌-◌, All, length, ap, subst, sym, ◌∙◌}
+use Rattle.std.proofs.Common.{◌≡◌, ◌<◌, ◌-◌, All, length, refl, ap, subst, sym, ◌∙◌}
 use Rattle.std.proofs.lemmas.Result.{err_from_is_err_and}
 use Rattle.std.proofs.lemmas.List.{with_items_is}
 use Rattle.generate.specs.Convolver.{IsConvolver}
@@ -6,8 +6,13 @@ use Rattle.generate.specs.ConvLetters.{conv_program}
 use Rattle.tree_model.specs.Breakdown.{breakdown_of}
 use Rattle.io_edge.specs.Feed.{to_come, limit}
 use Rattle.spiral_words.specs.SpiralStatus.Fault.{status_of_conv}
+use Rattle.icode.specs.Program.{plain_program}
 use Rattle.runs.specs.Progress.{HasNoVector}
-use Rattle.commands.proofs.ConvolutionCommands.ConvolvedLemmas.{conv_refused, conv_refusal, convolves_refused, convolves_lacking}
+use Rattle.commands.specs.ConvolutionCommands.Convolved.{list_work}
+use Rattle.commands.specs.Equations.Convolutions.{conv_chosen}
+use Rattle.commands.proofs.ConvolutionCommands.ConvolvedLemmas.{conv_refused, conv_refusal, convolves_lacking}
+use Rattle.commands.proofs.Documents.{with_tree}
+use Rattle.commands.proofs.SpiralInput.StageLemmas.{stage_refused}
 use Rattle.commands.proofs.convolution_commands.listed_program.Goals as goal
 
 pub returns-in_err-plan-clause-told : goal.returns-in_err-plan-clause-told
@@ -15,7 +20,7 @@ returns-in_err-plan-clause-told g c =
     let start = to_come c.args.feed.now (g.I.Source.left c.args.input.now) in
     let fault = c.in_err-plan.field-0.0 in
     let p = err_from_is_err_and c.from_residual.result c.from_residual.ensures.1 in
-    rw (p.1, p.2) (λ wanted out. convolves_refused wanted c.args.request.now (limit - c.args.feed.now.taken) start start out (status_of_conv fault)
+    rw (p.1, p.2) (λ code out. stage_refused (conv_chosen c.args.request.now) (list_work code) (limit - c.args.feed.now.taken) start start out (status_of_conv fault)
     (conv_refused c.args.request.now fault c.in_err-plan.ensures.refused) (conv_refusal fault))
 
 pub returns-in_err-read_first-clause-told : goal.returns-in_err-read_first-clause-told
@@ -30,8 +35,8 @@ returns-in_err-read_first-clause-told g c =
     subst (λ m. HasNoVector request.size m c.args.feed.now c.read_first.new.feed start reached fault) modulus
     (subst (λ n. HasNoVector n c.unwrap-modulus.result c.args.feed.now c.read_first.new.feed start reached fault) size c.in_err-read_first.ensures.none) in
     let p = err_from_is_err_and c.from_residual-in_err-read_first.result c.from_residual-in_err-read_first.ensures.1 in
-    rw (p.1, p.2) (λ wanted out. convolves_lacking wanted request c.args.feed.now c.read_first.new.feed start reached out fault
-    (breakdown_of c.in_ok-plan.plan.tree, c.in_ok-plan.ensures.planned) c.requires.within (λ other. c.in_err-read_first.ensures.within (λ e. other (let q = p.1 in cc))) none)
+    rw (p.1, p.2) (λ code out. convolves_lacking code (with_tree request (breakdown_of c.in_ok-plan.plan.tree)) request c.args.feed.now c.read_first.new.feed start reached out fault
+    (refl, c.in_ok-plan.ensures.planned) c.requires.within (λ other. c.in_err-read_first.ensures.within (λ e. other (let q = p.1 in cc))) none)
 
 pub generate_conv-requires-clause-list : goal.generate_conv-requires-clause-list
 generate_conv-requires-clause-list g c =
@@ -54,5 +59,5 @@ returns-clause-program g c =
       tree = tree;
       planned = c.in_ok-plan.ensures.planned;
       letters = c.in_ok-program.ensures.letters ∙ ap (conv_program request tree) c.deref.ensures.value;
-      convolver = subst (λ h. IsConvolver request tree h program) c.deref.ensures.value c.in_ok-program.ensures.convolver;
+      convolver = subst (λ h. IsConvolver request tree h (plain_program program)) c.deref.ensures.value c.in_ok-program.ensures.convolver;
     }

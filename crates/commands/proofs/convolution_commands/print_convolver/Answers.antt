@@ -1,4 +1,4 @@
-use Rattle.std.proofs.Common.{◌<◌, arith}
+use Rattle.std.proofs.Common.{◌<◌, arith, true}
 use Rattle.std.proofs.lemmas.Result.{err_from_is_err_and}
 use Rattle.io_edge.specs.Feed.{to_come}
 use Rattle.commands.proofs.ConvolutionCommands.ConvolvedLemmas.{convolves_listing, convolves_cut}
@@ -16,7 +16,7 @@ returns-in_err-write_all-clause-told g c =
     let some : 0 < c.args.request.now.size = omega (arith, c.requires.request.in_range.size.0) in
     let wrote = rw c.deref.ensures.value at c.in_err-write_all.ensures.bytes in
     let p = err_from_is_err_and c.from_residual-in_err-write_all.result c.from_residual-in_err-write_all.ensures.1 in
-    rw (p.1, p.2) (convolves_cut c.args.schedule.now c.args.request.now c.in_ok-program.field-0-1 c.args.feed.now c.listed_program.new.feed start reached
+    rw (p.1, p.2) (convolves_cut c.args.request.now c.in_ok-program.field-0-1 c.args.feed.now c.listed_program.new.feed start reached
     (taken c.args.output.now) (taken c.write_all.new.sink) c.in_ok-program.field-0-2.items c.in_ok-listing.listing.items c.in_ok-program.program
     made.cut some made.come made.within made.ready.end made.program c.in_ok-listing.ensures.text wrote)
 
@@ -27,7 +27,7 @@ returns-clause-told g c =
     let taken = g.O.Sink.taken in
     let made = c.in_ok-program.ensures in
     let wrote = rw c.deref.ensures.value at c.in_ok-write_all.ensures.bytes in
-    convolves_listing c.args.schedule.now c.args.request.now c.in_ok-program.field-0-1 c.args.feed.now c.listed_program.new.feed start reached
+    convolves_listing c.args.request.now c.in_ok-program.field-0-1 c.args.feed.now c.listed_program.new.feed start reached
     (taken c.args.output.now) (taken c.write_all.new.sink) c.in_ok-program.field-0-2.items c.in_ok-listing.listing.items c.in_ok-program.program
     made.cut made.come c.requires.within made.within made.ready.end made.program c.in_ok-listing.ensures.text wrote
 
@@ -38,3 +38,8 @@ returns-in_err-listing-clause-ends g c =
     let p = err_from_is_err_and c.from_residual-in_err-listing.result c.from_residual-in_err-listing.ensures.1 in
     rw (p.1, p.2) (quiet_ends NoMemory c.listed_program.new.feed.held (read c.args.input.now) (read c.listed_program.new.input) (g.O.Sink.faults c.args.output.now) (g.O.Sink.taken c.args.output.now)
     same (λ e. cc) (λ e. cc) (λ e. cc))
+
+pub returns-in_err-program-clause-told : goal.returns-in_err-program-clause-told
+returns-in_err-program-clause-told g c =
+    let p = err_from_is_err_and c.from_residual.result c.from_residual.ensures.1 in
+    rw (p.1, p.2) (c.in_err-program.ensures.told true (g.O.Sink.taken c.args.output.now))

@@ -1,7 +1,9 @@
 use Rattle.spiral_words.specs.declared.Command.TheVariants as command
+use Rattle.spiral_words.specs.declared.Document.TheVariants as document
+use Rattle.spiral_words.specs.declared.RequestCommand.TheVariants as request
 use Rattle.spiral_main.proofs.Calls.{outcome_of}
 use Rattle.spiral_main.proofs.Good.{good_code}
 use Rattle.spiral_main.proofs.answers.code_is_good.Goals as goal
 
 pub returns : goal.returns
-returns c = λ words bytes status text asked p. good_code.answer bytes status text (outcome_of words bytes command.Code status text asked p)
+returns c = λ words bytes status text asked p. good_code.answer bytes status text (outcome_of words bytes (command.ByRequest (request.Writes document.Code)) status text asked p)

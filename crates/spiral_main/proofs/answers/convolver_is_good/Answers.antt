@@ -5,4 +5,4 @@ use Rattle.spiral_main.proofs.Good.{good_convolver}
 use Rattle.spiral_main.proofs.answers.convolver_is_good.Goals as goal
 
 pub returns : goal.returns
-returns c = λ schedule words bytes status text asked p. (good_convolver schedule).answer bytes status text (outcome_of words bytes (command.Convolve schedule true) status text asked p)
+returns c = λ schedule words bytes status text asked p. (good_convolver schedule).answer bytes status text (outcome_of words bytes (command.ByList schedule true) status text asked p)

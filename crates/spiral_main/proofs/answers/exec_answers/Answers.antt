@@ -3,4 +3,4 @@ use Rattle.spiral_main.proofs.Calls.{outcome_of}
 use Rattle.spiral_main.proofs.answers.exec_answers.Goals as goal
 
 pub returns : goal.returns
-returns c = λ schedule words bytes status text asked p. outcome_of words bytes (command.Exec schedule) status text asked p
+returns c = λ schedule words bytes status text asked p. outcome_of words bytes (command.ByListing schedule) status text asked p

@@ -1,6 +1,8 @@
 use Rattle.spiral_words.specs.declared.Command.TheVariants as command
+use Rattle.spiral_words.specs.declared.Document.TheVariants as document
+use Rattle.spiral_words.specs.declared.RequestCommand.TheVariants as request
 use Rattle.spiral_main.proofs.Calls.{outcome_of}
 use Rattle.spiral_main.proofs.answers.formula_answers.Goals as goal
 
 pub returns : goal.returns
-returns c = λ words bytes status text asked p. outcome_of words bytes command.Formula status text asked p
+returns c = λ words bytes status text asked p. outcome_of words bytes (command.ByRequest (request.Writes document.Formula)) status text asked p

@@ -1,8 +1,9 @@
 use Rattle.std.proofs.Common.{inr}
 use Rattle.spiral_words.specs.declared.Command.TheVariants as command
+use Rattle.spiral_words.specs.declared.FormulaCommand.TheVariants as formula_command
 use Rattle.spiral_main.proofs.RightFront.{listing_is_right}
 use Rattle.spiral_main.proofs.rights.compile_is_right.Goals as goal
 
 pub returns : goal.returns
-returns c = λ words bytes m formula text asked short gives is.
-    inr (command.Compile m, asked, listing_is_right m bytes formula text short gives is)
+returns c = λ words bytes m formula asked short gives.
+    inr (command.ByFormula m formula_command.Compile, asked, listing_is_right m bytes formula short gives)

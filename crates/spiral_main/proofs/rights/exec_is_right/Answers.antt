@@ -5,4 +5,4 @@ use Rattle.spiral_main.proofs.rights.exec_is_right.Goals as goal
 
 pub returns : goal.returns
 returns c = λ words bytes schedule program asked short gives vectors.
-    inr (command.Exec schedule, asked, executed_is_right schedule bytes program short gives vectors)
+    inr (command.ByListing schedule, asked, executed_is_right schedule bytes program short gives vectors)

@@ -1,11 +1,12 @@
-use Rattle.std.proofs.Common.{◌≡◌, refl, inr}
+use Rattle.std.proofs.Common.{inr}
 use Rattle.runs.specs.Stream.{lines}
 use Rattle.matrix_meaning.specs.Asked.{asked_of}
-use Rattle.spiral_words.specs.declared.Command.TheVariants as command
 use Rattle.commands.specs.SpiralInput.Orders.{procs_in}
+use Rattle.spiral_words.specs.declared.Command.TheVariants as command
+use Rattle.spiral_words.specs.declared.RequestCommand.TheVariants as request
 use Rattle.spiral_main.proofs.RightFront.{data_are_right}
 use Rattle.spiral_main.proofs.rights.run_is_right.Goals as goal
 
 pub returns : goal.returns
 returns c = λ words bytes order plan asked right vectors.
-    inr (command.Run order, asked, data_are_right (procs_in order) bytes (λ p vs t. t ≡ lines (asked_of p.request) vs) plan _ right vectors refl)
+    inr (command.ByRequest (request.Runs order), asked, data_are_right (procs_in order) bytes (λ p vs. lines (asked_of p.request) vs) plan right vectors)

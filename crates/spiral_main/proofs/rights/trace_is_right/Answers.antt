@@ -1,10 +1,14 @@
-use Rattle.std.proofs.Common.{inr}
-use Rattle.spiral_words.specs.declared.Command.TheVariants as command
+use Rattle.std.proofs.Common.{◌++◌, inr}
+use Rattle.listing_text.specs.Listing.{listing_of}
+use Rattle.commands.specs.Letters.{program_for}
+use Rattle.commands.specs.Equations.Trace.{run_lines}
 use Rattle.commands.specs.SpiralInput.Orders.{procs_in}
-use Rattle.spiral_main.specs.Trace.{IsTrace}
+use Rattle.spiral_words.specs.declared.Command.TheVariants as command
+use Rattle.spiral_words.specs.declared.RequestCommand.TheVariants as request
 use Rattle.spiral_main.proofs.RightFront.{data_are_right}
 use Rattle.spiral_main.proofs.rights.trace_is_right.Goals as goal
 
 pub returns : goal.returns
-returns c = λ words bytes order plan text asked right vectors is.
-    inr (command.Trace order, asked, data_are_right (procs_in order) bytes (IsTrace order) plan text right vectors is)
+returns c = λ words bytes order plan asked right vectors.
+    inr (command.ByRequest (request.Traces order), asked,
+    data_are_right (procs_in order) bytes (λ p vs. listing_of (program_for p.request p.tree) ++ run_lines order p vs) plan right vectors)

@@ -2,7 +2,7 @@ use Rattle.std.proofs.Common.{◌≡◌, ◌≤◌, ◌-◌, false, length}
 use Rattle.std.specs.List.{list_any}
 use Rattle.std.specs.Io.KnownBytes.{Consumes}
 use Rattle.io_edge.specs.Feed.{to_come}
-use Rattle.commands.specs.SpiralInput.Line.{is_line_end}
+use Rattle.commands.specs.Equations.Front.{is_line_end}
 use Rattle.commands.proofs.formula_commands.formula_line.read_text.Given as goal
 
 -- the bytes so far were read, one a turn, none of them ends a line, and nothing failed

@@ -2,7 +2,7 @@ use Rattle.std.proofs.Common.{◌≡◌, ◌≤◌, ◌-◌, false, take}
 use Rattle.std.specs.List.{list_any}
 use Rattle.std.specs.Io.KnownBytes.{Consumes}
 use Rattle.io_edge.specs.Feed.{to_come}
-use Rattle.commands.specs.SpiralInput.Line.{is_line_end}
+use Rattle.commands.specs.Equations.Front.{is_line_end}
 use Rattle.commands.proofs.spiral_input.line.read_line.Given as goal
 
 -- the bytes so far were read, one a turn, none of them ends a line, and nothing failed

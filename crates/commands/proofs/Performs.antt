@@ -1,0 +1,63 @@
+-- From what stands behind the line of a request to the whole input.
+use Rattle.std.proofs.Common.{◌≡◌, ◌-◌, ℕ, List, [], None, Some, Ok, refl}
+use Rattle.std.specs.declared.option.Option.{Option}
+use Rattle.matrix_meaning.specs.declared.Request.{Request}
+use Rattle.plan_cert.specs.Verdict.{IsVerdict}
+use Rattle.spiral_words.specs.declared.Document.{Document}
+use Rattle.spiral_words.specs.declared.Document.TheVariants as document
+use Rattle.spiral_words.specs.declared.RequestCommand.{RequestCommand}
+use Rattle.spiral_words.specs.declared.RequestCommand.TheVariants as command
+use Rattle.spiral_words.specs.declared.spiral_status.status.Status.{Status}
+use Rattle.commands.specs.Equations.Check.{fitting, check_outcomes}
+use Rattle.commands.specs.Equations.Front.{Work, line, by_front, staged}
+use Rattle.commands.specs.Equations.Orders.{Planned, chosen, planned, turned}
+use Rattle.commands.specs.Equations.Requests.{document_outcomes, document_work, outcomes_by_request, work_for}
+use Rattle.commands.specs.Equations.Run.{run_work}
+use Rattle.commands.specs.Equations.Trace.{trace_work}
+use Rattle.commands.specs.Equations.Works.{judging}
+use Rattle.commands.specs.SpiralInput.Asking.{spelt}
+use Rattle.commands.specs.SpiralInput.Commands.{procs_named}
+use Rattle.commands.specs.SpiralInput.Outcomes.{Outcomes, Meets, ToldMeets}
+use Rattle.commands.specs.SpiralInput.Stage.{◌>>=◌}
+use Rattle.commands.proofs.CheckLemmas.{checking, judges}
+use Rattle.commands.proofs.SpiralInput.Nested.{no_unit}
+use Rattle.commands.proofs.SpiralInput.Within.{Within, within_then, front_within, front_join}
+
+-- what is right by the line of a request, and then behind it
+abbrev pub by_line : RequestCommand → Outcomes
+by_line command = by_front (line 256) (λ text. spelt text >>= turned (procs_named command)) (work_for command)
+
+same_within : (a : Outcomes) → Within a a
+same_within a = record { answer = λ bytes s t p. p; broken = λ read ended t p. p; cut = λ read left t p. p }
+
+-- with the tree that is chosen
+planned_within : (names : List ℕ) (work : Planned → Work)
+    → Within (by_front (line 256) (λ text. spelt text >>= turned names) (λ (request : Request). staged (chosen request) work))
+        (by_front (line 256) (planned names) work)
+planned_within names work = front_join (line 256) (λ text. spelt text >>= turned names) chosen work
+
+document_within : (wanted : Document) → Within (by_line (command.Writes wanted)) (document_outcomes wanted)
+document_within document.Plan = planned_within [] (document_work document.Plan)
+document_within document.Formula = planned_within [] (document_work document.Formula)
+document_within document.Code = planned_within [] (document_work document.Code)
+document_within document.C = planned_within [] (document_work document.C)
+document_within document.Cert = planned_within [] (document_work document.Cert)
+document_within (document.Sample seed schedule) = planned_within _ (document_work (document.Sample seed schedule))
+
+check_within : Within (by_line command.Judges) check_outcomes
+check_within =
+    within_then (by_line command.Judges) (by_front (line 256) spelt checking) check_outcomes
+    (front_within (line 256) (λ text. spelt text >>= turned []) spelt checking checking (λ text r p. no_unit (spelt text) r p) (λ request room. same_within (checking request room)))
+    (front_join (line 256) spelt fitting judges)
+
+pub request_within : (wanted : RequestCommand) → Within (by_line wanted) (outcomes_by_request wanted)
+request_within (command.Writes wanted) = document_within wanted
+request_within (command.Runs order) = planned_within _ run_work
+request_within (command.Traces order) = planned_within _ (trace_work order)
+request_within command.Judges = check_within
+
+-- the command writes a document, and reads nothing
+pub told_any : (outcomes : ℕ → Outcomes) (room : ℕ) (before out out' : Option (List ℕ)) (status : Status)
+    → ((room : ℕ) (bytes : List ℕ) → Meets (outcomes room) bytes (Some bytes) out out' status) → ToldMeets (outcomes room) before before out out' status
+told_any outcomes room None out out' status p = tt
+told_any outcomes room (Some bytes) out out' status p = p room bytes

@@ -1,0 +1,131 @@
+-- What a run of a program over the data comes to.
+use Rattle.std.proofs.Common.{◌≡◌, ◌≢◌, ◌<◌, ◌≤◌, ◌-◌, ℕ, Bool, true, false, List, [], ◌∷◌, ◌++◌, None, Some, Ok, Err, Result, length, refl, sym, ap, subst, ◌∙◌, arith, append-nil, nat_lt, inl, take}
+use Rattle.std.proofs.KnownBytes.{Appends-nil}
+use Rattle.std.specs.declared.option.Option.{Option}
+use Rattle.std.specs.Io.KnownBytes.{Appends}
+use Rattle.buffer_machine.specs.Listed as listed
+use Rattle.buffer_machine.specs.declared.Events.{Events}
+use Rattle.buffer_machine.specs.declared.Events.TheVariants as events
+use Rattle.data_stream.specs.Data.{tokens, closed_part}
+use Rattle.icode.specs.Buffers.{Buffered, buffered_runs}
+use Rattle.icode.specs.Machine.{Code, State, runs}
+use Rattle.icode.specs.Program.{Fits, code_of}
+use Rattle.icode.specs.declared.program.Program.{Program}
+use Rattle.io_edge.specs.Feed.{Fed, limit}
+use Rattle.io_edge.specs.Taken.{AppendsPrefix}
+use Rattle.request_text.specs.Schedule.{Plan}
+use Rattle.request_text.specs.Turns.{turns_of}
+use Rattle.runs.proofs.StreamLemmas.{vectors_few}
+use Rattle.runs.specs.Stream.{Streams, bad_after, data_vectors, good_front, texts, vectors_of, vectors_seen}
+use Rattle.runs.specs.Texts.{buffered_text, run_text}
+use Rattle.runs.specs.declared.stream.StreamFault.{StreamFault}
+use Rattle.runs.specs.declared.stream.StreamFault.TheVariants as stream
+use Rattle.spiral_words.specs.SpiralStatus.Fault.{status_of_stream}
+use Rattle.spiral_words.specs.declared.Order.{Order}
+use Rattle.spiral_words.specs.declared.Order.TheVariants as order
+use Rattle.spiral_words.specs.declared.spiral_status.status.Status.TheVariants.{NoMemory, WriteFault}
+use Rattle.commands.specs.Equations.Front.{Work}
+use Rattle.commands.specs.Equations.Works.{all, mapping}
+use Rattle.commands.specs.OrderText.{order_of, order_text}
+use Rattle.commands.specs.Prepared.{stream_text, stream_work}
+use Rattle.commands.specs.SpiralInput.Outcomes.{Outcomes, Meets, ToldMeets}
+use Rattle.commands.specs.declared.streams.Prepared.{Prepared}
+use Rattle.commands.proofs.SpiralInput.DataLemmas.{streams_told}
+use Rattle.commands.proofs.SpiralInput.Within.{Within}
+
+-- Want of memory
+
+pub told_nothing : (outcomes : Outcomes) (before left out : Option (List ℕ)) → ToldMeets outcomes before left out out NoMemory
+told_nothing outcomes None left out = tt
+told_nothing outcomes (Some bytes) left out =
+    record { answer = λ d. absurd (d.memory refl); read_fault = λ e. absurd (cc); write_fault = λ e. absurd (cc) }
+
+-- The front is not written whole
+
+pub front_cut : (made : Prepared) (way : Order) (room : ℕ) (before out out' : Option (List ℕ))
+    → AppendsPrefix out out' made.front.items → ToldMeets (stream_work made way room) before before out out' WriteFault
+front_cut made way room None out out' wrote = tt
+front_cut made way room (Some bytes) out out' wrote =
+    let some : 0 < made.program.size = omega (arith, made.program.header.of_size.0) in
+    let size = made.program.size in
+    let modulus = made.program.modulus in
+    let none : vectors_of size modulus [] ≡ [] = vectors_few size modulus [] some in
+    let alone : made.front.items ≡ stream_text made way (vectors_of size modulus []) =
+    sym (ap (stream_text made way) none ∙ append-nil made.front.items) in
+    record {
+      answer = λ d. absurd (d.write refl);
+      read_fault = λ e. absurd (cc);
+      write_fault = λ _. (
+        [],
+        [],
+        bytes,
+        made.front.items,
+        refl,
+        refl,
+        (record { few = omega arith; good = refl }, inl refl, alone),
+        wrote,
+      );
+    }
+
+-- The machines
+
+-- the work of a program with this code
+abbrev work_by : List ℕ → Code → (Code → List ℕ → List ℕ) → Work
+work_by front code text = mapping all code.size code.modulus (λ vectors t. t ≡ front ++ texts (text code) vectors)
+
+-- a stream of the program's code
+of_code : (front : List ℕ) (code : Code) (program : Program) (text : Code → List ℕ → List ℕ) (room : ℕ) (before after start out' : Option (List ℕ))
+    (result : Result (Unit {0}) StreamFault)
+    → code ≡ code_of program → ToldMeets (work_by front code text room) before after start out' (status_of_stream result)
+    → ToldMeets (work_by front (code_of program) text room) before after start out' (status_of_stream result)
+of_code front code program text room before after start out' result same p =
+    subst (λ (k : Code). ToldMeets (work_by front k text room) before after start out' (status_of_stream result)) same p
+
+pub turns_told : (made : Prepared) (schedule : Plan) (code : Code) (old new : Fed) (before after start out out' : Option (List ℕ)) (first last : State)
+    (result : Result (Unit {0}) StreamFault)
+    → code ≡ code_of made.program → Appends start out made.front.items → old.taken ≤ limit → (result ≢ Err stream.TooLong → new.taken ≤ limit)
+    → Streams (run_text made.lines code (turns_of schedule code.procs)) (λ x. runs code x (turns_of schedule code.procs)) code.size code.modulus
+        old new before after out out' first last result
+    → ToldMeets (stream_work made (order.Turns schedule) (limit - old.taken)) before after start out' (status_of_stream result)
+turns_told made schedule code old new before after start out out' first last result same begun within ends s =
+    of_code made.front.items code made.program (λ (k : Code). run_text made.lines k (turns_of schedule k.procs)) (limit - old.taken) before after start out' result same
+    (streams_told (λ vectors t. t ≡ made.front.items ++ texts (run_text made.lines code (turns_of schedule code.procs)) vectors) code.size code.modulus made.front.items
+    (run_text made.lines code (turns_of schedule code.procs)) (λ x. runs code x (turns_of schedule code.procs)) old new before after start out out' first last result
+    (λ ts. refl) begun within ends s)
+
+events_text : (asked : Bool) (word : Events) (procs : ℕ) (code : Code) → buffered_text asked code (listed.events_of word procs) ≡ order_text asked (order_of word) procs code
+events_text asked (events.Turns schedule) procs code = refl
+events_text asked (events.Mixed mix) procs code = refl
+
+pub events_told : (made : Prepared) (word : Events) (code : Code) (old new : Fed) (before after start out out' : Option (List ℕ)) (first last : Buffered)
+    (result : Result (Unit {0}) StreamFault)
+    → code ≡ code_of made.program → Appends start out made.front.items → old.taken ≤ limit → (result ≢ Err stream.TooLong → new.taken ≤ limit)
+    → Streams (buffered_text made.lines code (listed.events_of word code.procs)) (λ x. buffered_runs code x (listed.events_of word code.procs)) code.size code.modulus
+        old new before after out out' first last result
+    → ToldMeets (stream_work made (order_of word) (limit - old.taken)) before after start out' (status_of_stream result)
+events_told made word code old new before after start out out' first last result same begun within ends s =
+    let text : List ℕ → List ℕ = buffered_text made.lines code (listed.events_of word code.procs) in
+    of_code made.front.items code made.program (λ (k : Code). order_text made.lines (order_of word) k.procs k) (limit - old.taken) before after start out' result same
+    (streams_told (λ vectors t. t ≡ made.front.items ++ texts (order_text made.lines (order_of word) code.procs code) vectors) code.size code.modulus made.front.items
+    text (λ x. buffered_runs code x (listed.events_of word code.procs)) old new before after start out out' first last result
+    (λ ts. ap (λ (f : List ℕ → List ℕ). made.front.items ++ texts f (vectors_of code.size code.modulus ts)) (events_text made.lines word code.procs code)) begun within ends s)
+
+-- Other texts of the same vectors
+
+-- the vectors of data are whole vectors of some tokens
+vectors_made : (size modulus : ℕ) (over : Bool) (bad : Option ℕ) (seen : List ℕ) → (ts : List (List ℕ)) × (vectors_of size modulus ts ≡ vectors_seen size modulus over bad seen)
+vectors_made size modulus over (Some token) seen = (good_front (tokens seen), refl)
+vectors_made size modulus true None seen = (tokens (closed_part seen), refl)
+vectors_made size modulus false None seen = (tokens seen, refl)
+
+-- a text for whole vectors is another one for them
+pub mapping_within : (size modulus : ℕ) (P Q : List (List ℕ) → List ℕ → Type 0) (room : ℕ)
+    → ((ts : List (List ℕ)) (t : List ℕ) → P (vectors_of size modulus ts) t → Q (vectors_of size modulus ts) t)
+    → Within (mapping all size modulus P room) (mapping all size modulus Q room)
+mapping_within size modulus P Q room each = record {
+  answer = λ bytes s t p.
+      let made = vectors_made size modulus (nat_lt room (length bytes)) (bad_after 0 (tokens (take room bytes))) (take room bytes) in
+      (p.0, subst (λ (v : List (List ℕ)). P v t → Q v t) made.1 (each made.0 t) p.1);
+  broken = λ read ended t p. (p.0, p.1, each (tokens (closed_part read)) t p.2);
+  cut = λ read left t p. (p.0, p.1, each (tokens read) t p.2);
+}

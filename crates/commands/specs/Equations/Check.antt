@@ -1,0 +1,22 @@
+-- What is right for `check`.
+use Rattle.std.specs.Prelude.{◌≡◌, Ok, Err}
+use Rattle.plan_search.specs.declared.generating.GenerateFault.{GenerateFault}
+use Rattle.plan_cert.specs.Verdict.{IsVerdict}
+use Rattle.generate.specs.Planned.{IsAdmitted, IsBarred}
+use Rattle.matrix_meaning.specs.declared.Request.{Request}
+use Rattle.spiral_words.specs.SpiralStatus.Fault.{status_of_generate}
+use Rattle.commands.specs.SpiralInput.Asking.{spelt}
+use Rattle.commands.specs.SpiralInput.Outcomes.{Outcomes}
+use Rattle.commands.specs.SpiralInput.Stage.{Stage, ◌>>=◌}
+use Rattle.commands.specs.Equations.Front.{line, by_front}
+use Rattle.commands.specs.Equations.Works.{judging}
+
+-- the request, if its roots are right and some tree fits, whatever it costs
+abbrev pub fitting : Request → Stage Request
+fitting request (Ok same) = (same ≡ request) × IsAdmitted request
+fitting request (Err status) = (fault : GenerateFault) × IsBarred request fault × (status ≡ status_of_generate fault)
+
+-- the verdict on the certificate
+abbrev pub check_outcomes : Outcomes
+check_outcomes = by_front (line 256) (λ text. spelt text >>= fitting)
+    (λ (request : Request). judging (IsVerdict request))

@@ -1,0 +1,16 @@
+-- What is right for `compile`.
+use Rattle.std.specs.Prelude.{◌≡◌, ℕ}
+use Rattle.generate.specs.FormulaCode.Letters.{program_for}
+use Rattle.listing_text.specs.Listing.{listing_of}
+use Rattle.spl_ast.specs.Formula.{Formula}
+use Rattle.commands.specs.SpiralInput.Outcomes.{Outcomes}
+use Rattle.commands.specs.Equations.Formulas.{written}
+use Rattle.commands.specs.Equations.Front.{line, by_front, Work}
+use Rattle.commands.specs.Equations.Works.{writing}
+
+-- the listing of the formula's program
+abbrev pub compile_work : ℕ → Formula → Work
+compile_work m formula = writing (λ text. text ≡ listing_of (program_for m formula))
+
+abbrev pub compile_outcomes : ℕ → Outcomes
+compile_outcomes m = by_front (line 65536) written (compile_work m)

@@ -1,0 +1,73 @@
+-- What a command does behind its front: it writes a text, or one for the vectors of the data, or it judges all that is there.
+use Rattle.std.specs.Prelude.{◌≡◌, ◌⊎◌, ℕ, ◌≤◌, List, [], ◌∷◌, length, Result}
+use Rattle.plan_cert.specs.declared.verdict.Verdict.{Verdict}
+use Rattle.data_stream.specs.Data.{tokens, closed_part}
+use Rattle.spiral_words.specs.declared.spiral_status.status.Status.{Status}
+use Rattle.spiral_words.specs.declared.spiral_status.status.Status.TheVariants.{Success}
+use Rattle.spiral_words.specs.SpiralStatus.Fault.{status_of_fault, status_of_stream}
+use Rattle.runs.specs.Progress.{lacking}
+use Rattle.runs.specs.Stream.{vectors_of, data_answer, data_vectors}
+use Rattle.runs.specs.declared.stream.StreamFault.{StreamFault}
+use Rattle.commands.specs.SpiralInput.Fine.{IsFine}
+use Rattle.commands.specs.Checked.{certificate_limit, status_of_verdict, verdict_text, IsOverlong}
+use Rattle.commands.specs.Equations.Front.{Work}
+
+-- It writes a text, and reads nothing more
+
+abbrev pub writing : (List ℕ → Type 0) → Work
+writing IsText room = record {
+  answer = λ bytes status text. (status ≡ Success) × IsText text;
+  broken = λ read ended text. ⊥;
+  cut = λ read left text. (read ≡ []) × IsText text;
+}
+
+-- It goes over the data
+
+-- which vectors it wants: all, all and one at least, or the first alone
+pub data Wants : Type 0 where
+  all a_first the_first : Wants
+
+-- the status for data that end so and have these vectors
+abbrev pub status_by : Wants → ℕ → Result (Unit {0}) StreamFault → List (List ℕ) → Status
+status_by all size answer vectors = status_of_stream answer
+status_by a_first size answer [] = status_of_fault (lacking size answer)
+status_by a_first size answer (x ∷ later) = status_of_stream answer
+status_by the_first size answer [] = status_of_fault (lacking size answer)
+status_by the_first size answer (x ∷ later) = Success
+
+-- it reads on behind these vectors
+abbrev pub ReadsOn : Wants → List (List ℕ) → Type 0
+ReadsOn the_first vectors = vectors ≡ []
+ReadsOn _ vectors = Unit {0}
+
+-- It writes a text for the vectors of the data. The last token counts only where nothing is left with which it may go on
+abbrev pub mapping : Wants → (size modulus : ℕ) → (List (List ℕ) → List ℕ → Type 0) → Work
+mapping wants size modulus IsText room = record {
+  answer = λ bytes status text.
+      (status ≡ status_by wants size (data_answer size room bytes) (data_vectors size modulus room bytes))
+      × IsText (data_vectors size modulus room bytes) text;
+  broken = λ read ended text. IsFine room read × ReadsOn wants (vectors_of size modulus (tokens (closed_part read)))
+      × IsText (vectors_of size modulus (tokens (closed_part read))) text;
+  cut = λ read left text. IsFine room read × ((closed_part read ≡ read) ⊎ (left ≡ []))
+      × IsText (vectors_of size modulus (tokens read)) text;
+}
+
+-- a text for the vectors behind the first. Before that is there, nothing is written
+abbrev pub by_first : (List ℕ → List (List ℕ) → List ℕ → Type 0) → List (List ℕ) → List ℕ → Type 0
+by_first IsText [] text = text ≡ []
+by_first IsText (x ∷ later) text = IsText x later text
+
+-- It judges all that stands behind the front
+
+-- the status and the text of the verdict on the bytes
+abbrev pub IsJudged : (List ℕ → Verdict → Type 0) → List ℕ → Status → List ℕ → Type 0
+IsJudged IsVerdict bytes status text =
+    (found : Verdict) × IsVerdict bytes found × (status ≡ status_of_verdict found) × (text ≡ verdict_text found)
+
+abbrev pub judging : (List ℕ → Verdict → Type 0) → Work
+judging IsVerdict room = record {
+  answer = λ bytes status text. IsOverlong bytes status text
+      ⊎ ((length bytes ≤ certificate_limit) × IsJudged IsVerdict bytes status text);
+  broken = λ read ended text. (length read ≤ certificate_limit) × (text ≡ []);
+  cut = λ read left text. (left ≡ []) × (length read ≤ certificate_limit) × IsJudged IsVerdict read Success text;
+}
