@@ -1,4 +1,4 @@
-use Rattle.std.proofs.Common.{◌<◌, arith}
+use Rattle.std.proofs.Common.{◌<◌, arith, true}
 use Rattle.std.proofs.lemmas.Result.{err_from_is_err_and}
 use Rattle.io_edge.specs.Feed.{to_come}
 use Rattle.commands.proofs.ConvolutionCommands.ConvolvedLemmas.{convolves_listing, convolves_cut}
@@ -38,3 +38,8 @@ returns-in_err-listing-clause-ends g c =
     let p = err_from_is_err_and c.from_residual-in_err-listing.result c.from_residual-in_err-listing.ensures.1 in
     rw (p.1, p.2) (quiet_ends NoMemory c.listed_program.new.feed.held (read c.args.input.now) (read c.listed_program.new.input) (g.O.Sink.faults c.args.output.now) (g.O.Sink.taken c.args.output.now)
     same (λ e. cc) (λ e. cc) (λ e. cc))
+
+pub returns-in_err-program-clause-told : goal.returns-in_err-program-clause-told
+returns-in_err-program-clause-told g c =
+    let p = err_from_is_err_and c.from_residual.result c.from_residual.ensures.1 in
+    rw (p.1, p.2) (c.in_err-program.ensures.told true (g.O.Sink.taken c.args.output.now))

@@ -1,4 +1,4 @@
-use Rattle.std.proofs.Common.{◌<◌, ◌∷◌, [], Ok, Err, arith, refl}
+use Rattle.std.proofs.Common.{◌<◌, ◌∷◌, [], Ok, Err, arith, refl, false}
 use Rattle.std.proofs.lemmas.Result.{err_from_is_err_and}
 use Rattle.data_stream.proofs.TokensLemmas.{reports_none}
 use Rattle.icode.specs.Machine.{runs}
@@ -83,3 +83,8 @@ returns-clause-ends g c =
       write = record { later = omega (arith, wrote); cause = λ e. absurd (cc); told = λ h. absurd (omega (arith, wrote, h)) };
       memory = λ e. absurd (cc);
     }
+
+pub returns-in_err-program-clause-told : goal.returns-in_err-program-clause-told
+returns-in_err-program-clause-told g c =
+    let p = err_from_is_err_and c.from_residual.result c.from_residual.ensures.1 in
+    rw (p.1, p.2) (c.in_err-program.ensures.told false (g.O.Sink.taken c.args.output.now))
