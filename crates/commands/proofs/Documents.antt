@@ -1,7 +1,10 @@
 -- The texts that are written for a request alone.
-use Rattle.std.proofs.Common.{◌≡◌, ◌≢◌, ℕ, List, [], Some, Ok, refl, ap, ◌∙◌}
+use Rattle.std.proofs.Common.{◌≡◌, ◌≢◌, ℕ, List, [], ◌∷◌, ◌++◌, Some, Ok, refl, ap, subst, ◌∙◌}
 use Rattle.std.specs.declared.option.Option.{Option}
 use Rattle.std.specs.Io.KnownBytes.{Appends}
+use Rattle.breakdown.specs.Expansion.{formula_of}
+use Rattle.plan_cert.specs.Table.{IsTableText}
+use Rattle.spl_text.specs.Spelling.{spelling}
 use Rattle.c_print.specs.CText.{c_text_of}
 use Rattle.generate.specs.Planned.{IsPlanned}
 use Rattle.icode.specs.Program.{plain_program}
@@ -38,6 +41,16 @@ with_tree request tree = record { request = request; tree = tree }
 pub document_of : (wanted : Document) (request : Request) (tree : Breakdown) (text : List ℕ)
     → IsPlanned request (Ok tree) → IsDocumentText wanted (with_tree request tree) text → IsDocument wanted request text
 document_of wanted request tree text planned told = (with_tree request tree, (refl, planned), told)
+
+pub formula_document : (request : Request) (tree : Breakdown) (text : List ℕ)
+    → IsPlanned request (Ok tree) → text ≡ spelling (formula_of request tree) ++ 10 ∷ [] → IsDocument document.Formula request text
+formula_document request tree text planned told = document_of document.Formula request tree text planned told
+
+-- of a context that is the request
+pub certificate_document : (request context : Request) (tree : Breakdown) (text : List ℕ)
+    → IsPlanned request (Ok tree) → context ≡ request → IsTableText context text → IsDocument document.Cert request text
+certificate_document request context tree text planned same told =
+    document_of document.Cert request tree text planned (subst (λ (r : Request). IsTableText r text) same told)
 
 -- of the program that is made
 pub listing_document : (request : Request) (program : Program) (text : List ℕ)

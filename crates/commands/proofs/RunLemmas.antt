@@ -1,5 +1,5 @@
 -- A good program's runs for its request.
-use Rattle.std.proofs.Common.{◌≡◌, ◌≢◌, ◌<◌, ◌≤◌, ◌/◌, ℕ, true, false, Vec, Global, List, [], ◌++◌, None, Ok, Err, Result, length, refl, sym, ap, subst, ◌∙◌, arith}
+use Rattle.std.proofs.Common.{◌≡◌, ◌≢◌, ◌<◌, ◌≤◌, ◌/◌, ℕ, true, false, Vec, Global, List, [], ◌++◌, None, Ok, Err, Result, length, map, refl, sym, ap, subst, ◌∙◌, arith}
 use Rattle.std.proofs.Math.Nat.{div-mul-le_self}
 use Rattle.std.proofs.lemmas.List.Elements.{All-from_get_or}
 use Rattle.std.specs.List.{All}
@@ -110,7 +110,7 @@ order_lines (order.Turns schedule) request program ts in_range made none =
     let good : IsGoodCode request (code_of program) = good_code request (code_of program) in_range (code_made request program made) in
     good_lines request (code_of program) (turns_of schedule program.procs) (vectors_of request.size request.modulus ts) good (limits request in_range).modulus
     (good_turns schedule request (code_of program) good in_range none) (ts, refl)
-order_lines (order.Buffered schedule) request program ts in_range made none = buffered_lines request program _ ts in_range made
+order_lines (order.Buffered schedule) request program ts in_range made none = buffered_lines request program (map Turn (turns_of schedule program.procs)) ts in_range made
 order_lines (order.Mixed mix) request program ts in_range made none = buffered_lines request program mix ts in_range made
 
 -- What a run comes to

@@ -8,5 +8,5 @@ use Rattle.commands.proofs.perform_for.Goals as goal
 
 pub returns-in-Writes-clause-told : goal.returns-in-Writes-clause-told
 returns-in-Writes-clause-told g c =
-    told_any (work_for (command.Writes c.in-Writes.document.now) c.args.request.now) (limit - c.args.feed.now.taken) (to_come c.args.feed.now (g.I.Source.left c.args.input.now))
+    told_any (work_for (command.Writes c.in-Writes.document) c.args.request.now) (limit - c.args.feed.now.taken) (to_come c.args.feed.now (g.I.Source.left c.args.input.now))
     (g.O.Sink.taken c.args.output.now) (g.O.Sink.taken c.write_text.new.output) (status_of c.write_text.result) c.write_text.ensures.told

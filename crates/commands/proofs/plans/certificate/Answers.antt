@@ -1,8 +1,8 @@
-use Rattle.spiral_words.specs.declared.Document.TheVariants as document
 use Rattle.tree_model.specs.Breakdown.{breakdown_of}
-use Rattle.commands.proofs.Documents.{document_of}
+use Rattle.commands.proofs.Documents.{certificate_document}
 use Rattle.commands.proofs.plans.certificate.Goals as goal
 
 pub returns-clause-text : goal.returns-clause-text
 returns-clause-text c =
-    document_of document.Cert c.args.request.now (breakdown_of c.in_ok-chosen_plan.field-0.tree) c.in_ok-text.text.items c.in_ok-chosen_plan.ensures.planned c.in_ok-text.ensures
+    certificate_document c.args.request.now c.new.result (breakdown_of c.in_ok-chosen_plan.field-0.tree) c.in_ok-text.text.items
+    c.in_ok-chosen_plan.ensures.planned c.new.ensures c.in_ok-text.ensures

@@ -4,10 +4,9 @@ use Rattle.icode.specs.Machine.{Code}
 use Rattle.io_edge.specs.Feed.{to_come, limit}
 use Rattle.spiral_words.specs.declared.Order.TheVariants as order
 use Rattle.runs.specs.Stream.{HasNoStranger}
-use Rattle.commands.specs.Prepared.{stream_work}
-use Rattle.commands.proofs.StreamLemmas.{front_cut, told_nothing, turns_told}
-use Rattle.commands.proofs.SpiralInput.StatusLemmas.{fault_success, run_ends, write_ends}
-use Rattle.commands.proofs.RunLemmas.{passed_ends}
+use Rattle.commands.proofs.StreamLemmas.{front_cut, turns_told}
+use Rattle.commands.proofs.SpiralInput.StatusLemmas.{fault_success, quiet_ends, run_ends, write_ends}
+use Rattle.spiral_words.specs.declared.spiral_status.status.Status.TheVariants.{NoMemory}
 use Rattle.commands.proofs.streams.stream_turns.Goals as goal
 
 pub run_stream-requires-clause-no_stranger : goal.run_stream-requires-clause-no_stranger
@@ -67,3 +66,9 @@ returns-in_err-write_all-clause-ends g c =
     let cause = c.in_err-write_all.ensures.cause in
     let p = err_from_is_err_and c.from_residual-in_err-write_all.result c.from_residual-in_err-write_all.ensures.1 in
     rw (p.1, p.2) (write_ends c.args.feed.now.held read read (write c.args.output.now) (write c.write_all.new.sink) (taken c.args.output.now) (taken c.write_all.new.sink) refl cause.later cause.err)
+
+pub returns-in_err-vector-clause-ends : goal.returns-in_err-vector-clause-ends
+returns-in_err-vector-clause-ends g c =
+    let read = g.I.Source.faults c.args.input.now in
+    let p = err_from_is_err_and c.from_residual-in_err-vector.result c.from_residual-in_err-vector.ensures.1 in
+    rw (p.1, p.2) (quiet_ends NoMemory c.args.feed.now.held read read (g.O.Sink.faults c.args.output.now) (g.O.Sink.taken c.args.output.now) refl (λ e. cc) (λ e. cc) (λ e. cc))
