@@ -1,6 +1,6 @@
 -- The programs of requests and of convolutions are good.
-use Rattle.std.proofs.Common.{◌≡◌, ℕ, ◌*◌, ◌<◌, List, All, arith, mod-lt, subst}
-use Rattle.std.proofs.lemmas.List.Elements.{All-from_recursion, All-map}
+use Rattle.std.proofs.Common.{ℕ, ◌*◌, ◌<◌, List, All, arith, mod-lt, subst}
+use Rattle.std.proofs.lemmas.List.Elements.{All-map}
 use Rattle.std.specs.Prelude.{slice_index}
 use Rattle.std.specs.List.{range_with_len}
 use Rattle.matrix_meaning.specs.Convolution.{convolution_factor}

@@ -8,11 +8,11 @@ use Rattle.matrix_meaning.specs.Parts.{forward_of}
 use Rattle.matrix_meaning.specs.Valid.{IsValid}
 use Rattle.operators.specs.declared.target.Target.{Target}
 use Rattle.perm_algebra.specs.Affine.{Sum, constant}
-use Rattle.sigma_lower.specs.Merged.{CanLower, closed_phases, tree_merged}
+use Rattle.sigma_lower.specs.Merged.{closed_phases, tree_merged}
 use Rattle.sigma_lower.specs.Shared.{phase_term}
 use Rattle.sigma_lower.specs.TreeLoops.Merge.{PlainPass, in_order, merged_of, merged_phases}
 use Rattle.sigma_lower.specs.TreeLoops.Nests.{loop_of}
-use Rattle.sigma_lower.specs.TreeTerms.Term.{PlainTerm, lowered_of}
+use Rattle.sigma_lower.specs.TreeTerms.Term.{lowered_of}
 use Rattle.sigma_lower.proofs.HaveLoops.{phases_have_loops}
 use Rattle.sigma_lower.proofs.Ordered.{trees_ordered}
 use Rattle.sigma_lower.proofs.TreeLayouts.{trees_can_lower}
@@ -21,7 +21,7 @@ use Rattle.sigma_lower.proofs.TreeSigmas.ClosedLoops.{TakesClosing, closed_loop}
 use Rattle.sigma_lower.proofs.TreeSigmas.ClosedPhases.{ArePhases, IsPhase, closing_loops, each-some, layout-takes, loops_by, whole-loops, whole-phases}
 use Rattle.sigma_lower.proofs.TreeSigmas.ClosedPlaces.{all-first}
 use Rattle.sigma_lower.proofs.TreeSigmas.Closing.{takes-phases}
-use Rattle.sigma_lower.proofs.TreeSigmas.Lasts.{HasItem, order-map}
+use Rattle.sigma_lower.proofs.TreeSigmas.Lasts.{order-map}
 use Rattle.sigma_spl.specs.Lists.{LastIs, on_last}
 use Rattle.sigma_spl.specs.Loops.{PlainLoop, limits_in, loops_in, nest_of, one_nest}
 use Rattle.sigma_spl.specs.Merge.{items_out, most, place_sum}
@@ -32,8 +32,8 @@ use Rattle.sigma_spl.specs.Sigma.{passes_in_order}
 use Rattle.sigma_spl.specs.Term as terms
 use Rattle.sigma_spl.specs.Work.{work_size}
 use Rattle.sigma_spl.proofs.Listed.{merge_listed}
-use Rattle.smp_rewrite.specs.LayoutSteps.Layout.{Layout, layout_of}
-use Rattle.smp_rewrite.specs.LayoutSteps.Whole.{factor_by, whole_of}
+use Rattle.smp_rewrite.specs.LayoutSteps.Layout.{layout_of}
+use Rattle.smp_rewrite.specs.LayoutSteps.Whole.{factor_by}
 use Rattle.tree_model.specs.Breakdown.{Breakdown}
 use Rattle.tree_model.specs.Chosen.{IsWholeTree}
 use Rattle.generate.proofs.Emission.Nests.{multiplying, nests}

@@ -1,5 +1,5 @@
 -- The passes of a tree are those of its layout.
-use Rattle.std.proofs.Common.{◌≡◌, ℕ, ◌*◌, Bool, true, false, refl, sym, ap, ap₂, ◌∙◌, List, [], ◌∷◌, ◌++◌, if◌then◌else◌}
+use Rattle.std.proofs.Common.{◌≡◌, ℕ, ◌*◌, Bool, true, false, refl, sym, ap₂, ◌∙◌, List, [], ◌∷◌, ◌++◌, if◌then◌else◌}
 use Rattle.matrix_meaning.specs.declared.Request.{Request}
 use Rattle.sigma_spl.specs.Work.{PlainWork}
 use Rattle.smp_rewrite.specs.LayoutSteps.Layout.{Layout, work, by, layout_of, layout_size, node_work}

@@ -1,5 +1,5 @@
 -- The passes of a shared root's left part are those of the part alone, in all copies.
-use Rattle.std.proofs.Common.{◌≡◌, ℕ, ◌+◌, ◌*◌, ◌/◌, ◌<◌, ◌==◌, if◌then◌else◌, arith, refl, sym, ap, ap₂, ◌∙◌, List, [], ◌∷◌, ◌++◌, length, subst, mul_comm, Option, None, Some}
+use Rattle.std.proofs.Common.{◌≡◌, ℕ, ◌+◌, ◌*◌, ◌/◌, arith, refl, sym, ap, ap₂, ◌∙◌, List, [], ◌∷◌, ◌++◌, length, subst, mul_comm, Option, None, Some}
 use Rattle.std.specs.Prelude.{map}
 use Rattle.std.specs.Option.{option_map}
 use Rattle.std.proofs.lemmas.List.{map-append}
@@ -25,19 +25,18 @@ use Rattle.sigma_lower.proofs.TreeLoops.Shaped.{IsShaped, IsShapedWork}
 use Rattle.sigma_lower.proofs.TreeLoops.Staying.{StaysIn}
 use Rattle.sigma_lower.proofs.TreeLoops.WithinPlaces.{natural-copies}
 use Rattle.sigma_spl.specs.Loops.{nest_of}
-use Rattle.sigma_spl.specs.Nest.{twiddles}
 use Rattle.sigma_spl.specs.Work.{work_size}
 use Rattle.sigma_spl.proofs.Several.{several-append}
 use Rattle.operators.specs.declared.tensor_paths.Tensor.TheVariants.{Blocks, Columns}
 use Rattle.operators.specs.TensorPaths.Path.{Path, count_of, size_under}
-use Rattle.generate.specs.Emission.Passes.{Pass, entries, none}
+use Rattle.generate.specs.Emission.Passes.{Pass}
 use Rattle.generate.specs.Emission.Places.{same, turn_of}
-use Rattle.generate.specs.Emission.Root.{lane_of, lane_loops, shared, strided}
+use Rattle.generate.specs.Emission.Root.{lane_of, lane_loops, strided}
 use Rattle.generate.specs.Emission.Whole as emission
-use Rattle.generate.proofs.Emission.Matches.{HasDiagonal, IsBegun, IsSame, natural}
+use Rattle.generate.proofs.Emission.Matches.{HasDiagonal, IsSame}
 use Rattle.generate.proofs.Emission.Nests.{IsLooped, IsNodeWork, same-nest}
 use Rattle.generate.proofs.Emission.Root.{columns-each}
-use Rattle.generate.proofs.Emission.RootPlaces.{natural-turns, turns, turns-are}
+use Rattle.generate.proofs.Emission.RootPlaces.{natural-turns, turns-are}
 
 module _ (c : Request) (r s : ℕ) (h : AreShares c.size c.procs c.lanes r s) where
   abbrev size : ℕ

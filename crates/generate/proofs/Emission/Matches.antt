@@ -1,5 +1,5 @@
 -- Passes by the rules of emission, and passes that merging makes: what it is that they are the same.
-use Rattle.std.proofs.Common.{◌≡◌, ℕ, ◌+◌, ◌*◌, arith, refl, sym, ap, ◌∙◌, List, [], ◌∷◌, ◌++◌, subst, Option, Some, None}
+use Rattle.std.proofs.Common.{◌≡◌, ℕ, ◌*◌, refl, ap, List, [], ◌∷◌, ◌++◌, Option, Some, None}
 use Rattle.std.specs.Prelude.{map}
 use Rattle.index_fn.specs.Mapping.{Mapping}
 use Rattle.perm_algebra.specs.Affine.{Sum, simplified}

@@ -1,6 +1,6 @@
 -- Passes that are the same are the same nests.
-use Rattle.std.proofs.Common.{◌≡◌, ℕ, ◌+◌, ◌*◌, ◌<◌, arith, refl, sym, ap, ap₂, ◌∙◌, List, [], ◌∷◌, ◌++◌, length, subst, Option, None, Some}
-use Rattle.std.specs.Prelude.{map, slice_index}
+use Rattle.std.proofs.Common.{◌≡◌, ℕ, ◌+◌, ◌*◌, ◌<◌, arith, refl, sym, ap, ap₂, ◌∙◌, List, [], ◌∷◌, ◌++◌, length, Option, None, Some}
+use Rattle.std.specs.Prelude.{map}
 use Rattle.std.specs.Option.{option_map}
 use Rattle.std.proofs.lemmas.List.{length-map}
 use Rattle.index_fn.specs.Mapping.{Mapping}
@@ -9,13 +9,13 @@ use Rattle.sigma_lower.specs.TreeLoops.Merge.{PlainDiagonal, PlainPass}
 use Rattle.sigma_lower.specs.TreeLoops.Nests.{loop_of, taken_of}
 use Rattle.sigma_lower.specs.TreeLoops.Placed.{Fits, place_sum, AreCounts, all_simplified}
 use Rattle.sigma_lower.specs.TreeTerms.Wrapped.{inner_of}
-use Rattle.sigma_lower.proofs.TreeLoops.LoopItems.{Names, AllName, HaveNames, counts-from, names-of}
+use Rattle.sigma_lower.proofs.TreeLoops.LoopItems.{AllName, HaveNames, counts-from, names-of}
 use Rattle.sigma_lower.proofs.TreeLoops.PlaceSums.{all_simplified-append}
 use Rattle.sigma_lower.proofs.TreeLoops.PlaceValues.{right_positive}
 use Rattle.sigma_lower.proofs.TreeLoops.Shaped.{IsShaped, IsShapedWork}
-use Rattle.sigma_spl.specs.Loops.{PlainLoop, limits_in, multiplier_of, nest_of, one_nest, places_by}
+use Rattle.sigma_spl.specs.Loops.{limits_in, multiplier_of, nest_of, one_nest, places_by}
 use Rattle.sigma_spl.specs.Merge.{items_in, items_out}
-use Rattle.sigma_spl.specs.Nest.{PlainFactors, PlainMultiplier, PlainNest, twiddles}
+use Rattle.sigma_spl.specs.Nest.{PlainFactors, PlainNest, twiddles}
 use Rattle.sigma_spl.specs.Work.{PlainWork, kernel, rows, horner, tile, copy, work_size}
 use Rattle.sigma_spl.specs.Limits.{AreSeveral}
 use Rattle.operators.specs.TensorPaths.Path.{copies_of, count_of, size_under}

@@ -1,6 +1,6 @@
 -- On one processor and one lane the program of a tree is its emission.
-use Rattle.std.proofs.Common.{◌≡◌, ℕ, ◌*◌, ◌<◌, ◌≤◌, ◌==◌, ◌&&◌, true, if◌then◌else◌, refl, sym, ap, ap₂, ◌∙◌, arith, List, [], ◌∷◌, ◌++◌, subst, Option, None, Some}
-use Rattle.std.specs.Prelude.{map, Bool}
+use Rattle.std.proofs.Common.{◌≡◌, ℕ, ◌<◌, ◌==◌, ◌&&◌, true, if◌then◌else◌, refl, sym, ap, ap₂, ◌∙◌, arith, List, [], ◌∷◌, ◌++◌, Option, None, Some}
+use Rattle.std.specs.Prelude.{map}
 use Rattle.std.proofs.lemmas.List.{map-append, append-nil}
 use Rattle.loop_merge.specs.JoinedPasses.Joined.{joined}
 use Rattle.sigma_spl.specs.Lists.{on_last}
@@ -12,32 +12,30 @@ use Rattle.matrix_meaning.specs.declared.Kind.TheVariants.{Dft, Wht, Idft}
 use Rattle.matrix_meaning.specs.declared.Request.{Request}
 use Rattle.code_gen.specs.PassCode.Program.{program_of}
 use Rattle.sigma_lower.specs.Merged.{CanLower, tree_merged}
-use Rattle.sigma_lower.specs.TreeLoops.Merge.{PlainPass, merged_phases}
-use Rattle.sigma_lower.specs.TreeLoops.Nests.{loop_of, nests_of}
+use Rattle.sigma_lower.specs.TreeLoops.Merge.{PlainPass}
+use Rattle.sigma_lower.specs.TreeLoops.Nests.{loop_of}
 use Rattle.sigma_lower.proofs.TreeLayouts.{trees_can_lower}
-use Rattle.sigma_lower.proofs.TreeLoops.Shaped.{AreShaped, HasWorks, IsShapedWork, shaped_passes, shaped_works}
+use Rattle.sigma_lower.proofs.TreeLoops.Shaped.{IsShapedWork, shaped_passes, shaped_works}
 use Rattle.sigma_lower.proofs.TreeLoops.TreePasses.{layout_passes}
 use Rattle.sigma_lower.proofs.TreeLoops.Wholes.{plain_phases}
-use Rattle.sigma_spl.specs.Loops.{nest_of, one_nest}
+use Rattle.sigma_spl.specs.Loops.{nest_of}
 use Rattle.perm_algebra.specs.Affine.{constant}
-use Rattle.sigma_spl.specs.Nest.{PlainNest, repeated, values}
-use Rattle.sigma_spl.specs.Shared.Owners.{all_passes}
-use Rattle.sigma_spl.specs.Shared.Targets.{is_alone, target_of}
-use Rattle.sigma_spl.specs.Work.{PlainWork, kernel, rows, horner, tile, copy, work_size}
-use Rattle.smp_rewrite.specs.LayoutSteps.Layout.{IsGoodLayout, IsGoodWork, Layout, by, layout_of, layout_size, work}
+use Rattle.sigma_spl.specs.Nest.{repeated, values}
+use Rattle.sigma_spl.specs.Shared.Targets.{target_of}
+use Rattle.smp_rewrite.specs.LayoutSteps.Layout.{Layout, layout_of, layout_size}
 use Rattle.smp_rewrite.specs.LayoutSteps.Whole.{factor_by, whole_of}
 use Rattle.tree_model.specs.Breakdown.{Breakdown}
 use Rattle.tree_model.specs.Chosen.{IsWholeTree}
 use Rattle.tree_model.specs.Cost.{is_plain}
-use Rattle.generate.specs.ConvLetters.{conv_merged, conv_program}
-use Rattle.generate.specs.Emission.Passes.{Factors, Pass, Site, entries, none, passes}
+use Rattle.generate.specs.ConvLetters.{conv_program}
+use Rattle.generate.specs.Emission.Passes.{Factors, Pass, entries, none, passes}
 use Rattle.generate.specs.Emission.Places.{same}
 use Rattle.generate.specs.Emission.Root.{root_phases}
 use Rattle.generate.specs.Emission.Whole.{closing_factors, conv_emission, emission, phases_of, whole_site}
 use Rattle.generate.specs.Emission.Whole as emissions
 use Rattle.generate.specs.Factors.{factors_of}
 use Rattle.generate.specs.Letters.{program_for}
-use Rattle.generate.proofs.ConvTrees.{inverse_request, inverse_tree, inverse_valid}
+use Rattle.generate.proofs.ConvTrees.{inverse_tree, inverse_valid}
 use Rattle.generate.proofs.Emission.Closed.{closed-phases, closed_tree, firsts, phases-in}
 use Rattle.generate.proofs.Emission.Layouts.{layout_emitted, passes_of_layout}
 use Rattle.generate.proofs.Emission.Matches.{ArePasses, IsAround, IsSame}

@@ -1,8 +1,7 @@
 -- The program of each tree is its emission, and so is that of each convolution.
-use Rattle.std.proofs.Common.{◌≡◌, ◌⊎◌, true, false, inl, inr}
+use Rattle.std.proofs.Common.{inl, inr}
 use Rattle.std.proofs.lemmas.Bool.{cases_Bool}
 use Rattle.tree_model.specs.Cost.{is_plain}
-use Rattle.matrix_meaning.proofs.Requests.{valid_by_powers}
 use Rattle.generate.specs.EmittedPrograms.{ConvProgramsAreEmissions, ProgramsAreEmissions}
 use Rattle.generate.proofs.ConvGoodness.{planned-valid}
 use Rattle.generate.proofs.Emission.PlainTrees.{conv_emissions, plain_emission}

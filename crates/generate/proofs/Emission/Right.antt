@@ -1,26 +1,24 @@
 -- The passes of a shared root's right part, with the tiles beside them.
-use Rattle.std.proofs.Common.{◌≡◌, ℕ, ◌+◌, ◌*◌, ◌/◌, ◌<◌, ◌==◌, Bool, true, false, if◌then◌else◌, arith, refl, sym, ap, ap₂, ◌∙◌, List, [], ◌∷◌, ◌++◌, append-nil, subst, mul_comm, None, Some}
-use Rattle.std.specs.Prelude.{map}
+use Rattle.std.proofs.Common.{◌≡◌, ℕ, ◌*◌, ◌/◌, ◌<◌, ◌==◌, Bool, true, false, if◌then◌else◌, arith, refl, sym, ap, ap₂, ◌∙◌, List, [], ◌∷◌, ◌++◌, append-nil, subst, mul_comm, None, Some}
 use Rattle.std.proofs.lemmas.List.{map-append}
-use Rattle.index_fn.specs.Mapping.{Mapping, Same}
+use Rattle.index_fn.specs.Mapping.{Mapping}
 use Rattle.matrix_meaning.specs.declared.Request.{Request}
-use Rattle.perm_algebra.specs.Affine.{Sum, simplified}
+use Rattle.perm_algebra.specs.Affine.{Sum}
 use Rattle.sigma_lower.specs.TreeLoops.Merge.{PlainPass, at_last, multiplied}
 use Rattle.sigma_lower.specs.TreeLoops.Nests.{loop_of}
 use Rattle.sigma_lower.specs.TreeTerms.Root.{right_path, vectors_grouped}
-use Rattle.sigma_lower.proofs.TreeLoops.PartRules.{IsSize}
 use Rattle.sigma_lower.proofs.TreeLoops.RightPlaces.{right_fills, right_wide}
-use Rattle.sigma_lower.proofs.TreeLoops.RootPasses.{right_passes, tile_after, tile_before, turned_waiting}
+use Rattle.sigma_lower.proofs.TreeLoops.RootPasses.{tile_after, tile_before, turned_waiting}
 use Rattle.sigma_lower.proofs.TreeLoops.RootShares.{AreShares}
 use Rattle.sigma_lower.proofs.TreeLoops.Shaped.{IsShapedWork, shaped_passes, shaped_works}
 use Rattle.sigma_lower.proofs.TreeLoops.TreePasses.{at_last-append, layout_passes}
 use Rattle.sigma_spl.specs.Loops.{nest_of, one_nest}
-use Rattle.sigma_spl.specs.Nest.{PlainNest, twiddles}
+use Rattle.sigma_spl.specs.Nest.{twiddles}
 use Rattle.smp_rewrite.specs.LayoutSteps.Layout.{IsGoodLayout, Layout, layout_size}
 use Rattle.operators.specs.TensorPaths.Path.{size_under}
 use Rattle.tree_model.specs.declared.tree.Rule.{Rule}
-use Rattle.tree_model.specs.declared.tree.Rule.TheVariants.{Gt, Ct, Split, Dim}
-use Rattle.generate.specs.Emission.Passes.{Factors, Pass, Site, entries, moved, none, twiddled}
+use Rattle.tree_model.specs.declared.tree.Rule.TheVariants.{Ct}
+use Rattle.generate.specs.Emission.Passes.{Pass, Site, entries, moved, none}
 use Rattle.generate.specs.Emission.Places.{after, same}
 use Rattle.generate.specs.Emission.Root.{across, along, packed, right_root, root_in, tiles, tiles_after, tiles_before}
 use Rattle.generate.specs.Emission.Whole as emission
@@ -30,7 +28,7 @@ use Rattle.generate.proofs.Emission.Matches.{ArePasses, AreSame, HasDiagonal, Is
 use Rattle.generate.proofs.Emission.Nests.{IsLooped, IsNodeWork, emitted, nests, same-nest}
 use Rattle.generate.proofs.Emission.PlainWorks.{looped-all, node_works}
 use Rattle.generate.proofs.Emission.Root.{packed-natural, packed_around, turned_around}
-use Rattle.generate.proofs.Emission.Tiles.{emitted-tile, lead-across, lead-along, tile-nest, tile-pass}
+use Rattle.generate.proofs.Emission.Tiles.{emitted-tile, lead-across, lead-along, tile-nest}
 use Rattle.generate.proofs.Emission.Trees.{layouts_match}
 
 pub nests-append : (ps qs : List PlainPass) → nests (ps ++ qs) ≡ nests ps ++ nests qs

@@ -1,28 +1,25 @@
 -- The sites of a shared root's parts are those of merging.
-use Rattle.std.proofs.Common.{◌≡◌, ℕ, ◌+◌, ◌*◌, ◌/◌, ◌<◌, ◌==◌, Bool, true, false, if◌then◌else◌, arith, refl, sym, ap, ap₂, ◌∙◌, List, [], ◌∷◌, ◌++◌, length, append-nil, subst}
+use Rattle.std.proofs.Common.{◌≡◌, ℕ, ◌+◌, ◌*◌, ◌/◌, ◌<◌, arith, refl, sym, ap, ◌∙◌, [], ◌∷◌, length, append-nil, subst}
 use Rattle.std.specs.Prelude.{map}
 use Rattle.std.proofs.Math.Nat.{mul-div_cancel_left}
-use Rattle.std.proofs.lemmas.List.{length-map}
-use Rattle.index_fn.specs.Mapping.{Mapping}
 use Rattle.matrix_meaning.specs.declared.Request.{Request}
-use Rattle.perm_algebra.specs.Affine.{Sum, constant, scaled, joined}
+use Rattle.perm_algebra.specs.Affine.{Sum, scaled, joined}
 use Rattle.sigma_lower.specs.TreeLoops.Placed.{Fits, place_sum, AreCounts, all_simplified}
 use Rattle.sigma_lower.proofs.TreeLoops.InCopies.{AreCopies}
 use Rattle.sigma_lower.proofs.TreeLoops.LineMoves.{AreThree, turned-leads}
 use Rattle.sigma_lower.proofs.TreeLoops.RootPasses.{turned_waiting}
-use Rattle.sigma_lower.proofs.TreeLoops.RootShares.{AreShares, rows_some, columns_some, tiles_are, tiles_fill, lines_small, vectors_small}
+use Rattle.sigma_lower.proofs.TreeLoops.RootShares.{AreShares, lines_small, vectors_small}
 use Rattle.sigma_lower.proofs.TreeLoops.WithinPlaces.{natural-copies}
-use Rattle.sigma_lower.specs.TreeTerms.Root.{left_path, right_path, tile_path}
-use Rattle.smp_rewrite.proofs.Tensors.{within_all}
+use Rattle.sigma_lower.specs.TreeTerms.Root.{left_path, right_path}
 use Rattle.operators.specs.declared.tensor_paths.Tensor.TheVariants.{Blocks, Columns}
 use Rattle.operators.specs.TensorPaths.Path.{Path, count_of, size_under}
 use Rattle.tree_model.specs.declared.tree.Rule.{Rule}
-use Rattle.tree_model.specs.declared.tree.Rule.TheVariants.{Gt, Ct, Split, Dim}
-use Rattle.generate.specs.Emission.Passes.{Factors, Site}
-use Rattle.generate.specs.Emission.Places.{PlaceFunction, inside, same, turn_of}
-use Rattle.generate.specs.Emission.Root.{lane_of, lane_loops, left_root, packed, right_root, root_in, shared, strided, turn_in_lanes}
+use Rattle.tree_model.specs.declared.tree.Rule.TheVariants.{Ct}
+use Rattle.generate.specs.Emission.Passes.{Factors}
+use Rattle.generate.specs.Emission.Places.{inside, same, turn_of}
+use Rattle.generate.specs.Emission.Root.{lane_of, lane_loops, left_root, packed, right_root, root_in, shared, strided}
 use Rattle.generate.proofs.Emission.Matches.{IsAround}
-use Rattle.generate.proofs.Emission.RootPlaces.{insides, insides-are, natural-turns, packed-is, strided-is, turns, turns-are}
+use Rattle.generate.proofs.Emission.RootPlaces.{insides-are, natural-turns, packed-is, strided-is, turns-are}
 
 -- the turns of a processor and a lane
 pub turns-each : (p v k : ℕ) → 0 < v → 0 < p → (n : ℕ) → n ≡ p * (v * k) → n / v / p ≡ k

@@ -1,18 +1,14 @@
 -- The places of a shared root, as sums: those of emission are those that merging makes.
-use Rattle.std.proofs.Common.{◌≡◌, ℕ, zero, suc, ◌+◌, ◌*◌, ◌/◌, ◌<◌, ◌==◌, Bool, true, false, if◌then◌else◌, arith, refl, sym, ap, ap₂, ◌∙◌, List, [], ◌∷◌, ◌++◌, length, length-append, append-nil, append_assoc, subst, mul_comm}
+use Rattle.std.proofs.Common.{◌≡◌, ℕ, ◌+◌, ◌*◌, ◌==◌, Bool, true, false, if◌then◌else◌, arith, refl, sym, ap, ap₂, ◌∙◌, List, [], ◌∷◌, ◌++◌, length, length-append, append-nil, append_assoc}
 use Rattle.std.specs.Prelude.{map}
-use Rattle.std.proofs.Math.Nat.{mul-div_cancel_left}
-use Rattle.perm_algebra.specs.Affine.{Sum, constant, variable, scaled, joined}
-use Rattle.perm_algebra.proofs.Sizes.{joined-end}
+use Rattle.perm_algebra.specs.Affine.{Sum, scaled, joined}
 use Rattle.sigma_lower.specs.TreeLoops.Placed.{place_sum}
 use Rattle.sigma_lower.proofs.TreeLoops.InCopies.{placed}
 use Rattle.sigma_lower.proofs.TreeLoops.Moved.{joined-assoc, placed-columns, scaled-joined, scaled-scaled}
-use Rattle.sigma_lower.proofs.TreeLoops.RootShares.{AreShares, rows_some, columns_some, tiles_are, tiles_fill}
 use Rattle.sigma_lower.proofs.TreeLoops.WithinPlaces.{copies_from, natural-placed}
-use Rattle.sigma_lower.specs.TreeTerms.Root.{left_path, right_path, tile_path}
 use Rattle.smp_rewrite.proofs.Tensors.{within_all}
 use Rattle.operators.specs.declared.tensor_paths.Tensor.{Tensor}
-use Rattle.operators.specs.declared.tensor_paths.Tensor.TheVariants.{Blocks, Columns}
+use Rattle.operators.specs.declared.tensor_paths.Tensor.TheVariants.{Columns}
 use Rattle.operators.specs.TensorPaths.Path.{Path, count_of}
 use Rattle.generate.specs.Emission.Places.{inside, turn_of}
 

@@ -1,8 +1,8 @@
 -- On several processors or lanes the program of a tree is its emission.
-use Rattle.std.proofs.Common.{◌≡◌, ℕ, ◌+◌, ◌*◌, ◌<◌, ◌==◌, Bool, true, false, if◌then◌else◌, arith, refl, sym, ap, ap₂, ◌∙◌, List, [], ◌∷◌, ◌++◌, length, subst, Option, None, Some}
+use Rattle.std.proofs.Common.{◌≡◌, ℕ, ◌+◌, ◌*◌, ◌==◌, Bool, true, false, if◌then◌else◌, arith, refl, sym, ap, ap₂, ◌∙◌, List, [], ◌∷◌, ◌++◌, length, subst, Option, None, Some}
 use Rattle.std.specs.Prelude.{map, nat_le}
 use Rattle.std.proofs.lemmas.Bool.{eq-eqb}
-use Rattle.std.proofs.lemmas.List.{length-map, map-append}
+use Rattle.std.proofs.lemmas.List.{length-map}
 use Rattle.code_gen.specs.PassCode.Program.{program_of}
 use Rattle.sigma_spl.specs.Lists.{on_last}
 use Rattle.matrix_meaning.specs.Parts.{forward_by, forward_of, inverted}
@@ -10,8 +10,8 @@ use Rattle.matrix_meaning.specs.Valid.{IsValid}
 use Rattle.matrix_meaning.specs.declared.Kind.{Kind}
 use Rattle.matrix_meaning.specs.declared.Kind.TheVariants.{Dft, Wht, Idft}
 use Rattle.matrix_meaning.specs.declared.Request.{Request}
-use Rattle.perm_algebra.specs.Affine.{Sum, constant}
-use Rattle.sigma_lower.specs.Merged.{CanLower, tree_merged}
+use Rattle.perm_algebra.specs.Affine.{constant}
+use Rattle.sigma_lower.specs.Merged.{CanLower}
 use Rattle.sigma_lower.specs.TreeLoops.Merge.{PlainPass}
 use Rattle.sigma_lower.specs.TreeLoops.Nests.{loop_of}
 use Rattle.sigma_lower.specs.TreeTerms.Root.{left_path}
@@ -19,14 +19,14 @@ use Rattle.sigma_lower.proofs.TreeLayouts.{trees_can_lower}
 use Rattle.sigma_lower.proofs.TreeLoops.PartRules.{IsSize}
 use Rattle.sigma_lower.proofs.TreeLoops.PlaceLimits.{ArePlaced, whole_placed}
 use Rattle.sigma_lower.proofs.TreeLoops.RootMerging.{root_merged}
-use Rattle.sigma_lower.proofs.TreeLoops.RootPasses.{left_pass, left_passes, pass_phases, right_passes, root_passes}
+use Rattle.sigma_lower.proofs.TreeLoops.RootPasses.{left_pass, left_passes, pass_phases, root_passes}
 use Rattle.sigma_lower.proofs.TreeLoops.RootShares.{AreShares, rows_size, shares_of}
 use Rattle.sigma_lower.proofs.TreeLoops.Shaped.{AreShaped, IsShapedWork, shaped_passes, shaped_works}
 use Rattle.sigma_lower.proofs.TreeLoops.TreePasses.{IsFull, full_passes, layout_passes}
-use Rattle.sigma_spl.specs.Loops.{nest_of, one_nest}
+use Rattle.sigma_spl.specs.Loops.{one_nest}
 use Rattle.sigma_spl.specs.Nest.{PlainNest, repeated}
 use Rattle.sigma_spl.specs.Shared.Targets.{is_alone, target_of}
-use Rattle.smp_rewrite.specs.Fits.{CanShareLayout, HasParts}
+use Rattle.smp_rewrite.specs.Fits.{CanShareLayout}
 use Rattle.smp_rewrite.specs.LayoutSteps.Layout.{IsGoodLayout, Layout, by, layout_of, layout_size, node_work, work}
 use Rattle.smp_rewrite.specs.LayoutSteps.Whole.{factor_by, whole_of}
 use Rattle.smp_rewrite.proofs.LayoutSteps.Layouts.{layouts_have_size}
@@ -37,7 +37,7 @@ use Rattle.tree_model.specs.Cost.{is_kernel, is_plain, node_root}
 use Rattle.tree_model.specs.Whole.{left_of, right_of}
 use Rattle.tree_model.specs.declared.tree.Rule.{Rule}
 use Rattle.tree_model.specs.declared.tree.Rule.TheVariants.{Gt, Ct, Split, Dim}
-use Rattle.generate.specs.Emission.Passes.{Factors, Pass, entries, none, passes}
+use Rattle.generate.specs.Emission.Passes.{Factors, Pass, none, passes}
 use Rattle.generate.specs.Emission.Root.{left_root, right_root, root_phases, strided, tiles_after, tiles_before}
 use Rattle.generate.specs.Emission.Whole.{closing_factors, emission, whole_site}
 use Rattle.generate.specs.Letters.{program_for}

@@ -1,5 +1,5 @@
 -- What a rule's permutations make of the places of its parts.
-use Rattle.std.proofs.Common.{◌≡◌, ℕ, ◌+◌, ◌*◌, ◌<◌, ◌≤◌, arith, refl, sym, ap, ◌∙◌, List, [], ◌∷◌, ◌++◌, length, subst, mul_comm}
+use Rattle.std.proofs.Common.{◌≡◌, ℕ, ◌+◌, ◌*◌, ◌<◌, ◌≤◌, arith, sym, ap, ◌∙◌, List, [], ◌∷◌, ◌++◌, length, subst, mul_comm}
 use Rattle.std.proofs.Math.Nat.{mul-le-mul_right}
 use Rattle.std.proofs.lemmas.Nat.{mul-le}
 use Rattle.index_fn.specs.Mapping.{Mapping, Strided, ThomasIn, ThomasBack}
@@ -9,7 +9,7 @@ use Rattle.perm_algebra.proofs.Shape.{divided-joined, turned-joined}
 use Rattle.perm_algebra.proofs.Sizes.{parts-scaled, parts-joined, proper-joined, proper-scaled}
 use Rattle.sigma_lower.specs.TreeLoops.Placed.{Fits, IsTame, place_sum, AreCounts, all_simplified}
 use Rattle.sigma_lower.specs.TreeTerms.Good.{AreCoprime}
-use Rattle.sigma_lower.specs.TreeTerms.Wrapped.{wrapped, inner_of, unit_of}
+use Rattle.sigma_lower.specs.TreeTerms.Wrapped.{wrapped, unit_of}
 use Rattle.sigma_lower.proofs.TreeLoops.InCopies.{simplified-wrapped}
 use Rattle.sigma_lower.proofs.TreeLoops.PartRules.{IsRuleIn, coprime_in}
 use Rattle.sigma_lower.proofs.TreeLoops.PlaceSums.{tensor_sum, place_sum-push, counts-push, variable-fits, parts-fit, tensor_sum-fits}

@@ -1,5 +1,5 @@
 -- The passes over tiles of a shared root are those of merging.
-use Rattle.std.proofs.Common.{◌≡◌, ℕ, zero, suc, ◌+◌, ◌*◌, ◌/◌, ◌%◌, ◌<◌, ◌==◌, if◌then◌else◌, arith, refl, sym, ap, ap₂, ◌∙◌, List, [], ◌∷◌, ◌++◌, length, subst, mul_comm, Option, None, Some}
+use Rattle.std.proofs.Common.{◌≡◌, ℕ, zero, suc, ◌+◌, ◌*◌, ◌/◌, ◌%◌, ◌<◌, arith, refl, sym, ap, ap₂, ◌∙◌, List, [], ◌∷◌, ◌++◌, subst, mul_comm, Option, None, Some}
 use Rattle.std.specs.Prelude.{map}
 use Rattle.std.specs.List.{range_with_len}
 use Rattle.std.proofs.Math.Nat.{mul-div_cancel_left, mul-mod_left}
@@ -9,7 +9,7 @@ use Rattle.operators.proofs.Lists.{place_below}
 use Rattle.perm_algebra.specs.Affine.{Sum, constant, scaled, joined}
 use Rattle.perm_algebra.proofs.Sizes.{joined-end, positive-product}
 use Rattle.sigma_lower.specs.TreeLoops.Merge.{PlainDiagonal, PlainPass}
-use Rattle.sigma_lower.specs.TreeLoops.Nests.{loop_of, taken_of}
+use Rattle.sigma_lower.specs.TreeLoops.Nests.{loop_of}
 use Rattle.sigma_lower.specs.TreeLoops.Placed.{place_sum, AreCounts, all_simplified}
 use Rattle.sigma_lower.specs.TreeTerms.Root.{tile_path, vectors_grouped}
 use Rattle.sigma_lower.proofs.TreeLoops.InCopies.{AreCopies}
@@ -20,18 +20,17 @@ use Rattle.sigma_lower.proofs.TreeLoops.PlaceSums.{all_simplified-append}
 use Rattle.sigma_lower.proofs.TreeLoops.RootShares.{AreShares, tiles_fill, tiles_product, tiles_small}
 use Rattle.sigma_lower.proofs.TreeLoops.TilePlaces.{tile_wide}
 use Rattle.sigma_lower.proofs.TreeLoops.WithinPlaces.{natural-copies}
-use Rattle.sigma_spl.specs.Loops.{limits_in, nest_of}
-use Rattle.sigma_spl.specs.Nest.{PlainMultiplier, PlainNest, twiddles}
+use Rattle.sigma_spl.specs.Loops.{nest_of}
+use Rattle.sigma_spl.specs.Nest.{twiddles}
 use Rattle.sigma_spl.specs.Work.{tile}
-use Rattle.smp_rewrite.proofs.Tensors.{within_all}
-use Rattle.operators.specs.declared.tensor_paths.Tensor.TheVariants.{Blocks, Columns}
+use Rattle.operators.specs.declared.tensor_paths.Tensor.TheVariants.{Blocks}
 use Rattle.operators.specs.TensorPaths.Path.{Path, count_of, size_under}
 use Rattle.generate.specs.Emission.Passes.{Factors, Pass, entries, none}
 use Rattle.generate.specs.Emission.Places.{PlaceFunction, inside, turn_of}
 use Rattle.generate.specs.Emission.Root.{across, along, processor_loops, shared, tile_turns}
 use Rattle.generate.specs.Emission.Whole as emission
 use Rattle.generate.proofs.Emission.Root.{rows-each}
-use Rattle.generate.proofs.Emission.RootPlaces.{insides-are, natural-turns, spread-out, turns, turns-are}
+use Rattle.generate.proofs.Emission.RootPlaces.{insides-are, natural-turns, spread-out, turns-are}
 
 -- ---- sums
 

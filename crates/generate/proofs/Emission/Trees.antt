@@ -1,12 +1,12 @@
 -- The passes of a layout by the rules of emission are those that merging makes.
-use Rattle.std.proofs.Common.{◌≡◌, ℕ, ◌+◌, ◌*◌, ◌≤◌, ◌==◌, if◌then◌else◌, Bool, true, false, arith, refl, sym, ap, ap₂, ◌∙◌, List, [], ◌∷◌, ◌++◌, length, length-append, subst, None, Some}
+use Rattle.std.proofs.Common.{◌≡◌, ℕ, ◌+◌, ◌*◌, ◌≤◌, ◌==◌, if◌then◌else◌, false, arith, refl, sym, ap, ap₂, ◌∙◌, List, [], ◌∷◌, ◌++◌, length, length-append, subst}
 use Rattle.std.specs.Prelude.{map}
 use Rattle.std.proofs.lemmas.Bool.Decides.{nat_tests}
 use Rattle.std.proofs.lemmas.List.{map-append, append_assoc, length-map}
 use Rattle.index_fn.specs.Mapping.{Mapping, ThomasBack}
 use Rattle.perm_algebra.specs.Affine.{Sum, constant, variable, simplified}
 use Rattle.sigma_lower.specs.TreeLoops.Merge.{PlainPass, at_last, multiplied, new_pass, scattered}
-use Rattle.sigma_lower.specs.TreeLoops.Placed.{Fits, place_sum, AreCounts, all_simplified}
+use Rattle.sigma_lower.specs.TreeLoops.Placed.{Fits, place_sum, all_simplified}
 use Rattle.sigma_lower.specs.TreeTerms.Wrapped.{inner_of, unit_of, wrapped}
 use Rattle.sigma_lower.proofs.TreeLoops.InnerPlaces.{inner-place}
 use Rattle.sigma_lower.proofs.TreeLoops.PartRules.{IsSize, IsRuleIn, rule_in}
@@ -16,14 +16,14 @@ use Rattle.sigma_spl.specs.Work.{PlainWork, work_size}
 use Rattle.smp_rewrite.specs.LayoutSteps.Layout.{Layout, work, by, layout_size, IsGoodLayout}
 use Rattle.operators.specs.declared.tensor_paths.Tensor.{Tensor}
 use Rattle.operators.specs.declared.tensor_paths.Tensor.TheVariants.{Blocks, Columns}
-use Rattle.operators.specs.TensorPaths.Path.{Path, count_of, grown, size_under}
+use Rattle.operators.specs.TensorPaths.Path.{Path, count_of, size_under}
 use Rattle.operators.proofs.TensorPaths.Under.{size_under-push}
 use Rattle.tree_model.specs.declared.tree.Rule.{Rule}
 use Rattle.tree_model.specs.declared.tree.Rule.TheVariants.{Gt, Ct, Split, Dim}
 use Rattle.generate.specs.Emission.Passes.{Factors, Pass, Site, entries, left_site, moved, none, pass_at, right_site}
 use Rattle.generate.specs.Emission.Places.{PlaceFunction, after, blocks, columns, inside, left_out, right_in, same, turn_of}
 use Rattle.generate.proofs.Emission.Layouts.{layout_emitted}
-use Rattle.generate.proofs.Emission.Matches.{Always, ArePasses, AreSame, IsAround, IsBegun, IsLast, IsSame, HasDiagonal, at_last-none, last-other, last-same, natural, passes-append}
+use Rattle.generate.proofs.Emission.Matches.{Always, ArePasses, AreSame, IsAround, IsLast, IsSame, HasDiagonal, at_last-none, last-other, last-same, natural, passes-append}
 use Rattle.generate.proofs.Emission.Steps.{at-tensor, loaded_by, stored_back}
 
 -- ---- loops of two turns or more

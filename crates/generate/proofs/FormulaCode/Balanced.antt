@@ -4,7 +4,7 @@ use Rattle.std.proofs.lemmas.Bool.{cases_Bool}
 use Rattle.std.proofs.lemmas.Bool.Decides.{nat_tests}
 use Rattle.std.proofs.lemmas.Grind.{flat_map-append}
 use Rattle.std.proofs.lemmas.List.{take-append-drop}
-use Rattle.spl_ast.specs.BalancedSums.Halves.{halved, in_halves, balanced, balanced_summands}
+use Rattle.spl_ast.specs.BalancedSums.Halves.{halved, balanced, balanced_summands}
 use Rattle.spl_ast.specs.BalancedSums.Summands.{summands, sum_of}
 use Rattle.spl_ast.proofs.BalancedSums.Grouping.{KnowsSums, from_right}
 use Rattle.spl_ast.specs.Formula.{Formula, Identity, Fourier, Hadamard, Twiddles, Diagonal, Stride, Permutation, GoodThomasIn, GoodThomasOut, Product, TensorLeft, TensorRight, DirectSum, Pending, size_of}

@@ -3,12 +3,11 @@ use Rattle.std.specs.Prelude.{◌≡◌, ℕ, List, [], ◌∷◌}
 use Rattle.icode.specs.Plain.{PlainBody, PlainExpr, PlainPart, PlainProgram, PlainStmt, NoStmts, AndStmts, Loop, Do, Load, Store, Zero, Add, Sub, MulConst, MulTable, Tile, Sum, Proc, Var, Product, Rem, parts_of}
 use Rattle.icode.specs.declared.program.Array.TheVariants.{X, Y, A, B}
 use Rattle.matrix_meaning.specs.declared.Dimension.{Dimension}
-use Rattle.matrix_meaning.specs.declared.Dimensions.{Dimensions}
 use Rattle.matrix_meaning.specs.declared.Dimensions.TheVariants.{One, Two}
 use Rattle.matrix_meaning.specs.declared.Kind.{Kind}
 use Rattle.matrix_meaning.specs.declared.Kind.TheVariants.{Dft, Wht, Idft}
 use Rattle.matrix_meaning.specs.declared.Request.{Request}
-use Rattle.tree_model.specs.Breakdown.{Breakdown, leaf, node}
+use Rattle.tree_model.specs.Breakdown.{leaf, node}
 use Rattle.tree_model.specs.declared.tree.Rule.TheVariants.{Gt, Ct, Split, Dim}
 use Rattle.generate.specs.Emission.Whole.{emission}
 
