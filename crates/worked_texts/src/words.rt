@@ -1,7 +1,7 @@
 // Command lines.
 
 use request_text::{Event, Mix, Schedule};
-use spiral_words::{Command, Order, Refusal, command_of};
+use spiral_words::{Command, Document, FormulaCommand, Order, Refusal, RequestCommand, command_of};
 use std::alloc::Global;
 use std::test::Fail;
 use worked_rows::check;
@@ -149,26 +149,44 @@ fn sampled(alloc: Global, seed: u64, schedule: &Schedule) -> Result<String, Fail
     shown(alloc, &name, schedule)
 }
 
-fn told(alloc: Global, command: &Command) -> Result<String, Fail> {
-    let name = match command {
-        Command::Plan => "plan",
-        Command::Formula => "formula",
-        Command::Code => "code",
-        Command::C => "c",
-        Command::Cert => "cert",
-        Command::Check => "check",
-        Command::Compile { .. } => "compile",
-        Command::Run { order } => return ordered(alloc, "run", order),
-        Command::Trace { order } => return ordered(alloc, "trace", order),
-        Command::Sample { seed, schedule } => return sampled(alloc, *seed, schedule),
-        Command::Apply { schedule, .. } => return shown(alloc, "apply", schedule),
-        Command::Exec { schedule } => return shown(alloc, "exec", schedule),
-        Command::Convolve { schedule, code } => {
-            let name = if *code { "convolve code" } else { "convolve" };
-            return shown(alloc, name, schedule);
-        }
+fn told_document(alloc: Global, document: &Document) -> Result<String, Fail> {
+    let name = match document {
+        Document::Plan => "plan",
+        Document::Formula => "formula",
+        Document::Code => "code",
+        Document::C => "c",
+        Document::Cert => "cert",
+        Document::Sample { seed, schedule } => return sampled(alloc, *seed, schedule),
     };
     Ok(name.to_string(alloc)?)
+}
+
+fn told_request(alloc: Global, command: &RequestCommand) -> Result<String, Fail> {
+    match command {
+        RequestCommand::Writes(document) => told_document(alloc, document),
+        RequestCommand::Runs(order) => ordered(alloc, "run", order),
+        RequestCommand::Traces(order) => ordered(alloc, "trace", order),
+        RequestCommand::Judges => Ok("check".to_string(alloc)?),
+    }
+}
+
+fn told_formula(alloc: Global, command: &FormulaCommand) -> Result<String, Fail> {
+    match command {
+        FormulaCommand::Compile => Ok("compile".to_string(alloc)?),
+        FormulaCommand::Apply(schedule) => shown(alloc, "apply", schedule),
+    }
+}
+
+fn told(alloc: Global, command: &Command) -> Result<String, Fail> {
+    match command {
+        Command::ByRequest(command) => told_request(alloc, command),
+        Command::ByFormula { command, .. } => told_formula(alloc, command),
+        Command::ByListing(schedule) => shown(alloc, "exec", schedule),
+        Command::ByList { schedule, code } => {
+            let name = if *code { "convolve code" } else { "convolve" };
+            shown(alloc, name, schedule)
+        }
+    }
 }
 
 fn words_of(alloc: Global, line: &str) -> Result<Vec<String>, Fail> {
