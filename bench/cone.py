@@ -31,7 +31,7 @@ COMMANDS = [
     ("`run`", ["run_answers", "run_is_right"]),
     ("`trace`", ["trace_answers", "trace_is_good", "trace_is_right"]),
     ("`sample`", ["sample_answers", "sample_is_right"]),
-    ("`compile`", ["compile_answers", "compile_is_right"]),
+    ("`compile`", ["compile_answers", "compile_is_good", "compile_is_right"]),
     ("`apply`", ["apply_answers", "apply_is_right"]),
     ("`exec`", ["exec_answers", "exec_is_right"]),
     ("`convolve`", ["convolve_answers"]),

@@ -10,6 +10,7 @@ pub mod Programs
 pub mod PlanText
 pub mod Sample
 pub use Rattle.generate.specs.Good
+pub use Rattle.generate.specs.GoodPrograms
 pub use Rattle.generate.specs.Lean
 pub use Rattle.generate.specs.Letters
 pub use Rattle.generate.specs.Planned

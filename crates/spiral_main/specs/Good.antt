@@ -3,6 +3,9 @@ use Rattle.std.specs.Prelude.{◌≡◌, ◌++◌, ℕ, true, List, []}
 use Rattle.c_print.specs.CText.{c_text_of}
 use Rattle.commands.specs.ConvolutionCommands.Convolver.{IsConvolver}
 use Rattle.commands.specs.Equations.Convolutions.{conv_planned}
+use Rattle.commands.specs.Equations.Formulas.{written}
+use Rattle.commands.specs.FormulaCommands.Code.{IsCodeOf}
+use Rattle.spl_ast.specs.Formula.{Formula}
 use Rattle.commands.specs.Equations.Front.{line, by_front}
 use Rattle.commands.specs.Equations.Orders.{Planned, planned}
 use Rattle.commands.specs.Equations.Works.{all, the_first, by_first, mapping, writing}
@@ -47,6 +50,13 @@ IsGoodTrace order plan vectors text = (program : PlainProgram) × IsGoodProgram 
 abbrev pub good_trace_outcomes : Order → Outcomes
 good_trace_outcomes order = by_front (line 256) (planned (procs_in order))
     (λ (plan : Planned). mapping all plan.request.size plan.request.modulus (IsGoodTrace order plan))
+
+-- the text is the listing of a program that is code of the formula
+abbrev pub IsCodeListing : ℕ → Formula → List ℕ → Type 0
+IsCodeListing m formula text = (program : PlainProgram) × IsCodeOf m formula program × (text ≡ listing_of program)
+
+abbrev pub good_compile_outcomes : ℕ → Outcomes
+good_compile_outcomes m = by_front (line 65536) written (λ (formula : Formula). writing (IsCodeListing m formula))
 
 -- the text is the listing of a program that convolves with h
 abbrev pub IsConvolverListing : Planned → List ℕ → List (List ℕ) → List ℕ → Type 0

@@ -13,7 +13,7 @@ ghost use Rattle.commands.specs.Equations.Cert.{cert_outcomes};
 ghost use Rattle.commands.specs.Equations.Check.{check_outcomes};
 ghost use Rattle.commands.specs.Equations.Exec.{exec_outcomes};
 ghost use Rattle.commands.specs.Equations.Formula.{formula_outcomes};
-ghost use Rattle.spiral_main.specs.Good.{good_c_outcomes, good_code_outcomes, good_convolver_outcomes, good_trace_outcomes};
+ghost use Rattle.spiral_main.specs.Good.{good_c_outcomes, good_code_outcomes, good_compile_outcomes, good_convolver_outcomes, good_trace_outcomes};
 ghost use Rattle.spiral_main.specs.Outcome.{IsOutcome};
 ghost use Rattle.commands.specs.Equations.Plan.{plan_outcomes};
 ghost use Rattle.commands.specs.Equations.Run.{run_outcomes};
@@ -152,6 +152,13 @@ pub fn trace_is_good()
     ensures { (order : SpecOrder) (words : List (List ℕ)) (bytes : List ℕ)
         (status : SpecStatus) (text : List ℕ) → IsAsked words (command.ByRequest (request.Traces order))
         → IsOutcome words bytes status text → (good_trace_outcomes order).answer bytes status text }
+{}
+
+/// A listing that `compile` prints is that of code of the formula.
+pub fn compile_is_good()
+    ensures { (m : ℕ) (words : List (List ℕ)) (bytes : List ℕ) (status : SpecStatus) (text : List ℕ) →
+        IsAsked words (command.ByFormula m formula_command.Compile)
+        → IsOutcome words bytes status text → (good_compile_outcomes m).answer bytes status text }
 {}
 
 /// A listing that `convolve --code` prints is that of a program that convolves with the list.
