@@ -58,8 +58,7 @@ module _ (r : Request) where
   all-count (zs ∷ ps) [] costs loads shares = cc
   all-count (zs ∷ ps) (pass ∷ passes) costs loads shares =
       let operations : pass_cost r.weight r.modulus zs ≡ cost_of_pass r.size pass = cons-head costs in
-      let words : pass_loads zs ≡ loads_of_pass r.size pass = cons-head loads in
-      (
+      let words : pass_loads zs ≡ loads_of_pass r.size pass = cons-head loads in (
         record {
           operations = operations;
           loads = words;

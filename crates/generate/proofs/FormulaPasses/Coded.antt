@@ -189,7 +189,7 @@ module _ (m n : ℕ) (high : n ≤ 1048576) where
           factors = λ d is vs k range below. factor-below z.counts z.work (factor_count d.factors) d.places vs k made.work (diagonal d is).0 (places d is) range below;
           residues = λ d is i. (diagonal d is).1.residues i;
           ready = ready;
-        within = within;
+          within = within;
         }
 
   pub plain-nests : (zs : List PlainNest) → AreMade m zs → AreGoodNests 0 m n zs → is_within 64 n zs ≡ true → items_of (map (copies_of m) zs) ≤ n → All (IsPlainNest n m) zs

@@ -1,17 +1,23 @@
-use Rattle.std.proofs.Common.{◌≡◌, ◌<◌, All, sym, ap, ap₂, ◌∙◌, subst}
+use Rattle.std.proofs.Common.{◌≡◌, ℕ, ◌<◌, All, List, Ok, sym, ap, ap₂, ◌∙◌, subst}
 use Rattle.icode.specs.Program.{plain_program}
 use Rattle.matrix_meaning.specs.declared.Request.{Request}
 use Rattle.matrix_meaning.specs.Valid.{IsValid}
 use Rattle.sigma_spl.specs.Shared.Ready.{IsReady}
 use Rattle.code_gen.specs.PassCode.Program.{program_of}
 use Rattle.sigma_spl.specs.Views.{plain_merged}
-use Rattle.tree_model.specs.Breakdown.{breakdown_of}
+use Rattle.tree_model.specs.Breakdown.{Breakdown, breakdown_of}
 use Rattle.tree_model.specs.Chosen.{IsWholeTree}
 use Rattle.sigma_spl.specs.Shared.Targets.{target_of}
 use Rattle.generate.specs.ConvLetters.{conv_merged}
+use Rattle.generate.specs.ConvPlanned.{IsConvPlanned}
 use Rattle.generate.specs.Factors.{factors_of}
 use Rattle.generate.proofs.ConvTrees.{inverse_tree, inverse_valid}
-use Rattle.generate.specs.ConvLetters.{conv_program}
+use Rattle.icode.specs.Plain.{PlainProgram}
+use Rattle.loop_merge.specs.JoinedPasses.Joined.{joined}
+use Rattle.matrix_meaning.specs.Convolving.{IsConvRequest}
+use Rattle.matrix_meaning.specs.Parts.{inverted}
+use Rattle.sigma_lower.specs.Merged.{tree_merged}
+use Rattle.sigma_spl.specs.Merged.{PlainMerged}
 use Rattle.generate.specs.Convolver.{IsConvolver}
 use Rattle.generate.proofs.ConvGoodness.{can-convolve, joined-same, planned-valid}
 use Rattle.generate.specs.Emission.Whole.{conv_emission}
@@ -42,17 +48,6 @@ merge_tree-requires-2 c =
     subst (λ (z : Request). IsWholeTree z t) (sym (c.new-backward.ensures ∙ c.inverted.ensures.value))
     (inverse_tree r c.requires.request valid t c.requires.plan.2.tree)
 
--- the passes are those of the request
-are-joined : (c : goal.In_ok-joined) →
-    plain_merged c.in_ok-joined.joined
-    ≡ conv_merged c.args.request.now (breakdown_of c.args.plan.now.tree) (factors_of c.args.request.now c.args.h.now)
-are-joined c =
-    joined-same c.args.request.now c.new-forward.result c.new-backward.result (breakdown_of c.args.plan.now.tree)
-    c.args.h.now c.in_ok-diagonal.diagonal.items
-    (plain_merged c.in_ok-first.first) (plain_merged c.in_ok-second.second) (plain_merged c.in_ok-joined.joined)
-    c.new-forward.ensures (c.new-backward.ensures ∙ c.inverted.ensures.value) c.in_ok-diagonal.ensures.value
-    c.in_ok-first.ensures.merged c.in_ok-second.ensures.merged c.in_ok-joined.ensures.joined
-
 -- both requests are for one machine
 pub emit_joined-requires-clause-alike : goal.emit_joined-requires-clause-alike
 emit_joined-requires-clause-alike c =
@@ -68,30 +63,48 @@ emit_joined-requires-clause-ready c =
     subst (λ (z : Request). All (λ d. d < z.modulus) (factors_of z ls)) c.new-forward.ensures
     (subst (All (λ d. d < c.new-forward.result.modulus)) c.in_ok-diagonal.ensures.value
     c.in_ok-diagonal.ensures.residues) in
+    let same : plain_merged c.in_ok-joined.joined ≡ conv_merged r t (factors_of r ls) =
+    joined-same c.args.request.now c.new-forward.result c.new-backward.result (breakdown_of c.args.plan.now.tree)
+    c.args.h.now c.in_ok-diagonal.diagonal.items
+    (plain_merged c.in_ok-first.first) (plain_merged c.in_ok-second.second) (plain_merged c.in_ok-joined.joined)
+    c.new-forward.ensures (c.new-backward.ensures ∙ c.inverted.ensures.value) c.in_ok-diagonal.ensures.value
+    c.in_ok-first.ensures.merged c.in_ok-second.ensures.merged c.in_ok-joined.ensures.joined in
     subst (λ (z : Request). IsReady (target_of z) (plain_merged c.in_ok-joined.joined)) (sym c.new-forward.ensures)
-    (subst (IsReady (target_of r)) (sym (are-joined c))
+    (subst (IsReady (target_of r)) (sym same)
     (can-convolve r t ls c.requires.request valid c.requires.plan.2.tree residues))
 
-letters : (c : goal.In_ok-program) →
-    plain_program c.in_ok-program.program
-    ≡ conv_program c.args.request.now (breakdown_of c.args.plan.now.tree) c.args.h.now
-letters c =
-    c.in_ok-program.ensures.code ∙ ap₂ (λ z g. program_of (target_of z) g) c.new-forward.ensures (are-joined c)
-
-emitted : (c : goal.In_ok-program) →
-    plain_program c.in_ok-program.program
-    ≡ conv_emission c.args.request.now (breakdown_of c.args.plan.now.tree) c.args.h.now
-emitted c =
-    letters c
-    ∙ conv_programs_are_emissions c.args.request.now (breakdown_of c.args.plan.now.tree) c.args.h.now
-    c.requires.request c.requires.plan
+-- the program is that of the rules of emission
+emitted : (r c d : Request) (t : Breakdown) (ls ds : List ℕ) (f s g : PlainMerged) (p : PlainProgram) →
+    IsConvRequest r → IsConvPlanned r (Ok t) → c ≡ r → d ≡ inverted r → ds ≡ factors_of c ls →
+    f ≡ tree_merged c t → s ≡ tree_merged d t → g ≡ joined f ds s → p ≡ program_of (target_of c) g →
+    p ≡ conv_emission r t ls
+emitted r c d t ls ds f s g p request planned forward backward listed first second both code =
+    code
+    ∙ ap₂ (λ z passes. program_of (target_of z) passes) forward
+    (joined-same r c d t ls ds f s g forward backward listed first second both)
+    ∙ conv_programs_are_emissions r t ls request planned
 
 pub returns-clause-convolver : goal.returns-clause-convolver
 returns-clause-convolver c =
     let r = c.args.request.now in
     let t = breakdown_of c.args.plan.now.tree in
-    subst (IsConvolver r t c.args.h.now) (sym (emitted c))
+    let letters : plain_program c.in_ok-program.program ≡ conv_emission r t c.args.h.now =
+    emitted c.args.request.now c.new-forward.result c.new-backward.result (breakdown_of c.args.plan.now.tree)
+    c.args.h.now c.in_ok-diagonal.diagonal.items
+    (plain_merged c.in_ok-first.first) (plain_merged c.in_ok-second.second) (plain_merged c.in_ok-joined.joined)
+    (plain_program c.in_ok-program.program) c.requires.request c.requires.plan
+    c.new-forward.ensures (c.new-backward.ensures ∙ c.inverted.ensures.value) c.in_ok-diagonal.ensures.value
+    c.in_ok-first.ensures.merged c.in_ok-second.ensures.merged c.in_ok-joined.ensures.joined
+    c.in_ok-program.ensures.code in
+    subst (IsConvolver r t c.args.h.now) (sym letters)
     (conv_programs_convolve r t c.args.h.now c.requires.request c.requires.plan)
 
 pub returns-clause-letters : goal.returns-clause-letters
-returns-clause-letters c = emitted c
+returns-clause-letters c =
+    emitted c.args.request.now c.new-forward.result c.new-backward.result (breakdown_of c.args.plan.now.tree)
+    c.args.h.now c.in_ok-diagonal.diagonal.items
+    (plain_merged c.in_ok-first.first) (plain_merged c.in_ok-second.second) (plain_merged c.in_ok-joined.joined)
+    (plain_program c.in_ok-program.program) c.requires.request c.requires.plan
+    c.new-forward.ensures (c.new-backward.ensures ∙ c.inverted.ensures.value) c.in_ok-diagonal.ensures.value
+    c.in_ok-first.ensures.merged c.in_ok-second.ensures.merged c.in_ok-joined.ensures.joined
+    c.in_ok-program.ensures.code
