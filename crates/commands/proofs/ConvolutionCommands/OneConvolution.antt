@@ -92,7 +92,7 @@ refusal_once r (conv.Root power) conv.NoMemory p q = absurd q
 refusal_once r (conv.NotPrincipal k) conv.NoMemory p q = absurd q
 refusal_once r (conv.OverBudget cost budget) conv.NoMemory p q = absurd q
 
-plan_of : Request → Breakdown → Planned
+abbrev plan_of : Request → Breakdown → Planned
 plan_of request tree = record { request = request; tree = tree }
 
 chosen_decided : (r : Request) → IsDecided (conv_chosen r)

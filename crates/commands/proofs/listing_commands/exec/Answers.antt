@@ -33,4 +33,4 @@ returns-clause-told g c =
     let taken = g.O.Sink.taken in
     exec_told c.args.schedule.now c.in_ok-program.program c.new.result start mid reached (taken c.args.output.now) (taken c.stream_turns.new.output)
     c.listing_text.new.feed.taken told.0 c.in_ok-text.text.items (status_of c.stream_turns.result)
-    told.1 (told.2.0 ∙ zero-add (length told.0)) told.2.3 told.2.1 load c.new.ensures c.stream_turns.ensures.told
+    told.1 (told.2.0 ∙ zero-add (length told.0)) told.2.3 told.2.1 load c.new.ensures.items c.stream_turns.ensures.told

@@ -1,6 +1,8 @@
 use Rattle.std.proofs.Common.{sym, ◌∙◌}
 use Rattle.std.proofs.lemmas.Result.{err_from_is_err_and}
 use Rattle.icode.specs.Program.{plain_program}
+use Rattle.code_check.proofs.Phases.{limits_of}
+use Rattle.code_check.proofs.Whole.{passed_fits}
 use Rattle.commands.proofs.ListingCommands.ListedLemmas.{unturned, loads}
 use Rattle.commands.proofs.listing_commands.loaded_program.Goals as goal
 
@@ -15,3 +17,6 @@ pub returns-clause-program : goal.returns-clause-program
 returns-clause-program c =
     loads c.args.schedule.now c.args.text.now (plain_program c.in_ok-program.program) c.in_ok-program.ensures.answer c.in_ok-verify.ensures.verified
     (sym c.stranger.ensures ∙ c.in_ok-check_turns.ensures.none)
+
+pub returns-clause-fits : goal.returns-clause-fits
+returns-clause-fits c = passed_fits (plain_program c.in_ok-program.program) (limits_of c.in_ok-program.program) c.in_ok-verify.ensures.verified

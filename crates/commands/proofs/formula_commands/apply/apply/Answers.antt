@@ -1,10 +1,12 @@
 use Rattle.std.proofs.Common.{Err, subst}
 use Rattle.std.proofs.lemmas.Result.{err_from_is_err_and}
+use Rattle.data_stream.proofs.TokensLemmas.{reports_none}
 use Rattle.io_edge.specs.Feed.{to_come}
 use Rattle.request_text.specs.Turns.{named}
 use Rattle.spiral_words.specs.SpiralStatus.Status.{IsDefined}
 use Rattle.commands.specs.Equations.Apply.{apply_work}
 use Rattle.commands.specs.Equations.Formulas.{formed}
+use Rattle.commands.specs.SpiralInput.Ends.{EndsCleanly}
 use Rattle.commands.specs.SpiralInput.Stage.{status_of}
 use Rattle.commands.proofs.FormulaCommands.CompiledLemmas.{line_unread, line_refused, apply_told}
 use Rattle.commands.proofs.formula_commands.apply.apply.Goals as goal
@@ -37,4 +39,13 @@ returns-clause-told g c =
     let taken = g.O.Sink.taken in
     apply_told c.args.modulus.now c.args.schedule.now c.in_ok-program.program c.new.result start mid reached (taken c.args.output.now) (taken c.stream_turns.new.output)
     c.formula_line.new.feed.taken told.0 c.in_ok-text.text.items (status_of c.stream_turns.result)
-    told.1 told.2.0 told.2.3 told.2.1 made c.in_ok-program.ensures.turns c.new.ensures c.stream_turns.ensures.told
+    told.1 told.2.0 told.2.3 told.2.1 made c.in_ok-program.ensures.turns c.new.ensures.items c.stream_turns.ensures.told
+
+pub returns-clause-ends : goal.returns-clause-ends
+returns-clause-ends g c =
+    let read = g.I.Source.faults in
+    let write = g.O.Sink.faults in
+    let taken = g.O.Sink.taken in
+    let same = reports_none (read c.args.input.now) (read c.formula_line.new.input) _ c.in_ok-text.ensures.ends.read (λ e. cc) in
+    subst (λ n. EndsCleanly (status_of c.stream_turns.result) c.stream_turns.new.feed.held n (read c.stream_turns.new.input)
+    (write c.args.output.now) (write c.stream_turns.new.output) (taken c.args.output.now) (taken c.stream_turns.new.output)) same c.stream_turns.ensures.ends
