@@ -116,8 +116,7 @@ def cone(roots, cut, definitions, brought):
     seen, types, waiting = {}, set(), list(roots)
     while waiting:
         key = waiting.pop()
-        while key[:2] in PASSED_ON:
-            key = PASSED_ON[key[:2]] + key[2:]
+        key = home_of(key)
         if "declared" in key[1]:
             types.add(key[1].split("declared.")[1].split(".TheVariants")[0])
         elif key in definitions and id(definitions[key]) not in seen and ".".join(key[1:]) not in cut:
@@ -126,6 +125,21 @@ def cone(roots, cut, definitions, brought):
         elif key not in definitions and key[:2] in brought and key[2] in brought[key[:2]][0]:
             waiting.append(brought[key[:2]][0][key[2]])
     return list(seen.values()), types
+
+
+def home_of(key):
+    """The key of a definition where it stands, of one by a module that a crate passes on, or by a folder with that module."""
+    crate, module, name = key
+    front, back = module, ""
+    while front:
+        if (crate, front) in PASSED_ON:
+            crate, module = PASSED_ON[(crate, front)]
+            front, back = module + back, ""
+            module = front
+        else:
+            front, _, last = front.rpartition(".")
+            back = f".{last}{back}"
+    return crate, module, name
 
 
 def all_definitions():

@@ -16,3 +16,4 @@ pub mod PassesEmit
 pub mod Within
 pub mod TestedSums
 pub mod TestedLists
+pub mod ReadyNests

@@ -12,6 +12,6 @@ mod Registers
 mod Fits
 mod Parts
 pub mod Performs
-pub mod Plain
-mod Example
+pub mod ReadyPrograms
+pub mod PartShares
 mod Found

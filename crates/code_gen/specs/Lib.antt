@@ -1,4 +1,3 @@
-pub mod WholePrograms
 pub mod PassCode
 pub mod PassActions
 pub mod Views

@@ -20,7 +20,6 @@ mod site;
 mod statements;
 mod tables;
 mod tile_statements;
-mod whole_programs;
 mod work;
 
 pub use host::Frame;
@@ -28,4 +27,3 @@ pub use pass_actions::passes_run;
 pub use pass_code::{expressions_are_within, passes_are_emitted, tested_sums_are_coded};
 pub use places::place_expr;
 pub use requests::{emit, emit_formula, emit_joined};
-pub use whole_programs::{plain_programs_perform, programs_perform};

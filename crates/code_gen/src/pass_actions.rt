@@ -2,7 +2,7 @@
 ghost use Rattle.code_gen.specs.PassActions.Laws.{PassesRun};
 
 /// The actions of each pass that can be run leave what the pass makes of its array and change nothing else, in an equal
-/// share of the counts that the pass names: a law of the definitions.
+/// share of the counts that the pass names.
 pub fn passes_run()
     ensures { PassesRun }
 {}

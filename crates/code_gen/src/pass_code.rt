@@ -3,17 +3,17 @@ ghost use Rattle.code_gen.specs.PassCode.Conditions.{PassesAreEmitted};
 ghost use Rattle.code_gen.specs.PassCode.Small.{ExpressionsAreWithin, TestedSumsAreCoded};
 
 /// The statements of each pass that can be written are its actions, at places that are inside, within the limits of
-/// programs: a law of the definitions.
+/// programs.
 pub fn passes_are_emitted()
     ensures { PassesAreEmitted }
 {}
 
-/// The expression of a sum of small numbers stands within the limits of programs: a law of the definitions.
+/// The expression of a sum of small numbers stands within the limits of programs.
 pub fn expressions_are_within()
     ensures { ExpressionsAreWithin }
 {}
 
-/// Places that pass merging's test can be coded: a law of the definitions.
+/// Places that pass merging's test can be coded.
 pub fn tested_sums_are_coded()
     ensures { TestedSumsAreCoded }
 {}

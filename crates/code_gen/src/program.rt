@@ -2,8 +2,9 @@
 ghost use Rattle.std.specs.Prelude.{◌≡◌, ◌+◌, ◌^◌, ◌<◌, IfOk, OnOk, length};
 ghost use Rattle.icode.specs.Plain as icode_plain;
 ghost use Rattle.icode.specs.Program.{plain_program};
-ghost use Rattle.code_gen.specs.PassCode.Contract.{CanProgram, Performs};
+ghost use Rattle.code_gen.specs.PassCode.Contract.{Performs};
 ghost use Rattle.code_gen.specs.PassCode.Program as program;
+ghost use Rattle.sigma_spl.specs.Shared.Ready.{IsReady};
 ghost use Rattle.sigma_spl.specs.Views.{plain_merged};
 ghost use Rattle.code_gen.specs.Additions.{AddsTablesOfPasses, AddsTablesOfPhases};
 ghost use Rattle.code_gen.specs.Bodies.{Appends};
@@ -184,7 +185,7 @@ pub fn emit_on(
     line: u64,
     merged: &Merged,
 ) -> Result<Program, NoMemory>
-    requires { CanProgram (machine_for modulus.now line (plain_merged merged.now))
+    requires { IsReady (machine_for modulus.now line (plain_merged merged.now))
         (plain_merged merged.now) }
     ensures code { IfOk result (λ p. let g = plain_merged merged.now in
         plain_program p ≡ program.program_of (machine_for modulus.now line g) g) }

@@ -1,11 +1,12 @@
 // The programs of merged passes for requests and for formulas.
 ghost use Rattle.std.specs.Prelude.{◌≡◌, IfOk};
 ghost use Rattle.icode.specs.Program.{plain_program};
-ghost use Rattle.code_gen.specs.PassCode.Contract.{CanProgram, Performs};
+ghost use Rattle.code_gen.specs.PassCode.Contract.{Performs};
 ghost use Rattle.code_gen.specs.PassCode.Program.{program_of};
 ghost use Rattle.sigma_spl.specs.Views.{plain_merged};
-ghost use Rattle.code_gen.specs.Conditions.{machine_for};
 ghost use Rattle.code_gen.specs.Machines.{AreAlike};
+ghost use Rattle.sigma_spl.specs.Shared.Machine.{plain_machine};
+ghost use Rattle.sigma_spl.specs.Shared.Ready.{IsReady};
 ghost use Rattle.sigma_spl.specs.Shared.Targets.{target_of};
 
 use crate::program::emit_on;
@@ -20,7 +21,7 @@ use tree_model::Ctx;
 /// share no line in a phase; run to its end, it leaves what the passes make of its input, in equal shares of what they
 /// count.
 pub fn emit(alloc: Global, c: &Ctx, merged: &Merged) -> Result<Program, NoMemory>
-    requires { CanProgram (target_of c.now) (plain_merged merged.now) }
+    requires { IsReady (target_of c.now) (plain_merged merged.now) }
     ensures code { IfOk result (λ p.
         plain_program p ≡ program_of (target_of c.now) (plain_merged merged.now)) }
     ensures performs { IfOk result (λ p.
@@ -34,11 +35,11 @@ pub fn emit(alloc: Global, c: &Ctx, merged: &Merged) -> Result<Program, NoMemory
 
 /// The same of passes for one processor of one lane: those of a formula.
 pub fn emit_formula(alloc: Global, m: &Modulus, merged: &Merged) -> Result<Program, NoMemory>
-    requires { CanProgram (machine_for m.now 1 (plain_merged merged.now)) (plain_merged merged.now) }
-    ensures code { IfOk result (λ p. let g = plain_merged merged.now in
-        plain_program p ≡ program_of (machine_for m.now 1 g) g) }
-    ensures performs { IfOk result (λ p. let g = plain_merged merged.now in
-        Performs (machine_for m.now 1 g) g (plain_program p)) }
+    requires { IsReady (plain_machine merged.now.size m.now) (plain_merged merged.now) }
+    ensures code { IfOk result (λ p. plain_program p
+        ≡ program_of (plain_machine merged.now.size m.now) (plain_merged merged.now)) }
+    ensures performs { IfOk result (λ p.
+        Performs (plain_machine merged.now.size m.now) (plain_merged merged.now) (plain_program p)) }
 {
     let program = emit_on(alloc, m, 1, merged)?;
     Ok(program)
@@ -52,7 +53,7 @@ pub fn emit_joined(
     merged: &Merged,
 ) -> Result<Program, NoMemory>
     requires alike { AreAlike first.now second.now }
-    requires passes { CanProgram (target_of first.now) (plain_merged merged.now) }
+    requires ready { IsReady (target_of first.now) (plain_merged merged.now) }
     ensures code { IfOk result (λ p.
         plain_program p ≡ program_of (target_of first.now) (plain_merged merged.now)) }
     ensures performs { IfOk result (λ p.

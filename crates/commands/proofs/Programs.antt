@@ -10,7 +10,7 @@ use Rattle.icode.specs.declared.program.Program.{Program}
 use Rattle.generate.proofs.GoodPrograms.{programs_are_good}
 use Rattle.generate.specs.Good.{IsGood}
 use Rattle.generate.specs.Lean.{IsLean}
-use Rattle.generate.specs.Letters.{program_for}
+use Rattle.generate.specs.Emission.Whole.{emission}
 use Rattle.generate.specs.Planned.{IsPlanned}
 use Rattle.tree_model.specs.Breakdown.{Breakdown}
 use Rattle.tree_model.specs.Chosen.{whole_cost}
@@ -19,9 +19,9 @@ use Rattle.commands.specs.Programs.{IsCodeFor, IsProgramFor}
 pub record IsGoodCode (request : Request) (code : Code) : Type 0 where
   pub tree : Breakdown
   pub planned : IsPlanned request (Ok tree)
-  pub good : IsGood request (whole_cost request tree) (program_for request tree)
-  pub lean : IsLean request tree (program_for request tree)
-  pub is : code ≡ plain_code (program_for request tree)
+  pub good : IsGood request (whole_cost request tree) (emission request tree)
+  pub lean : IsLean request tree (emission request tree)
+  pub is : code ≡ plain_code (emission request tree)
 
 pub good_code : (request : Request) (code : Code) → IsInRange request → IsCodeFor request code → IsGoodCode request code
 good_code request code in_range made =

@@ -16,7 +16,7 @@ use Rattle.icode.specs.declared.event.Event.{Event}
 use Rattle.icode.specs.declared.event.Event.TheVariants.{Turn}
 use Rattle.icode.specs.declared.program.Program.{Program}
 use Rattle.data_stream.specs.Line.{line_of}
-use Rattle.generate.specs.Letters.{program_for}
+use Rattle.generate.specs.Emission.Whole.{emission}
 use Rattle.io_edge.specs.Faults.{Reports}
 use Rattle.listing_text.specs.Listing.{listing_of}
 use Rattle.matrix_meaning.specs.Asked.{asked_of}
@@ -89,8 +89,8 @@ good_lines request code turns vectors good some there made =
 -- with store buffers a good program leaves what it leaves without
 good_memory : (request : Request) (code : Code) → IsGoodCode request code → (x : List ℕ) (events : List Event) → buffered_results code x events ≡ results code x []
 good_memory request code good x events =
-    let own : Code = plain_code (program_for request good.tree) in
-    let is : IsCode own = code_is (program_for request good.tree) in
+    let own : Code = plain_code (emission request good.tree) in
+    let is : IsCode own = code_is (emission request good.tree) in
     let same : buffered_results own x events ≡ results own x [] = ap (λ (m : List ℕ). words_at own.size m (padded own)) (memory_of_buffered own is good.good.apart x events ∙ sym (memory_of_runs own is good.good.apart x [])) in
     subst (λ (k : Code). buffered_results k x events ≡ results k x []) (sym good.is) same
 
@@ -142,7 +142,7 @@ pub trace_told : (request : Request) (program : Program) (front : Vec ℕ Global
     → ToldMeets (stream_work (record { program = program; front = front; lines = true }) way room) before after out out' status
     → ToldMeets (work_for (command.Traces way) request room) before after out out' status
 trace_told request program front way room before after out out' status in_range made listed p =
-    let own : PlainProgram = program_for request made.0 in
+    let own : PlainProgram = emission request made.0 in
     let text : List ℕ → List ℕ = order_text true way program.procs (code_of program) in
     let same : text ≡ order_text true way request.procs (plain_code own) =
     ap (λ n. order_text true way n (code_of program)) (program_procs request program in_range made) ∙ ap (λ (q : PlainProgram). order_text true way request.procs (plain_code q)) made.2 in

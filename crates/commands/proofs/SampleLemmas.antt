@@ -14,7 +14,7 @@ use Rattle.icode.specs.declared.action.Action.{Action}
 use Rattle.icode.specs.declared.action.Counts.{Counts}
 use Rattle.icode.specs.Machine.{Code, State, IsCode, IsApart, results, runs, counts_of, counts_so_far, weighted, whole_counts}
 use Rattle.icode.specs.Actions.{plain_code}
-use Rattle.generate.specs.Letters.{program_for}
+use Rattle.generate.specs.Emission.Whole.{emission}
 use Rattle.icode.proofs.Lists.{code_is}
 use Rattle.icode.proofs.Runs.{counts_of_runs}
 use Rattle.par_machine.proofs.Executed.{AreSmall, counts_small}
@@ -66,7 +66,7 @@ sample_residues request code m n seed xs good in_range same is =
 -- a finished run of a good program is counted in 64 bits
 pub good_counts : (request : Request) (code : Code) (state : State) (vector turns : List ℕ) → IsGoodCode request code → IsInRange request → state ≡ runs code vector turns → AreCountable code state
 good_counts request code state vector turns good in_range ran =
-    let p = program_for request good.tree in
+    let p = emission request good.tree in
     let header = good.good.header in
     let few : p.lanes ≤ 16 = omega (arith, header.lanes, (limits request in_range).lanes) in
     let is : IsCode code = subst IsCode (sym good.is) (code_is p) in
@@ -110,7 +110,7 @@ pub costs : (request : Request) (code after : Code) (vector turns : List ℕ) (s
     → counts.muls ≡ sum_below after.procs (λ q. (counts_so_far after state q).muls)
     → weighted request.weight counts ≡ whole_cost request good.tree
 costs request code after vector turns state counts good in_range same ran operations muls =
-    let program = program_for request good.tree in
+    let program = emission request good.tree in
     let is : IsCode code = subst IsCode (sym good.is) (code_is program) in
     let apart : (phase : ℕ) → IsApart code phase = λ phase. subst (λ (k : Code). IsApart k phase) (sym good.is) (good.good.apart phase) in
     let whole : (q : ℕ) → counts_so_far code state q ≡ whole_counts code q = λ q. ap (λ s. counts_so_far code s q) ran ∙ counts_of_runs code is vector turns q in
@@ -141,7 +141,7 @@ pub sampled : (request : Request) (code after : Code) (plan : Plan) (m n seed : 
     → IsDocument (document.Sample seed plan) request text
 sampled request code after plan m n seed vector y state sum counts text good in_range none same modulus size v run ran s operations muls loads stores t =
     let turns = turns_of plan code.procs in
-    let program = program_for request good.tree in
+    let program = emission request good.tree in
     let is : IsCode code = subst IsCode (sym good.is) (code_is program) in
     let apart : (phase : ℕ) → IsApart code phase = λ phase. subst (λ (k : Code). IsApart k phase) (sym good.is) (good.good.apart phase) in
     let here : vector ≡ sample_vector request.modulus request.size seed = v ∙ sample_is request code m n seed good modulus size in

@@ -85,7 +85,7 @@ pub turns_told : (made : Prepared) (schedule : Plan) (code : Code) (old new : Fe
     (result : Result (Unit {0}) StreamFault)
     → code ≡ code_of made.program → Appends start out made.front.items → old.taken ≤ limit → (result ≢ Err stream.TooLong → new.taken ≤ limit)
     → Streams (run_text made.lines code (turns_of schedule code.procs)) (λ x. runs code x (turns_of schedule code.procs)) code.size code.modulus
-        old new before after out out' first last result
+    old new before after out out' first last result
     → ToldMeets (stream_work made (order.Turns schedule) (limit - old.taken)) before after start out' (status_of_stream result)
 turns_told made schedule code old new before after start out out' first last result same begun within ends s =
     of_code made.front.items code made.program (λ (k : Code). run_text made.lines k (turns_of schedule k.procs)) (limit - old.taken) before after start out' result same
@@ -101,7 +101,7 @@ pub events_told : (made : Prepared) (word : Events) (code : Code) (old new : Fed
     (result : Result (Unit {0}) StreamFault)
     → code ≡ code_of made.program → Appends start out made.front.items → old.taken ≤ limit → (result ≢ Err stream.TooLong → new.taken ≤ limit)
     → Streams (buffered_text made.lines code (listed.events_of word code.procs)) (λ x. buffered_runs code x (listed.events_of word code.procs)) code.size code.modulus
-        old new before after out out' first last result
+    old new before after out out' first last result
     → ToldMeets (stream_work made (order_of word) (limit - old.taken)) before after start out' (status_of_stream result)
 events_told made word code old new before after start out out' first last result same begun within ends s =
     let text : List ℕ → List ℕ = buffered_text made.lines code (listed.events_of word code.procs) in

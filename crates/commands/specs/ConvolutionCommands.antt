@@ -2,5 +2,4 @@ pub mod Convolved
 pub use Rattle.matrix_meaning.specs.Convolution
 pub use Rattle.matrix_meaning.specs.Convolving
 pub use Rattle.generate.specs.Convolver
-pub use Rattle.generate.specs.ConvLetters
 pub use Rattle.generate.specs.ConvPlanned

@@ -12,5 +12,5 @@ pub mod Sample
 pub use Rattle.generate.specs.Good
 pub use Rattle.generate.specs.GoodPrograms
 pub use Rattle.generate.specs.Lean
-pub use Rattle.generate.specs.Letters
+pub use Rattle.generate.specs.Emission
 pub use Rattle.generate.specs.Planned

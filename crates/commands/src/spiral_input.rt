@@ -25,7 +25,11 @@ use spiral_words::{
 use std::alloc::Global;
 
 /// The request that the first line of the input spells, for the command.
-pub(crate) fn ask<I: Source>(command: &RequestCommand, feed: &mut Feed, input: &mut I) -> Result<Request, Status>
+pub(crate) fn ask<I: Source>(
+    command: &RequestCommand,
+    feed: &mut Feed,
+    input: &mut I,
+) -> Result<Request, Status>
     requires fresh { feed.old.taken ≡ 0 }
     ensures told { Asks (fronts.line 256) (spelt_for (procs_named command.now))
         (to_come feed.old (I.left input.old)) (to_come feed.new (I.left input.new)) feed.new.taken result }

@@ -4,33 +4,41 @@ use Rattle.std.proofs.lemmas.List.{length-map}
 use Rattle.matrix_meaning.specs.Convolution.{IsPrincipal}
 use Rattle.matrix_meaning.specs.Convolving.{IsConvRequest}
 use Rattle.sigma_lower.specs.Merged.{tree_merged}
-use Rattle.icode.specs.declared.program.Program.{Program}
+use Rattle.icode.specs.Actions.{plain_code}
 use Rattle.icode.specs.Machine.{padded, results, words_at}
-use Rattle.icode.specs.Program.{code_of, plain_program}
+use Rattle.icode.specs.Plain.{PlainProgram}
 use Rattle.icode.proofs.Lists.{code_is}
 use Rattle.icode.proofs.Runs.{memory_of_runs}
 use Rattle.matrix_meaning.specs.Parts.{inverted}
 use Rattle.matrix_meaning.proofs.Requests.{valid_by_powers}
 use Rattle.tree_model.proofs.InverseTraffic.{inverse_loads, whole-same}
-use Rattle.loop_merge.specs.JoinedPasses.Joined.{joined, with_values}
-use Rattle.loop_merge.specs.JoinedPasses.Laws.{CountsBoth, JoinedCanProgram, JoinedCounts, JoinedMeans}
+use Rattle.loop_merge.proofs.JoinedPasses.Programs.{joined_are_ready}
+use Rattle.loop_merge.proofs.MultipliedPasses.Counts.{tables-last}
+use Rattle.loop_merge.specs.JoinedPasses.Joined.{joined}
+use Rattle.loop_merge.specs.JoinedPasses.Laws.{CanJoin}
 use Rattle.matrix_meaning.specs.declared.Kind.TheVariants.{Dft}
 use Rattle.matrix_meaning.specs.declared.Request.{Request}
 use Rattle.matrix_meaning.specs.Valid.{IsValid}
 use Rattle.operators.proofs.Lists.{length-list_below}
-use Rattle.code_gen.specs.PassCode.Contract.{CanProgram, Performs}
+use Rattle.code_gen.specs.PassCode.Contract.{Performs}
 use Rattle.sigma_spl.specs.Good as passes
+use Rattle.sigma_spl.specs.Lists.{LastIs}
 use Rattle.sigma_spl.specs.Merged.{PlainMerged}
+use Rattle.sigma_spl.specs.Nest.{values}
+use Rattle.sigma_spl.specs.Shared.Owners.{all_passes}
+use Rattle.sigma_spl.specs.Shared.Ready.{IsReady}
+use Rattle.sigma_spl.specs.Trees.{IsFree, IsMergedTree}
 use Rattle.tree_model.specs.Breakdown.{Breakdown}
 use Rattle.tree_model.specs.Chosen.{IsWholeTree}
 use Rattle.tree_model.specs.Passes.{whole_passes}
 use Rattle.sigma_spl.specs.Shared.Targets.{target_of}
-use Rattle.generate.proofs.TreePasses.TreePrograms.{trees_can_program}
+use Rattle.generate.proofs.TreePasses.Merged.{trees_are_merged}
+use Rattle.generate.proofs.ConvCounts.{CountsBoth, counts-both}
 use Rattle.generate.specs.Convolver.{IsConvolver}
 use Rattle.generate.specs.Factors.{factors_of}
 use Rattle.generate.specs.ConvLetters.{conv_merged}
 use Rattle.generate.specs.ConvPlanned.{IsConvPlanned}
-use Rattle.generate.proofs.ConvTrees.{conv_small, inverse_cost, inverse_request, inverse_tree, inverse_valid}
+use Rattle.generate.proofs.ConvTrees.{conv_not_idft, inverse_cost, inverse_request, inverse_tree, inverse_valid}
 use Rattle.generate.proofs.ConvMeaning.{joined-convolve}
 use Rattle.generate.proofs.Totals.{tree-totals}
 
@@ -62,45 +70,56 @@ module _ (r : Request) (t : Breakdown) (ls : List ℕ) (request : IsConvRequest 
   h' : IsWholeTree (inverted r) t
   h' = inverse_tree r request valid t h
 
-  pub can-convolve : JoinedCanProgram → All (λ d. d < r.modulus) ds → CanProgram (target_of r) (conv_merged r t ds)
-  can-convolve can residues =
-      let first = conv_small r request t h valid in
-      let second = conv_small (inverted r) request' t h' valid' in
-      let few = first.nests in
-      let few' = second.nests in
-      let low = first.actions in
-      let low' = second.actions in
+  first : IsMergedTree r t (tree_merged r t)
+  first = trees_are_merged r t valid h
+
+  second : IsMergedTree (inverted r) t (tree_merged (inverted r) t)
+  second = trees_are_merged (inverted r) t valid' h'
+
+  free : LastIs IsFree (all_passes (tree_merged r t).phases)
+  free = first.free (conv_not_idft r request)
+
+  can-join : All (λ d. d < r.modulus) ds → CanJoin (target_of r) (tree_merged r t) ds (tree_merged (inverted r) t)
+  can-join residues =
+      let low = first.few in
+      let low' = second.few in
+      let few = first.tables in
+      let few' = second.tables in
+      let more = tables-last (values ds) (all_passes (tree_merged r t).phases) first.no_moves in
       let most = request.in_range.size.1 in
-      can (target_of r) (tree_merged r t) (tree_merged (inverted r) t) ds (record {
+      record {
         procs = request.procs;
         lanes = request.lanes;
-        first = trees_can_program r t valid h;
-        second = trees_can_program (inverted r) t valid' h';
-        free = first.free;
+        first = first.ready;
+        second = second.ready;
+        free = free;
         size = length-list_below r.size _;
         residues = residues;
-        registers = first.registers (with_values ds) (λ z. refl);
         actions = omega (arith, low, low', most);
-        tables = omega (arith, few, few');
-      })
+        tables = omega (arith, few, few', more);
+      }
 
-  module _ (p : Program) (performs : Performs (target_of r) (conv_merged r t ds) (plain_program p)) where
-    any-turns : (x turns : List ℕ) → results (code_of p) x turns ≡ results (code_of p) x []
+  pub can-convolve : All (λ d. d < r.modulus) ds → IsReady (target_of r) (conv_merged r t ds)
+  can-convolve residues =
+      joined_are_ready (tree_merged r t) (tree_merged (inverted r) t) ds (target_of r) (can-join residues)
+
+  module _ (p : PlainProgram) (residues : All (λ d. d < r.modulus) ds)
+      (performs : Performs (target_of r) (conv_merged r t ds) p) where
+    any-turns : (x turns : List ℕ) → results (plain_code p) x turns ≡ results (plain_code p) x []
     any-turns x turns =
-        let first = memory_of_runs (code_of p) (code_is (plain_program p)) performs.apart x turns in
-        let none = memory_of_runs (code_of p) (code_is (plain_program p)) performs.apart x [] in
-        ap (λ memory. words_at p.size memory (padded (code_of p))) (first ∙ sym none)
+        let first = memory_of_runs (plain_code p) (code_is p) performs.apart x turns in
+        let none = memory_of_runs (plain_code p) (code_is p) performs.apart x [] in
+        ap (λ memory. words_at p.size memory (padded (plain_code p))) (first ∙ sym none)
 
-    counts-both : JoinedCounts → CountsBoth (target_of r) (tree_merged r t) (tree_merged (inverted r) t) (plain_program p)
-    counts-both counts =
-        (counts (tree_merged r t) (tree_merged (inverted r) t) ds (target_of r) (trees_can_program r t valid h)
-        (conv_small r request t h valid).free).program (plain_program p) request.procs performs
+    both : CountsBoth (target_of r) (tree_merged r t) (tree_merged (inverted r) t) p
+    both =
+        counts-both (target_of r) (tree_merged r t) (tree_merged (inverted r) t) ds request.procs first.ready
+        (can-convolve residues) free p performs
 
-    pub is-convolver : JoinedMeans → JoinedCounts → IsPrincipal r.modulus r.size r.root → IsConvolver r t ls p
-    is-convolver means counts principal =
-        let both = counts-both counts in
-        let first = tree-totals r t request valid h in
-        let second = tree-totals (inverted r) t request' valid' h' in
+    pub is-convolver : IsPrincipal r.modulus r.size r.root → IsConvolver r t ls p
+    is-convolver principal =
+        let whole = tree-totals r t request valid h in
+        let whole' = tree-totals (inverted r) t request' valid' h' in
         let weight = valid.in_range.weight.0 in
         record {
           header = record { size = performs.size; modulus = performs.modulus; procs = performs.procs; line = performs.line; lanes = performs.lanes };
@@ -112,18 +131,18 @@ module _ (r : Request) (t : Breakdown) (ls : List ℕ) (request : IsConvRequest 
               let items : passes.IsVector r.modulus r.size x = record { size = vector.size; residues = λ i low. vector.residues i 0 (let size = vector.size in omega (arith, low, size)) } in
               any-turns x turns
               ∙ performs.results x items
-              ∙ joined-convolve r t ls request valid h principal means x items;
+              ∙ joined-convolve r t ls request valid h principal x items;
           operations =
               let all = both.operations r.weight (omega (arith, weight)) in
-              let one = first.operations in
-              let other = second.operations ∙ inverse_cost r request valid t h in
+              let one = whole.operations in
+              let other = whole'.operations ∙ inverse_cost r request valid t h in
               omega (arith, all, one, other);
           loads =
               let all = both.loads in
-              let one = first.loads in
-              let other = second.loads ∙ inverse_loads r t in
+              let one = whole.loads in
+              let other = whole'.loads ∙ inverse_loads r t in
               omega (arith, all, one, other);
-          stores = both.stores ∙ ap₂ (λ a b. r.size * (a + b)) first.number (second.number ∙ ap length (whole-same r Dft (inverted r).root t)) ∙ twice r.size (length (whole_passes r t));
+          stores = both.stores ∙ ap₂ (λ a b. r.size * (a + b)) whole.number (whole'.number ∙ ap length (whole-same r Dft (inverted r).root t)) ∙ twice r.size (length (whole_passes r t));
         }
       where
         twice : (n k : ℕ) → n * (k + k) ≡ 2 * (n * k)

@@ -7,7 +7,7 @@ use Rattle.matrix_meaning.proofs.ConvolutionLaw.{convolution_by_diagonal}
 use Rattle.sigma_lower.specs.Merged.{tree_merged}
 use Rattle.matrix_meaning.specs.Parts.{inverted}
 use Rattle.matrix_meaning.proofs.Roots.{root-is}
-use Rattle.loop_merge.specs.JoinedPasses.Laws.{JoinedMeans}
+use Rattle.loop_merge.proofs.JoinedPasses.Means.{joined_means}
 use Rattle.matrix_meaning.specs.declared.Kind.TheVariants.{Dft}
 use Rattle.matrix_meaning.specs.declared.Request.{Request}
 use Rattle.matrix_meaning.specs.Kind.{transform}
@@ -19,10 +19,10 @@ use Rattle.sigma_spl.specs.Good.{IsVector}
 use Rattle.sigma_spl.specs.Merged.{merged_on}
 use Rattle.tree_model.specs.Breakdown.{Breakdown}
 use Rattle.tree_model.specs.Chosen.{IsWholeTree}
-use Rattle.generate.proofs.TreePasses.Merged.{trees_are_merged}
+use Rattle.generate.proofs.TreePasses.Merged.{trees_are_merged, trees_mean}
 use Rattle.generate.specs.ConvLetters.{conv_merged}
 use Rattle.generate.specs.Factors.{factors_of}
-use Rattle.generate.proofs.ConvTrees.{conv_asked, conv_not_wht, conv_small}
+use Rattle.generate.proofs.ConvTrees.{conv_asked, conv_not_idft, conv_not_wht}
 use Rattle.generate.proofs.ConvTrees.{inverse_request, inverse_tree, inverse_valid}
 
 scale-vector : (m n : ℕ) (f : ℕ → ℕ) (x : List ℕ) → 0 < m → IsVector m n (scale m n f x)
@@ -41,7 +41,7 @@ tree-does : (c : Request) (t : Breakdown) (x : List ℕ) →
     IsConvRequest c → IsValid c → IsWholeTree c t → IsVector c.modulus c.size x →
     merged_on c.modulus (tree_merged c t) x ≡ transform Dft c.modulus c.size c.root x
 tree-does c t x request valid h vector =
-    (trees_are_merged c t valid h).meaning x vector
+    trees_mean c t valid h x vector
     ∙ conv_asked c request x
     ∙ ap (λ k. transform k c.modulus c.size c.root x) request.kind
 
@@ -53,16 +53,16 @@ module _ (r : Request) (t : Breakdown) (ls : List ℕ) (request : IsConvRequest 
   some : 0 < r.modulus
   some = let two = request.in_range.modulus.0 in omega (arith, two)
 
-  pub joined-convolve : JoinedMeans → (x : List ℕ) → IsVector r.modulus r.size x →
+  pub joined-convolve : (x : List ℕ) → IsVector r.modulus r.size x →
       merged_on r.modulus (conv_merged r t (factors_of r ls)) x ≡ convolution r.modulus r.size ls x
-  joined-convolve means x vector =
+  joined-convolve x vector =
       let m = r.modulus in
       let n = r.size in
       let g = tree_merged r t in
       let k = tree_merged (inverted r) t in
       let ds = factors_of r ls in
       let root = root-is r.kind m r.root n request.in_range.modulus.0 (conv_not_wht r request) valid.root in
-      means g k ds (conv_small r request t h valid).free refl m x some
+      joined_means g k ds ((trees_are_merged r t valid h).free (conv_not_idft r request)) refl m x some
       ∙ ap (λ y. merged_on m k (scale m n (slice_index ds) y)) (tree-does r t x request valid h vector)
       ∙ ap (merged_on m k) (scale-listed m n factor (transform Dft m n r.root x))
       ∙ tree-does (inverted r) t (scale m n factor (transform Dft m n r.root x))

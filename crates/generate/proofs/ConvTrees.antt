@@ -1,19 +1,13 @@
 -- Trees of a request for convolutions, which is of one size and no inverse.
-use Rattle.std.proofs.Common.{◌≡◌, ◌≢◌, ℕ, List, None, refl, sym, ap, ◌∙◌, subst}
-use Rattle.sigma_lower.specs.Merged.{layout_merged, tree_merged}
+use Rattle.std.proofs.Common.{◌≡◌, ◌≢◌, ℕ, List, refl, sym, ◌∙◌, subst}
 use Rattle.matrix_meaning.specs.Asked.{asked_of}
 use Rattle.matrix_meaning.specs.Convolving.{IsConvRequest}
-use Rattle.matrix_meaning.specs.declared.Kind.{Kind}
 use Rattle.matrix_meaning.specs.declared.Kind.TheVariants.{Dft, Wht, Idft}
 use Rattle.matrix_meaning.specs.declared.Request.{Request}
 use Rattle.matrix_meaning.specs.Parts.{inverted}
 use Rattle.matrix_meaning.specs.Valid.{IsValid}
 use Rattle.matrix_meaning.proofs.Asked.{asked_of_one}
 use Rattle.matrix_meaning.proofs.Requests.{inverse_is_valid}
-use Rattle.sigma_spl.specs.Shared.Owners.{all_passes}
-use Rattle.sigma_spl.specs.Merged.{PlainMerged}
-use Rattle.sigma_spl.specs.Shared.Targets.{target_of}
-use Rattle.smp_rewrite.specs.LayoutSteps.Whole.{factor_by, whole_of}
 use Rattle.tree_model.specs.Breakdown.{Breakdown}
 use Rattle.tree_model.specs.Chosen.{IsWholeTree, whole_cost}
 use Rattle.tree_model.specs.Cost.{cost_of}
@@ -22,12 +16,7 @@ use Rattle.tree_model.proofs.FlatTrees.{flat_costs}
 use Rattle.tree_model.proofs.InverseCosts.{inverse_costs}
 use Rattle.tree_model.proofs.InverseTrees.{inverse_admits}
 use Rattle.tree_model.proofs.WholeTrees.{admissible_is_whole, cost_itself, forward_itself, whole_is_admissible}
-use Rattle.sigma_lower.proofs.TreeLayouts.{trees_can_lower}
-use Rattle.generate.proofs.TreePasses.ClosedWholes.{wholes_merge}
-use Rattle.generate.proofs.TreePasses.Small.{AreSmall, layout_small}
-use Rattle.generate.proofs.TreePasses.TreeHosted.{tree_hosted}
 use Rattle.generate.specs.Factors.{root_transform}
-use Rattle.generate.specs.TreePasses.Closed.{closed_merged}
 
 -- ---- one such request
 
@@ -35,7 +24,7 @@ module _ (r : Request) (request : IsConvRequest r) where
   pub conv_not_wht : r.kind ≢ Wht
   conv_not_wht wht = let other : Dft ≡ Wht = sym request.kind ∙ wht in cc
 
-  conv_not_idft : r.kind ≢ Idft
+  pub conv_not_idft : r.kind ≢ Idft
   conv_not_idft idft = let other : Dft ≡ Idft = sym request.kind ∙ idft in cc
 
   -- what it asks for
@@ -49,18 +38,6 @@ module _ (r : Request) (request : IsConvRequest r) where
     -- its tree costs the same by its words for one size
     flat_cost : whole_cost r t ≡ cost_of r t
     flat_cost = cost_itself r t conv_not_idft ∙ flat_costs r t request.dimensions conv_tree
-
-    -- its passes are those of the layout, which are few, and of which the last has no diagonal
-    pub conv_small : IsValid r → AreSmall (target_of r) (all_passes (tree_merged r t).phases)
-    conv_small valid =
-        let whole = whole_of r t in
-        let open_passes : PlainMerged = layout_merged (target_of r) whole.layout in
-        let none : whole.factor ≡ None = ap (λ (kind : Kind). factor_by kind r) request.kind in
-        let same : tree_merged r t ≡ open_passes =
-        wholes_merge (target_of r) whole (trees_can_lower r t valid h)
-        ∙ ap (λ factor. closed_merged factor open_passes) none in
-        subst (λ (g : PlainMerged). AreSmall (target_of r) (all_passes g.phases)) (sym same)
-        (layout_small (target_of r) whole.layout (tree_hosted r t valid h))
 
 -- ---- the request by the inverse root
 

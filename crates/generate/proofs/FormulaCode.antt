@@ -1,2 +1,4 @@
+pub mod Balanced
 pub mod Coding
+pub mod Programs
 pub mod Regrouped

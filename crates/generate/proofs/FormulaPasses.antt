@@ -5,3 +5,4 @@ pub mod Costs
 pub mod Coded
 pub mod Formulas
 pub mod Programs
+pub mod Example

@@ -1,7 +1,8 @@
 -- Programs of passes that count what those of the cost model do.
-use Rattle.std.proofs.Common.{◌≡◌, ℕ, suc, ◌+◌, ◌*◌, ◌<◌, List, [], ◌∷◌, length, map, sum_by, flat_map, refl, sym, ap, ap₂, ◌∙◌, arith, subst}
+use Rattle.std.proofs.Common.{◌≡◌, ℕ, suc, ◌+◌, ◌*◌, ◌<◌, List, [], ◌∷◌, length, map, sum_by, flat_map, refl, sym, ap, ap₂, ◌∙◌, arith, subst, All}
 use Rattle.std.specs.List.{range_with_len}
 use Rattle.std.proofs.lemmas.List.{length-map}
+use Rattle.std.proofs.lemmas.List.Elements.{All-head, All-tail}
 use Rattle.std.proofs.lemmas.List.Sums.{sum_by-cons}
 use Rattle.icode.specs.Actions.{plain_code}
 use Rattle.icode.specs.Machine.{acts, counts_of, weighted}
@@ -21,8 +22,10 @@ use Rattle.sigma_spl.specs.Nest.{PlainNest}
 use Rattle.tree_model.specs.Breakdown.{Breakdown}
 use Rattle.tree_model.specs.WholePasses.{RequestPass, cost_of_pass, loads_of_pass, request_passes}
 use Rattle.sigma_spl.specs.Shared.Targets.{target_of}
-use Rattle.generate.specs.TreePasses.Merged.{IsMergedTree}
-use Rattle.generate.proofs.TreePasses.Adding.{adds}
+use Rattle.sigma_spl.specs.Shared.Names.{HasShares}
+use Rattle.sigma_spl.specs.Trees.{IsMergedTree}
+use Rattle.code_gen.proofs.WholePrograms.PartShares.{parts_share}
+use Rattle.generate.proofs.Adding.{adds}
 use Rattle.generate.specs.Lean.{AreParts, IsLeanCode, IsLeanList, IsPart, start_of}
 
 cons-head : {x y : ℕ} {xs ys : List ℕ} → x ∷ xs ≡ y ∷ ys → x ≡ y
@@ -38,6 +41,7 @@ module _ (r : Request) where
   record CountsAs (zs : List PlainNest) (pass : RequestPass) : Type 0 where
     operations : pass_cost r.weight r.modulus zs ≡ cost_of_pass r.size pass
     loads : pass_loads zs ≡ loads_of_pass r.size pass
+    shares : (weight : ℕ) → HasShares (target_of r) weight zs
 
   abbrev AllCount : List (List PlainNest) → List RequestPass → Type 0
   AllCount [] [] = Unit {0}
@@ -45,14 +49,25 @@ module _ (r : Request) where
   AllCount (zs ∷ ps) [] = ⊥
   AllCount (zs ∷ ps) (pass ∷ passes) = CountsAs zs pass × AllCount ps passes
 
-  all-count : (ps : List (List PlainNest)) (passes : List RequestPass) → map (pass_cost r.weight r.modulus) ps ≡ map (cost_of_pass r.size) passes → map pass_loads ps ≡ map (loads_of_pass r.size) passes → AllCount ps passes
-  all-count [] [] costs loads = tt
-  all-count [] (pass ∷ passes) costs loads = cc
-  all-count (zs ∷ ps) [] costs loads = cc
-  all-count (zs ∷ ps) (pass ∷ passes) costs loads =
+  all-count : (ps : List (List PlainNest)) (passes : List RequestPass) →
+      map (pass_cost r.weight r.modulus) ps ≡ map (cost_of_pass r.size) passes →
+      map pass_loads ps ≡ map (loads_of_pass r.size) passes →
+      ((weight : ℕ) → All (HasShares (target_of r) weight) ps) → AllCount ps passes
+  all-count [] [] costs loads shares = tt
+  all-count [] (pass ∷ passes) costs loads shares = cc
+  all-count (zs ∷ ps) [] costs loads shares = cc
+  all-count (zs ∷ ps) (pass ∷ passes) costs loads shares =
       let operations : pass_cost r.weight r.modulus zs ≡ cost_of_pass r.size pass = cons-head costs in
       let words : pass_loads zs ≡ loads_of_pass r.size pass = cons-head loads in
-      (record { operations = operations; loads = words }, all-count ps passes (cons-tail costs) (cons-tail loads))
+      (
+        record {
+          operations = operations;
+          loads = words;
+          shares = λ weight. All-head (HasShares (target_of r) weight) zs ps (shares weight);
+        },
+        all-count ps passes (cons-tail costs) (cons-tail loads)
+            (λ weight. All-tail (HasShares (target_of r) weight) zs ps (shares weight)),
+      )
 
   count-same : (ps : List (List PlainNest)) (passes : List RequestPass) → AllCount ps passes → length ps ≡ length passes
   count-same [] [] h = refl
@@ -62,11 +77,12 @@ module _ (r : Request) where
 
   one-part : (zs : List PlainNest) (pass : RequestPass) (source target : ℕ) (part : List Action) → 0 < r.weight → CountsAs zs pass → contract.IsPart (target_of r) zs source target part → IsPart r pass source target part
   one-part zs pass source target part some counts h =
+      let all = parts_share (target_of r) zs source target part counts.shares h in
       record {
         stays = h.stays;
-        operations = h.operations r.weight some ∙ counts.operations;
-        loads = h.loads ∙ counts.loads;
-        stores = h.stores;
+        operations = all.operations r.weight some ∙ counts.operations;
+        loads = all.loads ∙ counts.loads;
+        stores = all.stores;
       }
 
   parts-are : (t : ℕ) (source : Array) (ps : List (List PlainNest)) (passes : List RequestPass) (parts : List (List Action)) → 0 < r.weight → AllCount ps passes → contract.AreParts (target_of r) t source ps parts →
@@ -127,7 +143,7 @@ module _ (r : Request) (t : Breakdown) (g : PlainMerged) (p : PlainProgram) (som
         whole = listed.whole ∙ ap (λ n. flat_map (λ phase. acts (plain_code p) phase q) (range_with_len 0 n)) (sym lists-length);
         each =
             parts-are r 0 X ps (request_passes r t) listed.parts some
-            (all-count r ps (request_passes r t) known.counts.costs known.counts.loads) listed.each;
+            (all-count r ps (request_passes r t) known.counts.costs known.counts.loads known.parts) listed.each;
       }
 
   pub lean-code : IsLeanCode r t (plain_code p)

@@ -20,7 +20,7 @@ use Rattle.tree_model.specs.Passes as trees
 use Rattle.tree_model.specs.Whole.{IsTreeOf}
 use Rattle.tree_model.specs.WholePasses.{pass_of, closed_by, cost_of_pass, flat_passes, loads_of_pass, request_passes}
 use Rattle.tree_model.proofs.WholeCosts.{passes_do_the_cost}
-use Rattle.generate.specs.TreePasses.Counts.{CountsTree}
+use Rattle.sigma_spl.specs.Trees.{CountsTree}
 use Rattle.generate.proofs.TreePasses.Merged.{trees_are_merged}
 use Rattle.generate.proofs.ConvTrees.{conv_tree}
 
@@ -73,7 +73,7 @@ pub tree-totals : (c : Request) (t : Breakdown) → IsConvRequest c → IsValid 
 tree-totals c t request valid h =
     let ps = all_passes (tree_merged c t).phases in
     let qs = request_passes c t in
-    let counts : CountsTree c t (tree_merged c t) = (trees_are_merged c t valid h).counts in
+    let counts : CountsTree c t ps = (trees_are_merged c t valid h).counts in
     let flat : qs ≡ map (pass_of c) (whole_passes c t) = passes-are c request t (conv_tree c request t h) in
     record {
       operations =

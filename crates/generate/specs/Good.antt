@@ -1,13 +1,13 @@
 -- What makes a program good for a request.
 use Rattle.std.specs.Prelude.{◌≡◌, ℕ, ◌*◌, ◌<◌, List, length, All}
-use Rattle.icode.specs.declared.program.Program.{Program}
+use Rattle.icode.specs.Actions.{PlainFits, plain_code}
 use Rattle.icode.specs.Machine.{IsApart, results, weighted, whole_counts}
-use Rattle.icode.specs.Program.{Fits, code_of}
+use Rattle.icode.specs.Plain.{PlainProgram}
 use Rattle.matrix_meaning.specs.Asked.{asked_of}
 use Rattle.matrix_meaning.specs.declared.Request.{Request}
 
 -- the program is for the request's machine
-pub record HasHeader (r : Request) (p : Program) : Type 0 where
+pub record HasHeader (r : Request) (p : PlainProgram) : Type 0 where
   pub size : p.size ≡ r.size
   pub modulus : p.modulus ≡ r.modulus
   pub procs : p.procs ≡ r.procs
@@ -22,9 +22,9 @@ pub record IsVector (r : Request) (x : List ℕ) : Type 0 where
 -- Whatever the vector and whatever turns its processors take first, the program leaves the transform of the vector that the request
 -- asks for. In no phase does a processor touch a line that another writes. The operations of all processors together, where a
 -- multiplication counts as the request's weight, are the least cost, in equal shares
-pub record IsGood (r : Request) (least : ℕ) (p : Program) : Type 0 where
+pub record IsGood (r : Request) (least : ℕ) (p : PlainProgram) : Type 0 where
   pub header : HasHeader r p
-  pub fits : Fits p
-  pub product : (x turns : List ℕ) → IsVector r x → All (λ q. q < r.procs) turns → results (code_of p) x turns ≡ asked_of r x
-  pub apart : (phase : ℕ) → IsApart (code_of p) phase
-  pub operations : (q : ℕ) → q < r.procs → r.procs * weighted r.weight (whole_counts (code_of p) q) ≡ least
+  pub fits : PlainFits p
+  pub product : (x turns : List ℕ) → IsVector r x → All (λ q. q < r.procs) turns → results (plain_code p) x turns ≡ asked_of r x
+  pub apart : (phase : ℕ) → IsApart (plain_code p) phase
+  pub operations : (q : ℕ) → q < r.procs → r.procs * weighted r.weight (whole_counts (plain_code p) q) ≡ least

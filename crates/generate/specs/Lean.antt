@@ -1,13 +1,12 @@
 -- What the processors execute pass by pass, and what all of them load and store.
 use Rattle.std.specs.Prelude.{◌≡◌, ℕ, suc, ◌*◌, ◌==◌, ◌<◌, if◌then◌else◌, List, [], ◌∷◌, flat_map, length, All}
 use Rattle.std.specs.List.{range_with_len}
-use Rattle.icode.specs.Actions.{array_start}
+use Rattle.icode.specs.Actions.{array_start, plain_code}
 use Rattle.icode.specs.declared.action.Action.{Action}
 use Rattle.icode.specs.declared.program.Array.{Array}
 use Rattle.icode.specs.declared.program.Array.TheVariants.{X}
-use Rattle.icode.specs.declared.program.Program.{Program}
 use Rattle.icode.specs.Machine.{Code, acts, counts_of, weighted, whole_counts, whole_lines}
-use Rattle.icode.specs.Program.{code_of}
+use Rattle.icode.specs.Plain.{PlainProgram}
 use Rattle.matrix_meaning.specs.declared.Request.{Request}
 use Rattle.operators.specs.Sum.{sum_below}
 use Rattle.code_gen.specs.PassCode.Contract.{Stays, joined}
@@ -50,7 +49,7 @@ pub record IsLeanCode (r : Request) (t : Breakdown) (code : Code) : Type 0 where
 
 -- The actions of each processor are one part for each pass of the tree; all processors together load and store exactly what the
 -- passes do
-pub record IsLean (r : Request) (t : Breakdown) (p : Program) : Type 0 where
-  pub parts : IsLeanCode r t (code_of p)
-  pub loads : sum_below r.procs (λ q. (whole_counts (code_of p) q).loads) ≡ whole_loads r t
-  pub stores : sum_below r.procs (λ q. (whole_counts (code_of p) q).stores) ≡ whole_stores r t
+pub record IsLean (r : Request) (t : Breakdown) (p : PlainProgram) : Type 0 where
+  pub parts : IsLeanCode r t (plain_code p)
+  pub loads : sum_below r.procs (λ q. (whole_counts (plain_code p) q).loads) ≡ whole_loads r t
+  pub stores : sum_below r.procs (λ q. (whole_counts (plain_code p) q).stores) ≡ whole_stores r t

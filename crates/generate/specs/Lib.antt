@@ -1,8 +1,10 @@
 pub mod FormulaCode
 pub mod FormulaPasses
-pub mod TreePasses
 pub mod Planned
 pub mod Good
+pub mod Emission
+pub mod EmittedPrograms
+pub mod GoodPrograms
 pub mod Lean
 pub mod Letters
 pub mod ConvPlanned

@@ -8,7 +8,7 @@ ghost use Rattle.tree_model.specs.Breakdown.{breakdown_of};
 ghost use Rattle.tree_model.specs.Chosen.{IsWholeTree};
 ghost use Rattle.generate.specs.Convolver.{IsConvolver};
 ghost use Rattle.generate.specs.Factors.{factors_of, root_transform};
-ghost use Rattle.generate.specs.ConvLetters.{conv_program};
+ghost use Rattle.generate.specs.Emission.Whole.{conv_emission};
 ghost use Rattle.generate.specs.ConvPlanned.{IsConvPlanned};
 
 use crate::tree_passes::merge_tree;
@@ -34,10 +34,10 @@ pub fn generate_conv(
     requires request { IsConvRequest request.now }
     requires plan { IsConvPlanned request.now (Ok (breakdown_of plan.now.tree)) }
     requires list { IsVector request.now h.now }
-    ensures convolver { IfOk result
-        (IsConvolver request.now (breakdown_of plan.now.tree) h.now) }
+    ensures convolver { IfOk result (λ p.
+        IsConvolver request.now (breakdown_of plan.now.tree) h.now (plain_program p)) }
     ensures letters { IfOk result (λ p.
-        plain_program p ≡ conv_program request.now (breakdown_of plan.now.tree) h.now) }
+        plain_program p ≡ conv_emission request.now (breakdown_of plan.now.tree) h.now) }
 {
     let forward = Ctx::new(request);
     let backward = Ctx::new(&request.inverted());

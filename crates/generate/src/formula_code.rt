@@ -24,7 +24,8 @@ use std::alloc::Global;
 #[tactic(auto, using(crate::proofs::FormulaCode::Regrouped::few_parts))]
 pub fn formula_program(alloc: Global, modulus: &Modulus, formula: Spl) -> Result<Program, NoMemory>
     requires few { parts_of formula ≤ 65536 }
-    ensures code { IfOk result (λ program. IsCodeOf modulus.now formula program) }
+    ensures code { IfOk result (λ program.
+        IsCodeOf modulus.now formula (plain_program program)) }
     ensures letters { IfOk result (λ program.
         plain_program program ≡ program_for modulus.now formula) }
 {
@@ -36,7 +37,8 @@ pub fn formula_program(alloc: Global, modulus: &Modulus, formula: Spl) -> Result
 // The code of a formula, its direct sums as they stand.
 fn code_of_formula(alloc: Global, modulus: &Modulus, formula: &Spl) -> Result<Program, NoMemory>
     requires few { parts_of formula.now ≤ 65536 }
-    ensures code { IfOk result (λ program. IsCodeOf modulus.now formula.now program) }
+    ensures code { IfOk result (λ program.
+        IsCodeOf modulus.now formula.now (plain_program program)) }
     ensures letters { IfOk result (λ program.
         plain_program program ≡ program_as_it_stands modulus.now formula.now) }
 {

@@ -5,8 +5,10 @@
 
 mod conv_plan;
 mod conv_program;
+mod emissions;
 mod formula_code;
 mod formula_passes;
+mod good_programs;
 mod planning;
 mod program;
 mod tree_passes;
@@ -15,7 +17,7 @@ ghost use Rattle.std.specs.Prelude.{◌≡◌, ◌≢◌, Ok, Err, Result, IfOk,
 ghost use Rattle.generate.specs.ConvPlanned.{IsConvPlanned};
 ghost use Rattle.generate.specs.Good.{IsGood};
 ghost use Rattle.generate.specs.Lean.{IsLean};
-ghost use Rattle.generate.specs.Letters.{program_for};
+ghost use Rattle.generate.specs.Emission.Whole.{emission};
 ghost use Rattle.generate.specs.Planned.{IsPlanned};
 ghost use Rattle.icode.specs.Program.{plain_program};
 ghost use Rattle.matrix_meaning.specs.Convolving.{IsConvRequest};
@@ -29,8 +31,10 @@ ghost use Rattle.tree_model.specs.Chosen.{whole_cost};
 
 pub use conv_plan::plan_conv;
 pub use conv_program::generate_conv;
+pub use emissions::{conv_programs_are_emissions, programs_are_emissions, worked_emissions};
 pub use formula_code::formula_program;
-pub use formula_passes::{formulas_can_program, formulas_compute};
+pub use formula_passes::{formulas_are_ready, formulas_compute};
+pub use good_programs::{conv_programs_convolve, formula_programs_are_code, programs_are_good};
 use icode::program::Program;
 use matrix_meaning::Request;
 use plan_search::{GenerateFault, Plan};
@@ -38,7 +42,7 @@ pub use planning::{admit, plan};
 use program::program_of_tree;
 use std::alloc::Global;
 use tree_model::Ctx;
-pub use tree_passes::{merge_tree, trees_are_merged, trees_can_program, trees_count};
+pub use tree_passes::merge_tree;
 
 /// The cheapest tree with its cost, and its program.
 #[derive(Drop)]
@@ -56,12 +60,13 @@ pub fn generate(alloc: Global, request: &Request) -> Result<Product, GenerateFau
         product.plan.cost ≡ whole_cost request.now (breakdown_of product.plan.tree)) }
     ensures good { IfOk result (λ product.
         IsGood request.now (whole_cost request.now (breakdown_of product.plan.tree))
-        product.program) }
+        (plain_program product.program)) }
     ensures lean { IfOk result (λ product.
-        IsLean request.now (breakdown_of product.plan.tree) product.program) }
+        IsLean request.now (breakdown_of product.plan.tree)
+        (plain_program product.program)) }
     ensures letters { IfOk result (λ product.
         plain_program product.program
-        ≡ program_for request.now (breakdown_of product.plan.tree)) }
+        ≡ emission request.now (breakdown_of product.plan.tree)) }
     ensures refused { IfErr result (λ cause.
         cause ≢ fault.NoMemory → IsPlanned request.now (Err cause)) }
 {

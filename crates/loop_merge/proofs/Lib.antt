@@ -1,3 +1,5 @@
+pub mod AloneOwns
+pub mod PlainPasses
 pub mod JoinedPasses
 pub mod MultipliedPasses
 pub mod JoinedCopies
@@ -7,3 +9,4 @@ pub mod Merged
 pub mod Parts
 pub mod Depths
 pub mod Whole
+pub mod TreeMerge

@@ -1,9 +1,4 @@
 pub mod Lasts
 pub mod Means
-pub mod Places
-pub mod Cans
-pub mod Owners
-pub mod Tables
-pub mod Adding
+pub mod ReadyLasts
 pub mod Counts
-pub mod Programs

@@ -1,3 +1,2 @@
 pub mod Multiplied
-pub mod Laws
 pub mod Views

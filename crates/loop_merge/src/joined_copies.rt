@@ -2,7 +2,6 @@
 // the other, the shorter one copies its words in each pass that it lacks.
 ghost use Rattle.std.specs.Prelude.{◌≡◌, IfOk, OnOk, map, reverse};
 ghost use Rattle.loop_merge.specs.JoinedCopies.Joined.{all_joined, put_first, with_copies_joined};
-ghost use Rattle.loop_merge.specs.JoinedCopies.Laws.{JoinedArePlain, JoinedCost, JoinedLoad, JoinedMean};
 ghost use Rattle.loop_merge.specs.JoinedCopies.Views.{plain_passes};
 ghost use Rattle.sigma_spl.specs.Views.{plain_nest};
 
@@ -62,19 +61,3 @@ fn put_first(alloc: Global, nest: Nest, others: &mut Vec<Nest>) -> Result<(), No
         },
     }
 }
-
-/// Passes whose copies are joined do what they did: a law of the definitions.
-pub fn joined_mean()
-    ensures { JoinedMean }
-{}
-
-/// They have the same operations and loads: a law of the definitions.
-pub fn joined_count()
-    ensures operations { JoinedCost }
-    ensures loads { JoinedLoad }
-{}
-
-/// A program for one processor and one lane can be made of them where it could before: a law of the definitions.
-pub fn joined_are_plain()
-    ensures { JoinedArePlain }
-{}

@@ -1,7 +1,7 @@
 // Passes, a diagonal of listed values and other passes, as the passes of one program.
 ghost use Rattle.std.specs.Prelude.{◌≡◌, IfOk};
 ghost use Rattle.loop_merge.specs.JoinedPasses.Joined.{joined};
-ghost use Rattle.loop_merge.specs.JoinedPasses.Laws.{AreInTurn, CountBoth, JoinedCanProgram, JoinedCounts, JoinedMeans};
+ghost use Rattle.loop_merge.specs.JoinedPasses.Laws.{AreInTurn, CountBoth, IsReadyJoined};
 ghost use Rattle.loop_merge.specs.MultipliedPasses.Views.{plain_passes, plain_phases};
 ghost use Rattle.sigma_spl.specs.Shared.Owners.{all_passes};
 ghost use Rattle.sigma_spl.specs.Views.{plain_merged};
@@ -26,6 +26,8 @@ pub fn join(
         AreInTurn (plain_merged first) diagonal.items (plain_merged second) (plain_merged all)) }
     ensures counts { IfOk result (λ all.
         CountBoth (plain_merged first) (plain_merged second) (plain_merged all)) }
+    ensures ready { IfOk result (λ all.
+        IsReadyJoined (plain_merged first) diagonal.items (plain_merged second) (plain_merged all)) }
 {
     let Merged {
         size,
@@ -58,21 +60,3 @@ fn in_one_phase(alloc: Global, phases: Vec<Vec<Vec<Nest>>>) -> Result<Vec<Vec<Ne
     }
     Ok(passes)
 }
-
-/// Joined passes do what the first passes, a product with the value of each place and the second passes do one after another,
-/// modulo any number: a law of the definitions.
-pub fn joined_means()
-    ensures { JoinedMeans }
-{}
-
-/// A program can be made of joined passes for one processor and one lane, where it can be made of both parts and what they
-/// have together is within its limits: a law of the definitions.
-pub fn joined_can_program()
-    ensures { JoinedCanProgram }
-{}
-
-/// Pass by pass they count what both parts do, and a product for each word between them; so do their programs: a law of the
-/// definitions.
-pub fn joined_counts()
-    ensures { JoinedCounts }
-{}

@@ -26,13 +26,10 @@ ghost use Rattle.loop_nests.specs.Views.{plain_passes};
 use crate::copies::with_first;
 use crate::firsts::{FirstPass, parted};
 use crate::merging::merged_alone;
-pub use joined_copies::{join_copies, joined_are_plain, joined_count, joined_mean};
-pub use joined_passes::{join, joined_can_program, joined_counts, joined_means};
+pub use joined_copies::join_copies;
+pub use joined_passes::join;
 use loop_nests::copying;
 use memory::NoMemory;
-pub use multiplied_passes::{
-    multiplied_can_program, multiplied_counts, multiplied_means, multiply_last_pass,
-};
 pub use phases::merge;
 use sigma_spl::{Nest, Term};
 use std::alloc::Global;

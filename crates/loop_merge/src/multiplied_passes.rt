@@ -1,7 +1,6 @@
 // Passes whose last one multiplies each item that it stores by a factor of a diagonal.
 ghost use Rattle.std.specs.Prelude.{◌≡◌, map, IfOk};
-ghost use Rattle.loop_merge.specs.MultipliedPasses.Laws.{MultipliedCanProgram, MultipliedCounts, MultipliedMeans};
-ghost use Rattle.loop_merge.specs.MultipliedPasses.Multiplied.{Own, multiplied_last, with_factors};
+ghost use Rattle.loop_merge.specs.MultipliedPasses.Multiplied.{multiplied_last, with_factors};
 ghost use Rattle.loop_merge.specs.MultipliedPasses.Views.{plain_passes};
 ghost use Rattle.sigma_spl.specs.Views.{plain_factors, plain_nest};
 
@@ -10,14 +9,14 @@ use sigma_spl::{Factors, Multiplier, Nest, copied_sums};
 use std::alloc::Global;
 
 /// The same passes of one phase, of which the last one multiplies each item that it stores by the factor of its place.
-pub fn multiply_last_pass(
+pub(crate) fn multiply_last_pass(
     alloc: Global,
     passes: Vec<Vec<Nest>>,
     factors: Factors,
 ) -> Result<Vec<Vec<Nest>>, NoMemory>
     ensures { IfOk result (λ changed.
         plain_passes changed.items
-        ≡ multiplied_last Own (plain_factors factors) (plain_passes passes.items)) }
+        ≡ multiplied_last (plain_factors factors) (plain_passes passes.items)) }
 {
     let mut passes = passes;
     match passes.pop() {
@@ -33,7 +32,7 @@ pub fn multiply_last_pass(
 fn multiply_pass(alloc: Global, nests: Vec<Nest>, factors: Factors) -> Result<Vec<Nest>, NoMemory>
     ensures { IfOk result (λ changed.
         map plain_nest changed.items
-        ≡ map (with_factors Own (plain_factors factors)) (map plain_nest nests.items)) }
+        ≡ map (with_factors (plain_factors factors)) (map plain_nest nests.items)) }
 {
     let mut nests = nests;
     match nests.pop() {
@@ -49,7 +48,7 @@ fn multiply_pass(alloc: Global, nests: Vec<Nest>, factors: Factors) -> Result<Ve
 fn multiply_each(alloc: Global, nests: Vec<Nest>, factors: &Factors) -> Result<Vec<Nest>, NoMemory>
     ensures { IfOk result (λ changed.
         map plain_nest changed.items
-        ≡ map (with_factors Own (plain_factors factors.now)) (map plain_nest nests.items)) }
+        ≡ map (with_factors (plain_factors factors.now)) (map plain_nest nests.items)) }
 {
     let mut changed = Vec::new(alloc);
     for nest in nests {
@@ -61,28 +60,10 @@ fn multiply_each(alloc: Global, nests: Vec<Nest>, factors: &Factors) -> Result<V
 
 fn multiply_nest(alloc: Global, nest: Nest, factors: Factors) -> Result<Nest, NoMemory>
     ensures { IfOk result (λ changed.
-        plain_nest changed ≡ with_factors Own (plain_factors factors) (plain_nest nest)) }
+        plain_nest changed ≡ with_factors (plain_factors factors) (plain_nest nest)) }
 {
     let mut nest = nest;
     let places = copied_sums(alloc, &nest.scatters)?;
     nest.multiplier = Some(Multiplier { factors, places });
     Ok(nest)
 }
-
-/// Such passes do what they did, and then a product with the factor of each place, modulo any number: a law of the
-/// definitions.
-pub fn multiplied_means()
-    ensures { MultipliedMeans }
-{}
-
-/// A program can be made of them, for any processors, where one can be made of the passes without factors and what these
-/// add is within its limits: a law of the definitions.
-pub fn multiplied_can_program()
-    ensures { MultipliedCanProgram }
-{}
-
-/// Pass by pass they count what they did, and in the last a product for each word; so do the processors of their programs,
-/// in equal shares: a law of the definitions.
-pub fn multiplied_counts()
-    ensures { MultipliedCounts }
-{}

@@ -1,19 +1,29 @@
 // The terms of each phase, merged.
 ghost use Rattle.std.specs.Prelude.{◌≡◌, ◌^◌, ◌<◌, ◌≤◌, IfOk, map};
-ghost use Rattle.sigma_spl.specs.Sigma.{AllCanMerge, IsGoodSigma, IsMergeOf, merged_of, passes_in_order};
+ghost use Rattle.matrix_meaning.specs.declared.Request.{Request};
+ghost use Rattle.sigma_spl.specs.Sigma.{AllCanMerge, ArePhases, IsGoodSigma, merged_of, passes_in_order};
+ghost use Rattle.sigma_spl.specs.Trees.{IsMergedTree, IsTreeSigma};
 ghost use Rattle.sigma_spl.specs.Views.{plain_merged, plain_sigma, plain_term};
+ghost use Rattle.loop_merge.specs.Merges.{CostsAlike, MeansAlike};
 ghost use Rattle.loop_merge.specs.Views.{plain_phases};
+ghost use Rattle.tree_model.specs.Breakdown.{Breakdown};
 
 use crate::merge_term;
 use memory::NoMemory;
 use sigma_spl::{Merged, Nest, Sigma, Term};
 use std::alloc::Global;
 
-/// The passes of terms in phases, within the limits of programs (Franchetti et al., 2005).
+/// The passes of terms in phases, within the limits of programs (Franchetti et al., 2005). They do what the terms do, in
+/// their operations, and each stores each word once. Those of a tree's terms are what the cost model counts, with no pass
+/// for a permutation or a diagonal alone, and a program can be made of them.
 pub fn merge(alloc: Global, sigma: Sigma) -> Result<Merged, NoMemory>
     requires { IsGoodSigma (plain_sigma sigma) }
     ensures merged { IfOk result (λ g. plain_merged g ≡ merged_of (plain_sigma sigma)) }
-    ensures keeps { IfOk result (λ g. IsMergeOf (plain_sigma sigma) (plain_merged g)) }
+    ensures meaning { IfOk result (λ g. MeansAlike (plain_sigma sigma) (plain_merged g)) }
+    ensures operations { IfOk result (λ g. CostsAlike (plain_sigma sigma) (plain_merged g)) }
+    ensures once { IfOk result (λ g. ArePhases g.lanes g.size (plain_merged g).phases) }
+    ensures tree { IfOk result (λ g. (c : Request) (t : Breakdown)
+        → IsTreeSigma c t (plain_sigma sigma) → IsMergedTree c t (plain_merged g)) }
 {
     let Sigma {
         size,

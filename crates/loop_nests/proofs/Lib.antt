@@ -1,6 +1,8 @@
 pub mod PassPlaces
 pub mod SumLimits
 pub mod Naming
+pub mod Frames
+pub mod Shares
 pub mod Items
 pub mod Lifting
 pub mod Standing

@@ -1,20 +1,18 @@
--- The products after the last phase: what they do and cost, and that they can be merged.
-use Rattle.std.proofs.Common.{◌≡◌, ℕ, ◌+◌, ◌*◌, ◌==◌, Bool, true, false, arith, refl, sym, ap, ◌∙◌, List, [], ◌∷◌, ◌++◌, if◌then◌else◌}
+-- The products after the last phase: what they do, and that they can be merged.
+use Rattle.std.proofs.Common.{◌≡◌, ℕ, ◌+◌, ◌==◌, Bool, true, false, arith, refl, sym, ap, ◌∙◌, List, [], ◌∷◌, ◌++◌, if◌then◌else◌}
 use Rattle.std.specs.Prelude.{map, Option, None, Some}
 use Rattle.std.proofs.lemmas.List.{map-append}
 use Rattle.sigma_lower.specs.Merged.{closing_term, close_last, closed_phases}
 use Rattle.sigma_lower.specs.Shared.{phase_term}
 use Rattle.operators.specs.Operator.{scale}
-use Rattle.sigma_spl.specs.Counts.{term_cost}
-use Rattle.sigma_spl.specs.Sigma.{AllCanMerge, terms_on, terms_cost}
+use Rattle.sigma_spl.specs.Sigma.{AllCanMerge, terms_on}
 use Rattle.sigma_spl.specs.Term.{PlainTerm, product, term_on}
 use Rattle.sigma_spl.specs.Views.{plain_term}
-use Rattle.sigma_spl.specs.Work.{PlainWork}
 use Rattle.sigma_spl.specs.declared.term.Term.{Term}
 use Rattle.sigma_lower.specs.TreeTerms.Term.{factor_term, terms_in}
 use Rattle.smp_rewrite.specs.Smp.{within}
 use Rattle.smp_rewrite.proofs.Tensors.{size-within}
-use Rattle.smp_rewrite.specs.LayoutSteps.Whole.{closed_on, closing_cost}
+use Rattle.smp_rewrite.specs.LayoutSteps.Whole.{closed_on}
 use Rattle.operators.specs.declared.tensor_paths.Tensor.TheVariants.{Blocks}
 use Rattle.operators.specs.TensorPaths.Path.{size_under}
 use Rattle.vec_rewrite.specs.Vectors.{PlainFactor, PlainVec}
@@ -45,27 +43,6 @@ pub closed-on : (m n : ℕ) (o : Option ℕ) (ts : List PlainTerm) (x : List ℕ
     terms_on m n (closed_phases n o ts) x ≡ closed_on m n o (terms_on m n ts x)
 closed-on m n None ts x h = refl
 closed-on m n (Some v) ts x h = close-on m n v ts x h
-
--- ---- what they cost
-
-close-cost : (weight : ℕ) (cost : PlainWork → ℕ) (n v : ℕ) (ts : List PlainTerm) → HasPhase ts →
-    terms_cost weight cost n (close_last n v ts) ≡ terms_cost weight cost n ts + weight * n
-close-cost weight cost n v [] h = absurd h
-close-cost weight cost n v (t ∷ []) h = last (term_cost weight cost n t) (weight * n)
-  where
-    last : (a k : ℕ) → a + k + 0 ≡ a + 0 + k
-    last a k = omega arith
-close-cost weight cost n v (t ∷ u ∷ ts) h =
-    let a = term_cost weight cost n t in
-    ap (λ k. a + k) (close-cost weight cost n v (u ∷ ts) tt) ∙ grouped a (terms_cost weight cost n (u ∷ ts)) (weight * n)
-  where
-    grouped : (a b k : ℕ) → a + (b + k) ≡ a + b + k
-    grouped a b k = omega arith
-
-pub closed-cost : (weight : ℕ) (cost : PlainWork → ℕ) (n : ℕ) (o : Option ℕ) (ts : List PlainTerm) → HasPhase ts →
-    terms_cost weight cost n (closed_phases n o ts) ≡ terms_cost weight cost n ts + closing_cost weight n o
-closed-cost weight cost n None ts h = omega arith
-closed-cost weight cost n (Some v) ts h = close-cost weight cost n v ts h
 
 -- ---- they can be merged
 

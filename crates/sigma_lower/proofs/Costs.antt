@@ -1,27 +1,27 @@
 -- The terms of a formula for lanes have its operations: each processor has its share.
 use Rattle.std.proofs.Common.{◌≡◌, ℕ, ◌+◌, ◌*◌, ◌/◌, ◌%◌, ◌<◌, ◌==◌, Bool, true, false, arith, refl, sym, ap, ap₂, ◌∙◌, List, [], ◌∷◌, ◌++◌, subst, if◌then◌else◌}
 use Rattle.std.specs.Prelude.{All, map, Option, None, Some}
+use Rattle.std.specs.List.{sum}
 use Rattle.std.proofs.Math.Nat.{mul-div_right, zero-div}
 use Rattle.std.proofs.lemmas.List.Elements.{All-head, All-tail}
 use Rattle.smp_rewrite.specs.Fits.{CanShareLayout}
-use Rattle.smp_rewrite.specs.LayoutSteps.Layout.{Layout}
 use Rattle.sigma_spl.specs.Shared.Costs.{work_cost}
 use Rattle.operators.specs.declared.target.Target.{Target}
 use Rattle.sigma_spl.specs.Counts.{term_cost}
-use Rattle.sigma_spl.specs.Sigma.{sigma_cost, terms_cost}
+use Rattle.sigma_spl.specs.Sigma.{terms_cost}
 use Rattle.sigma_spl.specs.Term.{PlainTerm}
-use Rattle.sigma_lower.specs.Merged.{sigma_of, whole_sigma, SigmaCosts}
+use Rattle.sigma_spl.specs.Work.{PlainWork}
+use Rattle.sigma_lower.specs.Merged.{closed_phases, phase_costs, sigma_of, whole_sigma, SigmaCosts}
 use Rattle.sigma_lower.specs.Shared.{embed, phase_term}
-use Rattle.sigma_lower.proofs.Closing.{has_phase, closed-cost}
 use Rattle.sigma_lower.proofs.SharedTrees.{all-left, all-right}
 use Rattle.sigma_lower.specs.TreeTerms.Good.{IsVecOf}
-use Rattle.sigma_lower.specs.TreeTerms.Term.{lowered_core, after_core, factor_term, lowered_of, terms_in}
-use Rattle.smp_rewrite.specs.Cut.{layout_smp, smp_of}
+use Rattle.sigma_lower.specs.TreeTerms.Term.{lowered_core, after_core, factor_term}
+use Rattle.smp_rewrite.specs.Cut.{smp_of}
 use Rattle.smp_rewrite.specs.Laws.{HasEqualParts, IsDiagonal, IsPermutation}
-use Rattle.smp_rewrite.specs.Smp.{within}
+use Rattle.smp_rewrite.specs.Smp.{by_phase, within}
 use Rattle.smp_rewrite.proofs.Tensors.{copies-within}
 use Rattle.smp_rewrite.proofs.TreeLaws.{smp_costs}
-use Rattle.smp_rewrite.specs.LayoutSteps.Whole.{Whole, only, closing_cost}
+use Rattle.smp_rewrite.specs.LayoutSteps.Whole.{Whole, closing_cost}
 use Rattle.smp_rewrite.specs.LayoutSteps.Meaning.{core_size}
 use Rattle.smp_rewrite.specs.LayoutSteps.Step.{PlainCore, piece, turns, twiddles, thomas_in, thomas_out, core_cost}
 use Rattle.operators.specs.declared.tensor_paths.Tensor.TheVariants.{Blocks, Columns}
@@ -30,7 +30,7 @@ use Rattle.operators.proofs.TensorPaths.Under.{size_under-copies}
 use Rattle.tree_model.proofs.Splits.{product_div}
 use Rattle.vec_rewrite.specs.Laws.{HasLanes}
 use Rattle.vec_rewrite.specs.Turning.{vec_of}
-use Rattle.vec_rewrite.specs.Vectors.{PlainFactor, lanes, diagonals, move_before, move_after, tiles, PlainVec, share_of, shares_in, vec_share}
+use Rattle.vec_rewrite.specs.Vectors.{PlainFactor, lanes, diagonals, move_before, move_after, tiles, PlainVec, share_of, shares_in, vec_shares}
 use Rattle.vec_rewrite.proofs.LaneLaws.{vec_keeps}
 use Rattle.vec_rewrite.proofs.LaneShapes.{vec_shaped}
 use Rattle.vec_rewrite.proofs.LaneShares.{shares_in-append}
@@ -116,31 +116,53 @@ phase-cost weight c p v (f ∷ fs) positive h =
     shared : (p a b : ℕ) → p * a + p * b ≡ p * (a + b)
     shared p a b = omega arith
 
--- one phase or two
-phases-cost : (weight : ℕ) (c : Target) (p v : ℕ) (b : Bool) (first second : List PlainFactor) →
-    cost_in weight c (phase_term (map (factor_term p v) (first ++ second))) ≡ p * shares_in weight c.modulus p v (first ++ second) →
-    cost_in weight c (phase_term (map (factor_term p v) first)) ≡ p * shares_in weight c.modulus p v first →
-    cost_in weight c (phase_term (map (factor_term p v) second)) ≡ p * shares_in weight c.modulus p v second →
-    terms_cost weight (work_cost weight c.modulus) c.size (map (phase_term) (map (map (factor_term p v)) (if b then (first ++ second) ∷ [] else first ∷ second ∷ []))) ≡ p * shares_in weight c.modulus p v (first ++ second)
-phases-cost weight c p v true first second all h k = omega (arith, all)
-phases-cost weight c p v false first second all h k =
-    let both = ap (λ n. p * n) (shares_in-append weight c.modulus p v first second) in
-    let shared : p * (shares_in weight c.modulus p v first + shares_in weight c.modulus p v second) ≡ p * shares_in weight c.modulus p v first + p * shares_in weight c.modulus p v second = omega arith in omega (arith, h, k, both, shared)
+-- the products at the end, of which each processor has s
+none-more : (p a b s : ℕ) → 0 ≡ p * s → p * (a + b) ≡ p * (a + (b + s))
+none-more p a b s e =
+    let before : p * (a + b) ≡ p * a + p * b = omega arith in
+    let after : p * (a + (b + s)) ≡ p * a + p * b + p * s = omega arith in
+    omega (arith, before, after, e)
 
-layout-costs : (weight : ℕ) (c : Target) (l : Layout) → CanShareLayout c l →
-    terms_cost weight (work_cost weight c.modulus) c.size (map phase_term (lowered_of c l))
-    ≡ c.procs
-    * shares_in weight c.modulus c.procs c.lanes ((vec_of (layout_smp c l)).first ++ (vec_of (layout_smp c l)).second)
-layout-costs weight c l shares =
-    let g = vec_of (layout_smp c l) in
-    let p = c.procs in
-    let v = c.lanes in
-    let positive : 0 < p = omega (arith, shares.procs) in
-    let Shaped : PlainFactor → Type 0 = HasLanes c.size p v in
-    let shaped = (vec_shaped c (layout_smp c l) (record { whole = only l; shares = shares; form = refl })).0 in
-    phases-cost weight c p v (p == 1) g.first g.second (phase-cost weight c p v (g.first ++ g.second) positive shaped)
-    (phase-cost weight c p v g.first positive (all-left Shaped g.first g.second shaped))
-    (phase-cost weight c p v g.second positive (all-right Shaped g.first g.second shaped))
+some-more : (p a b s e : ℕ) → e ≡ p * s → p * (a + b) + e ≡ p * (a + (b + s))
+some-more p a b s e is =
+    let before : p * (a + b) ≡ p * a + p * b = omega arith in
+    let after : p * (a + (b + s)) ≡ p * a + p * b + p * s = omega arith in
+    omega (arith, before, after, is)
+
+none-last : (p b s : ℕ) → 0 ≡ p * s → p * b ≡ p * (b + s)
+none-last p b s e = let after : p * (b + s) ≡ p * b + p * s = omega arith in omega (arith, after, e)
+
+some-last : (p b s e : ℕ) → e ≡ p * s → p * b + e ≡ p * (b + s)
+some-last p b s e is = let after : p * (b + s) ≡ p * b + p * s = omega arith in omega (arith, after, is)
+
+module _ (weight : ℕ) (c : Target) (p v : ℕ) (first second : List PlainFactor) where
+  abbrev shares : List PlainFactor → ℕ
+  shares fs = shares_in weight c.modulus p v fs
+
+  -- the processors do the operations of a phase in equal shares
+  abbrev IsShared : List PlainFactor → Type 0
+  IsShared fs = cost_in weight c (phase_term (map (factor_term p v) fs)) ≡ p * shares fs
+
+  -- one phase or two, the last of which has the products at the end
+  phases-cost : (b : Bool) (o : Option ℕ) (s : ℕ) → IsShared (first ++ second) → IsShared first → IsShared second →
+      closing_cost weight c.size o ≡ p * s →
+      map (cost_in weight c) (closed_phases c.size o (map phase_term (map (map (factor_term p v))
+      (if b then (first ++ second) ∷ [] else first ∷ second ∷ []))))
+      ≡ map (λ k. p * k)
+      (if b then (shares first + (shares second + s)) ∷ [] else shares first ∷ (shares second + s) ∷ [])
+  phases-cost true None s all h k e =
+      ap (λ x. x ∷ [])
+      (all ∙ ap (λ n. p * n) (shares_in-append weight c.modulus p v first second)
+      ∙ none-more p (shares first) (shares second) s e)
+  phases-cost true (Some u) s all h k e =
+      ap (λ x. x ∷ [])
+      (ap (λ x. x + weight * c.size)
+      (all ∙ ap (λ n. p * n) (shares_in-append weight c.modulus p v first second))
+      ∙ some-more p (shares first) (shares second) s (weight * c.size) e)
+  phases-cost false None s all h k e = ap₂ (λ x y. x ∷ y ∷ []) h (k ∙ none-last p (shares second) s e)
+  phases-cost false (Some u) s all h k e =
+      ap₂ (λ x y. x ∷ y ∷ []) h
+      (ap (λ x. x + weight * c.size) k ∙ some-last p (shares second) s (weight * c.size) e)
 
 -- the products at the end, of which each processor has an equal part
 closing-exact : (weight n p : ℕ) (o : Option ℕ) → 0 < p → HasEqualParts n p o →
@@ -149,28 +171,56 @@ closing-exact weight n p None positive even = sym (ap (λ k. p * k) (zero-div p)
 closing-exact weight n p (Some v) positive even = sym (share-exact p weight n positive even)
 
 whole-costs : (weight : ℕ) (c : Target) (w : Whole) → CanShareLayout c w.layout →
-    sigma_cost weight (work_cost weight c.modulus) (whole_sigma c w)
-    ≡ c.procs * vec_share weight c.modulus (vec_of (smp_of c w))
+    phase_costs weight c.modulus (whole_sigma c w)
+    ≡ map (λ k. c.procs * k) (vec_shares weight c.modulus (vec_of (smp_of c w)))
 whole-costs weight c w shares =
     let g = vec_of (smp_of c w) in
     let p = c.procs in
-    let even = (vec_shaped c (smp_of c w) (record { whole = w; shares = shares; form = refl })).1 in
+    let v = c.lanes in
     let positive : 0 < p = omega (arith, shares.procs) in
-    closed-cost weight (work_cost weight c.modulus) c.size w.factor (map phase_term (terms_in g)) (has_phase g)
-    ∙ ap₂ (λ a b. a + b) (layout-costs weight c w.layout shares) (closing-exact weight c.size p w.factor positive even)
-    ∙ both p (shares_in weight c.modulus p c.lanes (g.first ++ g.second)) (closing_cost weight c.size w.factor / p)
-  where
-    both : (p a b : ℕ) → p * a + p * b ≡ p * (a + b)
-    both p a b = omega arith
+    let Shaped : PlainFactor → Type 0 = HasLanes c.size p v in
+    let laned = vec_shaped c (smp_of c w) (record { whole = w; shares = shares; form = refl }) in
+    let shaped = laned.0 in
+    phases-cost weight c p v g.first g.second (p == 1) w.factor (closing_cost weight c.size w.factor / p)
+    (phase-cost weight c p v (g.first ++ g.second) positive shaped)
+    (phase-cost weight c p v g.first positive (all-left Shaped g.first g.second shaped))
+    (phase-cost weight c p v g.second positive (all-right Shaped g.first g.second shaped))
+    (closing-exact weight c.size p w.factor positive laned.1)
 
--- the processors do the operations of the terms in equal shares
-pub vec_costs : (weight : ℕ) (c : Target) (g : PlainVec) → IsVecOf c g → sigma_cost weight (work_cost weight c.modulus) (sigma_of g) ≡ c.procs * vec_share weight c.modulus g
+-- phase by phase the processors do the operations of the terms in equal shares
+pub vec_costs : (weight : ℕ) (c : Target) (g : PlainVec) → IsVecOf c g →
+    phase_costs weight c.modulus (sigma_of g) ≡ map (λ k. c.procs * k) (vec_shares weight c.modulus g)
 vec_costs weight c g h =
-    subst (λ z. sigma_cost weight (work_cost weight c.modulus) (sigma_of z) ≡ c.procs * vec_share weight c.modulus z)
+    subst
+    (λ z. phase_costs weight c.modulus (sigma_of z) ≡ map (λ k. c.procs * k) (vec_shares weight c.modulus z))
     (sym h.form) (whole-costs weight c h.whole h.shares)
+
+-- ---- together
+
+abbrev added : List ℕ → ℕ
+added [] = 0
+added (x ∷ xs) = x + added xs
+
+terms-added : (weight : ℕ) (cost : PlainWork → ℕ) (n : ℕ) (ts : List PlainTerm) →
+    terms_cost weight cost n ts ≡ added (map (term_cost weight cost n) ts)
+terms-added weight cost n [] = refl
+terms-added weight cost n (t ∷ ts) = ap (λ x. term_cost weight cost n t + x) (terms-added weight cost n ts)
+
+shares-added : (p a b : ℕ) → added (map (λ k. p * k) (by_phase p a b)) ≡ p * sum (by_phase p a b)
+shares-added p a b = pick (p == 1)
+  where
+    pick : (one : Bool) →
+        added (map (λ k. p * k) (if one then (a + b) ∷ [] else a ∷ b ∷ []))
+        ≡ p * sum (if one then (a + b) ∷ [] else a ∷ b ∷ [])
+    pick true = let one : p * (a + b) + 0 ≡ p * (0 + (a + b)) = omega arith in one
+    pick false = let two : p * a + (p * b + 0) ≡ p * (0 + a + b) = omega arith in two
 
 -- which are those of the whole
 pub sigma_costs : SigmaCosts
 sigma_costs weight c w can =
     let kept = vec_keeps weight c.modulus c (smp_of c w) (record { whole = w; shares = can.shares; form = refl }) in
-    whole-costs weight c w can.shares ∙ ap (λ k. c.procs * k) kept.1 ∙ smp_costs weight c w can.shares
+    terms-added weight (work_cost weight c.modulus) c.size (whole_sigma c w).phases
+    ∙ ap added (whole-costs weight c w can.shares)
+    ∙ shares-added c.procs _ _
+    ∙ ap (λ ks. c.procs * sum ks) kept.1
+    ∙ smp_costs weight c w can.shares

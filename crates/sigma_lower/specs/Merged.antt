@@ -3,6 +3,7 @@ use Rattle.std.specs.Prelude.{◌≡◌, ℕ, List, [], ◌∷◌, map, reverse,
 use Rattle.operators.specs.declared.target.Target.{Target}
 use Rattle.sigma_lower.specs.Machine.{IsMachine}
 use Rattle.matrix_meaning.specs.declared.Request.{Request}
+use Rattle.sigma_spl.specs.Counts.{term_cost}
 use Rattle.sigma_spl.specs.Good.{IsVector}
 use Rattle.sigma_spl.specs.Loops.{loops_in, HasLoop}
 use Rattle.sigma_spl.specs.Merge.{unbounded, passes_within}
@@ -53,7 +54,11 @@ sigma_of g = record {
   phases = closed_phases g.target.size g.closing (map phase_term (terms_in g));
 }
 
--- those of a layout, and of a whole
+-- the operations of each phase
+abbrev pub phase_costs : ℕ → ℕ → PlainSigma → List ℕ
+phase_costs weight m g = map (term_cost weight (work_cost weight m) g.size) g.phases
+
+-- the terms of a layout, and of a whole
 abbrev pub layout_sigma : Target → Layout → PlainSigma
 layout_sigma h l = sigma_of (vec_of (layout_smp h l))
 

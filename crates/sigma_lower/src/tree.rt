@@ -1,21 +1,23 @@
 // The terms of a tree's formula for processors and lanes.
 ghost use Rattle.std.specs.Prelude.{◌≡◌, ◌*◌, ◌^◌, ◌<◌, All, IfOk, List, map, ℕ};
-ghost use Rattle.sigma_lower.specs.Merged.{closed_phases, closing_term, sigma_of};
+ghost use Rattle.sigma_lower.specs.Merged.{closed_phases, closing_term, phase_costs, sigma_of};
 ghost use Rattle.sigma_lower.specs.Room.{IsRoomy, IsRoomyCore};
 ghost use Rattle.sigma_lower.specs.Shared.{embed, factors_before, phase_term};
 ghost use Rattle.index_fn.specs.Index.{mapping_of};
 ghost use Rattle.sigma_spl.specs.Good.{IsVector};
 ghost use Rattle.sigma_spl.specs.Room.{HasRoom};
-ghost use Rattle.sigma_spl.specs.Sigma.{IsGoodSigma, sigma_cost, sigma_on};
+ghost use Rattle.sigma_spl.specs.Sigma.{IsGoodSigma, sigma_on};
 ghost use Rattle.sigma_spl.specs.Term.{gath, scat};
+ghost use Rattle.sigma_spl.specs.Trees.{IsTreeSigma};
 ghost use Rattle.sigma_spl.specs.Views.{plain_sigma, plain_term};
+ghost use Rattle.sigma_lower.specs.TreeSigmas.{IsVecOfTree};
 ghost use Rattle.sigma_lower.specs.TreeTerms.Good.{IsVecOf};
 ghost use Rattle.sigma_lower.specs.TreeTerms.Term.{after_core, factor_term, lowered_core, terms_in};
 ghost use Rattle.sigma_lower.specs.TreeTerms.Wrapped.{wrapped};
-ghost use Rattle.sigma_spl.specs.Shared.Costs.{work_cost};
 ghost use Rattle.sigma_spl.specs.Shared.Targets.{target_of};
 ghost use Rattle.smp_rewrite.specs.LayoutSteps.Views.{plain_core};
-ghost use Rattle.vec_rewrite.specs.Vectors.{factor_step, vec_on, vec_share};
+ghost use Rattle.tree_model.specs.Breakdown.{Breakdown};
+ghost use Rattle.vec_rewrite.specs.Vectors.{factor_step, vec_on, vec_shares};
 ghost use Rattle.vec_rewrite.specs.Views.{plain_vec, plain_vec_factor};
 
 use crate::formula::{gather, in_turn};
@@ -38,8 +40,11 @@ pub fn lower(alloc: Global, c: &Ctx, vectors: VecSpl) -> Result<Sigma, NoMemory>
         ≡ vec_on c.now.modulus (plain_vec vectors) x) }
     ensures good { IfOk result (λ g. IsGoodSigma (plain_sigma g)) }
     ensures operations { IfOk result (λ g.
-        sigma_cost c.now.weight (work_cost c.now.weight c.now.modulus) (plain_sigma g)
-        ≡ c.now.procs * vec_share c.now.weight c.now.modulus (plain_vec vectors)) }
+        phase_costs c.now.weight c.now.modulus (plain_sigma g)
+        ≡ map (λ k. c.now.procs * k)
+        (vec_shares c.now.weight c.now.modulus (plain_vec vectors))) }
+    ensures tree { IfOk result (λ g. (t : Breakdown) → IsVecOfTree c.now t (plain_vec vectors) →
+        IsTreeSigma c.now t (plain_sigma g)) }
 {
     let _request = c.request();
     let target = vectors.target;

@@ -9,32 +9,32 @@ ghost use Rattle.sigma_lower.specs.TreeLoops.Nests.{LoopsListed, TreeNests};
 
 pub use shared_passes::{passes_are_framed, phases_are_shared};
 
-/// Merging makes the passes of the layout: a law of the definitions.
+/// Merging makes the passes of the layout.
 pub fn merge_counts()
     ensures { MergeCounts }
 {}
 
-/// Those of a tree's layout count as the passes of the cost model: a law of the definitions.
+/// Those of a tree's layout count as the passes of the cost model.
 pub fn layouts_count()
     ensures { LayoutsCount }
 {}
 
-/// The loops of a phase's term are its passes: a law of the definitions.
+/// The loops of a phase's term are its passes.
 pub fn loops_listed()
     ensures { LoopsListed }
 {}
 
-/// Each merged pass of a layout is one of its passes, as one nest: a law of the definitions.
+/// Each merged pass of a layout is one of its passes, as one nest.
 pub fn tree_nests()
     ensures { TreeNests }
 {}
 
-/// No place of a layout's loops is over a limit of programs: a law of the definitions.
+/// No place of a layout's loops is over a limit of programs.
 pub fn loops_are_limited()
     ensures { LoopsAreLimited }
 {}
 
-/// So the terms of a layout, merged within these limits, are its passes: a law of the definitions.
+/// So the terms of a layout, merged within these limits, are its passes.
 pub fn trees_merge()
     ensures { TreesMerge }
 {}

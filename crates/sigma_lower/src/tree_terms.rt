@@ -45,17 +45,17 @@ pub fn unit(r: u64, s: u64) -> u64
     found
 }
 
-/// The terms of a layout do what it does: a law of the definitions.
+/// The terms of a layout do what it does.
 pub fn lowered_transforms()
     ensures { LoweredTransforms }
 {}
 
-/// On one processor and one lane the terms of a layout are those of its steps: a law of the definitions.
+/// On one processor and one lane the terms of a layout are those of its steps.
 pub fn plain_terms()
     ensures { PlainTerms }
 {}
 
-/// On several processors or lanes the terms of a layout are these: a law of the definitions.
+/// On several processors or lanes the terms of a layout are these.
 pub fn shared_terms()
     ensures { SharedTerms }
 {}

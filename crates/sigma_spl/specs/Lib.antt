@@ -16,5 +16,6 @@ pub mod Room
 pub mod Words
 pub mod Sigma
 pub mod Views
+pub mod Lists
 pub mod Shared
 pub mod Trees

@@ -28,7 +28,7 @@ pub use term::{Sigma, Term};
 pub use variables::{counts, limits};
 pub use work::Work;
 
-/// What is merged into a pass, and how passes stand side by side and under tensors: laws of the definitions.
+/// What is merged into a pass, and how passes stand side by side and under tensors.
 pub fn copies_merge()
     ensures loads { LoadsGather }
     ensures stores { StoresScatter }
@@ -38,47 +38,47 @@ pub fn copies_merge()
     ensures once { KeepsOnce }
 {}
 
-/// The passes of a term do what it does, and each writes each word of its array once: a law of the definitions.
+/// The passes of a term do what it does, and each writes each word of its array once.
 pub fn merge_keeps()
     ensures { MergeKeeps }
 {}
 
-/// The passes of a term have its operations: a law of the definitions.
+/// The passes of a term have its operations.
 pub fn merge_counts()
     ensures { MergeCounts }
 {}
 
-/// The places of a term's passes are within the limits of programs: a law of the definitions.
+/// The places of a term's passes are within the limits of programs.
 pub fn merge_limits()
     ensures { MergeLimits }
 {}
 
-/// Horner's rule gives the rows of a Fourier transform, for any root: a law of the definitions.
+/// Horner's rule gives the rows of a Fourier transform, for any root.
 pub fn horner_row()
     ensures { HornerRow }
 {}
 
-/// A pass that stores each word once leaves at each place what the one copy stores there: a law of the definitions.
+/// A pass that stores each word once leaves at each place what the one copy stores there.
 pub fn pass_stores()
     ensures { PassStores }
 {}
 
-/// Terms in order are merged into their loops, one by one, where no place is over a limit: a law of the definitions.
+/// Terms in order are merged into their loops, one by one, where no place is over a limit.
 pub fn merge_listed()
     ensures { MergeListed }
 {}
 
-/// The sums of a loop's nest have the values of its places: a law of the definitions.
+/// The sums of a loop's nest have the values of its places.
 pub fn loops_have_places()
     ensures { LoopsHavePlaces }
 {}
 
-/// The loops of a good term in order can be named by sums: a law of the definitions.
+/// The loops of a good term in order can be named by sums.
 pub fn loops_are_good()
     ensures { LoopsAreGood }
 {}
 
-/// The passes of good terms in phases do what the terms do, in their operations: a law of the definitions.
+/// The passes of good terms in phases do what the terms do, in their operations.
 pub fn sigma_merges()
     ensures { SigmaMerges }
 {}

@@ -17,7 +17,7 @@ use Rattle.smp_rewrite.proofs.Factors.{CanShare, several-of, cut-factors}
 use Rattle.smp_rewrite.proofs.Sized.{AreOfSize}
 use Rattle.smp_rewrite.proofs.Tensors.{is-one, copies-within}
 
-shares_in-append : (weight m p : ℕ) (fs gs : List PlainFactor) → shares_in weight m p (fs ++ gs) ≡ shares_in weight m p fs + shares_in weight m p gs
+pub shares_in-append : (weight m p : ℕ) (fs gs : List PlainFactor) → shares_in weight m p (fs ++ gs) ≡ shares_in weight m p fs + shares_in weight m p gs
 shares_in-append weight m p [] gs = omega arith
 shares_in-append weight m p (f ∷ fs) gs = let rest = shares_in-append weight m p fs gs in omega (arith, rest)
 

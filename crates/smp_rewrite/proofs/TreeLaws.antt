@@ -6,8 +6,9 @@ use Rattle.std.proofs.lemmas.Bool.Decides.{nat_tests}
 use Rattle.smp_rewrite.specs.LayoutSteps.Layout.{Layout, layout_size, layout_on, layout_of}
 use Rattle.smp_rewrite.specs.LayoutSteps.Whole.{Whole, closed_on, closing_cost, whole_on}
 use Rattle.smp_rewrite.specs.Cut.{layout_smp, smp_of}
-use Rattle.smp_rewrite.specs.Smp.{smp_on}
-use Rattle.std.specs.Prelude.{Option, None, Some}
+use Rattle.smp_rewrite.specs.Smp.{by_phase, shares_in, smp_on}
+use Rattle.std.specs.Prelude.{◌∷◌, ◌==◌, if◌then◌else◌, Bool, Option, None, Some}
+use Rattle.std.specs.List.{sum}
 use Rattle.std.proofs.lemmas.Bool.{cases_eq}
 use Rattle.smp_rewrite.specs.LayoutSteps.Step.{steps_of}
 use Rattle.sigma_spl.specs.Shared.Targets.{target_of}
@@ -32,7 +33,7 @@ use Rattle.tree_model.proofs.WholeTrees.{forward_plain, forward_size}
 use Rattle.smp_rewrite.proofs.Dealt.{dealt_steps, dealt_size}
 use Rattle.smp_rewrite.proofs.Factors.{CanShare, cut-on}
 use Rattle.smp_rewrite.proofs.Shapes.{cut_shape}
-use Rattle.smp_rewrite.proofs.Shares.{cut_share}
+use Rattle.smp_rewrite.proofs.Shares.{cut_share, shares_in-append}
 use Rattle.smp_rewrite.proofs.Sized.{AreOfSize, of_size}
 
 several : (p : ℕ) → 1 ≤ p → p ≢ 1 → 1 < p
@@ -78,6 +79,14 @@ closing-share weight n p (Some v) positive e =
     turned : (a b c : ℕ) → a * (b * c) ≡ b * (a * c)
     turned a b c = omega arith
 
+-- the numbers of all phases together
+pub sum-phases : (p first second : ℕ) → sum (by_phase p first second) ≡ first + second
+sum-phases p first second = pick (p == 1)
+  where
+    pick : (b : Bool) → sum (if b then (first + second) ∷ [] else first ∷ second ∷ []) ≡ first + second
+    pick true = let one : 0 + (first + second) ≡ first + second = omega arith in one
+    pick false = let two : 0 + first + second ≡ first + second = omega arith in two
+
 pub smp_costs : SmpCosts
 smp_costs weight h w k =
     let l = w.layout in
@@ -87,11 +96,21 @@ smp_costs weight h w k =
     (λ apart. dealt_size h l (several p k.procs apart) k) (sized h l k) (can_share h l k)
     ∙ steps_cost weight h.modulus [] l in
     let closing = closing-share weight h.size p w.factor (omega (arith, k.procs)) (parts h l k) in
-    split p _ _
+    let f = layout_smp h l in
+    let both = shares_in-append weight h.modulus p f.first f.second in
+    let all = sum-phases p (shares_in weight h.modulus p f.first)
+    (shares_in weight h.modulus p f.second + closing_cost weight h.size w.factor / p) in
+    let grouped = regrouped _ _ _ _ _ all both in
+    ap (λ n. p * n) grouped
+    ∙ split p _ _
     ∙ ap₂ (λ a b. a + b) (shares ∙ omega arith) (closing ∙ ap (λ n. closing_cost weight n w.factor) (sym k.size))
   where
     split : (p a b : ℕ) → p * (a + b) ≡ p * a + p * b
     split p a b = omega arith
+
+    regrouped : (all both first second more : ℕ) → all ≡ first + (second + more) → both ≡ first + second →
+        all ≡ both + more
+    regrouped all both first second more h k = omega (arith, h, k)
 
 pub smp_shaped : SmpShaped
 smp_shaped h w k =

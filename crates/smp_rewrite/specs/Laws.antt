@@ -1,5 +1,6 @@
 -- The laws of formulas for processors.
 use Rattle.std.specs.Prelude.{◌≡◌, ℕ, ◌*◌, ◌%◌, ◌<◌, List, [], ◌∷◌, ◌++◌, All, Option, Some, None}
+use Rattle.std.specs.List.{sum}
 use Rattle.matrix_meaning.specs.declared.Request.{Request}
 use Rattle.matrix_meaning.specs.Parts.{forward_of}
 use Rattle.matrix_meaning.specs.Valid.{IsValid}
@@ -16,7 +17,7 @@ use Rattle.operators.specs.TensorPaths.Path.{Path, size_under}
 use Rattle.tree_model.specs.Breakdown.{Breakdown}
 use Rattle.tree_model.specs.Chosen.{IsWholeTree}
 use Rattle.smp_rewrite.specs.Fits.{CanShareLayout}
-use Rattle.smp_rewrite.specs.Smp.{PlainFactor, blocks, diagonals, move_before, move_after, PlainSmp, smp_on, smp_share}
+use Rattle.smp_rewrite.specs.Smp.{PlainFactor, blocks, diagonals, move_before, move_after, PlainSmp, smp_on, smp_shares}
 use Rattle.smp_rewrite.specs.Cut.{smp_of}
 
 abbrev pub step_size : PlainStep → ℕ
@@ -73,7 +74,7 @@ SmpTransforms =
 abbrev pub SmpCosts : Type 0
 SmpCosts =
     (weight : ℕ) (h : Target) (w : Whole) → CanShareLayout h w.layout →
-    h.procs * smp_share weight h.modulus (smp_of h w) ≡ whole_operations weight h.modulus w
+    h.procs * sum (smp_shares weight h.modulus (smp_of h w)) ≡ whole_operations weight h.modulus w
 
 -- each factor has its shape
 abbrev pub SmpShaped : Type 0

@@ -52,6 +52,12 @@ abbrev pub shares_in : ℕ → ℕ → ℕ → List PlainFactor → ℕ
 shares_in weight m p [] = 0
 shares_in weight m p (f ∷ fs) = share_of weight m p f + shares_in weight m p fs
 
-abbrev pub smp_share : ℕ → ℕ → PlainSmp → ℕ
-smp_share weight m f =
-    shares_in weight m f.target.procs (f.first ++ f.second) + closing_cost weight f.target.size f.closing / f.target.procs
+-- numbers of both parts: one processor has one phase, and several have one for each part
+abbrev pub by_phase : ℕ → ℕ → ℕ → List ℕ
+by_phase p first second = if p == 1 then (first + second) ∷ [] else first ∷ second ∷ []
+
+-- the operations of each processor in each phase
+abbrev pub smp_shares : ℕ → ℕ → PlainSmp → List ℕ
+smp_shares weight m f =
+    by_phase f.target.procs (shares_in weight m f.target.procs f.first)
+    (shares_in weight m f.target.procs f.second + closing_cost weight f.target.size f.closing / f.target.procs)

@@ -31,17 +31,17 @@ pub struct Step {
     pub core: Core,
 }
 
-/// The steps of a layout do what it does: a law of the definitions.
+/// The steps of a layout do what it does.
 pub fn steps_do()
     ensures { StepsDo }
 {}
 
-/// The steps of a layout have its operations: a law of the definitions.
+/// The steps of a layout have its operations.
 pub fn steps_cost()
     ensures { StepsCost }
 {}
 
-/// The layout of a tree has its size, does what the tree does at its cost, and can be made: a law of the definitions.
+/// The layout of a tree has its size, does what the tree does at its cost, and can be made.
 pub fn layouts_do()
     ensures size { LayoutsHaveSize }
     ensures meaning { LayoutsDo }
@@ -49,7 +49,7 @@ pub fn layouts_do()
     ensures good { LayoutsAreGood }
 {}
 
-/// The whole of a request's tree does what the request asks for at its cost, and can be made: a law of the definitions.
+/// The whole of a request's tree does what the request asks for at its cost, and can be made.
 pub fn wholes_do()
     ensures meaning { WholesDo }
     ensures cost { WholesCost }

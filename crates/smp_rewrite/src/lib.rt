@@ -7,7 +7,7 @@ mod layout_steps;
 mod walk;
 
 ghost use Rattle.std.specs.Prelude.{◌≡◌, ◌+◌, ◌*◌, ◌<◌, ◌≤◌, [], ◌∷◌, ◌++◌, All, IfOk, List, OnOk, drop, length, map, ℕ};
-ghost use Rattle.std.specs.List.{flat_map};
+ghost use Rattle.std.specs.List.{flat_map, sum};
 ghost use Rattle.breakdown.specs.Expansion.{formula_of};
 ghost use Rattle.matrix_meaning.specs.Asked.{asked_of};
 ghost use Rattle.spl_ast.specs.Meaning.{apply};
@@ -20,7 +20,7 @@ ghost use Rattle.tree_model.specs.Breakdown.{breakdown_of};
 ghost use Rattle.tree_model.specs.Chosen.{IsWholeTree, whole_cost};
 ghost use Rattle.smp_rewrite.specs.Cut.{cut, closed_cut, cut_factors, factors_of, first_count, is_left, right_count, smp_of, whole_factor};
 ghost use Rattle.smp_rewrite.specs.Laws.{IsShaped, LayoutsFit, MovesLines, SmpCosts, SmpShaped, SmpTransforms, step_size};
-ghost use Rattle.smp_rewrite.specs.Smp.{PlainFactor, smp_on, smp_share, within};
+ghost use Rattle.smp_rewrite.specs.Smp.{PlainFactor, smp_on, smp_shares, within};
 ghost use Rattle.smp_rewrite.specs.Views.{plain_factor, plain_smp};
 
 use crate::closing::{body_of, closing_in};
@@ -68,7 +68,7 @@ pub fn to_smp(alloc: Global, c: &Ctx, tree: &Tree, formula: Spl) -> Result<SmpSp
     ensures formula { IfOk result (λ f. (x : List ℕ) →
         smp_on c.now.modulus (plain_smp f) x ≡ apply c.now.modulus formula x) }
     ensures operations { IfOk result
-        (λ f. c.now.procs * smp_share c.now.weight c.now.modulus (plain_smp f)
+        (λ f. c.now.procs * sum (smp_shares c.now.weight c.now.modulus (plain_smp f))
         ≡ whole_cost c.now (breakdown_of tree.now)) }
     ensures shape { IfOk result (λ f. IsShaped (plain_smp f)) }
 {
@@ -255,28 +255,27 @@ pub fn within(tensor: Tensor, path: Vec<Tensor>) -> Result<Vec<Tensor>, NoMemory
     Ok(longer)
 }
 
-/// The formula of a whole does what the whole does: a law of the definitions.
+/// The formula of a whole does what the whole does.
 pub fn smp_transforms()
     ensures { SmpTransforms }
 {}
 
-/// The processors do a whole's operations in equal shares: a law of the definitions.
+/// The processors do a whole's operations in equal shares.
 pub fn smp_costs()
     ensures { SmpCosts }
 {}
 
-/// Each factor of a whole's formula is blocks of equal size, a diagonal of equal parts, or a move of whole lines: a law of
-/// the definitions.
+/// Each factor of a whole's formula is blocks of equal size, a diagonal of equal parts, or a move of whole lines.
 pub fn smp_shaped()
     ensures { SmpShaped }
 {}
 
-/// The layout of a tree that a request admits can be shared: a law of the definitions.
+/// The layout of a tree that a request admits can be shared.
 pub fn layouts_fit()
     ensures { LayoutsFit }
 {}
 
-/// A move of a formula takes what goes to a line from a line: a law of the definitions.
+/// A move of a formula takes what goes to a line from a line.
 pub fn moves_lines()
     ensures { MovesLines }
 {}

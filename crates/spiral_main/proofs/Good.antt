@@ -17,13 +17,13 @@ use Rattle.commands.specs.Equations.Front.{Front, Work, by_front, line, room_beh
 use Rattle.commands.specs.Equations.Orders.{Planned, chosen, planned, turned}
 use Rattle.commands.specs.Equations.Trace.{trace_outcomes, trace_work}
 use Rattle.commands.specs.Equations.Works.{Wants, all, the_first, by_first, mapping, writing}
-use Rattle.commands.specs.Letters.{program_for}
+use Rattle.commands.specs.Emission.Whole.{emission}
 use Rattle.commands.specs.Planned.{IsPlanned}
 use Rattle.commands.specs.SpiralInput.Asking.{spelt}
 use Rattle.commands.specs.SpiralInput.Commands.{admitted, first_stranger}
 use Rattle.commands.specs.SpiralInput.Orders.{procs_in}
 use Rattle.commands.specs.SpiralInput.Stage.{Stage, ◌>>=◌}
-use Rattle.commands.specs.ConvolutionCommands.ConvLetters.{conv_program}
+use Rattle.commands.specs.Emission.Whole.{conv_emission}
 use Rattle.c_print.specs.CText.{c_text_of}
 use Rattle.listing_text.specs.Listing.{listing_of}
 use Rattle.commands.proofs.GoodPrograms.{conv_programs_convolve, programs_are_good}
@@ -107,7 +107,7 @@ turned_spelt spells names text request p =
     let own = p.value in
     subst (λ (r : Request). spells text (Ok r)) (admitted_same (first_stranger names own.procs) own.procs own request p.behind) p.before
 
-good_plan : (names text : List ℕ) (plan : Planned) → planned names text (Ok plan) → IsGoodProgram plan (program_for plan.request plan.tree)
+good_plan : (names text : List ℕ) (plan : Planned) → planned names text (Ok plan) → IsGoodProgram plan (emission plan.request plan.tree)
 good_plan names text plan p =
     let request = p.value in
     let in_range : IsInRange request = (turned_spelt spelt names text request p.before).1 in
@@ -119,29 +119,29 @@ good_plan names text plan p =
 
 pub good_code : Within code_outcomes good_code_outcomes
 good_code =
-    front_known (line 256) (planned []) (λ (plan : Planned). writing (λ t. t ≡ listing_of (program_for plan.request plan.tree))) (λ (plan : Planned). writing (IsGoodListing plan))
-    (λ text plan room short orders. more_written (λ t. t ≡ listing_of (program_for plan.request plan.tree)) (IsGoodListing plan) room
-    (λ t is. (program_for plan.request plan.tree, good_plan [] text plan orders, is)))
+    front_known (line 256) (planned []) (λ (plan : Planned). writing (λ t. t ≡ listing_of (emission plan.request plan.tree))) (λ (plan : Planned). writing (IsGoodListing plan))
+    (λ text plan room short orders. more_written (λ t. t ≡ listing_of (emission plan.request plan.tree)) (IsGoodListing plan) room
+    (λ t is. (emission plan.request plan.tree, good_plan [] text plan orders, is)))
 
 pub good_c : Within c_outcomes good_c_outcomes
 good_c =
-    front_known (line 256) (planned []) (λ (plan : Planned). writing (λ t. t ≡ c_text_of (program_for plan.request plan.tree))) (λ (plan : Planned). writing (IsGoodCText plan))
-    (λ text plan room short orders. more_written (λ t. t ≡ c_text_of (program_for plan.request plan.tree)) (IsGoodCText plan) room
-    (λ t is. (program_for plan.request plan.tree, good_plan [] text plan orders, is)))
+    front_known (line 256) (planned []) (λ (plan : Planned). writing (λ t. t ≡ c_text_of (emission plan.request plan.tree))) (λ (plan : Planned). writing (IsGoodCText plan))
+    (λ text plan room short orders. more_written (λ t. t ≡ c_text_of (emission plan.request plan.tree)) (IsGoodCText plan) room
+    (λ t is. (emission plan.request plan.tree, good_plan [] text plan orders, is)))
 
 pub good_trace : (order : Order) → Within (trace_outcomes order) (good_trace_outcomes order)
 good_trace order =
     front_known (line 256) (planned (procs_in order)) (trace_work order) (λ (plan : Planned). mapping all plan.request.size plan.request.modulus (IsGoodTrace order plan))
     (λ text plan room short orders. more_mapped all plan.request.size plan.request.modulus _ (IsGoodTrace order plan) room
-    (λ vectors t is. (program_for plan.request plan.tree, good_plan (procs_in order) text plan orders, is)))
+    (λ vectors t is. (emission plan.request plan.tree, good_plan (procs_in order) text plan orders, is)))
 
 good_list : (names text : List ℕ) (plan : Planned) (h : List ℕ) (later : List (List ℕ)) (t : List ℕ)
-    → conv_planned names text (Ok plan) → t ≡ listing_of (conv_program plan.request plan.tree h) → IsConvolverListing plan h later t
+    → conv_planned names text (Ok plan) → t ≡ listing_of (conv_emission plan.request plan.tree h) → IsConvolverListing plan h later t
 good_list names text plan h later t p is =
     let request = p.value in
     let able : IsConvRequest request = (turned_spelt conv_spelt names text request p.before).1 in
     let own : IsConvPlanned plan.request (Ok plan.tree) = subst (λ (r : Request). IsConvPlanned r (Ok plan.tree)) (sym p.behind.0) p.behind.1 in (
-      conv_program plan.request plan.tree h,
+      conv_emission plan.request plan.tree h,
       conv_programs_convolve plan.request plan.tree h (subst IsConvRequest (sym p.behind.0) able) own,
       is,
     )
@@ -156,8 +156,8 @@ good_convolver schedule =
     front_known (line 256) (conv_planned (named schedule)) convolver_work
     (λ (plan : Planned). mapping the_first plan.request.size plan.request.modulus (by_first (IsConvolverListing plan)))
     (λ text plan room short orders. more_mapped the_first plan.request.size plan.request.modulus
-    (by_first (λ h later t. t ≡ listing_of (conv_program plan.request plan.tree h))) (by_first (IsConvolverListing plan)) room
-    (first_more (λ h later t. t ≡ listing_of (conv_program plan.request plan.tree h)) (IsConvolverListing plan)
+    (by_first (λ h later t. t ≡ listing_of (conv_emission plan.request plan.tree h))) (by_first (IsConvolverListing plan)) room
+    (first_more (λ h later t. t ≡ listing_of (conv_emission plan.request plan.tree h)) (IsConvolverListing plan)
     (λ h later t is. good_list (named schedule) text plan h later t orders is)))
 
 pub good_compile : FormulaProgramsAreCode → (m : ℕ) → 2 ≤ m → m < 2 ^ 62 → Within (compile_outcomes m) (good_compile_outcomes m)

@@ -1,9 +1,9 @@
 -- What is right for each command has one status and one text.
 use Rattle.std.proofs.Common.{◌≡◌, ◌++◌, ◌∷◌, ℕ, Bool, true, false, List, [], Ok, Err, Result, sym, ap, ap₂, ◌∙◌}
 use Rattle.c_print.specs.CText.{c_text_of}
-use Rattle.commands.specs.ConvolutionCommands.ConvLetters.{conv_program}
+use Rattle.commands.specs.Emission.Whole.{conv_emission}
 use Rattle.commands.specs.FormulaCommands.Letters as formulas
-use Rattle.commands.specs.Letters.{program_for}
+use Rattle.commands.specs.Emission.Whole.{emission}
 use Rattle.icode.specs.Plain.{PlainProgram}
 use Rattle.listing_text.specs.Listing.{listing_of}
 use Rattle.matrix_meaning.specs.Asked.{asked_of}
@@ -122,8 +122,8 @@ one_text_each names text =
 document_one : (wanted : Document) → HasOne (document_outcomes wanted)
 document_one document.Plan = one_text_each [] (λ plan. plan_text plan.request plan.tree)
 document_one document.Formula = one_text_each [] formula_text
-document_one document.Code = one_text_each [] (λ plan. listing_of (program_for plan.request plan.tree))
-document_one document.C = one_text_each [] (λ plan. c_text_of (program_for plan.request plan.tree))
+document_one document.Code = one_text_each [] (λ plan. listing_of (emission plan.request plan.tree))
+document_one document.C = one_text_each [] (λ plan. c_text_of (emission plan.request plan.tree))
 document_one document.Cert =
     front_one (line 256) (planned []) (λ (plan : Planned). writing (IsTableText plan.request)) (planned_decided [])
     (λ plan room. writing_one (IsTableText plan.request) room (one_certificate plan.request))
@@ -138,7 +138,7 @@ request_one (request.Runs order) =
 request_one (request.Traces order) =
     front_one (line 256) (planned (procs_in order)) (trace_work order) (planned_decided (procs_in order))
     (λ plan room. mapping_one all plan.request.size plan.request.modulus
-    (λ vectors t. t ≡ listing_of (program_for plan.request plan.tree) ++ run_lines order plan vectors) room
+    (λ vectors t. t ≡ listing_of (emission plan.request plan.tree) ++ run_lines order plan vectors) room
     (λ vectors s t p q. p ∙ sym q))
 request_one request.Judges =
     front_one (line 256) (λ text. spelt text >>= fitting) (λ (r : Request). judging (IsVerdict r)) fits_decided
@@ -160,7 +160,7 @@ list_one schedule false =
 list_one schedule true =
     front_one (line 256) (conv_planned (named schedule)) convolver_work (conv_planned_decided (named schedule))
     (λ plan room. mapping_one the_first plan.request.size plan.request.modulus _ room
-    (first_one (λ h later t. t ≡ listing_of (conv_program plan.request plan.tree h)) (λ h later s t p q. p ∙ sym q)))
+    (first_one (λ h later t. t ≡ listing_of (conv_emission plan.request plan.tree h)) (λ h later s t p q. p ∙ sym q)))
 
 pub command_one : (wanted : Command) → HasOne (outcomes_of wanted)
 command_one (command.ByRequest wanted) = request_one wanted

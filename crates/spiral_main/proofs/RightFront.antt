@@ -103,7 +103,7 @@ text_is_right names bytes text plan right = written_is_right names bytes (λ p t
 pub data_are_right : (names bytes : List ℕ) (text : Planned → List (List ℕ) → List ℕ) (plan : Planned) → IsRightLine names bytes plan
     → HasWholeVectors (line 256) plan.request.size bytes
     → (by_front (line 256) (planned names) (λ (p : Planned). mapping all p.request.size p.request.modulus (λ vs t. t ≡ text p vs))).answer
-        bytes Success (text plan (request_vectors plan bytes))
+    bytes Success (text plan (request_vectors plan bytes))
 data_are_right names bytes text plan right vectors =
     let written = text plan (request_vectors plan bytes) in
     line_answer names bytes (λ (p : Planned). mapping all p.request.size p.request.modulus (λ vs t. t ≡ text p vs)) plan written right

@@ -32,7 +32,7 @@ use Rattle.tree_model.specs.Breakdown.{Breakdown}
 use Rattle.commands.proofs.ConvolutionCommands.Existence.{conv_planned_has}
 use Rattle.commands.proofs.Existence.{plan_exists}
 use Rattle.commands.proofs.FormulaCommands.Written.{formula_written}
-use Rattle.commands.specs.ConvolutionCommands.ConvLetters.{conv_program}
+use Rattle.commands.specs.Emission.Whole.{conv_emission}
 use Rattle.commands.specs.Equations.Apply.{apply_work}
 use Rattle.commands.specs.Equations.Commands.{outcomes_by_formula, outcomes_of}
 use Rattle.commands.specs.Equations.Compile.{compile_work}
@@ -48,7 +48,7 @@ use Rattle.commands.specs.Equations.Sample.{sample_lines}
 use Rattle.commands.specs.Equations.Trace.{run_lines, trace_work}
 use Rattle.commands.specs.Equations.Works.{Wants, a_first, all, by_first, mapping, status_by, the_first, writing}
 use Rattle.commands.specs.FormulaCommands.Letters as formulas
-use Rattle.commands.specs.Letters.{program_for}
+use Rattle.commands.specs.Emission.Whole.{emission}
 use Rattle.commands.specs.PlanText.{plan_text}
 use Rattle.commands.specs.Planned.{IsPlanned}
 use Rattle.commands.specs.SpiralInput.Asking.{spelt}
@@ -141,8 +141,8 @@ each_has names text bytes =
 document_has : (wanted : Document) (bytes : List ℕ) → is_by_equation (command.ByRequest (request.Writes wanted)) ≡ true → HasText (document_outcomes wanted) bytes
 document_has document.Plan bytes is = each_has [] (λ plan. plan_text plan.request plan.tree) bytes
 document_has document.Formula bytes is = each_has [] formula_text bytes
-document_has document.Code bytes is = each_has [] (λ plan. listing_of (program_for plan.request plan.tree)) bytes
-document_has document.C bytes is = each_has [] (λ plan. c_text_of (program_for plan.request plan.tree)) bytes
+document_has document.Code bytes is = each_has [] (λ plan. listing_of (emission plan.request plan.tree)) bytes
+document_has document.C bytes is = each_has [] (λ plan. c_text_of (emission plan.request plan.tree)) bytes
 document_has document.Cert bytes is = absurd (cc)
 document_has (document.Sample seed schedule) bytes is = each_has (named schedule) (λ plan. sample_lines plan seed) bytes
 
@@ -155,8 +155,8 @@ request_has (request.Runs order) bytes is =
 request_has (request.Traces order) bytes is =
     front_has (line 256) (planned (procs_in order)) (trace_work order) bytes (planned_has (procs_in order))
     (λ plan room behind. mapping_has all plan.request.size plan.request.modulus
-    (λ vectors t. t ≡ listing_of (program_for plan.request plan.tree) ++ run_lines order plan vectors) room behind
-    (λ vectors. (listing_of (program_for plan.request plan.tree) ++ run_lines order plan vectors, refl)))
+    (λ vectors t. t ≡ listing_of (emission plan.request plan.tree) ++ run_lines order plan vectors) room behind
+    (λ vectors. (listing_of (emission plan.request plan.tree) ++ run_lines order plan vectors, refl)))
 request_has request.Judges bytes is = absurd (cc)
 
 formula_has : (m : ℕ) (wanted : FormulaCommand) (bytes : List ℕ) → HasText (outcomes_by_formula m wanted) bytes
@@ -175,8 +175,8 @@ list_has schedule false bytes =
 list_has schedule true bytes =
     front_has (line 256) (conv_planned (named schedule)) convolver_work bytes (conv_planned_has (named schedule))
     (λ plan room behind. mapping_has the_first plan.request.size plan.request.modulus
-    (by_first (λ h later t. t ≡ listing_of (conv_program plan.request plan.tree h))) room behind
-    (first_has (λ h later. listing_of (conv_program plan.request plan.tree h))))
+    (by_first (λ h later t. t ≡ listing_of (conv_emission plan.request plan.tree h))) room behind
+    (first_has (λ h later. listing_of (conv_emission plan.request plan.tree h))))
 
 command_has : (wanted : Command) (bytes : List ℕ) → is_by_equation wanted ≡ true → HasText (outcomes_of wanted) bytes
 command_has (command.ByRequest wanted) bytes is = request_has wanted bytes is

@@ -1,7 +1,7 @@
 // Calls that are right in all that their command asks of them, and what they come to.
 ghost use Rattle.std.specs.Prelude.{◌≡◌, ◌≢◌, ◌≤◌, ℕ, List, [], ◌∷◌, ◌++◌, length, Ok};
 ghost use Rattle.commands.specs.FormulaCommands.Letters as programs;
-ghost use Rattle.commands.specs.Letters.{program_for};
+ghost use Rattle.commands.specs.Emission.Whole.{emission};
 ghost use Rattle.c_print.specs.CText.{c_text_of};
 ghost use Rattle.listing_text.specs.Listing.{listing_of};
 ghost use Rattle.commands.specs.Equations.Formulas.{formed, written};
@@ -62,14 +62,14 @@ pub fn formula_is_right()
 pub fn code_is_right()
     ensures { (words : List (List ℕ)) (bytes : List ℕ) (plan : Planned) →
         IsAsked words (command.ByRequest (request.Writes document.Code)) → IsRightLine [] bytes plan
-        → IsOutcome words bytes Success (listing_of (program_for plan.request plan.tree)) }
+        → IsOutcome words bytes Success (listing_of (emission plan.request plan.tree)) }
 {}
 
 /// A right call of `c` has the outcome Success with the C text of the tree's program.
 pub fn c_is_right()
     ensures { (words : List (List ℕ)) (bytes : List ℕ) (plan : Planned) →
         IsAsked words (command.ByRequest (request.Writes document.C)) → IsRightLine [] bytes plan
-        → IsOutcome words bytes Success (c_text_of (program_for plan.request plan.tree)) }
+        → IsOutcome words bytes Success (c_text_of (emission plan.request plan.tree)) }
 {}
 
 /// A right call of `cert` has the outcome Success with the certificate of the request.
@@ -99,7 +99,7 @@ pub fn trace_is_right()
     ensures { (words : List (List ℕ)) (bytes : List ℕ) (order : SpecOrder) (plan : Planned) →
         IsAsked words (command.ByRequest (request.Traces order)) → IsRightLine (procs_in order) bytes plan
         → HasWholeVectors (line 256) plan.request.size bytes
-        → IsOutcome words bytes Success (listing_of (program_for plan.request plan.tree)
+        → IsOutcome words bytes Success (listing_of (emission plan.request plan.tree)
         ++ run_lines order plan (request_vectors plan bytes)) }
 {}
 

@@ -1,5 +1,5 @@
 -- The formula of a whole for lanes: what it does, and each processor's operations.
-use Rattle.std.proofs.Common.{◌≡◌, ◌≢◌, ℕ, ◌+◌, ◌<◌, ◌≤◌, arith, refl, sym, ap, subst, ◌∙◌, List, [], ◌∷◌, ◌++◌, inl, inr, if◌then◌else◌}
+use Rattle.std.proofs.Common.{◌≡◌, ◌≢◌, ℕ, ◌+◌, ◌<◌, ◌≤◌, arith, refl, sym, ap, ap₂, subst, ◌∙◌, List, [], ◌∷◌, ◌++◌, inl, inr, if◌then◌else◌}
 use Rattle.std.specs.Prelude.{◌/◌, map, None}
 use Rattle.std.proofs.lemmas.Bool.{cases_eq}
 use Rattle.std.proofs.lemmas.List.{map-append}
@@ -16,7 +16,7 @@ use Rattle.vec_rewrite.specs.Laws.{Keeps, VecKeeps}
 use Rattle.vec_rewrite.specs.Turning.{kept, laned_from, phase_of, deal_of}
 use Rattle.vec_rewrite.specs.Vectors.{factor_step, shares_in}
 use Rattle.vec_rewrite.proofs.Following.{AllFollow, laned_on}
-use Rattle.vec_rewrite.proofs.LaneShares.{shares_in-append, laned-share, kept-share}
+use Rattle.vec_rewrite.proofs.LaneShares.{laned-share, kept-share}
 use Rattle.vec_rewrite.proofs.StepFollows.{unequal}
 use Rattle.vec_rewrite.proofs.TreeFollows.{both_follow}
 
@@ -48,32 +48,26 @@ phase-laned weight m d fs several positive h =
 
 -- ---- both phases
 
-smp-shares-append : (weight m p : ℕ) (fs gs : List smp.PlainFactor) → smp.shares_in weight m p (fs ++ gs) ≡ smp.shares_in weight m p fs + smp.shares_in weight m p gs
-smp-shares-append weight m p [] gs = omega arith
-smp-shares-append weight m p (f ∷ fs) gs = let rest = smp-shares-append weight m p fs gs in omega (arith, rest)
-
 abbrev PhasesKeep : ℕ → ℕ → Deal → List smp.PlainFactor → List smp.PlainFactor → Type 0
 PhasesKeep weight m d first second =
     ((x : List ℕ) → all_on m (map (factor_step d.procs d.lanes) (phase_of d first ++ phase_of d second)) x ≡ all_on m (map (smp.factor_step d.procs) (first ++ second)) x)
-    × (shares_in weight m d.procs d.lanes (phase_of d first ++ phase_of d second) ≡ smp.shares_in weight m d.procs (first ++ second))
+    × (shares_in weight m d.procs d.lanes (phase_of d first) ≡ smp.shares_in weight m d.procs first)
+    × (shares_in weight m d.procs d.lanes (phase_of d second) ≡ smp.shares_in weight m d.procs second)
 
 both-keep : (weight m : ℕ) (d : Deal) (first second : List smp.PlainFactor) → PhaseKeeps weight m d first → PhaseKeeps weight m d second → PhasesKeep weight m d first second
 both-keep weight m d first second h k =
     let fs = phase_of d first in
     let gs = phase_of d second in
     let step = factor_step d.procs d.lanes in
-    let old = smp.factor_step d.procs in
-    let shares = shares_in-append weight m d.procs d.lanes fs gs in
-    let olds = smp-shares-append weight m d.procs first second in
-    let one = h.share in
-    let two = k.share in (
+    let old = smp.factor_step d.procs in (
       λ x.
           ap (λ ss. all_on m ss x) (map-append step fs gs)
           ∙ all_on-append m (map step fs) (map step gs) x
           ∙ ap (all_on m (map step gs)) (h.meaning x)
           ∙ k.meaning (all_on m (map old first) x)
           ∙ sym (ap (λ ss. all_on m ss x) (map-append old first second) ∙ all_on-append m (map old first) (map old second) x),
-      omega (arith, shares, olds, one, two),
+      h.share,
+      k.share,
     )
 
 layout-keeps : (weight m : ℕ) (h : Target) (l : Layout) → CanShareLayout h l →
@@ -95,7 +89,7 @@ whole-keeps : (weight m : ℕ) (h : Target) (w : Whole) → CanShareLayout h w.l
 whole-keeps weight m h w shares =
     let phases = layout-keeps weight m h w.layout shares in (
       λ x. ap (closed_on m h.size w.factor) (phases.0 x),
-      ap (λ share. share + closing_cost weight h.size w.factor / h.procs) phases.1,
+      ap₂ (λ a b. smp.by_phase h.procs a (b + closing_cost weight h.size w.factor / h.procs)) phases.1 phases.2,
     )
 
 pub vec_keeps : VecKeeps

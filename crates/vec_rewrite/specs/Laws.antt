@@ -1,6 +1,6 @@
 -- The laws of formulas for lanes.
 use Rattle.std.specs.Prelude.{◌≡◌, ℕ, ◌*◌, ◌%◌, ◌<◌, true, List, [], ◌∷◌, ◌++◌, All}
-use Rattle.smp_rewrite.specs.Smp.{PlainFactor, blocks, diagonals, move_before, move_after, PlainSmp, smp_on, smp_share}
+use Rattle.smp_rewrite.specs.Smp.{PlainFactor, blocks, diagonals, move_before, move_after, PlainSmp, smp_on, smp_shares}
 use Rattle.smp_rewrite.specs.Cut.{layout_smp, smp_of}
 use Rattle.smp_rewrite.specs.Laws.{step_size, HasEqualParts, IsPermutation, IsDiagonal}
 use Rattle.smp_rewrite.specs.Fits.{CanShareLayout}
@@ -12,7 +12,7 @@ use Rattle.operators.specs.declared.target.Target.{Target}
 use Rattle.operators.specs.declared.tensor_paths.Tensor.TheVariants.{Blocks, Columns}
 use Rattle.operators.specs.TensorPaths.Path.{Path, size_under}
 use Rattle.vec_rewrite.specs.Vectors as vec
-use Rattle.vec_rewrite.specs.Vectors.{PlainVec, vec_steps, vec_on, vec_share}
+use Rattle.vec_rewrite.specs.Vectors.{PlainVec, vec_steps, vec_on, vec_shares}
 use Rattle.vec_rewrite.specs.Turning.{vec_of}
 
 -- the formula of some whole that the machine can share
@@ -33,9 +33,10 @@ HasRows (diagonals s) = Unit {0}
 HasRows (move_before s) = Unit {0}
 HasRows (move_after s) = Unit {0}
 
--- the lanes of a formula do what it does, in as many operations of each processor
+-- the lanes of a formula do what it does, in as many operations of each processor in each phase
 abbrev pub Keeps : ℕ → ℕ → PlainSmp → Type 0
-Keeps weight m f = ((x : List ℕ) → vec_on m (vec_of f) x ≡ smp_on m f x) × (vec_share weight m (vec_of f) ≡ smp_share weight m f)
+Keeps weight m f =
+    ((x : List ℕ) → vec_on m (vec_of f) x ≡ smp_on m f x) × (vec_shares weight m (vec_of f) ≡ smp_shares weight m f)
 
 abbrev pub VecKeeps : Type 0
 VecKeeps = (weight m : ℕ) (h : Target) (f : PlainSmp) → IsSmpOf h f → Keeps weight m f

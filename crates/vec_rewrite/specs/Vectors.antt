@@ -1,7 +1,7 @@
 -- Formulas for lanes: factors that are `A tensor I_v` or tiles L(v * v, v) in each processor's block, diagonals, or moves of whole vectors of v words.
 use Rattle.std.specs.Prelude.{ℕ, ◌+◌, ◌*◌, ◌/◌, List, [], ◌∷◌, ◌++◌, map, Option}
 use Rattle.operators.specs.Operator.{Operator}
-use Rattle.smp_rewrite.specs.Smp.{within}
+use Rattle.smp_rewrite.specs.Smp.{by_phase, within}
 use Rattle.smp_rewrite.specs.LayoutSteps.Meaning.{all_on}
 use Rattle.smp_rewrite.specs.LayoutSteps.Whole.{closed_on, closing_cost}
 use Rattle.operators.specs.declared.target.Target.{Target}
@@ -50,7 +50,9 @@ abbrev pub shares_in : ℕ → ℕ → ℕ → ℕ → List PlainFactor → ℕ
 shares_in weight m p v [] = 0
 shares_in weight m p v (f ∷ fs) = share_of weight m p v f + shares_in weight m p v fs
 
-abbrev pub vec_share : ℕ → ℕ → PlainVec → ℕ
-vec_share weight m g =
-    shares_in weight m g.target.procs g.target.lanes (g.first ++ g.second)
-    + closing_cost weight g.target.size g.closing / g.target.procs
+-- the operations of each processor in each phase
+abbrev pub vec_shares : ℕ → ℕ → PlainVec → List ℕ
+vec_shares weight m g =
+    by_phase g.target.procs (shares_in weight m g.target.procs g.target.lanes g.first)
+    (shares_in weight m g.target.procs g.target.lanes g.second
+    + closing_cost weight g.target.size g.closing / g.target.procs)

@@ -4,13 +4,13 @@
 ghost use Rattle.std.specs.Prelude.{◌≡◌, ◌+◌, ◌*◌, ◌<◌, [], ◌∷◌, ◌++◌, All, IfOk, List, None, OnOk, map, ℕ};
 ghost use Rattle.operators.specs.declared.tensor_paths.Tensor.TheVariants.{Blocks};
 ghost use Rattle.sigma_spl.specs.Shared.Targets.{target_of};
-ghost use Rattle.smp_rewrite.specs.Smp.{smp_on, smp_share, within};
+ghost use Rattle.smp_rewrite.specs.Smp.{smp_on, smp_shares, within};
 ghost use Rattle.smp_rewrite.specs.Views.{plain_factor, plain_smp};
 ghost use Rattle.smp_rewrite.specs.LayoutSteps.Step.{step, turns};
 ghost use Rattle.smp_rewrite.specs.LayoutSteps.Views.{plain_core, plain_step};
 ghost use Rattle.vec_rewrite.specs.Laws.{HasRows, HasRowsUnder, IsLaned, IsSmpOf, PlainSteps, VecKeeps, VecShaped};
 ghost use Rattle.vec_rewrite.specs.Turning.{block_factors, grid_after, grouped, joined, kept, laned, laned_from, narrowed, order_after, parted, phase_of, settled, vec_of};
-ghost use Rattle.vec_rewrite.specs.Vectors.{factor_step, vec_on, vec_share, vec_steps};
+ghost use Rattle.vec_rewrite.specs.Vectors.{factor_step, vec_on, vec_shares, vec_steps};
 ghost use Rattle.vec_rewrite.specs.Views.{plain_vec, plain_vec_factor};
 
 use memory::NoMemory;
@@ -67,8 +67,8 @@ pub fn to_vec(alloc: Global, c: &Ctx, f: SmpSpl) -> Result<VecSpl, NoMemory>
     ensures form { IfOk result (λ g. plain_vec g ≡ vec_of (plain_smp f)) }
     ensures meaning { IfOk result (λ g. (x : List ℕ) →
         vec_on c.now.modulus (plain_vec g) x ≡ smp_on c.now.modulus (plain_smp f) x) }
-    ensures operations { IfOk result (λ g. vec_share c.now.weight c.now.modulus (plain_vec g)
-        ≡ smp_share c.now.weight c.now.modulus (plain_smp f)) }
+    ensures operations { IfOk result (λ g. vec_shares c.now.weight c.now.modulus (plain_vec g)
+        ≡ smp_shares c.now.weight c.now.modulus (plain_smp f)) }
     ensures shape { IfOk result (λ g. IsLaned (plain_vec g)) }
 {
     let formula = lanes_of(alloc, c, f)?;
@@ -335,17 +335,17 @@ fn group_turn(alloc: Global, d: Deal, grid: Grid, rows: u64, cols: u64) -> Resul
     step_within(Tensor::Blocks(d.procs), groups, Core::Turns { rows, cols })
 }
 
-/// For one processor and one lane the steps of a layout stay as they are: a law of the definitions.
+/// For one processor and one lane the steps of a layout stay as they are.
 pub fn plain_steps()
     ensures { PlainSteps }
 {}
 
-/// The lanes of a layout's formula do what it does, in as many operations: a law of the definitions.
+/// The lanes of a layout's formula do what it does, in as many operations.
 pub fn vec_keeps()
     ensures { VecKeeps }
 {}
 
-/// Each factor of a layout's formula is `A tensor I_v` or tiles in blocks of equal size, a diagonal of equal parts, or a permutation of vectors: a law of the definitions.
+/// Each factor of a layout's formula is `A tensor I_v` or tiles in blocks of equal size, a diagonal of equal parts, or a permutation of vectors.
 pub fn vec_shaped()
     ensures { VecShaped }
 {}

@@ -16,26 +16,22 @@ use Rattle.code_gen.proofs.PassActions.Rows.{row_acts}
 use Rattle.code_gen.proofs.PassActions.StraightCopies.{ends_of, copy_body}
 use Rattle.sigma_spl.specs.Counts.{copies_in}
 use Rattle.sigma_spl.specs.Nest.{PlainMultiplier, PlainNest}
+use Rattle.sigma_spl.specs.Shared.Names.{Share}
 
--- what a list of actions counts: its operations, where a product counts as several, and the words that it loads and stores
-pub record Tally : Type 0 where
-  pub operations : ℕ
-  pub loads : ℕ
-  pub stores : ℕ
-
-abbrev pub counts : ℕ → ℕ → ℕ → Tally
+abbrev pub counts : ℕ → ℕ → ℕ → Share
 counts o l s = record { operations = o; loads = l; stores = s }
 
-abbrev pub tally : ℕ → ℕ → List Action → Tally
+-- what a list of actions counts: its operations, where a product counts as several, and the words that it loads and stores
+abbrev pub tally : ℕ → ℕ → List Action → Share
 tally weight lanes actions = counts (lanes * weighted_operations weight actions) (counts_of lanes actions).loads (counts_of lanes actions).stores
 
-pub counts-same : (a b : Tally) → a.operations ≡ b.operations → a.loads ≡ b.loads → a.stores ≡ b.stores → a ≡ b
+pub counts-same : (a b : Share) → a.operations ≡ b.operations → a.loads ≡ b.loads → a.stores ≡ b.stores → a ≡ b
 counts-same a b o l s = ap (λ x. counts x a.loads a.stores) o ∙ ap₂ (λ x y. counts b.operations x y) l s
 
-abbrev pub plus : Tally → Tally → Tally
+abbrev pub plus : Share → Share → Share
 plus a b = counts (a.operations + b.operations) (a.loads + b.loads) (a.stores + b.stores)
 
-abbrev times : ℕ → Tally → Tally
+abbrev times : ℕ → Share → Share
 times n c = counts (n * c.operations) (n * c.loads) (n * c.stores)
 
 -- loops in one another
@@ -76,10 +72,10 @@ module _ (weight lanes : ℕ) where
   -- a load before other actions
   load-first : (r a : ℕ) (xs : List Action) (o l s : ℕ) → tally weight lanes xs ≡ counts o l s → tally weight lanes (Load r a ∷ xs) ≡ counts o (l + lanes) s
   load-first r a xs o l s is =
-      counts-same _ _ (ap (λ n. lanes * n) (zero-add (weighted_operations weight xs)) ∙ ap (λ (z : Tally). z.operations) is) (ap (λ (z : Tally). z.loads + lanes) is) (ap (λ (z : Tally). z.stores) is)
+      counts-same _ _ (ap (λ n. lanes * n) (zero-add (weighted_operations weight xs)) ∙ ap (λ (z : Share). z.operations) is) (ap (λ (z : Share). z.loads + lanes) is) (ap (λ (z : Share). z.stores) is)
 
   -- bodies that all count the same
-  counts-bodies : (n : ℕ) (body : ℕ → List Action) (c : Tally) → ((v : ℕ) → tally weight lanes (body v) ≡ c) → tally weight lanes (bodies n body) ≡ times n c
+  counts-bodies : (n : ℕ) (body : ℕ → List Action) (c : Share) → ((v : ℕ) → tally weight lanes (body v) ≡ c) → tally weight lanes (bodies n body) ≡ times n c
   counts-bodies zero body c each = counts-same _ _ (mul-zero lanes ∙ sym (zero-mul c.operations)) (sym (zero-mul c.loads)) (sym (zero-mul c.stores))
   counts-bodies (suc n) body c each =
       counts-append (bodies n body) (body n)

@@ -1,40 +1,20 @@
 -- The copies of a processor and a lane.
-use Rattle.std.proofs.Common.{◌≡◌, ◌≢◌, ℕ, suc, ◌+◌, ◌*◌, ◌/◌, ◌%◌, ◌<◌, Bool, true, false, arith, refl, sym, ap, ◌∙◌, List, [], ◌∷◌, ◌++◌, drop, subst, mod-lt, div-lt_iff_lt-mul, if◌then◌else◌}
+use Rattle.std.proofs.Common.{◌≡◌, ◌≢◌, ℕ, ◌*◌, ◌/◌, ◌%◌, ◌<◌, Bool, true, false, arith, refl, sym, ap, ◌∙◌, List, [], ◌∷◌, ◌++◌, subst, mod-lt, div-lt_iff_lt-mul, if◌then◌else◌}
 use Rattle.std.proofs.Math.Nat.{div-add-mod'}
 use Rattle.std.specs.Prelude.{◌==◌, slice_index}
 use Rattle.std.proofs.lemmas.Bool.Decides.{nat_tests}
 use Rattle.icode.specs.CodeLaws.Nests.{AreInRange}
+use Rattle.loop_nests.proofs.Frames.{framed, loops-are, one_or_several}
 use Rattle.operators.proofs.Lists.{factor_positive, place_below}
 use Rattle.sigma_spl.specs.Shared.Running.{CanWork, IsFramed, IsCopyOf}
 use Rattle.operators.specs.declared.target.Target.{Target}
-use Rattle.sigma_spl.specs.Shared.Machine.{one_if_several, if_several, first_loop, framed_lanes, loop_counts, item_of, values_of}
+use Rattle.sigma_spl.specs.Shared.Machine.{if_several, loop_counts, item_of, values_of}
 use Rattle.sigma_spl.specs.Copies.{loops_of}
-use Rattle.sigma_spl.specs.Counts.{copies_in}
 use Rattle.sigma_spl.specs.Nest.{PlainNest}
 use Rattle.sigma_spl.specs.Work.{PlainWork, kernel, rows, horner, tile, copy, work_size, vectors_of}
 use Rattle.operators.specs.TensorPaths.Path as paths
 
--- what holds of one and of several
-pub one_or_several : (n : ℕ) (P : Bool → Type 0) → (n ≡ 1 → P true) → (n ≢ 1 → P false) → P (n == 1)
-one_or_several n P one several = pick (n == 1) refl
-  where
-    pick : (b : Bool) → (n == 1) ≡ b → P b
-    pick true e = one (grind (arith, nat_tests, e))
-    pick false e = several (λ is. grind (arith, nat_tests, e, is))
-
 -- ---- a variable that is left out where it has one value
-
-copies-several : (n : ℕ) (counts : List ℕ) → copies_in (if_several n n ++ counts) ≡ n * copies_in counts
-copies-several n counts =
-    one_or_several n (λ b. copies_in ((if b then [] else n ∷ []) ++ counts) ≡ n * copies_in counts)
-    (λ one. let same : copies_in counts ≡ 1 * copies_in counts = omega arith in same ∙ ap (λ k. k * copies_in counts) (sym one))
-    (λ several. refl)
-
-drop-several : (n : ℕ) (counts : List ℕ) (more : ℕ) → drop (one_if_several n + more) (if_several n n ++ counts) ≡ drop more counts
-drop-several n counts more =
-    one_or_several n (λ b. drop ((if b then 0 else 1) + more) ((if b then [] else n ∷ []) ++ counts) ≡ drop more counts)
-    (λ one. let none : 0 + more ≡ more = omega arith in ap (λ k. drop k counts) none)
-    (λ several. let next : 1 + more ≡ suc more = omega arith in ap (λ k. drop k (n ∷ counts)) next)
 
 range-several : (n : ℕ) (counts : List ℕ) (v : ℕ) (vs : List ℕ) → v < n → AreInRange counts vs → AreInRange (if_several n n ++ counts) (if_several n v ++ vs)
 range-several n counts v vs below range =
@@ -73,36 +53,7 @@ same_value n v q vs is = one_or_several n (λ b. (if b then [] else v ∷ []) ++
 
 -- ---- all variables of a nest
 
--- the counts of the processors and lanes, before those of the loops
-abbrev pub framed : Target → PlainWork → List ℕ → List ℕ
-framed c w loops = if_several c.procs c.procs ++ (framed_lanes c w ++ loops)
-
--- how many copies a processor has for each of its values of the loops
-abbrev pub copies_beside : Target → PlainWork → ℕ
-copies_beside c (tile lanes) = 1
-copies_beside c w = c.lanes
-
 module _ (c : Target) where
-  copies-lanes : (w : PlainWork) (loops : List ℕ) → copies_in (framed_lanes c w ++ loops) ≡ copies_beside c w * copies_in loops
-  copies-lanes (kernel trees) loops = copies-several c.lanes loops
-  copies-lanes (rows root size) loops = copies-several c.lanes loops
-  copies-lanes (horner root size) loops = copies-several c.lanes loops
-  copies-lanes (tile lanes) loops = omega arith
-  copies-lanes (copy size) loops = copies-several c.lanes loops
-
-  pub copies-framed : (w : PlainWork) (loops : List ℕ) → copies_in (framed c w loops) ≡ c.procs * (copies_beside c w * copies_in loops)
-  copies-framed w loops = copies-several c.procs (framed_lanes c w ++ loops) ∙ ap (λ n. c.procs * n) (copies-lanes w loops)
-
-  drop-lane : (loops : List ℕ) → drop (one_if_several c.lanes) (if_several c.lanes c.lanes ++ loops) ≡ loops
-  drop-lane loops = let all : one_if_several c.lanes ≡ one_if_several c.lanes + 0 = omega arith in ap (λ n. drop n (if_several c.lanes c.lanes ++ loops)) all ∙ drop-several c.lanes loops 0
-
-  loops-framed : (w : PlainWork) (loops : List ℕ) → drop (first_loop c w) (framed c w loops) ≡ loops
-  loops-framed (kernel trees) loops = drop-several c.procs (if_several c.lanes c.lanes ++ loops) (one_if_several c.lanes) ∙ drop-lane loops
-  loops-framed (rows root size) loops = drop-several c.procs (if_several c.lanes c.lanes ++ loops) (one_if_several c.lanes) ∙ drop-lane loops
-  loops-framed (horner root size) loops = drop-several c.procs (if_several c.lanes c.lanes ++ loops) (one_if_several c.lanes) ∙ drop-lane loops
-  loops-framed (tile lanes) loops = drop-several c.procs loops 0
-  loops-framed (copy size) loops = drop-several c.procs (if_several c.lanes c.lanes ++ loops) (one_if_several c.lanes) ∙ drop-lane loops
-
   both-range : (loops : List ℕ) (q lane : ℕ) (vs : List ℕ) → q < c.procs → lane < c.lanes → AreInRange loops vs →
       AreInRange (if_several c.procs c.procs ++ (if_several c.lanes c.lanes ++ loops)) (if_several c.procs q ++ (if_several c.lanes lane ++ vs))
   both-range loops q lane vs part there range = range-several c.procs (if_several c.lanes c.lanes ++ loops) q (if_several c.lanes lane ++ vs) part (range-several c.lanes loops lane vs there range)
@@ -206,10 +157,6 @@ on_lane c (tile v) loops q us i can range first below =
 -- ---- a nest
 
 module _ (c : Target) (p : PlainNest) (f : IsFramed c p) where
-  -- what the loops of a nest run over
-  pub loops-are : loop_counts c p ≡ f.loops
-  loops-are = ap (drop (first_loop c p.work)) f.counts ∙ loops-framed c p.work f.loops
-
   -- the values of a processor, a lane and loops are those of a copy of the processor
   pub copy-framed : (q lane : ℕ) (vs : List ℕ) → q < c.procs → lane < c.lanes → AreInRange f.loops vs → IsCopyOf c p q (values_of c p.work q lane vs)
   copy-framed q lane vs part there range =
@@ -223,7 +170,7 @@ module _ (c : Target) (p : PlainNest) (f : IsFramed c p) where
       on_lane c p.work f.loops q us i can (subst (λ counts. AreInRange counts us) f.counts (in_counts p.counts us mine.in_range)) mine.processor below
 
   pub in_code : (vs : List ℕ) → AreInRange f.loops vs → AreInRange (loop_counts c p) vs
-  in_code vs range = subst (λ counts. AreInRange counts vs) (sym loops-are) range
+  in_code vs range = subst (λ counts. AreInRange counts vs) (sym (loops-are c p f)) range
 
   pub of_code : (vs : List ℕ) → AreInRange (loop_counts c p) vs → AreInRange f.loops vs
-  of_code vs range = subst (λ counts. AreInRange counts vs) loops-are range
+  of_code vs range = subst (λ counts. AreInRange counts vs) (loops-are c p f) range

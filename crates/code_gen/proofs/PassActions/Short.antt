@@ -13,11 +13,13 @@ use Rattle.sigma_spl.specs.Shared.Running.{CanRun, CanRunNest, CanWork}
 use Rattle.operators.specs.declared.target.Target.{Target}
 use Rattle.sigma_spl.specs.Shared.Machine.{loop_counts}
 use Rattle.sigma_spl.specs.Shared.Costs.{pass_cost, pass_loads}
+use Rattle.sigma_spl.specs.Shared.Names.{Share}
+use Rattle.loop_nests.proofs.Shares.{runs_have_shares}
 use Rattle.code_gen.proofs.PassActions.Copies.{nest-can}
-use Rattle.code_gen.proofs.PassActions.Counting.{Tally, counts-append, counts-code, tally}
+use Rattle.code_gen.proofs.PassActions.Counting.{counts-append, counts-code, tally}
 use Rattle.code_gen.proofs.PassActions.Fillings.{working}
 use Rattle.code_gen.proofs.PassActions.KernelActions.{code-length}
-use Rattle.code_gen.proofs.PassActions.PassCounts.{counts-are, stores-are}
+use Rattle.code_gen.proofs.PassActions.PassCounts.{pass-counts}
 use Rattle.code_gen.proofs.PassActions.Rows.{row_acts}
 use Rattle.code_gen.proofs.PassActions.StraightCopies.{ends_of, copy_body}
 use Rattle.sigma_spl.specs.Nest.{PlainMultiplier, PlainNest}
@@ -36,9 +38,9 @@ module _ (lanes : ℕ) (some : 0 < lanes) where
   bound-append : (xs ys : List Action) → bound (xs ++ ys) ≡ bound xs + bound ys
   bound-append xs ys =
       let all = counts-append 1 lanes xs ys in
-      let o = ap (λ (k : Tally). k.operations) all in
-      let l = ap (λ (k : Tally). k.loads) all in
-      let s = ap (λ (k : Tally). k.stores) all in
+      let o = ap (λ (k : Share). k.operations) all in
+      let l = ap (λ (k : Share). k.loads) all in
+      let s = ap (λ (k : Share). k.stores) all in
       omega arith
 
   room-append : (a b : ℕ) (xs ys : List Action) → HasRoom a xs → HasRoom b ys → HasRoom (a + b) (xs ++ ys)
@@ -66,7 +68,7 @@ module _ (lanes : ℕ) (some : 0 < lanes) where
   room-code code =
       let long = code-length lanes code in
       let counts = counts-code 1 lanes (code_cost 1 code) code refl in
-      let o = ap (λ (k : Tally). k.operations) counts ∙ mul_comm lanes (code_cost 1 code) in
+      let o = ap (λ (k : Share). k.operations) counts ∙ mul_comm lanes (code_cost 1 code) in
       let several : code_cost 1 code * 1 ≤ code_cost 1 code * lanes = mul-le-mul_left (code_cost 1 code) some in
       omega (arith, long, o, several)
 
@@ -131,5 +133,7 @@ short_of procs o l s n cost loads size low co lo si =
 -- all processors together
 pub pass-short : (c : Target) (zs : List PlainNest) → CanRun c zs → (source target q : ℕ) → c.procs * length (pass_acts c zs source target q) ≤ pass_cost 1 c.modulus zs + pass_loads zs + 2 * c.size
 pass-short c zs can source target q =
-    let are = counts-are 1 c can.lanes can.modulus source target q zs can in
-    short_of c.procs _ _ _ (length (pass_acts c zs source target q)) _ _ _ (nests-room c can.lanes source target q zs (nest-can c zs can)) are.operations are.loads (stores-are 1 c can.lanes can.modulus source target q zs can)
+    let counts = pass-counts 1 c can.lanes can.modulus source target q zs can.nests in
+    let shares = runs_have_shares c 1 zs can in
+    short_of c.procs _ _ _ (length (pass_acts c zs source target q)) _ _ _ (nests-room c can.lanes source target q zs (nest-can c zs can))
+    (ap (λ (s : Share). c.procs * s.operations) counts ∙ shares.operations) (ap (λ (s : Share). c.procs * s.loads) counts ∙ shares.loads) (ap (λ (s : Share). c.procs * s.stores) counts ∙ shares.stores)

@@ -18,7 +18,8 @@ use Rattle.code_gen.proofs.PassCode.Coded.{IsCoded, coded}
 use Rattle.code_gen.proofs.PassCode.Emits.{Emits, emits-nested}
 use Rattle.code_gen.proofs.PassCode.Emitted.{IsLoadedAt, IsStoredAt, emits-made, emits-tile, emits-rows, emits-items, emits-term, emits-horner}
 use Rattle.code_gen.proofs.PassActions.Fillings.{working}
-use Rattle.code_gen.proofs.PassActions.Framed.{copy-framed, in_counts, item-below, loops-are, of_code}
+use Rattle.code_gen.proofs.PassActions.Framed.{copy-framed, in_counts, item-below, of_code}
+use Rattle.loop_nests.proofs.Frames.{loops-are}
 use Rattle.code_gen.proofs.PassCode.Places.{IsFor, start_of}
 use Rattle.code_gen.proofs.PassCode.SharedTables.{Extends, number-stays, number-there, with_table-extends}
 use Rattle.code_gen.proofs.PassCode.Variables.{below-limits, length-range, values-append}

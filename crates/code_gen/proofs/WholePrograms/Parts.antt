@@ -108,9 +108,7 @@ module _ (c : Target) (enough : c.size ≤ whole_lines c.size c.line) (code : Co
       let runs = runs-of c p known in
       record {
         stays = pass-stays c p known q low (array_start words source) (array_start words target);
-        operations = λ weight counted. runs.operations weight (array_start words source) (array_start words target) q counted low;
-        loads = runs.loads (array_start words source) (array_start words target) q low;
-        stores = runs.stores (array_start words source) (array_start words target) q low;
+        counts = λ weight some. runs.counts weight (array_start words source) (array_start words target) q some low;
       }
 
   -- a phase's parts before those of later phases

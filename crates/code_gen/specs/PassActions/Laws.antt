@@ -6,6 +6,7 @@ use Rattle.icode.specs.Machine.{Local, effects, counts_of, weighted}
 use Rattle.code_gen.specs.PassActions.Acts.{pass_acts, pass_registers}
 use Rattle.operators.specs.declared.target.Target.{Target}
 use Rattle.sigma_spl.specs.Shared.Costs.{pass_cost, pass_loads}
+use Rattle.sigma_spl.specs.Shared.Names.{Share, share_of}
 use Rattle.sigma_spl.specs.Nest.{PlainNest, nests_on}
 use Rattle.sigma_spl.specs.Shared.Running.{CanRun, IsLoadedBy, IsStoredBy}
 
@@ -37,12 +38,16 @@ pub record IsFit (regs lanes modulus : ℕ) (action : Action) : Type 0 where
   pub registers : RegistersFit regs lanes action
   pub factors : FactorsFit modulus action
 
--- A processor's actions leave what the pass makes of its array, at an equal share of its counts, whatever a product counts
+-- what a list of actions counts, where a product counts as several
+abbrev pub counted : ℕ → ℕ → List Action → Share
+counted weight lanes actions =
+    let counts = counts_of lanes actions in
+    record { operations = weighted weight counts; loads = counts.loads; stores = counts.stores }
+
+-- A processor's actions leave what the pass makes of its array, at the counts of its share, whatever a product counts
 pub record Runs (h : Target) (zs : List PlainNest) : Type 0 where
   pub leaves : (source target q : ℕ) (x : List ℕ) (s : Local) → q < h.procs → AreApart h.size source target → CanBegin h zs source target q x s → Leaves h zs source target q x s
-  pub operations : (weight source target q : ℕ) → 0 < weight → q < h.procs → h.procs * weighted weight (counts_of h.lanes (pass_acts h zs source target q)) ≡ pass_cost weight h.modulus zs
-  pub loads : (source target q : ℕ) → q < h.procs → h.procs * (counts_of h.lanes (pass_acts h zs source target q)).loads ≡ pass_loads zs
-  pub stores : (source target q : ℕ) → q < h.procs → h.procs * (counts_of h.lanes (pass_acts h zs source target q)).stores ≡ h.size
+  pub counts : (weight source target q : ℕ) → 0 < weight → q < h.procs → counted weight h.lanes (pass_acts h zs source target q) ≡ share_of h weight zs
   pub fit : (source target q : ℕ) → q < h.procs → All (IsFit (pass_registers h.modulus zs) h.lanes h.modulus) (pass_acts h zs source target q)
   pub short : (source target q : ℕ) → q < h.procs → h.procs * length (pass_acts h zs source target q) ≤ pass_cost 1 h.modulus zs + pass_loads zs + 2 * h.size
 

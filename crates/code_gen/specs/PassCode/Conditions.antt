@@ -1,5 +1,5 @@
 -- Passes that can be written as statements, and what the statements are.
-use Rattle.std.specs.Prelude.{◌≡◌, ℕ, ◌+◌, ◌^◌, ◌<◌, ◌≤◌, ◌++◌, IsTrue, List, [], ◌∷◌, length, slice_index, slice_index_or, All, Some}
+use Rattle.std.specs.Prelude.{◌≡◌, ℕ, ◌+◌, ◌^◌, ◌<◌, ◌≤◌, ◌++◌, IsTrue, List, [], ◌∷◌, length, All, Some}
 use Rattle.icode.specs.Actions.{Step, actions_of, array_start, steps_of_body}
 use Rattle.icode.specs.Limits.{is_body_within, is_expr_within}
 use Rattle.icode.specs.Machine.{whole_lines}
@@ -7,17 +7,16 @@ use Rattle.icode.specs.Plain.{PlainProgram}
 use Rattle.icode.specs.declared.program.Array.{Array}
 use Rattle.code_gen.specs.PassActions.Acts.{pass_acts, pass_registers}
 use Rattle.code_gen.specs.PassCode.Expressions.{factor_at, expr_of}
+use Rattle.sigma_spl.specs.Shared.Ready.{LoadsAlike}
 use Rattle.sigma_spl.specs.Shared.Running.{CanRun}
 use Rattle.operators.specs.declared.target.Target.{Target}
 use Rattle.sigma_spl.specs.Shared.Machine.{PlainFrame, frame_of, loop_counts}
 use Rattle.code_gen.specs.PassCode.Statements.{pass_body, tables_after}
-use Rattle.sigma_spl.specs.Copies.{loops_of}
 use Rattle.sigma_spl.specs.Good.{NamesItems}
 use Rattle.sigma_spl.specs.Merge.{limits_of}
 use Rattle.sigma_spl.specs.Nest.{PlainMultiplier, PlainNest, factor_count}
 use Rattle.sigma_spl.specs.Work.{PlainWork, rows, horner, work_size}
-use Rattle.perm_algebra.specs.Affine.{Sum, constant, variable, remainder, quotient, top, value}
-use Rattle.operators.specs.TensorPaths.Path.{AreInRange}
+use Rattle.perm_algebra.specs.Affine.{Sum, constant, variable, remainder, quotient, top}
 
 -- ---- conditions
 
@@ -56,16 +55,6 @@ abbrev pub stores_inside : PlainWork → ℕ
 stores_inside (rows root size) = 1
 stores_inside (horner root size) = 1
 stores_inside w = 0
-
-abbrev pub LoadsEachRow : PlainNest → Type 0
-LoadsEachRow z = (vs : List ℕ) (row k : ℕ) → AreInRange (loops_of z.counts) vs → row < work_size z.work → k < work_size z.work →
-    value (slice_index_or z.gathers 0 (constant 0)) (slice_index (vs ++ row ∷ k ∷ [])) ≡ value (slice_index_or z.gathers 0 (constant 0)) (slice_index (vs ++ 0 ∷ k ∷ []))
-
--- what work by rows loads does not hang on the row: the first variable after those of the loops
-abbrev pub LoadsAlike : PlainNest → PlainWork → Type 0
-LoadsAlike z (rows root size) = LoadsEachRow z
-LoadsAlike z (horner root size) = LoadsEachRow z
-LoadsAlike z w = Unit {0}
 
 pub record CanWriteNest (h : Target) (z : PlainNest) : Type 0 where
   pub gathers : NamesItems z.work z.gathers × AreWithin (limits_of z) (frame_of h z.work) (length (loop_counts h z) + loads_inside z.work) z.gathers

@@ -11,7 +11,8 @@ use Rattle.icode.specs.declared.program.Array.{Array}
 use Rattle.icode.specs.declared.program.Array.TheVariants.{X}
 use Rattle.code_gen.specs.PassCode.Conditions.{CanWritePass}
 use Rattle.operators.specs.declared.target.Target.{Target}
-use Rattle.sigma_spl.specs.Shared.Costs.{pass_cost, pass_loads}
+use Rattle.code_gen.specs.PassActions.Laws.{counted}
+use Rattle.sigma_spl.specs.Shared.Names.{share_of}
 use Rattle.code_gen.specs.PassCode.Program.{written_array, tables_of_phases, program_of}
 use Rattle.sigma_spl.specs.Good.{IsVector}
 use Rattle.sigma_spl.specs.Merged.{PlainMerged, merged_on}
@@ -39,12 +40,10 @@ Stays n lanes source target (Load r a) = (source ≤ a) × (a + lanes ≤ source
 Stays n lanes source target (Store a r) = (target ≤ a) × (a + lanes ≤ target + n)
 Stays n lanes source target _ = Unit {0}
 
--- a processor's part of a pass: an equal share of its counts, whatever a product counts, between its two arrays
+-- a processor's part of a pass: exactly its share of what the pass counts, whatever a product counts, between its two arrays
 pub record IsPart (h : Target) (zs : List PlainNest) (source target : ℕ) (actions : List Action) : Type 0 where
   pub stays : All (Stays h.size h.lanes source target) actions
-  pub operations : (weight : ℕ) → 0 < weight → h.procs * weighted weight (counts_of h.lanes actions) ≡ pass_cost weight h.modulus zs
-  pub loads : h.procs * (counts_of h.lanes actions).loads ≡ pass_loads zs
-  pub stores : h.procs * (counts_of h.lanes actions).stores ≡ h.size
+  pub counts : (weight : ℕ) → 0 < weight → counted weight h.lanes actions ≡ share_of h weight zs
 
 -- a part for each pass, of which the first has number t and reads the source: the others read what the one before wrote
 abbrev pub AreParts : Target → ℕ → Array → List (List PlainNest) → List (List Action) → Type 0

@@ -8,7 +8,7 @@ use Rattle.std.specs.List.{All}
 use Rattle.std.specs.declared.option.Option.{Option}
 use Rattle.std.specs.Io.KnownBytes.{Appends, IsAtEnd}
 use Rattle.matrix_meaning.specs.Convolution.{convolution}
-use Rattle.generate.specs.ConvLetters.{conv_program}
+use Rattle.generate.specs.Emission.Whole.{conv_emission}
 use Rattle.generate.specs.ConvPlanned.{IsConvPlanned}
 use Rattle.plan_search.specs.declared.convolving.ConvFault.{ConvFault}
 use Rattle.plan_search.specs.declared.convolving.ConvFault.TheVariants as conv
@@ -156,7 +156,7 @@ convolves_lacking code plan request old new before after out fault chosen start 
 -- all of it is written
 listing_told : (plan : Planned) (cut : Cut) (old new : Fed) (before after out out' : Option (List ℕ)) (h listing : List ℕ)
     → cut.size ≡ plan.request.size → HasCome plan.request.modulus cut old new before after (h ∷ []) → old.taken ≤ limit → new.taken ≤ limit → (cut.ended ≡ true → IsAtEnd after)
-    → listing ≡ listing_of (conv_program plan.request plan.tree h) → Appends out out' listing
+    → listing ≡ listing_of (conv_emission plan.request plan.tree h) → Appends out out' listing
     → ToldMeets (convolver_work plan (limit - old.taken)) before after out out' Success
 listing_told plan cut old new None after out out' h listing size come start within end same wrote = tt
 listing_told plan cut old new (Some bytes) None out out' h listing size come start within end same wrote = absurd come.progress.consumed
@@ -170,7 +170,7 @@ listing_told plan cut old new (Some bytes) (Some rest) out out' h listing size c
         listing,
         (
           sym (ap (status_by the_first request.size (data_answer request.size room bytes)) seen),
-          subst (λ vectors. by_first (λ x later text. text ≡ listing_of (conv_program request plan.tree x)) vectors listing) (sym seen) same,
+          subst (λ vectors. by_first (λ x later text. text ≡ listing_of (conv_emission request plan.tree x)) vectors listing) (sym seen) same,
         ),
         wrote,
       );
@@ -189,7 +189,7 @@ convolves_listing request cut old new before after out out' h listing program si
 -- a front of it is written
 listing_cut : (plan : Planned) (cut : Cut) (old new : Fed) (before after out out' : Option (List ℕ)) (h listing : List ℕ)
     → cut.size ≡ plan.request.size → 0 < plan.request.size → HasCome plan.request.modulus cut old new before after (h ∷ []) → new.taken ≤ limit → (cut.ended ≡ true → IsAtEnd after)
-    → listing ≡ listing_of (conv_program plan.request plan.tree h) → AppendsPrefix out out' listing
+    → listing ≡ listing_of (conv_emission plan.request plan.tree h) → AppendsPrefix out out' listing
     → ToldMeets (convolver_work plan (limit - old.taken)) before after out out' WriteFault
 listing_cut plan cut old new None after out out' h listing size some come within end same wrote = tt
 listing_cut plan cut old new (Some bytes) None out out' h listing size some come within end same wrote = absurd come.progress.consumed
@@ -210,7 +210,7 @@ listing_cut plan cut old new (Some bytes) (Some rest) out out' h listing size so
         (
           fine_by old.taken new.taken r.read r.answer.0 within r.answer.1,
           r.answer.2,
-          subst (λ vectors. by_first (λ x later text. text ≡ listing_of (conv_program request plan.tree x)) vectors listing) (sym seen) same,
+          subst (λ vectors. by_first (λ x later text. text ≡ listing_of (conv_emission request plan.tree x)) vectors listing) (sym seen) same,
         ),
         wrote,
       );

@@ -248,21 +248,46 @@ module _ (read : Place ℕ → Result (Formula × Place ℕ) (Stop TextFault)) (
 
   -- behind each head of a part stands one that is ready
   heads_ready : EachHead (λ h. (place : Place ℕ) (y : Formula × Place ℕ) → arguments_by read h place ≡ Ok y → IsReady y.0) heads
-  heads_ready =
-      (λ place y e. made_ready one_size_at Identity place y identity_ready e,
-      (λ place y e. made_ready size_value_at (λ x. Fourier x.0 x.1) place y fourier_ready e,
-      (λ place y e. made_ready one_size_at Hadamard place y hadamard_ready e,
-      (λ place y e. made_ready sizes_value_at (λ x. Twiddles x.0 x.1 x.2) place y twiddles_ready e,
-      (λ place y e. made_ready values_at Diagonal place y diagonal_ready e,
-      (λ place y e. made_ready two_sizes_at (λ x. Stride x.0 x.1) place y stride_ready e,
-      (λ place y e. made_ready values_at Permutation place y permutation_ready e,
-      (λ place y e. made_ready two_sizes_at (λ x. GoodThomasIn x.0 x.1) place y into_ready e,
-      (λ place y e. made_ready two_sizes_at (λ x. GoodThomasOut x.0 x.1) place y out_ready e,
-      (λ place y e. two_ready Product product_ready place y e,
-      (λ place y e. left_read place y e,
-      (λ place y e. right_read place y e,
-      (λ place y e. two_ready DirectSum sum_ready place y e,
-      tt)))))))))))))
+  heads_ready = (
+    λ place y e. made_ready one_size_at Identity place y identity_ready e,
+    (
+      λ place y e. made_ready size_value_at (λ x. Fourier x.0 x.1) place y fourier_ready e,
+      (
+        λ place y e. made_ready one_size_at Hadamard place y hadamard_ready e,
+        (
+          λ place y e. made_ready sizes_value_at (λ x. Twiddles x.0 x.1 x.2) place y twiddles_ready e,
+          (
+            λ place y e. made_ready values_at Diagonal place y diagonal_ready e,
+            (
+              λ place y e. made_ready two_sizes_at (λ x. Stride x.0 x.1) place y stride_ready e,
+              (
+                λ place y e. made_ready values_at Permutation place y permutation_ready e,
+                (
+                  λ place y e. made_ready two_sizes_at (λ x. GoodThomasIn x.0 x.1) place y into_ready e,
+                  (
+                    λ place y e. made_ready two_sizes_at (λ x. GoodThomasOut x.0 x.1) place y out_ready e,
+                    (
+                      λ place y e. two_ready Product product_ready place y e,
+                      (
+                        λ place y e. left_read place y e,
+                        (
+                          λ place y e. right_read place y e,
+                          (
+                            λ place y e. two_ready DirectSum sum_ready place y e,
+                            tt,
+                          ),
+                        ),
+                      ),
+                    ),
+                  ),
+                ),
+              ),
+            ),
+          ),
+        ),
+      ),
+    ),
+  )
 
 never_too_deep : (r : Result _ ℕ) (y : Formula × Place ℕ) → too_deep r ≡ Ok y → ⊥
 never_too_deep (Ok x) y e = absurd (cc)

@@ -1,6 +1,6 @@
 -- The parts of a call that goes by a list.
 use Rattle.std.specs.Prelude.{◌≡◌, Bool, true, false, List, ℕ, Ok}
-use Rattle.generate.specs.ConvLetters.{conv_program}
+use Rattle.generate.specs.Emission.Whole.{conv_emission}
 use Rattle.generate.specs.ConvPlanned.{IsConvPlanned}
 use Rattle.generate.specs.Convolver.{IsConvolver}
 use Rattle.icode.specs.Program.{plain_program}
@@ -16,7 +16,7 @@ use Rattle.commands.specs.Equations.Orders.{Planned}
 pub record IsListProgram (request : Request) (h : List ℕ) (program : Program) : Type 0 where
   pub tree : Breakdown
   pub planned : IsConvPlanned request (Ok tree)
-  pub letters : plain_program program ≡ conv_program request tree h
+  pub letters : plain_program program ≡ conv_emission request tree h
   pub convolver : IsConvolver request tree h (plain_program program)
 
 -- what is done by the list: it is convolved with, or the program that does so is written

@@ -1,6 +1,6 @@
 -- What is right for `convolve`.
 use Rattle.std.specs.Prelude.{◌≡◌, ℕ, Bool, true, false, List}
-use Rattle.generate.specs.ConvLetters.{conv_program}
+use Rattle.generate.specs.Emission.Whole.{conv_emission}
 use Rattle.listing_text.specs.Listing.{listing_of}
 use Rattle.matrix_meaning.specs.Convolution.{convolution}
 use Rattle.request_text.specs.Schedule.{Plan as Turns}
@@ -23,7 +23,7 @@ convolve_outcomes schedule = by_front (line 256) (conv_planned (named schedule))
 -- with `--code`: the listing of the program that convolves with h
 abbrev pub convolver_work : Planned → Work
 convolver_work plan = mapping the_first plan.request.size plan.request.modulus
-    (by_first (λ h later text. text ≡ listing_of (conv_program plan.request plan.tree h)))
+    (by_first (λ h later text. text ≡ listing_of (conv_emission plan.request plan.tree h)))
 
 abbrev pub convolver_outcomes : Turns → Outcomes
 convolver_outcomes schedule = by_front (line 256) (conv_planned (named schedule)) convolver_work

@@ -1,7 +1,7 @@
 -- What is right for a command that goes by a request.
 use Rattle.std.specs.Prelude.{◌≡◌, ℕ, List, Ok}
 use Rattle.c_print.specs.CText.{c_text_of}
-use Rattle.generate.specs.Letters.{program_for}
+use Rattle.generate.specs.Emission.Whole.{emission}
 use Rattle.listing_text.specs.Listing.{listing_of}
 use Rattle.matrix_meaning.specs.declared.Request.{Request}
 use Rattle.plan_cert.specs.Table.{IsTableText}
@@ -45,8 +45,8 @@ outcomes_by_request Judges = check_outcomes
 abbrev pub IsDocumentText : Document → Planned → List ℕ → Type 0
 IsDocumentText Plan plan text = text ≡ plan_text plan.request plan.tree
 IsDocumentText Formula plan text = text ≡ formula_text plan
-IsDocumentText Code plan text = text ≡ listing_of (program_for plan.request plan.tree)
-IsDocumentText C plan text = text ≡ c_text_of (program_for plan.request plan.tree)
+IsDocumentText Code plan text = text ≡ listing_of (emission plan.request plan.tree)
+IsDocumentText C plan text = text ≡ c_text_of (emission plan.request plan.tree)
 IsDocumentText Cert plan text = IsTableText plan.request text
 IsDocumentText (Sample seed schedule) plan text = text ≡ sample_lines plan seed
 

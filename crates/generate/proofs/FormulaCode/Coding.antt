@@ -8,26 +8,24 @@ use Rattle.generate.specs.FormulaCode.Letters.{program_as_it_stands}
 use Rattle.sigma_lower.specs.OnePhase.{formula_sigma}
 use Rattle.sigma_lower.specs.Terms.{term_of}
 use Rattle.generate.specs.FormulaPasses.Computes.{formula_merged}
-use Rattle.generate.proofs.FormulaPasses.Formulas.{formulas_can_program}
+use Rattle.generate.proofs.FormulaPasses.Formulas.{formulas_are_ready}
 use Rattle.generate.proofs.FormulaPasses.Programs.{formulas_compute}
 use Rattle.icode.specs.Plain.{PlainProgram}
+use Rattle.icode.specs.Actions.{plain_code}
 use Rattle.icode.specs.Machine.{padded, results, words_at}
-use Rattle.icode.specs.Program.{code_of, plain_program}
-use Rattle.icode.specs.declared.program.Program.{Program}
 use Rattle.icode.proofs.Lists.{code_is}
 use Rattle.icode.proofs.Runs.{memory_of_runs}
 use Rattle.loop_merge.specs.JoinedCopies.Joined.{all_joined}
-use Rattle.loop_merge.proofs.JoinedCopies.Passes.{joined-order, joined_are_plain}
+use Rattle.loop_merge.proofs.JoinedCopies.Passes.{joined-order}
 use Rattle.sigma_spl.specs.Shared.Machine.{plain_machine}
-use Rattle.code_gen.specs.PassCode.Contract.{CanProgram, Performs}
+use Rattle.code_gen.specs.PassCode.Contract.{Performs}
+use Rattle.sigma_spl.specs.Shared.Ready.{IsReady}
 use Rattle.code_gen.specs.PassCode.Program.{program_of}
 use Rattle.sigma_spl.specs.Merge.{passes_of}
 use Rattle.sigma_spl.specs.Merged.{PlainMerged}
 use Rattle.sigma_spl.specs.Nest.{PlainNest}
 use Rattle.sigma_spl.specs.Sigma.{merged_of}
-use Rattle.code_gen.specs.Conditions.{machine_for}
-use Rattle.code_gen.specs.WholePrograms.Plain.{in_order}
-use Rattle.code_gen.proofs.WholePrograms.Plain.{plain-can}
+use Rattle.loop_merge.specs.PlainPasses.{in_order}
 use Rattle.spl_ast.specs.Formula.{Formula, parts_of, size_of}
 use Rattle.spl_ast.specs.Shape.{IsShaped}
 
@@ -45,22 +43,23 @@ formula_joined m f =
     let ps = passes_of (size_of f) (term_of m [] f) in
     ap (in_phase (size_of f)) (ap all_joined (same-order ps) ∙ sym (joined-order ps))
 
-pub can_emit : (m : ℕ) (f : Formula) (g : PlainMerged) → 2 ≤ m → m < 2 ^ 62 → IsShaped f → parts_of f ≤ 65536 → g ≡ formula_merged m f → CanProgram (machine_for m 1 g) g
+pub can_emit : (m : ℕ) (f : Formula) (g : PlainMerged) → 2 ≤ m → m < 2 ^ 62 → IsShaped f → parts_of f ≤ 65536 →
+    g ≡ formula_merged m f → IsReady (plain_machine g.size m) g
 can_emit m f g large small shaped few is =
-    subst (λ h. CanProgram (machine_for m 1 h) h) (sym is) (plain-can (size_of f) m (all_joined (passes_of (size_of f) (term_of m [] f))) (joined_are_plain (size_of f) m (passes_of (size_of f) (term_of m [] f)) (formulas_can_program m f large small shaped few)))
+    subst (λ (h : PlainMerged). IsReady (plain_machine h.size m) h) (sym is) (formulas_are_ready m f large small shaped few)
 
 -- ---- code
 
 -- the turns that come first do not matter
-any-turns : (m : ℕ) (f : Formula) (p : Program) → Performs (plain_machine (size_of f) m) (formula_merged m f) (plain_program p) → (x turns : List ℕ) → results (code_of p) x turns ≡ results (code_of p) x []
+any-turns : (m : ℕ) (f : Formula) (p : PlainProgram) → Performs (plain_machine (size_of f) m) (formula_merged m f) p → (x turns : List ℕ) → results (plain_code p) x turns ≡ results (plain_code p) x []
 any-turns m f p performs x turns =
-    let first = memory_of_runs (code_of p) (code_is (plain_program p)) performs.apart x turns in
-    let none = memory_of_runs (code_of p) (code_is (plain_program p)) performs.apart x [] in
-    ap (λ memory. words_at p.size memory (padded (code_of p))) (first ∙ sym none)
+    let first = memory_of_runs (plain_code p) (code_is p) performs.apart x turns in
+    let none = memory_of_runs (plain_code p) (code_is p) performs.apart x [] in
+    ap (λ memory. words_at p.size memory (padded (plain_code p))) (first ∙ sym none)
 
-code-of : (m : ℕ) (f : Formula) (p : Program) → 2 ≤ m → m < 2 ^ 62 → IsShaped f → parts_of f ≤ 65536 → Performs (plain_machine (size_of f) m) (formula_merged m f) (plain_program p) → IsCodeOf m f p
+code-of : (m : ℕ) (f : Formula) (p : PlainProgram) → 2 ≤ m → m < 2 ^ 62 → IsShaped f → parts_of f ≤ 65536 → Performs (plain_machine (size_of f) m) (formula_merged m f) p → IsCodeOf m f p
 code-of m f p large small shaped few performs =
-    let computes = formulas_compute m f (plain_program p) large small shaped few performs in
+    let computes = formulas_compute m f p large small shaped few performs in
     record {
       header = record { size = performs.size; modulus = performs.modulus; procs = performs.procs; line = performs.line; lanes = performs.lanes };
       limits = performs.limits;
@@ -71,10 +70,10 @@ code-of m f p large small shaped few performs =
       operations = computes.cost 1 (omega arith);
     }
 
-pub is_code : (m : ℕ) (f : Formula) (g : PlainMerged) (p : Program) → 2 ≤ m → m < 2 ^ 62 → IsShaped f → parts_of f ≤ 65536 → g ≡ formula_merged m f → Performs (machine_for m 1 g) g (plain_program p) → IsCodeOf m f p
-is_code m f g p large small shaped few is performs = code-of m f p large small shaped few (subst (λ h. Performs (machine_for m 1 h) h (plain_program p)) is performs)
+pub is_code : (m : ℕ) (f : Formula) (g : PlainMerged) (p : PlainProgram) → 2 ≤ m → m < 2 ^ 62 → IsShaped f → parts_of f ≤ 65536 → g ≡ formula_merged m f → Performs (plain_machine g.size m) g p → IsCodeOf m f p
+is_code m f g p large small shaped few is performs = code-of m f p large small shaped few (subst (λ (h : PlainMerged). Performs (plain_machine h.size m) h p) is performs)
 
 -- ---- letters
 
-pub has_letters : (m : ℕ) (f : Formula) (g : PlainMerged) (p : PlainProgram) → g ≡ formula_merged m f → p ≡ program_of (machine_for m 1 g) g → p ≡ program_as_it_stands m f
-has_letters m f g p is written = written ∙ ap (λ h. program_of (machine_for m 1 h) h) is
+pub has_letters : (m : ℕ) (f : Formula) (g : PlainMerged) (p : PlainProgram) → g ≡ formula_merged m f → p ≡ program_of (plain_machine g.size m) g → p ≡ program_as_it_stands m f
+has_letters m f g p is written = written ∙ ap (λ (h : PlainMerged). program_of (plain_machine h.size m) h) is

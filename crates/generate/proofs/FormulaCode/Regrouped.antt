@@ -5,7 +5,7 @@ use Rattle.spl_ast.proofs.BalancedSums.Grouping.{KnowsSums}
 use Rattle.spl_ast.proofs.BalancedSums.Sums.{alike, parts_alike}
 use Rattle.generate.specs.FormulaCode.Code.{IsCodeOf}
 use Rattle.sigma_lower.specs.Operations.{operations}
-use Rattle.icode.specs.declared.program.Program.{Program}
+use Rattle.icode.specs.Plain.{PlainProgram}
 use Rattle.sigma_spl.specs.Good.{IsVector}
 use Rattle.spl_ast.specs.Formula.{Formula, size_of, parts_of}
 use Rattle.spl_ast.specs.Meaning.{IsSameMatrix}
@@ -26,7 +26,7 @@ operations-know weight m = record {
 pub few_parts : (f g : Formula) → summands g ≡ summands f → parts_of f ≤ 65536 → parts_of g ≤ 65536
 few_parts f g same few = omega (arith, parts_alike f g same, few)
 
-pub same_code : (m : ℕ) (f g : Formula) (p : Program) → summands g ≡ summands f → IsSameMatrix m f g → IsCodeOf m g p → IsCodeOf m f p
+pub same_code : (m : ℕ) (f g : Formula) (p : PlainProgram) → summands g ≡ summands f → IsSameMatrix m f g → IsCodeOf m g p → IsCodeOf m f p
 same_code m f g p regrouped same code = record {
   header = record {
     size = code.header.size ∙ same.size;

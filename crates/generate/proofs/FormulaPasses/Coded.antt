@@ -1,5 +1,5 @@
 -- What is known of a nest of a formula's passes, with places within the limits, lets a program be made of it.
-use Rattle.std.proofs.Common.{◌≡◌, ℕ, zero, suc, ◌-◌, ◌*◌, ◌^◌, ◌<◌, ◌≤◌, true, List, [], ◌∷◌, ◌++◌, All, length, map, refl, sym, arith, subst, Some, inl, inr}
+use Rattle.std.proofs.Common.{◌≡◌, ℕ, zero, suc, ◌-◌, ◌*◌, ◌^◌, ◌<◌, ◌≤◌, true, List, [], ◌∷◌, ◌++◌, All, length, map, refl, sym, ap₂, arith, subst, Bool, Some, inl, inr}
 use Rattle.std.specs.Prelude.{◌&&◌, drop, nat_le, nat_lt, slice_index, slice_index_or}
 use Rattle.std.specs.List.{list_all}
 use Rattle.std.proofs.Math.Nat.{mul-le-mul, mul-le-mul_left, mul-le-mul_right, pow-succ'}
@@ -10,8 +10,7 @@ use Rattle.std.proofs.lemmas.List.Elements.{All-nil, All-cons}
 use Rattle.matrix_meaning.specs.declared.Kind.TheVariants.{Dft, Wht, Idft}
 use Rattle.sigma_spl.specs.Shared.Running.{CanWork}
 use Rattle.sigma_spl.specs.Shared.Machine.{plain_machine, first_loop, loop_counts}
-use Rattle.code_gen.specs.PassCode.Conditions.{CanWriteNest, LoadsAlike}
-use Rattle.code_gen.proofs.PassCode.TestedLists.{loads-le, stores-le, sums-written}
+use Rattle.sigma_spl.specs.Shared.Ready.{IsReadyNest, IsSmallWork, LoadsAlike}
 use Rattle.sigma_spl.specs.Copies.{loops_of}
 use Rattle.sigma_spl.specs.Counts.{copies_in}
 use Rattle.sigma_spl.specs.Good.{AreGoodNests, IsGoodNest, NamesItems}
@@ -23,7 +22,7 @@ use Rattle.sigma_spl.proofs.Nests.{alone, one_below, sound-at, with_more}
 use Rattle.sigma_spl.proofs.Walk.{and-left, and-right}
 use Rattle.perm_algebra.specs.Affine.{Sum, constant, levels, parts, peak, top}
 use Rattle.perm_algebra.proofs.AffineLaws.{value-le-top}
-use Rattle.code_gen.specs.WholePrograms.Plain.{IsPlainNest}
+use Rattle.loop_merge.specs.PlainPasses.{IsPlainNest}
 use Rattle.tree_model.specs.Trees.{single, tensor}
 use Rattle.operators.specs.TensorPaths.Path.{AreInRange}
 use Rattle.tree_model.specs.Breakdown.{leaf, node}
@@ -81,13 +80,13 @@ few-loops counts h high =
       | inr short ↦ short
     ]
 
-small-counts : (counts : List ℕ) → AreMany counts → copies_in counts ≤ 1048576 → All (λ c. (1 ≤ c) × (c < 2 ^ 32)) counts
-small-counts [] h high = All-nil (λ c. (1 ≤ c) × (c < 2 ^ 32))
+small-counts : (counts : List ℕ) → AreMany counts → copies_in counts ≤ 1048576 → All (λ c. (1 ≤ c) × (c ≤ 1048576)) counts
+small-counts [] h high = All-nil (λ c. (1 ≤ c) × (c ≤ 1048576))
 small-counts (c ∷ counts) h high =
     let some = some-copies counts h.1 in
     let first : c * 1 ≤ c * copies_in counts = mul-le-mul_left c some in
     let rest : 1 * copies_in counts ≤ c * copies_in counts = mul-le-mul_right (copies_in counts) (omega (arith, h.0)) in
-    All-cons (λ c. (1 ≤ c) × (c < 2 ^ 32)) c counts (omega (arith, h.0), omega (arith, first, high)) (small-counts counts h.1 (omega (arith, rest, high)))
+    All-cons (λ c. (1 ≤ c) × (c ≤ 1048576)) c counts (omega (arith, h.0), omega (arith, first, high)) (small-counts counts h.1 (omega (arith, rest, high)))
 
 -- ---- work
 
@@ -117,6 +116,16 @@ alike-as z (rows root d) is work h = absurd work
 alike-as z (horner root d) is work h = λ vs row k range below under. h vs row k range (subst (λ v. row < work_size v) is below) (subst (λ v. k < work_size v) is under)
 alike-as z (tile v) is work h = tt
 alike-as z (copy d) is work h = tt
+
+-- a kernel is short
+small-as : (w : PlainWork) → IsFormulaWork w → IsSmallWork w
+small-as (kernel (single kind root (leaf d))) h = let few = h.1 in omega (arith, few)
+small-as (kernel (single kind root (node rule a b))) h = absurd h
+small-as (kernel (tensor kind root t others)) h = absurd h
+small-as (rows root d) h = tt
+small-as (horner root d) h = tt
+small-as (tile v) h = tt
+small-as (copy d) h = tt
 
 -- ---- one processor and one lane
 
@@ -154,24 +163,23 @@ module _ (m n : ℕ) (high : n ≤ 1048576) where
     places : (d : PlainMultiplier) → z.multiplier ≡ Some d → list_all (is_limited 64 (factor_count d.factors) (limits_of z)) d.places ≡ true
     places d is = subst (λ o. is_multiplier_within 64 (limits_of z) o ≡ true) is factors
 
-    writes : CanWriteNest (plain_machine n m) z
-    writes =
+    ready : IsReadyNest (plain_machine n m) z
+    ready =
         let deep = shallow in
-        let more = loads-le z.work in
-        let after = stores-le z.work in
         record {
-          gathers = (made.gathers, sums-written 64 n (limits_of z) (plain_machine n m) z.work _ z.gathers (omega (arith, deep, more)) (omega arith) (omega (arith, high)) loads);
-          scatters = (made.scatters, sums-written 64 n (limits_of z) (plain_machine n m) z.work _ z.scatters (omega (arith, deep, after)) (omega arith) (omega (arith, high)) stores);
-          multiplier = λ d is.
-              let one = diagonal d is in
-              let some = one.1.some in
-              let few = one.1.few in
-              (one.0, sums-written 64 (factor_count d.factors) (limits_of z) (plain_machine n m) z.work _ d.places (omega (arith, deep, after)) (omega arith) (omega (arith, few)) (places d is), some, omega (arith, few));
+          gathers = made.gathers;
+          scatters = made.scatters;
+          multiplier = λ d is. let one = diagonal d is in record { named = one.0; some = one.1.some; few = one.1.few };
           alike = alike-as z z.work refl made.work made.alike;
-          items = let few = few-items in omega (arith, few);
+          small = small-as z.work made.work;
+          items = few-items;
           shallow = omega (arith, deep);
-          counts = subst (All (λ c. (1 ≤ c) × (c < 2 ^ 32))) (sym loops) (small-counts z.counts made.counts few-copies);
+          counts = subst (All (λ c. (1 ≤ c) × (c ≤ 1048576))) (sym loops) (small-counts z.counts made.counts few-copies);
         }
+
+    within : is_within 64 n (z ∷ []) ≡ true
+    within =
+        ap₂ (λ (a b : Bool). a && b) (ap₂ (λ (a b : Bool). a && b) (ap₂ (λ (a b : Bool). a && b) loads stores) factors) refl
 
     pub plain-nest : IsPlainNest n m z
     plain-nest =
@@ -180,7 +188,8 @@ module _ (m n : ℕ) (high : n ≤ 1048576) where
           inside = good.inside;
           factors = λ d is vs k range below. factor-below z.counts z.work (factor_count d.factors) d.places vs k made.work (diagonal d is).0 (places d is) range below;
           residues = λ d is i. (diagonal d is).1.residues i;
-          writes = writes;
+          ready = ready;
+        within = within;
         }
 
   pub plain-nests : (zs : List PlainNest) → AreMade m zs → AreGoodNests 0 m n zs → is_within 64 n zs ≡ true → items_of (map (copies_of m) zs) ≤ n → All (IsPlainNest n m) zs

@@ -1,20 +1,15 @@
--- The registers, operations, loads and tables of a formula's passes.
+-- The operations and loads of a formula's passes.
 use Rattle.std.proofs.Common.{◌≡◌, ℕ, zero, suc, ◌+◌, ◌-◌, ◌*◌, ◌/◌, ◌^◌, ◌<◌, ◌≤◌, Bool, true, false, List, [], ◌∷◌, length, map, sym, subst, ap, arith, Option, Some, None, if◌then◌else◌}
 use Rattle.std.specs.Prelude.{◌==◌, max, nat_le, nat_lt}
 use Rattle.std.proofs.Math.Nat.{mul-le-mul, mul-le-mul_left, mul-le-mul_right}
 use Rattle.sigma_lower.specs.Operations as formulas
 use Rattle.sigma_lower.specs.Terms.{halvings}
-use Rattle.kernel_gen.specs.Kernel.{kernel_of}
 use Rattle.tree_model.specs.KernelCosts.{AllowsRoot, kernel_cost, product_cost, products_cost}
 use Rattle.matrix_meaning.specs.declared.Kind.{Kind}
 use Rattle.matrix_meaning.specs.declared.Kind.TheVariants.{Dft, Wht, Idft}
 use Rattle.matrix_meaning.specs.Kind.{entry_of}
 use Rattle.operators.specs.Sum.{sum_below}
-use Rattle.code_gen.specs.PassActions.Acts.{nest_registers, pass_registers, with_multiplier}
 use Rattle.sigma_spl.specs.Shared.Costs.{pass_cost, pass_loads, work_cost, work_loads}
-use Rattle.code_gen.proofs.PassActions.KernelActions.{trees-registers}
-use Rattle.code_gen.specs.PassCode.Program.{tables_through}
-use Rattle.code_gen.specs.PassCode.Statements.{diagonal_of, is_table, one_factor, powers_of, tables_after, tables_of_multiplier, tables_of_nest, tables_of_work, with_diagonal, with_table}
 use Rattle.sigma_spl.specs.Counts.{copies_in, multiplier_cost}
 use Rattle.sigma_spl.specs.Nest.{PlainMultiplier, PlainNest, copies_of}
 use Rattle.sigma_spl.specs.Work.{PlainWork, kernel, rows, horner, tile, copy, work_size}
@@ -23,7 +18,6 @@ use Rattle.tree_model.specs.Trees.{single, tensor}
 use Rattle.spl_ast.specs.Formula.{Formula, Identity, Fourier, Hadamard, Twiddles, Diagonal, Stride, Permutation, GoodThomasIn, GoodThomasOut, Product, TensorLeft, TensorRight, DirectSum, Pending, size_of, parts_of}
 use Rattle.spl_ast.specs.Shape.{IsShaped}
 use Rattle.tree_model.specs.Breakdown.{leaf, node}
-use Rattle.generate.proofs.FormulaPasses.Counted.{work_tables, diagonal_tables, nests_tables, all_tables}
 use Rattle.generate.proofs.FormulaPasses.Made.{IsFormulaWork, AreMade}
 
 -- ---- kernels of leaves
@@ -48,43 +42,10 @@ leaf-size (suc d) x h =
     let square : suc d * (suc d - 1 + 1) ≡ suc d * suc d = ap (λ n. suc d * n) next in
     omega (arith, h, next, square)
 
--- operations and items
-leaf-cost : (m d root : ℕ) (kind : Kind) → kernel_cost 1 m kind (leaf d) root + d ≤ 2 * (d * d)
-leaf-cost m d root kind =
-    leaf-size d (products_cost 1 m 0 (entry_of kind m d root) d d) (products-le m d (entry_of kind m d root))
-
 pub leaf-root : (m root d : ℕ) (kind : Kind) → AllowsRoot m root kind (leaf d)
 leaf-root m root d Dft = tt
 leaf-root m root d Wht = tt
 leaf-root m root d Idft = tt
-
--- ---- registers
-
-with-le : (o : Option PlainMultiplier) (used more : ℕ) → with_multiplier o used more ≤ used + more
-with-le None used more = omega arith
-with-le (Some d) used more = omega arith
-
-nest-few : (m : ℕ) (z : PlainNest) (w : PlainWork) → 2 ≤ m → IsFormulaWork w → nest_registers m z w < 2 ^ 20
-nest-few m z (kernel (single kind root (leaf d))) large work =
-    let made = kernel_of m kind (leaf d) root in
-    let next = trees-registers m (single kind root (leaf d)) large (work.0, leaf-root m root d kind) in
-    let price = leaf-cost m d root kind in
-    let square : d * d ≤ 8 * 8 = mul-le-mul {n₁ = d} {m₁ = d} {n₂ = 8} {m₂ = 8} work.1 work.1 in
-    let used = with-le z.multiplier made.next d in
-    omega (arith, used, next, price, square, work.1)
-nest-few m z (kernel (single kind root (node rule a b))) large work = absurd work
-nest-few m z (kernel (tensor kind root t others)) large work = absurd work
-nest-few m z (rows root d) large work = absurd work
-nest-few m z (horner root d) large work = let used = with-le z.multiplier 3 1 in omega (arith, used)
-nest-few m z (tile v) large work = absurd work
-nest-few m z (copy d) large work = let used = with-le z.multiplier 1 1 in omega (arith, used)
-
-max-less : (a b n : ℕ) → a < n → b < n → max a b < n
-max-less a b n first second = omega (arith, first, second)
-
-pub pass-few : (m : ℕ) (zs : List PlainNest) → 2 ≤ m → AreMade m zs → pass_registers m zs < 2 ^ 20
-pass-few m [] large made = omega arith
-pass-few m (z ∷ zs) large made = max-less _ _ (2 ^ 20) (nest-few m z z.work large made.0.work) (pass-few m zs large made.1)
 
 -- ---- operations and loads
 
@@ -154,39 +115,3 @@ operations-le m (DirectSum a b) shaped =
     let second = operations-le m b shaped.1 in
     omega (arith, first, second)
 operations-le m (Pending a) shaped = let inner = operations-le m a shaped in omega (arith, inner)
-
--- ---- tables
-
-grown-pick : (b : Bool) (table : List ℕ) (tables more : List (List ℕ)) → length more ≤ suc (length tables) → length (if b then table ∷ tables else table ∷ more) ≤ suc (suc (length tables))
-grown-pick true table tables more h = omega arith
-grown-pick false table tables more h = omega (arith, h)
-
-with-grown : (tables : List (List ℕ)) (entries : List ℕ) → length (with_table tables entries) ≤ suc (length tables)
-with-grown [] entries = omega arith
-with-grown (table ∷ tables) entries = grown-pick (is_table table entries) table tables (with_table tables entries) (with-grown tables entries)
-
-work-grown : (m : ℕ) (w : PlainWork) (tables : List (List ℕ)) → length (tables_of_work m w tables) ≤ length tables + work_tables w
-work-grown m (kernel trees) tables = omega arith
-work-grown m (rows root d) tables = let more = with-grown tables (powers_of m root d) in omega (arith, more)
-work-grown m (horner root d) tables = let more = with-grown tables (powers_of m root d) in omega (arith, more)
-work-grown m (tile v) tables = omega arith
-work-grown m (copy d) tables = omega arith
-
-diagonal-grown : (o : Option ℕ) (tables : List (List ℕ)) (entries : List ℕ) → length (with_diagonal o tables entries) ≤ length tables + 1
-diagonal-grown None tables entries = let more = with-grown tables entries in omega (arith, more)
-diagonal-grown (Some value) tables entries = omega arith
-
-multiplier-grown : (m : ℕ) (o : Option PlainMultiplier) (tables : List (List ℕ)) → length (tables_of_multiplier m o tables) ≤ length tables + diagonal_tables o
-multiplier-grown m None tables = omega arith
-multiplier-grown m (Some d) tables = diagonal-grown (one_factor d.factors) tables (diagonal_of m d.factors)
-
-pass-grown : (m : ℕ) (zs : List PlainNest) (tables : List (List ℕ)) → length (tables_after m zs tables) ≤ length tables + nests_tables zs
-pass-grown m [] tables = omega arith
-pass-grown m (z ∷ zs) tables =
-    let first = work-grown m z.work tables in
-    let second = multiplier-grown m z.multiplier (tables_of_work m z.work tables) in
-    let rest = pass-grown m zs (tables_of_nest m z tables) in omega (arith, first, second, rest)
-
-pub passes-grown : (m : ℕ) (ps : List (List PlainNest)) (tables : List (List ℕ)) → length (tables_through m ps tables) ≤ length tables + all_tables ps
-passes-grown m [] tables = omega arith
-passes-grown m (zs ∷ ps) tables = let first = pass-grown m zs tables in let rest = passes-grown m ps (tables_after m zs tables) in omega (arith, first, rest)

@@ -6,30 +6,11 @@ use Rattle.std.proofs.lemmas.List.{length-append}
 use Rattle.index_fn.specs.Mapping.{Mapping}
 use Rattle.sigma_spl.specs.Merge.{Room, less, Merging, Taking, nothing, new_nest, items_in, copying, can_gather, can_scatter, can_take, suits, gathered, scattered, multiplied, take_gathers, copy_by, copies_before, settled, with_pass, factor_places, with_copy, with_diagonal, with_scatter, back_of, from_end, ended, lifted, renumbered_places, side, sides, with_passes, merged, if_any, passes_within}
 use Rattle.sigma_spl.specs.Nest.{PlainFactors, spread, PlainMultiplier, PlainNest}
+use Rattle.sigma_spl.specs.Shared.Ready.{diagonal_tables, nests_tables, passes_tables, work_tables}
 use Rattle.sigma_spl.specs.Term.{PlainTerm, same, gath, scat, diag, nest, move, product, beside}
 use Rattle.sigma_spl.specs.Work.{PlainWork, rows, horner}
 use Rattle.sigma_spl.proofs.Walk.{chosen}
 use Rattle.operators.specs.TensorPaths.Path.{Path}
-
--- ---- tables
-
--- work by rows has a table of powers, and a diagonal one of its factors
-abbrev pub work_tables : PlainWork → ℕ
-work_tables (rows root size) = 1
-work_tables (horner root size) = 1
-work_tables w = 0
-
-abbrev pub diagonal_tables : Option PlainMultiplier → ℕ
-diagonal_tables None = 0
-diagonal_tables (Some d) = 1
-
-abbrev pub nests_tables : List PlainNest → ℕ
-nests_tables [] = 0
-nests_tables (z ∷ zs) = work_tables z.work + diagonal_tables z.multiplier + nests_tables zs
-
-abbrev pub all_tables : List (List PlainNest) → ℕ
-all_tables [] = 0
-all_tables (zs ∷ ps) = nests_tables zs + all_tables ps
 
 abbrev pub AreNarrow : ℕ → List (List PlainNest) → Type 0
 AreNarrow b [] = Unit {0}
@@ -67,7 +48,7 @@ narrow-more : (a b : ℕ) (ps : List (List PlainNest)) → a ≤ b → AreNarrow
 narrow-more a b [] more h = tt
 narrow-more a b (zs ∷ ps) more h = (omega (arith, more, h.0), narrow-more a b ps more h.1)
 
-pub tables-append : (ps qs : List (List PlainNest)) → all_tables (ps ++ qs) ≡ all_tables ps + all_tables qs
+pub tables-append : (ps qs : List (List PlainNest)) → passes_tables (ps ++ qs) ≡ passes_tables ps + passes_tables qs
 tables-append [] qs = omega arith
 tables-append (zs ∷ ps) qs = let rest = tables-append ps qs in omega (arith, rest)
 
@@ -150,7 +131,7 @@ few-by room n b f some = chosen (IsFew b 0) (can_gather room n f (copying n)) _ 
 pub record AreFew (b l t : ℕ) (ps : List (List PlainNest)) : Type 0 where
   pub narrow : AreNarrow b ps
   pub long : length ps ≤ l
-  pub tables : all_tables ps ≤ t
+  pub tables : passes_tables ps ≤ t
 
 few-cons : (b l s t : ℕ) (zs : List PlainNest) (ps : List (List PlainNest)) → IsFew b s zs → AreFew b l t ps → AreFew b (suc l) (s + t) (zs ∷ ps)
 few-cons b l s t zs ps h g = record { narrow = (h.nests, g.narrow); long = omega (arith, g.long); tables = omega (arith, h.tables, g.tables) }
@@ -180,7 +161,7 @@ few-settled room n b (f ∷ fs) some = few-copies room n b 0 (copy_by room n f) 
 pub record StandsFew (b l t : ℕ) (st : Merging) : Type 0 where
   pub narrow : AreNarrow b st.passes
   pub long : length st.passes + length st.waiting ≤ l
-  pub tables : all_tables st.passes ≤ t
+  pub tables : passes_tables st.passes ≤ t
 
 stood-few : (b l t : ℕ) (st : Merging) → StandsFew b l t st → AreFew b (length st.passes) t st.passes
 stood-few b l t st h = record { narrow = h.narrow; long = omega arith; tables = h.tables }
@@ -241,7 +222,7 @@ few-ended room n b l t (f ∷ fs) (zs ∷ ps) some g =
     let here = few-scattered b (nests_tables zs) (back_of f) zs (record { nests = g.narrow.0; tables = omega arith }) in
     few-ended room n b l t fs (scattered (back_of f) zs ∷ ps) some (record { narrow = (here.nests, g.narrow.1); long = omega (arith, g.long); tables = omega (arith, here.tables, g.tables) }))
     (few-more b b _ l _ t _ (omega arith) (omega (arith, same, g.long)) (omega (arith, g.tables))
-    (few-append b (length (from_end (f ∷ fs))) (length (zs ∷ ps)) 0 (all_tables (zs ∷ ps)) (settled room n (from_end (f ∷ fs))) (zs ∷ ps) (few-settled room n b (from_end (f ∷ fs)) some)
+    (few-append b (length (from_end (f ∷ fs))) (length (zs ∷ ps)) 0 (passes_tables (zs ∷ ps)) (settled room n (from_end (f ∷ fs))) (zs ∷ ps) (few-settled room n b (from_end (f ∷ fs)) some)
     (record { narrow = g.narrow; long = omega arith; tables = omega arith })))
 
 few-passes : (room : Room) (n b l k s t : ℕ) (st : Merging) (ps : List (List PlainNest)) → 1 ≤ b → AreFew b k s ps → StandsFew b l t st → StandsFew b (l + k) (t + s) (with_passes room n st ps)
@@ -249,7 +230,7 @@ few-passes room n b l k s t st [] some h g = stands-more b l (l + k) t (t + s) s
 few-passes room n b l k s t st (zs ∷ []) some h g =
     stands-more b (l + 1) (l + k) (t + nests_tables zs) (t + s) _ (omega (arith, h.long)) (omega (arith, h.tables)) (few-pass room n b l (nests_tables zs) t st zs some (record { nests = h.narrow.0; tables = omega arith }) g)
 few-passes room n b l k s t st (zs ∷ ys ∷ ps) some h g =
-    let rest = few-passes room n b l (length (ys ∷ ps)) (all_tables (ys ∷ ps)) t st (ys ∷ ps) some (record { narrow = h.narrow.1; long = omega arith; tables = omega arith }) g in
+    let rest = few-passes room n b l (length (ys ∷ ps)) (passes_tables (ys ∷ ps)) t st (ys ∷ ps) some (record { narrow = h.narrow.1; long = omega arith; tables = omega arith }) g in
     record { narrow = (h.narrow.0, rest.narrow); long = omega (arith, rest.long, h.long); tables = omega (arith, rest.tables, h.tables) }
 
 -- ---- side by side
@@ -267,7 +248,7 @@ few-side a b s t k l path zs ys h g =
 none-few : (b : ℕ) → AreFew b 0 0 []
 none-few b = record { narrow = tt; long = omega arith; tables = omega arith }
 
-few-sides : (a b k l : ℕ) (path : Path) (ps qs : List (List PlainNest)) → 1 ≤ a → 1 ≤ b → AreNarrow a ps → AreNarrow b qs → AreFew (a + b) (length ps + length qs) (all_tables ps + all_tables qs) (sides path k l ps qs)
+few-sides : (a b k l : ℕ) (path : Path) (ps qs : List (List PlainNest)) → 1 ≤ a → 1 ≤ b → AreNarrow a ps → AreNarrow b qs → AreFew (a + b) (length ps + length qs) (passes_tables ps + passes_tables qs) (sides path k l ps qs)
 few-sides a b k l path [] [] one two h g = none-few (a + b)
 few-sides a b k l path (zs ∷ ps) [] one two h g =
     let here = few-side a b (nests_tables zs) 0 k l path zs (copying l) (record { nests = h.0; tables = omega arith }) (few-copying b l two) in
@@ -332,7 +313,7 @@ few-merged room n b l t st (beside path k x m y) wide g =
     let one = part-few inner k a (steps_in x) (a * makers_in x) first (omega arith) (few-merged inner k a 0 0 nothing x (omega arith) (none-stands a)) in
     let two = part-few inner m c (steps_in y) (c * makers_in y) second (omega arith) (few-merged inner m c 0 0 nothing y (omega arith) (none-stands c)) in
     let sized = few-sides a c k m path ps qs (omega arith) (omega arith) one.narrow two.narrow in
-    let tables = beside-tables a c (makers_in x) (makers_in y) (all_tables ps) (all_tables qs) one.tables two.tables in
+    let tables = beside-tables a c (makers_in x) (makers_in y) (passes_tables ps) (passes_tables qs) one.tables two.tables in
     let widened : (a + c) * most ≤ b * most = mul-le-mul_right most (omega (arith, wide)) in
     let whole = few-more (a + c) b _ (steps_in x + steps_in y) _ (b * most) _ (omega (arith, wide)) (omega (arith, one.long, two.long)) (omega (arith, tables, widened)) sized in
     few-passes room n b l (steps_in x + steps_in y) (b * most) t st (sides path k m ps qs) (omega (arith, wide)) whole g

@@ -1,4 +1,4 @@
--- Programs can be made of the passes of every formula.
+-- The passes of every formula are ready.
 use Rattle.std.proofs.Common.{◌≡◌, ℕ, zero, suc, ◌+◌, ◌*◌, ◌%◌, ◌^◌, ◌<◌, ◌≤◌, true, List, [], ◌∷◌, ◌++◌, All, length, map, refl, sym, ap, ◌∙◌, arith, subst, inl, inr, mod-lt}
 use Rattle.std.specs.Prelude.{slice_index}
 use Rattle.std.proofs.Math.Nat.{mul-le-mul}
@@ -13,10 +13,14 @@ use Rattle.sigma_lower.proofs.Lowers.{halvings-power, power-above, lowers}
 use Rattle.sigma_lower.proofs.Several.{term-several}
 use Rattle.kernel_gen.proofs.Residues.{power_below}
 use Rattle.tree_model.specs.Trees.{single}
-use Rattle.generate.specs.FormulaPasses.Laws.{FormulasCanProgram}
+use Rattle.generate.specs.FormulaPasses.Laws.{FormulasAreReady}
+use Rattle.generate.specs.FormulaPasses.Computes.{formula_merged}
+use Rattle.loop_merge.proofs.JoinedCopies.Passes.{joined_are_plain}
+use Rattle.loop_merge.proofs.PlainPasses.{plain_are_ready}
+use Rattle.loop_merge.specs.JoinedCopies.Joined.{all_joined}
 use Rattle.generate.proofs.FormulaPasses.Coded.{plain-nests}
-use Rattle.generate.proofs.FormulaPasses.Costs.{operations-le, pass-few, pass-loads-le, passes-grown}
-use Rattle.generate.proofs.FormulaPasses.Counted.{all_tables, tables-append, sums_in, makers_in, steps_in, passes-few}
+use Rattle.generate.proofs.FormulaPasses.Costs.{operations-le, pass-loads-le}
+use Rattle.generate.proofs.FormulaPasses.Counted.{tables-append, sums_in, makers_in, steps_in, passes-few}
 use Rattle.generate.proofs.FormulaPasses.Made.{AreMade, AllMade}
 use Rattle.generate.proofs.FormulaPasses.Merging.{IsFormulaTerm, passes-made}
 use Rattle.matrix_meaning.specs.declared.Kind.TheVariants.{Dft}
@@ -24,6 +28,7 @@ use Rattle.matrix_meaning.specs.Kind.{IsPowerOfTwo}
 use Rattle.sigma_spl.specs.Shared.Costs.{work_cost}
 use Rattle.sigma_spl.specs.Shared.Machine.{plain_machine}
 use Rattle.sigma_spl.specs.Shared.Owners.{most_actions}
+use Rattle.sigma_spl.specs.Shared.Ready.{passes_tables}
 use Rattle.sigma_spl.specs.Counts.{passes_cost}
 use Rattle.sigma_spl.specs.Good.{AreGoodPasses, IsGoodPass}
 use Rattle.sigma_spl.specs.Limits.{AreWithin}
@@ -33,7 +38,7 @@ use Rattle.sigma_spl.specs.Term.{nest}
 use Rattle.sigma_spl.specs.Work.{kernel, horner}
 use Rattle.sigma_spl.proofs.Counting.{items_of, items-once}
 use Rattle.sigma_spl.proofs.Nests.{all-inside}
-use Rattle.code_gen.specs.WholePrograms.Plain.{IsPlainPass, in_order}
+use Rattle.loop_merge.specs.PlainPasses.{ArePlainPasses, IsPlainPass, in_order}
 use Rattle.spl_ast.specs.Formula.{Formula, Identity, Fourier, Hadamard, Twiddles, Diagonal, Stride, Permutation, GoodThomasIn, GoodThomasOut, Product, TensorLeft, TensorRight, DirectSum, Pending, size_of, parts_of}
 use Rattle.spl_ast.specs.Shape.{IsShaped}
 use Rattle.spl_ast.proofs.Vectors.{shaped_size, size_is_size}
@@ -159,7 +164,7 @@ module _ (m n : ℕ) (large : 2 ≤ m) (some : 0 < n) (high : n ≤ 1048576) whe
   plain-pass : (zs : List PlainNest) → AreMade m zs → IsGoodPass 0 m n zs → is_within 64 n zs ≡ true → IsPlainPass n m zs
   plain-pass zs made good within =
       let items = all-items zs good in
-      record { nests = plain-nests m n high zs made good.nests within (omega (arith, items)); once = good.once; few = pass-few m zs large made }
+      record { nests = plain-nests m n high zs made good.nests within (omega (arith, items)); once = good.once }
 
   plain-passes : (ps : List (List PlainNest)) → AllMade m ps → AreGoodPasses 0 m n ps → AreWithin 64 n ps → All (IsPlainPass n m) (in_order ps)
   plain-passes [] made good within = All-nil (IsPlainPass n m)
@@ -189,7 +194,7 @@ few-actions n parts steps cost long high few low short last =
 
 -- ---- tables
 
-tables-order : (ps : List (List PlainNest)) → all_tables (in_order ps) ≡ all_tables ps
+tables-order : (ps : List (List PlainNest)) → passes_tables (in_order ps) ≡ passes_tables ps
 tables-order [] = refl
 tables-order (zs ∷ ps) = let both = tables-append (in_order ps) (zs ∷ []) in let rest = tables-order ps in omega (arith, both, rest)
 
@@ -204,8 +209,9 @@ some-any : (n : ℕ) (ps : List (List PlainNest)) → 0 < length (if_any n ps)
 some-any n [] = omega arith
 some-any n (zs ∷ ps) = omega arith
 
-pub formulas_can_program : FormulasCanProgram
-formulas_can_program m f two below shaped few =
+passes-plain : (m : ℕ) (f : Formula) → 2 ≤ m → m < 2 ^ 62 → IsShaped f → parts_of f ≤ 65536 →
+    ArePlainPasses (size_of f) m (passes_of (size_of f) (term_of m [] f))
+passes-plain m f two below shaped few =
     let n = size_of f in
     let some = shaped_size f shaped in
     let size = size_is_size f shaped in
@@ -221,7 +227,6 @@ formulas_can_program m f two below shaped few =
     let price : passes_cost 1 (work_cost 1 m) ps ≡ operations 1 m f = compiled.cost 1 in
     let modest = operations-le m f shaped in
     let short = few-actions n (parts_of f) (steps_in t) (passes_cost 1 (work_cost 1 m) ps) (length ps) size.1 few (omega (arith, price, modest)) counts.steps counted.long in
-    let tables = passes-grown m (in_order ps) [] in
     let same = tables-order ps in
     let product = few-product (sums_in t + 1) (makers_in t) (omega (arith, counts.makers, few)) in
     record {
@@ -230,5 +235,11 @@ formulas_can_program m f two below shaped few =
       some = some-any n _;
       passes = plain-passes m n two some size.1 ps made compiled.good compiled.limits;
       few = omega (arith, actions, short);
-      tables = omega (arith, tables, same, counted.tables, product);
+      tables = omega (arith, same, counted.tables, product);
     }
+
+pub formulas_are_ready : FormulasAreReady
+formulas_are_ready m f two below shaped few =
+    let ps = passes_of (size_of f) (term_of m [] f) in
+    plain_are_ready (size_of f) m (all_joined ps)
+    (joined_are_plain (size_of f) m ps (passes-plain m f two below shaped few))

@@ -1,22 +1,21 @@
--- From a tree to its merged passes.
-use Rattle.std.proofs.Common.{◌≡◌, ◌%◌, ap, ◌∙◌, subst, sym}
-use Rattle.sigma_lower.specs.Merged.{sigma_of, tree_merged}
-use Rattle.sigma_lower.proofs.TreeLayouts.{trees_can_lower}
-use Rattle.matrix_meaning.specs.declared.Request.{Request}
+-- What each stage from a tree to its merged passes asks for.
+use Rattle.std.proofs.Common.{◌≡◌, ◌%◌, ap, ◌∙◌, sym}
 use Rattle.matrix_meaning.specs.Valid.{IsValid}
-use Rattle.sigma_spl.specs.Merged.{PlainMerged}
-use Rattle.sigma_spl.specs.Sigma.{PlainSigma, merged_of}
+use Rattle.matrix_meaning.specs.declared.Request.{Request}
+use Rattle.sigma_lower.proofs.TreeLayouts.{trees_can_lower}
+use Rattle.sigma_lower.specs.Merged.{sigma_of, tree_merged}
+use Rattle.sigma_lower.specs.TreeSigmas.{IsVecOfTree}
 use Rattle.sigma_lower.specs.TreeTerms.Good.{IsVecOf}
-use Rattle.smp_rewrite.specs.Cut.{smp_of}
-use Rattle.smp_rewrite.specs.Smp.{PlainSmp}
+use Rattle.sigma_spl.specs.Merged.{PlainMerged}
 use Rattle.sigma_spl.specs.Shared.Targets.{target_of}
-use Rattle.smp_rewrite.specs.LayoutSteps.Whole.{whole_of}
+use Rattle.sigma_spl.specs.Sigma.{PlainSigma, merged_of}
 use Rattle.smp_rewrite.proofs.LayoutSteps.Wholes.{forward_tree}
+use Rattle.smp_rewrite.specs.Cut.{smp_of}
+use Rattle.smp_rewrite.specs.LayoutSteps.Whole.{whole_of}
+use Rattle.smp_rewrite.specs.Smp.{PlainSmp}
+use Rattle.tree_model.proofs.WholeTrees.{forward_size}
 use Rattle.tree_model.specs.Breakdown.{Breakdown, size_of}
 use Rattle.tree_model.specs.Chosen.{IsWholeTree, StandsIn}
-use Rattle.tree_model.proofs.WholeTrees.{forward_size}
-use Rattle.generate.specs.TreePasses.Merged.{IsMergedTree}
-use Rattle.generate.proofs.TreePasses.Merged.{trees_are_merged}
 use Rattle.vec_rewrite.specs.Laws.{IsSmpOf}
 use Rattle.vec_rewrite.specs.Turning.{vec_of}
 use Rattle.vec_rewrite.specs.Vectors.{PlainVec}
@@ -32,20 +31,15 @@ module _ (c : Request) (t : Breakdown) (valid : IsValid c) (h : IsWholeTree c t)
   module _ (blocks : PlainSmp) (vectors : PlainVec) (cut : blocks ≡ smp_of (target_of c) (whole_of c t))
       (turned : vectors ≡ vec_of blocks) where
     -- the formula for lanes is the tree's
-    vectors_are : vectors ≡ vec_of (smp_of (target_of c) (whole_of c t))
-    vectors_are = turned ∙ ap vec_of cut
+    pub vec-of-tree : IsVecOfTree c t vectors
+    vec-of-tree = record { valid = valid; tree = h; form = turned ∙ ap vec_of cut }
 
     pub vec-is : IsVecOf (target_of c) vectors
     vec-is =
         let can = trees_can_lower c t valid h in
-        record { whole = whole_of c t; shares = can.shares; good = can.good; form = vectors_are }
+        record { whole = whole_of c t; shares = can.shares; good = can.good; form = turned ∙ ap vec_of cut }
 
     -- and so are its terms, which are merged into its passes
     pub tree-merges : (sigma : PlainSigma) (merged : PlainMerged) → sigma ≡ sigma_of vectors →
-        merged ≡ merged_of sigma →
-        merged ≡ tree_merged c t
-    tree-merges sigma merged lowered made = made ∙ ap merged_of (lowered ∙ ap sigma_of vectors_are)
-
-  -- so all that holds of a tree's passes holds of them
-  pub tree-holds : (merged : PlainMerged) → merged ≡ tree_merged c t → IsMergedTree c t merged
-  tree-holds merged same = subst (IsMergedTree c t) (sym same) (trees_are_merged c t valid h)
+        merged ≡ merged_of sigma → merged ≡ tree_merged c t
+    tree-merges sigma merged lowered made = made ∙ ap merged_of (lowered ∙ ap sigma_of (turned ∙ ap vec_of cut))

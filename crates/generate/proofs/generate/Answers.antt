@@ -1,4 +1,4 @@
-use Rattle.std.proofs.Common.{◌≡◌, subst}
+use Rattle.std.proofs.Common.{◌≡◌, ◌∙◌, subst}
 use Rattle.sigma_lower.specs.Merged.{tree_merged}
 use Rattle.icode.specs.Program.{plain_program}
 use Rattle.matrix_meaning.specs.declared.Request.{Request}
@@ -6,6 +6,7 @@ use Rattle.code_gen.specs.PassCode.Contract.{Performs}
 use Rattle.tree_model.specs.Breakdown.{breakdown_of}
 use Rattle.sigma_spl.specs.Shared.Targets.{target_of}
 use Rattle.generate.specs.Letters.{program_for}
+use Rattle.generate.proofs.Emission.Programs.{programs_are_emissions}
 use Rattle.generate.proofs.Goodness.{good, lean}
 use Rattle.generate.proofs.generate.Goals as goal
 
@@ -19,11 +20,15 @@ performs c =
     c.new-context.ensures c.in_ok-program.ensures.performs
 
 pub returns-clause-good : goal.returns-clause-good
-returns-clause-good c = good c.args.request.now (breakdown_of c.in_ok-plan.plan.tree) c.in_ok-program.program c.in_ok-plan.ensures.valid c.in_ok-plan.ensures.planned.1.tree (performs c)
+returns-clause-good c = good c.args.request.now (breakdown_of c.in_ok-plan.plan.tree) (plain_program c.in_ok-program.program) c.in_ok-plan.ensures.valid c.in_ok-plan.ensures.planned.1.tree (performs c)
 
 pub returns-clause-lean : goal.returns-clause-lean
-returns-clause-lean c = lean c.args.request.now (breakdown_of c.in_ok-plan.plan.tree) c.in_ok-program.program c.in_ok-plan.ensures.valid c.in_ok-plan.ensures.planned.1.tree (performs c)
+returns-clause-lean c = lean c.args.request.now (breakdown_of c.in_ok-plan.plan.tree) (plain_program c.in_ok-program.program) c.in_ok-plan.ensures.valid c.in_ok-plan.ensures.planned.1.tree (performs c)
 
--- statement by statement it is theirs
+-- statement by statement it is the one of the rules of emission
 pub returns-clause-letters : goal.returns-clause-letters
-returns-clause-letters c = subst (λ (r : Request). plain_program c.in_ok-program.program ≡ program_for r (breakdown_of c.in_ok-plan.plan.tree)) c.new-context.ensures c.in_ok-program.ensures.letters
+returns-clause-letters c =
+    let t = breakdown_of c.in_ok-plan.plan.tree in
+    subst (λ (r : Request). plain_program c.in_ok-program.program ≡ program_for r t) c.new-context.ensures
+    c.in_ok-program.ensures.letters
+    ∙ programs_are_emissions c.args.request.now t c.in_ok-plan.ensures.valid c.in_ok-plan.ensures.planned.1.tree

@@ -12,14 +12,14 @@ use Rattle.code_gen.specs.PassCode.Contract.{Performs}
 use Rattle.sigma_spl.specs.Good.{IsVector}
 use Rattle.sigma_spl.specs.Merge.{passes_of}
 use Rattle.sigma_spl.specs.Merged.{PlainMerged}
-use Rattle.code_gen.specs.WholePrograms.Plain.{plain_merged}
+use Rattle.loop_merge.specs.PlainPasses.{plain_phase}
 use Rattle.spl_ast.specs.Formula.{Formula, size_of, parts_of}
 use Rattle.spl_ast.specs.Meaning.{apply}
 use Rattle.spl_ast.specs.Shape.{IsShaped}
 
 -- the merged passes of a formula modulo m, with copies that stand side by side as one loop, in one phase
 abbrev pub formula_merged : ℕ → Formula → PlainMerged
-formula_merged m f = plain_merged (size_of f) (all_joined (passes_of (size_of f) (term_of m [] f)))
+formula_merged m f = plain_phase (size_of f) (all_joined (passes_of (size_of f) (term_of m [] f)))
 
 -- The program stands within the limits and fits. Run with no turns but those that complete it, it leaves what the formula makes of each vector of residues, in exactly the formula's operations, whatever a product counts
 pub record Computes (m : ℕ) (f : Formula) (p : PlainProgram) : Type 0 where

@@ -1,15 +1,14 @@
 -- Nests that store, count and need the same.
 use Rattle.std.proofs.Common.{◌≡◌, ℕ, ◌+◌, ◌*◌, ◌≤◌, refl, ap, ◌∙◌, List, ◌∷◌, All}
-use Rattle.std.specs.Prelude.{map, max}
+use Rattle.std.specs.Prelude.{map}
 use Rattle.std.proofs.lemmas.List.Elements.{All-cons, All-head, All-tail}
-use Rattle.code_gen.specs.PassActions.Acts.{nest_registers, pass_registers}
 use Rattle.sigma_spl.specs.Shared.Costs.{pass_loads, work_loads}
-use Rattle.code_gen.specs.PassCode.Statements.{tables_after, tables_of_nest}
+use Rattle.sigma_spl.specs.Shared.Ready.{diagonal_tables, nests_tables, work_tables}
 use Rattle.sigma_spl.specs.Copies.{all_stored, hits, loops_of, stored}
 use Rattle.sigma_spl.specs.Counts.{CopiesAreFree, copies_in, nest_cost, pass_cost}
 use Rattle.sigma_spl.specs.Nest.{PlainNest, copies_of, store_place}
 use Rattle.sigma_spl.specs.Work.{PlainWork, work_size}
-use Rattle.code_gen.specs.WholePrograms.Plain.{IsPlainNest}
+use Rattle.loop_merge.specs.PlainPasses.{IsPlainNest}
 use Rattle.operators.specs.TensorPaths.Loop.{loop_at}
 
 pub record AreAlike (zs ys : List PlainNest) : Type 0 where
@@ -17,8 +16,7 @@ pub record AreAlike (zs ys : List PlainNest) : Type 0 where
   pub hit : (m w : ℕ) → hits (map (copies_of m) zs) w ≡ hits (map (copies_of m) ys) w
   pub costs : (weight : ℕ) (cost : PlainWork → ℕ) → CopiesAreFree cost → pass_cost weight cost zs ≡ pass_cost weight cost ys
   pub loads : pass_loads zs ≡ pass_loads ys
-  pub registers : (m : ℕ) → pass_registers m zs ≡ pass_registers m ys
-  pub tables : (m : ℕ) (tables : List (List ℕ)) → tables_after m zs tables ≡ tables_after m ys tables
+  pub tables : nests_tables zs ≡ nests_tables ys
   pub plain : (n m : ℕ) → n ≤ 1048576 → All (IsPlainNest n m) ys → All (IsPlainNest n m) zs
 
 pub same : (zs : List PlainNest) → AreAlike zs zs
@@ -28,8 +26,7 @@ same zs =
       hit = λ m w. refl;
       costs = λ weight cost free. refl;
       loads = refl;
-      registers = λ m. refl;
-      tables = λ m tables. refl;
+      tables = refl;
       plain = λ n m high all. all;
     }
 
@@ -40,8 +37,7 @@ then zs ys xs a b =
       hit = λ m w. a.hit m w ∙ b.hit m w;
       costs = λ weight cost free. a.costs weight cost free ∙ b.costs weight cost free;
       loads = a.loads ∙ b.loads;
-      registers = λ m. a.registers m ∙ b.registers m;
-      tables = λ m tables. a.tables m tables ∙ b.tables m tables;
+      tables = a.tables ∙ b.tables;
       plain = λ n m high all. a.plain n m high (b.plain n m high all);
     }
 
@@ -53,7 +49,6 @@ behind z zs ys h =
       hit = λ m w. ap (λ a. loop_at (loops_of z.counts) (work_size z.work) (store_place z.work z.scatters) (λ vs k. 1) w + a) (h.hit m w);
       costs = λ weight cost free. ap (λ a. nest_cost weight cost z + a) (h.costs weight cost free);
       loads = ap (λ a. copies_in z.counts * work_loads z.work + a) h.loads;
-      registers = λ m. ap (max (nest_registers m z z.work)) (h.registers m);
-      tables = λ m tables. h.tables m (tables_of_nest m z tables);
+      tables = ap (λ a. work_tables z.work + diagonal_tables z.multiplier + a) h.tables;
       plain = λ n m high all. All-cons (IsPlainNest n m) z zs (All-head (IsPlainNest n m) z ys all) (h.plain n m high (All-tail (IsPlainNest n m) z ys all));
     }

@@ -1,6 +1,5 @@
 -- Two runs of words that are together do what their one loop does, and so do all of a pass.
 use Rattle.std.proofs.Common.{◌≡◌, ℕ, ◌+◌, ◌*◌, ◌≤◌, refl, sym, ap, ap₂, ◌∙◌, arith, subst, List, [], ◌∷◌, Option, Some, None}
-use Rattle.std.specs.Prelude.{max}
 use Rattle.std.proofs.lemmas.List.Elements.{All-cons, All-head, All-tail}
 use Rattle.loop_merge.specs.JoinedCopies.Joined.{PlainRun, run_of, together, copying_run, before, put_first, with_copies_joined}
 use Rattle.loop_merge.proofs.JoinedCopies.Alike.{AreAlike, same, then, behind}
@@ -8,12 +7,11 @@ use Rattle.loop_merge.proofs.JoinedCopies.Loops.{copies_from, AreCounted, word_a
 use Rattle.loop_merge.proofs.JoinedCopies.Words.{IsRun, run-is, together-are}
 use Rattle.operators.specs.Sum.{sum_below}
 use Rattle.operators.proofs.Sums.{sum_below-same, sum_below-append}
-use Rattle.code_gen.specs.PassActions.Acts.{pass_registers}
 use Rattle.sigma_spl.specs.Copies.{hits, stored}
 use Rattle.sigma_spl.specs.Counts.{CopiesAreFree, copies_in, pass_cost}
 use Rattle.sigma_spl.specs.Nest.{PlainNest, copies_of}
 use Rattle.sigma_spl.specs.Work.{PlainWork, copy}
-use Rattle.code_gen.specs.WholePrograms.Plain.{IsPlainNest}
+use Rattle.loop_merge.specs.PlainPasses.{IsPlainNest}
 
 -- ---- two loops of k and of n words
 
@@ -24,9 +22,6 @@ sums-meet k n p g =
 
 three : (a b c d rest : ℕ) → a ≡ d → b + c ≡ d → a + rest ≡ b + (c + rest)
 three a b c d rest whole parts = omega (arith, whole, parts)
-
-max-one : (a : ℕ) → max 1 a ≡ max 1 (max 1 a)
-max-one a = omega arith
 
 module _ (cs ds : List ℕ) (k n p : ℕ) (first : AreCounted cs k) (second : AreCounted ds n) where
   abbrev left : PlainNest
@@ -70,8 +65,7 @@ module _ (cs ds : List ℕ) (k n p : ℕ) (first : AreCounted cs k) (second : Ar
         hit = λ m w. let all = reach m w in omega (arith, all);
         costs = λ weight cost free. three _ _ _ _ (pass_cost weight cost zs) (no-cost cost ((k + n) ∷ []) free) (none cost free);
         loads = let all = copies in omega (arith, all);
-        registers = λ m. max-one (pass_registers m zs);
-        tables = λ m tables. refl;
+        tables = omega arith;
         plain = λ size m high all.
             let rest = All-tail (IsPlainNest size m) left (right ∷ zs) all in
             All-cons (IsPlainNest size m) loop zs (plain size m high (All-head (IsPlainNest size m) left (right ∷ zs) all) (All-head (IsPlainNest size m) right zs rest)) (All-tail (IsPlainNest size m) right zs rest);

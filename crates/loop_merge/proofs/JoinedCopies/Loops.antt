@@ -1,28 +1,22 @@
 -- What a loop over copies of one word stores, and that a program can be made of it.
 use Rattle.std.proofs.Common.{◌≡◌, ℕ, zero, suc, ◌+◌, ◌*◌, ◌-◌, ◌^◌, ◌<◌, ◌≤◌, true, sym, ap, ◌∙◌, arith, subst, List, [], ◌∷◌, None}
-use Rattle.std.specs.Prelude.{◌==◌, if◌then◌else◌, IsTrue, slice_index}
+use Rattle.std.specs.Prelude.{◌==◌, ◌&&◌, if◌then◌else◌, slice_index}
 use Rattle.std.proofs.lemmas.Bool.Decides.{nat_tests}
 use Rattle.std.proofs.lemmas.List.Elements.{All-nil, All-cons, All-head}
-use Rattle.icode.specs.Limits.{is_expr_within}
 use Rattle.loop_merge.specs.JoinedCopies.Joined.{copying_run}
+use Rattle.loop_merge.specs.PlainPasses.{IsPlainNest}
 use Rattle.operators.specs.Sum.{sum_below}
 use Rattle.operators.proofs.Sums.{sum_below-same}
 use Rattle.sigma_spl.specs.Shared.Machine.{plain_machine}
-use Rattle.code_gen.specs.PassCode.Conditions.{AreWithin, CanWrite, CanWriteNest, FitsWord}
-use Rattle.code_gen.specs.PassCode.Expressions.{expr_of}
-use Rattle.sigma_spl.specs.Shared.Machine.{PlainFrame, frame_of}
+use Rattle.sigma_spl.specs.Shared.Ready.{IsReadyNest}
 use Rattle.sigma_spl.specs.Copies.{loops_of, stored}
 use Rattle.sigma_spl.specs.Counts.{copies_in}
-use Rattle.sigma_spl.specs.Merge.{is_limited, limits_of}
+use Rattle.sigma_spl.specs.Merge.{is_limited, is_within, limits_of}
 use Rattle.sigma_spl.specs.Nest.{PlainNest, copies_of, sum_value}
 use Rattle.sigma_spl.specs.Work.{copy}
 use Rattle.perm_algebra.specs.Affine.{Sum, constant, variable}
-use Rattle.code_gen.specs.WholePrograms.Plain.{IsPlainNest}
 use Rattle.operators.specs.TensorPaths.Loop.{loop_at, nest_sum}
 use Rattle.operators.specs.TensorPaths.Path.{AreInRange}
-use Rattle.code_gen.specs.PassCode.Small.{CanBeCoded, IsFrame}
-use Rattle.code_gen.proofs.PassCode.TestedSums.{tested_sums_are_coded}
-use Rattle.code_gen.proofs.PassCode.Within.{expressions_are_within}
 
 -- ---- copies of one word under no loop or one
 
@@ -81,7 +75,7 @@ pub record AreBelow (size n p : ℕ) : Type 0 where
 pub words-below : (size m : ℕ) (counts : List ℕ) (n p : ℕ) → AreCounted counts n → IsPlainNest size m (copies_from counts p) → AreBelow size n p
 words-below size m [] n p is h = let last : p < size = h.inside.stores [] 0 tt (omega arith) in record { some = omega (arith, is); below = omega (arith, is, last) }
 words-below size m (c ∷ []) n p is h =
-    let some : 1 ≤ c = (All-head (λ d. (1 ≤ d) × (d < 2 ^ 32)) c [] h.writes.counts).0 in
+    let some : 1 ≤ c = (All-head (λ d. (1 ≤ d) × (d ≤ 1048576)) c [] h.ready.counts).0 in
     let last : 1 * (c - 1) + p < size = h.inside.stores ((c - 1) ∷ []) 0 (omega (arith, some), tt) (omega arith) in
     record { some = omega (arith, is, some); below = omega (arith, is, some, last) }
 words-below size m (c ∷ d ∷ counts) n p is h = absurd is
@@ -102,33 +96,20 @@ module _ (size m n p : ℕ) (high : size ≤ 1048576) (several : 2 ≤ n) (fits 
   limited : is_limited 64 size (limits_of loop) place ≡ true
   limited = grind (arith, nat_tests)
 
-  coded : CanBeCoded (limits_of loop) place
-  coded = tested_sums_are_coded 64 size (limits_of loop) place (omega arith) (omega (arith, high)) limited
+  within : is_within 64 size (loop ∷ []) ≡ true
+  within = ap (λ b. (((b && true) && (b && true)) && true) && true) limited
 
-  abbrev frame : PlainFrame
-  frame = frame_of (plain_machine size m) (copy 1)
-
-  no-frame : IsFrame frame
-  no-frame e = absurd (cc)
-
-  within : AreWithin (limits_of loop) frame 1 (place ∷ [])
-  within =
+  ready : IsReadyNest (plain_machine size m) loop
+  ready =
       record {
-        writable = All-cons CanWrite place [] coded.writable (All-nil CanWrite);
-        words = All-cons (FitsWord (limits_of loop)) place [] coded.fits (All-nil (FitsWord (limits_of loop)));
-        within = All-cons (λ e. IsTrue (is_expr_within (expr_of frame 1 e) 1)) place [] (expressions_are_within frame 1 place no-frame (omega arith) coded.small) (All-nil (λ e. IsTrue (is_expr_within (expr_of frame 1 e) 1)));
-      }
-
-  writes : CanWriteNest (plain_machine size m) loop
-  writes =
-      record {
-        gathers = (record { enough = omega arith; sound = (tt, tt) }, within);
-        scatters = (record { enough = omega arith; sound = (tt, tt) }, within);
+        gathers = record { enough = omega arith; sound = (tt, tt) };
+        scatters = record { enough = omega arith; sound = (tt, tt) };
         multiplier = λ d is. absurd (cc);
         alike = tt;
+        small = tt;
         items = omega arith;
         shallow = omega arith;
-        counts = All-cons (λ c. (1 ≤ c) × (c < 2 ^ 32)) n [] (omega (arith, several), omega (arith, fits, high)) (All-nil (λ c. (1 ≤ c) × (c < 2 ^ 32)));
+        counts = All-cons (λ c. (1 ≤ c) × (c ≤ 1048576)) n [] (omega (arith, several), omega (arith, fits, high)) (All-nil (λ c. (1 ≤ c) × (c ≤ 1048576)));
       }
 
   pub loop-plain : IsPlainNest size m loop
@@ -138,5 +119,6 @@ module _ (size m n p : ℕ) (high : size ≤ 1048576) (several : 2 ≤ n) (fits 
         inside = record { loads = below; stores = below };
         factors = λ d is. absurd (cc);
         residues = λ d is. absurd (cc);
-        writes = writes;
+        ready = ready;
+        within = within;
       }

@@ -9,10 +9,9 @@ use Rattle.operators.proofs.Lists.{list_below-same}
 use Rattle.sigma_spl.specs.Shared.Costs.{work_cost}
 use Rattle.sigma_spl.specs.Shared.Machine.{plain_machine}
 use Rattle.sigma_spl.specs.Shared.Owners.{most_actions}
-use Rattle.code_gen.specs.PassCode.Program.{tables_through}
-use Rattle.code_gen.specs.PassCode.Statements.{tables_after}
+use Rattle.sigma_spl.specs.Shared.Ready.{passes_tables}
 use Rattle.sigma_spl.specs.Nest.{PlainNest, nests_on}
-use Rattle.code_gen.specs.WholePrograms.Plain.{IsPlainPass, in_order}
+use Rattle.loop_merge.specs.PlainPasses.{IsPlainPass, in_order}
 
 -- ---- meaning and counts
 
@@ -44,7 +43,6 @@ module _ (n m : ℕ) (high : n ≤ 1048576) where
       record {
         nests = alike.plain n m high h.nests;
         once = λ w low. alike.hit m w ∙ h.once w low;
-        few = subst (λ a. a < 2 ^ 20) (sym (alike.registers m)) h.few;
       }
 
   passes-plain : (ps : List (List PlainNest)) → All (IsPlainPass n m) ps → All (IsPlainPass n m) (all_joined ps)
@@ -61,9 +59,9 @@ module _ (n m : ℕ) (high : n ≤ 1048576) where
       let rest = actions-same ps in
       ap₂ (λ a b. a + b) (ap₂ (λ a b. a + b + 2 * n) cost loads) rest
 
-tables-same : (m : ℕ) (ps : List (List PlainNest)) (tables : List (List ℕ)) → tables_through m (all_joined ps) tables ≡ tables_through m ps tables
-tables-same m [] tables = refl
-tables-same m (p ∷ ps) tables = tables-same m ps (tables_after m (with_copies_joined p) tables) ∙ ap (tables_through m ps) ((all-alike p).tables m tables)
+tables-same : (ps : List (List PlainNest)) → passes_tables (all_joined ps) ≡ passes_tables ps
+tables-same [] = refl
+tables-same (p ∷ ps) = ap₂ (λ a b. a + b) (all-alike p).tables (tables-same ps)
 
 pub joined_are_plain : JoinedArePlain
 joined_are_plain n m ps h =
@@ -75,5 +73,5 @@ joined_are_plain n m ps h =
       some = subst (λ k. 0 < k) (sym (length-map ps with_copies_joined)) h.some;
       passes = subst (All (IsPlainPass n m)) (sym order) (passes-plain n m high (in_order ps) h.passes);
       few = subst (λ a. a < 2 ^ 59) (sym (ap (most_actions (plain_machine n m)) order ∙ actions-same n m high (in_order ps))) h.few;
-      tables = subst (λ tables. length tables < 2 ^ 32) (sym (ap (λ qs. tables_through m qs []) order ∙ tables-same m (in_order ps) [])) h.tables;
+      tables = subst (λ a. a < 2 ^ 32) (sym (ap passes_tables order ∙ tables-same (in_order ps))) h.tables;
     }

@@ -72,8 +72,8 @@ passes_of_terms ts = (merged (record { waiting = []; passes = [] }) ts).passes
 abbrev pub merged_phases : Target → Layout → List (List PlainPass)
 merged_phases h l = map passes_of_terms (lowered_of h l)
 
--- the passes of all phases
-abbrev pub in_order : List (List PlainPass) → List PlainPass
+-- lists one after another
+abbrev pub in_order : {A : Type 0} → List (List A) → List A
 in_order [] = []
 in_order (ps ∷ more) = ps ++ in_order more
 

@@ -2,12 +2,12 @@
 // to one processor.
 ghost use Rattle.sigma_lower.specs.TreeLoops.SharedPasses.Shared.{PassesAreFramed, PhasesAreShared};
 
-/// The lanes of each register lie side by side in memory: a law of the definitions.
+/// The lanes of each register lie side by side in memory.
 pub fn passes_are_framed()
     ensures { PassesAreFramed }
 {}
 
-/// In each phase every line belongs to one processor: a law of the definitions.
+/// In each phase every line belongs to one processor.
 pub fn phases_are_shared()
     ensures { PhasesAreShared }
 {}

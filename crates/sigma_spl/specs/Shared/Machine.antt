@@ -19,7 +19,8 @@ abbrev pub lane_variables : Target → PlainWork → ℕ
 lane_variables h (tile lanes) = 0
 lane_variables h w = one_if_several h.lanes
 
--- the variables of a nest's places: first that of the processor, where several share the pass, then that of the lane, then those of the loops
+-- the variables of a nest's places: first that of the processor, where several share the pass, then that of the lane,
+-- then those of the loops
 abbrev pub first_loop : Target → PlainWork → ℕ
 first_loop h w = one_if_several h.procs + lane_variables h w
 
@@ -51,7 +52,8 @@ abbrev pub lane_step : PlainWork → ℕ
 lane_step (tile lanes) = 1
 lane_step w = 0
 
--- what the variables of a nest's places stand for: whether the first is the processor's, and which is that of the outermost loop
+-- what the variables of a nest's places stand for: whether the first is the processor's, and which is that of the
+-- outermost loop
 pub record PlainFrame : Type 0 where
   pub shared : Bool
   pub first_loop : ℕ

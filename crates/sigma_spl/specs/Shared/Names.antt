@@ -7,7 +7,7 @@ use Rattle.sigma_spl.specs.Shared.Costs.{pass_cost, pass_loads, work_cost, work_
 use Rattle.sigma_spl.specs.Shared.Machine.{loop_counts}
 use Rattle.sigma_spl.specs.Work.{PlainWork, tile, work_size}
 
-pub record Named : Type 0 where
+pub record Share : Type 0 where
   pub operations : ℕ
   pub loads : ℕ
   pub stores : ℕ
@@ -22,9 +22,9 @@ abbrev pub own_copies : Target → PlainNest → ℕ
 own_copies h z = copies_in (loop_counts h z) * lanes_round h z.work
 
 -- what a processor does in a pass, where a product counts as several
-abbrev pub named : Target → ℕ → List PlainNest → Named
-named h weight [] = record { operations = 0; loads = 0; stores = 0 }
-named h weight (z ∷ zs) = let own = own_copies h z in let rest = named h weight zs in record {
+abbrev pub share_of : Target → ℕ → List PlainNest → Share
+share_of h weight [] = record { operations = 0; loads = 0; stores = 0 }
+share_of h weight (z ∷ zs) = let own = own_copies h z in let rest = share_of h weight zs in record {
   operations = own * (work_cost weight h.modulus z.work + multiplier_cost weight z.multiplier z.work) + rest.operations;
   loads = own * work_loads z.work + rest.loads;
   stores = own * work_size z.work + rest.stores;
@@ -32,6 +32,6 @@ named h weight (z ∷ zs) = let own = own_copies h z in let rest = named h weigh
 
 -- all processors do the same: together they do what the pass counts
 pub record HasShares (h : Target) (weight : ℕ) (zs : List PlainNest) : Type 0 where
-  pub operations : h.procs * (named h weight zs).operations ≡ pass_cost weight h.modulus zs
-  pub loads : h.procs * (named h weight zs).loads ≡ pass_loads zs
-  pub stores : h.procs * (named h weight zs).stores ≡ h.size
+  pub operations : h.procs * (share_of h weight zs).operations ≡ pass_cost weight h.modulus zs
+  pub loads : h.procs * (share_of h weight zs).loads ≡ pass_loads zs
+  pub stores : h.procs * (share_of h weight zs).stores ≡ h.size

@@ -2,7 +2,6 @@
 use Rattle.std.specs.Prelude.{◌≡◌, ℕ, ◌+◌, ◌*◌, ◌/◌, ◌^◌, ◌<◌, ◌≤◌, List, [], ◌∷◌, ◌++◌}
 use Rattle.operators.specs.Sizes.{max_size}
 use Rattle.sigma_spl.specs.Shared.Running.{IsLoadedBy, IsStoredBy}
-use Rattle.sigma_spl.specs.Shared.Machine.{}
 use Rattle.sigma_spl.specs.Shared.Costs.{pass_cost, pass_loads}
 use Rattle.sigma_spl.specs.Nest.{PlainNest}
 use Rattle.operators.specs.declared.target.Target.{Target}
@@ -15,7 +14,9 @@ pub record IsOwner (h : Target) (owner : ℕ → ℕ) : Type 0 where
 -- what a processor loads in these passes is its own, and what it stores
 abbrev pub AllOwn : Target → (ℕ → ℕ) → List (List PlainNest) → Type 0
 AllOwn h owner [] = Unit {0}
-AllOwn h owner (zs ∷ ps) = ((q w : ℕ) → q < h.procs → IsLoadedBy h zs q w → owner w ≡ q) × ((q w : ℕ) → q < h.procs → IsStoredBy h zs q w → owner w ≡ q) × AllOwn h owner ps
+AllOwn h owner (zs ∷ ps) =
+    ((q w : ℕ) → q < h.procs → IsLoadedBy h zs q w → owner w ≡ q)
+    × ((q w : ℕ) → q < h.procs → IsStoredBy h zs q w → owner w ≡ q) × AllOwn h owner ps
 
 -- the first pass of a phase may load from an array that no processor writes in the phase
 pub record IsShared (h : Target) (ps : List (List PlainNest)) : Type 0 where
@@ -25,7 +26,8 @@ pub record IsShared (h : Target) (ps : List (List PlainNest)) : Type 0 where
 
 abbrev pub FirstOwns : Target → (ℕ → ℕ) → List (List PlainNest) → Type 0
 FirstOwns h owner [] = Unit {0}
-FirstOwns h owner (zs ∷ ps) = ((q w : ℕ) → q < h.procs → IsStoredBy h zs q w → owner w ≡ q) × AllOwn h owner ps
+FirstOwns h owner (zs ∷ ps) =
+    ((q w : ℕ) → q < h.procs → IsStoredBy h zs q w → owner w ≡ q) × AllOwn h owner ps
 
 pub record IsFirstShared (h : Target) (ps : List (List PlainNest)) : Type 0 where
   pub owner : ℕ → ℕ

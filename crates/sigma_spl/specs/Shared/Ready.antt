@@ -1,5 +1,5 @@
 -- Merged passes of which a program can be made, in words of passes alone.
-use Rattle.std.specs.Prelude.{◌≡◌, ℕ, ◌+◌, ◌*◌, ◌^◌, ◌<◌, ◌≤◌, ◌++◌, true, List, [], ◌∷◌, length, slice_index, slice_index_or, All, Some}
+use Rattle.std.specs.Prelude.{◌≡◌, ℕ, ◌+◌, ◌^◌, ◌<◌, ◌≤◌, ◌++◌, true, List, [], ◌∷◌, length, slice_index, slice_index_or, All, Option, Some, None}
 use Rattle.operators.specs.Sizes.{max_size}
 use Rattle.operators.specs.TensorPaths.Path.{AreInRange}
 use Rattle.operators.specs.declared.target.Target.{Target}
@@ -61,10 +61,23 @@ pub record IsReadyPass (h : Target) (zs : List PlainNest) : Type 0 where
 
 -- ---- programs
 
--- how many nests there are
-abbrev pub nests_in : List (List PlainNest) → ℕ
-nests_in [] = 0
-nests_in (zs ∷ ps) = length zs + nests_in ps
+-- how many tables there are at most: one of powers for work by rows, and one for a diagonal
+abbrev pub work_tables : PlainWork → ℕ
+work_tables (rows root size) = 1
+work_tables (horner root size) = 1
+work_tables w = 0
+
+abbrev pub diagonal_tables : Option PlainMultiplier → ℕ
+diagonal_tables None = 0
+diagonal_tables (Some d) = 1
+
+abbrev pub nests_tables : List PlainNest → ℕ
+nests_tables [] = 0
+nests_tables (z ∷ zs) = work_tables z.work + diagonal_tables z.multiplier + nests_tables zs
+
+abbrev pub passes_tables : List (List PlainNest) → ℕ
+passes_tables [] = 0
+passes_tables (zs ∷ ps) = nests_tables zs + passes_tables ps
 
 pub record IsReady (h : Target) (g : PlainMerged) : Type 0 where
   pub host : IsHost h
@@ -75,5 +88,5 @@ pub record IsReady (h : Target) (g : PlainMerged) : Type 0 where
   pub some : 0 < length (all_passes g.phases)
   pub each_some : All (λ ps. 0 < length ps) g.phases
   pub few : most_actions h (all_passes g.phases) < 2 ^ 59
-  pub nests : 2 * nests_in (all_passes g.phases) < 2 ^ 32
+  pub tables : passes_tables (all_passes g.phases) < 2 ^ 32
   pub shared : ArePhasesShared h g.phases

@@ -24,24 +24,34 @@ pub record IsFramed (h : Target) (z : PlainNest) : Type 0 where
 
 -- the lanes of a register lie side by side in memory, and their factors in the diagonal
 pub record MovesVectors (h : Target) (z : PlainNest) (q : ℕ) (vs : List ℕ) (lane k : ℕ) : Type 0 where
-  pub loads : load_place z.work z.gathers (values_of h z.work q lane vs) (item_of z.work k lane) ≡ load_place z.work z.gathers (values_of h z.work q 0 vs) (item_of z.work k 0) + lane
-  pub stores : store_place z.work z.scatters (values_of h z.work q lane vs) (item_of z.work k lane) ≡ store_place z.work z.scatters (values_of h z.work q 0 vs) (item_of z.work k 0) + lane
+  pub loads :
+      load_place z.work z.gathers (values_of h z.work q lane vs) (item_of z.work k lane)
+      ≡ load_place z.work z.gathers (values_of h z.work q 0 vs) (item_of z.work k 0) + lane
+  pub stores :
+      store_place z.work z.scatters (values_of h z.work q lane vs) (item_of z.work k lane)
+      ≡ store_place z.work z.scatters (values_of h z.work q 0 vs) (item_of z.work k 0) + lane
   pub factors : (d : PlainMultiplier) → z.multiplier ≡ Some d →
-      store_place z.work d.places (values_of h z.work q lane vs) (item_of z.work k lane) ≡ store_place z.work d.places (values_of h z.work q 0 vs) (item_of z.work k 0) + lane_step z.work * lane
+      store_place z.work d.places (values_of h z.work q lane vs) (item_of z.work k lane)
+      ≡ store_place z.work d.places (values_of h z.work q 0 vs) (item_of z.work k 0) + lane_step z.work * lane
 
 -- the factor of each item that is stored is in the diagonal
 abbrev pub FindsFactors : PlainNest → Type 0
-FindsFactors z = (d : PlainMultiplier) → z.multiplier ≡ Some d → (vs : List ℕ) (k : ℕ) → AreInRange (loops_of z.counts) vs → k < work_size z.work → store_place z.work d.places vs k < factor_count d.factors
+FindsFactors z =
+    (d : PlainMultiplier) → z.multiplier ≡ Some d → (vs : List ℕ) (k : ℕ) → AreInRange (loops_of z.counts) vs →
+    k < work_size z.work → store_place z.work d.places vs k < factor_count d.factors
 
 -- the factors of its diagonal are residues
 abbrev pub HasResidues : Target → PlainNest → Type 0
-HasResidues h z = (d : PlainMultiplier) → z.multiplier ≡ Some d → (i : ℕ) → factor_at h.modulus d.factors i < h.modulus
+HasResidues h z =
+    (d : PlainMultiplier) → z.multiplier ≡ Some d → (i : ℕ) → factor_at h.modulus d.factors i < h.modulus
 
 pub record CanRunNest (h : Target) (z : PlainNest) : Type 0 where
   pub work : CanWork h z.work
   pub inside : IsInside h.size (copies_of h.modulus z)
   pub framed : IsFramed h z
-  pub vectors : (q : ℕ) (vs : List ℕ) (lane k : ℕ) → AreInRange (loops_of z.counts) (values_of h z.work q lane vs) → lane < h.lanes → k < vectors_of z.work → MovesVectors h z q vs lane k
+  pub vectors :
+      (q : ℕ) (vs : List ℕ) (lane k : ℕ) → AreInRange (loops_of z.counts) (values_of h z.work q lane vs) →
+      lane < h.lanes → k < vectors_of z.work → MovesVectors h z q vs lane k
   pub factors : FindsFactors z
   pub residues : HasResidues h z
 

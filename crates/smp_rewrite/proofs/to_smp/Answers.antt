@@ -1,9 +1,10 @@
 use Rattle.std.proofs.Common.{◌*◌, ap, ap₂, sym, subst, ◌∙◌, []}
+use Rattle.std.specs.List.{sum}
 use Rattle.matrix_meaning.specs.Parts.{forward_of}
 use Rattle.matrix_meaning.specs.declared.Request.{Request}
 use Rattle.smp_rewrite.specs.Cut.{closed_cut}
 use Rattle.smp_rewrite.specs.Laws.{IsShaped}
-use Rattle.smp_rewrite.specs.Smp.{smp_on, smp_share}
+use Rattle.smp_rewrite.specs.Smp.{smp_on, smp_shares}
 use Rattle.smp_rewrite.specs.Walk.{closing_in, tree_steps}
 use Rattle.smp_rewrite.proofs.Sized.{sized_steps}
 use Rattle.smp_rewrite.proofs.TreeLaws.{smp_transforms, smp_costs, smp_shaped, layouts_fit}
@@ -63,7 +64,7 @@ returns-clause-operations c =
     let request = c.args.c.now in
     let t = breakdown_of c.args.tree.now in
     let valid = c.request-request.ensures.valid in
-    ap (λ f. request.procs * smp_share request.weight request.modulus f) (returns-clause-form c)
+    ap (λ f. request.procs * sum (smp_shares request.weight request.modulus f)) (returns-clause-form c)
     ∙ smp_costs request.weight (target_of request) (whole_of request t) (layouts_fit request t valid c.requires.tree)
     ∙ wholes_cost request t valid c.requires.tree
 

@@ -3,7 +3,7 @@ use Rattle.smp_rewrite.specs.Views.{plain_smp}
 use Rattle.sigma_spl.specs.Shared.Targets.{target_of}
 use Rattle.vec_rewrite.specs.Laws.{IsLaned, Keeps}
 use Rattle.vec_rewrite.specs.Turning.{vec_of}
-use Rattle.vec_rewrite.specs.Vectors.{vec_on, vec_share}
+use Rattle.vec_rewrite.specs.Vectors.{vec_on, vec_shares}
 use Rattle.vec_rewrite.specs.Views.{plain_vec}
 use Rattle.vec_rewrite.proofs.LaneLaws.{vec_keeps}
 use Rattle.vec_rewrite.proofs.LaneShapes.{vec_shaped}
@@ -19,6 +19,6 @@ returns c =
     record {
       form = form;
       meaning = λ x. ap (λ g. vec_on request.modulus g x) form ∙ keeps.0 x;
-      operations = ap (vec_share request.weight request.modulus) form ∙ keeps.1;
+      operations = ap (vec_shares request.weight request.modulus) form ∙ keeps.1;
       shape = subst IsLaned (sym form) (vec_shaped h f c.requires);
     }

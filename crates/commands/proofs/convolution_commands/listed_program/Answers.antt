@@ -2,7 +2,7 @@ use Rattle.std.proofs.Common.{◌≡◌, ◌<◌, ◌-◌, All, length, refl, ap
 use Rattle.std.proofs.lemmas.Result.{err_from_is_err_and}
 use Rattle.std.proofs.lemmas.List.{with_items_is}
 use Rattle.generate.specs.Convolver.{IsConvolver}
-use Rattle.generate.specs.ConvLetters.{conv_program}
+use Rattle.generate.specs.Emission.Whole.{conv_emission}
 use Rattle.tree_model.specs.Breakdown.{breakdown_of}
 use Rattle.io_edge.specs.Feed.{to_come, limit}
 use Rattle.spiral_words.specs.SpiralStatus.Fault.{status_of_conv}
@@ -58,6 +58,6 @@ returns-clause-program g c =
     record {
       tree = tree;
       planned = c.in_ok-plan.ensures.planned;
-      letters = c.in_ok-program.ensures.letters ∙ ap (conv_program request tree) c.deref.ensures.value;
+      letters = c.in_ok-program.ensures.letters ∙ ap (conv_emission request tree) c.deref.ensures.value;
       convolver = subst (λ h. IsConvolver request tree h (plain_program program)) c.deref.ensures.value c.in_ok-program.ensures.convolver;
     }

@@ -1,13 +1,9 @@
 use Rattle.std.proofs.Common.{◌≡◌, ◌<◌, All, sym, ap, ap₂, ◌∙◌, subst}
 use Rattle.icode.specs.Program.{plain_program}
-use Rattle.loop_merge.proofs.JoinedPasses.Counts.{joined_counts}
-use Rattle.loop_merge.proofs.JoinedPasses.Means.{joined_means}
-use Rattle.loop_merge.proofs.JoinedPasses.Programs.{joined_can_program}
 use Rattle.matrix_meaning.specs.declared.Request.{Request}
 use Rattle.matrix_meaning.specs.Valid.{IsValid}
-use Rattle.code_gen.specs.PassCode.Contract.{CanProgram, Performs}
+use Rattle.sigma_spl.specs.Shared.Ready.{IsReady}
 use Rattle.code_gen.specs.PassCode.Program.{program_of}
-use Rattle.sigma_spl.specs.Merged.{PlainMerged}
 use Rattle.sigma_spl.specs.Views.{plain_merged}
 use Rattle.tree_model.specs.Breakdown.{breakdown_of}
 use Rattle.tree_model.specs.Chosen.{IsWholeTree}
@@ -15,7 +11,12 @@ use Rattle.sigma_spl.specs.Shared.Targets.{target_of}
 use Rattle.generate.specs.ConvLetters.{conv_merged}
 use Rattle.generate.specs.Factors.{factors_of}
 use Rattle.generate.proofs.ConvTrees.{inverse_tree, inverse_valid}
-use Rattle.generate.proofs.ConvGoodness.{can-convolve, is-convolver, joined-same, planned-valid}
+use Rattle.generate.specs.ConvLetters.{conv_program}
+use Rattle.generate.specs.Convolver.{IsConvolver}
+use Rattle.generate.proofs.ConvGoodness.{can-convolve, joined-same, planned-valid}
+use Rattle.generate.specs.Emission.Whole.{conv_emission}
+use Rattle.generate.proofs.Emission.Programs.{conv_programs_are_emissions}
+use Rattle.generate.proofs.GoodPrograms.{conv_programs_convolve}
 use Rattle.generate.proofs.conv_program.generate_conv.Goals as goal
 
 pub new-backward-requires : goal.new-backward-requires
@@ -41,57 +42,56 @@ merge_tree-requires-2 c =
     subst (λ (z : Request). IsWholeTree z t) (sym (c.new-backward.ensures ∙ c.inverted.ensures.value))
     (inverse_tree r c.requires.request valid t c.requires.plan.2.tree)
 
+-- the passes are those of the request
+are-joined : (c : goal.In_ok-joined) →
+    plain_merged c.in_ok-joined.joined
+    ≡ conv_merged c.args.request.now (breakdown_of c.args.plan.now.tree) (factors_of c.args.request.now c.args.h.now)
+are-joined c =
+    joined-same c.args.request.now c.new-forward.result c.new-backward.result (breakdown_of c.args.plan.now.tree)
+    c.args.h.now c.in_ok-diagonal.diagonal.items
+    (plain_merged c.in_ok-first.first) (plain_merged c.in_ok-second.second) (plain_merged c.in_ok-joined.joined)
+    c.new-forward.ensures (c.new-backward.ensures ∙ c.inverted.ensures.value) c.in_ok-diagonal.ensures.value
+    c.in_ok-first.ensures.merged c.in_ok-second.ensures.merged c.in_ok-joined.ensures.joined
+
 -- both requests are for one machine
 pub emit_joined-requires-clause-alike : goal.emit_joined-requires-clause-alike
 emit_joined-requires-clause-alike c =
     ap target_of c.new-forward.ensures ∙ sym (ap target_of (c.new-backward.ensures ∙ c.inverted.ensures.value))
 
-pub emit_joined-requires-clause-passes : goal.emit_joined-requires-clause-passes
-emit_joined-requires-clause-passes c =
+pub emit_joined-requires-clause-ready : goal.emit_joined-requires-clause-ready
+emit_joined-requires-clause-ready c =
     let r = c.args.request.now in
     let t = breakdown_of c.args.plan.now.tree in
     let ls = c.args.h.now in
     let valid = planned-valid r t c.requires.request c.requires.plan in
-    let same : plain_merged c.in_ok-joined.joined ≡ conv_merged r t (factors_of r ls) =
-    joined-same r c.new-forward.result c.new-backward.result t ls c.in_ok-diagonal.diagonal.items
-    (plain_merged c.in_ok-first.first) (plain_merged c.in_ok-second.second) (plain_merged c.in_ok-joined.joined)
-    c.new-forward.ensures (c.new-backward.ensures ∙ c.inverted.ensures.value) c.in_ok-diagonal.ensures.value
-    c.in_ok-first.ensures.merged c.in_ok-second.ensures.merged c.in_ok-joined.ensures.joined in
     let residues : All (λ d. d < r.modulus) (factors_of r ls) =
     subst (λ (z : Request). All (λ d. d < z.modulus) (factors_of z ls)) c.new-forward.ensures
     (subst (All (λ d. d < c.new-forward.result.modulus)) c.in_ok-diagonal.ensures.value
     c.in_ok-diagonal.ensures.residues) in
-    subst (λ (z : Request). CanProgram (target_of z) (plain_merged c.in_ok-joined.joined)) (sym c.new-forward.ensures)
-    (subst (CanProgram (target_of r)) (sym same)
-    (can-convolve r t ls c.requires.request valid c.requires.plan.2.tree joined_can_program residues))
+    subst (λ (z : Request). IsReady (target_of z) (plain_merged c.in_ok-joined.joined)) (sym c.new-forward.ensures)
+    (subst (IsReady (target_of r)) (sym (are-joined c))
+    (can-convolve r t ls c.requires.request valid c.requires.plan.2.tree residues))
+
+letters : (c : goal.In_ok-program) →
+    plain_program c.in_ok-program.program
+    ≡ conv_program c.args.request.now (breakdown_of c.args.plan.now.tree) c.args.h.now
+letters c =
+    c.in_ok-program.ensures.code ∙ ap₂ (λ z g. program_of (target_of z) g) c.new-forward.ensures (are-joined c)
+
+emitted : (c : goal.In_ok-program) →
+    plain_program c.in_ok-program.program
+    ≡ conv_emission c.args.request.now (breakdown_of c.args.plan.now.tree) c.args.h.now
+emitted c =
+    letters c
+    ∙ conv_programs_are_emissions c.args.request.now (breakdown_of c.args.plan.now.tree) c.args.h.now
+    c.requires.request c.requires.plan
 
 pub returns-clause-convolver : goal.returns-clause-convolver
 returns-clause-convolver c =
     let r = c.args.request.now in
     let t = breakdown_of c.args.plan.now.tree in
-    let ls = c.args.h.now in
-    let p = c.in_ok-program.program in
-    let valid = planned-valid r t c.requires.request c.requires.plan in
-    let same : plain_merged c.in_ok-joined.joined ≡ conv_merged r t (factors_of r ls) =
-    joined-same r c.new-forward.result c.new-backward.result t ls c.in_ok-diagonal.diagonal.items
-    (plain_merged c.in_ok-first.first) (plain_merged c.in_ok-second.second) (plain_merged c.in_ok-joined.joined)
-    c.new-forward.ensures (c.new-backward.ensures ∙ c.inverted.ensures.value) c.in_ok-diagonal.ensures.value
-    c.in_ok-first.ensures.merged c.in_ok-second.ensures.merged c.in_ok-joined.ensures.joined in
-    let performs : Performs (target_of r) (conv_merged r t (factors_of r ls)) (plain_program p) =
-    subst (λ (g : PlainMerged). Performs (target_of r) g (plain_program p)) same
-    (subst (λ (z : Request). Performs (target_of z) (plain_merged c.in_ok-joined.joined) (plain_program p))
-    c.new-forward.ensures c.in_ok-program.ensures.performs) in
-    is-convolver r t ls c.requires.request valid c.requires.plan.2.tree p performs joined_means joined_counts
-    c.requires.plan.1
+    subst (IsConvolver r t c.args.h.now) (sym (emitted c))
+    (conv_programs_convolve r t c.args.h.now c.requires.request c.requires.plan)
 
 pub returns-clause-letters : goal.returns-clause-letters
-returns-clause-letters c =
-    let r = c.args.request.now in
-    let t = breakdown_of c.args.plan.now.tree in
-    let ls = c.args.h.now in
-    let same : plain_merged c.in_ok-joined.joined ≡ conv_merged r t (factors_of r ls) =
-    joined-same r c.new-forward.result c.new-backward.result t ls c.in_ok-diagonal.diagonal.items
-    (plain_merged c.in_ok-first.first) (plain_merged c.in_ok-second.second) (plain_merged c.in_ok-joined.joined)
-    c.new-forward.ensures (c.new-backward.ensures ∙ c.inverted.ensures.value) c.in_ok-diagonal.ensures.value
-    c.in_ok-first.ensures.merged c.in_ok-second.ensures.merged c.in_ok-joined.ensures.joined in
-    c.in_ok-program.ensures.code ∙ ap₂ (λ z g. program_of (target_of z) g) c.new-forward.ensures same
+returns-clause-letters c = emitted c

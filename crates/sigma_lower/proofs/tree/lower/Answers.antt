@@ -1,12 +1,13 @@
 use Rattle.std.proofs.Common.{ap, ◌∙◌, subst, sym}
-use Rattle.sigma_lower.specs.Merged.{closed_phases}
+use Rattle.sigma_lower.specs.Merged.{closed_phases, phase_costs, sigma_of}
 use Rattle.sigma_lower.proofs.Costs.{vec_costs}
 use Rattle.sigma_lower.proofs.Roomy.{all_roomy}
 use Rattle.sigma_lower.proofs.Sigmas.{of_phases, vec_can_merge, vec_means}
 use Rattle.sigma_lower.proofs.TreeLayouts.{machine_of}
-use Rattle.sigma_spl.specs.Sigma.{IsGoodSigma, sigma_cost, sigma_on}
+use Rattle.sigma_lower.proofs.TreeSigmas.Laws.{trees_are_sigmas}
+use Rattle.sigma_spl.specs.Sigma.{IsGoodSigma, sigma_on}
+use Rattle.sigma_spl.specs.Trees.{IsTreeSigma}
 use Rattle.sigma_lower.proofs.TreeTerms.Goods.{phases_good}
-use Rattle.sigma_spl.specs.Shared.Costs.{work_cost}
 use Rattle.sigma_spl.specs.Shared.Targets.{target_of}
 use Rattle.vec_rewrite.specs.Views.{plain_vec}
 use Rattle.sigma_lower.proofs.tree.lower.Goals as goal
@@ -39,7 +40,7 @@ returns-clause-operations c =
     let vectors = plain_vec c.args.vectors in
     let h = vectors.target in
     let made = c.in_ok-phases.ensures ∙ ap (closed_phases h.size vectors.closing) c.in_ok-made.ensures in
-    ap (λ ts. sigma_cost request.weight (work_cost request.weight request.modulus) (of_phases h ts)) made
+    ap (λ ts. phase_costs request.weight request.modulus (of_phases h ts)) made
     ∙ vec_costs request.weight (target_of request) vectors c.requires
 
 pub returns-clause-good : goal.returns-clause-good
@@ -50,3 +51,13 @@ returns-clause-good c =
     let made = c.in_ok-phases.ensures ∙ ap (closed_phases h.size vectors.closing) c.in_ok-made.ensures in
     subst (λ ts. IsGoodSigma (of_phases h ts)) (sym made)
     (vec_can_merge (target_of request) vectors (machine_of request c.request-request.ensures.valid) c.requires)
+
+pub returns-clause-tree : goal.returns-clause-tree
+returns-clause-tree c =
+    let request = c.args.c.now in
+    let vectors = plain_vec c.args.vectors in
+    let h = vectors.target in
+    let made = c.in_ok-phases.ensures ∙ ap (closed_phases h.size vectors.closing) c.in_ok-made.ensures in
+    λ t is.
+    subst (λ ts. IsTreeSigma request t (of_phases h ts)) (sym made)
+    (subst (λ g. IsTreeSigma request t (sigma_of g)) (sym is.form) (trees_are_sigmas request t is.valid is.tree))

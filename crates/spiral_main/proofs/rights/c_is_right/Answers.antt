@@ -1,6 +1,6 @@
 use Rattle.std.proofs.Common.{[], inr}
 use Rattle.c_print.specs.CText.{c_text_of}
-use Rattle.commands.specs.Letters.{program_for}
+use Rattle.commands.specs.Emission.Whole.{emission}
 use Rattle.spiral_words.specs.declared.Command.TheVariants as command
 use Rattle.spiral_words.specs.declared.Document.TheVariants as document
 use Rattle.spiral_words.specs.declared.RequestCommand.TheVariants as request
@@ -9,4 +9,4 @@ use Rattle.spiral_main.proofs.rights.c_is_right.Goals as goal
 
 pub returns : goal.returns
 returns c = λ words bytes plan asked right.
-    inr (command.ByRequest (request.Writes document.C), asked, text_is_right [] bytes (λ p. c_text_of (program_for p.request p.tree)) plan right)
+    inr (command.ByRequest (request.Writes document.C), asked, text_is_right [] bytes (λ p. c_text_of (emission p.request p.tree)) plan right)

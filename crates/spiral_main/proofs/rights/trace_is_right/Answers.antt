@@ -1,6 +1,6 @@
 use Rattle.std.proofs.Common.{◌++◌, inr}
 use Rattle.listing_text.specs.Listing.{listing_of}
-use Rattle.commands.specs.Letters.{program_for}
+use Rattle.commands.specs.Emission.Whole.{emission}
 use Rattle.commands.specs.Equations.Trace.{run_lines}
 use Rattle.commands.specs.SpiralInput.Orders.{procs_in}
 use Rattle.spiral_words.specs.declared.Command.TheVariants as command
@@ -10,5 +10,8 @@ use Rattle.spiral_main.proofs.rights.trace_is_right.Goals as goal
 
 pub returns : goal.returns
 returns c = λ words bytes order plan asked right vectors.
-    inr (command.ByRequest (request.Traces order), asked,
-    data_are_right (procs_in order) bytes (λ p vs. listing_of (program_for p.request p.tree) ++ run_lines order p vs) plan right vectors)
+    inr (
+      command.ByRequest (request.Traces order),
+      asked,
+      data_are_right (procs_in order) bytes (λ p vs. listing_of (emission p.request p.tree) ++ run_lines order p vs) plan right vectors,
+    )

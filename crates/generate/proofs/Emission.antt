@@ -1,0 +1,17 @@
+pub mod Closed
+pub mod Layouts
+pub mod Left
+pub mod Lists
+pub mod Matches
+pub mod Nests
+pub mod PlainTrees
+pub mod PlainWorks
+pub mod Programs
+pub mod Right
+pub mod Root
+pub mod RootPlaces
+pub mod SharedTrees
+pub mod Steps
+pub mod Tiles
+pub mod Trees
+pub mod Worked

@@ -1,0 +1,129 @@
+-- The merged passes of a tree: those of its layout, the last of which multiplies by the factor of an inverse.
+use Rattle.std.proofs.Common.{◌≡◌, ℕ, refl, sym, ap, ap₂, ◌∙◌, subst, List, [], ◌∷◌, ◌++◌, length, Option, None, Some, All}
+use Rattle.std.specs.Prelude.{map, reverse}
+use Rattle.std.proofs.lemmas.List.{map-append, reverse-append}
+use Rattle.std.proofs.lemmas.List.Elements.{All-head, All-tail}
+use Rattle.matrix_meaning.specs.declared.Request.{Request}
+use Rattle.matrix_meaning.specs.Parts.{forward_of}
+use Rattle.matrix_meaning.specs.Valid.{IsValid}
+use Rattle.operators.specs.declared.target.Target.{Target}
+use Rattle.perm_algebra.specs.Affine.{Sum, constant}
+use Rattle.sigma_lower.specs.Merged.{closed_phases, tree_merged}
+use Rattle.sigma_lower.specs.Shared.{phase_term}
+use Rattle.sigma_lower.specs.TreeLoops.Merge.{PlainPass, in_order, merged_of, merged_phases}
+use Rattle.sigma_lower.specs.TreeLoops.Nests.{loop_of}
+use Rattle.sigma_lower.specs.TreeTerms.Term.{lowered_of}
+use Rattle.sigma_lower.proofs.HaveLoops.{phases_have_loops}
+use Rattle.sigma_lower.proofs.Ordered.{trees_ordered}
+use Rattle.sigma_lower.proofs.TreeLayouts.{trees_can_lower}
+use Rattle.sigma_lower.proofs.TreeLoops.LoopLimits.{loops_are_limited}
+use Rattle.sigma_lower.proofs.TreeSigmas.ClosedLoops.{TakesClosing, closed_loop}
+use Rattle.sigma_lower.proofs.TreeSigmas.ClosedPhases.{ArePhases, IsPhase, closing_loops, each-some, layout-takes, loops_by, whole-loops, whole-phases}
+use Rattle.sigma_lower.proofs.TreeSigmas.ClosedPlaces.{all-first}
+use Rattle.sigma_lower.proofs.TreeSigmas.Closing.{takes-phases}
+use Rattle.sigma_lower.proofs.TreeSigmas.Lasts.{order-map}
+use Rattle.sigma_spl.specs.Lists.{LastIs, on_last}
+use Rattle.sigma_spl.specs.Loops.{PlainLoop, limits_in, loops_in, nest_of, one_nest}
+use Rattle.sigma_spl.specs.Merge.{items_out, most, place_sum}
+use Rattle.sigma_spl.specs.Merged.{PlainMerged}
+use Rattle.sigma_spl.specs.Nest.{PlainNest, repeated}
+use Rattle.sigma_spl.specs.Shared.Targets.{target_of}
+use Rattle.sigma_spl.specs.Sigma.{passes_in_order}
+use Rattle.sigma_spl.specs.Term as terms
+use Rattle.sigma_spl.specs.Work.{work_size}
+use Rattle.sigma_spl.proofs.Listed.{merge_listed}
+use Rattle.smp_rewrite.specs.LayoutSteps.Layout.{layout_of}
+use Rattle.smp_rewrite.specs.LayoutSteps.Whole.{factor_by}
+use Rattle.tree_model.specs.Breakdown.{Breakdown}
+use Rattle.tree_model.specs.Chosen.{IsWholeTree}
+use Rattle.generate.proofs.Emission.Nests.{multiplying, nests}
+
+abbrev pub phases-in : Request → List (List (List PlainNest)) → PlainMerged
+phases-in c phases = record { size = c.size; procs = c.procs; lanes = c.lanes; phases = phases }
+
+-- all items take one factor
+abbrev pub firsts : List Sum → List Sum
+firsts es = map (λ _. constant 0) es
+
+abbrev pub closing : Option ℕ → List (List PlainNest) → List (List PlainNest)
+closing None ps = ps
+closing (Some v) ps = on_last (map (multiplying (repeated v 1) firsts)) ps
+
+abbrev pub closed-phases : Option ℕ → List (List (List PlainNest)) → List (List (List PlainNest))
+closed-phases None phases = phases
+closed-phases (Some v) phases = on_last (closing (Some v)) phases
+
+-- ---- merging makes a nest of each loop
+
+in-order : (ps : List PlainLoop) → reverse (map one_nest ps) ≡ map one_nest (reverse ps)
+in-order [] = refl
+in-order (p ∷ ps) =
+    reverse-append (one_nest p ∷ []) (map one_nest ps)
+    ∙ ap (λ zs. zs ++ one_nest p ∷ []) (in-order ps)
+    ∙ sym (map-append one_nest (reverse ps) (p ∷ []))
+    ∙ sym (ap (map one_nest) (reverse-append (p ∷ []) ps))
+
+module _ (h : Target) where
+  merged-loops : (us : List terms.PlainTerm) → All (IsPhase h) us →
+      map (passes_in_order h.size) us ≡ map (map one_nest) (map (λ t. reverse (loops_in t)) us)
+  merged-loops [] are = refl
+  merged-loops (t ∷ us) are =
+      let is = All-head (IsPhase h) t us are in
+      ap₂ (λ z zs. z ∷ zs) (ap reverse (merge_listed (most 64) h.size t is.ordered is.limited) ∙ in-order (loops_in t))
+      (merged-loops us (All-tail (IsPhase h) t us are))
+
+-- ---- the last loop takes the factor
+
+last-mapped : {A B : Type 0} (F : A → B) (f : A → A) (g : B → B) (Q : A → Type 0) →
+    ((x : A) → Q x → F (f x) ≡ g (F x)) → (xs : List A) → LastIs Q xs → map F (on_last f xs) ≡ on_last g (map F xs)
+last-mapped F f g Q step [] last = absurd last
+last-mapped F f g Q step (x ∷ []) last = ap (λ z. z ∷ []) (step x last)
+last-mapped F f g Q step (x ∷ y ∷ xs) last = ap (λ zs. F x ∷ zs) (last-mapped F f g Q step (y ∷ xs) last)
+
+closed-nest : (n v : ℕ) (p : PlainLoop) → TakesClosing n p →
+    one_nest (closed_loop n v p) ≡ map (multiplying (repeated v 1) firsts) (one_nest p)
+closed-nest n v p takes =
+    ap (λ es. multiplying (repeated v 1) (λ _. es) (nest_of p) ∷ [])
+    (all-first (limits_in p) n p.afters
+    (map (place_sum p.path (work_size p.work) 0) (items_out p.work (length p.path))) takes.alone)
+
+closed-loops : (h : Target) (o : Option ℕ) (phases : List (List PlainLoop)) →
+    LastIs (LastIs (TakesClosing h.size)) phases →
+    map (map one_nest) (closing_loops h o phases) ≡ closed-phases o (map (map one_nest) phases)
+closed-loops h None phases last = refl
+closed-loops h (Some v) phases last =
+    last-mapped (map one_nest) (on_last (closed_loop h.size v)) (closing (Some v)) (LastIs (TakesClosing h.size))
+    (λ ps takes. last-mapped one_nest (closed_loop h.size v) (map (multiplying (repeated v 1) firsts))
+    (TakesClosing h.size) (closed-nest h.size v) ps takes) phases last
+
+nests-of : (ps : List PlainPass) → map one_nest (map loop_of ps) ≡ nests ps
+nests-of [] = refl
+nests-of (p ∷ ps) = ap (λ zs. one_nest (loop_of p) ∷ zs) (nests-of ps)
+
+all-nests : (phases : List (List PlainPass)) → map (map one_nest) (map (map loop_of) phases) ≡ map nests phases
+all-nests [] = refl
+all-nests (ps ∷ phases) = ap₂ (λ z zs. z ∷ zs) (nests-of ps) (all-nests phases)
+
+pub closed_tree : (c : Request) (t : Breakdown) → IsValid c → IsWholeTree c t →
+    tree_merged c t ≡ phases-in c
+    (closed-phases (factor_by c.kind c) (map nests (merged_phases (target_of c) (layout_of (forward_of c) t))))
+closed_tree c t valid tree =
+    let h = target_of c in
+    let l = layout_of (forward_of c) t in
+    let o = factor_by c.kind c in
+    let ts = lowered_of h l in
+    let can = trees_can_lower c t valid tree in
+    let are : ArePhases h ts = record {
+      ordered = trees_ordered h l can.machine can.shares can.good.layout;
+      have = phases_have_loops h l can.machine can.shares can.good.layout;
+      limited = loops_are_limited h l can.machine can.shares can.good.layout;
+    } in
+    let loops = loops_by h ts in
+    let flat : in_order loops ≡ map loop_of (merged_of h l) = order-map loop_of (merged_phases h l) in
+    let takes = takes-phases h loops (each-some h ts are.have)
+    (subst (LastIs (TakesClosing c.size)) (sym flat) (layout-takes h l can.machine can.shares can.good.layout)) in
+    ap (phases-in c)
+    (merged-loops h (closed_phases h.size o (map phase_term ts)) (whole-phases h o ts are takes)
+    ∙ ap (map (map one_nest)) (whole-loops h o ts)
+    ∙ closed-loops h o loops takes
+    ∙ ap (closed-phases o) (all-nests (merged_phases h l)))

@@ -1,0 +1,222 @@
+-- The passes of a shared root's left part are those of the part alone, in all copies.
+use Rattle.std.proofs.Common.{◌≡◌, ℕ, ◌+◌, ◌*◌, ◌/◌, arith, refl, sym, ap, ap₂, ◌∙◌, List, [], ◌∷◌, ◌++◌, length, subst, mul_comm, Option, None, Some}
+use Rattle.std.specs.Prelude.{map}
+use Rattle.std.specs.Option.{option_map}
+use Rattle.std.proofs.lemmas.List.{map-append}
+use Rattle.index_fn.specs.Mapping.{Mapping}
+use Rattle.matrix_meaning.specs.declared.Request.{Request}
+use Rattle.perm_algebra.specs.Affine.{Divided, Sum, constant, joined, scaled, simplified}
+use Rattle.perm_algebra.proofs.Shape.{divided-joined}
+use Rattle.perm_algebra.proofs.Sizes.{joined-end, scaled-one}
+use Rattle.sigma_lower.specs.TreeLoops.Merge.{PlainDiagonal, PlainPass}
+use Rattle.sigma_lower.specs.TreeLoops.Nests.{loop_of}
+use Rattle.sigma_lower.specs.TreeLoops.Placed.{AreCounts, Fits, all_simplified, place_sum}
+use Rattle.sigma_lower.specs.TreeTerms.Root.{left_path}
+use Rattle.sigma_lower.specs.TreeTerms.Wrapped.{inner_of}
+use Rattle.sigma_lower.proofs.TreeLoops.InCopies.{AreCopies, placed}
+use Rattle.sigma_lower.proofs.TreeLoops.LeftPlaces.{Spread, counts-append, left_fills, left_wide, part-leads, size_under-append}
+use Rattle.sigma_lower.proofs.TreeLoops.LineMoves.{AreThree, LeadsTo, dealt-leads, leads-same}
+use Rattle.sigma_lower.proofs.TreeLoops.Moved.{placed-columns}
+use Rattle.sigma_lower.proofs.TreeLoops.PlaceLimits.{IsPlacedPass}
+use Rattle.sigma_lower.proofs.TreeLoops.PlaceSums.{parts-fit}
+use Rattle.sigma_lower.proofs.TreeLoops.RootPasses.{if_dealt, left_diagonal, left_pass, on_all}
+use Rattle.sigma_lower.proofs.TreeLoops.RootShares.{AreShares, columns_some, dealt_small, tiles_are, tiles_fill}
+use Rattle.sigma_lower.proofs.TreeLoops.Shaped.{IsShaped, IsShapedWork}
+use Rattle.sigma_lower.proofs.TreeLoops.Staying.{StaysIn}
+use Rattle.sigma_lower.proofs.TreeLoops.WithinPlaces.{natural-copies}
+use Rattle.sigma_spl.specs.Loops.{nest_of}
+use Rattle.sigma_spl.specs.Work.{work_size}
+use Rattle.sigma_spl.proofs.Several.{several-append}
+use Rattle.operators.specs.declared.tensor_paths.Tensor.TheVariants.{Blocks, Columns}
+use Rattle.operators.specs.TensorPaths.Path.{Path, count_of, size_under}
+use Rattle.generate.specs.Emission.Passes.{Pass}
+use Rattle.generate.specs.Emission.Places.{same, turn_of}
+use Rattle.generate.specs.Emission.Root.{lane_of, lane_loops, strided}
+use Rattle.generate.specs.Emission.Whole as emission
+use Rattle.generate.proofs.Emission.Matches.{HasDiagonal, IsSame}
+use Rattle.generate.proofs.Emission.Nests.{IsLooped, IsNodeWork, same-nest}
+use Rattle.generate.proofs.Emission.Root.{columns-each}
+use Rattle.generate.proofs.Emission.RootPlaces.{natural-turns, turns-are}
+
+module _ (c : Request) (r s : ℕ) (h : AreShares c.size c.procs c.lanes r s) where
+  abbrev size : ℕ
+  size = c.size
+
+  abbrev p : ℕ
+  p = c.procs
+
+  abbrev v : ℕ
+  v = c.lanes
+
+  abbrev k : ℕ
+  k = s / p / v
+
+  abbrev q : Sum
+  q = turn_of [] p
+
+  abbrev l : Sum
+  l = lane_of c
+
+  abbrev j : Sum
+  j = turn_of (lane_loops c) k
+
+  abbrev column : Sum
+  column = joined (scaled k q) j
+
+  abbrev three : Path
+  three = Blocks p ∷ Columns v ∷ Columns k ∷ []
+
+  abbrev whole : Path
+  whole = Columns v ∷ Columns (s / v) ∷ []
+
+  abbrev us : List Sum
+  us = l ∷ column ∷ []
+
+  abbrev outer : List ℕ
+  outer = map count_of (left_path p v s)
+
+  abbrev d : ℕ
+  d = 0 + length (left_path p v s)
+
+  left_whole : size_under three r ≡ size
+  left_whole = let columns : r * s ≡ r * (p * (v * k)) = ap (λ n. r * n) h.columns in omega (arith, h.product, columns)
+
+  -- where emission's turns stand
+  strided-placed : (cs : ℕ → ℕ) (y : Sum) → strided c s cs y ≡ placed whole r us y
+  strided-placed cs y =
+      ap (λ n. joined (scaled s y) (joined (scaled v (joined (scaled n q) (turn_of (lane_loops c) n))) l))
+      (columns-each c r s h)
+      ∙ ap (λ n. joined (scaled n y) (joined (scaled v column) l)) (sym (tiles_fill size p v r s h))
+      ∙ sym (placed-columns v (s / v) [] r l column [] y)
+
+  -- the sums of the lane, and of the processor and the loop together
+  abbrev spread : (cs : ℕ → ℕ) → AreCounts (left_path p v s) r 0 cs → Spread size p v r s h cs 0
+  spread cs counts =
+      let named = subst (λ ts. AreCopies three ts cs) (sym (turns-are [] three)) (natural-copies three r 0 cs counts) in
+      let both : AreThree cs p v k q l j = record { processor = named.0; lane = named.1.0; other = named.1.1.0 } in
+      let fits : Fits (s / v) column cs =
+      subst (λ n. Fits n column cs) (sym (tiles_are size p v r s h ∙ mul_comm k p))
+      (parts-fit p k q j cs (columns_some size p v r s h) named.0 named.1.1.0) in
+      record {
+        lane = l;
+        column = column;
+        copies = (named.1.0, (fits, tt));
+        dealt = λ n e is inside.
+            leads-same cs size (if_dealt n p v r s) (place_sum (left_path p v s) r 0 e) _ _ (natural-turns three r e)
+            (subst (LeadsTo cs size (if_dealt n p v r s) (placed three r (q ∷ l ∷ j ∷ []) e))
+            (ap (λ g. joined (scaled v g) l)
+            (placed-columns k p [] r j q [] e
+            ∙ ap (λ n. placed (Columns n ∷ []) r (column ∷ []) e) (sym (tiles_are size p v r s h))))
+            (dealt-leads p v k r size n q l j e cs both inside is left_whole h.whole.high
+            (dealt_small size p v r s h)));
+      }
+
+  -- a pass of the part alone, within its limits
+  pub record IsPart (m : ℕ) (z : PlainPass) : Type 0 where
+    pub placed : IsPlacedPass r [] r z
+    pub shape : IsShaped (IsShapedWork m) r z
+    pub node : IsNodeWork z.work
+
+  module _ (m : ℕ) (z : PlainPass) (part : IsPart m z) where
+    abbrev n : ℕ
+    n = work_size z.work
+
+    -- what is known where the pass is in all copies
+    record IsSpread (cs : ℕ → ℕ) (e : Sum) : Type 0 where
+      inner : AreCounts z.path n d cs
+      sums : Spread size p v r s h cs 0
+      same_lane : sums.lane ≡ l
+      same_column : sums.column ≡ column
+
+    spread-pass : (cs : ℕ → ℕ) (e : Sum) → AreCounts (left_path p v s ++ z.path) n 0 cs → IsSpread cs e
+    spread-pass cs e counts =
+        let split = counts-append (left_path p v s) z.path n 0 cs counts in
+        record {
+          inner = split.1;
+          sums = spread cs (subst (λ i. AreCounts (left_path p v s) i 0 cs) part.shape.fills split.0);
+          same_lane = refl;
+          same_column = refl;
+        }
+
+    -- where functions of the part alone lead in all copies
+    led : (cs : ℕ → ℕ) (e : Sum) (fs : List Mapping) (i : ℕ) → AreCounts (left_path p v s ++ z.path) n 0 cs →
+        i ≡ p * r → StaysIn cs r fs (place_sum z.path n d e) →
+        all_simplified cs (if_dealt i p v r s ++ map (on_all v r s) fs) (place_sum (left_path p v s ++ z.path) n 0 e)
+        ≡ placed whole r us (all_simplified cs fs (place_sum z.path n d e))
+    led cs e fs i counts is stays =
+        let there = spread-pass cs e counts in
+        (part-leads size p v r s h cs z.path fs n i e there.sums part.shape.fills is stays).is
+        ∙ ap₂ (λ a b. placed whole r (a ∷ b ∷ []) (all_simplified cs fs (place_sum z.path n d e))) there.same_lane
+        there.same_column
+
+    -- the item of its copy, at the place in all copies
+    inner-whole : (cs : ℕ → ℕ) (path : Path) (count : ℕ) (y : Sum) → Fits v l cs × Fits (s / v) column cs →
+        simplified cs (inner_of (Columns s ∷ path) count) (placed whole r us y) ≡ simplified cs (inner_of path count) y
+    inner-whole cs path count y (lane, other) =
+        let u : Sum = joined (scaled v column) l in
+        let fit : Fits s u cs =
+        subst (λ i. Fits i u cs) (mul_comm (s / v) v ∙ tiles_fill size p v r s h)
+        (parts-fit (s / v) v column l cs h.lanes other lane) in
+        let same_place : placed whole r us y ≡ joined (scaled s y) u = placed-columns v (s / v) [] r l column [] y
+        ∙ ap (λ a. joined (scaled a y) u) (tiles_fill size p v r s h) in
+        ap (simplified cs (inner_of (Columns s ∷ path) count)) same_place
+        ∙ ap (λ (x : Divided). joined (scaled 1 (simplified cs (inner_of path count) x.quot)) (constant 0))
+        (divided-joined s y u cs (let two = h.right in omega (arith, two)) fit.proper fit.small)
+        ∙ joined-end _
+        ∙ scaled-one _
+
+    fits-of : (cs : ℕ → ℕ) (e : Sum) → AreCounts (left_path p v s ++ z.path) n 0 cs →
+        Fits v l cs × Fits (s / v) column cs
+    fits-of cs e counts =
+        let there = spread-pass cs e counts in
+        let copies = there.sums.copies in
+        (subst (λ a. Fits v a cs) there.same_lane copies.0, subst (λ a. Fits (s / v) a cs) there.same_column copies.1.0)
+
+    diagonals : (q' : Pass) (x : Option PlainDiagonal) → z.diagonal ≡ x → HasDiagonal outer d (strided c s) z q' x →
+        HasDiagonal [] 0 same (left_pass p v r s z) q' (option_map (left_diagonal p v r s) x)
+    diagonals q' None is has = has
+    diagonals q' (Some x) is has = (
+      has.0,
+      has.1,
+      λ cs e counts fits.
+          let there = spread-pass cs e counts in
+          let multiplied = (part.placed.multiplies x is).0 cs d e there.inner fits in
+          has.2 cs e there.inner fits
+          ∙ sym (inner-whole cs x.path (x.rows * x.cols) (all_simplified cs x.places (place_sum z.path n d e))
+          (fits-of cs e counts))
+          ∙ ap (simplified cs (inner_of (Columns s ∷ x.path) (x.rows * x.cols)))
+          (sym (led cs e x.places (r * p) counts (mul_comm r p) multiplied.stays)),
+    )
+
+    pub left_same : (q' : Pass) → IsSame outer d (strided c s) z q' → IsSame [] 0 same (left_pass p v r s z) q'
+    left_same q' is = record {
+      begun = record {
+        counts = is.begun.counts ∙ sym (map-append count_of (left_path p v s) z.path);
+        work = is.begun.work;
+        load = λ cs e counts fits.
+            let there = spread-pass cs e counts in
+            is.begun.load cs e there.inner fits
+            ∙ strided-placed cs _
+            ∙ sym (led cs e z.befores (p * r) counts refl (part.placed.gathers cs d e there.inner fits));
+      };
+      store = λ cs e counts fits.
+          let there = spread-pass cs e counts in
+          is.store cs e there.inner fits
+          ∙ strided-placed cs _
+          ∙ sym (led cs e z.afters (r * p) counts (mul_comm r p) (part.placed.scatters.stays cs d e there.inner fits));
+      factors = diagonals q' z.diagonal refl is.factors;
+    }
+
+    left_looped : IsLooped m size (left_pass p v r s z)
+    left_looped = record {
+      wide = several-append (left_path p v s) z.path (left_wide size p v r s h) part.shape.wide;
+      fills = size_under-append (left_path p v s) z.path n ∙ ap (size_under (left_path p v s)) part.shape.fills
+          ∙ left_fills size p v r s h;
+      work = part.shape.work;
+      node = part.node;
+    }
+
+    pub left_nest : (q' : Pass) → IsSame outer d (strided c s) z q' →
+        nest_of (loop_of (left_pass p v r s z)) ≡ emission.emitted_nest q'
+    left_nest q' is = same-nest m size (left_pass p v r s z) q'
+        (let low = h.whole.low in omega (arith, low)) left_looped (left_same q' is)

@@ -1,0 +1,100 @@
+-- Lists of passes that are the same are the same nests, with factors in the last of them or with none.
+use Rattle.std.proofs.Common.{◌≡◌, ℕ, refl, sym, ap, ap₂, ◌∙◌, List, [], ◌∷◌, ◌++◌, subst}
+use Rattle.std.specs.Prelude.{map}
+use Rattle.sigma_spl.specs.Lists.{on_last}
+use Rattle.perm_algebra.specs.Affine.{Sum}
+use Rattle.sigma_lower.specs.TreeLoops.Merge.{PlainPass}
+use Rattle.sigma_lower.specs.TreeLoops.Nests.{loop_of}
+use Rattle.sigma_spl.specs.Loops.{nest_of, one_nest}
+use Rattle.sigma_spl.specs.Nest.{PlainFactors, PlainNest}
+use Rattle.generate.specs.Emission.Passes.{Pass, Site, entries, moved, none}
+use Rattle.generate.specs.Emission.Places.{PlaceFunction, after}
+use Rattle.generate.specs.Emission.Whole as emission
+use Rattle.generate.proofs.Emission.Matches.{ArePasses, AreSame, AreUpTo, HasDiagonal, IsLast, IsSame}
+use Rattle.generate.proofs.Emission.Nests.{emitted, freed, multiplied-nest, multiplying}
+
+-- P holds of each pass
+abbrev pub AllPasses : (PlainPass → Type 0) → List PlainPass → Type 0
+AllPasses P [] = Unit {0}
+AllPasses P (p ∷ ps) = P p × AllPasses P ps
+
+pub all-append : (P : PlainPass → Type 0) (ps qs : List PlainPass) → AllPasses P ps → AllPasses P qs →
+    AllPasses P (ps ++ qs)
+all-append P [] qs h k = k
+all-append P (p ∷ ps) qs h k = (h.0, all-append P ps qs h.1 k)
+
+-- passes as they stand in the whole
+abbrev pub nests_as : (PlainPass → PlainPass) → List PlainPass → List (List PlainNest)
+nests_as g ps = map (λ p. one_nest (loop_of (g p))) ps
+
+module _ (outer : List ℕ) (d : ℕ) (whole : PlaceFunction) (g : PlainPass → PlainPass) (Good : PlainPass → Type 0)
+    (nest : (p : PlainPass) (q : Pass) → Good p → IsSame outer d whole p q →
+    nest_of (loop_of (g p)) ≡ emission.emitted_nest q) where
+  pub same-passes : (ps : List PlainPass) (qs : List Pass) → AllPasses Good ps → AreSame outer d whole ps qs →
+      nests_as g ps ≡ emitted qs
+  same-passes [] [] good h = refl
+  same-passes [] (q ∷ qs) good h = absurd h
+  same-passes (p ∷ ps) [] good h = absurd h
+  same-passes (p ∷ ps) (q ∷ qs) good h =
+      ap₂ (λ z zs. (z ∷ []) ∷ zs) (nest p q good.0 h.0) (same-passes ps qs good.1 h.1)
+
+  module _ (n : ℕ) (o : Site) (stores : (cs : ℕ → ℕ) (e : Sum) → o.store cs e ≡ whole cs e) where
+    -- the last pass of a whole, without its factors
+    whole-last : (p : PlainPass) (q : Pass) → IsLast outer d whole [] n o p q → IsSame outer d whole p (freed q)
+    whole-last p q last = record {
+      begun = record { counts = last.begun.counts; work = last.begun.work; load = last.begun.load };
+      store = λ cs e counts fits. last.store cs e ∙ stores cs (last.own cs e)
+          ∙ ap (whole cs) (sym (last.place cs e counts fits));
+      factors = subst (HasDiagonal outer d whole p (freed q)) (sym last.free) refl;
+    }
+
+    -- ---- with no factors
+
+    free-nest : (p : PlainPass) (q : Pass) → o.factors ≡ none → Good p → IsLast outer d whole [] n o p q →
+        nest_of (loop_of (g p)) ≡ emission.emitted_nest q
+    free-nest p q free good last =
+        nest p (freed q) good (whole-last p q last)
+        ∙ ap (λ f. emission.emitted_nest
+        (record { counts = q.counts; work = q.work; load = q.load; factors = f; store = q.store }))
+        (sym (last.factors ∙ ap (λ f. moved f last.own) free))
+
+    free-rest : (p : PlainPass) (q : Pass) (ps : List PlainPass) (qs : List Pass) → o.factors ≡ none → Good p →
+        AllPasses Good ps → AreUpTo outer d whole [] n o p q ps qs → nests_as g (p ∷ ps) ≡ emitted (q ∷ qs)
+    free-rest p q [] [] free good all h = ap (λ z. (z ∷ []) ∷ []) (free-nest p q free good h)
+    free-rest p q [] (y ∷ ys) free good all h = absurd h
+    free-rest p q (x ∷ xs) [] free good all h = absurd h
+    free-rest p q (x ∷ xs) (y ∷ ys) free good all h =
+        ap₂ (λ z zs. (z ∷ []) ∷ zs) (nest p q good h.0) (free-rest x y xs ys free all.0 all.1 h.1)
+
+    pub free-passes : (ps : List PlainPass) (qs : List Pass) → o.factors ≡ none → AllPasses Good ps →
+        ArePasses outer d whole [] n o ps qs → nests_as g ps ≡ emitted qs
+    free-passes [] qs free good h = absurd h
+    free-passes (p ∷ ps) [] free good h = absurd h
+    free-passes (p ∷ ps) (q ∷ qs) free good h = free-rest p q ps qs free good.0 good.1 h
+
+    -- ---- with factors in the last
+
+    module _ (ds : PlainFactors) (place : PlaceFunction) (f : List Sum → List Sum) (is : o.factors ≡ entries ds place)
+        (at : (cs : ℕ → ℕ) (stored own : Sum → Sum) (es : List Sum) → ((e : Sum) → stored e ≡ o.store cs (own e)) →
+        f (map stored es) ≡ map (λ e. place cs (own e)) es) where
+      factors-nest : (p : PlainPass) (q : Pass) → Good p → IsLast outer d whole [] n o p q →
+          multiplying ds f (nest_of (loop_of (g p))) ≡ emission.emitted_nest q
+      factors-nest p q good last =
+          ap (multiplying ds f) (nest p (freed q) good (whole-last p q last))
+          ∙ multiplied-nest ds (after place last.own) f q (last.factors ∙ ap (λ x. moved x last.own) is)
+          (λ cs es. at cs (q.store cs) (last.own cs) es (last.store cs))
+
+      factors-rest : (p : PlainPass) (q : Pass) (ps : List PlainPass) (qs : List Pass) → Good p → AllPasses Good ps →
+          AreUpTo outer d whole [] n o p q ps qs →
+          on_last (map (multiplying ds f)) (nests_as g (p ∷ ps)) ≡ emitted (q ∷ qs)
+      factors-rest p q [] [] good all h = ap (λ z. (z ∷ []) ∷ []) (factors-nest p q good h)
+      factors-rest p q [] (y ∷ ys) good all h = absurd h
+      factors-rest p q (x ∷ xs) [] good all h = absurd h
+      factors-rest p q (x ∷ xs) (y ∷ ys) good all h =
+          ap₂ (λ z zs. (z ∷ []) ∷ zs) (nest p q good h.0) (factors-rest x y xs ys all.0 all.1 h.1)
+
+      pub factors-passes : (ps : List PlainPass) (qs : List Pass) → AllPasses Good ps →
+          ArePasses outer d whole [] n o ps qs → on_last (map (multiplying ds f)) (nests_as g ps) ≡ emitted qs
+      factors-passes [] qs good h = absurd h
+      factors-passes (p ∷ ps) [] good h = absurd h
+      factors-passes (p ∷ ps) (q ∷ qs) good h = factors-rest p q ps qs good.0 good.1 h

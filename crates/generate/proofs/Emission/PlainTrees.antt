@@ -1,0 +1,159 @@
+-- On one processor and one lane the program of a tree is its emission.
+use Rattle.std.proofs.Common.{◌≡◌, ℕ, ◌<◌, ◌==◌, ◌&&◌, true, if◌then◌else◌, refl, sym, ap, ap₂, ◌∙◌, arith, List, [], ◌∷◌, ◌++◌, Option, None, Some}
+use Rattle.std.specs.Prelude.{map}
+use Rattle.std.proofs.lemmas.List.{map-append, append-nil}
+use Rattle.loop_merge.specs.JoinedPasses.Joined.{joined}
+use Rattle.sigma_spl.specs.Lists.{on_last}
+use Rattle.matrix_meaning.specs.Convolving.{IsConvRequest}
+use Rattle.matrix_meaning.specs.Parts.{forward_by, forward_of, inverted}
+use Rattle.matrix_meaning.specs.Valid.{IsValid}
+use Rattle.matrix_meaning.specs.declared.Kind.{Kind}
+use Rattle.matrix_meaning.specs.declared.Kind.TheVariants.{Dft, Wht, Idft}
+use Rattle.matrix_meaning.specs.declared.Request.{Request}
+use Rattle.code_gen.specs.PassCode.Program.{program_of}
+use Rattle.sigma_lower.specs.Merged.{CanLower, tree_merged}
+use Rattle.sigma_lower.specs.TreeLoops.Merge.{PlainPass}
+use Rattle.sigma_lower.specs.TreeLoops.Nests.{loop_of}
+use Rattle.sigma_lower.proofs.TreeLayouts.{trees_can_lower}
+use Rattle.sigma_lower.proofs.TreeLoops.Shaped.{IsShapedWork, shaped_passes, shaped_works}
+use Rattle.sigma_lower.proofs.TreeLoops.TreePasses.{layout_passes}
+use Rattle.sigma_lower.proofs.TreeLoops.Wholes.{plain_phases}
+use Rattle.sigma_spl.specs.Loops.{nest_of}
+use Rattle.perm_algebra.specs.Affine.{constant}
+use Rattle.sigma_spl.specs.Nest.{repeated, values}
+use Rattle.sigma_spl.specs.Shared.Targets.{target_of}
+use Rattle.smp_rewrite.specs.LayoutSteps.Layout.{Layout, layout_of, layout_size}
+use Rattle.smp_rewrite.specs.LayoutSteps.Whole.{factor_by, whole_of}
+use Rattle.tree_model.specs.Breakdown.{Breakdown}
+use Rattle.tree_model.specs.Chosen.{IsWholeTree}
+use Rattle.tree_model.specs.Cost.{is_plain}
+use Rattle.generate.specs.ConvLetters.{conv_program}
+use Rattle.generate.specs.Emission.Passes.{Factors, Pass, entries, none, passes}
+use Rattle.generate.specs.Emission.Places.{same}
+use Rattle.generate.specs.Emission.Root.{root_phases}
+use Rattle.generate.specs.Emission.Whole.{closing_factors, conv_emission, emission, phases_of, whole_site}
+use Rattle.generate.specs.Emission.Whole as emissions
+use Rattle.generate.specs.Factors.{factors_of}
+use Rattle.generate.specs.Letters.{program_for}
+use Rattle.generate.proofs.ConvTrees.{inverse_tree, inverse_valid}
+use Rattle.generate.proofs.Emission.Closed.{closed-phases, closed_tree, firsts, phases-in}
+use Rattle.generate.proofs.Emission.Layouts.{layout_emitted, passes_of_layout}
+use Rattle.generate.proofs.Emission.Matches.{ArePasses, IsAround, IsSame}
+use Rattle.generate.proofs.Emission.Nests.{IsLooped, IsNodeWork, emitted, maps-same, maps-twice, multiplying, nests, same-nest}
+use Rattle.generate.proofs.Emission.Lists.{AllPasses, factors-passes, free-passes}
+use Rattle.generate.proofs.Emission.PlainWorks.{looped-all, node_works}
+use Rattle.generate.proofs.Emission.Trees.{layouts_match}
+use Rattle.tree_model.proofs.WholeTrees.{forward_itself}
+
+-- ---- a layout
+
+whole-around : (n : ℕ) (f : Factors) → IsAround [] 0 same [] [] n (whole_site f)
+whole-around n f = record { counts = refl; load = λ cs e counts fits. refl; keep = λ cs e. refl }
+
+module _ (c : Request) (t : Breakdown) (valid : IsValid c) (h : IsWholeTree c t) (plain : is_plain c ≡ true) where
+  abbrev l : Layout
+  l = layout_of (forward_of c) t
+
+  can : CanLower (target_of c) (whole_of c t)
+  can = trees_can_lower c t valid h
+
+  abbrev ps : List PlainPass
+  ps = layout_passes [] [] l
+
+  matches : (f : Factors) → ArePasses [] 0 same [] (layout_size l) (whole_site f) ps (layout_emitted (whole_site f) l)
+  matches f =
+      let size = can.shares.size in
+      let some = can.shares.some in
+      let small = can.shares.small in
+      layouts_match [] 0 same refl c.modulus (layout_size l) [] [] (whole_site f) l
+      (record { low = omega (arith, size, some); high = omega (arith, size, small) }) can.good.layout refl
+      (whole-around (layout_size l) f)
+
+  some : 0 < layout_size l
+  some = let size = can.shares.size in let low = can.shares.some in omega (arith, size, low)
+
+  good : AllPasses (IsLooped c.modulus (layout_size l)) ps
+  good =
+      looped-all c.modulus (layout_size l) ps
+      (shaped_passes (IsShapedWork c.modulus) c.modulus (layout_size l) [] [] l tt can.good.layout
+      (shaped_works c.modulus l can.good.layout) refl)
+      (shaped_passes IsNodeWork c.modulus (layout_size l) [] [] l tt can.good.layout
+      (node_works c.modulus l can.good.layout) refl)
+
+  -- a pass that is the same is the same nest
+  nest : (p : PlainPass) (q : Pass) → IsLooped c.modulus (layout_size l) p → IsSame [] 0 same p q →
+      nest_of (loop_of p) ≡ emissions.emitted_nest q
+  nest p q looped is = same-nest c.modulus (layout_size l) p q some looped is
+
+  -- the nests of the layout's passes, in one phase
+  pub closed_passes : tree_merged c t ≡ phases-in c (closed-phases (factor_by c.kind c) (nests ps ∷ []))
+  closed_passes = closed_tree c t valid h
+      ∙ ap (λ qs. phases-in c (closed-phases (factor_by c.kind c) (map nests qs))) (plain_phases (target_of c) l plain)
+
+  abbrev qs : Factors → List Pass
+  qs f = passes (forward_of c) (whole_site f) t
+
+  pub with-none : nests ps ≡ emitted (qs none)
+  with-none =
+      free-passes [] 0 same (λ p. p) (IsLooped c.modulus (layout_size l)) nest (layout_size l) (whole_site none)
+      (λ cs e. refl) ps _ refl good (matches none)
+      ∙ ap emitted (sym (passes_of_layout (forward_of c) (whole_site none) t))
+
+  pub with-own : (ds : List ℕ) →
+      on_last (map (multiplying (values ds) (λ es. es))) (nests ps) ≡ emitted (qs (entries (values ds) same))
+  with-own ds =
+      factors-passes [] 0 same (λ p. p) (IsLooped c.modulus (layout_size l)) nest (layout_size l)
+      (whole_site (entries (values ds) same)) (λ cs e. refl) (values ds) same (λ es. es) refl
+      (λ cs stored own es step. maps-same stored own es step) ps _ good (matches (entries (values ds) same))
+      ∙ ap emitted (sym (passes_of_layout (forward_of c) (whole_site (entries (values ds) same)) t))
+
+  all-closed : (o : Option ℕ) → closed-phases o (nests ps ∷ []) ≡ emitted (qs (closing_factors o)) ∷ []
+  all-closed None = ap (λ z. z ∷ []) with-none
+  all-closed (Some v) =
+      ap (λ z. z ∷ [])
+      (factors-passes [] 0 same (λ p. p) (IsLooped c.modulus (layout_size l)) nest (layout_size l)
+      (whole_site (closing_factors (Some v))) (λ cs e. refl) (repeated v 1) (λ counts k. constant 0) firsts refl
+      (λ cs stored own es step. maps-twice (λ _. constant 0) stored es) ps _ good (matches (closing_factors (Some v)))
+      ∙ ap emitted (sym (passes_of_layout (forward_of c) (whole_site (closing_factors (Some v))) t)))
+
+  plain-forward : (kind : Kind) → is_plain (forward_by kind c) ≡ is_plain c
+  plain-forward Dft = refl
+  plain-forward Wht = refl
+  plain-forward Idft = refl
+
+  pub plain_emission : program_for c t ≡ emission c t
+  plain_emission =
+      ap (program_of (target_of c))
+      (closed_passes
+      ∙ ap (phases-in c) (all-closed (factor_by c.kind c))
+      ∙ ap (λ b. phases-in c
+      (map emitted (if b then qs (closing_factors (factor_by c.kind c)) ∷ [] else root_phases (forward_of c)
+      (closing_factors (factor_by c.kind c)) t))) (sym (plain-forward c.kind ∙ plain)))
+
+-- ---- convolutions
+
+pub conv_emissions : (r : Request) (t : Breakdown) (ls : List ℕ) → IsConvRequest r → IsValid r → IsWholeTree r t →
+    conv_program r t ls ≡ conv_emission r t ls
+conv_emissions r t ls request valid h =
+    let ds = factors_of r ls in
+    let o = whole_site (entries (values ds) same) in
+    let back = inverted r in
+    let valid' = inverse_valid r request valid in
+    let h' = inverse_tree r request valid t h in
+    let plain : is_plain r ≡ true = ap₂ (λ p v. p == 1 && v == 1) request.procs request.lanes in
+    let forward : forward_of r ≡ r =
+    forward_itself r (λ inverse. let other : Dft ≡ Idft = sym request.kind ∙ inverse in cc) in
+    let ps = layout_passes [] [] (layout_of (forward_of r) t) in
+    let qs = layout_passes [] [] (layout_of back t) in
+    ap (program_of (target_of r))
+    (ap₂ (λ g k. joined g ds k)
+    (closed_passes r t valid h plain
+    ∙ ap (λ kind. phases-in r (closed-phases (factor_by kind r) (nests ps ∷ []))) request.kind)
+    (closed_passes back t valid' h' plain)
+    ∙ ap₂ (λ xs ys. phases-in r ((on_last (map (multiplying (values ds) (λ es. es))) xs ++ ys) ∷ []))
+    (append-nil (nests ps)) (append-nil (nests qs))
+    ∙ ap₂ (λ xs ys. phases-in r ((xs ++ ys) ∷ []))
+    (with-own r t valid h plain ds ∙ ap (λ z. emitted (passes z o t)) forward)
+    (with-none back t valid' h' plain)
+    ∙ ap (λ zs. phases-in r (zs ∷ []))
+    (sym (map-append (λ q. emissions.emitted_nest q ∷ []) (passes r o t) (passes back (whole_site none) t))))

@@ -1,0 +1,319 @@
+-- On several processors or lanes the program of a tree is its emission.
+use Rattle.std.proofs.Common.{◌≡◌, ℕ, ◌+◌, ◌*◌, ◌==◌, Bool, true, false, if◌then◌else◌, arith, refl, sym, ap, ap₂, ◌∙◌, List, [], ◌∷◌, ◌++◌, length, subst, Option, None, Some}
+use Rattle.std.specs.Prelude.{map, nat_le}
+use Rattle.std.proofs.lemmas.Bool.{eq-eqb}
+use Rattle.std.proofs.lemmas.List.{length-map}
+use Rattle.code_gen.specs.PassCode.Program.{program_of}
+use Rattle.sigma_spl.specs.Lists.{on_last}
+use Rattle.matrix_meaning.specs.Parts.{forward_by, forward_of, inverted}
+use Rattle.matrix_meaning.specs.Valid.{IsValid}
+use Rattle.matrix_meaning.specs.declared.Kind.{Kind}
+use Rattle.matrix_meaning.specs.declared.Kind.TheVariants.{Dft, Wht, Idft}
+use Rattle.matrix_meaning.specs.declared.Request.{Request}
+use Rattle.perm_algebra.specs.Affine.{constant}
+use Rattle.sigma_lower.specs.Merged.{CanLower}
+use Rattle.sigma_lower.specs.TreeLoops.Merge.{PlainPass}
+use Rattle.sigma_lower.specs.TreeLoops.Nests.{loop_of}
+use Rattle.sigma_lower.specs.TreeTerms.Root.{left_path}
+use Rattle.sigma_lower.proofs.TreeLayouts.{trees_can_lower}
+use Rattle.sigma_lower.proofs.TreeLoops.PartRules.{IsSize}
+use Rattle.sigma_lower.proofs.TreeLoops.PlaceLimits.{ArePlaced, whole_placed}
+use Rattle.sigma_lower.proofs.TreeLoops.RootMerging.{root_merged}
+use Rattle.sigma_lower.proofs.TreeLoops.RootPasses.{left_pass, left_passes, pass_phases, root_passes}
+use Rattle.sigma_lower.proofs.TreeLoops.RootShares.{AreShares, rows_size, shares_of}
+use Rattle.sigma_lower.proofs.TreeLoops.Shaped.{AreShaped, IsShapedWork, shaped_passes, shaped_works}
+use Rattle.sigma_lower.proofs.TreeLoops.TreePasses.{IsFull, full_passes, layout_passes}
+use Rattle.sigma_spl.specs.Loops.{one_nest}
+use Rattle.sigma_spl.specs.Nest.{PlainNest, repeated}
+use Rattle.sigma_spl.specs.Shared.Targets.{is_alone, target_of}
+use Rattle.smp_rewrite.specs.Fits.{CanShareLayout}
+use Rattle.smp_rewrite.specs.LayoutSteps.Layout.{IsGoodLayout, Layout, by, layout_of, layout_size, node_work, work}
+use Rattle.smp_rewrite.specs.LayoutSteps.Whole.{factor_by, whole_of}
+use Rattle.smp_rewrite.proofs.LayoutSteps.Layouts.{layouts_have_size}
+use Rattle.operators.specs.TensorPaths.Path.{count_of}
+use Rattle.tree_model.specs.Breakdown.{Breakdown, leaf, node, size_of}
+use Rattle.tree_model.specs.Chosen.{IsWholeTree}
+use Rattle.tree_model.specs.Cost.{is_kernel, is_plain, node_root}
+use Rattle.tree_model.specs.Whole.{left_of, right_of}
+use Rattle.tree_model.specs.declared.tree.Rule.{Rule}
+use Rattle.tree_model.specs.declared.tree.Rule.TheVariants.{Gt, Ct, Split, Dim}
+use Rattle.generate.specs.Emission.Passes.{Factors, Pass, none, passes}
+use Rattle.generate.specs.Emission.Root.{left_root, right_root, root_phases, strided, tiles_after, tiles_before}
+use Rattle.generate.specs.Emission.Whole.{closing_factors, emission, whole_site}
+use Rattle.generate.specs.Letters.{program_for}
+use Rattle.generate.proofs.Emission.Closed.{closed-phases, closed_tree, closing, firsts, phases-in}
+use Rattle.generate.proofs.Emission.Layouts.{layout_emitted, passes_of_layout}
+use Rattle.generate.proofs.Emission.Left.{IsPart, left_nest}
+use Rattle.generate.proofs.Emission.Lists.{AllPasses, factors-passes, free-passes, nests_as}
+use Rattle.generate.proofs.Emission.Matches.{ArePasses, IsAround}
+use Rattle.generate.proofs.Emission.Nests.{IsNodeWork, emitted, maps-twice, multiplying, nests}
+use Rattle.generate.proofs.Emission.PlainWorks.{node_works}
+use Rattle.generate.proofs.Emission.Right.{ct_right, emitted-append, nests-append, none-either, split_right}
+use Rattle.generate.proofs.Emission.Root.{left_around}
+use Rattle.generate.proofs.Emission.Trees.{layouts_match}
+
+maps-passes : (g : PlainPass → PlainPass) (ps : List PlainPass) → nests (map g ps) ≡ nests_as g ps
+maps-passes g [] = refl
+maps-passes g (p ∷ ps) = ap (λ zs. one_nest (loop_of (g p)) ∷ zs) (maps-passes g ps)
+
+-- ---- the left part
+
+module _ (c : Request) (r s : ℕ) (h : AreShares c.size c.procs c.lanes r s) (a : Layout)
+    (good : IsGoodLayout c.modulus a) (is : layout_size a ≡ r) where
+  parts : (ps : List PlainPass) → ArePlaced r [] r ps → AreShaped (IsShapedWork c.modulus) r ps →
+      AreShaped IsNodeWork r ps → AllPasses (IsPart c r s h c.modulus) ps
+  parts [] placed shapes works = tt
+  parts (z ∷ zs) placed shapes works =
+      (record { placed = placed.0; shape = shapes.0; node = works.0.work }, parts zs placed.1 shapes.1 works.1)
+
+  abbrev alone : List PlainPass
+  alone = layout_passes [] [] a
+
+  size_here : IsSize (layout_size a)
+  size_here = subst IsSize (sym is) (rows_size c.size c.procs c.lanes r s h)
+
+  all : AllPasses (IsPart c r s h c.modulus) alone
+  all =
+      parts alone (subst (λ n. ArePlaced n [] n alone) is (whole_placed c.modulus a size_here good))
+      (shaped_passes (IsShapedWork c.modulus) c.modulus r [] [] a tt good (shaped_works c.modulus a good) is)
+      (shaped_passes IsNodeWork c.modulus r [] [] a tt good (node_works c.modulus a good) is)
+
+  abbrev outer : List ℕ
+  outer = map count_of (left_path c.procs c.lanes s)
+
+  abbrev d : ℕ
+  d = 0 + length (left_path c.procs c.lanes s)
+
+  long : length outer ≡ d
+  long = let same_length = length-map (left_path c.procs c.lanes s) count_of in omega (arith, same_length)
+
+  abbrev qs : Factors → List Pass
+  qs f = layout_emitted (left_root c s f) a
+
+  matches : (f : Factors) → ArePasses outer d (strided c s) [] r (left_root c s f) alone (qs f)
+  matches f =
+      subst (λ n. ArePasses outer d (strided c s) [] n (left_root c s f) alone (qs f)) is
+      (layouts_match outer d (strided c s) long c.modulus (layout_size a) [] [] (left_root c s f) a size_here good refl
+      (subst (λ n. IsAround outer d (strided c s) [] [] n (left_root c s f)) (sym is) (left_around c r s h f)))
+
+  abbrev lefts : List PlainPass
+  lefts = map (left_pass c.procs c.lanes r s) alone
+
+  left-closed : (o : Option ℕ) → closing o (nests lefts) ≡ emitted (qs (closing_factors o))
+  left-closed None =
+      maps-passes (left_pass c.procs c.lanes r s) alone
+      ∙ free-passes outer d (strided c s) (left_pass c.procs c.lanes r s) (IsPart c r s h c.modulus)
+      (λ z q part is. left_nest c r s h c.modulus z part q is) r (left_root c s none) (λ cs e. refl) alone
+      (qs none) refl all (matches none)
+  left-closed (Some v) =
+      ap (closing (Some v)) (maps-passes (left_pass c.procs c.lanes r s) alone)
+      ∙ factors-passes outer d (strided c s) (left_pass c.procs c.lanes r s) (IsPart c r s h c.modulus)
+      (λ z q part is. left_nest c r s h c.modulus z part q is) r (left_root c s (closing_factors (Some v)))
+      (λ cs e. refl)
+      (repeated v 1) (λ counts k. constant 0) firsts refl
+      (λ cs stored own es step. maps-twice (λ _. constant 0) stored es) alone (qs (closing_factors (Some v))) all
+      (matches (closing_factors (Some v)))
+
+-- ---- lists of which the last is changed
+
+abbrev IsSome : List (List PlainNest) → Type 0
+IsSome [] = ⊥
+IsSome (z ∷ zs) = Unit {0}
+
+some-behind : (zs ys : List (List PlainNest)) → IsSome ys → IsSome (zs ++ ys)
+some-behind [] ys h = h
+some-behind (z ∷ zs) ys h = tt
+
+last-behind : (f : List PlainNest → List PlainNest) (zs ys : List (List PlainNest)) → IsSome ys →
+    on_last f (zs ++ ys) ≡ zs ++ on_last f ys
+last-behind f [] ys h = refl
+last-behind f (z ∷ []) [] h = absurd h
+last-behind f (z ∷ []) (y ∷ ys) h = refl
+last-behind f (z ∷ x ∷ zs) ys h = ap (λ rest. z ∷ rest) (last-behind f (x ∷ zs) ys h)
+
+closed-behind : (o : Option ℕ) (zs ys : List (List PlainNest)) → IsSome ys → closing o (zs ++ ys) ≡ zs ++ closing o ys
+closed-behind None zs ys h = refl
+closed-behind (Some v) zs ys h = last-behind (map (multiplying (repeated v 1) firsts)) zs ys h
+
+some-nests : (ps : List PlainPass) → IsFull ps → IsSome (nests ps)
+some-nests [] h = absurd h
+some-nests (p ∷ ps) h = tt
+
+some-map : (g : PlainPass → PlainPass) (ps : List PlainPass) → IsFull ps → IsFull (map g ps)
+some-map g [] h = absurd h
+some-map g (p ∷ ps) h = tt
+
+-- ---- both parts
+
+abbrev phases-of : Bool → List (List PlainNest) → List (List PlainNest) → List (List (List PlainNest))
+phases-of one right left = if one then (right ++ left) ∷ [] else right ∷ left ∷ []
+
+closed-parts : (one : Bool) (o : Option ℕ) (right left : List (List PlainNest)) → IsSome left →
+    closed-phases o (phases-of one right left) ≡ phases-of one right (closing o left)
+closed-parts true None right left h = refl
+closed-parts false None right left h = refl
+closed-parts true (Some v) right left h = ap (λ z. z ∷ []) (closed-behind (Some v) right left h)
+closed-parts false (Some v) right left h = refl
+
+nests-phases : (one : Bool) (right left : List PlainPass) →
+    map nests (if one then (right ++ left) ∷ [] else right ∷ left ∷ []) ≡ phases-of one (nests right) (nests left)
+nests-phases true right left = ap (λ z. z ∷ []) (nests-append right left)
+nests-phases false right left = refl
+
+emitted-phases : (one : Bool) (right left : List Pass) →
+    map emitted (if one then (right ++ left) ∷ [] else right ∷ left ∷ []) ≡ phases-of one (emitted right) (emitted left)
+emitted-phases true right left = ap (λ z. z ∷ []) (emitted-append right left)
+emitted-phases false right left = refl
+
+-- what emission makes of a root of two layouts
+abbrev root_emitted : Request → Factors → Layout → List (List Pass)
+root_emitted c factors (work w) = []
+root_emitted c factors (by rule root a b) =
+    let r = layout_size a in
+    let s = layout_size b in
+    let first = tiles_before rule c r
+    s ++ (layout_emitted (right_root rule c r s root) b ++ tiles_after rule c r s root) in
+    let second = layout_emitted (left_root c s factors) a in
+    if c.procs == 1 then (first ++ second) ∷ [] else first ∷ second ∷ []
+
+module _ (c : Request) (o : Option ℕ) where
+  both : (rule : Rule) (root : ℕ) (a b : Layout) (right : List PlainPass) (first : List Pass) →
+      AreShares c.size c.procs c.lanes (layout_size a) (layout_size b) → IsGoodLayout c.modulus a →
+      nests right ≡ emitted first →
+      closed-phases o (map nests (pass_phases c.procs right (left_passes c.procs c.lanes (layout_size b) a)))
+      ≡ map emitted (if c.procs == 1 then
+      (first ++ layout_emitted (left_root c (layout_size b) (closing_factors o)) a) ∷ [] else first ∷ layout_emitted
+      (left_root c (layout_size b) (closing_factors o)) a ∷ [])
+  both rule root a b right first dealt good is =
+      let r = layout_size a in
+      let s = layout_size b in
+      let left = left_passes c.procs c.lanes s a in
+      let one = c.procs == 1 in
+      ap (closed-phases o) (nests-phases one right left)
+      ∙ closed-parts one o (nests right) (nests left)
+      (some-nests left (some-map (left_pass c.procs c.lanes r s) (layout_passes [] [] a) (full_passes [] [] a)))
+      ∙ ap₂ (phases-of one) is (left-closed c r s dealt a good refl o)
+      ∙ sym (emitted-phases one first (layout_emitted (left_root c s (closing_factors o)) a))
+
+  root-closed : (l : Layout) → CanShareLayout (target_of c) l → IsGoodLayout c.modulus l →
+      is_alone (target_of c) ≡ false →
+      closed-phases o (map nests (root_passes (target_of c) l)) ≡ map emitted (root_emitted c (closing_factors o) l)
+  root-closed (work w) can good shared = absurd (can.root shared)
+  root-closed (by Gt root a b) can good shared = absurd (can.root shared)
+  root-closed (by Ct root a b) can good shared =
+      let dealt = shares_of (target_of c) (by Ct root a b) (layout_size a) (layout_size b) can
+      (can.root shared) good.0.left good.0.right can.size in
+      both Ct root a b _ _ dealt good.1 (ct_right c (layout_size a) (layout_size b) root dealt b good.2 refl)
+  root-closed (by Split root a b) can good shared =
+      let dealt = shares_of (target_of c) (by Split root a b) (layout_size a) (layout_size b) can
+      (can.root shared) good.0.left good.0.right can.size in
+      both Split root a b _ _ dealt good.1
+      (split_right c (layout_size a) (layout_size b) root dealt b good.2 refl Split (λ cs e. refl)
+      (none-either (c.lanes == 1)))
+  root-closed (by Dim root a b) can good shared =
+      let dealt = shares_of (target_of c) (by Dim root a b) (layout_size a) (layout_size b) can
+      (can.root shared) good.0.left good.0.right can.size in
+      both Dim root a b _ _ dealt good.1
+      (split_right c (layout_size a) (layout_size b) root dealt b good.2 refl Dim (λ cs e. refl)
+      (none-either (c.lanes == 1)))
+
+-- ---- trees
+
+-- the root of a whole that is shared is no kernel
+no-kernel : (z : Request) (n : ℕ) → n ≡ z.size → is_plain z ≡ false → is_kernel z n ≡ false
+no-kernel z n is shared = by (nat_le n z.unroll)
+  where
+    whole : n == z.size ≡ true
+    whole = eq-eqb n z.size is
+
+    by : (small : Bool) → (if small then (if n == z.size then is_plain z else true) else false) ≡ false
+    by true = ap (λ b. if b then is_plain z else true) whole ∙ shared
+    by false = refl
+
+-- the same passes, by the tree and by its layout
+emitted-tree : (z : Request) (factors : Factors) (t : Breakdown) → size_of t ≡ z.size → is_plain z ≡ false →
+    map emitted (root_phases z factors t) ≡ map emitted (root_emitted z factors (layout_of z t))
+emitted-tree z factors (leaf n) is shared =
+    ap (λ k. map emitted (root_emitted z factors (work (node_work z (leaf n))))) shared
+emitted-tree z factors (node rule a b) is shared =
+    let root = node_root z (size_of a * size_of b) in
+    let la = layout_of (left_of rule z) a in
+    let lb = layout_of (right_of rule z) b in
+    let r : size_of a ≡ layout_size la = sym (layouts_have_size (left_of rule z) a) in
+    let s : size_of b ≡ layout_size lb = sym (layouts_have_size (right_of rule z) b) in
+    ap₂ (λ ps qs. map emitted (phases ps qs))
+    (passes_of_layout (right_of rule z) (right_root rule z (size_of a) (size_of b) root) b)
+    (passes_of_layout (left_of rule z) (left_root z (size_of b) factors) a)
+    ∙ ap₂ (λ x y. map emitted (by_sizes root la lb x y)) r s
+    ∙ ap (λ k. map emitted
+    (root_emitted z factors (if k then work (node_work z (node rule a b)) else by rule root la lb)))
+    (sym (no-kernel z (size_of a * size_of b) is shared))
+  where
+    phases : List Pass → List Pass → List (List Pass)
+    phases ps qs =
+        let r = size_of a in
+        let s = size_of b in
+        let first = tiles_before rule z r s ++ (ps ++ tiles_after rule z r s (node_root z (r * s))) in
+        if z.procs == 1 then (first ++ qs) ∷ [] else first ∷ qs ∷ []
+
+    by_sizes : ℕ → Layout → Layout → ℕ → ℕ → List (List Pass)
+    by_sizes root la lb r s =
+        let first = tiles_before rule z r
+        s ++ (layout_emitted (right_root rule z r s root) lb ++ tiles_after rule z r s root) in
+        let second = layout_emitted (left_root z s factors) la in
+        if z.procs == 1 then (first ++ second) ∷ [] else first ∷ second ∷ []
+
+plain-forward : (c : Request) (kind : Kind) → is_plain (forward_by kind c) ≡ is_plain c
+plain-forward c Dft = refl
+plain-forward c Wht = refl
+plain-forward c Idft = refl
+
+size-forward : (c : Request) (kind : Kind) → (forward_by kind c).size ≡ c.size
+size-forward c Dft = refl
+size-forward c Wht = refl
+size-forward c Idft = refl
+
+-- the machine of the request whose trees it has is its own
+root-inverted : (c : Request) (factors : Factors) (rule : Rule) (root : ℕ) (a b : Layout) →
+    root_emitted (inverted c) factors (by rule root a b) ≡ root_emitted c factors (by rule root a b)
+root-inverted c factors Gt root a b = refl
+root-inverted c factors Ct root a b = refl
+root-inverted c factors Split root a b = refl
+root-inverted c factors Dim root a b = refl
+
+root-forward : (c : Request) (factors : Factors) (l : Layout) (kind : Kind) →
+    root_emitted (forward_by kind c) factors l ≡ root_emitted c factors l
+root-forward c factors l Dft = refl
+root-forward c factors l Wht = refl
+root-forward c factors (work w) Idft = refl
+root-forward c factors (by rule root a b) Idft = root-inverted c factors rule root a b
+
+module _ (c : Request) (t : Breakdown) (valid : IsValid c) (tree : IsWholeTree c t) (shared : is_plain c ≡ false) where
+  abbrev l : Layout
+  l = layout_of (forward_of c) t
+
+  abbrev factors : Factors
+  factors = closing_factors (factor_by c.kind c)
+
+  can : CanLower (target_of c) (whole_of c t)
+  can = trees_can_lower c t valid tree
+
+  forward_shared : is_plain (forward_of c) ≡ false
+  forward_shared = plain-forward c c.kind ∙ shared
+
+  forward_size : size_of t ≡ (forward_of c).size
+  forward_size = sym (layouts_have_size (forward_of c) t) ∙ can.shares.size ∙ sym (size-forward c c.kind)
+
+  pub shared_emission : program_for c t ≡ emission c t
+  shared_emission =
+      ap (program_of (target_of c))
+      (closed_tree c t valid tree
+      ∙ ap (λ qs. phases-in c (closed-phases (factor_by c.kind c) (map nests qs)))
+      (root_merged (target_of c) l can.shares can.good.layout shared)
+      ∙ ap (phases-in c)
+      (root-closed c (factor_by c.kind c) l can.shares can.good.layout shared
+      ∙ ap (map emitted) (sym (root-forward c factors l c.kind))
+      ∙ sym (emitted-tree (forward_of c) factors t forward_size forward_shared))
+      ∙ ap (λ b. phases-in c
+      (map emitted (if b then passes (forward_of c) (whole_site factors) t ∷ [] else root_phases
+      (forward_of c) factors t))) (sym forward_shared))

@@ -1,0 +1,260 @@
+-- The passes over tiles of a shared root are those of merging.
+use Rattle.std.proofs.Common.{◌≡◌, ℕ, zero, suc, ◌+◌, ◌*◌, ◌/◌, ◌%◌, ◌<◌, arith, refl, sym, ap, ap₂, ◌∙◌, List, [], ◌∷◌, ◌++◌, subst, mul_comm, Option, None, Some}
+use Rattle.std.specs.Prelude.{map}
+use Rattle.std.specs.List.{range_with_len}
+use Rattle.std.proofs.Math.Nat.{mul-div_cancel_left, mul-mod_left}
+use Rattle.index_fn.specs.Mapping.{Mapping, Same}
+use Rattle.matrix_meaning.specs.declared.Request.{Request}
+use Rattle.operators.proofs.Lists.{place_below}
+use Rattle.perm_algebra.specs.Affine.{Sum, constant, scaled, joined}
+use Rattle.perm_algebra.proofs.Sizes.{joined-end, positive-product}
+use Rattle.sigma_lower.specs.TreeLoops.Merge.{PlainDiagonal, PlainPass}
+use Rattle.sigma_lower.specs.TreeLoops.Nests.{loop_of}
+use Rattle.sigma_lower.specs.TreeLoops.Placed.{place_sum, AreCounts, all_simplified}
+use Rattle.sigma_lower.specs.TreeTerms.Root.{tile_path, vectors_grouped}
+use Rattle.sigma_lower.proofs.TreeLoops.InCopies.{AreCopies}
+use Rattle.sigma_lower.proofs.TreeLoops.LineMoves.{grouped-leads}
+use Rattle.sigma_lower.proofs.TreeLoops.LoopItems.{counts-from}
+use Rattle.sigma_lower.proofs.TreeLoops.Moved.{joined-assoc, scaled-joined, scaled-scaled}
+use Rattle.sigma_lower.proofs.TreeLoops.PlaceSums.{all_simplified-append}
+use Rattle.sigma_lower.proofs.TreeLoops.RootShares.{AreShares, tiles_fill, tiles_product, tiles_small}
+use Rattle.sigma_lower.proofs.TreeLoops.TilePlaces.{tile_wide}
+use Rattle.sigma_lower.proofs.TreeLoops.WithinPlaces.{natural-copies}
+use Rattle.sigma_spl.specs.Loops.{nest_of}
+use Rattle.sigma_spl.specs.Nest.{twiddles}
+use Rattle.sigma_spl.specs.Work.{tile}
+use Rattle.operators.specs.declared.tensor_paths.Tensor.TheVariants.{Blocks}
+use Rattle.operators.specs.TensorPaths.Path.{Path, count_of, size_under}
+use Rattle.generate.specs.Emission.Passes.{Factors, Pass, entries, none}
+use Rattle.generate.specs.Emission.Places.{PlaceFunction, inside, turn_of}
+use Rattle.generate.specs.Emission.Root.{across, along, processor_loops, shared, tile_turns}
+use Rattle.generate.specs.Emission.Whole as emission
+use Rattle.generate.proofs.Emission.Root.{rows-each}
+use Rattle.generate.proofs.Emission.RootPlaces.{insides-are, natural-turns, spread-out, turns-are}
+
+-- ---- sums
+
+along-is : (v t n k : ℕ) (q g i : Sum) →
+    joined (scaled (n * (t * (v * v))) q)
+    (joined (scaled (t * (v * v)) g) (joined (scaled (v * v) i) (constant (k * v))))
+    ≡ scaled v (joined (scaled (v * t) (joined (scaled n q) g)) (joined (scaled v i) (constant k)))
+along-is v t n k q g i =
+    let s = v * t in
+    sym
+    (ap (λ z. scaled v (joined z (joined (scaled v i) (constant k))))
+    (scaled-joined s (scaled n q) g ∙ ap (λ z. joined z (scaled s g)) (scaled-scaled s n q))
+    ∙ spread-out v (s * n) q (scaled s g) (joined (scaled v i) (constant k))
+    ∙ ap₂ (λ a z. joined (scaled a q) z) (many v t n)
+    (ap₂ joined (scaled-scaled v s g ∙ ap (λ a. scaled a g) (some v t))
+    (scaled-joined v (scaled v i) (constant k)
+    ∙ ap₂ (λ x a. joined x (constant a)) (scaled-scaled v v i) (mul_comm v k))))
+  where
+    many : (v t n : ℕ) → v * (v * t * n) ≡ n * (t * (v * v))
+    many v t n = omega arith
+
+    some : (v t : ℕ) → v * (v * t) ≡ t * (v * v)
+    some v t = omega arith
+
+across-is : (v t n k : ℕ) (q g i : Sum) →
+    joined (scaled v (joined (scaled (n * (t * v)) q) (joined (scaled (t * v) g) (joined (scaled t (constant k)) i))))
+    (constant 0)
+    ≡ joined (scaled (v * t) (joined (scaled v (joined (scaled n q) g)) (constant k))) (scaled v i)
+across-is v t n k q g i =
+    let s = v * t in
+    joined-end _
+    ∙ scaled-joined v (scaled (n * (t * v)) q) (joined (scaled (t * v) g) (joined (constant (t * k)) i))
+    ∙ ap₂ joined (scaled-scaled v (n * (t * v)) q ∙ ap (λ a. scaled a q) (many v t n))
+    (scaled-joined v (scaled (t * v) g) (joined (constant (t * k)) i)
+    ∙ ap₂ joined (scaled-scaled v (t * v) g ∙ ap (λ a. scaled a g) (some v t))
+    (scaled-joined v (constant (t * k)) i ∙ ap (λ a. joined (constant a) (scaled v i)) (few v t k)))
+    ∙ sym
+    (ap (λ z. joined (scaled s (joined z (constant k))) (scaled v i))
+    (scaled-joined v (scaled n q) g ∙ ap (λ z. joined z (scaled v g)) (scaled-scaled v n q))
+    ∙ ap (λ z. joined z (scaled v i)) (spread-out s (v * n) q (scaled v g) (constant k))
+    ∙ joined-assoc (scaled (s * (v * n)) q) (joined (scaled s (scaled v g)) (constant (s * k))) (scaled v i)
+    ∙ ap (joined (scaled (s * (v * n)) q))
+    (joined-assoc (scaled s (scaled v g)) (constant (s * k)) (scaled v i)
+    ∙ ap (λ z. joined z (joined (constant (s * k)) (scaled v i))) (scaled-scaled s v g)))
+  where
+    many : (v t n : ℕ) → v * (n * (t * v)) ≡ v * t * (v * n)
+    many v t n = omega arith
+
+    some : (v t : ℕ) → v * (t * v) ≡ v * t * v
+    some v t = omega arith
+
+    few : (v t k : ℕ) → v * (t * k) ≡ v * t * k
+    few v t k = omega arith
+
+-- ---- numbers of vectors
+
+numbered : (f g : Sum → Sum) (v a n : ℕ) (h : Sum → Sum) →
+    ((k : ℕ) → k < a + n → f (g (constant (k * v))) ≡ h (constant k)) →
+    map f (map g (map (λ k. constant (k * v)) (range_with_len a n))) ≡ map h (map constant (range_with_len a n))
+numbered f g v a zero h step = refl
+numbered f g v a (suc n) h step =
+    ap₂ (λ x xs. x ∷ xs) (step a (omega arith)) (numbered f g v (a + 1) n h (λ k low. step k (omega (arith, low))))
+
+vector-row : (v k : ℕ) → 0 < v → k * v / v ≡ k
+vector-row v k some = ap (λ n. n / v) (mul_comm k v) ∙ mul-div_cancel_left k some
+
+vector-column : (v k : ℕ) → k * v % v ≡ 0
+vector-column v k = mul-mod_left k v
+
+module _ (c : Request) (r s : ℕ) (h : AreShares c.size c.procs c.lanes r s) where
+  abbrev p : ℕ
+  p = c.procs
+
+  abbrev v : ℕ
+  v = c.lanes
+
+  abbrev rows : ℕ
+  rows = r / p / v
+
+  abbrev t : ℕ
+  t = s / v
+
+  abbrev three : Path
+  three = Blocks p ∷ Blocks rows ∷ Blocks t ∷ []
+
+  abbrev q : Sum
+  q = turn_of [] p
+
+  abbrev g : Sum
+  g = turn_of (processor_loops c) rows
+
+  abbrev i : Sum
+  i = turn_of (inside (processor_loops c) rows) t
+
+  each-row : r / v / p ≡ rows
+  each-row = rows-each c r s h
+
+  wide : v * t ≡ s
+  wide = tiles_fill c.size p v r s h
+
+  -- where emission's rows and columns stand
+  at-row : (f : ℕ → Sum → Sum → Sum) →
+      f s (shared c (r / v) (processor_loops c)) (turn_of (tile_turns c r) t) ≡ f (v * t) (joined (scaled rows q) g) i
+  at-row f =
+      ap (λ n. f s (joined (scaled n q) (turn_of (processor_loops c) n)) (turn_of (inside (processor_loops c) n) t))
+      each-row
+      ∙ ap (λ n. f n (joined (scaled rows q) g) i) (sym wide)
+
+  natural-along : (cs : ℕ → ℕ) (k : ℕ) →
+      place_sum (tile_path p v r s) (v * v) 0 (constant (k * v)) ≡ along c r s cs (constant k)
+  natural-along cs k =
+      natural-turns three (v * v) (constant (k * v))
+      ∙ along-is v t rows k q g i
+      ∙ sym (at-row (λ n x j. scaled v (joined (scaled n x) (joined (scaled v j) (constant k)))))
+
+  grouped-across : (cs : ℕ → ℕ) (k n : ℕ) → n ≡ t * v → k < v → AreCounts (tile_path p v r s) (v * v) 0 cs →
+      all_simplified cs (vectors_grouped n p v r s ∷ []) (place_sum (tile_path p v r s) (v * v) 0 (constant (k * v)))
+      ≡ across c r s cs (constant k)
+  grouped-across cs k n is low counts =
+      let named = subst (λ us. AreCopies three us cs) (sym (turns-are [] three))
+      (natural-copies three (v * v) 0 cs counts) in
+      let below = place_below k 0 v v low (omega (arith, low)) in
+      let lead = grouped-leads p v rows t c.size n q g i (k * v) cs named.0 named.1.0 named.1.1.0
+      (omega (arith, below)) is tile_whole h.whole.high (tiles_small c.size p v r s h) in
+      ap (all_simplified cs (vectors_grouped n p v r s ∷ [])) (natural-turns three (v * v) (constant (k * v)))
+      ∙ lead.is
+      ∙ ap₂ (λ row column. joined
+      (scaled v (joined (scaled (rows * (t * v)) q) (joined (scaled (t * v) g) (joined (scaled t (constant row)) i))))
+      (constant column)) (vector-row v k h.lanes) (vector-column v k)
+      ∙ across-is v t rows k q g i
+      ∙ sym (at-row (λ n x j. joined (scaled n (joined (scaled v x) (constant k))) (scaled v j)))
+    where
+      tile_whole : size_under three (v * v) ≡ c.size
+      tile_whole = let all = tiles_product c.size p v r s h in omega (arith, all)
+
+  tile-counts : inside (tile_turns c r) t ≡ map count_of (tile_path p v r s)
+  tile-counts = ap (λ n. inside (inside (processor_loops c) n) t) each-row ∙ insides-are [] three
+
+  -- ---- nests
+
+  abbrev pub tile-pass : List Mapping → Option PlainDiagonal → List Mapping → PlainPass
+  tile-pass befores diagonal afters =
+      record { path = tile_path p v r s; work = tile v; befores = befores; diagonal = diagonal; afters = afters }
+
+  abbrev pub emitted-tile : PlaceFunction → Factors → PlaceFunction → Pass
+  emitted-tile load factors store =
+      record { counts = inside (tile_turns c r) t; work = tile v; load = load; factors = factors; store = store }
+
+  -- functions lead to these places, vector by vector
+  abbrev pub LeadTo : List Mapping → PlaceFunction → Type 0
+  LeadTo fs f = (cs : ℕ → ℕ) (k : ℕ) → k < v → AreCounts (tile_path p v r s) (v * v) 0 cs →
+      all_simplified cs fs (place_sum (tile_path p v r s) (v * v) 0 (constant (k * v))) ≡ f cs (constant k)
+
+  pub lead-along : LeadTo [] (along c r s)
+  lead-along cs k low counts = natural-along cs k
+
+  pub lead-across : (n : ℕ) → n ≡ t * v → LeadTo (vectors_grouped n p v r s ∷ []) (across c r s)
+  lead-across n is cs k low counts = grouped-across cs k n is low counts
+
+  -- the diagonal of the root after it, or none
+  abbrev pub AreTileFactors : Option PlainDiagonal → Factors → List Mapping → PlaceFunction → Type 0
+  AreTileFactors None factors afters store = factors ≡ none
+  AreTileFactors (Some x) factors afters store =
+      (root : ℕ) × (x ≡ record { path = []; rows = r; cols = s; root = root; places = afters }) ×
+      (factors ≡ entries (twiddles r s root) store)
+
+  module _ (befores afters : List Mapping) (load store : PlaceFunction) (into : LeadTo befores load)
+      (out : LeadTo afters store) where
+    abbrev loops : List ℕ
+    loops = map count_of (tile_path p v r s)
+
+    abbrev cs : ℕ → ℕ
+    cs = emission.limits (record { counts = loops; work = tile v; load = load; factors = none; store = store })
+
+    counts : AreCounts (tile_path p v r s) (v * v) 0 cs
+    counts = counts-from (tile_path p v r s) (v * v) 0 cs (v * v ∷ v * v ∷ []) (tile_wide c.size p v r s h)
+        (positive-product v v h.lanes h.lanes) (λ n. ap cs (omega arith))
+
+    placed-by : (fs : List Mapping) (f : PlaceFunction) → LeadTo fs f →
+        map (all_simplified cs fs)
+        (map (place_sum (tile_path p v r s) (v * v) 0) (map (λ k. constant (k * v)) (range_with_len 0 v)))
+        ≡ map (f cs) (map constant (range_with_len 0 v))
+    placed-by fs f lead =
+        numbered (all_simplified cs fs) (place_sum (tile_path p v r s) (v * v) 0) v 0 v (f cs)
+        (λ k low. lead cs k (omega (arith, low)) counts)
+
+    ending : (fs : List Mapping) (f : PlaceFunction) → LeadTo fs f → LeadTo (fs ++ Same ∷ []) f
+    ending fs f lead cs k low counts = all_simplified-append cs fs Same _ ∙ lead cs k low counts
+
+    pub tile-nest : (x : Option PlainDiagonal) (factors : Factors) → AreTileFactors x factors afters store →
+        nest_of (loop_of (tile-pass befores x afters)) ≡ emission.emitted_nest (emitted-tile load factors store)
+    tile-nest x factors is = by x is
+        ∙ ap (λ ls. emission.emitted_nest
+        (record { counts = ls; work = tile v; load = load; factors = factors; store = store })) (sym tile-counts)
+      where
+        by : (x : Option PlainDiagonal) → AreTileFactors x factors afters store →
+            nest_of (loop_of (tile-pass befores x afters))
+            ≡ emission.emitted_nest (record
+            { counts = loops; work = tile v; load = load; factors = factors; store = store })
+        by None is =
+            ap₂ (λ gs ss. record { counts = loops; work = tile v; gathers = gs; multiplier = None; scatters = ss })
+            (placed-by befores load into) (placed-by afters store out)
+            ∙ ap (λ f. emission.emitted_nest
+            (record { counts = loops; work = tile v; load = load; factors = f; store = store })) (sym is)
+        by (Some x) is =
+            ap (λ d. nest_of (loop_of (tile-pass befores (Some d) afters))) is.1
+            ∙ ap₂ (λ gs ss. record {
+              counts = loops;
+              work = tile v;
+              gathers = gs;
+              multiplier = Some (record {
+                factors = twiddles r s is.0;
+                places = map (all_simplified cs (afters ++ Same ∷ []))
+                    (map (place_sum (tile_path p v r s) (v * v) 0) (map (λ k. constant (k * v)) (range_with_len 0 v)));
+              });
+              scatters = ss;
+            }) (placed-by befores load into) (placed-by afters store out)
+            ∙ ap (λ ps. record {
+              counts = loops;
+              work = tile v;
+              gathers = map (load cs) (map constant (range_with_len 0 v));
+              multiplier = Some (record { factors = twiddles r s is.0; places = ps });
+              scatters = map (store cs) (map constant (range_with_len 0 v));
+            })
+            (placed-by (afters ++ Same ∷ []) store (ending afters store out))
+            ∙ ap (λ f. emission.emitted_nest
+            (record { counts = loops; work = tile v; load = load; factors = f; store = store })) (sym is.2)

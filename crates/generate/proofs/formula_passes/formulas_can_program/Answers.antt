@@ -1,5 +1,0 @@
-use Rattle.generate.proofs.FormulaPasses.Formulas as laws
-use Rattle.generate.proofs.formula_passes.formulas_can_program.Goals as goal
-
-pub returns : goal.returns
-returns c = laws.formulas_can_program

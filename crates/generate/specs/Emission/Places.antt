@@ -1,0 +1,53 @@
+-- Where passes load and store: places as sums of the variables of loops.
+use Rattle.std.specs.Prelude.{ℕ, ◌*◌, ◌==◌, if◌then◌else◌, List, [], ◌∷◌, ◌++◌, length}
+use Rattle.perm_algebra.specs.Affine.{Sum, constant, variable, scaled, joined, reduced}
+use Rattle.sigma_lower.specs.TreeTerms.Wrapped.{unit_of}
+use Rattle.tree_model.specs.declared.tree.Rule.{Rule}
+use Rattle.tree_model.specs.declared.tree.Rule.TheVariants.{Gt, Ct, Split, Dim}
+
+-- ---- loops, as their counts from the outside in
+
+-- one more loop inside; a loop that runs once is not written
+abbrev pub inside : List ℕ → ℕ → List ℕ
+inside counts n = if n == 1 then counts else counts ++ n ∷ []
+
+-- and its variable, which is 0 where the loop runs once
+abbrev pub turn_of : List ℕ → ℕ → Sum
+turn_of counts n = if n == 1 then constant 0 else variable 1 (length counts) (constant 0)
+
+-- ---- place functions
+
+-- the place in an array of a part's own place k, which is a sum too, where the variables run below these counts
+abbrev pub PlaceFunction : Type 0
+PlaceFunction = (ℕ → ℕ) → Sum → Sum
+
+abbrev pub same : PlaceFunction
+same counts k = k
+
+-- g first
+abbrev pub after : PlaceFunction → PlaceFunction → PlaceFunction
+after f g counts k = f counts (g counts k)
+
+-- i*s + k
+abbrev pub blocks : ℕ → Sum → PlaceFunction
+blocks s i counts k = joined (scaled s i) k
+
+-- k*s + j
+abbrev pub columns : ℕ → Sum → PlaceFunction
+columns s j counts k = joined (scaled s k) j
+
+-- ---- the rules, on r*s places
+
+-- where the right part's turn i loads its place k
+abbrev pub right_in : Rule → ℕ → ℕ → Sum → PlaceFunction
+right_in Gt r s i counts k = reduced counts (r * s) (joined (scaled s i) (scaled r k))
+right_in Ct r s i counts k = joined (scaled r k) i
+right_in Split r s i counts k = joined (scaled s i) k
+right_in Dim r s i counts k = joined (scaled s i) k
+
+-- where the left part's turn j stores its place k; the unit of r and s is 1 modulo r and 0 modulo s
+abbrev pub left_out : Rule → ℕ → ℕ → Sum → PlaceFunction
+left_out Gt r s j counts k = reduced counts (r * s) (joined (scaled (unit_of r s) k) (scaled (unit_of s r) j))
+left_out Ct r s j counts k = joined (scaled s k) j
+left_out Split r s j counts k = joined (scaled s k) j
+left_out Dim r s j counts k = joined (scaled s k) j

@@ -1,4 +1,0 @@
-pub mod Laws
-pub mod Counts
-pub mod Merged
-pub mod Closed

@@ -1,5 +1,0 @@
-use Rattle.loop_merge.proofs.JoinedCopies.Passes as laws
-use Rattle.loop_merge.proofs.joined_copies.joined_mean.Goals as goal
-
-pub returns : goal.returns
-returns c = laws.joined_mean

@@ -1,0 +1,237 @@
+-- The phases of a whole: those of its layout, the last loop of which takes the closing diagonal.
+use Rattle.std.proofs.Common.{◌≡◌, ℕ, ◌*◌, ◌-◌, ◌<◌, ◌≤◌, List, [], ◌∷◌, ◌++◌, length, refl, sym, ap, ap₂, ◌∙◌, arith, subst, Option, None, Some}
+use Rattle.std.specs.Prelude.{All, map, reverse}
+use Rattle.std.specs.Option.{option_map}
+use Rattle.std.proofs.lemmas.List.{reverse-append, reverse-reverse}
+use Rattle.std.proofs.lemmas.List.Elements.{All-nil, All-cons}
+use Rattle.std.proofs.lemmas.Nat.{mul-le}
+use Rattle.index_fn.specs.Mapping.{Mapping}
+use Rattle.operators.specs.declared.target.Target.{Target}
+use Rattle.operators.specs.TensorPaths.Path.{copies_of}
+use Rattle.operators.proofs.TensorPaths.Under.{size_under-copies}
+use Rattle.perm_algebra.specs.Affine.{Sum, constant, variable, remainder, quotient, simplified}
+use Rattle.sigma_spl.specs.Lists.{LastIs, on_last}
+use Rattle.sigma_spl.specs.Loops.{PlainLoop, limits_in, loops_in, scaled_last, AreLimitedLoops, HasLoop, IsLimitedLoop, IsOrdered}
+use Rattle.sigma_spl.specs.Merge.{all_simplified, items_out, most, place_sum}
+use Rattle.sigma_spl.specs.Nest.{repeated}
+use Rattle.sigma_spl.specs.Term as terms
+use Rattle.sigma_spl.specs.Work.{work_size}
+use Rattle.smp_rewrite.specs.Fits.{CanShareLayout}
+use Rattle.smp_rewrite.specs.LayoutSteps.Layout.{Layout, IsGoodLayout}
+use Rattle.sigma_lower.specs.Machine.{IsMachine}
+use Rattle.sigma_lower.specs.Merged.{AllHaveLoops, close_last, closed_phases, closing_term}
+use Rattle.sigma_lower.specs.Order.{AllOrdered}
+use Rattle.sigma_lower.specs.Shared.{phase_term}
+use Rattle.sigma_lower.specs.TreeLoops.Limits.{AreLimitedPhases}
+use Rattle.sigma_lower.specs.TreeLoops.Merge.{PlainPass, passes_of_terms}
+use Rattle.sigma_lower.specs.TreeLoops.Merge as passes
+use Rattle.sigma_lower.specs.TreeLoops.Nests.{loop_of, taken_of}
+use Rattle.sigma_lower.specs.TreeLoops.Placed.{AllLimited, AreCounts, Fits, IsCarried, IsLimitedPass}
+use Rattle.sigma_lower.specs.TreeTerms.Term.{PlainTerm}
+use Rattle.sigma_lower.proofs.TreeLoops.LoopItems.{AllName, counts-from, names-of}
+use Rattle.sigma_lower.proofs.TreeLoops.LoopLimits.{tree_loops}
+use Rattle.sigma_lower.proofs.TreeLoops.LoopNests.{loops_listed}
+use Rattle.sigma_lower.proofs.TreeLoops.PlaceValues.{right_positive}
+use Rattle.sigma_lower.proofs.TreeLoops.Shaped.{AreShaped, IsShaped, IsShapedWork}
+use Rattle.sigma_lower.proofs.TreeLoops.TreePlaces.{tree_good_places}
+use Rattle.sigma_lower.proofs.TreeSigmas.ClosedLoops.{HasClosing, TakesClosing, can-scale, closed_loop, has-loop, limited-last, scaled-in-order}
+use Rattle.sigma_lower.proofs.TreeSigmas.ClosedPlaces.{AllAlone, closing_path}
+use Rattle.sigma_lower.proofs.TreeSigmas.Endings.{IsEnding, layout_ends}
+use Rattle.sigma_lower.proofs.TreeSigmas.Lasts.{HasItem}
+
+-- ---- the place of the only word
+
+no-part : (f k : ℕ) → 0 < f → 2 ≤ k → 1 ≤ f * (k - 1)
+no-part f k some two = mul-le 1 1 f (k - 1) (omega arith) (omega arith)
+
+zero-sum : (e : Sum) (cs : ℕ → ℕ) → Fits 1 e cs → e ≡ constant 0
+zero-sum (constant c) cs h = let low = h.small in ap constant (omega (arith, low))
+zero-sum (variable f d rest) cs h =
+    let part = no-part f (cs d) h.proper.0 h.proper.1 in let low = h.small in absurd (omega (arith, part, low))
+zero-sum (remainder f of m rest) cs h =
+    let part = no-part f m h.proper.0 h.proper.1 in let low = h.small in absurd (omega (arith, part, low))
+zero-sum (quotient f of m rest) cs h = absurd h.proper
+
+carried-end : (cs : ℕ → ℕ) (n : ℕ) (fs : List Mapping) (e : Sum) → IsCarried cs n n fs e →
+    Fits n (all_simplified cs fs e) cs
+carried-end cs n [] e h = h
+carried-end cs n (f ∷ fs) e h = carried-end cs n fs (simplified cs f e) h.2
+
+module _ (h : Target) where
+  abbrev size : ℕ
+  size = h.size
+
+  -- ---- a pass
+
+  module _ (p : PlainPass) (machine : IsMachine h) (shape : IsShaped (IsShapedWork h.modulus) size p)
+      (limited : IsLimitedPass h p) where
+    abbrev n : ℕ
+    n = work_size p.work
+
+    abbrev cs : ℕ → ℕ
+    cs = limits_in (loop_of p)
+
+    some : 0 < n
+    some =
+        let whole : copies_of p.path * work_size p.work ≡ size =
+        sym (size_under-copies p.path (work_size p.work)) ∙ shape.fills in
+        right_positive (copies_of p.path) (work_size p.work) (omega (arith, whole, machine.size.0))
+
+    counts : AreCounts p.path n 0 cs
+    counts = counts-from p.path n 0 cs (n ∷ n ∷ []) shape.wide some (λ i. ap cs (omega arith))
+
+    alone-items : (es : List Sum) → AllName p.work cs n es →
+        AllAlone size (map (all_simplified cs p.afters) (map (place_sum p.path n 0) es))
+    alone-items [] named = tt
+    alone-items (e ∷ es) named =
+        let last = all_simplified cs p.afters (place_sum p.path n 0 e) in
+        let stores = (limited cs e counts named.0.0 named.0.1).stores in
+        let fits = carried-end cs size p.afters (place_sum p.path n 0 e) stores in
+        (λ one. zero-sum last cs (subst (λ k. Fits k last cs) one fits), alone-items es named.1)
+
+    takes-closing : IsEnding p → IsLimitedLoop 64 size (loop_of p) → TakesClosing size (loop_of p)
+    takes-closing ends within =
+        record {
+          free = ap (option_map taken_of) ends.free;
+          whole = ends.untiled;
+          limited = within;
+          alone =
+              alone-items (items_out p.work (length p.path)) (names-of h.modulus p.path p.work shape.work).stores;
+        }
+
+  -- ---- the last pass
+
+  takes-last : (ps : List PlainPass) → IsMachine h → LastIs IsEnding ps → AreShaped (IsShapedWork h.modulus) size ps →
+      AllLimited h ps → AreLimitedLoops (most 64) size (map loop_of ps) → LastIs (TakesClosing size) (map loop_of ps)
+  takes-last [] machine ends shapes limited within = absurd ends
+  takes-last (p ∷ []) machine ends shapes limited within =
+      takes-closing p machine shapes.0 limited.0 ends within.0
+  takes-last (p ∷ q ∷ ps) machine ends shapes limited within =
+      takes-last (q ∷ ps) machine ends shapes.1 limited.1 within.1
+
+  pub layout-takes : (l : Layout) → IsMachine h → CanShareLayout h l → IsGoodLayout h.modulus l →
+      LastIs (TakesClosing size) (map loop_of (passes.merged_of h l))
+  layout-takes l machine shares good =
+      let places = tree_good_places h l shares good in
+      takes-last (passes.merged_of h l) machine (layout_ends h l machine shares good) places.shaped places.limited
+      (tree_loops 64 h l (omega arith) machine shares good)
+
+  -- ---- the loops of phases
+
+  abbrev pub loops_by : List (List PlainTerm) → List (List PlainLoop)
+  loops_by phases = map (map loop_of) (map passes_of_terms phases)
+
+  pub each-some : (phases : List (List PlainTerm)) → AllHaveLoops h phases → All HasItem (loops_by phases)
+  each-some [] have = All-nil HasItem
+  each-some (ts ∷ more) have =
+      All-cons HasItem (map loop_of (passes_of_terms ts)) (loops_by more)
+      (any (map loop_of (passes_of_terms ts)) (subst HasLoop (loops_listed ts) have.0)) (each-some more have.1)
+    where
+      any : (ps : List PlainLoop) → HasLoop (reverse ps) → HasItem ps
+      any [] has = absurd has
+      any (p ∷ ps) has = omega arith
+
+  open-phase : (ts : List PlainTerm) → reverse (loops_in (phase_term ts)) ≡ map loop_of (passes_of_terms ts)
+  open-phase ts = ap reverse (loops_listed ts) ∙ reverse-reverse (map loop_of (passes_of_terms ts))
+
+  abbrev loops_in_order : List terms.PlainTerm → List (List PlainLoop)
+  loops_in_order us = map (λ t. reverse (loops_in t)) us
+
+  open-loops : (phases : List (List PlainTerm)) → loops_in_order (map phase_term phases) ≡ loops_by phases
+  open-loops [] = refl
+  open-loops (ts ∷ more) = ap₂ (λ ps rest. ps ∷ rest) (open-phase ts) (open-loops more)
+
+  module _ (v : ℕ) where
+    closed-loops : (phases : List (List PlainTerm)) →
+        loops_in_order (close_last size v (map phase_term phases)) ≡ on_last (on_last (closed_loop size v)) (loops_by phases)
+    closed-loops [] = refl
+    closed-loops (ts ∷ []) =
+        ap (λ ps. ps ∷ [])
+        (ap (λ ps. reverse (scaled_last (closing_path size) (repeated v 1) ps)) (loops_listed ts)
+        ∙ scaled-in-order size v (map loop_of (passes_of_terms ts)))
+    closed-loops (ts ∷ us ∷ more) = ap₂ (λ ps rest. ps ∷ rest) (open-phase ts) (closed-loops (us ∷ more))
+
+  -- those of a layout, where the last loop takes the factor if there is one
+  abbrev pub closing_loops : Option ℕ → List (List PlainLoop) → List (List PlainLoop)
+  closing_loops None phases = phases
+  closing_loops (Some v) phases = on_last (on_last (closed_loop size v)) phases
+
+  pub whole-loops : (o : Option ℕ) (phases : List (List PlainTerm)) →
+      loops_in_order (closed_phases size o (map phase_term phases)) ≡ closing_loops o (loops_by phases)
+  whole-loops None phases = open-loops phases
+  whole-loops (Some v) phases = closed-loops v phases
+
+  -- ---- they are in order, at places within the limits
+
+  pub record IsPhase (t : terms.PlainTerm) : Type 0 where
+    pub ordered : IsOrdered t
+    pub limited : AreLimitedLoops (most 64) size (loops_in t)
+
+  -- what is known of the phases of a layout
+  pub record ArePhases (phases : List (List PlainTerm)) : Type 0 where
+    pub ordered : AllOrdered h phases
+    pub have : AllHaveLoops h phases
+    pub limited : AreLimitedPhases h phases
+
+  first-phase : (ts : List PlainTerm) (more : List (List PlainTerm)) → ArePhases (ts ∷ more) → IsPhase (phase_term ts)
+  first-phase ts more are =
+      record {
+        ordered = record {
+          in_order = are.ordered.0.in_order;
+          none_waits = are.ordered.0.none_waits;
+          some = are.have.0;
+        };
+        limited = are.limited.0;
+      }
+
+  rest-phases : (ts : List PlainTerm) (more : List (List PlainTerm)) → ArePhases (ts ∷ more) → ArePhases more
+  rest-phases ts more are = record { ordered = are.ordered.1; have = are.have.1; limited = are.limited.1 }
+
+  open-phases : (phases : List (List PlainTerm)) → ArePhases phases → All IsPhase (map phase_term phases)
+  open-phases [] are = All-nil IsPhase
+  open-phases (ts ∷ more) are =
+      All-cons IsPhase (phase_term ts) (map phase_term more) (first-phase ts more are)
+      (open-phases more (rest-phases ts more are))
+
+  front-closing : (ps qs : List PlainLoop) → HasClosing size ps → HasClosing size (ps ++ qs)
+  front-closing [] qs takes = absurd takes
+  front-closing (p ∷ ps) qs takes = takes
+
+  last-closing : (ps : List PlainLoop) → LastIs (TakesClosing size) ps → HasClosing size (reverse ps)
+  last-closing [] takes = absurd takes
+  last-closing (p ∷ []) takes = takes
+  last-closing (p ∷ q ∷ ps) takes =
+      subst (HasClosing size) (sym (reverse-append (p ∷ []) (q ∷ ps)))
+      (front-closing (reverse (q ∷ ps)) (p ∷ []) (last-closing (q ∷ ps) takes))
+
+  module _ (v : ℕ) where
+    closed-phase : (t : terms.PlainTerm) → IsPhase t → HasClosing size (loops_in t) →
+        IsPhase (terms.product t (closing_term size v))
+    closed-phase t is takes =
+        record {
+          ordered = record {
+            in_order = (is.ordered.in_order, (is.ordered.none_waits, can-scale size v (loops_in t) takes));
+            none_waits = is.ordered.none_waits;
+            some = has-loop size v (loops_in t) takes;
+          };
+          limited = limited-last size v (loops_in t) takes is.limited;
+        }
+
+    all-closed : (phases : List (List PlainTerm)) → ArePhases phases →
+        LastIs (LastIs (TakesClosing size)) (loops_by phases) →
+        All IsPhase (close_last size v (map phase_term phases))
+    all-closed [] are takes = absurd takes
+    all-closed (ts ∷ []) are takes =
+        All-cons IsPhase (terms.product (phase_term ts) (closing_term size v)) []
+        (closed-phase (phase_term ts) (first-phase ts [] are)
+        (subst (HasClosing size) (sym (loops_listed ts)) (last-closing (map loop_of (passes_of_terms ts)) takes)))
+        (All-nil IsPhase)
+    all-closed (ts ∷ us ∷ more) are takes =
+        All-cons IsPhase (phase_term ts) (close_last size v (map phase_term (us ∷ more)))
+        (first-phase ts (us ∷ more) are) (all-closed (us ∷ more) (rest-phases ts (us ∷ more) are) takes)
+
+  pub whole-phases : (o : Option ℕ) (phases : List (List PlainTerm)) → ArePhases phases →
+      LastIs (LastIs (TakesClosing size)) (loops_by phases) →
+      All IsPhase (closed_phases size o (map phase_term phases))
+  whole-phases None phases are takes = open-phases phases are
+  whole-phases (Some v) phases are takes = all-closed v phases are takes

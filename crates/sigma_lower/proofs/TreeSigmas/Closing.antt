@@ -1,0 +1,204 @@
+-- Loops of which the last one takes the closing diagonal: who owns their lines, what they count, and that they are ready.
+use Rattle.std.proofs.Common.{◌≡◌, ℕ, ◌+◌, ◌*◌, ◌<◌, List, [], ◌∷◌, refl, sym, ap, ◌∙◌, arith, subst, Option, None, Some}
+use Rattle.std.specs.Prelude.{All, length, map}
+use Rattle.std.proofs.lemmas.List.Elements.{All-head, All-tail}
+use Rattle.operators.specs.declared.target.Target.{Target}
+use Rattle.operators.specs.TensorPaths.Path.{count_of}
+use Rattle.sigma_spl.specs.Counts.{copies_in, multiplier_cost}
+use Rattle.sigma_spl.specs.Lists.{LastIs, on_last}
+use Rattle.sigma_spl.specs.Loops.{PlainLoop, PlainTaken, multiplier_of, nest_of, one_nest}
+use Rattle.sigma_spl.specs.Nest.{PlainNest, load_place, store_place}
+use Rattle.sigma_spl.specs.Shared.Costs.{pass_cost, pass_loads, work_cost}
+use Rattle.sigma_spl.specs.Shared.Owners.{AllOwn, AllShared, ArePhasesShared, FirstOwns}
+use Rattle.sigma_spl.specs.Shared.Running.{IsCopyOf, IsLoadedBy, IsStoredBy}
+use Rattle.sigma_spl.specs.Trees.{IsReadyLoop}
+use Rattle.sigma_spl.specs.Work.{work_size}
+use Rattle.smp_rewrite.specs.LayoutSteps.Whole.{IsGoodFactor}
+use Rattle.sigma_lower.specs.TreeLoops.Merge.{in_order}
+use Rattle.sigma_lower.proofs.TreeSigmas.Bounds.{IsBounded}
+use Rattle.sigma_lower.proofs.TreeSigmas.ClosedCounts.{more_by, more_last}
+use Rattle.sigma_lower.proofs.TreeSigmas.ClosedLoops.{TakesClosing, closed_loop, ready-closed}
+use Rattle.sigma_lower.proofs.TreeSigmas.ClosedPhases.{closing_loops}
+use Rattle.sigma_lower.proofs.TreeSigmas.Lasts.{HasItem, all-last, last-order, length-last, order-last}
+use Rattle.sigma_lower.proofs.TreeSigmas.Owned.{only-nest}
+
+module _ (h : Target) (v : ℕ) where
+  abbrev closed : PlainLoop → PlainLoop
+  closed p = closed_loop h.size v p
+
+  abbrev nests : List PlainLoop → List (List PlainNest)
+  nests ps = map one_nest ps
+
+  -- ---- whose words they are
+
+  loaded-before : (p : PlainLoop) (q w : ℕ) → IsLoadedBy h (one_nest (closed p)) q w → IsLoadedBy h (one_nest p) q w
+  loaded-before p q w there =
+      subst
+      (λ (y : PlainNest).
+      IsCopyOf h y q there.values → there.item < work_size y.work →
+      load_place y.work y.gathers there.values there.item ≡ w → IsLoadedBy h (one_nest p) q w)
+      (only-nest (nest_of (closed p)) there.nest there.one)
+      (λ copy below place.
+      record {
+        nest = nest_of p;
+        one = (0, omega arith, refl);
+        values = there.values;
+        item = there.item;
+        copy = record { in_range = copy.in_range; processor = copy.processor };
+        below = below;
+        there = place;
+      })
+      there.copy there.below there.there
+
+  stored-before : (p : PlainLoop) (q w : ℕ) → IsStoredBy h (one_nest (closed p)) q w → IsStoredBy h (one_nest p) q w
+  stored-before p q w there =
+      subst
+      (λ (y : PlainNest).
+      IsCopyOf h y q there.values → there.item < work_size y.work →
+      store_place y.work y.scatters there.values there.item ≡ w → IsStoredBy h (one_nest p) q w)
+      (only-nest (nest_of (closed p)) there.nest there.one)
+      (λ copy below place.
+      record {
+        nest = nest_of p;
+        one = (0, omega arith, refl);
+        values = there.values;
+        item = there.item;
+        copy = record { in_range = copy.in_range; processor = copy.processor };
+        below = below;
+        there = place;
+      })
+      there.copy there.below there.there
+
+  own-last : (owner : ℕ → ℕ) (ps : List PlainLoop) → AllOwn h owner (nests ps) →
+      AllOwn h owner (nests (on_last closed ps))
+  own-last owner [] own = tt
+  own-last owner (p ∷ []) own = (
+    λ q w low there. own.0 q w low (loaded-before p q w there),
+    λ q w low there. own.1 q w low (stored-before p q w there),
+    tt,
+  )
+  own-last owner (p ∷ r ∷ ps) own = (own.0, own.1, own-last owner (r ∷ ps) own.2)
+
+  first-owns : (owner : ℕ → ℕ) (ps : List PlainLoop) → FirstOwns h owner (nests ps) →
+      FirstOwns h owner (nests (on_last closed ps))
+  first-owns owner [] own = tt
+  first-owns owner (p ∷ []) own = (λ q w low there. own.0 q w low (stored-before p q w there), tt)
+  first-owns owner (p ∷ r ∷ ps) own = (own.0, own-last owner (r ∷ ps) own.1)
+
+  shared-last : (phases : List (List PlainLoop)) → AllShared h (map nests phases) →
+      AllShared h (map nests (on_last (on_last closed) phases))
+  shared-last [] shared = tt
+  shared-last (ps ∷ []) shared = (
+    record {
+      owner = shared.0.owner;
+      is_owner = shared.0.is_owner;
+      owns = own-last shared.0.owner ps shared.0.owns;
+    },
+    tt,
+  )
+  shared-last (ps ∷ qs ∷ phases) shared = (shared.0, shared-last (qs ∷ phases) shared.1)
+
+  shared-closed : (phases : List (List PlainLoop)) → ArePhasesShared h (map nests phases) →
+      ArePhasesShared h (map nests (on_last (on_last closed) phases))
+  shared-closed [] shared = tt
+  shared-closed (ps ∷ []) shared = (
+    record {
+      owner = shared.0.owner;
+      is_owner = shared.0.is_owner;
+      owns = first-owns shared.0.owner ps shared.0.owns;
+    },
+    tt,
+  )
+  shared-closed (ps ∷ qs ∷ phases) shared = (shared.0, shared-last (qs ∷ phases) shared.1)
+
+  -- ---- what they count
+
+  bounded-closed : (p : PlainLoop) → IsBounded h p → IsBounded h (closed p)
+  bounded-closed p is =
+      record { fills = is.fills; items = is.items; operations = is.operations; loads = is.loads }
+
+  more-cost : (copies n size weight x : ℕ) → copies * n ≡ size →
+      copies * (x + weight * n) + 0 ≡ copies * (x + 0) + 0 + weight * size
+  more-cost copies n size weight x whole =
+      let turned : copies * (weight * n) ≡ weight * (copies * n) = omega arith in
+      let same : weight * (copies * n) ≡ weight * size = ap (λ y. weight * y) whole in
+      let cut : copies * (x + weight * n) ≡ copies * x + copies * (weight * n) = omega arith in
+      omega (arith, turned, same, cut)
+
+  closed-cost : (weight : ℕ) (p : PlainLoop) → IsBounded h p → TakesClosing h.size p →
+      pass_cost weight h.modulus (one_nest (closed p)) ≡ pass_cost weight h.modulus (one_nest p) + weight * h.size
+  closed-cost weight p is takes =
+      let copies = copies_in (map count_of p.path) in
+      let x = work_cost weight h.modulus p.work in
+      more-cost copies (work_size p.work) h.size weight x is.fills
+      ∙ ap
+      (λ (o : Option PlainTaken).
+      copies * (x + multiplier_cost weight (multiplier_of p o) p.work) + 0 + weight * h.size)
+      (sym takes.free)
+
+  costs-last : (weight : ℕ) (ps : List PlainLoop) → All (IsBounded h) ps → LastIs (TakesClosing h.size) ps →
+      map (pass_cost weight h.modulus) (nests (on_last closed ps))
+      ≡ more_last (weight * h.size) (map (pass_cost weight h.modulus) (nests ps))
+  costs-last weight [] all takes = absurd takes
+  costs-last weight (p ∷ []) all takes =
+      ap (λ n. n ∷ []) (closed-cost weight p (All-head (IsBounded h) p [] all) takes)
+  costs-last weight (p ∷ r ∷ ps) all takes =
+      ap (λ ns. pass_cost weight h.modulus (one_nest p) ∷ ns)
+      (costs-last weight (r ∷ ps) (All-tail (IsBounded h) p (r ∷ ps) all) takes)
+
+  loads-last : (ps : List PlainLoop) → map pass_loads (nests (on_last closed ps)) ≡ map pass_loads (nests ps)
+  loads-last [] = refl
+  loads-last (p ∷ []) = refl
+  loads-last (p ∷ r ∷ ps) = ap (λ ns. pass_loads (one_nest p) ∷ ns) (loads-last (r ∷ ps))
+
+-- ---- with the factor of a whole, if it has one
+
+module _ (h : Target) (phases : List (List PlainLoop)) (each : All HasItem phases)
+    (takes : LastIs (TakesClosing h.size) (in_order phases)) where
+  -- the last of the last phase
+  pub takes-phases : LastIs (LastIs (TakesClosing h.size)) phases
+  takes-phases = last-order (TakesClosing h.size) phases each takes
+
+  pub whole-ready : (o : Option ℕ) → IsGoodFactor h.modulus o → All (All (IsReadyLoop h)) phases →
+      All (All (IsReadyLoop h)) (closing_loops h o phases)
+  whole-ready None good ready = ready
+  whole-ready (Some v) good ready =
+      all-last (All (IsReadyLoop h)) (LastIs (TakesClosing h.size)) (on_last (closed_loop h.size v))
+      (λ ps are last.
+      all-last (IsReadyLoop h) (TakesClosing h.size) (closed_loop h.size v)
+      (λ p is this. ready-closed h.size v h good p is this) ps are last)
+      phases ready takes-phases
+
+  pub whole-shared : (o : Option ℕ) → ArePhasesShared h (map (map one_nest) phases) →
+      ArePhasesShared h (map (map one_nest) (closing_loops h o phases))
+  whole-shared None shared = shared
+  whole-shared (Some v) shared = shared-closed h v phases shared
+
+  module _ (bounded : All (IsBounded h) (in_order phases)) where
+    pub whole-bounded : (o : Option ℕ) → All (IsBounded h) (in_order (closing_loops h o phases))
+    whole-bounded None = bounded
+    whole-bounded (Some v) =
+        subst (All (IsBounded h)) (sym (order-last (closed_loop h.size v) phases each))
+        (all-last (IsBounded h) (TakesClosing h.size) (closed_loop h.size v)
+        (λ p is this. bounded-closed h v p is) (in_order phases) bounded takes)
+
+    pub whole-costs : (weight : ℕ) (o : Option ℕ) →
+        map (pass_cost weight h.modulus) (map one_nest (in_order (closing_loops h o phases)))
+        ≡ more_by weight h.size o (map (pass_cost weight h.modulus) (map one_nest (in_order phases)))
+    whole-costs weight None = refl
+    whole-costs weight (Some v) =
+        ap (λ ps. map (pass_cost weight h.modulus) (map one_nest ps)) (order-last (closed_loop h.size v) phases each)
+        ∙ costs-last h v weight (in_order phases) bounded takes
+
+  pub whole-loads : (o : Option ℕ) →
+      map pass_loads (map one_nest (in_order (closing_loops h o phases)))
+      ≡ map pass_loads (map one_nest (in_order phases))
+  whole-loads None = refl
+  whole-loads (Some v) =
+      ap (λ ps. map pass_loads (map one_nest ps)) (order-last (closed_loop h.size v) phases each)
+      ∙ loads-last h v (in_order phases)
+
+  pub whole-length : (o : Option ℕ) → length (in_order (closing_loops h o phases)) ≡ length (in_order phases)
+  whole-length None = refl
+  whole-length (Some v) =
+      ap length (order-last (closed_loop h.size v) phases each) ∙ length-last (closed_loop h.size v) (in_order phases)

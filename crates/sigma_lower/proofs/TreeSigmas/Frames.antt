@@ -1,0 +1,172 @@
+-- The nest of a pass that processors and lanes share: its counts, its variables, and what they name.
+use Rattle.std.proofs.Common.{◌≡◌, ℕ, ◌<◌, Bool, true, false, List, [], ◌∷◌, ◌++◌, map, refl, sym, ap, ◌∙◌, arith, subst}
+use Rattle.std.specs.Prelude.{◌==◌, if◌then◌else◌}
+use Rattle.sigma_lower.specs.TreeLoops.Items as shared
+use Rattle.sigma_lower.specs.TreeLoops.Merge.{PlainPass}
+use Rattle.sigma_lower.specs.TreeLoops.Nests.{loop_of}
+use Rattle.operators.specs.declared.target.Target.{Target}
+use Rattle.operators.proofs.Lists.{place_below}
+use Rattle.sigma_spl.specs.Shared.Machine.{framed_lanes, if_several, item_of, lane_step, values_of}
+use Rattle.sigma_spl.specs.Shared.Running as running
+use Rattle.sigma_spl.specs.Loops.{nest_of}
+use Rattle.sigma_spl.specs.Work.{PlainWork, kernel, rows, horner, tile, copy, vectors_of, work_size}
+use Rattle.sigma_lower.specs.TreeLoops.SharedPasses.Shared.{framed, HasLanes, IsFramed, step_of}
+use Rattle.smp_rewrite.specs.Smp.{within}
+use Rattle.operators.specs.declared.tensor_paths.Tensor.{Tensor}
+use Rattle.operators.specs.declared.tensor_paths.Tensor.TheVariants.{Blocks, Columns}
+use Rattle.operators.specs.TensorPaths.Path.{Path, count_of, AreInRange}
+
+-- ---- work
+
+pub loop-values : (c : Target) (w : PlainWork) (q lane : ℕ) (vs : List ℕ) →
+    values_of c w q lane vs ≡ shared.values_of c w q lane vs
+loop-values c (kernel trees) q lane vs = refl
+loop-values c (rows root size) q lane vs = refl
+loop-values c (horner root size) q lane vs = refl
+loop-values c (tile v) q lane vs = refl
+loop-values c (copy size) q lane vs = refl
+
+pub loop-item : (w : PlainWork) (k lane : ℕ) → item_of w k lane ≡ shared.item_of w k lane
+loop-item (kernel trees) k lane = refl
+loop-item (rows root size) k lane = refl
+loop-item (horner root size) k lane = refl
+loop-item (tile v) k lane = refl
+loop-item (copy size) k lane = refl
+
+pub loop-step : (w : PlainWork) → lane_step w ≡ step_of w
+loop-step (kernel trees) = refl
+loop-step (rows root size) = refl
+loop-step (horner root size) = refl
+loop-step (tile v) = refl
+loop-step (copy size) = refl
+
+-- ---- counts
+
+counts-pick : (b : Bool) (t : Tensor) (path : Path) →
+    map count_of (if b then path else t ∷ path) ≡ (if b then [] else count_of t ∷ []) ++ map count_of path
+counts-pick true t path = refl
+counts-pick false t path = refl
+
+counts-lanes : (p v : ℕ) (loops : Path) →
+    map count_of (within (Blocks p) (within (Columns v) loops))
+    ≡ if_several p p ++ (if_several v v ++ map count_of loops)
+counts-lanes p v loops =
+    counts-pick (p == 1) (Blocks p) (within (Columns v) loops)
+    ∙ ap (λ xs. if_several p p ++ xs) (counts-pick (v == 1) (Columns v) loops)
+
+counts-framed : (c : Target) (w : PlainWork) (loops : Path) →
+    map count_of (framed c w loops) ≡ if_several c.procs c.procs ++ (framed_lanes c w ++ map count_of loops)
+counts-framed c (kernel trees) loops = counts-lanes c.procs c.lanes loops
+counts-framed c (rows root size) loops = counts-lanes c.procs c.lanes loops
+counts-framed c (horner root size) loops = counts-lanes c.procs c.lanes loops
+counts-framed c (tile v) loops = counts-pick (c.procs == 1) (Blocks c.procs) loops
+counts-framed c (copy size) loops = counts-lanes c.procs c.lanes loops
+
+pub nest-framed : (c : Target) (p : PlainPass) → IsFramed c p → running.IsFramed c (nest_of (loop_of p))
+nest-framed c p frame = record { loops = map count_of frame.loops; counts = ap (map count_of) frame.path ∙ counts-framed c p.work frame.loops }
+
+-- ---- the values of the variables
+
+range-both : (one_proc one_lane : Bool) (p v q lane : ℕ) (loops : Path) (vs : List ℕ) → q < p → lane < v →
+    AreInRange loops vs →
+    AreInRange (if one_proc then (if one_lane then loops else Columns v ∷ loops) else Blocks p ∷
+    (if one_lane then loops else Columns v ∷ loops))
+    ((if one_proc then [] else q ∷ []) ++ ((if one_lane then [] else lane ∷ []) ++ vs))
+range-both true true p v q lane loops vs h k range = range
+range-both true false p v q lane loops vs h k range = (k, range)
+range-both false true p v q lane loops vs h k range = (h, range)
+range-both false false p v q lane loops vs h k range = (h, (k, range))
+
+range-procs : (one_proc : Bool) (p q : ℕ) (loops : Path) (vs : List ℕ) → q < p → AreInRange loops vs →
+    AreInRange (if one_proc then loops else Blocks p ∷ loops) ((if one_proc then [] else q ∷ []) ++ vs)
+range-procs true p q loops vs h range = range
+range-procs false p q loops vs h range = (h, range)
+
+range-framed : (c : Target) (w : PlainWork) (q lane : ℕ) (loops : Path) (vs : List ℕ) → q < c.procs → lane < c.lanes →
+    AreInRange loops vs →
+    AreInRange (framed c w loops) (shared.values_of c w q lane vs)
+range-framed c (kernel trees) q lane loops vs h k range =
+    range-both (c.procs == 1) (c.lanes == 1) c.procs c.lanes q lane loops vs h k range
+range-framed c (rows root size) q lane loops vs h k range =
+    range-both (c.procs == 1) (c.lanes == 1) c.procs c.lanes q lane loops vs h k range
+range-framed c (horner root size) q lane loops vs h k range =
+    range-both (c.procs == 1) (c.lanes == 1) c.procs c.lanes q lane loops vs h k range
+range-framed c (tile v) q lane loops vs h k range = range-procs (c.procs == 1) c.procs q loops vs h range
+range-framed c (copy size) q lane loops vs h k range =
+    range-both (c.procs == 1) (c.lanes == 1) c.procs c.lanes q lane loops vs h k range
+
+pub range-of : (c : Target) (p : PlainPass) (h : IsFramed c p) (q lane : ℕ) (vs : List ℕ) → q < c.procs →
+    lane < c.lanes → AreInRange h.loops vs → AreInRange p.path (shared.values_of c p.work q lane vs)
+range-of c p h q lane vs below on range =
+    subst (λ (path : Path). AreInRange path (shared.values_of c p.work q lane vs)) (sym h.path)
+    (range-framed c p.work q lane h.loops vs below on range)
+
+-- values in range name loops' values in range, and a processor where there are several
+record AreParts (one_proc : Bool) (p q : ℕ) (loops : Path) (vs : List ℕ) : Type 0 where
+  inner : AreInRange loops vs
+  proc : one_proc ≡ false → q < p
+
+parts-both : (one_proc one_lane : Bool) (p v q lane : ℕ) (loops : Path) (vs : List ℕ) →
+    AreInRange (if one_proc then (if one_lane then loops else Columns v ∷ loops) else Blocks p ∷
+    (if one_lane then loops else Columns v ∷ loops))
+    ((if one_proc then [] else q ∷ []) ++ ((if one_lane then [] else lane ∷ []) ++ vs)) →
+    AreParts one_proc p q loops vs
+parts-both true true p v q lane loops vs h = record { inner = h; proc = λ e. absurd (cc) }
+parts-both true false p v q lane loops vs h = record { inner = h.1; proc = λ e. absurd (cc) }
+parts-both false true p v q lane loops vs h = record { inner = h.1; proc = λ e. h.0 }
+parts-both false false p v q lane loops vs h = record { inner = h.1.1; proc = λ e. h.0 }
+
+parts-procs : (one_proc : Bool) (p q : ℕ) (loops : Path) (vs : List ℕ) →
+    AreInRange (if one_proc then loops else Blocks p ∷ loops) ((if one_proc then [] else q ∷ []) ++ vs) →
+    AreParts one_proc p q loops vs
+parts-procs true p q loops vs h = record { inner = h; proc = λ e. absurd (cc) }
+parts-procs false p q loops vs h = record { inner = h.1; proc = λ e. h.0 }
+
+parts-of : (c : Target) (w : PlainWork) (q lane : ℕ) (loops : Path) (vs : List ℕ) →
+    AreInRange (framed c w loops) (shared.values_of c w q lane vs) →
+    AreParts (c.procs == 1) c.procs q loops vs
+parts-of c (kernel trees) q lane loops vs h = parts-both (c.procs == 1) (c.lanes == 1) c.procs c.lanes q lane loops vs h
+parts-of c (rows root size) q lane loops vs h =
+    parts-both (c.procs == 1) (c.lanes == 1) c.procs c.lanes q lane loops vs h
+parts-of c (horner root size) q lane loops vs h =
+    parts-both (c.procs == 1) (c.lanes == 1) c.procs c.lanes q lane loops vs h
+parts-of c (tile v) q lane loops vs h = parts-procs (c.procs == 1) c.procs q loops vs h
+parts-of c (copy size) q lane loops vs h = parts-both (c.procs == 1) (c.lanes == 1) c.procs c.lanes q lane loops vs h
+
+-- the processor that stands for q: any for the only one
+abbrev pub named : Target → ℕ → ℕ
+named c q = if c.procs == 1 then 0 else q
+
+same-proc : (b : Bool) (q : ℕ) (rest : List ℕ) →
+    (if b then [] else q ∷ []) ++ rest ≡ (if b then [] else (if b then 0 else q) ∷ []) ++ rest
+same-proc true q rest = refl
+same-proc false q rest = refl
+
+pub values-named : (c : Target) (w : PlainWork) (q lane : ℕ) (vs : List ℕ) →
+    shared.values_of c w q lane vs ≡ shared.values_of c w (named c q) lane vs
+values-named c w q lane vs = same-proc (c.procs == 1) q (shared.lane_value c w lane ++ vs)
+
+-- the values of a copy on a processor and a lane
+pub record IsShare (c : Target) (loops : Path) (q : ℕ) (vs : List ℕ) : Type 0 where
+  pub inner : AreInRange loops vs
+  pub proc : named c q < c.procs
+
+proc-below : (b : Bool) (p q : ℕ) → 0 < p → (b ≡ false → q < p) → (if b then 0 else q) < p
+proc-below true p q some h = some
+proc-below false p q some h = h refl
+
+pub share-of : (c : Target) (p : PlainPass) (h : IsFramed c p) (q lane : ℕ) (vs : List ℕ) → 0 < c.procs →
+    AreInRange p.path (shared.values_of c p.work q lane vs) → IsShare c h.loops q vs
+share-of c p h q lane vs some range =
+    let parts = parts-of c p.work q lane h.loops vs
+    (subst (λ (path : Path). AreInRange path (shared.values_of c p.work q lane vs)) h.path range) in
+    record { inner = parts.inner; proc = proc-below (c.procs == 1) c.procs q some parts.proc }
+
+-- the items on the lanes of a register are items of the copy
+pub item-below : (c : Target) (w : PlainWork) (k lane : ℕ) → HasLanes c w → k < vectors_of w → lane < c.lanes →
+    shared.item_of w k lane < work_size w
+item-below c (kernel trees) k lane has below on = below
+item-below c (rows root size) k lane has below on = below
+item-below c (horner root size) k lane has below on = below
+item-below c (tile v) k lane has below on = place_below k lane v v below (omega (arith, has))
+item-below c (copy size) k lane has below on = below

@@ -1,0 +1,126 @@
+-- What is known of each pass of a layout.
+use Rattle.std.proofs.Common.{List, [], ◌∷◌, ◌++◌, map, sym, arith, subst}
+use Rattle.std.specs.Prelude.{reverse}
+use Rattle.std.proofs.lemmas.List.{map-append, reverse-append, reverse-reverse}
+use Rattle.sigma_lower.specs.Merged.{AllHaveLoops}
+use Rattle.sigma_lower.specs.Order.{AllLoops, AllOrdered}
+use Rattle.sigma_lower.specs.Shared.{phase_term, AllEmbed, AllMerge}
+use Rattle.sigma_lower.proofs.HaveLoops.{phases_have_loops}
+use Rattle.sigma_lower.proofs.Ordered.{trees_are_loops, trees_ordered}
+use Rattle.sigma_lower.proofs.SharedTrees.{shared_trees_merge, trees_embed}
+use Rattle.sigma_lower.specs.TreeLoops.Merge.{PlainPass, passes_of_terms, in_order, merged_of}
+use Rattle.sigma_lower.specs.TreeLoops.Nests.{loop_of}
+use Rattle.sigma_lower.proofs.TreeLoops.Closed.{AreClosedPasses, IsClosedPass}
+use Rattle.sigma_lower.proofs.TreeLoops.GoodPlaces.{HaveGoodPlaces}
+use Rattle.sigma_lower.proofs.TreeLoops.LoopLimits.{tree_loops}
+use Rattle.sigma_lower.proofs.TreeLoops.LoopNests.{loops_listed}
+use Rattle.sigma_lower.proofs.TreeLoops.PlaceValues.{AreFormedPasses, IsFormedPass}
+use Rattle.sigma_lower.proofs.TreeLoops.Shaped.{AreShaped, IsShaped, IsShapedWork}
+use Rattle.sigma_lower.proofs.TreeLoops.TreePlaces.{good_places, tree_good_places}
+use Rattle.sigma_spl.specs.Shared.Owners.{IsHost}
+use Rattle.sigma_spl.specs.Shared.Ready.{IsSmallWork}
+use Rattle.sigma_spl.specs.Good.{AreGoodPasses, IsGoodPass}
+use Rattle.sigma_spl.specs.Loops.{PlainLoop, AreGoodLoops, AreLimitedLoops, IsGoodLoop, IsLimitedLoop, loops_in, one_nest}
+use Rattle.sigma_spl.specs.Merge.{most, unbounded}
+use Rattle.sigma_spl.proofs.GoodLoops.{loops_are_good}
+use Rattle.sigma_lower.specs.TreeLoops.SharedPasses.Shared.{AllFramed, IsFramed}
+use Rattle.sigma_lower.proofs.TreeLoops.SharedPasses.Framed.{passes_are_framed}
+use Rattle.sigma_lower.specs.TreeTerms.Term.{PlainTerm, lowered_of}
+use Rattle.sigma_lower.proofs.TreeTerms.Both.{plain_terms}
+use Rattle.sigma_lower.proofs.TreeTerms.RootTerms.{shared_terms}
+use Rattle.smp_rewrite.specs.LayoutSteps.Layout.{Layout}
+use Rattle.operators.specs.declared.target.Target.{Target}
+use Rattle.sigma_lower.proofs.TreeSigmas.Hosted.{IsHosted}
+
+pub record IsKnown (c : Target) (p : PlainPass) : Type 0 where
+  pub framed : IsFramed c p
+  pub shaped : IsShaped (IsShapedWork c.modulus) c.size p
+  pub small : IsSmallWork p.work
+  pub limited : IsLimitedLoop 64 c.size (loop_of p)
+  pub formed : IsFormedPass p
+  pub closed : IsClosedPass c.size p
+  pub loop : IsGoodLoop c.lanes (loop_of p)
+  pub good : IsGoodPass c.lanes c.modulus c.size (one_nest (loop_of p))
+
+-- a loop whose nest is a good pass
+record IsGood (c : Target) (l : PlainLoop) : Type 0 where
+  loop : IsGoodLoop c.lanes l
+  pass : IsGoodPass c.lanes c.modulus c.size (one_nest l)
+
+abbrev AreGood : Target → List PlainLoop → Type 0
+AreGood c [] = Unit {0}
+AreGood c (l ∷ ls) = IsGood c l × AreGood c ls
+
+good-loops : (c : Target) (ls : List PlainLoop) → AreGoodLoops c.lanes ls →
+    AreGoodPasses c.lanes c.modulus c.size (map one_nest ls) → AreGood c ls
+good-loops c [] h k = tt
+good-loops c (l ∷ ls) h k = (record { loop = h.0; pass = k.0 }, good-loops c ls h.1 k.1)
+
+good-append : (c : Target) (ls more : List PlainLoop) → AreGood c ls → AreGood c more → AreGood c (ls ++ more)
+good-append c [] more h k = k
+good-append c (l ∷ ls) more h k = (h.0, good-append c ls more h.1 k)
+
+good-reverse : (c : Target) (ls : List PlainLoop) → AreGood c ls → AreGood c (reverse ls)
+good-reverse c [] h = tt
+good-reverse c (l ∷ ls) h =
+    subst (AreGood c) (sym (reverse-append (l ∷ []) ls))
+    (good-append c (reverse ls) (l ∷ []) (good-reverse c ls h.1) (h.0, tt))
+
+good-back : (c : Target) (ls : List PlainLoop) → AreGood c (reverse ls) → AreGood c ls
+good-back c ls h = subst (AreGood c) (reverse-reverse ls) (good-reverse c (reverse ls) h)
+
+-- those of a phase, in order
+good-phase : (c : Target) (ts : List PlainTerm) → AreGood c (loops_in (phase_term ts)) →
+    AreGood c (map loop_of (passes_of_terms ts))
+good-phase c ts h = good-back c (map loop_of (passes_of_terms ts)) (subst (AreGood c) (loops_listed ts) h)
+
+good-phases : (c : Target) (phases : List (List PlainTerm)) → IsHost c → AllEmbed c c.lanes phases →
+    AllOrdered c phases → AllHaveLoops c phases → AllLoops c phases →
+    AllMerge unbounded c phases →
+    AreGood c (map loop_of (in_order (map passes_of_terms phases)))
+good-phases c [] host embedded ordered have loops merged = tt
+good-phases c (ts ∷ more) host embedded ordered have loops merged =
+    let size = host.size.0 in
+    let good = loops_are_good c.lanes c.size (phase_term ts) (omega (arith, size)) embedded.0.good ordered.0.in_order in
+    let first = good-phase c ts (good-loops c (loops_in (phase_term ts)) good
+    (subst (AreGoodPasses c.lanes c.modulus c.size) (loops.0 have.0) merged.0)) in
+    subst (AreGood c) (sym (map-append loop_of (passes_of_terms ts) (in_order (map passes_of_terms more))))
+    (good-append c (map loop_of (passes_of_terms ts)) _ first
+    (good-phases c more host embedded.1 ordered.1 have.1 loops.1 merged.1))
+
+-- ---- all passes
+
+abbrev pub AllKnown : Target → List PlainPass → Type 0
+AllKnown c [] = Unit {0}
+AllKnown c (p ∷ ps) = IsKnown c p × AllKnown c ps
+
+all-known : (c : Target) (ps : List PlainPass) → AllFramed c ps → AreShaped (IsShapedWork c.modulus) c.size ps →
+    AreShaped IsSmallWork c.size ps → AreLimitedLoops (most 64) c.size (map loop_of ps) → AreFormedPasses ps →
+    AreClosedPasses c.size ps → AreGood c (map loop_of ps) → AllKnown c ps
+all-known c [] framed shaped small limited formed closed good = tt
+all-known c (p ∷ ps) framed shaped small limited formed closed good = (
+  record {
+    framed = framed.0;
+    shaped = shaped.0;
+    small = small.0.work;
+    limited = limited.0;
+    formed = formed.0;
+    closed = closed.0;
+    loop = good.0.loop;
+    good = good.0.pass;
+  },
+  all-known c ps framed.1 shaped.1 small.1 limited.1 formed.1 closed.1 good.1,
+)
+
+pub layout-known : (c : Target) (l : Layout) → IsHosted c l → AllKnown c (merged_of c l)
+layout-known c l is =
+    let places : HaveGoodPlaces c (IsShapedWork c.modulus) (merged_of c l) = tree_good_places c l is.shares is.good in
+    let small : HaveGoodPlaces c IsSmallWork (merged_of c l) = good_places c IsSmallWork l is.shares is.good is.small
+    tt in
+    all-known c (merged_of c l) (passes_are_framed plain_terms shared_terms c l is.shares is.good) places.shaped
+    small.shaped
+    (tree_loops 64 c l (omega arith) is.machine is.shares is.good) places.formed places.closed
+    (good-phases c (lowered_of c l) is.host (trees_embed c l is.machine is.shares is.good)
+    (trees_ordered c l is.machine is.shares is.good) (phases_have_loops c l is.machine is.shares is.good)
+    (trees_are_loops c l is.machine is.shares is.good)
+    (shared_trees_merge unbounded c l is.machine is.shares is.good).good)

@@ -1,0 +1,168 @@
+-- The places of a pass's nest are the pass's, and the lanes of its registers stand side by side.
+use Rattle.std.proofs.Common.{◌≡◌, ℕ, ◌+◌, ◌*◌, ◌<◌, List, [], ◌∷◌, ◌++◌, length, map, refl, sym, ap, ap₂, ◌∙◌, arith, subst, Option, Some, None}
+use Rattle.std.specs.Option.{option_map}
+use Rattle.index_fn.specs.Mapping.{Mapping, at}
+use Rattle.kernel_gen.proofs.Residues.{power_below}
+use Rattle.sigma_lower.specs.TreeLoops.Items as shared
+use Rattle.sigma_lower.specs.TreeLoops.Merge.{diagonal_place}
+use Rattle.sigma_lower.specs.TreeLoops.Merge.{PlainDiagonal, PlainPass, through, gather_place, scatter_place}
+use Rattle.sigma_lower.specs.TreeLoops.Nests.{loop_of, taken_of}
+use Rattle.sigma_lower.proofs.TreeLoops.Closed.{AreClosed, IsClosedPass, inner-below}
+use Rattle.sigma_lower.proofs.TreeLoops.PlaceValues.{through-end}
+use Rattle.sigma_lower.proofs.TreeLoops.Shaped.{IsShaped, IsShapedWork}
+use Rattle.operators.specs.declared.target.Target.{Target}
+use Rattle.sigma_spl.specs.Shared.Owners.{IsHost}
+use Rattle.sigma_spl.specs.Shared.Running.{FindsFactors, HasResidues, MovesVectors}
+use Rattle.sigma_spl.specs.Shared.Machine.{item_of, values_of}
+use Rattle.sigma_spl.specs.Copies.{loops_of}
+use Rattle.sigma_spl.specs.Loops.{nest_of, multiplier_of, places_by, IsGoodLoop}
+use Rattle.sigma_spl.specs.Merge.{items_out}
+use Rattle.sigma_spl.specs.Nest.{PlainMultiplier, inner_of, load_place, store_place, factor_at, factor_count}
+use Rattle.sigma_spl.specs.Work.{PlainWork, vectors_of, work_size}
+use Rattle.sigma_spl.proofs.Natural.{looped, ranged}
+use Rattle.sigma_spl.proofs.Listed.{loops_have_places}
+use Rattle.sigma_lower.specs.TreeLoops.SharedPasses.Shared.{IsFramed}
+use Rattle.operators.specs.TensorPaths.Path.{count_of, place, AreInRange}
+use Rattle.operators.proofs.TensorPaths.PathPlaces.{place-below}
+use Rattle.sigma_lower.proofs.TreeSigmas.Frames.{loop-values, loop-item, loop-step, range-of, named, values-named, IsShare, share-of, item-below}
+
+-- a nest's diagonal is that of its pass
+pub record IsTaken (p : PlainPass) (m : PlainMultiplier) : Type 0 where
+  pub diagonal : PlainDiagonal
+  pub is : p.diagonal ≡ Some diagonal
+  pub same : m ≡ record { factors = (taken_of diagonal).factors; places = places_by (loop_of p) (taken_of diagonal).places (items_out p.work (length p.path)) }
+
+none-is-some : (m : PlainMultiplier) → ◌≡◌ {A = Option PlainMultiplier} None (Some m) → ⊥
+none-is-some m e = cc
+
+some-same : (a b : PlainMultiplier) → ◌≡◌ {A = Option PlainMultiplier} (Some a) (Some b) → b ≡ a
+some-same a b e = cc
+
+pub taken-is : (p : PlainPass) (m : PlainMultiplier) → (nest_of (loop_of p)).multiplier ≡ Some m → IsTaken p m
+taken-is p m = pick p.diagonal refl
+  where
+    pick : (o : Option PlainDiagonal) → p.diagonal ≡ o → multiplier_of (loop_of p) (option_map taken_of o) ≡ Some m →
+        IsTaken p m
+    pick None is e = absurd (none-is-some m e)
+    pick (Some d) is e = record { diagonal = d; is = is; same = some-same _ m e }
+
+through-below : (n : ℕ) (fs : List Mapping) (f : Mapping) (i : ℕ) → AreClosed n (fs ++ f ∷ []) → i < n →
+    through fs i < n
+through-below n [] f i h below = below
+through-below n (g ∷ fs) f i h below = through-below n fs f (at g i) h.1 (h.0.below i below)
+
+module _ (c : Target) (p : PlainPass) (good : IsGoodLoop c.lanes (loop_of p)) where
+  abbrev w : PlainWork
+  w = p.work
+
+  module _ (vs : List ℕ) (k : ℕ) (range : AreInRange p.path vs) (below : k < work_size p.work) where
+    in_work : k < work_size w
+    in_work = below
+
+    pub load-is : load_place w (nest_of (loop_of p)).gathers vs k ≡ gather_place p vs k
+    load-is = (loops_have_places c.lanes (loop_of p) vs k good (looped p.path vs range) in_work).loads
+
+    pub store-is : store_place w (nest_of (loop_of p)).scatters vs k ≡ scatter_place p vs k
+    store-is = (loops_have_places c.lanes (loop_of p) vs k good (looped p.path vs range) in_work).stores
+
+    pub factor-is : (d : PlainDiagonal) → p.diagonal ≡ Some d →
+        store_place w (places_by (loop_of p) (taken_of d).places (items_out w (length p.path))) vs k
+        ≡ diagonal_place p d vs k
+    factor-is d is =
+        (loops_have_places c.lanes (loop_of p) vs k good (looped p.path vs range) in_work).factors (taken_of d)
+        (ap (option_map taken_of) is)
+        ∙ through-end d.places (inner_of d.path (d.rows * d.cols)) _
+
+  -- ---- lanes
+
+  module _ (host : IsHost c) (frame : IsFramed c p) (q : ℕ) (vs : List ℕ) (lane k : ℕ)
+      (range : AreInRange (loops_of (map count_of p.path)) (values_of c w q lane vs)) (on : lane < c.lanes)
+      (below : k < vectors_of w) where
+    some : 0 < c.procs
+    some = let procs = host.procs.0 in omega (arith, procs)
+
+    values-are : (l : ℕ) → values_of c w q l vs ≡ shared.values_of c p.work (named c q) l vs
+    values-are l = loop-values c p.work q l vs ∙ values-named c p.work q l vs
+
+    share : IsShare c frame.loops q vs
+    share =
+        share-of c p frame q lane vs some (subst (AreInRange p.path) (loop-values c p.work q lane vs)
+        (ranged p.path _ range))
+
+    in_range : (l : ℕ) → l < c.lanes → AreInRange p.path (shared.values_of c p.work (named c q) l vs)
+    in_range l high = range-of c p frame (named c q) l vs share.proc high share.inner
+
+    in_copy : (l : ℕ) → l < c.lanes → shared.item_of p.work k l < work_size p.work
+    in_copy l high = item-below c p.work k l frame.lanes below high
+
+    load-at : (l : ℕ) → l < c.lanes →
+        load_place w (nest_of (loop_of p)).gathers (values_of c w q l vs) (item_of w k l)
+        ≡ gather_place p (shared.values_of c p.work (named c q) l vs) (shared.item_of p.work k l)
+    load-at l high =
+        ap₂ (λ us i. load_place w (nest_of (loop_of p)).gathers us i) (values-are l) (loop-item p.work k l)
+        ∙ load-is (shared.values_of c p.work (named c q) l vs) (shared.item_of p.work k l) (in_range l high)
+        (in_copy l high)
+
+    store-at : (l : ℕ) → l < c.lanes →
+        store_place w (nest_of (loop_of p)).scatters (values_of c w q l vs) (item_of w k l)
+        ≡ scatter_place p (shared.values_of c p.work (named c q) l vs) (shared.item_of p.work k l)
+    store-at l high =
+        ap₂ (λ us i. store_place w (nest_of (loop_of p)).scatters us i) (values-are l) (loop-item p.work k l)
+        ∙ store-is (shared.values_of c p.work (named c q) l vs) (shared.item_of p.work k l) (in_range l high)
+        (in_copy l high)
+
+    first : 0 < c.lanes
+    first = omega (arith, on)
+
+    factor-at : (m : PlainMultiplier) (t : IsTaken p m) (l : ℕ) → l < c.lanes →
+        store_place w m.places (values_of c w q l vs) (item_of w k l)
+        ≡ diagonal_place p t.diagonal (shared.values_of c p.work (named c q) l vs) (shared.item_of p.work k l)
+    factor-at m t l high =
+        ap (λ (n : PlainMultiplier). store_place w n.places (values_of c w q l vs) (item_of w k l)) t.same
+        ∙ ap₂ (λ us i. store_place w (places_by (loop_of p) (taken_of t.diagonal).places
+        (items_out w (length p.path))) us i) (values-are l) (loop-item p.work k l)
+        ∙ factor-is (shared.values_of c p.work (named c q) l vs) (shared.item_of p.work k l) (in_range l high)
+        (in_copy l high) t.diagonal t.is
+
+    pub moves-vectors : MovesVectors c (nest_of (loop_of p)) q vs lane k
+    moves-vectors =
+        let moved = frame.vectors vs (named c q) lane k share.inner share.proc on below in
+        record {
+          loads = load-at lane on ∙ moved.gathers ∙ ap (λ x. x + lane) (sym (load-at 0 first));
+          stores = store-at lane on ∙ moved.scatters ∙ ap (λ x. x + lane) (sym (store-at 0 first));
+          factors = λ m is.
+              let t = taken-is p m is in
+              factor-at m t lane on
+              ∙ frame.factors t.diagonal t.is vs (named c q) lane k share.inner share.proc on below
+              ∙ ap₂ (λ x y. x + y * lane) (sym (factor-at m t 0 first)) (sym (loop-step p.work));
+        }
+
+  -- ---- factors
+
+  pub finds-factors : IsShaped (IsShapedWork c.modulus) c.size p → IsClosedPass c.size p →
+      FindsFactors (nest_of (loop_of p))
+  finds-factors shape closed m is vs k range below =
+      let t = taken-is p m is in
+      let d = t.diagonal in
+      let inner : AreInRange p.path vs = ranged p.path vs range in
+      let item : k < work_size p.work = below in
+      let natural : place p.path (work_size p.work) vs k < c.size = subst
+      (λ n. place p.path (work_size p.work) vs k < n) shape.fills
+      (place-below p.path (work_size p.work) vs k inner item) in
+      let there : through d.places (place p.path (work_size p.work) vs k) < c.size = through-below c.size d.places _ _
+      (closed.multiplies d t.is) natural in
+      let inside : diagonal_place p d vs k < d.rows * d.cols = inner-below d.path (d.rows * d.cols) _
+      (subst (λ n. through d.places (place p.path (work_size p.work) vs k) < n) (sym (shape.multiplies d t.is)) there)
+      in
+      let value : store_place w m.places vs k
+      ≡ diagonal_place p d vs k = ap (λ (n : PlainMultiplier). store_place w n.places vs k) t.same
+      ∙ factor-is vs k inner item d t.is in
+      let count : factor_count m.factors
+      ≡ d.rows * d.cols = ap (λ (n : PlainMultiplier). factor_count n.factors) t.same in
+      omega (arith, inside, value, count)
+
+pub residues-of : (c : Target) (p : PlainPass) → 0 < c.modulus → HasResidues c (nest_of (loop_of p))
+residues-of c p some m is i =
+    let t = taken-is p m is in
+    subst (λ (n : PlainMultiplier). factor_at c.modulus n.factors i < c.modulus) (sym t.same)
+    (power_below c.modulus t.diagonal.root _ some)

@@ -1,0 +1,211 @@
+-- Each loop of a layout can be run, and a program can be made of it.
+use Rattle.std.proofs.Common.{◌≡◌, ℕ, zero, suc, ◌+◌, ◌-◌, ◌<◌, ◌≤◌, List, [], ◌∷◌, ◌++◌, All, length, map, refl, sym, ap, ap₂, ◌∙◌, arith, subst, Some}
+use Rattle.std.specs.Prelude.{slice_index, slice_index_or}
+use Rattle.std.specs.Option.{option_map}
+use Rattle.std.proofs.lemmas.List.Elements.{All-weaker}
+use Rattle.index_fn.specs.Mapping.{Mapping}
+use Rattle.operators.specs.Sizes.{max_size}
+use Rattle.operators.specs.declared.target.Target.{Target}
+use Rattle.operators.specs.TensorPaths.Path.{Path, AreInRange, count_of, place, size_under}
+use Rattle.perm_algebra.specs.Affine.{Sum, constant, variable, value, simplified}
+use Rattle.sigma_spl.specs.Copies.{loops_of}
+use Rattle.sigma_spl.specs.Good.{NamesItems}
+use Rattle.sigma_spl.specs.Loops.{AreFormed, limits_in, nest_of}
+use Rattle.sigma_spl.specs.Merge.{items_out, all_simplified, place_sum}
+use Rattle.sigma_spl.specs.Nest.{PlainMultiplier, PlainNest}
+use Rattle.sigma_spl.specs.Shared.Machine.{first_loop, loop_counts}
+use Rattle.sigma_spl.specs.Shared.Owners.{IsHost}
+use Rattle.sigma_spl.specs.Shared.Ready.{IsReadyMultiplier, IsReadyNest, LoadsAlike}
+use Rattle.sigma_spl.specs.Shared.Running.{CanRunNest}
+use Rattle.sigma_spl.specs.Trees.{IsReadyLoop}
+use Rattle.sigma_spl.specs.Work.{PlainWork, kernel, rows, horner, tile, copy, work_size}
+use Rattle.sigma_spl.proofs.Natural.{names-out, ranged, values-are}
+use Rattle.sigma_spl.proofs.Nests.{names-simplified}
+use Rattle.sigma_lower.specs.TreeLoops.Merge.{PlainPass, through}
+use Rattle.sigma_lower.specs.TreeLoops.Nests.{loop_of, taken_of}
+use Rattle.sigma_lower.proofs.TreeLoops.LoopItems.{diagonal-size}
+use Rattle.sigma_lower.proofs.TreeLoops.PlaceValues.{value-at_place}
+use Rattle.sigma_lower.proofs.TreeLoops.Shaped.{IsShapedWork}
+use Rattle.sigma_lower.proofs.TreeSigmas.Frames.{nest-framed}
+use Rattle.sigma_lower.proofs.TreeSigmas.Known.{IsKnown}
+use Rattle.sigma_lower.proofs.TreeSigmas.Loops.{IsCount, counts-drop, length-drop, length-tensors, loop-counts, path-weight, under-least, weight-small}
+use Rattle.sigma_lower.proofs.TreeSigmas.Places.{taken-is, moves-vectors, finds-factors, residues-of}
+use Rattle.sigma_lower.proofs.TreeSigmas.Works.{can-work, no-copy}
+
+-- ---- names
+
+names-all : (w : PlainWork) (cs : ℕ → ℕ) (fs : List Mapping) (sums : List Sum) → AreFormed fs → NamesItems w sums →
+    NamesItems w (map (all_simplified cs fs) sums)
+names-all w cs [] sums formed h = subst (NamesItems w) (sym (map-same sums)) h
+  where
+    map-same : (sums : List Sum) → map (λ e. e) sums ≡ sums
+    map-same [] = refl
+    map-same (e ∷ es) = ap (λ rest. e ∷ rest) (map-same es)
+names-all w cs (f ∷ fs) sums formed h =
+    subst (NamesItems w) (map-twice sums)
+    (names-all w cs fs (map (simplified cs f) sums) formed.1 (names-simplified w cs f sums formed.0 h))
+  where
+    map-twice : (sums : List Sum) →
+        map (all_simplified cs fs) (map (simplified cs f) sums) ≡ map (all_simplified cs (f ∷ fs)) sums
+    map-twice [] = refl
+    map-twice (e ∷ es) = ap (λ rest. all_simplified cs fs (simplified cs f e) ∷ rest) (map-twice es)
+
+-- ---- values in range, with others behind them
+
+two_below : (n k l : ℕ) → k < n → l < n → (i : ℕ) → slice_index (k ∷ l ∷ []) i ≤ slice_index (n ∷ n ∷ []) i - 1
+two_below n k l h g zero = omega arith
+two_below n k l h g (suc zero) = omega arith
+two_below n k l h g (suc (suc i)) = omega arith
+
+with_more : (counts : List ℕ) (n : ℕ) (vs more : List ℕ) → AreInRange (loops_of counts) vs →
+    ((i : ℕ) → slice_index more i ≤ slice_index (n ∷ n ∷ []) i - 1) →
+    (i : ℕ) → slice_index (vs ++ more) i ≤ slice_index (counts ++ n ∷ n ∷ []) i - 1
+with_more [] n [] more h rest i = rest i
+with_more [] n (v ∷ vs) more h rest i = absurd h
+with_more (c ∷ counts) n [] more h rest i = absurd h
+with_more (c ∷ counts) n (v ∷ vs) more h rest zero = omega (arith, h.0)
+with_more (c ∷ counts) n (v ∷ vs) more h rest (suc i) = with_more counts n vs more h.1 rest i
+
+at-second : (path : Path) (vs : List ℕ) (k l : ℕ) → AreInRange path vs →
+    slice_index (vs ++ k ∷ l ∷ []) (suc (length path)) ≡ l
+at-second [] [] k l h = refl
+at-second [] (v ∷ vs) k l h = absurd h
+at-second (t ∷ path) [] k l h = absurd h
+at-second (t ∷ path) (v ∷ vs) k l h = at-second path vs k l h.1
+
+module _ (c : Target) (p : PlainPass) (host : IsHost c) (known : IsKnown c p) where
+  abbrev w : PlainWork
+  w = p.work
+
+  abbrev z : PlainNest
+  z = nest_of (loop_of p)
+
+  some-procs : 0 < c.procs
+  some-procs = let procs = host.procs.0 in omega (arith, procs)
+
+  some-modulus : 0 < c.modulus
+  some-modulus = let large = host.modulus.0 in omega (arith, large)
+
+  run-nest : CanRunNest c z
+  run-nest =
+      record {
+        work = can-work c p.work known.shaped.work known.framed.lanes;
+        inside = known.good.nests.0.inside;
+        framed = nest-framed c p known.framed;
+        vectors = λ q vs lane k range on below. moves-vectors c p known.loop host known.framed q vs lane k range on
+            below;
+        factors = finds-factors c p known.loop known.shaped known.closed;
+        residues = residues-of c p some-modulus;
+      }
+
+  -- ---- sizes
+
+  high : c.size ≤ 1048576
+  high = host.size.1
+
+  fills : size_under p.path (work_size w) ≡ c.size
+  fills = known.shaped.fills
+
+  all-counts : All IsCount (map count_of p.path)
+  all-counts = loop-counts p.path (work_size w) known.shaped.wide known.loop.some (omega (arith, fills, high))
+
+  few-loops : length p.path ≤ 20
+  few-loops =
+      let weight = path-weight p.path (work_size w) known.shaped.wide known.loop.some in
+      weight-small (length p.path) (omega (arith, weight, fills, high))
+
+  shallow : length (loop_counts c z) ≤ 20
+  shallow =
+      let dropped = length-drop (first_loop c w) (map count_of p.path) in
+      let all = length-tensors p.path in
+      let few = few-loops in
+      omega (arith, dropped, all, few)
+
+  pub n-small : work_size w ≤ 1048576
+  n-small =
+      let least = under-least p.path (work_size w) known.shaped.wide known.loop.some in omega
+      (arith, least, fills, high)
+
+  -- the nest with other work
+  abbrev with_work : PlainWork → PlainNest
+  with_work v =
+      nest_of (record {
+        path = p.path;
+        work = v;
+        befores = p.befores;
+        taken = option_map taken_of p.diagonal;
+        afters = p.afters;
+      })
+
+  at-row-of : (root n : ℕ) (vs : List ℕ) (row k : ℕ) → AreInRange (loops_of (map count_of p.path)) vs → row < n →
+      k < n →
+      value (slice_index_or (with_work (rows root n)).gathers 0 (constant 0)) (slice_index (vs ++ row ∷ k ∷ []))
+      ≡ through p.befores (place p.path n vs k)
+  at-row-of root n vs row k range below under =
+      let us = slice_index (vs ++ row ∷ k ∷ []) in
+      let cs = slice_index (map count_of p.path ++ n ∷ n ∷ []) in
+      let item : Sum = variable 1 (length p.path + 1) (constant 0) in
+      value-at_place cs us p.path n p.befores item known.formed.befores
+      (with_more (map count_of p.path) n vs (row ∷ k ∷ []) range (two_below n row k below under)) tt
+      ∙ ap₂ (λ ws j. through p.befores (place p.path n ws j))
+      (values-are p.path 0 us vs (row ∷ k ∷ []) (ranged p.path vs range) (λ i. ap us (omega arith)))
+      (let there : us (length p.path + 1) ≡ k = ap us (omega arith)
+      ∙ at-second p.path vs row k (ranged p.path vs range) in omega (arith, there))
+
+  rows-alike : (root n : ℕ) → LoadsAlike (with_work (rows root n)) (rows root n)
+  rows-alike root n vs row k range below under =
+      at-row-of root n vs row k range below under ∙ sym (at-row-of root n vs 0 k range (omega (arith, below)) under)
+
+  work-alike : (v : PlainWork) → IsShapedWork c.modulus v → LoadsAlike (with_work v) v
+  work-alike (kernel trees) shaped = tt
+  work-alike (rows root n) shaped = rows-alike root n
+  work-alike (horner root n) shaped = absurd shaped
+  work-alike (tile v) shaped = tt
+  work-alike (copy n) shaped = absurd shaped
+
+  alike : LoadsAlike z w
+  alike = work-alike p.work known.shaped.work
+
+  -- ---- factors
+
+  ready-multiplier : (d : PlainMultiplier) → z.multiplier ≡ Some d → IsReadyMultiplier w d
+  ready-multiplier d is =
+      let t = taken-is p d is in
+      let few = diagonal-size (IsShapedWork c.modulus) c.size p host.size.0 known.shaped t.diagonal t.is in
+      let some = few.0 in
+      let most = few.1 in
+      let formed = (known.loop.taken (taken_of t.diagonal) (ap (option_map taken_of) t.is)).formed in
+      let sums = map (place_sum p.path (work_size w) 0) (items_out w (length p.path)) in
+      let there = names-out c.lanes p.path w known.loop.nested in
+      let ready : IsReadyMultiplier w
+      (record {
+        factors = (taken_of t.diagonal).factors;
+        places = map (all_simplified (limits_in (loop_of p)) (taken_of t.diagonal).places) sums;
+      }) =
+      record {
+        named = names-all w (limits_in (loop_of p)) (taken_of t.diagonal).places sums formed there;
+        some = omega (arith, some);
+        few = omega (arith, most, high);
+      } in
+      subst (IsReadyMultiplier w) (sym t.same) ready
+
+  -- ---- the loop
+
+  ready-nest : IsReadyNest c z
+  ready-nest =
+      record {
+        gathers = known.good.nests.0.gathers;
+        scatters = known.good.nests.0.scatters;
+        multiplier = ready-multiplier;
+        alike = alike;
+        small = known.small;
+        items = n-small;
+        shallow = let few = shallow in omega (arith, few);
+        counts =
+            All-weaker IsCount (λ k. (1 ≤ k) × (k ≤ max_size))
+            (λ k both. let low = both.0 in let most = both.1 in (omega (arith, low), omega (arith, most)))
+            (loop_counts c z) (counts-drop (first_loop c w) (map count_of p.path) all-counts);
+      }
+
+  pub ready-loop : IsReadyLoop c (loop_of p)
+  ready-loop = record { runs = run-nest; ready = ready-nest; computes = no-copy c.modulus p.work known.shaped.work }

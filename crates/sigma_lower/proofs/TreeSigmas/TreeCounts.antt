@@ -1,0 +1,101 @@
+-- The loops of the layout of a tree count what the forward request's passes do in the cost model.
+use Rattle.std.proofs.Common.{◌≡◌, List, [], ◌∷◌, map, refl, sym, ap, ap₂, ◌∙◌}
+use Rattle.sigma_lower.specs.TreeLoops.Laws.{Counted, counted_cost, counted_loads, whole_passes, AllCount, IsForwardTree}
+use Rattle.sigma_lower.proofs.TreeLoops.LayoutCounts.{layouts_count}
+use Rattle.matrix_meaning.specs.Parts.{forward_by, forward_of}
+use Rattle.matrix_meaning.specs.Valid.{IsValid}
+use Rattle.matrix_meaning.specs.declared.Kind.{Kind}
+use Rattle.matrix_meaning.specs.declared.Kind.TheVariants.{Dft, Wht, Idft}
+use Rattle.matrix_meaning.specs.declared.Request.{Request}
+use Rattle.matrix_meaning.proofs.Requests.{forward_is_valid}
+use Rattle.sigma_spl.specs.Shared.Costs.{pass_cost, pass_loads}
+use Rattle.smp_rewrite.specs.LayoutSteps.Layout.{Layout, layout_of}
+use Rattle.sigma_spl.specs.Shared.Targets.{target_of}
+use Rattle.smp_rewrite.proofs.LayoutSteps.Wholes.{forward_fits}
+use Rattle.tree_model.specs.Breakdown.{Breakdown}
+use Rattle.tree_model.specs.Chosen.{IsWholeTree}
+use Rattle.tree_model.specs.WholePasses.{RequestPass, cost_of_pass, loads_of_pass, request_passes}
+use Rattle.tree_model.proofs.WholeTrees.{forward_size}
+use Rattle.sigma_lower.proofs.TreeSigmas.Counting.{layout_costs, layout_loads}
+use Rattle.sigma_lower.specs.TreeLoops.Merge.{merged_of}
+use Rattle.sigma_spl.specs.Nest.{PlainNest}
+use Rattle.sigma_lower.proofs.TreeSigmas.Owned.{pass_nests}
+use Rattle.sigma_lower.proofs.TreeSigmas.TreeHosted.{tree_hosted}
+
+-- ---- the forward request has the request's numbers
+
+record HasNumbers (c p : Request) : Type 0 where
+  weight : p.weight ≡ c.weight
+  modulus : p.modulus ≡ c.modulus
+  size : p.size ≡ c.size
+  lanes : p.lanes ≡ c.lanes
+
+numbers : (kind : Kind) (c : Request) → HasNumbers c (forward_by kind c)
+numbers Dft c = record { weight = refl; modulus = refl; size = refl; lanes = refl }
+numbers Wht c = record { weight = refl; modulus = refl; size = refl; lanes = refl }
+numbers Idft c = record { weight = refl; modulus = refl; size = refl; lanes = refl }
+
+module _ (c p : Request) (same : HasNumbers c p) where
+  costs-same : (l : Layout) →
+      map (counted_cost c.weight c.modulus c.size) (whole_passes c.lanes l)
+      ≡ map (counted_cost p.weight p.modulus p.size) (whole_passes p.lanes l)
+  costs-same l =
+      sym (ap₂ (λ weight m. map (counted_cost weight m p.size) (whole_passes p.lanes l)) same.weight same.modulus
+      ∙ ap₂ (λ n v. map (counted_cost c.weight c.modulus n) (whole_passes v l)) same.size same.lanes)
+
+  loads-same : (l : Layout) →
+      map (counted_loads c.size) (whole_passes c.lanes l) ≡ map (counted_loads p.size) (whole_passes p.lanes l)
+  loads-same l = sym (ap₂ (λ n v. map (counted_loads n) (whole_passes v l)) same.size same.lanes)
+
+-- ---- pass by pass
+
+costs-are : (p : Request) (zs : List Counted) (qs : List RequestPass) → AllCount p zs qs →
+    map (counted_cost p.weight p.modulus p.size) zs ≡ map (cost_of_pass p.size) qs
+costs-are p [] [] h = refl
+costs-are p [] (q ∷ qs) h = absurd h
+costs-are p (z ∷ zs) [] h = absurd h
+costs-are p (z ∷ zs) (q ∷ qs) h = ap₂ (λ x xs. x ∷ xs) h.0.operations (costs-are p zs qs h.1)
+
+loads-are : (p : Request) (zs : List Counted) (qs : List RequestPass) → AllCount p zs qs →
+    map (counted_loads p.size) zs ≡ map (loads_of_pass p.size) qs
+loads-are p [] [] h = refl
+loads-are p [] (q ∷ qs) h = absurd h
+loads-are p (z ∷ zs) [] h = absurd h
+loads-are p (z ∷ zs) (q ∷ qs) h = ap₂ (λ x xs. x ∷ xs) h.0.loads (loads-are p zs qs h.1)
+
+-- ---- the loops of the layout
+
+module _ (c : Request) (t : Breakdown) (valid : IsValid c) (h : IsWholeTree c t) where
+  abbrev p : Request
+  p = forward_of c
+
+  abbrev l : Layout
+  l = layout_of p t
+
+  abbrev nests : List (List PlainNest)
+  nests = pass_nests (target_of c) (merged_of (target_of c) l)
+
+  forward : IsForwardTree p t
+  forward = record {
+    valid = forward_is_valid c valid;
+    tree = h.tree;
+    size = h.size ∙ sym (forward_size c);
+    root = forward_fits c t valid h (h.size ∙ sym (forward_size c));
+  }
+
+  all : AllCount p (whole_passes p.lanes l) (request_passes p t)
+  all = layouts_count p t forward
+
+  pub forward_costs : map (pass_cost c.weight c.modulus) nests ≡ map (cost_of_pass c.size) (request_passes p t)
+  forward_costs =
+      layout_costs (target_of c) l (tree_hosted c t valid h) c.weight
+      ∙ costs-same c p (numbers c.kind c) l
+      ∙ costs-are p (whole_passes p.lanes l) (request_passes p t) all
+      ∙ ap (λ n. map (cost_of_pass n) (request_passes p t)) (forward_size c)
+
+  pub forward_loads : map pass_loads nests ≡ map (loads_of_pass c.size) (request_passes p t)
+  forward_loads =
+      layout_loads (target_of c) l (tree_hosted c t valid h)
+      ∙ loads-same c p (numbers c.kind c) l
+      ∙ loads-are p (whole_passes p.lanes l) (request_passes p t) all
+      ∙ ap (λ n. map (loads_of_pass n) (request_passes p t)) (forward_size c)
