@@ -15,7 +15,8 @@ weighted_sum m y = sum_below (length y) (λ k. (k + 1) * slice_index y k) % m
 
 abbrev pub sample_text : ℕ → ℕ → ℕ → ℕ → List ℕ
 sample_text sum operations loads stores =
-    codes "sum " ++ decimal sum ++ codes "\noperations " ++ decimal operations ++ codes "\nloads " ++ decimal loads ++ codes "\nstores " ++ decimal stores ++ codes "\n"
+    codes "sum " ++ decimal sum ++ codes "\noperations " ++ decimal operations ++ codes "\nloads " ++ decimal loads ++
+    codes "\nstores " ++ decimal stores ++ codes "\n"
 
 -- what all processors have executed together is counted in 64 bits
 pub record AreCountable (code : Code) (s : State) : Type 0 where

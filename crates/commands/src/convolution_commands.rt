@@ -32,7 +32,8 @@ use runs::{read_first, run_vectors};
 use spiral_words::{Command, LINE_LIMIT, Status};
 use std::alloc::Global;
 
-// The request for convolutions that the first line of the input spells, whose processors are all that the schedule names.
+// The request for convolutions that the first line of the input spells, whose processors are all that the schedule
+// names.
 fn ask_conv<I: Source>(
     schedule: &Schedule,
     feed: &mut Feed,

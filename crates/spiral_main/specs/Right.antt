@@ -57,8 +57,9 @@ abbrev pub HasBudgetFor : RequestCommand → Request → Type 0
 HasBudgetFor Judges request = Unit {0}
 HasBudgetFor _ request = IsWithinBudget request
 
--- The words are a command line that goes by a request, the first line spells a request, and each turn that the words name is of one of
--- its processors. The request is valid, admits a tree, and its least cost is within the budget. What stands behind the line is right
+-- The words are a command line that goes by a request, the first line spells a request, and each turn that the words
+-- name is of one of its processors. The request is valid, admits a tree, and its least cost is within the budget.
+-- What stands behind the line is right
 pub record IsRightRequest (words : List (List ℕ)) (bytes : List ℕ) : Type 0 where
   pub wanted : RequestCommand
   pub asked : IsAsked words (ByRequest wanted)
@@ -69,7 +70,8 @@ pub record IsRightRequest (words : List (List ℕ)) (bytes : List ℕ) : Type 0 
   pub budget : HasBudgetFor wanted request
   pub rest : IsRightRest wanted request (room_behind (line 256) bytes) ((line 256).behind bytes)
 
--- The words ask for `exec`, the listing's program passes the check and has the processors that the schedule names, and what stands behind the listing is right
+-- The words ask for `exec`, the listing's program passes the check and has the processors that the schedule names,
+-- and what stands behind the listing is right
 pub record IsRightExecution (words : List (List ℕ)) (bytes : List ℕ) : Type 0 where
   pub schedule : Turns
   pub asked : IsAsked words (ByListing schedule)
@@ -87,7 +89,8 @@ abbrev pub AreRightData : FormulaCommand → Formula → List ℕ → Type 0
 AreRightData (Apply schedule) formula bytes = HasWholeVectors (line 65536) (size_of formula) bytes
 AreRightData Compile formula bytes = Unit {0}
 
--- The words ask for `compile` or `apply`, the first line spells a formula and is not too long, the schedule names the one processor alone, and the data are right
+-- The words ask for `compile` or `apply`, the first line spells a formula and is not too long, the schedule names the
+-- one processor alone, and the data are right
 pub record IsRightFormula (words : List (List ℕ)) (bytes : List ℕ) : Type 0 where
   pub modulus : ℕ
   pub wanted : FormulaCommand
@@ -98,7 +101,8 @@ pub record IsRightFormula (words : List (List ℕ)) (bytes : List ℕ) : Type 0 
 
 -- the first vector of the data is there
 abbrev pub BeginWithList : Request → ℕ → List ℕ → Type 0
-BeginWithList request room bytes = (h : List ℕ) × (later : List (List ℕ)) × (data_vectors request.size request.modulus room bytes ≡ h ∷ later)
+BeginWithList request room bytes = (h : List ℕ) × (later : List (List ℕ))
+    × (data_vectors request.size request.modulus room bytes ≡ h ∷ later)
 
 -- the data are right for a command that convolves; for the listing those behind the list don't matter
 abbrev pub AreRightVectors : Bool → Request → List ℕ → Type 0
@@ -109,8 +113,9 @@ AreRightVectors true request bytes = Unit {0}
 abbrev pub IsWithinConvBudget : Request → Type 0
 IsWithinConvBudget r = (least : ℕ) × IsWholeLeast r least × (both_halves r least ≤ r.budget)
 
--- The words ask for `convolve`, the first line spells a request for convolutions, and the schedule names the one processor alone. The root
--- is one of the size, its power sums are 0, and the least cost is within the budget. The data begin with a list and are right
+-- The words ask for `convolve`, the first line spells a request for convolutions, and the schedule names the one
+-- processor alone. The root is one of the size, its power sums are 0, and the least cost is within the budget. The
+-- data begin with a list and are right
 pub record IsRightConvolution (words : List (List ℕ)) (bytes : List ℕ) : Type 0 where
   pub schedule : Turns
   pub code : Bool
@@ -125,10 +130,12 @@ pub record IsRightConvolution (words : List (List ℕ)) (bytes : List ℕ) : Typ
   pub rest : AreRightVectors code request bytes
 
 abbrev pub IsRightCall : List (List ℕ) → List ℕ → Type 0
-IsRightCall words bytes = IsRightRequest words bytes ⊎ (IsRightExecution words bytes ⊎ (IsRightFormula words bytes ⊎ IsRightConvolution words bytes))
+IsRightCall words bytes = IsRightRequest words bytes
+    ⊎ (IsRightExecution words bytes ⊎ (IsRightFormula words bytes ⊎ IsRightConvolution words bytes))
 
 -- the status is Success, and the output took the whole text
-pub record Succeeds (words : List (List ℕ)) (bytes : List ℕ) (before after : Option (List ℕ)) (status : Status) : Type 0 where
+pub record Succeeds (words : List (List ℕ)) (bytes : List ℕ) (before after : Option (List ℕ))
+    (status : Status) : Type 0 where
   pub success : status ≡ Success
   pub text : List ℕ
   pub outcome : IsOutcome words bytes Success text

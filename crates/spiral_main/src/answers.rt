@@ -1,5 +1,5 @@
-// What each command answers: an outcome of words that ask for it is an answer of its equation. A law cites no other command's
-// definitions.
+// What each command answers: an outcome of words that ask for it is an answer of its equation. A law cites no other
+// command's definitions.
 ghost use Rattle.std.specs.Prelude.{ℕ, true, false, List};
 ghost use Rattle.request_text.specs.Schedule.{Plan as SpecSchedule};
 ghost use Rattle.commands.specs.Equations.Apply.{apply_outcomes};
@@ -93,7 +93,8 @@ pub fn check_answers()
 /// What `sample` answers.
 pub fn sample_answers()
     ensures { (seed : ℕ) (schedule : SpecSchedule) (words : List (List ℕ)) (bytes : List ℕ)
-        (status : SpecStatus) (text : List ℕ) → IsAsked words (command.ByRequest (request.Writes (document.Sample seed schedule)))
+        (status : SpecStatus) (text : List ℕ)
+        → IsAsked words (command.ByRequest (request.Writes (document.Sample seed schedule)))
         → IsOutcome words bytes status text → (sample_outcomes seed schedule).answer bytes status text }
 {}
 
@@ -132,8 +133,8 @@ pub fn convolver_answers()
         → IsOutcome words bytes status text → (convolver_outcomes schedule).answer bytes status text }
 {}
 
-/// A listing that `code` prints is that of a program that is good for the request, executes exactly the operations of its
-/// tree, and loads and stores what the tree does.
+/// A listing that `code` prints is that of a program that is good for the request, executes exactly the operations of
+/// its tree, and loads and stores what the tree does.
 pub fn code_is_good()
     ensures { (words : List (List ℕ)) (bytes : List ℕ)
         (status : SpecStatus) (text : List ℕ) → IsAsked words (command.ByRequest (request.Writes document.Code))

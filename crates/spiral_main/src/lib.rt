@@ -46,8 +46,8 @@ pub fn right_calls_succeed()
         → (status ≡ NoMemory) ⊎ Succeeds words bytes before after status }
 {}
 
-/// What a right call asks of a request is no more than that it has a plan: a request in range that has one is valid, admits a
-/// tree, and its least cost is within the budget.
+/// What a right call asks of a request is no more than that it has a plan: a request in range that has one is valid,
+/// admits a tree, and its least cost is within the budget.
 pub fn planned_requests_are_right()
     ensures { (request : SpecRequest) (tree : Breakdown) → IsInRange request → IsPlanned request (Ok tree)
         → IsValid request × CanDivideWhole request × IsWithinBudget request }

@@ -46,14 +46,16 @@ pub fn outcomes_come()
 
 /// A right call of `plan` has the outcome Success with the tree that is chosen for the request.
 pub fn plan_is_right()
-    ensures { (words : List (List ℕ)) (bytes : List ℕ) (plan : Planned) → IsAsked words (command.ByRequest (request.Writes document.Plan))
+    ensures { (words : List (List ℕ)) (bytes : List ℕ) (plan : Planned)
+        → IsAsked words (command.ByRequest (request.Writes document.Plan))
         → IsRightLine [] bytes plan
         → IsOutcome words bytes Success (plan_text plan.request plan.tree) }
 {}
 
 /// A right call of `formula` has the outcome Success with the formula of this tree.
 pub fn formula_is_right()
-    ensures { (words : List (List ℕ)) (bytes : List ℕ) (plan : Planned) → IsAsked words (command.ByRequest (request.Writes document.Formula))
+    ensures { (words : List (List ℕ)) (bytes : List ℕ) (plan : Planned)
+        → IsAsked words (command.ByRequest (request.Writes document.Formula))
         → IsRightLine [] bytes plan
         → IsOutcome words bytes Success (formula_text plan) }
 {}
@@ -75,14 +77,16 @@ pub fn c_is_right()
 /// A right call of `cert` has the outcome Success with the certificate of the request.
 pub fn cert_is_right()
     ensures { (words : List (List ℕ)) (bytes : List ℕ) (plan : Planned) (text : List ℕ) →
-        IsAsked words (command.ByRequest (request.Writes document.Cert)) → IsRightLine [] bytes plan → IsTableText plan.request text
+        IsAsked words (command.ByRequest (request.Writes document.Cert)) → IsRightLine [] bytes plan
+        → IsTableText plan.request text
         → IsOutcome words bytes Success text }
 {}
 
 /// A right call of `sample` has the outcome Success with the sum and the counts of the seed's vector.
 pub fn sample_is_right()
     ensures { (words : List (List ℕ)) (bytes : List ℕ) (seed : ℕ) (schedule : SpecSchedule) (plan : Planned) →
-        IsAsked words (command.ByRequest (request.Writes (document.Sample seed schedule))) → IsRightLine (named schedule) bytes plan
+        IsAsked words (command.ByRequest (request.Writes (document.Sample seed schedule)))
+        → IsRightLine (named schedule) bytes plan
         → IsOutcome words bytes Success (sample_lines plan seed) }
 {}
 
@@ -122,7 +126,8 @@ pub fn apply_is_right()
         (vectors_behind (line 65536) (formulas.size_of formula) m bytes)) }
 {}
 
-/// A right call of `exec` has the outcome Success with a line for each vector, of what the listing's program leaves for it.
+/// A right call of `exec` has the outcome Success with a line for each vector, of what the listing's program leaves
+/// for it.
 pub fn exec_is_right()
     ensures { (words : List (List ℕ)) (bytes : List ℕ) (schedule : SpecSchedule) (program : PlainProgram) →
         IsAsked words (command.ByListing schedule) → length ((part 1048576).first bytes) ≤ 1048576

@@ -12,7 +12,8 @@ use Rattle.commands.specs.Equations.Orders.{Planned, turned}
 -- the request that the line spells, if it is in range and its size has an inverse
 abbrev pub conv_spelt : List ℕ → Stage Request
 conv_spelt line (Ok request) = ConvAnswers line (Ok request)
-conv_spelt line (Err status) = (fault : RequestFault) × ConvAnswers line (Err fault) × (status ≡ status_of_request fault)
+conv_spelt line (Err status) = (fault : RequestFault) × ConvAnswers line (Err fault)
+    × (status ≡ status_of_request fault)
 
 -- the same for a command whose words name these processors
 abbrev pub conv_spelt_for : List ℕ → List ℕ → Stage Request

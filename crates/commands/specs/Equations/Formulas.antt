@@ -12,7 +12,8 @@ use Rattle.commands.specs.SpiralInput.Stage.{Stage, given, ◌>>=◌}
 abbrev pub written : List ℕ → Stage Formula
 written text (Ok formula) = IsFirst text (Ok formula) × Shows text (Ok formula)
 written text (Err status) =
-    (fault : SplFault) × (fault ≢ spl.NoMemory) × IsFirst text (Err fault) × Shows text (Err fault) × (status ≡ status_of_spl fault)
+    (fault : SplFault) × (fault ≢ spl.NoMemory) × IsFirst text (Err fault) × Shows text (Err fault)
+    × (status ≡ status_of_spl fault)
 
 -- the formula, if the words name no processor but the one that its program has
 abbrev pub formed : List ℕ → List ℕ → Stage Formula

@@ -59,7 +59,8 @@ ordered front orders bytes = do
 abbrev pub Work : Type 1
 Work = ℕ → Outcomes
 
--- what is right for a command: its front orders a value, or refuses it and nothing is written; the work for the value is behind
+-- what is right for a command: its front orders a value, or refuses it and nothing is written; the work for the value
+-- is behind
 abbrev pub by_front : {A : Type 0} → Front → (List ℕ → Stage A) → (A → Work) → Outcomes
 by_front {A} front orders work = record {
   answer = λ bytes. IsAnswerBy (ordered front orders bytes)

@@ -8,4 +8,5 @@ use Rattle.commands.specs.Equations.Orders.{Planned, planned}
 
 -- the tree, its cost, the phases and each processor's operations
 abbrev pub plan_outcomes : Outcomes
-plan_outcomes = by_front (line 256) (planned []) (λ (plan : Planned). writing (λ text. text ≡ plan_text plan.request plan.tree))
+plan_outcomes = by_front (line 256) (planned [])
+    (λ (plan : Planned). writing (λ text. text ≡ plan_text plan.request plan.tree))

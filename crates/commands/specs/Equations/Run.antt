@@ -11,7 +11,8 @@ use Rattle.commands.specs.Equations.Orders.{Planned, planned}
 
 -- a line for each vector, of the request's matrix times it
 abbrev pub run_work : Planned → Work
-run_work plan = mapping all plan.request.size plan.request.modulus (λ vectors text. text ≡ lines (asked_of plan.request) vectors)
+run_work plan = mapping all plan.request.size plan.request.modulus
+    (λ vectors text. text ≡ lines (asked_of plan.request) vectors)
 
 abbrev pub run_outcomes : Order → Outcomes
 run_outcomes order = by_front (line 256) (planned (procs_in order)) run_work

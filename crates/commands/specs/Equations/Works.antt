@@ -1,4 +1,5 @@
--- What a command does behind its front: it writes a text, or one for the vectors of the data, or it judges all that is there.
+-- What a command does behind its front: it writes a text, or one for the vectors of the data, or it judges all that
+-- is there.
 use Rattle.std.specs.Prelude.{◌≡◌, ◌⊎◌, ℕ, ◌≤◌, List, [], ◌∷◌, length, Result}
 use Rattle.plan_cert.specs.declared.verdict.Verdict.{Verdict}
 use Rattle.data_stream.specs.Data.{tokens, closed_part}
@@ -40,7 +41,8 @@ abbrev pub ReadsOn : Wants → List (List ℕ) → Type 0
 ReadsOn the_first vectors = vectors ≡ []
 ReadsOn _ vectors = Unit {0}
 
--- It writes a text for the vectors of the data. The last token counts only where nothing is left with which it may go on
+-- It writes a text for the vectors of the data. The last token counts only where nothing is left with which it may go
+-- on
 abbrev pub mapping : Wants → (size modulus : ℕ) → (List (List ℕ) → List ℕ → Type 0) → Work
 mapping wants size modulus IsText room = record {
   answer = λ bytes status text.

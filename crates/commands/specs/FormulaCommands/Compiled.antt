@@ -31,7 +31,8 @@ GivesFormula read ended taken (Err status) =
 
 -- the listing of the program for the formula that the text spells
 abbrev pub IsCompiledText : ℕ → List ℕ → List ℕ → Type 0
-IsCompiledText m text listing = (formula : Formula) × written text (Ok formula) × (listing ≡ listing_of (program_for m formula))
+IsCompiledText m text listing = (formula : Formula) × written text (Ok formula)
+    × (listing ≡ listing_of (program_for m formula))
 
 -- a program for the formula that the text spells, whose one processor is all that the names tell
 abbrev pub IsFormedProgram : ℕ → List ℕ → List ℕ → Program → Type 0

@@ -30,7 +30,8 @@ listed text (Err status) = (line : ℕ) × IsLost is_listing text line × (statu
 -- the program, if it is short enough, fits and shares no line
 abbrev pub verified : PlainProgram → Stage PlainProgram
 verified program (Ok passed) = PassesCheck action_limit program × (passed ≡ program)
-verified program (Err status) = (fault : CheckFault) × (fault ≢ check.NoMemory) × IsCause action_limit program fault × (status ≡ status_of_check fault)
+verified program (Err status) = (fault : CheckFault) × (fault ≢ check.NoMemory) × IsCause action_limit program fault
+    × (status ≡ status_of_check fault)
 
 -- the program that a listing orders to run, whose processors are all that the schedule names
 abbrev pub loaded : Turns → List ℕ → Stage PlainProgram

@@ -25,7 +25,8 @@ AsksBy front orders read rest taken (Err status) =
     (IsDefined status → ordered front orders (read ++ rest) (Err status)) × (status ≡ ReadFault → MayGoOn front read)
 
 -- the same over a source that tells its bytes
-abbrev pub Asks : {A : Type 0} → Front → (List ℕ → Stage A) → Option (List ℕ) → Option (List ℕ) → ℕ → Result A Status → Type 0
+abbrev pub Asks : {A : Type 0} → Front → (List ℕ → Stage A) → Option (List ℕ) → Option (List ℕ) → ℕ → Result A Status
+    → Type 0
 Asks front orders None after taken result = Unit {0}
 Asks front orders (Some bytes) None taken result = ⊥
 Asks front orders (Some bytes) (Some rest) taken result =

@@ -34,9 +34,11 @@ commanded words (Err status) = (status ≡ Usage) × IsUsage words
 abbrev pub AskForCommand : List (List ℕ) → Type 0
 AskForCommand words = (command : Command) × IsAsked words command
 
--- The words are judged first and alone: they are no command line, and the status is Usage, or they ask for a command, and it is another; or memory runs out
+-- The words are judged first and alone: they are no command line, and the status is Usage, or they ask for a command,
+-- and it is another; or memory runs out
 abbrev pub AreJudged : List (List ℕ) → Status → Type 0
-AreJudged words status = (status ≡ NoMemory) ⊎ (((status ≡ Usage) × IsUsage words) ⊎ ((status ≢ Usage) × AskForCommand words))
+AreJudged words status = (status ≡ NoMemory)
+    ⊎ (((status ≡ Usage) × IsUsage words) ⊎ ((status ≢ Usage) × AskForCommand words))
 
 -- the words ask for a command that reads its input to its end
 abbrev pub AskForRest : List (List ℕ) → Type 0

@@ -15,8 +15,10 @@ pub record ReadsCleanly {A : Type 0} (result : Result A Status) (held : List ℕ
   pub read : Reports before now (IsErrOf result ReadFault)
   pub others : IfErr result IsBeforeOutput
 
--- a command, by what the feed holds then, the faults of source and sink before and now, and what the sink took before and now
-pub record EndsCleanly (status : Status) (held : List ℕ) (read_before read_now write_before write_now : ℕ) (before after : Option (List ℕ)) : Type 0 where
+-- a command, by what the feed holds then, the faults of source and sink before and now, and what the sink took before
+-- and now
+pub record EndsCleanly (status : Status) (held : List ℕ) (read_before read_now write_before write_now : ℕ)
+    (before after : Option (List ℕ)) : Type 0 where
   -- a failed read leaves nothing in the feed
   pub empty : status ≡ ReadFault → held ≡ []
   -- the words were a command line

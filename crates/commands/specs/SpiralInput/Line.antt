@@ -7,7 +7,8 @@ use Rattle.commands.specs.Equations.Front.{Front, line, MayGoOn}
 
 -- these bytes are the whole front and its end, whatever follows, or, where the input has ended, as nothing follows
 abbrev pub IsWhole : Front → List ℕ → Type 0 → List ℕ → Type 0
-IsWhole front read ended text = (more : List ℕ) → (ended → more ≡ []) → (front.first (read ++ more) ≡ text) × (front.behind (read ++ more) ≡ more)
+IsWhole front read ended text = (more : List ℕ) → (ended → more ≡ []) → (front.first (read ++ more) ≡ text)
+    × (front.behind (read ++ more) ≡ more)
 
 -- the answer to a request for the first line, by the bytes that were read
 abbrev pub GivesLine : List ℕ → Type 0 → ℕ → List ℕ → Result ℕ FeedFault → Type 0

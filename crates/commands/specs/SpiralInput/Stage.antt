@@ -35,7 +35,8 @@ Gives (Err status) stage = IsDefined status → stage (Err status)
 
 -- What a call answers that goes by a stage over the front of its input
 
--- The status and the text: the stage gives no value, and nothing is written, or it gives one, and they are right for this value
+-- The status and the text: the stage gives no value, and nothing is written, or it gives one, and they are right for
+-- this value
 abbrev pub IsAnswerBy : {A : Type 0} → Stage A → (A → Status → List ℕ → Type 0) → Status → List ℕ → Type 0
 IsAnswerBy {A} stage Settles status text =
     (stage (Err status) × (text ≡ []))
@@ -46,7 +47,8 @@ pub record HasGiven {A : Type 0} (ended : Type 0) (stage : Stage A) (value : A) 
   pub front : ended
   pub gives : stage (Ok value)
 
--- The text up to a failed read: the front may go on, and nothing is written, or it has ended, and the text is right for the value
+-- The text up to a failed read: the front may go on, and nothing is written, or it has ended, and the text is right
+-- for the value
 abbrev pub IsBrokenBy : {A : Type 0} → Type 0 → Type 0 → Stage A → (A → List ℕ → Type 0) → List ℕ → Type 0
 IsBrokenBy {A} unended ended stage BreaksOff text =
     (unended × (text ≡ []))

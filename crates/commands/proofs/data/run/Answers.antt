@@ -24,4 +24,4 @@ returns-clause-told g c =
     run_told c.args.request.now c.in_ok-program.program c.new.result c.args.order.now (limit - c.args.feed.now.taken)
     (to_come c.args.feed.now (g.I.Source.left c.args.input.now)) (to_come c.stream.new.feed (g.I.Source.left c.stream.new.input))
     (g.O.Sink.taken c.args.output.now) (g.O.Sink.taken c.stream.new.output) (status_of c.stream.result)
-    c.requires.in_range c.in_ok-program.ensures.program c.requires.turns c.new.ensures c.stream.ensures.told
+    c.requires.in_range c.in_ok-program.ensures.program c.requires.turns c.new.ensures.items c.stream.ensures.told
