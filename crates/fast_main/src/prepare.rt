@@ -5,7 +5,7 @@ ghost use Rattle.icode.specs.Program.{plain_program, code_of, Fits};
 ghost use Rattle.fast_main.specs.FastWords.Asked.{IsLaneCount};
 ghost use Rattle.fast_main.specs.Translation.{has_cheap_products, on_lanes, prepared};
 
-use fast_loops::{LARGE_TABLE, factor_tables, interchange, lane_loops};
+use fast_loops::{LARGE_SIZE, LARGE_TABLE, factor_tables, fuse_loops, interchange, lane_loops};
 use icode::program::Program;
 use memory::NoMemory;
 use std::alloc::Global;
@@ -51,6 +51,7 @@ pub(crate) fn prepare(
         (λ made. plain_program made ≡ prepared size lanes (plain_program program)) }
 {
     let there = put_on_lanes(alloc, lanes, program)?;
+    let there = fuse_loops(alloc, LARGE_SIZE, there)?;
     if !has_cheap_products(size, there.modulus) {
         return Ok(there);
     }
