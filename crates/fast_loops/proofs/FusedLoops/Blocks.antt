@@ -157,11 +157,15 @@ module _ (p : PlainProgram) (q : ℕ) where
     has-blocks (AndStmts (Do op) rest) done vs front more counts_are steps_are in_range long fresh follows fit = tt
     has-blocks (AndStmts (Loop count inside) (AndStmts stmt rest)) done vs front more counts_are steps_are in_range long fresh follows fit = tt
     has-blocks (AndStmts (Loop count inside) NoStmts) done vs front [] counts_are steps_are in_range long fresh follows fit = tt
-    has-blocks (AndStmts (Loop count inside) NoStmts) done vs front (step ∷ more) counts_are steps_are in_range long fresh follows fit =
-        (refl, λ i lt. (rounds i lt,
+    has-blocks (AndStmts (Loop count inside) NoStmts) done vs front (step ∷ more) counts_are steps_are in_range long fresh follows fit = (
+      refl,
+      λ i lt. (
+        rounds i lt,
         subst (HasBlocks (blocks_with (counts_in inside) more) inside (vs ++ i ∷ [])) (begins i)
-        (has-blocks inside (done ++ count ∷ []) (vs ++ i ∷ []) (front ++ step ∷ []) more counts_too steps_too (in_more done vs count i in_range lt)
-        (as_long i) fresh follows (fits i lt))))
+            (has-blocks inside (done ++ count ∷ []) (vs ++ i ∷ []) (front ++ step ∷ []) more counts_too steps_too (in_more done vs count i in_range lt)
+            (as_long i) fresh follows (fits i lt)),
+      ),
+    )
       where
         counts_too : counts ≡ (done ++ count ∷ []) ++ counts_in inside
         counts_too = counts_are ∙ sym (append_assoc done (count ∷ []) (counts_in inside))

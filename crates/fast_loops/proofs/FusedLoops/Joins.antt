@@ -191,21 +191,29 @@ module _ (p : PlainProgram) (q : ℕ) where
   nest-ends NoStmts (block ∷ blocks) vs base fresh h = absurd h
   nest-ends (AndStmts (Do op) rest) (block ∷ blocks) vs base fresh h = absurd h
   nest-ends (AndStmts (Loop count inside) (AndStmts stmt rest)) (block ∷ blocks) vs base fresh h = absurd h
-  nest-ends (AndStmts (Loop count inside) NoStmts) (block ∷ blocks) vs base fresh h =
-      (inside, ap (λ n. Loop n inside) h.0, λ i lt.
-      let same = h.0 in
-      let at = h.1 i (omega (arith, lt, same)) in
-      (body-within (base + i * block.step) block.step inside (vs ++ i ∷ []) fresh at.0,
-      nest-ends inside blocks (vs ++ i ∷ []) (base + i * block.step) fresh at.1))
+  nest-ends (AndStmts (Loop count inside) NoStmts) (block ∷ blocks) vs base fresh h = (
+    inside,
+    ap (λ n. Loop n inside) h.0,
+    λ i lt.
+        let same = h.0 in
+        let at = h.1 i (omega (arith, lt, same)) in (
+          body-within (base + i * block.step) block.step inside (vs ++ i ∷ []) fresh at.0,
+          nest-ends inside blocks (vs ++ i ∷ []) (base + i * block.step) fresh at.1,
+        ),
+  )
 
   put-ends : (count : ℕ) (inside made : PlainBody) (block : Block) (blocks : List Block) (vs : List ℕ) (base : ℕ) → are_fresh p.lanes 0 (round_in inside) ≡ true →
       HasBlocks p q (block ∷ blocks) (AndStmts (Loop count inside) NoStmts) vs base → Ends (block ∷ blocks) (put_behind (Loop count inside) made) vs base
-  put-ends count inside made block blocks vs base fresh h =
-      (inside, subst (λ n. EndsIn n inside (put_behind (Loop count inside) made)) h.0 (ends-put count inside made), λ i lt.
-      let same = h.0 in
-      let at = h.1 i (omega (arith, lt, same)) in
-      (body-within (base + i * block.step) block.step inside (vs ++ i ∷ []) fresh at.0,
-      nest-ends inside blocks (vs ++ i ∷ []) (base + i * block.step) fresh at.1))
+  put-ends count inside made block blocks vs base fresh h = (
+    inside,
+    subst (λ n. EndsIn n inside (put_behind (Loop count inside) made)) h.0 (ends-put count inside made),
+    λ i lt.
+        let same = h.0 in
+        let at = h.1 i (omega (arith, lt, same)) in (
+          body-within (base + i * block.step) block.step inside (vs ++ i ∷ []) fresh at.0,
+          nest-ends inside blocks (vs ++ i ∷ []) (base + i * block.step) fresh at.1,
+        ),
+  )
 
   -- ---- a nest goes behind others
 
@@ -300,13 +308,17 @@ module _ (p : PlainProgram) (q : ℕ) where
               subst (LeavesFor (steps_of_body p (in_last (all_joined n inner) made) vs q)) (sym both)
               (subst (λ xs. LeavesFor xs (parts.front ++ (flat_map old rounds ++ flat_map added rounds))) (sym (parts.changed (all_joined n inner)))
               (leaves-front parts.front (flat_map new rounds) (flat_map old rounds ++ flat_map added rounds) as_long loop-for));
-          ends =
-              (changed, ends-changed (all_joined n inner) block.count inside made end.1, λ i lt.
-              (within-same p (base + i * block.step) block.step (actions_of (new i)) (actions_of (old i ++ added i)) (each i lt).same
-              (subst (IsWithin p (base + i * block.step) block.step) (sym (actions_of-append (old i) (added i)))
-              (within-append p (base + i * block.step) block.step (actions_of (old i)) (actions_of (added i)) (end.2 i lt).0
-              (body-within (base + i * block.step) block.step inner (vs ++ i ∷ []) fresh (has.1 i lt).0))),
-              (grown i lt).ends));
+          ends = (
+            changed,
+            ends-changed (all_joined n inner) block.count inside made end.1,
+            λ i lt. (
+              within-same p (base + i * block.step) block.step (actions_of (new i)) (actions_of (old i ++ added i)) (each i lt).same
+                  (subst (IsWithin p (base + i * block.step) block.step) (sym (actions_of-append (old i) (added i)))
+                  (within-append p (base + i * block.step) block.step (actions_of (old i)) (actions_of (added i)) (end.2 i lt).0
+                  (body-within (base + i * block.step) block.step inner (vs ++ i ∷ []) fresh (has.1 i lt).0))),
+              (grown i lt).ends,
+            ),
+          );
         }
 
   same-block : (b c : Block) → (b.count == c.count) ≡ true → (b.step == c.step) ≡ true → b ≡ c

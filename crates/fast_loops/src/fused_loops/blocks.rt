@@ -1,7 +1,7 @@
 // The blocks of nests.
 
-ghost use Rattle.std.specs.Prelude.{◌≡◌, ◌+◌, ◌<◌, ◌^◌, length, take, IfOk};
-ghost use Rattle.icode.specs.Plain.{plain_expr, plain_op, plain_stmt, plain_body};
+ghost use Rattle.std.specs.Prelude.{◌≡◌, ◌≤◌, length, IfOk};
+ghost use Rattle.icode.specs.Plain.{Loop, plain_expr, plain_op, plain_stmt, plain_body};
 ghost use Rattle.fast_loops.specs.Rounds.{first_load};
 ghost use Rattle.fast_loops.specs.View.{plain_parts};
 ghost use Rattle.fast_loops.specs.FusedLoops.Blocks.{followed_by, followed_op, followed_in, factors_of, first_steps};
@@ -23,7 +23,6 @@ pub(crate) struct Block {
 
 // Keeps those of the steps that the place goes.
 fn keep_followed(lanes: u64, counts: &[u64], place: &Expr, steps: &mut Vec<u64>)
-    requires { length steps.old.items < 2 ^ 63 }
     ensures { steps.new.items ≡ followed_by lanes counts.now (plain_expr place.now) steps.old.items }
 {
     if !are_values(&place.parts) {
@@ -36,7 +35,6 @@ fn keep_followed(lanes: u64, counts: &[u64], place: &Expr, steps: &mut Vec<u64>)
 }
 
 fn keep_for_op(lanes: u64, counts: &[u64], op: &Op, steps: &mut Vec<u64>)
-    requires { length steps.old.items < 2 ^ 63 }
     ensures { steps.new.items ≡ followed_op lanes counts.now (plain_op op.now) steps.old.items }
 {
     match op {
@@ -133,7 +131,8 @@ pub(crate) fn blocks_of(alloc: Global, lanes: u64, stmt: &Stmt) -> Result<Vec<Bl
 
 /// How many of the first blocks are the same.
 pub(crate) fn shared(blocks: &[Block], others: &[Block]) -> u64
-    ensures { result ≡ shared blocks.now others.now }
+    ensures few { result ≤ length blocks.now }
+    ensures value { result ≡ shared blocks.now others.now }
 {
     let Some((block, more)) = blocks.split_first() else {
         return 0;

@@ -1,6 +1,6 @@
 // Which steps of loops a place goes with their rounds.
 
-ghost use Rattle.std.specs.Prelude.{◌≡◌, ◌+◌, ◌^◌, ◌<◌, length, nat_le, take};
+ghost use Rattle.std.specs.Prelude.{◌≡◌, ◌+◌, ◌^◌, ◌<◌, ◌≤◌, length, nat_le, take, slice_index};
 ghost use Rattle.icode.specs.Plain.{plain_part};
 ghost use Rattle.fast_loops.specs.View.{plain_parts};
 ghost use Rattle.fast_loops.specs.FusedLoops.Blocks.{are_values, most_of, most, is_step, followed};

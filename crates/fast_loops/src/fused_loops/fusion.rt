@@ -1,9 +1,10 @@
 // Programs whose nests are fused.
 
-ghost use Rattle.std.specs.Prelude.{◌≡◌, IfOk};
-ghost use Rattle.icode.specs.Plain.{plain_body, plain_phases};
+ghost use Rattle.std.specs.Prelude.{◌≡◌, [], IfOk, if◌then◌else◌};
+ghost use Rattle.icode.specs.Plain.{plain_stmt, plain_body, plain_phases};
 ghost use Rattle.icode.specs.Program.{plain_program};
 ghost use Rattle.fast_loops.specs.FusedLoops.FusedLoops.{waiting, fused_phase, fused_phases, fused};
+ghost use Rattle.fast_loops.specs.FusedLoops.Blocks.{blocks_of};
 
 use crate::fused_loops::blocks::{Block, blocks_of, shared};
 use crate::fused_loops::joins::join;
@@ -72,11 +73,13 @@ fn fuse_phases(
     if phases.len() != 1 {
         return Ok(phases);
     }
-    let mut made = Vec::new(alloc);
-    for body in phases {
-        made.push(fuse_phase(alloc, lanes, body)?)?;
-    }
-    Ok(made)
+    let mut phases = phases;
+    let Some(body) = phases.pop() else {
+        return Ok(phases);
+    };
+    let body = fuse_phase(alloc, lanes, body)?;
+    phases.push(body)?;
+    Ok(phases)
 }
 
 /// The program with its nests fused, if it is of one processor and one phase and has at least so many words: nests, one behind the other,
