@@ -50,7 +50,7 @@ array-other words B B h = absurd (true≢false h)
 
 -- ---- what a round stores and loads
 
-in-range : (first n k : ℕ) → Contains (range_with_len first n) k → (first ≤ k) × (k < first + n)
+pub in-range : (first n k : ℕ) → Contains (range_with_len first n) k → (first ≤ k) × (k < first + n)
 in-range first n k h =
     let small : h.0 < n = omega (arith, h.1, length-range_with_len first n) in
     let is = get_or-range_with_len first n h.0 k small in

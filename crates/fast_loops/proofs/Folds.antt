@@ -15,7 +15,7 @@ module _ (m lanes : ℕ) where
   abbrev pub Commute : List Action → List Action → Type 0
   Commute a b = DoTheSame m lanes (a ++ b) (b ++ a)
 
-  commute-append : (a b c : List Action) → IsSure a → IsSure b → Commute a c → Commute b c → Commute (a ++ b) c
+  pub commute-append : (a b c : List Action) → IsSure a → IsSure b → Commute a c → Commute b c → Commute (a ++ b) c
   commute-append a b c sure sure_too first second =
       let past : DoTheSame m lanes (a ++ (b ++ c)) (a ++ (c ++ b)) = same-append m lanes a a (b ++ c) (c ++ b) sure second in
       let front : DoTheSame m lanes ((a ++ c) ++ b) ((c ++ a) ++ b) = same-append m lanes (a ++ c) (c ++ a) b b first sure_too in
@@ -46,7 +46,7 @@ module _ (m lanes : ℕ) where
       shape a b c d = append_assoc a b (c ++ d) ∙ ap (λ (fs : List Action). a ++ fs) (sym (append_assoc b c d))
 
   -- a loop whose rounds are of two parts becomes two loops
-  parted : (n : ℕ) (f g : ℕ → List Action) → ((j : ℕ) → j < n → IsSure (f j)) → ((j : ℕ) → j < n → IsSure (g j)) →
+  pub parted : (n : ℕ) (f g : ℕ → List Action) → ((j : ℕ) → j < n → IsSure (f j)) → ((j : ℕ) → j < n → IsSure (g j)) →
       ((j l : ℕ) → j < l → l < n → Commute (g j) (f l)) →
       DoTheSame m lanes
       (flat_map (λ j. f j ++ g j) (range_with_len 0 n))

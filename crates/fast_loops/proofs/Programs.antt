@@ -43,7 +43,7 @@ BodiesHaveSteps =
 
 -- ---- a program with other phases
 
-abbrev with_phases : PlainProgram → List PlainBody → PlainProgram
+abbrev pub with_phases : PlainProgram → List PlainBody → PlainProgram
 with_phases p bodies = record p { phases = bodies }
 
 module _ (p : PlainProgram) (bodies : List PlainBody) where
@@ -64,17 +64,17 @@ module _ (p : PlainProgram) (bodies : List PlainBody) where
         ap (λ (f : ℕ → List Step). flat_map f (range_with_len 0 count)) (fun_ext (λ i. body_is body (vs ++ i ∷ []) q))
     stmt_is (Do op) vs q = ap (λ s. s ∷ []) (step_is op vs q)
 
-    body_is : (body : PlainBody) (vs : List ℕ) (q : ℕ) → steps_of_body (with_phases p bodies) body vs q ≡ steps_of_body p body vs q
+    pub body_is : (body : PlainBody) (vs : List ℕ) (q : ℕ) → steps_of_body (with_phases p bodies) body vs q ≡ steps_of_body p body vs q
     body_is NoStmts vs q = refl
     body_is (AndStmts stmt rest) vs q = ap₂ (λ xs ys. xs ++ ys) (stmt_is stmt vs q) (body_is rest vs q)
 
-  step_fits : (s : Step) → StepFits p s → StepFits (with_phases p bodies) s
+  pub step_fits : (s : Step) → StepFits p s → StepFits (with_phases p bodies) s
   step_fits s f = record { numbers = f.numbers; place = f.place; registers = f.registers; factors = f.factors }
 
 -- ---- the lists of a program
 
 module _ (p : PlainProgram) where
-  abbrev row : PlainBody → List (List Action)
+  abbrev pub row : PlainBody → List (List Action)
   row body = map (λ q. actions_of (steps_of_body p body [] q)) (range_with_len 0 p.procs)
 
   row_at : (body : PlainBody) (q : ℕ) → q < p.procs → slice_index_or (row body) q [] ≡ actions_of (steps_of_body p body [] q)
@@ -84,13 +84,13 @@ module _ (p : PlainProgram) where
   row_past body q past =
       get_or_past (row body) q [] (omega (arith, length-map-range_with_len (λ q. actions_of (steps_of_body p body [] q)) 0 p.procs))
 
-  listed : (bodies : List PlainBody) (phase q : ℕ) → q < p.procs →
+  pub listed : (bodies : List PlainBody) (phase q : ℕ) → q < p.procs →
       slice_index_or (slice_index_or (map row bodies) phase []) q [] ≡ actions_of (steps_of_body p (slice_index_or bodies phase NoStmts) [] q)
   listed [] phase q lt = refl
   listed (body ∷ bodies) zero q lt = row_at body q lt
   listed (body ∷ bodies) (suc phase) q lt = listed bodies phase q lt
 
-  not_listed : (bodies : List PlainBody) (phase q : ℕ) → p.procs ≤ q → slice_index_or (slice_index_or (map row bodies) phase []) q [] ≡ []
+  pub not_listed : (bodies : List PlainBody) (phase q : ℕ) → p.procs ≤ q → slice_index_or (slice_index_or (map row bodies) phase []) q [] ≡ []
   not_listed [] phase q past = refl
   not_listed (body ∷ bodies) zero q past = row_past body q past
   not_listed (body ∷ bodies) (suc phase) q past = not_listed bodies phase q past

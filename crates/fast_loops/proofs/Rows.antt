@@ -113,7 +113,7 @@ module _ (p : PlainProgram) (q : ℕ) where
   rows_sure counts round vs h = (rows_itself counts round vs h).same
 
   -- loops whose rounds may come before or behind other actions
-  past_rows : (counts : List ℕ) (round : PlainBody) (vs : List ℕ) (b : List Action) → are_fresh p.lanes 0 round ≡ true → Sure b →
+  pub past_rows : (counts : List ℕ) (round : PlainBody) (vs : List ℕ) (b : List Action) → are_fresh p.lanes 0 round ≡ true → Sure b →
       ((us : List ℕ) → AreInRange counts us → EitherFirst (acts_of round (vs ++ us)) b) → EitherFirst (actions_of (rows counts round vs)) b
   past_rows [] round vs b fresh sure h =
       subst (λ ws. EitherFirst (acts_of round ws) b) (append-nil vs) (h [] tt)

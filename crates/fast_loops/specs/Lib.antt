@@ -1,4 +1,5 @@
 pub mod TwoTables
+pub mod FusedLoops
 pub mod LoopLanes
 pub mod Places
 pub mod Rounds

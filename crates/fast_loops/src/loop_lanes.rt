@@ -8,3 +8,4 @@ mod rounds;
 mod tiles;
 
 pub use lanes::lane_loops;
+pub(crate) use loops::push_counts;

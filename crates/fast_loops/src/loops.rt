@@ -14,7 +14,7 @@ use crate::rounds::are_independent;
 use icode::program::{Program, Stmt};
 
 /// Whether it is loops one in the other, and straight statements in the innermost, which read no register of another round.
-fn is_nest(lanes: u64, stmt: &Stmt) -> bool
+pub(crate) fn is_nest(lanes: u64, stmt: &Stmt) -> bool
     ensures { result ≡ is_nest lanes (plain_stmt stmt.now) }
 {
     match stmt {

@@ -15,6 +15,8 @@ use Rattle.fast_loops.proofs.Law.{interchanged_leaves_the_same}
 use Rattle.fast_loops.proofs.Programs.{modulus_stays}
 use Rattle.fast_loops.specs.LoopLanes.Lanes.{IsLanes, can_be_laned, laned, laned_body}
 use Rattle.fast_loops.proofs.LoopLanes.Law.{laned_leaves_the_same}
+use Rattle.fast_loops.specs.FusedLoops.FusedLoops.{fused, large_size}
+use Rattle.fast_loops.proofs.FusedLoops.Law.{fused_leaves_the_same}
 use Rattle.fast_loops.specs.TwoTables.Laws.{IsInPlaceOf}
 use Rattle.fast_loops.specs.TwoTables.TwoTables.{factored, large_table}
 use Rattle.fast_loops.proofs.TwoTables.Law.{factored_leaves_the_same}
@@ -29,7 +31,7 @@ use Rattle.word_code.specs.View.{plain_word_program}
 use Rattle.word_code.specs.WordMachine.{word_results}
 use Rattle.word_code.specs.WordProgram.{PlainWordProgram, word_code}
 use Rattle.fast_main.specs.FastWords.Asked.{IsLaneCount}
-use Rattle.fast_main.specs.Translation.{has_cheap_products, on_lanes, prepared, words_for, IsFaithful, AreSoundWords}
+use Rattle.fast_main.specs.Translation.{has_cheap_products, on_lanes, in_blocks, prepared, words_for, IsFaithful, AreSoundWords}
 
 -- ---- the prepared program
 
@@ -83,25 +85,30 @@ on_lanes_is lanes p (inr (inr (inr (inl eight)))) fits apart =
 on_lanes_is lanes p (inr (inr (inr (inr sixteen)))) fits apart =
     subst (λ n. IsInPlaceOf (on_lanes n p) p) (sym sixteen) (laned_is 16 p (inr (inr (inr refl))) fits apart)
 
-prepared_is : (size : WordSize) (lanes : ℕ) (p : PlainProgram) → IsLaneCount lanes → PlainFits p → ((phase : ℕ) → IsApart (plain_code p) phase) → IsInPlaceOf (prepared size lanes p) p
-prepared_is size lanes p count fits apart = of_choice (has_cheap_products size (on_lanes lanes p).modulus)
-  where
-    first : IsInPlaceOf (on_lanes lanes p) p
-    first = on_lanes_is lanes p count fits apart
+in_blocks_is : (lanes : ℕ) (p : PlainProgram) → IsLaneCount lanes → PlainFits p → ((phase : ℕ) → IsApart (plain_code p) phase) → IsInPlaceOf (in_blocks lanes p) p
+in_blocks_is lanes p count fits apart =
+    let first = on_lanes_is lanes p count fits apart in
+    after (fused large_size (on_lanes lanes p)) (on_lanes lanes p) p (fused_leaves_the_same large_size (on_lanes lanes p) first.fits first.apart) first
 
-    of_choice : (b : Bool) → IsInPlaceOf (if b then factored large_table (on_lanes lanes p) else on_lanes lanes p) p
+prepared_is : (size : WordSize) (lanes : ℕ) (p : PlainProgram) → IsLaneCount lanes → PlainFits p → ((phase : ℕ) → IsApart (plain_code p) phase) → IsInPlaceOf (prepared size lanes p) p
+prepared_is size lanes p count fits apart = of_choice (has_cheap_products size (in_blocks lanes p).modulus)
+  where
+    first : IsInPlaceOf (in_blocks lanes p) p
+    first = in_blocks_is lanes p count fits apart
+
+    of_choice : (b : Bool) → IsInPlaceOf (if b then factored large_table (in_blocks lanes p) else in_blocks lanes p) p
     of_choice true =
-        after (factored large_table (on_lanes lanes p)) (on_lanes lanes p) p (factored_leaves_the_same large_table (on_lanes lanes p) first.fits first.apart) first
+        after (factored large_table (in_blocks lanes p)) (in_blocks lanes p) p (factored_leaves_the_same large_table (in_blocks lanes p) first.fits first.apart) first
     of_choice false = first
 
--- the program on lanes, as it goes to its tables: it fits, and is apart
-module _ (lanes : ℕ) (p there : Program) (count : IsLaneCount lanes) (is : plain_program there ≡ on_lanes lanes (plain_program p)) (fits : Fits p) (apart : (phase : ℕ) → IsApart (code_of p) phase) where
-  pub lanes_fit : Fits there
-  lanes_fit = subst PlainFits (sym is) (on_lanes_is lanes (plain_program p) count fits apart).fits
+-- the program in blocks, as it goes to its tables: it fits, and is apart
+module _ (lanes : ℕ) (p there : Program) (count : IsLaneCount lanes) (is : plain_program there ≡ in_blocks lanes (plain_program p)) (fits : Fits p) (apart : (phase : ℕ) → IsApart (code_of p) phase) where
+  pub blocks_fit : Fits there
+  blocks_fit = subst PlainFits (sym is) (in_blocks_is lanes (plain_program p) count fits apart).fits
 
-  pub lanes_apart : (phase : ℕ) → IsApart (code_of there) phase
-  lanes_apart phase =
-      subst (λ z. IsApart (plain_code z) phase) (sym is) ((on_lanes_is lanes (plain_program p) count fits apart).apart phase)
+  pub blocks_apart : (phase : ℕ) → IsApart (code_of there) phase
+  blocks_apart phase =
+      subst (λ z. IsApart (plain_code z) phase) (sym is) ((in_blocks_is lanes (plain_program p) count fits apart).apart phase)
 
 -- ---- its words
 

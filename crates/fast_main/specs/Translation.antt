@@ -5,6 +5,7 @@ use Rattle.icode.specs.Machine.{IsApart, results}
 use Rattle.icode.specs.Plain.{PlainProgram}
 use Rattle.fast_main.specs.FastWords.Asked.{Asked}
 use Rattle.word_code.specs.InPlace.InPlace.{in_place}
+use Rattle.fast_loops.specs.FusedLoops.FusedLoops.{fused, large_size}
 use Rattle.fast_loops.specs.Interchange.{interchanged}
 use Rattle.fast_loops.specs.LoopLanes.Lanes.{laned}
 use Rattle.fast_loops.specs.TwoTables.TwoTables.{factored, large_table}
@@ -20,6 +21,10 @@ use Rattle.word_code.specs.WordPrint.WordText.{words_text}
 abbrev pub on_lanes : ℕ → PlainProgram → PlainProgram
 on_lanes lanes p = let q = interchanged p in if lanes == 1 then q else laned lanes q
 
+-- that, where nests go over the blocks of large arrays together
+abbrev pub in_blocks : ℕ → PlainProgram → PlainProgram
+in_blocks lanes p = fused large_size (on_lanes lanes p)
+
 -- two products cost less than an entry of a large table: not in words of 64 bits
 abbrev pub has_cheap_products : WordSize → ℕ → Bool
 has_cheap_products Any modulus = nat_lt modulus 2147483648
@@ -30,7 +35,7 @@ has_cheap_products Of64 modulus = false
 -- that, where large tables are in two factors if products are cheap
 abbrev pub prepared : WordSize → ℕ → PlainProgram → PlainProgram
 prepared size lanes p =
-    let q = on_lanes lanes p in if has_cheap_products size q.modulus then factored large_table q else q
+    let q = in_blocks lanes p in if has_cheap_products size q.modulus then factored large_table q else q
 
 -- the program on words of this size that is chosen for that, where passes work in place
 abbrev pub words_for : WordSize → ℕ → PlainProgram → PlainWordProgram

@@ -3,9 +3,9 @@ ghost use Rattle.std.specs.Prelude.{◌≡◌, ℕ, IfOk};
 ghost use Rattle.icode.specs.Machine.{IsApart};
 ghost use Rattle.icode.specs.Program.{plain_program, code_of, Fits};
 ghost use Rattle.fast_main.specs.FastWords.Asked.{IsLaneCount};
-ghost use Rattle.fast_main.specs.Translation.{has_cheap_products, on_lanes, prepared};
+ghost use Rattle.fast_main.specs.Translation.{has_cheap_products, on_lanes, in_blocks, prepared};
 
-use fast_loops::{LARGE_TABLE, factor_tables, interchange, lane_loops};
+use fast_loops::{LARGE_SIZE, LARGE_TABLE, factor_tables, fuse_loops, interchange, lane_loops};
 use icode::program::Program;
 use memory::NoMemory;
 use std::alloc::Global;
@@ -37,6 +37,17 @@ fn put_on_lanes(alloc: Global, lanes: u64, program: Program) -> Result<Program, 
     Ok(made)
 }
 
+// That, where nests go over the blocks of large arrays together.
+fn put_in_blocks(alloc: Global, lanes: u64, program: Program) -> Result<Program, NoMemory>
+    requires { IsLaneCount lanes }
+    ensures { IfOk result
+        (λ made. plain_program made ≡ in_blocks lanes (plain_program program)) }
+{
+    let there = put_on_lanes(alloc, lanes, program)?;
+    let made = fuse_loops(alloc, LARGE_SIZE, there)?;
+    Ok(made)
+}
+
 /// That, where large tables are in two factors if products are cheap.
 pub(crate) fn prepare(
     alloc: Global,
@@ -50,7 +61,7 @@ pub(crate) fn prepare(
     ensures { IfOk result
         (λ made. plain_program made ≡ prepared size lanes (plain_program program)) }
 {
-    let there = put_on_lanes(alloc, lanes, program)?;
+    let there = put_in_blocks(alloc, lanes, program)?;
     if !has_cheap_products(size, there.modulus) {
         return Ok(there);
     }

@@ -22,7 +22,7 @@ const MOST_STORES: u64 = 256;
 // ---- loops one in the other
 
 // Behind these counts those of the loops that the body is, one in the other.
-fn push_counts(counts: Vec<u64>, body: &[Stmt]) -> Result<Vec<u64>, NoMemory>
+pub(crate) fn push_counts(counts: Vec<u64>, body: &[Stmt]) -> Result<Vec<u64>, NoMemory>
     ensures { IfOk result (λ all. all.items ≡ counts.items ++ counts_in (plain_body body.now)) }
 {
     if body.len() != 1 {

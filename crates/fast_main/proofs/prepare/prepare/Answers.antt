@@ -3,13 +3,13 @@ use Rattle.std.specs.Prelude.{if◌then◌else◌}
 use Rattle.icode.specs.Plain.{PlainProgram}
 use Rattle.icode.specs.Program.{plain_program}
 use Rattle.fast_loops.specs.TwoTables.TwoTables.{factored, large_table}
-use Rattle.fast_main.specs.Translation.{has_cheap_products, on_lanes}
-use Rattle.fast_main.proofs.Faithful.{lanes_fit, lanes_apart}
+use Rattle.fast_main.specs.Translation.{has_cheap_products, in_blocks}
+use Rattle.fast_main.proofs.Faithful.{blocks_fit, blocks_apart}
 use Rattle.fast_main.proofs.prepare.prepare.Goals as goal
 
 pub factor_tables-requires : goal.factor_tables-requires
 factor_tables-requires c =
     record {
-      fits = lanes_fit c.args.lanes c.args.program c.in_ok-there.there c.requires.lanes c.in_ok-there.ensures c.requires.fits c.requires.apart;
-      apart = lanes_apart c.args.lanes c.args.program c.in_ok-there.there c.requires.lanes c.in_ok-there.ensures c.requires.fits c.requires.apart;
+      fits = blocks_fit c.args.lanes c.args.program c.in_ok-there.there c.requires.lanes c.in_ok-there.ensures c.requires.fits c.requires.apart;
+      apart = blocks_apart c.args.lanes c.args.program c.in_ok-there.there c.requires.lanes c.in_ok-there.ensures c.requires.fits c.requires.apart;
     }

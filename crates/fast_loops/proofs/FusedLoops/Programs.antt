@@ -1,0 +1,201 @@
+-- A program whose nests are fused leaves what it left.
+use Rattle.std.proofs.Common.{◌≡◌, ℕ, zero, suc, ◌^◌, ◌<◌, ◌≤◌, ◌&&◌, List, [], ◌∷◌, ◌++◌, Bool, true, false, Contains, length, refl, sym, ap, ◌∙◌, subst, arith, ⊎_elim, append-nil, append_assoc, eqb-true}
+use Rattle.std.specs.Prelude.{◌==◌, nat_le, slice_index_or, if◌then◌else◌}
+use Rattle.std.proofs.lemmas.Bool.{cases_lt}
+use Rattle.std.proofs.lemmas.List.Elements.{All-contains, Contains-append_left, Contains-append_right}
+use Rattle.operators.specs.Sum.{sum_below}
+use Rattle.operators.proofs.Sums.{sum_below-same}
+use Rattle.icode.specs.Actions.{Step, StepFits, PlainFits, actions_of, plain_code, steps_of_stmt, steps_of_body, steps_of_phase}
+use Rattle.icode.specs.Machine.{Code, IsApart, acts, in_order, lines_of, phases_alone, processors_alone, start, stored_words, touched_words, whole_lines, words_at, Whole}
+use Rattle.icode.specs.Plain.{PlainStmt, PlainBody, PlainProgram, Loop, Do, NoStmts, AndStmts}
+use Rattle.icode.proofs.Bools.{both_true}
+use Rattle.icode.proofs.Lines.{Contains-nil}
+use Rattle.icode.proofs.Lists.{code_is}
+use Rattle.icode.proofs.Runs.{memory_of_runs}
+use Rattle.fast_loops.specs.declared.fused_loops.blocks.Block.{Block}
+use Rattle.fast_loops.specs.Interchange.{counts_in, round_in, is_nest, are_nests}
+use Rattle.fast_loops.specs.Rounds.{first_load}
+use Rattle.fast_loops.specs.FusedLoops.Blocks.{first_steps, followed_in, blocks_of, shared}
+use Rattle.fast_loops.specs.FusedLoops.FusedLoops.{put_behind, joined, waiting, fused_onto, fused_phase, fused_phases, may_be_fused, fused}
+use Rattle.fast_loops.specs.TwoTables.Laws.{IsInPlaceOf}
+use Rattle.fast_loops.proofs.Acts.{memory_by}
+use Rattle.fast_loops.proofs.Folds.{IsSure}
+use Rattle.fast_loops.proofs.Linear.{wrong}
+use Rattle.fast_loops.proofs.Members.{IsWithin, all_of_members, map_within, flat_map_within}
+use Rattle.fast_loops.proofs.Programs.{with_phases, body_is, step_fits, listed, not_listed}
+use Rattle.fast_loops.proofs.Rows.{StepsFit}
+use Rattle.fast_loops.proofs.Same.{same-nothing}
+use Rattle.fast_loops.proofs.TwoTables.Programs.{itself}
+use Rattle.fast_loops.proofs.FusedLoops.Blocks.{has-blocks}
+use Rattle.fast_loops.proofs.FusedLoops.Follows.{round-follows}
+use Rattle.fast_loops.proofs.FusedLoops.Joins.{LeavesFor, Ends, body-sure, grows, leaves-behind, leaves-itself, leaves-trans, sure-append}
+use Rattle.fast_loops.proofs.FusedLoops.Steps.{put-steps}
+
+-- ---- phases
+
+module _ (p : PlainProgram) (q : ℕ) where
+  abbrev steps : PlainBody → List Step
+  steps body = steps_of_body p body [] q
+
+  nests-sure : (body : PlainBody) → are_nests p.lanes body ≡ true → IsSure p.modulus p.lanes (actions_of (steps body))
+  nests-sure NoStmts h = same-nothing p.modulus p.lanes
+  nests-sure (AndStmts (Do op) rest) h = wrong h
+  nests-sure (AndStmts (Loop count inside) rest) h =
+      let two = both_true (is_nest p.lanes (Loop count inside)) (are_nests p.lanes rest) h in
+      let first : List Step = steps_of_stmt p (Loop count inside) [] q in
+      sure-append p q first (steps rest)
+      (subst (λ xs. IsSure p.modulus p.lanes (actions_of xs)) (append-nil first) (body-sure p q (AndStmts (Loop count inside) NoStmts) [] two.0))
+      (nests-sure rest two.1)
+
+  nests-onto : (body : PlainBody) (before : List Block) (made : PlainBody) → are_nests p.lanes body ≡ true → Ends p q before made [] 0 → StepsFit p (steps body) →
+      LeavesFor p q (steps (fused_onto p.lanes 0 before made body)) (steps made ++ steps body)
+  nests-onto NoStmts before made h ends fit = leaves-itself p q _ _ (sym (append-nil (steps made)))
+  nests-onto (AndStmts (Do op) rest) before made h ends fit = wrong h
+  nests-onto (AndStmts (Loop count inside) rest) before made h ends fit =
+      let two = both_true (is_nest p.lanes (Loop count inside)) (are_nests p.lanes rest) h in
+      let stmt : PlainStmt = Loop count inside in
+      let alone : PlainBody = AndStmts stmt NoStmts in
+      let first : List Step = steps_of_stmt p stmt [] q in
+      let counts : List ℕ = count ∷ counts_in inside in
+      let round : PlainBody = round_in inside in
+      let kept : List ℕ = followed_in p.lanes counts round (first_steps (first_load round)) in
+      let blocks : List Block = blocks_of p.lanes stmt in
+      let fit_alone : StepsFit p (steps alone) = λ s has.
+      fit s (Contains-append_left first (steps rest) s (subst (λ xs. Contains xs s) (append-nil first) has)) in
+      let grown = grows p q alone before blocks made [] 0 two.0 ends
+      (has-blocks p q counts kept alone [] [] [] kept refl refl tt refl two.0 (round-follows p.lanes counts round (first_steps (first_load round))) fit_alone) in
+      let more : PlainBody = joined (shared before blocks) stmt made in
+      leaves-trans p q (steps (fused_onto p.lanes 0 blocks more rest)) (steps more ++ steps rest) (steps made ++ (first ++ steps rest))
+      (nests-onto rest blocks more two.1 grown.ends (λ s has. fit s (Contains-append_right first (steps rest) s has)))
+      (subst (LeavesFor p q (steps more ++ steps rest))
+      (append_assoc (steps made) (first ++ []) (steps rest) ∙ ap (λ xs. steps made ++ (xs ++ steps rest)) (append-nil first))
+      (leaves-behind p q (steps more) (steps made ++ (first ++ [])) (steps rest) grown.leaves (nests-sure rest two.1)))
+
+  waiting-onto : (body made : PlainBody) → StepsFit p (steps body) →
+      LeavesFor p q (steps (fused_onto p.lanes (waiting p.lanes body) [] made body)) (steps made ++ steps body)
+  waiting-onto NoStmts made fit = leaves-itself p q _ _ (sym (append-nil (steps made)))
+  waiting-onto (AndStmts stmt rest) made fit =
+      of_test (waiting-onto rest (put_behind stmt made) (λ s has. fit s (Contains-append_right first (steps rest) s has)))
+      (is_nest p.lanes stmt && are_nests p.lanes rest) refl
+    where
+      first : List Step
+      first = steps_of_stmt p stmt [] q
+
+      of_test : LeavesFor p q (steps (fused_onto p.lanes (waiting p.lanes rest) [] (put_behind stmt made) rest)) (steps (put_behind stmt made) ++ steps rest) →
+          (t : Bool) → (is_nest p.lanes stmt && are_nests p.lanes rest) ≡ t →
+          LeavesFor p q (steps (fused_onto p.lanes (if t then 0 else suc (waiting p.lanes rest)) [] made (AndStmts stmt rest))) (steps made ++ (first ++ steps rest))
+      of_test more true e = nests-onto (AndStmts stmt rest) [] made e tt fit
+      of_test more false e =
+          subst (LeavesFor p q (steps (fused_onto p.lanes (waiting p.lanes rest) [] (put_behind stmt made) rest)))
+          (ap (λ xs. xs ++ steps rest) (put-steps p q stmt made []) ∙ append_assoc (steps made) first (steps rest))
+          more
+
+  fused-for : (body : PlainBody) → StepsFit p (steps body) → LeavesFor p q (steps (fused_phase p.lanes body)) (steps body)
+  fused-for body fit = waiting-onto body NoStmts fit
+
+-- ---- one phase of one processor
+
+-- the memory that such a code leaves
+alone-in-order : (code : Code) (x : List ℕ) → code.procs ≡ 1 → length code.lists ≡ 1 →
+    (in_order code x).memory ≡ memory_by code.modulus code.lanes (acts code 0 0) (slice_index_or (start code x).registers 0 []) (start code x).memory
+alone-in-order code x one phase =
+    let begin : Whole = record { memory = (start code x).memory; registers = (start code x).registers } in
+    ap (λ n. (phases_alone code n 0 begin).memory) phase ∙ ap (λ n. (processors_alone code 0 n 0 begin).memory) one
+
+module _ (p : PlainProgram) (body : PlainBody) (one : p.procs ≡ 1) where
+  abbrev here : PlainProgram
+  here = with_phases p (body ∷ [])
+
+  abbrev there : PlainProgram
+  there = with_phases p (fused_phase p.lanes body ∷ [])
+
+  module _ (fits : PlainFits here) (apart : (phase : ℕ) → IsApart (plain_code here) phase) where
+    phase-for : (phase q : ℕ) → q < p.procs → LeavesFor p q (steps_of_phase there phase q) (steps_of_phase here phase q)
+    phase-for zero q lt =
+        let old : steps_of_body here body [] q ≡ steps_of_body p body [] q = body_is p (body ∷ []) body [] q in
+        let new : steps_of_body there (fused_phase p.lanes body) [] q ≡ steps_of_body p (fused_phase p.lanes body) [] q =
+        body_is p (fused_phase p.lanes body ∷ []) (fused_phase p.lanes body) [] q in
+        let fit : StepsFit p (steps_of_body p body [] q) = λ s has.
+        let f = All-contains (StepFits here) (steps_of_body here body [] q) s (fits.each 0 q lt) (subst (λ xs. Contains xs s) (sym old) has) in
+        record { numbers = f.numbers; place = f.place; registers = f.registers; factors = f.factors } in
+        subst (λ xs. LeavesFor p q xs (steps_of_body here body [] q)) (sym new)
+        (subst (LeavesFor p q (steps_of_body p (fused_phase p.lanes body) [] q)) (sym old) (fused-for p q body fit))
+    phase-for (suc phase) q lt = leaves-itself p q _ _ refl
+
+    fits_there : PlainFits there
+    fits_there =
+        let same : sum_below 1 (λ phase. sum_below p.procs (λ q. length (steps_of_phase there phase q))) ≡ sum_below 1 (λ phase. sum_below p.procs (λ q. length (steps_of_phase here phase q))) =
+        sum_below-same 1 (λ phase. sum_below p.procs (λ q. length (steps_of_phase there phase q))) (λ phase. sum_below p.procs (λ q. length (steps_of_phase here phase q)))
+        (λ phase _. sum_below-same p.procs (λ q. length (steps_of_phase there phase q)) (λ q. length (steps_of_phase here phase q)) (λ q lt. (phase-for phase q lt).long)) in
+        record {
+          few = let bound = fits.few in subst (λ n. n < 2 ^ 59) (sym same) bound;
+          each = λ phase q lt.
+              all_of_members (StepFits there) (steps_of_phase there phase q) (λ s h.
+              let f = All-contains (StepFits here) (steps_of_phase here phase q) s (fits.each phase q lt) ((phase-for phase q lt).members s h) in
+              record { numbers = f.numbers; place = f.place; registers = f.registers; factors = f.factors });
+        }
+
+    acts_there : (phase q : ℕ) → q < p.procs → acts (plain_code there) phase q ≡ actions_of (steps_of_phase there phase q)
+    acts_there phase q lt = listed there there.phases phase q lt
+
+    acts_here : (phase q : ℕ) → q < p.procs → acts (plain_code here) phase q ≡ actions_of (steps_of_phase here phase q)
+    acts_here phase q lt = listed here here.phases phase q lt
+
+    acts_within : (phase q : ℕ) → IsWithin (acts (plain_code there) phase q) (acts (plain_code here) phase q)
+    acts_within phase q a h =
+        ⊎_elim
+        (λ (lt : q < p.procs).
+        subst (λ actions. Contains actions a) (sym (acts_here phase q lt))
+        (map_within (λ (s : Step). s.action) (steps_of_phase there phase q) (steps_of_phase here phase q) (phase-for phase q lt).members a
+        (subst (λ actions. Contains actions a) (acts_there phase q lt) h)))
+        (λ (past : p.procs ≤ q). absurd (Contains-nil a (subst (λ actions. Contains actions a) (not_listed there there.phases phase q past) h)))
+        (cases_lt q p.procs)
+
+    apart_there : (phase : ℕ) → IsApart (plain_code there) phase
+    apart_there phase =
+        record {
+          alone = λ q other line ne written touched. (apart phase).alone q other line ne
+              (flat_map_within (λ a. lines_of p.line (stored_words p.lanes a)) (acts (plain_code there) phase q) (acts (plain_code here) phase q) (acts_within phase q) line written)
+              (flat_map_within (λ a. lines_of p.line (touched_words p.lanes a)) (acts (plain_code there) phase other) (acts (plain_code here) phase other) (acts_within phase other) line touched);
+        }
+
+    -- the same memory
+    memory_same : (x : List ℕ) → (in_order (plain_code there) x).memory ≡ (in_order (plain_code here) x).memory
+    memory_same x =
+        let some : 0 < p.procs = omega (arith, one) in
+        let registers : List ℕ = slice_index_or (start (plain_code here) x).registers 0 [] in
+        let memory : List ℕ = (start (plain_code here) x).memory in
+        alone-in-order (plain_code there) x one refl
+        ∙ ap (λ fs. memory_by p.modulus p.lanes fs registers memory) (acts_there 0 0 some)
+        ∙ (phase-for 0 0 some).same registers memory
+        ∙ ap (λ fs. memory_by p.modulus p.lanes fs registers memory) (sym (acts_here 0 0 some))
+        ∙ sym (alone-in-order (plain_code here) x one refl)
+
+    fused_is : IsInPlaceOf there here
+    fused_is =
+        record {
+          size = refl;
+          modulus = refl;
+          fits = fits_there;
+          apart = apart_there;
+          same = λ x turns orders.
+              ap (λ memory. words_at p.size memory (whole_lines p.size p.line))
+              (memory_of_runs (plain_code there) (code_is there) apart_there x turns
+              ∙ memory_same x
+              ∙ sym (memory_of_runs (plain_code here) (code_is here) apart x orders));
+        }
+
+-- ---- programs
+
+pub fused_program : (least : ℕ) (p : PlainProgram) → PlainFits p → ((phase : ℕ) → IsApart (plain_code p) phase) → IsInPlaceOf (fused least p) p
+fused_program least p fits apart = of_test (may_be_fused least p) refl
+  where
+    of_phases : (phases : List PlainBody) → p.procs ≡ 1 → PlainFits (with_phases p phases) → ((phase : ℕ) → IsApart (plain_code (with_phases p phases)) phase) →
+        IsInPlaceOf (with_phases p (fused_phases p.lanes phases)) (with_phases p phases)
+    of_phases [] one fits apart = itself (with_phases p []) fits apart
+    of_phases (body ∷ []) one fits apart = fused_is p body one fits apart
+    of_phases (body ∷ next ∷ phases) one fits apart = itself (with_phases p (body ∷ next ∷ phases)) fits apart
+
+    of_test : (t : Bool) → may_be_fused least p ≡ t → IsInPlaceOf (if t then with_phases p (fused_phases p.lanes p.phases) else p) p
+    of_test false e = itself p fits apart
+    of_test true e = of_phases p.phases (eqb-true p.procs 1 (both_true (nat_le least p.size) (p.procs == 1) e).1) fits apart

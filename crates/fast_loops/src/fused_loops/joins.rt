@@ -1,0 +1,71 @@
+// Statements that go into the loops of others.
+
+ghost use Rattle.std.specs.Prelude.{◌≡◌, OnOk};
+ghost use Rattle.icode.specs.Plain.{plain_stmt, plain_body};
+ghost use Rattle.fast_loops.specs.FusedLoops.FusedLoops.{put_behind, with_body, in_last, joined, all_joined};
+
+use icode::program::Stmt;
+use memory::NoMemory;
+
+// The last statement goes behind others, and into it, if it is a loop, these statements, their first loops being those of the last in it.
+#[cycle(joining)]
+fn join_into(
+    loops: u64,
+    inside: Vec<Stmt>,
+    last: Stmt,
+    made: &mut Vec<Stmt>,
+) -> Result<(), NoMemory>
+    ensures { let changed = with_body (all_joined loops (plain_body inside.items)) (plain_stmt last) in
+        OnOk result (plain_body made.new.items ≡ put_behind changed (plain_body made.old.items)) }
+{
+    match last {
+        Stmt::Do(op) => made.push(Stmt::Do(op))?,
+        Stmt::Loop { count, body } => {
+            let mut body = body;
+            join_all(loops, inside, &mut body)?;
+            made.push(Stmt::Loop { count, body })?;
+        }
+    }
+    Ok(())
+}
+
+// The statements go into the last loop.
+#[cycle(joining)]
+fn join_in_last(loops: u64, inside: Vec<Stmt>, made: &mut Vec<Stmt>) -> Result<(), NoMemory>
+    ensures { OnOk result (plain_body made.new.items
+        ≡ in_last (all_joined loops (plain_body inside.items)) (plain_body made.old.items)) }
+{
+    if let Some(last) = made.pop() {
+        join_into(loops, inside, last, made)?;
+    }
+    Ok(())
+}
+
+// The statements go behind others, one after another.
+#[cycle(joining)]
+fn join_all(loops: u64, inside: Vec<Stmt>, made: &mut Vec<Stmt>) -> Result<(), NoMemory>
+    ensures { OnOk result (plain_body made.new.items
+        ≡ all_joined loops (plain_body inside.items) (plain_body made.old.items)) }
+{
+    for stmt in inside {
+        join(loops, stmt, made)?;
+    }
+    Ok(())
+}
+
+/// The statement goes behind others, so many of its first loops being those of the last of them.
+#[cycle(joining)]
+pub(crate) fn join(loops: u64, stmt: Stmt, made: &mut Vec<Stmt>) -> Result<(), NoMemory>
+    ensures { OnOk result (plain_body made.new.items
+        ≡ joined loops (plain_stmt stmt) (plain_body made.old.items)) }
+{
+    if loops == 0 {
+        made.push(stmt)?;
+        return Ok(());
+    }
+    match stmt {
+        Stmt::Do(op) => made.push(Stmt::Do(op))?,
+        Stmt::Loop { body, .. } => join_in_last(loops - 1, body, made)?,
+    }
+    Ok(())
+}
