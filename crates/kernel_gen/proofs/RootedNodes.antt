@@ -1,4 +1,4 @@
--- Trees with the roots of their nodes, as kernels: their size, what they do, what they cost, and that they can be made.
+-- Trees with the roots of their nodes: what they do, what they cost, and that they can be made.
 use Rattle.std.proofs.Common.{◌≡◌, ℕ, ◌+◌, ◌*◌, ◌/◌, ◌<◌, Bool, true, false, List, refl, sym, ap, ap₂, ◌∙◌, arith, if◌then◌else◌, subst}
 use Rattle.std.specs.Prelude.{nat_le, ◌==◌}
 use Rattle.std.proofs.lemmas.Bool.Decides.{nat_tests}
@@ -13,23 +13,17 @@ use Rattle.matrix_meaning.specs.Parts.{first_of, rest_of}
 use Rattle.matrix_meaning.proofs.Parts.{first_is_one}
 use Rattle.operators.specs.Operator.{on_blocks, on_columns}
 use Rattle.operators.proofs.Lists.{on_blocks-same, on_columns-same}
-use Rattle.smp_rewrite.specs.LayoutSteps.Meaning.{IsNodeTree}
-use Rattle.smp_rewrite.proofs.LayoutSteps.NodeTrees.{IsPartOf, first_is_part, rest_is_part, left_tree, right_tree, left_less, right_less}
+use Rattle.kernel_gen.specs.Nodes.{IsNodeTree}
+use Rattle.kernel_gen.proofs.NodeTrees.{IsPartOf, first_is_part, rest_is_part, left_tree, right_tree, left_less, right_less}
 use Rattle.tree_model.specs.Breakdown.{Breakdown, leaf, node, size_of, IsWellFormed}
 use Rattle.tree_model.specs.Cost.{is_kernel, is_plain, node_root}
-use Rattle.tree_model.specs.Trees.{trees_size, trees_on}
+use Rattle.tree_model.specs.Trees.{trees_on}
 use Rattle.tree_model.specs.Whole.{IsTreeOf, cost_in, node_on, node_transform, rooted_of}
 use Rattle.tree_model.specs.declared.tree.Rule.TheVariants.{Gt, Ct, Split, Dim}
 use Rattle.tree_model.proofs.FlatTrees.{flat_costs, well_formed}
 use Rattle.tree_model.proofs.NodesAsked.{root_of_whole}
+use Rattle.tree_model.proofs.RootedTrees.{rooted_size}
 use Rattle.tree_model.proofs.Splits.{product_div}
-
-pub rooted_size : (p : Request) (t : Breakdown) → trees_size (rooted_of p t) ≡ size_of t
-rooted_size p (leaf d) = refl
-rooted_size p (node Gt a b) = refl
-rooted_size p (node Ct a b) = refl
-rooted_size p (node Split a b) = refl
-rooted_size p (node Dim a b) = ap (λ n. size_of a * n) (rooted_size (rest_of p) b)
 
 -- ---- what they do
 
