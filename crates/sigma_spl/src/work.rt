@@ -59,7 +59,8 @@ impl Work {
     {
         match self {
             Work::Dense { .. } | Work::Horner { .. } => false,
-            Work::Kernel { .. } | Work::Short { .. } | Work::Tile { .. } | Work::Copy { .. } => true,
+            Work::Kernel { .. } | Work::Short { .. } | Work::Tile { .. } | Work::Copy { .. } =>
+                true,
         }
     }
 
