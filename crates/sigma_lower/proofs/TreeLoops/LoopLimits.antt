@@ -9,7 +9,7 @@ use Rattle.sigma_lower.specs.Shared.{phase_term}
 use Rattle.sigma_lower.proofs.HaveLoops.{phases_have_loops}
 use Rattle.sigma_lower.proofs.Ordered.{trees_ordered}
 use Rattle.index_fn.specs.Mapping.{Mapping}
-use Rattle.sigma_lower.specs.TreeLoops.Limits.{AreLimitedPhases, LoopsAreLimited, TreesMerge}
+use Rattle.sigma_lower.specs.TreeLoops.Limits.{AreLimitedPhases, LoopsAreLimited}
 use Rattle.sigma_lower.specs.TreeLoops.Merge.{PlainDiagonal, PlainPass, passes_of_terms, in_order, merged_of}
 use Rattle.sigma_lower.specs.TreeLoops.Nests.{loop_of, taken_of}
 use Rattle.sigma_lower.specs.TreeLoops.Placed.{IsCarried, IsLimitedPass, AllLimited, AreCounts, diagonal_places, place_sum}
@@ -136,18 +136,3 @@ limited_phases c (ts ∷ more) h =
 
 pub loops_are_limited : LoopsAreLimited
 loops_are_limited c l machine shares good = limited_phases c (lowered_of c l) (tree_loops 64 c l (omega arith) machine shares good)
-
--- ---- merged within the limits, and without any
-
-phases-merge : (c : Target) (phases : List (List PlainTerm)) → AllOrdered c phases → AllHaveLoops c phases → AreLimitedPhases c phases → map (passes_in_order c.size) (map phase_term phases) ≡ map (phase_passes c) phases
-phases-merge c [] ordered have limited = refl
-phases-merge c (ts ∷ more) ordered have limited =
-    let is : IsOrdered (phase_term ts) = record { in_order = ordered.0.in_order; none_waits = ordered.0.none_waits; some = have.0 } in
-    ap₂ (λ (ps : List (List PlainNest)) (rest : List (List (List PlainNest))). ps ∷ rest)
-    (ap reverse (merge_listed (most 64) c.size (phase_term ts) is limited.0 ∙ sym (merge_listed unbounded c.size (phase_term ts) is tt)))
-    (phases-merge c more ordered.1 have.1 limited.1)
-
-pub trees_merge : TreesMerge
-trees_merge c l machine shares good =
-    ap (λ (phases : List (List (List PlainNest))). let g : PlainMerged = record { size = c.size; procs = c.procs; lanes = c.lanes; phases = phases } in g)
-    (phases-merge c (lowered_of c l) (trees_ordered c l machine shares good) (phases_have_loops c l machine shares good) (loops_are_limited c l machine shares good))
