@@ -1,13 +1,8 @@
 -- No place of a layout's loops is over a limit.
-use Rattle.std.proofs.Common.{◌≡◌, ℕ, ◌*◌, ◌<◌, ◌≤◌, Bool, true, arith, refl, sym, ap, ap₂, ◌∙◌, List, [], ◌∷◌, ◌++◌, length, subst, Some}
+use Rattle.std.proofs.Common.{◌≡◌, ℕ, ◌*◌, ◌<◌, ◌≤◌, Bool, true, arith, refl, sym, ap, ◌∙◌, List, [], ◌∷◌, ◌++◌, length, subst, Some}
 use Rattle.std.specs.Prelude.{map, reverse}
 use Rattle.std.specs.List.{list_all}
 use Rattle.std.proofs.lemmas.List.{reverse-append}
-use Rattle.sigma_lower.specs.Merged.{AllHaveLoops, phase_passes}
-use Rattle.sigma_lower.specs.Order.{AllOrdered}
-use Rattle.sigma_lower.specs.Shared.{phase_term}
-use Rattle.sigma_lower.proofs.HaveLoops.{phases_have_loops}
-use Rattle.sigma_lower.proofs.Ordered.{trees_ordered}
 use Rattle.index_fn.specs.Mapping.{Mapping}
 use Rattle.sigma_lower.specs.TreeLoops.Limits.{AreLimitedPhases, LoopsAreLimited}
 use Rattle.sigma_lower.specs.TreeLoops.Merge.{PlainDiagonal, PlainPass, passes_of_terms, in_order, merged_of}
@@ -22,12 +17,9 @@ use Rattle.sigma_lower.proofs.TreeLoops.TameSums.{fits-limited}
 use Rattle.sigma_lower.proofs.TreeLoops.TreePlaces.{tree_good_places}
 use Rattle.operators.specs.declared.target.Target.{Target}
 use Rattle.sigma_lower.specs.Machine.{IsMachine}
-use Rattle.sigma_spl.specs.Loops.{PlainLoop, PlainTaken, limits_in, IsOrdered, IsLimitedLoop, AreLimitedLoops}
-use Rattle.sigma_spl.specs.Merge.{most, unbounded, items_in, items_out, carries_sum}
-use Rattle.sigma_spl.specs.Merged.{PlainMerged}
-use Rattle.sigma_spl.specs.Nest.{PlainNest, factor_count}
-use Rattle.sigma_spl.specs.Sigma.{passes_in_order}
-use Rattle.sigma_spl.proofs.Listed.{merge_listed}
+use Rattle.sigma_spl.specs.Loops.{PlainLoop, PlainTaken, limits_in, IsLimitedLoop, AreLimitedLoops}
+use Rattle.sigma_spl.specs.Merge.{most, items_in, items_out, carries_sum}
+use Rattle.sigma_spl.specs.Nest.{factor_count}
 use Rattle.sigma_spl.proofs.Within.{both-true}
 use Rattle.perm_algebra.specs.Affine.{Sum, simplified}
 use Rattle.perm_algebra.proofs.RoomTests.{room_decided}
