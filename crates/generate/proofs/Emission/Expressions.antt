@@ -1,11 +1,10 @@
 -- Places by the rules of emission are the generator's, since no place has a quotient.
-use Rattle.std.proofs.Common.{◌≡◌, ℕ, zero, suc, ◌+◌, ◌==◌, Bool, true, false, refl, sym, ap, ap₂, ◌∙◌, List, [], ◌∷◌, ◌++◌, length, arith, append_assoc}
+use Rattle.std.proofs.Common.{◌≡◌, ℕ, zero, suc, ◌+◌, ◌==◌, Bool, true, false, refl, sym, ap, ap₂, ◌∙◌, List, [], ◌∷◌, ◌++◌, length, append_assoc}
 use Rattle.std.specs.Prelude.{not, if◌then◌else◌}
 use Rattle.std.specs.List.{flat_map, range_with_len}
-use Rattle.std.proofs.lemmas.List.{length-append}
-use Rattle.code_gen.specs.PassCode.Expressions.{divisions_of, expr_of, factor_at, processor_of, quotients_of, remainders_of, sum_of, variables_of}
+use Rattle.code_gen.specs.PassCode.Expressions.{expr_of, factor_at, processor_of, quotients_of, remainders_of, sum_of, variables_of}
 use Rattle.icode.specs.Plain as code
-use Rattle.icode.specs.Plain.{PlainExpr, PlainPart, PlainParts, AndParts, NoParts, Proc, Rem, Var, parts_of}
+use Rattle.icode.specs.Plain.{PlainPart, AndParts, NoParts, Proc, Rem, Var, parts_of}
 use Rattle.matrix_meaning.specs.declared.Request.{Request}
 use Rattle.perm_algebra.specs.Affine.{HasNoQuotient, Sum, constant, variable, remainder, quotient}
 use Rattle.perm_algebra.specs.Room.{constant_of}

@@ -47,3 +47,6 @@ nest_at counts w load factors store = record {
 
 abbrev pub emitted_nest : Pass → PlainNest
 emitted_nest p = nest_at p.counts (plain_work p.work) p.load p.factors p.store
+
+abbrev pub emitted : List Pass → List (List PlainNest)
+emitted ps = map (λ p. emitted_nest p ∷ []) ps

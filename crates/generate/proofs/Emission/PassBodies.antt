@@ -1,5 +1,5 @@
 -- The code of a pass by the rules of emission is that of its nest.
-use Rattle.std.proofs.Common.{◌≡◌, ℕ, zero, suc, ◌+◌, ◌-◌, ◌<◌, refl, sym, ap, ap₂, ◌∙◌, List, [], ◌∷◌, ◌++◌, length, arith, append-nil, Option, Some, None}
+use Rattle.std.proofs.Common.{◌≡◌, ℕ, zero, suc, ◌+◌, ◌-◌, ◌<◌, refl, sym, ap, ap₂, ◌∙◌, List, [], ◌∷◌, ◌++◌, length, arith, append-nil, Option}
 use Rattle.std.specs.Prelude.{map, drop, slice_index, slice_index_or}
 use Rattle.std.specs.List.{flat_map, range_with_len}
 use Rattle.std.proofs.lemmas.Grind.{flat_map-append}
@@ -7,18 +7,15 @@ use Rattle.std.proofs.lemmas.List.FromFn.{get_or-map-range_with_len, map-range_w
 use Rattle.code_gen.specs.PassCode.Expressions.{expr_of}
 use Rattle.code_gen.specs.PassCode.Statements.{do_only, finish_body, followed_by, in_a_row, loads_body, multiplier_number, nest_body, nested, pass_body, place_at, powers_number, straight_body, table_number, term_body, tables_of_work, work_body}
 use Rattle.icode.specs.Plain as code
-use Rattle.icode.specs.Plain.{PlainBody, PlainExpr, PlainStmt, AndStmts, Do, Load, Loop, MulConst, MulTable, NoStmts, Store, Tile, Zero, body_of}
-use Rattle.icode.specs.declared.program.Array.{Array}
+use Rattle.icode.specs.Plain.{PlainBody, PlainStmt, AndStmts, Do, Load, Loop, MulConst, MulTable, NoStmts, Store, Tile, Zero, body_of}
 use Rattle.kernel_gen.specs.Instructions.{op_of}
 use Rattle.kernel_gen.specs.Kernel.{trees_kernel}
 use Rattle.kernel_gen.specs.declared.straight.Instruction.{Instruction}
-use Rattle.matrix_meaning.specs.declared.Request.{Request}
-use Rattle.operators.specs.Sum.{list_below}
 use Rattle.operators.specs.declared.target.Target.{Target}
 use Rattle.perm_algebra.specs.Affine.{HasNoQuotient, Sum, constant, variable}
 use Rattle.sigma_spl.specs.Nest.{PlainMultiplier, PlainNest}
 use Rattle.sigma_spl.specs.Work as works
-use Rattle.sigma_spl.specs.Shared.Machine.{PlainFrame, first_loop, frame_of, loop_counts}
+use Rattle.sigma_spl.specs.Shared.Machine.{PlainFrame, frame_of, loop_counts}
 use Rattle.sigma_spl.specs.Shared.Targets.{target_of}
 use Rattle.tree_model.specs.Trees.{trees_size}
 use Rattle.generate.specs.Emission.Bodies as emission
@@ -161,7 +158,8 @@ module _ (o : Setting) where
     finish-is : (factors : Factors) (x : Option PlainMultiplier) (table from free : ℕ) → ArePlainFactors factors →
         FindsEntries factors table → x ≡ multiplier_at o.pass.counts w factors →
         ((f : PlaceFunction) → slice_index_or (map (f cs) (each w (length o.pass.counts))) i (constant 0) ≡ f cs k) →
-        finish_body frame (emission.step_of o.pass.work) x scatters (length (loops o) + inner) table o.target i from free
+        finish_body frame (emission.step_of o.pass.work) x scatters (length (loops o) + inner) table o.target i from
+        free
         ≡ body_of (finish o inner factors k from free)
     finish-is none x table from free keeps finds is item =
         ap (λ y. finish_body frame (emission.step_of o.pass.work) y scatters (length (loops o) + inner) table o.target

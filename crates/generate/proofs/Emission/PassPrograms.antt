@@ -16,8 +16,6 @@ use Rattle.icode.specs.declared.program.Array.TheVariants.{X, Y, A, B}
 use Rattle.kernel_gen.specs.Kernel.{trees_kernel}
 use Rattle.matrix_meaning.specs.declared.Request.{Request}
 use Rattle.operators.specs.declared.target.Target.{Target}
-use Rattle.sigma_spl.specs.Merged.{PlainMerged}
-use Rattle.sigma_spl.specs.Nest as nests
 use Rattle.sigma_spl.specs.Nest.{PlainNest}
 use Rattle.sigma_spl.specs.Shared.Targets.{target_of}
 use Rattle.sigma_spl.specs.Work as works
@@ -25,7 +23,7 @@ use Rattle.tree_model.specs.Trees.{trees_size}
 use Rattle.generate.specs.Emission.Bodies.{Setting, pass_code, powers_of, table_of}
 use Rattle.generate.specs.Emission.Passes.{Diagonal, Factors, Pass, Work, entries, kernel, none, number, rows, tile, twiddles, values}
 use Rattle.generate.specs.Emission.Program.{entries_in, phase_code, phases_code, powers_in, products, program_in, read, registers, setting, tables_in, written}
-use Rattle.generate.proofs.Emission.Nested.{emitted_nest, multiplier_at, plain_factors, plain_work}
+use Rattle.generate.proofs.Emission.Nested.{emitted, emitted_nest, multiplier_at, plain_factors, plain_work}
 use Rattle.generate.proofs.Emission.PassBodies.{FindsEntries, FindsPowers, IsPlainPass, body-append, pass-is}
 
 -- ---- tables that are there keep their numbers
@@ -62,7 +60,8 @@ has-kept : (ts : List (List ℕ)) (x e : List ℕ) → has ts e ≡ true → has
 has-kept [] x e h = let clash : false ≡ true = h in grind arith
 has-kept (t ∷ ts) x e h = by (has-kept ts x e) (is_table t x) (is_table t e) refl h
   where
-    by : (has ts e ≡ true → has (with_table ts x) e ≡ true) → (b d : Bool) → is_table t e ≡ d → (if d then true else has ts e) ≡ true →
+    by : (has ts e ≡ true → has (with_table ts x) e ≡ true) → (b d : Bool) → is_table t e ≡ d →
+        (if d then true else has ts e) ≡ true →
         has (if b then t ∷ ts else t ∷ with_table ts x) e ≡ true
     by rest true d is k = ap (λ d. if d then true else has ts e) is ∙ k
     by rest false true is k = ap (λ d. if d then true else has (with_table ts x) e) is
@@ -73,7 +72,8 @@ number-kept : (ts : List (List ℕ)) (x e : List ℕ) → has ts e ≡ true →
 number-kept [] x e h = let clash : false ≡ true = h in grind arith
 number-kept (t ∷ ts) x e h = by (number-kept ts x e) (is_table t x) (is_table t e) refl h
   where
-    by : (has ts e ≡ true → table_number (with_table ts x) e ≡ table_number ts e) → (b d : Bool) → is_table t e ≡ d → (if d then true else has ts e) ≡ true →
+    by : (has ts e ≡ true → table_number (with_table ts x) e ≡ table_number ts e) → (b d : Bool) → is_table t e ≡ d →
+        (if d then true else has ts e) ≡ true →
         table_number (if b then t ∷ ts else t ∷ with_table ts x) e ≡ table_number (t ∷ ts) e
     by rest true d is k = refl
     by rest false true is k =
@@ -81,7 +81,8 @@ number-kept (t ∷ ts) x e h = by (number-kept ts x e) (is_table t x) (is_table 
         ∙ sym (ap (λ d. if d then 0 else suc (table_number ts e)) is)
     by rest false false is k = ap (λ n. if is_table t e then 0 else suc n) (rest k)
 
-kept : (ts xs : List (List ℕ)) (e : List ℕ) → has ts e ≡ true → table_number (fold with_table ts xs) e ≡ table_number ts e
+kept : (ts xs : List (List ℕ)) (e : List ℕ) → has ts e ≡ true →
+    table_number (fold with_table ts xs) e ≡ table_number ts e
 kept ts [] e h = refl
 kept ts (x ∷ xs) e h = kept (with_table ts x) xs e (has-kept ts x e h) ∙ number-kept ts x e h
 
@@ -96,7 +97,8 @@ module _ (m : ℕ) where
   diagonal-is (values table) = sym (fill_by_all (slice_index table) table (length table) 0 refl (λ k low. refl))
   diagonal-is (twiddles r s root) = refl
 
-  work-tables : (v : Work) (ts : List (List ℕ)) → tables_of_work m (plain_work v) ts ≡ fold with_table ts (powers_in m v)
+  work-tables : (v : Work) (ts : List (List ℕ)) →
+      tables_of_work m (plain_work v) ts ≡ fold with_table ts (powers_in m v)
   work-tables (kernel trees) ts = refl
   work-tables (rows root size) ts = refl
   work-tables (tile v) ts = refl
@@ -117,19 +119,19 @@ module _ (m : ℕ) where
       ∙ sym (fold-append with_table ts (powers_in m p.work) (entries_in m p.factors))
 
   phase-tables : (ps : List Pass) (ts : List (List ℕ)) →
-      tables_through m (map (λ p. emitted_nest p ∷ []) ps) ts ≡ fold with_table ts (flat_map (tables_in m) ps)
+      tables_through m (emitted ps) ts ≡ fold with_table ts (flat_map (tables_in m) ps)
   phase-tables [] ts = refl
   phase-tables (p ∷ ps) ts =
-      ap (tables_through m (map (λ q. emitted_nest q ∷ []) ps)) (pass-tables p ts)
+      ap (tables_through m (emitted ps)) (pass-tables p ts)
       ∙ phase-tables ps (fold with_table ts (tables_in m p))
       ∙ sym (fold-append with_table ts (tables_in m p) (flat_map (tables_in m) ps))
 
   all-tables : (phases : List (List Pass)) (ts : List (List ℕ)) →
-      tables_of_phases m (map (map (λ p. emitted_nest p ∷ [])) phases) ts
+      tables_of_phases m (map emitted phases) ts
       ≡ fold with_table ts (flat_map (tables_in m) (flat_map (λ ps. ps) phases))
   all-tables [] ts = refl
   all-tables (ps ∷ phases) ts =
-      ap (tables_of_phases m (map (map (λ p. emitted_nest p ∷ [])) phases)) (phase-tables ps ts)
+      ap (tables_of_phases m (map emitted phases)) (phase-tables ps ts)
       ∙ all-tables phases (fold with_table ts (flat_map (tables_in m) ps))
       ∙ sym (fold-append with_table ts (flat_map (tables_in m) ps)
       (flat_map (tables_in m) (flat_map (λ qs. qs) phases)))
@@ -186,7 +188,8 @@ written-is n t (suc more) is =
 
 read-next : (n t : ℕ) → read n (t + 1) ≡ written n t
 read-next n t =
-    ap (λ b. if b then X else written n (t + 1 - 1)) (let some : (t + 1 == 0) ≡ false = grind (arith, nat_tests) in some)
+    ap (λ b. if b then X else written n (t + 1 - 1))
+    (let some : (t + 1 == 0) ≡ false = grind (arith, nat_tests) in some)
     ∙ ap (written n) (let back : t + 1 - 1 ≡ t = omega arith in back)
 
 -- ---- phases
@@ -199,9 +202,6 @@ abbrev pub ArePlainPhases : List (List Pass) → Type 0
 ArePlainPhases [] = Unit {0}
 ArePlainPhases (ps ∷ phases) = ArePlain ps × ArePlainPhases phases
 
-abbrev pub nests-in : List Pass → List (List PlainNest)
-nests-in ps = map (λ p. emitted_nest p ∷ []) ps
-
 module _ (c : Request) (n : ℕ) (tables : List (List ℕ)) where
   abbrev h : Target
   h = target_of c
@@ -212,39 +212,39 @@ module _ (c : Request) (n : ℕ) (tables : List (List ℕ)) where
   phase-is : (ps : List Pass) (t after : ℕ) (ts rest : List (List ℕ)) (source : Array) → ArePlain ps →
       n ≡ t + (length ps + after) → tables ≡ fold with_table ts (flat_map (tables_in m) ps ++ rest) →
       source ≡ read n t →
-      phase_body h after (nests-in ps) t ts source ≡ body_of (phase_code c tables n t ps)
+      phase_body h after (emitted ps) t ts source ≡ body_of (phase_code c tables n t ps)
   phase-is [] t after ts rest source plain long are from = refl
   phase-is (p ∷ ps) t after ts rest source plain long are from =
       let o = setting c tables n t p in
       let grouped : tables ≡ fold with_table ts (tables_in m p ++ (flat_map (tables_in m) ps ++ rest)) =
       are ∙ ap (fold with_table ts) (append_assoc (tables_in m p) (flat_map (tables_in m) ps) rest) in
-      let to : written_array t (after + length (nests-in ps)) ≡ written n t =
+      let to : written_array t (after + length (emitted ps)) ≡ written n t =
       ap (λ k. written_array t (after + k)) (length-map ps (λ q. emitted_nest q ∷ []))
       ∙ written-is n t (after + length ps) (omega (arith, long)) in
       let next : suc t ≡ t + 1 = omega arith in
       ap₂ (λ source target. followed_by (pass_body h (emitted_nest p ∷ []) ts source target)
-      (phase_body h after (nests-in ps) (suc t) (tables_after m (emitted_nest p ∷ []) ts) target)) from to
+      (phase_body h after (emitted ps) (suc t) (tables_after m (emitted_nest p ∷ []) ts) target)) from to
       ∙ ap₂ followed_by
       (pass-is o plain.0 ts
       (powers-found o ts (flat_map (tables_in m) ps ++ rest) p.work (entries_in m p.factors) grouped)
       (entries-found o ts (flat_map (tables_in m) ps ++ rest) p.work p.counts p.factors grouped))
-      (ap₂ (λ k us. phase_body h after (nests-in ps) k us (written n t)) next (pass-tables m p ts)
+      (ap₂ (λ k us. phase_body h after (emitted ps) k us (written n t)) next (pass-tables m p ts)
       ∙ phase-is ps (t + 1) after (fold with_table ts (tables_in m p)) rest (written n t) plain.1 (omega (arith, long))
       (grouped ∙ fold-append with_table ts (tables_in m p) (flat_map (tables_in m) ps ++ rest)) (sym (read-next n t)))
       ∙ sym (body-append (pass_code o) (phase_code c tables n (t + 1) ps))
 
   after-phase : (ps : List Pass) (t after : ℕ) (source : Array) → n ≡ t + (length ps + after) → source ≡ read n t →
-      array_after after (nests-in ps) t source ≡ read n (t + length ps)
+      array_after after (emitted ps) t source ≡ read n (t + length ps)
   after-phase [] t after source long from = from ∙ ap (read n) (let none' : t ≡ t + 0 = omega arith in none')
   after-phase (p ∷ ps) t after source long from =
       let next : suc t ≡ t + 1 = omega arith in
-      ap₂ (λ k a. array_after after (nests-in ps) k a) next
+      ap₂ (λ k a. array_after after (emitted ps) k a) next
       (ap (λ k. written_array t (after + k)) (length-map ps (λ q. emitted_nest q ∷ []))
       ∙ written-is n t (after + length ps) (omega (arith, long)))
       ∙ after-phase ps (t + 1) after (written n t) (omega (arith, long)) (sym (read-next n t))
       ∙ ap (read n) (let all : t + 1 + length ps ≡ t + suc (length ps) = omega arith in all)
 
-  counted : (phases : List (List Pass)) → count_in (map nests-in phases) ≡ length (flat_map (λ ps. ps) phases)
+  counted : (phases : List (List Pass)) → count_in (map emitted phases) ≡ length (flat_map (λ ps. ps) phases)
   counted [] = refl
   counted (ps ∷ phases) =
       ap₂ (λ a b. a + b) (counted phases) (length-map ps (λ q. emitted_nest q ∷ []))
@@ -253,11 +253,11 @@ module _ (c : Request) (n : ℕ) (tables : List (List ℕ)) where
   phases-are : (phases : List (List Pass)) (t : ℕ) (ts : List (List ℕ)) (source : Array) → ArePlainPhases phases →
       n ≡ t + length (flat_map (λ ps. ps) phases) →
       tables ≡ fold with_table ts (flat_map (tables_in m) (flat_map (λ ps. ps) phases)) → source ≡ read n t →
-      phases_body h (map nests-in phases) t ts source ≡ phases_code c tables n t phases
+      phases_body h (map emitted phases) t ts source ≡ phases_code c tables n t phases
   phases-are [] t ts source plain long are from = refl
   phases-are (ps ∷ phases) t ts source plain long are from =
       let rest = flat_map (λ qs. qs) phases in
-      let after = count_in (map nests-in phases) in
+      let after = count_in (map emitted phases) in
       let many = length-append ps rest in
       let count = counted phases in
       let here : n ≡ t + (length ps + after) = omega (arith, long, many, count) in
@@ -265,9 +265,9 @@ module _ (c : Request) (n : ℕ) (tables : List (List ℕ)) where
       are ∙ ap (fold with_table ts) (flat_map-append (tables_in m) ps rest) in
       ap₂ (λ b bs. b ∷ bs)
       (phase-is ps t after ts (flat_map (tables_in m) rest) source plain.0 here all from)
-      (ap₂ (λ us a. phases_body h (map nests-in phases) (t + length (nests-in ps)) us a) (phase-tables m ps ts)
+      (ap₂ (λ us a. phases_body h (map emitted phases) (t + length (emitted ps)) us a) (phase-tables m ps ts)
       (after-phase ps t after source here from)
-      ∙ ap (λ k. phases_body h (map nests-in phases) (t + k) (fold with_table ts (flat_map (tables_in m) ps))
+      ∙ ap (λ k. phases_body h (map emitted phases) (t + k) (fold with_table ts (flat_map (tables_in m) ps))
       (read n (t + length ps))) (length-map ps (λ q. emitted_nest q ∷ []))
       ∙ phases-are phases (t + length ps) (fold with_table ts (flat_map (tables_in m) ps)) (read n (t + length ps))
       plain.1 (omega (arith, long, many))
@@ -312,7 +312,7 @@ module _ (m : ℕ) where
 
   module _ (c : Request) where
     phase-registers : (h : Target) → h.modulus ≡ m → (ps : List Pass) →
-        most_of h (nests-in ps) ≡ fold max 0 (map pass-need ps)
+        most_of h (emitted ps) ≡ fold max 0 (map pass-need ps)
     phase-registers h is [] = refl
     phase-registers h is (p ∷ ps) =
         ap₂ max (ap (λ k. pass_registers k (emitted_nest p ∷ [])) is ∙ pass-registers p) (phase-registers h is ps)
@@ -320,7 +320,7 @@ module _ (m : ℕ) where
         ∙ from-first (pass-need p) (map pass-need ps))
 
     all-registers : (h : Target) → h.modulus ≡ m → (phases : List (List Pass)) →
-        most_of_phases h (map nests-in phases) ≡ fold max 0 (map pass-need (flat_map (λ ps. ps) phases))
+        most_of_phases h (map emitted phases) ≡ fold max 0 (map pass-need (flat_map (λ ps. ps) phases))
     all-registers h is [] = refl
     all-registers h is (ps ∷ phases) =
         let rest = flat_map (λ qs. qs) phases in
@@ -332,12 +332,12 @@ module _ (m : ℕ) where
 -- ---- the program
 
 pub programs-by-passes : (c : Request) (phases : List (List Pass)) → ArePlainPhases phases →
-    program_of (target_of c) (record { size = c.size; procs = c.procs; lanes = c.lanes; phases = map nests-in phases })
+    program_of (target_of c) (record { size = c.size; procs = c.procs; lanes = c.lanes; phases = map emitted phases })
     ≡ program_in c phases
 programs-by-passes c phases plain =
     let all = flat_map (λ ps. ps) phases in
     let tables = fold with_table [] (flat_map (tables_in c.modulus) all) in
-    ap₂ (λ r ts. whole r ts (phases_body (target_of c) (map nests-in phases) 0 [] X))
+    ap₂ (λ r ts. whole r ts (phases_body (target_of c) (map emitted phases) 0 [] X))
     (all-registers c.modulus c (target_of c) refl phases) (all-tables c.modulus phases [])
     ∙ ap (whole (fold max 0 (map (pass-need c.modulus) all)) tables)
     (phases-are c (length all) tables phases 0 [] X plain (omega arith) refl refl)

@@ -1,7 +1,6 @@
 -- No place of a pass by the rules of emission has a quotient.
 use Rattle.std.proofs.Common.{ℕ, ◌*◌, ◌/◌, ◌%◌, ◌==◌, Bool, true, false, List, [], ◌∷◌, ◌++◌, nat_lt, Option, Some, None}
 use Rattle.std.specs.Prelude.{if◌then◌else◌}
-use Rattle.matrix_meaning.specs.Parts.{forward_of}
 use Rattle.matrix_meaning.specs.declared.Request.{Request}
 use Rattle.perm_algebra.proofs.Sizes.{plain-joined, plain-scaled}
 use Rattle.perm_algebra.specs.Affine.{HasNoQuotient, Sum, constant, variable, remainder, quotient, joined, mods, reduced, scaled, top}
@@ -11,11 +10,11 @@ use Rattle.tree_model.specs.Cost.{is_kernel, is_plain, node_root}
 use Rattle.tree_model.specs.Whole.{left_of, right_of}
 use Rattle.tree_model.specs.declared.tree.Rule.{Rule}
 use Rattle.tree_model.specs.declared.tree.Rule.TheVariants.{Gt, Ct, Split, Dim}
-use Rattle.generate.specs.Emission.Passes.{Factors, Pass, Site, Work, entries, left_site, moved, node_work, none, number, pass_at, passes, right_site, tile, twiddled}
-use Rattle.generate.specs.Emission.Places.{PlaceFunction, after, blocks, columns, inside, left_out, right_in, turn_of}
+use Rattle.generate.specs.Emission.Passes.{Factors, Pass, Site, Work, entries, left_site, moved, node_work, none, number, pass_at, passes, right_site, twiddled}
+use Rattle.generate.specs.Emission.Places.{PlaceFunction, after, blocks, columns, left_out, right_in, turn_of}
 use Rattle.generate.specs.Emission.Root.{across, along, lane_loops, lane_of, left_root, packed, processor_loops, right_root, root_in, root_phases, shared, strided, tile_turns, tiles, tiles_after, tiles_before, turn_in_lanes}
 use Rattle.generate.specs.Emission.Whole.{closing_factors, phases_of, whole_site}
-use Rattle.generate.proofs.Emission.PassBodies.{ArePlainFactors, IsPlainPass, KeepsPlain}
+use Rattle.generate.proofs.Emission.PassBodies.{ArePlainFactors, KeepsPlain}
 use Rattle.generate.proofs.Emission.PassPrograms.{ArePlain, ArePlainPhases}
 
 -- ---- sums
@@ -135,7 +134,8 @@ plain-passes c o (node rule a b) h =
 
 module _ (c : Request) where
   plain-shared : (n : ℕ) (counts : List ℕ) → HasNoQuotient (shared c n counts)
-  plain-shared n counts = one (n / c.procs) (turn_of [] c.procs) _ (plain-turn [] c.procs) (plain-turn counts (n / c.procs))
+  plain-shared n counts =
+      one (n / c.procs) (turn_of [] c.procs) _ (plain-turn [] c.procs) (plain-turn counts (n / c.procs))
 
   plain-lane : HasNoQuotient (lane_of c)
   plain-lane = plain-turn (processor_loops c) c.lanes
@@ -172,8 +172,8 @@ module _ (c : Request) where
   keeps-across r s cs k p =
       let i = shared c (r / c.lanes) (processor_loops c) in
       let j = turn_of (tile_turns c r) (s / c.lanes) in
-      both s c.lanes (joined (scaled c.lanes i) k) j (one c.lanes i k (plain-shared (r / c.lanes) (processor_loops c)) p)
-      (plain-turn (tile_turns c r) (s / c.lanes))
+      both s c.lanes (joined (scaled c.lanes i) k) j
+      (one c.lanes i k (plain-shared (r / c.lanes) (processor_loops c)) p) (plain-turn (tile_turns c r) (s / c.lanes))
 
   either-factors : (b : Bool) (f g : Factors) → ArePlainFactors f → ArePlainFactors g →
       ArePlainFactors (if b then f else g)

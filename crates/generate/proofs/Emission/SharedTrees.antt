@@ -39,14 +39,17 @@ use Rattle.tree_model.specs.declared.tree.Rule.{Rule}
 use Rattle.tree_model.specs.declared.tree.Rule.TheVariants.{Gt, Ct, Split, Dim}
 use Rattle.generate.specs.Emission.Passes.{Factors, Pass, none, passes}
 use Rattle.generate.specs.Emission.Root.{left_root, right_root, root_phases, strided, tiles_after, tiles_before}
-use Rattle.generate.specs.Emission.Whole.{closing_factors, emission, whole_site}
+use Rattle.generate.specs.Emission.Whole.{closing_factors, emission, phases_of, whole_site}
 use Rattle.generate.specs.Letters.{program_for}
 use Rattle.generate.proofs.Emission.Closed.{closed-phases, closed_tree, closing, firsts, phases-in}
 use Rattle.generate.proofs.Emission.Layouts.{layout_emitted, passes_of_layout}
 use Rattle.generate.proofs.Emission.Left.{IsPart, left_nest}
 use Rattle.generate.proofs.Emission.Lists.{AllPasses, factors-passes, free-passes, nests_as}
 use Rattle.generate.proofs.Emission.Matches.{ArePasses, IsAround}
-use Rattle.generate.proofs.Emission.Nests.{IsNodeWork, emitted, maps-twice, multiplying, nests}
+use Rattle.generate.proofs.Emission.Nested.{emitted}
+use Rattle.generate.proofs.Emission.Nests.{IsNodeWork, maps-twice, multiplying, nests}
+use Rattle.generate.proofs.Emission.PassPrograms.{programs-by-passes}
+use Rattle.generate.proofs.Emission.PlainPlaces.{plain-closing, plain-phases}
 use Rattle.generate.proofs.Emission.PlainWorks.{node_works}
 use Rattle.generate.proofs.Emission.Right.{ct_right, emitted-append, nests-append, none-either, split_right}
 use Rattle.generate.proofs.Emission.Root.{left_around}
@@ -110,7 +113,7 @@ module _ (c : Request) (r s : ℕ) (h : AreShares c.size c.procs c.lanes r s) (a
       ∙ factors-passes outer d (strided c s) (left_pass c.procs c.lanes r s) (IsPart c r s h c.modulus)
       (λ z q part is. left_nest c r s h c.modulus z part q is) r (left_root c s (closing_factors (Some v)))
       (λ cs e. refl)
-      (repeated v 1) (λ counts k. constant 0) firsts refl
+      (repeated v 1) (λ counts k. constant 0) firsts (λ counts w own. refl)
       (λ cs stored own es step. maps-twice (λ _. constant 0) stored es) alone (qs (closing_factors (Some v))) all
       (matches (closing_factors (Some v)))
 
@@ -317,3 +320,5 @@ module _ (c : Request) (t : Breakdown) (valid : IsValid c) (tree : IsWholeTree c
       ∙ ap (λ b. phases-in c
       (map emitted (if b then passes (forward_of c) (whole_site factors) t ∷ [] else root_phases
       (forward_of c) factors t))) (sym forward_shared))
+      ∙ programs-by-passes c (phases_of (forward_of c) factors t)
+      (plain-phases (forward_of c) factors t (plain-closing (factor_by c.kind c)))

@@ -40,7 +40,7 @@ pub data Diagonal : Type 0 where
   values : (entries : List ℕ) → Diagonal
   twiddles : (r s root : ℕ) → Diagonal
 
--- by what each word is multiplied before it is stored: by nothing, by one number, or by a diagonal's entry at this place
+-- by what each word is multiplied before it is stored: nothing, one number, or the entry of a diagonal at this place
 pub data Factors : Type 0 where
   none : Factors
   number : (value : ℕ) → Factors
