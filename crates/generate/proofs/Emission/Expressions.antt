@@ -55,7 +55,7 @@ unwritten-processors true p = refl
 unwritten-processors false p = refl
 
 pub unwritten-is : (c : Request) (w : Work) → length (unwritten c w) ≡ first_loop (target_of c) (plain_work w)
-unwritten-is c (kernel trees) = unwritten-several (c.procs == 1) (c.lanes == 1) c.procs c.lanes
+unwritten-is c (kernel r t) = unwritten-several (c.procs == 1) (c.lanes == 1) c.procs c.lanes
 unwritten-is c (rows root size) = unwritten-several (c.procs == 1) (c.lanes == 1) c.procs c.lanes
 unwritten-is c (tile v) = unwritten-processors (c.procs == 1) c.procs
 

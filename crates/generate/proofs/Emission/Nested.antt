@@ -11,7 +11,7 @@ use Rattle.generate.specs.Emission.Passes.{Diagonal, Factors, Pass, Work, entrie
 use Rattle.generate.specs.Emission.Places.{PlaceFunction}
 
 abbrev pub plain_work : Work → PlainWork
-plain_work (kernel trees) = works.kernel trees
+plain_work (kernel c t) = works.kernel (works.node_of c t)
 plain_work (rows root size) = works.rows root size
 plain_work (tile v) = works.tile v
 

@@ -16,7 +16,7 @@ use Rattle.sigma_lower.proofs.TreeLoops.Shaped.{IsShaped, IsShapedWork}
 use Rattle.sigma_spl.specs.Loops.{limits_in, multiplier_of, nest_of, one_nest, places_by}
 use Rattle.sigma_spl.specs.Merge.{items_in, items_out}
 use Rattle.sigma_spl.specs.Nest.{PlainFactors, PlainNest, twiddles}
-use Rattle.sigma_spl.specs.Work.{PlainWork, kernel, rows, horner, tile, copy, work_size}
+use Rattle.sigma_spl.specs.Work.{PlainWork, kernel, rows, horner, tile, copy, node_of, short, work_size}
 use Rattle.sigma_spl.specs.Limits.{AreSeveral}
 use Rattle.operators.specs.TensorPaths.Path.{copies_of, count_of, size_under}
 use Rattle.operators.proofs.TensorPaths.Under.{size_under-copies}
@@ -43,23 +43,24 @@ maps-same f g (e ∷ es) step = ap₂ (λ x xs. x ∷ xs) (step e) (maps-same f 
 
 -- ---- a pass of a kernel or a leaf
 
--- no tile
+-- a tree of a request, or a longer leaf
 abbrev pub IsNodeWork : PlainWork → Type 0
-IsNodeWork (kernel trees) = Unit {0}
+IsNodeWork (kernel (node_of p t)) = Unit {0}
+IsNodeWork (kernel (short kind root size)) = ⊥
 IsNodeWork (rows root size) = Unit {0}
 IsNodeWork (horner root size) = ⊥
 IsNodeWork (tile v) = ⊥
 IsNodeWork (copy size) = ⊥
 
 items-in : (w : PlainWork) (depth : ℕ) → IsNodeWork w → items_in w depth ≡ each w (depth + 1)
-items-in (kernel trees) depth h = refl
+items-in (kernel k) depth h = refl
 items-in (rows root size) depth h = refl
 items-in (horner root size) depth h = absurd h
 items-in (tile v) depth h = absurd h
 items-in (copy size) depth h = absurd h
 
 items-out : (w : PlainWork) (depth : ℕ) → IsNodeWork w → items_out w depth ≡ each w depth
-items-out (kernel trees) depth h = refl
+items-out (kernel k) depth h = refl
 items-out (rows root size) depth h = refl
 items-out (horner root size) depth h = absurd h
 items-out (tile v) depth h = absurd h

@@ -18,6 +18,7 @@ use Rattle.sigma_spl.specs.Work as works
 use Rattle.sigma_spl.specs.Shared.Machine.{PlainFrame, frame_of, loop_counts}
 use Rattle.sigma_spl.specs.Shared.Targets.{target_of}
 use Rattle.tree_model.specs.Trees.{trees_size}
+use Rattle.tree_model.specs.Whole.{rooted_of}
 use Rattle.generate.specs.Emission.Bodies as emission
 use Rattle.generate.specs.Emission.Bodies.{Setting, by_rows, finish, in_loops, load, loops, pass_code, place, powers_of, store, straight, table_of}
 use Rattle.generate.specs.Emission.Passes.{Diagonal, Factors, Pass, Work, entries, kernel, none, number, rows, tile, twiddles, values, work_size}
@@ -122,7 +123,7 @@ module _ (o : Setting) where
   FindsEntries factors table = Unit {0}
 
   sizes : (v : Work) → works.work_size (plain_work v) ≡ work_size v
-  sizes (kernel trees) = refl
+  sizes (kernel c t) = refl
   sizes (rows root size) = refl
   sizes (tile v) = refl
 
@@ -284,7 +285,8 @@ module _ (o : Setting) where
 
     work-is : (v : Work) → o.pass.work ≡ v → (powers : ℕ) → FindsPowers v powers →
         work_body h z (plain_work v) (length (loops o)) powers table o.source o.target ≡ body_of (emission.body o v)
-    work-is (kernel trees) is powers found =
+    work-is (kernel c t) is powers found =
+        let trees = rooted_of c t in
         let made = trees_kernel o.request.modulus trees in
         ap (λ code. followed_by (loads_body frame z (length (loops o)) (trees_size trees) o.source)
         (followed_by code (in_a_row (trees_size trees) (λ k. finish_body frame 0 z.multiplier z.scatters

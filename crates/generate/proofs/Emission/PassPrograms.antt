@@ -20,6 +20,7 @@ use Rattle.sigma_spl.specs.Nest.{PlainNest}
 use Rattle.sigma_spl.specs.Shared.Targets.{target_of}
 use Rattle.sigma_spl.specs.Work as works
 use Rattle.tree_model.specs.Trees.{trees_size}
+use Rattle.tree_model.specs.Whole.{rooted_of}
 use Rattle.generate.specs.Emission.Bodies.{Setting, pass_code, powers_of, table_of}
 use Rattle.generate.specs.Emission.Passes.{Diagonal, Factors, Pass, Work, entries, kernel, none, number, rows, tile, twiddles, values}
 use Rattle.generate.specs.Emission.Program.{entries_in, phase_code, phases_code, powers_in, products, program_in, read, registers, setting, tables_in, written}
@@ -99,7 +100,7 @@ module _ (m : ℕ) where
 
   work-tables : (v : Work) (ts : List (List ℕ)) →
       tables_of_work m (plain_work v) ts ≡ fold with_table ts (powers_in m v)
-  work-tables (kernel trees) ts = refl
+  work-tables (kernel c t) ts = refl
   work-tables (rows root size) ts = refl
   work-tables (tile v) ts = refl
 
@@ -145,7 +146,7 @@ module _ (o : Setting) (ts rest : List (List ℕ)) where
 
   powers-found : (v : Work) (es : List (List ℕ)) → o.tables ≡ fold with_table ts ((powers_in m' v ++ es) ++ rest) →
       FindsPowers o v (powers_number m' (plain_work v) ts)
-  powers-found (kernel trees) es are = tt
+  powers-found (kernel c t) es are = tt
   powers-found (rows root size) es are =
       found ts (powers_of m' root size) (es ++ rest) ∙ ap (λ us. table_number us (powers_of m' root size)) (sym are)
   powers-found (tile v) es are = tt
@@ -284,7 +285,8 @@ module _ (m : ℕ) where
 
   nest-registers : (v : Work) (f : Factors) (z : PlainNest) (counts : List ℕ) (w : works.PlainWork) →
       z.multiplier ≡ multiplier_at counts w f → nest_registers m z (plain_work v) ≡ registers m f v
-  nest-registers (kernel trees) f z counts w is =
+  nest-registers (kernel c t) f z counts w is =
+      let trees = rooted_of c t in
       ap (λ x. with_multiplier x (trees_kernel m trees).next (trees_size trees)) is
       ∙ factor-registers f counts w (trees_kernel m trees).next (trees_size trees)
   nest-registers (rows root size) f z counts w is =

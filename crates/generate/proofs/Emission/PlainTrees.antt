@@ -36,14 +36,14 @@ use Rattle.generate.specs.Factors.{factors_of}
 use Rattle.generate.specs.Letters.{program_for}
 use Rattle.generate.proofs.ConvTrees.{inverse_tree, inverse_valid}
 use Rattle.generate.proofs.Emission.Closed.{closed-phases, closed_tree, firsts, phases-in}
-use Rattle.generate.proofs.Emission.Layouts.{layout_emitted, passes_of_layout}
+use Rattle.generate.proofs.Emission.Layouts.{layout_emitted, passes_of_layout, tree_works}
 use Rattle.generate.proofs.Emission.Matches.{ArePasses, IsAround, IsSame}
 use Rattle.generate.proofs.Emission.Nested.{emitted, emitted_nest}
 use Rattle.generate.proofs.Emission.Nests.{IsLooped, IsNodeWork, maps-same, maps-twice, multiplying, nests, same-nest}
 use Rattle.generate.proofs.Emission.Lists.{AllPasses, factors-passes, free-passes}
 use Rattle.generate.proofs.Emission.PassPrograms.{programs-by-passes}
 use Rattle.generate.proofs.Emission.PlainPlaces.{plain-closing, plain-joined-passes, plain-passes, plain-phases, plain-whole}
-use Rattle.generate.proofs.Emission.PlainWorks.{looped-all, node_works}
+use Rattle.generate.proofs.Emission.PlainWorks.{looped-all}
 use Rattle.generate.proofs.Emission.Trees.{layouts_match}
 use Rattle.tree_model.proofs.WholeTrees.{forward_itself}
 
@@ -68,7 +68,8 @@ module _ (c : Request) (t : Breakdown) (valid : IsValid c) (h : IsWholeTree c t)
       let some = can.shares.some in
       let small = can.shares.small in
       layouts_match [] 0 same refl c.modulus (layout_size l) [] [] (whole_site f) l
-      (record { low = omega (arith, size, some); high = omega (arith, size, small) }) can.good.layout refl
+      (record { low = omega (arith, size, some); high = omega (arith, size, small) })
+      can.good.layout (tree_works (forward_of c) t) refl
       (whole-around (layout_size l) f)
 
   some : 0 < layout_size l
@@ -80,7 +81,7 @@ module _ (c : Request) (t : Breakdown) (valid : IsValid c) (h : IsWholeTree c t)
       (shaped_passes (IsShapedWork c.modulus) c.modulus (layout_size l) [] [] l tt can.good.layout
       (shaped_works c.modulus l can.good.layout) refl)
       (shaped_passes IsNodeWork c.modulus (layout_size l) [] [] l tt can.good.layout
-      (node_works c.modulus l can.good.layout) refl)
+      (tree_works (forward_of c) t) refl)
 
   -- a pass that is the same is the same nest
   nest : (p : PlainPass) (q : Pass) → IsLooped c.modulus (layout_size l) p → IsSame [] 0 same p q →

@@ -10,7 +10,7 @@ use Rattle.sigma_lower.specs.TreeTerms.Root.{right_path, vectors_grouped}
 use Rattle.sigma_lower.proofs.TreeLoops.RightPlaces.{right_fills, right_wide}
 use Rattle.sigma_lower.proofs.TreeLoops.RootPasses.{tile_after, tile_before, turned_waiting}
 use Rattle.sigma_lower.proofs.TreeLoops.RootShares.{AreShares}
-use Rattle.sigma_lower.proofs.TreeLoops.Shaped.{IsShapedWork, shaped_passes, shaped_works}
+use Rattle.sigma_lower.proofs.TreeLoops.Shaped.{HasWorks, IsShapedWork, shaped_passes, shaped_works}
 use Rattle.sigma_lower.proofs.TreeLoops.TreePasses.{at_last-append, layout_passes}
 use Rattle.sigma_spl.specs.Loops.{nest_of, one_nest}
 use Rattle.smp_rewrite.specs.LayoutSteps.Layout.{IsGoodLayout, Layout, layout_size}
@@ -25,7 +25,7 @@ use Rattle.generate.proofs.Emission.Lists.{AllPasses, same-passes}
 use Rattle.generate.proofs.Emission.Matches.{ArePasses, AreSame, HasDiagonal, IsAround, IsLast, IsSame, at_last-none, last-same}
 use Rattle.generate.proofs.Emission.Nested.{emitted, emitted_nest}
 use Rattle.generate.proofs.Emission.Nests.{IsLooped, IsNodeWork, nests, same-nest}
-use Rattle.generate.proofs.Emission.PlainWorks.{looped-all, node_works}
+use Rattle.generate.proofs.Emission.PlainWorks.{looped-all}
 use Rattle.generate.proofs.Emission.Root.{packed-natural, packed_around, turned_around}
 use Rattle.generate.proofs.Emission.Tiles.{emitted-tile, lead-across, lead-along, tile-nest}
 use Rattle.generate.proofs.Emission.Trees.{layouts_match}
@@ -48,7 +48,7 @@ looped-multiplied : (m size r s root : ℕ) (p : PlainPass) → IsLooped m size 
 looped-multiplied m size r s root p h = record { wide = h.wide; fills = h.fills; work = h.work; node = h.node }
 
 module _ (c : Request) (r s root : ℕ) (h : AreShares c.size c.procs c.lanes r s) (b : Layout)
-    (good : IsGoodLayout c.modulus b) (is : layout_size b ≡ s) where
+    (good : IsGoodLayout c.modulus b) (works : HasWorks IsNodeWork b) (is : layout_size b ≡ s) where
   abbrev p : ℕ
   p = c.procs
 
@@ -78,7 +78,7 @@ module _ (c : Request) (r s root : ℕ) (h : AreShares c.size c.procs c.lanes r 
     matches : ArePasses [] 0 same (right_path p v r) s o ps qs
     matches =
         subst (λ n. ArePasses [] 0 same (right_path p v r) n o ps qs) is
-        (layouts_match [] 0 same refl m c.size (right_path p v r) waiting o b h.whole good fills
+        (layouts_match [] 0 same refl m c.size (right_path p v r) waiting o b h.whole good works fills
         (subst (λ n. IsAround [] 0 same (right_path p v r) waiting n o) (sym is) around))
 
     all : AllPasses (IsLooped m c.size) ps
@@ -87,7 +87,7 @@ module _ (c : Request) (r s root : ℕ) (h : AreShares c.size c.procs c.lanes r 
         (shaped_passes (IsShapedWork m) m c.size (right_path p v r) waiting b (right_wide c.size p v r s h) good
         (shaped_works m b good) fills)
         (shaped_passes IsNodeWork m c.size (right_path p v r) waiting b (right_wide c.size p v r s h) good
-        (node_works m b good) fills)
+        works fills)
 
     nest : (z : PlainPass) (q : Pass) → IsLooped m c.size z → IsSame [] 0 same z q →
         nest_of (loop_of z) ≡ emitted_nest q

@@ -15,6 +15,7 @@ use Rattle.perm_algebra.specs.Affine.{Sum, constant, variable, remainder, quotie
 use Rattle.perm_algebra.specs.Room.{constant_of}
 use Rattle.ring_mod.specs.Residue.{power_mod}
 use Rattle.tree_model.specs.Trees.{trees_size}
+use Rattle.tree_model.specs.Whole.{rooted_of}
 use Rattle.generate.specs.Emission.Passes.{Diagonal, Factors, Pass, Work, entries, kernel, none, number, rows, tile, twiddles, values, work_size}
 use Rattle.generate.specs.Emission.Places.{PlaceFunction}
 use Rattle.generate.specs.Emission.Root.{lane_loops, processor_loops}
@@ -124,9 +125,9 @@ abbrev pub powers_of : ℕ → ℕ → ℕ → List ℕ
 powers_of m root size = list_below size (power_mod m root)
 
 abbrev pub body : Setting → Work → List PlainStmt
-body o (kernel trees) =
-    let made = trees_kernel o.request.modulus trees in
-    straight o (trees_size trees) (map (λ i. Do (op_of i)) made.code) (slice_index made.outs) made.next
+body o (kernel c t) =
+    let made = trees_kernel o.request.modulus (rooted_of c t) in
+    straight o (trees_size (rooted_of c t)) (map (λ i. Do (op_of i)) made.code) (slice_index made.outs) made.next
 body o (rows root size) = by_rows o (powers_of o.request.modulus root size) size
 body o (tile v) = straight o v (Do (Tile v 0) ∷ []) (λ k. v + k) (v + v)
 

@@ -5,7 +5,7 @@ use Rattle.matrix_meaning.specs.declared.Kind.TheVariants.{Dft}
 use Rattle.matrix_meaning.specs.declared.Request.{Request}
 use Rattle.tree_model.specs.Breakdown.{Breakdown, leaf, node, size_of}
 use Rattle.tree_model.specs.Cost.{is_kernel, node_root}
-use Rattle.tree_model.specs.Trees.{PlainTrees, single, trees_size}
+use Rattle.tree_model.specs.Trees.{trees_size}
 use Rattle.tree_model.specs.Whole.{left_of, right_of, rooted_of}
 use Rattle.tree_model.specs.declared.tree.Rule.{Rule}
 use Rattle.tree_model.specs.declared.tree.Rule.TheVariants.{Ct}
@@ -15,23 +15,22 @@ use Rattle.generate.specs.Emission.Places.{PlaceFunction, after, blocks, columns
 
 -- a short node at once, a longer leaf row by row, or a tile
 pub data Work : Type 0 where
-  kernel : (trees : PlainTrees) → Work
+  kernel : (request : Request) (tree : Breakdown) → Work
   rows : (root size : ℕ) → Work
   tile : (lanes : ℕ) → Work
 
 abbrev pub work_size : Work → ℕ
-work_size (kernel trees) = trees_size trees
+work_size (kernel c t) = trees_size (rooted_of c t)
 work_size (rows root size) = size
 work_size (tile lanes) = lanes * lanes
 
 -- by rows if its transform has powers of a root
-abbrev pub long_work : Kind → ℕ → Breakdown → Work
-long_work Dft root t = rows root (size_of t)
-long_work kind root t = kernel (single kind root t)
+abbrev pub long_work : Request → Kind → Breakdown → Work
+long_work c Dft t = rows (node_root c (size_of t)) (size_of t)
+long_work c kind t = kernel c t
 
 abbrev pub node_work : Request → Breakdown → Work
-node_work c t =
-    if is_kernel c (size_of t) then kernel (rooted_of c t) else long_work c.kind (node_root c (size_of t)) t
+node_work c t = if is_kernel c (size_of t) then kernel c t else long_work c c.kind t
 
 -- ---- what they multiply by
 

@@ -8,6 +8,7 @@ use Rattle.icode.specs.declared.program.Array.TheVariants.{X, Y, A, B}
 use Rattle.kernel_gen.specs.Kernel.{trees_kernel}
 use Rattle.matrix_meaning.specs.declared.Request.{Request}
 use Rattle.tree_model.specs.Trees.{trees_size}
+use Rattle.tree_model.specs.Whole.{rooted_of}
 use Rattle.generate.specs.Emission.Bodies.{Setting, pass_code, powers_of, table_of}
 use Rattle.generate.specs.Emission.Passes.{Factors, Pass, Work, entries, kernel, none, rows, tile}
 
@@ -33,7 +34,8 @@ products none n = 0
 products factors n = n
 
 abbrev pub registers : ℕ → Factors → Work → ℕ
-registers m factors (kernel trees) = (trees_kernel m trees).next + products factors (trees_size trees)
+registers m factors (kernel c t) =
+    (trees_kernel m (rooted_of c t)).next + products factors (trees_size (rooted_of c t))
 registers m factors (rows root size) = 3 + products factors 1
 registers m factors (tile v) = v + v + products factors v
 
