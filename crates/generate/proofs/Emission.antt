@@ -1,9 +1,14 @@
 pub mod Closed
+pub mod Expressions
 pub mod Layouts
 pub mod Left
 pub mod Lists
 pub mod Matches
+pub mod Nested
 pub mod Nests
+pub mod PassBodies
+pub mod PassPrograms
+pub mod PlainPlaces
 pub mod PlainTrees
 pub mod PlainWorks
 pub mod Programs

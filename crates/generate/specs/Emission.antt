@@ -1,5 +1,7 @@
 pub mod Places
 pub mod Passes
 pub mod Root
+pub mod Bodies
+pub mod Program
 pub mod Whole
 pub mod Worked

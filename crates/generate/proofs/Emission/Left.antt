@@ -32,8 +32,8 @@ use Rattle.operators.specs.TensorPaths.Path.{Path, count_of, size_under}
 use Rattle.generate.specs.Emission.Passes.{Pass}
 use Rattle.generate.specs.Emission.Places.{same, turn_of}
 use Rattle.generate.specs.Emission.Root.{lane_of, lane_loops, strided}
-use Rattle.generate.specs.Emission.Whole as emission
 use Rattle.generate.proofs.Emission.Matches.{HasDiagonal, IsSame}
+use Rattle.generate.proofs.Emission.Nested.{emitted_nest}
 use Rattle.generate.proofs.Emission.Nests.{IsLooped, IsNodeWork, same-nest}
 use Rattle.generate.proofs.Emission.Root.{columns-each}
 use Rattle.generate.proofs.Emission.RootPlaces.{natural-turns, turns-are}
@@ -217,6 +217,6 @@ module _ (c : Request) (r s : ℕ) (h : AreShares c.size c.procs c.lanes r s) wh
     }
 
     pub left_nest : (q' : Pass) → IsSame outer d (strided c s) z q' →
-        nest_of (loop_of (left_pass p v r s z)) ≡ emission.emitted_nest q'
+        nest_of (loop_of (left_pass p v r s z)) ≡ emitted_nest q'
     left_nest q' is = same-nest m size (left_pass p v r s z) q'
         (let low = h.whole.low in omega (arith, low)) left_looped (left_same q' is)

@@ -1,5 +1,5 @@
 -- Lists of passes that are the same are the same nests, with factors in the last of them or with none.
-use Rattle.std.proofs.Common.{◌≡◌, ℕ, refl, sym, ap, ap₂, ◌∙◌, List, [], ◌∷◌, ◌++◌, subst}
+use Rattle.std.proofs.Common.{◌≡◌, ℕ, refl, sym, ap, ap₂, ◌∙◌, List, [], ◌∷◌, ◌++◌, length, subst, Some}
 use Rattle.std.specs.Prelude.{map}
 use Rattle.sigma_spl.specs.Lists.{on_last}
 use Rattle.perm_algebra.specs.Affine.{Sum}
@@ -7,11 +7,12 @@ use Rattle.sigma_lower.specs.TreeLoops.Merge.{PlainPass}
 use Rattle.sigma_lower.specs.TreeLoops.Nests.{loop_of}
 use Rattle.sigma_spl.specs.Loops.{nest_of, one_nest}
 use Rattle.sigma_spl.specs.Nest.{PlainFactors, PlainNest}
-use Rattle.generate.specs.Emission.Passes.{Pass, Site, entries, moved, none}
+use Rattle.sigma_spl.specs.Work.{PlainWork}
+use Rattle.generate.specs.Emission.Passes.{Pass, Site, moved, none}
 use Rattle.generate.specs.Emission.Places.{PlaceFunction, after}
-use Rattle.generate.specs.Emission.Whole as emission
 use Rattle.generate.proofs.Emission.Matches.{ArePasses, AreSame, AreUpTo, HasDiagonal, IsLast, IsSame}
-use Rattle.generate.proofs.Emission.Nests.{emitted, freed, multiplied-nest, multiplying}
+use Rattle.generate.proofs.Emission.Nested.{bounds, each, emitted, emitted_nest, multiplier_at, nest_at, plain_work}
+use Rattle.generate.proofs.Emission.Nests.{freed, multiplied-nest, multiplying}
 
 -- P holds of each pass
 abbrev pub AllPasses : (PlainPass → Type 0) → List PlainPass → Type 0
@@ -29,7 +30,7 @@ nests_as g ps = map (λ p. one_nest (loop_of (g p))) ps
 
 module _ (outer : List ℕ) (d : ℕ) (whole : PlaceFunction) (g : PlainPass → PlainPass) (Good : PlainPass → Type 0)
     (nest : (p : PlainPass) (q : Pass) → Good p → IsSame outer d whole p q →
-    nest_of (loop_of (g p)) ≡ emission.emitted_nest q) where
+    nest_of (loop_of (g p)) ≡ emitted_nest q) where
   pub same-passes : (ps : List PlainPass) (qs : List Pass) → AllPasses Good ps → AreSame outer d whole ps qs →
       nests_as g ps ≡ emitted qs
   same-passes [] [] good h = refl
@@ -51,11 +52,10 @@ module _ (outer : List ℕ) (d : ℕ) (whole : PlaceFunction) (g : PlainPass →
     -- ---- with no factors
 
     free-nest : (p : PlainPass) (q : Pass) → o.factors ≡ none → Good p → IsLast outer d whole [] n o p q →
-        nest_of (loop_of (g p)) ≡ emission.emitted_nest q
+        nest_of (loop_of (g p)) ≡ emitted_nest q
     free-nest p q free good last =
         nest p (freed q) good (whole-last p q last)
-        ∙ ap (λ f. emission.emitted_nest
-        (record { counts = q.counts; work = q.work; load = q.load; factors = f; store = q.store }))
+        ∙ ap (λ f. nest_at q.counts (plain_work q.work) q.load f q.store)
         (sym (last.factors ∙ ap (λ f. moved f last.own) free))
 
     free-rest : (p : PlainPass) (q : Pass) (ps : List PlainPass) (qs : List Pass) → o.factors ≡ none → Good p →
@@ -74,14 +74,18 @@ module _ (outer : List ℕ) (d : ℕ) (whole : PlaceFunction) (g : PlainPass →
 
     -- ---- with factors in the last
 
-    module _ (ds : PlainFactors) (place : PlaceFunction) (f : List Sum → List Sum) (is : o.factors ≡ entries ds place)
+    module _ (ds : PlainFactors) (place : PlaceFunction) (f : List Sum → List Sum)
+        (is : (counts : List ℕ) (w : PlainWork) (own : PlaceFunction) →
+            multiplier_at counts w (moved o.factors own)
+            ≡ Some (record { factors = ds; places = map (after place own (bounds counts w)) (each w (length counts)) }))
         (at : (cs : ℕ → ℕ) (stored own : Sum → Sum) (es : List Sum) → ((e : Sum) → stored e ≡ o.store cs (own e)) →
         f (map stored es) ≡ map (λ e. place cs (own e)) es) where
       factors-nest : (p : PlainPass) (q : Pass) → Good p → IsLast outer d whole [] n o p q →
-          multiplying ds f (nest_of (loop_of (g p))) ≡ emission.emitted_nest q
+          multiplying ds f (nest_of (loop_of (g p))) ≡ emitted_nest q
       factors-nest p q good last =
           ap (multiplying ds f) (nest p (freed q) good (whole-last p q last))
-          ∙ multiplied-nest ds (after place last.own) f q (last.factors ∙ ap (λ x. moved x last.own) is)
+          ∙ multiplied-nest ds (after place last.own) f q
+          (ap (multiplier_at q.counts (plain_work q.work)) last.factors ∙ is q.counts (plain_work q.work) last.own)
           (λ cs es. at cs (q.store cs) (last.own cs) es (last.store cs))
 
       factors-rest : (p : PlainPass) (q : Pass) (ps : List PlainPass) (qs : List Pass) → Good p → AllPasses Good ps →

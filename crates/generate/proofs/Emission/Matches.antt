@@ -6,11 +6,11 @@ use Rattle.perm_algebra.specs.Affine.{Sum, simplified}
 use Rattle.sigma_lower.specs.TreeLoops.Merge.{PlainDiagonal, PlainPass, at_last}
 use Rattle.sigma_lower.specs.TreeLoops.Placed.{Fits, place_sum, AreCounts, all_simplified}
 use Rattle.sigma_lower.specs.TreeTerms.Wrapped.{inner_of}
-use Rattle.sigma_spl.specs.Nest.{twiddles}
 use Rattle.sigma_spl.specs.Work.{work_size}
 use Rattle.operators.specs.TensorPaths.Path.{Path, count_of}
-use Rattle.generate.specs.Emission.Passes.{Pass, Site, entries, moved, none}
+use Rattle.generate.specs.Emission.Passes.{Pass, Site, entries, moved, none, twiddles}
 use Rattle.generate.specs.Emission.Places.{PlaceFunction}
+use Rattle.generate.proofs.Emission.Nested.{plain_work}
 
 -- in these outer loops, of which there are d, where the words of the whole stand at these places
 module _ (outer : List ℕ) (d : ℕ) (whole : PlaceFunction) where
@@ -32,7 +32,7 @@ module _ (outer : List ℕ) (d : ℕ) (whole : PlaceFunction) where
   -- both do the same work in the same loops, on what they load at the same places
   pub record IsBegun (p : PlainPass) (q : Pass) : Type 0 where
     pub counts : q.counts ≡ outer ++ map count_of p.path
-    pub work : q.work ≡ p.work
+    pub work : plain_work q.work ≡ p.work
     pub load : Always p (λ cs e. q.load cs e ≡ whole cs (all_simplified cs p.befores (natural p e)))
 
   -- where an item's factor stands

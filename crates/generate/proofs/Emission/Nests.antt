@@ -16,14 +16,14 @@ use Rattle.sigma_lower.proofs.TreeLoops.Shaped.{IsShaped, IsShapedWork}
 use Rattle.sigma_spl.specs.Loops.{limits_in, multiplier_of, nest_of, one_nest, places_by}
 use Rattle.sigma_spl.specs.Merge.{items_in, items_out}
 use Rattle.sigma_spl.specs.Nest.{PlainFactors, PlainNest, twiddles}
-use Rattle.sigma_spl.specs.Work.{PlainWork, kernel, rows, horner, tile, copy, work_size}
+use Rattle.sigma_spl.specs.Work.{PlainWork, kernel, rows, horner, tile, copy, node_of, short, work_size}
 use Rattle.sigma_spl.specs.Limits.{AreSeveral}
 use Rattle.operators.specs.TensorPaths.Path.{copies_of, count_of, size_under}
 use Rattle.operators.proofs.TensorPaths.Under.{size_under-copies}
-use Rattle.generate.specs.Emission.Passes.{Pass, entries, none}
+use Rattle.generate.specs.Emission.Passes.{Pass, none}
 use Rattle.generate.specs.Emission.Places.{PlaceFunction, same}
-use Rattle.generate.specs.Emission.Whole as emission
 use Rattle.generate.proofs.Emission.Matches.{HasDiagonal, IsBegun, IsSame}
+use Rattle.generate.proofs.Emission.Nested.{bounds, each, emitted_nest, multiplier_at, nest_at, plain_work}
 
 -- ---- lists of sums
 
@@ -43,31 +43,28 @@ maps-same f g (e ∷ es) step = ap₂ (λ x xs. x ∷ xs) (step e) (maps-same f 
 
 -- ---- a pass of a kernel or a leaf
 
--- no tile
+-- a tree of a request, or a longer leaf
 abbrev pub IsNodeWork : PlainWork → Type 0
-IsNodeWork (kernel trees) = Unit {0}
+IsNodeWork (kernel (node_of p t)) = Unit {0}
+IsNodeWork (kernel (short kind root size)) = ⊥
 IsNodeWork (rows root size) = Unit {0}
 IsNodeWork (horner root size) = ⊥
 IsNodeWork (tile v) = ⊥
 IsNodeWork (copy size) = ⊥
 
-items-in : (w : PlainWork) (depth : ℕ) → IsNodeWork w → items_in w depth ≡ emission.each w (depth + 1)
-items-in (kernel trees) depth h = refl
+items-in : (w : PlainWork) (depth : ℕ) → IsNodeWork w → items_in w depth ≡ each w (depth + 1)
+items-in (kernel k) depth h = refl
 items-in (rows root size) depth h = refl
 items-in (horner root size) depth h = absurd h
 items-in (tile v) depth h = absurd h
 items-in (copy size) depth h = absurd h
 
-items-out : (w : PlainWork) (depth : ℕ) → IsNodeWork w → items_out w depth ≡ emission.each w depth
-items-out (kernel trees) depth h = refl
+items-out : (w : PlainWork) (depth : ℕ) → IsNodeWork w → items_out w depth ≡ each w depth
+items-out (kernel k) depth h = refl
 items-out (rows root size) depth h = refl
 items-out (horner root size) depth h = absurd h
 items-out (tile v) depth h = absurd h
 items-out (copy size) depth h = absurd h
-
--- the pass with these loops and this work
-abbrev pub put : Pass → List ℕ → PlainWork → Pass
-put q counts w = record { counts = counts; work = w; load = q.load; factors = q.factors; store = q.store }
 
 -- its loops turn twice or more, and its copies fill an array
 pub record IsLooped (m size : ℕ) (p : PlainPass) : Type 0 where
@@ -114,34 +111,34 @@ module _ (m size : ℕ) (p : PlainPass) (q : Pass) (low : 0 < size) (shape : IsL
 
   loads : IsBegun [] 0 same p q →
       places_by (loop_of p) p.befores (items_in p.work depth)
-      ≡ map (q.load cs) (emission.each p.work (length loops + 1))
+      ≡ map (q.load cs) (each p.work (length loops + 1))
   loads begun =
       placed-by p.befores (q.load cs) (items_in p.work depth) names.loads (λ e fits. begun.load cs e counts fits)
       ∙ ap (map (q.load cs))
-      (items-in p.work depth shape.node ∙ ap (λ k. emission.each p.work (k + 1)) (sym (length-map p.path count_of)))
+      (items-in p.work depth shape.node ∙ ap (λ k. each p.work (k + 1)) (sym (length-map p.path count_of)))
 
   out : (fs : List Mapping) (g : Sum → Sum) →
       ((e : Sum) → Fits n e cs → g e ≡ all_simplified cs fs (place_sum p.path n 0 e)) →
-      places_by (loop_of p) fs (items_out p.work depth) ≡ map g (emission.each p.work (length loops))
+      places_by (loop_of p) fs (items_out p.work depth) ≡ map g (each p.work (length loops))
   out fs g step =
       placed-by fs g (items_out p.work depth) names.stores step
-      ∙ ap (map g) (items-out p.work depth shape.node ∙ ap (emission.each p.work) (sym (length-map p.path count_of)))
+      ∙ ap (map g) (items-out p.work depth shape.node ∙ ap (each p.work) (sym (length-map p.path count_of)))
 
   multipliers : (x : Option PlainDiagonal) → HasDiagonal [] 0 same p q x →
-      multiplier_of (loop_of p) (option_map taken_of x) ≡ emission.emitted_multiplier (put q loops p.work) q.factors
-  multipliers None h = ap (emission.emitted_multiplier (put q loops p.work)) (sym h)
+      multiplier_of (loop_of p) (option_map taken_of x) ≡ multiplier_at loops p.work q.factors
+  multipliers None h = ap (multiplier_at loops p.work) (sym h)
   multipliers (Some x) h =
       let place = h.0 in
       let fs = x.places ++ inner_of x.path (x.rows * x.cols) ∷ [] in
       ap (λ es. Some (record { factors = twiddles x.rows x.cols x.root; places = es }))
       (out fs (place cs) (λ e fits. h.2 cs e counts fits
       ∙ sym (all_simplified-append cs x.places (inner_of x.path (x.rows * x.cols)) (place_sum p.path n 0 e))))
-      ∙ ap (emission.emitted_multiplier (put q loops p.work)) (sym h.1)
+      ∙ ap (multiplier_at loops p.work) (sym h.1)
 
-  with-loops : IsBegun [] 0 same p q → emission.emitted_nest (put q loops p.work) ≡ emission.emitted_nest q
-  with-loops begun = ap₂ (λ ls w. emission.emitted_nest (put q ls w)) (sym begun.counts) (sym begun.work)
+  with-loops : IsBegun [] 0 same p q → nest_at loops p.work q.load q.factors q.store ≡ emitted_nest q
+  with-loops begun = ap₂ (λ ls w. nest_at ls w q.load q.factors q.store) (sym begun.counts) (sym begun.work)
 
-  pub same-nest : IsSame [] 0 same p q → nest_of (loop_of p) ≡ emission.emitted_nest q
+  pub same-nest : IsSame [] 0 same p q → nest_of (loop_of p) ≡ emitted_nest q
   same-nest h =
       let first = loads h.begun in
       let second = multipliers p.diagonal h.factors in
@@ -156,8 +153,8 @@ module _ (m size : ℕ) (p : PlainPass) (q : Pass) (low : 0 < size) (shape : IsL
       ∙ ap (λ ss. record {
         counts = loops;
         work = p.work;
-        gathers = map (q.load cs) (emission.each p.work (length loops + 1));
-        multiplier = emission.emitted_multiplier (put q loops p.work) q.factors;
+        gathers = map (q.load cs) (each p.work (length loops + 1));
+        multiplier = multiplier_at loops p.work q.factors;
         scatters = ss;
       }) third
       ∙ with-loops h.begun
@@ -179,24 +176,27 @@ multiplying ds f z =
     }
 
 pub multiplied-nest : (ds : PlainFactors) (place : PlaceFunction) (f : List Sum → List Sum) (q : Pass) →
-    q.factors ≡ entries ds place →
+    (let w = plain_work q.work in
+    multiplier_at q.counts w q.factors
+    ≡ Some (record { factors = ds; places = map (place (bounds q.counts w)) (each w (length q.counts)) })) →
     ((cs : ℕ → ℕ) (es : List Sum) → f (map (q.store cs) es) ≡ map (place cs) es) →
-    multiplying ds f (emission.emitted_nest (freed q)) ≡ emission.emitted_nest q
+    multiplying ds f (emitted_nest (freed q)) ≡ emitted_nest q
 multiplied-nest ds place f q is at =
-    let cs = emission.limits q in
-    let es = emission.each q.work (length q.counts) in
+    let w = plain_work q.work in
+    let cs = bounds q.counts w in
+    let es = each w (length q.counts) in
     ap (λ ps. record {
       counts = q.counts;
-      work = q.work;
-      gathers = map (q.load cs) (emission.each q.work (length q.counts + 1));
+      work = w;
+      gathers = map (q.load cs) (each w (length q.counts + 1));
       multiplier = Some (record { factors = ds; places = ps });
       scatters = map (q.store cs) es;
     }) (at cs es)
-    ∙ ap (λ g. record {
+    ∙ ap (λ x. record {
       counts = q.counts;
-      work = q.work;
-      gathers = map (q.load cs) (emission.each q.work (length q.counts + 1));
-      multiplier = emission.emitted_multiplier q g;
+      work = w;
+      gathers = map (q.load cs) (each w (length q.counts + 1));
+      multiplier = x;
       scatters = map (q.store cs) es;
     }) (sym is)
 
@@ -204,6 +204,3 @@ multiplied-nest ds place f q is at =
 
 abbrev pub nests : List PlainPass → List (List PlainNest)
 nests ps = map (λ p. one_nest (loop_of p)) ps
-
-abbrev pub emitted : List Pass → List (List PlainNest)
-emitted qs = map (λ q. emission.emitted_nest q ∷ []) qs

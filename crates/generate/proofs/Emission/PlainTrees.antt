@@ -20,7 +20,7 @@ use Rattle.sigma_lower.proofs.TreeLoops.TreePasses.{layout_passes}
 use Rattle.sigma_lower.proofs.TreeLoops.Wholes.{plain_phases}
 use Rattle.sigma_spl.specs.Loops.{nest_of}
 use Rattle.perm_algebra.specs.Affine.{constant}
-use Rattle.sigma_spl.specs.Nest.{repeated, values}
+use Rattle.sigma_spl.specs.Nest as sums
 use Rattle.sigma_spl.specs.Shared.Targets.{target_of}
 use Rattle.smp_rewrite.specs.LayoutSteps.Layout.{Layout, layout_of, layout_size}
 use Rattle.smp_rewrite.specs.LayoutSteps.Whole.{factor_by, whole_of}
@@ -28,20 +28,22 @@ use Rattle.tree_model.specs.Breakdown.{Breakdown}
 use Rattle.tree_model.specs.Chosen.{IsWholeTree}
 use Rattle.tree_model.specs.Cost.{is_plain}
 use Rattle.generate.specs.ConvLetters.{conv_program}
-use Rattle.generate.specs.Emission.Passes.{Factors, Pass, entries, none, passes}
+use Rattle.generate.specs.Emission.Passes.{Factors, Pass, entries, none, passes, values}
 use Rattle.generate.specs.Emission.Places.{same}
 use Rattle.generate.specs.Emission.Root.{root_phases}
 use Rattle.generate.specs.Emission.Whole.{closing_factors, conv_emission, emission, phases_of, whole_site}
-use Rattle.generate.specs.Emission.Whole as emissions
 use Rattle.generate.specs.Factors.{factors_of}
 use Rattle.generate.specs.Letters.{program_for}
 use Rattle.generate.proofs.ConvTrees.{inverse_tree, inverse_valid}
 use Rattle.generate.proofs.Emission.Closed.{closed-phases, closed_tree, firsts, phases-in}
-use Rattle.generate.proofs.Emission.Layouts.{layout_emitted, passes_of_layout}
+use Rattle.generate.proofs.Emission.Layouts.{layout_emitted, passes_of_layout, tree_works}
 use Rattle.generate.proofs.Emission.Matches.{ArePasses, IsAround, IsSame}
-use Rattle.generate.proofs.Emission.Nests.{IsLooped, IsNodeWork, emitted, maps-same, maps-twice, multiplying, nests, same-nest}
+use Rattle.generate.proofs.Emission.Nested.{emitted, emitted_nest}
+use Rattle.generate.proofs.Emission.Nests.{IsLooped, IsNodeWork, maps-same, maps-twice, multiplying, nests, same-nest}
 use Rattle.generate.proofs.Emission.Lists.{AllPasses, factors-passes, free-passes}
-use Rattle.generate.proofs.Emission.PlainWorks.{looped-all, node_works}
+use Rattle.generate.proofs.Emission.PassPrograms.{programs-by-passes}
+use Rattle.generate.proofs.Emission.PlainPlaces.{plain-closing, plain-joined-passes, plain-passes, plain-phases, plain-whole}
+use Rattle.generate.proofs.Emission.PlainWorks.{looped-all}
 use Rattle.generate.proofs.Emission.Trees.{layouts_match}
 use Rattle.tree_model.proofs.WholeTrees.{forward_itself}
 
@@ -66,7 +68,8 @@ module _ (c : Request) (t : Breakdown) (valid : IsValid c) (h : IsWholeTree c t)
       let some = can.shares.some in
       let small = can.shares.small in
       layouts_match [] 0 same refl c.modulus (layout_size l) [] [] (whole_site f) l
-      (record { low = omega (arith, size, some); high = omega (arith, size, small) }) can.good.layout refl
+      (record { low = omega (arith, size, some); high = omega (arith, size, small) })
+      can.good.layout (tree_works (forward_of c) t) refl
       (whole-around (layout_size l) f)
 
   some : 0 < layout_size l
@@ -78,11 +81,11 @@ module _ (c : Request) (t : Breakdown) (valid : IsValid c) (h : IsWholeTree c t)
       (shaped_passes (IsShapedWork c.modulus) c.modulus (layout_size l) [] [] l tt can.good.layout
       (shaped_works c.modulus l can.good.layout) refl)
       (shaped_passes IsNodeWork c.modulus (layout_size l) [] [] l tt can.good.layout
-      (node_works c.modulus l can.good.layout) refl)
+      (tree_works (forward_of c) t) refl)
 
   -- a pass that is the same is the same nest
   nest : (p : PlainPass) (q : Pass) → IsLooped c.modulus (layout_size l) p → IsSame [] 0 same p q →
-      nest_of (loop_of p) ≡ emissions.emitted_nest q
+      nest_of (loop_of p) ≡ emitted_nest q
   nest p q looped is = same-nest c.modulus (layout_size l) p q some looped is
 
   -- the nests of the layout's passes, in one phase
@@ -100,10 +103,10 @@ module _ (c : Request) (t : Breakdown) (valid : IsValid c) (h : IsWholeTree c t)
       ∙ ap emitted (sym (passes_of_layout (forward_of c) (whole_site none) t))
 
   pub with-own : (ds : List ℕ) →
-      on_last (map (multiplying (values ds) (λ es. es))) (nests ps) ≡ emitted (qs (entries (values ds) same))
+      on_last (map (multiplying (sums.values ds) (λ es. es))) (nests ps) ≡ emitted (qs (entries (values ds) same))
   with-own ds =
       factors-passes [] 0 same (λ p. p) (IsLooped c.modulus (layout_size l)) nest (layout_size l)
-      (whole_site (entries (values ds) same)) (λ cs e. refl) (values ds) same (λ es. es) refl
+      (whole_site (entries (values ds) same)) (λ cs e. refl) (sums.values ds) same (λ es. es) (λ counts w own. refl)
       (λ cs stored own es step. maps-same stored own es step) ps _ good (matches (entries (values ds) same))
       ∙ ap emitted (sym (passes_of_layout (forward_of c) (whole_site (entries (values ds) same)) t))
 
@@ -112,7 +115,8 @@ module _ (c : Request) (t : Breakdown) (valid : IsValid c) (h : IsWholeTree c t)
   all-closed (Some v) =
       ap (λ z. z ∷ [])
       (factors-passes [] 0 same (λ p. p) (IsLooped c.modulus (layout_size l)) nest (layout_size l)
-      (whole_site (closing_factors (Some v))) (λ cs e. refl) (repeated v 1) (λ counts k. constant 0) firsts refl
+      (whole_site (closing_factors (Some v))) (λ cs e. refl) (sums.repeated v 1) (λ counts k. constant 0) firsts
+      (λ counts w own. refl)
       (λ cs stored own es step. maps-twice (λ _. constant 0) stored es) ps _ good (matches (closing_factors (Some v)))
       ∙ ap emitted (sym (passes_of_layout (forward_of c) (whole_site (closing_factors (Some v))) t)))
 
@@ -129,6 +133,8 @@ module _ (c : Request) (t : Breakdown) (valid : IsValid c) (h : IsWholeTree c t)
       ∙ ap (λ b. phases-in c
       (map emitted (if b then qs (closing_factors (factor_by c.kind c)) ∷ [] else root_phases (forward_of c)
       (closing_factors (factor_by c.kind c)) t))) (sym (plain-forward c.kind ∙ plain)))
+      ∙ programs-by-passes c (phases_of (forward_of c) (closing_factors (factor_by c.kind c)) t)
+      (plain-phases (forward_of c) (closing_factors (factor_by c.kind c)) t (plain-closing (factor_by c.kind c)))
 
 -- ---- convolutions
 
@@ -150,10 +156,14 @@ conv_emissions r t ls request valid h =
     (closed_passes r t valid h plain
     ∙ ap (λ kind. phases-in r (closed-phases (factor_by kind r) (nests ps ∷ []))) request.kind)
     (closed_passes back t valid' h' plain)
-    ∙ ap₂ (λ xs ys. phases-in r ((on_last (map (multiplying (values ds) (λ es. es))) xs ++ ys) ∷ []))
+    ∙ ap₂ (λ xs ys. phases-in r ((on_last (map (multiplying (sums.values ds) (λ es. es))) xs ++ ys) ∷ []))
     (append-nil (nests ps)) (append-nil (nests qs))
     ∙ ap₂ (λ xs ys. phases-in r ((xs ++ ys) ∷ []))
     (with-own r t valid h plain ds ∙ ap (λ z. emitted (passes z o t)) forward)
     (with-none back t valid' h' plain)
     ∙ ap (λ zs. phases-in r (zs ∷ []))
-    (sym (map-append (λ q. emissions.emitted_nest q ∷ []) (passes r o t) (passes back (whole_site none) t))))
+    (sym (map-append (λ q. emitted_nest q ∷ []) (passes r o t) (passes back (whole_site none) t))))
+    ∙ programs-by-passes r ((passes r o t ++ passes back (whole_site none) t) ∷ [])
+    (plain-joined-passes (passes r o t) (passes back (whole_site none) t)
+    (plain-passes r o t (plain-whole (entries (values ds) same) (λ cs k plain. plain)))
+    (plain-passes back (whole_site none) t (plain-whole none tt)))

@@ -10,23 +10,22 @@ use Rattle.sigma_lower.specs.TreeTerms.Root.{right_path, vectors_grouped}
 use Rattle.sigma_lower.proofs.TreeLoops.RightPlaces.{right_fills, right_wide}
 use Rattle.sigma_lower.proofs.TreeLoops.RootPasses.{tile_after, tile_before, turned_waiting}
 use Rattle.sigma_lower.proofs.TreeLoops.RootShares.{AreShares}
-use Rattle.sigma_lower.proofs.TreeLoops.Shaped.{IsShapedWork, shaped_passes, shaped_works}
+use Rattle.sigma_lower.proofs.TreeLoops.Shaped.{HasWorks, IsShapedWork, shaped_passes, shaped_works}
 use Rattle.sigma_lower.proofs.TreeLoops.TreePasses.{at_last-append, layout_passes}
 use Rattle.sigma_spl.specs.Loops.{nest_of, one_nest}
-use Rattle.sigma_spl.specs.Nest.{twiddles}
 use Rattle.smp_rewrite.specs.LayoutSteps.Layout.{IsGoodLayout, Layout, layout_size}
 use Rattle.operators.specs.TensorPaths.Path.{size_under}
 use Rattle.tree_model.specs.declared.tree.Rule.{Rule}
 use Rattle.tree_model.specs.declared.tree.Rule.TheVariants.{Ct}
-use Rattle.generate.specs.Emission.Passes.{Pass, Site, entries, moved, none}
+use Rattle.generate.specs.Emission.Passes.{Pass, Site, entries, moved, none, twiddles}
 use Rattle.generate.specs.Emission.Places.{after, same}
 use Rattle.generate.specs.Emission.Root.{across, along, packed, right_root, root_in, tiles, tiles_after, tiles_before}
-use Rattle.generate.specs.Emission.Whole as emission
 use Rattle.generate.proofs.Emission.Layouts.{layout_emitted}
 use Rattle.generate.proofs.Emission.Lists.{AllPasses, same-passes}
 use Rattle.generate.proofs.Emission.Matches.{ArePasses, AreSame, HasDiagonal, IsAround, IsLast, IsSame, at_last-none, last-same}
-use Rattle.generate.proofs.Emission.Nests.{IsLooped, IsNodeWork, emitted, nests, same-nest}
-use Rattle.generate.proofs.Emission.PlainWorks.{looped-all, node_works}
+use Rattle.generate.proofs.Emission.Nested.{emitted, emitted_nest}
+use Rattle.generate.proofs.Emission.Nests.{IsLooped, IsNodeWork, nests, same-nest}
+use Rattle.generate.proofs.Emission.PlainWorks.{looped-all}
 use Rattle.generate.proofs.Emission.Root.{packed-natural, packed_around, turned_around}
 use Rattle.generate.proofs.Emission.Tiles.{emitted-tile, lead-across, lead-along, tile-nest}
 use Rattle.generate.proofs.Emission.Trees.{layouts_match}
@@ -35,7 +34,7 @@ pub nests-append : (ps qs : List PlainPass) → nests (ps ++ qs) ≡ nests ps ++
 nests-append ps qs = map-append (λ p. one_nest (loop_of p)) ps qs
 
 pub emitted-append : (ps qs : List Pass) → emitted (ps ++ qs) ≡ emitted ps ++ emitted qs
-emitted-append ps qs = map-append (λ q. emission.emitted_nest q ∷ []) ps qs
+emitted-append ps qs = map-append (λ q. emitted_nest q ∷ []) ps qs
 
 looped-last : (m size : ℕ) (f : PlainPass → PlainPass) →
     ((p : PlainPass) → IsLooped m size p → IsLooped m size (f p)) → (ps : List PlainPass) →
@@ -49,7 +48,7 @@ looped-multiplied : (m size r s root : ℕ) (p : PlainPass) → IsLooped m size 
 looped-multiplied m size r s root p h = record { wide = h.wide; fills = h.fills; work = h.work; node = h.node }
 
 module _ (c : Request) (r s root : ℕ) (h : AreShares c.size c.procs c.lanes r s) (b : Layout)
-    (good : IsGoodLayout c.modulus b) (is : layout_size b ≡ s) where
+    (good : IsGoodLayout c.modulus b) (works : HasWorks IsNodeWork b) (is : layout_size b ≡ s) where
   abbrev p : ℕ
   p = c.procs
 
@@ -79,7 +78,7 @@ module _ (c : Request) (r s root : ℕ) (h : AreShares c.size c.procs c.lanes r 
     matches : ArePasses [] 0 same (right_path p v r) s o ps qs
     matches =
         subst (λ n. ArePasses [] 0 same (right_path p v r) n o ps qs) is
-        (layouts_match [] 0 same refl m c.size (right_path p v r) waiting o b h.whole good fills
+        (layouts_match [] 0 same refl m c.size (right_path p v r) waiting o b h.whole good works fills
         (subst (λ n. IsAround [] 0 same (right_path p v r) waiting n o) (sym is) around))
 
     all : AllPasses (IsLooped m c.size) ps
@@ -88,10 +87,10 @@ module _ (c : Request) (r s root : ℕ) (h : AreShares c.size c.procs c.lanes r 
         (shaped_passes (IsShapedWork m) m c.size (right_path p v r) waiting b (right_wide c.size p v r s h) good
         (shaped_works m b good) fills)
         (shaped_passes IsNodeWork m c.size (right_path p v r) waiting b (right_wide c.size p v r s h) good
-        (node_works m b good) fills)
+        works fills)
 
     nest : (z : PlainPass) (q : Pass) → IsLooped m c.size z → IsSame [] 0 same z q →
-        nest_of (loop_of z) ≡ emission.emitted_nest q
+        nest_of (loop_of z) ≡ emitted_nest q
     nest z q looped equal = same-nest m c.size z q low looped equal
 
     -- the last pass stores at natural places
@@ -135,19 +134,19 @@ module _ (c : Request) (r s root : ℕ) (h : AreShares c.size c.procs c.lanes r 
   -- ---- tiles
 
   before : nest_of (loop_of (tile_before p v r s))
-      ≡ emission.emitted_nest (emitted-tile c r s h (across c r s) none (along c r s))
+      ≡ emitted_nest (emitted-tile c r s h (across c r s) none (along c r s))
   before =
       tile-nest c r s h (vectors_grouped (s / v * v) p v r s ∷ []) [] (across c r s) (along c r s)
       (lead-across c r s h (s / v * v) refl) (lead-along c r s h) None none refl
 
   behind : nest_of (loop_of (tile_after p v r s))
-      ≡ emission.emitted_nest (emitted-tile c r s h (along c r s) none (across c r s))
+      ≡ emitted_nest (emitted-tile c r s h (along c r s) none (across c r s))
   behind =
       tile-nest c r s h [] (vectors_grouped (v * (s / v)) p v r s ∷ []) (along c r s) (across c r s)
       (lead-along c r s h) (lead-across c r s h (v * (s / v)) (mul_comm v (s / v))) None none refl
 
   twiddled-behind : nest_of (loop_of (multiplied [] r s root (tile_after p v r s)))
-      ≡ emission.emitted_nest (emitted-tile c r s h (along c r s) (entries (twiddles r s root) (across c r s))
+      ≡ emitted_nest (emitted-tile c r s h (along c r s) (entries (twiddles r s root) (across c r s))
       (across c r s))
   twiddled-behind =
       tile-nest c r s h [] (vectors_grouped (v * (s / v)) p v r s ∷ []) (along c r s) (across c r s)

@@ -21,7 +21,7 @@ use Rattle.sigma_lower.proofs.TreeLoops.PlaceLimits.{ArePlaced, whole_placed}
 use Rattle.sigma_lower.proofs.TreeLoops.RootMerging.{root_merged}
 use Rattle.sigma_lower.proofs.TreeLoops.RootPasses.{left_pass, left_passes, pass_phases, root_passes}
 use Rattle.sigma_lower.proofs.TreeLoops.RootShares.{AreShares, rows_size, shares_of}
-use Rattle.sigma_lower.proofs.TreeLoops.Shaped.{AreShaped, IsShapedWork, shaped_passes, shaped_works}
+use Rattle.sigma_lower.proofs.TreeLoops.Shaped.{AreShaped, HasWorks, IsShapedWork, shaped_passes, shaped_works}
 use Rattle.sigma_lower.proofs.TreeLoops.TreePasses.{IsFull, full_passes, layout_passes}
 use Rattle.sigma_spl.specs.Loops.{one_nest}
 use Rattle.sigma_spl.specs.Nest.{PlainNest, repeated}
@@ -39,15 +39,17 @@ use Rattle.tree_model.specs.declared.tree.Rule.{Rule}
 use Rattle.tree_model.specs.declared.tree.Rule.TheVariants.{Gt, Ct, Split, Dim}
 use Rattle.generate.specs.Emission.Passes.{Factors, Pass, none, passes}
 use Rattle.generate.specs.Emission.Root.{left_root, right_root, root_phases, strided, tiles_after, tiles_before}
-use Rattle.generate.specs.Emission.Whole.{closing_factors, emission, whole_site}
+use Rattle.generate.specs.Emission.Whole.{closing_factors, emission, phases_of, whole_site}
 use Rattle.generate.specs.Letters.{program_for}
 use Rattle.generate.proofs.Emission.Closed.{closed-phases, closed_tree, closing, firsts, phases-in}
-use Rattle.generate.proofs.Emission.Layouts.{layout_emitted, passes_of_layout}
+use Rattle.generate.proofs.Emission.Layouts.{layout_emitted, passes_of_layout, tree_works}
 use Rattle.generate.proofs.Emission.Left.{IsPart, left_nest}
 use Rattle.generate.proofs.Emission.Lists.{AllPasses, factors-passes, free-passes, nests_as}
 use Rattle.generate.proofs.Emission.Matches.{ArePasses, IsAround}
-use Rattle.generate.proofs.Emission.Nests.{IsNodeWork, emitted, maps-twice, multiplying, nests}
-use Rattle.generate.proofs.Emission.PlainWorks.{node_works}
+use Rattle.generate.proofs.Emission.Nested.{emitted}
+use Rattle.generate.proofs.Emission.Nests.{IsNodeWork, maps-twice, multiplying, nests}
+use Rattle.generate.proofs.Emission.PassPrograms.{programs-by-passes}
+use Rattle.generate.proofs.Emission.PlainPlaces.{plain-closing, plain-phases}
 use Rattle.generate.proofs.Emission.Right.{ct_right, emitted-append, nests-append, none-either, split_right}
 use Rattle.generate.proofs.Emission.Root.{left_around}
 use Rattle.generate.proofs.Emission.Trees.{layouts_match}
@@ -59,7 +61,7 @@ maps-passes g (p ∷ ps) = ap (λ zs. one_nest (loop_of (g p)) ∷ zs) (maps-pas
 -- ---- the left part
 
 module _ (c : Request) (r s : ℕ) (h : AreShares c.size c.procs c.lanes r s) (a : Layout)
-    (good : IsGoodLayout c.modulus a) (is : layout_size a ≡ r) where
+    (good : IsGoodLayout c.modulus a) (works : HasWorks IsNodeWork a) (is : layout_size a ≡ r) where
   parts : (ps : List PlainPass) → ArePlaced r [] r ps → AreShaped (IsShapedWork c.modulus) r ps →
       AreShaped IsNodeWork r ps → AllPasses (IsPart c r s h c.modulus) ps
   parts [] placed shapes works = tt
@@ -76,7 +78,7 @@ module _ (c : Request) (r s : ℕ) (h : AreShares c.size c.procs c.lanes r s) (a
   all =
       parts alone (subst (λ n. ArePlaced n [] n alone) is (whole_placed c.modulus a size_here good))
       (shaped_passes (IsShapedWork c.modulus) c.modulus r [] [] a tt good (shaped_works c.modulus a good) is)
-      (shaped_passes IsNodeWork c.modulus r [] [] a tt good (node_works c.modulus a good) is)
+      (shaped_passes IsNodeWork c.modulus r [] [] a tt good works is)
 
   abbrev outer : List ℕ
   outer = map count_of (left_path c.procs c.lanes s)
@@ -93,7 +95,8 @@ module _ (c : Request) (r s : ℕ) (h : AreShares c.size c.procs c.lanes r s) (a
   matches : (f : Factors) → ArePasses outer d (strided c s) [] r (left_root c s f) alone (qs f)
   matches f =
       subst (λ n. ArePasses outer d (strided c s) [] n (left_root c s f) alone (qs f)) is
-      (layouts_match outer d (strided c s) long c.modulus (layout_size a) [] [] (left_root c s f) a size_here good refl
+      (layouts_match outer d (strided c s) long c.modulus (layout_size a) [] [] (left_root c s f) a size_here good works
+      refl
       (subst (λ n. IsAround outer d (strided c s) [] [] n (left_root c s f)) (sym is) (left_around c r s h f)))
 
   abbrev lefts : List PlainPass
@@ -110,7 +113,7 @@ module _ (c : Request) (r s : ℕ) (h : AreShares c.size c.procs c.lanes r s) (a
       ∙ factors-passes outer d (strided c s) (left_pass c.procs c.lanes r s) (IsPart c r s h c.modulus)
       (λ z q part is. left_nest c r s h c.modulus z part q is) r (left_root c s (closing_factors (Some v)))
       (λ cs e. refl)
-      (repeated v 1) (λ counts k. constant 0) firsts refl
+      (repeated v 1) (λ counts k. constant 0) firsts (λ counts w own. refl)
       (λ cs stored own es step. maps-twice (λ _. constant 0) stored es) alone (qs (closing_factors (Some v))) all
       (matches (closing_factors (Some v)))
 
@@ -179,12 +182,12 @@ root_emitted c factors (by rule root a b) =
 module _ (c : Request) (o : Option ℕ) where
   both : (rule : Rule) (root : ℕ) (a b : Layout) (right : List PlainPass) (first : List Pass) →
       AreShares c.size c.procs c.lanes (layout_size a) (layout_size b) → IsGoodLayout c.modulus a →
-      nests right ≡ emitted first →
+      HasWorks IsNodeWork a → nests right ≡ emitted first →
       closed-phases o (map nests (pass_phases c.procs right (left_passes c.procs c.lanes (layout_size b) a)))
       ≡ map emitted (if c.procs == 1 then
       (first ++ layout_emitted (left_root c (layout_size b) (closing_factors o)) a) ∷ [] else first ∷ layout_emitted
       (left_root c (layout_size b) (closing_factors o)) a ∷ [])
-  both rule root a b right first dealt good is =
+  both rule root a b right first dealt good works is =
       let r = layout_size a in
       let s = layout_size b in
       let left = left_passes c.procs c.lanes s a in
@@ -192,29 +195,30 @@ module _ (c : Request) (o : Option ℕ) where
       ap (closed-phases o) (nests-phases one right left)
       ∙ closed-parts one o (nests right) (nests left)
       (some-nests left (some-map (left_pass c.procs c.lanes r s) (layout_passes [] [] a) (full_passes [] [] a)))
-      ∙ ap₂ (phases-of one) is (left-closed c r s dealt a good refl o)
+      ∙ ap₂ (phases-of one) is (left-closed c r s dealt a good works refl o)
       ∙ sym (emitted-phases one first (layout_emitted (left_root c s (closing_factors o)) a))
 
-  root-closed : (l : Layout) → CanShareLayout (target_of c) l → IsGoodLayout c.modulus l →
+  root-closed : (l : Layout) → CanShareLayout (target_of c) l → IsGoodLayout c.modulus l → HasWorks IsNodeWork l →
       is_alone (target_of c) ≡ false →
       closed-phases o (map nests (root_passes (target_of c) l)) ≡ map emitted (root_emitted c (closing_factors o) l)
-  root-closed (work w) can good shared = absurd (can.root shared)
-  root-closed (by Gt root a b) can good shared = absurd (can.root shared)
-  root-closed (by Ct root a b) can good shared =
+  root-closed (work w) can good works shared = absurd (can.root shared)
+  root-closed (by Gt root a b) can good works shared = absurd (can.root shared)
+  root-closed (by Ct root a b) can good works shared =
       let dealt = shares_of (target_of c) (by Ct root a b) (layout_size a) (layout_size b) can
       (can.root shared) good.0.left good.0.right can.size in
-      both Ct root a b _ _ dealt good.1 (ct_right c (layout_size a) (layout_size b) root dealt b good.2 refl)
-  root-closed (by Split root a b) can good shared =
+      both Ct root a b _ _ dealt good.1 works.0
+      (ct_right c (layout_size a) (layout_size b) root dealt b good.2 works.1 refl)
+  root-closed (by Split root a b) can good works shared =
       let dealt = shares_of (target_of c) (by Split root a b) (layout_size a) (layout_size b) can
       (can.root shared) good.0.left good.0.right can.size in
-      both Split root a b _ _ dealt good.1
-      (split_right c (layout_size a) (layout_size b) root dealt b good.2 refl Split (λ cs e. refl)
+      both Split root a b _ _ dealt good.1 works.0
+      (split_right c (layout_size a) (layout_size b) root dealt b good.2 works.1 refl Split (λ cs e. refl)
       (none-either (c.lanes == 1)))
-  root-closed (by Dim root a b) can good shared =
+  root-closed (by Dim root a b) can good works shared =
       let dealt = shares_of (target_of c) (by Dim root a b) (layout_size a) (layout_size b) can
       (can.root shared) good.0.left good.0.right can.size in
-      both Dim root a b _ _ dealt good.1
-      (split_right c (layout_size a) (layout_size b) root dealt b good.2 refl Dim (λ cs e. refl)
+      both Dim root a b _ _ dealt good.1 works.0
+      (split_right c (layout_size a) (layout_size b) root dealt b good.2 works.1 refl Dim (λ cs e. refl)
       (none-either (c.lanes == 1)))
 
 -- ---- trees
@@ -311,9 +315,12 @@ module _ (c : Request) (t : Breakdown) (valid : IsValid c) (tree : IsWholeTree c
       ∙ ap (λ qs. phases-in c (closed-phases (factor_by c.kind c) (map nests qs)))
       (root_merged (target_of c) l can.shares can.good.layout shared)
       ∙ ap (phases-in c)
-      (root-closed c (factor_by c.kind c) l can.shares can.good.layout shared
+      (root-closed c (factor_by c.kind c) l can.shares can.good.layout
+      (tree_works (forward_of c) t) shared
       ∙ ap (map emitted) (sym (root-forward c factors l c.kind))
       ∙ sym (emitted-tree (forward_of c) factors t forward_size forward_shared))
       ∙ ap (λ b. phases-in c
       (map emitted (if b then passes (forward_of c) (whole_site factors) t ∷ [] else root_phases
       (forward_of c) factors t))) (sym forward_shared))
+      ∙ programs-by-passes c (phases_of (forward_of c) factors t)
+      (plain-phases (forward_of c) factors t (plain-closing (factor_by c.kind c)))

@@ -21,14 +21,14 @@ use Rattle.sigma_lower.proofs.TreeLoops.RootShares.{AreShares, tiles_fill, tiles
 use Rattle.sigma_lower.proofs.TreeLoops.TilePlaces.{tile_wide}
 use Rattle.sigma_lower.proofs.TreeLoops.WithinPlaces.{natural-copies}
 use Rattle.sigma_spl.specs.Loops.{nest_of}
-use Rattle.sigma_spl.specs.Nest.{twiddles}
-use Rattle.sigma_spl.specs.Work.{tile}
+use Rattle.sigma_spl.specs.Nest as nests
+use Rattle.sigma_spl.specs.Work as works
 use Rattle.operators.specs.declared.tensor_paths.Tensor.TheVariants.{Blocks}
 use Rattle.operators.specs.TensorPaths.Path.{Path, count_of, size_under}
-use Rattle.generate.specs.Emission.Passes.{Factors, Pass, entries, none}
+use Rattle.generate.specs.Emission.Passes.{Factors, Pass, entries, none, tile, twiddles}
 use Rattle.generate.specs.Emission.Places.{PlaceFunction, inside, turn_of}
 use Rattle.generate.specs.Emission.Root.{across, along, processor_loops, shared, tile_turns}
-use Rattle.generate.specs.Emission.Whole as emission
+use Rattle.generate.proofs.Emission.Nested.{bounds, emitted_nest, nest_at}
 use Rattle.generate.proofs.Emission.Root.{rows-each}
 use Rattle.generate.proofs.Emission.RootPlaces.{insides-are, natural-turns, spread-out, turns-are}
 
@@ -173,7 +173,7 @@ module _ (c : Request) (r s : ℕ) (h : AreShares c.size c.procs c.lanes r s) wh
 
   abbrev pub tile-pass : List Mapping → Option PlainDiagonal → List Mapping → PlainPass
   tile-pass befores diagonal afters =
-      record { path = tile_path p v r s; work = tile v; befores = befores; diagonal = diagonal; afters = afters }
+      record { path = tile_path p v r s; work = works.tile v; befores = befores; diagonal = diagonal; afters = afters }
 
   abbrev pub emitted-tile : PlaceFunction → Factors → PlaceFunction → Pass
   emitted-tile load factors store =
@@ -203,7 +203,7 @@ module _ (c : Request) (r s : ℕ) (h : AreShares c.size c.procs c.lanes r s) wh
     loops = map count_of (tile_path p v r s)
 
     abbrev cs : ℕ → ℕ
-    cs = emission.limits (record { counts = loops; work = tile v; load = load; factors = none; store = store })
+    cs = bounds loops (works.tile v)
 
     counts : AreCounts (tile_path p v r s) (v * v) 0 cs
     counts = counts-from (tile_path p v r s) (v * v) 0 cs (v * v ∷ v * v ∷ []) (tile_wide c.size p v r s h)
@@ -221,28 +221,31 @@ module _ (c : Request) (r s : ℕ) (h : AreShares c.size c.procs c.lanes r s) wh
     ending fs f lead cs k low counts = all_simplified-append cs fs Same _ ∙ lead cs k low counts
 
     pub tile-nest : (x : Option PlainDiagonal) (factors : Factors) → AreTileFactors x factors afters store →
-        nest_of (loop_of (tile-pass befores x afters)) ≡ emission.emitted_nest (emitted-tile load factors store)
+        nest_of (loop_of (tile-pass befores x afters)) ≡ emitted_nest (emitted-tile load factors store)
     tile-nest x factors is = by x is
-        ∙ ap (λ ls. emission.emitted_nest
-        (record { counts = ls; work = tile v; load = load; factors = factors; store = store })) (sym tile-counts)
+        ∙ ap (λ ls. nest_at ls (works.tile v) load factors store) (sym tile-counts)
       where
         by : (x : Option PlainDiagonal) → AreTileFactors x factors afters store →
             nest_of (loop_of (tile-pass befores x afters))
-            ≡ emission.emitted_nest (record
-            { counts = loops; work = tile v; load = load; factors = factors; store = store })
+            ≡ nest_at loops (works.tile v) load factors store
         by None is =
-            ap₂ (λ gs ss. record { counts = loops; work = tile v; gathers = gs; multiplier = None; scatters = ss })
+            ap₂ (λ gs ss. record {
+              counts = loops;
+              work = works.tile v;
+              gathers = gs;
+              multiplier = None;
+              scatters = ss;
+            })
             (placed-by befores load into) (placed-by afters store out)
-            ∙ ap (λ f. emission.emitted_nest
-            (record { counts = loops; work = tile v; load = load; factors = f; store = store })) (sym is)
+            ∙ ap (λ f. nest_at loops (works.tile v) load f store) (sym is)
         by (Some x) is =
             ap (λ d. nest_of (loop_of (tile-pass befores (Some d) afters))) is.1
             ∙ ap₂ (λ gs ss. record {
               counts = loops;
-              work = tile v;
+              work = works.tile v;
               gathers = gs;
               multiplier = Some (record {
-                factors = twiddles r s is.0;
+                factors = nests.twiddles r s is.0;
                 places = map (all_simplified cs (afters ++ Same ∷ []))
                     (map (place_sum (tile_path p v r s) (v * v) 0) (map (λ k. constant (k * v)) (range_with_len 0 v)));
               });
@@ -250,11 +253,10 @@ module _ (c : Request) (r s : ℕ) (h : AreShares c.size c.procs c.lanes r s) wh
             }) (placed-by befores load into) (placed-by afters store out)
             ∙ ap (λ ps. record {
               counts = loops;
-              work = tile v;
+              work = works.tile v;
               gathers = map (load cs) (map constant (range_with_len 0 v));
-              multiplier = Some (record { factors = twiddles r s is.0; places = ps });
+              multiplier = Some (record { factors = nests.twiddles r s is.0; places = ps });
               scatters = map (store cs) (map constant (range_with_len 0 v));
             })
             (placed-by (afters ++ Same ∷ []) store (ending afters store out))
-            ∙ ap (λ f. emission.emitted_nest
-            (record { counts = loops; work = tile v; load = load; factors = f; store = store })) (sym is.2)
+            ∙ ap (λ f. nest_at loops (works.tile v) load f store) (sym is.2)

@@ -11,6 +11,7 @@ use Rattle.sigma_lower.specs.TreeTerms.Wrapped.{inner_of, unit_of, wrapped}
 use Rattle.sigma_lower.proofs.TreeLoops.InnerPlaces.{inner-place}
 use Rattle.sigma_lower.proofs.TreeLoops.PartRules.{IsSize, IsRuleIn, rule_in}
 use Rattle.sigma_lower.proofs.TreeLoops.PlaceSums.{tensor_sum, place_sum-push, counts-push, all_simplified-append}
+use Rattle.sigma_lower.proofs.TreeLoops.Shaped.{HasWorks}
 use Rattle.sigma_lower.proofs.TreeLoops.TreePasses.{rule_waiting, rule_passes, layout_passes}
 use Rattle.sigma_spl.specs.Work.{PlainWork, work_size}
 use Rattle.smp_rewrite.specs.LayoutSteps.Layout.{Layout, work, by, layout_size, IsGoodLayout}
@@ -20,10 +21,12 @@ use Rattle.operators.specs.TensorPaths.Path.{Path, count_of, size_under}
 use Rattle.operators.proofs.TensorPaths.Under.{size_under-push}
 use Rattle.tree_model.specs.declared.tree.Rule.{Rule}
 use Rattle.tree_model.specs.declared.tree.Rule.TheVariants.{Gt, Ct, Split, Dim}
-use Rattle.generate.specs.Emission.Passes.{Factors, Pass, Site, entries, left_site, moved, none, pass_at, right_site}
+use Rattle.generate.specs.Emission.Passes.{Factors, Pass, Site, entries, left_site, moved, none, number, pass_at, right_site}
 use Rattle.generate.specs.Emission.Places.{PlaceFunction, after, blocks, columns, inside, left_out, right_in, same, turn_of}
-use Rattle.generate.proofs.Emission.Layouts.{layout_emitted}
+use Rattle.generate.proofs.Emission.Layouts.{layout_emitted, named, named-plain}
 use Rattle.generate.proofs.Emission.Matches.{Always, ArePasses, AreSame, IsAround, IsLast, IsSame, HasDiagonal, at_last-none, last-other, last-same, natural, passes-append}
+use Rattle.generate.proofs.Emission.Nested.{plain_work}
+use Rattle.generate.proofs.Emission.Nests.{IsNodeWork}
 use Rattle.generate.proofs.Emission.Steps.{at-tensor, loaded_by, stored_back}
 
 -- ---- loops of two turns or more
@@ -39,10 +42,12 @@ turn-several counts n two = ap (λ b. if b then constant 0 else variable 1 (leng
 
 moved-same : (f : Factors) → moved f same ≡ f
 moved-same none = refl
+moved-same (number v) = refl
 moved-same (entries diagonal place) = refl
 
 pub moved-moved : (f : Factors) (g h : PlaceFunction) → moved (moved f g) h ≡ moved f (after g h)
 moved-moved none g h = refl
+moved-moved (number v) g h = refl
 moved-moved (entries diagonal place) g h = refl
 
 module _ (outer : List ℕ) (d : ℕ) (whole : PlaceFunction) (long : length outer ≡ d) where
@@ -257,10 +262,10 @@ module _ (outer : List ℕ) (d : ℕ) (whole : PlaceFunction) (long : length out
       (λ p q. left_last size Dim path r s waiting o p q (λ i cs e. refl) h around) left lefts l))
 
   one-pass : (path : Path) (waiting : List Mapping) (o : Site) (w : PlainWork) →
-      IsAround outer d whole path waiting (work_size w) o →
-      IsLast outer d whole path (work_size w) o (new_pass path w waiting) (pass_at o w)
-  one-pass path waiting o w around = record {
-    begun = record { counts = around.counts; work = refl; load = around.load };
+      plain_work (named w) ≡ w → IsAround outer d whole path waiting (work_size w) o →
+      IsLast outer d whole path (work_size w) o (new_pass path w waiting) (pass_at o (named w))
+  one-pass path waiting o w is around = record {
+    begun = record { counts = around.counts; work = is; load = around.load };
     free = refl;
     own = same;
     counts = λ cs counts. counts;
@@ -271,17 +276,18 @@ module _ (outer : List ℕ) (d : ℕ) (whole : PlaceFunction) (long : length out
   }
 
   pub layouts_match : (m size : ℕ) (path : Path) (waiting : List Mapping) (o : Site) (l : Layout) → IsSize size →
-      IsGoodLayout m l → size_under path (layout_size l) ≡ size →
+      IsGoodLayout m l → HasWorks IsNodeWork l → size_under path (layout_size l) ≡ size →
       IsAround outer d whole path waiting (layout_size l) o →
       ArePasses outer d whole path (layout_size l) o (layout_passes path waiting l) (layout_emitted o l)
-  layouts_match m size path waiting o (work w) low h e around = one-pass path waiting o w around
-  layouts_match m size path waiting o (by rule root a b) low h e around =
+  layouts_match m size path waiting o (work w) low h works e around =
+      one-pass path waiting o w (named-plain w works) around
+  layouts_match m size path waiting o (by rule root a b) low h works e around =
       let r = layout_size a in
       let s = layout_size b in
       let here = rule_in m size rule root path a b low h e in
       by_rule size rule path r s root waiting o _ _ _ _ here around
-      (layouts_match m size (path ++ Columns s ∷ []) [] (left_site rule r s o) a low h.1
+      (layouts_match m size (path ++ Columns s ∷ []) [] (left_site rule r s o) a low h.1 works.0
       (size_under-push path (Columns s) r ∙ e) (left_around size rule path r s waiting o here around))
       (layouts_match m size (path ++ Blocks r ∷ []) (rule_waiting rule path r s waiting)
-      (right_site rule r s root o) b low h.2 (size_under-push path (Blocks r) s ∙ e)
+      (right_site rule r s root o) b low h.2 works.1 (size_under-push path (Blocks r) s ∙ e)
       (right_around size rule path r s root waiting o here around))

@@ -1,25 +1,66 @@
 -- The passes of a node of a tree.
 use Rattle.std.specs.Prelude.{ℕ, ◌*◌, if◌then◌else◌, List, [], ◌∷◌, ◌++◌}
+use Rattle.matrix_meaning.specs.declared.Kind.{Kind}
+use Rattle.matrix_meaning.specs.declared.Kind.TheVariants.{Dft}
 use Rattle.matrix_meaning.specs.declared.Request.{Request}
-use Rattle.sigma_spl.specs.Nest.{PlainFactors, twiddles}
-use Rattle.sigma_spl.specs.Work.{PlainWork}
-use Rattle.smp_rewrite.specs.LayoutSteps.Layout.{node_work}
 use Rattle.tree_model.specs.Breakdown.{Breakdown, leaf, node, size_of}
 use Rattle.tree_model.specs.Cost.{is_kernel, node_root}
-use Rattle.tree_model.specs.Whole.{left_of, right_of}
+use Rattle.tree_model.specs.Trees.{trees_size}
+use Rattle.tree_model.specs.Whole.{left_of, right_of, rooted_of}
 use Rattle.tree_model.specs.declared.tree.Rule.{Rule}
-use Rattle.tree_model.specs.declared.tree.Rule.TheVariants.{Gt, Ct, Split, Dim}
+use Rattle.tree_model.specs.declared.tree.Rule.TheVariants.{Ct}
 use Rattle.generate.specs.Emission.Places.{PlaceFunction, after, blocks, columns, inside, left_out, right_in, turn_of}
 
--- by what each word is multiplied before it is stored: by nothing, or by the entry of a diagonal at this place
+-- ---- what passes do
+
+-- a short node at once, a longer leaf row by row, or a tile
+pub data Work : Type 0 where
+  kernel : (request : Request) (tree : Breakdown) → Work
+  rows : (root size : ℕ) → Work
+  tile : (lanes : ℕ) → Work
+
+abbrev pub work_size : Work → ℕ
+work_size (kernel c t) = trees_size (rooted_of c t)
+work_size (rows root size) = size
+work_size (tile lanes) = lanes * lanes
+
+-- by rows if its transform has powers of a root
+abbrev pub long_work : Request → Kind → Breakdown → Work
+long_work c Dft t = rows (node_root c (size_of t)) (size_of t)
+long_work c kind t = kernel c t
+
+abbrev pub node_work : Request → Breakdown → Work
+node_work c t = if is_kernel c (size_of t) then kernel c t else long_work c c.kind t
+
+-- ---- what they multiply by
+
+-- the values of a list, or the twiddles of a ct of r*s places
+pub data Diagonal : Type 0 where
+  values : (entries : List ℕ) → Diagonal
+  twiddles : (r s root : ℕ) → Diagonal
+
+-- by what each word is multiplied before it is stored: nothing, one number, or the entry of a diagonal at this place
 pub data Factors : Type 0 where
   none : Factors
-  entries : (diagonal : PlainFactors) (place : PlaceFunction) → Factors
+  number : (value : ℕ) → Factors
+  entries : (diagonal : Diagonal) (place : PlaceFunction) → Factors
+
+-- the factors, where a part's own places stand at these
+abbrev pub moved : Factors → PlaceFunction → Factors
+moved (entries diagonal place) f = entries diagonal (after place f)
+moved factors f = factors
+
+-- a ct multiplies by its twiddles what its right part stores
+abbrev pub twiddled : Rule → ℕ → ℕ → ℕ → PlaceFunction → Factors
+twiddled Ct r s root place = entries (twiddles r s root) place
+twiddled rule r s root place = none
+
+-- ---- passes
 
 -- a pass inside of loops: its work, and where it loads and stores the work's own places
 pub record Pass : Type 0 where
   pub counts : List ℕ
-  pub work : PlainWork
+  pub work : Work
   pub load : PlaceFunction
   pub factors : Factors
   pub store : PlaceFunction
@@ -33,44 +74,25 @@ pub record Site : Type 0 where
   pub factors : Factors
   pub store : PlaceFunction
 
-abbrev pub pass_at : Site → PlainWork → Pass
+abbrev pub pass_at : Site → Work → Pass
 pass_at o w = record { counts = o.counts; work = w; load = o.load; factors = o.factors; store = o.store }
-
--- the factors, where a part's own places stand at these
-abbrev pub moved : Factors → PlaceFunction → Factors
-moved none f = none
-moved (entries diagonal place) f = entries diagonal (after place f)
-
--- a ct multiplies by its twiddles what its right part stores
-abbrev pub twiddled : Rule → ℕ → ℕ → ℕ → PlaceFunction → Factors
-twiddled Gt r s root place = none
-twiddled Ct r s root place = entries (twiddles r s root) place
-twiddled Split r s root place = none
-twiddled Dim r s root place = none
 
 -- the right part's turns
 abbrev pub right_site : Rule → ℕ → ℕ → ℕ → Site → Site
 right_site rule r s root o =
     let i = turn_of o.counts r in
-    record {
-      counts = inside o.counts r;
-      load = after o.load (right_in rule r s i);
-      keep = after o.keep (blocks s i);
-      factors = twiddled rule r s root (blocks s i);
-      store = after o.keep (blocks s i);
-    }
+    let load = after o.load (right_in rule r s i) in
+    let keep = after o.keep (blocks s i) in
+    let factors = twiddled rule r s root (blocks s i) in
+    record { counts = inside o.counts r; load = load; keep = keep; factors = factors; store = keep }
 
 -- the left part's turns
 abbrev pub left_site : Rule → ℕ → ℕ → Site → Site
 left_site rule r s o =
-    let j = turn_of o.counts s in
-    record {
-      counts = inside o.counts s;
-      load = after o.keep (columns s j);
-      keep = after o.keep (columns s j);
-      factors = moved o.factors (left_out rule r s j);
-      store = after o.store (left_out rule r s j);
-    }
+    let out = left_out rule r s (turn_of o.counts s) in
+    let keep = after o.keep (columns s (turn_of o.counts s)) in
+    let factors = moved o.factors out in
+    record { counts = inside o.counts s; load = keep; keep = keep; factors = factors; store = after o.store out }
 
 -- one of a kernel or a leaf; else those of the right part, and then those of the left part
 abbrev pub passes : Request → Site → Breakdown → List Pass

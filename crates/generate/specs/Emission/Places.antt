@@ -3,7 +3,7 @@ use Rattle.std.specs.Prelude.{ℕ, ◌*◌, ◌==◌, if◌then◌else◌, List,
 use Rattle.perm_algebra.specs.Affine.{Sum, constant, variable, scaled, joined, reduced}
 use Rattle.sigma_lower.specs.TreeTerms.Wrapped.{unit_of}
 use Rattle.tree_model.specs.declared.tree.Rule.{Rule}
-use Rattle.tree_model.specs.declared.tree.Rule.TheVariants.{Gt, Ct, Split, Dim}
+use Rattle.tree_model.specs.declared.tree.Rule.TheVariants.{Gt, Ct}
 
 -- ---- loops, as their counts from the outside in
 
@@ -42,12 +42,9 @@ columns s j counts k = joined (scaled s k) j
 abbrev pub right_in : Rule → ℕ → ℕ → Sum → PlaceFunction
 right_in Gt r s i counts k = reduced counts (r * s) (joined (scaled s i) (scaled r k))
 right_in Ct r s i counts k = joined (scaled r k) i
-right_in Split r s i counts k = joined (scaled s i) k
-right_in Dim r s i counts k = joined (scaled s i) k
+right_in rule r s i counts k = joined (scaled s i) k
 
 -- where the left part's turn j stores its place k; the unit of r and s is 1 modulo r and 0 modulo s
 abbrev pub left_out : Rule → ℕ → ℕ → Sum → PlaceFunction
 left_out Gt r s j counts k = reduced counts (r * s) (joined (scaled (unit_of r s) k) (scaled (unit_of s r) j))
-left_out Ct r s j counts k = joined (scaled s k) j
-left_out Split r s j counts k = joined (scaled s k) j
-left_out Dim r s j counts k = joined (scaled s k) j
+left_out rule r s j counts k = joined (scaled s k) j

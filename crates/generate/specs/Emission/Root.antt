@@ -2,13 +2,12 @@
 use Rattle.std.specs.Prelude.{ℕ, ◌*◌, ◌/◌, ◌==◌, if◌then◌else◌, List, [], ◌∷◌, ◌++◌}
 use Rattle.matrix_meaning.specs.declared.Request.{Request}
 use Rattle.perm_algebra.specs.Affine.{Sum, scaled, joined}
-use Rattle.sigma_spl.specs.Work.{tile}
 use Rattle.tree_model.specs.Breakdown.{Breakdown, leaf, node, size_of}
 use Rattle.tree_model.specs.Cost.{node_root}
 use Rattle.tree_model.specs.Whole.{left_of, right_of}
 use Rattle.tree_model.specs.declared.tree.Rule.{Rule}
-use Rattle.tree_model.specs.declared.tree.Rule.TheVariants.{Gt, Ct, Split, Dim}
-use Rattle.generate.specs.Emission.Passes.{Factors, Pass, Site, moved, none, passes, twiddled}
+use Rattle.tree_model.specs.declared.tree.Rule.TheVariants.{Ct}
+use Rattle.generate.specs.Emission.Passes.{Factors, Pass, Site, moved, none, passes, tile, twiddled}
 use Rattle.generate.specs.Emission.Places.{PlaceFunction, inside, turn_of}
 
 -- ---- processors and lanes are the outermost loops
@@ -38,20 +37,16 @@ packed c r s =
 
 -- a ct's loads by strides; the others' after tiles
 abbrev pub root_in : Rule → Request → ℕ → ℕ → PlaceFunction
-root_in Gt c r s = packed c r s
 root_in Ct c r s = λ counts k. joined (scaled r k) (turn_in_lanes c r)
-root_in Split c r s = packed c r s
-root_in Dim c r s = packed c r s
+root_in rule c r s = packed c r s
 
 -- with lanes the twiddles come with the tiles
 abbrev pub right_root : Rule → Request → ℕ → ℕ → ℕ → Site
-right_root rule c r s root = record {
-  counts = inside (lane_loops c) (r / c.lanes / c.procs);
-  load = root_in rule c r s;
-  keep = packed c r s;
-  factors = if c.lanes == 1 then twiddled rule r s root (packed c r s) else none;
-  store = packed c r s;
-}
+right_root rule c r s root =
+    let counts = inside (lane_loops c) (r / c.lanes / c.procs) in
+    let keep = packed c r s in
+    let factors = if c.lanes == 1 then twiddled rule r s root keep else none in
+    record { counts = counts; load = root_in rule c r s; keep = keep; factors = factors; store = keep }
 
 -- ---- the left part: k*s + j*v + lane
 
@@ -59,13 +54,10 @@ abbrev pub strided : Request → ℕ → PlaceFunction
 strided c s = λ counts k. joined (scaled s k) (turn_in_lanes c s)
 
 abbrev pub left_root : Request → ℕ → Factors → Site
-left_root c s factors = record {
-  counts = inside (lane_loops c) (s / c.lanes / c.procs);
-  load = strided c s;
-  keep = strided c s;
-  factors = moved factors (strided c s);
-  store = strided c s;
-}
+left_root c s factors =
+    let counts = inside (lane_loops c) (s / c.lanes / c.procs) in
+    let at = strided c s in
+    record { counts = counts; load = at; keep = at; factors = moved factors at; store = at }
 
 -- ---- tiles: vectors along the right part's turns, and across them
 
@@ -88,22 +80,14 @@ across c r s =
 
 abbrev pub tiles : Request → ℕ → ℕ → PlaceFunction → Factors → PlaceFunction → List Pass
 tiles c r s load factors store =
+    let counts = inside (tile_turns c r) (s / c.lanes) in
     if c.lanes == 1 then []
-    else
-    record {
-      counts = inside (tile_turns c r) (s / c.lanes);
-      work = tile c.lanes;
-      load = load;
-      factors = factors;
-      store = store;
-    } ∷ []
+    else record { counts = counts; work = tile c.lanes; load = load; factors = factors; store = store } ∷ []
 
 -- a ct takes its columns without tiles
 abbrev pub tiles_before : Rule → Request → ℕ → ℕ → List Pass
-tiles_before Gt c r s = []
 tiles_before Ct c r s = []
-tiles_before Split c r s = tiles c r s (across c r s) none (along c r s)
-tiles_before Dim c r s = tiles c r s (across c r s) none (along c r s)
+tiles_before rule c r s = tiles c r s (across c r s) none (along c r s)
 
 abbrev pub tiles_after : Rule → Request → ℕ → ℕ → ℕ → List Pass
 tiles_after rule c r s root = tiles c r s (along c r s) (twiddled rule r s root (across c r s)) (across c r s)

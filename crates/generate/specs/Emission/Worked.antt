@@ -1,6 +1,6 @@
 -- Programs by the rules of emission, written out: the texts of the specification, and one for each other rule.
 use Rattle.std.specs.Prelude.{◌≡◌, ℕ, List, [], ◌∷◌}
-use Rattle.icode.specs.Plain.{PlainBody, PlainExpr, PlainPart, PlainProgram, PlainStmt, NoStmts, AndStmts, Loop, Do, Load, Store, Zero, Add, Sub, MulConst, MulTable, Tile, Sum, Proc, Var, Product, Rem, parts_of}
+use Rattle.icode.specs.Plain.{PlainExpr, PlainPart, PlainProgram, Loop, Do, Load, Store, Zero, Add, Sub, MulConst, MulTable, Tile, Sum, Proc, Var, Product, Rem, body_of, parts_of}
 use Rattle.icode.specs.declared.program.Array.TheVariants.{X, Y, A, B}
 use Rattle.matrix_meaning.specs.declared.Dimension.{Dimension}
 use Rattle.matrix_meaning.specs.declared.Dimensions.TheVariants.{One, Two}
@@ -10,10 +10,6 @@ use Rattle.matrix_meaning.specs.declared.Request.{Request}
 use Rattle.tree_model.specs.Breakdown.{leaf, node}
 use Rattle.tree_model.specs.declared.tree.Rule.TheVariants.{Gt, Ct, Split, Dim}
 use Rattle.generate.specs.Emission.Whole.{emission}
-
-abbrev pub body : List PlainStmt → PlainBody
-body [] = NoStmts
-body (s ∷ ss) = AndStmts s (body ss)
 
 abbrev pub at : ℕ → List PlainPart → PlainExpr
 at c parts = Sum c (parts_of parts)
@@ -44,7 +40,7 @@ two = record {
   lanes = 1;
   regs = 5;
   tables = [];
-  phases = body (
+  phases = body_of (
       Do (Load 0 X (at 0 []))
       ∷ Do (Load 1 X (at 1 []))
       ∷ Do (Add 2 0 1)
@@ -66,7 +62,7 @@ four = record {
   lanes = 1;
   regs = 13;
   tables = [];
-  phases = body (
+  phases = body_of (
       Do (Load 0 X (at 0 []))
       ∷ Do (Load 1 X (at 1 []))
       ∷ Do (Load 2 X (at 2 []))
@@ -98,7 +94,7 @@ four_on_processors = record {
   lanes = 1;
   regs = 6;
   tables = (1 ∷ 1 ∷ 1 ∷ 4 ∷ []) ∷ [];
-  phases = body (
+  phases = body_of (
       Do (Load 0 X (at 0 (Proc 1 ∷ [])))
       ∷ Do (Load 1 X (at 2 (Proc 1 ∷ [])))
       ∷ Do (Add 2 0 1)
@@ -108,7 +104,7 @@ four_on_processors = record {
       ∷ Do (MulTable 5 3 0 (at 1 (Proc 2 ∷ [])) 0)
       ∷ Do (Store A (at 1 (Proc 2 ∷ [])) 5)
       ∷ [])
-      ∷ body (
+      ∷ body_of (
       Do (Load 0 A (at 0 (Proc 1 ∷ [])))
       ∷ Do (Load 1 A (at 2 (Proc 1 ∷ [])))
       ∷ Do (Add 2 0 1)
@@ -129,7 +125,7 @@ four_in_lanes = record {
   lanes = 2;
   regs = 4;
   tables = [];
-  phases = body (
+  phases = body_of (
       Do (Load 0 X (at 0 []))
       ∷ Do (Load 1 X (at 2 []))
       ∷ Do (Tile 2 0)
@@ -166,8 +162,8 @@ six_by_coprime = record {
   lanes = 1;
   regs = 13;
   tables = [];
-  phases = body (
-      Loop 2 (body (
+  phases = body_of (
+      Loop 2 (body_of (
       Do (Load 0 X (at 0 (Var 0 3 ∷ [])))
       ∷ Do (Load 1 X (at 2 (Var 0 3 ∷ [])))
       ∷ Do (Load 2 X (at 0 (Rem (at 4 (Var 0 3 ∷ [])) 6 1 ∷ [])))
@@ -185,7 +181,7 @@ six_by_coprime = record {
       ∷ Do (Store A (at 1 (Var 0 3 ∷ [])) 8)
       ∷ Do (Store A (at 2 (Var 0 3 ∷ [])) 12)
       ∷ []))
-      ∷ Loop 3 (body (
+      ∷ Loop 3 (body_of (
       Do (Load 0 A (at 0 (Var 0 1 ∷ [])))
       ∷ Do (Load 1 A (at 3 (Var 0 1 ∷ [])))
       ∷ Do (Add 2 0 1)
@@ -207,10 +203,10 @@ three_by_rows = record {
   lanes = 1;
   regs = 4;
   tables = (1 ∷ 4 ∷ 2 ∷ []) ∷ [];
-  phases = body (
-      Loop 3 (body (
+  phases = body_of (
+      Loop 3 (body_of (
       Do (Zero 0)
-      ∷ Loop 3 (body (
+      ∷ Loop 3 (body_of (
       Do (Load 1 X (at 0 (Var 1 1 ∷ [])))
       ∷ Do (MulTable 2 1 0 (at 0 (Rem (at 0 (Product 0 1 1 ∷ [])) 3 1 ∷ [])) 0)
       ∷ Do (Add 0 0 2)
@@ -232,8 +228,8 @@ two_by_two = record {
   lanes = 1;
   regs = 4;
   tables = [];
-  phases = body (
-      Loop 2 (body (
+  phases = body_of (
+      Loop 2 (body_of (
       Do (Load 0 X (at 0 (Var 0 2 ∷ [])))
       ∷ Do (Load 1 X (at 1 (Var 0 2 ∷ [])))
       ∷ Do (Add 2 0 1)
@@ -241,7 +237,7 @@ two_by_two = record {
       ∷ Do (Store A (at 0 (Var 0 2 ∷ [])) 2)
       ∷ Do (Store A (at 1 (Var 0 2 ∷ [])) 3)
       ∷ []))
-      ∷ Loop 2 (body (
+      ∷ Loop 2 (body_of (
       Do (Load 0 A (at 0 (Var 0 1 ∷ [])))
       ∷ Do (Load 1 A (at 2 (Var 0 1 ∷ [])))
       ∷ Do (Add 2 0 1)

@@ -1,0 +1,52 @@
+-- Passes by the rules of emission as nests, of which the generator makes a program.
+use Rattle.std.proofs.Common.{ℕ, ◌+◌, List, [], ◌∷◌, ◌++◌, length, Option, Some, None}
+use Rattle.std.specs.Prelude.{map, slice_index, if◌then◌else◌}
+use Rattle.std.specs.List.{range_with_len}
+use Rattle.perm_algebra.specs.Affine.{Sum, constant, variable}
+use Rattle.sigma_spl.specs.Nest as nests
+use Rattle.sigma_spl.specs.Nest.{PlainFactors, PlainMultiplier, PlainNest}
+use Rattle.sigma_spl.specs.Work as works
+use Rattle.sigma_spl.specs.Work.{PlainWork, is_straight, vectors_of}
+use Rattle.generate.specs.Emission.Passes.{Diagonal, Factors, Pass, Work, entries, kernel, none, number, rows, tile, twiddles, values}
+use Rattle.generate.specs.Emission.Places.{PlaceFunction}
+
+abbrev pub plain_work : Work → PlainWork
+plain_work (kernel c t) = works.kernel (works.node_of c t)
+plain_work (rows root size) = works.rows root size
+plain_work (tile v) = works.tile v
+
+abbrev pub plain_factors : Diagonal → PlainFactors
+plain_factors (values table) = nests.values table
+plain_factors (twiddles r s root) = nests.twiddles r s root
+
+-- Kernels and tiles name what they load and store one by one. A longer leaf has a loop over what it stores, and in it
+-- one over what it loads
+abbrev pub each : PlainWork → ℕ → List Sum
+each work d =
+    if is_straight work then map constant (range_with_len 0 (vectors_of work))
+    else variable 1 d (constant 0) ∷ []
+
+abbrev pub bounds : List ℕ → PlainWork → ℕ → ℕ
+bounds counts w = slice_index (counts ++ works.work_size w ∷ works.work_size w ∷ [])
+
+abbrev pub multiplier_at : List ℕ → PlainWork → Factors → Option PlainMultiplier
+multiplier_at counts w none = None
+multiplier_at counts w (number v) =
+    Some (record { factors = nests.repeated v 1; places = map (λ k. constant 0) (each w (length counts)) })
+multiplier_at counts w (entries diagonal place) =
+    Some (record { factors = plain_factors diagonal; places = map (place (bounds counts w)) (each w (length counts)) })
+
+abbrev pub nest_at : List ℕ → PlainWork → PlaceFunction → Factors → PlaceFunction → PlainNest
+nest_at counts w load factors store = record {
+  counts = counts;
+  work = w;
+  gathers = map (load (bounds counts w)) (each w (length counts + 1));
+  multiplier = multiplier_at counts w factors;
+  scatters = map (store (bounds counts w)) (each w (length counts));
+}
+
+abbrev pub emitted_nest : Pass → PlainNest
+emitted_nest p = nest_at p.counts (plain_work p.work) p.load p.factors p.store
+
+abbrev pub emitted : List Pass → List (List PlainNest)
+emitted ps = map (λ p. emitted_nest p ∷ []) ps

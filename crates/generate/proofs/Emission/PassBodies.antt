@@ -1,0 +1,317 @@
+-- The code of a pass by the rules of emission is that of its nest.
+use Rattle.std.proofs.Common.{◌≡◌, ℕ, zero, suc, ◌+◌, ◌-◌, ◌<◌, refl, sym, ap, ap₂, ◌∙◌, List, [], ◌∷◌, ◌++◌, length, arith, append-nil, Option}
+use Rattle.std.specs.Prelude.{map, drop, slice_index, slice_index_or}
+use Rattle.std.specs.List.{flat_map, range_with_len}
+use Rattle.std.proofs.lemmas.Grind.{flat_map-append}
+use Rattle.std.proofs.lemmas.List.FromFn.{get_or-map-range_with_len, map-range_with_len_more}
+use Rattle.code_gen.specs.PassCode.Expressions.{expr_of}
+use Rattle.code_gen.specs.PassCode.Statements.{do_only, finish_body, followed_by, in_a_row, loads_body, multiplier_number, nest_body, nested, pass_body, place_at, powers_number, straight_body, table_number, term_body, tables_of_work, work_body}
+use Rattle.icode.specs.Plain as code
+use Rattle.icode.specs.Plain.{PlainBody, PlainStmt, AndStmts, Do, Load, Loop, MulConst, MulTable, NoStmts, Store, Tile, Zero, body_of}
+use Rattle.kernel_gen.specs.Instructions.{op_of}
+use Rattle.kernel_gen.specs.Kernel.{trees_kernel}
+use Rattle.kernel_gen.specs.declared.straight.Instruction.{Instruction}
+use Rattle.operators.specs.declared.target.Target.{Target}
+use Rattle.perm_algebra.specs.Affine.{HasNoQuotient, Sum, constant, variable}
+use Rattle.sigma_spl.specs.Nest.{PlainMultiplier, PlainNest}
+use Rattle.sigma_spl.specs.Work as works
+use Rattle.sigma_spl.specs.Shared.Machine.{PlainFrame, frame_of, loop_counts}
+use Rattle.sigma_spl.specs.Shared.Targets.{target_of}
+use Rattle.tree_model.specs.Trees.{trees_size}
+use Rattle.tree_model.specs.Whole.{rooted_of}
+use Rattle.generate.specs.Emission.Bodies as emission
+use Rattle.generate.specs.Emission.Bodies.{Setting, by_rows, finish, in_loops, load, loops, pass_code, place, powers_of, store, straight, table_of}
+use Rattle.generate.specs.Emission.Passes.{Diagonal, Factors, Pass, Work, entries, kernel, none, number, rows, tile, twiddles, values, work_size}
+use Rattle.generate.specs.Emission.Places.{PlaceFunction}
+use Rattle.generate.proofs.Emission.Expressions.{expression-is, unwritten-is}
+use Rattle.generate.proofs.Emission.Nested.{bounds, each, emitted_nest, multiplier_at, plain_work}
+
+-- ---- lists of statements
+
+pub body-append : (xs ys : List PlainStmt) → body_of (xs ++ ys) ≡ followed_by (body_of xs) (body_of ys)
+body-append [] ys = refl
+body-append (x ∷ xs) ys = ap (AndStmts x) (body-append xs ys)
+
+pub followed-end : (xs : PlainBody) → followed_by xs NoStmts ≡ xs
+followed-end NoStmts = refl
+followed-end (AndStmts x xs) = ap (AndStmts x) (followed-end xs)
+
+range-more : (n : ℕ) → range_with_len 0 (suc n) ≡ range_with_len 0 n ++ n ∷ []
+range-more n =
+    ap (range_with_len 0) (let next : suc n ≡ n + 1 = omega arith in next)
+    ∙ sym (ids (range_with_len 0 (n + 1)))
+    ∙ map-range_with_len_more (λ k. k) 0 n n (omega arith)
+    ∙ ap (λ ks. ks ++ n ∷ []) (ids (range_with_len 0 n))
+  where
+    ids : (ks : List ℕ) → map (λ k. k) ks ≡ ks
+    ids [] = refl
+    ids (k ∷ ks) = ap (λ rest. k ∷ rest) (ids ks)
+
+pub in-a-row : (n : ℕ) (f : ℕ → PlainBody) (g : ℕ → List PlainStmt) → ((k : ℕ) → k < n → f k ≡ body_of (g k)) →
+    in_a_row n f ≡ body_of (flat_map g (range_with_len 0 n))
+in-a-row zero f g same = refl
+in-a-row (suc n) f g same =
+    ap₂ followed_by (in-a-row n f g (λ k low. same k (omega (arith, low)))) (same n (omega arith))
+    ∙ sym (body-append (flat_map g (range_with_len 0 n)) (g n))
+    ∙ ap (λ xs. body_of (flat_map g (range_with_len 0 n) ++ xs)) (sym (append-nil (g n)))
+    ∙ ap body_of (sym (flat_map-append g (range_with_len 0 n) (n ∷ [])))
+    ∙ ap (λ ks. body_of (flat_map g ks)) (sym (range-more n))
+
+singles : (g : ℕ → PlainStmt) (ks : List ℕ) → flat_map (λ k. g k ∷ []) ks ≡ map g ks
+singles g [] = refl
+singles g (k ∷ ks) = ap (λ rest. g k ∷ rest) (singles g ks)
+
+pub straight-is : (code : List Instruction) → straight_body code ≡ body_of (map (λ i. Do (op_of i)) code)
+straight-is [] = refl
+straight-is (i ∷ code) = ap (AndStmts (Do (op_of i))) (straight-is code)
+
+pub nested-is : (counts : List ℕ) (stmts : List PlainStmt) →
+    nested counts (body_of stmts) ≡ body_of (in_loops counts stmts)
+nested-is [] stmts = refl
+nested-is (n ∷ counts) stmts = ap (λ inner. AndStmts (Loop n inner) NoStmts) (nested-is counts stmts)
+
+-- the item number k of those that straight code names
+named : (f : Sum → Sum) (n a k : ℕ) → k < n →
+    slice_index_or (map f (map constant (range_with_len a n))) k (constant 0) ≡ f (constant (a + k))
+named f n a k low =
+    ap (λ es. slice_index_or es k (constant 0)) (twice (range_with_len a n))
+    ∙ get_or-map-range_with_len (λ i. f (constant i)) a n k (a + k) (constant 0) low refl
+  where
+    twice : (ks : List ℕ) → map f (map constant ks) ≡ map (λ i. f (constant i)) ks
+    twice [] = refl
+    twice (i ∷ ks) = ap (λ rest. f (constant i) ∷ rest) (twice ks)
+
+-- ---- the places of a pass
+
+abbrev pub KeepsPlain : PlaceFunction → Type 0
+KeepsPlain f = (cs : ℕ → ℕ) (k : Sum) → HasNoQuotient k → HasNoQuotient (f cs k)
+
+abbrev pub ArePlainFactors : Factors → Type 0
+ArePlainFactors none = Unit {0}
+ArePlainFactors (number v) = Unit {0}
+ArePlainFactors (entries diagonal f) = KeepsPlain f
+
+-- no place has a quotient
+pub record IsPlainPass (p : Pass) : Type 0 where
+  pub load : KeepsPlain p.load
+  pub factors : ArePlainFactors p.factors
+  pub store : KeepsPlain p.store
+
+module _ (o : Setting) where
+  abbrev h : Target
+  h = target_of o.request
+
+  abbrev w : works.PlainWork
+  w = plain_work o.pass.work
+
+  abbrev z : PlainNest
+  z = emitted_nest o.pass
+
+  abbrev frame : PlainFrame
+  frame = frame_of h w
+
+  abbrev cs : ℕ → ℕ
+  cs = bounds o.pass.counts w
+
+  -- the numbers of the tables, as they are where the pass stands
+  abbrev pub FindsPowers : Work → ℕ → Type 0
+  FindsPowers (rows root size) powers = powers ≡ table_number o.tables (powers_of o.request.modulus root size)
+  FindsPowers v powers = Unit {0}
+
+  abbrev pub FindsEntries : Factors → ℕ → Type 0
+  FindsEntries (entries diagonal f) table = table ≡ table_number o.tables (table_of o.request.modulus diagonal)
+  FindsEntries factors table = Unit {0}
+
+  sizes : (v : Work) → works.work_size (plain_work v) ≡ work_size v
+  sizes (kernel c t) = refl
+  sizes (rows root size) = refl
+  sizes (tile v) = refl
+
+  limits-are : cs ≡ emission.limits o.pass
+  limits-are = ap (λ n. slice_index (o.pass.counts ++ n ∷ n ∷ [])) (sizes o.pass.work)
+
+  -- an expression of a sum that a place function gives
+  at-place : (inner : ℕ) (f : PlaceFunction) (k : Sum) → KeepsPlain f → HasNoQuotient k →
+      expr_of frame (length (loops o) + inner) (f cs k) ≡ place o inner f k
+  at-place inner f k keeps plain =
+      expression-is o (length (loops o) + inner) (f cs k) (keeps cs k plain)
+      ∙ ap (λ b. emission.expression o (length (loops o) + inner) (f b k)) limits-are
+
+  abbrev pub Stores : List Sum → ℕ → ℕ → Sum → Type 0
+  Stores sums i inner k = slice_index_or sums i (constant 0) ≡ o.pass.store cs k
+
+  -- the same, of an item that a list of places has
+  from-list : (sums : List Sum) (i inner : ℕ) (f : PlaceFunction) (k : Sum) → KeepsPlain f → HasNoQuotient k →
+      slice_index_or sums i (constant 0) ≡ f cs k →
+      place_at frame (length (loops o) + inner) sums i ≡ place o inner f k
+  from-list sums i inner f k keeps plain is =
+      ap (expr_of frame (length (loops o) + inner)) is ∙ at-place inner f k keeps plain
+
+  -- ---- a store with its factor, of the item number i of these, which stands at the place k
+
+  module _ (plain : IsPlainPass o.pass) (inner i : ℕ) (k : Sum) (none' : HasNoQuotient k) (scatters : List Sum)
+      (stored : slice_index_or scatters i (constant 0) ≡ o.pass.store cs k) where
+    put : (r : ℕ) →
+        do_only (Store o.target (place_at frame (length (loops o) + inner) scatters i) r)
+        ≡ body_of (store o inner k r ∷ [])
+    put r = ap (λ e. do_only (Store o.target e r)) (from-list scatters i inner o.pass.store k plain.store none' stored)
+
+    finish-is : (factors : Factors) (x : Option PlainMultiplier) (table from free : ℕ) → ArePlainFactors factors →
+        FindsEntries factors table → x ≡ multiplier_at o.pass.counts w factors →
+        ((f : PlaceFunction) → slice_index_or (map (f cs) (each w (length o.pass.counts))) i (constant 0) ≡ f cs k) →
+        finish_body frame (emission.step_of o.pass.work) x scatters (length (loops o) + inner) table o.target i from
+        free
+        ≡ body_of (finish o inner factors k from free)
+    finish-is none x table from free keeps finds is item =
+        ap (λ y. finish_body frame (emission.step_of o.pass.work) y scatters (length (loops o) + inner) table o.target
+        i from free) is
+        ∙ put from
+    finish-is (number v) x table from free keeps finds is item =
+        ap (λ y. finish_body frame (emission.step_of o.pass.work) y scatters (length (loops o) + inner) table o.target
+        i from free) is
+        ∙ ap (AndStmts (Do (MulConst free from v))) (put free)
+    finish-is (entries diagonal f) x table from free keeps finds is item =
+        ap (λ y. finish_body frame (emission.step_of o.pass.work) y scatters (length (loops o) + inner) table o.target
+        i from free) is
+        ∙ by-diagonal diagonal finds
+      where
+        turns : Diagonal → PlainStmt
+        turns x =
+            Do (MulTable free from (table_number o.tables (table_of o.request.modulus x)) (place o inner f k)
+            (emission.step_of o.pass.work))
+
+        product : (x : Diagonal) → FindsEntries (entries x f) table →
+            AndStmts
+            (Do (MulTable free from table
+            (place_at frame (length (loops o) + inner) (map (f cs) (each w (length o.pass.counts))) i)
+            (emission.step_of o.pass.work)))
+            (do_only (Store o.target (place_at frame (length (loops o) + inner) scatters i) free))
+            ≡ AndStmts (turns x) (body_of (store o inner k free ∷ []))
+        product x finds =
+            ap₂ (λ n e. AndStmts (Do (MulTable free from n e (emission.step_of o.pass.work)))
+            (do_only (Store o.target (place_at frame (length (loops o) + inner) scatters i) free))) finds
+            (from-list (map (f cs) (each w (length o.pass.counts))) i inner f k keeps none' (item f))
+            ∙ ap (AndStmts (turns x)) (put free)
+
+        by-diagonal : (x : Diagonal) → FindsEntries (entries x f) table →
+            finish_body frame (emission.step_of o.pass.work) (multiplier_at o.pass.counts w (entries x f)) scatters
+            (length (loops o) + inner) table o.target i from free
+            ≡ body_of (finish o inner (entries x f) k from free)
+        by-diagonal (values table') finds = product (values table') finds
+        by-diagonal (twiddles r s root) finds = product (twiddles r s root) finds
+
+  -- ---- the work
+
+  module _ (plain : IsPlainPass o.pass) (table : ℕ) (finds : FindsEntries o.pass.factors table) where
+    open-loops : length (loops o) ≡ length (loops o) + 0
+    open-loops = omega arith
+
+    straight-work : (n : ℕ) → ((d : ℕ) → each w d ≡ map constant (range_with_len 0 n)) → (step : ℕ) →
+        step ≡ emission.step_of o.pass.work → (stmts : List PlainStmt) (outs : ℕ → ℕ) (next : ℕ) →
+        followed_by (loads_body frame z (length (loops o)) n o.source)
+        (followed_by (body_of stmts)
+        (in_a_row n (λ k. finish_body frame step z.multiplier z.scatters (length (loops o)) table o.target k (outs k)
+        (next + k))))
+        ≡ body_of (straight o n stmts outs next)
+    straight-work n names step is stmts outs next =
+        ap₂ followed_by loads-are (ap (followed_by (body_of stmts)) stores-are)
+        ∙ ap (followed_by (body_of loads')) (sym (body-append stmts stores'))
+        ∙ sym (body-append loads' (stmts ++ stores'))
+      where
+        loads' : List PlainStmt
+        loads' = map (λ k. load o 0 k (constant k)) (range_with_len 0 n)
+
+        stores' : List PlainStmt
+        stores' = flat_map (λ k. finish o 0 o.pass.factors (constant k) (outs k) (next + k)) (range_with_len 0 n)
+
+        item : (d k : ℕ) → k < n → (f : PlaceFunction) →
+            slice_index_or (map (f cs) (each w d)) k (constant 0) ≡ f cs (constant k)
+        item d k low f =
+            ap (λ es. slice_index_or (map (f cs) es) k (constant 0)) (names d)
+            ∙ named (f cs) n 0 k low
+            ∙ ap (λ i. f cs (constant i)) (let same : 0 + k ≡ k = omega arith in same)
+
+        loaded : (k : ℕ) → k < n →
+            do_only (Load k o.source (place_at frame (length (loops o)) z.gathers k))
+            ≡ body_of (load o 0 k (constant k) ∷ [])
+        loaded k low =
+            ap (λ d. do_only (Load k o.source (place_at frame d z.gathers k))) open-loops
+            ∙ ap (λ e. do_only (Load k o.source e))
+            (from-list z.gathers k 0 o.pass.load (constant k) plain.load tt
+            (item (length o.pass.counts + 1) k low o.pass.load))
+
+        loads-are : loads_body frame z (length (loops o)) n o.source ≡ body_of loads'
+        loads-are =
+            in-a-row n (λ k. do_only (Load k o.source (place_at frame (length (loops o)) z.gathers k)))
+            (λ k. load o 0 k (constant k) ∷ []) loaded
+            ∙ ap body_of (singles (λ k. load o 0 k (constant k)) (range_with_len 0 n))
+
+        stores-are : in_a_row n (λ k. finish_body frame step z.multiplier z.scatters (length (loops o)) table o.target k
+            (outs k) (next + k)) ≡ body_of stores'
+        stores-are =
+            in-a-row n _ (λ k. finish o 0 o.pass.factors (constant k) (outs k) (next + k))
+            (λ k low. ap₂ (λ s d. finish_body frame s z.multiplier z.scatters d table o.target k (outs k) (next + k))
+            is open-loops
+            ∙ finish-is plain 0 k (constant k) tt z.scatters (item (length o.pass.counts) k low o.pass.store)
+            o.pass.factors z.multiplier table (outs k) (next + k) plain.factors finds refl
+            (item (length o.pass.counts) k low))
+
+    rows-work : (root size powers : ℕ) → o.pass.work ≡ rows root size →
+        powers ≡ table_number o.tables (powers_of o.request.modulus root size) →
+        work_body h z (works.rows root size) (length (loops o)) powers table o.source o.target
+        ≡ body_of (by_rows o (powers_of o.request.modulus root size) size)
+    rows-work root size powers is found =
+        ap₂ (λ input n. AndStmts (Loop size (AndStmts (Do (Zero 0)) (AndStmts
+        (Loop size (term_body input (length (loops o)) o.source n size))
+        (finish_body frame 0 z.multiplier z.scatters (length (loops o) + 1) table o.target 0 0 3)))) NoStmts)
+        (from-list z.gathers 0 2 o.pass.load l plain.load tt (item (length o.pass.counts + 1) o.pass.load)) found
+        ∙ ap (λ end. AndStmts (Loop size (AndStmts (Do (Zero 0)) (AndStmts (Loop size
+        (term_body (place o 2 o.pass.load l) (length (loops o)) o.source
+        (table_number o.tables (powers_of o.request.modulus root size)) size)) end))) NoStmts)
+        (ap (λ s. finish_body frame s z.multiplier z.scatters (length (loops o) + 1) table o.target 0 0 3)
+        (sym (ap emission.step_of is))
+        ∙ finish-is plain 1 0 k tt z.scatters (item (length o.pass.counts) o.pass.store) o.pass.factors z.multiplier
+        table 0 3 plain.factors finds refl (item (length o.pass.counts)))
+      where
+        k : Sum
+        k = variable 1 (length o.pass.counts) (constant 0)
+
+        l : Sum
+        l = variable 1 (length o.pass.counts + 1) (constant 0)
+
+        item : (d : ℕ) (f : PlaceFunction) →
+            slice_index_or (map (f cs) (each w d)) 0 (constant 0) ≡ f cs (variable 1 d (constant 0))
+        item d f = ap (λ v. slice_index_or (map (f cs) (each (plain_work v) d)) 0 (constant 0)) is
+
+    work-is : (v : Work) → o.pass.work ≡ v → (powers : ℕ) → FindsPowers v powers →
+        work_body h z (plain_work v) (length (loops o)) powers table o.source o.target ≡ body_of (emission.body o v)
+    work-is (kernel c t) is powers found =
+        let trees = rooted_of c t in
+        let made = trees_kernel o.request.modulus trees in
+        ap (λ code. followed_by (loads_body frame z (length (loops o)) (trees_size trees) o.source)
+        (followed_by code (in_a_row (trees_size trees) (λ k. finish_body frame 0 z.multiplier z.scatters
+        (length (loops o)) table o.target k (slice_index made.outs k) (made.next + k))))) (straight-is made.code)
+        ∙ straight-work (trees_size trees) (λ d. ap (λ v. each (plain_work v) d) is) 0 (sym (ap emission.step_of is))
+        (map (λ i. Do (op_of i)) made.code) (slice_index made.outs) made.next
+    work-is (rows root size) is powers found = rows-work root size powers is found
+    work-is (tile v) is powers found =
+        straight-work v (λ d. ap (λ x. each (plain_work x) d) is) 1 (sym (ap emission.step_of is)) (Do (Tile v 0) ∷ [])
+        (λ k. v + k) (v + v)
+
+  -- ---- the pass
+
+  loops-are : loop_counts h z ≡ loops o
+  loops-are = ap (λ n. drop n o.pass.counts) (sym (unwritten-is o.request o.pass.work))
+
+  pub pass-is : IsPlainPass o.pass → (tables : List (List ℕ)) →
+      FindsPowers o.pass.work (powers_number o.request.modulus w tables) →
+      FindsEntries o.pass.factors
+      (multiplier_number o.request.modulus z.multiplier (tables_of_work o.request.modulus w tables)) →
+      pass_body h (z ∷ []) tables o.source o.target ≡ body_of (pass_code o)
+  pass-is plain tables powers finds =
+      let table = multiplier_number o.request.modulus z.multiplier (tables_of_work o.request.modulus w tables) in
+      let number' = powers_number o.request.modulus w tables in
+      followed-end (nest_body h z tables o.source o.target)
+      ∙ ap (λ counts. nested counts (work_body h z w (length counts) number' table o.source o.target)) loops-are
+      ∙ ap (nested (loops o)) (work-is plain table finds o.pass.work refl number' powers)
+      ∙ nested-is (loops o) (emission.body o o.pass.work)

@@ -1,0 +1,254 @@
+-- No place of a pass by the rules of emission has a quotient.
+use Rattle.std.proofs.Common.{ℕ, ◌*◌, ◌/◌, ◌%◌, ◌==◌, Bool, true, false, List, [], ◌∷◌, ◌++◌, nat_lt, Option, Some, None}
+use Rattle.std.specs.Prelude.{if◌then◌else◌}
+use Rattle.matrix_meaning.specs.declared.Request.{Request}
+use Rattle.perm_algebra.proofs.Sizes.{plain-joined, plain-scaled}
+use Rattle.perm_algebra.specs.Affine.{HasNoQuotient, Sum, constant, variable, remainder, quotient, joined, mods, reduced, scaled, top}
+use Rattle.sigma_lower.specs.TreeTerms.Wrapped.{unit_of}
+use Rattle.tree_model.specs.Breakdown.{Breakdown, leaf, node, size_of}
+use Rattle.tree_model.specs.Cost.{is_kernel, is_plain, node_root}
+use Rattle.tree_model.specs.Whole.{left_of, right_of}
+use Rattle.tree_model.specs.declared.tree.Rule.{Rule}
+use Rattle.tree_model.specs.declared.tree.Rule.TheVariants.{Gt, Ct, Split, Dim}
+use Rattle.generate.specs.Emission.Passes.{Factors, Pass, Site, Work, entries, left_site, moved, node_work, none, number, pass_at, passes, right_site, twiddled}
+use Rattle.generate.specs.Emission.Places.{PlaceFunction, after, blocks, columns, left_out, right_in, turn_of}
+use Rattle.generate.specs.Emission.Root.{across, along, lane_loops, lane_of, left_root, packed, processor_loops, right_root, root_in, root_phases, shared, strided, tile_turns, tiles, tiles_after, tiles_before, turn_in_lanes}
+use Rattle.generate.specs.Emission.Whole.{closing_factors, phases_of, whole_site}
+use Rattle.generate.proofs.Emission.PassBodies.{ArePlainFactors, KeepsPlain}
+use Rattle.generate.proofs.Emission.PassPrograms.{ArePlain, ArePlainPhases}
+
+-- ---- sums
+
+either : (b : Bool) (x y : Sum) → HasNoQuotient x → HasNoQuotient y → HasNoQuotient (if b then x else y)
+either true x y h k = h
+either false x y h k = k
+
+plain-mods : (n : ℕ) (e : Sum) → HasNoQuotient e → HasNoQuotient (mods n e)
+plain-mods n (constant c) h = tt
+plain-mods n (variable f d rest) h =
+    either (f % n == 0) (mods n rest) (variable (f % n) d (mods n rest)) (plain-mods n rest h) (plain-mods n rest h)
+plain-mods n (remainder f of m rest) h =
+    either (f % n == 0) (mods n rest) (remainder (f % n) of m (mods n rest)) (plain-mods n rest h.1)
+    (h.0, plain-mods n rest h.1)
+plain-mods n (quotient f of m rest) h = absurd h
+
+plain-reduced : (cs : ℕ → ℕ) (n : ℕ) (e : Sum) → HasNoQuotient e → HasNoQuotient (reduced cs n e)
+plain-reduced cs n e h =
+    either (nat_lt (top (mods n e) cs) n) (mods n e) (remainder 1 (mods n e) n (constant 0)) (plain-mods n e h)
+    (plain-mods n e h, tt)
+
+plain-turn : (counts : List ℕ) (n : ℕ) → HasNoQuotient (turn_of counts n)
+plain-turn counts n = either (n == 1) (constant 0) _ tt tt
+
+both : (a b : ℕ) (x y : Sum) → HasNoQuotient x → HasNoQuotient y → HasNoQuotient (joined (scaled a x) (scaled b y))
+both a b x y h k = plain-joined (scaled a x) (scaled b y) (plain-scaled a x h) (plain-scaled b y k)
+
+one : (a : ℕ) (x y : Sum) → HasNoQuotient x → HasNoQuotient y → HasNoQuotient (joined (scaled a x) y)
+one a x y h k = plain-joined (scaled a x) y (plain-scaled a x h) k
+
+-- ---- rules
+
+keeps-in : (rule : Rule) (r s : ℕ) (i : Sum) → HasNoQuotient i → KeepsPlain (right_in rule r s i)
+keeps-in Gt r s i h cs k p = plain-reduced cs (r * s) (joined (scaled s i) (scaled r k)) (both s r i k h p)
+keeps-in Ct r s i h cs k p = one r k i p h
+keeps-in Split r s i h cs k p = one s i k h p
+keeps-in Dim r s i h cs k p = one s i k h p
+
+keeps-out : (rule : Rule) (r s : ℕ) (j : Sum) → HasNoQuotient j → KeepsPlain (left_out rule r s j)
+keeps-out Gt r s j h cs k p =
+    plain-reduced cs (r * s) (joined (scaled (unit_of r s) k) (scaled (unit_of s r) j))
+    (both (unit_of r s) (unit_of s r) k j p h)
+keeps-out Ct r s j h cs k p = one s k j p h
+keeps-out Split r s j h cs k p = one s k j p h
+keeps-out Dim r s j h cs k p = one s k j p h
+
+plain-moved : (f : Factors) (g : PlaceFunction) → ArePlainFactors f → KeepsPlain g → ArePlainFactors (moved f g)
+plain-moved none g h k = tt
+plain-moved (number v) g h k = tt
+plain-moved (entries diagonal f) g h k = λ cs e p. h cs (g cs e) (k cs e p)
+
+plain-twiddled : (rule : Rule) (r s root : ℕ) (f : PlaceFunction) → KeepsPlain f →
+    ArePlainFactors (twiddled rule r s root f)
+plain-twiddled Gt r s root f h = tt
+plain-twiddled Ct r s root f h = h
+plain-twiddled Split r s root f h = tt
+plain-twiddled Dim r s root f h = tt
+
+pub record IsPlainSite (o : Site) : Type 0 where
+  pub load : KeepsPlain o.load
+  pub keep : KeepsPlain o.keep
+  pub factors : ArePlainFactors o.factors
+  pub store : KeepsPlain o.store
+
+right-plain : (rule : Rule) (r s root : ℕ) (o : Site) → IsPlainSite o → IsPlainSite (right_site rule r s root o)
+right-plain rule r s root o h =
+    let i = turn_of o.counts r in
+    let here : KeepsPlain (blocks s i) = λ cs k p. one s i k (plain-turn o.counts r) p in
+    let keeps : KeepsPlain (after o.keep (blocks s i)) = λ cs k p. h.keep cs (blocks s i cs k) (here cs k p) in
+    record {
+      load = λ cs k p. h.load cs (right_in rule r s i cs k) (keeps-in rule r s i (plain-turn o.counts r) cs k p);
+      keep = keeps;
+      factors = plain-twiddled rule r s root (blocks s i) here;
+      store = keeps;
+    }
+
+left-plain : (rule : Rule) (r s : ℕ) (o : Site) → IsPlainSite o → IsPlainSite (left_site rule r s o)
+left-plain rule r s o h =
+    let j = turn_of o.counts s in
+    let keeps : KeepsPlain (after o.keep (columns s j)) =
+    λ cs k p. h.keep cs (columns s j cs k) (one s k j p (plain-turn o.counts s)) in
+    let out = keeps-out rule r s j (plain-turn o.counts s) in
+    record {
+      load = keeps;
+      keep = keeps;
+      factors = plain-moved o.factors (left_out rule r s j) h.factors out;
+      store = λ cs k p. h.store cs (left_out rule r s j cs k) (out cs k p);
+    }
+
+-- ---- passes
+
+plain-append : (ps qs : List Pass) → ArePlain ps → ArePlain qs → ArePlain (ps ++ qs)
+plain-append [] qs h k = k
+plain-append (p ∷ ps) qs h k = (h.0, plain-append ps qs h.1 k)
+
+either-passes : (b : Bool) (ps qs : List Pass) → ArePlain ps → ArePlain qs → ArePlain (if b then ps else qs)
+either-passes true ps qs h k = h
+either-passes false ps qs h k = k
+
+at-site : (o : Site) (w : Work) → IsPlainSite o → ArePlain (pass_at o w ∷ [])
+at-site o w h = (record { load = h.load; factors = h.factors; store = h.store }, tt)
+
+pub plain-passes : (c : Request) (o : Site) (t : Breakdown) → IsPlainSite o → ArePlain (passes c o t)
+plain-passes c o (leaf d) h = at-site o (node_work c (leaf d)) h
+plain-passes c o (node rule a b) h =
+    let r = size_of a in
+    let s = size_of b in
+    let root = node_root c (r * s) in
+    either-passes (is_kernel c (r * s)) (pass_at o (node_work c (node rule a b)) ∷ []) _
+    (at-site o (node_work c (node rule a b)) h)
+    (plain-append (passes (right_of rule c) (right_site rule r s root o) b) _
+    (plain-passes (right_of rule c) (right_site rule r s root o) b (right-plain rule r s root o h))
+    (plain-passes (left_of rule c) (left_site rule r s o) a (left-plain rule r s o h)))
+
+-- ---- the root
+
+module _ (c : Request) where
+  plain-shared : (n : ℕ) (counts : List ℕ) → HasNoQuotient (shared c n counts)
+  plain-shared n counts =
+      one (n / c.procs) (turn_of [] c.procs) _ (plain-turn [] c.procs) (plain-turn counts (n / c.procs))
+
+  plain-lane : HasNoQuotient (lane_of c)
+  plain-lane = plain-turn (processor_loops c) c.lanes
+
+  plain-in-lanes : (n : ℕ) → HasNoQuotient (turn_in_lanes c n)
+  plain-in-lanes n =
+      one c.lanes (shared c (n / c.lanes) (lane_loops c)) (lane_of c)
+      (plain-shared (n / c.lanes) (lane_loops c)) plain-lane
+
+  keeps-packed : (r s : ℕ) → KeepsPlain (packed c r s)
+  keeps-packed r s cs k p =
+      let i = shared c (r / c.lanes) (lane_loops c) in
+      one c.lanes (joined (scaled s i) k) (lane_of c) (one s i k (plain-shared (r / c.lanes) (lane_loops c)) p)
+      plain-lane
+
+  keeps-root : (rule : Rule) (r s : ℕ) → KeepsPlain (root_in rule c r s)
+  keeps-root Gt r s = keeps-packed r s
+  keeps-root Ct r s = λ cs k p. one r k (turn_in_lanes c r) p (plain-in-lanes r)
+  keeps-root Split r s = keeps-packed r s
+  keeps-root Dim r s = keeps-packed r s
+
+  keeps-strided : (s : ℕ) → KeepsPlain (strided c s)
+  keeps-strided s cs k p = one s k (turn_in_lanes c s) p (plain-in-lanes s)
+
+  keeps-along : (r s : ℕ) → KeepsPlain (along c r s)
+  keeps-along r s cs k p =
+      let i = shared c (r / c.lanes) (processor_loops c) in
+      let j = turn_of (tile_turns c r) (s / c.lanes) in
+      plain-scaled c.lanes (joined (scaled s i) (joined (scaled c.lanes j) k))
+      (one s i (joined (scaled c.lanes j) k) (plain-shared (r / c.lanes) (processor_loops c))
+      (one c.lanes j k (plain-turn (tile_turns c r) (s / c.lanes)) p))
+
+  keeps-across : (r s : ℕ) → KeepsPlain (across c r s)
+  keeps-across r s cs k p =
+      let i = shared c (r / c.lanes) (processor_loops c) in
+      let j = turn_of (tile_turns c r) (s / c.lanes) in
+      both s c.lanes (joined (scaled c.lanes i) k) j
+      (one c.lanes i k (plain-shared (r / c.lanes) (processor_loops c)) p) (plain-turn (tile_turns c r) (s / c.lanes))
+
+  either-factors : (b : Bool) (f g : Factors) → ArePlainFactors f → ArePlainFactors g →
+      ArePlainFactors (if b then f else g)
+  either-factors true f g h k = h
+  either-factors false f g h k = k
+
+  plain-right : (rule : Rule) (r s root : ℕ) → IsPlainSite (right_root rule c r s root)
+  plain-right rule r s root = record {
+    load = keeps-root rule r s;
+    keep = keeps-packed r s;
+    factors = either-factors (c.lanes == 1) (twiddled rule r s root (packed c r s)) none
+        (plain-twiddled rule r s root (packed c r s) (keeps-packed r s)) tt;
+    store = keeps-packed r s;
+  }
+
+  plain-left : (s : ℕ) (f : Factors) → ArePlainFactors f → IsPlainSite (left_root c s f)
+  plain-left s f h = record {
+    load = keeps-strided s;
+    keep = keeps-strided s;
+    factors = plain-moved f (strided c s) h (keeps-strided s);
+    store = keeps-strided s;
+  }
+
+  plain-tiles : (r s : ℕ) (load : PlaceFunction) (f : Factors) (store : PlaceFunction) → KeepsPlain load →
+      ArePlainFactors f → KeepsPlain store → ArePlain (tiles c r s load f store)
+  plain-tiles r s load f store h k l =
+      either-passes (c.lanes == 1) [] _ tt (record { load = h; factors = k; store = l }, tt)
+
+  plain-before : (rule : Rule) (r s : ℕ) → ArePlain (tiles_before rule c r s)
+  plain-before Gt r s = plain-tiles r s (across c r s) none (along c r s) (keeps-across r s) tt (keeps-along r s)
+  plain-before Ct r s = tt
+  plain-before Split r s = plain-tiles r s (across c r s) none (along c r s) (keeps-across r s) tt (keeps-along r s)
+  plain-before Dim r s = plain-tiles r s (across c r s) none (along c r s) (keeps-across r s) tt (keeps-along r s)
+
+  plain-root : (factors : Factors) (t : Breakdown) → ArePlainFactors factors →
+      ArePlainPhases (root_phases c factors t)
+  plain-root factors (leaf d) h = tt
+  plain-root factors (node rule a b) h =
+      let r = size_of a in
+      let s = size_of b in
+      let root = node_root c (r * s) in
+      let right = passes (right_of rule c) (right_root rule c r s root) b in
+      let first : ArePlain (tiles_before rule c r s ++ (right ++ tiles_after rule c r s root)) =
+      plain-append (tiles_before rule c r s) (right ++ tiles_after rule c r s root) (plain-before rule r s)
+      (plain-append right (tiles_after rule c r s root)
+      (plain-passes (right_of rule c) (right_root rule c r s root) b (plain-right rule r s root))
+      (plain-tiles r s (along c r s) _ (across c r s) (keeps-along r s)
+      (plain-twiddled rule r s root (across c r s) (keeps-across r s)) (keeps-across r s))) in
+      let second = plain-passes (left_of rule c) (left_root c s factors) a (plain-left s factors h) in
+      phases (c.procs == 1) _ _ first second
+    where
+      phases : (b : Bool) (ps qs : List Pass) → ArePlain ps → ArePlain qs →
+          ArePlainPhases (if b then (ps ++ qs) ∷ [] else ps ∷ qs ∷ [])
+      phases true ps qs h k = (plain-append ps qs h k, tt)
+      phases false ps qs h k = (h, (k, tt))
+
+-- ---- wholes
+
+pub plain-whole : (f : Factors) → ArePlainFactors f → IsPlainSite (whole_site f)
+plain-whole f h = record { load = λ cs k p. p; keep = λ cs k p. p; factors = h; store = λ cs k p. p }
+
+pub plain-closing : (o : Option ℕ) → ArePlainFactors (closing_factors o)
+plain-closing None = tt
+plain-closing (Some v) = tt
+
+pub plain-phases : (c : Request) (f : Factors) (t : Breakdown) → ArePlainFactors f → ArePlainPhases (phases_of c f t)
+plain-phases c f t h =
+    by (is_plain c) (passes c (whole_site f) t) (root_phases c f t) (plain-passes c (whole_site f) t (plain-whole f h))
+    (plain-root c f t h)
+  where
+    by : (b : Bool) (ps : List Pass) (phases : List (List Pass)) → ArePlain ps → ArePlainPhases phases →
+        ArePlainPhases (if b then ps ∷ [] else phases)
+    by true ps phases h k = (h, tt)
+    by false ps phases h k = k
+
+-- the passes of a convolution
+pub plain-joined-passes : (ps qs : List Pass) → ArePlain ps → ArePlain qs → ArePlainPhases ((ps ++ qs) ∷ [])
+plain-joined-passes ps qs h k = (plain-append ps qs h k, tt)
