@@ -100,7 +100,8 @@ module _ (c : Request) (rows : List Row) where
     | inl wanted ↦ elim (nat_cases i (length rows)) [
       | inl inside ↦ row_at d i wanted below inside
       | inr past ↦
-          inr (no_next_row c rows d i wanted (let within : i ≤ length rows = below.within in omega (arith, within, past)) below)
+          let within : i ≤ length rows = below.within in
+          inr (no_next_row c rows d i wanted (omega (arith, within, past)) below)
     ]
   ]
 

@@ -1,5 +1,5 @@
 -- What a tree of one size costs is modest.
-use Rattle.std.proofs.Common.{◌≡◌, ℕ, zero, suc, ◌+◌, ◌-◌, ◌*◌, ◌<◌, ◌≤◌, ◌==◌, Bool, true, false, if◌then◌else◌, nat_le, refl, arith}
+use Rattle.std.proofs.Common.{◌≡◌, ℕ, zero, suc, ◌+◌, ◌-◌, ◌*◌, ◌≤◌, ◌==◌, Bool, true, false, if◌then◌else◌, nat_le, refl, arith}
 use Rattle.std.proofs.Math.Nat.{mul-le-mul_right}
 use Rattle.matrix_meaning.specs.declared.Kind.{Kind}
 use Rattle.matrix_meaning.specs.declared.Kind.TheVariants.{Dft, Wht, Idft}
@@ -33,7 +33,8 @@ module _ (c : Request) (weight : c.weight ≤ 1000) where
       products_cost c kind minus root rows columns ≤ 1000 * (rows * columns)
   products_low kind minus root rows columns low =
       let all : products_cost c kind minus root rows columns ≤ rows * (columns * 1000) =
-      sum_low rows (columns * 1000) _ (λ k. sum_low columns 1000 _ (λ l. product_low minus (entry_of kind c.modulus rows root k l) low)) in
+      sum_low rows (columns * 1000) _
+      (λ k. sum_low columns 1000 _ (λ l. product_low minus (entry_of kind c.modulus rows root k l) low)) in
       omega (arith, all)
 
   leaf_modest : (d : ℕ) → 1 ≤ d → IsModest d (leaf_cost c d)
@@ -48,7 +49,8 @@ module _ (c : Request) (weight : c.weight ≤ 1000) where
   rule_low Gt r s = omega arith
   rule_low Ct r s = of (is_kernel c (r * s))
     where
-      of : (short : Bool) → (if short then products_cost c Dft 1 (node_root c (r * s)) r s else c.weight * (r * s)) ≤ 1000 * (r * s)
+      of : (short : Bool) →
+          (if short then products_cost c Dft 1 (node_root c (r * s)) r s else c.weight * (r * s)) ≤ 1000 * (r * s)
       of true = products_low Dft 1 (node_root c (r * s)) r s (omega arith)
       of false = mul-le-mul_right (r * s) weight
   rule_low Split r s = omega arith

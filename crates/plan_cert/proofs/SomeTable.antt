@@ -1,5 +1,5 @@
 -- Each request that admits a tree has a certificate.
-use Rattle.std.proofs.Common.{◌≡◌, ◌≢◌, ℕ, zero, suc, ◌+◌, ◌*◌, ◌%◌, ◌^◌, ◌<◌, ◌≤◌, ◌==◌, ◌++◌, List, [], ◌∷◌, All, length, Bool, true, false, if◌then◌else◌, Option, None, Some, refl, sym, ap, subst, ◌∙◌, inl, inr, arith}
+use Rattle.std.proofs.Common.{◌≡◌, ◌≢◌, ℕ, zero, suc, ◌+◌, ◌*◌, ◌%◌, ◌^◌, ◌<◌, ◌≤◌, ◌==◌, ◌++◌, List, [], ◌∷◌, All, length, Bool, true, false, if◌then◌else◌, Option, None, Some, refl, sym, subst, inl, inr, arith}
 use Rattle.serde_json.specs.Data.{Data, Items, array, no_items, item}
 use Rattle.serde_json.specs.Written.{compact_text}
 use Rattle.matrix_meaning.specs.declared.Dimensions.{Dimensions}
@@ -25,7 +25,7 @@ use Rattle.plan_cert.specs.declared.certificate.Row.{Row}
 use Rattle.plan_cert.specs.Certificate.{HasRowsBelow, IsWanted}
 use Rattle.plan_cert.specs.Found.{closing_at}
 use Rattle.plan_cert.specs.Laws.{CertificatesExist}
-use Rattle.plan_cert.specs.Table.{AreTables, IsChosenRow, IsListOfTables, IsRootOf, IsTable, IsTableOf, IsTableText, IsWholeTable, table_data}
+use Rattle.plan_cert.specs.Table.{AreTables, IsChosenRow, IsListOfTables, IsRootOf, IsTable, IsTableOf, IsWholeTable, table_data}
 use Rattle.plan_cert.proofs.ByParts.{by_parts, forward_divides, one_part, rest_divides}
 use Rattle.plan_cert.proofs.Chosen.{chosen_added, row_added, row_allowed}
 use Rattle.plan_cert.proofs.Closing.{modest_fits}
@@ -52,7 +52,14 @@ size_word (leaf d) h = h
 size_word (node rule a b) h = h.2
 
 root_of : (t : Breakdown) → HasWordSizes t → HasRoot t
-root_of (leaf d) h = record { rule = None; left = 0; right = 0; is = (refl, refl, refl); low = omega arith; small = omega arith }
+root_of (leaf d) h = record {
+  rule = None;
+  left = 0;
+  right = 0;
+  is = (refl, refl, refl);
+  low = omega arith;
+  small = omega arith;
+}
 root_of (node rule a b) h = record {
   rule = Some rule;
   left = size_of a;
@@ -79,17 +86,25 @@ module _ (c : Request) (closing : ℕ) (valid : IsValid c) (forward : c.kind ≢
         subst (λ n. (t : Breakdown) × IsChosenFor c n t) same (chosen_exists c valid forward can)
   ]
 
-  row_for : (d : ℕ) (t : Breakdown) → d ≤ c.size → IsChosenFor c d t → (row : Row) × (row.size ≡ d) × IsChosenRow c closing row
+  row_for : (d : ℕ) (t : Breakdown) → d ≤ c.size → IsChosenFor c d t
+      → (row : Row) × (row.size ≡ d) × IsChosenRow c closing row
   row_for d t high chosen =
       let size = valid.in_range.size.1 in
       let candidate = chosen.candidate in
       let fits : size_of t < 2 ^ 64 = omega (arith, high, size, candidate.size) in
       let root = root_of t (word_sizes c.kind t candidate.well_formed fits) in
       let modest : IsModest d (cost_of c t) =
-      subst (λ n. IsModest n (cost_of c t)) candidate.size (tree_modest c valid.in_range.weight.1 t candidate.well_formed) in
+      subst (λ n. IsModest n (cost_of c t)) candidate.size
+      (tree_modest c valid.in_range.weight.1 t candidate.well_formed) in
       let cost : cost_of c t < 2 ^ 62 = modest_fits d c.size (cost_of c t) high size modest in
       let more : closing_at c closing d ≤ closing = closing_low c closing d in (
-        record { size = d; cost = cost_of c t + closing_at c closing d; rule = root.rule; left = root.left; right = root.right },
+        record {
+          size = d;
+          cost = cost_of c t + closing_at c closing d;
+          rule = root.rule;
+          left = root.left;
+          right = root.right;
+        },
         refl,
         (
           t,
@@ -129,7 +144,11 @@ module _ (c : Request) (closing : ℕ) (valid : IsValid c) (forward : c.kind ≢
   next_table : (d : ℕ) → HasTable d → HasTable (d + 1)
   next_table d old = elim (decided_wanted c d) [
     | inl wanted ↦ with_row d wanted old
-    | inr other ↦ record { rows = old.rows; below = other_size c old.rows d (length old.rows) other old.below; chosen = old.chosen }
+    | inr other ↦ record {
+      rows = old.rows;
+      below = other_size c old.rows d (length old.rows) other old.below;
+      chosen = old.chosen;
+    }
   ]
 
   table_below : (n : ℕ) → HasTable (n + 1)
@@ -143,7 +162,8 @@ module _ (c : Request) (closing : ℕ) (valid : IsValid c) (forward : c.kind ≢
       let all = table_below c.size in (
         all.rows,
         record {
-          wanted = rows_below c all.rows (c.size + 1) (length all.rows) valid.in_range.size.0 (omega arith) refl all.below;
+          wanted =
+              rows_below c all.rows (c.size + 1) (length all.rows) valid.in_range.size.0 (omega arith) refl all.below;
           chosen = all.chosen;
         },
       )
@@ -170,9 +190,11 @@ last_tables c one valid can =
 both_tables : (c : Request) → IsInRange c → c.dimensions ≢ One → SomeTables (rest_of c) → SomeTables c
 both_tables c range several others valid can =
     let first =
-    one_value (first_of c) (first_is_valid c valid several) (first_is_one c several) (divides_plain (first_of c) (first_part c several).plain) in
+    one_value (first_of c) (first_is_valid c valid several) (first_is_one c several)
+    (divides_plain (first_of c) (first_part c several).plain) in
     let rest = others (rest_is_valid c valid several) (rest_divides c several) in
-    (item first.0 rest.0, subst (λ ps. AreTables ps (item first.0 rest.0)) (sym (parts_by_first c several)) (first.1, rest.1))
+    let both = item first.0 rest.0 in
+    (both, subst (λ ps. AreTables ps both) (sym (parts_by_first c several)) (first.1, rest.1))
 
 some_tables : (c : Request) → IsInRange c → SomeTables c
 some_tables = by_parts SomeTables (λ c range one. last_tables c one) both_tables
@@ -180,7 +202,8 @@ some_tables = by_parts SomeTables (λ c range one. last_tables c one) both_table
 some_list : (c : Request) → IsValid c → CanDivideWhole c → (d : Data) × IsListOfTables c d
 some_list c valid can = let all = some_tables c valid.in_range valid can in (array all.0, (all.0, refl, all.1))
 
-some_whole : (c : Request) (ds : Dimensions) → c.dimensions ≡ ds → IsValid c → CanDivideWhole c → (d : Data) × IsWholeTable c ds d
+some_whole : (c : Request) (ds : Dimensions) → c.dimensions ≡ ds → IsValid c → CanDivideWhole c
+    → (d : Data) × IsWholeTable c ds d
 some_whole c One one valid can = one_value c valid one can
 some_whole c (Two p q) is valid can = some_list c valid can
 some_whole c (Three p q r) is valid can = some_list c valid can

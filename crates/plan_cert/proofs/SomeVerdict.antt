@@ -1,5 +1,5 @@
 -- Each text has a verdict.
-use Rattle.std.proofs.Common.{◌≡◌, ◌⊎◌, ℕ, zero, suc, ◌+◌, ◌*◌, ◌/◌, ◌%◌, ◌<◌, ◌≤◌, List, [], ◌∷◌, All, length, get_or, Bool, true, false, true≢false, Option, None, Some, refl, sym, ap, subst, ◌∙◌, inl, inr, arith}
+use Rattle.std.proofs.Common.{◌≡◌, ◌⊎◌, ℕ, zero, suc, ◌+◌, ◌/◌, ◌%◌, ◌<◌, ◌≤◌, List, [], ◌∷◌, All, length, get_or, true, false, true≢false, Option, None, Some, refl, sym, subst, ◌∙◌, inl, inr, arith}
 use Rattle.std.proofs.lemmas.Bool.{cases_Bool, cases_eq}
 use Rattle.std.proofs.lemmas.List.{get_or_default}
 use Rattle.std.proofs.lemmas.Str.{IsUtf8-from_is_utf8, is_utf8-from_IsUtf8}
@@ -20,7 +20,7 @@ use Rattle.tree_model.specs.Chosen.{closing_cost}
 use Rattle.tree_model.proofs.Splits.{product_div}
 use Rattle.tree_model.proofs.WholeTrees.{forward_size}
 use Rattle.plan_search.specs.Search.{IsBestRule}
-use Rattle.plan_search.proofs.Decisions.{IsDecidable, best_rule_of, decided_leaf}
+use Rattle.plan_search.proofs.Decisions.{best_rule_of, decided_leaf}
 use Rattle.plan_cert.specs.declared.certificate.Row.{Row}
 use Rattle.plan_cert.specs.declared.certificate.WrongRow.{WrongRow}
 use Rattle.plan_cert.specs.declared.verdict.Verdict.{Verdict}
@@ -60,7 +60,10 @@ module _ (c : Request) (costs : ℕ → ℕ) (d : ℕ) where
   first_found x some = elim (decided_leaf c d) [
     | inl leaf ↦ elim (nat_cases x (leaf_cost c d)) [
       | inl less ↦ (x, record { reached = some; bound = below_leaf x (omega (arith, less)) })
-      | inr more ↦ (leaf_cost c d, record { reached = inl (leaf, refl); bound = below_leaf (leaf_cost c d) (omega arith) })
+      | inr more ↦ (
+        leaf_cost c d,
+        record { reached = inl (leaf, refl); bound = below_leaf (leaf_cost c d) (omega arith) },
+      )
     ]
     | inr none ↦ (x, record { reached = some; bound = below_none x none })
   ]
@@ -76,7 +79,12 @@ module _ (c : Request) (costs : ℕ → ℕ) (d : ℕ) where
           | inl less ↦ (
             cost,
             found_more c costs d r x cost old (omega (arith, less))
-                (inr (inr (rule, r, d / r, record { allowed = best.allowed; product = product_div d r divides; cost = refl }))) bound,
+                (inr (inr (
+                  rule,
+                  r,
+                  d / r,
+                  record { allowed = best.allowed; product = product_div d r divides; cost = refl },
+                ))) bound,
           )
           | inr more ↦ (
             x,
@@ -97,7 +105,10 @@ module _ (c : Request) (costs : ℕ → ℕ) (d : ℕ) where
     unfolding HasFound
     more_found = elim (cases_eq (d % r) 0) [
       | inr other ↦ (x, found_skip c costs d r x old other)
-      | inl divides ↦ elim (best_rule_of c r (d / r)) [ inl best ↦ with_best best.0 divides best.1 | inr none ↦ with_none none ]
+      | inl divides ↦ elim (best_rule_of c r (d / r)) [
+        | inl best ↦ with_best best.0 divides best.1
+        | inr none ↦ with_none none
+      ]
     ]
 
   found_below : (x : ℕ) → IsChoiceCost c costs d x → (n : ℕ) → HasFound (n + 2)
@@ -282,7 +293,8 @@ module _ (judged : Data → Verdict → Type 0) (each : (d : Data) → (v : Verd
   as_read utf8 None none = (Unread, λ d h. absurd (not_read none d h))
   as_read utf8 (Some d) reads =
       let found = each d in
-      (found.0, verdict_of_json judged text d found.0 (record { utf8 = IsUtf8-from_is_utf8 text utf8; reads = reads }) found.1)
+      let json : IsJson text d = record { utf8 = IsUtf8-from_is_utf8 text utf8; reads = reads } in
+      (found.0, verdict_of_json judged text d found.0 json found.1)
 
   pub some_text : (v : Verdict) × IsTextVerdict judged text v
   unfolding SomeText

@@ -1,5 +1,5 @@
 -- The line of a certificate reads back as its value.
-use Rattle.std.proofs.Common.{◌≡◌, ℕ, suc, ◌+◌, ◌^◌, ◌<◌, ◌≤◌, ◌++◌, List, [], ◌∷◌, All, Bool, true, false, Option, Some, None, codes, decimal, max, map, option_and_then, option_map, IsUtf8, refl, sym, ap, ap₂, subst, ◌∙◌, arith, append-nil}
+use Rattle.std.proofs.Common.{◌≡◌, ℕ, suc, ◌^◌, ◌<◌, ◌≤◌, ◌++◌, List, [], ◌∷◌, All, Bool, true, false, Option, Some, None, codes, decimal, max, option_and_then, option_map, IsUtf8, refl, sym, ap, ap₂, subst, ◌∙◌, arith, append-nil}
 use Rattle.std.proofs.lemmas.Fmt.{IsAscii-decimal}
 use Rattle.std.proofs.lemmas.Str.{IsUtf8-append, IsUtf8-from_ascii}
 use Rattle.json.specs.Json as json
@@ -9,7 +9,7 @@ use Rattle.json.specs.Tree as tree
 use Rattle.json.proofs.Printed.Tokens.{tokens-print}
 use Rattle.json.proofs.Printed.Trees.{ArePrintable-json_tokens, value-json_tokens}
 use Rattle.json.proofs.Printed.Utf8.{IsUtf8-are_ascii, IsUtf8-quoted}
-use Rattle.serde_json.specs.Data.{Data, Num, null, boolean, number, string, array, object, Items, no_items, item, Members, no_members, member, depth, items_depth, members_depth}
+use Rattle.serde_json.specs.Data.{Data, null, boolean, number, string, array, object, Items, no_items, item, Members, no_members, member, depth, items_depth, members_depth}
 use Rattle.serde_json.specs.Read.{max_depth, of_items, of_json, read}
 use Rattle.serde_json.specs.Written.{comma_if, compact_text, items_outline, items_text, members_outline, members_text, outline}
 use Rattle.serde_json.proofs.Numbers.{number_of-decimal}
@@ -76,7 +76,8 @@ none_written = record { utf8 = λ later. IsUtf8-are_ascii (93 ∷ []) refl; back
 pub more_written : (d : Data) (ds : Items) → IsWritten d → AreWritten ds → AreWritten (item d ds)
 more_written d ds first others = record {
   utf8 = λ later.
-      IsUtf8-append (comma_if later) _ (comma_utf8 later) (IsUtf8-append (compact_text d) _ first.utf8 (others.utf8 true));
+      IsUtf8-append (comma_if later) _ (comma_utf8 later)
+      (IsUtf8-append (compact_text d) _ first.utf8 (others.utf8 true));
   back = rw (first.back, others.back) refl;
 }
 
@@ -111,7 +112,8 @@ row_written row words =
     (more_written (spec.whole row.left) _ (number_written row.left words.left)
     (more_written (spec.whole row.right) no_items (number_written row.right words.right) none_written)))))
 
-rows_written : (c : Request) (closing : ℕ) (rows : List Row) → All (IsChosenRow c closing) rows → AreWritten (rows_data rows)
+rows_written : (c : Request) (closing : ℕ) (rows : List Row) → All (IsChosenRow c closing) rows
+    → AreWritten (rows_data rows)
 rows_written c closing [] h = none_written
 rows_written c closing (row ∷ rows) h =
     more_written (row_data row) (rows_data rows) (row_written row (h 0 row (omega arith)).1.words)
