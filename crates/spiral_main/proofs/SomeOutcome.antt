@@ -71,7 +71,7 @@ use Rattle.commands.specs.SpiralInput.Orders.{procs_in}
 use Rattle.commands.specs.SpiralInput.Outcomes.{Outcomes}
 use Rattle.commands.specs.SpiralInput.Stage.{Stage, ◌>>=◌, given}
 use Rattle.spiral_main.specs.Outcome.{IsOutcome}
-use Rattle.spiral_main.proofs.Good.{plan_of, turned_spelt}
+use Rattle.spiral_main.proofs.RightLines.{plan_of, turned_spelt}
 use Rattle.spiral_main.proofs.RightRequests.{planned_is_right}
 
 -- ---- what a line orders
@@ -92,7 +92,7 @@ planned_has names text =
     both_have (spelt text >>= turned names) chosen
     (both_have (spelt text) (turned names) (spelt_has text) (λ r h. given_has (admitted (first_stranger names r.procs) r.procs r)))
     (λ r h.
-    let range : IsInRange r = (turned_spelt spelt names text r h).1 in
+    let range : IsInRange r = (turned_spelt spelt names text r h).0.1 in
     let plan = plan_exists r range in chosen_has r plan.0 plan.1)
 
 formed_has : (names text : List ℕ) → HasAnswer (formed names text)
