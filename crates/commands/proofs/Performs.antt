@@ -1,20 +1,16 @@
 -- From what stands behind the line of a request to the whole input.
-use Rattle.std.proofs.Common.{◌≡◌, ◌-◌, ℕ, List, [], None, Some, Ok, refl}
-use Rattle.std.specs.declared.option.Option.{Option}
+use Rattle.std.proofs.Common.{◌-◌, ℕ, List, []}
 use Rattle.matrix_meaning.specs.declared.Request.{Request}
-use Rattle.plan_cert.specs.Verdict.{IsVerdict}
 use Rattle.spiral_words.specs.declared.Document.{Document}
 use Rattle.spiral_words.specs.declared.Document.TheVariants as document
 use Rattle.spiral_words.specs.declared.RequestCommand.{RequestCommand}
 use Rattle.spiral_words.specs.declared.RequestCommand.TheVariants as command
-use Rattle.spiral_words.specs.declared.spiral_status.status.Status.{Status}
 use Rattle.commands.specs.Equations.Check.{fitting, check_outcomes}
 use Rattle.commands.specs.Equations.Front.{Work, line, by_front, staged}
 use Rattle.commands.specs.Equations.Orders.{Planned, chosen, planned, turned}
 use Rattle.commands.specs.Equations.Requests.{document_outcomes, document_work, outcomes_by_request, work_for}
 use Rattle.commands.specs.Equations.Run.{run_work}
 use Rattle.commands.specs.Equations.Trace.{trace_work}
-use Rattle.commands.specs.Equations.Works.{judging}
 use Rattle.commands.specs.SpiralInput.Asking.{spelt}
 use Rattle.commands.specs.SpiralInput.Commands.{procs_named}
 use Rattle.commands.specs.SpiralInput.Outcomes.{Outcomes}

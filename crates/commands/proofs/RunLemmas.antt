@@ -1,5 +1,5 @@
 -- A good program's runs for its request.
-use Rattle.std.proofs.Common.{◌≡◌, ◌≢◌, ◌<◌, ◌≤◌, ◌/◌, ℕ, true, false, Vec, Global, List, [], ◌++◌, None, Ok, Err, Result, length, map, refl, sym, ap, subst, ◌∙◌, arith}
+use Rattle.std.proofs.Common.{◌≡◌, ◌≢◌, ◌<◌, ◌/◌, ℕ, true, false, Vec, Global, List, [], ◌++◌, None, Ok, Err, Result, length, map, refl, sym, ap, subst, ◌∙◌, arith}
 use Rattle.std.proofs.Math.Nat.{div-mul-le_self}
 use Rattle.std.proofs.lemmas.List.Elements.{All-from_get_or}
 use Rattle.std.specs.List.{All}
@@ -47,7 +47,6 @@ use Rattle.commands.specs.SpiralInput.Commands.{first_stranger}
 use Rattle.commands.specs.SpiralInput.Ends.{EndsCleanly}
 use Rattle.commands.specs.SpiralInput.Orders.{procs_in}
 use Rattle.commands.specs.SpiralInput.Outcomes.{SourceMeets}
-use Rattle.commands.specs.declared.streams.Prepared.{Prepared}
 use Rattle.commands.proofs.Documents.{with_tree}
 use Rattle.commands.proofs.Programs.{IsGoodCode, code_made, good_code, program_modulus, program_procs, program_size}
 use Rattle.commands.proofs.Requests.{limits}

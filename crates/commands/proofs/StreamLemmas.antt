@@ -1,6 +1,5 @@
 -- What a run of a program over the data comes to.
-use Rattle.std.proofs.Common.{◌≡◌, ◌≢◌, ◌<◌, ◌≤◌, ◌-◌, ℕ, Bool, true, false, List, [], ◌∷◌, ◌++◌, None, Some, Ok, Err, Result, length, refl, sym, ap, subst, ◌∙◌, arith, append-nil, nat_lt, inl, take}
-use Rattle.std.proofs.KnownBytes.{Appends-nil}
+use Rattle.std.proofs.Common.{◌≡◌, ◌≢◌, ◌<◌, ◌≤◌, ◌-◌, ℕ, Bool, true, false, List, [], ◌++◌, None, Some, Err, Result, length, refl, sym, ap, subst, ◌∙◌, arith, append-nil, nat_lt, inl, take}
 use Rattle.std.specs.declared.option.Option.{Option}
 use Rattle.std.specs.Io.KnownBytes.{Appends}
 use Rattle.buffer_machine.specs.Listed as listed
@@ -9,14 +8,14 @@ use Rattle.buffer_machine.specs.declared.Events.TheVariants as events
 use Rattle.data_stream.specs.Data.{tokens, closed_part}
 use Rattle.icode.specs.Buffers.{Buffered, buffered_runs}
 use Rattle.icode.specs.Machine.{Code, State, runs}
-use Rattle.icode.specs.Program.{Fits, code_of}
+use Rattle.icode.specs.Program.{code_of}
 use Rattle.icode.specs.declared.program.Program.{Program}
 use Rattle.io_edge.specs.Feed.{Fed, limit}
 use Rattle.io_edge.specs.Taken.{AppendsPrefix}
 use Rattle.request_text.specs.Schedule.{Plan}
 use Rattle.request_text.specs.Turns.{turns_of}
 use Rattle.runs.proofs.StreamLemmas.{vectors_few}
-use Rattle.runs.specs.Stream.{Streams, bad_after, data_vectors, good_front, texts, vectors_of, vectors_seen}
+use Rattle.runs.specs.Stream.{Streams, bad_after, good_front, texts, vectors_of, vectors_seen}
 use Rattle.runs.specs.Texts.{buffered_text, run_text}
 use Rattle.runs.specs.declared.stream.StreamFault.{StreamFault}
 use Rattle.runs.specs.declared.stream.StreamFault.TheVariants as stream

@@ -1,6 +1,5 @@
 // The top call.
-ghost use Rattle.std.specs.Prelude.{◌≡◌, ◌≢◌, ℕ, List, [], map, string_bytes, IsTrue, IfOk, IfErr};
-ghost use Rattle.std.specs.declared.option.Option.{Option};
+ghost use Rattle.std.specs.Prelude.{◌≡◌, ◌≢◌, ℕ, [], map, string_bytes, IsTrue, IfOk, IfErr};
 ghost use Rattle.std.specs.Io.KnownBytes.{Appends};
 ghost use Rattle.icode.specs.Machine.{IsApart};
 ghost use Rattle.icode.specs.Program.{plain_program, code_of, Fits};

@@ -1,5 +1,5 @@
 -- From what a command does to the account of the whole call.
-use Rattle.std.proofs.Common.{◌≡◌, ℕ, List, [], None, Some, Err, refl, sym, subst, inl, inr}
+use Rattle.std.proofs.Common.{◌≡◌, ℕ, List, None, Some, Err, refl, sym, subst, inl, inr}
 use Rattle.std.specs.declared.option.Option.{Option}
 use Rattle.spiral_words.specs.Asked.{IsAsked}
 use Rattle.spiral_words.specs.SpiralStatus.Status.{IsDefined}

@@ -25,7 +25,6 @@ use Rattle.matrix_meaning.specs.declared.Request.{Request}
 use Rattle.par_machine.proofs.Schedules.{turns_there}
 use Rattle.request_text.specs.Schedule.{Plan}
 use Rattle.request_text.specs.Turns.{named, turns_of}
-use Rattle.spiral_words.specs.declared.spiral_status.status.Status.{Status}
 use Rattle.spiral_words.specs.declared.spiral_status.status.Status.TheVariants.{Success, WriteFault}
 use Rattle.spiral_words.specs.SpiralStatus.Fault.{status_of_conv, status_of_fault, status_of_stream}
 use Rattle.spiral_words.specs.SpiralStatus.Status.{IsDefined}

@@ -1,5 +1,5 @@
 -- From the first line to a request.
-use Rattle.std.proofs.Common.{◌≡◌, ◌≢◌, ◌≤◌, ℕ, zero, suc, List, [], ◌∷◌, take, None, Some, Ok, Err, length, refl, sym, ap, arith, inl, inr}
+use Rattle.std.proofs.Common.{◌≡◌, ◌≢◌, ◌≤◌, ℕ, zero, suc, List, [], ◌∷◌, take, None, Some, Ok, Err, length, sym, ap, arith, inl, inr}
 use Rattle.std.specs.declared.option.Option.{Option}
 use Rattle.std.specs.Io.KnownBytes.{Consumes}
 use Rattle.io_edge.specs.Told.{IsOver}
@@ -11,7 +11,6 @@ use Rattle.io_edge.specs.declared.FeedFault.TheVariants as feed
 use Rattle.spiral_words.proofs.OneCommand.{asked_once}
 use Rattle.spiral_words.specs.Asked.{IsAsked}
 use Rattle.spiral_words.specs.declared.Command.{Command}
-use Rattle.spiral_words.specs.declared.spiral_status.status.Status.{Status}
 use Rattle.spiral_words.specs.declared.spiral_status.status.Status.TheVariants.{Turn, ReadFault}
 use Rattle.spiral_words.specs.SpiralStatus.Fault.{status_of_line, status_of_request}
 use Rattle.commands.specs.SpiralInput.Asking.{Asks}

@@ -1,5 +1,5 @@
 -- What a run over data answers, reads and writes, by the texts of its vectors.
-use Rattle.std.proofs.Common.{◌≡◌, ◌≢◌, ◌≤◌, ◌+◌, ◌-◌, ◌⊎◌, ℕ, true, List, [], ◌++◌, Ok, Err, Result, refl, sym, ap, subst, ◌<◌, ◌*◌, zero, suc, length, take, drop, ◌∙◌, arith}
+use Rattle.std.proofs.Common.{◌≡◌, ◌≢◌, ◌≤◌, ◌+◌, ◌-◌, ℕ, true, List, [], ◌++◌, Ok, Err, Result, refl, sym, ap, subst, ◌<◌, ◌*◌, zero, suc, length, take, drop, ◌∙◌, arith}
 use Rattle.std.proofs.KnownBytes.{Appends-trans}
 use Rattle.std.specs.List.{list_all, All}
 use Rattle.std.specs.declared.option.Option.{Option}

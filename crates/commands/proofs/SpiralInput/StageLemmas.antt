@@ -1,5 +1,5 @@
 -- What a call comes to by a stage behind a front.
-use Rattle.std.proofs.Common.{◌≡◌, ◌≢◌, ℕ, List, [], ◌++◌, Ok, Err, refl, inl, inr}
+use Rattle.std.proofs.Common.{ℕ, List, ◌++◌, Ok, Err, refl, inl, inr}
 use Rattle.std.specs.declared.option.Option.{Option}
 use Rattle.spiral_words.specs.SpiralStatus.Status.{IsDefined}
 use Rattle.spiral_words.specs.declared.spiral_status.status.Status.{Status}

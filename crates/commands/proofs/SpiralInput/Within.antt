@@ -3,7 +3,7 @@ use Rattle.std.proofs.Common.{◌≡◌, ℕ, List, [], ◌++◌, Ok, Err, Resul
 use Rattle.std.specs.declared.option.Option.{Option}
 use Rattle.spiral_words.specs.declared.spiral_status.status.Status.{Status}
 use Rattle.commands.specs.SpiralInput.Outcomes.{Outcomes, Meets, SourceMeets}
-use Rattle.commands.specs.SpiralInput.Stage.{Stage, given, ◌>>=◌, IsAnswerBy}
+use Rattle.commands.specs.SpiralInput.Stage.{Stage, given, ◌>>=◌}
 use Rattle.commands.specs.Equations.Front.{Front, taken_from, room_behind, MayGoOn, HasEnded, ordered, Work, by_front, staged}
 use Rattle.commands.proofs.SpiralInput.Nested.{joined, split_off, nested, unnested, answer_map, broken_map, cut_map}
 
