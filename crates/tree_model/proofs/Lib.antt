@@ -20,3 +20,4 @@ pub mod Standing
 pub mod ChosenParts
 pub mod NodesAsked
 pub mod WholeCosts
+pub mod RootedTrees

@@ -1,5 +1,5 @@
 -- What trees cost that may stand in a request.
-use Rattle.std.proofs.Common.{◌≡◌, ℕ, zero, suc, ◌*◌, ◌/◌, ◌^◌, ◌<◌, ◌≤◌, arith, ap, ◌∙◌, subst}
+use Rattle.std.proofs.Common.{◌≡◌, ℕ, zero, suc, ◌*◌, ◌/◌, ◌^◌, ◌<◌, ◌≤◌, arith, ap, ◌∙◌}
 use Rattle.std.proofs.Math.Nat.{mul-le-mul, mul-le-mul_left, mul-one, mul-zero}
 use Rattle.matrix_meaning.specs.declared.Request.{Request}
 use Rattle.matrix_meaning.specs.Parts.{forward_of}
@@ -8,7 +8,6 @@ use Rattle.operators.specs.Sizes.{max_size}
 use Rattle.tree_model.specs.Breakdown.{Breakdown, size_of, HasWordSizes}
 use Rattle.tree_model.specs.Chosen.{StandsIn}
 use Rattle.tree_model.specs.Cost.{IsModest}
-use Rattle.tree_model.specs.Whole.{IsTreeOf}
 use Rattle.tree_model.proofs.FlatTrees.{tree_word_sizes}
 use Rattle.tree_model.proofs.Splits.{product_div}
 use Rattle.tree_model.proofs.WholeTrees.{forward_size}
@@ -34,9 +33,8 @@ stands_below c p t is some h =
     let size : p.size ≡ c.size = ap (λ (q : Request). q.size) is ∙ forward_size c in
     omega (arith, low, size)
 
--- the sizes of a tree's parts are words where its own is
-pub words_at : (p : Request) (t u : Breakdown) → t ≡ u → IsTreeOf p t → size_of t < 2 ^ 64 → HasWordSizes u
-words_at p t u here h fits = subst HasWordSizes here (tree_word_sizes p t h fits)
+pub stands_words : (c : Request) (t : Breakdown) → IsBetween 1 max_size c.size → StandsIn c t → HasWordSizes t
+stands_words c t size h = tree_word_sizes (forward_of c) t h.0 (stands_fits c t size h)
 
 -- ---- costs
 

@@ -3,22 +3,12 @@ use Rattle.std.specs.Prelude.{ℕ, ◌*◌, ◌^◌, ◌<◌}
 use Rattle.matrix_meaning.specs.declared.Kind.{Kind}
 use Rattle.matrix_meaning.specs.Kind.{transform}
 use Rattle.operators.specs.Operator.{Operator, on_blocks, on_columns}
-use Rattle.tree_model.specs.declared.rooted.RootedTree.{RootedTree}
-use Rattle.tree_model.specs.declared.rooted.RootedTrees.{RootedTrees}
-use Rattle.tree_model.specs.declared.rooted.RootedTrees.TheVariants.{Single, Tensor'}
-use Rattle.tree_model.specs.Breakdown.{Breakdown, breakdown_of, size_of, HasWordSizes}
+use Rattle.tree_model.specs.Breakdown.{Breakdown, size_of, HasWordSizes}
 
 -- a tree for each dimension, the last one fastest
 pub data PlainTrees : Type 0 where
   single : (kind : Kind) (root : ℕ) (tree : Breakdown) → PlainTrees
   tensor : (kind : Kind) (root : ℕ) (tree : Breakdown) (others : PlainTrees) → PlainTrees
-
-abbrev pub alone : RootedTree → PlainTrees
-alone t = single t.kind t.root (breakdown_of t.tree)
-
-abbrev pub plain_trees : RootedTrees → PlainTrees
-plain_trees (Single only) = alone only
-plain_trees (Tensor' first p others) = tensor first.kind first.root (breakdown_of first.tree) (plain_trees others)
 
 -- the product of the sizes
 abbrev pub trees_size : PlainTrees → ℕ

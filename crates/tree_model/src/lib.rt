@@ -14,7 +14,6 @@ mod inverse;
 mod laws;
 mod order;
 mod passes;
-mod rooted;
 mod tree;
 
 pub use admission::{admissible, allows_leaf, allows_node, allows_split};
@@ -24,5 +23,4 @@ pub use inverse::inverse_trees;
 pub use laws::{nodes_do_what_is_asked, passes_do_the_cost, trees_are_made_of_parts};
 pub use order::before;
 pub use passes::{loads, stores};
-pub use rooted::{RootedTree, RootedTrees, rooted_of};
 pub use tree::{Rule, Tree};
