@@ -1,9 +1,12 @@
 -- The inverse of the places after a Good-Thomas step.
-use Rattle.std.proofs.Common.{◌≡◌, ℕ, ◌+◌, ◌*◌, ◌/◌, ◌%◌, ◌<◌, ◌≤◌, ◌^◌, ◌-◌, ◌≢◌, zero, suc, refl, subst, le_refl, sym, ap, ap₂, ◌∙◌, arith}
+use Rattle.std.proofs.Common.{◌≡◌, ℕ, ◌+◌, ◌*◌, ◌/◌, ◌%◌, ◌<◌, ◌≤◌, ◌^◌, ◌-◌, ◌≢◌, zero, suc, refl, subst, le_refl, sym, ap, ap₂, ◌∙◌, arith, inl, inr}
 use Rattle.std.proofs.Math.Nat.{add-mod, mod-mod_of_dvd, dvd-mul_right, dvd-mul_left, mod-eq_of_lt, add-mul}
 use Rattle.std.proofs.lemmas.Nat.{mod_below, div_below, mul-mod_second, div-add-mod', mul-le, mul-add-lt, mod-mul-add, div-mul-add}
-use Rattle.index_fn.specs.Inverse.{Permutes, Undoes, IsBack}
-use Rattle.index_fn.specs.Mapping.{Mapping, ThomasOut, ThomasBack, at, IsUnit, HasUnit, IsWellFormed}
+use Rattle.std.proofs.lemmas.Bool.{cases_eq}
+use Rattle.std.proofs.lemmas.Bool.Decides.{nat_tests}
+use Rattle.index_fn.specs.Back.{back_of, unit_below}
+use Rattle.index_fn.specs.Inverse.{Permutes, Undoes}
+use Rattle.index_fn.specs.Mapping.{ThomasOut, ThomasBack, at, IsUnit, HasUnit, IsWellFormed}
 use Rattle.index_fn.proofs.Onto.{onto}
 
 -- what leaves 1 keeps a remainder, and what leaves 0 takes it away
@@ -133,11 +136,29 @@ module _ (r s : ℕ) (r1 : 1 ≤ r) (s1 : 1 ≤ s) (p : Permutes (ThomasOut r s)
       let q = source 0 (1 % s) r1 (mod_below 1 s s1) in
       (q.0, record { below = omega (arith, q.1); one = q.3; multiple = q.2 })
 
--- where there is a unit, it is one of the multiples
-pub unit_missed : (r s : ℕ) → 1 ≤ s → HasUnit r s → ((k : ℕ) → k < r → (s * k) % r ≢ 1 % r) → ⊥
-unit_missed r s s1 (e, u) none =
-    let whole : s * (e / s) ≡ e = omega (arith, div-add-mod' e s, u.multiple) in
-    none (e / s) (div_below e s r s1 u.below) (ap (λ n. n % r) whole ∙ u.one)
+-- the search for a unit finds one, where there is one
+pub unit_from : (r s bound k : ℕ) → bound ≤ r → 1 ≤ s → k < bound → (s * k) % r ≡ 1 % r
+    → IsUnit r s (unit_below r s bound)
+unit_from r s zero k h g below e = absurd (omega arith)
+unit_from r s (suc b) k h g below e =
+    elim (cases_eq ((s * b) % r) (1 % r)) [
+      | inl here ↦
+          let is : unit_below r s (suc b) ≡ s * b = grind (arith, nat_tests) in
+          rw is (unit_found r s b (omega arith) g here)
+      | inr other ↦
+          let is : unit_below r s (suc b) ≡ unit_below r s b = grind (arith, nat_tests) in
+          let apart : k ≢ b = λ same. other (ap (λ j. (s * j) % r) (sym same) ∙ e) in
+          rw is (unit_from r s b k (omega arith) g (omega arith) e)
+    ]
 
-pub back_undoes : (r s : ℕ) (g : Mapping) → 1 ≤ r → 1 ≤ s → r * s < 2 ^ 32 → IsBack r s g → Undoes (ThomasOut r s) g (r * s)
-back_undoes r s g r1 s1 small (e, f, u, w, is) = rw is (thomas_out_undoes r s e f r1 s1 small u w)
+unit_is : (r s : ℕ) → 1 ≤ s → HasUnit r s → IsUnit r s (unit_below r s r)
+unit_is r s s1 (e, u) =
+    let whole : s * (e / s) ≡ e = omega (arith, div-add-mod' e s, u.multiple) in
+    unit_from r s r (e / s) (le_refl r) s1 (div_below e s r s1 u.below) (ap (λ n. n % r) whole ∙ u.one)
+
+pub out_undoes : (r s : ℕ) → 1 ≤ r → 1 ≤ s → r * s < 2 ^ 32 → Permutes (ThomasOut r s) (r * s)
+    → Undoes (ThomasOut r s) (back_of (ThomasOut r s)) (r * s)
+out_undoes r s r1 s1 small p =
+    thomas_out_undoes r s (unit_below r s r) (unit_below s r s) r1 s1 small
+    (unit_is r s s1 (first_unit r s r1 s1 p))
+    (unit_is s r r1 (second_unit r s r1 s1 p))

@@ -1,12 +1,17 @@
 //! Functions from indices to indices, as terms: what gathers and scatters read and store by (Franchetti et al., 2005).
 #![tactic(auto)]
 
-ghost use Rattle.std.specs.Prelude.{◌≡◌, ℕ, ◌*◌, ◌^◌, ◌<◌, ◌≤◌, Some, IfOk, IfSome};
+mod backs;
+
+ghost use Rattle.std.specs.Prelude.{◌≡◌, ℕ, ◌*◌, ◌^◌, ◌<◌, ◌≤◌, false, Some, IfOk, IfSome};
 ghost use Rattle.std.specs.Option.{IsSomeAnd};
 ghost use Rattle.index_fn.specs.Index.{mapping_of};
-ghost use Rattle.index_fn.specs.Inverse.{Permutes, Undoes, HasFormula, IsBack};
-ghost use Rattle.index_fn.specs.Mapping.{After, HasUnit, IsUnit, ThomasOut, at, size_of, IsDefinedAt, IsWellFormed};
+ghost use Rattle.index_fn.specs.Back.{HasBack, back_of, has_back};
+ghost use Rattle.index_fn.specs.Inverse.{Permutes, Undoes};
+ghost use Rattle.index_fn.specs.Mapping.{After, at, size_of, IsDefinedAt, IsWellFormed};
 
+use crate::backs::{back_of, has_back};
+pub use backs::unit;
 use memory::NoMemory;
 use std::alloc::Global;
 
@@ -105,25 +110,25 @@ impl Index {
         }
     }
 
-    /// The inverse of a permutation: a formula where the permutation is a stride permutation or the places after a step
-    /// by coprime factors, or back from them, and else a list.
+    /// The function that undoes it: a formula where there is one, part by part for tensors and compositions, and else a
+    /// list.
     pub fn inverse(&self, alloc: Global) -> Result<Index, NoMemory>
         requires well_formed { IsWellFormed (mapping_of self.now) }
-        requires permutes { IsSomeAnd (size_of (mapping_of self.now))
-            (Permutes (mapping_of self.now)) }
+        requires permutes { has_back (mapping_of self.now) ≡ false
+            → IsSomeAnd (size_of (mapping_of self.now)) (Permutes (mapping_of self.now)) }
         ensures undone { IfOk result (λ g. IfSome (size_of (mapping_of self.now))
-            (Undoes (mapping_of self.now) (mapping_of g))) }
-        ensures formula { IfOk result (λ g. HasFormula (mapping_of self.now) (mapping_of g)) }
+            (λ n. Permutes (mapping_of self.now) n
+            → Undoes (mapping_of self.now) (mapping_of g) n)) }
+        ensures form { IfOk result (λ g.
+            HasBack (mapping_of self.now) → mapping_of g ≡ back_of (mapping_of self.now)) }
     {
-        match self {
-            Index::StridePermutation(r, s) => Ok(Index::StridePermutation(*s, *r)),
-            Index::ThomasBack(r, s, _, _) => Ok(Index::ThomasOut(*r, *s)),
-            Index::ThomasOut(r, s) if *r * *s < 1 << 32 => Ok(back_from(*r, *s)),
-            _ => {
-                let size = self.size().unwrap();
-                inverse_table(alloc, self, size)
-            }
+        if has_back(self) {
+            let back = back_of(alloc, self)?;
+            return Ok(back);
         }
+        let size = self.size().unwrap();
+        let list = inverse_table(alloc, self, size)?;
+        Ok(list)
     }
 }
 
@@ -147,30 +152,4 @@ fn inverse_table(alloc: Global, f: &Index, size: u64) -> Result<Index, NoMemory>
         table[f.at(i) as usize] = i;
     }
     Ok(Index::Explicit(table))
-}
-
-// Back from the places after a step by coprime factors.
-fn back_from(r: u64, s: u64) -> Index
-    requires factors { (1 ≤ r) × (1 ≤ s) }
-    requires fits { r * s < 2 ^ 32 }
-    requires permutes { Permutes (ThomasOut r s) (r * s) }
-    ensures { IsBack r s (mapping_of result) }
-{
-    Index::ThomasBack(r, s, unit(r, s), unit(s, r))
-}
-
-// The multiple of `s` that leaves 1 by `r`.
-fn unit(r: u64, s: u64) -> u64
-    requires factors { (1 ≤ r) × (1 ≤ s) }
-    requires fits { r * s < 2 ^ 64 }
-    requires is_there { HasUnit r s }
-    ensures { IsUnit r s result }
-{
-    for k in 0..r {
-        let e = s * k;
-        if e % r == 1 % r {
-            return e;
-        }
-    }
-    unreachable!()
 }

@@ -8,13 +8,15 @@ use Rattle.icode.proofs.CodeLaws.Placing.{slice_index-map, length-mapped}
 use Rattle.matrix_meaning.specs.declared.Kind.{Kind}
 use Rattle.matrix_meaning.specs.declared.Kind.TheVariants.{Dft, Wht, Idft}
 use Rattle.matrix_meaning.specs.Kind.{transform}
+use Rattle.operators.specs.Operator.{Operator}
 use Rattle.operators.specs.Sum.{list_below}
 use Rattle.operators.proofs.Lists.{length-list_below, at-list_below}
 use Rattle.tree_model.specs.Breakdown.{Breakdown, leaf, node, size_of, IsWellFormed}
 use Rattle.kernel_gen.specs.Kernel.{tree_make, kernel_of}
 use Rattle.tree_model.specs.KernelCosts.{IsRoot, AllowsRoot, kernel_cost}
 use Rattle.kernel_gen.specs.Instructions.{actions_by}
-use Rattle.kernel_gen.specs.Kernels.{IsStraight, TransformsBy}
+use Rattle.kernel_gen.specs.Kernels.{IsStraight, Transforms}
+use Rattle.kernel_gen.specs.Making.{Made}
 use Rattle.kernel_gen.proofs.Below.{AllBelow, AllBelow-all, AllBelow-at}
 use Rattle.kernel_gen.proofs.Instructions.{AreWithin-more, actions-arithmetic, actions-cost, actions-effect}
 use Rattle.kernel_gen.proofs.Pieces.{Does, DoesAt}
@@ -58,40 +60,42 @@ does-any m weight Idft (leaf d) w modulus formed root = absurd formed
 does-any m weight Idft (node rule a b) w modulus formed root = absurd formed.0.allowed
 
 -- what the kernel of a tree does
-pub kernel-does : (m weight : ℕ) (kind : Kind) (t : Breakdown) (w : ℕ) → 2 ≤ m → IsWellFormed kind t → AllowsRoot m w kind t →
+kernel-does : (m weight : ℕ) (kind : Kind) (t : Breakdown) (w : ℕ) → 2 ≤ m → IsWellFormed kind t → AllowsRoot m w kind t →
     DoesAt m weight (size_of t) (kernel_cost weight m kind t w) (firsts (size_of t)) (size_of t) (kernel_of m kind t w) (transform kind m (size_of t) w)
 kernel-does m weight kind t w modulus formed root =
     (does-any m weight kind t w modulus formed root).at (firsts (size_of t)) (size_of t) (length-list_below (size_of t) _) (firsts-below (size_of t))
 
--- in each lane its outputs are its tree's transform of the first registers, and it leaves the memory
-pub kernels_transform : (m lanes : ℕ) (kind : Kind) (t : Breakdown) (w : ℕ) → 2 ≤ m → IsWellFormed kind t → AllowsRoot m w kind t → TransformsBy m lanes kind (size_of t) w (kernel_of m kind t w)
-kernels_transform m lanes kind t w modulus formed root regs s room wide =
-    let made = kernel_of m kind t w in
-    let done = kernel-does m 1 kind t w modulus formed root in
-    let by_lane = arithmetic_is_by_lane m lanes regs (actions_by lanes made.code) s (actions-arithmetic m regs lanes made.code (AreWithin-more m made.next regs made.code room done.within)) wide in (
-      by_lane.0,
-      λ lane there small.
-          let g : Registers = lane_of lanes s.registers lane in
-          ap (λ (h : Registers). map h made.outs) (by_lane.1 lane there ∙ actions-effect m lanes lane made.code g there)
-          ∙ done.values g (firsts-residues g m (size_of t) small)
-          ∙ ap (transform kind m (size_of t) w) (map-firsts g (size_of t)),
-    )
+module _ (m n : ℕ) (made : Made) (f : Operator) where
+  -- in each lane its outputs are what it makes of the first registers, and it leaves the memory
+  pub does_transform : (lanes price : ℕ) → DoesAt m 1 n price (firsts n) n made f → Transforms m lanes n f made
+  does_transform lanes price done regs s room wide =
+      let by_lane = arithmetic_is_by_lane m lanes regs (actions_by lanes made.code) s
+      (actions-arithmetic m regs lanes made.code (AreWithin-more m made.next regs made.code room done.within)) wide in (
+        by_lane.0,
+        λ lane there small.
+            let g : Registers = lane_of lanes s.registers lane in
+            ap (λ (h : Registers). map h made.outs) (by_lane.1 lane there ∙ actions-effect m lanes lane made.code g there)
+            ∙ done.values g (firsts-residues g m n small)
+            ∙ ap f (map-firsts g n),
+      )
 
--- with exactly the operations that the tree costs, in each lane, where a multiplication counts as `weight` of them
-pub kernels_cost : (weight m lanes : ℕ) (kind : Kind) (t : Breakdown) (w : ℕ) → 0 < weight → 2 ≤ m → IsWellFormed kind t → AllowsRoot m w kind t →
-    weighted weight (counts_of lanes (actions_by lanes (kernel_of m kind t w).code)) ≡ lanes * kernel_cost weight m kind t w
-kernels_cost weight m lanes kind t w counted modulus formed root =
-    let code = (kernel_of m kind t w).code in
-    weighted_is_by_lane weight lanes (actions_by lanes code) counted
-    ∙ ap (λ n. lanes * n) (actions-cost weight lanes code ∙ (kernel-does m weight kind t w modulus formed root).costs)
+  -- with exactly so many operations in each lane, where a multiplication counts as `weight` of them
+  pub does_cost : (weight lanes price : ℕ) → 0 < weight → DoesAt m weight n price (firsts n) n made f →
+      weighted weight (counts_of lanes (actions_by lanes made.code)) ≡ lanes * price
+  does_cost weight lanes price counted done =
+      weighted_is_by_lane weight lanes (actions_by lanes made.code) counted
+      ∙ ap (λ k. lanes * k) (actions-cost weight lanes made.code ∙ done.costs)
 
--- on its own registers alone
-pub kernels_straight : (m : ℕ) (kind : Kind) (t : Breakdown) (w : ℕ) → 2 ≤ m → IsWellFormed kind t → AllowsRoot m w kind t → IsStraight m (size_of t) (kernel_of m kind t w)
-kernels_straight m kind t w modulus formed root =
-    let made = kernel_of m kind t w in
-    let done = kernel-does m 1 kind t w modulus formed root in
-    record {
-      within = done.within;
-      outputs = AllBelow-all made.next made.outs done.below;
-      registers = done.next_is;
-    }
+  -- on its own registers alone
+  pub does_straight : (weight price : ℕ) → DoesAt m weight n price (firsts n) n made f → IsStraight m n made
+  does_straight weight price done =
+      record {
+        within = done.within;
+        outputs = AllBelow-all made.next made.outs done.below;
+        registers = done.next_is;
+      }
+
+-- a transform by its definition
+pub definition_does : (m weight d w : ℕ) → 2 ≤ m → 1 ≤ d →
+    DoesAt m weight d (kernel_cost weight m Dft (leaf d) w) (firsts d) d (kernel_of m Dft (leaf d) w) (transform Dft m d w)
+definition_does m weight d w modulus some = kernel-does m weight Dft (leaf d) w modulus some tt

@@ -17,3 +17,6 @@ pub mod Parts
 pub mod Reduced
 pub mod KernelSizes
 pub mod Products
+pub mod NodeTrees
+pub mod RootedNodes
+pub mod NodeKernels

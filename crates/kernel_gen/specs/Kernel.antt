@@ -10,7 +10,7 @@ use Rattle.ring_mod.specs.Residue.{power_mod}
 use Rattle.tree_model.specs.declared.tree.Rule.{Rule}
 use Rattle.tree_model.specs.declared.tree.Rule.TheVariants.{Gt, Ct, Split, Dim}
 use Rattle.tree_model.specs.Breakdown.{Breakdown, leaf, node, size_of}
-use Rattle.tree_model.specs.Cost.{node_root}
+use Rattle.tree_model.specs.Whole.{rooted_of}
 use Rattle.matrix_meaning.specs.declared.Request.{Request}
 use Rattle.tree_model.specs.Trees.{PlainTrees, single, tensor, trees_size}
 use Rattle.kernel_gen.specs.Making.{Made, Maker, pick_make, then_make, rows_make, matrix_make, diagonal_make}
@@ -42,10 +42,6 @@ tree_make m kind (node rule a b) w =
 abbrev pub kernel_of : ℕ → Kind → Breakdown → ℕ → Made
 kernel_of m kind t w = tree_make m kind t w (list_below (size_of t) (λ k. k)) (size_of t)
 
--- the code of a tree for a node of the request's transform
-abbrev pub node_kernel : Request → Breakdown → Made
-node_kernel c t = kernel_of c.modulus c.kind t (node_root c (size_of t))
-
 -- the code of trees, one for each dimension, as by split
 abbrev pub trees_make : ℕ → PlainTrees → Maker
 trees_make m (single kind root tree) = tree_make m kind tree root
@@ -55,3 +51,7 @@ trees_make m (tensor kind root tree others) =
 -- with its inputs in the first registers
 abbrev pub trees_kernel : ℕ → PlainTrees → Made
 trees_kernel m trees = trees_make m trees (list_below (trees_size trees) (λ k. k)) (trees_size trees)
+
+-- the code of a tree for a node of the request's transform
+abbrev pub node_kernel : Request → Breakdown → Made
+node_kernel p t = trees_kernel p.modulus (rooted_of p t)

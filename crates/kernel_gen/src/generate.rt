@@ -1,9 +1,11 @@
 // Kernels.
-ghost use Rattle.std.specs.Prelude.{◌≡◌, ◌%◌, ◌^◌, ◌<◌, ◌≤◌, [], vec_len, IfOk};
+ghost use Rattle.std.specs.Prelude.{◌≡◌, ◌^◌, ◌<◌, ◌≤◌, [], vec_len, IfOk};
+ghost use Rattle.matrix_meaning.specs.Parts.{forward_of};
 ghost use Rattle.operators.specs.Sum.{list_below};
-ghost use Rattle.tree_model.specs.Breakdown.{breakdown_of, size_of, HasWordSizes, IsWellFormed};
+ghost use Rattle.tree_model.specs.Breakdown.{breakdown_of, leaf, size_of, HasWordSizes};
+ghost use Rattle.tree_model.specs.Chosen.{StandsIn};
+ghost use Rattle.tree_model.specs.Whole.{rooted_of, IsTreeOf};
 ghost use Rattle.kernel_gen.specs.Kernel.{kernel_of, node_kernel, trees_kernel};
-ghost use Rattle.tree_model.specs.Trees.{plain_trees, trees_size, AreWords};
 ghost use Rattle.kernel_gen.specs.Writing.{next_of};
 ghost use Rattle.kernel_gen.specs.Kernels.{made_of, CostsDefinition, CostsNode, IsStraight, TransformsBy, TransformsNode};
 
@@ -14,7 +16,7 @@ use matrix_meaning::Kind;
 use memory::NoMemory;
 use ring_mod::Modulus;
 use std::alloc::Global;
-use tree_model::{Ctx, RootedTrees, Tree, node_root};
+use tree_model::{Ctx, Tree};
 
 // The registers of so many inputs.
 fn first_registers(alloc: Global, n: u64) -> Result<Vec<u64>, NoMemory>
@@ -53,47 +55,36 @@ fn ended(writer: Writer, outputs: Vec<u64>) -> Kernel
     }
 }
 
-/// The code of trees with their roots, one for each dimension, modulo the modulus.
-pub fn trees_kernel(
-    alloc: Global,
-    modulus: &Modulus,
-    trees: &RootedTrees,
-) -> Result<Kernel, NoMemory>
-    requires words { AreWords (plain_trees trees.now) }
-    requires size { trees_size (plain_trees trees.now) < 2 ^ 32 }
-    ensures inputs { IfOk result (λ k. k.inputs ≡ trees_size (plain_trees trees.now)) }
-    ensures code { IfOk result (λ k. made_of k ≡ trees_kernel modulus.now (plain_trees trees.now)) }
-{
-    let inputs = trees.size();
-    let first = first_registers(alloc, inputs)?;
-    let mut writer = begun(alloc, inputs);
-    let outputs = writer.put_trees(alloc, modulus, trees, &first)?;
-    Ok(ended(writer, outputs))
-}
-
-// The code of a tree for this root.
-fn tree_kernel(
-    alloc: Global,
-    modulus: &Modulus,
-    kind: Kind,
-    t: &Tree,
-    root: u64,
-) -> Result<Kernel, NoMemory>
+// The code of a node of the request, modulo the modulus.
+fn node_kernel(alloc: Global, modulus: &Modulus, p: &Ctx, t: &Tree) -> Result<Kernel, NoMemory>
+    requires tree { IsTreeOf p.now (breakdown_of t.now) }
     requires words { HasWordSizes (breakdown_of t.now) }
     requires size { size_of (breakdown_of t.now) < 2 ^ 32 }
     ensures inputs { IfOk result (λ k. k.inputs ≡ size_of (breakdown_of t.now)) }
     ensures code { IfOk result (λ k.
-        made_of k ≡ kernel_of modulus.now kind (breakdown_of t.now) root) }
+        made_of k ≡ trees_kernel modulus.now (rooted_of p.now (breakdown_of t.now))) }
 {
     let inputs = t.size();
     let first = first_registers(alloc, inputs)?;
     let mut writer = begun(alloc, inputs);
+    let outputs = writer.put_node(alloc, modulus, p, t, &first)?;
+    Ok(ended(writer, outputs))
+}
+
+// The code of a Fourier transform by its definition.
+fn leaf_kernel(alloc: Global, modulus: &Modulus, size: u64, root: u64) -> Result<Kernel, NoMemory>
+    requires { size < 2 ^ 32 }
+    ensures inputs { IfOk result (λ k. k.inputs ≡ size) }
+    ensures code { IfOk result (λ k. made_of k ≡ kernel_of modulus.now Kind.Dft (leaf size) root) }
+{
+    let first = first_registers(alloc, size)?;
+    let mut writer = begun(alloc, size);
     let transform = Transform {
         modulus,
-        kind,
+        kind: Kind::Dft,
         root: modulus.reduce(root),
     };
-    let outputs = writer.put_tree(alloc, &transform, t, &first)?;
+    let outputs = writer.put_tree(alloc, &transform, &Tree::Leaf(size), &first)?;
     Ok(ended(writer, outputs))
 }
 
@@ -102,30 +93,32 @@ fn tree_kernel(
 pub fn dft_kernel(alloc: Global, m: &Modulus, d: u64, w: u64) -> Result<Kernel, NoMemory>
     requires { (1 ≤ d) × (d ≤ 8) }
     ensures inputs { IfOk result (λ k. k.inputs ≡ d) }
+    ensures code { IfOk result (λ k. made_of k ≡ kernel_of m.now Kind.Dft (leaf d) w) }
     ensures transforms { IfOk result (λ k. TransformsBy m.now 1 Kind.Dft d w (made_of k)) }
     ensures cost { IfOk result (λ k. CostsDefinition m.now d w (made_of k)) }
     ensures straight { IfOk result (λ k. IsStraight m.now d (made_of k)) }
 {
     let _modulus = m.get();
-    let made = tree_kernel(alloc, m, Kind::Dft, &Tree::Leaf(d), w)?;
+    let made = leaf_kernel(alloc, m, d, w)?;
     Ok(made)
 }
 
-/// The code of a tree for a node of the request's transform: from its inputs in the first registers it leaves the node's
-/// transform in the outputs, in each lane, in exactly the operations that the tree costs where it is a kernel, a
-/// multiplication counted as the request's weight, and names its own registers alone.
+/// The code of a tree that may stand in the request, for its node: from its inputs in the first registers it leaves the
+/// node's transform in the outputs, in each lane, in exactly the operations that the tree costs where it is a kernel, a
+/// multiplication counted as the request's weight, and names its own registers alone. An inverse has the trees of the
+/// request by the inverse root.
 pub fn kernel(alloc: Global, c: &Ctx, t: &Tree) -> Result<Kernel, NoMemory>
-    requires tree { IsWellFormed c.now.kind (breakdown_of t.now) }
-    requires divides { c.now.size % size_of (breakdown_of t.now) ≡ 0 }
+    requires stands { StandsIn c.now (breakdown_of t.now) }
     ensures inputs { IfOk result (λ k. k.inputs ≡ size_of (breakdown_of t.now)) }
-    ensures code { IfOk result (λ k. made_of k ≡ node_kernel c.now (breakdown_of t.now)) }
-    ensures transforms { IfOk result (λ k. TransformsNode c.now (breakdown_of t.now) (made_of k)) }
-    ensures cost { IfOk result (λ k. CostsNode c.now (breakdown_of t.now) (made_of k)) }
+    ensures code { IfOk result (λ k.
+        made_of k ≡ node_kernel (forward_of c.now) (breakdown_of t.now)) }
+    ensures transforms { IfOk result (λ k.
+        TransformsNode (forward_of c.now) (breakdown_of t.now) (made_of k)) }
+    ensures cost { IfOk result (λ k. CostsNode (forward_of c.now) (breakdown_of t.now) (made_of k)) }
     ensures straight { IfOk result (λ k. IsStraight c.now.modulus k.inputs (made_of k)) }
 {
-    let request = c.request();
-    let modulus = Modulus::new(request.modulus).unwrap();
-    let root = node_root(c, t.size());
-    let made = tree_kernel(alloc, &modulus, request.kind, t, root)?;
+    let p = c.forward();
+    let modulus = Modulus::new(p.request().modulus).unwrap();
+    let made = node_kernel(alloc, &modulus, &p, t)?;
     Ok(made)
 }

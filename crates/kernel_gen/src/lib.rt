@@ -10,5 +10,5 @@ mod straight;
 mod transform;
 mod writer;
 
-pub use generate::{dft_kernel, kernel, trees_kernel};
+pub use generate::{dft_kernel, kernel};
 pub use straight::{Instruction, Kernel};

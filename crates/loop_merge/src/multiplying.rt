@@ -41,8 +41,8 @@ pub(crate) fn with_diagonal(
         (plain_merging state).waiting (plain_merging state).passes path.items
         (plain_factors factors)) }
 {
-    let count = factor_count(&path, &factors);
-    let places = factor_places(alloc, limits.size, &state.waiting, &path, &factors)?;
+    let count = factor_count(&factors);
+    let places = factor_places(alloc, &state.waiting, &path, &factors)?;
     let diagonal = Diagonal {
         factors,
         count,

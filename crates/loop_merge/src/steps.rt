@@ -12,7 +12,7 @@ use crate::copies::{settled, taken, with_before, with_first};
 use crate::firsts::{FirstPass, from_end, parted};
 use crate::state::Merging;
 use index_fn::Index;
-use loop_nests::{Change, Limits, back_of, scattered};
+use loop_nests::{Change, Limits, scattered};
 use memory::NoMemory;
 use sigma_spl::Nest;
 use std::alloc::Global;
@@ -67,7 +67,7 @@ pub(crate) fn with_scatter(
 {
     let Merging { waiting, passes } = state;
     if !waiting.is_empty() {
-        let next = with_gather(Merging { waiting, passes }, back_of(alloc, f)?)?;
+        let next = with_gather(Merging { waiting, passes }, f.inverse(alloc)?)?;
         return Ok(next);
     }
     let next = scattered_last(alloc, passes, f, limits)?;
@@ -90,7 +90,7 @@ fn scattered_last(
     let waiting = Vec::new(alloc);
     let Some(FirstPass { first, others }) = parted(passes) else {
         let passes = Vec::new(alloc);
-        let next = with_gather(Merging { waiting, passes }, back_of(alloc, f)?)?;
+        let next = with_gather(Merging { waiting, passes }, f.inverse(alloc)?)?;
         return Ok(next);
     };
     match scattered(alloc, f, first, limits)? {
@@ -100,7 +100,7 @@ fn scattered_last(
         }
         Change::Refused(first) => {
             let passes = with_first(first, others)?;
-            let next = with_gather(Merging { waiting, passes }, back_of(alloc, f)?)?;
+            let next = with_gather(Merging { waiting, passes }, f.inverse(alloc)?)?;
             Ok(next)
         }
     }
@@ -127,7 +127,7 @@ pub(crate) fn ended(
         let passes = settled_from_end(alloc, waiting, limits)?;
         return Ok(passes);
     };
-    let back = back_of(alloc, f)?;
+    let back = f.inverse(alloc)?;
     match scattered(alloc, &back, first, limits)? {
         Change::Made(pass) => {
             let passes = with_first(pass, others)?;

@@ -1,4 +1,3 @@
-pub mod Fitting
 pub mod Sums
 pub mod Passes
 pub mod Changes

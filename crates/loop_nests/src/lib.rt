@@ -12,7 +12,7 @@ mod sum_limits;
 pub use beside::sides;
 pub use nests::{alone, copied_nest, copying, copying_words, moved_nest, natural_nest};
 pub use pass_places::{
-    Change, Diagonal, back_of, factor_count, factor_places, gathered, multiplied,
-    multiplied_in_order, scattered,
+    Change, Diagonal, factor_count, factor_places, gathered, multiplied, multiplied_in_order,
+    scattered,
 };
 pub use sum_limits::{Limits, carry_within, is_within, simplify_within};

@@ -4,6 +4,6 @@ mod backs;
 mod diagonals;
 mod places;
 
-pub use backs::{back_of, factor_count, factor_places};
+pub use backs::{factor_count, factor_places};
 pub use diagonals::{Diagonal, multiplied, multiplied_in_order};
 pub use places::{Change, gathered, scattered};

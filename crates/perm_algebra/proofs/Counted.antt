@@ -5,8 +5,7 @@ use Rattle.std.proofs.lemmas.Bool.Decides.{nat_tests}
 use Rattle.index_fn.specs.Mapping.{Mapping, Same, Always, Line, Strided, ThomasIn, ThomasOut, ThomasBack, Listed, Paired, After, IsWellFormed}
 use Rattle.perm_algebra.specs.Affine.{Sum, constant, variable, remainder, quotient, top, scaled, joined, head, rest_of, Divided, divided, mods, reduced, simplified, HasNoList}
 use Rattle.perm_algebra.specs.Room.{HasCounts, IsReady}
-use Rattle.perm_algebra.proofs.AffineLaws.{sound-rest}
-use Rattle.perm_algebra.proofs.Values.{sound-scaled, sound-joined, sound-mods, divides, simplifies}
+use Rattle.perm_algebra.proofs.Values.{simplifies}
 
 counts-scaled : (n k : ℕ) (e : Sum) → HasCounts n e → HasCounts n (scaled k e)
 counts-scaled n k (constant c) h = tt
@@ -121,25 +120,6 @@ counts-simplified cs n (Paired f c g w) e h =
 counts-simplified cs n (After f g) e h = counts-simplified cs n f (simplified cs g e) (counts-simplified cs n g e h)
 
 -- ---- as the contracts say it
-
-pub ready-rest : (n s : ℕ) (e r : Sum) → r ≡ rest_of s e → IsReady n e → IsReady n r
-ready-rest n s e r is h = rw is (record { counts = counts-rest n s e h.counts; sound = sound-rest s e h.sound })
-
-pub ready-mods : (n s : ℕ) (e r : Sum) → r ≡ mods s e → IsReady n e → IsReady n r
-ready-mods n s e r is h = rw is (record { counts = counts-mods n s e h.counts; sound = sound-mods s e h.sound })
-
-pub ready-quot : (cs : ℕ → ℕ) (n s : ℕ) (e : Sum) → 0 < s → IsReady n e → IsReady n (divided cs s e).quot
-ready-quot cs n s e positive h = record { counts = (counts-divided cs n s e h.counts).quot; sound = (divides cs (λ _. 0) s e positive h.sound (λ d. omega arith)).quot_sound }
-
-pub ready-rem : (cs : ℕ → ℕ) (n s : ℕ) (e : Sum) → 0 < s → IsReady n e → IsReady n (divided cs s e).rem
-ready-rem cs n s e positive h = record { counts = (counts-divided cs n s e h.counts).rem; sound = (divides cs (λ _. 0) s e positive h.sound (λ d. omega arith)).rem_sound }
-
-pub ready-mixed : (n a b : ℕ) (e g : Sum) → IsReady n e → IsReady n g → IsReady n (joined (scaled a e) (scaled b g))
-ready-mixed n a b e g h k =
-    record {
-      counts = counts-joined n (scaled a e) (scaled b g) (counts-scaled n a e h.counts) (counts-scaled n b g k.counts);
-      sound = sound-joined (scaled a e) (scaled b g) (sound-scaled a e h.sound) (sound-scaled b g k.sound);
-    }
 
 pub ready-simplified : (cs : ℕ → ℕ) (n : ℕ) (f : Mapping) (e : Sum) → IsWellFormed f → HasNoList f → IsReady n e → IsReady n (simplified cs f e)
 ready-simplified cs n f e formed none h =

@@ -1,6 +1,7 @@
 -- The terms of a whole can be merged.
-use Rattle.std.proofs.Common.{◌≡◌, ℕ, ◌*◌, ◌<◌, ◌≤◌, ◌==◌, Bool, true, false, arith, refl, sym, List, [], ◌∷◌, ◌++◌, subst, if◌then◌else◌}
+use Rattle.std.proofs.Common.{◌≡◌, ℕ, ◌*◌, ◌^◌, ◌<◌, ◌≤◌, ◌==◌, Bool, true, false, arith, refl, sym, List, [], ◌∷◌, ◌++◌, subst, if◌then◌else◌}
 use Rattle.std.specs.Prelude.{map}
+use Rattle.std.proofs.lemmas.Bool.{lt-ltb}
 use Rattle.std.proofs.lemmas.Bool.Decides.{nat_tests}
 use Rattle.index_fn.specs.Mapping.{Mapping, Strided, ThomasIn, ThomasOut, ThomasBack}
 use Rattle.sigma_lower.specs.Machine.{IsMachine}
@@ -55,14 +56,14 @@ scat-words path n f h k = (h, subst (HasNumbers (size_under path n)) (sym (back-
 core-words : (path : Path) (k : PlainCore) → IsGoodCore k → core_size k ≤ 1048576 → size_under path (core_size k) ≤ 1048576 → AreWords (size_under path (core_size k)) (core_term path k)
 core-words path (piece w) h low high = piece-words w h
 core-words path (turns r s) h low high =
-    let closed = strided-closed r s (omega (arith, h.0)) (omega (arith, h.1)) low in numbers-wrapped path (r * s) (Strided r s) high tt closed.0 closed.1
+    let closed = strided-closed r s (omega (arith, h.0)) (omega (arith, h.1)) low in numbers-wrapped path (r * s) (Strided r s) high refl closed.0 closed.1
 core-words path (steps.twiddles r s w) h low high = tt
 core-words path (thomas_in r s) h low high =
-    let closed = in-closed r s h in numbers-wrapped path (r * s) (ThomasIn r s) high (omega (arith, low)) closed.0 closed.1
+    let closed = in-closed r s h in numbers-wrapped path (r * s) (ThomasIn r s) high (lt-ltb (r * s) (2 ^ 32) (omega (arith, low))) closed.0 closed.1
 core-words path (thomas_out r s) h low high =
     let closed = out-closed r s h in
     let back : Mapping = ThomasBack r s (unit_below r s r) (unit_below s r s) in
-    scat-words path (r * s) back (numbers-wrapped path (r * s) back high tt closed.1 closed.0) (numbers-wrapped path (r * s) (ThomasOut r s) high (omega (arith, low)) closed.0 closed.1)
+    scat-words path (r * s) back (numbers-wrapped path (r * s) back high refl closed.1 closed.0) (numbers-wrapped path (r * s) (ThomasOut r s) high (lt-ltb (r * s) (2 ^ 32) (omega (arith, low))) closed.0 closed.1)
 
 step-words : (c : Target) (s : PlainStep) → IsMachine c → IsGood c.size s → AreWords c.size (embed (lowered.lowered s))
 step-words c s valid h =
@@ -76,7 +77,7 @@ after-words c path (turns r s) valid h =
     let sizes = sizes-of c (step path (turns r s)) valid h in
     let closed = strided-closed r s (omega (arith, h.core.0)) (omega (arith, h.core.1)) sizes.low in
     subst (λ m. AreWords m (scat (wrapped path n (Strided s r)))) h.size
-    (scat-words path n (Strided s r) (numbers-wrapped path n (Strided s r) sizes.high tt closed.1 closed.0) (numbers-wrapped path n (Strided r s) sizes.high tt closed.0 closed.1))
+    (scat-words path n (Strided s r) (numbers-wrapped path n (Strided s r) sizes.high refl closed.1 closed.0) (numbers-wrapped path n (Strided r s) sizes.high refl closed.0 closed.1))
 after-words c path (steps.twiddles r s w) valid h = step-words c (step path (steps.twiddles r s w)) valid h
 after-words c path (thomas_in r s) valid h = step-words c (step path (thomas_in r s)) valid h
 after-words c path (thomas_out r s) valid h = step-words c (step path (thomas_out r s)) valid h

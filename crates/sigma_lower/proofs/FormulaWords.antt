@@ -1,6 +1,6 @@
 -- The numbers of a formula's term are words.
-use Rattle.std.proofs.Common.{◌≡◌, ℕ, zero, suc, ◌*◌, ◌/◌, ◌≤◌, arith, sym, ap, ◌∙◌, [], ◌∷◌, ◌++◌, inl, inr, subst, mul_comm}
-use Rattle.std.proofs.lemmas.Bool.{cases_lt}
+use Rattle.std.proofs.Common.{◌≡◌, ℕ, zero, suc, ◌*◌, ◌/◌, ◌^◌, ◌≤◌, arith, refl, sym, ap, ◌∙◌, [], ◌∷◌, ◌++◌, inl, inr, subst, mul_comm}
+use Rattle.std.proofs.lemmas.Bool.{cases_lt, lt-ltb}
 use Rattle.std.proofs.lemmas.Bool.Decides.{nat_tests}
 use Rattle.index_fn.specs.Mapping.{Strided, ThomasIn, ThomasOut}
 use Rattle.matrix_meaning.specs.declared.Kind.TheVariants.{Dft}
@@ -45,14 +45,14 @@ term-words m path (Stride n r) high shaped =
     let small : r * (n / r) ≤ 1048576 = omega (arith, whole, shaped.0.1) in
     let closed = strided-closed r (n / r) shaped.1.0 count small in
     let size : size_under path (r * (n / r)) ≡ size_under path n = ap (size_under path) whole in
-    subst (λ z. HasNumbers z (wrapped path (r * (n / r)) (Strided r (n / r)))) size (numbers-wrapped path (r * (n / r)) (Strided r (n / r)) (omega (arith, size, high)) tt closed.0 closed.1)
+    subst (λ z. HasNumbers z (wrapped path (r * (n / r)) (Strided r (n / r)))) size (numbers-wrapped path (r * (n / r)) (Strided r (n / r)) (omega (arith, size, high)) refl closed.0 closed.1)
 term-words m path (Permutation k) high shaped = tt
 term-words m path (GoodThomasIn r s) high shaped =
     let closed = in-closed r s (coprime r s shaped.1.first shaped.1.second shaped.1.coprime shaped.0.1) in
-    numbers-wrapped path (r * s) (ThomasIn r s) high (let low = shaped.0.1 in omega (arith, low)) closed.0 closed.1
+    numbers-wrapped path (r * s) (ThomasIn r s) high (let low = shaped.0.1 in lt-ltb (r * s) (2 ^ 32) (omega (arith, low))) closed.0 closed.1
 term-words m path (GoodThomasOut r s) high shaped =
     let closed = out-closed r s (coprime r s shaped.1.first shaped.1.second shaped.1.coprime shaped.0.1) in
-    numbers-wrapped path (r * s) (ThomasOut r s) high (let low = shaped.0.1 in omega (arith, low)) closed.0 closed.1
+    numbers-wrapped path (r * s) (ThomasOut r s) high (let low = shaped.0.1 in lt-ltb (r * s) (2 ^ 32) (omega (arith, low))) closed.0 closed.1
 term-words m path (Product a b) high shaped =
     let size : size_under path (size_of a) ≡ size_under path (size_of b) = ap (size_under path) shaped.2 in
     (subst (λ z. AreWords z (term_of m path b)) (sym size) (term-words m path b (omega (arith, size, high)) shaped.1), term-words m path a high shaped.0)

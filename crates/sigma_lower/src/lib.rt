@@ -22,7 +22,7 @@ pub use tree_loops::{
     layouts_count, loops_are_limited, loops_listed, merge_counts, passes_are_framed,
     phases_are_shared, tree_nests, trees_merge,
 };
-pub use tree_terms::{lowered_transforms, plain_terms, shared_terms, under, unit};
+pub use tree_terms::{lowered_transforms, plain_terms, shared_terms, under};
 
 /// The term of a formula does what the formula does.
 pub fn lower_keeps()

@@ -21,8 +21,8 @@ ghost use Rattle.vec_rewrite.specs.Vectors.{factor_step, vec_on, vec_shares};
 ghost use Rattle.vec_rewrite.specs.Views.{plain_vec, plain_vec_factor};
 
 use crate::formula::{gather, in_turn};
-use crate::tree_terms::{under, unit};
-use index_fn::Index;
+use crate::tree_terms::under;
+use index_fn::{Index, unit};
 use memory::NoMemory;
 use operators::Tensor;
 use sigma_spl::{Factors, Sigma, Term, Work};

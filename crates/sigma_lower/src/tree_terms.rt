@@ -1,10 +1,10 @@
 // Laws of the terms that a layout's formula for processors and lanes stands for, and index functions of permutations under tensors.
-ghost use Rattle.std.specs.Prelude.{◌≡◌, ◌*◌, ◌^◌, ◌<◌, IfOk};
+ghost use Rattle.std.specs.Prelude.{◌≡◌, IfOk};
 ghost use Rattle.index_fn.specs.Index.{mapping_of};
 ghost use Rattle.sigma_spl.specs.Room.{HasRoom};
 ghost use Rattle.sigma_lower.specs.TreeTerms.Root.{SharedTerms};
 ghost use Rattle.sigma_lower.specs.TreeTerms.Term.{LoweredTransforms, PlainTerms};
-ghost use Rattle.sigma_lower.specs.TreeTerms.Wrapped.{wrapped, unit_below, unit_of};
+ghost use Rattle.sigma_lower.specs.TreeTerms.Wrapped.{wrapped};
 
 use index_fn::Index;
 use memory::NoMemory;
@@ -29,20 +29,6 @@ pub fn under(alloc: Global, path: &[Tensor], n: u64, f: Index) -> Result<Index, 
             }
         }
     }
-}
-
-/// A multiple of `s` that leaves 1 by `r`, or 0 where there is none.
-pub fn unit(r: u64, s: u64) -> u64
-    requires { r * s < 2 ^ 64 }
-    ensures { result ≡ unit_of r s }
-{
-    let mut found = 0;
-    for k in 0..r {
-        if s * k % r == 1 % r {
-            found = s * k;
-        }
-    }
-    found
 }
 
 /// The terms of a layout do what it does.

@@ -1,7 +1,8 @@
 -- Merging: each permutation goes into the loads of the pass after it, or the stores of the one before it, each diagonal into the pass before it; a copy pass takes what no pass can take within the limits.
 use Rattle.std.specs.Prelude.{ℕ, zero, suc, ◌%◌, ◌+◌, ◌-◌, ◌*◌, ◌^◌, ◌==◌, nat_lt, nat_le, Bool, true, false, not, ◌&&◌, if◌then◌else◌, List, [], ◌∷◌, ◌++◌, map, length, slice_index, Option, Some, None}
 use Rattle.std.specs.List.{range_with_len, list_all}
-use Rattle.index_fn.specs.Mapping.{Mapping, Same, Always, Line, Strided, ThomasIn, ThomasOut, ThomasBack, Paired, After, at}
+use Rattle.index_fn.specs.Mapping.{Mapping, at}
+pub use Rattle.index_fn.specs.Back.{back_of, inverse_below, unit_below}
 use Rattle.perm_algebra.specs.Affine.{Sum, constant, variable, remainder, quotient, top, peak, levels, parts, scaled, joined, simplified}
 use Rattle.perm_algebra.specs.Room.{has_room}
 use Rattle.operators.specs.Sum.{list_below}
@@ -164,26 +165,6 @@ pub record Merging : Type 0 where
 
 abbrev pub nothing : Merging
 nothing = record { waiting = []; passes = [] }
-
--- the greatest multiple of s below r * s that leaves 1 by r
-abbrev pub unit_below : ℕ → ℕ → ℕ → ℕ
-unit_below r s zero = 0
-unit_below r s (suc k) = if (s * k) % r == 1 % r then s * k else unit_below r s k
-
--- a number below the bound that times s leaves 1 by r, and times r leaves 1 by s
-abbrev pub inverse_below : ℕ → ℕ → ℕ → ℕ
-inverse_below r s zero = 0
-inverse_below r s (suc b) = if (s * b) % r == 1 % r && (r * b) % s == 1 % s then b else inverse_below r s b
-
--- the permutation that undoes one
-abbrev pub back_of : Mapping → Mapping
-back_of (Strided r s) = Strided s r
-back_of (ThomasIn r s) = After (ThomasOut r s) (After (Paired (Always 0) 0 Same (r * s)) (Line 0 (inverse_below r s (r * s))))
-back_of (ThomasOut r s) = ThomasBack r s (unit_below r s r) (unit_below s r s)
-back_of (ThomasBack r s u v) = ThomasOut r s
-back_of (Paired f c g d) = Paired (back_of f) c (back_of g) d
-back_of (After f g) = After (back_of g) (back_of f)
-back_of f = f
 
 -- a pass with what it took of the gathers that wait, and those that are left
 pub record Taking : Type 0 where

@@ -4,7 +4,7 @@ use Rattle.std.specs.Option.{option_map}
 use Rattle.sigma_spl.specs.Merged.{PlainMerged}
 use Rattle.sigma_spl.specs.Sigma.{PlainSigma}
 use Rattle.sigma_spl.specs.Nest.{PlainFactors, values, twiddles, repeated, spread, PlainMultiplier, PlainNest}
-use Rattle.sigma_spl.specs.Work.{PlainWork, kernel, rows, horner, tile, copy}
+use Rattle.sigma_spl.specs.Work.{PlainWork, kernel, rows, horner, tile, copy, node_of, short}
 use Rattle.sigma_spl.specs.declared.nest.Factors.{Factors}
 use Rattle.sigma_spl.specs.declared.nest.Factors.TheVariants.{Values, Twiddles, Repeated, Spread'}
 use Rattle.sigma_spl.specs.declared.nest.Merged.{Merged}
@@ -16,12 +16,13 @@ use Rattle.sigma_spl.specs.declared.term.Term.TheVariants.{Same, Gath, Scat, Dia
 use Rattle.sigma_spl.specs.Term.{PlainTerm, same, gath, scat, diag, nest, move, product, beside}
 use Rattle.index_fn.specs.Index.{mapping_of}
 use Rattle.sigma_spl.specs.declared.work.Work.{Work}
-use Rattle.sigma_spl.specs.declared.work.Work.TheVariants.{Kernel, Dense, Horner, Tile, Copy}
+use Rattle.sigma_spl.specs.declared.work.Work.TheVariants.{Kernel, Short, Dense, Horner, Tile, Copy}
 use Rattle.perm_algebra.specs.Views.{plain_sum}
-use Rattle.tree_model.specs.Trees.{plain_trees}
+use Rattle.tree_model.specs.Breakdown.{breakdown_of}
 
 abbrev pub plain_work : Work → PlainWork
-plain_work (Kernel trees) = kernel (plain_trees trees)
+plain_work (Kernel ctx tree) = kernel (node_of ctx (breakdown_of tree))
+plain_work (Short kind root size) = kernel (short kind root size)
 plain_work (Dense root size) = rows root size
 plain_work (Horner root size) = horner root size
 plain_work (Tile lanes) = tile lanes

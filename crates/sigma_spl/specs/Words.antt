@@ -1,26 +1,18 @@
 -- Terms whose numbers are words, also while they are merged.
-use Rattle.std.specs.Prelude.{ℕ, ◌*◌, ◌^◌, ◌<◌}
-use Rattle.index_fn.specs.Mapping.{Mapping, ThomasIn, ThomasOut, Paired, After, IsDefinedAt}
-use Rattle.sigma_spl.specs.Merge.{back_of}
+use Rattle.std.specs.Prelude.{ℕ, ◌<◌}
+use Rattle.index_fn.specs.Back.{HasBack, back_of}
+use Rattle.index_fn.specs.Mapping.{Mapping, IsDefinedAt}
 use Rattle.sigma_spl.specs.Term.{PlainTerm, gath, scat, nest, product, beside}
 use Rattle.sigma_spl.specs.Work.{HasWords}
 
 -- ---- functions
-
--- what is tried to undo it stays a word
-abbrev pub HasSmallFactors : Mapping → Type 0
-HasSmallFactors (ThomasIn r s) = r * s < 2 ^ 21
-HasSmallFactors (ThomasOut r s) = r * s < 2 ^ 21
-HasSmallFactors (Paired f c g d) = HasSmallFactors f × HasSmallFactors g
-HasSmallFactors (After f g) = HasSmallFactors f × HasSmallFactors g
-HasSmallFactors f = Unit {0}
 
 abbrev pub IsDefinedBelow : ℕ → Mapping → Type 0
 IsDefinedBelow n f = (i : ℕ) → i < n → IsDefinedAt f i
 
 -- a function of words, and back
 pub record HasNumbers (n : ℕ) (f : Mapping) : Type 0 where
-  pub small : HasSmallFactors f
+  pub undone : HasBack f
   pub there : IsDefinedBelow n f
   pub back : IsDefinedBelow n (back_of f)
 

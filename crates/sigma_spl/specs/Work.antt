@@ -1,15 +1,29 @@
 -- What a loop does to each of its copies.
 use Rattle.std.specs.Prelude.{ℕ, ◌*◌, ◌^◌, ◌<◌, Bool, true, false, slice_index}
+use Rattle.matrix_meaning.specs.declared.Kind.{Kind}
 use Rattle.matrix_meaning.specs.declared.Kind.TheVariants.{Dft}
+use Rattle.matrix_meaning.specs.declared.Request.{Request}
 use Rattle.matrix_meaning.specs.Kind.{transform}
 use Rattle.operators.specs.Identities.{turn}
 use Rattle.operators.specs.Operator.{Operator}
 use Rattle.operators.specs.Sum.{list_below}
-use Rattle.tree_model.specs.Trees.{PlainTrees, trees_size, trees_on, AreWords}
+use Rattle.tree_model.specs.Breakdown.{Breakdown, leaf}
+use Rattle.tree_model.specs.Trees.{PlainTrees, single, trees_size, trees_on, AreWords}
+use Rattle.tree_model.specs.Whole.{rooted_of}
+
+-- trees in straight-line code: that of a node of a request, or a short leaf by any root
+pub data PlainKernel : Type 0 where
+  node_of : (p : Request) (t : Breakdown) → PlainKernel
+  short : (kind : Kind) (root size : ℕ) → PlainKernel
+
+-- with their roots, one for each dimension
+abbrev pub trees_of : PlainKernel → PlainTrees
+trees_of (node_of p t) = rooted_of p t
+trees_of (short kind root size) = single kind root (leaf size)
 
 pub data PlainWork : Type 0 where
   -- the tensor product of the trees' transforms, in straight-line code
-  kernel : (trees : PlainTrees) → PlainWork
+  kernel : (k : PlainKernel) → PlainWork
   -- a longer leaf by its rows: the sum of the items' products with powers of a root of this size
   rows : (root size : ℕ) → PlainWork
   -- the same transform for any root, each row by Horner's rule
@@ -20,7 +34,7 @@ pub data PlainWork : Type 0 where
   copy : (size : ℕ) → PlainWork
 
 abbrev pub work_size : PlainWork → ℕ
-work_size (kernel trees) = trees_size trees
+work_size (kernel k) = trees_size (trees_of k)
 work_size (rows root size) = size
 work_size (horner root size) = size
 work_size (tile lanes) = lanes * lanes
@@ -28,7 +42,7 @@ work_size (copy size) = size
 
 -- what it makes of the items of a copy, modulo m
 abbrev pub work_on : ℕ → PlainWork → Operator
-work_on m (kernel trees) x = trees_on m trees x
+work_on m (kernel k) x = trees_on m (trees_of k) x
 work_on m (rows root size) x = transform Dft m size root x
 work_on m (horner root size) x = transform Dft m size root x
 work_on m (tile lanes) x = turn lanes lanes x
@@ -47,6 +61,6 @@ vectors_of work = work_size work
 
 -- the numbers of a copy are words
 abbrev pub HasWords : PlainWork → Type 0
-HasWords (kernel trees) = AreWords trees
+HasWords (kernel k) = AreWords (trees_of k)
 HasWords (tile lanes) = lanes * lanes < 2 ^ 64
 HasWords work = Unit {0}

@@ -24,7 +24,7 @@ pub fn items_in(alloc: Global, work: &Work, depth: u64) -> Result<Vec<Affine>, N
         Work::Dense { .. } => one(alloc, multiple_of(alloc, 1, depth + 1, 0)?),
         Work::Horner { size, .. } => one(alloc, backwards(alloc, *size, depth + 1)?),
         Work::Tile { lanes } => multiples(alloc, *lanes),
-        Work::Kernel(_) | Work::Copy { .. } => numbers(alloc, work.size()),
+        Work::Kernel { .. } | Work::Short { .. } | Work::Copy { .. } => numbers(alloc, work.size()),
     }
 }
 
@@ -37,7 +37,7 @@ pub fn items_out(alloc: Global, work: &Work, depth: u64) -> Result<Vec<Affine>, 
     match work {
         Work::Dense { .. } | Work::Horner { .. } => one(alloc, multiple_of(alloc, 1, depth, 0)?),
         Work::Tile { lanes } => multiples(alloc, *lanes),
-        Work::Kernel(_) | Work::Copy { .. } => numbers(alloc, work.size()),
+        Work::Kernel { .. } | Work::Short { .. } | Work::Copy { .. } => numbers(alloc, work.size()),
     }
 }
 

@@ -3,15 +3,18 @@ ghost use Rattle.std.specs.Prelude.{◌≡◌, IfOk};
 ghost use Rattle.sigma_spl.specs.Views.{plain_work};
 ghost use Rattle.sigma_spl.specs.Work.{HasWords, is_straight, vectors_of, work_size};
 
+use matrix_meaning::Kind;
 use memory::NoMemory;
 use std::alloc::Global;
-use tree_model::RootedTrees;
+use tree_model::{Ctx, Tree};
 
 /// The work of a nest on each of its copies. It carries all that its meaning rests on but the modulus.
 #[derive(Drop)]
 pub enum Work {
-    /// The tensor product of the trees' transforms, in straight-line code.
-    Kernel(RootedTrees),
+    /// The transform of a node of the request, in straight-line code.
+    Kernel { ctx: Ctx, tree: Tree },
+    /// A transform of few items by its definition, in straight-line code. The root of a Fourier transform may be any.
+    Short { kind: Kind, root: u64, size: u64 },
     /// A longer leaf by its rows: each the sum of the items' products with powers of a root of this size.
     Dense { root: u64, size: u64 },
     /// The same transform for any root, each row by Horner's rule.
@@ -24,13 +27,17 @@ pub enum Work {
 
 impl Work {
     /// How many items a copy has.
+    #[tactic(auto, using(tree_model::proofs::RootedTrees::rooted_size, tree_model::proofs::RootedTrees::rooted_words))]
     pub fn size(&self) -> u64
         requires { HasWords (plain_work self.now) }
         ensures { result ≡ work_size (plain_work self.now) }
     {
         match self {
-            Work::Kernel(trees) => trees.size(),
-            Work::Dense { size, .. } | Work::Horner { size, .. } | Work::Copy { size } => *size,
+            Work::Kernel { tree, .. } => tree.size(),
+            Work::Short { size, .. }
+            | Work::Dense { size, .. }
+            | Work::Horner { size, .. }
+            | Work::Copy { size } => *size,
             Work::Tile { lanes } => lanes * lanes,
         }
     }
@@ -52,7 +59,7 @@ impl Work {
     {
         match self {
             Work::Dense { .. } | Work::Horner { .. } => false,
-            Work::Kernel(_) | Work::Tile { .. } | Work::Copy { .. } => true,
+            Work::Kernel { .. } | Work::Short { .. } | Work::Tile { .. } | Work::Copy { .. } => true,
         }
     }
 
@@ -61,7 +68,15 @@ impl Work {
         ensures { IfOk result (λ work. plain_work work ≡ plain_work self.now) }
     {
         match self {
-            Work::Kernel(trees) => Ok(Work::Kernel(trees.copied(alloc)?)),
+            Work::Kernel { ctx, tree } => Ok(Work::Kernel {
+                ctx: *ctx,
+                tree: tree.copied(alloc)?,
+            }),
+            Work::Short { kind, root, size } => Ok(Work::Short {
+                kind: *kind,
+                root: *root,
+                size: *size,
+            }),
             Work::Dense { root, size } => Ok(Work::Dense {
                 root: *root,
                 size: *size,

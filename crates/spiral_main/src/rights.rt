@@ -37,7 +37,7 @@ ghost use Rattle.commands.specs.PlanText.{plan_text};
 
 /// An outcome that is Success is what a call comes to, unless a read or a write fails or memory runs out.
 pub fn outcomes_come()
-    ensures { (words : List (List ℕ)) (bytes : List ℕ) (left before after : Option (List ℕ))
+    ensures { (words : List (List ℕ)) (bytes left : List ℕ) (before after : Option (List ℕ))
         (status : SpecStatus) (text : List ℕ) → IsOutcome words bytes Success text
         → Accounts words bytes left before after status
         → status ≢ ReadFault → status ≢ WriteFault → status ≢ NoMemory

@@ -2,12 +2,10 @@
 use Rattle.std.proofs.Common.{◌≡◌, ◌≢◌, ℕ, zero, suc, ◌*◌, ◌%◌, ◌<◌, ◌≤◌, ◌+◌, ◌/◌, arith, refl, sym, ap, ap₂, ◌∙◌, List, [], ◌∷◌, ◌++◌, inl, inr, mod-lt, subst, mul_comm, div-lt_iff_lt-mul, mul-le-mul_left, mul-le-mul_right}
 use Rattle.std.specs.Prelude.{map}
 use Rattle.std.proofs.Math.Nat.{zero-mod, mod-eq_of_lt, div-add-mod'}
-use Rattle.std.proofs.lemmas.Bool.{cases_eq}
-use Rattle.std.proofs.lemmas.Bool.Decides.{nat_tests}
 use Rattle.std.proofs.lemmas.List.FromFn.{fill_by_all}
 use Rattle.std.proofs.lemmas.Nat.{mul-lt, mul-mod_second}
 use Rattle.index_fn.specs.Mapping.{Strided, ThomasIn, ThomasOut, ThomasBack, at, IsUnit}
-use Rattle.index_fn.proofs.Thomas.{thomas_out_undoes, unit_found}
+use Rattle.index_fn.proofs.Thomas.{thomas_out_undoes, unit_from}
 use Rattle.operators.specs.Loop.{scatter, IsPermutationBelow}
 use Rattle.operators.specs.Operator.{gather, scale, stride}
 use Rattle.operators.proofs.Lists.{at-list_below, place_below, row-of, column-of, factor_positive}
@@ -34,7 +32,7 @@ use Rattle.tree_model.specs.Breakdown.{size_of}
 use Rattle.tree_model.proofs.Sizes.{one_le_size_of}
 use Rattle.vec_rewrite.specs.Vectors.{PlainFactor, lanes, diagonals, move_before, move_after, tiles, factor_step}
 use Rattle.sigma_lower.specs.TreeTerms.Term.{nest, lowered_core, after_core, factor_term, term_on, terms_on, diagonal_at}
-use Rattle.sigma_lower.specs.TreeTerms.Wrapped.{wrapped, unit_below, unit_of}
+use Rattle.sigma_lower.specs.TreeTerms.Wrapped.{wrapped, unit_of}
 use Rattle.sigma_lower.proofs.TreeTerms.Permuted.{StaysBelow, gather-under, scale-under, wrapped-permutes}
 use Rattle.sigma_lower.proofs.TreeTerms.Sizes.{within_whole}
 -- ---- the steps of a layout are good: of the size of the whole, and with the factors that their permutations need
@@ -94,16 +92,6 @@ good_steps m n path (by rule root a b) some high h e =
     (good_steps m n (path ++ Blocks r ∷ []) b some high h.2 (size_under-push path (Blocks r) s ∙ e))
 
 -- ---- the numbers of the inverse of a Good-Thomas step
-
-unit_from : (r s bound k : ℕ) → bound ≤ r → 1 ≤ s → k < bound → (s * k) % r ≡ 1 % r → IsUnit r s (unit_below r s bound)
-unit_from r s zero k h g below e = absurd (omega arith)
-unit_from r s (suc b) k h g below e =
-    elim (cases_eq ((s * b) % r) (1 % r)) [
-      | inl here ↦ let is : unit_below r s (suc b) ≡ s * b = grind (arith, nat_tests) in rw is (unit_found r s b (omega arith) g here)
-      | inr other ↦
-          let is : unit_below r s (suc b) ≡ unit_below r s b = grind (arith, nat_tests) in
-          let apart : k ≢ b = λ same. other (ap (λ j. (s * j) % r) (sym same) ∙ e) in rw is (unit_from r s b k (omega arith) g (omega arith) e)
-    ]
 
 pub units_of : (r s u : ℕ) → 0 < r → 0 < s → (s * u) % r ≡ 1 % r → IsUnit r s (unit_of r s)
 units_of r s u h g e = unit_from r s r (u % r) (omega arith) (omega arith) (mod-lt u h) (mul-mod_second s u r ∙ e)

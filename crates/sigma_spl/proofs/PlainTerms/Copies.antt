@@ -15,7 +15,7 @@ use Rattle.operators.proofs.Sums.{sum_below-same}
 use Rattle.sigma_spl.specs.Copies.{loops_of, both}
 use Rattle.sigma_spl.specs.Good.{AreBelow}
 use Rattle.sigma_spl.specs.Term.{PlainTerm, same, gath, scat, diag, nest, move, product, beside, term_on}
-use Rattle.sigma_spl.specs.Work.{PlainWork, kernel, rows, horner, tile, copy, work_size, work_on}
+use Rattle.sigma_spl.specs.Work.{PlainWork, kernel, rows, horner, tile, copy, trees_of, work_size, work_on}
 use Rattle.sigma_spl.proofs.CopiesMerge.{low, high}
 use Rattle.sigma_spl.proofs.Moved.{at-below}
 use Rattle.sigma_spl.proofs.Natural.{at-natural}
@@ -28,7 +28,10 @@ use Rattle.spl_ast.proofs.Vectors.{residue_at, list_vector, take_vector, drop_ve
 use Rattle.operators.specs.TensorPaths.Loop.{loop_at}
 use Rattle.operators.specs.TensorPaths.Path.{Path, count_of, size_under, under, place, local, AreInRange, Reads}
 use Rattle.operators.proofs.TensorPaths.PathPlaces.{at-under}
-use Rattle.tree_model.specs.Breakdown.{size_of}
+use Rattle.tree_model.specs.Breakdown.{Breakdown, size_of}
+use Rattle.tree_model.specs.Whole.{rooted_of}
+use Rattle.tree_model.proofs.RootedTrees.{rooted_size}
+use Rattle.matrix_meaning.specs.declared.Request.{Request}
 
 -- ---- the items that are looked at
 
@@ -55,7 +58,7 @@ turn_inside : (v i : ℕ) → i < v * v → stride v v i < v * v
 turn_inside v i below = (stride_below v v i below).1
 
 work_reads : (m : ℕ) (w : PlainWork) → Reads (work_size w) (work_on m w)
-work_reads m (kernel trees) x = trees_read m trees x
+work_reads m (kernel k) x = trees_read m (trees_of k) x
 work_reads m (rows root size) x = matrix_reads m size (entry_of Dft m size root) x
 work_reads m (horner root size) x = matrix_reads m size (entry_of Dft m size root) x
 work_reads m (tile lanes) x = gather_reads (lanes * lanes) (stride lanes lanes) (turn_inside lanes) x
@@ -67,7 +70,7 @@ gather_keeps : (m n : ℕ) (f : ℕ → ℕ) → ((i : ℕ) → i < n → f i < 
 gather_keeps m n f inside x v = list_vector m n _ (λ i below. residue_at m n x (f i) v (inside i below))
 
 work_keeps : (m : ℕ) (w : PlainWork) → Keeps m (work_size w) (work_on m w)
-work_keeps m (kernel trees) x v = trees_keep m trees x v
+work_keeps m (kernel k) x v = trees_keep m (trees_of k) x v
 work_keeps m (rows root size) x v = reduced m size x _ v
 work_keeps m (horner root size) x v = reduced m size x _ v
 work_keeps m (tile lanes) x v = gather_keeps m (lanes * lanes) (stride lanes lanes) (turn_inside lanes) x v
@@ -77,8 +80,11 @@ pub trees_sized : (m : ℕ) (trees : PlainTrees) → HasSize (trees_size trees) 
 trees_sized m (single kind root tree) x = length-list_below (size_of tree) _
 trees_sized m (tensor kind root tree others) x = length-list_below (size_of tree * trees_size others) _
 
+pub rooted_sized : (m : ℕ) (p : Request) (t : Breakdown) → HasSize (size_of t) (trees_on m (rooted_of p t))
+rooted_sized m p t x = trees_sized m (rooted_of p t) x ∙ rooted_size p t
+
 work_sized : (m : ℕ) (w : PlainWork) → HasSize (work_size w) (work_on m w)
-work_sized m (kernel trees) x = trees_sized m trees x
+work_sized m (kernel k) x = trees_sized m (trees_of k) x
 work_sized m (rows root size) x = length-list_below size _
 work_sized m (horner root size) x = length-list_below size _
 work_sized m (tile lanes) x = length-list_below (lanes * lanes) _

@@ -1,5 +1,5 @@
 -- Terms take residues to residues.
-use Rattle.std.proofs.Common.{◌≡◌, ℕ, ◌+◌, ◌-◌, ◌*◌, ◌/◌, ◌%◌, ◌<◌, List, [], ◌∷◌, arith, sym, ap, ap₂, ◌∙◌, subst, inl, inr}
+use Rattle.std.proofs.Common.{◌≡◌, ℕ, ◌+◌, ◌-◌, ◌*◌, ◌/◌, ◌%◌, ◌<◌, List, [], ◌∷◌, arith, refl, sym, ap, ap₂, ◌∙◌, subst, inl, inr}
 use Rattle.std.specs.Prelude.{slice_index}
 use Rattle.std.proofs.lemmas.Bool.{cases_lt}
 use Rattle.std.proofs.lemmas.Nat.{mod_below, div_below}
@@ -18,7 +18,13 @@ use Rattle.spl_ast.specs.Meaning.{IsVector}
 use Rattle.spl_ast.proofs.Vectors.{residue_at, list_vector, column_vector, block_vector}
 use Rattle.operators.specs.declared.tensor_paths.Tensor.TheVariants.{Blocks, Columns}
 use Rattle.operators.specs.TensorPaths.Path.{Path, size_under, under}
-use Rattle.tree_model.specs.Breakdown.{size_of}
+use Rattle.matrix_meaning.specs.Parts.{first_of, rest_of}
+use Rattle.matrix_meaning.specs.declared.Kind.TheVariants.{Dft}
+use Rattle.matrix_meaning.specs.declared.Request.{Request}
+use Rattle.tree_model.specs.Breakdown.{Breakdown, node, size_of}
+use Rattle.tree_model.specs.Whole.{rooted_of}
+use Rattle.tree_model.specs.declared.tree.Rule.TheVariants.{Dim}
+use Rattle.tree_model.proofs.RootedTrees.{rooted_size}
 
 -- the operator takes n residues to n residues
 abbrev pub Keeps : ℕ → ℕ → Operator → Type 0
@@ -91,13 +97,30 @@ terms_vector m n [] x h v = v
 terms_vector m n (t ∷ ts) x h v = terms_vector m n ts (term_on m n t x) h.1 (term_vector m n t x h.0 v)
 
 -- rows of trees, as columns are made of them
-pub rows_vector : (m r s k : ℕ) (others : PlainTrees) (x rows y : List ℕ) → IsVector m (r * trees_size others) x → k ≡ r → rows ≡ on_blocks k (trees_size others) (trees_on m others) x → y ≡ rows → s ≡ trees_size others → IsVector m (r * s) y
+rows_vector : (m r s k : ℕ) (others : PlainTrees) (x rows y : List ℕ) → IsVector m (r * trees_size others) x → k ≡ r → rows ≡ on_blocks k (trees_size others) (trees_on m others) x → y ≡ rows → s ≡ trees_size others → IsVector m (r * s) y
 rows_vector m r s k others x rows y v count is taken size =
     let P : ℕ → List ℕ → Type 0 = λ n z. IsVector m (r * n) z in
     let made : P (trees_size others) (on_blocks r (trees_size others) (trees_on m others) x) = blocks_keep m r (trees_size others) (trees_on m others) (trees_keep m others) x v in
     rw (taken, is, count, size) made
 
-pub rows_joined : (m r s k : ℕ) (a : Operator) (others : PlainTrees) (x rows z y : List ℕ) → k ≡ r → rows ≡ on_blocks k (trees_size others) (trees_on m others) x → z ≡ rows → s ≡ trees_size others → y ≡ on_columns r s a z →
-    y ≡ on_columns r (trees_size others) a (on_blocks r (trees_size others) (trees_on m others) x)
-rows_joined m r s k a others x rows z y count is taken size whole =
-    whole ∙ ap₂ (λ q u. on_columns r q a u) size (taken ∙ is ∙ ap (λ q. on_blocks q (trees_size others) (trees_on m others) x) count)
+-- ---- of a node of several dimensions: the others on each row, and then the first on each column
+
+module _ (m : ℕ) (p q : Request) (t a b : Breakdown) (t_is : t ≡ node Dim a b) (r s : ℕ) (r_is : r ≡ size_of a) (s_is : s ≡ size_of b)
+    (x rows z : List ℕ) (rows_are : rows ≡ on_blocks r (trees_size (rooted_of q b)) (trees_on m (rooted_of q b)) x) (z_is : z ≡ rows) where
+  pub node_rows : IsVector m (size_of t) x → IsVector m (r * s) z
+  node_rows v =
+      let trees = rooted_of q b in
+      let size = rooted_size q b in
+      let whole : size_of t ≡ r * trees_size trees = ap size_of t_is ∙ sym (ap₂ (λ i j. i * j) r_is size) in
+      rows_vector m r s r trees x rows z (subst (λ n. IsVector m n x) whole v) refl rows_are z_is (s_is ∙ sym size)
+
+  pub node_columns : (w : ℕ) (y : List ℕ) → w ≡ (first_of p).root → q ≡ rest_of p → y ≡ on_columns r s (transform Dft m r w) z →
+      y ≡ trees_on m (rooted_of p t) x
+  node_columns w y w_is q_is y_is =
+      let trees = rooted_of q b in
+      y_is
+      ∙ ap₂ (λ k j. on_columns k j (transform Dft m k w) z) r_is (s_is ∙ sym (rooted_size q b))
+      ∙ ap (on_columns (size_of a) (trees_size trees) (transform Dft m (size_of a) w))
+      (z_is ∙ rows_are ∙ ap (λ k. on_blocks k (trees_size trees) (trees_on m trees) x) r_is)
+      ∙ ap₂ (λ (v : ℕ) (u : Request). trees_on m (tensor Dft v a (rooted_of u b)) x) w_is q_is
+      ∙ ap (λ u. trees_on m (rooted_of p u) x) (sym t_is)

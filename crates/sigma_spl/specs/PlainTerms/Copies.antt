@@ -7,7 +7,9 @@ use Rattle.sigma_spl.specs.Copies.{both}
 use Rattle.sigma_spl.specs.Nest.{PlainFactors, factor_at, factor_count, inner_of}
 use Rattle.sigma_spl.specs.Term.{PlainTerm, nest, move, product, beside, term_on}
 use Rattle.sigma_spl.specs.Work.{work_size, work_on}
-use Rattle.tree_model.specs.Trees.{PlainTrees, single, tensor, trees_on, trees_size}
+use Rattle.sigma_spl.specs.declared.plain_terms.works.Alone.{Alone}
+use Rattle.tree_model.specs.Breakdown.{Breakdown, leaf, node}
+use Rattle.tree_model.specs.Trees.{PlainTrees, single, trees_on, trees_size}
 use Rattle.operators.specs.TensorPaths.Path.{Path, size_under, under}
 
 -- how many items a copy has
@@ -44,6 +46,10 @@ rows_on m count path t = on_blocks count (part_size path t) (part_on m path t)
 abbrev pub cols_on : ℕ → ℕ → Path → PlainTerm → Operator
 cols_on m count path t = on_columns (part_size path t) count (part_on m path t)
 
+-- a transform of one size by its root
+abbrev pub alone : Alone → PlainTrees
+alone t = single t.kind t.root (leaf t.size)
+
 abbrev pub trees_rows : ℕ → ℕ → PlainTrees → Operator
 trees_rows m count trees = on_blocks count (trees_size trees) (trees_on m trees)
 
@@ -72,7 +78,7 @@ abbrev pub copy_weight : PlainTerm → ℕ
 copy_weight (beside path k a l b) = weight a + weight b
 copy_weight t = 0
 
--- how many trees there are, but for the last
-abbrev pub others_in : PlainTrees → ℕ
-others_in (single kind root tree) = 0
-others_in (tensor kind root tree others) = suc (others_in others)
+-- how often the right parts are taken apart
+abbrev pub parts_in : Breakdown → ℕ
+parts_in (leaf d) = 0
+parts_in (node rule a b) = suc (parts_in b)

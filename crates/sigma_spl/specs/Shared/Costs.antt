@@ -4,11 +4,11 @@ use Rattle.tree_model.specs.KernelCosts.{trees_cost}
 use Rattle.sigma_spl.specs.Counts.{copies_in}
 use Rattle.sigma_spl.specs.Counts as counts
 use Rattle.sigma_spl.specs.Nest.{PlainNest}
-use Rattle.sigma_spl.specs.Work.{PlainWork, kernel, rows, horner, tile, copy, work_size}
+use Rattle.sigma_spl.specs.Work.{PlainWork, kernel, rows, horner, tile, copy, trees_of, work_size}
 
 -- the operations of one copy, where a product counts as several
 abbrev pub work_cost : ℕ → ℕ → PlainWork → ℕ
-work_cost weight m (kernel trees) = trees_cost weight m trees
+work_cost weight m (kernel k) = trees_cost weight m (trees_of k)
 work_cost weight m (rows root size) = (1 + weight) * size * size
 work_cost weight m (horner root size) = (1 + weight) * size * size
 work_cost weight m (tile lanes) = 0

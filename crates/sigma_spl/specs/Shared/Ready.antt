@@ -12,14 +12,14 @@ use Rattle.sigma_spl.specs.Nest.{PlainMultiplier, PlainNest, factor_count}
 use Rattle.sigma_spl.specs.Shared.Machine.{loop_counts}
 use Rattle.sigma_spl.specs.Shared.Owners.{ArePhasesShared, IsHost, all_passes, most_actions}
 use Rattle.sigma_spl.specs.Shared.Running.{CanRun}
-use Rattle.sigma_spl.specs.Work.{PlainWork, kernel, rows, horner, work_size}
+use Rattle.sigma_spl.specs.Work.{PlainWork, kernel, rows, horner, trees_of, work_size}
 use Rattle.tree_model.specs.Trees.{trees_size}
 
 -- ---- work
 
 -- a kernel has at most 64 items
 abbrev pub IsSmallWork : PlainWork → Type 0
-IsSmallWork (kernel trees) = trees_size trees ≤ 64
+IsSmallWork (kernel k) = trees_size (trees_of k) ≤ 64
 IsSmallWork w = Unit {0}
 
 -- where the first load of a copy stands does not hang on its row

@@ -1,7 +1,7 @@
 -- Passes that a machine can run, and the words that each processor loads and stores.
 use Rattle.std.specs.Prelude.{◌≡◌, ◌≢◌, ℕ, ◌+◌, ◌*◌, ◌%◌, ◌<◌, ◌≤◌, List, ◌++◌, map, slice_index, All, Contains, Some}
-use Rattle.tree_model.specs.KernelCosts.{CanMake}
 use Rattle.ring_mod.specs.Residue.{power_mod}
+use Rattle.sigma_spl.specs.Shared.Kernels.{IsMadeKernel}
 use Rattle.sigma_spl.specs.Shared.Machine.{if_several, values_of, item_of, lane_step, framed_lanes}
 use Rattle.sigma_spl.specs.Copies.{loops_of, StoreOnce, IsInside}
 use Rattle.sigma_spl.specs.Nest.{PlainMultiplier, PlainNest, factor_at, factor_count, copies_of, load_place, store_place}
@@ -11,7 +11,7 @@ use Rattle.operators.specs.declared.target.Target.{Target}
 
 -- work whose code does what it stands for
 abbrev pub CanWork : Target → PlainWork → Type 0
-CanWork h (kernel trees) = CanMake h.modulus trees
+CanWork h (kernel k) = IsMadeKernel h.modulus k
 CanWork h (rows root size) = (0 < size) × (power_mod h.modulus root size ≡ 1 % h.modulus)
 CanWork h (horner root size) = 0 < size
 CanWork h (tile lanes) = lanes ≡ h.lanes

@@ -1,9 +1,11 @@
 // What loops do to a copy.
-ghost use Rattle.std.specs.Prelude.{◌≡◌, ◌*◌, IfOk};
+ghost use Rattle.std.specs.Prelude.{◌≡◌, ◌*◌, ◌≤◌, IfOk};
 ghost use Rattle.sigma_spl.specs.Views.{plain_work};
 ghost use Rattle.sigma_spl.specs.Work.{HasWords, work_on, work_size};
-ghost use Rattle.sigma_spl.specs.PlainTerms.Copies.{trees_columns, trees_rows};
-ghost use Rattle.tree_model.specs.Trees.{alone, plain_trees, trees_on, trees_size, AreWords};
+ghost use Rattle.sigma_spl.specs.PlainTerms.Copies.{alone, trees_columns, trees_rows};
+ghost use Rattle.tree_model.specs.Breakdown.{breakdown_of, size_of, HasWordSizes};
+ghost use Rattle.tree_model.specs.Trees.{trees_on, trees_size};
+ghost use Rattle.tree_model.specs.Whole.{rooted_of, rooted_one};
 ghost use Rattle.spl_ast.specs.Meaning.{IsVector};
 ghost use Rattle.spl_ast.specs.Shape.{IsSize};
 
@@ -13,7 +15,15 @@ use memory::NoMemory;
 use ring_mod::Modulus;
 use spl_ast::{transformed, turned};
 use std::alloc::Global;
-use tree_model::{RootedTree, RootedTrees};
+use tree_model::{Ctx, Tree, node_root};
+
+/// A transform of one size by its root.
+#[derive(Clone, Copy)]
+pub(crate) struct Alone {
+    pub(crate) kind: Kind,
+    pub(crate) root: u64,
+    pub(crate) size: u64,
+}
 
 /// The work on the items of a copy.
 #[tactic(auto, using(crate::proofs::PlainTerms::Copies::copied))]
@@ -29,7 +39,8 @@ pub(crate) fn worked(
     ensures { IfOk result (λ y. y.items ≡ work_on m.now (plain_work work.now) x.now) }
 {
     match work {
-        Work::Kernel(trees) => trees_times(alloc, m, trees, x),
+        Work::Kernel { ctx, tree } => node_times(alloc, m, ctx, tree, x),
+        Work::Short { kind, root, size } => transformed(alloc, m, *kind, *size, *root, x),
         Work::Dense { root, size } | Work::Horner { root, size } => {
             transformed(alloc, m, Kind::Dft, *size, *root, x)
         }
@@ -38,104 +49,128 @@ pub(crate) fn worked(
     }
 }
 
-// The tensor product of the trees' transforms.
-#[cycle(trees)]
-fn trees_times(
+// The transform of a node: of several dimensions the others on each row, and then the first on each column.
+#[cycle(node)]
+fn node_times(
     alloc: Global,
     m: &Modulus,
-    trees: &RootedTrees,
+    p: &Ctx,
+    tree: &Tree,
     x: &[u64],
 ) -> Result<Vec<u64>, NoMemory>
-    requires words { AreWords (plain_trees trees.now) }
-    requires size { IsSize (trees_size (plain_trees trees.now)) }
-    requires vector { IsVector m.now (trees_size (plain_trees trees.now)) x.now }
-    ensures { IfOk result (λ y. y.items ≡ trees_on m.now (plain_trees trees.now) x.now) }
+    requires words { HasWordSizes (breakdown_of tree.now) }
+    requires size { IsSize (size_of (breakdown_of tree.now)) }
+    requires vector { IsVector m.now (size_of (breakdown_of tree.now)) x.now }
+    ensures { IfOk result (λ y.
+        y.items ≡ trees_on m.now (rooted_of p.now (breakdown_of tree.now)) x.now) }
 {
-    match trees {
-        RootedTrees::Single(only) => tree_times(alloc, m, only, x),
-        RootedTrees::Tensor(first, others) => {
-            let rows = on_rows(alloc, m, first.tree.size(), others, x)?;
-            let y = on_each_column(alloc, m, first, others.size(), &rows)?;
+    match tree {
+        Tree::Leaf(_) => one_times(alloc, m, p, tree, x),
+        Tree::Gt(_, _) => one_times(alloc, m, p, tree, x),
+        Tree::Ct(_, _) => one_times(alloc, m, p, tree, x),
+        Tree::Split(_, _) => one_times(alloc, m, p, tree, x),
+        Tree::Dim(a, b) => {
+            let (first, others) = p.first_and_rest();
+            let one = Alone {
+                kind: Kind::Dft,
+                root: first.request().root,
+                size: a.size(),
+            };
+            let rows = on_rows(alloc, m, one.size, &others, b, x)?;
+            let y = on_each_column(alloc, m, &one, b.size(), &rows)?;
             Ok(y)
         }
     }
 }
 
-fn tree_times(
+// The transform of a node of one size.
+fn one_times(
     alloc: Global,
     m: &Modulus,
-    tree: &RootedTree,
+    p: &Ctx,
+    tree: &Tree,
     x: &[u64],
 ) -> Result<Vec<u64>, NoMemory>
-    requires words { AreWords (alone tree.now) }
+    requires words { HasWordSizes (breakdown_of tree.now) }
+    requires some { 1 ≤ size_of (breakdown_of tree.now) }
+    requires vector { IsVector m.now (size_of (breakdown_of tree.now)) x.now }
+    ensures { IfOk result (λ y.
+        y.items ≡ trees_on m.now (rooted_one p.now (breakdown_of tree.now)) x.now) }
+{
+    let size = tree.size();
+    let root = node_root(p, size);
+    transformed(alloc, m, p.request().kind, size, root, x)
+}
+
+fn alone_times(alloc: Global, m: &Modulus, tree: &Alone, x: &[u64]) -> Result<Vec<u64>, NoMemory>
     requires vector { IsVector m.now (trees_size (alone tree.now)) x.now }
     ensures { IfOk result (λ y. y.items ≡ trees_on m.now (alone tree.now) x.now) }
 {
-    transformed(alloc, m, tree.kind, tree.tree.size(), tree.root, x)
+    transformed(alloc, m, tree.kind, tree.size, tree.root, x)
 }
 
-// The trees on each of `count` rows.
-#[cycle(trees)]
+// The transform of a node on each of `count` rows.
+#[cycle(node)]
 fn on_rows(
     alloc: Global,
     m: &Modulus,
     count: u64,
-    trees: &RootedTrees,
+    p: &Ctx,
+    tree: &Tree,
     x: &[u64],
 ) -> Result<Vec<u64>, NoMemory>
-    requires words { AreWords (plain_trees trees.now) }
-    requires size { IsSize (count * trees_size (plain_trees trees.now)) }
-    requires vector { IsVector m.now (count * trees_size (plain_trees trees.now)) x.now }
-    ensures { IfOk result (λ y. y.items ≡ trees_rows m.now count (plain_trees trees.now) x.now) }
+    requires words { HasWordSizes (breakdown_of tree.now) }
+    requires size { IsSize (count * size_of (breakdown_of tree.now)) }
+    requires vector { IsVector m.now (count * size_of (breakdown_of tree.now)) x.now }
+    ensures { IfOk result (λ y.
+        y.items ≡ trees_rows m.now count (rooted_of p.now (breakdown_of tree.now)) x.now) }
 {
-    let size = trees.size();
+    let size = tree.size();
     let mut out = Vec::new(alloc);
     for i in 0..count {
         let from = (i * size) as usize;
-        let part = trees_times(alloc, m, trees, &x[from..from + size as usize])?;
+        let part = node_times(alloc, m, p, tree, &x[from..from + size as usize])?;
         out.extend_from_slice(&part)?;
     }
     Ok(out)
 }
 
-// The tree on each of `count` columns: on rows, between two turns.
+// The transform on each of `count` columns: on rows, between two turns.
 fn on_each_column(
     alloc: Global,
     m: &Modulus,
-    tree: &RootedTree,
+    tree: &Alone,
     count: u64,
     x: &[u64],
 ) -> Result<Vec<u64>, NoMemory>
-    requires words { AreWords (alone tree.now) }
     requires size { IsSize (trees_size (alone tree.now) * count) }
     requires vector { IsVector m.now (trees_size (alone tree.now) * count) x.now }
     ensures { IfOk result (λ y. y.items ≡ trees_columns m.now count (alone tree.now) x.now) }
 {
-    let size = tree.tree.size();
+    let size = tree.size;
     let columns = turned(alloc, count, size, x)?;
     let parts = on_each_row(alloc, m, tree, count, &columns)?;
     let y = turned(alloc, size, count, &parts)?;
     Ok(y)
 }
 
-// The tree on each of `count` rows.
+// The transform on each of `count` rows.
 fn on_each_row(
     alloc: Global,
     m: &Modulus,
-    tree: &RootedTree,
+    tree: &Alone,
     count: u64,
     x: &[u64],
 ) -> Result<Vec<u64>, NoMemory>
-    requires words { AreWords (alone tree.now) }
     requires size { IsSize (count * trees_size (alone tree.now)) }
     requires vector { IsVector m.now (count * trees_size (alone tree.now)) x.now }
     ensures { IfOk result (λ y. y.items ≡ trees_rows m.now count (alone tree.now) x.now) }
 {
-    let size = tree.tree.size();
+    let size = tree.size;
     let mut out = Vec::new(alloc);
     for i in 0..count {
         let from = (i * size) as usize;
-        let part = tree_times(alloc, m, tree, &x[from..from + size as usize])?;
+        let part = alone_times(alloc, m, tree, &x[from..from + size as usize])?;
         out.extend_from_slice(&part)?;
     }
     Ok(out)

@@ -1,7 +1,8 @@
 use Rattle.std.proofs.Common.{◌*◌, ◌∙◌}
 use Rattle.std.proofs.Math.Nat.{mul_comm}
 use Rattle.operators.proofs.Lists.{length-list_below}
-use Rattle.tree_model.specs.Trees.{alone, trees_on, trees_size}
+use Rattle.sigma_spl.specs.PlainTerms.Copies.{alone}
+use Rattle.tree_model.specs.Trees.{trees_on, trees_size}
 use Rattle.spl_ast.proofs.Blocks.{columns_from_turns, turned_vector}
 use Rattle.sigma_spl.proofs.plain_terms.works.on_each_column.Goals as goal
 

@@ -1,6 +1,7 @@
 use Rattle.std.proofs.Common.{◌≡◌, ◌∙◌, ap₂, refl, arith}
 use Rattle.operators.specs.Operator.{on_blocks}
-use Rattle.tree_model.specs.Trees.{alone, trees_on, trees_size}
+use Rattle.sigma_spl.specs.PlainTerms.Copies.{alone}
+use Rattle.tree_model.specs.Trees.{trees_on, trees_size}
 use Rattle.sigma_spl.proofs.PlainTerms.Copies.{trees_sized}
 use Rattle.sigma_spl.proofs.PlainTerms.Steps.{one_block}
 use Rattle.sigma_spl.proofs.plain_terms.works.on_each_row.Goals as goal
@@ -8,7 +9,7 @@ use Rattle.sigma_spl.proofs.plain_terms.works.on_each_row.Goals as goal
 pub loop-i-preserved : goal.loop-i-preserved
 loop-i-preserved c =
     let tree = alone c.args.tree.now in
-    one_block c.args.count (trees_size tree) c.loop-i.i c.size-size.result _ _ (trees_on c.args.m.now tree) c.args.x.now _ _ _ (trees_sized c.args.m.now tree) c.size-size.ensures refl refl
+    one_block c.args.count (trees_size tree) c.loop-i.i c.size-size.result _ _ (trees_on c.args.m.now tree) c.args.x.now _ _ _ (trees_sized c.args.m.now tree) refl refl refl
     c.loop-i-test.true c.requires.vector.size c.loop-i.invariant (c.deref.ensures.value ∙ c.in_ok-part.ensures) c.in_ok-extend_from_slice.ensures.items
 
 pub returns : goal.returns

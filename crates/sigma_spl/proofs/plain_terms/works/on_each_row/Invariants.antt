@@ -1,6 +1,7 @@
 use Rattle.std.proofs.Common.{◌≡◌}
 use Rattle.operators.specs.Operator.{on_blocks}
-use Rattle.tree_model.specs.Trees.{alone, trees_on}
+use Rattle.sigma_spl.specs.PlainTerms.Copies.{alone}
+use Rattle.tree_model.specs.Trees.{trees_on}
 use Rattle.sigma_spl.proofs.plain_terms.works.on_each_row.Given as goal
 
 -- the rows so far
