@@ -24,12 +24,12 @@ END = "<!-- the end of the table of commands -->"
 COMMANDS = [
     ("`plan`", ["plan_answers", "plan_is_right"]),
     ("`formula`", ["formula_answers", "formula_is_right"]),
-    ("`code`", ["code_answers", "code_is_good", "code_is_right"]),
-    ("`c`", ["c_answers", "c_is_good", "c_is_right"]),
+    ("`code`", ["code_answers", "code_is_good", "code_is_lean", "code_is_right"]),
+    ("`c`", ["c_answers", "c_is_good", "c_is_lean", "c_is_right"]),
     ("`cert`", ["cert_answers", "cert_is_right"]),
     ("`check`", ["check_answers"]),
     ("`run`", ["run_answers", "run_is_right"]),
-    ("`trace`", ["trace_answers", "trace_is_good", "trace_is_right"]),
+    ("`trace`", ["trace_answers", "trace_is_good", "trace_is_lean", "trace_is_right"]),
     ("`sample`", ["sample_answers", "sample_is_right"]),
     ("`compile`", ["compile_answers", "compile_is_good", "compile_is_right"]),
     ("`apply`", ["apply_answers", "apply_is_right"]),
@@ -39,6 +39,9 @@ COMMANDS = [
     ("all commands at once", ["calls_have_one_status"]),
 ]
 LINK = {"Outcome.IsOutcome"}
+# A law on good programs is read with that on right calls, which opens the words and the line (`right_lines_are_ordered` links it to
+# the law on answers).
+CALLS = LINK | {"Asked.IsAsked", "RightFront.IsRightLine", "RightFront.IsRightConvLine", "RightFront.IsRightFormulaLine"}
 # The modules that a crate passes on by `pub use` in specs/Lib.antt or in the file of a folder, and where they stand.
 PASSED_ON = {}
 
@@ -171,9 +174,9 @@ def table():
     definitions, brought = all_definitions()
     rows = ["", "| command | law | lines to read |", "| --- | --- | --- |"]
     for command, laws in COMMANDS:
-        cut = LINK if command.startswith("`") else set()
-        found = counts("spiral_main", laws, cut, definitions, brought)
         for law in laws:
+            cut = set() if not command.startswith("`") else CALLS if law.endswith(("_is_good", "_is_lean")) else LINK
+            found = counts("spiral_main", [law], cut, definitions, brought)
             rows.append(f"| {command} | `{law}` | {sum(len(definitions[key]) for key in found[law][0]):,} |")
     return "\n".join(rows + ["", ""])
 

@@ -1,5 +1,5 @@
 -- The texts that are written for a request alone.
-use Rattle.std.proofs.Common.{◌≡◌, ◌≢◌, ℕ, List, [], ◌∷◌, ◌++◌, Some, Ok, refl, ap, subst, ◌∙◌}
+use Rattle.std.proofs.Common.{◌≡◌, ℕ, List, [], ◌∷◌, ◌++◌, Ok, refl, ap, subst, ◌∙◌}
 use Rattle.std.specs.declared.option.Option.{Option}
 use Rattle.std.specs.Io.KnownBytes.{Appends}
 use Rattle.breakdown.specs.Expansion.{formula_of}
@@ -65,7 +65,7 @@ c_document request program text made told =
 
 -- What the command comes to
 
-pub document_meets : (wanted : Document) (request : Request) (room : ℕ) (bytes : List ℕ) (left out out' : Option (List ℕ)) (text : List ℕ)
+pub document_meets : (wanted : Document) (request : Request) (room : ℕ) (bytes left : List ℕ) (out out' : Option (List ℕ)) (text : List ℕ)
     → IsDocument wanted request text → Appends out out' text
     → Meets (staged (chosen request) (document_work wanted) room) bytes left out out' Success
 document_meets wanted request room bytes left out out' text is wrote =
@@ -78,10 +78,10 @@ document_meets wanted request room bytes left out out' text is wrote =
 -- a text that is not written whole
 pub document_cut : (wanted : Document) (request : Request) (room : ℕ) (bytes : List ℕ) (out out' : Option (List ℕ)) (text : List ℕ)
     → IsDocument wanted request text → AppendsPrefix out out' text
-    → Meets (staged (chosen request) (document_work wanted) room) bytes (Some bytes) out out' WriteFault
+    → Meets (staged (chosen request) (document_work wanted) room) bytes bytes out out' WriteFault
 document_cut wanted request room bytes out out' text is wrote =
-    stage_meets (chosen request) (document_work wanted) room is.0 bytes (Some bytes) out out' WriteFault is.1 (record {
+    stage_meets (chosen request) (document_work wanted) room is.0 bytes bytes out out' WriteFault is.1 (record {
       answer = λ d. absurd (d.write refl);
       read_fault = λ e. absurd (cc);
-      write_fault = λ _. ([], [], bytes, text, refl, refl, (refl, is.2), wrote);
+      write_fault = λ _. ([], [], text, refl, (refl, is.2), wrote);
     })

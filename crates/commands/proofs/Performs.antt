@@ -1,23 +1,19 @@
 -- From what stands behind the line of a request to the whole input.
-use Rattle.std.proofs.Common.{◌≡◌, ◌-◌, ℕ, List, [], None, Some, Ok, refl}
-use Rattle.std.specs.declared.option.Option.{Option}
+use Rattle.std.proofs.Common.{◌-◌, ℕ, List, []}
 use Rattle.matrix_meaning.specs.declared.Request.{Request}
-use Rattle.plan_cert.specs.Verdict.{IsVerdict}
 use Rattle.spiral_words.specs.declared.Document.{Document}
 use Rattle.spiral_words.specs.declared.Document.TheVariants as document
 use Rattle.spiral_words.specs.declared.RequestCommand.{RequestCommand}
 use Rattle.spiral_words.specs.declared.RequestCommand.TheVariants as command
-use Rattle.spiral_words.specs.declared.spiral_status.status.Status.{Status}
 use Rattle.commands.specs.Equations.Check.{fitting, check_outcomes}
 use Rattle.commands.specs.Equations.Front.{Work, line, by_front, staged}
 use Rattle.commands.specs.Equations.Orders.{Planned, chosen, planned, turned}
 use Rattle.commands.specs.Equations.Requests.{document_outcomes, document_work, outcomes_by_request, work_for}
 use Rattle.commands.specs.Equations.Run.{run_work}
 use Rattle.commands.specs.Equations.Trace.{trace_work}
-use Rattle.commands.specs.Equations.Works.{judging}
 use Rattle.commands.specs.SpiralInput.Asking.{spelt}
 use Rattle.commands.specs.SpiralInput.Commands.{procs_named}
-use Rattle.commands.specs.SpiralInput.Outcomes.{Outcomes, Meets, ToldMeets}
+use Rattle.commands.specs.SpiralInput.Outcomes.{Outcomes}
 use Rattle.commands.specs.SpiralInput.Stage.{◌>>=◌}
 use Rattle.commands.proofs.CheckLemmas.{checking, judges}
 use Rattle.commands.proofs.SpiralInput.Nested.{no_unit}
@@ -55,9 +51,3 @@ request_within (command.Writes wanted) = document_within wanted
 request_within (command.Runs order) = planned_within _ run_work
 request_within (command.Traces order) = planned_within _ (trace_work order)
 request_within command.Judges = check_within
-
--- the command writes a document, and reads nothing
-pub told_any : (outcomes : ℕ → Outcomes) (room : ℕ) (before out out' : Option (List ℕ)) (status : Status)
-    → ((room : ℕ) (bytes : List ℕ) → Meets (outcomes room) bytes (Some bytes) out out' status) → ToldMeets (outcomes room) before before out out' status
-told_any outcomes room None out out' status p = tt
-told_any outcomes room (Some bytes) out out' status p = p room bytes

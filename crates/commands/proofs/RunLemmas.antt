@@ -1,5 +1,5 @@
 -- A good program's runs for its request.
-use Rattle.std.proofs.Common.{◌≡◌, ◌≢◌, ◌<◌, ◌≤◌, ◌/◌, ℕ, true, false, Vec, Global, List, [], ◌++◌, None, Ok, Err, Result, length, map, refl, sym, ap, subst, ◌∙◌, arith}
+use Rattle.std.proofs.Common.{◌≡◌, ◌≢◌, ◌<◌, ◌/◌, ℕ, true, false, Vec, Global, List, [], ◌++◌, None, Ok, Err, Result, length, map, refl, sym, ap, subst, ◌∙◌, arith}
 use Rattle.std.proofs.Math.Nat.{div-mul-le_self}
 use Rattle.std.proofs.lemmas.List.Elements.{All-from_get_or}
 use Rattle.std.specs.List.{All}
@@ -46,8 +46,7 @@ use Rattle.commands.specs.Programs.{IsProgramFor}
 use Rattle.commands.specs.SpiralInput.Commands.{first_stranger}
 use Rattle.commands.specs.SpiralInput.Ends.{EndsCleanly}
 use Rattle.commands.specs.SpiralInput.Orders.{procs_in}
-use Rattle.commands.specs.SpiralInput.Outcomes.{ToldMeets}
-use Rattle.commands.specs.declared.streams.Prepared.{Prepared}
+use Rattle.commands.specs.SpiralInput.Outcomes.{SourceMeets}
 use Rattle.commands.proofs.Documents.{with_tree}
 use Rattle.commands.proofs.Programs.{IsGoodCode, code_made, good_code, program_modulus, program_procs, program_size}
 use Rattle.commands.proofs.Requests.{limits}
@@ -117,16 +116,16 @@ order_lines (order.Mixed mix) request program ts in_range made none = buffered_l
 
 -- the program's data are those of its request
 sized : (request : Request) (program : Program) (IsText : List (List ℕ) → List ℕ → Type 0) (room : ℕ) (before after out out' : Option (List ℕ)) (status : Status)
-    → IsInRange request → IsProgramFor request program → ToldMeets (mapping all program.size program.modulus IsText room) before after out out' status
-    → ToldMeets (mapping all request.size request.modulus IsText room) before after out out' status
+    → IsInRange request → IsProgramFor request program → SourceMeets (mapping all program.size program.modulus IsText room) before after out out' status
+    → SourceMeets (mapping all request.size request.modulus IsText room) before after out out' status
 sized request program IsText room before after out out' status in_range made p =
-    subst (λ n. ToldMeets (mapping all request.size n IsText room) before after out out' status) (program_modulus request program in_range made)
-    (subst (λ n. ToldMeets (mapping all n program.modulus IsText room) before after out out' status) (program_size request program in_range made) p)
+    subst (λ n. SourceMeets (mapping all request.size n IsText room) before after out out' status) (program_modulus request program in_range made)
+    (subst (λ n. SourceMeets (mapping all n program.modulus IsText room) before after out out' status) (program_size request program in_range made) p)
 
 pub run_told : (request : Request) (program : Program) (front : Vec ℕ Global) (way : Order) (room : ℕ) (before after out out' : Option (List ℕ)) (status : Status)
     → IsInRange request → IsProgramFor request program → first_stranger (procs_in way) request.procs ≡ None → front.items ≡ []
-    → ToldMeets (stream_work (record { program = program; front = front; lines = false }) way room) before after out out' status
-    → ToldMeets (work_for (command.Runs way) request room) before after out out' status
+    → SourceMeets (stream_work (record { program = program; front = front; lines = false }) way room) before after out out' status
+    → SourceMeets (work_for (command.Runs way) request room) before after out out' status
 run_told request program front way room before after out out' status in_range made none alone p =
     let text : List ℕ → List ℕ = order_text false way program.procs (code_of program) in
     let Writes : List (List ℕ) → List ℕ → Type 0 = λ vectors t. t ≡ front.items ++ texts text vectors in
@@ -139,8 +138,8 @@ run_told request program front way room before after out out' status in_range ma
 
 pub trace_told : (request : Request) (program : Program) (front : Vec ℕ Global) (way : Order) (room : ℕ) (before after out out' : Option (List ℕ)) (status : Status)
     → IsInRange request → IsProgramFor request program → front.items ≡ listing_of (plain_program program)
-    → ToldMeets (stream_work (record { program = program; front = front; lines = true }) way room) before after out out' status
-    → ToldMeets (work_for (command.Traces way) request room) before after out out' status
+    → SourceMeets (stream_work (record { program = program; front = front; lines = true }) way room) before after out out' status
+    → SourceMeets (work_for (command.Traces way) request room) before after out out' status
 trace_told request program front way room before after out out' status in_range made listed p =
     let own : PlainProgram = emission request made.0 in
     let text : List ℕ → List ℕ = order_text true way program.procs (code_of program) in

@@ -1,6 +1,5 @@
 -- What a run of a program over the data comes to.
-use Rattle.std.proofs.Common.{◌≡◌, ◌≢◌, ◌<◌, ◌≤◌, ◌-◌, ℕ, Bool, true, false, List, [], ◌∷◌, ◌++◌, None, Some, Ok, Err, Result, length, refl, sym, ap, subst, ◌∙◌, arith, append-nil, nat_lt, inl, take}
-use Rattle.std.proofs.KnownBytes.{Appends-nil}
+use Rattle.std.proofs.Common.{◌≡◌, ◌≢◌, ◌<◌, ◌≤◌, ◌-◌, ℕ, Bool, true, false, List, [], ◌++◌, None, Some, Err, Result, length, refl, sym, ap, subst, ◌∙◌, arith, append-nil, nat_lt, inl, take}
 use Rattle.std.specs.declared.option.Option.{Option}
 use Rattle.std.specs.Io.KnownBytes.{Appends}
 use Rattle.buffer_machine.specs.Listed as listed
@@ -9,63 +8,47 @@ use Rattle.buffer_machine.specs.declared.Events.TheVariants as events
 use Rattle.data_stream.specs.Data.{tokens, closed_part}
 use Rattle.icode.specs.Buffers.{Buffered, buffered_runs}
 use Rattle.icode.specs.Machine.{Code, State, runs}
-use Rattle.icode.specs.Program.{Fits, code_of}
+use Rattle.icode.specs.Program.{code_of}
 use Rattle.icode.specs.declared.program.Program.{Program}
 use Rattle.io_edge.specs.Feed.{Fed, limit}
 use Rattle.io_edge.specs.Taken.{AppendsPrefix}
 use Rattle.request_text.specs.Schedule.{Plan}
 use Rattle.request_text.specs.Turns.{turns_of}
 use Rattle.runs.proofs.StreamLemmas.{vectors_few}
-use Rattle.runs.specs.Stream.{Streams, bad_after, data_vectors, good_front, texts, vectors_of, vectors_seen}
+use Rattle.runs.specs.Stream.{Streams, bad_after, good_front, texts, vectors_of, vectors_seen}
 use Rattle.runs.specs.Texts.{buffered_text, run_text}
 use Rattle.runs.specs.declared.stream.StreamFault.{StreamFault}
 use Rattle.runs.specs.declared.stream.StreamFault.TheVariants as stream
 use Rattle.spiral_words.specs.SpiralStatus.Fault.{status_of_stream}
 use Rattle.spiral_words.specs.declared.Order.{Order}
 use Rattle.spiral_words.specs.declared.Order.TheVariants as order
-use Rattle.spiral_words.specs.declared.spiral_status.status.Status.TheVariants.{NoMemory, WriteFault}
+use Rattle.spiral_words.specs.declared.spiral_status.status.Status.TheVariants.{WriteFault}
 use Rattle.commands.specs.Equations.Front.{Work}
 use Rattle.commands.specs.Equations.Works.{all, mapping}
 use Rattle.commands.specs.OrderText.{order_of, order_text}
 use Rattle.commands.specs.Prepared.{stream_text, stream_work}
-use Rattle.commands.specs.SpiralInput.Outcomes.{Outcomes, Meets, ToldMeets}
+use Rattle.commands.specs.SpiralInput.Outcomes.{SourceMeets}
 use Rattle.commands.specs.declared.streams.Prepared.{Prepared}
 use Rattle.commands.proofs.SpiralInput.DataLemmas.{streams_told}
+use Rattle.commands.proofs.SpiralInput.OutcomeLemmas.{unread_meets}
 use Rattle.commands.proofs.SpiralInput.Within.{Within}
-
--- Want of memory
-
-pub told_nothing : (outcomes : Outcomes) (before left out : Option (List ℕ)) → ToldMeets outcomes before left out out NoMemory
-told_nothing outcomes None left out = tt
-told_nothing outcomes (Some bytes) left out =
-    record { answer = λ d. absurd (d.memory refl); read_fault = λ e. absurd (cc); write_fault = λ e. absurd (cc) }
 
 -- The front is not written whole
 
 pub front_cut : (made : Prepared) (way : Order) (room : ℕ) (before out out' : Option (List ℕ))
-    → AppendsPrefix out out' made.front.items → ToldMeets (stream_work made way room) before before out out' WriteFault
-front_cut made way room None out out' wrote = tt
-front_cut made way room (Some bytes) out out' wrote =
+    → AppendsPrefix out out' made.front.items → SourceMeets (stream_work made way room) before before out out' WriteFault
+front_cut made way room before out out' wrote =
     let some : 0 < made.program.size = omega (arith, made.program.header.of_size.0) in
     let size = made.program.size in
     let modulus = made.program.modulus in
     let none : vectors_of size modulus [] ≡ [] = vectors_few size modulus [] some in
     let alone : made.front.items ≡ stream_text made way (vectors_of size modulus []) =
     sym (ap (stream_text made way) none ∙ append-nil made.front.items) in
-    record {
+    unread_meets (stream_work made way room) before out out' WriteFault (λ bytes. record {
       answer = λ d. absurd (d.write refl);
       read_fault = λ e. absurd (cc);
-      write_fault = λ _. (
-        [],
-        [],
-        bytes,
-        made.front.items,
-        refl,
-        refl,
-        (record { few = omega arith; good = refl }, inl refl, alone),
-        wrote,
-      );
-    }
+      write_fault = λ _. ([], [], made.front.items, refl, (record { few = omega arith; good = refl }, inl refl, alone), wrote);
+    })
 
 -- The machines
 
@@ -76,17 +59,17 @@ work_by front code text = mapping all code.size code.modulus (λ vectors t. t �
 -- a stream of the program's code
 of_code : (front : List ℕ) (code : Code) (program : Program) (text : Code → List ℕ → List ℕ) (room : ℕ) (before after start out' : Option (List ℕ))
     (result : Result (Unit {0}) StreamFault)
-    → code ≡ code_of program → ToldMeets (work_by front code text room) before after start out' (status_of_stream result)
-    → ToldMeets (work_by front (code_of program) text room) before after start out' (status_of_stream result)
+    → code ≡ code_of program → SourceMeets (work_by front code text room) before after start out' (status_of_stream result)
+    → SourceMeets (work_by front (code_of program) text room) before after start out' (status_of_stream result)
 of_code front code program text room before after start out' result same p =
-    subst (λ (k : Code). ToldMeets (work_by front k text room) before after start out' (status_of_stream result)) same p
+    subst (λ (k : Code). SourceMeets (work_by front k text room) before after start out' (status_of_stream result)) same p
 
 pub turns_told : (made : Prepared) (schedule : Plan) (code : Code) (old new : Fed) (before after start out out' : Option (List ℕ)) (first last : State)
     (result : Result (Unit {0}) StreamFault)
     → code ≡ code_of made.program → Appends start out made.front.items → old.taken ≤ limit → (result ≢ Err stream.TooLong → new.taken ≤ limit)
     → Streams (run_text made.lines code (turns_of schedule code.procs)) (λ x. runs code x (turns_of schedule code.procs)) code.size code.modulus
     old new before after out out' first last result
-    → ToldMeets (stream_work made (order.Turns schedule) (limit - old.taken)) before after start out' (status_of_stream result)
+    → SourceMeets (stream_work made (order.Turns schedule) (limit - old.taken)) before after start out' (status_of_stream result)
 turns_told made schedule code old new before after start out out' first last result same begun within ends s =
     of_code made.front.items code made.program (λ (k : Code). run_text made.lines k (turns_of schedule k.procs)) (limit - old.taken) before after start out' result same
     (streams_told (λ vectors t. t ≡ made.front.items ++ texts (run_text made.lines code (turns_of schedule code.procs)) vectors) code.size code.modulus made.front.items
@@ -102,7 +85,7 @@ pub events_told : (made : Prepared) (word : Events) (code : Code) (old new : Fed
     → code ≡ code_of made.program → Appends start out made.front.items → old.taken ≤ limit → (result ≢ Err stream.TooLong → new.taken ≤ limit)
     → Streams (buffered_text made.lines code (listed.events_of word code.procs)) (λ x. buffered_runs code x (listed.events_of word code.procs)) code.size code.modulus
     old new before after out out' first last result
-    → ToldMeets (stream_work made (order_of word) (limit - old.taken)) before after start out' (status_of_stream result)
+    → SourceMeets (stream_work made (order_of word) (limit - old.taken)) before after start out' (status_of_stream result)
 events_told made word code old new before after start out out' first last result same begun within ends s =
     let text : List ℕ → List ℕ = buffered_text made.lines code (listed.events_of word code.procs) in
     of_code made.front.items code made.program (λ (k : Code). order_text made.lines (order_of word) k.procs k) (limit - old.taken) before after start out' result same

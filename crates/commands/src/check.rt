@@ -1,6 +1,6 @@
 // The command that judges a certificate.
 ghost use Rattle.std.specs.Prelude.{◌≡◌, ◌-◌, ◌≤◌};
-ghost use Rattle.std.specs.Io.KnownBytes.{IsAtEnd};
+ghost use Rattle.io_edge.specs.Told.{IsOver};
 ghost use Rattle.matrix_meaning.specs.Valid.{IsInRange};
 ghost use Rattle.io_edge.specs.Faults.{HasCause};
 ghost use Rattle.io_edge.specs.Feed.{to_come, limit};
@@ -8,7 +8,7 @@ ghost use Rattle.io_edge.specs.Taken.{WritesAll};
 ghost use Rattle.commands.specs.Checked.{least_line};
 ghost use Rattle.commands.specs.SpiralInput.Stage.{status_of};
 ghost use Rattle.commands.specs.SpiralInput.Ends.{EndsCleanly};
-ghost use Rattle.commands.specs.SpiralInput.Outcomes.{ToldMeets};
+ghost use Rattle.commands.specs.SpiralInput.Outcomes.{SourceMeets};
 ghost use Rattle.commands.specs.Equations.Requests.{work_for};
 
 use data_stream::read_rest;
@@ -40,11 +40,11 @@ pub(crate) fn check<I: Source, O: Sink>(
 ) -> Result<(), Status>
     requires in_range { IsInRange request.now }
     requires line { feed.old.taken ≤ 257 }
-    ensures told { ToldMeets (work_for RequestCommand.Judges request.now (limit - feed.old.taken))
+    ensures told { SourceMeets (work_for RequestCommand.Judges request.now (limit - feed.old.taken))
         (to_come feed.old (I.left input.old)) (to_come feed.new (I.left input.new))
         (O.taken output.old) (O.taken output.new) (status_of result) }
     ensures end { status_of result ≡ Status.Success
-        → IsAtEnd (to_come feed.new (I.left input.new)) }
+        → IsOver (to_come feed.new (I.left input.new)) }
     ensures ends { EndsCleanly (status_of result) feed.new.held
         (I.faults input.old) (I.faults input.new) (O.faults output.old) (O.faults output.new)
         (O.taken output.old) (O.taken output.new) }

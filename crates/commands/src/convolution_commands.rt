@@ -1,7 +1,7 @@
 // The command that convolves the vectors of the data with the first of them.
 ghost use Rattle.std.specs.Prelude.{◌≡◌, ◌-◌, ◌≤◌, ◌∷◌, Bool, List, ℕ, [], true, false, vec_len, IfOk, IfErr, OnOk};
 ghost use Rattle.std.specs.declared.option.Option.{Option};
-ghost use Rattle.std.specs.Io.KnownBytes.{IsAtEnd};
+ghost use Rattle.io_edge.specs.Told.{IsOver};
 ghost use Rattle.matrix_meaning.specs.Convolving.{IsConvRequest};
 ghost use Rattle.data_stream.specs.Vectors.{IsReady};
 ghost use Rattle.io_edge.specs.Feed.{to_come, limit};
@@ -13,7 +13,7 @@ ghost use Rattle.commands.specs.Equations.Front as fronts;
 ghost use Rattle.commands.specs.SpiralInput.Asking.{Asks};
 ghost use Rattle.commands.specs.SpiralInput.Commands.{reads_rest};
 ghost use Rattle.commands.specs.SpiralInput.Ends.{EndsCleanly, ReadsCleanly};
-ghost use Rattle.commands.specs.SpiralInput.Outcomes.{ToldMeets};
+ghost use Rattle.commands.specs.SpiralInput.Outcomes.{SourceMeets};
 ghost use Rattle.commands.specs.SpiralInput.Stage.{status_of};
 ghost use Rattle.runs.specs.Progress.{HasCome};
 ghost use Rattle.runs.specs.Stream.{HasNoStranger};
@@ -74,7 +74,7 @@ fn listed_program<I: Source>(
     ensures room { IfOk result (λ made. vec_len made.2 ≡ request.now.size) }
     ensures within { OnOk result (feed.new.taken ≤ limit) }
     ensures told { IfErr result (λ status. (code : Bool) (out : Option (List ℕ)) →
-        ToldMeets (work_by_list code request.now (limit - feed.old.taken))
+        SourceMeets (work_by_list code request.now (limit - feed.old.taken))
         (to_come feed.old (I.left input.old))
         (to_come feed.new (I.left input.new)) out out status) }
     ensures ends { ReadsCleanly result feed.new.held (I.faults input.old) (I.faults input.new) }
@@ -98,7 +98,7 @@ fn print_convolver<I: Source, O: Sink>(
 ) -> Result<(), Status>
     requires request { IsConvRequest request.now }
     requires within { feed.old.taken ≤ limit }
-    ensures told { ToldMeets (work_by_list true request.now (limit - feed.old.taken))
+    ensures told { SourceMeets (work_by_list true request.now (limit - feed.old.taken))
         (to_come feed.old (I.left input.old)) (to_come feed.new (I.left input.new))
         (O.taken output.old) (O.taken output.new) (status_of result) }
     ensures ends { EndsCleanly (status_of result) feed.new.held
@@ -123,11 +123,11 @@ fn run_convolver<I: Source, O: Sink>(
     requires request { IsConvRequest request.now }
     requires turns { HasNoStranger schedule.now 1 }
     requires within { feed.old.taken ≤ limit }
-    ensures told { ToldMeets (work_by_list false request.now (limit - feed.old.taken))
+    ensures told { SourceMeets (work_by_list false request.now (limit - feed.old.taken))
         (to_come feed.old (I.left input.old)) (to_come feed.new (I.left input.new))
         (O.taken output.old) (O.taken output.new) (status_of result) }
     ensures end { status_of result ≡ Status.Success
-        → IsAtEnd (to_come feed.new (I.left input.new)) }
+        → IsOver (to_come feed.new (I.left input.new)) }
     ensures ends { EndsCleanly (status_of result) feed.new.held
         (I.faults input.old) (I.faults input.new) (O.faults output.old) (O.faults output.new)
         (O.taken output.old) (O.taken output.new) }
@@ -157,12 +157,12 @@ pub fn convolve<I: Source, O: Sink>(
     output: &mut O,
 ) -> Result<(), Status>
     requires fresh { feed.old.taken ≡ 0 }
-    ensures told { ToldMeets (outcomes_by_list schedule.now code)
+    ensures told { SourceMeets (outcomes_by_list schedule.now code)
         (to_come feed.old (I.left input.old)) (to_come feed.new (I.left input.new))
         (O.taken output.old) (O.taken output.new) (status_of result) }
     ensures end { status_of result ≡ Status.Success
         → reads_rest (Command.ByList schedule.now code) ≡ true
-        → IsAtEnd (to_come feed.new (I.left input.new)) }
+        → IsOver (to_come feed.new (I.left input.new)) }
     ensures ends { EndsCleanly (status_of result) feed.new.held
         (I.faults input.old) (I.faults input.new) (O.faults output.old) (O.faults output.new)
         (O.taken output.old) (O.taken output.new) }

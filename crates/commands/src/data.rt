@@ -1,12 +1,12 @@
 // The commands for a request that go over the vectors of the data.
 ghost use Rattle.std.specs.Prelude.{◌≡◌, ◌-◌, ◌≤◌};
-ghost use Rattle.std.specs.Io.KnownBytes.{IsAtEnd};
+ghost use Rattle.io_edge.specs.Told.{IsOver};
 ghost use Rattle.matrix_meaning.specs.Valid.{IsInRange};
 ghost use Rattle.io_edge.specs.Feed.{to_come, limit};
 ghost use Rattle.commands.specs.SpiralInput.Commands.{NamesNoStranger};
 ghost use Rattle.commands.specs.SpiralInput.Stage.{status_of};
 ghost use Rattle.commands.specs.SpiralInput.Ends.{EndsCleanly};
-ghost use Rattle.commands.specs.SpiralInput.Outcomes.{ToldMeets};
+ghost use Rattle.commands.specs.SpiralInput.Outcomes.{SourceMeets};
 ghost use Rattle.commands.specs.Equations.Requests.{work_for};
 
 use crate::streams::{Prepared, stream};
@@ -29,12 +29,12 @@ pub(crate) fn run<I: Source, O: Sink>(
     requires in_range { IsInRange request.now }
     requires turns { NamesNoStranger (RequestCommand.Runs order.now) request.now.procs }
     requires within { feed.old.taken ≤ limit }
-    ensures told { ToldMeets
+    ensures told { SourceMeets
         (work_for (RequestCommand.Runs order.now) request.now (limit - feed.old.taken))
         (to_come feed.old (I.left input.old)) (to_come feed.new (I.left input.new))
         (O.taken output.old) (O.taken output.new) (status_of result) }
     ensures end { status_of result ≡ Status.Success
-        → IsAtEnd (to_come feed.new (I.left input.new)) }
+        → IsOver (to_come feed.new (I.left input.new)) }
     ensures ends { EndsCleanly (status_of result) feed.new.held
         (I.faults input.old) (I.faults input.new) (O.faults output.old) (O.faults output.new)
         (O.taken output.old) (O.taken output.new) }
@@ -60,12 +60,12 @@ pub(crate) fn trace<I: Source, O: Sink>(
     requires in_range { IsInRange request.now }
     requires turns { NamesNoStranger (RequestCommand.Traces order.now) request.now.procs }
     requires within { feed.old.taken ≤ limit }
-    ensures told { ToldMeets
+    ensures told { SourceMeets
         (work_for (RequestCommand.Traces order.now) request.now (limit - feed.old.taken))
         (to_come feed.old (I.left input.old)) (to_come feed.new (I.left input.new))
         (O.taken output.old) (O.taken output.new) (status_of result) }
     ensures end { status_of result ≡ Status.Success
-        → IsAtEnd (to_come feed.new (I.left input.new)) }
+        → IsOver (to_come feed.new (I.left input.new)) }
     ensures ends { EndsCleanly (status_of result) feed.new.held
         (I.faults input.old) (I.faults input.new) (O.faults output.old) (O.faults output.new)
         (O.taken output.old) (O.taken output.new) }

@@ -1,11 +1,11 @@
 // The commands that go by a formula: the listing of its program, and its matrix times the vectors of the data.
 ghost use Rattle.std.specs.Prelude.{◌≡◌, true};
-ghost use Rattle.std.specs.Io.KnownBytes.{IsAtEnd};
+ghost use Rattle.io_edge.specs.Told.{IsOver};
 ghost use Rattle.io_edge.specs.Feed.{to_come};
 ghost use Rattle.commands.specs.Equations.Commands.{outcomes_by_formula};
 ghost use Rattle.commands.specs.SpiralInput.Commands.{reads_rest};
 ghost use Rattle.commands.specs.SpiralInput.Ends.{EndsCleanly};
-ghost use Rattle.commands.specs.SpiralInput.Outcomes.{ToldMeets};
+ghost use Rattle.commands.specs.SpiralInput.Outcomes.{SourceMeets};
 ghost use Rattle.commands.specs.SpiralInput.Stage.{status_of};
 
 mod apply;
@@ -27,12 +27,12 @@ pub fn by_formula<I: Source, O: Sink>(
     output: &mut O,
 ) -> Result<(), Status>
     requires fresh { feed.old.taken ≡ 0 }
-    ensures told { ToldMeets (outcomes_by_formula modulus.now command.now)
+    ensures told { SourceMeets (outcomes_by_formula modulus.now command.now)
         (to_come feed.old (I.left input.old)) (to_come feed.new (I.left input.new))
         (O.taken output.old) (O.taken output.new) (status_of result) }
     ensures end { status_of result ≡ Status.Success
         → reads_rest (Command.ByFormula modulus.now command.now) ≡ true
-        → IsAtEnd (to_come feed.new (I.left input.new)) }
+        → IsOver (to_come feed.new (I.left input.new)) }
     ensures ends { EndsCleanly (status_of result) feed.new.held
         (I.faults input.old) (I.faults input.new) (O.faults output.old) (O.faults output.new)
         (O.taken output.old) (O.taken output.new) }

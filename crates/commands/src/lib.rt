@@ -1,15 +1,16 @@
 //! The commands of a call, from the input to what they write: by a request, by a formula, by a listing and by a list.
 #![tactic(auto)]
 
-ghost use Rattle.std.specs.Prelude.{◌≡◌, ◌≢◌, ◌-◌, ◌≤◌, ℕ, List, [], Some, true};
-ghost use Rattle.std.specs.Io.KnownBytes.{Appends, IsAtEnd};
+ghost use Rattle.std.specs.Prelude.{◌≡◌, ◌≢◌, ◌-◌, ◌≤◌, ℕ, List, [], true};
+ghost use Rattle.std.specs.Io.KnownBytes.{Appends};
+ghost use Rattle.io_edge.specs.Told.{IsOver};
 ghost use Rattle.matrix_meaning.specs.Valid.{IsInRange};
 ghost use Rattle.io_edge.specs.Faults.{Reports};
 ghost use Rattle.io_edge.specs.Feed.{to_come, limit};
 ghost use Rattle.commands.specs.SpiralInput.Commands.{reads_rest, NamesNoStranger};
 ghost use Rattle.commands.specs.SpiralInput.Stage.{status_of};
 ghost use Rattle.commands.specs.SpiralInput.Ends.{EndsCleanly};
-ghost use Rattle.commands.specs.SpiralInput.Outcomes.{Meets, ToldMeets};
+ghost use Rattle.commands.specs.SpiralInput.Outcomes.{Meets, SourceMeets};
 ghost use Rattle.commands.specs.Equations.Requests.{outcomes_by_request, work_for};
 
 mod check;
@@ -45,7 +46,7 @@ fn write_text<O: Sink>(
     requires in_range { IsInRange request.now }
     requires turns { NamesNoStranger (RequestCommand.Writes document.now) request.now.procs }
     ensures told { (room : ℕ) (bytes : List ℕ) →
-        Meets (work_for (RequestCommand.Writes document.now) request.now room) bytes (Some bytes)
+        Meets (work_for (RequestCommand.Writes document.now) request.now room) bytes bytes
         (O.taken output.old) (O.taken output.new) (status_of result) }
     ensures read { status_of result ≢ Status.ReadFault }
     ensures usage { status_of result ≢ Status.Usage }
@@ -71,12 +72,12 @@ fn perform_for<I: Source, O: Sink>(
     requires in_range { IsInRange request.now }
     requires turns { NamesNoStranger command.now request.now.procs }
     requires line { feed.old.taken ≤ 257 }
-    ensures told { ToldMeets (work_for command.now request.now (limit - feed.old.taken))
+    ensures told { SourceMeets (work_for command.now request.now (limit - feed.old.taken))
         (to_come feed.old (I.left input.old)) (to_come feed.new (I.left input.new))
         (O.taken output.old) (O.taken output.new) (status_of result) }
     ensures end { status_of result ≡ Status.Success
         → reads_rest (Command.ByRequest command.now) ≡ true
-        → IsAtEnd (to_come feed.new (I.left input.new)) }
+        → IsOver (to_come feed.new (I.left input.new)) }
     ensures ends { EndsCleanly (status_of result) feed.new.held
         (I.faults input.old) (I.faults input.new) (O.faults output.old) (O.faults output.new)
         (O.taken output.old) (O.taken output.new) }
@@ -98,12 +99,12 @@ pub fn perform<I: Source, O: Sink>(
     output: &mut O,
 ) -> Result<(), Status>
     requires fresh { feed.old.taken ≡ 0 }
-    ensures told { ToldMeets (outcomes_by_request command.now)
+    ensures told { SourceMeets (outcomes_by_request command.now)
         (to_come feed.old (I.left input.old)) (to_come feed.new (I.left input.new))
         (O.taken output.old) (O.taken output.new) (status_of result) }
     ensures end { status_of result ≡ Status.Success
         → reads_rest (Command.ByRequest command.now) ≡ true
-        → IsAtEnd (to_come feed.new (I.left input.new)) }
+        → IsOver (to_come feed.new (I.left input.new)) }
     ensures ends { EndsCleanly (status_of result) feed.new.held
         (I.faults input.old) (I.faults input.new) (O.faults output.old) (O.faults output.new)
         (O.taken output.old) (O.taken output.new) }

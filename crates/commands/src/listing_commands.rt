@@ -1,12 +1,13 @@
 // The command that runs a listing.
 ghost use Rattle.std.specs.Prelude.{◌≡◌, ℕ, List, Ok, Err, IfOk, IfErr};
-ghost use Rattle.std.specs.Io.KnownBytes.{Consumes, IsAtEnd};
+ghost use Rattle.std.specs.Io.KnownBytes.{Consumes};
+ghost use Rattle.io_edge.specs.Told.{IsOver};
 ghost use Rattle.io_edge.specs.Feed.{to_come};
 ghost use Rattle.icode.specs.Program.{Fits, plain_program};
 ghost use Rattle.commands.specs.Equations.Exec.{exec_outcomes};
 ghost use Rattle.commands.specs.ListingCommands.Listed.{loaded, GivesListing};
 ghost use Rattle.commands.specs.SpiralInput.Ends.{EndsCleanly, ReadsCleanly};
-ghost use Rattle.commands.specs.SpiralInput.Outcomes.{ToldMeets};
+ghost use Rattle.commands.specs.SpiralInput.Outcomes.{SourceMeets};
 ghost use Rattle.commands.specs.SpiralInput.Stage.{status_of};
 ghost use Rattle.spiral_words.specs.SpiralStatus.Status.{IsDefined};
 ghost use Rattle.commands.specs.SpiralInput.Refusals.{IsRefusal};
@@ -31,7 +32,7 @@ fn listing_text<I: Source>(alloc: Global, feed: &mut Feed, input: &mut I) -> Res
     requires fresh { feed.old.taken ≡ 0 }
     ensures told { (read : List ℕ)
         × Consumes (to_come feed.old (I.left input.old)) (to_come feed.new (I.left input.new)) read
-        × GivesListing read (IsAtEnd (to_come feed.new (I.left input.new))) feed.new.taken result }
+        × GivesListing read (IsOver (to_come feed.new (I.left input.new))) feed.new.taken result }
     ensures ends { ReadsCleanly result feed.new.held (I.faults input.old) (I.faults input.new) }
 {
     match read_part(alloc, feed, input, LISTING_LIMIT) {
@@ -70,11 +71,11 @@ pub fn exec<I: Source, O: Sink>(
     output: &mut O,
 ) -> Result<(), Status>
     requires fresh { feed.old.taken ≡ 0 }
-    ensures told { ToldMeets (exec_outcomes schedule.now)
+    ensures told { SourceMeets (exec_outcomes schedule.now)
         (to_come feed.old (I.left input.old)) (to_come feed.new (I.left input.new))
         (O.taken output.old) (O.taken output.new) (status_of result) }
     ensures end { status_of result ≡ Status.Success
-        → IsAtEnd (to_come feed.new (I.left input.new)) }
+        → IsOver (to_come feed.new (I.left input.new)) }
     ensures ends { EndsCleanly (status_of result) feed.new.held
         (I.faults input.old) (I.faults input.new) (O.faults output.old) (O.faults output.new)
         (O.taken output.old) (O.taken output.new) }

@@ -1,6 +1,6 @@
 // Runs of a program over the vectors of the data, by the machine that the order asks for.
 ghost use Rattle.std.specs.Prelude.{◌≡◌, ◌-◌, ◌≤◌, None};
-ghost use Rattle.std.specs.Io.KnownBytes.{IsAtEnd};
+ghost use Rattle.io_edge.specs.Told.{IsOver};
 ghost use Rattle.icode.specs.Program.{Fits};
 ghost use Rattle.io_edge.specs.Feed.{to_come, limit};
 ghost use Rattle.buffer_machine.specs.Listed as listed;
@@ -8,7 +8,7 @@ ghost use Rattle.commands.specs.SpiralInput.Commands.{first_stranger};
 ghost use Rattle.commands.specs.SpiralInput.Orders.{procs_in};
 ghost use Rattle.commands.specs.SpiralInput.Stage.{status_of};
 ghost use Rattle.commands.specs.SpiralInput.Ends.{EndsCleanly};
-ghost use Rattle.commands.specs.SpiralInput.Outcomes.{ToldMeets};
+ghost use Rattle.commands.specs.SpiralInput.Outcomes.{SourceMeets};
 ghost use Rattle.commands.specs.OrderText.{order_of};
 ghost use Rattle.commands.specs.Prepared.{stream_work};
 ghost use Rattle.runs.specs.Stream.{HasNoStranger};
@@ -44,11 +44,11 @@ pub(crate) fn stream<I: Source, O: Sink>(
     requires fits { Fits made.now.program }
     requires turns { first_stranger (procs_in order.now) made.now.program.procs ≡ None }
     requires within { feed.old.taken ≤ limit }
-    ensures told { ToldMeets (stream_work made.now order.now (limit - feed.old.taken))
+    ensures told { SourceMeets (stream_work made.now order.now (limit - feed.old.taken))
         (to_come feed.old (I.left input.old)) (to_come feed.new (I.left input.new))
         (O.taken output.old) (O.taken output.new) (status_of result) }
     ensures end { status_of result ≡ Status.Success
-        → IsAtEnd (to_come feed.new (I.left input.new)) }
+        → IsOver (to_come feed.new (I.left input.new)) }
     ensures ends { EndsCleanly (status_of result) feed.new.held
         (I.faults input.old) (I.faults input.new) (O.faults output.old) (O.faults output.new)
         (O.taken output.old) (O.taken output.new) }
@@ -74,12 +74,12 @@ pub(crate) fn stream_turns<I: Source, O: Sink>(
     requires fits { Fits made.now.program }
     requires turns { HasNoStranger schedule.now made.now.program.procs }
     requires within { feed.old.taken ≤ limit }
-    ensures told { ToldMeets
+    ensures told { SourceMeets
         (stream_work made.now (Order.Turns schedule.now) (limit - feed.old.taken))
         (to_come feed.old (I.left input.old)) (to_come feed.new (I.left input.new))
         (O.taken output.old) (O.taken output.new) (status_of result) }
     ensures end { status_of result ≡ Status.Success
-        → IsAtEnd (to_come feed.new (I.left input.new)) }
+        → IsOver (to_come feed.new (I.left input.new)) }
     ensures ends { EndsCleanly (status_of result) feed.new.held
         (I.faults input.old) (I.faults input.new) (O.faults output.old) (O.faults output.new)
         (O.taken output.old) (O.taken output.new) }
@@ -111,12 +111,12 @@ fn stream_events<I: Source, O: Sink>(
     requires fits { Fits made.now.program }
     requires turns { listed.HasNoStranger events made.now.program.procs }
     requires within { feed.old.taken ≤ limit }
-    ensures told { ToldMeets
+    ensures told { SourceMeets
         (stream_work made.now (order_of events.entry) (limit - feed.old.taken))
         (to_come feed.old (I.left input.old)) (to_come feed.new (I.left input.new))
         (O.taken output.old) (O.taken output.new) (status_of result) }
     ensures end { status_of result ≡ Status.Success
-        → IsAtEnd (to_come feed.new (I.left input.new)) }
+        → IsOver (to_come feed.new (I.left input.new)) }
     ensures ends { EndsCleanly (status_of result) feed.new.held
         (I.faults input.old) (I.faults input.new) (O.faults output.old) (O.faults output.new)
         (O.taken output.old) (O.taken output.new) }

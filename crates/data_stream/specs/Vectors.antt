@@ -1,7 +1,7 @@
 -- What `Vectors` is to a contract.
 use Rattle.std.specs.Prelude.{◌≡◌, ℕ, ◌≤◌, Bool, true, List}
 use Rattle.std.specs.declared.option.Option.{Option}
-use Rattle.std.specs.Io.KnownBytes.{IsAtEnd}
+use Rattle.io_edge.specs.Told.{IsOver}
 use Rattle.io_edge.specs.Feed.{Fed, limit}
 
 -- how many numbers a vector has, how many the vectors so far had, and whether the data have ended
@@ -15,4 +15,4 @@ pub record IsReady (vectors : Cut) (feed : Fed) (left : Option (List ℕ)) : Typ
   pub few : vectors.done ≤ limit
   pub counted : vectors.done ≤ feed.taken
   pub within : vectors.ended ≡ true → feed.taken ≤ limit
-  pub end : vectors.ended ≡ true → IsAtEnd left
+  pub end : vectors.ended ≡ true → IsOver left

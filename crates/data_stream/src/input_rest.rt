@@ -1,6 +1,7 @@
 // Parts of an input: its rest, read to its end, and the lines before its first empty line.
 ghost use Rattle.std.specs.Prelude.{◌≡◌, ℕ, ◌+◌, ◌<◌, List, [], ◌∷◌, ◌++◌, OnOk, IsErrOf};
-ghost use Rattle.std.specs.Io.KnownBytes.{Consumes, IsAtEnd};
+ghost use Rattle.std.specs.Io.KnownBytes.{Consumes};
+ghost use Rattle.io_edge.specs.Told.{IsOver};
 ghost use Rattle.io_edge.specs.Faults.{Reports};
 ghost use Rattle.io_edge.specs.Feed.{to_come, limit};
 ghost use Rattle.data_stream.specs.InputRest.Rest.{GivesRest};
@@ -67,7 +68,7 @@ pub fn read_rest<S: Source>(
     requires { feed.old.taken + most < limit }
     ensures answer { (read : List ℕ) × Consumes (to_come feed.old (S.left source.old))
         (to_come feed.new (S.left source.new)) read
-        × GivesRest most read (IsAtEnd (to_come feed.new (S.left source.new))) result }
+        × GivesRest most read (IsOver (to_come feed.new (S.left source.new))) result }
     ensures empty { IsErrOf result RestFault.ReadFault → feed.new.held ≡ [] }
     ensures cause { Reports (S.faults source.old) (S.faults source.new)
         (IsErrOf result RestFault.ReadFault) }

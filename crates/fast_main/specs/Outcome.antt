@@ -1,7 +1,8 @@
 -- What a call answers for its words and the bytes of its input, and what it writes.
-use Rattle.std.specs.Prelude.{◌≡◌, ◌≢◌, ◌⊎◌, ℕ, ◌<◌, ◌≤◌, List, [], length, Some, None, IfSome, true, false}
+use Rattle.std.specs.Prelude.{◌≡◌, ◌≢◌, ◌⊎◌, ℕ, ◌<◌, ◌≤◌, List, [], ◌++◌, length, Some, None, true, false}
 use Rattle.std.specs.declared.option.Option.{Option}
-use Rattle.std.specs.Io.KnownBytes.{Appends, Consumes, IsAtEnd}
+use Rattle.std.specs.Io.KnownBytes.{Appends, Consumes}
+use Rattle.io_edge.specs.Told.{IsOver, Tells}
 use Rattle.icode.specs.Plain.{PlainProgram}
 use Rattle.grammar.specs.Grammar.{IsLost}
 use Rattle.listing_text.specs.Texts.{is_listing}
@@ -96,20 +97,23 @@ pub record AreJudged (words : List (List ℕ)) (status : Status) : Type 0 where
 
 -- the listing has been read to its end: to an empty line, or to the end of the input
 abbrev pub HasReadListing : Option (List ℕ) → Option (List ℕ) → Type 0
-HasReadListing told left = (read : List ℕ) × Consumes told left read × HasPartEnded read (IsAtEnd left)
+HasReadListing told left = (read : List ℕ) × Consumes told left read × HasPartEnded read (IsOver left)
 
--- Status and output of a call, by all the bytes of its input and by what the source has left of them
-pub record Accounts (words : List (List ℕ)) (bytes : List ℕ) (left before after : Option (List ℕ)) (status : Status) : Type 0 where
+-- Status and output of a call, by all the bytes of its input and by those that are left of them
+pub record Accounts (words : List (List ℕ)) (bytes left : List ℕ) (before after : Option (List ℕ)) (status : Status) : Type 0 where
   -- where nothing failed, they are the outcome
   pub answer : IsDefined status → (text : List ℕ) × IsOutcome words bytes status text × Appends before after text
   -- a read failed, behind bytes that may be the front of a listing's, and nothing was written
-  pub read_fault : status ≡ ReadFault → (asked words ≢ None) × ((read : List ℕ) × Consumes (Some bytes) left read × IsInPart listing_limit read) × Appends before after []
+  pub read_fault : status ≡ ReadFault → (asked words ≢ None) × ((read : List ℕ) × (bytes ≡ read ++ left) × IsInPart listing_limit read) × Appends before after []
   -- a write failed at the text that the bytes call for, of which the output took a front
   pub write_fault : status ≡ WriteFault → (text : List ℕ) × IsOutcome words bytes Success text × AppendsPrefix before after text
 
--- the same, where the input tells its bytes
-abbrev pub ToldAccounts : List (List ℕ) → Option (List ℕ) → Option (List ℕ) → Option (List ℕ) → Option (List ℕ) → Status → Type 0
-ToldAccounts words told left before after status = IfSome told (λ bytes. Accounts words bytes left before after status)
+-- the same by an input: it gave these bytes, and with all that it may have left they account for status and output. One
+-- that does not tell its bytes may have any left
+pub record AccountsFor (words : List (List ℕ)) (input input' before after : Option (List ℕ)) (status : Status) : Type 0 where
+  pub read : List ℕ
+  pub consumed : Consumes input input' read
+  pub accounts : (left : List ℕ) → Tells input' left → Accounts words (read ++ left) left before after status
 
 -- the line went to the note whole, or a prefix of it where the note failed
 abbrev pub Notes : Option (List ℕ) → Option (List ℕ) → ℕ → ℕ → List ℕ → Type 0

@@ -1,9 +1,10 @@
 //! Fast C from a listing: a listing on an input to a C text on an output, a note and a status.
 #![tactic(auto)]
 
-ghost use Rattle.std.specs.Prelude.{◌≡◌, ℕ, List};
+ghost use Rattle.std.specs.Prelude.{◌≡◌, ℕ, List, Some};
+ghost use Rattle.std.specs.declared.option.Option.{Option};
 ghost use Rattle.fast_main.specs.declared.status.Status.{Status as SpecStatus};
-ghost use Rattle.fast_main.specs.Outcome.{IsOutcome};
+ghost use Rattle.fast_main.specs.Outcome.{Accounts, AccountsFor, IsOutcome};
 
 mod fast_words;
 mod prepare;
@@ -22,4 +23,12 @@ pub fn calls_have_one_outcome()
         → IsOutcome words bytes a s → IsOutcome words bytes b t → a ≡ b }
     ensures text { (words : List (List ℕ)) (bytes : List ℕ) (a b : SpecStatus) (s t : List ℕ)
         → IsOutcome words bytes a s → IsOutcome words bytes b t → s ≡ t }
+{}
+
+/// Of an input that tells its bytes, these and the words account for the status and the output, and the input tells what
+/// is left of them.
+pub fn told_inputs_are_accounted_for()
+    ensures { (words : List (List ℕ)) (bytes : List ℕ) (left before after : Option (List ℕ))
+        (status : SpecStatus) → AccountsFor words (Some bytes) left before after status
+        → (rest : List ℕ) × (left ≡ Some rest) × Accounts words bytes rest before after status }
 {}

@@ -1,6 +1,5 @@
 // The top call.
-ghost use Rattle.std.specs.Prelude.{◌≡◌, ◌≢◌, ℕ, List, [], map, string_bytes, IsTrue, IfOk, IfErr};
-ghost use Rattle.std.specs.declared.option.Option.{Option};
+ghost use Rattle.std.specs.Prelude.{◌≡◌, ◌≢◌, ℕ, [], map, string_bytes, IsTrue, IfOk, IfErr};
 ghost use Rattle.std.specs.Io.KnownBytes.{Appends};
 ghost use Rattle.icode.specs.Machine.{IsApart};
 ghost use Rattle.icode.specs.Program.{plain_program, code_of, Fits};
@@ -9,7 +8,7 @@ ghost use Rattle.word_code.specs.Choice.{allows};
 ghost use Rattle.fast_main.specs.FastWords.View.{plain_options};
 ghost use Rattle.fast_main.specs.Outcome.{IsRefused, IsTranslated, IsInside, IsDefined};
 ghost use Rattle.fast_main.specs.Outcome.{AreJudged, HasReadListing};
-ghost use Rattle.fast_main.specs.Outcome.{ToldAccounts, Notes};
+ghost use Rattle.fast_main.specs.Outcome.{AccountsFor, Notes};
 ghost use Rattle.fast_main.specs.Status.{note_line, status_of};
 ghost use Rattle.fast_main.specs.FastWords.Asked.{IsLaneCount};
 ghost use Rattle.fast_main.specs.Translation.{fast_text, AreSoundWords};
@@ -77,7 +76,7 @@ fn work<I: Source, O: Sink>(
     input: &mut I,
     output: &mut O,
 ) -> Result<(), Status>
-    ensures told { ToldAccounts (map string_bytes words.now.items) (I.left input.old)
+    ensures told { AccountsFor (map string_bytes words.now.items) (I.left input.old)
         (I.left input.new) (O.taken output.old) (O.taken output.new) (status_of result) }
     ensures words { AreJudged (map string_bytes words.now.items) (status_of result) }
     ensures end { status_of result ≡ Status.Success
@@ -118,9 +117,9 @@ pub fn fast_run<I: Source, O: Sink, E: Sink>(
     output: &mut O,
     note: &mut E,
 ) -> Status
-    // Where the input tells its bytes, they and the words account for the status and for what the
-    // output took.
-    ensures told { ToldAccounts (map string_bytes words.now.items) (I.left input.old)
+    // The bytes that the input gave, with all that it may have left, and the words account for the status and for what
+    // the output took.
+    ensures told { AccountsFor (map string_bytes words.now.items) (I.left input.old)
         (I.left input.new) (O.taken output.old) (O.taken output.new) result }
     // The words alone tell whether they are a call's.
     ensures words { AreJudged (map string_bytes words.now.items) result }

@@ -1,7 +1,8 @@
 // The bytes of a source one by one, up to a limit.
 ghost use Rattle.std.specs.Prelude.{◌≡◌, ℕ, ◌+◌, ◌<◌, ◌≤◌, ◌↔◌, true, false, length, Ok, IfOk, OnErr, [], ◌∷◌, IsTrue, IsErrOf};
-ghost use Rattle.std.specs.Io.KnownBytes.{Keeps, IsAtEnd};
+ghost use Rattle.std.specs.Io.KnownBytes.{Keeps};
 ghost use Rattle.io_edge.specs.Faults.{Reports, HasCause};
+ghost use Rattle.io_edge.specs.Told.{IsOver};
 
 use crate::{Failed, Source};
 use memory::NoMemory;
@@ -110,7 +111,7 @@ impl Feed {
             (to_come self.new (S.left source.new)) }
         ensures taken { self.new.taken ≡ self.old.taken }
         ensures more { result ≡ Ok true → 0 < length self.new.held }
-        ensures end { result ≡ Ok false → IsAtEnd (to_come self.new (S.left source.new)) }
+        ensures end { result ≡ Ok false → IsOver (to_come self.new (S.left source.new)) }
         ensures err { OnErr result (self.new ≡ self.old) }
         ensures cause { HasCause (S.faults source.old) (S.faults source.new) result }
     {

@@ -1,9 +1,10 @@
 // Sources in memory, and over any reader.
-ghost use Rattle.std.specs.Prelude.{◌≡◌, ◌<◌, ◌↔◌, min, Some, length, take, drop, vec_len, Contains, IsErr, IfOk, OnErr};
+ghost use Rattle.std.specs.Prelude.{◌≡◌, ◌<◌, ◌↔◌, min, false, Some, length, take, drop, vec_len, Contains, IsErr, IfOk, OnErr};
 ghost use Rattle.std.specs.Io.{ReadsAtMost};
 ghost use Rattle.std.specs.Io.KnownBytes.{ReadConsumes};
 ghost use Rattle.io_edge.specs.Faults.{HasCause};
 ghost use Rattle.io_edge.specs.Memory.{Supply, next_count};
+ghost use Rattle.io_edge.specs.Told.{left_of};
 
 use crate::{Failed, Source};
 use std::io::Read;
@@ -136,32 +137,45 @@ impl Source for QuietSource {
     }
 }
 
-/// A reader of std as a source. Each error counts as a fault.
+/// A reader of std as a source. Each error counts as a fault. A reader that gave none is not asked again.
 #[derive(Drop)]
 pub struct ReadSource<R> {
     /// The reader.
     pub inner: R,
     /// How often it has failed. The count stays at its last value.
     pub faults: u64,
+    /// Whether it has ended.
+    pub ended: bool,
 }
 
 impl<R: Read> ReadSource<R> {
     pub fn new(inner: R) -> Self
         ensures inner { result.inner ≡ inner }
         ensures faults { result.faults ≡ 0 }
+        ensures ended { result.ended ≡ false }
     {
-        ReadSource { inner, faults: 0 }
+        ReadSource {
+            inner,
+            faults: 0,
+            ended: false,
+        }
     }
 }
 
 impl<R: Read> Source for ReadSource<R> {
-    ghost left = { λ s. R.remaining s.inner };
+    ghost left = { λ s. left_of s.ended (R.remaining s.inner) };
 
     ghost faults = { λ s. s.faults };
 
     fn read(&mut self, buf: &mut [u8]) -> Result<usize, Failed> {
+        if self.ended {
+            return Ok(0);
+        }
         match self.inner.read(buf) {
-            Ok(count) => Ok(count),
+            Ok(count) => {
+                self.ended = count == 0 && !buf.is_empty();
+                Ok(count)
+            }
             Err(_) => {
                 self.faults = self.faults.saturating_add(1);
                 Err(Failed)

@@ -3,7 +3,8 @@ use Rattle.std.proofs.Common.{◌≡◌, ◌<◌, ◌≤◌, ◌+◌, ◌≢◌,
 use Rattle.std.proofs.lemmas.Grind.{common_steps}
 use Rattle.std.specs.List.{list_all}
 use Rattle.std.specs.declared.option.Option.{Option}
-use Rattle.std.specs.Io.KnownBytes.{Consumes, IsAtEnd}
+use Rattle.std.specs.Io.KnownBytes.{Consumes}
+use Rattle.io_edge.specs.Told.{IsOver}
 use Rattle.io_edge.specs.Feed.{Fed, limit}
 use Rattle.data_stream.specs.Data.{tokens, closed_part, is_good}
 use Rattle.data_stream.specs.Reading.{GivesVector}
@@ -19,7 +20,7 @@ use Rattle.runs.specs.Stream.{Reads, vectors_of, good_front, bad_after, vectors_
 use Rattle.runs.specs.StreamFault.{stream_fault}
 use Rattle.runs.specs.declared.stream.StreamFault.{StreamFault}
 use Rattle.runs.specs.declared.stream.StreamFault.TheVariants.{TooLong, WriteFault}
-use Rattle.runs.proofs.StreamLemmas.{Once, no_stream, stream_push, stream_end, stream_fault_at, stream_unwritten, told_answers, fault_within, seen_front, state_behind-of, texts_same}
+use Rattle.runs.proofs.StreamLemmas.{Once, no_stream, stream_push, stream_end, stream_fault_at, stream_unwritten, answered_with, fault_within, seen_front, state_behind-of, texts_same}
 
 -- nothing was read yet
 pub come_none : (modulus size : ℕ) (cut : Cut) (feed : Fed) (a : Option (List ℕ)) → cut ≡ record { size = size; done = 0; ended = false } → HasCome modulus cut feed feed a a []
@@ -43,22 +44,22 @@ come_push modulus cut next old now new a b c seen read vector some size done wit
 
 -- what was read is an answer to all data
 pub reads_data : (size modulus : ℕ) (old new : Fed) (before after : Option (List ℕ)) (vectors : List (List ℕ)) (result : Result (Unit {0}) StreamFault) (read : List ℕ)
-    → Consumes before after read × Reads size modulus old new read (IsAtEnd after) vectors result → (result ≢ Err TooLong → new.taken ≤ limit)
+    → Consumes before after read × Reads size modulus old new read (IsOver after) vectors result → (result ≢ Err TooLong → new.taken ≤ limit)
     → ReadsData size modulus old new before after vectors result
 reads_data size modulus old new before after vectors result read s within = record {
   read = read;
   consumed = s.0;
   answer = s.1;
-  told = λ start. told_answers size modulus old new before after read vectors result s.0 s.1 start within;
+  answers = λ start. answered_with size modulus old new read (IsOver after) vectors result s.1 start within;
 }
 
 -- the data end
 pub come_end : (modulus : ℕ) (cut : Cut) (ended : Bool) (old now new : Fed) (a b c : Option (List ℕ)) (seen : List (List ℕ)) (read vector : List ℕ)
-    → 0 < cut.size → new.taken ≤ limit → Consumes b c read → Once cut.ended ended read → GivesVector cut.size modulus cut.done now new read ended vector (Ok End) → (ended ≡ true → IsAtEnd c)
+    → 0 < cut.size → new.taken ≤ limit → Consumes b c read → Once cut.ended ended read → GivesVector cut.size modulus cut.done now new read ended vector (Ok End) → (ended ≡ true → IsOver c)
     → HasCome modulus cut old now a b seen → ReadsData cut.size modulus old new a c seen (Ok tt)
 come_end modulus cut ended old now new a b c seen read vector some within r once given end h =
     reads_data cut.size modulus old new a c seen (Ok tt) (h.progress.bytes ++ read)
-    (stream_end a b c old now new cut.ended ended cut.size modulus cut.done seen (IsAtEnd c) read vector some h.progress r once given end) (λ _. within)
+    (stream_end a b c old now new cut.ended ended cut.size modulus cut.done seen (IsOver c) read vector some h.progress r once given end) (λ _. within)
 
 abbrev failed : DataFault → Result Next DataFault
 failed fault = Err fault
@@ -66,11 +67,11 @@ failed fault = Err fault
 -- or are faulty
 pub come_fault : (modulus : ℕ) (cut : Cut) (ended : Bool) (old now new : Fed) (a b c : Option (List ℕ)) (seen : List (List ℕ)) (read vector : List ℕ) (fault : DataFault)
     → 0 < cut.size → (failed fault ≢ failed data_fault.TooLong → new.taken ≤ limit) → Consumes b c read → cut.ended ≡ false
-    → GivesVector cut.size modulus cut.done now new read ended vector (Err fault) → (ended ≡ true → IsAtEnd c)
+    → GivesVector cut.size modulus cut.done now new read ended vector (Err fault) → (ended ≡ true → IsOver c)
     → HasCome modulus cut old now a b seen → ReadsData cut.size modulus old new a c seen (Err (stream_fault fault))
 come_fault modulus cut ended old now new a b c seen read vector fault some within r going given end h =
     reads_data cut.size modulus old new a c seen (Err (stream_fault fault)) (h.progress.bytes ++ read)
-    (stream_fault_at a b c old now new cut.ended ended cut.size modulus cut.done seen (IsAtEnd c) read vector fault some h.progress h.begun r going given end)
+    (stream_fault_at a b c old now new cut.ended ended cut.size modulus cut.done seen (IsOver c) read vector fault some h.progress h.begun r going given end)
     (fault_within fault (new.taken ≤ limit) within)
 
 abbrev failed_stream : StreamFault → Result (Unit {0}) StreamFault
@@ -85,10 +86,10 @@ fault_reads data_fault.ReadFault = λ e. cc
 
 -- the output fails behind what was read
 pub come_unwritten : (modulus : ℕ) (cut : Cut) (old new : Fed) (a c : Option (List ℕ)) (seen : List (List ℕ))
-    → 0 < cut.size → new.taken ≤ limit → (cut.ended ≡ true → IsAtEnd c) → HasCome modulus cut old new a c seen → ReadsData cut.size modulus old new a c seen (Err WriteFault)
+    → 0 < cut.size → new.taken ≤ limit → (cut.ended ≡ true → IsOver c) → HasCome modulus cut old new a c seen → ReadsData cut.size modulus old new a c seen (Err WriteFault)
 come_unwritten modulus cut old new a c seen some within end h =
     reads_data cut.size modulus old new a c seen (Err WriteFault) h.progress.bytes
-    (h.progress.consumed, stream_unwritten a c old new cut.ended cut.size modulus cut.done seen (IsAtEnd c) some h.progress end) (λ _. within)
+    (h.progress.consumed, stream_unwritten a c old new cut.ended cut.size modulus cut.done seen (IsOver c) some h.progress end) (λ _. within)
 
 -- a run from the first vector on
 pub streams_new : {S : Type 0} (text : List ℕ → List ℕ) (leaves : List ℕ → S) (size modulus : ℕ) (old new : Fed) (before after out out' : Option (List ℕ)) (first last : S) (result : Result (Unit {0}) StreamFault)
@@ -98,7 +99,7 @@ streams_new text leaves size modulus old new before after out out' first last re
   vectors = s.later;
   consumed = s.reads.consumed;
   answer = s.reads.answer;
-  told = s.reads.told;
+  answers = s.reads.answers;
   wrote = s.wrote;
   stands = s.stands;
 }
@@ -141,19 +142,23 @@ take_nothing zero = refl
 take_nothing (suc n) = refl
 
 -- whatever the data have behind them
-pub vectors_begin : (modulus : ℕ) (cut : Cut) (old new : Fed) (bytes rest : List ℕ) (vectors : List (List ℕ))
-    → HasCome modulus cut old new (Some bytes) (Some rest) vectors → old.taken ≤ limit → new.taken ≤ limit → (cut.ended ≡ true → rest ≡ [])
-    → BeginsWith vectors (data_vectors cut.size modulus (limit - old.taken) bytes)
-vectors_begin modulus cut old new bytes rest vectors h start within end =
+pub vectors_begin : (modulus : ℕ) (cut : Cut) (old new : Fed) (before after : Option (List ℕ)) (rest : List ℕ)
+    (vectors : List (List ℕ)) → (h : HasCome modulus cut old new before after vectors)
+    → old.taken ≤ limit → new.taken ≤ limit → (cut.ended ≡ true → rest ≡ [])
+    → BeginsWith vectors (data_vectors cut.size modulus (limit - old.taken) (h.progress.bytes ++ rest))
+vectors_begin modulus cut old new before after rest vectors h start within end =
     let p = h.progress in
     let room = limit - old.taken in
+    let bytes = p.bytes ++ rest in
     let count = p.taken in
     let few : length p.bytes ≤ room = omega arith in
     let more = take (room - length p.bytes) rest in
-    let front : take room bytes ≡ p.bytes ++ more = ap (take room) p.consumed ∙ seen_front room p.bytes rest few in
+    let front : take room bytes ≡ p.bytes ++ more = seen_front room p.bytes rest few in
     let none : cut.ended ≡ true → (more ≡ []) × (nat_lt room (length bytes) ≡ false) = λ e. (
       ap (take (room - length p.bytes)) (end e) ∙ take_nothing (room - length p.bytes),
-      let whole : length bytes ≡ length p.bytes = ap length (p.consumed ∙ ap (λ l. p.bytes ++ l) (end e) ∙ append-nil p.bytes) in grind (arith, common_steps),
+      let whole : length bytes ≡ length p.bytes = ap length (ap (λ l. p.bytes ++ l) (end e) ∙ append-nil p.bytes) in
+          grind (arith, common_steps),
     ) in
     subst (λ l. BeginsWith vectors (vectors_seen cut.size modulus (nat_lt room (length bytes)) (bad_after 0 (tokens l)) l)) (sym front)
-    (seen_first (Some bytes) (Some rest) old.taken new.taken cut.ended cut.size modulus cut.done vectors p (nat_lt room (length bytes)) (bad_after 0 (tokens (p.bytes ++ more))) more none)
+    (seen_first before after old.taken new.taken cut.ended cut.size modulus cut.done vectors p (nat_lt room (length bytes))
+    (bad_after 0 (tokens (p.bytes ++ more))) more none)

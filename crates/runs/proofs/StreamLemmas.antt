@@ -8,7 +8,7 @@ use Rattle.std.proofs.lemmas.Grind.{common_steps, flat_map-append}
 use Rattle.std.proofs.lemmas.List.{take_all}
 use Rattle.std.specs.List.{list_all}
 use Rattle.std.specs.declared.option.Option.{Option}
-use Rattle.std.specs.Io.KnownBytes.{Appends, Consumes, IsAtEnd}
+use Rattle.std.specs.Io.KnownBytes.{Appends, Consumes}
 use Rattle.icode.specs.Machine.{Code, State, padded, start, run, finished, runs, words_at}
 use Rattle.buffer_machine.specs.declared.Events.{Events}
 use Rattle.buffer_machine.specs.Listed.{events_of}
@@ -30,7 +30,7 @@ use Rattle.data_stream.proofs.TokensLemmas.{not_ended}
 use Rattle.data_stream.proofs.TokenLemmas.{both_left, both_right}
 use Rattle.data_stream.proofs.VectorLemmas.{closed_after, over_behind}
 pub use Rattle.runs.specs.Progress.{StreamProgress}
-use Rattle.runs.specs.Stream.{group_vectors, vectors_of, texts, state_behind, good_front, bad_after, answer_of, vectors_seen, data_answer, data_vectors, Answers, ToldAnswers, Reads, Writes, Streams}
+use Rattle.runs.specs.Stream.{group_vectors, vectors_of, texts, state_behind, good_front, bad_after, answer_of, vectors_seen, data_answer, data_vectors, Answers, AnswersWith, Reads, Writes}
 use Rattle.runs.specs.declared.stream.StreamFault.{StreamFault}
 use Rattle.runs.specs.StreamFault.{stream_fault}
 use Rattle.runs.specs.declared.stream.StreamFault.TheVariants.{BadNumber, Truncated, TooLong, ReadFault, WriteFault}
@@ -323,14 +323,30 @@ answered size modulus old new read rest vectors (Err TooLong) (within_bytes, inr
 answered size modulus old new read rest vectors (Err ReadFault) s start within = tt
 answered size modulus old new read rest vectors (Err WriteFault) s start within = tt
 
--- the same over a source that tells its bytes
-pub told_answers : (size modulus : ℕ) (old new : Fed) (before after : Option (List ℕ)) (read : List ℕ) (vectors : List (List ℕ)) (result : Result (Unit {0}) StreamFault)
-    → Consumes before after read → Reads size modulus old new read (IsAtEnd after) vectors result → old.taken ≤ limit → (result ≢ Err TooLong → new.taken ≤ limit)
-    → ToldAnswers size modulus (limit - old.taken) before vectors result
-told_answers size modulus old new None after read vectors result r s start within = tt
-told_answers size modulus old new (Some bytes) None read vectors result r s start within = absurd r
-told_answers size modulus old new (Some bytes) (Some rest) read vectors result r s start within =
-    subst (λ (l : List ℕ). Answers size modulus (limit - old.taken) l vectors result) (sym r) (answered size modulus old new read rest vectors result s start within)
+-- where the data have ended, so has more
+pub reads_more : (size modulus : ℕ) (old new : Fed) (read : List ℕ) (now later : Type 0) (vectors : List (List ℕ))
+    (result : Result (Unit {0}) StreamFault) → (now → later)
+    → Reads size modulus old new read now vectors result → Reads size modulus old new read later vectors result
+reads_more size modulus old new read now later vectors (Ok u) goes s = (s.0, goes s.1, s.2, s.3, s.4)
+reads_more size modulus old new read now later vectors (Err (Truncated have need)) goes s =
+    (s.0, goes s.1, s.2, s.3, s.4, s.5, s.6)
+reads_more size modulus old new read now later vectors (Err (BadNumber token)) goes s = s
+reads_more size modulus old new read now later vectors (Err TooLong) goes s = s
+reads_more size modulus old new read now later vectors (Err ReadFault) goes s = s
+reads_more size modulus old new read now later vectors (Err WriteFault) goes s = (s.0, s.1, still s.2, s.3)
+  where
+    still : (closed_part read ≡ read) ⊎ now → (closed_part read ≡ read) ⊎ later
+    still (inl e) = inl e
+    still (inr e) = inr (goes e)
+
+-- the same with all that may follow
+pub answered_with : (size modulus : ℕ) (old new : Fed) (read : List ℕ) (ended : Type 0) (vectors : List (List ℕ))
+    (result : Result (Unit {0}) StreamFault) → Reads size modulus old new read ended vectors result
+    → old.taken ≤ limit → (result ≢ Err TooLong → new.taken ≤ limit)
+    → AnswersWith size modulus (limit - old.taken) read ended vectors result
+answered_with size modulus old new read ended vectors result s start within = λ more none.
+    answered size modulus old new read more vectors result
+    (reads_more size modulus old new read ended (more ≡ []) vectors result none s) start within
 
 words_at-suc : (n : ℕ) (xs : List ℕ) (i : ℕ) → words_at (suc n) xs i ≡ words_at n xs i ++ slice_index xs (i + n) ∷ []
 words_at-suc zero xs i = ap (λ k. slice_index xs k ∷ []) (sym (add-zero i))
@@ -371,22 +387,6 @@ fault_within (data_fault.BadNumber token) fits w other = w (λ e. cc)
 fault_within (data_fault.Truncated have need) fits w other = w (λ e. cc)
 fault_within data_fault.TooLong fits w other = absurd (other refl)
 fault_within data_fault.ReadFault fits w other = w (λ e. cc)
-
--- the whole account of a run
-pub streamed : {S : Type 0} (text : List ℕ → List ℕ) (leaves : List ℕ → S) (size modulus : ℕ) (old new : Fed) (before after out out' : Option (List ℕ)) (first last : S)
-    (result : Result (Unit {0}) StreamFault) (read : List ℕ) (vectors : List (List ℕ))
-    → Consumes before after read → Reads size modulus old new read (IsAtEnd after) vectors result → (result ≢ Err TooLong → new.taken ≤ limit)
-    → Writes out out' result (texts text vectors) → (result ≢ Err WriteFault → last ≡ state_behind leaves first vectors)
-    → Streams text leaves size modulus old new before after out out' first last result
-streamed text leaves size modulus old new before after out out' first last result read vectors consumed answer within wrote stands = record {
-  read = read;
-  vectors = vectors;
-  consumed = consumed;
-  answer = answer;
-  told = λ start. told_answers size modulus old new before after read vectors result consumed answer start within;
-  wrote = wrote;
-  stands = stands;
-}
 
 -- the turns of a schedule, and then those that complete it
 pub whole_run : (plan : Plan) (code first second : Code) (x : List ℕ) (begun turned ended : State) → first ≡ code → begun ≡ start code x → second ≡ first

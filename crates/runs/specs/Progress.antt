@@ -2,12 +2,13 @@
 use Rattle.std.specs.Prelude.{◌≡◌, ◌≢◌, ◌≤◌, ℕ, ◌+◌, ◌-◌, ◌<◌, ◌%◌, Bool, true, false, List, [], ◌++◌, length, Ok, Err, Result}
 use Rattle.std.specs.List.{list_all}
 use Rattle.std.specs.declared.option.Option.{Option}
-use Rattle.std.specs.Io.KnownBytes.{Consumes, IsAtEnd}
+use Rattle.std.specs.Io.KnownBytes.{Consumes}
+use Rattle.io_edge.specs.Told.{IsOver}
 use Rattle.io_edge.specs.Feed.{Fed, limit}
 use Rattle.data_stream.specs.Data.{closed_part, is_good}
 use Rattle.data_stream.specs.Reading.{AreTokens}
 use Rattle.data_stream.specs.Vectors.{Cut}
-use Rattle.runs.specs.Stream.{vectors_of, state_behind, texts, Reads, ToldAnswers, Writes}
+use Rattle.runs.specs.Stream.{vectors_of, state_behind, texts, AnswersWith, Reads, Writes}
 use Rattle.runs.specs.declared.stream.StreamFault.{StreamFault}
 use Rattle.runs.specs.declared.stream.StreamFault.TheVariants.{Truncated, WriteFault}
 
@@ -33,8 +34,8 @@ pub record HasCome (modulus : ℕ) (cut : Cut) (old new : Fed) (before after : O
 pub record ReadsData (size modulus : ℕ) (old new : Fed) (before after : Option (List ℕ)) (vectors : List (List ℕ)) (result : Result (Unit {0}) StreamFault) : Type 0 where
   pub read : List ℕ
   pub consumed : Consumes before after read
-  pub answer : Reads size modulus old new read (IsAtEnd after) vectors result
-  pub told : old.taken ≤ limit → ToldAnswers size modulus (limit - old.taken) before vectors result
+  pub answer : Reads size modulus old new read (IsOver after) vectors result
+  pub answers : old.taken ≤ limit → AnswersWith size modulus (limit - old.taken) read (IsOver after) vectors result
 
 -- What a run has read, written and left that goes on behind these vectors: the data are read to their end from where they began, and the texts are those of the later vectors
 pub record StreamsBehind {S : Type 0} (seen : List (List ℕ)) (text : List ℕ → List ℕ) (leaves : List ℕ → S) (size modulus : ℕ) (old new : Fed) (before after : Option (List ℕ))

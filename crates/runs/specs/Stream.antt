@@ -2,7 +2,8 @@
 use Rattle.std.specs.Prelude.{◌≡◌, ◌≢◌, ◌≤◌, ◌⊎◌, ℕ, zero, suc, ◌+◌, ◌-◌, ◌/◌, ◌%◌, ◌<◌, Bool, true, false, List, [], ◌∷◌, ◌++◌, length, take, drop, None, Some, Ok, Err, Result, if◌then◌else◌, nat_le, nat_lt, find, ◌==◌}
 use Rattle.std.specs.List.{list_all, flat_map}
 use Rattle.std.specs.declared.option.Option.{Option}
-use Rattle.std.specs.Io.KnownBytes.{Appends, Consumes, IsAtEnd}
+use Rattle.std.specs.Io.KnownBytes.{Appends, Consumes}
+use Rattle.io_edge.specs.Told.{IsOver}
 use Rattle.request_text.specs.Schedule.{Plan}
 use Rattle.request_text.specs.Turns.{named}
 use Rattle.io_edge.specs.Feed.{Fed, limit}
@@ -74,10 +75,10 @@ Answers size modulus room bytes vectors (Err ReadFault) = Unit {0}
 Answers size modulus room bytes vectors (Err WriteFault) = Unit {0}
 Answers size modulus room bytes vectors result = (data_answer size room bytes ≡ result) × (data_vectors size modulus room bytes ≡ vectors)
 
--- the same for a source that tells its bytes
-abbrev pub ToldAnswers : ℕ → ℕ → ℕ → Option (List ℕ) → List (List ℕ) → Result (Unit {0}) StreamFault → Type 0
-ToldAnswers size modulus room None vectors result = Unit {0}
-ToldAnswers size modulus room (Some bytes) vectors result = Answers size modulus room bytes vectors result
+-- the same of the bytes that were read with all that may follow
+abbrev pub AnswersWith : ℕ → ℕ → ℕ → List ℕ → Type 0 → List (List ℕ) → Result (Unit {0}) StreamFault → Type 0
+AnswersWith size modulus room read ended vectors result =
+    (more : List ℕ) → (ended → more ≡ []) → Answers size modulus room (read ++ more) vectors result
 
 -- By the bytes that were read
 
@@ -109,8 +110,8 @@ pub record Streams {S : Type 0} (text : List ℕ → List ℕ) (leaves : List �
   pub read : List ℕ
   pub vectors : List (List ℕ)
   pub consumed : Consumes before after read
-  pub answer : Reads size modulus old new read (IsAtEnd after) vectors result
-  pub told : old.taken ≤ limit → ToldAnswers size modulus (limit - old.taken) before vectors result
+  pub answer : Reads size modulus old new read (IsOver after) vectors result
+  pub answers : old.taken ≤ limit → AnswersWith size modulus (limit - old.taken) read (IsOver after) vectors result
   pub wrote : Writes out out' result (texts text vectors)
   pub stands : result ≢ Err WriteFault → last ≡ state_behind leaves first vectors
 

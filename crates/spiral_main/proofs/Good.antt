@@ -1,170 +1,122 @@
--- What the commands that write a program answer is right, too, where the program's statements are forgotten.
-use Rattle.std.proofs.Common.{◌≡◌, ◌≤◌, ◌<◌, ◌^◌, ℕ, Bool, true, false, List, [], ◌∷◌, Ok, Err, None, Some, Result, length, nat_le, cond, refl, sym, subst, arith, inl, inr}
-use Rattle.std.proofs.lemmas.Grind.{common_steps}
-use Rattle.std.specs.declared.option.Option.{Option}
+-- What the commands that write a program answer for a right line, where the program's statements are forgotten.
+use Rattle.std.proofs.Common.{◌≡◌, ◌++◌, ◌≤◌, ◌<◌, ◌^◌, ℕ, true, List, [], ◌∷◌, Ok, refl, arith, inr}
+use Rattle.c_print.specs.CText.{c_text_of}
 use Rattle.commands.specs.ConvolutionCommands.ConvPlanned.{IsConvPlanned}
-use Rattle.commands.specs.Equations.C.{c_outcomes}
-use Rattle.commands.specs.Equations.Code.{code_outcomes}
-use Rattle.commands.proofs.FormulaCommands.Shaped.{written_few, written_shaped}
-use Rattle.commands.specs.Equations.Compile.{compile_outcomes, compile_work}
-use Rattle.commands.specs.Equations.Formulas.{written}
+use Rattle.commands.specs.ConvolutionCommands.Convolving.{IsConvRequest}
+use Rattle.commands.specs.Emission.Whole.{conv_emission, emission}
+use Rattle.commands.specs.Equations.Convolve.{convolver_outcomes, convolver_work}
+use Rattle.commands.specs.Equations.Front.{line, room_behind}
+use Rattle.commands.specs.Equations.Orders.{Planned, planned}
+use Rattle.commands.specs.Equations.Trace.{run_lines, trace_outcomes, trace_work}
+use Rattle.commands.specs.Equations.Convolutions.{conv_planned}
+use Rattle.commands.specs.Equations.Works.{all, the_first, by_first, mapping, status_by}
+use Rattle.commands.specs.FormulaCommands.Code.{IsCodeOf}
 use Rattle.commands.specs.FormulaCommands.Letters as formulas
 use Rattle.commands.specs.GoodPrograms.{FormulaProgramsAreCode}
-use Rattle.spl_ast.specs.Formula.{Formula, parts_of}
-use Rattle.commands.specs.Equations.Convolutions.{conv_chosen, conv_planned, conv_spelt}
-use Rattle.commands.specs.Equations.Convolve.{convolver_outcomes, convolver_work}
-use Rattle.commands.specs.Equations.Front.{Front, Work, by_front, line, room_behind, taken_from}
-use Rattle.commands.specs.Equations.Orders.{Planned, chosen, planned, turned}
-use Rattle.commands.specs.Equations.Trace.{trace_outcomes, trace_work}
-use Rattle.commands.specs.Equations.Works.{Wants, all, the_first, by_first, mapping, writing}
-use Rattle.commands.specs.Emission.Whole.{emission}
-use Rattle.commands.specs.Planned.{IsPlanned}
-use Rattle.commands.specs.SpiralInput.Asking.{spelt}
-use Rattle.commands.specs.SpiralInput.Commands.{admitted, first_stranger}
 use Rattle.commands.specs.SpiralInput.Orders.{procs_in}
-use Rattle.commands.specs.SpiralInput.Stage.{Stage, ◌>>=◌}
-use Rattle.commands.specs.Emission.Whole.{conv_emission}
-use Rattle.c_print.specs.CText.{c_text_of}
-use Rattle.listing_text.specs.Listing.{listing_of}
+use Rattle.commands.proofs.FormulaCommands.Shaped.{written_few, written_shaped}
 use Rattle.commands.proofs.GoodPrograms.{conv_programs_convolve, programs_are_good}
-use Rattle.commands.proofs.SpiralInput.Stages.{done, done_ended, done_same}
-use Rattle.commands.proofs.SpiralInput.Within.{Within}
-use Rattle.matrix_meaning.specs.Valid.{IsInRange}
-use Rattle.matrix_meaning.specs.declared.Request.{Request}
-use Rattle.commands.specs.ConvolutionCommands.Convolving.{IsConvRequest}
+use Rattle.listing_text.specs.Listing.{listing_of}
 use Rattle.request_text.specs.Schedule.{Plan as Turns}
 use Rattle.request_text.specs.Turns.{named}
+use Rattle.runs.specs.Stream.{data_answer}
+use Rattle.spiral_words.specs.Asked.{IsAsked}
+use Rattle.spiral_words.specs.declared.Command.TheVariants as command
+use Rattle.spiral_words.specs.declared.Document.TheVariants as document
+use Rattle.spiral_words.specs.declared.FormulaCommand.TheVariants as formula_command
 use Rattle.spiral_words.specs.declared.Order.{Order}
+use Rattle.spiral_words.specs.declared.RequestCommand.TheVariants as request
 use Rattle.spiral_words.specs.declared.spiral_status.status.Status.{Status}
-use Rattle.spiral_words.specs.declared.spiral_status.status.Status.TheVariants.{TooLong, Turn}
-use Rattle.tree_model.specs.Breakdown.{Breakdown}
-use Rattle.spiral_main.specs.Good.{IsCodeListing, IsConvolverListing, IsGoodCText, IsGoodListing, IsGoodProgram, IsGoodTrace, good_c_outcomes, good_code_outcomes, good_compile_outcomes, good_convolver_outcomes, good_trace_outcomes}
+use Rattle.spiral_words.specs.declared.spiral_status.status.Status.TheVariants.{Success}
+use Rattle.spl_ast.specs.Formula.{Formula, parts_of}
+use Rattle.spiral_main.specs.Good.{IsGoodFor, IsLeanFor, Shows, ShowsConvolver, trace_of, vectors_read}
+use Rattle.spiral_main.specs.Outcome.{IsOutcome}
+use Rattle.spiral_main.specs.RightFront.{IsRightConvLine, IsRightFormulaLine, IsRightLine}
+use Rattle.spiral_main.proofs.Calls.{one_text}
+use Rattle.spiral_main.proofs.RightFront.{front_answer, listing_is_right, orders_conv_plan, orders_plan, text_is_right}
 
--- More is right behind a front for each value that the front may order
+-- ---- by a request
 
--- a front that is taken is not too long
-taken_short : (front : Front) (bytes text : List ℕ) → done text ≡ taken_from front bytes → length text ≤ front.most
-taken_short front bytes text is = at (nat_le (length (front.first bytes)) front.most) refl is
-  where
-    at : (test : Bool) → nat_le (length (front.first bytes)) front.most ≡ test
-        → done text ≡ cond {A = Result (List ℕ) Status} test (Ok (front.first bytes)) (Err (TooLong front.most)) → length text ≤ front.most
-    at true fits same =
-        let own : text ≡ front.first bytes = done_same text (front.first bytes) same in
-        let short : length (front.first bytes) ≤ front.most = grind (arith, common_steps) in
-        subst (λ l. length l ≤ front.most) (sym own) short
-    at false long same = absurd (done_ended text (TooLong front.most) same)
+-- the program of a right line's tree is good and lean
+pub known : (names bytes : List ℕ) (plan : Planned) → IsRightLine names bytes plan
+    → IsLeanFor plan (emission plan.request plan.tree)
+known names bytes plan right = programs_are_good plan.request plan.tree right.spells.1 right.planned
 
-known_answer : {A : Type 0} (front : Front) (orders : List ℕ → Stage A) (v w : A → Work)
-    → ((text : List ℕ) (a : A) (room : ℕ) → length text ≤ front.most → orders text (Ok a) → Within (v a room) (w a room))
-    → (bytes : List ℕ) (s : Status) (t : List ℕ) → (by_front front orders v).answer bytes s t → (by_front front orders w).answer bytes s t
-known_answer front orders v w h bytes s t (inl p) = inl p
-known_answer front orders v w h bytes s t (inr (a, gives, p)) =
-    inr (a, gives, (h gives.value a (room_behind front bytes) (taken_short front bytes gives.value gives.before) gives.behind).answer (front.behind bytes) s t p)
+module _ (words : List (List ℕ)) (bytes : List ℕ) (status : Status) (text : List ℕ) (plan : Planned) where
+  pub code_text : IsAsked words (command.ByRequest (request.Writes document.Code)) → IsRightLine [] bytes plan
+      → IsOutcome words bytes status text → text ≡ listing_of (emission plan.request plan.tree)
+  code_text asked right p =
+      let own = text_is_right [] bytes (λ q. listing_of (emission q.request q.tree)) plan right in
+      one_text words bytes status Success text (listing_of (emission plan.request plan.tree)) p
+      (inr (command.ByRequest (request.Writes document.Code), asked, own))
 
-known_broken : {A : Type 0} (front : Front) (orders : List ℕ → Stage A) (v w : A → Work)
-    → ((text : List ℕ) (a : A) (room : ℕ) → length text ≤ front.most → orders text (Ok a) → Within (v a room) (w a room))
-    → (read : List ℕ) (ended : Type 0) (t : List ℕ) → (by_front front orders v).broken read ended t → (by_front front orders w).broken read ended t
-known_broken front orders v w h read ended t (inl p) = inl p
-known_broken front orders v w h read ended t (inr (a, given, p)) =
-    inr (a, given, (h given.gives.value a (room_behind front read) (taken_short front read given.gives.value given.gives.before) given.gives.behind).broken (front.behind read) ended t p)
+  pub c_text : IsAsked words (command.ByRequest (request.Writes document.C)) → IsRightLine [] bytes plan
+      → IsOutcome words bytes status text → text ≡ c_text_of (emission plan.request plan.tree)
+  c_text asked right p =
+      let own = text_is_right [] bytes (λ q. c_text_of (emission q.request q.tree)) plan right in
+      one_text words bytes status Success text (c_text_of (emission plan.request plan.tree)) p
+      (inr (command.ByRequest (request.Writes document.C), asked, own))
 
-front_known : {A : Type 0} (front : Front) (orders : List ℕ → Stage A) (v w : A → Work)
-    → ((text : List ℕ) (a : A) (room : ℕ) → length text ≤ front.most → orders text (Ok a) → Within (v a room) (w a room))
-    → Within (by_front front orders v) (by_front front orders w)
-front_known front orders v w h = record {
-  answer = known_answer front orders v w h;
-  broken = known_broken front orders v w h;
-  cut = λ read left t p. (p.0, p.1, (h p.1.gives.value p.0 (room_behind front read) (taken_short front read p.1.gives.value p.1.gives.before) p.1.gives.behind).cut (front.behind read) left t p.2);
-}
+  pub trace_text : (order : Order) → IsAsked words (command.ByRequest (request.Traces order))
+      → IsRightLine (procs_in order) bytes plan → IsOutcome words bytes status text
+      → text ≡ trace_of order plan (vectors_read plan bytes) (emission plan.request plan.tree)
+  trace_text order asked right p =
+      let room = room_behind (line 256) bytes in
+      let data = (line 256).behind bytes in
+      let ends = status_by all plan.request.size (data_answer plan.request.size room data) (vectors_read plan bytes) in
+      let whole = trace_of order plan (vectors_read plan bytes) (emission plan.request plan.tree) in
+      let own : (trace_outcomes order).answer bytes ends whole =
+      front_answer (line 256) (planned (procs_in order)) (trace_work order) plan bytes ends whole right.short
+      (orders_plan (procs_in order) bytes plan right) (refl, refl) in
+      one_text words bytes status ends text whole p (inr (command.ByRequest (request.Traces order), asked, own))
 
-more_written : (P Q : List ℕ → Type 0) (room : ℕ) → ((t : List ℕ) → P t → Q t)
-    → Within (writing P room) (writing Q room)
-more_written P Q room h = record {
-  answer = λ bytes s t p. (p.0, h t p.1);
-  broken = λ read ended t p. p;
-  cut = λ read left t p. (p.0, h t p.1);
-}
+-- ---- by a list
 
-more_mapped : (wants : Wants) (size modulus : ℕ) (P Q : List (List ℕ) → List ℕ → Type 0) (room : ℕ)
-    → ((vectors : List (List ℕ)) (t : List ℕ) → P vectors t → Q vectors t)
-    → Within (mapping wants size modulus P room) (mapping wants size modulus Q room)
-more_mapped wants size modulus P Q room h = record {
-  answer = λ bytes s t p. (p.0, h _ t p.1);
-  broken = λ read ended t p. (p.0, p.1, h _ t p.2);
-  cut = λ read left t p. (p.0, p.1, h _ t p.2);
-}
+-- the listing for these vectors
+first_listing : Planned → List (List ℕ) → List ℕ
+first_listing plan [] = []
+first_listing plan (h ∷ later) = listing_of (conv_emission plan.request plan.tree h)
 
--- The tree that a line orders is chosen for a request in range
+is_first_listing : (plan : Planned) (vectors : List (List ℕ))
+    → by_first (λ h later t. t ≡ listing_of (conv_emission plan.request plan.tree h)) vectors (first_listing plan vectors)
+unfolding first_listing
+is_first_listing plan [] = refl
+is_first_listing plan (h ∷ later) = refl
 
-admitted_same : (stranger : Option ℕ) (procs : ℕ) (a b : Request) → done b ≡ admitted stranger procs a → a ≡ b
-admitted_same None procs a b is = done_same a b (sym is)
-admitted_same (Some q) procs a b is = absurd (done_ended b (Turn q procs) is)
+shows_convolver : (plan : Planned) (vectors : List (List ℕ)) (text : List ℕ) → IsConvRequest plan.request
+    → IsConvPlanned plan.request (Ok plan.tree) → text ≡ first_listing plan vectors → ShowsConvolver plan vectors text
+unfolding first_listing
+shows_convolver plan [] text able own is = is
+shows_convolver plan (h ∷ later) text able own is =
+    (conv_emission plan.request plan.tree h, conv_programs_convolve plan.request plan.tree h able own, is)
 
--- the request that a line spells, if it has the processors
-pub turned_spelt : (spells : List ℕ → Stage Request) (names text : List ℕ) (request : Request)
-    → (spells text >>= turned names) (Ok request) → spells text (Ok request)
-turned_spelt spells names text request p =
-    let own = p.value in
-    subst (λ (r : Request). spells text (Ok r)) (admitted_same (first_stranger names own.procs) own.procs own request p.behind) p.before
+pub good_convolver : (schedule : Turns) (words : List (List ℕ)) (bytes : List ℕ) (status : Status) (text : List ℕ)
+    (plan : Planned) → IsAsked words (command.ByList schedule true) → IsRightConvLine (named schedule) bytes plan
+    → IsOutcome words bytes status text → ShowsConvolver plan (vectors_read plan bytes) text
+good_convolver schedule words bytes status text plan asked right p =
+    let room = room_behind (line 256) bytes in
+    let data = (line 256).behind bytes in
+    let vectors = vectors_read plan bytes in
+    let ends = status_by the_first plan.request.size (data_answer plan.request.size room data) vectors in
+    let whole = first_listing plan vectors in
+    let own : (convolver_outcomes schedule).answer bytes ends whole =
+    front_answer (line 256) (conv_planned (named schedule)) convolver_work plan bytes ends whole right.short
+    (orders_conv_plan (named schedule) bytes plan right) (refl, is_first_listing plan vectors) in
+    shows_convolver plan vectors text right.spells.1 right.planned
+    (one_text words bytes status ends text whole p (inr (command.ByList schedule true, asked, own)))
 
-good_plan : (names text : List ℕ) (plan : Planned) → planned names text (Ok plan) → IsGoodProgram plan (emission plan.request plan.tree)
-good_plan names text plan p =
-    let request = p.value in
-    let in_range : IsInRange request = (turned_spelt spelt names text request p.before).1 in
-    let own : IsPlanned plan.request (Ok plan.tree) = subst (λ (r : Request). IsPlanned r (Ok plan.tree)) (sym p.behind.0) p.behind.1 in
-    let known = programs_are_good plan.request plan.tree (subst IsInRange (sym p.behind.0) in_range) own in
-    record { good = known.0; lean = known.1 }
+-- ---- by a formula
 
--- Command by command
-
-pub good_code : Within code_outcomes good_code_outcomes
-good_code =
-    front_known (line 256) (planned []) (λ (plan : Planned). writing (λ t. t ≡ listing_of (emission plan.request plan.tree))) (λ (plan : Planned). writing (IsGoodListing plan))
-    (λ text plan room short orders. more_written (λ t. t ≡ listing_of (emission plan.request plan.tree)) (IsGoodListing plan) room
-    (λ t is. (emission plan.request plan.tree, good_plan [] text plan orders, is)))
-
-pub good_c : Within c_outcomes good_c_outcomes
-good_c =
-    front_known (line 256) (planned []) (λ (plan : Planned). writing (λ t. t ≡ c_text_of (emission plan.request plan.tree))) (λ (plan : Planned). writing (IsGoodCText plan))
-    (λ text plan room short orders. more_written (λ t. t ≡ c_text_of (emission plan.request plan.tree)) (IsGoodCText plan) room
-    (λ t is. (emission plan.request plan.tree, good_plan [] text plan orders, is)))
-
-pub good_trace : (order : Order) → Within (trace_outcomes order) (good_trace_outcomes order)
-good_trace order =
-    front_known (line 256) (planned (procs_in order)) (trace_work order) (λ (plan : Planned). mapping all plan.request.size plan.request.modulus (IsGoodTrace order plan))
-    (λ text plan room short orders. more_mapped all plan.request.size plan.request.modulus _ (IsGoodTrace order plan) room
-    (λ vectors t is. (emission plan.request plan.tree, good_plan (procs_in order) text plan orders, is)))
-
-good_list : (names text : List ℕ) (plan : Planned) (h : List ℕ) (later : List (List ℕ)) (t : List ℕ)
-    → conv_planned names text (Ok plan) → t ≡ listing_of (conv_emission plan.request plan.tree h) → IsConvolverListing plan h later t
-good_list names text plan h later t p is =
-    let request = p.value in
-    let able : IsConvRequest request = (turned_spelt conv_spelt names text request p.before).1 in
-    let own : IsConvPlanned plan.request (Ok plan.tree) = subst (λ (r : Request). IsConvPlanned r (Ok plan.tree)) (sym p.behind.0) p.behind.1 in (
-      conv_emission plan.request plan.tree h,
-      conv_programs_convolve plan.request plan.tree h (subst IsConvRequest (sym p.behind.0) able) own,
-      is,
+pub good_compile : FormulaProgramsAreCode → (m : ℕ) (words : List (List ℕ)) (bytes : List ℕ) (status : Status)
+    (text : List ℕ) (formula : Formula) → 2 ≤ m → m < 2 ^ 62 → IsAsked words (command.ByFormula m formula_command.Compile)
+    → IsRightFormulaLine bytes formula → IsOutcome words bytes status text → Shows listing_of (IsCodeOf m formula) text
+good_compile law m words bytes status text formula large small asked right p =
+    let whole = listing_of (formulas.program_for m formula) in
+    let first = (line 65536).first bytes in
+    let few : parts_of formula ≤ 65536 =
+    (let most = written_few first formula right.spells in let short = right.short in omega (arith, most, short)) in (
+      formulas.program_for m formula,
+      law m formula large small (written_shaped first formula right.spells) few,
+      one_text words bytes status Success text whole p
+          (inr (command.ByFormula m formula_command.Compile, asked, listing_is_right m bytes formula right.short right.spells)),
     )
-
-first_more : (P Q : List ℕ → List (List ℕ) → List ℕ → Type 0) → ((h : List ℕ) (later : List (List ℕ)) (t : List ℕ) → P h later t → Q h later t)
-    → (vectors : List (List ℕ)) (t : List ℕ) → by_first P vectors t → by_first Q vectors t
-first_more P Q each [] t p = p
-first_more P Q each (h ∷ later) t p = each h later t p
-
-pub good_convolver : (schedule : Turns) → Within (convolver_outcomes schedule) (good_convolver_outcomes schedule)
-good_convolver schedule =
-    front_known (line 256) (conv_planned (named schedule)) convolver_work
-    (λ (plan : Planned). mapping the_first plan.request.size plan.request.modulus (by_first (IsConvolverListing plan)))
-    (λ text plan room short orders. more_mapped the_first plan.request.size plan.request.modulus
-    (by_first (λ h later t. t ≡ listing_of (conv_emission plan.request plan.tree h))) (by_first (IsConvolverListing plan)) room
-    (first_more (λ h later t. t ≡ listing_of (conv_emission plan.request plan.tree h)) (IsConvolverListing plan)
-    (λ h later t is. good_list (named schedule) text plan h later t orders is)))
-
-pub good_compile : FormulaProgramsAreCode → (m : ℕ) → 2 ≤ m → m < 2 ^ 62 → Within (compile_outcomes m) (good_compile_outcomes m)
-good_compile law m large small =
-    front_known (line 65536) written (compile_work m) (λ (f : Formula). writing (IsCodeListing m f))
-    (λ text f room short orders. more_written (λ t. t ≡ listing_of (formulas.program_for m f)) (IsCodeListing m f) room
-    (λ t is. (formulas.program_for m f, law m f large small (written_shaped text f orders) (few_in text f short orders), is)))
-  where
-    few_in : (text : List ℕ) (f : Formula) → length text ≤ 65536 → written text (Ok f) → parts_of f ≤ 65536
-    few_in text f short orders = let few = written_few text f orders in omega (arith, few, short)

@@ -6,5 +6,6 @@ pub mod OnePlan
 pub mod OneWork
 pub mod RightCalls
 pub mod RightFront
+pub mod RightLines
 pub mod RightRequests
 pub mod SomeOutcome

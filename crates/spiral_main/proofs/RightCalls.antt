@@ -186,7 +186,7 @@ memory_or (Register phase proc action) = inr (λ e. cc)
 memory_or (LineShared phase line a b) = inr (λ e. cc)
 memory_or (OverSteps limit) = inr (λ e. cc)
 
-pub right_calls : (words : List (List ℕ)) (bytes : List ℕ) (left before after : Option (List ℕ)) (s : Status) → IsRightCall words bytes → Accounts words bytes left before after s
+pub right_calls : (words : List (List ℕ)) (bytes left : List ℕ) (before after : Option (List ℕ)) (s : Status) → IsRightCall words bytes → Accounts words bytes left before after s
     → s ≢ ReadFault → s ≢ WriteFault → (s ≡ NoMemory) ⊎ Succeeds words bytes before after s
 right_calls words bytes left before after s right accounts read write =
     elim (memory_or s) [

@@ -20,17 +20,18 @@ use Rattle.spiral_words.specs.declared.spiral_status.status.Status.TheVariants.{
 use Rattle.commands.specs.FormulaCommands.Letters.{program_for}
 use Rattle.listing_text.specs.Listing.{listing_of}
 use Rattle.commands.specs.Equations.Compile.{compile_outcomes}
+use Rattle.commands.specs.Equations.Convolutions.{conv_planned}
 use Rattle.commands.specs.Equations.Exec.{exec_outcomes, exec_work}
 use Rattle.commands.specs.Equations.Formulas.{formed, written}
 use Rattle.commands.specs.ListingCommands.Listed.{loaded, result_of}
 use Rattle.commands.specs.SpiralInput.Commands.{admitted}
 use Rattle.commands.specs.SpiralInput.Stage.{Stage}
-use Rattle.commands.specs.Equations.Front.{Front, line, part, room_behind, Work, by_front}
+use Rattle.commands.specs.Equations.Front.{Front, line, ordered, part, room_behind, Work, by_front}
 use Rattle.commands.specs.Equations.Works.{all, writing, mapping}
 use Rattle.commands.specs.Equations.Orders.{Planned, planned}
 use Rattle.commands.specs.Equations.Apply.{apply_outcomes, apply_work}
 use Rattle.spiral_main.specs.Outcome.{IsOutcome, Accounts}
-use Rattle.spiral_main.specs.RightFront.{AreWholeVectors, HasWholeVectors, IsRightLine, request_vectors, vectors_behind}
+use Rattle.spiral_main.specs.RightFront.{AreWholeVectors, HasWholeVectors, IsRightConvLine, IsRightLine, request_vectors, vectors_behind}
 use Rattle.spiral_main.proofs.Calls.{one_status, one_text}
 
 -- good tokens that are seen whole
@@ -51,14 +52,21 @@ short_taken text most short =
     let test : nat_le (length text) most ≡ true = grind (arith, common_steps) in
     ap (λ b. cond {A = Result (List ℕ) Status} b (Ok text) (Err (TooLong most))) test
 
+-- a front that is not too long orders what its text does
+pub front_orders : {A : Type 0} (front : Front) (orders : List ℕ → Stage A) (value : A) (bytes : List ℕ)
+    → length (front.first bytes) ≤ front.most → orders (front.first bytes) (Ok value)
+    → ordered front orders bytes (Ok value)
+front_orders front orders value bytes short gives =
+    record { value = front.first bytes; before = sym (short_taken (front.first bytes) front.most short); behind = gives }
+
 -- A call that is right by its front: the front is not too long, it orders a value, and the work for this answers what is behind
-front_answer : {A : Type 0} (front : Front) (orders : List ℕ → Stage A) (work : A → Work) (value : A)
+pub front_answer : {A : Type 0} (front : Front) (orders : List ℕ → Stage A) (work : A → Work) (value : A)
     (bytes : List ℕ) (s : Status) (t : List ℕ)
     → length (front.first bytes) ≤ front.most → orders (front.first bytes) (Ok value)
     → (work value (room_behind front bytes)).answer (front.behind bytes) s t
     → (by_front front orders work).answer bytes s t
 front_answer front orders work value bytes s t short gives p =
-    inr (value, record { value = front.first bytes; before = sym (short_taken (front.first bytes) front.most short); behind = gives }, p)
+    inr (value, front_orders front orders value bytes short gives, p)
 
 -- whole vectors are answered Success, and the text for all of them
 whole_answer : (size modulus : ℕ) (IsText : List (List ℕ) → List ℕ → Type 0) (room : ℕ) (bytes t : List ℕ)
@@ -71,9 +79,22 @@ whole_answer size modulus IsText room bytes t v p = (
 )
 
 -- what the line of a request orders
-orders_plan : (names bytes : List ℕ) (plan : Planned) → IsRightLine names bytes plan
+pub orders_plan : (names bytes : List ℕ) (plan : Planned) → IsRightLine names bytes plan
     → planned names ((line 256).first bytes) (Ok plan)
 orders_plan names bytes plan right = record {
+  value = plan.request;
+  before = record {
+    value = plan.request;
+    before = right.spells;
+    behind = sym (ap (λ stranger. admitted stranger plan.request.procs plan.request) right.turns);
+  };
+  behind = (refl, right.planned);
+}
+
+-- what the line of a request for convolutions orders
+pub orders_conv_plan : (names bytes : List ℕ) (plan : Planned) → IsRightConvLine names bytes plan
+    → conv_planned names ((line 256).first bytes) (Ok plan)
+orders_conv_plan names bytes plan right = record {
   value = plan.request;
   before = record {
     value = plan.request;
@@ -138,7 +159,7 @@ executed_is_right schedule bytes program short gives vectors =
     (whole_answer program.size program.modulus (λ vs t. t ≡ lines (result_of program) vs) (room_behind (part 1048576) bytes) ((part 1048576).behind bytes) text vectors refl)
 
 -- a call whose outcome is Success with this text succeeds with it, but for the outside and memory
-pub right_success : (words : List (List ℕ)) (bytes : List ℕ) (left before after : Option (List ℕ)) (s : Status)
+pub right_success : (words : List (List ℕ)) (bytes left : List ℕ) (before after : Option (List ℕ)) (s : Status)
     (t : List ℕ) → IsOutcome words bytes Success t
     → Accounts words bytes left before after s → s ≢ ReadFault → s ≢ WriteFault → s ≢ NoMemory
     → (s ≡ Success) × Appends before after t

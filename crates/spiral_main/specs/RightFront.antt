@@ -5,7 +5,11 @@ use Rattle.data_stream.specs.Data.{tokens, is_good}
 use Rattle.commands.specs.SpiralInput.Asking.{spelt}
 use Rattle.commands.specs.SpiralInput.Commands.{first_stranger}
 use Rattle.runs.specs.Stream.{vectors_of}
+use Rattle.commands.specs.ConvolutionCommands.ConvPlanned.{IsConvPlanned}
+use Rattle.commands.specs.Equations.Convolutions.{conv_spelt}
+use Rattle.commands.specs.Equations.Formulas.{written}
 use Rattle.commands.specs.Planned.{IsPlanned}
+use Rattle.spl_ast.specs.Formula.{Formula}
 use Rattle.commands.specs.Equations.Front.{Front, line, room_behind}
 use Rattle.commands.specs.Equations.Orders.{Planned}
 
@@ -22,6 +26,18 @@ pub record IsRightLine (names bytes : List ℕ) (plan : Planned) : Type 0 where
   pub spells : spelt ((line 256).first bytes) (Ok plan.request)
   pub turns : first_stranger names plan.request.procs ≡ None
   pub planned : IsPlanned plan.request (Ok plan.tree)
+
+-- the same of a request for convolutions, whose tree is that of both transforms
+pub record IsRightConvLine (names bytes : List ℕ) (plan : Planned) : Type 0 where
+  pub short : length ((line 256).first bytes) ≤ 256
+  pub spells : conv_spelt ((line 256).first bytes) (Ok plan.request)
+  pub turns : first_stranger names plan.request.procs ≡ None
+  pub planned : IsConvPlanned plan.request (Ok plan.tree)
+
+-- the first line is not too long and spells the formula
+pub record IsRightFormulaLine (bytes : List ℕ) (formula : Formula) : Type 0 where
+  pub short : length ((line 65536).first bytes) ≤ 65536
+  pub spells : written ((line 65536).first bytes) (Ok formula)
 
 -- behind a front there are whole vectors
 abbrev pub HasWholeVectors : Front → ℕ → List ℕ → Type 0

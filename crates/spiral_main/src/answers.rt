@@ -1,6 +1,6 @@
 // What each command answers: an outcome of words that ask for it is an answer of its equation. A law cites no other
 // command's definitions.
-ghost use Rattle.std.specs.Prelude.{ℕ, true, false, List};
+ghost use Rattle.std.specs.Prelude.{ℕ, true, false, List, [], Ok, ◌↔◌};
 ghost use Rattle.request_text.specs.Schedule.{Plan as SpecSchedule};
 ghost use Rattle.commands.specs.Equations.Apply.{apply_outcomes};
 ghost use Rattle.commands.specs.Equations.C.{c_outcomes};
@@ -13,7 +13,18 @@ ghost use Rattle.commands.specs.Equations.Cert.{cert_outcomes};
 ghost use Rattle.commands.specs.Equations.Check.{check_outcomes};
 ghost use Rattle.commands.specs.Equations.Exec.{exec_outcomes};
 ghost use Rattle.commands.specs.Equations.Formula.{formula_outcomes};
-ghost use Rattle.spiral_main.specs.Good.{good_c_outcomes, good_code_outcomes, good_compile_outcomes, good_convolver_outcomes, good_trace_outcomes};
+ghost use Rattle.c_print.specs.CText.{c_text_of};
+ghost use Rattle.commands.specs.Equations.Convolutions.{conv_planned};
+ghost use Rattle.commands.specs.Equations.Formulas.{written};
+ghost use Rattle.commands.specs.Equations.Front.{line, ordered};
+ghost use Rattle.commands.specs.Equations.Orders.{Planned, planned};
+ghost use Rattle.commands.specs.FormulaCommands.Code.{IsCodeOf};
+ghost use Rattle.commands.specs.SpiralInput.Orders.{procs_in};
+ghost use Rattle.listing_text.specs.Listing.{listing_of};
+ghost use Rattle.request_text.specs.Turns.{named};
+ghost use Rattle.spiral_main.specs.Good.{IsGoodFor, IsLeanFor, Shows, ShowsConvolver, trace_of, vectors_read};
+ghost use Rattle.spiral_main.specs.RightFront.{IsRightConvLine, IsRightFormulaLine, IsRightLine};
+ghost use Rattle.spl_ast.specs.Formula.{Formula};
 ghost use Rattle.spiral_main.specs.Outcome.{IsOutcome};
 ghost use Rattle.commands.specs.Equations.Plan.{plan_outcomes};
 ghost use Rattle.commands.specs.Equations.Run.{run_outcomes};
@@ -133,38 +144,74 @@ pub fn convolver_answers()
         → IsOutcome words bytes status text → (convolver_outcomes schedule).answer bytes status text }
 {}
 
-/// A listing that `code` prints is that of a program that is good for the request, executes exactly the operations of
-/// its tree, and loads and stores what the tree does.
+/// The listing that `code` prints for a right line is that of a program that is good for the line's request.
 pub fn code_is_good()
-    ensures { (words : List (List ℕ)) (bytes : List ℕ)
-        (status : SpecStatus) (text : List ℕ) → IsAsked words (command.ByRequest (request.Writes document.Code))
-        → IsOutcome words bytes status text → good_code_outcomes.answer bytes status text }
+    ensures { (words : List (List ℕ)) (bytes : List ℕ) (status : SpecStatus) (text : List ℕ) (plan : Planned) →
+        IsAsked words (command.ByRequest (request.Writes document.Code)) → IsRightLine [] bytes plan
+        → IsOutcome words bytes status text → Shows listing_of (IsGoodFor plan) text }
+{}
+
+/// And it executes exactly the operations of the tree that is chosen for the request, and loads and stores what the
+/// tree does, pass by pass.
+pub fn code_is_lean()
+    ensures { (words : List (List ℕ)) (bytes : List ℕ) (status : SpecStatus) (text : List ℕ) (plan : Planned) →
+        IsAsked words (command.ByRequest (request.Writes document.Code)) → IsRightLine [] bytes plan
+        → IsOutcome words bytes status text → Shows listing_of (IsLeanFor plan) text }
 {}
 
 /// The same of a C text that `c` prints.
 pub fn c_is_good()
-    ensures { (words : List (List ℕ)) (bytes : List ℕ)
-        (status : SpecStatus) (text : List ℕ) → IsAsked words (command.ByRequest (request.Writes document.C))
-        → IsOutcome words bytes status text → good_c_outcomes.answer bytes status text }
+    ensures { (words : List (List ℕ)) (bytes : List ℕ) (status : SpecStatus) (text : List ℕ) (plan : Planned) →
+        IsAsked words (command.ByRequest (request.Writes document.C)) → IsRightLine [] bytes plan
+        → IsOutcome words bytes status text → Shows c_text_of (IsGoodFor plan) text }
+{}
+
+/// And its program, too, does exactly what the tree does.
+pub fn c_is_lean()
+    ensures { (words : List (List ℕ)) (bytes : List ℕ) (status : SpecStatus) (text : List ℕ) (plan : Planned) →
+        IsAsked words (command.ByRequest (request.Writes document.C)) → IsRightLine [] bytes plan
+        → IsOutcome words bytes status text → Shows c_text_of (IsLeanFor plan) text }
 {}
 
 /// The same of the listing that `trace` prints and runs.
 pub fn trace_is_good()
-    ensures { (order : SpecOrder) (words : List (List ℕ)) (bytes : List ℕ)
-        (status : SpecStatus) (text : List ℕ) → IsAsked words (command.ByRequest (request.Traces order))
-        → IsOutcome words bytes status text → (good_trace_outcomes order).answer bytes status text }
+    ensures { (order : SpecOrder) (words : List (List ℕ)) (bytes : List ℕ) (status : SpecStatus) (text : List ℕ)
+        (plan : Planned) → IsAsked words (command.ByRequest (request.Traces order))
+        → IsRightLine (procs_in order) bytes plan → IsOutcome words bytes status text
+        → Shows (trace_of order plan (vectors_read plan bytes)) (IsGoodFor plan) text }
 {}
 
-/// A listing that `compile` prints is that of code of the formula.
+/// And its program, too, does exactly what the tree does.
+pub fn trace_is_lean()
+    ensures { (order : SpecOrder) (words : List (List ℕ)) (bytes : List ℕ) (status : SpecStatus) (text : List ℕ)
+        (plan : Planned) → IsAsked words (command.ByRequest (request.Traces order))
+        → IsRightLine (procs_in order) bytes plan → IsOutcome words bytes status text
+        → Shows (trace_of order plan (vectors_read plan bytes)) (IsLeanFor plan) text }
+{}
+
+/// The listing that `compile` prints for a right line is that of code of the line's formula.
 pub fn compile_is_good()
-    ensures { (m : ℕ) (words : List (List ℕ)) (bytes : List ℕ) (status : SpecStatus) (text : List ℕ) →
-        IsAsked words (command.ByFormula m formula_command.Compile)
-        → IsOutcome words bytes status text → (good_compile_outcomes m).answer bytes status text }
+    ensures { (m : ℕ) (words : List (List ℕ)) (bytes : List ℕ) (status : SpecStatus) (text : List ℕ)
+        (formula : Formula) → IsAsked words (command.ByFormula m formula_command.Compile)
+        → IsRightFormulaLine bytes formula → IsOutcome words bytes status text
+        → Shows listing_of (IsCodeOf m formula) text }
 {}
 
-/// A listing that `convolve --code` prints is that of a program that convolves with the list.
+/// The listing that `convolve --code` prints for a right line is that of a program that convolves with the list.
 pub fn convolver_is_good()
-    ensures { (schedule : SpecSchedule) (words : List (List ℕ)) (bytes : List ℕ)
-        (status : SpecStatus) (text : List ℕ) → IsAsked words (command.ByList schedule true)
-        → IsOutcome words bytes status text → (good_convolver_outcomes schedule).answer bytes status text }
+    ensures { (schedule : SpecSchedule) (words : List (List ℕ)) (bytes : List ℕ) (status : SpecStatus)
+        (text : List ℕ) (plan : Planned) → IsAsked words (command.ByList schedule true)
+        → IsRightConvLine (named schedule) bytes plan → IsOutcome words bytes status text
+        → ShowsConvolver plan (vectors_read plan bytes) text }
+{}
+
+/// A line is right exactly where it orders what it is right for. So the laws on good programs and those on answers
+/// speak of the same calls.
+pub fn right_lines_are_ordered()
+    ensures requests { (names bytes : List ℕ) (plan : Planned) →
+        IsRightLine names bytes plan ↔ ordered (line 256) (planned names) bytes (Ok plan) }
+    ensures lists { (names bytes : List ℕ) (plan : Planned) →
+        IsRightConvLine names bytes plan ↔ ordered (line 256) (conv_planned names) bytes (Ok plan) }
+    ensures formulas { (bytes : List ℕ) (formula : Formula) →
+        IsRightFormulaLine bytes formula ↔ ordered (line 65536) written bytes (Ok formula) }
 {}

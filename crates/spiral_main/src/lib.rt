@@ -1,17 +1,14 @@
 //! The program: words and an input to an output, a note and a status.
 #![tactic(auto)]
 
-ghost use Rattle.std.specs.Prelude.{◌≡◌, ◌≢◌, ◌⊎◌, ℕ, true, List, Ok};
+ghost use Rattle.std.specs.Prelude.{◌≡◌, ◌≢◌, ◌⊎◌, ℕ, true, List, Ok, Some};
 ghost use Rattle.std.specs.declared.option.Option.{Option};
 ghost use Rattle.commands.specs.Planned.{IsPlanned};
 ghost use Rattle.matrix_meaning.specs.Valid.{IsInRange, IsValid};
 ghost use Rattle.matrix_meaning.specs.declared.Request.{Request as SpecRequest};
-ghost use Rattle.spiral_words.specs.Asked.{IsAsked};
-ghost use Rattle.spiral_words.specs.declared.Command.{Command as SpecCommand};
 ghost use Rattle.spiral_words.specs.declared.spiral_status.status.Status.{Status as SpecStatus};
 ghost use Rattle.spiral_words.specs.declared.spiral_status.status.Status.TheVariants.{ReadFault, WriteFault, NoMemory};
-ghost use Rattle.spiral_main.specs.Always.{is_by_equation};
-ghost use Rattle.spiral_main.specs.Outcome.{Accounts, IsOutcome};
+ghost use Rattle.spiral_main.specs.Outcome.{Accounts, AccountsFor, IsOutcome};
 ghost use Rattle.spiral_main.specs.Right.{IsRightCall, IsWithinBudget, Succeeds};
 ghost use Rattle.tree_model.specs.Breakdown.{Breakdown};
 ghost use Rattle.tree_model.specs.Chosen.{CanDivideWhole};
@@ -36,10 +33,18 @@ pub fn calls_have_one_text()
         IsOutcome words bytes a s → IsOutcome words bytes b t → s ≡ t }
 {}
 
+/// Of an input that tells its bytes, these and the words account for the status and the output, and the input tells what
+/// is left of them.
+pub fn told_inputs_are_accounted_for()
+    ensures { (words : List (List ℕ)) (bytes : List ℕ) (left before after : Option (List ℕ))
+        (status : SpecStatus) → AccountsFor words (Some bytes) left before after status
+        → (rest : List ℕ) × (left ≡ Some rest) × Accounts words bytes rest before after status }
+{}
+
 /// A call that is right in all that is asked of it succeeds with the text that its words and bytes call for, unless a
 /// read or a write fails or memory runs out.
 pub fn right_calls_succeed()
-    ensures { (words : List (List ℕ)) (bytes : List ℕ) (left before after : Option (List ℕ))
+    ensures { (words : List (List ℕ)) (bytes left : List ℕ) (before after : Option (List ℕ))
         (status : SpecStatus) → IsRightCall words bytes
         → Accounts words bytes left before after status
         → status ≢ ReadFault → status ≢ WriteFault
@@ -53,9 +58,8 @@ pub fn planned_requests_are_right()
         → IsValid request × CanDivideWhole request × IsWithinBudget request }
 {}
 
-/// A call has an outcome, but for those of `cert`, `check` and `exec`, of which this is not shown.
+/// Each call has an outcome.
 pub fn calls_have_an_outcome()
     ensures { (words : List (List ℕ)) (bytes : List ℕ)
-        → ((wanted : SpecCommand) → IsAsked words wanted → is_by_equation wanted ≡ true)
         → (status : SpecStatus) × (text : List ℕ) × IsOutcome words bytes status text }
 {}

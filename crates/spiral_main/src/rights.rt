@@ -4,7 +4,7 @@ ghost use Rattle.commands.specs.FormulaCommands.Letters as programs;
 ghost use Rattle.commands.specs.Emission.Whole.{emission};
 ghost use Rattle.c_print.specs.CText.{c_text_of};
 ghost use Rattle.listing_text.specs.Listing.{listing_of};
-ghost use Rattle.commands.specs.Equations.Formulas.{formed, written};
+ghost use Rattle.commands.specs.Equations.Formulas.{formed};
 ghost use Rattle.icode.specs.Plain.{PlainProgram};
 ghost use Rattle.commands.specs.ListingCommands.Listed.{loaded, result_of};
 ghost use Rattle.request_text.specs.Schedule.{Plan as SpecSchedule};
@@ -13,7 +13,7 @@ ghost use Rattle.commands.specs.SpiralInput.Orders.{procs_in};
 ghost use Rattle.commands.specs.Equations.Front.{line, part};
 ghost use Rattle.commands.specs.Equations.Orders.{Planned};
 ghost use Rattle.spiral_main.specs.Outcome.{Accounts, IsOutcome};
-ghost use Rattle.spiral_main.specs.RightFront.{HasWholeVectors, IsRightLine, request_vectors, vectors_behind};
+ghost use Rattle.spiral_main.specs.RightFront.{HasWholeVectors, IsRightFormulaLine, IsRightLine, request_vectors, vectors_behind};
 ghost use Rattle.commands.specs.Equations.Sample.{sample_lines};
 ghost use Rattle.commands.specs.Equations.Trace.{run_lines};
 ghost use Rattle.spiral_words.specs.declared.spiral_status.status.Status.TheVariants.{Success, ReadFault, WriteFault, NoMemory};
@@ -37,7 +37,7 @@ ghost use Rattle.commands.specs.PlanText.{plan_text};
 
 /// An outcome that is Success is what a call comes to, unless a read or a write fails or memory runs out.
 pub fn outcomes_come()
-    ensures { (words : List (List ℕ)) (bytes : List ℕ) (left before after : Option (List ℕ))
+    ensures { (words : List (List ℕ)) (bytes left : List ℕ) (before after : Option (List ℕ))
         (status : SpecStatus) (text : List ℕ) → IsOutcome words bytes Success text
         → Accounts words bytes left before after status
         → status ≢ ReadFault → status ≢ WriteFault → status ≢ NoMemory
@@ -110,9 +110,7 @@ pub fn trace_is_right()
 /// A right call of `compile` has the outcome Success with the listing of the formula's program.
 pub fn compile_is_right()
     ensures { (words : List (List ℕ)) (bytes : List ℕ) (m : ℕ) (formula : Formula) →
-        IsAsked words (command.ByFormula m formula_command.Compile)
-        → length ((line 65536).first bytes) ≤ 65536
-        → written ((line 65536).first bytes) (Ok formula)
+        IsAsked words (command.ByFormula m formula_command.Compile) → IsRightFormulaLine bytes formula
         → IsOutcome words bytes Success (listing_of (programs.program_for m formula)) }
 {}
 

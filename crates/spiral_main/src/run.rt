@@ -1,10 +1,10 @@
 // The top call.
-ghost use Rattle.std.specs.Prelude.{◌≡◌, [], IfSome, map, string_bytes};
-ghost use Rattle.std.specs.Io.KnownBytes.{Appends, IsAtEnd};
+ghost use Rattle.std.specs.Prelude.{◌≡◌, [], map, string_bytes};
+ghost use Rattle.std.specs.Io.KnownBytes.{Appends};
+ghost use Rattle.io_edge.specs.Told.{IsOver};
 ghost use Rattle.io_edge.specs.Faults.{Reports};
 ghost use Rattle.commands.specs.SpiralInput.Commands.{AskForRest, AskForCommand, AreJudged};
-ghost use Rattle.commands.specs.SpiralInput.Outcomes.{ToldMeets};
-ghost use Rattle.spiral_main.specs.Outcome.{call_outcomes, Accounts, Notes};
+ghost use Rattle.spiral_main.specs.Outcome.{AccountsFor, Notes};
 ghost use Rattle.commands.specs.SpiralInput.Stage.{status_of};
 ghost use Rattle.spiral_words.specs.SpiralStatus.Status.{note_line};
 
@@ -21,11 +21,11 @@ fn work<I: Source, O: Sink>(
     input: &mut I,
     output: &mut O,
 ) -> Result<(), Status>
-    ensures told { ToldMeets (call_outcomes (map string_bytes words.now.items))
+    ensures told { AccountsFor (map string_bytes words.now.items)
         (I.left input.old) (I.left input.new) (O.taken output.old) (O.taken output.new)
         (status_of result) }
     ensures end { status_of result ≡ Status.Success
-        → AskForRest (map string_bytes words.now.items) → IsAtEnd (I.left input.new) }
+        → AskForRest (map string_bytes words.now.items) → IsOver (I.left input.new) }
     ensures read { Reports (I.faults input.old) (I.faults input.new)
         (status_of result ≡ Status.ReadFault) }
     ensures write { Reports (O.faults output.old) (O.faults output.new)
@@ -76,14 +76,14 @@ pub fn spiral_run<I: Source, O: Sink, E: Sink>(
     output: &mut O,
     note: &mut E,
 ) -> Status
-    // Where the input tells its bytes, they and the words account for the status and for what the output took. Where a
-    // read failed, that is the whole text of what the input gave.
-    ensures told { IfSome (I.left input.old) (λ bytes. Accounts (map string_bytes words.now.items)
-        bytes (I.left input.new) (O.taken output.old) (O.taken output.new) result) }
+    // The bytes that the input gave, with all that it may have left, and the words account for the status and for what the
+    // output took. Where a read failed, that is the whole text of what the input gave.
+    ensures told { AccountsFor (map string_bytes words.now.items)
+        (I.left input.old) (I.left input.new) (O.taken output.old) (O.taken output.new) result }
     // `run`, `trace`, `check`, `exec`, `apply` and `convolve` without `--code` have read their input to its end where
     // they succeed.
     ensures end { result ≡ Status.Success
-        → AskForRest (map string_bytes words.now.items) → IsAtEnd (I.left input.new) }
+        → AskForRest (map string_bytes words.now.items) → IsOver (I.left input.new) }
 
     // A fault has its cause and is not swallowed, also where nothing is told.
     ensures read { Reports (I.faults input.old) (I.faults input.new) (result ≡ Status.ReadFault) }

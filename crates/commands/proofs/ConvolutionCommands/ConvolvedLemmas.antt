@@ -1,12 +1,13 @@
 -- What `convolve` comes to.
-use Rattle.std.proofs.Common.{◌≡◌, ◌≢◌, ◌<◌, ◌≤◌, ◌+◌, ◌*◌, ◌-◌, ◌/◌, ℕ, zero, suc, Bool, true, false, List, [], ◌∷◌, ◌++◌, None, Some, Ok, Err, Result, length, drop, refl, sym, ap, subst, ◌∙◌, arith}
+use Rattle.std.proofs.Common.{◌≡◌, ◌≢◌, ◌<◌, ◌≤◌, ◌+◌, ◌*◌, ◌-◌, ◌/◌, ℕ, zero, suc, Bool, true, false, ◌⊎◌, List, [], ◌∷◌, ◌++◌, Ok, Err, Result, length, drop, refl, sym, ap, subst, ◌∙◌, arith, inl, inr}
 use Rattle.std.proofs.KnownBytes.{Appends-nil}
 use Rattle.std.proofs.Math.Nat.{div-mul-le_self}
 use Rattle.std.proofs.lemmas.List.Elements.{All-from_get_or}
 use Rattle.std.proofs.lemmas.List.{length-drop}
 use Rattle.std.specs.List.{All}
 use Rattle.std.specs.declared.option.Option.{Option}
-use Rattle.std.specs.Io.KnownBytes.{Appends, IsAtEnd}
+use Rattle.std.specs.Io.KnownBytes.{Appends}
+use Rattle.io_edge.specs.Told.{IsOver, Tells}
 use Rattle.matrix_meaning.specs.Convolution.{convolution}
 use Rattle.generate.specs.Emission.Whole.{conv_emission}
 use Rattle.generate.specs.ConvPlanned.{IsConvPlanned}
@@ -24,13 +25,12 @@ use Rattle.matrix_meaning.specs.declared.Request.{Request}
 use Rattle.par_machine.proofs.Schedules.{turns_there}
 use Rattle.request_text.specs.Schedule.{Plan}
 use Rattle.request_text.specs.Turns.{named, turns_of}
-use Rattle.spiral_words.specs.declared.spiral_status.status.Status.{Status}
 use Rattle.spiral_words.specs.declared.spiral_status.status.Status.TheVariants.{Success, WriteFault}
 use Rattle.spiral_words.specs.SpiralStatus.Fault.{status_of_conv, status_of_fault, status_of_stream}
 use Rattle.spiral_words.specs.SpiralStatus.Status.{IsDefined}
 use Rattle.runs.specs.Progress.{HasCome, ReadsData, StreamsBehind, StreamsOn, lacking, HasNoVector}
 use Rattle.runs.specs.Texts.{run_text}
-use Rattle.runs.specs.Stream.{lines, group_vectors, vectors_of, data_answer, data_vectors, HasNoStranger, Writes}
+use Rattle.runs.specs.Stream.{lines, group_vectors, vectors_of, data_answer, data_vectors, Answers, HasNoStranger, Writes}
 use Rattle.runs.specs.declared.stream.StreamFault.{StreamFault}
 use Rattle.runs.specs.declared.stream.StreamFault.TheVariants as stream
 use Rattle.runs.proofs.ProgressLemmas.{vectors_begin, come_unwritten}
@@ -40,13 +40,19 @@ use Rattle.commands.specs.Equations.Convolve.{convolve_work, convolver_work, out
 use Rattle.commands.specs.Equations.Front.{line, by_front}
 use Rattle.commands.specs.Equations.Orders.{Planned, turned}
 use Rattle.commands.specs.Equations.Works.{Wants, a_first, the_first, by_first, mapping, status_by, ReadsOn}
-use Rattle.commands.specs.SpiralInput.Outcomes.{Outcomes, Meets, ToldMeets}
+use Rattle.commands.specs.SpiralInput.Outcomes.{Outcomes, Meets, SourceMeets}
 use Rattle.commands.specs.SpiralInput.Refusals.{IsRefusal}
 use Rattle.commands.specs.SpiralInput.Stage.{◌>>=◌}
 use Rattle.commands.proofs.Documents.{with_tree}
+use Rattle.io_edge.proofs.ToldLemmas.{over_left}
 use Rattle.commands.proofs.SpiralInput.DataLemmas.{fine_by, reads_vectors, lines_equal}
 use Rattle.commands.proofs.SpiralInput.StageLemmas.{stage_told}
 use Rattle.commands.proofs.SpiralInput.Within.{Within, front_join}
+
+-- no token may go on, or nothing is left
+closed_or_none : (source : Option (List ℕ)) (left : List ℕ) (closed : Type 0) → Tells source left → closed ⊎ IsOver source → closed ⊎ (left ≡ [])
+closed_or_none source left closed tells (inl c) = inl c
+closed_or_none source left closed tells (inr over) = inr (over_left source left tells over)
 
 -- Refusals
 
@@ -85,36 +91,36 @@ module _ (wants : Wants) (size modulus : ℕ) (list : WantsList wants size) (IsT
     Appends-nil out,
   )
 
-  lacks : (old new : Fed) (bytes rest : List ℕ) (out : Option (List ℕ)) (result : Result (Unit {0}) StreamFault)
+  lacks : (old new : Fed) (before after : Option (List ℕ)) (rest : List ℕ) (out : Option (List ℕ)) (result : Result (Unit {0}) StreamFault)
       → old.taken ≤ limit → (lacking size result ≢ stream.TooLong → new.taken ≤ limit) → result ≢ Err stream.WriteFault
-      → ReadsData size modulus old new (Some bytes) (Some rest) [] result
-      → Meets (work (limit - old.taken)) bytes (Some rest) out out (status_of_fault (lacking size result))
-  lacks old new bytes rest out (Ok u) start ends other r = record {
-    answer = λ d. lacked (limit - old.taken) bytes (Ok u) out (r.told start).0 (r.told start).1;
+      → (r : ReadsData size modulus old new before after [] result) → Answers size modulus (limit - old.taken) (r.read ++ rest) [] result
+      → Meets (work (limit - old.taken)) (r.read ++ rest) rest out out (status_of_fault (lacking size result))
+  lacks old new before after rest out (Ok u) start ends other r seen = record {
+    answer = λ d. lacked (limit - old.taken) (r.read ++ rest) (Ok u) out seen.0 seen.1;
     read_fault = λ e. absurd (cc);
     write_fault = λ e. absurd (cc);
   }
-  lacks old new bytes rest out (Err (stream.Truncated have need)) start ends other r = record {
-    answer = λ d. lacked (limit - old.taken) bytes (Err (stream.Truncated have need)) out (r.told start).0 (r.told start).1;
+  lacks old new before after rest out (Err (stream.Truncated have need)) start ends other r seen = record {
+    answer = λ d. lacked (limit - old.taken) (r.read ++ rest) (Err (stream.Truncated have need)) out seen.0 seen.1;
     read_fault = λ e. absurd (cc);
     write_fault = λ e. absurd (cc);
   }
-  lacks old new bytes rest out (Err (stream.BadNumber token)) start ends other r = record {
-    answer = λ d. lacked (limit - old.taken) bytes (Err (stream.BadNumber token)) out (r.told start).0 (r.told start).1;
+  lacks old new before after rest out (Err (stream.BadNumber token)) start ends other r seen = record {
+    answer = λ d. lacked (limit - old.taken) (r.read ++ rest) (Err (stream.BadNumber token)) out seen.0 seen.1;
     read_fault = λ e. absurd (cc);
     write_fault = λ e. absurd (cc);
   }
-  lacks old new bytes rest out (Err stream.TooLong) start ends other r = record {
-    answer = λ d. lacked (limit - old.taken) bytes (Err stream.TooLong) out (r.told start).0 (r.told start).1;
+  lacks old new before after rest out (Err stream.TooLong) start ends other r seen = record {
+    answer = λ d. lacked (limit - old.taken) (r.read ++ rest) (Err stream.TooLong) out seen.0 seen.1;
     read_fault = λ e. absurd (cc);
     write_fault = λ e. absurd (cc);
   }
-  lacks old new bytes rest out (Err stream.ReadFault) start ends other r = record {
+  lacks old new before after rest out (Err stream.ReadFault) start ends other r seen = record {
     answer = λ d. absurd (d.read refl);
     read_fault = λ _. (
       r.read,
       [],
-      r.consumed,
+      refl,
       (
         fine_by old.taken new.taken r.read r.answer.0 (ends (λ e. cc)) r.answer.1,
         subst (ReadsOn wants) (sym r.answer.2) list.on,
@@ -124,20 +130,25 @@ module _ (wants : Wants) (size modulus : ℕ) (list : WantsList wants size) (IsT
     );
     write_fault = λ e. absurd (cc);
   }
-  lacks old new bytes rest out (Err stream.WriteFault) start ends other r = absurd (other refl)
+  lacks old new before after rest out (Err stream.WriteFault) start ends other r seen = absurd (other refl)
 
   pub list_lacking : (old new : Fed) (before after out : Option (List ℕ)) (fault : StreamFault)
       → old.taken ≤ limit → (fault ≢ stream.TooLong → new.taken ≤ limit) → HasNoVector size modulus old new before after fault
-      → ToldMeets (work (limit - old.taken)) before after out out (status_of_fault fault)
-  list_lacking old new None after out fault start ends none = tt
-  list_lacking old new (Some bytes) None out fault start ends none = absurd none.2.consumed
-  list_lacking old new (Some bytes) (Some rest) out fault start ends none =
-      subst (λ f. Meets (work (limit - old.taken)) bytes (Some rest) out out (status_of_fault f)) (sym none.3)
-      (lacks old new bytes rest out none.0 start (subst (λ (f : StreamFault). f ≢ stream.TooLong → new.taken ≤ limit) none.3 ends) none.1 none.2)
+      → SourceMeets (work (limit - old.taken)) before after out out (status_of_fault fault)
+  list_lacking old new before after out fault start ends none =
+      let r = none.2 in
+      record {
+        read = r.read;
+        consumed = r.consumed;
+        meets = λ rest tells.
+            subst (λ f. Meets (work (limit - old.taken)) (r.read ++ rest) rest out out (status_of_fault f)) (sym none.3)
+            (lacks old new before after rest out none.0 start (subst (λ (f : StreamFault). f ≢ stream.TooLong → new.taken ≤ limit) none.3 ends) none.1 r
+            (r.answers start rest (over_left after rest tells)));
+      }
 
 list_told : (code : Bool) (plan : Planned) (old new : Fed) (before after out : Option (List ℕ)) (fault : StreamFault)
     → old.taken ≤ limit → (fault ≢ stream.TooLong → new.taken ≤ limit) → HasNoVector plan.request.size plan.request.modulus old new before after fault
-    → ToldMeets (list_work code plan (limit - old.taken)) before after out out (status_of_fault fault)
+    → SourceMeets (list_work code plan (limit - old.taken)) before after out out (status_of_fault fault)
 list_told false plan old new before after out fault start ends none =
     list_lacking a_first plan.request.size plan.request.modulus (record { lacks = λ answer. refl; on = tt }) _ old new before after out fault start ends none
 list_told true plan old new before after out fault start ends none =
@@ -146,7 +157,7 @@ list_told true plan old new before after out fault start ends none =
 pub convolves_lacking : (code : Bool) (plan : Planned) (request : Request) (old new : Fed) (before after out : Option (List ℕ)) (fault : StreamFault)
     → conv_chosen request (Ok plan) → old.taken ≤ limit → (fault ≢ stream.TooLong → new.taken ≤ limit)
     → HasNoVector plan.request.size plan.request.modulus old new before after fault
-    → ToldMeets (work_by_list code request (limit - old.taken)) before after out out (status_of_fault fault)
+    → SourceMeets (work_by_list code request (limit - old.taken)) before after out out (status_of_fault fault)
 convolves_lacking code plan request old new before after out fault chosen start ends none =
     stage_told (conv_chosen request) (list_work code) (limit - old.taken) plan before after out out (status_of_fault fault) chosen
     (list_told code plan old new before after out fault start ends none)
@@ -155,71 +166,74 @@ convolves_lacking code plan request old new before after out fault chosen start 
 
 -- all of it is written
 listing_told : (plan : Planned) (cut : Cut) (old new : Fed) (before after out out' : Option (List ℕ)) (h listing : List ℕ)
-    → cut.size ≡ plan.request.size → HasCome plan.request.modulus cut old new before after (h ∷ []) → old.taken ≤ limit → new.taken ≤ limit → (cut.ended ≡ true → IsAtEnd after)
+    → cut.size ≡ plan.request.size → HasCome plan.request.modulus cut old new before after (h ∷ []) → old.taken ≤ limit → new.taken ≤ limit → (cut.ended ≡ true → IsOver after)
     → listing ≡ listing_of (conv_emission plan.request plan.tree h) → Appends out out' listing
-    → ToldMeets (convolver_work plan (limit - old.taken)) before after out out' Success
-listing_told plan cut old new None after out out' h listing size come start within end same wrote = tt
-listing_told plan cut old new (Some bytes) None out out' h listing size come start within end same wrote = absurd come.progress.consumed
-listing_told plan cut old new (Some bytes) (Some rest) out out' h listing size come start within end same wrote =
-    let request : Request = plan.request in
-    let room = limit - old.taken in
-    let first = vectors_begin request.modulus cut old new bytes rest (h ∷ []) come start within end in
-    let seen : data_vectors request.size request.modulus room bytes ≡ h ∷ first.0 = ap (λ n. data_vectors n request.modulus room bytes) (sym size) ∙ first.1 in
-    record {
-      answer = λ d. (
-        listing,
-        (
-          sym (ap (status_by the_first request.size (data_answer request.size room bytes)) seen),
-          subst (λ vectors. by_first (λ x later text. text ≡ listing_of (conv_emission request plan.tree x)) vectors listing) (sym seen) same,
-        ),
-        wrote,
-      );
-      read_fault = λ e. absurd (cc);
-      write_fault = λ e. absurd (cc);
-    }
+    → SourceMeets (convolver_work plan (limit - old.taken)) before after out out' Success
+listing_told plan cut old new before after out out' h listing size come start within end same wrote = record {
+  read = come.progress.bytes;
+  consumed = come.progress.consumed;
+  meets = λ rest tells.
+      let request : Request = plan.request in
+      let room = limit - old.taken in
+      let bytes : List ℕ = come.progress.bytes ++ rest in
+      let first = vectors_begin request.modulus cut old new before after rest (h ∷ []) come start within (λ e. over_left after rest tells (end e)) in
+      let seen : data_vectors request.size request.modulus room bytes ≡ h ∷ first.0 = ap (λ n. data_vectors n request.modulus room bytes) (sym size) ∙ first.1 in
+      record {
+        answer = λ d. (
+          listing,
+          (
+            sym (ap (status_by the_first request.size (data_answer request.size room bytes)) seen),
+            subst (λ vectors. by_first (λ x later text. text ≡ listing_of (conv_emission request plan.tree x)) vectors listing) (sym seen) same,
+          ),
+          wrote,
+        );
+        read_fault = λ e. absurd (cc);
+        write_fault = λ e. absurd (cc);
+      };
+}
 
 pub convolves_listing : (request : Request) (cut : Cut) (old new : Fed) (before after out out' : Option (List ℕ)) (h listing : List ℕ) (program : Program)
-    → cut.size ≡ request.size → HasCome request.modulus cut old new before after (h ∷ []) → old.taken ≤ limit → new.taken ≤ limit → (cut.ended ≡ true → IsAtEnd after)
+    → cut.size ≡ request.size → HasCome request.modulus cut old new before after (h ∷ []) → old.taken ≤ limit → new.taken ≤ limit → (cut.ended ≡ true → IsOver after)
     → IsListProgram request h program → listing ≡ listing_of (plain_program program) → Appends out out' listing
-    → ToldMeets (work_by_list true request (limit - old.taken)) before after out out' Success
+    → SourceMeets (work_by_list true request (limit - old.taken)) before after out out' Success
 convolves_listing request cut old new before after out out' h listing program size come start within end made same wrote =
     stage_told (conv_chosen request) convolver_work (limit - old.taken) (with_tree request made.tree) before after out out' Success (refl, made.planned)
     (listing_told (with_tree request made.tree) cut old new before after out out' h listing size come start within end (same ∙ ap listing_of made.letters) wrote)
 
 -- a front of it is written
 listing_cut : (plan : Planned) (cut : Cut) (old new : Fed) (before after out out' : Option (List ℕ)) (h listing : List ℕ)
-    → cut.size ≡ plan.request.size → 0 < plan.request.size → HasCome plan.request.modulus cut old new before after (h ∷ []) → new.taken ≤ limit → (cut.ended ≡ true → IsAtEnd after)
+    → cut.size ≡ plan.request.size → 0 < plan.request.size → HasCome plan.request.modulus cut old new before after (h ∷ []) → new.taken ≤ limit → (cut.ended ≡ true → IsOver after)
     → listing ≡ listing_of (conv_emission plan.request plan.tree h) → AppendsPrefix out out' listing
-    → ToldMeets (convolver_work plan (limit - old.taken)) before after out out' WriteFault
-listing_cut plan cut old new None after out out' h listing size some come within end same wrote = tt
-listing_cut plan cut old new (Some bytes) None out out' h listing size some come within end same wrote = absurd come.progress.consumed
-listing_cut plan cut old new (Some bytes) (Some rest) out out' h listing size some come within end same wrote =
+    → SourceMeets (convolver_work plan (limit - old.taken)) before after out out' WriteFault
+listing_cut plan cut old new before after out out' h listing size some come within end same wrote =
     let request : Request = plan.request in
-    let r = come_unwritten request.modulus cut old new (Some bytes) (Some rest) (h ∷ []) (omega (arith, some, size)) within end come in
+    let r = come_unwritten request.modulus cut old new before after (h ∷ []) (omega (arith, some, size)) within end come in
     let seen : vectors_of request.size request.modulus (tokens r.read) ≡ h ∷ [] = ap (λ n. vectors_of n request.modulus (tokens r.read)) (sym size) ∙ r.answer.3 in
     record {
-      answer = λ d. absurd (d.write refl);
-      read_fault = λ e. absurd (cc);
-      write_fault = λ _. (
-        r.read,
-        [],
-        rest,
-        listing,
-        r.consumed,
-        refl,
-        (
-          fine_by old.taken new.taken r.read r.answer.0 within r.answer.1,
-          r.answer.2,
-          subst (λ vectors. by_first (λ x later text. text ≡ listing_of (conv_emission request plan.tree x)) vectors listing) (sym seen) same,
-        ),
-        wrote,
-      );
+      read = r.read;
+      consumed = r.consumed;
+      meets = λ rest tells. record {
+        answer = λ d. absurd (d.write refl);
+        read_fault = λ e. absurd (cc);
+        write_fault = λ _. (
+          r.read,
+          [],
+          listing,
+          refl,
+          (
+            fine_by old.taken new.taken r.read r.answer.0 within r.answer.1,
+            closed_or_none after rest (closed_part r.read ≡ r.read) tells r.answer.2,
+            subst (λ vectors. by_first (λ x later text. text ≡ listing_of (conv_emission request plan.tree x)) vectors listing) (sym seen) same,
+          ),
+          wrote,
+        );
+      };
     }
 
 pub convolves_cut : (request : Request) (cut : Cut) (old new : Fed) (before after out out' : Option (List ℕ)) (h listing : List ℕ) (program : Program)
-    → cut.size ≡ request.size → 0 < request.size → HasCome request.modulus cut old new before after (h ∷ []) → new.taken ≤ limit → (cut.ended ≡ true → IsAtEnd after)
+    → cut.size ≡ request.size → 0 < request.size → HasCome request.modulus cut old new before after (h ∷ []) → new.taken ≤ limit → (cut.ended ≡ true → IsOver after)
     → IsListProgram request h program → listing ≡ listing_of (plain_program program) → AppendsPrefix out out' listing
-    → ToldMeets (work_by_list true request (limit - old.taken)) before after out out' WriteFault
+    → SourceMeets (work_by_list true request (limit - old.taken)) before after out out' WriteFault
 convolves_cut request cut old new before after out out' h listing program size some come within end made same wrote =
     stage_told (conv_chosen request) convolver_work (limit - old.taken) (with_tree request made.tree) before after out out' WriteFault (refl, made.planned)
     (listing_cut (with_tree request made.tree) cut old new before after out out' h listing size some come within end (same ∙ ap listing_of made.letters) wrote)
@@ -273,52 +287,55 @@ module _ (request : Request) where
   )
 
   -- by each way in which it may end
-  lines_ended : (old new : Fed) (bytes rest h : List ℕ) (later : List (List ℕ)) (out out' : Option (List ℕ)) (text : List ℕ) (result : Result (Unit {0}) StreamFault)
-      → old.taken ≤ limit → (result ≢ Err stream.TooLong → new.taken ≤ limit) → ReadsData request.size request.modulus old new (Some bytes) (Some rest) (h ∷ later) result
+  lines_ended : (old new : Fed) (before after : Option (List ℕ)) (rest h : List ℕ) (later : List (List ℕ)) (out out' : Option (List ℕ)) (text : List ℕ) (result : Result (Unit {0}) StreamFault)
+      → (result ≢ Err stream.TooLong → new.taken ≤ limit) → Tells after rest → (r : ReadsData request.size request.modulus old new before after (h ∷ later) result)
+      → Answers request.size request.modulus (limit - old.taken) (r.read ++ rest) (h ∷ later) result
       → text ≡ conv_lines request h later → Writes out out' result text
-      → Meets (convolving (limit - old.taken)) bytes (Some rest) out out' (status_of_stream result)
-  lines_ended old new bytes rest h later out out' text (Ok u) start ends r same wrote = record {
-    answer = λ d. lines_answer (limit - old.taken) bytes h later (Ok u) text out out' (r.told start).0 (r.told start).1 same wrote;
+      → Meets (convolving (limit - old.taken)) (r.read ++ rest) rest out out' (status_of_stream result)
+  lines_ended old new before after rest h later out out' text (Ok u) ends tells r seen same wrote = record {
+    answer = λ d. lines_answer (limit - old.taken) (r.read ++ rest) h later (Ok u) text out out' seen.0 seen.1 same wrote;
     read_fault = λ e. absurd (cc);
     write_fault = λ e. absurd (cc);
   }
-  lines_ended old new bytes rest h later out out' text (Err (stream.Truncated have need)) start ends r same wrote = record {
-    answer = λ d. lines_answer (limit - old.taken) bytes h later (Err (stream.Truncated have need)) text out out' (r.told start).0 (r.told start).1 same wrote;
+  lines_ended old new before after rest h later out out' text (Err (stream.Truncated have need)) ends tells r seen same wrote = record {
+    answer = λ d. lines_answer (limit - old.taken) (r.read ++ rest) h later (Err (stream.Truncated have need)) text out out' seen.0 seen.1 same wrote;
     read_fault = λ e. absurd (cc);
     write_fault = λ e. absurd (cc);
   }
-  lines_ended old new bytes rest h later out out' text (Err (stream.BadNumber token)) start ends r same wrote = record {
-    answer = λ d. lines_answer (limit - old.taken) bytes h later (Err (stream.BadNumber token)) text out out' (r.told start).0 (r.told start).1 same wrote;
+  lines_ended old new before after rest h later out out' text (Err (stream.BadNumber token)) ends tells r seen same wrote = record {
+    answer = λ d. lines_answer (limit - old.taken) (r.read ++ rest) h later (Err (stream.BadNumber token)) text out out' seen.0 seen.1 same wrote;
     read_fault = λ e. absurd (cc);
     write_fault = λ e. absurd (cc);
   }
-  lines_ended old new bytes rest h later out out' text (Err stream.TooLong) start ends r same wrote = record {
-    answer = λ d. lines_answer (limit - old.taken) bytes h later (Err stream.TooLong) text out out' (r.told start).0 (r.told start).1 same wrote;
+  lines_ended old new before after rest h later out out' text (Err stream.TooLong) ends tells r seen same wrote = record {
+    answer = λ d. lines_answer (limit - old.taken) (r.read ++ rest) h later (Err stream.TooLong) text out out' seen.0 seen.1 same wrote;
     read_fault = λ e. absurd (cc);
     write_fault = λ e. absurd (cc);
   }
-  lines_ended old new bytes rest h later out out' text (Err stream.ReadFault) start ends r same wrote = record {
+  lines_ended old new before after rest h later out out' text (Err stream.ReadFault) ends tells r seen same wrote = record {
     answer = λ d. absurd (d.read refl);
     read_fault = λ _. (
       r.read,
       text,
-      r.consumed,
+      refl,
       (fine_by old.taken new.taken r.read r.answer.0 (ends (λ e. cc)) r.answer.1, tt, subst (λ vectors. IsLines vectors text) (sym r.answer.2) same),
       wrote,
     );
     write_fault = λ e. absurd (cc);
   }
-  lines_ended old new bytes rest h later out out' text (Err stream.WriteFault) start ends r same wrote = record {
+  lines_ended old new before after rest h later out out' text (Err stream.WriteFault) ends tells r seen same wrote = record {
     answer = λ d. absurd (d.write refl);
     read_fault = λ e. absurd (cc);
     write_fault = λ _. (
       r.read,
       [],
-      rest,
       text,
-      r.consumed,
       refl,
-      (fine_by old.taken new.taken r.read r.answer.0 (ends (λ e. cc)) r.answer.1, r.answer.2, subst (λ vectors. IsLines vectors text) (sym r.answer.3) same),
+      (
+        fine_by old.taken new.taken r.read r.answer.0 (ends (λ e. cc)) r.answer.1,
+        closed_or_none after rest (closed_part r.read ≡ r.read) tells r.answer.2,
+        subst (λ vectors. IsLines vectors text) (sym r.answer.3) same,
+      ),
       wrote,
     );
   }
@@ -333,15 +350,20 @@ run_told : {S : Type 0} (schedule : Plan) (request : Request) (code : Code) (old
     (result : Result (Unit {0}) StreamFault)
     → IsListProgram request h program → code ≡ code_of program → request.procs ≡ 1 → 0 < request.modulus → HasNoStranger schedule 1 → old.taken ≤ limit → (result ≢ Err stream.TooLong → new.taken ≤ limit)
     → StreamsBehind (h ∷ []) (run_text false code (turns_of schedule code.procs)) leaves request.size request.modulus old new before after out out' first last result
-    → ToldMeets (convolving request (limit - old.taken)) before after out out' (status_of_stream result)
-run_told schedule request code old new None after out out' h program leaves first last result made same own some none start ends s = tt
-run_told schedule request code old new (Some bytes) None out out' h program leaves first last result made same own some none start ends s = absurd s.reads.consumed
-run_told schedule request code old new (Some bytes) (Some rest) out out' h program leaves first last result made same own some none start ends s =
+    → SourceMeets (convolving request (limit - old.taken)) before after out out' (status_of_stream result)
+run_told schedule request code old new before after out out' h program leaves first last result made same own some none start ends s =
     let turns = turns_of schedule code.procs in
     let one : code.procs ≡ 1 = ap (λ (k : Code). k.procs) same ∙ made.convolver.header.procs ∙ own in
-    let whole = reads_vectors request.size request.modulus old new s.reads.read (rest ≡ []) (h ∷ s.later) result s.reads.answer in
-    lines_ended request old new bytes rest h s.later out out' (lines (λ x. results code x turns) s.later) result start ends s.reads
-    (convolved_lines request h program code turns s.later made same some (conv_turns schedule request code.procs own one none) whole) s.wrote
+    let r = s.reads in
+    let whole = reads_vectors request.size request.modulus old new r.read (IsOver after) (h ∷ s.later) result r.answer in
+    record {
+      read = r.read;
+      consumed = r.consumed;
+      meets = λ rest tells.
+          lines_ended request old new before after rest h s.later out out' (lines (λ x. results code x turns) s.later) result ends tells r
+          (r.answers start rest (over_left after rest tells))
+          (convolved_lines request h program code turns s.later made same some (conv_turns schedule request code.procs own one none) whole) s.wrote;
+    }
 
 -- the list has come, by what the machine's code says of the modulus
 pub list_come : (request : Request) (code : Code) (cut : Cut) (old now : Fed) (before mid : Option (List ℕ)) (h : List ℕ) (program : Program)
@@ -355,7 +377,7 @@ pub convolves_run : {S : Type 0} (schedule : Plan) (request : Request) (code : C
     → IsListProgram request h program → code ≡ code_of program → cut.size ≡ request.size → request.procs ≡ 1 → 0 < request.modulus → HasNoStranger schedule 1 → old.taken ≤ limit → (result ≢ Err stream.TooLong → new.taken ≤ limit)
     → HasCome request.modulus cut old now before mid (h ∷ [])
     → StreamsOn (run_text false code (turns_of schedule code.procs)) leaves code.modulus cut now new mid after out out' first last result
-    → ToldMeets (work_by_list false request (limit - old.taken)) before after out out' (status_of_stream result)
+    → SourceMeets (work_by_list false request (limit - old.taken)) before after out out' (status_of_stream result)
 convolves_run schedule request code cut old now new before mid after out out' h program leaves first last result made same size own some none start ends come s =
     let text : List ℕ → List ℕ = run_text false code (turns_of schedule code.procs) in
     let modulus : code.modulus ≡ request.modulus = ap (λ (k : Code). k.modulus) same ∙ made.convolver.header.modulus in

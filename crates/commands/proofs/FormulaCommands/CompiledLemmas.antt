@@ -1,12 +1,13 @@
 -- What `compile` and `apply` come to.
-use Rattle.std.proofs.Common.{◌≡◌, ◌<◌, ◌≤◌, ◌+◌, ◌-◌, ◌/◌, ℕ, false, List, [], ◌++◌, None, Some, Ok, Err, Result, Vec, length, refl, sym, ap, subst, ◌∙◌, arith, inl, inr}
+use Rattle.std.proofs.Common.{◌≡◌, ◌<◌, ◌≤◌, ◌+◌, ◌-◌, ◌/◌, ℕ, false, List, [], ◌++◌, None, Ok, Err, Vec, length, refl, sym, ap, subst, ◌∙◌, arith, inr}
 use Rattle.std.proofs.Common.{Global}
 use Rattle.std.proofs.KnownBytes.{Consumes-kept}
 use Rattle.std.proofs.Math.Nat.{div-mul-le_self}
 use Rattle.std.proofs.lemmas.List.Elements.{All-from_get_or}
 use Rattle.std.specs.List.{All, list_any}
 use Rattle.std.specs.declared.option.Option.{Option}
-use Rattle.std.specs.Io.KnownBytes.{Appends, Consumes, IsAtEnd}
+use Rattle.std.specs.Io.KnownBytes.{Appends, Consumes}
+use Rattle.io_edge.specs.Told.{IsOver}
 use Rattle.icode.specs.Actions.{plain_code}
 use Rattle.icode.specs.Machine.{results}
 use Rattle.icode.specs.Plain.{PlainProgram}
@@ -44,21 +45,22 @@ use Rattle.commands.specs.FormulaCommands.Compiled.{GivesText, IsCompiledText, I
 use Rattle.commands.specs.Prepared.{stream_work}
 use Rattle.commands.specs.SpiralInput.Commands.{admitted, first_stranger}
 use Rattle.commands.specs.SpiralInput.Line.{IsWhole}
-use Rattle.commands.specs.SpiralInput.Outcomes.{Outcomes, ToldMeets}
+use Rattle.commands.specs.SpiralInput.Outcomes.{Outcomes, SourceMeets}
 use Rattle.commands.specs.SpiralInput.Refusals.{IsRefusal}
 use Rattle.commands.specs.SpiralInput.Stage.{Stage}
 use Rattle.commands.proofs.SpiralInput.DataLemmas.{lines_equal}
 use Rattle.commands.proofs.SpiralInput.FrontLemmas.{asks_read_fault, asks_too_long, asks_refused, asks_value, front_refused, front_told}
 use Rattle.commands.proofs.SpiralInput.LineLemmas.{line_is_front}
 use Rattle.commands.proofs.SpiralInput.Within.{told_within}
-use Rattle.commands.proofs.StreamLemmas.{mapping_within, told_nothing}
+use Rattle.commands.proofs.SpiralInput.OutcomeLemmas.{told_nothing, unread_meets}
+use Rattle.commands.proofs.StreamLemmas.{mapping_within}
 
 -- The line
 
 -- a fault behind a part of the line
 pub text_failed : (text : List ℕ) (start before after : Option (List ℕ)) (old new : Fed) (fault : FeedFault)
     → Consumes start before text → old.taken ≡ length text → length text ≤ 65536 → list_any is_line_end text ≡ false
-    → Feeds old new before after (Err fault) → (read : List ℕ) × Consumes start after read × GivesText read (IsAtEnd after) new.taken (Err (rest_fault fault))
+    → Feeds old new before after (Err fault) → (read : List ℕ) × Consumes start after read × GivesText read (IsOver after) new.taken (Err (rest_fault fault))
 text_failed text start before after old new feed.ReadFault consumed taken short unended fed =
     (text, Consumes-kept start before after text consumed fed.1, record { unended = unended; short = short })
 text_failed text start before after old new feed.TooLong consumed taken short unended fed = absurd (omega (arith, fed.0, taken, short))
@@ -80,25 +82,25 @@ module _ (orders : List ℕ → Stage Formula) (work : Formula → Work) where
 
   -- the line is not read
   pub line_unread : (before after out : Option (List ℕ)) (taken : ℕ) (read : List ℕ) (fault : RestFault)
-      → Consumes before after read → GivesText read (IsAtEnd after) taken (Err fault) → ToldMeets by_line before after out out (status_of_text fault)
+      → Consumes before after read → GivesText read (IsOver after) taken (Err fault) → SourceMeets by_line before after out out (status_of_text fault)
   line_unread before after out taken read rest_fault.TooLong consumed given =
       front_refused (line 65536) orders work before after out taken (TooLong 65536) (asks_too_long (line 65536) orders before after taken read consumed given) (λ e. cc)
   line_unread before after out taken read rest_fault.ReadFault consumed given =
       front_refused (line 65536) orders work before after out taken ReadFault (asks_read_fault (line 65536) orders before after taken read consumed given) (λ e. cc)
-  line_unread before after out taken read rest_fault.NoMemory consumed given = told_nothing by_line before after out
+  line_unread before after out taken read rest_fault.NoMemory consumed given = told_nothing by_line before after out read consumed
 
   -- it orders no formula
   pub line_refused : (before after out : Option (List ℕ)) (taken : ℕ) (read text : List ℕ) (status : Status)
-      → Consumes before after read → IsWhole (line 65536) read (IsAtEnd after) text → length text ≤ 65536
-      → (IsDefined status → orders text (Err status)) → IsRefusal status → ToldMeets by_line before after out out status
+      → Consumes before after read → IsWhole (line 65536) read (IsOver after) text → length text ≤ 65536
+      → (IsDefined status → orders text (Err status)) → IsRefusal status → SourceMeets by_line before after out out status
   line_refused before after out taken read text status consumed whole short refused refusal =
       front_refused (line 65536) orders work before after out taken status
       (asks_refused (line 65536) orders before after taken read text status consumed whole short refused refusal.read) refusal.write
 
   -- it orders a formula, and behind it this is right for the formula's work
   pub line_told : (before mid left out out' : Option (List ℕ)) (taken : ℕ) (read text : List ℕ) (formula : Formula) (status : Status)
-      → Consumes before mid read → taken ≡ length read → IsWhole (line 65536) read (IsAtEnd mid) text → length text ≤ 65536 → orders text (Ok formula)
-      → ToldMeets (work formula (limit - taken)) mid left out out' status → ToldMeets by_line before left out out' status
+      → Consumes before mid read → taken ≡ length read → IsWhole (line 65536) read (IsOver mid) text → length text ≤ 65536 → orders text (Ok formula)
+      → SourceMeets (work formula (limit - taken)) mid left out out' status → SourceMeets by_line before left out out' status
   line_told before mid left out out' taken read text formula status consumed count whole short gives p =
       front_told (line 65536) (line_is_front 65536) orders work before mid left taken formula out out' status
       (asks_value (line 65536) orders before mid taken read text formula consumed count whole short gives) p
@@ -107,31 +109,34 @@ module _ (orders : List ℕ → Stage Formula) (work : Formula → Work) where
 
 -- it is written
 listing_told : (m : ℕ) (formula : Formula) (room : ℕ) (before out out' : Option (List ℕ)) (listing : List ℕ)
-    → listing ≡ listing_of (program_for m formula) → Appends out out' listing → ToldMeets (compile_work m formula room) before before out out' Success
-listing_told m formula room None out out' listing is wrote = tt
-listing_told m formula room (Some bytes) out out' listing is wrote =
-    record { answer = λ d. (listing, (refl, is), wrote); read_fault = λ e. absurd (cc); write_fault = λ e. absurd (cc) }
+    → listing ≡ listing_of (program_for m formula) → Appends out out' listing → SourceMeets (compile_work m formula room) before before out out' Success
+listing_told m formula room before out out' listing is wrote =
+    unread_meets (compile_work m formula room) before out out' Success (λ bytes. record {
+      answer = λ d. (listing, (refl, is), wrote);
+      read_fault = λ e. absurd (cc);
+      write_fault = λ e. absurd (cc);
+    })
 
 -- a front of it is written
 listing_cut : (m : ℕ) (formula : Formula) (room : ℕ) (before out out' : Option (List ℕ)) (listing : List ℕ)
-    → listing ≡ listing_of (program_for m formula) → AppendsPrefix out out' listing → ToldMeets (compile_work m formula room) before before out out' WriteFault
-listing_cut m formula room None out out' listing is wrote = tt
-listing_cut m formula room (Some bytes) out out' listing is wrote = record {
-  answer = λ d. absurd (d.write refl);
-  read_fault = λ e. absurd (cc);
-  write_fault = λ _. ([], [], bytes, listing, refl, refl, (refl, is), wrote);
-}
+    → listing ≡ listing_of (program_for m formula) → AppendsPrefix out out' listing → SourceMeets (compile_work m formula room) before before out out' WriteFault
+listing_cut m formula room before out out' listing is wrote =
+    unread_meets (compile_work m formula room) before out out' WriteFault (λ bytes. record {
+      answer = λ d. absurd (d.write refl);
+      read_fault = λ e. absurd (cc);
+      write_fault = λ _. ([], [], listing, refl, (refl, is), wrote);
+    })
 
 pub compile_told : (m : ℕ) (before after out out' : Option (List ℕ)) (taken : ℕ) (read text listing : List ℕ)
-    → Consumes before after read → taken ≡ length read → IsWhole (line 65536) read (IsAtEnd after) text → length text ≤ 65536
-    → IsCompiledText m text listing → Appends out out' listing → ToldMeets (compile_outcomes m) before after out out' Success
+    → Consumes before after read → taken ≡ length read → IsWhole (line 65536) read (IsOver after) text → length text ≤ 65536
+    → IsCompiledText m text listing → Appends out out' listing → SourceMeets (compile_outcomes m) before after out out' Success
 compile_told m before after out out' taken read text listing consumed count whole short made wrote =
     line_told written (compile_work m) before after after out out' taken read text made.0 Success consumed count whole short made.1
     (listing_told m made.0 (limit - taken) after out out' listing made.2 wrote)
 
 pub compile_cut : (m : ℕ) (before after out out' : Option (List ℕ)) (taken : ℕ) (read text listing : List ℕ)
-    → Consumes before after read → taken ≡ length read → IsWhole (line 65536) read (IsAtEnd after) text → length text ≤ 65536
-    → IsCompiledText m text listing → AppendsPrefix out out' listing → ToldMeets (compile_outcomes m) before after out out' WriteFault
+    → Consumes before after read → taken ≡ length read → IsWhole (line 65536) read (IsOver after) text → length text ≤ 65536
+    → IsCompiledText m text listing → AppendsPrefix out out' listing → SourceMeets (compile_outcomes m) before after out out' WriteFault
 compile_cut m before after out out' taken read text listing consumed count whole short made wrote =
     line_told written (compile_work m) before after after out out' taken read text made.0 WriteFault consumed count whole short made.1
     (listing_cut m made.0 (limit - taken) after out out' listing made.2 wrote)
@@ -155,10 +160,10 @@ formula_turns schedule procs one none =
     (All-from_get_or (λ q. q < 1) (turns_of schedule 1) 0 (turns_there schedule 1 (omega arith) (subst (HasNoStranger schedule) one none)))
 
 pub apply_told : (m : ℕ) (schedule : Plan) (program : Program) (front : Vec ℕ Global) (before mid left out out' : Option (List ℕ)) (taken : ℕ) (read text : List ℕ) (status : Status)
-    → Consumes before mid read → taken ≡ length read → IsWhole (line 65536) read (IsAtEnd mid) text → length text ≤ 65536
+    → Consumes before mid read → taken ≡ length read → IsWhole (line 65536) read (IsOver mid) text → length text ≤ 65536
     → IsFormedProgram m (named schedule) text program → HasNoStranger schedule program.procs → front.items ≡ []
-    → ToldMeets (stream_work (record { program = program; front = front; lines = false }) (order.Turns schedule) (limit - taken)) mid left out out' status
-    → ToldMeets (apply_outcomes m schedule) before left out out' status
+    → SourceMeets (stream_work (record { program = program; front = front; lines = false }) (order.Turns schedule) (limit - taken)) mid left out out' status
+    → SourceMeets (apply_outcomes m schedule) before left out out' status
 apply_told m schedule program front before mid left out out' taken read text status consumed count whole short made none alone p =
     let own : PlainProgram = plain_program program in
     let formula : Formula = made.0 in
@@ -167,9 +172,9 @@ apply_told m schedule program front before mid left out out' taken read text sta
     let room = limit - taken in
     let Writes : List (List ℕ) → List ℕ → Type 0 = λ vectors t. t ≡ front.items ++ texts (run_text false (plain_code own) turns) vectors in
     let Wanted : List (List ℕ) → List ℕ → Type 0 = λ vectors t. t ≡ lines (formulas.apply m formula) vectors in
-    let sized : ToldMeets (mapping all (size_of formula) m Writes room) mid left out out' status =
-    subst (λ n. ToldMeets (mapping all (size_of formula) n Writes room) mid left out out' status) is.header.modulus
-    (subst (λ n. ToldMeets (mapping all n own.modulus Writes room) mid left out out' status) is.header.size p) in
+    let sized : SourceMeets (mapping all (size_of formula) m Writes room) mid left out out' status =
+    subst (λ n. SourceMeets (mapping all (size_of formula) n Writes room) mid left out out' status) is.header.modulus
+    (subst (λ n. SourceMeets (mapping all n own.modulus Writes room) mid left out out' status) is.header.size p) in
     line_told (formed (named schedule)) (apply_work m) before mid left out out' taken read text formula status consumed count whole short made.1
     (told_within (mapping all (size_of formula) m Writes room) (apply_work m formula room) mid left out out' status
     (mapping_within (size_of formula) m Writes Wanted room (λ ts t written.

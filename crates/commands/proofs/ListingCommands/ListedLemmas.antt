@@ -1,7 +1,8 @@
 -- What `exec` comes to.
-use Rattle.std.proofs.Common.{◌≡◌, ◌≢◌, ◌⊎◌, ◌≤◌, ◌+◌, ◌-◌, ◌&&◌, ◌||◌, ℕ, Bool, true, false, List, [], ◌∷◌, ◌++◌, None, Some, Ok, Err, Result, Vec, length, cond, refl, sym, ap, subst, ◌∙◌, zero-add, append-nil, inl, inr}
+use Rattle.std.proofs.Common.{◌≡◌, ◌⊎◌, ◌≤◌, ◌+◌, ◌-◌, ◌&&◌, ◌||◌, ℕ, Bool, true, false, List, [], ◌∷◌, ◌++◌, None, Some, Ok, Err, Result, Vec, length, cond, refl, sym, ap, subst, ◌∙◌, inl, inr}
 use Rattle.std.specs.declared.option.Option.{Option}
-use Rattle.std.specs.Io.KnownBytes.{Consumes, IsAtEnd}
+use Rattle.std.specs.Io.KnownBytes.{Consumes}
+use Rattle.io_edge.specs.Told.{IsOver}
 use Rattle.std.proofs.Common.{Global}
 use Rattle.icode.specs.Actions.{plain_code}
 use Rattle.icode.specs.Machine.{results, words_at, padded}
@@ -32,11 +33,12 @@ use Rattle.commands.specs.Prepared.{stream_work}
 use Rattle.commands.specs.Equations.Exec.{exec_outcomes, exec_work}
 use Rattle.commands.specs.Equations.Front.{HasEnded, part}
 use Rattle.commands.specs.SpiralInput.Commands.{stranger, admitted}
-use Rattle.commands.specs.SpiralInput.Outcomes.{ToldMeets}
+use Rattle.commands.specs.SpiralInput.Outcomes.{SourceMeets}
 use Rattle.commands.specs.SpiralInput.Refusals.{IsRefusal}
 use Rattle.commands.proofs.SpiralInput.FrontLemmas.{IsFront, asks_read_fault, asks_too_long, asks_refused, asks_value, front_refused, front_told}
 use Rattle.commands.proofs.SpiralInput.Within.{told_within}
-use Rattle.commands.proofs.StreamLemmas.{mapping_within, told_nothing}
+use Rattle.commands.proofs.SpiralInput.OutcomeLemmas.{told_nothing}
+use Rattle.commands.proofs.StreamLemmas.{mapping_within}
 
 -- The front
 
@@ -127,30 +129,30 @@ same_lines program turns passes (x ∷ vectors) =
 
 -- the listing is not read
 pub exec_unread : (schedule : Plan) (before after out : Option (List ℕ)) (taken : ℕ) (read : List ℕ) (fault : RestFault)
-    → Consumes before after read → GivesPart 1048576 read (IsAtEnd after) 0 taken (Err fault)
-    → ToldMeets (exec_outcomes schedule) before after out out (status_of_part fault)
+    → Consumes before after read → GivesPart 1048576 read (IsOver after) 0 taken (Err fault)
+    → SourceMeets (exec_outcomes schedule) before after out out (status_of_part fault)
 exec_unread schedule before after out taken read rest_fault.TooLong consumed given =
     front_refused (part 1048576) (loaded schedule) exec_work before after out taken (TooLong 1048576)
     (asks_too_long (part 1048576) (loaded schedule) before after taken read consumed given) (λ e. cc)
 exec_unread schedule before after out taken read rest_fault.ReadFault consumed given =
     front_refused (part 1048576) (loaded schedule) exec_work before after out taken ReadFault
     (asks_read_fault (part 1048576) (loaded schedule) before after taken read consumed (record { unended = given.unended; short = given.short })) (λ e. cc)
-exec_unread schedule before after out taken read rest_fault.NoMemory consumed given = told_nothing (exec_outcomes schedule) before after out
+exec_unread schedule before after out taken read rest_fault.NoMemory consumed given = told_nothing (exec_outcomes schedule) before after out read consumed
 
 -- the listing orders no program to run
 pub exec_refused : (schedule : Plan) (before after out : Option (List ℕ)) (taken : ℕ) (read text : List ℕ) (status : Status)
-    → Consumes before after read → IsWholePart read (IsAtEnd after) text → length text ≤ 1048576
-    → (IsDefined status → loaded schedule text (Err status)) → IsRefusal status → ToldMeets (exec_outcomes schedule) before after out out status
+    → Consumes before after read → IsWholePart read (IsOver after) text → length text ≤ 1048576
+    → (IsDefined status → loaded schedule text (Err status)) → IsRefusal status → SourceMeets (exec_outcomes schedule) before after out out status
 exec_refused schedule before after out taken read text status consumed whole short refused refusal =
     front_refused (part 1048576) (loaded schedule) exec_work before after out taken status
     (asks_refused (part 1048576) (loaded schedule) before after taken read text status consumed whole.parts short refused refusal.read) refusal.write
 
 -- its program runs
 pub exec_told : (schedule : Plan) (program : Program) (front : Vec ℕ Global) (before mid left out out' : Option (List ℕ)) (taken : ℕ) (read text : List ℕ) (status : Status)
-    → Consumes before mid read → taken ≡ length read → IsWholePart read (IsAtEnd mid) text → length text ≤ 1048576
+    → Consumes before mid read → taken ≡ length read → IsWholePart read (IsOver mid) text → length text ≤ 1048576
     → loaded schedule text (Ok (plain_program program)) → front.items ≡ []
-    → ToldMeets (stream_work (record { program = program; front = front; lines = false }) (order.Turns schedule) (limit - taken)) mid left out out' status
-    → ToldMeets (exec_outcomes schedule) before left out out' status
+    → SourceMeets (stream_work (record { program = program; front = front; lines = false }) (order.Turns schedule) (limit - taken)) mid left out out' status
+    → SourceMeets (exec_outcomes schedule) before left out out' status
 exec_told schedule program front before mid left out out' taken read text status consumed count whole short load alone p =
     let own : PlainProgram = plain_program program in
     let turns = turns_of schedule program.procs in

@@ -1,7 +1,8 @@
 -- From the first line to a request.
-use Rattle.std.proofs.Common.{◌≡◌, ◌≢◌, ◌≤◌, ℕ, zero, suc, List, [], ◌∷◌, take, None, Some, Ok, Err, length, refl, sym, ap, arith, inl, inr}
+use Rattle.std.proofs.Common.{◌≡◌, ◌≢◌, ◌≤◌, ℕ, zero, suc, List, [], ◌∷◌, take, None, Some, Ok, Err, length, sym, ap, arith, inl, inr}
 use Rattle.std.specs.declared.option.Option.{Option}
-use Rattle.std.specs.Io.KnownBytes.{Consumes, IsAtEnd}
+use Rattle.std.specs.Io.KnownBytes.{Consumes}
+use Rattle.io_edge.specs.Told.{IsOver}
 use Rattle.matrix_meaning.specs.declared.Request.{Request}
 use Rattle.request_text.specs.declared.RequestFault.{RequestFault}
 use Rattle.request_text.specs.declared.RequestFault.TheVariants as request
@@ -10,7 +11,6 @@ use Rattle.io_edge.specs.declared.FeedFault.TheVariants as feed
 use Rattle.spiral_words.proofs.OneCommand.{asked_once}
 use Rattle.spiral_words.specs.Asked.{IsAsked}
 use Rattle.spiral_words.specs.declared.Command.{Command}
-use Rattle.spiral_words.specs.declared.spiral_status.status.Status.{Status}
 use Rattle.spiral_words.specs.declared.spiral_status.status.Status.TheVariants.{Turn, ReadFault}
 use Rattle.spiral_words.specs.SpiralStatus.Fault.{status_of_line, status_of_request}
 use Rattle.commands.specs.SpiralInput.Asking.{Asks}
@@ -36,14 +36,14 @@ request_fault_other (request.NotUnit gcd) = λ e. cc
 
 -- the line spells no request that can be served
 pub asked_request_fault : (spells : List ℕ → Stage Request) (names : List ℕ) (before after : Option (List ℕ)) (taken : ℕ) (read text : List ℕ) (fault : RequestFault)
-    → Consumes before after read → IsWhole (line 256) read (IsAtEnd after) text → length text ≤ 256 → spells text (Err (status_of_request fault))
+    → Consumes before after read → IsWhole (line 256) read (IsOver after) text → length text ≤ 256 → spells text (Err (status_of_request fault))
     → Asks (line 256) (λ text. spells text >>= turned names) before after taken (Err (status_of_request fault))
 asked_request_fault spells names before after taken read text fault consumed whole short answer =
     asks_refused (line 256) (λ text. spells text >>= turned names) before after taken read text (status_of_request fault) consumed whole short (λ _. inl answer) (request_fault_other fault)
 
 -- a turn is of a processor that is not there
 pub asked_turn_fault : (spells : List ℕ → Stage Request) (names : List ℕ) (before after : Option (List ℕ)) (taken : ℕ) (read text : List ℕ) (wanted : Request) (q : ℕ)
-    → Consumes before after read → IsWhole (line 256) read (IsAtEnd after) text → length text ≤ 256 → spells text (Ok wanted)
+    → Consumes before after read → IsWhole (line 256) read (IsOver after) text → length text ≤ 256 → spells text (Ok wanted)
     → first_stranger names wanted.procs ≡ Some q
     → Asks (line 256) (λ text. spells text >>= turned names) before after taken (Err (Turn q wanted.procs))
 asked_turn_fault spells names before after taken read text wanted q consumed whole short answer found =
@@ -52,7 +52,7 @@ asked_turn_fault spells names before after taken read text wanted q consumed who
 
 -- the request
 pub asked_request : (spells : List ℕ → Stage Request) (names : List ℕ) (before after : Option (List ℕ)) (taken : ℕ) (read text : List ℕ) (wanted : Request)
-    → Consumes before after read → taken ≡ length read → IsWhole (line 256) read (IsAtEnd after) text → length text ≤ 256 → spells text (Ok wanted)
+    → Consumes before after read → taken ≡ length read → IsWhole (line 256) read (IsOver after) text → length text ≤ 256 → spells text (Ok wanted)
     → first_stranger names wanted.procs ≡ None → Asks (line 256) (λ text. spells text >>= turned names) before after taken (Ok wanted)
 asked_request spells names before after taken read text wanted consumed count whole short answer none =
     asks_value (line 256) (λ text. spells text >>= turned names) before after taken read text wanted consumed count whole short

@@ -1,17 +1,17 @@
 -- Status and output that are right for a call.
-use Rattle.std.proofs.Common.{◌≡◌, ◌≢◌, ℕ, List, [], ◌++◌, None, Some, refl, sym, ap, subst, ◌∙◌, append_assoc}
-use Rattle.std.proofs.KnownBytes.{Appends-nil}
+use Rattle.std.proofs.Common.{◌≡◌, ◌≢◌, ℕ, List, [], ◌++◌, refl, sym, ap, subst, ◌∙◌, append_assoc}
+use Rattle.std.proofs.KnownBytes.{Appends-nil, Consumes-nil}
 use Rattle.std.specs.declared.option.Option.{Option}
+use Rattle.std.specs.Io.KnownBytes.{Consumes}
 use Rattle.io_edge.specs.Feed.{Fed, to_come}
-use Rattle.io_edge.specs.Taken.{AppendsPrefix}
+use Rattle.io_edge.proofs.ToldLemmas.{tells_held, consumes_held}
 use Rattle.spiral_words.specs.SpiralStatus.Status.{IsDefined}
 use Rattle.spiral_words.specs.declared.spiral_status.status.Status.{Status}
-use Rattle.spiral_words.specs.declared.spiral_status.status.Status.TheVariants.{ReadFault, WriteFault}
-use Rattle.commands.specs.SpiralInput.Outcomes.{Outcomes, Meets, ToldMeets}
-use Rattle.commands.proofs.SpiralInput.InputLemmas.{nothing_held}
+use Rattle.spiral_words.specs.declared.spiral_status.status.Status.TheVariants.{ReadFault, WriteFault, NoMemory}
+use Rattle.commands.specs.SpiralInput.Outcomes.{Outcomes, Meets, SourceMeets}
 
 -- of a call that ends before its output
-pub meets_nothing : (outcomes : Outcomes) (bytes : List ℕ) (left out : Option (List ℕ)) (status : Status)
+pub meets_nothing : (outcomes : Outcomes) (bytes left : List ℕ) (out : Option (List ℕ)) (status : Status)
     → (IsDefined status → outcomes.answer bytes status []) → status ≢ ReadFault → status ≢ WriteFault → Meets outcomes bytes left out out status
 meets_nothing outcomes bytes left out status right read write = record {
   answer = λ d. ([], right d, Appends-nil out);
@@ -19,24 +19,49 @@ meets_nothing outcomes bytes left out status right read write = record {
   write_fault = λ e. absurd (write e);
 }
 
-some_rest : (held rest more : List ℕ) → Some (held ++ more) ≡ Some rest → rest ≡ held ++ more
-some_rest held rest more e = cc
+-- nothing was read
+pub unread_meets : (outcomes : Outcomes) (before out out' : Option (List ℕ)) (status : Status)
+    → ((bytes : List ℕ) → Meets outcomes bytes bytes out out' status) → SourceMeets outcomes before before out out' status
+unread_meets outcomes before out out' status p =
+    record { read = []; consumed = Consumes-nil before; meets = λ left tells. p left }
 
--- where a write failed, what the feed holds is held, too
-cut_by_source : (outcomes : Outcomes) (bytes : List ℕ) (feed : Fed) (left out out' : Option (List ℕ)) (read held rest text : List ℕ) → bytes ≡ read ++ (held ++ rest) → to_come feed left ≡ Some rest
-    → outcomes.cut read (held ++ rest) text → AppendsPrefix out out' text
-    → (read held rest text : List ℕ) × (bytes ≡ read ++ (held ++ rest)) × (left ≡ Some rest) × outcomes.cut read (held ++ rest) text × AppendsPrefix out out' text
-cut_by_source outcomes bytes feed None out out' read held rest text whole is cut wrote = absurd (cc)
-cut_by_source outcomes bytes feed (Some more) out out' read held rest text whole is cut wrote =
-    let same : held ++ rest ≡ (held ++ feed.held) ++ more = ap (λ l. held ++ l) (some_rest feed.held rest more is) ∙ sym (append_assoc held feed.held more) in
-    (read, held ++ feed.held, more, text, whole ∙ ap (λ l. read ++ l) same, refl, subst (λ l. outcomes.cut read l text) same cut, wrote)
+-- want of memory
+pub told_nothing : (outcomes : Outcomes) (before after out : Option (List ℕ)) (read : List ℕ) → Consumes before after read
+    → SourceMeets outcomes before after out out NoMemory
+told_nothing outcomes before after out read consumed = record {
+  read = read;
+  consumed = consumed;
+  meets = λ left tells. meets_nothing outcomes (read ++ left) left out NoMemory (λ d. absurd (d.memory refl)) (λ e. cc) (λ e. cc);
+}
 
--- where a read failed, the feed holds nothing
+pub unread_nothing : (outcomes : Outcomes) (before out : Option (List ℕ)) → SourceMeets outcomes before before out out NoMemory
+unread_nothing outcomes before out = told_nothing outcomes before before out [] (Consumes-nil before)
+
+-- what the feed holds is left for the feed, and was read from the source; where a read failed, it holds nothing
+held_meets : (outcomes : Outcomes) (bytes held left : List ℕ) (out out' : Option (List ℕ)) (status : Status)
+    → (status ≡ ReadFault → held ≡ []) → Meets outcomes bytes (held ++ left) out out' status → Meets outcomes bytes left out out' status
+held_meets outcomes bytes held left out out' status empty m = record {
+  answer = m.answer;
+  read_fault = λ e. (subst (λ (l : List ℕ). Meets outcomes bytes (l ++ left) out out' status) (empty e) m).read_fault e;
+  write_fault = λ e.
+      let found = m.write_fault e in
+      let same : found.1 ++ (held ++ left) ≡ (found.1 ++ held) ++ left = sym (append_assoc found.1 held left) in (
+        found.0,
+        found.1 ++ held,
+        found.2,
+        found.3 ∙ ap (λ l. found.0 ++ l) same,
+        subst (λ l. outcomes.cut found.0 l found.2) same found.4,
+        found.5,
+      );
+}
+
 pub meets_by_source : (outcomes : Outcomes) (before : Option (List ℕ)) (feed : Fed) (left out out' : Option (List ℕ)) (status : Status)
-    → (status ≡ ReadFault → feed.held ≡ []) → ToldMeets outcomes before (to_come feed left) out out' status → ToldMeets outcomes before left out out' status
-meets_by_source outcomes None feed left out out' status empty p = tt
-meets_by_source outcomes (Some bytes) feed left out out' status empty p = record {
-  answer = p.answer;
-  read_fault = λ e. (subst (λ (o : Option (List ℕ)). Meets outcomes bytes o out out' status) (nothing_held feed left (empty e)) p).read_fault e;
-  write_fault = λ e. let found = p.write_fault e in cut_by_source outcomes bytes feed left out out' found.0 found.1 found.2 found.3 found.4 found.5 found.6 found.7;
+    → (status ≡ ReadFault → feed.held ≡ []) → SourceMeets outcomes before (to_come feed left) out out' status → SourceMeets outcomes before left out out' status
+meets_by_source outcomes before feed left out out' status empty p = record {
+  read = p.read ++ feed.held;
+  consumed = consumes_held before left p.read feed.held p.consumed;
+  meets = λ rest tells.
+      subst (λ (b : List ℕ). Meets outcomes b rest out out' status) (sym (append_assoc p.read feed.held rest))
+      (held_meets outcomes (p.read ++ (feed.held ++ rest)) feed.held rest out out' status empty
+      (p.meets (feed.held ++ rest) (tells_held feed.held left rest tells)));
 }

@@ -1,10 +1,9 @@
 -- What is right for one call is right for another.
-use Rattle.std.proofs.Common.{◌≡◌, ℕ, List, [], ◌++◌, None, Some, Ok, Err, Result, inl, inr}
+use Rattle.std.proofs.Common.{◌≡◌, ℕ, List, [], ◌++◌, Ok, Err, Result, inl, inr}
 use Rattle.std.specs.declared.option.Option.{Option}
-use Rattle.std.specs.Io.KnownBytes.{IsAtEnd}
 use Rattle.spiral_words.specs.declared.spiral_status.status.Status.{Status}
-use Rattle.commands.specs.SpiralInput.Outcomes.{Outcomes, Meets, ToldMeets}
-use Rattle.commands.specs.SpiralInput.Stage.{Stage, given, ◌>>=◌, IsAnswerBy}
+use Rattle.commands.specs.SpiralInput.Outcomes.{Outcomes, Meets, SourceMeets}
+use Rattle.commands.specs.SpiralInput.Stage.{Stage, given, ◌>>=◌}
 use Rattle.commands.specs.Equations.Front.{Front, taken_from, room_behind, MayGoOn, HasEnded, ordered, Work, by_front, staged}
 use Rattle.commands.proofs.SpiralInput.Nested.{joined, split_off, nested, unnested, answer_map, broken_map, cut_map}
 
@@ -14,18 +13,21 @@ pub record Within (a b : Outcomes) : Type 1 where
   pub broken : (read : List ℕ) (ended : Type 0) (t : List ℕ) → a.broken read ended t → b.broken read ended t
   pub cut : (read left t : List ℕ) → a.cut read left t → b.cut read left t
 
-pub meets_within : (a b : Outcomes) (bytes : List ℕ) (left before after : Option (List ℕ)) (s : Status) → Within a b
+pub meets_within : (a b : Outcomes) (bytes left : List ℕ) (before after : Option (List ℕ)) (s : Status) → Within a b
     → Meets a bytes left before after s → Meets b bytes left before after s
 meets_within a b bytes left before after s w m = record {
   answer = λ defined. let p = m.answer defined in (p.0, w.answer bytes s p.0 p.1, p.2);
-  read_fault = λ fault. let p = m.read_fault fault in (p.0, p.1, p.2, w.broken p.0 (IsAtEnd left) p.1 p.3, p.4);
-  write_fault = λ fault. let p = m.write_fault fault in (p.0, p.1, p.2, p.3, p.4, p.5, w.cut p.0 (p.1 ++ p.2) p.3 p.6, p.7);
+  read_fault = λ fault. let p = m.read_fault fault in (p.0, p.1, p.2, w.broken p.0 (left ≡ []) p.1 p.3, p.4);
+  write_fault = λ fault. let p = m.write_fault fault in (p.0, p.1, p.2, p.3, w.cut p.0 (p.1 ++ left) p.2 p.4, p.5);
 }
 
 pub told_within : (a b : Outcomes) (before left out out' : Option (List ℕ)) (s : Status) → Within a b
-    → ToldMeets a before left out out' s → ToldMeets b before left out out' s
-told_within a b None left out out' s w m = tt
-told_within a b (Some bytes) left out out' s w m = meets_within a b bytes left out out' s w m
+    → SourceMeets a before left out out' s → SourceMeets b before left out out' s
+told_within a b before left out out' s w m = record {
+  read = m.read;
+  consumed = m.consumed;
+  meets = λ rest tells. meets_within a b (m.read ++ rest) rest out out' s w (m.meets rest tells);
+}
 
 pub within_then : (a b c : Outcomes) → Within a b → Within b c → Within a c
 within_then a b c v w = record {

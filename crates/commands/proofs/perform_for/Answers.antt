@@ -4,8 +4,8 @@ use Rattle.spiral_words.specs.declared.RequestCommand.{RequestCommand}
 use Rattle.spiral_words.specs.declared.RequestCommand.TheVariants as command
 use Rattle.commands.specs.Equations.Requests.{work_for}
 use Rattle.commands.specs.SpiralInput.Stage.{status_of}
-use Rattle.commands.specs.SpiralInput.Outcomes.{ToldMeets}
-use Rattle.commands.proofs.Performs.{told_any}
+use Rattle.commands.specs.SpiralInput.Outcomes.{SourceMeets}
+use Rattle.commands.proofs.SpiralInput.OutcomeLemmas.{unread_meets}
 use Rattle.commands.proofs.perform_for.Goals as goal
 
 pub returns-in-Writes-clause-told : goal.returns-in-Writes-clause-told
@@ -15,5 +15,5 @@ returns-in-Writes-clause-told g c =
     let written = g.O.Sink.taken c.write_text.new.output in
     let room = limit - c.args.feed.now.taken in
     let status = status_of c.write_text.result in
-    subst (λ (k : RequestCommand). ToldMeets (work_for k c.args.request.now room) start start out written status) (sym c.in-Writes.is)
-    (told_any (work_for (command.Writes c.in-Writes.document) c.args.request.now) room start out written status c.write_text.ensures.told)
+    subst (λ (k : RequestCommand). SourceMeets (work_for k c.args.request.now room) start start out written status) (sym c.in-Writes.is)
+    (unread_meets (work_for (command.Writes c.in-Writes.document) c.args.request.now room) start out written status (c.write_text.ensures.told room))

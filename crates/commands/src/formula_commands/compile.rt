@@ -6,7 +6,7 @@ ghost use Rattle.commands.specs.Equations.Compile.{compile_outcomes};
 ghost use Rattle.commands.specs.Equations.Formulas.{written};
 ghost use Rattle.commands.specs.FormulaCommands.Compiled.{IsCompiledText};
 ghost use Rattle.commands.specs.SpiralInput.Ends.{EndsCleanly};
-ghost use Rattle.commands.specs.SpiralInput.Outcomes.{ToldMeets};
+ghost use Rattle.commands.specs.SpiralInput.Outcomes.{SourceMeets};
 ghost use Rattle.commands.specs.SpiralInput.Stage.{status_of};
 ghost use Rattle.spiral_words.specs.SpiralStatus.Status.{IsDefined};
 ghost use Rattle.commands.specs.SpiralInput.Refusals.{IsRefusal};
@@ -54,7 +54,7 @@ pub(crate) fn compile<I: Source, O: Sink>(
     output: &mut O,
 ) -> Result<(), Status>
     requires fresh { feed.old.taken ≡ 0 }
-    ensures told { ToldMeets (compile_outcomes modulus.now)
+    ensures told { SourceMeets (compile_outcomes modulus.now)
         (to_come feed.old (I.left input.old)) (to_come feed.new (I.left input.new))
         (O.taken output.old) (O.taken output.new) (status_of result) }
     ensures ends { EndsCleanly (status_of result) feed.new.held

@@ -1,6 +1,7 @@
 // The first line of an input.
 ghost use Rattle.std.specs.Prelude.{◌≡◌, ℕ, List, [], length, IsErrOf};
-ghost use Rattle.std.specs.Io.KnownBytes.{Consumes, IsAtEnd};
+ghost use Rattle.std.specs.Io.KnownBytes.{Consumes};
+ghost use Rattle.io_edge.specs.Told.{IsOver};
 ghost use Rattle.io_edge.specs.Faults.{Reports};
 ghost use Rattle.io_edge.specs.Feed.{to_come};
 ghost use Rattle.commands.specs.SpiralInput.Line.{GivesLine};
@@ -20,7 +21,7 @@ pub(crate) fn read_line<S: Source>(
     ensures answer { (read : List ℕ)
         × Consumes (to_come feed.old (S.left source.old))
         (to_come feed.new (S.left source.new)) read
-        × GivesLine read (IsAtEnd (to_come feed.new (S.left source.new))) feed.new.taken buffer.new
+        × GivesLine read (IsOver (to_come feed.new (S.left source.new))) feed.new.taken buffer.new
         result }
     ensures empty { IsErrOf result FeedFault.ReadFault → feed.new.held ≡ [] }
     ensures cause { Reports (S.faults source.old) (S.faults source.new)

@@ -2,7 +2,8 @@
 use Rattle.std.proofs.Common.{◌≡◌, ◌<◌, ◌≤◌, ◌+◌, ◌&&◌, ◌||◌, ℕ, Bool, true, false, List, [], ◌∷◌, ◌++◌, Err, length, cond, refl, sym, ap, ◌∙◌, arith, append_assoc, append-nil, length-append, inl, inr}
 use Rattle.std.proofs.KnownBytes.{Consumes-kept}
 use Rattle.std.specs.declared.option.Option.{Option}
-use Rattle.std.specs.Io.KnownBytes.{Consumes, IsAtEnd}
+use Rattle.std.specs.Io.KnownBytes.{Consumes}
+use Rattle.io_edge.specs.Told.{IsOver}
 use Rattle.io_edge.specs.Feed.{Fed, Feeds, limit}
 use Rattle.io_edge.specs.declared.feed.FeedFault.{FeedFault}
 use Rattle.io_edge.specs.declared.feed.FeedFault.TheVariants.{ReadFault, TooLong}
@@ -70,7 +71,7 @@ part_longer text more begins front =
 -- a fault behind a front
 pub part_failed : (most first : ℕ) (text : List ℕ) (begins : Bool) (start before after : Option (List ℕ)) (old new : Fed) (fault : FeedFault)
     → Consumes start before text → old.taken ≡ first + length text → length text ≤ most → first + most < limit → IsFront text begins
-    → Feeds old new before after (Err fault) → (read : List ℕ) × Consumes start after read × GivesPart most read (IsAtEnd after) first new.taken (Err (rest_fault fault))
+    → Feeds old new before after (Err fault) → (read : List ℕ) × Consumes start after read × GivesPart most read (IsOver after) first new.taken (Err (rest_fault fault))
 part_failed most first text begins start before after old new ReadFault consumed taken short room front fed =
     (text, Consumes-kept start before after text consumed fed.1, record { unended = front_unended text begins front; short = short })
 part_failed most first text begins start before after old new TooLong consumed taken short room front fed = absurd (omega (arith, fed.0, taken, short, room))

@@ -7,13 +7,16 @@ use Rattle.spiral_words.specs.SpiralStatus.Fault.{status_of_generate}
 use Rattle.commands.proofs.CheckLemmas.{check_barred, check_unread, judged_of, check_judged, check_cut}
 use Rattle.commands.proofs.Documents.{generate_refusal}
 use Rattle.commands.proofs.SpiralInput.StatusLemmas.{rest_usage, refusal_ends}
+use Rattle.commands.proofs.SpiralInput.OutcomeLemmas.{told_nothing}
+use Rattle.commands.specs.Equations.Requests.{work_for}
+use Rattle.spiral_words.specs.declared.RequestCommand.TheVariants as command
 use Rattle.commands.proofs.check.check.Goals as goal
 
 pub returns-in_err-admit-clause-told : goal.returns-in_err-admit-clause-told
 returns-in_err-admit-clause-told g c =
     let fault = c.in_err-admit.field-0.0 in
     let p = err_from_is_err_and c.from_residual.result c.from_residual.ensures.1 in
-    rw (p.1, p.2) (check_barred c.args.request.now (limit - c.args.feed.now.taken) (to_come c.args.feed.now (g.I.Source.left c.args.input.now)) (to_come c.args.feed.now (g.I.Source.left c.args.input.now)) (g.O.Sink.taken c.args.output.now) fault
+    rw (p.1, p.2) (check_barred c.args.request.now (limit - c.args.feed.now.taken) (to_come c.args.feed.now (g.I.Source.left c.args.input.now)) (g.O.Sink.taken c.args.output.now) fault
     c.in_err-admit.ensures.barred)
 
 pub returns-in_err-text-clause-told : goal.returns-in_err-text-clause-told
@@ -87,3 +90,12 @@ pub returns-in_err-text-clause-ends : goal.returns-in_err-text-clause-ends
 returns-in_err-text-clause-ends g c =
     let p = err_from_is_err_and c.from_residual-in_err-text.result c.from_residual-in_err-text.ensures.1 in
     rw (p.1, p.2) (record { empty = search rules; usage = rest_usage c.in_err-text.field-0.0; read = search rules; write = search rules; memory = search rules })
+
+pub returns-in_err-cost-clause-told : goal.returns-in_err-cost-clause-told
+returns-in_err-cost-clause-told g c =
+    let start = to_come c.args.feed.now (g.I.Source.left c.args.input.now) in
+    let reached = to_come c.read_rest.new.feed (g.I.Source.left c.read_rest.new.source) in
+    let answer = c.in_ok-text.ensures.answer in
+    let p = err_from_is_err_and c.from_residual-in_err-cost.result c.from_residual-in_err-cost.ensures.1 in
+    rw (p.1, p.2) (told_nothing (work_for command.Judges c.args.request.now (limit - c.args.feed.now.taken)) start reached
+    (g.O.Sink.taken c.args.output.now) answer.0 answer.1)

@@ -1,6 +1,6 @@
 use Rattle.std.proofs.Common.{◌≤◌, arith, take, length, refl, sym, ◌∙◌}
 use Rattle.std.proofs.lemmas.Result.{err_from_is_err_and}
-use Rattle.std.specs.Io.KnownBytes.{IsAtEnd}
+use Rattle.io_edge.specs.Told.{IsOver}
 use Rattle.io_edge.specs.Feed.{to_come}
 use Rattle.request_text.specs.Turns.{named}
 use Rattle.commands.specs.SpiralInput.Stage.{◌>>=◌}
@@ -15,7 +15,7 @@ returns-in_err-count-clause-told g c =
     let reached = to_come c.read_line.new.feed (g.I.Source.left c.read_line.new.source) in
     let answer = c.in_err-count.ensures.answer in
     let p = err_from_is_err_and c.from_residual.result c.from_residual.ensures.1 in
-    rw (p.1, p.2) (asked_line_fault (λ text. conv_spelt text >>= turned (named c.args.schedule.now)) start reached c.read_line.new.feed.taken answer.0 c.read_line.new.buffer (IsAtEnd reached) c.in_err-count.field-0.0 answer.1 answer.2)
+    rw (p.1, p.2) (asked_line_fault (λ text. conv_spelt text >>= turned (named c.args.schedule.now)) start reached c.read_line.new.feed.taken answer.0 c.read_line.new.buffer (IsOver reached) c.in_err-count.field-0.0 answer.1 answer.2)
 
 pub returns-in_err-request-clause-told : goal.returns-in_err-request-clause-told
 returns-in_err-request-clause-told g c =

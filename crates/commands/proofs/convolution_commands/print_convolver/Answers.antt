@@ -1,10 +1,12 @@
-use Rattle.std.proofs.Common.{◌<◌, arith, true}
+use Rattle.std.proofs.Common.{◌<◌, ◌-◌, arith, true}
 use Rattle.std.proofs.lemmas.Result.{err_from_is_err_and}
-use Rattle.io_edge.specs.Feed.{to_come}
+use Rattle.io_edge.specs.Feed.{to_come, limit}
 use Rattle.commands.proofs.ConvolutionCommands.ConvolvedLemmas.{convolves_listing, convolves_cut}
 use Rattle.data_stream.proofs.TokensLemmas.{reports_none}
 use Rattle.spiral_words.specs.declared.spiral_status.status.Status.TheVariants.{NoMemory}
 use Rattle.commands.proofs.SpiralInput.StatusLemmas.{quiet_ends}
+use Rattle.commands.proofs.SpiralInput.OutcomeLemmas.{told_nothing}
+use Rattle.commands.specs.ConvolutionCommands.Convolved.{work_by_list}
 use Rattle.commands.proofs.convolution_commands.print_convolver.Goals as goal
 
 pub returns-in_err-write_all-clause-told : goal.returns-in_err-write_all-clause-told
@@ -43,3 +45,12 @@ pub returns-in_err-program-clause-told : goal.returns-in_err-program-clause-told
 returns-in_err-program-clause-told g c =
     let p = err_from_is_err_and c.from_residual.result c.from_residual.ensures.1 in
     rw (p.1, p.2) (c.in_err-program.ensures.told true (g.O.Sink.taken c.args.output.now))
+
+pub returns-in_err-listing-clause-told : goal.returns-in_err-listing-clause-told
+returns-in_err-listing-clause-told g c =
+    let start = to_come c.args.feed.now (g.I.Source.left c.args.input.now) in
+    let reached = to_come c.listed_program.new.feed (g.I.Source.left c.listed_program.new.input) in
+    let progress = c.in_ok-program.ensures.come.progress in
+    let p = err_from_is_err_and c.from_residual-in_err-listing.result c.from_residual-in_err-listing.ensures.1 in
+    rw (p.1, p.2) (told_nothing (work_by_list true c.args.request.now (limit - c.args.feed.now.taken)) start reached (g.O.Sink.taken c.args.output.now)
+    progress.bytes progress.consumed)

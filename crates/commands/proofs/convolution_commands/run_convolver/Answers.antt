@@ -1,12 +1,14 @@
-use Rattle.std.proofs.Common.{◌<◌, ◌∷◌, [], Ok, Err, arith, refl, false}
+use Rattle.std.proofs.Common.{◌<◌, ◌-◌, ◌∷◌, [], Ok, Err, arith, refl, false}
 use Rattle.std.proofs.lemmas.Result.{err_from_is_err_and}
 use Rattle.data_stream.proofs.TokensLemmas.{reports_none}
 use Rattle.icode.specs.Machine.{runs}
-use Rattle.io_edge.specs.Feed.{to_come}
+use Rattle.io_edge.specs.Feed.{to_come, limit}
 use Rattle.spiral_words.specs.declared.spiral_status.status.Status.TheVariants.{NoMemory}
 use Rattle.request_text.specs.Turns.{turns_of}
 use Rattle.commands.proofs.ConvolutionCommands.ConvolvedLemmas.{list_come, convolves_run}
 use Rattle.commands.proofs.SpiralInput.StatusLemmas.{quiet_ends, run_ends}
+use Rattle.commands.proofs.SpiralInput.OutcomeLemmas.{told_nothing}
+use Rattle.commands.specs.ConvolutionCommands.Convolved.{work_by_list}
 use Rattle.commands.proofs.convolution_commands.run_convolver.Goals as goal
 
 pub returns-in_err-run_vectors-clause-told : goal.returns-in_err-run_vectors-clause-told
@@ -88,3 +90,12 @@ pub returns-in_err-program-clause-told : goal.returns-in_err-program-clause-told
 returns-in_err-program-clause-told g c =
     let p = err_from_is_err_and c.from_residual.result c.from_residual.ensures.1 in
     rw (p.1, p.2) (c.in_err-program.ensures.told false (g.O.Sink.taken c.args.output.now))
+
+pub returns-in_err-machine-clause-told : goal.returns-in_err-machine-clause-told
+returns-in_err-machine-clause-told g c =
+    let start = to_come c.args.feed.now (g.I.Source.left c.args.input.now) in
+    let reached = to_come c.listed_program.new.feed (g.I.Source.left c.listed_program.new.input) in
+    let progress = c.in_ok-program.ensures.come.progress in
+    let p = err_from_is_err_and c.from_residual-in_err-machine.result c.from_residual-in_err-machine.ensures.1 in
+    rw (p.1, p.2) (told_nothing (work_by_list false c.args.request.now (limit - c.args.feed.now.taken)) start reached (g.O.Sink.taken c.args.output.now)
+    progress.bytes progress.consumed)

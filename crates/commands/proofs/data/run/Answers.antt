@@ -16,7 +16,7 @@ pub returns-in_err-program-clause-told : goal.returns-in_err-program-clause-told
 returns-in_err-program-clause-told g c =
     let start = to_come c.args.feed.now (g.I.Source.left c.args.input.now) in
     let p = err_from_is_err_and c.from_residual.result c.from_residual.ensures.1 in
-    rw (p.1, p.2) (stage_refused (chosen c.args.request.now) run_work (limit - c.args.feed.now.taken) start start (g.O.Sink.taken c.args.output.now) c.in_err-program.field-0.0
+    rw (p.1, p.2) (stage_refused (chosen c.args.request.now) run_work (limit - c.args.feed.now.taken) start (g.O.Sink.taken c.args.output.now) c.in_err-program.field-0.0
     c.in_err-program.ensures.refused c.in_err-program.ensures.refusal)
 
 pub returns-clause-told : goal.returns-clause-told

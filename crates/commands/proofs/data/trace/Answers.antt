@@ -9,7 +9,7 @@ use Rattle.commands.specs.SpiralInput.Orders.{procs_in}
 use Rattle.commands.specs.SpiralInput.Stage.{status_of}
 use Rattle.commands.proofs.RunLemmas.{no_stranger, trace_told}
 use Rattle.commands.proofs.SpiralInput.StageLemmas.{stage_refused}
-use Rattle.commands.proofs.StreamLemmas.{told_nothing}
+use Rattle.commands.proofs.SpiralInput.OutcomeLemmas.{unread_nothing}
 use Rattle.commands.proofs.data.trace.Goals as goal
 
 pub stream-requires-clause-turns : goal.stream-requires-clause-turns
@@ -19,14 +19,14 @@ pub returns-in_err-program-clause-told : goal.returns-in_err-program-clause-told
 returns-in_err-program-clause-told g c =
     let start = to_come c.args.feed.now (g.I.Source.left c.args.input.now) in
     let p = err_from_is_err_and c.from_residual.result c.from_residual.ensures.1 in
-    rw (p.1, p.2) (stage_refused (chosen c.args.request.now) (trace_work c.args.order.now) (limit - c.args.feed.now.taken) start start (g.O.Sink.taken c.args.output.now) c.in_err-program.field-0.0
+    rw (p.1, p.2) (stage_refused (chosen c.args.request.now) (trace_work c.args.order.now) (limit - c.args.feed.now.taken) start (g.O.Sink.taken c.args.output.now) c.in_err-program.field-0.0
     c.in_err-program.ensures.refused c.in_err-program.ensures.refusal)
 
 pub returns-in_err-front-clause-told : goal.returns-in_err-front-clause-told
 returns-in_err-front-clause-told g c =
     let start = to_come c.args.feed.now (g.I.Source.left c.args.input.now) in
     let p = err_from_is_err_and c.from_residual-in_err-front.result c.from_residual-in_err-front.ensures.1 in
-    rw (p.1, p.2) (told_nothing (work_for (command.Traces c.args.order.now) c.args.request.now (limit - c.args.feed.now.taken)) start start (g.O.Sink.taken c.args.output.now))
+    rw (p.1, p.2) (unread_nothing (work_for (command.Traces c.args.order.now) c.args.request.now (limit - c.args.feed.now.taken)) start (g.O.Sink.taken c.args.output.now))
 
 pub returns-clause-told : goal.returns-clause-told
 returns-clause-told g c =

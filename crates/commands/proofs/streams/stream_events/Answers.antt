@@ -1,4 +1,4 @@
-use Rattle.std.proofs.Common.{◌-◌, Ok, Err, refl, sym, ap, subst, ◌∙◌}
+use Rattle.std.proofs.Common.{◌-◌, Ok, Err, refl, sym, ap, subst}
 use Rattle.std.proofs.lemmas.Result.{err_from_is_err_and}
 use Rattle.icode.specs.Machine.{Code}
 use Rattle.io_edge.specs.Feed.{to_come, limit}
@@ -7,6 +7,8 @@ use Rattle.buffer_machine.specs.Listed.{HasNoStranger}
 use Rattle.commands.proofs.StreamLemmas.{front_cut, events_told}
 use Rattle.commands.proofs.SpiralInput.StatusLemmas.{fault_success, quiet_ends, run_ends, write_ends}
 use Rattle.spiral_words.specs.declared.spiral_status.status.Status.TheVariants.{NoMemory}
+use Rattle.commands.proofs.SpiralInput.OutcomeLemmas.{unread_nothing}
+use Rattle.commands.specs.Prepared.{stream_work}
 use Rattle.commands.proofs.streams.stream_events.Goals as goal
 
 pub run_buffered-requires-clause-no_stranger : goal.run_buffered-requires-clause-no_stranger
@@ -72,3 +74,15 @@ returns-in_err-vector-clause-ends g c =
     let read = g.I.Source.faults c.args.input.now in
     let p = err_from_is_err_and c.from_residual-in_err-vector.result c.from_residual-in_err-vector.ensures.1 in
     rw (p.1, p.2) (quiet_ends NoMemory c.args.feed.now.held read read (g.O.Sink.faults c.args.output.now) (g.O.Sink.taken c.args.output.now) refl (λ e. cc) (λ e. cc) (λ e. cc))
+
+pub returns-in_err-machine-clause-told : goal.returns-in_err-machine-clause-told
+returns-in_err-machine-clause-told g c =
+    let p = err_from_is_err_and c.from_residual.result c.from_residual.ensures.1 in
+    rw (p.1, p.2) (unread_nothing (stream_work c.args.made.now (order_of c.args.events) (limit - c.args.feed.now.taken))
+    (to_come c.args.feed.now (g.I.Source.left c.args.input.now)) (g.O.Sink.taken c.args.output.now))
+
+pub returns-in_err-vector-clause-told : goal.returns-in_err-vector-clause-told
+returns-in_err-vector-clause-told g c =
+    let p = err_from_is_err_and c.from_residual-in_err-vector.result c.from_residual-in_err-vector.ensures.1 in
+    rw (p.1, p.2) (unread_nothing (stream_work c.args.made.now (order_of c.args.events) (limit - c.args.feed.now.taken))
+    (to_come c.args.feed.now (g.I.Source.left c.args.input.now)) (g.O.Sink.taken c.args.output.now))

@@ -1,8 +1,5 @@
-use Rattle.std.proofs.Common.{true}
-use Rattle.spiral_words.specs.declared.Command.TheVariants as command
-use Rattle.spiral_main.proofs.Calls.{outcome_of}
 use Rattle.spiral_main.proofs.Good.{good_convolver}
 use Rattle.spiral_main.proofs.answers.convolver_is_good.Goals as goal
 
 pub returns : goal.returns
-returns c = λ schedule words bytes status text asked p. (good_convolver schedule).answer bytes status text (outcome_of words bytes (command.ByList schedule true) status text asked p)
+returns c = good_convolver

@@ -1,8 +1,11 @@
-use Rattle.spiral_words.specs.declared.Command.TheVariants as command
-use Rattle.spiral_words.specs.declared.RequestCommand.TheVariants as request
-use Rattle.spiral_main.proofs.Calls.{outcome_of}
-use Rattle.spiral_main.proofs.Good.{good_trace}
+use Rattle.commands.specs.Emission.Whole.{emission}
+use Rattle.commands.specs.SpiralInput.Orders.{procs_in}
+use Rattle.spiral_main.proofs.Good.{known, trace_text}
 use Rattle.spiral_main.proofs.answers.trace_is_good.Goals as goal
 
 pub returns : goal.returns
-returns c = λ order words bytes status text asked p. (good_trace order).answer bytes status text (outcome_of words bytes (command.ByRequest (request.Traces order)) status text asked p)
+returns c = λ order words bytes status text plan asked right p. (
+  emission plan.request plan.tree,
+  (known (procs_in order) bytes plan right).0,
+  trace_text words bytes status text plan order asked right p,
+)

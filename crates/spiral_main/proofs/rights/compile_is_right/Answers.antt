@@ -5,5 +5,5 @@ use Rattle.spiral_main.proofs.RightFront.{listing_is_right}
 use Rattle.spiral_main.proofs.rights.compile_is_right.Goals as goal
 
 pub returns : goal.returns
-returns c = λ words bytes m formula asked short gives.
-    inr (command.ByFormula m formula_command.Compile, asked, listing_is_right m bytes formula short gives)
+returns c = λ words bytes m formula asked right.
+    inr (command.ByFormula m formula_command.Compile, asked, listing_is_right m bytes formula right.short right.spells)

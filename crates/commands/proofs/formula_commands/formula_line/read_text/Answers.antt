@@ -2,7 +2,7 @@ use Rattle.std.proofs.Common.{◌≡◌, ◌++◌, ◌∷◌, [], false, eq-eqb,
 use Rattle.std.proofs.KnownBytes.{Consumes-trans, Consumes-kept}
 use Rattle.std.proofs.lemmas.Bool.{ne_eqb}
 use Rattle.std.proofs.lemmas.Result.{err_from_is_err_and}
-use Rattle.std.specs.Io.KnownBytes.{IsAtEnd}
+use Rattle.io_edge.specs.Told.{IsOver}
 use Rattle.io_edge.specs.Feed.{to_come}
 use Rattle.commands.specs.Equations.Front.{is_line_end}
 use Rattle.commands.proofs.FormulaCommands.CompiledLemmas.{text_failed}
@@ -30,7 +30,7 @@ returns-then-byte-eq10-clause-answer g c =
         omega (arith, given.2, before.invariant.taken, grown),
         before.invariant.short,
         omega (arith, grown),
-        line_ended 65536 text c.in-Some.byte (IsAtEnd (to_come c.byte.new.self (g.S.Source.left c.byte.new.source))) before.invariant.unended (eq-eqb c.in-Some.byte 10 c.if-byte-eq10.true),
+        line_ended 65536 text c.in-Some.byte (IsOver (to_come c.byte.new.self (g.S.Source.left c.byte.new.source))) before.invariant.unended (eq-eqb c.in-Some.byte 10 c.if-byte-eq10.true),
       ),
     )
 
@@ -69,6 +69,6 @@ returns-clause-answer g c =
         omega (arith, given.3, before.invariant.taken),
         before.invariant.short,
         omega arith,
-        line_cut 65536 text (IsAtEnd (to_come c.byte.new.self (g.S.Source.left c.byte.new.source))) before.invariant.unended given.1,
+        line_cut 65536 text (IsOver (to_come c.byte.new.self (g.S.Source.left c.byte.new.source))) before.invariant.unended given.1,
       ),
     )

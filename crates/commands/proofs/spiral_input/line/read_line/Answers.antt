@@ -3,7 +3,7 @@ use Rattle.commands.specs.Equations.Front.{is_line_end}
 use Rattle.std.proofs.lemmas.List.{length-take-le}
 use Rattle.std.proofs.lemmas.Bool.{ne_eqb}
 use Rattle.std.proofs.KnownBytes.{Consumes-trans, Consumes-kept}
-use Rattle.std.specs.Io.KnownBytes.{IsAtEnd}
+use Rattle.io_edge.specs.Told.{IsOver}
 use Rattle.io_edge.specs.Feed.{to_come}
 use Rattle.commands.proofs.SpiralInput.LineLemmas.{unended_push, line_ended, line_cut, line_longer}
 use Rattle.commands.proofs.spiral_input.line.read_line.Goals as goal
@@ -21,7 +21,7 @@ returns-then-byte-eq10-clause-answer g c =
         omega (arith, given.2, before.invariant.taken, count, grown),
         before.invariant.short,
         omega (arith, given.2, before.invariant.taken),
-        line_ended 256 text c.in-Some.byte (IsAtEnd (to_come c.byte.new.self (g.S.Source.left c.byte.new.source))) before.invariant.unended (eq-eqb c.in-Some.byte 10 c.if-byte-eq10.true),
+        line_ended 256 text c.in-Some.byte (IsOver (to_come c.byte.new.self (g.S.Source.left c.byte.new.source))) before.invariant.unended (eq-eqb c.in-Some.byte 10 c.if-byte-eq10.true),
       ),
     )
 
@@ -52,6 +52,6 @@ returns-clause-answer g c =
         omega (arith, given.3, before.invariant.taken, count),
         before.invariant.short,
         omega (arith, given.3, before.invariant.taken),
-        line_cut 256 text (IsAtEnd (to_come c.byte.new.self (g.S.Source.left c.byte.new.source))) before.invariant.unended given.1,
+        line_cut 256 text (IsOver (to_come c.byte.new.self (g.S.Source.left c.byte.new.source))) before.invariant.unended given.1,
       ),
     )

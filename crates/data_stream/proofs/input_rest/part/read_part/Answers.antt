@@ -1,7 +1,7 @@
-use Rattle.std.proofs.Common.{◌+◌, ◌++◌, ◌∷◌, [], sym, ◌∙◌, arith, length-append}
+use Rattle.std.proofs.Common.{◌++◌, ◌∷◌, [], sym, ◌∙◌, arith, length-append}
 use Rattle.std.proofs.KnownBytes.{Consumes-trans, Consumes-kept}
 use Rattle.std.proofs.lemmas.Result.{err_from_is_err_and}
-use Rattle.std.specs.Io.KnownBytes.{IsAtEnd}
+use Rattle.io_edge.specs.Told.{IsOver}
 use Rattle.io_edge.specs.Feed.{to_come}
 use Rattle.data_stream.specs.InputRest.Part.{ends_line}
 use Rattle.data_stream.proofs.InputRest.PartLemmas.{front_push, part_ended, part_cut, part_longer, part_failed}
@@ -28,7 +28,7 @@ returns-then-ends_part-clause-answer g c =
         omega (arith, given.2, before.invariant.taken, grown),
         before.invariant.short,
         omega (arith, grown),
-        part_ended text before.begins c.in-Some.byte (IsAtEnd (to_come c.byte.new.self (g.S.Source.left c.byte.new.source))) before.invariant.front (sym c.ends_part.ensures ∙ c.if-ends_part.true),
+        part_ended text before.begins c.in-Some.byte (IsOver (to_come c.byte.new.self (g.S.Source.left c.byte.new.source))) before.invariant.front (sym c.ends_part.ensures ∙ c.if-ends_part.true),
       ),
     )
 
@@ -66,6 +66,6 @@ returns-clause-answer g c =
         omega (arith, given.3, before.invariant.taken),
         before.invariant.short,
         omega arith,
-        part_cut text before.begins (IsAtEnd (to_come c.byte.new.self (g.S.Source.left c.byte.new.source))) before.invariant.front given.1,
+        part_cut text before.begins (IsOver (to_come c.byte.new.self (g.S.Source.left c.byte.new.source))) before.invariant.front given.1,
       ),
     )

@@ -1,0 +1,8 @@
+use Rattle.std.proofs.Common.{[]}
+use Rattle.commands.specs.Emission.Whole.{emission}
+use Rattle.spiral_main.proofs.Good.{c_text, known}
+use Rattle.spiral_main.proofs.answers.c_is_lean.Goals as goal
+
+pub returns : goal.returns
+returns c = λ words bytes status text plan asked right p.
+    (emission plan.request plan.tree, known [] bytes plan right, c_text words bytes status text plan asked right p)
