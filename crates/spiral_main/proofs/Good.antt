@@ -107,12 +107,21 @@ turned_spelt spells names text request p =
     let own = p.value in
     subst (λ (r : Request). spells text (Ok r)) (admitted_same (first_stranger names own.procs) own.procs own request p.behind) p.before
 
-good_plan : (names text : List ℕ) (plan : Planned) → planned names text (Ok plan) → IsGoodProgram plan (emission plan.request plan.tree)
-good_plan names text plan p =
+-- the request is in range, and the tree is the one that is planned for it
+pub plan_of : (names text : List ℕ) (plan : Planned) → planned names text (Ok plan)
+    → IsInRange plan.request × IsPlanned plan.request (Ok plan.tree)
+plan_of names text plan p =
     let request = p.value in
-    let in_range : IsInRange request = (turned_spelt spelt names text request p.before).1 in
-    let own : IsPlanned plan.request (Ok plan.tree) = subst (λ (r : Request). IsPlanned r (Ok plan.tree)) (sym p.behind.0) p.behind.1 in
-    let known = programs_are_good plan.request plan.tree (subst IsInRange (sym p.behind.0) in_range) own in
+    let in_range : IsInRange request = (turned_spelt spelt names text request p.before).1 in (
+      subst IsInRange (sym p.behind.0) in_range,
+      subst (λ (r : Request). IsPlanned r (Ok plan.tree)) (sym p.behind.0) p.behind.1,
+    )
+
+good_plan : (names text : List ℕ) (plan : Planned) → planned names text (Ok plan)
+    → IsGoodProgram plan (emission plan.request plan.tree)
+good_plan names text plan p =
+    let own = plan_of names text plan p in
+    let known = programs_are_good plan.request plan.tree own.0 own.1 in
     record { good = known.0; lean = known.1 }
 
 -- Command by command

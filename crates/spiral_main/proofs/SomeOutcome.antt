@@ -1,12 +1,19 @@
 -- Each call has an outcome.
-use Rattle.std.proofs.Common.{◌≡◌, ◌++◌, ◌∷◌, ℕ, Bool, true, false, List, [], Ok, Err, Result, refl, inl, inr}
+use Rattle.std.proofs.Common.{◌≡◌, ◌++◌, ◌∷◌, ℕ, Bool, true, false, List, [], length, Ok, Err, Result, refl, sym, subst, inl, inr}
+use Rattle.std.proofs.lemmas.Bool.{cases_lt}
 use Rattle.c_print.specs.CText.{c_text_of}
 use Rattle.listing_text.specs.Listing.{listing_of}
 use Rattle.matrix_meaning.specs.Asked.{asked_of}
 use Rattle.commands.specs.ConvolutionCommands.Convolution.{convolution}
 use Rattle.matrix_meaning.specs.Valid.{IsInRange}
 use Rattle.matrix_meaning.specs.declared.Request.{Request}
+use Rattle.plan_cert.proofs.SomeTable.{some_certificate}
+use Rattle.plan_cert.proofs.SomeVerdict.{some_verdict}
+use Rattle.plan_cert.specs.Table.{IsTableText}
+use Rattle.plan_cert.specs.Verdict.{IsVerdict}
+use Rattle.plan_search.proofs.WholeChosen.{whole_divides}
 use Rattle.plan_search.specs.declared.generating.GenerateFault.{GenerateFault}
+use Rattle.plan_search.specs.declared.generating.GenerateFault.TheVariants.{NoDivide, NoMemory, OverBudget, Root}
 use Rattle.request_text.proofs.OneAnswer.{line_answered}
 use Rattle.request_text.specs.Answer.{Answers}
 use Rattle.request_text.specs.Schedule.{Plan as Turns}
@@ -27,27 +34,34 @@ use Rattle.spiral_words.specs.declared.RequestCommand.TheVariants as request
 use Rattle.spl_ast.specs.Formula.{Formula, size_of}
 use Rattle.spl_ast.specs.Meaning as meanings
 use Rattle.spiral_words.specs.declared.spiral_status.status.Status.{Status}
-use Rattle.spiral_words.specs.declared.spiral_status.status.Status.TheVariants.{Success, Usage}
+use Rattle.spiral_words.specs.declared.spiral_status.status.Status.TheVariants.{Success, TooLong, Usage}
 use Rattle.tree_model.specs.Breakdown.{Breakdown}
 use Rattle.commands.proofs.ConvolutionCommands.Existence.{conv_planned_has}
 use Rattle.commands.proofs.Existence.{plan_exists}
 use Rattle.commands.proofs.FormulaCommands.Written.{formula_written}
+use Rattle.commands.proofs.ListingCommands.Existence.{loaded_has}
+use Rattle.commands.proofs.SpiralInput.Stages.{HasAnswer, both_have, given_has}
+use Rattle.commands.specs.Checked.{certificate_limit, status_of_verdict, verdict_text}
 use Rattle.commands.specs.Emission.Whole.{conv_emission}
 use Rattle.commands.specs.Equations.Apply.{apply_work}
+use Rattle.commands.specs.Equations.Cert.{cert_outcomes}
+use Rattle.commands.specs.Equations.Check.{check_outcomes, fitting}
 use Rattle.commands.specs.Equations.Commands.{outcomes_by_formula, outcomes_of}
 use Rattle.commands.specs.Equations.Compile.{compile_work}
 use Rattle.commands.specs.Equations.Convolutions.{conv_planned}
 use Rattle.commands.specs.Equations.Convolve.{convolve_work, convolver_work, outcomes_by_list}
+use Rattle.commands.specs.Equations.Exec.{exec_outcomes, exec_work}
 use Rattle.commands.specs.Equations.Formula.{formula_text}
 use Rattle.commands.specs.Equations.Formulas.{formed, written}
-use Rattle.commands.specs.Equations.Front.{Front, Work, by_front, line, ordered, room_behind, taken_from}
+use Rattle.commands.specs.Equations.Front.{Front, Work, by_front, line, ordered, part, room_behind, taken_from}
 use Rattle.commands.specs.Equations.Orders.{Planned, chosen, planned, turned}
 use Rattle.commands.specs.Equations.Requests.{document_outcomes, outcomes_by_request}
 use Rattle.commands.specs.Equations.Run.{run_work}
 use Rattle.commands.specs.Equations.Sample.{sample_lines}
 use Rattle.commands.specs.Equations.Trace.{run_lines, trace_work}
-use Rattle.commands.specs.Equations.Works.{Wants, a_first, all, by_first, mapping, status_by, the_first, writing}
+use Rattle.commands.specs.Equations.Works.{Wants, a_first, all, by_first, judging, mapping, status_by, the_first, writing}
 use Rattle.commands.specs.FormulaCommands.Letters as formulas
+use Rattle.commands.specs.ListingCommands.Listed.{loaded, result_of}
 use Rattle.commands.specs.Emission.Whole.{emission}
 use Rattle.commands.specs.PlanText.{plan_text}
 use Rattle.commands.specs.Planned.{IsPlanned}
@@ -56,24 +70,9 @@ use Rattle.commands.specs.SpiralInput.Commands.{admitted, first_stranger}
 use Rattle.commands.specs.SpiralInput.Orders.{procs_in}
 use Rattle.commands.specs.SpiralInput.Outcomes.{Outcomes}
 use Rattle.commands.specs.SpiralInput.Stage.{Stage, ◌>>=◌, given}
-use Rattle.spiral_main.specs.Always.{is_by_equation}
 use Rattle.spiral_main.specs.Outcome.{IsOutcome}
-use Rattle.spiral_main.proofs.Good.{turned_spelt}
-
--- a stage has an answer
-abbrev HasAnswer : {A : Type 0} → Stage A → Type 0
-HasAnswer {A} stage = (result : Result A Status) × stage result
-
-given_has : {A : Type 0} (answer : Result A Status) → HasAnswer (given answer)
-given_has answer = (answer, refl)
-
-behind_has : {A B : Type 0} (first : Stage A) (next : A → Stage B) (value : A) → first (Ok value) → HasAnswer (next value) → HasAnswer (first >>= next)
-behind_has first next value before (Ok later, behind) = (Ok later, record { value = value; before = before; behind = behind })
-behind_has first next value before (Err status, behind) = (Err status, inr (record { value = value; before = before; behind = behind }))
-
-both_have : {A B : Type 0} (first : Stage A) (next : A → Stage B) → HasAnswer first → ((value : A) → first (Ok value) → HasAnswer (next value)) → HasAnswer (first >>= next)
-both_have first next (Ok value, before) later = behind_has first next value before (later value before)
-both_have first next (Err status, before) later = (Err status, inl before)
+use Rattle.spiral_main.proofs.Good.{plan_of, turned_spelt}
+use Rattle.spiral_main.proofs.RightRequests.{planned_is_right}
 
 -- ---- what a line orders
 
@@ -99,6 +98,19 @@ planned_has names text =
 formed_has : (names text : List ℕ) → HasAnswer (formed names text)
 formed_has names text = both_have (written text) _ (formula_written text) (λ f h. given_has (admitted (first_stranger names 1) 1 f))
 
+-- `check` goes by no budget
+fitting_has : (r : Request) (answer : Result Breakdown GenerateFault) → IsPlanned r answer → HasAnswer (fitting r)
+fitting_has r (Ok t) h = (Ok r, (refl, (h.0, whole_divides r t h.1.tree)))
+fitting_has r (Err (Root power)) h = (Err (status_of_generate (Root power)), (Root power, h, refl))
+fitting_has r (Err NoDivide) h = (Err (status_of_generate NoDivide), (NoDivide, h, refl))
+fitting_has r (Err (OverBudget cost budget)) h =
+    let tree = h.1.reached in (Ok r, (refl, (h.0, whole_divides r tree.0 tree.1)))
+fitting_has r (Err NoMemory) h = absurd h
+
+fit_has : (text : List ℕ) → HasAnswer (spelt text >>= fitting)
+fit_has text =
+    both_have (spelt text) fitting (spelt_has text) (λ r h. let plan = plan_exists r h.1 in fitting_has r plan.0 plan.1)
+
 -- ---- what is right behind it
 
 -- some status and text are right
@@ -106,17 +118,29 @@ abbrev HasText : Outcomes → List ℕ → Type 0
 HasText outcomes bytes = (status : Status) × (text : List ℕ) × outcomes.answer bytes status text
 
 by_answer : {A : Type 0} (front : Front) (orders : List ℕ → Stage A) (work : A → Work) (bytes : List ℕ)
-    → ((value : A) (room : ℕ) (behind : List ℕ) → HasText (work value room) behind) → HasAnswer (ordered front orders bytes)
-    → HasText (by_front front orders work) bytes
+    → ((text : List ℕ) (value : A) (room : ℕ) (behind : List ℕ) → orders text (Ok value) → HasText (work value room) behind)
+    → HasAnswer (ordered front orders bytes) → HasText (by_front front orders work) bytes
 by_answer front orders work bytes has (Ok value, gives) =
-    let found = has value (room_behind front bytes) (front.behind bytes) in (found.0, found.1, inr (value, gives, found.2))
+    let found = has gives.value value (room_behind front bytes) (front.behind bytes) gives.behind in
+    (found.0, found.1, inr (value, gives, found.2))
 by_answer front orders work bytes has (Err status, gives) = (status, [], inl (gives, refl))
 
+-- for each value that a text orders
+each_has : {A : Type 0} (front : Front) (orders : List ℕ → Stage A) (work : A → Work) (bytes : List ℕ)
+    → ((text : List ℕ) → HasAnswer (orders text))
+    → ((text : List ℕ) (value : A) (room : ℕ) (behind : List ℕ) → orders text (Ok value) → HasText (work value room) behind)
+    → HasText (by_front front orders work) bytes
+each_has front orders work bytes each has =
+    by_answer front orders work bytes has
+    (both_have (given (taken_from front bytes)) orders (given_has (taken_from front bytes)) (λ text is. each text))
+
+-- for any value
 front_has : {A : Type 0} (front : Front) (orders : List ℕ → Stage A) (work : A → Work) (bytes : List ℕ)
-    → ((text : List ℕ) → HasAnswer (orders text)) → ((value : A) (room : ℕ) (behind : List ℕ) → HasText (work value room) behind)
+    → ((text : List ℕ) → HasAnswer (orders text))
+    → ((value : A) (room : ℕ) (behind : List ℕ) → HasText (work value room) behind)
     → HasText (by_front front orders work) bytes
 front_has front orders work bytes each has =
-    by_answer front orders work bytes has (both_have (given (taken_from front bytes)) orders (given_has (taken_from front bytes)) (λ text is. each text))
+    each_has front orders work bytes each (λ text value room behind orders. has value room behind)
 
 equation_has : (text : List ℕ) (room : ℕ) (bytes : List ℕ) → HasText (writing (λ t. t ≡ text) room) bytes
 equation_has text room bytes = (Success, text, (refl, refl))
@@ -134,30 +158,53 @@ first_has text (h ∷ later) = (text h later, refl)
 
 -- ---- command by command
 
-each_has : (names : List ℕ) (text : Planned → List ℕ) (bytes : List ℕ) → HasText (by_front (line 256) (planned names) (λ (plan : Planned). writing (λ t. t ≡ text plan))) bytes
-each_has names text bytes =
+equations_have : (names : List ℕ) (text : Planned → List ℕ) (bytes : List ℕ) → HasText (by_front (line 256) (planned names) (λ (plan : Planned). writing (λ t. t ≡ text plan))) bytes
+equations_have names text bytes =
     front_has (line 256) (planned names) (λ (plan : Planned). writing (λ t. t ≡ text plan)) bytes (planned_has names) (λ plan room behind. equation_has (text plan) room behind)
 
-document_has : (wanted : Document) (bytes : List ℕ) → is_by_equation (command.ByRequest (request.Writes wanted)) ≡ true → HasText (document_outcomes wanted) bytes
-document_has document.Plan bytes is = each_has [] (λ plan. plan_text plan.request plan.tree) bytes
-document_has document.Formula bytes is = each_has [] formula_text bytes
-document_has document.Code bytes is = each_has [] (λ plan. listing_of (emission plan.request plan.tree)) bytes
-document_has document.C bytes is = each_has [] (λ plan. c_text_of (emission plan.request plan.tree)) bytes
-document_has document.Cert bytes is = absurd (cc)
-document_has (document.Sample seed schedule) bytes is = each_has (named schedule) (λ plan. sample_lines plan seed) bytes
+-- the request that has a plan has a certificate
+certificate_has : (bytes : List ℕ) → HasText cert_outcomes bytes
+certificate_has bytes =
+    each_has (line 256) (planned []) (λ (plan : Planned). writing (IsTableText plan.request)) bytes (planned_has [])
+    (λ text plan room behind orders.
+    let known = plan_of [] text plan orders in
+    let right = planned_is_right plan.request plan.tree known.0 known.1 in
+    let table = some_certificate plan.request right.0 right.1 in (Success, table.0, (refl, table.1)))
 
-request_has : (wanted : RequestCommand) (bytes : List ℕ) → is_by_equation (command.ByRequest wanted) ≡ true → HasText (outcomes_by_request wanted) bytes
-request_has (request.Writes wanted) bytes is = document_has wanted bytes is
-request_has (request.Runs order) bytes is =
+document_has : (wanted : Document) (bytes : List ℕ) → HasText (document_outcomes wanted) bytes
+document_has document.Plan bytes = equations_have [] (λ plan. plan_text plan.request plan.tree) bytes
+document_has document.Formula bytes = equations_have [] formula_text bytes
+document_has document.Code bytes = equations_have [] (λ plan. listing_of (emission plan.request plan.tree)) bytes
+document_has document.C bytes = equations_have [] (λ plan. c_text_of (emission plan.request plan.tree)) bytes
+document_has document.Cert bytes = certificate_has bytes
+document_has (document.Sample seed schedule) bytes = equations_have (named schedule) (λ plan. sample_lines plan seed) bytes
+
+-- what stands behind the line has a verdict, or is too long
+judged_has : (r : Request) → IsInRange r → (room : ℕ) (bytes : List ℕ) → HasText (judging (IsVerdict r) room) bytes
+judged_has r range room bytes = elim (cases_lt certificate_limit (length bytes)) [
+  | inl over ↦ (TooLong certificate_limit, [], inl (over, refl, refl))
+  | inr few ↦
+      let v = some_verdict r bytes range in
+      (status_of_verdict v.0, verdict_text v.0, inr (few, (v.0, v.1, refl, refl)))
+]
+
+check_has : (bytes : List ℕ) → HasText check_outcomes bytes
+check_has bytes =
+    each_has (line 256) (λ text. spelt text >>= fitting) (λ (r : Request). judging (IsVerdict r)) bytes fit_has
+    (λ text r room behind orders. judged_has r (subst IsInRange (sym orders.behind.0) orders.before.1) room behind)
+
+request_has : (wanted : RequestCommand) (bytes : List ℕ) → HasText (outcomes_by_request wanted) bytes
+request_has (request.Writes wanted) bytes = document_has wanted bytes
+request_has (request.Runs order) bytes =
     front_has (line 256) (planned (procs_in order)) run_work bytes (planned_has (procs_in order))
     (λ plan room behind. mapping_has all plan.request.size plan.request.modulus (λ vectors t. t ≡ lines (asked_of plan.request) vectors) room behind
     (λ vectors. (lines (asked_of plan.request) vectors, refl)))
-request_has (request.Traces order) bytes is =
+request_has (request.Traces order) bytes =
     front_has (line 256) (planned (procs_in order)) (trace_work order) bytes (planned_has (procs_in order))
     (λ plan room behind. mapping_has all plan.request.size plan.request.modulus
     (λ vectors t. t ≡ listing_of (emission plan.request plan.tree) ++ run_lines order plan vectors) room behind
     (λ vectors. (listing_of (emission plan.request plan.tree) ++ run_lines order plan vectors, refl)))
-request_has request.Judges bytes is = absurd (cc)
+request_has request.Judges bytes = check_has bytes
 
 formula_has : (m : ℕ) (wanted : FormulaCommand) (bytes : List ℕ) → HasText (outcomes_by_formula m wanted) bytes
 formula_has m formula.Compile bytes =
@@ -178,11 +225,17 @@ list_has schedule true bytes =
     (by_first (λ h later t. t ≡ listing_of (conv_emission plan.request plan.tree h))) room behind
     (first_has (λ h later. listing_of (conv_emission plan.request plan.tree h))))
 
-command_has : (wanted : Command) (bytes : List ℕ) → is_by_equation wanted ≡ true → HasText (outcomes_of wanted) bytes
-command_has (command.ByRequest wanted) bytes is = request_has wanted bytes is
-command_has (command.ByFormula m wanted) bytes is = formula_has m wanted bytes
-command_has (command.ByListing schedule) bytes is = absurd (cc)
-command_has (command.ByList schedule code) bytes is = list_has schedule code bytes
+listing_has : (schedule : Turns) (bytes : List ℕ) → HasText (exec_outcomes schedule) bytes
+listing_has schedule bytes =
+    front_has (part 1048576) (loaded schedule) exec_work bytes (loaded_has schedule)
+    (λ program room behind. mapping_has all program.size program.modulus (λ vectors t. t ≡ lines (result_of program) vectors)
+    room behind (λ vectors. (lines (result_of program) vectors, refl)))
+
+command_has : (wanted : Command) (bytes : List ℕ) → HasText (outcomes_of wanted) bytes
+command_has (command.ByRequest wanted) bytes = request_has wanted bytes
+command_has (command.ByFormula m wanted) bytes = formula_has m wanted bytes
+command_has (command.ByListing schedule) bytes = listing_has schedule bytes
+command_has (command.ByList schedule code) bytes = list_has schedule code bytes
 
 -- ---- every call
 
@@ -190,9 +243,9 @@ called_has : (words : List (List ℕ)) (bytes : List ℕ) (wanted : Command) →
     → (status : Status) × (text : List ℕ) × IsOutcome words bytes status text
 called_has words bytes wanted asked found = (found.0, found.1, inr (wanted, asked, found.2))
 
-pub some_outcome : (words : List (List ℕ)) (bytes : List ℕ) → ((wanted : Command) → IsAsked words wanted → is_by_equation wanted ≡ true)
+pub some_outcome : (words : List (List ℕ)) (bytes : List ℕ)
     → (status : Status) × (text : List ℕ) × IsOutcome words bytes status text
-some_outcome words bytes each = elim (asked_or_usage words) [
-  | inl asked ↦ called_has words bytes asked.0 asked.1 (command_has asked.0 bytes (each asked.0 asked.1))
+some_outcome words bytes = elim (asked_or_usage words) [
+  | inl asked ↦ called_has words bytes asked.0 asked.1 (command_has asked.0 bytes)
   | inr usage ↦ (Usage, [], inl ((refl, usage), refl))
 ]

@@ -2,4 +2,3 @@ pub mod Outcome
 pub mod Good
 pub mod RightFront
 pub mod Right
-pub mod Always

@@ -1,16 +1,13 @@
 //! The program: words and an input to an output, a note and a status.
 #![tactic(auto)]
 
-ghost use Rattle.std.specs.Prelude.{◌≡◌, ◌≢◌, ◌⊎◌, ℕ, true, List, Ok, Some};
+ghost use Rattle.std.specs.Prelude.{◌≡◌, ◌≢◌, ◌⊎◌, ℕ, List, Ok, Some};
 ghost use Rattle.std.specs.declared.option.Option.{Option};
 ghost use Rattle.commands.specs.Planned.{IsPlanned};
 ghost use Rattle.matrix_meaning.specs.Valid.{IsInRange, IsValid};
 ghost use Rattle.matrix_meaning.specs.declared.Request.{Request as SpecRequest};
-ghost use Rattle.spiral_words.specs.Asked.{IsAsked};
-ghost use Rattle.spiral_words.specs.declared.Command.{Command as SpecCommand};
 ghost use Rattle.spiral_words.specs.declared.spiral_status.status.Status.{Status as SpecStatus};
 ghost use Rattle.spiral_words.specs.declared.spiral_status.status.Status.TheVariants.{ReadFault, WriteFault, NoMemory};
-ghost use Rattle.spiral_main.specs.Always.{is_by_equation};
 ghost use Rattle.spiral_main.specs.Outcome.{Accounts, AccountsFor, IsOutcome};
 ghost use Rattle.spiral_main.specs.Right.{IsRightCall, IsWithinBudget, Succeeds};
 ghost use Rattle.tree_model.specs.Breakdown.{Breakdown};
@@ -61,9 +58,8 @@ pub fn planned_requests_are_right()
         → IsValid request × CanDivideWhole request × IsWithinBudget request }
 {}
 
-/// A call has an outcome, but for those of `cert`, `check` and `exec`, of which this is not shown.
+/// Each call has an outcome.
 pub fn calls_have_an_outcome()
     ensures { (words : List (List ℕ)) (bytes : List ℕ)
-        → ((wanted : SpecCommand) → IsAsked words wanted → is_by_equation wanted ≡ true)
         → (status : SpecStatus) × (text : List ℕ) × IsOutcome words bytes status text }
 {}

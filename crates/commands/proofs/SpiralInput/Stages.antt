@@ -1,5 +1,5 @@
 -- Stages that have one right answer.
-use Rattle.std.proofs.Common.{◌≡◌, ℕ, List, Ok, Err, Result, sym, ap, subst, ◌∙◌, inl, inr}
+use Rattle.std.proofs.Common.{◌≡◌, ℕ, List, Ok, Err, Result, refl, sym, ap, subst, ◌∙◌, inl, inr}
 use Rattle.spiral_words.specs.declared.spiral_status.status.Status.{Status}
 use Rattle.commands.specs.SpiralInput.Stage.{Stage, given, GoesOn, ◌>>=◌, IsAnswerBy}
 
@@ -61,3 +61,19 @@ pub of_answers : {A : Type 0} (Holds : Type 0) (stage : Stage A) (Settles : A �
 of_answers Holds stage Settles a b s t decided without by (inl p) (inl q) = without (ended_same a b (decided (Err a) (Err b) p.0 q.0)) (p.1 ∙ sym q.1)
 of_answers Holds stage Settles a b s t decided without by (inl p) (inr q) = absurd (done_ended q.0 a (decided (Ok q.0) (Err a) q.1 p.0))
 of_answers Holds stage Settles a b s t decided without by (inr p) q = by p.0 p.1 p.2 (answer_for stage Settles p.0 b t decided p.1 q)
+
+-- ---- stages that have an answer
+
+abbrev pub HasAnswer : {A : Type 0} → Stage A → Type 0
+HasAnswer {A} stage = (result : Result A Status) × stage result
+
+pub given_has : {A : Type 0} (answer : Result A Status) → HasAnswer (given answer)
+given_has answer = (answer, refl)
+
+behind_has : {A B : Type 0} (first : Stage A) (next : A → Stage B) (value : A) → first (Ok value) → HasAnswer (next value) → HasAnswer (first >>= next)
+behind_has first next value before (Ok later, behind) = (Ok later, record { value = value; before = before; behind = behind })
+behind_has first next value before (Err status, behind) = (Err status, inr (record { value = value; before = before; behind = behind }))
+
+pub both_have : {A B : Type 0} (first : Stage A) (next : A → Stage B) → HasAnswer first → ((value : A) → first (Ok value) → HasAnswer (next value)) → HasAnswer (first >>= next)
+both_have first next (Ok value, before) later = behind_has first next value before (later value before)
+both_have first next (Err status, before) later = (Err status, inl before)
