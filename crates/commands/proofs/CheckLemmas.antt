@@ -40,7 +40,8 @@ check_barred request room before out fault barred =
 
 -- the rest can't be judged
 unread_told : (request : Request) (room : ℕ) (before after out : Option (List ℕ)) (read : List ℕ) (fault : RestFault)
-    → Consumes before after read → GivesRest certificate_limit read (IsOver after) (Err fault) → SourceMeets (judges request room) before after out out (status_of_rest fault)
+    → Consumes before after read → GivesRest certificate_limit read (IsOver after) (Err fault)
+    → SourceMeets (judges request room) before after out out (status_of_rest fault)
 unread_told request room before after out read rest_fault.TooLong consumed given = record {
   read = read;
   consumed = consumed;
@@ -65,7 +66,8 @@ unread_told request room before after out read rest_fault.ReadFault consumed giv
 unread_told request room before after out read rest_fault.NoMemory consumed given = told_nothing (judges request room) before after out read consumed
 
 pub check_unread : (request : Request) (room : ℕ) (before after out : Option (List ℕ)) (read : List ℕ) (fault : RestFault)
-    → IsAdmitted request → Consumes before after read → GivesRest certificate_limit read (IsOver after) (Err fault) → SourceMeets (checking request room) before after out out (status_of_rest fault)
+    → IsAdmitted request → Consumes before after read → GivesRest certificate_limit read (IsOver after) (Err fault)
+    → SourceMeets (checking request room) before after out out (status_of_rest fault)
 check_unread request room before after out read fault there consumed given =
     stage_told (fitting request) judges room request before after out out (status_of_rest fault) (refl, there) (unread_told request room before after out read fault consumed given)
 
@@ -96,7 +98,8 @@ judged_meets request room bytes left out out' (verdict.Wrong size given found) f
 }
 
 judged_told : (request : Request) (room : ℕ) (before after out out' : Option (List ℕ)) (read text : List ℕ) (found : Verdict)
-    → Consumes before after read → text ≡ read → IsOver after → length read ≤ certificate_limit → IsVerdict request text found → Appends out out' (verdict_text found)
+    → Consumes before after read → text ≡ read → IsOver after → length read ≤ certificate_limit
+    → IsVerdict request text found → Appends out out' (verdict_text found)
     → SourceMeets (judges request room) before after out out' (status_of_verdict found)
 judged_told request room before after out out' read text found consumed same end short judged w = record {
   read = read;
@@ -111,14 +114,16 @@ judged_told request room before after out out' read text found consumed same end
 
 -- a rest that was judged
 pub check_judged : (request : Request) (room : ℕ) (before after out out' : Option (List ℕ)) (read text : List ℕ) (found : Verdict)
-    → IsAdmitted request → Consumes before after read → text ≡ read → IsOver after → length read ≤ certificate_limit → IsVerdict request text found → Appends out out' (verdict_text found)
+    → IsAdmitted request → Consumes before after read → text ≡ read → IsOver after → length read ≤ certificate_limit
+    → IsVerdict request text found → Appends out out' (verdict_text found)
     → SourceMeets (checking request room) before after out out' (status_of_verdict found)
 check_judged request room before after out out' read text found there consumed same end short judged w =
     stage_told (fitting request) judges room request before after out out' (status_of_verdict found) (refl, there)
     (judged_told request room before after out out' read text found consumed same end short judged w)
 
 cut_told : (request : Request) (room : ℕ) (before after out out' : Option (List ℕ)) (read text : List ℕ) (cost : ℕ)
-    → Consumes before after read → text ≡ read → IsOver after → length read ≤ certificate_limit → IsVerdict request text (verdict.Least cost) → AppendsPrefix out out' (least_line cost)
+    → Consumes before after read → text ≡ read → IsOver after → length read ≤ certificate_limit
+    → IsVerdict request text (verdict.Least cost) → AppendsPrefix out out' (least_line cost)
     → SourceMeets (judges request room) before after out out' WriteFault
 cut_told request room before after out out' read text cost consumed same end short judged w = record {
   read = read;
@@ -143,7 +148,8 @@ cut_told request room before after out out' read text cost consumed same end sho
 
 -- a rest that was judged right, and the line that says so was not written whole
 pub check_cut : (request : Request) (room : ℕ) (before after out out' : Option (List ℕ)) (read text : List ℕ) (cost : ℕ)
-    → IsAdmitted request → Consumes before after read → text ≡ read → IsOver after → length read ≤ certificate_limit → IsVerdict request text (verdict.Least cost) → AppendsPrefix out out' (least_line cost)
+    → IsAdmitted request → Consumes before after read → text ≡ read → IsOver after → length read ≤ certificate_limit
+    → IsVerdict request text (verdict.Least cost) → AppendsPrefix out out' (least_line cost)
     → SourceMeets (checking request room) before after out out' WriteFault
 check_cut request room before after out out' read text cost there consumed same end short judged w =
     stage_told (fitting request) judges room request before after out out' WriteFault (refl, there)

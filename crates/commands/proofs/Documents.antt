@@ -65,7 +65,8 @@ c_document request program text made told =
 
 -- What the command comes to
 
-pub document_meets : (wanted : Document) (request : Request) (room : ℕ) (bytes left : List ℕ) (out out' : Option (List ℕ)) (text : List ℕ)
+pub document_meets : (wanted : Document) (request : Request) (room : ℕ) (bytes left : List ℕ)
+    (out out' : Option (List ℕ)) (text : List ℕ)
     → IsDocument wanted request text → Appends out out' text
     → Meets (staged (chosen request) (document_work wanted) room) bytes left out out' Success
 document_meets wanted request room bytes left out out' text is wrote =

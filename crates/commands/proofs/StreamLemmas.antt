@@ -36,7 +36,8 @@ use Rattle.commands.proofs.SpiralInput.Within.{Within}
 -- The front is not written whole
 
 pub front_cut : (made : Prepared) (way : Order) (room : ℕ) (before out out' : Option (List ℕ))
-    → AppendsPrefix out out' made.front.items → SourceMeets (stream_work made way room) before before out out' WriteFault
+    → AppendsPrefix out out' made.front.items
+    → SourceMeets (stream_work made way room) before before out out' WriteFault
 front_cut made way room before out out' wrote =
     let some : 0 < made.program.size = omega (arith, made.program.header.of_size.0) in
     let size = made.program.size in
@@ -59,7 +60,8 @@ work_by front code text = mapping all code.size code.modulus (λ vectors t. t �
 -- a stream of the program's code
 of_code : (front : List ℕ) (code : Code) (program : Program) (text : Code → List ℕ → List ℕ) (room : ℕ) (before after start out' : Option (List ℕ))
     (result : Result (Unit {0}) StreamFault)
-    → code ≡ code_of program → SourceMeets (work_by front code text room) before after start out' (status_of_stream result)
+    → code ≡ code_of program
+    → SourceMeets (work_by front code text room) before after start out' (status_of_stream result)
     → SourceMeets (work_by front (code_of program) text room) before after start out' (status_of_stream result)
 of_code front code program text room before after start out' result same p =
     subst (λ (k : Code). SourceMeets (work_by front k text room) before after start out' (status_of_stream result)) same p

@@ -20,19 +20,22 @@ use Rattle.fast_main.specs.Outcome.{IsRefused, IsTranslated, IsDefined, IsInside
 use Rattle.fast_main.specs.Status.{listing_limit, status_of_rest, status_of_words}
 
 -- what was read of a listing that has ended is the first part of the input
-is_first_part : (feed : Fed) (left : Option (List ℕ)) (read listing more : List ℕ) → IsWholePart read (IsOver (to_come feed left)) listing → Tells left more
+is_first_part : (feed : Fed) (left : Option (List ℕ)) (read listing more : List ℕ)
+    → IsWholePart read (IsOver (to_come feed left)) listing → Tells left more
     → first_part ((read ++ feed.held) ++ more) ≡ listing
 is_first_part feed left read listing more whole tells =
     ap first_part (append_assoc read feed.held more)
     ∙ (whole.parts (feed.held ++ more) (over_left (to_come feed left) (feed.held ++ more) (tells_held feed.held left more tells))).0
 
 -- the bytes that the feed holds have been read too
-pub listing_ended : (told left : Option (List ℕ)) (held read : List ℕ) → Consumes told (prepend_known held left) read → HasPartEnded read (IsOver (prepend_known held left)) → HasReadListing told left
+pub listing_ended : (told left : Option (List ℕ)) (held read : List ℕ) → Consumes told (prepend_known held left) read
+    → HasPartEnded read (IsOver (prepend_known held left)) → HasReadListing told left
 listing_ended told left held read c end = (read ++ held, consumes_held told left read held c, still_ended read held _ _ end (left_over held left))
 
 -- The words ask for nothing, or memory ran out
 
-pub told_no_words : (given : List (List ℕ)) (told out : Option (List ℕ)) (refusal : Refusal) → (refusal ≡ words.Usage → asked given ≡ None) → AccountsFor given told told out out (status_of_words refusal)
+pub told_no_words : (given : List (List ℕ)) (told out : Option (List ℕ)) (refusal : Refusal)
+    → (refusal ≡ words.Usage → asked given ≡ None) → AccountsFor given told told out out (status_of_words refusal)
 told_no_words given told out words.Usage nothing = record {
   read = [];
   consumed = Consumes-nil told;
@@ -67,7 +70,8 @@ module _ (given : List (List ℕ)) (wanted : Asked) (out : Option (List ℕ)) (i
   judged status other = record { usage = λ e. absurd (other e); nothing = λ e. absurd (is_asked e) }
 
   pub told_unread : (told : Option (List ℕ)) (feed : Fed) (left : Option (List ℕ)) (read : List ℕ) (fault : RestFault) (ended : Type 0) (before taken : ℕ) → Consumes told (to_come feed left) read
-      → GivesPart listing_limit read ended before taken (Err fault) → (fault ≡ rest.ReadFault → feed.held ≡ []) → AccountsFor given told left out out (status_of_rest fault)
+      → GivesPart listing_limit read ended before taken (Err fault) → (fault ≡ rest.ReadFault → feed.held ≡ [])
+      → AccountsFor given told left out out (status_of_rest fault)
   told_unread told feed left read rest.ReadFault ended before taken c gives empty = record {
     read = read ++ feed.held;
     consumed = consumes_held told left read feed.held c;
@@ -120,7 +124,8 @@ module _ (given : List (List ℕ)) (wanted : Asked) (out : Option (List ℕ)) (i
           };
     }
 
-    outcome : (more text : List ℕ) → Tells left more → IsTranslated wanted listing text → IsOutcome given ((read ++ feed.held) ++ more) Success text
+    outcome : (more text : List ℕ) → Tells left more → IsTranslated wanted listing text
+        → IsOutcome given ((read ++ feed.held) ++ more) Success text
     outcome more text tells translated =
         let same = sym (is_first_part feed left read listing more whole tells) in
         inr (wanted, is, inr (subst (λ (l : List ℕ). length l ≤ listing_limit) same short, inr (refl, subst (λ l. IsTranslated wanted l text) same translated)))

@@ -104,7 +104,8 @@ pub record Accounts (words : List (List ℕ)) (bytes left : List ℕ) (before af
   -- where nothing failed, they are the outcome
   pub answer : IsDefined status → (text : List ℕ) × IsOutcome words bytes status text × Appends before after text
   -- a read failed, behind bytes that may be the front of a listing's, and nothing was written
-  pub read_fault : status ≡ ReadFault → (asked words ≢ None) × ((read : List ℕ) × (bytes ≡ read ++ left) × IsInPart listing_limit read) × Appends before after []
+  pub read_fault : status ≡ ReadFault
+      → (asked words ≢ None) × ((read : List ℕ) × (bytes ≡ read ++ left) × IsInPart listing_limit read) × Appends before after []
   -- a write failed at the text that the bytes call for, of which the output took a front
   pub write_fault : status ≡ WriteFault → (text : List ℕ) × IsOutcome words bytes Success text × AppendsPrefix before after text
 

@@ -25,8 +25,8 @@ pub fn calls_have_one_outcome()
         → IsOutcome words bytes a s → IsOutcome words bytes b t → s ≡ t }
 {}
 
-/// Of an input that tells its bytes, these and the words account for the status and the output, and the input tells what
-/// is left of them.
+/// Of an input that tells its bytes, these and the words account for the status and the output, and the input tells
+/// what is left of them.
 pub fn told_inputs_are_accounted_for()
     ensures { (words : List (List ℕ)) (bytes : List ℕ) (left before after : Option (List ℕ))
         (status : SpecStatus) → AccountsFor words (Some bytes) left before after status

@@ -22,13 +22,15 @@ called words wanted asked = record {
 }
 
 pub accounted : (words : List (List ℕ)) (wanted : Command) (before left out out' : Option (List ℕ)) (status : Status)
-    → IsAsked words wanted → SourceMeets (outcomes_of wanted) before left out out' status → SourceMeets (call_outcomes words) before left out out' status
+    → IsAsked words wanted → SourceMeets (outcomes_of wanted) before left out out' status
+    → SourceMeets (call_outcomes words) before left out out' status
 accounted words wanted before left out out' status asked p =
     told_within (outcomes_of wanted) (call_outcomes words) before left out out' status (called words wanted asked) p
 
 -- a call that ends with the words
 pub accounted_words : (words : List (List ℕ)) (before out : Option (List ℕ)) (status : Status)
-    → (IsDefined status → commanded words (Err status)) → IsEarly status → SourceMeets (call_outcomes words) before before out out status
+    → (IsDefined status → commanded words (Err status)) → IsEarly status
+    → SourceMeets (call_outcomes words) before before out out status
 accounted_words words before out status refused early =
     unread_meets (call_outcomes words) before out out status (λ bytes.
     meets_nothing (call_outcomes words) bytes bytes out status (λ d. inl (refused d, refl)) early.read early.write)

@@ -1,7 +1,7 @@
 //! The program: words and an input to an output, a note and a status.
 #![tactic(auto)]
 
-ghost use Rattle.std.specs.Prelude.{◌≡◌, ◌≢◌, ◌⊎◌, ℕ, true, List, Ok, Some};
+ghost use Rattle.std.specs.Prelude.{◌≡◌, ◌≢◌, ◌⊎◌, ℕ, List, Ok, Some};
 ghost use Rattle.std.specs.declared.option.Option.{Option};
 ghost use Rattle.commands.specs.Planned.{IsPlanned};
 ghost use Rattle.matrix_meaning.specs.Valid.{IsInRange, IsValid};
@@ -33,8 +33,8 @@ pub fn calls_have_one_text()
         IsOutcome words bytes a s → IsOutcome words bytes b t → s ≡ t }
 {}
 
-/// Of an input that tells its bytes, these and the words account for the status and the output, and the input tells what
-/// is left of them.
+/// Of an input that tells its bytes, these and the words account for the status and the output, and the input tells
+/// what is left of them.
 pub fn told_inputs_are_accounted_for()
     ensures { (words : List (List ℕ)) (bytes : List ℕ) (left before after : Option (List ℕ))
         (status : SpecStatus) → AccountsFor words (Some bytes) left before after status

@@ -76,8 +76,8 @@ pub fn spiral_run<I: Source, O: Sink, E: Sink>(
     output: &mut O,
     note: &mut E,
 ) -> Status
-    // The bytes that the input gave, with all that it may have left, and the words account for the status and for what the
-    // output took. Where a read failed, that is the whole text of what the input gave.
+    // The bytes that the input gave, with all that it may have left, and the words account for the status and for what
+    // the output took. Where a read failed, that is the whole text of what the input gave.
     ensures told { AccountsFor (map string_bytes words.now.items)
         (I.left input.old) (I.left input.new) (O.taken output.old) (O.taken output.new) result }
     // `run`, `trace`, `check`, `exec`, `apply` and `convolve` without `--code` have read their input to its end where

@@ -50,7 +50,8 @@ use Rattle.commands.proofs.SpiralInput.StageLemmas.{stage_told}
 use Rattle.commands.proofs.SpiralInput.Within.{Within, front_join}
 
 -- no token may go on, or nothing is left
-closed_or_none : (source : Option (List ℕ)) (left : List ℕ) (closed : Type 0) → Tells source left → closed ⊎ IsOver source → closed ⊎ (left ≡ [])
+closed_or_none : (source : Option (List ℕ)) (left : List ℕ) (closed : Type 0) → Tells source left
+    → closed ⊎ IsOver source → closed ⊎ (left ≡ [])
 closed_or_none source left closed tells (inl c) = inl c
 closed_or_none source left closed tells (inr over) = inr (over_left source left tells over)
 
@@ -91,9 +92,11 @@ module _ (wants : Wants) (size modulus : ℕ) (list : WantsList wants size) (IsT
     Appends-nil out,
   )
 
-  lacks : (old new : Fed) (before after : Option (List ℕ)) (rest : List ℕ) (out : Option (List ℕ)) (result : Result (Unit {0}) StreamFault)
+  lacks : (old new : Fed) (before after : Option (List ℕ)) (rest : List ℕ) (out : Option (List ℕ))
+      (result : Result (Unit {0}) StreamFault)
       → old.taken ≤ limit → (lacking size result ≢ stream.TooLong → new.taken ≤ limit) → result ≢ Err stream.WriteFault
-      → (r : ReadsData size modulus old new before after [] result) → Answers size modulus (limit - old.taken) (r.read ++ rest) [] result
+      → (r : ReadsData size modulus old new before after [] result)
+      → Answers size modulus (limit - old.taken) (r.read ++ rest) [] result
       → Meets (work (limit - old.taken)) (r.read ++ rest) rest out out (status_of_fault (lacking size result))
   lacks old new before after rest out (Ok u) start ends other r seen = record {
     answer = λ d. lacked (limit - old.taken) (r.read ++ rest) (Ok u) out seen.0 seen.1;
@@ -166,7 +169,8 @@ convolves_lacking code plan request old new before after out fault chosen start 
 
 -- all of it is written
 listing_told : (plan : Planned) (cut : Cut) (old new : Fed) (before after out out' : Option (List ℕ)) (h listing : List ℕ)
-    → cut.size ≡ plan.request.size → HasCome plan.request.modulus cut old new before after (h ∷ []) → old.taken ≤ limit → new.taken ≤ limit → (cut.ended ≡ true → IsOver after)
+    → cut.size ≡ plan.request.size → HasCome plan.request.modulus cut old new before after (h ∷ []) → old.taken ≤ limit
+    → new.taken ≤ limit → (cut.ended ≡ true → IsOver after)
     → listing ≡ listing_of (conv_emission plan.request plan.tree h) → Appends out out' listing
     → SourceMeets (convolver_work plan (limit - old.taken)) before after out out' Success
 listing_told plan cut old new before after out out' h listing size come start within end same wrote = record {
@@ -193,7 +197,8 @@ listing_told plan cut old new before after out out' h listing size come start wi
 }
 
 pub convolves_listing : (request : Request) (cut : Cut) (old new : Fed) (before after out out' : Option (List ℕ)) (h listing : List ℕ) (program : Program)
-    → cut.size ≡ request.size → HasCome request.modulus cut old new before after (h ∷ []) → old.taken ≤ limit → new.taken ≤ limit → (cut.ended ≡ true → IsOver after)
+    → cut.size ≡ request.size → HasCome request.modulus cut old new before after (h ∷ []) → old.taken ≤ limit
+    → new.taken ≤ limit → (cut.ended ≡ true → IsOver after)
     → IsListProgram request h program → listing ≡ listing_of (plain_program program) → Appends out out' listing
     → SourceMeets (work_by_list true request (limit - old.taken)) before after out out' Success
 convolves_listing request cut old new before after out out' h listing program size come start within end made same wrote =
@@ -202,7 +207,9 @@ convolves_listing request cut old new before after out out' h listing program si
 
 -- a front of it is written
 listing_cut : (plan : Planned) (cut : Cut) (old new : Fed) (before after out out' : Option (List ℕ)) (h listing : List ℕ)
-    → cut.size ≡ plan.request.size → 0 < plan.request.size → HasCome plan.request.modulus cut old new before after (h ∷ []) → new.taken ≤ limit → (cut.ended ≡ true → IsOver after)
+    → cut.size ≡ plan.request.size → 0 < plan.request.size
+    → HasCome plan.request.modulus cut old new before after (h ∷ []) → new.taken ≤ limit
+    → (cut.ended ≡ true → IsOver after)
     → listing ≡ listing_of (conv_emission plan.request plan.tree h) → AppendsPrefix out out' listing
     → SourceMeets (convolver_work plan (limit - old.taken)) before after out out' WriteFault
 listing_cut plan cut old new before after out out' h listing size some come within end same wrote =
@@ -231,7 +238,8 @@ listing_cut plan cut old new before after out out' h listing size some come with
     }
 
 pub convolves_cut : (request : Request) (cut : Cut) (old new : Fed) (before after out out' : Option (List ℕ)) (h listing : List ℕ) (program : Program)
-    → cut.size ≡ request.size → 0 < request.size → HasCome request.modulus cut old new before after (h ∷ []) → new.taken ≤ limit → (cut.ended ≡ true → IsOver after)
+    → cut.size ≡ request.size → 0 < request.size → HasCome request.modulus cut old new before after (h ∷ [])
+    → new.taken ≤ limit → (cut.ended ≡ true → IsOver after)
     → IsListProgram request h program → listing ≡ listing_of (plain_program program) → AppendsPrefix out out' listing
     → SourceMeets (work_by_list true request (limit - old.taken)) before after out out' WriteFault
 convolves_cut request cut old new before after out out' h listing program size some come within end made same wrote =
@@ -287,8 +295,10 @@ module _ (request : Request) where
   )
 
   -- by each way in which it may end
-  lines_ended : (old new : Fed) (before after : Option (List ℕ)) (rest h : List ℕ) (later : List (List ℕ)) (out out' : Option (List ℕ)) (text : List ℕ) (result : Result (Unit {0}) StreamFault)
-      → (result ≢ Err stream.TooLong → new.taken ≤ limit) → Tells after rest → (r : ReadsData request.size request.modulus old new before after (h ∷ later) result)
+  lines_ended : (old new : Fed) (before after : Option (List ℕ)) (rest h : List ℕ) (later : List (List ℕ))
+      (out out' : Option (List ℕ)) (text : List ℕ) (result : Result (Unit {0}) StreamFault)
+      → (result ≢ Err stream.TooLong → new.taken ≤ limit) → Tells after rest
+      → (r : ReadsData request.size request.modulus old new before after (h ∷ later) result)
       → Answers request.size request.modulus (limit - old.taken) (r.read ++ rest) (h ∷ later) result
       → text ≡ conv_lines request h later → Writes out out' result text
       → Meets (convolving (limit - old.taken)) (r.read ++ rest) rest out out' (status_of_stream result)

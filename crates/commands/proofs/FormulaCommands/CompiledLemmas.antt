@@ -60,7 +60,8 @@ use Rattle.commands.proofs.StreamLemmas.{mapping_within}
 -- a fault behind a part of the line
 pub text_failed : (text : List ℕ) (start before after : Option (List ℕ)) (old new : Fed) (fault : FeedFault)
     → Consumes start before text → old.taken ≡ length text → length text ≤ 65536 → list_any is_line_end text ≡ false
-    → Feeds old new before after (Err fault) → (read : List ℕ) × Consumes start after read × GivesText read (IsOver after) new.taken (Err (rest_fault fault))
+    → Feeds old new before after (Err fault)
+    → (read : List ℕ) × Consumes start after read × GivesText read (IsOver after) new.taken (Err (rest_fault fault))
 text_failed text start before after old new feed.ReadFault consumed taken short unended fed =
     (text, Consumes-kept start before after text consumed fed.1, record { unended = unended; short = short })
 text_failed text start before after old new feed.TooLong consumed taken short unended fed = absurd (omega (arith, fed.0, taken, short))
@@ -82,7 +83,8 @@ module _ (orders : List ℕ → Stage Formula) (work : Formula → Work) where
 
   -- the line is not read
   pub line_unread : (before after out : Option (List ℕ)) (taken : ℕ) (read : List ℕ) (fault : RestFault)
-      → Consumes before after read → GivesText read (IsOver after) taken (Err fault) → SourceMeets by_line before after out out (status_of_text fault)
+      → Consumes before after read → GivesText read (IsOver after) taken (Err fault)
+      → SourceMeets by_line before after out out (status_of_text fault)
   line_unread before after out taken read rest_fault.TooLong consumed given =
       front_refused (line 65536) orders work before after out taken (TooLong 65536) (asks_too_long (line 65536) orders before after taken read consumed given) (λ e. cc)
   line_unread before after out taken read rest_fault.ReadFault consumed given =
@@ -92,15 +94,18 @@ module _ (orders : List ℕ → Stage Formula) (work : Formula → Work) where
   -- it orders no formula
   pub line_refused : (before after out : Option (List ℕ)) (taken : ℕ) (read text : List ℕ) (status : Status)
       → Consumes before after read → IsWhole (line 65536) read (IsOver after) text → length text ≤ 65536
-      → (IsDefined status → orders text (Err status)) → IsRefusal status → SourceMeets by_line before after out out status
+      → (IsDefined status → orders text (Err status)) → IsRefusal status
+      → SourceMeets by_line before after out out status
   line_refused before after out taken read text status consumed whole short refused refusal =
       front_refused (line 65536) orders work before after out taken status
       (asks_refused (line 65536) orders before after taken read text status consumed whole short refused refusal.read) refusal.write
 
   -- it orders a formula, and behind it this is right for the formula's work
   pub line_told : (before mid left out out' : Option (List ℕ)) (taken : ℕ) (read text : List ℕ) (formula : Formula) (status : Status)
-      → Consumes before mid read → taken ≡ length read → IsWhole (line 65536) read (IsOver mid) text → length text ≤ 65536 → orders text (Ok formula)
-      → SourceMeets (work formula (limit - taken)) mid left out out' status → SourceMeets by_line before left out out' status
+      → Consumes before mid read → taken ≡ length read → IsWhole (line 65536) read (IsOver mid) text
+      → length text ≤ 65536 → orders text (Ok formula)
+      → SourceMeets (work formula (limit - taken)) mid left out out' status
+      → SourceMeets by_line before left out out' status
   line_told before mid left out out' taken read text formula status consumed count whole short gives p =
       front_told (line 65536) (line_is_front 65536) orders work before mid left taken formula out out' status
       (asks_value (line 65536) orders before mid taken read text formula consumed count whole short gives) p
@@ -109,7 +114,8 @@ module _ (orders : List ℕ → Stage Formula) (work : Formula → Work) where
 
 -- it is written
 listing_told : (m : ℕ) (formula : Formula) (room : ℕ) (before out out' : Option (List ℕ)) (listing : List ℕ)
-    → listing ≡ listing_of (program_for m formula) → Appends out out' listing → SourceMeets (compile_work m formula room) before before out out' Success
+    → listing ≡ listing_of (program_for m formula) → Appends out out' listing
+    → SourceMeets (compile_work m formula room) before before out out' Success
 listing_told m formula room before out out' listing is wrote =
     unread_meets (compile_work m formula room) before out out' Success (λ bytes. record {
       answer = λ d. (listing, (refl, is), wrote);
@@ -119,7 +125,8 @@ listing_told m formula room before out out' listing is wrote =
 
 -- a front of it is written
 listing_cut : (m : ℕ) (formula : Formula) (room : ℕ) (before out out' : Option (List ℕ)) (listing : List ℕ)
-    → listing ≡ listing_of (program_for m formula) → AppendsPrefix out out' listing → SourceMeets (compile_work m formula room) before before out out' WriteFault
+    → listing ≡ listing_of (program_for m formula) → AppendsPrefix out out' listing
+    → SourceMeets (compile_work m formula room) before before out out' WriteFault
 listing_cut m formula room before out out' listing is wrote =
     unread_meets (compile_work m formula room) before out out' WriteFault (λ bytes. record {
       answer = λ d. absurd (d.write refl);
@@ -128,15 +135,19 @@ listing_cut m formula room before out out' listing is wrote =
     })
 
 pub compile_told : (m : ℕ) (before after out out' : Option (List ℕ)) (taken : ℕ) (read text listing : List ℕ)
-    → Consumes before after read → taken ≡ length read → IsWhole (line 65536) read (IsOver after) text → length text ≤ 65536
-    → IsCompiledText m text listing → Appends out out' listing → SourceMeets (compile_outcomes m) before after out out' Success
+    → Consumes before after read → taken ≡ length read → IsWhole (line 65536) read (IsOver after) text
+    → length text ≤ 65536
+    → IsCompiledText m text listing → Appends out out' listing
+    → SourceMeets (compile_outcomes m) before after out out' Success
 compile_told m before after out out' taken read text listing consumed count whole short made wrote =
     line_told written (compile_work m) before after after out out' taken read text made.0 Success consumed count whole short made.1
     (listing_told m made.0 (limit - taken) after out out' listing made.2 wrote)
 
 pub compile_cut : (m : ℕ) (before after out out' : Option (List ℕ)) (taken : ℕ) (read text listing : List ℕ)
-    → Consumes before after read → taken ≡ length read → IsWhole (line 65536) read (IsOver after) text → length text ≤ 65536
-    → IsCompiledText m text listing → AppendsPrefix out out' listing → SourceMeets (compile_outcomes m) before after out out' WriteFault
+    → Consumes before after read → taken ≡ length read → IsWhole (line 65536) read (IsOver after) text
+    → length text ≤ 65536
+    → IsCompiledText m text listing → AppendsPrefix out out' listing
+    → SourceMeets (compile_outcomes m) before after out out' WriteFault
 compile_cut m before after out out' taken read text listing consumed count whole short made wrote =
     line_told written (compile_work m) before after after out out' taken read text made.0 WriteFault consumed count whole short made.1
     (listing_cut m made.0 (limit - taken) after out out' listing made.2 wrote)

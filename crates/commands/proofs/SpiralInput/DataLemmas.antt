@@ -48,15 +48,18 @@ module _ (IsText : List (List ℕ) → List ℕ → Type 0) (size modulus : ℕ)
   abbrev whole : List ℕ
   whole = front ++ texts text vectors
 
-  well : (result : Result (Unit {0}) StreamFault) → IsText vectors whole → Appends start out front → Appends out out' (texts text vectors)
-      → data_answer size (limit - old.taken) (read ++ left) ≡ result → data_vectors size modulus (limit - old.taken) (read ++ left) ≡ vectors
+  well : (result : Result (Unit {0}) StreamFault) → IsText vectors whole → Appends start out front
+      → Appends out out' (texts text vectors)
+      → data_answer size (limit - old.taken) (read ++ left) ≡ result
+      → data_vectors size modulus (limit - old.taken) (read ++ left) ≡ vectors
       → (written : List ℕ) × (mapping all size modulus IsText (limit - old.taken)).answer (read ++ left) (status_of_stream result) written × Appends start out' written
   well result told begun wrote answer seen =
       stream_answer IsText size modulus (limit - old.taken) (read ++ left) whole vectors start out' result told answer seen
       (Appends-trans start out out' front (texts text vectors) begun wrote)
 
   ended : (result : Result (Unit {0}) StreamFault) → Reads size modulus old new read (left ≡ []) vectors result
-      → Answers size modulus (limit - old.taken) (read ++ left) vectors result → Writes out out' result (texts text vectors)
+      → Answers size modulus (limit - old.taken) (read ++ left) vectors result
+      → Writes out out' result (texts text vectors)
       → IsText vectors whole → Appends start out front → (result ≢ Err stream.TooLong → new.taken ≤ limit)
       → Meets (mapping all size modulus IsText (limit - old.taken)) (read ++ left) left start out' (status_of_stream result)
   ended (Ok u) s seen wrote told begun ends = record {

@@ -161,7 +161,8 @@ asks_too_long front orders before after taken read consumed long = record {
 
 -- its text orders nothing
 pub asks_refused : {A : Type 0} (front : Front) (orders : List ℕ → Stage A) (before after : Option (List ℕ)) (taken : ℕ) (read text : List ℕ) (status : Status)
-    → Consumes before after read → IsWhole front read (IsOver after) text → length text ≤ front.most → (IsDefined status → orders text (Err status)) → status ≢ ReadFault
+    → Consumes before after read → IsWhole front read (IsOver after) text → length text ≤ front.most
+    → (IsDefined status → orders text (Err status)) → status ≢ ReadFault
     → Asks front orders before after taken (Err status)
 asks_refused front orders before after taken read text status consumed whole short refused other = record {
   read = read;
@@ -176,7 +177,8 @@ asks_refused front orders before after taken read text status consumed whole sho
 
 -- its text orders a value
 pub asks_value : {A : Type 0} (front : Front) (orders : List ℕ → Stage A) (before after : Option (List ℕ)) (taken : ℕ) (read text : List ℕ) (value : A)
-    → Consumes before after read → taken ≡ length read → IsWhole front read (IsOver after) text → length text ≤ front.most → orders text (Ok value)
+    → Consumes before after read → taken ≡ length read → IsWhole front read (IsOver after) text
+    → length text ≤ front.most → orders text (Ok value)
     → Asks front orders before after taken (Ok value)
 asks_value front orders before after taken read text value consumed count whole short gives = record {
   read = read;

@@ -21,12 +21,14 @@ meets_nothing outcomes bytes left out status right read write = record {
 
 -- nothing was read
 pub unread_meets : (outcomes : Outcomes) (before out out' : Option (List ℕ)) (status : Status)
-    → ((bytes : List ℕ) → Meets outcomes bytes bytes out out' status) → SourceMeets outcomes before before out out' status
+    → ((bytes : List ℕ) → Meets outcomes bytes bytes out out' status)
+    → SourceMeets outcomes before before out out' status
 unread_meets outcomes before out out' status p =
     record { read = []; consumed = Consumes-nil before; meets = λ left tells. p left }
 
 -- want of memory
-pub told_nothing : (outcomes : Outcomes) (before after out : Option (List ℕ)) (read : List ℕ) → Consumes before after read
+pub told_nothing : (outcomes : Outcomes) (before after out : Option (List ℕ)) (read : List ℕ)
+    → Consumes before after read
     → SourceMeets outcomes before after out out NoMemory
 told_nothing outcomes before after out read consumed = record {
   read = read;
@@ -34,12 +36,14 @@ told_nothing outcomes before after out read consumed = record {
   meets = λ left tells. meets_nothing outcomes (read ++ left) left out NoMemory (λ d. absurd (d.memory refl)) (λ e. cc) (λ e. cc);
 }
 
-pub unread_nothing : (outcomes : Outcomes) (before out : Option (List ℕ)) → SourceMeets outcomes before before out out NoMemory
+pub unread_nothing : (outcomes : Outcomes) (before out : Option (List ℕ))
+    → SourceMeets outcomes before before out out NoMemory
 unread_nothing outcomes before out = told_nothing outcomes before before out [] (Consumes-nil before)
 
 -- what the feed holds is left for the feed, and was read from the source; where a read failed, it holds nothing
 held_meets : (outcomes : Outcomes) (bytes held left : List ℕ) (out out' : Option (List ℕ)) (status : Status)
-    → (status ≡ ReadFault → held ≡ []) → Meets outcomes bytes (held ++ left) out out' status → Meets outcomes bytes left out out' status
+    → (status ≡ ReadFault → held ≡ []) → Meets outcomes bytes (held ++ left) out out' status
+    → Meets outcomes bytes left out out' status
 held_meets outcomes bytes held left out out' status empty m = record {
   answer = m.answer;
   read_fault = λ e. (subst (λ (l : List ℕ). Meets outcomes bytes (l ++ left) out out' status) (empty e) m).read_fault e;
@@ -56,7 +60,8 @@ held_meets outcomes bytes held left out out' status empty m = record {
 }
 
 pub meets_by_source : (outcomes : Outcomes) (before : Option (List ℕ)) (feed : Fed) (left out out' : Option (List ℕ)) (status : Status)
-    → (status ≡ ReadFault → feed.held ≡ []) → SourceMeets outcomes before (to_come feed left) out out' status → SourceMeets outcomes before left out out' status
+    → (status ≡ ReadFault → feed.held ≡ []) → SourceMeets outcomes before (to_come feed left) out out' status
+    → SourceMeets outcomes before left out out' status
 meets_by_source outcomes before feed left out out' status empty p = record {
   read = p.read ++ feed.held;
   consumed = consumes_held before left p.read feed.held p.consumed;
