@@ -27,7 +27,7 @@ fourier-words : (size : ℕ) (path : Path) (n w : ℕ) → n ≤ 1048576 → Are
 fourier-words size path n w low =
     elim (cases_lt 8 n) [
       | inl long ↦ let is : fourier_term path n w ≡ nest path (horner w n) = grind (arith, nat_tests) in subst (AreWords size) (sym is) tt
-      | inr short ↦ let is : fourier_term path n w ≡ nest path (kernel (short Dft w n)) = grind (arith, nat_tests) in subst (AreWords size) (sym is) (omega (arith, low))
+      | inr few ↦ let is : fourier_term path n w ≡ nest path (kernel (short Dft w n)) = grind (arith, nat_tests) in subst (AreWords size) (sym is) (omega (arith, low))
     ]
 
 pub term-words : (m : ℕ) (path : Path) (f : Formula) → size_under path (size_of f) ≤ 1048576 → IsShaped f →

@@ -144,7 +144,7 @@ fourier-lowers m path n w =
       | inl long ↦
           let is : fourier_term path n w ≡ nest path (horner w n) = grind (arith, nat_tests) in
           subst (λ t. Lowers m (size_under path n) t (under path n (transform Dft m n w))) (sym is) (nest-lowers m path (horner w n) tt (transform-work Dft m n w))
-      | inr short ↦
+      | inr few ↦
           let is : fourier_term path n w ≡ nest path (kernel (short Dft w n)) = grind (arith, nat_tests) in
           subst (λ t. Lowers m (size_under path n) t (under path n (transform Dft m n w))) (sym is) (nest-lowers m path (kernel (short Dft w n)) tt (transform-work Dft m n w))
     ]

@@ -29,7 +29,7 @@ fourier-several : (path : Path) (n w : ℕ) → AreSeveral path → HasSeveral (
 fourier-several path n w h =
     elim (cases_lt 8 n) [
       | inl long ↦ let is : fourier_term path n w ≡ nest path (horner w n) = grind (arith, nat_tests) in subst HasSeveral (sym is) (h, omega (arith, long))
-      | inr short ↦ let is : fourier_term path n w ≡ nest path (kernel (short Dft w n)) = grind (arith, nat_tests) in subst HasSeveral (sym is) (h, tt)
+      | inr few ↦ let is : fourier_term path n w ≡ nest path (kernel (short Dft w n)) = grind (arith, nat_tests) in subst HasSeveral (sym is) (h, tt)
     ]
 
 pub term-several : (m : ℕ) (path : Path) (f : Formula) → AreSeveral path → IsShaped f → HasSeveral (term_of m path f)

@@ -20,7 +20,7 @@ pub use formula::lower_formula;
 pub use tree::lower;
 pub use tree_loops::{
     layouts_count, loops_are_limited, loops_listed, merge_counts, passes_are_framed,
-    phases_are_shared, tree_nests, trees_merge,
+    phases_are_shared,
 };
 pub use tree_terms::{lowered_transforms, plain_terms, shared_terms, under};
 

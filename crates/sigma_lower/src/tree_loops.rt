@@ -4,8 +4,8 @@
 mod shared_passes;
 
 ghost use Rattle.sigma_lower.specs.TreeLoops.Laws.{LayoutsCount, MergeCounts};
-ghost use Rattle.sigma_lower.specs.TreeLoops.Limits.{LoopsAreLimited, TreesMerge};
-ghost use Rattle.sigma_lower.specs.TreeLoops.Nests.{LoopsListed, TreeNests};
+ghost use Rattle.sigma_lower.specs.TreeLoops.Limits.{LoopsAreLimited};
+ghost use Rattle.sigma_lower.specs.TreeLoops.Nests.{LoopsListed};
 
 pub use shared_passes::{passes_are_framed, phases_are_shared};
 
@@ -24,17 +24,7 @@ pub fn loops_listed()
     ensures { LoopsListed }
 {}
 
-/// Each merged pass of a layout is one of its passes, as one nest.
-pub fn tree_nests()
-    ensures { TreeNests }
-{}
-
 /// No place of a layout's loops is over a limit of programs.
 pub fn loops_are_limited()
     ensures { LoopsAreLimited }
-{}
-
-/// So the terms of a layout, merged within these limits, are its passes.
-pub fn trees_merge()
-    ensures { TreesMerge }
 {}

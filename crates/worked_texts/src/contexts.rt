@@ -1,15 +1,13 @@
 // Requests by their lines, as contexts of trees, and trees by their leaves.
 
-ghost use Rattle.std.specs.Prelude.{◌≡◌, ◌≢◌, IfOk, IsTrue};
+ghost use Rattle.std.specs.Prelude.{IfOk};
 ghost use Rattle.matrix_meaning.specs.Valid.{IsInRange};
-ghost use Rattle.tree_model.specs.Admissible.{IsAdmissible};
-ghost use Rattle.tree_model.specs.Breakdown.{breakdown_of};
 
-use matrix_meaning::{Dimensions, Kind, Request};
+use matrix_meaning::Request;
 use request_text::read_request;
 use std::alloc::Global;
 use std::test::Fail;
-use tree_model::{Ctx, Tree, admissible};
+use tree_model::{Ctx, Tree};
 use worked_rows::numbers;
 
 /// The request of a line.
@@ -36,40 +34,6 @@ pub(crate) fn valid_context(request: &Request) -> Option<Ctx>
 pub(crate) fn context(text: &str) -> Result<Ctx, Fail> {
     let request = request(text)?;
     Ok(valid_context(&request).ok_or("a valid request")?)
-}
-
-fn is_forward(kind: Kind) -> bool
-    ensures { IsTrue result → kind ≢ Kind.Idft }
-{
-    match kind {
-        Kind::Dft => true,
-        Kind::Wht => true,
-        Kind::Idft => false,
-    }
-}
-
-// Whether the request is for one size, and no inverse.
-fn is_of_one(c: &Ctx) -> bool
-    ensures one { IsTrue result → c.now.dimensions ≡ Dimensions.One }
-    ensures kind { IsTrue result → c.now.kind ≢ Kind.Idft }
-{
-    c.is_one() && is_forward(c.request().kind)
-}
-
-// Such a request admits the trees of its node.
-fn admits_flat(c: &Ctx, tree: &Tree) -> bool
-    requires one { c.now.dimensions ≡ Dimensions.One }
-    requires kind { c.now.kind ≢ Kind.Idft }
-    ensures { IsTrue result → IsAdmissible c.now (breakdown_of tree.now) }
-{
-    admissible(c, tree)
-}
-
-/// Whether the request is for one size, no inverse, and admits the tree.
-pub(crate) fn admits_of_one(c: &Ctx, tree: &Tree) -> bool
-    ensures { IsTrue result → IsAdmissible c.now (breakdown_of tree.now) }
-{
-    is_of_one(c) && admits_flat(c, tree)
 }
 
 /// The node of the rule with these parts.

@@ -1,5 +1,5 @@
 // The factors of a transform of size 16, by hand from the identities: a step by four rows of four words. Behind `^` stands the root
-// of a transform or a diagonal: 3 for the whole, and 3^4 modulo 17, which is 13, for its parts.
+// of a diagonal, or that of the request whose node a tree is.
 
 use crate::contexts::{context, tree_of};
 use crate::stages::{blocks_of, lanes_of};
@@ -9,23 +9,23 @@ use smp_rewrite::{Core, Factor, SmpSpl, Step};
 use std::alloc::{AllocError, Global};
 use std::fmt::Write;
 use std::test::Fail;
-use tree_model::{RootedTrees, admissible};
+use tree_model::admissible;
 use vec_rewrite::{VecFactor, VecSpl};
 use worked_rows::check;
 
 // A request, and the factors of both phases of `ct 4 4` for processors.
 const BLOCKS: &str = "\
-dft 16 mod 17 root 3|blocks L(4,4); blocks b4 leaf(4)^13; blocks T(4,4)^3; blocks c4 leaf(4)^13; / 
-dft 16 mod 17 root 3 procs 2 line 2|before c2 L(2,4); blocks L(2,4); blocks b2 leaf(4)^13; diagonals T(4,4)^3; / before c2 L(2,4); blocks c2 leaf(4)^13; after c2 L(4,2); 
-dft 16 mod 17 root 3 procs 4 line 1|before L(4,4); blocks L(1,4); blocks leaf(4)^13; diagonals T(4,4)^3; / before L(4,4); blocks leaf(4)^13; after L(4,4); 
+dft 16 mod 17 root 3|blocks L(4,4); blocks b4 leaf(4)^3; blocks T(4,4)^3; blocks c4 leaf(4)^3; / 
+dft 16 mod 17 root 3 procs 2 line 2|before c2 L(2,4); blocks L(2,4); blocks b2 leaf(4)^3; diagonals T(4,4)^3; / before c2 L(2,4); blocks c2 leaf(4)^3; after c2 L(4,2); 
+dft 16 mod 17 root 3 procs 4 line 1|before L(4,4); blocks L(1,4); blocks leaf(4)^3; diagonals T(4,4)^3; / before L(4,4); blocks leaf(4)^3; after L(4,4); 
 dft 16 mod 17 root 3 procs 4 line 2|not admissible
 ";
 
 // The same for lanes.
 const LANES: &str = "\
-dft 16 mod 17 root 3|lanes L(4,4); lanes b4 leaf(4)^13; lanes T(4,4)^3; lanes c4 leaf(4)^13; / 
-dft 16 mod 17 root 3 line 2 lanes 2|lanes L(2,4); lanes b2 leaf(4)^13; tiles b2 b2 ; after b2 L(2,2); diagonals T(4,4)^3; lanes c2 leaf(4)^13; / 
-dft 16 mod 17 root 3 procs 2 line 2 lanes 2|before L(2,4); lanes L(1,4); lanes leaf(4)^13; tiles b2 ; after b2 L(2,2); diagonals T(4,4)^3; / before L(2,4); lanes leaf(4)^13; after L(4,2); 
+dft 16 mod 17 root 3|lanes L(4,4); lanes b4 leaf(4)^3; lanes T(4,4)^3; lanes c4 leaf(4)^3; / 
+dft 16 mod 17 root 3 line 2 lanes 2|lanes L(2,4); lanes b2 leaf(4)^3; tiles b2 b2 ; after b2 L(2,2); diagonals T(4,4)^3; lanes c2 leaf(4)^3; / 
+dft 16 mod 17 root 3 procs 2 line 2 lanes 2|before L(2,4); lanes L(1,4); lanes leaf(4)^3; tiles b2 ; after b2 L(2,2); diagonals T(4,4)^3; / before L(2,4); lanes leaf(4)^3; after L(4,2); 
 dft 16 mod 17 root 3 line 3 lanes 3|not admissible
 ";
 
@@ -39,10 +39,10 @@ fn write_path(text: &mut String, path: &[Tensor]) -> Result<(), AllocError> {
     Ok(())
 }
 
-// The tree of a kernel, with its root; no longer leaf, tile or copy stands in these rows.
+// The tree of a kernel, with the root of its request; no longer leaf, tile or copy stands in these rows.
 fn write_work(text: &mut String, work: &Work) -> Result<(), AllocError> {
     match work {
-        Work::Kernel(RootedTrees::Single(only)) => write!(text, "{}^{}", only.tree, only.root),
+        Work::Kernel { ctx, tree } => write!(text, "{tree}^{}", ctx.request().root),
         _ => write!(text, "other work"),
     }
 }

@@ -59,7 +59,7 @@ fourier-formed : (m : ℕ) (path : Path) (n w : ℕ) → 1 ≤ n → IsFormulaTe
 fourier-formed m path n w some =
     elim (cases_lt 8 n) [
       | inl long ↦ let is : fourier_term path n w ≡ nest path (horner w n) = grind (arith, nat_tests) in subst (IsFormulaTerm m) (sym is) (omega (arith, some))
-      | inr short ↦ let is : fourier_term path n w ≡ nest path (kernel (short Dft w n)) = grind (arith, nat_tests) in subst (IsFormulaTerm m) (sym is) (some, omega (arith, short))
+      | inr few ↦ let is : fourier_term path n w ≡ nest path (kernel (short Dft w n)) = grind (arith, nat_tests) in subst (IsFormulaTerm m) (sym is) (some, omega (arith, short))
     ]
 
 term-formed : (m : ℕ) (path : Path) (f : Formula) → 0 < m → IsShaped f → IsFormulaTerm m (term_of m path f)
@@ -91,7 +91,7 @@ halvings-few n high (e, whole) =
     let steps : halvings n n ≡ e = ap (λ z. halvings z z) whole ∙ halvings-power e (2 ^ e) (power-above e) in
     elim (cases_lt 20 e) [
       | inl long ↦ let great : 2 ^ 21 ≤ 2 ^ e = pow_mono {i = 21} {j = e} (omega (arith, long)) in absurd (omega (arith, great, whole, high))
-      | inr short ↦ omega (arith, steps, short)
+      | inr few ↦ omega (arith, steps, few)
     ]
 
 hadamard-steps : (path : Path) (k : ℕ) → steps_in (hadamard_term path k) ≡ suc k
@@ -111,7 +111,7 @@ fourier-counted path n w =
     elim (cases_lt 8 n) [
       | inl long ↦ let is : fourier_term path n w ≡ nest path (horner w n) = grind (arith, nat_tests) in
           subst (λ t. IsCounted (Fourier n w) (steps_in t) (sums_in t) (makers_in t)) (sym is) (record { steps = omega arith; sums = omega arith; makers = omega arith })
-      | inr short ↦ let is : fourier_term path n w ≡ nest path (kernel (short Dft w n)) = grind (arith, nat_tests) in
+      | inr few ↦ let is : fourier_term path n w ≡ nest path (kernel (short Dft w n)) = grind (arith, nat_tests) in
           subst (λ t. IsCounted (Fourier n w) (steps_in t) (sums_in t) (makers_in t)) (sym is) (record { steps = omega arith; sums = omega arith; makers = omega arith })
     ]
 

@@ -1,15 +1,10 @@
 -- No place of a layout's loops is over a limit.
-use Rattle.std.proofs.Common.{◌≡◌, ℕ, ◌*◌, ◌<◌, ◌≤◌, Bool, true, arith, refl, sym, ap, ap₂, ◌∙◌, List, [], ◌∷◌, ◌++◌, length, subst, Some}
+use Rattle.std.proofs.Common.{◌≡◌, ℕ, ◌*◌, ◌<◌, ◌≤◌, Bool, true, arith, refl, sym, ap, ◌∙◌, List, [], ◌∷◌, ◌++◌, length, subst, Some}
 use Rattle.std.specs.Prelude.{map, reverse}
 use Rattle.std.specs.List.{list_all}
 use Rattle.std.proofs.lemmas.List.{reverse-append}
-use Rattle.sigma_lower.specs.Merged.{AllHaveLoops, phase_passes}
-use Rattle.sigma_lower.specs.Order.{AllOrdered}
-use Rattle.sigma_lower.specs.Shared.{phase_term}
-use Rattle.sigma_lower.proofs.HaveLoops.{phases_have_loops}
-use Rattle.sigma_lower.proofs.Ordered.{trees_ordered}
 use Rattle.index_fn.specs.Mapping.{Mapping}
-use Rattle.sigma_lower.specs.TreeLoops.Limits.{AreLimitedPhases, LoopsAreLimited, TreesMerge}
+use Rattle.sigma_lower.specs.TreeLoops.Limits.{AreLimitedPhases, LoopsAreLimited}
 use Rattle.sigma_lower.specs.TreeLoops.Merge.{PlainDiagonal, PlainPass, passes_of_terms, in_order, merged_of}
 use Rattle.sigma_lower.specs.TreeLoops.Nests.{loop_of, taken_of}
 use Rattle.sigma_lower.specs.TreeLoops.Placed.{IsCarried, IsLimitedPass, AllLimited, AreCounts, diagonal_places, place_sum}
@@ -22,12 +17,9 @@ use Rattle.sigma_lower.proofs.TreeLoops.TameSums.{fits-limited}
 use Rattle.sigma_lower.proofs.TreeLoops.TreePlaces.{tree_good_places}
 use Rattle.operators.specs.declared.target.Target.{Target}
 use Rattle.sigma_lower.specs.Machine.{IsMachine}
-use Rattle.sigma_spl.specs.Loops.{PlainLoop, PlainTaken, limits_in, IsOrdered, IsLimitedLoop, AreLimitedLoops}
-use Rattle.sigma_spl.specs.Merge.{most, unbounded, items_in, items_out, carries_sum}
-use Rattle.sigma_spl.specs.Merged.{PlainMerged}
-use Rattle.sigma_spl.specs.Nest.{PlainNest, factor_count}
-use Rattle.sigma_spl.specs.Sigma.{passes_in_order}
-use Rattle.sigma_spl.proofs.Listed.{merge_listed}
+use Rattle.sigma_spl.specs.Loops.{PlainLoop, PlainTaken, limits_in, IsLimitedLoop, AreLimitedLoops}
+use Rattle.sigma_spl.specs.Merge.{most, items_in, items_out, carries_sum}
+use Rattle.sigma_spl.specs.Nest.{factor_count}
 use Rattle.sigma_spl.proofs.Within.{both-true}
 use Rattle.perm_algebra.specs.Affine.{Sum, simplified}
 use Rattle.perm_algebra.proofs.RoomTests.{room_decided}
@@ -136,18 +128,3 @@ limited_phases c (ts ∷ more) h =
 
 pub loops_are_limited : LoopsAreLimited
 loops_are_limited c l machine shares good = limited_phases c (lowered_of c l) (tree_loops 64 c l (omega arith) machine shares good)
-
--- ---- merged within the limits, and without any
-
-phases-merge : (c : Target) (phases : List (List PlainTerm)) → AllOrdered c phases → AllHaveLoops c phases → AreLimitedPhases c phases → map (passes_in_order c.size) (map phase_term phases) ≡ map (phase_passes c) phases
-phases-merge c [] ordered have limited = refl
-phases-merge c (ts ∷ more) ordered have limited =
-    let is : IsOrdered (phase_term ts) = record { in_order = ordered.0.in_order; none_waits = ordered.0.none_waits; some = have.0 } in
-    ap₂ (λ (ps : List (List PlainNest)) (rest : List (List (List PlainNest))). ps ∷ rest)
-    (ap reverse (merge_listed (most 64) c.size (phase_term ts) is limited.0 ∙ sym (merge_listed unbounded c.size (phase_term ts) is tt)))
-    (phases-merge c more ordered.1 have.1 limited.1)
-
-pub trees_merge : TreesMerge
-trees_merge c l machine shares good =
-    ap (λ (phases : List (List (List PlainNest))). let g : PlainMerged = record { size = c.size; procs = c.procs; lanes = c.lanes; phases = phases } in g)
-    (phases-merge c (lowered_of c l) (trees_ordered c l machine shares good) (phases_have_loops c l machine shares good) (loops_are_limited c l machine shares good))

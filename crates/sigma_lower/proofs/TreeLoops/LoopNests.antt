@@ -1,20 +1,14 @@
--- The loops of a phase's term are its passes, the latest first, so each pass of a layout is one nest.
+-- The loops of a phase's term are its passes, the latest first.
 use Rattle.std.proofs.Common.{◌≡◌, refl, sym, ap, ap₂, ◌∙◌, List, [], ◌∷◌, ◌++◌, Some}
 use Rattle.std.specs.Prelude.{map, reverse}
-use Rattle.std.proofs.lemmas.List.{map-append, reverse-append, reverse-reverse}
-use Rattle.sigma_lower.specs.Merged.{AllHaveLoops, phase_passes}
-use Rattle.sigma_lower.specs.Order.{AllLoops}
+use Rattle.std.proofs.lemmas.List.{map-append, reverse-append}
 use Rattle.sigma_lower.specs.Shared.{embed, phase_term}
-use Rattle.sigma_lower.proofs.HaveLoops.{phases_have_loops}
-use Rattle.sigma_lower.proofs.Ordered.{trees_are_loops}
 use Rattle.index_fn.specs.Mapping.{Mapping}
 use Rattle.sigma_lower.specs.TreeLoops.Merge.{PlainPass, Merging, new_pass, scattered, multiplied, at_last, merge_term, merged, passes_of_terms}
-use Rattle.sigma_lower.specs.TreeLoops.Nests.{loop_of, LoopsListed, TreeNests}
-use Rattle.operators.specs.declared.target.Target.{Target}
-use Rattle.sigma_spl.specs.Loops.{PlainLoop, Looping, stored_last, scaled_last, looped, loops_in, one_nest}
-use Rattle.sigma_spl.specs.Merged.{PlainMerged}
-use Rattle.sigma_spl.specs.Nest.{PlainFactors, PlainNest, factor_count, twiddles, inner_of}
-use Rattle.sigma_lower.specs.TreeTerms.Term.{PlainTerm, gath, scat, diag, nest, lowered_of}
+use Rattle.sigma_lower.specs.TreeLoops.Nests.{loop_of, LoopsListed}
+use Rattle.sigma_spl.specs.Loops.{PlainLoop, Looping, stored_last, scaled_last, looped, loops_in}
+use Rattle.sigma_spl.specs.Nest.{PlainFactors, factor_count, twiddles, inner_of}
+use Rattle.sigma_lower.specs.TreeTerms.Term.{PlainTerm, gath, scat, diag, nest}
 use Rattle.operators.specs.TensorPaths.Path.{Path}
 
 -- ---- the first of a list from its end
@@ -87,35 +81,3 @@ all-terms st (t ∷ ts) = ap (λ l. looped l (phase_term ts)) (one-term st t) �
 
 pub loops_listed : LoopsListed
 loops_listed ts = ap (λ (l : Looping). l.loops) (all-terms (record { waiting = []; passes = [] }) ts)
-
--- ---- the passes of a phase
-
-map-reverse : (ps : List PlainLoop) → map one_nest (reverse ps) ≡ reverse (map one_nest ps)
-map-reverse [] = refl
-map-reverse (p ∷ ps) =
-    ap (map one_nest) (reverse-first p ps)
-    ∙ map-append one_nest (reverse ps) (p ∷ [])
-    ∙ ap (λ qs. qs ++ one_nest p ∷ []) (map-reverse ps)
-    ∙ sym (reverse-append (one_nest p ∷ []) (map one_nest ps))
-
-maps : (ps : List PlainPass) → map one_nest (map loop_of ps) ≡ map (λ p. one_nest (loop_of p)) ps
-maps [] = refl
-maps (p ∷ ps) = ap (λ qs. one_nest (loop_of p) ∷ qs) (maps ps)
-
--- the nests of a phase's loops, the earliest first
-pub phase-nests : (ts : List PlainTerm) → reverse (map one_nest (loops_in (phase_term ts))) ≡ map (λ p. one_nest (loop_of p)) (passes_of_terms ts)
-phase-nests ts =
-    let loops = map loop_of (passes_of_terms ts) in
-    ap (λ ps. reverse (map one_nest ps)) (loops_listed ts)
-    ∙ ap reverse (map-reverse loops)
-    ∙ reverse-reverse (map one_nest loops)
-    ∙ maps (passes_of_terms ts)
-
-phases-nests : (c : Target) (phases : List (List PlainTerm)) → AllHaveLoops c phases → AllLoops c phases → map (phase_passes c) phases ≡ map (map (λ p. one_nest (loop_of p))) (map passes_of_terms phases)
-phases-nests c [] have loops = refl
-phases-nests c (ts ∷ more) have loops = ap₂ (λ ps rest. ps ∷ rest) (ap reverse (loops.0 have.0) ∙ phase-nests ts) (phases-nests c more have.1 loops.1)
-
-pub tree_nests : TreeNests
-tree_nests c l machine shares good =
-    ap (λ (phases : List (List (List PlainNest))). let g : PlainMerged = record { size = c.size; procs = c.procs; lanes = c.lanes; phases = phases } in g)
-    (phases-nests c (lowered_of c l) (phases_have_loops c l machine shares good) (trees_are_loops c l machine shares good))

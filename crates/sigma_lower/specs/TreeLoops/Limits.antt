@@ -1,11 +1,9 @@
--- No place of a layout's loops is over a limit of programs, so its terms become its loops, one by one.
-use Rattle.std.specs.Prelude.{◌≡◌, List, [], ◌∷◌}
+-- No place of a layout's loops is over a limit of programs.
+use Rattle.std.specs.Prelude.{List, [], ◌∷◌}
 use Rattle.sigma_lower.specs.Machine.{IsMachine}
-use Rattle.sigma_lower.specs.Merged.{layout_merged, layout_sigma}
 use Rattle.sigma_lower.specs.Shared.{phase_term}
 use Rattle.sigma_spl.specs.Loops.{loops_in, AreLimitedLoops}
 use Rattle.sigma_spl.specs.Merge.{most}
-use Rattle.sigma_spl.specs.Sigma.{merged_of}
 use Rattle.sigma_lower.specs.TreeTerms.Term.{PlainTerm, lowered_of}
 use Rattle.smp_rewrite.specs.Fits.{CanShareLayout}
 use Rattle.smp_rewrite.specs.LayoutSteps.Layout.{Layout, IsGoodLayout}
@@ -18,7 +16,3 @@ AreLimitedPhases h (ts ∷ more) = AreLimitedLoops (most 64) h.size (loops_in (p
 abbrev pub LoopsAreLimited : Type 0
 LoopsAreLimited =
     (h : Target) (l : Layout) → IsMachine h → CanShareLayout h l → IsGoodLayout h.modulus l → AreLimitedPhases h (lowered_of h l)
-
-abbrev pub TreesMerge : Type 0
-TreesMerge =
-    (h : Target) (l : Layout) → IsMachine h → CanShareLayout h l → IsGoodLayout h.modulus l → merged_of (layout_sigma h l) ≡ layout_merged h l
