@@ -7,4 +7,5 @@ mod Powers
 mod StatementRules
 mod Diagonals
 mod Works
+mod KernelCodes
 mod Passes

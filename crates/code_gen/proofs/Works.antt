@@ -3,7 +3,7 @@ use Rattle.std.proofs.Common.{◌≡◌, ℕ, zero, suc, ◌+◌, ◌^◌, ◌<�
 use Rattle.std.specs.Prelude.{Option, Some, None}
 use Rattle.std.proofs.lemmas.List.{get_or-map, length-map}
 use Rattle.kernel_gen.specs.Kernel.{trees_kernel}
-use Rattle.kernel_gen.proofs.Products.{trees-does, trees-words}
+use Rattle.kernel_gen.proofs.Products.{trees-does}
 use Rattle.code_gen.specs.PassActions.Acts.{nest_registers, pass_registers}
 use Rattle.sigma_spl.specs.Shared.Running.{CanWork}
 use Rattle.operators.specs.declared.target.Target.{Target}
@@ -14,9 +14,10 @@ use Rattle.code_gen.specs.PassCode.Program.{count_in}
 use Rattle.sigma_spl.specs.Merged.{PlainMerged}
 use Rattle.sigma_spl.specs.Nest.{PlainFactors, values, twiddles, repeated, spread, PlainMultiplier, PlainNest, factor_count}
 use Rattle.sigma_spl.specs.Views.{plain_nest}
-use Rattle.sigma_spl.specs.Work.{PlainWork, kernel, work_size}
+use Rattle.sigma_spl.specs.Shared.Kernels.{IsMadeKernel}
+use Rattle.sigma_spl.specs.Work.{PlainKernel, PlainWork, kernel, trees_of, work_size}
 use Rattle.sigma_spl.specs.declared.nest.Nest.{Nest}
-use Rattle.tree_model.specs.Trees.{PlainTrees, trees_size, AreWords}
+use Rattle.tree_model.specs.Trees.{trees_size}
 use Rattle.code_gen.specs.Conditions.{CanEmit, CanEmitAll, CanEmitPhases, CanList, HasFactors}
 use Rattle.code_gen.proofs.Diagonals.{columns-some, inner-some}
 
@@ -25,17 +26,18 @@ use Rattle.code_gen.proofs.Diagonals.{columns-some, inner-some}
 work-of : (h : Target) (z : PlainNest) (w : PlainWork) → z.work ≡ w → CanEmit h z → CanWork h w × (work_size w < 2 ^ 32)
 work-of h z w is can = (subst (CanWork h) is can.runs.work, subst (λ (v : PlainWork). work_size v < 2 ^ 32) is can.writes.items)
 
-pub kernel-words : (h : Target) (z : PlainNest) (trees : PlainTrees) → z.work ≡ kernel trees → CanEmit h z → AreWords trees
-kernel-words h z trees is can = let work = work-of h z (kernel trees) is can in trees-words h.modulus trees work.0 work.1
+pub kernel-source : (h : Target) (z : PlainNest) (k : PlainKernel) → z.work ≡ kernel k → CanEmit h z → IsMadeKernel h.modulus k
+kernel-source h z k is can = (work-of h z (kernel k) is can).0
 
-pub kernel-small : (h : Target) (z : PlainNest) (trees : PlainTrees) → z.work ≡ kernel trees → CanEmit h z → trees_size trees < 2 ^ 32
-kernel-small h z trees is can = (work-of h z (kernel trees) is can).1
+pub kernel-small : (h : Target) (z : PlainNest) (k : PlainKernel) → z.work ≡ kernel k → CanEmit h z → trees_size (trees_of k) < 2 ^ 32
+kernel-small h z k is can = (work-of h z (kernel k) is can).1
 
 -- the code of a kernel has an output for each item
-pub kernel-sized : (h : Target) (z : PlainNest) (trees : PlainTrees) → z.work ≡ kernel trees → CanEmit h z → length (trees_kernel h.modulus trees).outs ≡ trees_size trees
-kernel-sized h z trees is can =
-    let work = work-of h z (kernel trees) is can in
-    (trees-does h.modulus 1 trees can.modulus work.0).sized
+pub kernel-sized : (h : Target) (z : PlainNest) (k : PlainKernel) → z.work ≡ kernel k → CanEmit h z →
+    length (trees_kernel h.modulus (trees_of k)).outs ≡ trees_size (trees_of k)
+kernel-sized h z k is can =
+    let work = work-of h z (kernel k) is can in
+    (trees-does h.modulus 1 (trees_of k) can.modulus work.0.trees).sized
 
 can-list : (factors : PlainFactors) → 0 < factor_count factors → factor_count factors < 2 ^ 32 → CanList factors
 can-list (values entries) some small = tt

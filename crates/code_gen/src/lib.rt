@@ -6,6 +6,7 @@ mod factors;
 mod host;
 mod inputs;
 mod kernel_statements;
+mod kernels;
 mod loop_values;
 mod loops;
 mod nest;

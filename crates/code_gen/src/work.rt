@@ -11,11 +11,11 @@ ghost use Rattle.code_gen.specs.Views.{body_in, plain_host};
 use crate::copy_statements::statements_of_copies;
 use crate::host::Host;
 use crate::kernel_statements::statements_of_kernel;
+use crate::kernels::{leaf_code, node_code};
 use crate::row_statements::{statements_of_horner, statements_of_rows};
 use crate::site::Site;
 use crate::tile_statements::statements_of_tile;
 use icode::program::Stmt;
-use kernel_gen::trees_kernel;
 use memory::NoMemory;
 use sigma_spl::{Multiplier, Nest, Work};
 use std::alloc::Global;
@@ -63,8 +63,13 @@ pub(crate) fn emit_work(
     ensures registers { IfOk result (λ e. e.registers ≡ registers_of_nest host.now nest.now) }
 {
     match &nest.work {
-        Work::Kernel(trees) => {
-            let made = trees_kernel(alloc, &host.modulus, trees)?;
+        Work::Kernel { ctx, tree } => {
+            let made = node_code(alloc, ctx, tree)?;
+            let statements = statements_of_kernel(alloc, nest, &made, site)?;
+            Ok(with_registers(statements, &nest.multiplier, made.regs, made.inputs))
+        }
+        Work::Short { kind, root, size } => {
+            let made = leaf_code(alloc, &host.modulus, *kind, *root, *size)?;
             let statements = statements_of_kernel(alloc, nest, &made, site)?;
             Ok(with_registers(statements, &nest.multiplier, made.regs, made.inputs))
         }

@@ -6,20 +6,18 @@ use Rattle.index_fn.specs.Mapping.{Strided, ThomasIn, ThomasOut}
 use Rattle.matrix_meaning.specs.declared.Kind.TheVariants.{Dft}
 use Rattle.sigma_spl.specs.Term.{nest}
 use Rattle.sigma_spl.specs.Words.{AreWords, HasNumbers}
-use Rattle.sigma_spl.specs.Work.{kernel, horner}
+use Rattle.sigma_spl.specs.Work.{kernel, horner, short}
 use Rattle.sigma_lower.specs.Terms.{one_more, halvings, hadamard_term, fourier_term, term_of}
 use Rattle.sigma_lower.proofs.Lowers.{coprime}
 use Rattle.sigma_lower.proofs.Moves.{left_positive}
 use Rattle.sigma_lower.proofs.Numbers.{numbers-wrapped, strided-closed, in-closed, out-closed}
 use Rattle.sigma_lower.proofs.Parts.{size-more}
-use Rattle.tree_model.specs.Trees.{single}
 use Rattle.sigma_lower.specs.TreeTerms.Wrapped.{wrapped}
 use Rattle.spl_ast.specs.Formula.{Formula, Identity, Fourier, Hadamard, Twiddles, Diagonal, Stride, Permutation, GoodThomasIn, GoodThomasOut, Product, TensorLeft, TensorRight, DirectSum, Pending, size_of}
 use Rattle.spl_ast.specs.Shape.{IsShaped}
 use Rattle.spl_ast.proofs.Vectors.{size_is_size}
 use Rattle.operators.specs.declared.tensor_paths.Tensor.TheVariants.{Blocks, Columns}
 use Rattle.operators.specs.TensorPaths.Path.{Path, size_under}
-use Rattle.tree_model.specs.Breakdown.{leaf}
 
 hadamard-words : (n : ℕ) (path : Path) (k : ℕ) → AreWords n (hadamard_term path k)
 hadamard-words n path zero = tt
@@ -29,7 +27,7 @@ fourier-words : (size : ℕ) (path : Path) (n w : ℕ) → n ≤ 1048576 → Are
 fourier-words size path n w low =
     elim (cases_lt 8 n) [
       | inl long ↦ let is : fourier_term path n w ≡ nest path (horner w n) = grind (arith, nat_tests) in subst (AreWords size) (sym is) tt
-      | inr short ↦ let is : fourier_term path n w ≡ nest path (kernel (single Dft w (leaf n))) = grind (arith, nat_tests) in subst (AreWords size) (sym is) (omega (arith, low))
+      | inr short ↦ let is : fourier_term path n w ≡ nest path (kernel (short Dft w n)) = grind (arith, nat_tests) in subst (AreWords size) (sym is) (omega (arith, low))
     ]
 
 pub term-words : (m : ℕ) (path : Path) (f : Formula) → size_under path (size_of f) ≤ 1048576 → IsShaped f →

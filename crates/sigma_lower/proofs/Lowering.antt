@@ -6,8 +6,7 @@ use Rattle.std.proofs.lemmas.Bool.Decides.{nat_tests}
 use Rattle.matrix_meaning.specs.declared.Kind.TheVariants.{Wht}
 use Rattle.matrix_meaning.specs.Kind.{IsPowerOfTwo}
 use Rattle.sigma_spl.specs.Term.{same, nest, product}
-use Rattle.sigma_spl.specs.Work.{kernel}
-use Rattle.tree_model.specs.Trees.{single}
+use Rattle.sigma_spl.specs.Work.{kernel, short}
 use Rattle.sigma_lower.specs.Terms.{one_more, halvings, hadamard_term}
 use Rattle.sigma_lower.proofs.Lowers.{halvings-power, power-above}
 use Rattle.sigma_lower.proofs.Parts.{grown-one}
@@ -19,7 +18,6 @@ use Rattle.operators.specs.declared.tensor_paths.Tensor.{Tensor}
 use Rattle.operators.specs.declared.tensor_paths.Tensor.TheVariants.{Blocks, Columns}
 use Rattle.operators.specs.TensorPaths.Path.{Path, count_of, grown}
 use Rattle.operators.proofs.TensorPaths.Under.{size_under-push}
-use Rattle.tree_model.specs.Breakdown.{leaf}
 
 -- ---- room
 
@@ -70,11 +68,11 @@ half_power n two (zero, is) = absurd (omega (arith, is))
 half_power n two (suc k, is) = (k, half-of k n is)
 
 pub hadamard_more : (path : Path) (n : ℕ) → 2 ≤ n → IsPowerOfTwo n →
-    hadamard_term path (halvings n n) ≡ product (hadamard_term (path ++ Blocks 2 ∷ []) (halvings (n / 2) (n / 2))) (nest (one_more path (Columns (n / 2))) (kernel (single Wht 0 (leaf 2))))
+    hadamard_term path (halvings n n) ≡ product (hadamard_term (path ++ Blocks 2 ∷ []) (halvings (n / 2) (n / 2))) (nest (one_more path (Columns (n / 2))) (kernel (short Wht 0 2)))
 hadamard_more path n two (zero, is) = absurd (omega (arith, is))
 hadamard_more path n two (suc k, is) =
     let half : n / 2 ≡ 2 ^ k = half-of k n is in
     let inner : halvings (n / 2) (n / 2) ≡ k = halvings-of k (n / 2) half in
     ap (hadamard_term path) (halvings-of (suc k) n is)
-    ∙ ap (λ h. product (hadamard_term (path ++ Blocks 2 ∷ []) k) (nest (one_more path (Columns h)) (kernel (single Wht 0 (leaf 2))))) (sym half)
-    ∙ ap (λ j. product (hadamard_term (path ++ Blocks 2 ∷ []) j) (nest (one_more path (Columns (n / 2))) (kernel (single Wht 0 (leaf 2))))) (sym inner)
+    ∙ ap (λ h. product (hadamard_term (path ++ Blocks 2 ∷ []) k) (nest (one_more path (Columns h)) (kernel (short Wht 0 2)))) (sym half)
+    ∙ ap (λ j. product (hadamard_term (path ++ Blocks 2 ∷ []) j) (nest (one_more path (Columns (n / 2))) (kernel (short Wht 0 2)))) (sym inner)

@@ -22,11 +22,10 @@ use Rattle.sigma_spl.specs.Copies.{both}
 use Rattle.sigma_spl.specs.Good.{IsMove, IsGoodTerm, IsVector}
 use Rattle.sigma_spl.specs.Nest.{values, twiddles}
 use Rattle.sigma_spl.specs.Term.{gath, diag, nest, term_on}
-use Rattle.sigma_spl.specs.Work.{kernel, horner}
+use Rattle.sigma_spl.specs.Work.{kernel, horner, short}
 use Rattle.sigma_spl.proofs.CopiesMerge.{low, high}
 use Rattle.sigma_spl.proofs.Keeps.{under-vector, under-none, vector-fill, both-equal, front, back, front-vector, back-vector}
 use Rattle.sigma_spl.proofs.Walk.{vector-below}
-use Rattle.tree_model.specs.Trees.{single}
 use Rattle.sigma_lower.specs.Terms.{one_more, halvings, hadamard_term, fourier_term, term_of, Lowers, LowerKeeps}
 use Rattle.sigma_lower.proofs.Moves.{left_positive, move-wrapped, strided-move, in-move, out-move}
 use Rattle.sigma_lower.proofs.Parts.{transform-work, nest-lowers, move-lowers, diag-lowers, product-lowers, lowers-as, size-more, more-lowers, under-keeps}
@@ -40,7 +39,6 @@ use Rattle.spl_ast.proofs.Vectors.{apply_vector, residue_at, vector_of, shaped_s
 use Rattle.operators.specs.declared.tensor_paths.Tensor.TheVariants.{Blocks, Columns}
 use Rattle.operators.specs.TensorPaths.Path.{Path, size_under, under}
 use Rattle.operators.proofs.TensorPaths.Under.{size_under-push, under-push}
-use Rattle.tree_model.specs.Breakdown.{leaf}
 
 -- ---- vectors
 
@@ -84,9 +82,9 @@ hadamard-lowers m path (suc k) positive =
       good = subst (λ z. IsGoodTerm 0 z (hadamard_term (path ++ Blocks 2 ∷ []) k)) e inner.good;
       on = λ x v. ap (λ z. term_on m z (hadamard_term (path ++ Blocks 2 ∷ []) k) x) (sym e) ∙ inner.on x (subst (λ z. IsVector m z x) (sym e) v) ∙ under-push path (Blocks 2) n (transform Wht m n 0) x;
     } in
-    let last : Lowers m (size_under path (2 * n)) (nest (one_more path (Columns n)) (kernel (single Wht 0 (leaf 2)))) (under path (2 * n) (on_columns 2 n (transform Wht m 2 0))) =
-    more-lowers m path (Columns n) 2 (nest (one_more path (Columns n)) (kernel (single Wht 0 (leaf 2)))) (transform Wht m 2 0) (λ y w. transform-vector m 2 0 Wht y positive)
-    (nest-lowers m (one_more path (Columns n)) (kernel (single Wht 0 (leaf 2))) tt (transform-work Wht m 2 0)) in
+    let last : Lowers m (size_under path (2 * n)) (nest (one_more path (Columns n)) (kernel (short Wht 0 2))) (under path (2 * n) (on_columns 2 n (transform Wht m 2 0))) =
+    more-lowers m path (Columns n) 2 (nest (one_more path (Columns n)) (kernel (short Wht 0 2))) (transform Wht m 2 0) (λ y w. transform-vector m 2 0 Wht y positive)
+    (nest-lowers m (one_more path (Columns n)) (kernel (short Wht 0 2)) tt (transform-work Wht m 2 0)) in
     let both_parts = product-lowers m path (2 * n) _ _ (on_columns 2 n (transform Wht m 2 0)) (on_blocks 2 n (transform Wht m n 0)) (λ y w. blocks-vector m 2 n (transform Wht m n 0) y (λ z u. transform-vector m n 0 Wht z positive) w) last first in
     subst (λ z. Lowers m (size_under path z) (hadamard_term path (suc k)) (under path z (transform Wht m z 0))) (sym twice)
     (lowers-as m path (2 * n) (hadamard_term path (suc k)) _ (transform Wht m (2 * n) 0) (λ y w. sym (split m 2 n 0 y positive (k, refl))) both_parts) where
@@ -147,8 +145,8 @@ fourier-lowers m path n w =
           let is : fourier_term path n w ≡ nest path (horner w n) = grind (arith, nat_tests) in
           subst (λ t. Lowers m (size_under path n) t (under path n (transform Dft m n w))) (sym is) (nest-lowers m path (horner w n) tt (transform-work Dft m n w))
       | inr short ↦
-          let is : fourier_term path n w ≡ nest path (kernel (single Dft w (leaf n))) = grind (arith, nat_tests) in
-          subst (λ t. Lowers m (size_under path n) t (under path n (transform Dft m n w))) (sym is) (nest-lowers m path (kernel (single Dft w (leaf n))) tt (transform-work Dft m n w))
+          let is : fourier_term path n w ≡ nest path (kernel (short Dft w n)) = grind (arith, nat_tests) in
+          subst (λ t. Lowers m (size_under path n) t (under path n (transform Dft m n w))) (sym is) (nest-lowers m path (kernel (short Dft w n)) tt (transform-work Dft m n w))
     ]
 
 -- a diagonal's values count modulo m

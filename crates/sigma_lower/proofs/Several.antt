@@ -5,16 +5,14 @@ use Rattle.std.proofs.lemmas.Bool.Decides.{nat_tests}
 use Rattle.matrix_meaning.specs.declared.Kind.TheVariants.{Dft}
 use Rattle.sigma_spl.specs.Limits.{AreSeveral, HasSeveral}
 use Rattle.sigma_spl.specs.Term.{nest}
-use Rattle.sigma_spl.specs.Work.{kernel, horner}
+use Rattle.sigma_spl.specs.Work.{kernel, horner, short}
 use Rattle.sigma_spl.proofs.Several.{several-push}
-use Rattle.tree_model.specs.Trees.{single}
 use Rattle.sigma_lower.specs.Terms.{one_more, halvings, hadamard_term, fourier_term, term_of}
 use Rattle.spl_ast.specs.Formula.{Formula, Identity, Fourier, Hadamard, Twiddles, Diagonal, Stride, Permutation, GoodThomasIn, GoodThomasOut, Product, TensorLeft, TensorRight, DirectSum, Pending}
 use Rattle.spl_ast.specs.Shape.{IsShaped}
 use Rattle.operators.specs.declared.tensor_paths.Tensor.{Tensor}
 use Rattle.operators.specs.declared.tensor_paths.Tensor.TheVariants.{Blocks, Columns}
 use Rattle.operators.specs.TensorPaths.Path.{Path, count_of}
-use Rattle.tree_model.specs.Breakdown.{leaf}
 
 several-more : (path : Path) (t : Tensor) → AreSeveral path → 1 ≤ count_of t → AreSeveral (one_more path t)
 several-more path t h some =
@@ -31,7 +29,7 @@ fourier-several : (path : Path) (n w : ℕ) → AreSeveral path → HasSeveral (
 fourier-several path n w h =
     elim (cases_lt 8 n) [
       | inl long ↦ let is : fourier_term path n w ≡ nest path (horner w n) = grind (arith, nat_tests) in subst HasSeveral (sym is) (h, omega (arith, long))
-      | inr short ↦ let is : fourier_term path n w ≡ nest path (kernel (single Dft w (leaf n))) = grind (arith, nat_tests) in subst HasSeveral (sym is) (h, tt)
+      | inr short ↦ let is : fourier_term path n w ≡ nest path (kernel (short Dft w n)) = grind (arith, nat_tests) in subst HasSeveral (sym is) (h, tt)
     ]
 
 pub term-several : (m : ℕ) (path : Path) (f : Formula) → AreSeveral path → IsShaped f → HasSeveral (term_of m path f)

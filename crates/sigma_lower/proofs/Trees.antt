@@ -11,7 +11,7 @@ use Rattle.sigma_spl.specs.Good.{CanNest, IsMove, IsVector}
 use Rattle.sigma_spl.specs.Merge.{unit_below, back_of}
 use Rattle.sigma_spl.specs.Nest as nests
 use Rattle.sigma_spl.specs.Term.{scat}
-use Rattle.sigma_spl.specs.Work.{PlainWork, kernel, rows, horner, tile, copy, work_size, work_on}
+use Rattle.sigma_spl.specs.Work.{PlainWork, kernel, rows, horner, tile, copy, work_size, work_on, trees_of}
 use Rattle.sigma_spl.proofs.Nests.{moves-no-words}
 use Rattle.sigma_spl.proofs.Keeps.{scatter-same}
 use Rattle.sigma_spl.proofs.Walk.{vector-below}
@@ -57,7 +57,7 @@ trees-work m (tensor kind root t others) =
     }
 
 pub piece-work : (m : ℕ) (w : PlainWork) → IsGoodPiece w → IsWork m (work_size w) (work_on m w)
-piece-work m (kernel trees) h = trees-work m trees
+piece-work m (kernel k) h = trees-work m (trees_of k)
 piece-work m (rows root size) h = transform-work Dft m size root
 piece-work m (horner root size) h = transform-work Dft m size root
 piece-work m (tile v) h = absurd h

@@ -5,7 +5,7 @@ use Rattle.matrix_meaning.specs.declared.Kind.TheVariants.{Dft, Wht}
 use Rattle.sigma_spl.specs.Good.{IsGoodTerm, IsVector}
 use Rattle.sigma_spl.specs.Nest.{values, twiddles}
 use Rattle.sigma_spl.specs.Term.{PlainTerm, same, gath, diag, nest, move, product, beside, term_on}
-use Rattle.sigma_spl.specs.Work.{kernel, horner}
+use Rattle.sigma_spl.specs.Work.{kernel, horner, short}
 use Rattle.sigma_lower.specs.TreeTerms.Wrapped.{wrapped}
 use Rattle.spl_ast.specs.Formula.{Formula, Identity, Fourier, Hadamard, Twiddles, Diagonal, Stride, Permutation, GoodThomasIn, GoodThomasOut, Product, TensorLeft, TensorRight, DirectSum, Pending, size_of}
 use Rattle.spl_ast.specs.Meaning.{apply}
@@ -13,8 +13,6 @@ use Rattle.spl_ast.specs.Shape.{IsShaped}
 use Rattle.operators.specs.declared.tensor_paths.Tensor.{Tensor}
 use Rattle.operators.specs.declared.tensor_paths.Tensor.TheVariants.{Blocks, Columns}
 use Rattle.operators.specs.TensorPaths.Path.{Path, count_of, size_under, under}
-use Rattle.tree_model.specs.Trees.{single}
-use Rattle.tree_model.specs.Breakdown.{leaf}
 
 -- a tensor of one copy is none
 abbrev pub one_more : Path → Tensor → Path
@@ -28,11 +26,11 @@ halvings (suc b) n = if nat_lt n 2 then 0 else suc (halvings b (n / 2))
 -- WHT of 2 ^ k, split by 2
 abbrev pub hadamard_term : Path → ℕ → PlainTerm
 hadamard_term path zero = same
-hadamard_term path (suc k) = product (hadamard_term (path ++ Blocks 2 ∷ []) k) (nest (one_more path (Columns (2 ^ k))) (kernel (single Wht 0 (leaf 2))))
+hadamard_term path (suc k) = product (hadamard_term (path ++ Blocks 2 ∷ []) k) (nest (one_more path (Columns (2 ^ k))) (kernel (short Wht 0 2)))
 
 -- a short DFT is straight-line code, and a longer one goes row by row
 abbrev pub fourier_term : Path → ℕ → ℕ → PlainTerm
-fourier_term path n w = if nat_le n 8 then nest path (kernel (single Dft w (leaf n))) else nest path (horner w n)
+fourier_term path n w = if nat_le n 8 then nest path (kernel (short Dft w n)) else nest path (horner w n)
 
 -- a diagonal holds residues
 abbrev pub term_of : ℕ → Path → Formula → PlainTerm

@@ -12,14 +12,12 @@ ghost use Rattle.sigma_spl.specs.Nest.{twiddles, values};
 ghost use Rattle.sigma_spl.specs.Sigma.{IsGoodSigma, sigma_cost, sigma_on};
 ghost use Rattle.sigma_spl.specs.Term.{gath, diag, nest, move, product, beside};
 ghost use Rattle.sigma_spl.specs.Views.{plain_sigma, plain_term, plain_work};
-ghost use Rattle.sigma_spl.specs.Work.{kernel};
-ghost use Rattle.tree_model.specs.Trees.{single};
+ghost use Rattle.sigma_spl.specs.Work.{kernel, short};
 ghost use Rattle.sigma_spl.specs.Room.{HasRoom};
 ghost use Rattle.sigma_lower.specs.TreeTerms.Wrapped.{wrapped};
 ghost use Rattle.spl_ast.specs.Formula.{size_of};
 ghost use Rattle.spl_ast.specs.Meaning.{apply};
 ghost use Rattle.operators.specs.declared.tensor_paths.Tensor.TheVariants.{Columns};
-ghost use Rattle.tree_model.specs.Breakdown.{leaf};
 
 use crate::tree_terms::under;
 use index_fn::Index;
@@ -30,7 +28,6 @@ use ring_mod::Modulus;
 use sigma_spl::{Factors, Sigma, Term, Work};
 use spl_ast::{Node, Spl};
 use std::alloc::Global;
-use tree_model::{RootedTree, RootedTrees, Tree};
 
 /// The longest DFT that is straight-line code.
 const MAX_KERNEL: u64 = 8;
@@ -114,10 +111,9 @@ fn one_more(alloc: Global, path: &[Tensor], tensor: Tensor) -> Result<Vec<Tensor
 
 // A transform by its definition, in straight-line code.
 fn leaf_kernel(kind: Kind, root: u64, size: u64) -> Work
-    ensures { plain_work result ≡ kernel (single kind root (leaf size)) }
+    ensures { plain_work result ≡ kernel (short kind root size) }
 {
-    let tree = Tree::Leaf(size);
-    Work::Kernel(RootedTrees::Single(RootedTree { kind, root, tree }))
+    Work::Short { kind, root, size }
 }
 
 // A short DFT is straight-line code, and a longer one goes row by row.
@@ -153,7 +149,7 @@ fn hadamard(alloc: Global, path: &[Tensor], n: u64) -> Result<Term, NoMemory>
 // WHT of two items, on columns.
 fn butterflies(alloc: Global, path: &[Tensor], count: u64) -> Result<Term, NoMemory>
     ensures { IfOk result (λ t. plain_term t
-        ≡ nest (one_more path.now (Columns count)) (kernel (single Wht 0 (leaf 2)))) }
+        ≡ nest (one_more path.now (Columns count)) (kernel (short Wht 0 2))) }
 {
     let path = one_more(alloc, path, Tensor::Columns(count))?;
     let work = leaf_kernel(Kind::Wht, 0, 2);

@@ -9,7 +9,7 @@ use Rattle.operators.specs.Operator.{Operator, gather, on_columns, scale, stride
 use Rattle.operators.proofs.Lists.{at-list_below, list_below-same, length-list_below, place_below, factor_positive}
 use Rattle.operators.proofs.Places.{stride_below}
 use Rattle.operators.proofs.Sums.{sum_below-same}
-use Rattle.sigma_spl.specs.Work.{PlainWork, kernel, rows, horner, tile, copy, work_size, work_on}
+use Rattle.sigma_spl.specs.Work.{PlainWork, kernel, rows, horner, tile, copy, trees_of, work_size, work_on}
 use Rattle.tree_model.specs.Trees.{PlainTrees, single, tensor, trees_size, trees_on}
 use Rattle.smp_rewrite.specs.LayoutSteps.Meaning.{core_size, core_on}
 use Rattle.smp_rewrite.specs.LayoutSteps.Step.{PlainCore, piece, turns, twiddles, thomas_in, thomas_out}
@@ -43,7 +43,7 @@ trees-read m (tensor kind root tree others) x =
     ap (on_columns (size_of tree) (trees_size others) (transform kind m (size_of tree) root)) (reads-one_under (Blocks (size_of tree)) (trees_size others) (trees_on m others) x)
 
 work-reads : (m : ℕ) (w : PlainWork) → Reads (work_size w) (work_on m w)
-work-reads m (kernel trees) x = trees-read m trees x
+work-reads m (kernel k) x = trees-read m (trees_of k) x
 work-reads m (rows root size) x = reads-transform Dft m size root x
 work-reads m (horner root size) x = reads-transform Dft m size root x
 work-reads m (tile lanes) x = reads-gather (lanes * lanes) _ (λ i below. (stride_below lanes lanes i below).1) x
@@ -54,7 +54,7 @@ trees-give m (single kind root tree) x = length-list_below _ _
 trees-give m (tensor kind root tree others) x = length-list_below _ _
 
 work-gives : (m : ℕ) (w : PlainWork) → HasSize (work_size w) (work_on m w)
-work-gives m (kernel trees) x = trees-give m trees x
+work-gives m (kernel k) x = trees-give m (trees_of k) x
 work-gives m (rows root size) x = length-list_below _ _
 work-gives m (horner root size) x = length-list_below _ _
 work-gives m (tile lanes) x = length-list_below _ _

@@ -4,7 +4,7 @@ ghost use Rattle.sigma_spl.specs.Views.{plain_work};
 ghost use Rattle.smp_rewrite.specs.Appends.{Appends};
 ghost use Rattle.smp_rewrite.specs.Walk.{is_piece, left_part, left_request, node_steps, right_part, right_request, tree_steps};
 ghost use Rattle.smp_rewrite.specs.LayoutSteps.Layout.{node_work};
-ghost use Rattle.smp_rewrite.specs.LayoutSteps.Meaning.{IsNodeTree};
+ghost use Rattle.kernel_gen.specs.Nodes.{IsNodeTree};
 ghost use Rattle.smp_rewrite.specs.LayoutSteps.Step.{step};
 ghost use Rattle.smp_rewrite.specs.LayoutSteps.Views.{plain_core, plain_step};
 ghost use Rattle.tree_model.specs.Breakdown.{breakdown_of, HasWordSizes};
@@ -16,7 +16,7 @@ use operators::Tensor;
 use sigma_spl::Work;
 use spl_ast::{Node, Spl};
 use std::alloc::Global;
-use tree_model::{Ctx, Tree, is_kernel, node_root, rooted_of};
+use tree_model::{Ctx, Tree, is_kernel, node_root};
 
 /// The steps of a tree, in the order in which they are applied.
 pub(crate) fn steps_by(
@@ -134,8 +134,8 @@ fn node_work(alloc: Global, p: &Ctx, tree: &Tree) -> Result<Work, NoMemory>
         let root = node_root(p, size);
         return Ok(Work::Dense { root, size });
     }
-    let trees = rooted_of(alloc, p, tree.copied(alloc)?)?;
-    Ok(Work::Kernel(trees))
+    let tree = tree.copied(alloc)?;
+    Ok(Work::Kernel { ctx: *p, tree })
 }
 
 // The left part of a node; a leaf has none.

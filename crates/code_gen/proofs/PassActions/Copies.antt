@@ -20,7 +20,7 @@ use Rattle.code_gen.proofs.PassActions.Once.{stored-once}
 use Rattle.code_gen.proofs.PassActions.Tasks.{Task, IsReady}
 use Rattle.sigma_spl.specs.Copies.{loops_of, all_stored}
 use Rattle.sigma_spl.specs.Nest.{PlainMultiplier, PlainNest, load_place, store_place, copies_of, multiplied_on, nests_on}
-use Rattle.sigma_spl.specs.Work.{PlainWork, kernel, rows, horner, tile, copy, work_size, work_on, vectors_of}
+use Rattle.sigma_spl.specs.Work.{PlainWork, kernel, rows, horner, tile, copy, work_size, work_on, vectors_of, trees_of}
 use Rattle.operators.specs.TensorPaths.Path as paths
 use Rattle.tree_model.proofs.TreeProducts.{trees-below}
 
@@ -41,7 +41,7 @@ sums-below : (m n : ℕ) (f : ℕ → ℕ) (k : ℕ) → 0 < m → k < n → sli
 sums-below m n f k some below = subst (λ v. v < m) (sym (at-list_below n (λ i. f i % m) k below)) (mod-lt (f k) some)
 
 worked-below : (m : ℕ) (w : PlainWork) (y : List ℕ) (k : ℕ) → 0 < m → ((j : ℕ) → j < work_size w → slice_index y j < m) → k < work_size w → slice_index (work_on m w y) k < m
-worked-below m (kernel trees) y k some small below = trees-below m trees y k some below
+worked-below m (kernel trees) y k some small below = trees-below m (trees_of trees) y k some below
 worked-below m (rows root size) y k some small below = sums-below m size _ k some below
 worked-below m (horner root size) y k some small below = sums-below m size _ k some below
 worked-below m (tile v) y k some small below =

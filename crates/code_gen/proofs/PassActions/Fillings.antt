@@ -26,8 +26,8 @@ use Rattle.code_gen.proofs.PassActions.StraightCopies.{CopyWords, body-fills, fi
 use Rattle.code_gen.proofs.PassActions.Tasks.{Task, IsReady}
 use Rattle.code_gen.proofs.PassActions.TileCopies.{turned, tile-computes}
 use Rattle.sigma_spl.specs.Nest.{PlainNest, load_place}
-use Rattle.sigma_spl.specs.Work.{PlainWork, kernel, rows, horner, tile, copy, vectors_of}
-use Rattle.tree_model.specs.Trees.{PlainTrees, trees_size, trees_on}
+use Rattle.sigma_spl.specs.Work.{PlainWork, kernel, rows, horner, tile, copy, vectors_of, trees_of, PlainKernel}
+use Rattle.tree_model.specs.Trees.{trees_size, trees_on}
 
 -- the same loops round other work
 abbrev pub working : PlainNest → PlainWork → PlainNest
@@ -54,19 +54,19 @@ module _ (c : Target) (zs : List PlainNest) (can : CanRun c zs) (source target q
   abbrev pub CopiesFill : (p : PlainNest) → Contains zs p → Type 0
   CopiesFill p one = (vs : List ℕ) → AreInRange (facts c zs can p one source target q x apart part small).framed.loops vs → CopyFills p vs (copy_acts c p p.work source target q vs)
 
-  module _ (p : PlainNest) (trees : PlainTrees) (one : Contains zs (working p (kernel trees))) where
-    kernel-fills : CopiesFill (working p (kernel trees)) one
+  module _ (p : PlainNest) (k : PlainKernel) (one : Contains zs (working p (kernel k))) where
+    kernel-fills : CopiesFill (working p (kernel k)) one
     kernel-fills vs range =
-        let z : PlainNest = working p (kernel trees) in
-        let n = trees_size trees in
-        let f = trees_on c.modulus trees in
-        let made = trees_kernel c.modulus trees in
+        let z : PlainNest = working p (kernel k) in
+        let n = trees_size (trees_of k) in
+        let f = trees_on c.modulus (trees_of k) in
+        let made = trees_kernel c.modulus (trees_of k) in
         let from : ℕ → ℕ = λ k. source + load_at c z q vs k in
         let few : with_multiplier p.multiplier made.next n ≤ regs = registers-le c zs z one in
         let work = (facts c zs can z one source target q x apart part small).work in
         body-fills c z p.multiplier regs target q whole n from (actions_by c.lanes made.code) (slice_index made.outs) made.next (value_of whole n from f) vs can.lanes few
         (kernel-computes c regs whole 1 n _ from made f (finish-few p.multiplier made.next n regs few)
-        (trees-does c.modulus 1 trees can.modulus work)
+        (trees-does c.modulus 1 (trees_of k) can.modulus work.trees)
         (λ k lane under there. input-below c zs can z one source target q x apart part small vs range k lane under there))
         (λ k under lane there. input-word c zs can z one source target q x apart part small vs range k lane under there)
         (λ k under lane there. output-word c zs can z one source target q x apart part small vs range k lane under there)
@@ -159,7 +159,7 @@ module _ (c : Target) (zs : List PlainNest) (can : CanRun c zs) (source target q
         ∙ at-list_below n (λ j. slice_index x (load_place z.work z.gathers (on c zs can z one source target q x apart part small lane vs) j)) k under)))
 
   copies-of : (p : PlainNest) (w : PlainWork) (one : Contains zs (working p w)) → CopiesFill (working p w) one
-  copies-of p (kernel trees) one = kernel-fills p trees one
+  copies-of p (kernel k) one = kernel-fills p k one
   copies-of p (rows root n) one = rows-filled p root n one
   copies-of p (horner root n) one = horner-filled p root n one
   copies-of p (tile v) one =

@@ -25,7 +25,7 @@ use Rattle.code_gen.proofs.PassActions.KernelActions.{code-fits}
 use Rattle.code_gen.proofs.PassActions.Rows.{row_acts}
 use Rattle.code_gen.proofs.PassActions.StraightCopies.{ends_of, copy_body, finish-few}
 use Rattle.sigma_spl.specs.Nest.{PlainMultiplier, PlainNest, factor_at}
-use Rattle.sigma_spl.specs.Work.{PlainWork, kernel, rows, horner, tile, copy}
+use Rattle.sigma_spl.specs.Work.{PlainWork, kernel, rows, horner, tile, copy, trees_of}
 use Rattle.tree_model.specs.Trees.{trees_size}
 
 module _ (regs lanes m : ℕ) where
@@ -124,11 +124,11 @@ module _ (c : Target) (lanes : 0 < c.lanes) (modulus : 2 ≤ c.modulus) (regs so
   Fits actions = All (IsFit regs c.lanes c.modulus) actions
 
   copy-fits : (p : PlainNest) (w : PlainWork) → CanRunNest c (working p w) → nest_registers c.modulus (working p w) w ≤ regs → (vs : List ℕ) → Fits (copy_acts c (working p w) w source target q vs)
-  copy-fits p (kernel trees) can few vs =
-      let z : PlainNest = working p (kernel trees) in
-      let n = trees_size trees in
-      let made = trees_kernel c.modulus trees in
-      let done = trees-does c.modulus 1 trees modulus can.work in
+  copy-fits p (kernel k) can few vs =
+      let z : PlainNest = working p (kernel k) in
+      let n = trees_size (trees_of k) in
+      let made = trees_kernel c.modulus (trees_of k) in
+      let done = trees-does c.modulus 1 (trees_of k) modulus can.work.trees in
       fit-body c z target q regs vs some p.multiplier (actions_by c.lanes made.code) (slice_index made.outs) made.next n (λ k. source + load_at c z q vs k) can.residues (let next = done.next_is in omega (arith, next)) few
       (code-fits c.modulus c.lanes made.next regs some (finish-few p.multiplier made.next n regs few) made.code done.within)
       (λ k below. at-AllBelow made.next made.outs k done.below (let sized = done.sized in omega arith))

@@ -19,7 +19,7 @@ use Rattle.code_gen.proofs.PassActions.Counting.{counts, tally, counts-same, pro
 use Rattle.code_gen.proofs.PassActions.Fillings.{working}
 use Rattle.sigma_spl.specs.Counts.{copies_in, multiplier_cost}
 use Rattle.sigma_spl.specs.Nest.{PlainMultiplier, PlainNest}
-use Rattle.sigma_spl.specs.Work.{PlainWork, kernel, rows, horner, tile, copy, work_size}
+use Rattle.sigma_spl.specs.Work.{PlainWork, kernel, rows, horner, tile, copy, work_size, trees_of}
 use Rattle.tree_model.specs.Trees.{trees_size}
 
 products-are : (weight : ℕ) (o : Option PlainMultiplier) (w : PlainWork) → multiplier_cost weight o w ≡ work_size w * products_of weight o
@@ -61,13 +61,13 @@ module _ (weight : ℕ) (c : Target) (lanes : 0 < c.lanes) (modulus : 2 ≤ c.mo
       ≡ counts (lanes_round c p.work * (work_cost weight c.modulus p.work + multiplier_cost weight p.multiplier p.work)) (lanes_round c p.work * work_loads p.work) (lanes_round c p.work * work_size p.work)
 
   copy-counts : (p : PlainNest) (w : PlainWork) → CanWork c w → CopyCounts (working p w)
-  copy-counts p (kernel trees) can vs =
-      let z : PlainNest = working p (kernel trees) in
-      let n = trees_size trees in
-      let price = trees_cost weight c.modulus trees in
-      let made = trees_kernel c.modulus trees in
+  copy-counts p (kernel k) can vs =
+      let z : PlainNest = working p (kernel k) in
+      let n = trees_size (trees_of k) in
+      let price = trees_cost weight c.modulus (trees_of k) in
+      let made = trees_kernel c.modulus (trees_of k) in
       counts-body weight c z target q vs p.multiplier (actions_by c.lanes made.code) (slice_index made.outs) made.next n (c.lanes * price) (λ k. source + load_at c z q vs k)
-      (counts-code weight c.lanes price made.code (trees-does c.modulus weight trees modulus can).costs)
+      (counts-code weight c.lanes price made.code (trees-does c.modulus weight (trees_of k) modulus can.trees).costs)
       ∙ counts-same _ _ (kernel_share c.lanes price n (products_of weight p.multiplier) ∙ ap (λ m. c.lanes * (price + m)) (sym (products-are weight p.multiplier z.work))) (swap n c.lanes) (swap n c.lanes)
   copy-counts p (rows root n) can vs =
       let z : PlainNest = working p (rows root n) in

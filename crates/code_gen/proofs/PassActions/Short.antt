@@ -23,7 +23,7 @@ use Rattle.code_gen.proofs.PassActions.PassCounts.{pass-counts}
 use Rattle.code_gen.proofs.PassActions.Rows.{row_acts}
 use Rattle.code_gen.proofs.PassActions.StraightCopies.{ends_of, copy_body}
 use Rattle.sigma_spl.specs.Nest.{PlainMultiplier, PlainNest}
-use Rattle.sigma_spl.specs.Work.{PlainWork, kernel, rows, horner, tile, copy}
+use Rattle.sigma_spl.specs.Work.{PlainWork, kernel, rows, horner, tile, copy, trees_of}
 use Rattle.tree_model.specs.Trees.{trees_size}
 
 module _ (lanes : ℕ) (some : 0 < lanes) where
@@ -98,10 +98,10 @@ module _ (c : Target) (p : PlainNest) (target q : ℕ) (vs : List ℕ) (some : 0
 
 module _ (c : Target) (some : 0 < c.lanes) (source target q : ℕ) where
   copy-room : (p : PlainNest) (w : PlainWork) → CanWork c w → (vs : List ℕ) → HasRoom c.lanes some 0 (copy_acts c (working p w) w source target q vs)
-  copy-room p (kernel trees) can vs =
-      let z : PlainNest = working p (kernel trees) in
-      let n = trees_size trees in
-      let made = trees_kernel c.modulus trees in
+  copy-room p (kernel k) can vs =
+      let z : PlainNest = working p (kernel k) in
+      let n = trees_size (trees_of k) in
+      let made = trees_kernel c.modulus (trees_of k) in
       less c.lanes some 0 n (copy_body c z p.multiplier (actions_by c.lanes made.code) (slice_index made.outs) made.next n (λ k. source + load_at c z q vs k) target q vs) (omega arith)
       (room-body c z target q vs some p.multiplier (actions_by c.lanes made.code) (slice_index made.outs) made.next n 0 (λ k. source + load_at c z q vs k) (room-code c.lanes some made.code))
   copy-room p (rows root n) can vs = let z : PlainNest = working p (rows root n) in room-rows c z target q vs some n (term_acts c z root source q vs) (λ k l. omega arith)

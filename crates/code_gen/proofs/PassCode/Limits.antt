@@ -22,7 +22,7 @@ use Rattle.code_gen.proofs.PassCode.SharedTables.{number-small, with_table-longe
 use Rattle.code_gen.proofs.PassActions.StraightCopies.{finish-few}
 use Rattle.sigma_spl.specs.Merge.{limits_of}
 use Rattle.sigma_spl.specs.Nest.{PlainMultiplier, PlainNest}
-use Rattle.sigma_spl.specs.Work.{PlainWork, kernel, rows, horner, tile, copy}
+use Rattle.sigma_spl.specs.Work.{PlainWork, kernel, rows, horner, tile, copy, trees_of}
 use Rattle.tree_model.specs.Trees.{trees_size}
 
 places-within : (cs : ℕ → ℕ) (f : PlainFrame) (n open_loops : ℕ) (sums : List Sum) → n ≤ length sums → AreWithin cs f open_loops sums → ArePlaces f n open_loops sums
@@ -47,14 +47,14 @@ multiplier-longer m None ts = omega arith
 multiplier-longer m (Some d) ts = diagonal-longer (one_factor d.factors) ts (diagonal_of m d.factors)
 
 work-longer : (m : ℕ) (w : PlainWork) (ts : List (List ℕ)) → length ts ≤ length (tables_of_work m w ts)
-work-longer m (kernel trees) ts = omega arith
+work-longer m (kernel k) ts = omega arith
 work-longer m (rows root n) ts = with_table-longer ts (powers_of m root n)
 work-longer m (horner root n) ts = with_table-longer ts (powers_of m root n)
 work-longer m (tile v) ts = omega arith
 work-longer m (copy n) ts = omega arith
 
 powers-small : (m : ℕ) (w : PlainWork) (ts : List (List ℕ)) → powers_number m w ts ≤ length ts
-powers-small m (kernel trees) ts = omega arith
+powers-small m (kernel k) ts = omega arith
 powers-small m (rows root n) ts = number-small ts (powers_of m root n)
 powers-small m (horner root n) ts = number-small ts (powers_of m root n)
 powers-small m (tile v) ts = omega arith
@@ -91,14 +91,14 @@ module _ (c : Target) (modulus : 2 ≤ c.modulus) (source target : Array) (power
 
   work-within : (p : PlainNest) (w : PlainWork) → CanRunNest c (working p w) → CanWriteNest c (working p w) → nest_registers c.modulus (working p w) w < 2 ^ 20 →
       is_body_within m (work_body c (working p w) w (length (loop_counts c (working p w))) powers table source target) (length (loop_counts c (working p w))) ≡ true
-  work-within p (kernel trees) can writes few =
-      let z : PlainNest = working p (kernel trees) in
-      let n = trees_size trees in
+  work-within p (kernel k) can writes few =
+      let z : PlainNest = working p (kernel k) in
+      let n = trees_size (trees_of k) in
       let f = frame_of c z.work in
       let deep = length (loop_counts c z) in
       let all : deep + 0 ≡ deep = omega arith in
-      let made = trees_kernel c.modulus trees in
-      let done = trees-does c.modulus 1 trees modulus can.work in
+      let made = trees_kernel c.modulus (trees_of k) in
+      let done = trees-does c.modulus 1 (trees_of k) modulus can.work.trees in
       let next = done.next_is in
       let used : made.next < 2 ^ 20 = let least = finish-few p.multiplier made.next n (nest_registers c.modulus z z.work) (omega arith) in omega arith in
       let outputs : ℕ → PlainBody = λ k. finish_body f 0 z.multiplier z.scatters deep table target k (slice_index made.outs k) (made.next + k) in

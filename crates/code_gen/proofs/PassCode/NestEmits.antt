@@ -27,7 +27,7 @@ use Rattle.sigma_spl.specs.Copies.{loops_of}
 use Rattle.sigma_spl.specs.Good.{AreSound}
 use Rattle.sigma_spl.specs.Merge.{limits_of}
 use Rattle.sigma_spl.specs.Nest.{PlainMultiplier, PlainNest, store_place, sum_value}
-use Rattle.sigma_spl.specs.Work.{PlainWork, kernel, rows, horner, tile, copy, work_size, vectors_of}
+use Rattle.sigma_spl.specs.Work.{PlainWork, kernel, rows, horner, tile, copy, work_size, vectors_of, trees_of}
 use Rattle.operators.specs.TensorPaths.Path as paths
 use Rattle.tree_model.specs.Trees.{trees_size}
 
@@ -171,10 +171,10 @@ module _ (c : Target) (lanes : 0 < c.lanes) (program : PlainProgram) (here : IsF
 
   emits-copy : (p : PlainNest) (w : PlainWork) (can : CanRunNest c (working p w)) → CanWriteNest c (working p w) → HasNestTables (working p w) → (vs : List ℕ) → AreInRange can.framed.loops vs →
       Emits (steps_of_body program (work_body c (working p w) w (length (loop_counts c (working p w))) powers table source target) vs q) (copy_acts c (working p w) w (start_of c source) (start_of c target) q vs)
-  emits-copy p (kernel trees) can writes has vs range =
-      let z : PlainNest = working p (kernel trees) in
+  emits-copy p (kernel k) can writes has vs range =
+      let z : PlainNest = working p (kernel k) in
       let deep = length (loop_counts c z) in
-      emits-made c z program here lanes q source target table vs has.diagonal (trees_size trees) (trees_kernel c.modulus trees)
+      emits-made c z program here lanes q source target table vs has.diagonal (trees_size (trees_of k)) (trees_kernel c.modulus (trees_of k))
       (λ k below. is-loaded c lanes z can writes q part vs range k below deep k vs (alone-coded c lanes z can writes q part vs range z.gathers k writes.gathers.1 writes.gathers.0.sound))
       (λ k below.
       is-stored c lanes z can writes q part vs range k below 0 deep k vs refl (alone-coded c lanes z can writes q part vs range z.scatters k writes.scatters.1 writes.scatters.0.sound)
@@ -235,7 +235,7 @@ module _ (c : Target) (lanes : 0 < c.lanes) (program : PlainProgram) (here : IsF
 -- ---- a nest, after these tables
 
 work-extends : (m : ℕ) (w : PlainWork) (ts : List (List ℕ)) → Extends (tables_of_work m w ts) ts
-work-extends m (kernel trees) ts = record { last = []; is = sym (append-nil ts) }
+work-extends m (kernel k) ts = record { last = []; is = sym (append-nil ts) }
 work-extends m (rows root n) ts = with_table-extends ts (powers_of m root n)
 work-extends m (horner root n) ts = with_table-extends ts (powers_of m root n)
 work-extends m (tile v) ts = record { last = []; is = sym (append-nil ts) }

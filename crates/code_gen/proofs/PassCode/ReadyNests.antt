@@ -14,7 +14,7 @@ use Rattle.sigma_spl.specs.Shared.Machine.{loop_counts}
 use Rattle.sigma_spl.specs.Shared.Owners.{IsHost}
 use Rattle.sigma_spl.specs.Shared.Ready.{IsReadyNest, IsReadyPass, IsSmallWork}
 use Rattle.sigma_spl.specs.Shared.Running.{CanRunNest, CanWork}
-use Rattle.sigma_spl.specs.Work.{PlainWork, kernel, rows, horner, tile, copy}
+use Rattle.sigma_spl.specs.Work.{PlainWork, kernel, rows, horner, tile, copy, trees_of}
 use Rattle.tree_model.specs.KernelCosts.{trees_cost}
 use Rattle.tree_model.specs.Trees.{trees_size}
 use Rattle.code_gen.proofs.PassActions.KernelActions.{trees-registers}
@@ -99,11 +99,11 @@ module _ (h : Target) (host : IsHost h) where
       omega (arith, square, high)
 
   few-registers : (z : PlainNest) (w : PlainWork) → CanWork h w → IsSmallWork w → nest_registers h.modulus z w < 2 ^ 20
-  few-registers z (kernel trees) can small =
-      let n = trees_size trees in
-      let made = trees_kernel h.modulus trees in
-      let price = small-kernel n (trees_cost 1 h.modulus trees) small (trees-few h.modulus trees can) in
-      let next = trees-registers h.modulus trees host.modulus.0 can in
+  few-registers z (kernel k) can small =
+      let n = trees_size (trees_of k) in
+      let made = trees_kernel h.modulus (trees_of k) in
+      let price = small-kernel n (trees_cost 1 h.modulus (trees_of k)) small (trees-few h.modulus (trees_of k) can.trees) in
+      let next = trees-registers h.modulus (trees_of k) host.modulus.0 can.trees in
       let used = with-le z.multiplier made.next n in
       omega (arith, used, next, price, small)
   few-registers z (rows root size) can small = let used = with-le z.multiplier 3 1 in omega (arith, used)

@@ -19,7 +19,7 @@ use Rattle.sigma_spl.specs.Shared.Machine.{loop_counts}
 use Rattle.code_gen.proofs.PassActions.Fillings.{working}
 use Rattle.code_gen.proofs.PassActions.Rows.{row_acts}
 use Rattle.sigma_spl.specs.Nest.{PlainMultiplier, PlainNest}
-use Rattle.sigma_spl.specs.Work.{PlainWork, kernel, rows, horner, tile, copy, vectors_of}
+use Rattle.sigma_spl.specs.Work.{PlainWork, kernel, rows, horner, tile, copy, vectors_of, trees_of}
 use Rattle.tree_model.specs.Trees.{trees_size}
 
 -- a property of actions that the arithmetic has
@@ -116,8 +116,8 @@ module _ (P : Action → Type 0) (free : IsFree P) where
     StoresHave p = (vs : List ℕ) (k r : ℕ) → AreInRange (loop_counts c p) vs → k < vectors_of p.work → P (Store (target + store_at c p q vs k) r)
 
     in-copy : (p : PlainNest) (w : PlainWork) → LoadsHave (working p w) → StoresHave (working p w) → (vs : List ℕ) → AreInRange (loop_counts c (working p w)) vs → All P (copy_acts c (working p w) w source target q vs)
-    in-copy p (kernel trees) load store vs range =
-        in-made c (working p (kernel trees)) source target q vs (trees_size trees) (λ k r below. load vs k r range below) (λ k r below. store vs k r range below) (trees_kernel c.modulus trees)
+    in-copy p (kernel k) load store vs range =
+        in-made c (working p (kernel k)) source target q vs (trees_size (trees_of k)) (λ k r below. load vs k r range below) (λ k r below. store vs k r range below) (trees_kernel c.modulus (trees_of k))
     in-copy p (rows root n) load store vs range =
         let z : PlainNest = working p (rows root n) in
         in-rows c z source target q vs n (λ k r below. load vs k r range below) (λ k r below. store vs k r range below) (term_acts c z root source q vs)

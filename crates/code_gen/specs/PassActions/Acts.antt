@@ -10,7 +10,7 @@ use Rattle.kernel_gen.specs.Making.{Made}
 use Rattle.operators.specs.declared.target.Target.{Target}
 use Rattle.sigma_spl.specs.Shared.Machine.{values_of, loop_counts, item_of}
 use Rattle.sigma_spl.specs.Nest.{PlainMultiplier, PlainNest, factor_at, load_place, store_place}
-use Rattle.sigma_spl.specs.Work.{PlainWork, kernel, rows, horner, tile, copy, work_size}
+use Rattle.sigma_spl.specs.Work.{PlainWork, kernel, rows, horner, tile, copy, work_size, trees_of}
 use Rattle.ring_mod.specs.Residue.{power_mod}
 
 -- ---- places on a processor, at the values of the loops
@@ -60,7 +60,7 @@ items_acts h z size source target q vs = bodies size (λ k. Load 0 (source + loa
 
 -- a copy on each lane
 abbrev pub copy_acts : Target → PlainNest → PlainWork → ℕ → ℕ → ℕ → List ℕ → List Action
-copy_acts h z (kernel trees) source target q vs = made_acts h z (work_size (kernel trees)) (trees_kernel h.modulus trees) source target q vs
+copy_acts h z (kernel k) source target q vs = made_acts h z (work_size (kernel k)) (trees_kernel h.modulus (trees_of k)) source target q vs
 copy_acts h z (rows root size) source target q vs = rows_acts h z size (term_acts h z root source q vs) target q vs
 copy_acts h z (horner root size) source target q vs = rows_acts h z size (horner_acts h z root size source q vs) target q vs
 copy_acts h z (tile lanes) source target q vs = tile_acts h z lanes source target q vs
@@ -83,7 +83,7 @@ with_multiplier (Some d) used more = used + more
 
 -- how many registers work uses modulo m, with a free one for each product of its items
 abbrev pub nest_registers : ℕ → PlainNest → PlainWork → ℕ
-nest_registers m z (kernel trees) = with_multiplier z.multiplier (trees_kernel m trees).next (work_size (kernel trees))
+nest_registers m z (kernel k) = with_multiplier z.multiplier (trees_kernel m (trees_of k)).next (work_size (kernel k))
 nest_registers m z (rows root size) = with_multiplier z.multiplier 3 1
 nest_registers m z (horner root size) = with_multiplier z.multiplier 3 1
 nest_registers m z (tile lanes) = with_multiplier z.multiplier (lanes + lanes) lanes

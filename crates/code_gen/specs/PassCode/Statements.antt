@@ -11,7 +11,7 @@ use Rattle.code_gen.specs.PassCode.Expressions.{expr_of}
 use Rattle.operators.specs.declared.target.Target.{Target}
 use Rattle.sigma_spl.specs.Shared.Machine.{PlainFrame, frame_of, loop_counts}
 use Rattle.sigma_spl.specs.Nest.{PlainFactors, values, twiddles, repeated, spread, factor_count, factor_at, PlainMultiplier, PlainNest}
-use Rattle.sigma_spl.specs.Work.{PlainWork, kernel, rows, horner, tile, copy, work_size}
+use Rattle.sigma_spl.specs.Work.{PlainWork, kernel, rows, horner, tile, copy, work_size, trees_of}
 use Rattle.perm_algebra.specs.Affine.{constant}
 use Rattle.perm_algebra.specs.Affine as affine
 use Rattle.ring_mod.specs.Residue.{power_mod}
@@ -156,8 +156,8 @@ items_body f z open_loops size table source target =
     in_a_row size (λ k. AndStmts (Do (Load 0 source (place_at f open_loops z.gathers k))) (finish_body f 0 z.multiplier z.scatters open_loops table target k 0 1))
 
 abbrev pub work_body : Target → PlainNest → PlainWork → ℕ → ℕ → ℕ → Array → Array → PlainBody
-work_body h z (kernel trees) open_loops powers table source target =
-    made_body (frame_of h z.work) z open_loops (work_size (kernel trees)) (trees_kernel h.modulus trees) table source target
+work_body h z (kernel k) open_loops powers table source target =
+    made_body (frame_of h z.work) z open_loops (work_size (kernel k)) (trees_kernel h.modulus (trees_of k)) table source target
 work_body h z (rows root size) open_loops powers table source target =
     let f = frame_of h z.work in rows_body f z open_loops size (term_body (place_at f (open_loops + 2) z.gathers 0) open_loops source powers size) table target
 work_body h z (horner root size) open_loops powers table source target =

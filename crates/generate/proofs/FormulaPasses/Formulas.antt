@@ -12,7 +12,6 @@ use Rattle.sigma_lower.proofs.Compiling.{formulas_compile}
 use Rattle.sigma_lower.proofs.Lowers.{halvings-power, power-above, lowers}
 use Rattle.sigma_lower.proofs.Several.{term-several}
 use Rattle.kernel_gen.proofs.Residues.{power_below}
-use Rattle.tree_model.specs.Trees.{single}
 use Rattle.generate.specs.FormulaPasses.Laws.{FormulasAreReady}
 use Rattle.generate.specs.FormulaPasses.Computes.{formula_merged}
 use Rattle.loop_merge.proofs.JoinedCopies.Passes.{joined_are_plain}
@@ -35,7 +34,7 @@ use Rattle.sigma_spl.specs.Limits.{AreWithin}
 use Rattle.sigma_spl.specs.Merge.{most, if_any, is_within, passes_of}
 use Rattle.sigma_spl.specs.Nest.{PlainNest, copies_of}
 use Rattle.sigma_spl.specs.Term.{nest}
-use Rattle.sigma_spl.specs.Work.{kernel, horner}
+use Rattle.sigma_spl.specs.Work.{kernel, horner, short}
 use Rattle.sigma_spl.proofs.Counting.{items_of, items-once}
 use Rattle.sigma_spl.proofs.Nests.{all-inside}
 use Rattle.loop_merge.specs.PlainPasses.{ArePlainPasses, IsPlainPass, in_order}
@@ -44,7 +43,6 @@ use Rattle.spl_ast.specs.Shape.{IsShaped}
 use Rattle.spl_ast.proofs.Vectors.{shaped_size, size_is_size}
 use Rattle.operators.specs.declared.tensor_paths.Tensor.TheVariants.{Blocks, Columns}
 use Rattle.operators.specs.TensorPaths.Path.{Path}
-use Rattle.tree_model.specs.Breakdown.{leaf}
 
 -- ---- the term of a formula
 
@@ -61,7 +59,7 @@ fourier-formed : (m : ℕ) (path : Path) (n w : ℕ) → 1 ≤ n → IsFormulaTe
 fourier-formed m path n w some =
     elim (cases_lt 8 n) [
       | inl long ↦ let is : fourier_term path n w ≡ nest path (horner w n) = grind (arith, nat_tests) in subst (IsFormulaTerm m) (sym is) (omega (arith, some))
-      | inr short ↦ let is : fourier_term path n w ≡ nest path (kernel (single Dft w (leaf n))) = grind (arith, nat_tests) in subst (IsFormulaTerm m) (sym is) (some, omega (arith, short))
+      | inr short ↦ let is : fourier_term path n w ≡ nest path (kernel (short Dft w n)) = grind (arith, nat_tests) in subst (IsFormulaTerm m) (sym is) (some, omega (arith, short))
     ]
 
 term-formed : (m : ℕ) (path : Path) (f : Formula) → 0 < m → IsShaped f → IsFormulaTerm m (term_of m path f)
@@ -113,7 +111,7 @@ fourier-counted path n w =
     elim (cases_lt 8 n) [
       | inl long ↦ let is : fourier_term path n w ≡ nest path (horner w n) = grind (arith, nat_tests) in
           subst (λ t. IsCounted (Fourier n w) (steps_in t) (sums_in t) (makers_in t)) (sym is) (record { steps = omega arith; sums = omega arith; makers = omega arith })
-      | inr short ↦ let is : fourier_term path n w ≡ nest path (kernel (single Dft w (leaf n))) = grind (arith, nat_tests) in
+      | inr short ↦ let is : fourier_term path n w ≡ nest path (kernel (short Dft w n)) = grind (arith, nat_tests) in
           subst (λ t. IsCounted (Fourier n w) (steps_in t) (sums_in t) (makers_in t)) (sym is) (record { steps = omega arith; sums = omega arith; makers = omega arith })
     ]
 

@@ -10,12 +10,14 @@ use Rattle.matrix_meaning.specs.declared.Dimensions.TheVariants.{One}
 use Rattle.matrix_meaning.specs.declared.Kind.{Kind}
 use Rattle.matrix_meaning.specs.declared.Kind.TheVariants.{Dft, Wht, Idft}
 use Rattle.matrix_meaning.specs.declared.Request.{Request}
-use Rattle.sigma_spl.specs.Work.{PlainWork, kernel}
+use Rattle.sigma_spl.specs.Work.{PlainWork, kernel, node_of}
 use Rattle.smp_rewrite.specs.LayoutSteps.Layout.{Layout, work, by, layout_cost, layout_size, layout_of, long_work, node_work}
 use Rattle.sigma_spl.specs.Shared.Costs.{work_cost}
-use Rattle.smp_rewrite.specs.LayoutSteps.Meaning.{FitsWhole, IsNodeTree}
+use Rattle.kernel_gen.specs.Nodes.{IsNodeTree}
+use Rattle.smp_rewrite.specs.LayoutSteps.Meaning.{FitsWhole}
 use Rattle.smp_rewrite.proofs.LayoutSteps.Layouts.{layouts_cost, layouts_have_size}
-use Rattle.smp_rewrite.proofs.LayoutSteps.NodeTrees.{left_fits, left_tree, right_fits, right_tree}
+use Rattle.kernel_gen.proofs.NodeTrees.{left_tree, right_tree}
+use Rattle.smp_rewrite.proofs.LayoutSteps.NodeTrees.{left_fits, right_fits}
 use Rattle.tree_model.specs.Admissible.{RuleFits}
 use Rattle.tree_model.specs.Breakdown.{Breakdown, leaf, node, size_of, AllowsLeaf}
 use Rattle.tree_model.specs.Cost.{is_kernel, is_plain, node_root}
@@ -79,11 +81,11 @@ module _ (n : ℕ) (p : Request) where
 
 -- ---- a leaf
 
-rows-loads : (n root d : ℕ) (kind : Kind) → AllowsLeaf kind d → 2 < d →
-    loads_by n (long_work kind root (leaf d)) ≡ n * d
-rows-loads n root d Dft h more = refl
-rows-loads n root d Wht h more = absurd (omega (arith, h.1, more))
-rows-loads n root d Idft h more = absurd h
+rows-loads : (n d : ℕ) (p : Request) (kind : Kind) → AllowsLeaf kind d → 2 < d →
+    loads_by n (long_work p kind (leaf d)) ≡ n * d
+rows-loads n d p Dft h more = refl
+rows-loads n d p Wht h more = absurd (omega (arith, h.1, more))
+rows-loads n d p Idft h more = absurd h
 
 leaf-loads : (n : ℕ) (p : Request) (d : ℕ) → IsValid p → AllowsLeaf p.kind d → FitsWhole p (leaf d) →
     loads_by n (node_work p (leaf d)) ≡ trees.node_loads p n (leaf d)
@@ -91,16 +93,15 @@ leaf-loads n p d valid formed fits = pick (is_kernel p d) refl
   where
     pick : (b : Bool) → is_kernel p d ≡ b → loads_by n (node_work p (leaf d)) ≡ trees.node_loads p n (leaf d)
     pick true short =
-        ap (λ b. loads_by n (if b then kernel (rooted_of p (leaf d)) else long_work p.kind (node_root p d) (leaf d)))
+        ap (λ b. loads_by n (if b then kernel (node_of p (leaf d)) else long_work p p.kind (leaf d)))
         short
         ∙ sym (ap (λ b. if b then n else n * d) (kernel-short p d short))
     pick false long =
         elim (cases_lt p.unroll d) [
           | inl over ↦
               let loop : nat_le d p.unroll ≡ false = grind (arith, nat_tests) in
-              ap (λ b. loads_by n (if b then kernel (rooted_of p (leaf d)) else long_work p.kind (node_root p d)
-              (leaf d))) long
-              ∙ rows-loads n (node_root p d) d p.kind formed (omega (arith, over, valid.in_range.unroll.0))
+              ap (λ b. loads_by n (if b then kernel (node_of p (leaf d)) else long_work p p.kind (leaf d))) long
+              ∙ rows-loads n d p p.kind formed (omega (arith, over, valid.in_range.unroll.0))
               ∙ sym (ap (λ b. if b then n else n * d) loop)
           | inr short ↦
               let both : (d ≡ p.size) × (is_plain p ≡ false) = grind (arith, nat_tests, long, short) in
@@ -133,7 +134,7 @@ module _ (n : ℕ) (p : Request) (rule : Rule) (a b : Breakdown) (l : Layout) wh
 
   kernel-loads : is_kernel p d ≡ true → loads_by n (node_work p t) ≡ n
   kernel-loads short =
-      ap (λ z. loads_by n (if z then kernel (rooted_of p t) else long_work p.kind (node_root p d) t)) short
+      ap (λ z. loads_by n (if z then kernel (node_of p t) else long_work p p.kind t)) short
 
   pub kernel-matches : (count : ℕ) → is_kernel p d ≡ true →
       layout_cost p.weight p.modulus (if is_kernel p d then work (node_work p t) else l) ≡ cost_in p t →

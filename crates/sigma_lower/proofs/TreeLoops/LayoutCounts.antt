@@ -14,9 +14,11 @@ use Rattle.matrix_meaning.proofs.Parts.{first_is_one}
 use Rattle.sigma_spl.specs.Work.{PlainWork}
 use Rattle.smp_rewrite.specs.LayoutSteps.Layout.{Layout, work, by, layout_size, layout_of, layout_cost, node_work}
 use Rattle.sigma_spl.specs.Shared.Costs.{work_cost}
-use Rattle.smp_rewrite.specs.LayoutSteps.Meaning.{FitsWhole, IsNodeTree}
+use Rattle.kernel_gen.specs.Nodes.{IsNodeTree}
+use Rattle.smp_rewrite.specs.LayoutSteps.Meaning.{FitsWhole}
 use Rattle.smp_rewrite.proofs.LayoutSteps.Layouts.{layouts_cost, layouts_have_size}
-use Rattle.smp_rewrite.proofs.LayoutSteps.NodeTrees.{HasFields, left_fields, left_fits, left_tree, rest_is_part, right_fields, right_tree}
+use Rattle.kernel_gen.proofs.NodeTrees.{HasFields, left_fields, left_tree, rest_is_part, right_fields, right_tree}
+use Rattle.smp_rewrite.proofs.LayoutSteps.NodeTrees.{left_fits}
 use Rattle.tree_model.specs.Breakdown.{Breakdown, leaf, node, size_of, AllowsLeaf, AllowsRule}
 use Rattle.tree_model.specs.Cost.{is_kernel, is_plain, node_root}
 use Rattle.tree_model.specs.Passes as trees

@@ -11,9 +11,9 @@ use Rattle.sigma_lower.proofs.TreeLoops.Shaped.{IsShaped, IsShapedWork}
 use Rattle.operators.proofs.Lists.{place_below}
 use Rattle.sigma_spl.specs.Limits.{AreSeveral}
 use Rattle.sigma_spl.specs.Merge.{items_in, items_out}
-use Rattle.sigma_spl.specs.Work.{PlainWork, kernel, rows, horner, tile, copy, work_size}
+use Rattle.sigma_spl.specs.Work.{PlainWork, kernel, rows, horner, tile, copy, work_size, PlainKernel, trees_of}
 use Rattle.perm_algebra.specs.Affine.{Sum, constant}
-use Rattle.tree_model.specs.Trees.{PlainTrees, trees_size}
+use Rattle.tree_model.specs.Trees.{trees_size}
 use Rattle.sigma_lower.proofs.TreeTerms.Lowering.{part-le}
 use Rattle.operators.specs.declared.tensor_paths.Tensor.TheVariants.{Blocks, Columns}
 use Rattle.operators.specs.TensorPaths.Path.{Path, copies_of, count_of}
@@ -76,10 +76,10 @@ pub record HaveNames (path : Path) (w : PlainWork) : Type 0 where
   pub loads : AllName w (slice_index (map count_of path ++ work_size w ∷ work_size w ∷ [])) (work_size w) (items_in w (length path))
   pub stores : AllName w (slice_index (map count_of path ++ work_size w ∷ work_size w ∷ [])) (work_size w) (items_out w (length path))
 
-kernel-names : (path : Path) (trees : PlainTrees) → HaveNames path (kernel trees)
-kernel-names path trees =
-    let n : ℕ = trees_size trees in
-    let all = constants-name (kernel trees) (slice_index (map count_of path ++ n ∷ n ∷ [])) n (λ i. i) 0 n (λ i low. omega (arith, low)) in
+kernel-names : (path : Path) (k : PlainKernel) → HaveNames path (kernel k)
+kernel-names path k =
+    let n : ℕ = trees_size (trees_of k) in
+    let all = constants-name (kernel k) (slice_index (map count_of path ++ n ∷ n ∷ [])) n (λ i. i) 0 n (λ i low. omega (arith, low)) in
     record { loads = all; stores = all }
 
 rows-names : (path : Path) (root n : ℕ) → 2 ≤ n → HaveNames path (rows root n)

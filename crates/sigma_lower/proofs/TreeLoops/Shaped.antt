@@ -5,10 +5,10 @@ use Rattle.index_fn.specs.Mapping.{Mapping}
 use Rattle.sigma_lower.specs.TreeLoops.Merge.{PlainDiagonal, PlainPass, new_pass, scattered, multiplied, at_last}
 use Rattle.sigma_lower.proofs.TreeLoops.PlaceLimits.{none_is_some, multiplied-is}
 use Rattle.sigma_lower.proofs.TreeLoops.TreePasses.{rule_waiting, rule_passes, layout_passes}
-use Rattle.tree_model.specs.KernelCosts.{CanMake}
+use Rattle.sigma_spl.specs.Shared.Kernels.{IsMadeKernel}
 use Rattle.sigma_spl.specs.Limits.{AreSeveral}
 use Rattle.sigma_spl.proofs.Several.{several-push}
-use Rattle.sigma_spl.specs.Work.{PlainWork, kernel, rows, horner, tile, copy, work_size}
+use Rattle.sigma_spl.specs.Work.{PlainWork, kernel, rows, horner, tile, copy, work_size, trees_of}
 use Rattle.tree_model.specs.Trees.{trees_size}
 use Rattle.smp_rewrite.specs.LayoutSteps.Layout.{Layout, work, by, layout_size, IsGoodWork, IsGoodLayout}
 use Rattle.operators.specs.declared.tensor_paths.Tensor.TheVariants.{Blocks, Columns}
@@ -24,7 +24,7 @@ HasWorks P (by rule root a b) = HasWorks P a × HasWorks P b
 
 -- a work of a good layout, or a tile
 abbrev pub IsShapedWork : ℕ → PlainWork → Type 0
-IsShapedWork m (kernel trees) = (1 ≤ trees_size trees) × CanMake m trees
+IsShapedWork m (kernel k) = (1 ≤ trees_size (trees_of k)) × IsMadeKernel m k
 IsShapedWork m (rows root size) = IsGoodWork m (rows root size)
 IsShapedWork m (horner root size) = ⊥
 IsShapedWork m (tile v) = Unit {0}

@@ -12,7 +12,7 @@ use Rattle.sigma_spl.specs.Loops.{PlainLoop, nest_of, one_nest}
 use Rattle.sigma_spl.specs.Nest.{PlainMultiplier}
 use Rattle.sigma_spl.specs.Shared.Costs.{pass_cost, pass_loads, work_cost, work_loads}
 use Rattle.sigma_spl.specs.Shared.Owners.{IsHost, most_actions}
-use Rattle.sigma_spl.specs.Work.{PlainWork, kernel, rows, horner, tile, copy, work_size}
+use Rattle.sigma_spl.specs.Work.{PlainWork, kernel, rows, horner, tile, copy, work_size, trees_of}
 use Rattle.sigma_lower.specs.TreeLoops.Merge.{PlainPass}
 use Rattle.sigma_lower.specs.TreeLoops.Nests.{loop_of}
 use Rattle.sigma_lower.proofs.TreeLoops.Shaped.{IsShapedWork}
@@ -53,9 +53,9 @@ module _ (c : Target) where
   square-le (suc n) = omega arith
 
   modest : (w : PlainWork) → IsShapedWork c.modulus w → IsModest (work_size w) w
-  modest (kernel trees) shaped =
-      let price = trees-few c.modulus trees shaped.1 in
-      record { operations = omega (arith, price); loads = square-le (trees_size trees) }
+  modest (kernel k) shaped =
+      let price = trees-few c.modulus (trees_of k) shaped.1.trees in
+      record { operations = omega (arith, price); loads = square-le (trees_size (trees_of k)) }
   modest (rows root size) shaped = record { operations = omega arith; loads = omega arith }
   modest (horner root size) shaped = absurd shaped
   modest (tile v) shaped = record { operations = omega arith; loads = square-le (v * v) }

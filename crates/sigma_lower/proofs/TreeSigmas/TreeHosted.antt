@@ -12,13 +12,13 @@ use Rattle.matrix_meaning.specs.declared.Kind.{Kind}
 use Rattle.matrix_meaning.specs.declared.Kind.TheVariants.{Dft, Wht, Idft}
 use Rattle.matrix_meaning.specs.declared.Request.{Request}
 use Rattle.sigma_spl.specs.Shared.Owners.{IsHost}
-use Rattle.sigma_spl.specs.Work.{kernel}
+use Rattle.sigma_spl.specs.Work.{kernel, node_of}
 use Rattle.smp_rewrite.specs.LayoutSteps.Layout.{Layout, work, by, layout_of, long_work}
-use Rattle.smp_rewrite.specs.LayoutSteps.Meaning.{IsNodeTree}
+use Rattle.kernel_gen.specs.Nodes.{IsNodeTree}
 use Rattle.sigma_spl.specs.Shared.Targets.{target_of}
 use Rattle.smp_rewrite.specs.LayoutSteps.Whole.{whole_of}
-use Rattle.smp_rewrite.proofs.LayoutSteps.NodeTrees.{left_tree, right_tree}
-use Rattle.smp_rewrite.proofs.LayoutSteps.Rooted.{rooted_size}
+use Rattle.kernel_gen.proofs.NodeTrees.{left_tree, right_tree}
+use Rattle.tree_model.proofs.RootedTrees.{rooted_size}
 use Rattle.smp_rewrite.proofs.LayoutSteps.Wholes.{forward_tree}
 use Rattle.tree_model.specs.Breakdown.{Breakdown, leaf, node, size_of, AllowsLeaf}
 use Rattle.tree_model.specs.Chosen.{IsWholeTree}
@@ -33,10 +33,10 @@ use Rattle.sigma_spl.specs.Shared.Ready.{IsSmallWork}
 short-size : (d unroll : ℕ) → nat_le d unroll ≡ true → unroll ≤ 64 → d ≤ 64
 short-size d unroll short low = grind (arith, nat_tests)
 
-small-long : (kind : Kind) (root d : ℕ) → AllowsLeaf kind d → IsSmallWork (long_work kind root (leaf d))
-small-long Dft root d h = tt
-small-long Wht root d h = omega (arith, h.1)
-small-long Idft root d h = absurd h
+small-long : (p : Request) (kind : Kind) (d : ℕ) → AllowsLeaf kind d → IsSmallWork (long_work p kind (leaf d))
+small-long p Dft d h = tt
+small-long p Wht d h = omega (arith, h.1)
+small-long p Idft d h = absurd h
 
 small-kernel : (p : Request) (t : Breakdown) → IsValid p → is_kernel p (size_of t) ≡ true →
     trees_size (rooted_of p t) ≤ 64
@@ -45,14 +45,14 @@ small-kernel p t valid short =
     (short-size (size_of t) p.unroll (kernel-short p (size_of t) short) valid.in_range.unroll.1)
 
 small-leaf : (p : Request) (d : ℕ) (b : Bool) → IsValid p → AllowsLeaf p.kind d → is_kernel p d ≡ b →
-    IsSmallWork (if b then kernel (rooted_of p (leaf d)) else long_work p.kind (node_root p d) (leaf d))
+    IsSmallWork (if b then kernel (node_of p (leaf d)) else long_work p p.kind (leaf d))
 small-leaf p d true valid h short = small-kernel p (leaf d) valid short
-small-leaf p d false valid h long = small-long p.kind (node_root p d) d h
+small-leaf p d false valid h long = small-long p p.kind d h
 
 small-node : (p : Request) (t : Breakdown) (b : Bool) (l : Layout) → IsValid p → is_kernel p (size_of t) ≡ b →
     HasWorks IsSmallWork l →
     HasWorks IsSmallWork
-    (if b then work (if b then kernel (rooted_of p t) else long_work p.kind (node_root p (size_of t)) t) else l)
+    (if b then work (if b then kernel (node_of p t) else long_work p p.kind t) else l)
 small-node p t true l valid short h = small-kernel p t valid short
 small-node p t false l valid long h = h
 

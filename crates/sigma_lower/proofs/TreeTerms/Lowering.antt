@@ -13,7 +13,7 @@ use Rattle.operators.proofs.Places.{stride_below}
 use Rattle.operators.proofs.Scatters.{gather_as_scatter}
 use Rattle.ring_mod.proofs.Inverses.{AreInverses, inverse_of_s, inverse_of_r, inverses_of}
 use Rattle.tree_model.specs.KernelCosts.{CanMake}
-use Rattle.sigma_spl.specs.Work.{PlainWork, kernel, rows, horner, tile, copy, work_size, work_on}
+use Rattle.sigma_spl.specs.Work.{PlainWork, kernel, rows, horner, tile, copy, work_size, work_on, trees_of}
 use Rattle.tree_model.specs.Trees.{PlainTrees, single, tensor, trees_size, AreWords}
 use Rattle.smp_rewrite.specs.LayoutSteps.Layout.{Layout, work, by, layout_size, IsGoodWork, IsGoodRule, IsGoodLayout}
 use Rattle.operators.specs.declared.target.Target.{Target}
@@ -76,7 +76,7 @@ trees-words m (tensor kind root t others) h small =
     (word_sizes kind t h.0.0 (omega (arith, small, one)), trees-words m others h.1 (omega (arith, small, two)), omega (arith, small))
 
 work-words : (m : ℕ) (w : PlainWork) → IsGoodWork m w → work_size w ≤ 1048576 → IsGoodPiece w
-work-words m (kernel trees) h small = trees-words m trees h small
+work-words m (kernel k) h small = trees-words m (trees_of k) h.trees small
 work-words m (rows root size) h small = tt
 work-words m (horner root size) h small = absurd h
 work-words m (tile v) h small = absurd h

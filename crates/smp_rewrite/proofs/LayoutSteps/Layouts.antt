@@ -18,15 +18,18 @@ use Rattle.matrix_meaning.proofs.GoodThomas.{good_thomas}
 use Rattle.matrix_meaning.proofs.WalshHadamard.{split}
 use Rattle.operators.specs.Operator.{Operator}
 use Rattle.operators.specs.Sizes.{max_size}
-use Rattle.sigma_spl.specs.Work.{PlainWork, kernel, work_size, work_on}
+use Rattle.sigma_spl.specs.Work.{PlainWork, kernel, node_of, work_size, work_on}
 use Rattle.ring_mod.specs.Residue.{power_mod}
 use Rattle.ring_mod.proofs.Powers.{power_mod_of_power}
 use Rattle.smp_rewrite.specs.LayoutSteps.Layout.{Layout, work, by, layout_size, layout_on, layout_cost, layout_of, node_work, long_work, rule_on, IsGoodWork, CanPart, IsGoodRule, IsGoodLayout}
 use Rattle.sigma_spl.specs.Shared.Costs.{work_cost}
 use Rattle.smp_rewrite.specs.LayoutSteps.Layout as layouts
-use Rattle.smp_rewrite.specs.LayoutSteps.Meaning.{IsNodeTree, FitsWhole, LayoutsHaveSize, LayoutsDo, LayoutsCost, LayoutsAreGood}
-use Rattle.smp_rewrite.proofs.LayoutSteps.NodeTrees.{left_tree, right_tree, left_fits, right_fits, left_fields, right_fields, left_less, times_size, size-le}
-use Rattle.smp_rewrite.proofs.LayoutSteps.Rooted.{rooted_size, rooted_on, rooted_cost, rooted_made, flat_node}
+use Rattle.kernel_gen.specs.Nodes.{IsNodeTree}
+use Rattle.smp_rewrite.specs.LayoutSteps.Meaning.{FitsWhole, LayoutsHaveSize, LayoutsDo, LayoutsCost, LayoutsAreGood}
+use Rattle.kernel_gen.proofs.NodeTrees.{left_tree, right_tree, left_fields, right_fields, left_less, times_size, size-le}
+use Rattle.kernel_gen.proofs.RootedNodes.{rooted_on, rooted_cost, rooted_made, flat_node}
+use Rattle.smp_rewrite.proofs.LayoutSteps.NodeTrees.{left_fits, right_fits, node_kind, node_stands}
+use Rattle.tree_model.proofs.RootedTrees.{rooted_size}
 use Rattle.tree_model.specs.Breakdown.{Breakdown, leaf, node, size_of, AllowsLeaf, AllowsRule, IsWellFormed}
 use Rattle.tree_model.specs.Cost.{is_kernel, is_plain, node_root, products_cost}
 use Rattle.tree_model.specs.Cost as trees
@@ -44,11 +47,11 @@ work-size : (p : Request) (t : Breakdown) → work_size (node_work p t) ≡ size
 work-size p t = pick (is_kernel p (size_of t)) p.kind
   where
     pick : (b : Bool) (kind : Kind) →
-        work_size (if b then kernel (rooted_of p t) else long_work kind (node_root p (size_of t)) t) ≡ size_of t
+        work_size (if b then kernel (node_of p t) else long_work p kind t) ≡ size_of t
     pick true kind = rooted_size p t
     pick false Dft = refl
-    pick false Wht = refl
-    pick false Idft = refl
+    pick false Wht = rooted_size p t
+    pick false Idft = rooted_size p t
 
 -- a choice between a work and parts
 size-pick : (b : Bool) (l k : Layout) (n : ℕ) → layout_size l ≡ n → layout_size k ≡ n →
@@ -64,13 +67,12 @@ layouts_have_size p (node rule a b) =
 
 -- ---- kernels, works and parts
 
-kernel-work : (p : Request) (t : Breakdown) → is_kernel p (size_of t) ≡ true → node_work p t ≡ kernel (rooted_of p t)
-kernel-work p t short =
-    ap (λ b. if b then kernel (rooted_of p t) else long_work p.kind (node_root p (size_of t)) t) short
+kernel-work : (p : Request) (t : Breakdown) → is_kernel p (size_of t) ≡ true → node_work p t ≡ kernel (node_of p t)
+kernel-work p t short = ap (λ b. if b then kernel (node_of p t) else long_work p p.kind t) short
 
 -- a node is a kernel, or has parts
 pub node-pick : (P : Layout → Type 0) (p : Request) (rule : Rule) (a b : Breakdown) →
-    (is_kernel p (size_of a * size_of b) ≡ true → P (work (kernel (rooted_of p (node rule a b))))) →
+    (is_kernel p (size_of a * size_of b) ≡ true → P (work (kernel (node_of p (node rule a b))))) →
     (is_kernel p (size_of a * size_of b) ≡ false →
     P (by rule (node_root p (size_of a * size_of b)) (layout_of (left_of rule p) a) (layout_of (right_of rule p) b))) →
     P (layout_of p (node rule a b))
@@ -85,12 +87,12 @@ node-pick P p rule a b short long = pick (is_kernel p (size_of a * size_of b)) r
 
 -- a leaf is a kernel, or a longer work
 leaf-pick : (P : PlainWork → Type 0) (p : Request) (d : ℕ) →
-    (is_kernel p d ≡ true → P (kernel (rooted_of p (leaf d)))) →
-    (is_kernel p d ≡ false → P (long_work p.kind (node_root p d) (leaf d))) → P (node_work p (leaf d))
+    (is_kernel p d ≡ true → P (kernel (node_of p (leaf d)))) →
+    (is_kernel p d ≡ false → P (long_work p p.kind (leaf d))) → P (node_work p (leaf d))
 leaf-pick P p d short long = pick (is_kernel p d) refl
   where
     pick : (c : Bool) → is_kernel p d ≡ c →
-        P (if c then kernel (rooted_of p (leaf d)) else long_work p.kind (node_root p d) (leaf d))
+        P (if c then kernel (node_of p (leaf d)) else long_work p p.kind (leaf d))
     pick true is = short is
     pick false is = long is
 
@@ -189,16 +191,16 @@ node_by_rule p Ct a b x h = flat_rule p Ct a b x h h.tree.2.0 h.tree.2.1 h.tree.
 node_by_rule p Split a b x h = flat_rule p Split a b x h h.tree.2.0 h.tree.2.1 h.tree.3 h.tree.4
 node_by_rule p Dim a b x h = refl
 
-long_does : (m root d : ℕ) (kind : Kind) (x : List ℕ) →
-    work_on m (long_work kind root (leaf d)) x ≡ transform kind m d root x
-long_does m root d Dft x = refl
-long_does m root d Wht x = refl
-long_does m root d Idft x = refl
+long_does : (p : Request) (d : ℕ) (kind : Kind) (x : List ℕ) → p.kind ≡ kind →
+    work_on p.modulus (long_work p kind (leaf d)) x ≡ node_on p (leaf d) x
+long_does p d Dft x is = ap (λ kind. transform kind p.modulus d (node_root p d) x) (sym is)
+long_does p d Wht x is = refl
+long_does p d Idft x is = refl
 
 pub layouts_do : LayoutsDo
 layouts_do p (leaf d) x h =
     leaf-pick (λ w. work_on p.modulus w x ≡ node_on p (leaf d) x) p d
-    (λ short. rooted_on p (leaf d) x h) (λ long. long_does p.modulus (node_root p d) d p.kind x)
+    (λ short. rooted_on p (leaf d) x h) (λ long. long_does p d p.kind x refl)
 layouts_do p (node rule a b) x h =
     let r = size_of a in
     let s = size_of b in
@@ -225,11 +227,11 @@ pub kernel-priced : (p : Request) (t : Breakdown) → IsNodeTree p t → is_kern
 kernel-priced p t h short = rooted_cost p t h short
 
 -- and row by row
-rows-cost : (weight m root d : ℕ) (kind : Kind) → AllowsLeaf kind d → 2 < d →
-    work_cost weight m (long_work kind root (leaf d)) ≡ d * d * (1 + weight)
-rows-cost weight m root d Dft h more = omega arith
-rows-cost weight m root d Wht h more = absurd (omega (arith, h.1, more))
-rows-cost weight m root d Idft h more = absurd h
+rows-cost : (weight m d : ℕ) (p : Request) (kind : Kind) → AllowsLeaf kind d → 2 < d →
+    work_cost weight m (long_work p kind (leaf d)) ≡ d * d * (1 + weight)
+rows-cost weight m d p Dft h more = omega arith
+rows-cost weight m d p Wht h more = absurd (omega (arith, h.1, more))
+rows-cost weight m d p Idft h more = absurd h
 
 -- a leaf that is no kernel is longer than the limit, since the root of a shared request is no leaf
 long-leaf : (p : Request) (d : ℕ) → FitsWhole p (leaf d) → is_kernel p d ≡ false → p.unroll < d
@@ -242,11 +244,11 @@ long-leaf p d root long =
     ]
 
 long-priced : (p : Request) (d : ℕ) → IsNodeTree p (leaf d) → p.unroll < d →
-    work_cost p.weight p.modulus (long_work p.kind (node_root p d) (leaf d)) ≡ cost_in p (leaf d)
+    work_cost p.weight p.modulus (long_work p p.kind (leaf d)) ≡ cost_in p (leaf d)
 long-priced p d h over =
     let low = h.valid.in_range.unroll.0 in
     let n : nat_le d p.unroll ≡ false = grind (arith, nat_tests) in
-    rows-cost p.weight p.modulus (node_root p d) d p.kind h.tree.1 (omega (arith, over, low))
+    rows-cost p.weight p.modulus d p p.kind h.tree.1 (omega (arith, over, low))
     ∙ sym (ap (λ b. if b then d * (d - 1) + products_cost p p.kind 0 (node_root p d) d d else d * d * (1 + p.weight)) n)
 
 pub leaf-priced : (p : Request) (d : ℕ) → IsNodeTree p (leaf d) → FitsWhole p (leaf d) →
@@ -291,14 +293,16 @@ layouts_cost p (node rule a b) h root =
 -- ---- it can be made
 
 kernel-good : (p : Request) (t : Breakdown) → IsNodeTree p t → 1 ≤ size_of t →
-    IsGoodLayout p.modulus (work (kernel (rooted_of p t)))
-kernel-good p t h some = let size = rooted_size p t in (omega (arith, some, size), rooted_made p t h)
+    IsGoodLayout p.modulus (work (kernel (node_of p t)))
+kernel-good p t h some =
+    let size = rooted_size p t in
+    (omega (arith, some, size), record { trees = rooted_made p t h; source = (refl, node_kind p t h, node_stands p t h) })
 
-long-good : (m root d : ℕ) (kind : Kind) → 2 < d → AllowsLeaf kind d → IsRoot kind m d root →
-    IsGoodLayout m (work (long_work kind root (leaf d)))
-long-good m root d Dft more allowed is = (omega (arith, more), (omega (arith, more), is))
-long-good m root d Wht more allowed is = absurd (omega (arith, allowed.1, more))
-long-good m root d Idft more allowed is = absurd allowed
+long-good : (m d : ℕ) (p : Request) (kind : Kind) → 2 < d → AllowsLeaf kind d → IsRoot kind m d (node_root p d) →
+    IsGoodLayout m (work (long_work p kind (leaf d)))
+long-good m d p Dft more allowed is = (omega (arith, more), (omega (arith, more), is))
+long-good m d p Wht more allowed is = absurd (omega (arith, allowed.1, more))
+long-good m d p Idft more allowed is = absurd allowed
 
 can-part : (kind : Kind) (r s : ℕ) → AllowsRule kind Gt r s → CanPart Gt r s
 can-part Dft r s h = h
@@ -318,7 +322,7 @@ layouts_are_good p (leaf d) h root =
     (λ long.
     let over = long-leaf p d root long in
     let low = h.valid.in_range.unroll.0 in
-    long-good p.modulus (node_root p d) d p.kind (omega (arith, over, low)) h.tree.1 (root-of p (leaf d) h.valid h.divides))
+    long-good p.modulus d p p.kind (omega (arith, over, low)) h.tree.1 (root-of p (leaf d) h.valid h.divides))
 layouts_are_good p (node rule a b) h root =
     let r = size_of a in
     let s = size_of b in

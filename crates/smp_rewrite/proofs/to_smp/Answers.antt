@@ -10,7 +10,7 @@ use Rattle.smp_rewrite.proofs.Sized.{sized_steps}
 use Rattle.smp_rewrite.proofs.TreeLaws.{smp_transforms, smp_costs, smp_shaped, layouts_fit}
 use Rattle.smp_rewrite.proofs.Walks.{whole_factor, whole_formula, whole_steps}
 use Rattle.smp_rewrite.specs.LayoutSteps.Layout.{layout_of}
-use Rattle.smp_rewrite.specs.LayoutSteps.Meaning.{IsNodeTree}
+use Rattle.kernel_gen.specs.Nodes.{IsNodeTree}
 use Rattle.sigma_spl.specs.Shared.Targets.{target_of}
 use Rattle.smp_rewrite.specs.LayoutSteps.Whole.{whole_of}
 use Rattle.smp_rewrite.proofs.LayoutSteps.Wholes.{forward_tree, wholes_do, wholes_cost}

@@ -1,7 +1,6 @@
 -- A tree as the stages see it: kernels and longer leaves as works, and above them rules with their roots.
 use Rattle.std.specs.Prelude.{◌≡◌, ℕ, ◌+◌, ◌*◌, ◌%◌, ◌≤◌, if◌then◌else◌}
 use Rattle.std.specs.Int.{IsGcd}
-use Rattle.tree_model.specs.KernelCosts.{CanMake}
 use Rattle.matrix_meaning.specs.Laws.{twiddle}
 use Rattle.matrix_meaning.specs.declared.Kind.{Kind}
 use Rattle.matrix_meaning.specs.declared.Kind.TheVariants.{Dft, Wht, Idft}
@@ -9,14 +8,14 @@ use Rattle.matrix_meaning.specs.declared.Request.{Request}
 use Rattle.operators.specs.Identities.{turn}
 use Rattle.operators.specs.Operator.{Operator, gather, scale, on_columns, on_blocks, good_thomas_in, good_thomas_out}
 use Rattle.operators.specs.Sizes.{max_size}
-use Rattle.sigma_spl.specs.Work.{PlainWork, kernel, rows, horner, tile, copy, work_size, work_on}
+use Rattle.sigma_spl.specs.Work.{PlainWork, kernel, rows, horner, tile, copy, node_of, work_size, work_on}
+use Rattle.sigma_spl.specs.Shared.Kernels.{IsMadeKernel}
 use Rattle.ring_mod.specs.Residue.{power_mod}
-use Rattle.tree_model.specs.Trees.{single}
 use Rattle.tree_model.specs.Breakdown.{Breakdown, leaf, node, size_of}
 use Rattle.tree_model.specs.Cost.{is_kernel, node_root}
 use Rattle.tree_model.specs.declared.tree.Rule.{Rule}
 use Rattle.tree_model.specs.declared.tree.Rule.TheVariants.{Gt, Ct, Split, Dim}
-use Rattle.tree_model.specs.Whole.{left_of, right_of, rooted_of}
+use Rattle.tree_model.specs.Whole.{left_of, right_of}
 use Rattle.sigma_spl.specs.Shared.Costs.{work_cost}
 
 pub data Layout : Type 0 where
@@ -54,7 +53,7 @@ layout_cost weight m (by rule root a b) =
 
 -- a work that a program can do modulo m: trees that can be made, or a leaf of two items or more by rows with a root of its size
 abbrev pub IsGoodWork : ℕ → PlainWork → Type 0
-IsGoodWork m (kernel trees) = CanMake m trees
+IsGoodWork m (kernel k) = IsMadeKernel m k
 IsGoodWork m (rows root size) = (2 ≤ size) × (power_mod m root size ≡ 1 % m)
 IsGoodWork m (horner root size) = ⊥
 IsGoodWork m (tile lanes) = ⊥
@@ -81,15 +80,14 @@ IsGoodLayout m (by rule root a b) = IsGoodRule rule (layout_size a) (layout_size
 -- ---- the layout of a tree
 
 -- a longer leaf goes row by row
-abbrev pub long_work : Kind → ℕ → Breakdown → PlainWork
-long_work Dft root t = rows root (size_of t)
-long_work Wht root t = kernel (single Wht root t)
-long_work Idft root t = kernel (single Idft root t)
+abbrev pub long_work : Request → Kind → Breakdown → PlainWork
+long_work p Dft t = rows (node_root p (size_of t)) (size_of t)
+long_work p Wht t = kernel (node_of p t)
+long_work p Idft t = kernel (node_of p t)
 
 -- the work of a node of the request: short ones are straight-line code
 abbrev pub node_work : Request → Breakdown → PlainWork
-node_work p t =
-    if is_kernel p (size_of t) then kernel (rooted_of p t) else long_work p.kind (node_root p (size_of t)) t
+node_work p t = if is_kernel p (size_of t) then kernel (node_of p t) else long_work p p.kind t
 
 -- the layout of a tree of the request: the parts of a dim are of requests of their own
 abbrev pub layout_of : Request → Breakdown → Layout

@@ -1,7 +1,7 @@
 -- What steps do to a list.
-use Rattle.std.specs.Prelude.{◌≡◌, ℕ, ◌*◌, ◌%◌, List, [], ◌∷◌, false}
+use Rattle.std.specs.Prelude.{◌≡◌, ℕ, ◌*◌, List, [], ◌∷◌, false}
 use Rattle.matrix_meaning.specs.Laws.{twiddle}
-use Rattle.matrix_meaning.specs.Valid.{IsValid}
+use Rattle.kernel_gen.specs.Nodes.{IsNodeTree}
 use Rattle.matrix_meaning.specs.declared.Request.{Request}
 use Rattle.operators.specs.Identities.{turn}
 use Rattle.operators.specs.Operator.{Operator, gather, scale, good_thomas_in, good_thomas_out}
@@ -12,7 +12,7 @@ use Rattle.operators.specs.TensorPaths.Path.{Path, copies_of, under}
 use Rattle.tree_model.specs.Admissible.{RootFits}
 use Rattle.tree_model.specs.Breakdown.{Breakdown, size_of}
 use Rattle.tree_model.specs.Cost.{is_plain}
-use Rattle.tree_model.specs.Whole.{cost_in, node_on, IsTreeOf}
+use Rattle.tree_model.specs.Whole.{cost_in, node_on}
 
 abbrev pub core_size : PlainCore → ℕ
 core_size (piece w) = work_size w
@@ -47,12 +47,6 @@ StepsCost = (weight m : ℕ) (path : Path) (l : Layout) → operations_in weight
 -- the layout of a tree has its size
 abbrev pub LayoutsHaveSize : Type 0
 LayoutsHaveSize = (p : Request) (t : Breakdown) → layout_size (layout_of p t) ≡ size_of t
-
--- a tree of a valid request, or of a node of it
-pub record IsNodeTree (p : Request) (t : Breakdown) : Type 0 where
-  pub valid : IsValid p
-  pub tree : IsTreeOf p t
-  pub divides : p.size % size_of t ≡ 0
 
 -- its layout does what the tree does
 abbrev pub LayoutsDo : Type 0
