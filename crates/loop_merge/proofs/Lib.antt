@@ -4,6 +4,7 @@ pub mod JoinedPasses
 pub mod MultipliedPasses
 pub mod JoinedCopies
 pub mod Readies
+pub mod Waiting
 pub mod States
 pub mod Merged
 pub mod Parts

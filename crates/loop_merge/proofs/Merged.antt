@@ -49,7 +49,7 @@ known-passes room n h st [] k steps before = before
 known-passes room n h st (zs ∷ []) k steps before = known-pass room n h st zs k.0 steps before
 known-passes room n h st (zs ∷ ys ∷ ps) k steps before = (k.0, known-passes room n h st (ys ∷ ps) k.1 steps before)
 
-steps-passes : (room n : ℕ) (st : Merging) (ps : List (List PlainNest)) → AreSteps n st.waiting → AreSteps n (with_passes (most room) n st ps).waiting
+pub steps-passes : (room n : ℕ) (st : Merging) (ps : List (List PlainNest)) → AreSteps n st.waiting → AreSteps n (with_passes (most room) n st ps).waiting
 steps-passes room n st [] steps = steps
 steps-passes room n st (zs ∷ []) steps = tt
 steps-passes room n st (zs ∷ ys ∷ ps) steps = tt
@@ -112,19 +112,3 @@ merged-known room n st (beside path k a l b) h good several words is =
 
 pub whole-room : (n : ℕ) → 0 < n → n ≤ 2 ^ 20 → HasRoom 64 n
 whole-room n some high = let round : IsRound 0 n = omega (arith, high) in record { some = some; most = omega arith; round = round }
-
--- ---- the first of several passes
-
-pub known-last : (room n : ℕ) (A : Type 0) (view : A → List PlainNest) (qs : List A) (q : A) → AreKnownPasses room n (map view (qs ++ q ∷ [])) → IsKnownPass room n (view q)
-known-last room n A view [] q h = h.0
-known-last room n A view (p ∷ qs) q h = known-last room n A view qs q h.1
-
--- a state of merging from its fields
-abbrev pub state_of : List Mapping → List (List PlainNest) → Merging
-state_of waiting passes = record { waiting = waiting; passes = passes }
-
-pub passes-last : (room n : ℕ) (st : Merging) (A : Type 0) (view : A → List PlainNest) (qs : List A) (q : A) →
-    with_passes (most room) n st (map view (qs ++ q ∷ [])) ≡ record { waiting = []; passes = map view qs ++ (with_pass (most room) n st (view q)).passes }
-passes-last room n st A view [] q = refl
-passes-last room n st A view (p ∷ []) q = refl
-passes-last room n st A view (p ∷ r ∷ qs) q = ap (λ (b : Merging). state_of [] (view p ∷ b.passes)) (passes-last room n st A view (r ∷ qs) q)

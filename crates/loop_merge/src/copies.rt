@@ -1,12 +1,12 @@
 // Gathers that wait: a pass takes them, and copy passes take what it does not.
-ghost use Rattle.std.specs.Prelude.{◌≡◌, ◌∷◌, ◌++◌, IfOk};
+ghost use Rattle.std.specs.Prelude.{◌≡◌, ◌∷◌, [], IfOk};
 ghost use Rattle.index_fn.specs.Index.{mapping_of};
 ghost use Rattle.sigma_spl.specs.Merge.{copies_before, copy_by, most, settled};
 ghost use Rattle.loop_nests.specs.PassPlaces.Known.{AreSteps, IsKnownPass, IsStep};
-ghost use Rattle.loop_nests.specs.PassPlaces.Views.{mappings_of};
+ghost use Rattle.loop_nests.specs.PassPlaces.Views.{waiting_of};
 ghost use Rattle.loop_merge.specs.Known.{HasRoom};
 ghost use Rattle.loop_merge.specs.Taken.{taken};
-ghost use Rattle.loop_nests.specs.Views.{plain_pass, plain_passes};
+ghost use Rattle.loop_nests.specs.Views.{from_last, plain_pass};
 
 use index_fn::Index;
 use loop_nests::{Change, Limits, copying, copying_words, gathered};
@@ -14,30 +14,12 @@ use memory::NoMemory;
 use sigma_spl::Nest;
 use std::alloc::Global;
 
-/// A pass before others, which are later: the latest first.
-pub(crate) fn with_first(
-    pass: Vec<Nest>,
-    passes: Vec<Vec<Nest>>,
-) -> Result<Vec<Vec<Nest>>, NoMemory>
-    ensures { IfOk result (λ ps.
-        plain_passes ps.items ≡ plain_pass pass ∷ plain_passes passes.items) }
+/// A pass by itself.
+pub(crate) fn one_pass(alloc: Global, pass: Vec<Nest>) -> Result<Vec<Vec<Nest>>, NoMemory>
+    ensures { IfOk result (λ ps. from_last ps.items ≡ plain_pass pass ∷ []) }
 {
-    let mut passes = passes;
-    passes.insert(0, pass)?;
-    Ok(passes)
-}
-
-/// Passes and those before them.
-pub(crate) fn with_before(
-    passes: Vec<Vec<Nest>>,
-    before: Vec<Vec<Nest>>,
-) -> Result<Vec<Vec<Nest>>, NoMemory>
-    ensures { IfOk result (λ ps.
-        plain_passes ps.items ≡ plain_passes passes.items ++ plain_passes before.items) }
-{
-    let mut passes = passes;
-    let mut before = before;
-    passes.append(&mut before)?;
+    let mut passes = Vec::new(alloc);
+    passes.push(pass)?;
     Ok(passes)
 }
 
@@ -58,7 +40,7 @@ fn copy_by(alloc: Global, f: &Index, limits: Limits) -> Result<Vec<Nest>, NoMemo
     }
 }
 
-// Copy passes for gathers, the latest first: the last of them, and those before it.
+// Copy passes for gathers: the last of them, and those before it.
 fn copies_before(
     alloc: Global,
     pass: Vec<Nest>,
@@ -67,14 +49,14 @@ fn copies_before(
 ) -> Result<Vec<Vec<Nest>>, NoMemory>
     requires room { HasRoom limits.room limits.size }
     requires known { IsKnownPass limits.room limits.size (plain_pass pass) }
-    requires steps { AreSteps limits.size (mappings_of waiting.now) }
-    ensures { IfOk result (λ ps. plain_passes ps.items
+    requires steps { AreSteps limits.size (waiting_of waiting.now) }
+    ensures { IfOk result (λ ps. from_last ps.items
         ≡ copies_before (most limits.room) limits.size (plain_pass pass)
-        (mappings_of waiting.now)) }
+        (waiting_of waiting.now)) }
 {
-    match waiting.split_first() {
+    match waiting.split_last() {
         None => {
-            let passes = with_first(pass, Vec::new(alloc))?;
+            let passes = one_pass(alloc, pass)?;
             Ok(passes)
         }
         Some((f, rest)) => match gathered(alloc, f, pass, limits)? {
@@ -84,26 +66,26 @@ fn copies_before(
             }
             Change::Refused(pass) => {
                 let copies = copy_by(alloc, f, limits)?;
-                let before = copies_before(alloc, copies, rest, limits)?;
-                let passes = with_first(pass, before)?;
+                let mut passes = copies_before(alloc, copies, rest, limits)?;
+                passes.push(pass)?;
                 Ok(passes)
             }
         },
     }
 }
 
-/// The gathers that wait, as copy passes: the latest first.
+/// The gathers that wait, as copy passes.
 pub(crate) fn settled(
     alloc: Global,
     waiting: &[Index],
     limits: Limits,
 ) -> Result<Vec<Vec<Nest>>, NoMemory>
     requires room { HasRoom limits.room limits.size }
-    requires steps { AreSteps limits.size (mappings_of waiting.now) }
-    ensures { IfOk result (λ ps. plain_passes ps.items
-        ≡ settled (most limits.room) limits.size (mappings_of waiting.now)) }
+    requires steps { AreSteps limits.size (waiting_of waiting.now) }
+    ensures { IfOk result (λ ps. from_last ps.items
+        ≡ settled (most limits.room) limits.size (waiting_of waiting.now)) }
 {
-    match waiting.split_first() {
+    match waiting.split_last() {
         None => Ok(Vec::new(alloc)),
         Some((f, rest)) => {
             let pass = copy_by(alloc, f, limits)?;
@@ -122,13 +104,13 @@ pub(crate) fn taken(
 ) -> Result<Vec<Vec<Nest>>, NoMemory>
     requires room { HasRoom limits.room limits.size }
     requires known { IsKnownPass limits.room limits.size (plain_pass pass) }
-    requires steps { AreSteps limits.size (mappings_of waiting.now) }
-    ensures { IfOk result (λ ps. plain_passes ps.items
-        ≡ taken (most limits.room) limits.size (plain_pass pass) (mappings_of waiting.now)) }
+    requires steps { AreSteps limits.size (waiting_of waiting.now) }
+    ensures { IfOk result (λ ps. from_last ps.items
+        ≡ taken (most limits.room) limits.size (plain_pass pass) (waiting_of waiting.now)) }
 {
-    match waiting.split_first() {
+    match waiting.split_last() {
         None => {
-            let passes = with_first(pass, Vec::new(alloc))?;
+            let passes = one_pass(alloc, pass)?;
             Ok(passes)
         }
         Some((f, rest)) => match gathered(alloc, f, pass, limits)? {
@@ -137,8 +119,8 @@ pub(crate) fn taken(
                 Ok(passes)
             }
             Change::Refused(pass) => {
-                let before = settled(alloc, waiting, limits)?;
-                let passes = with_first(pass, before)?;
+                let mut passes = settled(alloc, waiting, limits)?;
+                passes.push(pass)?;
                 Ok(passes)
             }
         },

@@ -37,7 +37,7 @@ pub fn join(
     } = first;
     let before = in_one_phase(alloc, phases)?;
     let factors = Factors::Values(diagonal);
-    let mut passes = multiply_last_pass(alloc, before, factors)?;
+    let mut passes = multiply_last_pass(alloc, before, &factors)?;
     let mut after = in_one_phase(alloc, second.phases)?;
     passes.append(&mut after)?;
     let mut phases = Vec::new(alloc);

@@ -4,7 +4,6 @@
 #![tactic(auto)]
 
 mod copies;
-mod firsts;
 mod joined_copies;
 mod joined_passes;
 mod merging;
@@ -21,10 +20,9 @@ ghost use Rattle.sigma_spl.specs.Sigma.{passes_in_order};
 ghost use Rattle.sigma_spl.specs.Views.{plain_nest, plain_term};
 ghost use Rattle.sigma_spl.specs.Words.{AreWords};
 ghost use Rattle.loop_merge.specs.Known.{IsGood};
-ghost use Rattle.loop_nests.specs.Views.{plain_passes};
+ghost use Rattle.loop_nests.specs.Views.{from_last};
 
-use crate::copies::with_first;
-use crate::firsts::{FirstPass, parted};
+use crate::copies::one_pass;
 use crate::merging::merged_alone;
 pub use joined_copies::join_copies;
 pub use joined_passes::join;
@@ -35,7 +33,7 @@ use sigma_spl::{Nest, Term};
 use std::alloc::Global;
 
 /// The passes of a term on lists of `size` words, in their order: within the limits of programs.
-pub fn merge_term(alloc: Global, size: u64, term: Term) -> Result<Vec<Vec<Nest>>, NoMemory>
+pub(crate) fn merge_term(alloc: Global, size: u64, term: Term) -> Result<Vec<Vec<Nest>>, NoMemory>
     requires size { (0 < size) × (size ≤ 2 ^ 20) }
     requires good { IsGood size (plain_term term) }
     requires several { HasSeveral (plain_term term) }
@@ -44,25 +42,19 @@ pub fn merge_term(alloc: Global, size: u64, term: Term) -> Result<Vec<Vec<Nest>>
         ≡ passes_in_order size (plain_term term)) }
 {
     let passes = merged_alone(alloc, size, term, 64)?;
-    let mut passes = if_any(alloc, size, passes)?;
-    passes.reverse();
+    let passes = if_any(alloc, size, passes)?;
     Ok(passes)
 }
 
 // The passes, or a copy where there are none.
 fn if_any(alloc: Global, size: u64, passes: Vec<Vec<Nest>>) -> Result<Vec<Vec<Nest>>, NoMemory>
     requires { (0 < size) × (size ≤ 2 ^ 20) }
-    ensures { IfOk result (λ ps. plain_passes ps.items ≡ if_any size (plain_passes passes.items)) }
+    ensures { IfOk result (λ ps. from_last ps.items ≡ if_any size (from_last passes.items)) }
 {
-    match parted(passes) {
-        None => {
-            let copies = copying(alloc, size)?;
-            let passes = with_first(copies, Vec::new(alloc))?;
-            Ok(passes)
-        }
-        Some(FirstPass { first, others }) => {
-            let passes = with_first(first, others)?;
-            Ok(passes)
-        }
+    if passes.is_empty() {
+        let copies = copying(alloc, size)?;
+        let passes = one_pass(alloc, copies)?;
+        return Ok(passes);
     }
+    Ok(passes)
 }

@@ -8,13 +8,11 @@ ghost use Rattle.sigma_spl.specs.Work.{HasWords};
 ghost use Rattle.loop_merge.specs.Alone.{merged_alone};
 ghost use Rattle.loop_merge.specs.Known.{AreKnownPasses, HasRoom, IsGood, IsKnown};
 ghost use Rattle.loop_nests.specs.PassPlaces.Known.{AreSteps};
-ghost use Rattle.loop_nests.specs.PassPlaces.Views.{mappings_of};
+ghost use Rattle.loop_nests.specs.PassPlaces.Views.{waiting_of};
 ghost use Rattle.sigma_spl.specs.Words.{AreWords};
 ghost use Rattle.loop_merge.specs.Views.{plain_merging};
-ghost use Rattle.loop_nests.specs.Views.{plain_passes};
+ghost use Rattle.loop_nests.specs.Views.{from_last};
 
-use crate::copies::with_before;
-use crate::firsts::from_end;
 use crate::multiplying::with_diagonal;
 use crate::state::Merging;
 use crate::steps::{ended, with_gather, with_pass, with_scatter};
@@ -64,7 +62,7 @@ fn merged(alloc: Global, term: Term, state: Merging, limits: Limits) -> Result<M
     }
 }
 
-/// The passes of a term by itself, on lists of `size` words: the latest first.
+/// The passes of a term by itself, on lists of `size` words.
 #[cycle(merged)]
 pub(crate) fn merged_alone(
     alloc: Global,
@@ -77,7 +75,7 @@ pub(crate) fn merged_alone(
     requires several { HasSeveral (plain_term term) }
     requires words { AreWords size (plain_term term) }
     ensures { IfOk result (λ ps.
-        plain_passes ps.items ≡ merged_alone (most room) size (plain_term term)) }
+        from_last ps.items ≡ merged_alone (most room) size (plain_term term)) }
 {
     let limits = Limits { size, room };
     let state = merged(alloc, term, nothing(alloc), limits)?;
@@ -136,20 +134,19 @@ fn nothing(alloc: Global) -> Merging
     }
 }
 
-// The passes of a term from the state that it leaves: the latest first.
+// The passes of a term from the state that it leaves.
 fn finished(alloc: Global, state: Merging, limits: Limits) -> Result<Vec<Vec<Nest>>, NoMemory>
     requires room { HasRoom limits.room limits.size }
     requires known { IsKnown limits.room limits.size (plain_merging state) }
-    ensures { IfOk result (λ ps. plain_passes ps.items ≡ ended (most limits.room) limits.size
+    ensures { IfOk result (λ ps. from_last ps.items ≡ ended (most limits.room) limits.size
         (from_end (plain_merging state).waiting) (plain_merging state).passes) }
 {
     let Merging { waiting, passes } = state;
-    let turned = from_end(alloc, &waiting)?;
-    let passes = ended(alloc, &turned, passes, limits)?;
+    let passes = ended(alloc, &waiting, passes, limits)?;
     Ok(passes)
 }
 
-// Passes, the latest first, of which the first takes the gathers that wait.
+// Passes, of which the first takes the gathers that wait.
 fn with_passes(
     alloc: Global,
     state: Merging,
@@ -157,21 +154,14 @@ fn with_passes(
     limits: Limits,
 ) -> Result<Merging, NoMemory>
     requires room { HasRoom limits.room limits.size }
-    requires steps { AreSteps limits.size (mappings_of state.waiting.items) }
-    requires known { AreKnownPasses limits.room limits.size (plain_passes passes.items) }
+    requires steps { AreSteps limits.size (waiting_of state.waiting.items) }
+    requires known { AreKnownPasses limits.room limits.size (from_last passes.items) }
     ensures { IfOk result (λ next. plain_merging next ≡ with_passes (most limits.room) limits.size
-        (plain_merging state) (plain_passes passes.items)) }
+        (plain_merging state) (from_last passes.items)) }
 {
-    let mut later = passes;
-    match later.pop() {
-        None => Ok(state),
-        Some(first) => {
-            let Merging { waiting: _, passes } = with_pass(alloc, state, first, limits)?;
-            let passes = with_before(later, passes)?;
-            Ok(Merging {
-                waiting: Vec::new(alloc),
-                passes,
-            })
-        }
+    let mut next = state;
+    for pass in passes {
+        next = with_pass(alloc, next, pass, limits)?;
     }
+    Ok(next)
 }

@@ -10,13 +10,12 @@ ghost use Rattle.operators.specs.TensorPaths.Path.{size_under};
 ghost use Rattle.loop_merge.specs.Known.{AreKnownPasses, HasRoom, IsKnown};
 ghost use Rattle.loop_nests.specs.PassPlaces.Known.{AreSteps, IsKnownPass};
 ghost use Rattle.loop_nests.specs.PassPlaces.Multiplied.{functions_of};
-ghost use Rattle.loop_nests.specs.PassPlaces.Views.{mappings_of};
+ghost use Rattle.loop_nests.specs.PassPlaces.Views.{waiting_of};
 ghost use Rattle.loop_merge.specs.Suited.{nests_take, nests_with};
 ghost use Rattle.loop_merge.specs.Views.{plain_merging};
-ghost use Rattle.loop_nests.specs.Views.{plain_pass, plain_passes};
+ghost use Rattle.loop_nests.specs.Views.{from_last, plain_pass};
 
-use crate::copies::{settled, with_before, with_first};
-use crate::firsts::{FirstPass, parted};
+use crate::copies::settled;
 use crate::state::Merging;
 use loop_nests::{
     Diagonal, Limits, copying, factor_count, factor_places, multiplied, multiplied_in_order,
@@ -60,30 +59,30 @@ fn multiplied_last(
     limits: Limits,
 ) -> Result<Merging, NoMemory>
     requires room { HasRoom limits.room limits.size }
-    requires steps { AreSteps limits.size (mappings_of state.waiting.items) }
-    requires known { AreKnownPasses limits.room limits.size (plain_passes state.passes.items) }
+    requires steps { AreSteps limits.size (waiting_of state.waiting.items) }
+    requires known { AreKnownPasses limits.room limits.size (from_last state.passes.items) }
     requires count { diagonal.count ≡ factor_count (plain_factors diagonal.factors) }
     requires places { functions_of diagonal
-        ≡ factor_places (mappings_of state.waiting.items) path.items
+        ≡ factor_places (waiting_of state.waiting.items) path.items
         (plain_factors diagonal.factors) }
     requires can { CanCarry limits.size (functions_of diagonal) }
     ensures { IfOk result (λ next. plain_merging next ≡ with_diagonal (most limits.room) limits.size
-        (mappings_of state.waiting.items) (plain_passes state.passes.items) path.items
+        (waiting_of state.waiting.items) (from_last state.passes.items) path.items
         (plain_factors diagonal.factors)) }
 {
     let Merging { waiting, passes } = state;
-    let Some(FirstPass { first, others }) = parted(passes) else {
-        let passes = Vec::new(alloc);
+    let mut passes = passes;
+    let Some(last) = passes.pop() else {
         let next = with_copy(alloc, Merging { waiting, passes }, path, diagonal, limits)?;
         return Ok(next);
     };
-    match multiplied_if_suited(alloc, &path, &diagonal, &first, limits)? {
+    match multiplied_if_suited(alloc, &path, &diagonal, &last, limits)? {
         Some(pass) => {
-            let passes = with_first(pass, others)?;
+            passes.push(pass)?;
             Ok(Merging { waiting, passes })
         }
         None => {
-            let passes = with_first(first, others)?;
+            passes.push(last)?;
             let state = Merging { waiting, passes };
             let next = with_copy(alloc, state, path, diagonal, limits)?;
             Ok(next)
@@ -100,27 +99,28 @@ fn with_copy(
     limits: Limits,
 ) -> Result<Merging, NoMemory>
     requires room { HasRoom limits.room limits.size }
-    requires steps { AreSteps limits.size (mappings_of state.waiting.items) }
+    requires steps { AreSteps limits.size (waiting_of state.waiting.items) }
     requires count { diagonal.count ≡ factor_count (plain_factors diagonal.factors) }
     requires places { functions_of diagonal
-        ≡ factor_places (mappings_of state.waiting.items) path.items
+        ≡ factor_places (waiting_of state.waiting.items) path.items
         (plain_factors diagonal.factors) }
     requires can { CanCarry limits.size (functions_of diagonal) }
     ensures { IfOk result (λ next. plain_merging next ≡ with_copy (most limits.room) limits.size
         (plain_merging state) path.items (plain_factors diagonal.factors)) }
 {
     let Merging { waiting, passes } = state;
+    let mut passes = passes;
     let copies = copying(alloc, limits.size)?;
     match multiplied(alloc, &diagonal, &copies, limits)? {
         Some(pass) => {
-            let passes = with_first(pass, passes)?;
+            passes.push(pass)?;
             Ok(Merging { waiting, passes })
         }
         None => {
             let pass = multiplied_whole(alloc, path, diagonal, &copies)?;
-            let before = settled(alloc, &waiting, limits)?;
-            let before = with_before(before, passes)?;
-            let passes = with_first(pass, before)?;
+            let mut before = settled(alloc, &waiting, limits)?;
+            passes.append(&mut before)?;
+            passes.push(pass)?;
             Ok(Merging {
                 waiting: Vec::new(alloc),
                 passes,
@@ -197,6 +197,10 @@ fn is_tile(work: &Work) -> bool
 {
     match work {
         Work::Tile { .. } => true,
-        Work::Kernel(_) | Work::Dense { .. } | Work::Horner { .. } | Work::Copy { .. } => false,
+        Work::Kernel { .. }
+        | Work::Short { .. }
+        | Work::Dense { .. }
+        | Work::Horner { .. }
+        | Work::Copy { .. } => false,
     }
 }

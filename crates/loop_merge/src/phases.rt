@@ -1,5 +1,5 @@
 // The terms of each phase, merged.
-ghost use Rattle.std.specs.Prelude.{◌≡◌, ◌^◌, ◌<◌, ◌≤◌, IfOk, map};
+ghost use Rattle.std.specs.Prelude.{◌≡◌, ℕ, ◌^◌, ◌<◌, ◌≤◌, IfOk, map};
 ghost use Rattle.matrix_meaning.specs.declared.Request.{Request};
 ghost use Rattle.sigma_spl.specs.Sigma.{AllCanMerge, ArePhases, IsGoodSigma, merged_of, passes_in_order};
 ghost use Rattle.sigma_spl.specs.Trees.{IsMergedTree, IsTreeSigma};
@@ -31,7 +31,7 @@ pub fn merge(alloc: Global, sigma: Sigma) -> Result<Merged, NoMemory>
         lanes,
         phases,
     } = sigma;
-    let phases = merged_terms(alloc, size, lanes, phases)?;
+    let phases = merged_terms(alloc, size, phases)?;
     Ok(Merged {
         size,
         procs,
@@ -41,14 +41,9 @@ pub fn merge(alloc: Global, sigma: Sigma) -> Result<Merged, NoMemory>
 }
 
 // The passes of each term, in order.
-fn merged_terms(
-    alloc: Global,
-    size: u64,
-    _lanes: u64,
-    terms: Vec<Term>,
-) -> Result<Vec<Vec<Vec<Nest>>>, NoMemory>
+fn merged_terms(alloc: Global, size: u64, terms: Vec<Term>) -> Result<Vec<Vec<Vec<Nest>>>, NoMemory>
     requires size { (0 < size) × (size ≤ 2 ^ 20) }
-    requires terms { AllCanMerge _lanes size (map plain_term terms.items) }
+    requires terms { (lanes : ℕ) × AllCanMerge lanes size (map plain_term terms.items) }
     ensures { IfOk result (λ phases.
         plain_phases phases.items ≡ map (passes_in_order size) (map plain_term terms.items)) }
 {

@@ -2,7 +2,7 @@
 use index_fn::Index;
 use sigma_spl::Nest;
 
-/// The gathers that wait and the passes so far, the latest first.
+/// The gathers that wait and the passes so far, in their order.
 #[derive(Drop)]
 pub struct Merging {
     pub waiting: Vec<Index>,

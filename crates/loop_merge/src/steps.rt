@@ -1,15 +1,14 @@
 // What a gather, a pass and a scatter do to a state of merging.
 ghost use Rattle.std.specs.Prelude.{◌≡◌, ◌∷◌, [], IfOk};
 ghost use Rattle.index_fn.specs.Index.{mapping_of};
-ghost use Rattle.sigma_spl.specs.Merge.{ended, from_end, most, settled, with_pass, with_scatter};
+ghost use Rattle.sigma_spl.specs.Merge.{ended, most, with_pass, with_scatter};
 ghost use Rattle.loop_merge.specs.Known.{AreKnownPasses, HasRoom, IsKnown};
 ghost use Rattle.loop_nests.specs.PassPlaces.Known.{AreSteps, IsKnownPass, IsStep};
-ghost use Rattle.loop_nests.specs.PassPlaces.Views.{mappings_of};
+ghost use Rattle.loop_nests.specs.PassPlaces.Views.{mappings_of, waiting_of};
 ghost use Rattle.loop_merge.specs.Views.{plain_merging};
-ghost use Rattle.loop_nests.specs.Views.{plain_pass, plain_passes};
+ghost use Rattle.loop_nests.specs.Views.{from_last, plain_pass};
 
-use crate::copies::{settled, taken, with_before, with_first};
-use crate::firsts::{FirstPass, from_end, parted};
+use crate::copies::{settled, taken};
 use crate::state::Merging;
 use index_fn::Index;
 use loop_nests::{Change, Limits, scattered};
@@ -26,7 +25,7 @@ pub(crate) fn with_gather(state: Merging, f: Index) -> Result<Merging, NoMemory>
 {
     let Merging { waiting, passes } = state;
     let mut waiting = waiting;
-    waiting.insert(0, f)?;
+    waiting.push(f)?;
     Ok(Merging { waiting, passes })
 }
 
@@ -39,13 +38,14 @@ pub(crate) fn with_pass(
 ) -> Result<Merging, NoMemory>
     requires room { HasRoom limits.room limits.size }
     requires known { IsKnownPass limits.room limits.size (plain_pass pass) }
-    requires steps { AreSteps limits.size (mappings_of state.waiting.items) }
+    requires steps { AreSteps limits.size (waiting_of state.waiting.items) }
     ensures { IfOk result (λ next. plain_merging next
         ≡ with_pass (most limits.room) limits.size (plain_merging state) (plain_pass pass)) }
 {
     let Merging { waiting, passes } = state;
-    let more = taken(alloc, pass, &waiting, limits)?;
-    let passes = with_before(more, passes)?;
+    let mut passes = passes;
+    let mut more = taken(alloc, pass, &waiting, limits)?;
+    passes.append(&mut more)?;
     Ok(Merging {
         waiting: Vec::new(alloc),
         passes,
@@ -83,23 +83,23 @@ fn scattered_last(
 ) -> Result<Merging, NoMemory>
     requires room { HasRoom limits.room limits.size }
     requires step { IsStep limits.size (mapping_of f.now) }
-    requires known { AreKnownPasses limits.room limits.size (plain_passes passes.items) }
+    requires known { AreKnownPasses limits.room limits.size (from_last passes.items) }
     ensures { IfOk result (λ next. plain_merging next ≡ with_scatter (most limits.room) limits.size
-        [] (plain_passes passes.items) (mapping_of f.now)) }
+        [] (from_last passes.items) (mapping_of f.now)) }
 {
     let waiting = Vec::new(alloc);
-    let Some(FirstPass { first, others }) = parted(passes) else {
-        let passes = Vec::new(alloc);
+    let mut passes = passes;
+    let Some(last) = passes.pop() else {
         let next = with_gather(Merging { waiting, passes }, f.inverse(alloc)?)?;
         return Ok(next);
     };
-    match scattered(alloc, f, first, limits)? {
+    match scattered(alloc, f, last, limits)? {
         Change::Made(pass) => {
-            let passes = with_first(pass, others)?;
+            passes.push(pass)?;
             Ok(Merging { waiting, passes })
         }
-        Change::Refused(first) => {
-            let passes = with_first(first, others)?;
+        Change::Refused(last) => {
+            passes.push(last)?;
             let next = with_gather(Merging { waiting, passes }, f.inverse(alloc)?)?;
             Ok(next)
         }
@@ -116,44 +116,30 @@ pub(crate) fn ended(
 ) -> Result<Vec<Vec<Nest>>, NoMemory>
     requires room { HasRoom limits.room limits.size }
     requires steps { AreSteps limits.size (mappings_of waiting.now) }
-    requires known { AreKnownPasses limits.room limits.size (plain_passes passes.items) }
-    ensures { IfOk result (λ ps. plain_passes ps.items ≡ ended (most limits.room) limits.size
-        (mappings_of waiting.now) (plain_passes passes.items)) }
+    requires known { AreKnownPasses limits.room limits.size (from_last passes.items) }
+    ensures { IfOk result (λ ps. from_last ps.items ≡ ended (most limits.room) limits.size
+        (mappings_of waiting.now) (from_last passes.items)) }
 {
     let Some((f, rest)) = waiting.split_first() else {
         return Ok(passes);
     };
-    let Some(FirstPass { first, others }) = parted(passes) else {
-        let passes = settled_from_end(alloc, waiting, limits)?;
+    let mut passes = passes;
+    let Some(last) = passes.pop() else {
+        let passes = settled(alloc, waiting, limits)?;
         return Ok(passes);
     };
     let back = f.inverse(alloc)?;
-    match scattered(alloc, &back, first, limits)? {
+    match scattered(alloc, &back, last, limits)? {
         Change::Made(pass) => {
-            let passes = with_first(pass, others)?;
+            passes.push(pass)?;
             let passes = ended(alloc, rest, passes, limits)?;
             Ok(passes)
         }
-        Change::Refused(first) => {
-            let after = settled_from_end(alloc, waiting, limits)?;
-            let passes = with_before(after, with_first(first, others)?)?;
+        Change::Refused(last) => {
+            passes.push(last)?;
+            let mut after = settled(alloc, waiting, limits)?;
+            passes.append(&mut after)?;
             Ok(passes)
         }
     }
-}
-
-// Gathers, the earliest first, as copy passes: the latest first.
-fn settled_from_end(
-    alloc: Global,
-    waiting: &[Index],
-    limits: Limits,
-) -> Result<Vec<Vec<Nest>>, NoMemory>
-    requires room { HasRoom limits.room limits.size }
-    requires steps { AreSteps limits.size (mappings_of waiting.now) }
-    ensures { IfOk result (λ ps. plain_passes ps.items
-        ≡ settled (most limits.room) limits.size (from_end (mappings_of waiting.now))) }
-{
-    let turned = from_end(alloc, waiting)?;
-    let passes = settled(alloc, &turned, limits)?;
-    Ok(passes)
 }

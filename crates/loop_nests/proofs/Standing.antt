@@ -5,6 +5,9 @@ use Rattle.std.specs.List.{list_all}
 use Rattle.std.proofs.lemmas.Bool.{cases_eq}
 use Rattle.std.proofs.lemmas.Bool.Decides.{nat_tests}
 use Rattle.std.proofs.lemmas.List.{map-append, reverse-append, reverse-reverse}
+use Rattle.index_fn.specs.Index.{mapping_of}
+use Rattle.index_fn.specs.declared.Index.{Index}
+use Rattle.loop_nests.specs.PassPlaces.Views.{waiting_of}
 use Rattle.perm_algebra.specs.Affine.{Sum, constant, variable, remainder, quotient, joined}
 use Rattle.perm_algebra.specs.Room.{constant_of}
 use Rattle.sigma_spl.specs.Limits.{AreSeveral, AreWithin}
@@ -92,15 +95,16 @@ can_stand n k path several some high =
 -- ---- from the end
 
 -- the last of a list is the first of the other way round
-pub last-first : (xs ys : List (Vec Nest Global)) (x : Vec Nest Global) → xs ≡ ys ++ x ∷ [] → from_last xs ≡ plain_pass x ∷ from_last ys
-last-first xs ys x is = ap from_last is ∙ ap plain_passes (reverse-append ys (x ∷ []))
+pub last_first : (xs ys : List (Vec Nest Global)) (x : Vec Nest Global) → xs ≡ ys ++ x ∷ [] → from_last xs ≡ plain_pass x ∷ from_last ys
+last_first xs ys x is = ap from_last is ∙ ap plain_passes (reverse-append ys (x ∷ []))
 
 -- nothing came from the end
 pub same-first : (xs ys : List (Vec Nest Global)) → xs ≡ ys ++ [] → from_last xs ≡ from_last ys
 same-first xs ys is = ap from_last (is ∙ append-nil ys)
 
-pub turned-passes : (xs ys : List (Vec Nest Global)) (ps : List (List PlainNest)) → ys ≡ reverse xs → plain_passes xs ≡ ps → plain_passes ys ≡ reverse ps
-turned-passes xs ys ps turned is = ap plain_passes turned ∙ each xs ∙ ap reverse is
+-- the other way round twice
+pub in_turn : (xs : List (Vec Nest Global)) (ps : List (List PlainNest)) → from_last xs ≡ ps → plain_passes xs ≡ reverse ps
+in_turn xs ps is = sym (ap plain_passes (reverse-reverse xs)) ∙ each (reverse xs) ∙ ap reverse is
   where
     each : (qs : List (Vec Nest Global)) → plain_passes (reverse qs) ≡ reverse (plain_passes qs)
     each [] = refl
@@ -110,8 +114,14 @@ turned-passes xs ys ps turned is = ap plain_passes turned ∙ each xs ∙ ap rev
         ∙ ap (λ rs. rs ++ plain_pass q ∷ []) (each qs)
         ∙ sym (reverse-append (plain_pass q ∷ []) (plain_passes qs))
 
-pub twice-turned : (xs ys : List (Vec Nest Global)) → ys ≡ reverse xs → from_last ys ≡ plain_passes xs
-twice-turned xs ys is = ap from_last is ∙ ap plain_passes (reverse-reverse xs)
+-- the passes of a longer list are the latest
+pub more_passes : (xs ys zs : List (Vec Nest Global)) → xs ≡ ys ++ zs → from_last xs ≡ from_last zs ++ from_last ys
+more_passes xs ys zs is =
+    ap from_last is ∙ ap plain_passes (reverse-append ys zs) ∙ map-append plain_pass (reverse zs) (reverse ys)
+
+-- the last of those that wait is the latest
+pub last_waits : (xs ys : List Index) (x : Index) → xs ≡ ys ++ x ∷ [] → waiting_of xs ≡ mapping_of x ∷ waiting_of ys
+last_waits xs ys x is = ap waiting_of is ∙ ap (map mapping_of) (reverse-append ys (x ∷ []))
 
 pub shorter : (A : Type 0) (xs ys : List A) (x : A) → xs ≡ ys ++ x ∷ [] → length ys + 1 ≡ length xs
 shorter A xs ys x is = sym (ap length is ∙ length-append ys (x ∷ []))

@@ -5,7 +5,7 @@ ghost use Rattle.sigma_spl.specs.Merge.{lifted, side, sides};
 ghost use Rattle.operators.specs.TensorPaths.Path.{size_under};
 ghost use Rattle.loop_nests.specs.Lifted.{AllLift, AreLifted, CanStand};
 ghost use Rattle.loop_nests.specs.Parts.{IsPart};
-ghost use Rattle.loop_nests.specs.Views.{from_last, plain_pass, plain_passes};
+ghost use Rattle.loop_nests.specs.Views.{from_last, plain_pass};
 
 use crate::lifted::{lifted, raise_nests};
 use crate::nests::copying;
@@ -14,7 +14,7 @@ use operators::Tensor;
 use sigma_spl::Nest;
 use std::alloc::Global;
 
-/// The passes of two parts, on lists of so many words, under the tensors of a path: the latest first.
+/// The passes of two parts, on lists of so many words, under the tensors of a path: the shorter begins with copies.
 pub fn sides(
     alloc: Global,
     path: &[Tensor],
@@ -25,58 +25,56 @@ pub fn sides(
     requires several { AreSeveral path.now }
     requires some { (0 < sizes.0) × (0 < sizes.1) }
     requires high { size_under path.now (sizes.0 + sizes.1) ≤ 2 ^ 20 }
-    requires first { IsPart sizes.0 (plain_passes first.items) }
-    requires second { IsPart sizes.1 (plain_passes second.items) }
-    ensures { IfOk result (λ ps. plain_passes ps.items ≡ sides path.now sizes.0 sizes.1
-        (plain_passes first.items) (plain_passes second.items)) }
+    requires first { IsPart sizes.0 (from_last first.items) }
+    requires second { IsPart sizes.1 (from_last second.items) }
+    ensures { IfOk result (λ ps. from_last ps.items ≡ sides path.now sizes.0 sizes.1
+        (from_last first.items) (from_last second.items)) }
 {
     let mut first = first;
     let mut second = second;
-    first.reverse();
-    second.reverse();
-    let mut both = Vec::new(alloc);
-    put_sides(alloc, path, sizes, &mut first, &mut second, &mut both)?;
+    let both = sides_of(alloc, path, sizes, &mut first, &mut second)?;
     Ok(both)
 }
 
-// Appends the passes of two parts, which it takes from the end: the shorter begins with copies.
-fn put_sides(
+// The passes of two parts, which are taken from their end.
+fn sides_of(
     alloc: Global,
     path: &[Tensor],
     sizes: (u64, u64),
     first: &mut Vec<Vec<Nest>>,
     second: &mut Vec<Vec<Nest>>,
-    both: &mut Vec<Vec<Nest>>,
-) -> Result<(), NoMemory>
+) -> Result<Vec<Vec<Nest>>, NoMemory>
     requires stand { CanStand path.now sizes.0 sizes.1 }
     requires first { AreLifted path.now (sizes.0 + sizes.1) 0 (from_last first.old.items) }
     requires second { AreLifted path.now (sizes.0 + sizes.1) sizes.0 (from_last second.old.items) }
-    ensures { OnOk result (plain_passes both.new.items ≡ plain_passes both.old.items
-        ++ sides path.now sizes.0 sizes.1
+    ensures { IfOk result (λ ps. from_last ps.items ≡ sides path.now sizes.0 sizes.1
         (from_last first.old.items) (from_last second.old.items)) }
 {
     let (n, k) = sizes;
     match first.pop() {
         None => match second.pop() {
-            None => Ok(()),
+            None => Ok(Vec::new(alloc)),
             Some(other) => {
                 let copies = copying(alloc, n)?;
-                both.push(side(alloc, path, sizes, copies, other)?)?;
-                put_sides(alloc, path, sizes, first, second, both)?;
-                Ok(())
+                let last = side(alloc, path, sizes, copies, other)?;
+                let mut both = sides_of(alloc, path, sizes, first, second)?;
+                both.push(last)?;
+                Ok(both)
             }
         },
         Some(pass) => match second.pop() {
             None => {
                 let copies = copying(alloc, k)?;
-                both.push(side(alloc, path, sizes, pass, copies)?)?;
-                put_sides(alloc, path, sizes, first, second, both)?;
-                Ok(())
+                let last = side(alloc, path, sizes, pass, copies)?;
+                let mut both = sides_of(alloc, path, sizes, first, second)?;
+                both.push(last)?;
+                Ok(both)
             }
             Some(other) => {
-                both.push(side(alloc, path, sizes, pass, other)?)?;
-                put_sides(alloc, path, sizes, first, second, both)?;
-                Ok(())
+                let last = side(alloc, path, sizes, pass, other)?;
+                let mut both = sides_of(alloc, path, sizes, first, second)?;
+                both.push(last)?;
+                Ok(both)
             }
         },
     }

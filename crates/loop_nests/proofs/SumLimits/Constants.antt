@@ -1,5 +1,5 @@
 -- Index functions at places that are plain numbers.
-use Rattle.std.proofs.Common.{◌≡◌, ℕ, ◌+◌, ◌*◌, ◌/◌, ◌%◌, ◌<◌, ◌≤◌, refl, ap, ap₂, ◌∙◌, arith, true}
+use Rattle.std.proofs.Common.{◌≡◌, ℕ, ◌+◌, ◌*◌, ◌/◌, ◌%◌, ◌<◌, ◌≤◌, refl, ap, ap₂, ◌∙◌, arith, true, Option, Some, None, subst}
 use Rattle.std.proofs.lemmas.Bool.Decides.{nat_tests}
 use Rattle.std.proofs.lemmas.Nat.{mod_below, mul-add-lt, mul-lt}
 use Rattle.index_fn.specs.Mapping.{Mapping, Same, Always, Line, Strided, ThomasIn, ThomasOut, ThomasBack, Listed, Paired, After, at, IsDefinedAt, IsWellFormed}
@@ -86,3 +86,11 @@ number_form cs f c h none d = (is_number cs f c h none d).form
 
 pub number_room : (cs : ℕ → ℕ) (f : Mapping) (c : ℕ) → IsWellFormed f → HasNoList f → IsDefinedAt f c → has_room cs f (constant c) ≡ true
 number_room cs f c h none d = (room_decided cs f (constant c)).1 (is_number cs f c h none d).room
+
+abbrev holds : {A : Type 0} → (A → Type 0) → Option A → Type 0
+holds P (Some x) = P x
+holds P None = Unit {0}
+
+-- what is known of what was made
+pub made_is : {A : Type 0} (P : A → Type 0) (a x : A) → Some a ≡ Some x → P a → P x
+made_is P a x e h = subst (holds P) e h

@@ -1,5 +1,5 @@
 -- What the code's places stand for.
-use Rattle.std.specs.Prelude.{List, map, Some, Vec}
+use Rattle.std.specs.Prelude.{List, map, reverse, Some, Vec}
 use Rattle.std.proofs.Common.{Global}
 use Rattle.index_fn.specs.Index.{mapping_of}
 use Rattle.index_fn.specs.Mapping.{Mapping}
@@ -11,6 +11,10 @@ use Rattle.perm_algebra.specs.declared.Affine.{Affine}
 
 abbrev pub mappings_of : List Index → List Mapping
 mappings_of fs = map mapping_of fs
+
+-- those that wait, the latest first
+abbrev pub waiting_of : List Index → List Mapping
+waiting_of fs = mappings_of (reverse fs)
 
 -- the same nest, with a diagonal after it: its factors, and their places
 abbrev pub multiplied_by : PlainNest → PlainFactors → List Sum → PlainNest

@@ -7,7 +7,7 @@ ghost use Rattle.sigma_spl.specs.Views.{plain_factors};
 ghost use Rattle.sigma_spl.specs.Room.{HasCount, HasRoom};
 ghost use Rattle.operators.specs.TensorPaths.Path.{size_under};
 ghost use Rattle.loop_nests.specs.PassPlaces.Known.{AreSteps};
-ghost use Rattle.loop_nests.specs.PassPlaces.Views.{mappings_of};
+ghost use Rattle.loop_nests.specs.PassPlaces.Views.{mappings_of, waiting_of};
 
 use index_fn::Index;
 use memory::NoMemory;
@@ -39,11 +39,11 @@ pub fn factor_places(
     path: &[Tensor],
     factors: &Factors,
 ) -> Result<Vec<Index>, NoMemory>
-    requires waiting { (n : ℕ) × AreSteps n (mappings_of waiting.now) }
+    requires waiting { (n : ℕ) × AreSteps n (waiting_of waiting.now) }
     requires some { 0 < size_under path.now (factor_count (plain_factors factors.now)) }
     requires high { size_under path.now (factor_count (plain_factors factors.now)) ≤ 2 ^ 20 }
     ensures { IfOk result (λ fs. mappings_of fs.items
-        ≡ factor_places (mappings_of waiting.now) path.now (plain_factors factors.now)) }
+        ≡ factor_places (waiting_of waiting.now) path.now (plain_factors factors.now)) }
 {
     let mut places = backs_of(alloc, waiting)?;
     let count = factor_count(factors);
@@ -54,10 +54,10 @@ pub fn factor_places(
 
 // Back past the gathers that wait, the earliest first.
 fn backs_of(alloc: Global, waiting: &[Index]) -> Result<Vec<Index>, NoMemory>
-    requires { (n : ℕ) × AreSteps n (mappings_of waiting.now) }
-    ensures { IfOk result (λ fs. mappings_of fs.items ≡ backs_of (mappings_of waiting.now)) }
+    requires { (n : ℕ) × AreSteps n (waiting_of waiting.now) }
+    ensures { IfOk result (λ fs. mappings_of fs.items ≡ backs_of (waiting_of waiting.now)) }
 {
-    match waiting.split_first() {
+    match waiting.split_last() {
         None => Ok(Vec::new(alloc)),
         Some((f, rest)) => {
             let mut backs = backs_of(alloc, rest)?;

@@ -42,7 +42,7 @@ pub fn simplify_in_room(
     ensures fits { IfMade result (FitsOver counts.now) }
 {
     if let Affine::Constant(number) = arg {
-        return Ok(Some(at_number(f, *number, counts)));
+        return Ok(Some(Affine::Constant(f.at(*number))));
     }
     match f {
         Index::Identity => Ok(Some(copy(alloc, arg)?)),
@@ -78,23 +78,6 @@ pub fn simplify_in_room(
             Ok(simplify_in_room(alloc, f, &inner, counts)?)
         }
     }
-}
-
-// The function at a number is a number, and every number on the way fits.
-fn at_number(f: &Index, number: u64, counts: &[u64]) -> Affine
-    requires formed { IsWellFormed (mapping_of f.now) }
-    requires no_list { HasNoList (mapping_of f.now) }
-    requires defined { (vs : ℕ → ℕ) → InRange (slice_index counts.now) vs
-        → IsDefinedAt (mapping_of f.now) number }
-    ensures some { plain_sum result
-        ≡ simplified (slice_index counts.now) (mapping_of f.now) (constant number) }
-    ensures room { has_room (slice_index counts.now) (mapping_of f.now) (constant number) ≡ true }
-    ensures value { EachValue counts.now (λ i. i ≡ at (mapping_of f.now) number) result }
-    ensures affine { IsSumOver counts.now result }
-    ensures fits { FitsOver counts.now result }
-{
-    let _count = counts.len();
-    Affine::Constant(f.at(number))
 }
 
 // A base, and a multiple of the place.

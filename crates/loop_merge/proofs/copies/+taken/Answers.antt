@@ -3,13 +3,14 @@ use Rattle.index_fn.specs.Index.{mapping_of}
 use Rattle.sigma_spl.specs.Views.{plain_nest}
 use Rattle.loop_nests.specs.PassPlaces.Known.{AreSteps}
 use Rattle.loop_merge.proofs.Readies.{known-more}
+use Rattle.loop_nests.proofs.Standing.{last_waits}
 use Rattle.loop_merge.proofs.copies.+taken.Goals as goal
 
 pub taken-requires : goal.taken-requires
 taken-requires t c =
     let room = c.args.limits.room in
     let n = c.args.limits.size in
-    let steps = subst (λ fs. AreSteps n (map mapping_of fs)) c.in-Some.ensures.cases.0 c.requires.steps in
+    let steps = subst (AreSteps n) (last_waits _ _ _ c.in-Some.ensures.cases.0) c.requires.steps in
     let made = c.in_ok-pass-in-Some.ensures.made c.in-Made.pass c.in-Made.is in (
       omega (arith, c.decreases, c.in-Some.ensures.cases.1),
       (c.requires.room, (known-more room n c.requires.room (mapping_of c.in-Some.f.now) (map plain_nest c.args.pass.items) (map plain_nest c.in-Made.pass.items) steps.0 made.0 made.1 c.requires.known, steps.1)),

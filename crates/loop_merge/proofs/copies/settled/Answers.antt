@@ -2,11 +2,12 @@ use Rattle.std.proofs.Common.{sym, subst, map}
 use Rattle.index_fn.specs.Index.{mapping_of}
 use Rattle.loop_nests.specs.PassPlaces.Known.{AreSteps, IsKnownPass}
 use Rattle.loop_merge.proofs.Readies.{known-by}
+use Rattle.loop_nests.proofs.Standing.{last_waits}
 use Rattle.loop_merge.proofs.copies.settled.Goals as goal
 
 pub copies_before-requires-clause-known : goal.copies_before-requires-clause-known
 copies_before-requires-clause-known c =
     let room = c.args.limits.room in
     let n = c.args.limits.size in
-    let steps = subst (λ fs. AreSteps n (map mapping_of fs)) c.in-Some.ensures.cases.0 c.requires.steps in
+    let steps = subst (AreSteps n) (last_waits _ _ _ c.in-Some.ensures.cases.0) c.requires.steps in
     subst (IsKnownPass room n) (sym c.in_ok-pass-in-Some.ensures) (known-by room n c.requires.room (mapping_of c.in-Some.f.now) steps.0)

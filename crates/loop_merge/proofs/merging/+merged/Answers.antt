@@ -3,7 +3,7 @@ use Rattle.sigma_spl.specs.Merge.{Merging, ended, from_end, merged, most, sides}
 use Rattle.sigma_spl.specs.Views.{plain_term}
 use Rattle.loop_merge.specs.Known.{IsKnown}
 use Rattle.loop_merge.specs.Views.{plain_merging}
-use Rattle.loop_nests.specs.Views.{plain_passes}
+use Rattle.loop_nests.specs.Views.{from_last}
 use Rattle.loop_merge.proofs.Depths.{term_depth}
 use Rattle.loop_merge.proofs.Merged.{merged-known, nothing-known}
 use Rattle.loop_merge.proofs.Parts.{alone-known, can-merge, factors-of, is-part, known-both, merged-anew, parts-of, same-term}
@@ -60,7 +60,7 @@ merged-sides-requires-clause-first t c =
     let long : c.len.result ≡ length c.in-Beside.path.items = search rules in
     let parts = parts-of _ _ c.len.result _ _ _ _ _ _ can (ap plain_term c.in-Beside.is) long in
     let first = same-term _ _ c.in-Beside.first.value c.into_inner-in-Beside.result c.into_inner-in-Beside.ensures parts.first in
-    is-part _ _ _ first (plain_passes c.in_ok-left-in-Beside.left.items) c.in_ok-left-in-Beside.ensures
+    is-part _ _ _ first (from_last c.in_ok-left-in-Beside.left.items) c.in_ok-left-in-Beside.ensures
 
 pub merged-sides-requires-clause-second : goal.merged-sides-requires-clause-second
 merged-sides-requires-clause-second t c =
@@ -68,7 +68,7 @@ merged-sides-requires-clause-second t c =
     let long : c.len.result ≡ length c.in-Beside.path.items = search rules in
     let parts = parts-of _ _ c.len.result _ _ _ _ _ _ can (ap plain_term c.in-Beside.is) long in
     let second = same-term _ _ c.in-Beside.second.value c.into_inner-in-Beside-2.result c.into_inner-in-Beside-2.ensures parts.second in
-    is-part _ _ _ second (plain_passes c.in_ok-right-in-Beside.right.items) c.in_ok-right-in-Beside.ensures
+    is-part _ _ _ second (from_last c.in_ok-right-in-Beside.right.items) c.in_ok-right-in-Beside.ensures
 
 pub merged-with_passes-requires-clause-known : goal.merged-with_passes-requires-clause-known
 merged-with_passes-requires-clause-known t c =
@@ -77,8 +77,8 @@ merged-with_passes-requires-clause-known t c =
     let parts = parts-of _ _ c.len.result _ _ _ _ _ _ can (ap plain_term c.in-Beside.is) long in
     let first = same-term _ _ c.in-Beside.first.value c.into_inner-in-Beside.result c.into_inner-in-Beside.ensures parts.first in
     let second = same-term _ _ c.in-Beside.second.value c.into_inner-in-Beside-2.result c.into_inner-in-Beside-2.ensures parts.second in
-    let ps = plain_passes c.in_ok-left-in-Beside.left.items in
-    let qs = plain_passes c.in_ok-right-in-Beside.right.items in
+    let ps = from_last c.in_ok-left-in-Beside.left.items in
+    let qs = from_last c.in_ok-right-in-Beside.right.items in
     known-both _ _ _ _ _ _ _ _ ps qs _ c.requires.room parts
     (alone-known _ _ _ first ps c.in_ok-left-in-Beside.ensures) (alone-known _ _ _ second qs c.in_ok-right-in-Beside.ensures)
     (c.in_ok-both-in-Beside.ensures ∙ ap (λ p. sides p c.in-Beside.first_size c.in-Beside.second_size ps qs) c.deref-in-Beside.ensures.value)

@@ -1,24 +1,23 @@
-use Rattle.std.proofs.Common.{sym, ap, ap₂, ◌∙◌, subst, map, ◌++◌}
-use Rattle.index_fn.specs.Index.{mapping_of}
-use Rattle.sigma_spl.specs.Merge.{Merging, most, with_pass, with_passes}
-use Rattle.sigma_spl.specs.Views.{plain_nest}
+use Rattle.std.proofs.Common.{rules, ◌≡◌, sym, subst}
+use Rattle.sigma_spl.specs.Merge.{Merging}
+use Rattle.loop_nests.specs.PassPlaces.Known.{AreSteps}
 use Rattle.loop_merge.specs.Known.{AreKnownPasses}
+use Rattle.loop_nests.specs.Views.{from_last, plain_passes}
 use Rattle.loop_merge.specs.Views.{plain_merging}
-use Rattle.loop_nests.specs.Views.{plain_pass, plain_passes}
-use Rattle.loop_merge.proofs.Merged.{known-last, passes-last, state_of}
+use Rattle.loop_merge.proofs.Merged.{steps-passes}
+use Rattle.loop_merge.proofs.Waiting.{known_turned}
 use Rattle.loop_merge.proofs.merging.with_passes.Goals as goal
 
-pub with_pass-requires-clause-known : goal.with_pass-requires-clause-known
-with_pass-requires-clause-known c =
-    known-last c.args.limits.room c.args.limits.size _ plain_pass c.pop.new.self.items c.in-Some.first (subst (λ ps. AreKnownPasses c.args.limits.room c.args.limits.size (plain_passes ps)) c.in-Some.ensures.items c.requires.known)
-
-pub returns-in_ok-passes-in-Some-2 : goal.returns-in_ok-passes-in-Some-2
-returns-in_ok-passes-in-Some-2 c =
-    let room = most c.args.limits.room in
+pub with_pass-requires-clause-steps : goal.with_pass-requires-clause-steps
+with_pass-requires-clause-steps c =
     let n = c.args.limits.size in
-    let st = plain_merging c.args.state in
-    let made = with_pass room n st (map plain_nest c.in-Some.first.items) in
-    let later = plain_passes c.pop.new.self.items in
-    ap₂ (λ ws ps. state_of (map mapping_of ws) ps) c.new.ensures.items
-    (c.in_ok-passes-in-Some-2.ensures ∙ ap (λ (m : Merging). later ++ m.passes) c.in_ok-passes-in-Some.ensures)
-    ∙ sym (ap (λ ps. with_passes room n st (plain_passes ps)) c.in-Some.ensures.items ∙ passes-last c.args.limits.room n st _ plain_pass c.pop.new.self.items c.in-Some.first)
+    subst (λ (st : Merging). AreSteps n st.waiting) (sym c.loop-pass.invariant.0)
+    (steps-passes c.args.limits.room n (plain_merging c.args.state) (from_last c.loop-pass.yielded) c.requires.steps)
+
+pub loop-pass-init : goal.loop-pass-init
+loop-pass-init c =
+    let is : c.into_iter-pass-iterator.result.rest.items ≡ c.args.passes.items = search rules in (
+      search rules,
+      subst (λ ps. AreKnownPasses c.args.limits.room c.args.limits.size (plain_passes ps)) (sym is)
+          (known_turned c.args.limits.room c.args.limits.size c.args.passes.items c.requires.known),
+    )

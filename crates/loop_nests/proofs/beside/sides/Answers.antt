@@ -1,18 +1,16 @@
-use Rattle.std.proofs.Common.{◌+◌, sym, subst}
-use Rattle.loop_nests.specs.Lifted.{AreLifted}
-use Rattle.loop_nests.specs.Views.{plain_passes}
-use Rattle.loop_nests.proofs.Standing.{can_stand, first_lifted, second_lifted, twice-turned}
+use Rattle.loop_nests.specs.Views.{from_last}
+use Rattle.loop_nests.proofs.Standing.{can_stand, first_lifted, second_lifted}
 use Rattle.loop_nests.proofs.beside.sides.Goals as goal
 
-pub put_sides-requires-clause-stand : goal.put_sides-requires-clause-stand
-put_sides-requires-clause-stand c = can_stand c.args.sizes.0 c.args.sizes.1 c.args.path.now c.requires.several c.requires.some c.requires.high
+pub sides_of-requires-clause-stand : goal.sides_of-requires-clause-stand
+sides_of-requires-clause-stand c = can_stand c.args.sizes.0 c.args.sizes.1 c.args.path.now c.requires.several c.requires.some c.requires.high
 
-pub put_sides-requires-clause-first : goal.put_sides-requires-clause-first
-put_sides-requires-clause-first c =
-    subst (AreLifted c.args.path.now (c.args.sizes.0 + c.args.sizes.1) 0) (sym (twice-turned c.args.first.items c.reverse.new.self.items c.reverse.ensures.items))
-    (first_lifted c.args.sizes.0 c.args.sizes.1 c.args.path.now (plain_passes c.args.first.items) c.requires.several c.requires.some.0 c.requires.high c.requires.first)
+pub sides_of-requires-clause-first : goal.sides_of-requires-clause-first
+sides_of-requires-clause-first c =
+    first_lifted c.args.sizes.0 c.args.sizes.1 c.args.path.now (from_last c.args.first.items) c.requires.several
+    c.requires.some.0 c.requires.high c.requires.first
 
-pub put_sides-requires-clause-second : goal.put_sides-requires-clause-second
-put_sides-requires-clause-second c =
-    subst (AreLifted c.args.path.now (c.args.sizes.0 + c.args.sizes.1) c.args.sizes.0) (sym (twice-turned c.args.second.items c.reverse-2.new.self.items c.reverse-2.ensures.items))
-    (second_lifted c.args.sizes.0 c.args.sizes.1 c.args.path.now (plain_passes c.args.second.items) c.requires.several c.requires.some.0 c.requires.high c.requires.second)
+pub sides_of-requires-clause-second : goal.sides_of-requires-clause-second
+sides_of-requires-clause-second c =
+    second_lifted c.args.sizes.0 c.args.sizes.1 c.args.path.now (from_last c.args.second.items) c.requires.several
+    c.requires.some.0 c.requires.high c.requires.second
