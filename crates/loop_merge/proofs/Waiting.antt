@@ -9,7 +9,7 @@ use Rattle.index_fn.specs.declared.Index.{Index}
 use Rattle.sigma_spl.specs.Merge.{Merging, Room, back_of, can_scatter, ended, from_end, most, settled, with_pass, with_passes}
 use Rattle.sigma_spl.specs.Nest.{PlainNest}
 use Rattle.sigma_spl.specs.declared.nest.Nest.{Nest}
-use Rattle.loop_nests.specs.PassPlaces.Known.{AreSteps, IsKnownPass}
+use Rattle.loop_nests.specs.PassPlaces.Known.{AreSteps}
 use Rattle.loop_nests.specs.PassPlaces.Views.{mappings_of, waiting_of}
 use Rattle.loop_nests.specs.Views.{from_last, plain_pass, plain_passes}
 use Rattle.loop_nests.proofs.Standing.{last_first, more_passes}
