@@ -1,6 +1,7 @@
 -- The codes of kernels: of a node by its request, and of a short leaf by its matrix.
 use Rattle.std.proofs.Common.{◌≡◌, ◌≢◌, ℕ, zero, suc, ◌*◌, ◌-◌, ◌%◌, ◌^◌, ◌<◌, ◌≤◌, List, [], ◌∷◌, if◌then◌else◌, arith, refl, ap, ap₂, ◌∙◌, sym, pow-suc, mul-zero}
 use Rattle.std.specs.Prelude.{◌==◌}
+use lib.Count.{ones}
 use Rattle.std.proofs.Math.Nat.{mod-eq_of_lt, one-mul, pow-zero}
 use Rattle.kernel_gen.specs.Kernel.{kernel_of, node_kernel, trees_kernel}
 use Rattle.kernel_gen.specs.Making.{matrix_make}

@@ -11,6 +11,7 @@ mod Tables
 mod Registers
 mod Fits
 mod Parts
+pub mod PhaseParts
 pub mod Performs
 pub mod ReadyPrograms
 pub mod PartShares

@@ -5,6 +5,7 @@ use Rattle.std.specs.Prelude.{sum_by}
 use Rattle.std.proofs.lemmas.List.{length-map}
 use Rattle.std.proofs.lemmas.List.Elements.{All-head, All-tail, All-weaker}
 use Rattle.std.proofs.lemmas.List.Sums.{sum_by-append, sum_by-cons}
+use Rattle.code_gen.proofs.WholePrograms.PhaseParts.{parts_in_a_row}
 use Rattle.code_gen.proofs.WholePrograms.PartShares.{parts_share}
 use Rattle.code_gen.specs.PassCode.Contract as contract
 use Rattle.code_gen.specs.PassCode.Contract.{AreParts, Performs}
@@ -78,7 +79,7 @@ performed-count : (h : Target) (g : PlainMerged) (p : PlainProgram) (q : ℕ) �
     CountsPasses h (all_passes g.phases) (executed p q)
 performed-count h g p q low ready performs =
     let long : length (plain_code p).lists ≡ length g.phases = length-map p.phases _ ∙ performs.phases in
-    let listed = performs.parts q low in
+    let listed = parts_in_a_row h g (plain_code p) q (performs.parts q low) in
     let shares : (weight : ℕ) → All (HasShares h weight) (all_passes g.phases) =
     λ weight. All-weaker (IsReadyPass h) (HasShares h weight) (λ zs can. runs_have_shares h weight zs can.runs)
     (all_passes g.phases) ready.passes in

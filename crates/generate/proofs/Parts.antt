@@ -13,6 +13,7 @@ use Rattle.icode.specs.declared.program.Array.{Array}
 use Rattle.icode.specs.declared.program.Array.TheVariants.{X}
 use Rattle.matrix_meaning.specs.declared.Request.{Request}
 use Rattle.sigma_spl.specs.Shared.Costs.{pass_cost, pass_loads}
+use Rattle.code_gen.proofs.WholePrograms.PhaseParts.{parts_in_a_row}
 use Rattle.code_gen.specs.PassCode.Contract.{Performs, joined}
 use Rattle.sigma_spl.specs.Shared.Owners.{all_passes}
 use Rattle.code_gen.specs.PassCode.Contract as contract
@@ -135,7 +136,7 @@ module _ (r : Request) (t : Breakdown) (g : PlainMerged) (p : PlainProgram) (som
 
   lean-list : (q : ℕ) → q < r.procs → IsLeanList r t (flat_map (λ phase. acts (plain_code p) phase q) (range_with_len 0 (length (plain_code p).lists)))
   lean-list q low =
-      let listed = performs.parts q low in
+      let listed = parts_in_a_row (target_of r) g (plain_code p) q (performs.parts q low) in
       let ps = all_passes g.phases in
       record {
         parts = listed.parts;

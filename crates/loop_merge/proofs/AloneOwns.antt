@@ -1,8 +1,8 @@
 -- One processor owns all words.
-use Rattle.std.proofs.Common.{◌≡◌, ℕ, List, [], ◌∷◌, refl, arith}
+use Rattle.std.proofs.Common.{◌≡◌, List, [], ◌∷◌, refl, arith}
 use Rattle.operators.specs.declared.target.Target.{Target}
 use Rattle.sigma_spl.specs.Nest.{PlainNest}
-use Rattle.sigma_spl.specs.Shared.Owners.{AllOwn, AllShared, ArePhasesShared, IsFirstShared, IsShared}
+use Rattle.sigma_spl.specs.Shared.Owners.{AllOwn, IsFirstShared}
 
 module _ (h : Target) (procs : h.procs ≡ 1) where
   own-all : (ps : List (List PlainNest)) → AllOwn h (λ _. 0) ps

@@ -1,10 +1,9 @@
 -- A term leaves a state of merging whose numbers are words.
-use Rattle.std.proofs.Common.{◌≡◌, ℕ, ◌+◌, ◌-◌, ◌^◌, ◌<◌, ◌≤◌, arith, refl, sym, ap, subst, List, [], ◌∷◌, ◌++◌, length}
-use Rattle.std.specs.Prelude.{map}
+use Rattle.std.proofs.Common.{◌≡◌, ℕ, ◌+◌, ◌-◌, ◌^◌, ◌<◌, ◌≤◌, arith, sym, subst, List, [], ◌∷◌, length}
 use Rattle.std.proofs.Math.Nat.{mul-le-mul_right}
 use Rattle.index_fn.specs.Mapping.{Mapping}
 use Rattle.sigma_spl.specs.Limits.{AreSeveral, AreWithin, HasSeveral}
-use Rattle.sigma_spl.specs.Merge.{most, Merging, nothing, can_scatter, scattered, back_of, from_end, settled, ended, with_pass, with_passes, sides, merged}
+use Rattle.sigma_spl.specs.Merge.{most, Merging, nothing, can_scatter, scattered, back_of, from_end, settled, ended, with_passes, sides, merged}
 use Rattle.sigma_spl.specs.Nest.{PlainNest}
 use Rattle.sigma_spl.specs.Term.{PlainTerm, same, gath, scat, diag, nest, move, product, beside}
 use Rattle.sigma_spl.proofs.Limited.{IsRound, few-round, round-inner, sides-within}
@@ -12,7 +11,7 @@ use Rattle.sigma_spl.proofs.Walk.{chosen}
 use Rattle.operators.specs.TensorPaths.Path.{Path, size_under}
 use Rattle.loop_merge.specs.Known.{IsGood, AreKnownPasses, HasRoom, IsKnown}
 use Rattle.loop_nests.specs.Ready.{AreReadyPasses}
-use Rattle.loop_nests.specs.PassPlaces.Known.{IsKnownPass, AreSteps}
+use Rattle.loop_nests.specs.PassPlaces.Known.{AreSteps}
 use Rattle.sigma_spl.specs.Words.{AreWords}
 use Rattle.loop_nests.proofs.PassPlaces.Passes.{known-scattered}
 use Rattle.loop_merge.proofs.Readies.{low, steps-end}

@@ -1,5 +1,5 @@
 -- The terms of a tree merge into the passes that the cost model counts, of which a program can be made.
-use Rattle.std.proofs.Common.{◌≡◌, ◌≢◌, ℕ, ◌+◌, ◌==◌, ◌^◌, ◌<◌, ◌≤◌, Bool, true, false, arith, refl, sym, ap, ap₂, ◌∙◌, subst, List, [], ◌∷◌, ◌++◌, All, length, length-append, if◌then◌else◌}
+use Rattle.std.proofs.Common.{◌≡◌, ℕ, ◌==◌, ◌<◌, Bool, true, false, arith, refl, sym, ap, ap₂, ◌∙◌, subst, List, [], ◌∷◌, ◌++◌, All, length, length-append, if◌then◌else◌}
 use Rattle.std.specs.Prelude.{map, reverse}
 use Rattle.std.proofs.lemmas.List.{length-map, map-append, reverse-append}
 use Rattle.std.proofs.lemmas.List.Elements.{All-append, All-cons, All-head, All-nil, All-tail, All-weaker}
@@ -8,21 +8,18 @@ use Rattle.matrix_meaning.specs.declared.Request.{Request}
 use Rattle.operators.specs.declared.target.Target.{Target}
 use Rattle.sigma_spl.proofs.Listed.{merge_listed}
 use Rattle.sigma_spl.proofs.Phases.{sigma_merges}
-use Rattle.sigma_spl.specs.Good.{AreGoodPasses}
-use Rattle.sigma_spl.specs.Limits.{AreWithin}
 use Rattle.sigma_spl.specs.Loops.{AreLimitedLoops, HasLoop, IsOrdered, PlainLoop, loops_in, nest_of, one_nest}
-use Rattle.sigma_spl.specs.Merge.{most, passes_of}
+use Rattle.sigma_spl.specs.Merge.{most}
 use Rattle.sigma_spl.specs.Merged.{PlainMerged}
 use Rattle.sigma_spl.specs.Nest.{PlainNest}
 use Rattle.sigma_spl.specs.Shared.Names.{HasShares}
-use Rattle.sigma_spl.specs.Shared.Owners.{ArePhasesShared, IsHost, all_passes, most_actions}
-use Rattle.sigma_spl.specs.Shared.Ready.{IsReady, IsReadyNest, IsReadyPass, passes_tables}
-use Rattle.sigma_spl.specs.Shared.Running.{CanRun, CanRunNest}
+use Rattle.sigma_spl.specs.Shared.Owners.{IsHost, all_passes}
+use Rattle.sigma_spl.specs.Shared.Ready.{IsReady, IsReadyNest, IsReadyPass}
+use Rattle.sigma_spl.specs.Shared.Running.{CanRunNest}
 use Rattle.sigma_spl.specs.Shared.Targets.{target_of}
 use Rattle.sigma_spl.specs.Sigma.{ArePasses, ArePhases, IsGoodSigma, PlainSigma, merged_of, passes_in_order}
 use Rattle.sigma_spl.specs.Term.{PlainTerm}
-use Rattle.sigma_spl.specs.Lists.{LastIs}
-use Rattle.sigma_spl.specs.Trees.{CountsTree, IsFree, IsMergedTree, IsOneLoop, IsReadyLoop, IsTreeSigma, phases_for}
+use Rattle.sigma_spl.specs.Trees.{IsMergedTree, IsOneLoop, IsReadyLoop, IsTreeSigma, phases_for}
 use Rattle.tree_model.specs.Breakdown.{Breakdown}
 
 -- ---- the passes are the loops

@@ -197,6 +197,10 @@ fn is_tile(work: &Work) -> bool
 {
     match work {
         Work::Tile { .. } => true,
-        Work::Kernel(_) | Work::Dense { .. } | Work::Horner { .. } | Work::Copy { .. } => false,
+        Work::Kernel { .. }
+        | Work::Short { .. }
+        | Work::Dense { .. }
+        | Work::Horner { .. }
+        | Work::Copy { .. } => false,
     }
 }

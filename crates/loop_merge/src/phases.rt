@@ -41,11 +41,7 @@ pub fn merge(alloc: Global, sigma: Sigma) -> Result<Merged, NoMemory>
 }
 
 // The passes of each term, in order.
-fn merged_terms(
-    alloc: Global,
-    size: u64,
-    terms: Vec<Term>,
-) -> Result<Vec<Vec<Vec<Nest>>>, NoMemory>
+fn merged_terms(alloc: Global, size: u64, terms: Vec<Term>) -> Result<Vec<Vec<Vec<Nest>>>, NoMemory>
     requires size { (0 < size) × (size ≤ 2 ^ 20) }
     requires terms { (lanes : ℕ) × AllCanMerge lanes size (map plain_term terms.items) }
     ensures { IfOk result (λ phases.

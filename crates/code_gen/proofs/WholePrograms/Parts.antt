@@ -8,7 +8,7 @@ use Rattle.icode.specs.declared.action.Action.{Action}
 use Rattle.icode.specs.declared.program.Array.{Array}
 use Rattle.code_gen.specs.PassActions.Acts.{load_at, store_at, pass_acts}
 use Rattle.code_gen.specs.PassCode.Conditions.{CanWritePass}
-use Rattle.code_gen.specs.PassCode.Contract.{AreParts, IsPart, Stays, joined}
+use Rattle.code_gen.specs.PassCode.Contract.{AreParts, ArePhaseParts, IsPart, Stays, in_a_row, joined}
 use Rattle.sigma_spl.specs.Shared.Owners.{all_passes}
 use Rattle.sigma_spl.specs.Shared.Running.{CanRunNest}
 use Rattle.operators.specs.declared.target.Target.{Target}
@@ -68,10 +68,6 @@ module _ (c : Target) (p : Pass) (known : CanWritePass c p) (q : ℕ) (low : q <
 
 -- ---- all parts
 
-joined-append : (xs ys : List (List Action)) → joined (xs ++ ys) ≡ joined xs ++ joined ys
-joined-append [] ys = refl
-joined-append (x ∷ xs) ys = ap (λ z. x ++ z) (joined-append xs ys) ∙ sym (append_assoc x (joined xs) (joined ys))
-
 module _ (c : Target) (enough : c.size ≤ whole_lines c.size c.line) (code : Code) (modulus_is : code.modulus ≡ c.modulus) (lanes_are : code.lanes ≡ c.lanes) (procs_are : code.procs ≡ c.procs) (q : ℕ) (low : q < c.procs) where
   abbrev words : ℕ
   words = whole_lines c.size c.line
@@ -82,22 +78,28 @@ module _ (c : Target) (enough : c.size ≤ whole_lines c.size c.line) (code : Co
   parts_of after (p ∷ ps) t source =
       pass_acts c p (array_start words source) (array_start words (written_array t (after + length ps))) q ∷ parts_of after ps (suc t) (written_array t (after + length ps))
 
-  abbrev pub all_parts : List (List Pass) → ℕ → Array → List (List Action)
+  abbrev pub all_parts : List (List Pass) → ℕ → Array → List (List (List Action))
   all_parts [] t source = []
-  all_parts (ps ∷ more) t source = parts_of (count_in more) ps t source ++ all_parts more (t + length ps) (array_after (count_in more) ps t source)
+  all_parts (ps ∷ more) t source = parts_of (count_in more) ps t source ∷ all_parts more (t + length ps) (array_after (count_in more) ps t source)
 
   parts-whole : (after : ℕ) (ps : List Pass) (t : ℕ) (source : Array) → joined (parts_of after ps t source) ≡ passes_acts c words after ps t source q
   parts-whole after [] t source = refl
   parts-whole after (p ∷ ps) t source =
       ap (λ rest. pass_acts c p (array_start words source) (array_start words (written_array t (after + length ps))) q ++ rest) (parts-whole after ps (suc t) (written_array t (after + length ps)))
 
-  pub all-whole : (f : ℕ) (pss : List (List Pass)) (t : ℕ) (source : Array) → RunsPhases c words enough code modulus_is lanes_are procs_are f pss t source →
-      joined (all_parts pss t source) ≡ flat_map (λ phase. acts code phase q) (range_with_len f (length pss))
-  all-whole f [] t source runs = refl
-  all-whole f (ps ∷ more) t source runs =
-      joined-append (parts_of (count_in more) ps t source) (all_parts more (t + length ps) (array_after (count_in more) ps t source))
-      ∙ ap₂ (λ (xs ys : List Action). xs ++ ys) (parts-whole (count_in more) ps t source ∙ sym (runs.0 q low))
-      (all-whole (f + 1) more (t + length ps) (array_after (count_in more) ps t source) runs.1)
+  parts-long : (after : ℕ) (ps : List Pass) (t : ℕ) (source : Array) → length (parts_of after ps t source) ≡ length ps
+  parts-long after [] t source = refl
+  parts-long after (p ∷ ps) t source = ap suc (parts-long after ps (suc t) (written_array t (after + length ps)))
+
+  pub all-whole : (f : ℕ) (pss : List (List Pass)) (t : ℕ) (source : Array) →
+      RunsPhases c words enough code modulus_is lanes_are procs_are f pss t source →
+      ArePhaseParts code q f pss (all_parts pss t source)
+  all-whole f [] t source runs = tt
+  all-whole f (ps ∷ more) t source runs = (
+    parts-long (count_in more) ps t source,
+    parts-whole (count_in more) ps t source ∙ sym (runs.0 q low),
+    all-whole (f + 1) more (t + length ps) (array_after (count_in more) ps t source) runs.1,
+  )
 
   count-is : (pss : List (List Pass)) → length (all_passes pss) ≡ count_in pss
   count-is [] = refl
@@ -126,8 +128,8 @@ module _ (c : Target) (enough : c.size ≤ whole_lines c.size c.line) (code : Co
         phase-parts more rest ps (suc t) target known.1 (subst (λ n. AreParts c n (array_after (count_in more) ps (suc t) target) (all_passes more) rest) (omega arith) h),
       )
 
-  pub all-are : (pss : List (List Pass)) (t : ℕ) (source : Array) → PhasesKnown c pss → AreParts c t source (all_passes pss) (all_parts pss t source)
+  pub all-are : (pss : List (List Pass)) (t : ℕ) (source : Array) → PhasesKnown c pss → AreParts c t source (all_passes pss) (in_a_row (all_parts pss t source))
   all-are [] t source known = tt
   all-are (ps ∷ more) t source known =
-      phase-parts more (all_parts more (t + length ps) (array_after (count_in more) ps t source)) ps t source known.0
+      phase-parts more (in_a_row (all_parts more (t + length ps) (array_after (count_in more) ps t source))) ps t source known.0
       (all-are more (t + length ps) (array_after (count_in more) ps t source) known.1)

@@ -22,7 +22,7 @@ use Rattle.operators.specs.Sum.{sum_below}
 use Rattle.operators.proofs.Lists.{length-list_below}
 use Rattle.operators.proofs.Sums.{sum_below-append, sum_below-same}
 use Rattle.code_gen.specs.PassCode.Conditions.{HasTables}
-use Rattle.code_gen.specs.PassCode.Contract.{CanProgram, IsListed, Performs, ProgramsPerform}
+use Rattle.code_gen.specs.PassCode.Contract.{CanProgram, IsByPhase, Performs, ProgramsPerform}
 use Rattle.sigma_spl.specs.Shared.Owners.{all_passes, most_actions}
 use Rattle.code_gen.specs.PassActions.Laws.{IsFit}
 use Rattle.operators.specs.declared.target.Target.{Target}
@@ -299,11 +299,11 @@ module _ (c : Target) (g : PlainMerged) (can : CanProgram c g) where
         statements = ap₂ (λ a b. a && b) (some-phases (length p.phases) (let long = phases-long in let some = phases-some in omega (arith, long, some))) (bodies-within pss 0 [] X known can.tables);
       }
 
-  parts-listed : (q : ℕ) → q < c.procs → IsListed c g (flat_map (λ phase. acts code phase q) (range_with_len 0 (length pss)))
+  parts-listed : (q : ℕ) → q < c.procs → IsByPhase c g code q
   parts-listed q low =
       record {
-        parts = all_parts c enough code refl refl refl q low pss 0 X;
-        whole = all-whole c enough code refl refl refl q low 0 pss 0 X listed.0;
+        phases = all_parts c enough code refl refl refl q low pss 0 X;
+        lists = all-whole c enough code refl refl refl q low 0 pss 0 X listed.0;
         each = all-are c enough code refl refl refl q low pss 0 X known;
       }
 

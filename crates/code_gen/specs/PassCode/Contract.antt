@@ -3,7 +3,7 @@ use Rattle.std.specs.Prelude.{◌≡◌, ℕ, suc, ◌+◌, ◌*◌, ◌^◌, �
 use Rattle.std.specs.List.{range_with_len}
 use Rattle.icode.specs.Actions.{PlainFits, array_start, plain_code}
 use Rattle.icode.specs.Limits.{IsWithinLimits}
-use Rattle.icode.specs.Machine.{IsApart, acts, counts_of, results, weighted, whole_lines}
+use Rattle.icode.specs.Machine.{Code, IsApart, acts, counts_of, results, weighted, whole_lines}
 use Rattle.icode.specs.Plain.{PlainProgram}
 use Rattle.icode.specs.declared.action.Action.{Action}
 use Rattle.icode.specs.declared.action.Action.TheVariants.{Load, Store}
@@ -58,10 +58,29 @@ abbrev pub joined : List (List Action) → List Action
 joined [] = []
 joined (part ∷ parts) = part ++ joined parts
 
+-- a processor's actions in all phases: one part for each pass
 pub record IsListed (h : Target) (g : PlainMerged) (actions : List Action) : Type 0 where
   pub parts : List (List Action)
   pub whole : joined parts ≡ actions
   pub each : AreParts h 0 X (all_passes g.phases) parts
+
+-- the parts of each phase, from phase f on: one for each of its passes, and together they are what processor q does in it
+abbrev pub ArePhaseParts : Code → ℕ → ℕ → List (List (List PlainNest)) → List (List (List Action)) → Type 0
+ArePhaseParts code q f [] [] = Unit {0}
+ArePhaseParts code q f [] (parts ∷ more) = ⊥
+ArePhaseParts code q f (passes ∷ phases) [] = ⊥
+ArePhaseParts code q f (passes ∷ phases) (parts ∷ more) =
+    (length parts ≡ length passes) × (joined parts ≡ acts code f q) × ArePhaseParts code q (f + 1) phases more
+
+abbrev pub in_a_row : List (List (List Action)) → List (List Action)
+in_a_row [] = []
+in_a_row (parts ∷ more) = parts ++ in_a_row more
+
+-- a processor's actions, phase by phase and pass by pass
+pub record IsByPhase (h : Target) (g : PlainMerged) (code : Code) (q : ℕ) : Type 0 where
+  pub phases : List (List (List Action))
+  pub lists : ArePhaseParts code q 0 g.phases phases
+  pub each : AreParts h 0 X (all_passes g.phases) (in_a_row phases)
 
 -- It is for the machine, stands within the limits and fits, and no processor touches a line that another writes in a phase; run with no turns but those that complete it, it leaves what the merged passes do
 pub record Performs (h : Target) (g : PlainMerged) (p : PlainProgram) : Type 0 where
@@ -75,8 +94,14 @@ pub record Performs (h : Target) (g : PlainMerged) (p : PlainProgram) : Type 0 w
   pub apart : (phase : ℕ) → IsApart (plain_code p) phase
   pub results : (x : List ℕ) → IsVector h.modulus h.size x → results (plain_code p) x [] ≡ merged_on h.modulus g x
   pub phases : length p.phases ≡ length g.phases
-  pub parts : (q : ℕ) → q < h.procs → IsListed h g (flat_map (λ phase. acts (plain_code p) phase q) (range_with_len 0 (length g.phases)))
+  pub parts : (q : ℕ) → q < h.procs → IsByPhase h g (plain_code p) q
 
 -- every program of such passes does
 abbrev pub ProgramsPerform : Type 0
 ProgramsPerform = (h : Target) (g : PlainMerged) → CanProgram h g → Performs h g (program_of h g)
+
+-- phase after phase, they are one part for each pass
+abbrev pub PartsInARow : Type 0
+PartsInARow =
+    (h : Target) (g : PlainMerged) (code : Code) (q : ℕ) → IsByPhase h g code q →
+    IsListed h g (flat_map (λ phase. acts code phase q) (range_with_len 0 (length g.phases)))

@@ -16,16 +16,14 @@ use Rattle.sigma_spl.specs.Counts.{copies_in}
 use Rattle.sigma_spl.specs.Good.{AreGoodNests, IsGoodNest, NamesItems}
 use Rattle.sigma_spl.specs.Merge.{limits_of, are_small, is_limited, is_multiplier_within, is_within}
 use Rattle.sigma_spl.specs.Nest.{PlainMultiplier, PlainNest, copies_of, factor_count, store_place, sum_value}
-use Rattle.sigma_spl.specs.Work.{PlainWork, kernel, rows, horner, tile, copy, work_size}
+use Rattle.sigma_spl.specs.Work.{PlainWork, kernel, rows, horner, tile, copy, node_of, short, work_size}
 use Rattle.sigma_spl.proofs.Counting.{items_of}
 use Rattle.sigma_spl.proofs.Nests.{alone, one_below, sound-at, with_more}
 use Rattle.sigma_spl.proofs.Walk.{and-left, and-right}
 use Rattle.perm_algebra.specs.Affine.{Sum, constant, levels, parts, peak, top}
 use Rattle.perm_algebra.proofs.AffineLaws.{value-le-top}
 use Rattle.loop_merge.specs.PlainPasses.{IsPlainNest}
-use Rattle.tree_model.specs.Trees.{single, tensor}
 use Rattle.operators.specs.TensorPaths.Path.{AreInRange}
-use Rattle.tree_model.specs.Breakdown.{leaf, node}
 use Rattle.generate.proofs.FormulaPasses.Costs.{leaf-root}
 use Rattle.generate.proofs.FormulaPasses.Made.{IsFormulaWork, IsAlike, HasDiagonal, AreMany, IsMade, AreMade}
 
@@ -77,7 +75,7 @@ few-loops counts h high =
     let least = copies-least counts h in
     elim (cases_lt 20 (length counts)) [
       | inl long ↦ let great : 2 ^ 21 ≤ 2 ^ length counts = pow_mono {i = 21} {j = length counts} (omega (arith, long)) in absurd (omega (arith, great, least, high))
-      | inr short ↦ short
+      | inr few ↦ few
     ]
 
 small-counts : (counts : List ℕ) → AreMany counts → copies_in counts ≤ 1048576 → All (λ c. (1 ≤ c) × (c ≤ 1048576)) counts
@@ -91,20 +89,18 @@ small-counts (c ∷ counts) h high =
 -- ---- work
 
 pub some-items : (w : PlainWork) → IsFormulaWork w → 0 < work_size w
-some-items (kernel (single Dft root (leaf d))) h = omega (arith, h.0)
-some-items (kernel (single Wht root (leaf d))) h = omega (arith, h.0.0)
-some-items (kernel (single Idft root (leaf d))) h = absurd h.0
-some-items (kernel (single kind root (node rule a b))) h = absurd h
-some-items (kernel (tensor kind root t others)) h = absurd h
+some-items (kernel (short Dft root d)) h = omega (arith, h.0)
+some-items (kernel (short Wht root d)) h = omega (arith, h.0.0)
+some-items (kernel (short Idft root d)) h = absurd h.0
+some-items (kernel (node_of p t)) h = absurd h
 some-items (rows root d) h = absurd h
 some-items (horner root d) h = h
 some-items (tile v) h = absurd h
 some-items (copy d) h = h
 
 can-work : (n m : ℕ) (w : PlainWork) → IsFormulaWork w → CanWork (plain_machine n m) w
-can-work n m (kernel (single kind root (leaf d))) h = (h.0, leaf-root m root d kind)
-can-work n m (kernel (single kind root (node rule a b))) h = absurd h
-can-work n m (kernel (tensor kind root t others)) h = absurd h
+can-work n m (kernel (short kind root d)) h = record { trees = (h.0, leaf-root m root d kind); source = h.1 }
+can-work n m (kernel (node_of p t)) h = absurd h
 can-work n m (rows root d) h = absurd h
 can-work n m (horner root d) h = h
 can-work n m (tile v) h = absurd h
@@ -119,9 +115,8 @@ alike-as z (copy d) is work h = tt
 
 -- a kernel is short
 small-as : (w : PlainWork) → IsFormulaWork w → IsSmallWork w
-small-as (kernel (single kind root (leaf d))) h = let few = h.1 in omega (arith, few)
-small-as (kernel (single kind root (node rule a b))) h = absurd h
-small-as (kernel (tensor kind root t others)) h = absurd h
+small-as (kernel (short kind root d)) h = let few = h.1 in omega (arith, few)
+small-as (kernel (node_of p t)) h = absurd h
 small-as (rows root d) h = tt
 small-as (horner root d) h = tt
 small-as (tile v) h = tt

@@ -59,7 +59,7 @@ fourier-formed : (m : ℕ) (path : Path) (n w : ℕ) → 1 ≤ n → IsFormulaTe
 fourier-formed m path n w some =
     elim (cases_lt 8 n) [
       | inl long ↦ let is : fourier_term path n w ≡ nest path (horner w n) = grind (arith, nat_tests) in subst (IsFormulaTerm m) (sym is) (omega (arith, some))
-      | inr few ↦ let is : fourier_term path n w ≡ nest path (kernel (short Dft w n)) = grind (arith, nat_tests) in subst (IsFormulaTerm m) (sym is) (some, omega (arith, short))
+      | inr few ↦ let is : fourier_term path n w ≡ nest path (kernel (short Dft w n)) = grind (arith, nat_tests) in subst (IsFormulaTerm m) (sym is) (some, few)
     ]
 
 term-formed : (m : ℕ) (path : Path) (f : Formula) → 0 < m → IsShaped f → IsFormulaTerm m (term_of m path f)
@@ -184,10 +184,10 @@ module _ (m n : ℕ) (large : 2 ≤ m) (some : 0 < n) (high : n ≤ 1048576) whe
       let both = actions-append (in_order ps) (zs ∷ []) in omega (arith, loads, items, rest, both)
 
 few-actions : (n parts steps cost long : ℕ) → n ≤ 1048576 → parts ≤ 65536 → cost ≤ 2 * (n * n) * (parts + 1) → steps ≤ 21 * (parts + 1) → long ≤ steps + 1 → 2 * cost + 3 * n * long < 2 ^ 59
-few-actions n parts steps cost long high few low short last =
+few-actions n parts steps cost long high few low brief last =
     let square : n * n ≤ 1048576 * 1048576 = mul-le-mul {n₁ = n} {m₁ = n} {n₂ = 1048576} {m₂ = 1048576} high high in
     let all : n * n * (parts + 1) ≤ 1099511627776 * 65537 = mul-le-mul {n₁ = n * n} {m₁ = parts + 1} {n₂ = 1099511627776} {m₂ = 65537} (omega (arith, square)) (omega (arith, few)) in
-    let words : n * long ≤ 1048576 * 1376279 = mul-le-mul {n₁ = n} {m₁ = long} {n₂ = 1048576} {m₂ = 1376279} high (omega (arith, few, short, last)) in
+    let words : n * long ≤ 1048576 * 1376279 = mul-le-mul {n₁ = n} {m₁ = long} {n₂ = 1048576} {m₂ = 1376279} high (omega (arith, few, brief, last)) in
     omega (arith, low, all, words)
 
 -- ---- tables
@@ -224,7 +224,7 @@ passes-plain m f two below shaped few =
     let actions = passes-actions m n two some size.1 ps made compiled.good in
     let price : passes_cost 1 (work_cost 1 m) ps ≡ operations 1 m f = compiled.cost 1 in
     let modest = operations-le m f shaped in
-    let short = few-actions n (parts_of f) (steps_in t) (passes_cost 1 (work_cost 1 m) ps) (length ps) size.1 few (omega (arith, price, modest)) counts.steps counted.long in
+    let bound = few-actions n (parts_of f) (steps_in t) (passes_cost 1 (work_cost 1 m) ps) (length ps) size.1 few (omega (arith, price, modest)) counts.steps counted.long in
     let same = tables-order ps in
     let product = few-product (sums_in t + 1) (makers_in t) (omega (arith, counts.makers, few)) in
     record {
@@ -232,7 +232,7 @@ passes-plain m f two below shaped few =
       modulus = (two, below);
       some = some-any n _;
       passes = plain-passes m n two some size.1 ps made compiled.good compiled.limits;
-      few = omega (arith, actions, short);
+      few = omega (arith, actions, bound);
       tables = omega (arith, same, counted.tables, product);
     }
 

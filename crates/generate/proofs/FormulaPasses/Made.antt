@@ -8,22 +8,20 @@ use Rattle.sigma_spl.specs.Limits.{AreSeveral}
 use Rattle.sigma_spl.specs.Loops.{AreFormed}
 use Rattle.sigma_spl.specs.Merge.{place_sum, items_in, limits_of, all_simplified, renumbered, renumbered_places, gathered, scattered, multiplied, lifted, side}
 use Rattle.sigma_spl.specs.Nest.{PlainFactors, factor_count, factor_at, PlainMultiplier, PlainNest, sum_value}
-use Rattle.sigma_spl.specs.Work.{PlainWork, kernel, rows, horner, tile, copy, work_size}
+use Rattle.sigma_spl.specs.Work.{PlainWork, kernel, rows, horner, tile, copy, node_of, short, work_size}
 use Rattle.sigma_spl.proofs.Natural.{ranged, at-second, place-with}
 use Rattle.sigma_spl.proofs.Nests.{length-map, names-simplified, sum-simplified, with_more, two_below}
 use Rattle.sigma_spl.proofs.Sides.{rest_of, rest-range, sound-renumbered, up, lift-more, names-up}
 use Rattle.perm_algebra.specs.Affine.{Sum, constant, variable, remainder, value, simplified}
-use Rattle.tree_model.specs.Trees.{single, tensor}
 use Rattle.operators.specs.TensorPaths.Path.{Path, AreInRange, count_of, place}
-use Rattle.tree_model.specs.Breakdown.{leaf, node, AllowsLeaf}
+use Rattle.tree_model.specs.Breakdown.{AllowsLeaf}
 
 -- ---- nests
 
 -- a short transform, a longer one row by row, or copies
 abbrev pub IsFormulaWork : PlainWork → Type 0
-IsFormulaWork (kernel (single kind root (leaf d))) = AllowsLeaf kind d × (d ≤ 8)
-IsFormulaWork (kernel (single kind root (node rule a b))) = ⊥
-IsFormulaWork (kernel (tensor kind root t others)) = ⊥
+IsFormulaWork (kernel (short kind root d)) = AllowsLeaf kind d × (d ≤ 8)
+IsFormulaWork (kernel (node_of p t)) = ⊥
 IsFormulaWork (rows root size) = ⊥
 IsFormulaWork (horner root size) = 0 < size
 IsFormulaWork (tile lanes) = ⊥

@@ -20,6 +20,7 @@ use Rattle.loop_merge.proofs.JoinedCopies.Passes.{joined_mean, joined_cost}
 use Rattle.loop_merge.proofs.PlainPasses.{plain_on}
 use Rattle.loop_nests.proofs.Shares.{runs_have_shares}
 use Rattle.sigma_spl.specs.Shared.Ready.{IsReady, IsReadyPass}
+use Rattle.code_gen.proofs.WholePrograms.PhaseParts.{parts_in_a_row}
 use Rattle.code_gen.proofs.WholePrograms.PartShares.{parts_share}
 use Rattle.kernel_gen.proofs.Pieces.{weighted-append}
 use Rattle.sigma_spl.specs.Shared.Costs.{pass_cost, work_cost}
@@ -72,7 +73,7 @@ module _ (m : ℕ) (f : Formula) (p : PlainProgram) (ready : IsReady (plain_mach
 
   whole-cost : (weight : ℕ) → 0 < weight → weighted weight (whole_counts (plain_code p) 0) ≡ passes_cost weight (work_cost weight m) ps
   whole-cost weight counted =
-      let listed = performs.parts 0 (omega arith) in
+      let listed = parts_in_a_row _ _ (plain_code p) 0 (performs.parts 0 (omega arith)) in
       let one : all_passes (in_order ps ∷ []) ≡ in_order ps = append-nil (in_order ps) in
       let cost = parts-cost (size_of f) m weight counted 0 X (all_passes (in_order ps ∷ [])) listed.parts ready.passes listed.each in
       ap₂ (λ lanes k. weighted weight (counts_of lanes (flat_map (λ phase. acts (plain_code p) phase 0) (range_with_len 0 k)))) performs.lanes lists-length

@@ -8,7 +8,7 @@ use Rattle.loop_merge.specs.MultipliedPasses.Multiplied.{multiplied_last, with_f
 use Rattle.loop_merge.proofs.MultipliedPasses.Lasts.{length-last}
 use Rattle.sigma_spl.specs.Lists.{LastIs}
 use Rattle.sigma_spl.specs.Shared.Costs.{pass_cost, pass_loads, work_cost, work_loads}
-use Rattle.sigma_spl.specs.Shared.Ready.{IsReadyPass, diagonal_tables, nests_tables, passes_tables, work_tables}
+use Rattle.sigma_spl.specs.Shared.Ready.{IsReadyPass, nests_tables, passes_tables}
 use Rattle.sigma_spl.specs.Shared.Running.{CanRun, CanRunNest}
 use Rattle.operators.specs.declared.target.Target.{Target}
 use Rattle.sigma_spl.specs.Shared.Owners.{most_actions}

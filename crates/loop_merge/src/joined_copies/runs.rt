@@ -42,7 +42,11 @@ fn is_word(work: &Work) -> bool
 {
     match work {
         Work::Copy { size } => *size == 1,
-        Work::Kernel(_) | Work::Dense { .. } | Work::Horner { .. } | Work::Tile { .. } => false,
+        Work::Kernel { .. }
+        | Work::Short { .. }
+        | Work::Dense { .. }
+        | Work::Horner { .. }
+        | Work::Tile { .. } => false,
     }
 }
 

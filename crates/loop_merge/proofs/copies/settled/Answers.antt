@@ -1,4 +1,4 @@
-use Rattle.std.proofs.Common.{sym, subst, map}
+use Rattle.std.proofs.Common.{sym, subst}
 use Rattle.index_fn.specs.Index.{mapping_of}
 use Rattle.loop_nests.specs.PassPlaces.Known.{AreSteps, IsKnownPass}
 use Rattle.loop_merge.proofs.Readies.{known-by}

@@ -14,5 +14,5 @@ returns-in_ok-push-in-Some c =
     c.push.new.self.items c.in-Some.last c.in_ok-multiplied_in_order-in-Some.field-0 c.in-Some.ensures.items
     c.in_ok-push-in-Some.ensures.items
     (c.in_ok-multiplied_in_order-in-Some.ensures
-    ∙ ap (λ ns. multiplied factors [] (map plain_nest ns)) c.deref-in-Some.ensures.value
+    ∙ ap (λ ns. multiplied factors [] (map plain_nest ns)) c.deref.ensures.value
     ∙ in_order_is factors (map plain_nest c.in-Some.last.items))
