@@ -1,9 +1,7 @@
 -- Passes whose works are those of nodes are loops of them.
 use Rattle.std.proofs.Common.{ℕ, List, [], ◌∷◌}
 use Rattle.sigma_lower.specs.TreeLoops.Merge.{PlainPass}
-use Rattle.sigma_lower.proofs.TreeLoops.Shaped.{AreShaped, HasWorks, IsShapedWork}
-use Rattle.sigma_spl.specs.Work.{PlainWork, kernel, rows, horner, tile, copy}
-use Rattle.smp_rewrite.specs.LayoutSteps.Layout.{IsGoodLayout, IsGoodWork, Layout, by, work}
+use Rattle.sigma_lower.proofs.TreeLoops.Shaped.{AreShaped, IsShapedWork}
 use Rattle.generate.proofs.Emission.Lists.{AllPasses}
 use Rattle.generate.proofs.Emission.Nests.{IsLooped, IsNodeWork, looped-of}
 
