@@ -62,8 +62,8 @@ module _ (words : List (List ℕ)) (bytes : List ℕ) (status : Status) (text : 
       → text ≡ trace_of order plan (vectors_read plan bytes) (emission plan.request plan.tree)
   trace_text order asked right p =
       let room = room_behind (line 256) bytes in
-      let data = (line 256).behind bytes in
-      let ends = status_by all plan.request.size (data_answer plan.request.size room data) (vectors_read plan bytes) in
+      let rest = (line 256).behind bytes in
+      let ends = status_by all plan.request.size (data_answer plan.request.size room rest) (vectors_read plan bytes) in
       let whole = trace_of order plan (vectors_read plan bytes) (emission plan.request plan.tree) in
       let own : (trace_outcomes order).answer bytes ends whole =
       front_answer (line 256) (planned (procs_in order)) (trace_work order) plan bytes ends whole right.short
@@ -78,7 +78,8 @@ first_listing plan [] = []
 first_listing plan (h ∷ later) = listing_of (conv_emission plan.request plan.tree h)
 
 is_first_listing : (plan : Planned) (vectors : List (List ℕ))
-    → by_first (λ h later t. t ≡ listing_of (conv_emission plan.request plan.tree h)) vectors (first_listing plan vectors)
+    → by_first (λ h later t. t ≡ listing_of (conv_emission plan.request plan.tree h)) vectors
+    (first_listing plan vectors)
 unfolding first_listing
 is_first_listing plan [] = refl
 is_first_listing plan (h ∷ later) = refl
@@ -95,9 +96,9 @@ pub good_convolver : (schedule : Turns) (words : List (List ℕ)) (bytes : List 
     → IsOutcome words bytes status text → ShowsConvolver plan (vectors_read plan bytes) text
 good_convolver schedule words bytes status text plan asked right p =
     let room = room_behind (line 256) bytes in
-    let data = (line 256).behind bytes in
+    let rest = (line 256).behind bytes in
     let vectors = vectors_read plan bytes in
-    let ends = status_by the_first plan.request.size (data_answer plan.request.size room data) vectors in
+    let ends = status_by the_first plan.request.size (data_answer plan.request.size room rest) vectors in
     let whole = first_listing plan vectors in
     let own : (convolver_outcomes schedule).answer bytes ends whole =
     front_answer (line 256) (conv_planned (named schedule)) convolver_work plan bytes ends whole right.short
@@ -108,15 +109,17 @@ good_convolver schedule words bytes status text plan asked right p =
 -- ---- by a formula
 
 pub good_compile : FormulaProgramsAreCode → (m : ℕ) (words : List (List ℕ)) (bytes : List ℕ) (status : Status)
-    (text : List ℕ) (formula : Formula) → 2 ≤ m → m < 2 ^ 62 → IsAsked words (command.ByFormula m formula_command.Compile)
+    (text : List ℕ) (formula : Formula) → 2 ≤ m → m < 2 ^ 62
+    → IsAsked words (command.ByFormula m formula_command.Compile)
     → IsRightFormulaLine bytes formula → IsOutcome words bytes status text → Shows listing_of (IsCodeOf m formula) text
 good_compile law m words bytes status text formula large small asked right p =
     let whole = listing_of (formulas.program_for m formula) in
     let first = (line 65536).first bytes in
     let few : parts_of formula ≤ 65536 =
-    (let most = written_few first formula right.spells in let short = right.short in omega (arith, most, short)) in (
+    (let most = written_few first formula right.spells in let short = right.short in omega (arith, most, short)) in
+    let own = listing_is_right m bytes formula right.short right.spells in (
       formulas.program_for m formula,
       law m formula large small (written_shaped first formula right.spells) few,
       one_text words bytes status Success text whole p
-          (inr (command.ByFormula m formula_command.Compile, asked, listing_is_right m bytes formula right.short right.spells)),
+          (inr (command.ByFormula m formula_command.Compile, asked, own)),
     )

@@ -67,17 +67,20 @@ module _ (p : PlainProgram) (within : IsWithinLimits p) where
 
   processors : (phase n : ℕ) → n ≤ p.procs → HasTable phase n
   unfolding HasTable HasFault
-  processors phase zero le = inl (replicate (line_count p) unused, phase_starts p phase (replicate (line_count p) unused) refl)
+  processors phase zero le =
+      let fresh = replicate (line_count p) unused in inl (fresh, phase_starts p phase fresh refl)
   processors phase (suc n) le =
       let next : n + 1 ≡ suc n = omega arith in
       subst (HasTable phase) next
       (elim (processors phase n (omega (arith, le))) [
         | inl before ↦
-            next_processor phase n before.0 (omega (arith, le)) before.1 (walked p n (steps_of_phase p phase n) 0 before.0) refl
+            next_processor phase n before.0 (omega (arith, le)) before.1
+            (walked p n (steps_of_phase p phase n) 0 before.0) refl
         | inr fault ↦ inr fault
       ])
 
-  a_phase : (phase : ℕ) → phase < length p.phases → ((shared : Option Sharing) × IsPhaseSound p phase shared) ⊎ HasFault phase
+  a_phase : (phase : ℕ) → phase < length p.phases
+      → ((shared : Option Sharing) × IsPhaseSound p phase shared) ⊎ HasFault phase
   unfolding HasTable HasFault
   a_phase phase inside = elim (processors phase p.procs (omega arith)) [
     | inl all ↦ inl (
@@ -109,7 +112,8 @@ module _ (p : PlainProgram) (within : IsWithinLimits p) where
           | inr refused ↦ inr refused
         ])
 
-    by_sharing : (shared : Option Sharing) → IsCheckedTo p (length p.phases) shared → PassesCheck action_limit p ⊎ IsRefused
+    by_sharing : (shared : Option Sharing) → IsCheckedTo p (length p.phases) shared
+        → PassesCheck action_limit p ⊎ IsRefused
     unfolding IsRefused
     by_sharing None h = inl (checked_passes action_limit p (length p.phases) few (omega arith) h)
     by_sharing (Some s) h = inr (
@@ -120,7 +124,10 @@ module _ (p : PlainProgram) (within : IsWithinLimits p) where
 
     short_has : PassesCheck action_limit p ⊎ IsRefused
     unfolding HasPhases IsRefused
-    short_has = elim (phases (length p.phases) (omega arith)) [ inl all ↦ by_sharing all.0 all.1 | inr refused ↦ inr refused ]
+    short_has = elim (phases (length p.phases) (omega arith)) [
+      | inl all ↦ by_sharing all.0 all.1
+      | inr refused ↦ inr refused
+    ]
 
   decided : PassesCheck action_limit p ⊎ IsRefused
   unfolding IsRefused
