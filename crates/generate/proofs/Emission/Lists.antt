@@ -76,8 +76,8 @@ module _ (outer : List ℕ) (d : ℕ) (whole : PlaceFunction) (g : PlainPass →
 
     module _ (ds : PlainFactors) (place : PlaceFunction) (f : List Sum → List Sum)
         (is : (counts : List ℕ) (w : PlainWork) (own : PlaceFunction) →
-            multiplier_at counts w (moved o.factors own)
-            ≡ Some (record { factors = ds; places = map (after place own (bounds counts w)) (each w (length counts)) }))
+        multiplier_at counts w (moved o.factors own)
+        ≡ Some (record { factors = ds; places = map (after place own (bounds counts w)) (each w (length counts)) }))
         (at : (cs : ℕ → ℕ) (stored own : Sum → Sum) (es : List Sum) → ((e : Sum) → stored e ≡ o.store cs (own e)) →
         f (map stored es) ≡ map (λ e. place cs (own e)) es) where
       factors-nest : (p : PlainPass) (q : Pass) → Good p → IsLast outer d whole [] n o p q →

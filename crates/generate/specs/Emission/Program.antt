@@ -70,7 +70,11 @@ program_in c phases =
     let all = flat_map (λ ps. ps) phases in
     let tables = fold with_table [] (flat_map (tables_in c.modulus) all) in
     record {
-      size = c.size; modulus = c.modulus; procs = c.procs; line = c.line; lanes = c.lanes;
+      size = c.size;
+      modulus = c.modulus;
+      procs = c.procs;
+      line = c.line;
+      lanes = c.lanes;
       regs = fold max 0 (map (λ p. registers c.modulus p.factors p.work) all);
       tables = tables;
       phases = phases_code c tables (length all) 0 phases;
