@@ -12,7 +12,6 @@ use Rattle.listing_text.specs.Texts.{is_listing}
 use Rattle.listing_text.proofs.ListingReads.{listing_judges}
 use Rattle.code_check.specs.declared.fault.CheckFault.{CheckFault}
 use Rattle.code_check.specs.declared.fault.CheckFault.TheVariants.{LineShared, NoMemory, OverSteps}
-use Rattle.code_check.specs.declared.lines.LineUse.{LineUse}
 use Rattle.code_check.specs.declared.lines.Sharing.{Sharing}
 use Rattle.code_check.specs.declared.walk.Offence.{Offence}
 use Rattle.code_check.specs.declared.walk.Offence.TheVariants.{Place, Register}
@@ -50,20 +49,25 @@ offence_is_none : (o : Offence) (phase q i : ℕ) → fault_of o phase q i ≢ N
 offence_is_none Place phase q i e = cc
 offence_is_none Register phase q i e = cc
 
+-- a value with P
+abbrev Some_with : {A : Type 0} → (A → Type 0) → Type 0
+Some_with {A} P = (a : A) × P a
+
 module _ (p : PlainProgram) (within : IsWithinLimits p) where
   -- what is wrong in the phase
   HasFault : ℕ → Type 0
   HasFault phase = (fault : CheckFault) × (fault ≢ NoMemory) × IsPhaseFault p phase fault
 
   HasTable : ℕ → ℕ → Type 0
-  HasTable phase n = ((table : List LineUse) × IsPhaseSoFar p phase n table) ⊎ HasFault phase
+  HasTable phase n = Some_with (IsPhaseSoFar p phase n) ⊎ HasFault phase
 
-  next_processor : (phase n : ℕ) (t : List LineUse) → n < p.procs → IsPhaseSoFar p phase n t → (walk : Walk)
-      → walked p n (steps_of_phase p phase n) 0 t ≡ walk → HasTable phase (n + 1)
+  next_processor : (phase n : ℕ) (before : Some_with (IsPhaseSoFar p phase n)) → n < p.procs → (walk : Walk)
+      → walked p n (steps_of_phase p phase n) 0 before.0 ≡ walk → HasTable phase (n + 1)
   unfolding HasTable HasFault
-  next_processor phase n t inside before (Passed m u) is = inl (u, phase_goes_on p phase n m t u before is)
-  next_processor phase n t inside before (Stopped m o) is =
-      inr (fault_of o phase n m, offence_is_none o phase n m, phase_stops p phase n m t o inside before is)
+  next_processor phase n before inside (Passed m u) is =
+      inl (u, phase_goes_on p phase n m before.0 u before.1 is)
+  next_processor phase n before inside (Stopped m o) is =
+      inr (fault_of o phase n m, offence_is_none o phase n m, phase_stops p phase n m before.0 o inside before.1 is)
 
   processors : (phase n : ℕ) → n ≤ p.procs → HasTable phase n
   unfolding HasTable HasFault
@@ -74,8 +78,7 @@ module _ (p : PlainProgram) (within : IsWithinLimits p) where
       subst (HasTable phase) next
       (elim (processors phase n (omega (arith, le))) [
         | inl before ↦
-            next_processor phase n before.0 (omega (arith, le)) before.1
-            (walked p n (steps_of_phase p phase n) 0 before.0) refl
+            next_processor phase n before (omega (arith, le)) (walked p n (steps_of_phase p phase n) 0 before.0) refl
         | inr fault ↦ inr fault
       ])
 
