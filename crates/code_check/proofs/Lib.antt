@@ -12,3 +12,4 @@ pub mod Causes
 pub mod Pruning
 pub mod Lives
 pub mod Exact
+pub mod Decided

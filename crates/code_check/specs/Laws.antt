@@ -1,6 +1,7 @@
 -- The statements of the laws.
-use Rattle.std.specs.Prelude.{◌≡◌, ◌≢◌, ℕ, List, []}
+use Rattle.std.specs.Prelude.{◌≡◌, ◌≢◌, ◌⊎◌, ℕ, List, []}
 use Rattle.icode.specs.declared.program.Program.{Program}
+use Rattle.icode.specs.Limits.{IsWithinLimits}
 use Rattle.icode.specs.Machine.{runs}
 use Rattle.icode.specs.Plain.{PlainProgram}
 use Rattle.icode.specs.Program.{plain_program, code_of, Fits}
@@ -17,6 +18,14 @@ OneCause =
 abbrev pub CausesExclude : Type 0
 CausesExclude =
     (limit : ℕ) (p : PlainProgram) (f : CheckFault) → f ≢ NoMemory → PassesCheck limit p → IsCause limit p f → ⊥
+
+-- there is a cause to refuse it, other than want of memory
+abbrev pub IsRefusedFor : ℕ → PlainProgram → Type 0
+IsRefusedFor limit p = (fault : CheckFault) × (fault ≢ NoMemory) × IsCause limit p fault
+
+-- one that does not pass has one
+abbrev pub CausesDecide : Type 0
+CausesDecide = (limit : ℕ) (p : PlainProgram) → IsWithinLimits p → PassesCheck limit p ⊎ IsRefusedFor limit p
 
 -- what passes a limit below 2^59 fits, and every order of turns leaves the same memory
 abbrev pub PassedFits : Type 0
