@@ -41,35 +41,25 @@ abbrev pub step_of : PlainProgram → PlainOp → List ℕ → ℕ → Step
 step_of p (Load register array place) vs q =
     let at = sum_numbers place vs q in
     let words = whole_lines p.size p.line in
-    record {
-      action = actions.Load register (array_start words array + at.value);
-      peak = at.peak;
-      reach = at.value + p.lanes;
-      room = words;
-    }
+    let action = actions.Load register (array_start words array + at.value) in
+    record { action = action; peak = at.peak; reach = at.value + p.lanes; room = words }
 step_of p (Store array place register) vs q =
     let at = sum_numbers place vs q in
     let words = whole_lines p.size p.line in
-    record {
-      action = actions.Store (array_start words array + at.value) register;
-      peak = at.peak;
-      reach = at.value + p.lanes;
-      room = words;
-    }
+    let action = actions.Store (array_start words array + at.value) register in
+    record { action = action; peak = at.peak; reach = at.value + p.lanes; room = words }
 step_of p (Zero register) vs q = plain (actions.Zero register)
 step_of p (Add register left right) vs q = plain (actions.Add register left right)
 step_of p (Sub register left right) vs q = plain (actions.Sub register left right)
 step_of p (Neg register source) vs q = plain (actions.Neg register source)
-step_of p (MulConst register source factor) vs q = plain (actions.Mul register source (lane_factors p.lanes (λ lane. factor)))
+step_of p (MulConst register source factor) vs q =
+    plain (actions.Mul register source (lane_factors p.lanes (λ lane. factor)))
 step_of p (MulTable register source table place step) vs q =
     let at = sum_numbers place vs q in
     let entries = slice_index_or p.tables table [] in
-    record {
-      action = actions.Mul register source (lane_factors p.lanes (λ lane. slice_index entries (at.value + step * lane)));
-      peak = at.peak;
-      reach = at.value + step * (p.lanes - 1) + 1;
-      room = length entries;
-    }
+    let factors = lane_factors p.lanes (λ lane. slice_index entries (at.value + step * lane)) in
+    let reach = at.value + step * (p.lanes - 1) + 1 in
+    record { action = actions.Mul register source factors; peak = at.peak; reach = reach; room = length entries }
 step_of p (Tile register source) vs q = plain (actions.Tile register source)
 
 -- a loop is the steps of its body for each value, one after the other

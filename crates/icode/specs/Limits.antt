@@ -1,5 +1,5 @@
 -- The limits within which programs stand.
-use Rattle.std.specs.Prelude.{ℕ, ◌+◌, ◌*◌, ◌^◌, ◌<◌, ◌≤◌, List, Bool, true, ◌&&◌, nat_lt, nat_le, max, length, IsTrue}
+use Rattle.std.specs.Prelude.{ℕ, suc, ◌+◌, ◌*◌, ◌^◌, ◌<◌, ◌≤◌, List, Bool, true, ◌&&◌, nat_lt, nat_le, max, length, IsTrue}
 use Rattle.std.specs.List.{list_all}
 use Rattle.icode.specs.Plain.{PlainExpr, PlainParts, PlainPart, PlainOp, PlainStmt, PlainBody, PlainProgram, Sum, NoParts, AndParts, Proc, Var, Product, Rem, Quot, Load, Store, Zero, Add, Sub, Neg, MulConst, MulTable, Tile, Loop, Do, NoStmts, AndStmts}
 use Rattle.operators.specs.Sizes.{max_size}
@@ -24,11 +24,9 @@ rank (Quot of divisor factor) = 5001
 
 -- the least rank of what may stand after a part; only remainders and quotients may repeat
 abbrev pub next_rank : PlainPart → ℕ
-next_rank (Proc factor) = 1
-next_rank (Var depth factor) = 2 + depth
-next_rank (Product outer inner factor) = 66 + (outer * 64 + inner)
 next_rank (Rem of divisor factor) = 5000
 next_rank (Quot of divisor factor) = 5001
+next_rank part = suc (rank part)
 
 -- only open loops are named, the numbers are in their limits, and parts stand in their order
 abbrev mutual
@@ -60,11 +58,9 @@ abbrev mutual
   all_parts (AndParts part rest) = part_parts part + all_parts rest
 
   pub part_parts : PlainPart → ℕ
-  part_parts (Proc factor) = 1
-  part_parts (Var depth factor) = 1
-  part_parts (Product outer inner factor) = 1
   part_parts (Rem of divisor factor) = 1 + sum_parts of
   part_parts (Quot of divisor factor) = 1 + sum_parts of
+  part_parts part = 1
 
 -- how many parentheses are open at once
 abbrev mutual
@@ -76,11 +72,9 @@ abbrev mutual
   parts_depth (AndParts part rest) = max (part_depth part) (parts_depth rest)
 
   pub part_depth : PlainPart → ℕ
-  part_depth (Proc factor) = 0
-  part_depth (Var depth factor) = 0
-  part_depth (Product outer inner factor) = 0
   part_depth (Rem of divisor factor) = 1 + sum_depth of
   part_depth (Quot of divisor factor) = 1 + sum_depth of
+  part_depth part = 0
 
 abbrev pub is_expr_within : PlainExpr → ℕ → Bool
 is_expr_within e open_loops = is_sum_within e open_loops && (nat_le (sum_parts e) 64 && nat_le (sum_depth e) 64)

@@ -89,10 +89,8 @@ register_put (Tile r x) = r
 -- what an action leaves
 abbrev pub effect : ℕ → ℕ → Action → Local → Local
 effect m lanes action s =
-    record {
-      memory = memory_after lanes action s;
-      registers = with_words s.registers (register_put action * lanes) (value_put m lanes action s);
-    }
+    let registers = with_words s.registers (register_put action * lanes) (value_put m lanes action s) in
+    record { memory = memory_after lanes action s; registers = registers }
 
 -- what a list of actions leaves, one after another
 abbrev pub effects : ℕ → ℕ → List Action → Local → Local
@@ -158,23 +156,16 @@ phases_after code phase = length code.lists - (phase + 1)
 abbrev pub moved_on : Code → State → State
 moved_on code s =
     if is_open code s.phase s.done then s
-    else record {
-      memory = s.memory;
-      registers = s.registers;
-      phase = first_open code (phases_after code s.phase) (s.phase + 1);
-      done = none_done code;
-    }
+    else let phase = first_open code (phases_after code s.phase) (s.phase + 1) in
+    record { memory = s.memory; registers = s.registers; phase = phase; done = none_done code }
 
 -- processor q does the action
 abbrev pub acted : Code → ℕ → Action → State → State
 acted code q action s =
-    let after : Local = effect code.modulus code.lanes action (record { memory = s.memory; registers = slice_index_or s.registers q [] }) in
-    record {
-      memory = after.memory;
-      registers = slice_set s.registers q after.registers;
-      phase = s.phase;
-      done = slice_set s.done q (suc (slice_index s.done q));
-    }
+    let before : Local = record { memory = s.memory; registers = slice_index_or s.registers q [] } in
+    let after : Local = effect code.modulus code.lanes action before in
+    let done = slice_set s.done q (suc (slice_index s.done q)) in
+    record { memory = after.memory; registers = slice_set s.registers q after.registers; phase = s.phase; done = done }
 
 abbrev pub turn_with : Code → ℕ → State → Option Action → State
 turn_with code q s None = s
@@ -223,19 +214,14 @@ padded code = whole_lines code.size code.line
 -- the input stands in the first words, and all else is 0
 abbrev pub start : Code → List ℕ → State
 start code x =
-    record {
-      memory = x ++ replicate (4 * padded code - code.size) 0;
-      registers = replicate code.procs (replicate (code.regs * code.lanes) 0);
-      phase = first_open code (length code.lists) 0;
-      done = none_done code;
-    }
+    let memory = x ++ replicate (4 * padded code - code.size) 0 in
+    let registers = replicate code.procs (replicate (code.regs * code.lanes) 0) in
+    record { memory = memory; registers = registers; phase = first_open code (length code.lists) 0; done = none_done code }
 
 -- the turns that finish a phase: each processor in rising order, as often as it has actions left
 abbrev pub rest_of_phase : Code → ℕ → List ℕ → List ℕ
 rest_of_phase code phase done =
-    flat_map
-    (λ q. replicate (length (acts code phase q) - slice_index done q) q)
-    (range_with_len 0 code.procs)
+    flat_map (λ q. replicate (length (acts code phase q) - slice_index done q) q) (range_with_len 0 code.procs)
 
 -- the turns of n whole phases
 abbrev pub whole_phases : Code → ℕ → ℕ → List ℕ
@@ -294,7 +280,8 @@ pub record Whole : Type 0 where
 -- processor q does all its actions of the phase
 abbrev pub processor_alone : Code → ℕ → ℕ → Whole → Whole
 processor_alone code phase q w =
-    let after : Local = effects code.modulus code.lanes (acts code phase q) (record { memory = w.memory; registers = slice_index_or w.registers q [] }) in
+    let before : Local = record { memory = w.memory; registers = slice_index_or w.registers q [] } in
+    let after : Local = effects code.modulus code.lanes (acts code phase q) before in
     record { memory = after.memory; registers = slice_set w.registers q after.registers }
 
 -- n processors from q on do so, one after another

@@ -31,9 +31,8 @@ entry_from kind m n w (s ∷ sizes) (v ∷ roots) k l =
 
 -- the entry of the transform of these sizes, each with its root
 abbrev pub entry_in : Kind → ℕ → List ℕ → List ℕ → ℕ → ℕ → ℕ
-entry_in kind m [] roots k l = 0
-entry_in kind m (n ∷ sizes) [] k l = 0
 entry_in kind m (n ∷ sizes) (w ∷ roots) k l = entry_from kind m n w sizes roots k l
+entry_in kind m sizes roots k l = 0
 
 -- the matrix of these entries, times a list, modulo m
 abbrev pub transform_in : Kind → ℕ → List ℕ → List ℕ → Operator

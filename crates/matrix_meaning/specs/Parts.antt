@@ -1,5 +1,5 @@
 -- The requests that a request is made of: one for each dimension, or for an inverse the one with the inverse root.
-use Rattle.std.specs.Prelude.{ℕ, ◌*◌, ◌==◌, if◌then◌else◌, List, [], ◌∷◌, Option, Some, None}
+use Rattle.std.specs.Prelude.{ℕ, ◌*◌, ◌==◌, if◌then◌else◌, List, [], ◌∷◌, map, Option, Some, None}
 use Rattle.ring_mod.specs.Residue.{power_mod}
 use Rattle.matrix_meaning.specs.declared.Dimension.{Dimension}
 use Rattle.matrix_meaning.specs.declared.Dimensions.{Dimensions}
@@ -7,6 +7,7 @@ use Rattle.matrix_meaning.specs.declared.Dimensions.TheVariants.{One, Two, Three
 use Rattle.matrix_meaning.specs.declared.Kind.{Kind}
 use Rattle.matrix_meaning.specs.declared.Kind.TheVariants.{Dft, Wht, Idft}
 use Rattle.matrix_meaning.specs.declared.Request.{Request}
+use Rattle.matrix_meaning.specs.Dimensions.{dims_by}
 use Rattle.matrix_meaning.specs.Kind.{inverse_root}
 
 -- the request for one of the dimensions, on one processor and one lane
@@ -39,9 +40,7 @@ rest_of r = rest_in r r.dimensions
 
 abbrev pub parts_in : Request → Dimensions → List Request
 parts_in r One = r ∷ []
-parts_in r (Two a b) = part_of r a ∷ part_of r b ∷ []
-parts_in r (Three a b c) = part_of r a ∷ part_of r b ∷ part_of r c ∷ []
-parts_in r (Four a b c d) = part_of r a ∷ part_of r b ∷ part_of r c ∷ part_of r d ∷ []
+parts_in r ds = map (part_of r) (dims_by r.size r.root ds)
 
 -- the requests for the dimensions, one for each; of one size the request itself
 abbrev pub parts_of : Request → List Request
@@ -52,9 +51,8 @@ abbrev pub inverted : Request → Request
 inverted r = record r { kind = Dft; root = inverse_root r.modulus r.size r.root }
 
 abbrev pub forward_by : Kind → Request → Request
-forward_by Dft r = r
-forward_by Wht r = r
 forward_by Idft r = inverted r
+forward_by kind r = r
 
 -- the request whose trees the request has
 abbrev pub forward_of : Request → Request
@@ -70,9 +68,8 @@ first_bad [] = None
 first_bad (p ∷ ps) = if root_power p == 1 then first_bad ps else Some (root_power p)
 
 abbrev pub bad_power_by : Kind → Request → Option ℕ
-bad_power_by Dft r = first_bad (parts_of r)
 bad_power_by Wht r = None
-bad_power_by Idft r = first_bad (parts_of r)
+bad_power_by kind r = first_bad (parts_of r)
 
 -- the first root that is no root of its size: its power
 abbrev pub bad_power : Request → Option ℕ

@@ -5,7 +5,7 @@ use Rattle.matrix_meaning.specs.Convolving.{IsConvRequest}
 use Rattle.matrix_meaning.specs.Valid.{IsInRange}
 use Rattle.grammar.specs.Grammar.{IsStuck}
 use Rattle.request_text.specs.declared.fault.RequestFault.{RequestFault}
-use Rattle.request_text.specs.declared.fault.RequestFault.TheVariants.{Syntax, Range, Shape, LanesLine, NotUnit}
+use Rattle.request_text.specs.declared.fault.RequestFault.TheVariants.{Syntax}
 use Rattle.request_text.specs.ConvLine.{conv_line}
 use Rattle.request_text.specs.Limits.{judged, judged_conv}
 use Rattle.request_text.specs.Line.{request_line}
@@ -21,10 +21,7 @@ abbrev pub AnswersBy : (List ℕ → Request → Type 0) → (Request → Result
     List ℕ → Result Request RequestFault → Type 0
 AnswersBy spells judge Fits text (Ok r) = spells text r × Fits r
 AnswersBy spells judge Fits text (Err (Syntax at)) = IsStuck spells text at
-AnswersBy spells judge Fits text (Err (Range field value)) = HasFault spells judge text (Range field value)
-AnswersBy spells judge Fits text (Err (Shape size)) = HasFault spells judge text (Shape size)
-AnswersBy spells judge Fits text (Err (LanesLine lanes line)) = HasFault spells judge text (LanesLine lanes line)
-AnswersBy spells judge Fits text (Err (NotUnit gcd)) = HasFault spells judge text (NotUnit gcd)
+AnswersBy spells judge Fits text (Err fault) = HasFault spells judge text fault
 
 -- the answer for a request line
 abbrev pub Answers : List ℕ → Result Request RequestFault → Type 0

@@ -3,7 +3,7 @@ use Rattle.std.specs.Prelude.{ℕ, zero, suc, ◌*◌, ◌-◌, ◌^◌, ◌%◌
 use Rattle.std.specs.Int.{is_power_of_two}
 use Rattle.matrix_meaning.specs.declared.Dimension.{Dimension}
 use Rattle.matrix_meaning.specs.declared.Kind.{Kind}
-use Rattle.matrix_meaning.specs.declared.Kind.TheVariants.{Dft, Wht, Idft}
+use Rattle.matrix_meaning.specs.declared.Kind.TheVariants.{Wht, Idft}
 use Rattle.matrix_meaning.specs.declared.Request.{Request}
 use Rattle.matrix_meaning.specs.Dimensions.{dims_of}
 use Rattle.operators.specs.Sizes.{max_size}
@@ -47,9 +47,8 @@ roots_below modulus [] = Ok tt
 roots_below modulus (d ∷ others) = below Root d.root modulus >> roots_below modulus others
 
 abbrev pub shaped : Kind → ℕ → Result (Unit {0}) RequestFault
-shaped Dft size = Ok tt
 shaped Wht size = if is_power_of_two size then Ok tt else Err (Shape size)
-shaped Idft size = Ok tt
+shaped kind size = Ok tt
 
 abbrev pub divided : ℕ → ℕ → ℕ → Result (Unit {0}) RequestFault
 divided procs line lanes =
@@ -70,9 +69,8 @@ coprime size modulus = if common_factor size modulus == 1 then Ok tt else Err (N
 
 -- an inverse divides by the size
 abbrev pub divisible : Kind → ℕ → ℕ → Result (Unit {0}) RequestFault
-divisible Dft size modulus = Ok tt
-divisible Wht size modulus = Ok tt
 divisible Idft size modulus = coprime size modulus
+divisible kind size modulus = Ok tt
 
 -- The first limit that the request misses, its sizes aside: the first field in order that is out of its limits, then
 -- its shape, then its lanes and line, then the factor that size and modulus share

@@ -20,8 +20,7 @@ kinds = (codes "dft ", Dft) ∷ (codes "idft ", Idft) ∷ (codes "wht ", Wht) �
 -- how many sizes may stand behind the first, each behind an x
 abbrev pub more_sizes : Kind → ℕ
 more_sizes Dft = 3
-more_sizes Wht = 0
-more_sizes Idft = 0
+more_sizes kind = 0
 
 -- a dimension of this size: its root behind the word
 abbrev pub dimension : List ℕ → ℕ → List ℕ → Dimension → Type 0
@@ -42,9 +41,8 @@ abbrev pub rootless : ℕ → Dimension
 rootless n = record { size = n; root = 0 }
 
 abbrev pub dimensions : Kind → List ℕ → List ℕ → List Dimension → Type 0
-dimensions Dft sizes = rooted (codes " root ") sizes
 dimensions Wht sizes = pure (map rootless sizes)
-dimensions Idft sizes = rooted (codes " root ") sizes
+dimensions kind sizes = rooted (codes " root ") sizes
 
 -- the optional parts that bear on costs, in their order, each with its value when absent
 abbrev pub cost_parts : List (List ℕ × ℕ)
@@ -56,17 +54,15 @@ optional_parts = (codes " procs ", 1) ∷ (codes " line ", 1) ∷ (codes " lanes
 
 -- the root of one dimension, and 1 in place of one root of several
 abbrev pub root_of : List Dimension → ℕ
-root_of [] = 1
 root_of (d ∷ []) = d.root
-root_of (d ∷ e ∷ others) = 1
+root_of ds = 1
 
 -- the dimensions of a request, where there are two to four
 abbrev pub dimensions_of : List Dimension → Dimensions
-dimensions_of [] = One
-dimensions_of (a ∷ []) = One
 dimensions_of (a ∷ b ∷ []) = Two a b
 dimensions_of (a ∷ b ∷ c ∷ []) = Three a b c
 dimensions_of (a ∷ b ∷ c ∷ d ∷ others) = Four a b c d
+dimensions_of ds = One
 
 abbrev pub request_of : Kind → List Dimension → (modulus : ℕ) → List ℕ → Request
 request_of kind ds modulus options = record {

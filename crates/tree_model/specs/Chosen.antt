@@ -2,9 +2,9 @@
 -- them is chosen. An inverse request has the trees of the forward one, and multiplies each item by 1 / n at the end.
 use Rattle.std.specs.Prelude.{◌≡◌, ◌≢◌, ℕ, ◌+◌, ◌*◌, ◌%◌, ◌≤◌, ◌⊎◌, ◌==◌, if◌then◌else◌, true, false}
 use Rattle.matrix_meaning.specs.declared.Dimensions.{Dimensions}
-use Rattle.matrix_meaning.specs.declared.Dimensions.TheVariants.{One, Two, Three, Four}
+use Rattle.matrix_meaning.specs.declared.Dimensions.TheVariants.{One}
 use Rattle.matrix_meaning.specs.declared.Kind.{Kind}
-use Rattle.matrix_meaning.specs.declared.Kind.TheVariants.{Dft, Wht, Idft}
+use Rattle.matrix_meaning.specs.declared.Kind.TheVariants.{Idft}
 use Rattle.matrix_meaning.specs.declared.Request.{Request}
 use Rattle.matrix_meaning.specs.Parts.{first_of, forward_of, rest_of}
 use Rattle.tree_model.specs.Admissible.{CanDivide, Fits, RootFits}
@@ -14,9 +14,8 @@ use Rattle.tree_model.specs.Order.{ComesBefore}
 use Rattle.tree_model.specs.Whole.{IsTreeOf, cost_in}
 
 abbrev pub closing_by : Kind → Request → ℕ
-closing_by Dft c = 0
-closing_by Wht c = 0
 closing_by Idft c = mul_cost_of c * c.size
+closing_by kind c = 0
 
 -- what the products at the end cost
 abbrev pub closing_cost : Request → ℕ
@@ -53,9 +52,7 @@ SharesDimensions c = (is_plain c ≡ true) ⊎ Fits c (first_of c).size (rest_of
 
 abbrev pub CanDivideBy : Request → Dimensions → Type 0
 CanDivideBy c One = CanDivide c
-CanDivideBy c (Two a b) = SharesDimensions c
-CanDivideBy c (Three a b d) = SharesDimensions c
-CanDivideBy c (Four a b d e) = SharesDimensions c
+CanDivideBy c several = SharesDimensions c
 
 -- some tree is admitted
 abbrev pub CanDivideWhole : Request → Type 0

@@ -7,7 +7,7 @@ use Rattle.operators.specs.Sum.{sum_below}
 use Rattle.ring_mod.specs.Residue.{power_mod}
 use Rattle.matrix_meaning.specs.Kind.{entry_of}
 use Rattle.tree_model.specs.declared.tree.Rule.{Rule}
-use Rattle.tree_model.specs.declared.tree.Rule.TheVariants.{Gt, Ct, Split, Dim}
+use Rattle.tree_model.specs.declared.tree.Rule.TheVariants.{Ct}
 use Rattle.tree_model.specs.Breakdown.{Breakdown, leaf, node, size_of}
 
 -- one processor and one lane
@@ -42,10 +42,9 @@ leaf_cost c d =
 
 -- what a rule adds to its parts' costs: ct multiplies by its twiddles
 abbrev pub rule_cost : Request → Rule → ℕ → ℕ → ℕ
-rule_cost c Gt r s = 0
-rule_cost c Ct r s = if is_kernel c (r * s) then products_cost c Dft 1 (node_root c (r * s)) r s else mul_cost_of c * (r * s)
-rule_cost c Split r s = 0
-rule_cost c Dim r s = 0
+rule_cost c Ct r s =
+    if is_kernel c (r * s) then products_cost c Dft 1 (node_root c (r * s)) r s else mul_cost_of c * (r * s)
+rule_cost c rule r s = 0
 
 -- s parts of size r and cost x, and r parts of size s and cost y
 abbrev pub node_cost : Request → Rule → ℕ → ℕ → ℕ → ℕ → ℕ

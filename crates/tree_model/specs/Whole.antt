@@ -8,24 +8,20 @@ use Rattle.matrix_meaning.specs.Kind.{transform}
 use Rattle.matrix_meaning.specs.Parts.{first_of, rest_of}
 use Rattle.operators.specs.Operator.{Operator, on_blocks, on_columns}
 use Rattle.tree_model.specs.declared.tree.Rule.{Rule}
-use Rattle.tree_model.specs.declared.tree.Rule.TheVariants.{Gt, Ct, Split, Dim}
+use Rattle.tree_model.specs.declared.tree.Rule.TheVariants.{Dim}
 use Rattle.tree_model.specs.Breakdown.{Breakdown, leaf, node, size_of, AllowsLeaf, AllowsRule}
 use Rattle.tree_model.specs.Cost.{leaf_cost, node_cost, node_root}
 use Rattle.tree_model.specs.Trees.{PlainTrees, single, tensor}
 
 -- the request that the left part of a node is of
 abbrev pub left_of : Rule → Request → Request
-left_of Gt p = p
-left_of Ct p = p
-left_of Split p = p
 left_of Dim p = first_of p
+left_of rule p = p
 
 -- the request that the right part is of
 abbrev pub right_of : Rule → Request → Request
-right_of Gt p = p
-right_of Ct p = p
-right_of Split p = p
 right_of Dim p = rest_of p
+right_of rule p = p
 
 -- several dimensions are taken apart into the first one and the others
 abbrev pub AllowsDim : Request → ℕ → ℕ → Type 0
@@ -33,10 +29,8 @@ AllowsDim p r s = (p.dimensions ≢ One) × (r ≡ (first_of p).size) × (s ≡ 
 
 -- a rule that may take a node of the request apart into sizes r and s
 abbrev pub AllowsRuleOf : Request → Rule → ℕ → ℕ → Type 0
-AllowsRuleOf p Gt r s = (p.dimensions ≡ One) × AllowsRule p.kind Gt r s
-AllowsRuleOf p Ct r s = (p.dimensions ≡ One) × AllowsRule p.kind Ct r s
-AllowsRuleOf p Split r s = (p.dimensions ≡ One) × AllowsRule p.kind Split r s
 AllowsRuleOf p Dim r s = AllowsDim p r s
+AllowsRuleOf p rule r s = (p.dimensions ≡ One) × AllowsRule p.kind rule r s
 
 -- a tree of the request, or of a node of it
 abbrev pub IsTreeOf : Request → Breakdown → Type 0
@@ -57,12 +51,9 @@ node_transform p d = transform p.kind p.modulus d (node_root p d)
 
 -- what a tree does to a list
 abbrev pub node_on : Request → Breakdown → Operator
-node_on p (leaf d) x = node_transform p d x
-node_on p (node Gt a b) x = node_transform p (size_of a * size_of b) x
-node_on p (node Ct a b) x = node_transform p (size_of a * size_of b) x
-node_on p (node Split a b) x = node_transform p (size_of a * size_of b) x
 node_on p (node Dim a b) x =
     on_columns (size_of a) (size_of b) (node_on (first_of p) a) (on_blocks (size_of a) (size_of b) (node_on (rest_of p) b) x)
+node_on p t x = node_transform p (size_of t) x
 
 -- the tree with the root of its node
 abbrev pub rooted_one : Request → Breakdown → PlainTrees
@@ -70,8 +61,5 @@ rooted_one p t = single p.kind (node_root p (size_of t)) t
 
 -- trees of one size with the roots of their nodes, one for each dimension
 abbrev pub rooted_of : Request → Breakdown → PlainTrees
-rooted_of p (leaf d) = rooted_one p (leaf d)
-rooted_of p (node Gt a b) = rooted_one p (node Gt a b)
-rooted_of p (node Ct a b) = rooted_one p (node Ct a b)
-rooted_of p (node Split a b) = rooted_one p (node Split a b)
 rooted_of p (node Dim a b) = tensor Dft (first_of p).root a (rooted_of (rest_of p) b)
+rooted_of p t = rooted_one p t
