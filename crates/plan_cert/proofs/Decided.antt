@@ -1,63 +1,12 @@
 -- What is decided: which rows a certificate has to have, and whether these are they.
-use Rattle.std.proofs.Common.{◌≡◌, ◌⊎◌, ℕ, zero, suc, ◌+◌, ◌*◌, ◌%◌, ◌<◌, ◌≤◌, Bool, true, false, List, length, get_or, Option, None, Some, refl, subst, inl, inr, arith}
-use Rattle.std.specs.Int.{IsGcd}
+use Rattle.std.proofs.Common.{◌≡◌, ◌⊎◌, ℕ, zero, suc, ◌+◌, ◌*◌, ◌%◌, ◌<◌, ◌≤◌, List, length, get_or, Option, None, Some, subst, inl, inr, arith}
 use Rattle.std.proofs.lemmas.Bool.{cases_eq}
-use Rattle.std.proofs.lemmas.Nat.Gcd.{same_from_IsGcd}
-use Rattle.matrix_meaning.specs.declared.Kind.{Kind}
-use Rattle.matrix_meaning.specs.declared.Kind.TheVariants.{Dft, Wht, Idft}
 use Rattle.matrix_meaning.specs.declared.Request.{Request}
 use Rattle.tree_model.specs.declared.tree.Rule.{Rule}
-use Rattle.tree_model.specs.declared.tree.Rule.TheVariants.{Gt, Ct, Split, Dim}
-use Rattle.tree_model.specs.Admissible.{AllowsNodeAt, RuleFits}
-use Rattle.tree_model.specs.Breakdown.{AllowsRule}
-use Rattle.tree_model.specs.Cost.{is_plain}
-use Rattle.plan_search.proofs.Decisions.{IsDecidable, decided_as, decided_both, decided_fits, decided_leaf, decided_where}
-use Rattle.plan_search.proofs.Gcds.{gcd_exists}
+use Rattle.plan_search.proofs.Decisions.{IsDecidable, decided_as, decided_both, decided_le, decided_leaf, decided_node, decided_where}
 use Rattle.plan_cert.specs.declared.certificate.Row.{Row}
 use Rattle.plan_cert.specs.Certificate.{AllowsChoice, HasRows, HasRowsBelow, IsRowFor, IsWanted}
 use Rattle.plan_cert.proofs.Wanted.{nat_cases, next_size, no_next_row, none_below, other_row, other_size, row_past, rows_below}
-
-decided_le : (a b : ℕ) → IsDecidable (a ≤ b)
-decided_le a b = elim (nat_cases b a) [ inl over ↦ inr (λ le. omega (arith, over, le)) | inr le ↦ inl le ]
-
--- ---- rules at a node
-
-decided_false : (b : Bool) → IsDecidable (b ≡ false)
-decided_false false = inl refl
-decided_false true = inr (λ e. grind arith)
-
-decided_coprime : (r s : ℕ) → IsDecidable (IsGcd r s 1)
-decided_coprime r s =
-    let g = gcd_exists r s in
-    elim (cases_eq g.0 1) [
-      | inl one ↦ inl (subst (λ (k : ℕ). IsGcd r s k) one g.1)
-      | inr other ↦ inr (λ h. other (same_from_IsGcd r s g.0 1 g.1 h))
-    ]
-
-decided_rule : (kind : Kind) (rule : Rule) (r s : ℕ) → IsDecidable (AllowsRule kind rule r s)
-decided_rule Dft Gt r s = decided_coprime r s
-decided_rule Dft Ct r s = inl tt
-decided_rule Dft Split r s = inr (λ none. none)
-decided_rule Dft Dim r s = inr (λ none. none)
-decided_rule Wht Gt r s = inr (λ none. none)
-decided_rule Wht Ct r s = inr (λ none. none)
-decided_rule Wht Split r s = inl tt
-decided_rule Wht Dim r s = inr (λ none. none)
-decided_rule Idft rule r s = inr (λ none. none)
-
-decided_root : (c : Request) (rule : Rule) (r s : ℕ) → IsDecidable (RuleFits c rule r s)
-decided_root c Gt r s = inr (λ none. none)
-decided_root c Ct r s = decided_fits c r s
-decided_root c Split r s = decided_fits c r s
-decided_root c Dim r s = decided_fits c r s
-
-decided_node : (c : Request) (rule : Rule) (r s : ℕ) → IsDecidable (AllowsNodeAt c rule r s)
-decided_node c rule r s =
-    decided_as
-    (λ h. record { split = record { left = h.0.0; right = h.0.1.0; allowed = h.0.1.1 }; root = h.1 })
-    (λ h. ((h.split.left, (h.split.right, h.split.allowed)), h.root))
-    (decided_both (decided_both (decided_le 2 r) (decided_both (decided_le 2 s) (decided_rule c.kind rule r s)))
-    (decided_where (cases_eq (r * s) c.size) (decided_where (decided_false (is_plain c)) (decided_root c rule r s))))
 
 -- ---- rows
 

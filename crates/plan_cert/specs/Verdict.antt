@@ -3,7 +3,7 @@ use Rattle.std.specs.Prelude.{◌≡◌, ℕ, ◌+◌, ◌*◌, List, [], ◌∷
 use Rattle.serde_json.specs.Data.{Data, Items, no_items, item}
 use Rattle.serde_json.specs.Find.{as_array}
 use Rattle.matrix_meaning.specs.declared.Dimensions.{Dimensions}
-use Rattle.matrix_meaning.specs.declared.Dimensions.TheVariants.{One, Two, Three, Four}
+use Rattle.matrix_meaning.specs.declared.Dimensions.TheVariants.{One}
 use Rattle.matrix_meaning.specs.declared.Request.{Request}
 use Rattle.matrix_meaning.specs.Dimensions.{product_of}
 use Rattle.matrix_meaning.specs.Parts.{forward_of, parts_of}
@@ -42,12 +42,10 @@ IsValueVerdict c d (Wrong size given found) =
 -- row counts, and else the sum of the least costs, each for all places of the other
 abbrev pub joined : ℕ → ℕ → Verdict → Verdict → Verdict
 joined r s Unread v = Unread
-joined r s (Least x) Unread = Unread
+joined r s u Unread = Unread
+joined r s (Wrong size given found) v = Wrong size given found
 joined r s (Least x) (Wrong size given found) = Wrong size given found
 joined r s (Least x) (Least y) = Least (s * x + r * y)
-joined r s (Wrong size given found) Unread = Unread
-joined r s (Wrong size given found) (Wrong size' given' found') = Wrong size given found
-joined r s (Wrong size given found) (Least y) = Wrong size given found
 
 -- the product of the sizes
 abbrev pub size_of_all : List Request → ℕ
@@ -56,10 +54,9 @@ size_of_all ps = product_of (map (λ (p : Request). p.size) ps)
 -- the verdict on the members of a list, one for each of these requests
 abbrev pub IsItemsVerdict : List Request → Items → Verdict → Type 0
 IsItemsVerdict [] no_items v = v ≡ Least 0
-IsItemsVerdict [] (item x xs) v = v ≡ Unread
-IsItemsVerdict (p ∷ ps) no_items v = v ≡ Unread
 IsItemsVerdict (p ∷ ps) (item x xs) v =
     (a b : Verdict) × IsValueVerdict p x a × IsItemsVerdict ps xs b × (v ≡ joined p.size (size_of_all ps) a b)
+IsItemsVerdict ps xs v = v ≡ Unread
 
 -- the same where there may be no list
 abbrev pub IsOptionVerdict : List Request → Option Items → Verdict → Type 0
@@ -74,15 +71,12 @@ IsListVerdict c d v = IsOptionVerdict (parts_of c) (as_array d) v
 
 abbrev pub IsWholeVerdict : Request → Dimensions → Data → Verdict → Type 0
 IsWholeVerdict c One d v = IsValueVerdict c d v
-IsWholeVerdict c (Two p q) d v = IsListVerdict c d v
-IsWholeVerdict c (Three p q r) d v = IsListVerdict c d v
-IsWholeVerdict c (Four p q r s) d v = IsListVerdict c d v
+IsWholeVerdict c several d v = IsListVerdict c d v
 
 -- the verdict on a text is that on its value; a text that is no JSON is unread
 abbrev pub IsTextVerdict : (Data → Verdict → Type 0) → List ℕ → Verdict → Type 0
-IsTextVerdict judged text (Least cost) = (d : Data) × IsJson text d × judged d (Least cost)
 IsTextVerdict judged text Unread = (d : Data) → IsJson text d → judged d Unread
-IsTextVerdict judged text (Wrong size given found) = (d : Data) × IsJson text d × judged d (Wrong size given found)
+IsTextVerdict judged text v = (d : Data) × IsJson text d × judged d v
 
 abbrev pub IsVerdict : Request → List ℕ → Verdict → Type 0
 IsVerdict c text v = IsTextVerdict (IsWholeVerdict c c.dimensions) text v

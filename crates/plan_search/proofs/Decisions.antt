@@ -35,7 +35,7 @@ decided_where (inl a) (inl b) = inl (λ x. b)
 decided_where (inl a) (inr not) = inr (λ f. not (f a))
 decided_where (inr not) h = inl (λ a. absurd (not a))
 
-decided_le : (a b : ℕ) → IsDecidable (a ≤ b)
+pub decided_le : (a b : ℕ) → IsDecidable (a ≤ b)
 decided_le a b = elim (cases_lt b a) [ inl over ↦ inr (λ le. omega arith) | inr le ↦ inl le ]
 
 decided_false : (b : Bool) → IsDecidable (b ≡ false)
@@ -114,7 +114,7 @@ decided_root c Ct r s = decided_fits c r s
 decided_root c Split r s = decided_fits c r s
 decided_root c Dim r s = decided_fits c r s
 
-decided_node : (c : Request) (rule : Rule) (r s : ℕ) → IsDecidable (AllowsNodeAt c rule r s)
+pub decided_node : (c : Request) (rule : Rule) (r s : ℕ) → IsDecidable (AllowsNodeAt c rule r s)
 decided_node c rule r s =
     decided_as
     (λ h. record { split = record { left = h.0.0; right = h.0.1.0; allowed = h.0.1.1 }; root = h.1 })
