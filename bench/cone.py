@@ -40,8 +40,12 @@ COMMANDS = [
 ]
 LINK = {"Outcome.IsOutcome"}
 # A law on good programs is read with that on right calls, which opens the words and the line (`right_lines_are_ordered` links it to
-# the law on answers).
-CALLS = LINK | {"Asked.IsAsked", "RightFront.IsRightLine", "RightFront.IsRightConvLine", "RightFront.IsRightFormulaLine"}
+# the law on answers), and with that on answers, which opens the text of a program.
+CALLS = LINK | {
+    "CommandLine.Names", "Asked.AsksOrder", "Asked.AsksSchedule", "Asked.AsksModulus", "Asked.AsksCode",
+    "RightFront.IsRightLine", "RightFront.IsRightConvLine", "RightFront.IsRightFormulaLine",
+    "Listing.listing_of", "CText.c_text_of",
+}
 # The modules that a crate passes on by `pub use` in specs/Lib.antt or in the file of a folder, and where they stand.
 PASSED_ON = {}
 

@@ -3,6 +3,7 @@ use Rattle.std.proofs.Common.{ℕ, ◌*◌, ◌<◌, List, All, arith, mod-lt, s
 use Rattle.std.proofs.lemmas.List.Elements.{All-map}
 use Rattle.std.specs.Prelude.{slice_index}
 use Rattle.std.specs.List.{range_with_len}
+use Rattle.icode.specs.Limits.{IsWithinLimits}
 use Rattle.matrix_meaning.specs.Convolution.{convolution_factor}
 use Rattle.matrix_meaning.specs.declared.Kind.TheVariants.{Dft}
 use Rattle.matrix_meaning.specs.declared.Request.{Request}
@@ -35,6 +36,7 @@ programs_are_good r t range planned =
     let same = programs_are_emissions r t valid h in (
       subst (IsGood r (whole_cost r t)) same (good r t (program_for r t) valid h performs),
       subst (IsLean r t) same (lean r t (program_for r t) valid h performs),
+      subst IsWithinLimits same performs.limits,
     )
 
 -- the diagonal of a convolution is of residues

@@ -74,7 +74,6 @@ module _ (r : Request) (t : Breakdown) (p : PlainProgram) (valid : IsValid r) (h
   good =
       record {
         header = record { size = performs.size; modulus = performs.modulus; procs = performs.procs; line = performs.line; lanes = performs.lanes };
-        limits = performs.limits;
         fits = performs.fits;
         product = λ x turns vector _. any-turns x turns ∙ transforms x vector;
         apart = performs.apart;

@@ -1,7 +1,6 @@
 -- What makes a program good for a request.
 use Rattle.std.specs.Prelude.{◌≡◌, ℕ, ◌*◌, ◌<◌, List, length, All}
 use Rattle.icode.specs.Actions.{PlainFits, plain_code}
-use Rattle.icode.specs.Limits.{IsWithinLimits}
 use Rattle.icode.specs.Machine.{IsApart, results, weighted, whole_counts}
 use Rattle.icode.specs.Plain.{PlainProgram}
 use Rattle.matrix_meaning.specs.Asked.{asked_of}
@@ -22,11 +21,9 @@ pub record IsVector (r : Request) (x : List ℕ) : Type 0 where
 
 -- Whatever the vector and whatever turns its processors take first, the program leaves the transform of the vector that the request
 -- asks for. In no phase does a processor touch a line that another writes. The operations of all processors together, where a
--- multiplication counts as the request's weight, are the least cost, in equal shares. It stands within the limits of listings, and
--- every place that it names is there
+-- multiplication counts as the request's weight, are the least cost, in equal shares. Every place that it names is there
 pub record IsGood (r : Request) (least : ℕ) (p : PlainProgram) : Type 0 where
   pub header : HasHeader r p
-  pub limits : IsWithinLimits p
   pub fits : PlainFits p
   pub product : (x turns : List ℕ) → IsVector r x → All (λ q. q < r.procs) turns → results (plain_code p) x turns ≡ asked_of r x
   pub apart : (phase : ℕ) → IsApart (plain_code p) phase

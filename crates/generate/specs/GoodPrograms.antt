@@ -8,6 +8,7 @@ use Rattle.generate.specs.FormulaCode.Letters as formula
 use Rattle.generate.specs.Good.{IsGood}
 use Rattle.generate.specs.Lean.{IsLean}
 use Rattle.generate.specs.Planned.{IsPlanned}
+use Rattle.icode.specs.Limits.{IsWithinLimits}
 use Rattle.matrix_meaning.specs.Convolving.{IsConvRequest}
 use Rattle.matrix_meaning.specs.Valid.{IsInRange}
 use Rattle.matrix_meaning.specs.declared.Request.{Request}
@@ -16,11 +17,12 @@ use Rattle.spl_ast.specs.Shape.{IsShaped}
 use Rattle.tree_model.specs.Breakdown.{Breakdown}
 use Rattle.tree_model.specs.Chosen.{whole_cost}
 
--- the program of a request's planned tree is good for the request, at the cost of the tree, and lean
+-- the program of a request's planned tree is good for the request, at the cost of the tree, and lean, and it stands within the
+-- limits of listings
 abbrev pub ProgramsAreGood : Type 0
 ProgramsAreGood =
     (r : Request) (t : Breakdown) → IsInRange r → IsPlanned r (Ok t) →
-    IsGood r (whole_cost r t) (emission r t) × IsLean r t (emission r t)
+    IsGood r (whole_cost r t) (emission r t) × IsLean r t (emission r t) × IsWithinLimits (emission r t)
 
 -- the program of a planned tree and a list is one for convolutions with the list
 abbrev pub ConvProgramsConvolve : Type 0

@@ -19,6 +19,7 @@ ghost use Rattle.generate.specs.Good.{IsGood};
 ghost use Rattle.generate.specs.Lean.{IsLean};
 ghost use Rattle.generate.specs.Emission.Whole.{emission};
 ghost use Rattle.generate.specs.Planned.{IsPlanned};
+ghost use Rattle.icode.specs.Limits.{IsWithinLimits};
 ghost use Rattle.icode.specs.Program.{plain_program};
 ghost use Rattle.matrix_meaning.specs.Convolving.{IsConvRequest};
 ghost use Rattle.matrix_meaning.specs.Valid.{IsInRange};
@@ -64,6 +65,7 @@ pub fn generate(alloc: Global, request: &Request) -> Result<Product, GenerateFau
     ensures lean { IfOk result (λ product.
         IsLean request.now (breakdown_of product.plan.tree)
         (plain_program product.program)) }
+    ensures limits { IfOk result (λ product. IsWithinLimits (plain_program product.program)) }
     ensures letters { IfOk result (λ product.
         plain_program product.program
         ≡ emission request.now (breakdown_of product.plan.tree)) }

@@ -1,6 +1,6 @@
-// What each command answers: an outcome of words that ask for it is an answer of its equation. A law cites no other
+// What each command answers: an outcome of words that name it is an answer of its equation. A law cites no other
 // command's definitions.
-ghost use Rattle.std.specs.Prelude.{ℕ, true, false, List, [], Ok, ◌↔◌};
+ghost use Rattle.std.specs.Prelude.{ℕ, true, false, List, Ok, ◌↔◌, codes};
 ghost use Rattle.request_text.specs.Schedule.{Plan as SpecSchedule};
 ghost use Rattle.commands.specs.Equations.Apply.{apply_outcomes};
 ghost use Rattle.commands.specs.Equations.C.{c_outcomes};
@@ -19,10 +19,9 @@ ghost use Rattle.commands.specs.Equations.Formulas.{written};
 ghost use Rattle.commands.specs.Equations.Front.{line, ordered};
 ghost use Rattle.commands.specs.Equations.Orders.{Planned, planned};
 ghost use Rattle.commands.specs.FormulaCommands.Code.{IsCodeOf};
-ghost use Rattle.commands.specs.SpiralInput.Orders.{procs_in};
 ghost use Rattle.listing_text.specs.Listing.{listing_of};
 ghost use Rattle.request_text.specs.Turns.{named};
-ghost use Rattle.spiral_main.specs.Good.{IsGoodFor, IsLeanFor, Shows, ShowsConvolver, trace_of, vectors_read};
+ghost use Rattle.spiral_main.specs.Good.{IsGoodFor, IsLeanFor, Prints, Shows, ShowsConvolver, Traces, vectors_read};
 ghost use Rattle.spiral_main.specs.RightFront.{IsRightConvLine, IsRightFormulaLine, IsRightLine};
 ghost use Rattle.spl_ast.specs.Formula.{Formula};
 ghost use Rattle.spiral_main.specs.Outcome.{IsOutcome};
@@ -30,11 +29,8 @@ ghost use Rattle.commands.specs.Equations.Plan.{plan_outcomes};
 ghost use Rattle.commands.specs.Equations.Run.{run_outcomes};
 ghost use Rattle.commands.specs.Equations.Sample.{sample_outcomes};
 ghost use Rattle.spiral_words.specs.declared.spiral_status.status.Status.{Status as SpecStatus};
-ghost use Rattle.spiral_words.specs.Asked.{IsAsked};
-ghost use Rattle.spiral_words.specs.declared.Command.TheVariants as command;
-ghost use Rattle.spiral_words.specs.declared.Document.TheVariants as document;
-ghost use Rattle.spiral_words.specs.declared.FormulaCommand.TheVariants as formula_command;
-ghost use Rattle.spiral_words.specs.declared.RequestCommand.TheVariants as request;
+ghost use Rattle.spiral_words.specs.Asked.{AsksCode, AsksModulus, AsksOrder, AsksSchedule, AsksSeed, IsAsked};
+ghost use Rattle.spiral_words.specs.CommandLine.{Names, Options};
 ghost use Rattle.spiral_words.specs.declared.Command.{Command as SpecCommand};
 ghost use Rattle.spiral_words.specs.declared.Order.{Order as SpecOrder};
 
@@ -47,160 +43,150 @@ pub fn answers_are_outcomes()
 
 /// What `plan` answers.
 pub fn plan_answers()
-    ensures { (words : List (List ℕ)) (bytes : List ℕ)
-        (status : SpecStatus) (text : List ℕ) → IsAsked words (command.ByRequest (request.Writes document.Plan))
+    ensures { (words : List (List ℕ)) (options : Options) (bytes : List ℕ)
+        (status : SpecStatus) (text : List ℕ) → Names words (codes "plan") options
         → IsOutcome words bytes status text → plan_outcomes.answer bytes status text }
 {}
 
 /// What `formula` answers.
 pub fn formula_answers()
-    ensures { (words : List (List ℕ)) (bytes : List ℕ)
-        (status : SpecStatus) (text : List ℕ) → IsAsked words (command.ByRequest (request.Writes document.Formula))
+    ensures { (words : List (List ℕ)) (options : Options) (bytes : List ℕ)
+        (status : SpecStatus) (text : List ℕ) → Names words (codes "formula") options
         → IsOutcome words bytes status text → formula_outcomes.answer bytes status text }
 {}
 
 /// What `code` answers.
 pub fn code_answers()
-    ensures { (words : List (List ℕ)) (bytes : List ℕ)
-        (status : SpecStatus) (text : List ℕ) → IsAsked words (command.ByRequest (request.Writes document.Code))
+    ensures { (words : List (List ℕ)) (options : Options) (bytes : List ℕ)
+        (status : SpecStatus) (text : List ℕ) → Names words (codes "code") options
         → IsOutcome words bytes status text → code_outcomes.answer bytes status text }
 {}
 
 /// What `c` answers.
 pub fn c_answers()
-    ensures { (words : List (List ℕ)) (bytes : List ℕ)
-        (status : SpecStatus) (text : List ℕ) → IsAsked words (command.ByRequest (request.Writes document.C))
+    ensures { (words : List (List ℕ)) (options : Options) (bytes : List ℕ)
+        (status : SpecStatus) (text : List ℕ) → Names words (codes "c") options
         → IsOutcome words bytes status text → c_outcomes.answer bytes status text }
 {}
 
 /// What `run` answers.
 pub fn run_answers()
-    ensures { (order : SpecOrder) (words : List (List ℕ)) (bytes : List ℕ)
-        (status : SpecStatus) (text : List ℕ) → IsAsked words (command.ByRequest (request.Runs order))
+    ensures { (order : SpecOrder) (words : List (List ℕ)) (options : Options) (bytes : List ℕ)
+        (status : SpecStatus) (text : List ℕ) → Names words (codes "run") options → AsksOrder options order
         → IsOutcome words bytes status text → (run_outcomes order).answer bytes status text }
 {}
 
 /// What `trace` answers.
 pub fn trace_answers()
-    ensures { (order : SpecOrder) (words : List (List ℕ)) (bytes : List ℕ)
-        (status : SpecStatus) (text : List ℕ) → IsAsked words (command.ByRequest (request.Traces order))
+    ensures { (order : SpecOrder) (words : List (List ℕ)) (options : Options) (bytes : List ℕ)
+        (status : SpecStatus) (text : List ℕ) → Names words (codes "trace") options → AsksOrder options order
         → IsOutcome words bytes status text → (trace_outcomes order).answer bytes status text }
 {}
 
 /// What `cert` answers.
 pub fn cert_answers()
-    ensures { (words : List (List ℕ)) (bytes : List ℕ)
-        (status : SpecStatus) (text : List ℕ) → IsAsked words (command.ByRequest (request.Writes document.Cert))
+    ensures { (words : List (List ℕ)) (options : Options) (bytes : List ℕ)
+        (status : SpecStatus) (text : List ℕ) → Names words (codes "cert") options
         → IsOutcome words bytes status text → cert_outcomes.answer bytes status text }
 {}
 
 /// What `check` answers.
 pub fn check_answers()
-    ensures { (words : List (List ℕ)) (bytes : List ℕ)
-        (status : SpecStatus) (text : List ℕ) → IsAsked words (command.ByRequest request.Judges)
+    ensures { (words : List (List ℕ)) (options : Options) (bytes : List ℕ)
+        (status : SpecStatus) (text : List ℕ) → Names words (codes "check") options
         → IsOutcome words bytes status text → check_outcomes.answer bytes status text }
 {}
 
 /// What `sample` answers.
 pub fn sample_answers()
-    ensures { (seed : ℕ) (schedule : SpecSchedule) (words : List (List ℕ)) (bytes : List ℕ)
+    ensures { (seed : ℕ) (schedule : SpecSchedule) (words : List (List ℕ)) (options : Options) (bytes : List ℕ)
         (status : SpecStatus) (text : List ℕ)
-        → IsAsked words (command.ByRequest (request.Writes (document.Sample seed schedule)))
+        → Names words (codes "sample") options → AsksSeed options seed → AsksSchedule options schedule
         → IsOutcome words bytes status text → (sample_outcomes seed schedule).answer bytes status text }
 {}
 
 /// What `compile` answers.
 pub fn compile_answers()
-    ensures { (m : ℕ) (words : List (List ℕ)) (bytes : List ℕ)
-        (status : SpecStatus) (text : List ℕ) → IsAsked words (command.ByFormula m formula_command.Compile)
+    ensures { (m : ℕ) (words : List (List ℕ)) (options : Options) (bytes : List ℕ)
+        (status : SpecStatus) (text : List ℕ) → Names words (codes "compile") options → AsksModulus options m
         → IsOutcome words bytes status text → (compile_outcomes m).answer bytes status text }
 {}
 
 /// What `apply` answers.
 pub fn apply_answers()
-    ensures { (m : ℕ) (schedule : SpecSchedule) (words : List (List ℕ)) (bytes : List ℕ)
-        (status : SpecStatus) (text : List ℕ) → IsAsked words (command.ByFormula m (formula_command.Apply schedule))
+    ensures { (m : ℕ) (schedule : SpecSchedule) (words : List (List ℕ)) (options : Options) (bytes : List ℕ)
+        (status : SpecStatus) (text : List ℕ) → Names words (codes "apply") options → AsksModulus options m
+        → AsksSchedule options schedule
         → IsOutcome words bytes status text → (apply_outcomes m schedule).answer bytes status text }
 {}
 
 /// What `exec` answers.
 pub fn exec_answers()
-    ensures { (schedule : SpecSchedule) (words : List (List ℕ)) (bytes : List ℕ)
-        (status : SpecStatus) (text : List ℕ) → IsAsked words (command.ByListing schedule)
+    ensures { (schedule : SpecSchedule) (words : List (List ℕ)) (options : Options) (bytes : List ℕ)
+        (status : SpecStatus) (text : List ℕ) → Names words (codes "exec") options → AsksSchedule options schedule
         → IsOutcome words bytes status text → (exec_outcomes schedule).answer bytes status text }
 {}
 
 /// What `convolve` answers.
 pub fn convolve_answers()
-    ensures { (schedule : SpecSchedule) (words : List (List ℕ)) (bytes : List ℕ)
-        (status : SpecStatus) (text : List ℕ) → IsAsked words (command.ByList schedule false)
+    ensures { (schedule : SpecSchedule) (words : List (List ℕ)) (options : Options) (bytes : List ℕ)
+        (status : SpecStatus) (text : List ℕ) → Names words (codes "convolve") options → AsksSchedule options schedule
+        → AsksCode options false
         → IsOutcome words bytes status text → (convolve_outcomes schedule).answer bytes status text }
 {}
 
 /// What `convolve --code` answers.
 pub fn convolver_answers()
-    ensures { (schedule : SpecSchedule) (words : List (List ℕ)) (bytes : List ℕ)
-        (status : SpecStatus) (text : List ℕ) → IsAsked words (command.ByList schedule true)
+    ensures { (schedule : SpecSchedule) (words : List (List ℕ)) (options : Options) (bytes : List ℕ)
+        (status : SpecStatus) (text : List ℕ) → Names words (codes "convolve") options → AsksSchedule options schedule
+        → AsksCode options true
         → IsOutcome words bytes status text → (convolver_outcomes schedule).answer bytes status text }
 {}
 
 /// The listing that `code` prints for a right line is that of a program that is good for the line's request.
 pub fn code_is_good()
-    ensures { (words : List (List ℕ)) (bytes : List ℕ) (status : SpecStatus) (text : List ℕ) (plan : Planned) →
-        IsAsked words (command.ByRequest (request.Writes document.Code)) → IsRightLine [] bytes plan
-        → IsOutcome words bytes status text → Shows listing_of (IsGoodFor plan) text }
+    ensures { Prints (codes "code") listing_of IsGoodFor }
 {}
 
-/// And it executes exactly the operations of the tree that is chosen for the request, and loads and stores what the
-/// tree does, pass by pass.
+/// And it executes exactly the operations of the tree that is chosen for the request, loads and stores what the tree
+/// does, pass by pass, and stands within the limits of listings.
 pub fn code_is_lean()
-    ensures { (words : List (List ℕ)) (bytes : List ℕ) (status : SpecStatus) (text : List ℕ) (plan : Planned) →
-        IsAsked words (command.ByRequest (request.Writes document.Code)) → IsRightLine [] bytes plan
-        → IsOutcome words bytes status text → Shows listing_of (IsLeanFor plan) text }
+    ensures { Prints (codes "code") listing_of IsLeanFor }
 {}
 
 /// The same of a C text that `c` prints.
 pub fn c_is_good()
-    ensures { (words : List (List ℕ)) (bytes : List ℕ) (status : SpecStatus) (text : List ℕ) (plan : Planned) →
-        IsAsked words (command.ByRequest (request.Writes document.C)) → IsRightLine [] bytes plan
-        → IsOutcome words bytes status text → Shows c_text_of (IsGoodFor plan) text }
+    ensures { Prints (codes "c") c_text_of IsGoodFor }
 {}
 
 /// And its program, too, does exactly what the tree does.
 pub fn c_is_lean()
-    ensures { (words : List (List ℕ)) (bytes : List ℕ) (status : SpecStatus) (text : List ℕ) (plan : Planned) →
-        IsAsked words (command.ByRequest (request.Writes document.C)) → IsRightLine [] bytes plan
-        → IsOutcome words bytes status text → Shows c_text_of (IsLeanFor plan) text }
+    ensures { Prints (codes "c") c_text_of IsLeanFor }
 {}
 
 /// The same of the listing that `trace` prints and runs.
 pub fn trace_is_good()
-    ensures { (order : SpecOrder) (words : List (List ℕ)) (bytes : List ℕ) (status : SpecStatus) (text : List ℕ)
-        (plan : Planned) → IsAsked words (command.ByRequest (request.Traces order))
-        → IsRightLine (procs_in order) bytes plan → IsOutcome words bytes status text
-        → Shows (trace_of order plan (vectors_read plan bytes)) (IsGoodFor plan) text }
+    ensures { Traces IsGoodFor }
 {}
 
 /// And its program, too, does exactly what the tree does.
 pub fn trace_is_lean()
-    ensures { (order : SpecOrder) (words : List (List ℕ)) (bytes : List ℕ) (status : SpecStatus) (text : List ℕ)
-        (plan : Planned) → IsAsked words (command.ByRequest (request.Traces order))
-        → IsRightLine (procs_in order) bytes plan → IsOutcome words bytes status text
-        → Shows (trace_of order plan (vectors_read plan bytes)) (IsLeanFor plan) text }
+    ensures { Traces IsLeanFor }
 {}
 
 /// The listing that `compile` prints for a right line is that of code of the line's formula.
 pub fn compile_is_good()
-    ensures { (m : ℕ) (words : List (List ℕ)) (bytes : List ℕ) (status : SpecStatus) (text : List ℕ)
-        (formula : Formula) → IsAsked words (command.ByFormula m formula_command.Compile)
+    ensures { (m : ℕ) (words : List (List ℕ)) (options : Options) (bytes : List ℕ) (status : SpecStatus)
+        (text : List ℕ) (formula : Formula) → Names words (codes "compile") options → AsksModulus options m
         → IsRightFormulaLine bytes formula → IsOutcome words bytes status text
         → Shows listing_of (IsCodeOf m formula) text }
 {}
 
 /// The listing that `convolve --code` prints for a right line is that of a program that convolves with the list.
 pub fn convolver_is_good()
-    ensures { (schedule : SpecSchedule) (words : List (List ℕ)) (bytes : List ℕ) (status : SpecStatus)
-        (text : List ℕ) (plan : Planned) → IsAsked words (command.ByList schedule true)
+    ensures { (schedule : SpecSchedule) (words : List (List ℕ)) (options : Options) (bytes : List ℕ)
+        (status : SpecStatus) (text : List ℕ) (plan : Planned) → Names words (codes "convolve") options
+        → AsksSchedule options schedule → AsksCode options true
         → IsRightConvLine (named schedule) bytes plan → IsOutcome words bytes status text
         → ShowsConvolver plan (vectors_read plan bytes) text }
 {}

@@ -1,5 +1,5 @@
 // Calls that are right in all that their command asks of them, and what they come to.
-ghost use Rattle.std.specs.Prelude.{◌≡◌, ◌≢◌, ◌≤◌, ℕ, List, [], ◌∷◌, ◌++◌, length, Ok};
+ghost use Rattle.std.specs.Prelude.{◌≡◌, ◌≢◌, ◌≤◌, ℕ, List, [], ◌∷◌, ◌++◌, length, Ok, codes};
 ghost use Rattle.commands.specs.FormulaCommands.Letters as programs;
 ghost use Rattle.commands.specs.Emission.Whole.{emission};
 ghost use Rattle.c_print.specs.CText.{c_text_of};
@@ -18,11 +18,8 @@ ghost use Rattle.commands.specs.Equations.Sample.{sample_lines};
 ghost use Rattle.commands.specs.Equations.Trace.{run_lines};
 ghost use Rattle.spiral_words.specs.declared.spiral_status.status.Status.TheVariants.{Success, ReadFault, WriteFault, NoMemory};
 ghost use Rattle.spiral_words.specs.declared.spiral_status.status.Status.{Status as SpecStatus};
-ghost use Rattle.spiral_words.specs.Asked.{IsAsked};
-ghost use Rattle.spiral_words.specs.declared.Command.TheVariants as command;
-ghost use Rattle.spiral_words.specs.declared.Document.TheVariants as document;
-ghost use Rattle.spiral_words.specs.declared.FormulaCommand.TheVariants as formula_command;
-ghost use Rattle.spiral_words.specs.declared.RequestCommand.TheVariants as request;
+ghost use Rattle.spiral_words.specs.Asked.{AsksModulus, AsksOrder, AsksSchedule, AsksSeed};
+ghost use Rattle.spiral_words.specs.CommandLine.{Names, Options};
 ghost use Rattle.spiral_words.specs.declared.Order.{Order as SpecOrder};
 ghost use Rattle.spl_ast.specs.Formula as formulas;
 ghost use Rattle.spl_ast.specs.Formula.{Formula};
@@ -46,62 +43,60 @@ pub fn outcomes_come()
 
 /// A right call of `plan` has the outcome Success with the tree that is chosen for the request.
 pub fn plan_is_right()
-    ensures { (words : List (List ℕ)) (bytes : List ℕ) (plan : Planned)
-        → IsAsked words (command.ByRequest (request.Writes document.Plan))
-        → IsRightLine [] bytes plan
+    ensures { (words : List (List ℕ)) (options : Options) (bytes : List ℕ) (plan : Planned)
+        → Names words (codes "plan") options → IsRightLine [] bytes plan
         → IsOutcome words bytes Success (plan_text plan.request plan.tree) }
 {}
 
 /// A right call of `formula` has the outcome Success with the formula of this tree.
 pub fn formula_is_right()
-    ensures { (words : List (List ℕ)) (bytes : List ℕ) (plan : Planned)
-        → IsAsked words (command.ByRequest (request.Writes document.Formula))
-        → IsRightLine [] bytes plan
+    ensures { (words : List (List ℕ)) (options : Options) (bytes : List ℕ) (plan : Planned)
+        → Names words (codes "formula") options → IsRightLine [] bytes plan
         → IsOutcome words bytes Success (formula_text plan) }
 {}
 
 /// A right call of `code` has the outcome Success with the listing of the tree's program.
 pub fn code_is_right()
-    ensures { (words : List (List ℕ)) (bytes : List ℕ) (plan : Planned) →
-        IsAsked words (command.ByRequest (request.Writes document.Code)) → IsRightLine [] bytes plan
+    ensures { (words : List (List ℕ)) (options : Options) (bytes : List ℕ) (plan : Planned) →
+        Names words (codes "code") options → IsRightLine [] bytes plan
         → IsOutcome words bytes Success (listing_of (emission plan.request plan.tree)) }
 {}
 
 /// A right call of `c` has the outcome Success with the C text of the tree's program.
 pub fn c_is_right()
-    ensures { (words : List (List ℕ)) (bytes : List ℕ) (plan : Planned) →
-        IsAsked words (command.ByRequest (request.Writes document.C)) → IsRightLine [] bytes plan
+    ensures { (words : List (List ℕ)) (options : Options) (bytes : List ℕ) (plan : Planned) →
+        Names words (codes "c") options → IsRightLine [] bytes plan
         → IsOutcome words bytes Success (c_text_of (emission plan.request plan.tree)) }
 {}
 
 /// A right call of `cert` has the outcome Success with the certificate of the request.
 pub fn cert_is_right()
-    ensures { (words : List (List ℕ)) (bytes : List ℕ) (plan : Planned) (text : List ℕ) →
-        IsAsked words (command.ByRequest (request.Writes document.Cert)) → IsRightLine [] bytes plan
+    ensures { (words : List (List ℕ)) (options : Options) (bytes : List ℕ) (plan : Planned) (text : List ℕ) →
+        Names words (codes "cert") options → IsRightLine [] bytes plan
         → IsTableText plan.request text
         → IsOutcome words bytes Success text }
 {}
 
 /// A right call of `sample` has the outcome Success with the sum and the counts of the seed's vector.
 pub fn sample_is_right()
-    ensures { (words : List (List ℕ)) (bytes : List ℕ) (seed : ℕ) (schedule : SpecSchedule) (plan : Planned) →
-        IsAsked words (command.ByRequest (request.Writes (document.Sample seed schedule)))
+    ensures { (words : List (List ℕ)) (options : Options) (bytes : List ℕ) (seed : ℕ) (schedule : SpecSchedule)
+        (plan : Planned) → Names words (codes "sample") options → AsksSeed options seed → AsksSchedule options schedule
         → IsRightLine (named schedule) bytes plan
         → IsOutcome words bytes Success (sample_lines plan seed) }
 {}
 
 /// A right call of `run` has the outcome Success with a line for each vector, of the matrix times it.
 pub fn run_is_right()
-    ensures { (words : List (List ℕ)) (bytes : List ℕ) (order : SpecOrder) (plan : Planned) →
-        IsAsked words (command.ByRequest (request.Runs order)) → IsRightLine (procs_in order) bytes plan
+    ensures { (words : List (List ℕ)) (options : Options) (bytes : List ℕ) (order : SpecOrder) (plan : Planned) →
+        Names words (codes "run") options → AsksOrder options order → IsRightLine (procs_in order) bytes plan
         → HasWholeVectors (line 256) plan.request.size bytes
         → IsOutcome words bytes Success (lines (asked_of plan.request) (request_vectors plan bytes)) }
 {}
 
 /// A right call of `trace` has the outcome Success with the listing and the lines of each vector's run.
 pub fn trace_is_right()
-    ensures { (words : List (List ℕ)) (bytes : List ℕ) (order : SpecOrder) (plan : Planned) →
-        IsAsked words (command.ByRequest (request.Traces order)) → IsRightLine (procs_in order) bytes plan
+    ensures { (words : List (List ℕ)) (options : Options) (bytes : List ℕ) (order : SpecOrder) (plan : Planned) →
+        Names words (codes "trace") options → AsksOrder options order → IsRightLine (procs_in order) bytes plan
         → HasWholeVectors (line 256) plan.request.size bytes
         → IsOutcome words bytes Success (listing_of (emission plan.request plan.tree)
         ++ run_lines order plan (request_vectors plan bytes)) }
@@ -109,15 +104,16 @@ pub fn trace_is_right()
 
 /// A right call of `compile` has the outcome Success with the listing of the formula's program.
 pub fn compile_is_right()
-    ensures { (words : List (List ℕ)) (bytes : List ℕ) (m : ℕ) (formula : Formula) →
-        IsAsked words (command.ByFormula m formula_command.Compile) → IsRightFormulaLine bytes formula
+    ensures { (words : List (List ℕ)) (options : Options) (bytes : List ℕ) (m : ℕ) (formula : Formula) →
+        Names words (codes "compile") options → AsksModulus options m → IsRightFormulaLine bytes formula
         → IsOutcome words bytes Success (listing_of (programs.program_for m formula)) }
 {}
 
 /// A right call of `apply` has the outcome Success with a line for each vector, of the formula's matrix times it.
 pub fn apply_is_right()
-    ensures { (words : List (List ℕ)) (bytes : List ℕ) (m : ℕ) (schedule : SpecSchedule) (formula : Formula) →
-        IsAsked words (command.ByFormula m (formula_command.Apply schedule)) → length ((line 65536).first bytes) ≤ 65536
+    ensures { (words : List (List ℕ)) (options : Options) (bytes : List ℕ) (m : ℕ) (schedule : SpecSchedule)
+        (formula : Formula) → Names words (codes "apply") options → AsksModulus options m
+        → AsksSchedule options schedule → length ((line 65536).first bytes) ≤ 65536
         → formed (named schedule) ((line 65536).first bytes) (Ok formula)
         → HasWholeVectors (line 65536) (formulas.size_of formula) bytes
         → IsOutcome words bytes Success (lines (meanings.apply m formula)
@@ -127,8 +123,9 @@ pub fn apply_is_right()
 /// A right call of `exec` has the outcome Success with a line for each vector, of what the listing's program leaves
 /// for it.
 pub fn exec_is_right()
-    ensures { (words : List (List ℕ)) (bytes : List ℕ) (schedule : SpecSchedule) (program : PlainProgram) →
-        IsAsked words (command.ByListing schedule) → length ((part 1048576).first bytes) ≤ 1048576
+    ensures { (words : List (List ℕ)) (options : Options) (bytes : List ℕ) (schedule : SpecSchedule)
+        (program : PlainProgram) → Names words (codes "exec") options → AsksSchedule options schedule
+        → length ((part 1048576).first bytes) ≤ 1048576
         → loaded schedule ((part 1048576).first bytes) (Ok program)
         → HasWholeVectors (part 1048576) program.size bytes
         → IsOutcome words bytes Success (lines (result_of program)

@@ -1,5 +1,5 @@
--- Which commands a name means.
-use Rattle.std.proofs.Common.{◌≡◌, ℕ, List, Bool, false, refl, codes}
+-- Which commands a name means, and the name of each.
+use Rattle.std.proofs.Common.{◌≡◌, ◌↔◌, ℕ, List, Bool, false, refl, subst, codes}
 use Rattle.std.specs.Str.{bytes_eq}
 use Rattle.std.proofs.lemmas.Bool.Decides.{not_from_Decides}
 use Rattle.std.proofs.lemmas.Slice.Eq.{bytes_eq-Decides}
@@ -12,23 +12,8 @@ use Rattle.spiral_words.specs.declared.command.RequestCommand.TheVariants.{Write
 use Rattle.spiral_words.specs.declared.command.Document.TheVariants as document
 use Rattle.spiral_words.specs.declared.command.FormulaCommand.TheVariants.{Compile, Apply}
 use Rattle.spiral_words.specs.declared.command.Order.{Order}
-use Rattle.spiral_words.specs.CommandLine.{is_given, text_of}
-use Rattle.spiral_words.specs.Asked.{AsksOrder, Means, modulus_word, seed_word}
-
-abbrev name_for : Command → Text
-name_for (ByRequest (Writes document.Plan)) = codes "plan"
-name_for (ByRequest (Writes document.Formula)) = codes "formula"
-name_for (ByRequest (Writes document.Code)) = codes "code"
-name_for (ByRequest (Writes document.C)) = codes "c"
-name_for (ByRequest (Writes document.Cert)) = codes "cert"
-name_for (ByRequest (Writes (document.Sample seed schedule))) = codes "sample"
-name_for (ByRequest (Runs order)) = codes "run"
-name_for (ByRequest (Traces order)) = codes "trace"
-name_for (ByRequest Judges) = codes "check"
-name_for (ByFormula modulus Compile) = codes "compile"
-name_for (ByFormula modulus (Apply schedule)) = codes "apply"
-name_for (ByListing schedule) = codes "exec"
-name_for (ByList schedule as_code) = codes "convolve"
+use Rattle.spiral_words.specs.CommandLine.{Names, Options, is_given, text_of}
+use Rattle.spiral_words.specs.Asked.{AsksOrder, IsAsked, Means, modulus_word, name_for, seed_word}
 
 named : (name : Text) (rows : List Row) (asked : Command) → Means name rows asked → name ≡ name_for asked
 named name rows (ByRequest (Writes document.Plan)) h = h
@@ -44,6 +29,23 @@ named name rows (ByFormula modulus Compile) h = h.0
 named name rows (ByFormula modulus (Apply schedule)) h = h.0
 named name rows (ByListing schedule) h = h.0
 named name rows (ByList schedule as_code) h = h.0
+
+row_of : (words : List Text) (asked : Command) → IsAsked words asked
+    → (options : Options) × Names words (name_for asked) options × Means (name_for asked) options asked
+row_of words asked (name, options, found, means) =
+    let is = named name options asked means in (
+      options,
+      subst (λ (n : Text). Names words n options) is found,
+      subst (λ (n : Text). Means n options asked) is means,
+    )
+
+asked_by : (words : List Text) (asked : Command)
+    → (options : Options) × Names words (name_for asked) options × Means (name_for asked) options asked → IsAsked words asked
+asked_by words asked (options, found, means) = (name_for asked, options, found, means)
+
+pub by_row : (words : List Text) (asked : Command) → IsAsked words asked
+    ↔ ((options : Options) × Names words (name_for asked) options × Means (name_for asked) options asked)
+by_row words asked = (row_of words asked, asked_by words asked)
 
 other : (name : Text) (rows : List Row) (asked : Command) → bytes_eq name (name_for asked) ≡ false → Means name rows asked → ⊥
 other name rows asked differs h = not_from_Decides (bytes_eq name (name_for asked)) (bytes_eq-Decides name (name_for asked)) differs (named name rows asked h)

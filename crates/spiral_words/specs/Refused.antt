@@ -1,5 +1,5 @@
 -- Where words ask for nothing, by what clap refuses and by the grammars of the options.
-use Rattle.std.specs.Prelude.{◌≡◌, ◌⊎◌, ℕ, List, [], ◌∷◌, Bool, true, false, Some}
+use Rattle.std.specs.Prelude.{◌≡◌, ◌⊎◌, ℕ, List, [], ◌∷◌, Bool, true, false}
 use Rattle.std.specs.List.{Any}
 use Rattle.clap.specs.Words.{Row, Text, fault_of}
 use Rattle.clap.specs.Walk.{is_empty}
@@ -9,7 +9,7 @@ use Rattle.request_text.specs.Schedule.{Plan, schedule_word}
 use Rattle.spiral_words.specs.declared.command.Command.{Command}
 use Rattle.spiral_words.specs.declared.app.OptionName.{OptionName}
 use Rattle.spiral_words.specs.declared.app.OptionName.TheVariants.{Schedule, Seed, Modulus, Buffers}
-use Rattle.spiral_words.specs.CommandLine.{commands, found_in, is_given, spiral_app, text_of}
+use Rattle.spiral_words.specs.CommandLine.{Names, commands, is_given, spiral_app, text_of}
 use Rattle.spiral_words.specs.Asked.{Means, modulus_word, seed_word}
 
 -- ---- words that spell nothing
@@ -55,4 +55,4 @@ HasOtherText name rows = Any (λ row. (row.0 ≡ name) × Any (IsOther row.1 row
 -- clap refuses the words, or finds an option's text that is outside its grammar
 abbrev pub IsRefused : List Text → Type 0
 IsRefused words = (is_empty (fault_of spiral_app words) ≡ false)
-    ⊎ ((name : Text) × (rows : List Row) × (found_in words ≡ Some (name, rows)) × HasOtherText name rows)
+    ⊎ ((name : Text) × (rows : List Row) × Names words name rows × HasOtherText name rows)

@@ -25,6 +25,9 @@ returns-clause-good c = good c.args.request.now (breakdown_of c.in_ok-plan.plan.
 pub returns-clause-lean : goal.returns-clause-lean
 returns-clause-lean c = lean c.args.request.now (breakdown_of c.in_ok-plan.plan.tree) (plain_program c.in_ok-program.program) c.in_ok-plan.ensures.valid c.in_ok-plan.ensures.planned.1.tree (performs c)
 
+pub returns-clause-limits : goal.returns-clause-limits
+returns-clause-limits c = (performs c).limits
+
 -- statement by statement it is the one of the rules of emission
 pub returns-clause-letters : goal.returns-clause-letters
 returns-clause-letters c =

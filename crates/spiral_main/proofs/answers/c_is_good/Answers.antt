@@ -1,8 +1,6 @@
-use Rattle.std.proofs.Common.{[]}
-use Rattle.commands.specs.Emission.Whole.{emission}
-use Rattle.spiral_main.proofs.Good.{c_text, known}
+use Rattle.spiral_main.specs.Good.{IsGoodFor}
+use Rattle.spiral_main.proofs.Good.{c_prints}
 use Rattle.spiral_main.proofs.answers.c_is_good.Goals as goal
 
 pub returns : goal.returns
-returns c = λ words bytes status text plan asked right p.
-    (emission plan.request plan.tree, (known [] bytes plan right).0, c_text words bytes status text plan asked right p)
+returns c = c_prints IsGoodFor (λ plan program lean. lean.0)

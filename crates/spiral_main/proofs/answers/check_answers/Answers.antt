@@ -1,7 +1,9 @@
+use Rattle.std.proofs.Common.{refl, codes}
 use Rattle.spiral_words.specs.declared.Command.TheVariants as command
 use Rattle.spiral_words.specs.declared.RequestCommand.TheVariants as request
 use Rattle.spiral_main.proofs.Calls.{outcome_of}
 use Rattle.spiral_main.proofs.answers.check_answers.Goals as goal
 
 pub returns : goal.returns
-returns c = λ words bytes status text asked p. outcome_of words bytes (command.ByRequest request.Judges) status text asked p
+returns c = λ words options bytes status text found p.
+    outcome_of words bytes (command.ByRequest request.Judges) status text (codes "check", options, found, refl) p

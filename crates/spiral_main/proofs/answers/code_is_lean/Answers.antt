@@ -1,8 +1,6 @@
-use Rattle.std.proofs.Common.{[]}
-use Rattle.commands.specs.Emission.Whole.{emission}
-use Rattle.spiral_main.proofs.Good.{code_text, known}
+use Rattle.spiral_main.specs.Good.{IsLeanFor}
+use Rattle.spiral_main.proofs.Good.{code_prints}
 use Rattle.spiral_main.proofs.answers.code_is_lean.Goals as goal
 
 pub returns : goal.returns
-returns c = λ words bytes status text plan asked right p.
-    (emission plan.request plan.tree, known [] bytes plan right, code_text words bytes status text plan asked right p)
+returns c = code_prints IsLeanFor (λ plan program lean. lean)

@@ -1,4 +1,4 @@
-use Rattle.std.proofs.Common.{◌++◌, inr}
+use Rattle.std.proofs.Common.{◌++◌, inr, refl, codes}
 use Rattle.listing_text.specs.Listing.{listing_of}
 use Rattle.commands.specs.Emission.Whole.{emission}
 use Rattle.commands.specs.Equations.Trace.{run_lines}
@@ -9,9 +9,10 @@ use Rattle.spiral_main.proofs.RightFront.{data_are_right}
 use Rattle.spiral_main.proofs.rights.trace_is_right.Goals as goal
 
 pub returns : goal.returns
-returns c = λ words bytes order plan asked right vectors.
+returns c = λ words options bytes order plan found ordered right vectors.
     inr (
       command.ByRequest (request.Traces order),
-      asked,
-      data_are_right (procs_in order) bytes (λ p vs. listing_of (emission p.request p.tree) ++ run_lines order p vs) plan right vectors,
+      (codes "trace", options, found, (refl, ordered)),
+      data_are_right (procs_in order) bytes
+          (λ p vs. listing_of (emission p.request p.tree) ++ run_lines order p vs) plan right vectors,
     )
