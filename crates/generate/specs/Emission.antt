@@ -1,6 +1,7 @@
 pub mod Places
 pub mod Passes
 pub mod Root
+pub mod Tables
 pub mod Bodies
 pub mod Program
 pub mod Whole

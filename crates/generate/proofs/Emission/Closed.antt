@@ -3,6 +3,8 @@ use Rattle.std.proofs.Common.{◌≡◌, ℕ, refl, sym, ap, ap₂, ◌∙◌, s
 use Rattle.std.specs.Prelude.{map, reverse}
 use Rattle.std.proofs.lemmas.List.{map-append, reverse-append}
 use Rattle.std.proofs.lemmas.List.Elements.{All-head, All-tail}
+use Rattle.matrix_meaning.specs.declared.Kind.{Kind}
+use Rattle.matrix_meaning.specs.declared.Kind.TheVariants.{Dft, Wht, Idft}
 use Rattle.matrix_meaning.specs.declared.Request.{Request}
 use Rattle.matrix_meaning.specs.Parts.{forward_of}
 use Rattle.matrix_meaning.specs.Valid.{IsValid}
@@ -36,10 +38,22 @@ use Rattle.smp_rewrite.specs.LayoutSteps.Layout.{layout_of}
 use Rattle.smp_rewrite.specs.LayoutSteps.Whole.{factor_by}
 use Rattle.tree_model.specs.Breakdown.{Breakdown}
 use Rattle.tree_model.specs.Chosen.{IsWholeTree}
+use Rattle.generate.specs.Emission.Passes.{Factors, none, number}
+use Rattle.generate.specs.Emission.Whole.{closing_factors}
 use Rattle.generate.proofs.Emission.Nests.{multiplying, nests}
 
 abbrev pub phases-in : Request → List (List (List PlainNest)) → PlainMerged
 phases-in c phases = record { size = c.size; procs = c.procs; lanes = c.lanes; phases = phases }
+
+-- an inverse is divided by its size
+abbrev pub factors_by : Option ℕ → Factors
+factors_by None = none
+factors_by (Some v) = number v
+
+pub closing-is : (kind : Kind) (c : Request) → closing_factors kind c ≡ factors_by (factor_by kind c)
+closing-is Dft c = refl
+closing-is Wht c = refl
+closing-is Idft c = refl
 
 -- all items take one factor
 abbrev pub firsts : List Sum → List Sum

@@ -10,7 +10,7 @@ use Rattle.perm_algebra.specs.Affine.{HasNoQuotient, Sum, constant, variable, re
 use Rattle.perm_algebra.specs.Room.{constant_of}
 use Rattle.sigma_spl.specs.Shared.Machine.{PlainFrame, first_loop, frame_of}
 use Rattle.sigma_spl.specs.Shared.Targets.{target_of}
-use Rattle.generate.specs.Emission.Bodies.{Setting, expression, hidden, part, remainders, unwritten, variables}
+use Rattle.generate.specs.Emission.Bodies.{Setting, expression, hidden, part, remainders, variables}
 use Rattle.generate.specs.Emission.Passes.{Work, kernel, rows, tile}
 use Rattle.generate.proofs.Emission.Nested.{plain_work}
 
@@ -42,22 +42,22 @@ module _ (shared : Bool) (first : ℕ) where
 
 -- ---- the frame
 
-unwritten-several : (one two : Bool) (p v : ℕ) →
+several-hidden : (one two : Bool) (p v : ℕ) →
     length (if two then (if one then [] else [] ++ p ∷ []) else (if one then [] else [] ++ p ∷ []) ++ v ∷ [])
     ≡ (if one then 0 else 1) + (if two then 0 else 1)
-unwritten-several true true p v = refl
-unwritten-several true false p v = refl
-unwritten-several false true p v = refl
-unwritten-several false false p v = refl
+several-hidden true true p v = refl
+several-hidden true false p v = refl
+several-hidden false true p v = refl
+several-hidden false false p v = refl
 
-unwritten-processors : (one : Bool) (p : ℕ) → length (if one then [] else [] ++ p ∷ []) ≡ (if one then 0 else 1) + 0
-unwritten-processors true p = refl
-unwritten-processors false p = refl
+processors-hidden : (one : Bool) (p : ℕ) → length (if one then [] else [] ++ p ∷ []) ≡ (if one then 0 else 1) + 0
+processors-hidden true p = refl
+processors-hidden false p = refl
 
-pub unwritten-is : (c : Request) (w : Work) → length (unwritten c w) ≡ first_loop (target_of c) (plain_work w)
-unwritten-is c (kernel r t) = unwritten-several (c.procs == 1) (c.lanes == 1) c.procs c.lanes
-unwritten-is c (rows root size) = unwritten-several (c.procs == 1) (c.lanes == 1) c.procs c.lanes
-unwritten-is c (tile v) = unwritten-processors (c.procs == 1) c.procs
+pub hidden-is : (c : Request) (w : Work) → hidden c w ≡ first_loop (target_of c) (plain_work w)
+hidden-is c (kernel r t) = several-hidden (c.procs == 1) (c.lanes == 1) c.procs c.lanes
+hidden-is c (rows root size) = several-hidden (c.procs == 1) (c.lanes == 1) c.procs c.lanes
+hidden-is c (tile v) = processors-hidden (c.procs == 1) c.procs
 
 -- ---- sums
 
@@ -65,31 +65,34 @@ module _ (o : Setting) where
   abbrev one : Bool
   one = o.request.procs == 1
 
+  abbrev first : ℕ
+  first = hidden o.request o.pass.work
+
   linear-parts : (n : ℕ) (e : Sum) (ps : List PlainPart) →
-      sum_of (record { shared = not one; first_loop = hidden o }) n e (parts_of ps)
+      sum_of (record { shared = not one; first_loop = first }) n e (parts_of ps)
       ≡ code.Sum (constant_of e) (parts_of (variables o n e ++ ps))
   linear-parts n e ps =
-      let loops = flat_map (λ k. part (Var k) (factor_at (hidden o + k) e)) (range_with_len 0 n) in
-      let first : List PlainPart = if one then [] else part Proc (factor_at 0 e) in
-      ap (λ xs. code.Sum (constant_of e) (processor_of (record { shared = not one; first_loop = hidden o }) e xs))
-      (loop-parts (not one) (hidden o) n 0 e ps)
+      let loops = flat_map (λ k. part (Var k) (factor_at (first + k) e)) (range_with_len 0 n) in
+      let processor : List PlainPart = if one then [] else part Proc (factor_at 0 e) in
+      ap (λ xs. code.Sum (constant_of e) (processor_of (record { shared = not one; first_loop = first }) e xs))
+      (loop-parts (not one) first n 0 e ps)
       ∙ ap (code.Sum (constant_of e))
       (pick-processor one (factor_at 0 e == 0) (Proc (factor_at 0 e)) (loops ++ ps)
-      ∙ ap parts_of (sym (append_assoc first loops ps)))
+      ∙ ap parts_of (sym (append_assoc processor loops ps)))
 
   no-quotients : (n : ℕ) (e : Sum) → HasNoQuotient e →
-      quotients_of (record { shared = not one; first_loop = hidden o }) n e ≡ NoParts
+      quotients_of (record { shared = not one; first_loop = first }) n e ≡ NoParts
   no-quotients n (constant c) h = refl
   no-quotients n (variable k d rest) h = no-quotients n rest h
   no-quotients n (remainder k of m rest) h = no-quotients n rest h.1
   no-quotients n (quotient k of m rest) h = absurd h
 
   remainder-parts : (n : ℕ) (e : Sum) → HasNoQuotient e →
-      remainders_of (record { shared = not one; first_loop = hidden o }) n e NoParts ≡ parts_of (remainders o n e)
+      remainders_of (record { shared = not one; first_loop = first }) n e NoParts ≡ parts_of (remainders o n e)
   remainder-parts n (constant c) h = refl
   remainder-parts n (variable k d rest) h = remainder-parts n rest h
   remainder-parts n (remainder k of m rest) h =
-      let f : PlainFrame = record { shared = not one; first_loop = hidden o } in
+      let f : PlainFrame = record { shared = not one; first_loop = first } in
       ap₂ (λ x xs. AndParts (Rem x m k) xs)
       (ap (λ qs. sum_of f n of (remainders_of f n of qs)) (no-quotients n of h.0)
       ∙ ap (sum_of f n of) (remainder-parts n of h.0)
@@ -100,9 +103,9 @@ module _ (o : Setting) where
   pub expression-is : (n : ℕ) (e : Sum) → HasNoQuotient e →
       expr_of (frame_of (target_of o.request) (plain_work o.pass.work)) n e ≡ expression o n e
   expression-is n e h =
-      let f : PlainFrame = record { shared = not one; first_loop = hidden o } in
+      let f : PlainFrame = record { shared = not one; first_loop = first } in
       ap (λ k. expr_of (record { shared = not one; first_loop = k }) n e)
-      (sym (unwritten-is o.request o.pass.work))
+      (sym (hidden-is o.request o.pass.work))
       ∙ ap (λ qs. sum_of f n e (remainders_of f n e qs)) (no-quotients n e h)
       ∙ ap (sum_of f n e) (remainder-parts n e h)
       ∙ linear-parts n e (remainders o n e)

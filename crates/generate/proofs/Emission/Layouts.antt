@@ -11,8 +11,8 @@ use Rattle.smp_rewrite.proofs.LayoutSteps.Layouts.{layouts_have_size}
 use Rattle.tree_model.specs.Breakdown.{Breakdown, leaf, node, size_of}
 use Rattle.tree_model.specs.Cost.{is_kernel, node_root}
 use Rattle.tree_model.specs.Whole.{left_of, right_of}
-use Rattle.generate.specs.Emission.Passes.{Pass, Site, Work, kernel, left_site, long_work, node_work, pass_at, passes, right_site, rows, tile}
-use Rattle.generate.proofs.Emission.Nested.{plain_work}
+use Rattle.generate.specs.Emission.Passes.{Pass, Site, Work, kernel, left_site, long_work, node_work, passes, right_site, rows, tile}
+use Rattle.generate.proofs.Emission.Nested.{pass_at, plain_work}
 use Rattle.generate.proofs.Emission.Nests.{IsNodeWork}
 use Rattle.sigma_lower.proofs.TreeLoops.Shaped.{HasWorks}
 
@@ -65,7 +65,8 @@ tree_works c (node rule a b) =
     parts : (k : Bool) → HasWorks IsNodeWork (layout_of (left_of rule c) a) →
         HasWorks IsNodeWork (layout_of (right_of rule c) b) →
         HasWorks IsNodeWork (if k then work (layouts.node_work c (node rule a b)) else
-        layouts.by rule (node_root c (size_of a * size_of b)) (layout_of (left_of rule c) a) (layout_of (right_of rule c) b))
+        layouts.by rule (node_root c (size_of a * size_of b)) (layout_of (left_of rule c) a)
+        (layout_of (right_of rule c) b))
     parts true left right = is-node c (node rule a b)
     parts false left right = (left, right)
 

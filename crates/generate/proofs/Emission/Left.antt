@@ -31,7 +31,7 @@ use Rattle.operators.specs.declared.tensor_paths.Tensor.TheVariants.{Blocks, Col
 use Rattle.operators.specs.TensorPaths.Path.{Path, count_of, size_under}
 use Rattle.generate.specs.Emission.Passes.{Pass}
 use Rattle.generate.specs.Emission.Places.{same, turn_of}
-use Rattle.generate.specs.Emission.Root.{lane_of, lane_loops, strided}
+use Rattle.generate.specs.Emission.Root.{lane_loops, processor_loops, strided}
 use Rattle.generate.proofs.Emission.Matches.{HasDiagonal, IsSame}
 use Rattle.generate.proofs.Emission.Nested.{emitted_nest}
 use Rattle.generate.proofs.Emission.Nests.{IsLooped, IsNodeWork, same-nest}
@@ -55,7 +55,7 @@ module _ (c : Request) (r s : ℕ) (h : AreShares c.size c.procs c.lanes r s) wh
   q = turn_of [] p
 
   abbrev l : Sum
-  l = lane_of c
+  l = turn_of (processor_loops c) c.lanes
 
   abbrev j : Sum
   j = turn_of (lane_loops c) k

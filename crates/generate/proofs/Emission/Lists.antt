@@ -55,7 +55,7 @@ module _ (outer : List ℕ) (d : ℕ) (whole : PlaceFunction) (g : PlainPass →
         nest_of (loop_of (g p)) ≡ emitted_nest q
     free-nest p q free good last =
         nest p (freed q) good (whole-last p q last)
-        ∙ ap (λ f. nest_at q.counts (plain_work q.work) q.load f q.store)
+        ∙ ap (λ f. nest_at q.site.counts (plain_work q.work) q.site.load f q.site.store)
         (sym (last.factors ∙ ap (λ f. moved f last.own) free))
 
     free-rest : (p : PlainPass) (q : Pass) (ps : List PlainPass) (qs : List Pass) → o.factors ≡ none → Good p →
@@ -85,8 +85,9 @@ module _ (outer : List ℕ) (d : ℕ) (whole : PlaceFunction) (g : PlainPass →
       factors-nest p q good last =
           ap (multiplying ds f) (nest p (freed q) good (whole-last p q last))
           ∙ multiplied-nest ds (after place last.own) f q
-          (ap (multiplier_at q.counts (plain_work q.work)) last.factors ∙ is q.counts (plain_work q.work) last.own)
-          (λ cs es. at cs (q.store cs) (last.own cs) es (last.store cs))
+          (ap (multiplier_at q.site.counts (plain_work q.work)) last.factors
+          ∙ is q.site.counts (plain_work q.work) last.own)
+          (λ cs es. at cs (q.site.store cs) (last.own cs) es (last.store cs))
 
       factors-rest : (p : PlainPass) (q : Pass) (ps : List PlainPass) (qs : List Pass) → Good p → AllPasses Good ps →
           AreUpTo outer d whole [] n o p q ps qs →

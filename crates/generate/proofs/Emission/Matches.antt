@@ -31,24 +31,24 @@ module _ (outer : List ℕ) (d : ℕ) (whole : PlaceFunction) where
 
   -- both do the same work in the same loops, on what they load at the same places
   pub record IsBegun (p : PlainPass) (q : Pass) : Type 0 where
-    pub counts : q.counts ≡ outer ++ map count_of p.path
+    pub counts : q.site.counts ≡ outer ++ map count_of p.path
     pub work : plain_work q.work ≡ p.work
-    pub load : Always p (λ cs e. q.load cs e ≡ whole cs (all_simplified cs p.befores (natural p e)))
+    pub load : Always p (λ cs e. q.site.load cs e ≡ whole cs (all_simplified cs p.befores (natural p e)))
 
   -- where an item's factor stands
   abbrev pub factor_at : PlainPass → PlainDiagonal → (ℕ → ℕ) → Sum → Sum
   factor_at p x cs e = simplified cs (inner_of x.path (x.rows * x.cols)) (all_simplified cs x.places (natural p e))
 
   abbrev pub HasDiagonal : PlainPass → Pass → Option PlainDiagonal → Type 0
-  HasDiagonal p q None = q.factors ≡ none
+  HasDiagonal p q None = q.site.factors ≡ none
   HasDiagonal p q (Some x) =
-      (place : PlaceFunction) × (q.factors ≡ entries (twiddles x.rows x.cols x.root) place) × Always p
+      (place : PlaceFunction) × (q.site.factors ≡ entries (twiddles x.rows x.cols x.root) place) × Always p
       (λ cs e. place cs e ≡ factor_at p x cs e)
 
   -- and store it alike
   pub record IsSame (p : PlainPass) (q : Pass) : Type 0 where
     pub begun : IsBegun p q
-    pub store : Always p (λ cs e. q.store cs e ≡ whole cs (all_simplified cs p.afters (natural p e)))
+    pub store : Always p (λ cs e. q.site.store cs e ≡ whole cs (all_simplified cs p.afters (natural p e)))
     pub factors : HasDiagonal p q p.diagonal
 
   -- the last pass of a node stores at the node's places of its own items' places, by the node's factors
@@ -59,8 +59,8 @@ module _ (outer : List ℕ) (d : ℕ) (whole : PlaceFunction) where
     pub counts : (cs : ℕ → ℕ) → AreCounts p.path (work_size p.work) d cs → AreCounts path n d cs
     pub fits : Always p (λ cs e. Fits n (own cs e) cs)
     pub place : Always p (λ cs e. all_simplified cs p.afters (natural p e) ≡ place_sum path n d (own cs e))
-    pub store : (cs : ℕ → ℕ) (e : Sum) → q.store cs e ≡ o.store cs (own cs e)
-    pub factors : q.factors ≡ moved o.factors own
+    pub store : (cs : ℕ → ℕ) (e : Sum) → q.site.store cs e ≡ o.store cs (own cs e)
+    pub factors : q.site.factors ≡ moved o.factors own
 
   -- ---- lists of them
 

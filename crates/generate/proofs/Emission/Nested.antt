@@ -7,8 +7,11 @@ use Rattle.sigma_spl.specs.Nest as nests
 use Rattle.sigma_spl.specs.Nest.{PlainFactors, PlainMultiplier, PlainNest}
 use Rattle.sigma_spl.specs.Work as works
 use Rattle.sigma_spl.specs.Work.{PlainWork, is_straight, vectors_of}
-use Rattle.generate.specs.Emission.Passes.{Diagonal, Factors, Pass, Work, entries, kernel, none, number, rows, tile, twiddles, values}
+use Rattle.generate.specs.Emission.Passes.{Diagonal, Factors, Pass, Site, Work, entries, kernel, none, number, rows, tile, twiddles, values}
 use Rattle.generate.specs.Emission.Places.{PlaceFunction}
+
+abbrev pub pass_at : Site → Work → Pass
+pass_at o w = record { site = o; work = w }
 
 abbrev pub plain_work : Work → PlainWork
 plain_work (kernel c t) = works.kernel (works.node_of c t)
@@ -46,7 +49,7 @@ nest_at counts w load factors store = record {
 }
 
 abbrev pub emitted_nest : Pass → PlainNest
-emitted_nest p = nest_at p.counts (plain_work p.work) p.load p.factors p.store
+emitted_nest p = nest_at p.site.counts (plain_work p.work) p.site.load p.site.factors p.site.store
 
 abbrev pub emitted : List Pass → List (List PlainNest)
 emitted ps = map (λ p. emitted_nest p ∷ []) ps

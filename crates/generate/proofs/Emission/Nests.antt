@@ -111,10 +111,10 @@ module _ (m size : ℕ) (p : PlainPass) (q : Pass) (low : 0 < size) (shape : IsL
 
   loads : IsBegun [] 0 same p q →
       places_by (loop_of p) p.befores (items_in p.work depth)
-      ≡ map (q.load cs) (each p.work (length loops + 1))
+      ≡ map (q.site.load cs) (each p.work (length loops + 1))
   loads begun =
-      placed-by p.befores (q.load cs) (items_in p.work depth) names.loads (λ e fits. begun.load cs e counts fits)
-      ∙ ap (map (q.load cs))
+      placed-by p.befores (q.site.load cs) (items_in p.work depth) names.loads (λ e fits. begun.load cs e counts fits)
+      ∙ ap (map (q.site.load cs))
       (items-in p.work depth shape.node ∙ ap (λ k. each p.work (k + 1)) (sym (length-map p.path count_of)))
 
   out : (fs : List Mapping) (g : Sum → Sum) →
@@ -125,7 +125,7 @@ module _ (m size : ℕ) (p : PlainPass) (q : Pass) (low : 0 < size) (shape : IsL
       ∙ ap (map g) (items-out p.work depth shape.node ∙ ap (each p.work) (sym (length-map p.path count_of)))
 
   multipliers : (x : Option PlainDiagonal) → HasDiagonal [] 0 same p q x →
-      multiplier_of (loop_of p) (option_map taken_of x) ≡ multiplier_at loops p.work q.factors
+      multiplier_of (loop_of p) (option_map taken_of x) ≡ multiplier_at loops p.work q.site.factors
   multipliers None h = ap (multiplier_at loops p.work) (sym h)
   multipliers (Some x) h =
       let place = h.0 in
@@ -135,14 +135,15 @@ module _ (m size : ℕ) (p : PlainPass) (q : Pass) (low : 0 < size) (shape : IsL
       ∙ sym (all_simplified-append cs x.places (inner_of x.path (x.rows * x.cols)) (place_sum p.path n 0 e))))
       ∙ ap (multiplier_at loops p.work) (sym h.1)
 
-  with-loops : IsBegun [] 0 same p q → nest_at loops p.work q.load q.factors q.store ≡ emitted_nest q
-  with-loops begun = ap₂ (λ ls w. nest_at ls w q.load q.factors q.store) (sym begun.counts) (sym begun.work)
+  with-loops : IsBegun [] 0 same p q → nest_at loops p.work q.site.load q.site.factors q.site.store ≡ emitted_nest q
+  with-loops begun =
+      ap₂ (λ ls w. nest_at ls w q.site.load q.site.factors q.site.store) (sym begun.counts) (sym begun.work)
 
   pub same-nest : IsSame [] 0 same p q → nest_of (loop_of p) ≡ emitted_nest q
   same-nest h =
       let first = loads h.begun in
       let second = multipliers p.diagonal h.factors in
-      let third = out p.afters (q.store cs) (λ e fits. h.store cs e counts fits) in
+      let third = out p.afters (q.site.store cs) (λ e fits. h.store cs e counts fits) in
       ap₂ (λ gs us. record {
         counts = loops;
         work = p.work;
@@ -153,8 +154,8 @@ module _ (m size : ℕ) (p : PlainPass) (q : Pass) (low : 0 < size) (shape : IsL
       ∙ ap (λ ss. record {
         counts = loops;
         work = p.work;
-        gathers = map (q.load cs) (each p.work (length loops + 1));
-        multiplier = multiplier_at loops p.work q.factors;
+        gathers = map (q.site.load cs) (each p.work (length loops + 1));
+        multiplier = multiplier_at loops p.work q.site.factors;
         scatters = ss;
       }) third
       ∙ with-loops h.begun
@@ -162,7 +163,7 @@ module _ (m size : ℕ) (p : PlainPass) (q : Pass) (low : 0 < size) (shape : IsL
 -- ---- the last pass of the whole, with factors or without
 
 abbrev pub freed : Pass → Pass
-freed q = record { counts = q.counts; work = q.work; load = q.load; factors = none; store = q.store }
+freed q = record { site = record (q.site) { factors = none }; work = q.work }
 
 -- a nest that multiplies what it stores by factors, where f tells their places from those of the stores
 abbrev pub multiplying : PlainFactors → (List Sum → List Sum) → PlainNest → PlainNest
@@ -177,27 +178,27 @@ multiplying ds f z =
 
 pub multiplied-nest : (ds : PlainFactors) (place : PlaceFunction) (f : List Sum → List Sum) (q : Pass) →
     (let w = plain_work q.work in
-    multiplier_at q.counts w q.factors
-    ≡ Some (record { factors = ds; places = map (place (bounds q.counts w)) (each w (length q.counts)) })) →
-    ((cs : ℕ → ℕ) (es : List Sum) → f (map (q.store cs) es) ≡ map (place cs) es) →
+    multiplier_at q.site.counts w q.site.factors
+    ≡ Some (record { factors = ds; places = map (place (bounds q.site.counts w)) (each w (length q.site.counts)) })) →
+    ((cs : ℕ → ℕ) (es : List Sum) → f (map (q.site.store cs) es) ≡ map (place cs) es) →
     multiplying ds f (emitted_nest (freed q)) ≡ emitted_nest q
 multiplied-nest ds place f q is at =
     let w = plain_work q.work in
-    let cs = bounds q.counts w in
-    let es = each w (length q.counts) in
+    let cs = bounds q.site.counts w in
+    let es = each w (length q.site.counts) in
     ap (λ ps. record {
-      counts = q.counts;
+      counts = q.site.counts;
       work = w;
-      gathers = map (q.load cs) (each w (length q.counts + 1));
+      gathers = map (q.site.load cs) (each w (length q.site.counts + 1));
       multiplier = Some (record { factors = ds; places = ps });
-      scatters = map (q.store cs) es;
+      scatters = map (q.site.store cs) es;
     }) (at cs es)
     ∙ ap (λ x. record {
-      counts = q.counts;
+      counts = q.site.counts;
       work = w;
-      gathers = map (q.load cs) (each w (length q.counts + 1));
+      gathers = map (q.site.load cs) (each w (length q.site.counts + 1));
       multiplier = x;
-      scatters = map (q.store cs) es;
+      scatters = map (q.site.store cs) es;
     }) (sym is)
 
 -- ---- lists of passes

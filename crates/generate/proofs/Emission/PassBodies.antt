@@ -1,11 +1,11 @@
 -- The code of a pass by the rules of emission is that of its nest.
-use Rattle.std.proofs.Common.{◌≡◌, ℕ, zero, suc, ◌+◌, ◌-◌, ◌<◌, refl, sym, ap, ap₂, ◌∙◌, List, [], ◌∷◌, ◌++◌, length, arith, append-nil, Option}
+use Rattle.std.proofs.Common.{◌≡◌, ℕ, zero, suc, ◌+◌, ◌<◌, refl, sym, ap, ap₂, ◌∙◌, List, [], ◌∷◌, ◌++◌, length, arith, append-nil, Option}
 use Rattle.std.specs.Prelude.{map, drop, slice_index, slice_index_or}
 use Rattle.std.specs.List.{flat_map, range_with_len}
 use Rattle.std.proofs.lemmas.Grind.{flat_map-append}
 use Rattle.std.proofs.lemmas.List.FromFn.{get_or-map-range_with_len, map-range_with_len_more}
 use Rattle.code_gen.specs.PassCode.Expressions.{expr_of}
-use Rattle.code_gen.specs.PassCode.Statements.{do_only, finish_body, followed_by, in_a_row, loads_body, multiplier_number, nest_body, nested, pass_body, place_at, powers_number, straight_body, table_number, term_body, tables_of_work, work_body}
+use Rattle.code_gen.specs.PassCode.Statements.{do_only, finish_body, followed_by, in_a_row, loads_body, multiplier_number, nest_body, nested, pass_body, place_at, powers_number, straight_body, term_body, tables_of_work, work_body}
 use Rattle.icode.specs.Plain as code
 use Rattle.icode.specs.Plain.{PlainBody, PlainStmt, AndStmts, Do, Load, Loop, MulConst, MulTable, NoStmts, Store, Tile, Zero, body_of}
 use Rattle.kernel_gen.specs.Instructions.{op_of}
@@ -20,10 +20,11 @@ use Rattle.sigma_spl.specs.Shared.Targets.{target_of}
 use Rattle.tree_model.specs.Trees.{trees_size}
 use Rattle.tree_model.specs.Whole.{rooted_of}
 use Rattle.generate.specs.Emission.Bodies as emission
-use Rattle.generate.specs.Emission.Bodies.{Setting, by_rows, finish, in_loops, load, loops, pass_code, place, powers_of, store, straight, table_of}
-use Rattle.generate.specs.Emission.Passes.{Diagonal, Factors, Pass, Work, entries, kernel, none, number, rows, tile, twiddles, values, work_size}
+use Rattle.generate.specs.Emission.Bodies.{Setting, by_rows, finish, in_loops, load, loops, pass_code, place, store, straight}
+use Rattle.generate.specs.Emission.Passes.{Diagonal, Factors, Site, Work, entries, kernel, none, number, rows, tile, twiddles, values, work_size}
 use Rattle.generate.specs.Emission.Places.{PlaceFunction}
-use Rattle.generate.proofs.Emission.Expressions.{expression-is, unwritten-is}
+use Rattle.generate.specs.Emission.Tables.{number_of, powers_of, table_of}
+use Rattle.generate.proofs.Emission.Expressions.{expression-is, hidden-is}
 use Rattle.generate.proofs.Emission.Nested.{bounds, each, emitted_nest, multiplier_at, plain_work}
 
 -- ---- lists of statements
@@ -92,12 +93,16 @@ ArePlainFactors (number v) = Unit {0}
 ArePlainFactors (entries diagonal f) = KeepsPlain f
 
 -- no place has a quotient
-pub record IsPlainPass (p : Pass) : Type 0 where
-  pub load : KeepsPlain p.load
-  pub factors : ArePlainFactors p.factors
-  pub store : KeepsPlain p.store
+pub record IsPlainSite (o : Site) : Type 0 where
+  pub load : KeepsPlain o.load
+  pub keep : KeepsPlain o.keep
+  pub factors : ArePlainFactors o.factors
+  pub store : KeepsPlain o.store
 
 module _ (o : Setting) where
+  abbrev site : Site
+  site = o.pass.site
+
   abbrev h : Target
   h = target_of o.request
 
@@ -111,15 +116,15 @@ module _ (o : Setting) where
   frame = frame_of h w
 
   abbrev cs : ℕ → ℕ
-  cs = bounds o.pass.counts w
+  cs = bounds site.counts w
 
   -- the numbers of the tables, as they are where the pass stands
   abbrev pub FindsPowers : Work → ℕ → Type 0
-  FindsPowers (rows root size) powers = powers ≡ table_number o.tables (powers_of o.request.modulus root size)
+  FindsPowers (rows root size) powers = powers ≡ number_of o.tables (powers_of o.request.modulus root size)
   FindsPowers v powers = Unit {0}
 
   abbrev pub FindsEntries : Factors → ℕ → Type 0
-  FindsEntries (entries diagonal f) table = table ≡ table_number o.tables (table_of o.request.modulus diagonal)
+  FindsEntries (entries diagonal f) table = table ≡ number_of o.tables (table_of o.request.modulus diagonal)
   FindsEntries factors table = Unit {0}
 
   sizes : (v : Work) → works.work_size (plain_work v) ≡ work_size v
@@ -128,7 +133,7 @@ module _ (o : Setting) where
   sizes (tile v) = refl
 
   limits-are : cs ≡ emission.limits o.pass
-  limits-are = ap (λ n. slice_index (o.pass.counts ++ n ∷ n ∷ [])) (sizes o.pass.work)
+  limits-are = ap (λ n. slice_index (site.counts ++ n ∷ n ∷ [])) (sizes o.pass.work)
 
   -- an expression of a sum that a place function gives
   at-place : (inner : ℕ) (f : PlaceFunction) (k : Sum) → KeepsPlain f → HasNoQuotient k →
@@ -138,7 +143,7 @@ module _ (o : Setting) where
       ∙ ap (λ b. emission.expression o (length (loops o) + inner) (f b k)) limits-are
 
   abbrev pub Stores : List Sum → ℕ → ℕ → Sum → Type 0
-  Stores sums i inner k = slice_index_or sums i (constant 0) ≡ o.pass.store cs k
+  Stores sums i inner k = slice_index_or sums i (constant 0) ≡ site.store cs k
 
   -- the same, of an item that a list of places has
   from-list : (sums : List Sum) (i inner : ℕ) (f : PlaceFunction) (k : Sum) → KeepsPlain f → HasNoQuotient k →
@@ -149,16 +154,16 @@ module _ (o : Setting) where
 
   -- ---- a store with its factor, of the item number i of these, which stands at the place k
 
-  module _ (plain : IsPlainPass o.pass) (inner i : ℕ) (k : Sum) (none' : HasNoQuotient k) (scatters : List Sum)
-      (stored : slice_index_or scatters i (constant 0) ≡ o.pass.store cs k) where
+  module _ (plain : IsPlainSite site) (inner i : ℕ) (k : Sum) (none' : HasNoQuotient k) (scatters : List Sum)
+      (stored : slice_index_or scatters i (constant 0) ≡ site.store cs k) where
     put : (r : ℕ) →
         do_only (Store o.target (place_at frame (length (loops o) + inner) scatters i) r)
         ≡ body_of (store o inner k r ∷ [])
-    put r = ap (λ e. do_only (Store o.target e r)) (from-list scatters i inner o.pass.store k plain.store none' stored)
+    put r = ap (λ e. do_only (Store o.target e r)) (from-list scatters i inner site.store k plain.store none' stored)
 
     finish-is : (factors : Factors) (x : Option PlainMultiplier) (table from free : ℕ) → ArePlainFactors factors →
-        FindsEntries factors table → x ≡ multiplier_at o.pass.counts w factors →
-        ((f : PlaceFunction) → slice_index_or (map (f cs) (each w (length o.pass.counts))) i (constant 0) ≡ f cs k) →
+        FindsEntries factors table → x ≡ multiplier_at site.counts w factors →
+        ((f : PlaceFunction) → slice_index_or (map (f cs) (each w (length site.counts))) i (constant 0) ≡ f cs k) →
         finish_body frame (emission.step_of o.pass.work) x scatters (length (loops o) + inner) table o.target i from
         free
         ≡ body_of (finish o inner factors k from free)
@@ -177,24 +182,24 @@ module _ (o : Setting) where
       where
         turns : Diagonal → PlainStmt
         turns x =
-            Do (MulTable free from (table_number o.tables (table_of o.request.modulus x)) (place o inner f k)
+            Do (MulTable free from (number_of o.tables (table_of o.request.modulus x)) (place o inner f k)
             (emission.step_of o.pass.work))
 
         product : (x : Diagonal) → FindsEntries (entries x f) table →
             AndStmts
             (Do (MulTable free from table
-            (place_at frame (length (loops o) + inner) (map (f cs) (each w (length o.pass.counts))) i)
+            (place_at frame (length (loops o) + inner) (map (f cs) (each w (length site.counts))) i)
             (emission.step_of o.pass.work)))
             (do_only (Store o.target (place_at frame (length (loops o) + inner) scatters i) free))
             ≡ AndStmts (turns x) (body_of (store o inner k free ∷ []))
         product x finds =
             ap₂ (λ n e. AndStmts (Do (MulTable free from n e (emission.step_of o.pass.work)))
             (do_only (Store o.target (place_at frame (length (loops o) + inner) scatters i) free))) finds
-            (from-list (map (f cs) (each w (length o.pass.counts))) i inner f k keeps none' (item f))
+            (from-list (map (f cs) (each w (length site.counts))) i inner f k keeps none' (item f))
             ∙ ap (AndStmts (turns x)) (put free)
 
         by-diagonal : (x : Diagonal) → FindsEntries (entries x f) table →
-            finish_body frame (emission.step_of o.pass.work) (multiplier_at o.pass.counts w (entries x f)) scatters
+            finish_body frame (emission.step_of o.pass.work) (multiplier_at site.counts w (entries x f)) scatters
             (length (loops o) + inner) table o.target i from free
             ≡ body_of (finish o inner (entries x f) k from free)
         by-diagonal (values table') finds = product (values table') finds
@@ -202,7 +207,7 @@ module _ (o : Setting) where
 
   -- ---- the work
 
-  module _ (plain : IsPlainPass o.pass) (table : ℕ) (finds : FindsEntries o.pass.factors table) where
+  module _ (plain : IsPlainSite site) (table : ℕ) (finds : FindsEntries site.factors table) where
     open-loops : length (loops o) ≡ length (loops o) + 0
     open-loops = omega arith
 
@@ -222,7 +227,7 @@ module _ (o : Setting) where
         loads' = map (λ k. load o 0 k (constant k)) (range_with_len 0 n)
 
         stores' : List PlainStmt
-        stores' = flat_map (λ k. finish o 0 o.pass.factors (constant k) (outs k) (next + k)) (range_with_len 0 n)
+        stores' = flat_map (λ k. finish o 0 site.factors (constant k) (outs k) (next + k)) (range_with_len 0 n)
 
         item : (d k : ℕ) → k < n → (f : PlaceFunction) →
             slice_index_or (map (f cs) (each w d)) k (constant 0) ≡ f cs (constant k)
@@ -237,8 +242,8 @@ module _ (o : Setting) where
         loaded k low =
             ap (λ d. do_only (Load k o.source (place_at frame d z.gathers k))) open-loops
             ∙ ap (λ e. do_only (Load k o.source e))
-            (from-list z.gathers k 0 o.pass.load (constant k) plain.load tt
-            (item (length o.pass.counts + 1) k low o.pass.load))
+            (from-list z.gathers k 0 site.load (constant k) plain.load tt
+            (item (length site.counts + 1) k low site.load))
 
         loads-are : loads_body frame z (length (loops o)) n o.source ≡ body_of loads'
         loads-are =
@@ -249,35 +254,35 @@ module _ (o : Setting) where
         stores-are : in_a_row n (λ k. finish_body frame step z.multiplier z.scatters (length (loops o)) table o.target k
             (outs k) (next + k)) ≡ body_of stores'
         stores-are =
-            in-a-row n _ (λ k. finish o 0 o.pass.factors (constant k) (outs k) (next + k))
+            in-a-row n _ (λ k. finish o 0 site.factors (constant k) (outs k) (next + k))
             (λ k low. ap₂ (λ s d. finish_body frame s z.multiplier z.scatters d table o.target k (outs k) (next + k))
             is open-loops
-            ∙ finish-is plain 0 k (constant k) tt z.scatters (item (length o.pass.counts) k low o.pass.store)
-            o.pass.factors z.multiplier table (outs k) (next + k) plain.factors finds refl
-            (item (length o.pass.counts) k low))
+            ∙ finish-is plain 0 k (constant k) tt z.scatters (item (length site.counts) k low site.store)
+            site.factors z.multiplier table (outs k) (next + k) plain.factors finds refl
+            (item (length site.counts) k low))
 
     rows-work : (root size powers : ℕ) → o.pass.work ≡ rows root size →
-        powers ≡ table_number o.tables (powers_of o.request.modulus root size) →
+        powers ≡ number_of o.tables (powers_of o.request.modulus root size) →
         work_body h z (works.rows root size) (length (loops o)) powers table o.source o.target
         ≡ body_of (by_rows o (powers_of o.request.modulus root size) size)
     rows-work root size powers is found =
         ap₂ (λ input n. AndStmts (Loop size (AndStmts (Do (Zero 0)) (AndStmts
         (Loop size (term_body input (length (loops o)) o.source n size))
         (finish_body frame 0 z.multiplier z.scatters (length (loops o) + 1) table o.target 0 0 3)))) NoStmts)
-        (from-list z.gathers 0 2 o.pass.load l plain.load tt (item (length o.pass.counts + 1) o.pass.load)) found
+        (from-list z.gathers 0 2 site.load l plain.load tt (item (length site.counts + 1) site.load)) found
         ∙ ap (λ end. AndStmts (Loop size (AndStmts (Do (Zero 0)) (AndStmts (Loop size
-        (term_body (place o 2 o.pass.load l) (length (loops o)) o.source
-        (table_number o.tables (powers_of o.request.modulus root size)) size)) end))) NoStmts)
+        (term_body (place o 2 site.load l) (length (loops o)) o.source
+        (number_of o.tables (powers_of o.request.modulus root size)) size)) end))) NoStmts)
         (ap (λ s. finish_body frame s z.multiplier z.scatters (length (loops o) + 1) table o.target 0 0 3)
         (sym (ap emission.step_of is))
-        ∙ finish-is plain 1 0 k tt z.scatters (item (length o.pass.counts) o.pass.store) o.pass.factors z.multiplier
-        table 0 3 plain.factors finds refl (item (length o.pass.counts)))
+        ∙ finish-is plain 1 0 k tt z.scatters (item (length site.counts) site.store) site.factors z.multiplier
+        table 0 3 plain.factors finds refl (item (length site.counts)))
       where
         k : Sum
-        k = variable 1 (length o.pass.counts) (constant 0)
+        k = variable 1 (length site.counts) (constant 0)
 
         l : Sum
-        l = variable 1 (length o.pass.counts + 1) (constant 0)
+        l = variable 1 (length site.counts + 1) (constant 0)
 
         item : (d : ℕ) (f : PlaceFunction) →
             slice_index_or (map (f cs) (each w d)) 0 (constant 0) ≡ f cs (variable 1 d (constant 0))
@@ -301,11 +306,11 @@ module _ (o : Setting) where
   -- ---- the pass
 
   loops-are : loop_counts h z ≡ loops o
-  loops-are = ap (λ n. drop n o.pass.counts) (sym (unwritten-is o.request o.pass.work))
+  loops-are = ap (λ n. drop n site.counts) (sym (hidden-is o.request o.pass.work))
 
-  pub pass-is : IsPlainPass o.pass → (tables : List (List ℕ)) →
+  pub pass-is : IsPlainSite site → (tables : List (List ℕ)) →
       FindsPowers o.pass.work (powers_number o.request.modulus w tables) →
-      FindsEntries o.pass.factors
+      FindsEntries site.factors
       (multiplier_number o.request.modulus z.multiplier (tables_of_work o.request.modulus w tables)) →
       pass_body h (z ∷ []) tables o.source o.target ≡ body_of (pass_code o)
   pass-is plain tables powers finds =

@@ -1,7 +1,8 @@
 -- The program of passes by the rules of emission is that of their nests.
 use Rattle.std.proofs.Common.{◌≡◌, ℕ, zero, suc, ◌+◌, ◌-◌, ◌%◌, ◌==◌, Bool, true, false, refl, sym, ap, ap₂, ◌∙◌, List, [], ◌∷◌, ◌++◌, length, arith, append_assoc}
-use Rattle.std.specs.Prelude.{map, max, slice_index, if◌then◌else◌}
-use Rattle.std.specs.List.{flat_map, fold}
+use Rattle.std.specs.Prelude.{cond, map, max, nat_eq, not, slice_index, if◌then◌else◌, ◌&&◌, ◌||◌}
+use Rattle.std.specs.Cmp.Lexicographic.{pointwise}
+use Rattle.std.specs.List.{flat_map, fold, list_any}
 use Rattle.std.proofs.Math.Nat.{max-zero, zero-max}
 use Rattle.std.proofs.lemmas.Bool.Decides.{nat_tests}
 use Rattle.std.proofs.lemmas.Grind.{flat_map-append, fold-append}
@@ -21,11 +22,51 @@ use Rattle.sigma_spl.specs.Shared.Targets.{target_of}
 use Rattle.sigma_spl.specs.Work as works
 use Rattle.tree_model.specs.Trees.{trees_size}
 use Rattle.tree_model.specs.Whole.{rooted_of}
-use Rattle.generate.specs.Emission.Bodies.{Setting, pass_code, powers_of, table_of}
+use Rattle.generate.specs.Emission.Bodies.{Setting, pass_code}
 use Rattle.generate.specs.Emission.Passes.{Diagonal, Factors, Pass, Work, entries, kernel, none, number, rows, tile, twiddles, values}
-use Rattle.generate.specs.Emission.Program.{entries_in, phase_code, phases_code, powers_in, products, program_in, read, registers, setting, tables_in, written}
+use Rattle.generate.specs.Emission.Program.{phase_code, phases_code, products, program_in, read, registers, written}
+use Rattle.generate.specs.Emission.Tables.{added, entries_in, number_of, powers_in, powers_of, table_of, tables_in}
 use Rattle.generate.proofs.Emission.Nested.{emitted, emitted_nest, multiplier_at, plain_factors, plain_work}
-use Rattle.generate.proofs.Emission.PassBodies.{FindsEntries, FindsPowers, IsPlainPass, body-append, pass-is}
+use Rattle.generate.proofs.Emission.PassBodies.{FindsEntries, FindsPowers, IsPlainSite, body-append, pass-is}
+
+-- ---- tables by tests of the library
+
+table-test : (xs ys : List ℕ) → is_table xs ys ≡ pointwise nat_eq xs ys
+table-test [] [] = refl
+table-test [] (y ∷ ys) = refl
+table-test (x ∷ xs) [] = refl
+table-test (x ∷ xs) (y ∷ ys) = by (x == y) (table-test xs ys)
+  where
+    by : (b : Bool) → is_table xs ys ≡ pointwise nat_eq xs ys →
+        (if b then is_table xs ys else false) ≡ (b && pointwise nat_eq xs ys)
+    by true is = is
+    by false is = refl
+
+number-is : (ts : List (List ℕ)) (e : List ℕ) → table_number ts e ≡ number_of ts e
+number-is [] e = refl
+number-is (t ∷ ts) e =
+    ap₂ (λ b n. if b then 0 else suc n) (table-test t e) (number-is ts e) ∙ by (pointwise nat_eq t e) (number_of ts e)
+  where
+    by : (b : Bool) (n : ℕ) → (if b then 0 else suc n) ≡ cond (not b) (1 + n) 0
+    by true n = refl
+    by false n = omega arith
+
+added-is : (ts : List (List ℕ)) (e : List ℕ) → with_table ts e ≡ added ts e
+added-is [] e = refl
+added-is (t ∷ ts) e =
+    ap₂ (λ b us. if b then t ∷ ts else t ∷ us) (table-test t e) (added-is ts e)
+    ∙ by (pointwise nat_eq t e) (list_any (λ u. pointwise nat_eq u e) ts)
+  where
+    by : (b k : Bool) →
+        (if b then t ∷ ts else t ∷ (if k then ts else ts ++ e ∷ []))
+        ≡ (if b || k then t ∷ ts else t ∷ (ts ++ e ∷ []))
+    by true k = refl
+    by false true = refl
+    by false false = refl
+
+folds-added : (ts es : List (List ℕ)) → fold with_table ts es ≡ fold added ts es
+folds-added ts [] = refl
+folds-added ts (e ∷ es) = folds-added (with_table ts e) es ∙ ap (λ us. fold added us es) (added-is ts e)
 
 -- ---- tables that are there keep their numbers
 
@@ -115,9 +156,9 @@ module _ (m : ℕ) where
   pass-tables : (p : Pass) (ts : List (List ℕ)) →
       tables_after m (emitted_nest p ∷ []) ts ≡ fold with_table ts (tables_in m p)
   pass-tables p ts =
-      factor-tables p.counts (plain_work p.work) p.factors (tables_of_work m (plain_work p.work) ts)
-      ∙ ap (λ us. fold with_table us (entries_in m p.factors)) (work-tables p.work ts)
-      ∙ sym (fold-append with_table ts (powers_in m p.work) (entries_in m p.factors))
+      factor-tables p.site.counts (plain_work p.work) p.site.factors (tables_of_work m (plain_work p.work) ts)
+      ∙ ap (λ us. fold with_table us (entries_in m p.site.factors)) (work-tables p.work ts)
+      ∙ sym (fold-append with_table ts (powers_in m p.work) (entries_in m p.site.factors))
 
   phase-tables : (ps : List Pass) (ts : List (List ℕ)) →
       tables_through m (emitted ps) ts ≡ fold with_table ts (flat_map (tables_in m) ps)
@@ -148,12 +189,14 @@ module _ (o : Setting) (ts rest : List (List ℕ)) where
       FindsPowers o v (powers_number m' (plain_work v) ts)
   powers-found (kernel c t) es are = tt
   powers-found (rows root size) es are =
-      found ts (powers_of m' root size) (es ++ rest) ∙ ap (λ us. table_number us (powers_of m' root size)) (sym are)
+      found ts (powers_of m' root size) (es ++ rest)
+      ∙ ap (λ us. table_number us (powers_of m' root size)) (sym are)
+      ∙ number-is o.tables (powers_of m' root size)
   powers-found (tile v) es are = tt
 
   entry-found : (v : Work) (x : Diagonal) (counts : List ℕ) → (table : List ℕ) → table ≡ table_of m' x →
       o.tables ≡ fold with_table ts ((powers_in m' v ++ table_of m' x ∷ []) ++ rest) →
-      table_number (tables_of_work m' (plain_work v) ts) table ≡ table_number o.tables (table_of m' x)
+      table_number (tables_of_work m' (plain_work v) ts) table ≡ number_of o.tables (table_of m' x)
   entry-found v x counts table is are =
       ap₂ table_number (work-tables m' v ts) is
       ∙ found (fold with_table ts (powers_in m' v)) (table_of m' x) rest
@@ -161,6 +204,7 @@ module _ (o : Setting) (ts rest : List (List ℕ)) where
       (sym (fold-append with_table ts (powers_in m' v) (table_of m' x ∷ rest))
       ∙ ap (fold with_table ts) (sym (regrouped (powers_in m' v)))
       ∙ sym are)
+      ∙ number-is o.tables (table_of m' x)
     where
       regrouped : (xs : List (List ℕ)) → (xs ++ table_of m' x ∷ []) ++ rest ≡ xs ++ table_of m' x ∷ rest
       regrouped [] = refl
@@ -195,9 +239,13 @@ read-next n t =
 
 -- ---- phases
 
+abbrev setting : Request → List (List ℕ) → ℕ → ℕ → Pass → Setting
+setting c tables n t p =
+    record { request = c; tables = tables; pass = p; source = read n t; target = written n t }
+
 abbrev pub ArePlain : List Pass → Type 0
 ArePlain [] = Unit {0}
-ArePlain (p ∷ ps) = IsPlainPass p × ArePlain ps
+ArePlain (p ∷ ps) = IsPlainSite p.site × ArePlain ps
 
 abbrev pub ArePlainPhases : List (List Pass) → Type 0
 ArePlainPhases [] = Unit {0}
@@ -227,8 +275,8 @@ module _ (c : Request) (n : ℕ) (tables : List (List ℕ)) where
       (phase_body h after (emitted ps) (suc t) (tables_after m (emitted_nest p ∷ []) ts) target)) from to
       ∙ ap₂ followed_by
       (pass-is o plain.0 ts
-      (powers-found o ts (flat_map (tables_in m) ps ++ rest) p.work (entries_in m p.factors) grouped)
-      (entries-found o ts (flat_map (tables_in m) ps ++ rest) p.work p.counts p.factors grouped))
+      (powers-found o ts (flat_map (tables_in m) ps ++ rest) p.work (entries_in m p.site.factors) grouped)
+      (entries-found o ts (flat_map (tables_in m) ps ++ rest) p.work p.site.counts p.site.factors grouped))
       (ap₂ (λ k us. phase_body h after (emitted ps) k us (written n t)) next (pass-tables m p ts)
       ∙ phase-is ps (t + 1) after (fold with_table ts (tables_in m p)) rest (written n t) plain.1 (omega (arith, long))
       (grouped ∙ fold-append with_table ts (tables_in m p) (flat_map (tables_in m) ps ++ rest)) (sym (read-next n t)))
@@ -295,12 +343,12 @@ module _ (m : ℕ) where
       ap (λ x. with_multiplier x (v + v) v) is ∙ factor-registers f counts w (v + v) v
 
   abbrev pass-need : Pass → ℕ
-  pass-need p = registers m p.factors p.work
+  pass-need p = registers m p.site.factors p.work
 
   pass-registers : (p : Pass) → pass_registers m (emitted_nest p ∷ []) ≡ pass-need p
   pass-registers p =
       max-zero (nest_registers m (emitted_nest p) (plain_work p.work))
-      ∙ nest-registers p.work p.factors (emitted_nest p) p.counts (plain_work p.work) refl
+      ∙ nest-registers p.work p.site.factors (emitted_nest p) p.site.counts (plain_work p.work) refl
 
   three : (a b c : ℕ) → max (max a b) c ≡ max a (max b c)
   three a b c = omega arith
@@ -338,11 +386,12 @@ pub programs-by-passes : (c : Request) (phases : List (List Pass)) → ArePlainP
     ≡ program_in c phases
 programs-by-passes c phases plain =
     let all = flat_map (λ ps. ps) phases in
-    let tables = fold with_table [] (flat_map (tables_in c.modulus) all) in
+    let each = flat_map (tables_in c.modulus) all in
+    let tables = fold added [] each in
     ap₂ (λ r ts. whole r ts (phases_body (target_of c) (map emitted phases) 0 [] X))
-    (all-registers c.modulus c (target_of c) refl phases) (all-tables c.modulus phases [])
+    (all-registers c.modulus c (target_of c) refl phases) (all-tables c.modulus phases [] ∙ folds-added [] each)
     ∙ ap (whole (fold max 0 (map (pass-need c.modulus) all)) tables)
-    (phases-are c (length all) tables phases 0 [] X plain (omega arith) refl refl)
+    (phases-are c (length all) tables phases 0 [] X plain (omega arith) (sym (folds-added [] each)) refl)
   where
     whole : ℕ → List (List ℕ) → List PlainBody → PlainProgram
     whole regs tables bodies = record {

@@ -1,20 +1,23 @@
 -- No place of a pass by the rules of emission has a quotient.
-use Rattle.std.proofs.Common.{ℕ, ◌*◌, ◌/◌, ◌%◌, ◌==◌, Bool, true, false, List, [], ◌∷◌, ◌++◌, nat_lt, Option, Some, None}
+use Rattle.std.proofs.Common.{ℕ, ◌*◌, ◌/◌, ◌%◌, ◌==◌, Bool, true, false, List, [], ◌∷◌, ◌++◌, nat_lt}
 use Rattle.std.specs.Prelude.{if◌then◌else◌}
+use Rattle.matrix_meaning.specs.declared.Kind.{Kind}
+use Rattle.matrix_meaning.specs.declared.Kind.TheVariants.{Dft, Wht, Idft}
 use Rattle.matrix_meaning.specs.declared.Request.{Request}
+use Rattle.index_fn.specs.Back.{unit_below}
 use Rattle.perm_algebra.proofs.Sizes.{plain-joined, plain-scaled}
 use Rattle.perm_algebra.specs.Affine.{HasNoQuotient, Sum, constant, variable, remainder, quotient, joined, mods, reduced, scaled, top}
-use Rattle.sigma_lower.specs.TreeTerms.Wrapped.{unit_of}
 use Rattle.tree_model.specs.Breakdown.{Breakdown, leaf, node, size_of}
 use Rattle.tree_model.specs.Cost.{is_kernel, is_plain, node_root}
 use Rattle.tree_model.specs.Whole.{left_of, right_of}
 use Rattle.tree_model.specs.declared.tree.Rule.{Rule}
 use Rattle.tree_model.specs.declared.tree.Rule.TheVariants.{Gt, Ct, Split, Dim}
-use Rattle.generate.specs.Emission.Passes.{Factors, Pass, Site, Work, entries, left_site, moved, node_work, none, number, pass_at, passes, right_site, twiddled}
-use Rattle.generate.specs.Emission.Places.{PlaceFunction, after, blocks, columns, left_out, right_in, turn_of}
-use Rattle.generate.specs.Emission.Root.{across, along, lane_loops, lane_of, left_root, packed, processor_loops, right_root, root_in, root_phases, shared, strided, tile_turns, tiles, tiles_after, tiles_before, turn_in_lanes}
+use Rattle.generate.specs.Emission.Passes.{Factors, Pass, Site, entries, left_site, moved, node_work, none, number, passes, right_site, site_by, twiddled}
+use Rattle.generate.specs.Emission.Places.{PlaceFunction, after, blocks, columns, inside, left_out, right_in, same, turn_of}
+use Rattle.generate.specs.Emission.Root.{across, along, in_lanes, lane_loops, left_root, packed, processor_loops, right_root, root_in, root_phases, share, shared, strided, tile_column, tile_row, tiles, tiles_after, tiles_before, turns}
 use Rattle.generate.specs.Emission.Whole.{closing_factors, phases_of, whole_site}
-use Rattle.generate.proofs.Emission.PassBodies.{ArePlainFactors, KeepsPlain}
+use Rattle.generate.proofs.Emission.Nested.{pass_at}
+use Rattle.generate.proofs.Emission.PassBodies.{ArePlainFactors, IsPlainSite, KeepsPlain}
 use Rattle.generate.proofs.Emission.PassPrograms.{ArePlain, ArePlainPhases}
 
 -- ---- sums
@@ -56,8 +59,8 @@ keeps-in Dim r s i h cs k p = one s i k h p
 
 keeps-out : (rule : Rule) (r s : ℕ) (j : Sum) → HasNoQuotient j → KeepsPlain (left_out rule r s j)
 keeps-out Gt r s j h cs k p =
-    plain-reduced cs (r * s) (joined (scaled (unit_of r s) k) (scaled (unit_of s r) j))
-    (both (unit_of r s) (unit_of s r) k j p h)
+    plain-reduced cs (r * s) (joined (scaled (unit_below r s r) k) (scaled (unit_below s r s) j))
+    (both (unit_below r s r) (unit_below s r s) k j p h)
 keeps-out Ct r s j h cs k p = one s k j p h
 keeps-out Split r s j h cs k p = one s k j p h
 keeps-out Dim r s j h cs k p = one s k j p h
@@ -74,23 +77,18 @@ plain-twiddled Ct r s root f h = h
 plain-twiddled Split r s root f h = tt
 plain-twiddled Dim r s root f h = tt
 
-pub record IsPlainSite (o : Site) : Type 0 where
-  pub load : KeepsPlain o.load
-  pub keep : KeepsPlain o.keep
-  pub factors : ArePlainFactors o.factors
-  pub store : KeepsPlain o.store
+by-plain : (counts : List ℕ) (load : PlaceFunction) (f : Factors) (at : PlaceFunction) → KeepsPlain load →
+    ArePlainFactors f → KeepsPlain at → IsPlainSite (site_by counts load f at)
+by-plain counts load f at h k l = record { load = h; keep = l; factors = k; store = l }
 
 right-plain : (rule : Rule) (r s root : ℕ) (o : Site) → IsPlainSite o → IsPlainSite (right_site rule r s root o)
 right-plain rule r s root o h =
     let i = turn_of o.counts r in
     let here : KeepsPlain (blocks s i) = λ cs k p. one s i k (plain-turn o.counts r) p in
-    let keeps : KeepsPlain (after o.keep (blocks s i)) = λ cs k p. h.keep cs (blocks s i cs k) (here cs k p) in
-    record {
-      load = λ cs k p. h.load cs (right_in rule r s i cs k) (keeps-in rule r s i (plain-turn o.counts r) cs k p);
-      keep = keeps;
-      factors = plain-twiddled rule r s root (blocks s i) here;
-      store = keeps;
-    }
+    by-plain (inside o.counts r) (after o.load (right_in rule r s i)) (twiddled rule r s root (blocks s i))
+    (after o.keep (blocks s i))
+    (λ cs k p. h.load cs (right_in rule r s i cs k) (keeps-in rule r s i (plain-turn o.counts r) cs k p))
+    (plain-twiddled rule r s root (blocks s i) here) (λ cs k p. h.keep cs (blocks s i cs k) (here cs k p))
 
 left-plain : (rule : Rule) (r s : ℕ) (o : Site) → IsPlainSite o → IsPlainSite (left_site rule r s o)
 left-plain rule r s o h =
@@ -115,17 +113,14 @@ either-passes : (b : Bool) (ps qs : List Pass) → ArePlain ps → ArePlain qs �
 either-passes true ps qs h k = h
 either-passes false ps qs h k = k
 
-at-site : (o : Site) (w : Work) → IsPlainSite o → ArePlain (pass_at o w ∷ [])
-at-site o w h = (record { load = h.load; factors = h.factors; store = h.store }, tt)
-
 pub plain-passes : (c : Request) (o : Site) (t : Breakdown) → IsPlainSite o → ArePlain (passes c o t)
-plain-passes c o (leaf d) h = at-site o (node_work c (leaf d)) h
+plain-passes c o (leaf d) h = (h, tt)
 plain-passes c o (node rule a b) h =
     let r = size_of a in
     let s = size_of b in
     let root = node_root c (r * s) in
     either-passes (is_kernel c (r * s)) (pass_at o (node_work c (node rule a b)) ∷ []) _
-    (at-site o (node_work c (node rule a b)) h)
+    (h, tt)
     (plain-append (passes (right_of rule c) (right_site rule r s root o) b) _
     (plain-passes (right_of rule c) (right_site rule r s root o) b (right-plain rule r s root o h))
     (plain-passes (left_of rule c) (left_site rule r s o) a (left-plain rule r s o h)))
@@ -135,45 +130,46 @@ plain-passes c o (node rule a b) h =
 module _ (c : Request) where
   plain-shared : (n : ℕ) (counts : List ℕ) → HasNoQuotient (shared c n counts)
   plain-shared n counts =
-      one (n / c.procs) (turn_of [] c.procs) _ (plain-turn [] c.procs) (plain-turn counts (n / c.procs))
+      one (share c n) (turn_of [] c.procs) _ (plain-turn [] c.procs) (plain-turn counts (share c n))
 
-  plain-lane : HasNoQuotient (lane_of c)
-  plain-lane = plain-turn (processor_loops c) c.lanes
+  plain-lanes : (i : Sum) → HasNoQuotient i → HasNoQuotient (in_lanes c i)
+  plain-lanes i h = one c.lanes i (turn_of (processor_loops c) c.lanes) h (plain-turn (processor_loops c) c.lanes)
 
-  plain-in-lanes : (n : ℕ) → HasNoQuotient (turn_in_lanes c n)
-  plain-in-lanes n =
-      one c.lanes (shared c (n / c.lanes) (lane_loops c)) (lane_of c)
-      (plain-shared (n / c.lanes) (lane_loops c)) plain-lane
+  plain-turns : (n : ℕ) → HasNoQuotient (in_lanes c (shared c n (lane_loops c)))
+  plain-turns n = plain-lanes (shared c n (lane_loops c)) (plain-shared n (lane_loops c))
 
   keeps-packed : (r s : ℕ) → KeepsPlain (packed c r s)
   keeps-packed r s cs k p =
-      let i = shared c (r / c.lanes) (lane_loops c) in
-      one c.lanes (joined (scaled s i) k) (lane_of c) (one s i k (plain-shared (r / c.lanes) (lane_loops c)) p)
-      plain-lane
+      let i = shared c r (lane_loops c) in
+      plain-lanes (joined (scaled s i) k) (one s i k (plain-shared r (lane_loops c)) p)
 
   keeps-root : (rule : Rule) (r s : ℕ) → KeepsPlain (root_in rule c r s)
   keeps-root Gt r s = keeps-packed r s
-  keeps-root Ct r s = λ cs k p. one r k (turn_in_lanes c r) p (plain-in-lanes r)
+  keeps-root Ct r s = λ cs k p. one r k (in_lanes c (shared c r (lane_loops c))) p (plain-turns r)
   keeps-root Split r s = keeps-packed r s
   keeps-root Dim r s = keeps-packed r s
 
   keeps-strided : (s : ℕ) → KeepsPlain (strided c s)
-  keeps-strided s cs k p = one s k (turn_in_lanes c s) p (plain-in-lanes s)
+  keeps-strided s cs k p = one s k (in_lanes c (shared c s (lane_loops c))) p (plain-turns s)
+
+  plain-row : (r : ℕ) → HasNoQuotient (tile_row c r)
+  plain-row r = plain-shared r (processor_loops c)
+
+  plain-column : (r s : ℕ) → HasNoQuotient (tile_column c r s)
+  plain-column r s = plain-turn (turns c r (processor_loops c)) (s / c.lanes)
 
   keeps-along : (r s : ℕ) → KeepsPlain (along c r s)
   keeps-along r s cs k p =
-      let i = shared c (r / c.lanes) (processor_loops c) in
-      let j = turn_of (tile_turns c r) (s / c.lanes) in
+      let i = tile_row c r in
+      let j = tile_column c r s in
       plain-scaled c.lanes (joined (scaled s i) (joined (scaled c.lanes j) k))
-      (one s i (joined (scaled c.lanes j) k) (plain-shared (r / c.lanes) (processor_loops c))
-      (one c.lanes j k (plain-turn (tile_turns c r) (s / c.lanes)) p))
+      (one s i (joined (scaled c.lanes j) k) (plain-row r) (one c.lanes j k (plain-column r s) p))
 
   keeps-across : (r s : ℕ) → KeepsPlain (across c r s)
   keeps-across r s cs k p =
-      let i = shared c (r / c.lanes) (processor_loops c) in
-      let j = turn_of (tile_turns c r) (s / c.lanes) in
-      both s c.lanes (joined (scaled c.lanes i) k) j
-      (one c.lanes i k (plain-shared (r / c.lanes) (processor_loops c)) p) (plain-turn (tile_turns c r) (s / c.lanes))
+      let i = tile_row c r in
+      let j = tile_column c r s in
+      both s c.lanes (joined (scaled c.lanes i) k) j (one c.lanes i k (plain-row r) p) (plain-column r s)
 
   either-factors : (b : Bool) (f g : Factors) → ArePlainFactors f → ArePlainFactors g →
       ArePlainFactors (if b then f else g)
@@ -181,26 +177,22 @@ module _ (c : Request) where
   either-factors false f g h k = k
 
   plain-right : (rule : Rule) (r s root : ℕ) → IsPlainSite (right_root rule c r s root)
-  plain-right rule r s root = record {
-    load = keeps-root rule r s;
-    keep = keeps-packed r s;
-    factors = either-factors (c.lanes == 1) (twiddled rule r s root (packed c r s)) none
-        (plain-twiddled rule r s root (packed c r s) (keeps-packed r s)) tt;
-    store = keeps-packed r s;
-  }
+  plain-right rule r s root =
+      by-plain (turns c r (lane_loops c)) (root_in rule c r s) _ (packed c r s) (keeps-root rule r s)
+      (either-factors (c.lanes == 1) (twiddled rule r s root (packed c r s)) none
+      (plain-twiddled rule r s root (packed c r s) (keeps-packed r s)) tt)
+      (keeps-packed r s)
 
   plain-left : (s : ℕ) (f : Factors) → ArePlainFactors f → IsPlainSite (left_root c s f)
-  plain-left s f h = record {
-    load = keeps-strided s;
-    keep = keeps-strided s;
-    factors = plain-moved f (strided c s) h (keeps-strided s);
-    store = keeps-strided s;
-  }
+  plain-left s f h =
+      by-plain (turns c s (lane_loops c)) (strided c s) (moved f (strided c s)) (strided c s) (keeps-strided s)
+      (plain-moved f (strided c s) h (keeps-strided s)) (keeps-strided s)
 
   plain-tiles : (r s : ℕ) (load : PlaceFunction) (f : Factors) (store : PlaceFunction) → KeepsPlain load →
       ArePlainFactors f → KeepsPlain store → ArePlain (tiles c r s load f store)
   plain-tiles r s load f store h k l =
-      either-passes (c.lanes == 1) [] _ tt (record { load = h; factors = k; store = l }, tt)
+      either-passes (c.lanes == 1) [] _ tt
+      (by-plain (inside (turns c r (processor_loops c)) (s / c.lanes)) load f store h k l, tt)
 
   plain-before : (rule : Rule) (r s : ℕ) → ArePlain (tiles_before rule c r s)
   plain-before Gt r s = plain-tiles r s (across c r s) none (along c r s) (keeps-across r s) tt (keeps-along r s)
@@ -233,11 +225,12 @@ module _ (c : Request) where
 -- ---- wholes
 
 pub plain-whole : (f : Factors) → ArePlainFactors f → IsPlainSite (whole_site f)
-plain-whole f h = record { load = λ cs k p. p; keep = λ cs k p. p; factors = h; store = λ cs k p. p }
+plain-whole f h = by-plain [] same f same (λ cs k p. p) h (λ cs k p. p)
 
-pub plain-closing : (o : Option ℕ) → ArePlainFactors (closing_factors o)
-plain-closing None = tt
-plain-closing (Some v) = tt
+pub plain-closing : (kind : Kind) (c : Request) → ArePlainFactors (closing_factors kind c)
+plain-closing Dft c = tt
+plain-closing Wht c = tt
+plain-closing Idft c = tt
 
 pub plain-phases : (c : Request) (f : Factors) (t : Breakdown) → ArePlainFactors f → ArePlainPhases (phases_of c f t)
 plain-phases c f t h =

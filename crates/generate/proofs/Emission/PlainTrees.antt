@@ -35,7 +35,7 @@ use Rattle.generate.specs.Emission.Whole.{closing_factors, conv_emission, emissi
 use Rattle.generate.specs.Factors.{factors_of}
 use Rattle.generate.specs.Letters.{program_for}
 use Rattle.generate.proofs.ConvTrees.{inverse_tree, inverse_valid}
-use Rattle.generate.proofs.Emission.Closed.{closed-phases, closed_tree, firsts, phases-in}
+use Rattle.generate.proofs.Emission.Closed.{closed-phases, closed_tree, closing-is, factors_by, firsts, phases-in}
 use Rattle.generate.proofs.Emission.Layouts.{layout_emitted, passes_of_layout, tree_works}
 use Rattle.generate.proofs.Emission.Matches.{ArePasses, IsAround, IsSame}
 use Rattle.generate.proofs.Emission.Nested.{emitted, emitted_nest}
@@ -110,15 +110,15 @@ module _ (c : Request) (t : Breakdown) (valid : IsValid c) (h : IsWholeTree c t)
       (λ cs stored own es step. maps-same stored own es step) ps _ good (matches (entries (values ds) same))
       ∙ ap emitted (sym (passes_of_layout (forward_of c) (whole_site (entries (values ds) same)) t))
 
-  all-closed : (o : Option ℕ) → closed-phases o (nests ps ∷ []) ≡ emitted (qs (closing_factors o)) ∷ []
+  all-closed : (o : Option ℕ) → closed-phases o (nests ps ∷ []) ≡ emitted (qs (factors_by o)) ∷ []
   all-closed None = ap (λ z. z ∷ []) with-none
   all-closed (Some v) =
       ap (λ z. z ∷ [])
       (factors-passes [] 0 same (λ p. p) (IsLooped c.modulus (layout_size l)) nest (layout_size l)
-      (whole_site (closing_factors (Some v))) (λ cs e. refl) (sums.repeated v 1) (λ counts k. constant 0) firsts
+      (whole_site (factors_by (Some v))) (λ cs e. refl) (sums.repeated v 1) (λ counts k. constant 0) firsts
       (λ counts w own. refl)
-      (λ cs stored own es step. maps-twice (λ _. constant 0) stored es) ps _ good (matches (closing_factors (Some v)))
-      ∙ ap emitted (sym (passes_of_layout (forward_of c) (whole_site (closing_factors (Some v))) t)))
+      (λ cs stored own es step. maps-twice (λ _. constant 0) stored es) ps _ good (matches (factors_by (Some v)))
+      ∙ ap emitted (sym (passes_of_layout (forward_of c) (whole_site (factors_by (Some v))) t)))
 
   plain-forward : (kind : Kind) → is_plain (forward_by kind c) ≡ is_plain c
   plain-forward Dft = refl
@@ -129,12 +129,13 @@ module _ (c : Request) (t : Breakdown) (valid : IsValid c) (h : IsWholeTree c t)
   plain_emission =
       ap (program_of (target_of c))
       (closed_passes
-      ∙ ap (phases-in c) (all-closed (factor_by c.kind c))
+      ∙ ap (phases-in c)
+      (all-closed (factor_by c.kind c) ∙ ap (λ f. emitted (qs f) ∷ []) (sym (closing-is c.kind c)))
       ∙ ap (λ b. phases-in c
-      (map emitted (if b then qs (closing_factors (factor_by c.kind c)) ∷ [] else root_phases (forward_of c)
-      (closing_factors (factor_by c.kind c)) t))) (sym (plain-forward c.kind ∙ plain)))
-      ∙ programs-by-passes c (phases_of (forward_of c) (closing_factors (factor_by c.kind c)) t)
-      (plain-phases (forward_of c) (closing_factors (factor_by c.kind c)) t (plain-closing (factor_by c.kind c)))
+      (map emitted (if b then qs (closing_factors c.kind c) ∷ [] else root_phases (forward_of c)
+      (closing_factors c.kind c) t))) (sym (plain-forward c.kind ∙ plain)))
+      ∙ programs-by-passes c (phases_of (forward_of c) (closing_factors c.kind c) t)
+      (plain-phases (forward_of c) (closing_factors c.kind c) t (plain-closing c.kind c))
 
 -- ---- convolutions
 

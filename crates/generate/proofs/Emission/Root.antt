@@ -17,7 +17,7 @@ use Rattle.tree_model.specs.declared.tree.Rule.{Rule}
 use Rattle.tree_model.specs.declared.tree.Rule.TheVariants.{Ct}
 use Rattle.generate.specs.Emission.Passes.{Factors}
 use Rattle.generate.specs.Emission.Places.{inside, same, turn_of}
-use Rattle.generate.specs.Emission.Root.{lane_of, lane_loops, left_root, packed, right_root, root_in, shared, strided}
+use Rattle.generate.specs.Emission.Root.{lane_loops, left_root, packed, processor_loops, right_root, root_in, shared, strided, turns}
 use Rattle.generate.proofs.Emission.Matches.{IsAround}
 use Rattle.generate.proofs.Emission.RootPlaces.{insides-are, natural-turns, packed-is, strided-is, turns-are}
 
@@ -46,7 +46,7 @@ module _ (c : Request) (r s : ℕ) (h : AreShares c.size c.procs c.lanes r s) wh
   q = turn_of [] p
 
   abbrev l : Sum
-  l = lane_of c
+  l = turn_of (processor_loops c) c.lanes
 
   abbrev three : Path
   three = Blocks p ∷ Columns v ∷ Blocks rows ∷ []
@@ -56,10 +56,10 @@ module _ (c : Request) (r s : ℕ) (h : AreShares c.size c.procs c.lanes r s) wh
 
   -- ---- the right part
 
-  right-counts : inside (lane_loops c) (r / v / p) ≡ map count_of (right_path p v r)
+  right-counts : turns c r (lane_loops c) ≡ map count_of (right_path p v r)
   right-counts = ap (inside (lane_loops c)) rows-each ∙ insides-are [] three
 
-  shared-is : shared c (r / v) (lane_loops c) ≡ joined (scaled rows q) j
+  shared-is : shared c r (lane_loops c) ≡ joined (scaled rows q) j
   shared-is = ap (λ n. joined (scaled n q) (turn_of (lane_loops c) n)) rows-each
 
   pub packed-natural : (cs : ℕ → ℕ) (e : Sum) → packed c r s cs e ≡ place_sum (right_path p v r) s 0 e
@@ -107,7 +107,7 @@ module _ (c : Request) (r s : ℕ) (h : AreShares c.size c.procs c.lanes r s) wh
   pub columns-each : s / v / p ≡ columns
   columns-each = turns-each p v columns h.lanes h.procs s h.columns
 
-  left-counts : inside (lane_loops c) (s / v / p) ≡ map count_of (left_path p v s)
+  left-counts : turns c s (lane_loops c) ≡ map count_of (left_path p v s)
   left-counts = ap (inside (lane_loops c)) columns-each ∙ insides-are [] (Blocks p ∷ Columns v ∷ Columns columns ∷ [])
 
   pub left_around : (factors : Factors) →

@@ -41,7 +41,7 @@ use Rattle.generate.specs.Emission.Passes.{Factors, Pass, none, passes}
 use Rattle.generate.specs.Emission.Root.{left_root, right_root, root_phases, strided, tiles_after, tiles_before}
 use Rattle.generate.specs.Emission.Whole.{closing_factors, emission, phases_of, whole_site}
 use Rattle.generate.specs.Letters.{program_for}
-use Rattle.generate.proofs.Emission.Closed.{closed-phases, closed_tree, closing, firsts, phases-in}
+use Rattle.generate.proofs.Emission.Closed.{closed-phases, closed_tree, closing, closing-is, factors_by, firsts, phases-in}
 use Rattle.generate.proofs.Emission.Layouts.{layout_emitted, passes_of_layout, tree_works}
 use Rattle.generate.proofs.Emission.Left.{IsPart, left_nest}
 use Rattle.generate.proofs.Emission.Lists.{AllPasses, factors-passes, free-passes, nests_as}
@@ -102,7 +102,7 @@ module _ (c : Request) (r s : ℕ) (h : AreShares c.size c.procs c.lanes r s) (a
   abbrev lefts : List PlainPass
   lefts = map (left_pass c.procs c.lanes r s) alone
 
-  left-closed : (o : Option ℕ) → closing o (nests lefts) ≡ emitted (qs (closing_factors o))
+  left-closed : (o : Option ℕ) → closing o (nests lefts) ≡ emitted (qs (factors_by o))
   left-closed None =
       maps-passes (left_pass c.procs c.lanes r s) alone
       ∙ free-passes outer d (strided c s) (left_pass c.procs c.lanes r s) (IsPart c r s h c.modulus)
@@ -111,11 +111,11 @@ module _ (c : Request) (r s : ℕ) (h : AreShares c.size c.procs c.lanes r s) (a
   left-closed (Some v) =
       ap (closing (Some v)) (maps-passes (left_pass c.procs c.lanes r s) alone)
       ∙ factors-passes outer d (strided c s) (left_pass c.procs c.lanes r s) (IsPart c r s h c.modulus)
-      (λ z q part is. left_nest c r s h c.modulus z part q is) r (left_root c s (closing_factors (Some v)))
+      (λ z q part is. left_nest c r s h c.modulus z part q is) r (left_root c s (factors_by (Some v)))
       (λ cs e. refl)
       (repeated v 1) (λ counts k. constant 0) firsts (λ counts w own. refl)
-      (λ cs stored own es step. maps-twice (λ _. constant 0) stored es) alone (qs (closing_factors (Some v))) all
-      (matches (closing_factors (Some v)))
+      (λ cs stored own es step. maps-twice (λ _. constant 0) stored es) alone (qs (factors_by (Some v))) all
+      (matches (factors_by (Some v)))
 
 -- ---- lists of which the last is changed
 
@@ -185,8 +185,8 @@ module _ (c : Request) (o : Option ℕ) where
       HasWorks IsNodeWork a → nests right ≡ emitted first →
       closed-phases o (map nests (pass_phases c.procs right (left_passes c.procs c.lanes (layout_size b) a)))
       ≡ map emitted (if c.procs == 1 then
-      (first ++ layout_emitted (left_root c (layout_size b) (closing_factors o)) a) ∷ [] else first ∷ layout_emitted
-      (left_root c (layout_size b) (closing_factors o)) a ∷ [])
+      (first ++ layout_emitted (left_root c (layout_size b) (factors_by o)) a) ∷ [] else first ∷ layout_emitted
+      (left_root c (layout_size b) (factors_by o)) a ∷ [])
   both rule root a b right first dealt good works is =
       let r = layout_size a in
       let s = layout_size b in
@@ -196,11 +196,11 @@ module _ (c : Request) (o : Option ℕ) where
       ∙ closed-parts one o (nests right) (nests left)
       (some-nests left (some-map (left_pass c.procs c.lanes r s) (layout_passes [] [] a) (full_passes [] [] a)))
       ∙ ap₂ (phases-of one) is (left-closed c r s dealt a good works refl o)
-      ∙ sym (emitted-phases one first (layout_emitted (left_root c s (closing_factors o)) a))
+      ∙ sym (emitted-phases one first (layout_emitted (left_root c s (factors_by o)) a))
 
   root-closed : (l : Layout) → CanShareLayout (target_of c) l → IsGoodLayout c.modulus l → HasWorks IsNodeWork l →
       is_alone (target_of c) ≡ false →
-      closed-phases o (map nests (root_passes (target_of c) l)) ≡ map emitted (root_emitted c (closing_factors o) l)
+      closed-phases o (map nests (root_passes (target_of c) l)) ≡ map emitted (root_emitted c (factors_by o) l)
   root-closed (work w) can good works shared = absurd (can.root shared)
   root-closed (by Gt root a b) can good works shared = absurd (can.root shared)
   root-closed (by Ct root a b) can good works shared =
@@ -297,7 +297,7 @@ module _ (c : Request) (t : Breakdown) (valid : IsValid c) (tree : IsWholeTree c
   l = layout_of (forward_of c) t
 
   abbrev factors : Factors
-  factors = closing_factors (factor_by c.kind c)
+  factors = closing_factors c.kind c
 
   can : CanLower (target_of c) (whole_of c t)
   can = trees_can_lower c t valid tree
@@ -317,10 +317,11 @@ module _ (c : Request) (t : Breakdown) (valid : IsValid c) (tree : IsWholeTree c
       ∙ ap (phases-in c)
       (root-closed c (factor_by c.kind c) l can.shares can.good.layout
       (tree_works (forward_of c) t) shared
+      ∙ ap (λ f. map emitted (root_emitted c f l)) (sym (closing-is c.kind c))
       ∙ ap (map emitted) (sym (root-forward c factors l c.kind))
       ∙ sym (emitted-tree (forward_of c) factors t forward_size forward_shared))
       ∙ ap (λ b. phases-in c
       (map emitted (if b then passes (forward_of c) (whole_site factors) t ∷ [] else root_phases
       (forward_of c) factors t))) (sym forward_shared))
       ∙ programs-by-passes c (phases_of (forward_of c) factors t)
-      (plain-phases (forward_of c) factors t (plain-closing (factor_by c.kind c)))
+      (plain-phases (forward_of c) factors t (plain-closing c.kind c))

@@ -25,9 +25,9 @@ use Rattle.sigma_spl.specs.Nest as nests
 use Rattle.sigma_spl.specs.Work as works
 use Rattle.operators.specs.declared.tensor_paths.Tensor.TheVariants.{Blocks}
 use Rattle.operators.specs.TensorPaths.Path.{Path, count_of, size_under}
-use Rattle.generate.specs.Emission.Passes.{Factors, Pass, entries, none, tile, twiddles}
+use Rattle.generate.specs.Emission.Passes.{Factors, Pass, entries, none, site_by, tile, twiddles}
 use Rattle.generate.specs.Emission.Places.{PlaceFunction, inside, turn_of}
-use Rattle.generate.specs.Emission.Root.{across, along, processor_loops, shared, tile_turns}
+use Rattle.generate.specs.Emission.Root.{across, along, processor_loops, tile_column, tile_row, turns}
 use Rattle.generate.proofs.Emission.Nested.{bounds, emitted_nest, nest_at}
 use Rattle.generate.proofs.Emission.Root.{rows-each}
 use Rattle.generate.proofs.Emission.RootPlaces.{insides-are, natural-turns, spread-out, turns-are}
@@ -133,7 +133,7 @@ module _ (c : Request) (r s : ℕ) (h : AreShares c.size c.procs c.lanes r s) wh
 
   -- where emission's rows and columns stand
   at-row : (f : ℕ → Sum → Sum → Sum) →
-      f s (shared c (r / v) (processor_loops c)) (turn_of (tile_turns c r) t) ≡ f (v * t) (joined (scaled rows q) g) i
+      f s (tile_row c r) (tile_column c r s) ≡ f (v * t) (joined (scaled rows q) g) i
   at-row f =
       ap (λ n. f s (joined (scaled n q) (turn_of (processor_loops c) n)) (turn_of (inside (processor_loops c) n) t))
       each-row
@@ -166,7 +166,7 @@ module _ (c : Request) (r s : ℕ) (h : AreShares c.size c.procs c.lanes r s) wh
       tile_whole : size_under three (v * v) ≡ c.size
       tile_whole = let all = tiles_product c.size p v r s h in omega (arith, all)
 
-  tile-counts : inside (tile_turns c r) t ≡ map count_of (tile_path p v r s)
+  tile-counts : inside (turns c r (processor_loops c)) t ≡ map count_of (tile_path p v r s)
   tile-counts = ap (λ n. inside (inside (processor_loops c) n) t) each-row ∙ insides-are [] three
 
   -- ---- nests
@@ -177,7 +177,7 @@ module _ (c : Request) (r s : ℕ) (h : AreShares c.size c.procs c.lanes r s) wh
 
   abbrev pub emitted-tile : PlaceFunction → Factors → PlaceFunction → Pass
   emitted-tile load factors store =
-      record { counts = inside (tile_turns c r) t; work = tile v; load = load; factors = factors; store = store }
+      record { site = site_by (inside (turns c r (processor_loops c)) t) load factors store; work = tile v }
 
   -- functions lead to these places, vector by vector
   abbrev pub LeadTo : List Mapping → PlaceFunction → Type 0

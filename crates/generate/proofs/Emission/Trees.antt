@@ -21,11 +21,11 @@ use Rattle.operators.specs.TensorPaths.Path.{Path, count_of, size_under}
 use Rattle.operators.proofs.TensorPaths.Under.{size_under-push}
 use Rattle.tree_model.specs.declared.tree.Rule.{Rule}
 use Rattle.tree_model.specs.declared.tree.Rule.TheVariants.{Gt, Ct, Split, Dim}
-use Rattle.generate.specs.Emission.Passes.{Factors, Pass, Site, entries, left_site, moved, none, number, pass_at, right_site}
+use Rattle.generate.specs.Emission.Passes.{Factors, Pass, Site, entries, left_site, moved, none, number, right_site}
 use Rattle.generate.specs.Emission.Places.{PlaceFunction, after, blocks, columns, inside, left_out, right_in, same, turn_of}
 use Rattle.generate.proofs.Emission.Layouts.{layout_emitted, named, named-plain}
 use Rattle.generate.proofs.Emission.Matches.{Always, ArePasses, AreSame, IsAround, IsLast, IsSame, HasDiagonal, at_last-none, last-other, last-same, natural, passes-append}
-use Rattle.generate.proofs.Emission.Nested.{plain_work}
+use Rattle.generate.proofs.Emission.Nested.{pass_at, plain_work}
 use Rattle.generate.proofs.Emission.Nests.{IsNodeWork}
 use Rattle.generate.proofs.Emission.Steps.{at-tensor, loaded_by, stored_back}
 
@@ -112,7 +112,8 @@ module _ (outer : List ℕ) (d : ℕ) (whole : PlaceFunction) (long : length out
   stored-natural : (size : ℕ) (rule : Rule) (path : Path) (r s root : ℕ) (waiting : List Mapping) (o : Site)
       (p : PlainPass) (q : Pass) → IsRuleIn size rule path r s → IsAround outer d whole path waiting (r * s) o →
       IsLast outer d whole (path ++ Blocks r ∷ []) s (right_site rule r s root o) p q →
-      Always outer d whole p (λ cs e. q.store cs e ≡ whole cs (all_simplified cs p.afters (natural outer d whole p e)))
+      Always outer d whole p
+      (λ cs e. q.site.store cs e ≡ whole cs (all_simplified cs p.afters (natural outer d whole p e)))
   stored-natural size rule path r s root waiting o p q h around last cs e counts fits =
       last.store cs e
       ∙ (right_around size rule path r s root waiting o h around).keep cs (last.own cs e)

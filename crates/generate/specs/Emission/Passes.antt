@@ -57,14 +57,6 @@ twiddled rule r s root place = none
 
 -- ---- passes
 
--- a pass inside of loops: its work, and where it loads and stores the work's own places
-pub record Pass : Type 0 where
-  pub counts : List ℕ
-  pub work : Work
-  pub load : PlaceFunction
-  pub factors : Factors
-  pub store : PlaceFunction
-
 -- a node inside of loops: where its first pass loads, where its passes keep words between them, and where and by what
 -- factors its last pass stores
 pub record Site : Type 0 where
@@ -74,17 +66,22 @@ pub record Site : Type 0 where
   pub factors : Factors
   pub store : PlaceFunction
 
-abbrev pub pass_at : Site → Work → Pass
-pass_at o w = record { counts = o.counts; work = w; load = o.load; factors = o.factors; store = o.store }
+-- a pass: its work, at the site of the work's own places
+pub record Pass : Type 0 where
+  pub site : Site
+  pub work : Work
+
+-- a node that keeps words where it stores them
+abbrev pub site_by : List ℕ → PlaceFunction → Factors → PlaceFunction → Site
+site_by counts load factors at =
+    record { counts = counts; load = load; keep = at; factors = factors; store = at }
 
 -- the right part's turns
 abbrev pub right_site : Rule → ℕ → ℕ → ℕ → Site → Site
 right_site rule r s root o =
     let i = turn_of o.counts r in
     let load = after o.load (right_in rule r s i) in
-    let keep = after o.keep (blocks s i) in
-    let factors = twiddled rule r s root (blocks s i) in
-    record { counts = inside o.counts r; load = load; keep = keep; factors = factors; store = keep }
+    site_by (inside o.counts r) load (twiddled rule r s root (blocks s i)) (after o.keep (blocks s i))
 
 -- the left part's turns
 abbrev pub left_site : Rule → ℕ → ℕ → Site → Site
@@ -96,8 +93,8 @@ left_site rule r s o =
 
 -- one of a kernel or a leaf; else those of the right part, and then those of the left part
 abbrev pub passes : Request → Site → Breakdown → List Pass
-passes c o (leaf d) = pass_at o (node_work c (leaf d)) ∷ []
+passes c o (leaf d) = record { site = o; work = node_work c (leaf d) } ∷ []
 passes c o (node rule a b) =
-    if is_kernel c (size_of a * size_of b) then pass_at o (node_work c (node rule a b)) ∷ []
+    if is_kernel c (size_of a * size_of b) then record { site = o; work = node_work c (node rule a b) } ∷ []
     else passes (right_of rule c) (right_site rule (size_of a) (size_of b) (node_root c (size_of a * size_of b)) o) b
     ++ passes (left_of rule c) (left_site rule (size_of a) (size_of b) o) a

@@ -1,7 +1,6 @@
 -- The program of passes, which follow one another phase by phase.
 use Rattle.std.specs.Prelude.{ℕ, ◌+◌, ◌-◌, ◌%◌, ◌==◌, if◌then◌else◌, List, [], ◌∷◌, ◌++◌, length, map, max}
 use Rattle.std.specs.List.{flat_map, fold}
-use Rattle.code_gen.specs.PassCode.Statements.{with_table}
 use Rattle.icode.specs.Plain.{PlainBody, PlainProgram, PlainStmt, body_of}
 use Rattle.icode.specs.declared.program.Array.{Array}
 use Rattle.icode.specs.declared.program.Array.TheVariants.{X, Y, A, B}
@@ -9,22 +8,9 @@ use Rattle.kernel_gen.specs.Kernel.{trees_kernel}
 use Rattle.matrix_meaning.specs.declared.Request.{Request}
 use Rattle.tree_model.specs.Trees.{trees_size}
 use Rattle.tree_model.specs.Whole.{rooted_of}
-use Rattle.generate.specs.Emission.Bodies.{Setting, pass_code, powers_of, table_of}
-use Rattle.generate.specs.Emission.Passes.{Factors, Pass, Work, entries, kernel, none, rows, tile}
-
--- ---- tables
-
-abbrev pub powers_in : ℕ → Work → List (List ℕ)
-powers_in m (rows root size) = powers_of m root size ∷ []
-powers_in m w = []
-
-abbrev pub entries_in : ℕ → Factors → List (List ℕ)
-entries_in m (entries diagonal place) = table_of m diagonal ∷ []
-entries_in m factors = []
-
--- the tables of a pass: its powers before its diagonal
-abbrev pub tables_in : ℕ → Pass → List (List ℕ)
-tables_in m p = powers_in m p.work ++ entries_in m p.factors
+use Rattle.generate.specs.Emission.Bodies.{Setting, pass_code}
+use Rattle.generate.specs.Emission.Passes.{Factors, Pass, Work, kernel, none, rows, tile}
+use Rattle.generate.specs.Emission.Tables.{added, tables_in}
 
 -- ---- registers
 
@@ -51,31 +37,28 @@ read n t = if t == 0 then X else written n (t - 1)
 
 -- ---- phases, where the first pass is the number t of n, and the program has these tables
 
-abbrev pub setting : Request → List (List ℕ) → ℕ → ℕ → Pass → Setting
-setting c tables n t p =
-    record { request = c; pass = p; source = read n t; target = written n t; tables = tables }
-
 abbrev pub phase_code : Request → List (List ℕ) → ℕ → ℕ → List Pass → List PlainStmt
 phase_code c tables n t [] = []
-phase_code c tables n t (p ∷ ps) = pass_code (setting c tables n t p) ++ phase_code c tables n (t + 1) ps
+phase_code c tables n t (p ∷ ps) =
+    let o : Setting = record { request = c; tables = tables; pass = p; source = read n t; target = written n t } in
+    pass_code o ++ phase_code c tables n (t + 1) ps
 
 abbrev pub phases_code : Request → List (List ℕ) → ℕ → ℕ → List (List Pass) → List PlainBody
 phases_code c tables n t [] = []
 phases_code c tables n t (ps ∷ phases) =
     body_of (phase_code c tables n t ps) ∷ phases_code c tables n (t + length ps) phases
 
--- a table is kept once, with the number of its first use
 abbrev pub program_in : Request → List (List Pass) → PlainProgram
 program_in c phases =
     let all = flat_map (λ ps. ps) phases in
-    let tables = fold with_table [] (flat_map (tables_in c.modulus) all) in
+    let tables = fold added [] (flat_map (tables_in c.modulus) all) in
     record {
       size = c.size;
       modulus = c.modulus;
       procs = c.procs;
       line = c.line;
       lanes = c.lanes;
-      regs = fold max 0 (map (λ p. registers c.modulus p.factors p.work) all);
+      regs = fold max 0 (map (λ p. registers c.modulus p.site.factors p.work) all);
       tables = tables;
       phases = phases_code c tables (length all) 0 phases;
     }

@@ -7,8 +7,8 @@ use Rattle.tree_model.specs.Cost.{node_root}
 use Rattle.tree_model.specs.Whole.{left_of, right_of}
 use Rattle.tree_model.specs.declared.tree.Rule.{Rule}
 use Rattle.tree_model.specs.declared.tree.Rule.TheVariants.{Ct}
-use Rattle.generate.specs.Emission.Passes.{Factors, Pass, Site, moved, none, passes, tile, twiddled}
-use Rattle.generate.specs.Emission.Places.{PlaceFunction, inside, turn_of}
+use Rattle.generate.specs.Emission.Passes.{Factors, Pass, Site, moved, none, passes, site_by, tile, twiddled}
+use Rattle.generate.specs.Emission.Places.{PlaceFunction, after, blocks, columns, inside, turn_of}
 
 -- ---- processors and lanes are the outermost loops
 
@@ -18,71 +18,66 @@ processor_loops c = inside [] c.procs
 abbrev pub lane_loops : Request → List ℕ
 lane_loops c = inside (processor_loops c) c.lanes
 
-abbrev pub lane_of : Request → Sum
-lane_of c = turn_of (processor_loops c) c.lanes
+-- n turns, as many at a time as there are lanes: each processor takes so many, one after the other
+abbrev pub share : Request → ℕ → ℕ
+share c n = n / c.lanes / c.procs
 
--- a loop of n turns inside of these: each processor takes equally many turns, one after the other
+-- the loops with that of the turns inside of these, and which turn it is
+abbrev pub turns : Request → ℕ → List ℕ → List ℕ
+turns c n counts = inside counts (share c n)
+
 abbrev pub shared : Request → ℕ → List ℕ → Sum
-shared c n counts = joined (scaled (n / c.procs) (turn_of [] c.procs)) (turn_of counts (n / c.procs))
+shared c n counts = joined (scaled (share c n) (turn_of [] c.procs)) (turn_of counts (share c n))
 
--- where a turn of several lanes stands: i*v + lane
-abbrev pub turn_in_lanes : Request → ℕ → Sum
-turn_in_lanes c n = joined (scaled c.lanes (shared c (n / c.lanes) (lane_loops c))) (lane_of c)
+-- a word of the vector number i: i*v + lane
+abbrev pub in_lanes : Request → Sum → Sum
+in_lanes c i = joined (scaled c.lanes i) (turn_of (processor_loops c) c.lanes)
 
 -- ---- the right part: (i*s + k)*v + lane
 
 abbrev pub packed : Request → ℕ → ℕ → PlaceFunction
-packed c r s =
-    λ counts k. joined (scaled c.lanes (joined (scaled s (shared c (r / c.lanes) (lane_loops c))) k)) (lane_of c)
+packed c r s counts k = in_lanes c (blocks s (shared c r (lane_loops c)) counts k)
 
 -- a ct's loads by strides; the others' after tiles
 abbrev pub root_in : Rule → Request → ℕ → ℕ → PlaceFunction
-root_in Ct c r s = λ counts k. joined (scaled r k) (turn_in_lanes c r)
+root_in Ct c r s = columns r (in_lanes c (shared c r (lane_loops c)))
 root_in rule c r s = packed c r s
 
 -- with lanes the twiddles come with the tiles
 abbrev pub right_root : Rule → Request → ℕ → ℕ → ℕ → Site
 right_root rule c r s root =
-    let counts = inside (lane_loops c) (r / c.lanes / c.procs) in
-    let keep = packed c r s in
-    let factors = if c.lanes == 1 then twiddled rule r s root keep else none in
-    record { counts = counts; load = root_in rule c r s; keep = keep; factors = factors; store = keep }
+    let factors = if c.lanes == 1 then twiddled rule r s root (packed c r s) else none in
+    site_by (turns c r (lane_loops c)) (root_in rule c r s) factors (packed c r s)
 
 -- ---- the left part: k*s + j*v + lane
 
 abbrev pub strided : Request → ℕ → PlaceFunction
-strided c s = λ counts k. joined (scaled s k) (turn_in_lanes c s)
+strided c s = columns s (in_lanes c (shared c s (lane_loops c)))
 
 abbrev pub left_root : Request → ℕ → Factors → Site
-left_root c s factors =
-    let counts = inside (lane_loops c) (s / c.lanes / c.procs) in
-    let at = strided c s in
-    record { counts = counts; load = at; keep = at; factors = moved factors at; store = at }
+left_root c s factors = site_by (turns c s (lane_loops c)) (strided c s) (moved factors (strided c s)) (strided c s)
 
 -- ---- tiles: vectors along the right part's turns, and across them
 
-abbrev pub tile_turns : Request → ℕ → List ℕ
-tile_turns c r = inside (processor_loops c) (r / c.lanes / c.procs)
+-- which row of tiles it is, where a row takes as many of the right part's turns as there are lanes, and which tile of it
+abbrev pub tile_row : Request → ℕ → Sum
+tile_row c r = shared c r (processor_loops c)
+
+abbrev pub tile_column : Request → ℕ → ℕ → Sum
+tile_column c r s = turn_of (turns c r (processor_loops c)) (s / c.lanes)
 
 -- (i*s + j*v + k)*v
 abbrev pub along : Request → ℕ → ℕ → PlaceFunction
-along c r s =
-    let i = shared c (r / c.lanes) (processor_loops c) in
-    let j = turn_of (tile_turns c r) (s / c.lanes) in
-    λ counts k. scaled c.lanes (joined (scaled s i) (joined (scaled c.lanes j) k))
+along c r s counts k = scaled c.lanes (blocks s (tile_row c r) counts (blocks c.lanes (tile_column c r s) counts k))
 
 -- (i*v + k)*s + j*v
 abbrev pub across : Request → ℕ → ℕ → PlaceFunction
-across c r s =
-    let i = shared c (r / c.lanes) (processor_loops c) in
-    let j = turn_of (tile_turns c r) (s / c.lanes) in
-    λ counts k. joined (scaled s (joined (scaled c.lanes i) k)) (scaled c.lanes j)
+across c r s = after (columns s (scaled c.lanes (tile_column c r s))) (blocks c.lanes (tile_row c r))
 
 abbrev pub tiles : Request → ℕ → ℕ → PlaceFunction → Factors → PlaceFunction → List Pass
 tiles c r s load factors store =
-    let counts = inside (tile_turns c r) (s / c.lanes) in
-    if c.lanes == 1 then []
-    else record { counts = counts; work = tile c.lanes; load = load; factors = factors; store = store } ∷ []
+    let site = site_by (inside (turns c r (processor_loops c)) (s / c.lanes)) load factors store in
+    if c.lanes == 1 then [] else record { site = site; work = tile c.lanes } ∷ []
 
 -- a ct takes its columns without tiles
 abbrev pub tiles_before : Rule → Request → ℕ → ℕ → List Pass

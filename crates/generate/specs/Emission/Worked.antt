@@ -1,6 +1,6 @@
 -- Programs by the rules of emission, written out: the texts of the specification, and one for each other rule.
-use Rattle.std.specs.Prelude.{◌≡◌, ℕ, List, [], ◌∷◌}
-use Rattle.icode.specs.Plain.{PlainExpr, PlainPart, PlainProgram, Loop, Do, Load, Store, Zero, Add, Sub, MulConst, MulTable, Tile, Sum, Proc, Var, Product, Rem, body_of, parts_of}
+use Rattle.std.specs.Prelude.{◌≡◌, ℕ, [], ◌∷◌}
+use Rattle.icode.specs.Plain.{PlainProgram, Loop, Do, Load, Store, Zero, Add, Sub, MulConst, MulTable, Tile, Proc, Var, Product, Rem, body_of}
 use Rattle.icode.specs.declared.program.Array.TheVariants.{X, Y, A, B}
 use Rattle.matrix_meaning.specs.declared.Dimension.{Dimension}
 use Rattle.matrix_meaning.specs.declared.Dimensions.TheVariants.{One, Two}
@@ -9,10 +9,8 @@ use Rattle.matrix_meaning.specs.declared.Kind.TheVariants.{Dft, Wht, Idft}
 use Rattle.matrix_meaning.specs.declared.Request.{Request}
 use Rattle.tree_model.specs.Breakdown.{leaf, node}
 use Rattle.tree_model.specs.declared.tree.Rule.TheVariants.{Gt, Ct, Split, Dim}
+use Rattle.generate.specs.Emission.Bodies.{at}
 use Rattle.generate.specs.Emission.Whole.{emission}
-
-abbrev pub at : ℕ → List PlainPart → PlainExpr
-at c parts = Sum c (parts_of parts)
 
 -- a request with straight-line code up to this size
 abbrev pub request : Kind → ℕ → ℕ → ℕ → ℕ → Request
