@@ -35,7 +35,6 @@ same_code m f g p regrouped same code = record {
     line = code.header.line;
     lanes = code.header.lanes;
   };
-  limits = code.limits;
   fits = code.fits;
   phases = code.phases;
   apart = code.apart;
