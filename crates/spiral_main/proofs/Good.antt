@@ -19,6 +19,7 @@ use Rattle.commands.proofs.FormulaCommands.Shaped.{written_few, written_shaped}
 use Rattle.commands.proofs.GoodPrograms.{conv_programs_convolve, programs_are_good}
 use Rattle.icode.specs.Plain.{PlainProgram}
 use Rattle.listing_text.specs.Listing.{listing_of}
+use Rattle.request_text.proofs.Judged.{conv_in_range}
 use Rattle.request_text.specs.Schedule.{Plan as Turns}
 use Rattle.request_text.specs.Turns.{named}
 use Rattle.runs.specs.Stream.{data_answer}
@@ -38,13 +39,16 @@ use Rattle.spiral_main.specs.Outcome.{IsOutcome}
 use Rattle.spiral_main.specs.RightFront.{IsRightConvLine, IsRightFormulaLine, IsRightLine}
 use Rattle.spiral_main.proofs.Calls.{one_text}
 use Rattle.spiral_main.proofs.RightFront.{front_answer, listing_is_right, orders_conv_plan, orders_plan, text_is_right}
+use Rattle.spiral_main.proofs.RightLines.{spelt_in_range}
 
 -- ---- by a request
 
 -- the program of a right line's tree is good and lean
 known : (names bytes : List ℕ) (plan : Planned) → IsRightLine names bytes plan
     → IsLeanFor plan (emission plan.request plan.tree)
-known names bytes plan right = programs_are_good plan.request plan.tree right.spells.1 right.planned
+known names bytes plan right =
+    programs_are_good plan.request plan.tree (spelt_in_range ((line 256).first bytes) plan.request right.spells)
+    right.planned
 
 -- P is among what is known of a lean program
 abbrev pub Keeps : (Planned → PlainProgram → Type 0) → Type 0
@@ -127,7 +131,8 @@ good_convolver schedule words options bytes status text plan found scheduled lis
     (orders_conv_plan (named schedule) bytes plan right) (refl, is_first_listing plan vectors) in
     let asked : IsAsked words (command.ByList schedule true) =
     (codes "convolve", options, found, (refl, scheduled, listed)) in
-    shows_convolver plan vectors text right.spells.1 right.planned
+    shows_convolver plan vectors text
+    (conv_in_range ((line 256).first bytes) plan.request right.spells.0 right.spells.1) right.planned
     (one_text words bytes status ends text whole p (inr (command.ByList schedule true, asked, own)))
 
 -- ---- by a formula
