@@ -16,7 +16,7 @@ IsApplyText m formula vectors text = text ≡ lines (formulas.apply m formula) v
 
 abbrev pub apply_answer : ℕ → Turns → Answer
 apply_answer m schedule = answered (line 65536) (formed (named schedule))
-    (λ (formula : Formula). mapped all (size_of formula) m (IsApplyText m formula))
+    (λ (formula : Formula). mapped (size_of formula) m (IsApplyText m formula))
 
 abbrev pub apply_work : ℕ → Formula → Work
 apply_work m formula = mapping all (size_of formula) m (IsApplyText m formula)

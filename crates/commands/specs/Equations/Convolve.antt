@@ -10,7 +10,7 @@ use Rattle.commands.specs.SpiralInput.Outcomes.{Outcomes}
 use Rattle.commands.specs.Equations.Convolutions.{conv_planned}
 use Rattle.commands.specs.Equations.Front.{Answer, Work, line, answered, by_front}
 use Rattle.commands.specs.Equations.Orders.{Planned}
-use Rattle.commands.specs.Equations.Works.{a_first, the_first, by_first, mapped, mapping}
+use Rattle.commands.specs.Equations.Works.{a_first, the_first, by_first, mapped_by, mapping}
 
 -- the first vector is h. A line for each later one, of its convolution with h
 abbrev pub IsConvolveText : Planned → List (List ℕ) → List ℕ → Type 0
@@ -19,7 +19,7 @@ IsConvolveText plan =
 
 abbrev pub convolve_answer : Turns → Answer
 convolve_answer schedule = answered (line 256) (conv_planned (named schedule))
-    (λ (plan : Planned). mapped a_first plan.request.size plan.request.modulus (IsConvolveText plan))
+    (λ (plan : Planned). mapped_by a_first plan.request.size plan.request.modulus (IsConvolveText plan))
 
 abbrev pub convolve_work : Planned → Work
 convolve_work plan = mapping a_first plan.request.size plan.request.modulus (IsConvolveText plan)
@@ -33,7 +33,7 @@ IsConvolverText plan = by_first (λ h later text. text ≡ listing_of (conv_emis
 
 abbrev pub convolver_answer : Turns → Answer
 convolver_answer schedule = answered (line 256) (conv_planned (named schedule))
-    (λ (plan : Planned). mapped the_first plan.request.size plan.request.modulus (IsConvolverText plan))
+    (λ (plan : Planned). mapped_by the_first plan.request.size plan.request.modulus (IsConvolverText plan))
 
 abbrev pub convolver_work : Planned → Work
 convolver_work plan = mapping the_first plan.request.size plan.request.modulus (IsConvolverText plan)

@@ -14,7 +14,7 @@ IsExecText program vectors text = text ≡ lines (result_of program) vectors
 
 abbrev pub exec_answer : Turns → Answer
 exec_answer schedule = answered (part 1048576) (loaded schedule)
-    (λ (program : PlainProgram). mapped all program.size program.modulus (IsExecText program))
+    (λ (program : PlainProgram). mapped program.size program.modulus (IsExecText program))
 
 abbrev pub exec_work : PlainProgram → Work
 exec_work program = mapping all program.size program.modulus (IsExecText program)

@@ -30,7 +30,7 @@ IsRunText request vectors text = text ≡ lines (asked_of request) vectors
 -- no tree bears on it but by its cost
 abbrev pub run_answer : Order → Answer
 run_answer order = answered (line 256) (λ text. spelt_for (procs_in order) text >>= affordable)
-    (λ (request : Request). mapped all request.size request.modulus (IsRunText request))
+    (λ (request : Request). mapped request.size request.modulus (IsRunText request))
 
 abbrev pub run_work : Planned → Work
 run_work plan = mapping all plan.request.size plan.request.modulus (IsRunText plan.request)

@@ -24,7 +24,7 @@ IsTraceText order plan vectors text =
 
 abbrev pub trace_answer : Order → Answer
 trace_answer order = answered (line 256) (planned (procs_in order))
-    (λ (plan : Planned). mapped all plan.request.size plan.request.modulus (IsTraceText order plan))
+    (λ (plan : Planned). mapped plan.request.size plan.request.modulus (IsTraceText order plan))
 
 abbrev pub trace_work : Order → Planned → Work
 trace_work order plan = mapping all plan.request.size plan.request.modulus (IsTraceText order plan)

@@ -27,6 +27,11 @@ writing IsText room = record {
 
 -- It goes over the data
 
+-- a text for the vectors of the data, and the status by how they end
+abbrev pub mapped : (size modulus : ℕ) → (List (List ℕ) → List ℕ → Type 0) → ℕ → Answer
+mapped size modulus IsText room bytes status text =
+    (status ≡ status_of_stream (data_answer size room bytes)) × IsText (data_vectors size modulus room bytes) text
+
 -- which vectors it wants: all, all and one at least, or the first alone
 pub data Wants : Type 0 where
   all a_first the_first : Wants
@@ -39,9 +44,9 @@ status_by a_first size answer (x ∷ later) = status_of_stream answer
 status_by the_first size answer [] = status_of_fault (lacking size answer)
 status_by the_first size answer (x ∷ later) = Success
 
--- a text for the vectors of the data, and the status by how they end
-abbrev pub mapped : Wants → (size modulus : ℕ) → (List (List ℕ) → List ℕ → Type 0) → ℕ → Answer
-mapped wants size modulus IsText room bytes status text = let vectors = data_vectors size modulus room bytes in
+-- the same by what it wants
+abbrev pub mapped_by : Wants → (size modulus : ℕ) → (List (List ℕ) → List ℕ → Type 0) → ℕ → Answer
+mapped_by wants size modulus IsText room bytes status text = let vectors = data_vectors size modulus room bytes in
     (status ≡ status_by wants size (data_answer size room bytes) vectors) × IsText vectors text
 
 -- it reads on behind these vectors
@@ -52,7 +57,7 @@ ReadsOn _ vectors = Unit {0}
 -- By a failed read or write, the last token counts only where nothing is left with which it may go on
 abbrev pub mapping : Wants → (size modulus : ℕ) → (List (List ℕ) → List ℕ → Type 0) → Work
 mapping wants size modulus IsText room = record {
-  answer = mapped wants size modulus IsText room;
+  answer = mapped_by wants size modulus IsText room;
   broken = λ read ended text. IsFine room read × ReadsOn wants (vectors_of size modulus (tokens (closed_part read)))
       × IsText (vectors_of size modulus (tokens (closed_part read))) text;
   cut = λ read left text. IsFine room read × ((closed_part read ≡ read) ⊎ (left ≡ []))
