@@ -6,7 +6,7 @@ use Rattle.std.proofs.lemmas.List.Elements.{All-head, All-tail}
 use Rattle.matrix_meaning.specs.declared.Kind.{Kind}
 use Rattle.matrix_meaning.specs.declared.Kind.TheVariants.{Dft, Wht, Idft}
 use Rattle.matrix_meaning.specs.declared.Request.{Request}
-use Rattle.matrix_meaning.specs.Parts.{forward_of}
+use Rattle.matrix_meaning.specs.Parts.{forward_by, forward_of}
 use Rattle.matrix_meaning.specs.Valid.{IsValid}
 use Rattle.operators.specs.declared.target.Target.{Target}
 use Rattle.perm_algebra.specs.Affine.{Sum, constant}
@@ -38,6 +38,7 @@ use Rattle.smp_rewrite.specs.LayoutSteps.Layout.{layout_of}
 use Rattle.smp_rewrite.specs.LayoutSteps.Whole.{factor_by}
 use Rattle.tree_model.specs.Breakdown.{Breakdown}
 use Rattle.tree_model.specs.Chosen.{IsWholeTree}
+use Rattle.tree_model.specs.Cost.{is_plain}
 use Rattle.generate.specs.Emission.Passes.{Factors, none, number}
 use Rattle.generate.specs.Emission.Whole.{closing_factors}
 use Rattle.generate.proofs.Emission.Nests.{multiplying, nests}
@@ -54,6 +55,12 @@ pub closing-is : (kind : Kind) (c : Request) → closing_factors kind c ≡ fact
 closing-is Dft c = refl
 closing-is Wht c = refl
 closing-is Idft c = refl
+
+-- the request whose trees it has is as plain
+pub plain-forward : (c : Request) (kind : Kind) → is_plain (forward_by kind c) ≡ is_plain c
+plain-forward c Dft = refl
+plain-forward c Wht = refl
+plain-forward c Idft = refl
 
 -- all items take one factor
 abbrev pub firsts : List Sum → List Sum

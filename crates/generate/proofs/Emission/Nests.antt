@@ -3,6 +3,7 @@ use Rattle.std.proofs.Common.{◌≡◌, ℕ, ◌+◌, ◌*◌, ◌<◌, arith, 
 use Rattle.std.specs.Prelude.{map}
 use Rattle.std.specs.Option.{option_map}
 use Rattle.std.proofs.lemmas.List.{length-map}
+use Rattle.std.proofs.lemmas.Simd.{map-map}
 use Rattle.index_fn.specs.Mapping.{Mapping}
 use Rattle.perm_algebra.specs.Affine.{Sum}
 use Rattle.sigma_lower.specs.TreeLoops.Merge.{PlainDiagonal, PlainPass}
@@ -32,10 +33,6 @@ map-named : (w : PlainWork) (cs : ℕ → ℕ) (n : ℕ) (f g : Sum → Sum) (es
 map-named w cs n f g [] named step = refl
 map-named w cs n f g (e ∷ es) named step =
     ap₂ (λ x xs. x ∷ xs) (step e named.0.0) (map-named w cs n f g es named.1 step)
-
-pub maps-twice : (f g : Sum → Sum) (es : List Sum) → map f (map g es) ≡ map (λ e. f (g e)) es
-maps-twice f g [] = refl
-maps-twice f g (e ∷ es) = ap (λ xs. f (g e) ∷ xs) (maps-twice f g es)
 
 pub maps-same : (f g : Sum → Sum) (es : List Sum) → ((e : Sum) → f e ≡ g e) → map f es ≡ map g es
 maps-same f g [] step = refl
@@ -105,7 +102,7 @@ module _ (m size : ℕ) (p : PlainPass) (q : Pass) (low : 0 < size) (shape : IsL
       ((e : Sum) → Fits n e cs → g e ≡ all_simplified cs fs (place_sum p.path n 0 e)) →
       places_by (loop_of p) fs es ≡ map g es
   placed-by fs g es named step =
-      maps-twice (all_simplified cs fs) (place_sum p.path n 0) es
+      map-map (all_simplified cs fs) (place_sum p.path n 0) es
       ∙ map-named p.work cs n (λ e. all_simplified cs fs (place_sum p.path n 0 e)) g es named
       (λ e fits. sym (step e fits))
 

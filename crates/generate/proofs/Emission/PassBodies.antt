@@ -3,6 +3,9 @@ use Rattle.std.proofs.Common.{◌≡◌, ℕ, zero, suc, ◌+◌, ◌<◌, refl,
 use Rattle.std.specs.Prelude.{map, drop, slice_index, slice_index_or}
 use Rattle.std.specs.List.{flat_map, range_with_len}
 use Rattle.std.proofs.lemmas.Grind.{flat_map-append}
+use Rattle.std.proofs.lemmas.List.{map-id}
+use Rattle.std.proofs.lemmas.List.Concat.{flat_map_single}
+use Rattle.std.proofs.lemmas.Simd.{map-map}
 use Rattle.std.proofs.lemmas.List.FromFn.{get_or-map-range_with_len, map-range_with_len_more}
 use Rattle.code_gen.specs.PassCode.Expressions.{expr_of}
 use Rattle.code_gen.specs.PassCode.Statements.{do_only, finish_body, followed_by, in_a_row, loads_body, multiplier_number, nest_body, nested, pass_body, place_at, powers_number, straight_body, term_body, tables_of_work, work_body}
@@ -40,13 +43,9 @@ followed-end (AndStmts x xs) = ap (AndStmts x) (followed-end xs)
 range-more : (n : ℕ) → range_with_len 0 (suc n) ≡ range_with_len 0 n ++ n ∷ []
 range-more n =
     ap (range_with_len 0) (let next : suc n ≡ n + 1 = omega arith in next)
-    ∙ sym (ids (range_with_len 0 (n + 1)))
+    ∙ sym (map-id (range_with_len 0 (n + 1)))
     ∙ map-range_with_len_more (λ k. k) 0 n n (omega arith)
-    ∙ ap (λ ks. ks ++ n ∷ []) (ids (range_with_len 0 n))
-  where
-    ids : (ks : List ℕ) → map (λ k. k) ks ≡ ks
-    ids [] = refl
-    ids (k ∷ ks) = ap (λ rest. k ∷ rest) (ids ks)
+    ∙ ap (λ ks. ks ++ n ∷ []) (map-id (range_with_len 0 n))
 
 pub in-a-row : (n : ℕ) (f : ℕ → PlainBody) (g : ℕ → List PlainStmt) → ((k : ℕ) → k < n → f k ≡ body_of (g k)) →
     in_a_row n f ≡ body_of (flat_map g (range_with_len 0 n))
@@ -57,10 +56,6 @@ in-a-row (suc n) f g same =
     ∙ ap (λ xs. body_of (flat_map g (range_with_len 0 n) ++ xs)) (sym (append-nil (g n)))
     ∙ ap body_of (sym (flat_map-append g (range_with_len 0 n) (n ∷ [])))
     ∙ ap (λ ks. body_of (flat_map g ks)) (sym (range-more n))
-
-singles : (g : ℕ → PlainStmt) (ks : List ℕ) → flat_map (λ k. g k ∷ []) ks ≡ map g ks
-singles g [] = refl
-singles g (k ∷ ks) = ap (λ rest. g k ∷ rest) (singles g ks)
 
 pub straight-is : (code : List Instruction) → straight_body code ≡ body_of (map (λ i. Do (op_of i)) code)
 straight-is [] = refl
@@ -75,12 +70,8 @@ nested-is (n ∷ counts) stmts = ap (λ inner. AndStmts (Loop n inner) NoStmts) 
 named : (f : Sum → Sum) (n a k : ℕ) → k < n →
     slice_index_or (map f (map constant (range_with_len a n))) k (constant 0) ≡ f (constant (a + k))
 named f n a k low =
-    ap (λ es. slice_index_or es k (constant 0)) (twice (range_with_len a n))
+    ap (λ es. slice_index_or es k (constant 0)) (map-map f constant (range_with_len a n))
     ∙ get_or-map-range_with_len (λ i. f (constant i)) a n k (a + k) (constant 0) low refl
-  where
-    twice : (ks : List ℕ) → map f (map constant ks) ≡ map (λ i. f (constant i)) ks
-    twice [] = refl
-    twice (i ∷ ks) = ap (λ rest. f (constant i) ∷ rest) (twice ks)
 
 -- ---- the places of a pass
 
@@ -249,7 +240,7 @@ module _ (o : Setting) where
         loads-are =
             in-a-row n (λ k. do_only (Load k o.source (place_at frame (length (loops o)) z.gathers k)))
             (λ k. load o 0 k (constant k) ∷ []) loaded
-            ∙ ap body_of (singles (λ k. load o 0 k (constant k)) (range_with_len 0 n))
+            ∙ ap body_of (flat_map_single (λ k. load o 0 k (constant k)) (range_with_len 0 n))
 
         stores-are : in_a_row n (λ k. finish_body frame step z.multiplier z.scatters (length (loops o)) table o.target k
             (outs k) (next + k)) ≡ body_of stores'

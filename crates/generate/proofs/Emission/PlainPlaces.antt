@@ -20,28 +20,30 @@ use Rattle.generate.proofs.Emission.Nested.{pass_at}
 use Rattle.generate.proofs.Emission.PassBodies.{ArePlainFactors, IsPlainSite, KeepsPlain}
 use Rattle.generate.proofs.Emission.PassPrograms.{ArePlain, ArePlainPhases}
 
--- ---- sums
+-- what holds of both holds of either
+either : {A : Type 0} (P : A → Type 0) (b : Bool) (x y : A) → P x → P y → P (if b then x else y)
+either P true x y h k = h
+either P false x y h k = k
 
-either : (b : Bool) (x y : Sum) → HasNoQuotient x → HasNoQuotient y → HasNoQuotient (if b then x else y)
-either true x y h k = h
-either false x y h k = k
+-- ---- sums
 
 plain-mods : (n : ℕ) (e : Sum) → HasNoQuotient e → HasNoQuotient (mods n e)
 plain-mods n (constant c) h = tt
 plain-mods n (variable f d rest) h =
-    either (f % n == 0) (mods n rest) (variable (f % n) d (mods n rest)) (plain-mods n rest h) (plain-mods n rest h)
+    either HasNoQuotient (f % n == 0) (mods n rest) (variable (f % n) d (mods n rest)) (plain-mods n rest h)
+    (plain-mods n rest h)
 plain-mods n (remainder f of m rest) h =
-    either (f % n == 0) (mods n rest) (remainder (f % n) of m (mods n rest)) (plain-mods n rest h.1)
+    either HasNoQuotient (f % n == 0) (mods n rest) (remainder (f % n) of m (mods n rest)) (plain-mods n rest h.1)
     (h.0, plain-mods n rest h.1)
 plain-mods n (quotient f of m rest) h = absurd h
 
 plain-reduced : (cs : ℕ → ℕ) (n : ℕ) (e : Sum) → HasNoQuotient e → HasNoQuotient (reduced cs n e)
 plain-reduced cs n e h =
-    either (nat_lt (top (mods n e) cs) n) (mods n e) (remainder 1 (mods n e) n (constant 0)) (plain-mods n e h)
-    (plain-mods n e h, tt)
+    either HasNoQuotient (nat_lt (top (mods n e) cs) n) (mods n e) (remainder 1 (mods n e) n (constant 0))
+    (plain-mods n e h) (plain-mods n e h, tt)
 
 plain-turn : (counts : List ℕ) (n : ℕ) → HasNoQuotient (turn_of counts n)
-plain-turn counts n = either (n == 1) (constant 0) _ tt tt
+plain-turn counts n = either HasNoQuotient (n == 1) (constant 0) _ tt tt
 
 both : (a b : ℕ) (x y : Sum) → HasNoQuotient x → HasNoQuotient y → HasNoQuotient (joined (scaled a x) (scaled b y))
 both a b x y h k = plain-joined (scaled a x) (scaled b y) (plain-scaled a x h) (plain-scaled b y k)
@@ -109,17 +111,13 @@ plain-append : (ps qs : List Pass) → ArePlain ps → ArePlain qs → ArePlain 
 plain-append [] qs h k = k
 plain-append (p ∷ ps) qs h k = (h.0, plain-append ps qs h.1 k)
 
-either-passes : (b : Bool) (ps qs : List Pass) → ArePlain ps → ArePlain qs → ArePlain (if b then ps else qs)
-either-passes true ps qs h k = h
-either-passes false ps qs h k = k
-
 pub plain-passes : (c : Request) (o : Site) (t : Breakdown) → IsPlainSite o → ArePlain (passes c o t)
 plain-passes c o (leaf d) h = (h, tt)
 plain-passes c o (node rule a b) h =
     let r = size_of a in
     let s = size_of b in
     let root = node_root c (r * s) in
-    either-passes (is_kernel c (r * s)) (pass_at o (node_work c (node rule a b)) ∷ []) _
+    either ArePlain (is_kernel c (r * s)) (pass_at o (node_work c (node rule a b)) ∷ []) _
     (h, tt)
     (plain-append (passes (right_of rule c) (right_site rule r s root o) b) _
     (plain-passes (right_of rule c) (right_site rule r s root o) b (right-plain rule r s root o h))
@@ -171,15 +169,10 @@ module _ (c : Request) where
       let j = tile_column c r s in
       both s c.lanes (joined (scaled c.lanes i) k) j (one c.lanes i k (plain-row r) p) (plain-column r s)
 
-  either-factors : (b : Bool) (f g : Factors) → ArePlainFactors f → ArePlainFactors g →
-      ArePlainFactors (if b then f else g)
-  either-factors true f g h k = h
-  either-factors false f g h k = k
-
   plain-right : (rule : Rule) (r s root : ℕ) → IsPlainSite (right_root rule c r s root)
   plain-right rule r s root =
       by-plain (turns c r (lane_loops c)) (root_in rule c r s) _ (packed c r s) (keeps-root rule r s)
-      (either-factors (c.lanes == 1) (twiddled rule r s root (packed c r s)) none
+      (either ArePlainFactors (c.lanes == 1) (twiddled rule r s root (packed c r s)) none
       (plain-twiddled rule r s root (packed c r s) (keeps-packed r s)) tt)
       (keeps-packed r s)
 
@@ -191,7 +184,7 @@ module _ (c : Request) where
   plain-tiles : (r s : ℕ) (load : PlaceFunction) (f : Factors) (store : PlaceFunction) → KeepsPlain load →
       ArePlainFactors f → KeepsPlain store → ArePlain (tiles c r s load f store)
   plain-tiles r s load f store h k l =
-      either-passes (c.lanes == 1) [] _ tt
+      either ArePlain (c.lanes == 1) [] _ tt
       (by-plain (inside (turns c r (processor_loops c)) (s / c.lanes)) load f store h k l, tt)
 
   plain-before : (rule : Rule) (r s : ℕ) → ArePlain (tiles_before rule c r s)
@@ -215,12 +208,7 @@ module _ (c : Request) where
       (plain-tiles r s (along c r s) _ (across c r s) (keeps-along r s)
       (plain-twiddled rule r s root (across c r s) (keeps-across r s)) (keeps-across r s))) in
       let second = plain-passes (left_of rule c) (left_root c s factors) a (plain-left s factors h) in
-      phases (c.procs == 1) _ _ first second
-    where
-      phases : (b : Bool) (ps qs : List Pass) → ArePlain ps → ArePlain qs →
-          ArePlainPhases (if b then (ps ++ qs) ∷ [] else ps ∷ qs ∷ [])
-      phases true ps qs h k = (plain-append ps qs h k, tt)
-      phases false ps qs h k = (h, (k, tt))
+      either ArePlainPhases (c.procs == 1) _ _ (plain-append _ _ first second, tt) (first, (second, tt))
 
 -- ---- wholes
 
@@ -234,13 +222,8 @@ plain-closing Idft c = tt
 
 pub plain-phases : (c : Request) (f : Factors) (t : Breakdown) → ArePlainFactors f → ArePlainPhases (phases_of c f t)
 plain-phases c f t h =
-    by (is_plain c) (passes c (whole_site f) t) (root_phases c f t) (plain-passes c (whole_site f) t (plain-whole f h))
-    (plain-root c f t h)
-  where
-    by : (b : Bool) (ps : List Pass) (phases : List (List Pass)) → ArePlain ps → ArePlainPhases phases →
-        ArePlainPhases (if b then ps ∷ [] else phases)
-    by true ps phases h k = (h, tt)
-    by false ps phases h k = k
+    either ArePlainPhases (is_plain c) (passes c (whole_site f) t ∷ []) (root_phases c f t)
+    (plain-passes c (whole_site f) t (plain-whole f h), tt) (plain-root c f t h)
 
 -- the passes of a convolution
 pub plain-joined-passes : (ps qs : List Pass) → ArePlain ps → ArePlain qs → ArePlainPhases ((ps ++ qs) ∷ [])

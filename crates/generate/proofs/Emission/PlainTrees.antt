@@ -2,13 +2,13 @@
 use Rattle.std.proofs.Common.{◌≡◌, ℕ, ◌<◌, ◌==◌, ◌&&◌, true, if◌then◌else◌, refl, sym, ap, ap₂, ◌∙◌, arith, List, [], ◌∷◌, ◌++◌, Option, None, Some}
 use Rattle.std.specs.Prelude.{map}
 use Rattle.std.proofs.lemmas.List.{map-append, append-nil}
+use Rattle.std.proofs.lemmas.Simd.{map-map}
 use Rattle.loop_merge.specs.JoinedPasses.Joined.{joined}
 use Rattle.sigma_spl.specs.Lists.{on_last}
 use Rattle.matrix_meaning.specs.Convolving.{IsConvRequest}
-use Rattle.matrix_meaning.specs.Parts.{forward_by, forward_of, inverted}
+use Rattle.matrix_meaning.specs.Parts.{forward_of, inverted}
 use Rattle.matrix_meaning.specs.Valid.{IsValid}
-use Rattle.matrix_meaning.specs.declared.Kind.{Kind}
-use Rattle.matrix_meaning.specs.declared.Kind.TheVariants.{Dft, Wht, Idft}
+use Rattle.matrix_meaning.specs.declared.Kind.TheVariants.{Dft, Idft}
 use Rattle.matrix_meaning.specs.declared.Request.{Request}
 use Rattle.code_gen.specs.PassCode.Program.{program_of}
 use Rattle.sigma_lower.specs.Merged.{CanLower, tree_merged}
@@ -35,11 +35,11 @@ use Rattle.generate.specs.Emission.Whole.{closing_factors, conv_emission, emissi
 use Rattle.generate.specs.Factors.{factors_of}
 use Rattle.generate.specs.Letters.{program_for}
 use Rattle.generate.proofs.ConvTrees.{inverse_tree, inverse_valid}
-use Rattle.generate.proofs.Emission.Closed.{closed-phases, closed_tree, closing-is, factors_by, firsts, phases-in}
+use Rattle.generate.proofs.Emission.Closed.{closed-phases, closed_tree, closing-is, factors_by, firsts, phases-in, plain-forward}
 use Rattle.generate.proofs.Emission.Layouts.{layout_emitted, passes_of_layout, tree_works}
 use Rattle.generate.proofs.Emission.Matches.{ArePasses, IsAround, IsSame}
 use Rattle.generate.proofs.Emission.Nested.{emitted, emitted_nest}
-use Rattle.generate.proofs.Emission.Nests.{IsLooped, IsNodeWork, maps-same, maps-twice, multiplying, nests, same-nest}
+use Rattle.generate.proofs.Emission.Nests.{IsLooped, IsNodeWork, maps-same, multiplying, nests, same-nest}
 use Rattle.generate.proofs.Emission.Lists.{AllPasses, factors-passes, free-passes}
 use Rattle.generate.proofs.Emission.PassPrograms.{programs-by-passes}
 use Rattle.generate.proofs.Emission.PlainPlaces.{plain-closing, plain-joined-passes, plain-passes, plain-phases, plain-whole}
@@ -117,13 +117,8 @@ module _ (c : Request) (t : Breakdown) (valid : IsValid c) (h : IsWholeTree c t)
       (factors-passes [] 0 same (λ p. p) (IsLooped c.modulus (layout_size l)) nest (layout_size l)
       (whole_site (factors_by (Some v))) (λ cs e. refl) (sums.repeated v 1) (λ counts k. constant 0) firsts
       (λ counts w own. refl)
-      (λ cs stored own es step. maps-twice (λ _. constant 0) stored es) ps _ good (matches (factors_by (Some v)))
+      (λ cs stored own es step. map-map (λ _. constant 0) stored es) ps _ good (matches (factors_by (Some v)))
       ∙ ap emitted (sym (passes_of_layout (forward_of c) (whole_site (factors_by (Some v))) t)))
-
-  plain-forward : (kind : Kind) → is_plain (forward_by kind c) ≡ is_plain c
-  plain-forward Dft = refl
-  plain-forward Wht = refl
-  plain-forward Idft = refl
 
   pub plain_emission : program_for c t ≡ emission c t
   plain_emission =
@@ -133,7 +128,7 @@ module _ (c : Request) (t : Breakdown) (valid : IsValid c) (h : IsWholeTree c t)
       (all-closed (factor_by c.kind c) ∙ ap (λ f. emitted (qs f) ∷ []) (sym (closing-is c.kind c)))
       ∙ ap (λ b. phases-in c
       (map emitted (if b then qs (closing_factors c.kind c) ∷ [] else root_phases (forward_of c)
-      (closing_factors c.kind c) t))) (sym (plain-forward c.kind ∙ plain)))
+      (closing_factors c.kind c) t))) (sym (plain-forward c c.kind ∙ plain)))
       ∙ programs-by-passes c (phases_of (forward_of c) (closing_factors c.kind c) t)
       (plain-phases (forward_of c) (closing_factors c.kind c) t (plain-closing c.kind c))
 

@@ -3,6 +3,7 @@ use Rattle.std.proofs.Common.{◌≡◌, ℕ, ◌+◌, ◌*◌, ◌==◌, Bool, 
 use Rattle.std.specs.Prelude.{map, nat_le}
 use Rattle.std.proofs.lemmas.Bool.{eq-eqb}
 use Rattle.std.proofs.lemmas.List.{length-map}
+use Rattle.std.proofs.lemmas.Simd.{map-map}
 use Rattle.code_gen.specs.PassCode.Program.{program_of}
 use Rattle.sigma_spl.specs.Lists.{on_last}
 use Rattle.matrix_meaning.specs.Parts.{forward_by, forward_of, inverted}
@@ -41,13 +42,13 @@ use Rattle.generate.specs.Emission.Passes.{Factors, Pass, none, passes}
 use Rattle.generate.specs.Emission.Root.{left_root, right_root, root_phases, strided, tiles_after, tiles_before}
 use Rattle.generate.specs.Emission.Whole.{closing_factors, emission, phases_of, whole_site}
 use Rattle.generate.specs.Letters.{program_for}
-use Rattle.generate.proofs.Emission.Closed.{closed-phases, closed_tree, closing, closing-is, factors_by, firsts, phases-in}
+use Rattle.generate.proofs.Emission.Closed.{closed-phases, closed_tree, closing, closing-is, factors_by, firsts, phases-in, plain-forward}
 use Rattle.generate.proofs.Emission.Layouts.{layout_emitted, passes_of_layout, tree_works}
 use Rattle.generate.proofs.Emission.Left.{IsPart, left_nest}
 use Rattle.generate.proofs.Emission.Lists.{AllPasses, factors-passes, free-passes, nests_as}
 use Rattle.generate.proofs.Emission.Matches.{ArePasses, IsAround}
 use Rattle.generate.proofs.Emission.Nested.{emitted}
-use Rattle.generate.proofs.Emission.Nests.{IsNodeWork, maps-twice, multiplying, nests}
+use Rattle.generate.proofs.Emission.Nests.{IsNodeWork, multiplying, nests}
 use Rattle.generate.proofs.Emission.PassPrograms.{programs-by-passes}
 use Rattle.generate.proofs.Emission.PlainPlaces.{plain-closing, plain-phases}
 use Rattle.generate.proofs.Emission.Right.{ct_right, emitted-append, nests-append, none-either, split_right}
@@ -114,7 +115,7 @@ module _ (c : Request) (r s : ℕ) (h : AreShares c.size c.procs c.lanes r s) (a
       (λ z q part is. left_nest c r s h c.modulus z part q is) r (left_root c s (factors_by (Some v)))
       (λ cs e. refl)
       (repeated v 1) (λ counts k. constant 0) firsts (λ counts w own. refl)
-      (λ cs stored own es step. maps-twice (λ _. constant 0) stored es) alone (qs (factors_by (Some v))) all
+      (λ cs stored own es step. map-map (λ _. constant 0) stored es) alone (qs (factors_by (Some v))) all
       (matches (factors_by (Some v)))
 
 -- ---- lists of which the last is changed
@@ -266,11 +267,6 @@ emitted-tree z factors (node rule a b) is shared =
         s ++ (layout_emitted (right_root rule z r s root) lb ++ tiles_after rule z r s root) in
         let second = layout_emitted (left_root z s factors) la in
         if z.procs == 1 then (first ++ second) ∷ [] else first ∷ second ∷ []
-
-plain-forward : (c : Request) (kind : Kind) → is_plain (forward_by kind c) ≡ is_plain c
-plain-forward c Dft = refl
-plain-forward c Wht = refl
-plain-forward c Idft = refl
 
 size-forward : (c : Request) (kind : Kind) → (forward_by kind c).size ≡ c.size
 size-forward c Dft = refl

@@ -59,7 +59,7 @@ left_root c s factors = site_by (turns c s (lane_loops c)) (strided c s) (moved 
 
 -- ---- tiles: vectors along the right part's turns, and across them
 
--- which row of tiles it is, where a row takes as many of the right part's turns as there are lanes, and which tile of it
+-- which row of tiles, where a row takes as many of the right part's turns as there are lanes, and which tile in it
 abbrev pub tile_row : Request → ℕ → Sum
 tile_row c r = shared c r (processor_loops c)
 
