@@ -49,7 +49,7 @@ variables-within f n (suc k) d least e ps few enough low small last =
     part-within (factor_at (f.first_loop + d) e) n least (Var d (factor_at (f.first_loop + d) e)) (variables_of f k (d + 1) e ps) low
     (λ some. both _ _ (below d n (omega arith)) (small-positive (factor_at (f.first_loop + d) e) some (small (f.first_loop + d))))
     (variables-within f n k (d + 1) least e ps few (omega arith) (omega arith) small last)
-    (variables-within f n k (d + 1) (2 + d) e ps few (omega arith) (omega arith) small last)
+    (variables-within f n k (d + 1) (suc (1 + d)) e ps few (omega arith) (omega arith) small last)
 
 processor-within : (f : PlainFrame) (n : ℕ) (e : Sum) (ps : PlainParts) → ((i : ℕ) → factor_at i e < 2 ^ 32) → are_parts_within ps n 0 ≡ true → are_parts_within ps n 1 ≡ true → are_parts_within (processor_of f e ps) n 0 ≡ true
 processor-within f n e ps small first behind = either f.shared
