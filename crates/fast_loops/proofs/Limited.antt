@@ -37,7 +37,7 @@ pair-within loop a b n least rest deep le ea eb h =
 one-within : (depth a n least behind : ℕ) (rest : PlainParts) → depth < n → least ≤ depth + 1 → is_small_positive a ≡ true → depth + 2 ≤ behind → are_parts_within rest n behind ≡ true → are_parts_within (AndParts (Var depth a) rest) n least ≡ true
 one-within depth a n least behind rest deep le ea lower h =
     and_three (nat_lt depth n && is_small_positive a) (nat_le least (1 + depth)) _ (and_from (nat_lt depth n) _ (lt-ltb depth n deep) ea) (le-leb least (1 + depth) (omega (arith, le)))
-    (parts-lower rest n behind (2 + depth) (omega (arith, lower)) h)
+    (parts-lower rest n behind (suc (1 + depth)) (omega (arith, lower)) h)
 
 -- what is known of a multiple of a loop's value in front
 pub record IsVarWithin (depth a n least : ℕ) (rest : PlainParts) : Type 0 where
@@ -56,7 +56,7 @@ var-within depth a n least rest h =
       deep = ltb-true depth n part.0;
       small = part.1;
       ranked = omega (arith, le);
-      behind = parts-lower rest n (2 + depth) (depth + 2) (omega arith) ranked.1;
+      behind = parts-lower rest n (suc (1 + depth)) (depth + 2) (omega arith) ranked.1;
     }
 
 first-within : (loop factor n least : ℕ) (rest : PlainParts) → loop + 1 < n → n ≤ 64 → least ≤ loop + 1 → is_small_positive factor ≡ true → are_parts_within rest n (loop + 2) ≡ true → are_parts_within (exchanged_first loop factor rest) n least ≡ true
