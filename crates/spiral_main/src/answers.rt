@@ -2,17 +2,17 @@
 // command's definitions.
 ghost use Rattle.std.specs.Prelude.{ℕ, true, false, List, [], Ok, ◌↔◌};
 ghost use Rattle.request_text.specs.Schedule.{Plan as SpecSchedule};
-ghost use Rattle.commands.specs.Equations.Apply.{apply_outcomes};
-ghost use Rattle.commands.specs.Equations.C.{c_outcomes};
-ghost use Rattle.commands.specs.Equations.Code.{code_outcomes};
+ghost use Rattle.commands.specs.Equations.Apply.{apply_answer};
+ghost use Rattle.commands.specs.Equations.C.{c_answer};
+ghost use Rattle.commands.specs.Equations.Code.{code_answer};
 ghost use Rattle.commands.specs.Equations.Commands.{outcomes_of};
-ghost use Rattle.commands.specs.Equations.Compile.{compile_outcomes};
-ghost use Rattle.commands.specs.Equations.Convolve.{convolve_outcomes, convolver_outcomes};
-ghost use Rattle.commands.specs.Equations.Trace.{trace_outcomes};
-ghost use Rattle.commands.specs.Equations.Cert.{cert_outcomes};
-ghost use Rattle.commands.specs.Equations.Check.{check_outcomes};
-ghost use Rattle.commands.specs.Equations.Exec.{exec_outcomes};
-ghost use Rattle.commands.specs.Equations.Formula.{formula_outcomes};
+ghost use Rattle.commands.specs.Equations.Compile.{compile_answer};
+ghost use Rattle.commands.specs.Equations.Convolve.{convolve_answer, convolver_answer};
+ghost use Rattle.commands.specs.Equations.Trace.{trace_answer};
+ghost use Rattle.commands.specs.Equations.Cert.{cert_answer};
+ghost use Rattle.commands.specs.Equations.Check.{check_answer};
+ghost use Rattle.commands.specs.Equations.Exec.{exec_answer};
+ghost use Rattle.commands.specs.Equations.Formula.{formula_answer};
 ghost use Rattle.c_print.specs.CText.{c_text_of};
 ghost use Rattle.commands.specs.Equations.Convolutions.{conv_planned};
 ghost use Rattle.commands.specs.Equations.Formulas.{written};
@@ -26,9 +26,9 @@ ghost use Rattle.spiral_main.specs.Good.{IsGoodFor, IsLeanFor, Shows, ShowsConvo
 ghost use Rattle.spiral_main.specs.RightFront.{IsRightConvLine, IsRightFormulaLine, IsRightLine};
 ghost use Rattle.spl_ast.specs.Formula.{Formula};
 ghost use Rattle.spiral_main.specs.Outcome.{IsOutcome};
-ghost use Rattle.commands.specs.Equations.Plan.{plan_outcomes};
-ghost use Rattle.commands.specs.Equations.Run.{run_outcomes};
-ghost use Rattle.commands.specs.Equations.Sample.{sample_outcomes};
+ghost use Rattle.commands.specs.Equations.Plan.{plan_answer};
+ghost use Rattle.commands.specs.Equations.Run.{run_answer};
+ghost use Rattle.commands.specs.Equations.Sample.{sample_answer};
 ghost use Rattle.spiral_words.specs.declared.spiral_status.status.Status.{Status as SpecStatus};
 ghost use Rattle.spiral_words.specs.Asked.{IsAsked};
 ghost use Rattle.spiral_words.specs.declared.Command.TheVariants as command;
@@ -49,56 +49,56 @@ pub fn answers_are_outcomes()
 pub fn plan_answers()
     ensures { (words : List (List ℕ)) (bytes : List ℕ)
         (status : SpecStatus) (text : List ℕ) → IsAsked words (command.ByRequest (request.Writes document.Plan))
-        → IsOutcome words bytes status text → plan_outcomes.answer bytes status text }
+        → IsOutcome words bytes status text → plan_answer bytes status text }
 {}
 
 /// What `formula` answers.
 pub fn formula_answers()
     ensures { (words : List (List ℕ)) (bytes : List ℕ)
         (status : SpecStatus) (text : List ℕ) → IsAsked words (command.ByRequest (request.Writes document.Formula))
-        → IsOutcome words bytes status text → formula_outcomes.answer bytes status text }
+        → IsOutcome words bytes status text → formula_answer bytes status text }
 {}
 
 /// What `code` answers.
 pub fn code_answers()
     ensures { (words : List (List ℕ)) (bytes : List ℕ)
         (status : SpecStatus) (text : List ℕ) → IsAsked words (command.ByRequest (request.Writes document.Code))
-        → IsOutcome words bytes status text → code_outcomes.answer bytes status text }
+        → IsOutcome words bytes status text → code_answer bytes status text }
 {}
 
 /// What `c` answers.
 pub fn c_answers()
     ensures { (words : List (List ℕ)) (bytes : List ℕ)
         (status : SpecStatus) (text : List ℕ) → IsAsked words (command.ByRequest (request.Writes document.C))
-        → IsOutcome words bytes status text → c_outcomes.answer bytes status text }
+        → IsOutcome words bytes status text → c_answer bytes status text }
 {}
 
 /// What `run` answers.
 pub fn run_answers()
     ensures { (order : SpecOrder) (words : List (List ℕ)) (bytes : List ℕ)
         (status : SpecStatus) (text : List ℕ) → IsAsked words (command.ByRequest (request.Runs order))
-        → IsOutcome words bytes status text → (run_outcomes order).answer bytes status text }
+        → IsOutcome words bytes status text → run_answer order bytes status text }
 {}
 
 /// What `trace` answers.
 pub fn trace_answers()
     ensures { (order : SpecOrder) (words : List (List ℕ)) (bytes : List ℕ)
         (status : SpecStatus) (text : List ℕ) → IsAsked words (command.ByRequest (request.Traces order))
-        → IsOutcome words bytes status text → (trace_outcomes order).answer bytes status text }
+        → IsOutcome words bytes status text → trace_answer order bytes status text }
 {}
 
 /// What `cert` answers.
 pub fn cert_answers()
     ensures { (words : List (List ℕ)) (bytes : List ℕ)
         (status : SpecStatus) (text : List ℕ) → IsAsked words (command.ByRequest (request.Writes document.Cert))
-        → IsOutcome words bytes status text → cert_outcomes.answer bytes status text }
+        → IsOutcome words bytes status text → cert_answer bytes status text }
 {}
 
 /// What `check` answers.
 pub fn check_answers()
     ensures { (words : List (List ℕ)) (bytes : List ℕ)
         (status : SpecStatus) (text : List ℕ) → IsAsked words (command.ByRequest request.Judges)
-        → IsOutcome words bytes status text → check_outcomes.answer bytes status text }
+        → IsOutcome words bytes status text → check_answer bytes status text }
 {}
 
 /// What `sample` answers.
@@ -106,42 +106,42 @@ pub fn sample_answers()
     ensures { (seed : ℕ) (schedule : SpecSchedule) (words : List (List ℕ)) (bytes : List ℕ)
         (status : SpecStatus) (text : List ℕ)
         → IsAsked words (command.ByRequest (request.Writes (document.Sample seed schedule)))
-        → IsOutcome words bytes status text → (sample_outcomes seed schedule).answer bytes status text }
+        → IsOutcome words bytes status text → sample_answer seed schedule bytes status text }
 {}
 
 /// What `compile` answers.
 pub fn compile_answers()
     ensures { (m : ℕ) (words : List (List ℕ)) (bytes : List ℕ)
         (status : SpecStatus) (text : List ℕ) → IsAsked words (command.ByFormula m formula_command.Compile)
-        → IsOutcome words bytes status text → (compile_outcomes m).answer bytes status text }
+        → IsOutcome words bytes status text → compile_answer m bytes status text }
 {}
 
 /// What `apply` answers.
 pub fn apply_answers()
     ensures { (m : ℕ) (schedule : SpecSchedule) (words : List (List ℕ)) (bytes : List ℕ)
         (status : SpecStatus) (text : List ℕ) → IsAsked words (command.ByFormula m (formula_command.Apply schedule))
-        → IsOutcome words bytes status text → (apply_outcomes m schedule).answer bytes status text }
+        → IsOutcome words bytes status text → apply_answer m schedule bytes status text }
 {}
 
 /// What `exec` answers.
 pub fn exec_answers()
     ensures { (schedule : SpecSchedule) (words : List (List ℕ)) (bytes : List ℕ)
         (status : SpecStatus) (text : List ℕ) → IsAsked words (command.ByListing schedule)
-        → IsOutcome words bytes status text → (exec_outcomes schedule).answer bytes status text }
+        → IsOutcome words bytes status text → exec_answer schedule bytes status text }
 {}
 
 /// What `convolve` answers.
 pub fn convolve_answers()
     ensures { (schedule : SpecSchedule) (words : List (List ℕ)) (bytes : List ℕ)
         (status : SpecStatus) (text : List ℕ) → IsAsked words (command.ByList schedule false)
-        → IsOutcome words bytes status text → (convolve_outcomes schedule).answer bytes status text }
+        → IsOutcome words bytes status text → convolve_answer schedule bytes status text }
 {}
 
 /// What `convolve --code` answers.
 pub fn convolver_answers()
     ensures { (schedule : SpecSchedule) (words : List (List ℕ)) (bytes : List ℕ)
         (status : SpecStatus) (text : List ℕ) → IsAsked words (command.ByList schedule true)
-        → IsOutcome words bytes status text → (convolver_outcomes schedule).answer bytes status text }
+        → IsOutcome words bytes status text → convolver_answer schedule bytes status text }
 {}
 
 /// The listing that `code` prints for a right line is that of a program that is good for the line's request.

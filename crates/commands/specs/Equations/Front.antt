@@ -55,16 +55,24 @@ ordered front orders bytes = do
   text ← given (taken_from front bytes)
   orders text
 
+-- which status and text are right for the bytes of an input
+abbrev pub Answer : Type 1
+Answer = List ℕ → Status → List ℕ → Type 0
+
+-- What is answered: the front orders a value, and status and text are right for it and for what is behind, where so
+-- many bytes may come; or it refuses, and nothing is written
+abbrev pub answered : {A : Type 0} → Front → (List ℕ → Stage A) → (A → ℕ → Answer) → Answer
+answered {A} front orders settles bytes = IsAnswerBy (ordered front orders bytes)
+    (λ (value : A). settles value (room_behind front bytes) (front.behind bytes))
+
 -- what is right for a command behind its front, where so many bytes may come
 abbrev pub Work : Type 1
 Work = ℕ → Outcomes
 
--- what is right for a command: its front orders a value, or refuses it and nothing is written; the work for the value
--- is behind
+-- what is right for a command: what is answered, and what a fault of the outside leaves of it
 abbrev pub by_front : {A : Type 0} → Front → (List ℕ → Stage A) → (A → Work) → Outcomes
 by_front {A} front orders work = record {
-  answer = λ bytes. IsAnswerBy (ordered front orders bytes)
-      (λ (value : A). (work value (room_behind front bytes)).answer (front.behind bytes));
+  answer = answered front orders (λ (value : A) room. (work value room).answer);
   broken = λ read ended. IsBrokenBy (MayGoOn front read) (HasEnded front read ended) (ordered front orders read)
       (λ (value : A). (work value (room_behind front read)).broken (front.behind read) ended);
   cut = λ read left. IsCutBy (HasEnded front read (left ≡ [])) (ordered front orders read)

@@ -1,8 +1,5 @@
 -- What is right for a command that goes by a request.
-use Rattle.std.specs.Prelude.{◌≡◌, ℕ, List, Ok}
-use Rattle.c_print.specs.CText.{c_text_of}
-use Rattle.generate.specs.Emission.Whole.{emission}
-use Rattle.listing_text.specs.Listing.{listing_of}
+use Rattle.std.specs.Prelude.{ℕ, List, Ok}
 use Rattle.matrix_meaning.specs.declared.Request.{Request}
 use Rattle.plan_cert.specs.Table.{IsTableText}
 use Rattle.plan_cert.specs.Verdict.{IsVerdict}
@@ -10,17 +7,16 @@ use Rattle.spiral_words.specs.declared.Document.{Document}
 use Rattle.spiral_words.specs.declared.Document.TheVariants.{Plan, Formula, Code, C, Cert, Sample}
 use Rattle.spiral_words.specs.declared.RequestCommand.{RequestCommand}
 use Rattle.spiral_words.specs.declared.RequestCommand.TheVariants.{Writes, Runs, Traces, Judges}
-use Rattle.commands.specs.PlanText.{plan_text}
 use Rattle.commands.specs.SpiralInput.Outcomes.{Outcomes}
 use Rattle.commands.specs.Equations.Front.{Work, staged}
 use Rattle.commands.specs.Equations.Works.{writing, judging}
 use Rattle.commands.specs.Equations.Orders.{Planned, chosen}
-use Rattle.commands.specs.Equations.Plan.{plan_outcomes}
-use Rattle.commands.specs.Equations.Formula.{formula_text, formula_outcomes}
-use Rattle.commands.specs.Equations.Code.{code_outcomes}
-use Rattle.commands.specs.Equations.C.{c_outcomes}
+use Rattle.commands.specs.Equations.Plan.{IsPlanText, plan_outcomes}
+use Rattle.commands.specs.Equations.Formula.{IsFormulaText, formula_outcomes}
+use Rattle.commands.specs.Equations.Code.{IsCodeText, code_outcomes}
+use Rattle.commands.specs.Equations.C.{IsCText, c_outcomes}
 use Rattle.commands.specs.Equations.Cert.{cert_outcomes}
-use Rattle.commands.specs.Equations.Sample.{sample_lines, sample_outcomes}
+use Rattle.commands.specs.Equations.Sample.{IsSampleText, sample_outcomes}
 use Rattle.commands.specs.Equations.Run.{run_work, run_outcomes}
 use Rattle.commands.specs.Equations.Trace.{trace_work, trace_outcomes}
 use Rattle.commands.specs.Equations.Check.{fitting, check_outcomes}
@@ -43,12 +39,12 @@ outcomes_by_request Judges = check_outcomes
 
 -- the text of a document, by the request and its tree
 abbrev pub IsDocumentText : Document → Planned → List ℕ → Type 0
-IsDocumentText Plan plan text = text ≡ plan_text plan.request plan.tree
-IsDocumentText Formula plan text = text ≡ formula_text plan
-IsDocumentText Code plan text = text ≡ listing_of (emission plan.request plan.tree)
-IsDocumentText C plan text = text ≡ c_text_of (emission plan.request plan.tree)
+IsDocumentText Plan plan text = IsPlanText plan text
+IsDocumentText Formula plan text = IsFormulaText plan text
+IsDocumentText Code plan text = IsCodeText plan text
+IsDocumentText C plan text = IsCText plan text
 IsDocumentText Cert plan text = IsTableText plan.request text
-IsDocumentText (Sample seed schedule) plan text = text ≡ sample_lines plan seed
+IsDocumentText (Sample seed schedule) plan text = IsSampleText seed plan text
 
 -- the text of a document, by the request with the tree chosen for it
 abbrev pub IsDocument : Document → Request → List ℕ → Type 0

@@ -11,13 +11,16 @@ use Rattle.runs.specs.Stream.{vectors_of, data_answer, data_vectors}
 use Rattle.runs.specs.declared.stream.StreamFault.{StreamFault}
 use Rattle.commands.specs.SpiralInput.Fine.{IsFine}
 use Rattle.commands.specs.Checked.{certificate_limit, status_of_verdict, verdict_text, IsOverlong}
-use Rattle.commands.specs.Equations.Front.{Work}
+use Rattle.commands.specs.Equations.Front.{Answer, Work}
 
 -- It writes a text, and reads nothing more
 
+abbrev pub printed : (List ℕ → Type 0) → ℕ → Answer
+printed IsText room bytes status text = (status ≡ Success) × IsText text
+
 abbrev pub writing : (List ℕ → Type 0) → Work
 writing IsText room = record {
-  answer = λ bytes status text. (status ≡ Success) × IsText text;
+  answer = printed IsText room;
   broken = λ read ended text. ⊥;
   cut = λ read left text. (read ≡ []) × IsText text;
 }
@@ -36,18 +39,20 @@ status_by a_first size answer (x ∷ later) = status_of_stream answer
 status_by the_first size answer [] = status_of_fault (lacking size answer)
 status_by the_first size answer (x ∷ later) = Success
 
+-- a text for the vectors of the data, and the status by how they end
+abbrev pub mapped : Wants → (size modulus : ℕ) → (List (List ℕ) → List ℕ → Type 0) → ℕ → Answer
+mapped wants size modulus IsText room bytes status text = let vectors = data_vectors size modulus room bytes in
+    (status ≡ status_by wants size (data_answer size room bytes) vectors) × IsText vectors text
+
 -- it reads on behind these vectors
 abbrev pub ReadsOn : Wants → List (List ℕ) → Type 0
 ReadsOn the_first vectors = vectors ≡ []
 ReadsOn _ vectors = Unit {0}
 
--- It writes a text for the vectors of the data. The last token counts only where nothing is left with which it may go
--- on
+-- By a failed read or write, the last token counts only where nothing is left with which it may go on
 abbrev pub mapping : Wants → (size modulus : ℕ) → (List (List ℕ) → List ℕ → Type 0) → Work
 mapping wants size modulus IsText room = record {
-  answer = λ bytes status text.
-      (status ≡ status_by wants size (data_answer size room bytes) (data_vectors size modulus room bytes))
-      × IsText (data_vectors size modulus room bytes) text;
+  answer = mapped wants size modulus IsText room;
   broken = λ read ended text. IsFine room read × ReadsOn wants (vectors_of size modulus (tokens (closed_part read)))
       × IsText (vectors_of size modulus (tokens (closed_part read))) text;
   cut = λ read left text. IsFine room read × ((closed_part read ≡ read) ⊎ (left ≡ []))
@@ -66,10 +71,14 @@ abbrev pub IsJudged : (List ℕ → Verdict → Type 0) → List ℕ → Status 
 IsJudged IsVerdict bytes status text =
     (found : Verdict) × IsVerdict bytes found × (status ≡ status_of_verdict found) × (text ≡ verdict_text found)
 
+-- what is judged is no longer than a certificate
+abbrev pub judged_by : (List ℕ → Verdict → Type 0) → ℕ → Answer
+judged_by IsVerdict room bytes status text = IsOverlong bytes status text
+    ⊎ ((length bytes ≤ certificate_limit) × IsJudged IsVerdict bytes status text)
+
 abbrev pub judging : (List ℕ → Verdict → Type 0) → Work
 judging IsVerdict room = record {
-  answer = λ bytes status text. IsOverlong bytes status text
-      ⊎ ((length bytes ≤ certificate_limit) × IsJudged IsVerdict bytes status text);
+  answer = judged_by IsVerdict room;
   broken = λ read ended text. (length read ≤ certificate_limit) × (text ≡ []);
   cut = λ read left text. (left ≡ []) × (length read ≤ certificate_limit) × IsJudged IsVerdict read Success text;
 }
