@@ -1,6 +1,7 @@
 -- What the tests of the request that a line spells say is the answer for the line.
 use Rattle.std.proofs.Common.{◌≡◌, ℕ, ◌*◌, ◌-◌, ◌^◌, ◌%◌, Bool, true, false, cond, eqb, leb, List, [], ◌∷◌, Result, Ok, Err, sym, subst}
 use Rattle.std.specs.Int.{is_power_of_two}
+use Rattle.std.specs.Prelude.{IfOk}
 use Rattle.matrix_meaning.specs.declared.Dimension.{Dimension}
 use Rattle.matrix_meaning.specs.declared.Kind.{Kind}
 use Rattle.matrix_meaning.specs.declared.Kind.TheVariants.{Dft, Wht, Idft}
@@ -111,51 +112,65 @@ judged_conv_only r =
 -- ---- the answer for a line
 
 -- what a test of a request says is the answer for a line that spells it
-answers_by : (spells : List ℕ → Request → Type 0) (judge : Request → Result Request RequestFault)
-    (Fits : Request → Type 0) (text : List ℕ) (r : Request) (out : Result Request RequestFault)
-    → spells text r → Only (judge r) → ((q : Request) → judge r ≡ Ok q → Fits r × (r ≡ q)) → judge r ≡ out
-    → AnswersBy spells judge Fits text out
-answers_by spells judge Fits text r (Ok q) l only fits e =
-    let f = fits q e in
-    subst (λ x. spells text x × Fits x) f.1 (l, f.0)
-answers_by spells judge Fits text r (Err (Syntax at)) l only fits e = absurd (subst Only e only)
-answers_by spells judge Fits text r (Err (Range field value)) l only fits e = (r, l, e)
-answers_by spells judge Fits text r (Err (Shape size)) l only fits e = (r, l, e)
-answers_by spells judge Fits text r (Err (LanesLine lanes line)) l only fits e = (r, l, e)
-answers_by spells judge Fits text r (Err (NotUnit gcd)) l only fits e = (r, l, e)
+answers_by : (spells : List ℕ → Request → Type 0) (judge : Request → Result Request RequestFault) (text : List ℕ)
+    (r : Request) (out : Result Request RequestFault)
+    → spells text r → Only (judge r) → ((q : Request) → judge r ≡ Ok q → r ≡ q) → judge r ≡ out
+    → AnswersBy spells judge text out
+answers_by spells judge text r (Ok q) l only same e =
+    subst (λ x. spells text x × (judge x ≡ Ok q)) (same q e) (l, e)
+answers_by spells judge text r (Err (Syntax at)) l only same e = absurd (subst Only e only)
+answers_by spells judge text r (Err (Range field value)) l only same e = (r, l, e)
+answers_by spells judge text r (Err (Shape size)) l only same e = (r, l, e)
+answers_by spells judge text r (Err (LanesLine lanes line)) l only same e = (r, l, e)
+answers_by spells judge text r (Err (NotUnit gcd)) l only same e = (r, l, e)
 
-judged_in_range : (text : List ℕ) (r q : Request) → request_line text r → judged r ≡ Ok q → IsInRange r × (r ≡ q)
-judged_in_range text r q l e =
+judged_same : (r q : Request) → judged r ≡ Ok q → r ≡ q
+judged_same r q e =
     let s = passes (tested r) (Ok r) q e in
     let same : r ≡ q = cc in
-    (in_range r (request_said text r l) s.0, same)
+    same
 
 pub judged_answers : (text : List ℕ) (r : Request) (out : Result Request RequestFault) → request_line text r
     → judged r ≡ out → Answers text out
-judged_answers text r out l e =
-    answers_by request_line judged IsInRange text r out l (judged_only r) (λ q f. judged_in_range text r q l f) e
+judged_answers text r out l e = answers_by request_line judged text r out l (judged_only r) (judged_same r) e
 
-conv_in_range : (text : List ℕ) (r q : Request) → conv_line text r → judged_conv r ≡ Ok q → IsConvRequest r × (r ≡ q)
-conv_in_range text r q l e =
-    let a = conv_said text r l in
+conv_same : (r q : Request) → judged_conv r ≡ Ok q → r ≡ q
+conv_same r q e =
     let s = passes (tested r) (coprime r.size r.modulus >> Ok r) q e in
     let t = passes (coprime r.size r.modulus) (Ok r) q s.1 in
     let same : r ≡ q = cc in
-    let v = in_range r (subst (IsSaid r) (sym a.dimensions) tt) s.0 in (
-      record {
-        in_range = v;
-        kind = a.kind;
-        dimensions = a.dimensions;
-        procs = a.procs;
-        line = a.line;
-        lanes = a.lanes;
-        unit = coprime_is r.size r.modulus v.size.0 t.0;
-      },
-      same,
-    )
+    same
 
 pub conv_judged_answers : (text : List ℕ) (r : Request) (out : Result Request RequestFault) → conv_line text r
     → judged_conv r ≡ out → ConvAnswers text out
 conv_judged_answers text r out l e =
-    answers_by conv_line judged_conv IsConvRequest text r out l (judged_conv_only r) (λ q f. conv_in_range text r q l f)
-    e
+    answers_by conv_line judged_conv text r out l (judged_conv_only r) (conv_same r) e
+
+-- ---- what has no fault is in range
+
+pub passed_in_range : (text : List ℕ) (r : Request) → request_line text r → judged r ≡ Ok r → IsInRange r
+passed_in_range text r l e = in_range r (request_said text r l) (passes (tested r) (Ok r) r e).0
+
+pub conv_in_range : (text : List ℕ) (r : Request) → conv_line text r → judged_conv r ≡ Ok r → IsConvRequest r
+conv_in_range text r l e =
+    let a = conv_said text r l in
+    let s = passes (tested r) (coprime r.size r.modulus >> Ok r) r e in
+    let t = passes (coprime r.size r.modulus) (Ok r) r s.1 in
+    let v = in_range r (subst (IsSaid r) (sym a.dimensions) tt) s.0 in record {
+      in_range = v;
+      kind = a.kind;
+      dimensions = a.dimensions;
+      procs = a.procs;
+      line = a.line;
+      lanes = a.lanes;
+      unit = coprime_is r.size r.modulus v.size.0 t.0;
+    }
+
+pub answered_in_range : (text : List ℕ) (out : Result Request RequestFault) → Answers text out → IfOk out IsInRange
+answered_in_range text (Ok r) p = passed_in_range text r p.0 p.1
+answered_in_range text (Err fault) p = tt
+
+pub conv_answered_in_range : (text : List ℕ) (out : Result Request RequestFault) → ConvAnswers text out
+    → IfOk out IsConvRequest
+conv_answered_in_range text (Ok r) p = conv_in_range text r p.0 p.1
+conv_answered_in_range text (Err fault) p = tt

@@ -1,8 +1,6 @@
 -- What a text spells, and what is answered for it, is one.
 use Rattle.std.proofs.Common.{◌≡◌, ℕ, ◌-◌, ◌≤◌, List, length, Result, Ok, Err, refl, sym, ap, ◌∙◌, arith}
 use Rattle.matrix_meaning.specs.declared.Request.{Request}
-use Rattle.matrix_meaning.specs.Convolving.{IsConvRequest}
-use Rattle.matrix_meaning.specs.Valid.{IsInRange}
 use Rattle.grammar.specs.Grammar.{IsStuck, Judges}
 use Rattle.grammar.specs.Reading.{whole}
 use Rattle.request_text.specs.Answer.{Answers, AnswersBy, ConvAnswers, HasFault}
@@ -15,7 +13,6 @@ use Rattle.request_text.specs.Limits.{judged, judged_conv}
 use Rattle.request_text.specs.Line.{request_line}
 use Rattle.request_text.specs.Reading.{request_at}
 use Rattle.request_text.proofs.ConvLine.{conv_line_judges}
-use Rattle.request_text.proofs.InRange.{judged_ok, judged_conv_ok}
 use Rattle.request_text.proofs.Judged.{judged_answers, conv_judged_answers}
 use Rattle.request_text.proofs.Line.{line_judges}
 
@@ -47,16 +44,14 @@ faulty : (spells : List ℕ → Request → Type 0) (judge : Request → Answer)
     → HasFault spells judge text fault → Outcome spells judge text (Err fault)
 faulty spells judge text fault p = Judged p.0 p.1 (sym p.2)
 
-outcome_of : (spells : List ℕ → Request → Type 0) (judge : Request → Answer) (Fits : Request → Type 0)
-    → ((r : Request) → Fits r → judge r ≡ Ok r)
-    → (text : List ℕ) (a : Answer) → AnswersBy spells judge Fits text a → Outcome spells judge text a
-outcome_of spells judge Fits fits text (Ok r) p = Judged r p.0 (sym (fits r p.1))
-outcome_of spells judge Fits fits text (Err (Syntax at)) p = Stuck at refl p
-outcome_of spells judge Fits fits text (Err (Range field value)) p = faulty spells judge text (Range field value) p
-outcome_of spells judge Fits fits text (Err (Shape size)) p = faulty spells judge text (Shape size) p
-outcome_of spells judge Fits fits text (Err (LanesLine lanes line)) p =
-    faulty spells judge text (LanesLine lanes line) p
-outcome_of spells judge Fits fits text (Err (NotUnit gcd)) p = faulty spells judge text (NotUnit gcd) p
+outcome_of : (spells : List ℕ → Request → Type 0) (judge : Request → Answer) (text : List ℕ) (a : Answer)
+    → AnswersBy spells judge text a → Outcome spells judge text a
+outcome_of spells judge text (Ok r) p = Judged r p.0 (sym p.1)
+outcome_of spells judge text (Err (Syntax at)) p = Stuck at refl p
+outcome_of spells judge text (Err (Range field value)) p = faulty spells judge text (Range field value) p
+outcome_of spells judge text (Err (Shape size)) p = faulty spells judge text (Shape size) p
+outcome_of spells judge text (Err (LanesLine lanes line)) p = faulty spells judge text (LanesLine lanes line) p
+outcome_of spells judge text (Err (NotUnit gcd)) p = faulty spells judge text (NotUnit gcd) p
 
 outcome_once : (spells : List ℕ → Request → Type 0) (judge : Request → Answer) → SpellsOnce spells
     → (text : List ℕ) (a b : Answer) → Outcome spells judge text a → Outcome spells judge text b → a ≡ b
@@ -76,8 +71,7 @@ spelt_once text r s p q = judged_once request_line text (whole request_at text) 
 pub one_answer : (text : List ℕ) (a b : Answer) → Answers text a → Answers text b → a ≡ b
 one_answer text a b p q =
     outcome_once request_line judged spelt_once text a b
-    (outcome_of request_line judged IsInRange judged_ok text a p)
-    (outcome_of request_line judged IsInRange judged_ok text b q)
+    (outcome_of request_line judged text a p) (outcome_of request_line judged text b q)
 
 answered : (text : List ℕ) (read : Result Request ℕ) → Judges request_line text read
     → (answer : Answer) × Answers text answer
@@ -97,8 +91,7 @@ conv_spelt_once text r s p q = judged_once conv_line text (whole conv_at text) r
 pub one_conv_answer : (text : List ℕ) (a b : Answer) → ConvAnswers text a → ConvAnswers text b → a ≡ b
 one_conv_answer text a b p q =
     outcome_once conv_line judged_conv conv_spelt_once text a b
-    (outcome_of conv_line judged_conv IsConvRequest judged_conv_ok text a p)
-    (outcome_of conv_line judged_conv IsConvRequest judged_conv_ok text b q)
+    (outcome_of conv_line judged_conv text a p) (outcome_of conv_line judged_conv text b q)
 
 conv_read : (text : List ℕ) (read : Result Request ℕ) → Judges conv_line text read
     → (answer : Answer) × ConvAnswers text answer

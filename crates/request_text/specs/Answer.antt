@@ -1,8 +1,6 @@
 -- What is answered for a line.
 use Rattle.std.specs.Prelude.{◌≡◌, ℕ, List, Result, Ok, Err}
 use Rattle.matrix_meaning.specs.declared.Request.{Request}
-use Rattle.matrix_meaning.specs.Convolving.{IsConvRequest}
-use Rattle.matrix_meaning.specs.Valid.{IsInRange}
 use Rattle.grammar.specs.Grammar.{IsStuck}
 use Rattle.request_text.specs.declared.fault.RequestFault.{RequestFault}
 use Rattle.request_text.specs.declared.fault.RequestFault.TheVariants.{Syntax}
@@ -15,18 +13,18 @@ abbrev pub HasFault : (List ℕ → Request → Type 0) → (Request → Result 
     Type 0
 HasFault spells judge text fault = (r : Request) × spells text r × (judge r ≡ Err fault)
 
--- Ok: the line spells the request, which fits. Syntax: the line spells no request, and the longest front of it with
--- which some spelling begins has this length. Else: it spells a request whose first fault this is.
-abbrev pub AnswersBy : (List ℕ → Request → Type 0) → (Request → Result Request RequestFault) → (Request → Type 0) →
+-- Ok: the line spells the request, which has no fault. Syntax: the line spells no request, and the longest front of it
+-- with which some spelling begins has this length. Else: it spells a request whose first fault this is.
+abbrev pub AnswersBy : (List ℕ → Request → Type 0) → (Request → Result Request RequestFault) →
     List ℕ → Result Request RequestFault → Type 0
-AnswersBy spells judge Fits text (Ok r) = spells text r × Fits r
-AnswersBy spells judge Fits text (Err (Syntax at)) = IsStuck spells text at
-AnswersBy spells judge Fits text (Err fault) = HasFault spells judge text fault
+AnswersBy spells judge text (Ok r) = spells text r × (judge r ≡ Ok r)
+AnswersBy spells judge text (Err (Syntax at)) = IsStuck spells text at
+AnswersBy spells judge text (Err fault) = HasFault spells judge text fault
 
 -- the answer for a request line
 abbrev pub Answers : List ℕ → Result Request RequestFault → Type 0
-Answers = AnswersBy request_line judged IsInRange
+Answers = AnswersBy request_line judged
 
 -- the answer for the line of a convolution
 abbrev pub ConvAnswers : List ℕ → Result Request RequestFault → Type 0
-ConvAnswers = AnswersBy conv_line judged_conv IsConvRequest
+ConvAnswers = AnswersBy conv_line judged_conv

@@ -1,6 +1,7 @@
 // The line of a cyclic convolution.
-ghost use Rattle.std.specs.Prelude.{◌≡◌};
+ghost use Rattle.std.specs.Prelude.{◌≡◌, IfOk};
 ghost use Rattle.grammar.specs.Reading.{whole};
+ghost use Rattle.matrix_meaning.specs.Convolving.{IsConvRequest};
 ghost use Rattle.request_text.specs.Answer.{ConvAnswers};
 ghost use Rattle.request_text.specs.ConvLine.{conv_line};
 ghost use Rattle.request_text.specs.ConvReading.{conv_at};
@@ -58,6 +59,7 @@ fn checked_conv(fields: &Fields) -> Result<Request, RequestFault>
 pub fn read_conv(line: &[u8]) -> Result<Request, RequestFault>
     ensures answer { ConvAnswers line.now result }
     ensures only { (r : Request) → conv_line line.now r → result ≡ judged_conv r }
+    ensures in_range { IfOk result IsConvRequest }
 {
     match whole_conv(line) {
         Ok(fields) => checked_conv(&fields),

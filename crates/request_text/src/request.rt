@@ -1,4 +1,5 @@
-ghost use Rattle.std.specs.Prelude.{◌≡◌};
+ghost use Rattle.std.specs.Prelude.{◌≡◌, IfOk};
+ghost use Rattle.matrix_meaning.specs.Valid.{IsInRange};
 ghost use Rattle.request_text.specs.Answer.{Answers};
 ghost use Rattle.request_text.specs.Limits.{judged};
 ghost use Rattle.request_text.specs.Line.{request_line};
@@ -12,6 +13,7 @@ use matrix_meaning::Request;
 pub fn read_request(text: &[u8]) -> Result<Request, RequestFault>
     ensures answer { Answers text.now result }
     ensures only { (r : Request) → request_line text.now r → result ≡ judged r }
+    ensures in_range { IfOk result IsInRange }
 {
     match whole_request(text) {
         Ok(fields) => checked(&fields),

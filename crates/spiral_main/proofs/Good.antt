@@ -17,6 +17,7 @@ use Rattle.commands.specs.SpiralInput.Orders.{procs_in}
 use Rattle.commands.proofs.FormulaCommands.Shaped.{written_few, written_shaped}
 use Rattle.commands.proofs.GoodPrograms.{conv_programs_convolve, programs_are_good}
 use Rattle.listing_text.specs.Listing.{listing_of}
+use Rattle.request_text.proofs.Judged.{conv_in_range}
 use Rattle.request_text.specs.Schedule.{Plan as Turns}
 use Rattle.request_text.specs.Turns.{named}
 use Rattle.runs.specs.Stream.{data_answer}
@@ -34,13 +35,16 @@ use Rattle.spiral_main.specs.Outcome.{IsOutcome}
 use Rattle.spiral_main.specs.RightFront.{IsRightConvLine, IsRightFormulaLine, IsRightLine}
 use Rattle.spiral_main.proofs.Calls.{one_text}
 use Rattle.spiral_main.proofs.RightFront.{front_answer, listing_is_right, orders_conv_plan, orders_plan, text_is_right}
+use Rattle.spiral_main.proofs.RightLines.{spelt_in_range}
 
 -- ---- by a request
 
 -- the program of a right line's tree is good and lean
 pub known : (names bytes : List ℕ) (plan : Planned) → IsRightLine names bytes plan
     → IsLeanFor plan (emission plan.request plan.tree)
-known names bytes plan right = programs_are_good plan.request plan.tree right.spells.1 right.planned
+known names bytes plan right =
+    programs_are_good plan.request plan.tree (spelt_in_range ((line 256).first bytes) plan.request right.spells)
+    right.planned
 
 module _ (words : List (List ℕ)) (bytes : List ℕ) (status : Status) (text : List ℕ) (plan : Planned) where
   pub code_text : IsAsked words (command.ByRequest (request.Writes document.Code)) → IsRightLine [] bytes plan
@@ -103,7 +107,8 @@ good_convolver schedule words bytes status text plan asked right p =
     let own : (convolver_outcomes schedule).answer bytes ends whole =
     front_answer (line 256) (conv_planned (named schedule)) convolver_work plan bytes ends whole right.short
     (orders_conv_plan (named schedule) bytes plan right) (refl, is_first_listing plan vectors) in
-    shows_convolver plan vectors text right.spells.1 right.planned
+    shows_convolver plan vectors text
+    (conv_in_range ((line 256).first bytes) plan.request right.spells.0 right.spells.1) right.planned
     (one_text words bytes status ends text whole p (inr (command.ByList schedule true, asked, own)))
 
 -- ---- by a formula

@@ -14,6 +14,7 @@ use Rattle.commands.specs.SpiralInput.Commands.{admitted, first_stranger}
 use Rattle.commands.specs.SpiralInput.Stage.{Stage, ◌>>=◌}
 use Rattle.matrix_meaning.specs.Valid.{IsInRange}
 use Rattle.matrix_meaning.specs.declared.Request.{Request}
+use Rattle.request_text.proofs.Judged.{passed_in_range}
 use Rattle.spiral_words.specs.declared.spiral_status.status.Status.{Status}
 use Rattle.spiral_words.specs.declared.spiral_status.status.Status.TheVariants.{TooLong, Turn}
 use Rattle.spl_ast.specs.Formula.{Formula}
@@ -57,12 +58,15 @@ turned_spelt spells names text request p =
       subst (λ (r : Request). first_stranger names r.procs ≡ None) same.0 same.1,
     )
 
+pub spelt_in_range : (text : List ℕ) (request : Request) → spelt text (Ok request) → IsInRange request
+spelt_in_range text request spells = passed_in_range text request spells.0 spells.1
+
 -- the request is in range, and the tree is the one that is planned for it
 pub plan_of : (names text : List ℕ) (plan : Planned) → planned names text (Ok plan)
     → IsInRange plan.request × IsPlanned plan.request (Ok plan.tree)
 plan_of names text plan p =
     let spelling = turned_spelt spelt names text p.value p.before in (
-      subst IsInRange (sym p.behind.0) spelling.0.1,
+      subst IsInRange (sym p.behind.0) (spelt_in_range text p.value spelling.0),
       subst (λ (r : Request). IsPlanned r (Ok plan.tree)) (sym p.behind.0) p.behind.1,
     )
 

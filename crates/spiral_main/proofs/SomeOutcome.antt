@@ -71,7 +71,7 @@ use Rattle.commands.specs.SpiralInput.Orders.{procs_in}
 use Rattle.commands.specs.SpiralInput.Outcomes.{Outcomes}
 use Rattle.commands.specs.SpiralInput.Stage.{Stage, ◌>>=◌, given}
 use Rattle.spiral_main.specs.Outcome.{IsOutcome}
-use Rattle.spiral_main.proofs.RightLines.{plan_of, turned_spelt}
+use Rattle.spiral_main.proofs.RightLines.{plan_of, spelt_in_range, turned_spelt}
 use Rattle.spiral_main.proofs.RightRequests.{planned_is_right}
 
 -- ---- what a line orders
@@ -92,7 +92,7 @@ planned_has names text =
     both_have (spelt text >>= turned names) chosen
     (both_have (spelt text) (turned names) (spelt_has text) (λ r h. given_has (admitted (first_stranger names r.procs) r.procs r)))
     (λ r h.
-    let range : IsInRange r = (turned_spelt spelt names text r h).0.1 in
+    let range : IsInRange r = spelt_in_range text r (turned_spelt spelt names text r h).0 in
     let plan = plan_exists r range in chosen_has r plan.0 plan.1)
 
 formed_has : (names text : List ℕ) → HasAnswer (formed names text)
@@ -109,7 +109,8 @@ fitting_has r (Err NoMemory) h = absurd h
 
 fit_has : (text : List ℕ) → HasAnswer (spelt text >>= fitting)
 fit_has text =
-    both_have (spelt text) fitting (spelt_has text) (λ r h. let plan = plan_exists r h.1 in fitting_has r plan.0 plan.1)
+    both_have (spelt text) fitting (spelt_has text)
+    (λ r h. let plan = plan_exists r (spelt_in_range text r h) in fitting_has r plan.0 plan.1)
 
 -- ---- what is right behind it
 
@@ -191,7 +192,8 @@ judged_has r range room bytes = elim (cases_lt certificate_limit (length bytes))
 check_has : (bytes : List ℕ) → HasText check_outcomes bytes
 check_has bytes =
     each_has (line 256) (λ text. spelt text >>= fitting) (λ (r : Request). judging (IsVerdict r)) bytes fit_has
-    (λ text r room behind orders. judged_has r (subst IsInRange (sym orders.behind.0) orders.before.1) room behind)
+    (λ text r room behind orders.
+    judged_has r (subst IsInRange (sym orders.behind.0) (spelt_in_range text orders.value orders.before)) room behind)
 
 request_has : (wanted : RequestCommand) (bytes : List ℕ) → HasText (outcomes_by_request wanted) bytes
 request_has (request.Writes wanted) bytes = document_has wanted bytes

@@ -8,6 +8,7 @@ use Rattle.matrix_meaning.specs.declared.Request.{Request}
 use Rattle.plan_search.specs.declared.convolving.ConvFault.{ConvFault}
 use Rattle.request_text.specs.Answer.{ConvAnswers}
 use Rattle.request_text.specs.declared.RequestFault.{RequestFault}
+use Rattle.request_text.proofs.Judged.{conv_in_range}
 use Rattle.request_text.proofs.OneAnswer.{conv_line_answered}
 use Rattle.spiral_words.specs.SpiralStatus.Fault.{status_of_conv, status_of_request}
 use Rattle.spiral_words.specs.declared.spiral_status.status.Status.{Status}
@@ -47,7 +48,8 @@ turned_same (Some q) procs request own e = absurd (cc)
 
 conv_request : (line : List ℕ) (names : List ℕ) (own : Request) → (conv_spelt line >>= turned names) (Ok own) → IsConvRequest own
 conv_request line names own p =
-    subst IsConvRequest (sym (turned_same (first_stranger names p.value.procs) p.value.procs p.value own p.behind)) p.before.1
+    subst IsConvRequest (sym (turned_same (first_stranger names p.value.procs) p.value.procs p.value own p.behind))
+    (conv_in_range line p.value p.before.0 p.before.1)
 
 planned_by : (names line : List ℕ) (spelt : Result Request Status) → (conv_spelt line >>= turned names) spelt
     → (result : Result Planned Status) × conv_planned names line result

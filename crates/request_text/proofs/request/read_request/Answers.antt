@@ -2,7 +2,7 @@ use Rattle.std.proofs.Common.{Ok, Err, sym, ap, ◌∙◌}
 use Rattle.request_text.specs.Few.{spelt}
 use Rattle.request_text.specs.Limits.{judged}
 use Rattle.request_text.proofs.Line.{line_judges}
-use Rattle.request_text.proofs.Judged.{judged_answers}
+use Rattle.request_text.proofs.Judged.{answered_in_range, judged_answers}
 use Rattle.request_text.proofs.request.read_request.Goals as goal
 
 pub overflow_sub-result : goal.overflow_sub-result
@@ -12,6 +12,12 @@ pub returns-in-Ok-clause-answer : goal.returns-in-Ok-clause-answer
 returns-in-Ok-clause-answer c =
     judged_answers c.args.text.now (spelt c.in-Ok.fields) c.checked.result
     (line_judges c.args.text.now (Ok (spelt c.in-Ok.fields)) c.in-Ok.ensures).0 (sym c.checked.ensures.value)
+
+pub returns-in-Ok-clause-in_range : goal.returns-in-Ok-clause-in_range
+returns-in-Ok-clause-in_range c =
+    answered_in_range c.args.text.now c.checked.result
+    (judged_answers c.args.text.now (spelt c.in-Ok.fields) c.checked.result
+    (line_judges c.args.text.now (Ok (spelt c.in-Ok.fields)) c.in-Ok.ensures).0 (sym c.checked.ensures.value))
 
 pub returns-in-Ok-clause-only : goal.returns-in-Ok-clause-only
 returns-in-Ok-clause-only c = λ r l.
