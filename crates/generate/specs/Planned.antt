@@ -11,14 +11,18 @@ use Rattle.tree_model.specs.Chosen.{CanDivideWhole, IsWholeChosen, IsWholeLeast,
 abbrev pub IsRooted : Request → Type 0
 IsRooted r = bad_power r ≡ None
 
--- The tree of the request, which is the first of the cheapest, and by which the request is within the budget; or the first cause to
--- refuse the request
+-- the first cause to refuse the request: a wrong root, no tree, or a least cost over the budget
+abbrev pub IsRefused : Request → GenerateFault → Type 0
+IsRefused r (Root power) = bad_power r ≡ Some power
+IsRefused r NoDivide = IsRooted r × (CanDivideWhole r → ⊥)
+IsRefused r (OverBudget cost budget) = IsRooted r × IsWholeLeast r cost × (budget ≡ r.budget) × (budget < cost)
+IsRefused r NoMemory = ⊥
+
+-- The tree of the request, which is the first of the cheapest, and by which the request is within the budget; or the
+-- first cause to refuse the request
 abbrev pub IsPlanned : Request → Result Breakdown GenerateFault → Type 0
 IsPlanned r (Ok t) = IsRooted r × IsWholeChosen r t × (whole_cost r t ≤ r.budget)
-IsPlanned r (Err (Root power)) = bad_power r ≡ Some power
-IsPlanned r (Err NoDivide) = IsRooted r × (CanDivideWhole r → ⊥)
-IsPlanned r (Err (OverBudget cost budget)) = IsRooted r × IsWholeLeast r cost × (budget ≡ r.budget) × (budget < cost)
-IsPlanned r (Err NoMemory) = ⊥
+IsPlanned r (Err fault) = IsRefused r fault
 
 -- the roots are right, and some tree fits
 abbrev pub IsAdmitted : Request → Type 0

@@ -8,4 +8,5 @@ pub mod RightCalls
 pub mod RightFront
 pub mod RightLines
 pub mod RightRequests
+pub mod RunAnswer
 pub mod SomeOutcome
