@@ -13,13 +13,13 @@ use Rattle.sigma_spl.specs.Term.{scat}
 use Rattle.sigma_spl.specs.Words.{AreWords, HasNumbers}
 use Rattle.sigma_spl.specs.Work.{PlainWork, kernel, rows, horner, tile, copy, work_size, HasWords}
 use Rattle.sigma_lower.specs.Merged.{TreesCanMerge}
-use Rattle.sigma_lower.specs.Shared.{embed, phase_term, AllEmbed}
+use Rattle.sigma_lower.specs.Shared.{embed, phase_term}
 use Rattle.sigma_lower.specs.Trees.{core_term}
 use Rattle.sigma_lower.proofs.Closing.{closed-can}
 use Rattle.sigma_lower.proofs.Embedded.{embed-core, sizes-of}
 use Rattle.sigma_lower.proofs.Moves.{back-wrapped, left_positive, right_positive}
 use Rattle.sigma_lower.proofs.Numbers.{numbers-wrapped, strided-closed, in-closed, out-closed}
-use Rattle.sigma_lower.proofs.SharedTrees.{trees_embed}
+use Rattle.sigma_lower.proofs.SharedTrees.{AllEmbed, trees_embed}
 use Rattle.sigma_lower.proofs.TightPaths.{IsTight, AreTightTerms, AreTightPhases, tree-tight}
 use Rattle.sigma_lower.specs.TreeTerms.Good.{IsGoodPiece, IsVecOf, IsGoodCore, IsGood, AreGood}
 use Rattle.sigma_lower.specs.TreeTerms.Term as lowered

@@ -1,5 +1,5 @@
 -- The products after the last phase: what they do, and that they can be merged.
-use Rattle.std.proofs.Common.{◌≡◌, ℕ, ◌+◌, ◌==◌, Bool, true, false, arith, refl, sym, ap, ◌∙◌, List, [], ◌∷◌, ◌++◌, if◌then◌else◌}
+use Rattle.std.proofs.Common.{◌≡◌, ℕ, ◌==◌, Bool, true, false, arith, refl, sym, ap, ◌∙◌, List, [], ◌∷◌, ◌++◌, if◌then◌else◌}
 use Rattle.std.specs.Prelude.{map, Option, None, Some}
 use Rattle.std.proofs.lemmas.List.{map-append}
 use Rattle.sigma_lower.specs.Merged.{closing_term, close_last, closed_phases}

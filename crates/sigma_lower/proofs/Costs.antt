@@ -1,26 +1,21 @@
 -- The terms of a formula for lanes have its operations: each processor has its share.
 use Rattle.std.proofs.Common.{◌≡◌, ℕ, ◌+◌, ◌*◌, ◌/◌, ◌%◌, ◌<◌, ◌==◌, Bool, true, false, arith, refl, sym, ap, ap₂, ◌∙◌, List, [], ◌∷◌, ◌++◌, subst, if◌then◌else◌}
 use Rattle.std.specs.Prelude.{All, map, Option, None, Some}
-use Rattle.std.specs.List.{sum}
 use Rattle.std.proofs.Math.Nat.{mul-div_right, zero-div}
 use Rattle.std.proofs.lemmas.List.Elements.{All-head, All-tail}
 use Rattle.smp_rewrite.specs.Fits.{CanShareLayout}
 use Rattle.sigma_spl.specs.Shared.Costs.{work_cost}
 use Rattle.operators.specs.declared.target.Target.{Target}
 use Rattle.sigma_spl.specs.Counts.{term_cost}
-use Rattle.sigma_spl.specs.Sigma.{terms_cost}
 use Rattle.sigma_spl.specs.Term.{PlainTerm}
-use Rattle.sigma_spl.specs.Work.{PlainWork}
-use Rattle.sigma_lower.specs.Merged.{closed_phases, phase_costs, sigma_of, whole_sigma, SigmaCosts}
+use Rattle.sigma_lower.specs.Merged.{closed_phases, phase_costs, sigma_of, whole_sigma}
 use Rattle.sigma_lower.specs.Shared.{embed, phase_term}
-use Rattle.sigma_lower.proofs.SharedTrees.{all-left, all-right}
 use Rattle.sigma_lower.specs.TreeTerms.Good.{IsVecOf}
 use Rattle.sigma_lower.specs.TreeTerms.Term.{lowered_core, after_core, factor_term}
 use Rattle.smp_rewrite.specs.Cut.{smp_of}
 use Rattle.smp_rewrite.specs.Laws.{HasEqualParts, IsDiagonal, IsPermutation}
-use Rattle.smp_rewrite.specs.Smp.{by_phase, within}
+use Rattle.smp_rewrite.specs.Smp.{within}
 use Rattle.smp_rewrite.proofs.Tensors.{copies-within}
-use Rattle.smp_rewrite.proofs.TreeLaws.{smp_costs}
 use Rattle.smp_rewrite.specs.LayoutSteps.Whole.{Whole, closing_cost}
 use Rattle.smp_rewrite.specs.LayoutSteps.Meaning.{core_size}
 use Rattle.smp_rewrite.specs.LayoutSteps.Step.{PlainCore, piece, turns, twiddles, thomas_in, thomas_out, core_cost}
@@ -31,9 +26,9 @@ use Rattle.tree_model.proofs.Splits.{product_div}
 use Rattle.vec_rewrite.specs.Laws.{HasLanes}
 use Rattle.vec_rewrite.specs.Turning.{vec_of}
 use Rattle.vec_rewrite.specs.Vectors.{PlainFactor, lanes, diagonals, move_before, move_after, tiles, PlainVec, share_of, shares_in, vec_shares}
-use Rattle.vec_rewrite.proofs.LaneLaws.{vec_keeps}
 use Rattle.vec_rewrite.proofs.LaneShapes.{vec_shaped}
 use Rattle.vec_rewrite.proofs.LaneShares.{shares_in-append}
+use Rattle.sigma_lower.proofs.SharedTrees.{all-left, all-right}
 
 -- ---- factors
 
@@ -194,33 +189,3 @@ vec_costs weight c g h =
     subst
     (λ z. phase_costs weight c.modulus (sigma_of z) ≡ map (λ k. c.procs * k) (vec_shares weight c.modulus z))
     (sym h.form) (whole-costs weight c h.whole h.shares)
-
--- ---- together
-
-abbrev added : List ℕ → ℕ
-added [] = 0
-added (x ∷ xs) = x + added xs
-
-terms-added : (weight : ℕ) (cost : PlainWork → ℕ) (n : ℕ) (ts : List PlainTerm) →
-    terms_cost weight cost n ts ≡ added (map (term_cost weight cost n) ts)
-terms-added weight cost n [] = refl
-terms-added weight cost n (t ∷ ts) = ap (λ x. term_cost weight cost n t + x) (terms-added weight cost n ts)
-
-shares-added : (p a b : ℕ) → added (map (λ k. p * k) (by_phase p a b)) ≡ p * sum (by_phase p a b)
-shares-added p a b = pick (p == 1)
-  where
-    pick : (one : Bool) →
-        added (map (λ k. p * k) (if one then (a + b) ∷ [] else a ∷ b ∷ []))
-        ≡ p * sum (if one then (a + b) ∷ [] else a ∷ b ∷ [])
-    pick true = let one : p * (a + b) + 0 ≡ p * (0 + (a + b)) = omega arith in one
-    pick false = let two : p * a + (p * b + 0) ≡ p * (0 + a + b) = omega arith in two
-
--- which are those of the whole
-pub sigma_costs : SigmaCosts
-sigma_costs weight c w can =
-    let kept = vec_keeps weight c.modulus c (smp_of c w) (record { whole = w; shares = can.shares; form = refl }) in
-    terms-added weight (work_cost weight c.modulus) c.size (whole_sigma c w).phases
-    ∙ ap added (whole-costs weight c w can.shares)
-    ∙ shares-added c.procs _ _
-    ∙ ap (λ ks. c.procs * sum ks) kept.1
-    ∙ smp_costs weight c w can.shares

@@ -8,7 +8,7 @@ use Rattle.matrix_meaning.specs.declared.Kind.TheVariants.{Wht}
 use Rattle.matrix_meaning.specs.Kind.{IsPowerOfTwo}
 use Rattle.sigma_spl.specs.Counts.{term_cost}
 use Rattle.sigma_spl.specs.Shared.Costs.{work_cost}
-use Rattle.sigma_lower.specs.Operations.{operations, LowerCounts}
+use Rattle.sigma_lower.specs.Operations.{operations}
 use Rattle.sigma_lower.specs.Terms.{one_more, halvings, hadamard_term, fourier_term, term_of}
 use Rattle.sigma_lower.proofs.Lowers.{halvings-power, power-above}
 use Rattle.sigma_lower.proofs.Parts.{size-more}
@@ -93,5 +93,7 @@ lower-cost weight m n path (DirectSum a b) positive shaped is =
       one x = omega arith
 lower-cost weight m n path (Pending a) positive shaped is = lower-cost weight m n path a positive shaped is
 
-pub lower_counts : LowerCounts
+-- for each copy under the path
+pub lower_counts : (weight m : ℕ) (path : Path) (f : Formula) → 0 < m → IsShaped f →
+    term_cost weight (work_cost weight m) (size_under path (size_of f)) (term_of m path f) ≡ copies_of path * operations weight m f
 lower_counts weight m path f positive shaped = lower-cost weight m (size_under path (size_of f)) path f positive shaped refl

@@ -1,6 +1,5 @@
 -- The terms of trees are good terms, which do what they did.
-use Rattle.std.proofs.Common.{◌≡◌, ℕ, ◌*◌, ◌<◌, ◌≤◌, Bool, true, false, arith, refl, sym, ap, ap₂, ◌∙◌, List, ◌∷◌, subst, if◌then◌else◌}
-use Rattle.std.specs.Prelude.{◌==◌}
+use Rattle.std.proofs.Common.{◌≡◌, ℕ, ◌*◌, ◌<◌, ◌≤◌, arith, refl, sym, ap, ap₂, ◌∙◌, List, subst}
 use Rattle.index_fn.specs.Mapping.{Mapping, Strided, ThomasIn, ThomasOut, ThomasBack, at}
 use Rattle.operators.specs.declared.target.Target.{Target}
 use Rattle.sigma_lower.specs.Machine.{IsMachine}
@@ -11,7 +10,7 @@ use Rattle.sigma_spl.specs.Term.{scat, nest, term_on}
 use Rattle.sigma_spl.specs.Work.{tile}
 use Rattle.sigma_spl.proofs.Keeps.{scatter-same}
 use Rattle.sigma_spl.proofs.Nests.{moves-no-words}
-use Rattle.sigma_lower.specs.Shared.{embed, Embeds, FactorsEmbed}
+use Rattle.sigma_lower.specs.Shared.{embed}
 use Rattle.sigma_lower.specs.Trees.{core_term}
 use Rattle.sigma_lower.proofs.Moves.{back-wrapped, strided-move, in-move, out-move}
 use Rattle.sigma_lower.proofs.Parts.{tile-under}
@@ -19,6 +18,7 @@ use Rattle.sigma_lower.proofs.Trees.{piece-nests, core-lowers, flip}
 use Rattle.sigma_lower.proofs.Vectors.{laned-move}
 use Rattle.sigma_lower.proofs.TreeTerms.Vectors.{HasVectors, vectors-blocks, vectors-columns}
 use Rattle.sigma_lower.specs.TreeTerms.Good.{IsGoodCore, IsGood}
+use Rattle.sigma_lower.specs.TreeTerms.Term as lowered
 use Rattle.sigma_lower.specs.TreeTerms.Term.{lowered_core, factor_term}
 use Rattle.sigma_lower.specs.TreeTerms.Wrapped.{wrapped}
 use Rattle.sigma_lower.proofs.TreeTerms.Lowering.{factor_on, part-le}
@@ -32,6 +32,18 @@ use Rattle.operators.specs.declared.tensor_paths.Tensor.TheVariants.{Blocks, Col
 use Rattle.operators.specs.TensorPaths.Path.{Path, copies_of, size_under}
 use Rattle.operators.proofs.TensorPaths.Under.{size_under-copies}
 use Rattle.vec_rewrite.specs.Vectors.{PlainFactor, lanes, diagonals, move_before, move_after, tiles, factor_step}
+use Rattle.vec_rewrite.specs.Laws.{HasLanes}
+use Rattle.sigma_lower.proofs.TreeTerms.Behind.{blocks-within}
+
+-- tiles stand in blocks
+abbrev pub HasBlocks : PlainFactor → Type 0
+HasBlocks (tiles path) = AreBlocks path
+HasBlocks f = Unit {0}
+
+-- The term of a factor is good, and does what it did
+pub record Embeds (h : Target) (p v : ℕ) (f : PlainFactor) : Type 0 where
+  pub good : IsGoodTerm v h.size (embed (factor_term p v f))
+  pub on : (x : List ℕ) → IsVector h.modulus h.size x → term_on h.modulus h.size (embed (factor_term p v f)) x ≡ lowered.term_on h (factor_term p v f) x
 
 -- permutations move whole vectors
 abbrev MovesBy : ℕ → Path → PlainCore → Type 0
@@ -141,13 +153,7 @@ tile-embeds c p v path valid blocks h =
           ap (λ k. term_on c.modulus k (nest all (tile v)) x) (sym h.size)
           ∙ tile-under c.modulus all v x (subst (λ k. IsVector c.modulus k x) (sym h.size) w)
           ∙ sym (factor_on c p v (tiles path) x h);
-    } where
-      pick : (b : Bool) (p : ℕ) (path : Path) → AreBlocks path → AreBlocks (if b then path else Blocks p ∷ path)
-      pick true p path h = h
-      pick false p path h = h
-
-      blocks-within : (p : ℕ) (path : Path) → AreBlocks path → AreBlocks (within (Blocks p) path)
-      blocks-within p path h = pick (p == 1) p path h
+    }
 
 after-embeds : (c : Target) (p v : ℕ) (path : Path) (k : PlainCore) → IsMachine c → IsGood c.size (factor_step p v (move_after (steps.step path k))) → Embeds c p v (move_after (steps.step path k))
 after-embeds c p v path (piece t) valid h = core-embeds c p v (move_after (steps.step path (piece t))) valid h refl tt
@@ -156,7 +162,8 @@ after-embeds c p v path (steps.twiddles r s w) valid h = core-embeds c p v (move
 after-embeds c p v path (thomas_in r s) valid h = core-embeds c p v (move_after (steps.step path (thomas_in r s))) valid h refl (vectors-columns v path)
 after-embeds c p v path (thomas_out r s) valid h = core-embeds c p v (move_after (steps.step path (thomas_out r s))) valid h refl (vectors-columns v path)
 
-pub factors_embed : FactorsEmbed
+pub factors_embed : (h : Target) (p v : ℕ) (f : PlainFactor) → IsMachine h → HasLanes h.size p v f → HasBlocks f →
+    IsGood h.size (factor_step p v f) → Embeds h p v f
 factors_embed c p v (lanes s) valid laned blocks h =
     core-embeds c p v (lanes s) valid h refl (vectors-move v (factor_step p v (lanes s)).path s.core (vectors-blocks v p (within (Columns v) s.path) (vectors-columns v s.path)))
 factors_embed c p v (diagonals s) valid laned blocks h = core-embeds c p v (diagonals s) valid h refl (diagonal-moves v s.path s.core laned.1)

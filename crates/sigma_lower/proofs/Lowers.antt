@@ -26,9 +26,9 @@ use Rattle.sigma_spl.specs.Work.{kernel, horner, short}
 use Rattle.sigma_spl.proofs.CopiesMerge.{low, high}
 use Rattle.sigma_spl.proofs.Keeps.{under-vector, under-none, vector-fill, both-equal, front, back, front-vector, back-vector}
 use Rattle.sigma_spl.proofs.Walk.{vector-below}
-use Rattle.sigma_lower.specs.Terms.{one_more, halvings, hadamard_term, fourier_term, term_of, Lowers, LowerKeeps}
+use Rattle.sigma_lower.specs.Terms.{one_more, halvings, hadamard_term, fourier_term, term_of}
 use Rattle.sigma_lower.proofs.Moves.{left_positive, move-wrapped, strided-move, in-move, out-move}
-use Rattle.sigma_lower.proofs.Parts.{transform-work, nest-lowers, move-lowers, diag-lowers, product-lowers, lowers-as, size-more, more-lowers, under-keeps}
+use Rattle.sigma_lower.proofs.Parts.{transform-work, nest-lowers, move-lowers, diag-lowers, product-lowers, lowers-as, size-more, more-lowers, under-keeps, Lowers}
 use Rattle.sigma_lower.specs.TreeTerms.Wrapped.{wrapped}
 use Rattle.sigma_lower.proofs.TreeTerms.Lowering.{AreCoprime}
 use Rattle.sigma_lower.proofs.TreeTerms.Permuted.{gather-under}
@@ -163,7 +163,8 @@ diagonal-lowers m path c =
 pub coprime : (r s : ℕ) → 2 ≤ r → 2 ≤ s → IsGcd r s 1 → r * s ≤ 1048576 → AreCoprime r s
 coprime r s h g gcd small = record { left = omega arith; right = omega arith; gcd = gcd; small = small }
 
-pub lowers : LowerKeeps
+pub lowers : (m : ℕ) (path : Path) (f : Formula) → 0 < m → 0 < size_under path (size_of f) → IsShaped f →
+    Lowers m (size_under path (size_of f)) (term_of m path f) (under path (size_of f) (apply m f))
 lowers m path (Identity n) positive some shaped = record { good = tt; on = λ x v. sym (under-none m path n x v) }
 lowers m path (Fourier n w) positive some shaped = fourier-lowers m path n w
 lowers m path (Hadamard n) positive some shaped = power shaped.1 where

@@ -1,14 +1,10 @@
 -- The permutations of formulas can be undone, under tensors too.
-use Rattle.std.proofs.Common.{◌≡◌, ◌≢◌, ℕ, zero, suc, ◌+◌, ◌*◌, ◌/◌, ◌%◌, ◌<◌, ◌≤◌, arith, refl, sym, ap, ap₂, ◌∙◌, [], ◌∷◌, inl, inr, subst, mod-lt, mod-eq_of_lt, div-lt_iff_lt-mul, mul_comm}
-use Rattle.std.proofs.Math.Nat.{add-mod, mod-mod, mod-mod_of_dvd, dvd-mul_right, dvd-mul_left, div-add-mod'}
-use Rattle.std.proofs.lemmas.Nat.{mul-mod_second, mul-lt, mod-mul-add}
-use Rattle.std.proofs.lemmas.Bool.{cases_eq}
-use Rattle.std.proofs.lemmas.Bool.Decides.{nat_tests}
+use Rattle.std.proofs.Common.{◌≡◌, ℕ, ◌*◌, ◌<◌, ◌≤◌, arith, refl, sym, ap, [], ◌∷◌, subst, mod-lt, mul_comm}
+use Rattle.std.proofs.lemmas.Nat.{mul-lt}
 use Rattle.index_fn.specs.Mapping.{Mapping, Same, Strided, ThomasIn, ThomasOut, ThomasBack, Paired, at}
 use Rattle.index_fn.specs.Inverse.{Undoes}
 use Rattle.index_fn.proofs.StepsBefore.{in_undoes, inverse_is}
 use Rattle.operators.specs.Loop.{IsPermutationBelow}
-use Rattle.operators.proofs.Lists.{place_below}
 use Rattle.sigma_spl.specs.Good.{IsFormed, IsMove}
 pub use Rattle.sigma_spl.proofs.Keeps.{left_positive, right_positive}
 use Rattle.sigma_spl.proofs.Nests.{moves-no-words}

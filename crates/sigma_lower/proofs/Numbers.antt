@@ -1,5 +1,5 @@
 -- The numbers of permutations are words, under tensors too.
-use Rattle.std.proofs.Common.{◌≡◌, ℕ, ◌*◌, ◌<◌, ◌≤◌, true, not, eqb, ◌&&◌, ◌||◌, arith, refl, sym, [], ◌∷◌, subst, mul_comm}
+use Rattle.std.proofs.Common.{◌≡◌, ℕ, ◌*◌, ◌≤◌, true, not, eqb, ◌&&◌, ◌||◌, arith, refl, sym, [], ◌∷◌, subst, mul_comm}
 use Rattle.std.proofs.lemmas.Bool.{and_from, eq-eqb, or_right}
 use Rattle.index_fn.specs.Mapping.{Mapping, Strided, ThomasIn, ThomasOut}
 use Rattle.index_fn.specs.Back.{HasBack, has_back, has_size}

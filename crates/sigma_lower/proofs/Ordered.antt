@@ -2,10 +2,8 @@
 use Rattle.std.proofs.Common.{◌≡◌, ℕ, ◌*◌, ◌/◌, ◌==◌, Bool, true, false, List, [], ◌∷◌, ◌++◌, refl, sym, subst, if◌then◌else◌, None}
 use Rattle.std.specs.Prelude.{map, not, ◌&&◌}
 use Rattle.sigma_spl.specs.Loops.{PlainLoop, Looping, begun, looped, InOrder}
-use Rattle.sigma_spl.specs.Merge.{is_tile, unbounded}
-use Rattle.sigma_spl.specs.Work.{kernel}
-use Rattle.sigma_spl.proofs.Listed.{merge_listed}
-use Rattle.sigma_lower.specs.Order.{IsOrderedPhase, AllOrdered, TreesOrdered, AllLoops, TreesAreLoops}
+use Rattle.sigma_spl.specs.Merge.{is_tile}
+use Rattle.sigma_lower.specs.Order.{IsOrderedPhase, AllOrdered, TreesOrdered}
 use Rattle.sigma_lower.specs.Shared.{embed, phase_term}
 use Rattle.sigma_lower.specs.TreeTerms.Root.{left_path, left_core, left_terms, right_path, tile_path, turned_in, tiled_before, tiled_after, vectors_grouped, lines_moved, vectors_turned, right_terms, root_terms}
 use Rattle.sigma_lower.specs.TreeTerms.Term.{PlainTerm, gath, scat, diag, nest, lowered_core, lowered, lowered_of}
@@ -316,13 +314,3 @@ pick-layout c l shares good false is = subst (AllOrdered c) (sym (shared_terms c
 
 pub trees_ordered : TreesOrdered
 trees_ordered c l valid shares good = pick-layout c l shares good (is_alone c) refl
-
--- ---- the passes of phases
-
-all-loops : (c : Target) (phases : List (List PlainTerm)) → AllOrdered c phases → AllLoops c phases
-all-loops c [] h = tt
-all-loops c (ts ∷ more) h = (λ some. merge_listed unbounded c.size (phase_term ts) (record { in_order = h.0.in_order; none_waits = h.0.none_waits; some = some }) tt, all-loops c more h.1)
-
--- no copy pass arises
-pub trees_are_loops : TreesAreLoops
-trees_are_loops c l valid shares good = all-loops c (lowered_of c l) (trees_ordered c l valid shares good)

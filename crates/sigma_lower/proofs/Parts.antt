@@ -20,13 +20,18 @@ use Rattle.sigma_spl.specs.Work.{PlainWork, tile, work_size, work_on}
 use Rattle.sigma_spl.proofs.Keeps.{under-vector, vector-fill}
 use Rattle.sigma_spl.proofs.Natural.{at-natural}
 use Rattle.sigma_spl.proofs.Walk.{vector-below}
-use Rattle.sigma_lower.specs.Terms.{one_more, Lowers}
+use Rattle.sigma_lower.specs.Terms.{one_more}
 use Rattle.sigma_lower.proofs.TreeTerms.Permuted.{scale-under}
 use Rattle.operators.specs.declared.tensor_paths.Tensor.{Tensor}
 use Rattle.operators.specs.declared.tensor_paths.Tensor.TheVariants.{Blocks, Columns}
 use Rattle.operators.specs.TensorPaths.Path.{Path, count_of, grown, size_under, one_under, under, place, Reads, local}
 use Rattle.operators.proofs.TensorPaths.PathPlaces.{at-under, place-below}
 use Rattle.operators.proofs.TensorPaths.Under.{size_under-push, under-push, under-product, under-size}
+
+-- a good term that does to a vector what an operator does
+pub record Lowers (m n : ℕ) (t : PlainTerm) (a : Operator) : Type 0 where
+  pub good : IsGoodTerm 0 n t
+  pub on : (x : List ℕ) → IsVector m n x → term_on m n t x ≡ a x
 
 -- ---- loops
 

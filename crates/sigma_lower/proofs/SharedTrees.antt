@@ -1,22 +1,17 @@
--- The terms of whole trees, for any processors and lanes, and their passes.
-use Rattle.std.proofs.Common.{◌≡◌, ℕ, ◌<◌, ◌/◌, ◌==◌, Bool, true, false, arith, refl, sym, ap, ◌∙◌, List, [], ◌∷◌, ◌++◌, subst, Option, Some, None, if◌then◌else◌}
+-- The terms of whole trees, for any processors and lanes, are good terms, which do what they did.
+use Rattle.std.proofs.Common.{◌≡◌, ℕ, ◌/◌, ◌==◌, Bool, true, false, refl, sym, ap, ◌∙◌, List, [], ◌∷◌, ◌++◌, subst, Option, Some, None, if◌then◌else◌}
 use Rattle.std.specs.Prelude.{All, map}
 use Rattle.std.proofs.lemmas.List.Elements.{All-nil, All-cons, All-head, All-tail, All-append}
 use Rattle.operators.specs.declared.target.Target.{Target}
 use Rattle.sigma_lower.specs.Machine.{IsMachine}
-use Rattle.sigma_spl.specs.Good.{AreBlocks, IsVector}
-use Rattle.sigma_spl.specs.Merge.{Room, passes_within}
-use Rattle.sigma_spl.specs.Nest.{passes_on}
+use Rattle.sigma_spl.specs.Good.{AreBlocks, IsGoodTerm, IsVector}
 use Rattle.sigma_spl.specs.Term.{term_on}
-use Rattle.sigma_spl.proofs.Keeps.{merge_keeps}
-use Rattle.sigma_spl.proofs.Walk.{passes-vector}
-use Rattle.sigma_lower.specs.Shared.{phase_term, HasBlocks, PhaseEmbeds, AllEmbed, TreesEmbed, phases_passes_on, AllMerge, SharedTreesMerge}
-use Rattle.sigma_lower.proofs.Embedded.{factors_embed}
+use Rattle.sigma_lower.specs.Shared.{phase_term}
+use Rattle.sigma_lower.proofs.Embedded.{HasBlocks, factors_embed}
 use Rattle.sigma_lower.proofs.Trees.{step-keeps}
 use Rattle.sigma_lower.specs.TreeTerms.Good.{AreGood, IsVecOf}
 use Rattle.sigma_lower.specs.TreeTerms.Term as lowered
 use Rattle.sigma_lower.specs.TreeTerms.Term.{factor_term, lowered_of}
-use Rattle.sigma_lower.proofs.TreeTerms.Both.{lowered_transforms}
 use Rattle.sigma_lower.proofs.TreeTerms.Goods.{vec_good, phases_good}
 use Rattle.sigma_lower.proofs.TreeTerms.Lowering.{factor_on}
 use Rattle.smp_rewrite.specs.Cut.{layout_smp}
@@ -32,15 +27,14 @@ use Rattle.vec_rewrite.specs.Laws.{HasLanes}
 use Rattle.vec_rewrite.specs.Turning.{kept, settled, grouped, order_after, narrowed, block_factors, laned, laned_from, phase_of, deal_of, vec_of}
 use Rattle.vec_rewrite.specs.Vectors.{PlainFactor, lanes, diagonals, move_before, move_after, tiles, factor_step}
 use Rattle.vec_rewrite.proofs.LaneShapes.{vec_shaped}
+use Rattle.smp_rewrite.specs.Fits.{CanShareLayout}
+use Rattle.smp_rewrite.specs.LayoutSteps.Layout.{Layout, IsGoodLayout}
+use Rattle.sigma_lower.proofs.TreeTerms.Behind.{blocks-within}
 
 -- ---- tiles stand in blocks
 
-pick-blocks : (b : Bool) (k : ℕ) (path : Path) → AreBlocks path → AreBlocks (if b then path else Blocks k ∷ path)
-pick-blocks true k path h = h
-pick-blocks false k path h = h
-
 grid-blocks : (g : Grid) → AreBlocks (within (Blocks g.groups) (within (Blocks g.tiles) []))
-grid-blocks g = pick-blocks (g.groups == 1) g.groups (within (Blocks g.tiles) []) (pick-blocks (g.tiles == 1) g.tiles [] tt)
+grid-blocks g = blocks-within g.groups (within (Blocks g.tiles) []) (blocks-within g.tiles [] tt)
 
 one-blocks : (f : PlainFactor) → HasBlocks f → All HasBlocks (f ∷ [])
 one-blocks f h = All-cons HasBlocks f [] h (All-nil HasBlocks)
@@ -104,6 +98,15 @@ phase-blocks d fs = pick-all (d.lanes == 1) (map kept fs) (laned_from d None fs)
 
 -- ---- phases
 
+-- The term of a phase is good, and does what its terms did
+pub record PhaseEmbeds (h : Target) (v : ℕ) (ts : List lowered.PlainTerm) : Type 0 where
+  pub good : IsGoodTerm v h.size (phase_term ts)
+  pub on : (x : List ℕ) → IsVector h.modulus h.size x → term_on h.modulus h.size (phase_term ts) x ≡ lowered.terms_on h ts x
+
+abbrev pub AllEmbed : Target → ℕ → List (List lowered.PlainTerm) → Type 0
+AllEmbed h v [] = Unit {0}
+AllEmbed h v (ts ∷ more) = PhaseEmbeds h v ts × AllEmbed h v more
+
 pub all-left : (P : PlainFactor → Type 0) (fs gs : List PlainFactor) → All P (fs ++ gs) → All P fs
 all-left P [] gs h = All-nil P
 all-left P (f ∷ fs) gs h = All-cons P f fs (All-head P f (fs ++ gs) h) (all-left P fs gs (All-tail P f (fs ++ gs) h))
@@ -129,7 +132,7 @@ pick-phases : (c : Target) (p v : ℕ) (b : Bool) (first second : List PlainFact
 pick-phases c p v true first second all h k = (all, tt)
 pick-phases c p v false first second all h k = (h, (k, tt))
 
-pub trees_embed : TreesEmbed
+pub trees_embed : (c : Target) (l : Layout) → IsMachine c → CanShareLayout c l → IsGoodLayout c.modulus l → AllEmbed c c.lanes (lowered_of c l)
 trees_embed c l valid shares good =
     let g = vec_of (layout_smp c l) in
     let d = deal_of c in
@@ -144,24 +147,3 @@ trees_embed c l valid shares good =
     pick-phases c c.procs c.lanes (c.procs == 1) g.first g.second (phase-embeds c c.procs c.lanes (g.first ++ g.second) valid shaped (All-append HasBlocks g.first g.second first second) all)
     (phase-embeds c c.procs c.lanes g.first valid (all-left P g.first g.second shaped) first both.0)
     (phase-embeds c c.procs c.lanes g.second valid (all-right P g.first g.second shaped) second both.1)
-
--- ---- passes
-
-all-merge : (room : Room) (c : Target) (phases : List (List lowered.PlainTerm)) → IsMachine c → AllEmbed c c.lanes phases → AllMerge room c phases
-all-merge room c [] valid h = tt
-all-merge room c (ts ∷ more) valid h =
-    ((merge_keeps c.lanes c.modulus c.size room (phase_term ts) (omega (arith, valid.modulus)) (omega (arith, valid.size.0)) h.0.good).good, all-merge room c more valid h.1)
-
-all-on : (room : Room) (c : Target) (phases : List (List lowered.PlainTerm)) (x : List ℕ) → IsMachine c → AllEmbed c c.lanes phases → IsVector c.modulus c.size x → phases_passes_on room c phases x ≡ lowered.phases_on c phases x
-all-on room c [] x valid h v = refl
-all-on room c (ts ∷ more) x valid h v =
-    let positive : 0 < c.modulus = omega (arith, valid.modulus) in
-    let passes = passes_within room c.size (phase_term ts) in
-    let merged = merge_keeps c.lanes c.modulus c.size room (phase_term ts) positive (omega (arith, valid.size.0)) h.0.good in
-    all-on room c more (passes_on c.modulus c.size passes x) valid h.1 (passes-vector c.modulus c.size passes x positive v)
-    ∙ ap (lowered.phases_on c more) (merged.on x v ∙ h.0.on x v)
-
-pub shared_trees_merge : SharedTreesMerge
-shared_trees_merge room c l valid shares good =
-    let all = trees_embed c l valid shares good in
-    record { good = all-merge room c (lowered_of c l) valid all; on = λ x v. all-on room c (lowered_of c l) x valid all v ∙ lowered_transforms c l x shares good }

@@ -12,10 +12,10 @@ use Rattle.sigma_spl.specs.Term.{PlainTerm, same, product, term_on}
 use Rattle.sigma_spl.proofs.Keeps.{merge_keeps}
 use Rattle.sigma_spl.proofs.Walk.{passes-vector}
 use Rattle.sigma_lower.specs.Merged.{sigma_of, CanLower, SigmaTransforms}
-use Rattle.sigma_lower.specs.Shared.{embed, factors_before, phase_term, AllEmbed, PhaseEmbeds}
+use Rattle.sigma_lower.specs.Shared.{embed, factors_before, phase_term}
 use Rattle.sigma_lower.proofs.CanMerge.{trees_can_merge}
 use Rattle.sigma_lower.proofs.Closing.{has_phase, closed-on}
-use Rattle.sigma_lower.proofs.SharedTrees.{trees_embed}
+use Rattle.sigma_lower.proofs.SharedTrees.{AllEmbed, PhaseEmbeds, trees_embed}
 use Rattle.sigma_lower.specs.TreeTerms.Good.{IsVecOf}
 use Rattle.sigma_lower.specs.TreeTerms.Term as lowered
 use Rattle.sigma_lower.specs.TreeTerms.Term.{factor_term, phases_of, terms_in}

@@ -16,11 +16,10 @@ use Rattle.sigma_spl.proofs.Nests.{moves-no-words}
 use Rattle.sigma_spl.proofs.Keeps.{scatter-same}
 use Rattle.sigma_spl.proofs.Walk.{vector-below}
 use Rattle.tree_model.specs.Trees.{PlainTrees, single, tensor, trees_size, trees_on}
-use Rattle.sigma_lower.specs.Terms.{Lowers}
 use Rattle.sigma_lower.specs.Trees.{core_term}
 use Rattle.sigma_lower.proofs.Lowers.{gath-lowers}
 use Rattle.sigma_lower.proofs.Moves.{back-wrapped, move-wrapped, strided-move, in-move, out-move}
-use Rattle.sigma_lower.proofs.Parts.{IsWork, transform-work, nest-lowers, diag-lowers, under-keeps}
+use Rattle.sigma_lower.proofs.Parts.{IsWork, transform-work, nest-lowers, diag-lowers, under-keeps, Lowers}
 use Rattle.sigma_lower.specs.TreeTerms.Good.{AreCoprime, IsGoodPiece, IsGoodCore, IsGood}
 use Rattle.sigma_lower.specs.TreeTerms.Wrapped.{wrapped}
 use Rattle.sigma_lower.proofs.TreeTerms.Lowering.{part-le}

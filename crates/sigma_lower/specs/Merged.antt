@@ -1,35 +1,30 @@
--- The merged passes of a layout, and that they do what it does.
-use Rattle.std.specs.Prelude.{◌≡◌, ℕ, List, [], ◌∷◌, map, reverse, Option, Some, None}
+-- The terms of a layout and of a whole: that they do what it does, and can be merged.
+use Rattle.std.specs.Prelude.{◌≡◌, ℕ, List, [], ◌∷◌, map, Option, Some, None}
 use Rattle.operators.specs.declared.target.Target.{Target}
 use Rattle.sigma_lower.specs.Machine.{IsMachine}
 use Rattle.matrix_meaning.specs.declared.Request.{Request}
 use Rattle.sigma_spl.specs.Counts.{term_cost}
 use Rattle.sigma_spl.specs.Good.{IsVector}
 use Rattle.sigma_spl.specs.Loops.{loops_in, HasLoop}
-use Rattle.sigma_spl.specs.Merge.{unbounded, passes_within}
-use Rattle.sigma_spl.specs.Merged.{PlainMerged, merged_on}
-use Rattle.sigma_spl.specs.Nest.{PlainNest, repeated}
-use Rattle.sigma_spl.specs.Sigma.{PlainSigma, IsGoodSigma, merged_of, sigma_cost, sigma_on}
+use Rattle.sigma_spl.specs.Merged.{PlainMerged}
+use Rattle.sigma_spl.specs.Nest.{repeated}
+use Rattle.sigma_spl.specs.Sigma.{PlainSigma, IsGoodSigma, merged_of, sigma_on}
 use Rattle.sigma_spl.specs.Term as terms
 use Rattle.sigma_lower.specs.Shared.{phase_term}
 use Rattle.sigma_lower.specs.TreeTerms.Term.{PlainTerm, lowered_of, terms_in}
-use Rattle.smp_rewrite.specs.Cut.{layout_smp, smp_of}
+use Rattle.smp_rewrite.specs.Cut.{smp_of}
 use Rattle.smp_rewrite.specs.Smp.{within}
 use Rattle.smp_rewrite.specs.Fits.{CanShareLayout}
 use Rattle.matrix_meaning.specs.Valid.{IsValid}
-use Rattle.smp_rewrite.specs.LayoutSteps.Layout.{Layout, layout_on, IsGoodLayout}
+use Rattle.smp_rewrite.specs.LayoutSteps.Layout.{Layout, IsGoodLayout}
 use Rattle.sigma_spl.specs.Shared.Costs.{work_cost}
 use Rattle.sigma_spl.specs.Shared.Targets.{target_of}
-use Rattle.smp_rewrite.specs.LayoutSteps.Whole.{Whole, whole_of, whole_on, whole_operations, IsGoodWhole}
+use Rattle.smp_rewrite.specs.LayoutSteps.Whole.{Whole, whole_of, whole_on, IsGoodWhole}
 use Rattle.operators.specs.declared.tensor_paths.Tensor.TheVariants.{Blocks}
 use Rattle.tree_model.specs.Breakdown.{Breakdown}
 use Rattle.tree_model.specs.Chosen.{IsWholeTree}
 use Rattle.vec_rewrite.specs.Turning.{vec_of}
 use Rattle.vec_rewrite.specs.Vectors.{PlainVec}
-
--- the passes of a phase, the first of them first
-abbrev pub phase_passes : Target → List PlainTerm → List (List PlainNest)
-phase_passes h ts = reverse (passes_within unbounded h.size (phase_term ts))
 
 -- each of n words times v, as a diagonal of one entry
 abbrev pub closing_term : ℕ → ℕ → terms.PlainTerm
@@ -58,10 +53,7 @@ sigma_of g = record {
 abbrev pub phase_costs : ℕ → ℕ → PlainSigma → List ℕ
 phase_costs weight m g = map (term_cost weight (work_cost weight m) g.size) g.phases
 
--- the terms of a layout, and of a whole
-abbrev pub layout_sigma : Target → Layout → PlainSigma
-layout_sigma h l = sigma_of (vec_of (layout_smp h l))
-
+-- the terms of a whole
 abbrev pub whole_sigma : Target → Whole → PlainSigma
 whole_sigma h w = sigma_of (vec_of (smp_of h w))
 
@@ -75,20 +67,11 @@ pub record CanLower (h : Target) (w : Whole) : Type 0 where
 abbrev pub TreesCanMerge : Type 0
 TreesCanMerge = (h : Target) (w : Whole) → CanLower h w → IsGoodSigma (whole_sigma h w)
 
--- their operations are those of the whole
-abbrev pub SigmaCosts : Type 0
-SigmaCosts =
-    (weight : ℕ) (h : Target) (w : Whole) → CanLower h w →
-    sigma_cost weight (work_cost weight h.modulus) (whole_sigma h w) ≡ whole_operations weight h.modulus w
-
 -- they do what it does
 abbrev pub SigmaTransforms : Type 0
 SigmaTransforms =
     (h : Target) (w : Whole) (x : List ℕ) → CanLower h w → IsVector h.modulus h.size x →
     sigma_on h.modulus (whole_sigma h w) x ≡ whole_on h.modulus w x
-
-abbrev pub layout_merged : Target → Layout → PlainMerged
-layout_merged h l = record { size = h.size; procs = h.procs; lanes = h.lanes; phases = map (phase_passes h) (lowered_of h l) }
 
 -- the merged passes of a request's tree: an inverse multiplies in the last of them
 abbrev pub tree_merged : Request → Breakdown → PlainMerged
@@ -97,10 +80,6 @@ tree_merged c t = merged_of (whole_sigma (target_of c) (whole_of c t))
 -- the whole of a tree that a request admits
 abbrev pub TreesCanLower : Type 0
 TreesCanLower = (c : Request) (t : Breakdown) → IsValid c → IsWholeTree c t → CanLower (target_of c) (whole_of c t)
-
--- the merged passes of a layout do what it does
-abbrev pub TreesKeep : Type 0
-TreesKeep = (h : Target) (l : Layout) (x : List ℕ) → IsMachine h → CanShareLayout h l → IsGoodLayout h.modulus l → IsVector h.modulus h.size x → merged_on h.modulus (layout_merged h l) x ≡ layout_on h.modulus l x
 
 -- each phase has a loop
 abbrev pub AllHaveLoops : Target → List (List PlainTerm) → Type 0

@@ -1,14 +1,10 @@
 -- The operations of a formula.
-use Rattle.std.specs.Prelude.{◌≡◌, ℕ, ◌+◌, ◌-◌, ◌*◌, ◌<◌, nat_le, if◌then◌else◌, length}
+use Rattle.std.specs.Prelude.{ℕ, ◌+◌, ◌-◌, ◌*◌, nat_le, if◌then◌else◌, length}
 use Rattle.tree_model.specs.KernelCosts.{products_cost}
 use Rattle.matrix_meaning.specs.declared.Kind.TheVariants.{Dft}
 use Rattle.matrix_meaning.specs.Kind.{entry_of}
-use Rattle.sigma_spl.specs.Counts.{term_cost}
-use Rattle.sigma_lower.specs.Terms.{halvings, term_of}
-use Rattle.spl_ast.specs.Formula.{Formula, Identity, Fourier, Hadamard, Twiddles, Diagonal, Stride, Permutation, GoodThomasIn, GoodThomasOut, Product, TensorLeft, TensorRight, DirectSum, Pending, size_of}
-use Rattle.spl_ast.specs.Shape.{IsShaped}
-use Rattle.sigma_spl.specs.Shared.Costs.{work_cost}
-use Rattle.operators.specs.TensorPaths.Path.{Path, copies_of, size_under}
+use Rattle.sigma_lower.specs.Terms.{halvings}
+use Rattle.spl_ast.specs.Formula.{Formula, Identity, Fourier, Hadamard, Twiddles, Diagonal, Stride, Permutation, GoodThomasIn, GoodThomasOut, Product, TensorLeft, TensorRight, DirectSum, Pending}
 
 -- A permutation has none, a diagonal a product for each item. A short DFT has an addition or subtraction for each entry but those of a column, and a product for each entry that is neither 1 nor -1; a longer one has a product and an addition for each entry
 abbrev pub operations : ℕ → ℕ → Formula → ℕ
@@ -27,7 +23,3 @@ operations weight m (TensorLeft a k) = k * operations weight m a
 operations weight m (TensorRight k a) = k * operations weight m a
 operations weight m (DirectSum a b) = operations weight m a + operations weight m b
 operations weight m (Pending a) = operations weight m a
-
--- the term of a formula has its operations, for each copy under the path
-abbrev pub LowerCounts : Type 0
-LowerCounts = (weight m : ℕ) (path : Path) (f : Formula) → 0 < m → IsShaped f → term_cost weight (work_cost weight m) (size_under path (size_of f)) (term_of m path f) ≡ copies_of path * operations weight m f

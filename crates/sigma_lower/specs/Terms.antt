@@ -1,18 +1,15 @@
 -- The term of a formula modulo m, under the tensors since the last direct sum.
-use Rattle.std.specs.Prelude.{◌≡◌, ℕ, zero, suc, ◌*◌, ◌/◌, ◌%◌, ◌^◌, ◌<◌, ◌==◌, nat_lt, nat_le, if◌then◌else◌, List, [], ◌∷◌, ◌++◌, map}
+use Rattle.std.specs.Prelude.{ℕ, zero, suc, ◌*◌, ◌/◌, ◌%◌, ◌^◌, ◌==◌, nat_lt, nat_le, if◌then◌else◌, [], ◌∷◌, ◌++◌, map}
 use Rattle.index_fn.specs.Mapping.{Strided, ThomasIn, ThomasOut}
 use Rattle.matrix_meaning.specs.declared.Kind.TheVariants.{Dft, Wht}
-use Rattle.sigma_spl.specs.Good.{IsGoodTerm, IsVector}
 use Rattle.sigma_spl.specs.Nest.{values, twiddles}
-use Rattle.sigma_spl.specs.Term.{PlainTerm, same, gath, diag, nest, move, product, beside, term_on}
+use Rattle.sigma_spl.specs.Term.{PlainTerm, same, gath, diag, nest, move, product, beside}
 use Rattle.sigma_spl.specs.Work.{kernel, horner, short}
 use Rattle.sigma_lower.specs.TreeTerms.Wrapped.{wrapped}
 use Rattle.spl_ast.specs.Formula.{Formula, Identity, Fourier, Hadamard, Twiddles, Diagonal, Stride, Permutation, GoodThomasIn, GoodThomasOut, Product, TensorLeft, TensorRight, DirectSum, Pending, size_of}
-use Rattle.spl_ast.specs.Meaning.{apply}
-use Rattle.spl_ast.specs.Shape.{IsShaped}
 use Rattle.operators.specs.declared.tensor_paths.Tensor.{Tensor}
 use Rattle.operators.specs.declared.tensor_paths.Tensor.TheVariants.{Blocks, Columns}
-use Rattle.operators.specs.TensorPaths.Path.{Path, count_of, size_under, under}
+use Rattle.operators.specs.TensorPaths.Path.{Path, count_of}
 
 -- a tensor of one copy is none
 abbrev pub one_more : Path → Tensor → Path
@@ -48,12 +45,3 @@ term_of m path (TensorLeft a k) = term_of m (one_more path (Columns k)) a
 term_of m path (TensorRight k a) = term_of m (one_more path (Blocks k)) a
 term_of m path (DirectSum a b) = beside path (size_of a) (term_of m [] a) (size_of b) (term_of m [] b)
 term_of m path (Pending a) = term_of m path a
-
--- a good term that does to a vector what an operator does under a path
-pub record Lowers (m n : ℕ) (t : PlainTerm) (a : List ℕ → List ℕ) : Type 0 where
-  pub good : IsGoodTerm 0 n t
-  pub on : (x : List ℕ) → IsVector m n x → term_on m n t x ≡ a x
-
--- the term of a formula does what the formula does
-abbrev pub LowerKeeps : Type 0
-LowerKeeps = (m : ℕ) (path : Path) (f : Formula) → 0 < m → 0 < size_under path (size_of f) → IsShaped f → Lowers m (size_under path (size_of f)) (term_of m path f) (under path (size_of f) (apply m f))

@@ -4,67 +4,25 @@
 
 mod formula;
 mod tree;
-mod tree_loops;
 mod tree_terms;
 
 ghost use Rattle.sigma_lower.specs.Compiled.{FormulasCompile};
-ghost use Rattle.sigma_lower.specs.Merged.{PhasesHaveLoops, SigmaCosts, SigmaTransforms};
-ghost use Rattle.sigma_lower.specs.Merged.{TreesCanLower, TreesCanMerge, TreesKeep};
-ghost use Rattle.sigma_lower.specs.Operations.{LowerCounts};
-ghost use Rattle.sigma_lower.specs.Terms.{LowerKeeps};
-ghost use Rattle.sigma_lower.specs.Order.{TreesAreLoops, TreesOrdered};
-ghost use Rattle.sigma_lower.specs.Shared.{FactorsEmbed, SharedTreesMerge, TreesEmbed};
+ghost use Rattle.sigma_lower.specs.Merged.{PhasesHaveLoops, SigmaTransforms};
+ghost use Rattle.sigma_lower.specs.Merged.{TreesCanLower, TreesCanMerge};
+ghost use Rattle.sigma_lower.specs.Order.{TreesOrdered};
+ghost use Rattle.sigma_lower.specs.TreeLoops.Limits.{LoopsAreLimited};
 ghost use Rattle.sigma_lower.specs.TreeSigmas.{TreesAreSigmas};
 
 pub use formula::lower_formula;
 pub use tree::lower;
-pub use tree_loops::{
-    layouts_count, loops_are_limited, loops_listed, merge_counts, passes_are_framed,
-    phases_are_shared,
-};
-pub use tree_terms::{lowered_transforms, plain_terms, shared_terms, under};
-
-/// The term of a formula does what the formula does.
-pub fn lower_keeps()
-    ensures { LowerKeeps }
-{}
-
-/// The term of a formula has its operations.
-pub fn lower_counts()
-    ensures { LowerCounts }
-{}
+pub use tree_terms::under;
 
 /// The passes of any formula do what it does, in its operations.
 pub fn formulas_compile()
     ensures { FormulasCompile }
 {}
 
-/// The terms of trees for any processors and lanes are good terms, which do what they did.
-pub fn factors_embed()
-    ensures { FactorsEmbed }
-{}
-
-/// So are those of the phases of whole trees.
-pub fn trees_embed()
-    ensures { TreesEmbed }
-{}
-
-/// The passes of trees for any processors and lanes do their transforms, by the law of all terms.
-pub fn shared_trees_merge()
-    ensures { SharedTreesMerge }
-{}
-
-/// The merged passes of a layout do what it does.
-pub fn trees_keep()
-    ensures { TreesKeep }
-{}
-
-/// The terms of a whole have its operations.
-pub fn sigma_costs()
-    ensures { SigmaCosts }
-{}
-
-/// They do what it does.
+/// The terms of a whole do what it does.
 pub fn sigma_transforms()
     ensures { SigmaTransforms }
 {}
@@ -74,14 +32,14 @@ pub fn trees_ordered()
     ensures { TreesOrdered }
 {}
 
-/// So the passes of each phase are its loops, one by one.
-pub fn trees_are_loops()
-    ensures { TreesAreLoops }
-{}
-
 /// Each phase of a layout has a loop.
 pub fn phases_have_loops()
     ensures { PhasesHaveLoops }
+{}
+
+/// No place of a layout's loops is over a limit of programs.
+pub fn loops_are_limited()
+    ensures { LoopsAreLimited }
 {}
 
 /// The terms of a whole can be merged.

@@ -1,9 +1,7 @@
-// Laws of the terms that a layout's formula for processors and lanes stands for, and index functions of permutations under tensors.
+// Index functions of permutations under tensors.
 ghost use Rattle.std.specs.Prelude.{◌≡◌, IfOk};
 ghost use Rattle.index_fn.specs.Index.{mapping_of};
 ghost use Rattle.sigma_spl.specs.Room.{HasRoom};
-ghost use Rattle.sigma_lower.specs.TreeTerms.Root.{SharedTerms};
-ghost use Rattle.sigma_lower.specs.TreeTerms.Term.{LoweredTransforms, PlainTerms};
 ghost use Rattle.sigma_lower.specs.TreeTerms.Wrapped.{wrapped};
 
 use index_fn::Index;
@@ -30,18 +28,3 @@ pub fn under(alloc: Global, path: &[Tensor], n: u64, f: Index) -> Result<Index, 
         }
     }
 }
-
-/// The terms of a layout do what it does.
-pub fn lowered_transforms()
-    ensures { LoweredTransforms }
-{}
-
-/// On one processor and one lane the terms of a layout are those of its steps.
-pub fn plain_terms()
-    ensures { PlainTerms }
-{}
-
-/// On several processors or lanes the terms of a layout are these.
-pub fn shared_terms()
-    ensures { SharedTerms }
-{}

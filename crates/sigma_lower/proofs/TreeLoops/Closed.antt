@@ -18,6 +18,7 @@ use Rattle.operators.specs.TensorPaths.Path.{Path, size_under}
 use Rattle.operators.proofs.TensorPaths.Under.{size_under-push}
 use Rattle.tree_model.specs.declared.tree.Rule.{Rule}
 use Rattle.tree_model.specs.declared.tree.Rule.TheVariants.{Gt, Ct, Split, Dim}
+use Rattle.sigma_lower.proofs.TreeTerms.Closed.{closed-wrapped}
 
 abbrev pub AreClosed : ℕ → List Mapping → Type 0
 AreClosed n [] = Unit {0}
@@ -49,10 +50,6 @@ pub closed-inner : (size : ℕ) (path : Path) (n : ℕ) → size ≤ 1048576 →
 closed-inner size path n high e within =
     subst (λ m. IsClosed m (inner_of path n)) e (record { defined = inner-defined path n (omega arith); below = λ i below. omega (arith, inner-below path n i below) })
 
--- a function of n words under tensors that make so many
-pub closed-under : (size : ℕ) (path : Path) (n : ℕ) (f : Mapping) → size ≤ 1048576 → size_under path n ≡ size → IsClosed n f → IsClosed size (wrapped path n f)
-closed-under size path n f high e h = closed-wrapped size path n f high e h
-
 pub strided-closed : (r s : ℕ) → IsClosed (r * s) (Strided r s)
 strided-closed r s = record { defined = λ i below. below; below = turns_below r s }
 
@@ -60,15 +57,15 @@ strided-closed r s = record { defined = λ i below. below; below = turns_below r
 
 waiting_closed : (size : ℕ) (rule : Rule) (path : Path) (r s : ℕ) (waiting : List Mapping) → IsRuleIn size rule path r s → AreClosed size waiting → AreClosed size (rule_waiting rule path r s waiting)
 waiting_closed size Gt path r s waiting h w =
-    (closed-under size path (r * s) (ThomasIn r s) h.whole.high h.fills (thomas_in-closed r s (omega (arith, h.left)) (omega (arith, h.right)) h.small), w)
-waiting_closed size Ct path r s waiting h w = (closed-under size path (r * s) (Strided r s) h.whole.high h.fills (strided-closed r s), w)
+    (closed-wrapped size path (r * s) (ThomasIn r s) h.whole.high h.fills (thomas_in-closed r s (omega (arith, h.left)) (omega (arith, h.right)) h.small), w)
+waiting_closed size Ct path r s waiting h w = (closed-wrapped size path (r * s) (Strided r s) h.whole.high h.fills (strided-closed r s), w)
 waiting_closed size Split path r s waiting h w = w
 waiting_closed size Dim path r s waiting h w = w
 
 back_closed : (size : ℕ) (path : Path) (r s : ℕ) → IsRuleIn size Gt path r s → IsClosed size (wrapped path (r * s) (ThomasBack r s (unit_of r s) (unit_of s r)))
 back_closed size path r s h =
     let small = unit_small r s (coprime_in size path r s h) in
-    closed-under size path (r * s) (ThomasBack r s (unit_of r s) (unit_of s r)) h.whole.high h.fills
+    closed-wrapped size path (r * s) (ThomasBack r s (unit_of r s) (unit_of s r)) h.whole.high h.fills
     (thomas_back-closed r s (unit_of r s) (unit_of s r) (omega (arith, h.left)) (omega (arith, h.right)) h.small small.0 small.1)
 
 -- ---- the passes of a tree

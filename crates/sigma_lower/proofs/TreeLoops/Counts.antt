@@ -6,7 +6,7 @@ use Rattle.std.proofs.Math.Nat.{mul_assoc}
 use Rattle.std.proofs.lemmas.Bool.Decides.{nat_tests}
 use Rattle.std.proofs.lemmas.List.{map-append, append-nil}
 use Rattle.operators.specs.declared.target.Target.{Target}
-use Rattle.sigma_lower.specs.TreeLoops.Laws.{Counted, works, tiles, with_twiddles, twiddle_last, twiddle_by, passes_of, tiled_passes, whole_passes, has_diagonal, counted_as, counted, MergeCounts}
+use Rattle.sigma_lower.specs.TreeLoops.Laws.{Counted, works, tiles, with_twiddles, twiddle_last, twiddle_by, passes_of, tiled_passes, whole_passes, has_diagonal, counted_as, counted}
 use Rattle.sigma_lower.specs.TreeLoops.Merge.{PlainDiagonal, PlainPass, in_order, merged_of}
 use Rattle.sigma_lower.proofs.TreeLoops.RootDealt.{IsDealt, dealt_parts}
 use Rattle.sigma_lower.proofs.TreeLoops.RootMerging.{root_merged}
@@ -222,5 +222,6 @@ counts : (c : Target) (l : Layout) → CanShareLayout c l → IsGoodLayout c.mod
 counts c l shares good true is = plain_counts c l good is
 counts c l shares good false is = ap (λ phases. map counted (in_order phases)) (root_merged c l shares good is) ∙ shared_counts c l shares good is
 
-pub merge_counts : MergeCounts
-merge_counts c l machine shares good = counts c l shares good (is_alone c) refl
+-- the merged passes are those of the layout, one by one
+pub merge_counts : (c : Target) (l : Layout) → CanShareLayout c l → IsGoodLayout c.modulus l → map counted (merged_of c l) ≡ whole_passes c.lanes l
+merge_counts c l shares good = counts c l shares good (is_alone c) refl

@@ -22,7 +22,7 @@ use Rattle.tree_model.specs.Admissible.{RuleFits}
 use Rattle.tree_model.specs.Breakdown.{Breakdown, leaf, node, size_of, AllowsLeaf}
 use Rattle.tree_model.specs.Cost.{is_kernel, is_plain, node_root}
 use Rattle.tree_model.specs.Passes as trees
-use Rattle.tree_model.specs.Whole.{cost_in, rooted_of}
+use Rattle.tree_model.specs.Whole.{cost_in}
 use Rattle.tree_model.specs.declared.tree.Rule.{Rule}
 use Rattle.tree_model.specs.declared.tree.Rule.TheVariants.{Gt, Ct, Split, Dim}
 

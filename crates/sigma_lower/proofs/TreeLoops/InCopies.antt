@@ -8,10 +8,11 @@ use Rattle.perm_algebra.proofs.Shape.{divided-joined}
 use Rattle.perm_algebra.proofs.Sizes.{positive-product}
 use Rattle.sigma_lower.specs.TreeTerms.Wrapped.{wrapped}
 use Rattle.sigma_lower.specs.TreeLoops.Placed.{Fits, place_sum, AreCounts}
-use Rattle.sigma_lower.proofs.TreeLoops.PlaceRoom.{can_scale, can_join, can_divide, le-mul_left, scaled-top}
+use Rattle.sigma_lower.proofs.TreeLoops.PlaceRoom.{can_scale, can_join, can_divide, scaled-top}
 use Rattle.sigma_lower.proofs.TreeLoops.PlaceSums.{parts-fit, variable-fits}
 use Rattle.operators.specs.declared.tensor_paths.Tensor.TheVariants.{Blocks, Columns}
 use Rattle.operators.specs.TensorPaths.Path.{Path, count_of, size_under}
+use Rattle.sigma_lower.proofs.TreeTerms.Closed.{le-mul_left}
 
 -- the place of e in the copy that these sums name, one for each tensor
 abbrev pub placed : Path → ℕ → List Sum → Sum → Sum

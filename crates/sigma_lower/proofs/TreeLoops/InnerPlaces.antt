@@ -7,10 +7,11 @@ use Rattle.perm_algebra.proofs.Shape.{divided-joined, joined-zero}
 use Rattle.perm_algebra.proofs.Sizes.{joined-end, scaled-one}
 use Rattle.sigma_lower.specs.TreeTerms.Wrapped.{inner_of}
 use Rattle.sigma_lower.specs.TreeLoops.Placed.{Fits, place_sum, AreCounts}
-use Rattle.sigma_lower.proofs.TreeLoops.PlaceRoom.{can_divide, can_join, can_scale, le-mul_left}
+use Rattle.sigma_lower.proofs.TreeLoops.PlaceRoom.{can_divide, can_join, can_scale}
 use Rattle.sigma_lower.proofs.TreeLoops.PlaceSums.{place_sum-fits, size-positive, variable-fits}
 use Rattle.operators.specs.declared.tensor_paths.Tensor.TheVariants.{Blocks, Columns}
 use Rattle.operators.specs.TensorPaths.Path.{Path, size_under}
+use Rattle.sigma_lower.proofs.TreeTerms.Closed.{le-mul_left}
 
 -- an item's place in its copy, at a natural place
 pub inner-place : (path : Path) (n d : ℕ) (e : Sum) (cs : ℕ → ℕ) → AreCounts path n d cs → Fits n e cs → simplified cs (inner_of path n) (place_sum path n d e) ≡ e

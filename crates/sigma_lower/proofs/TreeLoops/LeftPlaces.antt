@@ -69,7 +69,7 @@ module _ (size p v m s : ℕ) (h : AreShares size p v m s) where
   abbrev whole : Path
   whole = Columns v ∷ Columns (s / v) ∷ []
 
-  left_whole : size_under three m ≡ size
+  pub left_whole : size_under three m ≡ size
   left_whole = let columns : m * s ≡ m * (p * (v * (s / p / v))) = ap (λ k. m * k) h.columns in omega (arith, h.product, columns)
 
   pub left_fills : size_under (left_path p v s) m ≡ size
@@ -88,28 +88,38 @@ module _ (size p v m s : ℕ) (h : AreShares size p v m s) where
     pub copies : AreCopies whole (lane ∷ column ∷ []) cs
     pub dealt : (k : ℕ) (e : Sum) → k ≡ p * m → Fits m e cs → LeadsTo cs size (if_dealt k p v m s) (place_sum (left_path p v s) m d e) (placed whole m (lane ∷ column ∷ []) e)
 
-  pub spread : (cs : ℕ → ℕ) (d : ℕ) → AreCounts (left_path p v s) m d cs → Spread cs d
-  spread cs d counts =
+  -- of a processor, a lane and a loop by these sums
+  abbrev pub spread-by : (cs : ℕ → ℕ) (d : ℕ) (q l j : Sum) → AreCopies three (q ∷ l ∷ j ∷ []) cs →
+      ((e : Sum) → place_sum (left_path p v s) m d e ≡ placed three m (q ∷ l ∷ j ∷ []) e) → Spread cs d
+  spread-by cs d q l j named places =
       let k : ℕ = s / p / v in
-      let q : Sum = if p == 1 then constant 0 else variable 1 d (constant 0) in
-      let d1 : ℕ = if p == 1 then d else d + 1 in
-      let l : Sum = if v == 1 then constant 0 else variable 1 d1 (constant 0) in
-      let d2 : ℕ = if v == 1 then d1 else d1 + 1 in
-      let j : Sum = if k == 1 then constant 0 else variable 1 d2 (constant 0) in
-      let named = natural-copies three m d cs counts in
       let both : AreThree cs p v k q l j = record { processor = named.0; lane = named.1.0; other = named.1.1.0 } in
       let column : Sum = joined (scaled k q) j in
-      let fits : Fits (s / v) column cs = subst (λ i. Fits i column cs) (sym (tiles_are size p v m s h ∙ mul_comm k p)) (parts-fit p k q j cs (columns_some size p v m s h) named.0 named.1.1.0) in
+      let fits : Fits (s / v) column cs =
+      subst (λ i. Fits i column cs) (sym (tiles_are size p v m s h ∙ mul_comm k p))
+      (parts-fit p k q j cs (columns_some size p v m s h) named.0 named.1.1.0) in
       record {
         lane = l;
         column = column;
         copies = (named.1.0, (fits, tt));
         dealt = λ i e is inside.
-            leads-same cs size (if_dealt i p v m s) (place_sum (left_path p v s) m d e) _ _ (natural-placed three m d e)
+            leads-same cs size (if_dealt i p v m s) (place_sum (left_path p v s) m d e) _ _ (places e)
             (subst (LeadsTo cs size (if_dealt i p v m s) (placed three m (q ∷ l ∷ j ∷ []) e))
-            (ap (λ g. joined (scaled v g) l) (placed-columns k p [] m j q [] e ∙ ap (λ c. placed (Columns c ∷ []) m (column ∷ []) e) (sym (tiles_are size p v m s h))))
-            (dealt-leads p v k m size i q l j e cs both inside is left_whole h.whole.high (dealt_small size p v m s h)));
+            (ap (λ g. joined (scaled v g) l)
+            (placed-columns k p [] m j q [] e
+            ∙ ap (λ c. placed (Columns c ∷ []) m (column ∷ []) e) (sym (tiles_are size p v m s h))))
+            (dealt-leads p v k m size i q l j e cs both inside is left_whole h.whole.high
+            (dealt_small size p v m s h)));
       }
+
+  pub spread : (cs : ℕ → ℕ) (d : ℕ) → AreCounts (left_path p v s) m d cs → Spread cs d
+  spread cs d counts =
+      let d1 : ℕ = if p == 1 then d else d + 1 in
+      let d2 : ℕ = if v == 1 then d1 else d1 + 1 in
+      spread-by cs d (if p == 1 then constant 0 else variable 1 d (constant 0))
+      (if v == 1 then constant 0 else variable 1 d1 (constant 0))
+      (if s / p / v == 1 then constant 0 else variable 1 d2 (constant 0)) (natural-copies three m d cs counts)
+      (natural-placed three m d)
 
   -- what a permutation of the m words does to the places of all copies
   pub mapped-leads : (cs : ℕ → ℕ) (us : List Sum) (fs : List Mapping) (e : Sum) → AreCopies whole us cs → StaysIn cs m fs e → LeadsTo cs size (map (on_all v m s) fs) (placed whole m us e) (placed whole m us (all_simplified cs fs e))
@@ -136,28 +146,50 @@ module _ (size p v m s : ℕ) (h : AreShares size p v m s) where
 
   -- ---- within the limits
 
+  -- the place in all copies, by the number of the copy
+  record IsNumbered (cs : ℕ → ℕ) (lane column y : Sum) : Type 0 where
+    same : placed whole m (lane ∷ column ∷ []) y ≡ joined (scaled s y) (joined (scaled v column) lane)
+    fits : Fits s (joined (scaled v column) lane) cs
+
+  numbered : (cs : ℕ → ℕ) (lane column y : Sum) → Fits v lane cs → Fits (s / v) column cs → IsNumbered cs lane column y
+  numbered cs lane column y low high =
+      record {
+        same = placed-columns v (s / v) [] m lane column [] y
+            ∙ ap (λ c. joined (scaled c y) (joined (scaled v column) lane)) (tiles_fill size p v m s h);
+        fits = subst (λ i. Fits i (joined (scaled v column) lane) cs) (mul_comm (s / v) v ∙ tiles_fill size p v m s h)
+            (parts-fit (s / v) v column lane cs h.lanes high low);
+      }
+
   -- the item of its copy, at the place in all copies
-  inner-whole : (cs : ℕ → ℕ) (sp : Spread cs 0) (path : Path) (n : ℕ) (y : Sum) → Fits m y cs → n ≤ 1048576 → HasRoomFor cs (inner_of path n) y → Fits n (simplified cs (inner_of path n) y) cs →
-      (simplified cs (inner_of (Columns s ∷ path) n) (placed whole m (sp.lane ∷ sp.column ∷ []) y) ≡ simplified cs (inner_of path n) y) × HasRoomFor cs (inner_of (Columns s ∷ path) n) (placed whole m (sp.lane ∷ sp.column ∷ []) y)
-  inner-whole cs sp path n y fits low room made =
+  pub item-whole : (cs : ℕ → ℕ) (lane column : Sum) (path : Path) (n : ℕ) (y : Sum) → Fits v lane cs → Fits (s / v) column cs →
+      simplified cs (inner_of (Columns s ∷ path) n) (placed whole m (lane ∷ column ∷ []) y) ≡ simplified cs (inner_of path n) y
+  item-whole cs lane column path n y low high =
+      let is = numbered cs lane column y low high in
+      let some : 0 < s = omega (arith, h.right) in
+      ap (simplified cs (inner_of (Columns s ∷ path) n)) is.same
+      ∙ ap (λ (d : Divided). joined (scaled 1 (simplified cs (inner_of path n) d.quot)) (constant 0))
+      (divided-joined s y (joined (scaled v column) lane) cs some is.fits.proper is.fits.small)
+      ∙ joined-end (scaled 1 (simplified cs (inner_of path n) y))
+      ∙ scaled-one (simplified cs (inner_of path n) y)
+
+  room-whole : (cs : ℕ → ℕ) (sp : Spread cs 0) (path : Path) (n : ℕ) (y : Sum) → Fits m y cs → n ≤ 1048576 →
+      HasRoomFor cs (inner_of path n) y → Fits n (simplified cs (inner_of path n) y) cs →
+      HasRoomFor cs (inner_of (Columns s ∷ path) n) (placed whole m (sp.lane ∷ sp.column ∷ []) y)
+  room-whole cs sp path n y fits low room made =
       let u : Sum = joined (scaled v sp.column) sp.lane in
       let z : Sum = simplified cs (inner_of path n) y in
-      let fit : Fits s u cs = subst (λ i. Fits i u cs) (mul_comm (s / v) v ∙ tiles_fill size p v m s h) (parts-fit (s / v) v sp.column sp.lane cs h.lanes sp.copies.1.0 sp.copies.0) in
+      let is = numbered cs sp.lane sp.column y sp.copies.0 sp.copies.1.0 in
       let some : 0 < s = omega (arith, h.right) in
       let high : s ≤ 1048576 = omega (arith, columns_high size p v m s h) in
-      let same : placed whole m (sp.lane ∷ sp.column ∷ []) y ≡ joined (scaled s y) u =
-      placed-columns v (s / v) [] m sp.lane sp.column [] y ∙ ap (λ c. joined (scaled c y) u) (tiles_fill size p v m s h) in
-      let apart = divided-joined s y u cs some fit.proper fit.small in
-      let is : simplified cs (inner_of (Columns s ∷ path) n) (joined (scaled s y) u) ≡ z =
-      ap (λ (d : Divided). joined (scaled 1 (simplified cs (inner_of path n) d.quot)) (constant 0)) apart ∙ joined-end (scaled 1 z) ∙ scaled-one z in (
-        ap (simplified cs (inner_of (Columns s ∷ path) n)) same ∙ is,
-        subst (HasRoomFor cs (inner_of (Columns s ∷ path) n)) (sym same) (
-          can_divide s y u cs some (omega arith) fit.proper fit.small,
-          subst (λ (d : Divided). HasRoomFor cs (inner_of path n) d.quot) (sym apart) room,
-          tt,
-          subst (λ (d : Divided). CanScale 1 (simplified cs (inner_of path n) d.quot)) (sym apart) (can_scale 1 z cs made.proper (omega (arith, made.small))),
-          subst (λ (d : Divided). CanJoin (scaled 1 (simplified cs (inner_of path n) d.quot)) (constant 0)) (sym apart) (can_join (scaled 1 z) (constant 0) cs (omega (arith, top-scaled 1 z cs, made.small))),
-        ),
+      let apart = divided-joined s y u cs some is.fits.proper is.fits.small in
+      subst (HasRoomFor cs (inner_of (Columns s ∷ path) n)) (sym is.same) (
+        can_divide s y u cs some (omega arith) is.fits.proper is.fits.small,
+        subst (λ (d : Divided). HasRoomFor cs (inner_of path n) d.quot) (sym apart) room,
+        tt,
+        subst (λ (d : Divided). CanScale 1 (simplified cs (inner_of path n) d.quot)) (sym apart)
+            (can_scale 1 z cs made.proper (omega (arith, made.small))),
+        subst (λ (d : Divided). CanJoin (scaled 1 (simplified cs (inner_of path n) d.quot)) (constant 0)) (sym apart)
+            (can_join (scaled 1 z) (constant 0) cs (omega (arith, top-scaled 1 z cs, made.small))),
       )
 
   -- the places of a diagonal within the part are those in all copies
@@ -171,8 +203,13 @@ module _ (size p v m s : ℕ) (h : AreShares size p v m s) where
       let places : List Mapping = if_dealt (m * p) p v m s ++ map (on_all v m s) o.places in
       let item : Mapping = inner_of (Columns s ∷ o.path) rc in
       let lead = part-leads cs q.path o.places n (m * p) e sp fills (mul_comm m p) part.stays in
-      let at_item = inner-whole cs sp o.path rc (all_simplified cs o.places inner) (carried-end cs m m o.places inner part.stays) (omega (arith, within, rows_high size p v m s h)) part.room part.fits in
-      carried-push cs size rc places item from lead.stays (subst (HasRoomFor cs item) (sym lead.is) at_item.1) (subst (λ g. Fits rc g cs) (sym (ap (simplified cs item) lead.is ∙ at_item.0)) part.fits)
+      let there : Sum = all_simplified cs o.places inner in
+      let same = item-whole cs sp.lane sp.column o.path rc there sp.copies.0 sp.copies.1.0 in
+      let room =
+      room-whole cs sp o.path rc there (carried-end cs m m o.places inner part.stays)
+      (omega (arith, within, rows_high size p v m s h)) part.room part.fits in
+      carried-push cs size rc places item from lead.stays (subst (HasRoomFor cs item) (sym lead.is) room)
+      (subst (λ g. Fits rc g cs) (sym (ap (simplified cs item) lead.is ∙ same)) part.fits)
 
   -- a pass of the part alone within the limits is so in all copies
   pub left_limited : (c : Target) (q : PlainPass) → c.size ≡ size → size_under q.path (work_size q.work) ≡ m → IsPlacedPass m [] m q → IsLimitedPass c (left_pass p v m s q)

@@ -19,6 +19,7 @@ use Rattle.sigma_lower.specs.TreeTerms.Wrapped.{wrapped}
 use Rattle.smp_rewrite.proofs.Tensors.{is-one, within_all}
 use Rattle.operators.specs.declared.tensor_paths.Tensor.TheVariants.{Blocks, Columns}
 use Rattle.operators.specs.TensorPaths.Path.{Path, size_under}
+use Rattle.sigma_spl.specs.Good.{AreBlocks}
 
 -- ---- functions that lead from one sum to another, within n
 
@@ -124,11 +125,6 @@ turned-leads p v k s n q l j e cs three fits whole high lines rows =
     (dealt-leads p v k s n (p * s) q l j e cs three fits refl around high lines)
 
 -- ---- vectors of a group, tile by tile
-
-abbrev AreBlocks : Path → Type 0
-AreBlocks [] = Unit {0}
-AreBlocks (Blocks b ∷ path) = AreBlocks path
-AreBlocks (Columns b ∷ path) = ⊥
 
 blocks-size : (path : Path) (n c : ℕ) → AreBlocks path → size_under path (n * c) ≡ c * size_under path n
 blocks-size [] n c h = mul_comm n c

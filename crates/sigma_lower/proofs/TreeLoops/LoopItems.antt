@@ -18,6 +18,7 @@ use Rattle.sigma_lower.proofs.TreeTerms.Lowering.{part-le}
 use Rattle.operators.specs.declared.tensor_paths.Tensor.TheVariants.{Blocks, Columns}
 use Rattle.operators.specs.TensorPaths.Path.{Path, copies_of, count_of}
 use Rattle.operators.proofs.TensorPaths.Under.{size_under-copies}
+use Rattle.sigma_spl.proofs.Limited.{at-row, at-column}
 
 -- ---- diagonals
 
@@ -41,14 +42,6 @@ counts-from (Columns c ∷ path) n d cs back wide positive is = (
   wide.0,
   counts-from path n (d + 1) cs back wide.1 positive (λ i. ap cs (omega arith) ∙ is (suc i)),
 )
-
-pub at-row : (path : Path) (n : ℕ) → slice_index (map count_of path ++ n ∷ n ∷ []) (length path) ≡ n
-at-row [] n = refl
-at-row (t ∷ path) n = at-row path n
-
-pub at-column : (path : Path) (n : ℕ) → slice_index (map count_of path ++ n ∷ n ∷ []) (suc (length path)) ≡ n
-at-column [] n = refl
-at-column (t ∷ path) n = at-column path n
 
 -- ---- sums that name an item of a copy of n
 

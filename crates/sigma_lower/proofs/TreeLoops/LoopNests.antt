@@ -1,11 +1,11 @@
 -- The loops of a phase's term are its passes, the latest first.
-use Rattle.std.proofs.Common.{◌≡◌, refl, sym, ap, ap₂, ◌∙◌, List, [], ◌∷◌, ◌++◌, Some}
+use Rattle.std.proofs.Common.{◌≡◌, refl, sym, ap, ◌∙◌, List, [], ◌∷◌, ◌++◌, Some}
 use Rattle.std.specs.Prelude.{map, reverse}
 use Rattle.std.proofs.lemmas.List.{map-append, reverse-append}
 use Rattle.sigma_lower.specs.Shared.{embed, phase_term}
 use Rattle.index_fn.specs.Mapping.{Mapping}
 use Rattle.sigma_lower.specs.TreeLoops.Merge.{PlainPass, Merging, new_pass, scattered, multiplied, at_last, merge_term, merged, passes_of_terms}
-use Rattle.sigma_lower.specs.TreeLoops.Nests.{loop_of, LoopsListed}
+use Rattle.sigma_lower.specs.TreeLoops.Nests.{loop_of}
 use Rattle.sigma_spl.specs.Loops.{PlainLoop, Looping, stored_last, scaled_last, looped, loops_in}
 use Rattle.sigma_spl.specs.Nest.{PlainFactors, factor_count, twiddles, inner_of}
 use Rattle.sigma_lower.specs.TreeTerms.Term.{PlainTerm, gath, scat, diag, nest}
@@ -79,5 +79,5 @@ all-terms : (st : Merging) (ts : List PlainTerm) → looped (looping_of st) (pha
 all-terms st [] = refl
 all-terms st (t ∷ ts) = ap (λ l. looped l (phase_term ts)) (one-term st t) ∙ all-terms (merge_term st t) ts
 
-pub loops_listed : LoopsListed
+pub loops_listed : (ts : List PlainTerm) → loops_in (phase_term ts) ≡ reverse (map loop_of (passes_of_terms ts))
 loops_listed ts = ap (λ (l : Looping). l.loops) (all-terms (record { waiting = []; passes = [] }) ts)

@@ -35,12 +35,12 @@ use Rattle.smp_rewrite.specs.Fits.{CanShareLayout}
 -- ---- a tensor at a place, and the permutation of a rule
 
 -- numbers of an array of n words
-pub record AreInArray (n a b k size : ℕ) : Type 0 where
-  pub high : n ≤ 1048576
-  pub first : a ≤ n
-  pub second : b ≤ n
-  pub count : k ≤ n
-  pub half : 2 * size ≤ n
+record AreInArray (n a b k size : ℕ) : Type 0 where
+  high : n ≤ 1048576
+  first : a ≤ n
+  second : b ≤ n
+  count : k ≤ n
+  half : 2 * size ≤ n
 
 low-product : (a t n : ℕ) → n ≤ 1048576 → a ≤ n → t < n → a * t ≤ 1099511627776
 low-product a t n high h g = mul-le a t 1048576 1048576 (omega arith) (omega arith)
@@ -78,7 +78,7 @@ product-array r s a b h g high first second =
       record { high = high; first = first; second = second; count = omega arith; half = omega arith },
     )
 
-thomas_in-one : (r s d : ℕ) (e : Sum) (cs : ℕ → ℕ) → cs d ≡ r → 2 ≤ r → 2 ≤ s → r * s ≤ 1048576 → Fits s e cs → Fits (r * s) (simplified cs (ThomasIn r s) (tensor_sum (Blocks r) s d e)) cs
+pub thomas_in-one : (r s d : ℕ) (e : Sum) (cs : ℕ → ℕ) → cs d ≡ r → 2 ≤ r → 2 ≤ s → r * s ≤ 1048576 → Fits s e cs → Fits (r * s) (simplified cs (ThomasIn r s) (tensor_sum (Blocks r) s d e)) cs
 thomas_in-one r s d e cs count two_r two_s high f =
     let v = variable 1 d (constant 0) in
     let within = (product-array r s s r two_r two_s high (omega (arith, mul-le-mul_right s two_r)) (omega (arith, mul-le-mul_right r two_s, mul_comm s r))).0 in
@@ -86,7 +86,7 @@ thomas_in-one r s d e cs count two_r two_s high f =
     ap (λ (z : Divided). reduced cs (r * s) (joined (scaled s z.quot) (scaled r z.rem))) (divided-joined s v e cs (omega arith) f.proper f.small) in
     subst (λ g. Fits (r * s) g cs) (sym is) (mixed cs (r * s) s r d s e (subst (λ z. AreInArray (r * s) s r z s) (sym count) within) (omega arith) (omega arith) f (omega arith)).0
 
-turns-one : (r s d : ℕ) (e : Sum) (cs : ℕ → ℕ) → cs d ≡ r → 2 ≤ r → 2 ≤ s → Fits s e cs → Fits (r * s) (simplified cs (Strided r s) (tensor_sum (Blocks r) s d e)) cs
+pub turns-one : (r s d : ℕ) (e : Sum) (cs : ℕ → ℕ) → cs d ≡ r → 2 ≤ r → 2 ≤ s → Fits s e cs → Fits (r * s) (simplified cs (Strided r s) (tensor_sum (Blocks r) s d e)) cs
 turns-one r s d e cs count two_r two_s f =
     let v = variable 1 d (constant 0) in
     let positive : 0 < r = omega arith in
@@ -94,7 +94,7 @@ turns-one r s d e cs count two_r two_s f =
     let fit : Fits (s * r) (joined (scaled r e) v) cs = parts-fit s r e v cs positive f (variable-fits r d cs count two_r) in
     subst (λ g. Fits (r * s) g cs) (sym is) (subst (λ n. Fits n (joined (scaled r e) v) cs) (mul_comm s r) fit)
 
-thomas_back-one : (r s d : ℕ) (e : Sum) (cs : ℕ → ℕ) → AreCoprime r s → cs d ≡ s → 2 ≤ r → 2 ≤ s → Fits r e cs →
+pub thomas_back-one : (r s d : ℕ) (e : Sum) (cs : ℕ → ℕ) → AreCoprime r s → cs d ≡ s → 2 ≤ r → 2 ≤ s → Fits r e cs →
     Fits (r * s) (simplified cs (ThomasBack r s (unit_of r s) (unit_of s r)) (tensor_sum (Columns s) r d e)) cs
 thomas_back-one r s d e cs both count two_r two_s f =
     let v = variable 1 d (constant 0) in
@@ -119,7 +119,7 @@ pub gathering-natural : (size : ℕ) (path : Path) (n : ℕ) → size_under path
 gathering-natural size path n whole cs d e counts fits = natural-fits size path n d e cs whole counts fits
 
 -- the place under one tensor
-at-tensor : (path : Path) (t : Tensor) (n d : ℕ) (e : Sum) (cs : ℕ → ℕ) → AreCounts (path ++ t ∷ []) n d cs → Fits n e cs → Fits (grown t n) (tensor_sum t n (d + length path) e) cs
+pub at-tensor : (path : Path) (t : Tensor) (n d : ℕ) (e : Sum) (cs : ℕ → ℕ) → AreCounts (path ++ t ∷ []) n d cs → Fits n e cs → Fits (grown t n) (tensor_sum t n (d + length path) e) cs
 at-tensor path t n d e cs counts fits = let p = counts-push path t n d cs counts in tensor_sum-fits t n (d + length path) e cs p.count p.two p.positive fits
 
 pub gathering-push : (size : ℕ) (path : Path) (waiting : List Mapping) (t : Tensor) (n : ℕ) → Gathering size path waiting (grown t n) → Gathering size (path ++ t ∷ []) waiting n

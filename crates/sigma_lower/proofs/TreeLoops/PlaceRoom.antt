@@ -35,9 +35,6 @@ can_join a e cs below = omega (arith, constant-le-top a cs, constant-le-top e cs
 pub can_divide : (s : ℕ) (a e : Sum) (cs : ℕ → ℕ) → 0 < s → s ≤ 2 ^ 64 → IsProper e cs → top e cs < s → CanDivide cs s (joined (scaled s a) e)
 can_divide s a e cs positive high h small = subst (HasTop cs) (sym (rest-joined s a e positive ∙ rest-small s e cs h small)) (has_top e cs h (omega arith))
 
-pub le-mul_left : (a b : ℕ) → 0 < a → b ≤ a * b
-le-mul_left a b h = let more : b ≤ b * a = le-mul_of_pos_right {m = a} b h in omega arith
-
 pub scaled-top : (a t b : ℕ) → t < b → a * t ≤ b * a
 scaled-top a t b h = let more : a * t ≤ a * b = mul-le-mul_left a (omega arith) in omega arith
 

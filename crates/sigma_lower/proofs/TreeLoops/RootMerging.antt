@@ -17,17 +17,15 @@ use Rattle.sigma_lower.specs.TreeTerms.Wrapped.{wrapped, unit_of}
 use Rattle.smp_rewrite.specs.LayoutSteps.Meaning.{core_size}
 use Rattle.smp_rewrite.specs.LayoutSteps.Step.{PlainCore, piece, turns, twiddles, thomas_in, thomas_out, PlainStep, step, rule_steps, steps_of}
 use Rattle.operators.specs.declared.tensor_paths.Tensor.TheVariants.{Blocks, Columns}
-use Rattle.operators.specs.TensorPaths.Path.{Path, grown, size_under}
+use Rattle.operators.specs.TensorPaths.Path.{Path, size_under}
 use Rattle.operators.proofs.TensorPaths.Under.{size_under-push}
 use Rattle.tree_model.specs.declared.tree.Rule.{Rule}
 use Rattle.tree_model.specs.declared.tree.Rule.TheVariants.{Gt, Ct, Split, Dim}
 use Rattle.smp_rewrite.specs.LayoutSteps.Layout.{Layout, work, by, layout_size}
+use Rattle.sigma_lower.proofs.TreeLoops.LeftPlaces.{size_under-append}
+use Rattle.sigma_lower.proofs.TreeLoops.SharedPasses.Merging.{merged-append}
 
 -- ---- merging behind passes that are there
-
-terms-append : (st : Merging) (ss ts : List PlainTerm) → merged st (ss ++ ts) ≡ merged (merged st ss) ts
-terms-append st [] ts = refl
-terms-append st (s ∷ ss) ts = terms-append (merge_term st s) ss ts
 
 -- these passes, and then those that are merged so far
 abbrev behind : List PlainPass → Merging → Merging
@@ -83,10 +81,6 @@ sized_steps m path (by rule root a b) e =
     sized_rule m rule path r s root _ _ e (sized_steps m (path ++ Columns s ∷ []) a (size_under-push path (Columns s) r ∙ e))
     (sized_steps m (path ++ Blocks r ∷ []) b (size_under-push path (Blocks r) s ∙ e))
 
-size_under-append : (outer inner : Path) (n : ℕ) → size_under (outer ++ inner) n ≡ size_under outer (size_under inner n)
-size_under-append [] inner n = refl
-size_under-append (t ∷ outer) inner n = ap (grown t) (size_under-append outer inner n)
-
 -- the index function under two paths is that under the inner one, under the outer one
 wrapped-append : (outer inner : Path) (n : ℕ) (f : Mapping) → wrapped (outer ++ inner) n f ≡ wrapped outer (size_under inner n) (wrapped inner n f)
 wrapped-append [] inner n f = refl
@@ -137,7 +131,7 @@ merged-left_core p v m s path (thomas_out a b) st e =
 merged-left : (p v m s : ℕ) (ss : List PlainStep) (st : Merging) → AreSized m ss → merged (lifted p v m s st) (left_terms p v m s ss) ≡ lifted p v m s (merged st (map lowered ss))
 merged-left p v m s [] st h = refl
 merged-left p v m s (e ∷ ss) st h =
-    terms-append (lifted p v m s st) (left_core p v m s e.path e.core) (left_terms p v m s ss)
+    merged-append (lifted p v m s st) (left_core p v m s e.path e.core) (left_terms p v m s ss)
     ∙ ap (λ z. merged z (left_terms p v m s ss)) (merged-left_core p v m s e.path e.core st h.0)
     ∙ merged-left p v m s ss (merge_term st (lowered e)) h.1
 
@@ -169,11 +163,11 @@ merged-right p v Ct w a b =
     let steps = map lowered (steps_of (right_path p v r) b) in
     let last = diag [] r s w ∷ [] in
     let inner = layout_passes (right_path p v r) (turned_waiting p v r s) b in
-    terms-append (done []) (turned_in p v r s) (steps ++ (after ++ last))
+    merged-append (done []) (turned_in p v r s) (steps ++ (after ++ last))
     ∙ ap (λ z. merged z (steps ++ (after ++ last))) (merged-turned (p == 1) (lines_moved p v r s) (vectors_turned p v r s))
-    ∙ terms-append (record { waiting = turned_waiting p v r s; passes = [] }) steps (after ++ last)
+    ∙ merged-append (record { waiting = turned_waiting p v r s; passes = [] }) steps (after ++ last)
     ∙ ap (λ z. merged z (after ++ last)) (merged_tree (right_path p v r) b (record { waiting = turned_waiting p v r s; passes = [] }))
-    ∙ terms-append (done inner) after last
+    ∙ merged-append (done inner) after last
     ∙ ap (λ z. merged z last) (merged-tile (v == 1) (tile_path p v r s) (tile v) (vectors_grouped (v * (s / v)) p v r s) inner)
 merged-right p v Split w a b =
     let r = layout_size a in
@@ -182,9 +176,9 @@ merged-right p v Split w a b =
     let steps = map lowered (steps_of (right_path p v r) b) in
     let before = if_lanes v (tile_before p v r s) in
     let inner = layout_passes (right_path p v r) [] b in
-    terms-append (done []) (tiled_before p v r s) (steps ++ after)
+    merged-append (done []) (tiled_before p v r s) (steps ++ after)
     ∙ ap (λ z. merged z (steps ++ after)) (merged-first_tile (v == 1) (tile_path p v r s) (tile v) (vectors_grouped (s / v * v) p v r s))
-    ∙ terms-append (done before) steps after
+    ∙ merged-append (done before) steps after
     ∙ ap (λ z. merged z after) (merged_tree (right_path p v r) b (done before))
     ∙ merged-tile (v == 1) (tile_path p v r s) (tile v) (vectors_grouped (v * (s / v)) p v r s) (before ++ inner)
     ∙ ap done (append_assoc before inner (if_lanes v (tile_after p v r s)))
@@ -195,10 +189,10 @@ merged-right p v Dim w a b =
     let steps = map lowered (steps_of (right_path p v r) b) in
     let before = if_lanes v (tile_before p v r s) in
     let inner = layout_passes (right_path p v r) [] b in
-    terms-append (done []) (tiled_before p v r s) (steps ++ after)
+    merged-append (done []) (tiled_before p v r s) (steps ++ after)
     ∙ ap (λ z. merged z (steps ++ after))
     (merged-first_tile (v == 1) (tile_path p v r s) (tile v) (vectors_grouped (s / v * v) p v r s))
-    ∙ terms-append (done before) steps after
+    ∙ merged-append (done before) steps after
     ∙ ap (λ z. merged z after) (merged_tree (right_path p v r) b (done before))
     ∙ merged-tile (v == 1) (tile_path p v r s) (tile v) (vectors_grouped (v * (s / v)) p v r s) (before ++ inner)
     ∙ ap done (append_assoc before inner (if_lanes v (tile_after p v r s)))
@@ -231,7 +225,7 @@ merged-both : (p v : ℕ) (rule : Rule) (w : ℕ) (a b : Layout) →
 merged-both p v rule w a b =
     let first = right_passes p v rule w a b in
     let second = left_terms p v (layout_size a) (layout_size b) (steps_of [] a) in
-    terms-append (done []) (right_terms p v rule w a b) second
+    merged-append (done []) (right_terms p v rule w a b) second
     ∙ ap (λ z. merged z second) (merged-right p v rule w a b ∙ ap done (sym (append-nil first)))
     ∙ merged-behind first settled fresh second (done []) (left_leads p v (layout_size b) a settled) tt
     ∙ ap (behind first) (merged-left_part p v (layout_size b) a)

@@ -8,7 +8,7 @@ use Rattle.sigma_lower.specs.TreeLoops.Placed.{AllLimited, diagonal_places}
 use Rattle.sigma_spl.specs.Good.{IsFormed}
 use Rattle.sigma_spl.specs.Loops.{AreFormed}
 use Rattle.sigma_spl.proofs.Several.{several-append}
-use Rattle.sigma_lower.proofs.TreeLoops.Closed.{AreClosed, IsClosed, IsClosedPass, AreClosedPasses, closed-under, strided-closed, closed-inner, closed-append, closed_passes}
+use Rattle.sigma_lower.proofs.TreeLoops.Closed.{AreClosed, IsClosed, IsClosedPass, AreClosedPasses, strided-closed, closed-inner, closed-append, closed_passes}
 use Rattle.sigma_lower.proofs.TreeLoops.Closed as closed
 use Rattle.sigma_lower.proofs.TreeLoops.GoodPlaces.{HaveGoodPlaces}
 use Rattle.sigma_lower.proofs.TreeLoops.LeftPlaces.{size_under-append, mapped-some, left_fills, left_wide, left_limited}
@@ -35,6 +35,7 @@ use Rattle.operators.proofs.TensorPaths.Under.{size_under-copies}
 use Rattle.tree_model.specs.declared.tree.Rule.TheVariants.{Gt, Ct, Split, Dim}
 use Rattle.smp_rewrite.specs.Fits.{CanShareLayout}
 use Rattle.sigma_spl.specs.Shared.Targets.{is_alone}
+use Rattle.sigma_lower.proofs.TreeTerms.Closed.{closed-wrapped}
 
 -- ---- lists of passes
 
@@ -83,7 +84,7 @@ strided-good size ts n a b whole is fills left right small =
     let under : size_under path n ≡ size = size-all ts n ∙ fills in
     record {
       formed = (wrapped-formed path n (Strided a b) (omega (arith, under, whole.low)) (strided-formed a b left right small), tt);
-      closed = (closed-under size path n (Strided a b) whole.high under (subst (λ m. IsClosed m (Strided a b)) (sym is) (strided-closed a b)), tt);
+      closed = (closed-wrapped size path n (Strided a b) whole.high under (subst (λ m. IsClosed m (Strided a b)) (sym is) (strided-closed a b)), tt);
     }
 
 -- all but the last
@@ -238,7 +239,7 @@ module _ (c : Target) (P : PlainWork → Type 0) (p v r s : ℕ) (h : AreShares 
       let more = mapped_good fs formed.1 within.1 in
       record {
         formed = (wrapped-formed (whole_path v s) r f (omega (arith, whole_fills, h.whole.low)) formed.0, more.formed);
-        closed = (closed-under size (whole_path v s) r f h.whole.high whole_fills within.0, more.closed);
+        closed = (closed-wrapped size (whole_path v s) r f h.whole.high whole_fills within.0, more.closed);
       }
 
   left_functions : (n : ℕ) (fs : List Mapping) → n ≡ p * r → AreFormed fs → AreClosed r fs → AreGoodFunctions size (if_dealt n p v r s ++ map (on_all v r s) fs)

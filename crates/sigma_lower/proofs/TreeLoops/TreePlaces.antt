@@ -1,7 +1,6 @@
 -- The places of all passes of a layout.
 use Rattle.std.proofs.Common.{◌≡◌, Bool, true, false, refl, sym, subst}
 use Rattle.sigma_lower.specs.TreeLoops.Merge.{in_order, merged_of}
-use Rattle.sigma_lower.specs.TreeLoops.Placed.{PlacesAreLimited}
 use Rattle.sigma_lower.proofs.TreeLoops.GoodPlaces.{HaveGoodPlaces, plain_good}
 use Rattle.sigma_lower.proofs.TreeLoops.RootMerging.{root_merged}
 use Rattle.sigma_lower.proofs.TreeLoops.RootPlaces.{root_good}
@@ -24,6 +23,3 @@ good_places c P l shares good all over = good_either c P l shares good all over 
 
 pub tree_good_places : (c : Target) (l : Layout) → CanShareLayout c l → IsGoodLayout c.modulus l → HaveGoodPlaces c (IsShapedWork c.modulus) (merged_of c l)
 tree_good_places c l shares good = good_places c (IsShapedWork c.modulus) l shares good (shaped_works c.modulus l good) tt
-
-pub places_are_limited : PlacesAreLimited
-places_are_limited c l machine shares good = (tree_good_places c l shares good).limited

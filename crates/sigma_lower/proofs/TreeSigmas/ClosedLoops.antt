@@ -80,7 +80,7 @@ module _ (v : ℕ) where
   abbrev multiplier : PlainNest → PlainMultiplier
   multiplier z = record { factors = repeated v 1; places = all_first z.scatters }
 
-  abbrev closed_nest : PlainNest → PlainNest
+  abbrev pub closed_nest : PlainNest → PlainNest
   closed_nest z =
       record {
         counts = z.counts;
@@ -180,7 +180,7 @@ module _ (n v : ℕ) where
             takes.limited.stores takes.alone);
       }
 
-  closed-nest : (p : PlainLoop) → TakesClosing n p → nest_of (closed_loop p) ≡ closed_nest v (nest_of p)
+  pub closed-nest : (p : PlainLoop) → TakesClosing n p → nest_of (closed_loop p) ≡ closed_nest v (nest_of p)
   closed-nest p takes =
       ap
       (λ (sums : List Sum).

@@ -1,15 +1,14 @@
 -- The phases of a whole: those of its layout, the last loop of which takes the closing diagonal.
-use Rattle.std.proofs.Common.{◌≡◌, ℕ, ◌*◌, ◌-◌, ◌<◌, ◌≤◌, List, [], ◌∷◌, ◌++◌, length, refl, sym, ap, ap₂, ◌∙◌, arith, subst, Option, None, Some}
+use Rattle.std.proofs.Common.{◌≡◌, ℕ, ◌*◌, ◌<◌, List, [], ◌∷◌, ◌++◌, length, refl, sym, ap, ap₂, ◌∙◌, arith, subst, Option, None, Some}
 use Rattle.std.specs.Prelude.{All, map, reverse}
 use Rattle.std.specs.Option.{option_map}
 use Rattle.std.proofs.lemmas.List.{reverse-append, reverse-reverse}
 use Rattle.std.proofs.lemmas.List.Elements.{All-nil, All-cons}
-use Rattle.std.proofs.lemmas.Nat.{mul-le}
 use Rattle.index_fn.specs.Mapping.{Mapping}
 use Rattle.operators.specs.declared.target.Target.{Target}
 use Rattle.operators.specs.TensorPaths.Path.{copies_of}
 use Rattle.operators.proofs.TensorPaths.Under.{size_under-copies}
-use Rattle.perm_algebra.specs.Affine.{Sum, constant, variable, remainder, quotient, simplified}
+use Rattle.perm_algebra.specs.Affine.{Sum, simplified}
 use Rattle.sigma_spl.specs.Lists.{LastIs, on_last}
 use Rattle.sigma_spl.specs.Loops.{PlainLoop, limits_in, loops_in, scaled_last, AreLimitedLoops, HasLoop, IsLimitedLoop, IsOrdered}
 use Rattle.sigma_spl.specs.Merge.{all_simplified, items_out, most, place_sum}
@@ -38,19 +37,9 @@ use Rattle.sigma_lower.proofs.TreeSigmas.ClosedLoops.{HasClosing, TakesClosing, 
 use Rattle.sigma_lower.proofs.TreeSigmas.ClosedPlaces.{AllAlone, closing_path}
 use Rattle.sigma_lower.proofs.TreeSigmas.Endings.{IsEnding, layout_ends}
 use Rattle.sigma_lower.proofs.TreeSigmas.Lasts.{HasItem}
+use Rattle.sigma_lower.proofs.TreeLoops.Moved.{fits-one}
 
 -- ---- the place of the only word
-
-no-part : (f k : ℕ) → 0 < f → 2 ≤ k → 1 ≤ f * (k - 1)
-no-part f k some two = mul-le 1 1 f (k - 1) (omega arith) (omega arith)
-
-zero-sum : (e : Sum) (cs : ℕ → ℕ) → Fits 1 e cs → e ≡ constant 0
-zero-sum (constant c) cs h = let low = h.small in ap constant (omega (arith, low))
-zero-sum (variable f d rest) cs h =
-    let part = no-part f (cs d) h.proper.0 h.proper.1 in let low = h.small in absurd (omega (arith, part, low))
-zero-sum (remainder f of m rest) cs h =
-    let part = no-part f m h.proper.0 h.proper.1 in let low = h.small in absurd (omega (arith, part, low))
-zero-sum (quotient f of m rest) cs h = absurd h.proper
 
 carried-end : (cs : ℕ → ℕ) (n : ℕ) (fs : List Mapping) (e : Sum) → IsCarried cs n n fs e →
     Fits n (all_simplified cs fs e) cs
@@ -87,7 +76,7 @@ module _ (h : Target) where
         let last = all_simplified cs p.afters (place_sum p.path n 0 e) in
         let stores = (limited cs e counts named.0.0 named.0.1).stores in
         let fits = carried-end cs size p.afters (place_sum p.path n 0 e) stores in
-        (λ one. zero-sum last cs (subst (λ k. Fits k last cs) one fits), alone-items es named.1)
+        (λ one. fits-one last cs (subst (λ k. Fits k last cs) one fits), alone-items es named.1)
 
     takes-closing : IsEnding p → IsLimitedLoop 64 size (loop_of p) → TakesClosing size (loop_of p)
     takes-closing ends within =
@@ -113,7 +102,7 @@ module _ (h : Target) where
       LastIs (TakesClosing size) (map loop_of (passes.merged_of h l))
   layout-takes l machine shares good =
       let places = tree_good_places h l shares good in
-      takes-last (passes.merged_of h l) machine (layout_ends h l machine shares good) places.shaped places.limited
+      takes-last (passes.merged_of h l) machine (layout_ends h l shares good) places.shaped places.limited
       (tree_loops 64 h l (omega arith) machine shares good)
 
   -- ---- the loops of phases

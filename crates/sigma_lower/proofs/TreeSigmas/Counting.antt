@@ -102,10 +102,10 @@ module _ (c : Target) (l : Layout) (is : IsHosted c l) where
       ≡ map (counted_cost weight c.modulus c.size) (whole_passes c.lanes l)
   layout_costs weight =
       costs-are weight c (merged_of c l) (layout-known c l is)
-      ∙ ap (map (counted_cost weight c.modulus c.size)) (merge_counts c l is.machine is.shares is.good)
+      ∙ ap (map (counted_cost weight c.modulus c.size)) (merge_counts c l is.shares is.good)
 
   pub layout_loads :
       map pass_loads (pass_nests c (merged_of c l)) ≡ map (counted_loads c.size) (whole_passes c.lanes l)
   layout_loads =
       loads-are c (merged_of c l) (layout-known c l is)
-      ∙ ap (map (counted_loads c.size)) (merge_counts c l is.machine is.shares is.good)
+      ∙ ap (map (counted_loads c.size)) (merge_counts c l is.shares is.good)

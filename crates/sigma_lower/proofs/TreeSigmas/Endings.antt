@@ -1,6 +1,5 @@
 -- The last pass of a layout has no diagonal, and its work is no tile.
 use Rattle.std.proofs.Common.{◌≡◌, ℕ, ◌*◌, Bool, true, false, List, [], ◌∷◌, ◌++◌, map, refl, sym, subst, Option, Some, None, if◌then◌else◌, nat_le}
-use Rattle.sigma_lower.specs.Machine.{IsMachine}
 use Rattle.sigma_lower.specs.TreeLoops.Laws.{Counted, works, tiles, counted, counted_as, has_diagonal, passes_of, tiled_passes, twiddle_by, whole_passes}
 use Rattle.sigma_lower.specs.TreeLoops.Merge.{PlainDiagonal, PlainPass, merged_of}
 use Rattle.sigma_lower.proofs.TreeLoops.Counts.{merge_counts}
@@ -86,7 +85,7 @@ last-ends (p ∷ []) plain =
     record { free = no-diagonal _ p.work p.diagonal plain; untiled = no-tile _ p.work (has_diagonal p.diagonal) plain }
 last-ends (p ∷ q ∷ ps) plain = last-ends (q ∷ ps) plain
 
-pub layout_ends : (h : Target) (l : Layout) → IsMachine h → CanShareLayout h l → IsGoodLayout h.modulus l →
+pub layout_ends : (h : Target) (l : Layout) → CanShareLayout h l → IsGoodLayout h.modulus l →
     LastIs IsEnding (merged_of h l)
-layout_ends h l machine shares good =
-    last-ends (merged_of h l) (subst (LastIs EndsPlain) (sym (merge_counts h l machine shares good)) (whole-plain h.lanes l))
+layout_ends h l shares good =
+    last-ends (merged_of h l) (subst (LastIs EndsPlain) (sym (merge_counts h l shares good)) (whole-plain h.lanes l))

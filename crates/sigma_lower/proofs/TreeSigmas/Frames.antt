@@ -1,44 +1,19 @@
 -- The nest of a pass that processors and lanes share: its counts, its variables, and what they name.
 use Rattle.std.proofs.Common.{◌≡◌, ℕ, ◌<◌, Bool, true, false, List, [], ◌∷◌, ◌++◌, map, refl, sym, ap, ◌∙◌, arith, subst}
 use Rattle.std.specs.Prelude.{◌==◌, if◌then◌else◌}
-use Rattle.sigma_lower.specs.TreeLoops.Items as shared
 use Rattle.sigma_lower.specs.TreeLoops.Merge.{PlainPass}
 use Rattle.sigma_lower.specs.TreeLoops.Nests.{loop_of}
 use Rattle.operators.specs.declared.target.Target.{Target}
 use Rattle.operators.proofs.Lists.{place_below}
-use Rattle.sigma_spl.specs.Shared.Machine.{framed_lanes, if_several, item_of, lane_step, values_of}
+use Rattle.sigma_spl.specs.Shared.Machine.{framed_lanes, if_several, item_of, values_of}
 use Rattle.sigma_spl.specs.Shared.Running as running
 use Rattle.sigma_spl.specs.Loops.{nest_of}
 use Rattle.sigma_spl.specs.Work.{PlainWork, kernel, rows, horner, tile, copy, vectors_of, work_size}
-use Rattle.sigma_lower.specs.TreeLoops.SharedPasses.Shared.{framed, HasLanes, IsFramed, step_of}
+use Rattle.sigma_lower.specs.TreeLoops.SharedPasses.Shared.{framed, HasLanes, IsFramed}
 use Rattle.smp_rewrite.specs.Smp.{within}
 use Rattle.operators.specs.declared.tensor_paths.Tensor.{Tensor}
 use Rattle.operators.specs.declared.tensor_paths.Tensor.TheVariants.{Blocks, Columns}
 use Rattle.operators.specs.TensorPaths.Path.{Path, count_of, AreInRange}
-
--- ---- work
-
-pub loop-values : (c : Target) (w : PlainWork) (q lane : ℕ) (vs : List ℕ) →
-    values_of c w q lane vs ≡ shared.values_of c w q lane vs
-loop-values c (kernel trees) q lane vs = refl
-loop-values c (rows root size) q lane vs = refl
-loop-values c (horner root size) q lane vs = refl
-loop-values c (tile v) q lane vs = refl
-loop-values c (copy size) q lane vs = refl
-
-pub loop-item : (w : PlainWork) (k lane : ℕ) → item_of w k lane ≡ shared.item_of w k lane
-loop-item (kernel trees) k lane = refl
-loop-item (rows root size) k lane = refl
-loop-item (horner root size) k lane = refl
-loop-item (tile v) k lane = refl
-loop-item (copy size) k lane = refl
-
-pub loop-step : (w : PlainWork) → lane_step w ≡ step_of w
-loop-step (kernel trees) = refl
-loop-step (rows root size) = refl
-loop-step (horner root size) = refl
-loop-step (tile v) = refl
-loop-step (copy size) = refl
 
 -- ---- counts
 
@@ -84,7 +59,7 @@ range-procs false p q loops vs h range = (h, range)
 
 range-framed : (c : Target) (w : PlainWork) (q lane : ℕ) (loops : Path) (vs : List ℕ) → q < c.procs → lane < c.lanes →
     AreInRange loops vs →
-    AreInRange (framed c w loops) (shared.values_of c w q lane vs)
+    AreInRange (framed c w loops) (values_of c w q lane vs)
 range-framed c (kernel trees) q lane loops vs h k range =
     range-both (c.procs == 1) (c.lanes == 1) c.procs c.lanes q lane loops vs h k range
 range-framed c (rows root size) q lane loops vs h k range =
@@ -96,9 +71,9 @@ range-framed c (copy size) q lane loops vs h k range =
     range-both (c.procs == 1) (c.lanes == 1) c.procs c.lanes q lane loops vs h k range
 
 pub range-of : (c : Target) (p : PlainPass) (h : IsFramed c p) (q lane : ℕ) (vs : List ℕ) → q < c.procs →
-    lane < c.lanes → AreInRange h.loops vs → AreInRange p.path (shared.values_of c p.work q lane vs)
+    lane < c.lanes → AreInRange h.loops vs → AreInRange p.path (values_of c p.work q lane vs)
 range-of c p h q lane vs below on range =
-    subst (λ (path : Path). AreInRange path (shared.values_of c p.work q lane vs)) (sym h.path)
+    subst (λ (path : Path). AreInRange path (values_of c p.work q lane vs)) (sym h.path)
     (range-framed c p.work q lane h.loops vs below on range)
 
 -- values in range name loops' values in range, and a processor where there are several
@@ -123,7 +98,7 @@ parts-procs true p q loops vs h = record { inner = h; proc = λ e. absurd (cc) }
 parts-procs false p q loops vs h = record { inner = h.1; proc = λ e. h.0 }
 
 parts-of : (c : Target) (w : PlainWork) (q lane : ℕ) (loops : Path) (vs : List ℕ) →
-    AreInRange (framed c w loops) (shared.values_of c w q lane vs) →
+    AreInRange (framed c w loops) (values_of c w q lane vs) →
     AreParts (c.procs == 1) c.procs q loops vs
 parts-of c (kernel trees) q lane loops vs h = parts-both (c.procs == 1) (c.lanes == 1) c.procs c.lanes q lane loops vs h
 parts-of c (rows root size) q lane loops vs h =
@@ -143,8 +118,12 @@ same-proc true q rest = refl
 same-proc false q rest = refl
 
 pub values-named : (c : Target) (w : PlainWork) (q lane : ℕ) (vs : List ℕ) →
-    shared.values_of c w q lane vs ≡ shared.values_of c w (named c q) lane vs
-values-named c w q lane vs = same-proc (c.procs == 1) q (shared.lane_value c w lane ++ vs)
+    values_of c w q lane vs ≡ values_of c w (named c q) lane vs
+values-named c (kernel trees) q lane vs = same-proc (c.procs == 1) q (if_several c.lanes lane ++ vs)
+values-named c (rows root size) q lane vs = same-proc (c.procs == 1) q (if_several c.lanes lane ++ vs)
+values-named c (horner root size) q lane vs = same-proc (c.procs == 1) q (if_several c.lanes lane ++ vs)
+values-named c (tile v) q lane vs = same-proc (c.procs == 1) q vs
+values-named c (copy size) q lane vs = same-proc (c.procs == 1) q (if_several c.lanes lane ++ vs)
 
 -- the values of a copy on a processor and a lane
 pub record IsShare (c : Target) (loops : Path) (q : ℕ) (vs : List ℕ) : Type 0 where
@@ -156,15 +135,15 @@ proc-below true p q some h = some
 proc-below false p q some h = h refl
 
 pub share-of : (c : Target) (p : PlainPass) (h : IsFramed c p) (q lane : ℕ) (vs : List ℕ) → 0 < c.procs →
-    AreInRange p.path (shared.values_of c p.work q lane vs) → IsShare c h.loops q vs
+    AreInRange p.path (values_of c p.work q lane vs) → IsShare c h.loops q vs
 share-of c p h q lane vs some range =
     let parts = parts-of c p.work q lane h.loops vs
-    (subst (λ (path : Path). AreInRange path (shared.values_of c p.work q lane vs)) h.path range) in
+    (subst (λ (path : Path). AreInRange path (values_of c p.work q lane vs)) h.path range) in
     record { inner = parts.inner; proc = proc-below (c.procs == 1) c.procs q some parts.proc }
 
 -- the items on the lanes of a register are items of the copy
 pub item-below : (c : Target) (w : PlainWork) (k lane : ℕ) → HasLanes c w → k < vectors_of w → lane < c.lanes →
-    shared.item_of w k lane < work_size w
+    item_of w k lane < work_size w
 item-below c (kernel trees) k lane has below on = below
 item-below c (rows root size) k lane has below on = below
 item-below c (horner root size) k lane has below on = below

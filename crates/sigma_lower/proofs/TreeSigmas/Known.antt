@@ -1,13 +1,13 @@
 -- What is known of each pass of a layout.
-use Rattle.std.proofs.Common.{List, [], ◌∷◌, ◌++◌, map, sym, arith, subst}
+use Rattle.std.proofs.Common.{List, [], ◌∷◌, ◌++◌, map, sym, arith, subst, ◌≡◌, ◌<◌}
 use Rattle.std.specs.Prelude.{reverse}
 use Rattle.std.proofs.lemmas.List.{map-append, reverse-append, reverse-reverse}
 use Rattle.sigma_lower.specs.Merged.{AllHaveLoops}
-use Rattle.sigma_lower.specs.Order.{AllLoops, AllOrdered}
-use Rattle.sigma_lower.specs.Shared.{phase_term, AllEmbed, AllMerge}
+use Rattle.sigma_lower.specs.Order.{AllOrdered}
+use Rattle.sigma_lower.specs.Shared.{phase_term}
 use Rattle.sigma_lower.proofs.HaveLoops.{phases_have_loops}
-use Rattle.sigma_lower.proofs.Ordered.{trees_are_loops, trees_ordered}
-use Rattle.sigma_lower.proofs.SharedTrees.{shared_trees_merge, trees_embed}
+use Rattle.sigma_lower.proofs.Ordered.{trees_ordered}
+use Rattle.sigma_lower.proofs.SharedTrees.{AllEmbed, trees_embed}
 use Rattle.sigma_lower.specs.TreeLoops.Merge.{PlainPass, passes_of_terms, in_order, merged_of}
 use Rattle.sigma_lower.specs.TreeLoops.Nests.{loop_of}
 use Rattle.sigma_lower.proofs.TreeLoops.Closed.{AreClosedPasses, IsClosedPass}
@@ -17,20 +17,20 @@ use Rattle.sigma_lower.proofs.TreeLoops.LoopNests.{loops_listed}
 use Rattle.sigma_lower.proofs.TreeLoops.PlaceValues.{AreFormedPasses, IsFormedPass}
 use Rattle.sigma_lower.proofs.TreeLoops.Shaped.{AreShaped, IsShaped, IsShapedWork}
 use Rattle.sigma_lower.proofs.TreeLoops.TreePlaces.{good_places, tree_good_places}
-use Rattle.sigma_spl.specs.Shared.Owners.{IsHost}
 use Rattle.sigma_spl.specs.Shared.Ready.{IsSmallWork}
 use Rattle.sigma_spl.specs.Good.{AreGoodPasses, IsGoodPass}
-use Rattle.sigma_spl.specs.Loops.{PlainLoop, AreGoodLoops, AreLimitedLoops, IsGoodLoop, IsLimitedLoop, loops_in, one_nest}
-use Rattle.sigma_spl.specs.Merge.{most, unbounded}
+use Rattle.sigma_spl.specs.Loops.{PlainLoop, AreGoodLoops, AreLimitedLoops, IsGoodLoop, IsLimitedLoop, loops_in, one_nest, IsOrdered}
+use Rattle.sigma_spl.specs.Merge.{most, unbounded, passes_within}
 use Rattle.sigma_spl.proofs.GoodLoops.{loops_are_good}
 use Rattle.sigma_lower.specs.TreeLoops.SharedPasses.Shared.{AllFramed, IsFramed}
 use Rattle.sigma_lower.proofs.TreeLoops.SharedPasses.Framed.{passes_are_framed}
 use Rattle.sigma_lower.specs.TreeTerms.Term.{PlainTerm, lowered_of}
-use Rattle.sigma_lower.proofs.TreeTerms.Both.{plain_terms}
-use Rattle.sigma_lower.proofs.TreeTerms.RootTerms.{shared_terms}
 use Rattle.smp_rewrite.specs.LayoutSteps.Layout.{Layout}
 use Rattle.operators.specs.declared.target.Target.{Target}
 use Rattle.sigma_lower.proofs.TreeSigmas.Hosted.{IsHosted}
+use Rattle.sigma_lower.specs.Machine.{IsMachine}
+use Rattle.sigma_spl.proofs.Keeps.{merge_keeps}
+use Rattle.sigma_spl.proofs.Listed.{merge_listed}
 
 pub record IsKnown (c : Target) (p : PlainPass) : Type 0 where
   pub framed : IsFramed c p
@@ -74,19 +74,21 @@ good-phase : (c : Target) (ts : List PlainTerm) → AreGood c (loops_in (phase_t
     AreGood c (map loop_of (passes_of_terms ts))
 good-phase c ts h = good-back c (map loop_of (passes_of_terms ts)) (subst (AreGood c) (loops_listed ts) h)
 
-good-phases : (c : Target) (phases : List (List PlainTerm)) → IsHost c → AllEmbed c c.lanes phases →
-    AllOrdered c phases → AllHaveLoops c phases → AllLoops c phases →
-    AllMerge unbounded c phases →
-    AreGood c (map loop_of (in_order (map passes_of_terms phases)))
-good-phases c [] host embedded ordered have loops merged = tt
-good-phases c (ts ∷ more) host embedded ordered have loops merged =
-    let size = host.size.0 in
-    let good = loops_are_good c.lanes c.size (phase_term ts) (omega (arith, size)) embedded.0.good ordered.0.in_order in
-    let first = good-phase c ts (good-loops c (loops_in (phase_term ts)) good
-    (subst (AreGoodPasses c.lanes c.modulus c.size) (loops.0 have.0) merged.0)) in
+good-phases : (c : Target) (phases : List (List PlainTerm)) → IsMachine c → AllEmbed c c.lanes phases →
+    AllOrdered c phases → AllHaveLoops c phases → AreGood c (map loop_of (in_order (map passes_of_terms phases)))
+good-phases c [] machine embedded ordered have = tt
+good-phases c (ts ∷ more) machine embedded ordered have =
+    let t = phase_term ts in
+    let some : 0 < c.size = omega (arith, machine.size.0) in
+    let positive : 0 < c.modulus = omega (arith, machine.modulus) in
+    let good = loops_are_good c.lanes c.size t some embedded.0.good ordered.0.in_order in
+    let order : IsOrdered t = record { in_order = ordered.0.in_order; none_waits = ordered.0.none_waits; some = have.0 } in
+    let listed : passes_within unbounded c.size t ≡ map one_nest (loops_in t) = merge_listed unbounded c.size t order tt in
+    let merged = merge_keeps c.lanes c.modulus c.size unbounded t positive some embedded.0.good in
+    let passes = subst (AreGoodPasses c.lanes c.modulus c.size) listed merged.good in
+    let first = good-phase c ts (good-loops c (loops_in t) good passes) in
     subst (AreGood c) (sym (map-append loop_of (passes_of_terms ts) (in_order (map passes_of_terms more))))
-    (good-append c (map loop_of (passes_of_terms ts)) _ first
-    (good-phases c more host embedded.1 ordered.1 have.1 loops.1 merged.1))
+    (good-append c (map loop_of (passes_of_terms ts)) _ first (good-phases c more machine embedded.1 ordered.1 have.1))
 
 -- ---- all passes
 
@@ -117,10 +119,8 @@ layout-known c l is =
     let places : HaveGoodPlaces c (IsShapedWork c.modulus) (merged_of c l) = tree_good_places c l is.shares is.good in
     let small : HaveGoodPlaces c IsSmallWork (merged_of c l) = good_places c IsSmallWork l is.shares is.good is.small
     tt in
-    all-known c (merged_of c l) (passes_are_framed plain_terms shared_terms c l is.shares is.good) places.shaped
+    all-known c (merged_of c l) (passes_are_framed c l is.shares is.good) places.shaped
     small.shaped
     (tree_loops 64 c l (omega arith) is.machine is.shares is.good) places.formed places.closed
-    (good-phases c (lowered_of c l) is.host (trees_embed c l is.machine is.shares is.good)
-    (trees_ordered c l is.machine is.shares is.good) (phases_have_loops c l is.machine is.shares is.good)
-    (trees_are_loops c l is.machine is.shares is.good)
-    (shared_trees_merge unbounded c l is.machine is.shares is.good).good)
+    (good-phases c (lowered_of c l) is.machine (trees_embed c l is.machine is.shares is.good)
+    (trees_ordered c l is.machine is.shares is.good) (phases_have_loops c l is.machine is.shares is.good))

@@ -40,7 +40,6 @@ use Rattle.sigma_lower.proofs.TreeLayouts.{trees_can_lower}
 use Rattle.sigma_lower.proofs.TreeLoops.Counts.{merge_counts}
 use Rattle.sigma_lower.proofs.TreeLoops.LoopLimits.{loops_are_limited}
 use Rattle.sigma_lower.proofs.TreeLoops.SharedPasses.Phases.{phases_are_shared}
-use Rattle.sigma_lower.proofs.TreeTerms.RootTerms.{shared_terms}
 use Rattle.sigma_lower.proofs.TreeSigmas.Bounds.{IsBounded, actions-few, all-bounded}
 use Rattle.sigma_lower.proofs.TreeSigmas.ClosedCounts.{closed_costs, closed_loads, more_by}
 use Rattle.sigma_lower.proofs.TreeSigmas.ClosedLoops.{TakesClosing}
@@ -200,7 +199,7 @@ module _ (c : Request) (t : Breakdown) (valid : IsValid c) (whole : IsWholeTree 
   owned : ArePhasesShared h (map (map one_nest) closed)
   owned =
       whole-shared h loops each takes factor
-      (phases-shared h (merged_phases h l) known (phases_are_shared shared_terms h l is.shares is.good))
+      (phases-shared h (merged_phases h l) known (phases_are_shared h l is.shares is.good))
 
   -- ---- they are few
 
@@ -213,7 +212,7 @@ module _ (c : Request) (t : Breakdown) (valid : IsValid c) (whole : IsWholeTree 
       let high = is.shares.small in
       let small : layout_size l ≤ 1048576 = omega (arith, size, high) in
       let merged : AreFewMerged (merged_of h l) =
-      few_merged c.modulus c.lanes l (merged_of h l) is.good small (merge_counts h l is.machine is.shares is.good) in
+      few_merged c.modulus c.lanes l (merged_of h l) is.good small (merge_counts h l is.shares is.good) in
       let few = merged.few in
       let same : length (in_order closed) ≡ length (merged_of h l) =
       whole-length h loops each takes factor ∙ ap length flat ∙ length-map (merged_of h l) loop_of in

@@ -5,7 +5,7 @@ use Rattle.sigma_lower.specs.TreeLoops.Merge.{PlainPass, gather_place, scatter_p
 use Rattle.sigma_lower.specs.TreeLoops.Nests.{loop_of}
 use Rattle.operators.specs.declared.target.Target.{Target}
 use Rattle.sigma_spl.specs.Shared.Running.{IsLoadedBy, IsStoredBy}
-use Rattle.sigma_spl.specs.Shared.Owners.{AllOwn, AllShared, ArePhasesShared, FirstOwns, IsOwner}
+use Rattle.sigma_spl.specs.Shared.Owners.{AllOwn, AllShared, ArePhasesShared, FirstOwns}
 use Rattle.sigma_spl.specs.Loops.{nest_of, one_nest}
 use Rattle.sigma_spl.specs.Copies.{loops_of}
 use Rattle.sigma_spl.specs.Nest.{PlainNest, load_place, store_place}
@@ -67,9 +67,6 @@ module _ (c : Target) where
   first-own owner [] known own = tt
   first-own owner (p ∷ ps) known own = (stores-own owner p known.0 own.0, all-own owner ps known.1 own.1)
 
-  same-owner : (owner : ℕ → ℕ) → shared.IsOwner c owner → IsOwner c owner
-  same-owner owner is = record { lines = is.lines; procs = is.procs }
-
   pub known-front : (ps qs : List PlainPass) → AllKnown c (ps ++ qs) → AllKnown c ps
   known-front [] qs h = tt
   known-front (p ∷ ps) qs h = (h.0, known-front ps qs h.1)
@@ -84,7 +81,7 @@ module _ (c : Target) where
   all-shared (ps ∷ more) known h = (
     record {
       owner = h.0.owner;
-      is_owner = same-owner h.0.owner h.0.is_owner;
+      is_owner = h.0.is_owner;
       owns = all-own h.0.owner ps (known-front ps (in_order more) known) h.0.owns;
     },
     all-shared more (known-back ps (in_order more) known) h.1,
@@ -96,7 +93,7 @@ module _ (c : Target) where
   phases-shared (ps ∷ more) known h = (
     record {
       owner = h.0.owner;
-      is_owner = same-owner h.0.owner h.0.is_owner;
+      is_owner = h.0.is_owner;
       owns = first-own h.0.owner ps (known-front ps (in_order more) known) h.0.owns;
     },
     all-shared more (known-back ps (in_order more) known) h.1,

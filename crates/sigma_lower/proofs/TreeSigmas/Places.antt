@@ -1,9 +1,8 @@
 -- The places of a pass's nest are the pass's, and the lanes of its registers stand side by side.
-use Rattle.std.proofs.Common.{◌≡◌, ℕ, ◌+◌, ◌*◌, ◌<◌, List, [], ◌∷◌, ◌++◌, length, map, refl, sym, ap, ap₂, ◌∙◌, arith, subst, Option, Some, None}
+use Rattle.std.proofs.Common.{◌≡◌, ℕ, ◌+◌, ◌*◌, ◌<◌, List, [], ◌∷◌, ◌++◌, length, map, refl, sym, ap, ◌∙◌, arith, subst, Option, Some, None}
 use Rattle.std.specs.Option.{option_map}
 use Rattle.index_fn.specs.Mapping.{Mapping, at}
 use Rattle.kernel_gen.proofs.Residues.{power_below}
-use Rattle.sigma_lower.specs.TreeLoops.Items as shared
 use Rattle.sigma_lower.specs.TreeLoops.Merge.{diagonal_place}
 use Rattle.sigma_lower.specs.TreeLoops.Merge.{PlainDiagonal, PlainPass, through, gather_place, scatter_place}
 use Rattle.sigma_lower.specs.TreeLoops.Nests.{loop_of, taken_of}
@@ -13,7 +12,7 @@ use Rattle.sigma_lower.proofs.TreeLoops.Shaped.{IsShaped, IsShapedWork}
 use Rattle.operators.specs.declared.target.Target.{Target}
 use Rattle.sigma_spl.specs.Shared.Owners.{IsHost}
 use Rattle.sigma_spl.specs.Shared.Running.{FindsFactors, HasResidues, MovesVectors}
-use Rattle.sigma_spl.specs.Shared.Machine.{item_of, values_of}
+use Rattle.sigma_spl.specs.Shared.Machine.{item_of, lane_step, values_of}
 use Rattle.sigma_spl.specs.Copies.{loops_of}
 use Rattle.sigma_spl.specs.Loops.{nest_of, multiplier_of, places_by, IsGoodLoop}
 use Rattle.sigma_spl.specs.Merge.{items_out}
@@ -24,7 +23,7 @@ use Rattle.sigma_spl.proofs.Listed.{loops_have_places}
 use Rattle.sigma_lower.specs.TreeLoops.SharedPasses.Shared.{IsFramed}
 use Rattle.operators.specs.TensorPaths.Path.{count_of, place, AreInRange}
 use Rattle.operators.proofs.TensorPaths.PathPlaces.{place-below}
-use Rattle.sigma_lower.proofs.TreeSigmas.Frames.{loop-values, loop-item, loop-step, range-of, named, values-named, IsShare, share-of, item-below}
+use Rattle.sigma_lower.proofs.TreeSigmas.Frames.{range-of, named, values-named, IsShare, share-of, item-below}
 
 -- a nest's diagonal is that of its pass
 pub record IsTaken (p : PlainPass) (m : PlainMultiplier) : Type 0 where
@@ -81,34 +80,32 @@ module _ (c : Target) (p : PlainPass) (good : IsGoodLoop c.lanes (loop_of p)) wh
     some : 0 < c.procs
     some = let procs = host.procs.0 in omega (arith, procs)
 
-    values-are : (l : ℕ) → values_of c w q l vs ≡ shared.values_of c p.work (named c q) l vs
-    values-are l = loop-values c p.work q l vs ∙ values-named c p.work q l vs
+    values-are : (l : ℕ) → values_of c w q l vs ≡ values_of c p.work (named c q) l vs
+    values-are l = values-named c p.work q l vs
 
     share : IsShare c frame.loops q vs
-    share =
-        share-of c p frame q lane vs some (subst (AreInRange p.path) (loop-values c p.work q lane vs)
-        (ranged p.path _ range))
+    share = share-of c p frame q lane vs some (ranged p.path _ range)
 
-    in_range : (l : ℕ) → l < c.lanes → AreInRange p.path (shared.values_of c p.work (named c q) l vs)
+    in_range : (l : ℕ) → l < c.lanes → AreInRange p.path (values_of c p.work (named c q) l vs)
     in_range l high = range-of c p frame (named c q) l vs share.proc high share.inner
 
-    in_copy : (l : ℕ) → l < c.lanes → shared.item_of p.work k l < work_size p.work
+    in_copy : (l : ℕ) → l < c.lanes → item_of p.work k l < work_size p.work
     in_copy l high = item-below c p.work k l frame.lanes below high
 
     load-at : (l : ℕ) → l < c.lanes →
         load_place w (nest_of (loop_of p)).gathers (values_of c w q l vs) (item_of w k l)
-        ≡ gather_place p (shared.values_of c p.work (named c q) l vs) (shared.item_of p.work k l)
+        ≡ gather_place p (values_of c p.work (named c q) l vs) (item_of p.work k l)
     load-at l high =
-        ap₂ (λ us i. load_place w (nest_of (loop_of p)).gathers us i) (values-are l) (loop-item p.work k l)
-        ∙ load-is (shared.values_of c p.work (named c q) l vs) (shared.item_of p.work k l) (in_range l high)
+        ap (λ us. load_place w (nest_of (loop_of p)).gathers us (item_of w k l)) (values-are l)
+        ∙ load-is (values_of c p.work (named c q) l vs) (item_of p.work k l) (in_range l high)
         (in_copy l high)
 
     store-at : (l : ℕ) → l < c.lanes →
         store_place w (nest_of (loop_of p)).scatters (values_of c w q l vs) (item_of w k l)
-        ≡ scatter_place p (shared.values_of c p.work (named c q) l vs) (shared.item_of p.work k l)
+        ≡ scatter_place p (values_of c p.work (named c q) l vs) (item_of p.work k l)
     store-at l high =
-        ap₂ (λ us i. store_place w (nest_of (loop_of p)).scatters us i) (values-are l) (loop-item p.work k l)
-        ∙ store-is (shared.values_of c p.work (named c q) l vs) (shared.item_of p.work k l) (in_range l high)
+        ap (λ us. store_place w (nest_of (loop_of p)).scatters us (item_of w k l)) (values-are l)
+        ∙ store-is (values_of c p.work (named c q) l vs) (item_of p.work k l) (in_range l high)
         (in_copy l high)
 
     first : 0 < c.lanes
@@ -116,12 +113,12 @@ module _ (c : Target) (p : PlainPass) (good : IsGoodLoop c.lanes (loop_of p)) wh
 
     factor-at : (m : PlainMultiplier) (t : IsTaken p m) (l : ℕ) → l < c.lanes →
         store_place w m.places (values_of c w q l vs) (item_of w k l)
-        ≡ diagonal_place p t.diagonal (shared.values_of c p.work (named c q) l vs) (shared.item_of p.work k l)
+        ≡ diagonal_place p t.diagonal (values_of c p.work (named c q) l vs) (item_of p.work k l)
     factor-at m t l high =
         ap (λ (n : PlainMultiplier). store_place w n.places (values_of c w q l vs) (item_of w k l)) t.same
-        ∙ ap₂ (λ us i. store_place w (places_by (loop_of p) (taken_of t.diagonal).places
-        (items_out w (length p.path))) us i) (values-are l) (loop-item p.work k l)
-        ∙ factor-is (shared.values_of c p.work (named c q) l vs) (shared.item_of p.work k l) (in_range l high)
+        ∙ ap (λ us. store_place w (places_by (loop_of p) (taken_of t.diagonal).places
+        (items_out w (length p.path))) us (item_of w k l)) (values-are l)
+        ∙ factor-is (values_of c p.work (named c q) l vs) (item_of p.work k l) (in_range l high)
         (in_copy l high) t.diagonal t.is
 
     pub moves-vectors : MovesVectors c (nest_of (loop_of p)) q vs lane k
@@ -134,7 +131,7 @@ module _ (c : Target) (p : PlainPass) (good : IsGoodLoop c.lanes (loop_of p)) wh
               let t = taken-is p m is in
               factor-at m t lane on
               ∙ frame.factors t.diagonal t.is vs (named c q) lane k share.inner share.proc on below
-              ∙ ap₂ (λ x y. x + y * lane) (sym (factor-at m t 0 first)) (sym (loop-step p.work));
+              ∙ ap (λ x. x + lane_step p.work * lane) (sym (factor-at m t 0 first));
         }
 
   -- ---- factors

@@ -1,12 +1,12 @@
 -- Each loop of a layout can be run, and a program can be made of it.
-use Rattle.std.proofs.Common.{◌≡◌, ℕ, zero, suc, ◌+◌, ◌-◌, ◌<◌, ◌≤◌, List, [], ◌∷◌, ◌++◌, All, length, map, refl, sym, ap, ap₂, ◌∙◌, arith, subst, Some}
+use Rattle.std.proofs.Common.{◌≡◌, ℕ, ◌+◌, ◌<◌, ◌≤◌, List, [], ◌∷◌, ◌++◌, All, length, map, refl, sym, ap, ap₂, ◌∙◌, arith, subst, Some}
 use Rattle.std.specs.Prelude.{slice_index, slice_index_or}
 use Rattle.std.specs.Option.{option_map}
 use Rattle.std.proofs.lemmas.List.Elements.{All-weaker}
 use Rattle.index_fn.specs.Mapping.{Mapping}
 use Rattle.operators.specs.Sizes.{max_size}
 use Rattle.operators.specs.declared.target.Target.{Target}
-use Rattle.operators.specs.TensorPaths.Path.{Path, AreInRange, count_of, place, size_under}
+use Rattle.operators.specs.TensorPaths.Path.{AreInRange, count_of, place, size_under}
 use Rattle.perm_algebra.specs.Affine.{Sum, constant, variable, value, simplified}
 use Rattle.sigma_spl.specs.Copies.{loops_of}
 use Rattle.sigma_spl.specs.Good.{NamesItems}
@@ -19,8 +19,8 @@ use Rattle.sigma_spl.specs.Shared.Ready.{IsReadyMultiplier, IsReadyNest, LoadsAl
 use Rattle.sigma_spl.specs.Shared.Running.{CanRunNest}
 use Rattle.sigma_spl.specs.Trees.{IsReadyLoop}
 use Rattle.sigma_spl.specs.Work.{PlainWork, kernel, rows, horner, tile, copy, work_size}
-use Rattle.sigma_spl.proofs.Natural.{names-out, ranged, values-are}
-use Rattle.sigma_spl.proofs.Nests.{names-simplified}
+use Rattle.sigma_spl.proofs.Natural.{names-out, ranged, values-are, at-second}
+use Rattle.sigma_spl.proofs.Nests.{names-simplified, two_below, with_more}
 use Rattle.sigma_lower.specs.TreeLoops.Merge.{PlainPass, through}
 use Rattle.sigma_lower.specs.TreeLoops.Nests.{loop_of, taken_of}
 use Rattle.sigma_lower.proofs.TreeLoops.LoopItems.{diagonal-size}
@@ -34,7 +34,7 @@ use Rattle.sigma_lower.proofs.TreeSigmas.Works.{can-work, no-copy}
 
 -- ---- names
 
-names-all : (w : PlainWork) (cs : ℕ → ℕ) (fs : List Mapping) (sums : List Sum) → AreFormed fs → NamesItems w sums →
+pub names-all : (w : PlainWork) (cs : ℕ → ℕ) (fs : List Mapping) (sums : List Sum) → AreFormed fs → NamesItems w sums →
     NamesItems w (map (all_simplified cs fs) sums)
 names-all w cs [] sums formed h = subst (NamesItems w) (sym (map-same sums)) h
   where
@@ -51,27 +51,6 @@ names-all w cs (f ∷ fs) sums formed h =
     map-twice (e ∷ es) = ap (λ rest. all_simplified cs fs (simplified cs f e) ∷ rest) (map-twice es)
 
 -- ---- values in range, with others behind them
-
-two_below : (n k l : ℕ) → k < n → l < n → (i : ℕ) → slice_index (k ∷ l ∷ []) i ≤ slice_index (n ∷ n ∷ []) i - 1
-two_below n k l h g zero = omega arith
-two_below n k l h g (suc zero) = omega arith
-two_below n k l h g (suc (suc i)) = omega arith
-
-with_more : (counts : List ℕ) (n : ℕ) (vs more : List ℕ) → AreInRange (loops_of counts) vs →
-    ((i : ℕ) → slice_index more i ≤ slice_index (n ∷ n ∷ []) i - 1) →
-    (i : ℕ) → slice_index (vs ++ more) i ≤ slice_index (counts ++ n ∷ n ∷ []) i - 1
-with_more [] n [] more h rest i = rest i
-with_more [] n (v ∷ vs) more h rest i = absurd h
-with_more (c ∷ counts) n [] more h rest i = absurd h
-with_more (c ∷ counts) n (v ∷ vs) more h rest zero = omega (arith, h.0)
-with_more (c ∷ counts) n (v ∷ vs) more h rest (suc i) = with_more counts n vs more h.1 rest i
-
-at-second : (path : Path) (vs : List ℕ) (k l : ℕ) → AreInRange path vs →
-    slice_index (vs ++ k ∷ l ∷ []) (suc (length path)) ≡ l
-at-second [] [] k l h = refl
-at-second [] (v ∷ vs) k l h = absurd h
-at-second (t ∷ path) [] k l h = absurd h
-at-second (t ∷ path) (v ∷ vs) k l h = at-second path vs k l h.1
 
 module _ (c : Target) (p : PlainPass) (host : IsHost c) (known : IsKnown c p) where
   abbrev w : PlainWork

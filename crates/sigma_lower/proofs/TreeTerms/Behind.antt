@@ -1,7 +1,6 @@
 -- Steps of a layout behind more tensors, and paths of tensors that may have one copy.
-use Rattle.std.proofs.Common.{◌≡◌, ◌≢◌, ℕ, ◌/◌, Bool, true, false, arith, refl, sym, ap, ap₂, ◌∙◌, List, [], ◌∷◌, ◌++◌, if◌then◌else◌, append-nil, append_assoc}
+use Rattle.std.proofs.Common.{◌≡◌, ℕ, ◌/◌, Bool, true, false, arith, refl, sym, ap, ap₂, ◌∙◌, List, [], ◌∷◌, ◌++◌, if◌then◌else◌, append-nil, append_assoc}
 use Rattle.std.specs.Prelude.{map, ◌==◌}
-use Rattle.std.proofs.lemmas.Bool.Decides.{nat_tests}
 use Rattle.std.proofs.lemmas.List.{map-append}
 use Rattle.smp_rewrite.specs.Smp.{within}
 use Rattle.smp_rewrite.specs.LayoutSteps.Step.{turns, twiddles, thomas_in, thomas_out, PlainStep, step, rule_steps, steps_of}
@@ -12,6 +11,7 @@ use Rattle.tree_model.specs.declared.tree.Rule.{Rule}
 use Rattle.tree_model.specs.declared.tree.Rule.TheVariants.{Gt, Ct, Split, Dim}
 use Rattle.smp_rewrite.specs.LayoutSteps.Layout.{Layout, work, by, layout_size}
 use Rattle.sigma_lower.specs.TreeTerms.Root.{right_path, left_path, whole_path}
+use Rattle.sigma_spl.specs.Good.{AreBlocks}
 
 -- ---- steps
 
@@ -64,18 +64,11 @@ has_step path (by rule root a b) = rule-step rule path (layout_size a) (layout_s
 
 -- ---- paths
 
-pub not-one : (n : ℕ) → n ≢ 1 → (n == 1) ≡ false
-not-one n h = grind (arith, nat_tests)
-
--- several copies
-pub within-several : (t : Tensor) (path : Path) → count_of t ≢ 1 → within t path ≡ t ∷ path
-within-several t path h = ap (λ b. if b then path else t ∷ path) (not-one (count_of t) h)
-
 pick-append : (b : Bool) (t : Tensor) (path rest : Path) → (if b then path else t ∷ path) ++ rest ≡ (if b then path ++ rest else t ∷ (path ++ rest))
 pick-append true t path rest = refl
 pick-append false t path rest = refl
 
-within-append : (t : Tensor) (path rest : Path) → within t path ++ rest ≡ within t (path ++ rest)
+pub within-append : (t : Tensor) (path rest : Path) → within t path ++ rest ≡ within t (path ++ rest)
 within-append t path rest = pick-append (count_of t == 1) t path rest
 
 two-append : (t u : Tensor) (rest : Path) → within t (within u []) ++ rest ≡ within t (within u rest)
@@ -83,6 +76,14 @@ two-append t u rest = within-append t (within u []) rest ∙ ap (within t) (with
 
 three-append : (t u w : Tensor) (rest : Path) → within t (within u (within w [])) ++ rest ≡ within t (within u (within w rest))
 three-append t u w rest = within-append t (within u (within w [])) rest ∙ ap (within t) (two-append u w rest)
+
+-- tiles stand in blocks
+pick-blocks : (b : Bool) (k : ℕ) (path : Path) → AreBlocks path → AreBlocks (if b then path else Blocks k ∷ path)
+pick-blocks true k path h = h
+pick-blocks false k path h = h
+
+pub blocks-within : (k : ℕ) (path : Path) → AreBlocks path → AreBlocks (within (Blocks k) path)
+blocks-within k path h = pick-blocks (k == 1) k path h
 
 pub right-behind : (p v r : ℕ) (path : Path) → right_path p v r ++ path ≡ within (Blocks p) (within (Columns v) (within (Blocks (r / p / v)) path))
 right-behind p v r path = three-append (Blocks p) (Columns v) (Blocks (r / p / v)) path

@@ -5,23 +5,19 @@ use Rattle.std.specs.List.{flat_map}
 use Rattle.std.proofs.lemmas.Bool.Decides.{nat_tests}
 use Rattle.std.proofs.lemmas.List.{map-append}
 use Rattle.sigma_lower.specs.TreeTerms.Good.{IsVecOf}
-use Rattle.sigma_lower.specs.TreeTerms.Term.{PlainTerm, lowered, factor_term, terms_on, terms_in, phases_on, LoweredTransforms, PlainTerms}
+use Rattle.sigma_lower.specs.TreeTerms.Term.{PlainTerm, lowered, factor_term, terms_on, terms_in, lowered_of, phases_on}
 use Rattle.sigma_lower.proofs.TreeTerms.Goods.{vec_good, phases_good}
 use Rattle.sigma_lower.proofs.TreeTerms.Lowering.{factors_on}
-use Rattle.smp_rewrite.specs.Cut.{factors_of, cut, layout_smp}
+use Rattle.smp_rewrite.specs.Cut.{factors_of, cut}
 use Rattle.smp_rewrite.proofs.Factors.{cut-factors}
-use Rattle.smp_rewrite.proofs.TreeLaws.{smp_transforms}
 use Rattle.smp_rewrite.specs.LayoutSteps.Meaning.{all_on}
 use Rattle.smp_rewrite.specs.LayoutSteps.Step.{PlainStep, steps_of}
 use Rattle.smp_rewrite.proofs.LayoutSteps.StepMeanings.{all_on-append}
-use Rattle.smp_rewrite.specs.Fits.{CanShareLayout}
-use Rattle.smp_rewrite.specs.LayoutSteps.Layout.{Layout, layout_on}
+use Rattle.smp_rewrite.specs.LayoutSteps.Layout.{Layout}
 use Rattle.sigma_spl.specs.Shared.Targets.{is_alone}
-use Rattle.smp_rewrite.specs.LayoutSteps.Whole.{only, IsGoodWhole}
 use Rattle.operators.specs.declared.target.Target.{Target}
 use Rattle.vec_rewrite.specs.Turning.{kept, vec_of}
 use Rattle.vec_rewrite.specs.Vectors.{PlainVec, factor_step, vec_steps}
-use Rattle.vec_rewrite.proofs.LaneLaws.{vec_keeps}
 
 -- ---- one phase after the other
 
@@ -48,20 +44,6 @@ pub terms_mean : (h : Target) (g : PlainVec) (x : List ℕ) → IsVecOf h g →
     phases_on h (terms_in g) x ≡ all_on h.modulus (vec_steps g) x
 terms_mean h g x k = terms-pick h g (g.target.procs == 1) x k
 
--- ---- layouts
-
-layout-on : (h : Target) (l : Layout) (x : List ℕ) → CanShareLayout h l →
-    all_on h.modulus (vec_steps (vec_of (layout_smp h l))) x ≡ layout_on h.modulus l x
-layout-on h l x shares =
-    (vec_keeps 1 h.modulus h (layout_smp h l) (record { whole = only l; shares = shares; form = refl })).0 x
-    ∙ smp_transforms h (only l) x shares
-
-pub lowered_transforms : LoweredTransforms
-lowered_transforms h l x shares good =
-    let whole : IsGoodWhole h.modulus (only l) = record { layout = good; factor = tt } in
-    terms_mean h (vec_of (layout_smp h l)) x (record { whole = only l; shares = shares; good = whole; form = refl })
-    ∙ layout-on h l x shares
-
 -- ---- one processor and one lane
 
 -- the terms that p processors and v lanes make of steps
@@ -84,5 +66,5 @@ one_proc h e = grind (arith, nat_tests)
 one_lane : (h : Target) → is_alone h ≡ true → h.lanes ≡ 1
 one_lane h e = grind (arith, nat_tests)
 
-pub plain_terms : PlainTerms
+pub plain_terms : (h : Target) (l : Layout) → is_alone h ≡ true → lowered_of h l ≡ map lowered (steps_of [] l) ∷ []
 plain_terms h l e = ap₂ (λ p v. made_of h.size h.modulus p v h.line (steps_of [] l)) (one_proc h e) (one_lane h e) ∙ plain-made h.size h.modulus h.line (steps_of [] l)

@@ -6,16 +6,16 @@ use Rattle.index_fn.specs.Mapping.{Mapping, ThomasIn, ThomasBack, at, IsDefinedA
 use Rattle.operators.proofs.Lists.{factor_positive}
 use Rattle.sigma_lower.specs.TreeTerms.Wrapped.{wrapped}
 use Rattle.sigma_lower.proofs.TreeTerms.Permuted.{StaysBelow, wrapped-below}
-use Rattle.sigma_lower.proofs.TreeTerms.Sizes.{right_positive}
 use Rattle.operators.specs.declared.tensor_paths.Tensor.TheVariants.{Blocks, Columns}
 use Rattle.operators.specs.TensorPaths.Path.{Path, size_under}
+use Rattle.sigma_spl.proofs.Keeps.{right_positive}
 
 -- a function of the numbers below n
 pub record IsClosed (n : ℕ) (f : Mapping) : Type 0 where
   pub defined : (i : ℕ) → i < n → IsDefinedAt f i
   pub below : StaysBelow n (at f)
 
-le-mul_left : (r s : ℕ) → 0 < r → s ≤ r * s
+pub le-mul_left : (r s : ℕ) → 0 < r → s ≤ r * s
 le-mul_left r s h = let more : 1 * s ≤ r * s = mul-le 1 s r s h (omega arith) in omega arith
 
 -- ---- under tensors

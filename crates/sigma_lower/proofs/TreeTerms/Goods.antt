@@ -26,7 +26,7 @@ use Rattle.vec_rewrite.specs.Vectors.{PlainFactor, lanes, diagonals, move_before
 use Rattle.vec_rewrite.proofs.LaneShapes.{vec_shaped}
 use Rattle.sigma_lower.specs.TreeTerms.Good.{AreCoprime, IsGoodPiece, IsGoodCore, IsGood, AreGood, IsVecOf}
 use Rattle.sigma_lower.proofs.TreeTerms.Lowering.{good_steps}
-use Rattle.sigma_lower.proofs.TreeTerms.Sizes.{right_positive}
+use Rattle.sigma_spl.proofs.Keeps.{right_positive}
 
 -- ---- what a core needs apart from its size, where that of a piece is said of its tree
 

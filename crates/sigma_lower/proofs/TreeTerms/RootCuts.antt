@@ -15,7 +15,8 @@ use Rattle.vec_rewrite.specs.Turning.{kept, settled, order_after, laned, laned_f
 use Rattle.sigma_lower.specs.TreeTerms.Root.{right_path, left_path, whole_path, lines_moved, vectors_turned, turned_in, tiled_before, tiled_after, left_piece, left_core}
 use Rattle.sigma_lower.specs.TreeTerms.Term.{PlainTerm, gath, scat, diag, nest, lowered_core, factor_term}
 use Rattle.sigma_lower.specs.TreeTerms.Wrapped.{wrapped, unit_of}
-use Rattle.sigma_lower.proofs.TreeTerms.Behind.{right-behind, left-behind, whole-behind, within-several, not-one, by-one}
+use Rattle.sigma_lower.proofs.TreeTerms.Behind.{right-behind, left-behind, whole-behind, by-one}
+use Rattle.vec_rewrite.proofs.StepFollows.{within-wide, unequal}
 
 -- What is left of a phase, where the words may lie in groups, begins with these terms. Steps of the right part leave the words in the groups, and all others in their own order.
 pub record Cuts (cut : PlainStep → List smp.PlainFactor) (from : Option Grid → List smp.PlainFactor → List PlainTerm) (grid : Grid) (p v r s : ℕ) : Type 0 where
@@ -34,10 +35,10 @@ pub record Cuts (cut : PlainStep → List smp.PlainFactor) (from : Option Grid �
 -- ---- several processors
 
 pub cut-several : (n p : ℕ) (path : Path) (core : PlainCore) → p ≢ 1 → factors_of n p (step path core) ≡ cut_factors n p path core
-cut-several n p path core h = ap (λ b. if b then smp.blocks (step path core) ∷ [] else cut_factors n p path core) (not-one p h)
+cut-several n p path core h = ap (λ b. if b then smp.blocks (step path core) ∷ [] else cut_factors n p path core) (unequal p h)
 
 turned-several : (p v r s : ℕ) → p ≢ 1 → turned_in p v r s ≡ gath (lines_moved p v r s) ∷ gath (vectors_turned p v r s) ∷ []
-turned-several p v r s h = ap (λ b. (if b then [] else gath (lines_moved p v r s) ∷ []) ++ gath (vectors_turned p v r s) ∷ []) (not-one p h)
+turned-several p v r s h = ap (λ b. (if b then [] else gath (lines_moved p v r s) ∷ []) ++ gath (vectors_turned p v r s) ∷ []) (unequal p h)
 
 -- a matrix of k rows, whose lines come and go under the one path, on copies under the other
 abbrev dealt_terms : ℕ → ℕ → Path → Path → PlainWork → List PlainTerm
@@ -47,7 +48,7 @@ piece-several : (p v m s : ℕ) (path : Path) (t : PlainWork) → p ≢ 1 →
     left_piece p v m s path t ≡ dealt_terms p m (within (Columns v) (within (Columns (s / p / v)) [])) (within (Blocks p) (within (Columns v) (within (Columns (s / p / v)) path))) t
 piece-several p v m s path t h =
     let lines = within (Columns v) (within (Columns (s / p / v)) []) in
-    ap (λ b. if b then nest (left_path p v s ++ path) t ∷ [] else dealt_terms p m lines (left_path p v s ++ path) t) (not-one p h)
+    ap (λ b. if b then nest (left_path p v s ++ path) t ∷ [] else dealt_terms p m lines (left_path p v s ++ path) t) (unequal p h)
     ∙ ap (λ copies. dealt_terms p m lines copies t) (left-behind p v s path)
 
 -- ---- one lane
@@ -69,7 +70,7 @@ kept-root n p r s fs h =
 
 -- a permutation on all columns
 one-whole : (s : ℕ) (path : Path) → s ≢ 1 → Columns s ∷ path ≡ whole_path 1 s ++ path
-one-whole s path h = sym (within-several (Columns s) path h) ∙ ap (λ k. within (Columns k) path) (sym (by-one s)) ∙ sym (whole-behind 1 s path)
+one-whole s path h = sym (within-wide (Columns s) path h) ∙ ap (λ k. within (Columns k) path) (sym (by-one s)) ∙ sym (whole-behind 1 s path)
 
 kept-cut : (n p r s : ℕ) (path : Path) (core : PlainCore) (fs : List smp.PlainFactor) → p ≢ 1 → s ≢ 1 → n / s ≡ r →
     kept_from p None (cut_factors n p (Columns s ∷ path) core ++ fs) ≡ left_core p 1 r s path core ++ kept_from p None fs
@@ -121,10 +122,10 @@ parted_terms p v a t =
     nest (within (Blocks p) (within (Blocks a) (within (Blocks t) []))) (tile v) ∷ scat (wrapped (within (Columns v) (within (Blocks p) (within (Blocks a) []))) (v * t) (Strided t v)) ∷ []
 
 before-several : (p v r s : ℕ) → v ≢ 1 → tiled_before p v r s ≡ joined_terms p v (r / p / v) (s / v)
-before-several p v r s h = ap (λ b. if b then [] else joined_terms p v (r / p / v) (s / v)) (not-one v h)
+before-several p v r s h = ap (λ b. if b then [] else joined_terms p v (r / p / v) (s / v)) (unequal v h)
 
 after-several : (p v r s : ℕ) → v ≢ 1 → tiled_after p v r s ≡ parted_terms p v (r / p / v) (s / v)
-after-several p v r s h = ap (λ b. if b then [] else parted_terms p v (r / p / v) (s / v)) (not-one v h)
+after-several p v r s h = ap (λ b. if b then [] else parted_terms p v (r / p / v) (s / v)) (unequal v h)
 
 -- how the root's rows are dealt: each processor has u of them
 pub record Rows (p b v r s u : ℕ) : Type 0 where
@@ -208,13 +209,13 @@ pub record Dealt (p b v r s : ℕ) : Type 0 where
   pub columns : s / p ≢ 1
 
 among-right : (n p b v r s : ℕ) (path : Path) (core : PlainCore) → Dealt p b v r s → factors_of n p (step (Blocks r ∷ path) core) ≡ smp.blocks (step (Blocks (r / p) ∷ path) core) ∷ []
-among-right n p b v r s path core h = cut-several n p (Blocks r ∷ path) core h.procs ∙ ap (λ q. smp.blocks (step q core) ∷ []) (within-several (Blocks (r / p)) path h.rows)
+among-right n p b v r s path core h = cut-several n p (Blocks r ∷ path) core h.procs ∙ ap (λ q. smp.blocks (step q core) ∷ []) (within-wide (Blocks (r / p)) path h.rows)
 
 among-root : (n p b v r s : ℕ) (fs : List smp.PlainFactor) → Dealt p b v r s → laned_terms p b v None (factors_of n p (step [] (turns r s)) ++ fs) ≡ turned_in p v r s ++ laned_terms p b v (Some (grid_of b v (r / p))) fs
 among-root n p b v r s fs h =
     let u = r / p in
     ap (λ gs. laned_terms p b v None (gs ++ fs)) (cut-several n p [] (turns r s) h.procs)
-    ∙ ap (λ q. laned_terms p b v None (smp.move_before (step q (turns p s)) ∷ smp.blocks (step [] (turns u s)) ∷ fs)) (within-several (Columns u) [] h.rows)
+    ∙ ap (λ q. laned_terms p b v None (smp.move_before (step q (turns p s)) ∷ smp.blocks (step [] (turns u s)) ∷ fs)) (within-wide (Columns u) [] h.rows)
     ∙ ap (λ t. gath (lines_moved p v r s) ∷ gath (vectors_turned p v r s) ∷ laned_terms p b v (Some (record { groups = u / v; tiles = t })) fs) (sym (tiles-same p b v r s u h.dealt))
     ∙ ap (λ ts. ts ++ laned_terms p b v (Some (grid_of b v u)) fs) (sym (turned-several p v r s h.procs))
 
@@ -227,7 +228,7 @@ among-piece : (n p b v r s : ℕ) (o : Option Grid) (path : Path) (t : PlainWork
     ≡ laned_terms p b v o (smp.move_before (step (Columns (s / p) ∷ []) (turns p (n / s))) ∷ smp.blocks (step (Columns (s / p) ∷ path) (piece t)) ∷ smp.move_after (step (Columns (s / p) ∷ []) (turns (n / s) p)) ∷ fs)
 among-piece n p b v r s o path t fs h =
     ap₂ (λ lines copies. laned_terms p b v o (smp.move_before (step lines (turns p (n / s))) ∷ smp.blocks (step copies (piece t)) ∷ smp.move_after (step lines (turns (n / s) p)) ∷ fs))
-    (within-several (Columns (s / p)) [] h.columns) (within-several (Columns (s / p)) path h.columns)
+    (within-wide (Columns (s / p)) [] h.columns) (within-wide (Columns (s / p)) path h.columns)
 
 among-cut : (n p b v r s : ℕ) (path : Path) (core : PlainCore) (fs : List smp.PlainFactor) → Dealt p b v r s → n / s ≡ r →
     laned_terms p b v None (column_factors n p s path core ++ fs) ≡ left_core p v r s path core ++ laned_terms p b v None fs

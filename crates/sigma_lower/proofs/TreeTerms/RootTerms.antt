@@ -23,10 +23,11 @@ use Rattle.sigma_spl.specs.Shared.Targets.{is_alone}
 use Rattle.operators.specs.declared.target.Target.{Target}
 use Rattle.vec_rewrite.specs.declared.Grid.{Grid}
 use Rattle.vec_rewrite.specs.Turning.{kept, laned_from, phase_of, vec_of}
-use Rattle.sigma_lower.specs.TreeTerms.Root.{SharedTerms, right_path, turned_in, tiled_before, tiled_after, left_core, left_terms, right_terms, in_phases, root_terms}
+use Rattle.sigma_lower.specs.TreeTerms.Root.{right_path, turned_in, tiled_before, tiled_after, left_core, left_terms, right_terms, in_phases, root_terms}
 use Rattle.sigma_lower.specs.TreeTerms.Term.{PlainTerm, diag, lowered, factor_term, terms_in, lowered_of}
-use Rattle.sigma_lower.proofs.TreeTerms.Behind.{behind, steps-behind, HasStep, has_step, not-one, by-one}
+use Rattle.sigma_lower.proofs.TreeTerms.Behind.{behind, steps-behind, HasStep, has_step, by-one}
 use Rattle.sigma_lower.proofs.TreeTerms.RootCuts.{Cuts, Rows, deal, grid_of, kept_from, laned_terms, kept_cuts, alone_cuts, among_cuts}
+use Rattle.vec_rewrite.proofs.StepFollows.{unequal}
 
 -- ---- lists of steps
 
@@ -216,20 +217,20 @@ among-made n p v line from g r s w rule es ls several shared some forms h =
     let d = deal p (n / p) v in
     let of = λ (ts : List PlainStep). phase_of d (flat_map (factors_of n p) ts) in
     let terms = λ (ts : List PlainStep). map (factor_term p v) (of ts) in
-    let count : first_count p ss ≡ length front = ap (λ b. if b then length ss else right_count ss) (not-one p several) ∙ count-right front s ls (front-right rule r s w es) in
+    let count : first_count p ss ≡ length front = ap (λ b. if b then length ss else right_count ss) (unequal p several) ∙ count-right front s ls (front-right rule r s w es) in
     let first : take (first_count p ss) ss ≡ front = ap (λ k. take k ss) count ∙ take-append_seam front back in
     let second : drop (first_count p ss) ss ≡ back = ap (λ k. drop k ss) count ∙ drop-append_seam front back in
     ap₂ (λ ts us. map (map (factor_term p v)) (if p == 1 then (of ts ++ of us) ∷ [] else of ts ∷ of us ∷ [])) first second
-    ∙ ap (λ b. map (map (factor_term p v)) (if b then (of front ++ of back) ∷ [] else of front ∷ of back ∷ [])) (not-one p several)
+    ∙ ap (λ b. map (map (factor_term p v)) (if b then (of front ++ of back) ∷ [] else of front ∷ of back ∷ [])) (unequal p several)
     ∙ ap₂ (λ ts us. ts ∷ us ∷ [])
     (forms (flat_map (factors_of n p) front) ∙ front-terms (factors_of n p) from g p v r s w rule es shared some h)
     (forms (flat_map (factors_of n p) back) ∙ lefts-next (factors_of n p) from g p v r s ls h)
-    ∙ sym (ap (λ b. if b then (rule_right p v rule r s w es ++ left_terms p v r s ls) ∷ [] else rule_right p v rule r s w es ∷ left_terms p v r s ls ∷ []) (not-one p several))
+    ∙ sym (ap (λ b. if b then (rule_right p v rule r s w es ++ left_terms p v r s ls) ∷ [] else rule_right p v rule r s w es ∷ left_terms p v r s ls ∷ []) (unequal p several))
 
 -- ---- processors and lanes
 
 several-form : (n p v : ℕ) → v ≢ 1 → Forms n p v (laned_terms p (n / p) v)
-several-form n p v h fs = ap (λ b. map (factor_term p v) (if b then map kept fs else laned_from (deal p (n / p) v) None fs)) (not-one v h)
+several-form n p v h fs = ap (λ b. map (factor_term p v) (if b then map kept fs else laned_from (deal p (n / p) v) None fs)) (unequal v h)
 
 -- the root's numbers: of r * s words, and of several rows and columns for each processor
 record AreNumbers (n p v r s : ℕ) : Type 0 where
@@ -334,7 +335,7 @@ rule-shared h Ct r s k = tt
 rule-shared h Split r s k = tt
 rule-shared h Dim r s k = tt
 
-rule-fits : (h : Target) (rule : Rule) (r s : ℕ) → RuleHasParts h rule r s → HasParts h r s
+pub rule-fits : (h : Target) (rule : Rule) (r s : ℕ) → RuleHasParts h rule r s → HasParts h r s
 rule-fits h Gt r s k = absurd k
 rule-fits h Ct r s k = k
 rule-fits h Split r s k = k
@@ -387,5 +388,6 @@ layout-terms : (h : Target) (l : Layout) → CanShareLayout h l → IsGoodLayout
 layout-terms h (work w) shares good several fits = absurd fits
 layout-terms h (by rule w a b) shares good several fits = root-terms h rule w a b shares good.0.left good.0.right several fits
 
-pub shared_terms : SharedTerms
+-- the terms of a layout that several processors or lanes share
+pub shared_terms : (h : Target) (l : Layout) → CanShareLayout h l → IsGoodLayout h.modulus l → is_alone h ≡ false → lowered_of h l ≡ root_terms h l
 shared_terms h l shares good several = layout-terms h l shares good several (shares.root several)

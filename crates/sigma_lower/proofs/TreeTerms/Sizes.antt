@@ -1,18 +1,16 @@
 -- Sizes of matrices under the tensors of a path, and the room that they need.
-use Rattle.std.proofs.Common.{◌≡◌, ℕ, zero, suc, ◌*◌, ◌<◌, ◌≤◌, arith, sym, ap, ◌∙◌, [], ◌∷◌, inl, inr, mul-zero, eq-zero-or-pos, mul_comm}
+use Rattle.std.proofs.Common.{◌≡◌, ℕ, zero, suc, ◌*◌, ◌<◌, ◌≤◌, arith, sym, ap, ◌∙◌, [], ◌∷◌, mul_comm}
 use Rattle.std.proofs.Math.Nat.{suc-mul, zero-mul}
 use Rattle.sigma_spl.specs.Room.{HasRoom}
 use Rattle.operators.specs.declared.tensor_paths.Tensor.TheVariants.{Blocks, Columns}
 use Rattle.operators.specs.TensorPaths.Path.{Path, size_under, copies_of}
 use Rattle.operators.proofs.TensorPaths.Under.{size_under-copies}
+use Rattle.sigma_spl.proofs.Keeps.{right_positive}
 
 -- a part is at most the whole
 pub part-le : (q d n : ℕ) → q * d ≡ n → 1 ≤ n → d ≤ n
 part-le zero d n e h = absurd (let none : 0 * d ≡ 0 = zero-mul d in omega arith)
 part-le (suc q) d n e h = omega (arith, suc-mul q d)
-
-pub right_positive : (a b : ℕ) → 0 < a * b → 0 < b
-right_positive a b h = elim (eq-zero-or-pos b) [ inl none ↦ absurd (let gone : a * b ≡ 0 = ap (λ x. a * x) none ∙ mul-zero a in omega arith) | inr positive ↦ positive ]
 
 pub has_room : (path : Path) (n : ℕ) → 0 < size_under path n → size_under path n ≤ 1048576 → HasRoom path n
 has_room [] n positive high = omega arith

@@ -3,13 +3,13 @@
 use Rattle.std.proofs.Common.{◌≡◌, ℕ, ◌+◌, ◌*◌, ◌/◌, ◌%◌, ◌<◌, Bool, true, false, arith, refl, sym, ap, ap₂, subst, ◌∙◌, [], ◌∷◌, ◌++◌, inl, inr, if◌then◌else◌, eq-zero-or-pos, mod-lt}
 use Rattle.std.specs.Prelude.{◌==◌}
 use Rattle.std.proofs.Math.Nat.{div-add-mod', div-zero, mod-zero, zero-mul}
-use Rattle.std.proofs.lemmas.Bool.Decides.{nat_tests}
 use Rattle.index_fn.specs.Mapping.{Mapping, at}
 use Rattle.operators.proofs.Lists.{row-of, column-of, place_below}
 use Rattle.sigma_lower.specs.TreeTerms.Wrapped.{wrapped}
 use Rattle.smp_rewrite.specs.Smp.{within}
 use Rattle.operators.specs.declared.tensor_paths.Tensor.TheVariants.{Blocks, Columns}
 use Rattle.operators.specs.TensorPaths.Path.{Path, size_under}
+use Rattle.smp_rewrite.proofs.Tensors.{is-one}
 
 -- ---- vectors in rows of m vectors
 
@@ -73,9 +73,6 @@ vectors-blocks v k path h = blocks-pick v (k == 1) k path h
 columns-pick : (v : ℕ) (b : Bool) (path : Path) → (b ≡ true → v ≡ 1) → HasVectors v (if b then path else Columns v ∷ path)
 columns-pick v true path one = single-vectors v path (one refl)
 columns-pick v false path one = (1, omega arith)
-
-pub is-one : (n : ℕ) → (n == 1) ≡ true → n ≡ 1
-is-one n h = grind (arith, nat_tests)
 
 pub vectors-columns : (v : ℕ) (path : Path) → HasVectors v (within (Columns v) path)
 vectors-columns v path = columns-pick v (v == 1) path (is-one v)

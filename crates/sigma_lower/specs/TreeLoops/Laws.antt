@@ -1,20 +1,17 @@
--- What the passes of a layout count, and that merging makes them.
-use Rattle.std.specs.Prelude.{◌≡◌, ℕ, ◌+◌, ◌*◌, map, nat_le, List, [], ◌∷◌, ◌++◌, if◌then◌else◌, Option, Some, None, Bool, true, false}
-use Rattle.sigma_lower.specs.Machine.{IsMachine}
-use Rattle.sigma_lower.specs.TreeLoops.Merge.{PlainDiagonal, PlainPass, merged_of}
+-- What the passes of a layout count.
+use Rattle.std.specs.Prelude.{◌≡◌, ℕ, ◌+◌, ◌*◌, nat_le, List, [], ◌∷◌, ◌++◌, if◌then◌else◌, Option, Some, None, Bool, true, false}
+use Rattle.sigma_lower.specs.TreeLoops.Merge.{PlainDiagonal, PlainPass}
 use Rattle.matrix_meaning.specs.Valid.{IsValid}
 use Rattle.matrix_meaning.specs.declared.Request.{Request}
 use Rattle.sigma_spl.specs.Work.{PlainWork, kernel, rows, horner, tile, copy}
-use Rattle.smp_rewrite.specs.Fits.{CanShareLayout}
-use Rattle.smp_rewrite.specs.LayoutSteps.Layout.{Layout, work, by, layout_size, layout_of, IsGoodLayout}
+use Rattle.smp_rewrite.specs.LayoutSteps.Layout.{Layout, work, by, layout_size}
 use Rattle.sigma_spl.specs.Shared.Costs.{work_cost}
-use Rattle.operators.specs.declared.target.Target.{Target}
 use Rattle.operators.specs.TensorPaths.Path.{copies_of}
 use Rattle.tree_model.specs.Admissible.{RootFits}
 use Rattle.tree_model.specs.Breakdown.{Breakdown, size_of}
 use Rattle.tree_model.specs.Cost.{is_plain}
 use Rattle.tree_model.specs.Whole.{IsTreeOf}
-use Rattle.tree_model.specs.WholePasses.{RequestPass, cost_of_pass, loads_of_pass, request_passes}
+use Rattle.tree_model.specs.WholePasses.{RequestPass, cost_of_pass, loads_of_pass}
 use Rattle.tree_model.specs.declared.tree.Rule.{Rule}
 use Rattle.tree_model.specs.declared.tree.Rule.TheVariants.{Gt, Ct, Split, Dim}
 
@@ -75,12 +72,6 @@ counted_as n (copy size) b = works n (copy size) b
 abbrev pub counted : PlainPass → Counted
 counted p = counted_as (copies_of p.path) p.work (has_diagonal p.diagonal)
 
--- the merged passes are those of the layout, one by one
-abbrev pub MergeCounts : Type 0
-MergeCounts =
-    (h : Target) (l : Layout) → IsMachine h → CanShareLayout h l → IsGoodLayout h.modulus l →
-    map counted (merged_of h l) ≡ whole_passes h.lanes l
-
 -- ---- as the cost model counts them
 
 -- the operations of a pass over n words, modulo m, where a product counts as `weight`
@@ -118,8 +109,3 @@ pub record IsForwardTree (p : Request) (t : Breakdown) : Type 0 where
   pub tree : IsTreeOf p t
   pub size : size_of t ≡ p.size
   pub root : is_plain p ≡ false → RootFits p t
-
--- the passes of its layout count as those of the tree
-abbrev pub LayoutsCount : Type 0
-LayoutsCount =
-    (p : Request) (t : Breakdown) → IsForwardTree p t → AllCount p (whole_passes p.lanes (layout_of p t)) (request_passes p t)

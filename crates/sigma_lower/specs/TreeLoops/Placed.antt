@@ -1,16 +1,13 @@
 -- The places of passes as sums of the loops' variables.
 use Rattle.std.specs.Prelude.{◌≡◌, ℕ, ◌+◌, ◌*◌, ◌^◌, ◌<◌, ◌≤◌, true, List, [], ◌∷◌, ◌++◌, Some}
 use Rattle.index_fn.specs.Mapping.{Mapping}
-use Rattle.sigma_lower.specs.Machine.{IsMachine}
 use Rattle.sigma_spl.specs.Merge.{total, are_small}
 use Rattle.perm_algebra.specs.Affine.{Sum, constant, variable, remainder, quotient, top, parts, HasNoQuotient, IsProper, simplified}
 use Rattle.perm_algebra.specs.Room.{HasRoomFor}
 use Rattle.sigma_spl.specs.Work.{PlainWork, kernel, rows, horner, tile, copy, work_size}
 use Rattle.sigma_lower.specs.TreeTerms.Wrapped.{inner_of}
-use Rattle.sigma_lower.specs.TreeLoops.Merge.{PlainDiagonal, PlainPass, merged_of}
+use Rattle.sigma_lower.specs.TreeLoops.Merge.{PlainDiagonal, PlainPass}
 pub use Rattle.sigma_spl.specs.Merge.{place_sum, all_simplified}
-use Rattle.smp_rewrite.specs.Fits.{CanShareLayout}
-use Rattle.smp_rewrite.specs.LayoutSteps.Layout.{Layout, IsGoodLayout}
 use Rattle.operators.specs.declared.target.Target.{Target}
 use Rattle.operators.specs.declared.tensor_paths.Tensor.TheVariants.{Blocks, Columns}
 use Rattle.operators.specs.TensorPaths.Path.{Path}
@@ -72,7 +69,3 @@ IsLimitedPass h p = (cs : ℕ → ℕ) (e : Sum) → AreCounts p.path (work_size
 abbrev pub AllLimited : Target → List PlainPass → Type 0
 AllLimited h [] = Unit {0}
 AllLimited h (p ∷ ps) = IsLimitedPass h p × AllLimited h ps
-
-abbrev pub PlacesAreLimited : Type 0
-PlacesAreLimited =
-    (h : Target) (l : Layout) → IsMachine h → CanShareLayout h l → IsGoodLayout h.modulus l → AllLimited h (merged_of h l)

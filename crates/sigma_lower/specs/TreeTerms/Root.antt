@@ -1,19 +1,17 @@
 -- The terms of a tree that several processors or lanes share, written out from its root: the loops of the right and of the left part, what brings words into groups of lanes and out of them, and what moves lines between processors.
-use Rattle.std.specs.Prelude.{◌≡◌, ℕ, ◌*◌, ◌/◌, ◌==◌, false, if◌then◌else◌, List, [], ◌∷◌, ◌++◌, map}
+use Rattle.std.specs.Prelude.{ℕ, ◌*◌, ◌/◌, ◌==◌, if◌then◌else◌, List, [], ◌∷◌, ◌++◌, map}
 use Rattle.std.specs.List.{flat_map}
 use Rattle.index_fn.specs.Mapping.{Mapping, Strided, ThomasIn, ThomasBack}
 use Rattle.sigma_spl.specs.Work.{PlainWork, tile}
-use Rattle.smp_rewrite.specs.Fits.{CanShareLayout}
 use Rattle.smp_rewrite.specs.Smp.{within}
-use Rattle.smp_rewrite.specs.LayoutSteps.Layout.{Layout, work, by, layout_size, IsGoodLayout}
-use Rattle.sigma_spl.specs.Shared.Targets.{is_alone}
+use Rattle.smp_rewrite.specs.LayoutSteps.Layout.{Layout, work, by, layout_size}
 use Rattle.operators.specs.declared.target.Target.{Target}
 use Rattle.smp_rewrite.specs.LayoutSteps.Step.{PlainCore, piece, turns, twiddles, thomas_in, thomas_out, PlainStep, steps_of}
 use Rattle.operators.specs.declared.tensor_paths.Tensor.TheVariants.{Blocks, Columns}
 use Rattle.operators.specs.TensorPaths.Path.{Path}
 use Rattle.tree_model.specs.declared.tree.Rule.{Rule}
 use Rattle.tree_model.specs.declared.tree.Rule.TheVariants.{Gt, Ct, Split, Dim}
-use Rattle.sigma_lower.specs.TreeTerms.Term.{PlainTerm, gath, scat, diag, nest, lowered, lowered_of}
+use Rattle.sigma_lower.specs.TreeTerms.Term.{PlainTerm, gath, scat, diag, nest, lowered}
 use Rattle.sigma_lower.specs.TreeTerms.Wrapped.{wrapped, unit_of}
 
 -- ---- the tensors round the parts of a root of r * s, for p processors and v lanes
@@ -101,7 +99,3 @@ abbrev pub root_terms : Target → Layout → List (List PlainTerm)
 root_terms h (work w) = []
 root_terms h (by rule root a b) =
     in_phases h.procs (right_terms h.procs h.lanes rule root a b) (left_terms h.procs h.lanes (layout_size a) (layout_size b) (steps_of [] a))
-
--- the terms of a layout that is shared are these; its parts have two words or more
-abbrev pub SharedTerms : Type 0
-SharedTerms = (h : Target) (l : Layout) → CanShareLayout h l → IsGoodLayout h.modulus l → is_alone h ≡ false → lowered_of h l ≡ root_terms h l

@@ -1,16 +1,14 @@
 -- Terms that gather, scatter, multiply by a diagonal, or loop over copies of a matrix.
-use Rattle.std.specs.Prelude.{◌≡◌, ℕ, ◌*◌, ◌==◌, true, if◌then◌else◌, List, [], ◌∷◌, ◌++◌, map}
+use Rattle.std.specs.Prelude.{ℕ, ◌*◌, ◌==◌, if◌then◌else◌, List, [], ◌∷◌, ◌++◌, map}
 use Rattle.index_fn.specs.Mapping.{Mapping, Strided, ThomasIn, ThomasBack, at}
 use Rattle.matrix_meaning.specs.Laws.{twiddle}
 use Rattle.operators.specs.Loop.{scatter}
 use Rattle.operators.specs.Operator.{Operator, gather, scale}
 use Rattle.smp_rewrite.specs.Cut.{layout_smp}
 use Rattle.smp_rewrite.specs.Smp.{within}
-use Rattle.smp_rewrite.specs.Fits.{CanShareLayout}
-use Rattle.smp_rewrite.specs.LayoutSteps.Layout.{Layout, layout_on, IsGoodLayout}
-use Rattle.sigma_spl.specs.Shared.Targets.{is_alone}
+use Rattle.smp_rewrite.specs.LayoutSteps.Layout.{Layout}
 use Rattle.operators.specs.declared.target.Target.{Target}
-use Rattle.smp_rewrite.specs.LayoutSteps.Step.{PlainStep, PlainCore, piece, turns, twiddles, thomas_in, thomas_out, steps_of}
+use Rattle.smp_rewrite.specs.LayoutSteps.Step.{PlainStep, PlainCore, piece, turns, twiddles, thomas_in, thomas_out}
 use Rattle.operators.specs.declared.tensor_paths.Tensor.TheVariants.{Blocks}
 use Rattle.operators.specs.TensorPaths.Loop.{loop_on}
 use Rattle.operators.specs.TensorPaths.Path.{Path, place}
@@ -83,11 +81,3 @@ lowered_of h l = terms_in (vec_of (layout_smp h l))
 abbrev pub phases_on : Target → List (List PlainTerm) → Operator
 phases_on h [] x = x
 phases_on h (ts ∷ more) x = phases_on h more (terms_on h ts x)
-
--- the terms of a layout do what it does
-abbrev pub LoweredTransforms : Type 0
-LoweredTransforms = (h : Target) (l : Layout) (x : List ℕ) → CanShareLayout h l → IsGoodLayout h.modulus l → phases_on h (lowered_of h l) x ≡ layout_on h.modulus l x
-
--- on one processor and one lane they are those of its steps
-abbrev pub PlainTerms : Type 0
-PlainTerms = (h : Target) (l : Layout) → is_alone h ≡ true → lowered_of h l ≡ map lowered (steps_of [] l) ∷ []

@@ -7,16 +7,15 @@ use Rattle.std.proofs.lemmas.Bool.Decides.{nat_tests}
 use Rattle.index_fn.specs.Mapping.{Mapping, Strided, ThomasIn, ThomasBack}
 use Rattle.operators.specs.declared.target.Target.{Target}
 use Rattle.sigma_lower.specs.TreeLoops.Merge.{PlainPass, Merging, merge_term, merged, passes_of_terms, in_order, merged_of}
-use Rattle.sigma_lower.specs.TreeTerms.Root.{right_path, left_path, whole_path, tile_path, lines_moved, vectors_turned, turned_in, vectors_grouped, tiled_before, tiled_after, lines_dealt, left_core, left_terms, right_terms, root_terms, SharedTerms}
-use Rattle.sigma_lower.specs.TreeTerms.Term.{PlainTerm, gath, scat, diag, nest, lowered, PlainTerms}
+use Rattle.sigma_lower.specs.TreeTerms.Root.{right_path, left_path, whole_path, tile_path, lines_moved, vectors_turned, turned_in, vectors_grouped, tiled_before, tiled_after, lines_dealt, left_core, left_terms, right_terms, root_terms}
+use Rattle.sigma_lower.specs.TreeTerms.Term.{PlainTerm, gath, scat, diag, nest, lowered}
 use Rattle.sigma_spl.specs.Work.{PlainWork, tile}
 use Rattle.sigma_lower.specs.TreeTerms.Wrapped.{wrapped, unit_of}
-use Rattle.sigma_lower.specs.TreeLoops.SharedPasses.Shared.{step_of, AllFramed, PassesAreFramed}
+use Rattle.sigma_lower.specs.TreeLoops.SharedPasses.Shared.{AllFramed}
 use Rattle.sigma_lower.proofs.TreeLoops.SharedPasses.Lanes.{HasStep, Laned, all-framed, laned-gath, laned-scat, laned-diag, laned-nest, laned-weaken, single-step, vectors-step}
 use Rattle.sigma_lower.proofs.TreeLoops.SharedPasses.Merging.{nothing, merged-append, as_lowered, merged-lowered, merged-emitted, Keeps, steps-finish}
-use Rattle.sigma_lower.proofs.TreeLoops.SharedPasses.Naturals.{within-append, IsLoop, transform-loop, one-step, blocks-within, tile-loop}
-use Rattle.sigma_lower.proofs.TreeLoops.SharedPasses.Shares.{fits-of}
-use Rattle.sigma_lower.proofs.TreeTerms.Vectors.{KeepsVectors, HasVectors, single-vectors, vectors-append, vectors-blocks, vectors-columns, keeps-wrapped, is-one}
+use Rattle.sigma_lower.proofs.TreeLoops.SharedPasses.Naturals.{IsLoop, transform-loop, one-step, tile-loop}
+use Rattle.sigma_lower.proofs.TreeTerms.Vectors.{KeepsVectors, HasVectors, single-vectors, vectors-append, vectors-blocks, vectors-columns, keeps-wrapped}
 use Rattle.smp_rewrite.specs.Smp.{within}
 use Rattle.smp_rewrite.specs.LayoutSteps.Step.{steps_of}
 use Rattle.operators.specs.declared.tensor_paths.Tensor.TheVariants.{Blocks, Columns}
@@ -26,13 +25,18 @@ use Rattle.tree_model.specs.declared.tree.Rule.TheVariants.{Gt, Ct, Split, Dim}
 use Rattle.smp_rewrite.specs.Fits.{HasParts, RootHasParts, CanShareLayout}
 use Rattle.smp_rewrite.specs.LayoutSteps.Layout.{Layout, work, by, layout_size, IsGoodLayout, IsGoodWork}
 use Rattle.sigma_spl.specs.Shared.Targets.{is_alone}
+use Rattle.sigma_lower.proofs.TreeTerms.Both.{plain_terms}
+use Rattle.sigma_lower.proofs.TreeTerms.RootTerms.{shared_terms, rule-fits}
+use Rattle.sigma_spl.specs.Shared.Machine.{lane_step}
+use Rattle.smp_rewrite.proofs.Tensors.{is-one}
+use Rattle.sigma_lower.proofs.TreeTerms.Behind.{within-append, blocks-within}
 
 -- a pass of any work, and one of a transform
 abbrev Whatever : PlainWork → Type 0
 Whatever w = Unit {0}
 
 abbrev Transforms : PlainWork → Type 0
-Transforms w = step_of w ≡ 0
+Transforms w = lane_step w ≡ 0
 
 abbrev Ready : Target → Merging → Type 0
 Ready c st = Laned c Whatever st
@@ -52,7 +56,7 @@ lowered-keeps c pre m h loops =
       ready = ready-done c;
       pieces = λ path w st good e k. laned-nest c Whatever Transforms st (pre ++ path) w (loops path w good) (one-step c.modulus w good) k;
       turned = λ path r s st e k. laned-gath c Whatever st (wrapped (pre ++ path) (r * s) (Strided r s)) (keeps path (r * s) (Strided r s)) k;
-      twiddled = λ path r s w st e k. laned-diag c Transforms st (pre ++ path) r s w (λ does zero. vectors-step c.lanes (step_of does) (pre ++ path) (r * s) (vectors-append c.lanes pre path h) zero) k;
+      twiddled = λ path r s w st e k. laned-diag c Transforms st (pre ++ path) r s w (λ does zero. vectors-step c.lanes (lane_step does) (pre ++ path) (r * s) (vectors-append c.lanes pre path h) zero) k;
       gathered = λ path r s st e k. laned-gath c Whatever st (wrapped (pre ++ path) (r * s) (ThomasIn r s)) (keeps path (r * s) (ThomasIn r s)) k;
       scattered = λ path r s st e k.
           laned-scat c Transforms st (wrapped (pre ++ path) (r * s) (ThomasBack r s (unit_of r s) (unit_of s r))) (keeps path (r * s) (ThomasBack r s (unit_of r s) (unit_of s r))) k;
@@ -83,7 +87,7 @@ left-keeps c m k s h =
       ready = ready-done c;
       pieces = λ path w st good e k. left-piece c (p == 1) st (left_path p v s ++ path) w (lines_dealt (p * m) p v m s) (lines_dealt (m * p) p v m s) good (left-loops c s path w good) (dealt (p * m)) (dealt (m * p)) k;
       turned = λ path a b st e k. laned-gath c Whatever st (wrapped (whole_path v s ++ path) (a * b) (Strided a b)) (keeps path (a * b) (Strided a b)) k;
-      twiddled = λ path a b w st e k. laned-diag c Transforms st (Columns s ∷ path) a b w (λ does zero. vectors-step v (step_of does) (Columns s ∷ path) (a * b) h zero) k;
+      twiddled = λ path a b w st e k. laned-diag c Transforms st (Columns s ∷ path) a b w (λ does zero. vectors-step v (lane_step does) (Columns s ∷ path) (a * b) h zero) k;
       gathered = λ path a b st e k. laned-gath c Whatever st (wrapped (whole_path v s ++ path) (a * b) (ThomasIn a b)) (keeps path (a * b) (ThomasIn a b)) k;
       scattered = λ path a b st e k.
           laned-scat c Transforms st (wrapped (whole_path v s ++ path) (a * b) (ThomasBack a b (unit_of a b) (unit_of b a))) (keeps path (a * b) (ThomasBack a b (unit_of a b) (unit_of b a))) k;
@@ -142,7 +146,7 @@ grouped-keeps c size r s =
 
 -- the diagonal of the root fits a pass: one over tiles, or any one of one lane
 abbrev FitsRoot : Target → ℕ → PlainWork → Type 0
-FitsRoot c n w = HasStep c.lanes (step_of w) [] n
+FitsRoot c n w = HasStep c.lanes (lane_step w) [] n
 
 before-pick : (c : Target) (b : Bool) (st : Merging) (path : Path) (f : Mapping) → IsLoop c path (tile c.lanes) → KeepsVectors c.lanes f → Ready c st →
     Ready c (merged st (if b then [] else gath f ∷ nest path (tile c.lanes) ∷ []))
@@ -155,7 +159,7 @@ before-laned c r s st h =
 
 after-pick : (c : Target) (n : ℕ) (b : Bool) (st : Merging) (path : Path) (f : Mapping) → (b ≡ true → c.lanes ≡ 1) → IsLoop c path (tile c.lanes) → KeepsVectors c.lanes f → Done c st →
     Laned c (FitsRoot c n) (merged st (if b then [] else nest path (tile c.lanes) ∷ scat f ∷ []))
-after-pick c n true st path f one loop k h = laned-weaken c Transforms (FitsRoot c n) st (λ w e. single-step c.lanes (step_of w) [] n (one refl)) h
+after-pick c n true st path f one loop k h = laned-weaken c Transforms (FitsRoot c n) st (λ w e. single-step c.lanes (lane_step w) [] n (one refl)) h
 after-pick c n false st path f one loop k h =
     laned-scat c (FitsRoot c n) (merge_term st (nest path (tile c.lanes))) f k (laned-nest c Transforms (FitsRoot c n) st path (tile c.lanes) loop (λ a l below. omega arith) h)
 
@@ -229,7 +233,7 @@ root-framed c (by rule w a b) low h good =
     let s = layout_size b in
     let first = right_terms c.procs c.lanes rule w a b in
     let second = left_terms c.procs c.lanes r s (steps_of [] a) in
-    let columns = columns-from c r s low (fits-of c rule r s h) in
+    let columns = columns-from c r s low (rule-fits c rule r s h) in
     let front : Ready c (merged nothing first) = first-laned c rule w a b good.2 in
     let both : Done c (merged (merged nothing first) second) = left-laned c s a (merged nothing first) good.1 columns front in
     let alone : Done c (merged nothing second) = left-laned c s a nothing good.1 columns (tt, tt) in
@@ -255,12 +259,13 @@ plain-framed c l good h =
     let st = merged nothing (map lowered (steps_of [] l)) in
     framed-append c (passes_of_terms (map lowered (steps_of [] l))) [] (ready-framed c st (ready-done c st all)) tt
 
--- ---- by the laws of terms
+-- ---- all layouts
 
-framed-from : PlainTerms → SharedTerms → (c : Target) (l : Layout) (b : Bool) → is_alone c ≡ b → CanShareLayout c l → IsGoodLayout c.modulus l → AllFramed c (merged_of c l)
-framed-from plain shared c l true e can good = subst (λ ts. AllFramed c (in_order (map passes_of_terms ts))) (sym (plain c l e)) (plain-framed c l good e)
-framed-from plain shared c l false e can good =
-    subst (λ ts. AllFramed c (in_order (map passes_of_terms ts))) (sym (shared c l can good e)) (root-framed c l can.lanes (can.root e) good)
+framed-from : (c : Target) (l : Layout) (b : Bool) → is_alone c ≡ b → CanShareLayout c l → IsGoodLayout c.modulus l → AllFramed c (merged_of c l)
+framed-from c l true e can good = subst (λ ts. AllFramed c (in_order (map passes_of_terms ts))) (sym (plain_terms c l e)) (plain-framed c l good e)
+framed-from c l false e can good =
+    subst (λ ts. AllFramed c (in_order (map passes_of_terms ts))) (sym (shared_terms c l can good e)) (root-framed c l can.lanes (can.root e) good)
 
-pub passes_are_framed : PlainTerms → SharedTerms → PassesAreFramed
-passes_are_framed plain shared c l can good = framed-from plain shared c l (is_alone c) refl can good
+-- the lanes of each register lie side by side in memory
+pub passes_are_framed : (c : Target) (l : Layout) → CanShareLayout c l → IsGoodLayout c.modulus l → AllFramed c (merged_of c l)
+passes_are_framed c l can good = framed-from c l (is_alone c) refl can good

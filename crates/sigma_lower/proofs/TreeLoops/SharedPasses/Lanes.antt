@@ -4,13 +4,13 @@ use Rattle.std.specs.Prelude.{Option, Some, None}
 use Rattle.std.proofs.Math.Nat.{zero-mul}
 use Rattle.index_fn.specs.Mapping.{Mapping, at}
 use Rattle.operators.specs.declared.target.Target.{Target}
-use Rattle.sigma_lower.specs.TreeLoops.Items.{item_of, values_of}
+use Rattle.sigma_spl.specs.Shared.Machine.{item_of, values_of, lane_step}
 use Rattle.sigma_lower.specs.TreeLoops.Merge.{PlainDiagonal, PlainPass, Merging, through, new_pass, scattered, multiplied, merge_term}
 use Rattle.sigma_lower.specs.TreeTerms.Term.{gath, scat, diag, nest}
 use Rattle.sigma_spl.specs.Work.{PlainWork, work_size}
 use Rattle.sigma_lower.specs.TreeTerms.Wrapped.{inner_of}
 use Rattle.operators.specs.TensorPaths.Path.{Path, place}
-use Rattle.sigma_lower.specs.TreeLoops.SharedPasses.Shared.{step_of, IsFramed, AllFramed}
+use Rattle.sigma_lower.specs.TreeLoops.SharedPasses.Shared.{IsFramed, AllFramed}
 use Rattle.sigma_lower.proofs.TreeLoops.SharedPasses.Merging.{Ends, ends-push, ends-last, ends-weaken}
 use Rattle.sigma_lower.proofs.TreeLoops.SharedPasses.Naturals.{IsLoop}
 use Rattle.sigma_lower.proofs.TreeLoops.SharedPasses.Vectors.{AllKeepVectors, keep-append, through-keeps, inner-vectors}
@@ -29,7 +29,7 @@ pub record IsLanedPass (c : Target) (p : PlainPass) : Type 0 where
   pub loop : IsLoop c p.path p.work
   pub befores : AllKeepVectors c.lanes p.befores
   pub afters : AllKeepVectors c.lanes p.afters
-  pub diagonals : (d : PlainDiagonal) → p.diagonal ≡ Some d → IsLanedDiagonal c.lanes (step_of p.work) d
+  pub diagonals : (d : PlainDiagonal) → p.diagonal ≡ Some d → IsLanedDiagonal c.lanes (lane_step p.work) d
 
 -- ---- such a pass is framed
 
@@ -65,7 +65,7 @@ laned-framed c p h =
           let inner = at (inner_of d.path (d.rows * d.cols)) in
           ap inner (to.1 lane below)
           ∙ (h.diagonals d e).factors to.0 lane below
-          ∙ ap (λ y. y + step_of p.work * lane) (sym (ap inner (to.1 0 (omega (arith, below)))));
+          ∙ ap (λ y. y + lane_step p.work * lane) (sym (ap inner (to.1 0 (omega (arith, below)))));
     }
 
 pub all-framed : (c : Target) (R : PlainPass → Type 0) (ps : List PlainPass) → Ends (IsLanedPass c) R ps → AllFramed c ps
@@ -95,16 +95,16 @@ laned-scat c R st f k h = (
 some-same : (d e : PlainDiagonal) → ◌≡◌ {A = Option PlainDiagonal} (Some d) (Some e) → d ≡ e
 some-same d e h = cc
 
-multiplied-laned : (c : Target) (path : Path) (r s w : ℕ) (p : PlainPass) → HasStep c.lanes (step_of p.work) path (r * s) → IsLanedPass c p → IsLanedPass c (multiplied path r s w p)
+multiplied-laned : (c : Target) (path : Path) (r s w : ℕ) (p : PlainPass) → HasStep c.lanes (lane_step p.work) path (r * s) → IsLanedPass c p → IsLanedPass c (multiplied path r s w p)
 multiplied-laned c path r s w p k h = record {
   loop = h.loop;
   befores = h.befores;
   afters = h.afters;
   diagonals = λ d e.
-      subst (IsLanedDiagonal c.lanes (step_of p.work)) (some-same (record { path = path; rows = r; cols = s; root = w; places = p.afters }) d e) (record { places = h.afters; factors = k });
+      subst (IsLanedDiagonal c.lanes (lane_step p.work)) (some-same (record { path = path; rows = r; cols = s; root = w; places = p.afters }) d e) (record { places = h.afters; factors = k });
 }
 
-pub laned-diag : (c : Target) (R : PlainWork → Type 0) (st : Merging) (path : Path) (r s w : ℕ) → ((does : PlainWork) → R does → HasStep c.lanes (step_of does) path (r * s)) →
+pub laned-diag : (c : Target) (R : PlainWork → Type 0) (st : Merging) (path : Path) (r s w : ℕ) → ((does : PlainWork) → R does → HasStep c.lanes (lane_step does) path (r * s)) →
     Laned c R st → Laned c R (merge_term st (diag path r s w))
 laned-diag c R st path r s w k h = (
   ends-last (IsLanedPass c) (λ p. R p.work) (λ p. R p.work) (multiplied path r s w) st.passes h.0 (λ p g l. (multiplied-laned c path r s w p (k p.work l) g, l)),

@@ -2,26 +2,19 @@
 use Rattle.std.proofs.Common.{◌≡◌, ℕ, ◌+◌, ◌*◌, ◌<◌, Bool, true, false, arith, refl, sym, ap, ap₂, ◌∙◌, List, [], ◌∷◌, ◌++◌, if◌then◌else◌, subst}
 use Rattle.std.specs.Prelude.{◌==◌}
 use Rattle.operators.specs.declared.target.Target.{Target}
-use Rattle.sigma_lower.specs.TreeLoops.Items.{if_several, item_of, values_of}
-use Rattle.sigma_lower.specs.TreeLoops.SharedPasses.Shared.{framed, HasLanes, step_of}
-use Rattle.sigma_lower.proofs.TreeTerms.Vectors.{is-one}
+use Rattle.sigma_spl.specs.Shared.Machine.{if_several, item_of, values_of, lane_step}
+use Rattle.sigma_lower.specs.TreeLoops.SharedPasses.Shared.{framed, HasLanes}
 use Rattle.sigma_spl.specs.Work.{PlainWork, kernel, rows, horner, tile, copy, work_size}
 use Rattle.smp_rewrite.specs.LayoutSteps.Layout.{IsGoodWork}
 use Rattle.smp_rewrite.specs.Smp.{within}
-use Rattle.smp_rewrite.proofs.Tensors.{size-within}
+use Rattle.smp_rewrite.proofs.Tensors.{size-within, is-one}
 use Rattle.operators.specs.declared.tensor_paths.Tensor.{Tensor}
 use Rattle.operators.specs.declared.tensor_paths.Tensor.TheVariants.{Blocks, Columns}
 use Rattle.operators.specs.TensorPaths.Path.{Path, count_of, size_under, copies_of, place}
 use Rattle.operators.proofs.TensorPaths.Under.{size_under-copies}
+use Rattle.sigma_spl.specs.Good.{AreBlocks}
 
 -- ---- a tensor that may be left out
-
-append-pick : (b : Bool) (t : Tensor) (path rest : Path) → (if b then path else t ∷ path) ++ rest ≡ (if b then path ++ rest else t ∷ (path ++ rest))
-append-pick true t path rest = refl
-append-pick false t path rest = refl
-
-pub within-append : (t : Tensor) (path rest : Path) → within t path ++ rest ≡ within t (path ++ rest)
-within-append t path rest = append-pick (count_of t == 1) t path rest
 
 single-place : (t : Tensor) (path : Path) (n x : ℕ) (vs : List ℕ) (k : ℕ) → count_of t ≡ 1 → x < count_of t → place path n vs k ≡ place (t ∷ path) n (x ∷ vs) k
 single-place (Blocks c) path n x vs k one below =
@@ -69,7 +62,7 @@ pub transform-loop : (m : ℕ) (c : Target) (w : PlainWork) (path loops : Path) 
 transform-loop m c w path loops good e = subst (λ p. IsLoop c p w) (sym e) (framed-loop m c w loops good)
 
 -- and its factors are one on all lanes
-pub one-step : (m : ℕ) (w : PlainWork) → IsGoodWork m w → step_of w ≡ 0
+pub one-step : (m : ℕ) (w : PlainWork) → IsGoodWork m w → lane_step w ≡ 0
 one-step m (kernel trees) good = refl
 one-step m (rows root size) good = refl
 one-step m (horner root size) good = refl
@@ -77,18 +70,6 @@ one-step m (tile v) good = absurd good
 one-step m (copy size) good = refl
 
 -- ---- tiles
-
-abbrev pub AreBlocks : Path → Type 0
-AreBlocks [] = Unit {0}
-AreBlocks (Blocks k ∷ path) = AreBlocks path
-AreBlocks (Columns k ∷ path) = ⊥
-
-are-blocks-pick : (b : Bool) (k : ℕ) (path : Path) → AreBlocks path → AreBlocks (if b then path else Blocks k ∷ path)
-are-blocks-pick true k path h = h
-are-blocks-pick false k path h = h
-
-pub blocks-within : (k : ℕ) (path : Path) → AreBlocks path → AreBlocks (within (Blocks k) path)
-blocks-within k path h = are-blocks-pick (k == 1) k path h
 
 blocks-place : (v m : ℕ) (path : Path) (vs : List ℕ) (k : ℕ) → AreBlocks path → (b : ℕ) × ((l : ℕ) → place path (m * v) vs (k * v + l) ≡ b * v + l)
 blocks-place v m [] vs k h = (k, λ l. refl)

@@ -5,10 +5,12 @@ use Rattle.operators.specs.declared.target.Target.{Target}
 use Rattle.sigma_lower.specs.TreeLoops.Merge.{PlainPass, Merging, through, new_pass, scattered, multiplied, at_last, merge_term, gather_place, scatter_place}
 use Rattle.sigma_lower.specs.TreeTerms.Term.{gath, scat, diag, nest}
 use Rattle.sigma_spl.specs.Work.{PlainWork, work_size}
-use Rattle.sigma_lower.specs.TreeLoops.SharedPasses.Shared.{Owns, AllOwn, FirstOwns, IsOwner, AllShared, ArePhasesShared}
+use Rattle.sigma_lower.specs.TreeLoops.SharedPasses.Shared.{Owns, AllOwn, FirstOwns, AllShared, ArePhasesShared}
 use Rattle.sigma_lower.proofs.TreeLoops.SharedPasses.Merging.{at_last-push}
 use Rattle.sigma_lower.proofs.TreeLoops.SharedPasses.Shares.{OwnsNatural}
 use Rattle.operators.specs.TensorPaths.Path.{Path, place}
+use Rattle.sigma_spl.specs.Shared.Owners.{IsOwner}
+use Rattle.sigma_lower.proofs.TreeLoops.PlaceValues.{through-end}
 
 -- ---- functions that keep the owner of a word
 
@@ -22,10 +24,6 @@ AllKeepOwner owner (f ∷ fs) = KeepsOwner owner f × AllKeepOwner owner fs
 through-owner : (owner : ℕ → ℕ) (fs : List Mapping) → AllKeepOwner owner fs → (i : ℕ) → owner (through fs i) ≡ owner i
 through-owner owner [] h i = refl
 through-owner owner (f ∷ fs) h i = through-owner owner fs h.1 (at f i) ∙ h.0 i
-
-through-push : (fs : List Mapping) (f : Mapping) (i : ℕ) → through (fs ++ f ∷ []) i ≡ at f (through fs i)
-through-push [] f i = refl
-through-push (g ∷ fs) f i = through-push fs f (at g i)
 
 -- ---- one pass
 
@@ -47,7 +45,7 @@ new-owns c owner path w fs h k = record { gathers = new-gathers c owner path w f
 
 scattered-stores : (c : Target) (owner : ℕ → ℕ) (f : Mapping) (p : PlainPass) → KeepsOwner owner f → Owns c p (scatter_place p) owner → Owns c (scattered f p) (scatter_place (scattered f p)) owner
 scattered-stores c owner f p k h q vs j below copy inside =
-    ap owner (through-push p.afters f (place p.path (work_size p.work) vs j))
+    ap owner (through-end p.afters f (place p.path (work_size p.work) vs j))
     ∙ k (through p.afters (place p.path (work_size p.work) vs j))
     ∙ h q vs j below (record { in_range = copy.in_range; processor = copy.processor }) inside
 

@@ -6,18 +6,16 @@ use Rattle.index_fn.specs.Mapping.{Mapping, Strided, ThomasIn, ThomasBack, at}
 use Rattle.operators.specs.declared.target.Target.{Target}
 use Rattle.operators.specs.Operator.{stride}
 use Rattle.operators.proofs.Lists.{factor_positive}
-use Rattle.operators.proofs.Places.{stride_below}
 use Rattle.sigma_lower.specs.TreeLoops.Merge.{Merging, merge_term, merged, passes_of_terms, merged_phases}
-use Rattle.sigma_lower.specs.TreeTerms.Root.{right_path, left_path, whole_path, tile_path, turned_in, vectors_grouped, tiled_before, tiled_after, lines_moved, vectors_turned, lines_dealt, left_core, left_terms, right_terms, in_phases, root_terms, SharedTerms}
+use Rattle.sigma_lower.specs.TreeTerms.Root.{right_path, left_path, whole_path, tile_path, turned_in, vectors_grouped, tiled_before, tiled_after, lines_moved, vectors_turned, lines_dealt, left_core, left_terms, right_terms, in_phases, root_terms}
 use Rattle.sigma_lower.specs.TreeTerms.Term.{gath, scat, diag, nest, lowered}
 use Rattle.sigma_spl.specs.Work.{PlainWork, tile, work_size}
 use Rattle.sigma_lower.specs.TreeTerms.Wrapped.{wrapped, unit_of}
 use Rattle.sigma_lower.proofs.TreeTerms.Permuted.{StaysBelow}
-use Rattle.sigma_lower.specs.TreeLoops.SharedPasses.Shared.{ArePhasesShared, PhasesAreShared}
+use Rattle.sigma_lower.specs.TreeLoops.SharedPasses.Shared.{ArePhasesShared}
 use Rattle.sigma_lower.proofs.TreeLoops.SharedPasses.Merging.{nothing, merged-append, after, as_lowered, merged-lowered, merged-emitted, Keeps, steps-finish}
-use Rattle.sigma_lower.proofs.TreeLoops.SharedPasses.Naturals.{within-append}
 use Rattle.sigma_lower.proofs.TreeLoops.SharedPasses.Owners.{KeepsOwner, First, first-gath, first-scat, first-diag, first-nest, Shared, shared-gath, shared-scat, shared-diag, shared-dealt, alone-phases}
-use Rattle.sigma_lower.proofs.TreeLoops.SharedPasses.Shares.{fits-of, AreShares, shares, block-of, row-block, column-block, block_owner, column_owner, block-owner, column-owner, OwnsNatural, block-natural, block-keeps, columns-keeps, both-columns, stays-in_column, dealt-owner}
+use Rattle.sigma_lower.proofs.TreeLoops.SharedPasses.Shares.{AreShares, shares, block-of, row-block, column-block, block_owner, column_owner, block-owner, column-owner, OwnsNatural, block-natural, block-keeps, columns-keeps, both-columns, stays-in_column, dealt-owner}
 use Rattle.smp_rewrite.specs.Smp.{within}
 use Rattle.smp_rewrite.proofs.Dealt.{not_alone}
 use Rattle.smp_rewrite.proofs.Tensors.{size-within}
@@ -29,11 +27,11 @@ use Rattle.tree_model.specs.declared.tree.Rule.TheVariants.{Gt, Ct, Split, Dim}
 use Rattle.smp_rewrite.specs.Fits.{RuleHasParts, RootHasParts, CanShareLayout}
 use Rattle.smp_rewrite.specs.LayoutSteps.Layout.{Layout, work, by, layout_size, IsGoodLayout}
 use Rattle.vec_rewrite.proofs.StepFollows.{unequal, within-wide}
+use Rattle.sigma_lower.proofs.TreeTerms.RootTerms.{shared_terms, rule-fits}
+use Rattle.sigma_lower.proofs.TreeTerms.Behind.{within-append}
+use Rattle.sigma_lower.proofs.TreeTerms.Lowering.{turns_below}
 
 -- ---- permutations stay below their sizes
-
-stride-stays : (r s : ℕ) → StaysBelow (r * s) (at (Strided r s))
-stride-stays r s i below = (stride_below r s i below).1
 
 thomas_in-stays : (r s : ℕ) → StaysBelow (r * s) (at (ThomasIn r s))
 thomas_in-stays r s i below = mod-lt _ (omega (arith, below))
@@ -59,7 +57,7 @@ first-lowered c rest several low =
     record {
       ready = λ st h. h;
       pieces = λ path w st good e h. first-nest c owner st (all path) w (block-natural c (rest ++ path) (work_size w) several e) h;
-      turned = λ path r s st e h. first-gath c owner st (wrapped (all path) (r * s) (Strided r s)) (first-keeps c (rest ++ path) (r * s) (Strided r s) several low e (stride-stays r s)) h;
+      turned = λ path r s st e h. first-gath c owner st (wrapped (all path) (r * s) (Strided r s)) (first-keeps c (rest ++ path) (r * s) (Strided r s) several low e (turns_below r s)) h;
       twiddled = λ path r s w st e h. first-diag c owner st (all path) r s w h;
       gathered = λ path r s st e h. first-gath c owner st (wrapped (all path) (r * s) (ThomasIn r s)) (first-keeps c (rest ++ path) (r * s) (ThomasIn r s) several low e (thomas_in-stays r s)) h;
       scattered = λ path r s st e h.
@@ -116,12 +114,12 @@ grouped-keeps c size r s e stays h =
     subst (λ b. (i : ℕ) → at (vectors_grouped size p v r s) i / b ≡ i / b) block (columns-keeps part v rest size f positive keeps)
 
 grouped-before : (c : Target) (r s : ℕ) → AreShares c r s → KeepsOwner (block_owner c) (vectors_grouped (s / c.lanes * c.lanes) c.procs c.lanes r s)
-grouped-before c r s h = grouped-keeps c (s / c.lanes * c.lanes) r s (sym h.vectors) (stride-stays (s / c.lanes) c.lanes) h
+grouped-before c r s h = grouped-keeps c (s / c.lanes * c.lanes) r s (sym h.vectors) (turns_below (s / c.lanes) c.lanes) h
 
 grouped-after : (c : Target) (r s : ℕ) → AreShares c r s → KeepsOwner (block_owner c) (vectors_grouped (c.lanes * (s / c.lanes)) c.procs c.lanes r s)
 grouped-after c r s h =
     let turned = mul_comm (s / c.lanes) c.lanes in
-    grouped-keeps c (c.lanes * (s / c.lanes)) r s (sym (h.vectors ∙ turned)) (subst (λ n. StaysBelow n (at (Strided (s / c.lanes) c.lanes))) turned (stride-stays (s / c.lanes) c.lanes)) h
+    grouped-keeps c (c.lanes * (s / c.lanes)) r s (sym (h.vectors ∙ turned)) (subst (λ n. StaysBelow n (at (Strided (s / c.lanes) c.lanes))) turned (turns_below (s / c.lanes) c.lanes)) h
 
 before-pick : (c : Target) (owner : ℕ → ℕ) (b : Bool) (st : Merging) (path : Path) (w : PlainWork) (f : Mapping) → KeepsOwner owner f → OwnsNatural c path (work_size w) owner → First c owner st →
     First c owner (merged st (if b then [] else gath f ∷ nest path w ∷ []))
@@ -273,7 +271,7 @@ root-phases c (by rule w a b) can good several fits =
     let s = layout_size b in
     let first = right_terms c.procs c.lanes rule w a b in
     let second = left_terms c.procs c.lanes r s (steps_of [] a) in
-    let here : AreShares c r s = shares c (by rule w a b) r s can several (fits-of c rule r s fits) can.size in
+    let here : AreShares c r s = shares c (by rule w a b) r s can several (rule-fits c rule r s fits) can.size in
     let phases : in_phases c.procs first second ≡ first ∷ second ∷ [] =
     ap (λ b. if b then (first ++ second) ∷ [] else first ∷ second ∷ []) (unequal c.procs (λ one. omega (arith, one, several))) in
     subst (λ ts. ArePhasesShared c (map passes_of_terms ts)) (sym phases) (
@@ -281,14 +279,13 @@ root-phases c (by rule w a b) can good several fits =
       (record { owner = column_owner c s; is_owner = column-owner c r s can.line here; owns = (second-root c s a good.1 here).0 }, tt),
     )
 
--- by the law of terms
-pub phases_are_shared : SharedTerms → PhasesAreShared
-phases_are_shared shared c l can good =
+pub phases_are_shared : (c : Target) (l : Layout) → CanShareLayout c l → IsGoodLayout c.modulus l → ArePhasesShared c (merged_phases c l)
+phases_are_shared c l can good =
     elim (cases_eq c.procs 1) [
       | inl one ↦ alone-phases c (merged_phases c l) can.procs one
       | inr many ↦
           let low : 1 ≤ c.procs = can.procs in
           let several : 1 < c.procs = omega (arith, low, many) in
           let several_either = not_alone c several in
-          subst (λ ts. ArePhasesShared c (map passes_of_terms ts)) (sym (shared c l can good several_either)) (root-phases c l can good several (can.root several_either))
+          subst (λ ts. ArePhasesShared c (map passes_of_terms ts)) (sym (shared_terms c l can good several_either)) (root-phases c l can good several (can.root several_either))
     ]

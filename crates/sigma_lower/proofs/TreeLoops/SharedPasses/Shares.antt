@@ -8,26 +8,18 @@ use Rattle.operators.specs.Operator.{stride}
 use Rattle.operators.proofs.Lists.{row-of, column-of, place_below, factor_positive}
 use Rattle.sigma_lower.specs.TreeTerms.Wrapped.{wrapped}
 use Rattle.sigma_lower.proofs.TreeTerms.Permuted.{StaysBelow, wrapped-below}
-use Rattle.sigma_lower.specs.TreeLoops.SharedPasses.Shared.{IsOwner}
-use Rattle.sigma_lower.proofs.TreeTerms.Vectors.{apart, is-one}
+use Rattle.sigma_lower.proofs.TreeTerms.Vectors.{apart}
 use Rattle.smp_rewrite.specs.Smp.{within}
 use Rattle.smp_rewrite.proofs.Dealt.{IsDealt, is_dealt}
 use Rattle.operators.specs.declared.tensor_paths.Tensor.TheVariants.{Blocks, Columns}
 use Rattle.operators.specs.TensorPaths.Path.{Path, size_under, place, AreInRange}
 use Rattle.operators.proofs.TensorPaths.PathPlaces.{place-below}
-use Rattle.tree_model.specs.declared.tree.Rule.{Rule}
-use Rattle.tree_model.specs.declared.tree.Rule.TheVariants.{Gt, Ct, Split, Dim}
-use Rattle.smp_rewrite.specs.Fits.{HasParts, RuleHasParts, CanShareLayout}
+use Rattle.smp_rewrite.specs.Fits.{HasParts, CanShareLayout}
 use Rattle.smp_rewrite.specs.LayoutSteps.Layout.{Layout}
 use Rattle.vec_rewrite.proofs.Following.{IsWide}
 use Rattle.vec_rewrite.proofs.StepFollows.{wide_from, wide_part}
-
--- the sizes that a rule takes the root apart into fit
-pub fits-of : (c : Target) (rule : Rule) (r s : ℕ) → RuleHasParts c rule r s → HasParts c r s
-fits-of c Gt r s h = absurd h
-fits-of c Ct r s h = h
-fits-of c Split r s h = h
-fits-of c Dim r s h = h
+use Rattle.sigma_spl.specs.Shared.Owners.{IsOwner}
+use Rattle.smp_rewrite.proofs.Tensors.{is-one}
 
 -- several processors have equal shares of the rows and columns, each of whole lines and vectors
 pub record AreShares (c : Target) (r s : ℕ) : Type 0 where

@@ -1,14 +1,13 @@
 -- Passes that processors and lanes share.
-use Rattle.std.specs.Prelude.{◌≡◌, ◌≢◌, ℕ, ◌+◌, ◌*◌, ◌/◌, ◌<◌, List, [], ◌∷◌, slice_index, Some}
-use Rattle.sigma_lower.specs.TreeLoops.Items.{item_of, values_of}
+use Rattle.std.specs.Prelude.{◌≡◌, ◌≢◌, ℕ, ◌+◌, ◌*◌, ◌<◌, List, [], ◌∷◌, slice_index, Some}
+use Rattle.sigma_spl.specs.Shared.Machine.{item_of, lane_step, values_of}
+use Rattle.sigma_spl.specs.Shared.Owners.{IsOwner}
 use Rattle.sigma_lower.specs.TreeLoops.Merge.{diagonal_place}
-use Rattle.sigma_lower.specs.TreeLoops.Merge.{PlainPass, PlainDiagonal, gather_place, scatter_place, merged_of, merged_phases}
+use Rattle.sigma_lower.specs.TreeLoops.Merge.{PlainPass, PlainDiagonal, gather_place, scatter_place}
 use Rattle.sigma_spl.specs.Work.{PlainWork, kernel, rows, horner, tile, copy, work_size, vectors_of}
-use Rattle.smp_rewrite.specs.Fits.{CanShareLayout}
 use Rattle.smp_rewrite.specs.Smp.{within}
 use Rattle.operators.specs.declared.tensor_paths.Tensor.TheVariants.{Blocks, Columns}
 use Rattle.operators.specs.TensorPaths.Path.{Path, AreInRange}
-use Rattle.smp_rewrite.specs.LayoutSteps.Layout.{Layout, IsGoodLayout}
 use Rattle.operators.specs.declared.target.Target.{Target}
 
 -- the tensors of the processors and lanes, round those of the loops
@@ -32,28 +31,17 @@ pub record MovesVectors (h : Target) (p : PlainPass) (vs : List ℕ) (q lane k :
   pub gathers : gather_place p (values_of h p.work q lane vs) (item_of p.work k lane) ≡ gather_place p (values_of h p.work q 0 vs) (item_of p.work k 0) + lane
   pub scatters : scatter_place p (values_of h p.work q lane vs) (item_of p.work k lane) ≡ scatter_place p (values_of h p.work q 0 vs) (item_of p.work k 0) + lane
 
--- how far apart the factors of lanes that lie side by side stand in a diagonal: those of a tile lie side by side, and those of other work are one
-abbrev pub step_of : PlainWork → ℕ
-step_of (kernel trees) = 0
-step_of (rows root size) = 0
-step_of (horner root size) = 0
-step_of (tile v) = 1
-step_of (copy size) = 0
-
 pub record IsFramed (h : Target) (p : PlainPass) : Type 0 where
   pub loops : Path
   pub path : p.path ≡ framed h p.work loops
   pub lanes : HasLanes h p.work
   pub vectors : (vs : List ℕ) (q lane k : ℕ) → AreInRange loops vs → q < h.procs → lane < h.lanes → k < vectors_of p.work → MovesVectors h p vs q lane k
   pub factors : (d : PlainDiagonal) → p.diagonal ≡ Some d → (vs : List ℕ) (q lane k : ℕ) → AreInRange loops vs → q < h.procs → lane < h.lanes → k < vectors_of p.work →
-      diagonal_place p d (values_of h p.work q lane vs) (item_of p.work k lane) ≡ diagonal_place p d (values_of h p.work q 0 vs) (item_of p.work k 0) + step_of p.work * lane
+      diagonal_place p d (values_of h p.work q lane vs) (item_of p.work k lane) ≡ diagonal_place p d (values_of h p.work q 0 vs) (item_of p.work k 0) + lane_step p.work * lane
 
 abbrev pub AllFramed : Target → List PlainPass → Type 0
 AllFramed h [] = Unit {0}
 AllFramed h (p ∷ ps) = IsFramed h p × AllFramed h ps
-
-abbrev pub PassesAreFramed : Type 0
-PassesAreFramed = (h : Target) (l : Layout) → CanShareLayout h l → IsGoodLayout h.modulus l → AllFramed h (merged_of h l)
 
 -- ---- whose words they are
 
@@ -75,11 +63,6 @@ abbrev pub FirstOwns : Target → (ℕ → ℕ) → List PlainPass → Type 0
 FirstOwns h owner [] = Unit {0}
 FirstOwns h owner (p ∷ ps) = Owns h p (scatter_place p) owner × AllOwn h owner ps
 
--- each word has an owner, one for a line
-pub record IsOwner (h : Target) (owner : ℕ → ℕ) : Type 0 where
-  pub lines : (a b : ℕ) → a < h.size → b < h.size → a / h.line ≡ b / h.line → owner a ≡ owner b
-  pub procs : (a : ℕ) → a < h.size → owner a < h.procs
-
 pub record IsFirstShared (h : Target) (ps : List PlainPass) : Type 0 where
   pub owner : ℕ → ℕ
   pub is_owner : IsOwner h owner
@@ -97,6 +80,3 @@ AllShared h (ps ∷ more) = IsShared h ps × AllShared h more
 abbrev pub ArePhasesShared : Target → List (List PlainPass) → Type 0
 ArePhasesShared h [] = Unit {0}
 ArePhasesShared h (ps ∷ more) = IsFirstShared h ps × AllShared h more
-
-abbrev pub PhasesAreShared : Type 0
-PhasesAreShared = (h : Target) (l : Layout) → CanShareLayout h l → IsGoodLayout h.modulus l → ArePhasesShared h (merged_phases h l)
