@@ -123,6 +123,7 @@ module _ (r : Request) (t : Breakdown) (ls : List ℕ) (request : IsConvRequest 
         let weight = valid.in_range.weight.0 in
         record {
           header = record { size = performs.size; modulus = performs.modulus; procs = performs.procs; line = performs.line; lanes = performs.lanes };
+          limits = performs.limits;
           fits = performs.fits;
           phases = length-map _ _ ∙ performs.phases;
           apart = performs.apart;

@@ -57,9 +57,6 @@ conv_programs_convolve r t h request planned =
     let residues = factors-residues r h (omega (arith, two)) in
     let ready = can-convolve r t h request valid planned.2.tree residues in
     let g = conv_merged r t (factors_of r h) in
-    let performs = programs_perform (target_of r) g (ready_can_program (target_of r) g ready) in
-    let same = conv_programs_are_emissions r t h request planned in (
-      subst (IsConvolver r t h) same
-          (is-convolver r t h request valid planned.2.tree (conv_program r t h) residues performs planned.1),
-      subst IsWithinLimits same performs.limits,
-    )
+    subst (IsConvolver r t h) (conv_programs_are_emissions r t h request planned)
+    (is-convolver r t h request valid planned.2.tree (conv_program r t h) residues
+    (programs_perform (target_of r) g (ready_can_program (target_of r) g ready)) planned.1)

@@ -3,6 +3,7 @@ use Rattle.std.specs.Prelude.{◌≡◌, ℕ, ◌*◌, ◌<◌, List, length, Al
 use Rattle.matrix_meaning.specs.Convolution.{convolution}
 use Rattle.generate.specs.Good.{HasHeader, IsVector}
 use Rattle.icode.specs.Actions.{PlainFits, plain_code}
+use Rattle.icode.specs.Limits.{IsWithinLimits}
 use Rattle.icode.specs.Machine.{IsApart, results, weighted, whole_counts}
 use Rattle.icode.specs.Plain.{PlainProgram}
 use Rattle.matrix_meaning.specs.declared.Request.{Request}
@@ -12,9 +13,10 @@ use Rattle.generate.specs.ConvPlanned.{conv_cost}
 
 -- Whatever the vector and whatever turns come first, the program leaves the convolution of the list h and the vector, in
 -- one phase, in exactly the operations of two transforms by the tree and a multiplication for each item, and twice the
--- tree's loads and stores. Every place that it names is there
+-- tree's loads and stores. It stands within the limits of listings, and every place that it names is there
 pub record IsConvolver (r : Request) (t : Breakdown) (h : List ℕ) (p : PlainProgram) : Type 0 where
   pub header : HasHeader r p
+  pub limits : IsWithinLimits p
   pub fits : PlainFits p
   pub phases : length (plain_code p).lists ≡ 1
   pub apart : (phase : ℕ) → IsApart (plain_code p) phase

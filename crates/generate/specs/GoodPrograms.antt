@@ -24,14 +24,14 @@ ProgramsAreGood =
     (r : Request) (t : Breakdown) → IsInRange r → IsPlanned r (Ok t) →
     IsGood r (whole_cost r t) (emission r t) × IsLean r t (emission r t) × IsWithinLimits (emission r t)
 
--- the program of a planned tree and a list is one for convolutions with the list, within the limits
+-- the program of a planned tree and a list is one for convolutions with the list
 abbrev pub ConvProgramsConvolve : Type 0
 ConvProgramsConvolve =
     (r : Request) (t : Breakdown) (h : List ℕ) → IsConvRequest r → IsConvPlanned r (Ok t) →
-    IsConvolver r t h (conv_emission r t h) × IsWithinLimits (conv_emission r t h)
+    IsConvolver r t h (conv_emission r t h)
 
--- the program of a formula is its code, within the limits
+-- the program of a formula is its code
 abbrev pub FormulaProgramsAreCode : Type 0
 FormulaProgramsAreCode =
     (m : ℕ) (f : Formula) → 2 ≤ m → m < 2 ^ 62 → IsShaped f → parts_of f ≤ 65536 →
-    IsCodeOf m f (formula.program_for m f) × IsWithinLimits (formula.program_for m f)
+    IsCodeOf m f (formula.program_for m f)

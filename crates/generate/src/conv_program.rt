@@ -2,7 +2,6 @@
 ghost use Rattle.std.specs.Prelude.{◌≡◌, ◌<◌, Ok, IfOk, All, map, vec_len};
 ghost use Rattle.matrix_meaning.specs.Convolving.{IsConvRequest};
 ghost use Rattle.generate.specs.Good.{IsVector};
-ghost use Rattle.icode.specs.Limits.{IsWithinLimits};
 ghost use Rattle.icode.specs.Program.{plain_program};
 ghost use Rattle.ring_mod.specs.Residue.{product_mod};
 ghost use Rattle.tree_model.specs.Breakdown.{breakdown_of};
@@ -37,7 +36,6 @@ pub fn generate_conv(
     requires list { IsVector request.now h.now }
     ensures convolver { IfOk result (λ p.
         IsConvolver request.now (breakdown_of plan.now.tree) h.now (plain_program p)) }
-    ensures limits { IfOk result (λ p. IsWithinLimits (plain_program p)) }
     ensures letters { IfOk result (λ p.
         plain_program p ≡ conv_emission request.now (breakdown_of plan.now.tree) h.now) }
 {

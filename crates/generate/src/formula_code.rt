@@ -4,7 +4,6 @@ ghost use Rattle.generate.specs.FormulaCode.Code.{IsCodeOf};
 ghost use Rattle.generate.specs.FormulaCode.Joined.{phases_joined};
 ghost use Rattle.generate.specs.FormulaCode.Letters.{program_as_it_stands, program_for};
 ghost use Rattle.generate.specs.FormulaPasses.Computes.{formula_merged};
-ghost use Rattle.icode.specs.Limits.{IsWithinLimits};
 ghost use Rattle.icode.specs.Program.{plain_program};
 ghost use Rattle.sigma_spl.specs.Views.{plain_merged};
 ghost use Rattle.spl_ast.specs.Formula.{parts_of};
@@ -27,7 +26,6 @@ pub fn formula_program(alloc: Global, modulus: &Modulus, formula: Spl) -> Result
     requires few { parts_of formula ≤ 65536 }
     ensures code { IfOk result (λ program.
         IsCodeOf modulus.now formula (plain_program program)) }
-    ensures limits { IfOk result (λ program. IsWithinLimits (plain_program program)) }
     ensures letters { IfOk result (λ program.
         plain_program program ≡ program_for modulus.now formula) }
 {
@@ -41,7 +39,6 @@ fn code_of_formula(alloc: Global, modulus: &Modulus, formula: &Spl) -> Result<Pr
     requires few { parts_of formula.now ≤ 65536 }
     ensures code { IfOk result (λ program.
         IsCodeOf modulus.now formula.now (plain_program program)) }
-    ensures limits { IfOk result (λ program. IsWithinLimits (plain_program program)) }
     ensures letters { IfOk result (λ program.
         plain_program program ≡ program_as_it_stands modulus.now formula.now) }
 {

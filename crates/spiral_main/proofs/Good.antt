@@ -114,7 +114,7 @@ shows_convolver : (plan : Planned) (vectors : List (List ℕ)) (text : List ℕ)
 unfolding first_listing
 shows_convolver plan [] text able own is = is
 shows_convolver plan (h ∷ later) text able own is =
-    (conv_emission plan.request plan.tree h, (conv_programs_convolve plan.request plan.tree h able own).0, is)
+    (conv_emission plan.request plan.tree h, conv_programs_convolve plan.request plan.tree h able own, is)
 
 pub good_convolver : (schedule : Turns) (words : List (List ℕ)) (options : Options) (bytes : List ℕ) (status : Status)
     (text : List ℕ) (plan : Planned) → Names words (codes "convolve") options → AsksSchedule options schedule
@@ -150,7 +150,7 @@ good_compile law m words options bytes status text formula found modulus right p
     (let most = written_few first formula right.spells in let short = right.short in omega (arith, most, short)) in
     let own = listing_is_right m bytes formula right.short right.spells in (
       formulas.program_for m formula,
-      (law m formula modulus.1 modulus.0.0 (written_shaped first formula right.spells) few).0,
+      law m formula modulus.1 modulus.0.0 (written_shaped first formula right.spells) few,
       one_text words bytes status Success text whole p
           (inr (command.ByFormula m formula_command.Compile, asked, own)),
     )

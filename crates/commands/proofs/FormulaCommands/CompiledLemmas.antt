@@ -9,7 +9,6 @@ use Rattle.std.specs.declared.option.Option.{Option}
 use Rattle.std.specs.Io.KnownBytes.{Appends, Consumes}
 use Rattle.io_edge.specs.Told.{IsOver}
 use Rattle.icode.specs.Actions.{plain_code}
-use Rattle.icode.specs.Limits.{IsWithinLimits}
 use Rattle.icode.specs.Machine.{results}
 use Rattle.icode.specs.Plain.{PlainProgram}
 use Rattle.icode.specs.Program.{plain_program}
@@ -156,10 +155,10 @@ compile_cut m before after out out' taken read text listing consumed count whole
 -- The formula's matrix times the vectors
 
 -- the machine's lines are those of the matrix
-formula_lines : (m : ℕ) (formula : Formula) (own : PlainProgram) (turns : List ℕ) → IsCodeOf m formula own → IsWithinLimits own → All (λ q. q < 1) turns
+formula_lines : (m : ℕ) (formula : Formula) (own : PlainProgram) (turns : List ℕ) → IsCodeOf m formula own → All (λ q. q < 1) turns
     → (ts : List (List ℕ)) → lines (λ x. results (plain_code own) x turns) (vectors_of (size_of formula) m ts) ≡ lines (formulas.apply m formula) (vectors_of (size_of formula) m ts)
-formula_lines m formula own turns is limits there ts =
-    let some : 0 < m = omega (arith, limits.header.of_modulus.0, is.header.modulus) in
+formula_lines m formula own turns is there ts =
+    let some : 0 < m = omega (arith, is.limits.header.of_modulus.0, is.header.modulus) in
     let f : List ℕ → List ℕ = λ x. results (plain_code own) x turns in
     let same : (x : List ℕ) → length x ≡ size_of formula → All (λ v. v < m) x → f x ≡ formulas.apply m formula x =
     λ x full below. is.product x turns (record { size = full; residues = λ i _. below_from_all m x some below i }) there in
@@ -191,4 +190,4 @@ apply_told m schedule program front before mid left out out' taken read text sta
     (told_within (mapping all (size_of formula) m Writes room) (apply_work m formula room) mid left out out' status
     (mapping_within (size_of formula) m Writes Wanted room (λ ts t written.
     written ∙ ap (λ l. l ++ texts (run_text false (plain_code own) turns) (vectors_of (size_of formula) m ts)) alone
-    ∙ formula_lines m formula own turns is made.3 (formula_turns schedule program.procs is.header.procs none) ts)) sized)
+    ∙ formula_lines m formula own turns is (formula_turns schedule program.procs is.header.procs none) ts)) sized)

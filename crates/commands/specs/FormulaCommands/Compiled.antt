@@ -5,7 +5,6 @@ use Rattle.data_stream.specs.declared.input_rest.RestFault.{RestFault}
 use Rattle.data_stream.specs.declared.input_rest.RestFault.TheVariants as rest
 use Rattle.generate.specs.FormulaCode.Code.{IsCodeOf}
 use Rattle.generate.specs.FormulaCode.Letters.{program_for}
-use Rattle.icode.specs.Limits.{IsWithinLimits}
 use Rattle.icode.specs.Program.{plain_program}
 use Rattle.icode.specs.declared.program.Program.{Program}
 use Rattle.listing_text.specs.Listing.{listing_of}
@@ -39,4 +38,3 @@ IsCompiledText m text listing = (formula : Formula) × written text (Ok formula)
 abbrev pub IsFormedProgram : ℕ → List ℕ → List ℕ → Program → Type 0
 IsFormedProgram m names text program =
     (formula : Formula) × formed names text (Ok formula) × IsCodeOf m formula (plain_program program)
-    × IsWithinLimits (plain_program program)

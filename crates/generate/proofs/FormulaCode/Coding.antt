@@ -62,6 +62,7 @@ code-of m f p large small shaped few performs =
     let computes = formulas_compute m f p large small shaped few performs in
     record {
       header = record { size = performs.size; modulus = performs.modulus; procs = performs.procs; line = performs.line; lanes = performs.lanes };
+      limits = performs.limits;
       fits = performs.fits;
       phases = length-map _ _ ∙ performs.phases;
       apart = performs.apart;

@@ -9,7 +9,6 @@ use Rattle.generate.proofs.FormulaCode.Coding.{can_emit, is_code}
 use Rattle.generate.proofs.FormulaCode.Regrouped.{few_parts, same_code}
 use Rattle.code_gen.proofs.WholePrograms.Performs.{programs_perform}
 use Rattle.code_gen.proofs.WholePrograms.ReadyPrograms.{ready_can_program}
-use Rattle.icode.specs.Limits.{IsWithinLimits}
 use Rattle.sigma_spl.specs.Shared.Machine.{plain_machine}
 use Rattle.spl_ast.specs.BalancedSums.Halves.{balanced}
 use Rattle.spl_ast.specs.Formula.{Formula, parts_of, size_of}
@@ -18,19 +17,17 @@ use Rattle.spl_ast.proofs.BalancedSums.Sums.{same_matrix}
 
 -- as its direct sums stand
 as-it-stands : (m : ℕ) (f : Formula) → 2 ≤ m → m < 2 ^ 62 → IsShaped f → parts_of f ≤ 65536 →
-    IsCodeOf m f (program_as_it_stands m f) × IsWithinLimits (program_as_it_stands m f)
+    IsCodeOf m f (program_as_it_stands m f)
 as-it-stands m f large small shaped few =
     let g = formula_merged m f in
-    let performs = programs_perform (plain_machine (size_of f) m) g
-    (ready_can_program (plain_machine (size_of f) m) g (can_emit m f g large small shaped few refl)) in
-    (is_code m f g (program_as_it_stands m f) large small shaped few refl performs, performs.limits)
+    is_code m f g (program_as_it_stands m f) large small shaped few refl
+    (programs_perform (plain_machine (size_of f) m) g
+    (ready_can_program (plain_machine (size_of f) m) g (can_emit m f g large small shaped few refl)))
 
 pub formula_programs_are_code : FormulaProgramsAreCode
 formula_programs_are_code m f large small shaped few =
     let same = balanced_alike f in
     let fits = balanced_shaped f shaped in
-    let stands = as-it-stands m (balanced f) large small fits (few_parts f (balanced f) same few) in (
-      same_code m f (balanced f) (program_as_it_stands m (balanced f)) same
-          (same_matrix m f (balanced f) shaped fits same) stands.0,
-      stands.1,
-    )
+    same_code m f (balanced f) (program_as_it_stands m (balanced f)) same
+    (same_matrix m f (balanced f) shaped fits same)
+    (as-it-stands m (balanced f) large small fits (few_parts f (balanced f) same few))

@@ -35,6 +35,7 @@ same_code m f g p regrouped same code = record {
     line = code.header.line;
     lanes = code.header.lanes;
   };
+  limits = code.limits;
   fits = code.fits;
   phases = code.phases;
   apart = code.apart;

@@ -1,6 +1,7 @@
 -- What makes a program the code of a formula.
 use Rattle.std.specs.Prelude.{◌≡◌, ℕ, ◌<◌, List, length, All}
 use Rattle.icode.specs.Actions.{PlainFits, plain_code}
+use Rattle.icode.specs.Limits.{IsWithinLimits}
 use Rattle.icode.specs.Machine.{IsApart, results, weighted, whole_counts}
 use Rattle.icode.specs.Plain.{PlainProgram}
 use Rattle.sigma_lower.specs.Operations.{operations}
@@ -17,9 +18,10 @@ pub record HasHeader (m : ℕ) (f : Formula) (p : PlainProgram) : Type 0 where
   pub lanes : p.lanes ≡ 1
 
 -- Whatever the vector and whatever turns come first, the program leaves the formula's matrix times the vector, in one
--- phase, in exactly the formula's operations. Every place that it names is there
+-- phase, in exactly the formula's operations. It stands within the limits of listings, and every place that it names is there
 pub record IsCodeOf (m : ℕ) (f : Formula) (p : PlainProgram) : Type 0 where
   pub header : HasHeader m f p
+  pub limits : IsWithinLimits p
   pub fits : PlainFits p
   pub phases : length (plain_code p).lists ≡ 1
   pub apart : (phase : ℕ) → IsApart (plain_code p) phase

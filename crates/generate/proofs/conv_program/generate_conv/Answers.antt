@@ -1,5 +1,4 @@
 use Rattle.std.proofs.Common.{◌≡◌, ℕ, ◌<◌, All, List, Ok, sym, ap, ap₂, ◌∙◌, subst}
-use Rattle.icode.specs.Limits.{IsWithinLimits}
 use Rattle.icode.specs.Program.{plain_program}
 use Rattle.matrix_meaning.specs.declared.Request.{Request}
 use Rattle.matrix_meaning.specs.Valid.{IsValid}
@@ -85,6 +84,21 @@ emitted r c d t ls ds f s g p request planned forward backward listed first seco
     (joined-same r c d t ls ds f s g forward backward listed first second both)
     ∙ conv_programs_are_emissions r t ls request planned
 
+pub returns-clause-convolver : goal.returns-clause-convolver
+returns-clause-convolver c =
+    let r = c.args.request.now in
+    let t = breakdown_of c.args.plan.now.tree in
+    let letters : plain_program c.in_ok-program.program ≡ conv_emission r t c.args.h.now =
+    emitted c.args.request.now c.new-forward.result c.new-backward.result (breakdown_of c.args.plan.now.tree)
+    c.args.h.now c.in_ok-diagonal.diagonal.items
+    (plain_merged c.in_ok-first.first) (plain_merged c.in_ok-second.second) (plain_merged c.in_ok-joined.joined)
+    (plain_program c.in_ok-program.program) c.requires.request c.requires.plan
+    c.new-forward.ensures (c.new-backward.ensures ∙ c.inverted.ensures.value) c.in_ok-diagonal.ensures.value
+    c.in_ok-first.ensures.merged c.in_ok-second.ensures.merged c.in_ok-joined.ensures.joined
+    c.in_ok-program.ensures.code in
+    subst (IsConvolver r t c.args.h.now) (sym letters)
+    (conv_programs_convolve r t c.args.h.now c.requires.request c.requires.plan)
+
 pub returns-clause-letters : goal.returns-clause-letters
 returns-clause-letters c =
     emitted c.args.request.now c.new-forward.result c.new-backward.result (breakdown_of c.args.plan.now.tree)
@@ -94,18 +108,3 @@ returns-clause-letters c =
     c.new-forward.ensures (c.new-backward.ensures ∙ c.inverted.ensures.value) c.in_ok-diagonal.ensures.value
     c.in_ok-first.ensures.merged c.in_ok-second.ensures.merged c.in_ok-joined.ensures.joined
     c.in_ok-program.ensures.code
-
-pub returns-clause-convolver : goal.returns-clause-convolver
-returns-clause-convolver c =
-    let r = c.args.request.now in
-    let t = breakdown_of c.args.plan.now.tree in
-    let letters : plain_program c.in_ok-program.program ≡ conv_emission r t c.args.h.now = returns-clause-letters c in
-    subst (IsConvolver r t c.args.h.now) (sym letters)
-    (conv_programs_convolve r t c.args.h.now c.requires.request c.requires.plan).0
-
-pub returns-clause-limits : goal.returns-clause-limits
-returns-clause-limits c =
-    let r = c.args.request.now in
-    let t = breakdown_of c.args.plan.now.tree in
-    let letters : plain_program c.in_ok-program.program ≡ conv_emission r t c.args.h.now = returns-clause-letters c in
-    subst IsWithinLimits (sym letters) (conv_programs_convolve r t c.args.h.now c.requires.request c.requires.plan).1

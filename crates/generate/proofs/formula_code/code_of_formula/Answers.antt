@@ -14,6 +14,5 @@ returns c =
     record {
       code = is_code c.args.modulus.now c.args.formula.now (plain_merged c.in_ok-merged.merged) (plain_program c.in_ok-program.program) c.get-modulus.ensures.at_least_two c.get-modulus.ensures.below_limit c.rows-rows.ensures.shaped c.requires.few
           c.in_ok-merged.ensures c.in_ok-program.ensures.performs;
-      limits = c.in_ok-program.ensures.performs.limits;
       letters = has_letters c.args.modulus.now c.args.formula.now (plain_merged c.in_ok-merged.merged) (plain_program c.in_ok-program.program) c.in_ok-merged.ensures c.in_ok-program.ensures.code;
     }

@@ -9,6 +9,5 @@ returns c =
     record {
       code = same_code c.args.modulus.now c.args.formula c.in_ok-balanced.balanced (plain_program c.in_ok-program.program)
           c.in_ok-balanced.ensures.summands (c.in_ok-balanced.ensures.same c.args.modulus.now) c.in_ok-program.ensures.code;
-      limits = c.in_ok-program.ensures.limits;
       letters = c.in_ok-program.ensures.letters ∙ ap (program_as_it_stands c.args.modulus.now) c.in_ok-balanced.ensures.halves;
     }

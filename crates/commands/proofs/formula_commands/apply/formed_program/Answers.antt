@@ -21,7 +21,6 @@ returns-clause-program c = (
   c.in_ok-formula.formula,
   forms (named c.args.schedule.now) c.args.text.now c.in_ok-formula.formula c.in_ok-formula.ensures.formula (sym c.stranger.ensures ∙ c.in_ok-check_turns.ensures.none),
   c.in_ok-program.ensures.code,
-  c.in_ok-program.ensures.limits,
 )
 
 pub returns-clause-turns : goal.returns-clause-turns
