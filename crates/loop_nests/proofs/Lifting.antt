@@ -22,6 +22,7 @@ use Rattle.sigma_spl.proofs.Within.{IsSmall}
 use Rattle.operators.specs.TensorPaths.Path.{Path, count_of, size_under}
 use Rattle.loop_nests.specs.Ready.{AreReady, IsReadyMultiplier, IsReadyNest}
 use Rattle.loop_nests.specs.Lifted.{AreCounted, AreRaised, CanLift, CanRaise, IsCounted, counts_under}
+use Rattle.loop_nests.specs.Placed.{CanRenumber}
 use Rattle.loop_nests.proofs.Naming.{can-name, affine-joined, affine-sound, constant-le-top}
 use Rattle.loop_nests.proofs.Items.{counts-from, low-of, length-below}
 
@@ -159,3 +160,29 @@ all_raised counts path n before limits items same h = each items (subst (λ l. A
 pub all_counted : (m : ℕ) (items : List Affine) → AreCounted m (map plain_sum items) → All (λ e. HasCounts m (plain_sum e)) items
 all_counted m [] h = All-nil (λ e. HasCounts m (plain_sum e))
 all_counted m (x ∷ xs) h = All-cons (λ e. HasCounts m (plain_sum e)) x xs h.0 (all_counted m xs h.1)
+
+-- ---- more counts
+
+more_counts : (m k : ℕ) (e : Sum) → m ≤ k → HasCounts m e → HasCounts k e
+more_counts m k (constant c) fits h = tt
+more_counts m k (variable f d rest) fits h = (let below = h.0 in omega (arith, fits, below), more_counts m k rest fits h.1)
+more_counts m k (remainder f of n rest) fits h = (more_counts m k of fits h.0, more_counts m k rest fits h.1)
+more_counts m k (quotient f of n rest) fits h = (more_counts m k of fits h.0, more_counts m k rest fits h.1)
+
+all-more : (m k : ℕ) (es : List Sum) → m ≤ k → AreCounted m es → AreCounted k es
+all-more m k [] fits h = tt
+all-more m k (e ∷ es) fits h = (more_counts m k e fits h.0, all-more m k es fits h.1)
+
+more_places : (m k : ℕ) (d : Option PlainMultiplier) → m ≤ k → IsCounted m d → IsCounted k d
+more_places m k None fits h = tt
+more_places m k (Some d) fits h = all-more m k d.places fits h
+
+-- there are fewer counts than words of 64 bits
+pub counts_are_words : (limits : List ℕ) (k : ℕ) (e : Sum) → length limits < 2 ^ 64 → HasCounts (length limits - k) e → CanRenumber k e
+counts_are_words limits k e few h = more_counts (length limits - k) (2 ^ 64 - k) e (omega (arith, few)) h
+
+pub places_are_words : (limits : List ℕ) (path : Path) (z : PlainNest) → limits ≡ counts_under path z → length limits < 2 ^ 64 →
+    IsCounted (length (counts_under path z) - length path) z.multiplier → IsCounted (2 ^ 64 - length path) z.multiplier
+places_are_words limits path z same few h =
+    let long = ap (λ (l : List ℕ). length l) same in
+    more_places (length (counts_under path z) - length path) (2 ^ 64 - length path) z.multiplier (omega (arith, few, long)) h

@@ -1,8 +1,8 @@
 -- Where a place under tensors can be made with words of 64 bits.
-use Rattle.std.specs.Prelude.{ℕ, ◌+◌, ◌^◌, ◌<◌, List, [], ◌∷◌, length, slice_index}
+use Rattle.std.specs.Prelude.{ℕ, ◌+◌, ◌-◌, ◌^◌, ◌<◌, List, [], ◌∷◌, length, slice_index}
 use Rattle.perm_algebra.specs.Affine.{Sum, constant, variable, value, scaled}
 use Rattle.perm_algebra.specs.Fits.{IsAffine, Stays}
-use Rattle.perm_algebra.specs.Room.{CanScale, CanJoin}
+use Rattle.perm_algebra.specs.Room.{CanScale, CanJoin, HasCounts}
 use Rattle.sigma_spl.specs.Merge.{place_sum}
 use Rattle.sigma_spl.specs.Room.{HasRoom}
 use Rattle.operators.specs.declared.tensor_paths.Tensor.TheVariants.{Blocks, Columns}
@@ -32,3 +32,7 @@ CanPlace counts path n d e = CanName (length counts) (slice_index counts) path n
 abbrev pub AllNamed : List ℕ → Path → ℕ → List Sum → Type 0
 AllNamed counts path n [] = Unit {0}
 AllNamed counts path n (e ∷ es) = CanPlace counts path n 0 e × AllNamed counts path n es
+
+-- the numbers of all variables, grown by k, are words
+abbrev pub CanRenumber : ℕ → Sum → Type 0
+CanRenumber k e = HasCounts (2 ^ 64 - k) e

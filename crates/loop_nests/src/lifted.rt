@@ -1,14 +1,15 @@
 // Nests of a part, under tensors behind the words before it.
-ghost use Rattle.std.specs.Prelude.{◌≡◌, ◌+◌, ◌-◌, ◌^◌, ◌<◌, ◌++◌, IfOk, All, length, map};
+ghost use Rattle.std.specs.Prelude.{◌≡◌, ◌+◌, ◌-◌, ◌^◌, ◌<◌, ◌++◌, IfOk, All, map};
 ghost use Rattle.std.specs.Option.{option_map};
 ghost use Rattle.sigma_spl.specs.Merge.{lifted, renumbered, renumbered_places};
 ghost use Rattle.sigma_spl.specs.Views.{plain_multiplier, plain_nest};
 ghost use Rattle.sigma_spl.specs.Work.{HasWords};
 ghost use Rattle.perm_algebra.specs.Affine.{constant, joined};
-ghost use Rattle.perm_algebra.specs.Room.{HasCounts, constant_of};
+ghost use Rattle.perm_algebra.specs.Room.{constant_of};
 ghost use Rattle.perm_algebra.specs.Views.{plain_sum};
 ghost use Rattle.operators.specs.TensorPaths.Path.{count_of};
 ghost use Rattle.loop_nests.specs.Lifted.{AllFit, CanLift, CanRaise, IsCounted, SumsFit, behind, counts_under, raised};
+ghost use Rattle.loop_nests.specs.Placed.{CanRenumber};
 
 use crate::placed::{placed, renumbered};
 use memory::NoMemory;
@@ -39,7 +40,8 @@ pub(crate) fn lifted(
         ..
     } = nest;
     let gathers = all_raised(alloc, &limits, path, size, before, &gathers)?;
-    let multiplier = counted_on(alloc, &limits, path.len() as u64, multiplier)?;
+    let _count = limits.len();
+    let multiplier = counted_on(alloc, path.len() as u64, multiplier)?;
     let scatters = all_raised(alloc, &limits, path, size, before, &scatters)?;
     Ok(Nest {
         counts,
@@ -90,6 +92,7 @@ fn all_raised(
 }
 
 // A place of the part, in the whole.
+#[tactic(auto, using(crate::proofs::Lifting::counts_are_words))]
 fn raised(
     alloc: Global,
     limits: &[u64],
@@ -101,7 +104,8 @@ fn raised(
     requires { CanRaise limits.now path.now size before (plain_sum sum.now) }
     ensures { IfOk result (λ e. plain_sum e ≡ raised path.now size before (plain_sum sum.now)) }
 {
-    let higher = renumbered(alloc, limits, path.len() as u64, sum)?;
+    let _count = limits.len();
+    let higher = renumbered(alloc, path.len() as u64, sum)?;
     let behind = both(limits, Affine::Constant(before), higher);
     let place = placed(alloc, limits, path, size, 0, behind)?;
     Ok(place)
@@ -111,37 +115,31 @@ fn raised(
 #[tactic(auto, using(crate::proofs::Lifting::all_counted))]
 fn counted_on(
     alloc: Global,
-    limits: &[u64],
     by: u64,
     multiplier: Option<Multiplier>,
 ) -> Result<Option<Multiplier>, NoMemory>
-    requires { IsCounted (length limits.now - by) (option_map plain_multiplier multiplier) }
+    requires { IsCounted (2 ^ 64 - by) (option_map plain_multiplier multiplier) }
     ensures { IfOk result (λ d. option_map plain_multiplier d
         ≡ renumbered_places by (option_map plain_multiplier multiplier)) }
 {
     match multiplier {
         None => Ok(None),
         Some(multiplier) => {
-            let places = all_renumbered(alloc, limits, by, &multiplier.places)?;
+            let places = all_renumbered(alloc, by, &multiplier.places)?;
             let factors = multiplier.factors;
             Ok(Some(Multiplier { factors, places }))
         }
     }
 }
 
-fn all_renumbered(
-    alloc: Global,
-    limits: &[u64],
-    by: u64,
-    sums: &[Affine],
-) -> Result<Vec<Affine>, NoMemory>
-    requires { All (λ e. HasCounts (length limits.now - by) (plain_sum e)) sums.now }
+fn all_renumbered(alloc: Global, by: u64, sums: &[Affine]) -> Result<Vec<Affine>, NoMemory>
+    requires { All (λ e. CanRenumber by (plain_sum e)) sums.now }
     ensures { IfOk result (λ es.
         map plain_sum es.items ≡ map (renumbered by) (map plain_sum sums.now)) }
 {
     let mut higher = Vec::new(alloc);
     for sum in sums {
-        higher.push(renumbered(alloc, limits, by, sum)?)?;
+        higher.push(renumbered(alloc, by, sum)?)?;
     }
     Ok(higher)
 }

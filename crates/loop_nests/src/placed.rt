@@ -1,9 +1,8 @@
 // Places of items under tensors, as sums of the loops' variables.
-ghost use Rattle.std.specs.Prelude.{◌≡◌, ◌-◌, IfOk, All, length, map};
+ghost use Rattle.std.specs.Prelude.{◌≡◌, IfOk, All, map};
 ghost use Rattle.sigma_spl.specs.Merge.{place_sum, renumbered};
-ghost use Rattle.perm_algebra.specs.Room.{HasCounts};
 ghost use Rattle.perm_algebra.specs.Views.{plain_sum};
-ghost use Rattle.loop_nests.specs.Placed.{CanPlace};
+ghost use Rattle.loop_nests.specs.Placed.{CanPlace, CanRenumber};
 
 use memory::NoMemory;
 use operators::Tensor;
@@ -65,31 +64,25 @@ pub(crate) fn placed(
     }
 }
 
-/// The sum with higher numbers for its variables, which have counts then.
-pub(crate) fn renumbered(
-    alloc: Global,
-    counts: &[u64],
-    by: u64,
-    sum: &Affine,
-) -> Result<Affine, NoMemory>
-    requires { HasCounts (length counts.now - by) (plain_sum sum.now) }
+/// The sum with higher numbers for its variables.
+pub(crate) fn renumbered(alloc: Global, by: u64, sum: &Affine) -> Result<Affine, NoMemory>
+    requires { CanRenumber by (plain_sum sum.now) }
     ensures { IfOk result (λ e. plain_sum e ≡ renumbered by (plain_sum sum.now)) }
 {
-    let _count = counts.len();
     match sum {
         Affine::Constant(c) => Ok(Affine::Constant(*c)),
         Affine::Variable(factor, variable, rest) => {
-            let rest = Box::new(alloc, renumbered(alloc, counts, by, rest)?)?;
+            let rest = Box::new(alloc, renumbered(alloc, by, rest)?)?;
             Ok(Affine::Variable(*factor, *variable + by, rest))
         }
         Affine::Remainder(factor, of, divisor, rest) => {
-            let of = Box::new(alloc, renumbered(alloc, counts, by, of)?)?;
-            let rest = Box::new(alloc, renumbered(alloc, counts, by, rest)?)?;
+            let of = Box::new(alloc, renumbered(alloc, by, of)?)?;
+            let rest = Box::new(alloc, renumbered(alloc, by, rest)?)?;
             Ok(Affine::Remainder(*factor, of, *divisor, rest))
         }
         Affine::Quotient(factor, of, divisor, rest) => {
-            let of = Box::new(alloc, renumbered(alloc, counts, by, of)?)?;
-            let rest = Box::new(alloc, renumbered(alloc, counts, by, rest)?)?;
+            let of = Box::new(alloc, renumbered(alloc, by, of)?)?;
+            let rest = Box::new(alloc, renumbered(alloc, by, rest)?)?;
             Ok(Affine::Quotient(*factor, of, *divisor, rest))
         }
     }
