@@ -1,5 +1,5 @@
 -- The merged passes of a tree: those of its layout, the last of which multiplies by the factor of an inverse.
-use Rattle.std.proofs.Common.{◌≡◌, ℕ, refl, sym, ap, ap₂, ◌∙◌, subst, List, [], ◌∷◌, ◌++◌, length, Option, None, Some, All}
+use Rattle.std.proofs.Common.{◌≡◌, ℕ, refl, sym, ap, ap₂, ◌∙◌, subst, List, [], ◌∷◌, ◌++◌, Option, None, Some, All}
 use Rattle.std.specs.Prelude.{map, reverse}
 use Rattle.std.proofs.lemmas.List.{map-append, reverse-append}
 use Rattle.std.proofs.lemmas.List.Elements.{All-head, All-tail}
@@ -9,7 +9,6 @@ use Rattle.matrix_meaning.specs.declared.Request.{Request}
 use Rattle.matrix_meaning.specs.Parts.{forward_by, forward_of}
 use Rattle.matrix_meaning.specs.Valid.{IsValid}
 use Rattle.operators.specs.declared.target.Target.{Target}
-use Rattle.perm_algebra.specs.Affine.{Sum, constant}
 use Rattle.sigma_lower.specs.Merged.{closed_phases, tree_merged}
 use Rattle.sigma_lower.specs.Shared.{phase_term}
 use Rattle.sigma_lower.specs.TreeLoops.Merge.{PlainPass, in_order, merged_of, merged_phases}
@@ -19,20 +18,18 @@ use Rattle.sigma_lower.proofs.HaveLoops.{phases_have_loops}
 use Rattle.sigma_lower.proofs.Ordered.{trees_ordered}
 use Rattle.sigma_lower.proofs.TreeLayouts.{trees_can_lower}
 use Rattle.sigma_lower.proofs.TreeLoops.LoopLimits.{loops_are_limited}
-use Rattle.sigma_lower.proofs.TreeSigmas.ClosedLoops.{TakesClosing, closed_loop}
+use Rattle.sigma_lower.proofs.TreeSigmas.ClosedLoops.{TakesClosing, closed-nest, closed_loop}
 use Rattle.sigma_lower.proofs.TreeSigmas.ClosedPhases.{ArePhases, IsPhase, closing_loops, each-some, layout-takes, loops_by, whole-loops, whole-phases}
-use Rattle.sigma_lower.proofs.TreeSigmas.ClosedPlaces.{all-first}
 use Rattle.sigma_lower.proofs.TreeSigmas.Closing.{takes-phases}
 use Rattle.sigma_lower.proofs.TreeSigmas.Lasts.{order-map}
 use Rattle.sigma_spl.specs.Lists.{LastIs, on_last}
-use Rattle.sigma_spl.specs.Loops.{PlainLoop, limits_in, loops_in, nest_of, one_nest}
-use Rattle.sigma_spl.specs.Merge.{items_out, most, place_sum}
+use Rattle.sigma_spl.specs.Loops.{PlainLoop, loops_in, one_nest}
+use Rattle.sigma_spl.specs.Merge.{most}
 use Rattle.sigma_spl.specs.Merged.{PlainMerged}
 use Rattle.sigma_spl.specs.Nest.{PlainNest, repeated}
 use Rattle.sigma_spl.specs.Shared.Targets.{target_of}
 use Rattle.sigma_spl.specs.Sigma.{passes_in_order}
 use Rattle.sigma_spl.specs.Term as terms
-use Rattle.sigma_spl.specs.Work.{work_size}
 use Rattle.sigma_spl.proofs.Listed.{merge_listed}
 use Rattle.smp_rewrite.specs.LayoutSteps.Layout.{layout_of}
 use Rattle.smp_rewrite.specs.LayoutSteps.Whole.{factor_by}
@@ -42,6 +39,7 @@ use Rattle.tree_model.specs.Cost.{is_plain}
 use Rattle.generate.specs.Emission.Passes.{Factors, none, number}
 use Rattle.generate.specs.Emission.Whole.{closing_factors}
 use Rattle.generate.proofs.Emission.Nests.{multiplying, nests}
+use Rattle.perm_algebra.specs.Affine.{Sum, constant}
 
 abbrev pub phases-in : Request → List (List (List PlainNest)) → PlainMerged
 phases-in c phases = record { size = c.size; procs = c.procs; lanes = c.lanes; phases = phases }
@@ -101,13 +99,6 @@ last-mapped F f g Q step [] last = absurd last
 last-mapped F f g Q step (x ∷ []) last = ap (λ z. z ∷ []) (step x last)
 last-mapped F f g Q step (x ∷ y ∷ xs) last = ap (λ zs. F x ∷ zs) (last-mapped F f g Q step (y ∷ xs) last)
 
-closed-nest : (n v : ℕ) (p : PlainLoop) → TakesClosing n p →
-    one_nest (closed_loop n v p) ≡ map (multiplying (repeated v 1) firsts) (one_nest p)
-closed-nest n v p takes =
-    ap (λ es. multiplying (repeated v 1) (λ _. es) (nest_of p) ∷ [])
-    (all-first (limits_in p) n p.afters
-    (map (place_sum p.path (work_size p.work) 0) (items_out p.work (length p.path))) takes.alone)
-
 closed-loops : (h : Target) (o : Option ℕ) (phases : List (List PlainLoop)) →
     LastIs (LastIs (TakesClosing h.size)) phases →
     map (map one_nest) (closing_loops h o phases) ≡ closed-phases o (map (map one_nest) phases)
@@ -115,7 +106,7 @@ closed-loops h None phases last = refl
 closed-loops h (Some v) phases last =
     last-mapped (map one_nest) (on_last (closed_loop h.size v)) (closing (Some v)) (LastIs (TakesClosing h.size))
     (λ ps takes. last-mapped one_nest (closed_loop h.size v) (map (multiplying (repeated v 1) firsts))
-    (TakesClosing h.size) (closed-nest h.size v) ps takes) phases last
+    (TakesClosing h.size) (λ p one. ap (λ z. z ∷ []) (closed-nest h.size v p one)) ps takes) phases last
 
 nests-of : (ps : List PlainPass) → map one_nest (map loop_of ps) ≡ nests ps
 nests-of [] = refl

@@ -5,22 +5,18 @@ use Rattle.std.specs.Option.{option_map}
 use Rattle.std.proofs.lemmas.List.{map-append}
 use Rattle.index_fn.specs.Mapping.{Mapping}
 use Rattle.matrix_meaning.specs.declared.Request.{Request}
-use Rattle.perm_algebra.specs.Affine.{Divided, Sum, constant, joined, scaled, simplified}
-use Rattle.perm_algebra.proofs.Shape.{divided-joined}
-use Rattle.perm_algebra.proofs.Sizes.{joined-end, scaled-one}
+use Rattle.perm_algebra.specs.Affine.{Sum, joined, scaled, simplified}
 use Rattle.sigma_lower.specs.TreeLoops.Merge.{PlainDiagonal, PlainPass}
 use Rattle.sigma_lower.specs.TreeLoops.Nests.{loop_of}
 use Rattle.sigma_lower.specs.TreeLoops.Placed.{AreCounts, Fits, all_simplified, place_sum}
 use Rattle.sigma_lower.specs.TreeTerms.Root.{left_path}
 use Rattle.sigma_lower.specs.TreeTerms.Wrapped.{inner_of}
 use Rattle.sigma_lower.proofs.TreeLoops.InCopies.{AreCopies, placed}
-use Rattle.sigma_lower.proofs.TreeLoops.LeftPlaces.{Spread, counts-append, left_fills, left_wide, part-leads, size_under-append}
-use Rattle.sigma_lower.proofs.TreeLoops.LineMoves.{AreThree, LeadsTo, dealt-leads, leads-same}
+use Rattle.sigma_lower.proofs.TreeLoops.LeftPlaces.{Spread, spread-by, item-whole, counts-append, left_fills, left_wide, part-leads, size_under-append}
 use Rattle.sigma_lower.proofs.TreeLoops.Moved.{placed-columns}
 use Rattle.sigma_lower.proofs.TreeLoops.PlaceLimits.{IsPlacedPass}
-use Rattle.sigma_lower.proofs.TreeLoops.PlaceSums.{parts-fit}
 use Rattle.sigma_lower.proofs.TreeLoops.RootPasses.{if_dealt, left_diagonal, left_pass, on_all}
-use Rattle.sigma_lower.proofs.TreeLoops.RootShares.{AreShares, columns_some, dealt_small, tiles_are, tiles_fill}
+use Rattle.sigma_lower.proofs.TreeLoops.RootShares.{AreShares, tiles_fill}
 use Rattle.sigma_lower.proofs.TreeLoops.Shaped.{IsShaped, IsShapedWork}
 use Rattle.sigma_lower.proofs.TreeLoops.Staying.{StaysIn}
 use Rattle.sigma_lower.proofs.TreeLoops.WithinPlaces.{natural-copies}
@@ -78,9 +74,6 @@ module _ (c : Request) (r s : ℕ) (h : AreShares c.size c.procs c.lanes r s) wh
   abbrev d : ℕ
   d = 0 + length (left_path p v s)
 
-  left_whole : size_under three r ≡ size
-  left_whole = let columns : r * s ≡ r * (p * (v * k)) = ap (λ n. r * n) h.columns in omega (arith, h.product, columns)
-
   -- where emission's turns stand
   strided-placed : (cs : ℕ → ℕ) (y : Sum) → strided c s cs y ≡ placed whole r us y
   strided-placed cs y =
@@ -92,24 +85,9 @@ module _ (c : Request) (r s : ℕ) (h : AreShares c.size c.procs c.lanes r s) wh
   -- the sums of the lane, and of the processor and the loop together
   abbrev spread : (cs : ℕ → ℕ) → AreCounts (left_path p v s) r 0 cs → Spread size p v r s h cs 0
   spread cs counts =
-      let named = subst (λ ts. AreCopies three ts cs) (sym (turns-are [] three)) (natural-copies three r 0 cs counts) in
-      let both : AreThree cs p v k q l j = record { processor = named.0; lane = named.1.0; other = named.1.1.0 } in
-      let fits : Fits (s / v) column cs =
-      subst (λ n. Fits n column cs) (sym (tiles_are size p v r s h ∙ mul_comm k p))
-      (parts-fit p k q j cs (columns_some size p v r s h) named.0 named.1.1.0) in
-      record {
-        lane = l;
-        column = column;
-        copies = (named.1.0, (fits, tt));
-        dealt = λ n e is inside.
-            leads-same cs size (if_dealt n p v r s) (place_sum (left_path p v s) r 0 e) _ _ (natural-turns three r e)
-            (subst (LeadsTo cs size (if_dealt n p v r s) (placed three r (q ∷ l ∷ j ∷ []) e))
-            (ap (λ g. joined (scaled v g) l)
-            (placed-columns k p [] r j q [] e
-            ∙ ap (λ n. placed (Columns n ∷ []) r (column ∷ []) e) (sym (tiles_are size p v r s h))))
-            (dealt-leads p v k r size n q l j e cs both inside is left_whole h.whole.high
-            (dealt_small size p v r s h)));
-      }
+      spread-by size p v r s h cs 0 q l j
+      (subst (λ ts. AreCopies three ts cs) (sym (turns-are [] three)) (natural-copies three r 0 cs counts))
+      (natural-turns three r)
 
   -- a pass of the part alone, within its limits
   pub record IsPart (m : ℕ) (z : PlainPass) : Type 0 where
@@ -149,22 +127,6 @@ module _ (c : Request) (r s : ℕ) (h : AreShares c.size c.procs c.lanes r s) wh
         ∙ ap₂ (λ a b. placed whole r (a ∷ b ∷ []) (all_simplified cs fs (place_sum z.path n d e))) there.same_lane
         there.same_column
 
-    -- the item of its copy, at the place in all copies
-    inner-whole : (cs : ℕ → ℕ) (path : Path) (count : ℕ) (y : Sum) → Fits v l cs × Fits (s / v) column cs →
-        simplified cs (inner_of (Columns s ∷ path) count) (placed whole r us y) ≡ simplified cs (inner_of path count) y
-    inner-whole cs path count y (lane, other) =
-        let u : Sum = joined (scaled v column) l in
-        let fit : Fits s u cs =
-        subst (λ i. Fits i u cs) (mul_comm (s / v) v ∙ tiles_fill size p v r s h)
-        (parts-fit (s / v) v column l cs h.lanes other lane) in
-        let same_place : placed whole r us y ≡ joined (scaled s y) u = placed-columns v (s / v) [] r l column [] y
-        ∙ ap (λ a. joined (scaled a y) u) (tiles_fill size p v r s h) in
-        ap (simplified cs (inner_of (Columns s ∷ path) count)) same_place
-        ∙ ap (λ (x : Divided). joined (scaled 1 (simplified cs (inner_of path count) x.quot)) (constant 0))
-        (divided-joined s y u cs (let two = h.right in omega (arith, two)) fit.proper fit.small)
-        ∙ joined-end _
-        ∙ scaled-one _
-
     fits-of : (cs : ℕ → ℕ) (e : Sum) → AreCounts (left_path p v s ++ z.path) n 0 cs →
         Fits v l cs × Fits (s / v) column cs
     fits-of cs e counts =
@@ -181,9 +143,10 @@ module _ (c : Request) (r s : ℕ) (h : AreShares c.size c.procs c.lanes r s) wh
       λ cs e counts fits.
           let there = spread-pass cs e counts in
           let multiplied = (part.placed.multiplies x is).0 cs d e there.inner fits in
+          let low = fits-of cs e counts in
           has.2 cs e there.inner fits
-          ∙ sym (inner-whole cs x.path (x.rows * x.cols) (all_simplified cs x.places (place_sum z.path n d e))
-          (fits-of cs e counts))
+          ∙ sym (item-whole size p v r s h cs l column x.path (x.rows * x.cols)
+          (all_simplified cs x.places (place_sum z.path n d e)) low.0 low.1)
           ∙ ap (simplified cs (inner_of (Columns s ∷ x.path) (x.rows * x.cols)))
           (sym (led cs e x.places (r * p) counts (mul_comm r p) multiplied.stays)),
     )

@@ -1,83 +1,21 @@
 -- What a rule's permutations make of the places of its parts.
-use Rattle.std.proofs.Common.{◌≡◌, ℕ, ◌+◌, ◌*◌, ◌<◌, ◌≤◌, arith, sym, ap, ◌∙◌, List, [], ◌∷◌, ◌++◌, length, subst, mul_comm}
-use Rattle.std.proofs.Math.Nat.{mul-le-mul_right}
-use Rattle.std.proofs.lemmas.Nat.{mul-le}
+use Rattle.std.proofs.Common.{◌≡◌, ℕ, ◌+◌, ◌*◌, ◌≤◌, arith, ap, ◌∙◌, List, [], ◌∷◌, ◌++◌, length, subst}
 use Rattle.index_fn.specs.Mapping.{Mapping, Strided, ThomasIn, ThomasBack}
-use Rattle.perm_algebra.specs.Affine.{IsProper, Sum, constant, variable, top, parts, scaled, joined, Divided, reduced, simplified}
-use Rattle.perm_algebra.proofs.AffineLaws.{top-scaled, top-joined}
+use Rattle.perm_algebra.specs.Affine.{Sum, constant, variable, scaled, joined, Divided, reduced, simplified}
 use Rattle.perm_algebra.proofs.Shape.{divided-joined, turned-joined}
-use Rattle.perm_algebra.proofs.Sizes.{parts-scaled, parts-joined, proper-joined, proper-scaled}
-use Rattle.sigma_lower.specs.TreeLoops.Placed.{Fits, IsTame, place_sum, AreCounts, all_simplified}
+use Rattle.sigma_lower.specs.TreeLoops.Placed.{Fits, place_sum, AreCounts, all_simplified}
 use Rattle.sigma_lower.specs.TreeTerms.Good.{AreCoprime}
 use Rattle.sigma_lower.specs.TreeTerms.Wrapped.{wrapped, unit_of}
 use Rattle.sigma_lower.proofs.TreeLoops.InCopies.{simplified-wrapped}
 use Rattle.sigma_lower.proofs.TreeLoops.PartRules.{IsRuleIn, coprime_in}
-use Rattle.sigma_lower.proofs.TreeLoops.PlaceSums.{tensor_sum, place_sum-push, counts-push, variable-fits, parts-fit, tensor_sum-fits}
-use Rattle.sigma_lower.proofs.TreeLoops.TameSums.{tame-scaled, tame-joined, reduced-fits}
+use Rattle.sigma_lower.proofs.TreeLoops.PlaceSums.{tensor_sum, place_sum-push, counts-push, variable-fits}
 use Rattle.sigma_lower.proofs.TreeLoops.TreePasses.{rule_waiting}
-use Rattle.sigma_lower.proofs.TreeTerms.Lowering.{unit_positive, unit_small}
-use Rattle.operators.specs.declared.tensor_paths.Tensor.{Tensor}
 use Rattle.operators.specs.declared.tensor_paths.Tensor.TheVariants.{Blocks, Columns}
-use Rattle.operators.specs.TensorPaths.Path.{Path, grown}
+use Rattle.operators.specs.TensorPaths.Path.{Path}
 use Rattle.tree_model.specs.declared.tree.Rule.{Rule}
 use Rattle.tree_model.specs.declared.tree.Rule.TheVariants.{Gt, Ct, Split, Dim}
 use Rattle.generate.specs.Emission.Places.{left_out, right_in}
-
--- ---- remainders that fit
-
-record AreInArray (n a b k size : ℕ) : Type 0 where
-  high : n ≤ 1048576
-  first : a ≤ n
-  second : b ≤ n
-  count : k ≤ n
-  half : 2 * size ≤ n
-
-low-product : (a t n : ℕ) → n ≤ 1048576 → a ≤ n → t < n → a * t ≤ 1099511627776
-low-product a t n high h g = mul-le a t 1048576 1048576 (omega arith) (omega arith)
-
--- two multiples, modulo n
-mixed : (cs : ℕ → ℕ) (n a b d size : ℕ) (e : Sum) → AreInArray n a b (cs d) size → 0 < a → 0 < b → Fits size e cs →
-    2 ≤ cs d →
-    Fits n (reduced cs n (joined (scaled a (variable 1 d (constant 0))) (scaled b e))) cs × Fits n
-    (reduced cs n (joined (scaled b e) (scaled a (variable 1 d (constant 0))))) cs
-mixed cs n a b d size e within p q f two =
-    let v = variable 1 d (constant 0) in
-    let one = joined (scaled a v) (scaled b e) in
-    let other = joined (scaled b e) (scaled a v) in
-    let proper_v : IsProper (scaled a v) cs = proper-scaled a v cs p (omega arith, two, tt) in
-    let proper_e : IsProper (scaled b e) cs = proper-scaled b e cs q f.proper in
-    let tame_e : IsTame cs (scaled b e) = tame-scaled cs b e f.tame in
-    let some : 0 < size = omega (arith, f.small) in
-    let half = within.half in
-    let high = within.high in
-    let count = within.count in
-    let left : a * top v cs ≤ 1099511627776 =
-    low-product a (top v cs) n high within.first (omega (arith, count, two)) in
-    let right : b * top e cs ≤ 1099511627776 =
-    low-product b (top e cs) n high within.second (omega (arith, f.small, half)) in
-    let tops : (top (scaled a v) cs ≡ a * top v cs) × (top (scaled b e) cs ≡ b * top e cs) =
-    (top-scaled a v cs, top-scaled b e cs) in (
-      reduced-fits cs n size (parts e) one half some high
-          (proper-joined (scaled a v) (scaled b e) cs proper_v proper_e)
-          (tame-joined cs (scaled a v) (scaled b e) tt tame_e)
-          (omega (arith, parts-joined (scaled a v) (scaled b e), parts-scaled b e)) f.few
-          (omega (arith, top-joined (scaled a v) (scaled b e) cs, tops.0, tops.1, left, right)),
-      reduced-fits cs n size (parts e) other half some high
-          (proper-joined (scaled b e) (scaled a v) cs proper_e proper_v)
-          (tame-joined cs (scaled b e) (scaled a v) tame_e tt)
-          (omega (arith, parts-joined (scaled b e) (scaled a v), parts-scaled b e)) f.few
-          (omega (arith, top-joined (scaled b e) (scaled a v) cs, tops.0, tops.1, left, right)),
-    )
-
-product-array : (r s a b : ℕ) → 2 ≤ r → 2 ≤ s → r * s ≤ 1048576 → a ≤ r * s → b ≤ r * s →
-    AreInArray (r * s) a b r s × AreInArray (r * s) a b s r
-product-array r s a b h g high first second =
-    let one : 2 * s ≤ r * s = mul-le-mul_right s h in
-    let other : 2 * r ≤ s * r = mul-le-mul_right r g in
-    let turned : s * r ≡ r * s = mul_comm s r in (
-      record { high = high; first = first; second = second; count = omega arith; half = one },
-      record { high = high; first = first; second = second; count = omega arith; half = omega arith },
-    )
+use Rattle.sigma_lower.proofs.TreeLoops.PlaceLimits.{at-tensor, thomas_back-one, thomas_in-one, turns-one}
 
 -- ---- under one tensor
 
@@ -89,53 +27,35 @@ record Leads (cs : ℕ → ℕ) (f : Mapping) (n : ℕ) (from to : Sum) : Type 0
   is : simplified cs f from ≡ to
   fits : Fits n to cs
 
+leads-by : (cs : ℕ → ℕ) (f : Mapping) (n : ℕ) (from to : Sum) → simplified cs f from ≡ to →
+    Fits n (simplified cs f from) cs → Leads cs f n from to
+leads-by cs f n from to is fits = record { is = is; fits = subst (λ e. Fits n e cs) is fits }
+
 thomas_in-leads : (r s d : ℕ) (e : Sum) (cs : ℕ → ℕ) → cs d ≡ r → 2 ≤ r → 2 ≤ s → r * s ≤ 1048576 → Fits s e cs →
     Leads cs (ThomasIn r s) (r * s) (tensor_sum (Blocks r) s d e) (right_in Gt r s (turn d) cs e)
 thomas_in-leads r s d e cs count two_r two_s high f =
-    let within = (product-array r s s r two_r two_s high (omega (arith, mul-le-mul_right s two_r))
-    (omega (arith, mul-le-mul_right r two_s, mul_comm s r))).0 in
-    record {
-      is = ap (λ (z : Divided). reduced cs (r * s) (joined (scaled s z.quot) (scaled r z.rem)))
-          (divided-joined s (turn d) e cs (omega arith) f.proper f.small);
-      fits = (mixed cs (r * s) s r d s e (subst (λ z. AreInArray (r * s) s r z s) (sym count) within) (omega arith)
-          (omega arith) f (omega arith)).0;
-    }
+    leads-by cs (ThomasIn r s) (r * s) (tensor_sum (Blocks r) s d e) _
+    (ap (λ (z : Divided). reduced cs (r * s) (joined (scaled s z.quot) (scaled r z.rem)))
+    (divided-joined s (turn d) e cs (omega arith) f.proper f.small))
+    (thomas_in-one r s d e cs count two_r two_s high f)
 
 turns-leads : (r s d : ℕ) (e : Sum) (cs : ℕ → ℕ) → cs d ≡ r → 2 ≤ r → 2 ≤ s → Fits s e cs →
     Leads cs (Strided r s) (r * s) (tensor_sum (Blocks r) s d e) (right_in Ct r s (turn d) cs e)
 turns-leads r s d e cs count two_r two_s f =
-    let positive : 0 < r = omega arith in
-    let fit : Fits (s * r) (joined (scaled r e) (turn d)) cs =
-    parts-fit s r e (turn d) cs positive f (variable-fits r d cs count two_r) in
-    record {
-      is = turned-joined r s (turn d) e cs (omega arith) f.proper f.small;
-      fits = subst (λ n. Fits n (joined (scaled r e) (turn d)) cs) (mul_comm s r) fit;
-    }
+    leads-by cs (Strided r s) (r * s) (tensor_sum (Blocks r) s d e) _
+    (turned-joined r s (turn d) e cs (omega arith) f.proper f.small) (turns-one r s d e cs count two_r two_s f)
 
 thomas_back-leads : (r s d : ℕ) (e : Sum) (cs : ℕ → ℕ) → AreCoprime r s → cs d ≡ s → 2 ≤ r → 2 ≤ s → Fits r e cs →
     Leads cs (ThomasBack r s (unit_of r s) (unit_of s r)) (r * s) (tensor_sum (Columns s) r d e)
     (left_out Gt r s (turn d) cs e)
 thomas_back-leads r s d e cs both count two_r two_s f =
     let fit = variable-fits s d cs count two_s in
-    let units = unit_positive r s both two_r two_s in
-    let bounds = unit_small r s both in
-    let within = (product-array r s (unit_of s r) (unit_of r s) two_r two_s both.small (omega (arith, bounds.1))
-    (omega (arith, bounds.0))).1 in
-    record {
-      is = ap (λ (z : Divided). reduced cs (r * s) (joined (scaled (unit_of r s) z.quot) (scaled (unit_of s r) z.rem)))
-          (divided-joined s e (turn d) cs (omega arith) fit.proper fit.small);
-      fits = (mixed cs (r * s) (unit_of s r) (unit_of r s) d r e
-          (subst (λ z. AreInArray (r * s) (unit_of s r) (unit_of r s) z r) (sym count) within) units.1 units.0 f
-          (omega arith)).1;
-    }
+    leads-by cs (ThomasBack r s (unit_of r s) (unit_of s r)) (r * s) (tensor_sum (Columns s) r d e) _
+    (ap (λ (z : Divided). reduced cs (r * s) (joined (scaled (unit_of r s) z.quot) (scaled (unit_of s r) z.rem)))
+    (divided-joined s e (turn d) cs (omega arith) fit.proper fit.small))
+    (thomas_back-one r s d e cs both count two_r two_s f)
 
 -- ---- under a path
-
-pub at-tensor : (path : Path) (t : Tensor) (n d : ℕ) (e : Sum) (cs : ℕ → ℕ) → AreCounts (path ++ t ∷ []) n d cs →
-    Fits n e cs → Fits (grown t n) (tensor_sum t n (d + length path) e) cs
-at-tensor path t n d e cs counts fits =
-    let p = counts-push path t n d cs counts in
-    tensor_sum-fits t n (d + length path) e cs p.count p.two p.positive fits
 
 -- a permutation under the path, at a place in a part
 pub record LeadsUnder (cs : ℕ → ℕ) (f : Mapping) (path : Path) (n d : ℕ) (from to : Sum) : Type 0 where

@@ -27,7 +27,8 @@ use Rattle.generate.proofs.Emission.Layouts.{layout_emitted, named, named-plain}
 use Rattle.generate.proofs.Emission.Matches.{Always, ArePasses, AreSame, IsAround, IsLast, IsSame, HasDiagonal, at_last-none, last-other, last-same, natural, passes-append}
 use Rattle.generate.proofs.Emission.Nested.{pass_at, plain_work}
 use Rattle.generate.proofs.Emission.Nests.{IsNodeWork}
-use Rattle.generate.proofs.Emission.Steps.{at-tensor, loaded_by, stored_back}
+use Rattle.generate.proofs.Emission.Steps.{loaded_by, stored_back}
+use Rattle.sigma_lower.proofs.TreeLoops.PlaceLimits.{at-tensor}
 
 -- ---- loops of two turns or more
 

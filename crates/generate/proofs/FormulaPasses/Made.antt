@@ -1,12 +1,12 @@
 -- What is known of a nest of a formula's passes, which all that a pass takes keeps.
-use Rattle.std.proofs.Common.{◌≡◌, ℕ, ◌+◌, ◌-◌, ◌*◌, ◌%◌, ◌<◌, ◌≤◌, List, [], ◌∷◌, ◌++◌, length, refl, sym, ap, ◌∙◌, arith, subst, Option, Some, None}
+use Rattle.std.proofs.Common.{◌≡◌, ℕ, ◌+◌, ◌-◌, ◌*◌, ◌%◌, ◌<◌, ◌≤◌, List, [], ◌∷◌, ◌++◌, length, refl, sym, ap, ◌∙◌, arith, Option, Some, None}
 use Rattle.std.specs.Prelude.{map, slice_index}
 use Rattle.index_fn.specs.Mapping.{Mapping, at}
 use Rattle.sigma_spl.specs.Copies.{loops_of}
 use Rattle.sigma_spl.specs.Good.{AreSound, NamesItems, IsFormed}
 use Rattle.sigma_spl.specs.Limits.{AreSeveral}
 use Rattle.sigma_spl.specs.Loops.{AreFormed}
-use Rattle.sigma_spl.specs.Merge.{place_sum, items_in, limits_of, all_simplified, renumbered, renumbered_places, gathered, scattered, multiplied, lifted, side}
+use Rattle.sigma_spl.specs.Merge.{place_sum, items_in, limits_of, renumbered, renumbered_places, gathered, scattered, multiplied, lifted, side}
 use Rattle.sigma_spl.specs.Nest.{PlainFactors, factor_count, factor_at, PlainMultiplier, PlainNest, sum_value}
 use Rattle.sigma_spl.specs.Work.{PlainWork, kernel, rows, horner, tile, copy, node_of, short, work_size}
 use Rattle.sigma_spl.proofs.Natural.{ranged, at-second, place-with}
@@ -15,6 +15,7 @@ use Rattle.sigma_spl.proofs.Sides.{rest_of, rest-range, sound-renumbered, up, li
 use Rattle.perm_algebra.specs.Affine.{Sum, constant, variable, remainder, value, simplified}
 use Rattle.operators.specs.TensorPaths.Path.{Path, AreInRange, count_of, place}
 use Rattle.tree_model.specs.Breakdown.{AllowsLeaf}
+use Rattle.sigma_lower.proofs.TreeSigmas.Ready.{names-all}
 
 -- ---- nests
 
@@ -118,18 +119,6 @@ made-scattered m f (z ∷ zs) form h = (
 )
 
 -- ---- diagonals
-
-names-all : (w : PlainWork) (cs : ℕ → ℕ) (fs : List Mapping) (sums : List Sum) → AreFormed fs → NamesItems w sums → NamesItems w (map (all_simplified cs fs) sums)
-names-all w cs [] sums form h = subst (NamesItems w) (sym (map-same sums)) h
-  where
-    map-same : (sums : List Sum) → map (λ e. e) sums ≡ sums
-    map-same [] = refl
-    map-same (e ∷ es) = ap (λ rest. e ∷ rest) (map-same es)
-names-all w cs (f ∷ fs) sums form h = subst (NamesItems w) (map-twice sums) (names-all w cs fs (map (simplified cs f) sums) form.1 (names-simplified w cs f sums form.0 h))
-  where
-    map-twice : (sums : List Sum) → map (all_simplified cs fs) (map (simplified cs f) sums) ≡ map (all_simplified cs (f ∷ fs)) sums
-    map-twice [] = refl
-    map-twice (e ∷ es) = ap (λ rest. all_simplified cs fs (simplified cs f e) ∷ rest) (map-twice es)
 
 pub made-multiplied : (m : ℕ) (factors : PlainFactors) (fs : List Mapping) (zs : List PlainNest) → IsDiagonal m factors → AreFormed fs → AreMade m zs → AreMade m (multiplied factors fs zs)
 made-multiplied m factors fs [] diagonal form h = tt
