@@ -23,7 +23,7 @@ use Rattle.sigma_spl.specs.Trees.{IsMergedTree}
 use Rattle.generate.proofs.TreePasses.Merged.{trees_are_merged, trees_mean}
 use Rattle.generate.specs.Good.{IsGood, IsVector}
 use Rattle.generate.specs.Lean.{IsLean, IsLeanCode}
-use Rattle.generate.proofs.Parts.{IsShare, lean-code, share-of}
+use Rattle.generate.proofs.Parts.{IsShare, in-a-row, lean-code, share-of}
 
 -- n equal shares, of which p make the whole, are n of them
 shares-sum : (p whole : ℕ) (f : ℕ → ℕ) (n : ℕ) → ((q : ℕ) → q < n → p * f q ≡ whole) → p * sum_below n f ≡ n * whole
@@ -55,7 +55,7 @@ module _ (r : Request) (t : Breakdown) (p : PlainProgram) (valid : IsValid r) (h
   share : (q : ℕ) → q < r.procs → IsShare r (request_passes r t) (whole_counts (plain_code p) q)
   share q low =
       subst (λ n. IsShare r (request_passes r t) (counts_of n (flat_map (λ phase. acts (plain_code p) phase q) (range_with_len 0 (length (plain_code p).lists))))) (sym performs.lanes)
-      (share-of r t _ (parts.lists q low))
+      (share-of r (request_passes r t) _ (in-a-row r t (plain_code p) parts q low))
 
   -- the turns that come first do not matter
   any-turns : (x turns : List ℕ) → results (plain_code p) x turns ≡ results (plain_code p) x []

@@ -1,11 +1,13 @@
 -- Programs of passes that count what those of the cost model do.
-use Rattle.std.proofs.Common.{◌≡◌, ℕ, suc, ◌+◌, ◌*◌, ◌<◌, List, [], ◌∷◌, length, map, sum_by, flat_map, refl, sym, ap, ap₂, ◌∙◌, arith, subst, All}
+use Rattle.std.proofs.Common.{◌≡◌, ℕ, suc, ◌+◌, ◌*◌, ◌<◌, List, [], ◌∷◌, ◌++◌, length, length-append, map, sum_by, flat_map, refl, sym, ap, ap₂, ◌∙◌, arith, subst, All}
 use Rattle.std.specs.List.{range_with_len}
-use Rattle.std.proofs.lemmas.List.{length-map}
+use Rattle.std.specs.Prelude.{drop, take}
+use Rattle.std.proofs.lemmas.Grind.{flat_map-append}
+use Rattle.std.proofs.lemmas.List.{length-map, length-take-le, take-append-drop}
 use Rattle.std.proofs.lemmas.List.Elements.{All-head, All-tail}
 use Rattle.std.proofs.lemmas.List.Sums.{sum_by-cons}
 use Rattle.icode.specs.Actions.{plain_code}
-use Rattle.icode.specs.Machine.{acts, counts_of, weighted}
+use Rattle.icode.specs.Machine.{Code, acts, counts_of, weighted}
 use Rattle.icode.specs.Plain.{PlainProgram}
 use Rattle.icode.specs.declared.action.Action.{Action}
 use Rattle.icode.specs.declared.action.Counts.{Counts}
@@ -13,8 +15,7 @@ use Rattle.icode.specs.declared.program.Array.{Array}
 use Rattle.icode.specs.declared.program.Array.TheVariants.{X}
 use Rattle.matrix_meaning.specs.declared.Request.{Request}
 use Rattle.sigma_spl.specs.Shared.Costs.{pass_cost, pass_loads}
-use Rattle.code_gen.proofs.WholePrograms.PhaseParts.{parts_in_a_row}
-use Rattle.code_gen.specs.PassCode.Contract.{Performs, joined}
+use Rattle.code_gen.specs.PassCode.Contract.{Performs, in_a_row, joined}
 use Rattle.sigma_spl.specs.Shared.Owners.{all_passes}
 use Rattle.code_gen.specs.PassCode.Contract as contract
 use Rattle.code_gen.specs.PassCode.Program.{written_array}
@@ -29,10 +30,10 @@ use Rattle.code_gen.proofs.WholePrograms.PartShares.{parts_share}
 use Rattle.generate.proofs.Adding.{adds}
 use Rattle.generate.specs.Lean.{AreParts, IsLeanCode, IsLeanList, IsPart, start_of}
 
-cons-head : {x y : ℕ} {xs ys : List ℕ} → x ∷ xs ≡ y ∷ ys → x ≡ y
+cons-head : {A : Type 0} {x y : A} {xs ys : List A} → x ∷ xs ≡ y ∷ ys → x ≡ y
 cons-head is = cc
 
-cons-tail : {x y : ℕ} {xs ys : List ℕ} → x ∷ xs ≡ y ∷ ys → xs ≡ ys
+cons-tail : {A : Type 0} {x y : A} {xs ys : List A} → x ∷ xs ≡ y ∷ ys → xs ≡ ys
 cons-tail is = cc
 
 module _ (r : Request) where
@@ -126,25 +127,119 @@ module _ (r : Request) where
         stores = both r.procs _ _ _ _ _ all.stores h.0.stores rest.stores ∙ one-more r.size (length passes);
       }
 
-  pub share-of : (t : Breakdown) (actions : List Action) → IsLeanList r t actions → IsShare (request_passes r t) (counts_of r.lanes actions)
-  share-of t actions lean = subst (λ list. IsShare (request_passes r t) (counts_of r.lanes list)) lean.whole (sums 0 X (request_passes r t) lean.parts lean.each)
+  -- ---- all phases in a row
+
+  -- the actions are one part for each pass
+  pub record IsListed (passes : List RequestPass) (actions : List Action) : Type 0 where
+    pub parts : List (List Action)
+    pub whole : joined parts ≡ actions
+    pub each : AreParts r 0 X passes parts
+
+  pub share-of : (passes : List RequestPass) (actions : List Action) → IsListed passes actions → IsShare passes (counts_of r.lanes actions)
+  share-of passes actions listed = subst (λ list. IsShare passes (counts_of r.lanes list)) listed.whole (sums 0 X passes listed.parts listed.each)
+
+  -- lists in a row are one list
+  row-is : (parts : List (List Action)) → joined parts ≡ flat_map (λ part. part) parts
+  row-is [] = refl
+  row-is (part ∷ parts) = ap (λ list. part ++ list) (row-is parts)
+
+  rows : (code : Code) (q : ℕ) (parts : List (List (List Action))) (phases : List ℕ) →
+      map joined parts ≡ map (λ phase. acts code phase q) phases →
+      joined (in_a_row parts) ≡ flat_map (λ phase. acts code phase q) phases
+  rows code q [] [] is = refl
+  rows code q [] (phase ∷ phases) is = cc
+  rows code q (first ∷ more) [] is = cc
+  rows code q (first ∷ more) (phase ∷ phases) is =
+      row-is (first ++ in_a_row more)
+      ∙ flat_map-append (λ part. part) first (in_a_row more)
+      ∙ ap₂ (λ (xs ys : List Action). xs ++ ys) (sym (row-is first) ∙ cons-head is)
+      (sym (row-is (in_a_row more)) ∙ rows code q more phases (cons-tail is))
+
+  pub in-a-row : (t : Breakdown) (code : Code) → IsLeanCode r t code → (q : ℕ) → q < r.procs →
+      IsListed (request_passes r t) (flat_map (λ phase. acts code phase q) (range_with_len 0 (length code.lists)))
+  in-a-row t code lean q low =
+      let list = lean.lists q low in
+      record {
+        parts = in_a_row list.parts;
+        whole = rows code q list.parts (range_with_len 0 (length code.lists)) list.whole;
+        each = subst (λ passes. AreParts r 0 X passes (in_a_row list.parts)) lean.passes list.each;
+      }
+
+-- ---- phases
+
+-- these passes in phases, each of as many as its nests
+record IsCut (phases : List (List (List PlainNest))) (passes : List RequestPass) : Type 0 where
+  cut : List (List RequestPass)
+  whole : flat_map (λ ps. ps) cut ≡ passes
+  counts : map length phases ≡ map length cut
+
+cut-in : (phases : List (List (List PlainNest))) (passes : List RequestPass) → length (all_passes phases) ≡ length passes → IsCut phases passes
+cut-in [] [] is = record { cut = []; whole = refl; counts = refl }
+cut-in [] (pass ∷ passes) is = cc
+cut-in (ps ∷ phases) passes is =
+    let n = length ps in
+    let all : length (all_passes (ps ∷ phases)) ≡ length ps + length (all_passes phases) = length-append ps (all_passes phases) in
+    let whole = take-append-drop n passes in
+    let first : length (take n passes) ≡ n = length-take-le n passes (omega (arith, all, is)) in
+    let parted = length-append (take n passes) (drop n passes) in
+    let long = ap length whole in
+    let rest = cut-in phases (drop n passes) (omega (arith, all, is, parted, long, first)) in
+    record {
+      cut = take n passes ∷ rest.cut;
+      whole = ap (λ more. take n passes ++ more) rest.whole ∙ whole;
+      counts = ap₂ (λ (k : ℕ) (ks : List ℕ). k ∷ ks) (sym first) rest.counts;
+    }
+
+-- the parts of each phase
+record AreByPhase (code : Code) (q f : ℕ) (phases : List (List (List PlainNest))) (parts : List (List (List Action))) : Type 0 where
+  counts : map length parts ≡ map length phases
+  whole : map joined parts ≡ map (λ phase. acts code phase q) (range_with_len f (length phases))
+
+by-phase : (code : Code) (q f : ℕ) (phases : List (List (List PlainNest))) (parts : List (List (List Action))) →
+    contract.ArePhaseParts code q f phases parts → AreByPhase code q f phases parts
+by-phase code q f [] [] h = record { counts = refl; whole = refl }
+by-phase code q f [] (first ∷ more) h = absurd h
+by-phase code q f (passes ∷ phases) [] h = absurd h
+by-phase code q f (passes ∷ phases) (first ∷ more) h =
+    let rest = by-phase code q (f + 1) phases more h.2 in
+    record {
+      counts = ap₂ (λ (k : ℕ) (ks : List ℕ). k ∷ ks) h.0 rest.counts;
+      whole = ap₂ (λ (xs : List Action) (xss : List (List Action)). xs ∷ xss) h.1 rest.whole;
+    }
 
 module _ (r : Request) (t : Breakdown) (g : PlainMerged) (p : PlainProgram) (some : 0 < r.weight)
     (known : IsMergedTree r t g) (performs : Performs (target_of r) g p) where
-  lists-length : length (plain_code p).lists ≡ length g.phases
+  abbrev code : Code
+  code = plain_code p
+
+  lists-length : length code.lists ≡ length g.phases
   lists-length = length-map p.phases _ ∙ performs.phases
 
-  lean-list : (q : ℕ) → q < r.procs → IsLeanList r t (flat_map (λ phase. acts (plain_code p) phase q) (range_with_len 0 (length (plain_code p).lists)))
+  counted : AllCount r (all_passes g.phases) (request_passes r t)
+  counted =
+      all-count r (all_passes g.phases) (request_passes r t) known.counts.costs known.counts.loads known.parts
+
+  phases : IsCut g.phases (request_passes r t)
+  phases = cut-in g.phases (request_passes r t) (count-same r (all_passes g.phases) (request_passes r t) counted)
+
+  lean-list : (q : ℕ) → q < r.procs → IsLeanList r phases.cut code q
   lean-list q low =
-      let listed = parts_in_a_row (target_of r) g (plain_code p) q (performs.parts q low) in
-      let ps = all_passes g.phases in
+      let listed = performs.parts q low in
+      let phased = by-phase code q 0 g.phases listed.phases listed.lists in
       record {
-        parts = listed.parts;
-        whole = listed.whole ∙ ap (λ n. flat_map (λ phase. acts (plain_code p) phase q) (range_with_len 0 n)) (sym lists-length);
+        parts = listed.phases;
+        counts = phased.counts ∙ phases.counts;
+        whole = phased.whole ∙ ap (λ n. map (λ phase. acts code phase q) (range_with_len 0 n)) (sym lists-length);
         each =
-            parts-are r 0 X ps (request_passes r t) listed.parts some
-            (all-count r ps (request_passes r t) known.counts.costs known.counts.loads known.parts) listed.each;
+            subst (λ passes. AreParts r 0 X passes (in_a_row listed.phases)) (sym phases.whole)
+            (parts-are r 0 X (all_passes g.phases) (request_passes r t) (in_a_row listed.phases) some counted listed.each);
       }
 
-  pub lean-code : IsLeanCode r t (plain_code p)
-  lean-code = record { phases = lists-length ∙ known.phases; lists = lean-list }
+  pub lean-code : IsLeanCode r t code
+  lean-code =
+      record {
+        number = lists-length ∙ known.phases;
+        phases = phases.cut;
+        passes = phases.whole;
+        lists = lean-list;
+      }

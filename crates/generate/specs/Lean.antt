@@ -1,5 +1,5 @@
--- What the processors execute pass by pass, and what all of them load and store.
-use Rattle.std.specs.Prelude.{◌≡◌, ℕ, suc, ◌*◌, ◌==◌, ◌<◌, if◌then◌else◌, List, [], ◌∷◌, flat_map, length, All}
+-- What the processors execute phase by phase and pass by pass, and what all of them load and store.
+use Rattle.std.specs.Prelude.{◌≡◌, ℕ, suc, ◌*◌, ◌==◌, ◌<◌, if◌then◌else◌, List, [], ◌∷◌, flat_map, length, map, All}
 use Rattle.std.specs.List.{range_with_len}
 use Rattle.icode.specs.Actions.{array_start, plain_code}
 use Rattle.icode.specs.declared.action.Action.{Action}
@@ -9,7 +9,7 @@ use Rattle.icode.specs.Machine.{Code, acts, counts_of, weighted, whole_counts, w
 use Rattle.icode.specs.Plain.{PlainProgram}
 use Rattle.matrix_meaning.specs.declared.Request.{Request}
 use Rattle.operators.specs.Sum.{sum_below}
-use Rattle.code_gen.specs.PassCode.Contract.{Stays, joined}
+use Rattle.code_gen.specs.PassCode.Contract.{Stays, in_a_row, joined}
 use Rattle.code_gen.specs.PassCode.Program.{written_array}
 use Rattle.tree_model.specs.Breakdown.{Breakdown}
 use Rattle.tree_model.specs.WholePasses.{RequestPass, cost_of_pass, loads_of_pass, request_passes, whole_loads, whole_stores}
@@ -35,20 +35,23 @@ AreParts r t source (pass ∷ passes) (part ∷ parts) =
     IsPart r pass (start_of r source) (start_of r (written_array t (length passes))) part
     × AreParts r (suc t) (written_array t (length passes)) passes parts
 
--- the actions are one part for each pass of the tree, in order
-pub record IsLeanList (r : Request) (t : Breakdown) (actions : List Action) : Type 0 where
-  pub parts : List (List Action)
-  pub whole : joined parts ≡ actions
-  pub each : AreParts r 0 X (request_passes r t) parts
+-- what processor q does in phases of these passes: in each phase one part for each of its passes, in order
+pub record IsLeanList (r : Request) (phases : List (List RequestPass)) (code : Code) (q : ℕ) : Type 0 where
+  pub parts : List (List (List Action))
+  pub counts : map length parts ≡ map length phases
+  pub whole : map joined parts ≡ map (λ phase. acts code phase q) (range_with_len 0 (length code.lists))
+  pub each : AreParts r 0 X (flat_map (λ ps. ps) phases) (in_a_row parts)
 
--- there is one phase, or there are two where there are several processors, and over all phases the list of each processor is lean
+-- there is one phase, or there are two where there are several processors; the passes of all phases, one after another, are the
+-- tree's, and the list of each processor is lean
 pub record IsLeanCode (r : Request) (t : Breakdown) (code : Code) : Type 0 where
-  pub phases : length code.lists ≡ (if r.procs == 1 then 1 else 2)
-  pub lists : (q : ℕ) → q < r.procs →
-      IsLeanList r t (flat_map (λ phase. acts code phase q) (range_with_len 0 (length code.lists)))
+  pub number : length code.lists ≡ (if r.procs == 1 then 1 else 2)
+  pub phases : List (List RequestPass)
+  pub passes : flat_map (λ ps. ps) phases ≡ request_passes r t
+  pub lists : (q : ℕ) → q < r.procs → IsLeanList r phases code q
 
--- The actions of each processor are one part for each pass of the tree; all processors together load and store exactly what the
--- passes do
+-- The actions of each processor are, phase by phase, one part for each pass of the tree; all processors together load and store
+-- exactly what the passes do
 pub record IsLean (r : Request) (t : Breakdown) (p : PlainProgram) : Type 0 where
   pub parts : IsLeanCode r t (plain_code p)
   pub loads : sum_below r.procs (λ q. (whole_counts (plain_code p) q).loads) ≡ whole_loads r t
