@@ -1,5 +1,5 @@
 -- A program on lanes stands within the limits of programs.
-use Rattle.std.proofs.Common.{◌≡◌, ℕ, ◌+◌, ◌*◌, ◌^◌, ◌<◌, ◌≤◌, Bool, true, false, not, refl, sym, ap, ap₂, ◌∙◌, arith, inl, inr, eqb-true, ltb-true, lt-ltb, leb-true, mul-le-mul_left}
+use Rattle.std.proofs.Common.{◌≡◌, ℕ, suc, ◌+◌, ◌*◌, ◌^◌, ◌<◌, ◌≤◌, Bool, true, false, not, refl, sym, ap, ap₂, ◌∙◌, arith, inl, inr, eqb-true, ltb-true, lt-ltb, leb-true, mul-le-mul_left}
 use Rattle.std.specs.Prelude.{◌&&◌, ◌==◌, nat_lt, nat_le, max, if◌then◌else◌}
 use Rattle.std.proofs.lemmas.Bool.{and_parts, and_from, cases_eq}
 use Rattle.icode.specs.Limits.{rank, next_rank, is_small, is_small_positive, is_part_within, are_parts_within, all_parts, part_parts, parts_depth, part_depth, is_expr_within, is_op_within}
@@ -36,7 +36,7 @@ module _ (v loop : ℕ) (some : 2 ≤ v) where
       let kept : PlainParts = AndParts (Var depth factor) (widened_parts v loop rest) in
       let two = and_parts (nat_lt depth n && is_small_positive factor) _ h in
       let part = and_parts (nat_lt depth n) (is_small_positive factor) two.0 in
-      let ranked = and_parts (nat_le least (1 + depth)) (are_parts_within rest n (2 + depth)) two.1 in
+      let ranked = and_parts (nat_le least (1 + depth)) (are_parts_within rest n (suc (1 + depth))) two.1 in
       elim (cases_eq depth loop) [
         | inl same ↦
             ap (λ parts. are_parts_within parts n least) (chosen depth loop wide kept same)
@@ -49,7 +49,7 @@ module _ (v loop : ℕ) (some : 2 ≤ v) where
             ap (λ parts. are_parts_within parts n least) (passed depth loop wide kept other)
             ∙ and_from (nat_lt depth n && is_small_positive factor) _ two.0
             (and_from (nat_le least (1 + depth)) _ ranked.0
-            (parts-within n (2 + depth) rest
+            (parts-within n (suc (1 + depth)) rest
             (ap (λ s. is_small (v * s)) (sym (passed depth loop factor (stride loop rest) other))
             ∙ small) ranked.1))
       ]
