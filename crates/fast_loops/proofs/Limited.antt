@@ -30,8 +30,8 @@ parts-lower (AndParts part rest) n least lower le h =
 pair-within : (loop a b n least : ℕ) (rest : PlainParts) → loop + 1 < n → least ≤ loop + 1 → is_small_positive a ≡ true → is_small_positive b ≡ true → are_parts_within rest n (loop + 3) ≡ true → are_parts_within (AndParts (Var loop a) (AndParts (Var (loop + 1) b) rest)) n least ≡ true
 pair-within loop a b n least rest deep le ea eb h =
     and_three (nat_lt loop n && is_small_positive a) (nat_le least (1 + loop)) _ (and_from (nat_lt loop n) _ (lt-ltb loop n (omega (arith, deep))) ea) (le-leb least (1 + loop) (omega (arith, le)))
-    (and_three (nat_lt (loop + 1) n && is_small_positive b) (nat_le (2 + loop) (1 + (loop + 1))) _ (and_from (nat_lt (loop + 1) n) _ (lt-ltb (loop + 1) n deep) eb) (le-leb (2 + loop) (1 + (loop + 1)) (omega arith))
-    (parts-lower rest n (loop + 3) (2 + (loop + 1)) (omega arith) h))
+    (and_three (nat_lt (loop + 1) n && is_small_positive b) (nat_le (suc (1 + loop)) (1 + (loop + 1))) _ (and_from (nat_lt (loop + 1) n) _ (lt-ltb (loop + 1) n deep) eb) (le-leb (suc (1 + loop)) (1 + (loop + 1)) (omega arith))
+    (parts-lower rest n (loop + 3) (suc (1 + (loop + 1))) (omega arith) h))
 
 -- one in front
 one-within : (depth a n least behind : ℕ) (rest : PlainParts) → depth < n → least ≤ depth + 1 → is_small_positive a ≡ true → depth + 2 ≤ behind → are_parts_within rest n behind ≡ true → are_parts_within (AndParts (Var depth a) rest) n least ≡ true
