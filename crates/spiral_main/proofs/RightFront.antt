@@ -1,5 +1,5 @@
 -- A call that is right in all that its command asks of it has the outcome Success, with the text that it calls for.
-use Rattle.std.proofs.Common.{◌≡◌, ◌≢◌, ◌≤◌, ℕ, true, false, List, [], length, take, None, Ok, Err, Result, cond, nat_le, nat_lt, refl, sym, ap, subst, ◌∙◌, arith, append-nil, inr}
+use Rattle.std.proofs.Common.{◌≡◌, ◌≢◌, ◌≤◌, ℕ, true, false, List, [], ◌∷◌, length, take, None, Ok, Err, Result, cond, nat_le, nat_lt, refl, sym, ap, subst, ◌∙◌, arith, append-nil, inr}
 use Rattle.std.proofs.lemmas.Grind.{common_steps}
 use Rattle.std.proofs.lemmas.List.{take_all}
 use Rattle.std.specs.List.{list_all}
@@ -12,7 +12,7 @@ use Rattle.request_text.specs.Turns.{named}
 use Rattle.spl_ast.specs.Formula.{Formula}
 use Rattle.spl_ast.specs.Formula as spl
 use Rattle.spl_ast.specs.Meaning as formulas
-use Rattle.runs.specs.Stream.{lines, vectors_of, bad_after, vectors_seen, data_vectors}
+use Rattle.runs.specs.Stream.{lines, vectors_of, bad_after, vectors_seen, data_answer, data_vectors}
 use Rattle.runs.proofs.StreamLemmas.{bad_behind, right_answer}
 use Rattle.spiral_words.specs.SpiralStatus.Fault.{status_of_stream}
 use Rattle.spiral_words.specs.declared.spiral_status.status.Status.{Status}
@@ -27,7 +27,8 @@ use Rattle.commands.specs.ListingCommands.Listed.{loaded, result_of}
 use Rattle.commands.specs.SpiralInput.Commands.{admitted}
 use Rattle.commands.specs.SpiralInput.Stage.{Stage}
 use Rattle.commands.specs.Equations.Front.{Front, line, ordered, part, room_behind, Work, by_front}
-use Rattle.commands.specs.Equations.Works.{all, writing, mapping}
+use Rattle.commands.specs.Equations.Convolve.{IsConvolveText, IsConvolverText, convolve_outcomes, convolve_work, convolver_outcomes, convolver_work}
+use Rattle.commands.specs.Equations.Works.{a_first, all, by_first, status_by, the_first, writing, mapping}
 use Rattle.commands.specs.Equations.Orders.{Planned, planned}
 use Rattle.commands.specs.Equations.Apply.{apply_outcomes, apply_work}
 use Rattle.spiral_main.specs.Outcome.{IsOutcome, Accounts}
@@ -167,3 +168,33 @@ right_success words bytes left before after s t own accounts read write memory =
     let found = accounts.answer (record { read = read; write = write; memory = memory }) in
     let same : found.0 ≡ t = one_text words bytes s Success found.0 t found.1 own in
     (one_status words bytes s Success found.0 t found.1 own, subst (λ u. Appends before after u) same found.2)
+
+-- By a list
+
+pub convolved_is_right : (schedule : Turns) (bytes : List ℕ) (plan : Planned) (h : List ℕ) (later : List (List ℕ))
+    (t : List ℕ) → IsRightConvLine (named schedule) bytes plan → HasWholeVectors (line 256) plan.request.size bytes
+    → request_vectors plan bytes ≡ h ∷ later → IsConvolveText plan (h ∷ later) t
+    → (convolve_outcomes schedule).answer bytes Success t
+convolved_is_right schedule bytes plan h later t right v same is =
+    let n = plan.request.size in
+    let m = plan.request.modulus in
+    let room = room_behind (line 256) bytes in
+    let behind = (line 256).behind bytes in
+    let seen : data_vectors n m room behind ≡ h ∷ later = right_vectors n m room behind v.few v.good ∙ same in
+    let ends : status_by a_first n (data_answer n room behind) (data_vectors n m room behind) ≡ Success =
+    ap (status_by a_first n (data_answer n room behind)) seen
+    ∙ ap status_of_stream (right_answer n room behind v.few v.good v.whole) in
+    front_answer (line 256) (conv_planned (named schedule)) convolve_work plan bytes Success t right.short
+    (orders_conv_plan (named schedule) bytes plan right)
+    (sym ends, subst (λ vectors. IsConvolveText plan vectors t) (sym seen) is)
+
+pub convolver_is_first : (schedule : Turns) (bytes : List ℕ) (plan : Planned) (h : List ℕ) (later : List (List ℕ))
+    (t : List ℕ) → IsRightConvLine (named schedule) bytes plan
+    → data_vectors plan.request.size plan.request.modulus (room_behind (line 256) bytes) ((line 256).behind bytes) ≡ h ∷ later
+    → IsConvolverText plan (h ∷ later) t → (convolver_outcomes schedule).answer bytes Success t
+convolver_is_first schedule bytes plan h later t right seen is =
+    let n = plan.request.size in
+    let answer = data_answer n (room_behind (line 256) bytes) ((line 256).behind bytes) in
+    front_answer (line 256) (conv_planned (named schedule)) convolver_work plan bytes Success t right.short
+    (orders_conv_plan (named schedule) bytes plan right)
+    (sym (ap (status_by the_first n answer) seen), subst (λ vectors. IsConvolverText plan vectors t) (sym seen) is)

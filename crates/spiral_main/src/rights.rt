@@ -1,5 +1,5 @@
 // Calls that are right in all that their command asks of them, and what they come to.
-ghost use Rattle.std.specs.Prelude.{◌≡◌, ◌≢◌, ◌≤◌, ℕ, List, [], ◌∷◌, ◌++◌, length, Ok, codes};
+ghost use Rattle.std.specs.Prelude.{◌≡◌, ◌≢◌, ◌≤◌, ℕ, List, [], ◌∷◌, ◌++◌, length, true, false, Ok, codes};
 ghost use Rattle.commands.specs.FormulaCommands.Letters as programs;
 ghost use Rattle.commands.specs.Emission.Whole.{emission};
 ghost use Rattle.c_print.specs.CText.{c_text_of};
@@ -13,12 +13,12 @@ ghost use Rattle.commands.specs.SpiralInput.Orders.{procs_in};
 ghost use Rattle.commands.specs.Equations.Front.{line, part};
 ghost use Rattle.commands.specs.Equations.Orders.{Planned};
 ghost use Rattle.spiral_main.specs.Outcome.{Accounts, IsOutcome};
-ghost use Rattle.spiral_main.specs.RightFront.{HasWholeVectors, IsRightFormulaLine, IsRightLine, request_vectors, vectors_behind};
+ghost use Rattle.spiral_main.specs.RightFront.{HasWholeVectors, IsRightConvLine, IsRightFormulaLine, IsRightLine, request_vectors, vectors_behind};
 ghost use Rattle.commands.specs.Equations.Sample.{sample_lines};
 ghost use Rattle.commands.specs.Equations.Trace.{run_lines};
 ghost use Rattle.spiral_words.specs.declared.spiral_status.status.Status.TheVariants.{Success, ReadFault, WriteFault, NoMemory};
 ghost use Rattle.spiral_words.specs.declared.spiral_status.status.Status.{Status as SpecStatus};
-ghost use Rattle.spiral_words.specs.Asked.{AsksModulus, AsksOrder, AsksSchedule, AsksSeed};
+ghost use Rattle.spiral_words.specs.Asked.{AsksCode, AsksModulus, AsksOrder, AsksSchedule, AsksSeed};
 ghost use Rattle.spiral_words.specs.CommandLine.{Names, Options};
 ghost use Rattle.spiral_words.specs.declared.Order.{Order as SpecOrder};
 ghost use Rattle.spl_ast.specs.Formula as formulas;
@@ -31,6 +31,15 @@ ghost use Rattle.plan_cert.specs.Table.{IsTableText};
 ghost use Rattle.matrix_meaning.specs.Asked.{asked_of};
 ghost use Rattle.commands.specs.Equations.Formula.{formula_text};
 ghost use Rattle.commands.specs.PlanText.{plan_text};
+ghost use Rattle.commands.specs.Checked.{certificate_limit, least_line};
+ghost use Rattle.commands.specs.Planned.{IsAdmitted};
+ghost use Rattle.commands.specs.SpiralInput.Asking.{spelt};
+ghost use Rattle.commands.specs.Emission.Whole.{conv_emission};
+ghost use Rattle.matrix_meaning.specs.Convolution.{convolution};
+ghost use Rattle.matrix_meaning.specs.declared.Request.{Request as SpecRequest};
+ghost use Rattle.plan_cert.specs.Verdict.{IsVerdict};
+ghost use Rattle.plan_cert.specs.declared.verdict.Verdict.TheVariants.{Least};
+ghost use Rattle.spiral_main.specs.Good.{vectors_read};
 
 /// An outcome that is Success is what a call comes to, unless a read or a write fails or memory runs out.
 pub fn outcomes_come()
@@ -130,4 +139,36 @@ pub fn exec_is_right()
         → HasWholeVectors (part 1048576) program.size bytes
         → IsOutcome words bytes Success (lines (result_of program)
         (vectors_behind (part 1048576) program.size program.modulus bytes)) }
+{}
+
+/// A right call of `check` has the outcome Success with the least cost, which the certificate proves.
+pub fn check_is_right()
+    ensures { (words : List (List ℕ)) (options : Options) (bytes : List ℕ) (request : SpecRequest) (cost : ℕ)
+        → Names words (codes "check") options
+        → length ((line 256).first bytes) ≤ 256
+        → spelt ((line 256).first bytes) (Ok request) → IsAdmitted request
+        → length ((line 256).behind bytes) ≤ certificate_limit
+        → IsVerdict request ((line 256).behind bytes) (Least cost)
+        → IsOutcome words bytes Success (least_line cost) }
+{}
+
+/// A right call of `convolve` has the outcome Success with a line for each vector behind the first, of its convolution
+/// with that one.
+pub fn convolve_is_right()
+    ensures { (words : List (List ℕ)) (options : Options) (bytes : List ℕ) (schedule : SpecSchedule) (plan : Planned)
+        (h : List ℕ) (later : List (List ℕ)) → Names words (codes "convolve") options
+        → AsksSchedule options schedule → AsksCode options false
+        → IsRightConvLine (named schedule) bytes plan → HasWholeVectors (line 256) plan.request.size bytes
+        → request_vectors plan bytes ≡ h ∷ later
+        → IsOutcome words bytes Success (lines (convolution plan.request.modulus plan.request.size h) later) }
+{}
+
+/// A right call of `convolve --code` has the outcome Success with the listing of the program that convolves with the
+/// first vector.
+pub fn convolver_is_right()
+    ensures { (words : List (List ℕ)) (options : Options) (bytes : List ℕ) (schedule : SpecSchedule) (plan : Planned)
+        (h : List ℕ) (later : List (List ℕ)) → Names words (codes "convolve") options
+        → AsksSchedule options schedule → AsksCode options true
+        → IsRightConvLine (named schedule) bytes plan → vectors_read plan bytes ≡ h ∷ later
+        → IsOutcome words bytes Success (listing_of (conv_emission plan.request plan.tree h)) }
 {}
