@@ -27,15 +27,15 @@ COMMANDS = [
     ("`code`", ["code_answers", "code_is_good", "code_is_lean", "code_is_right"]),
     ("`c`", ["c_answers", "c_is_good", "c_is_lean", "c_is_right"]),
     ("`cert`", ["cert_answers", "cert_is_right"]),
-    ("`check`", ["check_answers"]),
+    ("`check`", ["check_answers", "check_is_right"]),
     ("`run`", ["run_answers", "run_is_right"]),
     ("`trace`", ["trace_answers", "trace_is_good", "trace_is_lean", "trace_is_right"]),
     ("`sample`", ["sample_answers", "sample_is_right"]),
     ("`compile`", ["compile_answers", "compile_is_good", "compile_is_right"]),
     ("`apply`", ["apply_answers", "apply_is_right"]),
     ("`exec`", ["exec_answers", "exec_is_right"]),
-    ("`convolve`", ["convolve_answers"]),
-    ("`convolve --code`", ["convolver_answers", "convolver_is_good"]),
+    ("`convolve`", ["convolve_answers", "convolve_is_right"]),
+    ("`convolve --code`", ["convolver_answers", "convolver_is_good", "convolver_is_right"]),
     ("all commands at once", ["calls_have_one_status"]),
 ]
 LINK = {"Outcome.IsOutcome"}
