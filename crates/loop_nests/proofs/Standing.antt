@@ -21,7 +21,7 @@ use Rattle.sigma_spl.proofs.Within.{both-true, constant-small, limited}
 use Rattle.operators.specs.declared.tensor_paths.Tensor.TheVariants.{Blocks}
 use Rattle.operators.specs.TensorPaths.Path.{Path, size_under}
 use Rattle.loop_nests.specs.Ready.{AreReadyPasses, IsReadyNest, IsReadyPass}
-use Rattle.loop_nests.specs.Lifted.{AllFit, AllLift, AreLifted, AreRaised, CanLift, CanStand, SumsFit, behind, counts_under}
+use Rattle.loop_nests.specs.Lifted.{AllFit, AllLift, AreLifted, AreRaised, CanLift, CanStand, SumsFit, behind}
 use Rattle.loop_nests.specs.Parts.{IsPart}
 use Rattle.loop_nests.specs.Views.{from_last, plain_pass, plain_passes}
 use Rattle.std.proofs.Common.{Global}
@@ -51,7 +51,8 @@ copies-plain k some high =
       | inr several ↦
           let is : one_loop k ≡ Blocks k ∷ [] = grind (arith, nat_tests) in
           let cs : ℕ → ℕ = limits_of (copies (Blocks k ∷ [])) in
-          let item = both-true _ _ (limited 64 k cs (variable 1 0 (constant 0)) (variable-item 3 k cs 0 (omega (arith, some, several)) refl (omega arith)).small) refl in
+          let small = variable-item k cs 0 (omega (arith, some, several)) refl in
+          let item = both-true _ _ (limited 64 k cs (variable 1 0 (constant 0)) small) refl in
           subst (λ p. IsPlain k (copies p)) (sym is)
           (record {
             within = both-within _ _ item item;
@@ -176,12 +177,17 @@ behind-lifted [] n before zs none = each zs
         ∙ ap (λ es. record { counts = z.counts; work = z.work; gathers = map (λ e. joined (constant before) (renumbered 0 e)) z.gathers; multiplier = renumbered_places 0 z.multiplier; scatters = es }) (same-sums before z.scatters))
         (each xs)
 
-sums-fit : (counts : List ℕ) (n before : ℕ) (es : List Sum) → AreRaised counts [] n before es → SumsFit before es
-sums-fit counts n before [] h = tt
-sums-fit counts n before (e ∷ es) h = (subst (λ x. before + constant_of x < 2 ^ 64) (as-it-is e) h.0.joins, sums-fit counts n before es h.1)
+sums-fit : (depth n before : ℕ) (es : List Sum) → AreRaised depth [] n before es → SumsFit before es
+sums-fit depth n before [] h = tt
+sums-fit depth n before (e ∷ es) h =
+    (subst (λ x. before + constant_of x < 2 ^ 64) (as-it-is e) h.0.joins, sums-fit depth n before es h.1)
 
 pub all-fit : (path : Path) (n before : ℕ) (zs : List PlainNest) → length path ≡ 0 → AllLift path n before zs → AllFit before zs
 all-fit (t ∷ path) n before zs none h = absurd (omega (arith, none))
 all-fit [] n before [] none h = tt
 all-fit [] n before (z ∷ zs) none h =
-    (sums-fit (counts_under [] z) n before z.gathers h.0.gathers, sums-fit (counts_under [] z) n before z.scatters h.0.scatters, all-fit [] n before zs none h.1)
+    let depth = length z.counts + 2 in (
+      sums-fit depth n before z.gathers h.0.gathers,
+      sums-fit depth n before z.scatters h.0.scatters,
+      all-fit [] n before zs none h.1,
+    )

@@ -1,30 +1,25 @@
 -- Nests of a part, which can be made part of a larger array with words of 64 bits.
-use Rattle.std.specs.Prelude.{ℕ, ◌+◌, ◌-◌, ◌^◌, ◌<◌, ◌≤◌, List, [], ◌∷◌, ◌++◌, map, length, slice_index, Option, Some, None}
+use Rattle.std.specs.Prelude.{ℕ, ◌+◌, ◌^◌, ◌<◌, ◌≤◌, List, [], ◌∷◌, map, length, Option, Some, None}
 use Rattle.sigma_spl.specs.Merge.{copying, place_sum, renumbered}
 use Rattle.sigma_spl.specs.Nest.{PlainMultiplier, PlainNest}
-use Rattle.sigma_spl.specs.Work.{HasWords, work_size}
-use Rattle.perm_algebra.specs.Affine.{Sum, constant, joined, value}
-use Rattle.perm_algebra.specs.Fits.{IsAffine, Stays}
+use Rattle.perm_algebra.specs.Affine.{Sum, constant, joined}
 use Rattle.perm_algebra.specs.Room.{CanJoin, HasCounts, constant_of}
-use Rattle.operators.specs.TensorPaths.Path.{Path, count_of}
+use Rattle.operators.specs.TensorPaths.Path.{Path}
 use Rattle.loop_nests.specs.Placed.{CanPlace}
 
 -- a place of a part that begins behind so many words, in the whole
 abbrev pub raised : Path → ℕ → ℕ → Sum → Sum
 raised path n before e = place_sum path n 0 (joined (constant before) (renumbered (length path) e))
 
--- it can be made, where these are the limits of all variables, with those of the path
-pub record CanRaise (limits : List ℕ) (path : Path) (n before : ℕ) (e : Sum) : Type 0 where
-  pub counts : HasCounts (length limits - length path) e
-  pub affine : IsAffine (length limits) (slice_index limits) (renumbered (length path) e)
-  pub fits : Stays (slice_index limits) (λ vs. before + value (renumbered (length path) e) vs)
+-- it can be made, where so many variables have counts
+pub record CanRaise (depth : ℕ) (path : Path) (n before : ℕ) (e : Sum) : Type 0 where
+  pub counts : HasCounts depth e
   pub joins : CanJoin (constant before) (renumbered (length path) e)
-  pub named : CanPlace limits path n 0 (joined (constant before) (renumbered (length path) e))
+  pub placed : CanPlace path n 0 (joined (constant before) (renumbered (length path) e))
 
-abbrev pub AreRaised : List ℕ → Path → ℕ → ℕ → List Sum → Type 0
-AreRaised counts path n before [] = Unit {0}
-AreRaised counts path n before (e ∷ es) =
-    CanRaise counts path n before e × AreRaised counts path n before es
+abbrev pub AreRaised : ℕ → Path → ℕ → ℕ → List Sum → Type 0
+AreRaised depth path n before [] = Unit {0}
+AreRaised depth path n before (e ∷ es) = CanRaise depth path n before e × AreRaised depth path n before es
 
 abbrev pub AreCounted : ℕ → List Sum → Type 0
 AreCounted m [] = Unit {0}
@@ -34,15 +29,11 @@ abbrev pub IsCounted : ℕ → Option PlainMultiplier → Type 0
 IsCounted m None = Unit {0}
 IsCounted m (Some d) = AreCounted m d.places
 
--- what all variables of a lifted nest run below
-abbrev pub counts_under : Path → PlainNest → List ℕ
-counts_under path z = (map count_of path ++ z.counts) ++ work_size z.work ∷ work_size z.work ∷ []
-
+-- its places can be made; the variables are those of its loops, and of the rows and the columns of its work
 pub record CanLift (path : Path) (n before : ℕ) (z : PlainNest) : Type 0 where
-  pub words : HasWords z.work
-  pub gathers : AreRaised (counts_under path z) path n before z.gathers
-  pub scatters : AreRaised (counts_under path z) path n before z.scatters
-  pub multiplier : IsCounted (length (counts_under path z) - length path) z.multiplier
+  pub gathers : AreRaised (length z.counts + 2) path n before z.gathers
+  pub scatters : AreRaised (length z.counts + 2) path n before z.scatters
+  pub multiplier : IsCounted (length z.counts + 2) z.multiplier
 
 abbrev pub AllLift : Path → ℕ → ℕ → List PlainNest → Type 0
 AllLift path n before [] = Unit {0}

@@ -1,17 +1,13 @@
--- New nests: what their variables run below, and where their items stand.
-use Rattle.std.specs.Prelude.{ℕ, List, [], ◌∷◌, ◌++◌, length, map}
+-- New nests, and where their items stand.
+use Rattle.std.specs.Prelude.{ℕ, List, [], ◌∷◌, length, map}
 use Rattle.index_fn.specs.Mapping.{Mapping, at}
 use Rattle.operators.specs.Sum.{list_below}
 use Rattle.sigma_spl.specs.Merge.{items_in, items_out, new_nest, place_sum}
 use Rattle.sigma_spl.specs.Nest.{PlainNest}
 use Rattle.sigma_spl.specs.Work.{PlainWork, copy, work_size}
 use Rattle.perm_algebra.specs.Affine.{Sum, constant}
-use Rattle.operators.specs.TensorPaths.Path.{Path, count_of}
-use Rattle.loop_nests.specs.Placed.{AllNamed}
-
--- what the variables run below: those of the path's loops, and the two of work on n words
-abbrev pub new_limits : Path → ℕ → List ℕ
-new_limits path n = map count_of path ++ n ∷ n ∷ []
+use Rattle.operators.specs.TensorPaths.Path.{Path}
+use Rattle.loop_nests.specs.Placed.{AllCanPlace}
 
 -- where the items of some work are loaded from, and where they are stored
 abbrev pub loads_under : Path → PlainWork → List Sum
@@ -30,7 +26,7 @@ moved_nest path ks = new_nest path (copy (length ks)) (map constant ks)
 
 -- each of these places can be made with words
 abbrev pub CanMove : Path → List ℕ → Type 0
-CanMove path ks = AllNamed (new_limits path (length ks)) path (length ks) (map constant ks)
+CanMove path ks = AllCanPlace path (length ks) (map constant ks)
 
 -- a gather as a copy pass, word by word
 abbrev pub copied_by_word : ℕ → Mapping → List PlainNest

@@ -1,21 +1,20 @@
 // Nests of a part, under tensors behind the words before it.
-ghost use Rattle.std.specs.Prelude.{◌≡◌, ◌+◌, ◌-◌, ◌^◌, ◌<◌, ◌++◌, IfOk, All, map};
+ghost use Rattle.std.specs.Prelude.{◌≡◌, ◌+◌, ◌-◌, ◌^◌, ◌<◌, ◌++◌, IfOk, All, length, map};
 ghost use Rattle.std.specs.Option.{option_map};
 ghost use Rattle.sigma_spl.specs.Merge.{lifted, renumbered, renumbered_places};
 ghost use Rattle.sigma_spl.specs.Views.{plain_multiplier, plain_nest};
-ghost use Rattle.sigma_spl.specs.Work.{HasWords};
 ghost use Rattle.perm_algebra.specs.Affine.{constant, joined};
 ghost use Rattle.perm_algebra.specs.Room.{constant_of};
 ghost use Rattle.perm_algebra.specs.Views.{plain_sum};
 ghost use Rattle.operators.specs.TensorPaths.Path.{count_of};
-ghost use Rattle.loop_nests.specs.Lifted.{AllFit, CanLift, CanRaise, IsCounted, SumsFit, behind, counts_under, raised};
+ghost use Rattle.loop_nests.specs.Lifted.{AllFit, CanLift, CanRaise, IsCounted, SumsFit, behind, raised};
 ghost use Rattle.loop_nests.specs.Placed.{CanRenumber};
 
 use crate::placed::{placed, renumbered};
 use memory::NoMemory;
 use operators::Tensor;
 use perm_algebra::{Affine, both};
-use sigma_spl::{Multiplier, Nest, counts, limits};
+use sigma_spl::{Multiplier, Nest, counts};
 use smallvec::SmallVec;
 use std::alloc::Global;
 
@@ -31,7 +30,6 @@ pub(crate) fn lifted(
     ensures { IfOk result (λ z. plain_nest z ≡ lifted path.now size before (plain_nest nest)) }
 {
     let counts = counts_round(alloc, path, &nest.counts)?;
-    let limits = limits_under(alloc, path, &nest)?;
     let Nest {
         work,
         gathers,
@@ -39,10 +37,9 @@ pub(crate) fn lifted(
         scatters,
         ..
     } = nest;
-    let gathers = all_raised(alloc, &limits, path, size, before, &gathers)?;
-    let _count = limits.len();
+    let gathers = all_raised(alloc, path, size, before, &gathers)?;
     let multiplier = counted_on(alloc, path.len() as u64, multiplier)?;
-    let scatters = all_raised(alloc, &limits, path, size, before, &scatters)?;
+    let scatters = all_raised(alloc, path, size, before, &scatters)?;
     Ok(Nest {
         counts,
         work,
@@ -61,53 +58,40 @@ fn counts_round(alloc: Global, path: &[Tensor], inner: &[u64]) -> Result<SmallVe
     Ok(all)
 }
 
-// What all variables of the lifted nest run below.
-fn limits_under(alloc: Global, path: &[Tensor], nest: &Nest) -> Result<SmallVec<u64, 10>, NoMemory>
-    requires { HasWords (plain_nest nest.now).work }
-    ensures { IfOk result (λ limits. limits.items ≡ counts_under path.now (plain_nest nest.now)) }
-{
-    let counts = counts_round(alloc, path, &nest.counts)?;
-    let limits = limits(alloc, &counts, nest.work.size())?;
-    Ok(limits)
-}
-
 fn all_raised(
     alloc: Global,
-    limits: &[u64],
     path: &[Tensor],
     size: u64,
     before: u64,
     sums: &[Affine],
 ) -> Result<Vec<Affine>, NoMemory>
-    requires { All (λ e. CanRaise limits.now path.now size before (plain_sum e)) sums.now }
+    requires { All (λ e.
+        CanRaise (2 ^ 64 - length path.now) path.now size before (plain_sum e)) sums.now }
     ensures { IfOk result (λ es.
         map plain_sum es.items ≡ map (raised path.now size before) (map plain_sum sums.now)) }
 {
     let mut places = Vec::with_capacity(alloc, sums.len())?;
     for sum in sums {
-        let place = raised(alloc, limits, path, size, before, sum)?;
+        let place = raised(alloc, path, size, before, sum)?;
         places.push(place)?;
     }
     Ok(places)
 }
 
 // A place of the part, in the whole.
-#[tactic(auto, using(crate::proofs::Lifting::counts_are_words))]
 fn raised(
     alloc: Global,
-    limits: &[u64],
     path: &[Tensor],
     size: u64,
     before: u64,
     sum: &Affine,
 ) -> Result<Affine, NoMemory>
-    requires { CanRaise limits.now path.now size before (plain_sum sum.now) }
+    requires { CanRaise (2 ^ 64 - length path.now) path.now size before (plain_sum sum.now) }
     ensures { IfOk result (λ e. plain_sum e ≡ raised path.now size before (plain_sum sum.now)) }
 {
-    let _count = limits.len();
     let higher = renumbered(alloc, path.len() as u64, sum)?;
-    let behind = both(limits, Affine::Constant(before), higher);
-    let place = placed(alloc, limits, path, size, 0, behind)?;
+    let behind = both(Affine::Constant(before), higher);
+    let place = placed(alloc, path, size, 0, behind)?;
     Ok(place)
 }
 

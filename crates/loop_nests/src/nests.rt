@@ -13,14 +13,14 @@ ghost use Rattle.perm_algebra.specs.Affine.{constant};
 ghost use Rattle.perm_algebra.specs.Views.{plain_sum};
 ghost use Rattle.operators.specs.TensorPaths.Path.{size_under};
 ghost use Rattle.sigma_spl.specs.Words.{IsDefinedBelow};
-ghost use Rattle.loop_nests.specs.NewNests.{CanMove, copied_by_word, loads_under, moved_nest, natural_nest, new_limits, stores_under};
+ghost use Rattle.loop_nests.specs.NewNests.{CanMove, copied_by_word, loads_under, moved_nest, natural_nest, stores_under};
 
 use crate::placed::all_placed;
 use index_fn::Index;
 use memory::NoMemory;
 use operators::Tensor;
 use perm_algebra::Affine;
-use sigma_spl::{Multiplier, Nest, Work, copied_sums, counts, items_in, items_out, limits};
+use sigma_spl::{Multiplier, Nest, Work, copied_sums, counts, items_in, items_out};
 use smallvec::SmallVec;
 use std::alloc::Global;
 
@@ -34,9 +34,8 @@ pub fn natural_nest(alloc: Global, path: &[Tensor], work: Work) -> Result<Nest, 
     ensures { IfOk result (λ z. plain_nest z ≡ natural_nest path.now (plain_work work)) }
 {
     let counts = counts(alloc, path)?;
-    let limits = limits(alloc, &counts, work.size())?;
-    let gathers = loads(alloc, &limits, path, &work)?;
-    let scatters = stores(alloc, &limits, path, &work)?;
+    let gathers = loads(alloc, path, &work)?;
+    let scatters = stores(alloc, path, &work)?;
     Ok(Nest {
         counts,
         work,
@@ -48,13 +47,7 @@ pub fn natural_nest(alloc: Global, path: &[Tensor], work: Work) -> Result<Nest, 
 
 // Where the work's items are loaded from.
 #[tactic(auto, using(crate::proofs::Items::all_named, crate::proofs::Items::loads_named))]
-fn loads(
-    alloc: Global,
-    limits: &[u64],
-    path: &[Tensor],
-    work: &Work,
-) -> Result<Vec<Affine>, NoMemory>
-    requires limits { limits.now ≡ new_limits path.now (work_size (plain_work work.now)) }
+fn loads(alloc: Global, path: &[Tensor], work: &Work) -> Result<Vec<Affine>, NoMemory>
     requires words { HasWords (plain_work work.now) }
     requires rows { HasRows (plain_work work.now) }
     requires several { AreSeveral path.now }
@@ -64,19 +57,13 @@ fn loads(
         map plain_sum es.items ≡ loads_under path.now (plain_work work.now)) }
 {
     let items = items_in(alloc, work, path.len() as u64)?;
-    let places = all_placed(alloc, limits, path, work.size(), &items)?;
+    let places = all_placed(alloc, path, work.size(), &items)?;
     Ok(places)
 }
 
 // Where they are stored.
 #[tactic(auto, using(crate::proofs::Items::all_named, crate::proofs::Items::stores_named))]
-fn stores(
-    alloc: Global,
-    limits: &[u64],
-    path: &[Tensor],
-    work: &Work,
-) -> Result<Vec<Affine>, NoMemory>
-    requires limits { limits.now ≡ new_limits path.now (work_size (plain_work work.now)) }
+fn stores(alloc: Global, path: &[Tensor], work: &Work) -> Result<Vec<Affine>, NoMemory>
     requires words { HasWords (plain_work work.now) }
     requires rows { HasRows (plain_work work.now) }
     requires several { AreSeveral path.now }
@@ -86,7 +73,7 @@ fn stores(
         map plain_sum es.items ≡ stores_under path.now (plain_work work.now)) }
 {
     let items = items_out(alloc, work, path.len() as u64)?;
-    let places = all_placed(alloc, limits, path, work.size(), &items)?;
+    let places = all_placed(alloc, path, work.size(), &items)?;
     Ok(places)
 }
 
@@ -114,10 +101,9 @@ fn listed_nest(alloc: Global, path: &[Tensor], places: &[u64]) -> Result<Nest, N
     let size = places.len() as u64;
     let work = Work::Copy { size };
     let counts = counts(alloc, path)?;
-    let limits = limits(alloc, &counts, size)?;
     let items = numbers(alloc, places)?;
-    let gathers = all_placed(alloc, &limits, path, size, &items)?;
-    let scatters = stores(alloc, &limits, path, &work)?;
+    let gathers = all_placed(alloc, path, size, &items)?;
+    let scatters = stores(alloc, path, &work)?;
     Ok(Nest {
         counts,
         work,

@@ -13,18 +13,17 @@ use std::alloc::Global;
 /// The place of each item in the copy that the variables of the path name.
 pub(crate) fn all_placed(
     alloc: Global,
-    counts: &[u64],
     path: &[Tensor],
     size: u64,
     items: &[Affine],
 ) -> Result<Vec<Affine>, NoMemory>
-    requires { All (λ e. CanPlace counts.now path.now size 0 (plain_sum e)) items.now }
+    requires { All (λ e. CanPlace path.now size 0 (plain_sum e)) items.now }
     ensures { IfOk result (λ places.
         map plain_sum places.items ≡ map (place_sum path.now size 0) (map plain_sum items.now)) }
 {
     let mut places = Vec::with_capacity(alloc, items.len())?;
     for item in items {
-        let one = placed(alloc, counts, path, size, 0, copy(alloc, item)?)?;
+        let one = placed(alloc, path, size, 0, copy(alloc, item)?)?;
         places.push(one)?;
     }
     Ok(places)
@@ -33,31 +32,30 @@ pub(crate) fn all_placed(
 /// The place of an item in the copy that the variables from this one on name.
 pub(crate) fn placed(
     alloc: Global,
-    counts: &[u64],
     path: &[Tensor],
     size: u64,
     variable: u64,
     item: Affine,
 ) -> Result<Affine, NoMemory>
-    requires { CanPlace counts.now path.now size variable (plain_sum item) }
+    requires { CanPlace path.now size variable (plain_sum item) }
     ensures { IfOk result (λ place.
         plain_sum place ≡ place_sum path.now size variable (plain_sum item)) }
 {
     match path.split_first() {
         None => Ok(item),
         Some((tensor, rest)) => {
-            let inner = placed(alloc, counts, rest, size, variable + 1, item)?;
+            let inner = placed(alloc, rest, size, variable + 1, item)?;
             let end = Box::new(alloc, Affine::Constant(0))?;
             let copies = Affine::Variable(1, variable, end);
             match tensor {
                 Tensor::Blocks(_) => {
                     let whole = size_of_whole(rest, size);
-                    let begin = multiple(counts, whole, copies);
-                    Ok(both(counts, begin, inner))
+                    let begin = multiple(whole, copies);
+                    Ok(both(begin, inner))
                 }
                 Tensor::Columns(count) => {
-                    let begin = multiple(counts, *count, inner);
-                    Ok(both(counts, begin, copies))
+                    let begin = multiple(*count, inner);
+                    Ok(both(begin, copies))
                 }
             }
         }

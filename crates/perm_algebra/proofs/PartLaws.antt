@@ -16,6 +16,12 @@ most_quotient of g d f rest h m n positive below others e k fits = most_part (of
 pub turned_below : (r s i : ℕ) → 1 ≤ r → 1 ≤ s → i < r * s → r * (i % s) + i / s < r * s
 turned_below r s i r1 s1 h = omega (arith, mul-add-lt (i % s) r (i / s) s (mod_below i s s1) (div_below i s r s1 h))
 
+-- and so is that of two remainders
+pub remainders_below : (r s i : ℕ) → 1 ≤ r → 1 ≤ s → s * (i % r) + i % s < r * s
+remainders_below r s i r1 s1 =
+    let below = mul-add-lt (i % r) s (i % s) r (mod_below i r r1) (mod_below i s s1) in
+    let turned : r * s ≡ s * r = omega arith in omega (arith, below, turned)
+
 pub in_range_at : (cs vs : ℕ → ℕ) (d : ℕ) → InRange cs vs → vs d ≤ cs d - 1
 unfolding InRange
 in_range_at cs vs d range = range d

@@ -2,7 +2,7 @@
 use Rattle.std.proofs.Common.{◌≡◌, ℕ, zero, suc, ◌+◌, ◌*◌, ◌/◌, ◌%◌, ◌^◌, ◌<◌, ◌≤◌, arith, ap, ap₂, ◌∙◌, mod-eq_of_lt, mul-le-mul_left}
 use Rattle.std.specs.Prelude.{max}
 use Rattle.perm_algebra.specs.Affine.{Sum, constant, variable, remainder, quotient, value, peak, scaled, joined}
-use Rattle.perm_algebra.specs.Fits.{Agree, IsAffine, Stays}
+use Rattle.perm_algebra.specs.Fits.{IsAffine}
 use Rattle.perm_algebra.specs.Room.{constant_of, CanScale, CanJoin}
 use Rattle.perm_algebra.specs.Wrapped.{wrapped_multiple, raised, wrapped_sum}
 
@@ -11,11 +11,18 @@ part : (k f x a : ℕ) → k * (f * x + a) < 2 ^ 64 → k * f % 2 ^ 64 * x + k *
 part k f zero a fits = omega arith
 part k f (suc x) a fits = let fit : k * f < 2 ^ 64 = omega (arith, fits) in ap (λ g. g * suc x + k * a) (mod-eq_of_lt fit) ∙ omega arith
 
-value-multiple : (k : ℕ) (e : Sum) (vs : ℕ → ℕ) → k * value e vs < 2 ^ 64 → value (wrapped_multiple k e) vs ≡ k * value e vs
-value-multiple k (constant c) vs fits = mod-eq_of_lt fits
-value-multiple k (variable f d rest) vs fits = ap (λ a. k * f % 2 ^ 64 * vs d + a) (value-multiple k rest vs (omega (arith, fits))) ∙ part k f (vs d) (value rest vs) fits
-value-multiple k (remainder f of m rest) vs fits = ap (λ a. k * f % 2 ^ 64 * (value of vs % m) + a) (value-multiple k rest vs (omega (arith, fits))) ∙ part k f (value of vs % m) (value rest vs) fits
-value-multiple k (quotient f of m rest) vs fits = ap (λ a. k * f % 2 ^ 64 * (value of vs / m) + a) (value-multiple k rest vs (omega (arith, fits))) ∙ part k f (value of vs / m) (value rest vs) fits
+pub value_multiple : (k : ℕ) (e : Sum) (vs : ℕ → ℕ) → k * value e vs < 2 ^ 64 →
+    value (wrapped_multiple k e) vs ≡ k * value e vs
+value_multiple k (constant c) vs fits = mod-eq_of_lt fits
+value_multiple k (variable f d rest) vs fits =
+    ap (λ a. k * f % 2 ^ 64 * vs d + a) (value_multiple k rest vs (omega (arith, fits)))
+    ∙ part k f (vs d) (value rest vs) fits
+value_multiple k (remainder f of m rest) vs fits =
+    ap (λ a. k * f % 2 ^ 64 * (value of vs % m) + a) (value_multiple k rest vs (omega (arith, fits)))
+    ∙ part k f (value of vs % m) (value rest vs) fits
+value_multiple k (quotient f of m rest) vs fits =
+    ap (λ a. k * f % 2 ^ 64 * (value of vs / m) + a) (value_multiple k rest vs (omega (arith, fits)))
+    ∙ part k f (value of vs / m) (value rest vs) fits
 
 pub affine_multiple : (n : ℕ) (cs : ℕ → ℕ) (k : ℕ) (e : Sum) → IsAffine n cs e → IsAffine n cs (wrapped_multiple k e)
 affine_multiple n cs k (constant c) h = tt
@@ -42,11 +49,14 @@ value-raised c (variable f d rest) vs fits = let inner = value-raised c rest vs 
 value-raised c (remainder f of m rest) vs fits = let inner = value-raised c rest vs (omega (arith, fits)) in omega (arith, inner)
 value-raised c (quotient f of m rest) vs fits = let inner = value-raised c rest vs (omega (arith, fits)) in omega (arith, inner)
 
-value-sum : (a e : Sum) (vs : ℕ → ℕ) → value a vs + value e vs < 2 ^ 64 → value (wrapped_sum a e) vs ≡ value a vs + value e vs
-value-sum (constant c) e vs fits = value-raised c e vs fits
-value-sum (variable f d rest) e vs fits = let inner = value-sum rest e vs (omega (arith, fits)) in omega (arith, inner)
-value-sum (remainder f of m rest) e vs fits = let inner = value-sum rest e vs (omega (arith, fits)) in omega (arith, inner)
-value-sum (quotient f of m rest) e vs fits = let inner = value-sum rest e vs (omega (arith, fits)) in omega (arith, inner)
+pub value_sum : (a e : Sum) (vs : ℕ → ℕ) → value a vs + value e vs < 2 ^ 64 →
+    value (wrapped_sum a e) vs ≡ value a vs + value e vs
+value_sum (constant c) e vs fits = value-raised c e vs fits
+value_sum (variable f d rest) e vs fits = let inner = value_sum rest e vs (omega (arith, fits)) in omega (arith, inner)
+value_sum (remainder f of m rest) e vs fits =
+    let inner = value_sum rest e vs (omega (arith, fits)) in omega (arith, inner)
+value_sum (quotient f of m rest) e vs fits =
+    let inner = value_sum rest e vs (omega (arith, fits)) in omega (arith, inner)
 
 affine-raised : (n : ℕ) (cs : ℕ → ℕ) (c : ℕ) (e : Sum) → IsAffine n cs e → IsAffine n cs (raised c e)
 affine-raised n cs c (constant d) h = tt
@@ -71,11 +81,3 @@ sum_form (constant c) e h = raised-form c e h
 sum_form (variable f d rest) e h = ap (λ r. variable f d r) (sum_form rest e h)
 sum_form (remainder f of m rest) e h = ap (λ r. remainder f of m r) (sum_form rest e h)
 sum_form (quotient f of m rest) e h = ap (λ r. quotient f of m r) (sum_form rest e h)
-
--- ---- as the contracts say it
-
-pub multiple_value : (cs : ℕ → ℕ) (k : ℕ) (e : Sum) → Stays cs (λ vs. k * value e vs) → Agree cs (value (wrapped_multiple k e)) (λ vs. k * value e vs)
-multiple_value cs k e fits vs range = value-multiple k e vs (fits vs range)
-
-pub sum_value : (cs : ℕ → ℕ) (a e : Sum) → Stays cs (λ vs. value a vs + value e vs) → Agree cs (value (wrapped_sum a e)) (λ vs. value a vs + value e vs)
-sum_value cs a e fits vs range = value-sum a e vs (fits vs range)

@@ -52,8 +52,8 @@ pub fn simplify(alloc: Global, f: &Index, arg: &Affine, counts: &[u64]) -> Resul
         }
         Index::Constant(value) => Ok(Affine::Constant(*value)),
         Index::Stride(base, step) => {
-            let by_step = multiple(counts, *step, copy(alloc, arg)?);
-            Ok(both(counts, Affine::Constant(*base), by_step))
+            let by_step = multiple(*step, copy(alloc, arg)?);
+            Ok(both(Affine::Constant(*base), by_step))
         }
         Index::StridePermutation(r, s) => {
             let sum = turn(alloc, counts, *r, *s, arg)?;
@@ -76,7 +76,7 @@ pub fn simplify(alloc: Global, f: &Index, arg: &Affine, counts: &[u64]) -> Resul
             let Parts { quot, rem } = divide(alloc, counts, arg, *d)?;
             let left = simplify(alloc, f, &quot, counts)?;
             let right = simplify(alloc, g, &rem, counts)?;
-            Ok(both(counts, multiple(counts, *c, left), right))
+            Ok(both(multiple(*c, left), right))
         }
         Index::Composed(f, g) => {
             let inner = simplify(alloc, g, arg, counts)?;
@@ -100,7 +100,7 @@ fn turn(alloc: Global, counts: &[u64], r: u64, s: u64, arg: &Affine) -> Result<A
         → IfOk result (IsSimplified counts.now (Strided r s) arg.now) }
 {
     let Parts { quot, rem } = divide(alloc, counts, arg, s)?;
-    Ok(both(counts, multiple(counts, r, rem), quot))
+    Ok(both(multiple(r, rem), quot))
 }
 
 /// What the quotient and the remainder are multiplied by.
@@ -132,14 +132,15 @@ fn mix(
         → IfOk result (IsSimplified counts.now (ThomasBack r s by.quot by.rem) arg.now) }
 {
     let Parts { quot, rem } = divide(alloc, counts, arg, s)?;
-    let quot = multiple(counts, by.quot, quot);
-    let rem = multiple(counts, by.rem, rem);
-    let both = both(counts, quot, rem);
+    let quot = multiple(by.quot, quot);
+    let rem = multiple(by.rem, rem);
+    let both = both(quot, rem);
     let sum = reduce(alloc, counts, r * s, &both)?;
     Ok(sum)
 }
 
 // The remainder by `r`, times `s`, and the remainder by `s`.
+#[tactic(auto, using(crate::proofs::PartLaws::remainders_below))]
 fn remainders(
     alloc: Global,
     counts: &[u64],
@@ -158,9 +159,9 @@ fn remainders(
         → IfOk result (IsSimplified counts.now (ThomasOut r s) arg.now) }
 {
     let Parts { quot: _, rem } = divide(alloc, counts, arg, r)?;
-    let left = multiple(counts, s, rem);
+    let left = multiple(s, rem);
     let Parts { quot: _, rem } = divide(alloc, counts, arg, s)?;
-    Ok(both(counts, left, rem))
+    Ok(both(left, rem))
 }
 
 /// A simplified sum has the function's value: a law of the definitions.

@@ -1,6 +1,6 @@
-ghost use Rattle.std.specs.Prelude.{◌≡◌, ◌+◌, ◌*◌, ◌^◌, ◌<◌, IfOk};
-ghost use Rattle.perm_algebra.specs.Affine.{scaled, joined};
-ghost use Rattle.perm_algebra.specs.Contract.{EachTwo, EachValue, IsImage, IsImageOfTwo, IsSumOver};
+ghost use Rattle.std.specs.Prelude.{◌≡◌, ℕ, ◌+◌, ◌*◌, ◌^◌, ◌<◌, List, IfOk};
+ghost use Rattle.perm_algebra.specs.Affine.{scaled, joined, value};
+ghost use Rattle.perm_algebra.specs.Contract.{IsSumOver};
 ghost use Rattle.perm_algebra.specs.Room.{CanScale, CanJoin};
 ghost use Rattle.perm_algebra.specs.Views.{plain_sum};
 ghost use Rattle.perm_algebra.specs.Wrapped.{raised, wrapped_multiple, wrapped_sum};
@@ -32,17 +32,14 @@ pub fn copy(alloc: Global, sum: &Affine) -> Result<Affine, NoMemory>
     })
 }
 
-/// `k` times the sum, where each variable runs below its count. A part whose factor would not fit is always 0, whatever
-/// its factor is then.
-#[tactic(auto, using(crate::proofs::WrappedLaws::multiple_value, crate::proofs::WrappedLaws::affine_multiple, crate::proofs::WrappedLaws::multiple_form))]
-pub fn multiple(counts: &[u64], k: u64, sum: Affine) -> Affine
-    requires affine { IsSumOver counts.now sum }
-    requires fits { EachValue counts.now (λ i. k * i < 2 ^ 64) sum }
-    ensures value { IsImage counts.now (λ i. k * i) sum result }
-    ensures affine { IsSumOver counts.now result }
+/// `k` times the sum, wherever that fits. A part whose factor would not fit is 0 there, whatever its factor becomes.
+#[tactic(auto, using(crate::proofs::WrappedLaws::value_multiple, crate::proofs::WrappedLaws::affine_multiple, crate::proofs::WrappedLaws::multiple_form))]
+pub fn multiple(k: u64, sum: Affine) -> Affine
+    ensures value { (vs : ℕ → ℕ) → k * value (plain_sum sum) vs < 2 ^ 64
+        → value (plain_sum result) vs ≡ k * value (plain_sum sum) vs }
+    ensures affine { (counts : List ℕ) → IsSumOver counts sum → IsSumOver counts result }
     ensures form { CanScale k (plain_sum sum) → plain_sum result ≡ scaled k (plain_sum sum) }
 {
-    let _count = counts.len();
     let mut multiple = sum;
     multiply(k, &mut multiple);
     multiple
@@ -68,18 +65,16 @@ fn multiply(k: u64, sum: &mut Affine)
     }
 }
 
-/// The sum of two sums.
-#[tactic(auto, using(crate::proofs::WrappedLaws::sum_value, crate::proofs::WrappedLaws::affine_sum, crate::proofs::WrappedLaws::sum_form))]
-pub fn both(counts: &[u64], a: Affine, b: Affine) -> Affine
-    requires affine { IsSumOver counts.now a }
-    requires affine_too { IsSumOver counts.now b }
-    requires fits { EachTwo counts.now (λ i j. i + j < 2 ^ 64) a b }
-    ensures value { IsImageOfTwo counts.now (λ i j. i + j) a b result }
-    ensures affine { IsSumOver counts.now result }
+/// The sum of two sums, wherever that fits.
+#[tactic(auto, using(crate::proofs::WrappedLaws::value_sum, crate::proofs::WrappedLaws::affine_sum, crate::proofs::WrappedLaws::sum_form))]
+pub fn both(a: Affine, b: Affine) -> Affine
+    ensures value { (vs : ℕ → ℕ) → value (plain_sum a) vs + value (plain_sum b) vs < 2 ^ 64
+        → value (plain_sum result) vs ≡ value (plain_sum a) vs + value (plain_sum b) vs }
+    ensures affine { (counts : List ℕ) → IsSumOver counts a → IsSumOver counts b
+        → IsSumOver counts result }
     ensures form { CanJoin (plain_sum a) (plain_sum b)
         → plain_sum result ≡ joined (plain_sum a) (plain_sum b) }
 {
-    let _count = counts.len();
     let mut both = a;
     append(&mut both, b);
     both

@@ -1,11 +1,15 @@
 -- Multiples of sums, put together.
 use Rattle.std.specs.Prelude.{ℕ, Bool, ◌&&◌}
-use Rattle.perm_algebra.specs.Affine.{Sum, joined, reduced, scaled}
+use Rattle.perm_algebra.specs.Affine.{Sum, constant, joined, reduced, scaled}
 use Rattle.perm_algebra.specs.Room.{can_join, can_scale}
 
 -- a times one sum, and another, where each factor and the constant fit
 abbrev pub can_scale_and_join : ℕ → Sum → Sum → Bool
 can_scale_and_join a e g = can_scale a e && can_join (scaled a e) g
+
+-- a base and a multiple of a sum, where each factor and the constant fit
+abbrev pub can_line : ℕ → ℕ → Sum → Bool
+can_line base by e = can_scale by e && can_join (constant base) (scaled by e)
 
 -- a times one sum and b times another, modulo n
 abbrev pub mixed : (ℕ → ℕ) → ℕ → ℕ → ℕ → Sum → Sum → Sum

@@ -1,14 +1,13 @@
-ghost use Rattle.std.specs.Prelude.{◌≡◌, ℕ, ◌+◌, ◌*◌, ◌/◌, ◌%◌, ◌^◌, ◌<◌, true, false, slice_index};
+ghost use Rattle.std.specs.Prelude.{◌≡◌, ℕ, ◌+◌, ◌*◌, ◌/◌, ◌%◌, ◌^◌, ◌<◌, List, true, false, slice_index};
 ghost use Rattle.std.specs.Option.{ForNone, ForSome};
 ghost use Rattle.index_fn.specs.Index.{mapping_of};
-ghost use Rattle.index_fn.specs.Mapping.{IsDefinedAt, IsWellFormed, Line, Strided, ThomasBack, ThomasOut, at};
-ghost use Rattle.perm_algebra.specs.Affine.{HasNoList, constant, divided, joined, mods, reduced, scaled, simplified, value};
+ghost use Rattle.index_fn.specs.Mapping.{IsDefinedAt, IsWellFormed, Strided, ThomasBack, ThomasOut, at};
+ghost use Rattle.perm_algebra.specs.Affine.{HasNoList, constant, divided, joined, mods, reduced, scaled, value};
 ghost use Rattle.perm_algebra.specs.Contract.{EachTwo, EachValue, FitsOver, IsImage, IsImageOfTwo, IsSimplified, IsSumOver};
-ghost use Rattle.perm_algebra.specs.Fits.{InRange};
-ghost use Rattle.perm_algebra.specs.Room.{can_divide, can_join, can_mix, can_scale, constant_of, has_room, has_top};
+ghost use Rattle.perm_algebra.specs.Room.{can_divide, can_join, can_mix, can_scale, constant_of, has_top};
 ghost use Rattle.perm_algebra.specs.Views.{plain_sum};
 ghost use Rattle.loop_nests.specs.SumLimits.Contract.{has_room_over};
-ghost use Rattle.loop_nests.specs.SumLimits.Mixes.{can_scale_and_join, mixed};
+ghost use Rattle.loop_nests.specs.SumLimits.Mixes.{can_line, can_scale_and_join, mixed};
 ghost use Rattle.loop_nests.specs.SumLimits.Outcomes.{IfMade, IfRefused};
 
 use crate::sum_limits::{greatest_factor, top_of};
@@ -47,7 +46,7 @@ pub fn simplify_in_room(
     match f {
         Index::Identity => Ok(Some(copy(alloc, arg)?)),
         Index::Constant(value) => Ok(Some(Affine::Constant(*value))),
-        Index::Stride(base, step) => Ok(line(alloc, counts, *base, *step, arg)?),
+        Index::Stride(base, step) => Ok(line(alloc, *base, *step, arg)?),
         Index::StridePermutation(r, s) => Ok(turn(alloc, counts, *r, *s, arg)?),
         Index::ThomasIn(r, s) => {
             let by = Multiples { quot: *s, rem: *r };
@@ -69,7 +68,7 @@ pub fn simplify_in_room(
             let Some(right) = simplify_in_room(alloc, g, &rem, counts)? else {
                 return Ok(None);
             };
-            Ok(scale_and_join(counts, *c, left, right))
+            Ok(scale_and_join(*c, left, right))
         }
         Index::Composed(f, g) => {
             let Some(inner) = simplify_in_room(alloc, g, arg, counts)? else {
@@ -81,26 +80,20 @@ pub fn simplify_in_room(
 }
 
 // A base, and a multiple of the place.
-fn line(
-    alloc: Global,
-    counts: &[u64],
-    base: u64,
-    step: u64,
-    arg: &Affine,
-) -> Result<Option<Affine>, NoMemory>
-    requires affine { IsSumOver counts.now arg.now }
-    requires fits { EachValue counts.now (λ i. base + step * i < 2 ^ 64) arg.now }
-    ensures some { IfMade result (IsSimplified counts.now (Line base step) arg.now) }
-    ensures room { IfMade result
-        (λ sum. has_room_over counts.now (Line base step) arg.now ≡ true) }
-    ensures none { IfRefused result (has_room_over counts.now (Line base step) arg.now ≡ false) }
-    ensures value { IfMade result (IsImage counts.now (λ i. base + step * i) arg.now) }
-    ensures affine { IfMade result (IsSumOver counts.now) }
+fn line(alloc: Global, base: u64, step: u64, arg: &Affine) -> Result<Option<Affine>, NoMemory>
+    ensures some { IfMade result (λ sum.
+        plain_sum sum ≡ joined (constant base) (scaled step (plain_sum arg.now))) }
+    ensures room { IfMade result (λ sum. can_line base step (plain_sum arg.now) ≡ true) }
+    ensures none { IfRefused result (can_line base step (plain_sum arg.now) ≡ false) }
+    ensures value { IfMade result (λ sum. (vs : ℕ → ℕ) →
+        value (plain_sum sum) vs ≡ base + step * value (plain_sum arg.now) vs) }
+    ensures affine { (counts : List ℕ) →
+        IsSumOver counts arg.now → IfMade result (IsSumOver counts) }
 {
-    let Some(multiple) = scale_in_room(counts, step, copy(alloc, arg)?) else {
+    let Some(multiple) = scale_in_room(step, copy(alloc, arg)?) else {
         return Ok(None);
     };
-    Ok(join_in_room(counts, Affine::Constant(base), multiple))
+    Ok(join_in_room(Affine::Constant(base), multiple))
 }
 
 // `r` times the remainder by `s`, and the quotient.
@@ -126,7 +119,7 @@ fn turn(
     let Some(Parts { quot, rem }) = divide_in_room(alloc, counts, arg, s)? else {
         return Ok(None);
     };
-    Ok(scale_and_join(counts, r, rem, quot))
+    Ok(scale_and_join(r, rem, quot))
 }
 
 // The remainder by `r`, times `s`, and the remainder by `s`.
@@ -154,7 +147,7 @@ fn remainders(
     let Some(Parts { quot: _, rem: last }) = divide_in_room(alloc, counts, arg, s)? else {
         return Ok(None);
     };
-    Ok(scale_and_join(counts, s, rem, last))
+    Ok(scale_and_join(s, rem, last))
 }
 
 // These multiples of the quotient and of the remainder by `s`, modulo `r * s`.
@@ -214,13 +207,13 @@ fn mix(
     ensures affine { IfMade result (IsSumOver counts.now) }
 {
     let Parts { quot, rem } = parts;
-    let Some(quot) = scale_in_room(counts, by.quot, quot) else {
+    let Some(quot) = scale_in_room(by.quot, quot) else {
         return Ok(None);
     };
-    let Some(rem) = scale_in_room(counts, by.rem, rem) else {
+    let Some(rem) = scale_in_room(by.rem, rem) else {
         return Ok(None);
     };
-    let Some(both) = join_in_room(counts, quot, rem) else {
+    let Some(both) = join_in_room(quot, rem) else {
         return Ok(None);
     };
     let sum = reduce_in_room(alloc, counts, n, &both)?;
@@ -290,52 +283,49 @@ fn reduce_in_room(
 }
 
 // `k` times the sum, if each factor fits.
-fn scale_in_room(counts: &[u64], k: u64, sum: Affine) -> Option<Affine>
-    requires affine { IsSumOver counts.now sum }
-    requires fits { EachValue counts.now (λ i. k * i < 2 ^ 64) sum }
+fn scale_in_room(k: u64, sum: Affine) -> Option<Affine>
     ensures some { ForSome result (λ a. plain_sum a ≡ scaled k (plain_sum sum)) }
     ensures room { ForSome result (λ a. can_scale k (plain_sum sum) ≡ true) }
     ensures none { ForNone result (can_scale k (plain_sum sum) ≡ false) }
-    ensures value { ForSome result (IsImage counts.now (λ i. k * i) sum) }
-    ensures affine { ForSome result (IsSumOver counts.now) }
+    ensures value { ForSome result (λ a. (vs : ℕ → ℕ) →
+        value (plain_sum a) vs ≡ k * value (plain_sum sum) vs) }
+    ensures affine { (counts : List ℕ) → IsSumOver counts sum → ForSome result (IsSumOver counts) }
 {
     if k.checked_mul(greatest_factor(&sum)).is_none() {
         return None;
     }
-    Some(multiple(counts, k, sum))
+    Some(multiple(k, sum))
 }
 
 // `k` times a sum, and another, if each factor and the constant fit.
-fn scale_and_join(counts: &[u64], k: u64, a: Affine, b: Affine) -> Option<Affine>
-    requires affine { IsSumOver counts.now a }
-    requires affine_too { IsSumOver counts.now b }
-    requires fits { EachTwo counts.now (λ i j. k * i + j < 2 ^ 64) a b }
+fn scale_and_join(k: u64, a: Affine, b: Affine) -> Option<Affine>
     ensures some { ForSome result (λ c.
         plain_sum c ≡ joined (scaled k (plain_sum a)) (plain_sum b)) }
     ensures room { ForSome result (λ c. can_scale_and_join k (plain_sum a) (plain_sum b) ≡ true) }
     ensures none { ForNone result (can_scale_and_join k (plain_sum a) (plain_sum b) ≡ false) }
-    ensures value { ForSome result (IsImageOfTwo counts.now (λ i j. k * i + j) a b) }
-    ensures affine { ForSome result (IsSumOver counts.now) }
+    ensures value { ForSome result (λ c. (vs : ℕ → ℕ) →
+        value (plain_sum c) vs ≡ k * value (plain_sum a) vs + value (plain_sum b) vs) }
+    ensures affine { (counts : List ℕ) → IsSumOver counts a → IsSumOver counts b
+        → ForSome result (IsSumOver counts) }
 {
-    let multiple = scale_in_room(counts, k, a)?;
-    join_in_room(counts, multiple, b)
+    let multiple = scale_in_room(k, a)?;
+    join_in_room(multiple, b)
 }
 
 // The sum of two sums, if its constant fits.
-fn join_in_room(counts: &[u64], a: Affine, b: Affine) -> Option<Affine>
-    requires affine { IsSumOver counts.now a }
-    requires affine_too { IsSumOver counts.now b }
-    requires fits { EachTwo counts.now (λ i j. i + j < 2 ^ 64) a b }
+fn join_in_room(a: Affine, b: Affine) -> Option<Affine>
     ensures some { ForSome result (λ c. plain_sum c ≡ joined (plain_sum a) (plain_sum b)) }
     ensures room { ForSome result (λ c. can_join (plain_sum a) (plain_sum b) ≡ true) }
     ensures none { ForNone result (can_join (plain_sum a) (plain_sum b) ≡ false) }
-    ensures value { ForSome result (IsImageOfTwo counts.now (λ i j. i + j) a b) }
-    ensures affine { ForSome result (IsSumOver counts.now) }
+    ensures value { ForSome result (λ c. (vs : ℕ → ℕ) →
+        value (plain_sum c) vs ≡ value (plain_sum a) vs + value (plain_sum b) vs) }
+    ensures affine { (counts : List ℕ) → IsSumOver counts a → IsSumOver counts b
+        → ForSome result (IsSumOver counts) }
 {
     if constant_of(&a).checked_add(constant_of(&b)).is_none() {
         return None;
     }
-    Some(both(counts, a, b))
+    Some(both(a, b))
 }
 
 fn constant_of(sum: &Affine) -> u64

@@ -1,4 +1,4 @@
-use Rattle.std.proofs.Common.{sym, ap, ◌∙◌, subst}
+use Rattle.std.proofs.Common.{sym, ap, ◌∙◌, rules, subst}
 use Rattle.std.specs.Prelude.{slice_index}
 use Rattle.index_fn.specs.Index.{mapping_of}
 use Rattle.index_fn.specs.Mapping.{IsDefinedAt}
@@ -36,3 +36,10 @@ returns-in-Constant-clause-room t c = λ x e.
     (subst (EachValue c.args.counts.now (IsDefinedAt f)) c.in-Constant.is c.requires.defined) in
     ap (λ a. has_room cs f (plain_sum a)) c.in-Constant.is
     ∙ number_room cs f number c.requires.formed c.requires.no_list there
+
+pub returns-in_ok-line-in-Stride-clause-affine : goal.returns-in_ok-line-in-Stride-clause-affine
+returns-in_ok-line-in-Stride-clause-affine t c =
+    c.in_ok-line-in-Stride.ensures.affine c.args.counts.now c.requires.affine
+
+pub returns-in-Some-3-clause-affine : goal.returns-in-Some-3-clause-affine
+returns-in-Some-3-clause-affine t c = c.scale_and_join.ensures.affine c.args.counts.now (search rules) (search rules)
