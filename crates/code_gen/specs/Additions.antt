@@ -5,7 +5,8 @@ use Rattle.std.proofs.Common.{Global}
 use Rattle.index_fn.specs.Mapping.{at}
 use Rattle.operators.specs.Sum.{list_below}
 use Rattle.code_gen.specs.PassCode.Program.{tables_of_phases, tables_through}
-use Rattle.code_gen.specs.PassCode.Statements.{diagonal_of, one_factor, tables_after, tables_of_multiplier, tables_of_nest, tables_of_work, with_diagonal, with_table}
+use Rattle.code_gen.specs.PassCode.Statements.{diagonal_of, one_factor, tables_after, tables_of_multiplier}
+use Rattle.code_gen.specs.PassCode.Statements.{tables_of_nest, tables_of_work, with_diagonal, with_table}
 use Rattle.sigma_spl.specs.Nest.{inner_of}
 use Rattle.sigma_spl.specs.Views.{plain_factors, plain_multiplier, plain_nest, plain_work}
 use Rattle.sigma_spl.specs.declared.nest.Factors.{Factors}

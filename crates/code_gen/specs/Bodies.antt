@@ -6,7 +6,9 @@ use Rattle.icode.specs.declared.program.Stmt.{Stmt}
 use Rattle.kernel_gen.specs.Kernels.{made_of}
 use Rattle.kernel_gen.specs.declared.straight.Kernel.{Kernel}
 use Rattle.sigma_spl.specs.Shared.Machine.{frame_of}
-use Rattle.code_gen.specs.PassCode.Statements.{do_only, finish_body, followed_by, horner_body, in_a_row, items_body, loads_body, made_body, one_factor, place_at, product_op, rows_body, term_body, tile_body, work_body}
+use Rattle.code_gen.specs.PassCode.Statements.{do_only, finish_body, followed_by, horner_body, in_a_row, items_body}
+use Rattle.code_gen.specs.PassCode.Statements.{loads_body, made_body, one_factor, place_at, product_op, rows_body}
+use Rattle.code_gen.specs.PassCode.Statements.{term_body, tile_body, work_body}
 use Rattle.sigma_spl.specs.Views.{plain_multiplier, plain_nest}
 use Rattle.sigma_spl.specs.declared.nest.Multiplier.{Multiplier}
 use Rattle.sigma_spl.specs.declared.nest.Nest.{Nest}

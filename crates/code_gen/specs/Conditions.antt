@@ -5,7 +5,8 @@ use Rattle.sigma_spl.specs.Shared.Running.{CanRunNest}
 use Rattle.operators.specs.declared.target.Target.{Target}
 use Rattle.code_gen.specs.PassCode.Conditions.{CanWrite, CanWriteNest}
 use Rattle.sigma_spl.specs.Merged.{PlainMerged}
-use Rattle.sigma_spl.specs.Nest.{PlainFactors, values, twiddles, repeated, spread, PlainMultiplier, PlainNest, factor_count}
+use Rattle.sigma_spl.specs.Nest.{PlainFactors, values, twiddles, repeated, spread, PlainMultiplier, PlainNest}
+use Rattle.sigma_spl.specs.Nest.{factor_count}
 use Rattle.perm_algebra.specs.Affine.{Sum}
 use Rattle.operators.specs.TensorPaths.Path.{size_under}
 

@@ -22,8 +22,8 @@ both_halves r cost = 2 * cost + mul_cost_of r * r.size
 abbrev pub conv_cost : Request → Breakdown → ℕ
 conv_cost r t = both_halves r (whole_cost r t)
 
--- The tree of both transforms, which is the first of the cheapest and within the budget; or the first cause to refuse the request: the
--- root is none of the size, a power sum is not 0, or the least cost is over the budget
+-- The tree of both transforms, which is the first of the cheapest and within the budget; or the first cause to refuse
+-- the request: the root is none of the size, a power sum is not 0, or the least cost is over the budget
 abbrev pub IsConvPlanned : Request → Result Breakdown ConvFault → Type 0
 IsConvPlanned r (Ok t) = IsRooted r × HasPrincipalRoot r × IsWholeChosen r t × (conv_cost r t ≤ r.budget)
 IsConvPlanned r (Err (Root power)) = bad_power r ≡ Some power

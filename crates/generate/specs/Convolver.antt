@@ -11,9 +11,9 @@ use Rattle.tree_model.specs.Breakdown.{Breakdown}
 use Rattle.tree_model.specs.Passes.{loads_of, stores_of}
 use Rattle.generate.specs.ConvPlanned.{conv_cost}
 
--- Whatever the vector and whatever turns come first, the program leaves the convolution of the list h and the vector, in
--- one phase, in exactly the operations of two transforms by the tree and a multiplication for each item, and twice the
--- tree's loads and stores. It stands within the limits of listings, and every place that it names is there
+-- Whatever the vector and whatever turns come first, the program leaves the convolution of the list h and the vector,
+-- in one phase, in exactly the operations of two transforms by the tree and a multiplication for each item, and twice
+-- the tree's loads and stores. It stands within the limits of listings, and every place that it names is there
 pub record IsConvolver (r : Request) (t : Breakdown) (h : List ℕ) (p : PlainProgram) : Type 0 where
   pub header : HasHeader r p
   pub limits : IsWithinLimits p

@@ -19,12 +19,14 @@ pub record IsVector (r : Request) (x : List ℕ) : Type 0 where
   pub size : length x ≡ r.size
   pub residues : All (λ v. v < r.modulus) x
 
--- Whatever the vector and whatever turns its processors take first, the program leaves the transform of the vector that the request
--- asks for. In no phase does a processor touch a line that another writes. The operations of all processors together, where a
--- multiplication counts as the request's weight, are the least cost, in equal shares. Every place that it names is there
+-- Whatever the vector and whatever turns its processors take first, the program leaves the
+-- transform of the vector that the request asks for. In no phase does a processor touch a line
+-- that another writes. The operations of all processors together, where a multiplication counts as
+-- the request's weight, are the least cost, in equal shares. Every place that it names is there
 pub record IsGood (r : Request) (least : ℕ) (p : PlainProgram) : Type 0 where
   pub header : HasHeader r p
   pub fits : PlainFits p
-  pub product : (x turns : List ℕ) → IsVector r x → All (λ q. q < r.procs) turns → results (plain_code p) x turns ≡ asked_of r x
+  pub product : (x turns : List ℕ) → IsVector r x → All (λ q. q < r.procs) turns →
+      results (plain_code p) x turns ≡ asked_of r x
   pub apart : (phase : ℕ) → IsApart (plain_code p) phase
   pub operations : (q : ℕ) → q < r.procs → r.procs * weighted r.weight (whole_counts (plain_code p) q) ≡ least

@@ -17,8 +17,8 @@ use Rattle.spl_ast.specs.Shape.{IsShaped}
 use Rattle.tree_model.specs.Breakdown.{Breakdown}
 use Rattle.tree_model.specs.Chosen.{whole_cost}
 
--- the program of a request's planned tree is good for the request, at the cost of the tree, and lean, and it stands within the
--- limits of listings
+-- the program of a request's planned tree is good for the request, at the
+-- cost of the tree, and lean, and it stands within the limits of listings
 abbrev pub ProgramsAreGood : Type 0
 ProgramsAreGood =
     (r : Request) (t : Breakdown) → IsInRange r → IsPlanned r (Ok t) →

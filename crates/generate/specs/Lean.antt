@@ -12,10 +12,11 @@ use Rattle.operators.specs.Sum.{sum_below}
 use Rattle.code_gen.specs.PassCode.Contract.{Stays, in_a_row, joined}
 use Rattle.code_gen.specs.PassCode.Program.{written_array}
 use Rattle.tree_model.specs.Breakdown.{Breakdown}
-use Rattle.tree_model.specs.WholePasses.{RequestPass, cost_of_pass, loads_of_pass, request_passes, whole_loads, whole_stores}
+use Rattle.tree_model.specs.WholePasses.{RequestPass, cost_of_pass, loads_of_pass, request_passes, whole_loads}
+use Rattle.tree_model.specs.WholePasses.{whole_stores}
 
--- a processor's part of a pass, between arrays that begin at these words: an equal share of its counts, where a multiplication
--- counts as the request's weight
+-- a processor's part of a pass, between arrays that begin at these words: an equal share of its counts, where a
+-- multiplication counts as the request's weight
 pub record IsPart (r : Request) (pass : RequestPass) (source target : ℕ) (actions : List Action) : Type 0 where
   pub stays : All (Stays r.size r.lanes source target) actions
   pub operations : r.procs * weighted r.weight (counts_of r.lanes actions) ≡ cost_of_pass r.size pass
@@ -42,16 +43,16 @@ pub record IsLeanList (r : Request) (phases : List (List RequestPass)) (code : C
   pub whole : map joined parts ≡ map (λ phase. acts code phase q) (range_with_len 0 (length code.lists))
   pub each : AreParts r 0 X (flat_map (λ ps. ps) phases) (in_a_row parts)
 
--- there is one phase, or there are two where there are several processors; the passes of all phases, one after another, are the
--- tree's, and the list of each processor is lean
+-- there is one phase, or there are two where there are several processors; the passes of all phases, one after
+-- another, are the tree's, and the list of each processor is lean
 pub record IsLeanCode (r : Request) (t : Breakdown) (code : Code) : Type 0 where
   pub number : length code.lists ≡ (if r.procs == 1 then 1 else 2)
   pub phases : List (List RequestPass)
   pub passes : flat_map (λ ps. ps) phases ≡ request_passes r t
   pub lists : (q : ℕ) → q < r.procs → IsLeanList r phases code q
 
--- The actions of each processor are, phase by phase, one part for each pass of the tree; all processors together load and store
--- exactly what the passes do
+-- The actions of each processor are, phase by phase, one part for each pass of
+-- the tree; all processors together load and store exactly what the passes do
 pub record IsLean (r : Request) (t : Breakdown) (p : PlainProgram) : Type 0 where
   pub parts : IsLeanCode r t (plain_code p)
   pub loads : sum_below r.procs (λ q. (whole_counts (plain_code p) q).loads) ≡ whole_loads r t

@@ -12,17 +12,17 @@ abbrev pub IsRooted : Request → Type 0
 IsRooted r = bad_power r ≡ None
 
 -- the first cause to refuse the request: a wrong root, no tree, or a least cost over the budget
-abbrev pub IsRefused : Request → GenerateFault → Type 0
-IsRefused r (Root power) = bad_power r ≡ Some power
-IsRefused r NoDivide = IsRooted r × (CanDivideWhole r → ⊥)
-IsRefused r (OverBudget cost budget) = IsRooted r × IsWholeLeast r cost × (budget ≡ r.budget) × (budget < cost)
-IsRefused r NoMemory = ⊥
+abbrev pub HasNoPlan : Request → GenerateFault → Type 0
+HasNoPlan r (Root power) = bad_power r ≡ Some power
+HasNoPlan r NoDivide = IsRooted r × (CanDivideWhole r → ⊥)
+HasNoPlan r (OverBudget cost budget) = IsRooted r × IsWholeLeast r cost × (budget ≡ r.budget) × (budget < cost)
+HasNoPlan r NoMemory = ⊥
 
 -- The tree of the request, which is the first of the cheapest, and by which the request is within the budget; or the
 -- first cause to refuse the request
 abbrev pub IsPlanned : Request → Result Breakdown GenerateFault → Type 0
 IsPlanned r (Ok t) = IsRooted r × IsWholeChosen r t × (whole_cost r t ≤ r.budget)
-IsPlanned r (Err fault) = IsRefused r fault
+IsPlanned r (Err fault) = HasNoPlan r fault
 
 -- the roots are right, and some tree fits
 abbrev pub IsAdmitted : Request → Type 0

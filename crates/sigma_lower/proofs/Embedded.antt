@@ -33,12 +33,7 @@ use Rattle.operators.specs.TensorPaths.Path.{Path, copies_of, size_under}
 use Rattle.operators.proofs.TensorPaths.Under.{size_under-copies}
 use Rattle.vec_rewrite.specs.Vectors.{PlainFactor, lanes, diagonals, move_before, move_after, tiles, factor_step}
 use Rattle.vec_rewrite.specs.Laws.{HasLanes}
-use Rattle.sigma_lower.proofs.TreeTerms.Behind.{blocks-within}
-
--- tiles stand in blocks
-abbrev pub HasBlocks : PlainFactor → Type 0
-HasBlocks (tiles path) = AreBlocks path
-HasBlocks f = Unit {0}
+use Rattle.smp_rewrite.proofs.Tensors.{blocks-within}
 
 -- The term of a factor is good, and does what it did
 pub record Embeds (h : Target) (p v : ℕ) (f : PlainFactor) : Type 0 where
@@ -162,11 +157,11 @@ after-embeds c p v path (steps.twiddles r s w) valid h = core-embeds c p v (move
 after-embeds c p v path (thomas_in r s) valid h = core-embeds c p v (move_after (steps.step path (thomas_in r s))) valid h refl (vectors-columns v path)
 after-embeds c p v path (thomas_out r s) valid h = core-embeds c p v (move_after (steps.step path (thomas_out r s))) valid h refl (vectors-columns v path)
 
-pub factors_embed : (h : Target) (p v : ℕ) (f : PlainFactor) → IsMachine h → HasLanes h.size p v f → HasBlocks f →
+pub factors_embed : (h : Target) (p v : ℕ) (f : PlainFactor) → IsMachine h → HasLanes h.size p v f →
     IsGood h.size (factor_step p v f) → Embeds h p v f
-factors_embed c p v (lanes s) valid laned blocks h =
+factors_embed c p v (lanes s) valid laned h =
     core-embeds c p v (lanes s) valid h refl (vectors-move v (factor_step p v (lanes s)).path s.core (vectors-blocks v p (within (Columns v) s.path) (vectors-columns v s.path)))
-factors_embed c p v (diagonals s) valid laned blocks h = core-embeds c p v (diagonals s) valid h refl (diagonal-moves v s.path s.core laned.1)
-factors_embed c p v (move_before s) valid laned blocks h = core-embeds c p v (move_before s) valid h refl (vectors-move v (within (Columns v) s.path) s.core (vectors-columns v s.path))
-factors_embed c p v (move_after s) valid laned blocks h = after-embeds c p v s.path s.core valid h
-factors_embed c p v (tiles path) valid laned blocks h = tile-embeds c p v path valid blocks h
+factors_embed c p v (diagonals s) valid laned h = core-embeds c p v (diagonals s) valid h refl (diagonal-moves v s.path s.core laned.1)
+factors_embed c p v (move_before s) valid laned h = core-embeds c p v (move_before s) valid h refl (vectors-move v (within (Columns v) s.path) s.core (vectors-columns v s.path))
+factors_embed c p v (move_after s) valid laned h = after-embeds c p v s.path s.core valid h
+factors_embed c p v (tiles path) valid laned h = tile-embeds c p v path valid laned.1 h

@@ -87,4 +87,6 @@ AllHaveLoops h [] = Unit {0}
 AllHaveLoops h (ts ∷ more) = HasLoop (loops_in (phase_term ts)) × AllHaveLoops h more
 
 abbrev pub PhasesHaveLoops : Type 0
-PhasesHaveLoops = (h : Target) (l : Layout) → IsMachine h → CanShareLayout h l → IsGoodLayout h.modulus l → AllHaveLoops h (lowered_of h l)
+PhasesHaveLoops =
+    (h : Target) (l : Layout) → IsMachine h → CanShareLayout h l → IsGoodLayout h.modulus l →
+        AllHaveLoops h (lowered_of h l)

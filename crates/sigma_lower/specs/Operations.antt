@@ -4,9 +4,12 @@ use Rattle.tree_model.specs.KernelCosts.{products_cost}
 use Rattle.matrix_meaning.specs.declared.Kind.TheVariants.{Dft}
 use Rattle.matrix_meaning.specs.Kind.{entry_of}
 use Rattle.sigma_lower.specs.Terms.{halvings}
-use Rattle.spl_ast.specs.Formula.{Formula, Identity, Fourier, Hadamard, Twiddles, Diagonal, Stride, Permutation, GoodThomasIn, GoodThomasOut, Product, TensorLeft, TensorRight, DirectSum, Pending}
+use Rattle.spl_ast.specs.Formula.{Formula, Identity, Fourier, Hadamard, Twiddles, Diagonal, Stride, Permutation}
+use Rattle.spl_ast.specs.Formula.{GoodThomasIn, GoodThomasOut, Product, TensorLeft, TensorRight, DirectSum, Pending}
 
--- A permutation has none, a diagonal a product for each item. A short DFT has an addition or subtraction for each entry but those of a column, and a product for each entry that is neither 1 nor -1; a longer one has a product and an addition for each entry
+-- A permutation has none, a diagonal a product for each item. A short DFT has an addition
+-- or subtraction for each entry but those of a column, and a product for each entry that
+-- is neither 1 nor -1; a longer one has a product and an addition for each entry
 abbrev pub operations : ℕ → ℕ → Formula → ℕ
 operations weight m (Identity n) = 0
 operations weight m (Fourier n w) =

@@ -6,7 +6,9 @@ use Rattle.sigma_spl.specs.Nest.{values, twiddles}
 use Rattle.sigma_spl.specs.Term.{PlainTerm, same, gath, diag, nest, move, product, beside}
 use Rattle.sigma_spl.specs.Work.{kernel, horner, short}
 use Rattle.sigma_lower.specs.TreeTerms.Wrapped.{wrapped}
-use Rattle.spl_ast.specs.Formula.{Formula, Identity, Fourier, Hadamard, Twiddles, Diagonal, Stride, Permutation, GoodThomasIn, GoodThomasOut, Product, TensorLeft, TensorRight, DirectSum, Pending, size_of}
+use Rattle.spl_ast.specs.Formula.{Formula, Identity, Fourier, Hadamard, Twiddles, Diagonal, Stride, Permutation}
+use Rattle.spl_ast.specs.Formula.{GoodThomasIn, GoodThomasOut, Product, TensorLeft, TensorRight, DirectSum, Pending}
+use Rattle.spl_ast.specs.Formula.{size_of}
 use Rattle.operators.specs.declared.tensor_paths.Tensor.{Tensor}
 use Rattle.operators.specs.declared.tensor_paths.Tensor.TheVariants.{Blocks, Columns}
 use Rattle.operators.specs.TensorPaths.Path.{Path, count_of}
@@ -23,7 +25,8 @@ halvings (suc b) n = if nat_lt n 2 then 0 else suc (halvings b (n / 2))
 -- WHT of 2 ^ k, split by 2
 abbrev pub hadamard_term : Path → ℕ → PlainTerm
 hadamard_term path zero = same
-hadamard_term path (suc k) = product (hadamard_term (path ++ Blocks 2 ∷ []) k) (nest (one_more path (Columns (2 ^ k))) (kernel (short Wht 0 2)))
+hadamard_term path (suc k) =
+    product (hadamard_term (path ++ Blocks 2 ∷ []) k) (nest (one_more path (Columns (2 ^ k))) (kernel (short Wht 0 2)))
 
 -- a short DFT is straight-line code, and a longer one goes row by row
 abbrev pub fourier_term : Path → ℕ → ℕ → PlainTerm

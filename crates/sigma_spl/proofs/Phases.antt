@@ -2,13 +2,14 @@
 use Rattle.std.proofs.Common.{◌≡◌, ℕ, ◌+◌, ◌^◌, ◌<◌, ◌≤◌, arith, refl, sym, ap, ap₂, ◌∙◌, subst, List, [], ◌∷◌, ◌++◌}
 use Rattle.std.specs.Prelude.{map, reverse}
 use Rattle.std.proofs.lemmas.List.{reverse-append}
-use Rattle.sigma_spl.specs.Counts.{CopiesAreFree, pass_cost, passes_cost}
+use Rattle.sigma_spl.specs.Counts.{CopiesAreFree, pass_cost, passes_cost, term_cost}
 use Rattle.sigma_spl.specs.Good.{AreGoodPasses, IsVector}
 use Rattle.sigma_spl.specs.Limits.{AreWithin}
 use Rattle.sigma_spl.specs.Merge.{most, passes_of}
-use Rattle.sigma_spl.specs.Merged.{phase_on, phases_on}
+use Rattle.sigma_spl.specs.Merged.{PlainMerged, phase_on, phases_on}
 use Rattle.sigma_spl.specs.Nest.{PlainNest, nests_on, passes_on}
-use Rattle.sigma_spl.specs.Sigma.{AllCanMerge, ArePhases, CanMerge, SigmaMerges, merged_of, passes_in_order, phases_cost, terms_cost, terms_on}
+use Rattle.sigma_spl.specs.Sigma.{AllCanMerge, ArePhases, CanMerge, PlainSigma, SigmaMerges, in_all, merged_costs}
+use Rattle.sigma_spl.specs.Sigma.{passes_in_order, sigma_cost, sigma_costs, terms_on}
 use Rattle.sigma_spl.specs.Term.{PlainTerm}
 use Rattle.sigma_spl.specs.Work.{PlainWork}
 use Rattle.sigma_spl.proofs.Counting.{merge_counts}
@@ -73,12 +74,14 @@ module _ (lanes n : ℕ) (some : 0 < n) (high : n ≤ 2 ^ 20) where
       ∙ meaning m ts after positive can.1 (passes-vector m n (passes_of n t) x positive v)
       ∙ ap (terms_on m n ts) (merged.on x v)
 
-  operations : (weight : ℕ) (cost : PlainWork → ℕ) (ts : List PlainTerm) → CopiesAreFree cost → AllCanMerge lanes n ts → phases_cost weight cost (map (passes_in_order n) ts) ≡ terms_cost weight cost n ts
+  operations : (weight : ℕ) (cost : PlainWork → ℕ) (ts : List PlainTerm) → CopiesAreFree cost → AllCanMerge lanes n ts →
+      map (passes_cost weight cost) (map (passes_in_order n) ts) ≡ map (term_cost weight cost n) ts
   operations weight cost [] free can = refl
   operations weight cost (t ∷ ts) free can =
       let one : CanMerge lanes n t = can.0 in
-      ap₂ (λ a b. a + b) (turned-cost weight cost (passes_of n t) ∙ merge_counts lanes 1 n (most 64) t weight cost (omega arith) some free one.good)
-      (operations weight cost ts free can.1)
+      let first = turned-cost weight cost (passes_of n t)
+          ∙ merge_counts lanes 1 n (most 64) t weight cost (omega arith) some free one.good in
+      ap₂ (λ (k : ℕ) (ks : List ℕ). k ∷ ks) first (operations weight cost ts free can.1)
 
 pub sigma_merges : SigmaMerges
 sigma_merges s good =
@@ -87,3 +90,8 @@ sigma_merges s good =
       meaning = λ m x positive v. meaning s.lanes s.size good.some good.most m s.phases x positive good.phases v;
       operations = λ weight cost free. operations s.lanes s.size good.some good.most weight cost s.phases free good.phases;
     }
+
+-- so they have as many in all
+pub alike-in-all : (s : PlainSigma) (g : PlainMerged) (weight : ℕ) (cost : PlainWork → ℕ) →
+    merged_costs weight cost g ≡ sigma_costs weight cost s → in_all (merged_costs weight cost g) ≡ sigma_cost weight cost s
+alike-in-all s g weight cost alike = ap in_all alike

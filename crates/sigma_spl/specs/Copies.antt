@@ -79,7 +79,13 @@ multiplied_by m factor c =
 
 -- the array begins behind so many words of a larger one
 abbrev pub behind : ℕ → Copies → Copies
-behind before c = record { counts = c.counts; size = c.size; from = λ vs k. before + c.from vs k; does = c.does; to = λ vs k. before + c.to vs k }
+behind before c = record {
+  counts = c.counts;
+  size = c.size;
+  from = λ vs k. before + c.from vs k;
+  does = c.does;
+  to = λ vs k. before + c.to vs k;
+}
 
 -- where a place of the copy v stands under a tensor round n words
 abbrev pub placed : Tensor → ℕ → ℕ → ℕ → ℕ
@@ -109,4 +115,5 @@ under_one t n c =
 -- the direct sum of two matrices, of n and of k words
 abbrev pub both : ℕ → ℕ → Operator → Operator → Operator
 both n k a b x =
-    list_below (n + k) (λ w. if nat_lt w n then slice_index (a (list_below n (slice_index x))) w else slice_index (b (list_below k (λ j. slice_index x (n + j)))) (w - n))
+    list_below (n + k) (λ w. if nat_lt w n then slice_index (a (list_below n (slice_index x))) w
+        else slice_index (b (list_below k (λ j. slice_index x (n + j)))) (w - n))

@@ -42,7 +42,8 @@ HasLanes lanes w = Unit {0}
 
 -- the sums of a tile name the first words of vectors
 abbrev pub AreWhole : List ℕ → PlainWork → List Sum → Type 0
-AreWhole counts (tile v) sums = (vs : List ℕ) (i : ℕ) → AreInRange (loops_of counts) vs → i < v → sum_value sums i vs % v ≡ 0
+AreWhole counts (tile v) sums =
+    (vs : List ℕ) (i : ℕ) → AreInRange (loops_of counts) vs → i < v → sum_value sums i vs % v ≡ 0
 AreWhole counts w sums = Unit {0}
 
 -- a nest on lists of n items modulo m
@@ -96,16 +97,19 @@ abbrev pub CanNest : ℕ → Path → PlainWork → Type 0
 CanNest lanes path (tile v) = (0 < v → v ≡ lanes) × AreBlocks path
 CanNest lanes path w = Unit {0}
 
--- a term on lists of n items, whose tiles are of so many lanes: none of them stands in a direct sum. Where there are no tiles, any permutation moves vectors of no words
+-- a term on lists of n items, whose tiles are of so many lanes: none of them stands in a direct sum. Where there are
+-- no tiles, any permutation moves vectors of no words
 abbrev pub IsGoodTerm : (lanes : ℕ) → ℕ → PlainTerm → Type 0
 IsGoodTerm lanes n same = Unit {0}
 IsGoodTerm lanes n (gath f) = IsMove lanes n f
-IsGoodTerm lanes n (scat f) = IsMove lanes n f × IsMove lanes n (back_of f) × IsPermutationBelow n (at (back_of f)) (at f)
+IsGoodTerm lanes n (scat f) =
+    IsMove lanes n f × IsMove lanes n (back_of f) × IsPermutationBelow n (at (back_of f)) (at f)
 IsGoodTerm lanes n (diag path factors) = size_under path (factor_count factors) ≡ n
 IsGoodTerm lanes n (nest path w) = CanNest lanes path w × (size_under path (work_size w) ≡ n)
 IsGoodTerm lanes n (move path ks) = AreBelow (length ks) ks × (size_under path (length ks) ≡ n)
 IsGoodTerm lanes n (product a b) = IsGoodTerm lanes n a × IsGoodTerm lanes n b
-IsGoodTerm lanes n (beside path k a l b) = (0 < k) × (0 < l) × (size_under path (k + l) ≡ n) × IsGoodTerm 0 k a × IsGoodTerm 0 l b
+IsGoodTerm lanes n (beside path k a l b) =
+    (0 < k) × (0 < l) × (size_under path (k + l) ≡ n) × IsGoodTerm 0 k a × IsGoodTerm 0 l b
 
 -- ---- vectors
 
@@ -120,4 +124,5 @@ pub record Merges (lanes : ℕ) (m n : ℕ) (room : Room) (t : PlainTerm) : Type
   pub on : (x : List ℕ) → IsVector m n x → passes_on m n (passes_within room n t) x ≡ term_on m n t x
 
 abbrev pub MergeKeeps : Type 0
-MergeKeeps = (lanes m n : ℕ) (room : Room) (t : PlainTerm) → 0 < m → 0 < n → IsGoodTerm lanes n t → Merges lanes m n room t
+MergeKeeps =
+    (lanes m n : ℕ) (room : Room) (t : PlainTerm) → 0 < m → 0 < n → IsGoodTerm lanes n t → Merges lanes m n room t

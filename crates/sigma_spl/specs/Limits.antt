@@ -31,4 +31,6 @@ AreWithin room n (zs ∷ ps) = (is_within room n zs ≡ true) × AreWithin room 
 
 -- the passes of a term, each of whose tensors has several copies, have places within the limits
 abbrev pub MergeLimits : Type 0
-MergeLimits = (lanes n : ℕ) (t : PlainTerm) → 0 < n → n ≤ 2 ^ 20 → IsGoodTerm lanes n t → HasSeveral t → AreWithin 64 n (passes_of n t)
+MergeLimits =
+    (lanes n : ℕ) (t : PlainTerm) → 0 < n → n ≤ 2 ^ 20 → IsGoodTerm lanes n t → HasSeveral t →
+        AreWithin 64 n (passes_of n t)

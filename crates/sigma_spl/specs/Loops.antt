@@ -4,7 +4,8 @@ use Rattle.std.specs.List.{list_all}
 use Rattle.index_fn.specs.Mapping.{Mapping, at}
 use Rattle.sigma_spl.specs.Copies.{loops_of}
 use Rattle.sigma_spl.specs.Good.{MovesVectors, CanNest, IsFormed, IsGoodTerm}
-use Rattle.sigma_spl.specs.Merge.{place_sum, items_in, items_out, all_simplified, carries_sum, suits, Room, most, unbounded, passes_within}
+use Rattle.sigma_spl.specs.Merge.{place_sum, items_in, items_out, all_simplified, carries_sum, suits, Room, most}
+use Rattle.sigma_spl.specs.Merge.{unbounded, passes_within}
 use Rattle.sigma_spl.specs.Nest.{PlainFactors, factor_count, PlainMultiplier, PlainNest, load_place, store_place}
 use Rattle.sigma_spl.specs.Term.{PlainTerm, same, gath, scat, diag, nest, move, product, beside, inner_of}
 use Rattle.sigma_spl.specs.Work.{PlainWork, tile, work_size}
@@ -16,7 +17,8 @@ pub record PlainTaken : Type 0 where
   pub factors : PlainFactors
   pub places : List Mapping
 
--- copies of some work under the tensors of a path, with the functions that lead from natural places to those of loads and stores, the first of which is applied first
+-- copies of some work under the tensors of a path, with the functions that lead from natural places to those of loads
+-- and stores, the first of which is applied first
 pub record PlainLoop : Type 0 where
   pub path : Path
   pub work : PlainWork
@@ -40,7 +42,8 @@ places_by p fs items = map (all_simplified (limits_in p) fs) (map (place_sum p.p
 
 abbrev pub multiplier_of : PlainLoop → Option PlainTaken → Option PlainMultiplier
 multiplier_of p None = None
-multiplier_of p (Some d) = Some (record { factors = d.factors; places = places_by p d.places (items_out p.work (length p.path)) })
+multiplier_of p (Some d) =
+    Some (record { factors = d.factors; places = places_by p d.places (items_out p.work (length p.path)) })
 
 abbrev pub nest_of : PlainLoop → PlainNest
 nest_of p =
@@ -64,12 +67,24 @@ begun = record { waiting = []; loops = [] }
 
 abbrev pub stored_last : Mapping → List PlainLoop → List PlainLoop
 stored_last f [] = []
-stored_last f (p ∷ ps) = record { path = p.path; work = p.work; befores = p.befores; taken = p.taken; afters = p.afters ++ f ∷ [] } ∷ ps
+stored_last f (p ∷ ps) = record {
+  path = p.path;
+  work = p.work;
+  befores = p.befores;
+  taken = p.taken;
+  afters = p.afters ++ f ∷ [];
+} ∷ ps
 
 abbrev pub scaled_last : Path → PlainFactors → List PlainLoop → List PlainLoop
 scaled_last path factors [] = []
 scaled_last path factors (p ∷ ps) =
-    record { path = p.path; work = p.work; befores = p.befores; taken = Some (record { factors = factors; places = p.afters ++ inner_of path (factor_count factors) ∷ [] }); afters = p.afters } ∷ ps
+    record {
+      path = p.path;
+      work = p.work;
+      befores = p.befores;
+      taken = Some (record { factors = factors; places = p.afters ++ inner_of path (factor_count factors) ∷ [] });
+      afters = p.afters;
+    } ∷ ps
 
 -- a gather waits for the next loop, and a scatter or a diagonal goes into the last one
 abbrev pub looped : Looping → PlainTerm → Looping
@@ -77,7 +92,10 @@ looped st same = st
 looped st (gath f) = record { waiting = f ∷ st.waiting; loops = st.loops }
 looped st (scat f) = record { waiting = st.waiting; loops = stored_last f st.loops }
 looped st (diag path factors) = record { waiting = st.waiting; loops = scaled_last path factors st.loops }
-looped st (nest path w) = record { waiting = []; loops = record { path = path; work = w; befores = st.waiting; taken = None; afters = [] } ∷ st.loops }
+looped st (nest path w) = record {
+  waiting = [];
+  loops = record { path = path; work = w; befores = st.waiting; taken = None; afters = [] } ∷ st.loops;
+}
 looped st (move path ks) = st
 looped st (product a b) = looped (looped st a) b
 looped st (beside path k a l b) = st
@@ -117,14 +135,17 @@ pub record IsOrdered (t : PlainTerm) : Type 0 where
 abbrev pub one_nest : PlainLoop → List PlainNest
 one_nest p = nest_of p ∷ []
 
--- what functions make of the natural places of items, one after the other, stays within the limits, and so does every number in between
+-- what functions make of the natural places of items, one after the
+-- other, stays within the limits, and so does every number in between
 abbrev pub AreCarried : (room n count : ℕ) → PlainLoop → List Mapping → List Sum → Type 0
-AreCarried room n count p fs items = list_all (carries_sum room n count (limits_in p) fs) (map (place_sum p.path (work_size p.work) 0) items) ≡ true
+AreCarried room n count p fs items =
+    list_all (carries_sum room n count (limits_in p) fs) (map (place_sum p.path (work_size p.work) 0) items) ≡ true
 
 pub record IsLimitedLoop (room n : ℕ) (p : PlainLoop) : Type 0 where
   pub loads : AreCarried room n n p p.befores (items_in p.work (length p.path))
   pub stores : AreCarried room n n p p.afters (items_out p.work (length p.path))
-  pub factors : (d : PlainTaken) → p.taken ≡ Some d → AreCarried room n (factor_count d.factors) p d.places (items_out p.work (length p.path))
+  pub factors : (d : PlainTaken) → p.taken ≡ Some d →
+      AreCarried room n (factor_count d.factors) p d.places (items_out p.work (length p.path))
 
 -- no place on the way to those of the loops is over a limit
 abbrev pub AreLimitedLoops : Room → ℕ → List PlainLoop → Type 0
@@ -134,7 +155,9 @@ AreLimitedLoops (most room) n (p ∷ ps) = IsLimitedLoop room n p × AreLimitedL
 
 -- The passes of a term in order are its loops, one by one: none is copies alone
 abbrev pub MergeListed : Type 0
-MergeListed = (room : Room) (n : ℕ) (t : PlainTerm) → IsOrdered t → AreLimitedLoops room n (loops_in t) → passes_within room n t ≡ map one_nest (loops_in t)
+MergeListed =
+    (room : Room) (n : ℕ) (t : PlainTerm) → IsOrdered t → AreLimitedLoops room n (loops_in t) →
+        passes_within room n t ≡ map one_nest (loops_in t)
 
 -- ---- places
 
@@ -166,10 +189,14 @@ pub record IsGoodLoop (lanes : ℕ) (p : PlainLoop) : Type 0 where
 pub record HasPlaces (p : PlainLoop) (vs : List ℕ) (k : ℕ) : Type 0 where
   pub loads : load_place p.work (nest_of p).gathers vs k ≡ through p.befores (place p.path (work_size p.work) vs k)
   pub stores : store_place p.work (nest_of p).scatters vs k ≡ through p.afters (place p.path (work_size p.work) vs k)
-  pub factors : (d : PlainTaken) → p.taken ≡ Some d → store_place p.work (places_by p d.places (items_out p.work (length p.path))) vs k ≡ through d.places (place p.path (work_size p.work) vs k)
+  pub factors : (d : PlainTaken) → p.taken ≡ Some d →
+      store_place p.work (places_by p d.places (items_out p.work (length p.path))) vs k
+      ≡ through d.places (place p.path (work_size p.work) vs k)
 
 abbrev pub LoopsHavePlaces : Type 0
-LoopsHavePlaces = (lanes : ℕ) (p : PlainLoop) (vs : List ℕ) (k : ℕ) → IsGoodLoop lanes p → AreInRange (loops_of (map count_of p.path)) vs → k < work_size p.work → HasPlaces p vs k
+LoopsHavePlaces =
+    (lanes : ℕ) (p : PlainLoop) (vs : List ℕ) (k : ℕ) → IsGoodLoop lanes p →
+        AreInRange (loops_of (map count_of p.path)) vs → k < work_size p.work → HasPlaces p vs k
 
 abbrev pub AreGoodLoops : ℕ → List PlainLoop → Type 0
 AreGoodLoops lanes [] = Unit {0}
@@ -177,4 +204,5 @@ AreGoodLoops lanes (p ∷ ps) = IsGoodLoop lanes p × AreGoodLoops lanes ps
 
 -- so have those of a good term in order
 abbrev pub LoopsAreGood : Type 0
-LoopsAreGood = (lanes n : ℕ) (t : PlainTerm) → 0 < n → IsGoodTerm lanes n t → InOrder begun t → AreGoodLoops lanes (loops_in t)
+LoopsAreGood =
+    (lanes n : ℕ) (t : PlainTerm) → 0 < n → IsGoodTerm lanes n t → InOrder begun t → AreGoodLoops lanes (loops_in t)

@@ -1,9 +1,12 @@
--- Merging: each permutation goes into the loads of the pass after it, or the stores of the one before it, each diagonal into the pass before it; a copy pass takes what no pass can take within the limits.
-use Rattle.std.specs.Prelude.{ℕ, zero, suc, ◌%◌, ◌+◌, ◌-◌, ◌*◌, ◌^◌, ◌==◌, nat_lt, nat_le, Bool, true, false, not, ◌&&◌, if◌then◌else◌, List, [], ◌∷◌, ◌++◌, map, length, slice_index, Option, Some, None}
+-- Merging: each permutation goes into the loads of the pass after it, or the stores of the one before it, each
+-- diagonal into the pass before it; a copy pass takes what no pass can take within the limits.
+use Rattle.std.specs.Prelude.{ℕ, ◌+◌, ◌-◌, ◌*◌, ◌^◌, ◌==◌, nat_lt, nat_le, Bool, true, false, not, ◌&&◌}
+use Rattle.std.specs.Prelude.{if◌then◌else◌, List, [], ◌∷◌, ◌++◌, map, length, slice_index, Option, Some, None}
 use Rattle.std.specs.List.{range_with_len, list_all}
 use Rattle.index_fn.specs.Mapping.{Mapping, at}
 pub use Rattle.index_fn.specs.Back.{back_of, inverse_below, unit_below}
-use Rattle.perm_algebra.specs.Affine.{Sum, constant, variable, remainder, quotient, top, peak, levels, parts, scaled, joined, simplified}
+use Rattle.perm_algebra.specs.Affine.{Sum, constant, variable, remainder, quotient, top, peak, levels, parts, scaled}
+use Rattle.perm_algebra.specs.Affine.{joined, simplified}
 use Rattle.perm_algebra.specs.Room.{has_room}
 use Rattle.operators.specs.Sum.{list_below}
 use Rattle.sigma_spl.specs.Nest.{PlainFactors, spread, factor_count, PlainMultiplier, PlainNest}
@@ -17,13 +20,15 @@ use Rattle.operators.specs.TensorPaths.Path.{Path, count_of, size_under}
 -- the place of e in the copy that the variables from d on name
 abbrev pub place_sum : Path → ℕ → ℕ → Sum → Sum
 place_sum [] n d e = e
-place_sum (Blocks c ∷ path) n d e = joined (scaled (size_under path n) (variable 1 d (constant 0))) (place_sum path n (d + 1) e)
+place_sum (Blocks c ∷ path) n d e =
+    joined (scaled (size_under path n) (variable 1 d (constant 0))) (place_sum path n (d + 1) e)
 place_sum (Columns c ∷ path) n d e = joined (scaled c (place_sum path n (d + 1) e)) (variable 1 d (constant 0))
 
 -- the items that are loaded, and those that are stored, where the loops have so many variables
 abbrev pub items_in : PlainWork → ℕ → List Sum
 items_in (rows root size) depth = variable 1 (depth + 1) (constant 0) ∷ []
-items_in (horner root size) depth = remainder 1 (variable (size - 1) (depth + 1) (constant (size - 1))) size (constant 0) ∷ []
+items_in (horner root size) depth =
+    remainder 1 (variable (size - 1) (depth + 1) (constant (size - 1))) size (constant 0) ∷ []
 items_in (tile lanes) depth = map (λ k. constant (k * lanes)) (range_with_len 0 lanes)
 items_in work depth = map constant (range_with_len 0 (work_size work))
 
@@ -57,10 +62,14 @@ abbrev pub limits_of : PlainNest → ℕ → ℕ
 limits_of z = slice_index (z.counts ++ work_size z.work ∷ work_size z.work ∷ [])
 
 abbrev pub gathered : Mapping → List PlainNest → List PlainNest
-gathered f zs = map (λ (z : PlainNest). record { counts = z.counts; work = z.work; gathers = map (simplified (limits_of z) f) z.gathers; multiplier = z.multiplier; scatters = z.scatters }) zs
+gathered f zs =
+    map (λ (z : PlainNest). record { counts = z.counts; work = z.work;
+        gathers = map (simplified (limits_of z) f) z.gathers; multiplier = z.multiplier; scatters = z.scatters }) zs
 
 abbrev pub scattered : Mapping → List PlainNest → List PlainNest
-scattered f zs = map (λ (z : PlainNest). record { counts = z.counts; work = z.work; gathers = z.gathers; multiplier = z.multiplier; scatters = map (simplified (limits_of z) f) z.scatters }) zs
+scattered f zs =
+    map (λ (z : PlainNest). record { counts = z.counts; work = z.work; gathers = z.gathers; multiplier = z.multiplier;
+        scatters = map (simplified (limits_of z) f) z.scatters }) zs
 
 -- one function after the other, at a sum
 abbrev pub all_simplified : (ℕ → ℕ) → List Mapping → Sum → Sum
@@ -90,9 +99,12 @@ total (variable f d rest) = f + total rest
 total (remainder f of m rest) = f + total rest
 total (quotient f of m rest) = f + total rest
 
--- a part that divides: its factor and its divisor are small numbers and not 0, and so is all that is divided, whose values fit a word
+-- a part that divides: its factor and its divisor are small numbers
+-- and not 0, and so is all that is divided, whose values fit a word
 abbrev pub is_divided : (ℕ → ℕ) → ℕ → Sum → ℕ → Bool
-is_divided cs f of m = (nat_lt 0 f && nat_lt f (2 ^ 32)) && ((nat_lt 0 m && nat_lt m (2 ^ 32)) && (nat_lt (total of) (2 ^ 32) && nat_lt (top of cs) (2 ^ 64)))
+is_divided cs f of m =
+    (nat_lt 0 f && nat_lt f (2 ^ 32))
+        && ((nat_lt 0 m && nat_lt m (2 ^ 32)) && (nat_lt (total of) (2 ^ 32) && nat_lt (top of cs) (2 ^ 64)))
 
 -- numbers at all levels are small
 abbrev pub are_small : (ℕ → ℕ) → Sum → Bool
@@ -101,9 +113,11 @@ are_small cs (variable f d rest) = nat_lt f (2 ^ 32) && are_small cs rest
 are_small cs (remainder f of m rest) = is_divided cs f of m && (are_small cs of && are_small cs rest)
 are_small cs (quotient f of m rest) = is_divided cs f of m && (are_small cs of && are_small cs rest)
 
--- a place in an array of n words, in so many parts, whose factors are below n: so they stay small where the array becomes part of a larger one
+-- a place in an array of n words, in so many parts, whose factors are
+-- below n: so they stay small where the array becomes part of a larger one
 abbrev pub is_limited : ℕ → ℕ → (ℕ → ℕ) → Sum → Bool
-is_limited room n cs e = (nat_le (parts e) room && nat_le (levels e) 64) && ((nat_lt (top e cs) n && nat_lt (peak e) n) && are_small cs e)
+is_limited room n cs e =
+    (nat_le (parts e) room && nat_le (levels e) 64) && ((nat_lt (top e cs) n && nat_lt (peak e) n) && are_small cs e)
 
 abbrev pub is_multiplier_within : ℕ → (ℕ → ℕ) → Option PlainMultiplier → Bool
 is_multiplier_within room cs None = true
@@ -111,12 +125,15 @@ is_multiplier_within room cs (Some d) = list_all (is_limited room (factor_count 
 
 abbrev pub is_within : ℕ → ℕ → List PlainNest → Bool
 is_within room n zs =
-    list_all (λ (z : PlainNest). (list_all (is_limited room n (limits_of z)) z.gathers && list_all (is_limited room n (limits_of z)) z.scatters) && is_multiplier_within room (limits_of z) z.multiplier) zs
+    list_all (λ (z : PlainNest). (list_all (is_limited room n (limits_of z)) z.gathers
+        && list_all (is_limited room n (limits_of z)) z.scatters)
+        && is_multiplier_within room (limits_of z) z.multiplier) zs
 
 -- each sum on the way to the factors' places is within the limits, and so is every number in between
 abbrev pub carries_sum : ℕ → ℕ → ℕ → (ℕ → ℕ) → List Mapping → Sum → Bool
 carries_sum room n count cs [] e = is_limited room count cs e
-carries_sum room n count cs (f ∷ fs) e = is_limited room n cs e && (has_room cs f e && carries_sum room n count cs fs (simplified cs f e))
+carries_sum room n count cs (f ∷ fs) e =
+    is_limited room n cs e && (has_room cs f e && carries_sum room n count cs fs (simplified cs f e))
 
 abbrev pub is_free : Option PlainMultiplier → Bool
 is_free None = true
@@ -124,7 +141,9 @@ is_free (Some d) = false
 
 -- a pass that has no diagonal, and can take this one
 abbrev pub can_multiply : ℕ → ℕ → PlainFactors → List Mapping → List PlainNest → Bool
-can_multiply room n factors fs zs = list_all (λ (z : PlainNest). is_free z.multiplier && list_all (carries_sum room n (factor_count factors) (limits_of z) fs) z.scatters) zs
+can_multiply room n factors fs zs =
+    list_all (λ (z : PlainNest). is_free z.multiplier
+        && list_all (carries_sum room n (factor_count factors) (limits_of z) fs) z.scatters) zs
 
 -- how many parts a place may have: so many, or any number, where every place is known to stay within the limits
 pub data Room : Type 0 where
@@ -174,7 +193,8 @@ pub record Taking : Type 0 where
 -- the latest are taken first
 abbrev pub take_gathers : Room → ℕ → List PlainNest → List Mapping → Taking
 take_gathers room n zs [] = record { pass = zs; left = [] }
-take_gathers room n zs (f ∷ fs) = if can_gather room n f zs then take_gathers room n (gathered f zs) fs else record { pass = zs; left = f ∷ fs }
+take_gathers room n zs (f ∷ fs) =
+    if can_gather room n f zs then take_gathers room n (gathered f zs) fs else record { pass = zs; left = f ∷ fs }
 
 -- one gather as a copy pass: in a loop over all words, or word by word where its place there is over the limits
 abbrev pub copy_by : Room → ℕ → Mapping → List PlainNest
@@ -186,7 +206,8 @@ copy_by room n f =
 abbrev pub copies_before : Room → ℕ → List PlainNest → List Mapping → List (List PlainNest)
 copies_before room n zs [] = zs ∷ []
 copies_before room n zs (f ∷ fs) =
-    if can_gather room n f zs then copies_before room n (gathered f zs) fs else zs ∷ copies_before room n (copy_by room n f) fs
+    if can_gather room n f zs then copies_before room n (gathered f zs) fs
+        else zs ∷ copies_before room n (copy_by room n f) fs
 
 abbrev pub settled : Room → ℕ → List Mapping → List (List PlainNest)
 settled room n [] = []
@@ -211,8 +232,14 @@ factor_places waiting path factors = backs_of waiting ++ inner_of path (factor_c
 abbrev pub with_copy : Room → ℕ → Merging → Path → PlainFactors → Merging
 with_copy room n st path factors =
     let places = factor_places st.waiting path factors in
-    if can_take room n factors places (copying n) then record { waiting = st.waiting; passes = multiplied factors places (copying n) ∷ st.passes }
-    else record { waiting = []; passes = multiplied (spread path factors) [] (copying n) ∷ (settled room n st.waiting ++ st.passes) }
+    if can_take room n factors places (copying n) then record {
+      waiting = st.waiting;
+      passes = multiplied factors places (copying n) ∷ st.passes;
+    }
+    else record {
+      waiting = [];
+      passes = multiplied (spread path factors) [] (copying n) ∷ (settled room n st.waiting ++ st.passes);
+    }
 
 -- work that has a sum for each vector
 abbrev pub is_tile : PlainWork → Bool
@@ -229,13 +256,17 @@ abbrev pub with_diagonal : Room → ℕ → List Mapping → List (List PlainNes
 with_diagonal room n waiting [] path factors = with_copy room n (record { waiting = waiting; passes = [] }) path factors
 with_diagonal room n waiting (zs ∷ passes) path factors =
     let places = factor_places waiting path factors in
-    if suits path zs && can_take room n factors places zs then record { waiting = waiting; passes = multiplied factors places zs ∷ passes }
+    if suits path zs && can_take room n factors places zs then record {
+      waiting = waiting;
+      passes = multiplied factors places zs ∷ passes;
+    }
     else with_copy room n (record { waiting = waiting; passes = zs ∷ passes }) path factors
 
 -- a scatter goes into the last pass where no gather waits, and else waits as a gather
 abbrev pub with_scatter : Room → ℕ → List Mapping → List (List PlainNest) → Mapping → Merging
 with_scatter room n [] (zs ∷ passes) f =
-    if can_scatter room n f zs then record { waiting = []; passes = scattered f zs ∷ passes } else record { waiting = back_of f ∷ []; passes = zs ∷ passes }
+    if can_scatter room n f zs then record { waiting = []; passes = scattered f zs ∷ passes }
+        else record { waiting = back_of f ∷ []; passes = zs ∷ passes }
 with_scatter room n waiting passes f = record { waiting = back_of f ∷ waiting; passes = passes }
 
 -- a list from its end
@@ -243,12 +274,14 @@ abbrev pub from_end : List Mapping → List Mapping
 from_end [] = []
 from_end (f ∷ fs) = from_end fs ++ f ∷ []
 
--- at the end the gathers that wait, the earliest first, go into the stores of the last pass, and the others into copy passes
+-- at the end the gathers that wait, the earliest first, go into
+-- the stores of the last pass, and the others into copy passes
 abbrev pub ended : Room → ℕ → List Mapping → List (List PlainNest) → List (List PlainNest)
 ended room n [] passes = passes
 ended room n (f ∷ fs) [] = settled room n (from_end (f ∷ fs))
 ended room n (f ∷ fs) (zs ∷ passes) =
-    if can_scatter room n (back_of f) zs then ended room n fs (scattered (back_of f) zs ∷ passes) else settled room n (from_end (f ∷ fs)) ++ zs ∷ passes
+    if can_scatter room n (back_of f) zs then ended room n fs (scattered (back_of f) zs ∷ passes)
+        else settled room n (from_end (f ∷ fs)) ++ zs ∷ passes
 
 -- ---- passes side by side
 
@@ -267,7 +300,13 @@ renumbered_places k (Some d) = Some (record { factors = d.factors; places = map 
 abbrev pub lifted : Path → ℕ → ℕ → PlainNest → PlainNest
 lifted path n before z =
     let up : Sum → Sum = λ e. place_sum path n 0 (joined (constant before) (renumbered (length path) e)) in
-    record { counts = map count_of path ++ z.counts; work = z.work; gathers = map up z.gathers; multiplier = renumbered_places (length path) z.multiplier; scatters = map up z.scatters }
+    record {
+      counts = map count_of path ++ z.counts;
+      work = z.work;
+      gathers = map up z.gathers;
+      multiplier = renumbered_places (length path) z.multiplier;
+      scatters = map up z.scatters;
+    }
 
 abbrev pub side : Path → ℕ → ℕ → List PlainNest → List PlainNest → List PlainNest
 side path n k zs ys = map (lifted path (n + k) 0) zs ++ map (lifted path (n + k) n) ys
@@ -283,7 +322,8 @@ sides path n k (zs ∷ ps) (ys ∷ qs) = side path n k zs ys ∷ sides path n k 
 abbrev pub with_passes : Room → ℕ → Merging → List (List PlainNest) → Merging
 with_passes room n st [] = st
 with_passes room n st (zs ∷ []) = with_pass room n st zs
-with_passes room n st (zs ∷ ys ∷ ps) = let before = with_passes room n st (ys ∷ ps) in record { waiting = []; passes = zs ∷ before.passes }
+with_passes room n st (zs ∷ ys ∷ ps) =
+    let before = with_passes room n st (ys ∷ ps) in record { waiting = []; passes = zs ∷ before.passes }
 
 -- ---- terms
 
@@ -298,7 +338,9 @@ merged room n st (product a b) = merged room n (merged room n st a) b
 merged room n st (beside path k a l b) =
     let first = merged (less room (length path)) k nothing a in
     let second = merged (less room (length path)) l nothing b in
-    with_passes room n st (sides path k l (ended (less room (length path)) k (from_end first.waiting) first.passes) (ended (less room (length path)) l (from_end second.waiting) second.passes))
+    with_passes room n st
+        (sides path k l (ended (less room (length path)) k (from_end first.waiting) first.passes)
+        (ended (less room (length path)) l (from_end second.waiting) second.passes))
 
 -- the passes of a term, the latest first; an identity is a copy
 abbrev pub if_any : ℕ → List (List PlainNest) → List (List PlainNest)

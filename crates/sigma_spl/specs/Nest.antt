@@ -1,5 +1,7 @@
--- Loops as code has them: counts, and the places of their items as sums of their variables. A pass is a list of them, and a pass leaves what all of them store together.
-use Rattle.std.specs.Prelude.{ℕ, ◌+◌, ◌-◌, ◌*◌, ◌/◌, ◌%◌, List, [], ◌∷◌, ◌++◌, map, length, slice_index, slice_index_or, Option, Some, None}
+-- Loops as code has them: counts, and the places of their items as sums of their variables. A pass is a list of them,
+-- and a pass leaves what all of them store together.
+use Rattle.std.specs.Prelude.{ℕ, ◌+◌, ◌-◌, ◌*◌, ◌/◌, ◌%◌, List, [], ◌∷◌, ◌++◌, map, length, slice_index, slice_index_or}
+use Rattle.std.specs.Prelude.{Option, Some, None}
 use Rattle.index_fn.specs.Mapping.{Mapping, Same, Always, Paired, at}
 use Rattle.matrix_meaning.specs.Laws.{twiddle}
 use Rattle.operators.specs.Operator.{Operator}
@@ -16,7 +18,8 @@ inner_of [] n = Same
 inner_of (Blocks c ∷ path) n = Paired (Always 0) 0 (inner_of path n) (size_under path n)
 inner_of (Columns c ∷ path) n = Paired (inner_of path n) 1 (Always 0) c
 
--- the factors of a diagonal: these values, the twiddles of a ct of size rows * cols by this root, one value so many times, or those of a diagonal under tensors
+-- the factors of a diagonal: these values, the twiddles of a ct of size rows * cols by this root, one value so many
+-- times, or those of a diagonal under tensors
 pub data PlainFactors : Type 0 where
   values : (entries : List ℕ) → PlainFactors
   twiddles : (rows cols root : ℕ) → PlainFactors
@@ -40,7 +43,8 @@ pub record PlainMultiplier : Type 0 where
   pub factors : PlainFactors
   pub places : List Sum
 
--- Straight work has a sum for each register. Work by rows has one for all: it stores by the variable after those of the loops, and loads by the next one
+-- Straight work has a sum for each register. Work by rows has one for all: it
+-- stores by the variable after those of the loops, and loads by the next one
 pub record PlainNest : Type 0 where
   pub counts : List ℕ
   pub work : PlainWork
@@ -69,10 +73,18 @@ store_place work sums vs k = sum_value sums k vs
 -- a copy's work, and the diagonal after it
 abbrev pub multiplied_on : ℕ → PlainNest → Option PlainMultiplier → List ℕ → Operator
 multiplied_on m z None vs y = work_on m z.work y
-multiplied_on m z (Some d) vs y = list_below (work_size z.work) (λ k. (factor_at m d.factors (store_place z.work d.places vs k) * slice_index (work_on m z.work y) k) % m)
+multiplied_on m z (Some d) vs y =
+    list_below (work_size z.work)
+        (λ k. (factor_at m d.factors (store_place z.work d.places vs k) * slice_index (work_on m z.work y) k) % m)
 
 abbrev pub copies_of : ℕ → PlainNest → Copies
-copies_of m z = record { counts = z.counts; size = work_size z.work; from = load_place z.work z.gathers; does = multiplied_on m z z.multiplier; to = store_place z.work z.scatters }
+copies_of m z = record {
+  counts = z.counts;
+  size = work_size z.work;
+  from = load_place z.work z.gathers;
+  does = multiplied_on m z z.multiplier;
+  to = store_place z.work z.scatters;
+}
 
 -- what a pass makes of a list of n items, and what several make of it, the latest first
 abbrev pub nests_on : ℕ → ℕ → List PlainNest → Operator

@@ -26,13 +26,17 @@ terms_on m n (t ∷ ts) x = terms_on m n ts (term_on m n t x)
 abbrev pub sigma_on : ℕ → PlainSigma → Operator
 sigma_on m g x = terms_on m g.size g.phases x
 
--- their operations, where each work has a cost, and a product counts as several
-abbrev pub terms_cost : ℕ → (PlainWork → ℕ) → ℕ → List PlainTerm → ℕ
-terms_cost weight cost n [] = 0
-terms_cost weight cost n (t ∷ ts) = term_cost weight cost n t + terms_cost weight cost n ts
+-- the operations of each phase, where each work has a cost, and a product counts as several
+abbrev pub sigma_costs : ℕ → (PlainWork → ℕ) → PlainSigma → List ℕ
+sigma_costs weight cost g = map (term_cost weight cost g.size) g.phases
+
+-- those of all phases
+abbrev pub in_all : List ℕ → ℕ
+in_all [] = 0
+in_all (k ∷ ks) = k + in_all ks
 
 abbrev pub sigma_cost : ℕ → (PlainWork → ℕ) → PlainSigma → ℕ
-sigma_cost weight cost g = terms_cost weight cost g.size g.phases
+sigma_cost weight cost g = in_all (sigma_costs weight cost g)
 
 -- ---- merging
 
@@ -61,13 +65,9 @@ pub record IsGoodSigma (g : PlainSigma) : Type 0 where
 
 -- ---- what merging keeps
 
--- the operations of all passes
-abbrev pub phases_cost : ℕ → (PlainWork → ℕ) → List (List (List PlainNest)) → ℕ
-phases_cost weight cost [] = 0
-phases_cost weight cost (ps ∷ more) = passes_cost weight cost ps + phases_cost weight cost more
-
-abbrev pub merged_cost : ℕ → (PlainWork → ℕ) → PlainMerged → ℕ
-merged_cost weight cost g = phases_cost weight cost g.phases
+-- the operations of the passes of each phase
+abbrev pub merged_costs : ℕ → (PlainWork → ℕ) → PlainMerged → List ℕ
+merged_costs weight cost g = map (passes_cost weight cost) g.phases
 
 -- the passes of each phase are good modulo any m, and within the limits of programs
 pub record ArePasses (lanes n : ℕ) (ps : List (List PlainNest)) : Type 0 where
@@ -78,11 +78,12 @@ abbrev pub ArePhases : (lanes n : ℕ) → List (List (List PlainNest)) → Type
 ArePhases lanes n [] = Unit {0}
 ArePhases lanes n (ps ∷ more) = ArePasses lanes n ps × ArePhases lanes n more
 
--- Passes that do what these terms do, in their operations
+-- Passes that do what these terms do, each phase in its operations
 pub record IsMergeOf (s : PlainSigma) (g : PlainMerged) : Type 0 where
   pub phases : ArePhases g.lanes g.size g.phases
   pub meaning : (m : ℕ) (x : List ℕ) → 0 < m → IsVector m s.size x → merged_on m g x ≡ sigma_on m s x
-  pub operations : (weight : ℕ) (cost : PlainWork → ℕ) → CopiesAreFree cost → merged_cost weight cost g ≡ sigma_cost weight cost s
+  pub operations : (weight : ℕ) (cost : PlainWork → ℕ) → CopiesAreFree cost →
+      merged_costs weight cost g ≡ sigma_costs weight cost s
 
 abbrev pub SigmaMerges : Type 0
 SigmaMerges = (s : PlainSigma) → IsGoodSigma s → IsMergeOf s (merged_of s)

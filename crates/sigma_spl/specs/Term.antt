@@ -29,16 +29,29 @@ pub data PlainTerm : Type 0 where
 
 -- copies that load and store where their tensors put them
 abbrev pub natural : ℕ → Path → PlainWork → Copies
-natural m path w = record { counts = map count_of path; size = work_size w; from = place path (work_size w); does = λ vs. work_on m w; to = place path (work_size w) }
+natural m path w = record {
+  counts = map count_of path;
+  size = work_size w;
+  from = place path (work_size w);
+  does = λ vs. work_on m w;
+  to = place path (work_size w);
+}
 
 abbrev pub moving : Path → List ℕ → Copies
-moving path ks = record { counts = map count_of path; size = length ks; from = λ vs k. place path (length ks) vs (slice_index ks k); does = λ vs y. list_below (length ks) (slice_index y); to = place path (length ks) }
+moving path ks = record {
+  counts = map count_of path;
+  size = length ks;
+  from = λ vs k. place path (length ks) vs (slice_index ks k);
+  does = λ vs y. list_below (length ks) (slice_index y);
+  to = place path (length ks);
+}
 
 -- what a term does to a list of n items, modulo m
 abbrev pub term_on : ℕ → ℕ → PlainTerm → Operator
 term_on m n same x = x
 term_on m n (gath f) x = gather n (at f) x
-term_on m n (scat f) x = pass_on m n (record { counts = []; size = n; from = λ vs k. k; does = λ vs y. y; to = λ vs k. at f k } ∷ []) x
+term_on m n (scat f) x =
+    pass_on m n (record { counts = []; size = n; from = λ vs k. k; does = λ vs y. y; to = λ vs k. at f k } ∷ []) x
 term_on m n (diag path factors) x = scale m n (λ w. factor_at m factors (at (inner_of path (factor_count factors)) w)) x
 term_on m n (nest path w) x = pass_on m n (natural m path w ∷ []) x
 term_on m n (move path ks) x = pass_on m n (moving path ks ∷ []) x

@@ -1,5 +1,6 @@
 -- What lowering and merging promise of a tree.
-use Rattle.std.specs.Prelude.{◌≡◌, ◌≢◌, ℕ, ◌^◌, ◌<◌, ◌≤◌, ◌==◌, if◌then◌else◌, List, [], ◌∷◌, All, None, length, map, reverse}
+use Rattle.std.specs.Prelude.{◌≡◌, ◌≢◌, ℕ, ◌^◌, ◌<◌, ◌≤◌, ◌==◌, if◌then◌else◌, List, [], ◌∷◌, All, None, length, map}
+use Rattle.std.specs.Prelude.{reverse}
 use Rattle.matrix_meaning.specs.declared.Kind.TheVariants.{Idft}
 use Rattle.matrix_meaning.specs.declared.Request.{Request}
 use Rattle.operators.specs.declared.target.Target.{Target}
@@ -55,8 +56,8 @@ pub record IsReadyLoop (h : Target) (p : PlainLoop) : Type 0 where
 
 -- The terms of a tree. In each phase they are loops in order, with permutations and diagonals that go into these, at
 -- places within the limits; pass by pass the loops count as the cost model; in each phase each line has one owner.
--- There are few actions and tables, so that two programs of trees are within the limits of one; and but for an inverse the
--- last loop multiplies by nothing, so that a diagonal can stand after it
+-- There are few actions and tables, so that two programs of trees are within the limits of one; and but for an
+-- inverse the last loop multiplies by nothing, so that a diagonal can stand after it
 pub record IsTreeSigma (c : Request) (t : Breakdown) (s : PlainSigma) : Type 0 where
   pub host : IsHost (target_of c)
   pub size : s.size ≡ c.size

@@ -48,7 +48,12 @@ plain_nest z =
     }
 
 abbrev pub plain_merged : Merged → PlainMerged
-plain_merged m = record { size = m.size; procs = m.procs; lanes = m.lanes; phases = map (λ ps. map (λ zs. map plain_nest zs.items) ps.items) m.phases.items }
+plain_merged m = record {
+  size = m.size;
+  procs = m.procs;
+  lanes = m.lanes;
+  phases = map (λ ps. map (λ zs. map plain_nest zs.items) ps.items) m.phases.items;
+}
 
 abbrev pub plain_term : Term → PlainTerm
 plain_term Same = same

@@ -48,7 +48,8 @@ work_on m (horner root size) x = transform Dft m size root x
 work_on m (tile lanes) x = turn lanes lanes x
 work_on m (copy size) x = list_below size (slice_index x)
 
--- whether the code of a copy names its items one by one; the others have a loop over their rows, and in it one over their items
+-- whether the code of a copy names its items one by one; the others
+-- have a loop over their rows, and in it one over their items
 abbrev pub is_straight : PlainWork → Bool
 is_straight (rows root size) = false
 is_straight (horner root size) = false

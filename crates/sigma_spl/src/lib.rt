@@ -8,6 +8,7 @@ ghost use Rattle.sigma_spl.specs.Horner.{HornerRow};
 ghost use Rattle.sigma_spl.specs.Limits.{MergeLimits};
 ghost use Rattle.sigma_spl.specs.Loops.{LoopsAreGood, LoopsHavePlaces, MergeListed};
 ghost use Rattle.sigma_spl.specs.Places.{PassStores};
+ghost use Rattle.sigma_spl.specs.PlainTerms.Shape.{GoodSigmasFit};
 ghost use Rattle.sigma_spl.specs.Sigma.{SigmaMerges};
 ghost use Rattle.sigma_spl.specs.CopiesLaws.{KeepsOnce, LoadsGather, LoopsScale, StandSideBySide, StandUnder, StoresScatter};
 
@@ -78,7 +79,12 @@ pub fn loops_are_good()
     ensures { LoopsAreGood }
 {}
 
-/// The passes of good terms in phases do what the terms do, in their operations.
+/// The passes of good terms in phases do what the terms do, each phase in its operations.
 pub fn sigma_merges()
     ensures { SigmaMerges }
+{}
+
+/// Terms that can be merged can be applied to a list, each by its definition.
+pub fn good_sigmas_fit()
+    ensures { GoodSigmasFit }
 {}

@@ -1,5 +1,5 @@
 -- The parts of a tree, whose walk goes on in them.
-use Rattle.std.proofs.Common.{◌≡◌, ◌≢◌, ℕ, Bool, true, false, if◌then◌else◌, arith, refl, sym, subst, ap, ◌∙◌}
+use Rattle.std.proofs.Common.{◌≡◌, ◌≢◌, Bool, true, false, if◌then◌else◌, arith, refl, sym, subst, ap, ◌∙◌}
 use Rattle.kernel_gen.specs.Nodes.{IsNodeTree}
 use Rattle.kernel_gen.proofs.NodeTrees.{left_tree, right_tree, size-le}
 use Rattle.matrix_meaning.specs.declared.Kind.{Kind}

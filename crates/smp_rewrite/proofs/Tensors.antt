@@ -12,6 +12,7 @@ use Rattle.operators.specs.declared.tensor_paths.Tensor.TheVariants.{Blocks, Col
 use Rattle.operators.specs.TensorPaths.Path.{Path, count_of, grown, size_under, copies_of, one_under, under, Reads}
 use Rattle.operators.proofs.TensorPaths.Equal.{on_columns-same, on_blocks-same}
 use Rattle.operators.proofs.TensorPaths.Under.{under-size}
+use Rattle.sigma_spl.specs.Good.{AreBlocks}
 use Rattle.smp_rewrite.specs.Smp.{within}
 
 -- ---- one copy
@@ -93,6 +94,14 @@ copies-within t path = copies-pick (count_of t == 1) t path (is-one (count_of t)
 one_under-same : (t : Tensor) (n : ℕ) (a b : Operator) (x : List ℕ) → ((y : List ℕ) → a y ≡ b y) → one_under t n a x ≡ one_under t n b x
 one_under-same (Blocks k) n a b x h = on_blocks-same k n a b x h
 one_under-same (Columns k) n a b x h = on_columns-same n k a b x h
+
+-- blocks in blocks
+pick-blocks : (b : Bool) (k : ℕ) (path : Path) → AreBlocks path → AreBlocks (if b then path else Blocks k ∷ path)
+pick-blocks true k path h = h
+pick-blocks false k path h = h
+
+pub blocks-within : (k : ℕ) (path : Path) → AreBlocks path → AreBlocks (within (Blocks k) path)
+blocks-within k path h = pick-blocks (k == 1) k path h
 
 -- several more tensors
 abbrev pub within_all : Path → Path → Path

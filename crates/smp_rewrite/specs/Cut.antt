@@ -1,10 +1,12 @@
 -- How the steps of a layout are cut for p processors, on lists of n words (Franchetti et al., 2006).
-use Rattle.std.specs.Prelude.{ℕ, suc, ◌/◌, ◌==◌, Bool, true, false, if◌then◌else◌, List, [], ◌∷◌, length, take, drop, Option, None}
+use Rattle.std.specs.Prelude.{ℕ, suc, ◌/◌, ◌==◌, Bool, true, false, if◌then◌else◌, List, [], ◌∷◌, length, take, drop}
+use Rattle.std.specs.Prelude.{Option, None}
 use Rattle.std.specs.List.{flat_map}
 use Rattle.smp_rewrite.specs.LayoutSteps.Layout.{Layout}
 use Rattle.smp_rewrite.specs.LayoutSteps.Whole.{Whole}
 use Rattle.operators.specs.declared.target.Target.{Target}
-use Rattle.smp_rewrite.specs.LayoutSteps.Step.{PlainCore, piece, turns, twiddles, thomas_in, thomas_out, PlainStep, step, steps_of}
+use Rattle.smp_rewrite.specs.LayoutSteps.Step.{PlainCore, piece, turns, twiddles, thomas_in, thomas_out, PlainStep}
+use Rattle.smp_rewrite.specs.LayoutSteps.Step.{step, steps_of}
 use Rattle.operators.specs.declared.tensor_paths.Tensor.TheVariants.{Blocks, Columns}
 use Rattle.operators.specs.TensorPaths.Path.{Path}
 use Rattle.smp_rewrite.specs.Smp.{PlainFactor, blocks, diagonals, move_before, move_after, PlainSmp, within}
@@ -17,11 +19,13 @@ whole_factor path (twiddles r s w) = diagonals (step path (twiddles r s w))
 whole_factor path (thomas_in r s) = move_before (step path (thomas_in r s))
 whole_factor path (thomas_out r s) = move_after (step path (thomas_out r s))
 
--- The root's permutation L(r * s, r) is `(I_p tensor L(r * s / p, r / p)) (L(p * s, p) tensor I_(r / p))`.
--- In its right part `I_r tensor A` is `I_p tensor (I_(r / p) tensor A)`. In its left part, for A of size m = n / s,
--- `A tensor I_s` is `(L(m * p, m) tensor I_(s / p)) (I_p tensor (A tensor I_(s / p))) (L(m * p, p) tensor I_(s / p))`; its permutations move whole lines.
+-- The root's permutation L(r * s, r) is `(I_p tensor L(r * s / p, r / p)) (L(p * s, p) tensor
+-- I_(r / p))`. In its right part `I_r tensor A` is `I_p tensor (I_(r / p) tensor A)`. In its left
+-- part, for A of size m = n / s, `A tensor I_s` is `(L(m * p, m) tensor I_(s / p)) (I_p tensor (A
+-- tensor I_(s / p))) (L(m * p, p) tensor I_(s / p))`; its permutations move whole lines.
 abbrev pub cut_factors : ℕ → ℕ → Path → PlainCore → List PlainFactor
-cut_factors n p [] (turns r s) = move_before (step (within (Columns (r / p)) []) (turns p s)) ∷ blocks (step [] (turns (r / p) s)) ∷ []
+cut_factors n p [] (turns r s) =
+    move_before (step (within (Columns (r / p)) []) (turns p s)) ∷ blocks (step [] (turns (r / p) s)) ∷ []
 cut_factors n p [] core = whole_factor [] core ∷ []
 cut_factors n p (Blocks r ∷ path) core = blocks (step (within (Blocks (r / p)) path) core) ∷ []
 cut_factors n p (Columns s ∷ path) (piece w) =

@@ -9,7 +9,8 @@ use Rattle.operators.specs.declared.tensor_paths.Tensor.{Tensor}
 use Rattle.operators.specs.declared.tensor_paths.Tensor.TheVariants.{Blocks}
 use Rattle.operators.specs.TensorPaths.Path.{Path, count_of}
 
--- the same block for each processor; a diagonal of an equal length for each; or a move of whole lines, merged into what comes after or before it
+-- the same block for each processor; a diagonal of an equal length for
+-- each; or a move of whole lines, merged into what comes after or before it
 pub data PlainFactor : Type 0 where
   blocks : (block : PlainStep) → PlainFactor
   diagonals : (whole : PlainStep) → PlainFactor

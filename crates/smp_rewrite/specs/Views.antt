@@ -13,4 +13,9 @@ plain_factor (MoveBefore s) = move_before (plain_step s)
 plain_factor (MoveAfter s) = move_after (plain_step s)
 
 abbrev pub plain_smp : SmpSpl → PlainSmp
-plain_smp f = record { target = f.target; first = map plain_factor f.first.items; second = map plain_factor f.second.items; closing = f.closing }
+plain_smp f = record {
+  target = f.target;
+  first = map plain_factor f.first.items;
+  second = map plain_factor f.second.items;
+  closing = f.closing;
+}

@@ -65,8 +65,8 @@ rooted r valid = rooted_by r.kind r refl valid
 
 -- ---- a right request has a tree
 
-affordable : (r : Request) → IsValid r → CanDivideWhole r → IsWithinBudget r → (tree : Breakdown) × IsPlanned r (Ok tree)
-affordable r valid can pays =
+has-plan : (r : Request) → IsValid r → CanDivideWhole r → IsWithinBudget r → (tree : Breakdown) × IsPlanned r (Ok tree)
+has-plan r valid can pays =
     let tree = whole_exists r valid.in_range can in
     let same : pays.0 ≡ whole_cost r tree.0 =
     whole_least_once r pays.0 (whole_cost r tree.0) pays.1 (whole_is_least r tree.0 tree.1) in
@@ -89,7 +89,7 @@ with_tree request tree = record { request = request; tree = tree }
 pub orders_plan : (names bytes : List ℕ) (r : Request) → IsValid r → CanDivideWhole r → IsWithinBudget r
     → ordered (line 256) (λ text. spelt text >>= turned names) bytes (Ok r) → (plan : Planned) × (plan.request ≡ r) × ordered (line 256) (planned names) bytes (Ok plan)
 orders_plan names bytes r valid can pays orders =
-    let found = affordable r valid can pays in
+    let found = has-plan r valid can pays in
     let plan = with_tree r found.0 in (
       plan,
       refl,

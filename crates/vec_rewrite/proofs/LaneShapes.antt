@@ -8,7 +8,7 @@ use Rattle.smp_rewrite.specs.Smp as smp
 use Rattle.smp_rewrite.specs.Smp.{within}
 use Rattle.smp_rewrite.specs.Cut.{layout_smp}
 use Rattle.smp_rewrite.specs.Laws.{step_size, IsPermutation, IsMove, HasShape}
-use Rattle.smp_rewrite.proofs.Tensors.{size-within}
+use Rattle.smp_rewrite.proofs.Tensors.{blocks-within, size-within}
 use Rattle.smp_rewrite.proofs.TreeLaws.{smp_shaped}
 use Rattle.smp_rewrite.specs.LayoutSteps.Meaning.{core_size}
 use Rattle.smp_rewrite.specs.LayoutSteps.Step.{PlainCore, piece, turns, twiddles, thomas_in, thomas_out, step}
@@ -48,8 +48,10 @@ IsFilled n d (Some g) = Fills n d g
 
 tiles-shaped : (n : ℕ) (d : Deal) (g : Grid) → Fills n d g → HasLanes n d.procs d.lanes (tiles (within (Blocks g.groups) (within (Blocks g.tiles) [])))
 tiles-shaped n d g h =
-    ap (λ k. d.procs * k) (size-within (Blocks g.groups) (within (Blocks g.tiles) []) (d.lanes * d.lanes) ∙ ap (λ k. g.groups * k) (size-within (Blocks g.tiles) [] (d.lanes * d.lanes)))
-    ∙ omega (arith, h)
+    let across = within (Blocks g.tiles) [] in
+    let square = d.lanes * d.lanes in
+    let size = ap (λ k. d.procs * k) (size-within (Blocks g.groups) across square ∙ ap (λ k. g.groups * k) (size-within (Blocks g.tiles) [] square)) in
+    (size ∙ omega (arith, h), blocks-within g.groups across (blocks-within g.tiles [] tt))
 
 turn-shaped : (n : ℕ) (d : Deal) (g : Grid) (r s : ℕ) → Fills n d g → r * s ≡ g.tiles * d.lanes → d.lanes * step_size (step (within (Blocks d.procs) (within (Blocks g.groups) [])) (turns r s)) ≡ n
 turn-shaped n d g r s h e =

@@ -7,6 +7,7 @@ use Rattle.smp_rewrite.specs.Fits.{CanShareLayout}
 use Rattle.smp_rewrite.specs.LayoutSteps.Layout.{Layout}
 use Rattle.smp_rewrite.specs.LayoutSteps.Whole.{Whole}
 use Rattle.smp_rewrite.specs.LayoutSteps.Step.{steps_of}
+use Rattle.sigma_spl.specs.Good.{AreBlocks}
 use Rattle.sigma_spl.specs.Shared.Targets.{is_alone}
 use Rattle.operators.specs.declared.target.Target.{Target}
 use Rattle.operators.specs.declared.tensor_paths.Tensor.TheVariants.{Blocks, Columns}
@@ -41,13 +42,14 @@ Keeps weight m f =
 abbrev pub VecKeeps : Type 0
 VecKeeps = (weight m : ℕ) (h : Target) (f : PlainSmp) → IsSmpOf h f → Keeps weight m f
 
--- On n words, for p processors and v lanes: in blocks of n / p words `A tensor I_v` or tiles, a diagonal that p processors share, or a permutation of n / v vectors
+-- On n words, for p processors and v lanes: in blocks of n / p words `A tensor I_v` or tiles that stand in blocks, a
+-- diagonal that p processors share, or a permutation of n / v vectors
 abbrev pub HasLanes : ℕ → ℕ → ℕ → vec.PlainFactor → Type 0
 HasLanes n p v (vec.lanes s) = p * (v * step_size s) ≡ n
 HasLanes n p v (vec.diagonals s) = (step_size s ≡ n) × IsDiagonal s.core × (n % p ≡ 0)
 HasLanes n p v (vec.move_before s) = (v * step_size s ≡ n) × IsPermutation s.core
 HasLanes n p v (vec.move_after s) = (v * step_size s ≡ n) × IsPermutation s.core
-HasLanes n p v (vec.tiles path) = p * size_under path (v * v) ≡ n
+HasLanes n p v (vec.tiles path) = (p * size_under path (v * v) ≡ n) × AreBlocks path
 
 abbrev pub IsLaned : PlainVec → Type 0
 IsLaned g =

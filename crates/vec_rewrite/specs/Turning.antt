@@ -18,7 +18,8 @@ kept (smp.diagonals s) = diagonals s
 kept (smp.move_before s) = move_before s
 kept (smp.move_after s) = move_after s
 
--- ---- several lanes: r rows of s words become r / v groups of v rows that lie side by side, and s / v tiles reach across each group
+-- ---- several lanes: r rows of s words become r / v groups of v rows that lie side by side, and s / v tiles reach
+-- across each group
 
 -- Rows side by side: `L(s * v, s)` is `(I_(s / v) tensor L(v * v, v)) (L(s, s / v) tensor I_v)`
 abbrev pub joined : Deal → Grid → List PlainFactor
@@ -61,15 +62,19 @@ narrowed v [] core = step [] core
 narrowed v (Blocks r ∷ path) core = step (Blocks r ∷ path) core
 narrowed v (Columns s ∷ path) core = step (within (Columns (s / v)) path) core
 
--- The factors of a block's step, where the words may lie in groups. The root's permutation L(r * s, r) is `(I_(r / v) tensor L(s * v, v)) (L(r * s / v, r / v) tensor I_v)`,
--- and on rows `I_r tensor A` is `I_(r / v) tensor (L(s * v, v) (A tensor I_v) L(s * v, s))`.
+-- The factors of a block's step, where the words may lie in groups. The root's permutation
+-- L(r * s, r) is `(I_(r / v) tensor L(s * v, v)) (L(r * s / v, r / v) tensor I_v)`, and on
+-- rows `I_r tensor A` is `I_(r / v) tensor (L(s * v, v) (A tensor I_v) L(s * v, s))`.
 abbrev pub block_factors : Deal → Option Grid → Path → PlainCore → List PlainFactor
 block_factors d o [] (turns r s) = settled d o ++ lanes (step [] (turns (r / d.lanes) s)) ∷ []
-block_factors d o [] (twiddles r s w) = settled d o ++ diagonals (step (within (Blocks d.procs) []) (twiddles r s w)) ∷ []
+block_factors d o [] (twiddles r s w) =
+    settled d o ++ diagonals (step (within (Blocks d.procs) []) (twiddles r s w)) ∷ []
 block_factors d o [] core = settled d o ++ lanes (step [] core) ∷ []
 block_factors d o (Blocks r ∷ path) core =
-    grouped d o (record { groups = r / d.lanes; tiles = d.block / r / d.lanes }) ++ lanes (step (within (Blocks (r / d.lanes)) path) core) ∷ []
-block_factors d o (Columns s ∷ path) (twiddles q t w) = settled d o ++ diagonals (step (within (Blocks d.procs) (Columns s ∷ path)) (twiddles q t w)) ∷ []
+    grouped d o (record { groups = r / d.lanes; tiles = d.block / r / d.lanes })
+        ++ lanes (step (within (Blocks (r / d.lanes)) path) core) ∷ []
+block_factors d o (Columns s ∷ path) (twiddles q t w) =
+    settled d o ++ diagonals (step (within (Blocks d.procs) (Columns s ∷ path)) (twiddles q t w)) ∷ []
 block_factors d o (Columns s ∷ path) core = settled d o ++ lanes (narrowed d.lanes (Columns s ∷ path) core) ∷ []
 
 -- the factors of a factor, where the words may lie in groups

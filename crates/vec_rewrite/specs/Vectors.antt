@@ -1,4 +1,5 @@
--- Formulas for lanes: factors that are `A tensor I_v` or tiles L(v * v, v) in each processor's block, diagonals, or moves of whole vectors of v words.
+-- Formulas for lanes: factors that are `A tensor I_v` or tiles L(v * v, v) in
+-- each processor's block, diagonals, or moves of whole vectors of v words.
 use Rattle.std.specs.Prelude.{ℕ, ◌+◌, ◌*◌, ◌/◌, List, [], ◌∷◌, ◌++◌, map, Option}
 use Rattle.operators.specs.Operator.{Operator}
 use Rattle.smp_rewrite.specs.Smp.{by_phase, within}
@@ -9,7 +10,8 @@ use Rattle.smp_rewrite.specs.LayoutSteps.Step.{PlainStep, step, turns, operation
 use Rattle.operators.specs.declared.tensor_paths.Tensor.TheVariants.{Blocks, Columns}
 use Rattle.operators.specs.TensorPaths.Path.{Path}
 
--- a step on all lanes of each processor's block; a diagonal on all words; a permutation of the vectors of all words; tiles under a path in each block
+-- a step on all lanes of each processor's block; a diagonal on all words; a
+-- permutation of the vectors of all words; tiles under a path in each block
 pub data PlainFactor : Type 0 where
   lanes : (lane : PlainStep) → PlainFactor
   diagonals : (whole : PlainStep) → PlainFactor

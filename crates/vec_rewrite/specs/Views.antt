@@ -14,4 +14,9 @@ plain_vec_factor (MoveAfter s) = move_after (plain_step s)
 plain_vec_factor (Tiles path) = tiles path.items
 
 abbrev pub plain_vec : VecSpl → PlainVec
-plain_vec g = record { target = g.target; first = map plain_vec_factor g.first.items; second = map plain_vec_factor g.second.items; closing = g.closing }
+plain_vec g = record {
+  target = g.target;
+  first = map plain_vec_factor g.first.items;
+  second = map plain_vec_factor g.second.items;
+  closing = g.closing;
+}

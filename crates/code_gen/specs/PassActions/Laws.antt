@@ -16,7 +16,8 @@ use Rattle.sigma_spl.specs.Shared.Running.{CanRun, IsLoadedBy, IsStoredBy}
 abbrev pub AreApart : ℕ → ℕ → ℕ → Type 0
 AreApart n source target = (source + n ≤ target) ⊎ (target + n ≤ source)
 
--- a state in which a processor may begin its part of a pass: the words of the first array that it loads are these residues
+-- a state in which a processor may begin its part of a pass:
+-- the words of the first array that it loads are these residues
 pub record CanBegin (h : Target) (zs : List PlainNest) (source target q : ℕ) (x : List ℕ) (s : Local) : Type 0 where
   pub registers : pass_registers h.modulus zs * h.lanes ≤ length s.registers
   pub sources : source + h.size ≤ length s.memory
@@ -30,8 +31,11 @@ left_by h actions s = (effects h.modulus h.lanes actions s).memory
 
 -- the second array has what the pass makes of the first, where the processor stores, and no other word is changed
 pub record Leaves (h : Target) (zs : List PlainNest) (source target q : ℕ) (x : List ℕ) (s : Local) : Type 0 where
-  pub stored : (w : ℕ) → IsStoredBy h zs q w → slice_index (left_by h (pass_acts h zs source target q) s) (target + w) ≡ slice_index (nests_on h.modulus h.size zs x) w
-  pub kept : (a : ℕ) → ((w : ℕ) → IsStoredBy h zs q w → a ≢ target + w) → slice_index (left_by h (pass_acts h zs source target q) s) a ≡ slice_index s.memory a
+  pub stored : (w : ℕ) → IsStoredBy h zs q w →
+      slice_index (left_by h (pass_acts h zs source target q) s) (target + w)
+      ≡ slice_index (nests_on h.modulus h.size zs x) w
+  pub kept : (a : ℕ) → ((w : ℕ) → IsStoredBy h zs q w → a ≢ target + w) →
+      slice_index (left_by h (pass_acts h zs source target q) s) a ≡ slice_index s.memory a
 
 -- the action names registers below a bound, and its factors are residues
 pub record IsFit (regs lanes modulus : ℕ) (action : Action) : Type 0 where
@@ -46,10 +50,14 @@ counted weight lanes actions =
 
 -- A processor's actions leave what the pass makes of its array, at the counts of its share, whatever a product counts
 pub record Runs (h : Target) (zs : List PlainNest) : Type 0 where
-  pub leaves : (source target q : ℕ) (x : List ℕ) (s : Local) → q < h.procs → AreApart h.size source target → CanBegin h zs source target q x s → Leaves h zs source target q x s
-  pub counts : (weight source target q : ℕ) → 0 < weight → q < h.procs → counted weight h.lanes (pass_acts h zs source target q) ≡ share_of h weight zs
-  pub fit : (source target q : ℕ) → q < h.procs → All (IsFit (pass_registers h.modulus zs) h.lanes h.modulus) (pass_acts h zs source target q)
-  pub short : (source target q : ℕ) → q < h.procs → h.procs * length (pass_acts h zs source target q) ≤ pass_cost 1 h.modulus zs + pass_loads zs + 2 * h.size
+  pub leaves : (source target q : ℕ) (x : List ℕ) (s : Local) → q < h.procs → AreApart h.size source target →
+      CanBegin h zs source target q x s → Leaves h zs source target q x s
+  pub counts : (weight source target q : ℕ) → 0 < weight → q < h.procs →
+      counted weight h.lanes (pass_acts h zs source target q) ≡ share_of h weight zs
+  pub fit : (source target q : ℕ) → q < h.procs →
+      All (IsFit (pass_registers h.modulus zs) h.lanes h.modulus) (pass_acts h zs source target q)
+  pub short : (source target q : ℕ) → q < h.procs →
+      h.procs * length (pass_acts h zs source target q) ≤ pass_cost 1 h.modulus zs + pass_loads zs + 2 * h.size
 
 -- every pass that can be run does
 abbrev pub PassesRun : Type 0

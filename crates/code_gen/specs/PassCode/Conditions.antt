@@ -39,7 +39,8 @@ pub record FitsWord (cs : ℕ → ℕ) (e : Sum) : Type 0 where
   pub whole : top e cs < 2 ^ 64
   pub divided : DividesWords cs e
 
--- the sums can be written, their numbers fit words, and their expressions stand within the limits of programs where so many loops are open
+-- the sums can be written, their numbers fit words, and their expressions
+-- stand within the limits of programs where so many loops are open
 pub record AreWithin (cs : ℕ → ℕ) (f : PlainFrame) (open_loops : ℕ) (sums : List Sum) : Type 0 where
   pub writable : All CanWrite sums
   pub words : All (FitsWord cs) sums
@@ -57,10 +58,14 @@ stores_inside (horner root size) = 1
 stores_inside w = 0
 
 pub record CanWriteNest (h : Target) (z : PlainNest) : Type 0 where
-  pub gathers : NamesItems z.work z.gathers × AreWithin (limits_of z) (frame_of h z.work) (length (loop_counts h z) + loads_inside z.work) z.gathers
-  pub scatters : NamesItems z.work z.scatters × AreWithin (limits_of z) (frame_of h z.work) (length (loop_counts h z) + stores_inside z.work) z.scatters
+  pub gathers : NamesItems z.work z.gathers
+      × AreWithin (limits_of z) (frame_of h z.work) (length (loop_counts h z) + loads_inside z.work) z.gathers
+  pub scatters : NamesItems z.work z.scatters
+      × AreWithin (limits_of z) (frame_of h z.work) (length (loop_counts h z) + stores_inside z.work) z.scatters
   pub multiplier : (d : PlainMultiplier) → z.multiplier ≡ Some d →
-      NamesItems z.work d.places × AreWithin (limits_of z) (frame_of h z.work) (length (loop_counts h z) + stores_inside z.work) d.places × (0 < factor_count d.factors) × (factor_count d.factors < 2 ^ 32)
+      NamesItems z.work d.places
+          × AreWithin (limits_of z) (frame_of h z.work) (length (loop_counts h z) + stores_inside z.work) d.places
+          × (0 < factor_count d.factors) × (factor_count d.factors < 2 ^ 32)
   pub alike : LoadsAlike z z.work
   pub items : work_size z.work < 2 ^ 32
   pub shallow : length (loop_counts h z) + 2 < 64
@@ -89,15 +94,19 @@ pub record IsInside (s : Step) : Type 0 where
   pub numbers : s.peak < 2 ^ 64
   pub place : s.reach ≤ s.room
 
--- in every program with its tables the statements of a pass are its actions, on each processor, at places that are inside
+-- in every program with its tables the statements of a pass are
+-- its actions, on each processor, at places that are inside
 pub record IsEmitted (h : Target) (zs : List PlainNest) (tables : List (List ℕ)) (source target : Array) : Type 0 where
   pub acts : (program : PlainProgram) (q : ℕ) → q < h.procs → HasTables h (tables_after h.modulus zs tables) program →
       actions_of (steps_of_body program (pass_body h zs tables source target) [] q)
-      ≡ pass_acts h zs (array_start (whole_lines h.size h.line) source) (array_start (whole_lines h.size h.line) target) q
+      ≡ pass_acts h zs (array_start (whole_lines h.size h.line) source)
+          (array_start (whole_lines h.size h.line) target) q
   pub inside : (program : PlainProgram) (q : ℕ) → q < h.procs → HasTables h (tables_after h.modulus zs tables) program →
       All IsInside (steps_of_body program (pass_body h zs tables source target) [] q)
   pub within : IsTrue (is_body_within h.modulus (pass_body h zs tables source target) 0)
 
 -- every pass that can be written is, where there are not too many tables
 abbrev pub PassesAreEmitted : Type 0
-PassesAreEmitted = (h : Target) (zs : List PlainNest) (tables : List (List ℕ)) (source target : Array) → CanWritePass h zs → length (tables_after h.modulus zs tables) < 2 ^ 32 → IsEmitted h zs tables source target
+PassesAreEmitted =
+    (h : Target) (zs : List PlainNest) (tables : List (List ℕ)) (source target : Array) → CanWritePass h zs →
+        length (tables_after h.modulus zs tables) < 2 ^ 32 → IsEmitted h zs tables source target

@@ -40,7 +40,8 @@ Stays n lanes source target (Load r a) = (source ≤ a) × (a + lanes ≤ source
 Stays n lanes source target (Store a r) = (target ≤ a) × (a + lanes ≤ target + n)
 Stays n lanes source target _ = Unit {0}
 
--- a processor's part of a pass: exactly its share of what the pass counts, whatever a product counts, between its two arrays
+-- a processor's part of a pass: exactly its share of what the
+-- pass counts, whatever a product counts, between its two arrays
 pub record IsPart (h : Target) (zs : List PlainNest) (source target : ℕ) (actions : List Action) : Type 0 where
   pub stays : All (Stays h.size h.lanes source target) actions
   pub counts : (weight : ℕ) → 0 < weight → counted weight h.lanes actions ≡ share_of h weight zs
@@ -51,7 +52,8 @@ AreParts h t source [] [] = Unit {0}
 AreParts h t source [] (part ∷ parts) = ⊥
 AreParts h t source (zs ∷ passes) [] = ⊥
 AreParts h t source (zs ∷ passes) (part ∷ parts) =
-    IsPart h zs (array_start (whole_lines h.size h.line) source) (array_start (whole_lines h.size h.line) (written_array t (length passes))) part
+    IsPart h zs (array_start (whole_lines h.size h.line) source)
+        (array_start (whole_lines h.size h.line) (written_array t (length passes))) part
     × AreParts h (suc t) (written_array t (length passes)) passes parts
 
 abbrev pub joined : List (List Action) → List Action
@@ -64,7 +66,8 @@ pub record IsListed (h : Target) (g : PlainMerged) (actions : List Action) : Typ
   pub whole : joined parts ≡ actions
   pub each : AreParts h 0 X (all_passes g.phases) parts
 
--- the parts of each phase, from phase f on: one for each of its passes, and together they are what processor q does in it
+-- the parts of each phase, from phase f on: one for each of its
+-- passes, and together they are what processor q does in it
 abbrev pub ArePhaseParts : Code → ℕ → ℕ → List (List (List PlainNest)) → List (List (List Action)) → Type 0
 ArePhaseParts code q f [] [] = Unit {0}
 ArePhaseParts code q f [] (parts ∷ more) = ⊥
@@ -82,7 +85,8 @@ pub record IsByPhase (h : Target) (g : PlainMerged) (code : Code) (q : ℕ) : Ty
   pub lists : ArePhaseParts code q 0 g.phases phases
   pub each : AreParts h 0 X (all_passes g.phases) (in_a_row phases)
 
--- It is for the machine, stands within the limits and fits, and no processor touches a line that another writes in a phase; run with no turns but those that complete it, it leaves what the merged passes do
+-- It is for the machine, stands within the limits and fits, and no processor touches a line that another writes in a
+-- phase; run with no turns but those that complete it, it leaves what the merged passes do
 pub record Performs (h : Target) (g : PlainMerged) (p : PlainProgram) : Type 0 where
   pub size : p.size ≡ h.size
   pub modulus : p.modulus ≡ h.modulus

@@ -14,11 +14,13 @@ abbrev pub written_array : ℕ → ℕ → Array
 written_array t zero = Y
 written_array t (suc more) = if t % 2 == 0 then A else B
 
--- the statements of passes, the first of which has number t and reads the source, where so many come after them and these tables are there before
+-- the statements of passes, the first of which has number t and reads the
+-- source, where so many come after them and these tables are there before
 abbrev pub phase_body : Target → ℕ → List (List PlainNest) → ℕ → List (List ℕ) → Array → PlainBody
 phase_body h after [] t tables source = NoStmts
 phase_body h after (zs ∷ ps) t tables source =
-    followed_by (pass_body h zs tables source (written_array t (after + length ps))) (phase_body h after ps (suc t) (tables_after h.modulus zs tables) (written_array t (after + length ps)))
+    followed_by (pass_body h zs tables source (written_array t (after + length ps)))
+        (phase_body h after ps (suc t) (tables_after h.modulus zs tables) (written_array t (after + length ps)))
 
 abbrev pub tables_through : ℕ → List (List PlainNest) → List (List ℕ) → List (List ℕ)
 tables_through m [] tables = tables
@@ -35,7 +37,9 @@ count_in (ps ∷ more) = count_in more + length ps
 abbrev pub phases_body : Target → List (List (List PlainNest)) → ℕ → List (List ℕ) → Array → List PlainBody
 phases_body h [] t tables source = []
 phases_body h (ps ∷ more) t tables source =
-    phase_body h (count_in more) ps t tables source ∷ phases_body h more (t + length ps) (tables_through h.modulus ps tables) (array_after (count_in more) ps t source)
+    phase_body h (count_in more) ps t tables source
+        ∷ phases_body h more (t + length ps) (tables_through h.modulus ps tables)
+        (array_after (count_in more) ps t source)
 
 abbrev pub tables_of_phases : ℕ → List (List (List PlainNest)) → List (List ℕ) → List (List ℕ)
 tables_of_phases m [] tables = tables

@@ -21,8 +21,10 @@ IsSmallPositive n = (0 < n) × (n < 2 ^ 32)
 abbrev pub DividesSmall : Sum → Type 0
 DividesSmall (constant c) = Unit {0}
 DividesSmall (variable f d rest) = DividesSmall rest
-DividesSmall (remainder f of m rest) = IsSmallPositive f × IsSmallPositive m × HasSmall of × DividesSmall of × DividesSmall rest
-DividesSmall (quotient f of m rest) = IsSmallPositive f × IsSmallPositive m × HasSmall of × DividesSmall of × DividesSmall rest
+DividesSmall (remainder f of m rest) =
+    IsSmallPositive f × IsSmallPositive m × HasSmall of × DividesSmall of × DividesSmall rest
+DividesSmall (quotient f of m rest) =
+    IsSmallPositive f × IsSmallPositive m × HasSmall of × DividesSmall of × DividesSmall rest
 
 pub record IsSmallSum (e : Sum) : Type 0 where
   pub whole : HasSmall e
@@ -35,7 +37,9 @@ abbrev pub IsFrame : PlainFrame → Type 0
 IsFrame f = f.shared ≡ true → 0 < f.first_loop
 
 abbrev pub ExpressionsAreWithin : Type 0
-ExpressionsAreWithin = (f : PlainFrame) (open_loops : ℕ) (e : Sum) → IsFrame f → open_loops ≤ 64 → IsSmallSum e → IsTrue (is_expr_within (expr_of f open_loops e) open_loops)
+ExpressionsAreWithin =
+    (f : PlainFrame) (open_loops : ℕ) (e : Sum) → IsFrame f → open_loops ≤ 64 → IsSmallSum e →
+        IsTrue (is_expr_within (expr_of f open_loops e) open_loops)
 
 -- ---- by merging's test
 
@@ -46,4 +50,5 @@ pub record CanBeCoded (cs : ℕ → ℕ) (e : Sum) : Type 0 where
 
 -- a place of so many parts, in an array of n words, that passes merging's test
 abbrev pub TestedSumsAreCoded : Type 0
-TestedSumsAreCoded = (room n : ℕ) (cs : ℕ → ℕ) (e : Sum) → room ≤ 64 → n ≤ 2 ^ 20 → is_limited room n cs e ≡ true → CanBeCoded cs e
+TestedSumsAreCoded =
+    (room n : ℕ) (cs : ℕ → ℕ) (e : Sum) → room ≤ 64 → n ≤ 2 ^ 20 → is_limited room n cs e ≡ true → CanBeCoded cs e

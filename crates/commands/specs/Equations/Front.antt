@@ -1,5 +1,6 @@
 -- The front of an input, by which a command goes, and what is right for a command behind it.
-use Rattle.std.specs.Prelude.{◌≡◌, ◌⊎◌, ℕ, ◌-◌, ◌≤◌, ◌==◌, nat_le, Bool, true, false, List, [], length, Ok, Err, Result, if◌then◌else◌}
+use Rattle.std.specs.Prelude.{◌≡◌, ◌⊎◌, ℕ, ◌-◌, ◌≤◌, ◌==◌, nat_le, Bool, true, false, List, [], length, Ok, Err, Result}
+use Rattle.std.specs.Prelude.{if◌then◌else◌}
 use Rattle.std.specs.List.{before_first, after_first, list_any}
 use Rattle.io_edge.specs.Feed.{limit}
 use Rattle.data_stream.specs.InputRest.Part.{first_part, second_part, has_empty_line}

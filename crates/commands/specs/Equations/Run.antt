@@ -1,6 +1,6 @@
 -- What is right for `run`.
 use Rattle.std.specs.Prelude.{◌≡◌, ◌≤◌, ℕ, List, Ok, Err}
-use Rattle.generate.specs.Planned.{IsRefused, IsRooted}
+use Rattle.generate.specs.Planned.{HasNoPlan, IsRooted}
 use Rattle.matrix_meaning.specs.Asked.{asked_of}
 use Rattle.matrix_meaning.specs.declared.Request.{Request}
 use Rattle.plan_search.specs.declared.generating.GenerateFault.{GenerateFault}
@@ -21,7 +21,7 @@ abbrev pub affordable : Request → Stage Request
 affordable request (Ok same) =
     (same ≡ request) × IsRooted request × ((cost : ℕ) × IsWholeLeast request cost × (cost ≤ request.budget))
 affordable request (Err status) =
-    (fault : GenerateFault) × IsRefused request fault × (status ≡ status_of_generate fault)
+    (fault : GenerateFault) × HasNoPlan request fault × (status ≡ status_of_generate fault)
 
 -- a line for each vector, of the request's matrix times it
 abbrev pub IsRunText : Request → List (List ℕ) → List ℕ → Type 0

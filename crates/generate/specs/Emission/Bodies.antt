@@ -3,7 +3,8 @@ use Rattle.std.specs.Prelude.{ℕ, ◌+◌, ◌==◌, if◌then◌else◌, List,
 use Rattle.std.specs.List.{flat_map, range_with_len}
 use Rattle.code_gen.specs.PassCode.Expressions.{factor_at}
 use Rattle.icode.specs.Plain as code
-use Rattle.icode.specs.Plain.{PlainExpr, PlainPart, PlainStmt, Loop, Do, Load, Store, Zero, Add, MulConst, MulTable, Tile, Proc, Var, Product, Rem, body_of, parts_of}
+use Rattle.icode.specs.Plain.{PlainExpr, PlainPart, PlainStmt, Loop, Do, Load, Store, Zero, Add, MulConst, MulTable}
+use Rattle.icode.specs.Plain.{Tile, Proc, Var, Product, Rem, body_of, parts_of}
 use Rattle.icode.specs.declared.program.Array.{Array}
 use Rattle.kernel_gen.specs.Instructions.{op_of}
 use Rattle.kernel_gen.specs.Kernel.{trees_kernel}

@@ -1,6 +1,7 @@
 -- Programs by the rules of emission, written out: the texts of the specification, and one for each other rule.
 use Rattle.std.specs.Prelude.{◌≡◌, ℕ, [], ◌∷◌}
-use Rattle.icode.specs.Plain.{PlainProgram, Loop, Do, Load, Store, Zero, Add, Sub, MulConst, MulTable, Tile, Proc, Var, Product, Rem, body_of}
+use Rattle.icode.specs.Plain.{PlainProgram, Loop, Do, Load, Store, Zero, Add, Sub, MulConst, MulTable, Tile, Proc, Var}
+use Rattle.icode.specs.Plain.{Product, Rem, body_of}
 use Rattle.icode.specs.declared.program.Array.TheVariants.{X, Y, A, B}
 use Rattle.matrix_meaning.specs.declared.Dimension.{Dimension}
 use Rattle.matrix_meaning.specs.declared.Dimensions.TheVariants.{One, Two}

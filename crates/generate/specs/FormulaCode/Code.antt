@@ -17,8 +17,9 @@ pub record HasHeader (m : ℕ) (f : Formula) (p : PlainProgram) : Type 0 where
   pub line : p.line ≡ 1
   pub lanes : p.lanes ≡ 1
 
--- Whatever the vector and whatever turns come first, the program leaves the formula's matrix times the vector, in one
--- phase, in exactly the formula's operations. It stands within the limits of listings, and every place that it names is there
+-- Whatever the vector and whatever turns come first, the program leaves the formula's
+-- matrix times the vector, in one phase, in exactly the formula's operations. It
+-- stands within the limits of listings, and every place that it names is there
 pub record IsCodeOf (m : ℕ) (f : Formula) (p : PlainProgram) : Type 0 where
   pub header : HasHeader m f p
   pub limits : IsWithinLimits p

@@ -21,7 +21,8 @@ use Rattle.spl_ast.specs.Shape.{IsShaped}
 abbrev pub formula_merged : ℕ → Formula → PlainMerged
 formula_merged m f = plain_phase (size_of f) (all_joined (passes_of (size_of f) (term_of m [] f)))
 
--- The program stands within the limits and fits. Run with no turns but those that complete it, it leaves what the formula makes of each vector of residues, in exactly the formula's operations, whatever a product counts
+-- The program stands within the limits and fits. Run with no turns but those that complete it, it leaves what the
+-- formula makes of each vector of residues, in exactly the formula's operations, whatever a product counts
 pub record Computes (m : ℕ) (f : Formula) (p : PlainProgram) : Type 0 where
   pub limits : IsWithinLimits p
   pub fits : PlainFits p
@@ -30,4 +31,6 @@ pub record Computes (m : ℕ) (f : Formula) (p : PlainProgram) : Type 0 where
 
 -- each program of a formula's merged passes does
 abbrev pub FormulasCompute : Type 0
-FormulasCompute = (m : ℕ) (f : Formula) (p : PlainProgram) → 2 ≤ m → m < 2 ^ 62 → IsShaped f → parts_of f ≤ 65536 → Performs (plain_machine (size_of f) m) (formula_merged m f) p → Computes m f p
+FormulasCompute =
+    (m : ℕ) (f : Formula) (p : PlainProgram) → 2 ≤ m → m < 2 ^ 62 → IsShaped f → parts_of f ≤ 65536 →
+        Performs (plain_machine (size_of f) m) (formula_merged m f) p → Computes m f p

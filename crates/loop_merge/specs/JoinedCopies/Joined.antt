@@ -1,5 +1,6 @@
 -- Copies of words that stand side by side, as one loop.
-use Rattle.std.specs.Prelude.{ℕ, ◌+◌, ◌^◌, ◌==◌, ◌&&◌, nat_lt, Bool, false, if◌then◌else◌, List, [], ◌∷◌, map, Option, Some, None}
+use Rattle.std.specs.Prelude.{ℕ, ◌+◌, ◌^◌, ◌==◌, ◌&&◌, nat_lt, Bool, false, if◌then◌else◌, List, [], ◌∷◌, map, Option}
+use Rattle.std.specs.Prelude.{Some, None}
 use Rattle.sigma_spl.specs.Merge.{is_free}
 use Rattle.sigma_spl.specs.Nest.{PlainNest}
 use Rattle.sigma_spl.specs.Work.{PlainWork, copy}
@@ -13,7 +14,8 @@ pub record PlainRun : Type 0 where
 -- the words of these places, under no loop, or under one that counts them
 abbrev pub words_at : List ℕ → List Sum → Option PlainRun
 words_at [] (constant p ∷ []) = Some (record { first = p; count = 1 })
-words_at (c ∷ []) (variable f d (constant p) ∷ []) = if f == 1 && d == 0 then Some (record { first = p; count = c }) else None
+words_at (c ∷ []) (variable f d (constant p) ∷ []) =
+    if f == 1 && d == 0 then Some (record { first = p; count = c }) else None
 words_at counts places = None
 
 -- where they are loaded, if they are stored at the same places
@@ -27,11 +29,15 @@ is_word w = false
 
 -- the words that a nest copies one by one to the places where they are, if that is all it does
 abbrev pub run_of : PlainNest → Option PlainRun
-run_of z = if is_word z.work && is_free z.multiplier then same_words (words_at z.counts z.gathers) (words_at z.counts z.scatters) else None
+run_of z =
+    if is_word z.work && is_free z.multiplier
+        then same_words (words_at z.counts z.gathers) (words_at z.counts z.scatters) else None
 
 -- both, where the second begins at the end of the first, and ends within the limits of places
 abbrev pub together : Option PlainRun → Option PlainRun → Option PlainRun
-together (Some r) (Some s) = if r.first + r.count == s.first && nat_lt (s.first + s.count) (2 ^ 32) then Some (record { first = r.first; count = r.count + s.count }) else None
+together (Some r) (Some s) =
+    if r.first + r.count == s.first && nat_lt (s.first + s.count) (2 ^ 32)
+        then Some (record { first = r.first; count = r.count + s.count }) else None
 together r s = None
 
 -- the loop that copies them

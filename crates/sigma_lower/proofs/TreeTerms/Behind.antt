@@ -11,7 +11,6 @@ use Rattle.tree_model.specs.declared.tree.Rule.{Rule}
 use Rattle.tree_model.specs.declared.tree.Rule.TheVariants.{Gt, Ct, Split, Dim}
 use Rattle.smp_rewrite.specs.LayoutSteps.Layout.{Layout, work, by, layout_size}
 use Rattle.sigma_lower.specs.TreeTerms.Root.{right_path, left_path, whole_path}
-use Rattle.sigma_spl.specs.Good.{AreBlocks}
 
 -- ---- steps
 
@@ -76,14 +75,6 @@ two-append t u rest = within-append t (within u []) rest ∙ ap (within t) (with
 
 three-append : (t u w : Tensor) (rest : Path) → within t (within u (within w [])) ++ rest ≡ within t (within u (within w rest))
 three-append t u w rest = within-append t (within u (within w [])) rest ∙ ap (within t) (two-append u w rest)
-
--- tiles stand in blocks
-pick-blocks : (b : Bool) (k : ℕ) (path : Path) → AreBlocks path → AreBlocks (if b then path else Blocks k ∷ path)
-pick-blocks true k path h = h
-pick-blocks false k path h = h
-
-pub blocks-within : (k : ℕ) (path : Path) → AreBlocks path → AreBlocks (within (Blocks k) path)
-blocks-within k path h = pick-blocks (k == 1) k path h
 
 pub right-behind : (p v r : ℕ) (path : Path) → right_path p v r ++ path ≡ within (Blocks p) (within (Columns v) (within (Blocks (r / p / v)) path))
 right-behind p v r path = three-append (Blocks p) (Columns v) (Blocks (r / p / v)) path

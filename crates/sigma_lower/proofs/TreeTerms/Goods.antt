@@ -212,7 +212,7 @@ good-factor n p v (move_after s) some h apt =
     let size = size-within (Columns v) s.path (core_size s.core) ∙ mul_comm (size_under s.path (core_size s.core)) v ∙ h.0 in
     record { size = size; core = good-core (within (Columns v) s.path) s.core n apt size some }
 good-factor n p v (tiles path) some h apt =
-    let size = size-within (Blocks p) path (v * v) ∙ h in
+    let size = size-within (Blocks p) path (v * v) ∙ h.0 in
     record { size = size; core = good-core (within (Blocks p) path) (turns v v) n tt size some }
 
 good-factors : (n p v : ℕ) (fs : List PlainFactor) → 0 < n → All (HasLanes n p v) fs → All (IsAptLane IsGoodPiece) fs → AreGood n (map (factor_step p v) fs)

@@ -1,5 +1,6 @@
 -- What the passes of a layout count.
-use Rattle.std.specs.Prelude.{◌≡◌, ℕ, ◌+◌, ◌*◌, nat_le, List, [], ◌∷◌, ◌++◌, if◌then◌else◌, Option, Some, None, Bool, true, false}
+use Rattle.std.specs.Prelude.{◌≡◌, ℕ, ◌+◌, ◌*◌, nat_le, List, [], ◌∷◌, ◌++◌, if◌then◌else◌, Option, Some, None, Bool}
+use Rattle.std.specs.Prelude.{true, false}
 use Rattle.sigma_lower.specs.TreeLoops.Merge.{PlainDiagonal, PlainPass}
 use Rattle.matrix_meaning.specs.Valid.{IsValid}
 use Rattle.matrix_meaning.specs.declared.Request.{Request}
@@ -52,7 +53,8 @@ abbrev pub tiled_passes : Layout → List Counted
 tiled_passes (work w) = passes_of 1 (work w)
 tiled_passes (by Gt root a b) = passes_of 1 (by Gt root a b)
 tiled_passes (by Ct root a b) = passes_of (layout_size a) b ++ (tiles true ∷ passes_of (layout_size b) a)
-tiled_passes (by Split root a b) = tiles false ∷ (passes_of (layout_size a) b ++ (tiles false ∷ passes_of (layout_size b) a))
+tiled_passes (by Split root a b) =
+    tiles false ∷ (passes_of (layout_size a) b ++ (tiles false ∷ passes_of (layout_size b) a))
 tiled_passes (by Dim root a b) =
     tiles false ∷ (passes_of (layout_size a) b ++ (tiles false ∷ passes_of (layout_size b) a))
 
@@ -79,7 +81,8 @@ abbrev pub counted_cost : ℕ → ℕ → ℕ → Counted → ℕ
 counted_cost weight m n (works k w b) = k * work_cost weight m w + (if b then weight * n else 0)
 counted_cost weight m n (tiles b) = if b then weight * n else 0
 
--- the words that a work loads where all its copies have n items: a loop over rows reads them once for each of its outputs
+-- the words that a work loads where all its copies have n items:
+-- a loop over rows reads them once for each of its outputs
 abbrev pub loads_by : ℕ → PlainWork → ℕ
 loads_by n (kernel ts) = n
 loads_by n (rows root size) = n * size

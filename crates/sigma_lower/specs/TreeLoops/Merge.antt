@@ -36,7 +36,13 @@ abbrev pub new_pass : Path → PlainWork → List Mapping → PlainPass
 new_pass path w waiting = record { path = path; work = w; befores = waiting; diagonal = None; afters = [] }
 
 abbrev pub scattered : Mapping → PlainPass → PlainPass
-scattered f p = record { path = p.path; work = p.work; befores = p.befores; diagonal = p.diagonal; afters = p.afters ++ f ∷ [] }
+scattered f p = record {
+  path = p.path;
+  work = p.work;
+  befores = p.befores;
+  diagonal = p.diagonal;
+  afters = p.afters ++ f ∷ [];
+}
 
 abbrev pub multiplied : Path → ℕ → ℕ → ℕ → PlainPass → PlainPass
 multiplied path r s w p =
@@ -91,4 +97,5 @@ scatter_place p vs k = through p.afters (place p.path (work_size p.work) vs k)
 
 -- the place of the item k in the diagonal
 abbrev pub diagonal_place : PlainPass → PlainDiagonal → List ℕ → ℕ → ℕ
-diagonal_place p d vs k = at (inner_of d.path (d.rows * d.cols)) (through d.places (place p.path (work_size p.work) vs k))
+diagonal_place p d vs k =
+    at (inner_of d.path (d.rows * d.cols)) (through d.places (place p.path (work_size p.work) vs k))

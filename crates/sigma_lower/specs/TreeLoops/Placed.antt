@@ -2,7 +2,8 @@
 use Rattle.std.specs.Prelude.{◌≡◌, ℕ, ◌+◌, ◌*◌, ◌^◌, ◌<◌, ◌≤◌, true, List, [], ◌∷◌, ◌++◌, Some}
 use Rattle.index_fn.specs.Mapping.{Mapping}
 use Rattle.sigma_spl.specs.Merge.{total, are_small}
-use Rattle.perm_algebra.specs.Affine.{Sum, constant, variable, remainder, quotient, top, parts, HasNoQuotient, IsProper, simplified}
+use Rattle.perm_algebra.specs.Affine.{Sum, constant, variable, remainder, quotient, top, parts, HasNoQuotient, IsProper}
+use Rattle.perm_algebra.specs.Affine.{simplified}
 use Rattle.perm_algebra.specs.Room.{HasRoomFor}
 use Rattle.sigma_spl.specs.Work.{PlainWork, kernel, rows, horner, tile, copy, work_size}
 use Rattle.sigma_lower.specs.TreeTerms.Wrapped.{inner_of}
@@ -40,7 +41,8 @@ pub record Fits (size : ℕ) (e : Sum) (cs : ℕ → ℕ) : Type 0 where
   pub tame : IsTame cs e
   pub few : 2 ^ parts e ≤ size * size
 
--- one function after the other keeps it in n words and leads it to one of count places, and every number in between fits 64 bits
+-- one function after the other keeps it in n words and leads it to
+-- one of count places, and every number in between fits 64 bits
 abbrev pub IsCarried : (ℕ → ℕ) → ℕ → ℕ → List Mapping → Sum → Type 0
 IsCarried cs n count [] e = Fits count e cs
 IsCarried cs n count (f ∷ fs) e = Fits n e cs × HasRoomFor cs f e × IsCarried cs n count fs (simplified cs f e)
@@ -49,11 +51,13 @@ IsCarried cs n count (f ∷ fs) e = Fits n e cs × HasRoomFor cs f e × IsCarrie
 abbrev pub diagonal_places : PlainDiagonal → List Mapping
 diagonal_places d = d.places ++ inner_of d.path (d.rows * d.cols) ∷ []
 
--- no place of the item that e names in its copy is over a limit, nor is any on the way there: where it is loaded from, where it is stored, and its place in its ct's diagonal
+-- no place of the item that e names in its copy is over a limit, nor is any on the way there: where it is loaded
+-- from, where it is stored, and its place in its ct's diagonal
 pub record ArePlacesLimited (h : Target) (p : PlainPass) (cs : ℕ → ℕ) (e : Sum) : Type 0 where
   pub loads : IsCarried cs h.size h.size p.befores (place_sum p.path (work_size p.work) 0 e)
   pub stores : IsCarried cs h.size h.size p.afters (place_sum p.path (work_size p.work) 0 e)
-  pub factors : (d : PlainDiagonal) → p.diagonal ≡ Some d → IsCarried cs h.size (d.rows * d.cols) (diagonal_places d) (place_sum p.path (work_size p.work) 0 e)
+  pub factors : (d : PlainDiagonal) → p.diagonal ≡ Some d →
+      IsCarried cs h.size (d.rows * d.cols) (diagonal_places d) (place_sum p.path (work_size p.work) 0 e)
 
 -- a sum that may name an item: a number for a tile, whose items are written out one by one, and any for other work
 abbrev pub IsName : PlainWork → Sum → Type 0
@@ -64,7 +68,9 @@ IsName (tile v) e = (k : ℕ) × (e ≡ constant k)
 IsName (copy size) e = Unit {0}
 
 abbrev pub IsLimitedPass : Target → PlainPass → Type 0
-IsLimitedPass h p = (cs : ℕ → ℕ) (e : Sum) → AreCounts p.path (work_size p.work) 0 cs → Fits (work_size p.work) e cs → IsName p.work e → ArePlacesLimited h p cs e
+IsLimitedPass h p =
+    (cs : ℕ → ℕ) (e : Sum) → AreCounts p.path (work_size p.work) 0 cs → Fits (work_size p.work) e cs → IsName p.work e →
+        ArePlacesLimited h p cs e
 
 abbrev pub AllLimited : Target → List PlainPass → Type 0
 AllLimited h [] = Unit {0}

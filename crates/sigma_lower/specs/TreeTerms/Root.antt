@@ -1,4 +1,5 @@
--- The terms of a tree that several processors or lanes share, written out from its root: the loops of the right and of the left part, what brings words into groups of lanes and out of them, and what moves lines between processors.
+-- The terms of a tree that several processors or lanes share, written out from its root: the loops of the right and
+-- of the left part, what brings words into groups of lanes and out of them, and what moves lines between processors.
 use Rattle.std.specs.Prelude.{ℕ, ◌*◌, ◌/◌, ◌==◌, if◌then◌else◌, List, [], ◌∷◌, ◌++◌, map}
 use Rattle.std.specs.List.{flat_map}
 use Rattle.index_fn.specs.Mapping.{Mapping, Strided, ThomasIn, ThomasBack}
@@ -6,7 +7,8 @@ use Rattle.sigma_spl.specs.Work.{PlainWork, tile}
 use Rattle.smp_rewrite.specs.Smp.{within}
 use Rattle.smp_rewrite.specs.LayoutSteps.Layout.{Layout, work, by, layout_size}
 use Rattle.operators.specs.declared.target.Target.{Target}
-use Rattle.smp_rewrite.specs.LayoutSteps.Step.{PlainCore, piece, turns, twiddles, thomas_in, thomas_out, PlainStep, steps_of}
+use Rattle.smp_rewrite.specs.LayoutSteps.Step.{PlainCore, piece, turns, twiddles, thomas_in, thomas_out, PlainStep}
+use Rattle.smp_rewrite.specs.LayoutSteps.Step.{steps_of}
 use Rattle.operators.specs.declared.tensor_paths.Tensor.TheVariants.{Blocks, Columns}
 use Rattle.operators.specs.TensorPaths.Path.{Path}
 use Rattle.tree_model.specs.declared.tree.Rule.{Rule}
@@ -45,14 +47,17 @@ turned_in p v r s = (if p == 1 then [] else gath (lines_moved p v r s) ∷ []) +
 
 -- the vectors of a group, tile by tile
 abbrev pub vectors_grouped : ℕ → ℕ → ℕ → ℕ → ℕ → Mapping
-vectors_grouped size p v r s = wrapped (within (Columns v) (within (Blocks p) (within (Blocks (r / p / v)) []))) size (Strided (s / v) v)
+vectors_grouped size p v r s =
+    wrapped (within (Columns v) (within (Blocks p) (within (Blocks (r / p / v)) []))) size (Strided (s / v) v)
 
 -- rows side by side, and one behind the other again
 abbrev pub tiled_before : ℕ → ℕ → ℕ → ℕ → List PlainTerm
-tiled_before p v r s = if v == 1 then [] else gath (vectors_grouped (s / v * v) p v r s) ∷ nest (tile_path p v r s) (tile v) ∷ []
+tiled_before p v r s =
+    if v == 1 then [] else gath (vectors_grouped (s / v * v) p v r s) ∷ nest (tile_path p v r s) (tile v) ∷ []
 
 abbrev pub tiled_after : ℕ → ℕ → ℕ → ℕ → List PlainTerm
-tiled_after p v r s = if v == 1 then [] else nest (tile_path p v r s) (tile v) ∷ scat (vectors_grouped (v * (s / v)) p v r s) ∷ []
+tiled_after p v r s =
+    if v == 1 then [] else nest (tile_path p v r s) (tile v) ∷ scat (vectors_grouped (v * (s / v)) p v r s) ∷ []
 
 -- ---- the left part, of m * s words
 
@@ -71,7 +76,8 @@ left_core p v m s path (piece w) = left_piece p v m s path w
 left_core p v m s path (turns a b) = gath (wrapped (whole_path v s ++ path) (a * b) (Strided a b)) ∷ []
 left_core p v m s path (twiddles a b w) = diag (Columns s ∷ path) a b w ∷ []
 left_core p v m s path (thomas_in a b) = gath (wrapped (whole_path v s ++ path) (a * b) (ThomasIn a b)) ∷ []
-left_core p v m s path (thomas_out a b) = scat (wrapped (whole_path v s ++ path) (a * b) (ThomasBack a b (unit_of a b) (unit_of b a))) ∷ []
+left_core p v m s path (thomas_out a b) =
+    scat (wrapped (whole_path v s ++ path) (a * b) (ThomasBack a b (unit_of a b) (unit_of b a))) ∷ []
 
 abbrev pub left_terms : ℕ → ℕ → ℕ → ℕ → List PlainStep → List PlainTerm
 left_terms p v m s steps = flat_map (λ (e : PlainStep). left_core p v m s e.path e.core) steps
@@ -83,9 +89,12 @@ abbrev pub right_terms : ℕ → ℕ → Rule → ℕ → Layout → Layout → 
 right_terms p v Gt w a b = []
 right_terms p v Ct w a b =
     turned_in p v (layout_size a) (layout_size b)
-    ++ (map lowered (steps_of (right_path p v (layout_size a)) b) ++ (tiled_after p v (layout_size a) (layout_size b) ++ diag [] (layout_size a) (layout_size b) w ∷ []))
+    ++ (map lowered (steps_of (right_path p v (layout_size a)) b)
+        ++ (tiled_after p v (layout_size a) (layout_size b) ++ diag [] (layout_size a) (layout_size b) w ∷ []))
 right_terms p v Split w a b =
-    tiled_before p v (layout_size a) (layout_size b) ++ (map lowered (steps_of (right_path p v (layout_size a)) b) ++ tiled_after p v (layout_size a) (layout_size b))
+    tiled_before p v (layout_size a) (layout_size b)
+        ++ (map lowered (steps_of (right_path p v (layout_size a)) b)
+        ++ tiled_after p v (layout_size a) (layout_size b))
 right_terms p v Dim w a b =
     tiled_before p v (layout_size a) (layout_size b)
     ++ (map lowered (steps_of (right_path p v (layout_size a)) b)
@@ -98,4 +107,5 @@ in_phases p first second = if p == 1 then (first ++ second) ∷ [] else first �
 abbrev pub root_terms : Target → Layout → List (List PlainTerm)
 root_terms h (work w) = []
 root_terms h (by rule root a b) =
-    in_phases h.procs (right_terms h.procs h.lanes rule root a b) (left_terms h.procs h.lanes (layout_size a) (layout_size b) (steps_of [] a))
+    in_phases h.procs (right_terms h.procs h.lanes rule root a b)
+        (left_terms h.procs h.lanes (layout_size a) (layout_size b) (steps_of [] a))

@@ -13,7 +13,8 @@ use Rattle.operators.specs.declared.tensor_paths.Tensor.TheVariants.{Blocks}
 use Rattle.operators.specs.TensorPaths.Loop.{loop_on}
 use Rattle.operators.specs.TensorPaths.Path.{Path, place}
 use Rattle.vec_rewrite.specs.Turning.{vec_of}
-use Rattle.vec_rewrite.specs.Vectors.{PlainFactor, lanes, diagonals, move_before, move_after, tiles, PlainVec, factor_step}
+use Rattle.vec_rewrite.specs.Vectors.{PlainFactor, lanes, diagonals, move_before, move_after, tiles, PlainVec}
+use Rattle.vec_rewrite.specs.Vectors.{factor_step}
 use Rattle.sigma_spl.specs.Work.{PlainWork, tile, work_size, work_on}
 use Rattle.sigma_lower.specs.TreeTerms.Wrapped.{wrapped, inner_of, unit_of}
 
@@ -32,7 +33,8 @@ abbrev pub term_on : Target → PlainTerm → Operator
 term_on h (gath f) = gather h.size (at f)
 term_on h (scat f) = scatter h.size h.size (at f)
 term_on h (diag path r s w) = scale h.modulus h.size (diagonal_at h.modulus path r s w)
-term_on h (nest path w) = loop_on h.size path (work_size w) (place path (work_size w)) (λ vs. work_on h.modulus w) (place path (work_size w))
+term_on h (nest path w) =
+    loop_on h.size path (work_size w) (place path (work_size w)) (λ vs. work_on h.modulus w) (place path (work_size w))
 
 -- all terms, one after the other
 abbrev pub terms_on : Target → List PlainTerm → Operator

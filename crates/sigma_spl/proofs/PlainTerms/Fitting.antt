@@ -2,11 +2,10 @@
 use Rattle.std.proofs.Common.{ℕ, arith, [], ◌∷◌, List}
 use Rattle.index_fn.specs.Mapping.{Mapping}
 use Rattle.sigma_spl.specs.Good.{IsMove, IsGoodTerm}
-use Rattle.sigma_spl.specs.Sigma.{PlainSigma, AllCanMerge, IsGoodSigma}
+use Rattle.sigma_spl.specs.Sigma.{AllCanMerge}
 use Rattle.sigma_spl.specs.Term.{PlainTerm, same, gath, scat, diag, nest, move, product, beside}
 use Rattle.sigma_spl.specs.Words.{HasNumbers, AreWords}
-use Rattle.sigma_spl.specs.PlainTerms.Shape.{StaysInside, Fits, AllFit}
-use Rattle.spl_ast.specs.Shape.{IsSize}
+use Rattle.sigma_spl.specs.PlainTerms.Shape.{StaysInside, Fits, AllFit, GoodSigmasFit}
 
 stays : (lanes n : ℕ) (f : Mapping) → IsMove lanes n f → HasNumbers n f → StaysInside n f
 stays lanes n f h words = record { well_formed = h.there.formed; defined = words.there; below = h.permutes.there_below }
@@ -25,5 +24,5 @@ all_fit : (lanes n : ℕ) (ts : List PlainTerm) → AllCanMerge lanes n ts → A
 all_fit lanes n [] h = tt
 all_fit lanes n (t ∷ ts) h = (term_fits lanes n t h.0.good h.0.words, all_fit lanes n ts h.1)
 
-pub good_fit : (g : PlainSigma) → IsGoodSigma g → IsSize g.size × AllFit g.size g.phases
+pub good_fit : GoodSigmasFit
 good_fit g h = ((omega (arith, h.some), omega (arith, h.most)), all_fit g.lanes g.size g.phases h.phases)

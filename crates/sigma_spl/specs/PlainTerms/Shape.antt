@@ -3,8 +3,10 @@ use Rattle.std.specs.Prelude.{◌≡◌, ℕ, ◌+◌, ◌<◌, List, [], ◌∷
 use Rattle.index_fn.specs.Mapping.{Mapping, at, IsDefinedAt, IsWellFormed}
 use Rattle.sigma_spl.specs.Good.{AreBelow}
 use Rattle.sigma_spl.specs.Nest.{factor_count}
+use Rattle.sigma_spl.specs.Sigma.{IsGoodSigma, PlainSigma}
 use Rattle.sigma_spl.specs.Term.{PlainTerm, same, gath, scat, diag, nest, move, product, beside}
 use Rattle.sigma_spl.specs.Work.{HasWords, work_size}
+use Rattle.spl_ast.specs.Shape.{IsSize}
 use Rattle.operators.specs.TensorPaths.Path.{size_under}
 
 -- f takes the numbers below n to numbers below n
@@ -34,3 +36,7 @@ FitsCopy t = ⊥
 abbrev pub AllFit : ℕ → List PlainTerm → Type 0
 AllFit n [] = Unit {0}
 AllFit n (t ∷ ts) = Fits n t × AllFit n ts
+
+-- terms that can be merged are such
+abbrev pub GoodSigmasFit : Type 0
+GoodSigmasFit = (g : PlainSigma) → IsGoodSigma g → IsSize g.size × AllFit g.size g.phases

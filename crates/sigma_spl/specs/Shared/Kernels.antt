@@ -1,5 +1,5 @@
 -- Kernels whose code does what they stand for.
-use Rattle.std.specs.Prelude.{◌≡◌, ◌≢◌, ℕ, ◌*◌, ◌≤◌}
+use Rattle.std.specs.Prelude.{◌≡◌, ◌≢◌, ℕ, ◌≤◌}
 use Rattle.matrix_meaning.specs.declared.Kind.TheVariants.{Idft}
 use Rattle.sigma_spl.specs.Work.{PlainKernel, node_of, short, trees_of}
 use Rattle.tree_model.specs.Chosen.{StandsIn}

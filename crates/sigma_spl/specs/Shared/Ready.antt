@@ -1,5 +1,6 @@
 -- Merged passes of which a program can be made, in words of passes alone.
-use Rattle.std.specs.Prelude.{◌≡◌, ℕ, ◌+◌, ◌^◌, ◌<◌, ◌≤◌, ◌++◌, true, List, [], ◌∷◌, length, slice_index, slice_index_or, All, Option, Some, None}
+use Rattle.std.specs.Prelude.{◌≡◌, ℕ, ◌+◌, ◌^◌, ◌<◌, ◌≤◌, ◌++◌, true, List, [], ◌∷◌, length, slice_index}
+use Rattle.std.specs.Prelude.{slice_index_or, All, Option, Some, None}
 use Rattle.operators.specs.Sizes.{max_size}
 use Rattle.operators.specs.TensorPaths.Path.{AreInRange}
 use Rattle.operators.specs.declared.target.Target.{Target}

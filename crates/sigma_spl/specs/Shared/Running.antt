@@ -4,7 +4,8 @@ use Rattle.ring_mod.specs.Residue.{power_mod}
 use Rattle.sigma_spl.specs.Shared.Kernels.{IsMadeKernel}
 use Rattle.sigma_spl.specs.Shared.Machine.{if_several, values_of, item_of, lane_step, framed_lanes}
 use Rattle.sigma_spl.specs.Copies.{loops_of, StoreOnce, IsInside}
-use Rattle.sigma_spl.specs.Nest.{PlainMultiplier, PlainNest, factor_at, factor_count, copies_of, load_place, store_place}
+use Rattle.sigma_spl.specs.Nest.{PlainMultiplier, PlainNest, factor_at, factor_count, copies_of, load_place}
+use Rattle.sigma_spl.specs.Nest.{store_place}
 use Rattle.sigma_spl.specs.Work.{PlainWork, kernel, rows, horner, tile, copy, work_size, vectors_of}
 use Rattle.operators.specs.TensorPaths.Path.{AreInRange}
 use Rattle.operators.specs.declared.target.Target.{Target}

@@ -1,6 +1,6 @@
 // Terms, and their copies under the tensors of a path.
 ghost use Rattle.std.specs.Prelude.{◌≡◌, ◌*◌, map, IfOk};
-ghost use Rattle.sigma_spl.specs.Sigma.{sigma_on, terms_on, IsGoodSigma};
+ghost use Rattle.sigma_spl.specs.Sigma.{sigma_on, terms_on};
 ghost use Rattle.sigma_spl.specs.Term.{term_on};
 ghost use Rattle.sigma_spl.specs.Views.{plain_sigma, plain_term};
 ghost use Rattle.sigma_spl.specs.PlainTerms.Copies.{cols_on, copy_on, copy_size, part_on, part_size, rows_on};
@@ -19,14 +19,14 @@ use std::alloc::Global;
 
 impl Sigma {
     /// What the terms do to the residues `x` modulo `m`, each part by its definition.
-    #[tactic(auto, using(crate::proofs::PlainTerms::Fitting::good_fit))]
     pub fn apply_plain(
         alloc: Global,
         m: &Modulus,
         sigma: &Sigma,
         x: &[u64],
     ) -> Result<Vec<u64>, NoMemory>
-        requires good { IsGoodSigma (plain_sigma sigma.now) }
+        requires size { IsSize sigma.now.size }
+        requires fits { AllFit sigma.now.size (map plain_term sigma.now.phases.items) }
         requires vector { IsVector m.now sigma.now.size x.now }
         ensures value { IfOk result (λ y. y.items ≡ sigma_on m.now (plain_sigma sigma.now) x.now) }
         ensures vector { IfOk result (λ y. IsVector m.now sigma.now.size y.items) }

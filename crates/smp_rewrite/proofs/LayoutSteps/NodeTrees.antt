@@ -1,5 +1,5 @@
 -- The parts of a node of a shared request are no wholes that are shared, and a node is of no inverse.
-use Rattle.std.proofs.Common.{◌≡◌, ◌≢◌, ℕ, ◌*◌, ◌<◌, true, false, sym, subst, ◌∙◌, arith}
+use Rattle.std.proofs.Common.{◌≡◌, ◌≢◌, ℕ, ◌<◌, true, false, sym, subst, ◌∙◌, arith}
 use Rattle.kernel_gen.specs.Nodes.{IsNodeTree}
 use Rattle.kernel_gen.proofs.NodeTrees.{first_is_part, rest_is_part, left_less, right_less, size-le}
 use Rattle.matrix_meaning.specs.declared.Kind.{Kind}

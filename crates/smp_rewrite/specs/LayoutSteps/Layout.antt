@@ -28,7 +28,8 @@ layout_size (by rule root a b) = layout_size a * layout_size b
 
 -- what a rule makes of the operators of its parts, of sizes r and s, where its root is w
 abbrev pub rule_on : Rule → ℕ → ℕ → ℕ → ℕ → Operator → Operator → Operator
-rule_on Gt m r s w a b x = gather (r * s) (good_thomas_out r s) (on_columns r s a (on_blocks r s b (gather (r * s) (good_thomas_in r s) x)))
+rule_on Gt m r s w a b x =
+    gather (r * s) (good_thomas_out r s) (on_columns r s a (on_blocks r s b (gather (r * s) (good_thomas_in r s) x)))
 rule_on Ct m r s w a b x = on_columns r s a (scale m (r * s) (twiddle m s w) (on_blocks r s b (turn r s x)))
 rule_on Split m r s w a b x = on_columns r s a (on_blocks r s b x)
 rule_on Dim m r s w a b x = on_columns r s a (on_blocks r s b x)
@@ -49,9 +50,11 @@ rule_cost weight Dim n = 0
 abbrev pub layout_cost : ℕ → ℕ → Layout → ℕ
 layout_cost weight m (work w) = work_cost weight m w
 layout_cost weight m (by rule root a b) =
-    layout_size b * layout_cost weight m a + layout_size a * layout_cost weight m b + rule_cost weight rule (layout_size a * layout_size b)
+    layout_size b * layout_cost weight m a + layout_size a * layout_cost weight m b
+        + rule_cost weight rule (layout_size a * layout_size b)
 
--- a work that a program can do modulo m: trees that can be made, or a leaf of two items or more by rows with a root of its size
+-- a work that a program can do modulo m: trees that can be made,
+-- or a leaf of two items or more by rows with a root of its size
 abbrev pub IsGoodWork : ℕ → PlainWork → Type 0
 IsGoodWork m (kernel k) = IsMadeKernel m k
 IsGoodWork m (rows root size) = (2 ≤ size) × (power_mod m root size ≡ 1 % m)
@@ -75,7 +78,8 @@ pub record IsGoodRule (rule : Rule) (r s : ℕ) : Type 0 where
 
 abbrev pub IsGoodLayout : ℕ → Layout → Type 0
 IsGoodLayout m (work w) = (1 ≤ work_size w) × IsGoodWork m w
-IsGoodLayout m (by rule root a b) = IsGoodRule rule (layout_size a) (layout_size b) × IsGoodLayout m a × IsGoodLayout m b
+IsGoodLayout m (by rule root a b) =
+    IsGoodRule rule (layout_size a) (layout_size b) × IsGoodLayout m a × IsGoodLayout m b
 
 -- ---- the layout of a tree
 

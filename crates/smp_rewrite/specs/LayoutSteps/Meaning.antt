@@ -7,7 +7,8 @@ use Rattle.operators.specs.Identities.{turn}
 use Rattle.operators.specs.Operator.{Operator, gather, scale, good_thomas_in, good_thomas_out}
 use Rattle.sigma_spl.specs.Work.{work_size, work_on}
 use Rattle.smp_rewrite.specs.LayoutSteps.Layout.{Layout, layout_size, layout_on, layout_cost, layout_of, IsGoodLayout}
-use Rattle.smp_rewrite.specs.LayoutSteps.Step.{PlainCore, piece, turns, twiddles, thomas_in, thomas_out, PlainStep, steps_of, operations_in}
+use Rattle.smp_rewrite.specs.LayoutSteps.Step.{PlainCore, piece, turns, twiddles, thomas_in, thomas_out, PlainStep}
+use Rattle.smp_rewrite.specs.LayoutSteps.Step.{steps_of, operations_in}
 use Rattle.operators.specs.TensorPaths.Path.{Path, copies_of, under}
 use Rattle.tree_model.specs.Admissible.{RootFits}
 use Rattle.tree_model.specs.Breakdown.{Breakdown, size_of}
@@ -38,11 +39,15 @@ all_on m (s ∷ ss) x = all_on m ss (step_on m s x)
 
 -- the steps of a layout do what the layout does, under the tensors of the path
 abbrev pub StepsDo : Type 0
-StepsDo = (m : ℕ) (path : Path) (l : Layout) (x : List ℕ) → all_on m (steps_of path l) x ≡ under path (layout_size l) (layout_on m l) x
+StepsDo =
+    (m : ℕ) (path : Path) (l : Layout) (x : List ℕ) →
+        all_on m (steps_of path l) x ≡ under path (layout_size l) (layout_on m l) x
 
 -- and have its operations, for each copy
 abbrev pub StepsCost : Type 0
-StepsCost = (weight m : ℕ) (path : Path) (l : Layout) → operations_in weight m (steps_of path l) ≡ copies_of path * layout_cost weight m l
+StepsCost =
+    (weight m : ℕ) (path : Path) (l : Layout) →
+        operations_in weight m (steps_of path l) ≡ copies_of path * layout_cost weight m l
 
 -- the layout of a tree has its size
 abbrev pub LayoutsHaveSize : Type 0
@@ -50,7 +55,8 @@ LayoutsHaveSize = (p : Request) (t : Breakdown) → layout_size (layout_of p t) 
 
 -- its layout does what the tree does
 abbrev pub LayoutsDo : Type 0
-LayoutsDo = (p : Request) (t : Breakdown) (x : List ℕ) → IsNodeTree p t → layout_on p.modulus (layout_of p t) x ≡ node_on p t x
+LayoutsDo =
+    (p : Request) (t : Breakdown) (x : List ℕ) → IsNodeTree p t → layout_on p.modulus (layout_of p t) x ≡ node_on p t x
 
 -- the whole tree can be shared where there is more than one processor or lane
 abbrev pub FitsWhole : Request → Breakdown → Type 0

@@ -1,6 +1,7 @@
 -- What the code's steps stand for.
 use Rattle.sigma_spl.specs.Views.{plain_work}
-use Rattle.smp_rewrite.specs.LayoutSteps.Step.{PlainCore, piece, turns, twiddles, thomas_in, thomas_out, PlainStep, step}
+use Rattle.smp_rewrite.specs.LayoutSteps.Step.{PlainCore, piece, turns, twiddles, thomas_in, thomas_out, PlainStep}
+use Rattle.smp_rewrite.specs.LayoutSteps.Step.{step}
 use Rattle.smp_rewrite.specs.declared.layout_steps.Core.{Core}
 use Rattle.smp_rewrite.specs.declared.layout_steps.Core.TheVariants.{Piece, Turns, Twiddles, ThomasIn, ThomasOut}
 use Rattle.smp_rewrite.specs.declared.layout_steps.Step.{Step}

@@ -1,4 +1,5 @@
--- The whole of a request: the layout of its tree, and the factor of an inverse, by which each word is multiplied at the end.
+-- The whole of a request: the layout of its tree, and the factor
+-- of an inverse, by which each word is multiplied at the end.
 use Rattle.std.specs.Prelude.{◌≡◌, ℕ, ◌+◌, ◌*◌, ◌<◌, List, Option, Some, None}
 use Rattle.matrix_meaning.specs.Asked.{asked_of}
 use Rattle.matrix_meaning.specs.declared.Kind.{Kind}
@@ -61,7 +62,9 @@ whole_of c t = record { layout = layout_of (forward_of c) t; factor = factor_by 
 
 -- the whole of a tree does what its request asks for
 abbrev pub WholesDo : Type 0
-WholesDo = (c : Request) (t : Breakdown) (x : List ℕ) → IsValid c → IsWholeTree c t → whole_on c.modulus (whole_of c t) x ≡ asked_of c x
+WholesDo =
+    (c : Request) (t : Breakdown) (x : List ℕ) → IsValid c → IsWholeTree c t →
+        whole_on c.modulus (whole_of c t) x ≡ asked_of c x
 
 -- it costs what the request costs by the tree
 abbrev pub WholesCost : Type 0

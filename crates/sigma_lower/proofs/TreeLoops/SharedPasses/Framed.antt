@@ -28,8 +28,8 @@ use Rattle.sigma_spl.specs.Shared.Targets.{is_alone}
 use Rattle.sigma_lower.proofs.TreeTerms.Both.{plain_terms}
 use Rattle.sigma_lower.proofs.TreeTerms.RootTerms.{shared_terms, rule-fits}
 use Rattle.sigma_spl.specs.Shared.Machine.{lane_step}
-use Rattle.smp_rewrite.proofs.Tensors.{is-one}
-use Rattle.sigma_lower.proofs.TreeTerms.Behind.{within-append, blocks-within}
+use Rattle.smp_rewrite.proofs.Tensors.{blocks-within, is-one}
+use Rattle.sigma_lower.proofs.TreeTerms.Behind.{within-append}
 
 -- a pass of any work, and one of a transform
 abbrev Whatever : PlainWork → Type 0

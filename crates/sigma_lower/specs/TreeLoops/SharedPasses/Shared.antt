@@ -28,16 +28,21 @@ HasLanes h (copy size) = Unit {0}
 
 -- the lanes of a register lie side by side in memory
 pub record MovesVectors (h : Target) (p : PlainPass) (vs : List ℕ) (q lane k : ℕ) : Type 0 where
-  pub gathers : gather_place p (values_of h p.work q lane vs) (item_of p.work k lane) ≡ gather_place p (values_of h p.work q 0 vs) (item_of p.work k 0) + lane
-  pub scatters : scatter_place p (values_of h p.work q lane vs) (item_of p.work k lane) ≡ scatter_place p (values_of h p.work q 0 vs) (item_of p.work k 0) + lane
+  pub gathers : gather_place p (values_of h p.work q lane vs) (item_of p.work k lane)
+      ≡ gather_place p (values_of h p.work q 0 vs) (item_of p.work k 0) + lane
+  pub scatters : scatter_place p (values_of h p.work q lane vs) (item_of p.work k lane)
+      ≡ scatter_place p (values_of h p.work q 0 vs) (item_of p.work k 0) + lane
 
 pub record IsFramed (h : Target) (p : PlainPass) : Type 0 where
   pub loops : Path
   pub path : p.path ≡ framed h p.work loops
   pub lanes : HasLanes h p.work
-  pub vectors : (vs : List ℕ) (q lane k : ℕ) → AreInRange loops vs → q < h.procs → lane < h.lanes → k < vectors_of p.work → MovesVectors h p vs q lane k
-  pub factors : (d : PlainDiagonal) → p.diagonal ≡ Some d → (vs : List ℕ) (q lane k : ℕ) → AreInRange loops vs → q < h.procs → lane < h.lanes → k < vectors_of p.work →
-      diagonal_place p d (values_of h p.work q lane vs) (item_of p.work k lane) ≡ diagonal_place p d (values_of h p.work q 0 vs) (item_of p.work k 0) + lane_step p.work * lane
+  pub vectors : (vs : List ℕ) (q lane k : ℕ) → AreInRange loops vs → q < h.procs → lane < h.lanes →
+      k < vectors_of p.work → MovesVectors h p vs q lane k
+  pub factors : (d : PlainDiagonal) → p.diagonal ≡ Some d → (vs : List ℕ) (q lane k : ℕ) → AreInRange loops vs →
+      q < h.procs → lane < h.lanes → k < vectors_of p.work →
+      diagonal_place p d (values_of h p.work q lane vs) (item_of p.work k lane)
+          ≡ diagonal_place p d (values_of h p.work q 0 vs) (item_of p.work k 0) + lane_step p.work * lane
 
 abbrev pub AllFramed : Target → List PlainPass → Type 0
 AllFramed h [] = Unit {0}
@@ -52,7 +57,8 @@ pub record IsCopyOf (h : Target) (p : PlainPass) (q : ℕ) (vs : List ℕ) : Typ
 
 -- each place of a copy belongs to its processor
 abbrev pub Owns : Target → PlainPass → (List ℕ → ℕ → ℕ) → (ℕ → ℕ) → Type 0
-Owns h p places owner = (q : ℕ) (vs : List ℕ) (k : ℕ) → q < h.procs → IsCopyOf h p q vs → k < work_size p.work → owner (places vs k) ≡ q
+Owns h p places owner =
+    (q : ℕ) (vs : List ℕ) (k : ℕ) → q < h.procs → IsCopyOf h p q vs → k < work_size p.work → owner (places vs k) ≡ q
 
 abbrev pub AllOwn : Target → (ℕ → ℕ) → List PlainPass → Type 0
 AllOwn h owner [] = Unit {0}

@@ -1,0 +1,5 @@
+use Rattle.sigma_spl.proofs.PlainTerms.Fitting as laws
+use Rattle.sigma_spl.proofs.good_sigmas_fit.Goals as goal
+
+pub returns : goal.returns
+returns c = laws.good_fit
