@@ -1,6 +1,7 @@
 -- Sums of a constant and of multiples of variables, remainders and quotients.
 use Rattle.std.specs.Prelude.{◌≡◌, ℕ, ◌+◌, ◌-◌, ◌*◌, ◌/◌, ◌%◌, ◌<◌, ◌≤◌, ◌==◌, nat_lt, if◌then◌else◌, max}
-use Rattle.index_fn.specs.Mapping.{Mapping, Same, Always, Line, Strided, ThomasIn, ThomasOut, ThomasBack, Listed, Paired, After, at, IsWellFormed}
+use Rattle.index_fn.specs.Mapping.{Mapping, Same, Always, Line, Strided, ThomasIn, ThomasOut, ThomasBack, Listed}
+use Rattle.index_fn.specs.Mapping.{Paired, After, at, IsWellFormed}
 
 pub data Sum : Type 0 where
   constant : (c : ℕ) → Sum
@@ -135,11 +136,14 @@ simplified cs Same e = e
 simplified cs (Always v) e = constant v
 simplified cs (Line base by) e = joined (constant base) (scaled by e)
 simplified cs (Strided r s) e = turned cs r s e
-simplified cs (ThomasIn r s) e = reduced cs (r * s) (joined (scaled s (divided cs s e).quot) (scaled r (divided cs s e).rem))
+simplified cs (ThomasIn r s) e =
+    reduced cs (r * s) (joined (scaled s (divided cs s e).quot) (scaled r (divided cs s e).rem))
 simplified cs (ThomasOut r s) e = joined (scaled s (divided cs r e).rem) (divided cs s e).rem
-simplified cs (ThomasBack r s u v) e = reduced cs (r * s) (joined (scaled u (divided cs s e).quot) (scaled v (divided cs s e).rem))
+simplified cs (ThomasBack r s u v) e =
+    reduced cs (r * s) (joined (scaled u (divided cs s e).quot) (scaled v (divided cs s e).rem))
 simplified cs (Listed ks) e = constant 0
-simplified cs (Paired f c g d) e = joined (scaled c (simplified cs f (divided cs d e).quot)) (simplified cs g (divided cs d e).rem)
+simplified cs (Paired f c g d) e =
+    joined (scaled c (simplified cs f (divided cs d e).quot)) (simplified cs g (divided cs d e).rem)
 simplified cs (After f g) e = simplified cs f (simplified cs g e)
 
 -- a function with no explicit list

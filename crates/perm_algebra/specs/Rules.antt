@@ -1,9 +1,11 @@
 -- The steps of simplification, each with its law.
 use Rattle.std.specs.Prelude.{◌≡◌, ℕ, ◌+◌, ◌*◌, ◌/◌, ◌%◌, ◌<◌}
 use Rattle.index_fn.specs.Mapping.{Mapping, Paired, After, at}
-use Rattle.perm_algebra.specs.Affine.{Sum, constant, remainder, quotient, value, top, scaled, joined, head, rest_of, mods, IsSound, AreBelowCounts}
+use Rattle.perm_algebra.specs.Affine.{Sum, constant, remainder, quotient, value, top, scaled, joined, head, rest_of}
+use Rattle.perm_algebra.specs.Affine.{mods, IsSound, AreBelowCounts}
 use Rattle.perm_algebra.specs.declared.IndexRule.{IndexRule}
-use Rattle.perm_algebra.specs.declared.IndexRule.TheVariants.{Scale, Join, TakeMultiples, ReadOff, WriteOut, ReduceFactors, DropRemainder, SplitTensor, NestComposed}
+use Rattle.perm_algebra.specs.declared.IndexRule.TheVariants.{Scale, Join, TakeMultiples, ReadOff, WriteOut}
+use Rattle.perm_algebra.specs.declared.IndexRule.TheVariants.{ReduceFactors, DropRemainder, SplitTensor, NestComposed}
 
 abbrev pub Holds : IndexRule → Type 0
 Holds Scale = (k : ℕ) (e : Sum) (vs : ℕ → ℕ) → value (scaled k e) vs ≡ k * value e vs
@@ -14,7 +16,8 @@ Holds ReadOff =
     (value (head s e) vs ≡ value e vs / s) × (value (rest_of s e) vs ≡ value e vs % s)
 Holds WriteOut =
     (s : ℕ) (e : Sum) (vs : ℕ → ℕ) →
-    (value (quotient 1 e s (constant 0)) vs ≡ value e vs / s) × (value (remainder 1 e s (constant 0)) vs ≡ value e vs % s)
+    (value (quotient 1 e s (constant 0)) vs ≡ value e vs / s)
+        × (value (remainder 1 e s (constant 0)) vs ≡ value e vs % s)
 Holds ReduceFactors = (n : ℕ) (e : Sum) (vs : ℕ → ℕ) → value (mods n e) vs % n ≡ value e vs % n
 Holds DropRemainder =
     (cs vs : ℕ → ℕ) (n : ℕ) (e : Sum) → IsSound e → AreBelowCounts vs cs → top (mods n e) cs < n →

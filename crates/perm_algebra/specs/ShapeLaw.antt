@@ -1,7 +1,8 @@
 -- What simplification adds to a sum that a divisor takes apart.
 use Rattle.std.specs.Prelude.{◌≡◌, ℕ, ◌+◌, ◌*◌, ◌<◌, ◌≤◌, ◌⊎◌}
 use Rattle.index_fn.specs.Mapping.{Mapping, Strided, ThomasIn, ThomasBack, Paired}
-use Rattle.perm_algebra.specs.Affine.{Sum, constant, variable, remainder, quotient, top, scaled, joined, head, rest_of, simplified, AreBelow}
+use Rattle.perm_algebra.specs.Affine.{Sum, constant, variable, remainder, quotient, top, scaled, joined, head, rest_of}
+use Rattle.perm_algebra.specs.Affine.{simplified, AreBelow}
 
 -- q for each quotient and r for each remainder, at all levels
 abbrev pub tally : ℕ → ℕ → Sum → ℕ
@@ -23,12 +24,17 @@ pub record IsModulo (n : ℕ) (e : Sum) : Type 0 where
 
 pub record KeepsShape (cs : ℕ → ℕ) (r s : ℕ) (e : Sum) : Type 0 where
   pub turn : AddsRemainders 0 e (simplified cs (Strided r s) e)
-  pub thomas_in : AddsRemainders 1 e (simplified cs (ThomasIn r s) e) × IsModulo (r * s) (simplified cs (ThomasIn r s) e)
-  pub thomas_back : (u v : ℕ) → AddsRemainders 1 e (simplified cs (ThomasBack r s u v) e) × IsModulo (r * s) (simplified cs (ThomasBack r s u v) e)
+  pub thomas_in : AddsRemainders 1 e (simplified cs (ThomasIn r s) e)
+      × IsModulo (r * s) (simplified cs (ThomasIn r s) e)
+  pub thomas_back : (u v : ℕ) →
+      AddsRemainders 1 e (simplified cs (ThomasBack r s u v) e)
+      × IsModulo (r * s) (simplified cs (ThomasBack r s u v) e)
   pub tensor : (f : Mapping) (c : ℕ) (g : Mapping) →
       simplified cs (Paired f c g s) e ≡ joined (scaled c (simplified cs f (head s e))) (simplified cs g (rest_of s e))
 
--- A multiple of s and a rest that stays below s: a stride permutation and a tensor add no quotient and no remainder, the
--- places before a step by the factors r and s, and back from it, add at most one remainder
+-- A multiple of s and a rest that stays below s: a stride permutation and a tensor add no quotient and no remainder,
+-- the places before a step by the factors r and s, and back from it, add at most one remainder
 abbrev pub ShapeKept : Type 0
-ShapeKept = (cs : ℕ → ℕ) (r s : ℕ) (a rest : Sum) → 0 < r → 0 < s → top rest cs < s → KeepsShape cs r s (joined (scaled s a) rest)
+ShapeKept =
+    (cs : ℕ → ℕ) (r s : ℕ) (a rest : Sum) → 0 < r → 0 < s → top rest cs < s →
+        KeepsShape cs r s (joined (scaled s a) rest)
