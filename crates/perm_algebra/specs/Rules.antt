@@ -17,7 +17,7 @@ Holds ReadOff =
 Holds WriteOut =
     (s : ℕ) (e : Sum) (vs : ℕ → ℕ) →
     (value (quotient 1 e s (constant 0)) vs ≡ value e vs / s)
-        × (value (remainder 1 e s (constant 0)) vs ≡ value e vs % s)
+    × (value (remainder 1 e s (constant 0)) vs ≡ value e vs % s)
 Holds ReduceFactors = (n : ℕ) (e : Sum) (vs : ℕ → ℕ) → value (mods n e) vs % n ≡ value e vs % n
 Holds DropRemainder =
     (cs vs : ℕ → ℕ) (n : ℕ) (e : Sum) → IsSound e → AreBelowCounts vs cs → top (mods n e) cs < n →

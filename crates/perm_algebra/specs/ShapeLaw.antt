@@ -37,4 +37,4 @@ pub record KeepsShape (cs : ℕ → ℕ) (r s : ℕ) (e : Sum) : Type 0 where
 abbrev pub ShapeKept : Type 0
 ShapeKept =
     (cs : ℕ → ℕ) (r s : ℕ) (a rest : Sum) → 0 < r → 0 < s → top rest cs < s →
-        KeepsShape cs r s (joined (scaled s a) rest)
+    KeepsShape cs r s (joined (scaled s a) rest)

@@ -14,10 +14,10 @@ parts_text (constant c) = []
 parts_text (variable f d rest) = codes "+v" ++ decimal d ++ codes "*" ++ decimal f ++ parts_text rest
 parts_text (remainder f of m rest) =
     codes "+(" ++ decimal (constant_of of) ++ parts_text of ++ codes ")%" ++ decimal m ++ codes "*" ++ decimal f
-        ++ parts_text rest
+    ++ parts_text rest
 parts_text (quotient f of m rest) =
     codes "+(" ++ decimal (constant_of of) ++ parts_text of ++ codes ")/" ++ decimal m ++ codes "*" ++ decimal f
-        ++ parts_text rest
+    ++ parts_text rest
 
 abbrev pub sum_text : Sum → List ℕ
 sum_text s = decimal (constant_of s) ++ parts_text s

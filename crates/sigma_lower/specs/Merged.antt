@@ -89,4 +89,4 @@ AllHaveLoops h (ts ∷ more) = HasLoop (loops_in (phase_term ts)) × AllHaveLoop
 abbrev pub PhasesHaveLoops : Type 0
 PhasesHaveLoops =
     (h : Target) (l : Layout) → IsMachine h → CanShareLayout h l → IsGoodLayout h.modulus l →
-        AllHaveLoops h (lowered_of h l)
+    AllHaveLoops h (lowered_of h l)

@@ -21,4 +21,4 @@ AllOrdered h (ts ∷ more) = IsOrderedPhase h ts × AllOrdered h more
 abbrev pub TreesOrdered : Type 0
 TreesOrdered =
     (h : Target) (l : Layout) → IsMachine h → CanShareLayout h l → IsGoodLayout h.modulus l →
-        AllOrdered h (lowered_of h l)
+    AllOrdered h (lowered_of h l)

@@ -80,7 +80,7 @@ module _ (lanes n : ℕ) (some : 0 < n) (high : n ≤ 2 ^ 20) where
   operations weight cost (t ∷ ts) free can =
       let one : CanMerge lanes n t = can.0 in
       let first = turned-cost weight cost (passes_of n t)
-          ∙ merge_counts lanes 1 n (most 64) t weight cost (omega arith) some free one.good in
+      ∙ merge_counts lanes 1 n (most 64) t weight cost (omega arith) some free one.good in
       ap₂ (λ (k : ℕ) (ks : List ℕ). k ∷ ks) first (operations weight cost ts free can.1)
 
 pub sigma_merges : SigmaMerges

@@ -116,4 +116,4 @@ under_one t n c =
 abbrev pub both : ℕ → ℕ → Operator → Operator → Operator
 both n k a b x =
     list_below (n + k) (λ w. if nat_lt w n then slice_index (a (list_below n (slice_index x))) w
-        else slice_index (b (list_below k (λ j. slice_index x (n + j)))) (w - n))
+    else slice_index (b (list_below k (λ j. slice_index x (n + j)))) (w - n))

@@ -11,7 +11,7 @@ use Rattle.operators.specs.TensorPaths.Path.{grown, one_under}
 abbrev pub LoadsGather : Type 0
 LoadsGather =
     (m n : ℕ) (cs : List Copies) (f : ℕ → ℕ) (x : List ℕ) → AreInside n cs →
-        pass_on m n cs (gather n f x) ≡ pass_on m n (map (loaded_by f) cs) x
+    pass_on m n cs (gather n f x) ≡ pass_on m n (map (loaded_by f) cs) x
 
 abbrev pub StoresScatter : Type 0
 StoresScatter =
@@ -21,7 +21,7 @@ StoresScatter =
 abbrev pub LoopsScale : Type 0
 LoopsScale =
     (m n : ℕ) (cs : List Copies) (factor : ℕ → ℕ) (x : List ℕ) → 0 < m →
-        scale m n factor (pass_on m n cs x) ≡ pass_on m n (map (multiplied_by m factor) cs) x
+    scale m n factor (pass_on m n cs x) ≡ pass_on m n (map (multiplied_by m factor) cs) x
 
 abbrev pub StandSideBySide : Type 0
 StandSideBySide =

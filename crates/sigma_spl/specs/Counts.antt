@@ -47,5 +47,5 @@ CopiesAreFree cost = (d : ℕ) → cost (copy d) ≡ 0
 abbrev pub MergeCounts : Type 0
 MergeCounts =
     (lanes m n : ℕ) (room : Room) (t : PlainTerm) (weight : ℕ) (cost : PlainWork → ℕ) → 0 < m → 0 < n →
-        CopiesAreFree cost → IsGoodTerm lanes n t →
-        passes_cost weight cost (passes_within room n t) ≡ term_cost weight cost n t
+    CopiesAreFree cost → IsGoodTerm lanes n t →
+    passes_cost weight cost (passes_within room n t) ≡ term_cost weight cost n t

@@ -14,4 +14,4 @@ horner_sum m power d x (suc t) = ((horner_sum m power d x t * power) % m + x (d 
 abbrev pub HornerRow : Type 0
 HornerRow =
     (m d w k : ℕ) (x : List ℕ) → 0 < m → k < d →
-        horner_sum m (power_mod m w k) d (slice_index x) d ≡ slice_index (transform Dft m d w x) k
+    horner_sum m (power_mod m w k) d (slice_index x) d ≡ slice_index (transform Dft m d w x) k

@@ -33,4 +33,4 @@ AreWithin room n (zs ∷ ps) = (is_within room n zs ≡ true) × AreWithin room 
 abbrev pub MergeLimits : Type 0
 MergeLimits =
     (lanes n : ℕ) (t : PlainTerm) → 0 < n → n ≤ 2 ^ 20 → IsGoodTerm lanes n t → HasSeveral t →
-        AreWithin 64 n (passes_of n t)
+    AreWithin 64 n (passes_of n t)

@@ -157,7 +157,7 @@ AreLimitedLoops (most room) n (p ∷ ps) = IsLimitedLoop room n p × AreLimitedL
 abbrev pub MergeListed : Type 0
 MergeListed =
     (room : Room) (n : ℕ) (t : PlainTerm) → IsOrdered t → AreLimitedLoops room n (loops_in t) →
-        passes_within room n t ≡ map one_nest (loops_in t)
+    passes_within room n t ≡ map one_nest (loops_in t)
 
 -- ---- places
 
@@ -196,7 +196,7 @@ pub record HasPlaces (p : PlainLoop) (vs : List ℕ) (k : ℕ) : Type 0 where
 abbrev pub LoopsHavePlaces : Type 0
 LoopsHavePlaces =
     (lanes : ℕ) (p : PlainLoop) (vs : List ℕ) (k : ℕ) → IsGoodLoop lanes p →
-        AreInRange (loops_of (map count_of p.path)) vs → k < work_size p.work → HasPlaces p vs k
+    AreInRange (loops_of (map count_of p.path)) vs → k < work_size p.work → HasPlaces p vs k
 
 abbrev pub AreGoodLoops : ℕ → List PlainLoop → Type 0
 AreGoodLoops lanes [] = Unit {0}

@@ -63,13 +63,23 @@ limits_of z = slice_index (z.counts ++ work_size z.work ∷ work_size z.work ∷
 
 abbrev pub gathered : Mapping → List PlainNest → List PlainNest
 gathered f zs =
-    map (λ (z : PlainNest). record { counts = z.counts; work = z.work;
-        gathers = map (simplified (limits_of z) f) z.gathers; multiplier = z.multiplier; scatters = z.scatters }) zs
+    map (λ (z : PlainNest). record {
+      counts = z.counts;
+      work = z.work;
+      gathers = map (simplified (limits_of z) f) z.gathers;
+      multiplier = z.multiplier;
+      scatters = z.scatters;
+    }) zs
 
 abbrev pub scattered : Mapping → List PlainNest → List PlainNest
 scattered f zs =
-    map (λ (z : PlainNest). record { counts = z.counts; work = z.work; gathers = z.gathers; multiplier = z.multiplier;
-        scatters = map (simplified (limits_of z) f) z.scatters }) zs
+    map (λ (z : PlainNest). record {
+      counts = z.counts;
+      work = z.work;
+      gathers = z.gathers;
+      multiplier = z.multiplier;
+      scatters = map (simplified (limits_of z) f) z.scatters;
+    }) zs
 
 -- one function after the other, at a sum
 abbrev pub all_simplified : (ℕ → ℕ) → List Mapping → Sum → Sum
@@ -104,7 +114,7 @@ total (quotient f of m rest) = f + total rest
 abbrev pub is_divided : (ℕ → ℕ) → ℕ → Sum → ℕ → Bool
 is_divided cs f of m =
     (nat_lt 0 f && nat_lt f (2 ^ 32))
-        && ((nat_lt 0 m && nat_lt m (2 ^ 32)) && (nat_lt (total of) (2 ^ 32) && nat_lt (top of cs) (2 ^ 64)))
+    && ((nat_lt 0 m && nat_lt m (2 ^ 32)) && (nat_lt (total of) (2 ^ 32) && nat_lt (top of cs) (2 ^ 64)))
 
 -- numbers at all levels are small
 abbrev pub are_small : (ℕ → ℕ) → Sum → Bool
@@ -126,8 +136,8 @@ is_multiplier_within room cs (Some d) = list_all (is_limited room (factor_count 
 abbrev pub is_within : ℕ → ℕ → List PlainNest → Bool
 is_within room n zs =
     list_all (λ (z : PlainNest). (list_all (is_limited room n (limits_of z)) z.gathers
-        && list_all (is_limited room n (limits_of z)) z.scatters)
-        && is_multiplier_within room (limits_of z) z.multiplier) zs
+    && list_all (is_limited room n (limits_of z)) z.scatters)
+    && is_multiplier_within room (limits_of z) z.multiplier) zs
 
 -- each sum on the way to the factors' places is within the limits, and so is every number in between
 abbrev pub carries_sum : ℕ → ℕ → ℕ → (ℕ → ℕ) → List Mapping → Sum → Bool
@@ -143,7 +153,7 @@ is_free (Some d) = false
 abbrev pub can_multiply : ℕ → ℕ → PlainFactors → List Mapping → List PlainNest → Bool
 can_multiply room n factors fs zs =
     list_all (λ (z : PlainNest). is_free z.multiplier
-        && list_all (carries_sum room n (factor_count factors) (limits_of z) fs) z.scatters) zs
+    && list_all (carries_sum room n (factor_count factors) (limits_of z) fs) z.scatters) zs
 
 -- how many parts a place may have: so many, or any number, where every place is known to stay within the limits
 pub data Room : Type 0 where
@@ -207,7 +217,7 @@ abbrev pub copies_before : Room → ℕ → List PlainNest → List Mapping → 
 copies_before room n zs [] = zs ∷ []
 copies_before room n zs (f ∷ fs) =
     if can_gather room n f zs then copies_before room n (gathered f zs) fs
-        else zs ∷ copies_before room n (copy_by room n f) fs
+    else zs ∷ copies_before room n (copy_by room n f) fs
 
 abbrev pub settled : Room → ℕ → List Mapping → List (List PlainNest)
 settled room n [] = []
@@ -266,7 +276,7 @@ with_diagonal room n waiting (zs ∷ passes) path factors =
 abbrev pub with_scatter : Room → ℕ → List Mapping → List (List PlainNest) → Mapping → Merging
 with_scatter room n [] (zs ∷ passes) f =
     if can_scatter room n f zs then record { waiting = []; passes = scattered f zs ∷ passes }
-        else record { waiting = back_of f ∷ []; passes = zs ∷ passes }
+    else record { waiting = back_of f ∷ []; passes = zs ∷ passes }
 with_scatter room n waiting passes f = record { waiting = back_of f ∷ waiting; passes = passes }
 
 -- a list from its end
@@ -281,7 +291,7 @@ ended room n [] passes = passes
 ended room n (f ∷ fs) [] = settled room n (from_end (f ∷ fs))
 ended room n (f ∷ fs) (zs ∷ passes) =
     if can_scatter room n (back_of f) zs then ended room n fs (scattered (back_of f) zs ∷ passes)
-        else settled room n (from_end (f ∷ fs)) ++ zs ∷ passes
+    else settled room n (from_end (f ∷ fs)) ++ zs ∷ passes
 
 -- ---- passes side by side
 
@@ -339,8 +349,8 @@ merged room n st (beside path k a l b) =
     let first = merged (less room (length path)) k nothing a in
     let second = merged (less room (length path)) l nothing b in
     with_passes room n st
-        (sides path k l (ended (less room (length path)) k (from_end first.waiting) first.passes)
-        (ended (less room (length path)) l (from_end second.waiting) second.passes))
+    (sides path k l (ended (less room (length path)) k (from_end first.waiting) first.passes)
+    (ended (less room (length path)) l (from_end second.waiting) second.passes))
 
 -- the passes of a term, the latest first; an identity is a copy
 abbrev pub if_any : ℕ → List (List PlainNest) → List (List PlainNest)

@@ -75,7 +75,7 @@ abbrev pub multiplied_on : ℕ → PlainNest → Option PlainMultiplier → List
 multiplied_on m z None vs y = work_on m z.work y
 multiplied_on m z (Some d) vs y =
     list_below (work_size z.work)
-        (λ k. (factor_at m d.factors (store_place z.work d.places vs k) * slice_index (work_on m z.work y) k) % m)
+    (λ k. (factor_at m d.factors (store_place z.work d.places vs k) * slice_index (work_on m z.work y) k) % m)
 
 abbrev pub copies_of : ℕ → PlainNest → Copies
 copies_of m z = record {

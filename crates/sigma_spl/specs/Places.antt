@@ -12,5 +12,5 @@ IsAmong (d ∷ ds) c = (c ≡ d) ⊎ IsAmong ds c
 abbrev pub PassStores : Type 0
 PassStores =
     (m n : ℕ) (cs : List Copies) (c : Copies) (vs : List ℕ) (k : ℕ) (x : List ℕ) → IsAmong cs c → AreInside n cs →
-        StoreOnce n cs → AreInRange (loops_of c.counts) vs → k < c.size →
+    StoreOnce n cs → AreInRange (loops_of c.counts) vs → k < c.size →
     slice_index (pass_on m n cs x) (c.to vs k) ≡ slice_index (c.does vs (taken c vs x)) k % m

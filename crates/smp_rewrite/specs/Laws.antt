@@ -84,7 +84,7 @@ SmpShaped = (h : Target) (w : Whole) → CanShareLayout h w.layout → IsShaped 
 abbrev pub LayoutsFit : Type 0
 LayoutsFit =
     (c : Request) (t : Breakdown) → IsValid c → IsWholeTree c t →
-        CanShareLayout (target_of c) (layout_of (forward_of c) t)
+    CanShareLayout (target_of c) (layout_of (forward_of c) t)
 
 -- a permutation whose width is a number of lines takes what goes to a line from a line, item by item
 abbrev pub MovesLines : Type 0

@@ -72,7 +72,7 @@ block_factors d o [] (twiddles r s w) =
 block_factors d o [] core = settled d o ++ lanes (step [] core) ∷ []
 block_factors d o (Blocks r ∷ path) core =
     grouped d o (record { groups = r / d.lanes; tiles = d.block / r / d.lanes })
-        ++ lanes (step (within (Blocks (r / d.lanes)) path) core) ∷ []
+    ++ lanes (step (within (Blocks (r / d.lanes)) path) core) ∷ []
 block_factors d o (Columns s ∷ path) (twiddles q t w) =
     settled d o ++ diagonals (step (within (Blocks d.procs) (Columns s ∷ path)) (twiddles q t w)) ∷ []
 block_factors d o (Columns s ∷ path) core = settled d o ++ lanes (narrowed d.lanes (Columns s ∷ path) core) ∷ []

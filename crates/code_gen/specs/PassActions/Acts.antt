@@ -26,8 +26,8 @@ store_at h z q vs k = store_place z.work z.scatters (values_of h z.work q 0 vs) 
 abbrev pub factors_at : Target → PlainNest → PlainMultiplier → ℕ → List ℕ → ℕ → List ℕ
 factors_at h z d q vs k =
     lane_factors h.lanes
-        (λ lane. factor_at h.modulus d.factors
-        (store_place z.work d.places (values_of h z.work q lane vs) (item_of z.work k lane)))
+    (λ lane. factor_at h.modulus d.factors
+    (store_place z.work d.places (values_of h z.work q lane vs) (item_of z.work k lane)))
 
 -- ---- actions
 
@@ -42,26 +42,26 @@ finish_acts h z (Some d) target q vs k from free =
 abbrev pub made_acts : Target → PlainNest → ℕ → Made → ℕ → ℕ → ℕ → List ℕ → List Action
 made_acts h z n made source target q vs =
     loads n (λ k. source + load_at h z q vs k)
-        ++ (actions_by h.lanes made.code
-        ++ bodies n (λ k. finish_acts h z z.multiplier target q vs k (slice_index made.outs k) (made.next + k)))
+    ++ (actions_by h.lanes made.code
+    ++ bodies n (λ k. finish_acts h z z.multiplier target q vs k (slice_index made.outs k) (made.next + k)))
 
 -- a tile of v registers
 abbrev pub tile_acts : Target → PlainNest → ℕ → ℕ → ℕ → ℕ → List ℕ → List Action
 tile_acts h z v source target q vs =
     loads v (λ k. source + load_at h z q vs k)
-        ++ (Tile v 0 ∷ bodies v (λ k. finish_acts h z z.multiplier target q vs k (v + k) (v + v + k)))
+    ++ (Tile v 0 ∷ bodies v (λ k. finish_acts h z z.multiplier target q vs k (v + k) (v + v + k)))
 
 -- an item of a longer leaf, times an entry of its matrix, is added to register 0
 abbrev pub term_acts : Target → PlainNest → ℕ → ℕ → ℕ → List ℕ → ℕ → ℕ → List Action
 term_acts h z root source q vs k l =
     Load 1 (source + load_at h z q vs l) ∷ Mul 2 1 (lane_factors h.lanes (λ _. power_mod h.modulus root (k * l)))
-        ∷ Add 0 0 2 ∷ []
+    ∷ Add 0 0 2 ∷ []
 
 -- register 0, times a power of the root, plus the item that is taken at the turn t of Horner's rule
 abbrev pub horner_acts : Target → PlainNest → ℕ → ℕ → ℕ → ℕ → List ℕ → ℕ → ℕ → List Action
 horner_acts h z root size source q vs k t =
     Mul 1 0 (lane_factors h.lanes (λ _. power_mod h.modulus root k)) ∷ Load 2 (source + load_at h z q vs (size - 1 - t))
-        ∷ Add 0 1 2 ∷ []
+    ∷ Add 0 1 2 ∷ []
 
 -- rows of a matrix: register 0 becomes each row's sum, which is stored
 abbrev pub rows_acts : Target → PlainNest → ℕ → (ℕ → ℕ → List Action) → ℕ → ℕ → List ℕ → List Action

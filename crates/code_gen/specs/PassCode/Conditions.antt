@@ -64,8 +64,8 @@ pub record CanWriteNest (h : Target) (z : PlainNest) : Type 0 where
       × AreWithin (limits_of z) (frame_of h z.work) (length (loop_counts h z) + stores_inside z.work) z.scatters
   pub multiplier : (d : PlainMultiplier) → z.multiplier ≡ Some d →
       NamesItems z.work d.places
-          × AreWithin (limits_of z) (frame_of h z.work) (length (loop_counts h z) + stores_inside z.work) d.places
-          × (0 < factor_count d.factors) × (factor_count d.factors < 2 ^ 32)
+      × AreWithin (limits_of z) (frame_of h z.work) (length (loop_counts h z) + stores_inside z.work) d.places
+      × (0 < factor_count d.factors) × (factor_count d.factors < 2 ^ 32)
   pub alike : LoadsAlike z z.work
   pub items : work_size z.work < 2 ^ 32
   pub shallow : length (loop_counts h z) + 2 < 64
@@ -100,7 +100,7 @@ pub record IsEmitted (h : Target) (zs : List PlainNest) (tables : List (List ℕ
   pub acts : (program : PlainProgram) (q : ℕ) → q < h.procs → HasTables h (tables_after h.modulus zs tables) program →
       actions_of (steps_of_body program (pass_body h zs tables source target) [] q)
       ≡ pass_acts h zs (array_start (whole_lines h.size h.line) source)
-          (array_start (whole_lines h.size h.line) target) q
+      (array_start (whole_lines h.size h.line) target) q
   pub inside : (program : PlainProgram) (q : ℕ) → q < h.procs → HasTables h (tables_after h.modulus zs tables) program →
       All IsInside (steps_of_body program (pass_body h zs tables source target) [] q)
   pub within : IsTrue (is_body_within h.modulus (pass_body h zs tables source target) 0)
@@ -109,4 +109,4 @@ pub record IsEmitted (h : Target) (zs : List PlainNest) (tables : List (List ℕ
 abbrev pub PassesAreEmitted : Type 0
 PassesAreEmitted =
     (h : Target) (zs : List PlainNest) (tables : List (List ℕ)) (source target : Array) → CanWritePass h zs →
-        length (tables_after h.modulus zs tables) < 2 ^ 32 → IsEmitted h zs tables source target
+    length (tables_after h.modulus zs tables) < 2 ^ 32 → IsEmitted h zs tables source target

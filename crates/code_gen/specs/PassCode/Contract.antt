@@ -53,7 +53,7 @@ AreParts h t source [] (part ∷ parts) = ⊥
 AreParts h t source (zs ∷ passes) [] = ⊥
 AreParts h t source (zs ∷ passes) (part ∷ parts) =
     IsPart h zs (array_start (whole_lines h.size h.line) source)
-        (array_start (whole_lines h.size h.line) (written_array t (length passes))) part
+    (array_start (whole_lines h.size h.line) (written_array t (length passes))) part
     × AreParts h (suc t) (written_array t (length passes)) passes parts
 
 abbrev pub joined : List (List Action) → List Action

@@ -17,7 +17,7 @@ abbrev pub variables_of : PlainFrame → ℕ → ℕ → LoopSum → PlainParts 
 variables_of f zero d e parts = parts
 variables_of f (suc n) d e parts =
     if factor_at (f.first_loop + d) e == 0 then variables_of f n (d + 1) e parts
-        else AndParts (Var d (factor_at (f.first_loop + d) e)) (variables_of f n (d + 1) e parts)
+    else AndParts (Var d (factor_at (f.first_loop + d) e)) (variables_of f n (d + 1) e parts)
 
 -- the part of the processor, where several share the pass, before other parts
 abbrev pub processor_of : PlainFrame → LoopSum → PlainParts → PlainParts
@@ -36,7 +36,7 @@ abbrev mutual
   remainders_of f open_loops (variable k d rest) parts = remainders_of f open_loops rest parts
   remainders_of f open_loops (remainder k of m rest) parts =
       AndParts (Rem (sum_of f open_loops of (remainders_of f open_loops of (quotients_of f open_loops of))) m k)
-          (remainders_of f open_loops rest parts)
+      (remainders_of f open_loops rest parts)
   remainders_of f open_loops (quotient k of m rest) parts = remainders_of f open_loops rest parts
 
   pub quotients_of : PlainFrame → ℕ → LoopSum → PlainParts
@@ -45,7 +45,7 @@ abbrev mutual
   quotients_of f open_loops (remainder k of m rest) = quotients_of f open_loops rest
   quotients_of f open_loops (quotient k of m rest) =
       AndParts (Quot (sum_of f open_loops of (remainders_of f open_loops of (quotients_of f open_loops of))) m k)
-          (quotients_of f open_loops rest)
+      (quotients_of f open_loops rest)
 
 -- all remainders stand before the quotients
 abbrev pub divisions_of : PlainFrame → ℕ → LoopSum → PlainParts

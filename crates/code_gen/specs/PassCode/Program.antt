@@ -20,7 +20,7 @@ abbrev pub phase_body : Target → ℕ → List (List PlainNest) → ℕ → Lis
 phase_body h after [] t tables source = NoStmts
 phase_body h after (zs ∷ ps) t tables source =
     followed_by (pass_body h zs tables source (written_array t (after + length ps)))
-        (phase_body h after ps (suc t) (tables_after h.modulus zs tables) (written_array t (after + length ps)))
+    (phase_body h after ps (suc t) (tables_after h.modulus zs tables) (written_array t (after + length ps)))
 
 abbrev pub tables_through : ℕ → List (List PlainNest) → List (List ℕ) → List (List ℕ)
 tables_through m [] tables = tables
@@ -38,8 +38,8 @@ abbrev pub phases_body : Target → List (List (List PlainNest)) → ℕ → Lis
 phases_body h [] t tables source = []
 phases_body h (ps ∷ more) t tables source =
     phase_body h (count_in more) ps t tables source
-        ∷ phases_body h more (t + length ps) (tables_through h.modulus ps tables)
-        (array_after (count_in more) ps t source)
+    ∷ phases_body h more (t + length ps) (tables_through h.modulus ps tables)
+    (array_after (count_in more) ps t source)
 
 abbrev pub tables_of_phases : ℕ → List (List (List PlainNest)) → List (List ℕ) → List (List ℕ)
 tables_of_phases m [] tables = tables

@@ -39,7 +39,7 @@ IsFrame f = f.shared ≡ true → 0 < f.first_loop
 abbrev pub ExpressionsAreWithin : Type 0
 ExpressionsAreWithin =
     (f : PlainFrame) (open_loops : ℕ) (e : Sum) → IsFrame f → open_loops ≤ 64 → IsSmallSum e →
-        IsTrue (is_expr_within (expr_of f open_loops e) open_loops)
+    IsTrue (is_expr_within (expr_of f open_loops e) open_loops)
 
 -- ---- by merging's test
 

@@ -117,7 +117,7 @@ finish_body f step None scatters open_loops table target i from free =
     do_only (Store target (place_at f open_loops scatters i) from)
 finish_body f step (Some d) scatters open_loops table target i from free =
     AndStmts (Do (product_op (one_factor d.factors) free from table (place_at f open_loops d.places i) step))
-        (do_only (Store target (place_at f open_loops scatters i) free))
+    (do_only (Store target (place_at f open_loops scatters i) free))
 
 abbrev pub straight_body : List Instruction → PlainBody
 straight_body [] = NoStmts
@@ -130,14 +130,14 @@ abbrev pub made_body : PlainFrame → PlainNest → ℕ → ℕ → Made → ℕ
 made_body f z open_loops n made table source target =
     followed_by (loads_body f z open_loops n source)
     (followed_by (straight_body made.code)
-        (in_a_row n (λ k.
-        finish_body f 0 z.multiplier z.scatters open_loops table target k (slice_index made.outs k) (made.next + k))))
+    (in_a_row n (λ k.
+    finish_body f 0 z.multiplier z.scatters open_loops table target k (slice_index made.outs k) (made.next + k))))
 
 abbrev pub tile_body : PlainFrame → PlainNest → ℕ → ℕ → ℕ → Array → Array → PlainBody
 tile_body f z open_loops v table source target =
     followed_by (loads_body f z open_loops v source)
-        (AndStmts (Do (Tile v 0))
-        (in_a_row v (λ k. finish_body f 1 z.multiplier z.scatters open_loops table target k (v + k) (v + v + k))))
+    (AndStmts (Do (Tile v 0))
+    (in_a_row v (λ k. finish_body f 1 z.multiplier z.scatters open_loops table target k (v + k) (v + v + k))))
 
 -- the value of the loop at a depth
 abbrev pub loop_value : ℕ → PlainExpr
@@ -152,40 +152,40 @@ product_place depth size =
 abbrev pub term_body : PlainExpr → ℕ → Array → ℕ → ℕ → PlainBody
 term_body input open_loops source powers size =
     AndStmts (Do (Load 1 source input))
-        (AndStmts (Do (MulTable 2 1 powers (product_place open_loops size) 0)) (AndStmts (Do (Add 0 0 2)) NoStmts))
+    (AndStmts (Do (MulTable 2 1 powers (product_place open_loops size) 0)) (AndStmts (Do (Add 0 0 2)) NoStmts))
 
 -- register 0 times a power, plus an item
 abbrev pub horner_body : PlainExpr → ℕ → Array → ℕ → PlainBody
 horner_body input open_loops source powers =
     AndStmts (Do (MulTable 1 0 powers (loop_value open_loops) 0))
-        (AndStmts (Do (Load 2 source input)) (AndStmts (Do (Add 0 1 2)) NoStmts))
+    (AndStmts (Do (Load 2 source input)) (AndStmts (Do (Add 0 1 2)) NoStmts))
 
 -- a loop over rows, and in it one over their terms
 abbrev pub rows_body : PlainFrame → PlainNest → ℕ → ℕ → PlainBody → ℕ → Array → PlainBody
 rows_body f z open_loops size turn table target =
     AndStmts
     (Loop size (AndStmts (Do (Zero 0))
-        (AndStmts (Loop size turn) (finish_body f 0 z.multiplier z.scatters (open_loops + 1) table target 0 0 3))))
+    (AndStmts (Loop size turn) (finish_body f 0 z.multiplier z.scatters (open_loops + 1) table target 0 0 3))))
     NoStmts
 
 abbrev pub items_body : PlainFrame → PlainNest → ℕ → ℕ → ℕ → Array → Array → PlainBody
 items_body f z open_loops size table source target =
     in_a_row size (λ k.
-        AndStmts (Do (Load 0 source (place_at f open_loops z.gathers k)))
-        (finish_body f 0 z.multiplier z.scatters open_loops table target k 0 1))
+    AndStmts (Do (Load 0 source (place_at f open_loops z.gathers k)))
+    (finish_body f 0 z.multiplier z.scatters open_loops table target k 0 1))
 
 abbrev pub work_body : Target → PlainNest → PlainWork → ℕ → ℕ → ℕ → Array → Array → PlainBody
 work_body h z (kernel k) open_loops powers table source target =
     made_body (frame_of h z.work) z open_loops (work_size (kernel k)) (trees_kernel h.modulus (trees_of k)) table source
-        target
+    target
 work_body h z (rows root size) open_loops powers table source target =
     let f = frame_of h z.work in
-        rows_body f z open_loops size
-        (term_body (place_at f (open_loops + 2) z.gathers 0) open_loops source powers size) table target
+    rows_body f z open_loops size
+    (term_body (place_at f (open_loops + 2) z.gathers 0) open_loops source powers size) table target
 work_body h z (horner root size) open_loops powers table source target =
     let f = frame_of h z.work in
-        rows_body f z open_loops size (horner_body (place_at f (open_loops + 2) z.gathers 0) open_loops source powers)
-        table target
+    rows_body f z open_loops size (horner_body (place_at f (open_loops + 2) z.gathers 0) open_loops source powers)
+    table target
 work_body h z (tile lanes) open_loops powers table source target =
     tile_body (frame_of h z.work) z open_loops lanes table source target
 work_body h z (copy size) open_loops powers table source target =
@@ -201,7 +201,7 @@ abbrev pub nest_body : Target → PlainNest → List (List ℕ) → Array → Ar
 nest_body h z tables source target =
     let loops = loop_counts h z in
     nested loops (work_body h z z.work (length loops) (powers_number h.modulus z.work tables)
-        (multiplier_number h.modulus z.multiplier (tables_of_work h.modulus z.work tables)) source target)
+    (multiplier_number h.modulus z.multiplier (tables_of_work h.modulus z.work tables)) source target)
 
 -- a pass: its nests in a row
 abbrev pub pass_body : Target → List PlainNest → List (List ℕ) → Array → Array → PlainBody

@@ -33,4 +33,4 @@ pub record Computes (m : ℕ) (f : Formula) (p : PlainProgram) : Type 0 where
 abbrev pub FormulasCompute : Type 0
 FormulasCompute =
     (m : ℕ) (f : Formula) (p : PlainProgram) → 2 ≤ m → m < 2 ^ 62 → IsShaped f → parts_of f ≤ 65536 →
-        Performs (plain_machine (size_of f) m) (formula_merged m f) p → Computes m f p
+    Performs (plain_machine (size_of f) m) (formula_merged m f) p → Computes m f p

@@ -31,13 +31,13 @@ is_word w = false
 abbrev pub run_of : PlainNest → Option PlainRun
 run_of z =
     if is_word z.work && is_free z.multiplier
-        then same_words (words_at z.counts z.gathers) (words_at z.counts z.scatters) else None
+    then same_words (words_at z.counts z.gathers) (words_at z.counts z.scatters) else None
 
 -- both, where the second begins at the end of the first, and ends within the limits of places
 abbrev pub together : Option PlainRun → Option PlainRun → Option PlainRun
 together (Some r) (Some s) =
     if r.first + r.count == s.first && nat_lt (s.first + s.count) (2 ^ 32)
-        then Some (record { first = r.first; count = r.count + s.count }) else None
+    then Some (record { first = r.first; count = r.count + s.count }) else None
 together r s = None
 
 -- the loop that copies them

@@ -15,7 +15,7 @@ JoinedMean = (m n : ℕ) (ps : List (List PlainNest)) (x : List ℕ) → passes_
 abbrev pub JoinedCost : Type 0
 JoinedCost =
     (weight : ℕ) (cost : PlainWork → ℕ) (ps : List (List PlainNest)) → CopiesAreFree cost →
-        passes_cost weight cost (all_joined ps) ≡ passes_cost weight cost ps
+    passes_cost weight cost (all_joined ps) ≡ passes_cost weight cost ps
 
 -- pass by pass
 abbrev pub JoinedLoad : Type 0

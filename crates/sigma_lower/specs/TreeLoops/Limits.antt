@@ -16,4 +16,4 @@ AreLimitedPhases h (ts ∷ more) = AreLimitedLoops (most 64) h.size (loops_in (p
 abbrev pub LoopsAreLimited : Type 0
 LoopsAreLimited =
     (h : Target) (l : Layout) → IsMachine h → CanShareLayout h l → IsGoodLayout h.modulus l →
-        AreLimitedPhases h (lowered_of h l)
+    AreLimitedPhases h (lowered_of h l)

@@ -90,11 +90,11 @@ right_terms p v Gt w a b = []
 right_terms p v Ct w a b =
     turned_in p v (layout_size a) (layout_size b)
     ++ (map lowered (steps_of (right_path p v (layout_size a)) b)
-        ++ (tiled_after p v (layout_size a) (layout_size b) ++ diag [] (layout_size a) (layout_size b) w ∷ []))
+    ++ (tiled_after p v (layout_size a) (layout_size b) ++ diag [] (layout_size a) (layout_size b) w ∷ []))
 right_terms p v Split w a b =
     tiled_before p v (layout_size a) (layout_size b)
-        ++ (map lowered (steps_of (right_path p v (layout_size a)) b)
-        ++ tiled_after p v (layout_size a) (layout_size b))
+    ++ (map lowered (steps_of (right_path p v (layout_size a)) b)
+    ++ tiled_after p v (layout_size a) (layout_size b))
 right_terms p v Dim w a b =
     tiled_before p v (layout_size a) (layout_size b)
     ++ (map lowered (steps_of (right_path p v (layout_size a)) b)
@@ -108,4 +108,4 @@ abbrev pub root_terms : Target → Layout → List (List PlainTerm)
 root_terms h (work w) = []
 root_terms h (by rule root a b) =
     in_phases h.procs (right_terms h.procs h.lanes rule root a b)
-        (left_terms h.procs h.lanes (layout_size a) (layout_size b) (steps_of [] a))
+    (left_terms h.procs h.lanes (layout_size a) (layout_size b) (steps_of [] a))

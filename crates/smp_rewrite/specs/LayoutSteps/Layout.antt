@@ -51,7 +51,7 @@ abbrev pub layout_cost : ℕ → ℕ → Layout → ℕ
 layout_cost weight m (work w) = work_cost weight m w
 layout_cost weight m (by rule root a b) =
     layout_size b * layout_cost weight m a + layout_size a * layout_cost weight m b
-        + rule_cost weight rule (layout_size a * layout_size b)
+    + rule_cost weight rule (layout_size a * layout_size b)
 
 -- a work that a program can do modulo m: trees that can be made,
 -- or a leaf of two items or more by rows with a root of its size

@@ -41,13 +41,13 @@ all_on m (s ∷ ss) x = all_on m ss (step_on m s x)
 abbrev pub StepsDo : Type 0
 StepsDo =
     (m : ℕ) (path : Path) (l : Layout) (x : List ℕ) →
-        all_on m (steps_of path l) x ≡ under path (layout_size l) (layout_on m l) x
+    all_on m (steps_of path l) x ≡ under path (layout_size l) (layout_on m l) x
 
 -- and have its operations, for each copy
 abbrev pub StepsCost : Type 0
 StepsCost =
     (weight m : ℕ) (path : Path) (l : Layout) →
-        operations_in weight m (steps_of path l) ≡ copies_of path * layout_cost weight m l
+    operations_in weight m (steps_of path l) ≡ copies_of path * layout_cost weight m l
 
 -- the layout of a tree has its size
 abbrev pub LayoutsHaveSize : Type 0

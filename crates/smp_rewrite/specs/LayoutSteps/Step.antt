@@ -35,7 +35,7 @@ abbrev pub steps_of : Path → Layout → List PlainStep
 steps_of path (work w) = step path (piece w) ∷ []
 steps_of path (by rule root a b) =
     rule_steps rule path (layout_size a) (layout_size b) root
-        (steps_of (path ++ Columns (layout_size b) ∷ []) a) (steps_of (path ++ Blocks (layout_size a) ∷ []) b)
+    (steps_of (path ++ Columns (layout_size b) ∷ []) a) (steps_of (path ++ Blocks (layout_size a) ∷ []) b)
 
 -- the operations of a step: a diagonal multiplies each item, and a permutation only moves
 abbrev pub core_cost : ℕ → ℕ → PlainCore → ℕ

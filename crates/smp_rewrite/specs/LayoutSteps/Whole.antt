@@ -64,7 +64,7 @@ whole_of c t = record { layout = layout_of (forward_of c) t; factor = factor_by 
 abbrev pub WholesDo : Type 0
 WholesDo =
     (c : Request) (t : Breakdown) (x : List ℕ) → IsValid c → IsWholeTree c t →
-        whole_on c.modulus (whole_of c t) x ≡ asked_of c x
+    whole_on c.modulus (whole_of c t) x ≡ asked_of c x
 
 -- it costs what the request costs by the tree
 abbrev pub WholesCost : Type 0

@@ -42,7 +42,7 @@ pub record IsFramed (h : Target) (p : PlainPass) : Type 0 where
   pub factors : (d : PlainDiagonal) → p.diagonal ≡ Some d → (vs : List ℕ) (q lane k : ℕ) → AreInRange loops vs →
       q < h.procs → lane < h.lanes → k < vectors_of p.work →
       diagonal_place p d (values_of h p.work q lane vs) (item_of p.work k lane)
-          ≡ diagonal_place p d (values_of h p.work q 0 vs) (item_of p.work k 0) + lane_step p.work * lane
+      ≡ diagonal_place p d (values_of h p.work q 0 vs) (item_of p.work k 0) + lane_step p.work * lane
 
 abbrev pub AllFramed : Target → List PlainPass → Type 0
 AllFramed h [] = Unit {0}
