@@ -1,5 +1,5 @@
-//! Loops and tables of a program as C runs them fast: loops interchanged, joined, as lanes, and fused, large tables in
-//! two factors.
+//! Loops and tables of a program as C runs them fast: loops interchanged, joined and fused, lanes from loops, large
+//! tables in two factors.
 #![tactic(auto)]
 
 mod bodies;

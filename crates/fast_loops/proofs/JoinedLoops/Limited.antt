@@ -3,6 +3,7 @@ use Rattle.std.proofs.Common.{◌≡◌, ◌⊎◌, inl, inr, ℕ, ◌+◌, ◌*
 use Rattle.std.proofs.Common.{None, ap, sym, subst, ◌∙◌, arith, refl, ltb-true, lt-ltb, map, length, mul-le-mul_left}
 use Rattle.std.specs.Prelude.{◌&&◌, nat_lt, nat_le, max, if◌then◌else◌}
 use Rattle.std.specs.List.{list_all}
+use Rattle.std.specs.Option.{unwrap_or}
 use Rattle.std.proofs.lemmas.Bool.{leb-true, le-leb, and_parts, and_from}
 use Rattle.icode.specs.Limits.{is_small, is_small_positive, are_parts_within, all_parts, parts_depth, is_expr_within}
 use Rattle.icode.specs.Limits.{is_op_within, is_stmt_within, is_body_within, are_phases_within}
@@ -12,7 +13,7 @@ use Rattle.icode.specs.Plain.{NoStmts, AndStmts}
 use Rattle.fast_loops.specs.Places.{are_linear}
 use Rattle.fast_loops.specs.JoinedLoops.JoinedLoops.{place_goes_on, op_goes_on, stmt_goes_on, body_goes_on}
 use Rattle.fast_loops.specs.JoinedLoops.JoinedLoops.{lifted_parts, lifted_place, lifted_op, lifted_stmt, lifted_body}
-use Rattle.fast_loops.specs.JoinedLoops.JoinedLoops.{as_one, or_loop, joined_stmt, joined_body}
+use Rattle.fast_loops.specs.JoinedLoops.JoinedLoops.{as_one, joined_stmt, joined_body}
 use Rattle.fast_loops.proofs.Limited.{IsVarWithin, IsLoopWithin, and_three, one-within, var-within, loop-within}
 use Rattle.fast_loops.proofs.Limited.{loop-is, only-within}
 use Rattle.fast_loops.proofs.Linear.{wrong, from_least, proc_first}
@@ -181,7 +182,7 @@ positive a b ha hb small =
     and_from (nat_lt 0 (a * b)) _ (lt-ltb 0 (a * b) (omega (arith, some, most))) small
 
 one-is : (m loop count : ℕ) (body : PlainBody) → is_stmt_within m (Loop count body) loop ≡ true →
-    is_stmt_within m (or_loop count body (as_one loop count body)) loop ≡ true
+    is_stmt_within m (unwrap_or (as_one loop count body) (Loop count body)) loop ≡ true
 one-is m loop count NoStmts h = h
 one-is m loop count (AndStmts (Do op) rest) h = h
 one-is m loop count (AndStmts (Loop inner body) (AndStmts stmt rest)) h = h
@@ -195,8 +196,8 @@ one-is m loop count (AndStmts (Loop inner body) NoStmts) h =
     inside = loop-within m inner (loop + 1) body (only-within m (loop + 1) (Loop inner body) outer.within)
 
     by_test : (t : Bool) → (is_small (count * inner) && body_goes_on loop inner body) ≡ t →
-        is_stmt_within m (or_loop count (AndStmts (Loop inner body) NoStmts) (if t
-        then Some (Loop (count * inner) (lifted_body loop body)) else None)) loop ≡ true
+        is_stmt_within m (unwrap_or (if t then Some (Loop (count * inner) (lifted_body loop body)) else None)
+        (Loop count (AndStmts (Loop inner body) NoStmts))) loop ≡ true
     by_test false e = h
     by_test true e =
         let told = and_parts (is_small (count * inner)) _ e in

@@ -3,6 +3,7 @@ use Rattle.std.proofs.Common.{◌≡◌, ℕ, zero, suc, ◌+◌, ◌*◌, Bool,
 use Rattle.std.proofs.Common.{length, refl, sym, ap, ap₂, ◌∙◌, arith, append-nil, append_assoc, length-append}
 use Rattle.std.specs.Prelude.{◌&&◌, slice_index_or, slice_index, ◌-◌, if◌then◌else◌}
 use Rattle.std.specs.List.{range_with_len}
+use Rattle.std.specs.Option.{unwrap_or}
 use Rattle.std.proofs.Math.Path.{fun_ext}
 use Rattle.std.proofs.lemmas.List.Concat.{flat_map-append}
 use Rattle.icode.specs.declared.program.Array.{Array}
@@ -15,7 +16,7 @@ use Rattle.icode.specs.Plain.{PlainOp, PlainStmt, PlainBody, PlainProgram, Load,
 use Rattle.icode.specs.Plain.{MulTable, Tile, Loop, Do, NoStmts, AndStmts}
 use Rattle.icode.proofs.Bools.{both_true}
 use Rattle.fast_loops.specs.JoinedLoops.JoinedLoops.{op_goes_on, stmt_goes_on, body_goes_on, lifted_op, lifted_stmt}
-use Rattle.fast_loops.specs.JoinedLoops.JoinedLoops.{lifted_body, as_one, or_loop, joined_stmt, joined_body}
+use Rattle.fast_loops.specs.JoinedLoops.JoinedLoops.{lifted_body, as_one, joined_stmt, joined_body}
 use Rattle.fast_loops.proofs.JoinedLoops.Numbers.{place_same}
 
 -- ---- rounds of two loops, and of one
@@ -150,7 +151,7 @@ module _ (p : PlainProgram) (q : ℕ) where
       ∙ sym (append-nil (flat_map (λ j. steps_of_body p body ((vs ++ i ∷ []) ++ j ∷ []) q) (range_with_len 0 inner)))))
 
   one-same : (loop count : ℕ) (body : PlainBody) (vs : List ℕ) → length vs ≡ loop →
-      steps_of_stmt p (or_loop count body (as_one loop count body)) vs q ≡ steps_of_stmt p (Loop count body) vs q
+      steps_of_stmt p (unwrap_or (as_one loop count body) (Loop count body)) vs q ≡ steps_of_stmt p (Loop count body) vs q
   one-same loop count NoStmts vs deep = refl
   one-same loop count (AndStmts (Do op) rest) vs deep = refl
   one-same loop count (AndStmts (Loop inner body) (AndStmts stmt rest)) vs deep = refl
@@ -158,8 +159,8 @@ module _ (p : PlainProgram) (q : ℕ) where
       by_test (is_small (count * inner) && body_goes_on loop inner body) refl
     where
       by_test : (t : Bool) → (is_small (count * inner) && body_goes_on loop inner body) ≡ t →
-          steps_of_stmt p (or_loop count (AndStmts (Loop inner body) NoStmts) (if t
-          then Some (Loop (count * inner) (lifted_body loop body)) else None)) vs q
+          steps_of_stmt p (unwrap_or (if t then Some (Loop (count * inner) (lifted_body loop body)) else None)
+          (Loop count (AndStmts (Loop inner body) NoStmts))) vs q
           ≡ steps_of_stmt p (Loop count (AndStmts (Loop inner body) NoStmts)) vs q
       by_test false e = refl
       by_test true e = both-same loop count inner body vs deep (both_true (is_small (count * inner)) _ e).1

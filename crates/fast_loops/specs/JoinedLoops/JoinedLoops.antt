@@ -1,6 +1,7 @@
 -- Loop coalescing (Polychronopoulos, 1987): a loop and the one that stands alone in it become one loop of as many
 -- rounds as both have, where each place goes on from the last round of the inner loop to the first of its next time.
 use Rattle.std.specs.Prelude.{ℕ, ◌+◌, ◌-◌, ◌*◌, ◌==◌, ◌&&◌, Bool, true, nat_lt, map, Option, Some, None, if◌then◌else◌}
+use Rattle.std.specs.Option.{unwrap_or}
 use Rattle.icode.specs.Limits.{is_small}
 use Rattle.icode.specs.Plain.{PlainExpr, PlainParts, PlainOp, PlainStmt, PlainBody, PlainProgram, Sum, NoParts, AndParts, Var, Load, Store, MulTable, Loop, Do, NoStmts, AndStmts}
 use Rattle.fast_loops.specs.Places.{are_linear, stride}
@@ -74,15 +75,11 @@ abbrev pub as_one : ℕ → ℕ → PlainBody → Option PlainStmt
 as_one loop count (AndStmts (Loop inner body) NoStmts) = both_as_one loop count inner body
 as_one loop count body = None
 
-abbrev pub or_loop : ℕ → PlainBody → Option PlainStmt → PlainStmt
-or_loop count body (Some stmt) = stmt
-or_loop count body None = Loop count body
-
 -- from the innermost loops to the outermost
 abbrev mutual
   pub joined_stmt : ℕ → PlainStmt → PlainStmt
   joined_stmt loop (Loop count body) =
-      let inside = joined_body (loop + 1) body in or_loop count inside (as_one loop count inside)
+      let inside = joined_body (loop + 1) body in unwrap_or (as_one loop count inside) (Loop count inside)
   joined_stmt loop (Do op) = Do op
 
   pub joined_body : ℕ → PlainBody → PlainBody

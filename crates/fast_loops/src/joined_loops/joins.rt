@@ -1,10 +1,11 @@
 // Programs whose loops are joined.
 
 ghost use Rattle.std.specs.Prelude.{◌≡◌, ◌+◌, ◌^◌, ◌<◌, ◌≤◌, map, IfOk, IsTrue, option_map};
+ghost use Rattle.std.specs.Option.{unwrap_or};
 ghost use Rattle.icode.specs.Limits.{is_stmt_within, is_body_within, are_phases_within};
-ghost use Rattle.icode.specs.Plain.{plain_stmt, plain_body, plain_phases};
+ghost use Rattle.icode.specs.Plain.{Loop, plain_stmt, plain_body, plain_phases};
 ghost use Rattle.icode.specs.Program.{plain_program};
-ghost use Rattle.fast_loops.specs.JoinedLoops.JoinedLoops.{both_as_one, as_one, or_loop, joined_stmt, joined_body, joined};
+ghost use Rattle.fast_loops.specs.JoinedLoops.JoinedLoops.{both_as_one, as_one, joined_stmt, joined_body, joined};
 
 use crate::joined_loops::lifts::lifted_body;
 use crate::joined_loops::tests::body_goes_on;
@@ -57,7 +58,7 @@ fn as_one(alloc: Global, depth: u64, count: u64, body: &[Stmt]) -> Result<Option
 fn joined_loop(alloc: Global, depth: u64, count: u64, body: Vec<Stmt>) -> Result<Stmt, NoMemory>
     requires { depth ≤ 64 }
     ensures { let inside = plain_body body.items in
-        IfOk result (λ made. plain_stmt made ≡ or_loop count inside (as_one depth count inside)) }
+        IfOk result (λ made. plain_stmt made ≡ unwrap_or (as_one depth count inside) (Loop count inside)) }
 {
     match as_one(alloc, depth, count, &body)? {
         Some(made) => Ok(made),

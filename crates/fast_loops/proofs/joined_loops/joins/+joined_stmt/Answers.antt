@@ -1,9 +1,10 @@
+use Rattle.std.specs.Option.{unwrap_or}
 use Rattle.std.proofs.Common.{◌≡◌, ◌+◌, List, ap, sym, ◌∙◌, subst, arith, rules, true}
 use Rattle.std.proofs.lemmas.Grind.{common_steps}
 use Rattle.icode.specs.declared.program.Stmt.{Stmt, the_lemmas}
 use Rattle.icode.specs.Limits.{is_stmt_within, is_body_within}
 use Rattle.icode.specs.Plain.{Loop, plain_stmt, plain_body}
-use Rattle.fast_loops.specs.JoinedLoops.JoinedLoops.{as_one, or_loop, joined_stmt, joined_body}
+use Rattle.fast_loops.specs.JoinedLoops.JoinedLoops.{as_one, joined_stmt, joined_body}
 use Rattle.fast_loops.proofs.Limited.{IsLoopWithin, loop-within}
 use Rattle.fast_loops.proofs.JoinedLoops.Seen.{joined-pushed, item-within, loop-is}
 use Rattle.fast_loops.proofs.joined_loops.joins.+joined_stmt.Goals as goal
@@ -40,5 +41,5 @@ returns-in_ok-made-in-Loop t c =
     (joined-pushed (depth + 1) c.loop-inner.inner-index c.deref-inner-items.result.now c.loop-inner.inside.items
     (omega (arith, c.loop-inner-test.false)) c.loop-inner.invariant) in
     c.in_ok-made-in-Loop.ensures
-    ∙ ap (λ body. or_loop count body (as_one depth count body)) inside
+    ∙ ap (λ body. unwrap_or (as_one depth count body) (Loop count body)) inside
     ∙ ap (joined_stmt depth) (sym (loop-is c.args.stmt.now count c.in-Loop.body c.in-Loop.is))
