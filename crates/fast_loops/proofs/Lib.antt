@@ -12,6 +12,7 @@ pub mod Fresh
 pub mod InOrder
 pub mod Independent
 pub mod Items
+pub mod JoinedLoops
 pub mod Law
 pub mod Limited
 pub mod Linear

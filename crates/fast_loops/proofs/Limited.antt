@@ -14,7 +14,7 @@ use Rattle.fast_loops.proofs.Looped.{looped_is}
 
 -- ---- parts
 
-and_three : (a b c : Bool) → a ≡ true → b ≡ true → c ≡ true → (a && (b && c)) ≡ true
+pub and_three : (a b c : Bool) → a ≡ true → b ≡ true → c ≡ true → (a && (b && c)) ≡ true
 and_three a b c ea eb ec = and_from a (b && c) ea (and_from b c eb ec)
 
 -- what stands behind a rank stands behind lower ones
@@ -34,7 +34,7 @@ pair-within loop a b n least rest deep le ea eb h =
     (parts-lower rest n (loop + 3) (suc (1 + (loop + 1))) (omega arith) h))
 
 -- one in front
-one-within : (depth a n least behind : ℕ) (rest : PlainParts) → depth < n → least ≤ depth + 1 → is_small_positive a ≡ true → depth + 2 ≤ behind → are_parts_within rest n behind ≡ true → are_parts_within (AndParts (Var depth a) rest) n least ≡ true
+pub one-within : (depth a n least behind : ℕ) (rest : PlainParts) → depth < n → least ≤ depth + 1 → is_small_positive a ≡ true → depth + 2 ≤ behind → are_parts_within rest n behind ≡ true → are_parts_within (AndParts (Var depth a) rest) n least ≡ true
 one-within depth a n least behind rest deep le ea lower h =
     and_three (nat_lt depth n && is_small_positive a) (nat_le least (1 + depth)) _ (and_from (nat_lt depth n) _ (lt-ltb depth n deep) ea) (le-leb least (1 + depth) (omega (arith, le)))
     (parts-lower rest n behind (suc (1 + depth)) (omega (arith, lower)) h)
@@ -46,7 +46,7 @@ pub record IsVarWithin (depth a n least : ℕ) (rest : PlainParts) : Type 0 wher
   pub ranked : least ≤ depth + 1
   pub behind : are_parts_within rest n (depth + 2) ≡ true
 
-var-within : (depth a n least : ℕ) (rest : PlainParts) → are_parts_within (AndParts (Var depth a) rest) n least ≡ true → IsVarWithin depth a n least rest
+pub var-within : (depth a n least : ℕ) (rest : PlainParts) → are_parts_within (AndParts (Var depth a) rest) n least ≡ true → IsVarWithin depth a n least rest
 var-within depth a n least rest h =
     let within = and_parts (nat_lt depth n && is_small_positive a) _ h in
     let part = and_parts (nat_lt depth n) _ within.0 in
@@ -231,21 +231,21 @@ round-within m loop n (AndStmts (Loop count body) rest) deep top h =
     and_from (is_stmt_within m (Loop count body) n) _ both.0 (round-within m loop n rest deep top both.1)
 
 -- what is known of a loop within the limits
-record IsLoopWithin (m count depth : ℕ) (body : PlainBody) : Type 0 where
-  small : is_small_positive count ≡ true
-  deep : depth < 64
-  within : is_body_within m body (depth + 1) ≡ true
+pub record IsLoopWithin (m count depth : ℕ) (body : PlainBody) : Type 0 where
+  pub small : is_small_positive count ≡ true
+  pub deep : depth < 64
+  pub within : is_body_within m body (depth + 1) ≡ true
 
-loop-within : (m count depth : ℕ) (body : PlainBody) → is_stmt_within m (Loop count body) depth ≡ true → IsLoopWithin m count depth body
+pub loop-within : (m count depth : ℕ) (body : PlainBody) → is_stmt_within m (Loop count body) depth ≡ true → IsLoopWithin m count depth body
 loop-within m count depth body h =
     let a = and_parts (is_small_positive count) _ h in
     let b = and_parts (nat_lt depth 64) _ a.1 in
     record { small = a.0; deep = ltb-true depth 64 b.0; within = b.1 }
 
-loop-is : (m count depth : ℕ) (body : PlainBody) → IsLoopWithin m count depth body → is_stmt_within m (Loop count body) depth ≡ true
+pub loop-is : (m count depth : ℕ) (body : PlainBody) → IsLoopWithin m count depth body → is_stmt_within m (Loop count body) depth ≡ true
 loop-is m count depth body k = and_three (is_small_positive count) (nat_lt depth 64) (is_body_within m body (depth + 1)) k.small (lt-ltb depth 64 k.deep) k.within
 
-only-within : (m depth : ℕ) (stmt : PlainStmt) → is_body_within m (AndStmts stmt NoStmts) depth ≡ true → is_stmt_within m stmt depth ≡ true
+pub only-within : (m depth : ℕ) (stmt : PlainStmt) → is_body_within m (AndStmts stmt NoStmts) depth ≡ true → is_stmt_within m stmt depth ≡ true
 only-within m depth stmt h = (and_parts (is_stmt_within m stmt depth) _ h).0
 
 only-is : (m depth : ℕ) (stmt : PlainStmt) → is_stmt_within m stmt depth ≡ true → is_body_within m (AndStmts stmt NoStmts) depth ≡ true

@@ -42,10 +42,10 @@ record AreExchanged (loop : ℕ) (ws us : List ℕ) : Type 0 where
   agree : Agree loop ws us
 
 -- the values of rounds
-first-at : (loop : ℕ) (vs us : List ℕ) (i j : ℕ) → length vs ≡ loop → slice_index (vs ++ i ∷ j ∷ us) loop ≡ i
+pub first-at : (loop : ℕ) (vs us : List ℕ) (i j : ℕ) → length vs ≡ loop → slice_index (vs ++ i ∷ j ∷ us) loop ≡ i
 first-at loop vs us i j is = ap (slice_index (vs ++ i ∷ j ∷ us)) (sym is) ∙ at-first vs us i j
 
-second-at : (loop : ℕ) (vs us : List ℕ) (i j : ℕ) → length vs ≡ loop → slice_index (vs ++ i ∷ j ∷ us) (loop + 1) ≡ j
+pub second-at : (loop : ℕ) (vs us : List ℕ) (i j : ℕ) → length vs ≡ loop → slice_index (vs ++ i ∷ j ∷ us) (loop + 1) ≡ j
 second-at loop vs us i j is =
     let e : loop + 1 ≡ suc (length vs) = omega arith in
     ap (slice_index (vs ++ i ∷ j ∷ us)) e ∙ at-second vs us i j

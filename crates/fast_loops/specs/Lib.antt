@@ -1,5 +1,6 @@
 pub mod TwoTables
 pub mod FusedLoops
+pub mod JoinedLoops
 pub mod LoopLanes
 pub mod Places
 pub mod Rounds

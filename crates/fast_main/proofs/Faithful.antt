@@ -13,6 +13,8 @@ use Rattle.word_code.proofs.InPlace.Fitting.{in_place_fits, in_place_apart}
 use Rattle.fast_loops.specs.Interchange.{are_nests, interchanged_body, interchanged}
 use Rattle.fast_loops.proofs.Law.{interchanged_leaves_the_same}
 use Rattle.fast_loops.proofs.Programs.{modulus_stays}
+use Rattle.fast_loops.specs.JoinedLoops.JoinedLoops.{joined}
+use Rattle.fast_loops.proofs.JoinedLoops.Law.{joined_does_the_same}
 use Rattle.fast_loops.specs.LoopLanes.Lanes.{IsLanes, can_be_laned, laned, laned_body}
 use Rattle.fast_loops.proofs.LoopLanes.Law.{laned_leaves_the_same}
 use Rattle.fast_loops.specs.FusedLoops.FusedLoops.{fused, large_size}
@@ -20,7 +22,7 @@ use Rattle.fast_loops.proofs.FusedLoops.Law.{fused_leaves_the_same}
 use Rattle.fast_loops.specs.TwoTables.Laws.{IsInPlaceOf}
 use Rattle.fast_loops.specs.TwoTables.TwoTables.{factored, large_table}
 use Rattle.fast_loops.proofs.TwoTables.Law.{factored_leaves_the_same}
-use Rattle.fast_loops.proofs.TwoTables.Programs.{after}
+use Rattle.fast_loops.proofs.TwoTables.Programs.{after, itself}
 use Rattle.word_code.specs.declared.program.WordProgram.{WordProgram}
 use Rattle.word_code.specs.declared.choose.WordSize.{WordSize}
 use Rattle.word_code.specs.Choice.{allows, fast_words, laziness_for}
@@ -31,7 +33,7 @@ use Rattle.word_code.specs.View.{plain_word_program}
 use Rattle.word_code.specs.WordMachine.{word_results}
 use Rattle.word_code.specs.WordProgram.{PlainWordProgram, word_code}
 use Rattle.fast_main.specs.FastWords.Asked.{IsLaneCount}
-use Rattle.fast_main.specs.Translation.{has_cheap_products, on_lanes, in_blocks, prepared, words_for, IsFaithful, AreSoundWords}
+use Rattle.fast_main.specs.Translation.{has_cheap_products, on_several, on_lanes, in_blocks, prepared, words_for, IsFaithful, AreSoundWords}
 
 -- ---- the prepared program
 
@@ -61,29 +63,62 @@ laned_modulus v p = of_choice (can_be_laned v p)
     of_choice true = refl
     of_choice false = refl
 
-laned_is : (v : ℕ) (p : PlainProgram) → IsLanes v → PlainFits p → ((phase : ℕ) → IsApart (plain_code p) phase) → IsInPlaceOf (laned v (interchanged p)) p
+laned_is : (v : ℕ) (p : PlainProgram) → IsLanes v → PlainFits p → ((phase : ℕ) → IsApart (plain_code p) phase) →
+    IsInPlaceOf (laned v p) p
 laned_is v p lanes fits apart =
-    let first = interchanged_is p fits apart in
-    let law = laned_leaves_the_same v (interchanged p) lanes first.fits first.apart in
-    let next : IsInPlaceOf (laned v (interchanged p)) (interchanged p) = record {
-      size = laned_size v (interchanged p);
-      modulus = laned_modulus v (interchanged p);
+    let law = laned_leaves_the_same v p lanes fits apart in
+    record {
+      size = laned_size v p;
+      modulus = laned_modulus v p;
       fits = law.fits;
       apart = law.apart;
       same = law.same;
-    } in
-    after (laned v (interchanged p)) (interchanged p) p next first
+    }
+
+joined_is : (p : PlainProgram) → PlainFits p → ((phase : ℕ) → IsApart (plain_code p) phase) →
+    IsInPlaceOf (joined p) p
+joined_is p fits apart =
+    let law = joined_does_the_same p in
+    record {
+      size = refl;
+      modulus = refl;
+      fits = law.fits fits;
+      apart = λ phase. subst (λ code. IsApart code phase) (sym law.code) (apart phase);
+      same = λ x turns orders. ap (λ code. results code x turns) law.code ∙ (itself p fits apart).same x turns orders;
+    }
+
+-- on lanes as its loops are, or with them joined, or as it is
+several_is : (v : ℕ) (p : PlainProgram) → IsLanes v → PlainFits p → ((phase : ℕ) → IsApart (plain_code p) phase) →
+    IsInPlaceOf (on_several v p) p
+several_is v p lanes fits apart = of_choice (can_be_laned v p) (can_be_laned v (joined p))
+  where
+    first : IsInPlaceOf (joined p) p
+    first = joined_is p fits apart
+
+    of_choice : (b c : Bool) →
+        IsInPlaceOf (if b then laned v p else (if c then laned v (joined p) else p)) p
+    of_choice true c = laned_is v p lanes fits apart
+    of_choice false true =
+        after (laned v (joined p)) (joined p) p (laned_is v (joined p) lanes first.fits first.apart) first
+    of_choice false false = itself p fits apart
+
+lanes_is : (v : ℕ) (p : PlainProgram) → IsLanes v → PlainFits p → ((phase : ℕ) → IsApart (plain_code p) phase) →
+    IsInPlaceOf (on_several v (interchanged p)) p
+lanes_is v p lanes fits apart =
+    let first = interchanged_is p fits apart in
+    after (on_several v (interchanged p)) (interchanged p) p
+    (several_is v (interchanged p) lanes first.fits first.apart) first
 
 on_lanes_is : (lanes : ℕ) (p : PlainProgram) → IsLaneCount lanes → PlainFits p → ((phase : ℕ) → IsApart (plain_code p) phase) → IsInPlaceOf (on_lanes lanes p) p
 on_lanes_is lanes p (inl one) fits apart = subst (λ n. IsInPlaceOf (on_lanes n p) p) (sym one) (interchanged_is p fits apart)
 on_lanes_is lanes p (inr (inl two)) fits apart =
-    subst (λ n. IsInPlaceOf (on_lanes n p) p) (sym two) (laned_is 2 p (inl refl) fits apart)
+    subst (λ n. IsInPlaceOf (on_lanes n p) p) (sym two) (lanes_is 2 p (inl refl) fits apart)
 on_lanes_is lanes p (inr (inr (inl four))) fits apart =
-    subst (λ n. IsInPlaceOf (on_lanes n p) p) (sym four) (laned_is 4 p (inr (inl refl)) fits apart)
+    subst (λ n. IsInPlaceOf (on_lanes n p) p) (sym four) (lanes_is 4 p (inr (inl refl)) fits apart)
 on_lanes_is lanes p (inr (inr (inr (inl eight)))) fits apart =
-    subst (λ n. IsInPlaceOf (on_lanes n p) p) (sym eight) (laned_is 8 p (inr (inr (inl refl))) fits apart)
+    subst (λ n. IsInPlaceOf (on_lanes n p) p) (sym eight) (lanes_is 8 p (inr (inr (inl refl))) fits apart)
 on_lanes_is lanes p (inr (inr (inr (inr sixteen)))) fits apart =
-    subst (λ n. IsInPlaceOf (on_lanes n p) p) (sym sixteen) (laned_is 16 p (inr (inr (inr refl))) fits apart)
+    subst (λ n. IsInPlaceOf (on_lanes n p) p) (sym sixteen) (lanes_is 16 p (inr (inr (inr refl))) fits apart)
 
 in_blocks_is : (lanes : ℕ) (p : PlainProgram) → IsLaneCount lanes → PlainFits p → ((phase : ℕ) → IsApart (plain_code p) phase) → IsInPlaceOf (in_blocks lanes p) p
 in_blocks_is lanes p count fits apart =

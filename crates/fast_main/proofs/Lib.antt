@@ -1,6 +1,7 @@
 pub mod FastWords
 pub mod Refusals
 pub mod Faithful
+pub mod Laned
 pub mod Rerouted
 pub mod Once
 pub mod Told

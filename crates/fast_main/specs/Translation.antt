@@ -7,7 +7,8 @@ use Rattle.fast_main.specs.FastWords.Asked.{Asked}
 use Rattle.word_code.specs.InPlace.InPlace.{in_place}
 use Rattle.fast_loops.specs.FusedLoops.FusedLoops.{fused, large_size}
 use Rattle.fast_loops.specs.Interchange.{interchanged}
-use Rattle.fast_loops.specs.LoopLanes.Lanes.{laned}
+use Rattle.fast_loops.specs.JoinedLoops.JoinedLoops.{joined}
+use Rattle.fast_loops.specs.LoopLanes.Lanes.{can_be_laned, laned}
 use Rattle.fast_loops.specs.TwoTables.TwoTables.{factored, large_table}
 use Rattle.word_code.specs.Bare.{WordsFit}
 use Rattle.word_code.specs.declared.choose.WordSize.{WordSize}
@@ -17,9 +18,17 @@ use Rattle.word_code.specs.WordMachine.{under, word_results}
 use Rattle.word_code.specs.WordProgram.{PlainWordProgram, word_code}
 use Rattle.word_code.specs.WordPrint.WordText.{words_text}
 
+-- the program on several lanes with its loops joined, if it can be laned so
+abbrev pub laned_if_joined : ℕ → PlainProgram → PlainProgram
+laned_if_joined lanes p = let q = joined p in if can_be_laned lanes q then laned lanes q else p
+
+-- as its loops are, or else with them joined
+abbrev pub on_several : ℕ → PlainProgram → PlainProgram
+on_several lanes p = if can_be_laned lanes p then laned lanes p else laned_if_joined lanes p
+
 -- the program where loops are interchanged, and where rounds of loops become lanes if several are asked for
 abbrev pub on_lanes : ℕ → PlainProgram → PlainProgram
-on_lanes lanes p = let q = interchanged p in if lanes == 1 then q else laned lanes q
+on_lanes lanes p = let q = interchanged p in if lanes == 1 then q else on_several lanes q
 
 -- that, where nests go over the blocks of large arrays together
 abbrev pub in_blocks : ℕ → PlainProgram → PlainProgram

@@ -1,11 +1,14 @@
 // What becomes of a program before it is one on words.
-ghost use Rattle.std.specs.Prelude.{◌≡◌, ℕ, IfOk};
+ghost use Rattle.std.specs.Prelude.{◌≡◌, ◌≢◌, ℕ, IfOk};
 ghost use Rattle.icode.specs.Machine.{IsApart};
 ghost use Rattle.icode.specs.Program.{plain_program, code_of, Fits};
+ghost use Rattle.fast_loops.specs.LoopLanes.Lanes.{IsLanes};
 ghost use Rattle.fast_main.specs.FastWords.Asked.{IsLaneCount};
-ghost use Rattle.fast_main.specs.Translation.{has_cheap_products, on_lanes, in_blocks, prepared};
+ghost use Rattle.fast_main.specs.Translation.{has_cheap_products, laned_if_joined, on_several, on_lanes, in_blocks, prepared};
 
-use fast_loops::{LARGE_SIZE, LARGE_TABLE, factor_tables, fuse_loops, interchange, lane_loops};
+use fast_loops::{
+    LARGE_SIZE, LARGE_TABLE, factor_tables, fuse_loops, interchange, join_loops, lane_loops,
+};
 use icode::program::Program;
 use memory::NoMemory;
 use std::alloc::Global;
@@ -23,6 +26,35 @@ fn has_cheap_products(size: WordSize, modulus: u64) -> bool
     }
 }
 
+// The program on so many lanes with its loops joined, if it can be laned so, and else the program.
+fn lane_if_joined(alloc: Global, lanes: u64, program: Program) -> Result<Program, NoMemory>
+    requires lanes { IsLanes lanes }
+    requires others { program.lanes ≢ lanes }
+    ensures { IfOk result
+        (λ made. plain_program made ≡ laned_if_joined lanes (plain_program program)) }
+{
+    let joined = join_loops(alloc, &program)?;
+    let made = lane_loops(alloc, lanes, joined)?;
+    if made.lanes == lanes {
+        return Ok(made);
+    }
+    Ok(program)
+}
+
+// The program on so many lanes as its loops are, or else with them joined, and else the program.
+fn put_on_several(alloc: Global, lanes: u64, program: Program) -> Result<Program, NoMemory>
+    requires { IsLanes lanes }
+    ensures { IfOk result
+        (λ made. plain_program made ≡ on_several lanes (plain_program program)) }
+{
+    let there = lane_loops(alloc, lanes, program)?;
+    if there.lanes == lanes {
+        return Ok(there);
+    }
+    let made = lane_if_joined(alloc, lanes, there)?;
+    Ok(made)
+}
+
 // The program where loops are interchanged, and where rounds of loops become so many lanes.
 fn put_on_lanes(alloc: Global, lanes: u64, program: Program) -> Result<Program, NoMemory>
     requires { IsLaneCount lanes }
@@ -33,7 +65,7 @@ fn put_on_lanes(alloc: Global, lanes: u64, program: Program) -> Result<Program, 
     if lanes == 1 {
         return Ok(program);
     }
-    let made = lane_loops(alloc, lanes, program)?;
+    let made = put_on_several(alloc, lanes, program)?;
     Ok(made)
 }
 

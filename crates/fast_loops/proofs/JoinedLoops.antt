@@ -1,0 +1,5 @@
+pub mod Law
+pub mod Limited
+pub mod Numbers
+pub mod Seen
+pub mod Steps

@@ -1,0 +1,248 @@
+-- Joined loops stand within the limits of programs.
+use Rattle.std.proofs.Common.{◌≡◌, ◌⊎◌, inl, inr, ℕ, ◌+◌, ◌*◌, ◌<◌, ◌≤◌, List, [], ◌∷◌, Bool, true, false, Some}
+use Rattle.std.proofs.Common.{None, ap, sym, subst, ◌∙◌, arith, refl, ltb-true, lt-ltb, map, length, mul-le-mul_left}
+use Rattle.std.specs.Prelude.{◌&&◌, nat_lt, nat_le, max, if◌then◌else◌}
+use Rattle.std.specs.List.{list_all}
+use Rattle.std.specs.Option.{unwrap_or}
+use Rattle.std.proofs.lemmas.Bool.{leb-true, le-leb, and_parts, and_from}
+use Rattle.icode.specs.Limits.{is_small, is_small_positive, are_parts_within, all_parts, parts_depth, is_expr_within}
+use Rattle.icode.specs.Limits.{is_op_within, is_stmt_within, is_body_within, are_phases_within}
+use Rattle.icode.specs.Plain.{PlainExpr, PlainParts, PlainOp, PlainStmt, PlainBody, Sum, NoParts, AndParts, Proc, Var}
+use Rattle.icode.specs.Plain.{Product, Rem, Quot, Load, Store, Zero, Add, Sub, Neg, MulConst, MulTable, Tile, Loop, Do}
+use Rattle.icode.specs.Plain.{NoStmts, AndStmts}
+use Rattle.fast_loops.specs.Places.{are_linear}
+use Rattle.fast_loops.specs.JoinedLoops.JoinedLoops.{place_goes_on, op_goes_on, stmt_goes_on, body_goes_on}
+use Rattle.fast_loops.specs.JoinedLoops.JoinedLoops.{lifted_parts, lifted_place, lifted_op, lifted_stmt, lifted_body}
+use Rattle.fast_loops.specs.JoinedLoops.JoinedLoops.{as_one, joined_stmt, joined_body}
+use Rattle.fast_loops.proofs.Limited.{IsVarWithin, IsLoopWithin, and_three, one-within, var-within, loop-within}
+use Rattle.fast_loops.proofs.Limited.{loop-is, only-within}
+use Rattle.fast_loops.proofs.Linear.{wrong, from_least, proc_first}
+use Rattle.fast_loops.proofs.JoinedLoops.Numbers.{LiftedVar, lifted_var}
+
+-- ---- places
+
+-- parts stand by their ranks, the lifted ones from a rank on that no loop takes from those before
+parts-within : (loop n first least lower : ℕ) (parts : PlainParts) → loop < n → lower ≤ least →
+    (lower ≤ loop + 1) ⊎ (lower + 1 ≤ least) →
+    are_linear first parts ≡ true → are_parts_within parts (n + 1) least ≡ true →
+    are_parts_within (lifted_parts loop parts) n lower ≡ true
+parts-within loop n first least lower NoParts deep le few linear h = refl
+parts-within loop n first least lower (AndParts (Proc a) rest) deep le few linear h =
+    let within = and_parts (is_small_positive a) _ h in
+    let ranked = and_parts (nat_le least 0) _ within.1 in
+    let none : least ≤ 0 = leb-true least 0 ranked.0 in
+    and_three (is_small_positive a) (nat_le lower 0) (are_parts_within (lifted_parts loop rest) n 1) within.0
+    (le-leb lower 0 (omega (arith, le, none)))
+    (parts-within loop n first 1 1 rest deep (omega arith) (inl (omega arith)) (proc_first first a rest linear).1
+    ranked.1)
+parts-within loop n first least lower (AndParts (Var depth a) rest) deep le few linear h =
+    by_place (lifted_var loop depth a rest)
+    (λ low le few. parts-within loop n (depth + 1) (depth + 2) low rest deep le few (from_least first depth _ linear).1
+    known.behind)
+  where
+    known : IsVarWithin depth a (n + 1) least rest
+    known = var-within depth a (n + 1) least rest h
+
+    by_place : LiftedVar loop depth a rest →
+        ((low : ℕ) → low ≤ depth + 2 → (low ≤ loop + 1) ⊎ (low + 1 ≤ depth + 2) →
+        are_parts_within (lifted_parts loop rest) n low ≡ true) →
+        are_parts_within (lifted_parts loop (AndParts (Var depth a) rest)) n lower ≡ true
+    by_place (inl gone) more =
+        let ranked = known.ranked in
+        ap (λ parts. are_parts_within parts n lower) gone.1
+        ∙ more lower (omega (arith, le, ranked)) (inr (omega (arith, le, ranked)))
+    by_place (inr (inl stays)) more =
+        let ranked = known.ranked in
+        ap (λ parts. are_parts_within parts n lower) stays.1
+        ∙ one-within depth a n lower (depth + 2) (lifted_parts loop rest)
+        (omega (arith, deep, stays.0)) (omega (arith, le, ranked)) known.small (omega arith)
+        (more (depth + 2) (omega arith) (inl (omega (arith, stays.0))))
+    by_place (inr (inr lifted)) more =
+        let ranked = known.ranked in
+        let there = known.deep in
+        let next = lifted.next in
+        let low = lifted.low in
+        let rank : lower ≤ lifted.up + 1 =
+        elim few [ inl few ↦ omega (arith, few, low) | inr few ↦ omega (arith, few, ranked, next) ] in
+        ap (λ parts. are_parts_within parts n lower) lifted.is
+        ∙ one-within lifted.up a n lower (lifted.up + 2) (lifted_parts loop rest)
+        (omega (arith, there, next)) rank known.small (omega arith)
+        (more (lifted.up + 2) (omega (arith, next)) (inr (omega (arith, next))))
+parts-within loop n first least lower (AndParts (Product outer inner a) rest) deep le few linear h = wrong linear
+parts-within loop n first least lower (AndParts (Rem of divisor a) rest) deep le few linear h = wrong linear
+parts-within loop n first least lower (AndParts (Quot of divisor a) rest) deep le few linear h = wrong linear
+
+-- there are no more of them, and none has parentheses
+fewer : (loop first : ℕ) (parts : PlainParts) → are_linear first parts ≡ true →
+    all_parts (lifted_parts loop parts) ≤ all_parts parts
+fewer loop first NoParts linear = omega arith
+fewer loop first (AndParts (Proc a) rest) linear =
+    let more = fewer loop first rest (proc_first first a rest linear).1 in omega (arith, more)
+fewer loop first (AndParts (Var depth a) rest) linear =
+    let more = fewer loop (depth + 1) rest (from_least first depth _ linear).1 in
+    let few : PlainParts → Type 0 = λ parts. all_parts parts ≤ 1 + all_parts rest in
+    elim (lifted_var loop depth a rest) [
+      | inl gone ↦ subst few (sym gone.1) (omega (arith, more))
+      | inr (inl stays) ↦ subst few (sym stays.1) (omega (arith, more))
+      | inr (inr lifted) ↦ subst few (sym lifted.is) (omega (arith, more))
+    ]
+fewer loop first (AndParts (Product outer inner a) rest) linear = wrong linear
+fewer loop first (AndParts (Rem of divisor a) rest) linear = wrong linear
+fewer loop first (AndParts (Quot of divisor a) rest) linear = wrong linear
+
+flat : (loop first : ℕ) (parts : PlainParts) → are_linear first parts ≡ true → parts_depth (lifted_parts loop parts) ≡ 0
+flat loop first NoParts linear = refl
+flat loop first (AndParts (Proc a) rest) linear = ap (max 0) (flat loop first rest (proc_first first a rest linear).1)
+flat loop first (AndParts (Var depth a) rest) linear =
+    let more = flat loop (depth + 1) rest (from_least first depth _ linear).1 in
+    elim (lifted_var loop depth a rest) [
+      | inl gone ↦ ap parts_depth gone.1 ∙ more
+      | inr (inl stays) ↦ ap parts_depth stays.1 ∙ ap (max 0) more
+      | inr (inr lifted) ↦ ap parts_depth lifted.is ∙ ap (max 0) more
+    ]
+flat loop first (AndParts (Product outer inner a) rest) linear = wrong linear
+flat loop first (AndParts (Rem of divisor a) rest) linear = wrong linear
+flat loop first (AndParts (Quot of divisor a) rest) linear = wrong linear
+
+place-within : (loop inner n : ℕ) (place : PlainExpr) → loop < n → place_goes_on loop inner place ≡ true →
+    is_expr_within place (n + 1) ≡ true → is_expr_within (lifted_place loop place) n ≡ true
+place-within loop inner n (Sum constant parts) deep on h =
+    let linear = (and_parts (are_linear 0 parts) _ on).0 in
+    let within = and_parts (is_small constant && are_parts_within parts (n + 1) 0) _ h in
+    let sum = and_parts (is_small constant) _ within.0 in
+    let few : all_parts parts ≤ 64 = leb-true (all_parts parts) 64
+    (and_parts (nat_le (all_parts parts) 64) _ within.1).0 in
+    let less = fewer loop 0 parts linear in
+    and_from (is_small constant && are_parts_within (lifted_parts loop parts) n 0) _
+    (and_from (is_small constant) _ sum.0
+    (parts-within loop n 0 0 0 parts deep (omega arith) (inl (omega arith)) linear sum.1))
+    (and_from (nat_le (all_parts (lifted_parts loop parts)) 64) _
+    (le-leb (all_parts (lifted_parts loop parts)) 64 (omega (arith, few, less)))
+    (ap (λ k. nat_le k 64) (flat loop 0 parts linear)))
+
+-- ---- statements
+
+op-within : (m loop inner n : ℕ) (op : PlainOp) → loop < n → op_goes_on loop inner op ≡ true →
+    is_op_within m op (n + 1) ≡ true → is_op_within m (lifted_op loop op) n ≡ true
+op-within m loop inner n (Load register array place) deep on h =
+    let both = and_parts (is_small register) _ h in
+    and_from (is_small register) _ both.0 (place-within loop inner n place deep on both.1)
+op-within m loop inner n (Store array place register) deep on h =
+    let both = and_parts (is_small register) _ h in
+    and_from (is_small register) _ both.0 (place-within loop inner n place deep on both.1)
+op-within m loop inner n (MulTable register source table place step) deep on h =
+    let a = and_parts (is_small register) _ h in
+    let b = and_parts (is_small source) _ a.1 in
+    let c = and_parts (is_small table) _ b.1 in
+    let d = and_parts (nat_lt step 2) _ c.1 in
+    and_from (is_small register) _ a.0
+    (and_from (is_small source) _ b.0
+    (and_from (is_small table) _ c.0
+    (and_from (nat_lt step 2) _ d.0 (place-within loop inner n place deep on d.1))))
+op-within m loop inner n (Zero register) deep on h = h
+op-within m loop inner n (Add register left right) deep on h = h
+op-within m loop inner n (Sub register left right) deep on h = h
+op-within m loop inner n (Neg register source) deep on h = h
+op-within m loop inner n (MulConst register source factor) deep on h = h
+op-within m loop inner n (Tile register source) deep on h = h
+
+-- statements with one loop less around them
+mutual
+  stmt-lifted : (m loop inner n : ℕ) (stmt : PlainStmt) → loop < n → stmt_goes_on loop inner stmt ≡ true →
+      is_stmt_within m stmt (n + 1) ≡ true → is_stmt_within m (lifted_stmt loop stmt) n ≡ true
+  stmt-lifted m loop inner n (Loop count body) deep on h =
+      let known = loop-within m count (n + 1) body h in
+      let within = body-lifted m loop inner (n + 1) body (omega (arith, deep)) on known.within in
+      let top = known.deep in
+      loop-is m count n (lifted_body loop body) (record {
+        small = known.small;
+        deep = omega (arith, top);
+        within = within;
+      })
+  stmt-lifted m loop inner n (Do op) deep on h = op-within m loop inner n op deep on h
+
+  body-lifted : (m loop inner n : ℕ) (body : PlainBody) → loop < n → body_goes_on loop inner body ≡ true →
+      is_body_within m body (n + 1) ≡ true → is_body_within m (lifted_body loop body) n ≡ true
+  body-lifted m loop inner n NoStmts deep on h = refl
+  body-lifted m loop inner n (AndStmts stmt rest) deep on h =
+      let goes = and_parts (stmt_goes_on loop inner stmt) _ on in
+      let both = and_parts (is_stmt_within m stmt (n + 1)) _ h in
+      and_from (is_stmt_within m (lifted_stmt loop stmt) n) _ (stmt-lifted m loop inner n stmt deep goes.0 both.0)
+      (body-lifted m loop inner n rest deep goes.1 both.1)
+
+-- ---- loops
+
+positive : (a b : ℕ) → is_small_positive a ≡ true → is_small_positive b ≡ true → is_small (a * b) ≡ true →
+    is_small_positive (a * b) ≡ true
+positive a b ha hb small =
+    let some : 0 < a = ltb-true 0 a (and_parts (nat_lt 0 a) _ ha).0 in
+    let more : 0 < b = ltb-true 0 b (and_parts (nat_lt 0 b) _ hb).0 in
+    let one : 1 ≤ b = omega (arith, more) in
+    let most : a * 1 ≤ a * b = mul-le-mul_left a one in
+    and_from (nat_lt 0 (a * b)) _ (lt-ltb 0 (a * b) (omega (arith, some, most))) small
+
+one-is : (m loop count : ℕ) (body : PlainBody) → is_stmt_within m (Loop count body) loop ≡ true →
+    is_stmt_within m (unwrap_or (as_one loop count body) (Loop count body)) loop ≡ true
+one-is m loop count NoStmts h = h
+one-is m loop count (AndStmts (Do op) rest) h = h
+one-is m loop count (AndStmts (Loop inner body) (AndStmts stmt rest)) h = h
+one-is m loop count (AndStmts (Loop inner body) NoStmts) h =
+    by_test (is_small (count * inner) && body_goes_on loop inner body) refl
+  where
+    outer : IsLoopWithin m count loop (AndStmts (Loop inner body) NoStmts)
+    outer = loop-within m count loop (AndStmts (Loop inner body) NoStmts) h
+
+    inside : IsLoopWithin m inner (loop + 1) body
+    inside = loop-within m inner (loop + 1) body (only-within m (loop + 1) (Loop inner body) outer.within)
+
+    by_test : (t : Bool) → (is_small (count * inner) && body_goes_on loop inner body) ≡ t →
+        is_stmt_within m (unwrap_or (if t then Some (Loop (count * inner) (lifted_body loop body)) else None)
+        (Loop count (AndStmts (Loop inner body) NoStmts))) loop ≡ true
+    by_test false e = h
+    by_test true e =
+        let told = and_parts (is_small (count * inner)) _ e in
+        loop-is m (count * inner) loop (lifted_body loop body)
+        (record {
+          small = positive count inner outer.small inside.small told.0;
+          deep = outer.deep;
+          within = body-lifted m loop inner (loop + 1) body (omega arith) told.1 inside.within;
+        })
+
+-- statements where loops are joined
+mutual
+  stmt-joined : (m loop : ℕ) (stmt : PlainStmt) → is_stmt_within m stmt loop ≡ true →
+      is_stmt_within m (joined_stmt loop stmt) loop ≡ true
+  stmt-joined m loop (Loop count body) h =
+      let known = loop-within m count loop body h in
+      let within = body-joined m (loop + 1) body known.within in
+      one-is m loop count (joined_body (loop + 1) body)
+      (loop-is m count loop (joined_body (loop + 1) body) (record {
+        small = known.small;
+        deep = known.deep;
+        within = within;
+      }))
+  stmt-joined m loop (Do op) h = h
+
+  body-joined : (m loop : ℕ) (body : PlainBody) → is_body_within m body loop ≡ true →
+      is_body_within m (joined_body loop body) loop ≡ true
+  body-joined m loop NoStmts h = refl
+  body-joined m loop (AndStmts stmt rest) h =
+      let both = and_parts (is_stmt_within m stmt loop) _ h in
+      and_from (is_stmt_within m (joined_stmt loop stmt) loop) _ (stmt-joined m loop stmt both.0)
+      (body-joined m loop rest both.1)
+
+-- the phases of a program whose loops are joined stay within the limits
+pub phases-within : (m : ℕ) (phases : List PlainBody) → are_phases_within m phases ≡ true →
+    are_phases_within m (map (joined_body 0) phases) ≡ true
+phases-within m [] h = h
+phases-within m (body ∷ rest) h =
+    let both = and_parts (nat_lt 0 (length (body ∷ rest))) _ h in
+    and_from (nat_lt 0 (length (map (joined_body 0) (body ∷ rest)))) _ (lt-ltb 0 _ (omega arith)) (all (body
+    ∷ rest) both.1)
+  where
+    all : (bodies : List PlainBody) → list_all (λ b. is_body_within m b 0) bodies ≡ true →
+        list_all (λ b. is_body_within m b 0) (map (joined_body 0) bodies) ≡ true
+    all [] h = refl
+    all (b ∷ bs) h =
+        let both = and_parts (is_body_within m b 0) _ h in
+        and_from (is_body_within m (joined_body 0 b) 0) _ (body-joined m 0 b both.0) (all bs both.1)

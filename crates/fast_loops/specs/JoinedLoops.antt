@@ -1,0 +1,3 @@
+pub mod JoinedLoops
+pub mod View
+pub mod Laws

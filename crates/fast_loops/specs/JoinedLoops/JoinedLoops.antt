@@ -1,0 +1,90 @@
+-- Loop coalescing (Polychronopoulos, 1987): a loop and the one that stands alone in it become one loop of as many
+-- rounds as both have, where each place goes on from the last round of the inner loop to the first of its next time.
+use Rattle.std.specs.Prelude.{ℕ, ◌+◌, ◌-◌, ◌*◌, ◌==◌, ◌&&◌, Bool, true, nat_lt, map, Option, Some, None, if◌then◌else◌}
+use Rattle.std.specs.Option.{unwrap_or}
+use Rattle.icode.specs.Limits.{is_small}
+use Rattle.icode.specs.Plain.{PlainExpr, PlainParts, PlainOp, PlainStmt, PlainBody, PlainProgram, Sum, NoParts, AndParts, Var, Load, Store, MulTable, Loop, Do, NoStmts, AndStmts}
+use Rattle.fast_loops.specs.Places.{are_linear, stride}
+
+-- ---- where it can be done
+
+-- a linear place goes in a step of the loop at this depth as far as in so many of the next loop
+abbrev pub place_goes_on : ℕ → ℕ → PlainExpr → Bool
+place_goes_on loop inner (Sum constant parts) =
+    are_linear 0 parts && (stride loop parts == inner * stride (loop + 1) parts)
+
+abbrev pub op_goes_on : ℕ → ℕ → PlainOp → Bool
+op_goes_on loop inner (Load register array place) = place_goes_on loop inner place
+op_goes_on loop inner (Store array place register) = place_goes_on loop inner place
+op_goes_on loop inner (MulTable register source table place step) = place_goes_on loop inner place
+op_goes_on loop inner op = true
+
+abbrev mutual
+  pub stmt_goes_on : ℕ → ℕ → PlainStmt → Bool
+  stmt_goes_on loop inner (Loop count body) = body_goes_on loop inner body
+  stmt_goes_on loop inner (Do op) = op_goes_on loop inner op
+
+  pub body_goes_on : ℕ → ℕ → PlainBody → Bool
+  body_goes_on loop inner NoStmts = true
+  body_goes_on loop inner (AndStmts stmt rest) = stmt_goes_on loop inner stmt && body_goes_on loop inner rest
+
+-- ---- statements with one loop less around them
+
+-- the loop at this depth is no more: those in it stand one higher
+abbrev pub lifted_depth : ℕ → ℕ → ℕ
+lifted_depth loop depth = if nat_lt loop depth then depth - 1 else depth
+
+abbrev pub lifted_parts : ℕ → PlainParts → PlainParts
+lifted_parts loop NoParts = NoParts
+lifted_parts loop (AndParts (Var depth factor) rest) =
+    if depth == loop
+    then lifted_parts loop rest
+    else AndParts (Var (lifted_depth loop depth) factor) (lifted_parts loop rest)
+lifted_parts loop (AndParts part rest) = AndParts part (lifted_parts loop rest)
+
+abbrev pub lifted_place : ℕ → PlainExpr → PlainExpr
+lifted_place loop (Sum constant parts) = Sum constant (lifted_parts loop parts)
+
+abbrev pub lifted_op : ℕ → PlainOp → PlainOp
+lifted_op loop (Load register array place) = Load register array (lifted_place loop place)
+lifted_op loop (Store array place register) = Store array (lifted_place loop place) register
+lifted_op loop (MulTable register source table place step) =
+    MulTable register source table (lifted_place loop place) step
+lifted_op loop op = op
+
+abbrev mutual
+  pub lifted_stmt : ℕ → PlainStmt → PlainStmt
+  lifted_stmt loop (Loop count body) = Loop count (lifted_body loop body)
+  lifted_stmt loop (Do op) = Do (lifted_op loop op)
+
+  pub lifted_body : ℕ → PlainBody → PlainBody
+  lifted_body loop NoStmts = NoStmts
+  lifted_body loop (AndStmts stmt rest) = AndStmts (lifted_stmt loop stmt) (lifted_body loop rest)
+
+-- ---- loops
+
+-- two loops as one, of which the outer one is at this depth
+abbrev pub both_as_one : ℕ → ℕ → ℕ → PlainBody → Option PlainStmt
+both_as_one loop count inner body =
+    if is_small (count * inner) && body_goes_on loop inner body
+    then Some (Loop (count * inner) (lifted_body loop body))
+    else None
+
+-- a loop of so many rounds of this body as one with the loop that the body is
+abbrev pub as_one : ℕ → ℕ → PlainBody → Option PlainStmt
+as_one loop count (AndStmts (Loop inner body) NoStmts) = both_as_one loop count inner body
+as_one loop count body = None
+
+-- from the innermost loops to the outermost
+abbrev mutual
+  pub joined_stmt : ℕ → PlainStmt → PlainStmt
+  joined_stmt loop (Loop count body) =
+      let inside = joined_body (loop + 1) body in unwrap_or (as_one loop count inside) (Loop count inside)
+  joined_stmt loop (Do op) = Do op
+
+  pub joined_body : ℕ → PlainBody → PlainBody
+  joined_body loop NoStmts = NoStmts
+  joined_body loop (AndStmts stmt rest) = AndStmts (joined_stmt loop stmt) (joined_body loop rest)
+
+abbrev pub joined : PlainProgram → PlainProgram
+joined p = record p { phases = map (joined_body 0) p.phases }

@@ -1,0 +1,60 @@
+// Whether places go on from round to round of two loops, one in the other.
+
+ghost use Rattle.std.specs.Prelude.{◌≡◌, ◌+◌, ◌^◌, ◌<◌};
+ghost use Rattle.icode.specs.Plain.{plain_expr, plain_op, plain_stmt, plain_body};
+ghost use Rattle.fast_loops.specs.JoinedLoops.JoinedLoops.{place_goes_on, op_goes_on, stmt_goes_on, body_goes_on};
+
+use crate::parts::{are_linear, stride};
+use icode::program::{Expr, Op, Stmt};
+
+// Whether a linear place goes in a step of the loop at this depth as far as in so many of the next loop.
+fn place_goes_on(depth: u64, inner: u64, place: &Expr) -> bool
+    requires { depth + 1 < 2 ^ 64 }
+    ensures { result ≡ place_goes_on depth inner (plain_expr place.now) }
+{
+    are_linear(&place.parts)
+        && stride(depth, &place.parts) as u128
+            == inner as u128 * stride(depth + 1, &place.parts) as u128
+}
+
+fn op_goes_on(depth: u64, inner: u64, op: &Op) -> bool
+    requires { depth + 1 < 2 ^ 64 }
+    ensures { result ≡ op_goes_on depth inner (plain_op op.now) }
+{
+    match op {
+        Op::Load { place, .. } => place_goes_on(depth, inner, place),
+        Op::Store { place, .. } => place_goes_on(depth, inner, place),
+        Op::MulTable { place, .. } => place_goes_on(depth, inner, place),
+        Op::Zero { .. } => true,
+        Op::Add { .. } => true,
+        Op::Sub { .. } => true,
+        Op::Neg { .. } => true,
+        Op::MulConst { .. } => true,
+        Op::Tile { .. } => true,
+    }
+}
+
+#[cycle(going)]
+fn stmt_goes_on(depth: u64, inner: u64, stmt: &Stmt) -> bool
+    requires { depth + 1 < 2 ^ 64 }
+    ensures { result ≡ stmt_goes_on depth inner (plain_stmt stmt.now) }
+{
+    match stmt {
+        Stmt::Loop { body, .. } => body_goes_on(depth, inner, body),
+        Stmt::Do(op) => op_goes_on(depth, inner, op),
+    }
+}
+
+/// Whether all places of the statements go on so.
+#[cycle(going)]
+pub(crate) fn body_goes_on(depth: u64, inner: u64, body: &[Stmt]) -> bool
+    requires { depth + 1 < 2 ^ 64 }
+    ensures { result ≡ body_goes_on depth inner (plain_body body.now) }
+{
+    for stmt in body {
+        if !stmt_goes_on(depth, inner, stmt) {
+            return false;
+        }
+    }
+    true
+}
