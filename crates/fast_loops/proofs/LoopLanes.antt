@@ -11,6 +11,12 @@ pub mod Joined
 pub mod Law
 pub mod Limited
 pub mod LimitedNests
+pub mod LoadedAre
+pub mod LoadedRow
+pub mod LoadedRowsAre
+pub mod LoadsHeld
+pub mod LoadsMade
+pub mod LoadsTold
 pub mod Made
 pub mod Nests
 pub mod OneLane
@@ -21,6 +27,7 @@ pub mod Programs
 pub mod Renumbered
 pub mod RoundWrites
 pub mod RoundsAre
+pub mod RowHeld
 pub mod RowsAre
 pub mod Sure
 pub mod Tests

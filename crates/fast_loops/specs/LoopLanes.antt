@@ -1,5 +1,6 @@
 pub mod Rounds
 pub mod Columns
+pub mod Loads
 pub mod Lanes
 pub mod Laws
 pub mod Layers

@@ -3,6 +3,7 @@ mod choice;
 mod columns;
 mod lanes;
 pub mod laws;
+mod loads;
 mod loops;
 mod rounds;
 mod tiles;

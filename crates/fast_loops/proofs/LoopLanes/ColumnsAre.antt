@@ -4,7 +4,7 @@ use Rattle.std.specs.Prelude.{◌==◌, ◌&&◌, nat_le, slice_index}
 use Rattle.std.specs.List.{list_all, range_with_len}
 use Rattle.std.proofs.lemmas.List.{length-take-le}
 use Rattle.icode.specs.Limits.{is_small}
-use Rattle.icode.specs.Machine.{Local}
+use Rattle.icode.specs.Machine.{Local, effects}
 use Rattle.icode.specs.Plain.{PlainOp, PlainProgram}
 use Rattle.icode.proofs.Bools.{both_true}
 use Rattle.icode.specs.CodeLaws.Lanes.{lane_of}
@@ -13,10 +13,10 @@ use Rattle.icode.proofs.CodeLaws.Stores.{length-registers}
 use Rattle.fast_loops.specs.Places.{are_linear, stride}
 use Rattle.fast_loops.specs.Rounds.{Stored, are_fresh}
 use Rattle.fast_loops.proofs.Linear.{wrong}
-use Rattle.fast_loops.specs.LoopLanes.Columns.{Columns, Factors, renumbered, renumbered_op, are_distinct, are_products, factored_registers, front_length, last_products, plain_columns, factored_columns, are_tiles, are_columns, are_by, in_columns}
+use Rattle.fast_loops.specs.LoopLanes.Columns.{Columns, Factors, renumbered, are_distinct, are_products, factored_registers, front_length, last_products, plain_columns, factored_columns, are_tiles, are_columns, are_by, in_columns}
 use Rattle.fast_loops.specs.LoopLanes.Layers.{Write, IsAfter, IsGroup, LeaveWrites, memory_by, ColumnsWrite, FactoredColumnsWrite, written, values_put, round_writes, group_writes}
-use Rattle.fast_loops.specs.LoopLanes.Rounds.{straight, is_store, is_by_lane, in_row, stores, others, stored_registers, stored_constants, are_from}
-use Rattle.fast_loops.proofs.LoopLanes.Held.{IsFront, HoldsFront, values_in, front_after}
+use Rattle.fast_loops.specs.LoopLanes.Rounds.{straight, is_store, is_by_lane, stores, others, stored_registers, stored_constants, are_from}
+use Rattle.fast_loops.proofs.LoopLanes.Held.{IsFront, HoldsBy, in_lanes, values_in}
 use Rattle.fast_loops.proofs.LoopLanes.FrontHeld.{front_held}
 use Rattle.fast_loops.proofs.LoopLanes.Orders.{some_lanes, group_fits}
 use Rattle.fast_loops.proofs.LoopLanes.Parted.{all_taken, from_at, others_put, others_fresh, taken_fresh, length-stored_registers, stored_low, puts_low}
@@ -35,6 +35,27 @@ pub record AreColumns (v loop : ℕ) (to : Stored) (ops : List PlainOp) (c : Col
   pub stores_by_lane : list_all (is_by_lane loop to) (stores ops) ≡ true
   pub front_by_lane : list_all (is_by_lane loop to) c.front ≡ true
   pub distinct : are_distinct c.turned ≡ true
+
+-- those of any operations before the tiles
+pub record AreTurned (v loop : ℕ) (to : Stored) (ops : List PlainOp) (c : Columns) : Type 0 where
+  pub many : length (stores ops) ≡ length c.turned
+  pub whole : length c.turned % v ≡ 0
+  pub few : length c.turned ≤ length c.front
+  pub from : are_from 0 (stored_constants ops) ≡ true
+  pub stores_by_lane : list_all (is_by_lane loop to) (stores ops) ≡ true
+  pub distinct : are_distinct c.turned ≡ true
+
+turned-are : (v loop : ℕ) (to : Stored) (ops : List PlainOp) (c : Columns) → AreColumns v loop to ops c →
+    AreTurned v loop to ops c
+turned-are v loop to ops c are =
+    record {
+      many = are.many;
+      whole = are.whole;
+      few = are.few;
+      from = are.from;
+      stores_by_lane = are.stores_by_lane;
+      distinct = are.distinct;
+    }
 
 pub columns_told : (v loop : ℕ) (to : Stored) (ops : List PlainOp) (c : Columns) → are_columns v loop to ops c ≡ true →
     AreColumns v loop to ops c
@@ -67,19 +88,19 @@ loops_same f g j (suc n) h =
     (loops_same f g (j + 1) n (λ i from to. h i (omega (arith, from)) (omega (arith, to))))
 
 -- the operations before the tiles put registers of the program, and those that are turned are among these
-record IsBefore (p : PlainProgram) (c : Columns) : Type 0 where
-  fresh : are_fresh 1 0 (straight c.front) ≡ true
-  puts : list_all (λ op. not (is_store op)) c.front ≡ true
-  short : length c.front ≤ p.regs
-  low : (j : ℕ) → j < length c.turned → slice_index c.turned j < length c.front
+pub record IsBefore (p : PlainProgram) (c : Columns) : Type 0 where
+  pub fresh : are_fresh 1 0 (straight c.front) ≡ true
+  pub puts : list_all (λ op. not (is_store op)) c.front ≡ true
+  pub short : length c.front ≤ p.regs
+  pub low : (j : ℕ) → j < length c.turned → slice_index c.turned j < length c.front
 
 module _ (v : ℕ) (p : PlainProgram) (to : Stored) (ops : List PlainOp) (vs : List ℕ) (b q : ℕ) where
   -- in round l, of the operations before the tiles, what is turned of column j
-  abbrev held_in : Columns → List ℕ → ℕ → ℕ → ℕ
+  abbrev pub held_in : Columns → List ℕ → ℕ → ℕ → ℕ
   held_in c memory l j = slice_index (values_in v p memory c.front vs b q l) (slice_index c.turned j)
 
   -- the round stores what becomes of it
-  abbrev AreStored : Columns → Type 0
+  abbrev pub AreStored : Columns → Type 0
   AreStored c =
       (memory : List ℕ) (l j : ℕ) → l < v → j < length c.turned → length (values_in v p memory c.front vs b q l)
       ≡ length c.front →
@@ -87,7 +108,7 @@ module _ (v : ℕ) (p : PlainProgram) (to : Stored) (ops : List PlainOp) (vs : L
       ≡ stored_in v p to vs b q c.by l j (held_in c memory l j)
 
   -- what the group writes
-  group-by_rounds : (c : Columns) (memory : List ℕ) → AreColumns v (length vs) to ops c →
+  group-by_rounds : (c : Columns) (memory : List ℕ) → AreTurned v (length vs) to ops c →
       ((l : ℕ) → l < v → length (values_in v p memory c.front vs b q l) ≡ length c.front) → AreStored c →
       group_writes v p memory ops vs b q
       ≡ by_rounds v (length c.turned) (write_in v p to vs b q c.by (held_in c memory))
@@ -102,6 +123,21 @@ module _ (v : ℕ) (p : PlainProgram) (to : Stored) (ops : List PlainOp) (vs : L
       ∙ ap (λ j. stored_in v p to vs b q c.by l j (held_in c memory l j)) first)
       ∙ ap (λ n. map (write_in v p to vs b q c.by (held_in c memory) l) (range_with_len 0 n)) are.many)
 
+  -- other numbers are those of registers of the wider program, and of none twice
+  pub numbers_low : (c : Columns) → length c.turned ≤ length c.front → IsBefore p c → (r : ℕ) → r < length c.front →
+      renumbered p.regs c.turned r < 3 * p.regs
+  numbers_low c few before r below =
+      let small : r < p.regs = omega (arith, below, before.short) in
+      elim (renumbered_is p.regs c.turned r) [
+        | inl stays ↦ omega (arith, stays, small)
+        | inr two ↦ omega (arith, two.1, few, before.short)
+      ]
+
+  pub numbers_apart : (c : Columns) → IsBefore p c → (r k : ℕ) → r < length c.front → k < length c.front →
+      renumbered p.regs c.turned r ≡ renumbered p.regs c.turned k → r ≡ k
+  numbers_apart c before r k below under e =
+      renumbered_apart p.regs c.turned r k (omega (arith, below, before.short)) (omega (arith, under, before.short)) e
+
   -- the registers of the front are registers of the wider program
   front-is : (c : Columns) → p.lanes ≡ 1 → AreColumns v (length vs) to ops c → IsBefore p c →
       IsFront p (length vs) to (renumbered p.regs c.turned) c.front
@@ -111,21 +147,22 @@ module _ (v : ℕ) (p : PlainProgram) (to : Stored) (ops : List PlainOp) (vs : L
         fresh = before.fresh;
         by_lane = are.front_by_lane;
         puts = before.puts;
-        low = λ r below.
-            let small : r < p.regs = omega (arith, below, before.short) in
-            elim (renumbered_is p.regs c.turned r) [
-              | inl stays ↦ omega (arith, stays, small)
-              | inr two ↦ omega (arith, two.1, are.few, before.short)
-            ];
-        apart = λ r k below under e.
-            renumbered_apart p.regs c.turned r k (omega (arith, below, before.short))
-            (omega (arith, under, before.short)) e;
+        low = λ r below. numbers_low c are.few before r below;
+        apart = λ r k below under e. numbers_apart c before r k below under e;
       }
 
-  columns-write : (c : Columns) → IsGroup v p to ops vs b q → AreColumns v (length vs) to ops c → IsBefore p c →
-      AreLinearBy v p to vs b q c.by → AreStored c →
-      LeaveWrites v p (in_columns v p.regs (length vs) to c) ops vs b q
-  columns-write c group are before linear_by stored r memory room =
+  -- the tiles that are stored
+  abbrev pub tiles_of : IsGroup v p to ops vs b q → Columns → List PlainOp
+  tiles_of group c =
+      flat_map (tile_ops v p to vs b q group.linear c.by (length c.turned)) (range_with_len 0 (length c.turned / v))
+
+  -- behind operations on the lanes that hold what the rounds put
+  pub columns_from : (c : Columns) (front : List PlainOp) (group : IsGroup v p to ops vs b q) →
+      AreTurned v (length vs) to ops c → IsBefore p c →
+      ((s : Local) → 3 * p.regs * v ≤ length s.registers →
+      HoldsBy v p (renumbered p.regs c.turned) front c.front vs b q s) →
+      AreLinearBy v p to vs b q c.by → AreStored c → LeaveWrites v p (front ++ tiles_of group c) ops vs b q
+  columns_from c front group are before holds linear_by stored r memory room =
       record {
         done = turned.done;
         is = leaves ∙ turned.is;
@@ -143,7 +180,7 @@ module _ (v : ℕ) (p : PlainProgram) (to : Stored) (ops : List PlainOp) (vs : L
       begun = record { memory = memory; registers = r }
 
       after : Local
-      after = front_after v p f c.front vs b q begun
+      after = effects p.modulus v (wide_acts v p to vs b q front) begun
 
       w : ℕ → ℕ → Write
       w = write_in v p to vs b q c.by (held_in c memory)
@@ -151,14 +188,11 @@ module _ (v : ℕ) (p : PlainProgram) (to : Stored) (ops : List PlainOp) (vs : L
       done : List Write
       done = by_tiles v m w
 
-      front : List PlainOp
-      front = map (λ op. renumbered_op f (in_row v (length vs) op)) c.front
-
       tiles : List PlainOp
-      tiles = flat_map (tile_ops v p to vs b q group.linear c.by m) (range_with_len 0 (m / v))
+      tiles = tiles_of group c
 
-      held : HoldsFront v p f c.front vs b q begun
-      held = front_held v p to f c.front vs b q begun (front-is c group.alone are before) room
+      held : HoldsBy v p f front c.front vs b q begun
+      held = holds begun room
 
       some : 0 < v
       some = some_lanes v group.lanes
@@ -189,10 +223,21 @@ module _ (v : ℕ) (p : PlainProgram) (to : Stored) (ops : List PlainOp) (vs : L
       same : group_writes v p memory ops vs b q ≡ by_rounds v m w
       same = group-by_rounds c memory are held.registers.long stored
 
+  columns-write : (c : Columns) → IsGroup v p to ops vs b q → AreColumns v (length vs) to ops c → IsBefore p c →
+      AreLinearBy v p to vs b q c.by → AreStored c →
+      LeaveWrites v p (in_columns v p.regs (length vs) to c) ops vs b q
+  columns-write c group are before linear_by stored =
+      let f : ℕ → ℕ = renumbered p.regs c.turned in
+      columns_from c (in_lanes v (length vs) f c.front) group (turned-are v (length vs) to ops c are) before
+      (λ s room.
+      let held = front_held v p to f c.front vs b q s (front-is c group.alone are before) room in
+      record { memory = held.memory; registers = held.registers })
+      linear_by stored
+
 -- ---- plain columns
 
 -- the first round fits, so the registers that are put are the program's
-short-others : (v : ℕ) (p : PlainProgram) (to : Stored) (ops : List PlainOp) (vs : List ℕ) (b q : ℕ) →
+pub short-others : (v : ℕ) (p : PlainProgram) (to : Stored) (ops : List PlainOp) (vs : List ℕ) (b q : ℕ) →
     IsGroup v p to ops vs b q →
     length (others ops) ≤ p.regs
 short-others v p to ops vs b q group =
@@ -202,20 +247,27 @@ short-others v p to ops vs b q group =
           (group_fits v p ops vs b q 0 (some_lanes v group.lanes) group.fits) (omega arith),
     )
 
-pub columns_write : ColumnsWrite
-columns_write v p to ops vs b q group h =
-    let c : Columns = plain_columns ops in
-    columns-write v p to ops vs b q c group (columns_told v (length vs) to ops c h)
-    (record {
+pub plain_before : (v : ℕ) (p : PlainProgram) (to : Stored) (ops : List PlainOp) (vs : List ℕ) (b q : ℕ) →
+    IsGroup v p to ops vs b q → IsBefore p (plain_columns ops)
+plain_before v p to ops vs b q group =
+    record {
       fresh = others_fresh ops 0 group.fresh;
       puts = others_put ops;
       short = short-others v p to ops vs b q group;
       low = λ j below. omega (arith, stored_low ops 0 j group.fresh below);
-    })
-    tt
-    (λ memory l j low below long.
+    }
+
+pub plain_stored : (v : ℕ) (p : PlainProgram) (to : Stored) (ops : List PlainOp) (vs : List ℕ) (b q : ℕ) →
+    AreStored v p to ops vs b q (plain_columns ops)
+plain_stored v p to ops vs b q memory l j low below long =
     ap (λ xs. slice_index xs (slice_index (stored_registers ops) j))
-    (others_values p (vs ++ (v * b + l) ∷ []) q memory [] ops))
+    (others_values p (vs ++ (v * b + l) ∷ []) q memory [] ops)
+
+pub columns_write : ColumnsWrite
+columns_write v p to ops vs b q group h =
+    let c : Columns = plain_columns ops in
+    columns-write v p to ops vs b q c group (columns_told v (length vs) to ops c h)
+    (plain_before v p to ops vs b q group) tt (plain_stored v p to ops vs b q)
 
 -- ---- factored columns
 
@@ -231,15 +283,15 @@ by_told v loop ops by h =
     ((both_true (are_linear 0 by.parts) small both.0).0, two.0, two.1)
 
 -- what is stored is a product, of what was put before the products
-factored-stored : (v : ℕ) (p : PlainProgram) (to : Stored) (ops : List PlainOp) (vs : List ℕ) (b q : ℕ)
+pub factored_stored : (v : ℕ) (p : PlainProgram) (to : Stored) (ops : List PlainOp) (vs : List ℕ) (b q : ℕ)
     (by : Option Factors) →
     p.lanes ≡ 1 → are_by v (length vs) ops by ≡ true → length (stores ops) ≡ length (factored_columns ops).turned →
     (memory : List ℕ) (l j : ℕ) → j < length (factored_columns ops).turned →
     length (values_in v p memory (factored_columns ops).front vs b q l) ≡ length (factored_columns ops).front →
     slice_index (values_in v p memory ops vs b q l) (slice_index (stored_registers ops) j)
     ≡ stored_in v p to vs b q by l j (held_in v p to ops vs b q (factored_columns ops) memory l j)
-factored-stored v p to ops vs b q None alone h many memory l j below long = wrong h
-factored-stored v p to ops vs b q (Some by) alone h many memory l j below long =
+factored_stored v p to ops vs b q None alone h many memory l j below long = wrong h
+factored_stored v p to ops vs b q (Some by) alone h many memory l j below long =
     let us : List ℕ = vs ++ (v * b + l) ∷ [] in
     let n : ℕ = front_length ops in
     let front : List PlainOp = take n (others ops) in
@@ -270,26 +322,31 @@ factored-low v loop ops (Some by) h j below =
     products_low by (front_length ops) 0 (last_products ops) j (by_told v loop ops by h).1 below
 
 -- factors are by linear places
-factored-linear : (v : ℕ) (p : PlainProgram) (to : Stored) (ops : List PlainOp) (vs : List ℕ) (b q : ℕ)
+pub factored_linear : (v : ℕ) (p : PlainProgram) (to : Stored) (ops : List PlainOp) (vs : List ℕ) (b q : ℕ)
     (by : Option Factors) →
     are_by v (length vs) ops by ≡ true → AreLinearBy v p to vs b q by
-factored-linear v p to ops vs b q None h = tt
-factored-linear v p to ops vs b q (Some by) h = (by_told v (length vs) ops by h).0
+factored_linear v p to ops vs b q None h = tt
+factored_linear v p to ops vs b q (Some by) h = (by_told v (length vs) ops by h).0
+
+pub factored_before : (v : ℕ) (p : PlainProgram) (to : Stored) (ops : List PlainOp) (vs : List ℕ) (b q : ℕ) →
+    IsGroup v p to ops vs b q → are_by v (length vs) ops (factored_columns ops).by ≡ true →
+    IsBefore p (factored_columns ops)
+factored_before v p to ops vs b q group h =
+    let n : ℕ = front_length ops in
+    let size : length (take n (others ops)) ≡ n = length-take-le n (others ops) (omega arith) in
+    record {
+      fresh = taken_fresh (others ops) 0 n (others_fresh ops 0 group.fresh);
+      puts = all_taken (λ op. not (is_store op)) (others ops) n (others_put ops);
+      short = omega (arith, size, short-others v p to ops vs b q group);
+      low = λ j below. omega (arith, size, factored-low v (length vs) ops (factored_columns ops).by h j below);
+    }
 
 pub factored_columns_write : FactoredColumnsWrite
 factored_columns_write v p to ops vs b q group h =
     let c : Columns = factored_columns ops in
     let two = both_true (are_by v (length vs) ops c.by) (are_columns v (length vs) to ops c) h in
     let are = columns_told v (length vs) to ops c two.1 in
-    let n : ℕ = front_length ops in
-    let size : length (take n (others ops)) ≡ n = length-take-le n (others ops) (omega arith) in
-    columns-write v p to ops vs b q c group are
-    (record {
-      fresh = taken_fresh (others ops) 0 n (others_fresh ops 0 group.fresh);
-      puts = all_taken (λ op. not (is_store op)) (others ops) n (others_put ops);
-      short = omega (arith, size, short-others v p to ops vs b q group);
-      low = λ j below. omega (arith, size, factored-low v (length vs) ops c.by two.0 j below);
-    })
-    (factored-linear v p to ops vs b q c.by two.0)
+    columns-write v p to ops vs b q c group are (factored_before v p to ops vs b q group two.0)
+    (factored_linear v p to ops vs b q c.by two.0)
     (λ memory l j low below long.
-    factored-stored v p to ops vs b q c.by group.alone two.0 are.many memory l j below long)
+    factored_stored v p to ops vs b q c.by group.alone two.0 are.many memory l j below long)

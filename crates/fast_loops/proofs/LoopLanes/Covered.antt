@@ -1,7 +1,7 @@
 -- Steps of v lanes that touch words of a group's steps alone, and fit.
-use Rattle.std.proofs.Common.{◌≡◌, ℕ, zero, suc, ◌+◌, ◌*◌, ◌<◌, ◌≤◌, List, [], ◌∷◌, ◌++◌, All, Contains, flat_map, length, sym, subst, arith, ⊎_elim}
+use Rattle.std.proofs.Common.{◌≡◌, ℕ, zero, suc, ◌+◌, ◌*◌, ◌<◌, ◌≤◌, List, [], ◌∷◌, ◌++◌, All, Contains, map, flat_map, length, sym, subst, arith, ⊎_elim}
 use Rattle.std.specs.List.{range_with_len}
-use Rattle.std.proofs.lemmas.List.Elements.{All-nil, All-head, All-tail, All-append, All-contains, Contains-append_left, Contains-append_right, Contains-append_cases}
+use Rattle.std.proofs.lemmas.List.Elements.{All-nil, All-cons, All-head, All-tail, All-append, All-contains, Contains-append_left, Contains-append_right, Contains-append_cases}
 use Rattle.icode.specs.declared.action.Action.{Action}
 use Rattle.icode.specs.Actions.{Step, StepFits, step_of, actions_of}
 use Rattle.icode.specs.Machine.{stored_words, touched_words}
@@ -47,6 +47,13 @@ all-loop P f a zero h = All-nil P
 all-loop P f a (suc n) h =
     All-append P (f a) (flat_map f (range_with_len (a + 1) n)) (h a (omega arith) (omega arith))
     (all-loop P f (a + 1) n (λ i low high. h i (omega (arith, low)) (omega (arith, high))))
+
+pub all-row : {X : Type 0} (P : X → Type 0) (f : ℕ → X) (a n : ℕ) → ((i : ℕ) → a ≤ i → i < a + n → P (f i)) →
+    All P (map f (range_with_len a n))
+all-row P f a zero h = All-nil P
+all-row P f a (suc n) h =
+    All-cons P (f a) (map f (range_with_len (a + 1) n)) (h a (omega arith) (omega arith))
+    (all-row P f (a + 1) n (λ i low high. h i (omega (arith, low)) (omega (arith, high))))
 
 module _ (v : ℕ) (p : PlainProgram) (old : List Step) (ws : List ℕ) (q : ℕ) where
   -- the step of an operation is

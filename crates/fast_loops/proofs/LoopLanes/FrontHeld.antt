@@ -316,7 +316,7 @@ module _ (v : ℕ) (p : PlainProgram) (f : ℕ → ℕ) (vs : List ℕ) (b q : �
 
   module _ (to : Stored) (n : ℕ) (alone : p.lanes ≡ 1) (low : (r : ℕ) → r < n → f r < 3 * p.regs)
       (apart : (r k : ℕ) → r < n → k < n → f r ≡ f k → r ≡ k) where
-    front_from : (memory : List ℕ) (s : Local) (values : ℕ → List ℕ) (next : ℕ) (ops : List PlainOp) →
+    pub front_from : (memory : List ℕ) (s : Local) (values : ℕ → List ℕ) (next : ℕ) (ops : List PlainOp) →
         are_fresh 1 next (straight ops) ≡ true → list_all (is_by_lane (length vs) to) ops ≡ true →
         list_all (λ op. not (is_store op)) ops ≡ true → next + length ops ≤ n →
         3 * p.regs * v ≤ length s.registers → s.memory ≡ memory → AreHeld v f s.registers values next →

@@ -45,6 +45,14 @@ pub record HoldsFront (v : ℕ) (p : PlainProgram) (f : ℕ → ℕ) (front : Li
   pub registers :
       AreHeld v f (front_after v p f front vs b q s).registers (values_in v p s.memory front vs b q) (length front)
 
+-- so do these operations on v lanes in the place of those of the rounds
+pub record HoldsBy (v : ℕ) (p : PlainProgram) (f : ℕ → ℕ) (new front : List PlainOp) (vs : List ℕ) (b q : ℕ)
+    (s : Local) : Type 0 where
+  pub memory : (effects p.modulus v (actions_of (steps_at (on_lanes v p) new (vs ++ b ∷ []) q)) s).memory ≡ s.memory
+  pub registers :
+      AreHeld v f (effects p.modulus v (actions_of (steps_at (on_lanes v p) new (vs ++ b ∷ []) q)) s).registers
+      (values_in v p s.memory front vs b q) (length front)
+
 abbrev pub FrontHeld : Type 0
 FrontHeld =
     (v : ℕ) (p : PlainProgram) (to : Stored) (f : ℕ → ℕ) (front : List PlainOp) (vs : List ℕ) (b q : ℕ) (s : Local) →

@@ -1,14 +1,14 @@
 -- Rounds, nests and programs on lanes stand within the limits of programs.
-use Rattle.std.proofs.Common.{◌≡◌, ℕ, zero, suc, ◌+◌, ◌*◌, ◌/◌, ◌%◌, ◌^◌, ◌<◌, ◌≤◌, true, List, [], ◌∷◌, All, Contains, Option, Some, None, map, length, refl, sym, ap, ◌∙◌, subst, arith, eqb-true, ltb-true, lt-ltb, mul-le-mul_left, ⊎_elim}
+use Rattle.std.proofs.Common.{◌≡◌, ℕ, zero, suc, ◌+◌, ◌*◌, ◌/◌, ◌%◌, ◌^◌, ◌<◌, ◌≤◌, true, List, [], ◌∷◌, All, Contains, Option, Some, None, map, drop, length, refl, sym, ap, ◌∙◌, subst, arith, eqb-true, ltb-true, lt-ltb, mul-le-mul_left, ⊎_elim}
 use Rattle.std.specs.Prelude.{◌==◌, nat_le, nat_lt}
-use Rattle.std.specs.List.{list_all}
+use Rattle.std.specs.List.{list_all, range_with_len}
 use Rattle.std.proofs.Math.Nat.{div-add-mod, div-mul-le_self}
 use Rattle.std.proofs.lemmas.Bool.{and_parts, and_from, true≢false}
 use Rattle.std.proofs.lemmas.List.{length-map}
-use Rattle.std.proofs.lemmas.List.Elements.{All-nil, All-cons, All-head, All-tail, All-append, All-map, All-contains}
+use Rattle.std.proofs.lemmas.List.Elements.{All-nil, All-cons, All-head, All-tail, All-append, All-map, All-drop, All-contains}
 use Rattle.std.proofs.lemmas.List.Sums.{AllPass-from_list_all}
 use Rattle.icode.specs.Limits.{is_small, is_small_positive, is_expr_within, is_op_within, is_stmt_within, is_body_within, are_phases_within, IsHeaderWithin}
-use Rattle.icode.specs.Plain.{PlainOp, PlainStmt, PlainBody, Sum, MulTable, Store, Tile, Loop, Do, NoStmts, AndStmts}
+use Rattle.icode.specs.Plain.{PlainOp, PlainStmt, PlainBody, Sum, Load, MulTable, Store, Tile, Loop, Do, NoStmts, AndStmts}
 use Rattle.icode.proofs.Bools.{both_true}
 use Rattle.fast_loops.specs.Places.{stride}
 use Rattle.fast_loops.specs.Rounds.{Stored, are_fresh, first_store}
@@ -16,16 +16,18 @@ use Rattle.fast_loops.specs.Interchange.{counts_in, round_in, looped}
 use Rattle.fast_loops.proofs.Linear.{wrong}
 use Rattle.fast_loops.proofs.Looped.{looped_is}
 use Rattle.fast_loops.proofs.Members.{all_of_members}
-use Rattle.fast_loops.specs.LoopLanes.Rounds.{straight, ops_in, stores, widened_parts, is_by_lane, are_rows, in_row}
+use Rattle.fast_loops.specs.LoopLanes.Rounds.{straight, ops_in, stores, others, widened_parts, is_by_lane, are_rows, in_row}
 use Rattle.fast_loops.specs.LoopLanes.Columns.{Columns, Factors, renumbered, renumbered_op, plain_columns, factored_columns, product_at, row_at, tile_at, in_columns}
+use Rattle.fast_loops.specs.LoopLanes.Loads.{Loaded, are_loaded_rows, behind, are_loaded, load_at, load_tile, load_tiles, in_loaded_rows, in_loaded}
 use Rattle.fast_loops.specs.LoopLanes.Lanes.{IsLanes, can_lane, laned_ops, laned_round, last_count, is_lanable, are_lanable, narrowed, laned_nest, laned_body}
-use Rattle.fast_loops.proofs.LoopLanes.Covered.{all-loop}
+use Rattle.fast_loops.proofs.LoopLanes.Covered.{all-loop, all-row}
 use Rattle.fast_loops.proofs.LoopLanes.Limited.{StaysSmall, op-within, place-within, small-less}
+use Rattle.fast_loops.proofs.LoopLanes.LoadsTold.{IsRow, of_loaded_rows, of_loaded, loads_each, loaded_good}
 use Rattle.fast_loops.proofs.LoopLanes.Nests.{straight-is}
-use Rattle.fast_loops.proofs.LoopLanes.Parts.{IsOther, AreSome, are_some, stored_each}
+use Rattle.fast_loops.proofs.LoopLanes.Parts.{IsOther, AreSome, are_some, others_are, stored_each}
 use Rattle.fast_loops.proofs.LoopLanes.Renumbered.{renumbered_is}
 use Rattle.fast_loops.proofs.LoopLanes.RowsAre.{renumbered_none}
-use Rattle.fast_loops.proofs.LoopLanes.Tests.{AreGood, AreMultiplied, plain_good, factored_good, of_kinds, tile_within}
+use Rattle.fast_loops.proofs.LoopLanes.Tests.{AreGood, AreMultiplied, plain_good, factored_good, factored_front, factored_short, multiplied_by, of_kinds, tile_within}
 
 -- ---- straight statements
 
@@ -66,6 +68,15 @@ module _ (m v loop n regs : ℕ) (to : Stored) (ops : List PlainOp) (lanes : Are
       (op-within m v loop n to (λ r. r) op lanes (λ r small. small) (λ _. eqb-true (stride loop to.parts) 1 two.0)
       (All-contains (λ op. is_by_lane loop to op ≡ true) ops op by_lane has) (there op has))))
 
+  -- a place that is moved by fewer strides than there are lanes
+  moved_far : (s l : ℕ) → l < v → s * l + s ≤ v * s
+  moved_far s l lt =
+      let next : l + 1 ≤ v = omega (arith, lt) in
+      let steps : s * (l + 1) ≤ s * v = mul-le-mul_left s next in
+      let out : s * (l + 1) ≡ s * l + s = omega arith in
+      let turned : s * v ≡ v * s = omega arith in
+      omega (arith, steps, out, turned)
+
   module _ (c : Columns) (tests : AreGood v loop to ops c) where
     abbrev many : ℕ
     many = length c.turned
@@ -99,15 +110,6 @@ module _ (m v loop n regs : ℕ) (to : Stored) (ops : List PlainOp) (lanes : Are
         op-within m v loop n to (renumbered regs c.turned) op lanes low_numbers
         (λ e. absurd (true≢false (sym e ∙ other.1)))
         (All-contains (λ op. is_by_lane loop to op ≡ true) c.front op by_lane has) (there op other.0)))
-
-    -- a place that is moved by fewer strides than there are lanes
-    moved_far : (s l : ℕ) → l < v → s * l + s ≤ v * s
-    moved_far s l lt =
-        let next : l + 1 ≤ v = omega (arith, lt) in
-        let steps : s * (l + 1) ≤ s * v = mul-le-mul_left s next in
-        let out : s * (l + 1) ≡ s * l + s = omega arith in
-        let turned : s * v ≡ v * s = omega arith in
-        omega (arith, steps, out, turned)
 
     store_within : (g l r : ℕ) → g < many / v → l < v → r < regs + many + many →
         is_op_within m (Store to.array
@@ -184,11 +186,73 @@ module _ (m v loop n regs : ℕ) (to : Stored) (ops : List PlainOp) (lanes : Are
         (λ g. tile_at v loop to c.by (regs + many + g * v) (regs + g * v) (g * v)) 0 (many / v)
         (λ g from lt. tile_ops g (omega (arith, lt))))
 
+  -- where a row of so many words is loaded by operations that are among these
+  module _ (ahead : List PlainOp) (from : Loaded) (words : ℕ) (first : IsRow v loop to ahead from words)
+      (among : (op : PlainOp) → Contains ahead op → Contains ops op) where
+    raw_small : (l : ℕ) → l < v → is_small (2 * regs + l) ≡ true
+    raw_small l lt = let most = lanes.few in lt-ltb (2 * regs + l) (2 ^ 32) (omega (arith, lt, most, few))
+
+    tile_loads : (g : ℕ) → g < words / v → Within (load_tile v loop (2 * regs) from (g * v))
+    tile_loads g low =
+        let end = tile_within g v words low in
+        let some = lanes.some in
+        let s : ℕ = stride loop from.parts in
+        let old =
+        and_parts (is_small (g * v)) (is_expr_within (Sum (g * v) from.parts) n)
+        (there (Load (g * v) from.array (Sum (g * v) from.parts))
+        (loads_each v loop to ahead from words first ops among (g * v) (omega (arith, end, some)))) in
+        let wide : is_small (v * s) ≡ true = small-less (v * s) (words + v * s) (omega arith) first.small in
+        All-append (λ op. is_op_within m op n ≡ true)
+        (map (load_at v loop (2 * regs) from (g * v)) (range_with_len 0 v)) _
+        (all-row (λ op. is_op_within m op n ≡ true) (load_at v loop (2 * regs) from (g * v)) 0 v (λ l least most.
+        let below : l < v = omega (arith, most) in
+        and_from (is_small (2 * regs + l)) _ (raw_small l below)
+        (place-within v loop lanes.some n (g * v) (g * v + s * l) from.parts old.1
+        (small-less (g * v + s * l) (words + v * s) (omega (arith, end, moved_far s l below)) first.small)
+        wide)))
+        (All-cons (λ op. is_op_within m op n ≡ true) (Tile (g * v) (2 * regs)) []
+        (and_from (is_small (g * v)) _ old.0 (lt-ltb (2 * regs) (2 ^ 32) (omega (arith, few))))
+        (All-nil (λ op. is_op_within m op n ≡ true)))
+
+    loads_within : Within (load_tiles v (2 * regs) loop from words)
+    loads_within =
+        all-loop (λ op. is_op_within m op n ≡ true) (λ g. load_tile v loop (2 * regs) from (g * v)) 0 (words / v)
+        (λ g least most. tile_loads g (omega (arith, most)))
+
+  loaded_rows_within : are_loaded_rows v loop to ops ≡ true → Within (in_loaded_rows v regs loop ops)
+  loaded_rows_within h =
+      of_loaded_rows Within v regs loop to ops h (λ from words loaded.
+      let rest = drop words ops in
+      let by_lane = AllPass-from_list_all (is_by_lane loop to) rest loaded.by_lane in
+      let among = All-drop (Contains ops) words ops (all_of_members (Contains ops) ops (λ op has. has)) in
+      All-append (λ op. is_op_within m op n ≡ true) (load_tiles v (2 * regs) loop from words) _
+      (loads_within ops from words loaded.first (λ op has. has))
+      (All-map (λ op. is_op_within m op n ≡ true) (in_row v loop) rest
+      (all_of_members (λ op. is_op_within m (in_row v loop op) n ≡ true) rest (λ op has.
+      subst (λ new. is_op_within m new n ≡ true) (renumbered_none (in_row v loop op))
+      (op-within m v loop n to (λ r. r) op lanes (λ r small. small) (λ _. loaded.unit)
+      (All-contains (λ op. is_by_lane loop to op ≡ true) rest op by_lane has)
+      (there op (All-contains (Contains ops) rest op among has)))))))
+
+  all_within : (c : Columns) → are_loaded v loop to ops c ≡ true → All (IsOther ops) c.front →
+      length c.front ≤ length (others ops) →
+      AreMultiplied v loop ops c.by (length c.turned) → Within (in_loaded v regs loop to c)
+  all_within c h front short factors =
+      of_loaded Within v regs loop to ops c h
+      (λ from words loaded.
+      All-append (λ op. is_op_within m op n ≡ true) (load_tiles v (2 * regs) loop from words) _
+      (loads_within c.front from words loaded.first (λ op has. (All-contains (IsOther ops) c.front op front has).0))
+      (columns_within (behind words c) (loaded_good v loop to ops c from words loaded front short factors)))
+
   ops_within : can_lane v loop (Some to) ops ≡ true → Within (laned_ops v regs loop (Some to) ops)
   ops_within can =
       of_kinds Within v regs loop to ops can rows_within
       (λ h. columns_within (plain_columns ops) (plain_good v loop to ops h))
       (λ h. columns_within (factored_columns ops) (factored_good v loop to ops h))
+      loaded_rows_within
+      (λ h. all_within (plain_columns ops) h (others_are ops) (omega arith) tt)
+      (λ by h. all_within (factored_columns ops) h (factored_front ops) (factored_short ops)
+      (multiplied_by v loop ops (factored_columns ops).by by))
 
 -- whatever they store
 some-within : (m v loop n regs : ℕ) (store : Option Stored) (ops : List PlainOp) → AreSome v → 3 * regs < 2 ^ 20 →

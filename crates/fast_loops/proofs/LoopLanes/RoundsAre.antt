@@ -1,10 +1,11 @@
 -- A round of v lanes stands for a group of v rounds, from the laws on what they write.
-use Rattle.std.proofs.Common.{◌≡◌, ℕ, zero, suc, ◌+◌, ◌*◌, ◌<◌, ◌≤◌, true, not, List, [], ◌∷◌, All, ◌++◌, Option, Some, None, map, flat_map, length, refl, sym, ap, ◌∙◌, subst, arith, eqb-true, length-append, mul-le-mul_left, ⊎_elim}
+use Rattle.std.proofs.Common.{◌≡◌, ℕ, zero, suc, ◌+◌, ◌-◌, ◌*◌, ◌<◌, ◌≤◌, true, not, List, [], ◌∷◌, All, Contains, ◌++◌, Option, Some, None, map, drop, flat_map, length, refl, sym, ap, ◌∙◌, subst, arith, eqb-true, length-append, mul-le-mul_left, ⊎_elim}
 use Rattle.std.specs.Prelude.{◌==◌, ◌/◌}
 use Rattle.std.specs.List.{range_with_len, list_all}
 use Rattle.std.proofs.Math.Nat.{div-mul-le_self}
 use Rattle.std.proofs.lemmas.List.{length-map}
-use Rattle.std.proofs.lemmas.List.Elements.{All-nil, All-cons, All-append, All-map, All-contains}
+use Rattle.std.proofs.lemmas.List.Elements.{All-nil, All-cons, All-append, All-map, All-drop, All-contains}
+use Rattle.std.proofs.lemmas.List.FromFn.{length-map-range_with_len}
 use Rattle.std.proofs.lemmas.List.Filters.{length-filter_both}
 use Rattle.std.proofs.lemmas.List.Sums.{AllPass-from_list_all}
 use Rattle.icode.specs.Actions.{Step, step_of, actions_of}
@@ -17,16 +18,19 @@ use Rattle.fast_loops.proofs.Members.{all_of_members}
 use Rattle.fast_loops.specs.LoopLanes.Rounds.{is_store, stores, others, is_by_lane, are_rows, in_row}
 use Rattle.fast_loops.specs.LoopLanes.Columns.{Columns, Factors, renumbered, renumbered_op, plain_columns, factored_columns, product_at, row_at, tile_at, in_columns}
 use Rattle.fast_loops.specs.LoopLanes.Lanes.{can_lane, laned_ops}
-use Rattle.fast_loops.specs.LoopLanes.Layers.{AreLanesFor, IsGroup, GroupsWrite, GroupsAreSure, LeaveWrites, RowsWrite, ColumnsWrite, FactoredColumnsWrite, RoundsAreLanes, memory_by, group_writes, steps_at, group_at, on_lanes}
-use Rattle.fast_loops.proofs.LoopLanes.Covered.{IsOpCovered, all-loop, lanes_from}
+use Rattle.fast_loops.specs.LoopLanes.Loads.{Loaded, are_loaded_rows, behind, are_loaded, load_at, load_tile, load_tiles, in_loaded_rows, in_tiles, in_loaded}
+use Rattle.fast_loops.specs.LoopLanes.Layers.{AreLanesFor, IsGroup, GroupsWrite, GroupsAreSure, LeaveWrites, RowsWrite, ColumnsWrite, FactoredColumnsWrite, LoadedRowsWrite, LoadedWrite, LoadedFactoredWrite, RoundsAreLanes, memory_by, group_writes, steps_at, group_at, on_lanes}
+use Rattle.fast_loops.proofs.LoopLanes.Covered.{IsOpCovered, all-loop, all-row, lanes_from}
 use Rattle.fast_loops.proofs.LoopLanes.FrontCovered.{AreLow, Covered, front_covered}
+use Rattle.fast_loops.proofs.LoopLanes.LoadedRowsAre.{row_others}
+use Rattle.fast_loops.proofs.LoopLanes.LoadsTold.{IsRow, IsLoaded, AreLoadedRows, of_loaded_rows, of_loaded, loads_each, front_many, loaded_good}
 use Rattle.fast_loops.proofs.LoopLanes.Orders.{some_lanes, group_fits}
 use Rattle.fast_loops.proofs.LoopLanes.Parted.{puts_low}
-use Rattle.fast_loops.proofs.LoopLanes.Parts.{IsOther, are_some, stored_each}
+use Rattle.fast_loops.proofs.LoopLanes.Parts.{IsOther, are_some, others_are, stored_each}
 use Rattle.fast_loops.proofs.LoopLanes.Renumbered.{renumbered_is}
 use Rattle.fast_loops.proofs.LoopLanes.RowsAre.{renumbered_none}
-use Rattle.fast_loops.proofs.LoopLanes.Tests.{AreGood, AreMultiplied, plain_good, factored_good, of_kinds, tile_within}
-use Rattle.fast_loops.proofs.LoopLanes.TilesCovered.{IsStored, tile_covered, row_covered, product_covered}
+use Rattle.fast_loops.proofs.LoopLanes.Tests.{AreGood, AreMultiplied, plain_good, factored_good, factored_front, factored_short, multiplied_by, of_kinds, tile_within}
+use Rattle.fast_loops.proofs.LoopLanes.TilesCovered.{IsStored, tile_covered, row_covered, product_covered, load_covered, load_tile_covered}
 use Rattle.fast_loops.proofs.LoopLanes.Writes.{order_is_free}
 
 -- ---- how many steps there are
@@ -87,6 +91,25 @@ columns_few v f m w o s two narrow few less many =
   where
     spread : (t v w : ℕ) → t * (1 + v * w) ≡ t + t * v * w
     spread t v w = omega arith
+
+load_tile_length : (v loop x : ℕ) (from : Loaded) (k : ℕ) → length (load_tile v loop x from k) ≡ v + 1
+load_tile_length v loop x from k =
+    let loads : List PlainOp = map (load_at v loop x from k) (range_with_len 0 v) in
+    length-append loads (Tile k x ∷ [])
+    ∙ ap (λ n. n + 1) (length-map-range_with_len (load_at v loop x from k) 0 v)
+
+loads_length : (v loop x : ℕ) (from : Loaded) (m : ℕ) → length (load_tiles v x loop from m) ≡ m / v * (v + 1)
+loads_length v loop x from m =
+    times_length (λ g. load_tile v loop x from (g * v)) (v + 1) (λ g. load_tile_length v loop x from (g * v)) (m / v) 0
+
+-- tiles of m loads, and as many operations more as there may be for the others
+loaded_few : (v t m d s r : ℕ) → 2 ≤ v → t * v ≤ m → r ≤ v * (d + s) → t * (v + 1) + r ≤ v * (m + d + s)
+loaded_few v t m d s r two whole few =
+    let out : t * (v + 1) ≡ t * v + t = omega arith in
+    let less : t * 1 ≤ t * v = mul-le-mul_left t (omega (arith, two)) in
+    let double : m * 2 ≤ m * v = mul-le-mul_left m two in
+    let all : v * (m + d + s) ≡ m * v + v * (d + s) = omega arith in
+    omega (arith, whole, few, out, less, double, all)
 
 module _ (v : ℕ) (p : PlainProgram) (to : Stored) (ops : List PlainOp) (vs : List ℕ) (b q : ℕ)
     (known : IsGroup v p to ops vs b q) where
@@ -229,6 +252,120 @@ module _ (v : ℕ) (p : PlainProgram) (to : Stored) (ops : List PlainOp) (vs : L
         turned : (a c : ℕ) → c + a ≡ a + c
         turned a c = omega arith
 
+  -- ---- rows that are loaded
+
+  -- an operation and another
+  ops_many : length (stores ops) + length (others ops) ≡ length ops
+  ops_many = length-filter_both is_store (λ op. not (is_store op)) (λ op. refl) ops
+
+  -- the row's operations are among these
+  module _ (ahead : List PlainOp) (from : Loaded) (m : ℕ) (first : IsRow v loop to ahead from m)
+      (among : (op : PlainOp) → Contains ahead op → Contains ops op) (room : m ≤ p.regs) where
+    tile_loads : (g : ℕ) → g < m / v → Cover (load_tile v loop (2 * p.regs) from (g * v))
+    tile_loads g there =
+        let within = tile_within g v m there in
+        All-append IsDone (map (load_at v loop (2 * p.regs) from (g * v)) (range_with_len 0 v)) _
+        (all-row IsDone (load_at v loop (2 * p.regs) from (g * v)) 0 v (λ l least most.
+        load_covered v p ops vs b q some known.alone known.fits from first.linear (g * v)
+        (λ i lt. loads_each v loop to ahead from m first ops among (g * v + i) (omega (arith, lt, within)))
+        l (omega (arith, most)) (2 * p.regs + l) (omega (arith, most, within, room))))
+        (All-cons IsDone (Tile (g * v) (2 * p.regs)) []
+        (load_tile_covered v p ops vs b q some known.alone known.fits (g * v) (2 * p.regs)
+        (omega (arith, within, room)) (omega (arith, within, room)))
+        (All-nil IsDone))
+
+    loads_covered : Cover (load_tiles v (2 * p.regs) loop from m)
+    loads_covered =
+        all-loop IsDone (λ g. load_tile v loop (2 * p.regs) from (g * v)) 0 (m / v)
+        (λ g least most. tile_loads g (omega (arith, most)))
+
+  -- rows behind it
+  module _ (from : Loaded) (m : ℕ) (loaded : AreLoadedRows v loop to ops from m) where
+    abbrev behind_row : List PlainOp
+    behind_row = map (in_row v loop) (drop m ops)
+
+    row_room : m ≤ p.regs
+    row_room =
+        let all : m ≤ length (others ops) =
+        subst (λ xs. m ≤ length (others xs)) (sym loaded.first.row) (row_others from 0 m (drop m ops)) in
+        omega (arith, low, all)
+
+    rest_covered : Cover behind_row
+    rest_covered =
+        let by_lane = AllPass-from_list_all (is_by_lane loop to) (drop m ops) loaded.by_lane in
+        let among = All-drop (Contains ops) m ops (all_of_members (Contains ops) ops (λ op has. has)) in
+        All-map IsDone (in_row v loop) (drop m ops)
+        (all_of_members (λ op. IsDone (in_row v loop op)) (drop m ops) (λ op has.
+        subst (Covered v p ops vs b q some known.alone known.fits) (renumbered_none (in_row v loop op))
+        (front_covered v p ops vs b q some known.alone known.fits (λ r. r) (λ r lt. omega (arith, lt)) to op
+        known.linear (λ _. loaded.unit)
+        (All-contains (λ op. is_by_lane loop to op ≡ true) (drop m ops) op by_lane has)
+        (All-contains (Contains ops) (drop m ops) op among has))))
+
+    row_covered_behind : Cover (load_tiles v (2 * p.regs) loop from m ++ behind_row)
+    row_covered_behind =
+        All-append IsDone (load_tiles v (2 * p.regs) loop from m) behind_row
+        (loads_covered ops from m loaded.first (λ op has. has) row_room) rest_covered
+
+    row_few_behind :
+        length (steps_at (on_lanes v p) (load_tiles v (2 * p.regs) loop from m ++ behind_row) (vs ++ b ∷ []) q)
+        ≤ length group
+    row_few_behind =
+        let d : ℕ = length (drop m ops) in
+        let two = (are_some v known.lanes).some in
+        let new =
+        length-map (load_tiles v (2 * p.regs) loop from m ++ behind_row)
+        (λ op. step_of (on_lanes v p) op (vs ++ b ∷ []) q)
+        ∙ length-append (load_tiles v (2 * p.regs) loop from m) behind_row in
+        let loads = loads_length v loop (2 * p.regs) from m in
+        let rest = length-map (drop m ops) (in_row v loop) in
+        let one : d * 1 ≤ d * v = mul-le-mul_left d some in
+        let out : v * (d + 0) ≡ d * v = omega arith in
+        let all = loaded_few v (m / v) m d 0 d two (div-mul-le_self m v) (omega (arith, one, out)) in
+        let whole : m + d + 0 ≡ length ops = omega (arith, front_many v loop to ops from m loaded.first) in
+        let whole_times : v * (m + d + 0) ≡ v * length ops = ap (λ k. v * k) whole in
+        omega (arith, new, loads, rest, all, whole_times, group_length)
+
+  module _ (c : Columns) (from : Loaded) (m : ℕ) (loaded : IsLoaded v loop to ops c from m)
+      (front : All (IsOther ops) c.front) (short : length c.front ≤ length (others ops))
+      (factors : AreMultiplied v loop ops c.by (length c.turned)) where
+    good_behind : AreGood v loop to ops (behind m c)
+    good_behind = loaded_good v loop to ops c from m loaded front short factors
+
+    rest_many : length c.front ≡ m + length (drop m c.front)
+    rest_many = front_many v loop to c.front from m loaded.first
+
+    loaded_covered : Cover (in_tiles v p.regs loop to c from m)
+    loaded_covered =
+        All-append IsDone (load_tiles v (2 * p.regs) loop from m) _
+        (loads_covered c.front from m loaded.first (λ op has. (All-contains (IsOther ops) c.front op front has).0)
+        (omega (arith, rest_many, short, low)))
+        (columns_covered (behind m c) good_behind)
+
+    loaded_are_few :
+        length (steps_at (on_lanes v p) (in_tiles v p.regs loop to c from m) (vs ++ b ∷ []) q) ≤ length group
+    loaded_are_few =
+        let n : ℕ = length c.turned in
+        let d : ℕ = length (others ops) - m in
+        let two = (are_some v known.lanes).some in
+        let columns : List PlainOp = in_columns v p.regs loop to (behind m c) in
+        let new =
+        length-map (in_tiles v p.regs loop to c from m) (λ op. step_of (on_lanes v p) op (vs ++ b ∷ []) q)
+        ∙ length-append (load_tiles v (2 * p.regs) loop from m) columns in
+        let loads = loads_length v loop (2 * p.regs) from m in
+        let few : length columns ≤ v * (d + length (stores ops)) =
+        ap_le (columns_length v p.regs loop to (behind m c))
+        (columns_few v (length (drop m c.front)) n (width c.by) d (length (stores ops)) two (width_small c.by)
+        good_behind.columns.few (omega (arith, rest_many, short)) good_behind.columns.many) in
+        let all =
+        loaded_few v (m / v) m d (length (stores ops)) (length columns) two (div-mul-le_self m v) few in
+        let whole : m + d + length (stores ops) ≡ length ops = omega (arith, rest_many, short, ops_many) in
+        let whole_times : v * (m + d + length (stores ops)) ≡ v * length ops = ap (λ k. v * k) whole in
+        omega (arith, new, loads, all, whole_times, group_length)
+      where
+        ap_le : {a e k : ℕ} → a ≡ e → e ≤ k → a ≤ k
+        ap_le same le = omega (arith, same, le)
+
   -- ---- the law, from what groups and rounds of lanes write
 
   module _ (groups_write : GroupsWrite) (groups_are_sure : GroupsAreSure)
@@ -261,13 +398,45 @@ module _ (v : ℕ) (p : PlainProgram) (to : Stored) (ops : List PlainOp) (vs : L
         (columns_are_few c tests)
         (leave (in_columns v p.regs loop to c) writes)
 
-    lanes_for : RowsWrite → ColumnsWrite → FactoredColumnsWrite → LanesFor (laned_ops v p.regs loop (Some to) ops)
-    lanes_for rows_write columns_write factored_write =
+    loaded_for : (c : Columns) → are_loaded v loop to ops c ≡ true → All (IsOther ops) c.front →
+        length c.front ≤ length (others ops) →
+        AreMultiplied v loop ops c.by (length c.turned) → LeaveWrites v p (in_loaded v p.regs loop to c) ops vs b q →
+        LanesFor (in_loaded v p.regs loop to c)
+    loaded_for c h front short factors =
+        of_loaded (λ new. LeaveWrites v p new ops vs b q → LanesFor new) v p.regs loop to ops c h
+        (λ from m loaded writes.
+        lanes_from v p group (vs ++ b ∷ []) q (in_tiles v p.regs loop to c from m)
+        (loaded_covered c from m loaded front short factors)
+        (loaded_are_few c from m loaded front short factors)
+        (leave (in_tiles v p.regs loop to c from m) writes))
+
+    loaded_rows_for : LoadedRowsWrite → are_loaded_rows v loop to ops ≡ true →
+        LanesFor (in_loaded_rows v p.regs loop ops)
+    loaded_rows_for rows_write h =
+        of_loaded_rows (λ new. LeaveWrites v p new ops vs b q → LanesFor new) v p.regs loop to ops h
+        (λ from m loaded writes.
+        lanes_from v p group (vs ++ b ∷ []) q
+        (load_tiles v (2 * p.regs) loop from m ++ map (in_row v loop) (drop m ops))
+        (row_covered_behind from m loaded) (row_few_behind from m loaded)
+        (leave (load_tiles v (2 * p.regs) loop from m ++ map (in_row v loop) (drop m ops)) writes))
+        (rows_write v p to ops vs b q known h)
+
+    lanes_for : RowsWrite → ColumnsWrite → FactoredColumnsWrite → LoadedRowsWrite → LoadedWrite → LoadedFactoredWrite →
+        LanesFor (laned_ops v p.regs loop (Some to) ops)
+    lanes_for rows_write columns_write factored_write loaded_rows_write loaded_write loaded_factored_write =
         of_kinds LanesFor v p.regs loop to ops can (rows_for rows_write)
         (λ h. columns_for (plain_columns ops) (plain_good v loop to ops h) (columns_write v p to ops vs b q known h))
         (λ h. columns_for (factored_columns ops) (factored_good v loop to ops h)
         (factored_write v p to ops vs b q known h))
+        (loaded_rows_for loaded_rows_write)
+        (λ h. loaded_for (plain_columns ops) h (others_are ops) (omega arith) tt
+        (loaded_write v p to ops vs b q known h))
+        (λ by h. loaded_for (factored_columns ops) h (factored_front ops) (factored_short ops)
+        (multiplied_by v loop ops (factored_columns ops).by by) (loaded_factored_write v p to ops vs b q known by h))
 
-pub rounds_are_lanes : GroupsWrite → GroupsAreSure → RowsWrite → ColumnsWrite → FactoredColumnsWrite → RoundsAreLanes
-rounds_are_lanes groups_write groups_are_sure rows_write columns_write factored_write v p to ops vs b q known can =
+pub rounds_are_lanes : GroupsWrite → GroupsAreSure → RowsWrite → ColumnsWrite → FactoredColumnsWrite →
+    LoadedRowsWrite → LoadedWrite → LoadedFactoredWrite → RoundsAreLanes
+rounds_are_lanes groups_write groups_are_sure rows_write columns_write factored_write loaded_rows_write loaded_write
+    loaded_factored_write v p to ops vs b q known can =
     lanes_for v p to ops vs b q known groups_write groups_are_sure can rows_write columns_write factored_write
+    loaded_rows_write loaded_write loaded_factored_write

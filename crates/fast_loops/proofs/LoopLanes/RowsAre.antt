@@ -53,7 +53,7 @@ words_written (suc n) o w memory xs i j h =
     first a = omega arith
 
 -- the same values
-held_same : (v : ℕ) (f : ℕ → ℕ) (registers : List ℕ) (values more : ℕ → List ℕ) (next : ℕ) →
+pub held_same : (v : ℕ) (f : ℕ → ℕ) (registers : List ℕ) (values more : ℕ → List ℕ) (next : ℕ) →
     ((l : ℕ) → more l ≡ values l) → AreHeld v f registers values next → AreHeld v f registers more next
 held_same v f registers values more next same h =
     record {
@@ -81,17 +81,17 @@ module _ (v : ℕ) (p : PlainProgram) (f : ℕ → ℕ) (vs : List ℕ) (b q : �
   values_behind = lanes.values_behind v p f vs b q
 
   -- what one operation writes in all rounds, where these are the values of their registers
-  abbrev one_write : (ℕ → List ℕ) → PlainOp → ℕ → List Write
+  abbrev pub one_write : (ℕ → List ℕ) → PlainOp → ℕ → List Write
   one_write values op l = writes_of (values l) (round_act op l ∷ [])
 
   abbrev op_writes : (ℕ → List ℕ) → PlainOp → List Write
   op_writes values op = flat_map (one_write values op) (range_with_len 0 v)
 
-  abbrev lane_writes : (ℕ → List ℕ) → List PlainOp → List Write
+  abbrev pub lane_writes : (ℕ → List ℕ) → List PlainOp → List Write
   lane_writes values ops = flat_map (op_writes values) ops
 
   -- an operation that stores nothing writes nothing
-  no_writes : (values : ℕ → List ℕ) (op : PlainOp) → is_store op ≡ false → op_writes values op ≡ []
+  pub no_writes : (values : ℕ → List ℕ) (op : PlainOp) → is_store op ≡ false → op_writes values op ≡ []
   no_writes values op puts =
       ap (λ g. flat_map g (range_with_len 0 v)) (fun_ext (λ l. nothing op l puts)) ∙ none (range_with_len 0 v)
     where
@@ -227,10 +227,10 @@ module _ (v : ℕ) (p : PlainProgram) (f : ℕ → ℕ) (vs : List ℕ) (b q : �
     module _ (some : 0 < v) (low : (r : ℕ) → r < p.regs → f r < 3 * p.regs)
         (apart : (r k : ℕ) → r < p.regs → k < p.regs → f r ≡ f k → r ≡ k) where
       -- what is known behind operations, where so many registers are put
-      record IsBehind (memory : List ℕ) (s : Local) (values : ℕ → List ℕ) (next : ℕ) : Type 0 where
-        room : 3 * p.regs * v ≤ length s.registers
-        alike : AreAlike s.memory memory
-        held : AreHeld v f s.registers values next
+      pub record IsBehind (memory : List ℕ) (s : Local) (values : ℕ → List ℕ) (next : ℕ) : Type 0 where
+        pub room : 3 * p.regs * v ≤ length s.registers
+        pub alike : AreAlike s.memory memory
+        pub held : AreHeld v f s.registers values next
 
       -- an operation that stores nothing
       put_first : (memory : List ℕ) (s : Local) (values : ℕ → List ℕ) (next : ℕ) (op : PlainOp) →
@@ -309,7 +309,7 @@ module _ (v : ℕ) (p : PlainProgram) (f : ℕ → ℕ) (vs : List ℕ) (b q : �
       first_of memory s values next (MulTable r x table place step) ops true stores fresh by_lane fits h = wrong stores
       first_of memory s values next (Tile r x) ops true stores fresh by_lane fits h = wrong stores
 
-      rows_from : (memory : List ℕ) (s : Local) (values : ℕ → List ℕ) (next : ℕ) (ops : List PlainOp) →
+      pub rows_from : (memory : List ℕ) (s : Local) (values : ℕ → List ℕ) (next : ℕ) (ops : List PlainOp) →
           are_fresh 1 next (straight ops) ≡ true → list_all (is_by_lane (length vs) to) ops ≡ true → RoundsFit ops →
           IsBehind memory s values next → Leaves memory s values ops
       rows_from memory s values next [] fresh by_lane fits h = refl

@@ -12,9 +12,11 @@ use Rattle.fast_loops.specs.Rounds.{Stored}
 use Rattle.fast_loops.specs.LoopLanes.Rounds.{is_by_lane, stores, stored_registers, stored_constants, are_from, is_clear, are_clear}
 use Rattle.fast_loops.specs.LoopLanes.Columns.{Columns, plain_columns, factored_columns, first_factors, last_products, are_by, are_tiles, are_columns}
 use Rattle.fast_loops.specs.LoopLanes.Lanes.{can_lane}
+use Rattle.fast_loops.specs.LoopLanes.Loads.{behind, are_loaded}
 use Rattle.fast_loops.specs.LoopLanes.Layers.{Write, GroupsAreSure, round_writes, group_writes}
 use Rattle.fast_loops.proofs.LoopLanes.Held.{values_in}
-use Rattle.fast_loops.proofs.LoopLanes.Told.{IsOneOf, InRows, InColumns, InFactoredColumns, AreTold, kind_of, told, stored_at, store_base, writes_are}
+use Rattle.fast_loops.proofs.LoopLanes.LoadsTold.{from_loaded_rows, from_loaded}
+use Rattle.fast_loops.proofs.LoopLanes.Told.{IsOneOf, InRows, InColumns, InFactoredColumns, InLoadedRows, InLoaded, InLoadedFactored, AreTold, kind_of, told, stored_at, store_base, writes_are}
 use Rattle.fast_loops.proofs.LoopLanes.Wide.{lane_value}
 
 -- ---- a write of a list
@@ -161,6 +163,12 @@ tiles-spread v loop to ops c h =
     let long = constants_are ops in
     columns-spread v (stride loop to.parts) (stored_constants ops) one.0 (omega (arith, whole, few, long))
 
+loaded-spread : (v loop : ℕ) (to : Stored) (ops : List PlainOp) (c : Columns) → are_loaded v loop to ops c ≡ true →
+    AreSpread v (stride loop to.parts) (stored_constants ops)
+loaded-spread v loop to ops c h =
+    from_loaded (AreSpread v (stride loop to.parts) (stored_constants ops)) v loop to ops c h (λ from m known.
+    tiles-spread v loop to ops (behind m c) known.columns)
+
 pub spread : (v loop : ℕ) (to : Stored) (ops : List PlainOp) → can_lane v loop (Some to) ops ≡ true →
     AreSpread v (stride loop to.parts) (stored_constants ops)
 spread v loop to ops h = of_kind (kind_of v loop to ops h)
@@ -174,6 +182,13 @@ spread v loop to ops h = of_kind (kind_of v loop to ops h)
     of_kind (InFactoredColumns factored) =
         tiles-spread v loop to ops (factored_columns ops)
         (both_true (are_by v loop ops (first_factors (last_products ops))) _ factored).1
+    of_kind (InLoadedRows rows) =
+        from_loaded_rows (AreSpread v (stride loop to.parts) (stored_constants ops)) v loop to ops rows
+        (λ from m known.
+        subst (λ s. AreSpread v s (stored_constants ops)) (sym known.unit)
+        (rows-spread v (stored_constants ops) known.clear))
+    of_kind (InLoaded plain) = loaded-spread v loop to ops (plain_columns ops) plain
+    of_kind (InLoadedFactored by factored) = loaded-spread v loop to ops (factored_columns ops) factored
 
 -- ---- groups
 

@@ -13,7 +13,8 @@ use Rattle.fast_loops.proofs.Linear.{wrong}
 use Rattle.fast_loops.proofs.Members.{all_of_members}
 use Rattle.fast_loops.specs.LoopLanes.Rounds.{is_store, stores, others, stored_constants, are_from, are_rows, in_row}
 use Rattle.fast_loops.specs.LoopLanes.Columns.{Columns, Factors, factored_registers, first_factors, front_length, last_products, plain_columns, factored_columns, are_by, are_products, are_columns, are_tiles, are_plain_columns, are_factored_columns, in_columns}
-use Rattle.fast_loops.specs.LoopLanes.Lanes.{can_lane, laned_ops}
+use Rattle.fast_loops.specs.LoopLanes.Lanes.{can_by_lane, by_lane_ops, can_lane, laned_ops}
+use Rattle.fast_loops.specs.LoopLanes.Loads.{are_loaded_rows, are_loaded, can_load, in_loaded_rows, in_loaded, loaded_ops}
 use Rattle.fast_loops.proofs.LoopLanes.ColumnsAre.{AreColumns, columns_told}
 use Rattle.fast_loops.proofs.LoopLanes.Parts.{IsOther, others_are, multiplied_each, as_many_products}
 use Rattle.fast_loops.proofs.LoopLanes.TilesCovered.{IsMultiplied}
@@ -40,7 +41,7 @@ pub record AreGood (v loop : ℕ) (to : Stored) (ops : List PlainOp) (c : Column
   pub short : length c.front ≤ length (others ops)
   pub factors : AreMultiplied v loop ops c.by (length c.turned)
 
-good : (v loop : ℕ) (to : Stored) (ops : List PlainOp) (c : Columns) → are_columns v loop to ops c ≡ true →
+pub good : (v loop : ℕ) (to : Stored) (ops : List PlainOp) (c : Columns) → are_columns v loop to ops c ≡ true →
     All (IsOther ops) c.front →
     length c.front ≤ length (others ops) → AreMultiplied v loop ops c.by (length c.turned) → AreGood v loop to ops c
 good v loop to ops c h front short factors =
@@ -62,7 +63,7 @@ members : (ops : List PlainOp) → All (Contains ops) (others ops)
 members ops =
     All-filter (λ op. not (is_store op)) (Contains ops) ops (all_of_members (Contains ops) ops (λ op has. has))
 
-multiplied_by : (v loop : ℕ) (ops : List PlainOp) (factors : Option Factors) → are_by v loop ops factors ≡ true →
+pub multiplied_by : (v loop : ℕ) (ops : List PlainOp) (factors : Option Factors) → are_by v loop ops factors ≡ true →
     AreMultiplied v loop ops factors (length (factored_registers (last_products ops)))
 multiplied_by v loop ops None h = wrong h
 multiplied_by v loop ops (Some by) h =
@@ -87,13 +88,18 @@ pub plain_good : (v loop : ℕ) (to : Stored) (ops : List PlainOp) → are_plain
     AreGood v loop to ops (plain_columns ops)
 plain_good v loop to ops h = good v loop to ops (plain_columns ops) h (others_are ops) (omega arith) tt
 
+-- the operations before the products
+pub factored_front : (ops : List PlainOp) → All (IsOther ops) (factored_columns ops).front
+factored_front ops = All-take (IsOther ops) (front_length ops) (others ops) (others_are ops)
+
+pub factored_short : (ops : List PlainOp) → length (factored_columns ops).front ≤ length (others ops)
+factored_short ops = let short = length-take (front_length ops) (others ops) in omega (arith, short)
+
 pub factored_good : (v loop : ℕ) (to : Stored) (ops : List PlainOp) → are_factored_columns v loop to ops ≡ true →
     AreGood v loop to ops (factored_columns ops)
 factored_good v loop to ops h =
     let two = both_true (are_by v loop ops (first_factors (last_products ops))) _ h in
-    let short = length-take (front_length ops) (others ops) in
-    good v loop to ops (factored_columns ops) two.1
-    (All-take (IsOther ops) (front_length ops) (others ops) (others_are ops)) (omega (arith, short))
+    good v loop to ops (factored_columns ops) two.1 (factored_front ops) (factored_short ops)
     (multiplied_by v loop ops (first_factors (last_products ops)) two.0)
 
 -- a tile more does not go past the last
@@ -113,14 +119,18 @@ last-of false false d e f h = h
 last-of true c d e f h = wrong (sym e)
 last-of false true d e f h = wrong (sym f)
 
--- what holds of each kind of lanes holds of what becomes of the round
-pub of_kinds : (P : List PlainOp → Type 0) (v n loop : ℕ) (to : Stored) (ops : List PlainOp) →
-    can_lane v loop (Some to) ops ≡ true →
+second-of : (a c : Bool) → a ≡ false → (a || c) ≡ true → c ≡ true
+second-of false c e h = h
+second-of true c e h = wrong (sym e)
+
+-- what holds of each kind of lanes, where all loads are by lane, holds of what becomes of the round
+of_lane_kinds : (P : List PlainOp → Type 0) (v n loop : ℕ) (to : Stored) (ops : List PlainOp) →
+    can_by_lane v loop to ops ≡ true →
     (are_rows v loop to ops ≡ true → P (map (in_row v loop) ops)) →
     (are_plain_columns v loop to ops ≡ true → P (in_columns v n loop to (plain_columns ops))) →
     (are_factored_columns v loop to ops ≡ true → P (in_columns v n loop to (factored_columns ops))) →
-    P (laned_ops v n loop (Some to) ops)
-of_kinds P v n loop to ops can rows plain factored =
+    P (by_lane_ops v n loop to ops)
+of_lane_kinds P v n loop to ops can rows plain factored =
     by_kind (are_rows v loop to ops) (are_plain_columns v loop to ops) refl refl
   where
     by_kind : (t u : Bool) → are_rows v loop to ops ≡ t → are_plain_columns v loop to ops ≡ u →
@@ -132,4 +142,50 @@ of_kinds P v n loop to ops can rows plain factored =
     by_kind false false e f =
         factored
         (last-of (are_rows v loop to ops) (are_plain_columns v loop to ops) (are_factored_columns v loop to ops) e f
-        (both_true (are_linear 0 to.parts) _ can).1)
+        can)
+
+-- where rows are loaded
+of_loaded_kinds : (P : List PlainOp → Type 0) (v n loop : ℕ) (to : Stored) (ops : List PlainOp) →
+    can_load v loop to ops ≡ true →
+    (are_loaded_rows v loop to ops ≡ true → P (in_loaded_rows v n loop ops)) →
+    (are_loaded v loop to ops (plain_columns ops) ≡ true → P (in_loaded v n loop to (plain_columns ops))) →
+    (are_by v loop ops (factored_columns ops).by ≡ true → are_loaded v loop to ops (factored_columns ops) ≡ true →
+    P (in_loaded v n loop to (factored_columns ops))) →
+    P (loaded_ops v n loop to ops)
+of_loaded_kinds P v n loop to ops can rows plain factored =
+    by_kind (are_loaded_rows v loop to ops) (are_loaded v loop to ops (plain_columns ops)) refl refl
+  where
+    by_kind : (t u : Bool) → are_loaded_rows v loop to ops ≡ t → are_loaded v loop to ops (plain_columns ops) ≡ u →
+        P (if t then in_loaded_rows v n loop ops
+        else if u then in_loaded v n loop to (plain_columns ops)
+        else in_loaded v n loop to (factored_columns ops))
+    by_kind true u e f = rows e
+    by_kind false true e f = plain f
+    by_kind false false e f =
+        let by : Bool = are_by v loop ops (factored_columns ops).by in
+        let two =
+        both_true by _
+        (last-of (are_loaded_rows v loop to ops) (are_loaded v loop to ops (plain_columns ops)) _ e f can) in
+        factored two.0 two.1
+
+-- what holds of each kind of lanes holds of what becomes of the round
+pub of_kinds : (P : List PlainOp → Type 0) (v n loop : ℕ) (to : Stored) (ops : List PlainOp) →
+    can_lane v loop (Some to) ops ≡ true →
+    (are_rows v loop to ops ≡ true → P (map (in_row v loop) ops)) →
+    (are_plain_columns v loop to ops ≡ true → P (in_columns v n loop to (plain_columns ops))) →
+    (are_factored_columns v loop to ops ≡ true → P (in_columns v n loop to (factored_columns ops))) →
+    (are_loaded_rows v loop to ops ≡ true → P (in_loaded_rows v n loop ops)) →
+    (are_loaded v loop to ops (plain_columns ops) ≡ true → P (in_loaded v n loop to (plain_columns ops))) →
+    (are_by v loop ops (factored_columns ops).by ≡ true → are_loaded v loop to ops (factored_columns ops) ≡ true →
+    P (in_loaded v n loop to (factored_columns ops))) →
+    P (laned_ops v n loop (Some to) ops)
+of_kinds P v n loop to ops can rows plain factored loaded_rows loaded loaded_factored =
+    by_way (can_by_lane v loop to ops) refl
+  where
+    by_way : (t : Bool) → can_by_lane v loop to ops ≡ t →
+        P (if t then by_lane_ops v n loop to ops else loaded_ops v n loop to ops)
+    by_way true e = of_lane_kinds P v n loop to ops e rows plain factored
+    by_way false e =
+        of_loaded_kinds P v n loop to ops
+        (second-of (can_by_lane v loop to ops) (can_load v loop to ops) e (both_true (are_linear 0 to.parts) _ can).1)
+        loaded_rows loaded loaded_factored

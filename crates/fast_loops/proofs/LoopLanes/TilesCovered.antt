@@ -1,17 +1,18 @@
--- Rows of tiles, and products of these, touch words that the rounds touch, and fit.
-use Rattle.std.proofs.Common.{◌≡◌, ℕ, ◌+◌, ◌-◌, ◌*◌, ◌^◌, ◌<◌, ◌≤◌, true, List, [], ◌∷◌, ◌++◌, All, Contains, length, refl, ap, ◌∙◌, subst, arith, inr}
+-- Rows of tiles, products of these, and loads, touch words that the rounds touch, and fit.
+use Rattle.std.proofs.Common.{◌≡◌, ℕ, ◌+◌, ◌-◌, ◌*◌, ◌^◌, ◌<◌, ◌≤◌, true, List, [], ◌∷◌, ◌++◌, All, Contains, length, refl, ap, ◌∙◌, subst, arith, inl, inr}
 use Rattle.std.specs.Prelude.{slice_index, slice_index_or}
 use Rattle.std.specs.List.{range_with_len}
 use Rattle.icode.specs.declared.program.Array.{Array}
 use Rattle.icode.specs.Actions.{StepFits, array_start}
 use Rattle.icode.specs.Expression.{sum_numbers}
 use Rattle.icode.specs.Machine.{whole_lines}
-use Rattle.icode.specs.Plain.{PlainParts, PlainOp, PlainProgram, Sum, Store, MulTable, Tile}
+use Rattle.icode.specs.Plain.{PlainParts, PlainOp, PlainProgram, Sum, Load, Store, MulTable, Tile}
 use Rattle.icode.proofs.Lines.{Contains-nil}
 use Rattle.fast_loops.specs.Places.{are_linear}
 use Rattle.fast_loops.specs.Rounds.{Stored, same_array}
 use Rattle.fast_loops.specs.LoopLanes.Columns.{Factors}
 use Rattle.fast_loops.specs.LoopLanes.Layers.{group_at}
+use Rattle.fast_loops.specs.LoopLanes.Loads.{Loaded}
 use Rattle.fast_loops.proofs.LoopLanes.Arrays.{same_start}
 use Rattle.fast_loops.proofs.LoopLanes.Covered.{IsInGroup, in_group}
 use Rattle.fast_loops.proofs.LoopLanes.FrontCovered.{Covered, factors_fit, factor_fits, lane_word, no_steps, one_word}
@@ -84,6 +85,20 @@ module _ (v : ℕ) (p : PlainProgram) (ops : List PlainOp) (vs : List ℕ) (b q 
             };
       }
 
+  pub load_tile_covered : (r x : ℕ) → x + v ≤ 3 * p.regs → r + v ≤ x → IsCovered (Tile r x)
+  load_tile_covered r x room before =
+      record {
+        stored = λ k h. absurd (Contains-nil k h);
+        touched = λ k h. absurd (Contains-nil k h);
+        fits =
+            record {
+              numbers = omega arith;
+              place = omega arith;
+              registers = (omega (arith, room, before), room, inl before);
+              factors = tt;
+            };
+      }
+
   -- ---- rows
 
   -- words from a constant on, in a round
@@ -118,6 +133,37 @@ module _ (v : ℕ) (p : PlainProgram) (ops : List PlainOp) (vs : List ℕ) (b q 
                     peak_at constant (constant + 0) to.parts l linear (omega arith)
                     ((known _ (each 0 some).has).fits l low).numbers;
                 place = omega (arith, some, alone, end, place_behind constant (v - 1) to.parts l linear);
+                registers = small;
+                factors = tt;
+              };
+        }
+
+  -- ---- loads of tiles
+
+  -- words from a constant on, in a round
+  module _ (from : Loaded) (linear : are_linear 0 from.parts ≡ true) (constant : ℕ) (each : (i : ℕ) → i < v →
+      Contains ops (Load (constant + i) from.array (Sum (constant + i) from.parts))) (l : ℕ) (low : l < v) where
+    abbrev place_of_word : ℕ → ℕ
+    place_of_word i = (sum_numbers (Sum (constant + i) from.parts) (vs ++ (v * b + l) ∷ []) q).value
+
+    pub load_covered : (r : ℕ) → r < 3 * p.regs → IsCovered (Load r from.array (moved v loop constant from.parts l))
+    load_covered r small =
+        let last : v - 1 < v = omega (arith, some) in
+        let end = ((known _ (each (v - 1) last)).fits l low).place in
+        record {
+          stored = λ k h. absurd (Contains-nil k h);
+          touched = λ k h.
+              let at = lane_word (array_start words from.array + place_at constant from.parts l) v k h in
+              let there = at.there in
+              (known _ (each at.lane at.low)).touched l low k
+              (one_word (array_start words from.array + place_of_word at.lane) k
+              (omega (arith, there, place_behind constant at.lane from.parts l linear)));
+          fits =
+              record {
+                numbers =
+                    peak_at constant (constant + 0) from.parts l linear (omega arith)
+                    ((known _ (each 0 some)).fits l low).numbers;
+                place = omega (arith, some, alone, end, place_behind constant (v - 1) from.parts l linear);
                 registers = small;
                 factors = tt;
               };

@@ -1,5 +1,5 @@
 -- What the tests of lanes tell of the operations of rounds.
-use Rattle.std.proofs.Common.{◌≡◌, ℕ, ◌+◌, ◌<◌, ◌≤◌, true, false, List, [], ◌∷◌, ◌++◌, take, All, Some, None, Option, refl, ap, ap₂, ◌∙◌, subst, arith, inl, inr, ⊎_elim, take-append-drop}
+use Rattle.std.proofs.Common.{◌≡◌, ℕ, zero, suc, ◌+◌, ◌<◌, ◌≤◌, true, false, List, [], ◌∷◌, ◌++◌, take, drop, All, Some, None, Option, refl, sym, ap, ap₂, ◌∙◌, subst, arith, inl, inr, ⊎_elim, take-append-drop}
 use Rattle.std.specs.Prelude.{◌==◌, slice_index}
 use Rattle.std.specs.List.{list_all}
 use Rattle.std.proofs.lemmas.Bool.{not-true, or_cases}
@@ -17,29 +17,57 @@ use Rattle.fast_loops.proofs.Linear.{wrong}
 use Rattle.fast_loops.proofs.Rows.{round_acts}
 use Rattle.fast_loops.specs.LoopLanes.Rounds.{straight, is_by_lane, stores, others, stored_registers, stored_constants, are_rows}
 use Rattle.fast_loops.specs.LoopLanes.Columns.{Columns, Factors, plain_columns, factored_columns, first_factors, front_length, last_products, are_products, are_by, are_tiles, are_columns, are_plain_columns, are_factored_columns}
-use Rattle.fast_loops.specs.LoopLanes.Lanes.{can_lane}
+use Rattle.fast_loops.specs.LoopLanes.Lanes.{can_by_lane, can_lane}
+use Rattle.fast_loops.specs.LoopLanes.Loads.{Loaded, behind, can_load, are_loaded_rows, are_loaded}
 use Rattle.fast_loops.specs.LoopLanes.Layers.{Write, steps_at, writes_of}
 use Rattle.fast_loops.proofs.LoopLanes.Arrays.{IsOutside, same_start, other_outside}
+use Rattle.fast_loops.proofs.LoopLanes.LoadedRow.{row}
+use Rattle.fast_loops.proofs.LoopLanes.LoadsTold.{from_loaded_rows, from_loaded}
 use Rattle.fast_loops.proofs.LoopLanes.Orders.{parts_same}
 use Rattle.fast_loops.proofs.LoopLanes.OneLane.{IsPlaced, ArePlaced, IsLaneRound}
 
--- ---- three kinds of rounds
+-- ---- kinds of rounds
 
 pub data IsOneOf (v loop : ℕ) (to : Stored) (ops : List PlainOp) : Type 0 where
   InRows : are_rows v loop to ops ≡ true → IsOneOf v loop to ops
   InColumns : are_plain_columns v loop to ops ≡ true → IsOneOf v loop to ops
   InFactoredColumns : are_factored_columns v loop to ops ≡ true → IsOneOf v loop to ops
+  InLoadedRows : are_loaded_rows v loop to ops ≡ true → IsOneOf v loop to ops
+  InLoaded : are_loaded v loop to ops (plain_columns ops) ≡ true → IsOneOf v loop to ops
+  InLoadedFactored :
+      are_by v loop ops (factored_columns ops).by ≡ true → are_loaded v loop to ops (factored_columns ops) ≡ true →
+      IsOneOf v loop to ops
 
-pub kind_of : (v loop : ℕ) (to : Stored) (ops : List PlainOp) →
-    can_lane v loop (Some to) ops ≡ true → IsOneOf v loop to ops
-kind_of v loop to ops h =
-    elim (or_cases (are_rows v loop to ops) _ (both_true (are_linear 0 to.parts) _ h).1) [
+lane_kind : (v loop : ℕ) (to : Stored) (ops : List PlainOp) → can_by_lane v loop to ops ≡ true → IsOneOf v loop to ops
+lane_kind v loop to ops h =
+    elim (or_cases (are_rows v loop to ops) _ h) [
       | inl rows ↦ InRows rows
       | inr columns ↦
           elim (or_cases (are_plain_columns v loop to ops) (are_factored_columns v loop to ops) columns) [
             | inl plain ↦ InColumns plain
             | inr factored ↦ InFactoredColumns factored
           ]
+    ]
+
+loaded_kind : (v loop : ℕ) (to : Stored) (ops : List PlainOp) → can_load v loop to ops ≡ true → IsOneOf v loop to ops
+loaded_kind v loop to ops h =
+    elim (or_cases (are_loaded_rows v loop to ops) _ h) [
+      | inl rows ↦ InLoadedRows rows
+      | inr columns ↦
+          elim (or_cases (are_loaded v loop to ops (plain_columns ops)) _ columns) [
+            | inl plain ↦ InLoaded plain
+            | inr factored ↦
+                let two =
+                both_true (are_by v loop ops (factored_columns ops).by) _ factored in InLoadedFactored two.0 two.1
+          ]
+    ]
+
+pub kind_of : (v loop : ℕ) (to : Stored) (ops : List PlainOp) →
+    can_lane v loop (Some to) ops ≡ true → IsOneOf v loop to ops
+kind_of v loop to ops h =
+    elim (or_cases (can_by_lane v loop to ops) (can_load v loop to ops) (both_true (are_linear 0 to.parts) _ h).1) [
+      | inl by_lane ↦ lane_kind v loop to ops by_lane
+      | inr loads ↦ loaded_kind v loop to ops loads
     ]
 
 -- ---- what holds of operations of all kinds
@@ -109,12 +137,28 @@ told-by v loop to ops (Some by) h =
     told-products to by (front_length ops) 0 (last_products ops)
     (both_true (are_products by (front_length ops) 0 (last_products ops)) _ (both_true _ _ h).1).0
 
+told-row : (to : Stored) (from : Loaded) (k n : ℕ) → same_array from.array to.array ≡ false → AreTold to (row from k n)
+told-row to from k zero other = tt
+told-row to from k (suc n) other = (other, told-row to from (k + 1) n other)
+
 -- the tests of stores and of the front of columns
 by-lanes : (v loop : ℕ) (to : Stored) (ops : List PlainOp) (c : Columns) → are_columns v loop to ops c ≡ true →
     (list_all (is_by_lane loop to) (stores ops) ≡ true) × (list_all (is_by_lane loop to) c.front ≡ true)
 by-lanes v loop to ops c h =
     let two = both_true (list_all (is_by_lane loop to) (stores ops)) _ (both_true (are_tiles v loop to ops c) _ h).1 in
     (two.0, (both_true (list_all (is_by_lane loop to) c.front) _ two.1).0)
+
+-- a row that is loaded, and what is by lane
+loaded-front : (v loop : ℕ) (to : Stored) (ops : List PlainOp) (c : Columns) → are_loaded v loop to ops c ≡ true →
+    AreTold to (stores ops) × AreTold to c.front
+loaded-front v loop to ops c h =
+    from_loaded (AreTold to (stores ops) × AreTold to c.front) v loop to ops c h (λ from m known.
+    let two = by-lanes v loop to ops (behind m c) known.columns in (
+      told-all loop to (stores ops) two.0,
+      subst (AreTold to) (sym known.first.row)
+          (told-append to (row from 0 m) (drop m c.front) (told-row to from 0 m known.first.other)
+          (told-all loop to (drop m c.front) two.1)),
+    ))
 
 pub told : (v loop : ℕ) (to : Stored) (ops : List PlainOp) → can_lane v loop (Some to) ops ≡ true → AreTold to ops
 told v loop to ops h = of_kind (kind_of v loop to ops h)
@@ -135,6 +179,19 @@ told v loop to ops h = of_kind (kind_of v loop to ops h)
         (told-append to (take (front_length ops) (others ops)) (last_products ops)
         (told-all loop to (take (front_length ops) (others ops)) two.1)
         (told-by v loop to ops (first_factors (last_products ops)) both.0)))
+    of_kind (InLoadedRows rows) =
+        from_loaded_rows (AreTold to ops) v loop to ops rows (λ from m known.
+        subst (AreTold to) (sym known.first.row)
+        (told-append to (row from 0 m) (drop m ops) (told-row to from 0 m known.first.other)
+        (told-all loop to (drop m ops) known.by_lane)))
+    of_kind (InLoaded plain) =
+        let two = loaded-front v loop to ops (plain_columns ops) plain in told-split to ops two.0 two.1
+    of_kind (InLoadedFactored by factored) =
+        let two = loaded-front v loop to ops (factored_columns ops) factored in
+        told-split to ops two.0
+        (subst (AreTold to) (take-append-drop (front_length ops) (others ops))
+        (told-append to (take (front_length ops) (others ops)) (last_products ops) two.1
+        (told-by v loop to ops (factored_columns ops).by by)))
 
 -- ---- arrays
 

@@ -7,25 +7,35 @@ use Rattle.fast_loops.specs.Rounds.{Stored, are_fresh, first_store}
 use Rattle.fast_loops.specs.Interchange.{counts_in, round_in}
 use Rattle.fast_loops.specs.LoopLanes.Rounds.{straight, ops_in, stores, are_rows, in_row}
 use Rattle.fast_loops.specs.LoopLanes.Columns.{plain_columns, factored_columns, are_plain_columns, are_factored_columns, in_columns}
+use Rattle.fast_loops.specs.LoopLanes.Loads.{can_load, loaded_ops}
 
 abbrev pub IsLanes : ℕ → Type 0
 IsLanes v = (v ≡ 2) ⊎ (v ≡ 4) ⊎ (v ≡ 8) ⊎ (v ≡ 16)
 
 -- ---- rounds of the loop at this depth
 
+-- where all loads are by lane
+abbrev pub can_by_lane : ℕ → ℕ → Stored → List PlainOp → Bool
+can_by_lane v loop to ops =
+    are_rows v loop to ops || (are_plain_columns v loop to ops || are_factored_columns v loop to ops)
+
+abbrev pub by_lane_ops : ℕ → ℕ → ℕ → Stored → List PlainOp → List PlainOp
+by_lane_ops v n loop to ops =
+    if are_rows v loop to ops then map (in_row v loop) ops
+    else if are_plain_columns v loop to ops then in_columns v n loop to (plain_columns ops)
+    else in_columns v n loop to (factored_columns ops)
+
+-- or else rows are loaded
 abbrev pub can_lane : ℕ → ℕ → Option Stored → List PlainOp → Bool
 can_lane v loop None ops = false
 can_lane v loop (Some to) ops =
-    are_linear 0 to.parts
-    && (are_rows v loop to ops || (are_plain_columns v loop to ops || are_factored_columns v loop to ops))
+    are_linear 0 to.parts && (can_by_lane v loop to ops || can_load v loop to ops)
 
 -- v rounds that store as the record says, on registers below n
 abbrev pub laned_ops : ℕ → ℕ → ℕ → Option Stored → List PlainOp → List PlainOp
 laned_ops v n loop None ops = ops
 laned_ops v n loop (Some to) ops =
-    if are_rows v loop to ops then map (in_row v loop) ops
-    else if are_plain_columns v loop to ops then in_columns v n loop to (plain_columns ops)
-    else in_columns v n loop to (factored_columns ops)
+    if can_by_lane v loop to ops then by_lane_ops v n loop to ops else loaded_ops v n loop to ops
 
 abbrev pub laned_round : ℕ → ℕ → ℕ → PlainBody → PlainBody
 laned_round v n loop round = straight (laned_ops v n loop (first_store round) (ops_in round))

@@ -1,5 +1,5 @@
 -- What the code's values are among the definitions.
-use Rattle.std.specs.Prelude.{ℕ, ◌+◌, ◌*◌, ◌/◌, ◌==◌, ◌&&◌, Bool, true, false, nat_lt, List, map, flat_map, length, Option, Some, None, option_map, Vec, if◌then◌else◌}
+use Rattle.std.specs.Prelude.{ℕ, ◌+◌, ◌*◌, ◌/◌, ◌==◌, ◌&&◌, ◌||◌, Bool, true, false, nat_lt, List, map, flat_map, length, Option, Some, None, option_map, Vec, if◌then◌else◌}
 use Rattle.std.proofs.Common.{Global}
 use Rattle.std.specs.List.{list_all, range_with_len}
 use Rattle.icode.specs.declared.program.Op.{Op}
@@ -14,8 +14,9 @@ use Rattle.fast_loops.specs.declared.loop_lanes.columns.Factors.{Factors as Spec
 use Rattle.fast_loops.specs.declared.loop_lanes.columns.Group.{Group}
 use Rattle.fast_loops.specs.declared.loop_lanes.columns.Target.{Target}
 use Rattle.fast_loops.specs.declared.loop_lanes.tiles.Tiles.{Tiles}
-use Rattle.fast_loops.specs.LoopLanes.Columns.{Columns, Factors, renumbered, renumbered_op, are_products, are_factored_columns, factored_columns, product_at, row_at, tile_at, in_columns}
-use Rattle.fast_loops.specs.LoopLanes.Lanes.{can_lane, laned_ops, laned_round, is_lanable, laned_nest, are_lanable, laned_body}
+use Rattle.fast_loops.specs.LoopLanes.Columns.{Columns, Factors, renumbered, renumbered_op, are_products, are_by, are_factored_columns, plain_columns, factored_columns, product_at, row_at, tile_at, in_columns}
+use Rattle.fast_loops.specs.LoopLanes.Lanes.{can_by_lane, by_lane_ops, can_lane, laned_ops, laned_round, is_lanable, laned_nest, are_lanable, laned_body}
+use Rattle.fast_loops.specs.LoopLanes.Loads.{are_loaded_rows, are_loaded, can_load, load_at, load_tile, load_tiles, in_loaded_rows, in_loaded, loaded_ops}
 use Rattle.fast_loops.specs.LoopLanes.Rounds.{ops_in, are_from, place_stride, in_row}
 
 -- how far the place of an operation goes in a step of the loop at this depth
@@ -91,6 +92,16 @@ abbrev pub laned_columns : Group → ℕ → Target → SpecColumns → List Pla
 laned_columns group n target c =
     in_columns group.lanes n group.depth (stored_into target.array target.parts.now) (columns_of c)
 
+-- loads of tiles, by the same record as stores
+abbrev pub load_of : Tiles → ℕ → ℕ → ℕ → PlainOp
+load_of t x k l = load_at t.group.lanes t.group.depth x (stored_into t.array t.parts.now) k l
+
+abbrev pub load_tile_of : Tiles → ℕ → ℕ → List PlainOp
+load_tile_of t x k = load_tile t.group.lanes t.group.depth x (stored_into t.array t.parts.now) k
+
+abbrev pub loads_of : Tiles → ℕ → List PlainOp
+loads_of t x = load_tiles t.group.lanes x t.group.depth (stored_into t.array t.parts.now) t.count
+
 -- ---- what is made, if it can be laned
 
 abbrev pub stored_target : Target → Stored
@@ -118,6 +129,33 @@ are_factors v loop by bound m products stored =
 abbrev pub factored_if : ℕ → ℕ → ℕ → Stored → List PlainOp → Option (List PlainOp)
 factored_if v n loop to ops =
     if are_factored_columns v loop to ops then Some (in_columns v n loop to (factored_columns ops)) else None
+
+abbrev pub by_lane_if : ℕ → ℕ → ℕ → Stored → List PlainOp → Option (List PlainOp)
+by_lane_if v n loop to ops = if can_by_lane v loop to ops then Some (by_lane_ops v n loop to ops) else None
+
+-- rounds that load rows
+abbrev pub in_loaded_if : ℕ → ℕ → ℕ → Stored → List PlainOp → Columns → Option (List PlainOp)
+in_loaded_if v n loop to ops c = if are_loaded v loop to ops c then Some (in_loaded v n loop to c) else None
+
+abbrev pub loaded_rows_if : ℕ → ℕ → ℕ → Stored → List PlainOp → Option (List PlainOp)
+loaded_rows_if v n loop to ops = if are_loaded_rows v loop to ops then Some (in_loaded_rows v n loop ops) else None
+
+-- columns
+abbrev pub loaded_columns_if : ℕ → ℕ → ℕ → Stored → List PlainOp → Option (List PlainOp)
+loaded_columns_if v n loop to ops =
+    if (are_loaded v loop to ops (plain_columns ops)
+    || (are_by v loop ops (factored_columns ops).by && are_loaded v loop to ops (factored_columns ops)))
+    then Some (if are_loaded v loop to ops (plain_columns ops)
+    then in_loaded v n loop to (plain_columns ops)
+    else in_loaded v n loop to (factored_columns ops))
+    else None
+
+abbrev pub loaded_factored_if : ℕ → ℕ → ℕ → Stored → List PlainOp → Option (List PlainOp)
+loaded_factored_if v n loop to ops =
+    if are_by v loop ops (factored_columns ops).by then in_loaded_if v n loop to ops (factored_columns ops) else None
+
+abbrev pub loaded_if : ℕ → ℕ → ℕ → Stored → List PlainOp → Option (List PlainOp)
+loaded_if v n loop to ops = if can_load v loop to ops then Some (loaded_ops v n loop to ops) else None
 
 abbrev pub ops_if : ℕ → ℕ → ℕ → Stored → List PlainOp → Option (List PlainOp)
 ops_if v n loop to ops = if can_lane v loop (Some to) ops then Some (laned_ops v n loop (Some to) ops) else None

@@ -6,16 +6,19 @@ ghost use Rattle.icode.specs.Plain.{plain_body};
 ghost use Rattle.fast_loops.specs.Places.{stride};
 ghost use Rattle.fast_loops.specs.View.{plain_parts, stored_into};
 ghost use Rattle.fast_loops.specs.LoopLanes.Rounds.{ops_in, stores, others, is_by_lane};
-ghost use Rattle.fast_loops.specs.LoopLanes.View.{plain_ops, plain_factors, are_factors, stored_target, ops_made, rows_of, ops_if, factored_if};
+ghost use Rattle.fast_loops.specs.LoopLanes.View.{plain_ops, plain_factors, are_factors, stored_target, ops_made, rows_of, by_lane_if, loaded_rows_if, loaded_columns_if, loaded_if, loaded_factored_if, ops_if, factored_if};
 
 use crate::loop_lanes::columns::{
     Columns, Factors, Group, Target, are_columns, are_products, count_stores, factored_registers,
     first_factors, others,
 };
+use crate::loop_lanes::loads::{
+    appended, are_rows_behind, first_load, load_tiles, loaded, row_length,
+};
 use crate::loop_lanes::rounds::{
     are_from, are_rows, put_in_row, stored_constants, stored_registers,
 };
-use crate::loop_lanes::tiles::column_ops;
+use crate::loop_lanes::tiles::{Tiles, column_ops};
 use crate::{are_linear, stride};
 use icode::program::{Op, Stmt};
 use memory::NoMemory;
@@ -103,8 +106,8 @@ fn factored(
     Ok(None)
 }
 
-/// The operations of rounds that become lanes, on registers below this one, if they can.
-pub(crate) fn laned_ops(
+// The operations of rounds whose loads are all by lane, if they become lanes.
+fn by_lane_ops(
     alloc: Global,
     group: Group,
     regs: u64,
@@ -115,11 +118,8 @@ pub(crate) fn laned_ops(
     requires few { group.lanes ≤ 16 }
     requires registers { regs < 2 ^ 20 }
     ensures { IfOk result (λ made. ops_made made
-        ≡ ops_if group.lanes regs group.depth (stored_target target.entry) (ops_in (plain_body round.now))) }
+        ≡ by_lane_if group.lanes regs group.depth (stored_target target.entry) (ops_in (plain_body round.now))) }
 {
-    if !are_linear(target.parts) {
-        return Ok(None);
-    }
     let constants = stored_constants(alloc, round)?;
     if are_rows(
         group.lanes,
@@ -143,4 +143,154 @@ pub(crate) fn laned_ops(
         return Ok(Some(column_ops(alloc, group, regs, target, columns)?));
     }
     factored(alloc, group, regs, target, round, &front)
+}
+
+// The operations of rounds that load a row and store rows, if they can.
+fn loaded_rows(
+    alloc: Global,
+    group: Group,
+    regs: u64,
+    target: Target<'_>,
+    round: &[Stmt],
+) -> Result<Option<Vec<Op>>, NoMemory>
+    requires few { group.lanes ≤ 16 }
+    requires some { 1 ≤ group.lanes }
+    requires registers { regs < 2 ^ 20 }
+    ensures { IfOk result (λ made. ops_made made
+        ≡ loaded_rows_if group.lanes regs group.depth (stored_target target.entry) (ops_in (plain_body round.now))) }
+{
+    let ops = copied_ops(alloc, round)?;
+    let constants = stored_constants(alloc, round)?;
+    let Some(from) = first_load(&ops) else {
+        return Ok(None);
+    };
+    let count = row_length(from, &ops);
+    if are_rows_behind(group, target, from, count, &ops, &constants) {
+        let tiles = Tiles {
+            group,
+            array: from.array,
+            parts: from.parts,
+            by: None,
+            count,
+        };
+        let loads = load_tiles(alloc, tiles, 2 * regs)?;
+        let (_, rest) = ops.split_at(count as usize);
+        let more = rows(alloc, group, target, rest)?;
+        return Ok(Some(appended(loads, more)?));
+    }
+    Ok(None)
+}
+
+// The operations of rounds that load rows, and are multiplied behind the tiles, if they become lanes.
+fn loaded_factored(
+    alloc: Global,
+    group: Group,
+    regs: u64,
+    target: Target<'_>,
+    round: &[Stmt],
+    ops: &[Op],
+) -> Result<Option<Vec<Op>>, NoMemory>
+    requires some { 1 ≤ group.lanes }
+    requires few { group.lanes ≤ 16 }
+    requires registers { regs < 2 ^ 20 }
+    requires ops { plain_ops ops.now ≡ others (ops_in (plain_body round.now)) }
+    ensures { IfOk result (λ made. ops_made made
+        ≡ loaded_factored_if group.lanes regs group.depth (stored_target target.entry) (ops_in (plain_body round.now))) }
+{
+    let count = count_stores(round);
+    let stored = stored_registers(alloc, round)?;
+    let bound = (ops.len() as u64).saturating_sub(count);
+    let (front, products) = ops.split_at(bound as usize);
+    let Some(by) = first_factors(products) else {
+        return Ok(None);
+    };
+    if !are_factors(group, by, bound, count, products, &stored) {
+        return Ok(None);
+    }
+    let turned = factored_registers(alloc, products)?;
+    let columns = Columns {
+        front,
+        turned: &turned,
+        by: Some(by),
+    };
+    loaded(alloc, group, regs, target, round, columns)
+}
+
+// The operations of rounds that load rows and store columns, if they become lanes.
+fn loaded_columns(
+    alloc: Global,
+    group: Group,
+    regs: u64,
+    target: Target<'_>,
+    round: &[Stmt],
+) -> Result<Option<Vec<Op>>, NoMemory>
+    requires some { 1 ≤ group.lanes }
+    requires few { group.lanes ≤ 16 }
+    requires registers { regs < 2 ^ 20 }
+    ensures { IfOk result (λ made. ops_made made
+        ≡ loaded_columns_if group.lanes regs group.depth (stored_target target.entry) (ops_in (plain_body round.now))) }
+{
+    let front = others(alloc, round)?;
+    let turned = stored_registers(alloc, round)?;
+    let columns = Columns {
+        front: &front,
+        turned: &turned,
+        by: None,
+    };
+    match loaded(alloc, group, regs, target, round, columns)? {
+        Some(ops) => Ok(Some(ops)),
+        None => {
+            let made = loaded_factored(alloc, group, regs, target, round, &front)?;
+            Ok(made)
+        }
+    }
+}
+
+// The operations of rounds that load rows, if they become lanes.
+fn loaded_ops(
+    alloc: Global,
+    group: Group,
+    regs: u64,
+    target: Target<'_>,
+    round: &[Stmt],
+) -> Result<Option<Vec<Op>>, NoMemory>
+    requires some { 1 ≤ group.lanes }
+    requires few { group.lanes ≤ 16 }
+    requires registers { regs < 2 ^ 20 }
+    ensures { IfOk result (λ made. ops_made made
+        ≡ loaded_if group.lanes regs group.depth (stored_target target.entry) (ops_in (plain_body round.now))) }
+{
+    match loaded_rows(alloc, group, regs, target, round)? {
+        Some(ops) => Ok(Some(ops)),
+        None => {
+            let made = loaded_columns(alloc, group, regs, target, round)?;
+            Ok(made)
+        }
+    }
+}
+
+/// The operations of rounds that become lanes, on registers below this one, if they can.
+pub(crate) fn laned_ops(
+    alloc: Global,
+    group: Group,
+    regs: u64,
+    target: Target<'_>,
+    round: &[Stmt],
+) -> Result<Option<Vec<Op>>, NoMemory>
+    requires some { 1 ≤ group.lanes }
+    requires few { group.lanes ≤ 16 }
+    requires registers { regs < 2 ^ 20 }
+    ensures { IfOk result (λ made. ops_made made
+        ≡ ops_if group.lanes regs group.depth (stored_target target.entry) (ops_in (plain_body round.now))) }
+{
+    if !are_linear(target.parts) {
+        return Ok(None);
+    }
+    match by_lane_ops(alloc, group, regs, target, round)? {
+        Some(ops) => Ok(Some(ops)),
+        None => {
+            let made = loaded_ops(alloc, group, regs, target, round)?;
+            Ok(made)
+        }
+    }
 }

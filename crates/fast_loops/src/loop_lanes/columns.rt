@@ -122,7 +122,8 @@ fn are_stores_by_lane(depth: u64, array: Array, parts: &[Part], round: &[Stmt]) 
     true
 }
 
-fn are_ops_by_lane(depth: u64, array: Array, parts: &[Part], ops: &[Op]) -> bool
+/// Whether each can be done in lanes.
+pub(crate) fn are_ops_by_lane(depth: u64, array: Array, parts: &[Part], ops: &[Op]) -> bool
     ensures { let to = stored_into array parts.now in
         result ≡ list_all (is_by_lane depth to) (plain_ops ops.now) }
 {

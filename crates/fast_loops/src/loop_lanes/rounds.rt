@@ -103,7 +103,8 @@ fn is_clear_of(lanes: u64, constant: u64, others: &[u64]) -> bool
     true
 }
 
-fn are_clear(lanes: u64, constants: &[u64]) -> bool
+/// Whether so many words from each constant on meet those from no other.
+pub(crate) fn are_clear(lanes: u64, constants: &[u64]) -> bool
     ensures { result ≡ are_clear lanes constants.now }
 {
     let Some((first, rest)) = constants.split_first() else {

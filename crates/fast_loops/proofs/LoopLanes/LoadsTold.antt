@@ -1,0 +1,191 @@
+-- What the test of a round that loads a row tells of it.
+use Rattle.std.proofs.Common.{◌≡◌, ℕ, zero, suc, ◌+◌, ◌*◌, ◌/◌, ◌%◌, ◌<◌, ◌≤◌, true, false, not, List, ◌++◌, All, Contains, Option, Some, None, length, map, drop, sym, ap, ◌∙◌, subst, arith, eqb-true, ltb-true, length-append}
+use Rattle.std.specs.Prelude.{◌==◌, ◌&&◌, nat_le, nat_lt}
+use Rattle.std.specs.List.{list_all}
+use Rattle.std.proofs.lemmas.Bool.{not-true}
+use Rattle.std.proofs.lemmas.List.Elements.{All-drop}
+use Rattle.icode.specs.Limits.{is_small}
+use Rattle.icode.specs.Plain.{PlainOp, Sum, Load}
+use Rattle.icode.proofs.Bools.{both_true}
+use Rattle.icode.proofs.Lines.{Contains-head, Contains-tail}
+use Rattle.fast_loops.specs.Places.{are_linear, stride}
+use Rattle.fast_loops.specs.Rounds.{Stored, same_array}
+use Rattle.fast_loops.specs.LoopLanes.Columns.{Columns, are_columns}
+use Rattle.fast_loops.specs.LoopLanes.Rounds.{others, stored_constants, is_by_lane, are_clear, in_row}
+use Rattle.fast_loops.specs.LoopLanes.Loads.{Loaded, first_load, row_length, are_whole, are_rows_behind, are_rows_from, are_loaded_rows, behind, are_behind, are_loaded_from, are_loaded, load_tiles, in_loaded_rows_from, in_loaded_rows, in_tiles, in_loaded_from, in_loaded}
+use Rattle.fast_loops.proofs.Linear.{wrong}
+use Rattle.fast_loops.proofs.LoopLanes.ColumnsAre.{AreTurned, columns_told}
+use Rattle.fast_loops.proofs.LoopLanes.LoadedRow.{row, row_first, length-row}
+use Rattle.fast_loops.proofs.LoopLanes.Parts.{IsOther}
+use Rattle.fast_loops.proofs.LoopLanes.Tests.{AreGood, AreMultiplied, good}
+
+-- operations that begin with the loads of a row of m words
+pub record IsRow (v loop : ℕ) (to : Stored) (front : List PlainOp) (from : Loaded) (m : ℕ) : Type 0 where
+  pub row : front ≡ row from 0 m ++ drop m front
+  pub some : 0 < m
+  pub whole : m % v ≡ 0
+  pub other : same_array from.array to.array ≡ false
+  pub linear : are_linear 0 from.parts ≡ true
+  pub small : is_small (m + v * stride loop from.parts) ≡ true
+
+-- columns behind them
+pub record IsLoaded (v loop : ℕ) (to : Stored) (ops : List PlainOp) (c : Columns) (from : Loaded)
+    (m : ℕ) : Type 0 where
+  pub first : IsRow v loop to c.front from m
+  pub high : list_all (nat_le m) c.turned ≡ true
+  pub columns : are_columns v loop to ops (behind m c) ≡ true
+
+-- rows behind them
+pub record AreLoadedRows (v loop : ℕ) (to : Stored) (ops : List PlainOp) (from : Loaded) (m : ℕ) : Type 0 where
+  pub first : IsRow v loop to ops from m
+  pub unit : stride loop to.parts ≡ 1
+  pub by_lane : list_all (is_by_lane loop to) (drop m ops) ≡ true
+  pub clear : are_clear v (stored_constants ops) ≡ true
+
+row-told : (v loop : ℕ) (to : Stored) (front : List PlainOp) (from : Loaded) (m : ℕ) →
+    front ≡ row from 0 m ++ drop m front → are_whole v loop to from m ≡ true → IsRow v loop to front from m
+row-told v loop to front from m is h =
+    let whole = both_true (nat_lt 0 m && ((m % v == 0) && not (same_array from.array to.array))) _ h in
+    let tiles = both_true (nat_lt 0 m) _ whole.0 in
+    let other = both_true (m % v == 0) _ tiles.1 in
+    let places = both_true (are_linear 0 from.parts) _ whole.1 in
+    record {
+      row = is;
+      some = ltb-true 0 m tiles.0;
+      whole = eqb-true (m % v) 0 other.0;
+      other = not-true (same_array from.array to.array) other.1;
+      linear = places.0;
+      small = places.1;
+    }
+
+behind-told : (v loop : ℕ) (to : Stored) (ops : List PlainOp) (c : Columns) (from : Loaded) (m : ℕ) →
+    c.front ≡ row from 0 m ++ drop m c.front → are_behind v loop to ops c from m ≡ true →
+    IsLoaded v loop to ops c from m
+behind-told v loop to ops c from m is h =
+    let two = both_true (are_whole v loop to from m) _ h in
+    let columns = both_true (list_all (nat_le m) c.turned) _ two.1 in
+    record { first = row-told v loop to c.front from m is two.0; high = columns.0; columns = columns.1 }
+
+rows-told : (v loop : ℕ) (to : Stored) (ops : List PlainOp) (from : Loaded) (m : ℕ) →
+    ops ≡ row from 0 m ++ drop m ops → are_rows_behind v loop to ops from m ≡ true →
+    AreLoadedRows v loop to ops from m
+rows-told v loop to ops from m is h =
+    let two = both_true (are_whole v loop to from m) _ h in
+    let unit = both_true (stride loop to.parts == 1) _ two.1 in
+    let more = both_true (list_all (is_by_lane loop to) (drop m ops)) _ unit.1 in
+    record {
+      first = row-told v loop to ops from m is two.0;
+      unit = eqb-true (stride loop to.parts) 1 unit.0;
+      by_lane = more.0;
+      clear = more.1;
+    }
+
+-- what holds of rows behind each row holds of what becomes of the round
+pub of_loaded_rows : (P : List PlainOp → Type 0) (v n loop : ℕ) (to : Stored) (ops : List PlainOp) →
+    are_loaded_rows v loop to ops ≡ true →
+    ((from : Loaded) (m : ℕ) → AreLoadedRows v loop to ops from m →
+    P (load_tiles v (2 * n) loop from m ++ map (in_row v loop) (drop m ops))) →
+    P (in_loaded_rows v n loop ops)
+of_loaded_rows P v n loop to ops h each = by (first_load ops) h
+  where
+    by : (from : Option Loaded) → are_rows_from v loop to ops from ≡ true → P (in_loaded_rows_from v n loop ops from)
+    by None h = wrong h
+    by (Some from) h =
+        let m : ℕ = row_length from 0 ops in each from m (rows-told v loop to ops from m (row_first from ops) h)
+
+pub from_loaded_rows : (P : Type 0) (v loop : ℕ) (to : Stored) (ops : List PlainOp) →
+    are_loaded_rows v loop to ops ≡ true →
+    ((from : Loaded) (m : ℕ) → AreLoadedRows v loop to ops from m → P) → P
+from_loaded_rows P v loop to ops h each = of_loaded_rows (λ ops. P) v 0 loop to ops h each
+
+-- what holds of columns behind each row holds of what becomes of the round
+pub of_loaded : (P : List PlainOp → Type 0) (v n loop : ℕ) (to : Stored) (ops : List PlainOp) (c : Columns) →
+    are_loaded v loop to ops c ≡ true →
+    ((from : Loaded) (m : ℕ) → IsLoaded v loop to ops c from m → P (in_tiles v n loop to c from m)) →
+    P (in_loaded v n loop to c)
+of_loaded P v n loop to ops c h each = by (first_load c.front) h
+  where
+    by : (from : Option Loaded) → are_loaded_from v loop to ops c from ≡ true → P (in_loaded_from v n loop to c from)
+    by None h = wrong h
+    by (Some from) h =
+        let m : ℕ = row_length from 0 c.front in
+        each from m (behind-told v loop to ops c from m (row_first from c.front) h)
+
+-- and what follows whatever the row is
+pub from_loaded : (P : Type 0) (v loop : ℕ) (to : Stored) (ops : List PlainOp) (c : Columns) →
+    are_loaded v loop to ops c ≡ true →
+    ((from : Loaded) (m : ℕ) → IsLoaded v loop to ops c from m → P) → P
+from_loaded P v loop to ops c h each = of_loaded (λ ops. P) v 0 loop to ops c h each
+
+-- ---- rows
+
+row-has : (from : Loaded) (k n : ℕ) (rest : List PlainOp) (i : ℕ) → i < n →
+    Contains (row from k n ++ rest) (Load (k + i) from.array (Sum (k + i) from.parts))
+row-has from k zero rest i below = absurd (omega (arith, below))
+row-has from k (suc n) rest zero below =
+    let same : k ≡ k + 0 = omega arith in
+    subst (λ j. Contains (row from k (suc n) ++ rest) (Load j from.array (Sum j from.parts))) same
+    (Contains-head (Load k from.array (Sum k from.parts)) (row from (k + 1) n ++ rest))
+row-has from k (suc n) rest (suc i) below =
+    let same : k + 1 + i ≡ k + suc i = omega arith in
+    Contains-tail (Load k from.array (Sum k from.parts)) (row from (k + 1) n ++ rest)
+    (Load (k + suc i) from.array (Sum (k + suc i) from.parts))
+    (subst (λ j. Contains (row from (k + 1) n ++ rest) (Load j from.array (Sum j from.parts))) same
+    (row-has from (k + 1) n rest i (omega (arith, below))))
+
+module _ (v loop : ℕ) (to : Stored) (front : List PlainOp) (from : Loaded) (m : ℕ)
+    (known : IsRow v loop to front from m) where
+  -- the round has each load of the row
+  pub loads_each : (ops : List PlainOp) → ((op : PlainOp) → Contains front op → Contains ops op) → (i : ℕ) → i < m →
+      Contains ops (Load i from.array (Sum i from.parts))
+  loads_each ops among i below =
+      let load : PlainOp = Load i from.array (Sum i from.parts) in
+      let first : 0 + i ≡ i = omega arith in
+      among load
+      (subst (λ xs. Contains xs load) (sym known.row)
+      (subst (λ j. Contains (row from 0 m ++ drop m front) (Load j from.array (Sum j from.parts))) first
+      (row-has from 0 m (drop m front) i below)))
+
+  -- as many operations as loads, and the others
+  pub front_many : length front ≡ m + length (drop m front)
+  front_many =
+      let row_many = length-row from 0 m in
+      ap length known.row ∙ length-append (row from 0 m) (drop m front) ∙ ap (λ k. k + length (drop m front)) row_many
+
+  -- a tile at least
+  pub lanes_few : 0 < v → v ≤ m
+  lanes_few lanes = at_least (m / v) all
+    where
+      all : v * (m / v) ≡ m
+      all = let whole = known.whole in omega (arith, lanes, whole)
+
+      at_least : (t : ℕ) → v * t ≡ m → v ≤ m
+      at_least zero e =
+          let some = known.some in
+          let none : v * 0 ≡ 0 = omega arith in
+          absurd (omega (arith, e, some, none))
+      at_least (suc t) e = let out : v * suc t ≡ v + v * t = omega arith in omega (arith, e, out)
+
+module _ (v loop : ℕ) (to : Stored) (ops : List PlainOp) (c : Columns) (from : Loaded) (m : ℕ)
+    (known : IsLoaded v loop to ops c from m) where
+  many : length c.front ≡ m + length (drop m c.front)
+  many = front_many v loop to c.front from m known.first
+
+  pub loaded_turned : AreTurned v loop to ops c
+  loaded_turned =
+      let told = columns_told v loop to ops (behind m c) known.columns in
+      let few = told.few in
+      record {
+        many = told.many;
+        whole = told.whole;
+        few = omega (arith, few, many);
+        from = told.from;
+        stores_by_lane = told.stores_by_lane;
+        distinct = told.distinct;
+      }
+
+  pub loaded_good : All (IsOther ops) c.front → length c.front ≤ length (others ops) →
+      AreMultiplied v loop ops c.by (length c.turned) → AreGood v loop to ops (behind m c)
+  loaded_good front short factors =
+      good v loop to ops (behind m c) known.columns (All-drop (IsOther ops) m c.front front)
+      (omega (arith, short, many)) factors
