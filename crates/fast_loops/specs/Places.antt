@@ -1,6 +1,7 @@
 -- Places that are linear in the values of the open loops, and what becomes of them where two loops are interchanged.
 use Rattle.std.specs.Prelude.{ℕ, ◌+◌, ◌==◌, ◌&&◌, Bool, true, false, nat_le, if◌then◌else◌}
-use Rattle.icode.specs.Plain.{PlainExpr, PlainParts, PlainPart, PlainOp, PlainBody, Sum, NoParts, AndParts, Proc, Var, Load, Store, MulTable, Do, NoStmts, AndStmts}
+use Rattle.icode.specs.Plain.{PlainExpr, PlainParts, PlainPart, PlainOp, PlainBody, Sum, NoParts, AndParts, Proc, Var}
+use Rattle.icode.specs.Plain.{Load, Store, MulTable, Do, NoStmts, AndStmts}
 
 -- multiples of the processor's number, and behind them of loops' values alone, by rising depth from the least on
 abbrev pub are_linear : ℕ → PlainParts → Bool

@@ -1,8 +1,10 @@
 -- Rounds of a loop: straight statements. What makes rounds independent of one another.
-use Rattle.std.specs.Prelude.{ℕ, ◌+◌, ◌*◌, ◌==◌, ◌&&◌, Bool, true, false, not, nat_lt, nat_le, List, [], ◌∷◌, Option, Some, None}
+use Rattle.std.specs.Prelude.{ℕ, ◌+◌, ◌*◌, ◌==◌, ◌&&◌, Bool, true, false, not, nat_lt, nat_le, List, [], ◌∷◌, Option}
+use Rattle.std.specs.Prelude.{Some, None}
 use Rattle.icode.specs.Actions.{array_start}
 use Rattle.icode.specs.declared.program.Array.{Array}
-use Rattle.icode.specs.Plain.{PlainParts, PlainOp, PlainBody, Sum, Load, Store, Zero, Add, Sub, Neg, MulConst, MulTable, Tile, Loop, Do, NoStmts, AndStmts}
+use Rattle.icode.specs.Plain.{PlainParts, PlainOp, PlainBody, Sum, Load, Store, Zero, Add, Sub, Neg, MulConst, MulTable}
+use Rattle.icode.specs.Plain.{Tile, Loop, Do, NoStmts, AndStmts}
 use Rattle.fast_loops.specs.Places.{are_linear, is_linear, stride, same_parts}
 
 -- ---- registers
@@ -44,7 +46,8 @@ pub record Stored : Type 0 where
 -- where the first store of the statements goes
 abbrev pub first_store : PlainBody → Option Stored
 first_store NoStmts = None
-first_store (AndStmts (Do (Store array (Sum constant parts) register)) rest) = Some (record { array = array; parts = parts })
+first_store (AndStmts (Do (Store array (Sum constant parts) register)) rest) =
+    Some (record { array = array; parts = parts })
 first_store (AndStmts stmt rest) = first_store rest
 
 -- the parts of the place of the first load

@@ -1,8 +1,10 @@
 -- What the code's values are among the definitions, and what changes in a statement.
-use Rattle.std.specs.Prelude.{ℕ, ◌+◌, ◌*◌, ◌==◌, ◌&&◌, Bool, true, false, nat_le, nat_lt, List, length, map, Option, Some, None, if◌then◌else◌}
+use Rattle.std.specs.Prelude.{ℕ, ◌+◌, ◌*◌, ◌==◌, ◌&&◌, Bool, true, false, nat_le, nat_lt, List, length, map, Option}
+use Rattle.std.specs.Prelude.{Some, None, if◌then◌else◌}
 use Rattle.icode.specs.declared.program.Array.{Array}
 use Rattle.icode.specs.declared.program.Part.{Part}
-use Rattle.icode.specs.Plain.{PlainPart, PlainParts, Var, PlainStmt, PlainBody, Loop, Do, NoStmts, AndStmts, parts_of, plain_part}
+use Rattle.icode.specs.Plain.{PlainPart, PlainParts, Var, PlainStmt, PlainBody, Loop, Do, NoStmts, AndStmts, parts_of}
+use Rattle.icode.specs.Plain.{plain_part}
 use Rattle.fast_loops.specs.Places.{are_linear, stride, exchanged_op, exchanged_round}
 use Rattle.fast_loops.specs.Interchange.{counts_in, round_in, looped, nest_stmt, sunk, ordered}
 use Rattle.fast_loops.specs.Rounds.{Stored, are_placed}

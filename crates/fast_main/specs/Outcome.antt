@@ -14,7 +14,8 @@ use Rattle.word_code.specs.Choice.{allows}
 use Rattle.io_edge.specs.Faults.{Rose}
 use Rattle.io_edge.specs.Taken.{AppendsPrefix}
 use Rattle.fast_main.specs.declared.status.Status.{Status}
-use Rattle.fast_main.specs.declared.status.Status.TheVariants.{Success, Usage, ListingSyntax, WideModulus, ReadFault, WriteFault, NoMemory, TooLong}
+use Rattle.fast_main.specs.declared.status.Status.TheVariants.{Success, Usage, ListingSyntax, WideModulus, ReadFault}
+use Rattle.fast_main.specs.declared.status.Status.TheVariants.{WriteFault, NoMemory, TooLong}
 use Rattle.fast_main.specs.Status.{listing_limit, status_of_check}
 use Rattle.fast_main.specs.Translation.{fast_text, AreSoundWords}
 use Rattle.fast_main.specs.Words.{bits_of}
@@ -48,8 +49,8 @@ pub record IsTooWide (size : WordSize) (bytes : List ℕ) (status : Status) : Ty
   pub wide : allows size program.modulus ≡ false
   pub says : status ≡ WideModulus (bits_of size)
 
--- they are that of a program that passes the check, and the text is the one of it that is asked for; it spells words of the size,
--- which fit, are apart and leave what the program leaves
+-- they are that of a program that passes the check, and the text is the one of it that is asked for; it spells words
+-- of the size, which fit, are apart and leave what the program leaves
 pub record IsTranslated (wanted : Asked) (bytes text : List ℕ) : Type 0 where
   pub program : PlainProgram
   pub listing : is_listing bytes program
@@ -64,12 +65,14 @@ IsRefused size bytes status = IsUnread bytes status ⊎ (IsUnsound bytes status 
 
 -- status and text for a listing of no more bytes than may be
 abbrev pub IsAnswer : Asked → List ℕ → Status → List ℕ → Type 0
-IsAnswer wanted bytes status text = (IsRefused wanted.size bytes status × (text ≡ [])) ⊎ ((status ≡ Success) × IsTranslated wanted bytes text)
+IsAnswer wanted bytes status text =
+    (IsRefused wanted.size bytes status × (text ≡ [])) ⊎ ((status ≡ Success) × IsTranslated wanted bytes text)
 
 -- for the bytes of any listing
 abbrev pub IsOutcomeOfListing : Asked → List ℕ → Status → List ℕ → Type 0
 IsOutcomeOfListing wanted bytes status text =
-    ((listing_limit < length bytes) × (status ≡ TooLong listing_limit) × (text ≡ [])) ⊎ ((length bytes ≤ listing_limit) × IsAnswer wanted bytes status text)
+    ((listing_limit < length bytes) × (status ≡ TooLong listing_limit) × (text ≡ []))
+    ⊎ ((length bytes ≤ listing_limit) × IsAnswer wanted bytes status text)
 
 -- The words ask for a text, and the listing stands before the first empty line of the input; or nothing is read
 abbrev pub IsOutcome : List (List ℕ) → List ℕ → Status → List ℕ → Type 0
@@ -100,18 +103,22 @@ abbrev pub HasReadListing : Option (List ℕ) → Option (List ℕ) → Type 0
 HasReadListing told left = (read : List ℕ) × Consumes told left read × HasPartEnded read (IsOver left)
 
 -- Status and output of a call, by all the bytes of its input and by those that are left of them
-pub record Accounts (words : List (List ℕ)) (bytes left : List ℕ) (before after : Option (List ℕ)) (status : Status) : Type 0 where
+pub record Accounts (words : List (List ℕ)) (bytes left : List ℕ) (before after : Option (List ℕ))
+    (status : Status) : Type 0 where
   -- where nothing failed, they are the outcome
   pub answer : IsDefined status → (text : List ℕ) × IsOutcome words bytes status text × Appends before after text
   -- a read failed, behind bytes that may be the front of a listing's, and nothing was written
   pub read_fault : status ≡ ReadFault
-      → (asked words ≢ None) × ((read : List ℕ) × (bytes ≡ read ++ left) × IsInPart listing_limit read) × Appends before after []
+      → (asked words ≢ None) × ((read : List ℕ) × (bytes ≡ read ++ left) × IsInPart listing_limit read)
+      × Appends before after []
   -- a write failed at the text that the bytes call for, of which the output took a front
-  pub write_fault : status ≡ WriteFault → (text : List ℕ) × IsOutcome words bytes Success text × AppendsPrefix before after text
+  pub write_fault : status ≡ WriteFault →
+      (text : List ℕ) × IsOutcome words bytes Success text × AppendsPrefix before after text
 
 -- the same by an input: it gave these bytes, and with all that it may have left they account for status and output. One
 -- that does not tell its bytes may have any left
-pub record AccountsFor (words : List (List ℕ)) (input input' before after : Option (List ℕ)) (status : Status) : Type 0 where
+pub record AccountsFor (words : List (List ℕ)) (input input' before after : Option (List ℕ))
+    (status : Status) : Type 0 where
   pub read : List ℕ
   pub consumed : Consumes input input' read
   pub accounts : (left : List ℕ) → Tells input' left → Accounts words (read ++ left) left before after status

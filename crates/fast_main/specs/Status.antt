@@ -10,7 +10,9 @@ use Rattle.listing_text.specs.declared.listing.ListingFault.{ListingFault}
 use Rattle.listing_text.specs.declared.listing.ListingFault.TheVariants as listing
 use Rattle.io_edge.specs.StatusRows.Rows.{line_of}
 use Rattle.fast_main.specs.declared.status.Status.{Status}
-use Rattle.fast_main.specs.declared.status.Status.TheVariants.{Success, Usage, ListingSyntax, OverSteps, Address, Register, LineShared, ReadFault, WriteFault, NoMemory, TooLong}
+use Rattle.fast_main.specs.declared.status.Status.TheVariants.{Success, Usage, ListingSyntax, OverSteps, Address}
+use Rattle.fast_main.specs.declared.status.Status.TheVariants.{Register, LineShared, ReadFault, WriteFault, NoMemory}
+use Rattle.fast_main.specs.declared.status.Status.TheVariants.{TooLong}
 use Rattle.fast_main.specs.Rows.{row_of}
 
 abbrev pub code_of : Status → ℕ

@@ -54,15 +54,15 @@ words_for size lanes p = let q = prepared size lanes p in in_place q (fast_words
 abbrev pub fast_text : Asked → PlainProgram → List ℕ
 fast_text asked p = words_text asked.form (words_for asked.size asked.lanes p)
 
--- for every vector of at least as many residues as its size, and every order of turns, the program on words leaves in Y the words
--- that the program leaves
+-- for every vector of at least as many residues as its size, and every order
+-- of turns, the program on words leaves in Y the words that the program leaves
 abbrev pub IsFaithful : WordSize → ℕ → PlainProgram → Type 0
 IsFaithful size lanes p =
     (x turns orders : List ℕ) → p.size ≤ length x → All (λ v. v < p.modulus) x →
     word_results (word_code (words_for size lanes p)) x turns ≡ results (plain_code p) x orders
 
--- each place and each register of the program on words is there and its numbers are words, no processor touches a line that
--- another writes in the phase, and it leaves what the program leaves
+-- each place and each register of the program on words is there and its numbers are words, no processor touches a
+-- line that another writes in the phase, and it leaves what the program leaves
 pub record AreSoundWords (size : WordSize) (lanes : ℕ) (p : PlainProgram) : Type 0 where
   pub fits : WordsFit (words_for size lanes p)
   pub apart : (phase : ℕ) → IsApart (under (word_code (words_for size lanes p))) phase

@@ -39,8 +39,8 @@ bare w = with_bodies w.frame (map bare_body w.phases)
 abbrev pub ReductionFits : ℕ → ℕ → Reduction → Type 0
 ReductionFits sums regs r = (r.register < regs) × (r.amount < sums)
 
--- so are those before an action; the bias of a difference is below the base of sums, too, and the quotients of factors are below
--- that of products
+-- so are those before an action; the bias of a difference is below the base
+-- of sums, too, and the quotients of factors are below that of products
 pub record NumbersFit (w : Width) (regs : ℕ) (f : WordAction) : Type 0 where
   pub before : All (ReductionFits (sums_of w) regs) f.before
   pub bias : f.bias < sums_of w

@@ -1,5 +1,5 @@
--- How lazy the words of a program are, by the size of words that is asked for. A greater limit of registers than 16 times
--- the modulus is of no use, and A and B are kept below what products are below, where their words are added up.
+-- How lazy the words of a program are, by the size of words that is asked for. A greater limit of registers than 16
+-- times the modulus is of no use, and A and B are kept below what products are below, where their words are added up.
 use Rattle.std.specs.Prelude.{ℕ, ◌/◌, min, nat_lt, Bool, true, false, if◌then◌else◌}
 use Rattle.word_code.specs.declared.choose.WordSize.{WordSize}
 use Rattle.word_code.specs.declared.choose.WordSize.TheVariants.{Any, Of32, Of52, Of64}
@@ -30,7 +30,8 @@ middle modulus = lazy_within (record { half = 67108864; rough = false }) (limit_
 
 -- in words of 64 bits. With several lanes the high half of a product is made of three partial products
 abbrev pub wide : ℕ → ℕ → Laziness
-wide modulus lanes = lazy_within (record { half = 4294967296; rough = nat_lt 1 lanes }) (limit_within 18446744073709551615 modulus)
+wide modulus lanes =
+    lazy_within (record { half = 4294967296; rough = nat_lt 1 lanes }) (limit_within 18446744073709551615 modulus)
 
 -- the modulus is less than half of the words' base
 abbrev pub allows : WordSize → ℕ → Bool

@@ -1,7 +1,8 @@
 -- Which words of A and of B are added up: those that are but multiplied may be as great as words of registers.
 use Rattle.std.specs.Prelude.{ℕ, ◌==◌, ◌&&◌, ◌||◌, Bool, true, false, List, [], ◌∷◌, Option, Some, None, if◌then◌else◌}
 use Rattle.icode.specs.declared.program.Array.TheVariants.{A, B}
-use Rattle.icode.specs.Plain.{PlainOp, PlainStmt, PlainBody, Load, Store, Add, Sub, Neg, MulConst, MulTable, Loop, Do, NoStmts, AndStmts}
+use Rattle.icode.specs.Plain.{PlainOp, PlainStmt, PlainBody, Load, Store, Add, Sub, Neg, MulConst, MulTable, Loop, Do}
+use Rattle.icode.specs.Plain.{NoStmts, AndStmts}
 use Rattle.word_code.specs.declared.needs.Needs.{Needs}
 
 abbrev pub no_needs : Needs

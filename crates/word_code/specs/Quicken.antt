@@ -1,11 +1,13 @@
--- The program on words of a program: a bound for each register, in multiples of the modulus, and reductions where a sum of
--- bounds would pass the limit.
-use Rattle.std.specs.Prelude.{ℕ, zero, suc, ◌+◌, ◌-◌, ◌*◌, ◌/◌, ◌==◌, List, [], ◌∷◌, map, max, replicate, min, nat_le, if◌then◌else◌, slice_index_or, slice_set}
+-- The program on words of a program: a bound for each register, in multiples
+-- of the modulus, and reductions where a sum of bounds would pass the limit.
+use Rattle.std.specs.Prelude.{ℕ, zero, suc, ◌+◌, ◌-◌, ◌*◌, ◌/◌, ◌==◌, List, [], ◌∷◌, map, max, replicate, min, nat_le}
+use Rattle.std.specs.Prelude.{if◌then◌else◌, slice_index_or, slice_set}
 use Rattle.icode.specs.declared.program.Array.{Array}
 use Rattle.icode.specs.declared.program.Array.TheVariants.{X, Y, A, B}
 use Rattle.icode.specs.Headers.{without_statements}
 use Rattle.icode.specs.Machine.{with_words}
-use Rattle.icode.specs.Plain.{PlainOp, PlainStmt, PlainBody, PlainProgram, Load, Store, Zero, Add, Sub, Neg, MulConst, MulTable, Tile}
+use Rattle.icode.specs.Plain.{PlainOp, PlainStmt, PlainBody, PlainProgram, Load, Store, Zero, Add, Sub, Neg, MulConst}
+use Rattle.icode.specs.Plain.{MulTable, Tile}
 use Rattle.icode.specs.Plain as plain
 use Rattle.word_code.specs.declared.needs.Needs.{Needs}
 use Rattle.word_code.specs.Needs.{needs}
@@ -72,7 +74,10 @@ no_note = record { before = []; bias = 0; quotient = 0 }
 
 -- the note of an operation, where the registers have these bounds, and the bounds behind it
 abbrev pub noted : Laziness → ℕ → ℕ → PlainOp → List ℕ → Noted
-noted z m lanes (Load r array place) bounds = record { note = no_note; bounds = slice_set bounds r (array_bound z.kept array) }
+noted z m lanes (Load r array place) bounds = record {
+  note = no_note;
+  bounds = slice_set bounds r (array_bound z.kept array);
+}
 noted z m lanes (Store array place r) bounds =
     let s = settled m z.limit (2 * z.limit) r r (2 * array_bound z.kept array) bounds in
     record { note = record { before = s.reductions; bias = 0; quotient = 0 }; bounds = s.bounds }
@@ -100,7 +105,10 @@ noted z m lanes (MulConst r x factor) bounds =
       note = record { before = []; bias = 0; quotient = quotient_of (base_of z.width) m factor };
       bounds = slice_set bounds r (product_bound z.width);
     }
-noted z m lanes (MulTable r x table place step) bounds = record { note = no_note; bounds = slice_set bounds r (product_bound z.width) }
+noted z m lanes (MulTable r x table place step) bounds = record {
+  note = no_note;
+  bounds = slice_set bounds r (product_bound z.width);
+}
 noted z m lanes (Tile r x) bounds =
     record { note = no_note; bounds = with_words bounds r (replicate lanes (greatest_bound z.limit bounds lanes x)) }
 
@@ -154,14 +162,15 @@ abbrev mutual
 abbrev pub quick_phase : Laziness → Header → PlainBody → WordBody
 quick_phase z h body = (quick_body z h body (loosest z h)).body
 
--- ---- one processor and one phase: the words of A and of B may be as great as those of registers, from where on they are
--- but multiplied
+-- ---- one processor and one phase: the words of A and of B may be as great as those of registers, from where on they
+-- are but multiplied
 
 -- the statement, where the words of A and of B may be as great as what is left of the phase allows
 abbrev pub quick_alone : Laziness → Header → PlainBody → List ℕ → QuickBody
 quick_alone z h plain.NoStmts bounds = record { body = NoStmts; bounds = bounds }
 quick_alone z h (plain.AndStmts stmt rest) bounds =
-    let one = quick_stmt (loosened z (needs (plain.AndStmts stmt rest))) h stmt bounds in quick_and one.stmt (quick_alone z h rest one.bounds)
+    let one = quick_stmt (loosened z (needs (plain.AndStmts stmt rest))) h stmt bounds in
+    quick_and one.stmt (quick_alone z h rest one.bounds)
 
 -- the statements of all phases on words, where there are so many processors
 abbrev pub quick_phases : Laziness → Header → ℕ → List PlainBody → List WordBody

@@ -6,7 +6,8 @@ use Rattle.icode.specs.Plain.{PlainOp, PlainBody, plain_stmt}
 use Rattle.word_code.specs.declared.program.Setting.{Setting}
 use Rattle.word_code.specs.declared.needs.Needs.{Needs}
 use Rattle.word_code.specs.Words.{base_of, quotient_of, product_bound}
-use Rattle.word_code.specs.Quicken.{array_bound, Header, Settled, Noted, QuickStmt, bound_at, settled, noted, loosened, loosest, quick_stmt, quick_phase, quick_alone, quick_phases}
+use Rattle.word_code.specs.Quicken.{array_bound, Header, Settled, Noted, QuickStmt, bound_at, settled, noted, loosened}
+use Rattle.word_code.specs.Quicken.{loosest, quick_stmt, quick_phase, quick_alone, quick_phases}
 use Rattle.word_code.specs.View.{lazy_of}
 use Rattle.word_code.specs.WordProgram.{Note, WordBody}
 
@@ -64,7 +65,8 @@ quick_phase_in s = quick_phase (lazy_of s.slack) (header_in s)
 
 -- the same for the only phase of the only processor
 abbrev pub quick_alone_in : Setting → PlainBody → WordBody
-quick_alone_in s body = (quick_alone (lazy_of s.slack) (header_in s) body (loosest (lazy_of s.slack) (header_in s))).body
+quick_alone_in s body =
+    (quick_alone (lazy_of s.slack) (header_in s) body (loosest (lazy_of s.slack) (header_in s))).body
 
 -- the statements of all phases on words, where there are so many processors
 abbrev pub quick_phases_in : Setting → ℕ → List PlainBody → List WordBody

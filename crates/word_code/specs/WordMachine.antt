@@ -1,10 +1,13 @@
 -- What actions on words do, and runs of them.
-use Rattle.std.specs.Prelude.{ℕ, ◌*◌, suc, List, [], ◌∷◌, map, replicate, Option, Some, None, slice_get, slice_index, slice_index_or, slice_set}
+use Rattle.std.specs.Prelude.{ℕ, ◌*◌, suc, List, [], ◌∷◌, map, replicate, Option, Some, None, slice_get, slice_index}
+use Rattle.std.specs.Prelude.{slice_index_or, slice_set}
 use Rattle.icode.specs.declared.action.Action.{Action}
 use Rattle.icode.specs.declared.action.Action.TheVariants.{Load, Store, Zero, Add, Sub, Neg, Mul, Tile}
-use Rattle.icode.specs.Machine.{Code, State, Local, words_at, with_words, lane_by_lane, transposed, register_of, memory_after, register_put, moved_on, completion, start, padded}
+use Rattle.icode.specs.Machine.{Code, State, Local, words_at, with_words, lane_by_lane, transposed, register_of}
+use Rattle.icode.specs.Machine.{memory_after, register_put, moved_on, completion, start, padded}
 use Rattle.word_code.specs.declared.program.Reduction.{Reduction}
-use Rattle.word_code.specs.Words.{Width, sums_of, wrapped_sum, wrapped_difference, biased_difference, lazy_product, reduced}
+use Rattle.word_code.specs.Words.{Width, sums_of, wrapped_sum, wrapped_difference, biased_difference, lazy_product}
+use Rattle.word_code.specs.Words.{reduced}
 
 -- an action, with the reductions before it, the bias of a difference and the quotients of a product's factors
 pub record WordAction : Type 0 where
@@ -36,7 +39,8 @@ word_put w m lanes bias quotients (Zero r) s = replicate lanes 0
 word_put w m lanes bias quotients (Add r x y) s =
     lane_by_lane (wrapped_sum (sums_of w)) (register_of lanes s.registers x) (register_of lanes s.registers y)
 word_put w m lanes bias quotients (Sub r x y) s =
-    lane_by_lane (biased_difference (sums_of w) bias) (register_of lanes s.registers x) (register_of lanes s.registers y)
+    lane_by_lane (biased_difference (sums_of w) bias) (register_of lanes s.registers x)
+    (register_of lanes s.registers y)
 word_put w m lanes bias quotients (Neg r x) s =
     map (wrapped_difference (sums_of w) bias) (register_of lanes s.registers x)
 word_put w m lanes bias quotients (Mul r x factors) s =
@@ -48,13 +52,17 @@ abbrev pub bare_effect : Width → ℕ → ℕ → WordAction → Local → Loca
 bare_effect w m lanes f s =
     record {
       memory = memory_after lanes f.action s;
-      registers = with_words s.registers (register_put f.action * lanes) (word_put w m lanes f.bias f.quotients f.action s);
+      registers =
+          with_words s.registers (register_put f.action * lanes) (word_put w m lanes f.bias f.quotients f.action s);
     }
 
 -- what an action on words leaves
 abbrev pub word_effect : Width → ℕ → ℕ → WordAction → Local → Local
 word_effect w m lanes f s =
-    bare_effect w m lanes f (record { memory = s.memory; registers = reduce_registers (sums_of w) lanes f.before s.registers })
+    bare_effect w m lanes f (record {
+      memory = s.memory;
+      registers = reduce_registers (sums_of w) lanes f.before s.registers;
+    })
 
 -- what a machine of words runs: phase by phase, the list of actions of each processor
 pub record WordCode : Type 0 where
@@ -89,7 +97,10 @@ word_acts code phase q = slice_index_or (slice_index_or code.lists phase []) q [
 -- processor q does the action
 abbrev pub word_acted : WordCode → ℕ → WordAction → State → State
 word_acted code q f s =
-    let after : Local = word_effect code.width code.modulus code.lanes f (record { memory = s.memory; registers = slice_index_or s.registers q [] }) in
+    let after : Local = word_effect code.width code.modulus code.lanes f (record {
+      memory = s.memory;
+      registers = slice_index_or s.registers q [];
+    }) in
     record {
       memory = after.memory;
       registers = slice_set s.registers q after.registers;

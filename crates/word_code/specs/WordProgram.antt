@@ -58,12 +58,14 @@ word_action_of p note op vs q =
 -- a loop is the actions of its body for each value, one after the other
 abbrev mutual
   pub word_actions_of_stmt : PlainWordProgram → WordStmt → List ℕ → ℕ → List WordAction
-  word_actions_of_stmt p (Loop count body) vs q = flat_map (λ i. word_actions_of_body p body (vs ++ i ∷ []) q) (range_with_len 0 count)
+  word_actions_of_stmt p (Loop count body) vs q =
+      flat_map (λ i. word_actions_of_body p body (vs ++ i ∷ []) q) (range_with_len 0 count)
   word_actions_of_stmt p (Do note op) vs q = word_action_of p note op vs q ∷ []
 
   pub word_actions_of_body : PlainWordProgram → WordBody → List ℕ → ℕ → List WordAction
   word_actions_of_body p NoStmts vs q = []
-  word_actions_of_body p (AndStmts stmt rest) vs q = word_actions_of_stmt p stmt vs q ++ word_actions_of_body p rest vs q
+  word_actions_of_body p (AndStmts stmt rest) vs q =
+      word_actions_of_stmt p stmt vs q ++ word_actions_of_body p rest vs q
 
 -- what a machine of words runs for the program
 abbrev pub word_code : PlainWordProgram → WordCode

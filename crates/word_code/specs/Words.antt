@@ -1,8 +1,8 @@
 -- Operations on words: numbers below a base, as 2 ^ 64, that wrap.
 use Rattle.std.specs.Prelude.{ℕ, ◌+◌, ◌-◌, ◌*◌, ◌/◌, ◌%◌, ◌==◌, Bool, min, if◌then◌else◌}
 
--- A word's size: products go by a base that is the square of `half`. Where `rough` holds, the high half of a product is made of three of
--- its four partial products, and may be up to 2 too small
+-- A word's size: products go by a base that is the square of `half`. Where `rough` holds, the high half of a product
+-- is made of three of its four partial products, and may be up to 2 too small
 pub record Width : Type 0 where
   pub half : ℕ
   pub rough : Bool
@@ -42,7 +42,8 @@ quotient_of base m c = c * base / m
 -- a times the factor c with quotient q, up to a multiple of m. Of a, what is below the base counts
 abbrev pub lazy_product : Width → ℕ → ℕ → ℕ → ℕ → ℕ
 lazy_product w m a c q =
-    wrapped_difference (base_of w) (wrapped_product (base_of w) a c) (wrapped_product (base_of w) (high_of w (a % base_of w) q) m)
+    wrapped_difference (base_of w) (wrapped_product (base_of w) a c)
+    (wrapped_product (base_of w) (high_of w (a % base_of w) q) m)
 
 -- such a product is below so many times m
 abbrev pub product_bound : Width → ℕ

@@ -1,6 +1,9 @@
 -- Blocks: loops of which each round has words of its own, one behind the other, where all its places lie.
-use Rattle.std.specs.Prelude.{ℕ, suc, ◌+◌, ◌-◌, ◌*◌, ◌==◌, ◌&&◌, Bool, true, false, nat_le, List, [], ◌∷◌, Option, Some, None, slice_index, if◌then◌else◌}
-use Rattle.icode.specs.Plain.{PlainExpr, PlainParts, PlainPart, PlainOp, PlainStmt, PlainBody, Sum, NoParts, AndParts, Proc, Var, Product, Rem, Quot, Load, Store, Zero, Add, Sub, Neg, MulConst, MulTable, Tile, Loop, Do, NoStmts, AndStmts}
+use Rattle.std.specs.Prelude.{ℕ, suc, ◌+◌, ◌-◌, ◌*◌, ◌==◌, ◌&&◌, Bool, true, false, nat_le, List, [], ◌∷◌, Option, Some}
+use Rattle.std.specs.Prelude.{None, slice_index, if◌then◌else◌}
+use Rattle.icode.specs.Plain.{PlainExpr, PlainParts, PlainPart, PlainOp, PlainStmt, PlainBody, Sum, NoParts, AndParts}
+use Rattle.icode.specs.Plain.{Proc, Var, Product, Rem, Quot, Load, Store, Zero, Add, Sub, Neg, MulConst, MulTable, Tile}
+use Rattle.icode.specs.Plain.{Loop, Do, NoStmts, AndStmts}
 use Rattle.fast_loops.specs.declared.fused_loops.blocks.Block.{Block}
 use Rattle.fast_loops.specs.Interchange.{counts_in, round_in}
 use Rattle.fast_loops.specs.Rounds.{first_load}
@@ -36,8 +39,8 @@ is_step loop step (Product outer inner factor) = false
 is_step loop step (Rem of divisor factor) = false
 is_step loop step (Quot of divisor factor) = false
 
--- those of the steps, from the loop at this depth on, that a place goes, and within which it stays in the loops inside. It uses so
--- many words beside what the parts are
+-- those of the steps, from the loop at this depth on, that a place goes, and within which it stays in the loops
+-- inside. It uses so many words beside what the parts are
 abbrev pub followed : List ℕ → ℕ → ℕ → List ℕ → PlainParts → List ℕ
 followed counts words loop [] parts = []
 followed counts words loop (step ∷ steps) NoParts = []
@@ -66,7 +69,8 @@ followed_op lanes counts (Tile r x) steps = steps
 -- those that all places of straight statements go
 abbrev pub followed_in : ℕ → List ℕ → PlainBody → List ℕ → List ℕ
 followed_in lanes counts NoStmts steps = steps
-followed_in lanes counts (AndStmts (Do op) rest) steps = followed_in lanes counts rest (followed_op lanes counts op steps)
+followed_in lanes counts (AndStmts (Do op) rest) steps =
+    followed_in lanes counts rest (followed_op lanes counts op steps)
 followed_in lanes counts (AndStmts (Loop count body) rest) steps = followed_in lanes counts rest steps
 
 -- the factors of parts, in their order

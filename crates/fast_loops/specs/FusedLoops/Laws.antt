@@ -6,8 +6,9 @@ use Rattle.icode.specs.Plain.{PlainProgram}
 use Rattle.fast_loops.specs.TwoTables.Laws.{IsInPlaceOf}
 use Rattle.fast_loops.specs.FusedLoops.FusedLoops.{fused}
 
--- where a program fits and no processor touches a line that another writes, that holds of the program with its loops fused, and it
--- leaves what the program leaves
+-- where a program fits and no processor touches a line that another writes, that holds of the program with its loops
+-- fused, and it leaves what the program leaves
 abbrev pub FusedLeavesTheSame : Type 0
 FusedLeavesTheSame =
-    (least : ℕ) (p : PlainProgram) → PlainFits p → ((phase : ℕ) → IsApart (plain_code p) phase) → IsInPlaceOf (fused least p) p
+    (least : ℕ) (p : PlainProgram) → PlainFits p → ((phase : ℕ) → IsApart (plain_code p) phase) →
+    IsInPlaceOf (fused least p) p

@@ -3,7 +3,8 @@
 use Rattle.std.specs.Prelude.{ℕ, ◌+◌, ◌-◌, ◌*◌, ◌==◌, ◌&&◌, Bool, true, nat_lt, map, Option, Some, None, if◌then◌else◌}
 use Rattle.std.specs.Option.{unwrap_or}
 use Rattle.icode.specs.Limits.{is_small}
-use Rattle.icode.specs.Plain.{PlainExpr, PlainParts, PlainOp, PlainStmt, PlainBody, PlainProgram, Sum, NoParts, AndParts, Var, Load, Store, MulTable, Loop, Do, NoStmts, AndStmts}
+use Rattle.icode.specs.Plain.{PlainExpr, PlainParts, PlainOp, PlainStmt, PlainBody, PlainProgram, Sum, NoParts}
+use Rattle.icode.specs.Plain.{AndParts, Var, Load, Store, MulTable, Loop, Do, NoStmts, AndStmts}
 use Rattle.fast_loops.specs.Places.{are_linear, stride}
 
 -- ---- where it can be done

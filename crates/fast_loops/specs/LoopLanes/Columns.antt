@@ -1,11 +1,13 @@
 -- Rounds that store columns: v registers of v lanes are turned by a tile, and are then stored row by row.
-use Rattle.std.specs.Prelude.{ℕ, ◌+◌, ◌-◌, ◌*◌, ◌/◌, ◌%◌, ◌^◌, ◌==◌, ◌&&◌, Bool, true, false, not, nat_le, nat_lt, List, [], ◌∷◌, ◌++◌, map, length, take, drop, flat_map, Option, Some, None, if◌then◌else◌}
+use Rattle.std.specs.Prelude.{ℕ, ◌+◌, ◌-◌, ◌*◌, ◌/◌, ◌%◌, ◌^◌, ◌==◌, ◌&&◌, Bool, true, false, not, nat_le, nat_lt, List}
+use Rattle.std.specs.Prelude.{[], ◌∷◌, ◌++◌, map, length, take, drop, flat_map, Option, Some, None, if◌then◌else◌}
 use Rattle.std.specs.List.{list_all, range_with_len}
 use Rattle.icode.specs.Limits.{is_small}
 use Rattle.icode.specs.Plain.{PlainParts, PlainOp, Sum, Load, Store, Zero, Add, Sub, Neg, MulConst, MulTable, Tile}
 use Rattle.fast_loops.specs.Places.{are_linear, stride, same_parts}
 use Rattle.fast_loops.specs.Rounds.{Stored}
-use Rattle.fast_loops.specs.LoopLanes.Rounds.{stores, others, stored_registers, stored_constants, are_from, widened_parts, is_by_lane, in_row}
+use Rattle.fast_loops.specs.LoopLanes.Rounds.{stores, others, stored_registers, stored_constants, are_from}
+use Rattle.fast_loops.specs.LoopLanes.Rounds.{widened_parts, is_by_lane, in_row}
 
 -- ---- registers
 
@@ -82,8 +84,8 @@ factored_columns ops =
       by = first_factors (last_products ops);
     }
 
--- whole tiles are stored in their order, of no more registers than are put, and into words of their own. Numbers of places
--- stay small, and so do those of registers: fewer than 2 ^ 20, and two more for each that is turned
+-- whole tiles are stored in their order, of no more registers than are put, and into words of their own. Numbers of
+-- places stay small, and so do those of registers: fewer than 2 ^ 20, and two more for each that is turned
 abbrev pub are_tiles : ℕ → ℕ → Stored → List PlainOp → Columns → Bool
 are_tiles v loop to ops c =
     let m = length c.turned in

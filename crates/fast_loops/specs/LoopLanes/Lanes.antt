@@ -1,12 +1,14 @@
 -- Lanes from loops: of loops, one in the other, of one lane, v rounds of the innermost become one round of v lanes.
-use Rattle.std.specs.Prelude.{ℕ, ◌≡◌, ◌⊎◌, ◌*◌, ◌/◌, ◌%◌, ◌^◌, ◌==◌, ◌&&◌, ◌||◌, Bool, true, false, nat_lt, nat_le, List, [], ◌∷◌, length, map, Option, Some, None, if◌then◌else◌}
+use Rattle.std.specs.Prelude.{ℕ, ◌≡◌, ◌⊎◌, ◌*◌, ◌/◌, ◌%◌, ◌^◌, ◌==◌, ◌&&◌, ◌||◌, Bool, true, false, nat_lt, nat_le}
+use Rattle.std.specs.Prelude.{List, [], ◌∷◌, length, map, Option, Some, None, if◌then◌else◌}
 use Rattle.std.specs.List.{list_all}
 use Rattle.icode.specs.Plain.{PlainOp, PlainStmt, PlainBody, PlainProgram, Loop, Do, NoStmts, AndStmts}
 use Rattle.fast_loops.specs.Places.{are_linear}
 use Rattle.fast_loops.specs.Rounds.{Stored, are_fresh, first_store}
 use Rattle.fast_loops.specs.Interchange.{counts_in, round_in}
 use Rattle.fast_loops.specs.LoopLanes.Rounds.{straight, ops_in, stores, are_rows, in_row}
-use Rattle.fast_loops.specs.LoopLanes.Columns.{plain_columns, factored_columns, are_plain_columns, are_factored_columns, in_columns}
+use Rattle.fast_loops.specs.LoopLanes.Columns.{plain_columns, factored_columns, are_plain_columns, are_factored_columns}
+use Rattle.fast_loops.specs.LoopLanes.Columns.{in_columns}
 use Rattle.fast_loops.specs.LoopLanes.Loads.{can_load, loaded_ops}
 
 abbrev pub IsLanes : ℕ → Type 0
@@ -78,8 +80,8 @@ laned_body v n (AndStmts stmt rest) = AndStmts (laned_nest v n stmt) (laned_body
 abbrev pub can_be_laned : ℕ → PlainProgram → Bool
 can_be_laned v p = (p.lanes == 1) && (nat_lt (3 * p.regs) (2 ^ 20) && list_all (are_lanable v) p.phases)
 
--- the program on v lanes, if it is of one and all its statements can be laned. For each register there may be one that is to
--- be turned, and one that it is turned into
+-- the program on v lanes, if it is of one and all its statements can be laned. For each register there may be one
+-- that is to be turned, and one that it is turned into
 abbrev pub laned : ℕ → PlainProgram → PlainProgram
 laned v p =
     if can_be_laned v p

@@ -5,8 +5,8 @@ use Rattle.icode.specs.Machine.{IsApart, results}
 use Rattle.icode.specs.Plain.{PlainProgram}
 use Rattle.fast_loops.specs.LoopLanes.Lanes.{IsLanes, laned}
 
--- Where a program fits and no processor touches a line that another writes, its program on lanes fits, its processors touch no
--- line that another writes, and it leaves what the program leaves, whatever the orders of turns
+-- Where a program fits and no processor touches a line that another writes, its program on lanes fits, its processors
+-- touch no line that another writes, and it leaves what the program leaves, whatever the orders of turns
 pub record LanedIsSame (v : ℕ) (p : PlainProgram) : Type 0 where
   pub fits : PlainFits (laned v p)
   pub apart : (phase : ℕ) → IsApart (plain_code (laned v p)) phase
@@ -14,4 +14,5 @@ pub record LanedIsSame (v : ℕ) (p : PlainProgram) : Type 0 where
 
 abbrev pub LanedLeavesTheSame : Type 0
 LanedLeavesTheSame =
-    (v : ℕ) (p : PlainProgram) → IsLanes v → PlainFits p → ((phase : ℕ) → IsApart (plain_code p) phase) → LanedIsSame v p
+    (v : ℕ) (p : PlainProgram) → IsLanes v → PlainFits p → ((phase : ℕ) → IsApart (plain_code p) phase) →
+    LanedIsSame v p

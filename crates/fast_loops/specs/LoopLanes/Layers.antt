@@ -1,6 +1,7 @@
--- What the law of lanes from loops is made of: a group of v rounds of the innermost loop, and the round of v lanes in its
--- place.
-use Rattle.std.specs.Prelude.{◌≡◌, ℕ, ◌+◌, ◌*◌, ◌≤◌, true, List, [], ◌∷◌, ◌++◌, map, length, flat_map, slice_index, slice_set, All, Contains, Some}
+-- What the law of lanes from loops is made of: a group of v rounds
+-- of the innermost loop, and the round of v lanes in its place.
+use Rattle.std.specs.Prelude.{◌≡◌, ℕ, ◌+◌, ◌*◌, ◌≤◌, true, List, [], ◌∷◌, ◌++◌, map, length, flat_map, slice_index}
+use Rattle.std.specs.Prelude.{slice_set, All, Contains, Some}
 use Rattle.std.specs.List.{range_with_len}
 use Rattle.icode.specs.declared.action.Action.{Action}
 use Rattle.icode.specs.declared.action.Action.TheVariants.{Store}
@@ -10,7 +11,8 @@ use Rattle.icode.specs.Plain.{PlainOp, PlainProgram}
 use Rattle.fast_loops.specs.Places.{are_linear}
 use Rattle.fast_loops.specs.Rounds.{Stored, are_fresh}
 use Rattle.fast_loops.specs.LoopLanes.Rounds.{straight, are_rows, in_row}
-use Rattle.fast_loops.specs.LoopLanes.Columns.{plain_columns, factored_columns, are_by, are_plain_columns, are_factored_columns, in_columns}
+use Rattle.fast_loops.specs.LoopLanes.Columns.{plain_columns, factored_columns, are_by, are_plain_columns}
+use Rattle.fast_loops.specs.LoopLanes.Columns.{are_factored_columns, in_columns}
 use Rattle.fast_loops.specs.LoopLanes.Loads.{are_loaded_rows, are_loaded, in_loaded_rows, in_loaded}
 use Rattle.fast_loops.specs.LoopLanes.Lanes.{IsLanes, can_lane, laned_ops}
 use Rattle.fast_loops.specs.LoopLanes.Laws.{LanedLeavesTheSame}
@@ -40,8 +42,8 @@ stored_by lanes acts = flat_map (stored_words lanes) acts
 abbrev pub touched_by : ℕ → List Action → List ℕ
 touched_by lanes acts = flat_map (touched_words lanes) acts
 
--- Steps of v lanes in place of steps of one: they leave the same memory, whatever stands in the registers, touch no other
--- words, are no more, and fit
+-- Steps of v lanes in place of steps of one: they leave the same memory,
+-- whatever stands in the registers, touch no other words, are no more, and fit
 pub record AreLanesFor (v : ℕ) (p : PlainProgram) (new old : List Step) : Type 0 where
   pub same :
       (r s memory : List ℕ) → 3 * p.regs * v ≤ length r → p.regs ≤ length s →

@@ -1,13 +1,15 @@
 -- Rounds that load rows: of each of v rounds, v words one behind the other are loaded, and a tile turns them, so that
 -- each round has its words in a lane of its own.
-use Rattle.std.specs.Prelude.{ℕ, suc, ◌+◌, ◌*◌, ◌/◌, ◌%◌, ◌==◌, ◌&&◌, ◌||◌, Bool, false, not, nat_le, nat_lt, List, [], ◌∷◌, ◌++◌, map, drop, flat_map, Option, Some, None, if◌then◌else◌}
+use Rattle.std.specs.Prelude.{ℕ, suc, ◌+◌, ◌*◌, ◌/◌, ◌%◌, ◌==◌, ◌&&◌, ◌||◌, Bool, false, not, nat_le, nat_lt, List, []}
+use Rattle.std.specs.Prelude.{◌∷◌, ◌++◌, map, drop, flat_map, Option, Some, None, if◌then◌else◌}
 use Rattle.std.specs.List.{list_all, range_with_len}
 use Rattle.icode.specs.Limits.{is_small}
 use Rattle.icode.specs.Plain.{PlainOp, Sum, Load, Tile}
 use Rattle.fast_loops.specs.Places.{are_linear, stride, same_parts}
 use Rattle.fast_loops.specs.Rounds.{Stored, same_array}
 use Rattle.fast_loops.specs.LoopLanes.Rounds.{stored_constants, widened_parts, is_by_lane, are_clear, in_row}
-use Rattle.fast_loops.specs.LoopLanes.Columns.{Columns, plain_columns, factored_columns, are_by, are_columns, in_columns}
+use Rattle.fast_loops.specs.LoopLanes.Columns.{Columns, plain_columns, factored_columns, are_by, are_columns}
+use Rattle.fast_loops.specs.LoopLanes.Columns.{in_columns}
 
 -- ---- rows
 

@@ -1,8 +1,10 @@
--- Rounds of an innermost loop, as lists of operations. What makes a number of rounds, one behind the other, one of as many
--- lanes.
-use Rattle.std.specs.Prelude.{ℕ, ◌+◌, ◌*◌, ◌==◌, ◌&&◌, ◌||◌, Bool, true, false, not, nat_le, List, [], ◌∷◌, filter, if◌then◌else◌}
+-- Rounds of an innermost loop, as lists of operations. What makes
+-- a number of rounds, one behind the other, one of as many lanes.
+use Rattle.std.specs.Prelude.{ℕ, ◌+◌, ◌*◌, ◌==◌, ◌&&◌, ◌||◌, Bool, true, false, not, nat_le, List, [], ◌∷◌, filter}
+use Rattle.std.specs.Prelude.{if◌then◌else◌}
 use Rattle.std.specs.List.{list_all}
-use Rattle.icode.specs.Plain.{PlainExpr, PlainParts, PlainOp, PlainBody, Sum, NoParts, AndParts, Var, Load, Store, Zero, Add, Sub, Neg, MulConst, MulTable, Tile, Loop, Do, NoStmts, AndStmts}
+use Rattle.icode.specs.Plain.{PlainExpr, PlainParts, PlainOp, PlainBody, Sum, NoParts, AndParts, Var, Load, Store, Zero}
+use Rattle.icode.specs.Plain.{Add, Sub, Neg, MulConst, MulTable, Tile, Loop, Do, NoStmts, AndStmts}
 use Rattle.fast_loops.specs.Places.{is_linear, stride, same_parts}
 use Rattle.fast_loops.specs.Rounds.{Stored, same_array}
 
@@ -70,7 +72,8 @@ place_stride loop (Sum constant parts) = stride loop parts
 
 -- ---- operations that can be done in lanes
 
--- loads are of words one behind the other, from another array than the stores; an entry of a table stays, or steps by one
+-- loads are of words one behind the other, from another array
+-- than the stores; an entry of a table stays, or steps by one
 abbrev pub is_by_lane : ℕ → Stored → PlainOp → Bool
 is_by_lane loop to (Load r array place) =
     not (same_array array to.array) && (is_linear place && (place_stride loop place == 1))

@@ -1,10 +1,12 @@
 -- What the code's values are among the definitions.
-use Rattle.std.specs.Prelude.{ℕ, ◌+◌, ◌*◌, ◌/◌, ◌==◌, ◌&&◌, ◌||◌, Bool, true, false, nat_lt, List, map, flat_map, length, Option, Some, None, option_map, Vec, if◌then◌else◌}
+use Rattle.std.specs.Prelude.{ℕ, ◌+◌, ◌*◌, ◌/◌, ◌==◌, ◌&&◌, ◌||◌, Bool, true, false, nat_lt, List, map, flat_map}
+use Rattle.std.specs.Prelude.{length, Option, Some, None, option_map, Vec, if◌then◌else◌}
 use Rattle.std.proofs.Common.{Global}
 use Rattle.std.specs.List.{list_all, range_with_len}
 use Rattle.icode.specs.declared.program.Op.{Op}
 use Rattle.icode.specs.declared.program.Stmt.{Stmt}
-use Rattle.icode.specs.Plain.{PlainOp, PlainStmt, PlainBody, Sum, Load, Store, Zero, Add, Sub, Neg, MulConst, MulTable, Tile, plain_op, plain_body, plain_phases}
+use Rattle.icode.specs.Plain.{PlainOp, PlainStmt, PlainBody, Sum, Load, Store, Zero, Add, Sub, Neg, MulConst, MulTable}
+use Rattle.icode.specs.Plain.{Tile, plain_op, plain_body, plain_phases}
 use Rattle.icode.specs.Limits.{is_small}
 use Rattle.fast_loops.specs.Places.{are_linear, same_parts, stride}
 use Rattle.fast_loops.specs.Rounds.{Stored, first_store}
@@ -14,9 +16,13 @@ use Rattle.fast_loops.specs.declared.loop_lanes.columns.Factors.{Factors as Spec
 use Rattle.fast_loops.specs.declared.loop_lanes.columns.Group.{Group}
 use Rattle.fast_loops.specs.declared.loop_lanes.columns.Target.{Target}
 use Rattle.fast_loops.specs.declared.loop_lanes.tiles.Tiles.{Tiles}
-use Rattle.fast_loops.specs.LoopLanes.Columns.{Columns, Factors, renumbered, renumbered_op, are_products, are_by, are_factored_columns, plain_columns, factored_columns, product_at, row_at, tile_at, in_columns}
-use Rattle.fast_loops.specs.LoopLanes.Lanes.{can_by_lane, by_lane_ops, can_lane, laned_ops, laned_round, is_lanable, laned_nest, are_lanable, laned_body}
-use Rattle.fast_loops.specs.LoopLanes.Loads.{are_loaded_rows, are_loaded, can_load, load_at, load_tile, load_tiles, in_loaded_rows, in_loaded, loaded_ops}
+use Rattle.fast_loops.specs.LoopLanes.Columns.{Columns, Factors, renumbered, renumbered_op, are_products, are_by}
+use Rattle.fast_loops.specs.LoopLanes.Columns.{are_factored_columns, plain_columns, factored_columns, product_at}
+use Rattle.fast_loops.specs.LoopLanes.Columns.{row_at, tile_at, in_columns}
+use Rattle.fast_loops.specs.LoopLanes.Lanes.{can_by_lane, by_lane_ops, can_lane, laned_ops, laned_round, is_lanable}
+use Rattle.fast_loops.specs.LoopLanes.Lanes.{laned_nest, are_lanable, laned_body}
+use Rattle.fast_loops.specs.LoopLanes.Loads.{are_loaded_rows, are_loaded, can_load, load_at, load_tile, load_tiles}
+use Rattle.fast_loops.specs.LoopLanes.Loads.{in_loaded_rows, in_loaded, loaded_ops}
 use Rattle.fast_loops.specs.LoopLanes.Rounds.{ops_in, are_from, place_stride, in_row}
 
 -- how far the place of an operation goes in a step of the loop at this depth
@@ -63,7 +69,8 @@ has_words v loop m step by = (is_small m && is_small (v * step)) && has_entries 
 
 abbrev pub has_room : Tiles → Bool
 has_room t =
-    has_words t.group.lanes t.group.depth t.count (stride t.group.depth (plain_parts t.parts.now)) (option_map plain_factors t.by)
+    has_words t.group.lanes t.group.depth t.count (stride t.group.depth (plain_parts t.parts.now))
+    (option_map plain_factors t.by)
 
 abbrev pub product_of : Tiles → ℕ → ℕ → ℕ → List PlainOp
 product_of t r k l = product_at t.group.lanes t.group.depth (option_map plain_factors t.by) r k l

@@ -1,5 +1,6 @@
 -- Tables in two factors: tables whose entries are products of entries of two smaller ones.
-use Rattle.std.specs.Prelude.{ℕ, zero, suc, ◌+◌, ◌-◌, ◌*◌, ◌/◌, ◌%◌, ◌==◌, ◌&&◌, Bool, nat_lt, nat_le, List, [], ◌∷◌, length, slice_index, if◌then◌else◌}
+use Rattle.std.specs.Prelude.{ℕ, zero, suc, ◌+◌, ◌-◌, ◌*◌, ◌/◌, ◌%◌, ◌==◌, ◌&&◌, Bool, nat_lt, nat_le, List, [], ◌∷◌}
+use Rattle.std.specs.Prelude.{length, slice_index, if◌then◌else◌}
 use Rattle.std.specs.List.{range_with_len, list_all}
 use Rattle.operators.specs.Sum.{list_below}
 use Rattle.ring_mod.specs.Residue.{product_mod}
@@ -60,10 +61,13 @@ widest zero width square row = width
 widest (suc tries) width square row =
     if nat_le (4 * square) row then widest tries (2 * width) (4 * square) row else width
 
--- A table of the powers w^(i * k), row by row, begins with a row of ones and one more. A block of it is about as wide as a row has
--- blocks
+-- A table of the powers w^(i * k), row by row, begins with a row of
+-- ones and one more. A block of it is about as wide as a row has blocks
 abbrev pub cut_of : List ℕ → Cut
-cut_of entries = let row = ones entries - 1 in let width = widest 31 1 1 row in record { width = width; across = row / width }
+cut_of entries =
+    let row = ones entries - 1 in
+    let width = widest 31 1 1 row in
+    record { width = width; across = row / width }
 
 -- blocks are whole groups of lanes
 abbrev pub is_cut : ℕ → Cut → Bool

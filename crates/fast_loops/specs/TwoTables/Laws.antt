@@ -5,8 +5,8 @@ use Rattle.icode.specs.Machine.{IsApart, results}
 use Rattle.icode.specs.Plain.{PlainProgram}
 use Rattle.fast_loops.specs.TwoTables.TwoTables.{factored}
 
--- the program q, of the same size and modulus, fits, its processors touch no line that another writes, and it leaves what the program
--- p leaves, whatever the orders of turns
+-- the program q, of the same size and modulus, fits, its processors touch no line that another writes, and it leaves
+-- what the program p leaves, whatever the orders of turns
 pub record IsInPlaceOf (q p : PlainProgram) : Type 0 where
   pub size : q.size ≡ p.size
   pub modulus : q.modulus ≡ p.modulus
@@ -14,7 +14,9 @@ pub record IsInPlaceOf (q p : PlainProgram) : Type 0 where
   pub apart : (phase : ℕ) → IsApart (plain_code q) phase
   pub same : (x turns orders : List ℕ) → results (plain_code q) x turns ≡ results (plain_code p) x orders
 
--- where a program fits and no processor touches a line that another writes, that holds of the program with its tables in factors
+-- where a program fits and no processor touches a line that another
+-- writes, that holds of the program with its tables in factors
 abbrev pub FactoredLeavesTheSame : Type 0
 FactoredLeavesTheSame =
-    (least : ℕ) (p : PlainProgram) → PlainFits p → ((phase : ℕ) → IsApart (plain_code p) phase) → IsInPlaceOf (factored least p) p
+    (least : ℕ) (p : PlainProgram) → PlainFits p → ((phase : ℕ) → IsApart (plain_code p) phase) →
+    IsInPlaceOf (factored least p) p

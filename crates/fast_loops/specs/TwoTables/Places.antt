@@ -13,7 +13,8 @@ are_even lanes (suc room) (AndParts (Product outer inner factor) rest) = factor 
 are_even lanes (suc room) (AndParts (Rem of divisor factor) rest) = false
 are_even lanes (suc room) (AndParts (Quot of divisor factor) rest) = false
 
--- the place is a multiple of the lanes. Its factors' places have twice its parts and three, and an expression has 64 at most
+-- the place is a multiple of the lanes. Its factors' places have
+-- twice its parts and three, and an expression has 64 at most
 abbrev pub is_even : ℕ → PlainExpr → Bool
 is_even lanes (Sum constant parts) = constant % lanes == 0 && are_even lanes 30 parts
 
@@ -27,4 +28,5 @@ place_in_first cut place = quotient_by place cut.width
 
 abbrev pub place_in_second : Cut → PlainExpr → PlainExpr
 place_in_second cut place =
-    Sum 0 (AndParts (Rem place cut.width 1) (AndParts (Quot (quotient_by place cut.width) cut.across cut.width) NoParts))
+    Sum 0 (AndParts (Rem place cut.width 1)
+    (AndParts (Quot (quotient_by place cut.width) cut.across cut.width) NoParts))

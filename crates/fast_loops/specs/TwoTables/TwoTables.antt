@@ -1,5 +1,6 @@
 -- Programs whose large tables are two small ones: a product by an entry is one by an entry of each.
-use Rattle.std.specs.Prelude.{ℕ, zero, suc, ◌+◌, ◌^◌, ◌==◌, ◌&&◌, Bool, true, false, nat_lt, nat_le, List, [], ◌∷◌, ◌++◌, map, length, slice_index_or, slice_set, if◌then◌else◌}
+use Rattle.std.specs.Prelude.{ℕ, zero, suc, ◌+◌, ◌^◌, ◌==◌, ◌&&◌, Bool, true, false, nat_lt, nat_le, List, [], ◌∷◌}
+use Rattle.std.specs.Prelude.{◌++◌, map, length, slice_index_or, slice_set, if◌then◌else◌}
 use Rattle.std.specs.List.{list_all}
 use Rattle.icode.specs.Lengths.{len_of_body}
 use Rattle.icode.specs.Limits.{is_small}

@@ -1,5 +1,5 @@
--- Which arrays the statements of a phase use: from the last to the first, each stores into the array that the next one loads
--- from, and one whose rounds store to the places that they load from stays in its array.
+-- Which arrays the statements of a phase use: from the last to the first, each stores into the array that the next
+-- one loads from, and one whose rounds store to the places that they load from stays in its array.
 use Rattle.std.specs.Prelude.{◌==◌, ◌&&◌, Bool, true, false, List, [], ◌∷◌, ◌++◌, Option, Some, None, if◌then◌else◌}
 use Rattle.icode.specs.declared.program.Array.{Array}
 use Rattle.icode.specs.declared.program.Array.TheVariants.{X, Y, A, B}

@@ -10,8 +10,11 @@ use Rattle.word_code.specs.InPlace.InPlace.{in_place}
 -- for every vector and every order of turns, two programs on words leave the same
 abbrev pub LeavesAlike : PlainWordProgram → PlainWordProgram → Type 0
 LeavesAlike one other =
-    (x turns : List ℕ) → one.frame.size ≤ length x → word_results (word_code one) x turns ≡ word_results (word_code other) x turns
+    (x turns : List ℕ) → one.frame.size ≤ length x →
+    word_results (word_code one) x turns ≡ word_results (word_code other) x turns
 
 -- The words of a program that fits, whose lines have a word or more, leave the same in place
 abbrev pub InPlaceLeavesTheSame : Type 0
-InPlaceLeavesTheSame = (z : Laziness) (p : PlainProgram) → PlainFits p → 1 ≤ p.line → LeavesAlike (in_place p (quickened z p)) (quickened z p)
+InPlaceLeavesTheSame =
+    (z : Laziness) (p : PlainProgram) → PlainFits p → 1 ≤ p.line →
+    LeavesAlike (in_place p (quickened z p)) (quickened z p)

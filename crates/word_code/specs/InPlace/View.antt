@@ -13,7 +13,8 @@ use Rattle.icode.specs.Limits.{is_op_within}
 use Rattle.icode.specs.Plain.{PlainExpr, plain_expr, plain_op, plain_stmt, plain_body}
 use Rattle.icode.specs.Program.{plain_program}
 use Rattle.word_code.specs.declared.in_place.routes.Route.{Route}
-use Rattle.word_code.specs.InPlace.Accesses.{Access, are_right, homes_after_all, accesses_of, accesses_of_stmt, accesses_of_body, accesses_of_phase}
+use Rattle.word_code.specs.InPlace.Accesses.{Access, are_right, homes_after_all, accesses_of, accesses_of_stmt}
+use Rattle.word_code.specs.InPlace.Accesses.{accesses_of_body, accesses_of_phase}
 use Rattle.word_code.specs.InPlace.Homes.{Homes}
 
 abbrev pub homes_of : HomeTable → Homes
