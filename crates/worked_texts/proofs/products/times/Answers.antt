@@ -1,10 +1,15 @@
 use Rattle.std.proofs.Common.{◌≡◌, ap, ◌∙◌, subst, sym}
 use Rattle.matrix_meaning.specs.declared.Request.{Request}
+use Rattle.sigma_spl.proofs.PlainTerms.Fitting.{good_fit}
 use Rattle.sigma_spl.specs.Sigma.{sigma_on}
 use Rattle.sigma_spl.specs.Views.{plain_sigma}
 use Rattle.spl_ast.specs.Meaning.{IsVector}
 use Rattle.spl_ast.proofs.Vectors.{residue_at}
 use Rattle.worked_texts.proofs.products.times.Goals as goal
+
+pub apply_plain-requires-clause-fits : goal.apply_plain-requires-clause-fits
+apply_plain-requires-clause-fits c =
+    (good_fit (plain_sigma c.in_ok-terms.terms) c.in_ok-terms.ensures.good).1
 
 pub apply_plain-requires-clause-vector : goal.apply_plain-requires-clause-vector
 apply_plain-requires-clause-vector c =
