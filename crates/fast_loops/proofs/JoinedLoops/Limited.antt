@@ -1,7 +1,7 @@
 -- Joined loops stand within the limits of programs.
 use Rattle.std.proofs.Common.{◌≡◌, ◌⊎◌, inl, inr, ℕ, ◌+◌, ◌*◌, ◌<◌, ◌≤◌, List, [], ◌∷◌, Bool, true, false, Some}
 use Rattle.std.proofs.Common.{None, ap, sym, subst, ◌∙◌, arith, refl, ltb-true, lt-ltb, map, length, mul-le-mul_left}
-use Rattle.std.specs.Prelude.{◌&&◌, nat_lt, nat_le, max, if◌then◌else◌}
+use Rattle.std.specs.Prelude.{◌%◌, ◌==◌, ◌&&◌, not, nat_lt, nat_le, max, if◌then◌else◌}
 use Rattle.std.specs.List.{list_all}
 use Rattle.std.specs.Option.{unwrap_or}
 use Rattle.std.proofs.lemmas.Bool.{leb-true, le-leb, and_parts, and_from}
@@ -11,7 +11,7 @@ use Rattle.icode.specs.Plain.{PlainExpr, PlainParts, PlainOp, PlainStmt, PlainBo
 use Rattle.icode.specs.Plain.{Product, Rem, Quot, Load, Store, Zero, Add, Sub, Neg, MulConst, MulTable, Tile, Loop, Do}
 use Rattle.icode.specs.Plain.{NoStmts, AndStmts}
 use Rattle.fast_loops.specs.Places.{are_linear}
-use Rattle.fast_loops.specs.JoinedLoops.JoinedLoops.{place_goes_on, op_goes_on, stmt_goes_on, body_goes_on}
+use Rattle.fast_loops.specs.JoinedLoops.JoinedLoops.{place_goes_on, op_goes_on, body_goes_on}
 use Rattle.fast_loops.specs.JoinedLoops.JoinedLoops.{lifted_parts, lifted_place, lifted_op, lifted_stmt, lifted_body}
 use Rattle.fast_loops.specs.JoinedLoops.JoinedLoops.{as_one, joined_stmt, joined_body}
 use Rattle.fast_loops.proofs.Limited.{IsVarWithin, IsLoopWithin, and_three, one-within, var-within, loop-within}
@@ -147,28 +147,15 @@ op-within m loop inner n (MulConst register source factor) deep on h = h
 op-within m loop inner n (Tile register source) deep on h = h
 
 -- statements with one loop less around them
-mutual
-  stmt-lifted : (m loop inner n : ℕ) (stmt : PlainStmt) → loop < n → stmt_goes_on loop inner stmt ≡ true →
-      is_stmt_within m stmt (n + 1) ≡ true → is_stmt_within m (lifted_stmt loop stmt) n ≡ true
-  stmt-lifted m loop inner n (Loop count body) deep on h =
-      let known = loop-within m count (n + 1) body h in
-      let within = body-lifted m loop inner (n + 1) body (omega (arith, deep)) on known.within in
-      let top = known.deep in
-      loop-is m count n (lifted_body loop body) (record {
-        small = known.small;
-        deep = omega (arith, top);
-        within = within;
-      })
-  stmt-lifted m loop inner n (Do op) deep on h = op-within m loop inner n op deep on h
-
-  body-lifted : (m loop inner n : ℕ) (body : PlainBody) → loop < n → body_goes_on loop inner body ≡ true →
-      is_body_within m body (n + 1) ≡ true → is_body_within m (lifted_body loop body) n ≡ true
-  body-lifted m loop inner n NoStmts deep on h = refl
-  body-lifted m loop inner n (AndStmts stmt rest) deep on h =
-      let goes = and_parts (stmt_goes_on loop inner stmt) _ on in
-      let both = and_parts (is_stmt_within m stmt (n + 1)) _ h in
-      and_from (is_stmt_within m (lifted_stmt loop stmt) n) _ (stmt-lifted m loop inner n stmt deep goes.0 both.0)
-      (body-lifted m loop inner n rest deep goes.1 both.1)
+body-lifted : (m loop inner n : ℕ) (body : PlainBody) → loop < n → body_goes_on loop inner body ≡ true →
+    is_body_within m body (n + 1) ≡ true → is_body_within m (lifted_body loop body) n ≡ true
+body-lifted m loop inner n NoStmts deep on h = refl
+body-lifted m loop inner n (AndStmts (Do op) rest) deep on h =
+    let goes = and_parts (op_goes_on loop inner op) _ on in
+    let both = and_parts (is_stmt_within m (Do op) (n + 1)) _ h in
+    and_from (is_stmt_within m (Do (lifted_op loop op)) n) _ (op-within m loop inner n op deep goes.0 both.0)
+    (body-lifted m loop inner n rest deep goes.1 both.1)
+body-lifted m loop inner n (AndStmts (Loop count body) rest) deep on h = absurd (cc)
 
 -- ---- loops
 
@@ -187,7 +174,7 @@ one-is m loop count NoStmts h = h
 one-is m loop count (AndStmts (Do op) rest) h = h
 one-is m loop count (AndStmts (Loop inner body) (AndStmts stmt rest)) h = h
 one-is m loop count (AndStmts (Loop inner body) NoStmts) h =
-    by_test (is_small (count * inner) && body_goes_on loop inner body) refl
+    by_test (not (inner % 16 == 0) && (is_small (count * inner) && body_goes_on loop inner body)) refl
   where
     outer : IsLoopWithin m count loop (AndStmts (Loop inner body) NoStmts)
     outer = loop-within m count loop (AndStmts (Loop inner body) NoStmts) h
@@ -195,12 +182,13 @@ one-is m loop count (AndStmts (Loop inner body) NoStmts) h =
     inside : IsLoopWithin m inner (loop + 1) body
     inside = loop-within m inner (loop + 1) body (only-within m (loop + 1) (Loop inner body) outer.within)
 
-    by_test : (t : Bool) → (is_small (count * inner) && body_goes_on loop inner body) ≡ t →
+    by_test : (t : Bool) →
+        (not (inner % 16 == 0) && (is_small (count * inner) && body_goes_on loop inner body)) ≡ t →
         is_stmt_within m (unwrap_or (if t then Some (Loop (count * inner) (lifted_body loop body)) else None)
         (Loop count (AndStmts (Loop inner body) NoStmts))) loop ≡ true
     by_test false e = h
     by_test true e =
-        let told = and_parts (is_small (count * inner)) _ e in
+        let told = and_parts (is_small (count * inner)) _ (and_parts (not (inner % 16 == 0)) _ e).1 in
         loop-is m (count * inner) loop (lifted_body loop body)
         (record {
           small = positive count inner outer.small inside.small told.0;

@@ -1,7 +1,7 @@
 -- Two loops that are one do the steps that they did.
 use Rattle.std.proofs.Common.{◌≡◌, ℕ, zero, suc, ◌+◌, ◌*◌, Bool, true, false, Some, None, List, [], ◌∷◌, ◌++◌, flat_map}
 use Rattle.std.proofs.Common.{length, refl, sym, ap, ap₂, ◌∙◌, arith, append-nil, append_assoc, length-append}
-use Rattle.std.specs.Prelude.{◌&&◌, slice_index_or, slice_index, ◌-◌, if◌then◌else◌}
+use Rattle.std.specs.Prelude.{◌%◌, ◌==◌, ◌&&◌, not, slice_index_or, slice_index, ◌-◌, if◌then◌else◌}
 use Rattle.std.specs.List.{range_with_len}
 use Rattle.std.specs.Option.{unwrap_or}
 use Rattle.std.proofs.Math.Path.{fun_ext}
@@ -15,7 +15,7 @@ use Rattle.icode.specs.Machine.{whole_lines}
 use Rattle.icode.specs.Plain.{PlainOp, PlainStmt, PlainBody, PlainProgram, Load, Store, Zero, Add, Sub, Neg, MulConst}
 use Rattle.icode.specs.Plain.{MulTable, Tile, Loop, Do, NoStmts, AndStmts}
 use Rattle.icode.proofs.Bools.{both_true}
-use Rattle.fast_loops.specs.JoinedLoops.JoinedLoops.{op_goes_on, stmt_goes_on, body_goes_on, lifted_op, lifted_stmt}
+use Rattle.fast_loops.specs.JoinedLoops.JoinedLoops.{op_goes_on, body_goes_on, lifted_op}
 use Rattle.fast_loops.specs.JoinedLoops.JoinedLoops.{lifted_body, as_one, joined_stmt, joined_body}
 use Rattle.fast_loops.proofs.JoinedLoops.Numbers.{place_same}
 
@@ -117,24 +117,14 @@ module _ (p : PlainProgram) (q : ℕ) where
     op-same (MulConst r x factor) us h = refl
     op-same (Tile r x) us h = refl
 
-    mutual
-      stmt-same : (stmt : PlainStmt) (us : List ℕ) → stmt_goes_on loop inner stmt ≡ true →
-          steps_of_stmt p (lifted_stmt loop stmt) (vs ++ (inner * i + j) ∷ us) q
-          ≡ steps_of_stmt p stmt (vs ++ i ∷ j ∷ us) q
-      stmt-same (Loop count body) us h =
-          ap (λ (f : ℕ → List Step). flat_map f (range_with_len 0 count)) (fun_ext (λ x.
-          ap (λ ws. steps_of_body p (lifted_body loop body) ws q) (append_assoc vs ((inner * i + j) ∷ us) (x ∷ []))
-          ∙ body-same body (us ++ x ∷ []) h
-          ∙ ap (λ ws. steps_of_body p body ws q) (sym (append_assoc vs (i ∷ j ∷ us) (x ∷ [])))))
-      stmt-same (Do op) us h = ap (λ s. s ∷ []) (op-same op us h)
-
-      body-same : (body : PlainBody) (us : List ℕ) → body_goes_on loop inner body ≡ true →
-          steps_of_body p (lifted_body loop body) (vs ++ (inner * i + j) ∷ us) q
-          ≡ steps_of_body p body (vs ++ i ∷ j ∷ us) q
-      body-same NoStmts us h = refl
-      body-same (AndStmts stmt rest) us h =
-          let two = both_true (stmt_goes_on loop inner stmt) _ h in
-          ap₂ (λ xs ys. xs ++ ys) (stmt-same stmt us two.0) (body-same rest us two.1)
+    body-same : (body : PlainBody) (us : List ℕ) → body_goes_on loop inner body ≡ true →
+        steps_of_body p (lifted_body loop body) (vs ++ (inner * i + j) ∷ us) q
+        ≡ steps_of_body p body (vs ++ i ∷ j ∷ us) q
+    body-same NoStmts us h = refl
+    body-same (AndStmts (Do op) rest) us h =
+        let two = both_true (op_goes_on loop inner op) _ h in
+        ap₂ (λ xs ys. xs ++ ys) (ap (λ (s : Step). s ∷ []) (op-same op us two.0)) (body-same rest us two.1)
+    body-same (AndStmts (Loop count body) rest) us h = absurd (cc)
 
   -- ---- both loops
 
@@ -156,14 +146,17 @@ module _ (p : PlainProgram) (q : ℕ) where
   one-same loop count (AndStmts (Do op) rest) vs deep = refl
   one-same loop count (AndStmts (Loop inner body) (AndStmts stmt rest)) vs deep = refl
   one-same loop count (AndStmts (Loop inner body) NoStmts) vs deep =
-      by_test (is_small (count * inner) && body_goes_on loop inner body) refl
+      by_test (not (inner % 16 == 0) && (is_small (count * inner) && body_goes_on loop inner body)) refl
     where
-      by_test : (t : Bool) → (is_small (count * inner) && body_goes_on loop inner body) ≡ t →
+      by_test : (t : Bool) →
+          (not (inner % 16 == 0) && (is_small (count * inner) && body_goes_on loop inner body)) ≡ t →
           steps_of_stmt p (unwrap_or (if t then Some (Loop (count * inner) (lifted_body loop body)) else None)
           (Loop count (AndStmts (Loop inner body) NoStmts))) vs q
           ≡ steps_of_stmt p (Loop count (AndStmts (Loop inner body) NoStmts)) vs q
       by_test false e = refl
-      by_test true e = both-same loop count inner body vs deep (both_true (is_small (count * inner)) _ e).1
+      by_test true e =
+          both-same loop count inner body vs deep
+          (both_true (is_small (count * inner)) _ (both_true (not (inner % 16 == 0)) _ e).1).1
 
   one_deeper : (loop : ℕ) (vs : List ℕ) (i : ℕ) → length vs ≡ loop → length (vs ++ i ∷ []) ≡ loop + 1
   one_deeper loop vs i deep = length-append vs (i ∷ []) ∙ ap (λ n. n + 1) deep

@@ -1,6 +1,6 @@
--- Loop coalescing (Polychronopoulos, 1987): a loop and the one that stands alone in it become one loop of as many
--- rounds as both have, where each place goes on from the last round of the inner loop to the first of its next time.
-use Rattle.std.specs.Prelude.{ℕ, ◌+◌, ◌-◌, ◌*◌, ◌==◌, ◌&&◌, Bool, true, nat_lt, map, Option, Some, None, if◌then◌else◌}
+-- Loop coalescing (Polychronopoulos, 1987): an innermost loop and the one in which it stands alone become one loop of as
+-- many rounds as both have, where each place goes on from the last round of the inner loop to the first of its next time.
+use Rattle.std.specs.Prelude.{ℕ, ◌+◌, ◌-◌, ◌*◌, ◌%◌, ◌==◌, ◌&&◌, Bool, true, not, false, nat_lt, map, Option, Some, None, if◌then◌else◌}
 use Rattle.std.specs.Option.{unwrap_or}
 use Rattle.icode.specs.Limits.{is_small}
 use Rattle.icode.specs.Plain.{PlainExpr, PlainParts, PlainOp, PlainStmt, PlainBody, PlainProgram, Sum, NoParts}
@@ -20,14 +20,11 @@ op_goes_on loop inner (Store array place register) = place_goes_on loop inner pl
 op_goes_on loop inner (MulTable register source table place step) = place_goes_on loop inner place
 op_goes_on loop inner op = true
 
-abbrev mutual
-  pub stmt_goes_on : ℕ → ℕ → PlainStmt → Bool
-  stmt_goes_on loop inner (Loop count body) = body_goes_on loop inner body
-  stmt_goes_on loop inner (Do op) = op_goes_on loop inner op
-
-  pub body_goes_on : ℕ → ℕ → PlainBody → Bool
-  body_goes_on loop inner NoStmts = true
-  body_goes_on loop inner (AndStmts stmt rest) = stmt_goes_on loop inner stmt && body_goes_on loop inner rest
+-- these are operations alone, in which no loop stands
+abbrev pub body_goes_on : ℕ → ℕ → PlainBody → Bool
+body_goes_on loop inner NoStmts = true
+body_goes_on loop inner (AndStmts (Do op) rest) = op_goes_on loop inner op && body_goes_on loop inner rest
+body_goes_on loop inner (AndStmts (Loop count body) rest) = false
 
 -- ---- statements with one loop less around them
 
@@ -64,10 +61,11 @@ abbrev mutual
 
 -- ---- loops
 
--- two loops as one, of which the outer one is at this depth
+-- two loops as one, of which the outer one is at this depth and the inner one is the innermost, as long as its rounds are no
+-- multiple of 16, the greatest number of lanes
 abbrev pub both_as_one : ℕ → ℕ → ℕ → PlainBody → Option PlainStmt
 both_as_one loop count inner body =
-    if is_small (count * inner) && body_goes_on loop inner body
+    if not (inner % 16 == 0) && (is_small (count * inner) && body_goes_on loop inner body)
     then Some (Loop (count * inner) (lifted_body loop body))
     else None
 

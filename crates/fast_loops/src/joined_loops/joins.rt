@@ -14,7 +14,11 @@ use icode::program::{Program, Stmt};
 use memory::NoMemory;
 use std::alloc::Global;
 
-// Two loops as one, of which the outer one is at this depth, if all places go on.
+/// The greatest number of lanes.
+const MOST_LANES: u64 = 16;
+
+// Two loops as one, of which the outer one is at this depth and the inner one is the innermost, if lanes need more rounds
+// and all places go on.
 fn both_as_one(
     alloc: Global,
     depth: u64,
@@ -27,7 +31,7 @@ fn both_as_one(
         (λ made. option_map plain_stmt made ≡ both_as_one depth count inner (plain_body body.now)) }
 {
     let rounds = count as u128 * inner as u128;
-    if rounds >= (1 << 32) || !body_goes_on(depth, inner, body) {
+    if inner % MOST_LANES == 0 || rounds >= (1 << 32) || !body_goes_on(depth, inner, body) {
         return Ok(None);
     }
     let round = lifted_body(alloc, depth, body)?;
@@ -120,8 +124,8 @@ fn joined_phases(
     Ok(made)
 }
 
-/// A program that does the same, where a loop and the one that stands alone in it are one loop, as far as all places go on from
-/// the last round of the inner loop to its first round in the next of the outer one.
+/// A program that does the same, where an innermost loop and the one in which it stands alone are one loop, as far as all places
+/// go on from the last round of the inner loop to its first round in the next of the outer one, and lanes need more rounds.
 pub fn join_loops(alloc: Global, program: &Program) -> Result<Program, NoMemory>
     ensures { IfOk result (λ made. plain_program made ≡ joined (plain_program program.now)) }
 {

@@ -1,8 +1,8 @@
 // Whether places go on from round to round of two loops, one in the other.
 
 ghost use Rattle.std.specs.Prelude.{◌≡◌, ◌+◌, ◌^◌, ◌<◌};
-ghost use Rattle.icode.specs.Plain.{plain_expr, plain_op, plain_stmt, plain_body};
-ghost use Rattle.fast_loops.specs.JoinedLoops.JoinedLoops.{place_goes_on, op_goes_on, stmt_goes_on, body_goes_on};
+ghost use Rattle.icode.specs.Plain.{plain_expr, plain_op, plain_body};
+ghost use Rattle.fast_loops.specs.JoinedLoops.JoinedLoops.{place_goes_on, op_goes_on, body_goes_on};
 
 use crate::parts::{are_linear, stride};
 use icode::program::{Expr, Op, Stmt};
@@ -34,26 +34,19 @@ fn op_goes_on(depth: u64, inner: u64, op: &Op) -> bool
     }
 }
 
-#[cycle(going)]
-fn stmt_goes_on(depth: u64, inner: u64, stmt: &Stmt) -> bool
-    requires { depth + 1 < 2 ^ 64 }
-    ensures { result ≡ stmt_goes_on depth inner (plain_stmt stmt.now) }
-{
-    match stmt {
-        Stmt::Loop { body, .. } => body_goes_on(depth, inner, body),
-        Stmt::Do(op) => op_goes_on(depth, inner, op),
-    }
-}
-
-/// Whether all places of the statements go on so.
-#[cycle(going)]
+/// Whether the statements are operations alone, all of whose places go on so.
 pub(crate) fn body_goes_on(depth: u64, inner: u64, body: &[Stmt]) -> bool
     requires { depth + 1 < 2 ^ 64 }
     ensures { result ≡ body_goes_on depth inner (plain_body body.now) }
 {
     for stmt in body {
-        if !stmt_goes_on(depth, inner, stmt) {
-            return false;
+        match stmt {
+            Stmt::Loop { .. } => return false,
+            Stmt::Do(op) => {
+                if !op_goes_on(depth, inner, op) {
+                    return false;
+                }
+            }
         }
     }
     true
