@@ -1,5 +1,6 @@
 -- Bodies of one loop and of others, as code takes them apart.
-use Rattle.std.proofs.Common.{◌≡◌, ◌≢◌, Vec, Global, ℕ, ◌+◌, ◌≤◌, List, [], ◌∷◌, Bool, true, false, ap, ap₂, sym, ◌∙◌, arith, refl, get_or, length}
+use Rattle.std.proofs.Common.{◌≡◌, ◌≢◌, Vec, Global, ℕ, ◌+◌, ◌≤◌, List, [], ◌∷◌, Bool, true, false, ap, ap₂, sym, ◌∙◌}
+use Rattle.std.proofs.Common.{arith, refl, get_or, length}
 use Rattle.std.specs.Prelude.{◌*◌, ◌&&◌, nat_le, slice_set, if◌then◌else◌}
 use Rattle.std.proofs.lemmas.Bool.{le-leb}
 use Rattle.icode.specs.declared.program.Op.{Op}
@@ -11,9 +12,11 @@ use Rattle.icode.proofs.Views.{plain_stmt-Do, plain_stmt-Loop}
 use Rattle.fast_loops.specs.Interchange.{counts_in, round_in, looped, nest_stmt, within, sunk, ordered}
 use Rattle.fast_loops.specs.Places.{stride, exchanged_round}
 use Rattle.fast_loops.specs.Rounds.{first_load, steps_less}
-use Rattle.fast_loops.specs.View.{loops_in, are_nested_in, last_stride_in, one_loop, exchanged_in, sunk_loop, ordered_loop}
+use Rattle.fast_loops.specs.View.{loops_in, are_nested_in, last_stride_in, one_loop, exchanged_in, sunk_loop}
+use Rattle.fast_loops.specs.View.{ordered_loop}
 use Rattle.fast_loops.proofs.Looped.{looped_is}
-use Rattle.fast_loops.proofs.Counts.{round-inner, inner-round, counts-looped, round-looped, inner-exchanged, inner-ordered, long-ordered}
+use Rattle.fast_loops.proofs.Counts.{round-inner, inner-round, counts-looped, round-looped, inner-exchanged}
+use Rattle.fast_loops.proofs.Counts.{inner-ordered, long-ordered}
 
 only : (items : List Stmt) (x : Stmt) → length items ≡ 1 → x ≡ get_or items 0 x → items ≡ x ∷ []
 only [] x one e = absurd (omega (arith, one))

@@ -1,5 +1,6 @@
 -- Different rounds of loops one in the other are apart.
-use Rattle.std.proofs.Common.{◌≡◌, ◌≢◌, ◌⊎◌, ℕ, ◌+◌, ◌<◌, ◌≤◌, true, false, not, List, All, Contains, flat_map, refl, ap, arith, inl, inr, ⊎_elim, true≢false}
+use Rattle.std.proofs.Common.{◌≡◌, ◌≢◌, ◌⊎◌, ℕ, ◌+◌, ◌<◌, ◌≤◌, true, false, not, List, All, Contains, flat_map, refl}
+use Rattle.std.proofs.Common.{ap, arith, inl, inr, ⊎_elim, true≢false}
 use Rattle.std.specs.List.{range_with_len}
 use Rattle.std.proofs.lemmas.Bool.{not-true}
 use Rattle.std.proofs.lemmas.List.Elements.{All-head, All-tail, Contains-append_cases}
@@ -11,7 +12,8 @@ use Rattle.icode.specs.declared.program.Array.TheVariants.{X, Y, A, B}
 use Rattle.icode.specs.Actions.{Step, StepFits, actions_of, array_start, step_of, steps_of_body}
 use Rattle.icode.specs.Expression.{sum_numbers, parts_numbers}
 use Rattle.icode.specs.Machine.{stored_words, whole_lines}
-use Rattle.icode.specs.Plain.{PlainParts, PlainOp, PlainBody, PlainProgram, Sum, Load, Store, Loop, Do, NoStmts, AndStmts}
+use Rattle.icode.specs.Plain.{PlainParts, PlainOp, PlainBody, PlainProgram, Sum, Load, Store, Loop, Do, NoStmts}
+use Rattle.icode.specs.Plain.{AndStmts}
 use Rattle.icode.proofs.Bools.{both_true}
 use Rattle.icode.proofs.Lines.{Contains-nil}
 use Rattle.fast_loops.specs.Places.{are_linear, is_linear}

@@ -1,5 +1,6 @@
 -- An interchanged body has as many steps.
-use Rattle.std.proofs.Common.{◌≡◌, ℕ, ◌+◌, ◌*◌, List, [], ◌∷◌, Bool, true, false, length, refl, sym, ap, ap₂, ◌∙◌, arith, mul_left_comm}
+use Rattle.std.proofs.Common.{◌≡◌, ℕ, ◌+◌, ◌*◌, List, [], ◌∷◌, Bool, true, false, length, refl, sym, ap, ap₂, ◌∙◌}
+use Rattle.std.proofs.Common.{arith, mul_left_comm}
 use Rattle.std.specs.Prelude.{if◌then◌else◌}
 use Rattle.icode.specs.Actions.{steps_of_body}
 use Rattle.icode.specs.Lengths.{len_of_stmt, len_of_body}
@@ -7,7 +8,8 @@ use Rattle.icode.specs.Plain.{PlainStmt, PlainBody, PlainProgram, Loop, Do, NoSt
 use Rattle.icode.proofs.Lengths.{body_length}
 use Rattle.fast_loops.specs.Places.{exchanged_round}
 use Rattle.fast_loops.specs.Rounds.{first_store, first_load, steps_less, are_independent}
-use Rattle.fast_loops.specs.Interchange.{Nest, counts_in, round_in, looped, nest_stmt, within, sunk, ordered, interchanged_nest, interchanged_body}
+use Rattle.fast_loops.specs.Interchange.{Nest, counts_in, round_in, looped, nest_stmt, within, sunk, ordered}
+use Rattle.fast_loops.specs.Interchange.{interchanged_nest, interchanged_body}
 use Rattle.fast_loops.proofs.Looped.{looped_is}
 
 round_len : (loop : ℕ) (body : PlainBody) → len_of_body (exchanged_round loop body) ≡ len_of_body body

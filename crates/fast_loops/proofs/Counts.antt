@@ -4,7 +4,8 @@ use Rattle.std.specs.Prelude.{◌*◌, ◌&&◌, nat_le, Option, Some, None, if�
 use Rattle.icode.specs.Plain.{PlainParts, PlainBody, Loop, Do, NoStmts, AndStmts}
 use Rattle.fast_loops.specs.Interchange.{counts_in, round_in, looped, within, sunk, ordered, interchanged_nest}
 use Rattle.fast_loops.specs.Places.{stride, are_linear, exchanged_round}
-use Rattle.fast_loops.specs.Rounds.{Stored, first_store, first_load, steps_less, are_nested, last_stride, are_placed, are_apart, are_independent}
+use Rattle.fast_loops.specs.Rounds.{Stored, first_store, first_load, steps_less, are_nested, last_stride, are_placed}
+use Rattle.fast_loops.specs.Rounds.{are_apart, are_independent}
 use Rattle.fast_loops.specs.View.{are_nested_in, last_stride_in, are_apart_in, are_independent_in, ordered_loop}
 
 -- no loop stands around innermost statements

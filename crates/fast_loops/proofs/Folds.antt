@@ -1,10 +1,12 @@
 -- Loops of rounds, one in the other, in either order.
-use Rattle.std.proofs.Common.{◌≡◌, ◌≢◌, ◌⊎◌, ℕ, zero, suc, ◌<◌, List, [], ◌++◌, flat_map, inl, sym, ap, ap₂, ◌∙◌, arith, append-nil, append_assoc, refl}
+use Rattle.std.proofs.Common.{◌≡◌, ◌≢◌, ◌⊎◌, ℕ, zero, suc, ◌<◌, List, [], ◌++◌, flat_map, inl, sym, ap, ap₂, ◌∙◌, arith}
+use Rattle.std.proofs.Common.{append-nil, append_assoc, refl}
 use Rattle.std.specs.List.{range_with_len}
 use Rattle.std.proofs.Math.Path.{fun_ext}
 use Rattle.icode.specs.declared.action.Action.{Action}
 use Rattle.fast_loops.proofs.Acts.{DoTheSame}
-use Rattle.fast_loops.proofs.Same.{flat_map-last, flat_map-none, same-nothing, same-sym, same-trans, same-between, same-append, same-loops}
+use Rattle.fast_loops.proofs.Same.{flat_map-last, flat_map-none, same-nothing, same-sym, same-trans, same-between}
+use Rattle.fast_loops.proofs.Same.{same-append, same-loops}
 
 module _ (m lanes : ℕ) where
   -- the memory they leave hangs on no register

@@ -1,8 +1,10 @@
 -- Codes whose processors' lists do the same in each phase leave the same memory in order.
-use Rattle.std.proofs.Common.{◌≡◌, ℕ, zero, suc, ◌+◌, ◌<◌, ◌≤◌, List, [], ◌∷◌, map, length, refl, sym, ap, ap₂, ◌∙◌, arith}
+use Rattle.std.proofs.Common.{◌≡◌, ℕ, zero, suc, ◌+◌, ◌<◌, ◌≤◌, List, [], ◌∷◌, map, length, refl, sym, ap, ap₂, ◌∙◌}
+use Rattle.std.proofs.Common.{arith}
 use Rattle.std.specs.Prelude.{slice_index_or, slice_set}
 use Rattle.icode.specs.declared.action.Action.{Action}
-use Rattle.icode.specs.Machine.{Code, Whole, Local, acts, effects, start, processor_alone, processors_alone, phases_alone, in_order}
+use Rattle.icode.specs.Machine.{Code, Whole, Local, acts, effects, start, processor_alone, processors_alone}
+use Rattle.icode.specs.Machine.{phases_alone, in_order}
 use Rattle.icode.proofs.CodeLaws.Stores.{length-registers}
 use Rattle.fast_loops.proofs.Acts.{DoTheSame}
 

@@ -1,5 +1,6 @@
 -- Rounds that read no register of others leave the same memory, whatever stands in the registers.
-use Rattle.std.proofs.Common.{◌≡◌, ℕ, zero, suc, ◌+◌, ◌*◌, ◌<◌, ◌≤◌, inl, inr, List, [], ◌∷◌, ◌++◌, length, map, Contains, refl, sym, ap, ap₂, ◌∙◌, arith, mul-le-mul_left}
+use Rattle.std.proofs.Common.{◌≡◌, ℕ, zero, suc, ◌+◌, ◌*◌, ◌<◌, ◌≤◌, inl, inr, List, [], ◌∷◌, ◌++◌, length, map}
+use Rattle.std.proofs.Common.{Contains, refl, sym, ap, ap₂, ◌∙◌, arith, mul-le-mul_left}
 use Rattle.std.specs.Prelude.{flat_map, slice_get, slice_set}
 use Rattle.std.specs.List.{range_with_len}
 use Rattle.std.proofs.lemmas.Bool.{cases_eq, cases_lt}
@@ -8,12 +9,15 @@ use Rattle.std.proofs.lemmas.List.Elements.{Contains-append_left, Contains-appen
 use Rattle.ring_mod.specs.Residue.{sum_mod, difference_mod, negation_mod, product_mod}
 use Rattle.icode.specs.declared.action.Action.{Action}
 use Rattle.icode.specs.declared.action.Action.TheVariants.{Load, Store, Zero, Add, Sub, Neg, Mul, Tile}
-use Rattle.icode.specs.Machine.{Local, effect, effects, memory_after, value_put, register_put, register_of, words_at, with_words, lane_by_lane, transposed}
-use Rattle.icode.proofs.Words.{same_from_slice_get, slice_index-agree, slice_get-set_agree, words_at-agree, length-words_at}
+use Rattle.icode.specs.Machine.{Local, effect, effects, memory_after, value_put, register_put, register_of, words_at}
+use Rattle.icode.specs.Machine.{with_words, lane_by_lane, transposed}
+use Rattle.icode.proofs.Words.{same_from_slice_get, slice_index-agree, slice_get-set_agree, words_at-agree}
+use Rattle.icode.proofs.Words.{length-words_at}
 use Rattle.icode.proofs.Lines.{Contains-nil, Contains-range}
 use Rattle.icode.proofs.Transposes.{length-transposed}
 use Rattle.icode.proofs.CodeLaws.Placing.{length-slice_set, length-with_words, length-lane_by_lane, length-mapped}
-use Rattle.fast_loops.proofs.Acts.{IsFresh, AreFresh, IsWide, AreWide, IsRound, next_after, loaded_words, Loads, memory_by, DoTheSame}
+use Rattle.fast_loops.proofs.Acts.{IsFresh, AreFresh, IsWide, AreWide, IsRound, next_after, loaded_words, Loads}
+use Rattle.fast_loops.proofs.Acts.{memory_by, DoTheSame}
 
 -- ---- words
 

@@ -1,12 +1,18 @@
 -- Interchanged loops stand within the limits of programs.
-use Rattle.std.proofs.Common.{◌≡◌, ◌≢◌, ◌⊎◌, inl, inr, ℕ, suc, ◌+◌, ◌<◌, ◌≤◌, List, [], ◌∷◌, Bool, true, false, ap, sym, ◌∙◌, arith, refl, ltb-true, lt-ltb, map, length}
+use Rattle.std.proofs.Common.{◌≡◌, ◌≢◌, ◌⊎◌, inl, inr, ℕ, suc, ◌+◌, ◌<◌, ◌≤◌, List, [], ◌∷◌, Bool, true, false, ap, sym}
+use Rattle.std.proofs.Common.{◌∙◌, arith, refl, ltb-true, lt-ltb, map, length}
 use Rattle.std.specs.Prelude.{◌&&◌, ◌==◌, nat_lt, nat_le, max, if◌then◌else◌}
 use Rattle.std.specs.List.{list_all}
 use Rattle.std.proofs.lemmas.Bool.{leb-true, le-leb, and_parts, and_from}
 use Rattle.std.proofs.lemmas.Bool.Decides.{eqb_tells}
-use Rattle.icode.specs.Limits.{rank, next_rank, is_small, is_small_positive, is_part_within, are_parts_within, all_parts, part_parts, parts_depth, part_depth, is_expr_within, is_op_within, is_stmt_within, is_body_within, are_phases_within}
-use Rattle.icode.specs.Plain.{PlainExpr, PlainParts, PlainOp, PlainStmt, PlainBody, Sum, NoParts, AndParts, Proc, Var, Product, Rem, Quot, Load, Store, Zero, Add, Sub, Neg, MulConst, MulTable, Tile, Loop, Do, NoStmts, AndStmts}
-use Rattle.fast_loops.specs.Interchange.{Nest, counts_in, round_in, looped, nest_stmt, within, sunk, ordered, interchanged_nest, interchanged_body}
+use Rattle.icode.specs.Limits.{rank, next_rank, is_small, is_small_positive, is_part_within, are_parts_within}
+use Rattle.icode.specs.Limits.{all_parts, part_parts, parts_depth, part_depth, is_expr_within, is_op_within}
+use Rattle.icode.specs.Limits.{is_stmt_within, is_body_within, are_phases_within}
+use Rattle.icode.specs.Plain.{PlainExpr, PlainParts, PlainOp, PlainStmt, PlainBody, Sum, NoParts, AndParts, Proc, Var}
+use Rattle.icode.specs.Plain.{Product, Rem, Quot, Load, Store, Zero, Add, Sub, Neg, MulConst, MulTable, Tile, Loop, Do}
+use Rattle.icode.specs.Plain.{NoStmts, AndStmts}
+use Rattle.fast_loops.specs.Interchange.{Nest, counts_in, round_in, looped, nest_stmt, within, sunk, ordered}
+use Rattle.fast_loops.specs.Interchange.{interchanged_nest, interchanged_body}
 use Rattle.fast_loops.specs.Places.{exchanged_first, exchanged_parts, exchanged_place, exchanged_op, exchanged_round}
 use Rattle.fast_loops.specs.Rounds.{first_store, first_load, steps_less, are_independent}
 use Rattle.fast_loops.specs.View.{loops_in, is_shallow, are_shallow}

@@ -1,13 +1,18 @@
 -- Linear places: their values, and the steps of a round where two loops are interchanged.
-use Rattle.std.proofs.Common.{◌≡◌, ◌≢◌, ℕ, zero, suc, ◌+◌, ◌*◌, ◌<◌, ◌≤◌, Bool, true, false, not, cond, ◌&&◌, List, [], ◌∷◌, ◌++◌, length, refl, sym, ap, ap₂, ◌∙◌, subst, arith, inl, inr, eq-eqb, ne_eqb, leb-true, le-leb, eqb-true}
+use Rattle.std.proofs.Common.{◌≡◌, ◌≢◌, ℕ, zero, suc, ◌+◌, ◌*◌, ◌<◌, ◌≤◌, Bool, true, false, not, cond, ◌&&◌, List, []}
+use Rattle.std.proofs.Common.{◌∷◌, ◌++◌, length, refl, sym, ap, ap₂, ◌∙◌, subst, arith, inl, inr, eq-eqb, ne_eqb}
+use Rattle.std.proofs.Common.{leb-true, le-leb, eqb-true}
 use Rattle.std.specs.Prelude.{slice_index, nat_le, ◌==◌, if◌then◌else◌}
 use Rattle.std.proofs.lemmas.Bool.{cases_eq, true≢false}
 use Rattle.icode.specs.Expression.{Numbers, alone, with_part, with_sum, sum_numbers, parts_numbers}
 use Rattle.icode.specs.declared.program.Array.{Array}
 use Rattle.icode.specs.Actions.{Step, step_of, steps_of_body}
-use Rattle.icode.specs.Plain.{PlainExpr, PlainParts, PlainPart, PlainOp, PlainBody, PlainProgram, Sum, NoParts, AndParts, Proc, Var, Product, Rem, Quot, Load, Store, Zero, Add, Sub, Neg, MulConst, MulTable, Tile, Loop, Do, NoStmts, AndStmts}
+use Rattle.icode.specs.Plain.{PlainExpr, PlainParts, PlainPart, PlainOp, PlainBody, PlainProgram, Sum, NoParts}
+use Rattle.icode.specs.Plain.{AndParts, Proc, Var, Product, Rem, Quot, Load, Store, Zero, Add, Sub, Neg, MulConst}
+use Rattle.icode.specs.Plain.{MulTable, Tile, Loop, Do, NoStmts, AndStmts}
 use Rattle.icode.proofs.Bools.{both_true}
-use Rattle.fast_loops.specs.Places.{are_linear, is_linear, stride, same_part, same_parts, exchanged_first, exchanged_parts, exchanged_place, exchanged_op, exchanged_round}
+use Rattle.fast_loops.specs.Places.{are_linear, is_linear, stride, same_part, same_parts, exchanged_first}
+use Rattle.fast_loops.specs.Places.{exchanged_parts, exchanged_place, exchanged_op, exchanged_round}
 use Rattle.fast_loops.specs.Rounds.{Stored, same_array, is_placed, are_placed}
 
 -- ---- the values of two loops one in the other

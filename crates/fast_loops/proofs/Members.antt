@@ -1,6 +1,7 @@
 -- Lists whose items are items of others.
 use Rattle.std.proofs.Common.{zero, suc, List, [], ◌∷◌, All, map, flat_map, arith, subst, ⊎_elim, Contains}
-use Rattle.std.proofs.lemmas.List.Elements.{Contains-get_or, Contains-append_left, Contains-append_right, Contains-append_cases}
+use Rattle.std.proofs.lemmas.List.Elements.{Contains-get_or, Contains-append_left, Contains-append_right}
+use Rattle.std.proofs.lemmas.List.Elements.{Contains-append_cases}
 use Rattle.icode.proofs.Lines.{Contains-head, Contains-tail, Contains-nil, Contains-map}
 
 module _ {X : Type 0} where

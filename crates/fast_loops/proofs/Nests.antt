@@ -1,5 +1,7 @@
 -- A nest with its loops in order does what the nest did, and so do the bodies of phases.
-use Rattle.std.proofs.Common.{◌≡◌, ◌≢◌, ◌⊎◌, ◌&&◌, ℕ, ◌+◌, ◌<◌, List, [], ◌∷◌, ◌++◌, Bool, true, false, All, Option, Some, None, flat_map, length, refl, sym, ap, ◌∙◌, subst, arith, append-nil, append_assoc, length-append}
+use Rattle.std.proofs.Common.{◌≡◌, ◌≢◌, ◌⊎◌, ◌&&◌, ℕ, ◌+◌, ◌<◌, List, [], ◌∷◌, ◌++◌, Bool, true, false, All, Option}
+use Rattle.std.proofs.Common.{Some, None, flat_map, length, refl, sym, ap, ◌∙◌, subst, arith, append-nil, append_assoc}
+use Rattle.std.proofs.Common.{length-append}
 use Rattle.std.specs.Prelude.{if◌then◌else◌}
 use Rattle.std.specs.List.{range_with_len}
 use Rattle.std.proofs.Math.Path.{fun_ext}
@@ -9,8 +11,10 @@ use Rattle.icode.specs.Plain.{PlainStmt, PlainBody, PlainProgram, Loop, Do, NoSt
 use Rattle.icode.specs.CodeLaws.Nests.{AreInRange}
 use Rattle.icode.proofs.Bools.{both_true}
 use Rattle.fast_loops.specs.Places.{are_linear, exchanged_round}
-use Rattle.fast_loops.specs.Rounds.{Stored, are_fresh, are_placed, are_nested, last_stride, first_store, first_load, are_independent, steps_less}
-use Rattle.fast_loops.specs.Interchange.{Nest, counts_in, round_in, is_nest, are_nests, nest_stmt, within, sunk, ordered, interchanged_nest, interchanged_body}
+use Rattle.fast_loops.specs.Rounds.{Stored, are_fresh, are_placed, are_nested, last_stride, first_store, first_load}
+use Rattle.fast_loops.specs.Rounds.{are_independent, steps_less}
+use Rattle.fast_loops.specs.Interchange.{Nest, counts_in, round_in, is_nest, are_nests, nest_stmt, within, sunk}
+use Rattle.fast_loops.specs.Interchange.{ordered, interchanged_nest, interchanged_body}
 use Rattle.fast_loops.proofs.Acts.{AreApart}
 use Rattle.fast_loops.proofs.Folds.{exchanged_loops}
 use Rattle.fast_loops.proofs.Linear.{wrong, has_linear_places, placed_linear, linear_exchanged, exchanged_steps}
@@ -18,8 +22,10 @@ use Rattle.fast_loops.proofs.Fresh.{fresh_exchanged}
 use Rattle.fast_loops.proofs.Apart.{apart_rounds}
 use Rattle.fast_loops.proofs.Changes.{for-nil, for-append, for-exchange, for-trans}
 use Rattle.fast_loops.proofs.Looped.{looped_is}
-use Rattle.fast_loops.proofs.Ranges.{long_range, in_both, in_more, turned, turned_back, turned_in_range, split_range, others_behind}
-use Rattle.fast_loops.proofs.Rows.{StepsFit, all_fit, For, joined, acts_of, rows, loops_for, alone_for, rows_itself, in_rows, rows_sure, rows_commute}
+use Rattle.fast_loops.proofs.Ranges.{long_range, in_both, in_more, turned, turned_back, turned_in_range, split_range}
+use Rattle.fast_loops.proofs.Ranges.{others_behind}
+use Rattle.fast_loops.proofs.Rows.{StepsFit, all_fit, For, joined, acts_of, rows, loops_for, alone_for, rows_itself}
+use Rattle.fast_loops.proofs.Rows.{in_rows, rows_sure, rows_commute}
 
 -- the rounds of loops of these counts are apart from one another
 abbrev AllApart : PlainProgram → ℕ → List ℕ → PlainBody → Type 0

@@ -1,5 +1,6 @@
 -- Values of linear places by what the loops' values add, and how far values of different rounds are from one another.
-use Rattle.std.proofs.Common.{◌≡◌, ◌≢◌, ◌⊎◌, ℕ, zero, suc, ◌+◌, ◌*◌, ◌<◌, ◌≤◌, true, List, [], ◌∷◌, refl, sym, ap, ap₂, ◌∙◌, arith, inl, inr, leb-true, mul-le-mul_left}
+use Rattle.std.proofs.Common.{◌≡◌, ◌≢◌, ◌⊎◌, ℕ, zero, suc, ◌+◌, ◌*◌, ◌<◌, ◌≤◌, true, List, [], ◌∷◌, refl, sym, ap, ap₂}
+use Rattle.std.proofs.Common.{◌∙◌, arith, inl, inr, leb-true, mul-le-mul_left}
 use Rattle.std.specs.Prelude.{slice_index, nat_le}
 use Rattle.std.proofs.lemmas.Bool.{cases_order}
 use Rattle.icode.specs.CodeLaws.Nests.{AreInRange}

@@ -1,12 +1,15 @@
 -- Code's parts and statements, as the definitions see them.
-use Rattle.std.proofs.Common.{◌≡◌, map, ℕ, zero, suc, ◌+◌, ◌<◌, List, [], ◌∷◌, Bool, true, false, Some, None, ap, sym, ◌∙◌, drop, arith, refl, get_or, length, add-one, drop-cons}
+use Rattle.std.proofs.Common.{◌≡◌, map, ℕ, zero, suc, ◌+◌, ◌<◌, List, [], ◌∷◌, Bool, true, false, Some, None, ap, sym}
+use Rattle.std.proofs.Common.{◌∙◌, drop, arith, refl, get_or, length, add-one, drop-cons}
 use Rattle.std.specs.Prelude.{◌&&◌, ◌==◌, if◌then◌else◌}
 use Rattle.std.specs.List.{list_all}
 use Rattle.icode.specs.declared.program.Op.{Op}
 use Rattle.icode.specs.declared.program.Part.{Part}
 use Rattle.icode.specs.declared.program.Stmt.{Stmt}
 use Rattle.icode.specs.declared.program.Stmt.TheVariants.{Do}
-use Rattle.icode.specs.Plain.{PlainOp, PlainPart, PlainParts, PlainStmt, PlainBody, AndParts, NoStmts, AndStmts, Var, Proc, Product, Rem, Quot, Load, Store, Zero, Add, Sub, Neg, MulConst, MulTable, Tile, body_of, plain_part, plain_op, plain_stmt, plain_body}
+use Rattle.icode.specs.Plain.{PlainOp, PlainPart, PlainParts, PlainStmt, PlainBody, AndParts, NoStmts, AndStmts, Var}
+use Rattle.icode.specs.Plain.{Proc, Product, Rem, Quot, Load, Store, Zero, Add, Sub, Neg, MulConst, MulTable, Tile}
+use Rattle.icode.specs.Plain.{body_of, plain_part, plain_op, plain_stmt, plain_body}
 use Rattle.icode.specs.Plain as plain
 use Rattle.icode.proofs.Bools.{both_true}
 use Rattle.icode.proofs.Views.{plain_stmt-Do}

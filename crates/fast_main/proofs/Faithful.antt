@@ -1,5 +1,6 @@
 -- The words of a program that passes the check leave what it leaves.
-use Rattle.std.proofs.Common.{◌≡◌, ℕ, ◌*◌, All, length, ◌<◌, ◌≤◌, Bool, true, false, List, map, inl, inr, refl, sym, ap, subst, ◌∙◌}
+use Rattle.std.proofs.Common.{◌≡◌, ℕ, ◌*◌, All, length, ◌<◌, ◌≤◌, Bool, true, false, List, map, inl, inr, refl, sym, ap}
+use Rattle.std.proofs.Common.{subst, ◌∙◌}
 use Rattle.std.specs.Prelude.{if◌then◌else◌}
 use Rattle.std.specs.List.{list_all}
 use Rattle.icode.specs.Actions.{PlainFits, plain_code}
@@ -33,7 +34,8 @@ use Rattle.word_code.specs.View.{plain_word_program}
 use Rattle.word_code.specs.WordMachine.{word_results}
 use Rattle.word_code.specs.WordProgram.{PlainWordProgram, word_code}
 use Rattle.fast_main.specs.FastWords.Asked.{IsLaneCount}
-use Rattle.fast_main.specs.Translation.{has_cheap_products, on_several, on_lanes, in_blocks, prepared, words_for, IsFaithful, AreSoundWords}
+use Rattle.fast_main.specs.Translation.{has_cheap_products, on_several, on_lanes, in_blocks, prepared, words_for}
+use Rattle.fast_main.specs.Translation.{IsFaithful, AreSoundWords}
 
 -- ---- the prepared program
 

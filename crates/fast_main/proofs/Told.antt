@@ -1,5 +1,6 @@
 -- What the bytes of the input account for.
-use Rattle.std.proofs.Common.{◌≡◌, ◌≢◌, ℕ, ◌<◌, ◌≤◌, List, [], ◌++◌, length, None, Some, Err, inl, inr, refl, sym, ap, subst, ◌∙◌, append_assoc}
+use Rattle.std.proofs.Common.{◌≡◌, ◌≢◌, ℕ, ◌<◌, ◌≤◌, List, [], ◌++◌, length, None, Some, Err, inl, inr, refl, sym, ap}
+use Rattle.std.proofs.Common.{subst, ◌∙◌, append_assoc}
 use Rattle.std.specs.declared.option.Option.{Option}
 use Rattle.std.specs.Io.KnownBytes.{Appends, Consumes, prepend_known}
 use Rattle.io_edge.specs.Told.{IsOver, Tells}
@@ -16,7 +17,8 @@ use Rattle.io_edge.specs.Feed.{Fed, to_come}
 use Rattle.io_edge.specs.Taken.{AppendsPrefix}
 use Rattle.fast_main.specs.declared.status.Status.{Status}
 use Rattle.fast_main.specs.declared.status.Status.TheVariants.{Success, Usage, WriteFault}
-use Rattle.fast_main.specs.Outcome.{IsRefused, IsTranslated, IsDefined, IsInside, IsOutcome, AreJudged, HasReadListing, Accounts, AccountsFor}
+use Rattle.fast_main.specs.Outcome.{IsRefused, IsTranslated, IsDefined, IsInside, IsOutcome, AreJudged, HasReadListing}
+use Rattle.fast_main.specs.Outcome.{Accounts, AccountsFor}
 use Rattle.fast_main.specs.Status.{listing_limit, status_of_rest, status_of_words}
 
 -- what was read of a listing that has ended is the first part of the input

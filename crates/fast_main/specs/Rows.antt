@@ -2,7 +2,9 @@
 use Rattle.std.specs.Prelude.{[], ◌∷◌, None, Some, codes}
 use Rattle.io_edge.specs.StatusRows.Rows.{PlainRow, row}
 use Rattle.fast_main.specs.declared.status.Status.{Status}
-use Rattle.fast_main.specs.declared.status.Status.TheVariants.{Success, Usage, ListingSyntax, OverSteps, Address, Register, LineShared, WideModulus, ReadFault, WriteFault, NoMemory, TooLong}
+use Rattle.fast_main.specs.declared.status.Status.TheVariants.{Success, Usage, ListingSyntax, OverSteps, Address}
+use Rattle.fast_main.specs.declared.status.Status.TheVariants.{Register, LineShared, WideModulus, ReadFault, WriteFault}
+use Rattle.fast_main.specs.declared.status.Status.TheVariants.{NoMemory, TooLong}
 
 abbrev pub row_of : Status → PlainRow
 row_of Success = row 0 []

@@ -1,9 +1,11 @@
 -- One processor and one phase: what actions leave one after another, on words and on residues.
-use Rattle.std.proofs.Common.{◌≡◌, ℕ, zero, suc, ◌+◌, ◌-◌, ◌*◌, ◌<◌, ◌≤◌, List, [], ◌∷◌, ◌++◌, replicate, refl, sym, ap, ap₂, ◌∙◌, subst, arith, mul-le-mul_left, ⊎_elim}
+use Rattle.std.proofs.Common.{◌≡◌, ℕ, zero, suc, ◌+◌, ◌-◌, ◌*◌, ◌<◌, ◌≤◌, List, [], ◌∷◌, ◌++◌, replicate, refl, sym, ap}
+use Rattle.std.proofs.Common.{ap₂, ◌∙◌, subst, arith, mul-le-mul_left, ⊎_elim}
 use Rattle.std.specs.Prelude.{Contains, flat_map, slice_index, slice_index_or}
 use Rattle.std.proofs.lemmas.Bool.{cases_lt}
 use Rattle.icode.specs.declared.action.Action.{Action}
-use Rattle.icode.specs.Machine.{Code, IsCode, IsApart, Local, acts, effects, touched_words, stored_words, lines_of, start, in_order, results, padded, words_at}
+use Rattle.icode.specs.Machine.{Code, IsCode, IsApart, Local, acts, effects, touched_words, stored_words, lines_of}
+use Rattle.icode.specs.Machine.{start, in_order, results, padded, words_at}
 use Rattle.icode.proofs.Lines.{Contains-nil}
 use Rattle.icode.proofs.Runs.{memory_of_runs}
 use Rattle.word_code.specs.Words.{Width}

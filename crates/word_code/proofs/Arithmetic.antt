@@ -1,11 +1,14 @@
 -- Lazy residues: words below a multiple of m that stand for residues.
-use Rattle.std.proofs.Common.{◌≡◌, ℕ, ◌+◌, ◌-◌, ◌*◌, ◌/◌, ◌%◌, ◌<◌, ◌≤◌, arith, refl, sym, ap, ◌∙◌, subst, mul-le-mul_left, ⊎_elim, min, cond, true, false, ap₂}
-use Rattle.std.proofs.Math.Nat.{add-mod, add-mul-mod_self_left, mul-add-mod_self_right, mod-eq_of_lt, mod-mod, min-eq_left, min-eq_right}
+use Rattle.std.proofs.Common.{◌≡◌, ℕ, ◌+◌, ◌-◌, ◌*◌, ◌/◌, ◌%◌, ◌<◌, ◌≤◌, arith, refl, sym, ap, ◌∙◌, subst}
+use Rattle.std.proofs.Common.{mul-le-mul_left, ⊎_elim, min, cond, true, false, ap₂}
+use Rattle.std.proofs.Math.Nat.{add-mod, add-mul-mod_self_left, mul-add-mod_self_right, mod-eq_of_lt, mod-mod}
+use Rattle.std.proofs.Math.Nat.{min-eq_left, min-eq_right}
 use Rattle.std.proofs.lemmas.Nat.{div-add-mod', mul-lt, mul-mod_first, mod_below, div_below, le-div}
 use Rattle.std.proofs.lemmas.Bool.{cases_lt}
 use Rattle.ring_mod.specs.Residue.{sum_mod, difference_mod, negation_mod, product_mod}
 use Rattle.ring_mod.proofs.Congruence.{same-add}
-use Rattle.word_code.specs.Words.{Width, base_of, wrapped_sum, wrapped_difference, high, rough_high, high_of, quotient_of, lazy_product, product_bound, biased_difference, reduced}
+use Rattle.word_code.specs.Words.{Width, base_of, wrapped_sum, wrapped_difference, high, rough_high, high_of}
+use Rattle.word_code.specs.Words.{quotient_of, lazy_product, product_bound, biased_difference, reduced}
 
 div_under : (n k : ℕ) → n / k * k ≤ n
 div_under n k = omega (arith, div-add-mod' n k)

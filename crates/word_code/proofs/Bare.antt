@@ -1,5 +1,6 @@
 -- The operations of a program on words are those of the program that it is made of.
-use Rattle.std.proofs.Common.{◌≡◌, ℕ, zero, suc, ◌≤◌, Bool, true, false, cond, List, [], ◌∷◌, ◌++◌, length, map, flat_map, nat_eq, refl, sym, ap, ap₂, ◌∙◌, subst, arith}
+use Rattle.std.proofs.Common.{◌≡◌, ℕ, zero, suc, ◌≤◌, Bool, true, false, cond, List, [], ◌∷◌, ◌++◌, length, map}
+use Rattle.std.proofs.Common.{flat_map, nat_eq, refl, sym, ap, ap₂, ◌∙◌, subst, arith}
 use Rattle.std.specs.Prelude.{slice_index_or}
 use Rattle.std.specs.List.{range_with_len}
 use Rattle.std.proofs.lemmas.List.{get_or_past, length-map, map-append}
@@ -7,13 +8,16 @@ use Rattle.std.proofs.lemmas.List.FromFn.{length-map-range_with_len}
 use Rattle.icode.specs.declared.action.Action.{Action}
 use Rattle.icode.specs.Actions.{Step, step_of, steps_of_stmt, steps_of_body, actions_of, plain_code}
 use Rattle.icode.specs.Machine.{Code, IsApart}
-use Rattle.icode.specs.Plain.{PlainOp, PlainStmt, PlainBody, PlainProgram, Load, Store, Zero, Add, Sub, Neg, MulConst, MulTable, Tile}
+use Rattle.icode.specs.Plain.{PlainOp, PlainStmt, PlainBody, PlainProgram, Load, Store, Zero, Add, Sub, Neg, MulConst}
+use Rattle.icode.specs.Plain.{MulTable, Tile}
 use Rattle.icode.specs.Plain as plain
 use Rattle.word_code.specs.Bare.{bare_stmt, bare_body, bare, with_bodies}
 use Rattle.word_code.specs.Needs.{needs}
-use Rattle.word_code.specs.Quicken.{Laziness, Header, header_of, loosest, loosened, quick_stmt, quick_body, quick_phase, quick_alone, quick_phases, quickened}
+use Rattle.word_code.specs.Quicken.{Laziness, Header, header_of, loosest, loosened, quick_stmt, quick_body, quick_phase}
+use Rattle.word_code.specs.Quicken.{quick_alone, quick_phases, quickened}
 use Rattle.word_code.specs.WordMachine.{WordAction, under, actions_under}
-use Rattle.word_code.specs.WordProgram.{Note, WordStmt, WordBody, PlainWordProgram, Loop, Do, NoStmts, AndStmts, word_action_of, word_actions_of_stmt, word_actions_of_body, word_code}
+use Rattle.word_code.specs.WordProgram.{Note, WordStmt, WordBody, PlainWordProgram, Loop, Do, NoStmts, AndStmts}
+use Rattle.word_code.specs.WordProgram.{word_action_of, word_actions_of_stmt, word_actions_of_body, word_code}
 use Rattle.word_code.proofs.Alone.{apart_alone}
 
 -- Notes beside operations leave the operations

@@ -1,8 +1,10 @@
 -- Statements that are quickened one after another.
-use Rattle.std.proofs.Common.{◌≡◌, ℕ, zero, suc, ◌+◌, ◌-◌, ◌*◌, ◌<◌, ◌≤◌, List, [], ◌∷◌, ◌++◌, true, Vec, Global, length, take, map, replicate, get_or, ltb-true, refl, sym, ap, ap₂, ◌∙◌, arith}
+use Rattle.std.proofs.Common.{◌≡◌, ℕ, zero, suc, ◌+◌, ◌-◌, ◌*◌, ◌<◌, ◌≤◌, List, [], ◌∷◌, ◌++◌, true, Vec, Global}
+use Rattle.std.proofs.Common.{length, take, map, replicate, get_or, ltb-true, refl, sym, ap, ap₂, ◌∙◌, arith}
 use Rattle.std.proofs.lemmas.List.{take_more}
 use Rattle.icode.specs.declared.program.Stmt.{Stmt}
-use Rattle.icode.specs.Plain.{PlainOp, PlainStmt, PlainBody, Load, Store, Zero, Add, Sub, Neg, MulConst, MulTable, Tile, plain_stmt, plain_body, body_of}
+use Rattle.icode.specs.Plain.{PlainOp, PlainStmt, PlainBody, Load, Store, Zero, Add, Sub, Neg, MulConst, MulTable, Tile}
+use Rattle.icode.specs.Plain.{plain_stmt, plain_body, body_of}
 use Rattle.icode.specs.Plain as plain
 use Rattle.icode.specs.declared.program.Array.{Array}
 use Rattle.icode.specs.declared.program.Array.TheVariants as arrays
@@ -15,7 +17,8 @@ use Rattle.icode.specs.declared.program.Op.{Op}
 use Rattle.icode.specs.Plain.{plain_op}
 use Rattle.word_code.specs.Words.{product_bound}
 use Rattle.word_code.specs.WordProgram as plain_words
-use Rattle.word_code.specs.Quicken.{Laziness, Header, QuickStmt, QuickBody, bound_at, settled, array_bound, greatest_bound, noted, loosest, quick_stmt, quick_body, quick_and}
+use Rattle.word_code.specs.Quicken.{Laziness, Header, QuickStmt, QuickBody, bound_at, settled, array_bound}
+use Rattle.word_code.specs.Quicken.{greatest_bound, noted, loosest, quick_stmt, quick_body, quick_and}
 use Rattle.word_code.specs.View.{plain_note, word_body_of, word_stmt_view, plain_word_stmt, plain_word_body}
 use Rattle.word_code.proofs.Operations.{set_sane, greatest_sane, tile_sane}
 use Rattle.word_code.proofs.Settling.{settled_sane}

@@ -1,18 +1,22 @@
 -- A program of one processor and one phase on words: what is kept of A and of B grows along its statements.
-use Rattle.std.proofs.Common.{◌≡◌, ℕ, ◌+◌, ◌*◌, ◌<◌, ◌≤◌, List, [], ◌∷◌, ◌++◌, Bool, true, false, ◌||◌, All, length, map, flat_map, refl, sym, ap, ap₂, ◌∙◌, subst, arith, mul-le-mul_left}
+use Rattle.std.proofs.Common.{◌≡◌, ℕ, ◌+◌, ◌*◌, ◌<◌, ◌≤◌, List, [], ◌∷◌, ◌++◌, Bool, true, false, ◌||◌, All, length}
+use Rattle.std.proofs.Common.{map, flat_map, refl, sym, ap, ap₂, ◌∙◌, subst, arith, mul-le-mul_left}
 use Rattle.std.specs.Prelude.{slice_index, slice_index_or, if◌then◌else◌}
 use Rattle.std.specs.List.{range_with_len}
 use Rattle.std.proofs.lemmas.List.{length-replicate, map-append}
 use Rattle.icode.specs.Actions.{Step, StepFits, PlainFits, steps_of_stmt, steps_of_body, actions_of, plain_code}
 use Rattle.icode.specs.Machine.{Local, effects, results, whole_lines, words_at}
-use Rattle.icode.specs.Plain.{PlainOp, PlainStmt, PlainBody, PlainProgram, Load, Store, Zero, Add, Sub, Neg, MulConst, MulTable, Tile}
+use Rattle.icode.specs.Plain.{PlainOp, PlainStmt, PlainBody, PlainProgram, Load, Store, Zero, Add, Sub, Neg, MulConst}
+use Rattle.icode.specs.Plain.{MulTable, Tile}
 use Rattle.icode.specs.Plain as plain
 use Rattle.icode.proofs.Lists.{code_is}
 use Rattle.word_code.specs.declared.needs.Needs.{Needs}
 use Rattle.word_code.specs.Needs.{both_needs, needs_of_stmt, needs}
 use Rattle.word_code.specs.WordMachine.{WordAction, actions_under, word_results}
-use Rattle.word_code.specs.WordProgram.{Note, WordStmt, WordBody, PlainWordProgram, Loop, Do, NoStmts, AndStmts, word_action_of, word_actions_of_stmt, word_actions_of_body, word_code}
-use Rattle.word_code.specs.Quicken.{Laziness, bound_at, loosened, loosest, header_of, quick_stmt, quick_alone, quick_phase, quick_phases, quickened}
+use Rattle.word_code.specs.WordProgram.{Note, WordStmt, WordBody, PlainWordProgram, Loop, Do, NoStmts, AndStmts}
+use Rattle.word_code.specs.WordProgram.{word_action_of, word_actions_of_stmt, word_actions_of_body, word_code}
+use Rattle.word_code.specs.Quicken.{Laziness, bound_at, loosened, loosest, header_of, quick_stmt, quick_alone}
+use Rattle.word_code.specs.Quicken.{quick_phase, quick_phases, quickened}
 use Rattle.word_code.specs.Laws.{IsLazyWithin}
 use Rattle.word_code.proofs.Residues.{residues-words_at, AllBelow, below-words_at}
 use Rattle.word_code.proofs.Bounds.{AreRegistersBelow}
@@ -20,9 +24,11 @@ use Rattle.word_code.proofs.Quick.{IsMemoryBelow, residue_local, AreQuick}
 use Rattle.word_code.proofs.Simulation.{residues-of_residues, size_within}
 use Rattle.word_code.proofs.Puts.{IsSound}
 use Rattle.word_code.proofs.Operations.{scale}
-use Rattle.word_code.proofs.Programs.{evenly, Each, each_of_all, each_front, each_back, below_of_all, loosest_is, stmt_under, stmt_leads}
+use Rattle.word_code.proofs.Programs.{evenly, Each, each_of_all, each_front, each_back, below_of_all, loosest_is}
+use Rattle.word_code.proofs.Programs.{stmt_under, stmt_leads}
 use Rattle.word_code.proofs.OneProcessor.{word_effects, results_alone}
-use Rattle.word_code.proofs.Alone.{goes_along, effects-append, word_effects-append, beginning, results_on_residues, beginning_is, begins_below, begins_low}
+use Rattle.word_code.proofs.Alone.{goes_along, effects-append, word_effects-append, beginning, results_on_residues}
+use Rattle.word_code.proofs.Alone.{beginning_is, begins_below, begins_low}
 
 -- ---- what is kept of A and of B
 

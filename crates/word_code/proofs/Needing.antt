@@ -1,12 +1,14 @@
 -- What statements need, one after another.
-use Rattle.std.proofs.Common.{◌≡◌, ℕ, zero, suc, ◌+◌, ◌-◌, ◌<◌, ◌≤◌, List, [], ◌∷◌, ◌++◌, Bool, true, false, Option, None, length, drop, get_or, refl, sym, ap, ap₂, ◌∙◌, arith}
+use Rattle.std.proofs.Common.{◌≡◌, ℕ, zero, suc, ◌+◌, ◌-◌, ◌<◌, ◌≤◌, List, [], ◌∷◌, ◌++◌, Bool, true, false, Option}
+use Rattle.std.proofs.Common.{None, length, drop, get_or, refl, sym, ap, ap₂, ◌∙◌, arith}
 use Rattle.std.specs.Prelude.{◌&&◌, ◌||◌, reverse}
 use Rattle.std.proofs.lemmas.List.{drop_all, reverse-append}
 use Rattle.icode.specs.declared.program.Stmt.{Stmt}
 use Rattle.icode.specs.Plain.{PlainStmt, Loop, plain_stmt, plain_body}
 use Rattle.icode.proofs.Steps.{drop_item}
 use Rattle.word_code.specs.declared.needs.Needs.{Needs}
-use Rattle.word_code.specs.Needs.{no_needs, both_needs, loads_of_stmt, loads_of_body, multiplies, multiply, product_of, needs_of_stmt, needs, needs_of_each}
+use Rattle.word_code.specs.Needs.{no_needs, both_needs, loads_of_stmt, loads_of_body, multiplies, multiply, product_of}
+use Rattle.word_code.specs.Needs.{needs_of_stmt, needs, needs_of_each}
 
 or_assoc : (a b c : Bool) → ((a || b) || c) ≡ (a || (b || c))
 or_assoc true b c = refl

@@ -1,24 +1,31 @@
 -- The numbers beside the operations of a program on words are words, so it fits where the program does.
-use Rattle.std.proofs.Common.{◌≡◌, ℕ, zero, suc, ◌+◌, ◌-◌, ◌*◌, ◌<◌, ◌≤◌, Bool, true, false, cond, List, [], ◌∷◌, ◌++◌, All, length, map, flat_map, nat_eq, refl, sym, ap, ◌∙◌, subst, arith, ⊎_elim, mul-le-mul_left}
+use Rattle.std.proofs.Common.{◌≡◌, ℕ, zero, suc, ◌+◌, ◌-◌, ◌*◌, ◌<◌, ◌≤◌, Bool, true, false, cond, List, [], ◌∷◌, ◌++◌}
+use Rattle.std.proofs.Common.{All, length, map, flat_map, nat_eq, refl, sym, ap, ◌∙◌, subst, arith, ⊎_elim}
+use Rattle.std.proofs.Common.{mul-le-mul_left}
 use Rattle.std.specs.Prelude.{nat_le, slice_index, slice_index_or, slice_set}
 use Rattle.std.specs.List.{range_with_len}
 use Rattle.std.proofs.lemmas.Bool.{cases_lt}
 use Rattle.std.proofs.lemmas.Nat.{div_below}
 use Rattle.std.proofs.lemmas.List.{get_or_past}
 use Rattle.std.proofs.lemmas.List.FromFn.{get_or-map-range_with_len, length-map-range_with_len}
-use Rattle.icode.specs.Actions.{Step, StepFits, PlainFits, step_of, steps_of_stmt, steps_of_body, steps_of_phase, lane_factors}
+use Rattle.icode.specs.Actions.{Step, StepFits, PlainFits, step_of, steps_of_stmt, steps_of_body, steps_of_phase}
+use Rattle.icode.specs.Actions.{lane_factors}
 use Rattle.icode.specs.Expression.{sum_numbers}
-use Rattle.icode.specs.Plain.{PlainOp, PlainStmt, PlainBody, PlainProgram, Load, Store, Zero, Add, Sub, Neg, MulConst, MulTable, Tile}
+use Rattle.icode.specs.Plain.{PlainOp, PlainStmt, PlainBody, PlainProgram, Load, Store, Zero, Add, Sub, Neg, MulConst}
+use Rattle.icode.specs.Plain.{MulTable, Tile}
 use Rattle.icode.specs.Plain as plain
 use Rattle.word_code.specs.declared.program.Reduction.{Reduction}
 use Rattle.word_code.specs.declared.needs.Needs.{Needs}
 use Rattle.word_code.specs.Bare.{ReductionFits, NumbersFit, WordsFit}
 use Rattle.word_code.specs.Laws.{IsLazyWithin}
 use Rattle.word_code.specs.Needs.{needs}
-use Rattle.word_code.specs.Quicken.{Laziness, Kept, Settled, then_settled, header_of, bound_at, half_up, greater, settled, array_bound, noted, loosest, loosened, quick_stmt, quick_body, quick_phase, quick_alone, quick_phases, quickened}
+use Rattle.word_code.specs.Quicken.{Laziness, Kept, Settled, then_settled, header_of, bound_at, half_up, greater}
+use Rattle.word_code.specs.Quicken.{settled, array_bound, noted, loosest, loosened, quick_stmt, quick_body, quick_phase}
+use Rattle.word_code.specs.Quicken.{quick_alone, quick_phases, quickened}
 use Rattle.word_code.specs.Words.{base_of, sums_of, quotient_of}
 use Rattle.word_code.specs.WordMachine.{WordAction, word_acts}
-use Rattle.word_code.specs.WordProgram.{WordBody, NoStmts, PlainWordProgram, word_action_of, word_actions_of_stmt, word_actions_of_body, word_code}
+use Rattle.word_code.specs.WordProgram.{WordBody, NoStmts, PlainWordProgram, word_action_of, word_actions_of_stmt}
+use Rattle.word_code.specs.WordProgram.{word_actions_of_body, word_code}
 use Rattle.word_code.proofs.Bare.{bare_quickened, lengths_stay}
 use Rattle.word_code.proofs.Arithmetic.{two_at_least}
 use Rattle.word_code.proofs.Flow.{loosened_lazy}

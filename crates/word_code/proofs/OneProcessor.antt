@@ -1,12 +1,14 @@
 -- Runs on words of one processor and one phase.
-use Rattle.std.proofs.Common.{◌≡◌, ℕ, zero, suc, ◌-◌, ◌<◌, ◌≤◌, List, [], ◌∷◌, ◌++◌, Bool, true, false, cond, Some, length, drop, replicate, refl, sym, ap, ◌∙◌, subst, arith, nat_lt}
+use Rattle.std.proofs.Common.{◌≡◌, ℕ, zero, suc, ◌-◌, ◌<◌, ◌≤◌, List, [], ◌∷◌, ◌++◌, Bool, true, false, cond, Some}
+use Rattle.std.proofs.Common.{length, drop, replicate, refl, sym, ap, ◌∙◌, subst, arith, nat_lt}
 use Rattle.std.specs.Prelude.{slice_get, slice_index, slice_index_or}
 use Rattle.std.proofs.lemmas.Bool.{le-ltb}
 use Rattle.std.proofs.lemmas.List.{length-drop, length-map, append-nil}
 use Rattle.icode.specs.Machine.{State, Local, acts, is_open, moved_on, completion, start, padded, words_at}
 use Rattle.icode.proofs.Open.{open_at, not_open}
 use Rattle.word_code.specs.Words.{Width}
-use Rattle.word_code.specs.WordMachine.{WordAction, WordCode, under, actions_under, word_effect, word_turn_with, word_turn, word_run, word_finished, word_results}
+use Rattle.word_code.specs.WordMachine.{WordAction, WordCode, under, actions_under, word_effect, word_turn_with}
+use Rattle.word_code.specs.WordMachine.{word_turn, word_run, word_finished, word_results}
 
 -- what a list of actions on words leaves, one after another
 abbrev pub word_effects : Width → ℕ → ℕ → List WordAction → Local → Local

@@ -1,5 +1,6 @@
 -- Each operation on words does what the operation does.
-use Rattle.std.proofs.Common.{◌≡◌, ℕ, zero, suc, ◌+◌, ◌-◌, ◌*◌, ◌/◌, ◌<◌, ◌≤◌, ◌⊎◌, inl, inr, List, [], ◌∷◌, ◌++◌, length, map, replicate, min, refl, sym, ap, ◌∙◌, subst, arith, ⊎_elim, length-append}
+use Rattle.std.proofs.Common.{◌≡◌, ℕ, zero, suc, ◌+◌, ◌-◌, ◌*◌, ◌/◌, ◌<◌, ◌≤◌, ◌⊎◌, inl, inr, List, [], ◌∷◌, ◌++◌}
+use Rattle.std.proofs.Common.{length, map, replicate, min, refl, sym, ap, ◌∙◌, subst, arith, ⊎_elim, length-append}
 use Rattle.std.specs.Prelude.{slice_index, slice_index_or, slice_set}
 use Rattle.std.specs.List.{range_with_len}
 use Rattle.std.proofs.Math.Nat.{zero-div, min-eq_right, le-max_left, le-max_right, max-le}
@@ -17,7 +18,8 @@ use Rattle.word_code.proofs.Arithmetic.{two_at_least}
 use Rattle.word_code.proofs.Residues.{AreQuotients}
 use Rattle.word_code.proofs.Quick.{Scale, IsMemoryBelow, IsQuick}
 use Rattle.word_code.proofs.Reduce.{no_reductions, IsSettled, settled_is, set_bound_here, kept_bound, length-set}
-use Rattle.word_code.proofs.Puts.{IsSound, quick_put, quick_store, zero_put, load_put, add_put, sub_put, neg_put, mul_put, tile_put}
+use Rattle.word_code.proofs.Puts.{IsSound, quick_put, quick_store, zero_put, load_put, add_put, sub_put, neg_put}
+use Rattle.word_code.proofs.Puts.{mul_put, tile_put}
 
 abbrev pub scale : Laziness → PlainProgram → Scale
 scale z p =

@@ -1,17 +1,22 @@
 -- Programs on words do what programs do.
-use Rattle.std.proofs.Common.{◌≡◌, ℕ, zero, suc, ◌<◌, ◌≤◌, List, [], ◌∷◌, ◌++◌, All, length, map, flat_map, replicate, refl, sym, ap, ap₂, ◌∙◌, subst, arith, ⊎_elim}
+use Rattle.std.proofs.Common.{◌≡◌, ℕ, zero, suc, ◌<◌, ◌≤◌, List, [], ◌∷◌, ◌++◌, All, length, map, flat_map, replicate}
+use Rattle.std.proofs.Common.{refl, sym, ap, ap₂, ◌∙◌, subst, arith, ⊎_elim}
 use Rattle.std.specs.Prelude.{slice_index_or}
 use Rattle.std.specs.List.{range_with_len}
 use Rattle.std.proofs.lemmas.Bool.{cases_lt}
 use Rattle.std.proofs.lemmas.List.{get_or_past}
 use Rattle.std.proofs.lemmas.List.FromFn.{get_or-map-range_with_len, length-map-range_with_len}
-use Rattle.icode.specs.Actions.{Step, StepFits, PlainFits, steps_of_stmt, steps_of_body, steps_of_phase, actions_of, plain_code}
+use Rattle.icode.specs.Actions.{Step, StepFits, PlainFits, steps_of_stmt, steps_of_body, steps_of_phase, actions_of}
+use Rattle.icode.specs.Actions.{plain_code}
 use Rattle.icode.specs.Machine.{results}
-use Rattle.icode.specs.Plain.{PlainOp, PlainStmt, PlainBody, PlainProgram, Load, Store, Zero, Add, Sub, Neg, MulConst, MulTable, Tile}
+use Rattle.icode.specs.Plain.{PlainOp, PlainStmt, PlainBody, PlainProgram, Load, Store, Zero, Add, Sub, Neg, MulConst}
+use Rattle.icode.specs.Plain.{MulTable, Tile}
 use Rattle.icode.specs.Plain as plain
 use Rattle.word_code.specs.WordMachine.{WordAction, WordCode, under, actions_under, word_results}
-use Rattle.word_code.specs.WordProgram.{WordBody, PlainWordProgram, word_actions_of_stmt, word_actions_of_body, word_code}
-use Rattle.word_code.specs.Quicken.{Laziness, bound_at, loosest, header_of, noted, quick_stmt, quick_body, quick_phase, quickened}
+use Rattle.word_code.specs.WordProgram.{WordBody, PlainWordProgram, word_actions_of_stmt, word_actions_of_body}
+use Rattle.word_code.specs.WordProgram.{word_code}
+use Rattle.word_code.specs.Quicken.{Laziness, bound_at, loosest, header_of, noted, quick_stmt, quick_body, quick_phase}
+use Rattle.word_code.specs.Quicken.{quickened}
 use Rattle.word_code.specs.Laws.{IsLazyWithin}
 use Rattle.word_code.specs.Bare.{bare, with_bodies}
 use Rattle.word_code.proofs.Bare.{phases_stay, stmt_stays, stmt_acts, code_under_is}

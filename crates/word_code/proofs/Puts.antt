@@ -1,18 +1,23 @@
 -- What actions on words put into registers and memory.
-use Rattle.std.proofs.Common.{◌≡◌, ℕ, zero, suc, ◌+◌, ◌*◌, ◌<◌, ◌≤◌, ◌⊎◌, List, [], length, map, flat_map, replicate, refl, sym, ap, ap₂, ◌∙◌, subst, arith, mul-le-mul_left, length-append}
+use Rattle.std.proofs.Common.{◌≡◌, ℕ, zero, suc, ◌+◌, ◌*◌, ◌<◌, ◌≤◌, ◌⊎◌, List, [], length, map, flat_map, replicate}
+use Rattle.std.proofs.Common.{refl, sym, ap, ap₂, ◌∙◌, subst, arith, mul-le-mul_left, length-append}
 use Rattle.std.specs.Prelude.{slice_index}
 use Rattle.std.specs.List.{range_with_len}
 use Rattle.ring_mod.specs.Residue.{sum_mod, difference_mod, negation_mod, product_mod}
 use Rattle.icode.specs.declared.action.Action.{Action}
 use Rattle.icode.specs.declared.action.Action.TheVariants.{Load, Store, Zero, Add, Sub, Neg, Mul, Tile}
-use Rattle.icode.specs.Machine.{Local, effect, value_put, memory_after, register_put, register_of, with_words, lane_by_lane}
+use Rattle.icode.specs.Machine.{Local, effect, value_put, memory_after, register_put, register_of, with_words}
+use Rattle.icode.specs.Machine.{lane_by_lane}
 use Rattle.icode.proofs.Words.{length-words_at}
 use Rattle.icode.proofs.CodeLaws.Placing.{length-lane_by_lane, length-mapped}
-use Rattle.word_code.specs.Words.{base_of, sums_of, product_bound, wrapped_sum, wrapped_difference, biased_difference, lazy_product}
+use Rattle.word_code.specs.Words.{base_of, sums_of, product_bound, wrapped_sum, wrapped_difference, biased_difference}
+use Rattle.word_code.specs.Words.{lazy_product}
 use Rattle.word_code.specs.declared.program.Reduction.{Reduction}
 use Rattle.word_code.specs.WordMachine.{word_put, bare_effect, reduce_registers, lane_by_three}
 use Rattle.word_code.proofs.Arithmetic.{sum_word, difference_word, negation_word}
-use Rattle.word_code.proofs.Residues.{residues, residues-words_at, residues-with_words, residues-zeros, residues-transposed, AllBelow, below-words_at, below-zeros, below-transposed, lazy_map, lazy_lanes, lazy_products, AreQuotients, length-three}
+use Rattle.word_code.proofs.Residues.{residues, residues-words_at, residues-with_words, residues-zeros}
+use Rattle.word_code.proofs.Residues.{residues-transposed, AllBelow, below-words_at, below-zeros, below-transposed}
+use Rattle.word_code.proofs.Residues.{lazy_map, lazy_lanes, lazy_products, AreQuotients, length-three}
 use Rattle.word_code.proofs.Bounds.{Bounds, AreRegistersBelow, register_below, put_below, write_below}
 use Rattle.word_code.proofs.Quick.{Scale, IsMemoryBelow, residue_local, IsQuick}
 use Rattle.word_code.proofs.Reduce.{AreReductions}

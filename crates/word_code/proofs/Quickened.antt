@@ -1,10 +1,12 @@
 -- Quickened programs leave what programs leave.
-use Rattle.std.proofs.Common.{◌≡◌, ℕ, ◌≢◌, ◌⊎◌, inl, inr, ⊎_elim, List, [], ◌∷◌, false, cond, nat_eq, map, refl, ap, ◌∙◌, arith}
+use Rattle.std.proofs.Common.{◌≡◌, ℕ, ◌≢◌, ◌⊎◌, inl, inr, ⊎_elim, List, [], ◌∷◌, false, cond, nat_eq, map, refl, ap}
+use Rattle.std.proofs.Common.{◌∙◌, arith}
 use Rattle.std.proofs.lemmas.Bool.{cases_eq}
 use Rattle.std.proofs.lemmas.Bool.Decides.{nat_tests}
 use Rattle.icode.specs.Plain.{PlainBody}
 use Rattle.word_code.specs.Laws.{QuickenedIsSame}
-use Rattle.word_code.specs.Quicken.{Laziness, Header, header_of, loosest, quick_alone, quick_phase, quick_phases, quickened}
+use Rattle.word_code.specs.Quicken.{Laziness, Header, header_of, loosest, quick_alone, quick_phase, quick_phases}
+use Rattle.word_code.specs.Quicken.{quickened}
 use Rattle.word_code.specs.WordMachine.{word_results}
 use Rattle.word_code.specs.WordProgram.{WordBody, PlainWordProgram, word_code}
 use Rattle.word_code.proofs.Programs.{evenly_is_same}

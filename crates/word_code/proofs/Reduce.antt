@@ -1,5 +1,7 @@
 -- Reductions of registers until bounds are small enough.
-use Rattle.std.proofs.Common.{◌≡◌, ℕ, zero, suc, ◌+◌, ◌*◌, ◌<◌, ◌≤◌, ◌≢◌, ◌⊎◌, inl, inr, List, [], ◌∷◌, true, false, cond, length, map, refl, sym, ap, ◌∙◌, subst, arith, ⊎_elim, mul-le-mul_left, get_or-set_same, get_or-set_other}
+use Rattle.std.proofs.Common.{◌≡◌, ℕ, zero, suc, ◌+◌, ◌*◌, ◌<◌, ◌≤◌, ◌≢◌, ◌⊎◌, inl, inr, List, [], ◌∷◌, true, false}
+use Rattle.std.proofs.Common.{cond, length, map, refl, sym, ap, ◌∙◌, subst, arith, ⊎_elim, mul-le-mul_left}
+use Rattle.std.proofs.Common.{get_or-set_same, get_or-set_other}
 use Rattle.std.specs.Prelude.{nat_le, slice_index, slice_set}
 use Rattle.std.proofs.lemmas.Bool.{cases_lt}
 use Rattle.std.proofs.lemmas.Bool.Decides.{nat_tests}

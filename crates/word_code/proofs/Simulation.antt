@@ -1,15 +1,21 @@
 -- Runs on words go with runs on residues, turn by turn.
-use Rattle.std.proofs.Common.{◌≡◌, ℕ, zero, suc, ◌+◌, ◌-◌, ◌*◌, ◌<◌, ◌≤◌, ◌≢◌, List, [], ◌∷◌, ◌++◌, Bool, true, false, cond, Option, Some, None, length, map, drop, replicate, refl, sym, ap, ap₂, ◌∙◌, subst, arith, ⊎_elim, get_or-set_same, get_or-set_other, mul-le-mul_left}
+use Rattle.std.proofs.Common.{◌≡◌, ℕ, zero, suc, ◌+◌, ◌-◌, ◌*◌, ◌<◌, ◌≤◌, ◌≢◌, List, [], ◌∷◌, ◌++◌, Bool, true, false}
+use Rattle.std.proofs.Common.{cond, Option, Some, None, length, map, drop, replicate, refl, sym, ap, ap₂, ◌∙◌, subst}
+use Rattle.std.proofs.Common.{arith, ⊎_elim, get_or-set_same, get_or-set_other, mul-le-mul_left}
 use Rattle.std.specs.Prelude.{slice_get, slice_index, slice_index_or, slice_set, option_map}
 use Rattle.std.proofs.Math.ListN.{get_or-map}
 use Rattle.std.proofs.Math.Nat.{mod-eq_of_lt}
 use Rattle.std.proofs.lemmas.Bool.{cases_eq, cases_lt}
 use Rattle.std.proofs.lemmas.Option.{slice_get-map}
 use Rattle.std.proofs.lemmas.Nat.{div-add-mod', mod_below}
-use Rattle.icode.specs.Machine.{State, Local, acts, effect, is_open, none_done, first_open, phases_after, moved_on, acted, turn_with, turn, run, completion, start, runs, results, padded, words_at, whole_lines}
+use Rattle.icode.specs.Machine.{State, Local, acts, effect, is_open, none_done, first_open, phases_after, moved_on}
+use Rattle.icode.specs.Machine.{acted, turn_with, turn, run, completion, start, runs, results, padded, words_at}
+use Rattle.icode.specs.Machine.{whole_lines}
 use Rattle.word_code.specs.Quicken.{Kept}
-use Rattle.word_code.specs.WordMachine.{WordAction, WordCode, under, actions_under, word_acts, word_effect, word_acted, word_turn_with, word_turn, word_run, word_runs, word_results}
-use Rattle.word_code.proofs.Residues.{residues, residues-append, residues-zeros, residues-words_at, AllBelow, below-words_at}
+use Rattle.word_code.specs.WordMachine.{WordAction, WordCode, under, actions_under, word_acts, word_effect, word_acted}
+use Rattle.word_code.specs.WordMachine.{word_turn_with, word_turn, word_run, word_runs, word_results}
+use Rattle.word_code.proofs.Residues.{residues, residues-append, residues-zeros, residues-words_at, AllBelow}
+use Rattle.word_code.proofs.Residues.{below-words_at}
 use Rattle.word_code.proofs.Bounds.{Bounds, AreRegistersBelow, weaker}
 use Rattle.word_code.proofs.Quick.{Scale, IsMemoryBelow, residue_local, IsQuick, AreQuick}
 

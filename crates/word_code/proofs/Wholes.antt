@@ -1,5 +1,6 @@
 -- Whole programs: tables, phases, and what they leave.
-use Rattle.std.proofs.Common.{◌≡◌, ℕ, zero, suc, ◌<◌, List, [], ◌∷◌, true, ◌&&◌, Vec, Global, All, length, get_or, sym, ap, ◌∙◌, subst, arith, ltb-true}
+use Rattle.std.proofs.Common.{◌≡◌, ℕ, zero, suc, ◌<◌, List, [], ◌∷◌, true, ◌&&◌, Vec, Global, All, length, get_or, sym}
+use Rattle.std.proofs.Common.{ap, ◌∙◌, subst, arith, ltb-true}
 use Rattle.std.specs.Prelude.{nat_lt}
 use Rattle.std.specs.List.{list_all}
 use Rattle.icode.specs.declared.program.Stmt.{Stmt}

@@ -1,5 +1,7 @@
 -- A nest that goes into the loops of others, whose blocks it shares: it does what it did behind them.
-use Rattle.std.proofs.Common.{◌≡◌, ℕ, zero, suc, ◌+◌, ◌*◌, ◌<◌, ◌≤◌, Bool, true, false, ◌&&◌, List, [], ◌∷◌, ◌++◌, Contains, flat_map, length, refl, sym, ap, ap₂, ◌∙◌, subst, arith, eqb-true, ⊎_elim, append-nil, append_assoc, length-append}
+use Rattle.std.proofs.Common.{◌≡◌, ℕ, zero, suc, ◌+◌, ◌*◌, ◌<◌, ◌≤◌, Bool, true, false, ◌&&◌, List, [], ◌∷◌, ◌++◌}
+use Rattle.std.proofs.Common.{Contains, flat_map, length, refl, sym, ap, ap₂, ◌∙◌, subst, arith, eqb-true, ⊎_elim}
+use Rattle.std.proofs.Common.{append-nil, append_assoc, length-append}
 use Rattle.std.specs.Prelude.{◌==◌, if◌then◌else◌}
 use Rattle.std.specs.List.{range_with_len}
 use Rattle.std.proofs.Math.Path.{fun_ext}
@@ -24,11 +26,13 @@ use Rattle.fast_loops.proofs.Acts.{DoTheSame, memory_by}
 use Rattle.fast_loops.proofs.Changes.{actions_of-append, actions_of-loop, in-loop, of-loop, for-trans}
 use Rattle.fast_loops.proofs.Folds.{IsSure, Commute, parted}
 use Rattle.fast_loops.proofs.Looped.{looped_is}
-use Rattle.fast_loops.proofs.Rows.{For, acts_of, rows, round_acts, loops_for, past_rows, rows_sure, joined as append_joined}
+use Rattle.fast_loops.proofs.Rows.{For, acts_of, rows, round_acts, loops_for, past_rows, rows_sure}
+use Rattle.fast_loops.proofs.Rows.{joined as append_joined}
 use Rattle.fast_loops.proofs.Same.{same-append}
 use Rattle.fast_loops.proofs.FusedLoops.Blocks.{AreRoundsInside, HasBlocks}
 use Rattle.fast_loops.proofs.FusedLoops.Steps.{EndsIn, ends-put, ends-changed, put-all, parted_last}
-use Rattle.fast_loops.proofs.FusedLoops.Within.{IsWithin, IsInside, within-round, within-append, within-loop, within-same, never-both}
+use Rattle.fast_loops.proofs.FusedLoops.Within.{IsWithin, IsInside, within-round, within-append, within-loop}
+use Rattle.fast_loops.proofs.FusedLoops.Within.{within-same, never-both}
 
 -- ---- steps that leave the same memory, from the same registers on
 

@@ -1,12 +1,15 @@
 -- A program whose nests are fused leaves what it left.
-use Rattle.std.proofs.Common.{◌≡◌, ℕ, zero, suc, ◌^◌, ◌<◌, ◌≤◌, ◌&&◌, List, [], ◌∷◌, ◌++◌, Bool, true, false, Contains, length, refl, sym, ap, ◌∙◌, subst, arith, ⊎_elim, append-nil, append_assoc, eqb-true}
+use Rattle.std.proofs.Common.{◌≡◌, ℕ, zero, suc, ◌^◌, ◌<◌, ◌≤◌, ◌&&◌, List, [], ◌∷◌, ◌++◌, Bool, true, false, Contains}
+use Rattle.std.proofs.Common.{length, refl, sym, ap, ◌∙◌, subst, arith, ⊎_elim, append-nil, append_assoc, eqb-true}
 use Rattle.std.specs.Prelude.{◌==◌, nat_le, slice_index_or, if◌then◌else◌}
 use Rattle.std.proofs.lemmas.Bool.{cases_lt}
 use Rattle.std.proofs.lemmas.List.Elements.{All-contains, Contains-append_left, Contains-append_right}
 use Rattle.operators.specs.Sum.{sum_below}
 use Rattle.operators.proofs.Sums.{sum_below-same}
-use Rattle.icode.specs.Actions.{Step, StepFits, PlainFits, actions_of, plain_code, steps_of_stmt, steps_of_body, steps_of_phase}
-use Rattle.icode.specs.Machine.{Code, IsApart, acts, in_order, lines_of, phases_alone, processors_alone, start, stored_words, touched_words, whole_lines, words_at, Whole}
+use Rattle.icode.specs.Actions.{Step, StepFits, PlainFits, actions_of, plain_code, steps_of_stmt, steps_of_body}
+use Rattle.icode.specs.Actions.{steps_of_phase}
+use Rattle.icode.specs.Machine.{Code, IsApart, acts, in_order, lines_of, phases_alone, processors_alone, start}
+use Rattle.icode.specs.Machine.{stored_words, touched_words, whole_lines, words_at, Whole}
 use Rattle.icode.specs.Plain.{PlainStmt, PlainBody, PlainProgram, Loop, Do, NoStmts, AndStmts}
 use Rattle.icode.proofs.Bools.{both_true}
 use Rattle.icode.proofs.Lines.{Contains-nil}
@@ -16,7 +19,8 @@ use Rattle.fast_loops.specs.declared.fused_loops.blocks.Block.{Block}
 use Rattle.fast_loops.specs.Interchange.{counts_in, round_in, is_nest, are_nests}
 use Rattle.fast_loops.specs.Rounds.{first_load}
 use Rattle.fast_loops.specs.FusedLoops.Blocks.{first_steps, followed_in, blocks_of, shared}
-use Rattle.fast_loops.specs.FusedLoops.FusedLoops.{put_behind, joined, waiting, fused_onto, fused_phase, fused_phases, may_be_fused, fused}
+use Rattle.fast_loops.specs.FusedLoops.FusedLoops.{put_behind, joined, waiting, fused_onto, fused_phase, fused_phases}
+use Rattle.fast_loops.specs.FusedLoops.FusedLoops.{may_be_fused, fused}
 use Rattle.fast_loops.specs.TwoTables.Laws.{IsInPlaceOf}
 use Rattle.fast_loops.proofs.Acts.{memory_by}
 use Rattle.fast_loops.proofs.Folds.{IsSure}
@@ -28,7 +32,8 @@ use Rattle.fast_loops.proofs.Same.{same-nothing}
 use Rattle.fast_loops.proofs.TwoTables.Programs.{itself}
 use Rattle.fast_loops.proofs.FusedLoops.Blocks.{has-blocks}
 use Rattle.fast_loops.proofs.FusedLoops.Follows.{round-follows}
-use Rattle.fast_loops.proofs.FusedLoops.Joins.{LeavesFor, Ends, body-sure, grows, leaves-behind, leaves-itself, leaves-trans, sure-append}
+use Rattle.fast_loops.proofs.FusedLoops.Joins.{LeavesFor, Ends, body-sure, grows, leaves-behind, leaves-itself}
+use Rattle.fast_loops.proofs.FusedLoops.Joins.{leaves-trans, sure-append}
 use Rattle.fast_loops.proofs.FusedLoops.Steps.{put-steps}
 
 -- ---- phases

@@ -1,5 +1,6 @@
 -- A place with one loop less around it has the numbers that it had.
-use Rattle.std.proofs.Common.{Bool, ◌≡◌, ◌≢◌, ◌⊎◌, inl, inr, ℕ, zero, suc, ◌+◌, ◌*◌, ◌<◌, ◌≤◌, List, [], ◌∷◌, ◌++◌, true}
+use Rattle.std.proofs.Common.{Bool, ◌≡◌, ◌≢◌, ◌⊎◌, inl, inr, ℕ, zero, suc, ◌+◌, ◌*◌, ◌<◌, ◌≤◌, List, [], ◌∷◌, ◌++◌}
+use Rattle.std.proofs.Common.{true}
 use Rattle.std.proofs.Common.{length, refl, sym, ap, ◌∙◌, subst, arith, lt-ltb, eqb-true}
 use Rattle.std.specs.Prelude.{◌-◌, ◌==◌, max, slice_index, if◌then◌else◌}
 use Rattle.std.proofs.Math.Nat.{max-le, max-eq_left}

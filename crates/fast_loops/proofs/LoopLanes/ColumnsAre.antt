@@ -1,5 +1,7 @@
 -- Columns on v lanes, turned by tiles, leave what v rounds write.
-use Rattle.std.proofs.Common.{◌≡◌, ℕ, zero, suc, ◌+◌, ◌*◌, ◌/◌, ◌%◌, ◌<◌, ◌≤◌, Bool, true, not, List, [], ◌∷◌, ◌++◌, Contains, Option, Some, None, map, flat_map, length, take, refl, sym, ap, ap₂, ◌∙◌, arith, inl, inr, subst, eqb-true, leb-true, mul_comm, take-append-drop}
+use Rattle.std.proofs.Common.{◌≡◌, ℕ, zero, suc, ◌+◌, ◌*◌, ◌/◌, ◌%◌, ◌<◌, ◌≤◌, Bool, true, not, List, [], ◌∷◌, ◌++◌}
+use Rattle.std.proofs.Common.{Contains, Option, Some, None, map, flat_map, length, take, refl, sym, ap, ap₂, ◌∙◌, arith}
+use Rattle.std.proofs.Common.{inl, inr, subst, eqb-true, leb-true, mul_comm, take-append-drop}
 use Rattle.std.specs.Prelude.{◌==◌, ◌&&◌, nat_le, slice_index}
 use Rattle.std.specs.List.{list_all, range_with_len}
 use Rattle.std.proofs.lemmas.List.{length-take-le}
@@ -13,16 +15,23 @@ use Rattle.icode.proofs.CodeLaws.Stores.{length-registers}
 use Rattle.fast_loops.specs.Places.{are_linear, stride}
 use Rattle.fast_loops.specs.Rounds.{Stored, are_fresh}
 use Rattle.fast_loops.proofs.Linear.{wrong}
-use Rattle.fast_loops.specs.LoopLanes.Columns.{Columns, Factors, renumbered, are_distinct, are_products, factored_registers, front_length, last_products, plain_columns, factored_columns, are_tiles, are_columns, are_by, in_columns}
-use Rattle.fast_loops.specs.LoopLanes.Layers.{Write, IsAfter, IsGroup, LeaveWrites, memory_by, ColumnsWrite, FactoredColumnsWrite, written, values_put, round_writes, group_writes}
-use Rattle.fast_loops.specs.LoopLanes.Rounds.{straight, is_store, is_by_lane, stores, others, stored_registers, stored_constants, are_from}
+use Rattle.fast_loops.specs.LoopLanes.Columns.{Columns, Factors, renumbered, are_distinct, are_products}
+use Rattle.fast_loops.specs.LoopLanes.Columns.{factored_registers, front_length, last_products, plain_columns}
+use Rattle.fast_loops.specs.LoopLanes.Columns.{factored_columns, are_tiles, are_columns, are_by, in_columns}
+use Rattle.fast_loops.specs.LoopLanes.Layers.{Write, IsAfter, IsGroup, LeaveWrites, memory_by, ColumnsWrite}
+use Rattle.fast_loops.specs.LoopLanes.Layers.{FactoredColumnsWrite, written, values_put, round_writes, group_writes}
+use Rattle.fast_loops.specs.LoopLanes.Rounds.{straight, is_store, is_by_lane, stores, others, stored_registers}
+use Rattle.fast_loops.specs.LoopLanes.Rounds.{stored_constants, are_from}
 use Rattle.fast_loops.proofs.LoopLanes.Held.{IsFront, HoldsBy, in_lanes, values_in}
 use Rattle.fast_loops.proofs.LoopLanes.FrontHeld.{front_held}
 use Rattle.fast_loops.proofs.LoopLanes.Orders.{some_lanes, group_fits}
-use Rattle.fast_loops.proofs.LoopLanes.Parted.{all_taken, from_at, others_put, others_fresh, taken_fresh, length-stored_registers, stored_low, puts_low}
+use Rattle.fast_loops.proofs.LoopLanes.Parted.{all_taken, from_at, others_put, others_fresh, taken_fresh}
+use Rattle.fast_loops.proofs.LoopLanes.Parted.{length-stored_registers, stored_low, puts_low}
 use Rattle.fast_loops.proofs.LoopLanes.Renumbered.{renumbered_is, renumbered_apart, renumbered_at}
-use Rattle.fast_loops.proofs.LoopLanes.RoundWrites.{acts_in, acts-append, others_values, values_follow, products_low, products_put, writes_in_order}
-use Rattle.fast_loops.proofs.LoopLanes.Tiled.{Leave, AreLinearBy, stored_in, write_in, wide_acts, wide-append, tile_ops, in_tiles}
+use Rattle.fast_loops.proofs.LoopLanes.RoundWrites.{acts_in, acts-append, others_values, values_follow, products_low}
+use Rattle.fast_loops.proofs.LoopLanes.RoundWrites.{products_put, writes_in_order}
+use Rattle.fast_loops.proofs.LoopLanes.Tiled.{Leave, AreLinearBy, stored_in, write_in, wide_acts, wide-append, tile_ops}
+use Rattle.fast_loops.proofs.LoopLanes.Tiled.{in_tiles}
 use Rattle.fast_loops.proofs.LoopLanes.Turned.{by_rounds, by_tiles, turned_after}
 
 -- ---- what the tests tell

@@ -1,7 +1,9 @@
 -- Steps of v lanes that touch words of a group's steps alone, and fit.
-use Rattle.std.proofs.Common.{◌≡◌, ℕ, zero, suc, ◌+◌, ◌*◌, ◌<◌, ◌≤◌, List, [], ◌∷◌, ◌++◌, All, Contains, map, flat_map, length, sym, subst, arith, ⊎_elim}
+use Rattle.std.proofs.Common.{◌≡◌, ℕ, zero, suc, ◌+◌, ◌*◌, ◌<◌, ◌≤◌, List, [], ◌∷◌, ◌++◌, All, Contains, map, flat_map}
+use Rattle.std.proofs.Common.{length, sym, subst, arith, ⊎_elim}
 use Rattle.std.specs.List.{range_with_len}
-use Rattle.std.proofs.lemmas.List.Elements.{All-nil, All-cons, All-head, All-tail, All-append, All-contains, Contains-append_left, Contains-append_right, Contains-append_cases}
+use Rattle.std.proofs.lemmas.List.Elements.{All-nil, All-cons, All-head, All-tail, All-append, All-contains}
+use Rattle.std.proofs.lemmas.List.Elements.{Contains-append_left, Contains-append_right, Contains-append_cases}
 use Rattle.icode.specs.declared.action.Action.{Action}
 use Rattle.icode.specs.Actions.{Step, StepFits, step_of, actions_of}
 use Rattle.icode.specs.Machine.{stored_words, touched_words}
@@ -9,7 +11,8 @@ use Rattle.icode.specs.Plain.{PlainOp, PlainProgram}
 use Rattle.icode.proofs.Lines.{Contains-head, Contains-tail, Contains-nil, Contains-map}
 use Rattle.fast_loops.proofs.Changes.{in-loop}
 use Rattle.fast_loops.proofs.Members.{all_of_members}
-use Rattle.fast_loops.specs.LoopLanes.Layers.{AreLanesFor, steps_at, group_at, on_lanes, memory_by, stored_by, touched_by}
+use Rattle.fast_loops.specs.LoopLanes.Layers.{AreLanesFor, steps_at, group_at, on_lanes, memory_by, stored_by}
+use Rattle.fast_loops.specs.LoopLanes.Layers.{touched_by}
 
 -- ---- the words of steps
 

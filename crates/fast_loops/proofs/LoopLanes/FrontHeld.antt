@@ -1,5 +1,7 @@
 -- Operations on v lanes do in each lane what they do in a round.
-use Rattle.std.proofs.Common.{◌≡◌, ◌≢◌, ℕ, suc, ◌+◌, ◌*◌, ◌<◌, ◌≤◌, true, false, not, List, [], ◌∷◌, ◌++◌, Contains, length, refl, sym, ap, ap₂, ◌∙◌, arith, inl, inr, subst, eqb-true, ltb-true, length-append}
+use Rattle.std.proofs.Common.{◌≡◌, ◌≢◌, ℕ, suc, ◌+◌, ◌*◌, ◌<◌, ◌≤◌, true, false, not, List, [], ◌∷◌, ◌++◌, Contains}
+use Rattle.std.proofs.Common.{length, refl, sym, ap, ap₂, ◌∙◌, arith, inl, inr, subst, eqb-true, ltb-true}
+use Rattle.std.proofs.Common.{length-append}
 use Rattle.std.specs.Prelude.{◌-◌, ◌==◌, ◌&&◌, nat_lt, replicate, slice_index, slice_index_or}
 use Rattle.std.specs.List.{list_all}
 use Rattle.std.proofs.Math.Seq.{get_or-append_seam}
@@ -11,7 +13,8 @@ use Rattle.icode.specs.declared.action.Action.TheVariants as actions
 use Rattle.icode.specs.Actions.{actions_of, array_start, lane_factors, step_of}
 use Rattle.icode.specs.Expression.{sum_numbers}
 use Rattle.icode.specs.Machine.{Local, effect, effects, memory_after, value_put, whole_lines}
-use Rattle.icode.specs.Plain.{PlainExpr, PlainOp, PlainProgram, Load, Store, Zero, Add, Sub, Neg, MulConst, MulTable, Tile}
+use Rattle.icode.specs.Plain.{PlainExpr, PlainOp, PlainProgram, Load, Store, Zero, Add, Sub, Neg, MulConst, MulTable}
+use Rattle.icode.specs.Plain.{Tile}
 use Rattle.icode.proofs.Bools.{both_true}
 use Rattle.icode.proofs.Lines.{Contains-head}
 use Rattle.operators.specs.Sum.{list_below}

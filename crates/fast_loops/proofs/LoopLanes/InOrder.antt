@@ -1,10 +1,12 @@
 -- Codes of one memory, but of other lanes and registers: where the lists of each processor leave the same memory in each
 -- phase, the codes leave the same memory in order.
-use Rattle.std.proofs.Common.{◌≡◌, ℕ, zero, suc, ◌+◌, ◌*◌, ◌<◌, ◌≤◌, List, [], ◌∷◌, length, refl, sym, ap, ◌∙◌, subst, arith}
+use Rattle.std.proofs.Common.{◌≡◌, ℕ, zero, suc, ◌+◌, ◌*◌, ◌<◌, ◌≤◌, List, [], ◌∷◌, length, refl, sym, ap, ◌∙◌, subst}
+use Rattle.std.proofs.Common.{arith}
 use Rattle.std.specs.Prelude.{slice_index_or, slice_set, replicate}
 use Rattle.std.proofs.lemmas.List.{length-replicate}
 use Rattle.icode.specs.declared.action.Action.{Action}
-use Rattle.icode.specs.Machine.{Code, Whole, Local, acts, effects, start, processor_alone, processors_alone, phases_alone, in_order}
+use Rattle.icode.specs.Machine.{Code, Whole, Local, acts, effects, start, processor_alone, processors_alone}
+use Rattle.icode.specs.Machine.{phases_alone, in_order}
 use Rattle.icode.proofs.CodeLaws.Stores.{length-registers}
 use Rattle.fast_loops.specs.LoopLanes.Layers.{memory_by}
 

@@ -1,9 +1,12 @@
 -- A program on lanes stands within the limits of programs.
-use Rattle.std.proofs.Common.{◌≡◌, ℕ, suc, ◌+◌, ◌*◌, ◌^◌, ◌<◌, ◌≤◌, Bool, true, false, not, refl, sym, ap, ap₂, ◌∙◌, arith, inl, inr, eqb-true, ltb-true, lt-ltb, leb-true, mul-le-mul_left}
+use Rattle.std.proofs.Common.{◌≡◌, ℕ, suc, ◌+◌, ◌*◌, ◌^◌, ◌<◌, ◌≤◌, Bool, true, false, not, refl, sym, ap, ap₂, ◌∙◌}
+use Rattle.std.proofs.Common.{arith, inl, inr, eqb-true, ltb-true, lt-ltb, leb-true, mul-le-mul_left}
 use Rattle.std.specs.Prelude.{◌&&◌, ◌==◌, nat_lt, nat_le, max, if◌then◌else◌}
 use Rattle.std.proofs.lemmas.Bool.{and_parts, and_from, cases_eq}
-use Rattle.icode.specs.Limits.{rank, next_rank, is_small, is_small_positive, is_part_within, are_parts_within, all_parts, part_parts, parts_depth, part_depth, is_expr_within, is_op_within}
-use Rattle.icode.specs.Plain.{PlainExpr, PlainParts, PlainOp, Sum, NoParts, AndParts, Proc, Var, Product, Rem, Quot, Load, Store, Zero, Add, Sub, Neg, MulConst, MulTable, Tile}
+use Rattle.icode.specs.Limits.{rank, next_rank, is_small, is_small_positive, is_part_within, are_parts_within}
+use Rattle.icode.specs.Limits.{all_parts, part_parts, parts_depth, part_depth, is_expr_within, is_op_within}
+use Rattle.icode.specs.Plain.{PlainExpr, PlainParts, PlainOp, Sum, NoParts, AndParts, Proc, Var, Product, Rem, Quot}
+use Rattle.icode.specs.Plain.{Load, Store, Zero, Add, Sub, Neg, MulConst, MulTable, Tile}
 use Rattle.icode.proofs.Bools.{both_true}
 use Rattle.fast_loops.specs.Places.{is_linear, stride}
 use Rattle.fast_loops.specs.Rounds.{Stored, same_array}

@@ -1,14 +1,19 @@
 -- Rounds, nests and programs on lanes stand within the limits of programs.
-use Rattle.std.proofs.Common.{◌≡◌, ℕ, zero, suc, ◌+◌, ◌*◌, ◌/◌, ◌%◌, ◌^◌, ◌<◌, ◌≤◌, true, List, [], ◌∷◌, All, Contains, Option, Some, None, map, drop, length, refl, sym, ap, ◌∙◌, subst, arith, eqb-true, ltb-true, lt-ltb, mul-le-mul_left, ⊎_elim}
+use Rattle.std.proofs.Common.{◌≡◌, ℕ, zero, suc, ◌+◌, ◌*◌, ◌/◌, ◌%◌, ◌^◌, ◌<◌, ◌≤◌, true, List, [], ◌∷◌, All, Contains}
+use Rattle.std.proofs.Common.{Option, Some, None, map, drop, length, refl, sym, ap, ◌∙◌, subst, arith, eqb-true}
+use Rattle.std.proofs.Common.{ltb-true, lt-ltb, mul-le-mul_left, ⊎_elim}
 use Rattle.std.specs.Prelude.{◌==◌, nat_le, nat_lt}
 use Rattle.std.specs.List.{list_all, range_with_len}
 use Rattle.std.proofs.Math.Nat.{div-add-mod, div-mul-le_self}
 use Rattle.std.proofs.lemmas.Bool.{and_parts, and_from, true≢false}
 use Rattle.std.proofs.lemmas.List.{length-map}
-use Rattle.std.proofs.lemmas.List.Elements.{All-nil, All-cons, All-head, All-tail, All-append, All-map, All-drop, All-contains}
+use Rattle.std.proofs.lemmas.List.Elements.{All-nil, All-cons, All-head, All-tail, All-append, All-map, All-drop}
+use Rattle.std.proofs.lemmas.List.Elements.{All-contains}
 use Rattle.std.proofs.lemmas.List.Sums.{AllPass-from_list_all}
-use Rattle.icode.specs.Limits.{is_small, is_small_positive, is_expr_within, is_op_within, is_stmt_within, is_body_within, are_phases_within, IsHeaderWithin}
-use Rattle.icode.specs.Plain.{PlainOp, PlainStmt, PlainBody, Sum, Load, MulTable, Store, Tile, Loop, Do, NoStmts, AndStmts}
+use Rattle.icode.specs.Limits.{is_small, is_small_positive, is_expr_within, is_op_within, is_stmt_within}
+use Rattle.icode.specs.Limits.{is_body_within, are_phases_within, IsHeaderWithin}
+use Rattle.icode.specs.Plain.{PlainOp, PlainStmt, PlainBody, Sum, Load, MulTable, Store, Tile, Loop, Do, NoStmts}
+use Rattle.icode.specs.Plain.{AndStmts}
 use Rattle.icode.proofs.Bools.{both_true}
 use Rattle.fast_loops.specs.Places.{stride}
 use Rattle.fast_loops.specs.Rounds.{Stored, are_fresh, first_store}
@@ -16,10 +21,14 @@ use Rattle.fast_loops.specs.Interchange.{counts_in, round_in, looped}
 use Rattle.fast_loops.proofs.Linear.{wrong}
 use Rattle.fast_loops.proofs.Looped.{looped_is}
 use Rattle.fast_loops.proofs.Members.{all_of_members}
-use Rattle.fast_loops.specs.LoopLanes.Rounds.{straight, ops_in, stores, others, widened_parts, is_by_lane, are_rows, in_row}
-use Rattle.fast_loops.specs.LoopLanes.Columns.{Columns, Factors, renumbered, renumbered_op, plain_columns, factored_columns, product_at, row_at, tile_at, in_columns}
-use Rattle.fast_loops.specs.LoopLanes.Loads.{Loaded, are_loaded_rows, behind, are_loaded, load_at, load_tile, load_tiles, in_loaded_rows, in_loaded}
-use Rattle.fast_loops.specs.LoopLanes.Lanes.{IsLanes, can_lane, laned_ops, laned_round, last_count, is_lanable, are_lanable, narrowed, laned_nest, laned_body}
+use Rattle.fast_loops.specs.LoopLanes.Rounds.{straight, ops_in, stores, others, widened_parts, is_by_lane, are_rows}
+use Rattle.fast_loops.specs.LoopLanes.Rounds.{in_row}
+use Rattle.fast_loops.specs.LoopLanes.Columns.{Columns, Factors, renumbered, renumbered_op, plain_columns}
+use Rattle.fast_loops.specs.LoopLanes.Columns.{factored_columns, product_at, row_at, tile_at, in_columns}
+use Rattle.fast_loops.specs.LoopLanes.Loads.{Loaded, are_loaded_rows, behind, are_loaded, load_at, load_tile}
+use Rattle.fast_loops.specs.LoopLanes.Loads.{load_tiles, in_loaded_rows, in_loaded}
+use Rattle.fast_loops.specs.LoopLanes.Lanes.{IsLanes, can_lane, laned_ops, laned_round, last_count, is_lanable}
+use Rattle.fast_loops.specs.LoopLanes.Lanes.{are_lanable, narrowed, laned_nest, laned_body}
 use Rattle.fast_loops.proofs.LoopLanes.Covered.{all-loop, all-row}
 use Rattle.fast_loops.proofs.LoopLanes.Limited.{StaysSmall, op-within, place-within, small-less}
 use Rattle.fast_loops.proofs.LoopLanes.LoadsTold.{IsRow, of_loaded_rows, of_loaded, loads_each, loaded_good}
@@ -27,7 +36,8 @@ use Rattle.fast_loops.proofs.LoopLanes.Nests.{straight-is}
 use Rattle.fast_loops.proofs.LoopLanes.Parts.{IsOther, AreSome, are_some, others_are, stored_each}
 use Rattle.fast_loops.proofs.LoopLanes.Renumbered.{renumbered_is}
 use Rattle.fast_loops.proofs.LoopLanes.RowsAre.{renumbered_none}
-use Rattle.fast_loops.proofs.LoopLanes.Tests.{AreGood, AreMultiplied, plain_good, factored_good, factored_front, factored_short, multiplied_by, of_kinds, tile_within}
+use Rattle.fast_loops.proofs.LoopLanes.Tests.{AreGood, AreMultiplied, plain_good, factored_good, factored_front}
+use Rattle.fast_loops.proofs.LoopLanes.Tests.{factored_short, multiplied_by, of_kinds, tile_within}
 
 -- ---- straight statements
 

@@ -1,5 +1,6 @@
 -- Columns behind the loads of a row leave what v rounds write.
-use Rattle.std.proofs.Common.{◌≡◌, ℕ, ◌+◌, ◌*◌, ◌<◌, ◌≤◌, true, not, List, [], ◌∷◌, ◌++◌, length, drop, sym, ap, ◌∙◌, arith, subst}
+use Rattle.std.proofs.Common.{◌≡◌, ℕ, ◌+◌, ◌*◌, ◌<◌, ◌≤◌, true, not, List, [], ◌∷◌, ◌++◌, length, drop, sym, ap, ◌∙◌}
+use Rattle.std.proofs.Common.{arith, subst}
 use Rattle.std.specs.List.{list_all}
 use Rattle.std.proofs.lemmas.List.{append_assoc}
 use Rattle.icode.proofs.CodeLaws.ByLane.{lists_follow}
@@ -11,7 +12,9 @@ use Rattle.fast_loops.specs.LoopLanes.Columns.{Columns, renumbered, plain_column
 use Rattle.fast_loops.specs.LoopLanes.Layers.{IsGroup, LeaveWrites, LoadedWrite, LoadedFactoredWrite, values_put}
 use Rattle.fast_loops.specs.LoopLanes.Loads.{Loaded, behind, load_tiles, in_tiles}
 use Rattle.fast_loops.specs.LoopLanes.Rounds.{straight, is_by_lane, is_store}
-use Rattle.fast_loops.proofs.LoopLanes.ColumnsAre.{AreTurned, IsBefore, AreStored, columns_told, columns_from, tiles_of, numbers_low, numbers_apart, plain_before, plain_stored, factored_before, factored_stored, factored_linear}
+use Rattle.fast_loops.proofs.LoopLanes.ColumnsAre.{AreTurned, IsBefore, AreStored, columns_told, columns_from, tiles_of}
+use Rattle.fast_loops.proofs.LoopLanes.ColumnsAre.{numbers_low, numbers_apart, plain_before, plain_stored}
+use Rattle.fast_loops.proofs.LoopLanes.ColumnsAre.{factored_before, factored_stored, factored_linear}
 use Rattle.fast_loops.proofs.LoopLanes.FrontHeld.{front_from}
 use Rattle.fast_loops.proofs.LoopLanes.Held.{AreHeld, HoldsBy, in_lanes, values_in}
 use Rattle.fast_loops.proofs.LoopLanes.LoadedRow.{row_fresh, row_puts, row_stays}

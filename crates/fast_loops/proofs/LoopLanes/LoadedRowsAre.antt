@@ -1,5 +1,6 @@
 -- Rows behind the loads of a row leave what v rounds write.
-use Rattle.std.proofs.Common.{◌≡◌, ℕ, zero, suc, ◌+◌, ◌*◌, ◌<◌, ◌≤◌, true, List, [], ◌∷◌, ◌++◌, All, Contains, length, map, flat_map, drop, refl, sym, ap, ◌∙◌, arith, subst}
+use Rattle.std.proofs.Common.{◌≡◌, ℕ, zero, suc, ◌+◌, ◌*◌, ◌<◌, ◌≤◌, true, List, [], ◌∷◌, ◌++◌, All, Contains, length}
+use Rattle.std.proofs.Common.{map, flat_map, drop, refl, sym, ap, ◌∙◌, arith, subst}
 use Rattle.std.specs.Prelude.{slice_index}
 use Rattle.std.specs.List.{range_with_len}
 use Rattle.std.proofs.Math.Path.{fun_ext}
@@ -10,7 +11,8 @@ use Rattle.icode.specs.Plain.{PlainOp, PlainProgram, Sum, Load}
 use Rattle.icode.proofs.CodeLaws.ByLane.{lists_follow}
 use Rattle.icode.proofs.CodeLaws.Stores.{length-registers}
 use Rattle.fast_loops.specs.Rounds.{Stored, are_fresh}
-use Rattle.fast_loops.specs.LoopLanes.Layers.{Write, IsGroup, LeaveWrites, LoadedRowsWrite, memory_by, steps_at, values_put, group_writes, written}
+use Rattle.fast_loops.specs.LoopLanes.Layers.{Write, IsGroup, LeaveWrites, LoadedRowsWrite, memory_by, steps_at}
+use Rattle.fast_loops.specs.LoopLanes.Layers.{values_put, group_writes, written}
 use Rattle.fast_loops.specs.LoopLanes.Loads.{Loaded, load_tiles}
 use Rattle.fast_loops.specs.LoopLanes.Rounds.{straight, others, in_row}
 use Rattle.fast_loops.proofs.LoopLanes.ColumnsAre.{short-others}

@@ -1,5 +1,6 @@
 -- What code makes of rounds that load rows.
-use Rattle.std.proofs.Common.{◌≡◌, ℕ, ◌+◌, ◌*◌, ◌%◌, ◌^◌, ◌<◌, ◌≤◌, true, List, [], ◌∷◌, ◌++◌, Option, map, length, sym, ap, ◌∙◌, subst, arith, leb-true, eqb-true, ltb-true, lt-ltb, mul-le-mul_left}
+use Rattle.std.proofs.Common.{◌≡◌, ℕ, ◌+◌, ◌*◌, ◌%◌, ◌^◌, ◌<◌, ◌≤◌, true, List, [], ◌∷◌, ◌++◌, Option, map, length, sym}
+use Rattle.std.proofs.Common.{ap, ◌∙◌, subst, arith, leb-true, eqb-true, ltb-true, lt-ltb, mul-le-mul_left}
 use Rattle.std.specs.Prelude.{◌&&◌, ◌==◌, nat_le}
 use Rattle.std.specs.List.{list_all, range_with_len}
 use Rattle.std.proofs.lemmas.Bool.{and_from}

@@ -1,5 +1,7 @@
 -- What the test of a round that loads a row tells of it.
-use Rattle.std.proofs.Common.{◌≡◌, ℕ, zero, suc, ◌+◌, ◌*◌, ◌/◌, ◌%◌, ◌<◌, ◌≤◌, true, false, not, List, ◌++◌, All, Contains, Option, Some, None, length, map, drop, sym, ap, ◌∙◌, subst, arith, eqb-true, ltb-true, length-append}
+use Rattle.std.proofs.Common.{◌≡◌, ℕ, zero, suc, ◌+◌, ◌*◌, ◌/◌, ◌%◌, ◌<◌, ◌≤◌, true, false, not, List, ◌++◌, All}
+use Rattle.std.proofs.Common.{Contains, Option, Some, None, length, map, drop, sym, ap, ◌∙◌, subst, arith, eqb-true}
+use Rattle.std.proofs.Common.{ltb-true, length-append}
 use Rattle.std.specs.Prelude.{◌==◌, ◌&&◌, nat_le, nat_lt}
 use Rattle.std.specs.List.{list_all}
 use Rattle.std.proofs.lemmas.Bool.{not-true}
@@ -12,7 +14,10 @@ use Rattle.fast_loops.specs.Places.{are_linear, stride}
 use Rattle.fast_loops.specs.Rounds.{Stored, same_array}
 use Rattle.fast_loops.specs.LoopLanes.Columns.{Columns, are_columns}
 use Rattle.fast_loops.specs.LoopLanes.Rounds.{others, stored_constants, is_by_lane, are_clear, in_row}
-use Rattle.fast_loops.specs.LoopLanes.Loads.{Loaded, first_load, row_length, are_whole, are_rows_behind, are_rows_from, are_loaded_rows, behind, are_behind, are_loaded_from, are_loaded, load_tiles, in_loaded_rows_from, in_loaded_rows, in_tiles, in_loaded_from, in_loaded}
+use Rattle.fast_loops.specs.LoopLanes.Loads.{Loaded, first_load, row_length, are_whole, are_rows_behind, are_rows_from}
+use Rattle.fast_loops.specs.LoopLanes.Loads.{are_loaded_rows, behind, are_behind, are_loaded_from, are_loaded}
+use Rattle.fast_loops.specs.LoopLanes.Loads.{load_tiles, in_loaded_rows_from, in_loaded_rows, in_tiles, in_loaded_from}
+use Rattle.fast_loops.specs.LoopLanes.Loads.{in_loaded}
 use Rattle.fast_loops.proofs.Linear.{wrong}
 use Rattle.fast_loops.proofs.LoopLanes.ColumnsAre.{AreTurned, columns_told}
 use Rattle.fast_loops.proofs.LoopLanes.LoadedRow.{row, row_first, length-row}

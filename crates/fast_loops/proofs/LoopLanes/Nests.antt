@@ -1,5 +1,6 @@
 -- Loops, one in the other, of which the innermost goes v rounds at a time, and bodies of phases.
-use Rattle.std.proofs.Common.{◌≡◌, ℕ, zero, suc, ◌+◌, ◌*◌, ◌<◌, ◌≤◌, List, [], ◌∷◌, ◌++◌, true, Contains, Option, Some, None, flat_map, length, refl, sym, ap, ap₂, ◌∙◌, subst, arith, length-append, eqb-true}
+use Rattle.std.proofs.Common.{◌≡◌, ℕ, zero, suc, ◌+◌, ◌*◌, ◌<◌, ◌≤◌, List, [], ◌∷◌, ◌++◌, true, Contains, Option, Some}
+use Rattle.std.proofs.Common.{None, flat_map, length, refl, sym, ap, ap₂, ◌∙◌, subst, arith, length-append, eqb-true}
 use Rattle.std.specs.Prelude.{◌/◌, ◌%◌, ◌==◌, nat_le}
 use Rattle.std.specs.List.{range_with_len}
 use Rattle.std.proofs.Math.Nat.{div-add-mod}
@@ -17,7 +18,8 @@ use Rattle.fast_loops.proofs.Linear.{wrong}
 use Rattle.fast_loops.proofs.Looped.{looped_is}
 use Rattle.fast_loops.proofs.Rows.{StepsFit, all_fit}
 use Rattle.fast_loops.specs.LoopLanes.Rounds.{straight, ops_in, stores}
-use Rattle.fast_loops.specs.LoopLanes.Lanes.{IsLanes, can_lane, laned_ops, laned_round, last_count, is_lanable, are_lanable, narrowed, laned_nest, laned_body}
+use Rattle.fast_loops.specs.LoopLanes.Lanes.{IsLanes, can_lane, laned_ops, laned_round, last_count, is_lanable}
+use Rattle.fast_loops.specs.LoopLanes.Lanes.{are_lanable, narrowed, laned_nest, laned_body}
 use Rattle.fast_loops.specs.LoopLanes.Layers.{AreLanesFor, IsGroup, RoundsAreLanes, steps_at, group_at, on_lanes}
 use Rattle.fast_loops.proofs.LoopLanes.Joined.{lanes-nil, lanes-append, lanes-loop}
 use Rattle.fast_loops.proofs.LoopLanes.Told.{straight_steps}

@@ -1,16 +1,19 @@
 -- Operations of a round in the order of the text, and in others: those that put, and those that store.
-use Rattle.std.proofs.Common.{◌≡◌, ℕ, ◌+◌, ◌*◌, ◌<◌, true, false, List, [], ◌∷◌, ◌++◌, All, Contains, flat_map, length, refl, ap, ◌∙◌, arith, inl, inr, eqb-true, length-append, ⊎_elim}
+use Rattle.std.proofs.Common.{◌≡◌, ℕ, ◌+◌, ◌*◌, ◌<◌, true, false, List, [], ◌∷◌, ◌++◌, All, Contains, flat_map, length}
+use Rattle.std.proofs.Common.{refl, ap, ◌∙◌, arith, inl, inr, eqb-true, length-append, ⊎_elim}
 use Rattle.std.specs.Prelude.{slice_index, ◌==◌, ◌&&◌, nat_le}
 use Rattle.std.specs.List.{range_with_len}
 use Rattle.std.proofs.lemmas.Bool.{true≢false}
 use Rattle.std.proofs.lemmas.List.{get_or_append_left}
-use Rattle.std.proofs.lemmas.List.Elements.{All-contains, Contains-append_left, Contains-append_right, Contains-append_cases}
+use Rattle.std.proofs.lemmas.List.Elements.{All-contains, Contains-append_left, Contains-append_right}
+use Rattle.std.proofs.lemmas.List.Elements.{Contains-append_cases}
 use Rattle.icode.specs.declared.action.Action.{Action}
 use Rattle.icode.specs.declared.action.Action.TheVariants as actions
 use Rattle.icode.specs.declared.program.Array.TheVariants.{X}
 use Rattle.icode.specs.Actions.{Step, StepFits, actions_of, step_of}
 use Rattle.icode.specs.Machine.{value_put}
-use Rattle.icode.specs.Plain.{PlainParts, PlainOp, PlainProgram, Load, Store, Zero, Add, Sub, Neg, MulConst, MulTable, Tile}
+use Rattle.icode.specs.Plain.{PlainParts, PlainOp, PlainProgram, Load, Store, Zero, Add, Sub, Neg, MulConst, MulTable}
+use Rattle.icode.specs.Plain.{Tile}
 use Rattle.icode.proofs.Bools.{both_true}
 use Rattle.icode.proofs.Lines.{Contains-nil}
 use Rattle.fast_loops.specs.Places.{same_parts}

@@ -1,5 +1,6 @@
 -- The operations of a round: those that store, and the others, which put registers one behind the other.
-use Rattle.std.proofs.Common.{◌≡◌, ℕ, zero, suc, ◌+◌, ◌<◌, ◌≤◌, Bool, true, not, List, [], ◌∷◌, All, length, take, refl, ap, ◌∙◌, arith, eqb-true, ltb-true}
+use Rattle.std.proofs.Common.{◌≡◌, ℕ, zero, suc, ◌+◌, ◌<◌, ◌≤◌, Bool, true, not, List, [], ◌∷◌, All, length, take, refl}
+use Rattle.std.proofs.Common.{ap, ◌∙◌, arith, eqb-true, ltb-true}
 use Rattle.std.specs.Prelude.{slice_index, nat_lt, ◌==◌}
 use Rattle.std.specs.List.{list_all}
 use Rattle.std.proofs.lemmas.Bool.{and_from}

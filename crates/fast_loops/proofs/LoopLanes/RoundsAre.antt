@@ -1,5 +1,7 @@
 -- A round of v lanes stands for a group of v rounds, from the laws on what they write.
-use Rattle.std.proofs.Common.{◌≡◌, ℕ, zero, suc, ◌+◌, ◌-◌, ◌*◌, ◌<◌, ◌≤◌, true, not, List, [], ◌∷◌, All, Contains, ◌++◌, Option, Some, None, map, drop, flat_map, length, refl, sym, ap, ◌∙◌, subst, arith, eqb-true, length-append, mul-le-mul_left, ⊎_elim}
+use Rattle.std.proofs.Common.{◌≡◌, ℕ, zero, suc, ◌+◌, ◌-◌, ◌*◌, ◌<◌, ◌≤◌, true, not, List, [], ◌∷◌, All, Contains, ◌++◌}
+use Rattle.std.proofs.Common.{Option, Some, None, map, drop, flat_map, length, refl, sym, ap, ◌∙◌, subst, arith}
+use Rattle.std.proofs.Common.{eqb-true, length-append, mul-le-mul_left, ⊎_elim}
 use Rattle.std.specs.Prelude.{◌==◌, ◌/◌}
 use Rattle.std.specs.List.{range_with_len, list_all}
 use Rattle.std.proofs.Math.Nat.{div-mul-le_self}
@@ -16,21 +18,29 @@ use Rattle.fast_loops.specs.Rounds.{Stored}
 use Rattle.fast_loops.proofs.Linear.{wrong}
 use Rattle.fast_loops.proofs.Members.{all_of_members}
 use Rattle.fast_loops.specs.LoopLanes.Rounds.{is_store, stores, others, is_by_lane, are_rows, in_row}
-use Rattle.fast_loops.specs.LoopLanes.Columns.{Columns, Factors, renumbered, renumbered_op, plain_columns, factored_columns, product_at, row_at, tile_at, in_columns}
+use Rattle.fast_loops.specs.LoopLanes.Columns.{Columns, Factors, renumbered, renumbered_op, plain_columns}
+use Rattle.fast_loops.specs.LoopLanes.Columns.{factored_columns, product_at, row_at, tile_at, in_columns}
 use Rattle.fast_loops.specs.LoopLanes.Lanes.{can_lane, laned_ops}
-use Rattle.fast_loops.specs.LoopLanes.Loads.{Loaded, are_loaded_rows, behind, are_loaded, load_at, load_tile, load_tiles, in_loaded_rows, in_tiles, in_loaded}
-use Rattle.fast_loops.specs.LoopLanes.Layers.{AreLanesFor, IsGroup, GroupsWrite, GroupsAreSure, LeaveWrites, RowsWrite, ColumnsWrite, FactoredColumnsWrite, LoadedRowsWrite, LoadedWrite, LoadedFactoredWrite, RoundsAreLanes, memory_by, group_writes, steps_at, group_at, on_lanes}
+use Rattle.fast_loops.specs.LoopLanes.Loads.{Loaded, are_loaded_rows, behind, are_loaded, load_at, load_tile}
+use Rattle.fast_loops.specs.LoopLanes.Loads.{load_tiles, in_loaded_rows, in_tiles, in_loaded}
+use Rattle.fast_loops.specs.LoopLanes.Layers.{AreLanesFor, IsGroup, GroupsWrite, GroupsAreSure, LeaveWrites, RowsWrite}
+use Rattle.fast_loops.specs.LoopLanes.Layers.{ColumnsWrite, FactoredColumnsWrite, LoadedRowsWrite, LoadedWrite}
+use Rattle.fast_loops.specs.LoopLanes.Layers.{LoadedFactoredWrite, RoundsAreLanes, memory_by, group_writes, steps_at}
+use Rattle.fast_loops.specs.LoopLanes.Layers.{group_at, on_lanes}
 use Rattle.fast_loops.proofs.LoopLanes.Covered.{IsOpCovered, all-loop, all-row, lanes_from}
 use Rattle.fast_loops.proofs.LoopLanes.FrontCovered.{AreLow, Covered, front_covered}
 use Rattle.fast_loops.proofs.LoopLanes.LoadedRowsAre.{row_others}
-use Rattle.fast_loops.proofs.LoopLanes.LoadsTold.{IsRow, IsLoaded, AreLoadedRows, of_loaded_rows, of_loaded, loads_each, front_many, loaded_good}
+use Rattle.fast_loops.proofs.LoopLanes.LoadsTold.{IsRow, IsLoaded, AreLoadedRows, of_loaded_rows, of_loaded, loads_each}
+use Rattle.fast_loops.proofs.LoopLanes.LoadsTold.{front_many, loaded_good}
 use Rattle.fast_loops.proofs.LoopLanes.Orders.{some_lanes, group_fits}
 use Rattle.fast_loops.proofs.LoopLanes.Parted.{puts_low}
 use Rattle.fast_loops.proofs.LoopLanes.Parts.{IsOther, are_some, others_are, stored_each}
 use Rattle.fast_loops.proofs.LoopLanes.Renumbered.{renumbered_is}
 use Rattle.fast_loops.proofs.LoopLanes.RowsAre.{renumbered_none}
-use Rattle.fast_loops.proofs.LoopLanes.Tests.{AreGood, AreMultiplied, plain_good, factored_good, factored_front, factored_short, multiplied_by, of_kinds, tile_within}
-use Rattle.fast_loops.proofs.LoopLanes.TilesCovered.{IsStored, tile_covered, row_covered, product_covered, load_covered, load_tile_covered}
+use Rattle.fast_loops.proofs.LoopLanes.Tests.{AreGood, AreMultiplied, plain_good, factored_good, factored_front}
+use Rattle.fast_loops.proofs.LoopLanes.Tests.{factored_short, multiplied_by, of_kinds, tile_within}
+use Rattle.fast_loops.proofs.LoopLanes.TilesCovered.{IsStored, tile_covered, row_covered, product_covered, load_covered}
+use Rattle.fast_loops.proofs.LoopLanes.TilesCovered.{load_tile_covered}
 use Rattle.fast_loops.proofs.LoopLanes.Writes.{order_is_free}
 
 -- ---- how many steps there are

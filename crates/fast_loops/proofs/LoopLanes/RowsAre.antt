@@ -1,5 +1,7 @@
 -- Rows: v rounds whose stores are of words one behind the other are one round of v lanes.
-use Rattle.std.proofs.Common.{◌≡◌, ℕ, zero, suc, ◌+◌, ◌*◌, ◌<◌, ◌≤◌, Bool, true, false, not, List, [], ◌∷◌, ◌++◌, All, Contains, map, flat_map, length, refl, sym, ap, ap₂, ◌∙◌, arith, subst, eqb-true, ltb-true, append-nil, ⊎_elim}
+use Rattle.std.proofs.Common.{◌≡◌, ℕ, zero, suc, ◌+◌, ◌*◌, ◌<◌, ◌≤◌, Bool, true, false, not, List, [], ◌∷◌, ◌++◌, All}
+use Rattle.std.proofs.Common.{Contains, map, flat_map, length, refl, sym, ap, ap₂, ◌∙◌, arith, subst, eqb-true}
+use Rattle.std.proofs.Common.{ltb-true, append-nil, ⊎_elim}
 use Rattle.std.specs.Prelude.{◌-◌, ◌==◌, slice_index, slice_set}
 use Rattle.std.specs.List.{list_all, range_with_len}
 use Rattle.std.proofs.Math.Path.{fun_ext}
@@ -10,7 +12,8 @@ use Rattle.icode.specs.declared.program.Array.{Array}
 use Rattle.icode.specs.Actions.{StepFits, actions_of, array_start, step_of}
 use Rattle.icode.specs.Expression.{sum_numbers}
 use Rattle.icode.specs.Machine.{Local, effect, effects, memory_after, register_of, words_at, with_words, whole_lines}
-use Rattle.icode.specs.Plain.{PlainExpr, PlainParts, PlainOp, PlainProgram, Sum, Load, Store, Zero, Add, Sub, Neg, MulConst, MulTable, Tile}
+use Rattle.icode.specs.Plain.{PlainExpr, PlainParts, PlainOp, PlainProgram, Sum, Load, Store, Zero, Add, Sub, Neg}
+use Rattle.icode.specs.Plain.{MulConst, MulTable, Tile}
 use Rattle.icode.proofs.Bools.{both_true}
 use Rattle.icode.proofs.Lines.{Contains-nil}
 use Rattle.icode.proofs.Words.{length-words_at}
@@ -21,13 +24,15 @@ use Rattle.fast_loops.specs.Rounds.{Stored, same_array, is_fresh, put_after, are
 use Rattle.fast_loops.proofs.Acts.{loaded_words}
 use Rattle.fast_loops.proofs.Linear.{wrong}
 use Rattle.fast_loops.specs.LoopLanes.Columns.{renumbered_op}
-use Rattle.fast_loops.specs.LoopLanes.Layers.{Write, written, RowsWrite, memory_by, on_lanes, steps_at, group_writes, writes_of}
+use Rattle.fast_loops.specs.LoopLanes.Layers.{Write, written, RowsWrite, memory_by, on_lanes, steps_at, group_writes}
+use Rattle.fast_loops.specs.LoopLanes.Layers.{writes_of}
 use Rattle.fast_loops.specs.LoopLanes.Rounds.{straight, is_by_lane, is_store, in_row, widened}
 use Rattle.fast_loops.proofs.LoopLanes.Arrays.{IsOutside, same_start, other_outside}
 use Rattle.fast_loops.proofs.LoopLanes.Held.{AreHeld, in_lanes}
 use Rattle.fast_loops.proofs.LoopLanes.FrontHeld as lanes
 use Rattle.fast_loops.proofs.LoopLanes.FrontHeld.{put_next}
-use Rattle.fast_loops.proofs.LoopLanes.Orders.{group_fits, register_low, writes_split, members_turned, values_stay, parts_same, some_lanes}
+use Rattle.fast_loops.proofs.LoopLanes.Orders.{group_fits, register_low, writes_split, members_turned, values_stay}
+use Rattle.fast_loops.proofs.LoopLanes.Orders.{parts_same, some_lanes}
 use Rattle.fast_loops.proofs.LoopLanes.Writes.{written-append}
 
 -- ---- what a store writes

@@ -1,5 +1,7 @@
 -- No word gets two values from the rounds of a group.
-use Rattle.std.proofs.Common.{◌≡◌, ◌⊎◌, ℕ, zero, suc, ◌+◌, ◌*◌, ◌<◌, ◌≤◌, Bool, true, ◌&&◌, List, [], ◌∷◌, ◌++◌, length, flat_map, Contains, Some, refl, sym, ap, ap₂, ◌∙◌, subst, arith, inl, inr, ⊎_elim, eqb-true, leb-true, mul-le-mul_left}
+use Rattle.std.proofs.Common.{◌≡◌, ◌⊎◌, ℕ, zero, suc, ◌+◌, ◌*◌, ◌<◌, ◌≤◌, Bool, true, ◌&&◌, List, [], ◌∷◌, ◌++◌, length}
+use Rattle.std.proofs.Common.{flat_map, Contains, Some, refl, sym, ap, ap₂, ◌∙◌, subst, arith, inl, inr, ⊎_elim}
+use Rattle.std.proofs.Common.{eqb-true, leb-true, mul-le-mul_left}
 use Rattle.std.specs.Prelude.{◌==◌, nat_le, slice_index}
 use Rattle.std.specs.List.{list_all, range_with_len}
 use Rattle.std.proofs.lemmas.Bool.{or_cases, cases_order}
@@ -9,14 +11,18 @@ use Rattle.icode.proofs.Bools.{both_true}
 use Rattle.icode.proofs.Lines.{Contains-nil}
 use Rattle.fast_loops.specs.Places.{are_linear, stride}
 use Rattle.fast_loops.specs.Rounds.{Stored}
-use Rattle.fast_loops.specs.LoopLanes.Rounds.{is_by_lane, stores, stored_registers, stored_constants, are_from, is_clear, are_clear}
-use Rattle.fast_loops.specs.LoopLanes.Columns.{Columns, plain_columns, factored_columns, first_factors, last_products, are_by, are_tiles, are_columns}
+use Rattle.fast_loops.specs.LoopLanes.Rounds.{is_by_lane, stores, stored_registers, stored_constants, are_from}
+use Rattle.fast_loops.specs.LoopLanes.Rounds.{is_clear, are_clear}
+use Rattle.fast_loops.specs.LoopLanes.Columns.{Columns, plain_columns, factored_columns, first_factors, last_products}
+use Rattle.fast_loops.specs.LoopLanes.Columns.{are_by, are_tiles, are_columns}
 use Rattle.fast_loops.specs.LoopLanes.Lanes.{can_lane}
 use Rattle.fast_loops.specs.LoopLanes.Loads.{behind, are_loaded}
 use Rattle.fast_loops.specs.LoopLanes.Layers.{Write, GroupsAreSure, round_writes, group_writes}
 use Rattle.fast_loops.proofs.LoopLanes.Held.{values_in}
 use Rattle.fast_loops.proofs.LoopLanes.LoadsTold.{from_loaded_rows, from_loaded}
-use Rattle.fast_loops.proofs.LoopLanes.Told.{IsOneOf, InRows, InColumns, InFactoredColumns, InLoadedRows, InLoaded, InLoadedFactored, AreTold, kind_of, told, stored_at, store_base, writes_are}
+use Rattle.fast_loops.proofs.LoopLanes.Told.{IsOneOf, InRows, InColumns, InFactoredColumns, InLoadedRows, InLoaded}
+use Rattle.fast_loops.proofs.LoopLanes.Told.{InLoadedFactored, AreTold, kind_of, told, stored_at, store_base}
+use Rattle.fast_loops.proofs.LoopLanes.Told.{writes_are}
 use Rattle.fast_loops.proofs.LoopLanes.Wide.{lane_value}
 
 -- ---- a write of a list

@@ -1,5 +1,6 @@
 -- What the tests of a round that can be laned tell of it.
-use Rattle.std.proofs.Common.{◌≡◌, ℕ, ◌+◌, ◌*◌, ◌/◌, ◌%◌, ◌^◌, ◌<◌, ◌≤◌, Bool, true, false, not, List, All, Contains, Option, Some, None, map, length, refl, sym, arith, leb-true, mul-le-mul_left}
+use Rattle.std.proofs.Common.{◌≡◌, ℕ, ◌+◌, ◌*◌, ◌/◌, ◌%◌, ◌^◌, ◌<◌, ◌≤◌, Bool, true, false, not, List, All, Contains}
+use Rattle.std.proofs.Common.{Option, Some, None, map, length, refl, sym, arith, leb-true, mul-le-mul_left}
 use Rattle.std.specs.Prelude.{◌==◌, ◌&&◌, ◌||◌, nat_le, if◌then◌else◌}
 use Rattle.std.proofs.Math.Nat.{div-mul-le_self}
 use Rattle.std.proofs.lemmas.List.{length-take}
@@ -12,9 +13,13 @@ use Rattle.fast_loops.specs.Rounds.{Stored}
 use Rattle.fast_loops.proofs.Linear.{wrong}
 use Rattle.fast_loops.proofs.Members.{all_of_members}
 use Rattle.fast_loops.specs.LoopLanes.Rounds.{is_store, stores, others, stored_constants, are_from, are_rows, in_row}
-use Rattle.fast_loops.specs.LoopLanes.Columns.{Columns, Factors, factored_registers, first_factors, front_length, last_products, plain_columns, factored_columns, are_by, are_products, are_columns, are_tiles, are_plain_columns, are_factored_columns, in_columns}
+use Rattle.fast_loops.specs.LoopLanes.Columns.{Columns, Factors, factored_registers, first_factors, front_length}
+use Rattle.fast_loops.specs.LoopLanes.Columns.{last_products, plain_columns, factored_columns, are_by, are_products}
+use Rattle.fast_loops.specs.LoopLanes.Columns.{are_columns, are_tiles, are_plain_columns, are_factored_columns}
+use Rattle.fast_loops.specs.LoopLanes.Columns.{in_columns}
 use Rattle.fast_loops.specs.LoopLanes.Lanes.{can_by_lane, by_lane_ops, can_lane, laned_ops}
-use Rattle.fast_loops.specs.LoopLanes.Loads.{are_loaded_rows, are_loaded, can_load, in_loaded_rows, in_loaded, loaded_ops}
+use Rattle.fast_loops.specs.LoopLanes.Loads.{are_loaded_rows, are_loaded, can_load, in_loaded_rows, in_loaded}
+use Rattle.fast_loops.specs.LoopLanes.Loads.{loaded_ops}
 use Rattle.fast_loops.proofs.LoopLanes.ColumnsAre.{AreColumns, columns_told}
 use Rattle.fast_loops.proofs.LoopLanes.Parts.{IsOther, others_are, multiplied_each, as_many_products}
 use Rattle.fast_loops.proofs.LoopLanes.TilesCovered.{IsMultiplied}

@@ -1,5 +1,6 @@
 -- Tiles of registers: what stands in their lanes is turned, is multiplied where there are factors, and is stored.
-use Rattle.std.proofs.Common.{◌≡◌, ◌≢◌, ℕ, zero, suc, ◌+◌, ◌*◌, ◌<◌, ◌≤◌, true, List, [], ◌∷◌, ◌++◌, map, length, flat_map, Option, Some, None, refl, sym, ap, ap₂, ◌∙◌, arith, inl, subst, mul-le-mul_left}
+use Rattle.std.proofs.Common.{◌≡◌, ◌≢◌, ℕ, zero, suc, ◌+◌, ◌*◌, ◌<◌, ◌≤◌, true, List, [], ◌∷◌, ◌++◌, map, length}
+use Rattle.std.proofs.Common.{flat_map, Option, Some, None, refl, sym, ap, ap₂, ◌∙◌, arith, inl, subst, mul-le-mul_left}
 use Rattle.std.specs.Prelude.{slice_index, slice_index_or}
 use Rattle.std.specs.List.{range_with_len}
 use Rattle.std.proofs.lemmas.List.Concat.{flat_map_single}
@@ -11,7 +12,8 @@ use Rattle.icode.specs.Expression.{sum_numbers}
 use Rattle.icode.specs.Machine.{Local, effect, effects, whole_lines}
 use Rattle.icode.specs.Plain.{PlainOp, PlainProgram, Sum}
 use Rattle.icode.specs.CodeLaws.Lanes.{Registers, lane_of, with_register}
-use Rattle.icode.proofs.CodeLaws.ByLane.{effect_by_lane, this_register, other_register, length-registers_after, lists_follow}
+use Rattle.icode.proofs.CodeLaws.ByLane.{effect_by_lane, this_register, other_register, length-registers_after}
+use Rattle.icode.proofs.CodeLaws.ByLane.{lists_follow}
 use Rattle.icode.proofs.CodeLaws.Stores.{length-registers}
 use Rattle.icode.proofs.CodeLaws.Tiles.{tile_by_lane, tile_elsewhere}
 use Rattle.fast_loops.specs.Places.{are_linear}

@@ -1,5 +1,6 @@
 -- What the tests of lanes tell of the operations of rounds.
-use Rattle.std.proofs.Common.{◌≡◌, ℕ, zero, suc, ◌+◌, ◌<◌, ◌≤◌, true, false, List, [], ◌∷◌, ◌++◌, take, drop, All, Some, None, Option, refl, sym, ap, ap₂, ◌∙◌, subst, arith, inl, inr, ⊎_elim, take-append-drop}
+use Rattle.std.proofs.Common.{◌≡◌, ℕ, zero, suc, ◌+◌, ◌<◌, ◌≤◌, true, false, List, [], ◌∷◌, ◌++◌, take, drop, All, Some}
+use Rattle.std.proofs.Common.{None, Option, refl, sym, ap, ap₂, ◌∙◌, subst, arith, inl, inr, ⊎_elim, take-append-drop}
 use Rattle.std.specs.Prelude.{◌==◌, slice_index}
 use Rattle.std.specs.List.{list_all}
 use Rattle.std.proofs.lemmas.Bool.{not-true, or_cases}
@@ -15,8 +16,11 @@ use Rattle.fast_loops.specs.Rounds.{Stored, same_array, are_fresh}
 use Rattle.fast_loops.proofs.Acts.{IsRound}
 use Rattle.fast_loops.proofs.Linear.{wrong}
 use Rattle.fast_loops.proofs.Rows.{round_acts}
-use Rattle.fast_loops.specs.LoopLanes.Rounds.{straight, is_by_lane, stores, others, stored_registers, stored_constants, are_rows}
-use Rattle.fast_loops.specs.LoopLanes.Columns.{Columns, Factors, plain_columns, factored_columns, first_factors, front_length, last_products, are_products, are_by, are_tiles, are_columns, are_plain_columns, are_factored_columns}
+use Rattle.fast_loops.specs.LoopLanes.Rounds.{straight, is_by_lane, stores, others, stored_registers, stored_constants}
+use Rattle.fast_loops.specs.LoopLanes.Rounds.{are_rows}
+use Rattle.fast_loops.specs.LoopLanes.Columns.{Columns, Factors, plain_columns, factored_columns, first_factors}
+use Rattle.fast_loops.specs.LoopLanes.Columns.{front_length, last_products, are_products, are_by, are_tiles}
+use Rattle.fast_loops.specs.LoopLanes.Columns.{are_columns, are_plain_columns, are_factored_columns}
 use Rattle.fast_loops.specs.LoopLanes.Lanes.{can_by_lane, can_lane}
 use Rattle.fast_loops.specs.LoopLanes.Loads.{Loaded, behind, can_load, are_loaded_rows, are_loaded}
 use Rattle.fast_loops.specs.LoopLanes.Layers.{Write, steps_at, writes_of}

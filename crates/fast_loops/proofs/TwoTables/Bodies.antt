@@ -1,15 +1,18 @@
 -- Statements where a table is in two factors: their steps are for those of the statements.
-use Rattle.std.proofs.Common.{◌≡◌, ℕ, ◌&&◌, Bool, true, false, List, [], ◌∷◌, ◌++◌, All, flat_map, refl, sym, ap, ◌∙◌, subst, append-nil, append_assoc, eqb-true, ltb-true, ⊎_elim}
+use Rattle.std.proofs.Common.{◌≡◌, ℕ, ◌&&◌, Bool, true, false, List, [], ◌∷◌, ◌++◌, All, flat_map, refl, sym, ap, ◌∙◌}
+use Rattle.std.proofs.Common.{subst, append-nil, append_assoc, eqb-true, ltb-true, ⊎_elim}
 use Rattle.std.specs.Prelude.{◌==◌, nat_lt, if◌then◌else◌}
 use Rattle.std.specs.List.{range_with_len}
 use Rattle.std.proofs.lemmas.Bool.{cases_Bool, eqb-false}
 use Rattle.std.proofs.lemmas.List.Elements.{All-head}
 use Rattle.icode.specs.Actions.{Step, StepFits, step_of, steps_of_stmt, steps_of_body}
-use Rattle.icode.specs.Plain.{PlainOp, PlainStmt, PlainBody, PlainProgram, Load, Store, Zero, Add, Sub, Neg, MulConst, MulTable, Tile, Loop, Do, NoStmts, AndStmts}
+use Rattle.icode.specs.Plain.{PlainOp, PlainStmt, PlainBody, PlainProgram, Load, Store, Zero, Add, Sub, Neg, MulConst}
+use Rattle.icode.specs.Plain.{MulTable, Tile, Loop, Do, NoStmts, AndStmts}
 use Rattle.icode.proofs.Bools.{both_true}
 use Rattle.fast_loops.specs.TwoTables.Factors.{Cut}
 use Rattle.fast_loops.specs.TwoTables.Places.{is_even}
-use Rattle.fast_loops.specs.TwoTables.TwoTables.{Split, split_at, in_factors, factored_op, two_products, put_before, factored_stmt, factored_body, is_op_even, is_stmt_even, is_body_even}
+use Rattle.fast_loops.specs.TwoTables.TwoTables.{Split, split_at, in_factors, factored_op, two_products, put_before}
+use Rattle.fast_loops.specs.TwoTables.TwoTables.{factored_stmt, factored_body, is_op_even, is_stmt_even, is_body_even}
 use Rattle.fast_loops.proofs.TwoTables.Listed.{all-left, all-right, all-in-loop}
 use Rattle.fast_loops.proofs.TwoTables.Products.{IsSplit, other_step, other_product, products}
 use Rattle.fast_loops.proofs.TwoTables.Replaced.{AreFor, for-none, for-append, for-loop}

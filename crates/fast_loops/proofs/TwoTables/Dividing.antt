@@ -1,6 +1,7 @@
 -- Entries in blocks and rows.
 use Rattle.std.proofs.Common.{◌≡◌, ℕ, ◌+◌, ◌*◌, ◌/◌, ◌%◌, ◌<◌, ◌≤◌, sym, ap, ◌∙◌, arith, mul_comm, mul-le-mul_left}
-use Rattle.std.proofs.Math.Nat.{div-mul-le_self, div-add-mod', mul-add-mod_self_right, mod-eq_of_lt, lt_of_mul-lt-mul_right, mul_assoc}
+use Rattle.std.proofs.Math.Nat.{div-mul-le_self, div-add-mod', mul-add-mod_self_right, mod-eq_of_lt}
+use Rattle.std.proofs.Math.Nat.{lt_of_mul-lt-mul_right, mul_assoc}
 use Rattle.std.proofs.lemmas.Nat.{div-mul-add, mod_below}
 
 -- a block of the table

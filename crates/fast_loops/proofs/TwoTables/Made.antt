@@ -1,5 +1,7 @@
 -- What becomes of a program's fields where a table is in two factors.
-use Rattle.std.proofs.Common.{◌≡◌, ℕ, zero, suc, ◌+◌, ◌-◌, ◌^◌, ◌<◌, ◌≤◌, ◌&&◌, Bool, true, false, List, [], ◌∷◌, ◌++◌, Vec, Global, map, length, get_or, refl, sym, ap, ap₂, ◌∙◌, subst, arith, length-append, lt-ltb, ltb-true}
+use Rattle.std.proofs.Common.{◌≡◌, ℕ, zero, suc, ◌+◌, ◌-◌, ◌^◌, ◌<◌, ◌≤◌, ◌&&◌, Bool, true, false, List, [], ◌∷◌, ◌++◌}
+use Rattle.std.proofs.Common.{Vec, Global, map, length, get_or, refl, sym, ap, ap₂, ◌∙◌, subst, arith, length-append}
+use Rattle.std.proofs.Common.{lt-ltb, ltb-true}
 use Rattle.std.specs.Prelude.{nat_lt, nat_le, slice_index_or, slice_set, if◌then◌else◌}
 use Rattle.std.specs.List.{list_all}
 use Rattle.std.proofs.lemmas.List.{length-map, map-append}
@@ -12,7 +14,9 @@ use Rattle.icode.specs.Plain.{PlainBody, PlainProgram, plain_tables, plain_phase
 use Rattle.icode.specs.Program.{plain_program, table_of}
 use Rattle.icode.proofs.Bools.{both_true}
 use Rattle.fast_loops.specs.TwoTables.Factors.{Cut, first_factor, second_factor, are_factors, is_cut, cut_of}
-use Rattle.fast_loops.specs.TwoTables.TwoTables.{Split, split_at, in_factors, factored_body, has_room, is_usable, is_cut_well, may_be_split, can_split, is_body_even, factored_at, factored_from, factored}
+use Rattle.fast_loops.specs.TwoTables.TwoTables.{Split, split_at, in_factors, factored_body, has_room, is_usable}
+use Rattle.fast_loops.specs.TwoTables.TwoTables.{is_cut_well, may_be_split, can_split, is_body_even, factored_at}
+use Rattle.fast_loops.specs.TwoTables.TwoTables.{factored_from, factored}
 use Rattle.fast_loops.proofs.TwoTables.Listed.{set-length}
 use Rattle.fast_loops.proofs.TwoTables.Products.{what_splits}
 use Rattle.fast_loops.proofs.TwoTables.Programs.{at_table}

@@ -1,7 +1,9 @@
 -- The numbers of places that are multiples of the lanes, and of their factors' places.
-use Rattle.std.proofs.Common.{◌≡◌, ℕ, zero, suc, ◌+◌, ◌*◌, ◌/◌, ◌%◌, ◌≤◌, true, List, refl, sym, ap, ◌∙◌, arith, subst, eqb-true}
+use Rattle.std.proofs.Common.{◌≡◌, ℕ, zero, suc, ◌+◌, ◌*◌, ◌/◌, ◌%◌, ◌≤◌, true, List, refl, sym, ap, ◌∙◌, arith, subst}
+use Rattle.std.proofs.Common.{eqb-true}
 use Rattle.std.specs.Prelude.{slice_index, ◌==◌}
-use Rattle.std.proofs.Math.Nat.{le-max_left, max-le, div-le_self, mod-le, zero-mod, mul-zero, mul-le-mul_right, div-add-mod', div-mul-le_self}
+use Rattle.std.proofs.Math.Nat.{le-max_left, max-le, div-le_self, mod-le, zero-mod, mul-zero, mul-le-mul_right}
+use Rattle.std.proofs.Math.Nat.{div-add-mod', div-mul-le_self}
 use Rattle.ring_mod.proofs.Congruence.{same-add, same-mul}
 use Rattle.icode.specs.Expression.{sum_numbers, parts_numbers}
 use Rattle.icode.specs.Plain.{PlainExpr, PlainParts, Sum, NoParts, AndParts, Proc, Var, Product, Rem, Quot}

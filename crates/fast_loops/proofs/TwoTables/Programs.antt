@@ -1,5 +1,7 @@
 -- A program with a table in two factors leaves what it left.
-use Rattle.std.proofs.Common.{◌≡◌, ℕ, zero, suc, ◌+◌, ◌*◌, ◌^◌, ◌<◌, ◌≤◌, ◌&&◌, List, [], ◌∷◌, Bool, true, false, map, flat_map, length, refl, sym, ap, ap₂, ◌∙◌, subst, arith, ltb-true, leb-true, ⊎_elim, Contains}
+use Rattle.std.proofs.Common.{◌≡◌, ℕ, zero, suc, ◌+◌, ◌*◌, ◌^◌, ◌<◌, ◌≤◌, ◌&&◌, List, [], ◌∷◌, Bool, true, false, map}
+use Rattle.std.proofs.Common.{flat_map, length, refl, sym, ap, ap₂, ◌∙◌, subst, arith, ltb-true, leb-true, ⊎_elim}
+use Rattle.std.proofs.Common.{Contains}
 use Rattle.std.specs.Prelude.{slice_index_or, nat_lt, nat_le, if◌then◌else◌}
 use Rattle.std.specs.List.{range_with_len, list_all}
 use Rattle.std.proofs.Math.Nat.{mul-le-mul_right}
@@ -11,7 +13,8 @@ use Rattle.icode.specs.declared.action.Action.{Action}
 use Rattle.icode.specs.Actions.{Step, PlainFits, steps_of_body, steps_of_phase, actions_of, plain_code}
 use Rattle.icode.specs.Lengths.{len_of_body}
 use Rattle.icode.specs.Limits.{is_small}
-use Rattle.icode.specs.Machine.{IsApart, Local, acts, effects, lines_of, stored_words, touched_words, whole_lines, words_at}
+use Rattle.icode.specs.Machine.{IsApart, Local, acts, effects, lines_of, stored_words, touched_words, whole_lines}
+use Rattle.icode.specs.Machine.{words_at}
 use Rattle.icode.specs.Plain.{PlainBody, PlainProgram, NoStmts}
 use Rattle.icode.proofs.Bools.{both_true}
 use Rattle.icode.proofs.Lengths.{body_length}
@@ -19,7 +22,9 @@ use Rattle.icode.proofs.Lists.{code_is}
 use Rattle.icode.proofs.Runs.{memory_of_runs}
 use Rattle.fast_loops.specs.TwoTables.Factors.{Cut, cut_of}
 use Rattle.fast_loops.specs.TwoTables.Laws.{IsInPlaceOf}
-use Rattle.fast_loops.specs.TwoTables.TwoTables.{Split, split_at, in_factors, factored_body, is_body_even, is_short, has_room, is_usable, may_be_split, is_cut_well, can_split, factored_at, factored_from}
+use Rattle.fast_loops.specs.TwoTables.TwoTables.{Split, split_at, in_factors, factored_body, is_body_even, is_short}
+use Rattle.fast_loops.specs.TwoTables.TwoTables.{has_room, is_usable, may_be_split, is_cut_well, can_split, factored_at}
+use Rattle.fast_loops.specs.TwoTables.TwoTables.{factored_from}
 use Rattle.fast_loops.proofs.TwoTables.Bodies.{body-for}
 use Rattle.fast_loops.proofs.TwoTables.Products.{IsSplit, what_splits}
 use Rattle.fast_loops.proofs.TwoTables.Registers.{AreLike}

@@ -1,5 +1,6 @@
 -- What the walk over a table's entries has found.
-use Rattle.std.proofs.Common.{◌≡◌, ℕ, zero, suc, ◌+◌, ◌<◌, ◌≤◌, true, List, [], ◌∷◌, length, sym, ap, ◌∙◌, arith, eqb-true, ltb-true, ⊎_elim}
+use Rattle.std.proofs.Common.{◌≡◌, ℕ, zero, suc, ◌+◌, ◌<◌, ◌≤◌, true, List, [], ◌∷◌, length, sym, ap, ◌∙◌, arith}
+use Rattle.std.proofs.Common.{eqb-true, ltb-true, ⊎_elim}
 use Rattle.std.specs.Prelude.{slice_index, nat_lt, Bool}
 use Rattle.std.specs.List.{range_with_len, list_all}
 use Rattle.ring_mod.specs.Residue.{product_mod}

@@ -1,10 +1,12 @@
 -- Programs whose phases are replaced, for the machine: what they leave in order.
-use Rattle.std.proofs.Common.{◌≡◌, ℕ, zero, suc, ◌+◌, ◌*◌, ◌<◌, ◌≤◌, ◌≢◌, List, [], ◌∷◌, replicate, length, refl, sym, ap, ◌∙◌, subst, arith, ⊎_elim}
+use Rattle.std.proofs.Common.{◌≡◌, ℕ, zero, suc, ◌+◌, ◌*◌, ◌<◌, ◌≤◌, ◌≢◌, List, [], ◌∷◌, replicate, length, refl, sym}
+use Rattle.std.proofs.Common.{ap, ◌∙◌, subst, arith, ⊎_elim}
 use Rattle.std.proofs.lemmas.Bool.{cases_eq}
 use Rattle.std.specs.Prelude.{slice_index_or, slice_set, slice_get}
 use Rattle.std.proofs.lemmas.List.{length-replicate}
 use Rattle.icode.specs.declared.action.Action.{Action}
-use Rattle.icode.specs.Machine.{Code, Whole, Local, acts, effects, start, processor_alone, processors_alone, phases_alone, in_order}
+use Rattle.icode.specs.Machine.{Code, Whole, Local, acts, effects, start, processor_alone, processors_alone}
+use Rattle.icode.specs.Machine.{phases_alone, in_order}
 use Rattle.fast_loops.proofs.TwoTables.Registers.{AreLike}
 
 file-set : (files : List (List ℕ)) (q k : ℕ) (file : List ℕ) → k ≢ q → slice_index_or (slice_set files q file) k [] ≡ slice_index_or files k []

@@ -1,6 +1,8 @@
--- Loop coalescing (Polychronopoulos, 1987): an innermost loop and the one in which it stands alone become one loop of as
--- many rounds as both have, where each place goes on from the last round of the inner loop to the first of its next time.
-use Rattle.std.specs.Prelude.{ℕ, ◌+◌, ◌-◌, ◌*◌, ◌%◌, ◌==◌, ◌&&◌, Bool, true, not, false, nat_lt, map, Option, Some, None, if◌then◌else◌}
+-- Loop coalescing (Polychronopoulos, 1987): an innermost loop and the one in which it stands alone become one loop of
+-- as many rounds as both have, where each place goes on from the last round of the inner loop to the first of its next
+-- time.
+use Rattle.std.specs.Prelude.{ℕ, ◌+◌, ◌-◌, ◌*◌, ◌%◌, ◌==◌, ◌&&◌, Bool, true, not, false, nat_lt, map, Option, Some}
+use Rattle.std.specs.Prelude.{None, if◌then◌else◌}
 use Rattle.std.specs.Option.{unwrap_or}
 use Rattle.icode.specs.Limits.{is_small}
 use Rattle.icode.specs.Plain.{PlainExpr, PlainParts, PlainOp, PlainStmt, PlainBody, PlainProgram, Sum, NoParts}
@@ -61,8 +63,8 @@ abbrev mutual
 
 -- ---- loops
 
--- two loops as one, of which the outer one is at this depth and the inner one is the innermost, as long as its rounds are no
--- multiple of 16, the greatest number of lanes
+-- two loops as one, of which the outer one is at this depth and the inner one is the innermost, as long as its rounds
+-- are no multiple of 16, the greatest number of lanes
 abbrev pub both_as_one : ℕ → ℕ → ℕ → PlainBody → Option PlainStmt
 both_as_one loop count inner body =
     if not (inner % 16 == 0) && (is_small (count * inner) && body_goes_on loop inner body)

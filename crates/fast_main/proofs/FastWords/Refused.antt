@@ -1,7 +1,8 @@
 -- What clap's clauses say of the one simple command.
 use Rattle.std.proofs.Common.{◌≡◌, List, [], ◌∷◌, true, false, refl, sym, ap, ap₂, ◌∙◌, inl, inr, arith}
 use Rattle.std.proofs.lemmas.Bool.Decides.{nat_tests}
-use Rattle.clap.specs.Words.{App, Text, HasKind, HasMatchesOf, IsAmong, Kinds, fault_of, found_of, is_simple, is_simple_and_free, kind_of, matches_of, rows_of}
+use Rattle.clap.specs.Words.{App, Text, HasKind, HasMatchesOf, IsAmong, Kinds, fault_of, found_of, is_simple}
+use Rattle.clap.specs.Words.{is_simple_and_free, kind_of, matches_of, rows_of}
 use Rattle.clap.specs.Walk.{is_empty}
 use Rattle.clap.specs.declared.Error.{Error}
 use Rattle.clap.specs.declared.ArgMatches.{ArgMatches}

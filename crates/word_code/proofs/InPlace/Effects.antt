@@ -10,7 +10,8 @@ use Rattle.word_code.specs.WordMachine.{WordAction, word_put, bare_effect, word_
 use Rattle.word_code.specs.InPlace.Homes.{Homes, are_home}
 use Rattle.word_code.specs.InPlace.Accesses.{Access, Reads, Writes, are_right, homes_after_all}
 use Rattle.word_code.proofs.OneProcessor.{word_effects}
-use Rattle.word_code.proofs.InPlace.Pairs.{IsInner, IsOwnPair, IsTouchPair, IsLoadPair, IsStorePair, IsPair, ArePairs, stored}
+use Rattle.word_code.proofs.InPlace.Pairs.{IsInner, IsOwnPair, IsTouchPair, IsLoadPair, IsStorePair, IsPair, ArePairs}
+use Rattle.word_code.proofs.InPlace.Pairs.{stored}
 use Rattle.word_code.proofs.InPlace.Standing.{Stands, stands_housed, stands_read}
 use Rattle.word_code.proofs.InPlace.Walks.{right-append, after-append}
 

@@ -1,18 +1,22 @@
 -- Programs on words whose statements go by other routes fit where they did, and processors that were apart stay apart.
-use Rattle.std.proofs.Common.{◌≡◌, ℕ, zero, suc, ◌^◌, ◌+◌, ◌<◌, List, [], ◌∷◌, ◌++◌, length, map, flat_map, refl, sym, ap, ap₂, ◌∙◌, subst, ⊎_elim, length-append}
+use Rattle.std.proofs.Common.{◌≡◌, ℕ, zero, suc, ◌^◌, ◌+◌, ◌<◌, List, [], ◌∷◌, ◌++◌, length, map, flat_map, refl, sym}
+use Rattle.std.proofs.Common.{ap, ap₂, ◌∙◌, subst, ⊎_elim, length-append}
 use Rattle.std.specs.Prelude.{slice_index_or}
 use Rattle.std.specs.List.{range_with_len}
 use Rattle.std.proofs.lemmas.List.{length-map}
 use Rattle.operators.specs.Sum.{sum_below}
 use Rattle.operators.proofs.Sums.{sum_below-same}
-use Rattle.icode.specs.Actions.{Step, StepFits, PlainFits, step_of, steps_of_stmt, steps_of_body, steps_of_phase, plain_code}
+use Rattle.icode.specs.Actions.{Step, StepFits, PlainFits, step_of, steps_of_stmt, steps_of_body, steps_of_phase}
+use Rattle.icode.specs.Actions.{plain_code}
 use Rattle.icode.specs.Machine.{IsApart}
-use Rattle.icode.specs.Plain.{PlainOp, PlainBody, PlainProgram, Load, Store, Zero, Add, Sub, Neg, MulConst, MulTable, Tile}
+use Rattle.icode.specs.Plain.{PlainOp, PlainBody, PlainProgram, Load, Store, Zero, Add, Sub, Neg, MulConst, MulTable}
+use Rattle.icode.specs.Plain.{Tile}
 use Rattle.icode.specs.Plain as plain
 use Rattle.word_code.specs.Bare.{bare_stmt, bare_body, bare, with_bodies, NumbersFit, WordsFit}
 use Rattle.word_code.specs.Quicken.{Laziness, quickened}
 use Rattle.word_code.specs.WordMachine.{WordAction, under, word_acts}
-use Rattle.word_code.specs.WordProgram.{Note, WordStmt, WordBody, PlainWordProgram, Loop, Do, NoStmts, AndStmts, word_action_of, word_actions_of_stmt, word_actions_of_body, word_code}
+use Rattle.word_code.specs.WordProgram.{Note, WordStmt, WordBody, PlainWordProgram, Loop, Do, NoStmts, AndStmts}
+use Rattle.word_code.specs.WordProgram.{word_action_of, word_actions_of_stmt, word_actions_of_body, word_code}
 use Rattle.word_code.proofs.Bare.{quickened_apart, code_under_is, one_is_apart}
 use Rattle.word_code.proofs.Numbers.{all_of_each, each_append, acts_are, lists_have}
 use Rattle.word_code.proofs.Programs.{Each, each_of_all, each_front, each_back}

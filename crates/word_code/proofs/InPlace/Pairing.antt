@@ -9,14 +9,18 @@ use Rattle.icode.specs.declared.program.Array.TheVariants.{X, Y, A, B}
 use Rattle.icode.specs.Actions.{Step, StepFits, array_start, step_of, steps_of_stmt, steps_of_body}
 use Rattle.icode.specs.Expression.{sum_numbers}
 use Rattle.icode.specs.Machine.{whole_lines}
-use Rattle.icode.specs.Plain.{PlainOp, PlainStmt, PlainBody, PlainProgram, Load, Store, Zero, Add, Sub, Neg, MulConst, MulTable, Tile}
+use Rattle.icode.specs.Plain.{PlainOp, PlainStmt, PlainBody, PlainProgram, Load, Store, Zero, Add, Sub, Neg, MulConst}
+use Rattle.icode.specs.Plain.{MulTable, Tile}
 use Rattle.icode.specs.Plain as plain
 use Rattle.word_code.specs.Needs.{needs}
-use Rattle.word_code.specs.Quicken.{Laziness, loosest, loosened, header_of, quick_stmt, quick_body, quick_alone, quickened}
+use Rattle.word_code.specs.Quicken.{Laziness, loosest, loosened, header_of, quick_stmt, quick_body, quick_alone}
+use Rattle.word_code.specs.Quicken.{quickened}
 use Rattle.word_code.specs.WordMachine.{WordAction}
-use Rattle.word_code.specs.WordProgram.{Note, PlainWordProgram, word_action_of, word_actions_of_stmt, word_actions_of_body}
+use Rattle.word_code.specs.WordProgram.{Note, PlainWordProgram, word_action_of, word_actions_of_stmt}
+use Rattle.word_code.specs.WordProgram.{word_actions_of_body}
 use Rattle.word_code.specs.declared.in_place.routes.Route.{Route}
-use Rattle.word_code.specs.InPlace.Accesses.{Access, Reads, Writes, accesses_of, accesses_of_stmt, accesses_of_body, accesses_of_phase}
+use Rattle.word_code.specs.InPlace.Accesses.{Access, Reads, Writes, accesses_of, accesses_of_stmt, accesses_of_body}
+use Rattle.word_code.specs.InPlace.Accesses.{accesses_of_phase}
 use Rattle.word_code.specs.InPlace.Choice.{chosen}
 use Rattle.word_code.specs.InPlace.Routes.{rerouted_op, rerouted_stmt, rerouted_body, rerouted_phase, rerouted}
 use Rattle.word_code.specs.InPlace.View.{StmtFits, BodyFits}

@@ -1,15 +1,19 @@
 -- Walks over the accesses of statements, of which some are left.
-use Rattle.std.proofs.Common.{◌≡◌, ℕ, zero, suc, ◌+◌, ◌-◌, ◌<◌, ◌≤◌, ◌&&◌, List, [], ◌∷◌, ◌++◌, true, false, flat_map, length, drop, drop-cons, add-one, get_or, min, take, refl, sym, subst, ap, ap₂, ◌∙◌, arith}
+use Rattle.std.proofs.Common.{◌≡◌, ℕ, zero, suc, ◌+◌, ◌-◌, ◌<◌, ◌≤◌, ◌&&◌, List, [], ◌∷◌, ◌++◌, true, false, flat_map}
+use Rattle.std.proofs.Common.{length, drop, drop-cons, add-one, get_or, min, take, refl, sym, subst, ap, ap₂, ◌∙◌}
+use Rattle.std.proofs.Common.{arith}
 use Rattle.std.specs.Prelude.{All, slice_set}
 use Rattle.std.specs.List.{range_with_len}
 use Rattle.icode.specs.Actions.{Step, StepFits, step_of, steps_of_stmt, steps_of_body}
 use Rattle.icode.specs.Limits.{is_stmt_within, is_body_within}
-use Rattle.icode.specs.Plain.{PlainStmt, PlainBody, PlainProgram, PlainOp, Do, Loop, NoStmts, AndStmts, plain_stmt, plain_body}
+use Rattle.icode.specs.Plain.{PlainStmt, PlainBody, PlainProgram, PlainOp, Do, Loop, NoStmts, AndStmts, plain_stmt}
+use Rattle.icode.specs.Plain.{plain_body}
 use Rattle.icode.specs.declared.program.Stmt.{Stmt}
 use Rattle.icode.proofs.Bools.{both_true}
 use Rattle.code_check.proofs.Walking.{open_now, within_loop}
 use Rattle.word_code.specs.declared.in_place.routes.Route.{Route}
-use Rattle.word_code.specs.InPlace.Accesses.{Access, are_right, homes_after_all, accesses_of_stmt, accesses_of_body, accesses_of_phase}
+use Rattle.word_code.specs.InPlace.Accesses.{Access, are_right, homes_after_all, accesses_of_stmt, accesses_of_body}
+use Rattle.word_code.specs.InPlace.Accesses.{accesses_of_phase}
 use Rattle.word_code.specs.InPlace.Homes.{Homes}
 use Rattle.word_code.specs.InPlace.View.{StmtFits, BodyFits}
 use Rattle.word_code.proofs.InPlace.Joined.{all_front, all_back}

@@ -4,11 +4,14 @@ use Rattle.std.specs.Prelude.{◌==◌, if◌then◌else◌}
 use Rattle.std.specs.List.{list_all}
 use Rattle.std.proofs.lemmas.Bool.{and_parts, and_from}
 use Rattle.icode.specs.Limits.{is_small_positive, is_op_within, is_stmt_within, is_body_within, are_phases_within}
-use Rattle.icode.specs.Plain.{PlainOp, PlainStmt, PlainBody, PlainProgram, Load, Store, Zero, Add, Sub, Neg, MulConst, MulTable, Tile}
+use Rattle.icode.specs.Plain.{PlainOp, PlainStmt, PlainBody, PlainProgram, Load, Store, Zero, Add, Sub, Neg, MulConst}
+use Rattle.icode.specs.Plain.{MulTable, Tile}
 use Rattle.icode.specs.Plain as plain
 use Rattle.word_code.specs.Needs.{needs}
-use Rattle.word_code.specs.Quicken.{Laziness, Header, header_of, loosest, loosened, quick_stmt, quick_body, quick_alone, quick_phase, quick_phases, quickened}
-use Rattle.word_code.specs.WordPrint.WordNests.{is_tile_small, is_word_nest_within, are_word_nests_within, are_word_phases_within}
+use Rattle.word_code.specs.Quicken.{Laziness, Header, header_of, loosest, loosened, quick_stmt, quick_body, quick_alone}
+use Rattle.word_code.specs.Quicken.{quick_phase, quick_phases, quickened}
+use Rattle.word_code.specs.WordPrint.WordNests.{is_tile_small, is_word_nest_within, are_word_nests_within}
+use Rattle.word_code.specs.WordPrint.WordNests.{are_word_phases_within}
 
 tile_small : (m : ℕ) (op : PlainOp) (depth : ℕ) → is_op_within m op depth ≡ true → is_tile_small op ≡ true
 tile_small m (Load register array place) depth h = refl

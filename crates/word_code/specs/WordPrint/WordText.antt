@@ -1,6 +1,7 @@
 -- The C text of a program on words. Its functions and vectors are those of the first lines, its registers variables, which
 -- are 0 where a phase begins. It is meant for words of 32, 52 and 64 bits.
-use Rattle.std.specs.Prelude.{ℕ, zero, suc, ◌+◌, ◌==◌, List, [], ◌∷◌, ◌++◌, codes, decimal, flat_map, length, map, if◌then◌else◌}
+use Rattle.std.specs.Prelude.{ℕ, zero, suc, ◌+◌, ◌==◌, List, [], ◌∷◌, ◌++◌, codes, decimal, flat_map, length, map}
+use Rattle.std.specs.Prelude.{if◌then◌else◌}
 use Rattle.icode.specs.declared.program.Array.{Array}
 use Rattle.icode.specs.Machine.{whole_lines}
 use Rattle.icode.specs.Plain.{PlainExpr, PlainOp, Load, Store, Zero, Add, Sub, Neg, MulConst, MulTable, Tile}
@@ -11,7 +12,10 @@ use Rattle.word_code.specs.declared.program.Reduction.{Reduction}
 use Rattle.word_code.specs.WordProgram.{Note, WordStmt, WordBody, PlainWordProgram, Loop, Do, NoStmts, AndStmts}
 use Rattle.word_code.specs.WordPrint.WordFront.{functions_text, sizes_text, arrays_text}
 use Rattle.word_code.specs.WordPrint.TextForm.{TextForm, with_arrays, named_function, named_header}
-use Rattle.word_code.specs.WordPrint.FunctionText.{each_from, static_phase_text, parameters_text, functions_to_link_text, capital, guard_text, lengths_text, counts_text, asked_text, declared_functions_text, word_type_text, linkage_text}
+use Rattle.word_code.specs.WordPrint.FunctionText.{each_from, static_phase_text, parameters_text}
+use Rattle.word_code.specs.WordPrint.FunctionText.{functions_to_link_text, capital, guard_text, lengths_text}
+use Rattle.word_code.specs.WordPrint.FunctionText.{counts_text, asked_text, declared_functions_text, word_type_text}
+use Rattle.word_code.specs.WordPrint.FunctionText.{linkage_text}
 
 -- a place: its constant and its parts. The constant is unsigned, of 64 bits, and each sum has one, so sums and what is made of
 -- them wrap at the same base as in programs

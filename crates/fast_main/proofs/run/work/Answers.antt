@@ -7,7 +7,8 @@ use Rattle.io_edge.specs.Feed.{to_come}
 use Rattle.data_stream.specs.InputRest.Part.{IsWholePart}
 use Rattle.fast_main.specs.Status.{listing_limit}
 use Rattle.fast_main.specs.FastWords.View.{plain_options}
-use Rattle.fast_main.proofs.Told.{listing_ended, told_no_words, judged_refused, judged, told_unread, told_refused, told_cut, told_whole, rest_is_no_usage}
+use Rattle.fast_main.proofs.Told.{listing_ended, told_no_words, judged_refused, judged, told_unread, told_refused}
+use Rattle.fast_main.proofs.Told.{told_cut, told_whole, rest_is_no_usage}
 use Rattle.fast_main.specs.declared.fast_words.options.Refusal.TheVariants as refusal
 use Rattle.fast_main.proofs.run.work.Goals as goal
 

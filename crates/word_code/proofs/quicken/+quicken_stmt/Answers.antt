@@ -7,7 +7,8 @@ use Rattle.icode.proofs.Views.{plain_stmt-Loop}
 use Rattle.word_code.specs.Quicken.{loosest}
 use Rattle.word_code.specs.Setting.{AreBoundsWithin, header_in}
 use Rattle.word_code.specs.View.{lazy_of}
-use Rattle.word_code.proofs.Emitting.{IsQuickBody, quick_more, loop_parts, item_within, take_whole, loop_made, stmt_sane}
+use Rattle.word_code.proofs.Emitting.{IsQuickBody, quick_more, loop_parts, item_within, take_whole, loop_made}
+use Rattle.word_code.proofs.Emitting.{stmt_sane}
 use Rattle.word_code.proofs.quicken.+quicken_stmt.Goals as goal
 
 pub quicken_stmt-requires : goal.quicken_stmt-requires

@@ -8,7 +8,8 @@ use Rattle.icode.specs.declared.program.Stmt.{the_lemmas}
 use Rattle.icode.proofs.Views.{plain_stmt-Loop, plain_stmt-Do}
 use Rattle.word_code.specs.InPlace.View.{homes_of, BodyFits}
 use Rattle.code_check.proofs.Walking.{within_loop, without_variable}
-use Rattle.word_code.proofs.InPlace.Walking.{item_within, item_fits, item_stops, item_goes_on, opened, turn_fits, turn_stops, turn_goes_on, op_fits}
+use Rattle.word_code.proofs.InPlace.Walking.{item_within, item_fits, item_stops, item_goes_on, opened, turn_fits}
+use Rattle.word_code.proofs.InPlace.Walking.{turn_stops, turn_goes_on, op_fits}
 use Rattle.word_code.proofs.in_place.walk.+walk.Goals as goal
 
 pub walk_body-walk_stmt-requires : goal.walk_body-walk_stmt-requires
