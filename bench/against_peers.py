@@ -21,11 +21,12 @@ SCHEDULED = ["-mllvm", "-pre-RA-sched=list-ilp", "-mllvm", "-misched-topdown"]
 # Below this modulus there are words of 52 bits.
 NARROW = 1 << 51
 
-# Each with its primes, or none where it has no peers, and with the lanes and unroll of its fast text.
+# Each with its primes, which have roots of order 2^20, or none where it has no peers, and with the lanes and unroll of its
+# fast text.
 MODULI = [
-    ("60-bit prime", (958938426232078337,), 8, 16),
+    ("60-bit prime", (1152921504577486849,), 8, 16),
     ("50-bit prime", (1125899865948161,), 8, 16),
-    ("31-bit prime", (1570570241,), 16, 16),
+    ("31-bit prime", (2130706433,), 16, 16),
     ("composite", (65537, 786433), 8, 16),
 ]
 

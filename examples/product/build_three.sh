@@ -3,8 +3,9 @@
 # usage: build_three.sh SIZE 'WORDS OF THE REQUESTS' PROGRAM [FLAG ..]
 #   build_three.sh 32768 'lanes 8 unroll 16' three -O3 -march=native
 # Two integers of together at most SIZE limbs of 64 bits can be multiplied. BITS=52 takes words of 52 bits, not 64,
-# which are faster where the processor multiplies 52-bit numbers (AVX-512 IFMA). SPIRAL, SPIRAL_FAST and CC name the
-# programs (bin/spiral, bin/spiral-fast) and the compiler (cc). MAIN names the main file, if not main.c.
+# which are faster where the processor multiplies 52-bit numbers (AVX-512 IFMA). LANES=8 makes so many lanes of the
+# loops of requests without lanes. SPIRAL, SPIRAL_FAST and CC name the programs (bin/spiral, bin/spiral-fast) and the
+# compiler (cc). MAIN names the main file, if not main.c.
 set -euo pipefail
 if [ $# -lt 3 ]; then
   sed -n '3s/^# //p' "$0" >&2
@@ -21,8 +22,8 @@ mkdir -p "$folder"
 # text NAME ROOT: a function and its header
 text() {
   echo "dft $size mod $modulus root $2${words:+ $words}" | "$spiral" code >"$folder/listing"
-  "$fast" --words "${BITS:-64}" --name "$1" <"$folder/listing" >"$folder/$1.c"
-  "$fast" --words "${BITS:-64}" --name "$1" --header <"$folder/listing" >"$folder/$1.h"
+  "$fast" --words "${BITS:-64}" ${LANES:+--lanes "$LANES"} --name "$1" <"$folder/listing" >"$folder/$1.c"
+  "$fast" --words "${BITS:-64}" ${LANES:+--lanes "$LANES"} --name "$1" --header <"$folder/listing" >"$folder/$1.h"
 }
 
 chosen=$(python3 "$here/choose.py" "$size" 50 3)
