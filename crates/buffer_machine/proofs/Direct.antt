@@ -1,14 +1,20 @@
 -- Where no store waits, the events that finish the run leave what the turns alone leave.
-use Rattle.std.proofs.Common.{◌≡◌, ◌≢◌, ℕ, zero, suc, ◌+◌, ◌<◌, ◌≤◌, ◌⊎◌, List, [], ◌∷◌, ◌++◌, Bool, true, false, cond, length, Option, Some, None, refl, sym, ap, ◌∙◌, subst, arith, inl, inr, ⊎_elim, get_or-set_same, get_or-set_other}
+use Rattle.std.proofs.Common.{◌≡◌, ◌≢◌, ℕ, zero, suc, ◌+◌, ◌<◌, ◌≤◌, ◌⊎◌, List, [], ◌∷◌, ◌++◌, Bool, true, false, cond}
+use Rattle.std.proofs.Common.{length, Option, Some, None, refl, sym, ap, ◌∙◌, subst, arith, inl, inr, ⊎_elim}
+use Rattle.std.proofs.Common.{get_or-set_same, get_or-set_other}
 use Rattle.std.specs.Prelude.{slice_get, slice_index, slice_index_or, slice_set}
 use Rattle.std.proofs.lemmas.Bool.{cases_eq, cases_lt, cases_Bool}
 use Rattle.std.proofs.lemmas.Option.{slice_get_within}
 use Rattle.icode.specs.declared.action.Action.{Action}
 use Rattle.icode.specs.declared.event.Event.{Event}
 use Rattle.icode.specs.declared.event.Event.TheVariants.{Turn, Drain}
-use Rattle.icode.specs.Machine.{Code, IsCode, State, acts, is_open, next_action, first_open, phases_after, none_done, moved_on, acted, turn_with, turn, run, finished}
-use Rattle.icode.specs.Buffers.{Waiting, Buffered, queue_of, some_wait, overlaid, stored, buffered_moved_on, buffered_acted, buffered_turn_with, buffered_turn, written, drain_with, drain, buffered_step, buffered_run, buffered_completion, buffered_finished, IsBusy, IsIdle}
-use Rattle.icode.proofs.BufferedCompletion.{busy_step, completion_turn, completion_drain, completion_past, idle_past, next_event}
+use Rattle.icode.specs.Machine.{Code, IsCode, State, acts, is_open, next_action, first_open, phases_after, none_done}
+use Rattle.icode.specs.Machine.{moved_on, acted, turn_with, turn, run, finished}
+use Rattle.icode.specs.Buffers.{Waiting, Buffered, queue_of, some_wait, overlaid, stored, buffered_moved_on}
+use Rattle.icode.specs.Buffers.{buffered_acted, buffered_turn_with, buffered_turn, written, drain_with, drain}
+use Rattle.icode.specs.Buffers.{buffered_step, buffered_run, buffered_completion, buffered_finished, IsBusy, IsIdle}
+use Rattle.icode.proofs.BufferedCompletion.{busy_step, completion_turn, completion_drain, completion_past, idle_past}
+use Rattle.icode.proofs.BufferedCompletion.{next_event}
 use Rattle.icode.proofs.Completion.{completion_step, completion_past as turns_past}
 use Rattle.icode.proofs.Runs.{open_at, has_action}
 use Rattle.icode.proofs.Waiting.{none_waits, one_waits, all_empty, overlaid-after, queue_inside}
@@ -66,7 +72,8 @@ module _ (code : Code) (is : IsCode code) where
     before : (k : ℕ) → k < q → IsIdle code b k
     has : HasTurn b q ⊎ HasDrain b q
 
-  first_or_idle : (b : Buffered) (n : ℕ) → n ≤ code.procs → ((q : ℕ) × IsFirst b q) ⊎ ((k : ℕ) → k < n → IsIdle code b k)
+  first_or_idle : (b : Buffered) (n : ℕ) → n ≤ code.procs → ((q : ℕ) × IsFirst b q)
+      ⊎ ((k : ℕ) → k < n → IsIdle code b k)
   first_or_idle b zero le = inr (λ k lt. absurd (omega arith))
   first_or_idle b (suc n) le =
       ⊎_elim
@@ -121,7 +128,8 @@ module _ (code : Code) (is : IsCode code) where
     alone : IsAlone code t one
     same : worth t one ≡ s
 
-  moved_worth : (b : Buffered) (q : ℕ) → IsAlone code b q → IsWorth (buffered_moved_on code b) (moved_on code (seen_state b q))
+  moved_worth : (b : Buffered) (q : ℕ) → IsAlone code b q → IsWorth (buffered_moved_on code b)
+      (moved_on code (seen_state b q))
   moved_worth b q h = at (some_wait b.queues) refl
     where
       at : (c : Bool) → some_wait b.queues ≡ c → IsWorth (record { state = cond c b.state (moved_on code b.state); queues = b.queues }) (moved_on code (seen_state b q))
@@ -138,7 +146,8 @@ module _ (code : Code) (is : IsCode code) where
       }
 
   -- a turn of the first processor
-  acted_seen : (b : Buffered) (q : ℕ) (a : Action) → q < length b.queues → seen_state (buffered_acted code q a b) q ≡ acted code q a (seen_state b q)
+  acted_seen : (b : Buffered) (q : ℕ) (a : Action) → q < length b.queues →
+      seen_state (buffered_acted code q a b) q ≡ acted code q a (seen_state b q)
   acted_seen b q a lt =
       let queue : List Waiting = queue_of b.queues q in
       let file : List ℕ = slice_index_or b.state.registers q [] in
@@ -156,7 +165,8 @@ module _ (code : Code) (is : IsCode code) where
         others = λ k ne. get_or-set_other b.queues q k more [] ne ∙ h.others k ne;
       }
 
-  open_worth : (b : Buffered) (q : ℕ) (a : Action) → q < code.procs → next_action code b.state q ≡ Some a → worth b q ≡ seen_state b q
+  open_worth : (b : Buffered) (q : ℕ) (a : Action) → q < code.procs → next_action code b.state q ≡ Some a →
+      worth b q ≡ seen_state b q
   open_worth b q a lt e =
       let opened : is_open code b.state.phase b.state.done ≡ true = open_at code b.state.phase b.state.done q lt (slice_get_within (acts code b.state.phase q) (slice_index b.state.done q) a e) in
       let s : State = seen_state b q in
@@ -166,7 +176,9 @@ module _ (code : Code) (is : IsCode code) where
       (λ (w : some_wait b.queues ≡ false). ap (λ c. cond c (moved_on code s) b.state) w ∙ sym (seen_where_none b q (none_waits b.queues w q)))
       (cases_Bool (some_wait b.queues))
 
-  turn_worth : (b : Buffered) (q : ℕ) (a : Action) → IsBusy code b → q < code.procs → next_action code b.state q ≡ Some a → IsAlone code b q → IsWorth (buffered_turn code b q) (turn code (seen_state b q) q)
+  turn_worth : (b : Buffered) (q : ℕ) (a : Action) → IsBusy code b → q < code.procs →
+      next_action code b.state q ≡ Some a → IsAlone code b q →
+      IsWorth (buffered_turn code b q) (turn code (seen_state b q) q)
   turn_worth b q a busy lt e h =
       let b1 : Buffered = buffered_acted code q a b in
       let goes : buffered_turn code b q ≡ buffered_moved_on code b1 = ap (buffered_turn_with code q b) e in
@@ -176,7 +188,8 @@ module _ (code : Code) (is : IsCode code) where
       (subst (IsWorth (buffered_moved_on code b1)) same (moved_worth b1 q (acted_alone b q a h)))
 
   -- its drain
-  drain_worth : (b : Buffered) (q : ℕ) (w : Waiting) (rest : List Waiting) → queue_of b.queues q ≡ w ∷ rest → IsAlone code b q → IsWorth (drain code b q) (worth b q)
+  drain_worth : (b : Buffered) (q : ℕ) (w : Waiting) (rest : List Waiting) → queue_of b.queues q ≡ w ∷ rest →
+      IsAlone code b q → IsWorth (drain code b q) (worth b q)
   drain_worth b q w rest e h =
       let b1 : Buffered = written q w rest b in
       let goes : drain code b q ≡ buffered_moved_on code b1 = ap (drain_with code q b) e in
@@ -193,7 +206,8 @@ module _ (code : Code) (is : IsCode code) where
       (subst (IsWorth (buffered_moved_on code b1)) (ap (moved_on code) seen ∙ sym is_worth) (moved_worth b1 q alone))
 
   -- whole runs
-  past_same : (b : Buffered) (q : ℕ) → IsBusy code b → length code.lists ≤ b.state.phase → (buffered_finished code b).state ≡ finished code (worth b q)
+  past_same : (b : Buffered) (q : ℕ) → IsBusy code b → length code.lists ≤ b.state.phase →
+      (buffered_finished code b).state ≡ finished code (worth b q)
   past_same b q busy ge =
       ap (λ (es : List Event). (buffered_run code b es).state) (completion_past code is b busy ge)
       ∙ (sym (ap (run code b.state) (turns_past code is b.state ge))
@@ -202,13 +216,17 @@ module _ (code : Code) (is : IsCode code) where
   abbrev Finishes : ℕ → Type 0
   Finishes n = (b : Buffered) (q : ℕ) → length (buffered_completion code b) ≤ n → IsBusy code b → IsAlone code b q → (buffered_finished code b).state ≡ finished code (worth b q)
 
-  stepped : (n : ℕ) → Finishes n → (b : Buffered) (e : Event) (s : State) → length (buffered_completion code b) ≤ suc n → IsBusy code b → buffered_completion code b ≡ e ∷ buffered_completion code (buffered_step code b e) → IsWorth (buffered_step code b e) s → (buffered_finished code b).state ≡ finished code s
+  stepped : (n : ℕ) → Finishes n → (b : Buffered) (e : Event) (s : State) →
+      length (buffered_completion code b) ≤ suc n → IsBusy code b →
+      buffered_completion code b ≡ e ∷ buffered_completion code (buffered_step code b e) →
+      IsWorth (buffered_step code b e) s → (buffered_finished code b).state ≡ finished code s
   stepped n all b e s most busy first w =
       ap (λ (es : List Event). (buffered_run code b es).state) first
       ∙ (all (buffered_step code b e) w.one (omega (arith, most, ap length first)) (busy_step code is b e busy) w.alone
       ∙ ap (finished code) w.same)
 
-  from_first : (n : ℕ) → Finishes n → (b : Buffered) (q p : ℕ) → length (buffered_completion code b) ≤ suc n → IsBusy code b → IsFirst b p → IsShifted b q p → (buffered_finished code b).state ≡ finished code (worth b q)
+  from_first : (n : ℕ) → Finishes n → (b : Buffered) (q p : ℕ) → length (buffered_completion code b) ≤ suc n →
+      IsBusy code b → IsFirst b p → IsShifted b q p → (buffered_finished code b).state ≡ finished code (worth b q)
   from_first n all b q p most busy f sh =
       ⊎_elim
       (λ (t : HasTurn b p).
@@ -237,37 +255,45 @@ module _ (code : Code) (is : IsCode code) where
       (λ (ge : length code.lists ≤ b.state.phase). past_same b q busy ge)
       (cases_lt b.state.phase (length code.lists))
 
-  pub finished_directly : (b : Buffered) → IsBusy code b → some_wait b.queues ≡ false → (buffered_finished code b).state ≡ finished code b.state
+  pub finished_directly : (b : Buffered) → IsBusy code b → some_wait b.queues ≡ false →
+      (buffered_finished code b).state ≡ finished code b.state
   finished_directly b busy none =
       worth_finished (length (buffered_completion code b)) b 0 (omega arith) busy
       (record { before = λ k lt. absurd (omega arith); others = λ k ne. none_waits b.queues none k })
       ∙ ap (λ c. finished code (cond c (moved_on code (seen_state b 0)) b.state)) none
 
   -- nothing is done of the phase after the last one
-  moved_past : (b : Buffered) → b.state.phase < length code.lists → length code.lists ≤ (buffered_moved_on code b).state.phase → (buffered_moved_on code b).state.done ≡ none_done code
+  moved_past : (b : Buffered) → b.state.phase < length code.lists →
+      length code.lists ≤ (buffered_moved_on code b).state.phase →
+      (buffered_moved_on code b).state.done ≡ none_done code
   moved_past b lt ge = at (some_wait b.queues) (is_open code b.state.phase b.state.done) ge
     where
       next : State
       next = record { memory = b.state.memory; registers = b.state.registers; phase = first_open code (phases_after code b.state.phase) (b.state.phase + 1); done = none_done code }
 
-      at : (w o : Bool) → length code.lists ≤ (cond w b.state (cond o b.state next)).phase → (cond w b.state (cond o b.state next)).done ≡ none_done code
+      at : (w o : Bool) → length code.lists ≤ (cond w b.state (cond o b.state next)).phase →
+          (cond w b.state (cond o b.state next)).done ≡ none_done code
       at true o ge = absurd (omega arith)
       at false true ge = absurd (omega arith)
       at false false ge = refl
 
-  step_past : (b : Buffered) (e : Event) → IsBusy code b → b.state.phase < length code.lists → length code.lists ≤ (buffered_step code b e).state.phase → (buffered_step code b e).state.done ≡ none_done code
+  step_past : (b : Buffered) (e : Event) → IsBusy code b → b.state.phase < length code.lists →
+      length code.lists ≤ (buffered_step code b e).state.phase → (buffered_step code b e).state.done ≡ none_done code
   step_past b (Turn q) busy lt ge = at (next_action code b.state q) ge
     where
-      at : (o : Option Action) → length code.lists ≤ (buffered_turn_with code q b o).state.phase → (buffered_turn_with code q b o).state.done ≡ none_done code
+      at : (o : Option Action) → length code.lists ≤ (buffered_turn_with code q b o).state.phase →
+          (buffered_turn_with code q b o).state.done ≡ none_done code
       at None ge = absurd (omega arith)
       at (Some a) ge = moved_past (buffered_acted code q a b) lt ge
   step_past b (Drain q) busy lt ge = at (queue_of b.queues q) ge
     where
-      at : (ws : List Waiting) → length code.lists ≤ (drain_with code q b ws).state.phase → (drain_with code q b ws).state.done ≡ none_done code
+      at : (ws : List Waiting) → length code.lists ≤ (drain_with code q b ws).state.phase →
+          (drain_with code q b ws).state.done ≡ none_done code
       at [] ge = absurd (omega arith)
       at (w ∷ rest) ge = moved_past (written q w rest b) lt ge
 
-  none_after : (n : ℕ) (b : Buffered) → length (buffered_completion code b) ≤ n → IsBusy code b → b.state.phase < length code.lists → (buffered_finished code b).state.done ≡ none_done code
+  none_after : (n : ℕ) (b : Buffered) → length (buffered_completion code b) ≤ n → IsBusy code b →
+      b.state.phase < length code.lists → (buffered_finished code b).state.done ≡ none_done code
   none_after zero b most busy lt = let next = next_event code is b busy lt in absurd (omega (arith, ap length next.1))
   none_after (suc n) b most busy lt =
       let next = next_event code is b busy lt in
@@ -280,5 +306,6 @@ module _ (code : Code) (is : IsCode code) where
       ap (λ (es : List Event). (buffered_run code t es).state.done) (completion_past code is t tb ge) ∙ step_past b next.0 busy lt ge)
       (cases_lt t.state.phase (length code.lists))
 
-  pub finished_none_done : (b : Buffered) → IsBusy code b → b.state.phase < length code.lists → (buffered_finished code b).state.done ≡ none_done code
+  pub finished_none_done : (b : Buffered) → IsBusy code b → b.state.phase < length code.lists →
+      (buffered_finished code b).state.done ≡ none_done code
   finished_none_done b busy lt = none_after (length (buffered_completion code b)) b (omega arith) busy lt

@@ -1,8 +1,10 @@
 -- Where no store waits, the machine without buffers finishes the run.
-use Rattle.std.proofs.Common.{◌≡◌, ℕ, ◌<◌, ◌≤◌, ◌^◌, List, [], ◌∷◌, false, length, map, replicate, Option, None, Some, refl, sym, ap, ap₂, ◌∙◌, subst, arith, ⊎_elim}
+use Rattle.std.proofs.Common.{◌≡◌, ℕ, ◌<◌, ◌≤◌, ◌^◌, List, [], ◌∷◌, false, length, map, replicate, Option, None, Some}
+use Rattle.std.proofs.Common.{refl, sym, ap, ap₂, ◌∙◌, subst, arith, ⊎_elim}
 use Rattle.std.specs.Prelude.{IfNone}
 use Rattle.std.proofs.lemmas.Bool.{cases_lt}
-use Rattle.icode.specs.Buffers.{Waiting, Buffered, some_wait, IsBusy, buffered_completion, buffered_finished, buffered_run}
+use Rattle.icode.specs.Buffers.{Waiting, Buffered, some_wait, IsBusy, buffered_completion, buffered_finished}
+use Rattle.icode.specs.Buffers.{buffered_run}
 use Rattle.icode.specs.Machine.{Code, IsCode, State, finished}
 use Rattle.icode.proofs.BufferedCompletion.{busy_run, completion_past, finished_ends, next_event}
 use Rattle.par_machine.specs.Running.{Running as Machine}
@@ -46,11 +48,13 @@ empty_are ([] ∷ queues) e = ap (λ (qs : List (List Waiting)). [] ∷ qs) (emp
 empty_are ((w ∷ queue) ∷ queues) e = cc
 
 -- past all phases there is nothing to finish
-pub finished_past : (code : Code) → IsCode code → (b : Buffered) → IsBusy code b → length code.lists ≤ b.state.phase → buffered_finished code b ≡ b
+pub finished_past : (code : Code) → IsCode code → (b : Buffered) → IsBusy code b → length code.lists ≤ b.state.phase →
+    buffered_finished code b ≡ b
 finished_past code is b busy ge = ap (buffered_run code b) (completion_past code is b busy ge)
 
 -- a run that is finished has no store that waits
-pub finished_quiet : (code : Code) → IsCode code → (b : Buffered) → IsBusy code b → buffered_completion code b ≡ [] → some_wait b.queues ≡ false
+pub finished_quiet : (code : Code) → IsCode code → (b : Buffered) → IsBusy code b → buffered_completion code b ≡ [] →
+    some_wait b.queues ≡ false
 finished_quiet code is b busy e =
     ⊎_elim
     (λ (lt : b.state.phase < length code.lists). let next = next_event code is b busy lt in absurd (omega (arith, ap length (sym next.1 ∙ e))))
@@ -61,7 +65,11 @@ pub where_none : {X : Type 0} (o : Option X) (P Q : Type 0) → (P → Q) → If
 where_none None P Q f h = f h
 where_none (Some x) P Q f h = h
 
-pub finished_whole : (a : Inside) (v : Stand) (m : Machine) → IsWhole a → some_wait (waits_of a.values.queues) ≡ false → a.values.phase < length (code_in a).lists → m.code ≡ a.walker.code → m.state ≡ finished (code_in a) (lent a.values a.walker.state) → IsHeld (code_in a) m.state.memory m.state.registers → v ≡ back_from m.state a.values → IsWhole (with_values a v m) × (buffered_of v ≡ buffered_finished (code_in a) (buffered_of a.values))
+pub finished_whole : (a : Inside) (v : Stand) (m : Machine) → IsWhole a → some_wait (waits_of a.values.queues) ≡ false →
+    a.values.phase < length (code_in a).lists → m.code ≡ a.walker.code →
+    m.state ≡ finished (code_in a) (lent a.values a.walker.state) →
+    IsHeld (code_in a) m.state.memory m.state.registers → v ≡ back_from m.state a.values →
+    IsWhole (with_values a v m) × (buffered_of v ≡ buffered_finished (code_in a) (buffered_of a.values))
 finished_whole a v m w none here ec em held ev =
     let code : Code = code_in a in
     let is = w.good.lists in

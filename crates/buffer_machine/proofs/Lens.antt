@@ -1,5 +1,6 @@
 -- How long lists are, and how many stores they have, phase after phase.
-use Rattle.std.proofs.Common.{◌≡◌, ℕ, zero, suc, ◌+◌, ◌<◌, ◌≤◌, ◌^◌, List, [], ◌∷◌, ◌++◌, length, refl, sym, ap, ◌∙◌, subst, arith, ⊎_elim, length-append}
+use Rattle.std.proofs.Common.{◌≡◌, ℕ, zero, suc, ◌+◌, ◌<◌, ◌≤◌, ◌^◌, List, [], ◌∷◌, ◌++◌, length, refl, sym, ap, ◌∙◌}
+use Rattle.std.proofs.Common.{subst, arith, ⊎_elim, length-append}
 use Rattle.std.specs.Prelude.{slice_index, slice_index_or}
 use Rattle.std.proofs.lemmas.Bool.{cases_eq, cases_lt}
 use Rattle.std.proofs.lemmas.List.{get_or_past, length-map}
@@ -34,7 +35,8 @@ index_last [] x (suc k) e = absurd (omega arith)
 index_last (y ∷ xs) x zero e = absurd (omega arith)
 index_last (y ∷ xs) x (suc k) e = index_last xs x k (omega arith)
 
-pub lens_more : (p : Program) (lens new : List ℕ) (n len : ℕ) → AreLens p lens n → len ≡ length (acts (code_of p) n 0) → new ≡ lens ++ len ∷ [] → AreLens p new (n + 1)
+pub lens_more : (p : Program) (lens new : List ℕ) (n len : ℕ) → AreLens p lens n → len ≡ length (acts (code_of p) n 0) →
+    new ≡ lens ++ len ∷ [] → AreLens p new (n + 1)
 lens_more p lens new n len h e en =
     subst (λ (xs : List ℕ). AreLens p xs (n + 1)) (sym en)
     (record {
@@ -47,7 +49,8 @@ lens_more p lens new n len h e en =
           (cases_eq phase n);
     })
 
-pub lens_all : (p : Program) (lens : List ℕ) (n : ℕ) → length p.phases.items ≤ n → n ≤ length p.phases.items → AreLens p lens n → HasLens (code_of p) lens
+pub lens_all : (p : Program) (lens : List ℕ) (n : ℕ) → length p.phases.items ≤ n → n ≤ length p.phases.items →
+    AreLens p lens n → HasLens (code_of p) lens
 lens_all p lens n le ge h =
     record {
       count = lists_are p ∙ omega (arith, h.count);
@@ -63,7 +66,9 @@ pub record IsMost (p : Program) (most n : ℕ) : Type 0 where
   pub each : (phase q : ℕ) → phase < n → q < p.procs → stores_among (acts (code_of p) phase q) ≤ most
   pub few : most < 2 ^ 59
 
-pub most_more : (p : Program) (most new stores n : ℕ) → IsMost p most n → ((q : ℕ) → q < p.procs → stores ≡ stores_among (acts (code_of p) n q)) → most ≤ new → stores ≤ new → new < 2 ^ 59 → IsMost p new (n + 1)
+pub most_more : (p : Program) (most new stores n : ℕ) → IsMost p most n →
+    ((q : ℕ) → q < p.procs → stores ≡ stores_among (acts (code_of p) n q)) → most ≤ new → stores ≤ new → new < 2 ^ 59 →
+    IsMost p new (n + 1)
 most_more p most new stores n h e left right few =
     record {
       each = λ phase q lt small. ⊎_elim
@@ -73,7 +78,8 @@ most_more p most new stores n h e left right few =
       few = few;
     }
 
-pub most_all : (p : Program) (most n : ℕ) → length p.phases.items ≤ n → IsMost p most n → (phase q : ℕ) → q < p.procs → stores_among (acts (code_of p) phase q) ≤ most
+pub most_all : (p : Program) (most n : ℕ) → length p.phases.items ≤ n → IsMost p most n → (phase q : ℕ) → q < p.procs →
+    stores_among (acts (code_of p) phase q) ≤ most
 most_all p most n le h phase q small =
     ⊎_elim
     (λ (lt : phase < n). h.each phase q lt small)

@@ -1,5 +1,6 @@
 -- Steps of loops over queues, counts and phases.
-use Rattle.std.proofs.Common.{◌≡◌, ℕ, zero, suc, ◌+◌, ◌-◌, ◌<◌, ◌≤◌, List, [], ◌∷◌, ◌++◌, Bool, true, false, cond, ◌||◌, length, take, drop, map, get_or, nat_lt, refl, sym, ap, ◌∙◌, arith, add-one, lt-ltb}
+use Rattle.std.proofs.Common.{◌≡◌, ℕ, zero, suc, ◌+◌, ◌-◌, ◌<◌, ◌≤◌, List, [], ◌∷◌, ◌++◌, Bool, true, false, cond, ◌||◌}
+use Rattle.std.proofs.Common.{length, take, drop, map, get_or, nat_lt, refl, sym, ap, ◌∙◌, arith, add-one, lt-ltb}
 use Rattle.std.specs.Prelude.{slice_index, slice_set}
 use Rattle.std.specs.List.{list_any}
 use Rattle.std.proofs.lemmas.Bool.{le-ltb}
@@ -8,12 +9,14 @@ use Rattle.icode.specs.Buffers.{is_waiting, some_wait}
 use Rattle.buffer_machine.specs.Backlog.{Backlog}
 use Rattle.buffer_machine.specs.Stand.{waits_of, first_busy}
 
-pub wait_step : (queues : List Backlog) (i : ℕ) (l : Backlog) → i < length queues → l ≡ get_or queues i l → some_wait (waits_of (drop i queues)) ≡ (is_waiting l.waiting || some_wait (waits_of (drop (i + 1) queues)))
+pub wait_step : (queues : List Backlog) (i : ℕ) (l : Backlog) → i < length queues → l ≡ get_or queues i l →
+    some_wait (waits_of (drop i queues)) ≡ (is_waiting l.waiting || some_wait (waits_of (drop (i + 1) queues)))
 wait_step queues i l lt e =
     ap (λ (ls : List Backlog). some_wait (waits_of ls)) (drop_more queues i l lt)
     ∙ ap (λ (x : Backlog). is_waiting x.waiting || some_wait (waits_of (drop (i + 1) queues))) (sym e)
 
-pub left_step : (len : ℕ) (done : List ℕ) (i d : ℕ) → i < length done → d ≡ get_or done i d → list_any (λ d. nat_lt d len) (drop i done) ≡ (nat_lt d len || list_any (λ d. nat_lt d len) (drop (i + 1) done))
+pub left_step : (len : ℕ) (done : List ℕ) (i d : ℕ) → i < length done → d ≡ get_or done i d →
+    list_any (λ d. nat_lt d len) (drop i done) ≡ (nat_lt d len || list_any (λ d. nat_lt d len) (drop (i + 1) done))
 left_step len done i d lt e =
     ap (list_any (λ d. nat_lt d len)) (drop_more done i d lt)
     ∙ ap (λ x. nat_lt x len || list_any (λ d. nat_lt d len) (drop (i + 1) done)) (sym e)
@@ -24,20 +27,25 @@ or_true a b e = rw e
 pub or_false : (a b : Bool) → a ≡ false → (a || b) ≡ b
 or_false a b e = rw e
 
-map_step_ : {X : Type 0} (f : X → X) (old : List X) (i : ℕ) (x : X) → i < length old → x ≡ get_or (map f (take i old) ++ drop i old) i x → slice_set (map f (take i old) ++ drop i old) i (f x) ≡ map f (take (suc i) old) ++ drop (suc i) old
+map_step_ : {X : Type 0} (f : X → X) (old : List X) (i : ℕ) (x : X) → i < length old →
+    x ≡ get_or (map f (take i old) ++ drop i old) i x → slice_set (map f (take i old) ++ drop i old) i (f x)
+    ≡ map f (take (suc i) old) ++ drop (suc i) old
 map_step_ f [] i x lt e = absurd (omega arith)
 map_step_ f (y ∷ old) zero x lt e = ap (λ z. f z ∷ old) e
 map_step_ f (y ∷ old) (suc i) x lt e = ap (λ ys. f y ∷ ys) (map_step_ f old i x (omega arith) e)
 
 -- one more item is mapped
-pub map_step : {X : Type 0} (f : X → X) (old now : List X) (i : ℕ) (x new : X) → i < length old → now ≡ map f (take i old) ++ drop i old → x ≡ get_or now i x → new ≡ f x → slice_set now i new ≡ map f (take (i + 1) old) ++ drop (i + 1) old
+pub map_step : {X : Type 0} (f : X → X) (old now : List X) (i : ℕ) (x new : X) → i < length old →
+    now ≡ map f (take i old) ++ drop i old → x ≡ get_or now i x → new ≡ f x →
+    slice_set now i new ≡ map f (take (i + 1) old) ++ drop (i + 1) old
 map_step f old now i x new lt same e en =
     ap (λ y. slice_set now i y) en
     ∙ (ap (λ ys. slice_set ys i (f x)) same
     ∙ (map_step_ f old i x lt (e ∙ ap (λ ys. get_or ys i x) same)
     ∙ ap (λ k. map f (take k old) ++ drop k old) (sym (add-one i))))
 
-pub all_mapped : {X : Type 0} (f : X → X) (old : List X) (i : ℕ) → length old ≤ i → map f (take i old) ++ drop i old ≡ map f old
+pub all_mapped : {X : Type 0} (f : X → X) (old : List X) (i : ℕ) → length old ≤ i →
+    map f (take i old) ++ drop i old ≡ map f old
 all_mapped f [] zero le = refl
 all_mapped f [] (suc i) le = refl
 all_mapped f (x ∷ old) zero le = absurd (omega arith)
@@ -45,13 +53,15 @@ all_mapped f (x ∷ old) (suc i) le = ap (λ ys. f x ∷ ys) (all_mapped f old i
 
 -- The first phase with actions
 
-pub busy_skip : (lens : List ℕ) (phase : ℕ) → phase < length lens → slice_index lens phase ≡ 0 → first_busy lens (length lens - phase) phase ≡ first_busy lens (length lens - (phase + 1)) (phase + 1)
+pub busy_skip : (lens : List ℕ) (phase : ℕ) → phase < length lens → slice_index lens phase ≡ 0 →
+    first_busy lens (length lens - phase) phase ≡ first_busy lens (length lens - (phase + 1)) (phase + 1)
 busy_skip lens phase lt z =
     let more : length lens - phase ≡ suc (length lens - (phase + 1)) = omega arith in
     let none : nat_lt 0 (slice_index lens phase) ≡ false = le-ltb _ _ (omega arith) in
     ap (λ n. first_busy lens n phase) more ∙ ap (λ b. cond b phase (first_busy lens (length lens - (phase + 1)) (phase + 1))) none
 
-pub busy_stop : (lens : List ℕ) (phase : ℕ) → phase < length lens → 0 < slice_index lens phase → first_busy lens (length lens - phase) phase ≡ phase
+pub busy_stop : (lens : List ℕ) (phase : ℕ) → phase < length lens → 0 < slice_index lens phase →
+    first_busy lens (length lens - phase) phase ≡ phase
 busy_stop lens phase lt some =
     let more : length lens - phase ≡ suc (length lens - (phase + 1)) = omega arith in
     ap (λ n. first_busy lens n phase) more ∙ ap (λ b. cond b phase (first_busy lens (length lens - (phase + 1)) (phase + 1))) (lt-ltb _ _ some)

@@ -1,5 +1,6 @@
 -- The newest store for each word.
-use Rattle.std.proofs.Common.{◌≡◌, ℕ, ◌+◌, ◌-◌, ◌<◌, ◌≤◌, ◌≢◌, ◌⊎◌, List, length, replicate, sym, ap, ◌∙◌, subst, arith, inl, inr, ⊎_elim, get_or-set_same, get_or-set_other}
+use Rattle.std.proofs.Common.{◌≡◌, ℕ, ◌+◌, ◌-◌, ◌<◌, ◌≤◌, ◌≢◌, ◌⊎◌, List, length, replicate, sym, ap, ◌∙◌, subst, arith}
+use Rattle.std.proofs.Common.{inl, inr, ⊎_elim, get_or-set_same, get_or-set_other}
 use Rattle.std.specs.Prelude.{slice_index, slice_set}
 use Rattle.std.proofs.lemmas.Bool.{cases_eq, cases_lt}
 use Rattle.std.proofs.lemmas.List.{length-replicate, get_or-replicate, replicate-append-replicate}
@@ -12,7 +13,10 @@ use Rattle.buffer_machine.specs.Waits.{NoneCovers}
 use Rattle.buffer_machine.proofs.Windows.{with_words-here}
 
 -- a word is among those that were marked, or as it was
-marked : (lanes address n word : ℕ) (N : List ℕ) → address + lanes ≤ length N → ((address ≤ word) × (word < address + lanes) × (slice_index (with_words N address (replicate lanes n)) word ≡ n)) ⊎ ((address ≤ word → word < address + lanes → ⊥) × (slice_index (with_words N address (replicate lanes n)) word ≡ slice_index N word))
+marked : (lanes address n word : ℕ) (N : List ℕ) → address + lanes ≤ length N →
+    ((address ≤ word) × (word < address + lanes) × (slice_index (with_words N address (replicate lanes n)) word ≡ n))
+    ⊎ ((address ≤ word → word < address + lanes → ⊥) × (slice_index (with_words N address (replicate lanes n)) word
+    ≡ slice_index N word))
 marked lanes address n word N inside =
     let vs : List ℕ = replicate lanes n in
     let size : length vs ≡ lanes = length-replicate lanes n in
@@ -26,7 +30,9 @@ marked lanes address n word N inside =
     (cases_lt word (address + lanes)))
     (cases_lt word address)
 
-pub newest_push : (lanes tail address : ℕ) (A N M : List ℕ) → AreNewest lanes A N tail → tail < length A → address + lanes ≤ length N → M ≡ with_words N address (replicate lanes (tail + 1)) → AreNewest lanes (slice_set A tail address) M (tail + 1)
+pub newest_push : (lanes tail address : ℕ) (A N M : List ℕ) → AreNewest lanes A N tail → tail < length A →
+    address + lanes ≤ length N → M ≡ with_words N address (replicate lanes (tail + 1)) →
+    AreNewest lanes (slice_set A tail address) M (tail + 1)
 newest_push lanes tail address A N M h lt inside e =
     let new : List ℕ = slice_set A tail address in
     let here : slice_index new tail ≡ address = get_or-set_same A tail address 0 lt in
@@ -63,7 +69,9 @@ newest_cleared lanes n A =
       is_for = λ word some. absurd (omega (arith, some, slice_index-zeros n word));
     }
 
-pub mark_step : (newest old : List ℕ) (address word number : ℕ) → newest ≡ with_words old address (replicate word number) → slice_set newest (address + word) number ≡ with_words old address (replicate (word + 1) number)
+pub mark_step : (newest old : List ℕ) (address word number : ℕ) →
+    newest ≡ with_words old address (replicate word number) →
+    slice_set newest (address + word) number ≡ with_words old address (replicate (word + 1) number)
 mark_step newest old address word number e =
     ap (λ ws. slice_set ws (address + word) number) e
     ∙ (ap (λ k. slice_set (with_words old address (replicate word number)) (address + k) number) (sym (length-replicate {A = ℕ} word number))
@@ -76,7 +84,8 @@ pub record IsFound (lanes : ℕ) (A : List ℕ) (tail place n : ℕ) : Type 0 wh
   pub high : place < slice_index A (n - 1) + lanes
   pub none_newer : NoneCovers lanes A place n tail
 
-pub found : (lanes : ℕ) (A N : List ℕ) (tail place n : ℕ) → AreNewest lanes A N tail → n ≡ slice_index N place → 0 < n → IsFound lanes A tail place n
+pub found : (lanes : ℕ) (A N : List ℕ) (tail place n : ℕ) → AreNewest lanes A N tail → n ≡ slice_index N place → 0 < n →
+    IsFound lanes A tail place n
 found lanes A N tail place n h e some =
     let is = h.is_for place (omega (arith, e, some)) in
     subst (IsFound lanes A tail place) (sym e) (record { within = is.0; low = is.1.0; high = is.1.1; none_newer = h.none_newer place })

@@ -1,5 +1,7 @@
 -- What turns and drains keep.
-use Rattle.std.proofs.Common.{◌≡◌, ℕ, zero, suc, ◌+◌, ◌-◌, ◌*◌, ◌<◌, ◌≤◌, ◌≢◌, List, [], ◌∷◌, ◌++◌, Bool, true, false, cond, ◌||◌, length, map, drop, replicate, get_or, nat_lt, Some, refl, sym, ap, ap₂, ◌∙◌, subst, arith, ⊎_elim, get_or-set_same, get_or-set_other, length-set}
+use Rattle.std.proofs.Common.{◌≡◌, ℕ, zero, suc, ◌+◌, ◌-◌, ◌*◌, ◌<◌, ◌≤◌, ◌≢◌, List, [], ◌∷◌, ◌++◌, Bool, true, false}
+use Rattle.std.proofs.Common.{cond, ◌||◌, length, map, drop, replicate, get_or, nat_lt, Some, refl, sym, ap, ap₂, ◌∙◌}
+use Rattle.std.proofs.Common.{subst, arith, ⊎_elim, get_or-set_same, get_or-set_other, length-set}
 use Rattle.std.specs.Prelude.{slice_get, slice_index, slice_index_or, slice_set}
 use Rattle.std.specs.List.{list_any}
 use Rattle.std.proofs.lemmas.Bool.{cases_eq, cases_lt, cases_Bool, false≢true, le-ltb}
@@ -7,8 +9,10 @@ use Rattle.std.proofs.lemmas.List.{map-set, get_or-map, get_or_past, length-map,
 use Rattle.std.proofs.lemmas.List.Folds.{list_any_at, list_any_none}
 use Rattle.icode.specs.declared.action.Action.{Action}
 use Rattle.icode.specs.declared.action.Action.TheVariants.{Store}
-use Rattle.icode.specs.Buffers.{Waiting, overlaid, stored, stores_among, some_wait, is_waiting, queue_of, buffered_acted, buffered_moved_on, written}
-use Rattle.icode.specs.Machine.{Code, acts, effect, is_open, none_done, first_open, phases_after, moved_on, padded, with_words, value_put, register_put}
+use Rattle.icode.specs.Buffers.{Waiting, overlaid, stored, stores_among, some_wait, is_waiting, queue_of}
+use Rattle.icode.specs.Buffers.{buffered_acted, buffered_moved_on, written}
+use Rattle.icode.specs.Machine.{Code, acts, effect, is_open, none_done, first_open, phases_after, moved_on, padded}
+use Rattle.icode.specs.Machine.{with_words, value_put, register_put}
 use Rattle.icode.specs.Operation.{AddressFits}
 use Rattle.icode.proofs.Below.{effect_registers_below, below-words_at, below-with_words}
 use Rattle.icode.proofs.BufferedCompletion.{drop_at}
@@ -19,7 +23,8 @@ use Rattle.icode.proofs.StoreCounts.{stores_first}
 use Rattle.icode.proofs.Words.{length-words_at}
 use Rattle.buffer_machine.specs.Backlog.{Backlog}
 use Rattle.buffer_machine.specs.Drains.{IsWritten}
-use Rattle.buffer_machine.specs.Stand.{Stand, backlog_at, waits_of, buffered_of, after_action, acted_stand, cleared, is_held, first_busy, settled_stand, HasLens, AreSound, IsStanding}
+use Rattle.buffer_machine.specs.Stand.{Stand, backlog_at, waits_of, buffered_of, after_action, acted_stand, cleared}
+use Rattle.buffer_machine.specs.Stand.{is_held, first_busy, settled_stand, HasLens, AreSound, IsStanding}
 use Rattle.buffer_machine.specs.Waits.{OldestFits}
 use Rattle.buffer_machine.proofs.Windows.{length-with_words}
 
@@ -30,15 +35,18 @@ queue_is [] q = get_or_past [] q [] (omega arith) ∙ sym (ap (λ (l : Backlog).
 queue_is (l ∷ queues) zero = refl
 queue_is (l ∷ queues) (suc q) = queue_is queues q
 
-sound-append : (m lanes span : ℕ) (xs ys : List Waiting) → AreSound m lanes span xs → AreSound m lanes span ys → AreSound m lanes span (xs ++ ys)
+sound-append : (m lanes span : ℕ) (xs ys : List Waiting) → AreSound m lanes span xs → AreSound m lanes span ys →
+    AreSound m lanes span (xs ++ ys)
 sound-append m lanes span [] ys h g = g
 sound-append m lanes span (w ∷ xs) ys h g = (h.0, h.1, h.2, sound-append m lanes span xs ys h.3 g)
 
-sound-stored : (m lanes span : ℕ) (a : Action) (registers : List ℕ) → 0 < m → AreBelow m registers → AddressFits lanes span a → AreSound m lanes span (stored lanes a registers)
+sound-stored : (m lanes span : ℕ) (a : Action) (registers : List ℕ) → 0 < m → AreBelow m registers →
+    AddressFits lanes span a → AreSound m lanes span (stored lanes a registers)
 sound-stored m lanes span (Store address r) registers pos below h = (h, length-words_at lanes registers (r * lanes), below-words_at m lanes registers (r * lanes) pos below, tt)
 sound-stored m lanes span _ registers pos below h = tt
 
-overlaid_below : (m lanes span : ℕ) (queue : List Waiting) (memory : List ℕ) → AreSound m lanes span queue → AreBelow m memory → AreBelow m (overlaid memory queue)
+overlaid_below : (m lanes span : ℕ) (queue : List Waiting) (memory : List ℕ) → AreSound m lanes span queue →
+    AreBelow m memory → AreBelow m (overlaid memory queue)
 overlaid_below m lanes span [] memory h below = below
 overlaid_below m lanes span (w ∷ queue) memory h below = overlaid_below m lanes span queue (with_words memory w.address w.words) h.3 (below-with_words m memory w.address w.words below h.2)
 
@@ -47,12 +55,14 @@ length-overlaid [] memory = refl
 length-overlaid (w ∷ queue) memory = length-overlaid queue (with_words memory w.address w.words) ∙ length-with_words w.words memory w.address
 
 -- the room before an action is that after it and what the action stores
-room_step : (xs : List Action) (i : ℕ) (a : Action) → slice_get xs i ≡ Some a → stores_among (drop i xs) ≡ stores_among (a ∷ []) + stores_among (drop (suc i) xs)
+room_step : (xs : List Action) (i : ℕ) (a : Action) → slice_get xs i ≡ Some a →
+    stores_among (drop i xs) ≡ stores_among (a ∷ []) + stores_among (drop (suc i) xs)
 room_step xs i a e = ap stores_among (drop_at xs i a e) ∙ stores_first a (drop (suc i) xs)
 
 -- At one processor or another
 
-at_one : {X : Type 0} (P : ℕ → X → Type 0) (xs : List X) (q : ℕ) (x d : X) → q < length xs → P q x → ((other : ℕ) → other ≢ q → P other (get_or xs other d)) → (other : ℕ) → P other (get_or (slice_set xs q x) other d)
+at_one : {X : Type 0} (P : ℕ → X → Type 0) (xs : List X) (q : ℕ) (x d : X) → q < length xs → P q x →
+    ((other : ℕ) → other ≢ q → P other (get_or xs other d)) → (other : ℕ) → P other (get_or (slice_set xs q x) other d)
 at_one P xs q x d lt here rest other =
     ⊎_elim
     (λ (e : other ≡ q). subst (λ o. P o (get_or (slice_set xs q x) o d)) (sym e) (subst (P q) (sym (get_or-set_same xs q x d lt)) here))
@@ -75,7 +85,9 @@ next_stand lens t =
 
 module _ (code : Code) where
   -- a turn, before the phase moves on
-  pub standing_acted : (t : Stand) (q : ℕ) (a : Action) → 0 < code.modulus → IsStanding code t → q < code.procs → slice_get (acts code t.phase q) (slice_index t.done q) ≡ Some a → AddressFits code.lanes (4 * padded code) a → IsStanding code (acted_stand code.modulus code.lanes q a t)
+  pub standing_acted : (t : Stand) (q : ℕ) (a : Action) → 0 < code.modulus → IsStanding code t → q < code.procs →
+      slice_get (acts code t.phase q) (slice_index t.done q) ≡ Some a → AddressFits code.lanes (4 * padded code) a →
+      IsStanding code (acted_stand code.modulus code.lanes q a t)
   standing_acted t q a pos s lt e address =
       let l : Backlog = backlog_at t.queues q in
       let file : List ℕ = slice_index_or t.registers q [] in
@@ -116,7 +128,8 @@ module _ (code : Code) where
       }
 
   -- what it stands for
-  pub acted_buffered : (t : Stand) (q : ℕ) (a : Action) → buffered_of (acted_stand code.modulus code.lanes q a t) ≡ buffered_acted code q a (buffered_of t)
+  pub acted_buffered : (t : Stand) (q : ℕ) (a : Action) → buffered_of (acted_stand code.modulus code.lanes q a t)
+      ≡ buffered_acted code q a (buffered_of t)
   acted_buffered t q a =
       let file : List ℕ = slice_index_or t.registers q [] in
       let l : Backlog = backlog_at t.queues q in
@@ -134,7 +147,8 @@ module _ (code : Code) where
 
   -- The phase moves on
 
-  list_any_not : {X : Type 0} (p : X → Bool) (xs : List X) (k : ℕ) (d : X) → list_any p xs ≡ false → k < length xs → p (get_or xs k d) ≡ false
+  list_any_not : {X : Type 0} (p : X → Bool) (xs : List X) (k : ℕ) (d : X) → list_any p xs ≡ false → k < length xs →
+      p (get_or xs k d) ≡ false
   list_any_not p xs k d none lt =
       ⊎_elim
       (λ (yes : p (get_or xs k d) ≡ true). absurd (false≢true (sym none ∙ list_any_at p xs k d lt yes)))
@@ -142,7 +156,8 @@ module _ (code : Code) where
       (cases_Bool (p (get_or xs k d)))
 
   module _ (lens : List ℕ) (h : HasLens code lens) where
-    open_is_left : (phase : ℕ) (done : List ℕ) → length done ≡ code.procs → is_open code phase done ≡ list_any (λ d. nat_lt d (slice_index lens phase)) done
+    open_is_left : (phase : ℕ) (done : List ℕ) → length done ≡ code.procs →
+        is_open code phase done ≡ list_any (λ d. nat_lt d (slice_index lens phase)) done
     open_is_left phase done size =
         let len : ℕ = slice_index lens phase in
         ⊎_elim
@@ -182,17 +197,21 @@ module _ (code : Code) where
         (open_is_left phase (none_done code) (length-replicate code.procs 0) ∙ zeros_left code.procs (slice_index lens phase) pos)
         (first_is_busy pos n (phase + 1))
 
-    none_cleared : (queues : List Backlog) → some_wait (waits_of queues) ≡ false → waits_of (map cleared queues) ≡ waits_of queues
+    none_cleared : (queues : List Backlog) → some_wait (waits_of queues) ≡ false →
+        waits_of (map cleared queues) ≡ waits_of queues
     none_cleared [] e = refl
     none_cleared (l ∷ queues) e =
         let empty = not_waiting l.waiting (some_wait (waits_of queues)) e in
         ap₂ (λ (x : List Waiting) (xs : List (List Waiting)). x ∷ xs) (sym empty.0) (none_cleared queues empty.1)
 
     -- what the phase moves on to is what it stands for
-    pub settled_buffered : (t : Stand) → 0 < code.procs → length t.done ≡ code.procs → buffered_of (settled_stand lens t) ≡ buffered_moved_on code (buffered_of t)
+    pub settled_buffered : (t : Stand) → 0 < code.procs → length t.done ≡ code.procs →
+        buffered_of (settled_stand lens t) ≡ buffered_moved_on code (buffered_of t)
     settled_buffered t pos size = at (some_wait (waits_of t.queues)) refl (list_any (λ d. nat_lt d (slice_index lens t.phase)) t.done) refl
       where
-        at : (w : Bool) → some_wait (waits_of t.queues) ≡ w → (o : Bool) → list_any (λ d. nat_lt d (slice_index lens t.phase)) t.done ≡ o → buffered_of (settled_stand lens t) ≡ buffered_moved_on code (buffered_of t)
+        at : (w : Bool) → some_wait (waits_of t.queues) ≡ w → (o : Bool) →
+            list_any (λ d. nat_lt d (slice_index lens t.phase)) t.done ≡ o →
+            buffered_of (settled_stand lens t) ≡ buffered_moved_on code (buffered_of t)
         at true ew o eo =
             ap (λ b. buffered_of (cond (b || list_any (λ d. nat_lt d (slice_index lens t.phase)) t.done) t (next_stand lens t))) ew
             ∙ sym (ap (λ b. record { state = cond b (buffered_of t).state (moved_on code (buffered_of t).state); queues = waits_of t.queues }) ew)
@@ -208,7 +227,8 @@ module _ (code : Code) where
             ∙ sym (ap₂ (λ b c. record { state = cond b (buffered_of t).state (cond c (buffered_of t).state (record { memory = t.memory; registers = t.registers; phase = first_open code (phases_after code t.phase) (t.phase + 1); done = none_done code })); queues = waits_of t.queues }) ew (open_is_left t.phase t.done size ∙ eo))))
 
   -- the queues are cleared, and the phase is another
-  cleared_at : (queues : List Backlog) (q : ℕ) → q < length queues → backlog_at (map cleared queues) q ≡ cleared (backlog_at queues q)
+  cleared_at : (queues : List Backlog) (q : ℕ) → q < length queues →
+      backlog_at (map cleared queues) q ≡ cleared (backlog_at queues q)
   cleared_at queues q lt = get_or-map cleared queues q (record { lanes = 0; waiting = []; room = 0; most = 0; span = 0 }) (record { lanes = 0; waiting = []; room = 0; most = 0; span = 0 }) lt
 
   pub standing_anew : (t : Stand) (phase : ℕ) → IsStanding code t → IsStanding code (record { memory = t.memory; registers = t.registers; queues = map cleared t.queues; phase = phase; done = replicate (length t.done) 0 })
@@ -230,7 +250,8 @@ module _ (code : Code) where
         waiting = λ q. cleared_sound code.modulus code.lanes (4 * padded code) t.queues q;
       }
     where
-      cleared_sound : (m lanes span : ℕ) (queues : List Backlog) (q : ℕ) → AreSound m lanes span (backlog_at (map cleared queues) q).waiting
+      cleared_sound : (m lanes span : ℕ) (queues : List Backlog) (q : ℕ) →
+          AreSound m lanes span (backlog_at (map cleared queues) q).waiting
       cleared_sound m lanes span [] q = subst (λ (l : Backlog). AreSound m lanes span l.waiting) (sym (get_or_past [] q (record { lanes = 0; waiting = []; room = 0; most = 0; span = 0 }) (omega arith))) tt
       cleared_sound m lanes span (l ∷ queues) zero = tt
       cleared_sound m lanes span (l ∷ queues) (suc q) = cleared_sound m lanes span queues q
@@ -243,14 +264,18 @@ module _ (code : Code) where
       at false = standing_anew t (first_busy lens (length lens - (t.phase + 1)) (t.phase + 1)) s
 
   -- a drain, before the phase moves on
-  pub oldest_fits : (t : Stand) (q : ℕ) → IsStanding code t → q < code.procs → is_waiting (backlog_at t.queues q).waiting ≡ true → OldestFits (backlog_at t.queues q).lanes (length t.memory) (backlog_at t.queues q).waiting
+  pub oldest_fits : (t : Stand) (q : ℕ) → IsStanding code t → q < code.procs →
+      is_waiting (backlog_at t.queues q).waiting ≡ true → OldestFits (backlog_at t.queues q).lanes (length t.memory)
+      (backlog_at t.queues q).waiting
   oldest_fits t q s lt e = at (backlog_at t.queues q).waiting (s.waiting q) e
     where
-      at : (ws : List Waiting) → AreSound code.modulus code.lanes (4 * padded code) ws → is_waiting ws ≡ true → OldestFits (backlog_at t.queues q).lanes (length t.memory) ws
+      at : (ws : List Waiting) → AreSound code.modulus code.lanes (4 * padded code) ws → is_waiting ws ≡ true →
+          OldestFits (backlog_at t.queues q).lanes (length t.memory) ws
       at [] h e = absurd (false≢true e)
       at (w ∷ ws) h e = omega (arith, h.0, s.lanes q lt, s.memory)
 
-  pub standing_written : (t u : Stand) (q address : ℕ) → IsStanding code t → q < code.procs → IsWritten q t u address → IsStanding code u
+  pub standing_written : (t u : Stand) (q address : ℕ) → IsStanding code t → q < code.procs → IsWritten q t u address →
+      IsStanding code u
   standing_written t u q address s lt w =
       let l : Backlog = backlog_at t.queues q in
       let sound : AreSound code.modulus code.lanes (4 * padded code) (w.drained.oldest ∷ w.queue.waiting) = subst (AreSound code.modulus code.lanes (4 * padded code)) w.drained.splits (s.waiting q) in
@@ -287,7 +312,8 @@ module _ (code : Code) where
             (λ other ne. s.waiting other));
       }
 
-  pub written_buffered : (t u : Stand) (q address : ℕ) (w : IsWritten q t u address) → buffered_of u ≡ written q w.drained.oldest w.queue.waiting (buffered_of t)
+  pub written_buffered : (t u : Stand) (q address : ℕ) (w : IsWritten q t u address) →
+      buffered_of u ≡ written q w.drained.oldest w.queue.waiting (buffered_of t)
   written_buffered t u q address w =
       let queues : waits_of u.queues ≡ slice_set (waits_of t.queues) q w.queue.waiting = ap waits_of w.queues ∙ map-set (λ (l : Backlog). l.waiting) t.queues q w.queue in
       let one : buffered_of u ≡ record { state = record { memory = with_words t.memory w.drained.oldest.address w.drained.oldest.words; registers = t.registers; phase = u.phase; done = u.done }; queues = waits_of u.queues } =

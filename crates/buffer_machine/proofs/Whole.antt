@@ -1,5 +1,7 @@
 -- What a machine keeps.
-use Rattle.std.proofs.Common.{◌≡◌, ℕ, zero, suc, Bool, cond, true, false, ⊎_elim, ◌+◌, ◌-◌, ◌*◌, ◌<◌, ◌≤◌, ◌^◌, List, [], ◌∷◌, ◌++◌, length, map, drop, replicate, Some, refl, sym, ap, ap₂, ◌∙◌, subst, arith, length-append, div-add-mod', mod-lt}
+use Rattle.std.proofs.Common.{◌≡◌, ℕ, zero, suc, Bool, cond, true, false, ⊎_elim, ◌+◌, ◌-◌, ◌*◌, ◌<◌, ◌≤◌, ◌^◌, List}
+use Rattle.std.proofs.Common.{[], ◌∷◌, ◌++◌, length, map, drop, replicate, Some, refl, sym, ap, ap₂, ◌∙◌, subst, arith}
+use Rattle.std.proofs.Common.{length-append, div-add-mod', mod-lt}
 use Rattle.std.specs.Prelude.{slice_get, slice_index, slice_index_or, slice_set}
 use Rattle.std.proofs.lemmas.List.{get_or-replicate, length-replicate, length-map, replicate-append-replicate}
 use Rattle.std.proofs.lemmas.Bool.{cases_eq, cases_lt, false≢true}
@@ -9,12 +11,16 @@ use Rattle.icode.specs.declared.event.Event.{Event}
 use Rattle.icode.specs.declared.event.Event.TheVariants.{Turn, Drain}
 use Rattle.icode.specs.declared.program.Program.{Program}
 use Rattle.icode.specs.Actions.{Step}
-use Rattle.icode.specs.Buffers.{Waiting, Buffered, some_wait, IsBusy, IsIdle, is_waiting, buffered_completion, stores_among, buffered_start, buffered_turn, buffered_turn_with, buffered_moved_on, buffered_step, drain, drain_with}
+use Rattle.icode.specs.Buffers.{Waiting, Buffered, some_wait, IsBusy, IsIdle, is_waiting, buffered_completion}
+use Rattle.icode.specs.Buffers.{stores_among, buffered_start, buffered_turn, buffered_turn_with, buffered_moved_on}
+use Rattle.icode.specs.Buffers.{buffered_step, drain, drain_with}
 use Rattle.icode.specs.Operation.{AddressFits}
-use Rattle.icode.specs.Machine.{Code, IsCode, State, acts, padded, start, first_open, whole_lines, is_open, phases_after, none_done, next_action, moved_on, acted, turn_with, turn}
+use Rattle.icode.specs.Machine.{Code, IsCode, State, acts, padded, start, first_open, whole_lines, is_open}
+use Rattle.icode.specs.Machine.{phases_after, none_done, next_action, moved_on, acted, turn_with, turn}
 use Rattle.icode.specs.Program.{plain_program, code_of, Fits, steps}
 use Rattle.icode.proofs.Below.{below-padded}
-use Rattle.icode.proofs.BufferedCompletion.{busy_step, starts_busy, waits_within, completion_turn, completion_drain, completion_past, idle_past}
+use Rattle.icode.proofs.BufferedCompletion.{busy_step, starts_busy, waits_within, completion_turn, completion_drain}
+use Rattle.icode.proofs.BufferedCompletion.{completion_past, idle_past}
 use Rattle.icode.proofs.End.{slice_index-zeros}
 use Rattle.icode.proofs.Completion.{first_opens}
 use Rattle.icode.proofs.Runs.{open_at}
@@ -31,12 +37,14 @@ use Rattle.buffer_machine.specs.Walking.{IsWalking}
 use Rattle.buffer_machine.specs.Ready.{CanAct}
 use Rattle.par_machine.specs.Running.{Running as Machine}
 use Rattle.par_machine.specs.Skipped.{skipped}
-use Rattle.buffer_machine.specs.Stand.{Stand, backlog_at, waits_of, buffered_of, acted_stand, cleared, first_busy, settled_stand, first_stand, HasLens, AreSound, IsStanding}
+use Rattle.buffer_machine.specs.Stand.{Stand, backlog_at, waits_of, buffered_of, acted_stand, cleared, first_busy}
+use Rattle.buffer_machine.specs.Stand.{settled_stand, first_stand, HasLens, AreSound, IsStanding}
 use Rattle.buffer_machine.specs.View.{IsWhole}
 use Rattle.buffer_machine.proofs.Fitting.{can_be_done, acts_steps}
 use Rattle.buffer_machine.proofs.Few.{few_step, few_start, few_events}
 use Rattle.buffer_machine.proofs.Lens.{acts_none}
-use Rattle.buffer_machine.proofs.Standing.{queue_is, standing_acted, acted_buffered, settled_buffered, standing_settled, standing_anew, standing_written, written_buffered, first_is_busy}
+use Rattle.buffer_machine.proofs.Standing.{queue_is, standing_acted, acted_buffered, settled_buffered, standing_settled}
+use Rattle.buffer_machine.proofs.Standing.{standing_anew, standing_written, written_buffered, first_is_busy}
 
 abbrev next_of : Code → State → State
 next_of code s = record { memory = s.memory; registers = s.registers; phase = first_open code (phases_after code s.phase) (s.phase + 1); done = none_done code }
@@ -73,13 +81,19 @@ abbrev pub with_values : Inside → Stand → Machine → Inside
 with_values a v m = record { shape = a.shape; lens = a.lens; values = v; walker = m }
 
 -- few events are left after a step, and at the start
-few_after : (code : Code) (b t : Buffered) (event : Event) → IsCode code → IsBusy code b → length (buffered_completion code b) < 2 ^ 60 → t ≡ buffered_step code b event → length (buffered_completion code t) < 2 ^ 60
+few_after : (code : Code) (b t : Buffered) (event : Event) → IsCode code → IsBusy code b →
+    length (buffered_completion code b) < 2 ^ 60 → t ≡ buffered_step code b event →
+    length (buffered_completion code t) < 2 ^ 60
 few_after code b t event is busy few e = omega (arith, few, few_step code is b event busy, ap (λ (c : Buffered). length (buffered_completion code c)) e)
 
-few_at_start : (code : Code) → IsGood code → (t : Buffered) (x : List ℕ) → t ≡ buffered_start code x → length (buffered_completion code t) < 2 ^ 60
+few_at_start : (code : Code) → IsGood code → (t : Buffered) (x : List ℕ) → t ≡ buffered_start code x →
+    length (buffered_completion code t) < 2 ^ 60
 few_at_start code g t x e = omega (arith, g.events, few_start code g.lists x, ap (λ (c : Buffered). length (buffered_completion code c)) e)
 
-pub whole_with : (a : Inside) (v : Stand) (m : Machine) → IsWhole a → m.code ≡ a.walker.code → IsStanding (code_in a) v → IsBusy (code_in a) (buffered_of v) → length (buffered_completion (code_in a) (buffered_of v)) < 2 ^ 60 → IsWalking (code_in a) (buffered_of v).state m.state → IsWhole (with_values a v m)
+pub whole_with : (a : Inside) (v : Stand) (m : Machine) → IsWhole a → m.code ≡ a.walker.code →
+    IsStanding (code_in a) v → IsBusy (code_in a) (buffered_of v) →
+    length (buffered_completion (code_in a) (buffered_of v)) < 2 ^ 60 →
+    IsWalking (code_in a) (buffered_of v).state m.state → IsWhole (with_values a v m)
 whole_with a v m w same standing busy few walking =
     record {
       good = subst IsGood (sym same) w.good;
@@ -97,7 +111,9 @@ whole_with a v m w same standing busy few walking =
 -- A turn
 
 -- the phase is open, since the processor has an action left
-open_here : (a : Inside) (q : ℕ) → IsWhole a → q < (code_in a).procs → slice_index a.values.done q < slice_index a.lens.items a.values.phase → is_open (code_in a) a.values.phase a.values.done ≡ true
+open_here : (a : Inside) (q : ℕ) → IsWhole a → q < (code_in a).procs →
+    slice_index a.values.done q < slice_index a.lens.items a.values.phase →
+    is_open (code_in a) a.values.phase a.values.done ≡ true
 open_here a q w lt left = open_at (code_in a) a.values.phase a.values.done q lt (omega (arith, w.lens.each a.values.phase q lt))
 
 some_action : (xs : List Action) (i : ℕ) → i < length xs → (a : Action) × (slice_get xs i ≡ Some a)
@@ -106,17 +122,23 @@ some_action (x ∷ xs) zero lt = (x, refl)
 some_action (x ∷ xs) (suc i) lt = some_action xs i (omega arith)
 
 -- so the walker does the action
-pub walker_next : (a : Inside) (q : ℕ) → IsWhole a → q < (code_in a).procs → slice_index a.values.done q < slice_index a.lens.items a.values.phase → next_action (code_in a) a.walker.state q ≡ next_action (code_in a) (buffered_of a.values).state q
+pub walker_next : (a : Inside) (q : ℕ) → IsWhole a → q < (code_in a).procs →
+    slice_index a.values.done q < slice_index a.lens.items a.values.phase →
+    next_action (code_in a) a.walker.state q ≡ next_action (code_in a) (buffered_of a.values).state q
 walker_next a q w lt left =
     let at = w.walking.here (open_here a q w lt left) in
     ap₂ (λ (phase : ℕ) (done : List ℕ). slice_get (acts (code_in a) phase q) (slice_index done q)) at.0 at.1
 
-pub walker_left : (a : Inside) (q : ℕ) → IsWhole a → q < (code_in a).procs → slice_index a.values.done q < slice_index a.lens.items a.values.phase → slice_index a.walker.state.done q < length (acts (code_in a) a.walker.state.phase q)
+pub walker_left : (a : Inside) (q : ℕ) → IsWhole a → q < (code_in a).procs →
+    slice_index a.values.done q < slice_index a.lens.items a.values.phase →
+    slice_index a.walker.state.done q < length (acts (code_in a) a.walker.state.phase q)
 walker_left a q w lt left =
     let at = w.walking.here (open_here a q w lt left) in
     omega (arith, w.lens.each a.values.phase q lt, left, ap (λ (phase : ℕ). length (acts (code_in a) phase q)) at.0, ap (λ (done : List ℕ). slice_index done q) at.1)
 
-pub can_act : (a : Inside) (q : ℕ) (action : Action) → IsWhole a → q < (code_in a).procs → slice_get (acts (code_in a) a.values.phase q) (slice_index a.values.done q) ≡ Some action → CanAct a.shape.modulus a.shape.lanes a.shape.regs q action a.values
+pub can_act : (a : Inside) (q : ℕ) (action : Action) → IsWhole a → q < (code_in a).procs →
+    slice_get (acts (code_in a) a.values.phase q) (slice_index a.values.done q) ≡ Some action →
+    CanAct a.shape.modulus a.shape.lanes a.shape.regs q action a.values
 can_act a q action w lt e =
     let code : Code = code_in a in
     let s = w.standing in
@@ -141,13 +163,17 @@ can_act a q action w lt e =
       lanes_are = s.lanes q lt;
     })))
   where
-    room_for_one : (xs : List Action) (i : ℕ) (a : Action) → slice_get xs i ≡ Some a → stores_among (a ∷ []) ≤ stores_among (drop i xs)
+    room_for_one : (xs : List Action) (i : ℕ) (a : Action) → slice_get xs i ≡ Some a →
+        stores_among (a ∷ []) ≤ stores_among (drop i xs)
     room_for_one xs i a e = omega (arith, ap stores_among (drop_at xs i a e), stores_first a (drop (suc i) xs))
 
 -- The walker keeps up
 
 -- after an action, before the phase moves on
-walking_acted : (code : Code) (s m n : State) (q : ℕ) (action : Action) → s.phase < length code.lists → is_open code s.phase s.done ≡ true → IsWalking code s m → next_action code m q ≡ Some action → n ≡ skipped code m q → (t : State) → t.phase ≡ s.phase → t.done ≡ slice_set s.done q (suc (slice_index s.done q)) → IsWalking code t n
+walking_acted : (code : Code) (s m n : State) (q : ℕ) (action : Action) → s.phase < length code.lists →
+    is_open code s.phase s.done ≡ true → IsWalking code s m → next_action code m q ≡ Some action →
+    n ≡ skipped code m q → (t : State) → t.phase ≡ s.phase → t.done ≡ slice_set s.done q (suc (slice_index s.done q)) →
+    IsWalking code t n
 walking_acted code s m n q action lt opened w e en t ep ed =
     let at = w.here opened in
     let done : List ℕ = slice_set m.done q (suc (slice_index m.done q)) in
@@ -168,10 +194,12 @@ walking_acted code s m n q action lt opened w e en t ep ed =
     }
 
 -- as the phase moves on
-walking_moved : (code : Code) → IsCode code → (b : Buffered) (m : State) → b.state.phase < length code.lists → IsWalking code b.state m → IsWalking code (buffered_moved_on code b).state m
+walking_moved : (code : Code) → IsCode code → (b : Buffered) (m : State) → b.state.phase < length code.lists →
+    IsWalking code b.state m → IsWalking code (buffered_moved_on code b).state m
 walking_moved code is b m lt w = at (some_wait b.queues) (is_open code b.state.phase b.state.done) refl
   where
-    at : (c o : Bool) → is_open code b.state.phase b.state.done ≡ o → IsWalking code (cond c b.state (cond o b.state (next_of code b.state))) m
+    at : (c o : Bool) → is_open code b.state.phase b.state.done ≡ o →
+        IsWalking code (cond c b.state (cond o b.state (next_of code b.state))) m
     at true o eo = w
     at false true eo = w
     at false false eo =
@@ -181,7 +209,12 @@ walking_moved code is b m lt w = at (some_wait b.queues) (is_open code b.state.p
           ahead = λ low c. absurd (false≢true (sym c ∙ first_opens code is (phases_after code b.state.phase) (b.state.phase + 1) (omega (arith, low))));
         }
 
-pub turned : (a : Inside) (q : ℕ) (action : Action) (v : Stand) (m : Machine) → IsWhole a → q < (code_in a).procs → a.values.phase < length a.lens.items → slice_index a.values.done q < slice_index a.lens.items a.values.phase → slice_get (acts (code_in a) a.values.phase q) (slice_index a.values.done q) ≡ Some action → v ≡ settled_stand a.lens.items (acted_stand a.shape.modulus a.shape.lanes q action a.values) → m.code ≡ a.walker.code → m.state ≡ skipped (code_in a) a.walker.state q → IsWhole (with_values a v m) × (buffered_of v ≡ buffered_turn (code_in a) (buffered_of a.values) q)
+pub turned : (a : Inside) (q : ℕ) (action : Action) (v : Stand) (m : Machine) → IsWhole a → q < (code_in a).procs →
+    a.values.phase < length a.lens.items → slice_index a.values.done q < slice_index a.lens.items a.values.phase →
+    slice_get (acts (code_in a) a.values.phase q) (slice_index a.values.done q) ≡ Some action →
+    v ≡ settled_stand a.lens.items (acted_stand a.shape.modulus a.shape.lanes q action a.values) →
+    m.code ≡ a.walker.code → m.state ≡ skipped (code_in a) a.walker.state q →
+    IsWhole (with_values a v m) × (buffered_of v ≡ buffered_turn (code_in a) (buffered_of a.values) q)
 turned a q action v m w lt phase left e ev ec em =
     let code : Code = code_in a in
     let b : Buffered = buffered_of a.values in
@@ -204,11 +237,14 @@ turned a q action v m w lt phase left e ev ec em =
 
 -- A drain
 
-pub drain_within : (a : Inside) (q address : ℕ) (u : Stand) → IsWhole a → IsWritten q a.values u address → u.phase < length a.lens.items
+pub drain_within : (a : Inside) (q address : ℕ) (u : Stand) → IsWhole a → IsWritten q a.values u address →
+    u.phase < length a.lens.items
 drain_within a q address u w wr =
     omega (arith, wr.phase, w.lens.count, waits_within (code_in a) w.good.lists (buffered_of a.values) q wr.drained.oldest wr.queue.waiting w.busy (queue_is a.values.queues q ∙ wr.drained.splits))
 
-pub drained : (a : Inside) (q address : ℕ) (u v : Stand) → IsWhole a → q < (code_in a).procs → IsWritten q a.values u address → v ≡ settled_stand a.lens.items u → IsWhole (with_values a v a.walker) × (buffered_of v ≡ drain (code_in a) (buffered_of a.values) q)
+pub drained : (a : Inside) (q address : ℕ) (u v : Stand) → IsWhole a → q < (code_in a).procs →
+    IsWritten q a.values u address → v ≡ settled_stand a.lens.items u →
+    IsWhole (with_values a v a.walker) × (buffered_of v ≡ drain (code_in a) (buffered_of a.values) q)
 drained a q address u v w lt wr ev =
     let code : Code = code_in a in
     let b : Buffered = buffered_of a.values in
@@ -240,7 +276,8 @@ pub empty_queues : (queues : List Backlog) → waits_of (map cleared queues) ≡
 empty_queues [] = refl
 empty_queues (l ∷ queues) = ap (λ (xs : List (List Waiting)). [] ∷ xs) (empty_queues queues)
 
-file_of_zeros : (m : ℕ) (files : List (List ℕ)) (q : ℕ) → 0 < m → AreBelow m (slice_index_or (map (λ (file : List ℕ). replicate (length file) 0) files) q [])
+file_of_zeros : (m : ℕ) (files : List (List ℕ)) (q : ℕ) → 0 < m →
+    AreBelow m (slice_index_or (map (λ (file : List ℕ). replicate (length file) 0) files) q [])
 file_of_zeros m [] q pos = λ j. pos
 file_of_zeros m (f ∷ files) zero pos = below-zeros m (length f) pos
 file_of_zeros m (f ∷ files) (suc q) pos = file_of_zeros m files q pos
@@ -251,7 +288,8 @@ file_size (f ∷ files) zero = length-replicate {A = ℕ} (length f) 0
 file_size (f ∷ files) (suc q) = file_size files q
 
 module _ (p : Code) (lens : List ℕ) (h : HasLens p lens) (g : IsGood p) where
-  pub first_standing : (t : Stand) (x : List ℕ) → length x ≤ length t.memory → AreBelow p.modulus x → IsStanding p t → IsStanding p (first_stand lens x t)
+  pub first_standing : (t : Stand) (x : List ℕ) → length x ≤ length t.memory → AreBelow p.modulus x → IsStanding p t →
+      IsStanding p (first_stand lens x t)
   first_standing t x le below s =
       let pos : 0 < p.modulus = g.modulus in
       let anew = standing_anew p t (first_busy lens (length lens) 0) s in
@@ -271,7 +309,8 @@ module _ (p : Code) (lens : List ℕ) (h : HasLens p lens) (g : IsGood p) where
       }
 
   -- the state of the first stand, where so much of memory is given
-  first_state : (t : Stand) (x y : List ℕ) → y ++ replicate (length t.memory - length y) 0 ≡ x ++ replicate (4 * padded p - p.size) 0 → IsStanding p t → buffered_of (first_stand lens y t) ≡ buffered_start p x
+  first_state : (t : Stand) (x y : List ℕ) → y ++ replicate (length t.memory - length y) 0 ≡ x
+      ++ replicate (4 * padded p - p.size) 0 → IsStanding p t → buffered_of (first_stand lens y t) ≡ buffered_start p x
   first_state t x y e s =
       let pos : 0 < p.procs = g.procs in
       let registers : map (λ (file : List ℕ). replicate (length file) 0) t.registers ≡ replicate p.procs (replicate (p.regs * p.lanes) 0) =
@@ -288,19 +327,23 @@ module _ (p : Code) (lens : List ℕ) (h : HasLens p lens) (g : IsGood p) where
           ∙ (ap₂ (λ (i : ℕ) (d : List ℕ). record { state = record { memory = n; registers = s; phase = i; done = d }; queues = q }) ei ed
           ∙ ap (λ (q : List (List Waiting)). record { state = record { memory = n; registers = s; phase = j; done = e }; queues = q }) eq)
 
-  pub put_state : (t : Stand) (x : List ℕ) → length x ≡ p.size → IsStanding p t → buffered_of (first_stand lens x t) ≡ buffered_start p x
+  pub put_state : (t : Stand) (x : List ℕ) → length x ≡ p.size → IsStanding p t →
+      buffered_of (first_stand lens x t) ≡ buffered_start p x
   put_state t x size s = first_state t x x (ap₂ (λ n k. x ++ replicate (n - k) 0) s.memory size) s
 
-  pub new_state : (t : Stand) → IsStanding p t → buffered_of (first_stand lens [] t) ≡ buffered_start p (replicate p.size 0)
+  pub new_state : (t : Stand) → IsStanding p t → buffered_of (first_stand lens [] t)
+      ≡ buffered_start p (replicate p.size 0)
   new_state t s =
       let room : p.size ≤ padded p = g.size in
       let all : p.size + (4 * padded p - p.size) ≡ length t.memory - 0 = omega (arith, s.memory) in
       first_state t (replicate p.size 0) [] (ap (λ n. replicate n 0) (sym all) ∙ sym (replicate-append-replicate p.size (4 * padded p - p.size) 0)) s
 
-pub busy_at_start : (code : Code) → IsCode code → (t : Stand) (x : List ℕ) → buffered_of t ≡ buffered_start code x → IsBusy code (buffered_of t)
+pub busy_at_start : (code : Code) → IsCode code → (t : Stand) (x : List ℕ) → buffered_of t ≡ buffered_start code x →
+    IsBusy code (buffered_of t)
 busy_at_start code is t x e = subst (IsBusy code) (sym e) (starts_busy code is x)
 
-pub walking_at_start : (code : Code) → IsCode code → (t : Stand) (m : State) (x y : List ℕ) → buffered_of t ≡ buffered_start code x → m ≡ start code y → IsWalking code (buffered_of t).state m
+pub walking_at_start : (code : Code) → IsCode code → (t : Stand) (m : State) (x y : List ℕ) →
+    buffered_of t ≡ buffered_start code x → m ≡ start code y → IsWalking code (buffered_of t).state m
 walking_at_start code is t m x y e em =
     subst (λ (b : Buffered). IsWalking code b.state m) (sym e)
     (record {
@@ -308,7 +351,10 @@ walking_at_start code is t m x y e em =
       ahead = λ low c. absurd (false≢true (sym c ∙ first_opens code is (length code.lists) 0 (omega (arith, low))));
     })
 
-pub put_whole : (a : Inside) (x : List ℕ) (v : Stand) (m : Machine) → IsWhole a → v ≡ first_stand a.lens.items x a.values → length x ≡ (code_in a).size → AreBelow (code_in a).modulus x → m.code ≡ a.walker.code → m.state ≡ start (code_in a) x → IsWhole (with_values a v m) × (buffered_of v ≡ buffered_start (code_in a) x)
+pub put_whole : (a : Inside) (x : List ℕ) (v : Stand) (m : Machine) → IsWhole a →
+    v ≡ first_stand a.lens.items x a.values → length x ≡ (code_in a).size → AreBelow (code_in a).modulus x →
+    m.code ≡ a.walker.code → m.state ≡ start (code_in a) x →
+    IsWhole (with_values a v m) × (buffered_of v ≡ buffered_start (code_in a) x)
 put_whole a x v m w ev size below ec em =
     let p : Code = code_in a in
     let standing : IsStanding p v = subst (IsStanding p) (sym ev) (first_standing p a.lens.items w.lens w.good a.values x (omega (arith, w.standing.memory, w.good.size)) below w.standing) in
@@ -317,7 +363,9 @@ put_whole a x v m w ev size below ec em =
 
 -- A new machine
 
-zero_standing : (p : Program) (most : ℕ) → ((phase q : ℕ) → q < p.procs → stores_among (acts (code_of p) phase q) ≤ most) → IsStanding (code_of p) (zero_stand (padded (code_of p)) p.procs (p.regs * p.lanes) p.lanes most)
+zero_standing : (p : Program) (most : ℕ) → ((phase q : ℕ) → q < p.procs →
+    stores_among (acts (code_of p) phase q) ≤ most) → IsStanding (code_of p)
+    (zero_stand (padded (code_of p)) p.procs (p.regs * p.lanes) p.lanes most)
 zero_standing p most h =
     let pos : 0 < p.modulus = omega (arith, p.header.of_modulus.0) in
     let l : Backlog = empty_queue p.lanes most (4 * padded (code_of p)) in
@@ -343,7 +391,8 @@ zero_standing p most h =
     zeros_below m (suc n) k zero pos = below-zeros m k pos
     zeros_below m (suc n) k (suc q) pos = zeros_below m n k q pos
 
-    none_sound : (m lanes span n lanes' most s q : ℕ) → AreSound m lanes span (backlog_at (replicate n (empty_queue lanes' most s)) q).waiting
+    none_sound : (m lanes span n lanes' most s q : ℕ) → AreSound m lanes span
+        (backlog_at (replicate n (empty_queue lanes' most s)) q).waiting
     none_sound m lanes span zero lanes' most s q = tt
     none_sound m lanes span (suc n) lanes' most s zero = tt
     none_sound m lanes span (suc n) lanes' most s (suc q) = none_sound m lanes span n lanes' most s q
@@ -363,7 +412,8 @@ pub record IsMade (p : Program) (a : Inside) (t : Stand) (most : ℕ) : Type 0 w
   pub walker_code : a.walker.code ≡ code_of p
   pub walker_state : a.walker.state ≡ start (code_of p) (replicate p.size 0)
 
-pub made : (p : Program) (a : Inside) (t : Stand) (most : ℕ) → IsMade p a t most → IsWhole a × (buffered_of a.values ≡ buffered_start (code_of p) (replicate p.size 0))
+pub made : (p : Program) (a : Inside) (t : Stand) (most : ℕ) → IsMade p a t most →
+    IsWhole a × (buffered_of a.values ≡ buffered_start (code_of p) (replicate p.size 0))
 made p a t most w =
     let g : IsGood (code_of p) = good p w.fits in
     let room : a.shape.room ≡ padded (code_of p) = a.shape.lines ∙ ap₂ whole_lines w.size w.line in
@@ -392,21 +442,29 @@ made p a t most w =
 
 -- The next event
 
-pub idle_at : (a : Inside) (q : ℕ) → IsWhole a → q < (code_in a).procs → slice_index a.lens.items a.values.phase ≤ slice_index a.values.done q → is_waiting (backlog_at a.values.queues q).waiting ≡ false → IsIdle (code_in a) (buffered_of a.values) q
+pub idle_at : (a : Inside) (q : ℕ) → IsWhole a → q < (code_in a).procs →
+    slice_index a.lens.items a.values.phase ≤ slice_index a.values.done q →
+    is_waiting (backlog_at a.values.queues q).waiting ≡ false → IsIdle (code_in a) (buffered_of a.values) q
 idle_at a q w lt over none = (omega (arith, w.lens.each a.values.phase q lt), queue_is a.values.queues q ∙ empty (backlog_at a.values.queues q).waiting none)
   where
     empty : (ws : List Waiting) → is_waiting ws ≡ false → ws ≡ []
     empty [] e = refl
     empty (w ∷ ws) e = absurd (false≢true (sym e))
 
-pub idle_below : (a : Inside) (n : ℕ) → IsIdle (code_in a) (buffered_of a.values) n → ((q : ℕ) → q < n → IsIdle (code_in a) (buffered_of a.values) q) → (q : ℕ) → q < n + 1 → IsIdle (code_in a) (buffered_of a.values) q
+pub idle_below : (a : Inside) (n : ℕ) → IsIdle (code_in a) (buffered_of a.values) n →
+    ((q : ℕ) → q < n → IsIdle (code_in a) (buffered_of a.values) q) → (q : ℕ) → q < n + 1 →
+    IsIdle (code_in a) (buffered_of a.values) q
 idle_below a n here before q lt =
     ⊎_elim
     (λ (e : q ≡ n). subst (IsIdle (code_in a) (buffered_of a.values)) (sym e) here)
     (λ (ne : q ≡ n → ⊥). before q (omega arith))
     (cases_eq q n)
 
-pub next_turn : (a : Inside) (q : ℕ) → IsWhole a → q < (code_in a).procs → slice_index a.values.done q < slice_index a.lens.items a.values.phase → ((k : ℕ) → k < q → IsIdle (code_in a) (buffered_of a.values) k) → buffered_completion (code_in a) (buffered_of a.values) ≡ Turn q ∷ buffered_completion (code_in a) (buffered_turn (code_in a) (buffered_of a.values) q)
+pub next_turn : (a : Inside) (q : ℕ) → IsWhole a → q < (code_in a).procs →
+    slice_index a.values.done q < slice_index a.lens.items a.values.phase →
+    ((k : ℕ) → k < q → IsIdle (code_in a) (buffered_of a.values) k) →
+    buffered_completion (code_in a) (buffered_of a.values) ≡ Turn q ∷ buffered_completion (code_in a)
+    (buffered_turn (code_in a) (buffered_of a.values) q)
 next_turn a q w lt left idle =
     let code : Code = code_in a in
     let xs : List Action = acts code a.values.phase q in
@@ -414,7 +472,12 @@ next_turn a q w lt left idle =
     let some = some_action xs (slice_index a.values.done q) small in
     completion_turn code w.good.lists (buffered_of a.values) q some.0 w.busy some.1 idle
 
-pub next_drain : (a : Inside) (q : ℕ) → IsWhole a → q < (code_in a).procs → slice_index a.lens.items a.values.phase ≤ slice_index a.values.done q → is_waiting (backlog_at a.values.queues q).waiting ≡ true → ((k : ℕ) → k < q → IsIdle (code_in a) (buffered_of a.values) k) → buffered_completion (code_in a) (buffered_of a.values) ≡ Drain q ∷ buffered_completion (code_in a) (drain (code_in a) (buffered_of a.values) q)
+pub next_drain : (a : Inside) (q : ℕ) → IsWhole a → q < (code_in a).procs →
+    slice_index a.lens.items a.values.phase ≤ slice_index a.values.done q →
+    is_waiting (backlog_at a.values.queues q).waiting ≡ true →
+    ((k : ℕ) → k < q → IsIdle (code_in a) (buffered_of a.values) k) →
+    buffered_completion (code_in a) (buffered_of a.values) ≡ Drain q ∷ buffered_completion (code_in a)
+    (drain (code_in a) (buffered_of a.values) q)
 next_drain a q w lt over some idle =
     let there = oldest_there (backlog_at a.values.queues q).waiting some in
     completion_drain (code_in a) w.good.lists (buffered_of a.values) q there.0 there.1 w.busy lt (omega (arith, w.lens.each a.values.phase q lt)) (queue_is a.values.queues q ∙ there.2) idle
@@ -423,8 +486,10 @@ next_drain a q w lt over some idle =
     oldest_there [] e = absurd (false≢true e)
     oldest_there (w ∷ ws) e = (w, ws, refl)
 
-pub nothing_next : (a : Inside) → IsWhole a → length a.lens.items ≤ a.values.phase → buffered_completion (code_in a) (buffered_of a.values) ≡ []
+pub nothing_next : (a : Inside) → IsWhole a → length a.lens.items ≤ a.values.phase →
+    buffered_completion (code_in a) (buffered_of a.values) ≡ []
 nothing_next a w le = completion_past (code_in a) w.good.lists (buffered_of a.values) w.busy (omega (arith, w.lens.count))
 
-pub all_idle : (a : Inside) → IsWhole a → ((q : ℕ) → q < (code_in a).procs → IsIdle (code_in a) (buffered_of a.values) q) → length a.lens.items ≤ a.values.phase
+pub all_idle : (a : Inside) → IsWhole a → ((q : ℕ) → q < (code_in a).procs →
+    IsIdle (code_in a) (buffered_of a.values) q) → length a.lens.items ≤ a.values.phase
 all_idle a w idle = omega (arith, w.lens.count, idle_past (code_in a) w.good.lists (buffered_of a.values) w.busy idle)

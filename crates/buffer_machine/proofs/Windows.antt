@@ -1,5 +1,7 @@
 -- The stores of a queue.
-use Rattle.std.proofs.Common.{◌≡◌, ℕ, zero, suc, ◌+◌, ◌-◌, ◌*◌, ◌<◌, ◌≤◌, ◌≢◌, List, [], ◌∷◌, ◌++◌, length, refl, sym, ap, ap₂, ◌∙◌, subst, arith, ⊎_elim, mul-le-mul_left, mul_comm, get_or-set_same, get_or-set_other}
+use Rattle.std.proofs.Common.{◌≡◌, ℕ, zero, suc, ◌+◌, ◌-◌, ◌*◌, ◌<◌, ◌≤◌, ◌≢◌, List, [], ◌∷◌, ◌++◌, length, refl, sym}
+use Rattle.std.proofs.Common.{ap, ap₂, ◌∙◌, subst, arith, ⊎_elim, mul-le-mul_left, mul_comm, get_or-set_same}
+use Rattle.std.proofs.Common.{get_or-set_other}
 use Rattle.std.specs.Prelude.{slice_index, slice_set}
 use Rattle.std.proofs.lemmas.Bool.{cases_eq}
 use Rattle.icode.specs.Buffers.{Waiting, overlaid}
@@ -21,7 +23,8 @@ length-with_words (v ∷ vs) xs i = length-with_words vs (slice_set xs i v) (i +
     length-set_ (x ∷ xs) (suc i) v = ap suc (length-set_ xs i v)
 
 -- the first is where it was written, and is what a later write leaves
-pub words_at-with_words : (vs xs : List ℕ) (i : ℕ) → i + length vs ≤ length xs → words_at (length vs) (with_words xs i vs) i ≡ vs
+pub words_at-with_words : (vs xs : List ℕ) (i : ℕ) → i + length vs ≤ length xs →
+    words_at (length vs) (with_words xs i vs) i ≡ vs
 words_at-with_words [] xs i le = refl
 words_at-with_words (v ∷ vs) xs i le =
     let ys : List ℕ = slice_set xs i v in
@@ -32,7 +35,9 @@ words_at-with_words (v ∷ vs) xs i le =
 
 -- Windows
 
-window-agree : (lanes n i : ℕ) (A B W V : List ℕ) → ((j : ℕ) → i ≤ j → j < i + n → slice_index A j ≡ slice_index B j) → ((j : ℕ) → i ≤ j → j < i + n → words_at lanes W (j * lanes) ≡ words_at lanes V (j * lanes)) → window lanes A W n i ≡ window lanes B V n i
+window-agree : (lanes n i : ℕ) (A B W V : List ℕ) → ((j : ℕ) → i ≤ j → j < i + n → slice_index A j ≡ slice_index B j) →
+    ((j : ℕ) → i ≤ j → j < i + n → words_at lanes W (j * lanes) ≡ words_at lanes V (j * lanes)) →
+    window lanes A W n i ≡ window lanes B V n i
 window-agree lanes zero i A B W V ha hw = refl
 window-agree lanes (suc n) i A B W V ha hw =
     let a = ha i (omega arith) (omega arith) in
@@ -85,7 +90,8 @@ oldest_there lanes span (suc n) i A W h = omega arith
 
 -- What is seen
 
-pub with_words-here : (vs m : List ℕ) (a place : ℕ) → a ≤ place → place < a + length vs → place < length m → slice_index (with_words m a vs) place ≡ slice_index vs (place - a)
+pub with_words-here : (vs m : List ℕ) (a place : ℕ) → a ≤ place → place < a + length vs → place < length m →
+    slice_index (with_words m a vs) place ≡ slice_index vs (place - a)
 with_words-here [] m a place low high inside = absurd (omega arith)
 with_words-here (v ∷ vs) m a place low high inside =
     let ys : List ℕ = slice_set m a v in
@@ -108,7 +114,8 @@ words_at-index (suc n) W i (suc d) lt =
     words_at-index n W (i + 1) d (omega arith) ∙ ap (slice_index W) e
 
 -- where no store is for the word, it is memory's
-pub seen_memory : (lanes n i : ℕ) (A W m : List ℕ) (place : ℕ) → NoneCovers lanes A place i (i + n) → slice_index (overlaid m (window lanes A W n i)) place ≡ slice_index m place
+pub seen_memory : (lanes n i : ℕ) (A W m : List ℕ) (place : ℕ) → NoneCovers lanes A place i (i + n) →
+    slice_index (overlaid m (window lanes A W n i)) place ≡ slice_index m place
 seen_memory lanes zero i A W m place none = refl
 seen_memory lanes (suc n) i A W m place none =
     let vs : List ℕ = words_at lanes W (i * lanes) in
@@ -117,7 +124,9 @@ seen_memory lanes (suc n) i A W m place none =
     ∙ slice_index-agree (with_words m a vs) m place (with_words-other vs m a place (λ low high. none i (omega arith) (omega arith) low (omega (arith, length-words_at lanes W (i * lanes)))))
 
 -- else it is that of the newest store that is for it
-pub seen_store : (lanes n i j : ℕ) (A W m : List ℕ) (place : ℕ) → i ≤ j → j < i + n → slice_index A j ≤ place → place < slice_index A j + lanes → place < length m → NoneCovers lanes A place (j + 1) (i + n) → slice_index (overlaid m (window lanes A W n i)) place ≡ slice_index W (j * lanes + (place - slice_index A j))
+pub seen_store : (lanes n i j : ℕ) (A W m : List ℕ) (place : ℕ) → i ≤ j → j < i + n → slice_index A j ≤ place →
+    place < slice_index A j + lanes → place < length m → NoneCovers lanes A place (j + 1) (i + n) →
+    slice_index (overlaid m (window lanes A W n i)) place ≡ slice_index W (j * lanes + (place - slice_index A j))
 seen_store lanes zero i j A W m place ij jn low high inside none = absurd (omega arith)
 seen_store lanes (suc n) i j A W m place ij jn low high inside none =
     let vs : List ℕ = words_at lanes W (i * lanes) in
@@ -141,7 +150,9 @@ slot_inside lanes j d n size lt small e =
     omega (arith, mul_comm (j + 1) lanes, mul_comm n lanes, mul-le-mul_left lanes le)
 
 -- one more lane of what is seen
-pub load_step : (registers old X : List ℕ) (place address lane v : ℕ) → v ≡ slice_index X (address + lane) → registers ≡ with_words old place (words_at lane X address) → slice_set registers (place + lane) v ≡ with_words old place (words_at (lane + 1) X address)
+pub load_step : (registers old X : List ℕ) (place address lane v : ℕ) → v ≡ slice_index X (address + lane) →
+    registers ≡ with_words old place (words_at lane X address) →
+    slice_set registers (place + lane) v ≡ with_words old place (words_at (lane + 1) X address)
 load_step registers old X place address lane v ev e =
     let vs : List ℕ = words_at lane X address in
     ap₂ (λ (ws : List ℕ) (w : ℕ). slice_set ws (place + lane) w) e ev

@@ -1,40 +1,48 @@
 -- The text of a line in C is read back.
-use Rattle.std.proofs.Common.{◌≡◌, ℕ, ◌<◌, ◌≤◌, true, false, eqb, ltb, leb, ◌&&◌, List, [], ◌∷◌, ◌++◌, codes, decimal, Option, Some, None, Ok, refl, sym, ap, ◌∙◌, append_assoc, arith, inl, inr}
+use Rattle.std.proofs.Common.{◌≡◌, ℕ, ◌<◌, ◌≤◌, true, false, eqb, ltb, leb, ◌&&◌, List, [], ◌∷◌, ◌++◌, codes, decimal}
+use Rattle.std.proofs.Common.{Option, Some, None, Ok, refl, sym, ap, ◌∙◌, append_assoc, arith, inl, inr}
 use Rattle.std.proofs.lemmas.Bool.{ltb-true, leb-true, and_parts, and_from, eq-eqb, ne_eqb}
 use Rattle.icode.specs.declared.program.Array.{Array}
 use Rattle.icode.specs.declared.program.Array.TheVariants as arrays
 use Rattle.icode.specs.Plain.{PlainExpr, PlainOp, Load, Store, Zero, Add, Sub, Neg, MulConst, MulTable, Tile}
 use Rattle.icode.specs.Limits.{is_small, is_sum_within, is_expr_within, is_op_within, sum_parts, sum_depth}
 use Rattle.grammar.specs.Grammar.{one_of}
-use Rattle.grammar.specs.Reading.{Place, start, and_then, whole, placed, word_at, number_at, named_number_at, one_of_in, one_of_at}
+use Rattle.grammar.specs.Reading.{Place, start, and_then, whole, placed, word_at, number_at, named_number_at, one_of_in}
+use Rattle.grammar.specs.Reading.{one_of_at}
 use Rattle.grammar.proofs.Parts.{Anything, one_of_reader}
 use Rattle.grammar.proofs.Whole.{again}
 use Rattle.listing_text.specs.Listing.{sum_text, array_text}
 use Rattle.listing_text.specs.Reading.{above_all, sum_at}
 use Rattle.listing_text.specs.Wording.{PlainAct, Open, Close, Do}
-use Rattle.listing_text.proofs.ReadBack.{Back, then_back, first_digit, word_back, number_back, named_back, small_fits, place_back}
+use Rattle.listing_text.proofs.ReadBack.{Back, then_back, first_digit, word_back, number_back, named_back, small_fits}
+use Rattle.listing_text.proofs.ReadBack.{place_back}
 use Rattle.listing_text.proofs.ActsBack.{IsActWithin}
 use Rattle.c_print.specs.declared.lines.Word.{Word}
 use Rattle.c_print.specs.declared.lines.Word.TheVariants as words
 use Rattle.c_print.specs.declared.lines.Value.{Value}
 use Rattle.c_print.specs.declared.lines.Value.TheVariants as values
 use Rattle.c_print.specs.CText.{lane_loop, tile_loops, becomes_text, c_op_text}
-use Rattle.c_print.specs.CLines.{c_words, target_words, value_words, factor_words, value_at, target_at, c_operands_at, c_act_at, c_line_at}
-use Rattle.c_print.proofs.CSpelt.{c_act_text, ended_text, shape_loop, shape_becomes, shape_call, shape_one, shape_constant, shape_table, shape_load, shape_store, shape_tile}
+use Rattle.c_print.specs.CLines.{c_words, target_words, value_words, factor_words, value_at, target_at, c_operands_at}
+use Rattle.c_print.specs.CLines.{c_act_at, c_line_at}
+use Rattle.c_print.proofs.CSpelt.{c_act_text, ended_text, shape_loop, shape_becomes, shape_call, shape_one}
+use Rattle.c_print.proofs.CSpelt.{shape_constant, shape_table, shape_load, shape_store, shape_tile}
 
-word_key : (w : List ℕ) (word : Word) (place : Place ℕ) (rest : List ℕ) → one_of c_words w word → place.rest ≡ w ++ rest → Back (one_of_at c_words) word place rest
+word_key : (w : List ℕ) (word : Word) (place : Place ℕ) (rest : List ℕ) → one_of c_words w word →
+    place.rest ≡ w ++ rest → Back (one_of_at c_words) word place rest
 word_key w word place rest l e =
     again Anything (one_of c_words) (one_of_at c_words)
     (one_of_reader Anything (codes "for (uint64_t v", words.For) ((codes "for (int k = 0; k < V; k++) for (int l = 0; l < V; l++) r[", words.Tile) ∷ (codes "for (int l = 0; l < V; l++) ", words.Lanes) ∷ (codes "}", words.End) ∷ []) refl)
     place w rest word l tt e
 
-target_key : (w : List ℕ) (target : Option Array) (place : Place ℕ) (rest : List ℕ) → one_of target_words w target → place.rest ≡ w ++ rest → Back (one_of_at target_words) target place rest
+target_key : (w : List ℕ) (target : Option Array) (place : Place ℕ) (rest : List ℕ) → one_of target_words w target →
+    place.rest ≡ w ++ rest → Back (one_of_at target_words) target place rest
 target_key w target place rest l e =
     again Anything (one_of target_words) (one_of_at target_words)
     (one_of_reader Anything (codes "r[", None) ((codes "X[", Some arrays.X) ∷ (codes "Y[", Some arrays.Y) ∷ (codes "A[", Some arrays.A) ∷ (codes "B[", Some arrays.B) ∷ []) refl)
     place w rest target l tt e
 
-value_key : (w : List ℕ) (value : Value) (place : Place ℕ) (rest : List ℕ) → one_of value_words w value → place.rest ≡ w ++ rest → Back (one_of_at value_words) value place rest
+value_key : (w : List ℕ) (value : Value) (place : Place ℕ) (rest : List ℕ) → one_of value_words w value →
+    place.rest ≡ w ++ rest → Back (one_of_at value_words) value place rest
 value_key w value place rest l e =
     again Anything (one_of value_words) (one_of_at value_words)
     (one_of_reader Anything (codes "0;", values.Zero)
@@ -43,7 +51,9 @@ value_key w value place rest l e =
     place w rest value l tt e
 
 -- a place, behind which this stands
-expr_back : (e : PlainExpr) (loops : ℕ) (w : List ℕ) → is_expr_within e loops ≡ true → loops ≤ 64 → (place : Place ℕ) (rest : List ℕ) → place.rest ≡ sum_text e ++ (codes " + " ++ rest) → Back (sum_at 64) e place (codes " + " ++ rest)
+expr_back : (e : PlainExpr) (loops : ℕ) (w : List ℕ) → is_expr_within e loops ≡ true → loops ≤ 64 →
+    (place : Place ℕ) (rest : List ℕ) → place.rest ≡ sum_text e ++ (codes " + " ++ rest) →
+    Back (sum_at 64) e place (codes " + " ++ rest)
 expr_back e loops w h few place rest is =
     let limits = and_parts (is_sum_within e loops) (leb (sum_parts e) 64 && leb (sum_depth e) 64) h in
     let counts = and_parts (leb (sum_parts e) 64) (leb (sum_depth e) 64) limits.1 in
@@ -55,7 +65,8 @@ no_table n rest far fits =
     let other : eqb 116 first.digit ≡ false = ne_eqb 116 first.digit (λ same. omega (arith, first.high, same)) in
     rw first.whole (rw other refl)
 
-loop_back : (depth count : ℕ) → depth < above_all → count < above_all → (place : Place ℕ) (rest : List ℕ) → place.rest ≡ c_act_text (Open depth count) ++ (10 ∷ rest) → Back c_act_at (Open depth count) place (10 ∷ rest)
+loop_back : (depth count : ℕ) → depth < above_all → count < above_all → (place : Place ℕ) (rest : List ℕ) →
+    place.rest ≡ c_act_text (Open depth count) ++ (10 ∷ rest) → Back c_act_at (Open depth count) place (10 ∷ rest)
 unfolding c_act_at
 loop_back depth count d k place rest e =
     let t5 : List ℕ = codes "++) {" ++ (10 ∷ rest) in
@@ -72,12 +83,15 @@ loop_back depth count d k place rest e =
     then_back (named_number_at (codes "; v") above_all) _ depth _ q4 t5 (10 ∷ rest) (named_back (codes "; v") depth q4 t5 d refl e4) (λ q5 e5.
     then_back (word_at (codes "++) {")) _ tt _ q5 (10 ∷ rest) (10 ∷ rest) (word_back (codes "++) {") q5 (10 ∷ rest) e5) (λ q6 e6. (q6, rw same refl, e6)))))))
 
-end_back : (place : Place ℕ) (rest : List ℕ) → place.rest ≡ c_act_text Close ++ (10 ∷ rest) → Back c_act_at Close place (10 ∷ rest)
+end_back : (place : Place ℕ) (rest : List ℕ) → place.rest ≡ c_act_text Close ++ (10 ∷ rest) →
+    Back c_act_at Close place (10 ∷ rest)
 unfolding c_act_at
 end_back place rest e =
     then_back (one_of_at c_words) c_operands_at words.End _ place (10 ∷ rest) (10 ∷ rest) (word_key (codes "}") words.End place (10 ∷ rest) (inr (inr (inr (inl (refl, refl))))) e) (λ q1 e1. (q1, refl, e1))
 
-tile_back : (register source : ℕ) → register < above_all → source < above_all → (place : Place ℕ) (rest : List ℕ) → place.rest ≡ c_act_text (Do (Tile register source)) ++ (10 ∷ rest) → Back c_act_at (Do (Tile register source)) place (10 ∷ rest)
+tile_back : (register source : ℕ) → register < above_all → source < above_all → (place : Place ℕ) (rest : List ℕ) →
+    place.rest ≡ c_act_text (Do (Tile register source)) ++ (10 ∷ rest) →
+    Back c_act_at (Do (Tile register source)) place (10 ∷ rest)
 unfolding c_act_at c_op_text tile_loops
 tile_back register source a b place rest e =
     let t3 : List ℕ = codes " + l][k];" ++ (10 ∷ rest) in
@@ -90,8 +104,10 @@ tile_back register source a b place rest e =
     then_back (word_at (codes " + l][k];")) _ tt _ q3 (10 ∷ rest) (10 ∷ rest) (word_back (codes " + l][k];") q3 (10 ∷ rest) e3) (λ q4 e4. (q4, refl, e4)))))
 
 -- a line in which a register becomes something
-becomes_back : (register : ℕ) → register < above_all → (tail : List ℕ) (act : PlainAct) (place : Place ℕ) (rest : List ℕ) → place.rest ≡ becomes_text register ++ tail
-    → ((q : Place ℕ) → q.rest ≡ tail → Back (λ p. and_then (one_of_at value_words p) (value_at register)) act q rest) → Back c_act_at act place rest
+becomes_back : (register : ℕ) → register < above_all → (tail : List ℕ) (act : PlainAct) (place : Place ℕ)
+    (rest : List ℕ) → place.rest ≡ becomes_text register ++ tail
+    → ((q : Place ℕ) → q.rest ≡ tail → Back (λ p. and_then (one_of_at value_words p) (value_at register)) act q rest) →
+    Back c_act_at act place rest
 unfolding c_act_at lane_loop
 becomes_back register fits tail act place rest e k =
     let t3 : List ℕ = codes "][l] = " ++ tail in
@@ -104,13 +120,16 @@ becomes_back register fits tail act place rest e k =
 
 -- ---- what a register becomes
 
-zero_back : (register : ℕ) → register < above_all → (place : Place ℕ) (rest : List ℕ) → place.rest ≡ c_act_text (Do (Zero register)) ++ (10 ∷ rest) → Back c_act_at (Do (Zero register)) place (10 ∷ rest)
+zero_back : (register : ℕ) → register < above_all → (place : Place ℕ) (rest : List ℕ) →
+    place.rest ≡ c_act_text (Do (Zero register)) ++ (10 ∷ rest) → Back c_act_at (Do (Zero register)) place (10 ∷ rest)
 unfolding c_op_text
 zero_back register r place rest e =
     becomes_back register r (codes "0;" ++ (10 ∷ rest)) (Do (Zero register)) place (10 ∷ rest) (e ∙ append_assoc (becomes_text register) (codes "0;") (10 ∷ rest)) (λ q e0.
     then_back (one_of_at value_words) (value_at register) values.Zero _ q (10 ∷ rest) (10 ∷ rest) (value_key (codes "0;") values.Zero q (10 ∷ rest) (inl (refl, refl)) e0) (λ q1 e1. (q1, refl, e1)))
 
-add_back : (register left right : ℕ) → register < above_all → left < above_all → right < above_all → (place : Place ℕ) (rest : List ℕ) → place.rest ≡ c_act_text (Do (Add register left right)) ++ (10 ∷ rest) → Back c_act_at (Do (Add register left right)) place (10 ∷ rest)
+add_back : (register left right : ℕ) → register < above_all → left < above_all → right < above_all →
+    (place : Place ℕ) (rest : List ℕ) → place.rest ≡ c_act_text (Do (Add register left right)) ++ (10 ∷ rest) →
+    Back c_act_at (Do (Add register left right)) place (10 ∷ rest)
 unfolding c_op_text
 add_back register left right r a b place rest e =
     let t3 : List ℕ = codes "][l]);" ++ (10 ∷ rest) in
@@ -123,7 +142,9 @@ add_back register left right r a b place rest e =
     then_back (named_number_at (codes "][l], r[") above_all) _ right _ q2 t3 (10 ∷ rest) (named_back (codes "][l], r[") right q2 t3 b refl e2) (λ q3 e3.
     then_back (word_at (codes "][l]);")) _ tt _ q3 (10 ∷ rest) (10 ∷ rest) (word_back (codes "][l]);") q3 (10 ∷ rest) e3) (λ q4 e4. (q4, refl, e4))))))
 
-sub_back : (register left right : ℕ) → register < above_all → left < above_all → right < above_all → (place : Place ℕ) (rest : List ℕ) → place.rest ≡ c_act_text (Do (Sub register left right)) ++ (10 ∷ rest) → Back c_act_at (Do (Sub register left right)) place (10 ∷ rest)
+sub_back : (register left right : ℕ) → register < above_all → left < above_all → right < above_all →
+    (place : Place ℕ) (rest : List ℕ) → place.rest ≡ c_act_text (Do (Sub register left right)) ++ (10 ∷ rest) →
+    Back c_act_at (Do (Sub register left right)) place (10 ∷ rest)
 unfolding c_op_text
 sub_back register left right r a b place rest e =
     let t3 : List ℕ = codes "][l]);" ++ (10 ∷ rest) in
@@ -136,7 +157,9 @@ sub_back register left right r a b place rest e =
     then_back (named_number_at (codes "][l], r[") above_all) _ right _ q2 t3 (10 ∷ rest) (named_back (codes "][l], r[") right q2 t3 b refl e2) (λ q3 e3.
     then_back (word_at (codes "][l]);")) _ tt _ q3 (10 ∷ rest) (10 ∷ rest) (word_back (codes "][l]);") q3 (10 ∷ rest) e3) (λ q4 e4. (q4, refl, e4))))))
 
-neg_back : (register source : ℕ) → register < above_all → source < above_all → (place : Place ℕ) (rest : List ℕ) → place.rest ≡ c_act_text (Do (Neg register source)) ++ (10 ∷ rest) → Back c_act_at (Do (Neg register source)) place (10 ∷ rest)
+neg_back : (register source : ℕ) → register < above_all → source < above_all → (place : Place ℕ) (rest : List ℕ) →
+    place.rest ≡ c_act_text (Do (Neg register source)) ++ (10 ∷ rest) →
+    Back c_act_at (Do (Neg register source)) place (10 ∷ rest)
 unfolding c_op_text
 neg_back register source r a place rest e =
     let t2 : List ℕ = codes "][l]);" ++ (10 ∷ rest) in
@@ -147,7 +170,9 @@ neg_back register source r a place rest e =
     then_back (number_at above_all) _ source _ q1 t2 (10 ∷ rest) (number_back source q1 t2 a refl e1) (λ q2 e2.
     then_back (word_at (codes "][l]);")) _ tt _ q2 (10 ∷ rest) (10 ∷ rest) (word_back (codes "][l]);") q2 (10 ∷ rest) e2) (λ q3 e3. (q3, refl, e3)))))
 
-constant_back : (register source factor : ℕ) → register < above_all → source < above_all → factor < above_all → (place : Place ℕ) (rest : List ℕ) → place.rest ≡ c_act_text (Do (MulConst register source factor)) ++ (10 ∷ rest) → Back c_act_at (Do (MulConst register source factor)) place (10 ∷ rest)
+constant_back : (register source factor : ℕ) → register < above_all → source < above_all → factor < above_all →
+    (place : Place ℕ) (rest : List ℕ) → place.rest ≡ c_act_text (Do (MulConst register source factor)) ++ (10 ∷ rest) →
+    Back c_act_at (Do (MulConst register source factor)) place (10 ∷ rest)
 unfolding c_op_text
 constant_back register source factor r a b place rest e =
     let t4 : List ℕ = codes ");" ++ (10 ∷ rest) in
@@ -163,8 +188,10 @@ constant_back register source factor r a b place rest e =
     then_back (number_at above_all) _ factor _ q4 t4 (10 ∷ rest) (number_back factor q4 t4 b refl e4) (λ q5 e5.
     then_back (word_at (codes ");")) _ tt _ q5 (10 ∷ rest) (10 ∷ rest) (word_back (codes ");") q5 (10 ∷ rest) e5) (λ q6 e6. (q6, refl, e6))))))))
 
-table_back : (register source table : ℕ) (at : PlainExpr) (step loops : ℕ) → register < above_all → source < above_all → table < above_all → step < above_all → is_expr_within at loops ≡ true → loops ≤ 64
-    → (place : Place ℕ) (rest : List ℕ) → place.rest ≡ c_act_text (Do (MulTable register source table at step)) ++ (10 ∷ rest) → Back c_act_at (Do (MulTable register source table at step)) place (10 ∷ rest)
+table_back : (register source table : ℕ) (at : PlainExpr) (step loops : ℕ) → register < above_all → source < above_all →
+    table < above_all → step < above_all → is_expr_within at loops ≡ true → loops ≤ 64
+    → (place : Place ℕ) (rest : List ℕ) → place.rest ≡ c_act_text (Do (MulTable register source table at step))
+    ++ (10 ∷ rest) → Back c_act_at (Do (MulTable register source table at step)) place (10 ∷ rest)
 unfolding c_op_text
 table_back register source table at step loops r a b d h few place rest e =
     let t7 : List ℕ = codes " * l]);" ++ (10 ∷ rest) in
@@ -200,8 +227,10 @@ array_target arrays.Y = inr (inr (inl (refl, refl)))
 array_target arrays.A = inr (inr (inr (inl (refl, refl))))
 array_target arrays.B = inr (inr (inr (inr (inl (refl, refl)))))
 
-load_back : (register : ℕ) (array : Array) (at : PlainExpr) (loops : ℕ) → register < above_all → is_expr_within at loops ≡ true → loops ≤ 64
-    → (place : Place ℕ) (rest : List ℕ) → place.rest ≡ c_act_text (Do (Load register array at)) ++ (10 ∷ rest) → Back c_act_at (Do (Load register array at)) place (10 ∷ rest)
+load_back : (register : ℕ) (array : Array) (at : PlainExpr) (loops : ℕ) → register < above_all →
+    is_expr_within at loops ≡ true → loops ≤ 64
+    → (place : Place ℕ) (rest : List ℕ) → place.rest ≡ c_act_text (Do (Load register array at)) ++ (10 ∷ rest) →
+    Back c_act_at (Do (Load register array at)) place (10 ∷ rest)
 unfolding c_op_text
 load_back register array at loops r h few place rest e =
     let t2 : List ℕ = codes " + l];" ++ (10 ∷ rest) in
@@ -212,8 +241,10 @@ load_back register array at loops r h few place rest e =
     then_back (sum_at 64) _ at _ q1 t2 (10 ∷ rest) (expr_back at loops [] h few q1 (codes "l];" ++ (10 ∷ rest)) e1) (λ q2 e2.
     then_back (word_at (codes " + l];")) _ tt _ q2 (10 ∷ rest) (10 ∷ rest) (word_back (codes " + l];") q2 (10 ∷ rest) e2) (λ q3 e3. (q3, refl, e3)))))
 
-store_back : (array : Array) (at : PlainExpr) (register loops : ℕ) → register < above_all → is_expr_within at loops ≡ true → loops ≤ 64
-    → (place : Place ℕ) (rest : List ℕ) → place.rest ≡ c_act_text (Do (Store array at register)) ++ (10 ∷ rest) → Back c_act_at (Do (Store array at register)) place (10 ∷ rest)
+store_back : (array : Array) (at : PlainExpr) (register loops : ℕ) → register < above_all →
+    is_expr_within at loops ≡ true → loops ≤ 64
+    → (place : Place ℕ) (rest : List ℕ) → place.rest ≡ c_act_text (Do (Store array at register)) ++ (10 ∷ rest) →
+    Back c_act_at (Do (Store array at register)) place (10 ∷ rest)
 unfolding c_act_at c_op_text lane_loop
 store_back array at register loops r h few place rest e =
     let t4 : List ℕ = codes "][l];" ++ (10 ∷ rest) in
@@ -230,7 +261,9 @@ store_back array at register loops r h few place rest e =
 
 -- ---- a line
 
-op_back : (m loops : ℕ) (op : PlainOp) → m ≤ above_all → loops ≤ 64 → is_op_within m op loops ≡ true → (place : Place ℕ) (rest : List ℕ) → place.rest ≡ c_act_text (Do op) ++ (10 ∷ rest) → Back c_act_at (Do op) place (10 ∷ rest)
+op_back : (m loops : ℕ) (op : PlainOp) → m ≤ above_all → loops ≤ 64 → is_op_within m op loops ≡ true →
+    (place : Place ℕ) (rest : List ℕ) → place.rest ≡ c_act_text (Do op) ++ (10 ∷ rest) →
+    Back c_act_at (Do op) place (10 ∷ rest)
 op_back m loops (Load register array at) below few w place rest e =
     let limits = and_parts (is_small register) (is_expr_within at loops) w in
     load_back register array at loops (small_fits register limits.0) limits.1 few place rest e
@@ -263,12 +296,14 @@ op_back m loops (Tile register source) below few w place rest e =
     let limits = and_parts (is_small register) (is_small source) w in
     tile_back register source (small_fits register limits.0) (small_fits source limits.1) place rest e
 
-act_back : (m loops : ℕ) (act : PlainAct) → m ≤ above_all → loops ≤ 64 → IsActWithin m loops act → (place : Place ℕ) (rest : List ℕ) → place.rest ≡ c_act_text act ++ (10 ∷ rest) → Back c_act_at act place (10 ∷ rest)
+act_back : (m loops : ℕ) (act : PlainAct) → m ≤ above_all → loops ≤ 64 → IsActWithin m loops act →
+    (place : Place ℕ) (rest : List ℕ) → place.rest ≡ c_act_text act ++ (10 ∷ rest) → Back c_act_at act place (10 ∷ rest)
 act_back m loops (Open depth count) below few w place rest e = loop_back depth count w.0 w.1 place rest e
 act_back m loops Close below few w place rest e = end_back place rest e
 act_back m loops (Do op) below few w place rest e = op_back m loops op below few w place rest e
 
-pub c_line_back : (m loops : ℕ) (act : PlainAct) → m ≤ above_all → loops ≤ 64 → IsActWithin m loops act → whole c_line_at (ended_text act) ≡ Ok act
+pub c_line_back : (m loops : ℕ) (act : PlainAct) → m ≤ above_all → loops ≤ 64 → IsActWithin m loops act →
+    whole c_line_at (ended_text act) ≡ Ok act
 unfolding c_line_at
 c_line_back m loops act below few w =
     let h = act_back m loops act below few w (start (ended_text act)) [] refl in

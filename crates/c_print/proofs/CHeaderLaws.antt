@@ -21,7 +21,8 @@ same_header line h p e l = let same : h ≡ header_of p = same_value h (header_o
     same_value : (x y : Header) → (let read : Result Header ℕ = Ok x in read ≡ Ok y) → x ≡ y
     same_value x y same = cc
 
-pub not_stuck : (line : List ℕ) (stuck : Stuck) (p : PlainProgram) → whole c_header_at line ≡ Err stuck.left → IsHeaderOf line p → ⊥
+pub not_stuck : (line : List ℕ) (stuck : Stuck) (p : PlainProgram) → whole c_header_at line ≡ Err stuck.left →
+    IsHeaderOf line p → ⊥
 not_stuck line stuck p e l = different (header_of p) (sym (header_reads line p l) ∙ e)
   where
     different : (x : Header) → (let read : Result Header ℕ = Ok x in read ≡ Err stuck.left) → ⊥

@@ -1,14 +1,18 @@
 -- The lines of a C text, and that no line ends inside of one.
-use Rattle.std.proofs.Common.{◌≡◌, ℕ, ◌*◌, true, List, [], ◌∷◌, ◌++◌, length, codes, decimal, refl, sym, ap, subst, ◌∙◌, append_assoc}
+use Rattle.std.proofs.Common.{◌≡◌, ℕ, ◌*◌, true, List, [], ◌∷◌, ◌++◌, length, codes, decimal, refl, sym, ap, subst, ◌∙◌}
+use Rattle.std.proofs.Common.{append_assoc}
 use Rattle.std.proofs.lemmas.List.{append-nil}
 use Rattle.icode.specs.Plain.{PlainOp, PlainBody, Load, Store, Zero, Add, Sub, Neg, MulConst, MulTable, Tile}
 use Rattle.listing_text.specs.Lines.{is_open, IsLine}
 use Rattle.listing_text.specs.declared.draft.Header.{Header}
 use Rattle.listing_text.specs.Wording.{PlainAct, Open, Close, Do}
 use Rattle.listing_text.specs.Progress.{begin_text}
-use Rattle.listing_text.proofs.OpenLines.{IsOpen, ◌&◌, literal, number_open, numbers_open, sum_open, array_open, ends_line, header_open, HasLines, HasFirst, first_behind}
+use Rattle.listing_text.proofs.OpenLines.{IsOpen, ◌&◌, literal, number_open, numbers_open, sum_open, array_open}
+use Rattle.listing_text.proofs.OpenLines.{ends_line, header_open, HasLines, HasFirst, first_behind}
 use Rattle.listing_text.specs.Numbers.{numbered_text}
-use Rattle.c_print.specs.CText.{lane_loop, tile_loops, lane_text, becomes_text, c_op_text, c_line_text, c_header_text, front_text, joined_text, c_table_text, add_text, sub_text, mul_text, functions_text, phase_start_text, c_wording}
+use Rattle.c_print.specs.CText.{lane_loop, tile_loops, lane_text, becomes_text, c_op_text, c_line_text, c_header_text}
+use Rattle.c_print.specs.CText.{front_text, joined_text, c_table_text, add_text, sub_text, mul_text, functions_text}
+use Rattle.c_print.specs.CText.{phase_start_text, c_wording}
 use Rattle.c_print.proofs.CSpelt.{c_act_text}
 use Rattle.c_print.proofs.CLineLaws.{line_text_is}
 
@@ -61,7 +65,8 @@ table_is_line number entries =
     (literal (codes "static const uint64_t t") refl & number_open number & literal (codes "[") refl & number_open (length entries) & literal (codes "] = {") refl & joined_open entries & literal (codes "};") refl))
 
 -- a line with a number in it
-numbered_line : (before : List ℕ) (number : ℕ) (after : List ℕ) → is_open before ≡ true → is_open after ≡ true → IsLine (numbered_text before number (after ++ codes "\n"))
+numbered_line : (before : List ℕ) (number : ℕ) (after : List ℕ) → is_open before ≡ true → is_open after ≡ true →
+    IsLine (numbered_text before number (after ++ codes "\n"))
 numbered_line before number after h k = subst IsLine (append_assoc (before ++ decimal number) after (codes "\n")) (ends_line (before ++ decimal number ++ after) (literal before h & number_open number & literal after k))
 
 -- ---- texts of whole lines
@@ -69,7 +74,8 @@ numbered_line before number after h k = subst IsLine (append_assoc (before ++ de
 literal_line : (front : List ℕ) → is_open front ≡ true → IsLine (front ++ codes "\n")
 literal_line front h = ends_line front (literal front h)
 
-eight_right : (a b c d e f g h : List ℕ) → a ++ b ++ c ++ d ++ e ++ f ++ g ++ h ≡ a ++ (b ++ (c ++ (d ++ (e ++ (f ++ (g ++ (h ++ [])))))))
+eight_right : (a b c d e f g h : List ℕ) → a ++ b ++ c ++ d ++ e ++ f ++ g ++ h ≡ a
+    ++ (b ++ (c ++ (d ++ (e ++ (f ++ (g ++ (h ++ [])))))))
 eight_right a b c d e f g h =
     let moved : a ++ b ++ c ++ d ++ e ++ f ++ g ++ h ≡ a ++ (b ++ (c ++ (d ++ (e ++ (f ++ (g ++ h)))))) = simp append_assoc in
     moved ∙ ap (λ y. a ++ (b ++ (c ++ (d ++ (e ++ (f ++ (g ++ y))))))) (sym (append-nil h))

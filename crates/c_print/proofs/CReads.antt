@@ -9,7 +9,8 @@ use Rattle.listing_text.specs.Progress.{step, finish}
 use Rattle.listing_text.specs.Wording.{program_of}
 use Rattle.listing_text.proofs.Languages.{IsLanguage}
 use Rattle.listing_text.proofs.ProgressReads.{judges}
-use Rattle.c_print.specs.CText.{c_header_text, c_table_text, add_text, sub_text, mul_text, functions_text, phase_start_text, c_wording}
+use Rattle.c_print.specs.CText.{c_header_text, c_table_text, add_text, sub_text, mul_text, functions_text}
+use Rattle.c_print.specs.CText.{phase_start_text, c_wording}
 use Rattle.c_print.specs.CGrammar.{c_grammar}
 use Rattle.c_print.specs.CTexts.{is_c_text}
 use Rattle.c_print.proofs.CLineLaws.{line_is_read, act_line_back}

@@ -1,5 +1,6 @@
 -- Reading the line of a table in C answers for its text.
-use Rattle.std.proofs.Common.{◌≡◌, ℕ, suc, ◌<◌, ◌≤◌, Bool, true, false, eqb, ltb, List, [], ◌∷◌, ◌++◌, length, codes, decimal, Result, Ok, Err, refl, sym, ap, ◌∙◌, append_assoc, arith}
+use Rattle.std.proofs.Common.{◌≡◌, ℕ, suc, ◌<◌, ◌≤◌, Bool, true, false, eqb, ltb, List, [], ◌∷◌, ◌++◌, length, codes}
+use Rattle.std.proofs.Common.{decimal, Result, Ok, Err, refl, sym, ap, ◌∙◌, append_assoc, arith}
 use Rattle.std.specs.List.{list_all}
 use Rattle.std.proofs.lemmas.Bool.{ltb-true, and_parts, eqb-true, eq-eqb}
 use Rattle.std.proofs.lemmas.List.{append-nil}
@@ -35,13 +36,15 @@ TableFits table = (table.0 < above_all) × (0 < length table.1) × (length table
 abbrev table_text : ℕ × List ℕ → List ℕ
 table_text table = c_table_text table.0 table.1
 
-shape_left : (a x b y c z d rest : List ℕ) → a ++ (x ++ (b ++ (y ++ (c ++ (z ++ (d ++ rest)))))) ≡ (a ++ x ++ b ++ y ++ c ++ z ++ d) ++ rest
+shape_left : (a x b y c z d rest : List ℕ) → a ++ (x ++ (b ++ (y ++ (c ++ (z ++ (d ++ rest))))))
+    ≡ (a ++ x ++ b ++ y ++ c ++ z ++ d) ++ rest
 shape_left a x b y c z d rest = simp append_assoc
 
 shape_right : (a x b y c z d : List ℕ) → a ++ x ++ b ++ y ++ c ++ z ++ d ≡ a ++ (x ++ (b ++ (y ++ (c ++ (z ++ d)))))
 shape_right a x b y c z d = simp append_assoc
 
-same_spelt : (s : List ℕ) (number count : ℕ) (entries : List ℕ) (q : Place ℕ) (k : Bool) → eqb (length entries) count ≡ k → number < above_all → count < above_all → 0 < length entries
+same_spelt : (s : List ℕ) (number count : ℕ) (entries : List ℕ) (q : Place ℕ) (k : Bool) →
+    eqb (length entries) count ≡ k → number < above_all → count < above_all → 0 < length entries
     → s ≡ codes "static const uint64_t t" ++ (decimal number ++ (codes "[" ++ (decimal count ++ (codes "] = {" ++ (joined_text entries ++ (codes "};\n" ++ q.rest))))))
     → Spelt TableFits table_text s (same_length number count entries q)
 unfolding c_table_text
@@ -66,12 +69,14 @@ table_spelt most place =
     (e1 ∙ ap (λ y. codes "static const uint64_t t" ++ (decimal number ++ y))
     (e2 ∙ ap (λ y. codes "[" ++ (decimal count ++ y)) (e3 ∙ ap (λ y. codes "] = {" ++ y) (e4 ∙ ap (λ y. y ++ q4.rest) (all.1 ∙ joined_is entries) ∙ ap (λ y. joined_text entries ++ y) e5)))))))))
 
-pub table_is_read : (most : ℕ) (line : List ℕ) (table : ℕ × List ℕ) → whole (c_table_at most) line ≡ Ok table → TableFits table × (line ≡ c_table_text table.0 table.1)
+pub table_is_read : (most : ℕ) (line : List ℕ) (table : ℕ × List ℕ) → whole (c_table_at most) line ≡ Ok table →
+    TableFits table × (line ≡ c_table_text table.0 table.1)
 table_is_read most line table e = whole_spelt TableFits table_text line (c_table_at most (start line)) table (table_spelt most (start line)) e
 
 -- ---- the table's text is read back
 
-table_back : (most number c : ℕ) (entries : List ℕ) → number < above_all → suc (length entries) < above_all → c < above_all → list_all (λ c. ltb c above_all) entries ≡ true → length entries ≤ most
+table_back : (most number c : ℕ) (entries : List ℕ) → number < above_all → suc (length entries) < above_all →
+    c < above_all → list_all (λ c. ltb c above_all) entries ≡ true → length entries ≤ most
     → whole (c_table_at most) (c_table_text number (c ∷ entries)) ≡ Ok (number, c ∷ entries)
 unfolding c_table_text
 table_back most number c entries fits few first others le =
@@ -96,7 +101,8 @@ few : (number c : ℕ) (entries : List ℕ) → length entries ≤ length (c_tab
 unfolding c_table_text
 few number c entries = few_entries (codes ",") (omega arith) (codes "static const uint64_t t" ++ decimal number ++ codes "[" ++ decimal (suc (length entries)) ++ codes "] = {") c entries (codes "};\n")
 
-pub table_reads : (line : List ℕ) (number : ℕ) (entries : List ℕ) → IsTableOf line number entries → whole (c_table_at (length line)) line ≡ Ok (number, entries)
+pub table_reads : (line : List ℕ) (number : ℕ) (entries : List ℕ) → IsTableOf line number entries →
+    whole (c_table_at (length line)) line ≡ Ok (number, entries)
 table_reads line number [] (fits, some, few_are, all, e) = absurd (omega (arith, some))
 table_reads line number (c ∷ entries) (fits, some, few_are, all, e) =
     let limits = and_parts (ltb c above_all) (list_all (λ c. ltb c above_all) entries) all in
@@ -106,11 +112,15 @@ table_reads line number (c ∷ entries) (fits, some, few_are, all, e) =
 same_value : (x y : ℕ × List ℕ) → (let read : Result (ℕ × List ℕ) ℕ = Ok x in read ≡ Ok y) → x ≡ y
 same_value x y same = cc
 
-pub same_table : (line : List ℕ) (found : ℕ) (others : List ℕ) (number : ℕ) (entries : List ℕ) → whole (c_table_at (length line)) line ≡ Ok (found, others) → IsTableOf line number entries → (found ≡ number) × (others ≡ entries)
+pub same_table : (line : List ℕ) (found : ℕ) (others : List ℕ) (number : ℕ) (entries : List ℕ) →
+    whole (c_table_at (length line)) line ≡ Ok (found, others) → IsTableOf line number entries →
+    (found ≡ number) × (others ≡ entries)
 same_table line found others number entries e l =
     let same = same_value (found, others) (number, entries) (sym e ∙ table_reads line number entries l) in
     (ap (λ table. table.0) same, ap (λ table. table.1) same)
 
-pub only_memory : (line : List ℕ) (error : ReadError) (number : ℕ) (entries : List ℕ) → TellsAll (λ (table : ℕ × List ℕ). table) (Err error) (whole (c_table_at (length line)) line) → IsTableOf line number entries → error ≡ errors.NoMemory
+pub only_memory : (line : List ℕ) (error : ReadError) (number : ℕ) (entries : List ℕ) →
+    TellsAll (λ (table : ℕ × List ℕ). table) (Err error) (whole (c_table_at (length line)) line) →
+    IsTableOf line number entries → error ≡ errors.NoMemory
 only_memory line (errors.Stuck stuck) number entries h l = let same = sym h ∙ table_reads line number entries l in absurd cc
 only_memory line errors.NoMemory number entries h l = refl

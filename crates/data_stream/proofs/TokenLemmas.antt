@@ -1,5 +1,6 @@
 -- How a token grows, byte by byte.
-use Rattle.std.proofs.Common.{◌≡◌, ◌<◌, ◌≤◌, ◌+◌, ◌-◌, ◌*◌, ◌^◌, ℕ, Bool, true, false, ◌&&◌, List, [], ◌∷◌, ◌++◌, length, refl, sym, ap, ◌∙◌, arith, length-append}
+use Rattle.std.proofs.Common.{◌≡◌, ◌<◌, ◌≤◌, ◌+◌, ◌-◌, ◌*◌, ◌^◌, ℕ, Bool, true, false, ◌&&◌, List, [], ◌∷◌, ◌++◌}
+use Rattle.std.proofs.Common.{length, refl, sym, ap, ◌∙◌, arith, length-append}
 use Rattle.std.proofs.lemmas.Grind.{common_steps}
 use Rattle.std.proofs.lemmas.List.Folds.{list_all-append}
 use Rattle.std.specs.List.{list_all}
@@ -54,7 +55,8 @@ good_front xs ys some h =
     })
 
 -- one digit more
-pub digits_push : (count number byte : ℕ) (bytes : List ℕ) → IsDigits count number bytes → is_ascii_digit byte ≡ true → count < 20
+pub digits_push : (count number byte : ℕ) (bytes : List ℕ) → IsDigits count number bytes → is_ascii_digit byte ≡ true →
+    count < 20
     → number * 10 + (byte - 48) < 2 ^ 64 → IsDigits (count + 1) (number * 10 + (byte - 48)) (bytes ++ byte ∷ [])
 digits_push count number byte bytes d is_digit more fits = record {
   count = length-append bytes (byte ∷ []) ∙ ap (λ n. n + 1) d.count;
@@ -69,14 +71,16 @@ not_true true h = absurd (h refl)
 not_true false h = refl
 
 -- what follows no digit, or 20 of them, or makes the number too large, is not good
-pub bad_byte : (count number byte : ℕ) (bytes : List ℕ) → IsDigits count number bytes → is_ascii_digit byte ≡ false → is_good (bytes ++ byte ∷ []) ≡ false
+pub bad_byte : (count number byte : ℕ) (bytes : List ℕ) → IsDigits count number bytes → is_ascii_digit byte ≡ false →
+    is_good (bytes ++ byte ∷ []) ≡ false
 bad_byte count number byte bytes d other = not_true _ (λ h.
     let whole = good_parts (bytes ++ byte ∷ []) h in
     let both = sym (list_all-append is_ascii_digit bytes (byte ∷ [])) ∙ whole.digits in
     let last = both_left (is_ascii_digit byte) true (both_right (list_all is_ascii_digit bytes) _ both) in
     cc)
 
-pub bad_count : (count number byte : ℕ) (bytes : List ℕ) → IsDigits count number bytes → 20 ≤ count → is_good (bytes ++ byte ∷ []) ≡ false
+pub bad_count : (count number byte : ℕ) (bytes : List ℕ) → IsDigits count number bytes → 20 ≤ count →
+    is_good (bytes ++ byte ∷ []) ≡ false
 bad_count count number byte bytes d many = not_true _ (λ h.
     let whole = good_parts (bytes ++ byte ∷ []) h in
     let longer = length-append bytes (byte ∷ []) in
@@ -84,7 +88,8 @@ bad_count count number byte bytes d many = not_true _ (λ h.
     let short = whole.short in
     omega arith)
 
-pub bad_value : (count number byte : ℕ) (bytes : List ℕ) → IsDigits count number bytes → 2 ^ 64 ≤ number * 10 + (byte - 48) → is_good (bytes ++ byte ∷ []) ≡ false
+pub bad_value : (count number byte : ℕ) (bytes : List ℕ) → IsDigits count number bytes →
+    2 ^ 64 ≤ number * 10 + (byte - 48) → is_good (bytes ++ byte ∷ []) ≡ false
 bad_value count number byte bytes d large = not_true _ (λ h.
     let whole = good_parts (bytes ++ byte ∷ []) h in
     let grown = value_of_push bytes byte in

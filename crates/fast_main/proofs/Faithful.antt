@@ -46,7 +46,8 @@ size_stays p = of_choice (list_all (are_nests p.lanes) p.phases)
     of_choice true = refl
     of_choice false = refl
 
-interchanged_is : (p : PlainProgram) → PlainFits p → ((phase : ℕ) → IsApart (plain_code p) phase) → IsInPlaceOf (interchanged p) p
+interchanged_is : (p : PlainProgram) → PlainFits p → ((phase : ℕ) → IsApart (plain_code p) phase) →
+    IsInPlaceOf (interchanged p) p
 interchanged_is p fits apart =
     let law = interchanged_leaves_the_same p fits apart in
     record { size = size_stays p; modulus = modulus_stays p; fits = law.fits; apart = law.apart; same = law.same }
@@ -111,7 +112,8 @@ lanes_is v p lanes fits apart =
     after (on_several v (interchanged p)) (interchanged p) p
     (several_is v (interchanged p) lanes first.fits first.apart) first
 
-on_lanes_is : (lanes : ℕ) (p : PlainProgram) → IsLaneCount lanes → PlainFits p → ((phase : ℕ) → IsApart (plain_code p) phase) → IsInPlaceOf (on_lanes lanes p) p
+on_lanes_is : (lanes : ℕ) (p : PlainProgram) → IsLaneCount lanes → PlainFits p →
+    ((phase : ℕ) → IsApart (plain_code p) phase) → IsInPlaceOf (on_lanes lanes p) p
 on_lanes_is lanes p (inl one) fits apart = subst (λ n. IsInPlaceOf (on_lanes n p) p) (sym one) (interchanged_is p fits apart)
 on_lanes_is lanes p (inr (inl two)) fits apart =
     subst (λ n. IsInPlaceOf (on_lanes n p) p) (sym two) (lanes_is 2 p (inl refl) fits apart)
@@ -122,12 +124,14 @@ on_lanes_is lanes p (inr (inr (inr (inl eight)))) fits apart =
 on_lanes_is lanes p (inr (inr (inr (inr sixteen)))) fits apart =
     subst (λ n. IsInPlaceOf (on_lanes n p) p) (sym sixteen) (lanes_is 16 p (inr (inr (inr refl))) fits apart)
 
-in_blocks_is : (lanes : ℕ) (p : PlainProgram) → IsLaneCount lanes → PlainFits p → ((phase : ℕ) → IsApart (plain_code p) phase) → IsInPlaceOf (in_blocks lanes p) p
+in_blocks_is : (lanes : ℕ) (p : PlainProgram) → IsLaneCount lanes → PlainFits p →
+    ((phase : ℕ) → IsApart (plain_code p) phase) → IsInPlaceOf (in_blocks lanes p) p
 in_blocks_is lanes p count fits apart =
     let first = on_lanes_is lanes p count fits apart in
     after (fused large_size (on_lanes lanes p)) (on_lanes lanes p) p (fused_leaves_the_same large_size (on_lanes lanes p) first.fits first.apart) first
 
-prepared_is : (size : WordSize) (lanes : ℕ) (p : PlainProgram) → IsLaneCount lanes → PlainFits p → ((phase : ℕ) → IsApart (plain_code p) phase) → IsInPlaceOf (prepared size lanes p) p
+prepared_is : (size : WordSize) (lanes : ℕ) (p : PlainProgram) → IsLaneCount lanes → PlainFits p →
+    ((phase : ℕ) → IsApart (plain_code p) phase) → IsInPlaceOf (prepared size lanes p) p
 prepared_is size lanes p count fits apart = of_choice (has_cheap_products size (in_blocks lanes p).modulus)
   where
     first : IsInPlaceOf (in_blocks lanes p) p
@@ -139,7 +143,9 @@ prepared_is size lanes p count fits apart = of_choice (has_cheap_products size (
     of_choice false = first
 
 -- the program in blocks, as it goes to its tables: it fits, and is apart
-module _ (lanes : ℕ) (p there : Program) (count : IsLaneCount lanes) (is : plain_program there ≡ in_blocks lanes (plain_program p)) (fits : Fits p) (apart : (phase : ℕ) → IsApart (code_of p) phase) where
+module _ (lanes : ℕ) (p there : Program) (count : IsLaneCount lanes)
+    (is : plain_program there ≡ in_blocks lanes (plain_program p)) (fits : Fits p)
+    (apart : (phase : ℕ) → IsApart (code_of p) phase) where
   pub blocks_fit : Fits there
   blocks_fit = subst PlainFits (sym is) (in_blocks_is lanes (plain_program p) count fits apart).fits
 
@@ -149,7 +155,9 @@ module _ (lanes : ℕ) (p there : Program) (count : IsLaneCount lanes) (is : pla
 
 -- ---- its words
 
-module _ (size : WordSize) (lanes : ℕ) (p there : Program) (count : IsLaneCount lanes) (is : plain_program there ≡ prepared size lanes (plain_program p)) (fits : Fits p) (apart : (phase : ℕ) → IsApart (code_of p) phase) where
+module _ (size : WordSize) (lanes : ℕ) (p there : Program) (count : IsLaneCount lanes)
+    (is : plain_program there ≡ prepared size lanes (plain_program p)) (fits : Fits p)
+    (apart : (phase : ℕ) → IsApart (code_of p) phase) where
   law : IsInPlaceOf (prepared size lanes (plain_program p)) (plain_program p)
   law = prepared_is size lanes (plain_program p) count fits apart
 
@@ -164,12 +172,15 @@ module _ (size : WordSize) (lanes : ℕ) (p there : Program) (count : IsLaneCoun
   pub allowed_from : allows size p.modulus ≡ true → allows size there.modulus ≡ true
   allowed_from allowed = ap (allows size) modulus_from ∙ allowed
 
-  module _ (words made : WordProgram) (quick : plain_word_program words ≡ fast_words size (plain_program there)) (shared : plain_word_program made ≡ in_place (plain_program there) (plain_word_program words)) where
+  module _ (words made : WordProgram) (quick : plain_word_program words ≡ fast_words size (plain_program there))
+      (shared : plain_word_program made ≡ in_place (plain_program there) (plain_word_program words)) where
     -- the program `made` on words is `words` in place
     pub words_from : plain_word_program made ≡ words_for size lanes (plain_program p)
     words_from = shared ∙ ap (in_place (plain_program there)) quick ∙ ap (λ q. in_place q (fast_words size q)) is
 
-    module _ (well : FitsAs words there) (same : LeavesTheSame words there) (alike : (z : Laziness) → plain_word_program words ≡ quickened z (plain_program there) → LeavesAlike (plain_word_program made) (plain_word_program words)) where
+    module _ (well : FitsAs words there) (same : LeavesTheSame words there)
+        (alike : (z : Laziness) → plain_word_program words ≡ quickened z (plain_program there) →
+        LeavesAlike (plain_word_program made) (plain_word_program words)) where
       -- and leaves what the program leaves
       faithful_from : IsFaithful size lanes (plain_program p)
       faithful_from x turns orders long low =

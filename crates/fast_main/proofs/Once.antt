@@ -31,7 +31,8 @@ record Front (text whole : List ℕ) : Type 0 where
 one_more : (x : ℕ) (text whole : List ℕ) → Front text whole → Front (x ∷ text) (x ∷ whole)
 one_more x text whole f = record { rest = f.rest; is = ap (λ l. x ∷ l) f.is }
 
-by_end : (x a b : ℕ) (text : List ℕ) (k : Bool) → Front (first_lines a text) (first_lines b text) → Front (first_lines (suc a) text) (first_lines (suc b) text)
+by_end : (x a b : ℕ) (text : List ℕ) (k : Bool) → Front (first_lines a text) (first_lines b text) →
+    Front (first_lines (suc a) text) (first_lines (suc b) text)
     → Front (x ∷ first_lines (cond k a (suc a)) text) (x ∷ first_lines (cond k b (suc b)) text)
 by_end x a b text true here on = one_more x (first_lines a text) (first_lines b text) here
 by_end x a b text false here on = one_more x (first_lines (suc a) text) (first_lines (suc b) text) on
@@ -43,16 +44,19 @@ fewer_lines [] (suc a) (suc b) le = record { rest = []; is = refl }
 fewer_lines (x ∷ text) (suc a) (suc b) le =
     by_end x a b text (eqb x 10) (fewer_lines text a b (omega (arith, le))) (fewer_lines text (suc a) (suc b) le)
 
-begins_before : {A : Type 0} (spells : List ℕ → A → Type 0) (text whole : List ℕ) → Front text whole → Begins spells whole → Begins spells text
+begins_before : {A : Type 0} (spells : List ℕ → A → Type 0) (text whole : List ℕ) → Front text whole →
+    Begins spells whole → Begins spells text
 begins_before spells text whole f b = (f.rest ++ b.0, b.1, subst (λ l. spells l b.1) (ap (λ l. l ++ b.0) f.is ∙ append_assoc text f.rest b.0) b.2)
 
-not_before : {A : Type 0} (spells : List ℕ → A → Type 0) (text : List ℕ) (a b : ℕ) → IsLost spells text a → IsLost spells text b → a < b → ⊥
+not_before : {A : Type 0} (spells : List ℕ → A → Type 0) (text : List ℕ) (a b : ℕ) → IsLost spells text a →
+    IsLost spells text b → a < b → ⊥
 not_before spells text a b p q lt =
     let le : a ≤ b - 1 = omega (arith, lt) in
     p.here (let most = q.counted.1 in omega (arith, most, lt)) (begins_before spells (first_lines a text) (first_lines (b - 1) text) (fewer_lines text a (b - 1) le) q.before)
 
 -- a text is lost in one line
-lost_once : {A : Type 0} (spells : List ℕ → A → Type 0) (text : List ℕ) (a b : ℕ) → IsLost spells text a → IsLost spells text b → a ≡ b
+lost_once : {A : Type 0} (spells : List ℕ → A → Type 0) (text : List ℕ) (a b : ℕ) → IsLost spells text a →
+    IsLost spells text b → a ≡ b
 lost_once spells text a b p q = by_order (not_before spells text a b p q) (not_before spells text b a q p)
   where
     by_order : (a < b → ⊥) → (b < a → ⊥) → a ≡ b
@@ -79,12 +83,14 @@ same_cause bytes a b p q =
     p.says ∙ ap status_of_check (one_cause action_limit p.program p.fault q.fault p.told q.told p.cause cause) ∙ sym q.says
 
 -- no program both passes the check and does not
-passes_or_not : (bytes : List ℕ) (a : Status) (program : PlainProgram) → IsUnsound bytes a → is_listing bytes program → PassesCheck action_limit program → ⊥
+passes_or_not : (bytes : List ℕ) (a : Status) (program : PlainProgram) → IsUnsound bytes a → is_listing bytes program →
+    PassesCheck action_limit program → ⊥
 passes_or_not bytes a program p listing passes =
     let same = one_program bytes program p.program listing p.listing in
     none_if_passed action_limit p.program p.fault p.told (subst (λ x. PassesCheck action_limit x) same passes) p.cause
 
-refused_once : (size : WordSize) (bytes : List ℕ) (a b : Status) → IsRefused size bytes a → IsRefused size bytes b → a ≡ b
+refused_once : (size : WordSize) (bytes : List ℕ) (a b : Status) → IsRefused size bytes a → IsRefused size bytes b →
+    a ≡ b
 refused_once size bytes a b (inl p) (inl q) = p.says ∙ ap (λ n. ListingSyntax n) (lost_once is_listing bytes p.line q.line p.lost q.lost) ∙ sym q.says
 refused_once size bytes a b (inl p) (inr (inl q)) = absurd (p.lost.nothing q.program q.listing)
 refused_once size bytes a b (inl p) (inr (inr q)) = absurd (p.lost.nothing q.program q.listing)
@@ -95,7 +101,8 @@ refused_once size bytes a b (inr (inr p)) (inl q) = absurd (q.lost.nothing p.pro
 refused_once size bytes a b (inr (inr p)) (inr (inl q)) = absurd (passes_or_not bytes b p.program q p.listing p.passes)
 refused_once size bytes a b (inr (inr p)) (inr (inr q)) = p.says ∙ sym q.says
 
-refused_or_translated : (wanted : Asked) (bytes text : List ℕ) (a : Status) → IsRefused wanted.size bytes a → IsTranslated wanted bytes text → ⊥
+refused_or_translated : (wanted : Asked) (bytes text : List ℕ) (a : Status) → IsRefused wanted.size bytes a →
+    IsTranslated wanted bytes text → ⊥
 refused_or_translated wanted bytes text a (inl p) q = p.lost.nothing q.program q.listing
 refused_or_translated wanted bytes text a (inr (inl p)) q = passes_or_not bytes a q.program p q.listing q.passes
 refused_or_translated wanted bytes text a (inr (inr p)) q =
@@ -105,19 +112,22 @@ refused_or_translated wanted bytes text a (inr (inr p)) q =
     let allowed = q.allowed in
     absurd (cc)
 
-translated_once : (wanted : Asked) (bytes s t : List ℕ) → IsTranslated wanted bytes s → IsTranslated wanted bytes t → s ≡ t
+translated_once : (wanted : Asked) (bytes s t : List ℕ) → IsTranslated wanted bytes s → IsTranslated wanted bytes t →
+    s ≡ t
 translated_once wanted bytes s t p q = p.says ∙ ap (fast_text wanted) (one_program bytes p.program q.program p.listing q.listing) ∙ sym q.says
 
 abbrev Same : Status → Status → List ℕ → List ℕ → Type 0
 Same a b s t = (a ≡ b) × (s ≡ t)
 
-answer_once : (wanted : Asked) (bytes : List ℕ) (a b : Status) (s t : List ℕ) → IsAnswer wanted bytes a s → IsAnswer wanted bytes b t → Same a b s t
+answer_once : (wanted : Asked) (bytes : List ℕ) (a b : Status) (s t : List ℕ) → IsAnswer wanted bytes a s →
+    IsAnswer wanted bytes b t → Same a b s t
 answer_once wanted bytes a b s t (inl p) (inl q) = (refused_once wanted.size bytes a b p.0 q.0, p.1 ∙ sym q.1)
 answer_once wanted bytes a b s t (inl p) (inr q) = absurd (refused_or_translated wanted bytes t a p.0 q.1)
 answer_once wanted bytes a b s t (inr p) (inl q) = absurd (refused_or_translated wanted bytes s b q.0 p.1)
 answer_once wanted bytes a b s t (inr p) (inr q) = (p.0 ∙ sym q.0, translated_once wanted bytes s t p.1 q.1)
 
-listing_once : (wanted : Asked) (bytes : List ℕ) (a b : Status) (s t : List ℕ) → IsOutcomeOfListing wanted bytes a s → IsOutcomeOfListing wanted bytes b t → Same a b s t
+listing_once : (wanted : Asked) (bytes : List ℕ) (a b : Status) (s t : List ℕ) → IsOutcomeOfListing wanted bytes a s →
+    IsOutcomeOfListing wanted bytes b t → Same a b s t
 listing_once wanted bytes a b s t (inl p) (inl q) = (p.1 ∙ sym q.1, p.2 ∙ sym q.2)
 listing_once wanted bytes a b s t (inl p) (inr q) = let x = p.0 in let y = q.0 in absurd (omega (arith, x, y))
 listing_once wanted bytes a b s t (inr p) (inl q) = let x = p.0 in let y = q.0 in absurd (omega (arith, x, y))
@@ -126,7 +136,8 @@ listing_once wanted bytes a b s t (inr p) (inr q) = answer_once wanted bytes a b
 asked_once : (words : List (List ℕ)) (a b : Asked) → asked words ≡ Some a → asked words ≡ Some b → a ≡ b
 asked_once words a b p q = let e = sym p ∙ q in cc
 
-pub outcome_once : (words : List (List ℕ)) (bytes : List ℕ) (a b : Status) (s t : List ℕ) → IsOutcome words bytes a s → IsOutcome words bytes b t → (a ≡ b) × (s ≡ t)
+pub outcome_once : (words : List (List ℕ)) (bytes : List ℕ) (a b : Status) (s t : List ℕ) → IsOutcome words bytes a s →
+    IsOutcome words bytes b t → (a ≡ b) × (s ≡ t)
 outcome_once words bytes a b s t (inl p) (inl q) = (p.1 ∙ sym q.1, p.2 ∙ sym q.2)
 outcome_once words bytes a b s t (inl p) (inr q) = let e = sym p.0 ∙ q.1 in absurd (cc)
 outcome_once words bytes a b s t (inr p) (inl q) = let e = sym p.1 ∙ q.0 in absurd (cc)

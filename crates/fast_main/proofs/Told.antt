@@ -57,7 +57,8 @@ told_no_words given told out words.NoMemory nothing = record {
   };
 }
 
-pub judged_refused : (given : List (List ℕ)) (refusal : Refusal) → (refusal ≡ words.Usage → asked given ≡ None) → AreJudged given (status_of_words refusal)
+pub judged_refused : (given : List (List ℕ)) (refusal : Refusal) → (refusal ≡ words.Usage → asked given ≡ None) →
+    AreJudged given (status_of_words refusal)
 judged_refused given words.Usage nothing = record { usage = λ e. nothing refl; nothing = λ e. inl refl }
 judged_refused given words.NoMemory nothing = record { usage = λ e. absurd (cc); nothing = λ e. inr refl }
 
@@ -71,7 +72,8 @@ module _ (given : List (List ℕ)) (wanted : Asked) (out : Option (List ℕ)) (i
   pub judged : (status : Status) → status ≢ Usage → AreJudged given status
   judged status other = record { usage = λ e. absurd (other e); nothing = λ e. absurd (is_asked e) }
 
-  pub told_unread : (told : Option (List ℕ)) (feed : Fed) (left : Option (List ℕ)) (read : List ℕ) (fault : RestFault) (ended : Type 0) (before taken : ℕ) → Consumes told (to_come feed left) read
+  pub told_unread : (told : Option (List ℕ)) (feed : Fed) (left : Option (List ℕ)) (read : List ℕ) (fault : RestFault)
+      (ended : Type 0) (before taken : ℕ) → Consumes told (to_come feed left) read
       → GivesPart listing_limit read ended before taken (Err fault) → (fault ≡ rest.ReadFault → feed.held ≡ [])
       → AccountsFor given told left out out (status_of_rest fault)
   told_unread told feed left read rest.ReadFault ended before taken c gives empty = record {
@@ -111,8 +113,10 @@ module _ (given : List (List ℕ)) (wanted : Asked) (out : Option (List ℕ)) (i
 
   -- The listing is read
 
-  module _ (feed : Fed) (left : Option (List ℕ)) (read listing : List ℕ) (whole : IsWholePart read (IsOver (to_come feed left)) listing) (short : length listing ≤ listing_limit) where
-    pub told_refused : (told : Option (List ℕ)) (status : Status) → Consumes told (to_come feed left) read → (IsDefined status → IsRefused wanted.size listing status) → IsInside status
+  module _ (feed : Fed) (left : Option (List ℕ)) (read listing : List ℕ)
+      (whole : IsWholePart read (IsOver (to_come feed left)) listing) (short : length listing ≤ listing_limit) where
+    pub told_refused : (told : Option (List ℕ)) (status : Status) → Consumes told (to_come feed left) read →
+        (IsDefined status → IsRefused wanted.size listing status) → IsInside status
         → AccountsFor given told left out out status
     told_refused told status c refused inside = record {
       read = read ++ feed.held;
@@ -132,7 +136,8 @@ module _ (given : List (List ℕ)) (wanted : Asked) (out : Option (List ℕ)) (i
         let same = sym (is_first_part feed left read listing more whole tells) in
         inr (wanted, is, inr (subst (λ (l : List ℕ). length l ≤ listing_limit) same short, inr (refl, subst (λ l. IsTranslated wanted l text) same translated)))
 
-    pub told_cut : (told out' : Option (List ℕ)) (text : List ℕ) → Consumes told (to_come feed left) read → IsTranslated wanted listing text → AppendsPrefix out out' text
+    pub told_cut : (told out' : Option (List ℕ)) (text : List ℕ) → Consumes told (to_come feed left) read →
+        IsTranslated wanted listing text → AppendsPrefix out out' text
         → AccountsFor given told left out out' WriteFault
     told_cut told out' text c translated wrote = record {
       read = read ++ feed.held;
@@ -144,7 +149,8 @@ module _ (given : List (List ℕ)) (wanted : Asked) (out : Option (List ℕ)) (i
       };
     }
 
-    pub told_whole : (told out' : Option (List ℕ)) (text : List ℕ) → Consumes told (to_come feed left) read → IsTranslated wanted listing text → Appends out out' text
+    pub told_whole : (told out' : Option (List ℕ)) (text : List ℕ) → Consumes told (to_come feed left) read →
+        IsTranslated wanted listing text → Appends out out' text
         → AccountsFor given told left out out' Success
     told_whole told out' text c translated wrote = record {
       read = read ++ feed.held;

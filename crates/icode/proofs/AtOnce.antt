@@ -1,13 +1,18 @@
 -- Where each store is written to memory at once.
-use Rattle.std.proofs.Common.{◌≡◌, ℕ, suc, ◌<◌, ◌⊎◌, List, [], ◌∷◌, ◌++◌, Bool, true, false, cond, length, Option, Some, None, refl, sym, ap, ap₂, ◌∙◌, subst, arith, inl, inr, ⊎_elim, get_or-set_same, set-set, append-nil}
+use Rattle.std.proofs.Common.{◌≡◌, ℕ, suc, ◌<◌, ◌⊎◌, List, [], ◌∷◌, ◌++◌, Bool, true, false, cond, length, Option, Some}
+use Rattle.std.proofs.Common.{None, refl, sym, ap, ap₂, ◌∙◌, subst, arith, inl, inr, ⊎_elim, get_or-set_same, set-set}
+use Rattle.std.proofs.Common.{append-nil}
 use Rattle.std.specs.Prelude.{slice_index, slice_index_or, slice_set}
 use Rattle.std.proofs.lemmas.List.{set-get_or, length-replicate}
 use Rattle.icode.specs.declared.action.Action.{Action}
 use Rattle.icode.specs.declared.action.Action.TheVariants.{Store}
 use Rattle.icode.specs.declared.event.Event.{Event}
 use Rattle.icode.specs.declared.event.Event.TheVariants.{Turn, Drain}
-use Rattle.icode.specs.Machine.{Code, IsCode, State, Local, effect, memory_after, next_action, moved_on, acted, turn_with, turn, run, start}
-use Rattle.icode.specs.Buffers.{Waiting, Buffered, queue_of, some_wait, stored, overlaid, seen_by, buffered_moved_on, buffered_acted, buffered_turn_with, buffered_turn, written, drain_with, drain, buffered_run, buffered_start, at_once, none_waiting}
+use Rattle.icode.specs.Machine.{Code, IsCode, State, Local, effect, memory_after, next_action, moved_on, acted}
+use Rattle.icode.specs.Machine.{turn_with, turn, run, start}
+use Rattle.icode.specs.Buffers.{Waiting, Buffered, queue_of, some_wait, stored, overlaid, seen_by, buffered_moved_on}
+use Rattle.icode.specs.Buffers.{buffered_acted, buffered_turn_with, buffered_turn, written, drain_with, drain}
+use Rattle.icode.specs.Buffers.{buffered_run, buffered_start, at_once, none_waiting}
 use Rattle.icode.proofs.BufferedCompletion.{none_waiting-none}
 use Rattle.icode.proofs.Runs.{has_action}
 use Rattle.icode.proofs.Waiting.{none_waits, one_waits}
@@ -28,7 +33,9 @@ module _ (code : Code) (is : IsCode code) where
   settled_at : (s : State) (queues : List (List Waiting)) → some_wait queues ≡ false → buffered_moved_on code (record { state = s; queues = queues }) ≡ record { state = moved_on code s; queues = queues }
   settled_at s queues none = ap (λ b. record { state = cond b s (moved_on code s); queues = queues }) none
 
-  acted_at_once : (b : Buffered) (q : ℕ) (a : Action) → q < code.procs → IsPlain code b b.state → IsPlain code (drain code (buffered_moved_on code (buffered_acted code q a b)) q) (moved_on code (acted code q a b.state))
+  acted_at_once : (b : Buffered) (q : ℕ) (a : Action) → q < code.procs → IsPlain code b b.state →
+      IsPlain code (drain code (buffered_moved_on code (buffered_acted code q a b)) q)
+      (moved_on code (acted code q a b.state))
   acted_at_once b q a lt p =
       let s : State = b.state in
       let file : List ℕ = slice_index_or s.registers q [] in
@@ -71,19 +78,23 @@ module _ (code : Code) (is : IsCode code) where
       (record { state = refl; none = p.none; lines = p.lines }))
       (quiet_or_store code.lanes a file)
 
-  turn_at_once : (b : Buffered) (q : ℕ) → IsPlain code b b.state → IsPlain code (drain code (buffered_turn code b q) q) (turn code b.state q)
+  turn_at_once : (b : Buffered) (q : ℕ) → IsPlain code b b.state →
+      IsPlain code (drain code (buffered_turn code b q) q) (turn code b.state q)
   turn_at_once b q p = with_action (next_action code b.state q) refl
     where
-      with_action : (o : Option Action) → next_action code b.state q ≡ o → IsPlain code (drain code (buffered_turn_with code q b o) q) (turn_with code q b.state o)
+      with_action : (o : Option Action) → next_action code b.state q ≡ o →
+          IsPlain code (drain code (buffered_turn_with code q b o) q) (turn_with code q b.state o)
       with_action None e = subst (λ (c : Buffered). IsPlain code c b.state) (sym (ap (drain_with code q b) (none_waits b.queues p.none q))) p
       with_action (Some a) e = acted_at_once b q a (has_action code is b.state.phase q (slice_index b.state.done q) a e).0 p
 
-  runs_at_once : (turns : List ℕ) (b : Buffered) (s : State) → IsPlain code b s → (buffered_run code b (at_once turns)).state ≡ run code s turns
+  runs_at_once : (turns : List ℕ) (b : Buffered) (s : State) → IsPlain code b s →
+      (buffered_run code b (at_once turns)).state ≡ run code s turns
   runs_at_once [] b s p = p.state
   runs_at_once (q ∷ turns) b s p =
       let here : IsPlain code b b.state = record { state = refl; none = p.none; lines = p.lines } in
       let next = turn_at_once b q here in
       runs_at_once turns (drain code (buffered_turn code b q) q) (turn code s q) (subst (λ (t : State). IsPlain code (drain code (buffered_turn code b q) q) (turn code t q)) p.state next)
 
-  pub from_start_at_once : (x turns : List ℕ) → (buffered_run code (buffered_start code x) (at_once turns)).state ≡ run code (start code x) turns
+  pub from_start_at_once : (x turns : List ℕ) → (buffered_run code (buffered_start code x) (at_once turns)).state
+      ≡ run code (start code x) turns
   from_start_at_once x turns = runs_at_once turns (buffered_start code x) (start code x) (record { state = refl; none = none_waiting-none code is; lines = length-replicate code.procs [] })

@@ -1,11 +1,13 @@
 -- What an action leaves is below the modulus.
-use Rattle.std.proofs.Common.{ℕ, zero, suc, ◌+◌, ◌-◌, ◌*◌, ◌<◌, List, [], ◌∷◌, ◌++◌, flat_map, map, replicate, All, arith, mod-lt}
+use Rattle.std.proofs.Common.{ℕ, zero, suc, ◌+◌, ◌-◌, ◌*◌, ◌<◌, List, [], ◌∷◌, ◌++◌, flat_map, map, replicate, All}
+use Rattle.std.proofs.Common.{arith, mod-lt}
 use Rattle.std.specs.Prelude.{slice_index, slice_set}
 use Rattle.std.specs.List.{range_with_len}
 use Rattle.ring_mod.specs.Residue.{sum_mod, difference_mod, negation_mod, product_mod}
 use Rattle.icode.specs.declared.action.Action.{Action}
 use Rattle.icode.specs.declared.action.Action.TheVariants.{Load, Store, Zero, Add, Sub, Neg, Mul, Tile}
-use Rattle.icode.specs.Machine.{Local, effect, value_put, register_put, register_of, memory_after, words_at, with_words, lane_by_lane}
+use Rattle.icode.specs.Machine.{Local, effect, value_put, register_put, register_of, memory_after, words_at, with_words}
+use Rattle.icode.specs.Machine.{lane_by_lane}
 use Rattle.icode.proofs.Residues.{AreBelow, below-zeros, below-set}
 
 below-cons : (m v : ℕ) (vs : List ℕ) → v < m → AreBelow m vs → AreBelow m (v ∷ vs)
@@ -19,11 +21,13 @@ pub below-words_at : (m n : ℕ) (xs : List ℕ) (i : ℕ) → 0 < m → AreBelo
 below-words_at m zero xs i pos h = below-nil m pos
 below-words_at m (suc n) xs i pos h = below-cons m (slice_index xs i) (words_at n xs (i + 1)) (h i) (below-words_at m n xs (i + 1) pos h)
 
-pub below-with_words : (m : ℕ) (xs : List ℕ) (i : ℕ) (vs : List ℕ) → AreBelow m xs → AreBelow m vs → AreBelow m (with_words xs i vs)
+pub below-with_words : (m : ℕ) (xs : List ℕ) (i : ℕ) (vs : List ℕ) → AreBelow m xs → AreBelow m vs →
+    AreBelow m (with_words xs i vs)
 below-with_words m xs i [] h hv = h
 below-with_words m xs i (v ∷ vs) h hv = below-with_words m (slice_set xs i v) (i + 1) vs (below-set m xs i v h (hv 0)) (λ k. hv (suc k))
 
-below-lanes : (m : ℕ) (f : ℕ → ℕ → ℕ) (xs ys : List ℕ) → 0 < m → ((a b : ℕ) → f a b < m) → AreBelow m (lane_by_lane f xs ys)
+below-lanes : (m : ℕ) (f : ℕ → ℕ → ℕ) (xs ys : List ℕ) → 0 < m → ((a b : ℕ) → f a b < m) →
+    AreBelow m (lane_by_lane f xs ys)
 below-lanes m f [] ys pos h = below-nil m pos
 below-lanes m f (x ∷ xs) [] pos h = below-nil m pos
 below-lanes m f (x ∷ xs) (y ∷ ys) pos h = below-cons m (f x y) (lane_by_lane f xs ys) (h x y) (below-lanes m f xs ys pos h)
@@ -36,11 +40,13 @@ below-append : (m : ℕ) (xs ys : List ℕ) → AreBelow m xs → AreBelow m ys 
 below-append m [] ys hx hy = hy
 below-append m (x ∷ xs) ys hx hy = below-cons m x (xs ++ ys) (hx 0) (below-append m xs ys (λ k. hx (suc k)) hy)
 
-below-flat_map : (m : ℕ) (f : ℕ → List ℕ) (xs : List ℕ) → 0 < m → ((a : ℕ) → AreBelow m (f a)) → AreBelow m (flat_map f xs)
+below-flat_map : (m : ℕ) (f : ℕ → List ℕ) (xs : List ℕ) → 0 < m → ((a : ℕ) → AreBelow m (f a)) →
+    AreBelow m (flat_map f xs)
 below-flat_map m f [] pos h = below-nil m pos
 below-flat_map m f (x ∷ xs) pos h = below-append m (f x) (flat_map f xs) (h x) (below-flat_map m f xs pos h)
 
-module _ (m lanes : ℕ) (pos : 0 < m) (s : Local) (memory : AreBelow m s.memory) (registers : AreBelow m s.registers) where
+module _ (m lanes : ℕ) (pos : 0 < m) (s : Local) (memory : AreBelow m s.memory)
+    (registers : AreBelow m s.registers) where
   value_below : (action : Action) → AreBelow m (value_put m lanes action s)
   value_below (Load r address) = below-words_at m lanes s.memory address pos memory
   value_below (Store address r) = below-nil m pos

@@ -1,9 +1,12 @@
 -- What each turn and each drain of a phase keeps.
-use Rattle.std.proofs.Common.{◌≡◌, ℕ, suc, ◌+◌, ◌/◌, ◌<◌, ◌≤◌, ◌≢◌, List, [], ◌∷◌, ◌++◌, length, Some, refl, sym, ap, ◌∙◌, subst, arith, ⊎_elim, Contains, get_or-set_same, get_or-set_other, length-set, true, false}
+use Rattle.std.proofs.Common.{◌≡◌, ℕ, suc, ◌+◌, ◌/◌, ◌<◌, ◌≤◌, ◌≢◌, List, [], ◌∷◌, ◌++◌, length, Some, refl, sym, ap}
+use Rattle.std.proofs.Common.{◌∙◌, subst, arith, ⊎_elim, Contains, get_or-set_same, get_or-set_other, length-set, true}
+use Rattle.std.proofs.Common.{false}
 use Rattle.std.specs.Prelude.{slice_get, slice_index, slice_index_or, slice_set}
 use Rattle.std.proofs.lemmas.Bool.{cases_eq}
 use Rattle.icode.specs.declared.action.Action.{Action}
-use Rattle.icode.specs.Machine.{Code, Local, acts, effect, memory_after, touched_words, written_lines, touched_lines, with_words, IsApart}
+use Rattle.icode.specs.Machine.{Code, Local, acts, effect, memory_after, touched_words, written_lines, touched_lines}
+use Rattle.icode.specs.Machine.{with_words, IsApart}
 use Rattle.icode.specs.Buffers.{Waiting, overlaid, stored, some_wait, queue_of}
 use Rattle.icode.proofs.Lines.{touches}
 use Rattle.icode.proofs.Phase.{own, own-same, own-other, memory_after-agree, registers_after-agree, IsFollowed}
@@ -18,12 +21,16 @@ pub record IsBuffered (code : Code) (phase : ℕ) (m0 : List ℕ) (r0 : List (Li
   pub dones : length done ≡ code.procs
   pub lines : length queues ≡ code.procs
   pub own_registers : (q : ℕ) → slice_index_or registers q [] ≡ (own code phase m0 r0 done q).registers
-  pub own_words : (q k : ℕ) → Contains (touched_lines code phase q) (k / code.line) → slice_get (overlaid memory (queue_of queues q)) k ≡ slice_get (own code phase m0 r0 done q).memory k
-  pub other_words : (k : ℕ) → ((q : ℕ) → Contains (written_lines code phase q) (k / code.line) → ⊥) → slice_get memory k ≡ slice_get m0 k
+  pub own_words : (q k : ℕ) → Contains (touched_lines code phase q) (k / code.line) →
+      slice_get (overlaid memory (queue_of queues q)) k ≡ slice_get (own code phase m0 r0 done q).memory k
+  pub other_words : (k : ℕ) → ((q : ℕ) → Contains (written_lines code phase q) (k / code.line) → ⊥) →
+      slice_get memory k ≡ slice_get m0 k
   pub waiting : (q : ℕ) → AreOwn code phase q (queue_of queues q)
 
 -- where no store waits, it is what turns keep without queues
-pub followed_from_buffered : (code : Code) (phase : ℕ) (m0 : List ℕ) (r0 : List (List ℕ)) (memory : List ℕ) (registers : List (List ℕ)) (done : List ℕ) (queues : List (List Waiting)) → some_wait queues ≡ false → IsBuffered code phase m0 r0 memory registers done queues → IsFollowed code phase m0 r0 memory registers done
+pub followed_from_buffered : (code : Code) (phase : ℕ) (m0 : List ℕ) (r0 : List (List ℕ)) (memory : List ℕ)
+    (registers : List (List ℕ)) (done : List ℕ) (queues : List (List Waiting)) → some_wait queues ≡ false →
+    IsBuffered code phase m0 r0 memory registers done queues → IsFollowed code phase m0 r0 memory registers done
 followed_from_buffered code phase m0 r0 memory registers done queues none b =
     record {
       files = b.files;
@@ -33,7 +40,10 @@ followed_from_buffered code phase m0 r0 memory registers done queues none b =
       other_words = b.other_words;
     }
 
-pub buffered_from_followed : (code : Code) (phase : ℕ) (m0 : List ℕ) (r0 : List (List ℕ)) (memory : List ℕ) (registers : List (List ℕ)) (done : List ℕ) (queues : List (List Waiting)) → some_wait queues ≡ false → length queues ≡ code.procs → IsFollowed code phase m0 r0 memory registers done → IsBuffered code phase m0 r0 memory registers done queues
+pub buffered_from_followed : (code : Code) (phase : ℕ) (m0 : List ℕ) (r0 : List (List ℕ)) (memory : List ℕ)
+    (registers : List (List ℕ)) (done : List ℕ) (queues : List (List Waiting)) → some_wait queues ≡ false →
+    length queues ≡ code.procs → IsFollowed code phase m0 r0 memory registers done →
+    IsBuffered code phase m0 r0 memory registers done queues
 buffered_from_followed code phase m0 r0 memory registers done queues none lines f =
     record {
       files = f.files;
@@ -88,7 +98,11 @@ IsBuffered-acted code phase m0 r0 memory registers done queues q a lt here inv =
     }
 
 -- a drain keeps it
-pub IsBuffered-drained : (code : Code) (phase : ℕ) (m0 : List ℕ) (r0 : List (List ℕ)) (memory : List ℕ) (registers : List (List ℕ)) (done : List ℕ) (queues : List (List Waiting)) (q : ℕ) (w : Waiting) (queue : List Waiting) → IsApart code phase → q < code.procs → queue_of queues q ≡ w ∷ queue → IsBuffered code phase m0 r0 memory registers done queues → IsBuffered code phase m0 r0 (with_words memory w.address w.words) registers done (slice_set queues q queue)
+pub IsBuffered-drained : (code : Code) (phase : ℕ) (m0 : List ℕ) (r0 : List (List ℕ)) (memory : List ℕ)
+    (registers : List (List ℕ)) (done : List ℕ) (queues : List (List Waiting)) (q : ℕ) (w : Waiting)
+    (queue : List Waiting) → IsApart code phase → q < code.procs → queue_of queues q ≡ w ∷ queue →
+    IsBuffered code phase m0 r0 memory registers done queues →
+    IsBuffered code phase m0 r0 (with_words memory w.address w.words) registers done (slice_set queues q queue)
 IsBuffered-drained code phase m0 r0 memory registers done queues q w queue apart lt here inv =
     let after : List ℕ = with_words memory w.address w.words in
     let queue_is : queue_of (slice_set queues q queue) q ≡ queue = get_or-set_same queues q queue [] (omega (arith, inv.lines)) in

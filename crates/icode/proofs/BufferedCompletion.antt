@@ -1,5 +1,8 @@
 -- The events that finish a run with store buffers, one by one.
-use Rattle.std.proofs.Common.{◌≡◌, ℕ, zero, suc, ◌+◌, ◌<◌, ◌≤◌, ◌≢◌, ◌⊎◌, List, [], ◌∷◌, ◌++◌, Bool, true, false, cond, length, drop, flat_map, replicate, Option, Some, None, refl, sym, ap, ap₂, ◌∙◌, subst, arith, inl, inr, ⊎_elim, get_or-set_same, get_or-set_other, length-set, length-append, le_refl}
+use Rattle.std.proofs.Common.{◌≡◌, ℕ, zero, suc, ◌+◌, ◌<◌, ◌≤◌, ◌≢◌, ◌⊎◌, List, [], ◌∷◌, ◌++◌, Bool, true, false, cond}
+use Rattle.std.proofs.Common.{length, drop, flat_map, replicate, Option, Some, None, refl, sym, ap, ap₂, ◌∙◌, subst}
+use Rattle.std.proofs.Common.{arith, inl, inr, ⊎_elim, get_or-set_same, get_or-set_other, length-set, length-append}
+use Rattle.std.proofs.Common.{le_refl}
 use Rattle.std.specs.Prelude.{slice_get, slice_index, slice_index_or}
 use Rattle.std.specs.List.{range_with_len}
 use Rattle.std.proofs.lemmas.Bool.{cases_eq, cases_lt, cases_Bool, false≢true, le-ltb}
@@ -9,26 +12,34 @@ use Rattle.icode.specs.declared.action.Action.TheVariants.{Store}
 use Rattle.icode.specs.declared.event.Event.{Event}
 use Rattle.icode.specs.declared.event.Event.TheVariants.{Turn, Drain}
 use Rattle.icode.specs.Machine.{Code, IsCode, State, acts, is_open, none_done, next_action, first_open, phases_after}
-use Rattle.icode.specs.Buffers.{Waiting, Buffered, queue_of, some_wait, stored, stores_among, rest_of_processor, buffered_moved_on, buffered_acted, buffered_turn_with, buffered_turn, written, drain_with, drain, buffered_step, buffered_run, none_waiting, buffered_start, buffered_rest, buffered_phases, buffered_completion, buffered_finished, IsIdle, IsBusy}
+use Rattle.icode.specs.Buffers.{Waiting, Buffered, queue_of, some_wait, stored, stores_among, rest_of_processor}
+use Rattle.icode.specs.Buffers.{buffered_moved_on, buffered_acted, buffered_turn_with, buffered_turn, written}
+use Rattle.icode.specs.Buffers.{drain_with, drain, buffered_step, buffered_run, none_waiting, buffered_start}
+use Rattle.icode.specs.Buffers.{buffered_rest, buffered_phases, buffered_completion, buffered_finished, IsIdle, IsBusy}
 use Rattle.icode.proofs.Completion.{first_opens}
 use Rattle.icode.proofs.End.{IsOver}
-use Rattle.icode.proofs.Open.{closed_over, past_over, not_open, first_open-open, first_open-closed, first_is, has_action, none_left}
+use Rattle.icode.proofs.Open.{closed_over, past_over, not_open, first_open-open, first_open-closed, first_is}
+use Rattle.icode.proofs.Open.{has_action, none_left}
 use Rattle.icode.proofs.Waiting.{none_waits, one_waits, all_empty}
 
 -- Lists, processor by processor
 
-none_by : (g : ℕ → List Event) (n first : ℕ) → ((q : ℕ) → first ≤ q → q < first + n → g q ≡ []) → flat_map g (range_with_len first n) ≡ []
+none_by : (g : ℕ → List Event) (n first : ℕ) → ((q : ℕ) → first ≤ q → q < first + n → g q ≡ []) →
+    flat_map g (range_with_len first n) ≡ []
 none_by g zero first h = refl
 none_by g (suc n) first h =
     ap₂ (λ (xs ys : List Event). xs ++ ys) (h first (le_refl first) (omega arith)) (none_by g n (first + 1) (λ q low high. h q (omega arith) (omega arith)))
 
-same_by : (g h : ℕ → List Event) (n first : ℕ) → ((q : ℕ) → first ≤ q → g q ≡ h q) → flat_map g (range_with_len first n) ≡ flat_map h (range_with_len first n)
+same_by : (g h : ℕ → List Event) (n first : ℕ) → ((q : ℕ) → first ≤ q → g q ≡ h q) →
+    flat_map g (range_with_len first n) ≡ flat_map h (range_with_len first n)
 same_by g h zero first e = refl
 same_by g h (suc n) first e =
     ap₂ (λ (xs ys : List Event). xs ++ ys) (e first (le_refl first)) (same_by g h n (first + 1) (λ q low. e q (omega arith)))
 
 -- the first event, where `who` is the first that has one, and h says what is left then
-first_by : (g h : ℕ → List Event) (x : Event) (who n first : ℕ) → first ≤ who → who < first + n → ((q : ℕ) → q < who → g q ≡ []) → g who ≡ x ∷ h who → ((q : ℕ) → q ≢ who → g q ≡ h q) → flat_map g (range_with_len first n) ≡ x ∷ flat_map h (range_with_len first n)
+first_by : (g h : ℕ → List Event) (x : Event) (who n first : ℕ) → first ≤ who → who < first + n →
+    ((q : ℕ) → q < who → g q ≡ []) → g who ≡ x ∷ h who → ((q : ℕ) → q ≢ who → g q ≡ h q) →
+    flat_map g (range_with_len first n) ≡ x ∷ flat_map h (range_with_len first n)
 first_by g h x who zero first low high none one others = absurd (omega arith)
 first_by g h x who (suc n) first low high none one others =
     ⊎_elim
@@ -53,7 +64,8 @@ drop_at (y ∷ xs) zero x e = cc
 drop_at (y ∷ xs) (suc n) x e = drop_at xs n x e
 
 -- a store that waits is one that was among the actions left
-waiting_or_left : (lanes : ℕ) (a : Action) (registers : List ℕ) (left : List Action) (queue : List Waiting) → length (queue ++ stored lanes a registers) + stores_among left ≡ length queue + stores_among (a ∷ left)
+waiting_or_left : (lanes : ℕ) (a : Action) (registers : List ℕ) (left : List Action) (queue : List Waiting) →
+    length (queue ++ stored lanes a registers) + stores_among left ≡ length queue + stores_among (a ∷ left)
 waiting_or_left lanes (Store address r) registers left queue = omega (arith, length-append queue (stored lanes (Store address r) registers))
 waiting_or_left lanes a registers left queue = omega (arith, length-append queue (stored lanes a registers))
 
@@ -66,7 +78,8 @@ module _ (code : Code) (is : IsCode code) where
   next_of : State → State
   next_of s = record { memory = s.memory; registers = s.registers; phase = first_open code (phases_after code s.phase) (s.phase + 1); done = none_done code }
 
-  busy_moved : (b : Buffered) → b.state.phase < length code.lists → length b.state.done ≡ code.procs → length b.queues ≡ code.procs → IsBusy code (buffered_moved_on code b)
+  busy_moved : (b : Buffered) → b.state.phase < length code.lists → length b.state.done ≡ code.procs →
+      length b.queues ≡ code.procs → IsBusy code (buffered_moved_on code b)
   unfolding next_of
   busy_moved b lt dones lines = at (some_wait b.queues) refl (is_open code b.state.phase b.state.done) refl
     where
@@ -91,7 +104,8 @@ module _ (code : Code) (is : IsCode code) where
           (length-set b.state.done q _ ∙ g.dones) (length-set b.queues q _ ∙ g.lines)
 
   -- a store waits in a phase of the code alone
-  pub waits_within : (b : Buffered) (q : ℕ) (w : Waiting) (queue : List Waiting) → IsBusy code b → queue_of b.queues q ≡ w ∷ queue → b.state.phase < length code.lists
+  pub waits_within : (b : Buffered) (q : ℕ) (w : Waiting) (queue : List Waiting) → IsBusy code b →
+      queue_of b.queues q ≡ w ∷ queue → b.state.phase < length code.lists
   waits_within b q w queue g e =
       ⊎_elim
       (λ (lt : b.state.phase < length code.lists). lt)
@@ -130,14 +144,18 @@ module _ (code : Code) (is : IsCode code) where
   abbrev events_of : ℕ → List ℕ → List (List Waiting) → ℕ → List Event
   events_of phase done queues q = rest_of_processor (drop (slice_index done q) (acts code phase q)) (length (queue_of queues q)) q
 
-  idle_none : (phase : ℕ) (done : List ℕ) (queues : List (List Waiting)) (q : ℕ) → length (acts code phase q) ≤ slice_index done q → queue_of queues q ≡ [] → events_of phase done queues q ≡ []
+  idle_none : (phase : ℕ) (done : List ℕ) (queues : List (List Waiting)) (q : ℕ) →
+      length (acts code phase q) ≤ slice_index done q → queue_of queues q ≡ [] → events_of phase done queues q ≡ []
   idle_none phase done queues q le none = ap₂ (λ (left : List Action) (queue : List Waiting). rest_of_processor left (length queue) q) (drop_over (acts code phase q) (slice_index done q) le) none
 
-  rest_over : (phase : ℕ) (done : List ℕ) (queues : List (List Waiting)) → IsOver code phase done → some_wait queues ≡ false → buffered_rest code phase done queues ≡ []
+  rest_over : (phase : ℕ) (done : List ℕ) (queues : List (List Waiting)) → IsOver code phase done →
+      some_wait queues ≡ false → buffered_rest code phase done queues ≡ []
   rest_over phase done queues over none = none_by (events_of phase done queues) code.procs 0 (λ q low high. idle_none phase done queues q (over.each q) (none_waits queues none q))
 
   -- phases with no action add no event
-  skipped : (n phase : ℕ) → n + phase ≡ length code.lists → buffered_phases code n phase ≡ buffered_rest code (first_open code n phase) (none_done code) (none_waiting code) ++ buffered_phases code (phases_after code (first_open code n phase)) (first_open code n phase + 1)
+  skipped : (n phase : ℕ) → n + phase ≡ length code.lists → buffered_phases code n phase
+      ≡ buffered_rest code (first_open code n phase) (none_done code) (none_waiting code)
+      ++ buffered_phases code (phases_after code (first_open code n phase)) (first_open code n phase + 1)
   skipped zero phase e =
       let past : phases_after code phase ≡ 0 = omega arith in
       sym (ap₂ (λ (r : List Event) k. r ++ buffered_phases code k (phase + 1)) (rest_over phase (none_done code) (none_waiting code) (past_over code phase (none_done code) (omega arith)) none_waiting-none) past)
@@ -152,12 +170,14 @@ module _ (code : Code) (is : IsCode code) where
       (ap (λ (r : List Event). r ++ buffered_phases code n (phase + 1)) (rest_over phase (none_done code) (none_waiting code) (closed_over code is phase (none_done code) o) none_waiting-none) ∙ skipped n (phase + 1) (omega arith)))
       (cases_Bool (is_open code phase (none_done code)))
 
-  none_waiting_is : (queues : List (List Waiting)) → length queues ≡ code.procs → some_wait queues ≡ false → queues ≡ none_waiting code
+  none_waiting_is : (queues : List (List Waiting)) → length queues ≡ code.procs → some_wait queues ≡ false →
+      queues ≡ none_waiting code
   none_waiting_is queues lines none =
       ext_get_or [] queues (none_waiting code) (lines ∙ sym (length-replicate code.procs [])) (λ q lt. none_waits queues none q ∙ sym (get_or-replicate code.procs q [] [] (omega (arith, lines))))
 
   -- what is left to do, before the phase moves on and after it
-  after_move : (b : Buffered) → b.state.phase < length code.lists → length b.queues ≡ code.procs → buffered_completion code b ≡ buffered_completion code (buffered_moved_on code b)
+  after_move : (b : Buffered) → b.state.phase < length code.lists → length b.queues ≡ code.procs →
+      buffered_completion code b ≡ buffered_completion code (buffered_moved_on code b)
   unfolding next_of
   after_move b lt lines = at (some_wait b.queues) refl (is_open code b.state.phase b.state.done) refl
     where
@@ -173,7 +193,9 @@ module _ (code : Code) (is : IsCode code) where
           ∙ ap (λ queues. buffered_completion code (record { state = next_of b.state; queues = queues })) (sym (none_waiting_is b.queues lines ew)))
 
   -- a turn is the first event where its processor is the first that is not idle, and has an action left
-  pub completion_turn : (b : Buffered) (who : ℕ) (action : Action) → IsBusy code b → next_action code b.state who ≡ Some action → ((q : ℕ) → q < who → IsIdle code b q) → buffered_completion code b ≡ Turn who ∷ buffered_completion code (buffered_turn code b who)
+  pub completion_turn : (b : Buffered) (who : ℕ) (action : Action) → IsBusy code b →
+      next_action code b.state who ≡ Some action → ((q : ℕ) → q < who → IsIdle code b q) →
+      buffered_completion code b ≡ Turn who ∷ buffered_completion code (buffered_turn code b who)
   completion_turn b who action g e idle =
       let has = has_action code is b.state.phase who (slice_index b.state.done who) action e in
       let s1 : Buffered = buffered_acted code who action b in
@@ -199,7 +221,10 @@ module _ (code : Code) (is : IsCode code) where
       ∙ ap (λ (xs : List Event). Turn who ∷ xs) (after_move s1 has.1 (length-set b.queues who _ ∙ g.lines) ∙ ap (λ (o : Option Action). buffered_completion code (buffered_turn_with code who b o)) (sym e))
 
   -- a drain is the first event where its processor is the first that is not idle, and has no action left
-  pub completion_drain : (b : Buffered) (who : ℕ) (w : Waiting) (queue : List Waiting) → IsBusy code b → who < code.procs → length (acts code b.state.phase who) ≤ slice_index b.state.done who → queue_of b.queues who ≡ w ∷ queue → ((q : ℕ) → q < who → IsIdle code b q) → buffered_completion code b ≡ Drain who ∷ buffered_completion code (drain code b who)
+  pub completion_drain : (b : Buffered) (who : ℕ) (w : Waiting) (queue : List Waiting) → IsBusy code b →
+      who < code.procs → length (acts code b.state.phase who) ≤ slice_index b.state.done who →
+      queue_of b.queues who ≡ w ∷ queue → ((q : ℕ) → q < who → IsIdle code b q) →
+      buffered_completion code b ≡ Drain who ∷ buffered_completion code (drain code b who)
   completion_drain b who w queue g lt over e idle =
       let s1 : Buffered = written who w queue b in
       let phase : ℕ = b.state.phase in
@@ -218,7 +243,8 @@ module _ (code : Code) (is : IsCode code) where
       one_more n = let same : suc n + 0 ≡ suc (n + 0) = omega arith in ap (λ k. replicate k (Drain who)) same
 
   -- past all phases there is no event to complete
-  pub completion_past : (b : Buffered) → IsBusy code b → length code.lists ≤ b.state.phase → buffered_completion code b ≡ []
+  pub completion_past : (b : Buffered) → IsBusy code b → length code.lists ≤ b.state.phase →
+      buffered_completion code b ≡ []
   completion_past b g ge =
       let past : phases_after code b.state.phase ≡ 0 = omega arith in
       ap₂ (λ (r : List Event) k. r ++ buffered_phases code k (b.state.phase + 1)) (rest_over b.state.phase b.state.done b.queues (past_over code b.state.phase b.state.done ge) (g.past ge)) past
@@ -235,7 +261,8 @@ module _ (code : Code) (is : IsCode code) where
   unfolding HasNext
   next_or_idle b q = with_action (next_action code b.state q) refl
     where
-      with_queue : length (acts code b.state.phase q) ≤ slice_index b.state.done q → (o : List Waiting) → queue_of b.queues q ≡ o → HasNext b q ⊎ IsIdle code b q
+      with_queue : length (acts code b.state.phase q) ≤ slice_index b.state.done q → (o : List Waiting) →
+          queue_of b.queues q ≡ o → HasNext b q ⊎ IsIdle code b q
       with_queue le [] e = inr (le, e)
       with_queue le (w ∷ queue) e = inl (inr (le, (w, queue, e)))
 
@@ -243,7 +270,8 @@ module _ (code : Code) (is : IsCode code) where
       with_action (Some a) e = inl (inl (a, e))
       with_action None e = with_queue (none_left (acts code b.state.phase q) (slice_index b.state.done q) e) (queue_of b.queues q) refl
 
-  first_or_idle : (b : Buffered) (n : ℕ) → ((who : ℕ) × (who < n) × HasNext b who × ((q : ℕ) → q < who → IsIdle code b q)) ⊎ ((q : ℕ) → q < n → IsIdle code b q)
+  first_or_idle : (b : Buffered) (n : ℕ) → ((who : ℕ) × (who < n) × HasNext b who
+      × ((q : ℕ) → q < who → IsIdle code b q)) ⊎ ((q : ℕ) → q < n → IsIdle code b q)
   first_or_idle b zero = inr (λ q lt. absurd (omega arith))
   first_or_idle b (suc n) =
       ⊎_elim
@@ -258,7 +286,8 @@ module _ (code : Code) (is : IsCode code) where
       (first_or_idle b n)
 
   -- where all are idle, all phases are past
-  pub idle_past : (b : Buffered) → IsBusy code b → ((q : ℕ) → q < code.procs → IsIdle code b q) → length code.lists ≤ b.state.phase
+  pub idle_past : (b : Buffered) → IsBusy code b → ((q : ℕ) → q < code.procs → IsIdle code b q) →
+      length code.lists ≤ b.state.phase
   idle_past b g idle =
       ⊎_elim
       (λ (lt : b.state.phase < length code.lists).
@@ -272,7 +301,8 @@ module _ (code : Code) (is : IsCode code) where
   past_idle b g ge q = ((past_over code b.state.phase b.state.done ge).each q, none_waits b.queues (g.past ge) q)
 
   -- where a phase is not past, some event is next
-  pub next_event : (b : Buffered) → IsBusy code b → b.state.phase < length code.lists → (e : Event) × (buffered_completion code b ≡ e ∷ buffered_completion code (buffered_step code b e))
+  pub next_event : (b : Buffered) → IsBusy code b → b.state.phase < length code.lists →
+      (e : Event) × (buffered_completion code b ≡ e ∷ buffered_completion code (buffered_step code b e))
   unfolding HasNext
   next_event b g lt =
       ⊎_elim
@@ -285,10 +315,12 @@ module _ (code : Code) (is : IsCode code) where
       (first_or_idle b code.procs)
 
   -- so the completion leaves every phase
-  ends_at_once : (b : Buffered) → IsBusy code b → length code.lists ≤ b.state.phase → length code.lists ≤ (buffered_finished code b).state.phase
+  ends_at_once : (b : Buffered) → IsBusy code b → length code.lists ≤ b.state.phase →
+      length code.lists ≤ (buffered_finished code b).state.phase
   ends_at_once b g ge = subst (λ (events : List Event). length code.lists ≤ (buffered_run code b events).state.phase) (sym (completion_past b g ge)) ge
 
-  ends_after : (n : ℕ) (b : Buffered) → length (buffered_completion code b) ≡ n → IsBusy code b → length code.lists ≤ (buffered_finished code b).state.phase
+  ends_after : (n : ℕ) (b : Buffered) → length (buffered_completion code b) ≡ n → IsBusy code b →
+      length code.lists ≤ (buffered_finished code b).state.phase
   ends_after zero b size g =
       ⊎_elim
       (λ (lt : b.state.phase < length code.lists). let next = next_event b g lt in absurd (omega (arith, size, ap length next.1)))

@@ -1,14 +1,20 @@
 -- Whole runs with store buffers: every list of turns and drains, completed, ends as one processor after another does.
-use Rattle.std.proofs.Common.{◌≡◌, ℕ, ◌+◌, ◌-◌, ◌<◌, ◌≤◌, List, [], ◌∷◌, ◌++◌, Bool, true, false, cond, length, Option, Some, None, refl, sym, ap, ◌∙◌, arith}
+use Rattle.std.proofs.Common.{◌≡◌, ℕ, ◌+◌, ◌-◌, ◌<◌, ◌≤◌, List, [], ◌∷◌, ◌++◌, Bool, true, false, cond, length, Option}
+use Rattle.std.proofs.Common.{Some, None, refl, sym, ap, ◌∙◌, arith}
 use Rattle.std.specs.Prelude.{slice_index}
 use Rattle.std.proofs.lemmas.List.{length-replicate}
 use Rattle.icode.specs.declared.action.Action.{Action}
 use Rattle.icode.specs.declared.event.Event.{Event}
 use Rattle.icode.specs.declared.event.Event.TheVariants.{Turn, Drain}
 use Rattle.icode.specs.Machine.{Code, IsCode, Whole, IsApart, next_action, moved_on, start, phases_alone, in_order}
-use Rattle.icode.specs.Buffers.{Waiting, Buffered, queue_of, some_wait, buffered_moved_on, buffered_acted, buffered_turn_with, buffered_turn, written, drain_with, drain, buffered_step, buffered_run, buffered_start, none_waiting, buffered_completion, buffered_finished, buffered_runs, IsBusy}
-use Rattle.icode.proofs.Buffered.{IsBuffered, IsBuffered-acted, IsBuffered-drained, followed_from_buffered, buffered_from_followed}
-use Rattle.icode.proofs.BufferedCompletion.{busy_step, busy_run, starts_busy, waits_within, finished_ends, none_waiting-none}
+use Rattle.icode.specs.Buffers.{Waiting, Buffered, queue_of, some_wait, buffered_moved_on, buffered_acted}
+use Rattle.icode.specs.Buffers.{buffered_turn_with, buffered_turn, written, drain_with, drain, buffered_step}
+use Rattle.icode.specs.Buffers.{buffered_run, buffered_start, none_waiting, buffered_completion, buffered_finished}
+use Rattle.icode.specs.Buffers.{buffered_runs, IsBusy}
+use Rattle.icode.proofs.Buffered.{IsBuffered, IsBuffered-acted, IsBuffered-drained, followed_from_buffered}
+use Rattle.icode.proofs.Buffered.{buffered_from_followed}
+use Rattle.icode.proofs.BufferedCompletion.{busy_step, busy_run, starts_busy, waits_within, finished_ends}
+use Rattle.icode.proofs.BufferedCompletion.{none_waiting-none}
 use Rattle.icode.proofs.Runs.{IsOnTheWay, moved_on_the_way, starts_on_the_way, at_end, has_action}
 use Rattle.icode.proofs.Waiting.{queue_inside}
 
@@ -16,12 +22,14 @@ use Rattle.icode.proofs.Waiting.{queue_inside}
 record IsComing (code : Code) (result : Whole) (b : Buffered) : Type 0 where
   base : Whole
   files : length base.registers ≡ code.procs
-  follows : IsBuffered code b.state.phase base.memory base.registers b.state.memory b.state.registers b.state.done b.queues
+  follows : IsBuffered code b.state.phase base.memory base.registers b.state.memory b.state.registers b.state.done
+      b.queues
   within : b.state.phase ≤ length code.lists
   leads : phases_alone code (length code.lists - b.state.phase) b.state.phase base ≡ result
 
 module _ (code : Code) (is : IsCode code) (apart : (phase : ℕ) → IsApart code phase) where
-  on_the_way : (result : Whole) (b : Buffered) → some_wait b.queues ≡ false → IsComing code result b → IsOnTheWay code result b.state
+  on_the_way : (result : Whole) (b : Buffered) → some_wait b.queues ≡ false → IsComing code result b →
+      IsOnTheWay code result b.state
   on_the_way result b none g =
       record {
         base = g.base;
@@ -31,7 +39,8 @@ module _ (code : Code) (is : IsCode code) (apart : (phase : ℕ) → IsApart cod
         leads = g.leads;
       }
 
-  coming : (result : Whole) (b : Buffered) → some_wait b.queues ≡ false → length b.queues ≡ code.procs → IsOnTheWay code result b.state → IsComing code result b
+  coming : (result : Whole) (b : Buffered) → some_wait b.queues ≡ false → length b.queues ≡ code.procs →
+      IsOnTheWay code result b.state → IsComing code result b
   coming result b none lines g =
       record {
         base = g.base;
@@ -41,17 +50,20 @@ module _ (code : Code) (is : IsCode code) (apart : (phase : ℕ) → IsApart cod
         leads = g.leads;
       }
 
-  coming_moved : (result : Whole) (b : Buffered) → b.state.phase < length code.lists → IsComing code result b → IsComing code result (buffered_moved_on code b)
+  coming_moved : (result : Whole) (b : Buffered) → b.state.phase < length code.lists → IsComing code result b →
+      IsComing code result (buffered_moved_on code b)
   coming_moved result b lt g = at (some_wait b.queues) refl
     where
       at : (w : Bool) → some_wait b.queues ≡ w → IsComing code result (record { state = cond w b.state (moved_on code b.state); queues = b.queues })
       at true e = g
       at false e = coming result (record { state = moved_on code b.state; queues = b.queues }) e g.follows.lines (moved_on_the_way code is apart result b.state lt (on_the_way result b e g))
 
-  coming_turn : (result : Whole) (b : Buffered) (q : ℕ) → IsComing code result b → IsComing code result (buffered_turn code b q)
+  coming_turn : (result : Whole) (b : Buffered) (q : ℕ) → IsComing code result b →
+      IsComing code result (buffered_turn code b q)
   coming_turn result b q g = with_action (next_action code b.state q) refl
     where
-      with_action : (o : Option Action) → next_action code b.state q ≡ o → IsComing code result (buffered_turn_with code q b o)
+      with_action : (o : Option Action) → next_action code b.state q ≡ o →
+          IsComing code result (buffered_turn_with code q b o)
       with_action None e = g
       with_action (Some a) e =
           let has = has_action code is b.state.phase q (slice_index b.state.done q) a e in
@@ -64,7 +76,8 @@ module _ (code : Code) (is : IsCode code) (apart : (phase : ℕ) → IsApart cod
             follows = IsBuffered-acted code b.state.phase g.base.memory g.base.registers b.state.memory b.state.registers b.state.done b.queues q a has.0 e g.follows;
           })
 
-  coming_drain : (result : Whole) (b : Buffered) (q : ℕ) → IsBusy code b → IsComing code result b → IsComing code result (drain code b q)
+  coming_drain : (result : Whole) (b : Buffered) (q : ℕ) → IsBusy code b → IsComing code result b →
+      IsComing code result (drain code b q)
   coming_drain result b q busy g = with_queue (queue_of b.queues q) refl
     where
       with_queue : (o : List Waiting) → queue_of b.queues q ≡ o → IsComing code result (drain_with code q b o)
@@ -79,7 +92,8 @@ module _ (code : Code) (is : IsCode code) (apart : (phase : ℕ) → IsApart cod
             follows = IsBuffered-drained code b.state.phase g.base.memory g.base.registers b.state.memory b.state.registers b.state.done b.queues q w queue (apart b.state.phase) (omega (arith, queue_inside b.queues q w queue e, busy.lines)) e g.follows;
           })
 
-  coming_run : (result : Whole) (events : List Event) (b : Buffered) → IsBusy code b → IsComing code result b → IsComing code result (buffered_run code b events)
+  coming_run : (result : Whole) (events : List Event) (b : Buffered) → IsBusy code b → IsComing code result b →
+      IsComing code result (buffered_run code b events)
   coming_run result [] b busy g = g
   coming_run result (Turn q ∷ events) b busy g = coming_run result events (buffered_turn code b q) (busy_step code is b (Turn q) busy) (coming_turn result b q g)
   coming_run result (Drain q ∷ events) b busy g = coming_run result events (drain code b q) (busy_step code is b (Drain q) busy) (coming_drain result b q busy g)
@@ -88,7 +102,8 @@ module _ (code : Code) (is : IsCode code) (apart : (phase : ℕ) → IsApart cod
   starts_coming x = coming (in_order code x) (buffered_start code x) (none_waiting-none code is) (length-replicate code.procs []) (starts_on_the_way code is apart x)
 
   -- whatever the turns and drains, the memory is what one processor after another leaves
-  pub memory_of_buffered : (x : List ℕ) (events : List Event) → (buffered_runs code x events).state.memory ≡ (in_order code x).memory
+  pub memory_of_buffered : (x : List ℕ) (events : List Event) →
+      (buffered_runs code x events).state.memory ≡ (in_order code x).memory
   memory_of_buffered x events =
       let result : Whole = in_order code x in
       let b : Buffered = buffered_run code (buffered_start code x) events in

@@ -5,7 +5,8 @@ use Rattle.icode.specs.declared.action.Action.{Action}
 use Rattle.icode.specs.declared.action.Action.TheVariants.{Load, Store, Zero, Add, Sub, Neg, Mul, Tile}
 
 pub record AddUp (lanes : ℕ) (xs ys : List Action) : Type 0 where
-  pub operations : (counts_of lanes (xs ++ ys)).operations ≡ (counts_of lanes xs).operations + (counts_of lanes ys).operations
+  pub operations : (counts_of lanes (xs ++ ys)).operations ≡ (counts_of lanes xs).operations
+      + (counts_of lanes ys).operations
   pub muls : (counts_of lanes (xs ++ ys)).muls ≡ (counts_of lanes xs).muls + (counts_of lanes ys).muls
   pub loads : (counts_of lanes (xs ++ ys)).loads ≡ (counts_of lanes xs).loads + (counts_of lanes ys).loads
   pub stores : (counts_of lanes (xs ++ ys)).stores ≡ (counts_of lanes xs).stores + (counts_of lanes ys).stores
@@ -27,5 +28,7 @@ add-up lanes (x ∷ xs) ys = add-one lanes x xs ys (add-up lanes xs ys)
 apart : (a b x y k : ℕ) → a + b + k * (x + y) ≡ a + k * x + (b + k * y)
 apart a b x y k = omega arith
 
-pub weighted-append : (lanes weight : ℕ) (xs ys : List Action) → weighted weight (counts_of lanes (xs ++ ys)) ≡ weighted weight (counts_of lanes xs) + weighted weight (counts_of lanes ys)
+pub weighted-append : (lanes weight : ℕ) (xs ys : List Action) →
+    weighted weight (counts_of lanes (xs ++ ys)) ≡ weighted weight (counts_of lanes xs)
+    + weighted weight (counts_of lanes ys)
 weighted-append lanes weight xs ys = let both = add-up lanes xs ys in ap₂ (λ a b. a + (weight - 1) * b) both.operations both.muls ∙ apart _ _ _ _ (weight - 1)

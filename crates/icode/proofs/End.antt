@@ -1,10 +1,14 @@
 -- How a phase ends.
-use Rattle.std.proofs.Common.{◌≡◌, ℕ, zero, suc, ◌+◌, ◌/◌, ◌<◌, ◌≤◌, ◌≢◌, ◌⊎◌, List, [], ◌∷◌, ◌++◌, length, take, flat_map, Some, refl, sym, ap, ◌∙◌, subst, arith, inl, inr, ⊎_elim, Contains, get_or-set_same, get_or-set_other, set-set, append_assoc, append-nil, length-append, take_all, replicate, le_refl, le_of_eq}
+use Rattle.std.proofs.Common.{◌≡◌, ℕ, zero, suc, ◌+◌, ◌/◌, ◌<◌, ◌≤◌, ◌≢◌, ◌⊎◌, List, [], ◌∷◌, ◌++◌, length, take}
+use Rattle.std.proofs.Common.{flat_map, Some, refl, sym, ap, ◌∙◌, subst, arith, inl, inr, ⊎_elim, Contains}
+use Rattle.std.proofs.Common.{get_or-set_same, get_or-set_other, set-set, append_assoc, append-nil, length-append}
+use Rattle.std.proofs.Common.{take_all, replicate, le_refl, le_of_eq}
 use Rattle.std.specs.Prelude.{slice_get, slice_index, slice_index_or, slice_set}
 use Rattle.std.proofs.lemmas.Bool.{cases_eq, cases_lt}
 use Rattle.std.proofs.lemmas.List.{set-get_or, get_or_past, ext_get_or, get_or-replicate, length-replicate}
 use Rattle.icode.specs.declared.action.Action.{Action}
-use Rattle.icode.specs.Machine.{Code, IsCode, Local, Whole, acts, effect, effects, written_lines, IsApart, lines_of, stored_words, none_done, processor_alone, processors_alone}
+use Rattle.icode.specs.Machine.{Code, IsCode, Local, Whole, acts, effect, effects, written_lines, IsApart, lines_of}
+use Rattle.icode.specs.Machine.{stored_words, none_done, processor_alone, processors_alone}
 use Rattle.icode.proofs.Words.{same_from_slice_get}
 use Rattle.icode.proofs.Lines.{Contains_or_not, Contains-nil, touched_from_written}
 use Rattle.icode.proofs.Phase.{own, IsFollowed, IsFollowed-acted}
@@ -18,7 +22,8 @@ acts_past code is phase q h =
     (cases_lt phase (length code.lists))
 
 -- a line has a writer among the first n processors, or none
-writer_or_none : (code : Code) (phase line n : ℕ) → ((q : ℕ) × Contains (written_lines code phase q) line) ⊎ ((q : ℕ) → q < n → Contains (written_lines code phase q) line → ⊥)
+writer_or_none : (code : Code) (phase line n : ℕ) → ((q : ℕ) × Contains (written_lines code phase q) line)
+    ⊎ ((q : ℕ) → q < n → Contains (written_lines code phase q) line → ⊥)
 writer_or_none code phase line zero = inr (λ q lt h. omega arith)
 writer_or_none code phase line (suc n) =
     ⊎_elim
@@ -32,7 +37,9 @@ writer_or_none code phase line (suc n) =
     (writer_or_none code phase line n))
     (Contains_or_not (written_lines code phase n) line)
 
-none_at_all : (code : Code) (phase line : ℕ) → IsCode code → ((q : ℕ) → q < code.procs → Contains (written_lines code phase q) line → ⊥) → (q : ℕ) → Contains (written_lines code phase q) line → ⊥
+none_at_all : (code : Code) (phase line : ℕ) → IsCode code →
+    ((q : ℕ) → q < code.procs → Contains (written_lines code phase q) line → ⊥) → (q : ℕ) →
+    Contains (written_lines code phase q) line → ⊥
 none_at_all code phase line is none q h =
     ⊎_elim
     (λ (lt : q < code.procs). none q lt h)
@@ -43,13 +50,16 @@ none_at_all code phase line is none q h =
 pub record IsOver (code : Code) (phase : ℕ) (done : List ℕ) : Type 0 where
   pub each : (q : ℕ) → length (acts code phase q) ≤ slice_index done q
 
-own_over : (code : Code) (phase : ℕ) (m0 : List ℕ) (r0 : List (List ℕ)) (d e : List ℕ) (q : ℕ) → IsOver code phase d → IsOver code phase e → own code phase m0 r0 d q ≡ own code phase m0 r0 e q
+own_over : (code : Code) (phase : ℕ) (m0 : List ℕ) (r0 : List (List ℕ)) (d e : List ℕ) (q : ℕ) → IsOver code phase d →
+    IsOver code phase e → own code phase m0 r0 d q ≡ own code phase m0 r0 e q
 own_over code phase m0 r0 d e q over over' =
     ap (λ xs. effects code.modulus code.lanes xs (record { memory = m0; registers = slice_index_or r0 q [] }))
     (take_all (slice_index d q) (acts code phase q) (over.each q) ∙ sym (take_all (slice_index e q) (acts code phase q) (over'.each q)))
 
 -- all ways through a phase end alike
-pub same_memory : (code : Code) (phase : ℕ) (m0 : List ℕ) (r0 : List (List ℕ)) (m m' : List ℕ) (r r' : List (List ℕ)) (d d' : List ℕ) → IsCode code → IsOver code phase d → IsOver code phase d' → IsFollowed code phase m0 r0 m r d → IsFollowed code phase m0 r0 m' r' d' → m ≡ m'
+pub same_memory : (code : Code) (phase : ℕ) (m0 : List ℕ) (r0 : List (List ℕ)) (m m' : List ℕ) (r r' : List (List ℕ))
+    (d d' : List ℕ) → IsCode code → IsOver code phase d → IsOver code phase d' → IsFollowed code phase m0 r0 m r d →
+    IsFollowed code phase m0 r0 m' r' d' → m ≡ m'
 same_memory code phase m0 r0 m m' r r' d d' is over over' f f' =
     same_from_slice_get m m' (λ k. ⊎_elim
     (λ (w : (q : ℕ) × Contains (written_lines code phase q) (k / code.line)).
@@ -60,14 +70,18 @@ same_memory code phase m0 r0 m m' r r' d d' is over over' f f' =
     f.other_words k no ∙ sym (f'.other_words k no))
     (writer_or_none code phase (k / code.line) code.procs))
 
-pub same_registers : (code : Code) (phase : ℕ) (m0 : List ℕ) (r0 : List (List ℕ)) (m m' : List ℕ) (r r' : List (List ℕ)) (d d' : List ℕ) → IsOver code phase d → IsOver code phase d' → IsFollowed code phase m0 r0 m r d → IsFollowed code phase m0 r0 m' r' d' → r ≡ r'
+pub same_registers : (code : Code) (phase : ℕ) (m0 : List ℕ) (r0 : List (List ℕ)) (m m' : List ℕ) (r r' : List (List ℕ))
+    (d d' : List ℕ) → IsOver code phase d → IsOver code phase d' → IsFollowed code phase m0 r0 m r d →
+    IsFollowed code phase m0 r0 m' r' d' → r ≡ r'
 same_registers code phase m0 r0 m m' r r' d d' over over' f f' =
     ext_get_or [] r r' (f.files ∙ sym f'.files) (λ q lt.
     f.own_registers q ∙ (ap (λ (s : Local). s.registers) (own_over code phase m0 r0 d d' q over over') ∙ sym (f'.own_registers q)))
 
 -- One processor after another
 
-same_followed : (code : Code) (phase : ℕ) (m0 : List ℕ) (r0 : List (List ℕ)) (m m' : List ℕ) (r r' : List (List ℕ)) (d d' : List ℕ) → m ≡ m' → r ≡ r' → d ≡ d' → IsFollowed code phase m0 r0 m r d → IsFollowed code phase m0 r0 m' r' d'
+same_followed : (code : Code) (phase : ℕ) (m0 : List ℕ) (r0 : List (List ℕ)) (m m' : List ℕ) (r r' : List (List ℕ))
+    (d d' : List ℕ) → m ≡ m' → r ≡ r' → d ≡ d' → IsFollowed code phase m0 r0 m r d →
+    IsFollowed code phase m0 r0 m' r' d'
 same_followed code phase m0 r0 m m' r r' d d' em er ed f =
     subst (λ d. IsFollowed code phase m0 r0 m' r' d) ed
     (subst (λ r. IsFollowed code phase m0 r0 m' r d) er
@@ -107,7 +121,8 @@ slice_index-zeros n q = ⊎_elim (λ (lt : q < n). get_or-replicate n q 0 0 lt) 
 pub none_done-zero : (code : Code) (q : ℕ) → slice_index (none_done code) q ≡ 0
 none_done-zero code q = slice_index-zeros code.procs q
 
-pub followed_at_first : (code : Code) (phase : ℕ) (m : List ℕ) (r : List (List ℕ)) → length r ≡ code.procs → IsFollowed code phase m r m r (none_done code)
+pub followed_at_first : (code : Code) (phase : ℕ) (m : List ℕ) (r : List (List ℕ)) → length r ≡ code.procs →
+    IsFollowed code phase m r m r (none_done code)
 followed_at_first code phase m r e =
     let own_is : (q : ℕ) → own code phase m r (none_done code) q ≡ record { memory = m; registers = slice_index_or r q [] } =
     λ q. ap (λ n. effects code.modulus code.lanes (take n (acts code phase q)) (record { memory = m; registers = slice_index_or r q [] })) (none_done-zero code q) in
@@ -124,11 +139,16 @@ record IsDoneBelow (code : Code) (phase q : ℕ) (done : List ℕ) : Type 0 wher
   below : (j : ℕ) → j < q → length (acts code phase j) ≤ slice_index done j
   above : (j : ℕ) → q ≤ j → slice_index done j ≡ 0
 
-follows_processor : (code : Code) (phase : ℕ) (m0 : List ℕ) (r0 : List (List ℕ)) (q : ℕ) (w : Whole) (done : List ℕ) → IsApart code phase → q < code.procs → IsDoneBelow code phase q done → IsFollowed code phase m0 r0 w.memory w.registers done → IsFollowed code phase m0 r0 (processor_alone code phase q w).memory (processor_alone code phase q w).registers (slice_set done q (length (acts code phase q)))
+follows_processor : (code : Code) (phase : ℕ) (m0 : List ℕ) (r0 : List (List ℕ)) (q : ℕ) (w : Whole) (done : List ℕ) →
+    IsApart code phase → q < code.procs → IsDoneBelow code phase q done →
+    IsFollowed code phase m0 r0 w.memory w.registers done → IsFollowed code phase m0 r0
+    (processor_alone code phase q w).memory (processor_alone code phase q w).registers
+    (slice_set done q (length (acts code phase q)))
 follows_processor code phase m0 r0 q w done apart lt b f =
     follows_rest code phase m0 r0 q apart lt (acts code phase q) [] w.memory w.registers done refl (b.above q (le_refl q)) f
 
-done_one_more : (code : Code) (phase q : ℕ) (done : List ℕ) → q < length done → IsDoneBelow code phase q done → IsDoneBelow code phase (q + 1) (slice_set done q (length (acts code phase q)))
+done_one_more : (code : Code) (phase q : ℕ) (done : List ℕ) → q < length done → IsDoneBelow code phase q done →
+    IsDoneBelow code phase (q + 1) (slice_set done q (length (acts code phase q)))
 done_one_more code phase q done lt b =
     record {
       below = λ j h. ⊎_elim
@@ -139,7 +159,12 @@ done_one_more code phase q done lt b =
       above = λ j h. let ne : j ≢ q = omega arith in get_or-set_other done q j (length (acts code phase q)) 0 ne ∙ b.above j (omega arith);
     }
 
-follows_processors : (code : Code) (phase : ℕ) (m0 : List ℕ) (r0 : List (List ℕ)) → IsApart code phase → (n q : ℕ) (w : Whole) (done : List ℕ) → q + n ≤ code.procs → IsDoneBelow code phase q done → IsFollowed code phase m0 r0 w.memory w.registers done → (done' : List ℕ) × IsFollowed code phase m0 r0 (processors_alone code phase n q w).memory (processors_alone code phase n q w).registers done' × ((j : ℕ) → j < q + n → length (acts code phase j) ≤ slice_index done' j)
+follows_processors : (code : Code) (phase : ℕ) (m0 : List ℕ) (r0 : List (List ℕ)) → IsApart code phase →
+    (n q : ℕ) (w : Whole) (done : List ℕ) → q + n ≤ code.procs → IsDoneBelow code phase q done →
+    IsFollowed code phase m0 r0 w.memory w.registers done → (done' : List ℕ)
+    × IsFollowed code phase m0 r0 (processors_alone code phase n q w).memory
+    (processors_alone code phase n q w).registers done' × ((j : ℕ) → j < q + n →
+    length (acts code phase j) ≤ slice_index done' j)
 follows_processors code phase m0 r0 apart zero q w done le b f = (done, f, λ j h. b.below j (omega arith))
 follows_processors code phase m0 r0 apart (suc n) q w done le b f =
     let r = follows_processors code phase m0 r0 apart n (q + 1) (processor_alone code phase q w) (slice_set done q (length (acts code phase q))) (omega arith)

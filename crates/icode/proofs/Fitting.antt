@@ -1,5 +1,6 @@
 -- A test of what fits.
-use Rattle.std.proofs.Common.{◌≡◌, ℕ, zero, suc, ◌+◌, ◌<◌, ◌≤◌, ◌^◌, ◌⊎◌, inl, inr, List, [], ◌∷◌, Bool, true, false, ◌&&◌, All, length, refl, sym, ap, ◌∙◌, arith, ltb-true, leb-true, ⊎_elim}
+use Rattle.std.proofs.Common.{◌≡◌, ℕ, zero, suc, ◌+◌, ◌<◌, ◌≤◌, ◌^◌, ◌⊎◌, inl, inr, List, [], ◌∷◌, Bool, true, false}
+use Rattle.std.proofs.Common.{◌&&◌, All, length, refl, sym, ap, ◌∙◌, arith, ltb-true, leb-true, ⊎_elim}
 use Rattle.std.specs.Prelude.{nat_lt, nat_le, slice_index_or, ◌||◌}
 use Rattle.std.specs.List.{range_with_len, list_all}
 use Rattle.std.proofs.lemmas.Bool.{cases_lt}
@@ -41,13 +42,15 @@ either_true : (a b : Bool) → (a || b) ≡ true → (a ≡ true) ⊎ (b ≡ tru
 either_true true b e = inl refl
 either_true false b e = inr e
 
-all_pass : {X : Type 0} (P : X → Type 0) (f : X → Bool) → ((x : X) → f x ≡ true → P x) → (xs : List X) → list_all f xs ≡ true → All P xs
+all_pass : {X : Type 0} (P : X → Type 0) (f : X → Bool) → ((x : X) → f x ≡ true → P x) → (xs : List X) →
+    list_all f xs ≡ true → All P xs
 all_pass P f each [] h = All-nil P
 all_pass P f each (x ∷ xs) h =
     let two = both_true (f x) _ h in All-cons P x xs (each x two.0) (all_pass P f each xs two.1)
 
 -- what all numbers of a range pass, each does
-passes_in_range : (f : ℕ → Bool) (n first i : ℕ) → list_all f (range_with_len first n) ≡ true → i < n → f (first + i) ≡ true
+passes_in_range : (f : ℕ → Bool) (n first i : ℕ) → list_all f (range_with_len first n) ≡ true → i < n →
+    f (first + i) ≡ true
 passes_in_range f zero first i all lt = absurd (omega arith)
 passes_in_range f (suc n) first zero all lt = let z : first + 0 ≡ first = omega arith in ap f z ∙ (both_true (f first) _ all).0
 passes_in_range f (suc n) first (suc i) all lt =
@@ -110,7 +113,9 @@ fits_from_test p h =
       each = λ phase q small. ⊎_elim (λ (lt : phase < length p.phases). here two.1 phase q lt small) (λ (past : length p.phases ≤ phase). beyond phase q past) (cases_lt phase (length p.phases));
     }
   where
-    here : list_all (λ phase. list_all (λ q. list_all (step_fits p) (steps_of_phase p phase q)) (range_with_len 0 p.procs)) (range_with_len 0 (length p.phases)) ≡ true → (phase q : ℕ) → phase < length p.phases → q < p.procs → All (StepFits p) (steps_of_phase p phase q)
+    here : list_all (λ phase. list_all (λ q. list_all (step_fits p) (steps_of_phase p phase q))
+        (range_with_len 0 p.procs)) (range_with_len 0 (length p.phases)) ≡ true → (phase q : ℕ) →
+        phase < length p.phases → q < p.procs → All (StepFits p) (steps_of_phase p phase q)
     here all phase q lt small =
         let ze : (n : ℕ) → 0 + n ≡ n = λ n. omega arith in
         let of_phase = ap (λ k. list_all (λ q. list_all (step_fits p) (steps_of_phase p k q)) (range_with_len 0 p.procs)) (sym (ze phase))
@@ -125,7 +130,8 @@ fits_from_test p h =
         λ k d lt. absurd (omega (arith, ap length none))
 
 -- a program whose statements stand for no action, whatever the counts of its loops
-pub fits_without_actions : (p : PlainProgram) → ((phase : ℕ) → len_of_body (slice_index_or p.phases phase NoStmts) ≡ 0) → PlainFits p
+pub fits_without_actions : (p : PlainProgram) → ((phase : ℕ) → len_of_body (slice_index_or p.phases phase NoStmts) ≡ 0)
+    → PlainFits p
 fits_without_actions p none =
     record {
       few = small (length p.phases) p.procs (λ phase q. length (steps_of_phase p phase q)) here;

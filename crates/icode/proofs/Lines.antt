@@ -1,5 +1,6 @@
 -- Which lines a list's actions name.
-use Rattle.std.proofs.Common.{◌≡◌, ℕ, zero, suc, ◌+◌, ◌/◌, ◌<◌, ◌≤◌, ◌⊎◌, List, [], ◌∷◌, map, flat_map, Some, refl, sym, ap, ◌∙◌, subst, arith, inl, inr, ⊎_elim, Contains}
+use Rattle.std.proofs.Common.{◌≡◌, ℕ, zero, suc, ◌+◌, ◌/◌, ◌<◌, ◌≤◌, ◌⊎◌, List, [], ◌∷◌, map, flat_map, Some, refl, sym}
+use Rattle.std.proofs.Common.{ap, ◌∙◌, subst, arith, inl, inr, ⊎_elim, Contains}
 use Rattle.std.specs.Prelude.{slice_get}
 use Rattle.std.specs.List.{range_with_len}
 use Rattle.std.proofs.Math.Nat.{eq-or-lt_of_le}
@@ -46,7 +47,8 @@ Contains-range (suc n) i k a b =
 pub Contains-map : {X Y : Type 0} (f : X → Y) (xs : List X) (x : X) → Contains xs x → Contains (map f xs) (f x)
 Contains-map f xs x h = (h.0, rw length-map h.1, get_or-map f xs h.0 x ∙ ap f h.2)
 
-pub Contains-flat_map : {X Y : Type 0} (f : X → List Y) (xs : List X) (n : ℕ) (x : X) (y : Y) → slice_get xs n ≡ Some x → Contains (f x) y → Contains (flat_map f xs) y
+pub Contains-flat_map : {X Y : Type 0} (f : X → List Y) (xs : List X) (n : ℕ) (x : X) (y : Y) →
+    slice_get xs n ≡ Some x → Contains (f x) y → Contains (flat_map f xs) y
 Contains-flat_map f [] n x y e h = cc
 Contains-flat_map f (z ∷ xs) zero x y e h =
     let same : z ≡ x = cc in
@@ -55,22 +57,27 @@ Contains-flat_map f (z ∷ xs) (suc n) x y e h =
     Contains-append_right (f z) (flat_map f xs) y (Contains-flat_map f xs n x y e h)
 
 -- the lines of the words that an action touches
-pub touches : (code : Code) (phase q n k : ℕ) (a : Action) → slice_get (acts code phase q) n ≡ Some a → Contains (touched_words code.lanes a) k → Contains (touched_lines code phase q) (k / code.line)
+pub touches : (code : Code) (phase q n k : ℕ) (a : Action) → slice_get (acts code phase q) n ≡ Some a →
+    Contains (touched_words code.lanes a) k → Contains (touched_lines code phase q) (k / code.line)
 touches code phase q n k a e h =
     Contains-flat_map (λ a. lines_of code.line (touched_words code.lanes a)) (acts code phase q) n a (k / code.line) e
     (Contains-map (λ k. k / code.line) (touched_words code.lanes a) k h)
 
-pub writes : (code : Code) (phase q n k : ℕ) (a : Action) → slice_get (acts code phase q) n ≡ Some a → Contains (stored_words code.lanes a) k → Contains (written_lines code phase q) (k / code.line)
+pub writes : (code : Code) (phase q n k : ℕ) (a : Action) → slice_get (acts code phase q) n ≡ Some a →
+    Contains (stored_words code.lanes a) k → Contains (written_lines code phase q) (k / code.line)
 writes code phase q n k a e h =
     Contains-flat_map (λ a. lines_of code.line (stored_words code.lanes a)) (acts code phase q) n a (k / code.line) e
     (Contains-map (λ k. k / code.line) (stored_words code.lanes a) k h)
 
 -- a line that is written is touched
-touched_by : (code : Code) (a : Action) (line : ℕ) → Contains (lines_of code.line (stored_words code.lanes a)) line → Contains (lines_of code.line (touched_words code.lanes a)) line
+touched_by : (code : Code) (a : Action) (line : ℕ) → Contains (lines_of code.line (stored_words code.lanes a)) line →
+    Contains (lines_of code.line (touched_words code.lanes a)) line
 touched_by code (Store address r) line h = h
 touched_by code _ line h = absurd (Contains-nil line h)
 
-touched_by_all : (code : Code) (actions : List Action) (line : ℕ) → Contains (flat_map (λ a. lines_of code.line (stored_words code.lanes a)) actions) line → Contains (flat_map (λ a. lines_of code.line (touched_words code.lanes a)) actions) line
+touched_by_all : (code : Code) (actions : List Action) (line : ℕ) →
+    Contains (flat_map (λ a. lines_of code.line (stored_words code.lanes a)) actions) line →
+    Contains (flat_map (λ a. lines_of code.line (touched_words code.lanes a)) actions) line
 touched_by_all code [] line h = h
 touched_by_all code (a ∷ actions) line h =
     ⊎_elim
@@ -78,5 +85,6 @@ touched_by_all code (a ∷ actions) line h =
     (λ (more : Contains (flat_map (λ a. lines_of code.line (stored_words code.lanes a)) actions) line). Contains-append_right (lines_of code.line (touched_words code.lanes a)) _ line (touched_by_all code actions line more))
     (Contains-append_cases (lines_of code.line (stored_words code.lanes a)) _ line h)
 
-pub touched_from_written : (code : Code) (phase q line : ℕ) → Contains (written_lines code phase q) line → Contains (touched_lines code phase q) line
+pub touched_from_written : (code : Code) (phase q line : ℕ) → Contains (written_lines code phase q) line →
+    Contains (touched_lines code phase q) line
 touched_from_written code phase q line h = touched_by_all code (acts code phase q) line h

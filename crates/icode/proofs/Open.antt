@@ -1,5 +1,9 @@
 -- Open phases: what turns keep of them, and that the completion ends each.
-use Rattle.std.proofs.Common.{◌≡◌, ℕ, zero, suc, ◌+◌, ◌-◌, ◌<◌, ◌≤◌, ◌⊎◌, List, [], ◌∷◌, ◌++◌, Bool, true, false, cond, ◌||◌, length, take, flat_map, get_or, replicate, Option, Some, None, refl, sym, ap, ◌∙◌, subst, arith, inl, inr, ⊎_elim, get_or-set_same, get_or-set_other, length-set, nat_lt, nat_eq, ltb-true, ltb-false, lt-ltb, le_refl, le_trans, le_of_eq, eq-eqb, ne_eqb, append-nil, suc-le-suc}
+use Rattle.std.proofs.Common.{◌≡◌, ℕ, zero, suc, ◌+◌, ◌-◌, ◌<◌, ◌≤◌, ◌⊎◌, List, [], ◌∷◌, ◌++◌, Bool, true, false, cond}
+use Rattle.std.proofs.Common.{◌||◌, length, take, flat_map, get_or, replicate, Option, Some, None, refl, sym, ap, ◌∙◌}
+use Rattle.std.proofs.Common.{subst, arith, inl, inr, ⊎_elim, get_or-set_same, get_or-set_other, length-set, nat_lt}
+use Rattle.std.proofs.Common.{nat_eq, ltb-true, ltb-false, lt-ltb, le_refl, le_trans, le_of_eq, eq-eqb, ne_eqb}
+use Rattle.std.proofs.Common.{append-nil, suc-le-suc}
 use Rattle.std.specs.Prelude.{◌↔◌, IsSome, IsNone, slice_get, slice_index, slice_index_or, slice_set}
 use Rattle.std.specs.List.{range_with_len, list_any}
 use Rattle.std.proofs.lemmas.Bool.{cases_eq, cases_lt, cases_Bool, false≢true}
@@ -9,7 +13,9 @@ use Rattle.std.proofs.lemmas.List.FromFn.{length-range_with_len, get_or-range_wi
 use Rattle.icode.specs.declared.action.Action.{Action}
 use Rattle.icode.specs.declared.event.Turned.TheVariants.{Did, Waits, Done}
 use Rattle.icode.specs.Laws.{SomeActs}
-use Rattle.icode.specs.Machine.{Code, IsCode, State, acts, is_open, none_done, next_action, first_open, phases_after, moved_on, acted, turn_with, turn, run, rest_of_phase, whole_phases, completion, finished, start, runs, answer, answer_with, counts_of, counts_so_far, whole_counts}
+use Rattle.icode.specs.Machine.{Code, IsCode, State, acts, is_open, none_done, next_action, first_open, phases_after}
+use Rattle.icode.specs.Machine.{moved_on, acted, turn_with, turn, run, rest_of_phase, whole_phases, completion}
+use Rattle.icode.specs.Machine.{finished, start, runs, answer, answer_with, counts_of, counts_so_far, whole_counts}
 use Rattle.icode.proofs.End.{IsOver, acts_past, none_done-zero}
 
 -- Open phases
@@ -25,14 +31,16 @@ passing p (x ∷ xs) e =
     or_false : (a b : Bool) → a ≡ false → (a || b) ≡ b
     or_false a b e = rw e
 
-pub open_at : (code : Code) (phase : ℕ) (done : List ℕ) (q : ℕ) → q < code.procs → slice_index done q < length (acts code phase q) → is_open code phase done ≡ true
+pub open_at : (code : Code) (phase : ℕ) (done : List ℕ) (q : ℕ) → q < code.procs →
+    slice_index done q < length (acts code phase q) → is_open code phase done ≡ true
 open_at code phase done q lt left =
     list_any_at (λ q. nat_lt (slice_index done q) (length (acts code phase q))) (range_with_len 0 code.procs) q 0
     (rw length-range_with_len lt)
     (ap (λ q. nat_lt (slice_index done q) (length (acts code phase q))) (get_or-range_with_len 0 code.procs q 0 lt ∙ omega arith) ∙ lt-ltb _ _ left)
 
 -- where no processor has an action left, the phase isn't open
-pub not_open : (code : Code) (phase : ℕ) (done : List ℕ) → ((q : ℕ) → q < code.procs → nat_lt (slice_index done q) (length (acts code phase q)) ≡ false) → is_open code phase done ≡ false
+pub not_open : (code : Code) (phase : ℕ) (done : List ℕ) → ((q : ℕ) → q < code.procs →
+    nat_lt (slice_index done q) (length (acts code phase q)) ≡ false) → is_open code phase done ≡ false
 not_open code phase done none =
     let p : ℕ → Bool = λ q. nat_lt (slice_index done q) (length (acts code phase q)) in
     list_any_none p (range_with_len 0 code.procs) (λ k d lt.
@@ -41,7 +49,8 @@ not_open code phase done none =
     ap p here ∙ none k within)
 
 -- a phase that is not open is over
-pub closed_over : (code : Code) → IsCode code → (phase : ℕ) (done : List ℕ) → is_open code phase done ≡ false → IsOver code phase done
+pub closed_over : (code : Code) → IsCode code → (phase : ℕ) (done : List ℕ) → is_open code phase done ≡ false →
+    IsOver code phase done
 closed_over code is phase done e =
     record {
       each = λ q. ⊎_elim
@@ -53,7 +62,8 @@ closed_over code is phase done e =
           (cases_lt q code.procs);
     }
 
-pub open_not_over : (code : Code) (phase : ℕ) (done : List ℕ) → is_open code phase done ≡ true → IsOver code phase done → ⊥
+pub open_not_over : (code : Code) (phase : ℕ) (done : List ℕ) → is_open code phase done ≡ true →
+    IsOver code phase done → ⊥
 open_not_over code phase done e over =
     let some = passing (λ q. nat_lt (slice_index done q) (length (acts code phase q))) (range_with_len 0 code.procs) e in
     let left : slice_index done some.0 < length (acts code phase some.0) = ltb-true _ _ some.1 in
@@ -64,10 +74,12 @@ past_over code phase done ge = record { each = λ q. subst (λ (actions : List A
 
 -- The first open phase
 
-pub first_open-open : (code : Code) (n phase : ℕ) → is_open code phase (none_done code) ≡ true → first_open code (suc n) phase ≡ phase
+pub first_open-open : (code : Code) (n phase : ℕ) → is_open code phase (none_done code) ≡ true →
+    first_open code (suc n) phase ≡ phase
 first_open-open code n phase e = ap (λ b. cond b phase (first_open code n (phase + 1))) e
 
-pub first_open-closed : (code : Code) (n phase : ℕ) → is_open code phase (none_done code) ≡ false → first_open code (suc n) phase ≡ first_open code n (phase + 1)
+pub first_open-closed : (code : Code) (n phase : ℕ) → is_open code phase (none_done code) ≡ false →
+    first_open code (suc n) phase ≡ first_open code n (phase + 1)
 first_open-closed code n phase e = ap (λ b. cond b phase (first_open code n (phase + 1))) e
 
 -- it lies within the phases and is open unless it is past them
@@ -95,7 +107,8 @@ pub record IsSettled (code : Code) (s : State) : Type 0 where
   pub opens : s.phase < length code.lists → is_open code s.phase s.done ≡ true
 
 -- who has an action left is a processor, in a phase of the code
-pub has_action : (code : Code) → IsCode code → (phase q n : ℕ) (a : Action) → slice_get (acts code phase q) n ≡ Some a → (q < code.procs) × (phase < length code.lists)
+pub has_action : (code : Code) → IsCode code → (phase q n : ℕ) (a : Action) → slice_get (acts code phase q) n ≡ Some a →
+    (q < code.procs) × (phase < length code.lists)
 has_action code is phase q n a e =
     let none : (actions : List Action) → actions ≡ [] → slice_get actions n ≡ Some a → ⊥ = λ actions z h. none_of actions n a z h in (
       ⊎_elim (λ (lt : q < code.procs). lt) (λ (ge : code.procs ≤ q). absurd (none (acts code phase q) (acts_past code is phase q ge) e)) (cases_lt q code.procs),
@@ -130,7 +143,8 @@ module _ (code : Code) (is : IsCode code) where
   unfolding next_state
   moved_on-closed s e = ap (λ b. cond b s (next_state code s)) e
 
-  moved_on_settled : (s : State) → s.phase < length code.lists → length s.done ≡ code.procs → IsSettled code (moved_on code s)
+  moved_on_settled : (s : State) → s.phase < length code.lists → length s.done ≡ code.procs →
+      IsSettled code (moved_on code s)
   unfolding next_state
   moved_on_settled s lt dones =
       ⊎_elim
@@ -201,7 +215,8 @@ module _ (code : Code) (is : IsCode code) where
   turns_of-replicate q zero = refl
   turns_of-replicate q (suc n) = rw (eq-eqb q q refl) (omega (arith, turns_of-replicate q n))
 
-  turns_of-flat_map : (g : ℕ → ℕ) (q n first : ℕ) → first ≤ q → q < first + n → g q ≤ turns_of q (flat_map (λ p. replicate (g p) p) (range_with_len first n))
+  turns_of-flat_map : (g : ℕ → ℕ) (q n first : ℕ) → first ≤ q → q < first + n →
+      g q ≤ turns_of q (flat_map (λ p. replicate (g p) p) (range_with_len first n))
   turns_of-flat_map g q zero first low high = absurd (omega arith)
   turns_of-flat_map g q (suc n) first low high =
       ⊎_elim
@@ -209,7 +224,8 @@ module _ (code : Code) (is : IsCode code) where
       (λ (ne : first ≡ q → ⊥). omega (arith, turns_of-append q (replicate (g first) first) (flat_map (λ p. replicate (g p) p) (range_with_len (first + 1) n)), turns_of-flat_map g q n (first + 1) (omega arith) (omega arith)))
       (cases_eq first q)
 
-  rest_is_enough : (phase : ℕ) (done : List ℕ) (q : ℕ) → length (acts code phase q) ≤ slice_index done q + turns_of q (rest_of_phase code phase done)
+  rest_is_enough : (phase : ℕ) (done : List ℕ) (q : ℕ) → length (acts code phase q) ≤ slice_index done q
+      + turns_of q (rest_of_phase code phase done)
   rest_is_enough phase done q =
       ⊎_elim
       (λ (lt : q < code.procs). omega (arith, turns_of-flat_map (λ p. length (acts code phase p) - slice_index done p) q code.procs 0 (omega arith) (omega arith)))
@@ -226,7 +242,8 @@ module _ (code : Code) (is : IsCode code) where
   other_turn : (p q : ℕ) → (p ≡ q → ⊥) → one_if (nat_eq p q) ≡ 0
   other_turn p q ne = ap one_if (ne_eqb p q ne)
 
-  turn_leaves : (s : State) (p : ℕ) (turns : List ℕ) → length s.done ≡ code.procs → HasEnough s s.phase (p ∷ turns) → (s.phase < (turn code s p).phase) ⊎ (((turn code s p).phase ≡ s.phase) × HasEnough (turn code s p) s.phase turns)
+  turn_leaves : (s : State) (p : ℕ) (turns : List ℕ) → length s.done ≡ code.procs → HasEnough s s.phase (p ∷ turns) →
+      (s.phase < (turn code s p).phase) ⊎ (((turn code s p).phase ≡ s.phase) × HasEnough (turn code s p) s.phase turns)
   turn_leaves s p turns dones enough = with_action (next_action code s p) refl
     where
       acted_enough : (a : Action) → p < code.procs → HasEnough (acted code p a s) s.phase turns
@@ -237,7 +254,9 @@ module _ (code : Code) (is : IsCode code) where
             (cases_eq p q);
       }
 
-      with_action : (o : Option Action) → next_action code s p ≡ o → (s.phase < (turn_with code p s o).phase) ⊎ (((turn_with code p s o).phase ≡ s.phase) × HasEnough (turn_with code p s o) s.phase turns)
+      with_action : (o : Option Action) → next_action code s p ≡ o →
+          (s.phase < (turn_with code p s o).phase) ⊎ (((turn_with code p s o).phase ≡ s.phase)
+          × HasEnough (turn_with code p s o) s.phase turns)
       with_action None e = inr (
         refl,
         record {
@@ -257,7 +276,8 @@ module _ (code : Code) (is : IsCode code) where
           (cases_Bool (is_open code s.phase (acted code p a s).done))
 
   -- a phase is left once each processor has had as many turns as it has actions left
-  phase_left : (turns : List ℕ) (s : State) → IsSettled code s → s.phase < length code.lists → HasEnough s s.phase turns → s.phase < (run code s turns).phase
+  phase_left : (turns : List ℕ) (s : State) → IsSettled code s → s.phase < length code.lists →
+      HasEnough s s.phase turns → s.phase < (run code s turns).phase
   phase_left [] s o lt enough =
       absurd (open_not_over code s.phase s.done (o.opens lt) (record { each = λ q. omega (arith, enough.each q) }))
   phase_left (p ∷ turns) s o lt enough =
@@ -272,7 +292,8 @@ module _ (code : Code) (is : IsCode code) where
       (turn_leaves s p turns o.dones enough)
 
   -- so the completion leaves every phase
-  whole_phases_end : (n phase : ℕ) (s : State) → IsSettled code s → n + phase ≡ length code.lists → phase ≤ s.phase → length code.lists ≤ (run code s (whole_phases code n phase)).phase
+  whole_phases_end : (n phase : ℕ) (s : State) → IsSettled code s → n + phase ≡ length code.lists → phase ≤ s.phase →
+      length code.lists ≤ (run code s (whole_phases code n phase)).phase
   whole_phases_end zero phase s o all low = omega (arith)
   whole_phases_end (suc n) phase s o all low =
       let rest : List ℕ = rest_of_phase code phase (none_done code) in
@@ -349,7 +370,8 @@ module _ (code : Code) (is : IsCode code) where
       at None e some = absurd (false≢true some)
       at (Some a) e some = (has_action code is s.phase q (slice_index s.done q) a e).1
 
-  pub phases_open : (x turns : List ℕ) → (run code (start code x) turns).phase < length code.lists → is_open code (run code (start code x) turns).phase (run code (start code x) turns).done ≡ true
+  pub phases_open : (x turns : List ℕ) → (run code (start code x) turns).phase < length code.lists →
+      is_open code (run code (start code x) turns).phase (run code (start code x) turns).done ≡ true
   phases_open x turns = (run_settled code is turns (start code x) (starts_settled code is x)).opens
 
   -- past all phases no processor has an action left
@@ -360,7 +382,8 @@ module _ (code : Code) (is : IsCode code) where
       at None e = refl
       at (Some a) e = absurd (omega (arith, past, (has_action code is s.phase q (slice_index s.done q) a e).1))
 
-  waits_exactly : (s : State) (q : ℕ) → IsSettled code s → (answer code s q ≡ Waits) ↔ (IsNone (next_action code s q) × SomeActs code s)
+  waits_exactly : (s : State) (q : ℕ) → IsSettled code s → (answer code s q ≡ Waits) ↔
+      (IsNone (next_action code s q) × SomeActs code s)
   waits_exactly s q settled = at (next_action code s q)
     where
       waiting : (b : Bool) → nat_lt s.phase (length code.lists) ≡ b → (cond b Waits Done ≡ Waits) ↔ SomeActs code s
@@ -377,10 +400,12 @@ module _ (code : Code) (is : IsCode code) where
           did_waits e = cc
       at None = let w = waiting (nat_lt s.phase (length code.lists)) refl in (λ e. (refl, w.0 e), λ h. w.1 h.1)
 
-  done_exactly : (s : State) (q : ℕ) → IsSettled code s → (answer code s q ≡ Done) ↔ ((p : ℕ) → IsNone (next_action code s p))
+  done_exactly : (s : State) (q : ℕ) → IsSettled code s → (answer code s q ≡ Done) ↔ ((p : ℕ) →
+      IsNone (next_action code s p))
   done_exactly s q settled = at (next_action code s q) refl
     where
-      over : (b : Bool) → nat_lt s.phase (length code.lists) ≡ b → (cond b Waits Done ≡ Done) ↔ ((p : ℕ) → IsNone (next_action code s p))
+      over : (b : Bool) → nat_lt s.phase (length code.lists) ≡ b →
+          (cond b Waits Done ≡ Done) ↔ ((p : ℕ) → IsNone (next_action code s p))
       over true e = (λ h. absurd (waits_done h), λ none. absurd (both (open_acts s (settled.opens (ltb-true _ _ e))) none))
         where
           waits_done : Waits ≡ Done → ⊥
@@ -394,7 +419,8 @@ module _ (code : Code) (is : IsCode code) where
               some_or_none (Some a) some none = false≢true (sym none)
       over false e = (λ _. none_acts s (ltb-false _ _ e), λ _. refl)
 
-      at : (o : Option Action) → next_action code s q ≡ o → (answer_with code s o ≡ Done) ↔ ((p : ℕ) → IsNone (next_action code s p))
+      at : (o : Option Action) → next_action code s q ≡ o → (answer_with code s o ≡ Done) ↔ ((p : ℕ) →
+          IsNone (next_action code s p))
       at (Some a) e = (λ h. absurd (did_done h), λ none. absurd (some_none (subst IsNone e (none q))))
         where
           did_done : Did a ≡ Done → ⊥
@@ -404,8 +430,10 @@ module _ (code : Code) (is : IsCode code) where
           some_none h = false≢true (sym h)
       at None e = over (nat_lt s.phase (length code.lists)) refl
 
-  pub waits_for : (x turns : List ℕ) (q : ℕ) → (answer code (run code (start code x) turns) q ≡ Waits) ↔ (IsNone (next_action code (run code (start code x) turns) q) × SomeActs code (run code (start code x) turns))
+  pub waits_for : (x turns : List ℕ) (q : ℕ) → (answer code (run code (start code x) turns) q ≡ Waits) ↔
+      (IsNone (next_action code (run code (start code x) turns) q) × SomeActs code (run code (start code x) turns))
   waits_for x turns q = waits_exactly (run code (start code x) turns) q (run_settled code is turns (start code x) (starts_settled code is x))
 
-  pub done_where : (x turns : List ℕ) (q : ℕ) → (answer code (run code (start code x) turns) q ≡ Done) ↔ ((p : ℕ) → IsNone (next_action code (run code (start code x) turns) p))
+  pub done_where : (x turns : List ℕ) (q : ℕ) → (answer code (run code (start code x) turns) q ≡ Done) ↔ ((p : ℕ) →
+      IsNone (next_action code (run code (start code x) turns) p))
   done_where x turns q = done_exactly (run code (start code x) turns) q (run_settled code is turns (start code x) (starts_settled code is x))

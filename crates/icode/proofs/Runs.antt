@@ -1,19 +1,26 @@
 -- Whole runs: every list of turns, completed, ends as one processor after another does.
-use Rattle.std.proofs.Common.{◌≡◌, ℕ, zero, suc, ◌+◌, ◌-◌, ◌*◌, ◌<◌, ◌≤◌, List, [], ◌∷◌, true, false, length, replicate, Option, Some, None, refl, sym, ap, ◌∙◌, subst, arith, ⊎_elim}
+use Rattle.std.proofs.Common.{◌≡◌, ℕ, zero, suc, ◌+◌, ◌-◌, ◌*◌, ◌<◌, ◌≤◌, List, [], ◌∷◌, true, false, length, replicate}
+use Rattle.std.proofs.Common.{Option, Some, None, refl, sym, ap, ◌∙◌, subst, arith, ⊎_elim}
 use Rattle.std.specs.Prelude.{slice_index}
 use Rattle.std.proofs.lemmas.Bool.{cases_Bool}
 use Rattle.std.proofs.lemmas.List.{length-replicate}
 use Rattle.icode.specs.declared.action.Action.{Action}
-use Rattle.icode.specs.Machine.{Code, IsCode, Whole, State, is_open, none_done, next_action, first_open, phases_after, moved_on, acted, turn_with, turn, run, IsApart, completion, finished, start, runs, processors_alone, phases_alone, in_order}
+use Rattle.icode.specs.Machine.{Code, IsCode, Whole, State, is_open, none_done, next_action, first_open, phases_after}
+use Rattle.icode.specs.Machine.{moved_on, acted, turn_with, turn, run, IsApart, completion, finished, start, runs}
+use Rattle.icode.specs.Machine.{processors_alone, phases_alone, in_order}
 use Rattle.icode.proofs.Phase.{IsFollowed, IsFollowed-acted}
 use Rattle.icode.proofs.End.{same_memory, followed_at_first, phase_end}
-pub use Rattle.icode.proofs.Open.{open_at, not_open, closed_over, past_over, first_open-open, first_open-closed, has_action, none_left, counts_of_runs}
-use Rattle.icode.proofs.Open.{first_is, next_state, moved_on-open, moved_on-closed, run_settled, starts_settled, completion_ends}
+pub use Rattle.icode.proofs.Open.{open_at, not_open, closed_over, past_over, first_open-open, first_open-closed}
+pub use Rattle.icode.proofs.Open.{has_action, none_left, counts_of_runs}
+use Rattle.icode.proofs.Open.{first_is, next_state, moved_on-open, moved_on-closed, run_settled, starts_settled}
+use Rattle.icode.proofs.Open.{completion_ends}
 
 -- The first open phase
 
 -- what comes before it changes nothing
-first_skips : (code : Code) → IsCode code → ((phase : ℕ) → IsApart code phase) → (n phase : ℕ) (w : Whole) → length w.registers ≡ code.procs → phases_alone code n phase w ≡ phases_alone code (n + phase - first_open code n phase) (first_open code n phase) w
+first_skips : (code : Code) → IsCode code → ((phase : ℕ) → IsApart code phase) → (n phase : ℕ) (w : Whole) →
+    length w.registers ≡ code.procs → phases_alone code n phase w
+    ≡ phases_alone code (n + phase - first_open code n phase) (first_open code n phase) w
 first_skips code is apart zero phase w files =
     let e : 0 + phase - phase ≡ 0 = omega arith in
     ap (λ k. phases_alone code k phase w) (sym e)
@@ -41,7 +48,8 @@ pub record IsOnTheWay (code : Code) (result : Whole) (s : State) : Type 0 where
   pub leads : phases_alone code (length code.lists - s.phase) s.phase base ≡ result
 
 module _ (code : Code) (is : IsCode code) (apart : (phase : ℕ) → IsApart code phase) where
-  next_on_the_way : (result : Whole) (s : State) → s.phase < length code.lists → is_open code s.phase s.done ≡ false → IsOnTheWay code result s → IsOnTheWay code result (next_state code s)
+  next_on_the_way : (result : Whole) (s : State) → s.phase < length code.lists → is_open code s.phase s.done ≡ false →
+      IsOnTheWay code result s → IsOnTheWay code result (next_state code s)
   unfolding next_state
   next_on_the_way result s lt e g =
       let n : ℕ = phases_after code s.phase in
@@ -62,14 +70,16 @@ module _ (code : Code) (is : IsCode code) (apart : (phase : ℕ) → IsApart cod
             ∙ (ap (λ k. phases_alone code k s.phase g.base) (sym more) ∙ g.leads)));
       }
 
-  pub moved_on_the_way : (result : Whole) (s : State) → s.phase < length code.lists → IsOnTheWay code result s → IsOnTheWay code result (moved_on code s)
+  pub moved_on_the_way : (result : Whole) (s : State) → s.phase < length code.lists → IsOnTheWay code result s →
+      IsOnTheWay code result (moved_on code s)
   moved_on_the_way result s lt g =
       ⊎_elim
       (λ (e : is_open code s.phase s.done ≡ true). subst (IsOnTheWay code result) (sym (moved_on-open code is s e)) g)
       (λ (e : is_open code s.phase s.done ≡ false). subst (IsOnTheWay code result) (sym (moved_on-closed code is s e)) (next_on_the_way result s lt e g))
       (cases_Bool (is_open code s.phase s.done))
 
-  turn_on_the_way : (result : Whole) (s : State) (q : ℕ) → IsOnTheWay code result s → IsOnTheWay code result (turn code s q)
+  turn_on_the_way : (result : Whole) (s : State) (q : ℕ) → IsOnTheWay code result s →
+      IsOnTheWay code result (turn code s q)
   turn_on_the_way result s q g = with_action (next_action code s q) refl
     where
       with_action : (o : Option Action) → next_action code s q ≡ o → IsOnTheWay code result (turn_with code q s o)
@@ -85,12 +95,14 @@ module _ (code : Code) (is : IsCode code) (apart : (phase : ℕ) → IsApart cod
             follows = IsFollowed-acted code s.phase g.base.memory g.base.registers s.memory s.registers s.done q a (apart s.phase) h.0 e g.follows;
           })
 
-  run_on_the_way : (result : Whole) (turns : List ℕ) (s : State) → IsOnTheWay code result s → IsOnTheWay code result (run code s turns)
+  run_on_the_way : (result : Whole) (turns : List ℕ) (s : State) → IsOnTheWay code result s →
+      IsOnTheWay code result (run code s turns)
   run_on_the_way result [] s g = g
   run_on_the_way result (q ∷ turns) s g = run_on_the_way result turns (turn code s q) (turn_on_the_way result s q g)
 
   -- where it ends
-  pub at_end : (result : Whole) (s : State) → length code.lists ≤ s.phase → IsOnTheWay code result s → s.memory ≡ result.memory
+  pub at_end : (result : Whole) (s : State) → length code.lists ≤ s.phase → IsOnTheWay code result s →
+      s.memory ≡ result.memory
   at_end result s ge g =
       let none : length code.lists - s.phase ≡ 0 = omega arith in
       same_memory code s.phase g.base.memory g.base.registers s.memory g.base.memory s.registers g.base.registers s.done (none_done code) is (past_over code s.phase s.done ge) (past_over code s.phase (none_done code) ge) g.follows (followed_at_first code s.phase g.base.memory g.base.registers g.files)

@@ -1,5 +1,7 @@
 -- Registers that are transposed one word after another.
-use Rattle.std.proofs.Common.{◌≡◌, ◌⊎◌, inl, inr, Option, None, length-append, ℕ, zero, suc, ◌+◌, ◌*◌, ◌<◌, ◌≤◌, List, [], ◌∷◌, length, take, map, flat_map, get_or, Some, refl, sym, ap, ap₂, ◌∙◌, arith, ⊎_elim, length-take-le, mul-le-mul_left}
+use Rattle.std.proofs.Common.{◌≡◌, ◌⊎◌, inl, inr, Option, None, length-append, ℕ, zero, suc, ◌+◌, ◌*◌, ◌<◌, ◌≤◌, List}
+use Rattle.std.proofs.Common.{[], ◌∷◌, length, take, map, flat_map, get_or, Some, refl, sym, ap, ap₂, ◌∙◌, arith}
+use Rattle.std.proofs.Common.{⊎_elim, length-take-le, mul-le-mul_left}
 use Rattle.std.specs.Prelude.{slice_get, slice_index, slice_set}
 use Rattle.std.specs.List.{range_with_len}
 use Rattle.std.proofs.lemmas.List.{take_more, length-map}
@@ -12,7 +14,8 @@ length-range : (n first : ℕ) → length (range_with_len first n) ≡ n
 length-range zero first = refl
 length-range (suc n) first = ap suc (length-range n (first + 1))
 
-slice_get-map_range : (f : ℕ → ℕ) (n first i : ℕ) → i < n → slice_get (map f (range_with_len first n)) i ≡ Some (f (first + i))
+slice_get-map_range : (f : ℕ → ℕ) (n first i : ℕ) → i < n → slice_get (map f (range_with_len first n)) i
+    ≡ Some (f (first + i))
 slice_get-map_range f zero first i lt = absurd (omega arith)
 slice_get-map_range f (suc n) first zero lt = ap (λ k. Some (f k)) (omega arith)
 slice_get-map_range f (suc n) first (suc i) lt = slice_get-map_range f n (first + 1) i (omega arith) ∙ ap (λ k. Some (f k)) (omega arith)
@@ -34,7 +37,9 @@ some_is (x ∷ xs) zero v e = same x v e
     same x v e = cc
 some_is (x ∷ xs) (suc i) v e = some_is xs i v e
 
-transposed-at : (lanes : ℕ) (registers : List ℕ) (source row lane : ℕ) → row < lanes → lane < lanes → slice_index (transposed lanes registers source) (row * lanes + lane) ≡ slice_index registers ((source + lane) * lanes + row)
+transposed-at : (lanes : ℕ) (registers : List ℕ) (source row lane : ℕ) → row < lanes → lane < lanes →
+    slice_index (transposed lanes registers source) (row * lanes + lane)
+    ≡ slice_index registers ((source + lane) * lanes + row)
 transposed-at lanes registers source row lane row_lt lane_lt =
     let zr : 0 + row ≡ row = omega arith in
     let zl : 0 + lane ≡ lane = omega arith in
@@ -44,7 +49,8 @@ transposed-at lanes registers source row lane row_lt lane_lt =
     ∙ (slice_get-map_range (λ lane. slice_index registers ((source + lane) * lanes + row)) lanes 0 lane lane_lt
     ∙ ap (λ k. Some (slice_index registers ((source + k) * lanes + row))) zl)))
 
-length-flat : (f : ℕ → List ℕ) (len : ℕ) → ((i : ℕ) → length (f i) ≡ len) → (n first : ℕ) → length (flat_map f (range_with_len first n)) ≡ n * len
+length-flat : (f : ℕ → List ℕ) (len : ℕ) → ((i : ℕ) → length (f i) ≡ len) → (n first : ℕ) →
+    length (flat_map f (range_with_len first n)) ≡ n * len
 length-flat f len each zero first = sym (zero_mul len)
   where
     zero_mul : (n : ℕ) → 0 * n ≡ 0
@@ -52,10 +58,15 @@ length-flat f len each zero first = sym (zero_mul len)
 length-flat f len each (suc n) first =
     length-append (f first) (flat_map f (range_with_len (first + 1) n)) ∙ omega (arith, each first, length-flat f len each n (first + 1))
 
-pub length-transposed : (lanes : ℕ) (registers : List ℕ) (source : ℕ) → length (transposed lanes registers source) ≡ lanes * lanes
+pub length-transposed : (lanes : ℕ) (registers : List ℕ) (source : ℕ) →
+    length (transposed lanes registers source) ≡ lanes * lanes
 length-transposed lanes registers source = length-flat (row_of lanes registers source) lanes (length-row_of lanes registers source) lanes 0
 
-pub transpose_step : (lanes register source row lane : ℕ) (words old : List ℕ) → row < lanes → lane < lanes → ((register + lanes) * lanes ≤ source * lanes) ⊎ ((source + lanes) * lanes ≤ register * lanes) → words ≡ with_words old (register * lanes) (take (row * lanes + lane) (transposed lanes old source)) → slice_set words ((register + row) * lanes + lane) (slice_index words ((source + lane) * lanes + row)) ≡ with_words old (register * lanes) (take (row * lanes + (lane + 1)) (transposed lanes old source))
+pub transpose_step : (lanes register source row lane : ℕ) (words old : List ℕ) → row < lanes → lane < lanes →
+    ((register + lanes) * lanes ≤ source * lanes) ⊎ ((source + lanes) * lanes ≤ register * lanes) →
+    words ≡ with_words old (register * lanes) (take (row * lanes + lane) (transposed lanes old source)) →
+    slice_set words ((register + row) * lanes + lane) (slice_index words ((source + lane) * lanes + row))
+    ≡ with_words old (register * lanes) (take (row * lanes + (lane + 1)) (transposed lanes old source))
 transpose_step lanes register source row lane words old row_lt lane_lt apart e =
     let T : List ℕ = transposed lanes old source in
     let n : ℕ = row * lanes + lane in
@@ -88,7 +99,9 @@ take-all zero (x ∷ xs) le = absurd (omega arith)
 take-all (suc n) (x ∷ xs) le = ap (λ ys. x ∷ ys) (take-all n xs (omega arith))
 
 -- registers that don't meet have words that don't
-pub tile_words : (lanes register source regs : ℕ) → (register + lanes ≤ regs) × (source + lanes ≤ regs) × ((register + lanes ≤ source) ⊎ (source + lanes ≤ register)) → ((register + lanes) * lanes ≤ source * lanes) ⊎ ((source + lanes) * lanes ≤ register * lanes)
+pub tile_words : (lanes register source regs : ℕ) → (register + lanes ≤ regs) × (source + lanes ≤ regs)
+    × ((register + lanes ≤ source) ⊎ (source + lanes ≤ register)) →
+    ((register + lanes) * lanes ≤ source * lanes) ⊎ ((source + lanes) * lanes ≤ register * lanes)
 tile_words lanes register source regs h =
     ⊎_elim
     (λ (le : register + lanes ≤ source). inl (omega (arith, mul-le-mul_left lanes le)))

@@ -9,7 +9,8 @@ use Rattle.icode.specs.declared.program.Stmt.{Stmt}
 use Rattle.icode.specs.declared.program.Stmt.TheVariants as stmts
 use Rattle.icode.specs.declared.program.Stmt.TheOpen.{Stmt-F}
 use Rattle.icode.specs.declared.program.Stmt.TheFolds.{fold-roll-Stmt}
-use Rattle.icode.specs.Plain.{PlainExpr, PlainPart, PlainStmt, Sum, Proc, Var, Product, Rem, Quot, Loop, Do, parts_of, part_view, expr_view, plain_expr, plain_part, plain_op, stmt_view, plain_stmt, plain_body}
+use Rattle.icode.specs.Plain.{PlainExpr, PlainPart, PlainStmt, Sum, Proc, Var, Product, Rem, Quot, Loop, Do, parts_of}
+use Rattle.icode.specs.Plain.{part_view, expr_view, plain_expr, plain_part, plain_op, stmt_view, plain_stmt, plain_body}
 
 pub plain_expr_is : (e : Expr) → plain_expr e ≡ Sum e.constant (parts_of (map plain_part e.parts.items))
 plain_expr_is e = fold_out-Expr PlainPart PlainExpr part_view expr_view e
@@ -22,22 +23,26 @@ pub plain_part-Var : (depth factor : ℕ) → plain_part (parts.Var depth factor
 plain_part-Var depth factor =
     ap plain_part (sym (parts.rolls-Var depth factor)) ∙ fold-roll-Part PlainPart PlainExpr part_view expr_view (Part-F.Var depth factor)
 
-pub plain_part-Product : (outer inner factor : ℕ) → plain_part (parts.Product outer inner factor) ≡ Product outer inner factor
+pub plain_part-Product : (outer inner factor : ℕ) → plain_part (parts.Product outer inner factor)
+    ≡ Product outer inner factor
 plain_part-Product outer inner factor =
     ap plain_part (sym (parts.rolls-Product outer inner factor))
     ∙ fold-roll-Part PlainPart PlainExpr part_view expr_view (Part-F.Product outer inner factor)
 
-pub plain_part-Rem : (of : Expr) (divisor factor : ℕ) → plain_part (parts.Rem of divisor factor) ≡ Rem (plain_expr of) divisor factor
+pub plain_part-Rem : (of : Expr) (divisor factor : ℕ) → plain_part (parts.Rem of divisor factor)
+    ≡ Rem (plain_expr of) divisor factor
 plain_part-Rem of divisor factor =
     ap plain_part (sym (parts.rolls-Rem of divisor factor))
     ∙ fold-roll-Part PlainPart PlainExpr part_view expr_view (Part-F.Rem of divisor factor)
 
-pub plain_part-Quot : (of : Expr) (divisor factor : ℕ) → plain_part (parts.Quot of divisor factor) ≡ Quot (plain_expr of) divisor factor
+pub plain_part-Quot : (of : Expr) (divisor factor : ℕ) → plain_part (parts.Quot of divisor factor)
+    ≡ Quot (plain_expr of) divisor factor
 plain_part-Quot of divisor factor =
     ap plain_part (sym (parts.rolls-Quot of divisor factor))
     ∙ fold-roll-Part PlainPart PlainExpr part_view expr_view (Part-F.Quot of divisor factor)
 
-pub plain_stmt-Loop : (count : ℕ) (body : Vec Stmt Global) → plain_stmt (stmts.Loop count body) ≡ Loop count (plain_body body.items)
+pub plain_stmt-Loop : (count : ℕ) (body : Vec Stmt Global) →
+    plain_stmt (stmts.Loop count body) ≡ Loop count (plain_body body.items)
 plain_stmt-Loop count body =
     ap plain_stmt (sym (stmts.rolls-Loop count body)) ∙ fold-roll-Stmt PlainStmt stmt_view (Stmt-F.Loop count body)
 

@@ -1,5 +1,6 @@
 -- Inverses of permutations.
-use Rattle.std.proofs.Common.{◌≡◌, ℕ, ◌+◌, ◌*◌, ◌/◌, ◌%◌, ◌<◌, List, length, get_or, Some, sym, ap, ap₂, ◌∙◌, subst, arith, mul_comm}
+use Rattle.std.proofs.Common.{◌≡◌, ℕ, ◌+◌, ◌*◌, ◌/◌, ◌%◌, ◌<◌, List, length, get_or, Some, sym, ap, ap₂, ◌∙◌, subst}
+use Rattle.std.proofs.Common.{arith, mul_comm}
 use Rattle.std.proofs.lemmas.Nat.{mod_below, div_below, mul-add-lt, div-mul-add, mod-mul-add, div-add-mod'}
 use Rattle.operators.specs.Operator.{stride}
 use Rattle.index_fn.specs.Inverse.{Permutes, Undoes}
@@ -7,7 +8,8 @@ use Rattle.index_fn.specs.Mapping.{Mapping, Strided, Listed, at, IsWellFormed}
 use Rattle.index_fn.proofs.Onto.{onto}
 
 -- a table that leads back from each value is the inverse
-pub table_undoes : (f : Mapping) (n : ℕ) (table : List ℕ) → Permutes f n → length table ≡ n → ((k : ℕ) → k < n → get_or table (at f k) 0 ≡ k) → Undoes f (Listed table) n
+pub table_undoes : (f : Mapping) (n : ℕ) (table : List ℕ) → Permutes f n → length table ≡ n →
+    ((k : ℕ) → k < n → get_or table (at f k) 0 ≡ k) → Undoes f (Listed table) n
 table_undoes f n table p len leads =
     record {
       well_formed = tt;

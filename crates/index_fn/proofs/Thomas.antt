@@ -1,7 +1,9 @@
 -- The inverse of the places after a Good-Thomas step.
-use Rattle.std.proofs.Common.{◌≡◌, ℕ, ◌+◌, ◌*◌, ◌/◌, ◌%◌, ◌<◌, ◌≤◌, ◌^◌, ◌-◌, ◌≢◌, zero, suc, refl, subst, le_refl, sym, ap, ap₂, ◌∙◌, arith, inl, inr}
+use Rattle.std.proofs.Common.{◌≡◌, ℕ, ◌+◌, ◌*◌, ◌/◌, ◌%◌, ◌<◌, ◌≤◌, ◌^◌, ◌-◌, ◌≢◌, zero, suc, refl, subst, le_refl, sym}
+use Rattle.std.proofs.Common.{ap, ap₂, ◌∙◌, arith, inl, inr}
 use Rattle.std.proofs.Math.Nat.{add-mod, mod-mod_of_dvd, dvd-mul_right, dvd-mul_left, mod-eq_of_lt, add-mul}
-use Rattle.std.proofs.lemmas.Nat.{mod_below, div_below, mul-mod_second, div-add-mod', mul-le, mul-add-lt, mod-mul-add, div-mul-add}
+use Rattle.std.proofs.lemmas.Nat.{mod_below, div_below, mul-mod_second, div-add-mod', mul-le, mul-add-lt, mod-mul-add}
+use Rattle.std.proofs.lemmas.Nat.{div-mul-add}
 use Rattle.std.proofs.lemmas.Bool.{cases_eq}
 use Rattle.std.proofs.lemmas.Bool.Decides.{nat_tests}
 use Rattle.index_fn.specs.Back.{back_of, unit_below}
@@ -23,7 +25,8 @@ remainder_by r a b e g h one none =
     last : (a % r + 0) % r ≡ a
     last = let e : a % r ≡ a = mod-eq_of_lt h in ap (λ n. n % r) (omega (arith, e)) ∙ e
 
-out_back : (r s e g : ℕ) → 1 ≤ r → 1 ≤ s → IsUnit r s e → IsUnit s r g → (i : ℕ) → i < r * s → at (ThomasOut r s) (at (ThomasBack r s e g) i) ≡ i
+out_back : (r s e g : ℕ) → 1 ≤ r → 1 ≤ s → IsUnit r s e → IsUnit s r g → (i : ℕ) → i < r * s →
+    at (ThomasOut r s) (at (ThomasBack r s e g) i) ≡ i
 out_back r s e g r1 s1 u w i h =
     let a : i / s < r = div_below i s r s1 h in
     let b : i % s < s = mod_below i s s1 in
@@ -38,7 +41,8 @@ factors_below zero s r1 s1 = absurd (omega arith)
 factors_below (suc r) zero r1 s1 = absurd (omega arith)
 factors_below (suc r) (suc s) r1 s1 = let whole : suc r * suc s ≡ r * s + r + s + 1 = omega arith in omega (arith, whole)
 
-pub thomas_out_undoes : (r s e g : ℕ) → 1 ≤ r → 1 ≤ s → r * s < 2 ^ 32 → IsUnit r s e → IsUnit s r g → Undoes (ThomasOut r s) (ThomasBack r s e g) (r * s)
+pub thomas_out_undoes : (r s e g : ℕ) → 1 ≤ r → 1 ≤ s → r * s < 2 ^ 32 → IsUnit r s e → IsUnit s r g →
+    Undoes (ThomasOut r s) (ThomasBack r s e g) (r * s)
 thomas_out_undoes r s e g r1 s1 small u w =
     record {
       well_formed = (r1, s1, omega arith, u, w);
@@ -94,7 +98,8 @@ unit_found r s k below pos one =
       multiple = ap (λ n. n % s) e ∙ mod-mul-add k s 0 pos;
     }
 
-pub thomas_back_undoes : (r s e g : ℕ) → IsWellFormed (ThomasBack r s e g) → Permutes (ThomasBack r s e g) (r * s) → Undoes (ThomasBack r s e g) (ThomasOut r s) (r * s)
+pub thomas_back_undoes : (r s e g : ℕ) → IsWellFormed (ThomasBack r s e g) → Permutes (ThomasBack r s e g) (r * s) →
+    Undoes (ThomasBack r s e g) (ThomasOut r s) (r * s)
 thomas_back_undoes r s e g w p =
     record {
       well_formed = (w.0, w.1, w.2);

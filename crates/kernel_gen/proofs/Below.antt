@@ -1,5 +1,6 @@
 -- Lists whose items are below a number, and what is read from them.
-use Rattle.std.proofs.Common.{◌≡◌, ℕ, zero, suc, ◌+◌, ◌<◌, ◌≤◌, arith, refl, sym, ap, ap₂, ◌∙◌, List, [], ◌∷◌, ◌++◌, length, map}
+use Rattle.std.proofs.Common.{◌≡◌, ℕ, zero, suc, ◌+◌, ◌<◌, ◌≤◌, arith, refl, sym, ap, ap₂, ◌∙◌, List, [], ◌∷◌, ◌++◌}
+use Rattle.std.proofs.Common.{length, map}
 use Rattle.std.specs.Prelude.{All, slice_index}
 use Rattle.std.proofs.lemmas.List.FromFn.{fill_by_all}
 use Rattle.operators.specs.Operator.{gather}
@@ -34,7 +35,8 @@ at-AllBelow a (r ∷ rs) zero h below = h.0
 at-AllBelow a (r ∷ rs) (suc i) h below = at-AllBelow a rs i h.1 (omega arith)
 
 -- functions that agree below a
-pub map-agree : (f g : ℕ → ℕ) (a : ℕ) (rs : List ℕ) → AllBelow a rs → ((r : ℕ) → r < a → f r ≡ g r) → map f rs ≡ map g rs
+pub map-agree : (f g : ℕ → ℕ) (a : ℕ) (rs : List ℕ) → AllBelow a rs → ((r : ℕ) → r < a → f r ≡ g r) →
+    map f rs ≡ map g rs
 map-agree f g a [] h same = refl
 map-agree f g a (r ∷ rs) h same = ap₂ (λ x xs. x ∷ xs) (same r h.0) (map-agree f g a rs h.1 same)
 
@@ -50,7 +52,8 @@ length-joined (x ∷ xs) ys = omega (arith, length-joined xs ys)
 abbrev pub ReadsBelow : ℕ → ℕ → (ℕ → ℕ) → Type 0
 ReadsBelow n k f = (i : ℕ) → i < k → f i < n
 
-pub map-gather : (g : ℕ → ℕ) (n k : ℕ) (f : ℕ → ℕ) (rs : List ℕ) → length rs ≡ n → ReadsBelow n k f → map g (gather k f rs) ≡ gather k f (map g rs)
+pub map-gather : (g : ℕ → ℕ) (n k : ℕ) (f : ℕ → ℕ) (rs : List ℕ) → length rs ≡ n → ReadsBelow n k f →
+    map g (gather k f rs) ≡ gather k f (map g rs)
 map-gather g n k f rs size reads =
     fill_by_all _ (map g (gather k f rs)) k 0 (length-mapped g (gather k f rs) ∙ length-list_below k _)
     (λ i below.
@@ -58,7 +61,8 @@ map-gather g n k f rs size reads =
     ∙ ap g (at-list_below k (λ i. slice_index rs (f i)) i below)
     ∙ sym (slice_index-map g rs (f i) (let a = reads i below in omega arith)))
 
-pub gather-below : (a n k : ℕ) (f : ℕ → ℕ) (rs : List ℕ) → length rs ≡ n → ReadsBelow n k f → AllBelow a rs → AllBelow a (gather k f rs)
+pub gather-below : (a n k : ℕ) (f : ℕ → ℕ) (rs : List ℕ) → length rs ≡ n → ReadsBelow n k f → AllBelow a rs →
+    AllBelow a (gather k f rs)
 gather-below a n k f rs size reads h =
     AllBelow-at a (gather k f rs) (λ i within.
     let inside : i < k = rw (length-list_below k (λ i. slice_index rs (f i))) at within in

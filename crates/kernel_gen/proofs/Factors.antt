@@ -1,5 +1,6 @@
 -- The code of a diagonal.
-use Rattle.std.proofs.Common.{◌≡◌, ℕ, ◌+◌, ◌-◌, ◌*◌, ◌%◌, ◌<◌, Bool, true, false, arith, refl, sym, ap, ap₂, ◌∙◌, List, [], ◌∷◌, length, mod-lt, mul_comm, if◌then◌else◌}
+use Rattle.std.proofs.Common.{◌≡◌, ℕ, ◌+◌, ◌-◌, ◌*◌, ◌%◌, ◌<◌, Bool, true, false, arith, refl, sym, ap, ap₂, ◌∙◌, List}
+use Rattle.std.proofs.Common.{[], ◌∷◌, length, mod-lt, mul_comm, if◌then◌else◌}
 use Rattle.std.specs.Prelude.{◌==◌, slice_index}
 use Rattle.std.proofs.Math.Nat.{one-mul, mul-one, mod-eq_of_lt}
 use Rattle.std.proofs.lemmas.Bool.{eqb-true}
@@ -19,7 +20,8 @@ abbrev factor_on : ℕ → ℕ → Operator
 factor_on m c x = scale m 1 (λ _. c) x
 
 module _ (m weight : ℕ) (positive : 0 < m) where
-  factor-at : (c i next : ℕ) → c < m → i < next → DoesAt m weight 1 (product_cost weight m 1 c) (i ∷ []) next (factor_make m c (i ∷ []) next) (factor_on m c)
+  factor-at : (c i next : ℕ) → c < m → i < next → DoesAt m weight 1 (product_cost weight m 1 c)
+      (i ∷ []) next (factor_make m c (i ∷ []) next) (factor_on m c)
   factor-at c i next residue low = pick (c == 1) (c == m - 1) refl refl
     where
       pick : (one last : Bool) → (c == 1) ≡ one → (c == m - 1) ≡ last →
@@ -65,7 +67,8 @@ module _ (m weight : ℕ) (positive : 0 < m) where
   does-factor c residue =
       record { at = at; residues = λ x size small. (mod-lt _ positive, tt); width = λ x size. refl }
     where
-      at : (ins : List ℕ) (next : ℕ) → length ins ≡ 1 → AllBelow next ins → DoesAt m weight 1 (product_cost weight m 1 c) ins next (factor_make m c ins next) (factor_on m c)
+      at : (ins : List ℕ) (next : ℕ) → length ins ≡ 1 → AllBelow next ins →
+          DoesAt m weight 1 (product_cost weight m 1 c) ins next (factor_make m c ins next) (factor_on m c)
       at [] next size under = absurd (omega arith)
       at (i ∷ []) next size under = factor-at c i next residue under.0
       at (i ∷ j ∷ ins) next size under = absurd (omega arith)
@@ -80,7 +83,8 @@ module _ (m weight : ℕ) (positive : 0 < m) where
       ∙ sym (ap (λ p. (c p * slice_index x p) % m) place))
       ∙ ap (λ k. list_below k (λ p. (c p * slice_index x p) % m)) (mul-one n)
 
-  pub does-diagonal : (n : ℕ) (c : ℕ → ℕ) → ((k : ℕ) → c k < m) → Does m weight n n (sum_below n (λ k. product_cost weight m 1 (c k))) (diagonal_make m n c) (scale m n c)
+  pub does-diagonal : (n : ℕ) (c : ℕ → ℕ) → ((k : ℕ) → c k < m) →
+      Does m weight n n (sum_below n (λ k. product_cost weight m 1 (c k))) (diagonal_make m n c) (scale m n c)
   does-diagonal n c residues =
       let price = sum_below n (λ k. product_cost weight m 1 (c k)) in
       does-size m weight (n * 1) n (n * 1) n price (diagonal_make m n c) (scale m n c) (mul-one n) (mul-one n)

@@ -1,5 +1,6 @@
 -- How many registers and operations the code of trees takes.
-use Rattle.std.proofs.Common.{◌≡◌, ℕ, zero, suc, ◌+◌, ◌-◌, ◌*◌, ◌%◌, ◌≤◌, Bool, true, false, refl, arith, ap, ◌∙◌, if◌then◌else◌, mul-zero, mul-le-mul_left}
+use Rattle.std.proofs.Common.{◌≡◌, ℕ, zero, suc, ◌+◌, ◌-◌, ◌*◌, ◌%◌, ◌≤◌, Bool, true, false, refl, arith, ap, ◌∙◌}
+use Rattle.std.proofs.Common.{if◌then◌else◌, mul-zero, mul-le-mul_left}
 use Rattle.std.proofs.Math.Nat.{mod-eq_of_lt}
 use Rattle.std.specs.Prelude.{◌==◌, count_ones}
 use lib.Count.{ones}
@@ -38,7 +39,8 @@ price_pick false false minus low = omega arith
 product-le : (m minus x : ℕ) → minus ≤ 1 → product_cost 1 m minus x ≤ 1
 product-le m minus x low = price_pick (x == 1) (x == m - 1) minus low
 
-products-le : (m minus : ℕ) (e : ℕ → ℕ → ℕ) (rows columns : ℕ) → minus ≤ 1 → products_cost 1 m minus e rows columns ≤ rows * columns
+products-le : (m minus : ℕ) (e : ℕ → ℕ → ℕ) (rows columns : ℕ) → minus ≤ 1 →
+    products_cost 1 m minus e rows columns ≤ rows * columns
 products-le m minus e rows columns low =
     sum_below-le rows columns (λ k. sum_below columns (λ l. product_cost 1 m minus (e k l))) (λ k.
     let row = sum_below-le columns 1 (λ l. product_cost 1 m minus (e k l)) (λ l. product-le m minus (e k l) low) in omega arith)
@@ -86,14 +88,16 @@ node-few r s x y z hr hs hx hy hz =
     let both : r * s * (r + s) ≤ r * s * (r * s) = mul-le-mul_left (r * s) (sum_le_product r s hr hs) in
     omega arith
 
-tree-few : (m : ℕ) (kind : Kind) (t : Breakdown) (w : ℕ) → IsWellFormed kind t → IsFew (size_of t) (kernel_cost 1 m kind t w)
+tree-few : (m : ℕ) (kind : Kind) (t : Breakdown) (w : ℕ) → IsWellFormed kind t →
+    IsFew (size_of t) (kernel_cost 1 m kind t w)
 tree-few m kind (leaf d) w formed = leaf-few d (products_cost 1 m 0 (entry_of kind m d w) d d) (entries-le kind m w d formed)
 tree-few m kind (node rule a b) w formed =
     node-few (size_of a) (size_of b) (kernel_cost 1 m kind a (power_mod m w (size_of b))) (kernel_cost 1 m kind b (power_mod m w (size_of a))) (rule_cost 1 m rule (size_of a) (size_of b) w)
     formed.0.left formed.0.right (tree-few m kind a (power_mod m w (size_of b)) formed.1) (tree-few m kind b (power_mod m w (size_of a)) formed.2) (rule-le m rule (size_of a) (size_of b) w)
 
 -- a register for each item and for each operation, where a product counts once
-pub cost-le : (m : ℕ) (kind : Kind) (t : Breakdown) (w : ℕ) → IsWellFormed kind t → kernel_cost 1 m kind t w + size_of t ≤ 2 * (size_of t * size_of t)
+pub cost-le : (m : ℕ) (kind : Kind) (t : Breakdown) (w : ℕ) → IsWellFormed kind t →
+    kernel_cost 1 m kind t w + size_of t ≤ 2 * (size_of t * size_of t)
 cost-le m kind t w formed = let few = tree-few m kind t w formed in omega arith
 
 -- ---- several dimensions
@@ -121,5 +125,6 @@ trees-are-few m (tensor kind root tree others) can =
     product-few (size_of tree) (trees_size others) (kernel_cost 1 m kind tree root) (trees_cost 1 m others)
     (one_le_size_of kind tree can.0.0) (trees-positive m others can.1) (tree-few m kind tree root can.0.0) (trees-are-few m others can.1)
 
-pub trees-few : (m : ℕ) (trees : PlainTrees) → CanMake m trees → trees_cost 1 m trees + trees_size trees ≤ 2 * (trees_size trees * trees_size trees)
+pub trees-few : (m : ℕ) (trees : PlainTrees) → CanMake m trees →
+    trees_cost 1 m trees + trees_size trees ≤ 2 * (trees_size trees * trees_size trees)
 trees-few m trees can = let few = trees-are-few m trees can in omega arith

@@ -51,8 +51,10 @@ root-any Dft m (node rule a b) w root = root
 root-any Idft m (leaf d) w root = tt
 root-any Idft m (node rule a b) w root = root
 
-pub does-any : (m weight : ℕ) (kind : Kind) (t : Breakdown) (w : ℕ) → 2 ≤ m → IsWellFormed kind t → AllowsRoot m w kind t →
-    Does m weight (size_of t) (size_of t) (kernel_cost weight m kind t w) (tree_make m kind t w) (transform kind m (size_of t) w)
+pub does-any : (m weight : ℕ) (kind : Kind) (t : Breakdown) (w : ℕ) → 2 ≤ m → IsWellFormed kind t →
+    AllowsRoot m w kind t →
+    Does m weight (size_of t) (size_of t) (kernel_cost weight m kind t w) (tree_make m kind t w)
+    (transform kind m (size_of t) w)
 does-any m weight Wht t w modulus formed root = does-tree m weight modulus Wht t w formed tt
 does-any m weight Dft (leaf d) w modulus formed root = does-leaf m weight modulus Dft d w formed
 does-any m weight Dft (node rule a b) w modulus formed root = does-tree m weight modulus Dft (node rule a b) w formed root
@@ -60,8 +62,10 @@ does-any m weight Idft (leaf d) w modulus formed root = absurd formed
 does-any m weight Idft (node rule a b) w modulus formed root = absurd formed.0.allowed
 
 -- what the kernel of a tree does
-kernel-does : (m weight : ℕ) (kind : Kind) (t : Breakdown) (w : ℕ) → 2 ≤ m → IsWellFormed kind t → AllowsRoot m w kind t →
-    DoesAt m weight (size_of t) (kernel_cost weight m kind t w) (firsts (size_of t)) (size_of t) (kernel_of m kind t w) (transform kind m (size_of t) w)
+kernel-does : (m weight : ℕ) (kind : Kind) (t : Breakdown) (w : ℕ) → 2 ≤ m → IsWellFormed kind t →
+    AllowsRoot m w kind t →
+    DoesAt m weight (size_of t) (kernel_cost weight m kind t w) (firsts (size_of t)) (size_of t) (kernel_of m kind t w)
+    (transform kind m (size_of t) w)
 kernel-does m weight kind t w modulus formed root =
     (does-any m weight kind t w modulus formed root).at (firsts (size_of t)) (size_of t) (length-list_below (size_of t) _) (firsts-below (size_of t))
 
@@ -97,5 +101,6 @@ module _ (m n : ℕ) (made : Made) (f : Operator) where
 
 -- a transform by its definition
 pub definition_does : (m weight d w : ℕ) → 2 ≤ m → 1 ≤ d →
-    DoesAt m weight d (kernel_cost weight m Dft (leaf d) w) (firsts d) d (kernel_of m Dft (leaf d) w) (transform Dft m d w)
+    DoesAt m weight d (kernel_cost weight m Dft (leaf d) w) (firsts d) d (kernel_of m Dft (leaf d) w)
+    (transform Dft m d w)
 definition_does m weight d w modulus some = kernel-does m weight Dft (leaf d) w modulus some tt

@@ -1,5 +1,6 @@
 -- The code of a matrix whose first column is 1.
-use Rattle.std.proofs.Common.{◌≡◌, ℕ, zero, suc, ◌+◌, ◌-◌, ◌*◌, ◌%◌, ◌<◌, arith, refl, sym, ap, ap₂, ◌∙◌, List, [], ◌∷◌, ◌++◌, length, map, mod-lt, add-one}
+use Rattle.std.proofs.Common.{◌≡◌, ℕ, zero, suc, ◌+◌, ◌-◌, ◌*◌, ◌%◌, ◌<◌, arith, refl, sym, ap, ap₂, ◌∙◌, List, [], ◌∷◌}
+use Rattle.std.proofs.Common.{◌++◌, length, map, mod-lt, add-one}
 use Rattle.std.specs.Prelude.{slice_index}
 use Rattle.std.proofs.Math.Nat.{one-mul}
 use Rattle.std.proofs.lemmas.List.FromFn.{map-range_with_len_more}
@@ -27,7 +28,8 @@ dot-sum e l (x ∷ xs) =
     (dot-sum e (l + 1) xs ∙ sum_below-same (length xs) _ _ (λ i below. ap (λ k. e k * slice_index xs i) (omega arith)))
     ∙ sym (sum_below-first (length xs) (λ i. e (l + i) * slice_index (x ∷ xs) i))
 
-cost-sum : (weight m : ℕ) (e : ℕ → ℕ) (l : ℕ) (ins : List ℕ) → sum_cost weight m e l ins ≡ length ins + sum_below (length ins) (λ i. product_cost weight m 0 (e (l + i)))
+cost-sum : (weight m : ℕ) (e : ℕ → ℕ) (l : ℕ) (ins : List ℕ) →
+    sum_cost weight m e l ins ≡ length ins + sum_below (length ins) (λ i. product_cost weight m 0 (e (l + i)))
 cost-sum weight m e l [] = refl
 cost-sum weight m e l (i ∷ ins) =
     let rest : sum_cost weight m e (l + 1) ins ≡ length ins + sum_below (length ins) (λ j. product_cost weight m 0 (e (l + suc j))) =
@@ -43,7 +45,8 @@ row_on m n e x = (sum_below n (λ l. e l * slice_index x l) % m) ∷ []
 abbrev row_cost : ℕ → ℕ → ℕ → (ℕ → ℕ) → ℕ
 row_cost weight m n e = (n - 1) + sum_below n (λ l. product_cost weight m 0 (e l))
 
-row-value : (m : ℕ) (e : ℕ → ℕ) (x : ℕ) (xs : List ℕ) → e 0 ≡ 1 → sum_on m e 1 (x ∷ xs) ≡ row_on m (suc (length xs)) e (x ∷ xs)
+row-value : (m : ℕ) (e : ℕ → ℕ) (x : ℕ) (xs : List ℕ) → e 0 ≡ 1 →
+    sum_on m e 1 (x ∷ xs) ≡ row_on m (suc (length xs)) e (x ∷ xs)
 row-value m e x xs one =
     let rest : dot e 1 xs ≡ sum_below (length xs) (λ i. e (suc i) * slice_index xs i) =
     dot-sum e 1 xs ∙ sum_below-same (length xs) _ _ (λ i below. ap (λ k. e k * slice_index xs i) (omega arith)) in
@@ -51,7 +54,8 @@ row-value m e x xs one =
     let head : e 0 * x ≡ x = ap (λ z. z * x) one ∙ one-mul x in
     ap (λ z. (z % m) ∷ []) (omega (arith, rest, first, head))
 
-row-cost : (weight m : ℕ) (e : ℕ → ℕ) (ins : List ℕ) → e 0 ≡ 1 → sum_cost weight m e 1 ins ≡ row_cost weight m (suc (length ins)) e
+row-cost : (weight m : ℕ) (e : ℕ → ℕ) (ins : List ℕ) → e 0 ≡ 1 →
+    sum_cost weight m e 1 ins ≡ row_cost weight m (suc (length ins)) e
 row-cost weight m e ins one =
     let rest : sum_cost weight m e 1 ins ≡ length ins + sum_below (length ins) (λ i. product_cost weight m 0 (e (suc i))) =
     cost-sum weight m e 1 ins ∙ ap (λ z. length ins + z) (sum_below-same (length ins) _ _ (λ j below. ap (λ k. product_cost weight m 0 (e k)) (omega arith))) in
@@ -63,11 +67,13 @@ list_below-last : (n : ℕ) (f : ℕ → ℕ) → list_below (suc n) f ≡ list_
 list_below-last n f = ap (λ k. list_below k f) (sym (add-one n)) ∙ map-range_with_len_more f 0 n n (omega arith)
 
 module _ (m weight : ℕ) (positive : 0 < m) where
-  does-row : (n : ℕ) (e : ℕ → ℕ) → 0 < n → e 0 ≡ 1 → ((l : ℕ) → e l < m) → Does m weight n 1 (row_cost weight m n e) (row_make m e) (row_on m n e)
+  does-row : (n : ℕ) (e : ℕ → ℕ) → 0 < n → e 0 ≡ 1 → ((l : ℕ) → e l < m) →
+      Does m weight n 1 (row_cost weight m n e) (row_make m e) (row_on m n e)
   does-row n e some one small =
       record { at = at; residues = λ x size residues. (mod-lt _ positive, tt); width = λ x size. refl }
     where
-      at : (ins : List ℕ) (next : ℕ) → length ins ≡ n → AllBelow next ins → DoesAt m weight 1 (row_cost weight m n e) ins next (row_make m e ins next) (row_on m n e)
+      at : (ins : List ℕ) (next : ℕ) → length ins ≡ n → AllBelow next ins →
+          DoesAt m weight 1 (row_cost weight m n e) ins next (row_make m e ins next) (row_on m n e)
       at [] next size under = absurd (omega arith)
       at (i ∷ ins) next size under =
           does_at-same m weight 1 (sum_cost weight m e 1 ins) (row_cost weight m n e) (i ∷ ins) next (row_make m e (i ∷ ins) next) (sum_on m e 1) (row_on m n e)
@@ -79,7 +85,8 @@ module _ (m weight : ℕ) (positive : 0 < m) where
           (does-sum m weight positive e 1 i ins next small under)
 
   does-matrix_rows : (n : ℕ) (e : ℕ → ℕ → ℕ) (k : ℕ) → 0 < n → ((i : ℕ) → e i 0 ≡ 1) → ((i l : ℕ) → e i l < m) →
-      Does m weight n k (sum_below k (λ i. row_cost weight m n (e i))) (matrix_make m e k) (λ x. list_below k (λ i. sum_below n (λ l. e i l * slice_index x l) % m))
+      Does m weight n k (sum_below k (λ i. row_cost weight m n (e i))) (matrix_make m e k)
+      (λ x. list_below k (λ i. sum_below n (λ l. e i l * slice_index x l) % m))
   does-matrix_rows n e zero some ones small = does-none m weight n
   does-matrix_rows n e (suc k) some ones small =
       let cost = sum_below (suc k) (λ i. row_cost weight m n (e i)) in

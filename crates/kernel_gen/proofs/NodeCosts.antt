@@ -1,5 +1,6 @@
 -- What kernels cost, by the costs of trees.
-use Rattle.std.proofs.Common.{◌≡◌, ℕ, ◌+◌, ◌*◌, ◌-◌, ◌<◌, ◌≤◌, Bool, true, false, refl, sym, ap, ap₂, ◌∙◌, arith, zero, suc, mul-le-mul_left}
+use Rattle.std.proofs.Common.{◌≡◌, ℕ, ◌+◌, ◌*◌, ◌-◌, ◌<◌, ◌≤◌, Bool, true, false, refl, sym, ap, ap₂, ◌∙◌, arith, zero}
+use Rattle.std.proofs.Common.{suc, mul-le-mul_left}
 use Rattle.std.specs.Prelude.{◌==◌, nat_le, if◌then◌else◌}
 use Rattle.std.proofs.lemmas.Bool.Decides.{nat_tests}
 use Rattle.matrix_meaning.specs.declared.Kind.TheVariants.{Dft}
@@ -40,13 +41,15 @@ root-is : (c : Request) (d q : ℕ) → 0 < d → d * q ≡ c.size → node_root
 root-is c d q some whole = ap (power_mod c.modulus c.root) (div-product c.size d q some whole)
 
 module _ (c : Request) where
-  leaf-same : (d q : ℕ) → 0 < d → d * q ≡ c.size → is_kernel c d ≡ true → kernel_cost c.weight c.modulus c.kind (leaf d) (power_mod c.modulus c.root q) ≡ leaf_cost c d
+  leaf-same : (d q : ℕ) → 0 < d → d * q ≡ c.size → is_kernel c d ≡ true →
+      kernel_cost c.weight c.modulus c.kind (leaf d) (power_mod c.modulus c.root q) ≡ leaf_cost c d
   leaf-same d q some whole is =
       ap (λ n. d * (d - 1) + n)
       (ap (λ root. trees.products_cost c c.kind 0 root d d) (sym (root-is c d q some whole)))
       ∙ sym (ap (λ b. if b then d * (d - 1) + trees.products_cost c c.kind 0 (node_root c d) d d else d * d * (1 + c.weight)) (kernel-short c d is))
 
-  rule-same : (rule : Rule) (r s q : ℕ) → 0 < r * s → r * s * q ≡ c.size → is_kernel c (r * s) ≡ true → rule_cost c.weight c.modulus rule r s (power_mod c.modulus c.root q) ≡ trees.rule_cost c rule r s
+  rule-same : (rule : Rule) (r s q : ℕ) → 0 < r * s → r * s * q ≡ c.size → is_kernel c (r * s) ≡ true →
+      rule_cost c.weight c.modulus rule r s (power_mod c.modulus c.root q) ≡ trees.rule_cost c rule r s
   rule-same Gt r s q some whole is = refl
   rule-same Split r s q some whole is = refl
   rule-same Dim r s q some whole is = refl
@@ -55,7 +58,9 @@ module _ (c : Request) where
       ∙ sym (ap (λ b. if b then trees.products_cost c Dft 1 (node_root c (r * s)) r s else c.weight * (r * s)) is)
 
   -- the code of a tree costs what the tree costs
-  pub cost-same : (t : Breakdown) (q : ℕ) → 0 < c.size → IsWellFormed c.kind t → size_of t * q ≡ c.size → is_kernel c (size_of t) ≡ true → kernel_cost c.weight c.modulus c.kind t (power_mod c.modulus c.root q) ≡ cost_of c t
+  pub cost-same : (t : Breakdown) (q : ℕ) → 0 < c.size → IsWellFormed c.kind t → size_of t * q ≡ c.size →
+      is_kernel c (size_of t) ≡ true → kernel_cost c.weight c.modulus c.kind t (power_mod c.modulus c.root q)
+      ≡ cost_of c t
   cost-same (leaf d) q some formed whole is = leaf-same d q (one_le_size_of c.kind (leaf d) formed) whole is
   cost-same (node rule a b) q some formed whole is =
       let r = size_of a in

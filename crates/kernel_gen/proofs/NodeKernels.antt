@@ -44,7 +44,8 @@ same_transforms m lanes n k f g made size same h =
 module _ (p : Request) (t : Breakdown) (h : IsNodeTree p t) where
   trees_do : (weight : ℕ) →
       DoesAt p.modulus weight (trees_size (rooted_of p t)) (trees_cost weight p.modulus (rooted_of p t))
-      (firsts (trees_size (rooted_of p t))) (trees_size (rooted_of p t)) (node_kernel p t) (trees_on p.modulus (rooted_of p t))
+      (firsts (trees_size (rooted_of p t))) (trees_size (rooted_of p t)) (node_kernel p t)
+      (trees_on p.modulus (rooted_of p t))
   trees_do weight = trees-does p.modulus weight (rooted_of p t) h.valid.in_range.modulus.0 (rooted_made p t h)
 
   pub node_transforms : TransformsNode p t (node_kernel p t)

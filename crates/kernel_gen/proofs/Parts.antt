@@ -29,8 +29,10 @@ pub record ArePartsOf (transform left right : Transform) (rule : Rule) (tree a b
   pub right_is : right ≡ part_of transform r
 
 module _ (transform left right : Transform) (tree a b : Breakdown) (r s : ℕ) where
-  wrote-node : (rule : Rule) (old new : Writer) (ins outs : List ℕ) → ArePartsOf transform left right rule tree a b r s →
-      Wrote old new (node_make transform.modulus.now rule r s transform.root (make_of left a) (make_of right b)) ins outs → Wrote old new (make_of transform tree) ins outs
+  wrote-node : (rule : Rule) (old new : Writer) (ins outs : List ℕ) →
+      ArePartsOf transform left right rule tree a b r s →
+      Wrote old new (node_make transform.modulus.now rule r s transform.root (make_of left a) (make_of right b)) ins
+      outs → Wrote old new (make_of transform tree) ins outs
   wrote-node rule old new ins outs parts whole =
       let P = λ (p q : ℕ) (u v : Transform). Wrote old new (node_make transform.modulus.now rule p q transform.root (make_of u a) (make_of v b)) ins outs in
       let left_end : left ≡ part_of transform (size_of b) = parts.left_is ∙ ap (part_of transform) parts.s_is in
@@ -41,7 +43,8 @@ module _ (transform left right : Transform) (tree a b : Breakdown) (r s : ℕ) w
       (subst (λ q. P (size_of a) q left right) parts.s_is
       (subst (λ p. P p s left right) parts.r_is whole))))
 
-  pub wrote_ct : (old mid new : Writer) (ins x y z : List ℕ) → ArePartsOf transform left right Ct tree a b r s → x ≡ turn r s ins →
+  pub wrote_ct : (old mid new : Writer) (ins x y z : List ℕ) → ArePartsOf transform left right Ct tree a b r s →
+      x ≡ turn r s ins →
       Wrote old mid (rows_make r s (twiddled_make right.modulus.now s transform.root (make_of right b))) x y →
       Wrote mid new (columns_make r s (make_of left a)) y z → Wrote old new (make_of transform tree) ins z
   wrote_ct old mid new ins x y z parts x_is p q =
@@ -66,7 +69,8 @@ module _ (transform left right : Transform) (tree a b : Breakdown) (r s : ℕ) w
       wrote-node Dim old new ins z parts
       (wrote-then old mid new (rows_make r s (λ _. make_of right b)) (columns_make r s (make_of left a)) ins y z p q)
 
-  pub wrote_gt : (old mid new : Writer) (ins x y z outs : List ℕ) → ArePartsOf transform left right Gt tree a b r s → x ≡ gather (r * s) (good_thomas_in r s) ins →
+  pub wrote_gt : (old mid new : Writer) (ins x y z outs : List ℕ) → ArePartsOf transform left right Gt tree a b r s →
+      x ≡ gather (r * s) (good_thomas_in r s) ins →
       Wrote old mid (rows_make r s (λ _. make_of right b)) x y →
       Wrote mid new (columns_make r s (make_of left a)) y z →
       outs ≡ gather (r * s) (good_thomas_out r s) z → Wrote old new (make_of transform tree) ins outs
@@ -81,13 +85,16 @@ module _ (transform left right : Transform) (tree a b : Breakdown) (r s : ℕ) w
 
 -- ---- several dimensions
 
-pub wrote_single : (m : ℕ) (trees : PlainTrees) (kind : Kind) (root reduced : ℕ) (tree : Breakdown) (old new : Writer) (ins outs : List ℕ) →
-    trees ≡ single kind root tree → reduced ≡ root % m → Wrote old new (tree_make m kind tree reduced) ins outs → Wrote old new (trees_make m trees) ins outs
+pub wrote_single : (m : ℕ) (trees : PlainTrees) (kind : Kind) (root reduced : ℕ) (tree : Breakdown) (old new : Writer)
+    (ins outs : List ℕ) →
+    trees ≡ single kind root tree → reduced ≡ root % m → Wrote old new (tree_make m kind tree reduced) ins outs →
+    Wrote old new (trees_make m trees) ins outs
 wrote_single m trees kind root reduced tree old new ins outs trees_are reduced_is p =
     subst (λ (make : Maker). Wrote old new make ins outs)
     (ap (tree_make m kind tree) reduced_is ∙ tree-reduced m kind tree root ∙ sym (ap (trees_make m) trees_are)) p
 
-pub wrote_tensor : (m : ℕ) (trees others : PlainTrees) (kind : Kind) (root reduced r s : ℕ) (tree : Breakdown) (old mid new : Writer) (ins y z : List ℕ) →
+pub wrote_tensor : (m : ℕ) (trees others : PlainTrees) (kind : Kind) (root reduced r s : ℕ) (tree : Breakdown)
+    (old mid new : Writer) (ins y z : List ℕ) →
     trees ≡ tensor kind root tree others → reduced ≡ root % m → r ≡ size_of tree → s ≡ trees_size others →
     Wrote old mid (rows_make r s (λ _. trees_make m others)) ins y →
     Wrote mid new (columns_make r s (tree_make m kind tree reduced)) y z → Wrote old new (trees_make m trees) ins z
@@ -104,7 +111,8 @@ made_with code outs next = record { code = code; outs = outs; next = next }
 -- a whole kernel
 pub kernel_written : (make : Maker) (n : ℕ) (old new : Writer) (ins outs : List ℕ) (k : KernelRecord) →
     old.code.items ≡ [] → old.inputs ≡ n → ins ≡ list_below n (λ k. k) → Wrote old new make ins outs →
-    k.code.items ≡ new.code.items → k.outputs.items ≡ outs → k.regs ≡ next_of new → made_of k ≡ make (list_below n (λ k. k)) n
+    k.code.items ≡ new.code.items → k.outputs.items ≡ outs → k.regs ≡ next_of new →
+    made_of k ≡ make (list_below n (λ k. k)) n
 kernel_written make n old new ins outs k none inputs ins_are p code_is outs_are regs_are =
     let first : next_of old ≡ n = ap₂ (λ n xs. n + length {A = Instruction} xs) inputs none ∙ add-zero n in
     let made = make ins (next_of old) in

@@ -9,20 +9,24 @@ use Rattle.operators.proofs.Lists.{length-list_below}
 use Rattle.kernel_gen.specs.declared.straight.Instruction.{Instruction}
 use Rattle.kernel_gen.specs.Instructions.{action_by, code_effect, code_cost, AreWithin}
 use Rattle.kernel_gen.specs.Making.{Made, Maker, none_make, pick_make, then_make, beside_make}
-use Rattle.kernel_gen.proofs.Below.{AllBelow, AllBelow-more, AllBelow-append, map-agree, map-joined, length-joined, ReadsBelow, map-gather, gather-below}
+use Rattle.kernel_gen.proofs.Below.{AllBelow, AllBelow-more, AllBelow-append, map-agree, map-joined, length-joined}
+use Rattle.kernel_gen.proofs.Below.{ReadsBelow, map-gather, gather-below}
 use Rattle.kernel_gen.proofs.Instructions.{AreWithin-more, AreWithin-append}
 
 -- ---- code after code
 
-pub code_effect-append : (m : ℕ) (xs ys : List Instruction) (g : Registers) → code_effect m (xs ++ ys) g ≡ code_effect m ys (code_effect m xs g)
+pub code_effect-append : (m : ℕ) (xs ys : List Instruction) (g : Registers) →
+    code_effect m (xs ++ ys) g ≡ code_effect m ys (code_effect m xs g)
 code_effect-append m [] ys g = refl
 code_effect-append m (i ∷ xs) ys g = code_effect-append m xs ys (lane_effect m 0 (action_by 1 i) g)
 
-pub weighted-append : (weight : ℕ) (xs ys : List Action) → weighted_operations weight (xs ++ ys) ≡ weighted_operations weight xs + weighted_operations weight ys
+pub weighted-append : (weight : ℕ) (xs ys : List Action) → weighted_operations weight (xs ++ ys)
+    ≡ weighted_operations weight xs + weighted_operations weight ys
 weighted-append weight [] ys = omega arith
 weighted-append weight (action ∷ xs) ys = omega (arith, weighted-append weight xs ys)
 
-pub code_cost-append : (weight : ℕ) (xs ys : List Instruction) → code_cost weight (xs ++ ys) ≡ code_cost weight xs + code_cost weight ys
+pub code_cost-append : (weight : ℕ) (xs ys : List Instruction) →
+    code_cost weight (xs ++ ys) ≡ code_cost weight xs + code_cost weight ys
 code_cost-append weight xs ys = ap (weighted_operations weight) (map-append (action_by 1) xs ys) ∙ weighted-append weight _ _
 
 pub length-code : (xs ys : List Instruction) → length (xs ++ ys) ≡ length xs + length ys
@@ -44,13 +48,15 @@ pub record DoesAt (m weight k price : ℕ) (ins : List ℕ) (next : ℕ) (made :
 
 -- a piece does so from any n inputs
 pub record Does (m weight n k price : ℕ) (make : Maker) (f : Operator) : Type 0 where
-  pub at : (ins : List ℕ) (next : ℕ) → length ins ≡ n → AllBelow next ins → DoesAt m weight k price ins next (make ins next) f
+  pub at : (ins : List ℕ) (next : ℕ) → length ins ≡ n → AllBelow next ins →
+      DoesAt m weight k price ins next (make ins next) f
   pub residues : (x : List ℕ) → length x ≡ n → AllBelow m x → AllBelow m (f x)
   pub width : (x : List ℕ) → length x ≡ n → length (f x) ≡ k
 
 module _ (m weight : ℕ) where
   -- prices that are equal, and operators that are on these residues
-  pub does_at-same : (k price other : ℕ) (ins : List ℕ) (next : ℕ) (made : Made) (f h : Operator) → price ≡ other → ((g : Registers) → AllBelow m (map g ins) → f (map g ins) ≡ h (map g ins)) →
+  pub does_at-same : (k price other : ℕ) (ins : List ℕ) (next : ℕ) (made : Made) (f h : Operator) → price ≡ other →
+      ((g : Registers) → AllBelow m (map g ins) → f (map g ins) ≡ h (map g ins)) →
       DoesAt m weight k price ins next made f → DoesAt m weight k other ins next made h
   does_at-same k price other ins next made f h price_is same done =
       record {
@@ -63,7 +69,8 @@ module _ (m weight : ℕ) where
         values = λ g small. done.values g small ∙ same g small;
       }
 
-  pub does-same : (n k price other : ℕ) (make : Maker) (f h : Operator) → price ≡ other → ((x : List ℕ) → length x ≡ n → AllBelow m x → f x ≡ h x) → ((x : List ℕ) → length x ≡ n → length (h x) ≡ k) →
+  pub does-same : (n k price other : ℕ) (make : Maker) (f h : Operator) → price ≡ other →
+      ((x : List ℕ) → length x ≡ n → AllBelow m x → f x ≡ h x) → ((x : List ℕ) → length x ≡ n → length (h x) ≡ k) →
       Does m weight n k price make f → Does m weight n k other make h
   does-same n k price other make f h price_is same width p =
       record {
@@ -73,7 +80,8 @@ module _ (m weight : ℕ) where
         width = width;
       }
 
-  pub does-size : (n n' k k' price : ℕ) (make : Maker) (f : Operator) → n ≡ n' → k ≡ k' → Does m weight n k price make f → Does m weight n' k' price make f
+  pub does-size : (n n' k k' price : ℕ) (make : Maker) (f : Operator) → n ≡ n' → k ≡ k' →
+      Does m weight n k price make f → Does m weight n' k' price make f
   does-size n n' k k' price make f e d p = subst (λ j. Does m weight n' j price make f) d (subst (λ j. Does m weight j k price make f) e p)
 
   pub does-pick : (n k : ℕ) (f : ℕ → ℕ) → ReadsBelow n k f → Does m weight n k 0 (pick_make (gather k f)) (gather k f)
@@ -96,7 +104,8 @@ module _ (m weight : ℕ) where
   pub does-none : (n : ℕ) → Does m weight n 0 0 none_make (λ _. [])
   does-none n = does-pick n 0 (λ i. i) (λ i below. absurd (omega arith))
 
-  pub does-then : (n j k cost price : ℕ) (first second : Maker) (f h : Operator) → Does m weight n j cost first f → Does m weight j k price second h → Does m weight n k (cost + price) (then_make first second) (λ x. h (f x))
+  pub does-then : (n j k cost price : ℕ) (first second : Maker) (f h : Operator) → Does m weight n j cost first f →
+      Does m weight j k price second h → Does m weight n k (cost + price) (then_make first second) (λ x. h (f x))
   does-then n j k cost price first second f h p q =
       record {
         at = λ ins next size under.
@@ -122,7 +131,9 @@ module _ (m weight : ℕ) where
         width = λ x size. q.width (f x) (p.width x size);
       }
 
-  pub does-beside : (n j k cost price : ℕ) (first second : Maker) (f h : Operator) → Does m weight n j cost first f → Does m weight n k price second h → Does m weight n (j + k) (cost + price) (beside_make first second) (λ x. f x ++ h x)
+  pub does-beside : (n j k cost price : ℕ) (first second : Maker) (f h : Operator) → Does m weight n j cost first f →
+      Does m weight n k price second h → Does m weight n (j + k) (cost + price) (beside_make first second)
+      (λ x. f x ++ h x)
   does-beside n j k cost price first second f h p q =
       record {
         at = λ ins next size under.
@@ -171,6 +182,7 @@ module _ (m weight : ℕ) where
   joined {n} {j} {k} p q = piece (does-then n j k p.price q.price p.make q.make p.op q.op p.does q.does)
 
   -- at another price and for another operator that are equal
-  pub does-as : {n k : ℕ} (p : Piece n k) (price : ℕ) (f : Operator) → p.price ≡ price → ((x : List ℕ) → length x ≡ n → AllBelow m x → p.op x ≡ f x) → ((x : List ℕ) → length x ≡ n → length (f x) ≡ k) →
+  pub does-as : {n k : ℕ} (p : Piece n k) (price : ℕ) (f : Operator) → p.price ≡ price →
+      ((x : List ℕ) → length x ≡ n → AllBelow m x → p.op x ≡ f x) → ((x : List ℕ) → length x ≡ n → length (f x) ≡ k) →
       Does m weight n k price p.make f
   does-as {n} {k} p price f price_is same width = does-same n k p.price price p.make p.op f price_is same width p.does

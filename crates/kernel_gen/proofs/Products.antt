@@ -15,7 +15,8 @@ use Rattle.kernel_gen.proofs.Pieces.{Does, DoesAt, does-same}
 use Rattle.kernel_gen.proofs.Trees.{does-split}
 
 does-trees : (m weight : ℕ) (trees : PlainTrees) → 2 ≤ m → CanMake m trees →
-    Does m weight (trees_size trees) (trees_size trees) (trees_cost weight m trees) (trees_make m trees) (trees_on m trees)
+    Does m weight (trees_size trees) (trees_size trees) (trees_cost weight m trees) (trees_make m trees)
+    (trees_on m trees)
 does-trees m weight (single kind root tree) modulus can = does-any m weight kind tree root modulus can.0 can.1
 does-trees m weight (tensor kind root tree others) modulus can =
     let r = size_of tree in
@@ -33,7 +34,8 @@ does-trees m weight (tensor kind root tree others) modulus can =
 
 -- what the kernel of trees does in a lane
 pub trees-does : (m weight : ℕ) (trees : PlainTrees) → 2 ≤ m → CanMake m trees →
-    DoesAt m weight (trees_size trees) (trees_cost weight m trees) (firsts (trees_size trees)) (trees_size trees) (trees_kernel m trees) (trees_on m trees)
+    DoesAt m weight (trees_size trees) (trees_cost weight m trees) (firsts (trees_size trees)) (trees_size trees)
+    (trees_kernel m trees) (trees_on m trees)
 trees-does m weight trees modulus can =
     let n = trees_size trees in
     let done : Does m weight n n (trees_cost weight m trees) (trees_make m trees) (trees_on m trees) = does-trees m weight trees modulus can in

@@ -27,7 +27,8 @@ entries-reduced Wht m n w = refl
 entries-reduced Idft m n w =
     λ i k l. product_mod m (inverse_mod m n) (power_mod m (power_mod-reduced m w (n - 1) i) (k * l))
 
-rule-reduced : (m : ℕ) (rule : Rule) (r s w : ℕ) (a b : Maker) → node_make m rule r s (w % m) a b ≡ node_make m rule r s w a b
+rule-reduced : (m : ℕ) (rule : Rule) (r s w : ℕ) (a b : Maker) →
+    node_make m rule r s (w % m) a b ≡ node_make m rule r s w a b
 rule-reduced m Gt r s w a b = refl
 rule-reduced m Ct r s w a b =
     ap (λ (power : ℕ → ℕ). then_make (pick_make (turn r s)) (then_make (rows_make r s (λ i. then_make b (diagonal_make m s (λ k. power (i * k))))) (columns_make r s a))) (powers-reduced m w)

@@ -23,9 +23,11 @@ part_root Idft m w n d q large whole root =
     let least : 1 < m = large in
     power_mod_of_power m w q d ∙ ap (power_mod m w) (mul_comm q d ∙ whole) ∙ root ∙ sym (mod-eq_of_lt least)
 
-pub root-of : (c : Request) (t : Breakdown) → IsValid c → c.size % size_of t ≡ 0 → IsRoot c.kind c.modulus (size_of t) (node_root c (size_of t))
+pub root-of : (c : Request) (t : Breakdown) → IsValid c → c.size % size_of t ≡ 0 →
+    IsRoot c.kind c.modulus (size_of t) (node_root c (size_of t))
 root-of c t valid divides =
     part_root c.kind c.modulus c.root c.size (size_of t) _ valid.in_range.modulus.0 (product_div c.size (size_of t) divides) valid.root
 
-pub any-root : (c : Request) (t : Breakdown) → IsValid c → c.size % size_of t ≡ 0 → AllowsRoot c.modulus (node_root c (size_of t)) c.kind t
+pub any-root : (c : Request) (t : Breakdown) → IsValid c → c.size % size_of t ≡ 0 →
+    AllowsRoot c.modulus (node_root c (size_of t)) c.kind t
 any-root c t valid divides = root-any c.kind c.modulus t (node_root c (size_of t)) (root-of c t valid divides)

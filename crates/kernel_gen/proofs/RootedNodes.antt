@@ -1,5 +1,6 @@
 -- Trees with the roots of their nodes: what they do, what they cost, and that they can be made.
-use Rattle.std.proofs.Common.{◌≡◌, ℕ, ◌+◌, ◌*◌, ◌/◌, ◌<◌, Bool, true, false, List, refl, sym, ap, ap₂, ◌∙◌, arith, if◌then◌else◌, subst}
+use Rattle.std.proofs.Common.{◌≡◌, ℕ, ◌+◌, ◌*◌, ◌/◌, ◌<◌, Bool, true, false, List, refl, sym, ap, ap₂, ◌∙◌, arith}
+use Rattle.std.proofs.Common.{if◌then◌else◌, subst}
 use Rattle.std.specs.Prelude.{nat_le, ◌==◌}
 use Rattle.std.proofs.lemmas.Bool.Decides.{nat_tests}
 use Rattle.tree_model.specs.KernelCosts.{AllowsRoot, CanMake, kernel_cost, trees_cost}
@@ -14,7 +15,8 @@ use Rattle.matrix_meaning.proofs.Parts.{first_is_one}
 use Rattle.operators.specs.Operator.{on_blocks, on_columns}
 use Rattle.operators.proofs.Lists.{on_blocks-same, on_columns-same}
 use Rattle.kernel_gen.specs.Nodes.{IsNodeTree}
-use Rattle.kernel_gen.proofs.NodeTrees.{IsPartOf, first_is_part, rest_is_part, left_tree, right_tree, left_less, right_less}
+use Rattle.kernel_gen.proofs.NodeTrees.{IsPartOf, first_is_part, rest_is_part, left_tree, right_tree, left_less}
+use Rattle.kernel_gen.proofs.NodeTrees.{right_less}
 use Rattle.tree_model.specs.Breakdown.{Breakdown, leaf, node, size_of, IsWellFormed}
 use Rattle.tree_model.specs.Cost.{is_kernel, is_plain, node_root}
 use Rattle.tree_model.specs.Trees.{trees_on}

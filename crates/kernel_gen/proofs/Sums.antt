@@ -1,5 +1,6 @@
 -- The code of a sum of products.
-use Rattle.std.proofs.Common.{◌≡◌, ℕ, ◌+◌, ◌-◌, ◌*◌, ◌%◌, ◌<◌, ◌≤◌, Bool, true, false, arith, refl, sym, ap, ap₂, ◌∙◌, List, [], ◌∷◌, length, map, mod-lt, mul_comm, if◌then◌else◌}
+use Rattle.std.proofs.Common.{◌≡◌, ℕ, ◌+◌, ◌-◌, ◌*◌, ◌%◌, ◌<◌, ◌≤◌, Bool, true, false, arith, refl, sym, ap, ap₂, ◌∙◌}
+use Rattle.std.proofs.Common.{List, [], ◌∷◌, length, map, mod-lt, mul_comm, if◌then◌else◌}
 use Rattle.std.specs.Prelude.{◌==◌}
 use Rattle.std.proofs.Math.Nat.{one-mul, mod-eq_of_lt, mod-mod}
 use Rattle.std.proofs.lemmas.Bool.{eqb-true}
@@ -41,7 +42,8 @@ record IsTerm (m weight price c acc i next : ℕ) (t : Term) : Type 0 where
   value : (g : Registers) → g i < m → code_effect m t.code g t.acc ≡ (g acc + c * g i) % m
 
 module _ (m weight : ℕ) (positive : 0 < m) where
-  is-term : (c acc i next : ℕ) → c < m → acc < next → i < next → IsTerm m weight (product_cost weight m 0 c) c acc i next (term_make m c acc i next)
+  is-term : (c acc i next : ℕ) → c < m → acc < next → i < next →
+      IsTerm m weight (product_cost weight m 0 c) c acc i next (term_make m c acc i next)
   is-term c acc i next residue acc_in i_in = pick (c == 1) (c == m - 1) refl refl
     where
       pick : (one last : Bool) → (c == 1) ≡ one → (c == m - 1) ≡ last →

@@ -1,5 +1,6 @@
 -- The code of a tree computes the tree's transform, at the tree's cost.
-use Rattle.std.proofs.Common.{◌≡◌, ℕ, ◌+◌, ◌*◌, ◌%◌, ◌<◌, ◌≤◌, inl, inr, arith, sym, ap, ap₂, ◌∙◌, List, length, mod-lt, mul_comm, mul-zero}
+use Rattle.std.proofs.Common.{◌≡◌, ℕ, ◌+◌, ◌*◌, ◌%◌, ◌<◌, ◌≤◌, inl, inr, arith, sym, ap, ap₂, ◌∙◌, List, length, mod-lt}
+use Rattle.std.proofs.Common.{mul_comm, mul-zero}
 use Rattle.std.specs.Prelude.{slice_index, count_ones}
 use lib.Count.{ones}
 use Rattle.std.specs.Int.Bits.{and_zero_r}
@@ -17,7 +18,8 @@ use Rattle.operators.specs.Sum.{sum_below}
 use Rattle.matrix_meaning.proofs.CooleyTukey.{cooley_tukey}
 use Rattle.matrix_meaning.proofs.GoodThomas.{good_thomas}
 use Rattle.matrix_meaning.proofs.WalshHadamard.{split}
-use Rattle.operators.proofs.Lists.{length-list_below, at-list_below, list_below-same_rows, at-on_blocks, row-of, column-of, place_below, factor_positive}
+use Rattle.operators.proofs.Lists.{length-list_below, at-list_below, list_below-same_rows, at-on_blocks, row-of}
+use Rattle.operators.proofs.Lists.{column-of, place_below, factor_positive}
 use Rattle.operators.proofs.Places.{stride_below}
 use Rattle.operators.proofs.Sums.{sum_below-add}
 use Rattle.ring_mod.specs.Residue.{power_mod}
@@ -52,7 +54,8 @@ good_thomas_out_below r s p below =
 
 -- the twiddles of each row stand in one diagonal
 rows-twiddled : (m r s w : ℕ) (f : Operator) (x : List ℕ) →
-    on_each_block r s (λ i y. scale m s (λ k. power_mod m w (i * k)) (f y)) x ≡ scale m (r * s) (twiddle m s w) (on_blocks r s f x)
+    on_each_block r s (λ i y. scale m s (λ k. power_mod m w (i * k)) (f y)) x ≡ scale m (r * s) (twiddle m s w)
+    (on_blocks r s f x)
 rows-twiddled m r s w f x =
     list_below-same_rows r s _ _ (λ a b row below.
     ap₂ (λ i j. slice_index (scale m s (λ k. power_mod m w (i * k)) (f (block s i x))) j) (row-of a b s below) (column-of a b s below)
@@ -67,8 +70,10 @@ module _ (m weight : ℕ) (modulus : 2 ≤ m) where
   strided r s = picked m weight (r * s) (r * s) (stride r s) (λ i below. (stride_below r s i below).1)
 
   does-ct : (r s w cost price : ℕ) (a b : Maker) → power_mod m w (r * s) ≡ 1 % m →
-      Does m weight r r cost a (transform Dft m r (power_mod m w s)) → Does m weight s s price b (transform Dft m s (power_mod m w r)) →
-      Does m weight (r * s) (r * s) (s * cost + r * price + rule_cost weight m Ct r s w) (node_make m Ct r s w a b) (transform Dft m (r * s) w)
+      Does m weight r r cost a (transform Dft m r (power_mod m w s)) →
+      Does m weight s s price b (transform Dft m s (power_mod m w r)) →
+      Does m weight (r * s) (r * s) (s * cost + r * price + rule_cost weight m Ct r s w) (node_make m Ct r s w a b)
+      (transform Dft m (r * s) w)
   does-ct r s w cost price a b root p q =
       let factors = λ (i k : ℕ). power_mod m w (i * k) in
       let row : ℕ → Piece m weight s s = λ i. joined m weight (piece m weight q) (piece m weight (does-diagonal m weight (omega arith) s (factors i) (λ k. power_below m w (i * k) (omega arith)))) in
@@ -84,7 +89,9 @@ module _ (m weight : ℕ) (modulus : 2 ≤ m) where
       (λ x size. length-list_below (r * s) _)
 
   does-gt : (r s w cost price : ℕ) (a b : Maker) (f left right : Operator) →
-      ((x : List ℕ) → f x ≡ gather (r * s) (good_thomas_out r s) (on_columns r s left (on_blocks r s right (gather (r * s) (good_thomas_in r s) x)))) → ((x : List ℕ) → length (f x) ≡ r * s) →
+      ((x : List ℕ) → f x ≡ gather (r * s) (good_thomas_out r s)
+      (on_columns r s left (on_blocks r s right (gather (r * s) (good_thomas_in r s) x)))) →
+      ((x : List ℕ) → length (f x) ≡ r * s) →
       Does m weight r r cost a left → Does m weight s s price b right →
       Does m weight (r * s) (r * s) (s * cost + r * price + rule_cost weight m Gt r s w) (node_make m Gt r s w a b) f
   does-gt r s w cost price a b f left right law width p q =
@@ -98,7 +105,8 @@ module _ (m weight : ℕ) (modulus : 2 ≤ m) where
   pub does-split : (r s w cost price : ℕ) (a b : Maker) (f left right : Operator) →
       ((x : List ℕ) → f x ≡ on_columns r s left (on_blocks r s right x)) → ((x : List ℕ) → length (f x) ≡ r * s) →
       Does m weight r r cost a left → Does m weight s s price b right →
-      Does m weight (r * s) (r * s) (s * cost + r * price + rule_cost weight m Split r s w) (node_make m Split r s w a b) f
+      Does m weight (r * s) (r * s) (s * cost + r * price + rule_cost weight m Split r s w)
+      (node_make m Split r s w a b) f
   does-split r s w cost price a b f left right law width p q =
       does-as m weight (joined m weight (in_rows m weight r s (λ _. piece m weight q)) (in_columns m weight r s (piece m weight p)))
       (s * cost + r * price + rule_cost weight m Split r s w) f
@@ -128,7 +136,8 @@ module _ (m weight : ℕ) (modulus : 2 ≤ m) where
       does-matrix m weight (omega arith) d (entry_of kind m d w) (some_items kind d formed) (λ i. first_column kind m d w i formed modulus) (λ k l. entry_below kind m d w k l modulus)
 
   pub does-tree : (kind : Kind) (t : Breakdown) (w : ℕ) → IsWellFormed kind t → IsRoot kind m (size_of t) w →
-      Does m weight (size_of t) (size_of t) (kernel_cost weight m kind t w) (tree_make m kind t w) (transform kind m (size_of t) w)
+      Does m weight (size_of t) (size_of t) (kernel_cost weight m kind t w) (tree_make m kind t w)
+      (transform kind m (size_of t) w)
   does-tree kind (leaf d) w formed root = does-leaf kind d w formed
   does-tree Dft (node Ct a b) w formed root =
       does-ct (size_of a) (size_of b) w _ _ _ _ root

@@ -5,7 +5,8 @@ use Rattle.operators.specs.Operator.{good_thomas_in}
 use Rattle.operators.proofs.Lists.{place_below, factor_positive}
 
 -- the parts of a place of GTIN are below the size
-pub good_thomas_in_parts : (r s p : ℕ) → p < r * s → (0 < s) × (0 < r * s) × (s * (p / s) < r * s) × (r * (p % s) < r * s) × (good_thomas_in r s p < r * s)
+pub good_thomas_in_parts : (r s p : ℕ) → p < r * s → (0 < s) × (0 < r * s) × (s * (p / s) < r * s)
+    × (r * (p % s) < r * s) × (good_thomas_in r s p < r * s)
 good_thomas_in_parts r s p below =
     let some : 0 < s = factor_positive r s p below in
     let some_rows : 0 < r = factor_positive s r p (rw (mul_comm s r) below) in

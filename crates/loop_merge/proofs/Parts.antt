@@ -12,7 +12,8 @@ use Rattle.loop_nests.specs.Parts.{IsPart}
 use Rattle.loop_merge.specs.Alone.{merged_alone}
 use Rattle.loop_merge.specs.Known.{IsGood, AreKnownPasses, HasRoom, IsKnown}
 use Rattle.loop_merge.proofs.Readies.{steps-end}
-use Rattle.loop_merge.proofs.Merged.{inner-room, known-ended, known-sides, merged-known, nothing-known, ready-of, within-of}
+use Rattle.loop_merge.proofs.Merged.{inner-room, known-ended, known-sides, merged-known, nothing-known, ready-of}
+use Rattle.loop_merge.proofs.Merged.{within-of}
 
 -- a term that can be merged on n words, where so much room is left
 pub record CanMerge (room n : ℕ) (t : PlainTerm) : Type 0 where
@@ -21,7 +22,8 @@ pub record CanMerge (room n : ℕ) (t : PlainTerm) : Type 0 where
   pub several : HasSeveral t
   pub words : AreWords n t
 
-pub can-merge : (room n : ℕ) (t : PlainTerm) → HasRoom room n → IsGood n t → HasSeveral t → AreWords n t → CanMerge room n t
+pub can-merge : (room n : ℕ) (t : PlainTerm) → HasRoom room n → IsGood n t → HasSeveral t → AreWords n t →
+    CanMerge room n t
 can-merge room n t h good several words = record { room_left = h; good = good; several = several; words = words }
 
 pub same-term : (room n : ℕ) (t s : Term) → s ≡ t → CanMerge room n (plain_term t) → CanMerge room n (plain_term s)
@@ -52,7 +54,8 @@ pub record AreParts (room r n : ℕ) (path : Path) (k l : ℕ) (a b : PlainTerm)
   pub first : CanMerge r k a
   pub second : CanMerge r l b
 
-pub parts-of : (room n depth : ℕ) (path : Path) (k l : ℕ) (t a b : PlainTerm) → CanMerge room n t → t ≡ beside path k a l b → depth ≡ length path → AreParts room (room - depth) n path k l a b
+pub parts-of : (room n depth : ℕ) (path : Path) (k l : ℕ) (t a b : PlainTerm) → CanMerge room n t →
+    t ≡ beside path k a l b → depth ≡ length path → AreParts room (room - depth) n path k l a b
 parts-of room n depth path k l t a b can is deep = parted (subst (CanMerge room n) is can) where
   parted : CanMerge room n (beside path k a l b) → AreParts room (room - depth) n path k l a b
   parted h =
@@ -70,11 +73,13 @@ parts-of room n depth path k l t a b can is deep = parted (subst (CanMerge room 
 
 -- ---- what is merged
 
-pub merged-anew : (room n : ℕ) (a : PlainTerm) (st : Merging) → CanMerge room n a → st ≡ merged (most room) n nothing a → IsKnown room n st
+pub merged-anew : (room n : ℕ) (a : PlainTerm) (st : Merging) → CanMerge room n a →
+    st ≡ merged (most room) n nothing a → IsKnown room n st
 merged-anew room n a st can is =
     subst (IsKnown room n) (sym is) (merged-known room n nothing a can.room_left can.good can.several can.words (nothing-known room n))
 
-module _ (room n : ℕ) (a : PlainTerm) (can : CanMerge room n a) (ps : List (List PlainNest)) (is : ps ≡ merged_alone (most room) n a) where
+module _ (room n : ℕ) (a : PlainTerm) (can : CanMerge room n a) (ps : List (List PlainNest))
+    (is : ps ≡ merged_alone (most room) n a) where
   pub alone-known : AreKnownPasses room n ps
   alone-known =
       let all = merged-anew room n a (merged (most room) n nothing a) can refl in
@@ -83,7 +88,8 @@ module _ (room n : ℕ) (a : PlainTerm) (can : CanMerge room n a) (ps : List (Li
   pub is-part : IsPart n ps
   is-part = record { room = room; within = within-of room n ps alone-known; ready = ready-of room n ps alone-known }
 
-pub known-both : (room r n : ℕ) (path : Path) (k l : ℕ) (a b : PlainTerm) (ps qs both : List (List PlainNest)) → HasRoom room n → AreParts room r n path k l a b →
+pub known-both : (room r n : ℕ) (path : Path) (k l : ℕ) (a b : PlainTerm) (ps qs both : List (List PlainNest)) →
+    HasRoom room n → AreParts room r n path k l a b →
     AreKnownPasses r k ps → AreKnownPasses r l qs → both ≡ sides path k l ps qs → AreKnownPasses room n both
 known-both room r n path k l a b ps qs both h parts p q e =
     subst (AreKnownPasses room n) (sym e)

@@ -1,5 +1,6 @@
 -- Passes for one processor and one lane are ready.
-use Rattle.std.proofs.Common.{◌≡◌, ℕ, ◌+◌, ◌*◌, ◌^◌, ◌<◌, ◌≤◌, true, Bool, refl, sym, ap, ap₂, ◌∙◌, arith, List, [], ◌∷◌, ◌++◌, length, length-append, append-nil, subst, All}
+use Rattle.std.proofs.Common.{◌≡◌, ℕ, ◌+◌, ◌*◌, ◌^◌, ◌<◌, ◌≤◌, true, Bool, refl, sym, ap, ap₂, ◌∙◌, arith, List, []}
+use Rattle.std.proofs.Common.{◌∷◌, ◌++◌, length, length-append, append-nil, subst, All}
 use Rattle.std.specs.Prelude.{◌&&◌}
 use Rattle.std.specs.List.{list_all}
 use Rattle.std.proofs.lemmas.List.Elements.{All-cons, All-head, All-nil, All-tail, All-weaker}
@@ -99,7 +100,8 @@ module _ (n m : ℕ) where
         nests = All-weaker (IsPlainNest n m) (IsReadyNest (plain_machine n m)) (λ z k. k.ready) zs h.nests;
       }
 
-  pub plain_are_ready : (ps : List (List PlainNest)) → ArePlainPasses n m ps → IsReady (plain_machine n m) (plain_phase n ps)
+  pub plain_are_ready : (ps : List (List PlainNest)) → ArePlainPasses n m ps →
+      IsReady (plain_machine n m) (plain_phase n ps)
   plain_are_ready ps h =
       let one : all_passes (in_order ps ∷ []) ≡ in_order ps = append-nil (in_order ps) in
       let long = length-order ps in

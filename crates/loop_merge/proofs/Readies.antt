@@ -23,7 +23,8 @@ low room n h = round-word (64 - room) n h.round
 
 -- ---- copies
 
-pub copy-words : (room : Room) (n : ℕ) (f : Mapping) → can_gather room n f (copying n) ≡ false → copied_by_word n f ≡ copy_by room n f
+pub copy-words : (room : Room) (n : ℕ) (f : Mapping) → can_gather room n f (copying n) ≡ false →
+    copied_by_word n f ≡ copy_by room n f
 copy-words room n f can = sym (ap (λ b. if b then gathered f (copying n) else copied_by_word n f) can)
 
 module _ (room n : ℕ) (h : HasRoom room n) where
@@ -39,10 +40,12 @@ module _ (room n : ℕ) (h : HasRoom room n) where
       (λ can. known-gathered room n f (copying n) step.moves.there can known-copying) (known-words f step.moves.permutes.there_below)
 
   -- what is left to merge, where a pass takes a gather
-  pub known-more : (f : Mapping) (zs qs : List PlainNest) → IsStep n f → can_gather (most room) n f zs ≡ true → qs ≡ gathered f zs → IsKnownPass room n zs → IsKnownPass room n qs
+  pub known-more : (f : Mapping) (zs qs : List PlainNest) → IsStep n f → can_gather (most room) n f zs ≡ true →
+      qs ≡ gathered f zs → IsKnownPass room n zs → IsKnownPass room n qs
   known-more f zs qs step can is known = subst (IsKnownPass room n) (sym is) (known-gathered room n f zs step.moves.there can known)
 
-  pub known-stores : (f : Mapping) (zs qs : List PlainNest) → IsFormed f → can_scatter (most room) n f zs ≡ true → qs ≡ scattered f zs → IsKnownPass room n zs → IsKnownPass room n qs
+  pub known-stores : (f : Mapping) (zs qs : List PlainNest) → IsFormed f → can_scatter (most room) n f zs ≡ true →
+      qs ≡ scattered f zs → IsKnownPass room n zs → IsKnownPass room n qs
   known-stores f zs qs formed can is known = subst (IsKnownPass room n) (sym is) (known-scattered room n f zs formed can known)
 
 -- ---- gathers from their end

@@ -1,5 +1,6 @@
 -- The terms of a tree merge into the passes that the cost model counts, of which a program can be made.
-use Rattle.std.proofs.Common.{◌≡◌, ℕ, ◌==◌, ◌<◌, Bool, true, false, arith, refl, sym, ap, ap₂, ◌∙◌, subst, List, [], ◌∷◌, ◌++◌, All, length, length-append, if◌then◌else◌}
+use Rattle.std.proofs.Common.{◌≡◌, ℕ, ◌==◌, ◌<◌, Bool, true, false, arith, refl, sym, ap, ap₂, ◌∙◌, subst, List, []}
+use Rattle.std.proofs.Common.{◌∷◌, ◌++◌, All, length, length-append, if◌then◌else◌}
 use Rattle.std.specs.Prelude.{map, reverse}
 use Rattle.std.proofs.lemmas.List.{length-map, map-append, reverse-append}
 use Rattle.std.proofs.lemmas.List.Elements.{All-append, All-cons, All-head, All-nil, All-tail, All-weaker}
@@ -83,7 +84,8 @@ some-phases false n is = omega (arith, is)
 -- ---- each pass is ready
 
 module _ (h : Target) (host : IsHost h) (lanes : ℕ) where
-  pass-ready : (p : PlainLoop) (ps : List (List PlainNest)) → IsReadyLoop h p → ArePasses lanes h.size (one_nest p ∷ ps) →
+  pass-ready : (p : PlainLoop) (ps : List (List PlainNest)) → IsReadyLoop h p →
+      ArePasses lanes h.size (one_nest p ∷ ps) →
       IsReadyPass h (one_nest p)
   pass-ready p ps ready are =
       let large = host.modulus.0 in

@@ -6,7 +6,8 @@ use Rattle.index_fn.specs.Mapping.{Mapping}
 use Rattle.std.proofs.lemmas.List.{map-append, reverse-append, reverse-reverse}
 use Rattle.index_fn.specs.Index.{mapping_of}
 use Rattle.index_fn.specs.declared.Index.{Index}
-use Rattle.sigma_spl.specs.Merge.{Merging, Room, back_of, can_scatter, ended, from_end, most, settled, with_pass, with_passes}
+use Rattle.sigma_spl.specs.Merge.{Merging, Room, back_of, can_scatter, ended, from_end, most, settled, with_pass}
+use Rattle.sigma_spl.specs.Merge.{with_passes}
 use Rattle.sigma_spl.specs.Nest.{PlainNest}
 use Rattle.sigma_spl.specs.declared.nest.Nest.{Nest}
 use Rattle.loop_nests.specs.PassPlaces.Known.{AreSteps}
@@ -50,7 +51,8 @@ known_right : (room n : ℕ) (ps qs : List (List PlainNest)) → AreKnownPasses 
 known_right room n [] qs h = h
 known_right room n (p ∷ ps) qs h = known_right room n ps qs h.1
 
-pub known_turned : (room n : ℕ) (ps : List (Vec Nest Global)) → AreKnownPasses room n (from_last ps) → AreKnownPasses room n (plain_passes ps)
+pub known_turned : (room n : ℕ) (ps : List (Vec Nest Global)) → AreKnownPasses room n (from_last ps) →
+    AreKnownPasses room n (plain_passes ps)
 known_turned room n [] h = tt
 known_turned room n (p ∷ ps) h =
     let whole = subst (AreKnownPasses room n) (more_passes (p ∷ ps) (p ∷ []) ps refl) h in

@@ -1,5 +1,6 @@
 -- The items of works, whose places can be made.
-use Rattle.std.proofs.Common.{◌≡◌, ℕ, zero, suc, ◌+◌, ◌-◌, ◌*◌, ◌^◌, ◌<◌, ◌≤◌, arith, refl, sym, ap, ◌∙◌, List, [], ◌∷◌, ◌++◌, length, inl, inr, subst}
+use Rattle.std.proofs.Common.{◌≡◌, ℕ, zero, suc, ◌+◌, ◌-◌, ◌*◌, ◌^◌, ◌<◌, ◌≤◌, arith, refl, sym, ap, ◌∙◌, List, [], ◌∷◌}
+use Rattle.std.proofs.Common.{◌++◌, length, inl, inr, subst}
 use Rattle.std.specs.Prelude.{All, map, slice_index}
 use Rattle.std.specs.List.{range_with_len}
 use Rattle.std.proofs.Math.Nat.{mul-le-mul, mul-le-mul_right}
@@ -121,7 +122,8 @@ length-below (Columns c ∷ path) n several some =
     let turned : size_under path n * c ≡ c * size_under path n = omega arith in
     let more = mul-le-mul_right (size_under path n) several.0 in omega (arith, more, turned, length-below path n several.1 some)
 
-pub counts-from : (path : Path) (d : ℕ) (cs : ℕ → ℕ) (more : List ℕ) → ((i : ℕ) → cs (d + i) ≡ slice_index (map count_of path ++ more) i) → HasCounts path d cs
+pub counts-from : (path : Path) (d : ℕ) (cs : ℕ → ℕ) (more : List ℕ) →
+    ((i : ℕ) → cs (d + i) ≡ slice_index (map count_of path ++ more) i) → HasCounts path d cs
 counts-from [] d cs more is = tt
 counts-from (t ∷ path) d cs more is = (ap cs (omega arith) ∙ is 0, counts-from path (d + 1) cs more (λ i. ap cs (omega arith) ∙ is (suc i)))
 

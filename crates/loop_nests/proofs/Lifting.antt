@@ -1,5 +1,6 @@
 -- Nests within the limits can be made part of a larger array.
-use Rattle.std.proofs.Common.{◌≡◌, ℕ, suc, ◌+◌, ◌-◌, ◌^◌, ◌<◌, ◌≤◌, true, arith, ap, ◌∙◌, List, [], ◌∷◌, ◌++◌, length, Option, Some, None}
+use Rattle.std.proofs.Common.{◌≡◌, ℕ, suc, ◌+◌, ◌-◌, ◌^◌, ◌<◌, ◌≤◌, true, arith, ap, ◌∙◌, List, [], ◌∷◌, ◌++◌, length}
+use Rattle.std.proofs.Common.{Option, Some, None}
 use Rattle.std.specs.Prelude.{All, map, slice_index, nat_lt, nat_le, ◌&&◌}
 use Rattle.std.specs.List.{list_all}
 use Rattle.std.proofs.lemmas.Bool.Decides.{nat_tests}
@@ -50,7 +51,8 @@ past : (path : Path) (l : List ℕ) (i : ℕ) → slice_index (map count_of path
 past [] l i = ap (slice_index l) (omega arith)
 past (t ∷ path) l i = ap (slice_index (map count_of (t ∷ path) ++ l)) (let e : i + length (t ∷ path) ≡ suc (i + length path) = omega arith in e) ∙ past path l i
 
-module _ (room part n before : ℕ) (path : Path) (z : PlainNest) (several : AreSeveral path) (some : 0 < n) (high : size_under path n ≤ 2 ^ 20) (fits : before + part ≤ n) where
+module _ (room part n before : ℕ) (path : Path) (z : PlainNest) (several : AreSeveral path) (some : 0 < n)
+    (high : size_under path n ≤ 2 ^ 20) (fits : before + part ≤ n) where
   abbrev counts : List ℕ
   counts = z.counts ++ work_size z.work ∷ work_size z.work ∷ []
 

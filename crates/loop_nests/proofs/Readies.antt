@@ -30,14 +30,16 @@ counts-joined n (variable f d rest) e h g = (h.0, counts-joined n rest e h.1 g)
 counts-joined n (remainder f of m rest) e h g = (h.0, counts-joined n rest e h.1 g)
 counts-joined n (quotient f of m rest) e h g = (h.0, counts-joined n rest e h.1 g)
 
-pub counts-place : (n : ℕ) (path : Path) (d v : ℕ) (e : Sum) → v + length path ≤ n → HasCounts n e → HasCounts n (place_sum path d v e)
+pub counts-place : (n : ℕ) (path : Path) (d v : ℕ) (e : Sum) → v + length path ≤ n → HasCounts n e →
+    HasCounts n (place_sum path d v e)
 counts-place n [] d v e fits h = h
 counts-place n (Blocks c ∷ path) d v e fits h =
     counts-joined n (scaled (size_under path d) (variable 1 v (constant 0))) (place_sum path d (v + 1) e) (omega (arith, fits), tt) (counts-place n path d (v + 1) e (omega (arith, fits)) h)
 counts-place n (Columns c ∷ path) d v e fits h =
     counts-joined n (scaled c (place_sum path d (v + 1) e)) (variable 1 v (constant 0)) (counts-scaled n c _ (counts-place n path d (v + 1) e (omega (arith, fits)) h)) (omega (arith, fits), tt)
 
-pub ready-places : (n : ℕ) (path : Path) (d : ℕ) (es : List Sum) → length path ≤ n → AreReady n es → AreReady n (map (place_sum path d 0) es)
+pub ready-places : (n : ℕ) (path : Path) (d : ℕ) (es : List Sum) → length path ≤ n → AreReady n es →
+    AreReady n (map (place_sum path d 0) es)
 ready-places n path d [] fits h = tt
 ready-places n path d (e ∷ es) fits h =
     (record { counts = counts-place n path d 0 e (omega (arith, fits)) h.0.counts; sound = sound-place_sum path d 0 e h.0.sound }, ready-places n path d es fits h.1)
@@ -71,7 +73,8 @@ pub depth-is : (path : Path) → length (map count_of path) ≡ length path
 depth-is [] = refl
 depth-is (t ∷ path) = ap suc (depth-is path)
 
-pub ready-new : (path : Path) (w : PlainWork) (items : List Sum) → HasWords w → AreReady (length path + 2) items → IsReadyPass (new_nest path w items ∷ [])
+pub ready-new : (path : Path) (w : PlainWork) (items : List Sum) → HasWords w → AreReady (length path + 2) items →
+    IsReadyPass (new_nest path w items ∷ [])
 ready-new path w items words h =
     let depth = sym (depth-is path) in (
       record {
@@ -88,5 +91,6 @@ ready-new path w items words h =
 pub ready-copying : (n : ℕ) → IsReadyPass (copying n)
 ready-copying n = ready-new (one_loop n) (copy 1) (items_in (copy 1) (length (one_loop n))) tt (ready-in (length (one_loop n)) (copy 1) (omega arith))
 
-pub ready-words : (n : ℕ) (f : Mapping) → IsReadyPass (new_nest [] (copy (length (list_below n (at f)))) (map constant (list_below n (at f))) ∷ [])
+pub ready-words : (n : ℕ) (f : Mapping) → IsReadyPass (new_nest [] (copy (length (list_below n (at f))))
+    (map constant (list_below n (at f))) ∷ [])
 ready-words n f = ready-new [] (copy (length (list_below n (at f)))) (map constant (list_below n (at f))) tt (ready-constants 2 (list_below n (at f)))

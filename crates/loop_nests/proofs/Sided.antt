@@ -42,11 +42,13 @@ module _ (path : Path) (size before : ℕ) where
   ready-ups n [] h = tt
   ready-ups n (e ∷ es) h = (ready-up n e h.0, ready-ups n es h.1)
 
-  ready-laters : (n : ℕ) (es : List Sum) → AreReady n es → AreReady (length path + n) (map (renumbered (length path)) es)
+  ready-laters : (n : ℕ) (es : List Sum) → AreReady n es → AreReady (length path + n)
+      (map (renumbered (length path)) es)
   ready-laters n [] h = tt
   ready-laters n (e ∷ es) h = (ready-later (length path) n e h.0, ready-laters n es h.1)
 
-  ready-factors : (n : ℕ) (o : Option PlainMultiplier) → IsReadyMultiplier n o → IsReadyMultiplier (length path + n) (renumbered_places (length path) o)
+  ready-factors : (n : ℕ) (o : Option PlainMultiplier) → IsReadyMultiplier n o →
+      IsReadyMultiplier (length path + n) (renumbered_places (length path) o)
   ready-factors n None h = tt
   ready-factors n (Some d) h = ready-laters n d.places h
 
@@ -71,10 +73,12 @@ ready-append : (zs ys : List PlainNest) → IsReadyPass zs → IsReadyPass ys �
 ready-append [] ys h k = k
 ready-append (z ∷ zs) ys h k = (h.0, ready-append zs ys h.1 k)
 
-ready-side : (path : Path) (n k : ℕ) (zs ys : List PlainNest) → IsReadyPass zs → IsReadyPass ys → IsReadyPass (side path n k zs ys)
+ready-side : (path : Path) (n k : ℕ) (zs ys : List PlainNest) → IsReadyPass zs → IsReadyPass ys →
+    IsReadyPass (side path n k zs ys)
 ready-side path n k zs ys h g = ready-append (map (lifted path (n + k) 0) zs) _ (ready-lifts path (n + k) 0 zs h) (ready-lifts path (n + k) n ys g)
 
-pub ready-sides : (path : Path) (n k : ℕ) (ps qs : List (List PlainNest)) → AreReadyPasses ps → AreReadyPasses qs → AreReadyPasses (sides path n k ps qs)
+pub ready-sides : (path : Path) (n k : ℕ) (ps qs : List (List PlainNest)) → AreReadyPasses ps → AreReadyPasses qs →
+    AreReadyPasses (sides path n k ps qs)
 ready-sides path n k [] [] h g = tt
 ready-sides path n k (zs ∷ ps) [] h g = (ready-side path n k zs (copying k) h.0 (ready-copying k), ready-sides path n k ps [] h.1 tt)
 ready-sides path n k [] (ys ∷ qs) h g = (ready-side path n k (copying n) ys (ready-copying n) g.0, ready-sides path n k [] qs tt g.1)

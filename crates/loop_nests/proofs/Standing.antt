@@ -1,5 +1,6 @@
 -- Passes of two parts can stand side by side.
-use Rattle.std.proofs.Common.{◌≡◌, ℕ, ◌+◌, ◌^◌, ◌<◌, ◌≤◌, Bool, true, arith, refl, sym, ap, ap₂, ◌∙◌, List, [], ◌∷◌, ◌++◌, length, inl, inr, subst, length-append, append-nil, Option, Some, None}
+use Rattle.std.proofs.Common.{◌≡◌, ℕ, ◌+◌, ◌^◌, ◌<◌, ◌≤◌, Bool, true, arith, refl, sym, ap, ap₂, ◌∙◌, List, [], ◌∷◌}
+use Rattle.std.proofs.Common.{◌++◌, length, inl, inr, subst, length-append, append-nil, Option, Some, None}
 use Rattle.std.specs.Prelude.{map, reverse, Vec, ◌&&◌}
 use Rattle.std.specs.List.{list_all}
 use Rattle.std.proofs.lemmas.Bool.{cases_eq}
@@ -11,7 +12,8 @@ use Rattle.loop_nests.specs.PassPlaces.Views.{waiting_of}
 use Rattle.perm_algebra.specs.Affine.{Sum, constant, variable, remainder, quotient, joined}
 use Rattle.perm_algebra.specs.Room.{constant_of}
 use Rattle.sigma_spl.specs.Limits.{AreSeveral, AreWithin}
-use Rattle.sigma_spl.specs.Merge.{is_limited, is_multiplier_within, is_within, items_in, lifted, limits_of, new_nest, one_loop, renumbered, renumbered_places}
+use Rattle.sigma_spl.specs.Merge.{is_limited, is_multiplier_within, is_within, items_in, lifted, limits_of, new_nest}
+use Rattle.sigma_spl.specs.Merge.{one_loop, renumbered, renumbered_places}
 use Rattle.sigma_spl.specs.Nest.{PlainMultiplier, PlainNest}
 use Rattle.sigma_spl.specs.Views.{plain_nest}
 use Rattle.sigma_spl.specs.declared.nest.Nest.{Nest}
@@ -62,7 +64,8 @@ copies-plain k some high =
 
 -- ---- passes of a part
 
-module _ (room part n before : ℕ) (path : Path) (several : AreSeveral path) (some : 0 < n) (high : size_under path n ≤ 2 ^ 20) (fits : before + part ≤ n) where
+module _ (room part n before : ℕ) (path : Path) (several : AreSeveral path) (some : 0 < n)
+    (high : size_under path n ≤ 2 ^ 20) (fits : before + part ≤ n) where
   lift-all : (zs : List PlainNest) → is_within room part zs ≡ true → IsReadyPass zs → AllLift path n before zs
   lift-all [] h ready = tt
   lift-all (z ∷ zs) h ready =
@@ -75,13 +78,16 @@ module _ (room part n before : ℕ) (path : Path) (several : AreSeveral path) (s
   lift-passes [] h ready = tt
   lift-passes (zs ∷ ps) h ready = (lift-all zs h.0 ready.0, lift-passes ps h.1 ready.1)
 
-pub first_lifted : (n k : ℕ) (path : Path) (ps : List (List PlainNest)) → AreSeveral path → 0 < n → size_under path (n + k) ≤ 2 ^ 20 → IsPart n ps → AreLifted path (n + k) 0 ps
+pub first_lifted : (n k : ℕ) (path : Path) (ps : List (List PlainNest)) → AreSeveral path → 0 < n →
+    size_under path (n + k) ≤ 2 ^ 20 → IsPart n ps → AreLifted path (n + k) 0 ps
 first_lifted n k path ps several some high h = lift-passes h.room n (n + k) 0 path several (omega (arith, some)) high (omega arith) ps h.within h.ready
 
-pub second_lifted : (n k : ℕ) (path : Path) (ps : List (List PlainNest)) → AreSeveral path → 0 < n → size_under path (n + k) ≤ 2 ^ 20 → IsPart k ps → AreLifted path (n + k) n ps
+pub second_lifted : (n k : ℕ) (path : Path) (ps : List (List PlainNest)) → AreSeveral path → 0 < n →
+    size_under path (n + k) ≤ 2 ^ 20 → IsPart k ps → AreLifted path (n + k) n ps
 second_lifted n k path ps several some high h = lift-passes h.room k (n + k) n path several (omega (arith, some)) high (omega arith) ps h.within h.ready
 
-pub can_stand : (n k : ℕ) (path : Path) → AreSeveral path → (0 < n) × (0 < k) → size_under path (n + k) ≤ 2 ^ 20 → CanStand path n k
+pub can_stand : (n k : ℕ) (path : Path) → AreSeveral path → (0 < n) × (0 < k) → size_under path (n + k) ≤ 2 ^ 20 →
+    CanStand path n k
 can_stand n k path several some high =
     let low = low-of path (n + k) several high in
     let left = copies-plain n some.0 (omega (arith, low)) in
@@ -96,7 +102,8 @@ can_stand n k path several some high =
 -- ---- from the end
 
 -- the last of a list is the first of the other way round
-pub last_first : (xs ys : List (Vec Nest Global)) (x : Vec Nest Global) → xs ≡ ys ++ x ∷ [] → from_last xs ≡ plain_pass x ∷ from_last ys
+pub last_first : (xs ys : List (Vec Nest Global)) (x : Vec Nest Global) → xs ≡ ys ++ x ∷ [] →
+    from_last xs ≡ plain_pass x ∷ from_last ys
 last_first xs ys x is = ap from_last is ∙ ap plain_passes (reverse-append ys (x ∷ []))
 
 -- nothing came from the end
@@ -104,7 +111,8 @@ pub same-first : (xs ys : List (Vec Nest Global)) → xs ≡ ys ++ [] → from_l
 same-first xs ys is = ap from_last (is ∙ append-nil ys)
 
 -- the other way round twice
-pub in_turn : (xs : List (Vec Nest Global)) (ps : List (List PlainNest)) → from_last xs ≡ ps → plain_passes xs ≡ reverse ps
+pub in_turn : (xs : List (Vec Nest Global)) (ps : List (List PlainNest)) → from_last xs ≡ ps →
+    plain_passes xs ≡ reverse ps
 in_turn xs ps is = sym (ap plain_passes (reverse-reverse xs)) ∙ each (reverse xs) ∙ ap reverse is
   where
     each : (qs : List (Vec Nest Global)) → plain_passes (reverse qs) ≡ reverse (plain_passes qs)
@@ -130,18 +138,22 @@ shorter A xs ys x is = sym (ap length is ∙ length-append ys (x ∷ []))
 pub as-long : (A : Type 0) (xs ys : List A) → xs ≡ ys ++ [] → length ys ≡ length xs
 as-long A xs ys is = sym (ap length (is ∙ append-nil ys))
 
-lift-front : (path : Path) (n before : ℕ) (zs : List PlainNest) (z : PlainNest) → AllLift path n before (zs ++ z ∷ []) → AllLift path n before zs
+lift-front : (path : Path) (n before : ℕ) (zs : List PlainNest) (z : PlainNest) → AllLift path n before (zs ++ z ∷ []) →
+    AllLift path n before zs
 lift-front path n before [] z h = tt
 lift-front path n before (y ∷ ys) z h = (h.0, lift-front path n before ys z h.1)
 
-lift-last : (path : Path) (n before : ℕ) (zs : List PlainNest) (z : PlainNest) → AllLift path n before (zs ++ z ∷ []) → CanLift path n before z
+lift-last : (path : Path) (n before : ℕ) (zs : List PlainNest) (z : PlainNest) → AllLift path n before (zs ++ z ∷ []) →
+    CanLift path n before z
 lift-last path n before [] z h = h.0
 lift-last path n before (y ∷ ys) z h = lift-last path n before ys z h.1
 
-pub front-lifts : (path : Path) (n before : ℕ) (xs ys : List Nest) (x : Nest) → xs ≡ ys ++ x ∷ [] → AllLift path n before (map plain_nest xs) → AllLift path n before (map plain_nest ys)
+pub front-lifts : (path : Path) (n before : ℕ) (xs ys : List Nest) (x : Nest) → xs ≡ ys ++ x ∷ [] →
+    AllLift path n before (map plain_nest xs) → AllLift path n before (map plain_nest ys)
 front-lifts path n before xs ys x is h = lift-front path n before (map plain_nest ys) (plain_nest x) (subst (AllLift path n before) (ap (map plain_nest) is ∙ map-append plain_nest ys (x ∷ [])) h)
 
-pub last-lifts : (path : Path) (n before : ℕ) (xs ys : List Nest) (x : Nest) → xs ≡ ys ++ x ∷ [] → AllLift path n before (map plain_nest xs) → CanLift path n before (plain_nest x)
+pub last-lifts : (path : Path) (n before : ℕ) (xs ys : List Nest) (x : Nest) → xs ≡ ys ++ x ∷ [] →
+    AllLift path n before (map plain_nest xs) → CanLift path n before (plain_nest x)
 last-lifts path n before xs ys x is h = lift-last path n before (map plain_nest ys) (plain_nest x) (subst (AllLift path n before) (ap (map plain_nest) is ∙ map-append plain_nest ys (x ∷ [])) h)
 
 -- ---- under no tensors
@@ -152,7 +164,8 @@ as-it-is (variable f d rest) = ap₂ (λ a b. variable f a b) (let is : d + 0 �
 as-it-is (remainder f of m rest) = ap₂ (λ a b. remainder f a m b) (as-it-is of) (as-it-is rest)
 as-it-is (quotient f of m rest) = ap₂ (λ a b. quotient f a m b) (as-it-is of) (as-it-is rest)
 
-same-sums : (before : ℕ) (es : List Sum) → map (joined (constant before)) es ≡ map (λ e. joined (constant before) (renumbered 0 e)) es
+same-sums : (before : ℕ) (es : List Sum) → map (joined (constant before)) es
+    ≡ map (λ e. joined (constant before) (renumbered 0 e)) es
 same-sums before [] = refl
 same-sums before (e ∷ es) = ap₂ (λ (x : Sum) xs. x ∷ xs) (ap (joined (constant before)) (sym (as-it-is e))) (same-sums before es)
 
@@ -164,7 +177,8 @@ same-factors : (o : Option PlainMultiplier) → o ≡ renumbered_places 0 o
 same-factors None = refl
 same-factors (Some d) = ap (λ es. Some (record { factors = d.factors; places = es })) (same-numbers d.places)
 
-pub behind-lifted : (path : Path) (n before : ℕ) (zs : List PlainNest) → length path ≡ 0 → map (behind before) zs ≡ map (lifted path n before) zs
+pub behind-lifted : (path : Path) (n before : ℕ) (zs : List PlainNest) → length path ≡ 0 →
+    map (behind before) zs ≡ map (lifted path n before) zs
 behind-lifted (t ∷ path) n before zs none = absurd (omega (arith, none))
 behind-lifted [] n before zs none = each zs
   where
@@ -182,7 +196,8 @@ sums-fit depth n before [] h = tt
 sums-fit depth n before (e ∷ es) h =
     (subst (λ x. before + constant_of x < 2 ^ 64) (as-it-is e) h.0.joins, sums-fit depth n before es h.1)
 
-pub all-fit : (path : Path) (n before : ℕ) (zs : List PlainNest) → length path ≡ 0 → AllLift path n before zs → AllFit before zs
+pub all-fit : (path : Path) (n before : ℕ) (zs : List PlainNest) → length path ≡ 0 → AllLift path n before zs →
+    AllFit before zs
 all-fit (t ∷ path) n before zs none h = absurd (omega (arith, none))
 all-fit [] n before [] none h = tt
 all-fit [] n before (z ∷ zs) none h =

@@ -1,5 +1,6 @@
 -- The law of cyclic convolution.
-use Rattle.std.proofs.Common.{◌≡◌, ℕ, ◌+◌, ◌-◌, ◌*◌, ◌%◌, ◌<◌, arith, refl, sym, ap, ap₂, ◌∙◌, List, mod-lt, mul_comm, mul-zero}
+use Rattle.std.proofs.Common.{◌≡◌, ℕ, ◌+◌, ◌-◌, ◌*◌, ◌%◌, ◌<◌, arith, refl, sym, ap, ap₂, ◌∙◌, List, mod-lt, mul_comm}
+use Rattle.std.proofs.Common.{mul-zero}
 use Rattle.std.proofs.Math.Nat.{one-mul}
 use Rattle.std.specs.Prelude.{slice_index}
 use Rattle.std.proofs.lemmas.Nat.{mul-mod, mul-mod_first, mul-mod_second}
@@ -21,14 +22,16 @@ use Rattle.operators.proofs.Sums.{sum_below-same, sum_below-swap, mul-sum_below,
 
 -- ---- products of sums
 
-product_of_sums : (a b : ℕ) (f g : ℕ → ℕ) → sum_below a f * sum_below b g ≡ sum_below a (λ i. sum_below b (λ j. f i * g j))
+product_of_sums : (a b : ℕ) (f g : ℕ → ℕ) → sum_below a f * sum_below b g
+    ≡ sum_below a (λ i. sum_below b (λ j. f i * g j))
 product_of_sums a b f g =
     mul_comm (sum_below a f) (sum_below b g)
     ∙ mul-sum_below a (sum_below b g) f
     ∙ sum_below-same a _ _ (λ i _. mul_comm (sum_below b g) (f i) ∙ mul-sum_below b (f i) g)
 
 -- a factor times two sums, each reduced
-product_of_reduced : (m n v : ℕ) (f g : ℕ → ℕ) → (v * ((sum_below n f % m) * (sum_below n g % m))) % m ≡ sum_below n (λ a. sum_below n (λ b. v * (f a * g b))) % m
+product_of_reduced : (m n v : ℕ) (f g : ℕ → ℕ) → (v * ((sum_below n f % m) * (sum_below n g % m))) % m
+    ≡ sum_below n (λ a. sum_below n (λ b. v * (f a * g b))) % m
 product_of_reduced m n v f g =
     same-mul m v v ((sum_below n f % m) * (sum_below n g % m)) (sum_below n f * sum_below n g) refl (sym (mul-mod (sum_below n f) (sum_below n g) m))
     ∙ ap (λ y. (v * y) % m) (product_of_sums n n f g)
@@ -63,7 +66,8 @@ module _ (m n w : ℕ) (h x : List ℕ) (root : power_mod m w n ≡ 1 % m) (prin
   weight k a b = sum_below n (λ j. power_mod m w (((n - 1) * k + (a + b)) * j))
 
   -- of the items b one alone counts
-  one_item : (k a : ℕ) → a < n → sum_below n (λ b. (slice_index h a * slice_index x b) * weight k a b) % m ≡ (n * (slice_index h a * slice_index x (difference_mod n k a))) % m
+  one_item : (k a : ℕ) → a < n → sum_below n (λ b. (slice_index h a * slice_index x b) * weight k a b) % m
+      ≡ (n * (slice_index h a * slice_index x (difference_mod n k a))) % m
   unfolding weight
   one_item k a below =
       let positive : 0 < n = omega arith in
@@ -79,7 +83,8 @@ module _ (m n w : ℕ) (h x : List ℕ) (root : power_mod m w n ≡ 1 % m) (prin
   joined k j a b = (slice_index h a * slice_index x b) * power_mod m w (((n - 1) * k + (a + b)) * j)
 
   row_item : (k j : ℕ) → j < n →
-      (power_mod m (inverse_root m n w) (k * j) * (slice_index (transform Dft m n w h) j * slice_index (transform Dft m n w x) j)) % m
+      (power_mod m (inverse_root m n w) (k * j) * (slice_index (transform Dft m n w h) j * slice_index
+      (transform Dft m n w x) j)) % m
       ≡ sum_below n (λ a. sum_below n (λ b. joined k j a b)) % m
   unfolding joined
   row_item k j below =
@@ -90,7 +95,8 @@ module _ (m n w : ℕ) (h x : List ℕ) (root : power_mod m w n ≡ 1 % m) (prin
 
   -- n times the item k of the convolution
   row_total : (k : ℕ) →
-      sum_below n (λ j. power_mod m (inverse_root m n w) (k * j) * (slice_index (transform Dft m n w h) j * slice_index (transform Dft m n w x) j)) % m
+      sum_below n (λ j. power_mod m (inverse_root m n w) (k * j)
+      * (slice_index (transform Dft m n w h) j * slice_index (transform Dft m n w x) j)) % m
       ≡ (n * sum_below n (λ a. slice_index h a * slice_index x (difference_mod n k a))) % m
   unfolding joined weight
   row_total k =

@@ -9,8 +9,10 @@ use Rattle.matrix_meaning.specs.Kind.{transform}
 use Rattle.matrix_meaning.specs.Laws.{twiddle, CooleyTukey}
 use Rattle.operators.specs.Operator.{gather, scale, column, on_blocks, stride}
 use Rattle.operators.specs.Sum.{sum_below}
-use Rattle.operators.proofs.Sums.{sum_below-same, sum_below-swap, sum_below-rows, same-mul_mul_sum_below, same-sum_below}
-use Rattle.operators.proofs.Lists.{at-list_below, list_below-same_rows, at-on_blocks, at-stride, row-of, column-of, place_below}
+use Rattle.operators.proofs.Sums.{sum_below-same, sum_below-swap, sum_below-rows, same-mul_mul_sum_below}
+use Rattle.operators.proofs.Sums.{same-sum_below}
+use Rattle.operators.proofs.Lists.{at-list_below, list_below-same_rows, at-on_blocks, at-stride, row-of, column-of}
+use Rattle.operators.proofs.Lists.{place_below}
 
 -- the entry in row a * s + b and column j * r + i is the product of the three entries that lead there
 ct-entry : (m r s w a b i j y : ℕ) → power_mod m w (r * s) ≡ 1 % m →
@@ -45,7 +47,8 @@ module _ (m r s w : ℕ) (x : List ℕ) (root : power_mod m w (r * s) ≡ 1 % m)
       (sum_below-same s _ (row_sum b i) (λ j within. ap (λ y. power_mod m (power_mod m w r) (b * j) * y)
       (at-list_below s _ j within ∙ at-stride r s x i j row within)))
 
-  at-twiddled : (b i : ℕ) → i < r → b < s → slice_index (column r s b twiddled) i ≡ (power_mod m w (i * b) * (sum_below s (row_sum b i) % m)) % m
+  at-twiddled : (b i : ℕ) → i < r → b < s → slice_index (column r s b twiddled) i
+      ≡ (power_mod m w (i * b) * (sum_below s (row_sum b i) % m)) % m
   unfolding twiddled rows_done row_sum
   at-twiddled b i row below =
       at-list_below r _ i row
@@ -57,7 +60,8 @@ module _ (m r s w : ℕ) (x : List ℕ) (root : power_mod m w (r * s) ≡ 1 % m)
   term_of : ℕ → ℕ → ℕ
   term_of k l = power_mod m w (k * l) * slice_index x l
 
-  cooley_tukey_at : (a b : ℕ) → a < r → b < s → sum_below (r * s) (term_of (a * s + b)) % m ≡ slice_index (transform Dft m r (power_mod m w s) (column r s b twiddled)) a
+  cooley_tukey_at : (a b : ℕ) → a < r → b < s → sum_below (r * s) (term_of (a * s + b)) % m
+      ≡ slice_index (transform Dft m r (power_mod m w s) (column r s b twiddled)) a
   unfolding row_sum term_of
   cooley_tukey_at a b row below =
       ap (λ n. n % m)

@@ -1,5 +1,6 @@
 -- Entries by the first digits of places and the others.
-use Rattle.std.proofs.Common.{◌≡◌, ℕ, ◌*◌, ◌/◌, ◌%◌, ◌<◌, ◌≤◌, arith, refl, sym, ap, subst, ◌∙◌, List, [], ◌∷◌, length, mod-lt, mul_comm}
+use Rattle.std.proofs.Common.{◌≡◌, ℕ, ◌*◌, ◌/◌, ◌%◌, ◌<◌, ◌≤◌, arith, refl, sym, ap, subst, ◌∙◌, List, [], ◌∷◌, length}
+use Rattle.std.proofs.Common.{mod-lt, mul_comm}
 use Rattle.std.proofs.Math.Nat.{mul-one, mul-le-mul}
 use Rattle.ring_mod.specs.Residue.{product_mod}
 use Rattle.matrix_meaning.specs.declared.Kind.{Kind}

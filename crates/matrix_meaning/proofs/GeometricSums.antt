@@ -38,7 +38,8 @@ doubled_sum m q h s p more sum s_is p_is more_is sum_is =
     ∙ same-mul m (power_mod m q h) (power_mod m q h) (geometric m q h % m) (geometric m q h) refl (mod-mod (geometric m q h) m))
     ∙ sym (geometric-doubled m q h)
 
-pub doubled_power : (m q h p power : ℕ) → p ≡ power_mod m q h → power ≡ product_mod m p p → power ≡ power_mod m q (h + h)
+pub doubled_power : (m q h p power : ℕ) → p ≡ power_mod m q h → power ≡ product_mod m p p →
+    power ≡ power_mod m q (h + h)
 doubled_power m q h p power p_is power_is = power_is ∙ ap (λ y. (y * y) % m) p_is ∙ sym (power_mod-add m q h h)
 
 -- one more power
@@ -51,7 +52,8 @@ next_sum m q n sum power total sum_is power_is total_is =
     ∙ same-add m (geometric m q n % m) (geometric m q n) (power_mod m q n) (power_mod m q n) (mod-mod (geometric m q n) m) refl
     ∙ ap (λ k. sum_below k (λ l. power_mod m q l) % m) (sym (add-one n))
 
-pub next_power : (m q n power next : ℕ) → power ≡ power_mod m q n → next ≡ product_mod m power q → next ≡ power_mod m q (n + 1)
+pub next_power : (m q n power next : ℕ) → power ≡ power_mod m q n → next ≡ product_mod m power q →
+    next ≡ power_mod m q (n + 1)
 next_power m q n power next power_is next_is =
     next_is ∙ ap (λ y. (y * q) % m) power_is
     ∙ same-mul m (power_mod m q n) (power_mod m q n) q (power_mod m q 1) refl (sym (ap (λ y. y % m) (power_mod-one m q) ∙ mod-mod q m))
@@ -59,6 +61,7 @@ next_power m q n power next power_is next_is =
 
 -- ---- power sums as sums of powers of one number
 
-pub power_sum_by_powers : (m n w k q sum : ℕ) → q ≡ power_mod m w k → sum ≡ sum_below n (λ l. power_mod m q l) % m → sum ≡ power_sum m n w k
+pub power_sum_by_powers : (m n w k q sum : ℕ) → q ≡ power_mod m w k → sum ≡ sum_below n (λ l. power_mod m q l) % m →
+    sum ≡ power_sum m n w k
 power_sum_by_powers m n w k q sum q_is sum_is =
     sum_is ∙ same-sum_below m n _ _ (λ l _. ap (λ y. y % m) (ap (λ y. power_mod m y l) q_is ∙ power_mod_of_power m w k l))

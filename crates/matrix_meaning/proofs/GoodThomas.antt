@@ -1,7 +1,9 @@
 -- The law of Good and Thomas.
-use Rattle.std.proofs.Common.{◌≡◌, ℕ, ◌+◌, ◌*◌, ◌/◌, ◌%◌, ◌<◌, arith, refl, sym, ap, ap₂, ◌∙◌, List, mod-lt, mod-eq_of_lt, mul_comm, subst}
+use Rattle.std.proofs.Common.{◌≡◌, ℕ, ◌+◌, ◌*◌, ◌/◌, ◌%◌, ◌<◌, arith, refl, sym, ap, ap₂, ◌∙◌, List, mod-lt}
+use Rattle.std.proofs.Common.{mod-eq_of_lt, mul_comm, subst}
 use Rattle.std.specs.Int.{IsGcd}
-use Rattle.std.proofs.Math.Nat.{add-mul-mod_self_left, one-mul, mul-one, mul-pos, mod-mod_of_dvd, dvd-mul_right, dvd-mul_left}
+use Rattle.std.proofs.Math.Nat.{add-mul-mod_self_left, one-mul, mul-one, mul-pos, mod-mod_of_dvd, dvd-mul_right}
+use Rattle.std.proofs.Math.Nat.{dvd-mul_left}
 use Rattle.std.proofs.lemmas.Nat.{mul-mod_second}
 use Rattle.ring_mod.specs.Residue.{power_mod}
 use Rattle.ring_mod.proofs.Powers.{power_mod-mod, power_mod-add, power_mod-same, power_mod_of_power}
@@ -15,7 +17,8 @@ use Rattle.operators.specs.Operator.{gather, on_columns, on_blocks, good_thomas_
 use Rattle.operators.specs.Sum.{sum_below}
 use Rattle.operators.proofs.Matrices.{at-matrix_times, on_columns-on_blocks}
 use Rattle.operators.proofs.Sums.{sum_below-same, same-sum_below}
-use Rattle.operators.proofs.Lists.{by_rows, row-of, column-of, place_below, factor_positive, at-list_below, list_below-same}
+use Rattle.operators.proofs.Lists.{by_rows, row-of, column-of, place_below, factor_positive, at-list_below}
+use Rattle.operators.proofs.Lists.{list_below-same}
 use Rattle.operators.proofs.Permutations.{sum_below-permuted}
 use Rattle.operators.specs.Loop.{IsPermutationBelow}
 
@@ -84,7 +87,8 @@ module _ (r s u v : ℕ) (r_positive : 0 < r) (s_positive : 0 < s) (inverses : A
 
 -- the entry in row k at the item that stands at i * s + j is the product of the two entries that lead there
 gt-entry : (m r s w k i j : ℕ) → power_mod m w (r * s) ≡ 1 % m →
-    power_mod m w (k * ((s * i + r * j) % (r * s))) ≡ (power_mod m (power_mod m w s) ((k % r) * i) * power_mod m (power_mod m w r) ((k % s) * j)) % m
+    power_mod m w (k * ((s * i + r * j) % (r * s))) ≡ (power_mod m (power_mod m w s)
+    ((k % r) * i) * power_mod m (power_mod m w r) ((k % s) * j)) % m
 gt-entry m r s w k i j root =
     let left = s * ((k % r) * i) in
     let right = r * ((k % s) * j) in
@@ -132,7 +136,9 @@ module _ (m r s w : ℕ) (x : List ℕ) (root : power_mod m w (r * s) ≡ 1 % m)
       (mod-lt k (factor_positive s r k (subst (λ n. k < n) (mul_comm r s) below))) (mod-lt k (factor_positive r s k below))
 
   outputs_at : (k : ℕ) → k < r * s →
-      slice_index (on_columns r s (transform Dft m r (power_mod m w s)) (on_blocks r s (transform Dft m s (power_mod m w r)) (gather (r * s) (good_thomas_in r s) x))) (good_thomas_out r s k)
+      slice_index (on_columns r s (transform Dft m r (power_mod m w s))
+      (on_blocks r s (transform Dft m s (power_mod m w r)) (gather (r * s) (good_thomas_in r s) x)))
+      (good_thomas_out r s k)
       ≡ sum_below (r * s) (λ q. tensor-entry (good_thomas_out r s k) q * slice_index x (good_thomas_in r s q)) % m
   unfolding tensor-entry
   outputs_at k below =

@@ -1,5 +1,6 @@
 -- Sums of powers of a root.
-use Rattle.std.proofs.Common.{◌≡◌, ◌≢◌, ℕ, zero, suc, ◌+◌, ◌-◌, ◌*◌, ◌%◌, ◌<◌, arith, refl, sym, ap, ◌∙◌, mod-lt, mod-eq_of_lt}
+use Rattle.std.proofs.Common.{◌≡◌, ◌≢◌, ℕ, zero, suc, ◌+◌, ◌-◌, ◌*◌, ◌%◌, ◌<◌, arith, refl, sym, ap, ◌∙◌, mod-lt}
+use Rattle.std.proofs.Common.{mod-eq_of_lt}
 use Rattle.std.proofs.Math.Nat.{mod-mod, zero-mul, mul-mod_right}
 use Rattle.std.proofs.lemmas.Nat.{mul-mod_first}
 use Rattle.ring_mod.specs.Residue.{power_mod, difference_mod}
@@ -21,7 +22,8 @@ power_sum-zero m n w =
     ∙ ap (λ y. y % m) (sum_below-ones n)
 
 -- only the remainder of the factor of the exponents counts
-power_sum_of_remainder : (m n w e : ℕ) → power_mod m w n ≡ 1 % m → sum_below n (λ j. power_mod m w (e * j)) % m ≡ power_sum m n w (e % n)
+power_sum_of_remainder : (m n w e : ℕ) → power_mod m w n ≡ 1 % m →
+    sum_below n (λ j. power_mod m w (e * j)) % m ≡ power_sum m n w (e % n)
 power_sum_of_remainder m n w e root =
     same-sum_below m n _ _ (λ j _. ap (λ y. y % m) (power_mod-same m w n (e * j) ((e % n) * j) root (sym (mul-mod_first e j n))))
 
@@ -63,7 +65,8 @@ power_sum-matches m n w k a b root below e =
     ∙ ap (power_sum m n w) (exponent-matches n k a b (omega arith) below e)
     ∙ power_sum-zero m n w
 
-pub power_sum-differs : (m n w k a b : ℕ) → power_mod m w n ≡ 1 % m → IsPrincipal m n w → a < n → b < n → b ≢ difference_mod n k a →
+pub power_sum-differs : (m n w k a b : ℕ) → power_mod m w n ≡ 1 % m → IsPrincipal m n w → a < n → b < n →
+    b ≢ difference_mod n k a →
     sum_below n (λ j. power_mod m w (((n - 1) * k + (a + b)) * j)) % m ≡ 0
 unfolding exponent
 power_sum-differs m n w k a b root principal below within apart =

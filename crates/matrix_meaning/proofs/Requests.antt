@@ -12,7 +12,8 @@ use Rattle.matrix_meaning.specs.declared.Kind.TheVariants.{Dft, Wht, Idft}
 use Rattle.matrix_meaning.specs.declared.Request.{Request}
 use Rattle.matrix_meaning.specs.Kind.{inverse_root}
 use Rattle.matrix_meaning.specs.Laws.{InverseIsValid}
-use Rattle.matrix_meaning.specs.Parts.{bad_power, bad_power_by, first_bad, forward_by, forward_of, inverted, parts_in, parts_of, root_power}
+use Rattle.matrix_meaning.specs.Parts.{bad_power, bad_power_by, first_bad, forward_by, forward_of, inverted, parts_in}
+use Rattle.matrix_meaning.specs.Parts.{parts_of, root_power}
 use Rattle.matrix_meaning.specs.Valid.{AreDimensions, HasRoot, IsInRange, IsValid}
 use Rattle.matrix_meaning.proofs.InverseTransform.{inverse_root_is_root}
 use Rattle.matrix_meaning.proofs.Parts.{is_of_one_size}

@@ -1,5 +1,6 @@
 -- The convolution with 1, 0, 0, .. changes nothing, so the transforms undo each other.
-use Rattle.std.proofs.Common.{◌≡◌, ◌≢◌, ℕ, zero, suc, ◌+◌, ◌-◌, ◌*◌, ◌%◌, ◌<◌, arith, refl, sym, ap, ap₂, subst, ◌∙◌, List, length, mul_comm, mul-zero}
+use Rattle.std.proofs.Common.{◌≡◌, ◌≢◌, ℕ, zero, suc, ◌+◌, ◌-◌, ◌*◌, ◌%◌, ◌<◌, arith, refl, sym, ap, ap₂, subst, ◌∙◌}
+use Rattle.std.proofs.Common.{List, length, mul_comm, mul-zero}
 use Rattle.std.proofs.Math.Nat.{one-mul}
 use Rattle.std.specs.Prelude.{slice_index}
 use Rattle.std.specs.List.{All}
@@ -52,7 +53,8 @@ module _ (n : ℕ) (some : 0 < n) where
       ∙ power_mod-zero m w
 
   -- which times a transform is that transform
-  unit-entrywise : (m w : ℕ) (x : List ℕ) → entrywise m n (transform Dft m n w (unit n)) (transform Dft m n w x) ≡ transform Dft m n w x
+  unit-entrywise : (m w : ℕ) (x : List ℕ) → entrywise m n (transform Dft m n w (unit n)) (transform Dft m n w x)
+      ≡ transform Dft m n w x
   unit-entrywise m w x =
       list_below-same n _ _ (λ i low.
       let total = sum_below n (λ l. power_mod m w (i * l) * slice_index x l) in
@@ -75,7 +77,8 @@ module _ (n : ℕ) (some : 0 < n) where
       back k low = let is : k + (n - 0) ≡ 1 * n + k = omega arith in ap (λ y. y % n) is ∙ mod-mul-add 1 n k low
 
 -- its factors are all 1 / n
-unit-factor : (n : ℕ) → 0 < n → (m w k z : ℕ) → k < n → (convolution_factor m n w (unit n) k * z) % m ≡ (inverse_mod m n * z) % m
+unit-factor : (n : ℕ) → 0 < n → (m w k z : ℕ) → k < n → (convolution_factor m n w (unit n) k * z) % m
+    ≡ (inverse_mod m n * z) % m
 unit-factor n some m w k z low =
     let c = inverse_mod m n in
     let once : c * 1 ≡ c = omega arith in
@@ -102,7 +105,8 @@ twice-inverse m (suc q) w e root =
     let is : suc q * (suc q * e) ≡ suc (suc q) * (q * e) + e = omega arith in
     ap (power_mod m w) is ∙ power_mod-drop m w (suc (suc q)) (q * e) e root
 
-back-again : (m n w e : ℕ) → 0 < n → power_mod m w n ≡ 1 % m → power_mod m (inverse_root m n (inverse_root m n w)) e ≡ power_mod m w e
+back-again : (m n w e : ℕ) → 0 < n → power_mod m w n ≡ 1 % m →
+    power_mod m (inverse_root m n (inverse_root m n w)) e ≡ power_mod m w e
 back-again m zero w e some root = absurd (omega (arith, some))
 back-again m (suc p) w e some root =
     let less : suc p - 1 ≡ p = omega arith in
@@ -111,7 +115,8 @@ back-again m (suc p) w e some root =
     ∙ power_mod_of_power m w p (p * e)
     ∙ twice-inverse m p w e root
 
-inverse-sum : (m j i w l : ℕ) → power_mod m w (suc j + suc i) ≡ 1 % m → power_mod m (power_mod m w (j + suc i)) (suc j * l) ≡ power_mod m w (suc i * l)
+inverse-sum : (m j i w l : ℕ) → power_mod m w (suc j + suc i) ≡ 1 % m →
+    power_mod m (power_mod m w (j + suc i)) (suc j * l) ≡ power_mod m w (suc i * l)
 inverse-sum m j i w l root =
     let is : (j + suc i) * (suc j * l) ≡ (suc j + suc i) * (j * l) + suc i * l = omega arith in
     power_mod_of_power m w (j + suc i) (suc j * l) ∙ ap (power_mod m w) is ∙ power_mod-drop m w (suc j + suc i) (j * l) (suc i * l) root

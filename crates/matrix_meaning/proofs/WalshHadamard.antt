@@ -1,5 +1,6 @@
 -- The law that splits a Walsh-Hadamard transform.
-use Rattle.std.proofs.Common.{◌≡◌, ℕ, zero, suc, ◌+◌, ◌-◌, ◌*◌, ◌/◌, ◌%◌, ◌^◌, ◌<◌, arith, refl, sym, ap, ap₂, ◌∙◌, subst, mod-lt, pow_pos}
+use Rattle.std.proofs.Common.{◌≡◌, ℕ, zero, suc, ◌+◌, ◌-◌, ◌*◌, ◌/◌, ◌%◌, ◌^◌, ◌<◌, arith, refl, sym, ap, ap₂, ◌∙◌}
+use Rattle.std.proofs.Common.{subst, mod-lt, pow_pos}
 use Rattle.std.specs.Prelude.{bit_and, count_ones}
 use Rattle.std.proofs.lemmas.Nat.{and_block, and_le_l, ones_cat}
 use Rattle.std.proofs.lemmas.Bool.Decides.{nat_tests}
@@ -22,14 +23,16 @@ pub sign-add : (m a b : ℕ) → 0 < m → sign m (a + b) % m ≡ (sign m a * si
 sign-add m a b positive = grind (arith, nat_tests, last-squared m positive)
 
 -- the common one bits of two places are those of their rows and those of their columns
-common-ones : (k a b i j : ℕ) → b < 2 ^ k → j < 2 ^ k → count_ones (bit_and (a * 2 ^ k + b) (i * 2 ^ k + j)) ≡ count_ones (bit_and a i) + count_ones (bit_and b j)
+common-ones : (k a b i j : ℕ) → b < 2 ^ k → j < 2 ^ k → count_ones (bit_and (a * 2 ^ k + b) (i * 2 ^ k + j))
+    ≡ count_ones (bit_and a i) + count_ones (bit_and b j)
 common-ones k a b i j below within =
     ap count_ones (and_block k a i b j below within) ∙ ones_cat k (bit_and a i) (bit_and b j) (omega (arith, and_le_l b j))
 
 -- an entry is the product of the entry at the rows and the entry at the columns
 wht-entry : (m k p q : ℕ) → 0 < m →
     sign m (count_ones (bit_and p q)) % m
-    ≡ (sign m (count_ones (bit_and (p / 2 ^ k) (q / 2 ^ k))) * sign m (count_ones (bit_and (p % 2 ^ k) (q % 2 ^ k)))) % m
+    ≡ (sign m (count_ones (bit_and (p / 2 ^ k) (q / 2 ^ k))) * sign m (count_ones (bit_and (p % 2 ^ k) (q % 2 ^ k))))
+    % m
 wht-entry m k p q positive =
     ap (λ n. sign m n % m)
     (ap₂ (λ x y. count_ones (bit_and x y)) (sym (div-add-mod' p (2 ^ k))) (sym (div-add-mod' q (2 ^ k)))

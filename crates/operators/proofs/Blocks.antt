@@ -1,10 +1,14 @@
 -- The identities of tensors, place by place.
 use Rattle.std.proofs.Common.{◌≡◌, ℕ, ◌+◌, ◌*◌, ◌<◌, arith, refl, sym, ◌/◌, ◌%◌, ap, ap₂, ◌∙◌, List, mul_assoc, subst}
 use Rattle.std.specs.Prelude.{slice_index}
-use Rattle.operators.specs.Identities.{HasSize, turn, TensorOfProduct, ColumnsInBlocks, TurnInBlocks, BlocksInBlocks, ColumnsInColumns, LanesAfterTurn, LanesOfBlocks, TilesFirst, TilesLast, DiagonalInBlocks}
+use Rattle.operators.specs.Identities.{HasSize, turn, TensorOfProduct, ColumnsInBlocks, TurnInBlocks, BlocksInBlocks}
+use Rattle.operators.specs.Identities.{ColumnsInColumns, LanesAfterTurn, LanesOfBlocks, TilesFirst, TilesLast}
+use Rattle.operators.specs.Identities.{DiagonalInBlocks}
 use Rattle.operators.specs.Operator.{Operator, scale, column, block, on_columns, on_blocks}
-use Rattle.operators.proofs.Lists.{at-list_below, length-list_below, list_below-same, list_below-same_rows, at-on_columns, at-on_blocks, row-of, column-of, place_below}
-use Rattle.operators.proofs.Places.{on_columns_at, on_blocks_at, turn_at, column_at, block_at, same_by_three, place_below_turned}
+use Rattle.operators.proofs.Lists.{at-list_below, length-list_below, list_below-same, list_below-same_rows}
+use Rattle.operators.proofs.Lists.{at-on_columns, at-on_blocks, row-of, column-of, place_below}
+use Rattle.operators.proofs.Places.{on_columns_at, on_blocks_at, turn_at, column_at, block_at, same_by_three}
+use Rattle.operators.proofs.Places.{place_below_turned}
 use Rattle.std.proofs.lemmas.List.FromFn.{fill_by_all}
 
 -- a row of a row
@@ -22,7 +26,8 @@ blocks_in_blocks p q n a x =
     ∙ ap (λ y. slice_index (a y) k) (block-block q n i j x h_j)))
 
 -- a column of a column
-column-column : (r q v j k : ℕ) (x : List ℕ) → j < q → column r q j (column (r * q) v k x) ≡ column r (q * v) (j * v + k) x
+column-column : (r q v j k : ℕ) (x : List ℕ) → j < q → column r q j (column (r * q) v k x) ≡ column r (q * v)
+    (j * v + k) x
 column-column r q v j k x below =
     list_below-same r _ _ (λ i row.
     column_at (r * q) v k x (i * q + j) (place_below i j r q row below) ∙ ap (slice_index x) (omega arith))
@@ -121,11 +126,13 @@ tiles_last q v x =
     ∙ column_at (q * v) v j x (k * q + i) (place_below_turned k i v q h_k h_i)))
 
 -- what an operator gives on a column, and on a row
-column-on_columns : (n k j : ℕ) (b : Operator) (x : List ℕ) → HasSize n b → j < k → b (column n k j x) ≡ column n k j (on_columns n k b x)
+column-on_columns : (n k j : ℕ) (b : Operator) (x : List ℕ) → HasSize n b → j < k →
+    b (column n k j x) ≡ column n k j (on_columns n k b x)
 column-on_columns n k j b x size below =
     fill_by_all _ (b (column n k j x)) n 0 (size (column n k j x)) (λ i row. sym (at-on_columns n k b x i j row below))
 
-block-on_blocks : (k n i : ℕ) (b : Operator) (x : List ℕ) → HasSize n b → i < k → b (block n i x) ≡ block n i (on_blocks k n b x)
+block-on_blocks : (k n i : ℕ) (b : Operator) (x : List ℕ) → HasSize n b → i < k →
+    b (block n i x) ≡ block n i (on_blocks k n b x)
 block-on_blocks k n i b x size row =
     fill_by_all _ (b (block n i x)) n 0 (size (block n i x)) (λ j below. sym (at-on_blocks k n b x i j row below))
 

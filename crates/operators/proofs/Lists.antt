@@ -1,5 +1,6 @@
 -- The laws of `list_below` and of the operators, place by place.
-use Rattle.std.proofs.Common.{◌≡◌, ℕ, ◌+◌, ◌*◌, ◌/◌, ◌%◌, ◌<◌, arith, ap, ap₂, ◌∙◌, List, length, inl, inr, subst, eq-zero-or-pos, mul-zero, mod-lt, div-lt_iff_lt-mul}
+use Rattle.std.proofs.Common.{◌≡◌, ℕ, ◌+◌, ◌*◌, ◌/◌, ◌%◌, ◌<◌, arith, ap, ap₂, ◌∙◌, List, length, inl, inr, subst}
+use Rattle.std.proofs.Common.{eq-zero-or-pos, mul-zero, mod-lt, div-lt_iff_lt-mul}
 use Rattle.std.proofs.Math.Nat.{div-add-mod'}
 use Rattle.std.specs.Prelude.{slice_index}
 use Rattle.std.proofs.lemmas.List.FromFn.{get_or-map-range_with_len, length-map-range_with_len, fill_by_all}
@@ -42,29 +43,35 @@ by_rows r s P h p below =
     let positive : 0 < s = factor_positive r s p below in
     subst P (div-add-mod' p s) (h (p / s) (p % s) ((div-lt_iff_lt-mul positive).1 below) (mod-lt p positive))
 
-pub list_below-same_rows : (r s : ℕ) (f g : ℕ → ℕ) → ((a b : ℕ) → a < r → b < s → f (a * s + b) ≡ g (a * s + b)) → list_below (r * s) f ≡ list_below (r * s) g
+pub list_below-same_rows : (r s : ℕ) (f g : ℕ → ℕ) → ((a b : ℕ) → a < r → b < s → f (a * s + b) ≡ g (a * s + b)) →
+    list_below (r * s) f ≡ list_below (r * s) g
 list_below-same_rows r s f g h = list_below-same (r * s) f g (by_rows r s (λ p. f p ≡ g p) h)
 
 -- ---- operators
 
-pub at-on_columns : (r s : ℕ) (op : Operator) (x : List ℕ) (a b : ℕ) → a < r → b < s → slice_index (on_columns r s op x) (a * s + b) ≡ slice_index (op (column r s b x)) a
+pub at-on_columns : (r s : ℕ) (op : Operator) (x : List ℕ) (a b : ℕ) → a < r → b < s →
+    slice_index (on_columns r s op x) (a * s + b) ≡ slice_index (op (column r s b x)) a
 at-on_columns r s op x a b row below =
     at-list_below (r * s) (λ p. slice_index (op (column r s (p % s) x)) (p / s)) (a * s + b) (place_below a b r s row below)
     ∙ ap₂ (λ i j. slice_index (op (column r s j x)) i) (row-of a b s below) (column-of a b s below)
 
-pub at-on_blocks : (r s : ℕ) (op : Operator) (x : List ℕ) (a b : ℕ) → a < r → b < s → slice_index (on_blocks r s op x) (a * s + b) ≡ slice_index (op (block s a x)) b
+pub at-on_blocks : (r s : ℕ) (op : Operator) (x : List ℕ) (a b : ℕ) → a < r → b < s →
+    slice_index (on_blocks r s op x) (a * s + b) ≡ slice_index (op (block s a x)) b
 at-on_blocks r s op x a b row below =
     at-list_below (r * s) (λ p. slice_index (op (block s (p / s) x)) (p % s)) (a * s + b) (place_below a b r s row below)
     ∙ ap₂ (λ i j. slice_index (op (block s i x)) j) (row-of a b s below) (column-of a b s below)
 
-pub at-stride : (r s : ℕ) (x : List ℕ) (a b : ℕ) → a < r → b < s → slice_index (gather (r * s) (stride r s) x) (a * s + b) ≡ slice_index x (b * r + a)
+pub at-stride : (r s : ℕ) (x : List ℕ) (a b : ℕ) → a < r → b < s →
+    slice_index (gather (r * s) (stride r s) x) (a * s + b) ≡ slice_index x (b * r + a)
 at-stride r s x a b row below =
     at-list_below (r * s) (λ p. slice_index x (stride r s p)) (a * s + b) (place_below a b r s row below)
     ∙ ap₂ (λ i j. slice_index x (j * r + i)) (row-of a b s below) (column-of a b s below)
 
 -- operators that are equal at each list
-pub on_columns-same : (r s : ℕ) (a b : Operator) (x : List ℕ) → ((y : List ℕ) → a y ≡ b y) → on_columns r s a x ≡ on_columns r s b x
+pub on_columns-same : (r s : ℕ) (a b : Operator) (x : List ℕ) → ((y : List ℕ) → a y ≡ b y) →
+    on_columns r s a x ≡ on_columns r s b x
 on_columns-same r s a b x h = list_below-same (r * s) _ _ (λ p _. ap (λ y. slice_index y (p / s)) (h (column r s (p % s) x)))
 
-pub on_blocks-same : (r s : ℕ) (a b : Operator) (x : List ℕ) → ((y : List ℕ) → a y ≡ b y) → on_blocks r s a x ≡ on_blocks r s b x
+pub on_blocks-same : (r s : ℕ) (a b : Operator) (x : List ℕ) → ((y : List ℕ) → a y ≡ b y) →
+    on_blocks r s a x ≡ on_blocks r s b x
 on_blocks-same r s a b x h = list_below-same (r * s) _ _ (λ p _. ap (λ y. slice_index y (p % s)) (h (block s (p / s) x)))

@@ -6,20 +6,24 @@ use Rattle.ring_mod.proofs.Congruence.{same-mul}
 use Rattle.operators.specs.Operator.{matrix_times, column, block, on_columns, on_blocks}
 use Rattle.operators.specs.Sum.{sum_below}
 use Rattle.operators.proofs.Sums.{sum_below-same, sum_below-rows, mul-sum_below, same-sum_below}
-use Rattle.operators.proofs.Lists.{at-list_below, list_below-same, list_below-same_rows, at-on_blocks, row-of, column-of}
+use Rattle.operators.proofs.Lists.{at-list_below, list_below-same, list_below-same_rows, at-on_blocks, row-of}
+use Rattle.operators.proofs.Lists.{column-of}
 
-pub at-matrix_times : (m n : ℕ) (e : ℕ → ℕ → ℕ) (x : List ℕ) (k : ℕ) → k < n → slice_index (matrix_times m n e x) k ≡ sum_below n (λ l. e k l * slice_index x l) % m
+pub at-matrix_times : (m n : ℕ) (e : ℕ → ℕ → ℕ) (x : List ℕ) (k : ℕ) → k < n →
+    slice_index (matrix_times m n e x) k ≡ sum_below n (λ l. e k l * slice_index x l) % m
 at-matrix_times m n e x k below = at-list_below n (λ i. sum_below n (λ l. e i l * slice_index x l) % m) k below
 
 -- matrices with the same entries modulo m
-pub matrix_times-same : (m n : ℕ) (e d : ℕ → ℕ → ℕ) (x : List ℕ) → ((k l : ℕ) → k < n → l < n → e k l % m ≡ d k l % m) → matrix_times m n e x ≡ matrix_times m n d x
+pub matrix_times-same : (m n : ℕ) (e d : ℕ → ℕ → ℕ) (x : List ℕ) → ((k l : ℕ) → k < n → l < n → e k l % m ≡ d k l % m) →
+    matrix_times m n e x ≡ matrix_times m n d x
 matrix_times-same m n e d x h =
     list_below-same n _ _ (λ k row. same-sum_below m n _ _ (λ l column.
     same-mul m (e k l) (d k l) (slice_index x l) (slice_index x l) (h k l row column) refl))
 
 -- `(E tensor I_s) (I_r tensor D)` is the matrix `E tensor D`
 pub on_columns-on_blocks : (m r s : ℕ) (e d : ℕ → ℕ → ℕ) (x : List ℕ) →
-    on_columns r s (matrix_times m r e) (on_blocks r s (matrix_times m s d) x) ≡ matrix_times m (r * s) (λ p q. e (p / s) (q / s) * d (p % s) (q % s)) x
+    on_columns r s (matrix_times m r e) (on_blocks r s (matrix_times m s d) x) ≡ matrix_times m (r * s)
+    (λ p q. e (p / s) (q / s) * d (p % s) (q % s)) x
 on_columns-on_blocks m r s e d x =
     list_below-same_rows r s _ _ (λ a b row below.
     ap₂ (λ p q. slice_index (matrix_times m r e (column r s q (on_blocks r s (matrix_times m s d) x))) p) (row-of a b s below) (column-of a b s below)

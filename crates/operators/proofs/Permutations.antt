@@ -38,7 +38,8 @@ sum_below-pick (suc n) t f below =
           omega (arith, sum_below-pick_none n t f from, pick-same n t (f n) last, ap f last)
     ]
 
-pub sum_below-permuted : (n : ℕ) (there back : ℕ → ℕ) (f : ℕ → ℕ) → IsPermutationBelow n there back → sum_below n (λ i. f (there i)) ≡ sum_below n f
+pub sum_below-permuted : (n : ℕ) (there back : ℕ → ℕ) (f : ℕ → ℕ) → IsPermutationBelow n there back →
+    sum_below n (λ i. f (there i)) ≡ sum_below n f
 sum_below-permuted n there back f h =
     sum_below-same n (λ i. f (there i)) (λ i. sum_below n (λ j. pick j (there i) * f j)) (λ i below. sym (sum_below-pick n (there i) f (h.there_below i below)))
     ∙ sum_below-swap n n (λ i j. pick j (there i) * f j)

@@ -1,5 +1,7 @@
 -- What an operator gives at a place, and lists that agree at each place.
-use Rattle.std.proofs.Common.{arith, ◌-◌, ◌≡◌, ℕ, ◌+◌, ◌*◌, ◌<◌, sym, ap, ◌∙◌, List, length, ext_get_or, subst, mul_comm, zero, suc, add-zero, add-one, add-suc, append-nil, append_assoc, [], ◌∷◌, ◌++◌, ap₂, ◌/◌, ◌%◌, ◌≤◌, mod-lt, div-lt_iff_lt-mul, le_trans, le_of_lt, mul-le-mul_left}
+use Rattle.std.proofs.Common.{arith, ◌-◌, ◌≡◌, ℕ, ◌+◌, ◌*◌, ◌<◌, sym, ap, ◌∙◌, List, length, ext_get_or, subst}
+use Rattle.std.proofs.Common.{mul_comm, zero, suc, add-zero, add-one, add-suc, append-nil, append_assoc, [], ◌∷◌, ◌++◌}
+use Rattle.std.proofs.Common.{ap₂, ◌/◌, ◌%◌, ◌≤◌, mod-lt, div-lt_iff_lt-mul, le_trans, le_of_lt, mul-le-mul_left}
 use Rattle.std.proofs.Math.Nat.{div-mul-le_self}
 use Rattle.std.specs.List.{between}
 use Rattle.std.proofs.lemmas.List.FromFn.{fill_by_all, map-range_with_len_more}
@@ -8,15 +10,20 @@ use Rattle.std.specs.Prelude.{slice_index}
 use Rattle.operators.specs.Identities.{turn}
 use Rattle.operators.specs.Sum.{list_below}
 use Rattle.operators.specs.Operator.{Operator, column, block, on_columns, on_blocks}
-use Rattle.operators.proofs.Lists.{at-list_below, length-list_below, list_below-same, list_below-same_rows, row-of, column-of, by_rows, at-on_columns, at-on_blocks, at-stride, place_below, factor_positive}
+use Rattle.operators.proofs.Lists.{at-list_below, length-list_below, list_below-same, list_below-same_rows, row-of}
+use Rattle.operators.proofs.Lists.{column-of, by_rows, at-on_columns, at-on_blocks, at-stride, place_below}
+use Rattle.operators.proofs.Lists.{factor_positive}
 
-pub on_columns_at : (r s : ℕ) (op : Operator) (x : List ℕ) (p a b : ℕ) → a < r → b < s → p ≡ a * s + b → slice_index (on_columns r s op x) p ≡ slice_index (op (column r s b x)) a
+pub on_columns_at : (r s : ℕ) (op : Operator) (x : List ℕ) (p a b : ℕ) → a < r → b < s → p ≡ a * s + b →
+    slice_index (on_columns r s op x) p ≡ slice_index (op (column r s b x)) a
 on_columns_at r s op x p a b row below e = ap (slice_index (on_columns r s op x)) e ∙ at-on_columns r s op x a b row below
 
-pub on_blocks_at : (r s : ℕ) (op : Operator) (x : List ℕ) (p a b : ℕ) → a < r → b < s → p ≡ a * s + b → slice_index (on_blocks r s op x) p ≡ slice_index (op (block s a x)) b
+pub on_blocks_at : (r s : ℕ) (op : Operator) (x : List ℕ) (p a b : ℕ) → a < r → b < s → p ≡ a * s + b →
+    slice_index (on_blocks r s op x) p ≡ slice_index (op (block s a x)) b
 on_blocks_at r s op x p a b row below e = ap (slice_index (on_blocks r s op x)) e ∙ at-on_blocks r s op x a b row below
 
-pub turn_at : (r s : ℕ) (x : List ℕ) (p a b : ℕ) → a < r → b < s → p ≡ a * s + b → slice_index (turn r s x) p ≡ slice_index x (b * r + a)
+pub turn_at : (r s : ℕ) (x : List ℕ) (p a b : ℕ) → a < r → b < s → p ≡ a * s + b →
+    slice_index (turn r s x) p ≡ slice_index x (b * r + a)
 turn_at r s x p a b row below e = ap (slice_index (turn r s x)) e ∙ at-stride r s x a b row below
 
 pub column_at : (r s b : ℕ) (x : List ℕ) (a : ℕ) → a < r → slice_index (column r s b x) a ≡ slice_index x (a * s + b)
@@ -27,7 +34,8 @@ block_at s a x b below = at-list_below s (λ j. slice_index x (a * s + j)) b bel
 
 -- lists of one length that agree at each place of three levels
 pub same_by_three : (a b c : ℕ) (xs ys : List ℕ) → length xs ≡ a * b * c → length ys ≡ a * b * c →
-    ((i j k : ℕ) → i < a → j < b → k < c → slice_index xs ((i * b + j) * c + k) ≡ slice_index ys ((i * b + j) * c + k)) → xs ≡ ys
+    ((i j k : ℕ) → i < a → j < b → k < c → slice_index xs ((i * b + j) * c + k) ≡ slice_index ys ((i * b + j) * c + k))
+    → xs ≡ ys
 same_by_three a b c xs ys left right h =
     ext_get_or 0 xs ys (left ∙ sym right) (λ p below.
     by_rows (a * b) c (λ p. slice_index xs p ≡ slice_index ys p)
@@ -65,7 +73,8 @@ list_below-append a (suc b) f =
     ∙ ap (λ l. list_below a f ++ l) (sym (list_below-suc b (λ j. f (a + j))))
 
 -- one more block
-pub on_blocks_more : (r s : ℕ) (op : Operator) (x : List ℕ) → ((y : List ℕ) → length y ≡ s → length (op y) ≡ s) → on_blocks (r + 1) s op x ≡ on_blocks r s op x ++ op (block s r x)
+pub on_blocks_more : (r s : ℕ) (op : Operator) (x : List ℕ) → ((y : List ℕ) → length y ≡ s → length (op y) ≡ s) →
+    on_blocks (r + 1) s op x ≡ on_blocks r s op x ++ op (block s r x)
 on_blocks_more r s op x size =
     let rows : (r + 1) * s ≡ r * s + s = omega arith in
     let item = λ (p : ℕ). slice_index (op (block s (p / s) x)) (p % s) in
@@ -76,14 +85,16 @@ on_blocks_more r s op x size =
     (λ j below. sym (ap₂ (λ a b. slice_index (op (block s a x)) b) (row-of r j s below) (column-of r j s below)))))
 
 -- a part of a list is a block
-pub between-block : (s i : ℕ) (x : List ℕ) (start end : ℕ) → start ≡ i * s → end ≡ i * s + s → end ≤ length x → between start end x ≡ block s i x
+pub between-block : (s i : ℕ) (x : List ℕ) (start end : ℕ) → start ≡ i * s → end ≡ i * s + s → end ≤ length x →
+    between start end x ≡ block s i x
 between-block s i x start end from to inside =
     let width : end - start ≡ s = omega arith in
     fill_by_all _ (between start end x) s 0 (length-between x start end inside ∙ width) (λ j below.
     get_or-between x start end j 0 (omega arith) ∙ ap (λ n. slice_index x (n + j)) from)
 
 -- on columns as on blocks, between two stride permutations
-pub on_columns-turned : (r s : ℕ) (op : Operator) (x : List ℕ) → on_columns r s op x ≡ turn r s (on_blocks s r op (turn s r x))
+pub on_columns-turned : (r s : ℕ) (op : Operator) (x : List ℕ) →
+    on_columns r s op x ≡ turn r s (on_blocks s r op (turn s r x))
 on_columns-turned r s op x =
     list_below-same_rows r s _ _ (λ i j row below.
     ap₂ (λ a b. slice_index (op (column r s b x)) a) (row-of i j s below) (column-of i j s below)

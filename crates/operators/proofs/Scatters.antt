@@ -1,11 +1,13 @@
 -- The laws of loops, gathers and scatters.
-use Rattle.std.proofs.Common.{◌≡◌, ◌≢◌, ℕ, zero, suc, ◌+◌, ◌*◌, ◌%◌, ◌<◌, arith, refl, sym, ap, ap₂, ◌∙◌, List, mul-zero, ◌⊎◌, inl, inr, Bool, true, false}
+use Rattle.std.proofs.Common.{◌≡◌, ◌≢◌, ℕ, zero, suc, ◌+◌, ◌*◌, ◌%◌, ◌<◌, arith, refl, sym, ap, ap₂, ◌∙◌, List}
+use Rattle.std.proofs.Common.{mul-zero, ◌⊎◌, inl, inr, Bool, true, false}
 use Rattle.std.specs.Prelude.{◌==◌, if◌then◌else◌, slice_index}
 use Rattle.std.proofs.Math.Nat.{zero-mod}
 use Rattle.std.proofs.lemmas.Bool.{cases_lt, cases_eq}
 use Rattle.std.proofs.lemmas.Bool.Decides.{nat_tests}
 use Rattle.std.proofs.lemmas.Nat.{same_from_place}
-use Rattle.operators.specs.Loop.{scatter, TensorsAsLoops, GatherOfGather, ScatterOfScatter, GatherOfScale, ScaleOfScatter, GatherAsScatter}
+use Rattle.operators.specs.Loop.{scatter, TensorsAsLoops, GatherOfGather, ScatterOfScatter, GatherOfScale}
+use Rattle.operators.specs.Loop.{ScaleOfScatter, GatherAsScatter}
 use Rattle.operators.specs.Operator.{gather, scale}
 use Rattle.operators.specs.Sum.{sum_below}
 use Rattle.operators.proofs.Lists.{at-list_below, list_below-same, list_below-same_rows, place_below, row-of, column-of}
@@ -30,13 +32,15 @@ left : (a p x : ℕ) → a ≢ p → (if a == p then x else 0) ≡ 0
 left a p x h = grind (arith, nat_tests)
 
 -- a scatter gives the item i at the place f i, where f takes no other item there
-scatter_at : (n d : ℕ) (f : ℕ → ℕ) (x : List ℕ) (p i : ℕ) → p < n → i < d → f i ≡ p → ((j : ℕ) → j < d → j ≢ i → f j ≢ p) → slice_index (scatter n d f x) p ≡ slice_index x i
+scatter_at : (n d : ℕ) (f : ℕ → ℕ) (x : List ℕ) (p i : ℕ) → p < n → i < d → f i ≡ p →
+    ((j : ℕ) → j < d → j ≢ i → f j ≢ p) → slice_index (scatter n d f x) p ≡ slice_index x i
 scatter_at n d f x p i place within here others =
     at-list_below n _ p place
     ∙ sum_below-only d i _ within (λ j inside apart. left (f j) p (slice_index x j) (others j inside apart))
     ∙ taken (f i) p (slice_index x i) here
 
-scatter_off : (n d : ℕ) (f : ℕ → ℕ) (x : List ℕ) (p : ℕ) → p < n → ((j : ℕ) → j < d → f j ≢ p) → slice_index (scatter n d f x) p ≡ 0
+scatter_off : (n d : ℕ) (f : ℕ → ℕ) (x : List ℕ) (p : ℕ) → p < n → ((j : ℕ) → j < d → f j ≢ p) →
+    slice_index (scatter n d f x) p ≡ 0
 scatter_off n d f x p place others =
     at-list_below n _ p place ∙ sum_below-same d _ (λ _. 0) (λ j inside. left (f j) p (slice_index x j) (others j inside)) ∙ sum_below-zeros d
 

@@ -1,5 +1,6 @@
 -- The laws of `sum_below`, exact and modulo m.
-use Rattle.std.proofs.Common.{◌≡◌, ℕ, zero, suc, ◌+◌, ◌*◌, ◌%◌, ◌<◌, arith, refl, sym, ap, ap₂, ◌∙◌, add-zero, mul-zero, add-one, add-suc, suc-mul, add_assoc}
+use Rattle.std.proofs.Common.{◌≡◌, ℕ, zero, suc, ◌+◌, ◌*◌, ◌%◌, ◌<◌, arith, refl, sym, ap, ap₂, ◌∙◌, add-zero, mul-zero}
+use Rattle.std.proofs.Common.{add-one, add-suc, suc-mul, add_assoc}
 use Rattle.std.proofs.Math.Nat.{zero-mul, mod-mod, mul-add}
 use Rattle.std.proofs.lemmas.Nat.{mul-mod_second}
 use Rattle.ring_mod.proofs.Congruence.{same-add, same-mul}
@@ -25,7 +26,8 @@ mul-sum_below zero c f = mul-zero c
 mul-sum_below (suc n) c f = mul-add c (sum_below n f) (f n) ∙ ap (λ x. x + c * f n) (mul-sum_below n c f)
 
 -- the order of two sums is free
-pub sum_below-swap : (a b : ℕ) (f : ℕ → ℕ → ℕ) → sum_below a (λ i. sum_below b (f i)) ≡ sum_below b (λ j. sum_below a (λ i. f i j))
+pub sum_below-swap : (a b : ℕ) (f : ℕ → ℕ → ℕ) → sum_below a (λ i. sum_below b (f i))
+    ≡ sum_below b (λ j. sum_below a (λ i. f i j))
 sum_below-swap zero b f = sym (sum_below-zeros b)
 sum_below-swap (suc a) b f =
     ap (λ x. x + sum_below b (f a)) (sum_below-swap a b f) ∙ sym (sum_below-add b (λ j. sum_below a (λ i. f i j)) (f a))
@@ -45,13 +47,15 @@ sum_below-rows (suc a) b f =
 
 -- ---- modulo m
 
-pub same-sum_below : (m n : ℕ) (f g : ℕ → ℕ) → ((i : ℕ) → i < n → f i % m ≡ g i % m) → sum_below n f % m ≡ sum_below n g % m
+pub same-sum_below : (m n : ℕ) (f g : ℕ → ℕ) → ((i : ℕ) → i < n → f i % m ≡ g i % m) →
+    sum_below n f % m ≡ sum_below n g % m
 same-sum_below m zero f g h = refl
 same-sum_below m (suc n) f g h =
     same-add m (sum_below n f) (sum_below n g) (f n) (g n) (same-sum_below m n f g (λ i below. h i (omega arith))) (h n (omega arith))
 
 -- two factors in front of a sum, each product reduced
-pub same-mul_mul_sum_below : (m n c d : ℕ) (f : ℕ → ℕ) → (c * ((d * (sum_below n f % m)) % m)) % m ≡ sum_below n (λ j. c * (d * f j)) % m
+pub same-mul_mul_sum_below : (m n c d : ℕ) (f : ℕ → ℕ) → (c * ((d * (sum_below n f % m)) % m)) % m
+    ≡ sum_below n (λ j. c * (d * f j)) % m
 same-mul_mul_sum_below m n c d f =
     mul-mod_second c (d * (sum_below n f % m)) m
     ∙ same-mul m c c (d * (sum_below n f % m)) (d * sum_below n f) refl (mul-mod_second d (sum_below n f) m)
@@ -59,14 +63,16 @@ same-mul_mul_sum_below m n c d f =
     ∙ ap (λ x. x % m) (mul-sum_below n c (λ j. d * f j))
 
 -- one more term of a sum modulo m
-pub sum_below_more : (m n sum term : ℕ) (f : ℕ → ℕ) → sum ≡ sum_below n f % m → term ≡ f n % m → (sum + term) % m ≡ sum_below (n + 1) f % m
+pub sum_below_more : (m n sum term : ℕ) (f : ℕ → ℕ) → sum ≡ sum_below n f % m → term ≡ f n % m →
+    (sum + term) % m ≡ sum_below (n + 1) f % m
 sum_below_more m n sum term f p q =
     ap₂ (λ x y. (x + y) % m) p q
     ∙ same-add m (sum_below n f % m) (sum_below n f) (f n % m) (f n) (mod-mod (sum_below n f) m) (mod-mod (f n) m)
     ∙ ap (λ k. sum_below k f % m) (sym (add-one n))
 
 -- a running sum of products, after one more of them
-pub product_sum_more : (m modulus n sum e x term total : ℕ) (f : ℕ → ℕ) → modulus ≡ m → sum ≡ sum_below n f % m → term ≡ (e * x) % modulus → e * x ≡ f n → total ≡ (sum + term) % modulus → total ≡ sum_below (n + 1) f % m
+pub product_sum_more : (m modulus n sum e x term total : ℕ) (f : ℕ → ℕ) → modulus ≡ m → sum ≡ sum_below n f % m →
+    term ≡ (e * x) % modulus → e * x ≡ f n → total ≡ (sum + term) % modulus → total ≡ sum_below (n + 1) f % m
 product_sum_more m modulus n sum e x term total f same sum_is term_is product_is total_is =
     total_is ∙ ap (λ k. (sum + term) % k) same
     ∙ sum_below_more m n sum term f sum_is (term_is ∙ ap₂ (λ y k. y % k) product_is same)

@@ -7,7 +7,8 @@ use Rattle.operators.specs.Operator.{gather, column, on_columns}
 use Rattle.operators.proofs.Lists.{at-list_below, list_below-same_rows, row-of, column-of, place_below, factor_positive}
 
 -- a gather of each column is a gather
-on_columns-gather : (m k : ℕ) (f : ℕ → ℕ) (x : List ℕ) → ((i : ℕ) → i < m → f i < m) → on_columns m k (gather m f) x ≡ gather (m * k) (widened k f) x
+on_columns-gather : (m k : ℕ) (f : ℕ → ℕ) (x : List ℕ) → ((i : ℕ) → i < m → f i < m) →
+    on_columns m k (gather m f) x ≡ gather (m * k) (widened k f) x
 on_columns-gather m k f x below =
     list_below-same_rows m k _ _ (λ a b row within.
     ap₂ (λ i j. slice_index (gather m f (column m k j x)) i) (row-of a b k within) (column-of a b k within)

@@ -1,12 +1,15 @@
 -- Several actions of one processor, and the turns that finish its list of the phase.
-use Rattle.std.proofs.Common.{◌≡◌, ◌≢◌, ℕ, zero, suc, ◌+◌, ◌-◌, ◌<◌, ◌≤◌, List, [], ◌∷◌, ◌++◌, true, cond, length, replicate, get_or, Some, refl, sym, ap, ap₂, ◌∙◌, subst, arith, length-set, get_or-set_same, get_or-set_other, set-set, add-one, length-append}
+use Rattle.std.proofs.Common.{◌≡◌, ◌≢◌, ℕ, zero, suc, ◌+◌, ◌-◌, ◌<◌, ◌≤◌, List, [], ◌∷◌, ◌++◌, true, cond, length}
+use Rattle.std.proofs.Common.{replicate, get_or, Some, refl, sym, ap, ap₂, ◌∙◌, subst, arith, length-set}
+use Rattle.std.proofs.Common.{get_or-set_same, get_or-set_other, set-set, add-one, length-append}
 use Rattle.std.specs.Prelude.{slice_index, slice_index_or, slice_set}
 use Rattle.std.proofs.lemmas.List.{length-replicate}
 use Rattle.std.proofs.lemmas.Option.{slice_get-get_or}
 use Rattle.icode.specs.declared.action.Action.{Action}
 use Rattle.icode.specs.declared.action.Action.TheVariants.{Zero}
 use Rattle.icode.specs.declared.action.Counts.{Counts}
-use Rattle.icode.specs.Machine.{Code, IsCode, State, Local, acts, next_action, acted, moved_on, turn, turn_with, run, completion, finished, is_open, first_open, phases_after, none_done, effect, counted}
+use Rattle.icode.specs.Machine.{Code, IsCode, State, Local, acts, next_action, acted, moved_on, turn, turn_with, run}
+use Rattle.icode.specs.Machine.{completion, finished, is_open, first_open, phases_after, none_done, effect, counted}
 use Rattle.icode.proofs.Completion.{completion_step}
 use Rattle.icode.proofs.Runs.{open_at}
 use Rattle.par_machine.specs.declared.phase.Routine.{Routine}
@@ -38,9 +41,12 @@ module _ (f : Frame) (q : ℕ) (r : Routine) where
   pub record IsAdvanced (t : Stand) (n : ℕ) (s : Playing) (u : Stand) : Type 0 where
     pub memory : u.state.memory ≡ (plays_on n s).memory
     pub registers : u.state.registers ≡ slice_set t.state.registers q (plays_on n s).registers
-    pub phase : u.state.phase ≡ cond (is_open code t.state.phase (done_more t n)) t.state.phase (first_open code (length f.phases - (t.state.phase + 1)) (t.state.phase + 1))
-    pub done : u.state.done ≡ cond (is_open code t.state.phase (done_more t n)) (done_more t n) (replicate f.header.procs 0)
-    pub places : u.places ≡ cond (is_open code t.state.phase (done_more t n)) (slice_set t.places q (plays_on n s).place) (replicate f.header.procs first_position)
+    pub phase : u.state.phase ≡ cond (is_open code t.state.phase (done_more t n)) t.state.phase
+        (first_open code (length f.phases - (t.state.phase + 1)) (t.state.phase + 1))
+    pub done : u.state.done ≡ cond (is_open code t.state.phase (done_more t n)) (done_more t n)
+        (replicate f.header.procs 0)
+    pub places : u.places ≡ cond (is_open code t.state.phase (done_more t n))
+        (slice_set t.places q (plays_on n s).place) (replicate f.header.procs first_position)
     pub counts : u.counts ≡ slice_set t.counts q (plays_on n s).counts
     pub within : u.state.phase ≤ length f.phases
 
@@ -48,7 +54,8 @@ module _ (f : Frame) (q : ℕ) (r : Routine) where
     pub here : IsHere f t q r cursor
     pub count_is : count ≡ get_or t.counts q count
 
-  hand_of : (t : Stand) (cursor : Position) (count : Counts) → IsRunning f t → IsSet t cursor count → IsHand f t q (action_of_step (step_at f.header r.code.items q cursor)) r cursor count
+  hand_of : (t : Stand) (cursor : Position) (count : Counts) → IsRunning f t → IsSet t cursor count →
+      IsHand f t q (action_of_step (step_at f.header r.code.items q cursor)) r cursor count
   hand_of t cursor count run set = record { here = set.here; count_is = set.count_is; hand = hand_action f t q r cursor run set.here }
 
   -- the stand after one action, where another is left
@@ -61,12 +68,16 @@ module _ (f : Frame) (q : ℕ) (r : Routine) where
         counts = slice_set t.counts q s.counts;
       }
 
-  stays_open : (t : Stand) (cursor : Position) → IsRunning f t → IsHere f t q r cursor → slice_index t.state.done q + 1 < r.len → is_open code t.state.phase (slice_set t.state.done q (suc (slice_index t.state.done q))) ≡ true
+  stays_open : (t : Stand) (cursor : Position) → IsRunning f t → IsHere f t q r cursor →
+      slice_index t.state.done q + 1 < r.len → is_open code t.state.phase
+      (slice_set t.state.done q (suc (slice_index t.state.done q))) ≡ true
   stays_open t cursor run here more =
       let set : slice_index (slice_set t.state.done q (suc (slice_index t.state.done q))) q ≡ suc (slice_index t.state.done q) = get_or-set_same t.state.done q (suc (slice_index t.state.done q)) 0 (omega (arith, run.dones, here.proc)) in
       opens code f.phases t.state.phase q r.len _ (has_lengths f) (len_at f.phases t.state.phase r here.phase here.routine) here.proc (omega (arith, set, more))
 
-  next_stepped : (t : Stand) (cursor : Position) (count : Counts) → IsRunning f t → IsSet t cursor count → slice_index t.state.done q + 1 < r.len → IsStepped f t q (action_of_step (step_at f.header r.code.items q cursor)) r cursor count (next_stand t cursor count)
+  next_stepped : (t : Stand) (cursor : Position) (count : Counts) → IsRunning f t → IsSet t cursor count →
+      slice_index t.state.done q + 1 < r.len → IsStepped f t q (action_of_step (step_at f.header r.code.items q cursor))
+      r cursor count (next_stand t cursor count)
   next_stepped t cursor count run set more =
       let o = stays_open t cursor run set.here more in
       let phases : ℕ = first_open code (length f.phases - (t.state.phase + 1)) (t.state.phase + 1) in
@@ -80,7 +91,9 @@ module _ (f : Frame) (q : ℕ) (r : Routine) where
         within = run.phase;
       }
 
-  next_set : (t : Stand) (cursor : Position) (count : Counts) → IsRunning f t → IsSet t cursor count → slice_index t.state.done q + 1 < r.len → IsSet (next_stand t cursor count) (next_position r.code.items cursor) (counted f.header.lanes (action_of_step (step_at f.header r.code.items q cursor)) count)
+  next_set : (t : Stand) (cursor : Position) (count : Counts) → IsRunning f t → IsSet t cursor count →
+      slice_index t.state.done q + 1 < r.len → IsSet (next_stand t cursor count) (next_position r.code.items cursor)
+      (counted f.header.lanes (action_of_step (step_at f.header r.code.items q cursor)) count)
   next_set t cursor count run set more =
       let done : slice_index (slice_set t.state.done q (suc (slice_index t.state.done q))) q ≡ suc (slice_index t.state.done q) = get_or-set_same t.state.done q (suc (slice_index t.state.done q)) 0 (omega (arith, run.dones, set.here.proc)) in
       record {
@@ -95,7 +108,10 @@ module _ (f : Frame) (q : ℕ) (r : Routine) where
       }
 
   -- seen from the stand after the first action, the others are one fewer
-  next_advanced : (t : Stand) (cursor : Position) (count : Counts) (n : ℕ) (u : Stand) → IsRunning f t → IsSet t cursor count → IsAdvanced t (suc n) (begin t cursor count) u → IsAdvanced (next_stand t cursor count) n (begin (next_stand t cursor count) (next_position r.code.items cursor) (counted f.header.lanes (action_of_step (step_at f.header r.code.items q cursor)) count)) u
+  next_advanced : (t : Stand) (cursor : Position) (count : Counts) (n : ℕ) (u : Stand) → IsRunning f t →
+      IsSet t cursor count → IsAdvanced t (suc n) (begin t cursor count) u →
+      IsAdvanced (next_stand t cursor count) n (begin (next_stand t cursor count) (next_position r.code.items cursor)
+      (counted f.header.lanes (action_of_step (step_at f.header r.code.items q cursor)) count)) u
   next_advanced t cursor count n u run set e =
       let v : Stand = next_stand t cursor count in
       let s1 : Playing = played_one f.header r.code.items q (begin t cursor count) in
@@ -118,7 +134,9 @@ module _ (f : Frame) (q : ℕ) (r : Routine) where
       }
 
   -- one action is a step
-  last_stepped : (t : Stand) (cursor : Position) (count : Counts) (u : Stand) → IsAdvanced t 1 (begin t cursor count) u → IsStepped f t q (action_of_step (step_at f.header r.code.items q cursor)) r cursor count u
+  last_stepped : (t : Stand) (cursor : Position) (count : Counts) (u : Stand) →
+      IsAdvanced t 1 (begin t cursor count) u → IsStepped f t q
+      (action_of_step (step_at f.header r.code.items q cursor)) r cursor count u
   last_stepped t cursor count u e =
       let one : done_more t 1 ≡ slice_set t.state.done q (suc (slice_index t.state.done q)) = ap (slice_set t.state.done q) (add-one (slice_index t.state.done q)) in
       let phases : ℕ = first_open code (length f.phases - (t.state.phase + 1)) (t.state.phase + 1) in
@@ -136,7 +154,9 @@ module _ (f : Frame) (q : ℕ) (r : Routine) where
     pub state : u.state ≡ run code t.state (replicate n q)
     pub runs : IsRunning f u
 
-  pub advanced_runs : (n : ℕ) (t : Stand) (cursor : Position) (count : Counts) (u : Stand) → IsReady f → IsRunning f t → IsSet t cursor count → 0 < n → slice_index t.state.done q + n ≤ r.len → IsAdvanced t n (begin t cursor count) u → IsRun t n u
+  pub advanced_runs : (n : ℕ) (t : Stand) (cursor : Position) (count : Counts) (u : Stand) → IsReady f → IsRunning f t →
+      IsSet t cursor count → 0 < n → slice_index t.state.done q + n ≤ r.len → IsAdvanced t n (begin t cursor count) u →
+      IsRun t n u
   advanced_runs zero t cursor count u ready run set some most e = absurd (omega arith)
   advanced_runs (suc zero) t cursor count u ready run set some most e =
       let hand = hand_of t cursor count run set in
@@ -166,7 +186,10 @@ module _ (code : Code) (is : IsCode code) where
   run_both (q ∷ xs) ys s = run_both xs ys (turn code s q)
 
   -- where no processor before has an action left
-  rest_turns : (n q : ℕ) (s : State) → length s.done ≡ code.procs → q < code.procs → s.phase < length code.lists → slice_index s.done q + n ≤ length (acts code s.phase q) → ((k : ℕ) → k < q → length (acts code s.phase k) ≤ slice_index s.done k) → completion code s ≡ replicate n q ++ completion code (run code s (replicate n q))
+  rest_turns : (n q : ℕ) (s : State) → length s.done ≡ code.procs → q < code.procs → s.phase < length code.lists →
+      slice_index s.done q + n ≤ length (acts code s.phase q) →
+      ((k : ℕ) → k < q → length (acts code s.phase k) ≤ slice_index s.done k) →
+      completion code s ≡ replicate n q ++ completion code (run code s (replicate n q))
   rest_turns zero q s dones inside here most before = refl
   rest_turns (suc zero) q s dones inside here most before =
       completion_step code is s q _ dones inside here (slice_get-get_or (acts code s.phase q) (slice_index s.done q) (Zero 0) (omega (arith, most))) before
@@ -186,7 +209,9 @@ module _ (code : Code) (is : IsCode code) where
       other : (k q : ℕ) → k < q → k ≢ q
       other k q lt = omega arith
 
-  pub unfinished_is : (q : ℕ) (s : State) → length s.done ≡ code.procs → q < code.procs → s.phase < length code.lists → slice_index s.done q < length (acts code s.phase q) → ((k : ℕ) → k < q → length (acts code s.phase k) ≤ slice_index s.done k) → IsUnfinished code s q
+  pub unfinished_is : (q : ℕ) (s : State) → length s.done ≡ code.procs → q < code.procs → s.phase < length code.lists →
+      slice_index s.done q < length (acts code s.phase q) → ((k : ℕ) → k < q →
+      length (acts code s.phase k) ≤ slice_index s.done k) → IsUnfinished code s q
   unfinished_is q s dones inside here left before =
       let n : ℕ = left_of code s q in
       let after : State = run code s (replicate n q) in

@@ -1,5 +1,7 @@
 -- Code that is appended statement by statement.
-use Rattle.std.proofs.Common.{◌≡◌, ℕ, zero, suc, ◌+◌, ◌-◌, ◌*◌, ◌<◌, ◌≤◌, List, [], ◌∷◌, ◌++◌, true, length, take, flat_map, get_or, All, refl, sym, ap, ◌∙◌, subst, arith, ⊎_elim, length-append, append_assoc, ltb-true}
+use Rattle.std.proofs.Common.{◌≡◌, ℕ, zero, suc, ◌+◌, ◌-◌, ◌*◌, ◌<◌, ◌≤◌, List, [], ◌∷◌, ◌++◌, true, length, take}
+use Rattle.std.proofs.Common.{flat_map, get_or, All, refl, sym, ap, ◌∙◌, subst, arith, ⊎_elim, length-append}
+use Rattle.std.proofs.Common.{append_assoc, ltb-true}
 use Rattle.std.specs.List.{range_with_len}
 use Rattle.std.proofs.lemmas.Bool.{cases_lt}
 use Rattle.std.proofs.lemmas.List.{take_more}
@@ -45,7 +47,9 @@ compiled_none m depth code =
       plays = λ p rest. plays_none p (code ++ rest) (length code) depth;
     }
 
-pub compiled_both : (m depth n k : ℕ) (s t : PlainProgram → Steps) (a b c : List Instruction) → IsCompiled m depth n s a b → IsCompiled m depth k t b c → IsCompiled m depth (n + k) (λ p vs q. s p vs q ++ t p vs q) a c
+pub compiled_both : (m depth n k : ℕ) (s t : PlainProgram → Steps) (a b c : List Instruction) →
+    IsCompiled m depth n s a b → IsCompiled m depth k t b c →
+    IsCompiled m depth (n + k) (λ p vs q. s p vs q ++ t p vs q) a c
 compiled_both m depth n k s t a b c h g =
     record {
       more = h.more ++ g.more;
@@ -59,7 +63,9 @@ compiled_both m depth n k s t a b c h g =
           (g.plays p rest);
     }
 
-pub compiled_same : (m depth n k : ℕ) (s t : PlainProgram → Steps) (a b : List Instruction) → n ≡ k → ((p : PlainProgram) (vs : List ℕ) (q : ℕ) → s p vs q ≡ t p vs q) → IsCompiled m depth n s a b → IsCompiled m depth k t a b
+pub compiled_same : (m depth n k : ℕ) (s t : PlainProgram → Steps) (a b : List Instruction) → n ≡ k →
+    ((p : PlainProgram) (vs : List ℕ) (q : ℕ) → s p vs q ≡ t p vs q) → IsCompiled m depth n s a b →
+    IsCompiled m depth k t a b
 compiled_same m depth n k s t a b e same h =
     record {
       more = h.more;
@@ -69,7 +75,9 @@ compiled_same m depth n k s t a b e same h =
       plays = λ p rest. plays_same p (b ++ rest) (length a) (length b) depth n k (s p) (t p) e (same p) (h.plays p rest);
     }
 
-pub compiled_do : (m depth : ℕ) (op : PlainOp) (copy : Op) (s : PlainStmt) (a b : List Instruction) → s ≡ Do op → plain_op copy ≡ op → depth ≤ 64 → is_stmt_within m s depth ≡ true → b ≡ a ++ Act copy depth ∷ [] → DoesSteps m depth s a b
+pub compiled_do : (m depth : ℕ) (op : PlainOp) (copy : Op) (s : PlainStmt) (a b : List Instruction) → s ≡ Do op →
+    plain_op copy ≡ op → depth ≤ 64 → is_stmt_within m s depth ≡ true → b ≡ a ++ Act copy depth ∷ [] →
+    DoesSteps m depth s a b
 compiled_do m depth op copy s a b is same deep within e =
     let here : (rest : List Instruction) → b ++ rest ≡ a ++ Act copy depth ∷ rest = λ rest. ap (λ xs. xs ++ rest) e ∙ append_assoc a (Act copy depth ∷ []) rest in
     let end : length a + 1 ≡ length b = sym (ap length e ∙ length-append a (Act copy depth ∷ [])) in
@@ -89,20 +97,24 @@ compiled_do m depth op copy s a b is same deep within e =
 
 -- A loop
 
-loop_within : (m depth count : ℕ) (body : PlainBody) → is_stmt_within m (Loop count body) depth ≡ true → (0 < count) × (depth < 64) × (is_body_within m body (depth + 1) ≡ true)
+loop_within : (m depth count : ℕ) (body : PlainBody) → is_stmt_within m (Loop count body) depth ≡ true →
+    (0 < count) × (depth < 64) × (is_body_within m body (depth + 1) ≡ true)
 loop_within m depth count body e =
     let parts = both_true _ _ e in
     let more = both_true _ _ parts.1 in
     (ltb-true 0 count (both_true _ _ parts.0).0, ltb-true depth 64 more.0, more.1)
 
-pub loop_parts : (m depth count : ℕ) (body : PlainBody) (s : PlainStmt) → s ≡ Loop count body → is_stmt_within m s depth ≡ true → (0 < count) × (depth < 64) × (is_body_within m body (depth + 1) ≡ true)
+pub loop_parts : (m depth count : ℕ) (body : PlainBody) (s : PlainStmt) → s ≡ Loop count body →
+    is_stmt_within m s depth ≡ true → (0 < count) × (depth < 64) × (is_body_within m body (depth + 1) ≡ true)
 loop_parts m depth count body s is e = loop_within m depth count body (sym (ap (λ s. is_stmt_within m s depth) is) ∙ e)
 
 empty_is : (xs : List Step) → length xs ≡ 0 → xs ≡ []
 empty_is [] e = refl
 empty_is (x ∷ xs) e = absurd (omega arith)
 
-pub compiled_empty : (m depth count : ℕ) (body : PlainBody) (s : PlainStmt) (a b : List Instruction) → s ≡ Loop count body → IsCompiled m (depth + 1) (len_of_body body) (λ p. steps_of_body p body) a b → length b ≤ length a → DoesSteps m depth s a b
+pub compiled_empty : (m depth count : ℕ) (body : PlainBody) (s : PlainStmt) (a b : List Instruction) →
+    s ≡ Loop count body → IsCompiled m (depth + 1) (len_of_body body) (λ p. steps_of_body p body) a b →
+    length b ≤ length a → DoesSteps m depth s a b
 compiled_empty m depth count body s a b is h short =
     let p0 : PlainProgram = record { size = 0; modulus = 0; procs = 0; line = 0; lanes = 0; regs = 0; tables = []; phases = [] } in
     let same_end : length a ≡ length b = omega (arith, (h.plays p0 []).order) in
@@ -127,7 +139,10 @@ compiled_empty m depth count body s a b is h short =
     zero_is : (n : ℕ) → n ≤ 0 → n ≡ 0
     zero_is n le = omega arith
 
-pub compiled_loop : (m depth count : ℕ) (body : PlainBody) (s : PlainStmt) (a b c : List Instruction) → s ≡ Loop count body → 0 < count → depth < 64 → IsCompiled m (depth + 1) (len_of_body body) (λ p. steps_of_body p body) a b → length a < length b → c ≡ b ++ Again (length a) (count - 1) depth ∷ [] → DoesSteps m depth s a c
+pub compiled_loop : (m depth count : ℕ) (body : PlainBody) (s : PlainStmt) (a b c : List Instruction) →
+    s ≡ Loop count body → 0 < count → depth < 64 → IsCompiled m (depth + 1) (len_of_body body)
+    (λ p. steps_of_body p body) a b → length a < length b → c ≡ b ++ Again (length a) (count - 1) depth ∷ [] →
+    DoesSteps m depth s a c
 compiled_loop m depth count body s a b c is pos deep h long e =
     let jump : Instruction = Again (length a) (count - 1) depth in
     let p0 : PlainProgram = record { size = 0; modulus = 0; procs = 0; line = 0; lanes = 0; regs = 0; tables = []; phases = [] } in
@@ -158,13 +173,16 @@ compiled_loop m depth count body s a b c is pos deep h long e =
 
 -- One more statement
 
-body_steps_more : (p : PlainProgram) (xs : List Stmt) (x : Stmt) (vs : List ℕ) (q : ℕ) → steps_of_body p (plain_body xs) vs q ++ steps_of_stmt p (plain_stmt x) vs q ≡ steps_of_body p (plain_body (xs ++ x ∷ [])) vs q
+body_steps_more : (p : PlainProgram) (xs : List Stmt) (x : Stmt) (vs : List ℕ) (q : ℕ) →
+    steps_of_body p (plain_body xs) vs q ++ steps_of_stmt p (plain_stmt x) vs q
+    ≡ steps_of_body p (plain_body (xs ++ x ∷ [])) vs q
 body_steps_more p [] x vs q = sym (append_nil (steps_of_stmt p (plain_stmt x) vs q))
 body_steps_more p (y ∷ xs) x vs q =
     append_assoc (steps_of_stmt p (plain_stmt y) vs q) (steps_of_body p (plain_body xs) vs q) (steps_of_stmt p (plain_stmt x) vs q)
     ∙ ap (λ zs. steps_of_stmt p (plain_stmt y) vs q ++ zs) (body_steps_more p xs x vs q)
 
-body_len_more : (xs : List Stmt) (x : Stmt) → len_of_body (plain_body xs) + len_of_stmt (plain_stmt x) ≡ len_of_body (plain_body (xs ++ x ∷ []))
+body_len_more : (xs : List Stmt) (x : Stmt) → len_of_body (plain_body xs) + len_of_stmt (plain_stmt x)
+    ≡ len_of_body (plain_body (xs ++ x ∷ []))
 body_len_more [] x = plus_swap (len_of_stmt (plain_stmt x))
   where
     plus_swap : (n : ℕ) → 0 + n ≡ n + 0
@@ -177,14 +195,17 @@ body_len_more (y ∷ xs) x = assoc (len_of_stmt (plain_stmt y)) (len_of_body (pl
 abbrev pub DoesBody : ℕ → ℕ → List Stmt → List Instruction → List Instruction → Type 0
 DoesBody m depth body before after = IsCompiled m depth (len_of_body (plain_body body)) (λ p. steps_of_body p (plain_body body)) before after
 
-pub compiled_more : (m depth i : ℕ) (items : List Stmt) (x : Stmt) (a b c : List Instruction) → i < length items → x ≡ get_or items i x → DoesBody m depth (take i items) a b → DoesSteps m depth (plain_stmt x) b c → DoesBody m depth (take (i + 1) items) a c
+pub compiled_more : (m depth i : ℕ) (items : List Stmt) (x : Stmt) (a b c : List Instruction) → i < length items →
+    x ≡ get_or items i x → DoesBody m depth (take i items) a b → DoesSteps m depth (plain_stmt x) b c →
+    DoesBody m depth (take (i + 1) items) a c
 compiled_more m depth i items x a b c lt e h g =
     let front : take i items ++ x ∷ [] ≡ take (i + 1) items = ap (λ y. take i items ++ y ∷ []) e ∙ sym (take_more items i x lt) in
     subst (λ xs. DoesBody m depth xs a c) front
     (compiled_same m depth _ _ _ (λ p. steps_of_body p (plain_body (take i items ++ x ∷ []))) a c (body_len_more (take i items) x) (λ p vs q. body_steps_more p (take i items) x vs q)
     (compiled_both m depth (len_of_body (plain_body (take i items))) (len_of_stmt (plain_stmt x)) (λ p. steps_of_body p (plain_body (take i items))) (λ p. steps_of_stmt p (plain_stmt x)) a b c h g))
 
-pub item_within : (m depth i : ℕ) (items : List Stmt) (x : Stmt) → is_body_within m (plain_body items) depth ≡ true → i < length items → x ≡ get_or items i x → is_stmt_within m (plain_stmt x) depth ≡ true
+pub item_within : (m depth i : ℕ) (items : List Stmt) (x : Stmt) → is_body_within m (plain_body items) depth ≡ true →
+    i < length items → x ≡ get_or items i x → is_stmt_within m (plain_stmt x) depth ≡ true
 item_within m depth i [] x e lt is = absurd (omega arith)
 item_within m depth zero (y ∷ items) x e lt is = ap (λ s. is_stmt_within m (plain_stmt s) depth) is ∙ (both_true _ _ e).0
 item_within m depth (suc i) (y ∷ items) x e lt is = item_within m depth i items x (both_true _ _ e).1 (omega arith) is

@@ -1,12 +1,14 @@
 -- Where a cursor comes to rest.
-use Rattle.std.proofs.Common.{◌≡◌, ℕ, suc, ◌+◌, ◌<◌, List, ◌∷◌, drop, length, get_or, sym, ap, ◌∙◌, add-one, drop-cons, if◌then◌else◌, nat_lt}
+use Rattle.std.proofs.Common.{◌≡◌, ℕ, suc, ◌+◌, ◌<◌, List, ◌∷◌, drop, length, get_or, sym, ap, ◌∙◌, add-one, drop-cons}
+use Rattle.std.proofs.Common.{if◌then◌else◌, nat_lt}
 use Rattle.std.specs.Prelude.{slice_index, slice_set}
 use Rattle.icode.specs.declared.program.Op.{Op}
 use Rattle.par_machine.specs.declared.cursor.Instruction.{Instruction}
 use Rattle.par_machine.specs.declared.cursor.Instruction.TheVariants.{Act, Again}
 use Rattle.par_machine.specs.Position.{resting}
 
-pub drop_instruction : (code : List Instruction) (at : ℕ) (i : Instruction) → at < length code → i ≡ get_or code at i → drop at code ≡ i ∷ drop (at + 1) code
+pub drop_instruction : (code : List Instruction) (at : ℕ) (i : Instruction) → at < length code → i ≡ get_or code at i →
+    drop at code ≡ i ∷ drop (at + 1) code
 drop_instruction code at i lt e = rw (add-one, drop-cons code at i) (ap (λ y. y ∷ drop (suc at) code) (sym e))
 
 pub rests_at_act : (code : List Instruction) (at : ℕ) (values : List ℕ) (i : Instruction) (op : Op) (depth : ℕ) → at < length code → i ≡ get_or code at i → i ≡ Act op depth → resting (drop at code) at values ≡ record { at = at; values = values }

@@ -1,12 +1,15 @@
 -- What processors have executed so far.
-use Rattle.std.proofs.Common.{◌≡◌, ℕ, zero, suc, ◌+◌, ◌-◌, ◌*◌, ◌<◌, ◌≤◌, ◌^◌, List, [], ◌∷◌, ◌++◌, Bool, true, false, cond, length, take, flat_map, refl, sym, ap, ap₂, ◌∙◌, subst, arith, ⊎_elim, append_assoc, length-append, length-take-le}
+use Rattle.std.proofs.Common.{◌≡◌, ℕ, zero, suc, ◌+◌, ◌-◌, ◌*◌, ◌<◌, ◌≤◌, ◌^◌, List, [], ◌∷◌, ◌++◌, Bool, true, false}
+use Rattle.std.proofs.Common.{cond, length, take, flat_map, refl, sym, ap, ap₂, ◌∙◌, subst, arith, ⊎_elim, append_assoc}
+use Rattle.std.proofs.Common.{length-append, length-take-le}
 use Rattle.std.specs.Prelude.{slice_index}
 use Rattle.std.specs.List.{range_with_len}
 use Rattle.std.proofs.lemmas.Bool.{cases_Bool}
 use Rattle.icode.specs.declared.action.Action.{Action}
 use Rattle.icode.specs.declared.action.Action.TheVariants.{Load, Store, Zero, Add, Sub, Neg, Mul, Tile}
 use Rattle.icode.specs.declared.action.Counts.{Counts}
-use Rattle.icode.specs.Machine.{Code, IsCode, State, acts, is_open, none_done, first_open, phases_after, moved_on, counted, counts_of, executed}
+use Rattle.icode.specs.Machine.{Code, IsCode, State, acts, is_open, none_done, first_open, phases_after, moved_on}
+use Rattle.icode.specs.Machine.{counted, counts_of, executed}
 use Rattle.par_machine.specs.Frame.{total}
 use Rattle.par_machine.specs.Performed.{HasRoom}
 use Rattle.icode.proofs.End.{none_done-zero}
@@ -51,13 +54,15 @@ counted_is lanes (Neg r x) c = same_counts (c.operations + lanes) c.muls c.loads
 counted_is lanes (Mul r x factors) c = same_counts (c.operations + lanes) (c.muls + lanes) c.loads c.stores _ _ _ _ refl refl (omega arith) (omega arith)
 counted_is lanes (Tile r x) c = same_counts c.operations c.muls c.loads c.stores _ _ _ _ (omega arith) (omega arith) (omega arith) (omega arith)
 
-counted_swap : (lanes : ℕ) (a b : Action) (c : Counts) → counted lanes a (counted lanes b c) ≡ counted lanes b (counted lanes a c)
+counted_swap : (lanes : ℕ) (a b : Action) (c : Counts) → counted lanes a (counted lanes b c)
+    ≡ counted lanes b (counted lanes a c)
 counted_swap lanes a b c =
     ap (counted lanes a) (counted_is lanes b c) ∙ (counted_is lanes a (plus lanes b c)
     ∙ (same_counts _ _ _ _ _ _ _ _ (omega arith) (omega arith) (omega arith) (omega arith)
     ∙ (sym (counted_is lanes b (plus lanes a c)) ∙ ap (counted lanes b) (sym (counted_is lanes a c)))))
 
-pub counts_more : (lanes : ℕ) (xs : List Action) (a : Action) → counts_of lanes (xs ++ a ∷ []) ≡ counted lanes a (counts_of lanes xs)
+pub counts_more : (lanes : ℕ) (xs : List Action) (a : Action) →
+    counts_of lanes (xs ++ a ∷ []) ≡ counted lanes a (counts_of lanes xs)
 counts_more lanes [] a = refl
 counts_more lanes (x ∷ xs) a = ap (counted lanes x) (counts_more lanes xs a) ∙ counted_swap lanes x a (counts_of lanes xs)
 
@@ -68,7 +73,8 @@ pub record AreSmall (n : ℕ) (c : Counts) : Type 0 where
   pub loads : c.loads ≤ n
   pub stores : c.stores ≤ n
 
-in_lanes : (lanes : ℕ) (a : Action) → (operations_in lanes a ≤ lanes) × (muls_in lanes a ≤ lanes) × (loads_in lanes a ≤ lanes) × (stores_in lanes a ≤ lanes)
+in_lanes : (lanes : ℕ) (a : Action) → (operations_in lanes a ≤ lanes) × (muls_in lanes a ≤ lanes)
+    × (loads_in lanes a ≤ lanes) × (stores_in lanes a ≤ lanes)
 in_lanes lanes (Load r address) = (omega arith, omega arith, omega arith, omega arith)
 in_lanes lanes (Store address r) = (omega arith, omega arith, omega arith, omega arith)
 in_lanes lanes (Zero r) = (omega arith, omega arith, omega arith, omega arith)
@@ -129,7 +135,8 @@ empty_is : (xs : List Action) → length xs ≤ 0 → xs ≡ []
 empty_is [] le = refl
 empty_is (x ∷ xs) le = absurd (omega arith)
 
-flat_split : (g : ℕ → List Action) (first n k : ℕ) → flat_map g (range_with_len first (n + k)) ≡ flat_map g (range_with_len first n) ++ flat_map g (range_with_len (first + n) k)
+flat_split : (g : ℕ → List Action) (first n k : ℕ) → flat_map g (range_with_len first (n + k))
+    ≡ flat_map g (range_with_len first n) ++ flat_map g (range_with_len (first + n) k)
 flat_split g first zero k = ap₂ (λ f n. flat_map g (range_with_len f n)) (omega arith) (omega arith)
 flat_split g first (suc n) k =
     let e : suc n + k ≡ suc (n + k) = omega arith in
@@ -143,7 +150,8 @@ module _ (code : Code) (is : IsCode code) where
   all_of q phase = acts code phase q
 
   -- the phases that are passed over have no actions
-  pub passed : (q n phase k : ℕ) → first_open code n phase ≡ phase + k → flat_map (all_of q) (range_with_len phase k) ≡ []
+  pub passed : (q n phase k : ℕ) → first_open code n phase ≡ phase + k →
+      flat_map (all_of q) (range_with_len phase k) ≡ []
   passed q n phase zero e = refl
   passed q zero phase (suc k) e = absurd (omega arith)
   passed q (suc n) phase (suc k) e =
@@ -202,12 +210,16 @@ module _ (code : Code) (is : IsCode code) where
           zero_plus n = omega arith
 
   -- how many there are, against all that there are
-  length_flat : (q : ℕ) (lens : List ℕ) → ((phase : ℕ) → length (acts code phase q) ≡ slice_index lens phase) → (phase n : ℕ) → n < length (acts code phase q) → length (flat_map (all_of q) (range_with_len 0 phase)) + suc n ≤ total lens
+  length_flat : (q : ℕ) (lens : List ℕ) → ((phase : ℕ) → length (acts code phase q) ≡ slice_index lens phase) →
+      (phase n : ℕ) → n < length (acts code phase q) → length (flat_map (all_of q) (range_with_len 0 phase)) + suc n
+      ≤ total lens
   length_flat q lens e phase n lt =
       let z : (k : ℕ) → 0 + k ≡ k = λ k. omega arith in
       fronts lens (all_of q) 0 phase n (λ k. ap (λ j. length (acts code j q)) (z k) ∙ e k) (subst (λ j. n < length (acts code j q)) (sym (z phase)) lt)
     where
-      fronts : (lens : List ℕ) (g : ℕ → List Action) (first phase n : ℕ) → ((k : ℕ) → length (g (first + k)) ≡ slice_index lens k) → n < length (g (first + phase)) → length (flat_map g (range_with_len first phase)) + suc n ≤ total lens
+      fronts : (lens : List ℕ) (g : ℕ → List Action) (first phase n : ℕ) →
+          ((k : ℕ) → length (g (first + k)) ≡ slice_index lens k) → n < length (g (first + phase)) →
+          length (flat_map g (range_with_len first phase)) + suc n ≤ total lens
       fronts [] g first phase n e lt = absurd (omega (arith, e phase))
       fronts (x ∷ lens) g first zero n e lt =
           let whole : total (x ∷ lens) ≡ x + total lens = refl in
@@ -221,7 +233,9 @@ module _ (code : Code) (is : IsCode code) where
           let rest = fronts lens g (first + 1) phase n (λ k. ap (λ j. length (g j)) (s k) ∙ e (suc k)) (omega (arith, ap (λ j. length (g j)) (s phase))) in
           omega (arith, whole, here, rest, length-append (g first) (flat_map g (range_with_len (first + 1) phase)), ap (λ j. length (g j)) z)
 
-  pub executed_room : (s : State) (q n : ℕ) (lens : List ℕ) → ((phase : ℕ) → length (acts code phase q) ≡ slice_index lens phase) → 0 < n → slice_index s.done q + n ≤ length (acts code s.phase q) → length (executed code s q) + n ≤ total lens
+  pub executed_room : (s : State) (q n : ℕ) (lens : List ℕ) →
+      ((phase : ℕ) → length (acts code phase q) ≡ slice_index lens phase) → 0 < n →
+      slice_index s.done q + n ≤ length (acts code s.phase q) → length (executed code s q) + n ≤ total lens
   executed_room s q n lens e some most =
       omega (
         arith,

@@ -1,5 +1,6 @@
 -- A machine one of whose processors has other registers.
-use Rattle.std.proofs.Common.{◌≡◌, ℕ, ◌*◌, ◌<◌, List, [], length, get_or, sym, ap, ◌∙◌, subst, arith, ⊎_elim, length-set, get_or-set_same, get_or-set_other}
+use Rattle.std.proofs.Common.{◌≡◌, ℕ, ◌*◌, ◌<◌, List, [], length, get_or, sym, ap, ◌∙◌, subst, arith, ⊎_elim}
+use Rattle.std.proofs.Common.{length-set, get_or-set_same, get_or-set_other}
 use Rattle.std.specs.Prelude.{slice_get, slice_index, slice_index_or, slice_set}
 use Rattle.std.proofs.Math.Seq.{map-set_same}
 use Rattle.std.proofs.lemmas.Bool.{cases_eq}
@@ -22,7 +23,8 @@ pub record IsHolding (a : Inside) (q : ℕ) (p x : Context) (words : List ℕ) :
   pub processor : p ≡ get_or a.processors.items q p
   pub after : x ≡ with_registers words p
 
-pub file_size : (a : Inside) (q : ℕ) (p : Context) → IsWhole a → q < a.engine.shape.procs → p ≡ get_or a.processors.items q p → length p.registers ≡ a.engine.shape.regs * a.engine.shape.lanes
+pub file_size : (a : Inside) (q : ℕ) (p : Context) → IsWhole a → q < a.engine.shape.procs →
+    p ≡ get_or a.processors.items q p → length p.registers ≡ a.engine.shape.regs * a.engine.shape.lanes
 file_size a q p w lt e =
     ap length (at_map (λ (p : Context). p.registers) a.processors.items q p [] (processor_there a q w lt) e) ∙ w.running.file q lt
 
@@ -47,7 +49,9 @@ module _ (a : Inside) (q : ℕ) (p x : Context) (words : List ℕ) (h : IsHoldin
   pub held_state : state ≡ with_file q words (running_of a).state
   held_state = ap (λ (rs : List (List ℕ)). record { memory = a.memory.items; registers = rs; phase = a.phase; done = a.done.items }) registers_are
 
-  at_file : (P : ℕ → List ℕ → Type 0) → P q words → ((k : ℕ) → P k (slice_index_or (registers_of a.processors.items) k [])) → (k : ℕ) → P k (slice_index_or (slice_set (registers_of a.processors.items) q words) k [])
+  at_file : (P : ℕ → List ℕ → Type 0) → P q words → ((k : ℕ) →
+      P k (slice_index_or (registers_of a.processors.items) k [])) → (k : ℕ) →
+      P k (slice_index_or (slice_set (registers_of a.processors.items) q words) k [])
   at_file P here others k =
       ⊎_elim
       (λ (e : k ≡ q). subst (λ j. P j (slice_index_or (slice_set (registers_of a.processors.items) q words) j [])) (sym e)
@@ -55,7 +59,8 @@ module _ (a : Inside) (q : ℕ) (p x : Context) (words : List ℕ) (h : IsHoldin
       (λ (ne : k ≡ q → ⊥). subst (P k) (sym (get_or-set_other (registers_of a.processors.items) q k words [] ne)) (others k))
       (cases_eq k q)
 
-  pub held_runs : length words ≡ a.engine.shape.regs * a.engine.shape.lanes → ((k : ℕ) → slice_index words k < a.engine.shape.modulus) → IsRunning (frame_of a) (stand_with state all)
+  pub held_runs : length words ≡ a.engine.shape.regs * a.engine.shape.lanes →
+      ((k : ℕ) → slice_index words k < a.engine.shape.modulus) → IsRunning (frame_of a) (stand_with state all)
   held_runs size below =
       let w = h.whole.running in
       record {

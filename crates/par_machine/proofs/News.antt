@@ -1,5 +1,6 @@
 -- A new machine.
-use Rattle.std.proofs.Common.{◌≡◌, ℕ, zero, suc, ◌+◌, ◌-◌, ◌*◌, ◌<◌, ◌≤◌, ◌∷◌, ◌++◌, length, replicate, sym, ap, ap₂, ◌∙◌, subst, arith, zero-add, suc-add}
+use Rattle.std.proofs.Common.{◌≡◌, ℕ, zero, suc, ◌+◌, ◌-◌, ◌*◌, ◌<◌, ◌≤◌, ◌∷◌, ◌++◌, length, replicate, sym, ap, ap₂}
+use Rattle.std.proofs.Common.{◌∙◌, subst, arith, zero-add, suc-add}
 use Rattle.std.specs.Prelude.{slice_index_or}
 use Rattle.icode.specs.declared.program.Program.{Program}
 use Rattle.icode.specs.Headers.{without_statements}
@@ -27,9 +28,11 @@ pub record IsNew (p : Program) (a : Inside) : Type 0 where
   pub header : header_of a.engine ≡ without_statements (plain_program p)
   pub phases : AreTranslated (plain_program p) a.phases.items (plain_program p).phases
   pub memory : a.memory.items ≡ replicate (4 * a.engine.shape.room) 0
-  pub processors : a.processors.items ≡ replicate a.engine.shape.procs (fresh (a.engine.shape.regs * a.engine.shape.lanes))
+  pub processors : a.processors.items ≡ replicate a.engine.shape.procs
+      (fresh (a.engine.shape.regs * a.engine.shape.lanes))
   pub done : a.done.items ≡ replicate a.engine.shape.procs 0
-  pub phase : (code : Code) → HasLengths code a.phases.items → 0 < code.procs → a.phase ≡ first_open code (length a.phases.items - 0) 0
+  pub phase : (code : Code) → HasLengths code a.phases.items → 0 < code.procs →
+      a.phase ≡ first_open code (length a.phases.items - 0) 0
   pub within : a.phase ≤ length a.phases.items
 
 pub new_code : (p : Program) (a : Inside) → IsNew p a → (running_of a).code ≡ code_of p

@@ -1,12 +1,14 @@
 -- Actions that are played one after another.
 use Rattle.std.specs.Prelude.{IsTrue, ◌≤◌}
-use Rattle.std.proofs.Common.{◌≡◌, ℕ, zero, suc, ◌+◌, ◌-◌, ◌*◌, ◌<◌, List, All, Some, length, take, get_or, refl, sym, ap, ◌∙◌, subst, arith}
+use Rattle.std.proofs.Common.{◌≡◌, ℕ, zero, suc, ◌+◌, ◌-◌, ◌*◌, ◌<◌, List, All, Some, length, take, get_or, refl, sym}
+use Rattle.std.proofs.Common.{ap, ◌∙◌, subst, arith}
 use Rattle.std.proofs.lemmas.Option.{slice_get_read}
 use Rattle.icode.specs.declared.program.Op.{Op}
 use Rattle.icode.specs.Actions.{StepFits, step_of}
 use Rattle.icode.specs.declared.action.Counts.{Counts}
 use Rattle.icode.specs.Machine.{Local, counted, value_put, register_put}
-use Rattle.icode.specs.Plain.{PlainProgram, PlainOp, Load, Store, Zero, Add, Sub, Neg, MulConst, MulTable, Tile, plain_op}
+use Rattle.icode.specs.Plain.{PlainProgram, PlainOp, Load, Store, Zero, Add, Sub, Neg, MulConst, MulTable, Tile}
+use Rattle.icode.specs.Plain.{plain_op}
 use Rattle.par_machine.specs.declared.cursor.Instruction.{Instruction}
 use Rattle.par_machine.specs.declared.cursor.Instruction.TheVariants.{Act, Again}
 use Rattle.icode.specs.Limits.{is_op_within}
@@ -30,7 +32,8 @@ playing_same m m' r r' p p' c c' em er ep ec =
 pub place_same : (i i' : ℕ) (vs vs' : List ℕ) → i ≡ i' → vs ≡ vs' → ◌≡◌ {A = Position} (record { at = i; values = vs }) (record { at = i'; values = vs' })
 place_same i i' vs vs' ei ev = ap (λ i. record { at = i; values = vs }) ei ∙ ap (λ vs. record { at = i'; values = vs }) ev
 
-pub counted_op_is : (p : PlainProgram) (op : PlainOp) (vs : List ℕ) (q : ℕ) (c : Counts) → counted_op p.lanes op c ≡ counted p.lanes (step_of p op vs q).action c
+pub counted_op_is : (p : PlainProgram) (op : PlainOp) (vs : List ℕ) (q : ℕ) (c : Counts) →
+    counted_op p.lanes op c ≡ counted p.lanes (step_of p op vs q).action c
 counted_op_is p (Load register array place) vs q c = refl
 counted_op_is p (Store array place register) vs q c = refl
 counted_op_is p (Zero register) vs q c = refl
@@ -46,22 +49,29 @@ module _ (g : PlainProgram) (code : List Instruction) (q : ℕ) where
   CanRun place = Runs g (step_at g code q place)
 
   -- the step at a place where an action stands
-  pub act_at : (place : Position) (i : Instruction) (op : Op) (depth : ℕ) → place.at < length code → i ≡ get_or code place.at i → i ≡ Act op depth → step_at g code q place ≡ Some (step_of g (plain_op op) (take depth place.values) q)
+  pub act_at : (place : Position) (i : Instruction) (op : Op) (depth : ℕ) → place.at < length code →
+      i ≡ get_or code place.at i → i ≡ Act op depth → step_at g code q place
+      ≡ Some (step_of g (plain_op op) (take depth place.values) q)
   act_at place i op depth lt e is =
       ap (step_with g place.values q) (slice_get_read code (length code) place.at i refl lt e ∙ ap (λ (x : Instruction). Some x) is)
 
-  pub act_fits : (place : Position) (i : Instruction) (op : Op) (depth : ℕ) → place.at < length code → i ≡ get_or code place.at i → i ≡ Act op depth → CanRun place → StepFits g (step_of g (plain_op op) (take depth place.values) q)
+  pub act_fits : (place : Position) (i : Instruction) (op : Op) (depth : ℕ) → place.at < length code →
+      i ≡ get_or code place.at i → i ≡ Act op depth → CanRun place →
+      StepFits g (step_of g (plain_op op) (take depth place.values) q)
   act_fits place i op depth lt e is runs = subst (Runs g) (act_at place i op depth lt e is) runs
 
   -- no loop ends there
-  pub not_again : (place : Position) (i : Instruction) (start last depth : ℕ) → place.at < length code → i ≡ get_or code place.at i → i ≡ Again start last depth → CanRun place → ⊥
+  pub not_again : (place : Position) (i : Instruction) (start last depth : ℕ) → place.at < length code →
+      i ≡ get_or code place.at i → i ≡ Again start last depth → CanRun place → ⊥
   not_again place i start last depth lt e is runs =
       subst (Runs g) (ap (step_with g place.values q) (slice_get_read code (length code) place.at i refl lt e ∙ ap (λ (x : Instruction). Some x) is)) runs
 
-  pub runs_rest : (n : ℕ) (p : Position) → All CanRun (positions code (suc n) p) → All CanRun (positions code n (next_position code p))
+  pub runs_rest : (n : ℕ) (p : Position) → All CanRun (positions code (suc n) p) →
+      All CanRun (positions code n (next_position code p))
   runs_rest n p h = λ j d lt. h (suc j) d (omega (arith, lt))
 
-  pub played_first : (n : ℕ) (s : Playing) → 0 < n → played g code q n s ≡ played g code q (n - 1) (played_one g code q s)
+  pub played_first : (n : ℕ) (s : Playing) → 0 < n → played g code q n s ≡ played g code q (n - 1)
+      (played_one g code q s)
   played_first zero s some = absurd (omega arith)
   played_first (suc n) s some =
       let e : n ≡ suc n - 1 = omega arith in
@@ -71,10 +81,13 @@ module _ (g : PlainProgram) (code : List Instruction) (q : ℕ) where
   runs_here zero s some h = absurd (omega arith)
   runs_here (suc n) s some h = h.runs 0 s.place (omega arith)
 
-  pub closed_here : (n at : ℕ) (s : Playing) (i : Instruction) (op : Op) (depth : ℕ) → at < length code → i ≡ get_or code at i → i ≡ Act op depth → CanPlay g code q n s → depth ≤ 64
+  pub closed_here : (n at : ℕ) (s : Playing) (i : Instruction) (op : Op) (depth : ℕ) → at < length code →
+      i ≡ get_or code at i → i ≡ Act op depth → CanPlay g code q n s → depth ≤ 64
   closed_here n at s i op depth lt e is h = subst IsClosed is (subst IsClosed (sym e) (h.closed at i lt))
 
-  pub within_here : (n at : ℕ) (s : Playing) (i : Instruction) (op : Op) (depth : ℕ) → at < length code → i ≡ get_or code at i → i ≡ Act op depth → CanPlay g code q n s → IsTrue (is_op_within g.modulus (plain_op op) depth)
+  pub within_here : (n at : ℕ) (s : Playing) (i : Instruction) (op : Op) (depth : ℕ) → at < length code →
+      i ≡ get_or code at i → i ≡ Act op depth → CanPlay g code q n s →
+      IsTrue (is_op_within g.modulus (plain_op op) depth)
   within_here n at s i op depth lt e is h = subst (IsWithin g.modulus) is (subst (IsWithin g.modulus) (sym e) (h.within at i lt))
 
   -- one action can be counted
@@ -83,7 +96,8 @@ module _ (g : PlainProgram) (code : List Instruction) (q : ℕ) where
   room_here (suc n) s some h = room_less g.lanes (suc n * g.lanes) s.counts (omega arith) h.counters
 
   -- the actions that come after the first
-  pub can_play_rest : (n : ℕ) (s : Playing) → 0 < g.modulus → 0 < n → CanPlay g code q n s → CanPlay g code q (n - 1) (played_one g code q s)
+  pub can_play_rest : (n : ℕ) (s : Playing) → 0 < g.modulus → 0 < n → CanPlay g code q n s →
+      CanPlay g code q (n - 1) (played_one g code q s)
   can_play_rest zero s pos some h = absurd (omega arith)
   can_play_rest (suc n) s pos some h =
       let e : n ≡ suc n - 1 = omega arith in

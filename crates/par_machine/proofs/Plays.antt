@@ -1,5 +1,8 @@
 -- Straight code does what its statements do.
-use Rattle.std.proofs.Common.{◌≡◌, ℕ, zero, suc, ◌+◌, ◌*◌, ◌<◌, ◌≤◌, List, [], ◌∷◌, ◌++◌, true, false, length, map, take, drop, flat_map, get_or, Option, Some, refl, sym, ap, ◌∙◌, subst, arith, le_refl, ⊎_elim, append_assoc, length-set, get_or-set_same, get_or-set_other, lt-ltb, nat_lt, if◌then◌else◌}
+use Rattle.std.proofs.Common.{◌≡◌, ℕ, zero, suc, ◌+◌, ◌*◌, ◌<◌, ◌≤◌, List, [], ◌∷◌, ◌++◌, true, false, length, map}
+use Rattle.std.proofs.Common.{take, drop, flat_map, get_or, Option, Some, refl, sym, ap, ◌∙◌, subst, arith, le_refl}
+use Rattle.std.proofs.Common.{⊎_elim, append_assoc, length-set, get_or-set_same, get_or-set_other, lt-ltb, nat_lt}
+use Rattle.std.proofs.Common.{if◌then◌else◌}
 use Rattle.std.specs.Prelude.{slice_get, slice_index, slice_set}
 use Rattle.std.specs.List.{range_with_len}
 use Rattle.std.proofs.lemmas.Bool.{cases_lt, le-ltb}
@@ -41,7 +44,8 @@ plays_none p code at depth =
     zero_plus : (n : ℕ) → 0 + n ≡ n
     zero_plus n = omega arith
 
-pub plays_both : (p : PlainProgram) (code : List Instruction) (a b c depth m n : ℕ) (s t : Steps) → Plays p code a b depth m s → Plays p code b c depth n t → Plays p code a c depth (m + n) (λ vs q. s vs q ++ t vs q)
+pub plays_both : (p : PlainProgram) (code : List Instruction) (a b c depth m n : ℕ) (s t : Steps) →
+    Plays p code a b depth m s → Plays p code b c depth n t → Plays p code a c depth (m + n) (λ vs q. s vs q ++ t vs q)
 plays_both p code a b c depth m n s t h k =
     record {
       order = omega (arith, h.order, k.order);
@@ -63,7 +67,8 @@ plays_both p code a b c depth m n s t h k =
           ∙ ap (λ xs. xs ++ seen p code q i c values) (sym (map_append (λ (x : Step). Some x) (s (take depth values) q) (t (take depth values) q))))));
     }
 
-pub plays_same : (p : PlainProgram) (code : List Instruction) (a b depth m n : ℕ) (s t : Steps) → m ≡ n → ((vs : List ℕ) (q : ℕ) → s vs q ≡ t vs q) → Plays p code a b depth m s → Plays p code a b depth n t
+pub plays_same : (p : PlainProgram) (code : List Instruction) (a b depth m n : ℕ) (s t : Steps) → m ≡ n →
+    ((vs : List ℕ) (q : ℕ) → s vs q ≡ t vs q) → Plays p code a b depth m s → Plays p code a b depth n t
 plays_same p code a b depth m n s t e same h =
     record {
       order = h.order;
@@ -77,7 +82,9 @@ plays_same p code a b depth m n s t e same h =
 
 -- One action
 
-pub plays_act : (p : PlainProgram) (code : List Instruction) (at depth : ℕ) (op : Op) (i : Instruction) → at < length code → i ≡ get_or code at i → i ≡ Act op depth → Plays p code at (at + 1) depth 1 (λ vs q. step_of p (plain_op op) vs q ∷ [])
+pub plays_act : (p : PlainProgram) (code : List Instruction) (at depth : ℕ) (op : Op) (i : Instruction) →
+    at < length code → i ≡ get_or code at i → i ≡ Act op depth →
+    Plays p code at (at + 1) depth 1 (λ vs q. step_of p (plain_op op) vs q ∷ [])
 plays_act p code at depth op i lt e is =
     record {
       order = omega arith;
@@ -104,14 +111,18 @@ set_back [] i v e = refl
 set_back (x ∷ xs) zero v e = ap (λ y. y ∷ xs) (sym e)
 set_back (x ∷ xs) (suc i) v e = ap (λ ys. x ∷ ys) (set_back xs i v e)
 
-still_closed : (xs : List ℕ) (i v : ℕ) → ((k : ℕ) → i ≤ k → slice_index xs k ≡ 0) → (k : ℕ) → i + 1 ≤ k → slice_index (slice_set xs i v) k ≡ 0
+still_closed : (xs : List ℕ) (i v : ℕ) → ((k : ℕ) → i ≤ k → slice_index xs k ≡ 0) → (k : ℕ) → i + 1 ≤ k →
+    slice_index (slice_set xs i v) k ≡ 0
 still_closed xs i v h k le =
     let ne : k ≡ i → ⊥ = λ e. omega arith in
     get_or-set_other xs i k v 0 ne ∙ h k (omega arith)
 
-module _ (p : PlainProgram) (code : List Instruction) (from end depth last len : ℕ) (steps : Steps) (i : Instruction) (lt : end < length code) (e : i ≡ get_or code end i) (is : i ≡ Again from last depth) (pos : 0 < len) (body : Plays p code from end (depth + 1) len steps) where
+module _ (p : PlainProgram) (code : List Instruction) (from end depth last len : ℕ) (steps : Steps) (i : Instruction)
+    (lt : end < length code) (e : i ≡ get_or code end i) (is : i ≡ Again from last depth) (pos : 0 < len)
+    (body : Plays p code from end (depth + 1) len steps) where
   -- where the body has ended for one value, it begins with the next, or the loop has ended
-  again : (q n : ℕ) (values : List ℕ) (value : ℕ) → slice_index values depth ≡ value → value < last → seen p code q n end values ≡ seen p code q n from (slice_set values depth (value + 1))
+  again : (q n : ℕ) (values : List ℕ) (value : ℕ) → slice_index values depth ≡ value → value < last →
+      seen p code q n end values ≡ seen p code q n from (slice_set values depth (value + 1))
   again q n values value ev small =
       let test : nat_lt (slice_index values depth) last ≡ true = lt-ltb _ _ (omega arith) in
       let next : Position = record { at = from; values = slice_set values depth (slice_index values depth + 1) } in
@@ -119,7 +130,8 @@ module _ (p : PlainProgram) (code : List Instruction) (from end depth last len :
       ap (λ place. map (λ (place : Position). step_at p code q place) (positions code n place))
       (goes ∙ (ap (λ v. record { at = from; values = slice_set values depth (v + 1) }) ev ∙ sym (body.first pos (slice_set values depth (value + 1)))))
 
-  ends : (q n : ℕ) (values : List ℕ) → slice_index values depth ≡ last → seen p code q n end values ≡ seen p code q n (end + 1) (slice_set values depth 0)
+  ends : (q n : ℕ) (values : List ℕ) → slice_index values depth ≡ last →
+      seen p code q n end values ≡ seen p code q n (end + 1) (slice_set values depth 0)
   ends q n values ev =
       let test : nat_lt (slice_index values depth) last ≡ false = le-ltb _ _ (omega arith) in
       let next : Position = record { at = from; values = slice_set values depth (slice_index values depth + 1) } in
@@ -130,13 +142,19 @@ module _ (p : PlainProgram) (code : List Instruction) (from end depth last len :
   turns q values value j = flat_map (λ v. steps (take depth values ++ v ∷ []) q) (range_with_len value j)
 
   -- the body for one value
-  one_value : (q m : ℕ) (values : List ℕ) → depth < length values → length values ≡ 64 → ((k : ℕ) → depth ≤ k → slice_index values k ≡ 0) → (value : ℕ) → seen p code q (len + m) from (slice_set values depth value) ≡ somes (steps (take depth values ++ value ∷ []) q) ++ seen p code q m end (slice_set values depth value)
+  one_value : (q m : ℕ) (values : List ℕ) → depth < length values → length values ≡ 64 →
+      ((k : ℕ) → depth ≤ k → slice_index values k ≡ 0) → (value : ℕ) →
+      seen p code q (len + m) from (slice_set values depth value) ≡ somes (steps (take depth values ++ value ∷ []) q)
+      ++ seen p code q m end (slice_set values depth value)
   one_value q m values deep long closed value =
       let now : List ℕ = slice_set values depth value in
       body.plays m q now (length-set values depth value ∙ long) (still_closed values depth value closed)
       ∙ ap (λ front. somes (steps front q) ++ seen p code q m end now) (take-set_at values depth (depth + 1) value refl deep)
 
-  from_value : (q n : ℕ) (values : List ℕ) → depth < length values → length values ≡ 64 → ((k : ℕ) → depth ≤ k → slice_index values k ≡ 0) → (j value : ℕ) → value + j ≡ last → seen p code q (suc j * len + n) from (slice_set values depth value) ≡ somes (turns q values value (suc j)) ++ seen p code q n (end + 1) values
+  from_value : (q n : ℕ) (values : List ℕ) → depth < length values → length values ≡ 64 →
+      ((k : ℕ) → depth ≤ k → slice_index values k ≡ 0) → (j value : ℕ) → value + j ≡ last →
+      seen p code q (suc j * len + n) from (slice_set values depth value) ≡ somes (turns q values value (suc j))
+      ++ seen p code q n (end + 1) values
   from_value q n values deep long closed zero value all =
       let now : List ℕ = slice_set values depth value in
       let split : suc zero * len + n ≡ len + n = omega arith in
@@ -160,7 +178,8 @@ module _ (p : PlainProgram) (code : List Instruction) (from end depth last len :
       ∙ (sym (append_assoc (somes first) (somes (turns q values (value + 1) (suc j))) (seen p code q n (end + 1) values))
       ∙ ap (λ xs. xs ++ seen p code q n (end + 1) values) (sym (map_append (λ (x : Step). Some x) first (turns q values (value + 1) (suc j)))))))
 
-  pub plays_loop : depth < 64 → Plays p code from (end + 1) depth (suc last * len) (λ vs q. flat_map (λ v. steps (vs ++ v ∷ []) q) (range_with_len 0 (suc last)))
+  pub plays_loop : depth < 64 → Plays p code from (end + 1) depth (suc last * len)
+      (λ vs q. flat_map (λ v. steps (vs ++ v ∷ []) q) (range_with_len 0 (suc last)))
   plays_loop deep =
       let inside : from ≤ end = body.order in
       record {

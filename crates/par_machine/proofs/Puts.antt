@@ -1,5 +1,6 @@
 -- A machine that begins on an input.
-use Rattle.std.proofs.Common.{◌≡◌, ℕ, suc, ◌-◌, ◌*◌, ◌<◌, ◌≤◌, List, [], ◌∷◌, ◌++◌, length, map, replicate, refl, ap, ap₂, ◌∙◌, subst, sym, arith}
+use Rattle.std.proofs.Common.{◌≡◌, ℕ, suc, ◌-◌, ◌*◌, ◌<◌, ◌≤◌, List, [], ◌∷◌, ◌++◌, length, map, replicate, refl, ap}
+use Rattle.std.proofs.Common.{ap₂, ◌∙◌, subst, sym, arith}
 use Rattle.std.specs.Prelude.{slice_index_or}
 use Rattle.std.proofs.lemmas.List.{length-map}
 use Rattle.icode.specs.Machine.{Code, State, first_open, start}
@@ -15,7 +16,8 @@ use Rattle.par_machine.proofs.Each.{map_replicate}
 use Rattle.par_machine.proofs.Frames.{has_lengths}
 use Rattle.par_machine.proofs.Starts.{IsFirst, first_state, first_runs}
 
-all_new : (ps : List Context) (words : ℕ) → ((q : ℕ) → q < length ps → length (slice_index_or (registers_of ps) q []) ≡ words) → map as_new ps ≡ replicate (length ps) (fresh words)
+all_new : (ps : List Context) (words : ℕ) → ((q : ℕ) → q < length ps →
+    length (slice_index_or (registers_of ps) q []) ≡ words) → map as_new ps ≡ replicate (length ps) (fresh words)
 all_new [] words each = refl
 all_new (p ∷ ps) words each =
     ap₂ (λ (x : Context) (xs : List Context). x ∷ xs) (ap fresh (each 0 (omega arith))) (all_new ps words (λ q lt. each (suc q) (omega (arith, lt))))
@@ -33,7 +35,8 @@ pub record IsPut (a : Inside) (input : List ℕ) (u : State) (processors : List 
   pub phase : (code : Code) → HasLengths code phases → 0 < code.procs → u.phase ≡ first_open code (length phases - 0) 0
   pub within : u.phase ≤ length phases
 
-put_first : (a : Inside) (input : List ℕ) (u : State) (processors : List Context) → IsWhole a → IsPut a input u processors → IsFirst (frame_of a) input (stand_with u processors)
+put_first : (a : Inside) (input : List ℕ) (u : State) (processors : List Context) → IsWhole a →
+    IsPut a input u processors → IsFirst (frame_of a) input (stand_with u processors)
 put_first a input u processors w h =
     let f : Frame = frame_of a in
     let procs : ℕ = a.engine.shape.procs in
@@ -53,9 +56,11 @@ put_first a input u processors w h =
       within = omega (arith, h.within, ap length h.phases_are);
     }
 
-pub put_state : (a : Inside) (input : List ℕ) (u : State) (processors : List Context) → IsWhole a → IsPut a input u processors → u ≡ start (running_of a).code input
+pub put_state : (a : Inside) (input : List ℕ) (u : State) (processors : List Context) → IsWhole a →
+    IsPut a input u processors → u ≡ start (running_of a).code input
 put_state a input u processors w h = first_state (frame_of a) input (stand_with u processors) (put_first a input u processors w h)
 
-pub put_runs : (a : Inside) (input : List ℕ) (u : State) (processors : List Context) → IsWhole a → IsPut a input u processors → IsRunning (frame_of a) (stand_with u processors)
+pub put_runs : (a : Inside) (input : List ℕ) (u : State) (processors : List Context) → IsWhole a →
+    IsPut a input u processors → IsRunning (frame_of a) (stand_with u processors)
 put_runs a input u processors w h =
     first_runs (frame_of a) input (stand_with u processors) w.ready h.size h.residues (put_first a input u processors w h)

@@ -1,5 +1,6 @@
 -- How many turns finish a run.
-use Rattle.std.proofs.Common.{◌≡◌, ℕ, zero, suc, ◌+◌, ◌-◌, ◌*◌, ◌^◌, ◌<◌, ◌≤◌, List, [], ◌∷◌, length, drop, replicate, flat_map, refl, ap, ◌∙◌, arith, add-one, le_refl}
+use Rattle.std.proofs.Common.{◌≡◌, ℕ, zero, suc, ◌+◌, ◌-◌, ◌*◌, ◌^◌, ◌<◌, ◌≤◌, List, [], ◌∷◌, length, drop, replicate}
+use Rattle.std.proofs.Common.{flat_map, refl, ap, ◌∙◌, arith, add-one, le_refl}
 use Rattle.std.specs.Prelude.{slice_index}
 use Rattle.std.specs.List.{range_with_len}
 use Rattle.std.proofs.lemmas.List.{length-append, length-replicate}
@@ -11,7 +12,8 @@ use Rattle.par_machine.specs.View.{frame_of, running_of, IsWhole}
 use Rattle.par_machine.proofs.Frames.{has_lengths}
 
 -- turns of n processors, each at most so often
-few_by : (g : ℕ → ℕ) (most n first : ℕ) → ((q : ℕ) → q < first + n → g q ≤ most) → length (flat_map (λ q. replicate (g q) q) (range_with_len first n)) ≤ n * most
+few_by : (g : ℕ → ℕ) (most n first : ℕ) → ((q : ℕ) → q < first + n → g q ≤ most) →
+    length (flat_map (λ q. replicate (g q) q) (range_with_len first n)) ≤ n * most
 few_by g most zero first h = omega arith
 few_by g most (suc n) first h =
     let others = few_by g most n (first + 1) (λ q lt. h q (omega arith)) in
@@ -34,9 +36,11 @@ total_behind [] k = omega (arith, total_of_none k)
 total_behind (n ∷ lens) zero = le_refl (total (n ∷ lens))
 total_behind (n ∷ lens) (suc k) = omega (arith, total_behind lens k)
 
-module _ (code : Code) (lens : List ℕ) (each : (phase q : ℕ) → q < code.procs → length (acts code phase q) ≡ slice_index lens phase) where
+module _ (code : Code) (lens : List ℕ) (each : (phase q : ℕ) → q < code.procs →
+    length (acts code phase q) ≡ slice_index lens phase) where
   -- of one phase and those after it
-  few_with : (phase : ℕ) (done more : List ℕ) → length more ≤ code.procs * total (drop (phase + 1) lens) → length (rest_of_phase code phase done) + length more ≤ code.procs * total (drop phase lens)
+  few_with : (phase : ℕ) (done more : List ℕ) → length more ≤ code.procs * total (drop (phase + 1) lens) →
+      length (rest_of_phase code phase done) + length more ≤ code.procs * total (drop phase lens)
   few_with phase done more le =
       let here = few_by (λ q. length (acts code phase q) - slice_index done q) (slice_index lens phase) code.procs 0 (λ q lt. omega (arith, each phase q (omega arith))) in
       omega (arith, here, le, ap (λ n. code.procs * n) (total_after lens phase))

@@ -1,5 +1,6 @@
 -- The turns of a schedule are those of processors that are there.
-use Rattle.std.proofs.Common.{◌≡◌, ℕ, zero, suc, ◌+◌, ◌/◌, ◌^◌, ◌<◌, ◌≤◌, List, [], ◌∷◌, ◌++◌, Bool, true, false, cond, length, Some, None, refl, arith, mod-lt, nat_le}
+use Rattle.std.proofs.Common.{◌≡◌, ℕ, zero, suc, ◌+◌, ◌/◌, ◌^◌, ◌<◌, ◌≤◌, List, [], ◌∷◌, ◌++◌, Bool, true, false, cond}
+use Rattle.std.proofs.Common.{length, Some, None, refl, arith, mod-lt, nat_le}
 use Rattle.std.specs.Prelude.{slice_index}
 use Rattle.std.specs.List.{find}
 use Rattle.std.proofs.lemmas.Bool.{leb-false}
@@ -31,7 +32,8 @@ seeded_there p (suc count) v pos (suc i) lt = seeded_there p count (next_state v
 some_none : (x : ℕ) → Some x ≡ None → ⊥
 some_none x e = cc
 
-named_at : (p x : ℕ) (xs : List ℕ) (b : Bool) → nat_le p x ≡ b → cond b (Some x) (find (λ q. nat_le p q) xs) ≡ None → (find (λ q. nat_le p q) xs ≡ None → AreThere p xs) → AreThere p (x ∷ xs)
+named_at : (p x : ℕ) (xs : List ℕ) (b : Bool) → nat_le p x ≡ b → cond b (Some x) (find (λ q. nat_le p q) xs) ≡ None →
+    (find (λ q. nat_le p q) xs ≡ None → AreThere p xs) → AreThere p (x ∷ xs)
 named_at p x xs true t e rest i lt = absurd (some_none x e)
 named_at p x xs false t e rest zero lt = leb-false p x t
 named_at p x xs false t e rest (suc i) lt = rest e i (omega arith)
@@ -40,7 +42,8 @@ named_there : (p : ℕ) (xs : List ℕ) → find (λ q. nat_le p q) xs ≡ None 
 named_there p [] e i lt = absurd (omega arith)
 named_there p (x ∷ xs) e i lt = named_at p x xs (nat_le p x) refl e (named_there p xs) i lt
 
-pub turns_there : (plan : Plan) (p : ℕ) → 0 < p → find (λ q. nat_le p q) (named plan) ≡ None → (i : ℕ) → i < length (turns_of plan p) → slice_index (turns_of plan p) i < p
+pub turns_there : (plan : Plan) (p : ℕ) → 0 < p → find (λ q. nat_le p q) (named plan) ≡ None → (i : ℕ) →
+    i < length (turns_of plan p) → slice_index (turns_of plan p) i < p
 turns_there Sequential p pos e i lt = absurd (omega arith)
 turns_there (Rounds count) p pos e i lt = rounds_there p count i lt
 turns_there (Named turns) p pos e i lt = named_there p turns e i lt

@@ -1,5 +1,6 @@
 -- A turn whose action is passed over.
-use Rattle.std.proofs.Common.{◌≡◌, ℕ, suc, [], ◌+◌, ◌-◌, ◌*◌, ◌<◌, ◌≤◌, List, Bool, cond, length, map, replicate, get_or, Option, None, Some, refl, sym, ap, ap₂, ◌∙◌, subst, arith, add-one, length-set}
+use Rattle.std.proofs.Common.{◌≡◌, ℕ, suc, [], ◌+◌, ◌-◌, ◌*◌, ◌<◌, ◌≤◌, List, Bool, cond, length, map, replicate}
+use Rattle.std.proofs.Common.{get_or, Option, None, Some, refl, sym, ap, ap₂, ◌∙◌, subst, arith, add-one, length-set}
 use Rattle.std.specs.Prelude.{slice_get, slice_index, slice_index_or, slice_set}
 use Rattle.std.proofs.Math.Seq.{map-set_same}
 use Rattle.std.proofs.lemmas.List.{length-map}
@@ -20,7 +21,8 @@ use Rattle.par_machine.specs.Lengths.{HasLengths, OfCode, settled_phase, settled
 use Rattle.par_machine.specs.OnRegisters.{counted_op}
 use Rattle.par_machine.specs.Performed.{HasRoom}
 use Rattle.par_machine.specs.Position.{Position, first_position, next_position}
-use Rattle.par_machine.specs.Processors.{IsAct, counted_at, passed_over, rewound, registers_of, cursors_of, counts_of_all}
+use Rattle.par_machine.specs.Processors.{IsAct, counted_at, passed_over, rewound, registers_of, cursors_of}
+use Rattle.par_machine.specs.Processors.{counts_of_all}
 use Rattle.par_machine.specs.Skipped.{skipped}
 use Rattle.par_machine.specs.View.{frame_of, stand_of, stand_with}
 use Rattle.par_machine.proofs.Each.{map_set}
@@ -38,7 +40,9 @@ act_inside code at h = inside (slice_get code at) refl h
     inside None e h = absurd h
     inside (Some i) e h = slice_get_within code at i e
 
-pub counted_there : (lanes : ℕ) (code : List Instruction) (at : ℕ) (i : Instruction) (op : Op) (depth : ℕ) (c : Counts) → IsAct (slice_get code at) → i ≡ get_or code at i → i ≡ Act op depth → counted_op lanes (plain_op op) c ≡ counted_at lanes (slice_get code at) c
+pub counted_there : (lanes : ℕ) (code : List Instruction) (at : ℕ) (i : Instruction) (op : Op) (depth : ℕ)
+    (c : Counts) → IsAct (slice_get code at) → i ≡ get_or code at i → i ≡ Act op depth →
+    counted_op lanes (plain_op op) c ≡ counted_at lanes (slice_get code at) c
 counted_there lanes code at i op depth c h e is =
     sym (ap (λ o. counted_at lanes o c) (slice_get_read code (length code) at i refl (act_inside code at h) e ∙ ap (λ (x : Instruction). Some x) is))
 
@@ -47,26 +51,32 @@ context_same p p' r c c' ep ec =
     ap (λ p. record { place = p; registers = r; counts = c }) ep ∙ ap (λ c. record { place = p'; registers = r; counts = c }) ec
 
 -- what may run is an action, and is counted as one
-acts_if_runs : (f : Frame) (vs : List ℕ) (q : ℕ) (o : Option Instruction) → Runs f.header (step_with f.header vs q o) → IsAct o
+acts_if_runs : (f : Frame) (vs : List ℕ) (q : ℕ) (o : Option Instruction) → Runs f.header (step_with f.header vs q o) →
+    IsAct o
 acts_if_runs f vs q None h = absurd h
 acts_if_runs f vs q (Some (Act op depth)) h = tt
 acts_if_runs f vs q (Some (Again start last depth)) h = absurd h
 
-counted_as : (f : Frame) (vs : List ℕ) (q : ℕ) (o : Option Instruction) (c : Counts) → Runs f.header (step_with f.header vs q o) → counted_at f.header.lanes o c ≡ Rattle.icode.specs.Machine.counted f.header.lanes (action_of_step (step_with f.header vs q o)) c
+counted_as : (f : Frame) (vs : List ℕ) (q : ℕ) (o : Option Instruction) (c : Counts) →
+    Runs f.header (step_with f.header vs q o) → counted_at f.header.lanes o c
+    ≡ Rattle.icode.specs.Machine.counted f.header.lanes (action_of_step (step_with f.header vs q o)) c
 counted_as f vs q None c h = absurd h
 counted_as f vs q (Some (Act op depth)) c h = counted_op_is f.header (plain_op op) _ q c
 counted_as f vs q (Some (Again start last depth)) c h = absurd h
 
 -- What skip needs
 
-runs_here : (a : Inside) (q : ℕ) (r : Routine) (p : Context) → IsLeft a q 1 r p → Runs (frame_of a).header (step_at (frame_of a).header r.code.items q p.place)
+runs_here : (a : Inside) (q : ℕ) (r : Routine) (p : Context) → IsLeft a q 1 r p →
+    Runs (frame_of a).header (step_at (frame_of a).header r.code.items q p.place)
 runs_here a q r p h = (can_begin a q 1 r p h).runs 0 p.place (omega arith)
 
-pub skip_acts : (a : Inside) (q : ℕ) (r : Routine) (p : Context) (code : List Instruction) → IsLeft a q 1 r p → code ≡ r.code.items → IsAct (slice_get code p.place.at)
+pub skip_acts : (a : Inside) (q : ℕ) (r : Routine) (p : Context) (code : List Instruction) → IsLeft a q 1 r p →
+    code ≡ r.code.items → IsAct (slice_get code p.place.at)
 skip_acts a q r p code h e =
     subst (λ (xs : List Instruction). IsAct (slice_get xs p.place.at)) (sym e) (acts_if_runs (frame_of a) p.place.values q _ (runs_here a q r p h))
 
-pub skip_room : (a : Inside) (q : ℕ) (r : Routine) (p : Context) → IsLeft a q 1 r p → HasRoom a.engine.shape.lanes p.counts
+pub skip_room : (a : Inside) (q : ℕ) (r : Routine) (p : Context) → IsLeft a q 1 r p →
+    HasRoom a.engine.shape.lanes p.counts
 skip_room a q r p h =
     let e : 1 * a.engine.shape.lanes ≡ a.engine.shape.lanes = omega arith in
     subst (λ n. HasRoom n p.counts) e (can_begin a q 1 r p h).counters
@@ -88,10 +98,12 @@ pub record IsSkipped (a : Inside) (q : ℕ) (r : Routine) (p : Context) (u : Sta
   pub registers : u.registers ≡ registers_of processors
   pub phase_after : OfCode phases done (λ code. u.phase ≡ settled_phase code (length phases) a.phase done)
   pub done_after : OfCode phases done (λ code. u.done ≡ settled_done code a.phase done)
-  pub processors_after : OfCode phases done (λ code. processors ≡ cond (is_open code a.phase done) moved (map rewound moved))
+  pub processors_after : OfCode phases done (λ code. processors
+      ≡ cond (is_open code a.phase done) moved (map rewound moved))
   pub within : u.phase ≤ length phases
 
-module _ (a : Inside) (q : ℕ) (r : Routine) (p : Context) (u : State) (processors : List Context) (h : IsLeft a q 1 r p) (m : IsSkipped a q r p u processors) where
+module _ (a : Inside) (q : ℕ) (r : Routine) (p : Context) (u : State) (processors : List Context) (h : IsLeft a q 1 r p)
+    (m : IsSkipped a q r p u processors) where
   abbrev frame : Frame
   frame = frame_of a
 

@@ -1,5 +1,7 @@
 -- What a processor needs to do several of the actions that it has left, and where the machine stands after them.
-use Rattle.std.proofs.Common.{◌≡◌, ℕ, zero, suc, ◌+◌, ◌-◌, ◌*◌, ◌<◌, ◌≤◌, ◌^◌, List, [], Bool, true, false, cond, length, map, replicate, get_or, Some, All, refl, sym, ap, ap₂, ◌∙◌, subst, arith, length-set, mul-le-mul_left}
+use Rattle.std.proofs.Common.{◌≡◌, ℕ, zero, suc, ◌+◌, ◌-◌, ◌*◌, ◌<◌, ◌≤◌, ◌^◌, List, [], Bool, true, false, cond}
+use Rattle.std.proofs.Common.{length, map, replicate, get_or, Some, All, refl, sym, ap, ap₂, ◌∙◌, subst, arith}
+use Rattle.std.proofs.Common.{length-set, mul-le-mul_left}
 use Rattle.std.specs.Prelude.{slice_get, slice_index, slice_index_or, slice_set}
 use Rattle.std.proofs.lemmas.List.{length-map}
 use Rattle.std.proofs.lemmas.Option.{get_or_from_slice_get}
@@ -23,24 +25,29 @@ use Rattle.par_machine.specs.View.{frame_of, stand_of, stand_with, running_of, I
 use Rattle.par_machine.proofs.Advances.{IsSet, IsAdvanced, IsRun, advanced_runs, unfinished_is}
 use Rattle.par_machine.proofs.Each.{at_map, map_set, map_map, map_all}
 use Rattle.par_machine.proofs.Executed.{counts_small, small_has_room, executed_room}
-use Rattle.par_machine.proofs.Frames.{some_same, has_lengths, is_code, count_lists, acts_places, places_lens, hand_place, routine_is}
+use Rattle.par_machine.proofs.Frames.{some_same, has_lengths, is_code, count_lists, acts_places, places_lens}
+use Rattle.par_machine.proofs.Frames.{hand_place, routine_is}
 use Rattle.par_machine.proofs.Phases.{len_at}
 use Rattle.par_machine.proofs.Playings.{playing_same}
 use Rattle.par_machine.proofs.Wholes.{done_is, len_is, here_is, one_len}
 
 -- Of all places of a routine, those from one on
 
-All_more : (P : Position → Type 0) (code : List Instruction) (n : ℕ) (p : Position) → P p → All P (positions code n (next_position code p)) → All P (positions code (suc n) p)
+All_more : (P : Position → Type 0) (code : List Instruction) (n : ℕ) (p : Position) → P p →
+    All P (positions code n (next_position code p)) → All P (positions code (suc n) p)
 All_more P code n p first rest zero d lt = first
 All_more P code n p first rest (suc j) d lt = rest j d (omega arith)
 
-All_front : (P : Position → Type 0) (code : List Instruction) (n len : ℕ) (p : Position) → n ≤ len → All P (positions code len p) → All P (positions code n p)
+All_front : (P : Position → Type 0) (code : List Instruction) (n len : ℕ) (p : Position) → n ≤ len →
+    All P (positions code len p) → All P (positions code n p)
 All_front P code zero len p le h = λ j d lt. absurd (omega arith)
 All_front P code (suc n) zero p le h = absurd (omega arith)
 All_front P code (suc n) (suc len) p le h =
     All_more P code n p (h 0 p (omega arith)) (All_front P code n len (next_position code p) (omega arith) (λ j d lt. h (suc j) d (omega (arith, lt))))
 
-All_from : (P : Position → Type 0) (code : List Instruction) (i n len : ℕ) (p c : Position) → slice_get (positions code len p) i ≡ Some c → i + n ≤ len → All P (positions code len p) → All P (positions code n c)
+All_from : (P : Position → Type 0) (code : List Instruction) (i n len : ℕ) (p c : Position) →
+    slice_get (positions code len p) i ≡ Some c → i + n ≤ len → All P (positions code len p) →
+    All P (positions code n c)
 All_from P code i n zero p c e le h = All_front P code n zero c (omega arith) (λ j d lt. absurd (omega arith))
 All_from P code zero n (suc len) p c e le h = subst (λ x. All P (positions code n x)) (some_same p c e) (All_front P code n (suc len) p (omega arith) h)
 All_from P code (suc i) n (suc len) p c e le h = All_from P code i n len (next_position code p) c e (omega arith) (λ j d lt. h (suc j) d (omega (arith, lt)))
@@ -57,7 +64,9 @@ pub record IsLeft (a : Inside) (q n : ℕ) (r : Routine) (p : Context) : Type 0 
   pub routine : r ≡ get_or a.phases.items a.phase r
   pub processor : p ≡ get_or a.processors.items q p
 
-pub left_is : (a : Inside) (now : Running) (q n : ℕ) (r : Routine) (p : Context) → running_of a ≡ now → IsWhole a → q < now.code.procs → 0 < n → slice_index now.state.done q + n ≤ length (acts now.code now.state.phase q) → r ≡ get_or a.phases.items a.phase r → p ≡ get_or a.processors.items q p → IsLeft a q n r p
+pub left_is : (a : Inside) (now : Running) (q n : ℕ) (r : Routine) (p : Context) → running_of a ≡ now → IsWhole a →
+    q < now.code.procs → 0 < n → slice_index now.state.done q + n ≤ length (acts now.code now.state.phase q) →
+    r ≡ get_or a.phases.items a.phase r → p ≡ get_or a.processors.items q p → IsLeft a q n r p
 left_is a now q n r p is whole proc some most routine processor =
     record {
       whole = whole;
@@ -71,10 +80,12 @@ left_is a now q n r p is whole proc some most routine processor =
 pub processor_there : (a : Inside) (q : ℕ) → IsWhole a → q < a.engine.shape.procs → q < length a.processors.items
 processor_there a q w lt = omega (arith, lt, w.running.cursors, length-map a.processors.items (λ (p : Context). p.place))
 
-begin_is : (a : Inside) (q : ℕ) (p : Context) (memory : List ℕ) → q < length a.processors.items → p ≡ get_or a.processors.items q p → memory ≡ a.memory.items → playing memory p ≡ begin_of a q p
+begin_is : (a : Inside) (q : ℕ) (p : Context) (memory : List ℕ) → q < length a.processors.items →
+    p ≡ get_or a.processors.items q p → memory ≡ a.memory.items → playing memory p ≡ begin_of a q p
 begin_is a q p memory lt e em = playing_same _ _ _ _ _ _ _ _ em (at_map (λ (p : Context). p.registers) a.processors.items q p [] lt e) refl refl
 
-pub set_is : (a : Inside) (q n : ℕ) (r : Routine) (p : Context) → IsLeft a q n r p → IsSet (frame_of a) q r (stand_of a) p.place p.counts
+pub set_is : (a : Inside) (q n : ℕ) (r : Routine) (p : Context) → IsLeft a q n r p →
+    IsSet (frame_of a) q r (stand_of a) p.place p.counts
 set_is a q n r p h =
     let there = processor_there a q h.whole h.proc in
     record {
@@ -82,17 +93,20 @@ set_is a q n r p h =
       count_is = at_map (λ (p : Context). p.counts) a.processors.items q p p.counts there h.processor;
     }
 
-within_routine : (a : Inside) (q n : ℕ) (r : Routine) (p : Context) → IsLeft a q n r p → slice_index a.done.items q + n ≤ r.len
+within_routine : (a : Inside) (q n : ℕ) (r : Routine) (p : Context) → IsLeft a q n r p →
+    slice_index a.done.items q + n ≤ r.len
 within_routine a q n r p h = omega (arith, h.most, len_is a q r h.proc (set_is a q n r p h).here.phase h.routine)
 
-pub done_fits : (a : Inside) (q n d : ℕ) (r : Routine) (p : Context) → IsLeft a q n r p → d ≡ get_or a.done.items q d → d + n < 2 ^ 64
+pub done_fits : (a : Inside) (q n d : ℕ) (r : Routine) (p : Context) → IsLeft a q n r p → d ≡ get_or a.done.items q d →
+    d + n < 2 ^ 64
 done_fits a q n d r p h e =
     omega (arith, within_routine a q n r p h, done_is a q d h.whole h.proc e, len_at a.phases.items a.phase r (set_is a q n r p h).here.phase h.routine, one_len (lens_of a.phases.items) a.phase, h.whole.ready.few)
 
 count_room : (n lanes len whole : ℕ) → lanes ≤ 16 → len + n ≤ whole → whole < 2 ^ 59 → len * lanes + n * lanes < 2 ^ 64
 count_room n lanes len whole few room limit = omega (arith, room, limit, mul-le-mul_left (len + n) few)
 
-pub can_begin : (a : Inside) (q n : ℕ) (r : Routine) (p : Context) → IsLeft a q n r p → CanPlay (header_of a.engine) r.code.items q n (begin_of a q p)
+pub can_begin : (a : Inside) (q n : ℕ) (r : Routine) (p : Context) → IsLeft a q n r p →
+    CanPlay (header_of a.engine) r.code.items q n (begin_of a q p)
 can_begin a q n r p h =
     let f : Frame = frame_of a in
     let t : Stand = stand_of a in
@@ -116,18 +130,22 @@ can_begin a q n r p h =
       counters = subst (HasRoom (n * lanes)) (sym same) (small_has_room (length xs * lanes) (n * lanes) _ (counts_small lanes xs) (count_room n lanes (length xs) _ few room ready.few));
     }
 
-pub can_play : (a : Inside) (q n : ℕ) (r : Routine) (p : Context) (code : List Instruction) (memory : List ℕ) → IsLeft a q n r p → code ≡ r.code.items → memory ≡ a.memory.items → CanPlay (header_of a.engine) code q n (playing memory p)
+pub can_play : (a : Inside) (q n : ℕ) (r : Routine) (p : Context) (code : List Instruction) (memory : List ℕ) →
+    IsLeft a q n r p → code ≡ r.code.items → memory ≡ a.memory.items →
+    CanPlay (header_of a.engine) code q n (playing memory p)
 can_play a q n r p code memory h ec em =
     subst (λ (s : Playing). CanPlay (header_of a.engine) code q n s) (sym (begin_is a q p memory (processor_there a q h.whole h.proc) h.processor em))
     (subst (λ (xs : List Instruction). CanPlay (header_of a.engine) xs q n (begin_of a q p)) (sym ec) (can_begin a q n r p h))
 
 -- What the phase's move leaves of the processors
 
-pub kept : {Y : Type 0} (f : Context → Y) (b : Bool) (ps : List Context) → ((p : Context) → f (rewound p) ≡ f p) → map f (cond b ps (map rewound ps)) ≡ map f ps
+pub kept : {Y : Type 0} (f : Context → Y) (b : Bool) (ps : List Context) → ((p : Context) → f (rewound p) ≡ f p) →
+    map f (cond b ps (map rewound ps)) ≡ map f ps
 kept f true ps same = refl
 kept f false ps same = map_map f rewound ps same
 
-pub cursors_kept : (b : Bool) (ps : List Context) → cursors_of (cond b ps (map rewound ps)) ≡ cond b (cursors_of ps) (replicate (length ps) first_position)
+pub cursors_kept : (b : Bool) (ps : List Context) → cursors_of (cond b ps (map rewound ps)) ≡ cond b (cursors_of ps)
+    (replicate (length ps) first_position)
 cursors_kept true ps = refl
 cursors_kept false ps = map_all (λ (p : Context). p.place) rewound ps first_position (λ p. refl)
 
@@ -138,7 +156,8 @@ pub record IsMoved (a : Inside) (q n : ℕ) (r : Routine) (p : Context) (u : Sta
   pub before : List ℕ
   pub before_is : before ≡ a.memory.items
   pub after : Context
-  pub played : playing u.memory after ≡ Rattle.par_machine.specs.Played.played (header_of a.engine) code q n (playing before p)
+  pub played : playing u.memory after ≡ Rattle.par_machine.specs.Played.played (header_of a.engine) code q n
+      (playing before p)
   pub phases : List Routine
   pub phases_are : phases ≡ a.phases.items
   pub done : List ℕ
@@ -148,10 +167,13 @@ pub record IsMoved (a : Inside) (q n : ℕ) (r : Routine) (p : Context) (u : Sta
   pub registers : u.registers ≡ registers_of processors
   pub phase_after : OfCode phases done (λ code. u.phase ≡ settled_phase code (length phases) a.phase done)
   pub done_after : OfCode phases done (λ code. u.done ≡ settled_done code a.phase done)
-  pub processors_after : OfCode phases done (λ code. processors ≡ cond (is_open code a.phase done) moved (map rewound moved))
+  pub processors_after : OfCode phases done (λ code. processors
+      ≡ cond (is_open code a.phase done) moved (map rewound moved))
   pub within : u.phase ≤ length phases
 
-moved_advances : (a : Inside) (q n : ℕ) (r : Routine) (p : Context) (u : State) (processors : List Context) → IsLeft a q n r p → IsMoved a q n r p u processors → IsAdvanced (frame_of a) q r (stand_of a) n (begin_of a q p) (stand_with u processors)
+moved_advances : (a : Inside) (q n : ℕ) (r : Routine) (p : Context) (u : State) (processors : List Context) →
+    IsLeft a q n r p → IsMoved a q n r p u processors → IsAdvanced (frame_of a) q r (stand_of a) n (begin_of a q p)
+    (stand_with u processors)
 moved_advances a q n r p u processors h m =
     let f : Frame = frame_of a in
     let code : Code = code_of_frame f in
@@ -196,12 +218,15 @@ moved_advances a q n r p u processors h m =
     }
 
 -- it is a run of n turns
-pub moved_runs : (a : Inside) (q n : ℕ) (r : Routine) (p : Context) (u : State) (processors : List Context) → IsLeft a q n r p → IsMoved a q n r p u processors → IsRun (frame_of a) q r (stand_of a) n (stand_with u processors)
+pub moved_runs : (a : Inside) (q n : ℕ) (r : Routine) (p : Context) (u : State) (processors : List Context) →
+    IsLeft a q n r p → IsMoved a q n r p u processors → IsRun (frame_of a) q r (stand_of a) n (stand_with u processors)
 moved_runs a q n r p u processors h m =
     advanced_runs (frame_of a) q r n (stand_of a) p.place p.counts (stand_with u processors) h.whole.ready h.whole.running (set_is a q n r p h) h.some (within_routine a q n r p h)
     (moved_advances a q n r p u processors h m)
 
-pub unfinished_at : (a : Inside) (q : ℕ) (r : Routine) → IsWhole a → a.phase < length a.phases.items → r ≡ get_or a.phases.items a.phase r → IsFirstLeft a.done.items r.len q → IsUnfinished (running_of a).code (running_of a).state q
+pub unfinished_at : (a : Inside) (q : ℕ) (r : Routine) → IsWhole a → a.phase < length a.phases.items →
+    r ≡ get_or a.phases.items a.phase r → IsFirstLeft a.done.items r.len q →
+    IsUnfinished (running_of a).code (running_of a).state q
 unfinished_at a q r w here e first =
     let inside : q < a.engine.shape.procs = omega (arith, first.inside, w.running.dones) in
     unfinished_is (running_of a).code (is_code (frame_of a)) q (running_of a).state w.running.dones inside

@@ -1,5 +1,6 @@
 -- Where a machine stands before its first turn.
-use Rattle.std.proofs.Common.{◌≡◌, ℕ, zero, suc, ◌+◌, ◌-◌, ◌*◌, ◌<◌, ◌≤◌, List, [], ◌++◌, length, replicate, Some, sym, ap, ap₂, ◌∙◌, subst, arith, length-append, div-add-mod', mod-lt}
+use Rattle.std.proofs.Common.{◌≡◌, ℕ, zero, suc, ◌+◌, ◌-◌, ◌*◌, ◌<◌, ◌≤◌, List, [], ◌++◌, length, replicate, Some, sym}
+use Rattle.std.proofs.Common.{ap, ap₂, ◌∙◌, subst, arith, length-append, div-add-mod', mod-lt}
 use Rattle.std.specs.Prelude.{slice_get, slice_index, slice_index_or}
 use Rattle.std.proofs.lemmas.List.{length-replicate, get_or-replicate}
 use Rattle.icode.specs.declared.action.Counts.{Counts}
@@ -38,7 +39,8 @@ file_of_zeros m zero k q pos = λ j. pos
 file_of_zeros m (suc n) k zero pos = below-zeros m k pos
 file_of_zeros m (suc n) k (suc q) pos = file_of_zeros m n k q pos
 
-pub first_runs : (f : Frame) (x : List ℕ) (u : Stand) → IsReady f → length x ≡ f.header.size → AreBelow f.header.modulus x → IsFirst f x u → IsRunning f u
+pub first_runs : (f : Frame) (x : List ℕ) (u : Stand) → IsReady f → length x ≡ f.header.size →
+    AreBelow f.header.modulus x → IsFirst f x u → IsRunning f u
 first_runs f x u ready size below h =
     let code : Code = code_of_frame f in
     let procs : ℕ = f.header.procs in

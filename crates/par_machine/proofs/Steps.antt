@@ -1,5 +1,7 @@
 -- What a step leaves.
-use Rattle.std.proofs.Common.{◌++◌, take, flat_map, append_assoc, ◌≡◌, ◌≢◌, ℕ, zero, suc, ◌+◌, ◌-◌, ◌*◌, ◌<◌, ◌≤◌, List, [], ◌∷◌, Bool, true, false, cond, if◌then◌else◌, length, replicate, get_or, Some, refl, sym, ap, ap₂, ◌∙◌, subst, arith, ⊎_elim, length-set, get_or-set_same, get_or-set_other}
+use Rattle.std.proofs.Common.{◌++◌, take, flat_map, append_assoc, ◌≡◌, ◌≢◌, ℕ, zero, suc, ◌+◌, ◌-◌, ◌*◌, ◌<◌, ◌≤◌, List}
+use Rattle.std.proofs.Common.{[], ◌∷◌, Bool, true, false, cond, if◌then◌else◌, length, replicate, get_or, Some, refl}
+use Rattle.std.proofs.Common.{sym, ap, ap₂, ◌∙◌, subst, arith, ⊎_elim, length-set, get_or-set_same, get_or-set_other}
 use Rattle.std.specs.Prelude.{slice_get, slice_index, slice_index_or, slice_set}
 use Rattle.std.specs.List.{range_with_len}
 use Rattle.std.proofs.lemmas.Bool.{cases_eq}
@@ -8,7 +10,9 @@ use Rattle.std.proofs.lemmas.Option.{slice_get_within, slice_get-get_or, get_or_
 use Rattle.icode.specs.declared.action.Action.{Action}
 use Rattle.icode.specs.declared.action.Action.TheVariants.{Store}
 use Rattle.icode.specs.declared.action.Counts.{Counts}
-use Rattle.icode.specs.Machine.{Code, State, Local, acts, next_action, acted, moved_on, turn, turn_with, is_open, first_open, phases_after, none_done, with_words, memory_after, register_of, effect, value_put, register_put, counted, counts_of, counts_so_far, executed}
+use Rattle.icode.specs.Machine.{Code, State, Local, acts, next_action, acted, moved_on, turn, turn_with, is_open}
+use Rattle.icode.specs.Machine.{first_open, phases_after, none_done, with_words, memory_after, register_of, effect}
+use Rattle.icode.specs.Machine.{value_put, register_put, counted, counts_of, counts_so_far, executed}
 use Rattle.icode.proofs.Completion.{first_opens}
 use Rattle.icode.proofs.End.{none_done-zero}
 use Rattle.icode.proofs.Words.{slice_get-set_other, take-next}
@@ -18,7 +22,8 @@ use Rattle.par_machine.specs.Frame.{Frame, Stand, code_of_frame, places_in, IsRe
 use Rattle.icode.proofs.Residues.{AreBelow}
 use Rattle.icode.proofs.Below.{effect_memory_below, effect_registers_below}
 use Rattle.par_machine.proofs.Executed.{counts_more, executed_moved}
-use Rattle.par_machine.proofs.Frames.{length-positions, places_at, places_first, place_after, is_code, count_lists, acts_places, IsHere, hand_place}
+use Rattle.par_machine.proofs.Frames.{length-positions, places_at, places_first, place_after, is_code, count_lists}
+use Rattle.par_machine.proofs.Frames.{acts_places, IsHere, hand_place}
 
 pub state_same : (m m' : List ℕ) (r r' : List (List ℕ)) (p p' : ℕ) (d d' : List ℕ) → m ≡ m' → r ≡ r' → p ≡ p' → d ≡ d' → ◌≡◌ {A = State} (record { memory = m; registers = r; phase = p; done = d }) (record { memory = m'; registers = r'; phase = p'; done = d' })
 state_same m m' r r' p p' d d' em er ep ed =
@@ -38,7 +43,8 @@ pub length-with_words : (vs xs : List ℕ) (i : ℕ) → length (with_words xs i
 length-with_words [] xs i = refl
 length-with_words (v ∷ vs) xs i = length-with_words vs (slice_set xs i v) (i + 1) ∙ length-set xs i v
 
-pub length-memory_after : (lanes : ℕ) (action : Action) (s : Local) → length (memory_after lanes action s) ≡ length s.memory
+pub length-memory_after : (lanes : ℕ) (action : Action) (s : Local) →
+    length (memory_after lanes action s) ≡ length s.memory
 length-memory_after lanes (Store address r) s = length-with_words (register_of lanes s.registers r) s.memory address
 length-memory_after lanes _ s = refl
 
@@ -80,7 +86,8 @@ module _ (f : Frame) (t : Stand) (q : ℕ) (action : Action) (r : Routine) (curs
     pub registers : u.state.registers ≡ slice_set t.state.registers q after.registers
     pub phase : u.state.phase ≡ cond stays t.state.phase next_phase
     pub done : u.state.done ≡ cond stays done_after (replicate f.header.procs 0)
-    pub places : u.places ≡ cond stays (slice_set t.places q (next_position r.code.items cursor)) (replicate f.header.procs first_position)
+    pub places : u.places ≡ cond stays (slice_set t.places q (next_position r.code.items cursor))
+        (replicate f.header.procs first_position)
     pub counts : u.counts ≡ slice_set t.counts q (counted f.header.lanes action count)
     pub within : u.state.phase ≤ length f.phases
 
@@ -100,7 +107,8 @@ module _ (f : Frame) (t : Stand) (q : ℕ) (action : Action) (r : Routine) (curs
       h.count_is ∙ get_or_from_slice_get t.counts q (counts_so_far code t.state q) count (run.counted q h.here.proc)
 
   -- what each processor has executed
-  executed_acted : IsRunning f t → IsHand → executed code (acted code q action t.state) q ≡ executed code t.state q ++ action ∷ []
+  executed_acted : IsRunning f t → IsHand → executed code (acted code q action t.state) q ≡ executed code t.state q
+      ++ action ∷ []
   executed_acted run h =
       let d : ℕ = slice_index t.state.done q in
       let set : slice_index done_after q ≡ suc d = get_or-set_same t.state.done q (suc d) 0 (omega (arith, run.dones, h.here.proc)) in
@@ -109,12 +117,14 @@ module _ (f : Frame) (t : Stand) (q : ℕ) (action : Action) (r : Routine) (curs
       ∙ (ap (λ xs. front ++ xs) (take-next (acts code t.state.phase q) d action h.hand)
       ∙ sym (append_assoc front (take d (acts code t.state.phase q)) (action ∷ [])))
 
-  executed_other : (other : ℕ) → other ≢ q → executed code (acted code q action t.state) other ≡ executed code t.state other
+  executed_other : (other : ℕ) → other ≢ q → executed code (acted code q action t.state) other
+      ≡ executed code t.state other
   executed_other other ne =
       ap (λ n. flat_map (λ phase. acts code phase other) (range_with_len 0 t.state.phase) ++ take n (acts code t.state.phase other))
       (get_or-set_other t.state.done q other (suc (slice_index t.state.done q)) 0 ne)
 
-  counted_after : (u : Stand) → IsRunning f t → IsHand → IsStepped u → (other : ℕ) → other < f.header.procs → slice_get u.counts other ≡ Some (counts_so_far code u.state other)
+  counted_after : (u : Stand) → IsRunning f t → IsHand → IsStepped u → (other : ℕ) → other < f.header.procs →
+      slice_get u.counts other ≡ Some (counts_so_far code u.state other)
   counted_after u run h e other lt =
       let s1 : State = acted code q action t.state in
       let moved : executed code u.state other ≡ executed code s1 other =
@@ -152,19 +162,28 @@ module _ (f : Frame) (t : Stand) (q : ℕ) (action : Action) (r : Routine) (curs
       (λ (ne : other ≡ q → ⊥). omega (arith, get_or-set_other t.state.done q other (suc (slice_index t.state.done q)) 0 ne, run.within other))
       (cases_eq other q)
 
-  within_after : (u : Stand) (b : Bool) → IsRunning f t → IsHand → u.state.phase ≡ cond b t.state.phase next_phase → u.state.done ≡ cond b done_after (replicate f.header.procs 0) → (other : ℕ) → slice_index u.state.done other ≤ length (places_in f u.state.phase)
+  within_after : (u : Stand) (b : Bool) → IsRunning f t → IsHand → u.state.phase ≡ cond b t.state.phase next_phase →
+      u.state.done ≡ cond b done_after (replicate f.header.procs 0) → (other : ℕ) →
+      slice_index u.state.done other ≤ length (places_in f u.state.phase)
   within_after u true run h ep ed other =
       subst (λ p. slice_index u.state.done other ≤ length (places_in f p)) (sym ep)
       (subst (λ d. slice_index d other ≤ length (places_in f t.state.phase)) (sym ed) (done_more run h other))
   within_after u false run h ep ed other = omega (arith, ap (λ d. slice_index d other) ed, none_done-zero code other)
 
-  settled_after : (u : Stand) (b : Bool) → stays ≡ b → u.state.phase ≡ cond b t.state.phase next_phase → u.state.done ≡ cond b done_after (replicate f.header.procs 0) → u.state.phase < length f.phases → t.state.phase < length f.phases → is_open code u.state.phase u.state.done ≡ true
+  settled_after : (u : Stand) (b : Bool) → stays ≡ b → u.state.phase ≡ cond b t.state.phase next_phase →
+      u.state.done ≡ cond b done_after (replicate f.header.procs 0) → u.state.phase < length f.phases →
+      t.state.phase < length f.phases → is_open code u.state.phase u.state.done ≡ true
   settled_after u true o ep ed lt here = ap₂ (is_open code) ep ed ∙ o
   settled_after u false o ep ed lt here =
       ap₂ (is_open code) ep ed
       ∙ first_opens code (is_code f) (length f.phases - (t.state.phase + 1)) (t.state.phase + 1) (omega (arith, ep))
 
-  cursor_after : (u : Stand) (b : Bool) → IsRunning f t → IsHand → u.state.phase ≡ cond b t.state.phase next_phase → u.state.done ≡ cond b done_after (replicate f.header.procs 0) → u.places ≡ cond b (slice_set t.places q (next_position r.code.items cursor)) (replicate f.header.procs first_position) → (other : ℕ) → other < f.header.procs → slice_index u.state.done other < length (places_in f u.state.phase) → slice_get (places_in f u.state.phase) (slice_index u.state.done other) ≡ slice_get u.places other
+  cursor_after : (u : Stand) (b : Bool) → IsRunning f t → IsHand → u.state.phase ≡ cond b t.state.phase next_phase →
+      u.state.done ≡ cond b done_after (replicate f.header.procs 0) →
+      u.places ≡ cond b (slice_set t.places q (next_position r.code.items cursor))
+      (replicate f.header.procs first_position) → (other : ℕ) → other < f.header.procs →
+      slice_index u.state.done other < length (places_in f u.state.phase) →
+      slice_get (places_in f u.state.phase) (slice_index u.state.done other) ≡ slice_get u.places other
   cursor_after u true run h ep ed ec other lt left =
       let n : ℕ = slice_index t.state.done q in
       let done_is : slice_index u.state.done other ≡ slice_index done_after other = ap (λ d. slice_index d other) ed in
@@ -194,7 +213,8 @@ module _ (f : Frame) (t : Stand) (q : ℕ) (action : Action) (r : Routine) (curs
       ∙ (places_first f.phases u.state.phase (omega (arith, left))
       ∙ (sym (get_replicate f.header.procs other first_position lt) ∙ ap (λ ps. slice_get ps other) (sym ec)))
 
-  file_after : (u : Stand) → IsRunning f t → IsHand → IsStepped u → (other : ℕ) → other < f.header.procs → length (slice_index_or u.state.registers other []) ≡ f.header.regs * f.header.lanes
+  file_after : (u : Stand) → IsRunning f t → IsHand → IsStepped u → (other : ℕ) → other < f.header.procs →
+      length (slice_index_or u.state.registers other []) ≡ f.header.regs * f.header.lanes
   file_after u run h e other lt =
       let fs = t.state.registers in
       ap (λ (rs : List (List ℕ)). length (slice_index_or rs other [])) e.registers
@@ -205,7 +225,8 @@ module _ (f : Frame) (t : Stand) (q : ℕ) (action : Action) (r : Routine) (curs
       (λ (ne : other ≡ q → ⊥). ap length (get_or-set_other fs q other after.registers [] ne) ∙ run.file other lt)
       (cases_eq other q)
 
-  files_below_after : (u : Stand) → 0 < f.header.modulus → IsRunning f t → IsHand → IsStepped u → (other : ℕ) → AreBelow f.header.modulus (slice_index_or u.state.registers other [])
+  files_below_after : (u : Stand) → 0 < f.header.modulus → IsRunning f t → IsHand → IsStepped u → (other : ℕ) →
+      AreBelow f.header.modulus (slice_index_or u.state.registers other [])
   files_below_after u pos run h e other =
       let fs = t.state.registers in
       subst (λ (rs : List (List ℕ)). AreBelow f.header.modulus (slice_index_or rs other [])) (sym e.registers)
@@ -216,7 +237,8 @@ module _ (f : Frame) (t : Stand) (q : ℕ) (action : Action) (r : Routine) (curs
       (λ (ne : other ≡ q → ⊥). subst (AreBelow f.header.modulus) (sym (get_or-set_other fs q other after.registers [] ne)) (run.files_below other))
       (cases_eq other q))
 
-  length_if : {X : Type 0} (b : Bool) (xs ys zs : List X) (n : ℕ) → xs ≡ cond b ys zs → length ys ≡ n → length zs ≡ n → length xs ≡ n
+  length_if : {X : Type 0} (b : Bool) (xs ys zs : List X) (n : ℕ) → xs ≡ cond b ys zs → length ys ≡ n → length zs ≡ n →
+      length xs ≡ n
   length_if true xs ys zs n e y z = ap length e ∙ y
   length_if false xs ys zs n e y z = ap length e ∙ z
 

@@ -1,5 +1,7 @@
 -- A new machine runs its program.
-use Rattle.std.proofs.Common.{◌≡◌, ℕ, zero, suc, ◌+◌, ◌^◌, ◌<◌, ◌≤◌, List, [], ◌∷◌, ◌++◌, length, map, take, replicate, get_or, Option, Some, None, All, Vec, Global, refl, sym, ap, ap₂, ◌∙◌, subst, arith, le_trans}
+use Rattle.std.proofs.Common.{◌≡◌, ℕ, zero, suc, ◌+◌, ◌^◌, ◌<◌, ◌≤◌, List, [], ◌∷◌, ◌++◌, length, map, take, replicate}
+use Rattle.std.proofs.Common.{get_or, Option, Some, None, All, Vec, Global, refl, sym, ap, ap₂, ◌∙◌, subst, arith}
+use Rattle.std.proofs.Common.{le_trans}
 use Rattle.std.specs.Prelude.{slice_get, slice_index, slice_index_or}
 use Rattle.std.specs.List.{range_with_len}
 use Rattle.std.proofs.lemmas.List.{take_more, length-map, get_or-map}
@@ -33,14 +35,17 @@ zeros_closed zero k = refl
 zeros_closed (suc n) zero = refl
 zeros_closed (suc n) (suc k) = zeros_closed n k
 
-starts : (p : PlainProgram) (code : List Instruction) (to len : ℕ) (body : PlainBody) (q : ℕ) → Plays p code 0 to 0 len (steps_of_body p body) → map (λ (place : Position). step_at p code q place) (positions code len first_position) ≡ seen p code q (len + 0) 0 (replicate 64 0)
+starts : (p : PlainProgram) (code : List Instruction) (to len : ℕ) (body : PlainBody) (q : ℕ) →
+    Plays p code 0 to 0 len (steps_of_body p body) → map (λ (place : Position). step_at p code q place)
+    (positions code len first_position) ≡ seen p code q (len + 0) 0 (replicate 64 0)
 starts p code to zero body q h = refl
 starts p code to (suc len) body q h =
     let same : suc len + 0 ≡ suc len = omega arith in
     sym (ap (λ n. seen p code q n 0 (replicate 64 0)) same
     ∙ ap (λ place. map (λ (place : Position). step_at p code q place) (positions code (suc len) place)) (h.first (omega arith) (replicate 64 0)))
 
-pub translated : (p : PlainProgram) (r : Routine) (body : PlainBody) → r.len ≡ len_of_body body → IsCompiled p.modulus 0 (len_of_body body) (λ p. steps_of_body p body) [] r.code.items → IsTranslated p r body
+pub translated : (p : PlainProgram) (r : Routine) (body : PlainBody) → r.len ≡ len_of_body body →
+    IsCompiled p.modulus 0 (len_of_body body) (λ p. steps_of_body p body) [] r.code.items → IsTranslated p r body
 translated p r body e h =
     let code : List Instruction = r.code.items in
     record {
@@ -55,19 +60,24 @@ translated p r body e h =
           ∙ append_nil (map (λ (s : Step). Some s) (steps_of_body p body [] q))));
     }
 
-pub translated_more : (p : PlainProgram) (rs : List Routine) (r : Routine) (bodies : List PlainBody) (body : PlainBody) → AreTranslated p rs bodies → IsTranslated p r body → AreTranslated p (rs ++ r ∷ []) (bodies ++ body ∷ [])
+pub translated_more : (p : PlainProgram) (rs : List Routine) (r : Routine) (bodies : List PlainBody)
+    (body : PlainBody) → AreTranslated p rs bodies → IsTranslated p r body →
+    AreTranslated p (rs ++ r ∷ []) (bodies ++ body ∷ [])
 translated_more p [] r [] body h t = (t, tt)
 translated_more p [] r (b ∷ bodies) body h t = absurd h
 translated_more p (x ∷ rs) r [] body h t = absurd h
 translated_more p (x ∷ rs) r (b ∷ bodies) body h t = (h.0, translated_more p rs r bodies body h.1 t)
 
-pub phase_more : (phases : List (Vec Stmt Global)) (i : ℕ) (body : Vec Stmt Global) → i < length phases → body ≡ get_or phases i body → take (i + 1) (plain_phases phases) ≡ take i (plain_phases phases) ++ plain_body body.items ∷ []
+pub phase_more : (phases : List (Vec Stmt Global)) (i : ℕ) (body : Vec Stmt Global) → i < length phases →
+    body ≡ get_or phases i body → take (i + 1) (plain_phases phases) ≡ take i (plain_phases phases)
+    ++ plain_body body.items ∷ []
 phase_more phases i body lt e =
     let plain : Vec Stmt Global → PlainBody = λ (body : Vec Stmt Global). plain_body body.items in
     take_more (plain_phases phases) i NoStmts (omega (arith, length-map phases plain))
     ∙ ap (λ b. take i (plain_phases phases) ++ b ∷ []) (get_or-map plain phases i body NoStmts lt ∙ ap plain (sym e))
 
-pub take_phases : (phases : List (Vec Stmt Global)) (n : ℕ) → length phases ≤ n → take n (plain_phases phases) ≡ plain_phases phases
+pub take_phases : (phases : List (Vec Stmt Global)) (n : ℕ) → length phases ≤ n →
+    take n (plain_phases phases) ≡ plain_phases phases
 take_phases [] zero le = refl
 take_phases [] (suc n) le = refl
 take_phases (x ∷ phases) zero le = absurd (omega arith)
@@ -75,21 +85,26 @@ take_phases (x ∷ phases) (suc n) le = ap (λ ys. plain_body x.items ∷ ys) (t
 
 -- The header stands for the program
 
-bare_with : (p : PlainProgram) (vs : List ℕ) (q : ℕ) (o : Option Instruction) → step_with (without_statements p) vs q o ≡ step_with p vs q o
+bare_with : (p : PlainProgram) (vs : List ℕ) (q : ℕ) (o : Option Instruction) →
+    step_with (without_statements p) vs q o ≡ step_with p vs q o
 bare_with p vs q None = refl
 bare_with p vs q (Some (Act op depth)) = ap (λ (s : Step). Some s) (bare_step p (plain_op op) (take depth vs) q)
 bare_with p vs q (Some (Again start last depth)) = refl
 
-bare_at : (p : PlainProgram) (code : List Instruction) (q : ℕ) (place : Position) → step_at (without_statements p) code q place ≡ step_at p code q place
+bare_at : (p : PlainProgram) (code : List Instruction) (q : ℕ) (place : Position) →
+    step_at (without_statements p) code q place ≡ step_at p code q place
 bare_at p code q place = bare_with p place.values q (slice_get code place.at)
 
-bare_steps : (p : PlainProgram) (code : List Instruction) (q : ℕ) (places : List Position) → map (λ (place : Position). step_at (without_statements p) code q place) places ≡ map (λ (place : Position). step_at p code q place) places
+bare_steps : (p : PlainProgram) (code : List Instruction) (q : ℕ) (places : List Position) →
+    map (λ (place : Position). step_at (without_statements p) code q place) places
+    ≡ map (λ (place : Position). step_at p code q place) places
 bare_steps p code q [] = refl
 bare_steps p code q (place ∷ places) = ap₂ (λ o os. o ∷ os) (bare_at p code q place) (bare_steps p code q places)
 
 -- Lists of actions
 
-actions_from : (f : Position → Option Step) (places : List Position) → map (λ place. action_of_step (f place)) places ≡ map action_of_step (map f places)
+actions_from : (f : Position → Option Step) (places : List Position) →
+    map (λ place. action_of_step (f place)) places ≡ map action_of_step (map f places)
 actions_from f [] = refl
 actions_from f (place ∷ places) = ap (λ xs. action_of_step (f place) ∷ xs) (actions_from f places)
 
@@ -97,17 +112,23 @@ actions_to : (xs : List Step) → map action_of_step (map (λ (s : Step). Some s
 actions_to [] = refl
 actions_to (x ∷ xs) = ap (λ ys. x.action ∷ ys) (actions_to xs)
 
-same_list : (p : PlainProgram) (r : Routine) (body : PlainBody) (q : ℕ) → IsTranslated p r body → map (λ place. action_of_step (step_at (without_statements p) r.code.items q place)) (places_of r) ≡ actions_of (steps_of_body p body [] q)
+same_list : (p : PlainProgram) (r : Routine) (body : PlainBody) (q : ℕ) → IsTranslated p r body →
+    map (λ place. action_of_step (step_at (without_statements p) r.code.items q place)) (places_of r)
+    ≡ actions_of (steps_of_body p body [] q)
 same_list p r body q t =
     actions_from (λ place. step_at (without_statements p) r.code.items q place) (places_of r)
     ∙ (ap (map action_of_step) (bare_steps p r.code.items q (places_of r) ∙ t.plays q)
     ∙ actions_to (steps_of_body p body [] q))
 
-same_map : {X : Type 0} (f g : ℕ → X) → ((q : ℕ) → f q ≡ g q) → (n first : ℕ) → map f (range_with_len first n) ≡ map g (range_with_len first n)
+same_map : {X : Type 0} (f g : ℕ → X) → ((q : ℕ) → f q ≡ g q) → (n first : ℕ) →
+    map f (range_with_len first n) ≡ map g (range_with_len first n)
 same_map f g e zero first = refl
 same_map f g e (suc n) first = ap₂ (λ x xs. x ∷ xs) (e first) (same_map f g e n (first + 1))
 
-same_lists : (p : PlainProgram) (rs : List Routine) (bodies : List PlainBody) → AreTranslated p rs bodies → map (λ (r : Routine). map (λ q. map (λ place. action_of_step (step_at (without_statements p) r.code.items q place)) (places_of r)) (range_with_len 0 p.procs)) rs ≡ map (λ body. map (λ q. actions_of (steps_of_body p body [] q)) (range_with_len 0 p.procs)) bodies
+same_lists : (p : PlainProgram) (rs : List Routine) (bodies : List PlainBody) → AreTranslated p rs bodies →
+    map (λ (r : Routine). map (λ q. map (λ place. action_of_step (step_at (without_statements p) r.code.items q place))
+    (places_of r)) (range_with_len 0 p.procs)) rs ≡ map (λ body. map (λ q. actions_of (steps_of_body p body [] q))
+    (range_with_len 0 p.procs)) bodies
 same_lists p [] [] h = refl
 same_lists p [] (b ∷ bodies) h = absurd h
 same_lists p (r ∷ rs) [] h = absurd h
@@ -122,7 +143,9 @@ same_code p rs h =
 
 -- What fits may be done
 
-all_run : (p : PlainProgram) (f : Position → Option Step) (places : List Position) (xs : List Step) → map f places ≡ map (λ (s : Step). Some s) xs → All (StepFits p) xs → All (λ place. Runs (without_statements p) (f place)) places
+all_run : (p : PlainProgram) (f : Position → Option Step) (places : List Position) (xs : List Step) →
+    map f places ≡ map (λ (s : Step). Some s) xs → All (StepFits p) xs →
+    All (λ place. Runs (without_statements p) (f place)) places
 all_run p f [] xs e all k d lt = absurd (omega arith)
 all_run p f (place ∷ places) [] e all k d lt = absurd (cons_nil (f place) (map f places) e)
   where
@@ -161,7 +184,9 @@ first_of_sum zero f lt = absurd (omega arith)
 first_of_sum (suc zero) f lt = omega arith
 first_of_sum (suc (suc n)) f lt = omega (arith, first_of_sum (suc n) f (omega arith))
 
-total_within : (p : PlainProgram) (rs : List Routine) (bodies : List PlainBody) (g : ℕ → ℕ) → AreTranslated p rs bodies → ((k : ℕ) → len_of_body (slice_index_or bodies k NoStmts) ≤ g k) → total (lens_of rs) ≤ sum_below (length bodies) g
+total_within : (p : PlainProgram) (rs : List Routine) (bodies : List PlainBody) (g : ℕ → ℕ) →
+    AreTranslated p rs bodies → ((k : ℕ) → len_of_body (slice_index_or bodies k NoStmts) ≤ g k) →
+    total (lens_of rs) ≤ sum_below (length bodies) g
 total_within p [] [] g h le = omega arith
 total_within p [] (b ∷ bodies) g h le = absurd h
 total_within p (r ∷ rs) [] g h le = absurd h
@@ -183,7 +208,8 @@ total_within p (r ∷ rs) (b ∷ bodies) g h le =
     add_up : (a b c d e : ℕ) → a ≤ c → b ≤ d → c + d ≤ e → a + b ≤ e
     add_up a b c d e x y z = omega arith
 
-pub few_actions : (p : PlainProgram) (rs : List Routine) → 0 < p.procs → AreTranslated p rs p.phases → PlainFits p → total (lens_of rs) < 2 ^ 59
+pub few_actions : (p : PlainProgram) (rs : List Routine) → 0 < p.procs → AreTranslated p rs p.phases → PlainFits p →
+    total (lens_of rs) < 2 ^ 59
 few_actions p rs procs h fits =
     let g : ℕ → ℕ = λ phase. sum_below p.procs (λ q. length (steps_of_phase p phase q)) in
     let within = total_within p rs p.phases g h (λ k. omega (arith, body_length p (slice_index_or p.phases k NoStmts) [] 0, first_of_sum p.procs (λ q. length (steps_of_phase p k q)) procs)) in

@@ -2,8 +2,10 @@
 use Rattle.std.proofs.Common.{◌≡◌, ℕ, ◌*◌, ◌%◌, inl, inr, arith}
 use Rattle.std.proofs.lemmas.Bool.{cases_eq, cases_lt}
 use Rattle.std.proofs.lemmas.Bool.Decides.{nat_tests}
-use Rattle.index_fn.specs.Mapping.{Mapping, Same, Always, Line, Strided, ThomasIn, ThomasOut, ThomasBack, Listed, Paired, After, IsWellFormed}
-use Rattle.perm_algebra.specs.Affine.{Sum, constant, variable, remainder, quotient, top, scaled, joined, head, rest_of, Divided, divided, mods, reduced, simplified, HasNoList}
+use Rattle.index_fn.specs.Mapping.{Mapping, Same, Always, Line, Strided, ThomasIn, ThomasOut, ThomasBack, Listed}
+use Rattle.index_fn.specs.Mapping.{Paired, After, IsWellFormed}
+use Rattle.perm_algebra.specs.Affine.{Sum, constant, variable, remainder, quotient, top, scaled, joined, head, rest_of}
+use Rattle.perm_algebra.specs.Affine.{Divided, divided, mods, reduced, simplified, HasNoList}
 use Rattle.perm_algebra.specs.Room.{HasCounts, IsReady}
 use Rattle.perm_algebra.proofs.Values.{simplifies}
 
@@ -98,7 +100,8 @@ counts-reduced cs n m e h =
       | inr large ↦ let is : reduced cs m e ≡ remainder 1 (mods m e) m (constant 0) = grind (arith, nat_tests) in rw is (counts-mods n m e h, tt)
     ]
 
-counts-mixed : (cs : ℕ → ℕ) (n m a b : ℕ) (e g : Sum) → HasCounts n e → HasCounts n g → HasCounts n (reduced cs m (joined (scaled a e) (scaled b g)))
+counts-mixed : (cs : ℕ → ℕ) (n m a b : ℕ) (e g : Sum) → HasCounts n e → HasCounts n g →
+    HasCounts n (reduced cs m (joined (scaled a e) (scaled b g)))
 counts-mixed cs n m a b e g h k = counts-reduced cs n m _ (counts-joined n (scaled a e) (scaled b g) (counts-scaled n a e h) (counts-scaled n b g k))
 
 pub counts-simplified : (cs : ℕ → ℕ) (n : ℕ) (f : Mapping) (e : Sum) → HasCounts n e → HasCounts n (simplified cs f e)
@@ -121,6 +124,7 @@ counts-simplified cs n (After f g) e h = counts-simplified cs n f (simplified cs
 
 -- ---- as the contracts say it
 
-pub ready-simplified : (cs : ℕ → ℕ) (n : ℕ) (f : Mapping) (e : Sum) → IsWellFormed f → HasNoList f → IsReady n e → IsReady n (simplified cs f e)
+pub ready-simplified : (cs : ℕ → ℕ) (n : ℕ) (f : Mapping) (e : Sum) → IsWellFormed f → HasNoList f → IsReady n e →
+    IsReady n (simplified cs f e)
 ready-simplified cs n f e formed none h =
     record { counts = counts-simplified cs n f e h.counts; sound = (simplifies cs (λ _. 0) f e formed none h.sound (λ d. omega arith)).sound }

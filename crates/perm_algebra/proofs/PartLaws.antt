@@ -6,10 +6,12 @@ use Rattle.std.proofs.lemmas.Nat.{le-div, div-add-mod', mod_below, mul-le, div_b
 pub quotient_le : (a b d : ℕ) → 1 ≤ d → a ≤ b → a / d ≤ b / d
 quotient_le a b d pos h = le-div (a / d) b d pos (omega (arith, div-add-mod' a d))
 
-pub most_part : (x b f rest h m n : ℕ) → x ≤ b → rest ≤ h → m ≡ min (f * b) (2 ^ 64 - 1) → n ≡ min (m + h) (2 ^ 64 - 1) → f * x + rest < 2 ^ 64 → f * x + rest ≤ n
+pub most_part : (x b f rest h m n : ℕ) → x ≤ b → rest ≤ h → m ≡ min (f * b) (2 ^ 64 - 1) →
+    n ≡ min (m + h) (2 ^ 64 - 1) → f * x + rest < 2 ^ 64 → f * x + rest ≤ n
 most_part x b f rest h m n below others e k fits = let same : f ≤ f = omega arith in let part : f * x ≤ f * b = mul-le f x f b same below in omega arith
 
-pub most_quotient : (of g d f rest h m n : ℕ) → 1 ≤ d → of ≤ g → rest ≤ h → m ≡ min (f * (g / d)) (2 ^ 64 - 1) → n ≡ min (m + h) (2 ^ 64 - 1) → f * (of / d) + rest < 2 ^ 64 → f * (of / d) + rest ≤ n
+pub most_quotient : (of g d f rest h m n : ℕ) → 1 ≤ d → of ≤ g → rest ≤ h → m ≡ min (f * (g / d)) (2 ^ 64 - 1) →
+    n ≡ min (m + h) (2 ^ 64 - 1) → f * (of / d) + rest < 2 ^ 64 → f * (of / d) + rest ≤ n
 most_quotient of g d f rest h m n positive below others e k fits = most_part (of / d) (g / d) f rest h m n (quotient_le of g d positive below) others e k fits
 
 -- the place of a stride permutation is below its size

@@ -16,18 +16,21 @@ both : (P Q : Type 0) (a b : Bool) → (a ≡ true) ↔ P → (b ≡ true) ↔ Q
 both P Q true b p q = (λ h. (p.0 refl, q.0 h), λ h. q.1 h.1)
 both P Q false b p q = (λ h. absurd (cc), λ h. p.1 h.0)
 
-three : (P Q R : Type 0) (a b c : Bool) → (a ≡ true) ↔ P → (b ≡ true) ↔ Q → (c ≡ true) ↔ R → ((a && (b && c)) ≡ true) ↔ (P × Q × R)
+three : (P Q R : Type 0) (a b c : Bool) → (a ≡ true) ↔ P → (b ≡ true) ↔ Q → (c ≡ true) ↔ R →
+    ((a && (b && c)) ≡ true) ↔ (P × Q × R)
 three P Q R a b c p q r =
     let inner = both Q R b c q r in
     let all = both P (Q × R) a (b && c) p inner in (λ h. let w = all.0 h in (w.0, w.1.0, w.1.1), λ h. all.1 (h.0, (h.1, h.2)))
 
-four : (P Q R S : Type 0) (a b c d : Bool) → (a ≡ true) ↔ P → (b ≡ true) ↔ Q → (c ≡ true) ↔ R → (d ≡ true) ↔ S → ((a && (b && (c && d))) ≡ true) ↔ (P × Q × R × S)
+four : (P Q R S : Type 0) (a b c d : Bool) → (a ≡ true) ↔ P → (b ≡ true) ↔ Q → (c ≡ true) ↔ R → (d ≡ true) ↔ S →
+    ((a && (b && (c && d))) ≡ true) ↔ (P × Q × R × S)
 four P Q R S a b c d p q r s =
     let inner = three Q R S b c d q r s in
     let all = both P (Q × R × S) a (b && (c && d)) p inner in
     (λ h. let w = all.0 h in (w.0, w.1.0, w.1.1, w.1.2), λ h. all.1 (h.0, (h.1, h.2, h.3)))
 
-five : (P Q R S T : Type 0) (a b c d e : Bool) → (a ≡ true) ↔ P → (b ≡ true) ↔ Q → (c ≡ true) ↔ R → (d ≡ true) ↔ S → (e ≡ true) ↔ T → ((a && (b && (c && (d && e)))) ≡ true) ↔ (P × Q × R × S × T)
+five : (P Q R S T : Type 0) (a b c d e : Bool) → (a ≡ true) ↔ P → (b ≡ true) ↔ Q → (c ≡ true) ↔ R → (d ≡ true) ↔ S →
+    (e ≡ true) ↔ T → ((a && (b && (c && (d && e)))) ≡ true) ↔ (P × Q × R × S × T)
 five P Q R S T a b c d e p q r s t =
     let inner = four Q R S T b c d e q r s t in
     let all = both P (Q × R × S × T) a (b && (c && (d && e))) p inner in

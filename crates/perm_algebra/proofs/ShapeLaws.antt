@@ -3,7 +3,8 @@ use Rattle.std.proofs.Common.{◌≡◌, ℕ, ◌+◌, ◌*◌, ◌%◌, ◌<◌
 use Rattle.std.proofs.lemmas.Bool.{cases_eq, cases_lt}
 use Rattle.std.proofs.lemmas.Bool.Decides.{nat_tests}
 use Rattle.std.proofs.lemmas.Nat.{mul-lt}
-use Rattle.perm_algebra.specs.Affine.{Sum, constant, variable, remainder, quotient, top, scaled, joined, head, rest_of, Divided, divided, mods, reduced, simplified}
+use Rattle.perm_algebra.specs.Affine.{Sum, constant, variable, remainder, quotient, top, scaled, joined, head, rest_of}
+use Rattle.perm_algebra.specs.Affine.{Divided, divided, mods, reduced, simplified}
 use Rattle.perm_algebra.specs.ShapeLaw.{tally, AddsRemainders, IsModulo, KeepsShape, ShapeKept}
 use Rattle.perm_algebra.proofs.Reduced.{mods-below}
 use Rattle.perm_algebra.proofs.ShapeAny.{divided-apart}
@@ -78,13 +79,15 @@ modulo cs n e positive =
     }
 
 -- the two parts, each times a number
-tally-parts : (q r x y s : ℕ) (e : Sum) → tally q r (joined (scaled x (head s e)) (scaled y (rest_of s e))) ≡ tally q r e
+tally-parts : (q r x y s : ℕ) (e : Sum) → tally q r (joined (scaled x (head s e)) (scaled y (rest_of s e)))
+    ≡ tally q r e
 tally-parts q r x y s e = omega (arith, tally-joined q r (scaled x (head s e)) (scaled y (rest_of s e)), tally-scaled q r x (head s e), tally-scaled q r y (rest_of s e), tally-split q r s e)
 
 tally-turned : (q r k s : ℕ) (e : Sum) → tally q r (joined (scaled k (rest_of s e)) (head s e)) ≡ tally q r e
 tally-turned q r k s e = omega (arith, tally-joined q r (scaled k (rest_of s e)) (head s e), tally-scaled q r k (rest_of s e), tally-split q r s e)
 
-adds-mixed : (cs : ℕ → ℕ) (n x y s : ℕ) (e : Sum) → AddsRemainders 1 e (reduced cs n (joined (scaled x (head s e)) (scaled y (rest_of s e))))
+adds-mixed : (cs : ℕ → ℕ) (n x y s : ℕ) (e : Sum) → AddsRemainders 1 e
+    (reduced cs n (joined (scaled x (head s e)) (scaled y (rest_of s e))))
 adds-mixed cs n x y s e =
     let mixed = joined (scaled x (head s e)) (scaled y (rest_of s e)) in
     record {

@@ -3,8 +3,11 @@ use Rattle.std.proofs.Common.{◌≡◌, ℕ, ◌+◌, ◌*◌, ◌/◌, ◌%◌
 use Rattle.std.proofs.lemmas.Bool.{cases_eq, cases_lt}
 use Rattle.std.proofs.lemmas.Nat.{mul-lt}
 use Rattle.std.proofs.lemmas.Bool.Decides.{nat_tests}
-use Rattle.index_fn.specs.Mapping.{Mapping, Same, Always, Line, Strided, ThomasIn, ThomasOut, ThomasBack, Listed, Paired, After, at, IsWellFormed}
-use Rattle.perm_algebra.specs.Affine.{Sum, constant, variable, remainder, quotient, value, top, IsSound, scaled, joined, head, rest_of, Divided, divided, mods, reduced, simplified, HasNoList, AreBelowCounts, SimplifiedKeeps}
+use Rattle.index_fn.specs.Mapping.{Mapping, Same, Always, Line, Strided, ThomasIn, ThomasOut, ThomasBack, Listed}
+use Rattle.index_fn.specs.Mapping.{Paired, After, at, IsWellFormed}
+use Rattle.perm_algebra.specs.Affine.{Sum, constant, variable, remainder, quotient, value, top, IsSound, scaled, joined}
+use Rattle.perm_algebra.specs.Affine.{head, rest_of, Divided, divided, mods, reduced, simplified, HasNoList}
+use Rattle.perm_algebra.specs.Affine.{AreBelowCounts, SimplifiedKeeps}
 use Rattle.perm_algebra.proofs.AffineLaws.{value-scaled, value-joined, value-le-top, sound-rest, reads-off}
 use Rattle.perm_algebra.proofs.Reduced.{value-mods}
 
@@ -120,10 +123,12 @@ pub record Simplifies (cs vs : ℕ → ℕ) (f : Mapping) (e : Sum) : Type 0 whe
   pub sound : IsSound (simplified cs f e)
 
 -- the sum of two multiples, of the quotient and of the remainder
-two-parts : (a b : ℕ) (e g : Sum) (vs : ℕ → ℕ) → value (joined (scaled a e) (scaled b g)) vs ≡ a * value e vs + b * value g vs
+two-parts : (a b : ℕ) (e g : Sum) (vs : ℕ → ℕ) → value (joined (scaled a e) (scaled b g)) vs ≡ a * value e vs
+    + b * value g vs
 two-parts a b e g vs = value-joined (scaled a e) (scaled b g) vs ∙ ap₂ (λ x y. x + y) (value-scaled a e vs) (value-scaled b g vs)
 
-pub simplifies : (cs vs : ℕ → ℕ) (f : Mapping) (e : Sum) → IsWellFormed f → HasNoList f → IsSound e → AreBelowCounts vs cs → Simplifies cs vs f e
+pub simplifies : (cs vs : ℕ → ℕ) (f : Mapping) (e : Sum) → IsWellFormed f → HasNoList f → IsSound e →
+    AreBelowCounts vs cs → Simplifies cs vs f e
 simplifies cs vs Same e h none sound range = record { value_is = refl; sound = sound }
 simplifies cs vs (Always v) e h none sound range = record { value_is = refl; sound = tt }
 simplifies cs vs (Line base by) e h none sound range =

@@ -1,5 +1,6 @@
 -- Where the values fit words, words make the multiples and sums of sums.
-use Rattle.std.proofs.Common.{◌≡◌, ℕ, zero, suc, ◌+◌, ◌*◌, ◌/◌, ◌%◌, ◌^◌, ◌<◌, ◌≤◌, arith, ap, ap₂, ◌∙◌, mod-eq_of_lt, mul-le-mul_left}
+use Rattle.std.proofs.Common.{◌≡◌, ℕ, zero, suc, ◌+◌, ◌*◌, ◌/◌, ◌%◌, ◌^◌, ◌<◌, ◌≤◌, arith, ap, ap₂, ◌∙◌, mod-eq_of_lt}
+use Rattle.std.proofs.Common.{mul-le-mul_left}
 use Rattle.std.specs.Prelude.{max}
 use Rattle.perm_algebra.specs.Affine.{Sum, constant, variable, remainder, quotient, value, peak, scaled, joined}
 use Rattle.perm_algebra.specs.Fits.{IsAffine}

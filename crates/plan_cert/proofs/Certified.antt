@@ -15,7 +15,8 @@ use Rattle.plan_cert.specs.Certificate.{cost_at, IsClosedLeast}
 use Rattle.plan_cert.specs.Document.{document_rows}
 use Rattle.plan_cert.specs.Laws.{RightCostsAreLeast}
 use Rattle.plan_cert.specs.Table.{AreTables, IsListOfTables, IsTableOf, IsTableText, IsWholeTable}
-use Rattle.plan_cert.specs.Verdict.{joined, size_of_all, IsItemsVerdict, IsListVerdict, IsValueVerdict, IsVerdict, IsWholeVerdict}
+use Rattle.plan_cert.specs.Verdict.{joined, size_of_all, IsItemsVerdict, IsListVerdict, IsValueVerdict, IsVerdict}
+use Rattle.plan_cert.specs.Verdict.{IsWholeVerdict}
 use Rattle.plan_cert.proofs.ByParts.{by_parts, one_part, rest_divides, size_of_rest}
 use Rattle.plan_cert.proofs.Least.{least_of_right}
 use Rattle.plan_cert.proofs.OneVerdict.{verdict_of_json}

@@ -1,12 +1,15 @@
 -- What is decided: which rows a certificate has to have, and whether these are they.
-use Rattle.std.proofs.Common.{◌≡◌, ◌⊎◌, ℕ, zero, suc, ◌+◌, ◌*◌, ◌%◌, ◌<◌, ◌≤◌, List, length, get_or, Option, None, Some, subst, inl, inr, arith}
+use Rattle.std.proofs.Common.{◌≡◌, ◌⊎◌, ℕ, zero, suc, ◌+◌, ◌*◌, ◌%◌, ◌<◌, ◌≤◌, List, length, get_or, Option, None, Some}
+use Rattle.std.proofs.Common.{subst, inl, inr, arith}
 use Rattle.std.proofs.lemmas.Bool.{cases_eq}
 use Rattle.matrix_meaning.specs.declared.Request.{Request}
 use Rattle.tree_model.specs.declared.tree.Rule.{Rule}
-use Rattle.plan_search.proofs.Decisions.{IsDecidable, decided_as, decided_both, decided_le, decided_leaf, decided_node, decided_where}
+use Rattle.plan_search.proofs.Decisions.{IsDecidable, decided_as, decided_both, decided_le, decided_leaf, decided_node}
+use Rattle.plan_search.proofs.Decisions.{decided_where}
 use Rattle.plan_cert.specs.declared.certificate.Row.{Row}
 use Rattle.plan_cert.specs.Certificate.{AllowsChoice, HasRows, HasRowsBelow, IsRowFor, IsWanted}
-use Rattle.plan_cert.proofs.Wanted.{nat_cases, next_size, no_next_row, none_below, other_row, other_size, row_past, rows_below}
+use Rattle.plan_cert.proofs.Wanted.{nat_cases, next_size, no_next_row, none_below, other_row, other_size, row_past}
+use Rattle.plan_cert.proofs.Wanted.{rows_below}
 
 -- ---- rows
 

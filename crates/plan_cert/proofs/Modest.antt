@@ -1,5 +1,6 @@
 -- What a tree of one size costs is modest.
-use Rattle.std.proofs.Common.{◌≡◌, ℕ, zero, suc, ◌+◌, ◌-◌, ◌*◌, ◌≤◌, ◌==◌, Bool, true, false, if◌then◌else◌, nat_le, refl, arith}
+use Rattle.std.proofs.Common.{◌≡◌, ℕ, zero, suc, ◌+◌, ◌-◌, ◌*◌, ◌≤◌, ◌==◌, Bool, true, false, if◌then◌else◌, nat_le}
+use Rattle.std.proofs.Common.{refl, arith}
 use Rattle.std.proofs.Math.Nat.{mul-le-mul_right}
 use Rattle.matrix_meaning.specs.declared.Kind.{Kind}
 use Rattle.matrix_meaning.specs.declared.Kind.TheVariants.{Dft, Wht, Idft}
@@ -9,7 +10,8 @@ use Rattle.operators.specs.Sum.{sum_below}
 use Rattle.tree_model.specs.declared.tree.Rule.{Rule}
 use Rattle.tree_model.specs.declared.tree.Rule.TheVariants.{Gt, Ct, Split, Dim}
 use Rattle.tree_model.specs.Breakdown.{Breakdown, leaf, node, size_of, AllowsLeaf, IsWellFormed}
-use Rattle.tree_model.specs.Cost.{IsModest, cost_of, is_kernel, leaf_cost, node_root, product_cost, products_cost, rule_cost}
+use Rattle.tree_model.specs.Cost.{IsModest, cost_of, is_kernel, leaf_cost, node_root, product_cost, products_cost}
+use Rattle.tree_model.specs.Cost.{rule_cost}
 use Rattle.tree_model.proofs.CostBounds.{modest_long, modest_node, modest_short}
 
 sum_low : (n m : ℕ) (f : ℕ → ℕ) → ((k : ℕ) → f k ≤ m) → sum_below n f ≤ n * m

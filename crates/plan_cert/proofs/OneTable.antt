@@ -1,5 +1,6 @@
 -- A request has one table of chosen rows.
-use Rattle.std.proofs.Common.{◌≡◌, ◌+◌, ◌<◌, ℕ, zero, suc, List, [], ◌∷◌, length, refl, sym, ap, ap₂, subst, ◌∙◌, arith, ◌⊎◌, inl, inr}
+use Rattle.std.proofs.Common.{◌≡◌, ◌+◌, ◌<◌, ℕ, zero, suc, List, [], ◌∷◌, length, refl, sym, ap, ap₂, subst, ◌∙◌, arith}
+use Rattle.std.proofs.Common.{◌⊎◌, inl, inr}
 use Rattle.std.specs.Prelude.{Option, All, Any, AllPairs}
 use Rattle.std.specs.List.{slice_index_or}
 use Rattle.matrix_meaning.specs.declared.Request.{Request}
@@ -12,7 +13,8 @@ use Rattle.plan_cert.specs.Found.{closing_at}
 use Rattle.plan_cert.specs.Table.{IsRootOf, IsChosenRow, IsTable}
 use Rattle.plan_search.proofs.OneTree.{chosen_once}
 
-roots_same : (t : Breakdown) (a b : Option Rule) (r s u v : ℕ) → IsRootOf t a r s → IsRootOf t b u v → (a ≡ b) × (r ≡ u) × (s ≡ v)
+roots_same : (t : Breakdown) (a b : Option Rule) (r s u v : ℕ) → IsRootOf t a r s → IsRootOf t b u v →
+    (a ≡ b) × (r ≡ u) × (s ≡ v)
 roots_same (leaf d) a b r s u v p q = (p.0 ∙ sym q.0, p.1 ∙ sym q.1, p.2 ∙ sym q.2)
 roots_same (node rule x y) a b r s u v p q = (p.0 ∙ sym q.0, p.1 ∙ sym q.1, p.2 ∙ sym q.2)
 
@@ -42,7 +44,8 @@ IsCovered xs ys = (k : ℕ) (d : Row) → k < length xs → Any (λ (y : Row). y
 rising_tail : (x : Row) (xs : List Row) → IsRising (x ∷ xs) → IsRising xs
 rising_tail x xs h = λ i j d l m. h (suc i) (suc j) d (omega (arith, l)) (omega (arith, m))
 
-rising_head : (x : Row) (xs : List Row) → IsRising (x ∷ xs) → (k : ℕ) (d : Row) → k < length xs → x.size < (slice_index_or xs k d).size
+rising_head : (x : Row) (xs : List Row) → IsRising (x ∷ xs) → (k : ℕ) (d : Row) → k < length xs →
+    x.size < (slice_index_or xs k d).size
 rising_head x xs h k d l = h 0 (suc k) d (omega arith) (omega (arith, l))
 
 any_split : (P : Row → Type 0) (x : Row) (xs : List Row) → Any P (x ∷ xs) → P x ⊎ Any P xs
@@ -56,7 +59,8 @@ above_head y ys n h found =
     let there : (slice_index_or ys found.0 found.1).size ≡ n = ap (λ (z : Row). z.size) found.3 ∙ found.4 in
     omega (arith, low, there)
 
-heads_same : (x y : Row) (xs ys : List Row) → IsRising (x ∷ xs) → IsRising (y ∷ ys) → (y.size ≡ x.size) ⊎ Any (λ (z : Row). z.size ≡ x.size) ys
+heads_same : (x y : Row) (xs ys : List Row) → IsRising (x ∷ xs) → IsRising (y ∷ ys) →
+    (y.size ≡ x.size) ⊎ Any (λ (z : Row). z.size ≡ x.size) ys
     → (x.size ≡ y.size) ⊎ Any (λ (z : Row). z.size ≡ y.size) xs → x.size ≡ y.size
 heads_same x y xs ys hx hy (inl e) other = sym e
 heads_same x y xs ys hx hy (inr found) (inl e) = e
@@ -65,11 +69,13 @@ heads_same x y xs ys hx hy (inr found) (inr back) =
     let two = above_head x xs y.size hx back in
     absurd (omega (arith, one, two))
 
-tail_covered : (x y : Row) (xs ys : List Row) → x.size ≡ y.size → IsRising (x ∷ xs) → IsCovered (x ∷ xs) (y ∷ ys) → IsCovered xs ys
+tail_covered : (x y : Row) (xs ys : List Row) → x.size ≡ y.size → IsRising (x ∷ xs) → IsCovered (x ∷ xs) (y ∷ ys) →
+    IsCovered xs ys
 tail_covered x y xs ys same h covered k d l =
     cases (any_split (λ (z : Row). z.size ≡ (slice_index_or xs k d).size) y ys (covered (suc k) d (omega (arith, l))))
   where
-    cases : (y.size ≡ (slice_index_or xs k d).size) ⊎ Any (λ (z : Row). z.size ≡ (slice_index_or xs k d).size) ys → Any (λ (z : Row). z.size ≡ (slice_index_or xs k d).size) ys
+    cases : (y.size ≡ (slice_index_or xs k d).size) ⊎ Any (λ (z : Row). z.size ≡ (slice_index_or xs k d).size) ys →
+        Any (λ (z : Row). z.size ≡ (slice_index_or xs k d).size) ys
     cases (inl e) = let low = rising_head x xs h k d l in absurd (omega (arith, low, e, same))
     cases (inr found) = found
 

@@ -1,5 +1,6 @@
 -- A text has one verdict.
-use Rattle.std.proofs.Common.{◌≡◌, ℕ, ◌+◌, ◌≤◌, List, [], ◌∷◌, get_or, Option, None, Some, refl, sym, ap, ap₂, ◌∙◌, subst, inl, inr, arith}
+use Rattle.std.proofs.Common.{◌≡◌, ℕ, ◌+◌, ◌≤◌, List, [], ◌∷◌, get_or, Option, None, Some, refl, sym, ap, ap₂, ◌∙◌}
+use Rattle.std.proofs.Common.{subst, inl, inr, arith}
 use Rattle.serde_json.specs.Data.{Data, Items, no_items, item}
 use Rattle.serde_json.specs.Find.{as_array}
 use Rattle.matrix_meaning.specs.declared.Dimensions.{Dimensions}
@@ -15,7 +16,8 @@ use Rattle.plan_cert.specs.Found.{closing_at, IsFound, IsRowCost}
 use Rattle.plan_cert.specs.Certificate.{cost_at, IsRightRow, IsWrong, HasFirstWrong}
 use Rattle.plan_cert.specs.Document.{IsCertificate, IsJson}
 use Rattle.plan_cert.specs.Laws.{VerdictsAreOne}
-use Rattle.plan_cert.specs.Verdict.{joined, size_of_all, IsItemsVerdict, IsOptionVerdict, IsRightCertificate, IsTextVerdict, IsValueVerdict, IsWholeVerdict, IsWrongCertificate}
+use Rattle.plan_cert.specs.Verdict.{joined, size_of_all, IsItemsVerdict, IsOptionVerdict, IsRightCertificate}
+use Rattle.plan_cert.specs.Verdict.{IsTextVerdict, IsValueVerdict, IsWholeVerdict, IsWrongCertificate}
 use Rattle.plan_cert.proofs.RightRows.{three_cases}
 
 found_once : (c : Request) (costs : ℕ → ℕ) (d x y : ℕ) → IsFound c costs d x → IsFound c costs d y → x ≡ y
@@ -71,10 +73,12 @@ first_once c closing rows v w (i, h) (j, k) =
       ]
     ]
 
-rows_once : (c : Request) (d : Data) (rows others : List Row) → IsCertificate c d rows → IsCertificate c d others → rows ≡ others
+rows_once : (c : Request) (d : Data) (rows others : List Row) → IsCertificate c d rows → IsCertificate c d others →
+    rows ≡ others
 rows_once c d rows others h k = let same : Some rows ≡ Some others = sym h.reads ∙ k.reads in cc
 
-right_not_wrong : (c : Request) (d : Data) (cost : ℕ) (w : WrongRow) (rows others : List Row) → IsRightCertificate c d cost rows → IsWrongCertificate c d w others → ⊥
+right_not_wrong : (c : Request) (d : Data) (cost : ℕ) (w : WrongRow) (rows others : List Row) →
+    IsRightCertificate c d cost rows → IsWrongCertificate c d w others → ⊥
 right_not_wrong c d cost w rows others h k =
     let blank : Row = record { size = 0; cost = 0; rule = None; left = 0; right = 0 } in
     let first : HasFirstWrong (forward_of c) (closing_cost c) rows w =
@@ -108,13 +112,15 @@ json_once : (text : List ℕ) (x y : Data) → IsJson text x → IsJson text y �
 json_once text x y h k = let same : Some x ≡ Some y = sym h.reads ∙ k.reads in cc
 
 -- the verdict on a text's value is the text's
-pub verdict_of_json : (judged : Data → Verdict → Type 0) (text : List ℕ) (d : Data) (v : Verdict) → IsJson text d → judged d v → IsTextVerdict judged text v
+pub verdict_of_json : (judged : Data → Verdict → Type 0) (text : List ℕ) (d : Data) (v : Verdict) → IsJson text d →
+    judged d v → IsTextVerdict judged text v
 verdict_of_json judged text d (Least x) h k = (d, h, k)
 verdict_of_json judged text d Unread h k = λ e other. subst (λ (x : Data). judged x Unread) (json_once text d e h other) k
 verdict_of_json judged text d (Wrong n y z) h k = (d, h, k)
 
 -- where a value has one verdict, so has a text
-module _ (judged : Data → Verdict → Type 0) (once : (d : Data) (v w : Verdict) → judged d v → judged d w → v ≡ w) (text : List ℕ) where
+module _ (judged : Data → Verdict → Type 0) (once : (d : Data) (v w : Verdict) → judged d v → judged d w → v ≡ w)
+    (text : List ℕ) where
   both_read : (x y : Data) (v w : Verdict) → IsJson text x → IsJson text y → judged x v → judged y w → v ≡ w
   both_read x y v w h k p q = once x v w p (subst (λ (d : Data). judged d w) (sym (json_once text x y h k)) q)
 

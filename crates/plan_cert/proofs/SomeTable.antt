@@ -1,5 +1,7 @@
 -- Each request that admits a tree has a certificate.
-use Rattle.std.proofs.Common.{◌≡◌, ◌≢◌, ℕ, zero, suc, ◌+◌, ◌*◌, ◌%◌, ◌^◌, ◌<◌, ◌≤◌, ◌==◌, ◌++◌, List, [], ◌∷◌, All, length, Bool, true, false, if◌then◌else◌, Option, None, Some, refl, sym, subst, inl, inr, arith}
+use Rattle.std.proofs.Common.{◌≡◌, ◌≢◌, ℕ, zero, suc, ◌+◌, ◌*◌, ◌%◌, ◌^◌, ◌<◌, ◌≤◌, ◌==◌, ◌++◌, List, [], ◌∷◌, All}
+use Rattle.std.proofs.Common.{length, Bool, true, false, if◌then◌else◌, Option, None, Some, refl, sym, subst, inl, inr}
+use Rattle.std.proofs.Common.{arith}
 use Rattle.serde_json.specs.Data.{Data, Items, array, no_items, item}
 use Rattle.serde_json.specs.Written.{compact_text}
 use Rattle.matrix_meaning.specs.declared.Dimensions.{Dimensions}
@@ -25,7 +27,8 @@ use Rattle.plan_cert.specs.declared.certificate.Row.{Row}
 use Rattle.plan_cert.specs.Certificate.{HasRowsBelow, IsWanted}
 use Rattle.plan_cert.specs.Found.{closing_at}
 use Rattle.plan_cert.specs.Laws.{CertificatesExist}
-use Rattle.plan_cert.specs.Table.{AreTables, IsChosenRow, IsListOfTables, IsRootOf, IsTable, IsTableOf, IsWholeTable, table_data}
+use Rattle.plan_cert.specs.Table.{AreTables, IsChosenRow, IsListOfTables, IsRootOf, IsTable, IsTableOf, IsWholeTable}
+use Rattle.plan_cert.specs.Table.{table_data}
 use Rattle.plan_cert.proofs.ByParts.{by_parts, forward_divides, one_part, rest_divides}
 use Rattle.plan_cert.proofs.Chosen.{chosen_added, row_added, row_allowed}
 use Rattle.plan_cert.proofs.Closing.{modest_fits}
@@ -34,7 +37,8 @@ use Rattle.plan_cert.proofs.Listed.{certificate_written}
 use Rattle.plan_cert.proofs.Modest.{tree_modest}
 use Rattle.plan_cert.proofs.RightRows.{size_le}
 use Rattle.plan_cert.proofs.Wanted.{nat_cases, none_below, other_size, rows_below}
-use Rattle.plan_cert.proofs.Written.{AreWritten, IsWritten, list_written, more_written, none_written, table_written, written_line}
+use Rattle.plan_cert.proofs.Written.{AreWritten, IsWritten, list_written, more_written, none_written, table_written}
+use Rattle.plan_cert.proofs.Written.{written_line}
 
 -- ---- rows
 

@@ -1,5 +1,6 @@
 -- Each text has a verdict.
-use Rattle.std.proofs.Common.{◌≡◌, ◌⊎◌, ℕ, zero, suc, ◌+◌, ◌/◌, ◌%◌, ◌<◌, ◌≤◌, List, [], ◌∷◌, All, length, get_or, true, false, true≢false, Option, None, Some, refl, sym, subst, ◌∙◌, inl, inr, arith}
+use Rattle.std.proofs.Common.{◌≡◌, ◌⊎◌, ℕ, zero, suc, ◌+◌, ◌/◌, ◌%◌, ◌<◌, ◌≤◌, List, [], ◌∷◌, All, length, get_or, true}
+use Rattle.std.proofs.Common.{false, true≢false, Option, None, Some, refl, sym, subst, ◌∙◌, inl, inr, arith}
 use Rattle.std.proofs.lemmas.Bool.{cases_Bool, cases_eq}
 use Rattle.std.proofs.lemmas.List.{get_or_default}
 use Rattle.std.proofs.lemmas.Str.{IsUtf8-from_is_utf8, is_utf8-from_IsUtf8}
@@ -25,11 +26,13 @@ use Rattle.plan_cert.specs.declared.certificate.Row.{Row}
 use Rattle.plan_cert.specs.declared.certificate.WrongRow.{WrongRow}
 use Rattle.plan_cert.specs.declared.verdict.Verdict.{Verdict}
 use Rattle.plan_cert.specs.declared.verdict.Verdict.TheVariants.{Least, Unread, Wrong}
-use Rattle.plan_cert.specs.Certificate.{AllowsChoice, HasFirstWrong, HasRows, IsChoiceCostBelow, IsFoundBelow, IsRightRow, IsWrong, choice_cost, chosen_cost, cost_at}
+use Rattle.plan_cert.specs.Certificate.{AllowsChoice, HasFirstWrong, HasRows, IsChoiceCostBelow, IsFoundBelow}
+use Rattle.plan_cert.specs.Certificate.{IsRightRow, IsWrong, choice_cost, chosen_cost, cost_at}
 use Rattle.plan_cert.specs.Document.{IsCertificate, IsJson, document_rows}
 use Rattle.plan_cert.specs.Found.{HasNodeCost, IsChoiceCost, IsFound, IsRowCost, closing_at}
 use Rattle.plan_cert.specs.Laws.{VerdictsExist}
-use Rattle.plan_cert.specs.Verdict.{IsItemsVerdict, IsOptionVerdict, IsTextVerdict, IsValueVerdict, IsWholeVerdict, joined, size_of_all}
+use Rattle.plan_cert.specs.Verdict.{IsItemsVerdict, IsOptionVerdict, IsTextVerdict, IsValueVerdict, IsWholeVerdict}
+use Rattle.plan_cert.specs.Verdict.{joined, size_of_all}
 use Rattle.plan_cert.proofs.ByParts.{by_parts, one_part}
 use Rattle.plan_cert.proofs.Choices.{best_rule_bound, found_all, found_more, found_skip, no_rule_bound}
 use Rattle.plan_cert.proofs.Decided.{blank, decided_rows}

@@ -12,7 +12,8 @@ use Rattle.tree_model.specs.declared.tree.Rule.{Rule}
 use Rattle.tree_model.specs.Breakdown.{Breakdown, leaf, node, size_of}
 use Rattle.tree_model.specs.Cost.{cost_of}
 use Rattle.tree_model.specs.Order.{order_of}
-use Rattle.tree_model.specs.Admissible.{AllowsLeafAt, CanDivide, IsCandidate, IsChosen, IsChosenFor, IsLeast, IsLeastFor}
+use Rattle.tree_model.specs.Admissible.{AllowsLeafAt, CanDivide, IsCandidate, IsChosen, IsChosenFor, IsLeast}
+use Rattle.tree_model.specs.Admissible.{IsLeastFor}
 use Rattle.tree_model.proofs.OrderLaws.{order_flip}
 use Rattle.tree_model.proofs.Splits.{product_div, div_at_least_two}
 use Rattle.plan_search.specs.Search.{IsNoWorse, AnyTree, IsLeaf, HasLeft, HasLeftBelow, IsBestRule}
@@ -28,13 +29,15 @@ use Rattle.plan_search.proofs.TableLaws.{quotient_below}
 abbrev pub HasBest : Request → ℕ → (Breakdown → Type 0) → Type 0
 HasBest c d P = ((t : Breakdown) × IsBestTree c d P t) ⊎ ((u : Breakdown) → IsCandidate c d u → P u → ⊥)
 
-best_of_fewer : (c : Request) (d : ℕ) (P Q : Breakdown → Type 0) → ((u : Breakdown) → IsCandidate c d u → Q u → P u) → HasBest c d P → HasBest c d Q
+best_of_fewer : (c : Request) (d : ℕ) (P Q : Breakdown → Type 0) → ((u : Breakdown) → IsCandidate c d u → Q u → P u) →
+    HasBest c d P → HasBest c d Q
 best_of_fewer c d P Q sub (inl h) = inl (h.0, record { candidate = h.1.candidate; best = λ u k q. h.1.best u k (sub u k q) })
 best_of_fewer c d P Q sub (inr none) = inr (λ u k q. none u k (sub u k q))
 
 -- ---- the better of two trees
 
-by_order : (c : Request) (t u : Breakdown) (o : Ordering) → order_of t u ≡ o → cost_of c t ≡ cost_of c u → IsNoWorse c t u ⊎ IsNoWorse c u t
+by_order : (c : Request) (t u : Breakdown) (o : Ordering) → order_of t u ≡ o → cost_of c t ≡ cost_of c u →
+    IsNoWorse c t u ⊎ IsNoWorse c u t
 by_order c t u Less e same = inl (inr (same, ap is_gt e))
 by_order c t u Equal e same = inl (inr (same, ap is_gt e))
 by_order c t u Greater e same = inr (inr (sym same, ap is_gt (order_flip u t ∙ ap ordering_reverse e)))
@@ -94,7 +97,8 @@ best_leaf c d = elim (decided_leaf c d) [
 ]
 
 module _ (c : Request) (r s : ℕ) (hr : 2 ≤ r) (hs : 2 ≤ s) (le : r * s ≤ c.size) where
-  best_by_rule : (rule : Rule) → IsBestRule c r s rule → HasBest c r AnyTree → HasBest c s AnyTree → HasBest c (r * s) (HasLeft r)
+  best_by_rule : (rule : Rule) → IsBestRule c r s rule → HasBest c r AnyTree → HasBest c s AnyTree →
+      HasBest c (r * s) (HasLeft r)
   best_by_rule rule best (inl h) (inl k) = inl (
     node rule h.0 k.0,
     record {

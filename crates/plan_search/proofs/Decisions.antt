@@ -1,5 +1,6 @@
 -- What is decided: whether a request divides, and which rules and leaves it allows.
-use Rattle.std.proofs.Common.{◌≡◌, ◌⊎◌, ℕ, zero, suc, ◌*◌, ◌/◌, ◌%◌, ◌<◌, ◌≤◌, Bool, true, false, refl, sym, subst, inl, inr, arith}
+use Rattle.std.proofs.Common.{◌≡◌, ◌⊎◌, ℕ, zero, suc, ◌*◌, ◌/◌, ◌%◌, ◌<◌, ◌≤◌, Bool, true, false, refl, sym, subst, inl}
+use Rattle.std.proofs.Common.{inr, arith}
 use Rattle.std.specs.Int.{IsGcd}
 use Rattle.std.proofs.lemmas.Bool.{cases_lt, cases_eq, cases_Bool}
 use Rattle.std.proofs.lemmas.Nat.Gcd.{same_from_IsGcd}
@@ -143,26 +144,30 @@ rank_of_gt Dim = omega arith
 gt_is_best : (c : Request) (r s : ℕ) → AllowsNodeAt c Gt r s → IsBestRule c r s Gt
 gt_is_best c r s h = record { allowed = h; first = λ other k. rank_of_gt other; cheapest = λ other k. omega arith }
 
-first_but_gt : (c : Request) (r s : ℕ) (rule : Rule) → (AllowsNodeAt c Gt r s → ⊥) → rule_rank rule ≤ 2 → (other : Rule) → AllowsNodeAt c other r s → rule_rank rule ≤ rule_rank other
+first_but_gt : (c : Request) (r s : ℕ) (rule : Rule) → (AllowsNodeAt c Gt r s → ⊥) → rule_rank rule ≤ 2 →
+    (other : Rule) → AllowsNodeAt c other r s → rule_rank rule ≤ rule_rank other
 first_but_gt c r s rule no_gt low Gt k = absurd (no_gt k)
 first_but_gt c r s rule no_gt low Ct k = omega arith
 first_but_gt c r s rule no_gt low Split k = omega arith
 first_but_gt c r s rule no_gt low Dim k = omega arith
 
-ct_is_cheapest : (c : Request) (r s : ℕ) → (AllowsNodeAt c Gt r s → ⊥) → AllowsNodeAt c Ct r s → (other : Rule) → AllowsNodeAt c other r s → rule_cost c Ct r s ≤ rule_cost c other r s
+ct_is_cheapest : (c : Request) (r s : ℕ) → (AllowsNodeAt c Gt r s → ⊥) → AllowsNodeAt c Ct r s → (other : Rule) →
+    AllowsNodeAt c other r s → rule_cost c Ct r s ≤ rule_cost c other r s
 ct_is_cheapest c r s no_gt h Gt k = absurd (no_gt k)
 ct_is_cheapest c r s no_gt h Ct k = omega arith
 ct_is_cheapest c r s no_gt h Split k = absurd (one_of_two c.kind r s h.split.allowed k.split.allowed)
 ct_is_cheapest c r s no_gt h Dim k = absurd (no_dim c.kind r s k.split.allowed)
 
-none_of_three : (c : Request) (r s : ℕ) → (AllowsNodeAt c Gt r s → ⊥) → (AllowsNodeAt c Ct r s → ⊥) → (AllowsNodeAt c Split r s → ⊥) → (rule : Rule) → AllowsNodeAt c rule r s → ⊥
+none_of_three : (c : Request) (r s : ℕ) → (AllowsNodeAt c Gt r s → ⊥) → (AllowsNodeAt c Ct r s → ⊥) →
+    (AllowsNodeAt c Split r s → ⊥) → (rule : Rule) → AllowsNodeAt c rule r s → ⊥
 none_of_three c r s no_gt no_ct no_split Gt = no_gt
 none_of_three c r s no_gt no_ct no_split Ct = no_ct
 none_of_three c r s no_gt no_ct no_split Split = no_split
 none_of_three c r s no_gt no_ct no_split Dim = λ h. no_dim c.kind r s h.split.allowed
 
 -- the best rule for these parts, or none
-pub best_rule_of : (c : Request) (r s : ℕ) → ((rule : Rule) × IsBestRule c r s rule) ⊎ ((rule : Rule) → AllowsNodeAt c rule r s → ⊥)
+pub best_rule_of : (c : Request) (r s : ℕ) → ((rule : Rule) × IsBestRule c r s rule)
+    ⊎ ((rule : Rule) → AllowsNodeAt c rule r s → ⊥)
 best_rule_of c r s = elim (decided_node c Gt r s) [
   | inl gt ↦ inl (Gt, gt_is_best c r s gt)
   | inr no_gt ↦ elim (decided_node c Ct r s) [

@@ -108,7 +108,8 @@ root_fits c Dft r s h = h
 root_fits c Wht r s h = h
 root_fits c Idft r s h = h
 
-inner_candidate : (c : Request) (d : ℕ) (t : Breakdown) → IsWellFormed c.kind t → size_of t ≡ d → d < c.size → IsCandidate c d t
+inner_candidate : (c : Request) (d : ℕ) (t : Breakdown) → IsWellFormed c.kind t → size_of t ≡ d → d < c.size →
+    IsCandidate c d t
 inner_candidate c d t h e less = record { well_formed = h; size = e; root = λ full spread. absurd (omega arith) }
 
 clash : {b : Bool} → b ≡ true → b ≡ false → ⊥

@@ -16,5 +16,6 @@ found_where_divided c valid (Ok None) h can proper =
 found_where_divided c valid (Ok (Some plan)) h can proper = search rules
 found_where_divided c valid (Err e) h can proper = search rules
 
-pub best_at_size : (c : Request) (n : ℕ) (result : Result (Option Plan) NoMemory) → n ≡ c.size → IfOk result (λ o. IsBestOf c n AnyTree o) → IfOk result (λ o. IsBestOf c c.size AnyTree o)
+pub best_at_size : (c : Request) (n : ℕ) (result : Result (Option Plan) NoMemory) → n ≡ c.size →
+    IfOk result (λ o. IsBestOf c n AnyTree o) → IfOk result (λ o. IsBestOf c c.size AnyTree o)
 best_at_size c n result e h = subst (λ (m : ℕ). IfOk result (λ o. IsBestOf c m AnyTree o)) e h

@@ -1,5 +1,6 @@
 -- A request in range passes the tests.
-use Rattle.std.proofs.Common.{◌≡◌, ℕ, suc, ◌*◌, ◌-◌, ◌^◌, ◌<◌, ◌≤◌, ◌%◌, Bool, true, false, cond, eqb, leb, List, [], ◌∷◌, Result, Ok, Err, refl, sym, ap, subst, arith}
+use Rattle.std.proofs.Common.{◌≡◌, ℕ, suc, ◌*◌, ◌-◌, ◌^◌, ◌<◌, ◌≤◌, ◌%◌, Bool, true, false, cond, eqb, leb, List, []}
+use Rattle.std.proofs.Common.{◌∷◌, Result, Ok, Err, refl, sym, ap, subst, arith}
 use Rattle.std.specs.Prelude.{All}
 use Rattle.std.specs.Int.{IsGcd}
 use Rattle.std.proofs.lemmas.Bool.{leb-false, le-leb, lt-ltb, and_from}
@@ -16,10 +17,12 @@ use Rattle.matrix_meaning.specs.Dimensions.{dims_by, dims_of, product_of}
 use Rattle.matrix_meaning.specs.Valid.{AreDimensions, HasShape, HasUnit, IsBetween, IsInRange, IsSeveral}
 use Rattle.operators.specs.Sizes.{max_size}
 use Rattle.request_text.specs.declared.fault.Field.{Field}
-use Rattle.request_text.specs.declared.fault.Field.TheVariants.{Size, Mod, Root, Procs, Line, Lanes, Unroll, Budget, Weight}
+use Rattle.request_text.specs.declared.fault.Field.TheVariants.{Size, Mod, Root, Procs, Line, Lanes, Unroll, Budget}
+use Rattle.request_text.specs.declared.fault.Field.TheVariants.{Weight}
 use Rattle.request_text.specs.declared.fault.RequestFault.{RequestFault}
 use Rattle.request_text.specs.declared.fault.RequestFault.TheVariants.{Range, Shape, LanesLine, NotUnit}
-use Rattle.request_text.specs.Limits.{◌>>◌, within, below, sizes_within, products_within, sized, roots_below, shaped, divided, coprime, divisible, limited, tested, judged, judged_conv}
+use Rattle.request_text.specs.Limits.{◌>>◌, within, below, sizes_within, products_within, sized, roots_below, shaped}
+use Rattle.request_text.specs.Limits.{divided, coprime, divisible, limited, tested, judged, judged_conv}
 use Rattle.request_text.proofs.CommonFactor.{common_factor_is}
 use Rattle.request_text.proofs.Limits.{passed}
 use Rattle.request_text.proofs.Said.{roots_in, sizes_in}

@@ -1,5 +1,6 @@
 -- What the tests of the request that a line spells say is the answer for the line.
-use Rattle.std.proofs.Common.{◌≡◌, ℕ, ◌*◌, ◌-◌, ◌^◌, ◌%◌, Bool, true, false, cond, eqb, leb, List, [], ◌∷◌, Result, Ok, Err, sym, subst}
+use Rattle.std.proofs.Common.{◌≡◌, ℕ, ◌*◌, ◌-◌, ◌^◌, ◌%◌, Bool, true, false, cond, eqb, leb, List, [], ◌∷◌, Result, Ok}
+use Rattle.std.proofs.Common.{Err, sym, subst}
 use Rattle.std.specs.Int.{is_power_of_two}
 use Rattle.std.specs.Prelude.{IfOk}
 use Rattle.matrix_meaning.specs.declared.Dimension.{Dimension}
@@ -12,10 +13,12 @@ use Rattle.matrix_meaning.specs.Valid.{IsInRange}
 use Rattle.operators.specs.Sizes.{max_size}
 use Rattle.request_text.specs.Answer.{Answers, AnswersBy, ConvAnswers}
 use Rattle.request_text.specs.ConvLine.{conv_line}
-use Rattle.request_text.specs.declared.fault.Field.TheVariants.{Size, Mod, Root, Procs, Line, Lanes, Unroll, Budget, Weight}
+use Rattle.request_text.specs.declared.fault.Field.TheVariants.{Size, Mod, Root, Procs, Line, Lanes, Unroll, Budget}
+use Rattle.request_text.specs.declared.fault.Field.TheVariants.{Weight}
 use Rattle.request_text.specs.declared.fault.RequestFault.{RequestFault}
 use Rattle.request_text.specs.declared.fault.RequestFault.TheVariants.{Syntax, Range, Shape, LanesLine, NotUnit}
-use Rattle.request_text.specs.Limits.{◌>>◌, within, below, sizes_within, products_within, sized, roots_below, shaped, divided, common_factor, coprime, divisible, limited, tested, judged, judged_conv}
+use Rattle.request_text.specs.Limits.{◌>>◌, within, below, sizes_within, products_within, sized, roots_below, shaped}
+use Rattle.request_text.specs.Limits.{divided, common_factor, coprime, divisible, limited, tested, judged, judged_conv}
 use Rattle.request_text.specs.Line.{request_line}
 use Rattle.request_text.proofs.Limits.{coprime_is, in_range, passed, passes}
 use Rattle.request_text.proofs.Said.{IsSaid, conv_said, request_said}

@@ -1,5 +1,6 @@
 -- What the tests of a request say.
-use Rattle.std.proofs.Common.{◌≡◌, ℕ, ◌*◌, ◌-◌, ◌^◌, ◌<◌, ◌≤◌, ◌%◌, Bool, true, false, cond, eqb, ltb, leb, ◌&&◌, List, [], ◌∷◌, Result, Ok, Err, refl, sym, subst, ◌∙◌, arith}
+use Rattle.std.proofs.Common.{◌≡◌, ℕ, ◌*◌, ◌-◌, ◌^◌, ◌<◌, ◌≤◌, ◌%◌, Bool, true, false, cond, eqb, ltb, leb, ◌&&◌, List}
+use Rattle.std.proofs.Common.{[], ◌∷◌, Result, Ok, Err, refl, sym, subst, ◌∙◌, arith}
 use Rattle.std.specs.Prelude.{All}
 use Rattle.std.specs.Int.{is_power_of_two, IsGcd}
 use Rattle.std.proofs.lemmas.Bool.{leb-true, ltb-true, eqb-true, and_parts}
@@ -15,10 +16,12 @@ use Rattle.matrix_meaning.specs.Dimensions.{dims_by, dims_of, product_of}
 use Rattle.matrix_meaning.specs.Valid.{AreDimensions, HasShape, HasUnit, IsBetween, IsInRange, IsSeveral}
 use Rattle.operators.specs.Sizes.{max_size}
 use Rattle.request_text.specs.declared.fault.Field.{Field}
-use Rattle.request_text.specs.declared.fault.Field.TheVariants.{Size, Mod, Root, Procs, Line, Lanes, Unroll, Budget, Weight}
+use Rattle.request_text.specs.declared.fault.Field.TheVariants.{Size, Mod, Root, Procs, Line, Lanes, Unroll, Budget}
+use Rattle.request_text.specs.declared.fault.Field.TheVariants.{Weight}
 use Rattle.request_text.specs.declared.fault.RequestFault.{RequestFault}
 use Rattle.request_text.specs.declared.fault.RequestFault.TheVariants.{Range, Shape, LanesLine, NotUnit}
-use Rattle.request_text.specs.Limits.{◌>>◌, within, below, sizes_within, products_within, sized, roots_below, shaped, divided, common_factor, coprime, divisible, limited, tested}
+use Rattle.request_text.specs.Limits.{◌>>◌, within, below, sizes_within, products_within, sized, roots_below, shaped}
+use Rattle.request_text.specs.Limits.{divided, common_factor, coprime, divisible, limited, tested}
 use Rattle.request_text.proofs.CommonFactor.{common_factor_is, gcd_exists}
 use Rattle.request_text.proofs.Said.{IsProduct, IsSaid, roots_in, sizes_in}
 

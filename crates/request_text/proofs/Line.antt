@@ -1,5 +1,6 @@
 -- The reader of the request line reads by its grammar.
-use Rattle.std.proofs.Common.{◌≡◌, ℕ, ◌<◌, ◌≤◌, true, List, [], ◌∷◌, ◌++◌, refl, sym, ap, ◌∙◌, subst, append_assoc, codes, map, Result, arith}
+use Rattle.std.proofs.Common.{◌≡◌, ℕ, ◌<◌, ◌≤◌, true, List, [], ◌∷◌, ◌++◌, refl, sym, ap, ◌∙◌, subst, append_assoc}
+use Rattle.std.proofs.Common.{codes, map, Result, arith}
 use Rattle.matrix_meaning.specs.declared.Kind.{Kind}
 use Rattle.matrix_meaning.specs.declared.Kind.TheVariants.{Dft, Wht, Idft}
 use Rattle.matrix_meaning.specs.declared.Request.{Request}
@@ -9,9 +10,11 @@ use Rattle.grammar.proofs.Lists.{numbers_reader}
 use Rattle.grammar.proofs.Whole.{whole_judges}
 use Rattle.grammar.proofs.Numbers.{NoDigit}
 use Rattle.grammar.proofs.Places.{IsReader, Leaves, pure_reader, bind_reader}
-use Rattle.grammar.proofs.Parts.{Anything, Nothing, Behind, Keeps, behind_anything, keeps_pure, keeps_then, leaves_at_end, named_no_digit, one_of_reader, named_number_reader, is_wordy}
+use Rattle.grammar.proofs.Parts.{Anything, Nothing, Behind, Keeps, behind_anything, keeps_pure, keeps_then}
+use Rattle.grammar.proofs.Parts.{leaves_at_end, named_no_digit, one_of_reader, named_number_reader, is_wordy}
 use Rattle.grammar.proofs.OptionalParts.{BehindParts, parts_reader, parts_no_digit, parts_end}
-use Rattle.request_text.specs.Line.{above_all, dimension, dimensions, kinds, more_sizes, optional_parts, request_line, rooted, rootless}
+use Rattle.request_text.specs.Line.{above_all, dimension, dimensions, kinds, more_sizes, optional_parts, request_line}
+use Rattle.request_text.specs.Line.{rooted, rootless}
 use Rattle.request_text.specs.Reading.{dimension_at, dimensions_at, request_at, rooted_at}
 
 pub pos : 0 < above_all

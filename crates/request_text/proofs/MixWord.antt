@@ -1,11 +1,13 @@
 -- The reader of turns and drains reads by its grammar.
-use Rattle.std.proofs.Common.{◌≡◌, ℕ, zero, suc, ◌≤◌, ◌^◌, List, [], ◌∷◌, ◌++◌, length, refl, sym, ap, subst, ◌∙◌, codes, arith, Result, inl, inr}
+use Rattle.std.proofs.Common.{◌≡◌, ℕ, zero, suc, ◌≤◌, ◌^◌, List, [], ◌∷◌, ◌++◌, length, refl, sym, ap, subst, ◌∙◌}
+use Rattle.std.proofs.Common.{codes, arith, Result, inl, inr}
 use Rattle.std.proofs.lemmas.Bool.{false≢true}
 use Rattle.grammar.specs.Grammar.{pure, word, Follows, Judges}
 use Rattle.grammar.specs.Reading.{whole, many_at}
 use Rattle.grammar.proofs.Numbers.{NoDigit}
 use Rattle.grammar.proofs.Places.{IsReader, Leaves, Excludes, pure_reader, optional_reader, bind_reader}
-use Rattle.grammar.proofs.Parts.{Anything, Nothing, Behind, Keeps, behind_anything, behind_nothing, keeps_pure, keeps_then, leaves_at_end, one_of_reader, number_reader, word_reader}
+use Rattle.grammar.proofs.Parts.{Anything, Nothing, Behind, Keeps, behind_anything, behind_nothing, keeps_pure}
+use Rattle.grammar.proofs.Parts.{keeps_then, leaves_at_end, one_of_reader, number_reader, word_reader}
 use Rattle.grammar.proofs.Whole.{whole_judges}
 use Rattle.icode.specs.declared.event.Event.{Event}
 use Rattle.request_text.specs.declared.mix.Letter.TheVariants as letters
@@ -22,7 +24,8 @@ next_reader : IsReader NoDigit next_event next_event_at
 next_reader = bind_reader Anything NoDigit (word (codes ",")) (λ _. event) _ (λ _. event_at) (word_reader Anything (codes ",")) (λ t u l. event_reader) (λ t. behind_anything NoDigit event)
 
 -- what begins with a comma has no digit in front
-comma_no_digit : {B : Type 0} (C : List ℕ → Type 0) (L : Event → List ℕ → B → Type 0) → Leaves NoDigit C (Follows next_event L)
+comma_no_digit : {B : Type 0} (C : List ℕ → Type 0) (L : Event → List ℕ → B → Type 0) →
+    Leaves NoDigit C (Follows next_event L)
 comma_no_digit C L u b v l c =
     let e : u ≡ (codes "," ++ l.begins.rest) ++ l.rest = l.whole ∙ ap (λ y. y ++ l.rest) (l.begins.whole ∙ ap (λ y. y ++ l.begins.rest) l.begins.begins) in
     subst (λ y. NoDigit (y ++ v)) (sym e) refl
@@ -41,7 +44,8 @@ more_no_digit (suc count) = λ u b v l c. elim l [
   | inr l2 ↦ comma_no_digit NoDigit _ u b v l2 c
 ]
 
-more_leaves : (count : ℕ) (first : Event) → Leaves NoDigit (Behind (codes ",")) (Follows (more_events count) (λ others. pure (first ∷ others)))
+more_leaves : (count : ℕ) (first : Event) → Leaves NoDigit (Behind (codes ","))
+    (Follows (more_events count) (λ others. pure (first ∷ others)))
 more_leaves count first u b v l c =
     keeps_then NoDigit (more_events count) (λ others. pure (first ∷ others)) (more_no_digit count) (λ others. keeps_pure NoDigit (first ∷ others)) u b v l c.no_digit
 
@@ -55,7 +59,8 @@ more_reader (suc count) =
     (λ first. more_leaves count first))
     (comma_excluded _)
 
-all_leaves : (count : ℕ) (first : Event) → Leaves NoDigit Nothing (Follows (more_events count) (λ others. pure (first ∷ others)))
+all_leaves : (count : ℕ) (first : Event) → Leaves NoDigit Nothing
+    (Follows (more_events count) (λ others. pure (first ∷ others)))
 all_leaves count first u b v l c =
     keeps_then NoDigit (more_events count) (λ others. pure (first ∷ others)) (more_no_digit count) (λ others. keeps_pure NoDigit (first ∷ others)) u b v l (subst NoDigit (sym c) refl)
 

@@ -1,5 +1,6 @@
 -- What a line says of every request that it spells.
-use Rattle.std.proofs.Common.{◌≡◌, ℕ, suc, ◌≤◌, List, [], ◌∷◌, length, map, refl, sym, ap, ◌∙◌, subst, arith, codes, ◌^◌}
+use Rattle.std.proofs.Common.{◌≡◌, ℕ, suc, ◌≤◌, List, [], ◌∷◌, length, map, refl, sym, ap, ◌∙◌, subst, arith, codes}
+use Rattle.std.proofs.Common.{◌^◌}
 use Rattle.matrix_meaning.specs.declared.Dimension.{Dimension}
 use Rattle.matrix_meaning.specs.declared.Dimensions.{Dimensions}
 use Rattle.matrix_meaning.specs.declared.Dimensions.TheVariants.{One, Two, Three, Four}

@@ -30,7 +30,8 @@ pub makes_one : Makes one_step 1
 makes_one = record { each = λ v lt. refl }
 
 -- a stride and then another
-pub makes_both : (s t both : Stride) (m n : ℕ) → Makes s m → Makes t n → ((v : ℕ) → moved both v ≡ moved t (moved s v)) → Makes both (m + n)
+pub makes_both : (s t both : Stride) (m n : ℕ) → Makes s m → Makes t n →
+    ((v : ℕ) → moved both v ≡ moved t (moved s v)) → Makes both (m + n)
 makes_both s t both m n first second e = record {
   each = λ v lt.
       e v ∙ second.each (moved s v) (mod-lt (v * s.multiplier + s.increment) (omega arith)) ∙ ap (state_after n) (first.each v lt)

@@ -12,7 +12,8 @@ use Rattle.runs.proofs.Acts.{one_more_acts, none_act}
 use Rattle.runs.proofs.TwoMachines.{walked_events}
 
 module _ (code : Code) (is : IsCode code) where
-  all_act : (n : ℕ) (b : Buffered) → length (buffered_completion code b) < n → IsBusy code b → CompletionActs code (queued b)
+  all_act : (n : ℕ) (b : Buffered) → length (buffered_completion code b) < n → IsBusy code b →
+      CompletionActs code (queued b)
   all_act zero b lt g = absurd (omega arith)
   all_act (suc n) b lt g =
       ⊎_elim
@@ -23,7 +24,8 @@ module _ (code : Code) (is : IsCode code) where
       (λ (past : length code.lists ≤ b.state.phase). none_act code (queued b) (completion_past code is b g past))
       (cases_lt b.state.phase (length code.lists))
 
-  pub completion_of_events : (x : List ℕ) (events : List Event) → CompletionActs code (walked code (queued (buffered_start code x)) events)
+  pub completion_of_events : (x : List ℕ) (events : List Event) →
+      CompletionActs code (walked code (queued (buffered_start code x)) events)
   completion_of_events x events =
       let b : Buffered = buffered_run code (buffered_start code x) events in
       subst (CompletionActs code) (sym (walked_events code events (buffered_start code x)))

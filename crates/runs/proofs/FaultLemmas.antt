@@ -1,5 +1,6 @@
 -- What follows where a fault met a step.
-use Rattle.std.proofs.Common.{◌≡◌, ℕ, ◌+◌, List, [], ◌∷◌, ◌++◌, length, Ok, Err, Result, arith, sym, ap, ap₂, ◌∙◌, subst, append_assoc}
+use Rattle.std.proofs.Common.{◌≡◌, ℕ, ◌+◌, List, [], ◌∷◌, ◌++◌, length, Ok, Err, Result, arith, sym, ap, ap₂, ◌∙◌}
+use Rattle.std.proofs.Common.{subst, append_assoc}
 use Rattle.std.specs.Prelude.{OnErr}
 use Rattle.std.specs.declared.option.Option.{Option}
 use Rattle.std.specs.Io.KnownBytes.{Appends}
@@ -21,7 +22,8 @@ on_err (Ok v) f p = p
 on_err (Err e) f p = f p
 
 -- more steps would have followed those that are done
-pub passes_more : (code : Code) (s : Standing) (xs ys : List Event) (t : Standing) → PassesThrough code s xs t → PassesThrough code s (xs ++ ys) t
+pub passes_more : (code : Code) (s : Standing) (xs ys : List Event) (t : Standing) → PassesThrough code s xs t →
+    PassesThrough code s (xs ++ ys) t
 passes_more code s xs ys t p =
     record {
       front = p.front;
@@ -31,7 +33,8 @@ passes_more code s xs ys t p =
     }
 
 module _ {code : Code} where
-  module _ {s : Standing} {number : ℕ} {steps : List Event} {t : Standing} {a b : Option (List ℕ)} (m : FaultMet code s number steps t a b) where
+  module _ {s : Standing} {number : ℕ} {steps : List Event} {t : Standing} {a b : Option (List ℕ)}
+      (m : FaultMet code s number steps t a b) where
     -- the output took a front of all lines
     pub met_prefix : AppendsPrefix a b (step_lines code s number steps)
     met_prefix =
@@ -61,7 +64,9 @@ module _ {code : Code} where
         }
 
   -- it met a step behind others, whose lines are all written
-  pub met_behind : (s : Standing) (xs ys : List Event) (t : Standing) (a b c : Option (List ℕ)) → Appends a b (step_lines code s 0 xs) → FaultMet code (walked code s xs) (length xs) ys t b c → FaultMet code s 0 (xs ++ ys) t a c
+  pub met_behind : (s : Standing) (xs ys : List Event) (t : Standing) (a b c : Option (List ℕ)) →
+      Appends a b (step_lines code s 0 xs) → FaultMet code (walked code s xs) (length xs) ys t b c →
+      FaultMet code s 0 (xs ++ ys) t a c
   met_behind s xs ys t a b c took m =
       let there : walked code (walked code s xs) m.front ≡ walked code s (xs ++ m.front) = sym (walked-append code xs m.front s) in
       let n : length xs + length m.front ≡ 0 + length (xs ++ m.front) = omega (arith, length-append xs m.front) in
@@ -79,7 +84,8 @@ module _ {code : Code} where
       }
 
 -- a machine that is the same goes on behind the steps by those that complete them
-module _ (own code : Code) (same : own ≡ code) (u s : Standing) (events : List Event) (e : u ≡ walked code s events) (t : Standing) where
+module _ (own code : Code) (same : own ≡ code) (u s : Standing) (events : List Event) (e : u ≡ walked code s events)
+    (t : Standing) where
   pub passes_after : PassesThrough own u (completion_at own u) t → PassesThrough code s (completed code s events) t
   passes_after p =
       let last : Standing = walked code s events in
@@ -92,7 +98,8 @@ module _ (own code : Code) (same : own ≡ code) (u s : Standing) (events : List
         after = here.after ∙ sym (walked-append code events here.front s);
       }
 
-  pub met_after : (count : ℕ) → count ≡ length events → (a b c : Option (List ℕ)) → Appends a b (step_lines code s 0 events)
+  pub met_after : (count : ℕ) → count ≡ length events → (a b c : Option (List ℕ)) →
+      Appends a b (step_lines code s 0 events)
       → FaultMet own u count (completion_at own u) t b c → FaultMet code s 0 (completed code s events) t a c
   met_after count h a b c took m =
       met_behind s events (completion_at code (walked code s events)) t a b c took

@@ -1,5 +1,6 @@
 -- Steps of a machine whose lines are written one by one.
-use Rattle.std.proofs.Common.{◌≡◌, ℕ, ◌+◌, List, [], ◌∷◌, ◌++◌, length, arith, sym, ap, ap₂, ◌∙◌, subst, refl, append_assoc, append-nil}
+use Rattle.std.proofs.Common.{◌≡◌, ℕ, ◌+◌, List, [], ◌∷◌, ◌++◌, length, arith, sym, ap, ap₂, ◌∙◌, subst, refl}
+use Rattle.std.proofs.Common.{append_assoc, append-nil}
 use Rattle.std.specs.declared.option.Option.{Option}
 use Rattle.std.specs.Io.KnownBytes.{Appends}
 use Rattle.std.proofs.KnownBytes.{Appends-nil, Appends-trans}
@@ -28,7 +29,8 @@ module _ {code : Code} {a : Option (List ℕ)} {first : Standing} {from : ℕ} {
       let e : from ≡ from + 0 = omega arith in
       record { past = []; whole = refl; here = refl; count = e; took = Appends-nil a }
 
-  module _ {b : Option (List ℕ)} {s : Standing} {number : ℕ} {left : List Event} (g : Goes code a b first from all s number left) where
+  module _ {b : Option (List ℕ)} {s : Standing} {number : ℕ} {left : List Event}
+      (g : Goes code a b first from all s number left) where
     pub goes_passes : PassesThrough code first all s
     goes_passes = record { front = g.past; rest = left; whole = g.whole; after = g.here }
 
@@ -38,11 +40,13 @@ module _ {code : Code} {a : Option (List ℕ)} {first : Standing} {from : ℕ} {
         (subst (λ l. Appends a b (step_lines code first from l)) over g.took, g.here ∙ ap (walked code first) over)
 
     -- the next step
-    module _ (c : Option (List ℕ)) (q : Event) (rest : List Event) (e : left ≡ q ∷ rest) (t : Standing) (moved : t ≡ walked code s (q ∷ [])) where
+    module _ (c : Option (List ℕ)) (q : Event) (rest : List Event) (e : left ≡ q ∷ rest) (t : Standing)
+        (moved : t ≡ walked code s (q ∷ [])) where
       there : t ≡ walked code first (g.past ++ q ∷ [])
       there = moved ∙ (ap (λ (u : Standing). walked code u (q ∷ [])) g.here ∙ sym (walked-append code g.past (q ∷ []) first))
 
-      line : step_lines code s number (q ∷ []) ≡ step_lines code (walked code first g.past) (from + length g.past) (q ∷ [])
+      line : step_lines code s number (q ∷ []) ≡ step_lines code (walked code first g.past) (from + length g.past)
+          (q ∷ [])
       line = ap₂ (λ (u : Standing) n. step_lines code u n (q ∷ [])) g.here g.count
 
       pub goes_on : Appends b c (step_lines code s number (q ∷ [])) → Goes code a c first from all t (number + 1) rest

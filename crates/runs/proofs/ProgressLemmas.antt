@@ -1,5 +1,7 @@
 -- Vectors that go on behind others.
-use Rattle.std.proofs.Common.{◌≡◌, ◌<◌, ◌≤◌, ◌+◌, ◌≢◌, ◌-◌, ℕ, suc, zero, Bool, true, false, List, [], ◌∷◌, ◌++◌, None, Some, Ok, Err, Result, length, take, cond, nat_lt, refl, sym, ap, subst, ◌∙◌, arith, append-nil}
+use Rattle.std.proofs.Common.{◌≡◌, ◌<◌, ◌≤◌, ◌+◌, ◌≢◌, ◌-◌, ℕ, suc, zero, Bool, true, false, List, [], ◌∷◌, ◌++◌, None}
+use Rattle.std.proofs.Common.{Some, Ok, Err, Result, length, take, cond, nat_lt, refl, sym, ap, subst, ◌∙◌, arith}
+use Rattle.std.proofs.Common.{append-nil}
 use Rattle.std.proofs.lemmas.Grind.{common_steps}
 use Rattle.std.specs.List.{list_all}
 use Rattle.std.specs.declared.option.Option.{Option}
@@ -20,7 +22,8 @@ use Rattle.runs.specs.Stream.{Reads, vectors_of, good_front, bad_after, vectors_
 use Rattle.runs.specs.StreamFault.{stream_fault}
 use Rattle.runs.specs.declared.stream.StreamFault.{StreamFault}
 use Rattle.runs.specs.declared.stream.StreamFault.TheVariants.{TooLong, WriteFault}
-use Rattle.runs.proofs.StreamLemmas.{Once, no_stream, stream_push, stream_end, stream_fault_at, stream_unwritten, answered_with, fault_within, seen_front, state_behind-of, texts_same}
+use Rattle.runs.proofs.StreamLemmas.{Once, no_stream, stream_push, stream_end, stream_fault_at, stream_unwritten}
+use Rattle.runs.proofs.StreamLemmas.{answered_with, fault_within, seen_front, state_behind-of, texts_same}
 
 -- nothing was read yet
 pub come_none : (modulus size : ℕ) (cut : Cut) (feed : Fed) (a : Option (List ℕ)) → cut ≡ record { size = size; done = 0; ended = false } → HasCome modulus cut feed feed a a []
@@ -30,9 +33,12 @@ come_none modulus size cut feed a new = record {
 }
 
 -- a vector more
-pub come_push : (modulus : ℕ) (cut next : Cut) (old now new : Fed) (a b c : Option (List ℕ)) (seen : List (List ℕ)) (read vector : List ℕ)
-    → 0 < cut.size → next.size ≡ cut.size → next.done ≡ cut.done + cut.size → new.taken ≤ limit → Consumes b c read → Once cut.ended next.ended read
-    → GivesVector cut.size modulus cut.done now new read next.ended vector (Ok Vector) → HasCome modulus cut old now a b seen
+pub come_push : (modulus : ℕ) (cut next : Cut) (old now new : Fed) (a b c : Option (List ℕ)) (seen : List (List ℕ))
+    (read vector : List ℕ)
+    → 0 < cut.size → next.size ≡ cut.size → next.done ≡ cut.done + cut.size → new.taken ≤ limit → Consumes b c read →
+    Once cut.ended next.ended read
+    → GivesVector cut.size modulus cut.done now new read next.ended vector (Ok Vector) →
+    HasCome modulus cut old now a b seen
     → HasCome modulus next old new a c (seen ++ vector ∷ [])
 come_push modulus cut next old now new a b c seen read vector some size done within r once given h =
     let pushed = stream_push a b c old.taken now new cut.ended next.ended cut.size modulus cut.done seen read vector some h.progress r once given in
@@ -43,8 +49,10 @@ come_push modulus cut next old now new a b c seen read vector some size done wit
     }
 
 -- what was read is an answer to all data
-pub reads_data : (size modulus : ℕ) (old new : Fed) (before after : Option (List ℕ)) (vectors : List (List ℕ)) (result : Result (Unit {0}) StreamFault) (read : List ℕ)
-    → Consumes before after read × Reads size modulus old new read (IsOver after) vectors result → (result ≢ Err TooLong → new.taken ≤ limit)
+pub reads_data : (size modulus : ℕ) (old new : Fed) (before after : Option (List ℕ)) (vectors : List (List ℕ))
+    (result : Result (Unit {0}) StreamFault) (read : List ℕ)
+    → Consumes before after read × Reads size modulus old new read (IsOver after) vectors result →
+    (result ≢ Err TooLong → new.taken ≤ limit)
     → ReadsData size modulus old new before after vectors result
 reads_data size modulus old new before after vectors result read s within = record {
   read = read;
@@ -54,8 +62,10 @@ reads_data size modulus old new before after vectors result read s within = reco
 }
 
 -- the data end
-pub come_end : (modulus : ℕ) (cut : Cut) (ended : Bool) (old now new : Fed) (a b c : Option (List ℕ)) (seen : List (List ℕ)) (read vector : List ℕ)
-    → 0 < cut.size → new.taken ≤ limit → Consumes b c read → Once cut.ended ended read → GivesVector cut.size modulus cut.done now new read ended vector (Ok End) → (ended ≡ true → IsOver c)
+pub come_end : (modulus : ℕ) (cut : Cut) (ended : Bool) (old now new : Fed) (a b c : Option (List ℕ))
+    (seen : List (List ℕ)) (read vector : List ℕ)
+    → 0 < cut.size → new.taken ≤ limit → Consumes b c read → Once cut.ended ended read →
+    GivesVector cut.size modulus cut.done now new read ended vector (Ok End) → (ended ≡ true → IsOver c)
     → HasCome modulus cut old now a b seen → ReadsData cut.size modulus old new a c seen (Ok tt)
 come_end modulus cut ended old now new a b c seen read vector some within r once given end h =
     reads_data cut.size modulus old new a c seen (Ok tt) (h.progress.bytes ++ read)
@@ -65,8 +75,10 @@ abbrev failed : DataFault → Result Next DataFault
 failed fault = Err fault
 
 -- or are faulty
-pub come_fault : (modulus : ℕ) (cut : Cut) (ended : Bool) (old now new : Fed) (a b c : Option (List ℕ)) (seen : List (List ℕ)) (read vector : List ℕ) (fault : DataFault)
-    → 0 < cut.size → (failed fault ≢ failed data_fault.TooLong → new.taken ≤ limit) → Consumes b c read → cut.ended ≡ false
+pub come_fault : (modulus : ℕ) (cut : Cut) (ended : Bool) (old now new : Fed) (a b c : Option (List ℕ))
+    (seen : List (List ℕ)) (read vector : List ℕ) (fault : DataFault)
+    → 0 < cut.size → (failed fault ≢ failed data_fault.TooLong → new.taken ≤ limit) → Consumes b c read →
+    cut.ended ≡ false
     → GivesVector cut.size modulus cut.done now new read ended vector (Err fault) → (ended ≡ true → IsOver c)
     → HasCome modulus cut old now a b seen → ReadsData cut.size modulus old new a c seen (Err (stream_fault fault))
 come_fault modulus cut ended old now new a b c seen read vector fault some within r going given end h =
@@ -86,14 +98,17 @@ fault_reads data_fault.ReadFault = λ e. cc
 
 -- the output fails behind what was read
 pub come_unwritten : (modulus : ℕ) (cut : Cut) (old new : Fed) (a c : Option (List ℕ)) (seen : List (List ℕ))
-    → 0 < cut.size → new.taken ≤ limit → (cut.ended ≡ true → IsOver c) → HasCome modulus cut old new a c seen → ReadsData cut.size modulus old new a c seen (Err WriteFault)
+    → 0 < cut.size → new.taken ≤ limit → (cut.ended ≡ true → IsOver c) → HasCome modulus cut old new a c seen →
+    ReadsData cut.size modulus old new a c seen (Err WriteFault)
 come_unwritten modulus cut old new a c seen some within end h =
     reads_data cut.size modulus old new a c seen (Err WriteFault) h.progress.bytes
     (h.progress.consumed, stream_unwritten a c old new cut.ended cut.size modulus cut.done seen (IsOver c) some h.progress end) (λ _. within)
 
 -- a run from the first vector on
-pub streams_new : {S : Type 0} (text : List ℕ → List ℕ) (leaves : List ℕ → S) (size modulus : ℕ) (old new : Fed) (before after out out' : Option (List ℕ)) (first last : S) (result : Result (Unit {0}) StreamFault)
-    → StreamsBehind [] text leaves size modulus old new before after out out' first last result → Streams text leaves size modulus old new before after out out' first last result
+pub streams_new : {S : Type 0} (text : List ℕ → List ℕ) (leaves : List ℕ → S) (size modulus : ℕ) (old new : Fed)
+    (before after out out' : Option (List ℕ)) (first last : S) (result : Result (Unit {0}) StreamFault)
+    → StreamsBehind [] text leaves size modulus old new before after out out' first last result →
+    Streams text leaves size modulus old new before after out out' first last result
 streams_new text leaves size modulus old new before after out out' first last result s = record {
   read = s.reads.read;
   vectors = s.later;
@@ -105,9 +120,12 @@ streams_new text leaves size modulus old new before after out out' first last re
 }
 
 -- a run told in other words
-pub streams_as : {S T : Type 0} (f : S → T) (seen : List (List ℕ)) (text text' : List ℕ → List ℕ) (leaves : List ℕ → S) (leaves' : List ℕ → T) (size modulus : ℕ) (old new : Fed) (before after out out' : Option (List ℕ))
-    (first last : S) (result : Result (Unit {0}) StreamFault) → ((x : List ℕ) → text x ≡ text' x) → ((x : List ℕ) → f (leaves x) ≡ leaves' x)
-    → StreamsBehind seen text leaves size modulus old new before after out out' first last result → StreamsBehind seen text' leaves' size modulus old new before after out out' (f first) (f last) result
+pub streams_as : {S T : Type 0} (f : S → T) (seen : List (List ℕ)) (text text' : List ℕ → List ℕ) (leaves : List ℕ → S)
+    (leaves' : List ℕ → T) (size modulus : ℕ) (old new : Fed) (before after out out' : Option (List ℕ))
+    (first last : S) (result : Result (Unit {0}) StreamFault) → ((x : List ℕ) → text x ≡ text' x) →
+    ((x : List ℕ) → f (leaves x) ≡ leaves' x)
+    → StreamsBehind seen text leaves size modulus old new before after out out' first last result →
+    StreamsBehind seen text' leaves' size modulus old new before after out out' (f first) (f last) result
 streams_as f seen text text' leaves leaves' size modulus old new before after out out' first last result same_text same s = record {
   later = s.later;
   reads = s.reads;
@@ -127,8 +145,10 @@ good_on (t ∷ ts) more h =
 abbrev BeginsWith : List (List ℕ) → List (List ℕ) → Type 0
 BeginsWith vectors all = (later : List (List ℕ)) × (all ≡ vectors ++ later)
 
-seen_first : (a b : Option (List ℕ)) (old new : ℕ) (ended : Bool) (size modulus done : ℕ) (vectors : List (List ℕ)) (p : StreamProgress a b old new ended size modulus done vectors)
-    (over : Bool) (bad : Option ℕ) (more : List ℕ) → (ended ≡ true → (more ≡ []) × (over ≡ false)) → BeginsWith vectors (vectors_seen size modulus over bad (p.bytes ++ more))
+seen_first : (a b : Option (List ℕ)) (old new : ℕ) (ended : Bool) (size modulus done : ℕ) (vectors : List (List ℕ))
+    (p : StreamProgress a b old new ended size modulus done vectors)
+    (over : Bool) (bad : Option ℕ) (more : List ℕ) → (ended ≡ true → (more ≡ []) × (over ≡ false)) →
+    BeginsWith vectors (vectors_seen size modulus over bad (p.bytes ++ more))
 seen_first a b old new ended size modulus done vectors p over (Some token) more none =
     (_, ap (λ l. vectors_of size modulus (good_front l)) (p.are_tokens more (λ e. (none e).0)) ∙ ap (vectors_of size modulus) (good_on p.ts (tokens more) p.good) ∙ p.splits (good_front (tokens more)))
 seen_first a b old new ended size modulus done vectors p false None more none =

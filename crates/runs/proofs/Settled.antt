@@ -1,5 +1,6 @@
 -- In each state of a run an action is left, or all phases are done; so each turn of the completion acts.
-use Rattle.std.proofs.Common.{◌≡◌, ℕ, zero, suc, ◌+◌, ◌<◌, ◌≤◌, ◌⊎◌, List, ◌∷◌, length, map, refl, sym, ap, ◌∙◌, subst, arith, inl, inr, ⊎_elim}
+use Rattle.std.proofs.Common.{◌≡◌, ℕ, zero, suc, ◌+◌, ◌<◌, ◌≤◌, ◌⊎◌, List, ◌∷◌, length, map, refl, sym, ap, ◌∙◌, subst}
+use Rattle.std.proofs.Common.{arith, inl, inr, ⊎_elim}
 use Rattle.std.specs.Prelude.{slice_index}
 use Rattle.std.proofs.lemmas.Bool.{cases_lt, false≢true, le-ltb}
 use Rattle.std.proofs.lemmas.Option.{slice_get-get_or}
@@ -16,8 +17,10 @@ use Rattle.runs.proofs.TwoMachines.{walked_turns}
 
 module _ (code : Code) (is : IsCode code) where
   -- the first processor from here on with an action left, or that there is none
-  first_with : (s : State) (n first : ℕ) → first + n ≡ code.procs → ((q : ℕ) → q < first → length (acts code s.phase q) ≤ slice_index s.done q)
-      → ((who : ℕ) × (who < code.procs) × (slice_index s.done who < length (acts code s.phase who)) × ((q : ℕ) → q < who → length (acts code s.phase q) ≤ slice_index s.done q))
+  first_with : (s : State) (n first : ℕ) → first + n ≡ code.procs →
+      ((q : ℕ) → q < first → length (acts code s.phase q) ≤ slice_index s.done q)
+      → ((who : ℕ) × (who < code.procs) × (slice_index s.done who < length (acts code s.phase who))
+      × ((q : ℕ) → q < who → length (acts code s.phase q) ≤ slice_index s.done q))
       ⊎ ((q : ℕ) → q < code.procs → length (acts code s.phase q) ≤ slice_index s.done q)
   first_with s zero first e none = inr (λ q lt. none q (omega arith))
   first_with s (suc n) first e none =
@@ -29,7 +32,8 @@ module _ (code : Code) (is : IsCode code) where
       (cases_lt q first)))
       (cases_lt (slice_index s.done first) (length (acts code s.phase first)))
 
-  next_turn : (s : State) → IsSettled code s → s.phase < length code.lists → (q : ℕ) × (completion code s ≡ q ∷ completion code (turn code s q))
+  next_turn : (s : State) → IsSettled code s → s.phase < length code.lists →
+      (q : ℕ) × (completion code s ≡ q ∷ completion code (turn code s q))
   next_turn s h within =
       ⊎_elim
       (λ (p : (who : ℕ) × (who < code.procs) × (slice_index s.done who < length (acts code s.phase who)) × ((q : ℕ) → q < who → length (acts code s.phase q) ≤ slice_index s.done q)).

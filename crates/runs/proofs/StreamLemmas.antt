@@ -1,5 +1,8 @@
 -- Vectors that come one by one.
-use Rattle.std.proofs.Common.{◌≡◌, ◌<◌, ◌≤◌, ◌+◌, ◌/◌, ◌%◌, ◌⊎◌, ℕ, suc, Bool, true, false, ◌&&◌, List, [], ◌∷◌, ◌++◌, None, Some, Ok, Err, Result, OnOk, nat_lt, ◌==◌, ◌-◌, ◌≢◌, zero, length, take, drop, refl, sym, ap, ap₂, subst, ◌∙◌, arith, append_assoc, append-nil, length-append, cond, add_assoc, add-one, add-zero, slice_index, inl, inr}
+use Rattle.std.proofs.Common.{◌≡◌, ◌<◌, ◌≤◌, ◌+◌, ◌/◌, ◌%◌, ◌⊎◌, ℕ, suc, Bool, true, false, ◌&&◌, List, [], ◌∷◌, ◌++◌}
+use Rattle.std.proofs.Common.{None, Some, Ok, Err, Result, OnOk, nat_lt, ◌==◌, ◌-◌, ◌≢◌, zero, length, take, drop, refl}
+use Rattle.std.proofs.Common.{sym, ap, ap₂, subst, ◌∙◌, arith, append_assoc, append-nil, length-append, cond, add_assoc}
+use Rattle.std.proofs.Common.{add-one, add-zero, slice_index, inl, inr}
 use Rattle.std.proofs.Math.Nat.{add-div_left, div-eq_of_lt, mod-eq_of_lt, add-mod_left}
 use Rattle.std.proofs.Math.Seq.{take-append_seam, take-append-add, drop-append_seam}
 use Rattle.std.proofs.KnownBytes.{Consumes-nil, Consumes-trans, Appends-trans}
@@ -30,13 +33,15 @@ use Rattle.data_stream.proofs.TokensLemmas.{not_ended}
 use Rattle.data_stream.proofs.TokenLemmas.{both_left, both_right}
 use Rattle.data_stream.proofs.VectorLemmas.{closed_after, over_behind}
 pub use Rattle.runs.specs.Progress.{StreamProgress}
-use Rattle.runs.specs.Stream.{group_vectors, vectors_of, texts, state_behind, good_front, bad_after, answer_of, vectors_seen, data_answer, data_vectors, Answers, AnswersWith, Reads, Writes}
+use Rattle.runs.specs.Stream.{group_vectors, vectors_of, texts, state_behind, good_front, bad_after, answer_of}
+use Rattle.runs.specs.Stream.{vectors_seen, data_answer, data_vectors, Answers, AnswersWith, Reads, Writes}
 use Rattle.runs.specs.declared.stream.StreamFault.{StreamFault}
 use Rattle.runs.specs.StreamFault.{stream_fault}
 use Rattle.runs.specs.declared.stream.StreamFault.TheVariants.{BadNumber, Truncated, TooLong, ReadFault, WriteFault}
 
 -- a whole vector at the front comes first
-pub vectors_more : (size modulus : ℕ) (us more : List (List ℕ)) → 0 < size → length us ≡ size → vectors_of size modulus (us ++ more) ≡ residues modulus us ∷ vectors_of size modulus more
+pub vectors_more : (size modulus : ℕ) (us more : List (List ℕ)) → 0 < size → length us ≡ size →
+    vectors_of size modulus (us ++ more) ≡ residues modulus us ∷ vectors_of size modulus more
 vectors_more size modulus us more some full =
     let count : length (us ++ more) / size ≡ suc (length more / size) =
     ap (λ n. n / size) (length-append us more ∙ ap (λ n. n + length more) full) ∙ add-div_left (length more) some ∙ add-one (length more / size) in
@@ -51,15 +56,18 @@ pub vectors_few : (size modulus : ℕ) (ts : List (List ℕ)) → length ts < si
 vectors_few size modulus ts few = ap (λ n. group_vectors size modulus n ts) (div-eq_of_lt few)
 
 -- a text more
-pub texts-push : (text : List ℕ → List ℕ) (vectors : List (List ℕ)) (x : List ℕ) → texts text (vectors ++ x ∷ []) ≡ texts text vectors ++ text x
+pub texts-push : (text : List ℕ → List ℕ) (vectors : List (List ℕ)) (x : List ℕ) →
+    texts text (vectors ++ x ∷ []) ≡ texts text vectors ++ text x
 texts-push text vectors x = flat_map-append text vectors (x ∷ []) ∙ ap (λ l. texts text vectors ++ l) (append-nil (text x))
 
 -- the last vector leaves what it leaves
-pub state_behind-push : {S : Type 0} (leaves : List ℕ → S) (state : S) (vectors : List (List ℕ)) (x : List ℕ) → state_behind leaves state (vectors ++ x ∷ []) ≡ leaves x
+pub state_behind-push : {S : Type 0} (leaves : List ℕ → S) (state : S) (vectors : List (List ℕ)) (x : List ℕ) →
+    state_behind leaves state (vectors ++ x ∷ []) ≡ leaves x
 state_behind-push leaves state [] x = refl
 state_behind-push leaves state (v ∷ vectors) x = state_behind-push leaves (leaves v) vectors x
 
-pub no_stream : (a : Option (List ℕ)) (old : ℕ) (ended : Bool) (size modulus : ℕ) → StreamProgress a a old old ended size modulus 0 []
+pub no_stream : (a : Option (List ℕ)) (old : ℕ) (ended : Bool) (size modulus : ℕ) →
+    StreamProgress a a old old ended size modulus 0 []
 no_stream a old ended size modulus = record {
   bytes = [];
   ts = [];
@@ -77,15 +85,18 @@ no_stream a old ended size modulus = record {
 abbrev pub Once : Bool → Bool → List ℕ → Type 0
 Once mid new read = mid ≡ true → (read ≡ []) × (new ≡ true)
 
-joined : (bytes read more : List ℕ) (ts : List (List ℕ)) (mid new : Bool) → AreTokens bytes ts mid → Once mid new read → (new ≡ true → more ≡ [])
+joined : (bytes read more : List ℕ) (ts : List (List ℕ)) (mid new : Bool) → AreTokens bytes ts mid → Once mid new read →
+    (new ≡ true → more ≡ [])
     → tokens ((bytes ++ read) ++ more) ≡ ts ++ tokens (read ++ more)
 joined bytes read more ts mid new p once end =
     ap tokens (append_assoc bytes read more) ∙ p (read ++ more) (λ e. let o = once e in ap (λ l. l ++ more) o.0 ∙ end o.1)
 
-grown : (old now new : ℕ) (bytes read : List ℕ) → now ≡ old + length bytes → new ≡ now + length read → new ≡ old + length (bytes ++ read)
+grown : (old now new : ℕ) (bytes read : List ℕ) → now ≡ old + length bytes → new ≡ now + length read →
+    new ≡ old + length (bytes ++ read)
 grown old now new bytes read p q = let l = length-append bytes read in omega arith
 
-all_good : (ts us : List (List ℕ)) → list_all is_good ts ≡ true → list_all is_good us ≡ true → list_all is_good (ts ++ us) ≡ true
+all_good : (ts us : List (List ℕ)) → list_all is_good ts ≡ true → list_all is_good us ≡ true →
+    list_all is_good (ts ++ us) ≡ true
 all_good ts us p q = list_all-append is_good ts us ∙ ap (λ t. t && list_all is_good us) p ∙ q
 
 going_on : (mid new : Bool) (read : List ℕ) → Once mid new read → new ≡ false → mid ≡ false
@@ -93,8 +104,10 @@ going_on true new read once going = absurd (not_ended new going (once refl).1)
 going_on false new read once going = refl
 
 -- a vector more
-pub stream_push : (a b c : Option (List ℕ)) (old : ℕ) (now new : Fed) (mid ended : Bool) (size modulus done : ℕ) (vectors : List (List ℕ)) (read vector : List ℕ)
-    → 0 < size → StreamProgress a b old now.taken mid size modulus done vectors → Consumes b c read → Once mid ended read
+pub stream_push : (a b c : Option (List ℕ)) (old : ℕ) (now new : Fed) (mid ended : Bool) (size modulus done : ℕ)
+    (vectors : List (List ℕ)) (read vector : List ℕ)
+    → 0 < size → StreamProgress a b old now.taken mid size modulus done vectors → Consumes b c read →
+    Once mid ended read
     → GivesVector size modulus done now new read ended vector (Ok Vector)
     → StreamProgress a c old new.taken ended size modulus (done + size) (vectors ++ vector ∷ [])
 stream_push a b c old now new mid ended size modulus done vectors read vector some p r once given =
@@ -116,7 +129,8 @@ stream_push a b c old now new mid ended size modulus done vectors read vector so
     }
 
 -- the tokens of all that was read
-joined_all : (bytes read : List ℕ) (ts : List (List ℕ)) (mid new : Bool) → AreTokens bytes ts mid → Once mid new read → tokens (bytes ++ read) ≡ ts ++ tokens read
+joined_all : (bytes read : List ℕ) (ts : List (List ℕ)) (mid new : Bool) → AreTokens bytes ts mid → Once mid new read →
+    tokens (bytes ++ read) ≡ ts ++ tokens read
 joined_all bytes read ts mid new p once =
     ap tokens (sym (append-nil (bytes ++ read))) ∙ joined bytes read [] ts mid new p once (λ _. refl) ∙ ap (λ l. ts ++ tokens l) (append-nil read)
 
@@ -126,7 +140,8 @@ closed_or_ended true closed end c e = inr (e refl)
 closed_or_ended false closed end c e = inl (c refl)
 
 -- the line of a vector was not written whole
-pub stream_unwritten : (a c : Option (List ℕ)) (old new : Fed) (ended : Bool) (size modulus done : ℕ) (vectors : List (List ℕ)) (end : Type 0)
+pub stream_unwritten : (a c : Option (List ℕ)) (old new : Fed) (ended : Bool) (size modulus done : ℕ)
+    (vectors : List (List ℕ)) (end : Type 0)
     → 0 < size → (p : StreamProgress a c old.taken new.taken ended size modulus done vectors) → (ended ≡ true → end)
     → Reads size modulus old new p.bytes end vectors (Err WriteFault)
 stream_unwritten a c old new ended size modulus done vectors end some p at_end =
@@ -138,8 +153,10 @@ stream_unwritten a c old new ended size modulus done vectors end some p at_end =
     )
 
 -- the data end behind a whole vector
-pub stream_end : (a b c : Option (List ℕ)) (old now new : Fed) (mid ended : Bool) (size modulus done : ℕ) (vectors : List (List ℕ)) (end : Type 0) (read vector : List ℕ)
-    → 0 < size → (p : StreamProgress a b old.taken now.taken mid size modulus done vectors) → Consumes b c read → Once mid ended read
+pub stream_end : (a b c : Option (List ℕ)) (old now new : Fed) (mid ended : Bool) (size modulus done : ℕ)
+    (vectors : List (List ℕ)) (end : Type 0) (read vector : List ℕ)
+    → 0 < size → (p : StreamProgress a b old.taken now.taken mid size modulus done vectors) → Consumes b c read →
+    Once mid ended read
     → GivesVector size modulus done now new read ended vector (Ok End) → (ended ≡ true → end)
     → Consumes a c (p.bytes ++ read) × Reads size modulus old new (p.bytes ++ read) end vectors (Ok tt)
 stream_end a b c old now new mid ended size modulus done vectors end read vector some p r once given at_end =
@@ -154,14 +171,16 @@ stream_end a b c old now new mid ended size modulus done vectors end read vector
       ),
     )
 
-pub bad_behind : (n : ℕ) (ts more : List (List ℕ)) → list_all is_good ts ≡ true → bad_after n (ts ++ more) ≡ bad_after (n + length ts) more
+pub bad_behind : (n : ℕ) (ts more : List (List ℕ)) → list_all is_good ts ≡ true →
+    bad_after n (ts ++ more) ≡ bad_after (n + length ts) more
 bad_behind n [] more h = ap (λ m. bad_after m more) (sym (add-zero n))
 bad_behind n (t ∷ ts) more h =
     let good = both_left (is_good t) (list_all is_good ts) h in
     let rest = both_right (is_good t) (list_all is_good ts) h in
     ap (λ b. cond b (bad_after (n + 1) (ts ++ more)) (Some (n + 1))) good ∙ bad_behind (n + 1) ts more rest ∙ ap (λ m. bad_after m more) (omega arith)
 
-front_good : (ts : List (List ℕ)) (bad : List ℕ) (others : List (List ℕ)) → list_all is_good ts ≡ true → is_good bad ≡ false → good_front (ts ++ bad ∷ others) ≡ ts
+front_good : (ts : List (List ℕ)) (bad : List ℕ) (others : List (List ℕ)) → list_all is_good ts ≡ true →
+    is_good bad ≡ false → good_front (ts ++ bad ∷ others) ≡ ts
 front_good [] bad others h b = ap (λ t. cond t (bad ∷ good_front others) []) b
 front_good (t ∷ ts) bad others h b =
     let good = both_left (is_good t) (list_all is_good ts) h in
@@ -169,9 +188,11 @@ front_good (t ∷ ts) bad others h b =
     ap (λ b. cond b (t ∷ good_front (ts ++ bad ∷ others)) []) good ∙ ap (λ l. t ∷ l) (front_good ts bad others rest b)
 
 -- behind whole vectors, what there is of the next
-part_behind : (a b : Option (List ℕ)) (old now : ℕ) (mid : Bool) (size modulus done : ℕ) (vectors : List (List ℕ)) (read : List ℕ) (p : StreamProgress a b old now mid size modulus done vectors)
+part_behind : (a b : Option (List ℕ)) (old now : ℕ) (mid : Bool) (size modulus done : ℕ) (vectors : List (List ℕ))
+    (read : List ℕ) (p : StreamProgress a b old now mid size modulus done vectors)
     → mid ≡ false → IsPart size read
-    → (list_all is_good (tokens (p.bytes ++ read)) ≡ true) × (vectors_of size modulus (tokens (closed_part (p.bytes ++ read))) ≡ vectors)
+    → (list_all is_good (tokens (p.bytes ++ read)) ≡ true) × (vectors_of size modulus
+    (tokens (closed_part (p.bytes ++ read))) ≡ vectors)
 part_behind a b old now mid size modulus done vectors read p going part =
     let behind : (l : List ℕ) → tokens (p.bytes ++ l) ≡ p.ts ++ tokens l = λ l. p.are_tokens l (λ e. absurd (not_ended mid going e)) in (
       ap (list_all is_good) (behind read) ∙ all_good p.ts (tokens read) p.good part.good,
@@ -184,10 +205,13 @@ no_bytes [] e = refl
 no_bytes (x ∷ bytes) e = absurd (omega arith)
 
 -- the data end in a vector, or are faulty, or can't be read
-pub stream_fault_at : (a b c : Option (List ℕ)) (old now new : Fed) (mid ended : Bool) (size modulus done : ℕ) (vectors : List (List ℕ)) (end : Type 0) (read vector : List ℕ) (fault : DataFault)
-    → 0 < size → (p : StreamProgress a b old.taken now.taken mid size modulus done vectors) → (limit < now.taken → now.taken ≡ old.taken) → Consumes b c read → mid ≡ false
+pub stream_fault_at : (a b c : Option (List ℕ)) (old now new : Fed) (mid ended : Bool) (size modulus done : ℕ)
+    (vectors : List (List ℕ)) (end : Type 0) (read vector : List ℕ) (fault : DataFault)
+    → 0 < size → (p : StreamProgress a b old.taken now.taken mid size modulus done vectors) →
+    (limit < now.taken → now.taken ≡ old.taken) → Consumes b c read → mid ≡ false
     → GivesVector size modulus done now new read ended vector (Err fault) → (ended ≡ true → end)
-    → Consumes a c (p.bytes ++ read) × Reads size modulus old new (p.bytes ++ read) end vectors (Err (stream_fault fault))
+    → Consumes a c (p.bytes ++ read) × Reads size modulus old new (p.bytes ++ read) end vectors
+    (Err (stream_fault fault))
 stream_fault_at a b c old now new mid ended size modulus done vectors end read vector (data_fault.Truncated have need) some p begun r going given at_end =
     let there : tokens (p.bytes ++ read) ≡ p.ts ++ tokens read = p.are_tokens read (λ e. absurd (not_ended mid going e)) in
     let few : length (tokens read) < size = let n = given.3 in let h = given.5 in let s = given.6 in omega arith in (
@@ -245,11 +269,14 @@ all_good_none : (n : ℕ) (ts : List (List ℕ)) → list_all is_good ts ≡ tru
 all_good_none n ts h = ap (bad_after n) (sym (append-nil ts)) ∙ bad_behind n ts [] h
 
 -- data that are seen whole
-whole_seen : (room : ℕ) (bytes : List ℕ) → length bytes ≤ room → (nat_lt room (length bytes) ≡ false) × (take room bytes ≡ bytes)
+whole_seen : (room : ℕ) (bytes : List ℕ) → length bytes ≤ room →
+    (nat_lt room (length bytes) ≡ false) × (take room bytes ≡ bytes)
 whole_seen room bytes h = (grind (arith, common_steps), take_all room bytes h)
 
-link : (size modulus room : ℕ) (bytes : List ℕ) (over : Bool) (bad : Option ℕ) (seen : List ℕ) → nat_lt room (length bytes) ≡ over → take room bytes ≡ seen → bad_after 0 (tokens seen) ≡ bad
-    → (data_answer size room bytes ≡ answer_of size over bad (length (tokens seen))) × (data_vectors size modulus room bytes ≡ vectors_seen size modulus over bad seen)
+link : (size modulus room : ℕ) (bytes : List ℕ) (over : Bool) (bad : Option ℕ) (seen : List ℕ) →
+    nat_lt room (length bytes) ≡ over → take room bytes ≡ seen → bad_after 0 (tokens seen) ≡ bad
+    → (data_answer size room bytes ≡ answer_of size over bad (length (tokens seen)))
+    × (data_vectors size modulus room bytes ≡ vectors_seen size modulus over bad seen)
 link size modulus room bytes over bad seen o t b = (
   ap (λ x. answer_of size x (bad_after 0 (tokens (take room bytes))) (length (tokens (take room bytes)))) o
       ∙ ap (λ x. answer_of size over (bad_after 0 (tokens x)) (length (tokens x))) t
@@ -260,7 +287,8 @@ link size modulus room bytes over bad seen o t b = (
 )
 
 -- good tokens in whole vectors
-pub right_answer : (size room : ℕ) (bytes : List ℕ) → length bytes ≤ room → list_all is_good (tokens bytes) ≡ true → length (tokens bytes) % size ≡ 0 → data_answer size room bytes ≡ Ok tt
+pub right_answer : (size room : ℕ) (bytes : List ℕ) → length bytes ≤ room → list_all is_good (tokens bytes) ≡ true →
+    length (tokens bytes) % size ≡ 0 → data_answer size room bytes ≡ Ok tt
 right_answer size room bytes few good whole =
     let seen = whole_seen room bytes few in
     let l = link size 1 room bytes false None bytes seen.0 seen.1 (all_good_none 0 (tokens bytes) good) in
@@ -270,7 +298,8 @@ bad_any : (size count token : ℕ) (over : Bool) → answer_of size over (Some t
 bad_any size count token true = refl
 bad_any size count token false = refl
 
-bad_vectors : (size modulus token : ℕ) (over : Bool) (seen : List ℕ) → vectors_seen size modulus over (Some token) seen ≡ vectors_of size modulus (good_front (tokens seen))
+bad_vectors : (size modulus token : ℕ) (over : Bool) (seen : List ℕ) →
+    vectors_seen size modulus over (Some token) seen ≡ vectors_of size modulus (good_front (tokens seen))
 bad_vectors size modulus token true seen = refl
 bad_vectors size modulus token false seen = refl
 
@@ -280,12 +309,15 @@ no_rest size (suc have) h =
     let not_zero : (suc have == 0) ≡ false = grind arith in
     ap (λ b. cond {A = Result (Unit {0}) StreamFault} b (Ok tt) (Err (Truncated (suc have) size))) not_zero
 
-pub seen_front : (room : ℕ) (read rest : List ℕ) → length read ≤ room → take room (read ++ rest) ≡ read ++ take (room - length read) rest
+pub seen_front : (room : ℕ) (read rest : List ℕ) → length read ≤ room →
+    take room (read ++ rest) ≡ read ++ take (room - length read) rest
 seen_front room read rest h = ap (λ n. take n (read ++ rest)) (omega arith) ∙ take-append-add read rest (room - length read)
 
 -- what a run answers by the bytes that it read, it answers by all bytes
-pub answered : (size modulus : ℕ) (old new : Fed) (read rest : List ℕ) (vectors : List (List ℕ)) (result : Result (Unit {0}) StreamFault)
-    → Reads size modulus old new read (rest ≡ []) vectors result → old.taken ≤ limit → (result ≢ Err TooLong → new.taken ≤ limit)
+pub answered : (size modulus : ℕ) (old new : Fed) (read rest : List ℕ) (vectors : List (List ℕ))
+    (result : Result (Unit {0}) StreamFault)
+    → Reads size modulus old new read (rest ≡ []) vectors result → old.taken ≤ limit →
+    (result ≢ Err TooLong → new.taken ≤ limit)
     → Answers size modulus (limit - old.taken) (read ++ rest) vectors result
 answered size modulus old new read rest vectors (Ok u) s start within =
     let none : read ++ rest ≡ read = ap (λ l. read ++ l) s.1 ∙ append-nil read in
@@ -353,23 +385,28 @@ words_at-suc zero xs i = ap (λ k. slice_index xs k ∷ []) (sym (add-zero i))
 words_at-suc (suc n) xs i = ap (λ l. slice_index xs i ∷ l) (words_at-suc n xs (i + 1) ∙ ap (λ k. words_at n xs (i + 1) ++ slice_index xs k ∷ []) (omega arith))
 
 -- one word more
-pub words_at-more : (n : ℕ) (xs : List ℕ) (i : ℕ) → words_at (n + 1) xs i ≡ words_at n xs i ++ slice_index xs (i + n) ∷ []
+pub words_at-more : (n : ℕ) (xs : List ℕ) (i : ℕ) → words_at (n + 1) xs i ≡ words_at n xs i ++ slice_index xs (i + n)
+    ∷ []
 words_at-more n xs i = ap (λ m. words_at m xs i) (add-one n) ∙ words_at-suc n xs i
 
-pub word_more : (n : ℕ) (xs : List ℕ) (i v : ℕ) (front : List ℕ) → front ≡ words_at n xs i → v ≡ slice_index xs (i + n) → front ++ v ∷ [] ≡ words_at (n + 1) xs i
+pub word_more : (n : ℕ) (xs : List ℕ) (i v : ℕ) (front : List ℕ) → front ≡ words_at n xs i →
+    v ≡ slice_index xs (i + n) → front ++ v ∷ [] ≡ words_at (n + 1) xs i
 word_more n xs i v front p q = ap (λ l. l ++ v ∷ []) p ∙ ap (λ w. words_at n xs i ++ w ∷ []) q ∙ sym (words_at-more n xs i)
 
 -- a text more was written, or a prefix of it
-pub texts_more : (text : List ℕ → List ℕ) (a b c : Option (List ℕ)) (seen : List (List ℕ)) (x v : List ℕ) → v ≡ text x → Appends a b (texts text seen) → Appends b c v → Appends a c (texts text (seen ++ x ∷ []))
+pub texts_more : (text : List ℕ → List ℕ) (a b c : Option (List ℕ)) (seen : List (List ℕ)) (x v : List ℕ) → v ≡ text x →
+    Appends a b (texts text seen) → Appends b c v → Appends a c (texts text (seen ++ x ∷ []))
 texts_more text a b c seen x v e p w =
     subst (Appends a c) (sym (texts-push text seen x)) (Appends-trans a b c (texts text seen) (text x) p (subst (Appends b c) e w))
 
-pub texts_cut : (text : List ℕ → List ℕ) (a b c : Option (List ℕ)) (seen : List (List ℕ)) (x v : List ℕ) → v ≡ text x → Appends a b (texts text seen) → AppendsPrefix b c v → AppendsPrefix a c (texts text (seen ++ x ∷ []))
+pub texts_cut : (text : List ℕ → List ℕ) (a b c : Option (List ℕ)) (seen : List (List ℕ)) (x v : List ℕ) → v ≡ text x →
+    Appends a b (texts text seen) → AppendsPrefix b c v → AppendsPrefix a c (texts text (seen ++ x ∷ []))
 texts_cut text a b c seen x v e p w =
     subst (AppendsPrefix a c) (sym (texts-push text seen x)) (prefix_after a b c (texts text seen) (text x) p (subst (AppendsPrefix b c) e w))
 
 -- after a fault of the data the output has taken all texts
-pub writes_fault : (fault : DataFault) (a b : Option (List ℕ)) (text : List ℕ) → Appends a b text → Writes a b (Err (stream_fault fault)) text
+pub writes_fault : (fault : DataFault) (a b : Option (List ℕ)) (text : List ℕ) → Appends a b text →
+    Writes a b (Err (stream_fault fault)) text
 writes_fault (data_fault.BadNumber token) a b text w = w
 writes_fault (data_fault.Truncated have need) a b text w = w
 writes_fault data_fault.TooLong a b text w = w
@@ -382,21 +419,25 @@ abbrev failed_stream : StreamFault → Result (Unit {0}) StreamFault
 failed_stream fault = Err fault
 
 -- a fault that is no long input, told as one of the stream
-pub fault_within : (fault : DataFault) (fits : Type 0) → (failed_next fault ≢ failed_next data_fault.TooLong → fits) → failed_stream (stream_fault fault) ≢ failed_stream TooLong → fits
+pub fault_within : (fault : DataFault) (fits : Type 0) → (failed_next fault ≢ failed_next data_fault.TooLong → fits) →
+    failed_stream (stream_fault fault) ≢ failed_stream TooLong → fits
 fault_within (data_fault.BadNumber token) fits w other = w (λ e. cc)
 fault_within (data_fault.Truncated have need) fits w other = w (λ e. cc)
 fault_within data_fault.TooLong fits w other = absurd (other refl)
 fault_within data_fault.ReadFault fits w other = w (λ e. cc)
 
 -- the turns of a schedule, and then those that complete it
-pub whole_run : (plan : Plan) (code first second : Code) (x : List ℕ) (begun turned ended : State) → first ≡ code → begun ≡ start code x → second ≡ first
-    → turned ≡ run first begun (turns_of plan first.procs) → ended ≡ finished second turned → ended ≡ runs code x (turns_of plan code.procs)
+pub whole_run : (plan : Plan) (code first second : Code) (x : List ℕ) (begun turned ended : State) → first ≡ code →
+    begun ≡ start code x → second ≡ first
+    → turned ≡ run first begun (turns_of plan first.procs) → ended ≡ finished second turned →
+    ended ≡ runs code x (turns_of plan code.procs)
 whole_run plan code first second x begun turned ended p b q t e =
     e ∙ ap (λ k. finished k turned) (q ∙ p)
     ∙ ap (λ s. finished code s) (t ∙ ap (λ (k : Code). run k begun (turns_of plan k.procs)) p ∙ ap (λ s. run code s (turns_of plan code.procs)) b)
 
 -- the words that a run leaves
-pub results_left : (code last : Code) (s t : Standing) → last ≡ code → t ≡ s → words_at last.size (memory_at t) (padded last) ≡ words_at code.size (memory_at s) (padded code)
+pub results_left : (code last : Code) (s t : Standing) → last ≡ code → t ≡ s →
+    words_at last.size (memory_at t) (padded last) ≡ words_at code.size (memory_at s) (padded code)
 results_left code last s t p e = ap (λ (k : Code). words_at k.size (memory_at t) (padded k)) p ∙ ap (λ (u : Standing). words_at code.size (memory_at u) (padded code)) e
 
 -- what holds at any rate holds at `Ok`
@@ -405,8 +446,10 @@ held_at_ok (Ok x) p = p
 held_at_ok (Err e) p = tt
 
 -- the lines of events from a vector's start
-pub lines_begun : (asked : Bool) (events : Events) (code own : Code) (first begun : Standing) → own ≡ code → begun ≡ first
-    → asked_lines asked own begun (events_of events own.procs) ≡ asked_lines asked code first (events_of events code.procs)
+pub lines_begun : (asked : Bool) (events : Events) (code own : Code) (first begun : Standing) → own ≡ code →
+    begun ≡ first
+    → asked_lines asked own begun (events_of events own.procs)
+    ≡ asked_lines asked code first (events_of events code.procs)
 lines_begun asked events code own first begun p b = ap (λ (k : Code). asked_lines asked k begun (events_of events k.procs)) p ∙ ap (λ (s : Standing). asked_lines asked code s (events_of events code.procs)) b
 
 -- the machine behind events from a vector's start
@@ -416,12 +459,15 @@ stands_begun events code own first begun last p b e =
     e ∙ ap (λ (k : Code). ended k begun (events_of events k.procs)) p ∙ ap (λ (s : Standing). ended code s (events_of events code.procs)) b
 
 -- a function of what runs leave
-pub state_behind-of : {S T : Type 0} (f : S → T) (leaves : List ℕ → S) (leaves' : List ℕ → T) → ((x : List ℕ) → f (leaves x) ≡ leaves' x)
-    → (first : S) (vectors : List (List ℕ)) → f (state_behind leaves first vectors) ≡ state_behind leaves' (f first) vectors
+pub state_behind-of : {S T : Type 0} (f : S → T) (leaves : List ℕ → S) (leaves' : List ℕ → T) →
+    ((x : List ℕ) → f (leaves x) ≡ leaves' x)
+    → (first : S) (vectors : List (List ℕ)) → f (state_behind leaves first vectors)
+    ≡ state_behind leaves' (f first) vectors
 state_behind-of f leaves leaves' same first [] = refl
 state_behind-of f leaves leaves' same first (x ∷ xs) = state_behind-of f leaves leaves' same (leaves x) xs ∙ ap (λ t. state_behind leaves' t xs) (same x)
 
 -- texts that are the same, one by one
-pub texts_same : (text text' : List ℕ → List ℕ) → ((x : List ℕ) → text x ≡ text' x) → (vectors : List (List ℕ)) → texts text vectors ≡ texts text' vectors
+pub texts_same : (text text' : List ℕ → List ℕ) → ((x : List ℕ) → text x ≡ text' x) → (vectors : List (List ℕ)) →
+    texts text vectors ≡ texts text' vectors
 texts_same text text' same [] = refl
 texts_same text text' same (x ∷ xs) = ap₂ (λ (l m : List ℕ). l ++ m) (same x) (texts_same text text' same xs)

@@ -1,14 +1,20 @@
 -- Merging keeps the operations.
-use Rattle.std.proofs.Common.{◌≡◌, ℕ, zero, suc, ◌+◌, ◌*◌, ◌<◌, arith, refl, sym, ap, ap₂, ◌∙◌, List, [], ◌∷◌, ◌++◌, length, Option, Some, None}
+use Rattle.std.proofs.Common.{◌≡◌, ℕ, zero, suc, ◌+◌, ◌*◌, ◌<◌, arith, refl, sym, ap, ap₂, ◌∙◌, List, [], ◌∷◌, ◌++◌}
+use Rattle.std.proofs.Common.{length, Option, Some, None}
 use Rattle.std.specs.Prelude.{map, ◌&&◌, ◌==◌, if◌then◌else◌}
 use Rattle.index_fn.specs.Mapping.{Mapping, at}
 use Rattle.operators.specs.Sum.{sum_below, list_below}
 use Rattle.operators.proofs.Sums.{sum_below-same, sum_below-swap, sum_below-add, sum_below-zeros}
 use Rattle.operators.proofs.Scatters.{sum_below-only}
 use Rattle.sigma_spl.specs.Copies.{loops_of, Copies, hits, StoreOnce, IsInside, AreInside}
-use Rattle.sigma_spl.specs.Counts.{copies_in, multiplier_cost, nest_cost, pass_cost, passes_cost, term_cost, CopiesAreFree, MergeCounts}
+use Rattle.sigma_spl.specs.Counts.{copies_in, multiplier_cost, nest_cost, pass_cost, passes_cost, term_cost}
+use Rattle.sigma_spl.specs.Counts.{CopiesAreFree, MergeCounts}
 use Rattle.sigma_spl.specs.Good.{IsGoodPass, AreGoodPasses, IsGoodTerm}
-use Rattle.sigma_spl.specs.Merge.{Room, less, Merging, Taking, nothing, one_loop, can_gather, can_scatter, gathered, scattered, multiplied, copying, take_gathers, copy_by, copies_before, settled, with_pass, with_passes, factor_places, can_take, suits, with_copy, with_diagonal, with_scatter, back_of, from_end, ended, merged, lifted, side, sides, renumbered_places, if_any, new_nest}
+use Rattle.sigma_spl.specs.Merge.{Room, less, Merging, Taking, nothing, one_loop, can_gather, can_scatter, gathered}
+use Rattle.sigma_spl.specs.Merge.{scattered, multiplied, copying, take_gathers, copy_by, copies_before, settled}
+use Rattle.sigma_spl.specs.Merge.{with_pass, with_passes, factor_places, can_take, suits, with_copy, with_diagonal}
+use Rattle.sigma_spl.specs.Merge.{with_scatter, back_of, from_end, ended, merged, lifted, side, sides}
+use Rattle.sigma_spl.specs.Merge.{renumbered_places, if_any, new_nest}
 use Rattle.sigma_spl.specs.Nest.{PlainFactors, spread, PlainMultiplier, PlainNest, copies_of}
 use Rattle.sigma_spl.specs.Term.{PlainTerm, same, gath, scat, diag, nest, move, product, beside}
 use Rattle.sigma_spl.specs.Work.{PlainWork, copy, work_size}
@@ -37,11 +43,13 @@ nest-constant [] a = omega arith
 nest-constant (c ∷ counts) a = sum_below-same c _ (λ v. copies_in counts * a) (λ v below. nest-constant counts a) ∙ constant-sum c (copies_in counts * a) ∙ omega arith
 
 -- the order of a sum over places and one over loops is free
-nest-swap : (n : ℕ) (path : Path) (f : ℕ → List ℕ → ℕ) → sum_below n (λ w. nest_sum path (f w)) ≡ nest_sum path (λ vs. sum_below n (λ w. f w vs))
+nest-swap : (n : ℕ) (path : Path) (f : ℕ → List ℕ → ℕ) → sum_below n (λ w. nest_sum path (f w))
+    ≡ nest_sum path (λ vs. sum_below n (λ w. f w vs))
 nest-swap n [] f = refl
 nest-swap n (t ∷ path) f = sum_below-swap n (count_of t) (λ w v. nest_sum path (λ vs. f w (v ∷ vs))) ∙ sum_below-same (count_of t) _ _ (λ v below. nest-swap n path (λ w vs. f w (v ∷ vs)))
 
-nest-same : (path : Path) (f g : List ℕ → ℕ) → ((vs : List ℕ) → AreInRange path vs → f vs ≡ g vs) → nest_sum path f ≡ nest_sum path g
+nest-same : (path : Path) (f g : List ℕ → ℕ) → ((vs : List ℕ) → AreInRange path vs → f vs ≡ g vs) →
+    nest_sum path f ≡ nest_sum path g
 nest-same [] f g h = h [] tt
 nest-same (t ∷ path) f g h = sum_below-same (count_of t) _ _ (λ v below. nest-same path (λ vs. f (v ∷ vs)) (λ vs. g (v ∷ vs)) (λ vs range. h (v ∷ vs) (below, range)))
 
@@ -50,7 +58,8 @@ one-hit n p below = sum_below-only n p _ below (λ w within other. miss p w 1 (�
   self : (p : ℕ) → ◌≡◌ {A = ℕ} (if p == p then 1 else 0) 1
   self p = grind (arith, nat_tests)
 
-copies-hit : (n : ℕ) (c : Copies) → IsInside n c → sum_below n (λ w. loop_at (loops_of c.counts) c.size c.to (λ vs k. 1) w) ≡ copies_in c.counts * c.size
+copies-hit : (n : ℕ) (c : Copies) → IsInside n c → sum_below n
+    (λ w. loop_at (loops_of c.counts) c.size c.to (λ vs k. 1) w) ≡ copies_in c.counts * c.size
 copies-hit n c h =
     nest-swap n (loops_of c.counts) (λ w vs. sum_below c.size (λ k. if c.to vs k == w then 1 else 0))
     ∙ nest-same (loops_of c.counts) _ (λ vs. c.size) (λ vs range.
@@ -75,7 +84,8 @@ module _ (weight : ℕ) (cost : PlainWork → ℕ) (free : CopiesAreFree cost) w
   cost-gathered f [] = refl
   cost-gathered f (z ∷ zs) = ap (λ b. nest_cost weight cost z + b) (cost-gathered f zs)
 
-  cost-scattered : (f : Mapping) (zs : List PlainNest) → pass_cost weight cost (scattered f zs) ≡ pass_cost weight cost zs
+  cost-scattered : (f : Mapping) (zs : List PlainNest) → pass_cost weight cost (scattered f zs)
+      ≡ pass_cost weight cost zs
   cost-scattered f [] = refl
   cost-scattered f (z ∷ zs) = ap (λ b. nest_cost weight cost z + b) (cost-scattered f zs)
 
@@ -86,23 +96,29 @@ module _ (weight : ℕ) (cost : PlainWork → ℕ) (free : CopiesAreFree cost) w
       let k : c * (weight * s) ≡ weight * (c * s) = omega arith in
       omega (arith, e, f, g, k)
 
-  cost-multiplied : (m : ℕ) (factors : PlainFactors) (fs : List Mapping) (zs : List PlainNest) → AreFree zs → pass_cost weight cost (multiplied factors fs zs) ≡ pass_cost weight cost zs + weight * items_of (map (copies_of m) zs)
+  cost-multiplied : (m : ℕ) (factors : PlainFactors) (fs : List Mapping) (zs : List PlainNest) → AreFree zs →
+      pass_cost weight cost (multiplied factors fs zs) ≡ pass_cost weight cost zs
+      + weight * items_of (map (copies_of m) zs)
   cost-multiplied m factors fs [] h = omega arith
   cost-multiplied m factors fs (z ∷ zs) h =
       more-cost (copies_in z.counts) (cost z.work) (work_size z.work) _ _ _ (cost-multiplied m factors fs zs h.1)
       ∙ ap (λ (o : Option PlainMultiplier). copies_in z.counts * (cost z.work + multiplier_cost weight o z.work) + pass_cost weight cost zs + weight * (copies_in z.counts * work_size z.work + items_of (map (copies_of m) zs))) (sym h.0)
 
-  multiplied-more : (lanes : ℕ) (m n : ℕ) (factors : PlainFactors) (fs : List Mapping) (zs : List PlainNest) → IsGoodPass lanes m n zs → AreFree zs → pass_cost weight cost (multiplied factors fs zs) ≡ pass_cost weight cost zs + weight * n
+  multiplied-more : (lanes : ℕ) (m n : ℕ) (factors : PlainFactors) (fs : List Mapping) (zs : List PlainNest) →
+      IsGoodPass lanes m n zs → AreFree zs → pass_cost weight cost (multiplied factors fs zs) ≡ pass_cost weight cost zs
+      + weight * n
   multiplied-more lanes m n factors fs zs good h = cost-multiplied m factors fs zs h ∙ ap (λ i. pass_cost weight cost zs + weight * i) (items-once n (map (copies_of m) zs) (all-inside lanes m n zs good.nests) good.once)
 
   cost-copying : (n : ℕ) → pass_cost weight cost (copying n) ≡ 0
   cost-copying n = ap (λ a. copies_in (map count_of (one_loop n)) * (a + 0) + 0) (free 1) ∙ omega arith
 
-  cost-append : (ps qs : List (List PlainNest)) → passes_cost weight cost (ps ++ qs) ≡ passes_cost weight cost ps + passes_cost weight cost qs
+  cost-append : (ps qs : List (List PlainNest)) → passes_cost weight cost (ps ++ qs) ≡ passes_cost weight cost ps
+      + passes_cost weight cost qs
   cost-append [] qs = omega arith
   cost-append (zs ∷ ps) qs = omega (arith, cost-append ps qs)
 
-  cost-take : (room : Room) (n : ℕ) (zs : List PlainNest) (fs : List Mapping) → pass_cost weight cost (take_gathers room n zs fs).pass ≡ pass_cost weight cost zs
+  cost-take : (room : Room) (n : ℕ) (zs : List PlainNest) (fs : List Mapping) →
+      pass_cost weight cost (take_gathers room n zs fs).pass ≡ pass_cost weight cost zs
   cost-take room n zs [] = refl
   cost-take room n zs (f ∷ fs) =
       chosen (λ (t : Taking). pass_cost weight cost t.pass ≡ pass_cost weight cost zs) (can_gather room n f zs) _ _ (λ _. cost-take room n (gathered f zs) fs ∙ cost-gathered f zs) refl
@@ -113,7 +129,8 @@ module _ (weight : ℕ) (cost : PlainWork → ℕ) (free : CopiesAreFree cost) w
       (λ _. cost-gathered f (copying n) ∙ cost-copying n)
       (ap (λ a. 1 * (a + 0) + 0) (free (length (list_below n (at f)))) ∙ omega arith)
 
-  cost-copies : (room : Room) (n : ℕ) (zs : List PlainNest) (fs : List Mapping) → passes_cost weight cost (copies_before room n zs fs) ≡ pass_cost weight cost zs
+  cost-copies : (room : Room) (n : ℕ) (zs : List PlainNest) (fs : List Mapping) →
+      passes_cost weight cost (copies_before room n zs fs) ≡ pass_cost weight cost zs
   cost-copies room n zs [] = omega arith
   cost-copies room n zs (f ∷ fs) =
       chosen (λ ps. passes_cost weight cost ps ≡ pass_cost weight cost zs) (can_gather room n f zs) _ _
@@ -124,31 +141,39 @@ module _ (weight : ℕ) (cost : PlainWork → ℕ) (free : CopiesAreFree cost) w
   cost-settled room n [] = refl
   cost-settled room n (f ∷ fs) = cost-copies room n (copy_by room n f) fs ∙ cost-by room n f
 
-  cost-pass : (room : Room) (n : ℕ) (st : Merging) (zs : List PlainNest) → passes_cost weight cost (with_pass room n st zs).passes ≡ pass_cost weight cost zs + passes_cost weight cost st.passes
+  cost-pass : (room : Room) (n : ℕ) (st : Merging) (zs : List PlainNest) →
+      passes_cost weight cost (with_pass room n st zs).passes ≡ pass_cost weight cost zs
+      + passes_cost weight cost st.passes
   cost-pass room n st zs =
       let left = (take_gathers room n zs st.waiting).left in
       ap₂ (λ a b. a + b) (cost-take room n zs st.waiting) (cost-append (settled room n left) st.passes ∙ ap (λ a. a + passes_cost weight cost st.passes) (cost-settled room n left) ∙ omega arith)
 
-  cost-copy : (lanes : ℕ) (m : ℕ) (room : Room) (n : ℕ) (st : Merging) (path : Path) (factors : PlainFactors) → passes_cost weight cost (with_copy room n st path factors).passes ≡ passes_cost weight cost st.passes + weight * n
+  cost-copy : (lanes : ℕ) (m : ℕ) (room : Room) (n : ℕ) (st : Merging) (path : Path) (factors : PlainFactors) →
+      passes_cost weight cost (with_copy room n st path factors).passes ≡ passes_cost weight cost st.passes + weight * n
   cost-copy lanes m room n st path factors =
       chosen (λ (next : Merging). passes_cost weight cost next.passes ≡ passes_cost weight cost st.passes + weight * n) (can_take room n factors (factor_places st.waiting path factors) (copying n)) _ _
       (λ _. omega (arith, multiplied-more lanes m n factors (factor_places st.waiting path factors) (copying n) (copying-good lanes m n) (copying-free n), cost-copying n))
       (omega (arith, multiplied-more lanes m n (spread path factors) [] (copying n) (copying-good lanes m n) (copying-free n), cost-copying n, cost-append (settled room n st.waiting) st.passes, cost-settled room n st.waiting))
 
-  cost-diagonal : (lanes : ℕ) (m : ℕ) (room : Room) (n : ℕ) (waiting : List Mapping) (passes : List (List PlainNest)) (path : Path) (factors : PlainFactors) → AreGoodPasses lanes m n passes → passes_cost weight cost (with_diagonal room n waiting passes path factors).passes ≡ passes_cost weight cost passes + weight * n
+  cost-diagonal : (lanes : ℕ) (m : ℕ) (room : Room) (n : ℕ) (waiting : List Mapping) (passes : List (List PlainNest))
+      (path : Path) (factors : PlainFactors) → AreGoodPasses lanes m n passes →
+      passes_cost weight cost (with_diagonal room n waiting passes path factors).passes ≡ passes_cost weight cost passes
+      + weight * n
   cost-diagonal lanes m room n waiting [] path factors good = cost-copy lanes m room n (record { waiting = waiting; passes = [] }) path factors
   cost-diagonal lanes m room n waiting (zs ∷ ps) path factors good =
       chosen (λ (next : Merging). passes_cost weight cost next.passes ≡ passes_cost weight cost (zs ∷ ps) + weight * n) (suits path zs && can_take room n factors (factor_places waiting path factors) zs) _ _
       (λ can. omega (arith, multiplied-more lanes m n factors (factor_places waiting path factors) zs good.0 (taken-free room n factors (factor_places waiting path factors) zs (and-right (suits path zs) _ can))))
       (cost-copy lanes m room n (record { waiting = waiting; passes = zs ∷ ps }) path factors)
 
-  cost-scatter : (room : Room) (n : ℕ) (waiting : List Mapping) (passes : List (List PlainNest)) (f : Mapping) → passes_cost weight cost (with_scatter room n waiting passes f).passes ≡ passes_cost weight cost passes
+  cost-scatter : (room : Room) (n : ℕ) (waiting : List Mapping) (passes : List (List PlainNest)) (f : Mapping) →
+      passes_cost weight cost (with_scatter room n waiting passes f).passes ≡ passes_cost weight cost passes
   cost-scatter room n [] [] f = refl
   cost-scatter room n [] (zs ∷ ps) f =
       chosen (λ (next : Merging). passes_cost weight cost next.passes ≡ passes_cost weight cost (zs ∷ ps)) (can_scatter room n f zs) _ _ (λ _. ap (λ a. a + passes_cost weight cost ps) (cost-scattered f zs)) refl
   cost-scatter room n (g ∷ gs) passes f = refl
 
-  cost-ended : (room : Room) (n : ℕ) (fs : List Mapping) (passes : List (List PlainNest)) → passes_cost weight cost (ended room n fs passes) ≡ passes_cost weight cost passes
+  cost-ended : (room : Room) (n : ℕ) (fs : List Mapping) (passes : List (List PlainNest)) →
+      passes_cost weight cost (ended room n fs passes) ≡ passes_cost weight cost passes
   cost-ended room n [] passes = refl
   cost-ended room n (f ∷ fs) [] = cost-settled room n (from_end (f ∷ fs))
   cost-ended room n (f ∷ fs) (zs ∷ ps) =
@@ -158,17 +183,20 @@ module _ (weight : ℕ) (cost : PlainWork → ℕ) (free : CopiesAreFree cost) w
 
   -- ---- side by side
 
-  copies-append : (path : Path) (counts : List ℕ) → copies_in (map count_of path ++ counts) ≡ paths.copies_of path * copies_in counts
+  copies-append : (path : Path) (counts : List ℕ) → copies_in (map count_of path ++ counts)
+      ≡ paths.copies_of path * copies_in counts
   copies-append [] counts = omega arith
   copies-append (t ∷ path) counts = ap (λ a. count_of t * a) (copies-append path counts) ∙ times (count_of t) (paths.copies_of path) (copies_in counts) where
     times : (a b c : ℕ) → a * (b * c) ≡ a * b * c
     times a b c = omega arith
 
-  renumbered-cost : (k : ℕ) (o : Option PlainMultiplier) (w : PlainWork) → multiplier_cost weight (renumbered_places k o) w ≡ multiplier_cost weight o w
+  renumbered-cost : (k : ℕ) (o : Option PlainMultiplier) (w : PlainWork) →
+      multiplier_cost weight (renumbered_places k o) w ≡ multiplier_cost weight o w
   renumbered-cost k None w = refl
   renumbered-cost k (Some d) w = refl
 
-  cost-lifted : (path : Path) (n before : ℕ) (zs : List PlainNest) → pass_cost weight cost (map (lifted path n before) zs) ≡ paths.copies_of path * pass_cost weight cost zs
+  cost-lifted : (path : Path) (n before : ℕ) (zs : List PlainNest) →
+      pass_cost weight cost (map (lifted path n before) zs) ≡ paths.copies_of path * pass_cost weight cost zs
   cost-lifted path n before [] = omega arith
   cost-lifted path n before (z ∷ zs) =
       let one : nest_cost weight cost (lifted path n before z) ≡ paths.copies_of path * copies_in z.counts * (cost z.work + multiplier_cost weight z.multiplier z.work) =
@@ -177,11 +205,14 @@ module _ (weight : ℕ) (cost : PlainWork → ℕ) (free : CopiesAreFree cost) w
         spread : (p c a b : ℕ) → p * c * a + p * b ≡ p * (c * a + b)
         spread p c a b = omega arith
 
-  cost-both : (zs ys : List PlainNest) → pass_cost weight cost (zs ++ ys) ≡ pass_cost weight cost zs + pass_cost weight cost ys
+  cost-both : (zs ys : List PlainNest) → pass_cost weight cost (zs ++ ys) ≡ pass_cost weight cost zs
+      + pass_cost weight cost ys
   cost-both [] ys = omega arith
   cost-both (z ∷ zs) ys = omega (arith, cost-both zs ys)
 
-  cost-side : (path : Path) (k l : ℕ) (zs ys : List PlainNest) → pass_cost weight cost (side path k l zs ys) ≡ paths.copies_of path * (pass_cost weight cost zs + pass_cost weight cost ys)
+  cost-side : (path : Path) (k l : ℕ) (zs ys : List PlainNest) →
+      pass_cost weight cost (side path k l zs ys) ≡ paths.copies_of path
+      * (pass_cost weight cost zs + pass_cost weight cost ys)
   cost-side path k l zs ys =
       cost-both (map (lifted path (k + l) 0) zs) (map (lifted path (k + l) k) ys) ∙ ap₂ (λ a b. a + b) (cost-lifted path (k + l) 0 zs) (cost-lifted path (k + l) k ys) ∙ together (paths.copies_of path) (pass_cost weight cost zs) (pass_cost weight cost ys) where
         together : (p a b : ℕ) → p * a + p * b ≡ p * (a + b)
@@ -190,7 +221,9 @@ module _ (weight : ℕ) (cost : PlainWork → ℕ) (free : CopiesAreFree cost) w
   sides-step : (p a b c d x y : ℕ) → x ≡ p * (a + b) → y ≡ p * (c + d) → x + y ≡ p * (a + c + (b + d))
   sides-step p a b c d x y e f = ap₂ (λ u v. u + v) e f ∙ omega arith
 
-  cost-sides : (path : Path) (k l : ℕ) (ps qs : List (List PlainNest)) → passes_cost weight cost (sides path k l ps qs) ≡ paths.copies_of path * (passes_cost weight cost ps + passes_cost weight cost qs)
+  cost-sides : (path : Path) (k l : ℕ) (ps qs : List (List PlainNest)) →
+      passes_cost weight cost (sides path k l ps qs) ≡ paths.copies_of path
+      * (passes_cost weight cost ps + passes_cost weight cost qs)
   cost-sides path k l [] [] = omega arith
   cost-sides path k l (zs ∷ ps) [] =
       sides-step (paths.copies_of path) (pass_cost weight cost zs) 0 (passes_cost weight cost ps) 0 _ _ (cost-side path k l zs (copying l) ∙ ap (λ c. paths.copies_of path * (pass_cost weight cost zs + c)) (cost-copying l)) (cost-sides path k l ps [])
@@ -198,7 +231,9 @@ module _ (weight : ℕ) (cost : PlainWork → ℕ) (free : CopiesAreFree cost) w
       sides-step (paths.copies_of path) 0 (pass_cost weight cost ys) 0 (passes_cost weight cost qs) _ _ (cost-side path k l (copying k) ys ∙ ap (λ c. paths.copies_of path * (c + pass_cost weight cost ys)) (cost-copying k)) (cost-sides path k l [] qs)
   cost-sides path k l (zs ∷ ps) (ys ∷ qs) = sides-step (paths.copies_of path) (pass_cost weight cost zs) (pass_cost weight cost ys) (passes_cost weight cost ps) (passes_cost weight cost qs) _ _ (cost-side path k l zs ys) (cost-sides path k l ps qs)
 
-  cost-passes : (room : Room) (n : ℕ) (st : Merging) (ps : List (List PlainNest)) → passes_cost weight cost (with_passes room n st ps).passes ≡ passes_cost weight cost ps + passes_cost weight cost st.passes
+  cost-passes : (room : Room) (n : ℕ) (st : Merging) (ps : List (List PlainNest)) →
+      passes_cost weight cost (with_passes room n st ps).passes ≡ passes_cost weight cost ps
+      + passes_cost weight cost st.passes
   cost-passes room n st [] = omega arith
   cost-passes room n st (zs ∷ []) = omega (arith, cost-pass room n st zs)
   cost-passes room n st (zs ∷ ys ∷ ps) = omega (arith, cost-passes room n st (ys ∷ ps))
@@ -209,7 +244,9 @@ module _ (weight : ℕ) (cost : PlainWork → ℕ) (free : CopiesAreFree cost) w
   copies-counts [] = refl
   copies-counts (t ∷ path) = ap (λ a. count_of t * a) (copies-counts path)
 
-  cost-merged : (lanes : ℕ) (m n : ℕ) (room : Room) (st : Merging) (t : PlainTerm) → 0 < m → 0 < n → IsGoodTerm lanes n t → Stands lanes m n st → passes_cost weight cost (merged room n st t).passes ≡ term_cost weight cost n t + passes_cost weight cost st.passes
+  cost-merged : (lanes : ℕ) (m n : ℕ) (room : Room) (st : Merging) (t : PlainTerm) → 0 < m → 0 < n →
+      IsGoodTerm lanes n t → Stands lanes m n st → passes_cost weight cost (merged room n st t).passes
+      ≡ term_cost weight cost n t + passes_cost weight cost st.passes
   cost-merged lanes m n room st same positive some good stands = omega arith
   cost-merged lanes m n room st (gath f) positive some good stands = omega arith
   cost-merged lanes m n room st (scat f) positive some good stands = omega (arith, cost-scatter room n st.waiting st.passes f)

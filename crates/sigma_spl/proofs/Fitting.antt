@@ -39,5 +39,6 @@ count_fits (repeated value count) some high = tt
 count_fits (spread path factors) some high =
     (count_fits factors (part_some path (factor_count factors) some) (part_high path (factor_count factors) some high), part_room path (factor_count factors) some high)
 
-pub has_count : (path : Path) (factors : PlainFactors) → 0 < size_under path (factor_count factors) → size_under path (factor_count factors) ≤ 2 ^ 20 → HasCount factors
+pub has_count : (path : Path) (factors : PlainFactors) → 0 < size_under path (factor_count factors) →
+    size_under path (factor_count factors) ≤ 2 ^ 20 → HasCount factors
 has_count path factors some high = count_fits factors (part_some path (factor_count factors) some) (part_high path (factor_count factors) some high)

@@ -3,7 +3,8 @@ use Rattle.std.proofs.Common.{◌≡◌, ℕ, ◌<◌, true, sym, List, [], ◌�
 use Rattle.std.specs.Prelude.{not}
 use Rattle.index_fn.specs.Mapping.{Mapping, at}
 use Rattle.sigma_spl.specs.Good.{HasLanes, MovesVectors, IsFormed, CanNest, IsGoodTerm}
-use Rattle.sigma_spl.specs.Loops.{PlainTaken, PlainLoop, Looping, begun, stored_last, scaled_last, looped, nest_of, CanScale, InOrder, CanLead, AreFormed, AllSuit, AreGoodLoops, LoopsAreGood}
+use Rattle.sigma_spl.specs.Loops.{PlainTaken, PlainLoop, Looping, begun, stored_last, scaled_last, looped, nest_of}
+use Rattle.sigma_spl.specs.Loops.{CanScale, InOrder, CanLead, AreFormed, AllSuit, AreGoodLoops, LoopsAreGood}
 use Rattle.sigma_spl.specs.Merge.{is_tile, suits}
 use Rattle.sigma_spl.specs.Nest.{PlainFactors, factor_count}
 use Rattle.sigma_spl.specs.Term.{PlainTerm, same, gath, scat, diag, nest, move, product, beside, inner_of}
@@ -33,7 +34,8 @@ none-taken d e = absurd (cc)
 same-taken : (d e : PlainTaken) → ◌≡◌ {A = Option PlainTaken} (Some d) (Some e) → d ≡ e
 same-taken d e h = cc
 
-apt-nest : (lanes n : ℕ) (path : Path) (w : PlainWork) (waiting : List Mapping) (ps : List PlainLoop) → 0 < n → CanNest lanes path w → size_under path (work_size w) ≡ n → AreApt lanes n waiting ps →
+apt-nest : (lanes n : ℕ) (path : Path) (w : PlainWork) (waiting : List Mapping) (ps : List PlainLoop) → 0 < n →
+    CanNest lanes path w → size_under path (work_size w) ≡ n → AreApt lanes n waiting ps →
     AreApt lanes n [] (record { path = path; work = w; befores = waiting; taken = None; afters = [] } ∷ ps)
 apt-nest lanes n path w waiting ps some can size h =
     record {
@@ -50,7 +52,8 @@ apt-nest lanes n path w waiting ps some can size h =
       );
     }
 
-apt-scat : (lanes n : ℕ) (f : Mapping) (waiting : List Mapping) (ps : List PlainLoop) → IsFormed f → MovesVectors lanes (at f) → AreApt lanes n waiting ps → AreApt lanes n waiting (stored_last f ps)
+apt-scat : (lanes n : ℕ) (f : Mapping) (waiting : List Mapping) (ps : List PlainLoop) → IsFormed f →
+    MovesVectors lanes (at f) → AreApt lanes n waiting ps → AreApt lanes n waiting (stored_last f ps)
 apt-scat lanes n f waiting [] formed vectors h = h
 apt-scat lanes n f waiting (p ∷ ps) formed vectors h =
     let g = h.good.0 in
@@ -72,11 +75,14 @@ apt-scat lanes n f waiting (p ∷ ps) formed vectors h =
     }
 
 -- a diagonal suits the last loop
-last-suits : (lanes : ℕ) (path : Path) (factors : PlainFactors) (p : PlainLoop) → HasLanes lanes p.work → suits path (nest_of p ∷ []) ≡ true → AllSuit p.work (inner_of path (factor_count factors) ∷ [])
+last-suits : (lanes : ℕ) (path : Path) (factors : PlainFactors) (p : PlainLoop) → HasLanes lanes p.work →
+    suits path (nest_of p ∷ []) ≡ true → AllSuit p.work (inner_of path (factor_count factors) ∷ [])
 last-suits lanes [] factors p tiles can = (suiting lanes p.work (λ i. i) tiles (none-moves lanes), tt)
 last-suits lanes (t ∷ path) factors p tiles can = (loose-suits p.work (inner_of (t ∷ path) (factor_count factors)) (and-left (not (is_tile p.work)) _ can), tt)
 
-apt-diag : (lanes n : ℕ) (path : Path) (factors : PlainFactors) (waiting : List Mapping) (ps : List PlainLoop) → IsFormed (inner_of path (factor_count factors)) → CanScale path ps → AreApt lanes n waiting ps → AreApt lanes n waiting (scaled_last path factors ps)
+apt-diag : (lanes n : ℕ) (path : Path) (factors : PlainFactors) (waiting : List Mapping) (ps : List PlainLoop) →
+    IsFormed (inner_of path (factor_count factors)) → CanScale path ps → AreApt lanes n waiting ps →
+    AreApt lanes n waiting (scaled_last path factors ps)
 apt-diag lanes n path factors waiting [] formed can h = absurd can
 apt-diag lanes n path factors waiting (p ∷ ps) formed can h =
     let g = h.good.0 in
@@ -102,7 +108,8 @@ apt-diag lanes n path factors waiting (p ∷ ps) formed can h =
       );
     }
 
-apt-term : (lanes n : ℕ) (st : Looping) (t : PlainTerm) → 0 < n → IsGoodTerm lanes n t → InOrder st t → AreApt lanes n st.waiting st.loops → AreApt lanes n (looped st t).waiting (looped st t).loops
+apt-term : (lanes n : ℕ) (st : Looping) (t : PlainTerm) → 0 < n → IsGoodTerm lanes n t → InOrder st t →
+    AreApt lanes n st.waiting st.loops → AreApt lanes n (looped st t).waiting (looped st t).loops
 apt-term lanes n st same some good order h = h
 apt-term lanes n st (gath f) some good order h = record { moves = (good, h.moves); good = h.good }
 apt-term lanes n st (scat f) some good order h = apt-scat lanes n f st.waiting st.loops good.0.there good.0.vectors h

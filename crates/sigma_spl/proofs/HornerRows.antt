@@ -16,7 +16,8 @@ abbrev taken_sum : ℕ → ℕ → ℕ → ℕ → (ℕ → ℕ) → ℕ → ℕ
 taken_sum m d w k x t = sum_below t (λ j. power_mod m w (k * j) * x (d - t + j))
 
 -- a power more in each term
-powers-more : (m w k t : ℕ) (z : ℕ → ℕ) → sum_below t (λ i. power_mod m w (k * (1 + i)) * z i) % m ≡ (power_mod m w k * sum_below t (λ i. power_mod m w (k * i) * z i)) % m
+powers-more : (m w k t : ℕ) (z : ℕ → ℕ) → sum_below t (λ i. power_mod m w (k * (1 + i)) * z i) % m
+    ≡ (power_mod m w k * sum_below t (λ i. power_mod m w (k * i) * z i)) % m
 powers-more m w k t z =
     same-sum_below m t _ (λ i. power_mod m w k * (power_mod m w (k * i) * z i)) (λ i below.
     let e : k * (1 + i) ≡ k + k * i = omega arith in
@@ -27,7 +28,8 @@ powers-more m w k t z =
     ∙ ap (λ s. s % m) (sym (mul-sum_below t (power_mod m w k) _))
 
 -- one turn more
-turn-more : (m p h s r one y : ℕ) → h ≡ s % m → r % m ≡ (p * s) % m → one ≡ 1 % m → ((h * p) % m + y) % m ≡ (0 + one * y + r) % m
+turn-more : (m p h s r one y : ℕ) → h ≡ s % m → r % m ≡ (p * s) % m → one ≡ 1 % m →
+    ((h * p) % m + y) % m ≡ (0 + one * y + r) % m
 turn-more m p h s r one y h_is r_is one_is =
     let left : ((h * p) % m) % m ≡ r % m = mod-mod (h * p) m ∙ ap (λ z. (z * p) % m) h_is ∙ mul-mod_first s p m ∙ ap (λ z. z % m) (omega arith) ∙ sym r_is in
     let right : y % m ≡ (one * y) % m = ap (λ z. z % m) (omega arith) ∙ sym (mul-mod_first 1 y m) ∙ ap (λ z. (z * y) % m) (sym one_is) in

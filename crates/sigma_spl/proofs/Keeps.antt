@@ -1,5 +1,7 @@
 -- The passes of a term do what it does.
-use Rattle.std.proofs.Common.{◌≡◌, ℕ, zero, suc, ◌+◌, ◌*◌, ◌-◌, ◌/◌, ◌%◌, ◌<◌, arith, refl, sym, ap, ap₂, ◌∙◌, List, [], ◌∷◌, length, inl, inr, subst, mod-lt, mod-eq_of_lt, div-lt_iff_lt-mul, eq-zero-or-pos, zero-mul, mul-zero}
+use Rattle.std.proofs.Common.{◌≡◌, ℕ, zero, suc, ◌+◌, ◌*◌, ◌-◌, ◌/◌, ◌%◌, ◌<◌, arith, refl, sym, ap, ap₂, ◌∙◌, List, []}
+use Rattle.std.proofs.Common.{◌∷◌, length, inl, inr, subst, mod-lt, mod-eq_of_lt, div-lt_iff_lt-mul, eq-zero-or-pos}
+use Rattle.std.proofs.Common.{zero-mul, mul-zero}
 use Rattle.std.specs.Prelude.{slice_index, map, nat_lt, ◌==◌, if◌then◌else◌}
 use Rattle.std.proofs.Math.Nat.{div-add-mod'}
 use Rattle.std.proofs.lemmas.Bool.{cases_lt}
@@ -14,7 +16,8 @@ use Rattle.operators.proofs.Scatters.{sum_below-only}
 use Rattle.perm_algebra.specs.Affine.{constant}
 use Rattle.sigma_spl.specs.Copies.{both}
 use Rattle.sigma_spl.specs.Good.{IsGoodPass, AreGoodPasses, IsFormed, IsGoodTerm, IsVector, MergeKeeps}
-use Rattle.sigma_spl.specs.Merge.{Room, less, Merging, nothing, new_nest, items_in, copying, side, sides, with_passes, back_of, from_end, ended, merged, if_any}
+use Rattle.sigma_spl.specs.Merge.{Room, less, Merging, nothing, new_nest, items_in, copying, side, sides, with_passes}
+use Rattle.sigma_spl.specs.Merge.{back_of, from_end, ended, merged, if_any}
 use Rattle.sigma_spl.specs.Nest.{factor_count, PlainNest, nests_on, passes_on}
 use Rattle.sigma_spl.specs.Term.{PlainTerm, same, gath, scat, diag, nest, move, product, beside, inner_of, term_on}
 use Rattle.sigma_spl.specs.Work.{copy, work_size}
@@ -22,14 +25,16 @@ use Rattle.sigma_spl.proofs.CopiesMerge.{miss, low, high}
 use Rattle.sigma_spl.proofs.Natural.{nest-natural, natural-good, copying-same, copying-good}
 use Rattle.sigma_spl.proofs.Moved.{moved-on, moved-good}
 use Rattle.sigma_spl.proofs.Sides.{side-on, side-good}
-use Rattle.sigma_spl.proofs.Walk.{waiting_on, gathers-end, moves-end, Stands, merging_on, Reaches, merging-vector, Copy, vector-below, pass-reaches, diagonal-reaches, scatter-reaches, ended-are}
+use Rattle.sigma_spl.proofs.Walk.{waiting_on, gathers-end, moves-end, Stands, merging_on, Reaches, merging-vector, Copy}
+use Rattle.sigma_spl.proofs.Walk.{vector-below, pass-reaches, diagonal-reaches, scatter-reaches, ended-are}
 use Rattle.operators.specs.declared.tensor_paths.Tensor.TheVariants.{Blocks, Columns}
 use Rattle.operators.specs.TensorPaths.Path.{Path, size_under, under}
 use Rattle.operators.proofs.TensorPaths.Under.{under-product}
 
 -- ---- vectors under tensors and side by side
 
-pub vector-fill : (m n : ℕ) (x : List ℕ) (f : ℕ → ℕ) → IsVector m n x → ((i : ℕ) → i < n → f i ≡ slice_index x i) → list_below n f ≡ x
+pub vector-fill : (m n : ℕ) (x : List ℕ) (f : ℕ → ℕ) → IsVector m n x → ((i : ℕ) → i < n → f i ≡ slice_index x i) →
+    list_below n f ≡ x
 vector-fill m n x f v h = list_below-same n f (slice_index x) h ∙ sym (fill_by_all (slice_index x) x n 0 v.size (λ k below. refl))
 
 block-vector : (m c n : ℕ) (v : ℕ) (x : List ℕ) → IsVector m (c * n) x → v < c → IsVector m n (block n v x)
@@ -38,7 +43,8 @@ block-vector m c n v x h below = vector-below m n _ (λ j within. h.residues (v 
 column-vector : (m n c : ℕ) (v : ℕ) (x : List ℕ) → IsVector m (n * c) x → v < c → IsVector m n (column n c v x)
 column-vector m n c v x h below = vector-below m n _ (λ i within. h.residues (i * c + v) (place_below i v n c within below))
 
-pub under-vector : (m : ℕ) (path : Path) (n : ℕ) (a b : Operator) (x : List ℕ) → ((y : List ℕ) → IsVector m n y → a y ≡ b y) → IsVector m (size_under path n) x → under path n a x ≡ under path n b x
+pub under-vector : (m : ℕ) (path : Path) (n : ℕ) (a b : Operator) (x : List ℕ) →
+    ((y : List ℕ) → IsVector m n y → a y ≡ b y) → IsVector m (size_under path n) x → under path n a x ≡ under path n b x
 under-vector m [] n a b x h v = h x v
 under-vector m (Blocks c ∷ path) n a b x h v =
     list_below-same (c * size_under path n) _ _ (λ p below.
@@ -50,7 +56,8 @@ under-vector m (Columns c ∷ path) n a b x h v =
     let positive : 0 < c = factor_positive (size_under path n) c p below in
     ap (λ y. slice_index y (p / c)) (under-vector m path n a b (column (size_under path n) c (p % c) x) h (column-vector m (size_under path n) c (p % c) x v (mod-lt p positive))))
 
-pub under-none : (m : ℕ) (path : Path) (n : ℕ) (x : List ℕ) → IsVector m (size_under path n) x → under path n (λ y. y) x ≡ x
+pub under-none : (m : ℕ) (path : Path) (n : ℕ) (x : List ℕ) → IsVector m (size_under path n) x →
+    under path n (λ y. y) x ≡ x
 under-none m [] n x v = refl
 under-none m (Blocks c ∷ path) n x v =
     vector-fill m (c * size_under path n) x _ v (λ p below.
@@ -81,21 +88,25 @@ front-vector m k l x v = vector-below m k _ (λ i below. v.residues i (omega ari
 pub back-vector : (m k l : ℕ) (x : List ℕ) → IsVector m (k + l) x → IsVector m l (back k l x)
 back-vector m k l x v = vector-below m l _ (λ i below. v.residues (k + i) (omega arith))
 
-pub both-equal : (k l : ℕ) (a b c d : Operator) (x : List ℕ) → a (front k x) ≡ c (front k x) → b (back k l x) ≡ d (back k l x) → both k l a b x ≡ both k l c d x
+pub both-equal : (k l : ℕ) (a b c d : Operator) (x : List ℕ) → a (front k x) ≡ c (front k x) →
+    b (back k l x) ≡ d (back k l x) → both k l a b x ≡ both k l c d x
 both-equal k l a b c d x p q = ap₂ (λ u v. list_below (k + l) (λ w. if nat_lt w k then slice_index u w else slice_index v (w - k))) p q
 
-both-front : (k l : ℕ) (a b : Operator) (x : List ℕ) → length (a (front k x)) ≡ k → front k (both k l a b x) ≡ a (front k x)
+both-front : (k l : ℕ) (a b : Operator) (x : List ℕ) → length (a (front k x)) ≡ k →
+    front k (both k l a b x) ≡ a (front k x)
 both-front k l a b x size =
     list_below-same k _ (slice_index (a (front k x))) (λ w below. at-list_below (k + l) _ w (omega arith) ∙ low w k _ _ below)
     ∙ sym (fill_by_all (slice_index (a (front k x))) (a (front k x)) k 0 size (λ i below. refl))
 
-both-back : (k l : ℕ) (a b : Operator) (x : List ℕ) → length (b (back k l x)) ≡ l → back k l (both k l a b x) ≡ b (back k l x)
+both-back : (k l : ℕ) (a b : Operator) (x : List ℕ) → length (b (back k l x)) ≡ l →
+    back k l (both k l a b x) ≡ b (back k l x)
 both-back k l a b x size =
     list_below-same l _ (slice_index (b (back k l x)))
     (λ w below. at-list_below (k + l) _ (k + w) (omega arith) ∙ high (k + w) k _ _ (omega arith) ∙ ap (slice_index (b (back k l x))) (omega arith))
     ∙ sym (fill_by_all (slice_index (b (back k l x))) (b (back k l x)) l 0 size (λ i below. refl))
 
-both-product : (k l : ℕ) (a b c d : Operator) (x : List ℕ) → length (c (front k x)) ≡ k → length (d (back k l x)) ≡ l → both k l a b (both k l c d x) ≡ both k l (λ y. a (c y)) (λ y. b (d y)) x
+both-product : (k l : ℕ) (a b c d : Operator) (x : List ℕ) → length (c (front k x)) ≡ k → length (d (back k l x)) ≡ l →
+    both k l a b (both k l c d x) ≡ both k l (λ y. a (c y)) (λ y. b (d y)) x
 both-product k l a b c d x p q =
     ap₂ (λ u v. list_below (k + l) (λ w. if nat_lt w k then slice_index (a u) w else slice_index (b v) (w - k))) (both-front k l c d x p) (both-back k l c d x q)
 
@@ -111,7 +122,8 @@ both-none m k l x v =
 
 pub record Beside (lanes : ℕ) (m k l : ℕ) (path : Path) (ps : List (List PlainNest)) (a b : Operator) : Type 0 where
   pub good : AreGoodPasses lanes m (size_under path (k + l)) ps
-  pub on : (x : List ℕ) → IsVector m (size_under path (k + l)) x → passes_on m (size_under path (k + l)) ps x ≡ under path (k + l) (both k l a b) x
+  pub on : (x : List ℕ) → IsVector m (size_under path (k + l)) x →
+      passes_on m (size_under path (k + l)) ps x ≡ under path (k + l) (both k l a b) x
   pub first : (y : List ℕ) → IsVector m k y → length (a y) ≡ k
   pub second : (y : List ℕ) → IsVector m l y → length (b y) ≡ l
 
@@ -124,7 +136,8 @@ beside-none lanes m k l path =
       second = λ y v. v.size;
     }
 
-beside-more : (lanes : ℕ) → (m k l : ℕ) (path : Path) (ps : List (List PlainNest)) (a b : Operator) (zs ys : List PlainNest) → Beside lanes m k l path ps a b → IsGoodPass 0 m k zs → IsGoodPass 0 m l ys →
+beside-more : (lanes : ℕ) → (m k l : ℕ) (path : Path) (ps : List (List PlainNest)) (a b : Operator)
+    (zs ys : List PlainNest) → Beside lanes m k l path ps a b → IsGoodPass 0 m k zs → IsGoodPass 0 m l ys →
     Beside lanes m k l path (side path k l zs ys ∷ ps) (λ y. nests_on m k zs (a y)) (λ y. nests_on m l ys (b y))
 beside-more lanes m k l path ps a b zs ys h z y =
     record {
@@ -138,7 +151,9 @@ beside-more lanes m k l path ps a b zs ys h z y =
       second = λ u w. length-list_below l _;
     }
 
-beside-as : (lanes : ℕ) → (m k l : ℕ) (path : Path) (ps : List (List PlainNest)) (a b c d : Operator) → ((y : List ℕ) → IsVector m k y → a y ≡ c y) → ((y : List ℕ) → IsVector m l y → b y ≡ d y) → Beside lanes m k l path ps a b → Beside lanes m k l path ps c d
+beside-as : (lanes : ℕ) → (m k l : ℕ) (path : Path) (ps : List (List PlainNest)) (a b c d : Operator) →
+    ((y : List ℕ) → IsVector m k y → a y ≡ c y) → ((y : List ℕ) → IsVector m l y → b y ≡ d y) →
+    Beside lanes m k l path ps a b → Beside lanes m k l path ps c d
 beside-as lanes m k l path ps a b c d p q h =
     record {
       good = h.good;
@@ -147,7 +162,9 @@ beside-as lanes m k l path ps a b c d p q h =
       second = λ y v. ap length (sym (q y v)) ∙ h.second y v;
     }
 
-pub sides-are : (lanes : ℕ) → (m k l : ℕ) (path : Path) (ps qs : List (List PlainNest)) → 0 < m → AreGoodPasses 0 m k ps → AreGoodPasses 0 m l qs → Beside lanes m k l path (sides path k l ps qs) (passes_on m k ps) (passes_on m l qs)
+pub sides-are : (lanes : ℕ) → (m k l : ℕ) (path : Path) (ps qs : List (List PlainNest)) → 0 < m →
+    AreGoodPasses 0 m k ps → AreGoodPasses 0 m l qs → Beside lanes m k l path (sides path k l ps qs) (passes_on m k ps)
+    (passes_on m l qs)
 sides-are lanes m k l path [] [] positive h g = beside-none lanes m k l path
 sides-are lanes m k l path (zs ∷ ps) [] positive h g =
     beside-as lanes m k l path _ _ _ _ _ (λ y v. refl) (λ y v. copying-same m l y v) (beside-more lanes m k l path (sides path k l ps []) (passes_on m k ps) (λ y. y) zs (copying l) (sides-are lanes m k l path ps [] positive h.1 tt) h.0 (copying-good 0 m l))
@@ -158,11 +175,14 @@ sides-are lanes m k l path (zs ∷ ps) (ys ∷ qs) positive h g =
 
 -- ---- several passes more
 
-none-waits : (room : Room) (n : ℕ) (st : Merging) (zs : List PlainNest) (ps : List (List PlainNest)) → (with_passes room n st (zs ∷ ps)).waiting ≡ []
+none-waits : (room : Room) (n : ℕ) (st : Merging) (zs : List PlainNest) (ps : List (List PlainNest)) →
+    (with_passes room n st (zs ∷ ps)).waiting ≡ []
 none-waits room n st zs [] = refl
 none-waits room n st zs (ys ∷ ps) = refl
 
-pub passes-reach : (lanes : ℕ) → (m n : ℕ) (room : Room) (st : Merging) (ps : List (List PlainNest)) → 0 < m → AreGoodPasses lanes m n ps → Stands lanes m n st → Reaches lanes m n (with_passes room n st ps) st (passes_on m n ps)
+pub passes-reach : (lanes : ℕ) → (m n : ℕ) (room : Room) (st : Merging) (ps : List (List PlainNest)) → 0 < m →
+    AreGoodPasses lanes m n ps → Stands lanes m n st → Reaches lanes m n (with_passes room n st ps) st
+    (passes_on m n ps)
 passes-reach lanes m n room st [] positive h stands = record { stands = stands; on = λ x v. refl }
 passes-reach lanes m n room st (zs ∷ []) positive h stands = pass-reaches lanes m n room st zs positive h.0 stands
 passes-reach lanes m n room st (zs ∷ ys ∷ ps) positive h stands =
@@ -176,14 +196,17 @@ passes-reach lanes m n room st (zs ∷ ys ∷ ps) positive h stands =
 -- ---- terms
 
 -- the same state, for an operator that is equal on vectors
-pub reaches-as : (lanes : ℕ) → (m n : ℕ) (next st : Merging) (a b : Operator) → 0 < m → Stands lanes m n st → ((y : List ℕ) → IsVector m n y → a y ≡ b y) → Reaches lanes m n next st a → Reaches lanes m n next st b
+pub reaches-as : (lanes : ℕ) → (m n : ℕ) (next st : Merging) (a b : Operator) → 0 < m → Stands lanes m n st →
+    ((y : List ℕ) → IsVector m n y → a y ≡ b y) → Reaches lanes m n next st a → Reaches lanes m n next st b
 reaches-as lanes m n next st a b positive stands equal h = record { stands = h.stands; on = λ x v. h.on x v ∙ equal (merging_on m n st x) (merging-vector lanes m n st x positive stands v) }
 
-reaches-then : (lanes : ℕ) → (m n : ℕ) (last next st : Merging) (a b : Operator) → Reaches lanes m n last next b → Reaches lanes m n next st a → Reaches lanes m n last st (λ x. b (a x))
+reaches-then : (lanes : ℕ) → (m n : ℕ) (last next st : Merging) (a b : Operator) → Reaches lanes m n last next b →
+    Reaches lanes m n next st a → Reaches lanes m n last st (λ x. b (a x))
 reaches-then lanes m n last next st a b h g = record { stands = h.stands; on = λ x v. h.on x v ∙ ap b (g.on x v) }
 
 -- a scatter of a permutation is the gather of the one that undoes it
-pub scatter-same : (m n : ℕ) (f : Mapping) (x : List ℕ) → IsPermutationBelow n (at (back_of f)) (at f) → IsVector m n x → gather n (at (back_of f)) x ≡ term_on m n (scat f) x
+pub scatter-same : (m n : ℕ) (f : Mapping) (x : List ℕ) → IsPermutationBelow n (at (back_of f)) (at f) →
+    IsVector m n x → gather n (at (back_of f)) x ≡ term_on m n (scat f) x
 scatter-same m n f x p v =
     list_below-same n _ _ (λ w below.
     let k = at (back_of f) w in
@@ -222,12 +245,14 @@ pub nothing-stands : (lanes : ℕ) → (m n : ℕ) → Stands lanes m n nothing
 nothing-stands lanes m n = record { moves = tt; good = tt }
 
 -- the passes of a part
-ended-term : (lanes : ℕ) → (m n : ℕ) (room : Room) (st : Merging) (a : Operator) → 0 < m → Reaches lanes m n st nothing a → Copy lanes m n (ended room n (from_end st.waiting) st.passes) a
+ended-term : (lanes : ℕ) → (m n : ℕ) (room : Room) (st : Merging) (a : Operator) → 0 < m →
+    Reaches lanes m n st nothing a → Copy lanes m n (ended room n (from_end st.waiting) st.passes) a
 ended-term lanes m n room st a positive h =
     let rest = ended-are lanes m n room (from_end st.waiting) st.passes positive (moves-end lanes n st.waiting h.stands.moves) h.stands.good in
     record { good = rest.good; on = λ x v. rest.on x v ∙ gathers-end n st.waiting (passes_on m n st.passes x) ∙ h.on x v }
 
-pub merged-reaches : (lanes : ℕ) → (m n : ℕ) (room : Room) (st : Merging) (t : PlainTerm) → 0 < m → 0 < n → IsGoodTerm lanes n t → Stands lanes m n st → Reaches lanes m n (merged room n st t) st (term_on m n t)
+pub merged-reaches : (lanes : ℕ) → (m n : ℕ) (room : Room) (st : Merging) (t : PlainTerm) → 0 < m → 0 < n →
+    IsGoodTerm lanes n t → Stands lanes m n st → Reaches lanes m n (merged room n st t) st (term_on m n t)
 merged-reaches lanes m n room st same positive some good stands = record { stands = stands; on = λ x v. refl }
 merged-reaches lanes m n room st (gath f) positive some good stands = record { stands = record { moves = (good, stands.moves); good = stands.good }; on = λ x v. refl }
 merged-reaches lanes m n room st (scat f) positive some good stands =
@@ -255,7 +280,8 @@ merged-reaches lanes m n room st (beside path k a l b) positive some good stands
     (λ y v. ap (λ z. passes_on m z (sides path k l ps qs) y) (sym size) ∙ all.on y (subst (λ z. IsVector m z y) (sym size) v))
     (passes-reach lanes m n room st (sides path k l ps qs) positive (subst (λ z. AreGoodPasses lanes m z (sides path k l ps qs)) size all.good) stands)
 
-some-passes : (lanes : ℕ) → (m n : ℕ) (ps : List (List PlainNest)) (a : Operator) → Copy lanes m n ps a → Copy lanes m n (if_any n ps) a
+some-passes : (lanes : ℕ) → (m n : ℕ) (ps : List (List PlainNest)) (a : Operator) → Copy lanes m n ps a →
+    Copy lanes m n (if_any n ps) a
 some-passes lanes m n [] a h = record { good = (copying-good lanes m n, tt); on = λ x v. copying-same m n x v ∙ h.on x v }
 some-passes lanes m n (zs ∷ ps) a h = h
 

@@ -1,5 +1,6 @@
 -- The passes of a term have places within the limits.
-use Rattle.std.proofs.Common.{◌≡◌, ℕ, suc, ◌+◌, ◌*◌, ◌-◌, ◌^◌, ◌<◌, ◌≤◌, Bool, true, arith, refl, sym, ap, ap₂, ◌∙◌, List, [], ◌∷◌, ◌++◌, length, inl, inr, subst, append_assoc, Option, Some, None}
+use Rattle.std.proofs.Common.{◌≡◌, ℕ, suc, ◌+◌, ◌*◌, ◌-◌, ◌^◌, ◌<◌, ◌≤◌, Bool, true, arith, refl, sym, ap, ap₂, ◌∙◌}
+use Rattle.std.proofs.Common.{List, [], ◌∷◌, ◌++◌, length, inl, inr, subst, append_assoc, Option, Some, None}
 use Rattle.std.specs.Prelude.{map, nat_lt, nat_le, ◌&&◌, slice_index}
 use Rattle.std.specs.List.{list_all, range_with_len}
 use Rattle.std.proofs.Math.Nat.{pow-succ', mul-le-mul, mul-le-mul_right}
@@ -13,7 +14,10 @@ use Rattle.operators.proofs.Lists.{at-list_below, length-list_below}
 use Rattle.perm_algebra.specs.Affine.{Sum, constant, variable, remainder, top, peak, levels, parts, joined}
 use Rattle.sigma_spl.specs.Good.{AreBelow, CanNest, IsGoodTerm}
 use Rattle.sigma_spl.specs.Limits.{AreSeveral, HasRows, HasSeveral, AreWithin, MergeLimits}
-use Rattle.sigma_spl.specs.Merge.{most, Merging, nothing, limits_of, is_limited, are_small, is_multiplier_within, is_within, can_multiply, suits, multiplied, one_loop, copying, settled, with_passes, factor_places, with_copy, with_diagonal, from_end, ended, place_sum, items_in, new_nest, renumbered, renumbered_places, lifted, side, sides, merged, if_any}
+use Rattle.sigma_spl.specs.Merge.{most, Merging, nothing, limits_of, is_limited, are_small, is_multiplier_within}
+use Rattle.sigma_spl.specs.Merge.{is_within, can_multiply, suits, multiplied, one_loop, copying, settled, with_passes}
+use Rattle.sigma_spl.specs.Merge.{factor_places, with_copy, with_diagonal, from_end, ended, place_sum, items_in}
+use Rattle.sigma_spl.specs.Merge.{new_nest, renumbered, renumbered_places, lifted, side, sides, merged, if_any}
 use Rattle.sigma_spl.specs.Nest.{PlainFactors, spread, factor_count, PlainMultiplier, PlainNest}
 use Rattle.sigma_spl.specs.Term.{PlainTerm, same, gath, scat, diag, nest, move, product, beside}
 use Rattle.sigma_spl.specs.Work.{PlainWork, kernel, rows, horner, tile, copy, work_size}
@@ -21,7 +25,9 @@ use Rattle.sigma_spl.proofs.Keeps.{merged-reaches, nothing-stands, inner_positiv
 use Rattle.sigma_spl.proofs.Sides.{rest_of, rest-index}
 use Rattle.sigma_spl.proofs.Small.{max-lt, divided-true, HasCounts, place-small, renumbered-small, behind-small}
 use Rattle.sigma_spl.proofs.Walk.{chosen, and-left, and-right, AreMoves, Stands}
-use Rattle.sigma_spl.proofs.Within.{both-true, within-append, TablesFit, AreInside', within-settled, within-pass, within-scatter, inside-end, within-ended, within-multiplied, IsSmall, limited, small-true, constant-small}
+use Rattle.sigma_spl.proofs.Within.{both-true, within-append, TablesFit, AreInside', within-settled, within-pass}
+use Rattle.sigma_spl.proofs.Within.{within-scatter, inside-end, within-ended, within-multiplied, IsSmall, limited}
+use Rattle.sigma_spl.proofs.Within.{small-true, constant-small}
 use Rattle.operators.specs.declared.tensor_paths.Tensor.TheVariants.{Blocks, Columns}
 use Rattle.operators.specs.TensorPaths.Path.{Path, count_of, size_under}
 
@@ -75,7 +81,8 @@ round-word u n h =
 double : (p n c : ℕ) → 2 ≤ c → n * (2 * p) ≤ c * n * p
 double p n c two = let more = mul-le-mul_right (n * p) two in let left : 2 * (n * p) ≡ n * (2 * p) = omega arith in let right : c * (n * p) ≡ c * n * p = omega arith in omega (arith, more, left, right)
 
-pub round-inner : (path : Path) (u d : ℕ) → AreSeveral path → IsRound u (size_under path d) → IsRound (u + length path) d
+pub round-inner : (path : Path) (u d : ℕ) → AreSeveral path → IsRound u (size_under path d) →
+    IsRound (u + length path) d
 round-inner [] u d several h = let e : u ≡ u + 0 = omega arith in subst (λ z. IsRound z d) e h
 round-inner (Blocks c ∷ path) u d several h =
     let n = size_under path d in
@@ -91,7 +98,8 @@ round-inner (Columns c ∷ path) u d several h =
 
 -- ---- new nests
 
-counts-first : (path : Path) (v : ℕ) (cs : ℕ → ℕ) (more : List ℕ) → ((i : ℕ) → cs (v + i) ≡ slice_index (map count_of path ++ more) i) → HasCounts path v cs
+counts-first : (path : Path) (v : ℕ) (cs : ℕ → ℕ) (more : List ℕ) →
+    ((i : ℕ) → cs (v + i) ≡ slice_index (map count_of path ++ more) i) → HasCounts path v cs
 counts-first [] v cs more is = tt
 counts-first (t ∷ path) v cs more is = (ap cs (omega arith) ∙ is 0, counts-first path (v + 1) cs more (λ i. ap cs (omega arith) ∙ is (suc i)))
 
@@ -125,17 +133,20 @@ turn-fits d c low high =
     let second : c - 1 ≤ 2 ^ 20 = omega (arith, high) in
     let most : (d - 1) * (c - 1) ≤ 2 ^ 20 * 2 ^ 20 = mul-le-mul first second in omega (arith, most, low)
 
-module _ (room : ℕ) (path : Path) (d : ℕ) (several : AreSeveral path) (some : 0 < d) (high : size_under path d ≤ 2 ^ 20) (short : length path + 2 ≤ room) where
+module _ (room : ℕ) (path : Path) (d : ℕ) (several : AreSeveral path) (some : 0 < d) (high : size_under path d ≤ 2 ^ 20)
+    (short : length path + 2 ≤ room) where
   abbrev cs : ℕ → ℕ
   cs = slice_index (map count_of path ++ d ∷ d ∷ [])
 
   counted : HasCounts path 0 cs
   counted = counts-first path 0 cs (d ∷ d ∷ []) (λ i. ap cs (omega arith))
 
-  place-limited : (r : ℕ) (e : Sum) → r ≤ 2 → IsSmall r d cs e → is_limited room (size_under path d) cs (place_sum path d 0 e) ≡ true
+  place-limited : (r : ℕ) (e : Sum) → r ≤ 2 → IsSmall r d cs e →
+      is_limited room (size_under path d) cs (place_sum path d 0 e) ≡ true
   place-limited r e few h = limited room (size_under path d) cs (place_sum path d 0 e) (roomier (r + length path) room _ cs _ (omega arith) (place-small path r d 0 e cs several counted some high h))
 
-  constants-limited : (n : ℕ) (ks : List ℕ) → d ≤ n → n ≤ 2 ^ 20 → AreBelow d ks → list_all (is_limited room (size_under path d) cs) (map (place_sum path d 0) (map constant ks)) ≡ true
+  constants-limited : (n : ℕ) (ks : List ℕ) → d ≤ n → n ≤ 2 ^ 20 → AreBelow d ks →
+      list_all (is_limited room (size_under path d) cs) (map (place_sum path d 0) (map constant ks)) ≡ true
   constants-limited n [] fits low h = refl
   constants-limited n (k ∷ ks) fits low h = both-true _ _ (place-limited 0 (constant k) (omega arith) (constant-small 0 d cs k h.0 (omega (arith, fits, low)))) (constants-limited n ks fits low h.1)
 
@@ -144,7 +155,8 @@ module _ (room : ℕ) (path : Path) (d : ℕ) (several : AreSeveral path) (some 
   variable-small v two is =
       record { parts = omega arith; levels = omega arith; top = let one : 1 * (cs v - 1) + 0 ≡ d - 1 = ap (λ z. 1 * (z - 1) + 0) is ∙ omega arith in omega (arith, one, two); peak = max-lt 1 0 d (omega arith) (omega arith); small = refl }
 
-  turn-small : (v : ℕ) → 2 ≤ d → d ≤ 2 ^ 20 → cs v ≡ d → IsSmall 2 d cs (remainder 1 (variable (d - 1) v (constant (d - 1))) d (constant 0))
+  turn-small : (v : ℕ) → 2 ≤ d → d ≤ 2 ^ 20 → cs v ≡ d → IsSmall 2 d cs
+      (remainder 1 (variable (d - 1) v (constant (d - 1))) d (constant 0))
   turn-small v two low is =
       record {
         parts = omega arith;
@@ -173,13 +185,16 @@ starts-listed : (v : ℕ) (ks : List ℕ) → map constant (map (λ k. k * v) ks
 starts-listed v [] = refl
 starts-listed v (k ∷ ks) = ap (λ z. constant (k * v) ∷ z) (starts-listed v ks)
 
-tile-limited : (room : ℕ) (path : Path) (v : ℕ) → AreSeveral path → 0 < v * v → size_under path (v * v) ≤ 2 ^ 20 → length path + 2 ≤ room → v * v ≤ 2 ^ 20 →
-    list_all (is_limited room (size_under path (v * v)) (slice_index (map count_of path ++ v * v ∷ v * v ∷ []))) (map (place_sum path (v * v) 0) (map (λ k. constant (k * v)) (range_with_len 0 v))) ≡ true
+tile-limited : (room : ℕ) (path : Path) (v : ℕ) → AreSeveral path → 0 < v * v → size_under path (v * v) ≤ 2 ^ 20 →
+    length path + 2 ≤ room → v * v ≤ 2 ^ 20 →
+    list_all (is_limited room (size_under path (v * v)) (slice_index (map count_of path ++ v * v ∷ v * v ∷ [])))
+    (map (place_sum path (v * v) 0) (map (λ k. constant (k * v)) (range_with_len 0 v))) ≡ true
 tile-limited room path v several some high short low =
     subst (λ es. list_all (is_limited room (size_under path (v * v)) (slice_index (map count_of path ++ v * v ∷ v * v ∷ []))) (map (place_sum path (v * v) 0) es) ≡ true) (starts-listed v (range_with_len 0 v))
     (constants-limited room path (v * v) several some high short (v * v) (map (λ k. k * v) (range_with_len 0 v)) (omega arith) low (starts-below v (range_with_len 0 v) (range-below v)))
 
-pub new-within : (room lanes : ℕ) (path : Path) (w : PlainWork) → CanNest lanes path w → HasRows w → AreSeveral path → 0 < work_size w → size_under path (work_size w) ≤ 2 ^ 20 → length path + 2 ≤ room →
+pub new-within : (room lanes : ℕ) (path : Path) (w : PlainWork) → CanNest lanes path w → HasRows w → AreSeveral path →
+    0 < work_size w → size_under path (work_size w) ≤ 2 ^ 20 → length path + 2 ≤ room →
     is_within room (size_under path (work_size w)) (new_nest path w (items_in w (length path)) ∷ []) ≡ true
 new-within room lanes path (kernel trees) can long several some high short =
     let d = work_size (kernel trees) in
@@ -202,7 +217,8 @@ new-within room lanes path (copy d) can long several some high short =
     let all = constants-limited room path d several some high short d (range_with_len 0 d) (omega arith) low (range-below d) in both-within _ _ all all
 
 -- copies that take listed items
-pub moved-within : (room : ℕ) (path : Path) (ks : List ℕ) → AreSeveral path → 0 < length ks → size_under path (length ks) ≤ 2 ^ 20 → length path + 2 ≤ room → AreBelow (length ks) ks →
+pub moved-within : (room : ℕ) (path : Path) (ks : List ℕ) → AreSeveral path → 0 < length ks →
+    size_under path (length ks) ≤ 2 ^ 20 → length path + 2 ≤ room → AreBelow (length ks) ks →
     is_within room (size_under path (length ks)) (new_nest path (copy (length ks)) (map constant ks) ∷ []) ≡ true
 moved-within room path ks several some high short h =
     let d = length ks in
@@ -217,7 +233,8 @@ table-within room n some high wide f stay =
     subst (λ z. is_within room z (new_nest [] (copy (length ks)) (map constant ks) ∷ []) ≡ true) size
     (moved-within room [] ks tt (omega (arith, size, some)) (omega (arith, size, high)) wide entries)
 
-pub several-one : (n : ℕ) → 0 < n → AreSeveral (one_loop n) × (length (one_loop n) ≤ 1) × (size_under (one_loop n) 1 ≡ n)
+pub several-one : (n : ℕ) → 0 < n → AreSeveral (one_loop n) × (length (one_loop n) ≤ 1)
+    × (size_under (one_loop n) 1 ≡ n)
 several-one n some =
     elim (cases_eq n 1) [
       | inl one ↦ let is : one_loop n ≡ [] = grind (arith, nat_tests) in
@@ -237,7 +254,8 @@ sums-id : (es : List Sum) → map (λ e. e) es ≡ es
 sums-id [] = refl
 sums-id (e ∷ es) = ap (λ z. e ∷ z) (sums-id es)
 
-pub spread-within : (room n : ℕ) (factors : PlainFactors) (zs : List PlainNest) → factor_count factors ≡ n → is_within room n zs ≡ true → is_within room n (multiplied factors [] zs) ≡ true
+pub spread-within : (room n : ℕ) (factors : PlainFactors) (zs : List PlainNest) → factor_count factors ≡ n →
+    is_within room n zs ≡ true → is_within room n (multiplied factors [] zs) ≡ true
 spread-within room n factors [] count h = refl
 spread-within room n factors (z ∷ zs) count h =
     let cs = limits_of z in
@@ -252,13 +270,17 @@ module _ (room n : ℕ) (some : 0 < n) (high : n ≤ 2 ^ 20) (wide : 3 ≤ room)
   pub tables : TablesFit room n
   tables = table-within room n some high (omega arith)
 
-  pub copy-within : (st : Merging) (path : Path) (factors : PlainFactors) → size_under path (factor_count factors) ≡ n → AreInside' room n tables st.waiting → AreWithin room n st.passes → AreWithin room n (with_copy (most room) n st path factors).passes
+  pub copy-within : (st : Merging) (path : Path) (factors : PlainFactors) → size_under path (factor_count factors) ≡ n →
+      AreInside' room n tables st.waiting → AreWithin room n st.passes →
+      AreWithin room n (with_copy (most room) n st path factors).passes
   copy-within st path factors count stay before =
       chosen (λ (next : Merging). AreWithin room n next.passes) (can_multiply room n factors (factor_places st.waiting path factors) (copying n)) _ _
       (λ can. (within-multiplied room n factors (factor_places st.waiting path factors) (copying n) (copying-within room n some high wide) can, before))
       (spread-within room n (spread path factors) (copying n) count (copying-within room n some high wide), within-append room n (settled (most room) n st.waiting) st.passes (within-settled room n tables st.waiting stay) before)
 
-  pub diagonal-within : (waiting : List Mapping) (passes : List (List PlainNest)) (path : Path) (factors : PlainFactors) → size_under path (factor_count factors) ≡ n → AreInside' room n tables waiting → AreWithin room n passes →
+  pub diagonal-within : (waiting : List Mapping) (passes : List (List PlainNest)) (path : Path)
+      (factors : PlainFactors) → size_under path (factor_count factors) ≡ n → AreInside' room n tables waiting →
+      AreWithin room n passes →
       AreWithin room n (with_diagonal (most room) n waiting passes path factors).passes
   diagonal-within waiting [] path factors count stay before = copy-within (record { waiting = waiting; passes = [] }) path factors count stay before
   diagonal-within waiting (zs ∷ ps) path factors count stay before =
@@ -266,18 +288,22 @@ module _ (room n : ℕ) (some : 0 < n) (high : n ≤ 2 ^ 20) (wide : 3 ≤ room)
       (λ can. (within-multiplied room n factors (factor_places waiting path factors) zs before.0 (and-right (suits path zs) _ can), before.1))
       (copy-within (record { waiting = waiting; passes = zs ∷ ps }) path factors count stay before)
 
-  pub passes-within : (st : Merging) (ps : List (List PlainNest)) → AreWithin room n ps → AreInside' room n tables st.waiting → AreWithin room n st.passes → AreWithin room n (with_passes (most room) n st ps).passes
+  pub passes-within : (st : Merging) (ps : List (List PlainNest)) → AreWithin room n ps →
+      AreInside' room n tables st.waiting → AreWithin room n st.passes →
+      AreWithin room n (with_passes (most room) n st ps).passes
   passes-within st [] h stay before = before
   passes-within st (zs ∷ []) h stay before = within-pass room n tables st zs h.0 stay before
   passes-within st (zs ∷ ys ∷ ps) h stay before = (h.0, passes-within st (ys ∷ ps) h.1 stay before)
 
 -- ---- side by side
 
-rest-counts : (path : Path) (counts more : List ℕ) → rest_of path ((map count_of path ++ counts) ++ more) ≡ counts ++ more
+rest-counts : (path : Path) (counts more : List ℕ) → rest_of path ((map count_of path ++ counts) ++ more) ≡ counts
+    ++ more
 rest-counts [] counts more = refl
 rest-counts (t ∷ path) counts more = rest-counts path counts more
 
-module _ (room n before k : ℕ) (path : Path) (several : AreSeveral path) (some : 0 < n) (high : size_under path n ≤ 2 ^ 20) (short : length path ≤ room) (fits : before + k ≤ n) where
+module _ (room n before k : ℕ) (path : Path) (several : AreSeveral path) (some : 0 < n)
+    (high : size_under path n ≤ 2 ^ 20) (short : length path ≤ room) (fits : before + k ≤ n) where
   abbrev limits : PlainNest → ℕ → ℕ
   limits z = slice_index ((map count_of path ++ z.counts) ++ work_size z.work ∷ work_size z.work ∷ [])
 
@@ -286,7 +312,9 @@ module _ (room n before k : ℕ) (path : Path) (several : AreSeveral path) (some
       rest-index path ((map count_of path ++ z.counts) ++ work_size z.work ∷ work_size z.work ∷ []) i
       ∙ ap (λ l. slice_index l i) (rest-counts path z.counts (work_size z.work ∷ work_size z.work ∷ []))
 
-  sum-within : (z : PlainNest) (e : Sum) → is_limited (room - length path) k (limits_of z) e ≡ true → is_limited room (size_under path n) (limits z) (place_sum path n 0 (joined (constant before) (renumbered (length path) e))) ≡ true
+  sum-within : (z : PlainNest) (e : Sum) → is_limited (room - length path) k (limits_of z) e ≡ true →
+      is_limited room (size_under path n) (limits z) (place_sum path n 0
+      (joined (constant before) (renumbered (length path) e))) ≡ true
   sum-within z e h =
       let low = item-low path n several some high in
       let inner = behind-small before (room - length path) k n (limits z) (renumbered (length path) e) fits low (renumbered-small (length path) (room - length path) k (limits_of z) (limits z) e (same-limits z) (tested _ _ _ e h)) in
@@ -295,11 +323,14 @@ module _ (room n before k : ℕ) (path : Path) (several : AreSeveral path) (some
       limited room (size_under path n) (limits z) _ (roomier (room - length path + length path) room _ (limits z) _ (omega arith) (place-small path (room - length path) n 0 _ (limits z) several counts some high inner))
 
   sums-within : (z : PlainNest) (es : List Sum) → list_all (is_limited (room - length path) k (limits_of z)) es ≡ true →
-      list_all (is_limited room (size_under path n) (limits z)) (map (λ e. place_sum path n 0 (joined (constant before) (renumbered (length path) e))) es) ≡ true
+      list_all (is_limited room (size_under path n) (limits z))
+      (map (λ e. place_sum path n 0 (joined (constant before) (renumbered (length path) e))) es) ≡ true
   sums-within z [] h = refl
   sums-within z (e ∷ es) h = both-true _ _ (sum-within z e (and-left (is_limited (room - length path) k (limits_of z) e) _ h)) (sums-within z es (and-right (is_limited (room - length path) k (limits_of z) e) _ h))
 
-  places-within : (z : PlainNest) (count : ℕ) (es : List Sum) → list_all (is_limited (room - length path) count (limits_of z)) es ≡ true → list_all (is_limited room count (limits z)) (map (renumbered (length path)) es) ≡ true
+  places-within : (z : PlainNest) (count : ℕ) (es : List Sum) →
+      list_all (is_limited (room - length path) count (limits_of z)) es ≡ true →
+      list_all (is_limited room count (limits z)) (map (renumbered (length path)) es) ≡ true
   places-within z count [] h = refl
   places-within z count (e ∷ es) h =
       both-true _ _
@@ -307,11 +338,14 @@ module _ (room n before k : ℕ) (path : Path) (several : AreSeveral path) (some
       (renumbered-small (length path) (room - length path) count (limits_of z) (limits z) e (same-limits z) (tested _ _ _ e (and-left (is_limited (room - length path) count (limits_of z) e) _ h)))))
       (places-within z count es (and-right (is_limited (room - length path) count (limits_of z) e) _ h))
 
-  multiplier-within : (z : PlainNest) (o : Option PlainMultiplier) → is_multiplier_within (room - length path) (limits_of z) o ≡ true → is_multiplier_within room (limits z) (renumbered_places (length path) o) ≡ true
+  multiplier-within : (z : PlainNest) (o : Option PlainMultiplier) →
+      is_multiplier_within (room - length path) (limits_of z) o ≡ true →
+      is_multiplier_within room (limits z) (renumbered_places (length path) o) ≡ true
   multiplier-within z None h = refl
   multiplier-within z (Some d) h = places-within z (factor_count d.factors) d.places h
 
-  lifted-within : (zs : List PlainNest) → is_within (room - length path) k zs ≡ true → is_within room (size_under path n) (map (lifted path n before) zs) ≡ true
+  lifted-within : (zs : List PlainNest) → is_within (room - length path) k zs ≡ true →
+      is_within room (size_under path n) (map (lifted path n before) zs) ≡ true
   lifted-within [] h = refl
   lifted-within (z ∷ zs) h =
       let inner = room - length path in
@@ -324,14 +358,17 @@ module _ (room n before k : ℕ) (path : Path) (several : AreSeveral path) (some
       (multiplier-within z z.multiplier (and-right places _ here)))
       (lifted-within zs (and-right (places && is_multiplier_within inner (limits_of z) z.multiplier) _ h))
 
-together : (room n : ℕ) (zs ys : List PlainNest) → is_within room n zs ≡ true → is_within room n ys ≡ true → is_within room n (zs ++ ys) ≡ true
+together : (room n : ℕ) (zs ys : List PlainNest) → is_within room n zs ≡ true → is_within room n ys ≡ true →
+    is_within room n (zs ++ ys) ≡ true
 together room n [] ys h g = g
 together room n (z ∷ zs) ys h g =
     let one = (list_all (is_limited room n (limits_of z)) z.gathers && list_all (is_limited room n (limits_of z)) z.scatters) && is_multiplier_within room (limits_of z) z.multiplier in
     both-true _ _ (and-left one _ h) (together room n zs ys (and-right one _ h) g)
 
-module _ (room k l : ℕ) (path : Path) (several : AreSeveral path) (left : 0 < k) (right : 0 < l) (high : size_under path (k + l) ≤ 2 ^ 20) (short : length path + 3 ≤ room) where
-  side-within : (zs ys : List PlainNest) → is_within (room - length path) k zs ≡ true → is_within (room - length path) l ys ≡ true → is_within room (size_under path (k + l)) (side path k l zs ys) ≡ true
+module _ (room k l : ℕ) (path : Path) (several : AreSeveral path) (left : 0 < k) (right : 0 < l)
+    (high : size_under path (k + l) ≤ 2 ^ 20) (short : length path + 3 ≤ room) where
+  side-within : (zs ys : List PlainNest) → is_within (room - length path) k zs ≡ true →
+      is_within (room - length path) l ys ≡ true → is_within room (size_under path (k + l)) (side path k l zs ys) ≡ true
   side-within zs ys h g =
       together room (size_under path (k + l)) (map (lifted path (k + l) 0) zs) _
       (lifted-within room (k + l) 0 k path several (omega arith) high (omega arith) (omega arith) zs h)
@@ -340,7 +377,8 @@ module _ (room k l : ℕ) (path : Path) (several : AreSeveral path) (left : 0 < 
   low : k + l ≤ 2 ^ 20
   low = item-low path (k + l) several (omega arith) high
 
-  pub sides-within : (ps qs : List (List PlainNest)) → AreWithin (room - length path) k ps → AreWithin (room - length path) l qs → AreWithin room (size_under path (k + l)) (sides path k l ps qs)
+  pub sides-within : (ps qs : List (List PlainNest)) → AreWithin (room - length path) k ps →
+      AreWithin (room - length path) l qs → AreWithin room (size_under path (k + l)) (sides path k l ps qs)
   sides-within [] [] h g = tt
   sides-within (zs ∷ ps) [] h g = (side-within zs (copying l) h.0 (copying-within (room - length path) l right (omega (arith, low)) (omega arith)), sides-within ps [] h.1 tt)
   sides-within [] (ys ∷ qs) h g = (side-within (copying k) ys (copying-within (room - length path) k left (omega (arith, low)) (omega arith)) g.0, sides-within [] qs tt g.1)
@@ -348,13 +386,16 @@ module _ (room k l : ℕ) (path : Path) (several : AreSeveral path) (left : 0 < 
 
 -- ---- terms
 
-pub moves-inside : (lanes : ℕ) → (room n : ℕ) (fit : TablesFit room n) (fs : List Mapping) → AreMoves lanes n fs → AreInside' room n fit fs
+pub moves-inside : (lanes : ℕ) → (room n : ℕ) (fit : TablesFit room n) (fs : List Mapping) → AreMoves lanes n fs →
+    AreInside' room n fit fs
 moves-inside lanes room n fit [] h = tt
 moves-inside lanes room n fit (f ∷ fs) h = (h.0.permutes.there_below, moves-inside lanes room n fit fs h.1)
 
 -- the passes of a part
-pub part-within : (lanes : ℕ) → (v k : ℕ) (a : PlainTerm) → 0 < k → IsRound v k → IsGoodTerm lanes k a → AreWithin (64 - v) k (merged (most (64 - v)) k nothing a).passes →
-    AreWithin (64 - v) k (ended (most (64 - v)) k (from_end (merged (most (64 - v)) k nothing a).waiting) (merged (most (64 - v)) k nothing a).passes)
+pub part-within : (lanes : ℕ) → (v k : ℕ) (a : PlainTerm) → 0 < k → IsRound v k → IsGoodTerm lanes k a →
+    AreWithin (64 - v) k (merged (most (64 - v)) k nothing a).passes →
+    AreWithin (64 - v) k (ended (most (64 - v)) k (from_end (merged (most (64 - v)) k nothing a).waiting)
+    (merged (most (64 - v)) k nothing a).passes)
 part-within lanes v k a some round good within =
     let few = few-round v k some round in
     let fit = table-within (64 - v) k some (round-word v k round) (omega (arith, few)) in
@@ -362,7 +403,9 @@ part-within lanes v k a some round good within =
     within-ended (64 - v) k fit (from_end (merged (most (64 - v)) k nothing a).waiting) (merged (most (64 - v)) k nothing a).passes (inside-end (64 - v) k fit _ (moves-inside lanes (64 - v) k fit _ reach.stands.moves)) within
 
 -- u tensors stand round the term
-pub merged-within : (lanes : ℕ) → (u n : ℕ) (st : Merging) (t : PlainTerm) → 0 < n → IsRound u n → IsGoodTerm lanes n t → HasSeveral t → Stands lanes 1 n st → AreWithin (64 - u) n st.passes → AreWithin (64 - u) n (merged (most (64 - u)) n st t).passes
+pub merged-within : (lanes : ℕ) → (u n : ℕ) (st : Merging) (t : PlainTerm) → 0 < n → IsRound u n →
+    IsGoodTerm lanes n t → HasSeveral t → Stands lanes 1 n st → AreWithin (64 - u) n st.passes →
+    AreWithin (64 - u) n (merged (most (64 - u)) n st t).passes
 merged-within lanes u n st same some round good several stands before = before
 merged-within lanes u n st (gath f) some round good several stands before = before
 merged-within lanes u n st (scat f) some round good several stands before =
@@ -418,7 +461,8 @@ merged-within lanes u n st (beside path k a l b) some round good several stands 
     passes-within (64 - u) n some high wide st (sides path k l first second) (subst (λ z. AreWithin (64 - u) z (sides path k l first second)) size both)
     (moves-inside lanes (64 - u) n (tables (64 - u) n some high wide) st.waiting stands.moves) before
 
-any-within : (n : ℕ) (ps : List (List PlainNest)) → 0 < n → n ≤ 2 ^ 20 → AreWithin 64 n ps → AreWithin 64 n (if_any n ps)
+any-within : (n : ℕ) (ps : List (List PlainNest)) → 0 < n → n ≤ 2 ^ 20 → AreWithin 64 n ps →
+    AreWithin 64 n (if_any n ps)
 any-within n [] some high h = (copying-within 64 n some high (omega arith), tt)
 any-within n (zs ∷ ps) some high h = h
 

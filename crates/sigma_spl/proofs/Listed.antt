@@ -1,15 +1,22 @@
 -- Terms in order are merged into their loops, one by one, and the sums of these have the values of their places.
-use Rattle.std.proofs.Common.{◌≡◌, ℕ, Bool, true, false, refl, ap, ap₂, ◌∙◌, List, [], ◌∷◌, ◌++◌, length, Option, Some, None}
+use Rattle.std.proofs.Common.{◌≡◌, ℕ, Bool, true, false, refl, ap, ap₂, ◌∙◌, List, [], ◌∷◌, ◌++◌, length, Option, Some}
+use Rattle.std.proofs.Common.{None}
 use Rattle.std.specs.Prelude.{map, ◌&&◌, if◌then◌else◌}
 use Rattle.std.specs.List.{list_all}
 use Rattle.index_fn.specs.Mapping.{Mapping}
-use Rattle.sigma_spl.specs.Loops.{PlainTaken, PlainLoop, through, limits_in, places_by, multiplier_of, Looping, begun, stored_last, scaled_last, looped, HasLoop, CanScale, InOrder, one_nest, AreLimitedLoops, MergeListed, LoopsHavePlaces}
-use Rattle.sigma_spl.specs.Merge.{Room, most, unbounded, Merging, Taking, place_sum, items_in, items_out, new_nest, all_simplified, limits_of, carries_sum, can_gather, can_scatter, take_gathers, settled, with_scatter, with_diagonal, suits, can_take, is_free, factor_places, ended, from_end, merged, if_any}
+use Rattle.sigma_spl.specs.Loops.{PlainTaken, PlainLoop, through, limits_in, places_by, multiplier_of, Looping, begun}
+use Rattle.sigma_spl.specs.Loops.{stored_last, scaled_last, looped, HasLoop, CanScale, InOrder, one_nest}
+use Rattle.sigma_spl.specs.Loops.{AreLimitedLoops, MergeListed, LoopsHavePlaces}
+use Rattle.sigma_spl.specs.Merge.{Room, most, unbounded, Merging, Taking, place_sum, items_in, items_out, new_nest}
+use Rattle.sigma_spl.specs.Merge.{all_simplified, limits_of, carries_sum, can_gather, can_scatter, take_gathers}
+use Rattle.sigma_spl.specs.Merge.{settled, with_scatter, with_diagonal, suits, can_take, is_free, factor_places, ended}
+use Rattle.sigma_spl.specs.Merge.{from_end, merged, if_any}
 use Rattle.sigma_spl.specs.Nest.{PlainFactors, factor_count, PlainNest}
 use Rattle.sigma_spl.specs.Term.{PlainTerm, same, gath, scat, diag, nest, move, product, beside, inner_of}
 use Rattle.sigma_spl.specs.Work.{PlainWork, work_size}
 use Rattle.perm_algebra.specs.Affine.{Sum, simplified}
-use Rattle.sigma_spl.proofs.Carried.{all-mapped, all-same, taken-true, carried-room, carried-next, carried-from, carried-front, carried-here, IsWithinElse, multiplier-within}
+use Rattle.sigma_spl.proofs.Carried.{all-mapped, all-same, taken-true, carried-room, carried-next, carried-from}
+use Rattle.sigma_spl.proofs.Carried.{carried-front, carried-here, IsWithinElse, multiplier-within}
 use Rattle.sigma_spl.proofs.Natural.{load-natural, store-natural, names-in, names-out, whole-in, whole-out, ranged}
 use Rattle.sigma_spl.proofs.Nests.{load-through, store-through}
 use Rattle.sigma_spl.proofs.Within.{both-true, carries-all}
@@ -22,15 +29,18 @@ map-id [] = refl
 map-id (e ∷ es) = ap (λ z. e ∷ z) (map-id es)
 
 -- a function more at the front, and at the end
-first-simplified : (cs : ℕ → ℕ) (f : Mapping) (fs : List Mapping) (es : List Sum) → map (all_simplified cs fs) (map (simplified cs f) es) ≡ map (all_simplified cs (f ∷ fs)) es
+first-simplified : (cs : ℕ → ℕ) (f : Mapping) (fs : List Mapping) (es : List Sum) →
+    map (all_simplified cs fs) (map (simplified cs f) es) ≡ map (all_simplified cs (f ∷ fs)) es
 first-simplified cs f fs [] = refl
 first-simplified cs f fs (e ∷ es) = ap (λ z. all_simplified cs fs (simplified cs f e) ∷ z) (first-simplified cs f fs es)
 
-last-one : (cs : ℕ → ℕ) (fs : List Mapping) (f : Mapping) (e : Sum) → simplified cs f (all_simplified cs fs e) ≡ all_simplified cs (fs ++ f ∷ []) e
+last-one : (cs : ℕ → ℕ) (fs : List Mapping) (f : Mapping) (e : Sum) →
+    simplified cs f (all_simplified cs fs e) ≡ all_simplified cs (fs ++ f ∷ []) e
 last-one cs [] f e = refl
 last-one cs (g ∷ fs) f e = last-one cs fs f (simplified cs g e)
 
-last-simplified : (cs : ℕ → ℕ) (fs : List Mapping) (f : Mapping) (es : List Sum) → map (simplified cs f) (map (all_simplified cs fs) es) ≡ map (all_simplified cs (fs ++ f ∷ [])) es
+last-simplified : (cs : ℕ → ℕ) (fs : List Mapping) (f : Mapping) (es : List Sum) →
+    map (simplified cs f) (map (all_simplified cs fs) es) ≡ map (all_simplified cs (fs ++ f ∷ [])) es
 last-simplified cs fs f [] = refl
 last-simplified cs fs f (e ∷ es) = ap₂ (λ y z. y ∷ z) (last-one cs fs f e) (last-simplified cs fs f es)
 
@@ -51,11 +61,13 @@ abbrev TakesAll : Room → ℕ → PlainNest → List Sum → List Mapping → T
 TakesAll unbounded n z es fs = Unit {0}
 TakesAll (most k) n z es fs = (list_all (carries_sum k n n (limits_of z) fs) es ≡ true) × IsWithinElse k n z
 
-takes-more : (room : Room) (n : ℕ) (z : PlainNest) (es : List Sum) (f : Mapping) (fs : List Mapping) → TakesAll room n z es (f ∷ fs) → TakesAll room n z (map (simplified (limits_of z) f) es) fs
+takes-more : (room : Room) (n : ℕ) (z : PlainNest) (es : List Sum) (f : Mapping) (fs : List Mapping) →
+    TakesAll room n z es (f ∷ fs) → TakesAll room n z (map (simplified (limits_of z) f) es) fs
 takes-more unbounded n z es f fs h = tt
 takes-more (most k) n z es f fs h = (all-mapped _ _ (simplified (limits_of z) f) (λ e. carried-next k n n (limits_of z) f fs e) es h.0, h.1)
 
-takes-one : (room : Room) (n : ℕ) (z : PlainNest) (es : List Sum) (f : Mapping) (fs : List Mapping) → TakesAll room n z es (f ∷ fs) → can_gather room n f (with_gathers z es ∷ []) ≡ true
+takes-one : (room : Room) (n : ℕ) (z : PlainNest) (es : List Sum) (f : Mapping) (fs : List Mapping) →
+    TakesAll room n z es (f ∷ fs) → can_gather room n f (with_gathers z es ∷ []) ≡ true
 takes-one unbounded n z es f fs h = refl
 takes-one (most k) n z es f fs h =
     let cs = limits_of z in
@@ -78,7 +90,9 @@ new-takes : (room : Room) (n : ℕ) (waiting : List Mapping) (path : Path) (w : 
 new-takes unbounded n waiting path w ps h = tt
 new-takes (most k) n waiting path w ps h = (h.0.loads, record { scatters = h.0.stores; multiplier = refl })
 
-nest-listed : (room : Room) (n : ℕ) (st : Looping) (path : Path) (w : PlainWork) → AreLimitedLoops room n (looped st (nest path w)).loops → merged room n (state_of st) (nest path w) ≡ state_of (looped st (nest path w))
+nest-listed : (room : Room) (n : ℕ) (st : Looping) (path : Path) (w : PlainWork) →
+    AreLimitedLoops room n (looped st (nest path w)).loops →
+    merged room n (state_of st) (nest path w) ≡ state_of (looped st (nest path w))
 nest-listed room n st path w limited =
     let new : PlainNest = new_nest path w (items_in w (length path)) in
     ap (λ (t : Taking). let s : Merging = record { waiting = []; passes = t.pass ∷ (settled room n t.left ++ map one_nest st.loops) } in s) (take-all room n new new.gathers st.waiting (new-takes room n st.waiting path w st.loops limited))
@@ -88,7 +102,8 @@ nest-listed room n st path w limited =
     let s : Merging = record { waiting = []; passes = (z ∷ []) ∷ map one_nest st.loops } in s)
     (map-id new.scatters)
 
-scatter-taken : (room : Room) (n : ℕ) (f : Mapping) (p : PlainLoop) (ps : List PlainLoop) → AreLimitedLoops room n (stored_last f (p ∷ ps)) → can_scatter room n f (one_nest p) ≡ true
+scatter-taken : (room : Room) (n : ℕ) (f : Mapping) (p : PlainLoop) (ps : List PlainLoop) →
+    AreLimitedLoops room n (stored_last f (p ∷ ps)) → can_scatter room n f (one_nest p) ≡ true
 scatter-taken unbounded n f p ps h = refl
 scatter-taken (most k) n f p ps h =
     let cs = limits_in p in
@@ -100,7 +115,8 @@ scatter-taken (most k) n f p ps h =
     (all-mapped _ _ (simplified cs f) (λ e t. t) (map (all_simplified cs p.afters) outs) (all-mapped _ _ (all_simplified cs p.afters) (λ e t. carried-next k n n cs f [] (all_simplified cs p.afters e) (ended e t)) outs h.0.stores))
     (multiplier-within k n p p.taken h.0.factors)
 
-scat-listed : (room : Room) (n : ℕ) (f : Mapping) (waiting : List Mapping) (ps : List PlainLoop) → waiting ≡ [] → HasLoop ps → AreLimitedLoops room n (stored_last f ps) →
+scat-listed : (room : Room) (n : ℕ) (f : Mapping) (waiting : List Mapping) (ps : List PlainLoop) → waiting ≡ [] →
+    HasLoop ps → AreLimitedLoops room n (stored_last f ps) →
     with_scatter room n waiting (map one_nest ps) f ≡ state_of (record { waiting = waiting; loops = stored_last f ps })
 scat-listed room n f [] [] none some limited = absurd some
 scat-listed room n f [] (p ∷ ps) none some limited =
@@ -116,7 +132,8 @@ free-of : (p : PlainLoop) (o : Option PlainTaken) → o ≡ None → is_free (mu
 free-of p None h = refl
 free-of p (Some d) h = absurd (cc)
 
-diagonal-taken : (room : Room) (n : ℕ) (path : Path) (factors : PlainFactors) (p : PlainLoop) (ps : List PlainLoop) → CanScale path (p ∷ ps) → AreLimitedLoops room n (scaled_last path factors (p ∷ ps)) →
+diagonal-taken : (room : Room) (n : ℕ) (path : Path) (factors : PlainFactors) (p : PlainLoop) (ps : List PlainLoop) →
+    CanScale path (p ∷ ps) → AreLimitedLoops room n (scaled_last path factors (p ∷ ps)) →
     can_take room n factors (factor_places [] path factors) (one_nest p) ≡ true
 diagonal-taken unbounded n path factors p ps can h = both-true _ _ (both-true _ _ (free-of p p.taken can.0) refl) refl
 diagonal-taken (most k) n path factors p ps can h =
@@ -128,7 +145,8 @@ diagonal-taken (most k) n path factors p ps can h =
     (all-mapped _ _ (all_simplified cs p.afters) (carried-from k n count cs p.afters last) (map (place_sum p.path (work_size p.work) 0) (items_out p.work (length p.path))) (h.0.factors (record { factors = factors; places = p.afters ++ last }) refl)))
     refl
 
-diag-listed : (room : Room) (n : ℕ) (path : Path) (factors : PlainFactors) (waiting : List Mapping) (ps : List PlainLoop) → waiting ≡ [] → CanScale path ps → AreLimitedLoops room n (scaled_last path factors ps) →
+diag-listed : (room : Room) (n : ℕ) (path : Path) (factors : PlainFactors) (waiting : List Mapping)
+    (ps : List PlainLoop) → waiting ≡ [] → CanScale path ps → AreLimitedLoops room n (scaled_last path factors ps) →
     with_diagonal room n waiting (map one_nest ps) path factors ≡ state_of (record { waiting = waiting; loops = scaled_last path factors ps })
 diag-listed room n path factors [] [] none can limited = absurd can
 diag-listed room n path factors [] (p ∷ ps) none can limited =
@@ -142,7 +160,8 @@ diag-listed room n path factors [] (p ∷ ps) none can limited =
 diag-listed room n path factors (g ∷ gs) ps none can limited = absurd (cc)
 
 -- what holds of the last loops holds of those before, which only grow at their ends
-before-scatter : (k n : ℕ) (f : Mapping) (ps : List PlainLoop) → AreLimitedLoops (most k) n (stored_last f ps) → AreLimitedLoops (most k) n ps
+before-scatter : (k n : ℕ) (f : Mapping) (ps : List PlainLoop) → AreLimitedLoops (most k) n (stored_last f ps) →
+    AreLimitedLoops (most k) n ps
 before-scatter k n f [] h = h
 before-scatter k n f (p ∷ ps) h =
     (record { loads = h.0.loads; stores = all-same _ _ (carried-front k n n (limits_in p) p.afters f) (map (place_sum p.path (work_size p.work) 0) (items_out p.work (length p.path))) h.0.stores; factors = h.0.factors }, h.1)
@@ -151,11 +170,13 @@ none-taken : (o : Option PlainTaken) (d : PlainTaken) → o ≡ None → o ≡ S
 none-taken None d h is = absurd (cc)
 none-taken (Some e) d h is = absurd (cc)
 
-before-diagonal : (k n : ℕ) (path : Path) (factors : PlainFactors) (ps : List PlainLoop) → CanScale path ps → AreLimitedLoops (most k) n (scaled_last path factors ps) → AreLimitedLoops (most k) n ps
+before-diagonal : (k n : ℕ) (path : Path) (factors : PlainFactors) (ps : List PlainLoop) → CanScale path ps →
+    AreLimitedLoops (most k) n (scaled_last path factors ps) → AreLimitedLoops (most k) n ps
 before-diagonal k n path factors [] can h = h
 before-diagonal k n path factors (p ∷ ps) can h = (record { loads = h.0.loads; stores = h.0.stores; factors = λ d is. absurd (none-taken p.taken d can.0 is) }, h.1)
 
-earlier : (room : Room) (n : ℕ) (st : Looping) (t : PlainTerm) → InOrder st t → AreLimitedLoops room n (looped st t).loops → AreLimitedLoops room n st.loops
+earlier : (room : Room) (n : ℕ) (st : Looping) (t : PlainTerm) → InOrder st t →
+    AreLimitedLoops room n (looped st t).loops → AreLimitedLoops room n st.loops
 earlier unbounded n st t h limited = tt
 earlier (most k) n st same h limited = limited
 earlier (most k) n st (gath f) h limited = limited
@@ -166,7 +187,8 @@ earlier (most k) n st (move path ks) h limited = absurd h
 earlier (most k) n st (product a b) h limited = earlier (most k) n st a h.0 (earlier (most k) n (looped st a) b h.1 limited)
 earlier (most k) n st (beside path i a j b) h limited = absurd h
 
-listed : (room : Room) (n : ℕ) (st : Looping) (t : PlainTerm) → InOrder st t → AreLimitedLoops room n (looped st t).loops → merged room n (state_of st) t ≡ state_of (looped st t)
+listed : (room : Room) (n : ℕ) (st : Looping) (t : PlainTerm) → InOrder st t →
+    AreLimitedLoops room n (looped st t).loops → merged room n (state_of st) t ≡ state_of (looped st t)
 listed room n st same h limited = refl
 listed room n st (gath f) h limited = refl
 listed room n st (scat f) h limited = scat-listed room n f st.waiting st.loops h.0 h.1 limited
@@ -176,7 +198,8 @@ listed room n st (move path ks) h limited = absurd h
 listed room n st (product a b) h limited = ap (λ s. merged room n s b) (listed room n st a h.0 (earlier room n (looped st a) b h.1 limited)) ∙ listed room n (looped st a) b h.1 limited
 listed room n st (beside path i a j b) h limited = absurd h
 
-ended-listed : (room : Room) (n : ℕ) (waiting : List Mapping) (ps : List PlainLoop) → waiting ≡ [] → HasLoop ps → if_any n (ended room n (from_end waiting) (map one_nest ps)) ≡ map one_nest ps
+ended-listed : (room : Room) (n : ℕ) (waiting : List Mapping) (ps : List PlainLoop) → waiting ≡ [] → HasLoop ps →
+    if_any n (ended room n (from_end waiting) (map one_nest ps)) ≡ map one_nest ps
 ended-listed room n [] [] none some = absurd some
 ended-listed room n [] (p ∷ ps) none some = refl
 ended-listed room n (g ∷ gs) ps none some = absurd (cc)

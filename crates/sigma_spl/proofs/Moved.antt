@@ -1,5 +1,6 @@
 -- Copies that take their items from listed places.
-use Rattle.std.proofs.Common.{◌≡◌, ℕ, zero, suc, ◌+◌, ◌%◌, ◌<◌, arith, refl, sym, ap, ◌∙◌, List, [], ◌∷◌, length, subst, mod-eq_of_lt}
+use Rattle.std.proofs.Common.{◌≡◌, ℕ, zero, suc, ◌+◌, ◌%◌, ◌<◌, arith, refl, sym, ap, ◌∙◌, List, [], ◌∷◌, length, subst}
+use Rattle.std.proofs.Common.{mod-eq_of_lt}
 use Rattle.std.specs.Prelude.{slice_index, slice_index_or, map, ◌==◌, if◌then◌else◌}
 use Rattle.index_fn.specs.Mapping.{Mapping, at}
 use Rattle.operators.specs.Operator.{gather}
@@ -13,7 +14,8 @@ use Rattle.sigma_spl.specs.Nest.{sum_value, nests_on}
 use Rattle.sigma_spl.specs.Term.{moving}
 use Rattle.sigma_spl.specs.Work.{copy}
 use Rattle.sigma_spl.proofs.CopiesMerge.{loop-same}
-use Rattle.sigma_spl.proofs.Natural.{ranged, place-alone, store-natural, names-out, once-natural, sound-constants, sound-places, at-natural}
+use Rattle.sigma_spl.proofs.Natural.{ranged, place-alone, store-natural, names-out, once-natural, sound-constants}
+use Rattle.sigma_spl.proofs.Natural.{sound-places, at-natural}
 use Rattle.sigma_spl.proofs.Nests.{stored-alike, at-map, length-map}
 use Rattle.operators.specs.TensorPaths.Path.{Path, count_of, size_under, place, AreInRange}
 use Rattle.operators.proofs.TensorPaths.PathPlaces.{place-below}
@@ -34,12 +36,14 @@ at-below n [] i h within = absurd (omega arith)
 at-below n (k ∷ ks) zero h within = h.0
 at-below n (k ∷ ks) (suc i) h within = at-below n ks i h.1 (omega arith)
 
-pub load-moved : (path : Path) (ks : List ℕ) (vs : List ℕ) (k : ℕ) → AreInRange path vs → k < length ks → sum_value (map (place_sum path (length ks) 0) (map constant ks)) k vs ≡ place path (length ks) vs (slice_index ks k)
+pub load-moved : (path : Path) (ks : List ℕ) (vs : List ℕ) (k : ℕ) → AreInRange path vs → k < length ks →
+    sum_value (map (place_sum path (length ks) 0) (map constant ks)) k vs ≡ place path (length ks) vs (slice_index ks k)
 load-moved path ks vs k range below =
     ap (λ e. value e (slice_index vs)) (at-map (place_sum path (length ks) 0) (map constant ks) k (omega (arith, length-constants ks)) ∙ ap (place_sum path (length ks) 0) (at-constants ks k))
     ∙ place-alone path (length ks) (slice_index ks k) vs range
 
-pub moved-on : (m n : ℕ) (path : Path) (ks : List ℕ) (x : List ℕ) → nests_on m n (new_nest path (copy (length ks)) (map constant ks) ∷ []) x ≡ pass_on m n (moving path ks ∷ []) x
+pub moved-on : (m n : ℕ) (path : Path) (ks : List ℕ) (x : List ℕ) →
+    nests_on m n (new_nest path (copy (length ks)) (map constant ks) ∷ []) x ≡ pass_on m n (moving path ks ∷ []) x
 moved-on m n path ks x =
     list_below-same n _ _ (λ p below. ap (λ s. (s + 0) % m)
     (stored-alike (map count_of path) (length ks) _ _ (λ vs y. list_below (length ks) (slice_index y)) (λ vs y. list_below (length ks) (slice_index y)) _ _ x p
@@ -47,7 +51,8 @@ moved-on m n path ks x =
     (λ vs y k range within. refl)
     (λ vs k range within. store-natural 0 path (copy (length ks)) vs k tt (ranged path vs range) within)))
 
-pub moved-good : (lanes : ℕ) → (m n : ℕ) (path : Path) (ks : List ℕ) → AreBelow (length ks) ks → size_under path (length ks) ≡ n → IsGoodPass lanes m n (new_nest path (copy (length ks)) (map constant ks) ∷ [])
+pub moved-good : (lanes : ℕ) → (m n : ℕ) (path : Path) (ks : List ℕ) → AreBelow (length ks) ks →
+    size_under path (length ks) ≡ n → IsGoodPass lanes m n (new_nest path (copy (length ks)) (map constant ks) ∷ [])
 moved-good lanes m n path ks h e =
     let d = length ks in
     record {
@@ -84,10 +89,13 @@ table_below n f h = below-all (length (list_below n f)) (list_below n f) (λ i w
   entry : (i : ℕ) → i < n → slice_index (list_below n f) i < length (list_below n f)
   entry i below = subst (λ v. v < length (list_below n f)) (sym (at-list_below n f i below)) (omega (arith, length-list_below n f, h i below))
 
-pub table-good : (lanes : ℕ) → (m n : ℕ) (f : Mapping) → ((i : ℕ) → i < n → at f i < n) → IsGoodPass lanes m n (new_nest [] (copy (length (list_below n (at f)))) (map constant (list_below n (at f))) ∷ [])
+pub table-good : (lanes : ℕ) → (m n : ℕ) (f : Mapping) → ((i : ℕ) → i < n → at f i < n) →
+    IsGoodPass lanes m n (new_nest [] (copy (length (list_below n (at f)))) (map constant (list_below n (at f))) ∷ [])
 table-good lanes m n f h = moved-good lanes m n [] (list_below n (at f)) (table_below n (at f) h) (length-list_below n (at f))
 
-pub table-on : (m n : ℕ) (f : Mapping) (x : List ℕ) → ((i : ℕ) → i < n → at f i < n) → IsVector m n x → nests_on m n (new_nest [] (copy (length (list_below n (at f)))) (map constant (list_below n (at f))) ∷ []) x ≡ gather n (at f) x
+pub table-on : (m n : ℕ) (f : Mapping) (x : List ℕ) → ((i : ℕ) → i < n → at f i < n) → IsVector m n x →
+    nests_on m n (new_nest [] (copy (length (list_below n (at f)))) (map constant (list_below n (at f))) ∷ []) x
+    ≡ gather n (at f) x
 table-on m n f x h v =
     let ks = list_below n (at f) in
     let d = length ks in

@@ -1,5 +1,6 @@
 -- What a pass takes, by its sums: permutations into its loads and stores, and diagonals.
-use Rattle.std.proofs.Common.{◌≡◌, ℕ, zero, suc, ◌+◌, ◌*◌, ◌-◌, ◌/◌, ◌%◌, ◌<◌, ◌≤◌, arith, refl, sym, ap, ap₂, ◌∙◌, List, [], ◌∷◌, ◌++◌, length, subst, Option, Some, None, mod-lt, div-lt_iff_lt-mul}
+use Rattle.std.proofs.Common.{◌≡◌, ℕ, zero, suc, ◌+◌, ◌*◌, ◌-◌, ◌/◌, ◌%◌, ◌<◌, ◌≤◌, arith, refl, sym, ap, ap₂, ◌∙◌}
+use Rattle.std.proofs.Common.{List, [], ◌∷◌, ◌++◌, length, subst, Option, Some, None, mod-lt, div-lt_iff_lt-mul}
 use Rattle.std.specs.Prelude.{slice_index, slice_index_or, map, ◌==◌, if◌then◌else◌}
 use Rattle.index_fn.specs.Mapping.{Mapping, at}
 use Rattle.operators.specs.Loop.{IsPermutationBelow}
@@ -8,11 +9,14 @@ use Rattle.operators.specs.Sum.{list_below}
 use Rattle.operators.proofs.Lists.{at-list_below, list_below-same, factor_positive}
 use Rattle.perm_algebra.specs.Affine.{Sum, constant, value, IsSound, simplified}
 use Rattle.perm_algebra.proofs.Values.{simplifies}
-use Rattle.sigma_spl.specs.Copies.{loops_of, Copies, stored, all_stored, hits, AreInside, loaded_by, stored_by, multiplied_by}
-use Rattle.sigma_spl.specs.Good.{AreSound, NamesItems, MovesVectors, HasLanes, AreWhole, AreGoodNests, IsGoodPass, IsFormed}
+use Rattle.sigma_spl.specs.Copies.{loops_of, Copies, stored, all_stored, hits, AreInside, loaded_by, stored_by}
+use Rattle.sigma_spl.specs.Copies.{multiplied_by}
+use Rattle.sigma_spl.specs.Good.{AreSound, NamesItems, MovesVectors, HasLanes, AreWhole, AreGoodNests, IsGoodPass}
+use Rattle.sigma_spl.specs.Good.{IsFormed}
 pub use Rattle.sigma_spl.specs.Loops.{through, AreFormed, Suits, AllSuit}
 use Rattle.sigma_spl.specs.Merge.{limits_of, gathered, scattered, all_simplified, multiplied}
-use Rattle.sigma_spl.specs.Nest.{PlainFactors, factor_at, PlainMultiplier, PlainNest, sum_value, load_place, store_place, multiplied_on, copies_of, nests_on}
+use Rattle.sigma_spl.specs.Nest.{PlainFactors, factor_at, PlainMultiplier, PlainNest, sum_value, load_place}
+use Rattle.sigma_spl.specs.Nest.{store_place, multiplied_on, copies_of, nests_on}
 use Rattle.sigma_spl.specs.Work.{PlainWork, kernel, rows, horner, tile, copy, work_size}
 use Rattle.sigma_spl.proofs.CopiesMerge.{loop-same, loads_gather, stores_scatter, loops_scale, keeps_once}
 use Rattle.operators.specs.TensorPaths.Loop.{loop_at}
@@ -20,9 +24,11 @@ use Rattle.operators.specs.TensorPaths.Path.{AreInRange}
 
 -- ---- loops that are alike
 
-pub stored-alike : (counts : List ℕ) (size : ℕ) (from source : List ℕ → ℕ → ℕ) (does makes : List ℕ → Operator) (to target : List ℕ → ℕ → ℕ) (x : List ℕ) (w : ℕ) →
+pub stored-alike : (counts : List ℕ) (size : ℕ) (from source : List ℕ → ℕ → ℕ) (does makes : List ℕ → Operator)
+    (to target : List ℕ → ℕ → ℕ) (x : List ℕ) (w : ℕ) →
     ((vs : List ℕ) (k : ℕ) → AreInRange (loops_of counts) vs → k < size → from vs k ≡ source vs k) →
-    ((vs y : List ℕ) (k : ℕ) → AreInRange (loops_of counts) vs → k < size → slice_index (does vs y) k ≡ slice_index (makes vs y) k) →
+    ((vs y : List ℕ) (k : ℕ) → AreInRange (loops_of counts) vs → k < size →
+    slice_index (does vs y) k ≡ slice_index (makes vs y) k) →
     ((vs : List ℕ) (k : ℕ) → AreInRange (loops_of counts) vs → k < size → to vs k ≡ target vs k) →
     stored (record { counts = counts; size = size; from = from; does = does; to = to }) x w ≡ stored (record { counts = counts; size = size; from = source; does = makes; to = target }) x w
 stored-alike counts size from source does makes to target x w froms doess tos =
@@ -45,7 +51,8 @@ two_below n k l h g zero = omega arith
 two_below n k l h g (suc zero) = omega arith
 two_below n k l h g (suc (suc i)) = omega arith
 
-pub with_more : (counts : List ℕ) (n : ℕ) (vs more : List ℕ) → AreInRange (loops_of counts) vs → ((i : ℕ) → slice_index more i ≤ slice_index (n ∷ n ∷ []) i - 1) →
+pub with_more : (counts : List ℕ) (n : ℕ) (vs more : List ℕ) → AreInRange (loops_of counts) vs →
+    ((i : ℕ) → slice_index more i ≤ slice_index (n ∷ n ∷ []) i - 1) →
     (i : ℕ) → slice_index (vs ++ more) i ≤ slice_index (counts ++ n ∷ n ∷ []) i - 1
 with_more [] n [] more h rest i = rest i
 with_more [] n (v ∷ vs) more h rest i = absurd h
@@ -53,7 +60,8 @@ with_more (c ∷ counts) n [] more h rest i = absurd h
 with_more (c ∷ counts) n (v ∷ vs) more h rest zero = omega (arith, h.0)
 with_more (c ∷ counts) n (v ∷ vs) more h rest (suc i) = with_more counts n vs more h.1 rest i
 
-pub alone : (counts : List ℕ) (n : ℕ) (vs : List ℕ) → AreInRange (loops_of counts) vs → (i : ℕ) → slice_index vs i ≤ slice_index (counts ++ n ∷ n ∷ []) i - 1
+pub alone : (counts : List ℕ) (n : ℕ) (vs : List ℕ) → AreInRange (loops_of counts) vs → (i : ℕ) →
+    slice_index vs i ≤ slice_index (counts ++ n ∷ n ∷ []) i - 1
 alone [] n [] h i = none_below n i
 alone [] n (v ∷ vs) h i = absurd h
 alone (c ∷ counts) n [] h i = absurd h
@@ -62,7 +70,8 @@ alone (c ∷ counts) n (v ∷ vs) h (suc i) = alone counts n vs h.1 i
 
 -- ---- sums and functions
 
-pub at-map : (g : Sum → Sum) (sums : List Sum) (i : ℕ) → i < length sums → slice_index_or (map g sums) i (constant 0) ≡ g (slice_index_or sums i (constant 0))
+pub at-map : (g : Sum → Sum) (sums : List Sum) (i : ℕ) → i < length sums →
+    slice_index_or (map g sums) i (constant 0) ≡ g (slice_index_or sums i (constant 0))
 at-map g [] i h = absurd (omega arith)
 at-map g (e ∷ es) zero h = refl
 at-map g (e ∷ es) (suc i) h = at-map g es i (omega arith)
@@ -72,7 +81,8 @@ sound-at [] i h = tt
 sound-at (e ∷ es) zero h = h.0
 sound-at (e ∷ es) (suc i) h = sound-at es i h.1
 
-pub sound-simplified : (cs : ℕ → ℕ) (f : Mapping) (sums : List Sum) → IsFormed f → AreSound sums → AreSound (map (simplified cs f) sums)
+pub sound-simplified : (cs : ℕ → ℕ) (f : Mapping) (sums : List Sum) → IsFormed f → AreSound sums →
+    AreSound (map (simplified cs f) sums)
 sound-simplified cs f [] form h = tt
 sound-simplified cs f (e ∷ es) form h = ((simplifies cs (λ _. 0) f e form.formed form.no_list h.0 (λ d. omega arith)).sound, sound-simplified cs f es form h.1)
 
@@ -80,11 +90,13 @@ pub length-map : (g : Sum → Sum) (sums : List Sum) → length (map g sums) ≡
 length-map g [] = refl
 length-map g (e ∷ es) = ap suc (length-map g es)
 
-pub names-simplified : (w : PlainWork) (cs : ℕ → ℕ) (f : Mapping) (sums : List Sum) → IsFormed f → NamesItems w sums → NamesItems w (map (simplified cs f) sums)
+pub names-simplified : (w : PlainWork) (cs : ℕ → ℕ) (f : Mapping) (sums : List Sum) → IsFormed f → NamesItems w sums →
+    NamesItems w (map (simplified cs f) sums)
 names-simplified w cs f sums form h = record { enough = omega (arith, h.enough, length-map (simplified cs f) sums); sound = sound-simplified cs f sums form h.sound }
 
 -- a sum with a function has the function's value
-pub sum-simplified : (cs : ℕ → ℕ) (f : Mapping) (sums : List Sum) (i : ℕ) (vs : List ℕ) → IsFormed f → AreSound sums → i < length sums → ((d : ℕ) → slice_index vs d ≤ cs d - 1) →
+pub sum-simplified : (cs : ℕ → ℕ) (f : Mapping) (sums : List Sum) (i : ℕ) (vs : List ℕ) → IsFormed f → AreSound sums →
+    i < length sums → ((d : ℕ) → slice_index vs d ≤ cs d - 1) →
     sum_value (map (simplified cs f) sums) i vs ≡ at f (sum_value sums i vs)
 sum-simplified cs f sums i vs form sound within range =
     ap (λ e. value e (slice_index vs)) (at-map (simplified cs f) sums i within)
@@ -106,7 +118,8 @@ suiting lanes (horner root d) f h moves = tt
 suiting lanes (tile v) f h moves = moves-lanes lanes v f h moves
 suiting lanes (copy d) f h moves = tt
 
-pub whole-simplified : (counts : List ℕ) (w : PlainWork) (f : Mapping) (sums : List Sum) → Suits w (at f) → IsFormed f → NamesItems w sums → AreWhole counts w sums →
+pub whole-simplified : (counts : List ℕ) (w : PlainWork) (f : Mapping) (sums : List Sum) → Suits w (at f) → IsFormed f →
+    NamesItems w sums → AreWhole counts w sums →
     AreWhole counts w (map (simplified (slice_index (counts ++ work_size w ∷ work_size w ∷ [])) f) sums)
 whole-simplified counts (kernel trees) f sums suits form names whole = tt
 whole-simplified counts (rows root d) f sums suits form names whole = tt
@@ -118,8 +131,11 @@ whole-simplified counts (copy d) f sums suits form names whole = tt
 
 -- ---- places
 
-pub load-simplified : (counts : List ℕ) (w : PlainWork) (f : Mapping) (sums : List Sum) (vs : List ℕ) (k : ℕ) → Suits w (at f) → IsFormed f → NamesItems w sums → AreWhole counts w sums → AreInRange (loops_of counts) vs → k < work_size w →
-    load_place w (map (simplified (slice_index (counts ++ work_size w ∷ work_size w ∷ [])) f) sums) vs k ≡ at f (load_place w sums vs k)
+pub load-simplified : (counts : List ℕ) (w : PlainWork) (f : Mapping) (sums : List Sum) (vs : List ℕ) (k : ℕ) →
+    Suits w (at f) → IsFormed f → NamesItems w sums → AreWhole counts w sums → AreInRange (loops_of counts) vs →
+    k < work_size w →
+    load_place w (map (simplified (slice_index (counts ++ work_size w ∷ work_size w ∷ [])) f) sums) vs k
+    ≡ at f (load_place w sums vs k)
 load-simplified counts (kernel trees) f sums vs k suits form names whole range below = sum-simplified _ f sums k vs form names.sound (omega (arith, names.enough, below)) (alone counts _ vs range)
 load-simplified counts (rows root d) f sums vs k suits form names whole range below =
     sum-simplified _ f sums 0 (vs ++ 0 ∷ k ∷ []) form names.sound (omega (arith, names.enough)) (with_more counts d vs (0 ∷ k ∷ []) range (two_below d 0 k (omega arith) below))
@@ -132,8 +148,11 @@ load-simplified counts (tile v) f sums vs k suits form names whole range below =
     ∙ sym (suits.together (sum_value sums (k / v) vs) (k % v) (whole vs (k / v) range row) (mod-lt k some))
 load-simplified counts (copy d) f sums vs k suits form names whole range below = sum-simplified _ f sums k vs form names.sound (omega (arith, names.enough, below)) (alone counts _ vs range)
 
-pub store-simplified : (counts : List ℕ) (w : PlainWork) (f : Mapping) (sums : List Sum) (vs : List ℕ) (k : ℕ) → Suits w (at f) → IsFormed f → NamesItems w sums → AreWhole counts w sums → AreInRange (loops_of counts) vs → k < work_size w →
-    store_place w (map (simplified (slice_index (counts ++ work_size w ∷ work_size w ∷ [])) f) sums) vs k ≡ at f (store_place w sums vs k)
+pub store-simplified : (counts : List ℕ) (w : PlainWork) (f : Mapping) (sums : List Sum) (vs : List ℕ) (k : ℕ) →
+    Suits w (at f) → IsFormed f → NamesItems w sums → AreWhole counts w sums → AreInRange (loops_of counts) vs →
+    k < work_size w →
+    store_place w (map (simplified (slice_index (counts ++ work_size w ∷ work_size w ∷ [])) f) sums) vs k
+    ≡ at f (store_place w sums vs k)
 store-simplified counts (kernel trees) f sums vs k suits form names whole range below = sum-simplified _ f sums k vs form names.sound (omega (arith, names.enough, below)) (alone counts _ vs range)
 store-simplified counts (rows root d) f sums vs k suits form names whole range below =
     sum-simplified _ f sums 0 (vs ++ k ∷ []) form names.sound (omega (arith, names.enough)) (with_more counts d vs (k ∷ []) range (one_below d k below))
@@ -150,8 +169,11 @@ map-id : (sums : List Sum) → map (λ e. e) sums ≡ sums
 map-id [] = refl
 map-id (e ∷ es) = ap (λ z. e ∷ z) (map-id es)
 
-pub load-through : (counts : List ℕ) (w : PlainWork) (fs : List Mapping) (sums : List Sum) (vs : List ℕ) (k : ℕ) → AllSuit w fs → AreFormed fs → NamesItems w sums → AreWhole counts w sums → AreInRange (loops_of counts) vs → k < work_size w →
-    load_place w (map (all_simplified (slice_index (counts ++ work_size w ∷ work_size w ∷ [])) fs) sums) vs k ≡ through fs (load_place w sums vs k)
+pub load-through : (counts : List ℕ) (w : PlainWork) (fs : List Mapping) (sums : List Sum) (vs : List ℕ) (k : ℕ) →
+    AllSuit w fs → AreFormed fs → NamesItems w sums → AreWhole counts w sums → AreInRange (loops_of counts) vs →
+    k < work_size w →
+    load_place w (map (all_simplified (slice_index (counts ++ work_size w ∷ work_size w ∷ [])) fs) sums) vs k
+    ≡ through fs (load_place w sums vs k)
 load-through counts w [] sums vs k suit forms names whole range below = ap (λ es. load_place w es vs k) (map-id sums)
 load-through counts w (f ∷ fs) sums vs k suit forms names whole range below =
     let cs = slice_index (counts ++ work_size w ∷ work_size w ∷ []) in
@@ -159,8 +181,11 @@ load-through counts w (f ∷ fs) sums vs k suit forms names whole range below =
     ∙ load-through counts w fs (map (simplified cs f) sums) vs k suit.1 forms.1 (names-simplified w cs f sums forms.0 names) (whole-simplified counts w f sums suit.0 forms.0 names whole) range below
     ∙ ap (through fs) (load-simplified counts w f sums vs k suit.0 forms.0 names whole range below)
 
-pub store-through : (counts : List ℕ) (w : PlainWork) (fs : List Mapping) (sums : List Sum) (vs : List ℕ) (k : ℕ) → AllSuit w fs → AreFormed fs → NamesItems w sums → AreWhole counts w sums → AreInRange (loops_of counts) vs → k < work_size w →
-    store_place w (map (all_simplified (slice_index (counts ++ work_size w ∷ work_size w ∷ [])) fs) sums) vs k ≡ through fs (store_place w sums vs k)
+pub store-through : (counts : List ℕ) (w : PlainWork) (fs : List Mapping) (sums : List Sum) (vs : List ℕ) (k : ℕ) →
+    AllSuit w fs → AreFormed fs → NamesItems w sums → AreWhole counts w sums → AreInRange (loops_of counts) vs →
+    k < work_size w →
+    store_place w (map (all_simplified (slice_index (counts ++ work_size w ∷ work_size w ∷ [])) fs) sums) vs k
+    ≡ through fs (store_place w sums vs k)
 store-through counts w [] sums vs k suit forms names whole range below = ap (λ es. store_place w es vs k) (map-id sums)
 store-through counts w (f ∷ fs) sums vs k suit forms names whole range below =
     let cs = slice_index (counts ++ work_size w ∷ work_size w ∷ []) in
@@ -173,7 +198,8 @@ store-through counts w (f ∷ fs) sums vs k suit forms names whole range below =
 abbrev pub copies_all : ℕ → List PlainNest → List Copies
 copies_all m zs = map (copies_of m) zs
 
-pub all-inside : (lanes : ℕ) → (m n : ℕ) (zs : List PlainNest) → AreGoodNests lanes m n zs → AreInside n (copies_all m zs)
+pub all-inside : (lanes : ℕ) → (m n : ℕ) (zs : List PlainNest) → AreGoodNests lanes m n zs →
+    AreInside n (copies_all m zs)
 all-inside lanes m n [] h = tt
 all-inside lanes m n (z ∷ zs) h = (h.0.inside, all-inside lanes m n zs h.1)
 
@@ -182,7 +208,9 @@ does-alike : (m : ℕ) (z : PlainNest) (gathers scatters : List Sum) (o : Option
 does-alike m z gathers scatters None vs y = refl
 does-alike m z gathers scatters (Some d) vs y = refl
 
-stored-loads : (lanes : ℕ) → (m n : ℕ) (f : Mapping) (zs : List PlainNest) (x : List ℕ) (w : ℕ) → IsFormed f → MovesVectors lanes (at f) → AreGoodNests lanes m n zs → all_stored (map (loaded_by (at f)) (copies_all m zs)) x w ≡ all_stored (copies_all m (gathered f zs)) x w
+stored-loads : (lanes : ℕ) → (m n : ℕ) (f : Mapping) (zs : List PlainNest) (x : List ℕ) (w : ℕ) → IsFormed f →
+    MovesVectors lanes (at f) → AreGoodNests lanes m n zs → all_stored (map (loaded_by (at f)) (copies_all m zs)) x w
+    ≡ all_stored (copies_all m (gathered f zs)) x w
 stored-loads lanes m n f [] x w form moves h = refl
 stored-loads lanes m n f (z ∷ zs) x w form moves h =
     ap₂ (λ a b. a + b)
@@ -192,11 +220,15 @@ stored-loads lanes m n f (z ∷ zs) x w form moves h =
     (λ vs k range below. refl))
     (stored-loads lanes m n f zs x w form moves h.1)
 
-pub nests-gathered : (lanes : ℕ) → (m n : ℕ) (f : Mapping) (zs : List PlainNest) (x : List ℕ) → IsFormed f → MovesVectors lanes (at f) → AreGoodNests lanes m n zs → nests_on m n (gathered f zs) x ≡ nests_on m n zs (gather n (at f) x)
+pub nests-gathered : (lanes : ℕ) → (m n : ℕ) (f : Mapping) (zs : List PlainNest) (x : List ℕ) → IsFormed f →
+    MovesVectors lanes (at f) → AreGoodNests lanes m n zs → nests_on m n (gathered f zs) x
+    ≡ nests_on m n zs (gather n (at f) x)
 nests-gathered lanes m n f zs x form moves h =
     sym (loads_gather m n (copies_all m zs) (at f) x (all-inside lanes m n zs h) ∙ list_below-same n _ _ (λ w below. ap (λ s. s % m) (stored-loads lanes m n f zs x w form moves h)))
 
-stored-stores : (lanes : ℕ) → (m n : ℕ) (f : Mapping) (zs : List PlainNest) (x : List ℕ) (w : ℕ) → IsFormed f → MovesVectors lanes (at f) → AreGoodNests lanes m n zs → all_stored (map (stored_by (at f)) (copies_all m zs)) x w ≡ all_stored (copies_all m (scattered f zs)) x w
+stored-stores : (lanes : ℕ) → (m n : ℕ) (f : Mapping) (zs : List PlainNest) (x : List ℕ) (w : ℕ) → IsFormed f →
+    MovesVectors lanes (at f) → AreGoodNests lanes m n zs → all_stored (map (stored_by (at f)) (copies_all m zs)) x w
+    ≡ all_stored (copies_all m (scattered f zs)) x w
 stored-stores lanes m n f [] x w form moves h = refl
 stored-stores lanes m n f (z ∷ zs) x w form moves h =
     ap₂ (λ a b. a + b)
@@ -206,7 +238,9 @@ stored-stores lanes m n f (z ∷ zs) x w form moves h =
     (λ vs k range below. sym (store-simplified z.counts z.work f z.scatters vs k (suiting lanes z.work (at f) h.0.tiles moves) form h.0.scatters h.0.whole_stores range below)))
     (stored-stores lanes m n f zs x w form moves h.1)
 
-hits-stores : (lanes : ℕ) → (m n : ℕ) (f : Mapping) (zs : List PlainNest) (w : ℕ) → IsFormed f → MovesVectors lanes (at f) → AreGoodNests lanes m n zs → hits (map (stored_by (at f)) (copies_all m zs)) w ≡ hits (copies_all m (scattered f zs)) w
+hits-stores : (lanes : ℕ) → (m n : ℕ) (f : Mapping) (zs : List PlainNest) (w : ℕ) → IsFormed f →
+    MovesVectors lanes (at f) → AreGoodNests lanes m n zs → hits (map (stored_by (at f)) (copies_all m zs)) w
+    ≡ hits (copies_all m (scattered f zs)) w
 hits-stores lanes m n f [] w form moves h = refl
 hits-stores lanes m n f (z ∷ zs) w form moves h =
     ap₂ (λ a b. a + b)
@@ -214,7 +248,8 @@ hits-stores lanes m n f (z ∷ zs) w form moves h =
     ap (λ p. if p == w then 1 else 0) (sym (store-simplified z.counts z.work f z.scatters vs k (suiting lanes z.work (at f) h.0.tiles moves) form h.0.scatters h.0.whole_stores range below))))
     (hits-stores lanes m n f zs w form moves h.1)
 
-pub nests-scattered : (lanes : ℕ) → (m n : ℕ) (f : Mapping) (there : ℕ → ℕ) (zs : List PlainNest) (x : List ℕ) → IsFormed f → MovesVectors lanes (at f) → IsPermutationBelow n there (at f) → AreGoodNests lanes m n zs →
+pub nests-scattered : (lanes : ℕ) → (m n : ℕ) (f : Mapping) (there : ℕ → ℕ) (zs : List PlainNest) (x : List ℕ) →
+    IsFormed f → MovesVectors lanes (at f) → IsPermutationBelow n there (at f) → AreGoodNests lanes m n zs →
     nests_on m n (scattered f zs) x ≡ gather n there (nests_on m n zs x)
 nests-scattered lanes m n f there zs x form moves p h =
     sym (stores_scatter m n (copies_all m zs) there (at f) x p (all-inside lanes m n zs h) ∙ list_below-same n _ _ (λ w below. ap (λ s. s % m) (stored-stores lanes m n f zs x w form moves h)))
@@ -229,8 +264,10 @@ abbrev pub AreSuited : List Mapping → List PlainNest → Type 0
 AreSuited fs [] = Unit {0}
 AreSuited fs (z ∷ zs) = AllSuit z.work fs × AreSuited fs zs
 
-stored-multiplied : (lanes : ℕ) → (m n : ℕ) (factors : PlainFactors) (fs : List Mapping) (zs : List PlainNest) (x : List ℕ) (w : ℕ) → AreFormed fs → AreSuited fs zs → AreGoodNests lanes m n zs → AreFree zs →
-    all_stored (map (multiplied_by m (λ p. factor_at m factors (through fs p))) (copies_all m zs)) x w ≡ all_stored (copies_all m (multiplied factors fs zs)) x w
+stored-multiplied : (lanes : ℕ) → (m n : ℕ) (factors : PlainFactors) (fs : List Mapping) (zs : List PlainNest)
+    (x : List ℕ) (w : ℕ) → AreFormed fs → AreSuited fs zs → AreGoodNests lanes m n zs → AreFree zs →
+    all_stored (map (multiplied_by m (λ p. factor_at m factors (through fs p))) (copies_all m zs)) x w
+    ≡ all_stored (copies_all m (multiplied factors fs zs)) x w
 stored-multiplied lanes m n factors fs [] x w forms suit h free = refl
 stored-multiplied lanes m n factors fs (z ∷ zs) x w forms suit h free =
     ap₂ (λ a b. a + b)
@@ -244,14 +281,16 @@ stored-multiplied lanes m n factors fs (z ∷ zs) x w forms suit h free =
     (λ vs k range below. refl))
     (stored-multiplied lanes m n factors fs zs x w forms suit.1 h.1 free.1)
 
-pub nests-multiplied : (lanes : ℕ) → (m n : ℕ) (factors : PlainFactors) (fs : List Mapping) (zs : List PlainNest) (x : List ℕ) → 0 < m → AreFormed fs → AreSuited fs zs → AreGoodNests lanes m n zs → AreFree zs →
+pub nests-multiplied : (lanes : ℕ) → (m n : ℕ) (factors : PlainFactors) (fs : List Mapping) (zs : List PlainNest)
+    (x : List ℕ) → 0 < m → AreFormed fs → AreSuited fs zs → AreGoodNests lanes m n zs → AreFree zs →
     nests_on m n (multiplied factors fs zs) x ≡ scale m n (λ p. factor_at m factors (through fs p)) (nests_on m n zs x)
 nests-multiplied lanes m n factors fs zs x positive forms suit h free =
     sym (loops_scale m n (copies_all m zs) (λ p. factor_at m factors (through fs p)) x positive ∙ list_below-same n _ _ (λ w below. ap (λ s. s % m) (stored-multiplied lanes m n factors fs zs x w forms suit h free)))
 
 -- ---- good passes stay good
 
-gathered-nests : (lanes : ℕ) → (m n : ℕ) (f : Mapping) (zs : List PlainNest) → IsFormed f → MovesVectors lanes (at f) → ((i : ℕ) → i < n → at f i < n) → AreGoodNests lanes m n zs → AreGoodNests lanes m n (gathered f zs)
+gathered-nests : (lanes : ℕ) → (m n : ℕ) (f : Mapping) (zs : List PlainNest) → IsFormed f → MovesVectors lanes (at f) →
+    ((i : ℕ) → i < n → at f i < n) → AreGoodNests lanes m n zs → AreGoodNests lanes m n (gathered f zs)
 gathered-nests lanes m n f [] form moves stay h = tt
 gathered-nests lanes m n f (z ∷ zs) form moves stay h = (
   record {
@@ -268,14 +307,18 @@ gathered-nests lanes m n f (z ∷ zs) form moves stay h = (
   gathered-nests lanes m n f zs form moves stay h.1,
 )
 
-hits-gathered : (m : ℕ) (f : Mapping) (zs : List PlainNest) (w : ℕ) → hits (copies_all m (gathered f zs)) w ≡ hits (copies_all m zs) w
+hits-gathered : (m : ℕ) (f : Mapping) (zs : List PlainNest) (w : ℕ) →
+    hits (copies_all m (gathered f zs)) w ≡ hits (copies_all m zs) w
 hits-gathered m f [] w = refl
 hits-gathered m f (z ∷ zs) w = ap (λ b. loop_at (loops_of z.counts) (work_size z.work) (store_place z.work z.scatters) (λ vs k. 1) w + b) (hits-gathered m f zs w)
 
-pub gathered-good : (lanes : ℕ) → (m n : ℕ) (f : Mapping) (zs : List PlainNest) → IsFormed f → MovesVectors lanes (at f) → ((i : ℕ) → i < n → at f i < n) → IsGoodPass lanes m n zs → IsGoodPass lanes m n (gathered f zs)
+pub gathered-good : (lanes : ℕ) → (m n : ℕ) (f : Mapping) (zs : List PlainNest) → IsFormed f →
+    MovesVectors lanes (at f) → ((i : ℕ) → i < n → at f i < n) → IsGoodPass lanes m n zs →
+    IsGoodPass lanes m n (gathered f zs)
 gathered-good lanes m n f zs form moves stay h = record { nests = gathered-nests lanes m n f zs form moves stay h.nests; once = λ w below. hits-gathered m f zs w ∙ h.once w below }
 
-scattered-nests : (lanes : ℕ) → (m n : ℕ) (f : Mapping) (zs : List PlainNest) → IsFormed f → MovesVectors lanes (at f) → ((i : ℕ) → i < n → at f i < n) → AreGoodNests lanes m n zs → AreGoodNests lanes m n (scattered f zs)
+scattered-nests : (lanes : ℕ) → (m n : ℕ) (f : Mapping) (zs : List PlainNest) → IsFormed f → MovesVectors lanes (at f) →
+    ((i : ℕ) → i < n → at f i < n) → AreGoodNests lanes m n zs → AreGoodNests lanes m n (scattered f zs)
 scattered-nests lanes m n f [] form moves stay h = tt
 scattered-nests lanes m n f (z ∷ zs) form moves stay h = (
   record {
@@ -292,23 +335,28 @@ scattered-nests lanes m n f (z ∷ zs) form moves stay h = (
   scattered-nests lanes m n f zs form moves stay h.1,
 )
 
-pub scattered-good : (lanes : ℕ) → (m n : ℕ) (f : Mapping) (there : ℕ → ℕ) (zs : List PlainNest) → IsFormed f → MovesVectors lanes (at f) → IsPermutationBelow n there (at f) → IsGoodPass lanes m n zs → IsGoodPass lanes m n (scattered f zs)
+pub scattered-good : (lanes : ℕ) → (m n : ℕ) (f : Mapping) (there : ℕ → ℕ) (zs : List PlainNest) → IsFormed f →
+    MovesVectors lanes (at f) → IsPermutationBelow n there (at f) → IsGoodPass lanes m n zs →
+    IsGoodPass lanes m n (scattered f zs)
 scattered-good lanes m n f there zs form moves p h =
     record {
       nests = scattered-nests lanes m n f zs form moves p.back_below h.nests;
       once = λ w below. sym (hits-stores lanes m n f zs w form moves h.nests) ∙ keeps_once.scattered n (copies_all m zs) there (at f) p (all-inside lanes m n zs h.nests) h.once w below;
     }
 
-multiplied-nests : (lanes : ℕ) → (m n : ℕ) (factors : PlainFactors) (fs : List Mapping) (zs : List PlainNest) → AreGoodNests lanes m n zs → AreGoodNests lanes m n (multiplied factors fs zs)
+multiplied-nests : (lanes : ℕ) → (m n : ℕ) (factors : PlainFactors) (fs : List Mapping) (zs : List PlainNest) →
+    AreGoodNests lanes m n zs → AreGoodNests lanes m n (multiplied factors fs zs)
 multiplied-nests lanes m n factors fs [] h = tt
 multiplied-nests lanes m n factors fs (z ∷ zs) h = (
   record { tiles = h.0.tiles; whole_loads = h.0.whole_loads; whole_stores = h.0.whole_stores; gathers = h.0.gathers; scatters = h.0.scatters; inside = record { loads = h.0.inside.loads; stores = h.0.inside.stores } },
   multiplied-nests lanes m n factors fs zs h.1,
 )
 
-pub hits-multiplied : (m : ℕ) (factors : PlainFactors) (fs : List Mapping) (zs : List PlainNest) (w : ℕ) → hits (copies_all m (multiplied factors fs zs)) w ≡ hits (copies_all m zs) w
+pub hits-multiplied : (m : ℕ) (factors : PlainFactors) (fs : List Mapping) (zs : List PlainNest) (w : ℕ) →
+    hits (copies_all m (multiplied factors fs zs)) w ≡ hits (copies_all m zs) w
 hits-multiplied m factors fs [] w = refl
 hits-multiplied m factors fs (z ∷ zs) w = ap (λ b. loop_at (loops_of z.counts) (work_size z.work) (store_place z.work z.scatters) (λ vs k. 1) w + b) (hits-multiplied m factors fs zs w)
 
-pub multiplied-good : (lanes : ℕ) → (m n : ℕ) (factors : PlainFactors) (fs : List Mapping) (zs : List PlainNest) → IsGoodPass lanes m n zs → IsGoodPass lanes m n (multiplied factors fs zs)
+pub multiplied-good : (lanes : ℕ) → (m n : ℕ) (factors : PlainFactors) (fs : List Mapping) (zs : List PlainNest) →
+    IsGoodPass lanes m n zs → IsGoodPass lanes m n (multiplied factors fs zs)
 multiplied-good lanes m n factors fs zs h = record { nests = multiplied-nests lanes m n factors fs zs h.nests; once = λ w below. hits-multiplied m factors fs zs w ∙ h.once w below }

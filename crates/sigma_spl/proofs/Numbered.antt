@@ -13,6 +13,8 @@ sums_end [] y = refl
 sums_end (x ∷ xs) y = ap (λ rest. plain_sum x ∷ rest) (sums_end xs y)
 
 -- one item more
-pub one-more : (f : ℕ → ℕ) (before after : List Affine) (k : ℕ) → after ≡ before ++ Constant (f k) ∷ [] → map plain_sum before ≡ map (λ i. constant (f i)) (range_with_len 0 k) → map plain_sum after ≡ map (λ i. constant (f i)) (range_with_len 0 (k + 1))
+pub one-more : (f : ℕ → ℕ) (before after : List Affine) (k : ℕ) → after ≡ before ++ Constant (f k) ∷ [] →
+    map plain_sum before ≡ map (λ i. constant (f i)) (range_with_len 0 k) →
+    map plain_sum after ≡ map (λ i. constant (f i)) (range_with_len 0 (k + 1))
 one-more f before after k is h =
     ap (map plain_sum) is ∙ sums_end before (Constant (f k)) ∙ ap (λ xs. xs ++ constant (f k) ∷ []) h ∙ sym (map-range_with_len_more (λ i. constant (f i)) 0 k k (omega arith))

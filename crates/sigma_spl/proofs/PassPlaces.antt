@@ -1,5 +1,6 @@
 -- Where each word is stored once, a pass leaves what its copies store.
-use Rattle.std.proofs.Common.{◌≡◌, ◌≢◌, ℕ, zero, suc, ◌+◌, ◌%◌, ◌<◌, ◌≤◌, arith, refl, sym, ap, ap₂, ◌∙◌, List, [], ◌∷◌, ◌⊎◌, inl, inr, subst}
+use Rattle.std.proofs.Common.{◌≡◌, ◌≢◌, ℕ, zero, suc, ◌+◌, ◌%◌, ◌<◌, ◌≤◌, arith, refl, sym, ap, ap₂, ◌∙◌, List, [], ◌∷◌}
+use Rattle.std.proofs.Common.{◌⊎◌, inl, inr, subst}
 use Rattle.std.specs.Prelude.{slice_index, ◌==◌, if◌then◌else◌}
 use Rattle.std.proofs.lemmas.Bool.{cases_eq, cases_lt}
 use Rattle.std.proofs.lemmas.Bool.Decides.{nat_tests}
@@ -43,7 +44,8 @@ nest-least (t ∷ path) f (v ∷ vs) range =
     let outer = sum-least (count_of t) v (λ u. nest_sum path (λ ws. f (u ∷ ws))) range.0 in omega (arith, inner, outer)
 
 -- two different copies
-nest-two : (path : Path) (f : List ℕ → ℕ) (vs ws : List ℕ) → AreInRange path vs → AreInRange path ws → vs ≢ ws → f vs + f ws ≤ nest_sum path f
+nest-two : (path : Path) (f : List ℕ → ℕ) (vs ws : List ℕ) → AreInRange path vs → AreInRange path ws → vs ≢ ws →
+    f vs + f ws ≤ nest_sum path f
 nest-two [] f [] [] a b other = absurd (other refl)
 nest-two [] f [] (w ∷ ws) a b other = absurd b
 nest-two [] f (v ∷ vs) ws a b other = absurd a
@@ -84,12 +86,14 @@ here-one p w e = grind (arith, nat_tests)
 copy-least : (d : ℕ) (to : ℕ → ℕ) (w k : ℕ) → k < d → to k ≡ w → 1 ≤ sum_below d (λ j. if to j == w then 1 else 0)
 copy-least d to w k below there = let h = sum-least d k (λ j. if to j == w then 1 else 0) below in omega (arith, h, here-one (to k) w there)
 
-loop-least : (path : Path) (d : ℕ) (to : List ℕ → ℕ → ℕ) (w : ℕ) (vs : List ℕ) (k : ℕ) → AreInRange path vs → k < d → to vs k ≡ w → 1 ≤ loop_at path d to (λ _ _. 1) w
+loop-least : (path : Path) (d : ℕ) (to : List ℕ → ℕ → ℕ) (w : ℕ) (vs : List ℕ) (k : ℕ) → AreInRange path vs → k < d →
+    to vs k ≡ w → 1 ≤ loop_at path d to (λ _ _. 1) w
 loop-least path d to w vs k range below there =
     let h = nest-least path (λ us. sum_below d (λ j. if to us j == w then 1 else 0)) vs range in omega (arith, h, copy-least d (to vs) w k below there)
 
 -- where no place has two hits, the places are one to one
-one-to-one : (path : Path) (d : ℕ) (to : List ℕ → ℕ → ℕ) → ((vs : List ℕ) (k : ℕ) → AreInRange path vs → k < d → loop_at path d to (λ _ _. 1) (to vs k) ≤ 1) → IsOneToOne path d to
+one-to-one : (path : Path) (d : ℕ) (to : List ℕ → ℕ → ℕ) → ((vs : List ℕ) (k : ℕ) → AreInRange path vs → k < d →
+    loop_at path d to (λ _ _. 1) (to vs k) ≤ 1) → IsOneToOne path d to
 one-to-one path d to h =
     record {
       values = λ vs ws k j a b below within e. decide vs ws k j a b below within e;
@@ -102,7 +106,8 @@ one-to-one path d to h =
                 absurd (omega (arith, two, outer, here-one (to vs k) (to vs k) refl, here-one (to vs j) (to vs k) (sym e), h vs k a below))
           ];
     } where
-      decide : (vs ws : List ℕ) (k j : ℕ) → AreInRange path vs → AreInRange path ws → k < d → j < d → to vs k ≡ to ws j → vs ≡ ws
+      decide : (vs ws : List ℕ) (k j : ℕ) → AreInRange path vs → AreInRange path ws → k < d → j < d →
+          to vs k ≡ to ws j → vs ≡ ws
       decide vs ws k j a b below within e =
           elim (same-list vs ws) [
             | inl same ↦ same
@@ -113,7 +118,8 @@ one-to-one path d to h =
 
 -- ---- passes
 
-hits-least : (cs : List Copies) (c : Copies) (vs : List ℕ) (k w : ℕ) → IsAmong cs c → AreInRange (loops_of c.counts) vs → k < c.size → c.to vs k ≡ w → 1 ≤ hits cs w
+hits-least : (cs : List Copies) (c : Copies) (vs : List ℕ) (k w : ℕ) → IsAmong cs c →
+    AreInRange (loops_of c.counts) vs → k < c.size → c.to vs k ≡ w → 1 ≤ hits cs w
 hits-least [] c vs k w one range below there = absurd one
 hits-least (d ∷ ds) c vs k w (inl same) range below there =
     let h = loop-least (loops_of c.counts) c.size c.to w vs k range below there in
@@ -127,16 +133,20 @@ none-stored (d ∷ ds) x w none =
     let first = loop-none (loops_of d.counts) d.size d.to (λ vs k. slice_index (d.does vs (taken d vs x)) k) w (λ vs k range below e. let h = loop-least (loops_of d.counts) d.size d.to w vs k range below e in absurd (omega (arith, h, none))) in
     let rest = none-stored ds x w (omega (arith, none)) in omega (arith, first, rest)
 
-loop-most : (cs : List Copies) (c : Copies) (w : ℕ) → IsAmong cs c → hits cs w ≤ 1 → loop_at (loops_of c.counts) c.size c.to (λ _ _. 1) w ≤ 1
+loop-most : (cs : List Copies) (c : Copies) (w : ℕ) → IsAmong cs c → hits cs w ≤ 1 →
+    loop_at (loops_of c.counts) c.size c.to (λ _ _. 1) w ≤ 1
 loop-most [] c w one few = absurd one
 loop-most (d ∷ ds) c w (inl same) few = let e = ap (λ (z : Copies). loop_at (loops_of z.counts) z.size z.to (λ _ _. 1) w) same in omega (arith, e, few)
 loop-most (d ∷ ds) c w (inr later) few = loop-most ds c w later (omega (arith, few))
 
-one-stored : (c : Copies) (x vs : List ℕ) (k : ℕ) → IsOneToOne (loops_of c.counts) c.size c.to → AreInRange (loops_of c.counts) vs → k < c.size → stored c x (c.to vs k) ≡ slice_index (c.does vs (taken c vs x)) k
+one-stored : (c : Copies) (x vs : List ℕ) (k : ℕ) → IsOneToOne (loops_of c.counts) c.size c.to →
+    AreInRange (loops_of c.counts) vs → k < c.size → stored c x (c.to vs k) ≡ slice_index (c.does vs (taken c vs x)) k
 one-stored c x vs k one range below = loop_at-place (loops_of c.counts) c.size c.to (λ us j. slice_index (c.does us (taken c us x)) j) one vs k range below
 
 -- only the loop that the copy is of stores there
-all-one : (cs : List Copies) (c : Copies) (x vs : List ℕ) (k : ℕ) → IsAmong cs c → IsOneToOne (loops_of c.counts) c.size c.to → AreInRange (loops_of c.counts) vs → k < c.size → hits cs (c.to vs k) ≤ 1 →
+all-one : (cs : List Copies) (c : Copies) (x vs : List ℕ) (k : ℕ) → IsAmong cs c →
+    IsOneToOne (loops_of c.counts) c.size c.to → AreInRange (loops_of c.counts) vs → k < c.size →
+    hits cs (c.to vs k) ≤ 1 →
     all_stored cs x (c.to vs k) ≡ slice_index (c.does vs (taken c vs x)) k
 all-one [] c x vs k one inj range below few = absurd one
 all-one (d ∷ ds) c x vs k (inl same) inj range below few =

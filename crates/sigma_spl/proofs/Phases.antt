@@ -24,7 +24,8 @@ use Rattle.sigma_spl.proofs.Within.{within-append}
 turned-first : (zs : List PlainNest) (ps : List (List PlainNest)) → reverse (zs ∷ ps) ≡ reverse ps ++ zs ∷ []
 turned-first zs ps = reverse-append (zs ∷ []) ps
 
-phase-append : (m n : ℕ) (ps qs : List (List PlainNest)) (x : List ℕ) → phase_on m n (ps ++ qs) x ≡ phase_on m n qs (phase_on m n ps x)
+phase-append : (m n : ℕ) (ps qs : List (List PlainNest)) (x : List ℕ) →
+    phase_on m n (ps ++ qs) x ≡ phase_on m n qs (phase_on m n ps x)
 phase-append m n [] qs x = refl
 phase-append m n (zs ∷ ps) qs x = phase-append m n ps qs (nests_on m n zs x)
 
@@ -33,7 +34,8 @@ turned-on m n [] x = refl
 turned-on m n (zs ∷ ps) x =
     ap (λ (qs : List (List PlainNest)). phase_on m n qs x) (turned-first zs ps) ∙ phase-append m n (reverse ps) (zs ∷ []) x ∙ ap (nests_on m n zs) (turned-on m n ps x)
 
-turned-good : (lanes m n : ℕ) (ps : List (List PlainNest)) → AreGoodPasses lanes m n ps → AreGoodPasses lanes m n (reverse ps)
+turned-good : (lanes m n : ℕ) (ps : List (List PlainNest)) → AreGoodPasses lanes m n ps →
+    AreGoodPasses lanes m n (reverse ps)
 turned-good lanes m n [] h = tt
 turned-good lanes m n (zs ∷ ps) h = subst (AreGoodPasses lanes m n) (sym (turned-first zs ps)) (good-append lanes m n (reverse ps) (zs ∷ []) (turned-good lanes m n ps h.1) (h.0, tt))
 
@@ -42,7 +44,8 @@ turned-within room n [] h = tt
 turned-within room n (zs ∷ ps) h = subst (AreWithin room n) (sym (turned-first zs ps)) (within-append room n (reverse ps) (zs ∷ []) (turned-within room n ps h.1) (h.0, tt))
 
 module _ (weight : ℕ) (cost : PlainWork → ℕ) where
-  cost-last : (ps : List (List PlainNest)) (zs : List PlainNest) → passes_cost weight cost (ps ++ zs ∷ []) ≡ pass_cost weight cost zs + passes_cost weight cost ps
+  cost-last : (ps : List (List PlainNest)) (zs : List PlainNest) →
+      passes_cost weight cost (ps ++ zs ∷ []) ≡ pass_cost weight cost zs + passes_cost weight cost ps
   cost-last [] zs = refl
   cost-last (ys ∷ ps) zs = let rest = cost-last ps zs in omega (arith, rest)
 
@@ -64,7 +67,8 @@ module _ (lanes n : ℕ) (some : 0 < n) (high : n ≤ 2 ^ 20) where
         phases ts can.1,
       )
 
-  meaning : (m : ℕ) (ts : List PlainTerm) (x : List ℕ) → 0 < m → AllCanMerge lanes n ts → IsVector m n x → phases_on m n (map (passes_in_order n) ts) x ≡ terms_on m n ts x
+  meaning : (m : ℕ) (ts : List PlainTerm) (x : List ℕ) → 0 < m → AllCanMerge lanes n ts → IsVector m n x →
+      phases_on m n (map (passes_in_order n) ts) x ≡ terms_on m n ts x
   meaning m [] x positive can v = refl
   meaning m (t ∷ ts) x positive can v =
       let one : CanMerge lanes n t = can.0 in
@@ -93,5 +97,6 @@ sigma_merges s good =
 
 -- so they have as many in all
 pub alike-in-all : (s : PlainSigma) (g : PlainMerged) (weight : ℕ) (cost : PlainWork → ℕ) →
-    merged_costs weight cost g ≡ sigma_costs weight cost s → in_all (merged_costs weight cost g) ≡ sigma_cost weight cost s
+    merged_costs weight cost g ≡ sigma_costs weight cost s →
+    in_all (merged_costs weight cost g) ≡ sigma_cost weight cost s
 alike-in-all s g weight cost alike = ap in_all alike

@@ -1,17 +1,21 @@
 -- Passes side by side under the tensors of a path.
-use Rattle.std.proofs.Common.{◌≡◌, ℕ, zero, suc, ◌+◌, ◌*◌, ◌-◌, ◌/◌, ◌%◌, ◌<◌, ◌≤◌, arith, refl, sym, ap, ap₂, ◌∙◌, List, [], ◌∷◌, ◌++◌, length, subst, Option, Some, None}
+use Rattle.std.proofs.Common.{◌≡◌, ℕ, zero, suc, ◌+◌, ◌*◌, ◌-◌, ◌/◌, ◌%◌, ◌<◌, ◌≤◌, arith, refl, sym, ap, ap₂, ◌∙◌}
+use Rattle.std.proofs.Common.{List, [], ◌∷◌, ◌++◌, length, subst, Option, Some, None}
 use Rattle.std.specs.Prelude.{slice_index, slice_index_or, map, ◌==◌, if◌then◌else◌}
 use Rattle.operators.specs.Operator.{Operator}
 use Rattle.operators.proofs.Lists.{factor_positive, at-list_below, list_below-same, place_below}
 use Rattle.perm_algebra.specs.Affine.{Sum, constant, variable, remainder, quotient, value, IsSound, joined}
 use Rattle.perm_algebra.proofs.AffineLaws.{value-joined}
 use Rattle.perm_algebra.proofs.Values.{sound-joined}
-use Rattle.sigma_spl.specs.Copies.{loops_of, Copies, stored, all_stored, pass_on, hits, StoreOnce, IsInside, AreInside, behind, placed, first_of, others_of, under_one, both}
+use Rattle.sigma_spl.specs.Copies.{loops_of, Copies, stored, all_stored, pass_on, hits, StoreOnce, IsInside, AreInside}
+use Rattle.sigma_spl.specs.Copies.{behind, placed, first_of, others_of, under_one, both}
 use Rattle.sigma_spl.specs.Good.{AreSound, NamesItems, HasLanes, AreWhole, AreGoodNests, IsGoodPass}
 use Rattle.sigma_spl.specs.Merge.{place_sum, renumbered, renumbered_places, lifted, side}
-use Rattle.sigma_spl.specs.Nest.{factor_at, PlainMultiplier, PlainNest, sum_value, load_place, store_place, multiplied_on, copies_of, nests_on}
+use Rattle.sigma_spl.specs.Nest.{factor_at, PlainMultiplier, PlainNest, sum_value, load_place, store_place}
+use Rattle.sigma_spl.specs.Nest.{multiplied_on, copies_of, nests_on}
 use Rattle.sigma_spl.specs.Work.{PlainWork, kernel, rows, horner, tile, copy, work_size, work_on}
-use Rattle.sigma_spl.proofs.CopiesMerge.{loop-same, stored-append, hits-append, stand_side_by_side, stand_under, keeps_once}
+use Rattle.sigma_spl.proofs.CopiesMerge.{loop-same, stored-append, hits-append, stand_side_by_side, stand_under}
+use Rattle.sigma_spl.proofs.CopiesMerge.{keeps_once}
 use Rattle.sigma_spl.proofs.Natural.{loop_values, value-place_sum, sound-place_sum}
 use Rattle.sigma_spl.proofs.Nests.{stored-alike, at-map, length-map, all-inside}
 use Rattle.operators.specs.declared.tensor_paths.Tensor.{Tensor}
@@ -25,30 +29,36 @@ abbrev pub rest_of : Path → List ℕ → List ℕ
 rest_of [] vs = vs
 rest_of (t ∷ path) vs = rest_of path (others_of vs)
 
-place-below-long : (path : Path) (n : ℕ) (counts vs : List ℕ) (j : ℕ) → AreInRange (loops_of (map count_of path ++ counts)) vs → j < n → place path n vs j < size_under path n
+place-below-long : (path : Path) (n : ℕ) (counts vs : List ℕ) (j : ℕ) →
+    AreInRange (loops_of (map count_of path ++ counts)) vs → j < n → place path n vs j < size_under path n
 place-below-long [] n counts vs j h below = below
 place-below-long (t ∷ path) n counts [] j h below = absurd h
 place-below-long (Blocks c ∷ path) n counts (v ∷ vs) j h below = place_below v (place path n vs j) c (size_under path n) h.0 (place-below-long path n counts vs j h.1 below)
 place-below-long (Columns c ∷ path) n counts (v ∷ vs) j h below = place_below (place path n vs j) v (size_under path n) c (place-below-long path n counts vs j h.1 below) h.0
 
-pub rest-range : (path : Path) (counts vs : List ℕ) → AreInRange (loops_of (map count_of path ++ counts)) vs → AreInRange (loops_of counts) (rest_of path vs)
+pub rest-range : (path : Path) (counts vs : List ℕ) → AreInRange (loops_of (map count_of path ++ counts)) vs →
+    AreInRange (loops_of counts) (rest_of path vs)
 rest-range [] counts vs h = h
 rest-range (t ∷ path) counts [] h = absurd h
 rest-range (t ∷ path) counts (v ∷ vs) h = rest-range path counts vs h.1
 
-rest-append : (path : Path) (counts vs more : List ℕ) → AreInRange (loops_of (map count_of path ++ counts)) vs → rest_of path (vs ++ more) ≡ rest_of path vs ++ more
+rest-append : (path : Path) (counts vs more : List ℕ) → AreInRange (loops_of (map count_of path ++ counts)) vs →
+    rest_of path (vs ++ more) ≡ rest_of path vs ++ more
 rest-append [] counts vs more h = refl
 rest-append (t ∷ path) counts [] more h = absurd h
 rest-append (t ∷ path) counts (v ∷ vs) more h = rest-append path counts vs more h.1
 
-place-append : (path : Path) (n : ℕ) (counts vs more : List ℕ) (j : ℕ) → AreInRange (loops_of (map count_of path ++ counts)) vs → place path n (vs ++ more) j ≡ place path n vs j
+place-append : (path : Path) (n : ℕ) (counts vs more : List ℕ) (j : ℕ) →
+    AreInRange (loops_of (map count_of path ++ counts)) vs → place path n (vs ++ more) j ≡ place path n vs j
 place-append [] n counts vs more j h = refl
 place-append (t ∷ path) n counts [] more j h = absurd h
 place-append (Blocks c ∷ path) n counts (v ∷ vs) more j h = ap (λ p. v * size_under path n + p) (place-append path n counts vs more j h.1)
 place-append (Columns c ∷ path) n counts (v ∷ vs) more j h = ap (λ p. p * c + v) (place-append path n counts vs more j h.1)
 
 -- the values of the path's loops are the first ones
-place-values : (path : Path) (n d : ℕ) (f : ℕ → ℕ) (counts vs : List ℕ) (j : ℕ) → AreInRange (loops_of (map count_of path ++ counts)) vs → ((i : ℕ) → f (d + i) ≡ slice_index vs i) → place path n (loop_values path d f) j ≡ place path n vs j
+place-values : (path : Path) (n d : ℕ) (f : ℕ → ℕ) (counts vs : List ℕ) (j : ℕ) →
+    AreInRange (loops_of (map count_of path ++ counts)) vs → ((i : ℕ) → f (d + i) ≡ slice_index vs i) →
+    place path n (loop_values path d f) j ≡ place path n vs j
 place-values [] n d f counts vs j h is = refl
 place-values (t ∷ path) n d f counts [] j h is = absurd h
 place-values (Blocks c ∷ path) n d f counts (v ∷ vs) j h is =
@@ -59,7 +69,8 @@ place-values (Columns c ∷ path) n d f counts (v ∷ vs) j h is =
 empty-index : (i : ℕ) → slice_index [] i ≡ 0
 empty-index i = refl
 
-pub rest-index : (path : Path) (vs : List ℕ) (i : ℕ) → slice_index vs (i + length path) ≡ slice_index (rest_of path vs) i
+pub rest-index : (path : Path) (vs : List ℕ) (i : ℕ) → slice_index vs (i + length path)
+    ≡ slice_index (rest_of path vs) i
 rest-index [] vs i = ap (slice_index vs) (omega arith)
 rest-index (t ∷ path) [] i = sym (empty-rest path i) where
   empty-rest : (path : Path) (i : ℕ) → slice_index (rest_of path []) i ≡ 0
@@ -82,21 +93,26 @@ sound-renumbered k (remainder f of m rest) h = (h.0, sound-renumbered k of h.1, 
 sound-renumbered k (quotient f of m rest) h = (h.0, sound-renumbered k of h.1, sound-renumbered k rest h.2)
 
 -- a sum at the values behind the path's loops
-value-behind : (path : Path) (e : Sum) (vs : List ℕ) → value (renumbered (length path) e) (slice_index vs) ≡ value e (slice_index (rest_of path vs))
+value-behind : (path : Path) (e : Sum) (vs : List ℕ) → value (renumbered (length path) e) (slice_index vs)
+    ≡ value e (slice_index (rest_of path vs))
 value-behind path e vs = value-renumbered (length path) e (slice_index vs) ∙ ap (value e) (λ t i. rest-index path vs i t)
 
 abbrev pub up : Path → ℕ → ℕ → Sum → Sum
 up path n before e = place_sum path n 0 (joined (constant before) (renumbered (length path) e))
 
-value-up : (path : Path) (n before : ℕ) (e : Sum) (counts vs more : List ℕ) → AreInRange (loops_of (map count_of path ++ counts)) vs →
-    value (up path n before e) (slice_index (vs ++ more)) ≡ place path n vs (before + value e (slice_index (rest_of path vs ++ more)))
+value-up : (path : Path) (n before : ℕ) (e : Sum) (counts vs more : List ℕ) →
+    AreInRange (loops_of (map count_of path ++ counts)) vs →
+    value (up path n before e) (slice_index (vs ++ more)) ≡ place path n vs
+    (before + value e (slice_index (rest_of path vs ++ more)))
 value-up path n before e counts vs more h =
     value-place_sum path n 0 (joined (constant before) (renumbered (length path) e)) (slice_index (vs ++ more))
     ∙ first-values path counts vs more h n (slice_index (vs ++ more)) (λ i. ap (slice_index (vs ++ more)) (omega arith)) _
     ∙ ap (place path n vs)
     (value-joined (constant before) (renumbered (length path) e) (slice_index (vs ++ more))
     ∙ ap (λ v. before + v) (value-behind path e (vs ++ more) ∙ ap (λ ws. value e (slice_index ws)) (rest-append path counts vs more h))) where
-      place-first : (path : Path) (n d : ℕ) (f : ℕ → ℕ) (counts vs more : List ℕ) (j : ℕ) → AreInRange (loops_of (map count_of path ++ counts)) vs → ((i : ℕ) → f (d + i) ≡ slice_index (vs ++ more) i) → place path n (loop_values path d f) j ≡ place path n vs j
+      place-first : (path : Path) (n d : ℕ) (f : ℕ → ℕ) (counts vs more : List ℕ) (j : ℕ) →
+          AreInRange (loops_of (map count_of path ++ counts)) vs → ((i : ℕ) → f (d + i) ≡ slice_index (vs ++ more) i) →
+          place path n (loop_values path d f) j ≡ place path n vs j
       place-first [] n d f counts vs more j h is = refl
       place-first (t ∷ path) n d f counts [] more j h is = absurd h
       place-first (Blocks c ∷ path) n d f counts (v ∷ vs) more j h is =
@@ -104,10 +120,13 @@ value-up path n before e counts vs more h =
       place-first (Columns c ∷ path) n d f counts (v ∷ vs) more j h is =
           ap₂ (λ u p. p * c + u) (ap f (omega arith) ∙ is 0) (place-first path n (d + 1) f counts vs more j h.1 (λ i. ap f (omega arith) ∙ is (suc i)))
 
-      first-values : (path : Path) (counts vs more : List ℕ) → AreInRange (loops_of (map count_of path ++ counts)) vs → (n : ℕ) (f : ℕ → ℕ) → ((i : ℕ) → f (0 + i) ≡ slice_index (vs ++ more) i) → (j : ℕ) → place path n (loop_values path 0 f) j ≡ place path n vs j
+      first-values : (path : Path) (counts vs more : List ℕ) → AreInRange (loops_of (map count_of path ++ counts)) vs →
+          (n : ℕ) (f : ℕ → ℕ) → ((i : ℕ) → f (0 + i) ≡ slice_index (vs ++ more) i) → (j : ℕ) →
+          place path n (loop_values path 0 f) j ≡ place path n vs j
       first-values path counts vs more h n f is j = place-first path n 0 f counts vs more j h is
 
-value-up-alone : (path : Path) (n before : ℕ) (e : Sum) (counts vs : List ℕ) → AreInRange (loops_of (map count_of path ++ counts)) vs →
+value-up-alone : (path : Path) (n before : ℕ) (e : Sum) (counts vs : List ℕ) →
+    AreInRange (loops_of (map count_of path ++ counts)) vs →
     value (up path n before e) (slice_index vs) ≡ place path n vs (before + value e (slice_index (rest_of path vs)))
 value-up-alone path n before e counts vs h =
     value-place_sum path n 0 (joined (constant before) (renumbered (length path) e)) (slice_index vs)
@@ -116,17 +135,21 @@ value-up-alone path n before e counts vs h =
 
 -- ---- places of lifted nests
 
-at-renumbered : (k : ℕ) (sums : List Sum) (i : ℕ) → slice_index_or (map (renumbered k) sums) i (constant 0) ≡ renumbered k (slice_index_or sums i (constant 0))
+at-renumbered : (k : ℕ) (sums : List Sum) (i : ℕ) → slice_index_or (map (renumbered k) sums) i (constant 0)
+    ≡ renumbered k (slice_index_or sums i (constant 0))
 at-renumbered k [] i = refl
 at-renumbered k (e ∷ es) zero = refl
 at-renumbered k (e ∷ es) (suc i) = at-renumbered k es i
 
-lift-alone : (path : Path) (n before : ℕ) (sums : List Sum) (counts vs : List ℕ) (i : ℕ) → i < length sums → AreInRange (loops_of (map count_of path ++ counts)) vs →
+lift-alone : (path : Path) (n before : ℕ) (sums : List Sum) (counts vs : List ℕ) (i : ℕ) → i < length sums →
+    AreInRange (loops_of (map count_of path ++ counts)) vs →
     sum_value (map (up path n before) sums) i vs ≡ place path n vs (before + sum_value sums i (rest_of path vs))
 lift-alone path n before sums counts vs i within h = ap (λ e. value e (slice_index vs)) (at-map (up path n before) sums i within) ∙ value-up-alone path n before (slice_index_or sums i (constant 0)) counts vs h
 
-pub lift-more : (path : Path) (n before : ℕ) (sums : List Sum) (counts vs more : List ℕ) → 0 < length sums → AreInRange (loops_of (map count_of path ++ counts)) vs →
-    sum_value (map (up path n before) sums) 0 (vs ++ more) ≡ place path n vs (before + sum_value sums 0 (rest_of path vs ++ more))
+pub lift-more : (path : Path) (n before : ℕ) (sums : List Sum) (counts vs more : List ℕ) → 0 < length sums →
+    AreInRange (loops_of (map count_of path ++ counts)) vs →
+    sum_value (map (up path n before) sums) 0 (vs ++ more) ≡ place path n vs
+    (before + sum_value sums 0 (rest_of path vs ++ more))
 lift-more path n before sums counts vs more within h =
     ap (λ e. value e (slice_index (vs ++ more))) (at-map (up path n before) sums 0 within) ∙ value-up path n before (slice_index_or sums 0 (constant 0)) counts vs more h
 
@@ -134,7 +157,8 @@ lift-more path n before sums counts vs more within h =
 no-tile : (v k : ℕ) → (0 < v → v ≡ 0) → k < v * v → ⊥
 no-tile v k none below = let some = factor_positive v v k below in omega (arith, some, none some)
 
-load-lifted : (path : Path) (n before : ℕ) (w : PlainWork) (sums : List Sum) (counts vs : List ℕ) (k : ℕ) → HasLanes 0 w → NamesItems w sums → AreInRange (loops_of (map count_of path ++ counts)) vs → k < work_size w →
+load-lifted : (path : Path) (n before : ℕ) (w : PlainWork) (sums : List Sum) (counts vs : List ℕ) (k : ℕ) →
+    HasLanes 0 w → NamesItems w sums → AreInRange (loops_of (map count_of path ++ counts)) vs → k < work_size w →
     load_place w (map (up path n before) sums) vs k ≡ place path n vs (before + load_place w sums (rest_of path vs) k)
 load-lifted path n before (kernel trees) sums counts vs k loose names h below = lift-alone path n before sums counts vs k (omega (arith, names.enough, below)) h
 load-lifted path n before (rows root d) sums counts vs k loose names h below = lift-more path n before sums counts vs (0 ∷ k ∷ []) (omega (arith, names.enough)) h
@@ -142,7 +166,8 @@ load-lifted path n before (horner root d) sums counts vs k loose names h below =
 load-lifted path n before (tile v) sums counts vs k loose names h below = absurd (no-tile v k loose below)
 load-lifted path n before (copy d) sums counts vs k loose names h below = lift-alone path n before sums counts vs k (omega (arith, names.enough, below)) h
 
-store-lifted : (path : Path) (n before : ℕ) (w : PlainWork) (sums : List Sum) (counts vs : List ℕ) (k : ℕ) → HasLanes 0 w → NamesItems w sums → AreInRange (loops_of (map count_of path ++ counts)) vs → k < work_size w →
+store-lifted : (path : Path) (n before : ℕ) (w : PlainWork) (sums : List Sum) (counts vs : List ℕ) (k : ℕ) →
+    HasLanes 0 w → NamesItems w sums → AreInRange (loops_of (map count_of path ++ counts)) vs → k < work_size w →
     store_place w (map (up path n before) sums) vs k ≡ place path n vs (before + store_place w sums (rest_of path vs) k)
 store-lifted path n before (kernel trees) sums counts vs k loose names h below = lift-alone path n before sums counts vs k (omega (arith, names.enough, below)) h
 store-lifted path n before (rows root d) sums counts vs k loose names h below = lift-more path n before sums counts vs (k ∷ []) (omega (arith, names.enough)) h
@@ -150,13 +175,18 @@ store-lifted path n before (horner root d) sums counts vs k loose names h below 
 store-lifted path n before (tile v) sums counts vs k loose names h below = absurd (no-tile v k loose below)
 store-lifted path n before (copy d) sums counts vs k loose names h below = lift-alone path n before sums counts vs k (omega (arith, names.enough, below)) h
 
-factor-alone : (path : Path) (sums : List Sum) (vs : List ℕ) (i : ℕ) → sum_value (map (renumbered (length path)) sums) i vs ≡ sum_value sums i (rest_of path vs)
+factor-alone : (path : Path) (sums : List Sum) (vs : List ℕ) (i : ℕ) →
+    sum_value (map (renumbered (length path)) sums) i vs ≡ sum_value sums i (rest_of path vs)
 factor-alone path sums vs i = ap (λ e. value e (slice_index vs)) (at-renumbered (length path) sums i) ∙ value-behind path (slice_index_or sums i (constant 0)) vs
 
-factor-more : (path : Path) (sums : List Sum) (counts vs : List ℕ) (k : ℕ) → AreInRange (loops_of (map count_of path ++ counts)) vs → sum_value (map (renumbered (length path)) sums) 0 (vs ++ k ∷ []) ≡ sum_value sums 0 (rest_of path vs ++ k ∷ [])
+factor-more : (path : Path) (sums : List Sum) (counts vs : List ℕ) (k : ℕ) →
+    AreInRange (loops_of (map count_of path ++ counts)) vs →
+    sum_value (map (renumbered (length path)) sums) 0 (vs ++ k ∷ []) ≡ sum_value sums 0 (rest_of path vs ++ k ∷ [])
 factor-more path sums counts vs k h = factor-alone path sums (vs ++ k ∷ []) 0 ∙ ap (sum_value sums 0) (rest-append path counts vs (k ∷ []) h)
 
-factor-lifted : (path : Path) (w : PlainWork) (sums : List Sum) (counts vs : List ℕ) (k : ℕ) → HasLanes 0 w → k < work_size w → AreInRange (loops_of (map count_of path ++ counts)) vs → store_place w (map (renumbered (length path)) sums) vs k ≡ store_place w sums (rest_of path vs) k
+factor-lifted : (path : Path) (w : PlainWork) (sums : List Sum) (counts vs : List ℕ) (k : ℕ) → HasLanes 0 w →
+    k < work_size w → AreInRange (loops_of (map count_of path ++ counts)) vs →
+    store_place w (map (renumbered (length path)) sums) vs k ≡ store_place w sums (rest_of path vs) k
 factor-lifted path (kernel trees) sums counts vs k loose below h = factor-alone path sums vs k
 factor-lifted path (rows root d) sums counts vs k loose below h = factor-more path sums counts vs k h
 factor-lifted path (horner root d) sums counts vs k loose below h = factor-more path sums counts vs k h
@@ -182,17 +212,22 @@ inside-path path n c h =
       stores = λ vs k range below. place-below-long path n c.counts vs _ range (h.stores (rest_of path vs) k (rest-range path c.counts vs range) below);
     }
 
-all-inside-path : (path : Path) (n : ℕ) (cs : List Copies) → AreInside n cs → AreInside (size_under path n) (map (under_path path n) cs)
+all-inside-path : (path : Path) (n : ℕ) (cs : List Copies) → AreInside n cs →
+    AreInside (size_under path n) (map (under_path path n) cs)
 all-inside-path path n [] h = tt
 all-inside-path path n (c ∷ cs) h = (inside-path path n c h.0, all-inside-path path n cs h.1)
 
-placed-first : (t : Tensor) (path : Path) (n : ℕ) (counts vs : List ℕ) (f : List ℕ → ℕ) → AreInRange (loops_of (count_of t ∷ counts)) vs →
-    placed t (size_under path n) (first_of vs) (place path n (others_of vs) (f (others_of vs))) ≡ place (t ∷ path) n vs (f (others_of vs))
+placed-first : (t : Tensor) (path : Path) (n : ℕ) (counts vs : List ℕ) (f : List ℕ → ℕ) →
+    AreInRange (loops_of (count_of t ∷ counts)) vs →
+    placed t (size_under path n) (first_of vs) (place path n (others_of vs) (f (others_of vs)))
+    ≡ place (t ∷ path) n vs (f (others_of vs))
 placed-first t path n counts [] f h = absurd h
 placed-first (Blocks c) path n counts (v ∷ vs) f h = refl
 placed-first (Columns c) path n counts (v ∷ vs) f h = refl
 
-stored-path : (t : Tensor) (path : Path) (n : ℕ) (cs : List Copies) (x : List ℕ) (w : ℕ) → all_stored (map (under_one t (size_under path n)) (map (under_path path n) cs)) x w ≡ all_stored (map (under_path (t ∷ path) n) cs) x w
+stored-path : (t : Tensor) (path : Path) (n : ℕ) (cs : List Copies) (x : List ℕ) (w : ℕ) →
+    all_stored (map (under_one t (size_under path n)) (map (under_path path n) cs)) x w
+    ≡ all_stored (map (under_path (t ∷ path) n) cs) x w
 stored-path t path n [] x w = refl
 stored-path t path n (c ∷ cs) x w =
     ap₂ (λ a b. a + b)
@@ -202,7 +237,9 @@ stored-path t path n (c ∷ cs) x w =
     (λ vs k range below. placed-first t path n _ vs (λ us. c.to (rest_of path us) k) range))
     (stored-path t path n cs x w)
 
-hits-path : (t : Tensor) (path : Path) (n : ℕ) (cs : List Copies) (w : ℕ) → hits (map (under_one t (size_under path n)) (map (under_path path n) cs)) w ≡ hits (map (under_path (t ∷ path) n) cs) w
+hits-path : (t : Tensor) (path : Path) (n : ℕ) (cs : List Copies) (w : ℕ) →
+    hits (map (under_one t (size_under path n)) (map (under_path path n) cs)) w
+    ≡ hits (map (under_path (t ∷ path) n) cs) w
 hits-path t path n [] w = refl
 hits-path t path n (c ∷ cs) w =
     ap₂ (λ a b. a + b)
@@ -210,7 +247,8 @@ hits-path t path n (c ∷ cs) w =
     ap (λ p. if p == w then 1 else 0) (placed-first t path n _ vs (λ us. c.to (rest_of path us) k) range)))
     (hits-path t path n cs w)
 
-none-stored : (n : ℕ) (cs : List Copies) (x : List ℕ) (w : ℕ) → all_stored cs x w ≡ all_stored (map (under_path [] n) cs) x w
+none-stored : (n : ℕ) (cs : List Copies) (x : List ℕ) (w : ℕ) →
+    all_stored cs x w ≡ all_stored (map (under_path [] n) cs) x w
 none-stored n [] x w = refl
 none-stored n (c ∷ cs) x w = ap (λ b. stored c x w + b) (none-stored n cs x w)
 
@@ -218,26 +256,31 @@ none-hits : (n : ℕ) (cs : List Copies) (w : ℕ) → hits cs w ≡ hits (map (
 none-hits n [] w = refl
 none-hits n (c ∷ cs) w = ap (λ b. loop_at (loops_of c.counts) c.size c.to (λ vs k. 1) w + b) (none-hits n cs w)
 
-one_under-equal : (t : Tensor) (n : ℕ) (a b : Operator) (x : List ℕ) → ((y : List ℕ) → a y ≡ b y) → one_under t n a x ≡ one_under t n b x
+one_under-equal : (t : Tensor) (n : ℕ) (a b : Operator) (x : List ℕ) → ((y : List ℕ) → a y ≡ b y) →
+    one_under t n a x ≡ one_under t n b x
 one_under-equal (Blocks c) n a b x h = list_below-same (c * n) _ _ (λ p below. ap (λ y. slice_index y (p % n)) (h _))
 one_under-equal (Columns c) n a b x h = list_below-same (n * c) _ _ (λ p below. ap (λ y. slice_index y (p / c)) (h _))
 
 -- a pass under the tensors of a path
-pub under-pass : (m n : ℕ) (path : Path) (cs : List Copies) (x : List ℕ) → AreInside n cs → under path n (pass_on m n cs) x ≡ pass_on m (size_under path n) (map (under_path path n) cs) x
+pub under-pass : (m n : ℕ) (path : Path) (cs : List Copies) (x : List ℕ) → AreInside n cs →
+    under path n (pass_on m n cs) x ≡ pass_on m (size_under path n) (map (under_path path n) cs) x
 under-pass m n [] cs x h = list_below-same n _ _ (λ w below. ap (λ s. s % m) (none-stored n cs x w))
 under-pass m n (t ∷ path) cs x h =
     one_under-equal t (size_under path n) _ _ x (λ y. under-pass m n path cs y h)
     ∙ stand_under m (size_under path n) t (map (under_path path n) cs) x (all-inside-path path n cs h)
     ∙ list_below-same (grown t (size_under path n)) _ _ (λ w below. ap (λ s. s % m) (stored-path t path n cs x w))
 
-pub once-path : (n : ℕ) (path : Path) (cs : List Copies) → AreInside n cs → StoreOnce n cs → StoreOnce (size_under path n) (map (under_path path n) cs)
+pub once-path : (n : ℕ) (path : Path) (cs : List Copies) → AreInside n cs → StoreOnce n cs →
+    StoreOnce (size_under path n) (map (under_path path n) cs)
 once-path n [] cs h once w below = sym (none-hits n cs w) ∙ once w below
 once-path n (t ∷ path) cs h once w below = sym (hits-path t path n cs w) ∙ keeps_once.under (size_under path n) t (map (under_path path n) cs) (all-inside-path path n cs h) (once-path n path cs h once) w below
 
 -- ---- nests under a path
 
-multiplied-lifted : (m : ℕ) (path : Path) (n before : ℕ) (z : PlainNest) (o : Option PlainMultiplier) (vs y : List ℕ) (k : ℕ) → HasLanes 0 z.work → AreInRange (loops_of (map count_of path ++ z.counts)) vs → k < work_size z.work →
-    slice_index (multiplied_on m (lifted path n before z) (renumbered_places (length path) o) vs y) k ≡ slice_index (multiplied_on m z o (rest_of path vs) y) k
+multiplied-lifted : (m : ℕ) (path : Path) (n before : ℕ) (z : PlainNest) (o : Option PlainMultiplier) (vs y : List ℕ)
+    (k : ℕ) → HasLanes 0 z.work → AreInRange (loops_of (map count_of path ++ z.counts)) vs → k < work_size z.work →
+    slice_index (multiplied_on m (lifted path n before z) (renumbered_places (length path) o) vs y) k
+    ≡ slice_index (multiplied_on m z o (rest_of path vs) y) k
 multiplied-lifted m path n before z None vs y k loose h below = refl
 multiplied-lifted m path n before z (Some d) vs y k loose h below =
     at-list_below (work_size z.work) _ k below
@@ -245,7 +288,8 @@ multiplied-lifted m path n before z (Some d) vs y k loose h below =
     ∙ sym (at-list_below (work_size z.work) _ k below)
 
 stored-lifted : (m k n before : ℕ) (path : Path) (zs : List PlainNest) (x : List ℕ) (w : ℕ) → AreGoodNests 0 m k zs →
-    all_stored (map (copies_of m) (map (lifted path n before) zs)) x w ≡ all_stored (map (under_path path n) (map (behind before) (map (copies_of m) zs))) x w
+    all_stored (map (copies_of m) (map (lifted path n before) zs)) x w
+    ≡ all_stored (map (under_path path n) (map (behind before) (map (copies_of m) zs))) x w
 stored-lifted m k n before path [] x w h = refl
 stored-lifted m k n before path (z ∷ zs) x w h =
     ap₂ (λ a b. a + b)
@@ -256,7 +300,8 @@ stored-lifted m k n before path (z ∷ zs) x w h =
     (stored-lifted m k n before path zs x w h.1)
 
 hits-lifted : (m k n before : ℕ) (path : Path) (zs : List PlainNest) (w : ℕ) → AreGoodNests 0 m k zs →
-    hits (map (copies_of m) (map (lifted path n before) zs)) w ≡ hits (map (under_path path n) (map (behind before) (map (copies_of m) zs))) w
+    hits (map (copies_of m) (map (lifted path n before) zs)) w
+    ≡ hits (map (under_path path n) (map (behind before) (map (copies_of m) zs))) w
 hits-lifted m k n before path [] w h = refl
 hits-lifted m k n before path (z ∷ zs) w h =
     ap₂ (λ a b. a + b)
@@ -268,11 +313,13 @@ map-append : (f : Copies → Copies) (cs ds : List Copies) → map f (cs ++ ds) 
 map-append f [] ds = refl
 map-append f (c ∷ cs) ds = ap (λ es. f c ∷ es) (map-append f cs ds)
 
-nests-append : (m : ℕ) (zs ys : List PlainNest) → map (copies_of m) (zs ++ ys) ≡ map (copies_of m) zs ++ map (copies_of m) ys
+nests-append : (m : ℕ) (zs ys : List PlainNest) → map (copies_of m) (zs ++ ys) ≡ map (copies_of m) zs
+    ++ map (copies_of m) ys
 nests-append m [] ys = refl
 nests-append m (z ∷ zs) ys = ap (λ es. copies_of m z ∷ es) (nests-append m zs ys)
 
-stored-first : (path : Path) (n : ℕ) (cs : List Copies) (x : List ℕ) (w : ℕ) → all_stored (map (under_path path n) (map (behind 0) cs)) x w ≡ all_stored (map (under_path path n) cs) x w
+stored-first : (path : Path) (n : ℕ) (cs : List Copies) (x : List ℕ) (w : ℕ) →
+    all_stored (map (under_path path n) (map (behind 0) cs)) x w ≡ all_stored (map (under_path path n) cs) x w
 stored-first path n [] x w = refl
 stored-first path n (c ∷ cs) x w =
     ap₂ (λ a b. a + b)
@@ -282,7 +329,8 @@ stored-first path n (c ∷ cs) x w =
     (λ vs j range below. ap (place path n vs) (omega arith)))
     (stored-first path n cs x w)
 
-hits-first : (path : Path) (n : ℕ) (cs : List Copies) (w : ℕ) → hits (map (under_path path n) (map (behind 0) cs)) w ≡ hits (map (under_path path n) cs) w
+hits-first : (path : Path) (n : ℕ) (cs : List Copies) (w : ℕ) →
+    hits (map (under_path path n) (map (behind 0) cs)) w ≡ hits (map (under_path path n) cs) w
 hits-first path n [] w = refl
 hits-first path n (c ∷ cs) w =
     ap₂ (λ a b. a + b)
@@ -294,8 +342,10 @@ hits-first path n (c ∷ cs) w =
 abbrev two : ℕ → ℕ → List PlainNest → List PlainNest → List Copies
 two m k zs ys = map (copies_of m) zs ++ map (behind k) (map (copies_of m) ys)
 
-stored-side : (m k l : ℕ) (path : Path) (zs ys : List PlainNest) (x : List ℕ) (w : ℕ) → AreGoodNests 0 m k zs → AreGoodNests 0 m l ys →
-    all_stored (map (copies_of m) (side path k l zs ys)) x w ≡ all_stored (map (under_path path (k + l)) (two m k zs ys)) x w
+stored-side : (m k l : ℕ) (path : Path) (zs ys : List PlainNest) (x : List ℕ) (w : ℕ) → AreGoodNests 0 m k zs →
+    AreGoodNests 0 m l ys →
+    all_stored (map (copies_of m) (side path k l zs ys)) x w
+    ≡ all_stored (map (under_path path (k + l)) (two m k zs ys)) x w
 stored-side m k l path zs ys x w h g =
     let n = k + l in
     ap (λ cs. all_stored cs x w) (nests-append m (map (lifted path n 0) zs) (map (lifted path n k) ys))
@@ -326,16 +376,20 @@ inside-append : (n : ℕ) (cs ds : List Copies) → AreInside n cs → AreInside
 inside-append n [] ds h g = g
 inside-append n (c ∷ cs) ds h g = (h.0, inside-append n cs ds h.1 g)
 
-two-inside : (m k l : ℕ) (zs ys : List PlainNest) → AreGoodNests 0 m k zs → AreGoodNests 0 m l ys → AreInside (k + l) (two m k zs ys)
+two-inside : (m k l : ℕ) (zs ys : List PlainNest) → AreGoodNests 0 m k zs → AreGoodNests 0 m l ys →
+    AreInside (k + l) (two m k zs ys)
 two-inside m k l zs ys h g = inside-append (k + l) (map (copies_of m) zs) _ (wider-inside k l (map (copies_of m) zs) (all-inside 0 m k zs h)) (behind-inside k l (map (copies_of m) ys) (all-inside 0 m l ys g))
 
-pub side-on : (m k l : ℕ) (path : Path) (zs ys : List PlainNest) (x : List ℕ) → AreGoodNests 0 m k zs → AreGoodNests 0 m l ys →
-    nests_on m (size_under path (k + l)) (side path k l zs ys) x ≡ under path (k + l) (both k l (nests_on m k zs) (nests_on m l ys)) x
+pub side-on : (m k l : ℕ) (path : Path) (zs ys : List PlainNest) (x : List ℕ) → AreGoodNests 0 m k zs →
+    AreGoodNests 0 m l ys →
+    nests_on m (size_under path (k + l)) (side path k l zs ys) x ≡ under path (k + l)
+    (both k l (nests_on m k zs) (nests_on m l ys)) x
 side-on m k l path zs ys x h g =
     list_below-same (size_under path (k + l)) _ _ (λ w below. ap (λ s. s % m) (stored-side m k l path zs ys x w h g))
     ∙ sym (under-pass m (k + l) path (two m k zs ys) x (two-inside m k l zs ys h g))
     ∙ under-equal path (k + l) _ _ x (λ y. sym (stand_side_by_side m k l (map (copies_of m) zs) (map (copies_of m) ys) y (all-inside 0 m k zs h) (all-inside 0 m l ys g))) where
-      under-equal : (path : Path) (n : ℕ) (a b : Operator) (x : List ℕ) → ((y : List ℕ) → a y ≡ b y) → under path n a x ≡ under path n b x
+      under-equal : (path : Path) (n : ℕ) (a b : Operator) (x : List ℕ) → ((y : List ℕ) → a y ≡ b y) →
+          under path n a x ≡ under path n b x
       under-equal [] n a b x h = h x
       under-equal (t ∷ path) n a b x h = one_under-equal t (size_under path n) _ _ x (λ y. under-equal path n a b y h)
 
@@ -343,7 +397,8 @@ sound-up : (path : Path) (n before : ℕ) (sums : List Sum) → AreSound sums �
 sound-up path n before [] h = tt
 sound-up path n before (e ∷ es) h = (sound-place_sum path n 0 _ (sound-joined (constant before) (renumbered (length path) e) tt (sound-renumbered (length path) e h.0)), sound-up path n before es h.1)
 
-pub names-up : (path : Path) (n before : ℕ) (w : PlainWork) (sums : List Sum) → NamesItems w sums → NamesItems w (map (up path n before) sums)
+pub names-up : (path : Path) (n before : ℕ) (w : PlainWork) (sums : List Sum) → NamesItems w sums →
+    NamesItems w (map (up path n before) sums)
 names-up path n before w sums h = record { enough = omega (arith, h.enough, length-map (up path n before) sums); sound = sound-up path n before sums h.sound }
 
 -- work with no tiles is work for any lanes
@@ -361,7 +416,8 @@ none-whole counts (horner root d) sums h = tt
 none-whole counts (tile v) sums h = λ vs i range below. absurd (let none = h (omega (arith, below)) in omega (arith, below, none))
 none-whole counts (copy d) sums h = tt
 
-lifted-good : (lanes : ℕ) → (m k n before : ℕ) (path : Path) (zs : List PlainNest) → before + k ≤ n → AreGoodNests 0 m k zs → AreGoodNests lanes m (size_under path n) (map (lifted path n before) zs)
+lifted-good : (lanes : ℕ) → (m k n before : ℕ) (path : Path) (zs : List PlainNest) → before + k ≤ n →
+    AreGoodNests 0 m k zs → AreGoodNests lanes m (size_under path n) (map (lifted path n before) zs)
 lifted-good lanes m k n before path [] fits h = tt
 lifted-good lanes m k n before path (z ∷ zs) fits h = (
   record {
@@ -382,11 +438,13 @@ lifted-good lanes m k n before path (z ∷ zs) fits h = (
   lifted-good lanes m k n before path zs fits h.1,
 )
 
-nests-both : (lanes : ℕ) → (m n : ℕ) (zs ys : List PlainNest) → AreGoodNests lanes m n zs → AreGoodNests lanes m n ys → AreGoodNests lanes m n (zs ++ ys)
+nests-both : (lanes : ℕ) → (m n : ℕ) (zs ys : List PlainNest) → AreGoodNests lanes m n zs → AreGoodNests lanes m n ys →
+    AreGoodNests lanes m n (zs ++ ys)
 nests-both lanes m n [] ys h g = g
 nests-both lanes m n (z ∷ zs) ys h g = (h.0, nests-both lanes m n zs ys h.1 g)
 
-pub side-good : (lanes : ℕ) → (m k l : ℕ) (path : Path) (zs ys : List PlainNest) → IsGoodPass 0 m k zs → IsGoodPass 0 m l ys → IsGoodPass lanes m (size_under path (k + l)) (side path k l zs ys)
+pub side-good : (lanes : ℕ) → (m k l : ℕ) (path : Path) (zs ys : List PlainNest) → IsGoodPass 0 m k zs →
+    IsGoodPass 0 m l ys → IsGoodPass lanes m (size_under path (k + l)) (side path k l zs ys)
 side-good lanes m k l path zs ys h g =
     record {
       nests = nests-both lanes m (size_under path (k + l)) (map (lifted path (k + l) 0) zs) _ (lifted-good lanes m k (k + l) 0 path zs (omega arith) h.nests) (lifted-good lanes m l (k + l) k path ys (omega arith) g.nests);

@@ -1,10 +1,12 @@
 -- Sums within the limits, under tensors and behind other words.
-use Rattle.std.proofs.Common.{◌≡◌, ℕ, zero, suc, ◌+◌, ◌*◌, ◌-◌, ◌/◌, ◌^◌, ◌<◌, ◌≤◌, true, arith, refl, sym, ap, ap₂, ◌∙◌, [], ◌∷◌, length, subst}
+use Rattle.std.proofs.Common.{◌≡◌, ℕ, zero, suc, ◌+◌, ◌*◌, ◌-◌, ◌/◌, ◌^◌, ◌<◌, ◌≤◌, true, arith, refl, sym, ap, ap₂}
+use Rattle.std.proofs.Common.{◌∙◌, [], ◌∷◌, length, subst}
 use Rattle.std.specs.Prelude.{nat_lt, max, ◌&&◌}
 use Rattle.std.proofs.Math.Nat.{mul-le-mul}
 use Rattle.std.proofs.lemmas.Bool.Decides.{nat_tests}
 use Rattle.std.proofs.lemmas.Nat.{mul-add-lt}
-use Rattle.perm_algebra.specs.Affine.{Sum, constant, variable, remainder, quotient, top, peak, levels, parts, scaled, joined}
+use Rattle.perm_algebra.specs.Affine.{Sum, constant, variable, remainder, quotient, top, peak, levels, parts, scaled}
+use Rattle.perm_algebra.specs.Affine.{joined}
 use Rattle.perm_algebra.proofs.AffineLaws.{top-scaled, top-joined}
 use Rattle.perm_algebra.proofs.Sizes.{levels-scaled, levels-joined, parts-scaled, parts-joined}
 use Rattle.sigma_spl.specs.Limits.{AreSeveral}
@@ -31,7 +33,8 @@ peak-more c n cs (variable f d rest) h t = max-lt f _ n (max-left f (peak rest) 
 peak-more c n cs (remainder f of m rest) h t = max-lt f _ n (max-left f (peak rest) n h) (peak-more c n cs rest (max-right f (peak rest) n h) (omega arith))
 peak-more c n cs (quotient f of m rest) h t = max-lt f _ n (max-left f (peak rest) n h) (peak-more c n cs rest (max-right f (peak rest) n h) (omega arith))
 
-small-more : (c : ℕ) (cs : ℕ → ℕ) (e : Sum) → are_small cs e ≡ true → c + top e cs < 2 ^ 32 → are_small cs (joined (constant c) e) ≡ true
+small-more : (c : ℕ) (cs : ℕ → ℕ) (e : Sum) → are_small cs e ≡ true → c + top e cs < 2 ^ 32 →
+    are_small cs (joined (constant c) e) ≡ true
 small-more c cs (constant d) h t = small-true (c + d) t
 small-more c cs (variable f d rest) h t = both-true _ _ (and-left (nat_lt f (2 ^ 32)) _ h) (small-more c cs rest (and-right (nat_lt f (2 ^ 32)) _ h) (omega arith))
 small-more c cs (remainder f of m rest) h t =
@@ -49,7 +52,8 @@ peak-end v n (variable f d rest) h two = max-lt f _ n (max-left f (peak rest) n 
 peak-end v n (remainder f of m rest) h two = max-lt f _ n (max-left f (peak rest) n h) (peak-end v n rest (max-right f (peak rest) n h) two)
 peak-end v n (quotient f of m rest) h two = max-lt f _ n (max-left f (peak rest) n h) (peak-end v n rest (max-right f (peak rest) n h) two)
 
-small-end : (cs : ℕ → ℕ) (v : ℕ) (e : Sum) → are_small cs e ≡ true → are_small cs (joined e (variable 1 v (constant 0))) ≡ true
+small-end : (cs : ℕ → ℕ) (v : ℕ) (e : Sum) → are_small cs e ≡ true →
+    are_small cs (joined e (variable 1 v (constant 0))) ≡ true
 small-end cs v (constant c) h = let e : c + 0 ≡ c = omega arith in ap (λ d. nat_lt d (2 ^ 32)) e ∙ h
 small-end cs v (variable f d rest) h = both-true _ _ (and-left (nat_lt f (2 ^ 32)) _ h) (small-end cs v rest (and-right (nat_lt f (2 ^ 32)) _ h))
 small-end cs v (remainder f of m rest) h =
@@ -75,14 +79,18 @@ pub above : (n : ℕ) → nat_lt 0 n ≡ true → 0 < n
 above n h = grind (arith, nat_tests)
 
 -- a part that divides, from its numbers
-pub divided-true : (cs : ℕ → ℕ) (f : ℕ) (of : Sum) (m : ℕ) → 0 < f → f < 2 ^ 32 → 0 < m → m < 2 ^ 32 → total of < 2 ^ 32 → top of cs < 2 ^ 64 → is_divided cs f of m ≡ true
+pub divided-true : (cs : ℕ → ℕ) (f : ℕ) (of : Sum) (m : ℕ) → 0 < f → f < 2 ^ 32 → 0 < m → m < 2 ^ 32 →
+    total of < 2 ^ 32 → top of cs < 2 ^ 64 → is_divided cs f of m ≡ true
 divided-true cs f of m a b c d t w = tests f m (total of) (top of cs) a b c d t w
   where
-    tests : (f m t w : ℕ) → 0 < f → f < 2 ^ 32 → 0 < m → m < 2 ^ 32 → t < 2 ^ 32 → w < 2 ^ 64 → ((nat_lt 0 f && nat_lt f (2 ^ 32)) && ((nat_lt 0 m && nat_lt m (2 ^ 32)) && (nat_lt t (2 ^ 32) && nat_lt w (2 ^ 64)))) ≡ true
+    tests : (f m t w : ℕ) → 0 < f → f < 2 ^ 32 → 0 < m → m < 2 ^ 32 → t < 2 ^ 32 → w < 2 ^ 64 →
+        ((nat_lt 0 f && nat_lt f (2 ^ 32)) && ((nat_lt 0 m && nat_lt m (2 ^ 32))
+        && (nat_lt t (2 ^ 32) && nat_lt w (2 ^ 64)))) ≡ true
     tests f m t w a b c d e g = grind (arith, nat_tests)
 
 -- with another factor
-divided-scaled : (cs : ℕ → ℕ) (c f n : ℕ) (of : Sum) (m : ℕ) → 0 < c → f < n → n * c ≤ 2 ^ 20 → is_divided cs f of m ≡ true → is_divided cs (c * f) of m ≡ true
+divided-scaled : (cs : ℕ → ℕ) (c f n : ℕ) (of : Sum) (m : ℕ) → 0 < c → f < n → n * c ≤ 2 ^ 20 →
+    is_divided cs f of m ≡ true → is_divided cs (c * f) of m ≡ true
 divided-scaled cs c f n of m some h high s =
     let rest = (nat_lt 0 m && nat_lt m (2 ^ 32)) && (nat_lt (total of) (2 ^ 32) && nat_lt (top of cs) (2 ^ 64)) in
     let whole = nat_lt 0 f && nat_lt f (2 ^ 32) in
@@ -93,7 +101,8 @@ divided-scaled cs c f n of m some h high s =
     positive-true : (n : ℕ) → 0 < n → nat_lt 0 n ≡ true
     positive-true n h = grind (arith, nat_tests)
 
-small-scaled : (cs : ℕ → ℕ) (c n : ℕ) (e : Sum) → 0 < c → peak e < n → n * c ≤ 2 ^ 20 → are_small cs e ≡ true → are_small cs (scaled c e) ≡ true
+small-scaled : (cs : ℕ → ℕ) (c n : ℕ) (e : Sum) → 0 < c → peak e < n → n * c ≤ 2 ^ 20 → are_small cs e ≡ true →
+    are_small cs (scaled c e) ≡ true
 small-scaled cs c n (constant d) some h high s = small-true (c * d) (omega (arith, times-lt c d n some h))
 small-scaled cs c n (variable f d rest) some h high s =
     both-true _ _ (small-true (c * f) (omega (arith, times-lt c f n some (max-left f (peak rest) n h)))) (small-scaled cs c n rest some (max-right f (peak rest) n h) high (and-right (nat_lt f (2 ^ 32)) _ s))
@@ -129,7 +138,9 @@ inner-high : (t : ℕ) (n c : ℕ) → 2 ≤ c → c * n ≤ 2 ^ 20 → n ≤ 2 
 inner-high t zero c two h = omega arith
 inner-high t (suc n) c two h = let g = more-than c (suc n) two (omega arith) in omega (arith, g)
 
-pub place-small : (path : Path) (r d v : ℕ) (e : Sum) (cs : ℕ → ℕ) → AreSeveral path → HasCounts path v cs → 0 < d → size_under path d ≤ 2 ^ 20 → IsSmall r d cs e → IsSmall (r + length path) (size_under path d) cs (place_sum path d v e)
+pub place-small : (path : Path) (r d v : ℕ) (e : Sum) (cs : ℕ → ℕ) → AreSeveral path → HasCounts path v cs → 0 < d →
+    size_under path d ≤ 2 ^ 20 → IsSmall r d cs e → IsSmall (r + length path)
+    (size_under path d) cs (place_sum path d v e)
 place-small [] r d v e cs several counts some high h = record { parts = omega (arith, h.parts); levels = h.levels; top = h.top; peak = h.peak; small = h.small }
 place-small (Blocks c ∷ path) r d v e cs several counts some high h =
     let n = size_under path d in
@@ -220,7 +231,8 @@ module _ (k : ℕ) (cs ds : ℕ → ℕ) (same : (d : ℕ) → ds (d + k) ≡ cs
   small-renumbered (remainder f of m rest) = ap₂ (λ x z. x && z) (divided-same f of m) (ap₂ (λ y z. y && z) (small-renumbered of) (small-renumbered rest))
   small-renumbered (quotient f of m rest) = ap₂ (λ x z. x && z) (divided-same f of m) (ap₂ (λ y z. y && z) (small-renumbered of) (small-renumbered rest))
 
-pub renumbered-small : (k room n : ℕ) (cs ds : ℕ → ℕ) (e : Sum) → ((d : ℕ) → ds (d + k) ≡ cs d) → IsSmall room n cs e → IsSmall room n ds (renumbered k e)
+pub renumbered-small : (k room n : ℕ) (cs ds : ℕ → ℕ) (e : Sum) → ((d : ℕ) → ds (d + k) ≡ cs d) → IsSmall room n cs e →
+    IsSmall room n ds (renumbered k e)
 renumbered-small k room n cs ds e same h =
     record {
       parts = omega (arith, parts-renumbered k e, h.parts);
@@ -230,7 +242,8 @@ renumbered-small k room n cs ds e same h =
       small = small-renumbered k cs ds same e ∙ h.small;
     }
 
-pub behind-small : (before room k n : ℕ) (cs : ℕ → ℕ) (e : Sum) → before + k ≤ n → n ≤ 2 ^ 20 → IsSmall room k cs e → IsSmall room n cs (joined (constant before) e)
+pub behind-small : (before room k n : ℕ) (cs : ℕ → ℕ) (e : Sum) → before + k ≤ n → n ≤ 2 ^ 20 → IsSmall room k cs e →
+    IsSmall room n cs (joined (constant before) e)
 behind-small before room k n cs e fits high h =
     record {
       parts = omega (arith, parts-joined (constant before) e, h.parts);

@@ -1,5 +1,6 @@
 -- Merging keeps what terms do, whatever the passes take.
-use Rattle.std.proofs.Common.{◌≡◌, ℕ, ◌*◌, ◌%◌, ◌<◌, Bool, true, false, refl, sym, ap, ◌∙◌, List, [], ◌∷◌, ◌++◌, subst, Option, Some, None, mod-lt}
+use Rattle.std.proofs.Common.{◌≡◌, ℕ, ◌*◌, ◌%◌, ◌<◌, Bool, true, false, refl, sym, ap, ◌∙◌, List, [], ◌∷◌, ◌++◌, subst}
+use Rattle.std.proofs.Common.{Option, Some, None, mod-lt}
 use Rattle.std.specs.Prelude.{slice_index, not, ◌&&◌, if◌then◌else◌}
 use Rattle.std.specs.List.{list_all}
 use Rattle.index_fn.specs.Mapping.{Mapping, at}
@@ -7,12 +8,18 @@ use Rattle.operators.specs.Loop.{IsPermutationBelow}
 use Rattle.operators.specs.Operator.{Operator, gather, scale}
 use Rattle.operators.specs.Sum.{list_below}
 use Rattle.operators.proofs.Lists.{at-list_below, list_below-same, length-list_below}
-use Rattle.sigma_spl.specs.Good.{MovesVectors, HasLanes, AreGoodNests, IsGoodPass, AreGoodPasses, IsFormed, IsMove, IsVector}
-use Rattle.sigma_spl.specs.Merge.{Room, most, unbounded, Merging, Taking, can_gather, can_scatter, gathered, scattered, multiplied, copying, take_gathers, copy_by, copies_before, settled, with_pass, backs_of, back_of, factor_places, is_free, can_take, is_tile, suits, with_copy, with_diagonal, with_scatter, from_end, ended}
-use Rattle.sigma_spl.specs.Nest.{PlainFactors, spread, factor_at, factor_count, PlainMultiplier, PlainNest, nests_on, passes_on}
+use Rattle.sigma_spl.specs.Good.{MovesVectors, HasLanes, AreGoodNests, IsGoodPass, AreGoodPasses, IsFormed, IsMove}
+use Rattle.sigma_spl.specs.Good.{IsVector}
+use Rattle.sigma_spl.specs.Merge.{Room, most, unbounded, Merging, Taking, can_gather, can_scatter, gathered, scattered}
+use Rattle.sigma_spl.specs.Merge.{multiplied, copying, take_gathers, copy_by, copies_before, settled, with_pass}
+use Rattle.sigma_spl.specs.Merge.{backs_of, back_of, factor_places, is_free, can_take, is_tile, suits, with_copy}
+use Rattle.sigma_spl.specs.Merge.{with_diagonal, with_scatter, from_end, ended}
+use Rattle.sigma_spl.specs.Nest.{PlainFactors, spread, factor_at, factor_count, PlainMultiplier, PlainNest, nests_on}
+use Rattle.sigma_spl.specs.Nest.{passes_on}
 use Rattle.sigma_spl.specs.Term.{inner_of}
 use Rattle.sigma_spl.specs.Work.{PlainWork, kernel, rows, horner, tile, copy}
-use Rattle.sigma_spl.proofs.Nests.{through, AreFormed, AreFree, Suits, AllSuit, AreSuited, suiting, nests-gathered, nests-scattered, nests-multiplied, gathered-good, scattered-good, multiplied-good}
+use Rattle.sigma_spl.proofs.Nests.{through, AreFormed, AreFree, Suits, AllSuit, AreSuited, suiting, nests-gathered}
+use Rattle.sigma_spl.proofs.Nests.{nests-scattered, nests-multiplied, gathered-good, scattered-good, multiplied-good}
 use Rattle.sigma_spl.proofs.Moved.{table-good, table-on}
 use Rattle.sigma_spl.proofs.Natural.{copying-same, copying-good}
 use Rattle.operators.specs.TensorPaths.Path.{Path}
@@ -41,11 +48,13 @@ vector-below m n f h = record { size = length-list_below n f; residues = λ i be
 pub nests-vector : (m n : ℕ) (zs : List PlainNest) (x : List ℕ) → 0 < m → IsVector m n (nests_on m n zs x)
 nests-vector m n zs x positive = vector-below m n _ (λ i below. mod-lt _ positive)
 
-pub passes-vector : (m n : ℕ) (ps : List (List PlainNest)) (x : List ℕ) → 0 < m → IsVector m n x → IsVector m n (passes_on m n ps x)
+pub passes-vector : (m n : ℕ) (ps : List (List PlainNest)) (x : List ℕ) → 0 < m → IsVector m n x →
+    IsVector m n (passes_on m n ps x)
 passes-vector m n [] x positive v = v
 passes-vector m n (zs ∷ ps) x positive v = nests-vector m n zs (passes_on m n ps x) positive
 
-gather-vector : (m n : ℕ) (f : ℕ → ℕ) (x : List ℕ) → ((i : ℕ) → i < n → f i < n) → IsVector m n x → IsVector m n (gather n f x)
+gather-vector : (m n : ℕ) (f : ℕ → ℕ) (x : List ℕ) → ((i : ℕ) → i < n → f i < n) → IsVector m n x →
+    IsVector m n (gather n f x)
 gather-vector m n f x stay v = vector-below m n _ (λ i below. v.residues (f i) (stay i below))
 
 -- ---- gathers that wait
@@ -64,15 +73,18 @@ abbrev pub AreMoves : (lanes : ℕ) → ℕ → List Mapping → Type 0
 AreMoves lanes n [] = Unit {0}
 AreMoves lanes n (f ∷ fs) = IsMove lanes n f × AreMoves lanes n fs
 
-waiting-vector : (lanes : ℕ) → (m n : ℕ) (fs : List Mapping) (x : List ℕ) → AreMoves lanes n fs → IsVector m n x → IsVector m n (waiting_on n fs x)
+waiting-vector : (lanes : ℕ) → (m n : ℕ) (fs : List Mapping) (x : List ℕ) → AreMoves lanes n fs → IsVector m n x →
+    IsVector m n (waiting_on n fs x)
 waiting-vector lanes m n [] x h v = v
 waiting-vector lanes m n (f ∷ fs) x h v = gather-vector m n (at f) (waiting_on n fs x) h.0.permutes.there_below (waiting-vector lanes m n fs x h.1 v)
 
-gathers-append : (n : ℕ) (fs gs : List Mapping) (x : List ℕ) → gathers_on n (fs ++ gs) x ≡ gathers_on n gs (gathers_on n fs x)
+gathers-append : (n : ℕ) (fs gs : List Mapping) (x : List ℕ) →
+    gathers_on n (fs ++ gs) x ≡ gathers_on n gs (gathers_on n fs x)
 gathers-append n [] gs x = refl
 gathers-append n (f ∷ fs) gs x = gathers-append n fs gs (gather n (at f) x)
 
-waiting-append : (n : ℕ) (fs gs : List Mapping) (x : List ℕ) → waiting_on n (fs ++ gs) x ≡ waiting_on n fs (waiting_on n gs x)
+waiting-append : (n : ℕ) (fs gs : List Mapping) (x : List ℕ) →
+    waiting_on n (fs ++ gs) x ≡ waiting_on n fs (waiting_on n gs x)
 waiting-append n [] gs x = refl
 waiting-append n (f ∷ fs) gs x = ap (gather n (at f)) (waiting-append n fs gs x)
 
@@ -84,7 +96,8 @@ waiting-end : (n : ℕ) (fs : List Mapping) (x : List ℕ) → waiting_on n (fro
 waiting-end n [] x = refl
 waiting-end n (f ∷ fs) x = waiting-append n (from_end fs) (f ∷ []) x ∙ waiting-end n fs (gather n (at f) x)
 
-moves-append : (lanes : ℕ) → (n : ℕ) (fs gs : List Mapping) → AreMoves lanes n fs → AreMoves lanes n gs → AreMoves lanes n (fs ++ gs)
+moves-append : (lanes : ℕ) → (n : ℕ) (fs gs : List Mapping) → AreMoves lanes n fs → AreMoves lanes n gs →
+    AreMoves lanes n (fs ++ gs)
 moves-append lanes n [] gs h k = k
 moves-append lanes n (f ∷ fs) gs h k = (h.0, moves-append lanes n fs gs h.1 k)
 
@@ -106,14 +119,17 @@ pub record Reaches (lanes : ℕ) (m n : ℕ) (next st : Merging) (a : Operator) 
   pub stands : Stands lanes m n next
   pub on : (x : List ℕ) → IsVector m n x → merging_on m n next x ≡ a (merging_on m n st x)
 
-pub merging-vector : (lanes : ℕ) → (m n : ℕ) (st : Merging) (x : List ℕ) → 0 < m → Stands lanes m n st → IsVector m n x → IsVector m n (merging_on m n st x)
+pub merging-vector : (lanes : ℕ) → (m n : ℕ) (st : Merging) (x : List ℕ) → 0 < m → Stands lanes m n st →
+    IsVector m n x → IsVector m n (merging_on m n st x)
 merging-vector lanes m n st x positive h v = waiting-vector lanes m n st.waiting (passes_on m n st.passes x) h.moves (passes-vector m n st.passes x positive v)
 
-pub passes-append : (m n : ℕ) (ps qs : List (List PlainNest)) (x : List ℕ) → passes_on m n (ps ++ qs) x ≡ passes_on m n ps (passes_on m n qs x)
+pub passes-append : (m n : ℕ) (ps qs : List (List PlainNest)) (x : List ℕ) →
+    passes_on m n (ps ++ qs) x ≡ passes_on m n ps (passes_on m n qs x)
 passes-append m n [] qs x = refl
 passes-append m n (zs ∷ ps) qs x = ap (nests_on m n zs) (passes-append m n ps qs x)
 
-pub good-append : (lanes : ℕ) → (m n : ℕ) (ps qs : List (List PlainNest)) → AreGoodPasses lanes m n ps → AreGoodPasses lanes m n qs → AreGoodPasses lanes m n (ps ++ qs)
+pub good-append : (lanes : ℕ) → (m n : ℕ) (ps qs : List (List PlainNest)) → AreGoodPasses lanes m n ps →
+    AreGoodPasses lanes m n qs → AreGoodPasses lanes m n (ps ++ qs)
 good-append lanes m n [] qs h k = k
 good-append lanes m n (zs ∷ ps) qs h k = (h.0, good-append lanes m n ps qs h.1 k)
 
@@ -124,7 +140,8 @@ pub record Takes (lanes : ℕ) (m n : ℕ) (taking : Taking) (zs : List PlainNes
   pub moves : AreMoves lanes n taking.left
   pub on : (x : List ℕ) → nests_on m n taking.pass (waiting_on n taking.left x) ≡ nests_on m n zs (waiting_on n fs x)
 
-takes : (lanes : ℕ) → (m n : ℕ) (room : Room) (zs : List PlainNest) (fs : List Mapping) → IsGoodPass lanes m n zs → AreMoves lanes n fs → Takes lanes m n (take_gathers room n zs fs) zs fs
+takes : (lanes : ℕ) → (m n : ℕ) (room : Room) (zs : List PlainNest) (fs : List Mapping) → IsGoodPass lanes m n zs →
+    AreMoves lanes n fs → Takes lanes m n (take_gathers room n zs fs) zs fs
 takes lanes m n room zs [] h moves = record { good = h; moves = tt; on = λ x. refl }
 takes lanes m n room zs (f ∷ fs) h moves =
     chosen (λ t. Takes lanes m n t zs (f ∷ fs)) (can_gather room n f zs) _ _
@@ -154,7 +171,8 @@ pub record Copy (lanes : ℕ) (m n : ℕ) (ps : List (List PlainNest)) (a : Oper
   pub good : AreGoodPasses lanes m n ps
   pub on : (x : List ℕ) → IsVector m n x → passes_on m n ps x ≡ a x
 
-copies : (lanes : ℕ) → (m n : ℕ) (room : Room) (zs : List PlainNest) (fs : List Mapping) → IsGoodPass lanes m n zs → AreMoves lanes n fs → Copy lanes m n (copies_before room n zs fs) (λ x. nests_on m n zs (waiting_on n fs x))
+copies : (lanes : ℕ) → (m n : ℕ) (room : Room) (zs : List PlainNest) (fs : List Mapping) → IsGoodPass lanes m n zs →
+    AreMoves lanes n fs → Copy lanes m n (copies_before room n zs fs) (λ x. nests_on m n zs (waiting_on n fs x))
 copies lanes m n room zs [] h moves = record { good = (h, tt); on = λ x v. refl }
 copies lanes m n room zs (f ∷ fs) h moves =
     let stay = moves.0.permutes.there_below in
@@ -170,7 +188,8 @@ copies lanes m n room zs (f ∷ fs) h moves =
           (rest.on x v ∙ (copied lanes m n room f moves.0).on (waiting_on n fs x) (waiting-vector lanes m n fs x moves.1 v));
     })
 
-pub settled-are : (lanes : ℕ) → (m n : ℕ) (room : Room) (fs : List Mapping) → AreMoves lanes n fs → Copy lanes m n (settled room n fs) (waiting_on n fs)
+pub settled-are : (lanes : ℕ) → (m n : ℕ) (room : Room) (fs : List Mapping) → AreMoves lanes n fs →
+    Copy lanes m n (settled room n fs) (waiting_on n fs)
 settled-are lanes m n room [] moves = record { good = tt; on = λ x v. refl }
 settled-are lanes m n room (f ∷ fs) moves =
     let stay = moves.0.permutes.there_below in
@@ -182,7 +201,8 @@ settled-are lanes m n room (f ∷ fs) moves =
 
 -- ---- a pass more
 
-pub pass-reaches : (lanes : ℕ) → (m n : ℕ) (room : Room) (st : Merging) (zs : List PlainNest) → 0 < m → IsGoodPass lanes m n zs → Stands lanes m n st → Reaches lanes m n (with_pass room n st zs) st (nests_on m n zs)
+pub pass-reaches : (lanes : ℕ) → (m n : ℕ) (room : Room) (st : Merging) (zs : List PlainNest) → 0 < m →
+    IsGoodPass lanes m n zs → Stands lanes m n st → Reaches lanes m n (with_pass room n st zs) st (nests_on m n zs)
 pass-reaches lanes m n room st zs positive h stands =
     let taken = takes lanes m n room zs st.waiting h stands.moves in
     let left = (take_gathers room n zs st.waiting).left in
@@ -209,14 +229,16 @@ backs-formed lanes n [] h = tt
 backs-formed lanes n (f ∷ fs) h = formed-append (backs_of fs) (back_of f ∷ []) (backs-formed lanes n fs h.1) (h.0.back, tt)
 
 -- a diagonal after a gather is one before it
-scale-gather : (m n : ℕ) (there back c : ℕ → ℕ) (x : List ℕ) → IsPermutationBelow n there back → scale m n c (gather n there x) ≡ gather n there (scale m n (λ i. c (back i)) x)
+scale-gather : (m n : ℕ) (there back c : ℕ → ℕ) (x : List ℕ) → IsPermutationBelow n there back →
+    scale m n c (gather n there x) ≡ gather n there (scale m n (λ i. c (back i)) x)
 scale-gather m n there back c x p =
     list_below-same n _ _ (λ i below.
     ap (λ v. (c i * v) % m) (at-list_below n _ i below)
     ∙ ap (λ j. (c j * slice_index x (there i)) % m) (sym (p.back-there i below))
     ∙ sym (at-list_below n _ (there i) (p.there_below i below)))
 
-scale-waiting : (lanes : ℕ) → (m n : ℕ) (fs : List Mapping) (c : ℕ → ℕ) (x : List ℕ) → AreMoves lanes n fs → scale m n c (waiting_on n fs x) ≡ waiting_on n fs (scale m n (λ i. c (through (backs_of fs) i)) x)
+scale-waiting : (lanes : ℕ) → (m n : ℕ) (fs : List Mapping) (c : ℕ → ℕ) (x : List ℕ) → AreMoves lanes n fs →
+    scale m n c (waiting_on n fs x) ≡ waiting_on n fs (scale m n (λ i. c (through (backs_of fs) i)) x)
 scale-waiting lanes m n [] c x h = refl
 scale-waiting lanes m n (f ∷ fs) c x h =
     scale-gather m n (at f) (at (back_of f)) c (waiting_on n fs x) h.0.permutes
@@ -224,19 +246,26 @@ scale-waiting lanes m n (f ∷ fs) c x h =
     ∙ ap (λ (g : ℕ → ℕ). gather n (at f) (waiting_on n fs (scale m n g x))) (λ t i. c (sym (through-append (backs_of fs) (back_of f ∷ []) i) t))
 
 factor-through : (m : ℕ) (waiting : List Mapping) (path : Path) (factors : PlainFactors) (i : ℕ) →
-    factor_at m factors (through (factor_places waiting path factors) i) ≡ factor_at m factors (at (inner_of path (factor_count factors)) (through (backs_of waiting) i))
+    factor_at m factors (through (factor_places waiting path factors) i)
+    ≡ factor_at m factors (at (inner_of path (factor_count factors)) (through (backs_of waiting) i))
 factor-through m waiting path factors i = ap (factor_at m factors) (through-append (backs_of waiting) (inner_of path (factor_count factors) ∷ []) i)
 
 -- what a diagonal does to a list of n items
 abbrev pub diagonal_on : ℕ → ℕ → Path → PlainFactors → Operator
 diagonal_on m n path factors x = scale m n (λ w. factor_at m factors (at (inner_of path (factor_count factors)) w)) x
 
-pub places-formed : (lanes : ℕ) → (n : ℕ) (waiting : List Mapping) (path : Path) (factors : PlainFactors) → AreMoves lanes n waiting → IsFormed (inner_of path (factor_count factors)) → AreFormed (factor_places waiting path factors)
+pub places-formed : (lanes : ℕ) → (n : ℕ) (waiting : List Mapping) (path : Path) (factors : PlainFactors) →
+    AreMoves lanes n waiting → IsFormed (inner_of path (factor_count factors)) →
+    AreFormed (factor_places waiting path factors)
 places-formed lanes n waiting path factors h inner = formed-append (backs_of waiting) _ (backs-formed lanes n waiting h) (inner, tt)
 
 -- a pass multiplied past the gathers that wait
-multiplied-past : (lanes : ℕ) → (m n : ℕ) (waiting : List Mapping) (path : Path) (factors : PlainFactors) (zs : List PlainNest) (x : List ℕ) → 0 < m → AreMoves lanes n waiting → IsFormed (inner_of path (factor_count factors)) → AreSuited (factor_places waiting path factors) zs → AreGoodNests lanes m n zs → AreFree zs →
-    waiting_on n waiting (nests_on m n (multiplied factors (factor_places waiting path factors) zs) x) ≡ diagonal_on m n path factors (waiting_on n waiting (nests_on m n zs x))
+multiplied-past : (lanes : ℕ) → (m n : ℕ) (waiting : List Mapping) (path : Path) (factors : PlainFactors)
+    (zs : List PlainNest) (x : List ℕ) → 0 < m → AreMoves lanes n waiting →
+    IsFormed (inner_of path (factor_count factors)) → AreSuited (factor_places waiting path factors) zs →
+    AreGoodNests lanes m n zs → AreFree zs →
+    waiting_on n waiting (nests_on m n (multiplied factors (factor_places waiting path factors) zs) x)
+    ≡ diagonal_on m n path factors (waiting_on n waiting (nests_on m n zs x))
 multiplied-past lanes m n waiting path factors zs x positive h inner suit good free =
     ap (waiting_on n waiting)
     (nests-multiplied lanes m n factors (factor_places waiting path factors) zs x positive (places-formed lanes n waiting path factors h inner) suit good free
@@ -247,7 +276,8 @@ free-none : (o : Option PlainMultiplier) → is_free o ≡ true → o ≡ None
 free-none None h = refl
 free-none (Some d) h = absurd (cc)
 
-pub free-all : (g : PlainNest → Bool) (zs : List PlainNest) → list_all (λ (z : PlainNest). is_free z.multiplier && g z) zs ≡ true → AreFree zs
+pub free-all : (g : PlainNest → Bool) (zs : List PlainNest) →
+    list_all (λ (z : PlainNest). is_free z.multiplier && g z) zs ≡ true → AreFree zs
 free-all g [] h = tt
 free-all g (z ∷ zs) h =
     (free-none z.multiplier (and-left (is_free z.multiplier) (g z) (and-left (is_free z.multiplier && g z) _ h)), free-all g zs (and-right (is_free z.multiplier && g z) _ h))
@@ -256,7 +286,8 @@ pub copying-free : (n : ℕ) → AreFree (copying n)
 copying-free n = (refl, tt)
 
 -- what can take a diagonal has none
-pub taken-free : (room : Room) (n : ℕ) (factors : PlainFactors) (fs : List Mapping) (zs : List PlainNest) → can_take room n factors fs zs ≡ true → AreFree zs
+pub taken-free : (room : Room) (n : ℕ) (factors : PlainFactors) (fs : List Mapping) (zs : List PlainNest) →
+    can_take room n factors fs zs ≡ true → AreFree zs
 taken-free (most room) n factors fs zs can = free-all _ zs can
 taken-free unbounded n factors fs zs can = free-all (λ z. true) zs can
 
@@ -271,7 +302,8 @@ pub suit-append : (w : PlainWork) (fs gs : List Mapping) → AllSuit w fs → Al
 suit-append w [] gs h k = k
 suit-append w (f ∷ fs) gs h k = (h.0, suit-append w fs gs h.1 k)
 
-backs-suit : (lanes n : ℕ) (w : PlainWork) (fs : List Mapping) → HasLanes lanes w → AreMoves lanes n fs → AllSuit w (backs_of fs)
+backs-suit : (lanes n : ℕ) (w : PlainWork) (fs : List Mapping) → HasLanes lanes w → AreMoves lanes n fs →
+    AllSuit w (backs_of fs)
 backs-suit lanes n w [] tiles h = tt
 backs-suit lanes n w (f ∷ fs) tiles h = suit-append w (backs_of fs) (back_of f ∷ []) (backs-suit lanes n w fs tiles h.1) (suiting lanes w (at (back_of f)) tiles h.0.back_vectors, tt)
 
@@ -286,7 +318,9 @@ loose-suits (tile v) f h = absurd (cc)
 loose-suits (copy d) f h = tt
 
 -- the functions that lead to factors keep the words of tiles together
-suited : (lanes : ℕ) (m n : ℕ) (waiting : List Mapping) (path : Path) (factors : PlainFactors) (zs : List PlainNest) → AreMoves lanes n waiting → AreGoodNests lanes m n zs → suits path zs ≡ true → AreSuited (factor_places waiting path factors) zs
+suited : (lanes : ℕ) (m n : ℕ) (waiting : List Mapping) (path : Path) (factors : PlainFactors) (zs : List PlainNest) →
+    AreMoves lanes n waiting → AreGoodNests lanes m n zs → suits path zs ≡ true →
+    AreSuited (factor_places waiting path factors) zs
 suited lanes m n waiting path factors [] moves h can = tt
 suited lanes m n waiting [] factors (z ∷ zs) moves h can = (
   suit-append z.work (backs_of waiting) _ (backs-suit lanes n z.work waiting h.0.tiles moves) (suiting lanes z.work (λ i. i) h.0.tiles (none-moves lanes), tt),
@@ -297,7 +331,9 @@ suited lanes m n waiting (t ∷ path) factors (z ∷ zs) moves h can = (
   suited lanes m n waiting (t ∷ path) factors zs moves h.1 (and-right (not (is_tile z.work)) _ can),
 )
 
-copy-reaches : (lanes : ℕ) → (m n : ℕ) (room : Room) (st : Merging) (path : Path) (factors : PlainFactors) → 0 < m → IsFormed (inner_of path (factor_count factors)) → Stands lanes m n st → Reaches lanes m n (with_copy room n st path factors) st (diagonal_on m n path factors)
+copy-reaches : (lanes : ℕ) → (m n : ℕ) (room : Room) (st : Merging) (path : Path) (factors : PlainFactors) → 0 < m →
+    IsFormed (inner_of path (factor_count factors)) → Stands lanes m n st →
+    Reaches lanes m n (with_copy room n st path factors) st (diagonal_on m n path factors)
 copy-reaches lanes m n room st path factors positive inner stands =
     let vector = λ (x : List ℕ) (v : IsVector m n x). passes-vector m n st.passes x positive v in
     let copy = settled-are lanes m n room st.waiting stands.moves in
@@ -321,7 +357,9 @@ copy-reaches lanes m n room st path factors positive inner stands =
           ∙ copying-same m n (waiting_on n st.waiting (passes_on m n st.passes x)) (waiting-vector lanes m n st.waiting (passes_on m n st.passes x) stands.moves (vector x v)));
     })
 
-pub diagonal-reaches : (lanes : ℕ) → (m n : ℕ) (room : Room) (waiting : List Mapping) (passes : List (List PlainNest)) (path : Path) (factors : PlainFactors) → 0 < m → IsFormed (inner_of path (factor_count factors)) → AreMoves lanes n waiting → AreGoodPasses lanes m n passes →
+pub diagonal-reaches : (lanes : ℕ) → (m n : ℕ) (room : Room) (waiting : List Mapping) (passes : List (List PlainNest))
+    (path : Path) (factors : PlainFactors) → 0 < m → IsFormed (inner_of path (factor_count factors)) →
+    AreMoves lanes n waiting → AreGoodPasses lanes m n passes →
     Reaches lanes m n (with_diagonal room n waiting passes path factors) (record { waiting = waiting; passes = passes }) (diagonal_on m n path factors)
 diagonal-reaches lanes m n room waiting [] path factors positive inner moves good = copy-reaches lanes m n room (record { waiting = waiting; passes = [] }) path factors positive inner (record { moves = moves; good = tt })
 diagonal-reaches lanes m n room waiting (zs ∷ ps) path factors positive inner moves good =
@@ -336,7 +374,9 @@ diagonal-reaches lanes m n room waiting (zs ∷ ps) path factors positive inner 
 
 -- ---- a scatter
 
-pub scatter-reaches : (lanes : ℕ) → (m n : ℕ) (room : Room) (waiting : List Mapping) (passes : List (List PlainNest)) (f : Mapping) → IsFormed f → MovesVectors lanes (at f) → IsMove lanes n (back_of f) → IsPermutationBelow n (at (back_of f)) (at f) → AreMoves lanes n waiting → AreGoodPasses lanes m n passes →
+pub scatter-reaches : (lanes : ℕ) → (m n : ℕ) (room : Room) (waiting : List Mapping) (passes : List (List PlainNest))
+    (f : Mapping) → IsFormed f → MovesVectors lanes (at f) → IsMove lanes n (back_of f) →
+    IsPermutationBelow n (at (back_of f)) (at f) → AreMoves lanes n waiting → AreGoodPasses lanes m n passes →
     Reaches lanes m n (with_scatter room n waiting passes f) (record { waiting = waiting; passes = passes }) (gather n (at (back_of f)))
 scatter-reaches lanes m n room [] [] f form whole back p moves good = record { stands = record { moves = (back, tt); good = tt }; on = λ x v. refl }
 scatter-reaches lanes m n room [] (zs ∷ ps) f form whole back p moves good =
@@ -351,7 +391,9 @@ scatter-reaches lanes m n room (g ∷ gs) passes f form whole back p moves good 
 
 -- ---- the end
 
-pub ended-are : (lanes : ℕ) → (m n : ℕ) (room : Room) (fs : List Mapping) (passes : List (List PlainNest)) → 0 < m → AreMoves lanes n fs → AreGoodPasses lanes m n passes → Copy lanes m n (ended room n fs passes) (λ x. gathers_on n fs (passes_on m n passes x))
+pub ended-are : (lanes : ℕ) → (m n : ℕ) (room : Room) (fs : List Mapping) (passes : List (List PlainNest)) → 0 < m →
+    AreMoves lanes n fs → AreGoodPasses lanes m n passes → Copy lanes m n (ended room n fs passes)
+    (λ x. gathers_on n fs (passes_on m n passes x))
 ended-are lanes m n room [] passes positive moves good = record { good = good; on = λ x v. refl }
 ended-are lanes m n room (f ∷ fs) [] positive moves good =
     let copy = settled-are lanes m n room (from_end (f ∷ fs)) (moves-end lanes n (f ∷ fs) moves) in record { good = copy.good; on = λ x v. copy.on x v ∙ waiting-end n (f ∷ fs) x }

@@ -1,5 +1,6 @@
 -- Permutations whose width is a number of lines move whole lines.
-use Rattle.std.proofs.Common.{◌≡◌, ℕ, zero, suc, ◌+◌, ◌*◌, ◌/◌, ◌%◌, ◌<◌, arith, refl, sym, ap, ap₂, subst, ◌∙◌, List, [], ◌∷◌, mod-lt, div-lt_iff_lt-mul}
+use Rattle.std.proofs.Common.{◌≡◌, ℕ, zero, suc, ◌+◌, ◌*◌, ◌/◌, ◌%◌, ◌<◌, arith, refl, sym, ap, ap₂, subst, ◌∙◌, List}
+use Rattle.std.proofs.Common.{[], ◌∷◌, mod-lt, div-lt_iff_lt-mul}
 use Rattle.std.specs.Prelude.{slice_index}
 use Rattle.std.proofs.Math.Nat.{div-add-mod', mod-eq_of_lt}
 use Rattle.operators.specs.Identities.{widened, MovesWholeLines}
@@ -79,7 +80,8 @@ single_moved m line n s one size h =
       subst (λ v. MovesWholeLines v n g.from) (sym one) (single_lines n g.from),
     )
 
-columns_moved : (m line k : ℕ) (path : Path) (core : PlainCore) → k % line ≡ 0 → IsPermutation core → Moved m line (size_under path (core_size core) * k) (step (Columns k ∷ path) core)
+columns_moved : (m line k : ℕ) (path : Path) (core : PlainCore) → k % line ≡ 0 → IsPermutation core →
+    Moved m line (size_under path (core_size core) * k) (step (Columns k ∷ path) core)
 columns_moved m line k path core e h =
     let rows = size_under path (core_size core) in
     let g = under_gathers path (core_size core) (core_on m core) (core-gathers m core h) in
@@ -93,7 +95,8 @@ columns_moved m line k path core e h =
       subst (λ n. MovesWholeLines line (rows * n) (widened (k / line * line) g.from)) (sym whole) (lines []).1,
     )
 
-moved : (m n line : ℕ) (path : Path) (core : PlainCore) → 0 < line → IsMove n line (step path core) → Moved m line n (step path core)
+moved : (m n line : ℕ) (path : Path) (core : PlainCore) → 0 < line → IsMove n line (step path core) →
+    Moved m line n (step path core)
 moved m n line [] core positive h = single_moved m line n (step [] core) (one_line line positive h.2) h.0 h.1
 moved m n line (Blocks k ∷ path) core positive h = single_moved m line n (step (Blocks k ∷ path) core) (one_line line positive h.2) h.0 h.1
 moved m n line (Columns k ∷ path) core positive h = subst (λ n. Moved m line n (step (Columns k ∷ path) core)) h.0 (columns_moved m line k path core h.2 h.1)

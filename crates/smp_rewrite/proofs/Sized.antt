@@ -22,7 +22,9 @@ of_size-append : (n : ℕ) (ss ts : List PlainStep) → AreOfSize n ss → AreOf
 of_size-append n [] ts h k = k
 of_size-append n (s ∷ ss) ts h k = (h.0, of_size-append n ss ts h.1 k)
 
-of_size-rule : (n : ℕ) (rule : Rule) (path : Path) (r s w : ℕ) (left right : List PlainStep) → size_under path (r * s) ≡ n → AreOfSize n left → AreOfSize n right → AreOfSize n (rule_steps rule path r s w left right)
+of_size-rule : (n : ℕ) (rule : Rule) (path : Path) (r s w : ℕ) (left right : List PlainStep) →
+    size_under path (r * s) ≡ n → AreOfSize n left → AreOfSize n right →
+    AreOfSize n (rule_steps rule path r s w left right)
 of_size-rule n Gt path r s w left right e h k = (e, of_size-append n right _ k (of_size-append n left _ h (e, tt)))
 of_size-rule n Ct path r s w left right e h k = (e, of_size-append n right _ k (e, h))
 of_size-rule n Split path r s w left right e h k = of_size-append n right left k h
@@ -41,5 +43,6 @@ all-of_size : (n : ℕ) (ss : List Step) → AreOfSize n (map plain_step ss) →
 all-of_size n [] h = All-nil (λ s. step_size (plain_step s) ≡ n)
 all-of_size n (s ∷ ss) h = All-cons (λ s. step_size (plain_step s) ≡ n) s ss h.0 (all-of_size n ss h.1)
 
-pub sized_steps : (h : Target) (l : Layout) (ss : List Step) → layout_size l ≡ h.size → map plain_step ss ≡ steps_of [] l → All (λ s. step_size (plain_step s) ≡ h.size) ss
+pub sized_steps : (h : Target) (l : Layout) (ss : List Step) → layout_size l ≡ h.size →
+    map plain_step ss ≡ steps_of [] l → All (λ s. step_size (plain_step s) ≡ h.size) ss
 sized_steps h l ss e same = all-of_size h.size ss (rw same (of_size h.size [] l e))

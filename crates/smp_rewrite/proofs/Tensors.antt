@@ -1,5 +1,6 @@
 -- A tensor of one copy changes nothing.
-use Rattle.std.proofs.Common.{◌≡◌, ℕ, ◌+◌, ◌*◌, ◌/◌, ◌%◌, ◌<◌, Bool, true, false, arith, refl, sym, ap, ap₂, ◌∙◌, List, [], ◌∷◌, ◌++◌, if◌then◌else◌, mod-lt, div-lt_iff_lt-mul}
+use Rattle.std.proofs.Common.{◌≡◌, ℕ, ◌+◌, ◌*◌, ◌/◌, ◌%◌, ◌<◌, Bool, true, false, arith, refl, sym, ap, ap₂, ◌∙◌, List}
+use Rattle.std.proofs.Common.{[], ◌∷◌, ◌++◌, if◌then◌else◌, mod-lt, div-lt_iff_lt-mul}
 use Rattle.std.specs.Prelude.{slice_index, ◌==◌}
 use Rattle.std.proofs.lemmas.Bool.Decides.{nat_tests}
 use Rattle.std.proofs.lemmas.List.FromFn.{fill_by_all}
@@ -39,7 +40,8 @@ on_columns-one n a x size reads =
     ∙ ap (λ y. slice_index (a y) p) (list_below-same n _ _ (λ j _. ap (slice_index x) (omega arith)))
     ∙ sym (ap₂ (λ i j. slice_index (a (column n 1 j x)) i) (ap (λ q. q / 1) place ∙ row-of p 0 1 (omega arith)) (ap (λ q. q % 1) place ∙ column-of p 0 1 (omega arith)))))
 
-one_under-one : (t : Tensor) (n : ℕ) (a : Operator) (x : List ℕ) → count_of t ≡ 1 → HasSize n a → Reads n a → one_under t n a x ≡ a x
+one_under-one : (t : Tensor) (n : ℕ) (a : Operator) (x : List ℕ) → count_of t ≡ 1 → HasSize n a → Reads n a →
+    one_under t n a x ≡ a x
 one_under-one (Blocks k) n a x one size reads = ap (λ k. on_blocks k n a x) one ∙ on_blocks-one n a x size reads
 one_under-one (Columns k) n a x one size reads = ap (λ k. on_columns n k a x) one ∙ on_columns-one n a x size reads
 
@@ -69,29 +71,34 @@ reads-under (t ∷ path) n a h = reads-one_under t (size_under path n) (under pa
 pub is-one : (n : ℕ) → (n == 1) ≡ true → n ≡ 1
 is-one n e = grind (arith, nat_tests)
 
-under-pick : (b : Bool) (t : Tensor) (path : Path) (n : ℕ) (a : Operator) (x : List ℕ) → (b ≡ true → count_of t ≡ 1) → HasSize n a → Reads n a →
+under-pick : (b : Bool) (t : Tensor) (path : Path) (n : ℕ) (a : Operator) (x : List ℕ) → (b ≡ true → count_of t ≡ 1) →
+    HasSize n a → Reads n a →
     under (if b then path else t ∷ path) n a x ≡ under (t ∷ path) n a x
 under-pick true t path n a x one size reads = sym (one_under-one t (size_under path n) (under path n a) x (one refl) (under-size path n a size) (reads-under path n a reads))
 under-pick false t path n a x one size reads = refl
 
-pub under-within : (t : Tensor) (path : Path) (n : ℕ) (a : Operator) (x : List ℕ) → HasSize n a → Reads n a → under (within t path) n a x ≡ one_under t (size_under path n) (under path n a) x
+pub under-within : (t : Tensor) (path : Path) (n : ℕ) (a : Operator) (x : List ℕ) → HasSize n a → Reads n a →
+    under (within t path) n a x ≡ one_under t (size_under path n) (under path n a) x
 under-within t path n a x size reads = under-pick (count_of t == 1) t path n a x (is-one (count_of t)) size reads
 
-size-pick : (b : Bool) (t : Tensor) (path : Path) (n : ℕ) → (b ≡ true → count_of t ≡ 1) → size_under (if b then path else t ∷ path) n ≡ grown t (size_under path n)
+size-pick : (b : Bool) (t : Tensor) (path : Path) (n : ℕ) → (b ≡ true → count_of t ≡ 1) →
+    size_under (if b then path else t ∷ path) n ≡ grown t (size_under path n)
 size-pick true t path n one = sym (grown-one t (size_under path n) (one refl))
 size-pick false t path n one = refl
 
 pub size-within : (t : Tensor) (path : Path) (n : ℕ) → size_under (within t path) n ≡ grown t (size_under path n)
 size-within t path n = size-pick (count_of t == 1) t path n (is-one (count_of t))
 
-copies-pick : (b : Bool) (t : Tensor) (path : Path) → (b ≡ true → count_of t ≡ 1) → copies_of (if b then path else t ∷ path) ≡ count_of t * copies_of path
+copies-pick : (b : Bool) (t : Tensor) (path : Path) → (b ≡ true → count_of t ≡ 1) →
+    copies_of (if b then path else t ∷ path) ≡ count_of t * copies_of path
 copies-pick true t path one = sym (ap (λ k. k * copies_of path) (one refl) ∙ omega arith)
 copies-pick false t path one = refl
 
 pub copies-within : (t : Tensor) (path : Path) → copies_of (within t path) ≡ count_of t * copies_of path
 copies-within t path = copies-pick (count_of t == 1) t path (is-one (count_of t))
 
-one_under-same : (t : Tensor) (n : ℕ) (a b : Operator) (x : List ℕ) → ((y : List ℕ) → a y ≡ b y) → one_under t n a x ≡ one_under t n b x
+one_under-same : (t : Tensor) (n : ℕ) (a b : Operator) (x : List ℕ) → ((y : List ℕ) → a y ≡ b y) →
+    one_under t n a x ≡ one_under t n b x
 one_under-same (Blocks k) n a b x h = on_blocks-same k n a b x h
 one_under-same (Columns k) n a b x h = on_columns-same n k a b x h
 
@@ -112,7 +119,8 @@ size-within_all : (ts path : Path) (n : ℕ) → size_under (within_all ts path)
 size-within_all [] path n = refl
 size-within_all (t ∷ ts) path n = size-within t (within_all ts path) n ∙ ap (grown t) (size-within_all ts path n)
 
-pub under-within_all : (ts path : Path) (n : ℕ) (a : Operator) (x : List ℕ) → HasSize n a → Reads n a → under (within_all ts path) n a x ≡ under (ts ++ path) n a x
+pub under-within_all : (ts path : Path) (n : ℕ) (a : Operator) (x : List ℕ) → HasSize n a → Reads n a →
+    under (within_all ts path) n a x ≡ under (ts ++ path) n a x
 under-within_all [] path n a x size reads = refl
 under-within_all (t ∷ ts) path n a x size reads =
     under-within t (within_all ts path) n a x size reads
@@ -121,5 +129,6 @@ under-within_all (t ∷ ts) path n a x size reads =
 
 -- two more tensors
 pub under-within_two : (t v : Tensor) (path : Path) (n : ℕ) (a : Operator) (x : List ℕ) → HasSize n a → Reads n a →
-    under (within t (within v path)) n a x ≡ one_under t (grown v (size_under path n)) (one_under v (size_under path n) (under path n a)) x
+    under (within t (within v path)) n a x ≡ one_under t (grown v (size_under path n))
+    (one_under v (size_under path n) (under path n a)) x
 under-within_two t v path n a x size reads = under-within_all (t ∷ v ∷ []) path n a x size reads

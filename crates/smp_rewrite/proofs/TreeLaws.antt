@@ -1,6 +1,7 @@
 -- The formula of a whole: what it does, its equal shares, and its shapes; and that the layouts of trees can be shared.
 -- request admits can be shared.
-use Rattle.std.proofs.Common.{◌≡◌, ◌≢◌, ◌*◌, ◌/◌, ◌%◌, ◌<◌, ◌≤◌, List, inl, inr, ◌+◌, ap₂, ℕ, arith, refl, sym, ap, subst, ◌∙◌, [], true, false}
+use Rattle.std.proofs.Common.{◌≡◌, ◌≢◌, ◌*◌, ◌/◌, ◌%◌, ◌<◌, ◌≤◌, List, inl, inr, ◌+◌, ap₂, ℕ, arith, refl, sym, ap}
+use Rattle.std.proofs.Common.{subst, ◌∙◌, [], true, false}
 use Rattle.std.proofs.Math.Nat.{mul-mod_right, mul-div_right, zero-div}
 use Rattle.std.proofs.lemmas.Bool.Decides.{nat_tests}
 use Rattle.smp_rewrite.specs.LayoutSteps.Layout.{Layout, layout_size, layout_on, layout_of}

@@ -1,5 +1,6 @@
 -- The walk over a tree's formula gives the steps of its layout.
-use Rattle.std.proofs.Common.{◌≡◌, ℕ, ◌*◌, ◌/◌, ◌<◌, ◌≤◌, Bool, true, false, List, [], ◌∷◌, ◌++◌, refl, sym, ap, ap₂, subst, ◌∙◌, arith, if◌then◌else◌, mul_comm, append_assoc}
+use Rattle.std.proofs.Common.{◌≡◌, ℕ, ◌*◌, ◌/◌, ◌<◌, ◌≤◌, Bool, true, false, List, [], ◌∷◌, ◌++◌, refl, sym, ap, ap₂}
+use Rattle.std.proofs.Common.{subst, ◌∙◌, arith, if◌then◌else◌, mul_comm, append_assoc}
 use Rattle.std.specs.Prelude.{None}
 use Rattle.std.proofs.Math.Nat.{mul-div_right}
 use Rattle.breakdown.specs.Expansion.{closed_formula, expansion, formula_of, leaf_formula, rule_formula}
@@ -22,7 +23,8 @@ use Rattle.matrix_meaning.specs.declared.Request.{Request}
 use Rattle.smp_rewrite.specs.Walk.{body_of, closing_in, node_steps, tree_steps}
 use Rattle.spl_ast.specs.Formula.{Formula}
 use Rattle.smp_rewrite.specs.LayoutSteps.Layout.{Layout, work, by, layout_size, layout_of, node_work}
-use Rattle.smp_rewrite.specs.LayoutSteps.Step.{PlainStep, step, turns, twiddles, thomas_in, thomas_out, rule_steps, steps_of}
+use Rattle.smp_rewrite.specs.LayoutSteps.Step.{PlainStep, step, turns, twiddles, thomas_in, thomas_out, rule_steps}
+use Rattle.smp_rewrite.specs.LayoutSteps.Step.{steps_of}
 use Rattle.smp_rewrite.specs.LayoutSteps.Whole.{factor_by}
 use Rattle.smp_rewrite.proofs.LayoutSteps.Layouts.{layouts_have_size}
 use Rattle.operators.specs.TensorPaths.Path.{Path}

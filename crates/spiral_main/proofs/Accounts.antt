@@ -14,7 +14,8 @@ use Rattle.commands.proofs.SpiralInput.Within.{Within, told_within}
 use Rattle.spiral_main.specs.Outcome.{call_outcomes, Accounts, AccountsFor}
 
 -- what is right for the command that the words ask for is right for the call
-pub called : (words : List (List ℕ)) (wanted : Command) → IsAsked words wanted → Within (outcomes_of wanted) (call_outcomes words)
+pub called : (words : List (List ℕ)) (wanted : Command) → IsAsked words wanted →
+    Within (outcomes_of wanted) (call_outcomes words)
 called words wanted asked = record {
   answer = λ bytes s t p. inr (wanted, asked, p);
   broken = λ read ended t p. (wanted, asked, p);

@@ -114,7 +114,8 @@ fits_decided text = bind_decided (spelt text) fitting (spelt_decided text) fitti
 same_text : (text s t : List ℕ) → s ≡ text → t ≡ text → s ≡ t
 same_text text s t p q = p ∙ sym q
 
-one_text_each : (names : List ℕ) (text : Planned → List ℕ) → HasOne (by_front (line 256) (planned names) (λ (plan : Planned). writing (λ t. t ≡ text plan)))
+one_text_each : (names : List ℕ) (text : Planned → List ℕ) →
+    HasOne (by_front (line 256) (planned names) (λ (plan : Planned). writing (λ t. t ≡ text plan)))
 one_text_each names text =
     front_one (line 256) (planned names) (λ (plan : Planned). writing (λ t. t ≡ text plan)) (planned_decided names)
     (λ plan room. writing_one (λ t. t ≡ text plan) room (same_text (text plan)))

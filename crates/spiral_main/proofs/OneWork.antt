@@ -10,8 +10,10 @@ use Rattle.commands.specs.SpiralInput.Stage.{Stage, given}
 use Rattle.commands.proofs.SpiralInput.Stages.{IsDecided, bind_decided, given_decided, of_answers}
 
 pub record HasOne (outcomes : Outcomes) : Type 0 where
-  pub status : (bytes : List ℕ) (a b : Status) (s t : List ℕ) → outcomes.answer bytes a s → outcomes.answer bytes b t → a ≡ b
-  pub text : (bytes : List ℕ) (a b : Status) (s t : List ℕ) → outcomes.answer bytes a s → outcomes.answer bytes b t → s ≡ t
+  pub status : (bytes : List ℕ) (a b : Status) (s t : List ℕ) → outcomes.answer bytes a s → outcomes.answer bytes b t →
+      a ≡ b
+  pub text : (bytes : List ℕ) (a b : Status) (s t : List ℕ) → outcomes.answer bytes a s → outcomes.answer bytes b t →
+      s ≡ t
 
 -- By a front
 
@@ -41,13 +43,15 @@ writing_one P room same = record {
 }
 
 pub mapping_one : (wants : Wants) (size modulus : ℕ) (P : List (List ℕ) → List ℕ → Type 0) (room : ℕ)
-    → ((vectors : List (List ℕ)) (s t : List ℕ) → P vectors s → P vectors t → s ≡ t) → HasOne (mapping wants size modulus P room)
+    → ((vectors : List (List ℕ)) (s t : List ℕ) → P vectors s → P vectors t → s ≡ t) →
+    HasOne (mapping wants size modulus P room)
 mapping_one wants size modulus P room same = record {
   status = λ bytes a b s t p q. p.0 ∙ sym q.0;
   text = λ bytes a b s t p q. same _ s t p.1 q.1;
 }
 
-pub first_one : (P : List ℕ → List (List ℕ) → List ℕ → Type 0) → ((h : List ℕ) (later : List (List ℕ)) (s t : List ℕ) → P h later s → P h later t → s ≡ t)
+pub first_one : (P : List ℕ → List (List ℕ) → List ℕ → Type 0) →
+    ((h : List ℕ) (later : List (List ℕ)) (s t : List ℕ) → P h later s → P h later t → s ≡ t)
     → (vectors : List (List ℕ)) (s t : List ℕ) → by_first P vectors s → by_first P vectors t → s ≡ t
 first_one P same [] s t p q = p ∙ sym q
 first_one P same (h ∷ later) s t p q = same h later s t p q
@@ -68,7 +72,8 @@ judged_text V room bytes a b s t same (inl p) (inr q) = absurd (omega (arith, p.
 judged_text V room bytes a b s t same (inr p) (inl q) = absurd (omega (arith, p.0, q.0))
 judged_text V room bytes a b s t same (inr p) (inr q) = p.1.3 ∙ ap verdict_text (same p.1.0 q.1.0 p.1.1 q.1.1) ∙ sym q.1.3
 
-pub judging_one : (V : List ℕ → Verdict → Type 0) (room : ℕ) → ((bytes : List ℕ) (v w : Verdict) → V bytes v → V bytes w → v ≡ w) → HasOne (judging V room)
+pub judging_one : (V : List ℕ → Verdict → Type 0) (room : ℕ) →
+    ((bytes : List ℕ) (v w : Verdict) → V bytes v → V bytes w → v ≡ w) → HasOne (judging V room)
 judging_one V room same = record {
   status = λ bytes a b s t p q. judged_status V room bytes a b s t (same bytes) p q;
   text = λ bytes a b s t p q. judged_text V room bytes a b s t (same bytes) p q;

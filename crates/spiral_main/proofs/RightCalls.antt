@@ -1,5 +1,6 @@
 -- A call that is right succeeds, unless the outside fails or memory runs out.
-use Rattle.std.proofs.Common.{◌≡◌, ◌≢◌, ◌⊎◌, ◌≤◌, ◌∷◌, ℕ, Bool, true, false, List, [], Ok, refl, ap, subst, ◌∙◌, arith, inl, inr}
+use Rattle.std.proofs.Common.{◌≡◌, ◌≢◌, ◌⊎◌, ◌≤◌, ◌∷◌, ℕ, Bool, true, false, List, [], Ok, refl, ap, subst, ◌∙◌, arith}
+use Rattle.std.proofs.Common.{inl, inr}
 use Rattle.std.specs.declared.option.Option.{Option}
 use Rattle.matrix_meaning.specs.Valid.{IsValid}
 use Rattle.matrix_meaning.specs.declared.Request.{Request}
@@ -21,7 +22,14 @@ use Rattle.spiral_words.specs.declared.RequestCommand.{RequestCommand}
 use Rattle.spiral_words.specs.declared.RequestCommand.TheVariants as request
 use Rattle.spl_ast.specs.Formula.{Formula, size_of}
 use Rattle.spiral_words.specs.declared.spiral_status.status.Status.{Status}
-use Rattle.spiral_words.specs.declared.spiral_status.status.Status.TheVariants.{Success, Usage, Syntax, Range, Shape, LanesLine, NotUnit, Turn, NotPrincipal, NoDivide, OverBudget, BadNumber, Truncated, ReadFault, WriteFault, NoMemory, TooLong, Unread, Wrong, FormulaShape, TooDeep, ListingSyntax, Address, Register, LineShared, OverSteps}
+use Rattle.spiral_words.specs.declared.spiral_status.status.Status.TheVariants.{Success, Usage, Syntax, Range, Shape}
+use Rattle.spiral_words.specs.declared.spiral_status.status.Status.TheVariants.{LanesLine, NotUnit, Turn, NotPrincipal}
+use Rattle.spiral_words.specs.declared.spiral_status.status.Status.TheVariants.{NoDivide, OverBudget, BadNumber}
+use Rattle.spiral_words.specs.declared.spiral_status.status.Status.TheVariants.{Truncated, ReadFault, WriteFault}
+use Rattle.spiral_words.specs.declared.spiral_status.status.Status.TheVariants.{NoMemory, TooLong, Unread, Wrong}
+use Rattle.spiral_words.specs.declared.spiral_status.status.Status.TheVariants.{FormulaShape, TooDeep, ListingSyntax}
+use Rattle.spiral_words.specs.declared.spiral_status.status.Status.TheVariants.{Address, Register, LineShared}
+use Rattle.spiral_words.specs.declared.spiral_status.status.Status.TheVariants.{OverSteps}
 use Rattle.spiral_words.specs.declared.spiral_status.status.Status.TheVariants as status
 use Rattle.commands.specs.Checked.{status_of_verdict}
 use Rattle.commands.specs.Equations.Apply.{apply_work}
@@ -48,7 +56,8 @@ use Rattle.commands.proofs.FormulaCommands.OneFormula.{formed_decided, written_d
 use Rattle.commands.proofs.ListingCommands.OneExecution.{loaded_decided}
 use Rattle.commands.proofs.SpiralInput.Stages.{IsDecided, answer_for}
 use Rattle.spiral_main.specs.Outcome.{Accounts, IsOutcome}
-use Rattle.spiral_main.specs.Right.{AreRightData, AreRightVectors, BeginWithList, HasBudgetFor, IsRightCall, IsRightCertificate, IsRightRest, Succeeds, formula_for}
+use Rattle.spiral_main.specs.Right.{AreRightData, AreRightVectors, BeginWithList, HasBudgetFor, IsRightCall}
+use Rattle.spiral_main.specs.Right.{IsRightCertificate, IsRightRest, Succeeds, formula_for}
 use Rattle.spiral_main.specs.RightFront.{AreWholeVectors, HasWholeVectors}
 use Rattle.spiral_main.proofs.Calls.{outcome_of}
 use Rattle.spiral_main.proofs.OneAnswer.{fits_decided, planned_decided}
@@ -56,9 +65,11 @@ use Rattle.spiral_main.proofs.OneWork.{ordered_decided}
 use Rattle.spiral_main.proofs.RightRequests.{orders_conv, orders_fitting, orders_plan}
 
 -- where the front orders a value, the answer is right for it
-front_gives : {A : Type 0} (front : Front) (orders : List ℕ → Stage A) (work : A → Work) (value : A) (bytes : List ℕ) (s : Status) (t : List ℕ)
+front_gives : {A : Type 0} (front : Front) (orders : List ℕ → Stage A) (work : A → Work) (value : A) (bytes : List ℕ)
+    (s : Status) (t : List ℕ)
     → ((text : List ℕ) → IsDecided (orders text)) → ordered front orders bytes (Ok value)
-    → (by_front front orders work).answer bytes s t → (work value (room_behind front bytes)).answer (front.behind bytes) s t
+    → (by_front front orders work).answer bytes s t → (work value (room_behind front bytes)).answer (front.behind bytes)
+    s t
 front_gives {A} front orders work value bytes s t decided gives p =
     answer_for (ordered front orders bytes) (λ (v : A). (work v (room_behind front bytes)).answer (front.behind bytes)) value s t
     (ordered_decided front orders bytes decided) gives p
@@ -66,7 +77,8 @@ front_gives {A} front orders work value bytes s t decided gives p =
 -- By a request
 
 document_success : (wanted : Document) (bytes : List ℕ) (plan : Planned) (s : Status) (t : List ℕ)
-    → ordered (line 256) (planned (procs_named (request.Writes wanted))) bytes (Ok plan) → (document_outcomes wanted).answer bytes s t → s ≡ Success
+    → ordered (line 256) (planned (procs_named (request.Writes wanted))) bytes (Ok plan) →
+    (document_outcomes wanted).answer bytes s t → s ≡ Success
 document_success document.Plan bytes plan s t gives p = (front_gives (line 256) (planned []) (document_work document.Plan) plan bytes s t (planned_decided []) gives p).0
 document_success document.Formula bytes plan s t gives p = (front_gives (line 256) (planned []) (document_work document.Formula) plan bytes s t (planned_decided []) gives p).0
 document_success document.Code bytes plan s t gives p = (front_gives (line 256) (planned []) (document_work document.Code) plan bytes s t (planned_decided []) gives p).0
@@ -75,12 +87,15 @@ document_success document.Cert bytes plan s t gives p = (front_gives (line 256) 
 document_success (document.Sample seed schedule) bytes plan s t gives p =
     (front_gives (line 256) (planned (named schedule)) (document_work (document.Sample seed schedule)) plan bytes s t (planned_decided (named schedule)) gives p).0
 
-whole_status : (size room : ℕ) (bytes : List ℕ) → AreWholeVectors size room bytes → status_of_stream (data_answer size room bytes) ≡ Success
+whole_status : (size room : ℕ) (bytes : List ℕ) → AreWholeVectors size room bytes →
+    status_of_stream (data_answer size room bytes) ≡ Success
 whole_status size room bytes right = ap status_of_stream (right_answer size room bytes right.few right.good right.whole)
 
 -- whole vectors of a request that is the plan's
-plan_status : (plan : Planned) (r : Request) (bytes : List ℕ) → plan.request ≡ r → HasWholeVectors (line 256) r.size bytes
-    → status_of_stream (data_answer plan.request.size (room_behind (line 256) bytes) ((line 256).behind bytes)) ≡ Success
+plan_status : (plan : Planned) (r : Request) (bytes : List ℕ) → plan.request ≡ r →
+    HasWholeVectors (line 256) r.size bytes
+    → status_of_stream (data_answer plan.request.size (room_behind (line 256) bytes) ((line 256).behind bytes))
+    ≡ Success
 plan_status plan r bytes same right =
     ap (λ (q : Request). status_of_stream (data_answer q.size (room_behind (line 256) bytes) ((line 256).behind bytes))) same
     ∙ whole_status r.size (room_behind (line 256) bytes) ((line 256).behind bytes) right
@@ -91,7 +106,8 @@ judged_success r room bytes s t right (inl p) = absurd (omega (arith, p.0, right
 judged_success r room bytes s t right (inr p) = p.1.2 ∙ ap status_of_verdict (one_verdict r bytes p.1.0 (Least right.cost) p.1.1 right.judged)
 
 plain_success : (wanted : RequestCommand) (r : Request) (bytes : List ℕ) (s : Status) (t : List ℕ)
-    → IsValid r → CanDivideWhole r → HasBudgetFor wanted r → ordered (line 256) (λ text. spelt text >>= turned (procs_named wanted)) bytes (Ok r)
+    → IsValid r → CanDivideWhole r → HasBudgetFor wanted r →
+    ordered (line 256) (λ text. spelt text >>= turned (procs_named wanted)) bytes (Ok r)
     → IsRightRest wanted r (room_behind (line 256) bytes) ((line 256).behind bytes)
     → (outcomes_by_request wanted).answer bytes s t → s ≡ Success
 plain_success (request.Writes wanted) r bytes s t valid can pays orders rest p =
@@ -141,7 +157,8 @@ list_success schedule true r bytes s t (plan, same, orders) list rest p =
     (front_gives (line 256) (conv_planned (named schedule)) convolver_work plan bytes s t (conv_planned_decided (named schedule)) orders p).0
     ∙ ap (status_by the_first plan.request.size (data_answer plan.request.size room behind)) vectors
 
-right_success : (words : List (List ℕ)) (bytes : List ℕ) (s : Status) (t : List ℕ) → IsRightCall words bytes → IsOutcome words bytes s t → s ≡ Success
+right_success : (words : List (List ℕ)) (bytes : List ℕ) (s : Status) (t : List ℕ) → IsRightCall words bytes →
+    IsOutcome words bytes s t → s ≡ Success
 right_success words bytes s t (inl right) p =
     plain_success right.wanted right.request bytes s t right.valid right.divides right.budget right.orders right.rest
     (outcome_of words bytes (command.ByRequest right.wanted) s t right.asked p)
@@ -186,7 +203,8 @@ memory_or (Register phase proc action) = inr (λ e. cc)
 memory_or (LineShared phase line a b) = inr (λ e. cc)
 memory_or (OverSteps limit) = inr (λ e. cc)
 
-pub right_calls : (words : List (List ℕ)) (bytes left : List ℕ) (before after : Option (List ℕ)) (s : Status) → IsRightCall words bytes → Accounts words bytes left before after s
+pub right_calls : (words : List (List ℕ)) (bytes left : List ℕ) (before after : Option (List ℕ)) (s : Status) →
+    IsRightCall words bytes → Accounts words bytes left before after s
     → s ≢ ReadFault → s ≢ WriteFault → (s ≡ NoMemory) ⊎ Succeeds words bytes before after s
 right_calls words bytes left before after s right accounts read write =
     elim (memory_or s) [

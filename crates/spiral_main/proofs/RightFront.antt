@@ -1,5 +1,6 @@
 -- A call that is right in all that its command asks of it has the outcome Success, with the text that it calls for.
-use Rattle.std.proofs.Common.{◌≡◌, ◌≢◌, ◌≤◌, ℕ, true, false, List, [], ◌∷◌, length, take, None, Ok, Err, Result, cond, nat_le, nat_lt, refl, sym, ap, subst, ◌∙◌, arith, append-nil, inr}
+use Rattle.std.proofs.Common.{◌≡◌, ◌≢◌, ◌≤◌, ℕ, true, false, List, [], ◌∷◌, length, take, None, Ok, Err, Result, cond}
+use Rattle.std.proofs.Common.{nat_le, nat_lt, refl, sym, ap, subst, ◌∙◌, arith, append-nil, inr}
 use Rattle.std.proofs.lemmas.Grind.{common_steps}
 use Rattle.std.proofs.lemmas.List.{take_all}
 use Rattle.std.specs.List.{list_all}
@@ -16,7 +17,8 @@ use Rattle.runs.specs.Stream.{lines, vectors_of, bad_after, vectors_seen, data_a
 use Rattle.runs.proofs.StreamLemmas.{bad_behind, right_answer}
 use Rattle.spiral_words.specs.SpiralStatus.Fault.{status_of_stream}
 use Rattle.spiral_words.specs.declared.spiral_status.status.Status.{Status}
-use Rattle.spiral_words.specs.declared.spiral_status.status.Status.TheVariants.{Success, ReadFault, WriteFault, NoMemory, TooLong}
+use Rattle.spiral_words.specs.declared.spiral_status.status.Status.TheVariants.{Success, ReadFault, WriteFault}
+use Rattle.spiral_words.specs.declared.spiral_status.status.Status.TheVariants.{NoMemory, TooLong}
 use Rattle.commands.specs.FormulaCommands.Letters.{program_for}
 use Rattle.listing_text.specs.Listing.{listing_of}
 use Rattle.commands.specs.Equations.Compile.{compile_outcomes}
@@ -27,12 +29,14 @@ use Rattle.commands.specs.ListingCommands.Listed.{loaded, result_of}
 use Rattle.commands.specs.SpiralInput.Commands.{admitted}
 use Rattle.commands.specs.SpiralInput.Stage.{Stage}
 use Rattle.commands.specs.Equations.Front.{Front, line, ordered, part, room_behind, Work, by_front}
-use Rattle.commands.specs.Equations.Convolve.{IsConvolveText, IsConvolverText, convolve_outcomes, convolve_work, convolver_outcomes, convolver_work}
+use Rattle.commands.specs.Equations.Convolve.{IsConvolveText, IsConvolverText, convolve_outcomes, convolve_work}
+use Rattle.commands.specs.Equations.Convolve.{convolver_outcomes, convolver_work}
 use Rattle.commands.specs.Equations.Works.{a_first, all, by_first, status_by, the_first, writing, mapping}
 use Rattle.commands.specs.Equations.Orders.{Planned, planned}
 use Rattle.commands.specs.Equations.Apply.{apply_outcomes, apply_work}
 use Rattle.spiral_main.specs.Outcome.{IsOutcome, Accounts}
-use Rattle.spiral_main.specs.RightFront.{AreWholeVectors, HasWholeVectors, IsRightConvLine, IsRightLine, request_vectors, vectors_behind}
+use Rattle.spiral_main.specs.RightFront.{AreWholeVectors, HasWholeVectors, IsRightConvLine, IsRightLine}
+use Rattle.spiral_main.specs.RightFront.{request_vectors, vectors_behind}
 use Rattle.spiral_main.proofs.Calls.{one_status, one_text}
 
 -- good tokens that are seen whole
@@ -119,12 +123,15 @@ pub written_is_right : (names bytes : List ℕ) (IsText : Planned → List ℕ �
 written_is_right names bytes IsText plan t right is = line_answer names bytes (λ (p : Planned). writing (IsText p)) plan t right (refl, is)
 
 pub text_is_right : (names bytes : List ℕ) (text : Planned → List ℕ) (plan : Planned) → IsRightLine names bytes plan
-    → (by_front (line 256) (planned names) (λ (p : Planned). writing (λ t. t ≡ text p))).answer bytes Success (text plan)
+    → (by_front (line 256) (planned names) (λ (p : Planned). writing (λ t. t ≡ text p))).answer bytes Success
+    (text plan)
 text_is_right names bytes text plan right = written_is_right names bytes (λ p t. t ≡ text p) plan (text plan) right refl
 
-pub data_are_right : (names bytes : List ℕ) (text : Planned → List (List ℕ) → List ℕ) (plan : Planned) → IsRightLine names bytes plan
+pub data_are_right : (names bytes : List ℕ) (text : Planned → List (List ℕ) → List ℕ) (plan : Planned) →
+    IsRightLine names bytes plan
     → HasWholeVectors (line 256) plan.request.size bytes
-    → (by_front (line 256) (planned names) (λ (p : Planned). mapping all p.request.size p.request.modulus (λ vs t. t ≡ text p vs))).answer
+    → (by_front (line 256) (planned names) (λ (p : Planned). mapping all p.request.size p.request.modulus
+    (λ vs t. t ≡ text p vs))).answer
     bytes Success (text plan (request_vectors plan bytes))
 data_are_right names bytes text plan right vectors =
     let written = text plan (request_vectors plan bytes) in
@@ -144,7 +151,8 @@ listing_is_right m bytes formula short gives =
 pub applied_is_right : (m : ℕ) (schedule : Turns) (bytes : List ℕ) (formula : Formula)
     → length ((line 65536).first bytes) ≤ 65536 → formed (named schedule) ((line 65536).first bytes) (Ok formula)
     → HasWholeVectors (line 65536) (spl.size_of formula) bytes
-    → (apply_outcomes m schedule).answer bytes Success (lines (formulas.apply m formula) (vectors_behind (line 65536) (spl.size_of formula) m bytes))
+    → (apply_outcomes m schedule).answer bytes Success (lines (formulas.apply m formula)
+    (vectors_behind (line 65536) (spl.size_of formula) m bytes))
 applied_is_right m schedule bytes formula short gives vectors =
     let text = lines (formulas.apply m formula) (vectors_behind (line 65536) (spl.size_of formula) m bytes) in
     front_answer (line 65536) (formed (named schedule)) (apply_work m) formula bytes Success text short gives
@@ -153,7 +161,8 @@ applied_is_right m schedule bytes formula short gives vectors =
 pub executed_is_right : (schedule : Turns) (bytes : List ℕ) (program : PlainProgram)
     → length ((part 1048576).first bytes) ≤ 1048576 → loaded schedule ((part 1048576).first bytes) (Ok program)
     → HasWholeVectors (part 1048576) program.size bytes
-    → (exec_outcomes schedule).answer bytes Success (lines (result_of program) (vectors_behind (part 1048576) program.size program.modulus bytes))
+    → (exec_outcomes schedule).answer bytes Success (lines (result_of program)
+    (vectors_behind (part 1048576) program.size program.modulus bytes))
 executed_is_right schedule bytes program short gives vectors =
     let text = lines (result_of program) (vectors_behind (part 1048576) program.size program.modulus bytes) in
     front_answer (part 1048576) (loaded schedule) exec_work program bytes Success text short gives
@@ -190,7 +199,8 @@ convolved_is_right schedule bytes plan h later t right v same is =
 
 pub convolver_is_first : (schedule : Turns) (bytes : List ℕ) (plan : Planned) (h : List ℕ) (later : List (List ℕ))
     (t : List ℕ) → IsRightConvLine (named schedule) bytes plan
-    → data_vectors plan.request.size plan.request.modulus (room_behind (line 256) bytes) ((line 256).behind bytes) ≡ h ∷ later
+    → data_vectors plan.request.size plan.request.modulus (room_behind (line 256) bytes) ((line 256).behind bytes) ≡ h
+    ∷ later
     → IsConvolverText plan (h ∷ later) t → (convolver_outcomes schedule).answer bytes Success t
 convolver_is_first schedule bytes plan h later t right seen is =
     let n = plan.request.size in

@@ -1,5 +1,6 @@
 -- A line is right exactly where it orders what it is right for.
-use Rattle.std.proofs.Common.{◌≡◌, ◌≤◌, ℕ, Bool, true, false, List, None, Some, Ok, Err, Result, length, nat_le, cond, refl, sym, subst, arith}
+use Rattle.std.proofs.Common.{◌≡◌, ◌≤◌, ℕ, Bool, true, false, List, None, Some, Ok, Err, Result, length, nat_le, cond}
+use Rattle.std.proofs.Common.{refl, sym, subst, arith}
 use Rattle.std.proofs.lemmas.Grind.{common_steps}
 use Rattle.std.specs.declared.option.Option.{Option}
 use Rattle.commands.proofs.SpiralInput.Stages.{done, done_ended, done_same}

@@ -72,7 +72,8 @@ has-plan r valid can pays =
     whole_least_once r pays.0 (whole_cost r tree.0) pays.1 (whole_is_least r tree.0 tree.1) in
     (tree.0, (rooted r valid, tree.1, subst (λ k. k ≤ r.budget) same pays.2))
 
-convolvable_by : (r : Request) → IsConvRequest r → IsRooted r → HasPrincipalRoot r → IsWithinConvBudget r → (tree : Breakdown) × IsConvPlanned r (Ok tree)
+convolvable_by : (r : Request) → IsConvRequest r → IsRooted r → HasPrincipalRoot r → IsWithinConvBudget r →
+    (tree : Breakdown) × IsConvPlanned r (Ok tree)
 convolvable_by r able right principal pays =
     let plain = and_from _ _ (eq-eqb r.procs 1 able.procs) (eq-eqb r.lanes 1 able.lanes) in
     let tree = whole_exists r able.in_range (divides_plain r plain) in
@@ -87,7 +88,8 @@ with_tree request tree = record { request = request; tree = tree }
 
 -- by a request
 pub orders_plan : (names bytes : List ℕ) (r : Request) → IsValid r → CanDivideWhole r → IsWithinBudget r
-    → ordered (line 256) (λ text. spelt text >>= turned names) bytes (Ok r) → (plan : Planned) × (plan.request ≡ r) × ordered (line 256) (planned names) bytes (Ok plan)
+    → ordered (line 256) (λ text. spelt text >>= turned names) bytes (Ok r) →
+    (plan : Planned) × (plan.request ≡ r) × ordered (line 256) (planned names) bytes (Ok plan)
 orders_plan names bytes r valid can pays orders =
     let found = has-plan r valid can pays in
     let plan = with_tree r found.0 in (
@@ -99,7 +101,8 @@ orders_plan names bytes r valid can pays orders =
 
 -- by a request whatever its budget
 pub orders_fitting : (bytes : List ℕ) (r : Request) → IsValid r → CanDivideWhole r
-    → ordered (line 256) (λ text. spelt text >>= turned []) bytes (Ok r) → ordered (line 256) (λ text. spelt text >>= fitting) bytes (Ok r)
+    → ordered (line 256) (λ text. spelt text >>= turned []) bytes (Ok r) →
+    ordered (line 256) (λ text. spelt text >>= fitting) bytes (Ok r)
 orders_fitting bytes r valid can orders =
     joined (given (taken_from (line 256) bytes)) spelt fitting (Ok r) (record {
       value = r;
@@ -108,8 +111,10 @@ orders_fitting bytes r valid can orders =
     })
 
 -- by a list
-pub orders_conv : (names bytes : List ℕ) (r : Request) → IsConvRequest r → IsRooted r → HasPrincipalRoot r → IsWithinConvBudget r
-    → ordered (line 256) (λ text. conv_spelt text >>= turned names) bytes (Ok r) → (plan : Planned) × (plan.request ≡ r) × ordered (line 256) (conv_planned names) bytes (Ok plan)
+pub orders_conv : (names bytes : List ℕ) (r : Request) → IsConvRequest r → IsRooted r → HasPrincipalRoot r →
+    IsWithinConvBudget r
+    → ordered (line 256) (λ text. conv_spelt text >>= turned names) bytes (Ok r) →
+    (plan : Planned) × (plan.request ≡ r) × ordered (line 256) (conv_planned names) bytes (Ok plan)
 orders_conv names bytes r able right principal pays orders =
     let found = convolvable_by r able right principal pays in
     let plan = with_tree r found.0 in (
@@ -121,7 +126,8 @@ orders_conv names bytes r able right principal pays orders =
 
 -- ---- a request that has a plan is right
 
-pub planned_is_right : (r : Request) (t : Breakdown) → IsInRange r → IsPlanned r (Ok t) → IsValid r × CanDivideWhole r × IsWithinBudget r
+pub planned_is_right : (r : Request) (t : Breakdown) → IsInRange r → IsPlanned r (Ok t) →
+    IsValid r × CanDivideWhole r × IsWithinBudget r
 planned_is_right r t range planned = (
   valid_by_powers r range planned.0,
   whole_divides r t planned.1.tree,

@@ -1,5 +1,6 @@
 -- Each call has an outcome.
-use Rattle.std.proofs.Common.{◌≡◌, ◌++◌, ◌∷◌, ℕ, Bool, true, false, List, [], length, Ok, Err, Result, refl, sym, subst, inl, inr}
+use Rattle.std.proofs.Common.{◌≡◌, ◌++◌, ◌∷◌, ℕ, Bool, true, false, List, [], length, Ok, Err, Result, refl, sym, subst}
+use Rattle.std.proofs.Common.{inl, inr}
 use Rattle.std.proofs.lemmas.Bool.{cases_lt}
 use Rattle.c_print.specs.CText.{c_text_of}
 use Rattle.listing_text.specs.Listing.{listing_of}
@@ -59,7 +60,8 @@ use Rattle.commands.specs.Equations.Requests.{document_outcomes, outcomes_by_req
 use Rattle.commands.specs.Equations.Run.{run_work}
 use Rattle.commands.specs.Equations.Sample.{sample_lines}
 use Rattle.commands.specs.Equations.Trace.{run_lines, trace_work}
-use Rattle.commands.specs.Equations.Works.{Wants, a_first, all, by_first, judging, mapping, status_by, the_first, writing}
+use Rattle.commands.specs.Equations.Works.{Wants, a_first, all, by_first, judging, mapping, status_by, the_first}
+use Rattle.commands.specs.Equations.Works.{writing}
 use Rattle.commands.specs.FormulaCommands.Letters as formulas
 use Rattle.commands.specs.ListingCommands.Listed.{loaded, result_of}
 use Rattle.commands.specs.Emission.Whole.{emission}
@@ -119,7 +121,8 @@ abbrev HasText : Outcomes → List ℕ → Type 0
 HasText outcomes bytes = (status : Status) × (text : List ℕ) × outcomes.answer bytes status text
 
 by_answer : {A : Type 0} (front : Front) (orders : List ℕ → Stage A) (work : A → Work) (bytes : List ℕ)
-    → ((text : List ℕ) (value : A) (room : ℕ) (behind : List ℕ) → orders text (Ok value) → HasText (work value room) behind)
+    → ((text : List ℕ) (value : A) (room : ℕ) (behind : List ℕ) → orders text (Ok value) →
+    HasText (work value room) behind)
     → HasAnswer (ordered front orders bytes) → HasText (by_front front orders work) bytes
 by_answer front orders work bytes has (Ok value, gives) =
     let found = has gives.value value (room_behind front bytes) (front.behind bytes) gives.behind in
@@ -129,7 +132,8 @@ by_answer front orders work bytes has (Err status, gives) = (status, [], inl (gi
 -- for each value that a text orders
 each_has : {A : Type 0} (front : Front) (orders : List ℕ → Stage A) (work : A → Work) (bytes : List ℕ)
     → ((text : List ℕ) → HasAnswer (orders text))
-    → ((text : List ℕ) (value : A) (room : ℕ) (behind : List ℕ) → orders text (Ok value) → HasText (work value room) behind)
+    → ((text : List ℕ) (value : A) (room : ℕ) (behind : List ℕ) → orders text (Ok value) →
+    HasText (work value room) behind)
     → HasText (by_front front orders work) bytes
 each_has front orders work bytes each has =
     by_answer front orders work bytes has
@@ -153,13 +157,15 @@ mapping_has wants size modulus P room bytes each =
     let found = each vectors in
     (status_by wants size (data_answer size room bytes) vectors, found.0, (refl, found.1))
 
-first_has : (text : List ℕ → List (List ℕ) → List ℕ) (vectors : List (List ℕ)) → (t : List ℕ) × by_first (λ h later t. t ≡ text h later) vectors t
+first_has : (text : List ℕ → List (List ℕ) → List ℕ) (vectors : List (List ℕ)) →
+    (t : List ℕ) × by_first (λ h later t. t ≡ text h later) vectors t
 first_has text [] = ([], refl)
 first_has text (h ∷ later) = (text h later, refl)
 
 -- ---- command by command
 
-equations_have : (names : List ℕ) (text : Planned → List ℕ) (bytes : List ℕ) → HasText (by_front (line 256) (planned names) (λ (plan : Planned). writing (λ t. t ≡ text plan))) bytes
+equations_have : (names : List ℕ) (text : Planned → List ℕ) (bytes : List ℕ) →
+    HasText (by_front (line 256) (planned names) (λ (plan : Planned). writing (λ t. t ≡ text plan))) bytes
 equations_have names text bytes =
     front_has (line 256) (planned names) (λ (plan : Planned). writing (λ t. t ≡ text plan)) bytes (planned_has names) (λ plan room behind. equation_has (text plan) room behind)
 
@@ -241,7 +247,8 @@ command_has (command.ByList schedule code) bytes = list_has schedule code bytes
 
 -- ---- every call
 
-called_has : (words : List (List ℕ)) (bytes : List ℕ) (wanted : Command) → IsAsked words wanted → HasText (outcomes_of wanted) bytes
+called_has : (words : List (List ℕ)) (bytes : List ℕ) (wanted : Command) → IsAsked words wanted →
+    HasText (outcomes_of wanted) bytes
     → (status : Status) × (text : List ℕ) × IsOutcome words bytes status text
 called_has words bytes wanted asked found = (found.0, found.1, inr (wanted, asked, found.2))
 

@@ -1,5 +1,6 @@
 -- Words ask for a command, or are refused.
-use Rattle.std.proofs.Common.{◌≡◌, ◌⊎◌, ◌↔◌, ℕ, ◌^◌, List, [], ◌∷◌, Bool, true, false, Some, Result, Ok, Err, refl, sym, subst, ◌∙◌, codes, inl, inr, arith}
+use Rattle.std.proofs.Common.{◌≡◌, ◌⊎◌, ◌↔◌, ℕ, ◌^◌, List, [], ◌∷◌, Bool, true, false, Some, Result, Ok, Err, refl, sym}
+use Rattle.std.proofs.Common.{subst, ◌∙◌, codes, inl, inr, arith}
 use Rattle.std.proofs.lemmas.Bool.{cases_lt}
 use Rattle.std.specs.List.{Any}
 use Rattle.clap.specs.Words.{Row, Text, fault_of}
@@ -32,7 +33,8 @@ use Rattle.spiral_words.proofs.Usage.{IsKnown, takes_known}
 abbrev IsSpelt : {A : Type 0} → (List ℕ → A → Type 0) → List ℕ → Type 0
 IsSpelt {A} spells text = ((value : A) × spells text value) ⊎ ((value : A) → spells text value → ⊥)
 
-spelt_or_not : {A : Type 0} (spells : List ℕ → A → Type 0) (text : List ℕ) (read : Result A ℕ) → Judges spells text read → IsSpelt spells text
+spelt_or_not : {A : Type 0} (spells : List ℕ → A → Type 0) (text : List ℕ) (read : Result A ℕ) →
+    Judges spells text read → IsSpelt spells text
 spelt_or_not spells text (Ok value) judges = inl (value, judges.0)
 spelt_or_not spells text (Err left) judges = inr judges.1.nothing
 
@@ -52,7 +54,8 @@ modulus_by word (Err left) judges = inr (λ m spelt. judges.1.nothing m spelt.0)
 modulus_or_not : (word : List ℕ) → IsSpelt modulus_word word
 modulus_or_not word = modulus_by word _ (small_judges word _ refl)
 
-order_or_not : (buffers : Bool) (word : List ℕ) → ((order : Order) × SpellsOrder buffers word order) ⊎ IsNoOrder buffers word
+order_or_not : (buffers : Bool) (word : List ℕ) → ((order : Order) × SpellsOrder buffers word order)
+    ⊎ IsNoOrder buffers word
 order_or_not false word = elim (schedule_or_not word) [ inl plan ↦ inl (order.Turns plan.0, plan.1) | inr none ↦ inr none ]
 order_or_not true word = elim (schedule_or_not word) [
   | inl plan ↦ inl (order.Buffered plan.0, plan.1)
@@ -67,7 +70,8 @@ abbrev Meant : List Row → Text × List OptionName → Type 0
 Meant rows row = ((asked : Command) × Means row.0 rows asked) ⊎ Any (IsOther row.1 rows) row.1
 
 ordered : (rows : List Row) (name : Text) (command : Order → Command)
-    → ((order : Order) → SpellsOrder (is_given option.Buffers rows) (text_of option.Schedule rows) order → Means name rows (command order))
+    → ((order : Order) → SpellsOrder (is_given option.Buffers rows) (text_of option.Schedule rows) order →
+    Means name rows (command order))
     → Meant rows (name, option.Schedule ∷ option.Buffers ∷ [])
 ordered rows name command means = elim (order_or_not (is_given option.Buffers rows) (text_of option.Schedule rows)) [
   | inl o ↦ inl (command o.0, means o.0 o.1)
@@ -154,7 +158,8 @@ meant rows = (
   ),
 )
 
-meant_or_other : (name : Text) (rows : List Row) → IsKnown name → ((asked : Command) × Means name rows asked) ⊎ HasOtherText name rows
+meant_or_other : (name : Text) (rows : List Row) → IsKnown name →
+    ((asked : Command) × Means name rows asked) ⊎ HasOtherText name rows
 meant_or_other name rows known =
     let found = both (Meant rows) (λ row. row.0 ≡ name) commands (meant rows) known in
     elim found.4.0 [
@@ -165,7 +170,8 @@ meant_or_other name rows known =
 asked_or_refused : (words : List Text) → ((asked : Command) × IsAsked words asked) ⊎ IsRefused words
 asked_or_refused words = at (is_empty (fault_of spiral_app words)) refl
   where
-    at : (b : Bool) → is_empty (fault_of spiral_app words) ≡ b → ((asked : Command) × IsAsked words asked) ⊎ IsRefused words
+    at : (b : Bool) → is_empty (fault_of spiral_app words) ≡ b →
+        ((asked : Command) × IsAsked words asked) ⊎ IsRefused words
     at false is = inr (inl is)
     at true is =
         let found = takes_known words is in

@@ -40,14 +40,16 @@ row_of words asked (name, options, found, means) =
     )
 
 asked_by : (words : List Text) (asked : Command)
-    → (options : Options) × Names words (name_for asked) options × Means (name_for asked) options asked → IsAsked words asked
+    → (options : Options) × Names words (name_for asked) options × Means (name_for asked) options asked →
+    IsAsked words asked
 asked_by words asked (options, found, means) = (name_for asked, options, found, means)
 
 pub by_row : (words : List Text) (asked : Command) → IsAsked words asked
     ↔ ((options : Options) × Names words (name_for asked) options × Means (name_for asked) options asked)
 by_row words asked = (row_of words asked, asked_by words asked)
 
-other : (name : Text) (rows : List Row) (asked : Command) → bytes_eq name (name_for asked) ≡ false → Means name rows asked → ⊥
+other : (name : Text) (rows : List Row) (asked : Command) → bytes_eq name (name_for asked) ≡ false →
+    Means name rows asked → ⊥
 other name rows asked differs h = not_from_Decides (bytes_eq name (name_for asked)) (bytes_eq-Decides name (name_for asked)) differs (named name rows asked h)
 
 pub plan_only : (rows : List Row) (b : Command) → Means (codes "plan") rows b → b ≡ ByRequest (Writes document.Plan)
@@ -55,7 +57,8 @@ plan_only rows (ByRequest (Writes document.Plan)) h = refl
 plan_only rows (ByFormula modulus Compile) h = absurd (other (codes "plan") rows (ByFormula modulus Compile) refl h)
 plan_only rows b h = absurd (other (codes "plan") rows b refl h)
 
-pub formula_only : (rows : List Row) (b : Command) → Means (codes "formula") rows b → b ≡ ByRequest (Writes document.Formula)
+pub formula_only : (rows : List Row) (b : Command) → Means (codes "formula") rows b →
+    b ≡ ByRequest (Writes document.Formula)
 formula_only rows (ByRequest (Writes document.Formula)) h = refl
 formula_only rows (ByFormula modulus Compile) h = absurd (other (codes "formula") rows (ByFormula modulus Compile) refl h)
 formula_only rows b h = absurd (other (codes "formula") rows b refl h)
@@ -75,18 +78,22 @@ cert_only rows (ByRequest (Writes document.Cert)) h = refl
 cert_only rows (ByFormula modulus Compile) h = absurd (other (codes "cert") rows (ByFormula modulus Compile) refl h)
 cert_only rows b h = absurd (other (codes "cert") rows b refl h)
 
-pub sample_only : (rows : List Row) (b : Command) → Means (codes "sample") rows b → (seed : ℕ) × (schedule : Plan) × (b ≡ ByRequest (Writes (document.Sample seed schedule))) × seed_word (text_of option.Seed rows) seed × schedule_word (text_of option.Schedule rows) schedule
+pub sample_only : (rows : List Row) (b : Command) → Means (codes "sample") rows b →
+    (seed : ℕ) × (schedule : Plan) × (b ≡ ByRequest (Writes (document.Sample seed schedule)))
+    × seed_word (text_of option.Seed rows) seed × schedule_word (text_of option.Schedule rows) schedule
 sample_only rows (ByRequest (Writes (document.Sample seed schedule))) h = (seed, schedule, refl, h.1, h.2)
 sample_only rows (ByFormula modulus Compile) h = absurd (other (codes "sample") rows (ByFormula modulus Compile) refl h)
 sample_only rows b h = absurd (other (codes "sample") rows b refl h)
 
-pub run_only : (rows : List Row) (b : Command) → Means (codes "run") rows b → (order : Order) × (b ≡ ByRequest (Runs order)) × AsksOrder rows order
+pub run_only : (rows : List Row) (b : Command) → Means (codes "run") rows b →
+    (order : Order) × (b ≡ ByRequest (Runs order)) × AsksOrder rows order
 run_only rows (ByRequest (Runs order)) h = (order, refl, h.1)
 run_only rows (ByRequest (Writes document.Plan)) h = absurd (other (codes "run") rows (ByRequest (Writes document.Plan)) refl h)
 run_only rows (ByFormula modulus Compile) h = absurd (other (codes "run") rows (ByFormula modulus Compile) refl h)
 run_only rows b h = absurd (other (codes "run") rows b refl h)
 
-pub trace_only : (rows : List Row) (b : Command) → Means (codes "trace") rows b → (order : Order) × (b ≡ ByRequest (Traces order)) × AsksOrder rows order
+pub trace_only : (rows : List Row) (b : Command) → Means (codes "trace") rows b →
+    (order : Order) × (b ≡ ByRequest (Traces order)) × AsksOrder rows order
 trace_only rows (ByRequest (Traces order)) h = (order, refl, h.1)
 trace_only rows (ByRequest (Writes document.Plan)) h = absurd (other (codes "trace") rows (ByRequest (Writes document.Plan)) refl h)
 trace_only rows (ByFormula modulus Compile) h = absurd (other (codes "trace") rows (ByFormula modulus Compile) refl h)
@@ -98,23 +105,29 @@ check_only rows (ByRequest (Writes document.Plan)) h = absurd (other (codes "che
 check_only rows (ByFormula modulus Compile) h = absurd (other (codes "check") rows (ByFormula modulus Compile) refl h)
 check_only rows b h = absurd (other (codes "check") rows b refl h)
 
-pub compile_only : (rows : List Row) (b : Command) → Means (codes "compile") rows b → (modulus : ℕ) × (b ≡ ByFormula modulus Compile) × modulus_word (text_of option.Modulus rows) modulus
+pub compile_only : (rows : List Row) (b : Command) → Means (codes "compile") rows b →
+    (modulus : ℕ) × (b ≡ ByFormula modulus Compile) × modulus_word (text_of option.Modulus rows) modulus
 compile_only rows (ByFormula modulus Compile) h = (modulus, refl, h.1)
 compile_only rows (ByRequest (Writes document.Plan)) h = absurd (other (codes "compile") rows (ByRequest (Writes document.Plan)) refl h)
 compile_only rows b h = absurd (other (codes "compile") rows b refl h)
 
-pub apply_only : (rows : List Row) (b : Command) → Means (codes "apply") rows b → (modulus : ℕ) × (schedule : Plan) × (b ≡ ByFormula modulus (Apply schedule)) × modulus_word (text_of option.Modulus rows) modulus × schedule_word (text_of option.Schedule rows) schedule
+pub apply_only : (rows : List Row) (b : Command) → Means (codes "apply") rows b →
+    (modulus : ℕ) × (schedule : Plan) × (b ≡ ByFormula modulus (Apply schedule))
+    × modulus_word (text_of option.Modulus rows) modulus × schedule_word (text_of option.Schedule rows) schedule
 apply_only rows (ByFormula modulus (Apply schedule)) h = (modulus, schedule, refl, h.1, h.2)
 apply_only rows (ByRequest (Writes document.Plan)) h = absurd (other (codes "apply") rows (ByRequest (Writes document.Plan)) refl h)
 apply_only rows b h = absurd (other (codes "apply") rows b refl h)
 
-pub exec_only : (rows : List Row) (b : Command) → Means (codes "exec") rows b → (schedule : Plan) × (b ≡ ByListing schedule) × schedule_word (text_of option.Schedule rows) schedule
+pub exec_only : (rows : List Row) (b : Command) → Means (codes "exec") rows b →
+    (schedule : Plan) × (b ≡ ByListing schedule) × schedule_word (text_of option.Schedule rows) schedule
 exec_only rows (ByListing schedule) h = (schedule, refl, h.1)
 exec_only rows (ByRequest (Writes document.Plan)) h = absurd (other (codes "exec") rows (ByRequest (Writes document.Plan)) refl h)
 exec_only rows (ByFormula modulus Compile) h = absurd (other (codes "exec") rows (ByFormula modulus Compile) refl h)
 exec_only rows b h = absurd (other (codes "exec") rows b refl h)
 
-pub convolve_only : (rows : List Row) (b : Command) → Means (codes "convolve") rows b → (schedule : Plan) × (as_code : Bool) × (b ≡ ByList schedule as_code) × schedule_word (text_of option.Schedule rows) schedule × (as_code ≡ is_given option.Code rows)
+pub convolve_only : (rows : List Row) (b : Command) → Means (codes "convolve") rows b →
+    (schedule : Plan) × (as_code : Bool) × (b ≡ ByList schedule as_code)
+    × schedule_word (text_of option.Schedule rows) schedule × (as_code ≡ is_given option.Code rows)
 convolve_only rows (ByList schedule as_code) h = (schedule, as_code, refl, h.1, h.2)
 convolve_only rows (ByRequest (Writes document.Plan)) h = absurd (other (codes "convolve") rows (ByRequest (Writes document.Plan)) refl h)
 convolve_only rows (ByFormula modulus Compile) h = absurd (other (codes "convolve") rows (ByFormula modulus Compile) refl h)

@@ -8,9 +8,11 @@ use Rattle.spiral_words.specs.declared.command.Order.{Order}
 use Rattle.spiral_words.specs.declared.command.Order.TheVariants as order
 use Rattle.spiral_words.specs.CommandLine.{commands, text_of}
 use Rattle.spiral_words.specs.Asked.{SpellsOrder}
-use Rattle.spiral_words.specs.Refused.{AsksNoOrder, HasOtherText, IsNoModulus, IsNoOrder, IsNoSchedule, IsNoSeed, IsOther, MeansNothing}
+use Rattle.spiral_words.specs.Refused.{AsksNoOrder, HasOtherText, IsNoModulus, IsNoOrder, IsNoSchedule, IsNoSeed}
+use Rattle.spiral_words.specs.Refused.{IsOther, MeansNothing}
 use Rattle.spiral_words.proofs.Each.{Each, any_none, any_split, both}
-use Rattle.spiral_words.proofs.Meanings.{sample_only, run_only, trace_only, compile_only, apply_only, exec_only, convolve_only}
+use Rattle.spiral_words.proofs.Meanings.{sample_only, run_only, trace_only, compile_only, apply_only, exec_only}
+use Rattle.spiral_words.proofs.Meanings.{convolve_only}
 
 no_order : (buffers : Bool) (word : Text) (order : Order) → IsNoOrder buffers word → SpellsOrder buffers word order → ⊥
 no_order false word (order.Turns schedule) none spells = none schedule spells
@@ -55,10 +57,12 @@ Stops rows row = Any (IsOther row.1 rows) row.1 → MeansNothing row.0 rows
 bare : (rows : List Row) (name : Text) → Any (IsOther [] rows) [] → MeansNothing name rows
 bare rows name h = absurd (any_none (IsOther [] rows) h)
 
-one : (options : List OptionName) (rows : List Row) (a : OptionName) (P : Type 0) → (IsOther options rows a → P) → Any (IsOther options rows) (a ∷ []) → P
+one : (options : List OptionName) (rows : List Row) (a : OptionName) (P : Type 0) → (IsOther options rows a → P) →
+    Any (IsOther options rows) (a ∷ []) → P
 one options rows a P left h = elim (any_split (IsOther options rows) a [] h) [ inl here ↦ left here | inr none ↦ absurd (any_none (IsOther options rows) none) ]
 
-two : (options : List OptionName) (rows : List Row) (a b : OptionName) (P : Type 0) → (IsOther options rows a → P) → (IsOther options rows b → P) → Any (IsOther options rows) (a ∷ b ∷ []) → P
+two : (options : List OptionName) (rows : List Row) (a b : OptionName) (P : Type 0) → (IsOther options rows a → P) →
+    (IsOther options rows b → P) → Any (IsOther options rows) (a ∷ b ∷ []) → P
 two options rows a b P left right h = elim (any_split (IsOther options rows) a (b ∷ []) h) [ inl here ↦ left here | inr later ↦ one options rows b P right later ]
 
 stops : (rows : List Row) → Each (Stops rows) commands

@@ -1,5 +1,6 @@
 -- Words ask for one command.
-use Rattle.std.proofs.Common.{◌≡◌, ℕ, ◌^◌, List, [], ◌∷◌, ◌++◌, Bool, true, false, Result, Ok, Err, Some, refl, sym, ap, ap₂, subst, ◌∙◌, codes, arith, inl, inr}
+use Rattle.std.proofs.Common.{◌≡◌, ℕ, ◌^◌, List, [], ◌∷◌, ◌++◌, Bool, true, false, Result, Ok, Err, Some, refl, sym, ap}
+use Rattle.std.proofs.Common.{ap₂, subst, ◌∙◌, codes, arith, inl, inr}
 use Rattle.clap.specs.Words.{Row, Text}
 use Rattle.grammar.specs.Grammar.{Judges, number, one_of}
 use Rattle.icode.specs.declared.event.Event.{Event}
@@ -19,10 +20,12 @@ use Rattle.spiral_words.specs.declared.command.Order.{Order}
 use Rattle.spiral_words.specs.declared.command.Order.TheVariants as order
 use Rattle.spiral_words.specs.CommandLine.{is_given, text_of}
 use Rattle.spiral_words.specs.Asked.{AsksOrder, IsAsked, Means, SpellsOrder, modulus_word, seed_word}
-use Rattle.spiral_words.proofs.Meanings.{plan_only, formula_only, code_only, c_only, cert_only, check_only, sample_only, run_only, trace_only, compile_only, apply_only, exec_only, convolve_only}
+use Rattle.spiral_words.proofs.Meanings.{plan_only, formula_only, code_only, c_only, cert_only, check_only, sample_only}
+use Rattle.spiral_words.proofs.Meanings.{run_only, trace_only, compile_only, apply_only, exec_only, convolve_only}
 
 -- a text spells one value
-spelt_once : {S A : Type 0} (L : List S → A → Type 0) (text : List S) (r : Result A ℕ) (a b : A) → Judges L text r → L text a → L text b → a ≡ b
+spelt_once : {S A : Type 0} (L : List S → A → Type 0) (text : List S) (r : Result A ℕ) (a b : A) → Judges L text r →
+    L text a → L text b → a ≡ b
 spelt_once L text (Ok value) a b j p q = j.1 a p ∙ sym (j.1 b q)
 spelt_once L text (Err left) a b j p q = absurd (j.1.nothing a p)
 
@@ -50,18 +53,22 @@ mix_letter word events l = ap (λ (w : List ℕ). first_letter w) (l.whole ∙ a
 other_letter : (front rest w : List ℕ) → front ≡ w → first_letter (front ++ rest) ≡ 109 → first_letter (w ++ rest) ≡ 109
 other_letter front rest w is e = subst (λ (u : List ℕ). first_letter (u ++ rest) ≡ 109) is e
 
-form_letter : {F : Type 0} (front rest : List ℕ) (a b c d form : F) → one_of ((codes "seq", a) ∷ (codes "rr:", b) ∷ (codes "turns:", c) ∷ (codes "seed:", d) ∷ []) front form → first_letter (front ++ rest) ≡ 109 → ⊥
+form_letter : {F : Type 0} (front rest : List ℕ) (a b c d form : F) →
+    one_of ((codes "seq", a) ∷ (codes "rr:", b) ∷ (codes "turns:", c) ∷ (codes "seed:", d) ∷ []) front form →
+    first_letter (front ++ rest) ≡ 109 → ⊥
 form_letter front rest a b c d form (inl p) e = absurd (omega (arith, other_letter front rest (codes "seq") p.0 e))
 form_letter front rest a b c d form (inr (inl p)) e = absurd (omega (arith, other_letter front rest (codes "rr:") p.0 e))
 form_letter front rest a b c d form (inr (inr (inl p))) e = absurd (omega (arith, other_letter front rest (codes "turns:") p.0 e))
 form_letter front rest a b c d form (inr (inr (inr (inl p)))) e = absurd (omega (arith, other_letter front rest (codes "seed:") p.0 e))
 form_letter front rest a b c d form (inr (inr (inr (inr p)))) e = p
 
-pub not_both : (word : List ℕ) (schedule : Plan) (events : List Event) → schedule_word word schedule → mix_word word events → ⊥
+pub not_both : (word : List ℕ) (schedule : Plan) (events : List Event) → schedule_word word schedule →
+    mix_word word events → ⊥
 not_both word schedule events p q =
     form_letter p.front p.rest _ _ _ _ p.spelt p.begins (ap (λ (w : List ℕ). first_letter w) (sym p.whole) ∙ mix_letter word events q)
 
-order_once : (buffers : Bool) (word : Text) (a b : Order) → SpellsOrder buffers word a → SpellsOrder buffers word b → a ≡ b
+order_once : (buffers : Bool) (word : Text) (a b : Order) → SpellsOrder buffers word a → SpellsOrder buffers word b →
+    a ≡ b
 order_once false word (order.Turns s) (order.Turns t) p q = ap order.Turns (schedule_once word s t p q)
 order_once false word (order.Turns s) (order.Buffered t) p q = absurd q
 order_once false word (order.Turns s) (order.Mixed t) p q = absurd q

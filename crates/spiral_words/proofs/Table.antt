@@ -12,14 +12,16 @@ abbrev pub command_app : Text → List OptionName → App
 command_app name options = record { top = command_shape (name, options); subs = [] }
 
 pub one_option : (name : Text) (options : List OptionName) (i : ℕ) (option : OptionName) → i < length options
-    → with_rule (command_app name (take i options)) (option_rule (get_or options i option)) ≡ command_app name (take (i + 1) options)
+    → with_rule (command_app name (take i options)) (option_rule (get_or options i option))
+    ≡ command_app name (take (i + 1) options)
 one_option name options i option inside =
     let more : map option_rule (take (i + 1) options) ≡ map option_rule (take i options) ++ option_rule (get_or options i option) ∷ [] =
     ap (map option_rule) (take_more options i option inside) ∙ map-append option_rule (take i options) _ in
     rw more refl
 
 -- one more row, which texts are
-pub one_command : {A : Type 0} (texts : A → Text × List OptionName) (rows : List A) (i : ℕ) (row : A) (app : App) (shape : Shape)
+pub one_command : {A : Type 0} (texts : A → Text × List OptionName) (rows : List A) (i : ℕ) (row : A) (app : App)
+    (shape : Shape)
     → shape ≡ command_shape (texts (get_or rows i row)) → app ≡ app_with (take i (map texts rows)) → i < length rows
     → with_subcommand app shape ≡ app_with (take (i + 1) (map texts rows))
 one_command texts rows i row app shape is made inside =

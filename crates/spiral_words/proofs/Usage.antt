@@ -1,5 +1,6 @@
 -- Where clap takes words, they name a command of the table.
-use Rattle.std.proofs.Common.{◌≡◌, List, [], ◌∷◌, Bool, true, false, Option, Some, None, is_some, option_map, find, refl, subst, ◌∙◌, arith}
+use Rattle.std.proofs.Common.{◌≡◌, List, [], ◌∷◌, Bool, true, false, Option, Some, None, is_some, option_map, find}
+use Rattle.std.proofs.Common.{refl, subst, ◌∙◌, arith}
 use Rattle.std.specs.List.{Any}
 use Rattle.std.proofs.lemmas.Bool.Decides.{nat_tests}
 use Rattle.clap.specs.Words.{App, Shape, Row, Text, Kinds, built, fault_of, subcommand_of}
@@ -19,7 +20,8 @@ last_of : (a b : Kinds) → or_else a b ≡ [] → b ≡ []
 last_of [] b h = h
 last_of (k ∷ ks) b h = absurd (cc)
 
-wants_command : (s : Shape) (rows : List Row) (b : Bool) → s.subcommand_required ≡ true → s.arg_required_else_help ≡ false → check_fault s rows b ≡ [] → b ≡ true
+wants_command : (s : Shape) (rows : List Row) (b : Bool) → s.subcommand_required ≡ true →
+    s.arg_required_else_help ≡ false → check_fault s rows b ≡ [] → b ≡ true
 wants_command s rows true required help h = refl
 wants_command s rows false required help h = absurd (let e = rw (required, help) at h in cc)
 
@@ -94,11 +96,13 @@ known = (
 some_first : (a b : Text × List Row) → Some a ≡ Some b → a.0 ≡ b.0
 some_first a b e = cc
 
-entered_known : (stop : Option (Text × List Text)) (name : Text) (rows : List Row) → entered (built spiral_app) stop ≡ Some (name, rows) → IsKnown name
+entered_known : (stop : Option (Text × List Text)) (name : Text) (rows : List Row) →
+    entered (built spiral_app) stop ≡ Some (name, rows) → IsKnown name
 entered_known None name rows is = absurd (cc)
 entered_known (Some p) name rows is = at (find (λ s. answers_to p.0 (label_of s)) (built spiral_app).subs) refl is
   where
-    at : (f : Option Shape) → find (λ s. answers_to p.0 (label_of s)) (built spiral_app).subs ≡ f → option_map (λ s. rows_at s p.1) f ≡ Some (name, rows) → IsKnown name
+    at : (f : Option Shape) → find (λ s. answers_to p.0 (label_of s)) (built spiral_app).subs ≡ f →
+        option_map (λ s. rows_at s p.1) f ≡ Some (name, rows) → IsKnown name
     at None found is = absurd (cc)
     at (Some s) found is =
         let same : s.name ≡ name = some_first (rows_at s p.1) (name, rows) is in
@@ -109,7 +113,8 @@ pub takes_known : (words : List Text) → is_empty (fault_of spiral_app words) �
     → (name : Text) × (rows : List Row) × (found_in words ≡ Some (name, rows)) × IsKnown name
 takes_known words taken = at (subcommand_of spiral_app words) refl (names_one words (none_of (fault_of spiral_app words) taken))
   where
-    at : (f : Option (Text × List Row)) → subcommand_of spiral_app words ≡ f → is_some f ≡ true → (name : Text) × (rows : List Row) × (found_in words ≡ Some (name, rows)) × IsKnown name
+    at : (f : Option (Text × List Row)) → subcommand_of spiral_app words ≡ f → is_some f ≡ true →
+        (name : Text) × (rows : List Row) × (found_in words ≡ Some (name, rows)) × IsKnown name
     at None is some = absurd (cc)
     at (Some p) is some =
         let stop = stop_after (built spiral_app).top.rules (names_of (built spiral_app)) (argument_words spiral_app words) in

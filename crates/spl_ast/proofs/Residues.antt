@@ -16,7 +16,8 @@ unfolding power_mod
 power_of_reduced m w e = pow-mod w e m
 
 -- a root counts modulo m
-pub transform_of_reduced : (kind : Kind) (m n w : ℕ) (x : List ℕ) → transform kind m n (w % m) x ≡ transform kind m n w x
+pub transform_of_reduced : (kind : Kind) (m n w : ℕ) (x : List ℕ) →
+    transform kind m n (w % m) x ≡ transform kind m n w x
 transform_of_reduced Dft m n w x =
     matrix_times-same m n (entry_of Dft m n (w % m)) (entry_of Dft m n w) x (λ k l _ _. ap (λ v. v % m) (power_of_reduced m w (k * l)))
 transform_of_reduced Wht m n w x = refl

@@ -1,5 +1,6 @@
 -- A formula takes residues to residues.
-use Rattle.std.proofs.Common.{◌≡◌, ℕ, ◌+◌, ◌-◌, ◌*◌, ◌/◌, ◌%◌, ◌<◌, ◌≤◌, List, ◌++◌, take, drop, sym, subst, arith, length, ⊎_elim, length-append, length-drop}
+use Rattle.std.proofs.Common.{◌≡◌, ℕ, ◌+◌, ◌-◌, ◌*◌, ◌/◌, ◌%◌, ◌<◌, ◌≤◌, List, ◌++◌, take, drop, sym, subst, arith}
+use Rattle.std.proofs.Common.{length, ⊎_elim, length-append, length-drop}
 use Rattle.std.specs.Prelude.{slice_index}
 use Rattle.std.proofs.lemmas.List.{length-take-le, get_or-take, get_or-drop, get_or_append_left, get_or-append_right}
 use Rattle.std.proofs.lemmas.List.Elements.{All-get_or, All-from_get_or}
@@ -8,7 +9,9 @@ use Rattle.std.proofs.lemmas.Nat.{mod_below, div_below}
 use Rattle.operators.specs.Operator.{column, block, stride}
 use Rattle.operators.specs.Sum.{list_below}
 use Rattle.operators.proofs.Lists.{length-list_below, at-list_below, place_below, factor_positive}
-use Rattle.spl_ast.specs.Formula.{Formula, Identity, Fourier, Hadamard, Twiddles, Diagonal, Stride, Permutation, GoodThomasIn, GoodThomasOut, Product, TensorLeft, TensorRight, DirectSum, Pending, size_of}
+use Rattle.spl_ast.specs.Formula.{Formula, Identity, Fourier, Hadamard, Twiddles, Diagonal, Stride, Permutation}
+use Rattle.spl_ast.specs.Formula.{GoodThomasIn, GoodThomasOut, Product, TensorLeft, TensorRight, DirectSum, Pending}
+use Rattle.spl_ast.specs.Formula.{size_of}
 use Rattle.spl_ast.specs.Meaning.{apply, IsVector}
 use Rattle.spl_ast.specs.Shape.{IsShaped, IsSize}
 
@@ -100,7 +103,8 @@ stride_place n r i pos e h =
     let row : i % s < s = mod_below i s s_pos in
     omega (arith, place_below (i % s) (i / s) s r row col)
 
-pub apply_vector : (m : ℕ) (f : Formula) (x : List ℕ) → IsShaped f → IsVector m (size_of f) x → IsVector m (size_of f) (apply m f x)
+pub apply_vector : (m : ℕ) (f : Formula) (x : List ℕ) → IsShaped f → IsVector m (size_of f) x →
+    IsVector m (size_of f) (apply m f x)
 apply_vector m (Identity n) x s v = v
 apply_vector m (Fourier n w) x s v = list_vector m n _ (λ i h. mod_below _ m (positive m n x v h))
 apply_vector m (Hadamard n) x s v = list_vector m n _ (λ i h. mod_below _ m (positive m n x v h))

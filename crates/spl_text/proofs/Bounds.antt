@@ -1,5 +1,6 @@
 -- What is read of numbers is within their limits.
-use Rattle.std.proofs.Common.{◌≡◌, ℕ, ◌^◌, ◌<◌, Result, Ok, Err, subst, arith, List, [], ◌∷◌, ◌++◌, All, codes, sym, ap, refl, length}
+use Rattle.std.proofs.Common.{◌≡◌, ℕ, ◌^◌, ◌<◌, Result, Ok, Err, subst, arith, List, [], ◌∷◌, ◌++◌, All, codes, sym, ap}
+use Rattle.std.proofs.Common.{refl, length}
 use Rattle.std.proofs.lemmas.Grind.{common_steps}
 use Rattle.grammar.proofs.Loop.{in_front}
 use Rattle.grammar.specs.Grammar.{number, positive, named_number}
@@ -12,7 +13,9 @@ use Rattle.grammar.proofs.Positive.{positive_reader}
 use Rattle.spl_ast.specs.Shape.{IsSize, IsRingValue}
 
 -- what a reader answers is spelt by some text
-pub read_spells : {A : Type 0} (C : List ℕ → Type 0) (L : List ℕ → A → Type 0) (read : Place ℕ → Result (A × Place ℕ) ℕ) → IsReader C L read → (place : Place ℕ) (x : A × Place ℕ) → read place ≡ Ok x → (text : List ℕ) × L text x.0
+pub read_spells : {A : Type 0} (C : List ℕ → Type 0) (L : List ℕ → A → Type 0)
+    (read : Place ℕ → Result (A × Place ℕ) ℕ) → IsReader C L read → (place : Place ℕ) (x : A × Place ℕ) →
+    read place ≡ Ok x → (text : List ℕ) × L text x.0
 read_spells C L read reader place x e =
     let took = subst (λ r. Answers C L place r) e (reader.each place) in (took.text, took.spelt)
 
@@ -26,7 +29,8 @@ value_bound place next v e =
     let found = read_spells NoDigit (number (2 ^ 62)) (number_at (2 ^ 62)) (number_reader (2 ^ 62) (omega arith) (omega arith)) place (v, next) e in
     found.1.0
 
-pub named_value_bound : (place next : Place ℕ) (v : ℕ) → named_number_at (codes ",") (2 ^ 62) place ≡ Ok (v, next) → IsRingValue v
+pub named_value_bound : (place next : Place ℕ) (v : ℕ) → named_number_at (codes ",") (2 ^ 62) place ≡ Ok (v, next) →
+    IsRingValue v
 named_value_bound place next v e =
     let found = read_spells NoDigit (named_number (codes ",") (2 ^ 62)) (named_number_at (codes ",") (2 ^ 62)) (named_number_reader (codes ",") (2 ^ 62) (omega arith) (omega arith)) place (v, next) e in
     found.1.ends.0
@@ -39,23 +43,29 @@ all_push xs v h k = grind (arith, common_steps)
 same_pair : (x y : List ℕ × Place ℕ) → (let r : Result (List ℕ × Place ℕ) ℕ = Ok x in r ≡ Ok y) → x ≡ y
 same_pair x y h = cc
 
-in_front_ok : (first : ℕ) (r : Result (List ℕ × Place ℕ) ℕ) (v : List ℕ) (next : Place ℕ) → in_front (first ∷ []) r ≡ Ok (v, next) → (others : List ℕ) × (r ≡ Ok (others, next)) × (v ≡ first ∷ others)
+in_front_ok : (first : ℕ) (r : Result (List ℕ × Place ℕ) ℕ) (v : List ℕ) (next : Place ℕ) →
+    in_front (first ∷ []) r ≡ Ok (v, next) → (others : List ℕ) × (r ≡ Ok (others, next)) × (v ≡ first ∷ others)
 in_front_ok first (Ok x) v next e =
     let both = same_pair (first ∷ x.0, x.1) (v, next) e in (x.0, ap (λ q. Ok (x.0, q.1)) both, sym (ap (λ q. q.0) both))
 in_front_ok first (Err left) v next e = absurd cc
 
 -- numbers that were read behind a first one, and the parenthesis behind them
-pub values_read : (place middle end : Place ℕ) (first : ℕ) (v : List ℕ) → value_at place ≡ Ok (first, middle) → (next : Place ℕ) →
-    in_front (first ∷ []) (all_at (named_number_at (codes ",") (2 ^ 62)) middle) ≡ Ok (v, next) → close_at next ≡ Ok (tt, end) → values_at place ≡ Ok (v, end)
+pub values_read : (place middle end : Place ℕ) (first : ℕ) (v : List ℕ) → value_at place ≡ Ok (first, middle) →
+    (next : Place ℕ) →
+    in_front (first ∷ []) (all_at (named_number_at (codes ",") (2 ^ 62)) middle) ≡ Ok (v, next) →
+    close_at next ≡ Ok (tt, end) → values_at place ≡ Ok (v, end)
 values_read place middle end first v e next h k =
     let front = in_front_ok first (all_at (named_number_at (codes ",") (2 ^ 62)) middle) v next h in
     rw (e, front.1, k) (ap (λ w. Ok (w, end)) (sym front.2))
 
 -- or no parenthesis
-pub values_stuck : (place middle : Place ℕ) (first : ℕ) (v : List ℕ) (left : ℕ) → value_at place ≡ Ok (first, middle) → (next : Place ℕ) →
-    in_front (first ∷ []) (all_at (named_number_at (codes ",") (2 ^ 62)) middle) ≡ Ok (v, next) → close_at next ≡ Err left → values_at place ≡ Err left
+pub values_stuck : (place middle : Place ℕ) (first : ℕ) (v : List ℕ) (left : ℕ) → value_at place ≡ Ok (first, middle) →
+    (next : Place ℕ) →
+    in_front (first ∷ []) (all_at (named_number_at (codes ",") (2 ^ 62)) middle) ≡ Ok (v, next) →
+    close_at next ≡ Err left → values_at place ≡ Err left
 values_stuck place middle first v left e next h k =
     let front = in_front_ok first (all_at (named_number_at (codes ",") (2 ^ 62)) middle) v next h in rw (e, front.1, k) refl
 
-pub some_values : (first : ℕ) (r : Result (List ℕ × Place ℕ) ℕ) (v : List ℕ) (next : Place ℕ) → in_front (first ∷ []) r ≡ Ok (v, next) → 0 < length v
+pub some_values : (first : ℕ) (r : Result (List ℕ × Place ℕ) ℕ) (v : List ℕ) (next : Place ℕ) →
+    in_front (first ∷ []) r ≡ Ok (v, next) → 0 < length v
 some_values first r v next h = let front = in_front_ok first r v next h in subst (λ w. 0 < length w) (sym front.2) (omega arith)

@@ -1,5 +1,7 @@
 -- Where a parenthesis too many stands.
-use Rattle.std.proofs.Common.{◌≡◌, ℕ, zero, suc, ◌+◌, ◌⊎◌, inl, inr, List, [], ◌∷◌, ◌++◌, length, codes, decimal, Result, Ok, Err, Option, Some, None, refl, sym, ap, subst, ◌∙◌, append_assoc, arith, ⊎_elim}
+use Rattle.std.proofs.Common.{◌≡◌, ℕ, zero, suc, ◌+◌, ◌⊎◌, inl, inr, List, [], ◌∷◌, ◌++◌, length, codes, decimal}
+use Rattle.std.proofs.Common.{Result, Ok, Err, Option, Some, None, refl, sym, ap, subst, ◌∙◌, append_assoc, arith}
+use Rattle.std.proofs.Common.{⊎_elim}
 use Rattle.std.specs.Option.{option_map}
 use Rattle.grammar.specs.Grammar.{one_of, positive, word, Begins}
 use Rattle.grammar.specs.Reading.{Place, start, ended, pure_at, one_of_at}
@@ -8,18 +10,23 @@ use Rattle.grammar.proofs.Numbers.{NoDigit}
 use Rattle.grammar.proofs.Parts.{Anything}
 use Rattle.grammar.proofs.Places as places
 use Rattle.grammar.proofs.Stops.{Answers}
-use Rattle.spl_ast.specs.Formula.{Formula, Identity, Fourier, Hadamard, Twiddles, Diagonal, Stride, Permutation, GoodThomasIn, GoodThomasOut, Product, TensorLeft, TensorRight, DirectSum}
+use Rattle.spl_ast.specs.Formula.{Formula, Identity, Fourier, Hadamard, Twiddles, Diagonal, Stride, Permutation}
+use Rattle.spl_ast.specs.Formula.{GoodThomasIn, GoodThomasOut, Product, TensorLeft, TensorRight, DirectSum}
 use Rattle.spl_text.specs.declared.reading.Head.{Head}
 use Rattle.spl_text.specs.declared.reading.Head.TheVariants as head
 use Rattle.spl_text.specs.Answer.{opened, closed, IsShallow}
-use Rattle.spl_text.specs.Arguments.{factor_at, comma_at, close_at, one_size_at, two_sizes_at, size_value_at, sizes_value_at, values_at}
+use Rattle.spl_text.specs.Arguments.{factor_at, comma_at, close_at, one_size_at, two_sizes_at, size_value_at}
+use Rattle.spl_text.specs.Arguments.{sizes_value_at, values_at}
 use Rattle.spl_text.specs.Fault.{TextFault, TooDeep, Shape, refusal, shape_fault}
-use Rattle.spl_text.specs.Reading.{heads, plain, made_at, arguments_by, two_formulas_by, tensor_left_by, tensor_right_by, too_deep, formula_at, line_at, ended_formula, all_of, whole_line}
+use Rattle.spl_text.specs.Reading.{heads, plain, made_at, arguments_by, two_formulas_by, tensor_left_by}
+use Rattle.spl_text.specs.Reading.{tensor_right_by, too_deep, formula_at, line_at, ended_formula, all_of, whole_line}
 use Rattle.spl_text.specs.Spelling.{spells, spelling, IsFactor, HasSpelling}
 use Rattle.spl_text.proofs.Heads.{head_word, word_of_head, from_heads}
 use Rattle.spl_text.proofs.Nested.{formula_nesting}
-use Rattle.spl_text.proofs.Parentheses.{Opens, then_balanced, one_deeper, balanced, size_balanced, spelling_balanced, shallow_by_count, shallow_both, front_shallow, within_shallow, size_shallow}
-use Rattle.spl_text.proofs.Readers.{heads_reader, factors, commas, one, one_spelt, one_factor, some_arguments, Exposes, formula_reader}
+use Rattle.spl_text.proofs.Parentheses.{Opens, then_balanced, one_deeper, balanced, size_balanced, spelling_balanced}
+use Rattle.spl_text.proofs.Parentheses.{shallow_by_count, shallow_both, front_shallow, within_shallow, size_shallow}
+use Rattle.spl_text.proofs.Readers.{heads_reader, factors, commas, one, one_spelt, one_factor, some_arguments, Exposes}
+use Rattle.spl_text.proofs.Readers.{formula_reader}
 
 -- ---- a parenthesis so deep
 
@@ -34,8 +41,10 @@ pub record IsDeep (depth : ℕ) (text : List ℕ) (left : ℕ) : Type 0 where
   pub shallow : IsShallow depth before
 
 -- a part inside another one
-begins_inside : (front back text : List ℕ) (make : Formula → Formula) → ((g : Formula) → HasSpelling g → HasSpelling (make g))
-    → ((g : Formula) → spelling (make g) ≡ front ++ (spelling g ++ back)) → Begins spells text → Begins spells (front ++ text)
+begins_inside : (front back text : List ℕ) (make : Formula → Formula) →
+    ((g : Formula) → HasSpelling g → HasSpelling (make g))
+    → ((g : Formula) → spelling (make g) ≡ front ++ (spelling g ++ back)) → Begins spells text →
+    Begins spells (front ++ text)
 unfolding spells
 begins_inside front back text make has spell b = (
   b.0 ++ back,
@@ -46,8 +55,10 @@ begins_inside front back text make has spell b = (
   ),
 )
 
-inside : (depth left : ℕ) (front back text rest : List ℕ) (make : Formula → Formula) → ((g : Formula) → HasSpelling g → HasSpelling (make g))
-    → ((g : Formula) → spelling (make g) ≡ front ++ (spelling g ++ back)) → Opens 1 front → IsShallow (suc depth) front → text ≡ front ++ rest → IsDeep depth rest left → IsDeep (suc depth) text left
+inside : (depth left : ℕ) (front back text rest : List ℕ) (make : Formula → Formula) →
+    ((g : Formula) → HasSpelling g → HasSpelling (make g))
+    → ((g : Formula) → spelling (make g) ≡ front ++ (spelling g ++ back)) → Opens 1 front →
+    IsShallow (suc depth) front → text ≡ front ++ rest → IsDeep depth rest left → IsDeep (suc depth) text left
 inside depth left front back text rest make has spell one_more shallow e d = record {
   before = front ++ d.before;
   after = d.after;
@@ -69,22 +80,26 @@ ok_not_err x s e = cc
 lost_not_fault : (left : ℕ) (fault : TextFault) → Lost left ≡ Fault fault → ⊥
 lost_not_fault left fault e = cc
 
-stops : {A B : Type 0} (r : Result (A × Place ℕ) (Stop TextFault)) (next : A → Place ℕ → Result (B × Place ℕ) (Stop TextFault)) (s : Stop TextFault) → and_go_on r next ≡ Err s
+stops : {A B : Type 0} (r : Result (A × Place ℕ) (Stop TextFault))
+    (next : A → Place ℕ → Result (B × Place ℕ) (Stop TextFault)) (s : Stop TextFault) → and_go_on r next ≡ Err s
     → (r ≡ Err s) ⊎ ((x : A × Place ℕ) × (r ≡ Ok x) × (next x.0 x.1 ≡ Err s))
 stops (Ok x) next s e = inr (x, refl, e)
 stops (Err t) next s e = inl (ap (λ u. Err u) (same_stop t s e))
 
 -- a step that meets no fault of its own
-goes_past : {A B : Type 0} (r : Result (A × Place ℕ) ℕ) (next : A → Place ℕ → Result (B × Place ℕ) (Stop TextFault)) (fault : TextFault) → and_go_on (spelling_only r) next ≡ Err (Fault fault)
+goes_past : {A B : Type 0} (r : Result (A × Place ℕ) ℕ) (next : A → Place ℕ → Result (B × Place ℕ) (Stop TextFault))
+    (fault : TextFault) → and_go_on (spelling_only r) next ≡ Err (Fault fault)
     → (x : A × Place ℕ) × (r ≡ Ok x) × (next x.0 x.1 ≡ Err (Fault fault))
 goes_past (Ok x) next fault e = (x, refl, e)
 goes_past (Err left) next fault e = absurd (lost_not_fault left fault (same_stop (Lost left) (Fault fault) e))
 
-made_never : {A : Type 0} (read : Place ℕ → Result (A × Place ℕ) ℕ) (make : A → Formula) (place : Place ℕ) (fault : TextFault) → made_at read make place ≡ Err (Fault fault) → ⊥
+made_never : {A : Type 0} (read : Place ℕ → Result (A × Place ℕ) ℕ) (make : A → Formula) (place : Place ℕ)
+    (fault : TextFault) → made_at read make place ≡ Err (Fault fault) → ⊥
 made_never read make place fault e =
     let g = goes_past (read place) (λ x. plain (pure_at (make x))) fault e in ok_not_err (make g.0.0, g.0.1) (Fault fault) g.2
 
-closing_never : (f : Formula) (place : Place ℕ) (fault : TextFault) → and_go_on (plain close_at place) (λ _. plain (pure_at f)) ≡ Err (Fault fault) → ⊥
+closing_never : (f : Formula) (place : Place ℕ) (fault : TextFault) →
+    and_go_on (plain close_at place) (λ _. plain (pure_at f)) ≡ Err (Fault fault) → ⊥
 closing_never f place fault e =
     let g = goes_past (close_at place) (λ _. plain (pure_at f)) fault e in ok_not_err (f, g.0.1) (Fault fault) g.2
 
@@ -92,18 +107,21 @@ comma_took : (place : Place ℕ) (x : Unit {0} × Place ℕ) → comma_at place 
 comma_took place x e =
     let took = subst (λ r. places.Answers Anything (word (codes ",")) place r) e (commas.each place) in took.whole ∙ ap (λ z. z ++ x.1.rest) took.spelt
 
-factor_took : (place : Place ℕ) (x : ℕ × Place ℕ) → factor_at place ≡ Ok x → IsFactor x.0 × (place.rest ≡ decimal x.0 ++ x.1.rest)
+factor_took : (place : Place ℕ) (x : ℕ × Place ℕ) → factor_at place ≡ Ok x →
+    IsFactor x.0 × (place.rest ≡ decimal x.0 ++ x.1.rest)
 factor_took place x e =
     let took = subst (λ r. places.Answers NoDigit (positive 1048577) place r) e (factors.each place) in
     ((took.spelt.0, took.spelt.1), took.whole ∙ ap (λ z. z ++ x.1.rest) took.spelt.2)
 
-head_took : (place : Place ℕ) (x : Head × Place ℕ) → one_of_at heads place ≡ Ok x → one_of heads (head_word x.0) x.0 × (place.rest ≡ head_word x.0 ++ x.1.rest)
+head_took : (place : Place ℕ) (x : Head × Place ℕ) → one_of_at heads place ≡ Ok x →
+    one_of heads (head_word x.0) x.0 × (place.rest ≡ head_word x.0 ++ x.1.rest)
 head_took place x e =
     let took = subst (λ r. places.Answers Anything (one_of heads) place r) e (heads_reader.each place) in
     let is = word_of_head took.text x.0 took.spelt in
     (subst (λ z. one_of heads z x.0) is took.spelt, took.whole ∙ ap (λ z. z ++ x.1.rest) is)
 
-formula_took : (depth : ℕ) (place : Place ℕ) (x : Formula × Place ℕ) → formula_at depth place ≡ Ok x → HasSpelling x.0 × (place.rest ≡ spelling x.0 ++ x.1.rest)
+formula_took : (depth : ℕ) (place : Place ℕ) (x : Formula × Place ℕ) → formula_at depth place ≡ Ok x →
+    HasSpelling x.0 × (place.rest ≡ spelling x.0 ++ x.1.rest)
 unfolding spells
 formula_took depth place x e =
     let took = subst (λ r. Answers Exposes Anything spells place r) e ((formula_reader depth).each place) in
@@ -114,10 +132,13 @@ formula_took depth place x e =
 two_opened : (w : List ℕ) (a : Formula) → Opens 1 w → HasSpelling a → Opens 1 (w ++ (spelling a ++ codes ","))
 two_opened w a o h = then_balanced 1 w (spelling a ++ codes ",") o (balanced (spelling a) (codes ",") (spelling_balanced a h) refl)
 
-module _ (depth : ℕ) (deep : (place : Place ℕ) (left : ℕ) → formula_at depth place ≡ Err (Fault (TooDeep left)) → IsDeep depth place.rest left) where
-  two_deep : (w : List ℕ) (make : Formula → Formula → Formula) → opened w ≡ 1 → closed w ≡ 0 → ((a b : Formula) → HasSpelling a → HasSpelling b → HasSpelling (make a b))
+module _ (depth : ℕ) (deep : (place : Place ℕ) (left : ℕ) → formula_at depth place ≡ Err (Fault (TooDeep left)) →
+    IsDeep depth place.rest left) where
+  two_deep : (w : List ℕ) (make : Formula → Formula → Formula) → opened w ≡ 1 → closed w ≡ 0 →
+      ((a b : Formula) → HasSpelling a → HasSpelling b → HasSpelling (make a b))
       → ((a b : Formula) → spelling (make a b) ≡ w ++ (spelling a ++ (codes "," ++ (spelling b ++ codes ")"))))
-      → (text : List ℕ) (place : Place ℕ) (left : ℕ) → text ≡ w ++ place.rest → two_formulas_by (formula_at depth) make place ≡ Err (Fault (TooDeep left)) → IsDeep (suc depth) text left
+      → (text : List ℕ) (place : Place ℕ) (left : ℕ) → text ≡ w ++ place.rest →
+      two_formulas_by (formula_at depth) make place ≡ Err (Fault (TooDeep left)) → IsDeep (suc depth) text left
   two_deep w make count none has spell text place left t e =
       let o : Opens 1 w = omega (arith, count, none) in
       ⊎_elim
@@ -138,7 +159,8 @@ module _ (depth : ℕ) (deep : (place : Place ℕ) (left : ℕ) → formula_at d
       (stops (formula_at depth c.0.1) _ (Fault (TooDeep left)) c.2))
       (stops (formula_at depth place) _ (Fault (TooDeep left)) e)
 
-  left_deep : (text : List ℕ) (place : Place ℕ) (left : ℕ) → text ≡ codes "LEFT(" ++ place.rest → tensor_left_by (formula_at depth) place ≡ Err (Fault (TooDeep left)) → IsDeep (suc depth) text left
+  left_deep : (text : List ℕ) (place : Place ℕ) (left : ℕ) → text ≡ codes "LEFT(" ++ place.rest →
+      tensor_left_by (formula_at depth) place ≡ Err (Fault (TooDeep left)) → IsDeep (suc depth) text left
   left_deep text place left t e =
       ⊎_elim
       (λ first. inside depth left (codes "LEFT(") (codes "," ++ (decimal 1 ++ codes ")")) text place.rest (λ g. TensorLeft g 1) (λ g h. (h, one_factor)) (λ g. refl) refl (shallow_by_count (suc depth) (codes "LEFT(") (omega arith)) t (deep place left first))
@@ -148,7 +170,8 @@ module _ (depth : ℕ) (deep : (place : Place ℕ) (left : ℕ) → formula_at d
       absurd (closing_never (TensorLeft a.0.0 k.0.0) k.0.1 (TooDeep left) k.2))
       (stops (formula_at depth place) _ (Fault (TooDeep left)) e)
 
-  right_deep : (text : List ℕ) (place : Place ℕ) (left : ℕ) → text ≡ codes "RIGHT(" ++ place.rest → tensor_right_by (formula_at depth) place ≡ Err (Fault (TooDeep left)) → IsDeep (suc depth) text left
+  right_deep : (text : List ℕ) (place : Place ℕ) (left : ℕ) → text ≡ codes "RIGHT(" ++ place.rest →
+      tensor_right_by (formula_at depth) place ≡ Err (Fault (TooDeep left)) → IsDeep (suc depth) text left
   right_deep text place left t e =
       let k = goes_past (factor_at place) _ (TooDeep left) e in
       let c = goes_past (comma_at k.0.1) _ (TooDeep left) k.2 in
@@ -165,7 +188,8 @@ module _ (depth : ℕ) (deep : (place : Place ℕ) (left : ℕ) → formula_at d
       (λ a. absurd (closing_never (TensorRight n a.0.0) a.0.1 (TooDeep left) a.2))
       (stops (formula_at depth c.0.1) _ (Fault (TooDeep left)) c.2)
 
-  arguments_deep : (h : Head) (text : List ℕ) (place : Place ℕ) (left : ℕ) → text ≡ head_word h ++ place.rest → arguments_by (formula_at depth) h place ≡ Err (Fault (TooDeep left)) → IsDeep (suc depth) text left
+  arguments_deep : (h : Head) (text : List ℕ) (place : Place ℕ) (left : ℕ) → text ≡ head_word h ++ place.rest →
+      arguments_by (formula_at depth) h place ≡ Err (Fault (TooDeep left)) → IsDeep (suc depth) text left
   arguments_deep head.I text place left t e = absurd (made_never one_size_at Identity place (TooDeep left) e)
   arguments_deep head.Dft text place left t e = absurd (made_never size_value_at (λ x. Fourier x.0 x.1) place (TooDeep left) e)
   arguments_deep head.Wht text place left t e = absurd (made_never one_size_at Hadamard place (TooDeep left) e)
@@ -199,7 +223,8 @@ opening head.Sum = (codes "SUM", refl, refl, refl)
 deep_left : (n left : ℕ) → Fault (TooDeep n) ≡ Fault (TooDeep left) → n ≡ left
 deep_left n left e = cc
 
-first_deep : (place : Place ℕ) (left : ℕ) (r : Result (Head × Place ℕ) ℕ) → one_of_at heads place ≡ r → too_deep r ≡ Err (Fault (TooDeep left)) → IsDeep 0 place.rest left
+first_deep : (place : Place ℕ) (left : ℕ) (r : Result (Head × Place ℕ) ℕ) → one_of_at heads place ≡ r →
+    too_deep r ≡ Err (Fault (TooDeep left)) → IsDeep 0 place.rest left
 first_deep place left (Err at) is e = absurd (lost_not_fault at (TooDeep left) (same_stop (Lost at) (Fault (TooDeep left)) e))
 first_deep place left (Ok x) is e =
     let took = head_took place x is in
@@ -224,15 +249,18 @@ same_fault : (s t : TextFault) → Fault s ≡ Fault t → s ≡ t
 same_fault s t e = cc
 
 -- a test of shapes finds no depth
-not_by_test : (o : Option (ℕ × ℕ)) (n left : ℕ) (x : Formula × Place ℕ) → passed (option_map (λ p. Shape n p.0 p.1) o) x ≡ Err (Fault (TooDeep left)) → ⊥
+not_by_test : (o : Option (ℕ × ℕ)) (n left : ℕ) (x : Formula × Place ℕ) →
+    passed (option_map (λ p. Shape n p.0 p.1) o) x ≡ Err (Fault (TooDeep left)) → ⊥
 not_by_test None n left x e = ok_not_err x (Fault (TooDeep left)) e
 not_by_test (Some p) n left x e = absurd (let same : Shape n p.0 p.1 ≡ TooDeep left = same_fault (Shape n p.0 p.1) (TooDeep left) (same_stop (Fault (Shape n p.0 p.1)) (Fault (TooDeep left)) e) in cc)
 
-before_test : (n left : ℕ) (r : Result (Formula × Place ℕ) (Stop TextFault)) → tested_at n shape_fault r ≡ Err (Fault (TooDeep left)) → r ≡ Err (Fault (TooDeep left))
+before_test : (n left : ℕ) (r : Result (Formula × Place ℕ) (Stop TextFault)) →
+    tested_at n shape_fault r ≡ Err (Fault (TooDeep left)) → r ≡ Err (Fault (TooDeep left))
 before_test n left (Ok x) e = absurd (not_by_test (refusal x.0) n left x e)
 before_test n left (Err s) e = e
 
-formula_deep : (depth : ℕ) (place : Place ℕ) (left : ℕ) → formula_at depth place ≡ Err (Fault (TooDeep left)) → IsDeep depth place.rest left
+formula_deep : (depth : ℕ) (place : Place ℕ) (left : ℕ) → formula_at depth place ≡ Err (Fault (TooDeep left)) →
+    IsDeep depth place.rest left
 unfolding formula_at
 formula_deep zero place left e = first_deep place left (one_of_at heads place) refl e
 formula_deep (suc depth) place left e =
@@ -251,7 +279,8 @@ never_at_end : (r : Result Formula ℕ) (fault : TextFault) → ended_formula r 
 never_at_end (Ok f) fault e = ok_not_err f (Fault fault) e
 never_at_end (Err left) fault e = lost_not_fault left fault (same_stop (Lost left) (Fault fault) e)
 
-all_deep : (left : ℕ) (r : Result (Formula × Place ℕ) (Stop TextFault)) → all_of r ≡ Err (Fault (TooDeep left)) → r ≡ Err (Fault (TooDeep left))
+all_deep : (left : ℕ) (r : Result (Formula × Place ℕ) (Stop TextFault)) → all_of r ≡ Err (Fault (TooDeep left)) →
+    r ≡ Err (Fault (TooDeep left))
 all_deep left (Ok x) e = absurd (never_at_end (ended x.0 x.1.rest x.1.far) (TooDeep left) e)
 all_deep left (Err s) e = ap (λ t. Err t) (same_stop s (Fault (TooDeep left)) e)
 

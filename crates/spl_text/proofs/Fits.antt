@@ -1,11 +1,14 @@
 -- A part that keeps the tests of shapes is not refused.
-use Rattle.std.proofs.Common.{◌≡◌, ℕ, suc, ◌/◌, ◌%◌, ◌<◌, ◌≤◌, Bool, true, false, not, ◌&&◌, ◌||◌, cond, eqb, ltb, List, [], ◌∷◌, ◌++◌, length, get_or, Some, None, refl, ap, ap₂, arith, ◌∙◌, mul_comm}
+use Rattle.std.proofs.Common.{◌≡◌, ℕ, suc, ◌/◌, ◌%◌, ◌<◌, ◌≤◌, Bool, true, false, not, ◌&&◌, ◌||◌, cond, eqb, ltb, List}
+use Rattle.std.proofs.Common.{[], ◌∷◌, ◌++◌, length, get_or, Some, None, refl, ap, ap₂, arith, ◌∙◌, mul_comm}
 use Rattle.std.specs.Int.{is_power_of_two}
 use Rattle.std.specs.Option.{option_map}
 use Rattle.std.proofs.lemmas.Bool.{eq-eqb, eqb-true, lt-ltb, ltb-true}
 use Rattle.tree_model.proofs.Splits.{mod-product}
 use Rattle.tree_model.proofs.PowerOfTwo.{is_power_of_power}
-use Rattle.spl_ast.specs.Formula.{Formula, Identity, Fourier, Hadamard, Twiddles, Diagonal, Stride, Permutation, GoodThomasIn, GoodThomasOut, Product, TensorLeft, TensorRight, DirectSum, Pending, size_of}
+use Rattle.spl_ast.specs.Formula.{Formula, Identity, Fourier, Hadamard, Twiddles, Diagonal, Stride, Permutation}
+use Rattle.spl_ast.specs.Formula.{GoodThomasIn, GoodThomasOut, Product, TensorLeft, TensorRight, DirectSum, Pending}
+use Rattle.spl_ast.specs.Formula.{size_of}
 use Rattle.spl_ast.specs.Shape.{IsShaped, IsMultiple, AreGoodThomasFactors, IsPermutation}
 use Rattle.spl_ast.proofs.Vectors.{size_is_size}
 use Rattle.spl_text.specs.Fault.{is_among, first_stray, are_coprime, refused_if, misfit, or_else, refusal}
@@ -35,7 +38,8 @@ different k v h = by_test (eqb k v) refl
     by_test true e = absurd (h (eqb-true k v e))
     by_test false e = e
 
-no_stray : (n : ℕ) (before ks : List ℕ) → ((i : ℕ) → i < length ks → get_or ks i 0 < n) → ((i : ℕ) → i < length ks → is_among (get_or ks i 0) before ≡ false)
+no_stray : (n : ℕ) (before ks : List ℕ) → ((i : ℕ) → i < length ks → get_or ks i 0 < n) →
+    ((i : ℕ) → i < length ks → is_among (get_or ks i 0) before ≡ false)
     → ((i j : ℕ) → i < j → j < length ks → get_or ks i 0 ≡ get_or ks j 0 → ⊥) → first_stray n before ks ≡ None
 unfolding first_stray
 no_stray n before [] below new once = refl

@@ -1,13 +1,16 @@
 -- The grammar of formulas by their heads.
-use Rattle.std.proofs.Common.{◌≡◌, ℕ, ◌^◌, List, [], ◌∷◌, ◌++◌, codes, decimal, refl, sym, ap, subst, ◌∙◌, append_assoc, inl, inr}
+use Rattle.std.proofs.Common.{◌≡◌, ℕ, ◌^◌, List, [], ◌∷◌, ◌++◌, codes, decimal, refl, sym, ap, subst, ◌∙◌, append_assoc}
+use Rattle.std.proofs.Common.{inl, inr}
 use Rattle.std.proofs.lemmas.List.{append-nil}
 use Rattle.grammar.specs.Grammar.{◌>>=◌, ◌>>◌, Follows, pure, word, one_of, number, positive, named_number, many}
 use Rattle.grammar.proofs.Parts.{follows, spells_named}
-use Rattle.spl_ast.specs.Formula.{Formula, Identity, Fourier, Hadamard, Twiddles, Diagonal, Stride, Permutation, GoodThomasIn, GoodThomasOut, Product, TensorLeft, TensorRight, DirectSum, Pending}
+use Rattle.spl_ast.specs.Formula.{Formula, Identity, Fourier, Hadamard, Twiddles, Diagonal, Stride, Permutation}
+use Rattle.spl_ast.specs.Formula.{GoodThomasIn, GoodThomasOut, Product, TensorLeft, TensorRight, DirectSum, Pending}
 use Rattle.spl_text.specs.declared.reading.Head.{Head}
 use Rattle.spl_text.specs.declared.reading.Head.TheVariants as head
 use Rattle.spl_text.specs.Reading.{heads}
-use Rattle.spl_text.specs.Spelling.{more_text, values_text, spelling, IsFactor, IsValue, AreValues, AreSomeValues, HasSpelling, spells}
+use Rattle.spl_text.specs.Spelling.{more_text, values_text, spelling, IsFactor, IsValue, AreValues, AreSomeValues}
+use Rattle.spl_text.specs.Spelling.{HasSpelling, spells}
 
 abbrev pub one_size : List ℕ → ℕ → Type 0
 one_size = do
@@ -112,7 +115,8 @@ closed : (u w : List ℕ) {A : Type 0} (x value : A) → (word w >> pure x) u va
 closed u w x value l = (l.whole ∙ ap (λ z. z ++ l.rest) l.begins ∙ ap (λ z. w ++ z) l.ends.0 ∙ append-nil w, l.ends.1)
 
 -- a word and then more
-behind : (u w : List ℕ) {A : Type 0} (next : List ℕ → A → Type 0) (value : A) → (word w >> next) u value → (rest : List ℕ) × (u ≡ w ++ rest) × next rest value
+behind : (u w : List ℕ) {A : Type 0} (next : List ℕ → A → Type 0) (value : A) → (word w >> next) u value →
+    (rest : List ℕ) × (u ≡ w ++ rest) × next rest value
 behind u w next value l = (l.rest, l.whole ∙ ap (λ z. z ++ l.rest) l.begins, l.ends)
 
 from_one_size : (u : List ℕ) (n : ℕ) → one_size u n → IsFactor n × (u ≡ decimal n ++ codes ")")
@@ -120,7 +124,8 @@ from_one_size u n l =
     let c = closed l.rest (codes ")") l.spelt n l.ends in
     (subst IsFactor (sym c.1) (l.begins.0, l.begins.1), joined u (decimal n) (codes ")") l.front l.rest l.whole (l.begins.2 ∙ ap decimal (sym c.1)) c.0)
 
-from_two_sizes : (u : List ℕ) (x : ℕ × ℕ) → two_sizes u x → IsFactor x.0 × IsFactor x.1 × (u ≡ decimal x.0 ++ (codes "," ++ (decimal x.1 ++ codes ")")))
+from_two_sizes : (u : List ℕ) (x : ℕ × ℕ) → two_sizes u x → IsFactor x.0 × IsFactor x.1
+    × (u ≡ decimal x.0 ++ (codes "," ++ (decimal x.1 ++ codes ")")))
 from_two_sizes u x l =
     let b = behind l.rest (codes ",") _ x l.ends in
     let m = b.2 in
@@ -133,7 +138,8 @@ from_two_sizes u x l =
           (b.1 ∙ ap (λ z. codes "," ++ z) (joined b.0 (decimal x.1) (codes ")") m.front m.rest m.whole (m.begins.2 ∙ ap decimal (sym second)) c.0)),
     )
 
-from_size_value : (u : List ℕ) (x : ℕ × ℕ) → size_value u x → IsFactor x.0 × IsValue x.1 × (u ≡ decimal x.0 ++ (codes "," ++ (decimal x.1 ++ codes ")")))
+from_size_value : (u : List ℕ) (x : ℕ × ℕ) → size_value u x →
+    IsFactor x.0 × IsValue x.1 × (u ≡ decimal x.0 ++ (codes "," ++ (decimal x.1 ++ codes ")")))
 from_size_value u x l =
     let b = behind l.rest (codes ",") _ x l.ends in
     let m = b.2 in
@@ -147,7 +153,8 @@ from_size_value u x l =
     )
 
 from_sizes_value : (u : List ℕ) (x : ℕ × ℕ × ℕ) → sizes_value u x →
-    IsFactor x.0 × IsFactor x.1 × IsValue x.2 × (u ≡ decimal x.0 ++ (codes "," ++ (decimal x.1 ++ (codes "," ++ (decimal x.2 ++ codes ")")))))
+    IsFactor x.0 × IsFactor x.1 × IsValue x.2 × (u ≡ decimal x.0
+    ++ (codes "," ++ (decimal x.1 ++ (codes "," ++ (decimal x.2 ++ codes ")")))))
 from_sizes_value u x l =
     let b = behind l.rest (codes ",") _ x l.ends in
     let m = b.2 in
@@ -191,16 +198,19 @@ from_values u c l =
     )
 
 -- a value is made of what was read
-unmade : {A : Type 0} (L : List ℕ → A → Type 0) (make : A → Formula) (u : List ℕ) (f : Formula) → Follows L (λ x. pure (make x)) u f → (x : A) × L u x × (f ≡ make x)
+unmade : {A : Type 0} (L : List ℕ → A → Type 0) (make : A → Formula) (u : List ℕ) (f : Formula) →
+    Follows L (λ x. pure (make x)) u f → (x : A) × L u x × (f ≡ make x)
 unmade {A} L make u f l =
     let e : l.front ≡ u = sym (append-nil l.front) ∙ ap (λ z. l.front ++ z) (sym l.ends.0) ∙ sym l.whole in
     (l.spelt, subst (λ t. L t l.spelt) e l.begins, l.ends.1)
 
-pub made : {A : Type 0} (L : List ℕ → A → Type 0) (make : A → Formula) (u : List ℕ) (x : A) → L u x → Follows L (λ x. pure (make x)) u (make x)
+pub made : {A : Type 0} (L : List ℕ → A → Type 0) (make : A → Formula) (u : List ℕ) (x : A) → L u x →
+    Follows L (λ x. pure (make x)) u (make x)
 made L make u x l = record { front = u; rest = []; spelt = x; whole = sym (append-nil u); begins = l; ends = (refl, refl) }
 
 from_two_formulas : (make : Formula → Formula → Formula) (u : List ℕ) (f : Formula) → two_formulas make u f →
-    (a : Formula) × (b : Formula) × HasSpelling a × HasSpelling b × (f ≡ make a b) × (u ≡ spelling a ++ (codes "," ++ (spelling b ++ codes ")")))
+    (a : Formula) × (b : Formula) × HasSpelling a × HasSpelling b × (f ≡ make a b)
+    × (u ≡ spelling a ++ (codes "," ++ (spelling b ++ codes ")")))
 unfolding spells
 from_two_formulas make u f l =
     let b = behind l.rest (codes ",") _ f l.ends in
@@ -321,23 +331,27 @@ from_heads u f l = from_arguments l.spelt u l.rest f l.ends (l.whole ∙ ap (λ 
 pub closing : {A : Type 0} (x : A) → (word (codes ")") >> pure x) (codes ")") x
 closing x = follows (word (codes ")")) _ (codes ")") [] tt x refl (refl, refl)
 
-pub comma : {A : Type 0} (next : List ℕ → A → Type 0) (v : List ℕ) (x : A) → next v x → (word (codes ",") >> next) (codes "," ++ v) x
+pub comma : {A : Type 0} (next : List ℕ → A → Type 0) (v : List ℕ) (x : A) → next v x →
+    (word (codes ",") >> next) (codes "," ++ v) x
 comma next v x l = follows (word (codes ",")) _ (codes ",") v tt x refl l
 
 pub to_one_size : (n : ℕ) → IsFactor n → one_size (decimal n ++ codes ")") n
 to_one_size n h = follows (positive 1048577) _ (decimal n) (codes ")") n n (h.0, h.1, refl) (closing n)
 
-pub to_two_sizes : (n r : ℕ) → IsFactor n → IsFactor r → two_sizes (decimal n ++ (codes "," ++ (decimal r ++ codes ")"))) (n, r)
+pub to_two_sizes : (n r : ℕ) → IsFactor n → IsFactor r → two_sizes
+    (decimal n ++ (codes "," ++ (decimal r ++ codes ")"))) (n, r)
 to_two_sizes n r h k =
     follows (positive 1048577) _ (decimal n) (codes "," ++ (decimal r ++ codes ")")) n (n, r) (h.0, h.1, refl)
     (comma _ (decimal r ++ codes ")") (n, r) (follows (positive 1048577) _ (decimal r) (codes ")") r (n, r) (k.0, k.1, refl) (closing (n, r))))
 
-pub to_size_value : (n w : ℕ) → IsFactor n → IsValue w → size_value (decimal n ++ (codes "," ++ (decimal w ++ codes ")"))) (n, w)
+pub to_size_value : (n w : ℕ) → IsFactor n → IsValue w → size_value
+    (decimal n ++ (codes "," ++ (decimal w ++ codes ")"))) (n, w)
 to_size_value n w h k =
     follows (positive 1048577) _ (decimal n) (codes "," ++ (decimal w ++ codes ")")) n (n, w) (h.0, h.1, refl)
     (comma _ (decimal w ++ codes ")") (n, w) (follows (number (2 ^ 62)) _ (decimal w) (codes ")") w (n, w) (k, refl) (closing (n, w))))
 
-pub to_sizes_value : (n s w : ℕ) → IsFactor n → IsFactor s → IsValue w → sizes_value (decimal n ++ (codes "," ++ (decimal s ++ (codes "," ++ (decimal w ++ codes ")"))))) (n, s, w)
+pub to_sizes_value : (n s w : ℕ) → IsFactor n → IsFactor s → IsValue w →
+    sizes_value (decimal n ++ (codes "," ++ (decimal s ++ (codes "," ++ (decimal w ++ codes ")"))))) (n, s, w)
 to_sizes_value n s w h k j =
     follows (positive 1048577) _ (decimal n) (codes "," ++ (decimal s ++ (codes "," ++ (decimal w ++ codes ")")))) n (n, s, w) (h.0, h.1, refl)
     (comma _ (decimal s ++ (codes "," ++ (decimal w ++ codes ")"))) (n, s, w)
@@ -357,7 +371,8 @@ to_values (x ∷ xs) h =
     (follows (number (2 ^ 62)) _ (decimal x) (more_text xs ++ codes ")") x (x ∷ xs) (h.0, refl)
     (follows (many item) _ (more_text xs) (codes ")") xs (x ∷ xs) (to_many xs h.1) (closing (x ∷ xs))))
 
-pub to_two_formulas : (make : Formula → Formula → Formula) (a b : Formula) → HasSpelling a → HasSpelling b → two_formulas make (spelling a ++ (codes "," ++ (spelling b ++ codes ")"))) (make a b)
+pub to_two_formulas : (make : Formula → Formula → Formula) (a b : Formula) → HasSpelling a → HasSpelling b →
+    two_formulas make (spelling a ++ (codes "," ++ (spelling b ++ codes ")"))) (make a b)
 unfolding spells
 to_two_formulas make a b h k =
     follows spells _ (spelling a) (codes "," ++ (spelling b ++ codes ")")) a (make a b) (h, refl)

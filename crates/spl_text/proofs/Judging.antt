@@ -9,7 +9,8 @@ use Rattle.spl_text.specs.declared.reading.Halt.TheVariants as halts
 use Rattle.spl_text.specs.Answer.{Says, Judged}
 use Rattle.spl_text.specs.Fault.{Shape, shape_fault}
 
-pub says_judged : (r : Result Formula Halt) (left : ℕ) (g : Formula) (place : Place ℕ) → Judged r left g → Says r place (tested_at left shape_fault (Ok (g, place)))
+pub says_judged : (r : Result Formula Halt) (left : ℕ) (g : Formula) (place : Place ℕ) → Judged r left g →
+    Says r place (tested_at left shape_fault (Ok (g, place)))
 says_judged (Ok f) left g place h =
     ap (λ o. passed (option_map (λ p. Shape left p.0 p.1) o) (g, place)) h.1 ∙ ap (λ u. Ok (u, place)) (sym h.0)
 says_judged (Err halts.NoMemory) left g place h = tt

@@ -1,14 +1,17 @@
 -- A text has at least as many bytes as its formula has parts.
 use Rattle.std.proofs.Common.{◌≡◌, ℕ, ◌+◌, ◌≤◌, List, [], ◌∷◌, ◌++◌, length, codes, decimal, subst, sym, ap, ◌∙◌, arith}
 use Rattle.std.proofs.lemmas.List.{length-append}
-use Rattle.spl_ast.specs.Formula.{Formula, Identity, Fourier, Hadamard, Twiddles, Diagonal, Stride, Permutation, GoodThomasIn, GoodThomasOut, Product, TensorLeft, TensorRight, DirectSum, Pending, parts_of}
+use Rattle.spl_ast.specs.Formula.{Formula, Identity, Fourier, Hadamard, Twiddles, Diagonal, Stride, Permutation}
+use Rattle.spl_ast.specs.Formula.{GoodThomasIn, GoodThomasOut, Product, TensorLeft, TensorRight, DirectSum, Pending}
+use Rattle.spl_ast.specs.Formula.{parts_of}
 use Rattle.spl_text.specs.Spelling.{spelling, HasSpelling, spells, spells_line}
 
 both_at_least : (m n : ℕ) (a b : List ℕ) → m ≤ length a → n ≤ length b → m + n ≤ length (a ++ b)
 both_at_least m n a b h g = omega (arith, length-append a b, h, g)
 
 -- a head, a part, a comma, another part and a parenthesis
-two_parts : (m n : ℕ) (head a b : List ℕ) → 1 ≤ length head → m ≤ length a → n ≤ length b → m + n + 1 ≤ length (head ++ (a ++ (codes "," ++ (b ++ codes ")"))))
+two_parts : (m n : ℕ) (head a b : List ℕ) → 1 ≤ length head → m ≤ length a → n ≤ length b →
+    m + n + 1 ≤ length (head ++ (a ++ (codes "," ++ (b ++ codes ")"))))
 two_parts m n head a b one h g =
     let behind : n + 0 ≤ length (b ++ codes ")") = both_at_least n 0 b (codes ")") g (omega arith) in
     let second : 0 + (n + 0) ≤ length (codes "," ++ (b ++ codes ")")) = both_at_least 0 (n + 0) (codes ",") (b ++ codes ")") (omega arith) behind in

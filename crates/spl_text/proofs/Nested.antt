@@ -1,17 +1,23 @@
 -- What is read has a text with at most 128 open parentheses.
-use Rattle.std.proofs.Common.{◌≡◌, ℕ, zero, suc, ◌+◌, ◌≤◌, List, [], ◌∷◌, Option, Some, None, Result, Ok, Err, refl, sym, ap, subst, arith}
+use Rattle.std.proofs.Common.{◌≡◌, ℕ, zero, suc, ◌+◌, ◌≤◌, List, [], ◌∷◌, Option, Some, None, Result, Ok, Err, refl}
+use Rattle.std.proofs.Common.{sym, ap, subst, arith}
 use Rattle.grammar.specs.Reading.{Place, start, ended, pure_at, one_of_at}
 use Rattle.grammar.specs.Stops.{Stop, and_go_on, passed, tested_at}
-use Rattle.spl_ast.specs.Formula.{Formula, Identity, Fourier, Hadamard, Twiddles, Diagonal, Stride, Permutation, GoodThomasIn, GoodThomasOut, Product, TensorLeft, TensorRight, DirectSum, Pending}
+use Rattle.spl_ast.specs.Formula.{Formula, Identity, Fourier, Hadamard, Twiddles, Diagonal, Stride, Permutation}
+use Rattle.spl_ast.specs.Formula.{GoodThomasIn, GoodThomasOut, Product, TensorLeft, TensorRight, DirectSum, Pending}
 use Rattle.spl_ast.specs.Nesting.{nesting_of, IsComplete, IsPrintable}
 use Rattle.spl_text.specs.declared.reading.Head.{Head}
 use Rattle.spl_text.specs.declared.reading.Head.TheVariants as head
-use Rattle.spl_text.specs.Arguments.{factor_at, comma_at, close_at, one_size_at, two_sizes_at, size_value_at, sizes_value_at, values_at}
+use Rattle.spl_text.specs.Arguments.{factor_at, comma_at, close_at, one_size_at, two_sizes_at, size_value_at}
+use Rattle.spl_text.specs.Arguments.{sizes_value_at, values_at}
 use Rattle.spl_text.specs.Fault.{TextFault, shape_fault}
-use Rattle.spl_text.specs.Reading.{heads, plain, made_at, arguments_by, two_formulas_by, too_deep, formula_at, line_at, ended_formula, all_of, whole_line}
+use Rattle.spl_text.specs.Reading.{heads, plain, made_at, arguments_by, two_formulas_by, too_deep, formula_at, line_at}
+use Rattle.spl_text.specs.Reading.{ended_formula, all_of, whole_line}
 use Rattle.spl_text.specs.Spelling.{spells, spells_line, HasSpelling}
 
-go_ok : {A B : Type 0} (r : Result (A × Place ℕ) (Stop TextFault)) (next : A → Place ℕ → Result (B × Place ℕ) (Stop TextFault)) (y : B × Place ℕ) → and_go_on r next ≡ Ok y → (x : A × Place ℕ) × (r ≡ Ok x) × (next x.0 x.1 ≡ Ok y)
+go_ok : {A B : Type 0} (r : Result (A × Place ℕ) (Stop TextFault))
+    (next : A → Place ℕ → Result (B × Place ℕ) (Stop TextFault)) (y : B × Place ℕ) → and_go_on r next ≡ Ok y →
+    (x : A × Place ℕ) × (r ≡ Ok x) × (next x.0 x.1 ≡ Ok y)
 go_ok (Ok x) next y e = (x, refl, e)
 go_ok (Err s) next y e = absurd cc
 
@@ -19,20 +25,24 @@ test_cases : (found : Option TextFault) (x y : Formula × Place ℕ) → passed 
 test_cases None x y e = cc
 test_cases (Some f) x y e = absurd cc
 
-tested_ok : (left : ℕ) (r : Result (Formula × Place ℕ) (Stop TextFault)) (y : Formula × Place ℕ) → tested_at left shape_fault r ≡ Ok y → r ≡ Ok y
+tested_ok : (left : ℕ) (r : Result (Formula × Place ℕ) (Stop TextFault)) (y : Formula × Place ℕ) →
+    tested_at left shape_fault r ≡ Ok y → r ≡ Ok y
 tested_ok left (Ok x) y e = ap (λ z. Ok z) (test_cases (shape_fault left x.0) x y e)
 tested_ok left (Err s) y e = absurd cc
 
 same_ok : (x y : Formula × Place ℕ) → (let r : Result (Formula × Place ℕ) (Stop TextFault) = Ok x in r ≡ Ok y) → x.0 ≡ y.0
 same_ok x y e = let both : x ≡ y = cc in ap (λ z. z.0) both
 
-made_nesting : {A : Type 0} (read : Place ℕ → Result (A × Place ℕ) ℕ) (make : A → Formula) (place : Place ℕ) (y : Formula × Place ℕ) → ((x : A) → nesting_of (make x) ≤ 1) → made_at read make place ≡ Ok y → nesting_of y.0 ≤ 1
+made_nesting : {A : Type 0} (read : Place ℕ → Result (A × Place ℕ) ℕ) (make : A → Formula) (place : Place ℕ)
+    (y : Formula × Place ℕ) → ((x : A) → nesting_of (make x) ≤ 1) → made_at read make place ≡ Ok y → nesting_of y.0 ≤ 1
 made_nesting read make place y h e =
     let g = go_ok (plain read place) (λ x. plain (pure_at (make x))) y e in
     subst (λ f. nesting_of f ≤ 1) (same_ok (make g.0.0, g.0.1) y g.2) (h g.0.0)
 
-module _ (read : Place ℕ → Result (Formula × Place ℕ) (Stop TextFault)) (k : ℕ) (inner : (place : Place ℕ) (x : Formula × Place ℕ) → read place ≡ Ok x → nesting_of x.0 ≤ k) where
-  two_nesting : (make : Formula → Formula → Formula) → ((a b : Formula) → nesting_of a ≤ k → nesting_of b ≤ k → nesting_of (make a b) ≤ k + 1)
+module _ (read : Place ℕ → Result (Formula × Place ℕ) (Stop TextFault)) (k : ℕ)
+    (inner : (place : Place ℕ) (x : Formula × Place ℕ) → read place ≡ Ok x → nesting_of x.0 ≤ k) where
+  two_nesting : (make : Formula → Formula → Formula) → ((a b : Formula) → nesting_of a ≤ k → nesting_of b ≤ k →
+      nesting_of (make a b) ≤ k + 1)
       → (place : Place ℕ) (y : Formula × Place ℕ) → two_formulas_by read make place ≡ Ok y → nesting_of y.0 ≤ k + 1
   two_nesting make h place y e =
       let g1 = go_ok (read place) _ y e in
@@ -41,7 +51,8 @@ module _ (read : Place ℕ → Result (Formula × Place ℕ) (Stop TextFault)) (
       let g4 = go_ok (plain close_at g3.0.1) _ y g3.2 in
       subst (λ f. nesting_of f ≤ k + 1) (same_ok (make g1.0.0 g3.0.0, g4.0.1) y g4.2) (h g1.0.0 g3.0.0 (inner place g1.0 g1.1) (inner g2.0.1 g3.0 g3.1))
 
-  arguments_nesting : (h : Head) (place : Place ℕ) (y : Formula × Place ℕ) → arguments_by read h place ≡ Ok y → nesting_of y.0 ≤ k + 1
+  arguments_nesting : (h : Head) (place : Place ℕ) (y : Formula × Place ℕ) → arguments_by read h place ≡ Ok y →
+      nesting_of y.0 ≤ k + 1
   arguments_nesting head.I place y e = let low = made_nesting one_size_at Identity place y (λ x. omega arith) e in omega arith
   arguments_nesting head.Dft place y e = let low = made_nesting size_value_at (λ x. Fourier x.0 x.1) place y (λ x. omega arith) e in omega arith
   arguments_nesting head.Wht place y e = let low = made_nesting one_size_at Hadamard place y (λ x. omega arith) e in omega arith
@@ -72,7 +83,8 @@ never_too_deep : (r : Result (Head × Place ℕ) ℕ) (y : Formula × Place ℕ)
 never_too_deep (Ok x) y e = cc
 never_too_deep (Err left) y e = cc
 
-pub formula_nesting : (depth : ℕ) (place : Place ℕ) (y : Formula × Place ℕ) → formula_at depth place ≡ Ok y → nesting_of y.0 ≤ depth
+pub formula_nesting : (depth : ℕ) (place : Place ℕ) (y : Formula × Place ℕ) → formula_at depth place ≡ Ok y →
+    nesting_of y.0 ≤ depth
 unfolding formula_at
 formula_nesting zero place y e = absurd (never_too_deep (one_of_at heads place) y e)
 formula_nesting (suc depth) place y e =
@@ -89,7 +101,8 @@ ended_ok : (x f : Formula) (rest : List ℕ) (far : ℕ) → ended_formula (ende
 ended_ok x f [] far e = cc
 ended_ok x f (y ∷ rest) far e = absurd cc
 
-whole_nesting : (f : Formula) (r : Result (Formula × Place ℕ) (Stop TextFault)) → ((y : Formula × Place ℕ) → r ≡ Ok y → nesting_of y.0 ≤ 128) → all_of r ≡ Ok f → nesting_of f ≤ 128
+whole_nesting : (f : Formula) (r : Result (Formula × Place ℕ) (Stop TextFault)) →
+    ((y : Formula × Place ℕ) → r ≡ Ok y → nesting_of y.0 ≤ 128) → all_of r ≡ Ok f → nesting_of f ≤ 128
 whole_nesting f (Ok x) h e = subst (λ g. nesting_of g ≤ 128) (ended_ok x.0 f x.1.rest x.1.far e) (h x refl)
 whole_nesting f (Err s) h e = absurd cc
 

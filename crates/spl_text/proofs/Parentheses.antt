@@ -1,12 +1,14 @@
 -- The parentheses of spellings.
-use Rattle.std.proofs.Common.{◌≡◌, ℕ, suc, ◌+◌, ◌^◌, ◌<◌, ◌≤◌, max, inl, inr, Bool, true, false, cond, eqb, List, [], ◌∷◌, ◌++◌, length, codes, decimal, refl, sym, ap, ◌∙◌, arith}
+use Rattle.std.proofs.Common.{◌≡◌, ℕ, suc, ◌+◌, ◌^◌, ◌<◌, ◌≤◌, max, inl, inr, Bool, true, false, cond, eqb, List, []}
+use Rattle.std.proofs.Common.{◌∷◌, ◌++◌, length, codes, decimal, refl, sym, ap, ◌∙◌, arith}
 use Rattle.std.specs.Str.Parse.{AllDigits}
 use Rattle.std.proofs.lemmas.Bool.{eqb-true, cases_lt}
 use Rattle.std.proofs.lemmas.Str.Parse.{digit_from_value}
 use Rattle.std.proofs.lemmas.Fmt.{decimal_is_IsNumeral}
 use Rattle.std.proofs.lemmas.List.Sums.{sum_by-append}
 use Rattle.grammar.proofs.Tokens.{split_twice}
-use Rattle.spl_ast.specs.Formula.{Formula, Identity, Fourier, Hadamard, Twiddles, Diagonal, Stride, Permutation, GoodThomasIn, GoodThomasOut, Product, TensorLeft, TensorRight, DirectSum, Pending}
+use Rattle.spl_ast.specs.Formula.{Formula, Identity, Fourier, Hadamard, Twiddles, Diagonal, Stride, Permutation}
+use Rattle.spl_ast.specs.Formula.{GoodThomasIn, GoodThomasOut, Product, TensorLeft, TensorRight, DirectSum, Pending}
 use Rattle.spl_ast.specs.Nesting.{nesting_of}
 use Rattle.spl_text.specs.Answer.{opened, closed, IsShallow}
 use Rattle.spl_text.specs.Spelling.{spelling, more_text, values_text, AreValues, AreSomeValues, IsFactor, HasSpelling}
@@ -80,7 +82,8 @@ closes_two xs ys h g = then_closes xs (codes "," ++ (ys ++ codes ")")) h (then_c
 part_one : (w xs : List ℕ) → Opens 1 w → Opens 0 xs → Opens 0 (w ++ (xs ++ codes ")"))
 part_one w xs o h = enclosed w (xs ++ codes ")") o (closes_one xs h)
 
-part_two : (w xs ys : List ℕ) → Opens 1 w → Opens 0 xs → Opens 0 ys → Opens 0 (w ++ (xs ++ (codes "," ++ (ys ++ codes ")"))))
+part_two : (w xs ys : List ℕ) → Opens 1 w → Opens 0 xs → Opens 0 ys →
+    Opens 0 (w ++ (xs ++ (codes "," ++ (ys ++ codes ")"))))
 part_two w xs ys o h g = enclosed w (xs ++ (codes "," ++ (ys ++ codes ")"))) o (closes_two xs ys h g)
 
 pub spelling_balanced : (f : Formula) → HasSpelling f → Opens 0 (spelling f)
@@ -107,7 +110,8 @@ spelling_balanced (Pending a) h = absurd h
 pub shallow_by_count : (n : ℕ) (text : List ℕ) → opened text ≤ n → IsShallow n text
 shallow_by_count n text h x y e = omega (arith, h, ap opened e, opened_both x y)
 
-pub shallow_both : (k n d : ℕ) (xs ys : List ℕ) → Opens k xs → IsShallow d xs → IsShallow n ys → k + n ≤ d → IsShallow d (xs ++ ys)
+pub shallow_both : (k n d : ℕ) (xs ys : List ℕ) → Opens k xs → IsShallow d xs → IsShallow n ys → k + n ≤ d →
+    IsShallow d (xs ++ ys)
 shallow_both k n d xs ys o first second small x y e =
     elim (cases_lt (length ys) (length y)) [
       | inl more ↦ let m = split_twice xs ys x y e (omega arith) in first x m.0 m.1
@@ -152,7 +156,8 @@ two_numbers xs ys h g = opens_none xs (codes "," ++ (ys ++ codes ")")) h (opens_
 then_closed : (n : ℕ) (ys : List ℕ) → Opens 0 ys → IsShallow n ys → IsShallow n (ys ++ codes ")")
 then_closed n ys o s = shallow_both 0 0 n ys (codes ")") o s (shallow_by_count 0 (codes ")") (omega arith)) (omega arith)
 
-around : (n : ℕ) (w xs ys : List ℕ) → opened w ≡ 1 → closed w ≡ 0 → Opens 0 xs → Opens 0 ys → IsShallow n xs → IsShallow n ys → IsShallow (n + 1) (w ++ (xs ++ (codes "," ++ (ys ++ codes ")"))))
+around : (n : ℕ) (w xs ys : List ℕ) → opened w ≡ 1 → closed w ≡ 0 → Opens 0 xs → Opens 0 ys → IsShallow n xs →
+    IsShallow n ys → IsShallow (n + 1) (w ++ (xs ++ (codes "," ++ (ys ++ codes ")"))))
 around n w xs ys one none o p s t =
     shallow_both 1 n (n + 1) w (xs ++ (codes "," ++ (ys ++ codes ")"))) (omega (arith, one, none)) (shallow_by_count (n + 1) w (omega (arith, one)))
     (shallow_both 0 n n xs (codes "," ++ (ys ++ codes ")")) o s
@@ -198,7 +203,8 @@ spelling_shallow (DirectSum a b) h =
 spelling_shallow (Pending a) h = absurd h
 
 -- a word, a part and a comma, before another part
-pub front_shallow : (n : ℕ) (w xs : List ℕ) → opened w ≡ 1 → closed w ≡ 0 → Opens 0 xs → IsShallow n xs → IsShallow (suc n) (w ++ (xs ++ codes ","))
+pub front_shallow : (n : ℕ) (w xs : List ℕ) → opened w ≡ 1 → closed w ≡ 0 → Opens 0 xs → IsShallow n xs →
+    IsShallow (suc n) (w ++ (xs ++ codes ","))
 front_shallow n w xs one none o s =
     shallow_both 1 n (suc n) w (xs ++ codes ",") (omega (arith, one, none)) (shallow_by_count (suc n) w (omega (arith, one)))
     (shallow_both 0 0 n xs (codes ",") o s (shallow_by_count 0 (codes ",") (omega arith)) (omega arith)) (omega arith)

@@ -1,5 +1,7 @@
 -- The reader of formulas.
-use Rattle.std.proofs.Common.{◌≡◌, ℕ, zero, suc, ◌+◌, ◌-◌, ◌^◌, ◌<◌, ◌≤◌, List, [], ◌∷◌, ◌++◌, length, codes, decimal, Result, Ok, Err, Option, Some, None, refl, sym, ap, ap₂, IfOk, subst, ◌∙◌, append_assoc, arith}
+use Rattle.std.proofs.Common.{◌≡◌, ℕ, zero, suc, ◌+◌, ◌-◌, ◌^◌, ◌<◌, ◌≤◌, List, [], ◌∷◌, ◌++◌, length, codes, decimal}
+use Rattle.std.proofs.Common.{Result, Ok, Err, Option, Some, None, refl, sym, ap, ap₂, IfOk, subst, ◌∙◌, append_assoc}
+use Rattle.std.proofs.Common.{arith}
 use Rattle.std.specs.Option.{option_map}
 use Rattle.std.proofs.lemmas.List.{length-append}
 use Rattle.grammar.specs.Grammar.{◌>>◌, Follows, pure, word, one_of, number, positive, many, Begins}
@@ -8,20 +10,27 @@ use Rattle.grammar.specs.Stops.{Stop, and_go_on, spelling_only, tested_at, HasFa
 use Rattle.grammar.specs.Cursor.{Gives}
 use Rattle.grammar.specs.declared.token.Stuck.{Stuck}
 use Rattle.grammar.proofs.Numbers.{NoDigit}
-use Rattle.grammar.proofs.Parts.{Anything, Nothing, Behind, behind_anything, behind_word, named_no_digit, named_excluded, keeps_pure, word_reader, one_of_reader, number_reader, named_number_reader, starts, follows}
+use Rattle.grammar.proofs.Parts.{Anything, Nothing, Behind, behind_anything, behind_word, named_no_digit}
+use Rattle.grammar.proofs.Parts.{named_excluded, keeps_pure, word_reader, one_of_reader, number_reader}
+use Rattle.grammar.proofs.Parts.{named_number_reader, starts, follows}
 use Rattle.grammar.proofs.Many.{many_reader}
 use Rattle.grammar.proofs.Positive.{positive_reader}
 use Rattle.grammar.proofs.Places as places
 use Rattle.grammar.proofs.Places.{Leaves, bind_lost, optional_reader}
-use Rattle.grammar.proofs.Stops.{Answers, IsReader, Persists, plain_reader, bind_reader, fault_persists, tested_reader, change_reader}
-use Rattle.spl_ast.specs.Formula.{Formula, Identity, Fourier, Hadamard, Twiddles, Diagonal, Stride, Permutation, GoodThomasIn, GoodThomasOut, Product, TensorLeft, TensorRight, DirectSum}
+use Rattle.grammar.proofs.Stops.{Answers, IsReader, Persists, plain_reader, bind_reader, fault_persists, tested_reader}
+use Rattle.grammar.proofs.Stops.{change_reader}
+use Rattle.spl_ast.specs.Formula.{Formula, Identity, Fourier, Hadamard, Twiddles, Diagonal, Stride, Permutation}
+use Rattle.spl_ast.specs.Formula.{GoodThomasIn, GoodThomasOut, Product, TensorLeft, TensorRight, DirectSum}
 use Rattle.spl_text.specs.declared.reading.Head.{Head}
 use Rattle.spl_text.specs.declared.reading.Head.TheVariants as head
 use Rattle.spl_text.specs.Arguments.{one_size_at, two_sizes_at, size_value_at, sizes_value_at, values_at}
 use Rattle.spl_text.specs.Fault.{TextFault, TooDeep, Shape, refusal, shape_fault}
 use Rattle.spl_text.specs.Reading.{heads, plain, arguments_by, two_formulas_by, too_deep, formula_at, line_at}
 use Rattle.spl_text.specs.Spelling.{spells, spells_line, spelling, HasSpelling}
-use Rattle.spl_text.proofs.Heads.{one_size, two_sizes, size_value, sizes_value, values, two_formulas, arguments, by_heads, item, head_word, word_of_head, from_heads, to_heads, to_one_size, to_two_sizes, to_size_value, to_sizes_value, to_values, to_two_formulas, made, closing, comma}
+use Rattle.spl_text.proofs.Heads.{one_size, two_sizes, size_value, sizes_value, values, two_formulas, arguments}
+use Rattle.spl_text.proofs.Heads.{by_heads, item, head_word, word_of_head, from_heads, to_heads, to_one_size}
+use Rattle.spl_text.proofs.Heads.{to_two_sizes, to_size_value, to_sizes_value, to_values, to_two_formulas, made}
+use Rattle.spl_text.proofs.Heads.{closing, comma}
 
 any : {B : Type 0} (L : List ℕ → B → Type 0) → Leaves Anything Anything L
 any L = behind_anything Anything L
@@ -92,13 +101,15 @@ more_reader = many_reader NoDigit (Behind (codes ",")) item (named_number_at (co
 }
 
 -- a parenthesis behind the list
-list_closes : {B : Type 0} (L : Unit {0} → List ℕ → B → Type 0) → Leaves (Behind (codes ",")) Anything (Follows (word (codes ")")) L)
+list_closes : {B : Type 0} (L : Unit {0} → List ℕ → B → Type 0) →
+    Leaves (Behind (codes ",")) Anything (Follows (word (codes ")")) L)
 list_closes L u b v l c = record {
   no_digit = behind_word Anything (codes ")") L refl u b v l c;
   no_word = ap (λ y. starts (codes ",") (y ++ v)) (l.whole ∙ ap (λ y. y ++ l.rest) l.begins);
 }
 
-more_leaves : {B : Type 0} (L : List ℕ → List ℕ → B → Type 0) → ((xs : List ℕ) → Leaves (Behind (codes ",")) Anything (L xs)) → Leaves NoDigit Anything (Follows (many item) L)
+more_leaves : {B : Type 0} (L : List ℕ → List ℕ → B → Type 0) →
+    ((xs : List ℕ) → Leaves (Behind (codes ",")) Anything (L xs)) → Leaves NoDigit Anything (Follows (many item) L)
 more_leaves L closes u b v l c =
     subst NoDigit (sym (append_assoc l.front l.rest v) ∙ ap (λ y. y ++ v) (sym l.whole)) (goes_on l.front l.spelt (l.rest ++ v) l.begins (closes l.spelt l.rest b v l.ends tt))
 
@@ -132,17 +143,22 @@ unfolding other_heads
 heads_reader = one_of_reader Anything (codes "I(", head.I) other_heads refl
 
 -- numbers behind a head, and what they make
-leaf_reader : {A : Type 0} (L : List ℕ → A → Type 0) (read : Place ℕ → Result (A × Place ℕ) ℕ) (make : A → Formula) → places.IsReader Anything L read
-    → IsReader Exposes Anything (Follows L (λ x. pure (make x))) (λ place. and_go_on (plain read place) (λ x. plain (pure_at (make x))))
+leaf_reader : {A : Type 0} (L : List ℕ → A → Type 0) (read : Place ℕ → Result (A × Place ℕ) ℕ) (make : A → Formula) →
+    places.IsReader Anything L read
+    → IsReader Exposes Anything (Follows L (λ x. pure (make x)))
+    (λ place. and_go_on (plain read place) (λ x. plain (pure_at (make x))))
 leaf_reader L read make reader =
     bind_reader Exposes Anything Anything _ _ _ _ persists (plain_reader Exposes Anything _ _ reader) (λ x u l. plain_reader Exposes Anything _ _ (places.pure_reader Anything (make x))) (λ x. any _)
 
-module _ (read : Place ℕ → Result (Formula × Place ℕ) (Stop TextFault)) (inner : IsReader Exposes Anything spells read) where
-  close_with : (f : Formula) → IsReader Exposes Anything (word (codes ")") >> pure f) (λ place. and_go_on (plain (word_at (codes ")")) place) (λ _. plain (pure_at f)))
+module _ (read : Place ℕ → Result (Formula × Place ℕ) (Stop TextFault))
+    (inner : IsReader Exposes Anything spells read) where
+  close_with : (f : Formula) → IsReader Exposes Anything (word (codes ")") >> pure f)
+      (λ place. and_go_on (plain (word_at (codes ")")) place) (λ _. plain (pure_at f)))
   close_with f =
       bind_reader Exposes Anything Anything _ _ _ _ persists (plain_reader Exposes Anything _ _ close) (λ w u l. plain_reader Exposes Anything _ _ (places.pure_reader Anything f)) (λ w. any _)
 
-  two_formulas_reader : (make : Formula → Formula → Formula) → IsReader Exposes Anything (two_formulas make) (two_formulas_by read make)
+  two_formulas_reader : (make : Formula → Formula → Formula) →
+      IsReader Exposes Anything (two_formulas make) (two_formulas_by read make)
   two_formulas_reader make =
       bind_reader Exposes Anything Anything _ _ _ _ persists inner (λ a u l.
       bind_reader Exposes Anything Anything _ _ _ _ persists (plain_reader Exposes Anything _ _ commas) (λ w u l.
@@ -228,7 +244,8 @@ opens head.Left = (codes "LEFT", refl)
 opens head.Right = (codes "RIGHT", refl)
 opens head.Sum = (codes "SUM", refl)
 
-deep_answers : (place : Place ℕ) (r : Result (Head × Place ℕ) ℕ) → places.Answers Anything (one_of heads) place r → Answers Exposes Anything by_heads place (too_deep r)
+deep_answers : (place : Place ℕ) (r : Result (Head × Place ℕ) ℕ) → places.Answers Anything (one_of heads) place r →
+    Answers Exposes Anything by_heads place (too_deep r)
 deep_answers place (Ok x) p =
     let o = opens x.0 in
     (o.0, x.1.rest, p.whole ∙ ap (λ y. y ++ x.1.rest) (word_of_head p.text x.0 p.spelt ∙ o.1) ∙ append_assoc o.0 (40 ∷ []) x.1.rest, refl)
@@ -266,18 +283,21 @@ line_reader =
 
 -- ---- the steps of the code
 
-head_shorter : (place next : Place ℕ) (h : Head) → one_of_at heads place ≡ Ok (h, next) → length next.rest + 1 ≤ length place.rest
+head_shorter : (place next : Place ℕ) (h : Head) → one_of_at heads place ≡ Ok (h, next) →
+    length next.rest + 1 ≤ length place.rest
 head_shorter place next h e =
     let took = subst (λ r. places.Answers Anything (one_of heads) place r) e (heads_reader.each place) in
     let o = opens h in
     let spelt : took.text ≡ o.0 ++ 40 ∷ [] = word_of_head took.text h took.spelt ∙ o.1 in
     omega (arith, ap length took.whole, length-append took.text next.rest, ap length spelt, length-append o.0 (40 ∷ []))
 
-pub gives_shorter : (r : Result Head Stuck) (old new : Place ℕ) → Gives r new (one_of_at heads old) → IfOk r (λ _. length new.rest + 1 ≤ length old.rest)
+pub gives_shorter : (r : Result Head Stuck) (old new : Place ℕ) → Gives r new (one_of_at heads old) →
+    IfOk r (λ _. length new.rest + 1 ≤ length old.rest)
 gives_shorter (Ok h) old new e = head_shorter old new h e
 gives_shorter (Err stuck) old new e = tt
 
-pub formula_step : (depth n : ℕ) (old next : Place ℕ) (h : Head) → 0 < depth → n ≡ length old.rest → one_of_at heads old ≡ Ok (h, next)
+pub formula_step : (depth n : ℕ) (old next : Place ℕ) (h : Head) → 0 < depth → n ≡ length old.rest →
+    one_of_at heads old ≡ Ok (h, next)
     → formula_at depth old ≡ tested_at n shape_fault (arguments_by (formula_at (depth - 1)) h next)
 unfolding formula_at
 formula_step zero n old next h pos long e = absurd (omega arith)

@@ -1,5 +1,6 @@
 -- The reader of a whole text.
-use Rattle.std.proofs.Common.{◌≡◌, ℕ, ◌+◌, ◌-◌, ◌≤◌, List, ◌∷◌, ◌++◌, length, Option, Some, None, Result, Ok, Err, refl, sym, ap, subst, ◌∙◌, arith}
+use Rattle.std.proofs.Common.{◌≡◌, ℕ, ◌+◌, ◌-◌, ◌≤◌, List, ◌∷◌, ◌++◌, length, Option, Some, None, Result, Ok, Err, refl}
+use Rattle.std.proofs.Common.{sym, ap, subst, ◌∙◌, arith}
 use Rattle.std.specs.Option.{option_map}
 use Rattle.std.proofs.lemmas.List.{length-append}
 use Rattle.grammar.specs.Grammar.{Judges, IsStuck}
@@ -28,7 +29,8 @@ at_end : (text : List ℕ) (r : Result Formula ℕ) → Judges spells_line text 
 at_end text (Ok f) j = j.0
 at_end text (Err left) j = j
 
-all_answers : (text : List ℕ) (r : Result (Formula × Place ℕ) (Stop TextFault)) → Answers Exposes Nothing spells_line (start text) r → TextAnswers text (all_of r)
+all_answers : (text : List ℕ) (r : Result (Formula × Place ℕ) (Stop TextFault)) →
+    Answers Exposes Nothing spells_line (start text) r → TextAnswers text (all_of r)
 all_answers text (Ok x) p = at_end text (ended x.0 x.1.rest x.1.far) (judged Nothing spells_line refl text (Ok x) p)
 all_answers text (Err (Lost left)) p = judged {A = Formula} Nothing spells_line refl text (Err left) p
 all_answers text (Err (Fault fault)) p = p
@@ -36,7 +38,8 @@ all_answers text (Err (Fault fault)) p = p
 text_answers : (text : List ℕ) (r : Result Formula (Stop TextFault)) → whole_line text ≡ r → TextAnswers text r
 text_answers text r e = subst (TextAnswers text) e (all_answers text (line_at (start text)) (line_reader.each (start text)))
 
-shape_is : (o : Option (ℕ × ℕ)) (n left a b : ℕ) → option_map (λ p. Shape n p.0 p.1) o ≡ Some (Shape left a b) → (left ≡ n) × (o ≡ Some (a, b))
+shape_is : (o : Option (ℕ × ℕ)) (n left a b : ℕ) → option_map (λ p. Shape n p.0 p.1) o ≡ Some (Shape left a b) →
+    (left ≡ n) × (o ≡ Some (a, b))
 shape_is None n left a b e = absurd cc
 shape_is (Some p) n left a b e =
     let same : n ≡ left = cc in
@@ -58,7 +61,8 @@ within text (halts.Shape left first second) e =
 placed : (text : List ℕ) (left : ℕ) → left ≤ length text → IsLeft text (length text - left) left
 placed text left h = record { within = omega arith; left_is = omega arith }
 
-pub first_fault : (text : List ℕ) (halt : Halt) → SaysAll (Err halt) (whole_line text) → IsFirst text (Err (fault_of (length text) halt))
+pub first_fault : (text : List ℕ) (halt : Halt) → SaysAll (Err halt) (whole_line text) →
+    IsFirst text (Err (fault_of (length text) halt))
 first_fault text halts.NoMemory e = tt
 first_fault text (halts.Syntax left) e = (left, placed text left (within text (halts.Syntax left) e), e)
 first_fault text (halts.TooDeep left) e = (left, placed text left (within text (halts.TooDeep left) e), e)
@@ -67,7 +71,8 @@ first_fault text (halts.Shape left first second) e = (left, placed text left (wi
 pub shows_formula : (text : List ℕ) (f : Formula) → whole_line text ≡ Ok f → Shows text (Ok f)
 shows_formula text f e = let spelt = text_answers text (Ok f) e in (spelt, read_is_printable text f spelt e)
 
-pub shows_fault : (text : List ℕ) (halt : Halt) → SaysAll (Err halt) (whole_line text) → Shows text (Err (fault_of (length text) halt))
+pub shows_fault : (text : List ℕ) (halt : Halt) → SaysAll (Err halt) (whole_line text) →
+    Shows text (Err (fault_of (length text) halt))
 shows_fault text halts.NoMemory e = tt
 shows_fault text (halts.Syntax left) e = (text_answers text (Err (Lost left)) e).1
 shows_fault text (halts.TooDeep left) e =

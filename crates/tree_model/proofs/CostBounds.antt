@@ -42,7 +42,8 @@ sum_le_product r s hr hs =
     omega arith
 
 -- a node whose rule adds at most its size
-pub modest_node : (r s x y z : ℕ) → 2 ≤ r → 2 ≤ s → IsModest r x → IsModest s y → z ≤ 1000 * (r * s) → IsModest (r * s) (s * x + r * y + z)
+pub modest_node : (r s x y z : ℕ) → 2 ≤ r → 2 ≤ s → IsModest r x → IsModest s y → z ≤ 1000 * (r * s) →
+    IsModest (r * s) (s * x + r * y + z)
 modest_node r s x y z hr hs hx hy hz =
     let left : s * (x + 1000 * r) ≤ s * (2001 * (r * r)) = mul-le-mul_left s hx in
     let right : r * (y + 1000 * s) ≤ r * (2001 * (s * s)) = mul-le-mul_left r hy in
@@ -57,6 +58,7 @@ modest_fits d x n h le small =
     omega arith
 
 -- the sums on the way to a node's cost
-pub node_fits : (r s x y z n : ℕ) → 2 ≤ r → 2 ≤ s → IsModest r x → IsModest s y → z ≤ 1000 * (r * s) → r * s ≤ n → n ≤ 1048576 → s * x + r * y + z < 2 ^ 64
+pub node_fits : (r s x y z n : ℕ) → 2 ≤ r → 2 ≤ s → IsModest r x → IsModest s y → z ≤ 1000 * (r * s) → r * s ≤ n →
+    n ≤ 1048576 → s * x + r * y + z < 2 ^ 64
 node_fits r s x y z n hr hs hx hy hz le small =
     modest_fits (r * s) (s * x + r * y + z) n (modest_node r s x y z hr hs hx hy hz) le small

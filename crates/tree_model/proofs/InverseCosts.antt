@@ -1,5 +1,6 @@
 -- Trees cost the same by the inverse root.
-use Rattle.std.proofs.Common.{◌≡◌, ◌≢◌, ℕ, ◌+◌, ◌-◌, ◌*◌, ◌/◌, ◌≤◌, arith, refl, sym, ap, ap₂, ◌∙◌, if◌then◌else◌, nat_le}
+use Rattle.std.proofs.Common.{◌≡◌, ◌≢◌, ℕ, ◌+◌, ◌-◌, ◌*◌, ◌/◌, ◌≤◌, arith, refl, sym, ap, ap₂, ◌∙◌, if◌then◌else◌}
+use Rattle.std.proofs.Common.{nat_le}
 use Rattle.matrix_meaning.specs.Kind.{inverse_root}
 use Rattle.matrix_meaning.specs.declared.Kind.TheVariants.{Dft, Wht}
 use Rattle.matrix_meaning.specs.declared.Request.{Request}
@@ -10,7 +11,8 @@ use Rattle.ring_mod.proofs.Powers.{power_mod_of_power}
 use Rattle.tree_model.specs.declared.tree.Rule.{Rule}
 use Rattle.tree_model.specs.declared.tree.Rule.TheVariants.{Gt, Ct, Split, Dim}
 use Rattle.tree_model.specs.Breakdown.{Breakdown, leaf, node, size_of}
-use Rattle.tree_model.specs.Cost.{cost_of, is_kernel, leaf_cost, mul_cost_of, node_root, product_cost, products_cost, rule_cost}
+use Rattle.tree_model.specs.Cost.{cost_of, is_kernel, leaf_cost, mul_cost_of, node_root, product_cost, products_cost}
+use Rattle.tree_model.specs.Cost.{rule_cost}
 use Rattle.matrix_meaning.specs.Parts.{inverted}
 use Rattle.tree_model.specs.Inverses.{InverseCosts}
 use Rattle.matrix_meaning.proofs.Requests.{power_below}
@@ -26,7 +28,8 @@ module _ (c : Request) (dft : c.kind ≡ Dft) (valid : IsValid c) where
 
   -- a power of a node's inverse root costs as much as the one of its root
   power-same : (minus d e : ℕ) →
-      product_cost c minus (power_mod c.modulus (node_root (inverted c) d) e) ≡ product_cost c minus (power_mod c.modulus (node_root c d) e)
+      product_cost c minus (power_mod c.modulus (node_root (inverted c) d) e)
+      ≡ product_cost c minus (power_mod c.modulus (node_root c d) e)
   power-same minus d e =
       let q = c.size / d in
       let v = inverse_root c.modulus c.size c.root in
@@ -37,12 +40,14 @@ module _ (c : Request) (dft : c.kind ≡ Dft) (valid : IsValid c) where
       ∙ ap (product_cost c minus) (sym (power_mod_of_power c.modulus c.root q e))
 
   products-same : (minus d rows columns : ℕ) →
-      products_cost (inverted c) Dft minus (node_root (inverted c) d) rows columns ≡ products_cost c Dft minus (node_root c d) rows columns
+      products_cost (inverted c) Dft minus (node_root (inverted c) d) rows columns
+      ≡ products_cost c Dft minus (node_root c d) rows columns
   products-same minus d rows columns =
       sum_below-same rows _ _ (λ k _. sum_below-same columns _ _ (λ l _. power-same minus d (k * l)))
 
   entries-same : (minus d rows columns : ℕ) →
-      products_cost (inverted c) Dft minus (node_root (inverted c) d) rows columns ≡ products_cost c c.kind minus (node_root c d) rows columns
+      products_cost (inverted c) Dft minus (node_root (inverted c) d) rows columns
+      ≡ products_cost c c.kind minus (node_root c d) rows columns
   entries-same minus d rows columns =
       products-same minus d rows columns ∙ ap (λ kind. products_cost c kind minus (node_root c d) rows columns) (sym dft)
 

@@ -35,7 +35,8 @@ last-partner m x y two below product is =
 
 module _ (c : Request) (minus : ℕ) where
   -- a product by either costs the same
-  pub same-product : (x y : ℕ) → 2 ≤ c.modulus → x < c.modulus → y < c.modulus → (x * y) % c.modulus ≡ 1 % c.modulus → product_cost c minus x ≡ product_cost c minus y
+  pub same-product : (x y : ℕ) → 2 ≤ c.modulus → x < c.modulus → y < c.modulus → (x * y) % c.modulus ≡ 1 % c.modulus →
+      product_cost c minus x ≡ product_cost c minus y
   same-product x y two low high product =
       let turned : (y * x) % c.modulus ≡ 1 % c.modulus = ap (λ z. z % c.modulus) (mul_comm y x) ∙ product in
       let ones = one-partner c.modulus x y two high product in
@@ -45,7 +46,8 @@ module _ (c : Request) (minus : ℕ) where
       grind (arith, nat_tests)
 
 -- the powers of the inverse root and of the root times one another are 1
-pub partners : (m n w e : ℕ) → 1 ≤ n → power_mod m w n ≡ 1 % m → (power_mod m (inverse_root m n w) e * power_mod m w e) % m ≡ 1 % m
+pub partners : (m n w e : ℕ) → 1 ≤ n → power_mod m w n ≡ 1 % m →
+    (power_mod m (inverse_root m n w) e * power_mod m w e) % m ≡ 1 % m
 partners m n w e some root =
     let parts : (n - 1) + 1 ≡ n = omega arith in
     let exponent : (n - 1) * e + e ≡ n * e + 0 = one-more (n - 1) ∙ ap (λ k. k * e + 0) parts in

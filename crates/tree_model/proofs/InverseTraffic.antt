@@ -1,12 +1,14 @@
 -- The passes of a tree are the same by any root, and load and store the same.
-use Rattle.std.proofs.Common.{◌≡◌, ℕ, ◌+◌, ◌*◌, true, false, List, [], ◌∷◌, ◌++◌, length, refl, ap, ap₂, ◌∙◌, if◌then◌else◌, nat_le}
+use Rattle.std.proofs.Common.{◌≡◌, ℕ, ◌+◌, ◌*◌, true, false, List, [], ◌∷◌, ◌++◌, length, refl, ap, ap₂, ◌∙◌}
+use Rattle.std.proofs.Common.{if◌then◌else◌, nat_le}
 use Rattle.matrix_meaning.specs.declared.Kind.{Kind}
 use Rattle.matrix_meaning.specs.declared.Kind.TheVariants.{Dft}
 use Rattle.matrix_meaning.specs.declared.Request.{Request}
 use Rattle.tree_model.specs.declared.tree.Rule.TheVariants.{Gt, Ct, Split, Dim}
 use Rattle.tree_model.specs.Breakdown.{Breakdown, leaf, node, size_of}
 use Rattle.tree_model.specs.Cost.{is_kernel}
-use Rattle.tree_model.specs.Passes.{Pass, nodes, tiles, twiddle_by, passes_of, node_loads, pass_loads, tiled_passes, loads_in, whole_passes}
+use Rattle.tree_model.specs.Passes.{Pass, nodes, tiles, twiddle_by, passes_of, node_loads, pass_loads, tiled_passes}
+use Rattle.tree_model.specs.Passes.{loads_in, whole_passes}
 use Rattle.matrix_meaning.specs.Parts.{inverted}
 use Rattle.tree_model.specs.Inverses.{InverseLoads, InverseStores}
 

@@ -6,7 +6,8 @@ use Rattle.matrix_meaning.specs.declared.Kind.TheVariants.{Dft, Idft}
 use Rattle.matrix_meaning.specs.declared.Request.{Request}
 use Rattle.matrix_meaning.specs.Parts.{first_in, first_of, rest_in, rest_of}
 use Rattle.matrix_meaning.specs.Valid.{IsInRange}
-use Rattle.matrix_meaning.proofs.Parts.{first_at_least_two, first_kind, parts_size, rest_at_least_two, rest_kind, several_kind}
+use Rattle.matrix_meaning.proofs.Parts.{first_at_least_two, first_kind, parts_size, rest_at_least_two, rest_kind}
+use Rattle.matrix_meaning.proofs.Parts.{several_kind}
 use Rattle.tree_model.specs.declared.tree.Rule.TheVariants.{Gt, Ct, Split, Dim}
 use Rattle.tree_model.specs.Admissible.{Fits}
 use Rattle.tree_model.specs.Breakdown.{Breakdown, leaf, node, size_of}

@@ -1,5 +1,6 @@
 -- How many passes a node of one size becomes, and how often they load each word.
-use Rattle.std.proofs.Common.{◌≡◌, ℕ, ◌+◌, ◌*◌, ◌≤◌, Bool, true, false, List, [], ◌∷◌, ◌++◌, length, refl, sym, ap, ap₂, ◌∙◌, arith, if◌then◌else◌, nat_le, length-append}
+use Rattle.std.proofs.Common.{◌≡◌, ℕ, ◌+◌, ◌*◌, ◌≤◌, Bool, true, false, List, [], ◌∷◌, ◌++◌, length, refl, sym, ap, ap₂}
+use Rattle.std.proofs.Common.{◌∙◌, arith, if◌then◌else◌, nat_le, length-append}
 use Rattle.std.specs.Prelude.{sum_by}
 use Rattle.std.proofs.lemmas.List.Sums.{sum_by-append, sum_by-cons}
 use Rattle.matrix_meaning.specs.declared.Request.{Request}
@@ -7,7 +8,8 @@ use Rattle.tree_model.specs.declared.tree.Rule.{Rule}
 use Rattle.tree_model.specs.declared.tree.Rule.TheVariants.{Gt, Ct, Split, Dim}
 use Rattle.tree_model.specs.Breakdown.{Breakdown, node, size_of}
 use Rattle.tree_model.specs.Cost.{is_kernel}
-use Rattle.tree_model.specs.Passes.{Pass, nodes, tiles, with_twiddles, twiddle_last, twiddle_by, passes_of, pass_loads, tiled_passes, whole_passes}
+use Rattle.tree_model.specs.Passes.{Pass, nodes, tiles, with_twiddles, twiddle_last, twiddle_by, passes_of, pass_loads}
+use Rattle.tree_model.specs.Passes.{tiled_passes, whole_passes}
 use Rattle.std.proofs.lemmas.Bool.Decides.{nat_tests}
 
 pub length-twiddle_last : (ps : List Pass) → length (twiddle_last ps) ≡ length ps

@@ -5,7 +5,8 @@ use Rattle.std.proofs.lemmas.Nat.{mul-mod_second}
 use Rattle.matrix_meaning.specs.declared.Kind.{Kind}
 use Rattle.matrix_meaning.specs.Kind.{entry_of, transform}
 use Rattle.operators.specs.Operator.{column, block, on_blocks, on_columns}
-use Rattle.operators.proofs.Lists.{length-list_below, at-list_below, list_below-same, place_below, factor_positive, by_rows, at-on_columns}
+use Rattle.operators.proofs.Lists.{length-list_below, at-list_below, list_below-same, place_below, factor_positive}
+use Rattle.operators.proofs.Lists.{by_rows, at-on_columns}
 use Rattle.operators.proofs.Matrices.{at-matrix_times}
 use Rattle.operators.proofs.Sums.{same-sum_below}
 use Rattle.tree_model.specs.Breakdown.{size_of}
@@ -15,10 +16,12 @@ use Rattle.tree_model.specs.Trees.{PlainTrees, single, tensor, trees_size, trees
 abbrev AreAlike : ℕ → ℕ → List ℕ → List ℕ → Type 0
 AreAlike m n x y = (i : ℕ) → i < n → slice_index x i % m ≡ slice_index y i % m
 
-transform-below : (kind : Kind) (m n root : ℕ) (x : List ℕ) (k : ℕ) → 0 < m → k < n → slice_index (transform kind m n root x) k < m
+transform-below : (kind : Kind) (m n root : ℕ) (x : List ℕ) (k : ℕ) → 0 < m → k < n →
+    slice_index (transform kind m n root x) k < m
 transform-below kind m n root x k modulus below = rw (at-matrix_times m n (entry_of kind m n root) x k below) (mod-lt _ modulus)
 
-transform-same : (kind : Kind) (m n root : ℕ) (x y : List ℕ) → AreAlike m n x y → transform kind m n root x ≡ transform kind m n root y
+transform-same : (kind : Kind) (m n root : ℕ) (x y : List ℕ) → AreAlike m n x y →
+    transform kind m n root x ≡ transform kind m n root y
 transform-same kind m n root x y h =
     list_below-same n _ _ (λ k below. same-sum_below m n _ _ (λ l within.
     let c = entry_of kind m n root k l in
@@ -28,7 +31,8 @@ pub trees-length : (m : ℕ) (trees : PlainTrees) (x : List ℕ) → length (tre
 trees-length m (single kind root tree) x = length-list_below (size_of tree) _
 trees-length m (tensor kind root tree others) x = length-list_below (size_of tree * trees_size others) _
 
-pub trees-below : (m : ℕ) (trees : PlainTrees) (x : List ℕ) (k : ℕ) → 0 < m → k < trees_size trees → slice_index (trees_on m trees x) k < m
+pub trees-below : (m : ℕ) (trees : PlainTrees) (x : List ℕ) (k : ℕ) → 0 < m → k < trees_size trees →
+    slice_index (trees_on m trees x) k < m
 trees-below m (single kind root tree) x k modulus below = transform-below kind m (size_of tree) root x k modulus below
 trees-below m (tensor kind root tree others) x k modulus below =
     let r = size_of tree in
@@ -40,7 +44,9 @@ trees-below m (tensor kind root tree others) x k modulus below =
     (transform-below kind m r root (column r s b inner) a modulus row))
     k below
 
-pub trees-same : (m : ℕ) (trees : PlainTrees) (x y : List ℕ) → ((i : ℕ) → i < trees_size trees → slice_index x i % m ≡ slice_index y i % m) → trees_on m trees x ≡ trees_on m trees y
+pub trees-same : (m : ℕ) (trees : PlainTrees) (x y : List ℕ) →
+    ((i : ℕ) → i < trees_size trees → slice_index x i % m ≡ slice_index y i % m) →
+    trees_on m trees x ≡ trees_on m trees y
 trees-same m (single kind root tree) x y h = transform-same kind m (size_of tree) root x y h
 trees-same m (tensor kind root tree others) x y h =
     let r = size_of tree in

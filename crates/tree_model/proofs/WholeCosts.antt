@@ -1,5 +1,6 @@
 -- The passes of a request's tree have its cost.
-use Rattle.std.proofs.Common.{◌≡◌, ◌≢◌, ℕ, ◌+◌, ◌*◌, Bool, true, false, List, [], ◌∷◌, ◌++◌, arith, if◌then◌else◌, nat_le, refl, sym, ap, ap₂, ◌∙◌, subst}
+use Rattle.std.proofs.Common.{◌≡◌, ◌≢◌, ℕ, ◌+◌, ◌*◌, Bool, true, false, List, [], ◌∷◌, ◌++◌, arith, if◌then◌else◌}
+use Rattle.std.proofs.Common.{nat_le, refl, sym, ap, ap₂, ◌∙◌, subst}
 use Rattle.std.specs.Prelude.{map, sum_by}
 use Rattle.std.proofs.lemmas.List.Sums.{sum_by-append, sum_by-cons}
 use Rattle.matrix_meaning.specs.declared.Dimensions.TheVariants.{One}
@@ -14,13 +15,17 @@ use Rattle.tree_model.specs.Breakdown.{Breakdown, leaf, node, size_of, IsWellFor
 use Rattle.tree_model.specs.Chosen.{IsWholeTree, closing_by, closing_cost, whole_cost}
 use Rattle.tree_model.specs.Cost.{cost_of, is_kernel, is_plain, mul_cost_of}
 use Rattle.tree_model.specs.Laws.{PassesDoTheCost}
-use Rattle.tree_model.specs.Passes.{Pass, nodes, tiles, pass_cost, passes_cost, passes_of, tiled_passes, twiddle_by, twiddle_last, whole_passes, with_twiddles}
+use Rattle.tree_model.specs.Passes.{Pass, nodes, tiles, pass_cost, passes_cost, passes_of, tiled_passes, twiddle_by}
+use Rattle.tree_model.specs.Passes.{twiddle_last, whole_passes, with_twiddles}
 use Rattle.tree_model.specs.Whole.{IsTreeOf, cost_in}
-use Rattle.tree_model.specs.WholePasses.{RequestPass, pass_of, closed_by, cost_of_pass, flat_passes, node_passes, pass_cost_in, passes_in, request_passes, shared_passes}
+use Rattle.tree_model.specs.WholePasses.{RequestPass, pass_of, closed_by, cost_of_pass, flat_passes, node_passes}
+use Rattle.tree_model.specs.WholePasses.{pass_cost_in, passes_in, request_passes, shared_passes}
 use Rattle.tree_model.proofs.FlatTrees.{flat_costs, tree_of_one, well_formed}
-use Rattle.tree_model.proofs.PassLaws.{IsPlainAtEnd, passes_cost_of, passes_plain, plain_append, twiddle_last_cost, whole_passes_cost}
+use Rattle.tree_model.proofs.PassLaws.{IsPlainAtEnd, passes_cost_of, passes_plain, plain_append, twiddle_last_cost}
+use Rattle.tree_model.proofs.PassLaws.{whole_passes_cost}
 use Rattle.tree_model.proofs.SeveralParts.{several_forward}
-use Rattle.tree_model.proofs.WholeTrees.{admissible_of_whole, cost_itself, cost_of_one, forward_dimensions, forward_itself, forward_size}
+use Rattle.tree_model.proofs.WholeTrees.{admissible_of_whole, cost_itself, cost_of_one, forward_dimensions}
+use Rattle.tree_model.proofs.WholeTrees.{forward_itself, forward_size}
 
 -- ---- passes of one size: their trees cost the same in either word
 

@@ -1,5 +1,6 @@
 -- The passes of the tree of a request, and how often they load each word.
-use Rattle.std.proofs.Common.{◌≡◌, ◌≢◌, ℕ, ◌+◌, ◌*◌, ◌≤◌, Bool, true, false, List, [], ◌∷◌, ◌++◌, length, refl, sym, ap, ap₂, ◌∙◌, subst, arith, if◌then◌else◌, nat_le, length-append}
+use Rattle.std.proofs.Common.{◌≡◌, ◌≢◌, ℕ, ◌+◌, ◌*◌, ◌≤◌, Bool, true, false, List, [], ◌∷◌, ◌++◌, length, refl, sym, ap}
+use Rattle.std.proofs.Common.{ap₂, ◌∙◌, subst, arith, if◌then◌else◌, nat_le, length-append}
 use Rattle.std.proofs.lemmas.List.{length-map}
 use Rattle.std.specs.Prelude.{map, sum_by}
 use Rattle.std.proofs.lemmas.List.Sums.{sum_by-append, sum_by-cons}
@@ -17,7 +18,8 @@ use Rattle.tree_model.specs.Chosen.{IsWholeTree}
 use Rattle.tree_model.specs.Cost.{is_plain}
 use Rattle.tree_model.specs.Passes.{Pass, nodes, tiles, pass_loads, passes_of, whole_passes}
 use Rattle.tree_model.specs.Whole.{IsTreeOf}
-use Rattle.tree_model.specs.WholePasses.{RequestPass, pass_of, closed_by, flat_passes, loads_of_pass, node_passes, passes_in, request_passes, shared_passes, whole_loads}
+use Rattle.tree_model.specs.WholePasses.{RequestPass, pass_of, closed_by, flat_passes, loads_of_pass, node_passes}
+use Rattle.tree_model.specs.WholePasses.{passes_in, request_passes, shared_passes, whole_loads}
 use Rattle.tree_model.proofs.FlatTrees.{well_formed}
 use Rattle.tree_model.proofs.SeveralParts.{several_forward}
 use Rattle.tree_model.proofs.TrafficLaws.{length-twiddle_last, loads_at, loads_at-twiddle_last, several, single}

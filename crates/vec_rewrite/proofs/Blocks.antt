@@ -5,12 +5,14 @@ use Rattle.operators.specs.Identities.{turn}
 use Rattle.operators.specs.Operator.{Operator, on_columns, on_blocks, column, block}
 use Rattle.operators.specs.Sum.{list_below}
 use Rattle.operators.proofs.Blocks.{tensor_of_product, lanes_of_blocks, tiles_first, tiles_last}
-use Rattle.operators.proofs.Lists.{at-list_below, length-list_below, list_below-same, list_below-same_rows, row-of, column-of, place_below, at-stride}
+use Rattle.operators.proofs.Lists.{at-list_below, length-list_below, list_below-same, list_below-same_rows, row-of}
+use Rattle.operators.proofs.Lists.{column-of, place_below, at-stride}
 use Rattle.operators.proofs.Places.{on_columns_at, on_blocks_at, column_at, block_at, same_by_three}
 use Rattle.operators.proofs.TensorPaths.Equal.{on_blocks-same}
 
 -- blocks of columns are columns of blocks
-pub blocks_of_columns : (k n v : ℕ) (a : Operator) (x : List ℕ) → on_blocks k (n * v) (on_columns n v a) x ≡ on_columns (k * n) v (on_blocks k n a) x
+pub blocks_of_columns : (k n v : ℕ) (a : Operator) (x : List ℕ) →
+    on_blocks k (n * v) (on_columns n v a) x ≡ on_columns (k * n) v (on_blocks k n a) x
 blocks_of_columns k n v a x =
     same_by_three k n v _ _ (length-list_below _ _ ∙ sym (mul_assoc k n v)) (length-list_below _ _) (λ i j l h_i h_j h_l.
     on_blocks_at k (n * v) (on_columns n v a) x ((i * n + j) * v + l) i (j * v + l) h_i (place_below j l n v h_j h_l) (omega arith)
@@ -33,14 +35,16 @@ turn-back v s y =
     ap₂ (λ b a. slice_index (turn v s y) (b * s + a)) (column-of i j v below) (row-of i j v below)
     ∙ at-stride v s y j i below row)
 
-pub copied-blocks : (q n : ℕ) (y : List ℕ) → on_blocks q n (λ z. list_below n (slice_index z)) y ≡ list_below (q * n) (slice_index y)
+pub copied-blocks : (q n : ℕ) (y : List ℕ) → on_blocks q n (λ z. list_below n (slice_index z)) y ≡ list_below (q * n)
+    (slice_index y)
 copied-blocks q n y =
     list_below-same_rows q n _ _ (λ a b row below.
     ap₂ (λ i j. slice_index (list_below n (slice_index (block n i y))) j) (row-of a b n below) (column-of a b n below)
     ∙ at-list_below n _ b below
     ∙ block_at n a y b below)
 
-pub joined-parted : (q v s : ℕ) (y : List ℕ) → on_blocks q (v * s) (turn s v) (on_blocks q (v * s) (turn v s) y) ≡ list_below (q * (v * s)) (slice_index y)
+pub joined-parted : (q v s : ℕ) (y : List ℕ) → on_blocks q (v * s) (turn s v) (on_blocks q (v * s) (turn v s) y)
+    ≡ list_below (q * (v * s)) (slice_index y)
 joined-parted q v s y =
     sym (tensor_of_product (v * s) q (turn s v) (turn v s) y (λ z. length-list_below _ _)).1
     ∙ on_blocks-same q (v * s) _ _ y (λ z. turn-back v s z ∙ ap (λ n. list_below n (slice_index z)) (mul_comm s v))
@@ -48,7 +52,8 @@ joined-parted q v s y =
 
 -- a matrix on rows, by lanes
 pub rows_by_lanes : (q v s : ℕ) (a : Operator) (y : List ℕ) →
-    on_blocks (q * v) s a y ≡ on_blocks q (v * s) (turn v s) (on_columns (q * s) v (on_blocks q s a) (on_blocks q (v * s) (turn s v) y))
+    on_blocks (q * v) s a y ≡ on_blocks q (v * s) (turn v s)
+    (on_columns (q * s) v (on_blocks q s a) (on_blocks q (v * s) (turn s v) y))
 rows_by_lanes q v s a y =
     let n = v * s in
     let turned : s * v ≡ n = mul_comm s v in
@@ -61,7 +66,8 @@ rows_by_lanes q v s a y =
 
 -- tiles, and then their vectors
 pub tiles_then_vectors : (q v t : ℕ) (y : List ℕ) →
-    on_blocks q (v * (t * v)) (turn v (t * v)) y ≡ on_columns (q * (v * t)) v (on_blocks q (v * t) (turn v t)) (on_blocks q (t * (v * v)) (on_blocks t (v * v) (turn v v)) y)
+    on_blocks q (v * (t * v)) (turn v (t * v)) y ≡ on_columns (q * (v * t)) v (on_blocks q (v * t) (turn v t))
+    (on_blocks q (t * (v * v)) (on_blocks t (v * v) (turn v v)) y)
 tiles_then_vectors q v t y =
     let n = v * (t * v) in
     let tiled : t * (v * v) ≡ n = omega arith in
@@ -75,7 +81,8 @@ tiles_then_vectors q v t y =
 
 -- vectors, and then tiles
 pub vectors_then_tiles : (q v t : ℕ) (y : List ℕ) →
-    on_blocks q (v * (t * v)) (turn (t * v) v) y ≡ on_blocks q (t * (v * v)) (on_blocks t (v * v) (turn v v)) (on_columns (q * (t * v)) v (on_blocks q (t * v) (turn t v)) y)
+    on_blocks q (v * (t * v)) (turn (t * v) v) y ≡ on_blocks q (t * (v * v)) (on_blocks t (v * v) (turn v v))
+    (on_columns (q * (t * v)) v (on_blocks q (t * v) (turn t v)) y)
 vectors_then_tiles q v t y =
     let n = v * (t * v) in
     let tiled : n ≡ t * (v * v) = omega arith in

@@ -16,9 +16,11 @@ use Rattle.operators.specs.declared.tensor_paths.Tensor.TheVariants.{Blocks, Col
 use Rattle.operators.specs.TensorPaths.Path.{Path, size_under, under}
 use Rattle.vec_rewrite.specs.declared.Deal.{Deal}
 use Rattle.vec_rewrite.specs.declared.Grid.{Grid}
-use Rattle.vec_rewrite.specs.Turning.{joined, settled, grid_after, order_after, narrowed, block_factors, laned, laned_from}
+use Rattle.vec_rewrite.specs.Turning.{joined, settled, grid_after, order_after, narrowed, block_factors, laned}
+use Rattle.vec_rewrite.specs.Turning.{laned_from}
 use Rattle.vec_rewrite.specs.Vectors.{PlainFactor, lanes, diagonals, move_before, move_after, factor_step}
-use Rattle.vec_rewrite.proofs.Whole.{apart, together, on_lanes, parted-on, joined-on, rows-on_lanes, joined-again, turn-on_lanes, columns-on_lanes}
+use Rattle.vec_rewrite.proofs.Whole.{apart, together, on_lanes, parted-on, joined-on, rows-on_lanes, joined-again}
+use Rattle.vec_rewrite.proofs.Whole.{turn-on_lanes, columns-on_lanes}
 
 -- ---- which factors can be cut
 
@@ -65,7 +67,8 @@ settle d (Some g) x = apart d.procs g.groups d.lanes (g.tiles * d.lanes) x
 abbrev all_of : ℕ → Deal → List PlainFactor → Operator
 all_of m d fs = all_on m (map (factor_step d.procs d.lanes) fs)
 
-all_of-append : (m : ℕ) (d : Deal) (fs gs : List PlainFactor) (x : List ℕ) → all_of m d (fs ++ gs) x ≡ all_of m d gs (all_of m d fs x)
+all_of-append : (m : ℕ) (d : Deal) (fs gs : List PlainFactor) (x : List ℕ) →
+    all_of m d (fs ++ gs) x ≡ all_of m d gs (all_of m d fs x)
 all_of-append m d fs gs x =
     ap (λ ss. all_on m ss x) (map-append (factor_step d.procs d.lanes) fs gs) ∙ all_on-append m (map (factor_step d.procs d.lanes) fs) (map (factor_step d.procs d.lanes) gs) x
 
@@ -74,13 +77,15 @@ settled-on m d None x = refl
 settled-on m d (Some g) x = parted-on m d g x
 
 -- a factor after words that are brought into their own order
-after-settled : (m : ℕ) (d : Deal) (o : Option Grid) (f : PlainFactor) (x : List ℕ) → all_of m d (settled d o ++ f ∷ []) x ≡ step_on m (factor_step d.procs d.lanes f) (settle d o x)
+after-settled : (m : ℕ) (d : Deal) (o : Option Grid) (f : PlainFactor) (x : List ℕ) →
+    all_of m d (settled d o ++ f ∷ []) x ≡ step_on m (factor_step d.procs d.lanes f) (settle d o x)
 after-settled m d o f x = all_of-append m d (settled d o) (f ∷ []) x ∙ ap (step_on m (factor_step d.procs d.lanes f)) (settled-on m d o x)
 
 -- ---- each kind of factor
 
 column_on : (m : ℕ) (d : Deal) (w : ℕ) (path : Path) (core : PlainCore) (x : List ℕ) → IsWide d.lanes w →
-    step_on m (factor_step d.procs d.lanes (lanes (narrowed d.lanes (Columns w ∷ path) core))) x ≡ step_on m (smp.factor_step d.procs (smp.blocks (step (Columns w ∷ path) core))) x
+    step_on m (factor_step d.procs d.lanes (lanes (narrowed d.lanes (Columns w ∷ path) core))) x
+    ≡ step_on m (smp.factor_step d.procs (smp.blocks (step (Columns w ∷ path) core))) x
 column_on m d w path core x h =
     let p = d.procs in
     let v = d.lanes in
@@ -92,7 +97,8 @@ column_on m d w path core x h =
     ∙ columns-on_lanes p rows (w / v) v a x)
 
 move_on : (m : ℕ) (d : Deal) (path : Path) (core : PlainCore) (x : List ℕ) → MoveFollows d path →
-    step_on m (step (within (Columns d.lanes) (narrowed d.lanes path core).path) (narrowed d.lanes path core).core) x ≡ step_on m (step path core) x
+    step_on m (step (within (Columns d.lanes) (narrowed d.lanes path core).path) (narrowed d.lanes path core).core) x
+    ≡ step_on m (step path core) x
 move_on m d [] core x h = absurd h
 move_on m d (Blocks r ∷ path) core x h = absurd h
 move_on m d (Columns w ∷ path) core x h =
@@ -103,7 +109,9 @@ move_on m d (Columns w ∷ path) core x h =
     ∙ sym (ap (λ k. on_columns rows k a x) h ∙ columns_in_columns rows (w / v) v a x)
 
 root-turn_on : (m : ℕ) (d : Deal) (r s : ℕ) (x : List ℕ) → IsWide d.lanes r → IsWide d.lanes s →
-    settle d (grid_after d [] (turns r s)) (step_on m (factor_step d.procs d.lanes (lanes (step [] (turns (r / d.lanes) s)))) x) ≡ step_on m (smp.factor_step d.procs (smp.blocks (step [] (turns r s)))) x
+    settle d (grid_after d [] (turns r s))
+    (step_on m (factor_step d.procs d.lanes (lanes (step [] (turns (r / d.lanes) s)))) x)
+    ≡ step_on m (smp.factor_step d.procs (smp.blocks (step [] (turns r s)))) x
 root-turn_on m d r s x rows cols =
     let p = d.procs in
     let v = d.lanes in
@@ -116,13 +124,16 @@ root-turn_on m d r s x rows cols =
 
 -- on rows that lie in groups, as a step on all lanes
 lane-on : (m : ℕ) (p v q : ℕ) (path : Path) (core : PlainCore) (x : List ℕ) →
-    step_on m (factor_step p v (lanes (step (within (Blocks q) path) core))) x ≡ on_lanes p q v (size_under path (core_size core)) (under path (core_size core) (core_on m core)) x
+    step_on m (factor_step p v (lanes (step (within (Blocks q) path) core))) x
+    ≡ on_lanes p q v (size_under path (core_size core)) (under path (core_size core) (core_on m core)) x
 lane-on m p v q path core x =
     under-within_all (Blocks p ∷ Columns v ∷ Blocks q ∷ []) path (core_size core) (core_on m core) x (core-gives m core) (core-reads m core)
 
-row-on : (m : ℕ) (p v r k : ℕ) (path : Path) (core : PlainCore) (x : List ℕ) → IsWide v r → size_under path (core_size core) ≡ k →
+row-on : (m : ℕ) (p v r k : ℕ) (path : Path) (core : PlainCore) (x : List ℕ) → IsWide v r →
+    size_under path (core_size core) ≡ k →
     step_on m (smp.factor_step p (smp.blocks (step (Blocks r ∷ path) core))) x
-    ≡ apart p (r / v) v k (on_lanes p (r / v) v (size_under path (core_size core)) (under path (core_size core) (core_on m core)) (together p (r / v) v k x))
+    ≡ apart p (r / v) v k (on_lanes p (r / v) v (size_under path (core_size core))
+    (under path (core_size core) (core_on m core)) (together p (r / v) v k x))
 row-on m p v r k path core x h e =
     let s = size_under path (core_size core) in
     let a = under path (core_size core) (core_on m core) in
@@ -131,8 +142,10 @@ row-on m p v r k path core x h e =
     ∙ rows-on_lanes p (r / v) v s a x
     ∙ ap (λ n. apart p (r / v) v n (on_lanes p (r / v) v s a (together p (r / v) v n x))) e
 
-rows_on : (m : ℕ) (d : Deal) (o : Option Grid) (r : ℕ) (path : Path) (core : PlainCore) (x : List ℕ) → BlockFollows d o (Blocks r ∷ path) core →
-    settle d (grid_after d (Blocks r ∷ path) core) (all_of m d (block_factors d o (Blocks r ∷ path) core) x) ≡ step_on m (smp.factor_step d.procs (smp.blocks (step (Blocks r ∷ path) core))) (settle d o x)
+rows_on : (m : ℕ) (d : Deal) (o : Option Grid) (r : ℕ) (path : Path) (core : PlainCore) (x : List ℕ) →
+    BlockFollows d o (Blocks r ∷ path) core →
+    settle d (grid_after d (Blocks r ∷ path) core) (all_of m d (block_factors d o (Blocks r ∷ path) core) x)
+    ≡ step_on m (smp.factor_step d.procs (smp.blocks (step (Blocks r ∷ path) core))) (settle d o x)
 rows_on m d None r path core x h =
     let p = d.procs in
     let v = d.lanes in
@@ -158,8 +171,10 @@ rows_on m d (Some g) r path core x h =
     ∙ sym (row-on m p v r (t * v) path core (apart p q v (t * v) x) h.0 h.1)
     ∙ ap (λ f. step_on m (smp.factor_step p (smp.blocks (step (Blocks r ∷ path) core))) (apart p f.groups v (f.tiles * v) x)) (sym h.2)
 
-block_on : (m : ℕ) (d : Deal) (o : Option Grid) (path : Path) (core : PlainCore) (x : List ℕ) → BlockFollows d o path core →
-    settle d (grid_after d path core) (all_of m d (block_factors d o path core) x) ≡ step_on m (smp.factor_step d.procs (smp.blocks (step path core))) (settle d o x)
+block_on : (m : ℕ) (d : Deal) (o : Option Grid) (path : Path) (core : PlainCore) (x : List ℕ) →
+    BlockFollows d o path core →
+    settle d (grid_after d path core) (all_of m d (block_factors d o path core) x)
+    ≡ step_on m (smp.factor_step d.procs (smp.blocks (step path core))) (settle d o x)
 block_on m d o [] (piece t) x h = absurd h
 block_on m d o [] (turns r s) x h =
     ap (settle d (grid_after d [] (turns r s))) (after-settled m d o (lanes (step [] (turns (r / d.lanes) s))) x) ∙ root-turn_on m d r s (settle d o x) h.0 h.1
@@ -181,7 +196,8 @@ one_on m d o (smp.move_before s) x h = after-settled m d o (move_before (narrowe
 one_on m d o (smp.move_after s) x h = after-settled m d o (move_after (narrowed d.lanes s.path s.core)) x ∙ move_on m d s.path s.core (settle d o x) h
 
 pub laned_on : (m : ℕ) (d : Deal) (o : Option Grid) (fs : List smp.PlainFactor) (x : List ℕ) → AllFollow d o fs →
-    all_on m (map (factor_step d.procs d.lanes) (laned_from d o fs)) x ≡ all_on m (map (smp.factor_step d.procs) fs) (settle d o x)
+    all_on m (map (factor_step d.procs d.lanes) (laned_from d o fs)) x ≡ all_on m (map (smp.factor_step d.procs) fs)
+    (settle d o x)
 laned_on m d o [] x h = settled-on m d o x
 laned_on m d o (f ∷ fs) x h =
     all_of-append m d (laned d o f) (laned_from d (order_after d f) fs) x

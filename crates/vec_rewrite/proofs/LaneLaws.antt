@@ -1,5 +1,6 @@
 -- The formula of a whole for lanes: what it does, and each processor's operations.
-use Rattle.std.proofs.Common.{◌≡◌, ◌≢◌, ℕ, ◌+◌, ◌<◌, ◌≤◌, arith, refl, sym, ap, ap₂, subst, ◌∙◌, List, [], ◌∷◌, ◌++◌, inl, inr, if◌then◌else◌}
+use Rattle.std.proofs.Common.{◌≡◌, ◌≢◌, ℕ, ◌+◌, ◌<◌, ◌≤◌, arith, refl, sym, ap, ap₂, subst, ◌∙◌, List, [], ◌∷◌, ◌++◌}
+use Rattle.std.proofs.Common.{inl, inr, if◌then◌else◌}
 use Rattle.std.specs.Prelude.{◌/◌, map, None}
 use Rattle.std.proofs.lemmas.Bool.{cases_eq}
 use Rattle.std.proofs.lemmas.List.{map-append}
@@ -31,14 +32,16 @@ kept-steps p (smp.move_after s ∷ fs) = ap (λ ss. s ∷ ss) (kept-steps p fs)
 
 -- what a phase does and costs, where it can be cut into several lanes
 record PhaseKeeps (weight m : ℕ) (d : Deal) (fs : List smp.PlainFactor) : Type 0 where
-  meaning : (x : List ℕ) → all_on m (map (factor_step d.procs d.lanes) (phase_of d fs)) x ≡ all_on m (map (smp.factor_step d.procs) fs) x
+  meaning : (x : List ℕ) → all_on m (map (factor_step d.procs d.lanes) (phase_of d fs)) x
+      ≡ all_on m (map (smp.factor_step d.procs) fs) x
   share : shares_in weight m d.procs d.lanes (phase_of d fs) ≡ smp.shares_in weight m d.procs fs
 
 phase-kept : (weight m p block v : ℕ) (fs : List smp.PlainFactor) → v ≡ 1 → PhaseKeeps weight m (record { procs = p; block = block; lanes = v }) fs
 phase-kept weight m p block v fs one =
     subst (λ v. PhaseKeeps weight m (record { procs = p; block = block; lanes = v }) fs) (sym one) (record { meaning = λ x. ap (λ ss. all_on m ss x) (kept-steps p fs); share = kept-share weight m p fs })
 
-phase-laned : (weight m : ℕ) (d : Deal) (fs : List smp.PlainFactor) → d.lanes ≢ 1 → 0 < d.procs → AllFollow d None fs → PhaseKeeps weight m d fs
+phase-laned : (weight m : ℕ) (d : Deal) (fs : List smp.PlainFactor) → d.lanes ≢ 1 → 0 < d.procs → AllFollow d None fs →
+    PhaseKeeps weight m d fs
 phase-laned weight m d fs several positive h =
     let cut : phase_of d fs ≡ laned_from d None fs = ap (λ b. if b then map kept fs else laned_from d None fs) (unequal d.lanes several) in
     record {
@@ -54,7 +57,8 @@ PhasesKeep weight m d first second =
     × (shares_in weight m d.procs d.lanes (phase_of d first) ≡ smp.shares_in weight m d.procs first)
     × (shares_in weight m d.procs d.lanes (phase_of d second) ≡ smp.shares_in weight m d.procs second)
 
-both-keep : (weight m : ℕ) (d : Deal) (first second : List smp.PlainFactor) → PhaseKeeps weight m d first → PhaseKeeps weight m d second → PhasesKeep weight m d first second
+both-keep : (weight m : ℕ) (d : Deal) (first second : List smp.PlainFactor) → PhaseKeeps weight m d first →
+    PhaseKeeps weight m d second → PhasesKeep weight m d first second
 both-keep weight m d first second h k =
     let fs = phase_of d first in
     let gs = phase_of d second in

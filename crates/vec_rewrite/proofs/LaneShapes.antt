@@ -1,5 +1,6 @@
 -- The factors for lanes are `A tensor I_v` or tiles in blocks of equal size, diagonals of equal parts, and permutations of vectors.
-use Rattle.std.proofs.Common.{◌≡◌, ◌≢◌, ℕ, ◌*◌, ◌/◌, ◌%◌, ◌≤◌, arith, sym, ap, subst, ◌∙◌, List, [], ◌∷◌, ◌++◌, inl, inr, if◌then◌else◌}
+use Rattle.std.proofs.Common.{◌≡◌, ◌≢◌, ℕ, ◌*◌, ◌/◌, ◌%◌, ◌≤◌, arith, sym, ap, subst, ◌∙◌, List, [], ◌∷◌, ◌++◌, inl}
+use Rattle.std.proofs.Common.{inr, if◌then◌else◌}
 use Rattle.std.specs.Prelude.{All, map, Option, None, Some}
 use Rattle.std.proofs.Math.Nat.{mul-mod_right}
 use Rattle.std.proofs.lemmas.Bool.{cases_eq}
@@ -21,7 +22,8 @@ use Rattle.operators.specs.declared.target.Target.{Target}
 use Rattle.vec_rewrite.specs.declared.Deal.{Deal}
 use Rattle.vec_rewrite.specs.declared.Grid.{Grid}
 use Rattle.vec_rewrite.specs.Laws.{HasLanes, IsLaned, VecShaped}
-use Rattle.vec_rewrite.specs.Turning.{kept, settled, grouped, grid_after, order_after, narrowed, block_factors, laned, laned_from, phase_of, deal_of, vec_of}
+use Rattle.vec_rewrite.specs.Turning.{kept, settled, grouped, grid_after, order_after, narrowed, block_factors, laned}
+use Rattle.vec_rewrite.specs.Turning.{laned_from, phase_of, deal_of, vec_of}
 use Rattle.vec_rewrite.specs.Vectors.{PlainFactor, lanes, diagonals, move_before, move_after, tiles}
 use Rattle.vec_rewrite.proofs.Following.{IsWide, BlockFollows, MoveFollows, Follows, AllFollow}
 use Rattle.vec_rewrite.proofs.Rows.{front, back}
@@ -35,7 +37,8 @@ AreShaped n d fs = All (HasLanes n d.procs d.lanes) fs
 one-shaped : (n : ℕ) (d : Deal) (f : PlainFactor) → HasLanes n d.procs d.lanes f → AreShaped n d (f ∷ [])
 one-shaped n d f h = All-cons (HasLanes n d.procs d.lanes) f [] h (All-nil (HasLanes n d.procs d.lanes))
 
-two-shaped : (n : ℕ) (d : Deal) (f g : PlainFactor) → HasLanes n d.procs d.lanes f → HasLanes n d.procs d.lanes g → AreShaped n d (f ∷ g ∷ [])
+two-shaped : (n : ℕ) (d : Deal) (f g : PlainFactor) → HasLanes n d.procs d.lanes f → HasLanes n d.procs d.lanes g →
+    AreShaped n d (f ∷ g ∷ [])
 two-shaped n d f g h k = All-cons (HasLanes n d.procs d.lanes) f (g ∷ []) h (one-shaped n d g k)
 
 -- groups that fill the blocks
@@ -46,14 +49,16 @@ abbrev IsFilled : ℕ → Deal → Option Grid → Type 0
 IsFilled n d None = Unit {0}
 IsFilled n d (Some g) = Fills n d g
 
-tiles-shaped : (n : ℕ) (d : Deal) (g : Grid) → Fills n d g → HasLanes n d.procs d.lanes (tiles (within (Blocks g.groups) (within (Blocks g.tiles) [])))
+tiles-shaped : (n : ℕ) (d : Deal) (g : Grid) → Fills n d g →
+    HasLanes n d.procs d.lanes (tiles (within (Blocks g.groups) (within (Blocks g.tiles) [])))
 tiles-shaped n d g h =
     let across = within (Blocks g.tiles) [] in
     let square = d.lanes * d.lanes in
     let size = ap (λ k. d.procs * k) (size-within (Blocks g.groups) across square ∙ ap (λ k. g.groups * k) (size-within (Blocks g.tiles) [] square)) in
     (size ∙ omega (arith, h), blocks-within g.groups across (blocks-within g.tiles [] tt))
 
-turn-shaped : (n : ℕ) (d : Deal) (g : Grid) (r s : ℕ) → Fills n d g → r * s ≡ g.tiles * d.lanes → d.lanes * step_size (step (within (Blocks d.procs) (within (Blocks g.groups) [])) (turns r s)) ≡ n
+turn-shaped : (n : ℕ) (d : Deal) (g : Grid) (r s : ℕ) → Fills n d g → r * s ≡ g.tiles * d.lanes →
+    d.lanes * step_size (step (within (Blocks d.procs) (within (Blocks g.groups) [])) (turns r s)) ≡ n
 turn-shaped n d g r s h e =
     ap (λ k. d.lanes * k) (size-within (Blocks d.procs) (within (Blocks g.groups) []) (r * s) ∙ ap (λ k. d.procs * k) (size-within (Blocks g.groups) [] (r * s)))
     ∙ ap (λ k. d.lanes * (d.procs * (g.groups * k))) e
@@ -71,7 +76,8 @@ grouped-shaped n d None g h =
     (turn-shaped n d g g.tiles d.lanes h (omega arith), tt) (tiles-shaped n d g h)
 grouped-shaped n d (Some q) g h = All-nil (HasLanes n d.procs d.lanes)
 
-after-shaped : (n : ℕ) (d : Deal) (o : Option Grid) (f : PlainFactor) → IsFilled n d o → HasLanes n d.procs d.lanes f → AreShaped n d (settled d o ++ f ∷ [])
+after-shaped : (n : ℕ) (d : Deal) (o : Option Grid) (f : PlainFactor) → IsFilled n d o → HasLanes n d.procs d.lanes f →
+    AreShaped n d (settled d o ++ f ∷ [])
 after-shaped n d o f h k = All-append (HasLanes n d.procs d.lanes) (settled d o) (f ∷ []) (settled-shaped n d o h) (one-shaped n d f k)
 
 -- ---- each factor
@@ -81,7 +87,8 @@ row-fills n d r m t rows e h =
     let q = r / d.lanes in
     let whole : d.procs * (q * d.lanes * (t * d.lanes)) ≡ n = ap (λ k. d.procs * (q * d.lanes * k)) (sym e) ∙ ap (λ k. d.procs * (k * m)) (sym rows) ∙ h in omega (arith, whole)
 
-filled-after : (n : ℕ) (d : Deal) (o : Option Grid) (path : Path) (core : PlainCore) → BlockFollows d o path core → d.procs * size_under path (core_size core) ≡ n → IsFilled n d (grid_after d path core)
+filled-after : (n : ℕ) (d : Deal) (o : Option Grid) (path : Path) (core : PlainCore) → BlockFollows d o path core →
+    d.procs * size_under path (core_size core) ≡ n → IsFilled n d (grid_after d path core)
 filled-after n d o [] (piece t) h e = tt
 filled-after n d o [] (turns r s) h e = row-fills n d r s (s / d.lanes) h.0 h.1 e
 filled-after n d o [] (twiddles r s w) h e = tt
@@ -91,19 +98,23 @@ filled-after n d o (Blocks r ∷ path) core h e = row-fills n d r (size_under pa
 filled-after n d o (Columns w ∷ path) core h e = tt
 
 -- a diagonal in each block
-whole-shaped : (n : ℕ) (d : Deal) (path : Path) (r s w : ℕ) → d.procs * size_under path (r * s) ≡ n → HasLanes n d.procs d.lanes (diagonals (step (within (Blocks d.procs) path) (twiddles r s w)))
+whole-shaped : (n : ℕ) (d : Deal) (path : Path) (r s w : ℕ) → d.procs * size_under path (r * s) ≡ n →
+    HasLanes n d.procs d.lanes (diagonals (step (within (Blocks d.procs) path) (twiddles r s w)))
 whole-shaped n d path r s w e = (size-within (Blocks d.procs) path (r * s) ∙ e, tt, ap (λ k. k % d.procs) (sym e) ∙ mul-mod_right d.procs (size_under path (r * s)))
 
-narrow-size : (d : Deal) (w : ℕ) (path : Path) (core : PlainCore) → IsWide d.lanes w → d.lanes * step_size (narrowed d.lanes (Columns w ∷ path) core) ≡ size_under (Columns w ∷ path) (core_size core)
+narrow-size : (d : Deal) (w : ℕ) (path : Path) (core : PlainCore) → IsWide d.lanes w →
+    d.lanes * step_size (narrowed d.lanes (Columns w ∷ path) core) ≡ size_under (Columns w ∷ path) (core_size core)
 narrow-size d w path core h =
     let m = size_under path (core_size core) in
     ap (λ k. d.lanes * k) (size-within (Columns (w / d.lanes)) path (core_size core)) ∙ omega arith ∙ ap (λ k. m * k) (sym h)
 
-lane-shaped : (n : ℕ) (d : Deal) (w : ℕ) (path : Path) (core : PlainCore) → IsWide d.lanes w → d.procs * size_under (Columns w ∷ path) (core_size core) ≡ n →
+lane-shaped : (n : ℕ) (d : Deal) (w : ℕ) (path : Path) (core : PlainCore) → IsWide d.lanes w →
+    d.procs * size_under (Columns w ∷ path) (core_size core) ≡ n →
     HasLanes n d.procs d.lanes (lanes (narrowed d.lanes (Columns w ∷ path) core))
 lane-shaped n d w path core h e = ap (λ k. d.procs * k) (narrow-size d w path core h) ∙ e
 
-block-shaped : (n : ℕ) (d : Deal) (o : Option Grid) (path : Path) (core : PlainCore) → BlockFollows d o path core → IsFilled n d o → d.procs * size_under path (core_size core) ≡ n →
+block-shaped : (n : ℕ) (d : Deal) (o : Option Grid) (path : Path) (core : PlainCore) → BlockFollows d o path core →
+    IsFilled n d o → d.procs * size_under path (core_size core) ≡ n →
     AreShaped n d (block_factors d o path core)
 block-shaped n d o [] (piece t) h filled e = absurd h
 block-shaped n d o [] (turns r s) h filled e =
@@ -126,25 +137,29 @@ block-shaped n d o (Columns w ∷ path) (twiddles r s k) h filled e =
 block-shaped n d o (Columns w ∷ path) (thomas_in r s) h filled e = after-shaped n d o (lanes (narrowed d.lanes (Columns w ∷ path) (thomas_in r s))) filled (lane-shaped n d w path (thomas_in r s) h e)
 block-shaped n d o (Columns w ∷ path) (thomas_out r s) h filled e = after-shaped n d o (lanes (narrowed d.lanes (Columns w ∷ path) (thomas_out r s))) filled (lane-shaped n d w path (thomas_out r s) h e)
 
-move-shaped : (n line : ℕ) (d : Deal) (path : Path) (core : PlainCore) → MoveFollows d path → IsMove n line (step path core) →
+move-shaped : (n line : ℕ) (d : Deal) (path : Path) (core : PlainCore) → MoveFollows d path →
+    IsMove n line (step path core) →
     (d.lanes * step_size (narrowed d.lanes path core) ≡ n) × IsPermutation (narrowed d.lanes path core).core
 move-shaped n line d [] core h k = absurd h
 move-shaped n line d (Blocks r ∷ path) core h k = absurd h
 move-shaped n line d (Columns w ∷ path) core h k = (narrow-size d w path core h ∙ k.0, k.1)
 
-laned-shaped : (n line : ℕ) (d : Deal) (o : Option Grid) (f : smp.PlainFactor) → Follows d o f → IsFilled n d o → HasShape n d.procs line f → AreShaped n d (laned d o f)
+laned-shaped : (n line : ℕ) (d : Deal) (o : Option Grid) (f : smp.PlainFactor) → Follows d o f → IsFilled n d o →
+    HasShape n d.procs line f → AreShaped n d (laned d o f)
 laned-shaped n line d o (smp.blocks s) h filled e = block-shaped n d o s.path s.core h filled e
 laned-shaped n line d o (smp.diagonals s) h filled e = after-shaped n d o (diagonals s) filled e
 laned-shaped n line d o (smp.move_before s) h filled e = after-shaped n d o (move_before (narrowed d.lanes s.path s.core)) filled (move-shaped n line d s.path s.core h e)
 laned-shaped n line d o (smp.move_after s) h filled e = after-shaped n d o (move_after (narrowed d.lanes s.path s.core)) filled (move-shaped n line d s.path s.core h e)
 
-order-filled : (n line : ℕ) (d : Deal) (o : Option Grid) (f : smp.PlainFactor) → Follows d o f → HasShape n d.procs line f → IsFilled n d (order_after d f)
+order-filled : (n line : ℕ) (d : Deal) (o : Option Grid) (f : smp.PlainFactor) → Follows d o f →
+    HasShape n d.procs line f → IsFilled n d (order_after d f)
 order-filled n line d o (smp.blocks s) h e = filled-after n d o s.path s.core h e
 order-filled n line d o (smp.diagonals s) h e = tt
 order-filled n line d o (smp.move_before s) h e = tt
 order-filled n line d o (smp.move_after s) h e = tt
 
-from-shaped : (n line : ℕ) (d : Deal) (o : Option Grid) (fs : List smp.PlainFactor) → AllFollow d o fs → IsFilled n d o → All (HasShape n d.procs line) fs → AreShaped n d (laned_from d o fs)
+from-shaped : (n line : ℕ) (d : Deal) (o : Option Grid) (fs : List smp.PlainFactor) → AllFollow d o fs →
+    IsFilled n d o → All (HasShape n d.procs line) fs → AreShaped n d (laned_from d o fs)
 from-shaped n line d o [] h filled e = settled-shaped n d o filled
 from-shaped n line d o (f ∷ fs) h filled e =
     let first = All-head (HasShape n d.procs line) f fs e in
@@ -159,7 +174,8 @@ kept-one n p line (smp.diagonals s) e = e
 kept-one n p line (smp.move_before s) e = (omega arith ∙ e.0, e.1)
 kept-one n p line (smp.move_after s) e = (omega arith ∙ e.0, e.1)
 
-kept-shaped : (n p line : ℕ) (fs : List smp.PlainFactor) → All (HasShape n p line) fs → All (HasLanes n p 1) (map kept fs)
+kept-shaped : (n p line : ℕ) (fs : List smp.PlainFactor) → All (HasShape n p line) fs →
+    All (HasLanes n p 1) (map kept fs)
 kept-shaped n p line [] e = All-nil (HasLanes n p 1)
 kept-shaped n p line (f ∷ fs) e =
     All-cons (HasLanes n p 1) (kept f) (map kept fs) (kept-one n p line f (All-head (HasShape n p line) f fs e)) (kept-shaped n p line fs (All-tail (HasShape n p line) f fs e))
@@ -170,7 +186,8 @@ alone-phase : (n p block v line : ℕ) (fs : List smp.PlainFactor) → v ≡ 1 �
 alone-phase n p block v line fs one e =
     subst (λ v. AreShaped n (record { procs = p; block = block; lanes = v }) (phase_of (record { procs = p; block = block; lanes = v }) fs)) (sym one) (kept-shaped n p line fs e)
 
-laned-phase : (n line : ℕ) (d : Deal) (fs : List smp.PlainFactor) → d.lanes ≢ 1 → AllFollow d None fs → All (HasShape n d.procs line) fs → AreShaped n d (phase_of d fs)
+laned-phase : (n line : ℕ) (d : Deal) (fs : List smp.PlainFactor) → d.lanes ≢ 1 → AllFollow d None fs →
+    All (HasShape n d.procs line) fs → AreShaped n d (phase_of d fs)
 laned-phase n line d fs many h e =
     let cut : phase_of d fs ≡ laned_from d None fs = ap (λ b. if b then map kept fs else laned_from d None fs) (unequal d.lanes many) in
     subst (AreShaped n d) (sym cut) (from-shaped n line d None fs h tt e)

@@ -29,7 +29,8 @@ has-rows n p line (diagonals s) positive h = tt
 has-rows n p line (move_before s) positive h = tt
 has-rows n p line (move_after s) positive h = tt
 
-all-rows : (n p line : ℕ) (fs : List Factor) → 0 < n → All (HasShape n p line) (map plain_factor fs) → All (λ f. HasRows (plain_factor f)) fs
+all-rows : (n p line : ℕ) (fs : List Factor) → 0 < n → All (HasShape n p line) (map plain_factor fs) →
+    All (λ f. HasRows (plain_factor f)) fs
 all-rows n p line [] positive h = All-nil (λ f. HasRows (plain_factor f))
 all-rows n p line (f ∷ fs) positive h =
     All-cons (λ f. HasRows (plain_factor f)) f fs (has-rows n p line (plain_factor f) positive (All-head (HasShape n p line) (plain_factor f) (map plain_factor fs) h))
@@ -55,7 +56,8 @@ first_rows h f k =
     (front (HasShape f.target.size f.target.procs f.target.line) (plain_smp f).first (plain_smp f).second
     (shaped h (plain_smp f) k).0)
 
-pub second_rows : (h : Target) (f : SmpSpl) → IsSmpOf h (plain_smp f) → All (λ g. HasRows (plain_factor g)) f.second.items
+pub second_rows : (h : Target) (f : SmpSpl) → IsSmpOf h (plain_smp f) →
+    All (λ g. HasRows (plain_factor g)) f.second.items
 second_rows h f k =
     all-rows f.target.size f.target.procs f.target.line f.second.items (some-words h (plain_smp f) k)
     (back (HasShape f.target.size f.target.procs f.target.line) (plain_smp f).first (plain_smp f).second

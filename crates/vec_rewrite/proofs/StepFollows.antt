@@ -1,5 +1,6 @@
 -- The factors of the steps of a tree's root can be cut into lanes.
-use Rattle.std.proofs.Common.{◌≡◌, ◌≢◌, ℕ, zero, suc, ◌*◌, ◌/◌, ◌%◌, ◌<◌, false, arith, refl, sym, ap, ◌∙◌, List, [], ◌∷◌, ◌++◌, if◌then◌else◌, subst, mul_comm, append_assoc}
+use Rattle.std.proofs.Common.{◌≡◌, ◌≢◌, ℕ, zero, suc, ◌*◌, ◌/◌, ◌%◌, ◌<◌, false, arith, refl, sym, ap, ◌∙◌, List, []}
+use Rattle.std.proofs.Common.{◌∷◌, ◌++◌, if◌then◌else◌, subst, mul_comm, append_assoc}
 use Rattle.std.specs.Prelude.{◌==◌, Option, None, Some}
 use Rattle.std.specs.List.{flat_map}
 use Rattle.std.proofs.Math.Nat.{div-add-mod', zero-mul, suc-mul, mul-mod_right}
@@ -11,7 +12,8 @@ use Rattle.smp_rewrite.specs.Cut.{cut_factors, factors_of}
 use Rattle.smp_rewrite.proofs.Factors.{rows_of}
 use Rattle.smp_rewrite.proofs.Sized.{AreOfSize}
 use Rattle.smp_rewrite.specs.LayoutSteps.Meaning.{core_size}
-use Rattle.smp_rewrite.specs.LayoutSteps.Step.{PlainCore, piece, turns, twiddles, thomas_in, thomas_out, PlainStep, step}
+use Rattle.smp_rewrite.specs.LayoutSteps.Step.{PlainCore, piece, turns, twiddles, thomas_in, thomas_out, PlainStep}
+use Rattle.smp_rewrite.specs.LayoutSteps.Step.{step}
 use Rattle.operators.specs.declared.tensor_paths.Tensor.{Tensor}
 use Rattle.operators.specs.declared.tensor_paths.Tensor.TheVariants.{Blocks, Columns}
 use Rattle.operators.specs.TensorPaths.Path.{Path, count_of, grown, size_under}
@@ -22,7 +24,8 @@ use Rattle.vec_rewrite.proofs.Following.{IsWide, IsGridOf, BlockFollows, MoveFol
 
 -- ---- lists
 
-follow-append : (d : Deal) (o : Option Grid) (fs gs : List smp.PlainFactor) → AllFollow d o fs → ((q : Option Grid) → AllFollow d q gs) → AllFollow d o (fs ++ gs)
+follow-append : (d : Deal) (o : Option Grid) (fs gs : List smp.PlainFactor) → AllFollow d o fs →
+    ((q : Option Grid) → AllFollow d q gs) → AllFollow d o (fs ++ gs)
 follow-append d o [] gs h k = k o
 follow-append d o (f ∷ fs) gs h k = (h.0, follow-append d (order_after d f) fs gs h.1 k)
 
@@ -67,8 +70,10 @@ pub record AreLaned (d : Deal) (n r s u : ℕ) : Type 0 where
   pub rows : IsWide d.lanes u
   pub columns : IsWide d.lanes s
   pub block : d.block / u ≡ s
-  pub right : (path : Path) (core : PlainCore) → factors_of n d.procs (step (Blocks r ∷ path) core) ≡ smp.blocks (step (Blocks u ∷ path) core) ∷ []
-  pub left : (path : Path) (core : PlainCore) (o : Option Grid) → AllFollow d o (factors_of n d.procs (step (Columns s ∷ path) core))
+  pub right : (path : Path) (core : PlainCore) → factors_of n d.procs (step (Blocks r ∷ path) core)
+      ≡ smp.blocks (step (Blocks u ∷ path) core) ∷ []
+  pub left : (path : Path) (core : PlainCore) (o : Option Grid) →
+      AllFollow d o (factors_of n d.procs (step (Columns s ∷ path) core))
   pub root : (o : Option Grid) (fs : List smp.PlainFactor) → AllFollow d (Some (record { groups = u / d.lanes; tiles = s / d.lanes })) fs → AllFollow d o (factors_of n d.procs (step [] (turns r s)) ++ fs)
   pub diagonal : (w : ℕ) (o : Option Grid) → AllFollow d o (factors_of n d.procs (step [] (twiddles r s w)))
 
@@ -76,8 +81,10 @@ pub record AreLaned (d : Deal) (n r s u : ℕ) : Type 0 where
 abbrev pub grid : Deal → ℕ → Grid
 grid d u = record { groups = u / d.lanes; tiles = d.block / u / d.lanes }
 
-right-one : (d : Deal) (n r s u : ℕ) (o : Option Grid) (path : Path) (core : PlainCore) (fs : List smp.PlainFactor) → AreLaned d n r s u → HasHead (Blocks r) path → size_under path (core_size core) ≡ n →
-    IsGridOf o (grid d u) → AllFollow d (Some (grid d u)) fs → AllFollow d o (factors_of n d.procs (step path core) ++ fs)
+right-one : (d : Deal) (n r s u : ℕ) (o : Option Grid) (path : Path) (core : PlainCore) (fs : List smp.PlainFactor) →
+    AreLaned d n r s u → HasHead (Blocks r) path → size_under path (core_size core) ≡ n →
+    IsGridOf o (grid d u) → AllFollow d (Some (grid d u)) fs →
+    AllFollow d o (factors_of n d.procs (step path core) ++ fs)
 right-one d n r s u o [] core fs h head e g follow = absurd head
 right-one d n r s u o (t ∷ path) core fs h head e g follow =
     let m = size_under path (core_size core) in
@@ -87,26 +94,32 @@ right-one d n r s u o (t ∷ path) core fs h head e g follow =
     let main : AllFollow d o (factors_of n d.procs (step (Blocks r ∷ path) core) ++ fs) = subst (λ gs. AllFollow d o (gs ++ fs)) (sym (h.right path core)) ((h.rows, tall, g), follow) in
     subst (λ t. AllFollow d o (factors_of n d.procs (step (t ∷ path) core) ++ fs)) (sym head) main
 
-pub right-all : (d : Deal) (n r s u : ℕ) (o : Option Grid) (ss : List PlainStep) (fs : List smp.PlainFactor) → AreLaned d n r s u → HaveHead (Blocks r) ss → AreOfSize n ss →
-    IsGridOf o (grid d u) → ((q : Option Grid) → AllFollow d q fs) → AllFollow d o (flat_map (factors_of n d.procs) ss ++ fs)
+pub right-all : (d : Deal) (n r s u : ℕ) (o : Option Grid) (ss : List PlainStep) (fs : List smp.PlainFactor) →
+    AreLaned d n r s u → HaveHead (Blocks r) ss → AreOfSize n ss →
+    IsGridOf o (grid d u) → ((q : Option Grid) → AllFollow d q fs) →
+    AllFollow d o (flat_map (factors_of n d.procs) ss ++ fs)
 right-all d n r s u o [] fs h heads sized g rest = rest o
 right-all d n r s u o (x ∷ ss) fs h heads sized g rest =
     let others = flat_map (factors_of n d.procs) ss in
     let next : AllFollow d (Some (grid d u)) (others ++ fs) = right-all d n r s u (Some (grid d u)) ss fs h heads.1 sized.1 refl rest in
     subst (AllFollow d o) (sym (append_assoc (factors_of n d.procs x) others fs)) (right-one d n r s u o x.path x.core (others ++ fs) h heads.0 sized.0 g next)
 
-left-one : (d : Deal) (n r s u : ℕ) (o : Option Grid) (path : Path) (core : PlainCore) → AreLaned d n r s u → HasHead (Columns s) path → AllFollow d o (factors_of n d.procs (step path core))
+left-one : (d : Deal) (n r s u : ℕ) (o : Option Grid) (path : Path) (core : PlainCore) → AreLaned d n r s u →
+    HasHead (Columns s) path → AllFollow d o (factors_of n d.procs (step path core))
 left-one d n r s u o [] core h head = absurd head
 left-one d n r s u o (t ∷ path) core h head = subst (λ t. AllFollow d o (factors_of n d.procs (step (t ∷ path) core))) (sym head) (h.left path core o)
 
-pub left-all : (d : Deal) (n r s u : ℕ) (ss : List PlainStep) → AreLaned d n r s u → HaveHead (Columns s) ss → (o : Option Grid) → AllFollow d o (flat_map (factors_of n d.procs) ss)
+pub left-all : (d : Deal) (n r s u : ℕ) (ss : List PlainStep) → AreLaned d n r s u → HaveHead (Columns s) ss →
+    (o : Option Grid) → AllFollow d o (flat_map (factors_of n d.procs) ss)
 left-all d n r s u [] h heads o = tt
 left-all d n r s u (x ∷ ss) h heads o =
     follow-append d o (factors_of n d.procs x) (flat_map (factors_of n d.procs) ss) (left-one d n r s u o x.path x.core h heads.0) (left-all d n r s u ss h heads.1)
 
 -- the root of a ct, and of a split, with the steps of its left part or without
-pub ct-follows : (d : Deal) (n r s u w : ℕ) (right rest : List PlainStep) → AreLaned d n r s u → HaveHead (Blocks r) right → AreOfSize n right → HaveHead (Columns s) rest →
-    AllFollow d None (flat_map (factors_of n d.procs) (step [] (turns r s) ∷ (right ++ (step [] (twiddles r s w) ∷ rest))))
+pub ct-follows : (d : Deal) (n r s u w : ℕ) (right rest : List PlainStep) → AreLaned d n r s u →
+    HaveHead (Blocks r) right → AreOfSize n right → HaveHead (Columns s) rest →
+    AllFollow d None (flat_map (factors_of n d.procs) (step [] (turns r s)
+    ∷ (right ++ (step [] (twiddles r s w) ∷ rest))))
 ct-follows d n r s u w right rest h heads sized others =
     let tail = step [] (twiddles r s w) ∷ rest in
     let after : (q : Option Grid) → AllFollow d q (flat_map (factors_of n d.procs) tail) =
@@ -116,7 +129,8 @@ ct-follows d n r s u w right rest h heads sized others =
     (subst (AllFollow d (Some (record { groups = u / d.lanes; tiles = s / d.lanes }))) (sym (flat_map-append (factors_of n d.procs) right tail))
     (right-all d n r s u (Some (record { groups = u / d.lanes; tiles = s / d.lanes })) right (flat_map (factors_of n d.procs) tail) h heads sized same after))
 
-pub split-follows : (d : Deal) (n r s u : ℕ) (right rest : List PlainStep) → AreLaned d n r s u → HaveHead (Blocks r) right → AreOfSize n right → HaveHead (Columns s) rest →
+pub split-follows : (d : Deal) (n r s u : ℕ) (right rest : List PlainStep) → AreLaned d n r s u →
+    HaveHead (Blocks r) right → AreOfSize n right → HaveHead (Columns s) rest →
     AllFollow d None (flat_map (factors_of n d.procs) (right ++ rest))
 split-follows d n r s u right rest h heads sized others =
     subst (AllFollow d None) (sym (flat_map-append (factors_of n d.procs) right rest))
@@ -130,7 +144,8 @@ picked n p s e = ap (λ k. factors_of n k s) e
 cut-picked : (n p : ℕ) (s : PlainStep) → p ≢ 1 → factors_of n p s ≡ cut_factors n p s.path s.core
 cut-picked n p s h = ap (λ b. if b then smp.blocks s ∷ [] else cut_factors n p s.path s.core) (unequal p h)
 
-pub laned_alone : (d : Deal) (n r s : ℕ) → d.procs ≡ 1 → s * r ≡ n → 0 < r → IsWide d.lanes r → IsWide d.lanes s → d.block / r ≡ s → AreLaned d n r s r
+pub laned_alone : (d : Deal) (n r s : ℕ) → d.procs ≡ 1 → s * r ≡ n → 0 < r → IsWide d.lanes r → IsWide d.lanes s →
+    d.block / r ≡ s → AreLaned d n r s r
 laned_alone d n r s one size positive rows columns block = record {
   size = size;
   positive = positive;
@@ -146,10 +161,12 @@ laned_alone d n r s one size positive rows columns block = record {
 move-wide : (d : Deal) (w : ℕ) → 1 < d.lanes → IsWide d.lanes w → MoveFollows d (within (Columns w) [])
 move-wide d w several wide = subst (MoveFollows d) (sym (within-wide (Columns w) [] (not_one d.lanes w several wide))) wide
 
-block-wide : (d : Deal) (w : ℕ) (o : Option Grid) (path : Path) (core : PlainCore) → 1 < d.lanes → IsWide d.lanes w → BlockFollows d o (within (Columns w) path) core
+block-wide : (d : Deal) (w : ℕ) (o : Option Grid) (path : Path) (core : PlainCore) → 1 < d.lanes → IsWide d.lanes w →
+    BlockFollows d o (within (Columns w) path) core
 block-wide d w o path core several wide = subst (λ path. BlockFollows d o path core) (sym (within-wide (Columns w) path (not_one d.lanes w several wide))) wide
 
-left-cut : (d : Deal) (n s : ℕ) (o : Option Grid) (path : Path) (core : PlainCore) → 1 < d.lanes → IsWide d.lanes s → IsWide d.lanes (s / d.procs) → AllFollow d o (cut_factors n d.procs (Columns s ∷ path) core)
+left-cut : (d : Deal) (n s : ℕ) (o : Option Grid) (path : Path) (core : PlainCore) → 1 < d.lanes → IsWide d.lanes s →
+    IsWide d.lanes (s / d.procs) → AllFollow d o (cut_factors n d.procs (Columns s ∷ path) core)
 left-cut d n s o path (piece t) several wide part =
     (move-wide d (s / d.procs) several part, (block-wide d (s / d.procs) None path (piece t) several part, (move-wide d (s / d.procs) several part, tt)))
 left-cut d n s o path (turns q r) several wide part = (wide, tt)
@@ -157,7 +174,8 @@ left-cut d n s o path (twiddles q r w) several wide part = (tt, tt)
 left-cut d n s o path (thomas_in q r) several wide part = (wide, tt)
 left-cut d n s o path (thomas_out q r) several wide part = (wide, tt)
 
-pub laned_among : (d : Deal) (n r s : ℕ) → d.procs ≢ 1 → 1 < d.lanes → s * r ≡ n → 0 < r → IsWide d.lanes (r / d.procs) → IsWide d.lanes s → IsWide d.lanes (s / d.procs) → d.block / (r / d.procs) ≡ s →
+pub laned_among : (d : Deal) (n r s : ℕ) → d.procs ≢ 1 → 1 < d.lanes → s * r ≡ n → 0 < r →
+    IsWide d.lanes (r / d.procs) → IsWide d.lanes s → IsWide d.lanes (s / d.procs) → d.block / (r / d.procs) ≡ s →
     AreLaned d n r s (r / d.procs)
 laned_among d n r s many several size positive rows columns part block = record {
   size = size;

@@ -1,5 +1,6 @@
 -- The formula of a layout for processors can be cut into the machine's lanes.
-use Rattle.std.proofs.Common.{◌≡◌, ◌≢◌, ℕ, suc, ◌*◌, ◌/◌, ◌%◌, ◌<◌, ◌≤◌, true, false, arith, refl, sym, ap, ap₂, ◌∙◌, List, [], ◌∷◌, ◌++◌, inl, inr, if◌then◌else◌, subst, mul_comm, append-nil, append_assoc}
+use Rattle.std.proofs.Common.{◌≡◌, ◌≢◌, ℕ, suc, ◌*◌, ◌/◌, ◌%◌, ◌<◌, ◌≤◌, true, false, arith, refl, sym, ap, ap₂, ◌∙◌}
+use Rattle.std.proofs.Common.{List, [], ◌∷◌, ◌++◌, inl, inr, if◌then◌else◌, subst, mul_comm, append-nil, append_assoc}
 use Rattle.std.specs.Prelude.{take, drop, length, None}
 use Rattle.std.specs.List.{flat_map}
 use Rattle.std.proofs.Math.Nat.{mul-div_right}
@@ -24,7 +25,8 @@ use Rattle.operators.specs.declared.target.Target.{Target}
 use Rattle.vec_rewrite.specs.Turning.{deal_of}
 use Rattle.vec_rewrite.specs.declared.Deal.{Deal}
 use Rattle.vec_rewrite.proofs.Following.{IsWide, AllFollow}
-use Rattle.vec_rewrite.proofs.StepFollows.{HasHead, HaveHead, AreLaned, wide_from, wide_part, ct-follows, split-follows, left-all, laned_alone, laned_among, unequal}
+use Rattle.vec_rewrite.proofs.StepFollows.{HasHead, HaveHead, AreLaned, wide_from, wide_part, ct-follows, split-follows}
+use Rattle.vec_rewrite.proofs.StepFollows.{left-all, laned_alone, laned_among, unequal}
 
 -- ---- the steps of a part of the root stand under its tensor
 
@@ -32,7 +34,8 @@ head-append : (t : Tensor) (ss ts : List PlainStep) → HaveHead t ss → HaveHe
 head-append t [] ts h k = k
 head-append t (s ∷ ss) ts h k = (h.0, head-append t ss ts h.1 k)
 
-head-rule : (rule : Rule) (t : Tensor) (path : Path) (r s w : ℕ) (left right : List PlainStep) → HaveHead t left → HaveHead t right → HaveHead t (rule_steps rule (t ∷ path) r s w left right)
+head-rule : (rule : Rule) (t : Tensor) (path : Path) (r s w : ℕ) (left right : List PlainStep) → HaveHead t left →
+    HaveHead t right → HaveHead t (rule_steps rule (t ∷ path) r s w left right)
 head-rule Gt t path r s w left right h k = (refl, head-append t right _ k (head-append t left _ h (refl, tt)))
 head-rule Ct t path r s w left right h k = (refl, head-append t right _ k (refl, h))
 head-rule Split t path r s w left right h k = head-append t right left k h
@@ -49,7 +52,8 @@ abbrev pub BothFollow : Deal → PlainSmp → Type 0
 BothFollow d f = AllFollow d None f.first × AllFollow d None f.second
 
 -- one processor does all steps in the first phase
-alone-both : (h : Target) (d : Deal) (ss : List PlainStep) → h.procs ≡ 1 → AllFollow d None (flat_map (factors_of h.size h.procs) ss) → BothFollow d (cut h ss)
+alone-both : (h : Target) (d : Deal) (ss : List PlainStep) → h.procs ≡ 1 →
+    AllFollow d None (flat_map (factors_of h.size h.procs) ss) → BothFollow d (cut h ss)
 alone-both h d ss one k =
     let all : first_count h.procs ss ≡ length ss = ap (λ p. first_count p ss) one in
     let front : take (first_count h.procs ss) ss ≡ ss = ap (λ k. take k ss) all ∙ take-length ss in
@@ -83,14 +87,17 @@ count-left : (s : ℕ) (ss : List PlainStep) → HaveHead (Columns s) ss → rig
 count-left s [] h = refl
 count-left s (x ∷ ss) h = ap (λ b. if b then 0 else suc (right_count ss)) (left-head s x.path h.0)
 
-count-right : (s : ℕ) (front back : List PlainStep) → AreRight front → HaveHead (Columns s) back → right_count (front ++ back) ≡ length front
+count-right : (s : ℕ) (front back : List PlainStep) → AreRight front → HaveHead (Columns s) back →
+    right_count (front ++ back) ≡ length front
 count-right s [] back h k = count-left s back k
 count-right s (x ∷ front) back h k =
     ap (λ b. if b then 0 else suc (right_count (front ++ back))) h.0 ∙ ap (λ n. suc n) (count-right s front back h.1 k)
 
 -- several processors do the left part's in the second one
-among-both : (h : Target) (d : Deal) (s : ℕ) (front back : List PlainStep) → h.procs ≢ 1 → AreRight front → HaveHead (Columns s) back →
-    AllFollow d None (flat_map (factors_of h.size h.procs) front) → AllFollow d None (flat_map (factors_of h.size h.procs) back) → BothFollow d (cut h (front ++ back))
+among-both : (h : Target) (d : Deal) (s : ℕ) (front back : List PlainStep) → h.procs ≢ 1 → AreRight front →
+    HaveHead (Columns s) back →
+    AllFollow d None (flat_map (factors_of h.size h.procs) front) →
+    AllFollow d None (flat_map (factors_of h.size h.procs) back) → BothFollow d (cut h (front ++ back))
 among-both h d s front back many right left f g =
     let ss = front ++ back in
     let count : first_count h.procs ss ≡ length front = ap (λ b. if b then length ss else right_count ss) (unequal h.procs many) ∙ count-right s front back right left in
@@ -102,7 +109,8 @@ among-both h d s front back many right left f g =
 
 -- ---- the root
 
-root-both : (h : Target) (r s u w : ℕ) (rule : Rule) (left right : List PlainStep) → AreLaned (deal_of h) h.size r s u → HaveHead (Columns s) left → HaveHead (Blocks r) right → AreOfSize h.size right → (rule ≡ Gt → ⊥) →
+root-both : (h : Target) (r s u w : ℕ) (rule : Rule) (left right : List PlainStep) → AreLaned (deal_of h) h.size r s u →
+    HaveHead (Columns s) left → HaveHead (Blocks r) right → AreOfSize h.size right → (rule ≡ Gt → ⊥) →
     BothFollow (deal_of h) (cut h (rule_steps rule [] r s w left right))
 root-both h r s u w Gt left right laned columns rows sized apart = absurd (apart refl)
 root-both h r s u w Ct left right laned columns rows sized apart =
@@ -140,7 +148,8 @@ part_positive p k positive e = factor_positive p (k / p) 0 (omega (arith, positi
 not_alone : (h : Target) → 1 < h.lanes → is_alone h ≡ false
 not_alone h g = grind (arith, nat_tests)
 
-laned_root : (h : Target) (l : Layout) (r s : ℕ) → CanShareLayout h l → 1 < h.lanes → r * s ≡ h.size → HasParts h r s → (u : ℕ) × AreLaned (deal_of h) h.size r s u
+laned_root : (h : Target) (l : Layout) (r s : ℕ) → CanShareLayout h l → 1 < h.lanes → r * s ≡ h.size → HasParts h r s →
+    (u : ℕ) × AreLaned (deal_of h) h.size r s u
 laned_root h l r s shares several product fits =
     let low : 1 ≤ h.procs = shares.procs in
     let line_low : 1 ≤ h.line = shares.line in

@@ -17,10 +17,12 @@ use Rattle.vec_rewrite.specs.declared.Deal.{Deal}
 use Rattle.vec_rewrite.specs.declared.Grid.{Grid}
 use Rattle.vec_rewrite.specs.Turning.{parted, joined}
 use Rattle.vec_rewrite.specs.Vectors.{factor_step}
-use Rattle.vec_rewrite.proofs.Blocks.{blocks_of_columns, resized, copied-blocks, joined-parted, rows_by_lanes, tiles_then_vectors, vectors_then_tiles}
+use Rattle.vec_rewrite.proofs.Blocks.{blocks_of_columns, resized, copied-blocks, joined-parted, rows_by_lanes}
+use Rattle.vec_rewrite.proofs.Blocks.{tiles_then_vectors, vectors_then_tiles}
 
 -- a product in each block
-blocks_of_product : (k n m : ℕ) (a b : Operator) (x : List ℕ) → m ≡ n → HasSize m b → on_blocks k n (λ y. a (b y)) x ≡ on_blocks k n a (on_blocks k m b x)
+blocks_of_product : (k n m : ℕ) (a b : Operator) (x : List ℕ) → m ≡ n → HasSize m b →
+    on_blocks k n (λ y. a (b y)) x ≡ on_blocks k n a (on_blocks k m b x)
 blocks_of_product k n m a b x e size =
     (tensor_of_product n k a b x (λ y. size y ∙ e)).1 ∙ ap (on_blocks k n a) (resized k n m b x (sym e))
 
@@ -54,7 +56,8 @@ parted-on m d g x =
     ∙ blocks_of_columns p (q * (v * t)) v vectors between)
 
 pub joined-on : (m : ℕ) (d : Deal) (g : Grid) (x : List ℕ) →
-    all_on m (map (factor_step d.procs d.lanes) (joined d g)) x ≡ together d.procs g.groups d.lanes (g.tiles * d.lanes) x
+    all_on m (map (factor_step d.procs d.lanes) (joined d g)) x
+    ≡ together d.procs g.groups d.lanes (g.tiles * d.lanes) x
 joined-on m d g x =
     let p = d.procs in
     let v = d.lanes in
@@ -79,7 +82,8 @@ joined-on m d g x =
 abbrev pub on_lanes : ℕ → ℕ → ℕ → ℕ → Operator → Operator
 on_lanes p q v s a = on_blocks p (q * s * v) (on_columns (q * s) v (on_blocks q s a))
 
-pub rows-on_lanes : (p q v s : ℕ) (a : Operator) (x : List ℕ) → on_blocks p (q * v * s) (on_blocks (q * v) s a) x ≡ apart p q v s (on_lanes p q v s a (together p q v s x))
+pub rows-on_lanes : (p q v s : ℕ) (a : Operator) (x : List ℕ) →
+    on_blocks p (q * v * s) (on_blocks (q * v) s a) x ≡ apart p q v s (on_lanes p q v s a (together p q v s x))
 rows-on_lanes p q v s a x =
     let n = q * (v * s) in
     let whole : q * v * s ≡ n = omega arith in
@@ -93,7 +97,8 @@ rows-on_lanes p q v s a x =
     ∙ resized p n (q * s * v) columns (together p q v s x) (sym wide))
 
 -- a matrix on all lanes takes no notice of rows that were parted and joined again
-pub joined-again : (p q v s : ℕ) (a : Operator) (x : List ℕ) → on_lanes p q v s a (together p q v s (apart p q v s x)) ≡ on_lanes p q v s a x
+pub joined-again : (p q v s : ℕ) (a : Operator) (x : List ℕ) →
+    on_lanes p q v s a (together p q v s (apart p q v s x)) ≡ on_lanes p q v s a x
 joined-again p q v s a x =
     let n = q * (v * s) in
     let m = q * s * v in
@@ -106,7 +111,8 @@ joined-again p q v s a x =
     ∙ reads-one_under (Blocks p) m (on_columns (q * s) v (on_blocks q s a)) x
 
 -- the root's permutation on all lanes
-pub turn-on_lanes : (p q v s : ℕ) (x : List ℕ) → on_blocks p (q * v * s) (turn (q * v) s) x ≡ apart p q v s (on_blocks p (q * s * v) (on_columns (q * s) v (turn q s)) x)
+pub turn-on_lanes : (p q v s : ℕ) (x : List ℕ) → on_blocks p (q * v * s) (turn (q * v) s) x
+    ≡ apart p q v s (on_blocks p (q * s * v) (on_columns (q * s) v (turn q s)) x)
 turn-on_lanes p q v s x =
     let n = q * (v * s) in
     let whole : q * v * s ≡ n = omega arith in
@@ -116,7 +122,9 @@ turn-on_lanes p q v s x =
     ∙ blocks_of_product p n (q * s * v) (on_blocks q (v * s) (turn v s)) (on_columns (q * s) v (turn q s)) x wide (λ y. length-list_below _ _)
 
 -- columns on all lanes
-pub columns-on_lanes : (p m w v : ℕ) (a : Operator) (x : List ℕ) → on_blocks p (m * (w * v)) (on_columns m (w * v) a) x ≡ on_blocks p (m * w * v) (on_columns (m * w) v (on_columns m w a)) x
+pub columns-on_lanes : (p m w v : ℕ) (a : Operator) (x : List ℕ) →
+    on_blocks p (m * (w * v)) (on_columns m (w * v) a) x ≡ on_blocks p (m * w * v)
+    (on_columns (m * w) v (on_columns m w a)) x
 columns-on_lanes p m w v a x =
     let wide : m * (w * v) ≡ m * w * v = omega arith in
     resized p (m * (w * v)) (m * w * v) (on_columns m (w * v) a) x wide ∙ on_blocks-same p (m * w * v) _ _ x (λ y. columns_in_columns m w v a y)

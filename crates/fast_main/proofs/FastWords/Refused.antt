@@ -24,7 +24,8 @@ has_some e (k ∷ kinds) h = grind (arith, nat_tests)
 
 module _ (a : App) (read words : List Text) (is : a ≡ fast_app) (same : read ≡ words) where
   -- an error other than of memory shows that the words are refused
-  pub refused : (e : Error) → (is_simple_and_free a ≡ true → HasKind (fault_of a read) e) → (kind_of e ≡ kind.OutOfMemory → ⊥) → is_empty (fault_of fast_app words) ≡ false
+  pub refused : (e : Error) → (is_simple_and_free a ≡ true → HasKind (fault_of a read) e) →
+      (kind_of e ≡ kind.OutOfMemory → ⊥) → is_empty (fault_of fast_app words) ≡ false
   refused e h other =
       let fails : HasKind (fault_of a read) e = h (ap is_simple_and_free is ∙ simple_and_free) in
       let some : is_empty (fault_of a read) ≡ false = elim fails [

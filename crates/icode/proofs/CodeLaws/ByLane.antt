@@ -1,5 +1,6 @@
 -- Arithmetic lane by lane.
-use Rattle.std.proofs.Common.{◌≡◌, ℕ, ◌+◌, ◌-◌, ◌*◌, ◌<◌, ◌≤◌, ◌≢◌, inl, inr, List, [], ◌∷◌, length, map, replicate, refl, sym, ap, ap₂, ◌∙◌, arith, mul-le-mul_left, mul_comm}
+use Rattle.std.proofs.Common.{◌≡◌, ℕ, ◌+◌, ◌-◌, ◌*◌, ◌<◌, ◌≤◌, ◌≢◌, inl, inr, List, [], ◌∷◌, length, map, replicate}
+use Rattle.std.proofs.Common.{refl, sym, ap, ap₂, ◌∙◌, arith, mul-le-mul_left, mul_comm}
 use Rattle.std.proofs.lemmas.List.{length-replicate}
 use Rattle.std.specs.Prelude.{slice_index}
 use Rattle.std.proofs.Math.Path.{fun_ext}
@@ -9,11 +10,16 @@ use Rattle.ring_mod.specs.Residue.{sum_mod, difference_mod, negation_mod, produc
 use Rattle.icode.specs.declared.action.Action.{Action}
 use Rattle.icode.specs.declared.action.Action.TheVariants.{Load, Store, Zero, Add, Sub, Neg, Mul, Tile}
 use Rattle.icode.specs.declared.action.Counts.{Counts}
-use Rattle.icode.specs.Machine.{Local, effect, counted, counts_of, weighted, value_put, register_put, register_of, with_words, lane_by_lane}
+use Rattle.icode.specs.Machine.{Local, effect, counted, counts_of, weighted, value_put, register_put, register_of}
+use Rattle.icode.specs.Machine.{with_words, lane_by_lane}
 use Rattle.icode.proofs.Words.{length-words_at}
-use Rattle.icode.specs.CodeLaws.Lanes.{Registers, lane_of, with_register, lane_effect, lane_effects, IsArithmetic, operations, weighted_of, weighted_operations}
-use Rattle.icode.specs.CodeLaws.Laws.{ArithmeticIsByLane, ListsFollow, MulsAreByLane, OperationsAreByLane, WeightedIsByLane}
-use Rattle.icode.proofs.CodeLaws.Placing.{slice_index-words_at, slice_index-lane_by_lane, length-lane_by_lane, slice_index-map, length-mapped, slice_index-replicate, length-with_words, with_words_there, with_words_elsewhere}
+use Rattle.icode.specs.CodeLaws.Lanes.{Registers, lane_of, with_register, lane_effect, lane_effects, IsArithmetic}
+use Rattle.icode.specs.CodeLaws.Lanes.{operations, weighted_of, weighted_operations}
+use Rattle.icode.specs.CodeLaws.Laws.{ArithmeticIsByLane, ListsFollow, MulsAreByLane, OperationsAreByLane}
+use Rattle.icode.specs.CodeLaws.Laws.{WeightedIsByLane}
+use Rattle.icode.proofs.CodeLaws.Placing.{slice_index-words_at, slice_index-lane_by_lane, length-lane_by_lane}
+use Rattle.icode.proofs.CodeLaws.Placing.{slice_index-map, length-mapped, slice_index-replicate, length-with_words}
+use Rattle.icode.proofs.CodeLaws.Placing.{with_words_there, with_words_elsewhere}
 
 pub this_register : (g : Registers) (r v : ℕ) → with_register g r v r ≡ v
 this_register g r v = grind (arith, nat_tests)
@@ -22,14 +28,16 @@ pub other_register : (g : Registers) (q r v : ℕ) → q ≢ r → with_register
 other_register g q r v other = grind (arith, nat_tests)
 
 -- a register that gets the words vs
-pub put_register : (lanes regs r : ℕ) (words vs : List ℕ) (lane v : ℕ) → length vs ≡ lanes → r < regs → regs * lanes ≤ length words → lane < lanes → slice_index vs lane ≡ v →
+pub put_register : (lanes regs r : ℕ) (words vs : List ℕ) (lane v : ℕ) → length vs ≡ lanes → r < regs →
+    regs * lanes ≤ length words → lane < lanes → slice_index vs lane ≡ v →
     lane_of lanes (with_words words (r * lanes) vs) lane ≡ with_register (lane_of lanes words lane) r v
 put_register lanes regs r words vs lane v size low room below is = fun_ext (λ q. at q)
   where
     fits : r * lanes + length vs ≤ length words
     fits = let a = mul-le-mul_left lanes low in omega arith
 
-    at : (q : ℕ) → lane_of lanes (with_words words (r * lanes) vs) lane q ≡ with_register (lane_of lanes words lane) r v q
+    at : (q : ℕ) → lane_of lanes (with_words words (r * lanes) vs) lane q
+        ≡ with_register (lane_of lanes words lane) r v q
     at q =
         elim (cases_eq q r) [
           | inl same ↦
@@ -47,11 +55,13 @@ put_register lanes regs r words vs lane v size low room below is = fun_ext (λ q
         ]
 
 -- the words of a register, lane by lane
-pub lane_word : (lanes : ℕ) (words : List ℕ) (r lane : ℕ) → lane < lanes → slice_index (register_of lanes words r) lane ≡ lane_of lanes words lane r
+pub lane_word : (lanes : ℕ) (words : List ℕ) (r lane : ℕ) → lane < lanes →
+    slice_index (register_of lanes words r) lane ≡ lane_of lanes words lane r
 lane_word lanes words r lane below = slice_index-words_at lanes words (r * lanes) lane below
 
 -- one action of arithmetic
-pub effect_by_lane : (m lanes regs : ℕ) (action : Action) (s : Local) (lane : ℕ) → IsArithmetic lanes regs action → regs * lanes ≤ length s.registers → lane < lanes →
+pub effect_by_lane : (m lanes regs : ℕ) (action : Action) (s : Local) (lane : ℕ) → IsArithmetic lanes regs action →
+    regs * lanes ≤ length s.registers → lane < lanes →
     lane_of lanes (effect m lanes action s).registers lane ≡ lane_effect m lane action (lane_of lanes s.registers lane)
 effect_by_lane m lanes regs (Load r address) s lane is room below = absurd is
 effect_by_lane m lanes regs (Store address r) s lane is room below = absurd is
@@ -92,10 +102,12 @@ effect_by_lane m lanes regs (Mul r x factors) s lane is room below =
     ∙ ap (λ a. f a (slice_index factors lane)) (lane_word lanes s.registers x lane below))
 
 -- no action changes how many words there are
-pub length-registers_after : (m lanes : ℕ) (action : Action) (s : Local) → length (effect m lanes action s).registers ≡ length s.registers
+pub length-registers_after : (m lanes : ℕ) (action : Action) (s : Local) →
+    length (effect m lanes action s).registers ≡ length s.registers
 length-registers_after m lanes action s = length-with_words (value_put m lanes action s) s.registers (register_put action * lanes)
 
-memory_kept : (m lanes regs : ℕ) (action : Action) (s : Local) → IsArithmetic lanes regs action → (effect m lanes action s).memory ≡ s.memory
+memory_kept : (m lanes regs : ℕ) (action : Action) (s : Local) → IsArithmetic lanes regs action →
+    (effect m lanes action s).memory ≡ s.memory
 memory_kept m lanes regs (Load r address) s is = absurd is
 memory_kept m lanes regs (Store address r) s is = absurd is
 memory_kept m lanes regs (Tile r x) s is = absurd is
@@ -148,7 +160,8 @@ more_muls more lanes o m =
     let c : lanes * more ≡ more * lanes = mul_comm lanes more in
     omega arith
 
-weighted-counted : (weight lanes : ℕ) (action : Action) (c : Counts) → 0 < weight → weighted weight (counted lanes action c) ≡ lanes * weighted_of weight action + weighted weight c
+weighted-counted : (weight lanes : ℕ) (action : Action) (c : Counts) → 0 < weight →
+    weighted weight (counted lanes action c) ≡ lanes * weighted_of weight action + weighted weight c
 weighted-counted weight lanes (Load r address) c some = omega arith
 weighted-counted weight lanes (Store address r) c some = omega arith
 weighted-counted weight lanes (Zero r) c some = omega arith

@@ -1,5 +1,6 @@
 -- Code that fills words of the memory, piece by piece. No piece needs to know which words another fills.
-use Rattle.std.proofs.Common.{◌≡◌, ℕ, zero, suc, ◌<◌, ◌⊎◌, inl, inr, arith, refl, sym, ap, ◌∙◌, List, [], ◌∷◌, ◌++◌, subst, append-nil, append_assoc}
+use Rattle.std.proofs.Common.{◌≡◌, ℕ, zero, suc, ◌<◌, ◌⊎◌, inl, inr, arith, refl, sym, ap, ◌∙◌, List, [], ◌∷◌, ◌++◌}
+use Rattle.std.proofs.Common.{subst, append-nil, append_assoc}
 use Rattle.std.specs.Prelude.{slice_index}
 use Rattle.std.proofs.lemmas.Bool.{cases_eq}
 use Rattle.icode.specs.declared.action.Action.{Action}
@@ -16,14 +17,17 @@ word s a = slice_index s.memory a
 pub record Fills (m lanes : ℕ) (Ready : Local → Type 0) (IsOutput : ℕ → Type 0) (output : ℕ → ℕ) (Filled : ℕ → Type 0) (actions : List Action) : Type 0 where
   pub done : (s : Local) → Ready s → (a : ℕ) → Filled a → word (effects m lanes actions s) a ≡ output a
   pub kept : (s : Local) → Ready s → (a : ℕ) → (IsOutput a → ⊥) → word (effects m lanes actions s) a ≡ word s a
-  pub only : (s : Local) → Ready s → (a : ℕ) → (word (effects m lanes actions s) a ≡ word s a) ⊎ (word (effects m lanes actions s) a ≡ output a)
+  pub only : (s : Local) → Ready s → (a : ℕ) → (word (effects m lanes actions s) a ≡ word s a)
+      ⊎ (word (effects m lanes actions s) a ≡ output a)
   pub still : (s : Local) → Ready s → Ready (effects m lanes actions s)
 
 module _ (m lanes : ℕ) (Ready : Local → Type 0) (IsOutput : ℕ → Type 0) (output : ℕ → ℕ) where
   pub fills-none : Fills m lanes Ready IsOutput output (λ _. ⊥) []
   fills-none = record { done = λ s h a c. absurd c; kept = λ s h a c. refl; only = λ s h a. inl refl; still = λ s h. h }
 
-  pub fills-append : (Filled More : ℕ → Type 0) (xs ys : List Action) → Fills m lanes Ready IsOutput output Filled xs → Fills m lanes Ready IsOutput output More ys → Fills m lanes Ready IsOutput output (λ a. Filled a ⊎ More a) (xs ++ ys)
+  pub fills-append : (Filled More : ℕ → Type 0) (xs ys : List Action) → Fills m lanes Ready IsOutput output Filled xs →
+      Fills m lanes Ready IsOutput output More ys → Fills m lanes Ready IsOutput output (λ a. Filled a ⊎ More a)
+      (xs ++ ys)
   fills-append Filled More xs ys f g =
       record {
         done = λ s h a c. at s a ∙ second s h a c;
@@ -32,10 +36,12 @@ module _ (m lanes : ℕ) (Ready : Local → Type 0) (IsOutput : ℕ → Type 0) 
         still = λ s h. subst Ready (sym (lists_follow m lanes xs ys s)) (g.still (effects m lanes xs s) (f.still s h));
       }
     where
-      at : (s : Local) (a : ℕ) → word (effects m lanes (xs ++ ys) s) a ≡ word (effects m lanes ys (effects m lanes xs s)) a
+      at : (s : Local) (a : ℕ) → word (effects m lanes (xs ++ ys) s) a
+          ≡ word (effects m lanes ys (effects m lanes xs s)) a
       at s a = ap (λ (z : Local). word z a) (lists_follow m lanes xs ys s)
 
-      second : (s : Local) → Ready s → (a : ℕ) → Filled a ⊎ More a → word (effects m lanes ys (effects m lanes xs s)) a ≡ output a
+      second : (s : Local) → Ready s → (a : ℕ) → Filled a ⊎ More a →
+          word (effects m lanes ys (effects m lanes xs s)) a ≡ output a
       second s h a (inr c) = g.done (effects m lanes xs s) (f.still s h) a c
       second s h a (inl c) =
           elim (g.only (effects m lanes xs s) (f.still s h) a) [
@@ -43,16 +49,21 @@ module _ (m lanes : ℕ) (Ready : Local → Type 0) (IsOutput : ℕ → Type 0) 
             | inr filled ↦ filled
           ]
 
-      either : (s : Local) → Ready s → (a : ℕ) → (word (effects m lanes ys (effects m lanes xs s)) a ≡ word (effects m lanes xs s) a) ⊎ (word (effects m lanes ys (effects m lanes xs s)) a ≡ output a) → (word (effects m lanes xs s) a ≡ word s a) ⊎ (word (effects m lanes xs s) a ≡ output a) →
+      either : (s : Local) → Ready s → (a : ℕ) → (word (effects m lanes ys (effects m lanes xs s)) a
+          ≡ word (effects m lanes xs s) a) ⊎ (word (effects m lanes ys (effects m lanes xs s)) a ≡ output a) →
+          (word (effects m lanes xs s) a ≡ word s a) ⊎ (word (effects m lanes xs s) a ≡ output a) →
           (word (effects m lanes (xs ++ ys) s) a ≡ word s a) ⊎ (word (effects m lanes (xs ++ ys) s) a ≡ output a)
       either s h a (inr filled) f_only = inr (at s a ∙ filled)
       either s h a (inl same) (inl kept) = inl (at s a ∙ same ∙ kept)
       either s h a (inl same) (inr filled) = inr (at s a ∙ same ∙ filled)
 
-  pub fills-fewer : (Filled Fewer : ℕ → Type 0) (actions : List Action) → ((a : ℕ) → Fewer a → Filled a) → Fills m lanes Ready IsOutput output Filled actions → Fills m lanes Ready IsOutput output Fewer actions
+  pub fills-fewer : (Filled Fewer : ℕ → Type 0) (actions : List Action) → ((a : ℕ) → Fewer a → Filled a) →
+      Fills m lanes Ready IsOutput output Filled actions → Fills m lanes Ready IsOutput output Fewer actions
   fills-fewer Filled Fewer actions sub f = record { done = λ s h a c. f.done s h a (sub a c); kept = f.kept; only = f.only; still = f.still }
 
-  pub fills-loop : (n : ℕ) (Filled : ℕ → ℕ → Type 0) (body : ℕ → List Action) → ((v : ℕ) → v < n → Fills m lanes Ready IsOutput output (Filled v) (body v)) → Fills m lanes Ready IsOutput output (λ a. (v : ℕ) × (v < n) × Filled v a) (bodies n body)
+  pub fills-loop : (n : ℕ) (Filled : ℕ → ℕ → Type 0) (body : ℕ → List Action) →
+      ((v : ℕ) → v < n → Fills m lanes Ready IsOutput output (Filled v) (body v)) →
+      Fills m lanes Ready IsOutput output (λ a. (v : ℕ) × (v < n) × Filled v a) (bodies n body)
   fills-loop zero Filled body h = fills-fewer (λ _. ⊥) _ [] (λ a c. absurd (omega arith)) fills-none
   fills-loop (suc n) Filled body h =
       fills-fewer (λ a. ((v : ℕ) × (v < n) × Filled v a) ⊎ Filled n a) _ (bodies n body ++ body n) into
@@ -67,8 +78,10 @@ module _ (m lanes : ℕ) (Ready : Local → Type 0) (IsOutput : ℕ → Type 0) 
 
   -- loops in one another, after the values of outer loops
   pub fills-nest : (counts : List ℕ) (Filled : List ℕ → ℕ → Type 0) (body : List ℕ → List Action) (outer : List ℕ) →
-      ((vs : List ℕ) → AreInRange counts vs → Fills m lanes Ready IsOutput output (Filled (outer ++ vs)) (body (outer ++ vs))) →
-      Fills m lanes Ready IsOutput output (λ a. (vs : List ℕ) × AreInRange counts vs × Filled (outer ++ vs) a) (nest counts body outer)
+      ((vs : List ℕ) → AreInRange counts vs → Fills m lanes Ready IsOutput output (Filled (outer ++ vs))
+      (body (outer ++ vs))) →
+      Fills m lanes Ready IsOutput output (λ a. (vs : List ℕ) × AreInRange counts vs × Filled (outer ++ vs) a)
+      (nest counts body outer)
   fills-nest [] Filled body outer h =
       subst (λ us. Fills m lanes Ready IsOutput output (λ a. (vs : List ℕ) × AreInRange [] vs × Filled (outer ++ vs) a) (body us)) (append-nil outer)
       (fills-fewer (Filled (outer ++ [])) _ (body (outer ++ [])) only_value (h [] tt))
@@ -82,13 +95,16 @@ module _ (m lanes : ℕ) (Ready : Local → Type 0) (IsOutput : ℕ → Type 0) 
       (λ v below. fills-nest counts Filled body (outer ++ v ∷ []) (λ vs within.
       subst (λ us. Fills m lanes Ready IsOutput output (Filled us) (body us)) (sym (append_assoc outer (v ∷ []) vs)) (h (v ∷ vs) (below, within)))))
     where
-      into : (a : ℕ) → (vs : List ℕ) × AreInRange (count ∷ counts) vs × Filled (outer ++ vs) a → (v : ℕ) × (v < count) × ((vs : List ℕ) × AreInRange counts vs × Filled ((outer ++ v ∷ []) ++ vs) a)
+      into : (a : ℕ) → (vs : List ℕ) × AreInRange (count ∷ counts) vs × Filled (outer ++ vs) a →
+          (v : ℕ) × (v < count) × ((vs : List ℕ) × AreInRange counts vs × Filled ((outer ++ v ∷ []) ++ vs) a)
       into a ([], within, c) = absurd within
       into a (v ∷ vs, within, c) = (v, within.0, (vs, within.1, subst (λ us. Filled us a) (sym (append_assoc outer (v ∷ []) vs)) c))
 
 -- code that first changes no word, and after which more is known
-pub fills-after : (m lanes : ℕ) (Ready Known : Local → Type 0) (IsOutput : ℕ → Type 0) (output : ℕ → ℕ) (Filled : ℕ → Type 0) (xs ys : List Action) →
-    ((s : Local) → Ready s → Known (effects m lanes xs s)) → ((s : Local) → Ready s → (effects m lanes xs s).memory ≡ s.memory) → ((s : Local) → Known s → Ready s) →
+pub fills-after : (m lanes : ℕ) (Ready Known : Local → Type 0) (IsOutput : ℕ → Type 0) (output : ℕ → ℕ)
+    (Filled : ℕ → Type 0) (xs ys : List Action) →
+    ((s : Local) → Ready s → Known (effects m lanes xs s)) →
+    ((s : Local) → Ready s → (effects m lanes xs s).memory ≡ s.memory) → ((s : Local) → Known s → Ready s) →
     Fills m lanes Known IsOutput output Filled ys → Fills m lanes Ready IsOutput output Filled (xs ++ ys)
 fills-after m lanes Ready Known IsOutput output Filled xs ys learn same known f =
     record {
@@ -102,7 +118,8 @@ fills-after m lanes Ready Known IsOutput output Filled xs ys learn same known f 
       still = λ s h. subst Ready (sym (lists_follow m lanes xs ys s)) (known (effects m lanes ys (effects m lanes xs s)) (f.still (effects m lanes xs s) (learn s h)));
     }
   where
-    at : (s : Local) (a : ℕ) → word (effects m lanes (xs ++ ys) s) a ≡ word (effects m lanes ys (effects m lanes xs s)) a
+    at : (s : Local) (a : ℕ) → word (effects m lanes (xs ++ ys) s) a
+        ≡ word (effects m lanes ys (effects m lanes xs s)) a
     at s a = ap (λ (z : Local). word z a) (lists_follow m lanes xs ys s)
 
     before : (s : Local) → Ready s → (a : ℕ) → word (effects m lanes xs s) a ≡ word s a

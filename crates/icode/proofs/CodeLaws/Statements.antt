@@ -1,5 +1,6 @@
 -- The actions of statements in a row, and of a loop.
-use Rattle.std.proofs.Common.{◌≡◌, ℕ, zero, suc, ◌+◌, List, [], ◌∷◌, ◌++◌, flat_map, Vec, Global, refl, sym, ap, ap₂, ◌∙◌, arith, append-nil, append_assoc}
+use Rattle.std.proofs.Common.{◌≡◌, ℕ, zero, suc, ◌+◌, List, [], ◌∷◌, ◌++◌, flat_map, Vec, Global, refl, sym, ap, ap₂}
+use Rattle.std.proofs.Common.{◌∙◌, arith, append-nil, append_assoc}
 use Rattle.std.specs.List.{range_with_len}
 use Rattle.std.proofs.lemmas.List.Concat.{flat_map-append}
 use Rattle.std.proofs.Math.Path.{fun_ext}
@@ -24,7 +25,8 @@ range-last a (suc n) =
     let same : a + 1 + n ≡ a + suc n = omega arith in
     ap (λ l. a ∷ l) (range-last (a + 1) n) ∙ ap (λ k. a ∷ (range_with_len (a + 1) n ++ k ∷ [])) same
 
-actions_of-bodies : (n : ℕ) (steps : ℕ → List Step) → actions_of (flat_map steps (range_with_len 0 n)) ≡ bodies n (λ v. actions_of (steps v))
+actions_of-bodies : (n : ℕ) (steps : ℕ → List Step) → actions_of (flat_map steps (range_with_len 0 n))
+    ≡ bodies n (λ v. actions_of (steps v))
 actions_of-bodies zero steps = refl
 actions_of-bodies (suc n) steps =
     let same : 0 + n ≡ n = omega arith in
@@ -34,15 +36,18 @@ actions_of-bodies (suc n) steps =
     ∙ ap₂ (λ xs ys. xs ++ ys) (actions_of-bodies n steps) (ap actions_of (append-nil (steps n)))
 
 module _ (p : Program) where
-  steps-append : (xs ys : List Stmt) (vs : List ℕ) (q : ℕ) → body_steps p (xs ++ ys) vs q ≡ body_steps p xs vs q ++ body_steps p ys vs q
+  steps-append : (xs ys : List Stmt) (vs : List ℕ) (q : ℕ) →
+      body_steps p (xs ++ ys) vs q ≡ body_steps p xs vs q ++ body_steps p ys vs q
   steps-append [] ys vs q = refl
   steps-append (x ∷ xs) ys vs q =
       ap (λ zs. stmt_steps p x vs q ++ zs) (steps-append xs ys vs q) ∙ sym (append_assoc (stmt_steps p x vs q) (body_steps p xs vs q) (body_steps p ys vs q))
 
-  pub actions-append : (xs ys : List Stmt) (vs : List ℕ) (q : ℕ) → actions_at p (xs ++ ys) vs q ≡ actions_at p xs vs q ++ actions_at p ys vs q
+  pub actions-append : (xs ys : List Stmt) (vs : List ℕ) (q : ℕ) →
+      actions_at p (xs ++ ys) vs q ≡ actions_at p xs vs q ++ actions_at p ys vs q
   actions-append xs ys vs q = ap actions_of (steps-append xs ys vs q) ∙ actions_of-append (body_steps p xs vs q) (body_steps p ys vs q)
 
-  pub actions-loop : (count : ℕ) (body : Vec Stmt Global) (vs : List ℕ) (q : ℕ) → actions_at p (Loop count body ∷ []) vs q ≡ bodies count (λ v. actions_at p body.items (vs ++ v ∷ []) q)
+  pub actions-loop : (count : ℕ) (body : Vec Stmt Global) (vs : List ℕ) (q : ℕ) →
+      actions_at p (Loop count body ∷ []) vs q ≡ bodies count (λ v. actions_at p body.items (vs ++ v ∷ []) q)
   actions-loop count body vs q =
       ap actions_of (append-nil (stmt_steps p (Loop count body) vs q) ∙ steps-Loop p count body vs q)
       ∙ actions_of-bodies count (λ v. body_steps p body.items (vs ++ v ∷ []) q)
@@ -52,6 +57,7 @@ module _ (p : Program) where
 
   -- a loop round statements that are the actions of a nest
   pub nest-loop : (count : ℕ) (counts : List ℕ) (inner : Vec Stmt Global) (body : List ℕ → List Action) (q : ℕ) →
-      ((vs : List ℕ) → actions_at p inner.items vs q ≡ nest counts body vs) → (vs : List ℕ) → actions_at p (Loop count inner ∷ []) vs q ≡ nest (count ∷ counts) body vs
+      ((vs : List ℕ) → actions_at p inner.items vs q ≡ nest counts body vs) → (vs : List ℕ) →
+      actions_at p (Loop count inner ∷ []) vs q ≡ nest (count ∷ counts) body vs
   nest-loop count counts inner body q h vs =
       actions-loop count inner vs q ∙ ap (bodies count) (fun_ext (λ v. h (vs ++ v ∷ [])))

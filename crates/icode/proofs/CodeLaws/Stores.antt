@@ -1,5 +1,6 @@
 -- What loads and stores do.
-use Rattle.std.proofs.Common.{◌≡◌, ℕ, zero, suc, ◌+◌, ◌*◌, ◌-◌, ◌<◌, ◌≤◌, inl, inr, arith, refl, sym, ap, ◌∙◌, List, [], ◌∷◌, length, subst}
+use Rattle.std.proofs.Common.{◌≡◌, ℕ, zero, suc, ◌+◌, ◌*◌, ◌-◌, ◌<◌, ◌≤◌, inl, inr, arith, refl, sym, ap, ◌∙◌, List, []}
+use Rattle.std.proofs.Common.{◌∷◌, length, subst}
 use Rattle.std.specs.Prelude.{slice_index}
 use Rattle.std.proofs.lemmas.Bool.{cases_eq, cases_lt}
 use Rattle.icode.specs.declared.action.Action.{Action}
@@ -8,19 +9,24 @@ use Rattle.icode.specs.Machine.{Local, effect, effects, register_of, words_at}
 use Rattle.icode.proofs.Words.{length-words_at}
 use Rattle.icode.specs.CodeLaws.Lanes.{Registers, lane_of, with_register}
 use Rattle.icode.specs.CodeLaws.Nests.{loads}
-use Rattle.icode.proofs.CodeLaws.ByLane.{put_register, lane_word, this_register, other_register, length-registers_after, lists_follow}
+use Rattle.icode.proofs.CodeLaws.ByLane.{put_register, lane_word, this_register, other_register, length-registers_after}
+use Rattle.icode.proofs.CodeLaws.ByLane.{lists_follow}
 use Rattle.icode.proofs.CodeLaws.Fills.{word, Fills}
-use Rattle.icode.proofs.CodeLaws.Placing.{slice_index-words_at, with_words_there, with_words_elsewhere, length-with_words}
+use Rattle.icode.proofs.CodeLaws.Placing.{slice_index-words_at, with_words_there, with_words_elsewhere}
+use Rattle.icode.proofs.CodeLaws.Placing.{length-with_words}
 
 -- a load puts a word of the memory into each lane of its register
-pub load_by_lane : (m lanes regs : ℕ) (r address : ℕ) (s : Local) (lane : ℕ) → r < regs → regs * lanes ≤ length s.registers → lane < lanes →
-    lane_of lanes (effect m lanes (Load r address) s).registers lane ≡ with_register (lane_of lanes s.registers lane) r (word s (address + lane))
+pub load_by_lane : (m lanes regs : ℕ) (r address : ℕ) (s : Local) (lane : ℕ) → r < regs →
+    regs * lanes ≤ length s.registers → lane < lanes →
+    lane_of lanes (effect m lanes (Load r address) s).registers lane
+    ≡ with_register (lane_of lanes s.registers lane) r (word s (address + lane))
 load_by_lane m lanes regs r address s lane low wide below =
     put_register lanes regs r s.registers (words_at lanes s.memory address) lane (word s (address + lane)) (length-words_at lanes s.memory address) low wide below
     (slice_index-words_at lanes s.memory address lane below)
 
 -- a store puts each lane of its register into a word
-pub stored_word : (m lanes : ℕ) (r address : ℕ) (s : Local) (lane : ℕ) → address + lanes ≤ length s.memory → lane < lanes →
+pub stored_word : (m lanes : ℕ) (r address : ℕ) (s : Local) (lane : ℕ) → address + lanes ≤ length s.memory →
+    lane < lanes →
     word (effect m lanes (Store address r) s) (address + lane) ≡ lane_of lanes s.registers lane r
 stored_word m lanes r address s lane room below =
     let words = register_of lanes s.registers r in
@@ -28,22 +34,26 @@ stored_word m lanes r address s lane room below =
     with_words_there words s.memory address lane (omega arith) (omega arith) ∙ lane_word lanes s.registers r lane below
 
 -- and leaves the others
-pub other_word : (m lanes : ℕ) (r address : ℕ) (s : Local) (a : ℕ) → (address ≤ a → a < address + lanes → ⊥) → word (effect m lanes (Store address r) s) a ≡ word s a
+pub other_word : (m lanes : ℕ) (r address : ℕ) (s : Local) (a : ℕ) → (address ≤ a → a < address + lanes → ⊥) →
+    word (effect m lanes (Store address r) s) a ≡ word s a
 other_word m lanes r address s a outside =
     let words = register_of lanes s.registers r in
     let wide : length words ≡ lanes = length-words_at lanes s.registers (r * lanes) in
     with_words_elsewhere words s.memory address a (λ from to. outside from (omega arith))
 
 -- the words of the memory stay as many
-length-memory_after : (m lanes : ℕ) (action : Action) (s : Local) → length (effect m lanes action s).memory ≡ length s.memory
+length-memory_after : (m lanes : ℕ) (action : Action) (s : Local) →
+    length (effect m lanes action s).memory ≡ length s.memory
 length-memory_after m lanes (Store address r) s = length-with_words (register_of lanes s.registers r) s.memory address
 length-memory_after m lanes _ s = refl
 
-pub length-memory : (m lanes : ℕ) (actions : List Action) (s : Local) → length (effects m lanes actions s).memory ≡ length s.memory
+pub length-memory : (m lanes : ℕ) (actions : List Action) (s : Local) →
+    length (effects m lanes actions s).memory ≡ length s.memory
 length-memory m lanes [] s = refl
 length-memory m lanes (action ∷ actions) s = length-memory m lanes actions (effect m lanes action s) ∙ length-memory_after m lanes action s
 
-pub length-registers : (m lanes : ℕ) (actions : List Action) (s : Local) → length (effects m lanes actions s).registers ≡ length s.registers
+pub length-registers : (m lanes : ℕ) (actions : List Action) (s : Local) →
+    length (effects m lanes actions s).registers ≡ length s.registers
 length-registers m lanes [] s = refl
 length-registers m lanes (action ∷ actions) s = length-registers m lanes actions (effect m lanes action s) ∙ length-registers_after m lanes action s
 
@@ -78,7 +88,8 @@ store_fills m lanes Ready IsOutput output address r room outputs holds still =
     place : (a : ℕ) → address ≤ a → address + (a - address) ≡ a
     place a from = omega arith
 
-    there : (s : Local) → Ready s → (lane : ℕ) → lane < lanes → word (effect m lanes (Store address r) s) (address + lane) ≡ output (address + lane)
+    there : (s : Local) → Ready s → (lane : ℕ) → lane < lanes →
+        word (effect m lanes (Store address r) s) (address + lane) ≡ output (address + lane)
     there s h lane below = stored_word m lanes r address s lane (room s h) below ∙ holds s h lane below
 
 -- ---- loads
@@ -90,7 +101,8 @@ pub loads-memory : (m lanes : ℕ) (n : ℕ) (at : ℕ → ℕ) (s : Local) → 
 loads-memory m lanes zero at s = refl
 loads-memory m lanes (suc n) at s = ap (λ (z : Local). z.memory) (lists_follow m lanes (loads n at) (load_at at n) s) ∙ loads-memory m lanes n at s
 
-pub loads-registers : (m lanes regs : ℕ) (n : ℕ) (at : ℕ → ℕ) (s : Local) (lane k : ℕ) → n ≤ regs → regs * lanes ≤ length s.registers → lane < lanes → k < n →
+pub loads-registers : (m lanes regs : ℕ) (n : ℕ) (at : ℕ → ℕ) (s : Local) (lane k : ℕ) → n ≤ regs →
+    regs * lanes ≤ length s.registers → lane < lanes → k < n →
     lane_of lanes (effects m lanes (loads n at) s).registers lane k ≡ word s (at k + lane)
 loads-registers m lanes regs zero at s lane k few wide below under = absurd (omega arith)
 loads-registers m lanes regs (suc n) at s lane k few wide below under =

@@ -1,5 +1,6 @@
 -- What a tile does: lane l of register r + k becomes lane k of register x + l.
-use Rattle.std.proofs.Common.{◌≡◌, ℕ, zero, suc, ◌+◌, ◌*◌, ◌<◌, ◌≤◌, ◌⊎◌, inl, inr, List, [], ◌∷◌, ◌++◌, length, map, flat_map, refl, sym, ap, ◌∙◌, arith, append-nil, length-append, mul-le-mul_left}
+use Rattle.std.proofs.Common.{◌≡◌, ℕ, zero, suc, ◌+◌, ◌*◌, ◌<◌, ◌≤◌, ◌⊎◌, inl, inr, List, [], ◌∷◌, ◌++◌, length, map}
+use Rattle.std.proofs.Common.{flat_map, refl, sym, ap, ◌∙◌, arith, append-nil, length-append, mul-le-mul_left}
 use Rattle.std.specs.Prelude.{slice_index}
 use Rattle.std.specs.List.{range_with_len}
 use Rattle.std.proofs.lemmas.Bool.{cases_eq}
@@ -25,7 +26,8 @@ slice_index-back (x ∷ xs) ys i =
 abbrev joined : ℕ → (ℕ → ℕ → ℕ) → ℕ → List ℕ
 joined width item n = flat_map (λ k. map (item k) (range_with_len 0 width)) (range_with_len 0 n)
 
-joined-last : (width : ℕ) (item : ℕ → ℕ → ℕ) (n : ℕ) → joined width item (suc n) ≡ joined width item n ++ map (item n) (range_with_len 0 width)
+joined-last : (width : ℕ) (item : ℕ → ℕ → ℕ) (n : ℕ) → joined width item (suc n) ≡ joined width item n ++ map (item n)
+    (range_with_len 0 width)
 joined-last width item n =
     let row = λ (k : ℕ). map (item k) (range_with_len 0 width) in
     let same : 0 + n ≡ n = omega arith in
@@ -41,7 +43,8 @@ length-joined width item (suc n) =
     let wide = length-map-range_with_len (item n) 0 width in
     ap length (joined-last width item n) ∙ omega (arith, all, wide, length-joined width item n)
 
-at-joined : (width : ℕ) (item : ℕ → ℕ → ℕ) (n k l : ℕ) → k < n → l < width → slice_index (joined width item n) (k * width + l) ≡ item k l
+at-joined : (width : ℕ) (item : ℕ → ℕ → ℕ) (n k l : ℕ) → k < n → l < width →
+    slice_index (joined width item n) (k * width + l) ≡ item k l
 at-joined width item zero k l row column = absurd (omega arith)
 at-joined width item (suc n) k l row column =
     let long = length-joined width item n in
@@ -60,7 +63,8 @@ at-joined width item (suc n) k l row column =
     ]
 
 -- the registers that a tile changes
-pub tile_by_lane : (m lanes regs : ℕ) (r x : ℕ) (s : Local) (k l : ℕ) → r + lanes ≤ regs → regs * lanes ≤ length s.registers → k < lanes → l < lanes →
+pub tile_by_lane : (m lanes regs : ℕ) (r x : ℕ) (s : Local) (k l : ℕ) → r + lanes ≤ regs →
+    regs * lanes ≤ length s.registers → k < lanes → l < lanes →
     lane_of lanes (effect m lanes (Tile r x) s).registers l (r + k) ≡ lane_of lanes s.registers k (x + l)
 tile_by_lane m lanes regs r x s k l few wide row column =
     let words = transposed lanes s.registers x in

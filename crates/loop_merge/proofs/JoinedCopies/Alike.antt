@@ -12,9 +12,11 @@ use Rattle.loop_merge.specs.PlainPasses.{IsPlainNest}
 use Rattle.operators.specs.TensorPaths.Loop.{loop_at}
 
 pub record AreAlike (zs ys : List PlainNest) : Type 0 where
-  pub stores : (m : ℕ) (x : List ℕ) (w : ℕ) → all_stored (map (copies_of m) zs) x w ≡ all_stored (map (copies_of m) ys) x w
+  pub stores : (m : ℕ) (x : List ℕ) (w : ℕ) → all_stored (map (copies_of m) zs) x w
+      ≡ all_stored (map (copies_of m) ys) x w
   pub hit : (m w : ℕ) → hits (map (copies_of m) zs) w ≡ hits (map (copies_of m) ys) w
-  pub costs : (weight : ℕ) (cost : PlainWork → ℕ) → CopiesAreFree cost → pass_cost weight cost zs ≡ pass_cost weight cost ys
+  pub costs : (weight : ℕ) (cost : PlainWork → ℕ) → CopiesAreFree cost →
+      pass_cost weight cost zs ≡ pass_cost weight cost ys
   pub loads : pass_loads zs ≡ pass_loads ys
   pub tables : nests_tables zs ≡ nests_tables ys
   pub plain : (n m : ℕ) → n ≤ 1048576 → All (IsPlainNest n m) ys → All (IsPlainNest n m) zs

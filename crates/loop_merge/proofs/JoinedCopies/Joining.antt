@@ -1,9 +1,12 @@
 -- Two runs of words that are together do what their one loop does, and so do all of a pass.
-use Rattle.std.proofs.Common.{◌≡◌, ℕ, ◌+◌, ◌*◌, ◌≤◌, refl, sym, ap, ap₂, ◌∙◌, arith, subst, List, [], ◌∷◌, Option, Some, None}
+use Rattle.std.proofs.Common.{◌≡◌, ℕ, ◌+◌, ◌*◌, ◌≤◌, refl, sym, ap, ap₂, ◌∙◌, arith, subst, List, [], ◌∷◌, Option, Some}
+use Rattle.std.proofs.Common.{None}
 use Rattle.std.proofs.lemmas.List.Elements.{All-cons, All-head, All-tail}
-use Rattle.loop_merge.specs.JoinedCopies.Joined.{PlainRun, run_of, together, copying_run, before, put_first, with_copies_joined}
+use Rattle.loop_merge.specs.JoinedCopies.Joined.{PlainRun, run_of, together, copying_run, before, put_first}
+use Rattle.loop_merge.specs.JoinedCopies.Joined.{with_copies_joined}
 use Rattle.loop_merge.proofs.JoinedCopies.Alike.{AreAlike, same, then, behind}
-use Rattle.loop_merge.proofs.JoinedCopies.Loops.{copies_from, AreCounted, word_at, hit_at, loop-stored, loop-hits, counted, words-below, loop-plain}
+use Rattle.loop_merge.proofs.JoinedCopies.Loops.{copies_from, AreCounted, word_at, hit_at, loop-stored, loop-hits}
+use Rattle.loop_merge.proofs.JoinedCopies.Loops.{counted, words-below, loop-plain}
 use Rattle.loop_merge.proofs.JoinedCopies.Words.{IsRun, run-is, together-are}
 use Rattle.operators.specs.Sum.{sum_below}
 use Rattle.operators.proofs.Sums.{sum_below-same, sum_below-append}
@@ -15,7 +18,8 @@ use Rattle.loop_merge.specs.PlainPasses.{IsPlainNest}
 
 -- ---- two loops of k and of n words
 
-sums-meet : (k n p : ℕ) (g : ℕ → ℕ) → sum_below (k + n) (λ i. g (p + i)) ≡ sum_below k (λ i. g (p + i)) + sum_below n (λ i. g (p + k + i))
+sums-meet : (k n p : ℕ) (g : ℕ → ℕ) → sum_below (k + n) (λ i. g (p + i)) ≡ sum_below k (λ i. g (p + i))
+    + sum_below n (λ i. g (p + k + i))
 sums-meet k n p g =
     sum_below-append k n (λ i. g (p + i))
     ∙ ap (λ a. sum_below k (λ i. g (p + i)) + a) (sum_below-same n (λ i. g (p + (k + i))) (λ i. g (p + k + i)) (λ i low. let one : p + (k + i) ≡ p + k + i = omega arith in ap g one))
@@ -33,10 +37,12 @@ module _ (cs ds : List ℕ) (k n p : ℕ) (first : AreCounted cs k) (second : Ar
   abbrev loop : PlainNest
   loop = copies_from ((k + n) ∷ []) p
 
-  meets : (g : ℕ → ℕ) (a b c : ℕ) → a ≡ sum_below (k + n) (λ i. g (p + i)) → b ≡ sum_below k (λ i. g (p + i)) → c ≡ sum_below n (λ i. g (p + k + i)) → a ≡ b + c
+  meets : (g : ℕ → ℕ) (a b c : ℕ) → a ≡ sum_below (k + n) (λ i. g (p + i)) → b ≡ sum_below k (λ i. g (p + i)) →
+      c ≡ sum_below n (λ i. g (p + k + i)) → a ≡ b + c
   meets g a b c whole one other = whole ∙ sums-meet k n p g ∙ ap₂ (λ u v. u + v) (sym one) (sym other)
 
-  stores : (m : ℕ) (x : List ℕ) (w : ℕ) → stored (copies_of m loop) x w ≡ stored (copies_of m left) x w + stored (copies_of m right) x w
+  stores : (m : ℕ) (x : List ℕ) (w : ℕ) → stored (copies_of m loop) x w ≡ stored (copies_of m left) x w
+      + stored (copies_of m right) x w
   stores m x w = meets (word_at x w) _ _ _ (loop-stored m ((k + n) ∷ []) (k + n) p x w refl) (loop-stored m cs k p x w first) (loop-stored m ds n (p + k) x w second)
 
   reach : (m w : ℕ) → hits (copies_of m loop ∷ []) w ≡ hits (copies_of m left ∷ []) w + hits (copies_of m right ∷ []) w
@@ -71,15 +77,18 @@ module _ (cs ds : List ℕ) (k n p : ℕ) (first : AreCounted cs k) (second : Ar
             All-cons (IsPlainNest size m) loop zs (plain size m high (All-head (IsPlainNest size m) left (right ∷ zs) all) (All-head (IsPlainNest size m) right zs rest)) (All-tail (IsPlainNest size m) right zs rest);
       }
     where
-      no-cost : (cost : PlainWork → ℕ) (counts : List ℕ) → CopiesAreFree cost → copies_in counts * (cost (copy 1) + 0) ≡ 0
+      no-cost : (cost : PlainWork → ℕ) (counts : List ℕ) → CopiesAreFree cost →
+          copies_in counts * (cost (copy 1) + 0) ≡ 0
       no-cost cost counts free = let none = free 1 in ap (λ a. copies_in counts * (a + 0)) none ∙ omega arith
 
-      none : (cost : PlainWork → ℕ) → CopiesAreFree cost → copies_in cs * (cost (copy 1) + 0) + copies_in ds * (cost (copy 1) + 0) ≡ 0
+      none : (cost : PlainWork → ℕ) → CopiesAreFree cost → copies_in cs * (cost (copy 1) + 0)
+          + copies_in ds * (cost (copy 1) + 0) ≡ 0
       none cost free = let one = no-cost cost cs free in let other = no-cost cost ds free in omega (arith, one, other)
 
 -- ---- lists of nests
 
-joined-two : (z y : PlainNest) (zs : List PlainNest) (r s t : PlainRun) → IsRun z r → IsRun y s → t.first ≡ r.first → s.first ≡ r.first + r.count → t.count ≡ r.count + s.count →
+joined-two : (z y : PlainNest) (zs : List PlainNest) (r s t : PlainRun) → IsRun z r → IsRun y s → t.first ≡ r.first →
+    s.first ≡ r.first + r.count → t.count ≡ r.count + s.count →
     AreAlike (copying_run t ∷ zs) (z ∷ y ∷ zs)
 joined-two z y zs r s t one other begins met whole =
     let both = joined-alike z.counts y.counts r.count s.count r.first one.counted other.counted zs in
@@ -89,7 +98,8 @@ joined-two z y zs r s t one other begins met whole =
     (subst (λ a. AreAlike (copies_from ((r.count + s.count) ∷ []) r.first ∷ zs) (a ∷ y ∷ zs)) (sym one.is)
     (subst (λ a. AreAlike (copies_from ((r.count + s.count) ∷ []) r.first ∷ zs) (copies_from z.counts r.first ∷ a ∷ zs)) (sym right) both))
 
-put-before : (z y : PlainNest) (ys : List PlainNest) (o : Option PlainRun) → together (run_of z) (run_of y) ≡ o → AreAlike (before o z y ys) (z ∷ y ∷ ys)
+put-before : (z y : PlainNest) (ys : List PlainNest) (o : Option PlainRun) → together (run_of z) (run_of y) ≡ o →
+    AreAlike (before o z y ys) (z ∷ y ∷ ys)
 put-before z y ys None is = same (z ∷ y ∷ ys)
 put-before z y ys (Some t) is =
     let both = together-are (run_of z) (run_of y) t is in

@@ -1,5 +1,6 @@
 -- What a loop over copies of one word stores, and that a program can be made of it.
-use Rattle.std.proofs.Common.{◌≡◌, ℕ, zero, suc, ◌+◌, ◌*◌, ◌-◌, ◌<◌, ◌≤◌, true, sym, ap, ◌∙◌, arith, subst, List, [], ◌∷◌, None}
+use Rattle.std.proofs.Common.{◌≡◌, ℕ, zero, suc, ◌+◌, ◌*◌, ◌-◌, ◌<◌, ◌≤◌, true, sym, ap, ◌∙◌, arith, subst, List, []}
+use Rattle.std.proofs.Common.{◌∷◌, None}
 use Rattle.std.specs.Prelude.{◌==◌, ◌&&◌, if◌then◌else◌, slice_index}
 use Rattle.std.proofs.lemmas.Bool.Decides.{nat_tests}
 use Rattle.std.proofs.lemmas.List.Elements.{All-nil, All-cons, All-head}
@@ -41,7 +42,9 @@ one-times : (v p : ℕ) → 1 * v + p ≡ p + v
 one-times v p = omega arith
 
 -- a sum over their places
-loop-sum : (counts : List ℕ) (n p : ℕ) (g : ℕ → ℕ) → AreCounted counts n → nest_sum (loops_of counts) (λ vs. sum_below 1 (λ k. g (sum_value (places_from counts p) k vs))) ≡ sum_below n (λ i. g (p + i))
+loop-sum : (counts : List ℕ) (n p : ℕ) (g : ℕ → ℕ) → AreCounted counts n →
+    nest_sum (loops_of counts) (λ vs. sum_below 1 (λ k. g (sum_value (places_from counts p) k vs)))
+    ≡ sum_below n (λ i. g (p + i))
 loop-sum [] n p g is = let same : p ≡ p + 0 = omega arith in subst (λ c. 0 + g p ≡ sum_below c (λ i. g (p + i))) (sym is) (ap (λ a. 0 + g a) same)
 loop-sum (c ∷ []) n p g is =
     sum_below-same c (λ v. 0 + g (1 * v + p)) (λ i. g (p + i)) (λ v below. zero-plus (g (1 * v + p)) ∙ ap g (one-times v p))
@@ -54,10 +57,13 @@ word_at x w i = if i == w then slice_index x i else 0
 abbrev pub hit_at : ℕ → ℕ → ℕ
 hit_at w i = if i == w then 1 else 0
 
-pub loop-stored : (m : ℕ) (counts : List ℕ) (n p : ℕ) (x : List ℕ) (w : ℕ) → AreCounted counts n → stored (copies_of m (copies_from counts p)) x w ≡ sum_below n (λ i. word_at x w (p + i))
+pub loop-stored : (m : ℕ) (counts : List ℕ) (n p : ℕ) (x : List ℕ) (w : ℕ) → AreCounted counts n →
+    stored (copies_of m (copies_from counts p)) x w ≡ sum_below n (λ i. word_at x w (p + i))
 loop-stored m counts n p x w is = loop-sum counts n p (word_at x w) is
 
-pub loop-hits : (counts : List ℕ) (n p w : ℕ) → AreCounted counts n → loop_at (loops_of counts) 1 (λ vs k. sum_value (places_from counts p) k vs) (λ vs k. 1) w ≡ sum_below n (λ i. hit_at w (p + i))
+pub loop-hits : (counts : List ℕ) (n p w : ℕ) → AreCounted counts n →
+    loop_at (loops_of counts) 1 (λ vs k. sum_value (places_from counts p) k vs) (λ vs k. 1) w
+    ≡ sum_below n (λ i. hit_at w (p + i))
 loop-hits counts n p w is = loop-sum counts n p (hit_at w) is
 
 pub counted : (counts : List ℕ) (n : ℕ) → AreCounted counts n → copies_in counts ≡ n
@@ -72,7 +78,8 @@ pub record AreBelow (size n p : ℕ) : Type 0 where
   pub some : 1 ≤ n
   pub below : p + n ≤ size
 
-pub words-below : (size m : ℕ) (counts : List ℕ) (n p : ℕ) → AreCounted counts n → IsPlainNest size m (copies_from counts p) → AreBelow size n p
+pub words-below : (size m : ℕ) (counts : List ℕ) (n p : ℕ) → AreCounted counts n →
+    IsPlainNest size m (copies_from counts p) → AreBelow size n p
 words-below size m [] n p is h = let last : p < size = h.inside.stores [] 0 tt (omega arith) in record { some = omega (arith, is); below = omega (arith, is, last) }
 words-below size m (c ∷ []) n p is h =
     let some : 1 ≤ c = (All-head (λ d. (1 ≤ d) × (d ≤ 1048576)) c [] h.ready.counts).0 in

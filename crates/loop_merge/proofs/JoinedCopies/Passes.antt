@@ -1,5 +1,6 @@
 -- Passes whose copies are joined.
-use Rattle.std.proofs.Common.{◌≡◌, ℕ, ◌+◌, ◌*◌, ◌%◌, ◌^◌, ◌<◌, ◌≤◌, refl, sym, ap, ap₂, ◌∙◌, subst, List, [], ◌∷◌, ◌++◌, All}
+use Rattle.std.proofs.Common.{◌≡◌, ℕ, ◌+◌, ◌*◌, ◌%◌, ◌^◌, ◌<◌, ◌≤◌, refl, sym, ap, ap₂, ◌∙◌, subst, List, [], ◌∷◌, ◌++◌}
+use Rattle.std.proofs.Common.{All}
 use Rattle.std.proofs.lemmas.List.{map-append, length-map}
 use Rattle.std.proofs.lemmas.List.Elements.{All-nil, All-cons, All-head, All-tail}
 use Rattle.loop_merge.specs.JoinedCopies.Joined.{with_copies_joined, all_joined}
@@ -50,7 +51,8 @@ module _ (n m : ℕ) (high : n ≤ 1048576) where
   passes-plain (p ∷ ps) h =
       All-cons (IsPlainPass n m) (with_copies_joined p) (all_joined ps) (pass-plain p (All-head (IsPlainPass n m) p ps h)) (passes-plain ps (All-tail (IsPlainPass n m) p ps h))
 
-  actions-same : (ps : List (List PlainNest)) → most_actions (plain_machine n m) (all_joined ps) ≡ most_actions (plain_machine n m) ps
+  actions-same : (ps : List (List PlainNest)) → most_actions (plain_machine n m) (all_joined ps)
+      ≡ most_actions (plain_machine n m) ps
   actions-same [] = refl
   actions-same (p ∷ ps) =
       let alike = all-alike p in

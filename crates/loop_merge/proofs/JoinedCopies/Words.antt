@@ -1,5 +1,6 @@
 -- A nest that is a run of words is a loop over copies of one word, and two that are together are one.
-use Rattle.std.proofs.Common.{◌≡◌, ℕ, ◌+◌, ◌^◌, true, false, refl, sym, ap, ap₂, ◌∙◌, arith, subst, List, [], ◌∷◌, Option, Some, None}
+use Rattle.std.proofs.Common.{◌≡◌, ℕ, ◌+◌, ◌^◌, true, false, refl, sym, ap, ap₂, ◌∙◌, arith, subst, List, [], ◌∷◌}
+use Rattle.std.proofs.Common.{Option, Some, None}
 use Rattle.std.specs.Prelude.{◌==◌, ◌&&◌, nat_lt, Bool, if◌then◌else◌}
 use Rattle.std.proofs.lemmas.Bool.Decides.{nat_tests}
 use Rattle.loop_merge.specs.JoinedCopies.Joined.{PlainRun, words_at, same_words, is_word, run_of, together}
@@ -84,7 +85,8 @@ chosen-run true true o r h = (refl, refl, h)
 chosen-run true false o r h = absurd (cc)
 chosen-run false b o r h = absurd (cc)
 
-nest-is : (counts : List ℕ) (w : PlainWork) (gs : List Sum) (o : Option PlainMultiplier) (ss : List Sum) (p : ℕ) → w ≡ copy 1 → gs ≡ places_from counts p → o ≡ None → ss ≡ places_from counts p →
+nest-is : (counts : List ℕ) (w : PlainWork) (gs : List Sum) (o : Option PlainMultiplier) (ss : List Sum) (p : ℕ) →
+    w ≡ copy 1 → gs ≡ places_from counts p → o ≡ None → ss ≡ places_from counts p →
     ◌≡◌ {A = PlainNest} (record { counts = counts; work = w; gathers = gs; multiplier = o; scatters = ss }) (copies_from counts p)
 nest-is counts w gs o ss p work loads free stores = cc
 

@@ -19,7 +19,8 @@ most-append : (h : Target) (ps qs : List (List PlainNest)) →
 most-append h [] qs = omega arith
 most-append h (zs ∷ ps) qs = let rest = most-append h ps qs in omega (arith, rest)
 
-pub most-joined : (h : Target) (ds : List ℕ) (ps qs : List (List PlainNest)) → All (IsReadyPass h) ps → LastIs IsFree ps →
+pub most-joined : (h : Target) (ds : List ℕ) (ps qs : List (List PlainNest)) → All (IsReadyPass h) ps →
+    LastIs IsFree ps →
     most_actions h (multiplied_last (values ds) ps ++ qs) ≡ most_actions h ps + h.size + most_actions h qs
 most-joined h ds ps qs ready free =
     most-append h (multiplied_last (values ds) ps) qs

@@ -1,5 +1,6 @@
 -- Passes that multiply their items count what they did, and a product for each word in the last of them.
-use Rattle.std.proofs.Common.{◌≡◌, ℕ, ◌+◌, ◌*◌, ◌≤◌, List, [], ◌∷◌, length, map, refl, sym, ap, ap₂, ◌∙◌, arith, Option, None, All}
+use Rattle.std.proofs.Common.{◌≡◌, ℕ, ◌+◌, ◌*◌, ◌≤◌, List, [], ◌∷◌, length, map, refl, sym, ap, ap₂, ◌∙◌, arith, Option}
+use Rattle.std.proofs.Common.{None, All}
 use Rattle.std.specs.Prelude.{sum_by}
 use Rattle.std.proofs.lemmas.List.Elements.{All-head, All-tail}
 use Rattle.std.proofs.lemmas.List.Sums.{sum_by-cons}
@@ -33,7 +34,9 @@ module _ (h : Target) (ds : PlainFactors) where
       let turned : c * (w * s) ≡ w * (c * s) = omega arith in
       omega (arith, is, first, second, turned)
 
-  costs-with : (weight : ℕ) (zs : List PlainNest) → IsFree zs → pass_cost weight h.modulus (map (with_factors ds) zs) ≡ pass_cost weight h.modulus zs + weight * items_of (map (copies_of h.modulus) zs)
+  costs-with : (weight : ℕ) (zs : List PlainNest) → IsFree zs →
+      pass_cost weight h.modulus (map (with_factors ds) zs) ≡ pass_cost weight h.modulus zs
+      + weight * items_of (map (copies_of h.modulus) zs)
   costs-with weight [] free = omega arith
   costs-with weight (z ∷ zs) free =
       more-cost (copies_in z.counts) (work_cost weight h.modulus z.work) (work_size z.work) _ _ weight _ (costs-with weight zs (All-tail (λ (y : PlainNest). y.multiplier ≡ None) z zs free))
@@ -42,7 +45,8 @@ module _ (h : Target) (ds : PlainFactors) where
       copies_in z.counts * (work_cost weight h.modulus z.work + multiplier_cost weight o z.work) + pass_cost weight h.modulus zs + weight * (copies_in z.counts * work_size z.work + items_of (map (copies_of h.modulus) zs)))
       (sym (All-head (λ (y : PlainNest). y.multiplier ≡ None) z zs free))
 
-  cost-with : (weight : ℕ) (zs : List PlainNest) → CanRun h zs → IsFree zs → pass_cost weight h.modulus (map (with_factors ds) zs) ≡ pass_cost weight h.modulus zs + weight * h.size
+  cost-with : (weight : ℕ) (zs : List PlainNest) → CanRun h zs → IsFree zs →
+      pass_cost weight h.modulus (map (with_factors ds) zs) ≡ pass_cost weight h.modulus zs + weight * h.size
   cost-with weight zs can free = costs-with weight zs free ∙ ap (λ n. pass_cost weight h.modulus zs + weight * n) (items-once h.size (map (copies_of h.modulus) zs) (inside-all zs can.nests) can.once)
 
   loads-with : (zs : List PlainNest) → pass_loads (map (with_factors ds) zs) ≡ pass_loads zs
@@ -51,7 +55,9 @@ module _ (h : Target) (ds : PlainFactors) where
 
   -- ---- pass by pass
 
-  pub last-costs : (weight : ℕ) (ps : List (List PlainNest)) → All (IsReadyPass h) ps → LastIs IsFree ps → map (pass_cost weight h.modulus) (multiplied_last ds ps) ≡ more_last (weight * h.size) (map (pass_cost weight h.modulus) ps)
+  pub last-costs : (weight : ℕ) (ps : List (List PlainNest)) → All (IsReadyPass h) ps → LastIs IsFree ps →
+      map (pass_cost weight h.modulus) (multiplied_last ds ps) ≡ more_last (weight * h.size)
+      (map (pass_cost weight h.modulus) ps)
   last-costs weight [] can free = absurd free
   last-costs weight (zs ∷ []) can free = ap (λ n. n ∷ []) (cost-with weight zs (All-head (IsReadyPass h) zs [] can).runs free)
   last-costs weight (zs ∷ ys ∷ ps) can free = ap (λ ns. pass_cost weight h.modulus zs ∷ ns) (last-costs weight (ys ∷ ps) (All-tail (IsReadyPass h) zs (ys ∷ ps) can) free)
@@ -63,7 +69,9 @@ module _ (h : Target) (ds : PlainFactors) where
 
   -- ---- together
 
-  pub sum-costs : (weight : ℕ) (ps : List (List PlainNest)) → All (IsReadyPass h) ps → LastIs IsFree ps → sum_by (pass_cost weight h.modulus) (multiplied_last ds ps) ≡ sum_by (pass_cost weight h.modulus) ps + weight * h.size
+  pub sum-costs : (weight : ℕ) (ps : List (List PlainNest)) → All (IsReadyPass h) ps → LastIs IsFree ps →
+      sum_by (pass_cost weight h.modulus) (multiplied_last ds ps) ≡ sum_by (pass_cost weight h.modulus) ps
+      + weight * h.size
   sum-costs weight [] can free = absurd free
   sum-costs weight (zs ∷ []) can free = ap (λ n. 0 + n) (cost-with weight zs (All-head (IsReadyPass h) zs [] can).runs free) ∙ omega arith
   sum-costs weight (zs ∷ ys ∷ ps) can free =
@@ -78,7 +86,8 @@ module _ (h : Target) (ds : PlainFactors) where
   sum-loads (zs ∷ []) = ap (λ n. 0 + n) (loads-with zs)
   sum-loads (zs ∷ ys ∷ ps) = sum_by-cons pass_loads zs (multiplied_last ds (ys ∷ ps)) ∙ ap (λ n. pass_loads zs + n) (sum-loads (ys ∷ ps)) ∙ sym (sum_by-cons pass_loads zs (ys ∷ ps))
 
-  most-is : (ps : List (List PlainNest)) → most_actions h ps ≡ sum_by (pass_cost 1 h.modulus) ps + sum_by pass_loads ps + 2 * h.size * length ps
+  most-is : (ps : List (List PlainNest)) → most_actions h ps ≡ sum_by (pass_cost 1 h.modulus) ps + sum_by pass_loads ps
+      + 2 * h.size * length ps
   most-is [] = omega arith
   most-is (zs ∷ ps) =
       let rest = most-is ps in
@@ -87,7 +96,8 @@ module _ (h : Target) (ds : PlainFactors) where
       let turned : 2 * h.size * (1 + length ps) ≡ 2 * h.size + 2 * h.size * length ps = omega arith in
       omega (arith, rest, costs, loads, turned)
 
-  pub most-last : (ps : List (List PlainNest)) → All (IsReadyPass h) ps → LastIs IsFree ps → most_actions h (multiplied_last ds ps) ≡ most_actions h ps + h.size
+  pub most-last : (ps : List (List PlainNest)) → All (IsReadyPass h) ps → LastIs IsFree ps →
+      most_actions h (multiplied_last ds ps) ≡ most_actions h ps + h.size
   most-last ps can free =
       most-is (multiplied_last ds ps)
       ∙ ap₂ (λ a b. a + b) (ap₂ (λ a b. a + b) (sum-costs 1 ps can free) (sum-loads ps)) (ap (λ n. 2 * h.size * n) (length-last (map (with_factors ds)) ps))

@@ -14,7 +14,8 @@ last-append f (x ∷ []) z = refl
 last-append f (x ∷ y ∷ xs) z = ap (λ rest. x ∷ rest) (last-append f (y ∷ xs) z)
 
 -- the last one exchanged, seen through a view
-pub changed_last : {A B : Type 0} (view : A → B) (f : B → B) (xs old new : List A) (z changed : A) → old ≡ xs ++ z ∷ [] → new ≡ xs ++ changed ∷ [] → view changed ≡ f (view z) → map view new ≡ on_last f (map view old)
+pub changed_last : {A B : Type 0} (view : A → B) (f : B → B) (xs old new : List A) (z changed : A) →
+    old ≡ xs ++ z ∷ [] → new ≡ xs ++ changed ∷ [] → view changed ≡ f (view z) → map view new ≡ on_last f (map view old)
 changed_last view f xs old new z changed before after is =
     ap (map view) after ∙ map-append view xs (changed ∷ []) ∙ ap (λ last. map view xs ++ last ∷ []) is
     ∙ sym (ap (λ all. on_last f (map view all)) before ∙ ap (on_last f) (map-append view xs (z ∷ [])) ∙ last-append f (map view xs) (view z))

@@ -9,7 +9,8 @@ use Rattle.sigma_spl.specs.Lists.{LastIs}
 use Rattle.sigma_spl.specs.Shared.Owners.{all_passes}
 use Rattle.sigma_spl.specs.Copies.{pass_on, multiplied_by}
 use Rattle.sigma_spl.specs.Merged.{phase_on, phases_on}
-use Rattle.sigma_spl.specs.Nest.{PlainFactors, PlainMultiplier, PlainNest, copies_of, factor_at, load_place, multiplied_on, nests_on, store_place}
+use Rattle.sigma_spl.specs.Nest.{PlainFactors, PlainMultiplier, PlainNest, copies_of, factor_at, load_place}
+use Rattle.sigma_spl.specs.Nest.{multiplied_on, nests_on, store_place}
 use Rattle.sigma_spl.specs.Trees.{IsFree}
 use Rattle.sigma_spl.specs.Work.{work_size}
 use Rattle.sigma_spl.proofs.CopiesMerge.{loops_scale}

@@ -1,5 +1,6 @@
 -- Passes of one lane whose last one multiplies its items are ready where the passes without factors are.
-use Rattle.std.proofs.Common.{◌≡◌, ℕ, ◌+◌, ◌*◌, ◌<◌, Bool, true, List, [], ◌∷◌, map, refl, sym, ap, ap₂, ◌∙◌, arith, subst, All, Some}
+use Rattle.std.proofs.Common.{◌≡◌, ℕ, ◌+◌, ◌*◌, ◌<◌, Bool, true, List, [], ◌∷◌, map, refl, sym, ap, ap₂, ◌∙◌, arith}
+use Rattle.std.proofs.Common.{subst, All, Some}
 use Rattle.std.specs.Prelude.{◌&&◌}
 use Rattle.std.specs.List.{list_all}
 use Rattle.std.proofs.lemmas.List.Elements.{All-cons, All-head, All-nil, All-tail}
@@ -9,7 +10,8 @@ use Rattle.operators.specs.declared.target.Target.{Target}
 use Rattle.sigma_spl.proofs.Walk.{and-left, and-right}
 use Rattle.sigma_spl.specs.Copies.{hits, loops_of}
 use Rattle.sigma_spl.specs.Merge.{is_limited, is_multiplier_within, is_within, limits_of}
-use Rattle.sigma_spl.specs.Nest.{PlainFactors, PlainMultiplier, PlainNest, copies_of, factor_at, factor_count, store_place}
+use Rattle.sigma_spl.specs.Nest.{PlainFactors, PlainMultiplier, PlainNest, copies_of, factor_at, factor_count}
+use Rattle.sigma_spl.specs.Nest.{store_place}
 use Rattle.sigma_spl.specs.Shared.Machine.{item_of, lane_step, values_of}
 use Rattle.sigma_spl.specs.Shared.Owners.{IsHost}
 use Rattle.sigma_spl.specs.Shared.Ready.{IsReadyMultiplier, IsReadyNest, IsReadyPass, LoadsAlike}
@@ -114,7 +116,8 @@ module _ (h : Target) (host : IsHost h) (ds : PlainFactors) (follow : CanFollow 
       (nest-ready z (All-head (IsReadyNest h) z zs ready)) (all-ready zs (All-tail (IsReadyNest h) z zs ready))
 
   -- the places of the factors are those of the stores
-  within-with : (zs : List PlainNest) → is_within 64 h.size zs ≡ true → is_within 64 h.size (map (with_factors ds) zs) ≡ true
+  within-with : (zs : List PlainNest) → is_within 64 h.size zs ≡ true →
+      is_within 64 h.size (map (with_factors ds) zs) ≡ true
   within-with [] w = refl
   within-with (z ∷ zs) w =
       let cs = limits_of z in

@@ -1,5 +1,6 @@
 -- The functions that lead to factors can be simplified at every word.
-use Rattle.std.proofs.Common.{◌≡◌, ℕ, ◌*◌, ◌/◌, ◌%◌, ◌^◌, ◌<◌, ◌≤◌, arith, sym, List, [], ◌∷◌, ◌++◌, subst, mod-lt, div-lt_iff_lt-mul}
+use Rattle.std.proofs.Common.{◌≡◌, ℕ, ◌*◌, ◌/◌, ◌%◌, ◌^◌, ◌<◌, ◌≤◌, arith, sym, List, [], ◌∷◌, ◌++◌, subst, mod-lt}
+use Rattle.std.proofs.Common.{div-lt_iff_lt-mul}
 use Rattle.std.proofs.Math.Nat.{mul-le-mul_right}
 use Rattle.index_fn.specs.Mapping.{Mapping, at, IsDefinedAt}
 use Rattle.operators.proofs.Lists.{factor_positive}
@@ -45,7 +46,8 @@ carry-backs : (n : ℕ) (fs : List Mapping) → AreSteps n fs → CanCarry n (ba
 carry-backs n [] h = tt
 carry-backs n (f ∷ fs) h = carry-append n (backs_of fs) (back_of f ∷ []) (carry-backs n fs h.1) (h.0.moves.back, h.0.numbers.back, tt)
 
-pub carry-places : (n : ℕ) (fs : List Mapping) (path : Path) (factors : PlainFactors) → 0 < n → n ≤ 2 ^ 20 → AreSteps n fs → size_under path (factor_count factors) ≡ n → CanCarry n (factor_places fs path factors)
+pub carry-places : (n : ℕ) (fs : List Mapping) (path : Path) (factors : PlainFactors) → 0 < n → n ≤ 2 ^ 20 →
+    AreSteps n fs → size_under path (factor_count factors) ≡ n → CanCarry n (factor_places fs path factors)
 carry-places n fs path factors some low h is =
     let k = factor_count factors in
     let small : k ≤ 2 ^ 20 = omega (arith, few path k (subst (λ z. 0 < z) (sym is) some), is, low) in

@@ -1,8 +1,10 @@
 -- Index functions at places that are plain numbers.
-use Rattle.std.proofs.Common.{◌≡◌, ℕ, ◌+◌, ◌*◌, ◌/◌, ◌%◌, ◌<◌, ◌≤◌, refl, ap, ap₂, ◌∙◌, arith, true, Option, Some, None, subst}
+use Rattle.std.proofs.Common.{◌≡◌, ℕ, ◌+◌, ◌*◌, ◌/◌, ◌%◌, ◌<◌, ◌≤◌, refl, ap, ap₂, ◌∙◌, arith, true, Option, Some, None}
+use Rattle.std.proofs.Common.{subst}
 use Rattle.std.proofs.lemmas.Bool.Decides.{nat_tests}
 use Rattle.std.proofs.lemmas.Nat.{mod_below, mul-add-lt, mul-lt}
-use Rattle.index_fn.specs.Mapping.{Mapping, Same, Always, Line, Strided, ThomasIn, ThomasOut, ThomasBack, Listed, Paired, After, at, IsDefinedAt, IsWellFormed}
+use Rattle.index_fn.specs.Mapping.{Mapping, Same, Always, Line, Strided, ThomasIn, ThomasOut, ThomasBack, Listed}
+use Rattle.index_fn.specs.Mapping.{Paired, After, at, IsDefinedAt, IsWellFormed}
 use Rattle.perm_algebra.specs.Affine.{constant, Divided, divided, joined, reduced, scaled, simplified, HasNoList}
 use Rattle.perm_algebra.specs.Fits.{InRange}
 use Rattle.perm_algebra.specs.Room.{HasRoomFor, has_room}
@@ -78,13 +80,16 @@ is_number cs (After f g) c h none d =
     record { form = ap (simplified cs f) b.form ∙ a.form; room = (b.room, rw b.form a.room) }
 
 -- what holds wherever the variables are in range holds of a number
-pub number_defined : (cs : ℕ → ℕ) (f : Mapping) (c : ℕ) → ((vs : ℕ → ℕ) → InRange cs vs → IsDefinedAt f c) → IsDefinedAt f c
+pub number_defined : (cs : ℕ → ℕ) (f : Mapping) (c : ℕ) → ((vs : ℕ → ℕ) → InRange cs vs → IsDefinedAt f c) →
+    IsDefinedAt f c
 number_defined cs f c h = h (λ d. 0) (in_range_from cs (λ d. 0) (λ d. omega arith))
 
-pub number_form : (cs : ℕ → ℕ) (f : Mapping) (c : ℕ) → IsWellFormed f → HasNoList f → IsDefinedAt f c → simplified cs f (constant c) ≡ constant (at f c)
+pub number_form : (cs : ℕ → ℕ) (f : Mapping) (c : ℕ) → IsWellFormed f → HasNoList f → IsDefinedAt f c →
+    simplified cs f (constant c) ≡ constant (at f c)
 number_form cs f c h none d = (is_number cs f c h none d).form
 
-pub number_room : (cs : ℕ → ℕ) (f : Mapping) (c : ℕ) → IsWellFormed f → HasNoList f → IsDefinedAt f c → has_room cs f (constant c) ≡ true
+pub number_room : (cs : ℕ → ℕ) (f : Mapping) (c : ℕ) → IsWellFormed f → HasNoList f → IsDefinedAt f c →
+    has_room cs f (constant c) ≡ true
 number_room cs f c h none d = (room_decided cs f (constant c)).1 (is_number cs f c h none d).room
 
 abbrev holds : {A : Type 0} → (A → Type 0) → Option A → Type 0

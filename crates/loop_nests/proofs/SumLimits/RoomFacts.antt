@@ -4,7 +4,8 @@ use Rattle.std.specs.Prelude.{◌&&◌, nat_le, nat_lt}
 use Rattle.std.proofs.lemmas.Bool.Decides.{nat_tests}
 use Rattle.sigma_spl.specs.Merge.{are_small, is_limited}
 use Rattle.sigma_spl.proofs.Walk.{and-left, and-right}
-use Rattle.perm_algebra.specs.Affine.{Sum, constant, variable, remainder, quotient, levels, parts, peak, top, value, IsSound}
+use Rattle.perm_algebra.specs.Affine.{Sum, constant, variable, remainder, quotient, levels, parts, peak, top, value}
+use Rattle.perm_algebra.specs.Affine.{IsSound}
 use Rattle.perm_algebra.specs.Fits.{InRange, IsAffine}
 use Rattle.perm_algebra.specs.Room.{HasTop, has_top}
 use Rattle.perm_algebra.proofs.AffineLaws.{value-le-top}
@@ -32,7 +33,8 @@ top-below room n cs e h =
     let both = and-left bounds (are_small cs e) (and-right first (bounds && are_small cs e) h) in
     lt-true _ _ (and-left (nat_lt (top e cs) n) _ both)
 
-pub value_inside : (m room n : ℕ) (cs : ℕ → ℕ) (e : Sum) → IsAffine m cs e → is_limited room n cs e ≡ true → (vs : ℕ → ℕ) → InRange cs vs → value e vs < n
+pub value_inside : (m room n : ℕ) (cs : ℕ → ℕ) (e : Sum) → IsAffine m cs e → is_limited room n cs e ≡ true →
+    (vs : ℕ → ℕ) → InRange cs vs → value e vs < n
 value_inside m room n cs e affine h vs range =
     let low = top-below room n cs e h in
     omega (arith, low, value-le-top e vs cs (sound m cs e affine) (λ d. in_range_at cs vs d range))

@@ -1,5 +1,6 @@
 -- A loop of gather, body and scatter: its place equation, and that it is the matrix under its tensors.
-use Rattle.std.proofs.Common.{◌≡◌, ◌≢◌, ℕ, zero, suc, ◌+◌, ◌*◌, ◌/◌, ◌%◌, ◌<◌, arith, refl, sym, ap, ap₂, ◌∙◌, List, [], ◌∷◌, mod-lt, div-lt_iff_lt-mul}
+use Rattle.std.proofs.Common.{◌≡◌, ◌≢◌, ℕ, zero, suc, ◌+◌, ◌*◌, ◌/◌, ◌%◌, ◌<◌, arith, refl, sym, ap, ap₂, ◌∙◌, List, []}
+use Rattle.std.proofs.Common.{◌∷◌, mod-lt, div-lt_iff_lt-mul}
 use Rattle.std.specs.Prelude.{slice_index, ◌==◌, if◌then◌else◌}
 use Rattle.std.proofs.Math.Nat.{div-add-mod'}
 use Rattle.std.proofs.lemmas.Nat.{same_from_place}
@@ -22,7 +23,8 @@ nest-zero : (path : Path) (f : List ℕ → ℕ) → ((vs : List ℕ) → AreInR
 nest-zero [] f h = h [] tt
 nest-zero (t ∷ path) f h = sum_below-zero (count_of t) _ (λ v below. nest-zero path (λ vs. f (v ∷ vs)) (λ vs range. h (v ∷ vs) (below, range)))
 
-nest-only : (path : Path) (f : List ℕ → ℕ) (vs : List ℕ) → AreInRange path vs → ((ws : List ℕ) → AreInRange path ws → ws ≢ vs → f ws ≡ 0) → nest_sum path f ≡ f vs
+nest-only : (path : Path) (f : List ℕ → ℕ) (vs : List ℕ) → AreInRange path vs →
+    ((ws : List ℕ) → AreInRange path ws → ws ≢ vs → f ws ≡ 0) → nest_sum path f ≡ f vs
 nest-only [] f [] range h = refl
 nest-only [] f (v ∷ vs) range h = absurd range
 nest-only (t ∷ path) f [] range h = absurd range
@@ -37,7 +39,8 @@ hit : (a b x : ℕ) → a ≡ b → (if a == b then x else 0) ≡ x
 hit a b x same = grind (arith, nat_tests)
 
 -- the place equation of a loop
-pub loop_at-place : (path : Path) (n : ℕ) (to value : List ℕ → ℕ → ℕ) → IsOneToOne path n to → (vs : List ℕ) (k : ℕ) → AreInRange path vs → k < n → loop_at path n to value (to vs k) ≡ value vs k
+pub loop_at-place : (path : Path) (n : ℕ) (to value : List ℕ → ℕ → ℕ) → IsOneToOne path n to → (vs : List ℕ) (k : ℕ) →
+    AreInRange path vs → k < n → loop_at path n to value (to vs k) ≡ value vs k
 loop_at-place path n to value one vs k range below =
     nest-only path _ vs range (λ ws in_range other. sum_below-zero n _ (λ j within. miss (to ws j) (to vs k) (value ws j) (λ e. other (one.values ws vs j k in_range range within below e))))
     ∙ sum_below-only n k _ below (λ j within other. miss (to vs j) (to vs k) (value vs j) (λ e. other (one.places vs j k range within below e)))
@@ -79,7 +82,8 @@ pub record SamePlace (vs ws : List ℕ) (k j : ℕ) : Type 0 where
   pub values : vs ≡ ws
   pub inner : k ≡ j
 
-pub place-one : (path : Path) (n : ℕ) (vs ws : List ℕ) (k j : ℕ) → AreInRange path vs → AreInRange path ws → k < n → j < n → place path n vs k ≡ place path n ws j → SamePlace vs ws k j
+pub place-one : (path : Path) (n : ℕ) (vs ws : List ℕ) (k j : ℕ) → AreInRange path vs → AreInRange path ws → k < n →
+    j < n → place path n vs k ≡ place path n ws j → SamePlace vs ws k j
 place-one [] n [] [] k j a b below within e = record { values = refl; inner = e }
 place-one [] n [] (w ∷ ws) k j a b below within e = absurd b
 place-one [] n (v ∷ vs) ws k j a b below within e = absurd a
@@ -102,9 +106,11 @@ place-one_to_one path n =
     }
 
 -- the place equation of a loop, where its scatters meet no place twice
-pub loop_on-place : (n : ℕ) (path : Path) (d : ℕ) (from : List ℕ → ℕ → ℕ) (body : List ℕ → Operator) (to : List ℕ → ℕ → ℕ) (x : List ℕ) → IsOneToOne path d to →
+pub loop_on-place : (n : ℕ) (path : Path) (d : ℕ) (from : List ℕ → ℕ → ℕ) (body : List ℕ → Operator)
+    (to : List ℕ → ℕ → ℕ) (x : List ℕ) → IsOneToOne path d to →
     (vs : List ℕ) (k : ℕ) → AreInRange path vs → k < d → to vs k < n →
-    slice_index (loop_on n path d from body to x) (to vs k) ≡ slice_index (body vs (list_below d (λ j. slice_index x (from vs j)))) k
+    slice_index (loop_on n path d from body to x) (to vs k) ≡ slice_index
+    (body vs (list_below d (λ j. slice_index x (from vs j)))) k
 loop_on-place n path d from body to x one vs k range below there =
     at-list_below n _ (to vs k) there ∙ loop_at-place path d to _ one vs k range below
 
@@ -117,6 +123,7 @@ loop_is_under path n a x reads w below =
     ∙ sym (at-under path n a x found.values found.inner reads found.in_range found.below)
     ∙ ap (slice_index (under path n a x)) found.there
 
-pub nest_sum-same : (path : Path) (f g : List ℕ → ℕ) → ((vs : List ℕ) → AreInRange path vs → f vs ≡ g vs) → nest_sum path f ≡ nest_sum path g
+pub nest_sum-same : (path : Path) (f g : List ℕ → ℕ) → ((vs : List ℕ) → AreInRange path vs → f vs ≡ g vs) →
+    nest_sum path f ≡ nest_sum path g
 nest_sum-same [] f g h = h [] tt
 nest_sum-same (t ∷ path) f g h = sum_below-same (count_of t) _ _ (λ v below. nest_sum-same path (λ vs. f (v ∷ vs)) (λ vs. g (v ∷ vs)) (λ vs range. h (v ∷ vs) (below, range)))

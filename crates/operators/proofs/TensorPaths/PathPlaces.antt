@@ -6,7 +6,8 @@ use Rattle.operators.proofs.Lists.{at-list_below, list_below-same, place_below, 
 use Rattle.operators.specs.declared.tensor_paths.Tensor.TheVariants.{Blocks, Columns}
 use Rattle.operators.specs.TensorPaths.Path.{Path, size_under, under, place, AreInRange, local, Reads}
 
-pub place-below : (path : Path) (n : ℕ) (vs : List ℕ) (k : ℕ) → AreInRange path vs → k < n → place path n vs k < size_under path n
+pub place-below : (path : Path) (n : ℕ) (vs : List ℕ) (k : ℕ) → AreInRange path vs → k < n →
+    place path n vs k < size_under path n
 place-below [] n [] k h below = below
 place-below [] n (v ∷ vs) k h below = absurd h
 place-below (t ∷ path) n [] k h below = absurd h

@@ -23,7 +23,8 @@ size_under-copies [] n = omega arith
 size_under-copies (Blocks c ∷ path) n = ap (λ s. c * s) (size_under-copies path n) ∙ omega arith
 size_under-copies (Columns c ∷ path) n = ap (λ s. s * c) (size_under-copies path n) ∙ omega arith
 
-pub under-push : (path : Path) (t : Tensor) (n : ℕ) (a : Operator) (x : List ℕ) → under (path ++ t ∷ []) n a x ≡ under path (grown t n) (one_under t n a) x
+pub under-push : (path : Path) (t : Tensor) (n : ℕ) (a : Operator) (x : List ℕ) →
+    under (path ++ t ∷ []) n a x ≡ under path (grown t n) (one_under t n a) x
 under-push [] t n a x = refl
 under-push (Blocks c ∷ path) t n a x =
     ap (λ k. on_blocks c k (under (path ++ t ∷ []) n a) x) (size_under-push path t n)
@@ -32,7 +33,8 @@ under-push (Columns c ∷ path) t n a x =
     ap (λ k. on_columns k c (under (path ++ t ∷ []) n a) x) (size_under-push path t n)
     ∙ on_columns-same (size_under path (grown t n)) c _ _ x (λ y. under-push path t n a y)
 
-pub under-same : (path : Path) (n : ℕ) (a b : Operator) (x : List ℕ) → ((y : List ℕ) → a y ≡ b y) → under path n a x ≡ under path n b x
+pub under-same : (path : Path) (n : ℕ) (a b : Operator) (x : List ℕ) → ((y : List ℕ) → a y ≡ b y) →
+    under path n a x ≡ under path n b x
 under-same [] n a b x h = h x
 under-same (Blocks c ∷ path) n a b x h = on_blocks-same c (size_under path n) _ _ x (λ y. under-same path n a b y h)
 under-same (Columns c ∷ path) n a b x h = on_columns-same (size_under path n) c _ _ x (λ y. under-same path n a b y h)
@@ -45,15 +47,18 @@ pub under-size : (path : Path) (n : ℕ) (a : Operator) → HasSize n a → HasS
 under-size [] n a h = h
 under-size (t ∷ path) n a h = one_under-size t (size_under path n) (under path n a)
 
-one_under-product : (t : Tensor) (n : ℕ) (a b : Operator) (x : List ℕ) → HasSize n b → one_under t n (λ y. a (b y)) x ≡ one_under t n a (one_under t n b x)
+one_under-product : (t : Tensor) (n : ℕ) (a b : Operator) (x : List ℕ) → HasSize n b →
+    one_under t n (λ y. a (b y)) x ≡ one_under t n a (one_under t n b x)
 one_under-product (Blocks k) n a b x h = (tensor_of_product n k a b x h).1
 one_under-product (Columns k) n a b x h = (tensor_of_product n k a b x h).0
 
-one_under-same : (t : Tensor) (n : ℕ) (a b : Operator) (x : List ℕ) → ((y : List ℕ) → a y ≡ b y) → one_under t n a x ≡ one_under t n b x
+one_under-same : (t : Tensor) (n : ℕ) (a b : Operator) (x : List ℕ) → ((y : List ℕ) → a y ≡ b y) →
+    one_under t n a x ≡ one_under t n b x
 one_under-same (Blocks k) n a b x h = on_blocks-same k n a b x h
 one_under-same (Columns k) n a b x h = on_columns-same n k a b x h
 
-pub under-product : (path : Path) (n : ℕ) (a b : Operator) (x : List ℕ) → HasSize n b → under path n (λ y. a (b y)) x ≡ under path n a (under path n b x)
+pub under-product : (path : Path) (n : ℕ) (a b : Operator) (x : List ℕ) → HasSize n b →
+    under path n (λ y. a (b y)) x ≡ under path n a (under path n b x)
 under-product [] n a b x h = refl
 under-product (t ∷ path) n a b x h =
     one_under-same t (size_under path n) _ (λ y. under path n a (under path n b y)) x (λ y. under-product path n a b y h)

@@ -1,4 +1,5 @@
-use Rattle.request_text.proofs.OneAnswer.{spelt_once, one_answer, line_answered, conv_spelt_once, one_conv_answer, conv_line_answered}
+use Rattle.request_text.proofs.OneAnswer.{spelt_once, one_answer, line_answered, conv_spelt_once, one_conv_answer}
+use Rattle.request_text.proofs.OneAnswer.{conv_line_answered}
 use Rattle.request_text.proofs.lines_have_one_answer.Goals as goal
 
 pub returns-clause-spelt : goal.returns-clause-spelt

@@ -65,7 +65,8 @@ module _ (A B m x : ℕ) (a : 0 < A) (b : 0 < B) (positive : 0 < m) (low : A ≤
       cancel_lt x ((estimate + 3) * m) (A * B) (omega (arith, e1, e3))
 
 -- what the estimate leaves, less the divisor twice where that is no more
-pub rest_is : (x m q once twice : ℕ) → q * m ≤ x → x < (q + 3) * m → (x - q * m < m → once ≡ x - q * m) → (m ≤ x - q * m → once + m ≡ x - q * m) → (once < m → twice ≡ once) → (m ≤ once → twice + m ≡ once) → twice ≡ x % m
+pub rest_is : (x m q once twice : ℕ) → q * m ≤ x → x < (q + 3) * m → (x - q * m < m → once ≡ x - q * m) →
+    (m ≤ x - q * m → once + m ≡ x - q * m) → (once < m → twice ≡ once) → (m ≤ once → twice + m ≡ once) → twice ≡ x % m
 rest_is x m q once twice under over b1 a1 b2 a2 =
     ⊎_elim
     (λ (lt : x - q * m < m).

@@ -1,5 +1,6 @@
 -- A loop over copies is the matrix of one copy under the tensors of its path.
-use Rattle.std.proofs.Common.{◌≡◌, ℕ, ◌+◌, ◌-◌, ◌*◌, ◌/◌, ◌%◌, ◌<◌, List, ◌++◌, length, take, drop, arith, refl, sym, ap, ap₂, ◌∙◌, subst, mod-eq_of_lt, length-drop}
+use Rattle.std.proofs.Common.{◌≡◌, ℕ, ◌+◌, ◌-◌, ◌*◌, ◌/◌, ◌%◌, ◌<◌, List, ◌++◌, length, take, drop, arith, refl, sym}
+use Rattle.std.proofs.Common.{ap, ap₂, ◌∙◌, subst, mod-eq_of_lt, length-drop}
 use Rattle.std.specs.Prelude.{slice_index, map, nat_lt, if◌then◌else◌}
 use Rattle.std.proofs.lemmas.List.{length-take-le, get_or-take, get_or-drop}
 use Rattle.std.proofs.lemmas.List.FromFn.{fill_by_all}
@@ -102,7 +103,8 @@ copy_sized m (beside path k a l b) x = length-list_below (k + l) _
 
 -- ---- loops
 
-under_loops : (m n : ℕ) (path : Path) (d : ℕ) (a : Operator) (x : List ℕ) (worth : List ℕ → ℕ → ℕ) → Reads d a → size_under path d ≡ n → IsVector m n (under path d a x) →
+under_loops : (m n : ℕ) (path : Path) (d : ℕ) (a : Operator) (x : List ℕ) (worth : List ℕ → ℕ → ℕ) → Reads d a →
+    size_under path d ≡ n → IsVector m n (under path d a x) →
     ((vs : List ℕ) (k : ℕ) → AreInRange path vs → k < d → worth vs k ≡ slice_index (a (local path d vs x)) k) →
     under path d a x ≡ list_below n (λ w. (loop_at (loops_of (map count_of path)) d (place path d) worth w + 0) % m)
 under_loops m n path d a x worth reads size v alike =
@@ -113,14 +115,17 @@ under_loops m n path d a x worth reads size v alike =
     ∙ ap (λ s. s % m) (omega arith)
     ∙ mod-eq_of_lt (residue_at m n (under path d a x) w v below))))
 
-under_vector : (m n : ℕ) (path : Path) (d : ℕ) (a : Operator) (x : List ℕ) → Keeps m d a → size_under path d ≡ n → IsVector m n x → IsVector m n (under path d a x)
+under_vector : (m n : ℕ) (path : Path) (d : ℕ) (a : Operator) (x : List ℕ) → Keeps m d a → size_under path d ≡ n →
+    IsVector m n x → IsVector m n (under path d a x)
 under_vector m n path d a x keep size v = subst (λ z. IsVector m z (under path d a x)) size (under_keeps m path d a keep x (subst (λ z. IsVector m z x) (sym size) v))
 
-pub nest_under : (m n : ℕ) (path : Path) (w : PlainWork) (x : List ℕ) → size_under path (work_size w) ≡ n → IsVector m n x → under path (work_size w) (work_on m w) x ≡ term_on m n (nest path w) x
+pub nest_under : (m n : ℕ) (path : Path) (w : PlainWork) (x : List ℕ) → size_under path (work_size w) ≡ n →
+    IsVector m n x → under path (work_size w) (work_on m w) x ≡ term_on m n (nest path w) x
 nest_under m n path w x size v =
     under_loops m n path (work_size w) (work_on m w) x _ (work_reads m w) size (under_vector m n path (work_size w) (work_on m w) x (work_keeps m w) size v) (λ vs k range within. refl)
 
-pub move_under : (m n : ℕ) (path : Path) (ks : List ℕ) (x : List ℕ) → AreBelow (length ks) ks → size_under path (length ks) ≡ n → IsVector m n x →
+pub move_under : (m n : ℕ) (path : Path) (ks : List ℕ) (x : List ℕ) → AreBelow (length ks) ks →
+    size_under path (length ks) ≡ n → IsVector m n x →
     under path (length ks) (gather (length ks) (slice_index ks)) x ≡ term_on m n (move path ks) x
 move_under m n path ks x below size v =
     let d = length ks in
@@ -140,7 +145,8 @@ front_is k l x long = fill_by_all (slice_index x) (take k x) k 0 (length-take-le
 back_is : (k l : ℕ) (x : List ℕ) → length x ≡ k + l → drop k x ≡ list_below l (λ j. slice_index x (k + j))
 back_is k l x long = fill_by_all (λ j. slice_index x (k + j)) (drop k x) l 0 (omega (arith, length-drop k x, long)) (λ i below. get_or-drop k x i 0)
 
-joined : (k l : ℕ) (u v : List ℕ) → length u ≡ k → length v ≡ l → u ++ v ≡ list_below (k + l) (λ w. if nat_lt w k then slice_index u w else slice_index v (w - k))
+joined : (k l : ℕ) (u v : List ℕ) → length u ≡ k → length v ≡ l →
+    u ++ v ≡ list_below (k + l) (λ w. if nat_lt w k then slice_index u w else slice_index v (w - k))
 joined k l u v first second =
     let f : ℕ → ℕ = λ w. if nat_lt w k then slice_index u w else slice_index v (w - k) in
     ap₂ (λ p q. p ++ q)
@@ -148,24 +154,28 @@ joined k l u v first second =
     (copied l v second ∙ list_below-same l _ (λ j. f (k + j)) (λ j below. sym (high (k + j) k _ _ (omega arith) ∙ ap (slice_index v) (omega arith))))
     ∙ sym (list_below-append k l f)
 
-pub both_joined : (k l : ℕ) (a b : Operator) (x u v : List ℕ) → length x ≡ k + l → length u ≡ k → length v ≡ l → u ≡ a (take k x) → v ≡ b (drop k x) → u ++ v ≡ both k l a b x
+pub both_joined : (k l : ℕ) (a b : Operator) (x u v : List ℕ) → length x ≡ k + l → length u ≡ k → length v ≡ l →
+    u ≡ a (take k x) → v ≡ b (drop k x) → u ++ v ≡ both k l a b x
 both_joined k l a b x u v long first second u_is v_is =
     joined k l u v first second
     ∙ ap₂ (λ p q. list_below (k + l) (λ w. if nat_lt w k then slice_index p w else slice_index q (w - k))) (u_is ∙ ap a (front_is k l x long)) (v_is ∙ ap b (back_is k l x long))
 
 -- ---- from equations
 
-pub nest_times : (m n : ℕ) (t : PlainTerm) (path p : Path) (w : PlainWork) (x y : List ℕ) → t ≡ nest path w → p ≡ path → Fits n t → IsVector m n x → y ≡ under p (copy_size t) (copy_on m t) x → y ≡ term_on m n t x
+pub nest_times : (m n : ℕ) (t : PlainTerm) (path p : Path) (w : PlainWork) (x y : List ℕ) → t ≡ nest path w → p ≡ path →
+    Fits n t → IsVector m n x → y ≡ under p (copy_size t) (copy_on m t) x → y ≡ term_on m n t x
 nest_times m n t path p w x y is taken fits v e =
     let P : PlainTerm → Type 0 = λ s. Fits n s → y ≡ under p (copy_size s) (copy_on m s) x → y ≡ term_on m n s x in
     subst P (sym is) (λ h f. f ∙ ap (λ q. under q (work_size w) (work_on m w) x) taken ∙ nest_under m n path w x h.1 v) fits e
 
-pub move_times : (m n : ℕ) (t : PlainTerm) (path p : Path) (ks : List ℕ) (x y : List ℕ) → t ≡ move path ks → p ≡ path → Fits n t → IsVector m n x → y ≡ under p (copy_size t) (copy_on m t) x → y ≡ term_on m n t x
+pub move_times : (m n : ℕ) (t : PlainTerm) (path p : Path) (ks : List ℕ) (x y : List ℕ) → t ≡ move path ks → p ≡ path →
+    Fits n t → IsVector m n x → y ≡ under p (copy_size t) (copy_on m t) x → y ≡ term_on m n t x
 move_times m n t path p ks x y is taken fits v e =
     let P : PlainTerm → Type 0 = λ s. Fits n s → y ≡ under p (copy_size s) (copy_on m s) x → y ≡ term_on m n s x in
     subst P (sym is) (λ h f. f ∙ ap (λ q. under q (length ks) (gather (length ks) (slice_index ks)) x) taken ∙ move_under m n path ks x h.0 h.1 v) fits e
 
-pub parts_joined : (m k l : ℕ) (a b : PlainTerm) (x front back u v out : List ℕ) → IsVector m (k + l) x → Fits k a → Fits l b → front ≡ take k x → back ≡ drop k x → u ≡ term_on m k a front → v ≡ term_on m l b back →
+pub parts_joined : (m k l : ℕ) (a b : PlainTerm) (x front back u v out : List ℕ) → IsVector m (k + l) x → Fits k a →
+    Fits l b → front ≡ take k x → back ≡ drop k x → u ≡ term_on m k a front → v ≡ term_on m l b back →
     out ≡ u ++ v → out ≡ both k l (term_on m k a) (term_on m l b) x
 parts_joined m k l a b x front back u v out whole fits_a fits_b is_front is_back is_u is_v joined =
     let first = is_u ∙ ap (term_on m k a) is_front in

@@ -1,5 +1,6 @@
 -- One block more, and columns as blocks.
-use Rattle.std.proofs.Common.{◌≡◌, ℕ, ◌+◌, ◌*◌, ◌/◌, ◌≤◌, ◌<◌, List, ◌++◌, ◌∙◌, sym, arith, length, ap, ap₂, mul_comm, subst}
+use Rattle.std.proofs.Common.{◌≡◌, ℕ, ◌+◌, ◌*◌, ◌/◌, ◌≤◌, ◌<◌, List, ◌++◌, ◌∙◌, sym, arith, length, ap, ap₂, mul_comm}
+use Rattle.std.proofs.Common.{subst}
 use Rattle.std.specs.List.{between}
 use Rattle.std.proofs.Math.Nat.{mul-div_cancel_left, mul-div_cancel}
 use Rattle.operators.specs.Identities.{HasSize}
@@ -16,8 +17,10 @@ block_part count s x long some = ap (λ n. n / count) long ∙ mul-div_cancel_le
 pub column_part : (s count : ℕ) (x : List ℕ) → length x ≡ s * count → 0 < s * count → length x / count ≡ s
 column_part s count x long some = ap (λ n. n / count) long ∙ mul-div_cancel s (right_positive s count some)
 
-pub one_block : (count d i size from end : ℕ) (a : Operator) (x before part out : List ℕ) → HasSize d a → size ≡ d → from ≡ i * size → end ≡ from + size → i < count → length x ≡ count * d →
-    before ≡ on_blocks i size a x → part ≡ a (between from end x) → out ≡ before ++ part → out ≡ on_blocks (i + 1) size a x
+pub one_block : (count d i size from end : ℕ) (a : Operator) (x before part out : List ℕ) → HasSize d a → size ≡ d →
+    from ≡ i * size → end ≡ from + size → i < count → length x ≡ count * d →
+    before ≡ on_blocks i size a x → part ≡ a (between from end x) → out ≡ before ++ part →
+    out ≡ on_blocks (i + 1) size a x
 one_block count d i size from end a x before part out sized is start stop below long old new joined =
     let inside : i * size + size ≤ length x = block_inside count d size i x below is long in
     joined

@@ -1,5 +1,6 @@
 -- One item more of a scatter.
-use Rattle.std.proofs.Common.{◌≡◌, ◌≢◌, ℕ, suc, ◌+◌, ◌%◌, ◌<◌, List, length, set, get_or, arith, sym, ap, ◌∙◌, inl, inr, add-one}
+use Rattle.std.proofs.Common.{◌≡◌, ◌≢◌, ℕ, suc, ◌+◌, ◌%◌, ◌<◌, List, length, set, get_or, arith, sym, ap, ◌∙◌, inl, inr}
+use Rattle.std.proofs.Common.{add-one}
 use Rattle.std.specs.Prelude.{slice_index, ◌==◌, if◌then◌else◌}
 use Rattle.std.proofs.lemmas.Bool.{cases_eq}
 use Rattle.std.proofs.lemmas.Bool.Decides.{nat_tests}
@@ -20,7 +21,8 @@ none_stored m n f x s h = h ∙ list_below-same n _ _ (λ p below. sym (zero-mod
 abbrev stored_at : ℕ → ℕ → (ℕ → ℕ) → List ℕ → ℕ → ℕ
 stored_at m d f x p = sum_below d (λ i. if f i == p then slice_index x i else 0) % m
 
-there : (m i p : ℕ) (f : ℕ → ℕ) (x : List ℕ) → f i ≡ p → (stored_at m i f x p + slice_index x i) % m ≡ stored_at m (suc i) f x p
+there : (m i p : ℕ) (f : ℕ → ℕ) (x : List ℕ) → f i ≡ p → (stored_at m i f x p + slice_index x i) % m
+    ≡ stored_at m (suc i) f x p
 there m i p f x e =
     let so_far = sum_below i (λ j. if f j == p then slice_index x j else 0) in
     let here : (if f i == p then slice_index x i else 0) ≡ slice_index x i = grind (arith, nat_tests) in
@@ -32,7 +34,8 @@ elsewhere m i p f x other =
     let here : (if f i == p then slice_index x i else 0) ≡ 0 = grind (arith, nat_tests) in
     ap (λ y. y % m) (omega (arith, here))
 
-pub one_stored : (m n i p y : ℕ) (f : ℕ → ℕ) (x s : List ℕ) → s ≡ scatter_mod m n i f x → p ≡ f i → p < n → y ≡ (slice_index s p + slice_index x i) % m →
+pub one_stored : (m n i p y : ℕ) (f : ℕ → ℕ) (x s : List ℕ) → s ≡ scatter_mod m n i f x → p ≡ f i → p < n →
+    y ≡ (slice_index s p + slice_index x i) % m →
     set s p y ≡ scatter_mod m n (i + 1) f x
 one_stored m n i p y f x s so_far place below value =
     let long : length s ≡ n = ap length so_far ∙ length-list_below n _ in
@@ -54,7 +57,8 @@ one_stored m n i p y f x s so_far place below value =
     ]) in
     step ∙ ap (λ d. scatter_mod m n d f x) (sym (add-one i))
 
-pub stored_below : (m n i p : ℕ) (f : ℕ → ℕ) (x s : List ℕ) → 0 < m → s ≡ scatter_mod m n i f x → p < n → slice_index s p < m
+pub stored_below : (m n i p : ℕ) (f : ℕ → ℕ) (x s : List ℕ) → 0 < m → s ≡ scatter_mod m n i f x → p < n →
+    slice_index s p < m
 stored_below m n i p f x s positive so_far below =
     let value : slice_index s p ≡ stored_at m i f x p = ap (λ z. slice_index z p) so_far ∙ at-list_below n _ p below in
     omega (arith, value, mod_below (sum_below i (λ j. if f j == p then slice_index x j else 0)) m positive)

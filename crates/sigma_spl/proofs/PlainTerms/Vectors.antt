@@ -1,5 +1,6 @@
 -- Terms take residues to residues.
-use Rattle.std.proofs.Common.{◌≡◌, ℕ, ◌+◌, ◌-◌, ◌*◌, ◌/◌, ◌%◌, ◌<◌, List, [], ◌∷◌, arith, refl, sym, ap, ap₂, ◌∙◌, subst, inl, inr}
+use Rattle.std.proofs.Common.{◌≡◌, ℕ, ◌+◌, ◌-◌, ◌*◌, ◌/◌, ◌%◌, ◌<◌, List, [], ◌∷◌, arith, refl, sym, ap, ap₂, ◌∙◌}
+use Rattle.std.proofs.Common.{subst, inl, inr}
 use Rattle.std.specs.Prelude.{slice_index}
 use Rattle.std.proofs.lemmas.Bool.{cases_lt}
 use Rattle.std.proofs.lemmas.Nat.{mod_below, div_below}
@@ -46,7 +47,8 @@ columns_keep m r s a keep x v =
     let some : 0 < s = factor_positive r s p below in
     residue_at m r (a (column r s (p % s) x)) (p / s) (keep (column r s (p % s) x) (column_vector m r s (p % s) x (mod_below p s some) v)) (div_below p s r some below))
 
-pub under_keeps : (m : ℕ) (path : Path) (n : ℕ) (a : Operator) → Keeps m n a → Keeps m (size_under path n) (under path n a)
+pub under_keeps : (m : ℕ) (path : Path) (n : ℕ) (a : Operator) → Keeps m n a →
+    Keeps m (size_under path n) (under path n a)
 under_keeps m [] n a keep x v = keep x v
 under_keeps m (Blocks c ∷ path) n a keep x v = blocks_keep m c (size_under path n) (under path n a) (under_keeps m path n a keep) x v
 under_keeps m (Columns c ∷ path) n a keep x v = columns_keep m (size_under path n) c (under path n a) (under_keeps m path n a keep) x v
@@ -89,15 +91,19 @@ term_vector m n (beside path k a l b) x h v =
     subst (λ z. IsVector m z (under path (k + l) (both k l (term_on m k a) (term_on m l b)) x)) h.1 (under_keeps m path (k + l) _ inner x whole)
 
 -- what a term leaves, as the next one gets it
-pub next_vector : (m n : ℕ) (t : PlainTerm) (x y z : List ℕ) → Fits n t → IsVector m n x → y ≡ term_on m n t x → z ≡ y → IsVector m n z
+pub next_vector : (m n : ℕ) (t : PlainTerm) (x y z : List ℕ) → Fits n t → IsVector m n x → y ≡ term_on m n t x → z ≡ y →
+    IsVector m n z
 next_vector m n t x y z h v made lent = subst (λ (u : List ℕ). IsVector m n u) (sym (lent ∙ made)) (term_vector m n t x h v)
 
-pub terms_vector : (m n : ℕ) (ts : List PlainTerm) (x : List ℕ) → AllFit n ts → IsVector m n x → IsVector m n (terms_on m n ts x)
+pub terms_vector : (m n : ℕ) (ts : List PlainTerm) (x : List ℕ) → AllFit n ts → IsVector m n x →
+    IsVector m n (terms_on m n ts x)
 terms_vector m n [] x h v = v
 terms_vector m n (t ∷ ts) x h v = terms_vector m n ts (term_on m n t x) h.1 (term_vector m n t x h.0 v)
 
 -- rows of trees, as columns are made of them
-rows_vector : (m r s k : ℕ) (others : PlainTrees) (x rows y : List ℕ) → IsVector m (r * trees_size others) x → k ≡ r → rows ≡ on_blocks k (trees_size others) (trees_on m others) x → y ≡ rows → s ≡ trees_size others → IsVector m (r * s) y
+rows_vector : (m r s k : ℕ) (others : PlainTrees) (x rows y : List ℕ) → IsVector m (r * trees_size others) x → k ≡ r →
+    rows ≡ on_blocks k (trees_size others) (trees_on m others) x → y ≡ rows → s ≡ trees_size others →
+    IsVector m (r * s) y
 rows_vector m r s k others x rows y v count is taken size =
     let P : ℕ → List ℕ → Type 0 = λ n z. IsVector m (r * n) z in
     let made : P (trees_size others) (on_blocks r (trees_size others) (trees_on m others) x) = blocks_keep m r (trees_size others) (trees_on m others) (trees_keep m others) x v in
@@ -114,7 +120,8 @@ module _ (m : ℕ) (p q : Request) (t a b : Breakdown) (t_is : t ≡ node Dim a 
       let whole : size_of t ≡ r * trees_size trees = ap size_of t_is ∙ sym (ap₂ (λ i j. i * j) r_is size) in
       rows_vector m r s r trees x rows z (subst (λ n. IsVector m n x) whole v) refl rows_are z_is (s_is ∙ sym size)
 
-  pub node_columns : (w : ℕ) (y : List ℕ) → w ≡ (first_of p).root → q ≡ rest_of p → y ≡ on_columns r s (transform Dft m r w) z →
+  pub node_columns : (w : ℕ) (y : List ℕ) → w ≡ (first_of p).root → q ≡ rest_of p →
+      y ≡ on_columns r s (transform Dft m r w) z →
       y ≡ trees_on m (rooted_of p t) x
   node_columns w y w_is q_is y_is =
       let trees = rooted_of q b in

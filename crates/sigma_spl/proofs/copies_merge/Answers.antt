@@ -1,4 +1,5 @@
-use Rattle.sigma_spl.proofs.CopiesMerge.{loads_gather, stores_scatter, loops_scale, stand_side_by_side, stand_under, keeps_once}
+use Rattle.sigma_spl.proofs.CopiesMerge.{loads_gather, stores_scatter, loops_scale, stand_side_by_side, stand_under}
+use Rattle.sigma_spl.proofs.CopiesMerge.{keeps_once}
 use Rattle.sigma_spl.proofs.copies_merge.Goals as goal
 
 pub returns : goal.returns

@@ -1,5 +1,6 @@
 -- The layout of a tree: its size, what it does, what it costs, and that it can be made.
-use Rattle.std.proofs.Common.{◌≡◌, ℕ, ◌+◌, ◌*◌, ◌-◌, ◌/◌, ◌<◌, ◌≤◌, Bool, true, false, List, refl, sym, ap, ap₂, subst, ◌∙◌, arith, if◌then◌else◌, inl, inr, mul_comm}
+use Rattle.std.proofs.Common.{◌≡◌, ℕ, ◌+◌, ◌*◌, ◌-◌, ◌/◌, ◌<◌, ◌≤◌, Bool, true, false, List, refl, sym, ap, ap₂, subst}
+use Rattle.std.proofs.Common.{◌∙◌, arith, if◌then◌else◌, inl, inr, mul_comm}
 use Rattle.std.specs.Prelude.{nat_le}
 use Rattle.std.proofs.Math.Nat.{mod-eq_of_lt}
 use Rattle.std.proofs.lemmas.Bool.{cases_lt}
@@ -21,19 +22,23 @@ use Rattle.operators.specs.Sizes.{max_size}
 use Rattle.sigma_spl.specs.Work.{PlainWork, kernel, node_of, work_size, work_on}
 use Rattle.ring_mod.specs.Residue.{power_mod}
 use Rattle.ring_mod.proofs.Powers.{power_mod_of_power}
-use Rattle.smp_rewrite.specs.LayoutSteps.Layout.{Layout, work, by, layout_size, layout_on, layout_cost, layout_of, node_work, long_work, rule_on, IsGoodWork, CanPart, IsGoodRule, IsGoodLayout}
+use Rattle.smp_rewrite.specs.LayoutSteps.Layout.{Layout, work, by, layout_size, layout_on, layout_cost, layout_of}
+use Rattle.smp_rewrite.specs.LayoutSteps.Layout.{node_work, long_work, rule_on, IsGoodWork, CanPart, IsGoodRule}
+use Rattle.smp_rewrite.specs.LayoutSteps.Layout.{IsGoodLayout}
 use Rattle.sigma_spl.specs.Shared.Costs.{work_cost}
 use Rattle.smp_rewrite.specs.LayoutSteps.Layout as layouts
 use Rattle.kernel_gen.specs.Nodes.{IsNodeTree}
 use Rattle.smp_rewrite.specs.LayoutSteps.Meaning.{FitsWhole, LayoutsHaveSize, LayoutsDo, LayoutsCost, LayoutsAreGood}
-use Rattle.kernel_gen.proofs.NodeTrees.{left_tree, right_tree, left_fields, right_fields, left_less, times_size, size-le}
+use Rattle.kernel_gen.proofs.NodeTrees.{left_tree, right_tree, left_fields, right_fields, left_less, times_size}
+use Rattle.kernel_gen.proofs.NodeTrees.{size-le}
 use Rattle.kernel_gen.proofs.RootedNodes.{rooted_on, rooted_cost, rooted_made, flat_node}
 use Rattle.smp_rewrite.proofs.LayoutSteps.NodeTrees.{left_fits, right_fits, node_kind, node_stands}
 use Rattle.tree_model.proofs.RootedTrees.{rooted_size}
 use Rattle.tree_model.specs.Breakdown.{Breakdown, leaf, node, size_of, AllowsLeaf, AllowsRule, IsWellFormed}
 use Rattle.tree_model.specs.Cost.{is_kernel, is_plain, node_root, products_cost}
 use Rattle.tree_model.specs.Cost as trees
-use Rattle.tree_model.specs.Whole.{left_of, right_of, AllowsRuleOf, IsTreeOf, cost_in, node_on, node_transform, rooted_of}
+use Rattle.tree_model.specs.Whole.{left_of, right_of, AllowsRuleOf, IsTreeOf, cost_in, node_on, node_transform}
+use Rattle.tree_model.specs.Whole.{rooted_of}
 use Rattle.tree_model.proofs.FlatTrees.{well_formed}
 use Rattle.tree_model.proofs.PowerOfTwo.{walsh_size}
 use Rattle.tree_model.proofs.Sizes.{one_le_size_of}

@@ -2,7 +2,8 @@
 use Rattle.std.proofs.Common.{◌≡◌, ℕ, ◌+◌, ◌*◌, List, [], ◌∷◌, ◌++◌, ap, ◌∙◌, arith}
 use Rattle.smp_rewrite.specs.LayoutSteps.Layout.{work, by, layout_size, rule_cost, layout_cost}
 use Rattle.smp_rewrite.specs.LayoutSteps.Meaning.{StepsCost}
-use Rattle.smp_rewrite.specs.LayoutSteps.Step.{PlainStep, step, thomas_out, twiddles, rule_steps, steps_of, operations_in}
+use Rattle.smp_rewrite.specs.LayoutSteps.Step.{PlainStep, step, thomas_out, twiddles, rule_steps, steps_of}
+use Rattle.smp_rewrite.specs.LayoutSteps.Step.{operations_in}
 use Rattle.operators.specs.TensorPaths.Path.{Path, copies_of}
 use Rattle.operators.specs.declared.tensor_paths.Tensor.TheVariants.{Blocks, Columns}
 use Rattle.operators.proofs.TensorPaths.Under.{copies_of-push}
@@ -10,12 +11,14 @@ use Rattle.tree_model.specs.declared.tree.Rule.{Rule}
 use Rattle.tree_model.specs.declared.tree.Rule.TheVariants.{Gt, Ct, Split, Dim}
 
 module _ (weight m : ℕ) where
-  operations_in-append : (ss ts : List PlainStep) → operations_in weight m (ss ++ ts) ≡ operations_in weight m ss + operations_in weight m ts
+  operations_in-append : (ss ts : List PlainStep) → operations_in weight m (ss ++ ts) ≡ operations_in weight m ss
+      + operations_in weight m ts
   operations_in-append [] ts = omega arith
   operations_in-append (s ∷ ss) ts = let rest = operations_in-append ss ts in omega (arith, rest)
 
   rule_operations : (rule : Rule) (path : Path) (r s w : ℕ) (left right : List PlainStep) →
-      operations_in weight m (rule_steps rule path r s w left right) ≡ operations_in weight m left + operations_in weight m right + copies_of path * rule_cost weight rule (r * s)
+      operations_in weight m (rule_steps rule path r s w left right) ≡ operations_in weight m left
+      + operations_in weight m right + copies_of path * rule_cost weight rule (r * s)
   rule_operations Gt path r s w left right =
       let one = operations_in-append right (left ++ step path (thomas_out r s) ∷ []) in
       let two = operations_in-append left (step path (thomas_out r s) ∷ []) in omega (arith, one, two)

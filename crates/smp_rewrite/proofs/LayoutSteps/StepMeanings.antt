@@ -19,8 +19,10 @@ all_on-append m (s ∷ ss) ts x = all_on-append m ss ts (step_on m s x)
 
 -- ---- the steps of a rule
 
-rule_steps_on : (m : ℕ) (rule : Rule) (path : Path) (r s w : ℕ) (a b : Operator) (left right : List PlainStep) (x : List ℕ) →
-    ((y : List ℕ) → all_on m left y ≡ under path (r * s) (on_columns r s a) y) → ((y : List ℕ) → all_on m right y ≡ under path (r * s) (on_blocks r s b) y) →
+rule_steps_on : (m : ℕ) (rule : Rule) (path : Path) (r s w : ℕ) (a b : Operator) (left right : List PlainStep)
+    (x : List ℕ) →
+    ((y : List ℕ) → all_on m left y ≡ under path (r * s) (on_columns r s a) y) →
+    ((y : List ℕ) → all_on m right y ≡ under path (r * s) (on_blocks r s b) y) →
     all_on m (rule_steps rule path r s w left right) x ≡ under path (r * s) (rule_on rule m r s w a b) x
 rule_steps_on m Gt path r s w a b left right x on_left on_right =
     let n = r * s in

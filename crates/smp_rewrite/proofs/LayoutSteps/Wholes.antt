@@ -16,7 +16,8 @@ use Rattle.ring_mod.proofs.InverseLaws.{inverse_mod-below}
 use Rattle.smp_rewrite.specs.LayoutSteps.Layout.{layout_size, layout_on, layout_cost, layout_of, IsGoodLayout}
 use Rattle.kernel_gen.specs.Nodes.{IsNodeTree}
 use Rattle.smp_rewrite.specs.LayoutSteps.Meaning.{FitsWhole}
-use Rattle.smp_rewrite.specs.LayoutSteps.Whole.{closed_on, closing_cost, factor_by, IsGoodFactor, WholesDo, WholesCost, WholesAreGood}
+use Rattle.smp_rewrite.specs.LayoutSteps.Whole.{closed_on, closing_cost, factor_by, IsGoodFactor, WholesDo, WholesCost}
+use Rattle.smp_rewrite.specs.LayoutSteps.Whole.{WholesAreGood}
 use Rattle.smp_rewrite.proofs.LayoutSteps.Layouts.{layouts_have_size, layouts_do, layouts_cost, layouts_are_good}
 use Rattle.tree_model.specs.Breakdown.{Breakdown, size_of}
 use Rattle.tree_model.specs.Chosen.{IsWholeTree, closing_by}

@@ -1,7 +1,9 @@
 -- Halves of halves are no deeper than a logarithm.
-use Rattle.std.proofs.Common.{◌≡◌, ℕ, zero, suc, ◌+◌, ◌-◌, ◌*◌, ◌/◌, ◌^◌, ◌<◌, ◌≤◌, ◌∙◌, refl, sym, subst, arith, ap, length, length-append, max, ⊎_elim, pow-suc, add-one, Box, Global}
+use Rattle.std.proofs.Common.{◌≡◌, ℕ, zero, suc, ◌+◌, ◌-◌, ◌*◌, ◌/◌, ◌^◌, ◌<◌, ◌≤◌, ◌∙◌, refl, sym, subst, arith, ap}
+use Rattle.std.proofs.Common.{length, length-append, max, ⊎_elim, pow-suc, add-one, Box, Global}
 use Rattle.std.proofs.lemmas.Bool.{cases_lt}
-use Rattle.spl_ast.specs.Formula.{Formula, Identity, Fourier, Hadamard, Twiddles, Diagonal, Stride, Permutation, GoodThomasIn, GoodThomasOut, Product, TensorLeft, TensorRight, DirectSum, Pending}
+use Rattle.spl_ast.specs.Formula.{Formula, Identity, Fourier, Hadamard, Twiddles, Diagonal, Stride, Permutation}
+use Rattle.spl_ast.specs.Formula.{GoodThomasIn, GoodThomasOut, Product, TensorLeft, TensorRight, DirectSum, Pending}
 use Rattle.spl_ast.specs.View.{formula_of}
 use Rattle.spl_ast.specs.declared.Node.{Node}
 use Rattle.spl_ast.specs.declared.Node.TheVariants as node
@@ -47,7 +49,8 @@ max-level d e count first second =
     (λ l. let is : max d e ≡ d = omega (arith, l) in subst (λ n. 2 ^ (n + 1) < 2 * count) (sym is) first)
     (cases_lt d e)
 
-pub sum_of_halves : (count half : ℕ) (a b : Formula) → 2 ≤ count → half ≡ count / 2 → IsSumOf half a → IsSumOf (count - half) b → IsSumOf count (DirectSum a b)
+pub sum_of_halves : (count half : ℕ) (a b : Formula) → 2 ≤ count → half ≡ count / 2 → IsSumOf half a →
+    IsSumOf (count - half) b → IsSumOf count (DirectSum a b)
 sum_of_halves count half a b some is first second =
     let counted : length (summands (DirectSum a b)) ≡ count = length-append (summands a) (summands b) ∙ omega (arith, first.counted, second.counted, is) in
     let shallow : 2 ^ sum_depth (DirectSum a b) < 2 * count =
@@ -61,8 +64,11 @@ sum_of_halves count half a b some is first second =
     }
 
 -- a node without parts is no sum
-pub leaf_summand : (n : Node) → ((a b : Box Spl Global) → n ≡ node.Compose a b → ⊥) → ((a : Box Spl Global) (k : ℕ) → n ≡ node.TensorLeft a k → ⊥) → ((k : ℕ) (a : Box Spl Global) → n ≡ node.TensorRight k a → ⊥) →
-    ((a b : Box Spl Global) → n ≡ node.DirectSum a b → ⊥) → ((a : Box Spl Global) → n ≡ node.Todo a → ⊥) → IsSummand (formula_of n)
+pub leaf_summand : (n : Node) → ((a b : Box Spl Global) → n ≡ node.Compose a b → ⊥) →
+    ((a : Box Spl Global) (k : ℕ) → n ≡ node.TensorLeft a k → ⊥) →
+    ((k : ℕ) (a : Box Spl Global) → n ≡ node.TensorRight k a → ⊥) →
+    ((a b : Box Spl Global) → n ≡ node.DirectSum a b → ⊥) → ((a : Box Spl Global) → n ≡ node.Todo a → ⊥) →
+    IsSummand (formula_of n)
 leaf_summand (node.I n) p l r s t = record { balanced = tt; alone = refl }
 leaf_summand (node.Dft n w) p l r s t = record { balanced = tt; alone = refl }
 leaf_summand (node.Wht n) p l r s t = record { balanced = tt; alone = refl }

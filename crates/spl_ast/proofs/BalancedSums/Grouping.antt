@@ -1,6 +1,7 @@
 -- What holds of formulas with the same summands.
 use Rattle.std.proofs.Common.{ℕ, ◌<◌, List, [], ◌∷◌, ◌++◌, length, arith, length-append}
-use Rattle.spl_ast.specs.Formula.{Formula, Identity, Fourier, Hadamard, Twiddles, Diagonal, Stride, Permutation, GoodThomasIn, GoodThomasOut, Product, TensorLeft, TensorRight, DirectSum, Pending}
+use Rattle.spl_ast.specs.Formula.{Formula, Identity, Fourier, Hadamard, Twiddles, Diagonal, Stride, Permutation}
+use Rattle.spl_ast.specs.Formula.{GoodThomasIn, GoodThomasOut, Product, TensorLeft, TensorRight, DirectSum, Pending}
 use Rattle.spl_ast.specs.BalancedSums.Summands.{summands, sum_of}
 
 -- a relation that leads from each part of a formula to the whole, and from a direct sum of three to the same, grouped from the right
@@ -33,7 +34,8 @@ some_summand (Pending a) = omega arith
 
 module _ (R : Formula → Formula → Type 0) (laws : KnowsSums R) where
   -- two direct sums, as one
-  sum-append : (fs gs : List Formula) → 0 < length fs → 0 < length gs → R (DirectSum (sum_of fs) (sum_of gs)) (sum_of (fs ++ gs))
+  sum-append : (fs gs : List Formula) → 0 < length fs → 0 < length gs →
+      R (DirectSum (sum_of fs) (sum_of gs)) (sum_of (fs ++ gs))
   sum-append [] gs some other = absurd (omega arith)
   sum-append (f ∷ fs) [] some other = absurd (omega arith)
   sum-append (f ∷ []) (g ∷ gs) some other = laws.same (DirectSum f (sum_of (g ∷ gs)))

@@ -1,5 +1,6 @@
 -- Halves of what was taken away.
-use Rattle.std.proofs.Common.{◌≡◌, ℕ, zero, suc, ◌-◌, ◌/◌, ◌≤◌, nat_le, if◌then◌else◌, List, [], ◌∷◌, ◌++◌, false, take, drop, length, length-append, append_assoc, refl, sym, ap, ap₂, ◌∙◌, arith, Box, Global}
+use Rattle.std.proofs.Common.{◌≡◌, ℕ, zero, suc, ◌-◌, ◌/◌, ◌≤◌, nat_le, if◌then◌else◌, List, [], ◌∷◌, ◌++◌, false, take}
+use Rattle.std.proofs.Common.{drop, length, length-append, append_assoc, refl, sym, ap, ap₂, ◌∙◌, arith, Box, Global}
 use Rattle.std.proofs.lemmas.Bool.Decides.{nat_tests}
 use Rattle.spl_ast.specs.Formula.{Formula, DirectSum}
 use Rattle.spl_ast.specs.View.{formula_of}
@@ -36,7 +37,8 @@ two-halved xs ys depth some half =
 pub single_taken : (old new : List Formula) (g : Formula) → old ≡ new ++ g ∷ [] → IsTakenFrom 1 old new g
 single_taken old new g whole = record { taken = g ∷ []; whole = whole; counted = refl; sum = λ depth _. one-halved g depth }
 
-halves-sum : (count half : ℕ) (xs ys : List Formula) (a b : Formula) → 2 ≤ count → half ≡ count / 2 → length xs ≡ half → length ys ≡ count - half →
+halves-sum : (count half : ℕ) (xs ys : List Formula) (a b : Formula) → 2 ≤ count → half ≡ count / 2 → length xs ≡ half →
+    length ys ≡ count - half →
     ((depth : ℕ) → half ≤ depth → halved depth xs ≡ a) → ((depth : ℕ) → count - half ≤ depth → halved depth ys ≡ b) →
     (depth : ℕ) → count ≤ depth → halved depth (xs ++ ys) ≡ DirectSum a b
 halves-sum count half xs ys a b some is first second left right zero low = absurd (omega (arith, some, low))
@@ -46,7 +48,8 @@ halves-sum count half xs ys a b some is first second left right (suc depth) low 
     ∙ ap₂ DirectSum (left depth (omega (arith, is, low, some))) (right depth (omega (arith, is, low, some)))
 
 -- the second half was taken away, and then the first
-pub halves_taken : (count half : ℕ) (old mid new : List Formula) (a b : Formula) → 2 ≤ count → half ≡ count / 2 → IsTakenFrom (count - half) old mid b → IsTakenFrom half mid new a →
+pub halves_taken : (count half : ℕ) (old mid new : List Formula) (a b : Formula) → 2 ≤ count → half ≡ count / 2 →
+    IsTakenFrom (count - half) old mid b → IsTakenFrom half mid new a →
     IsTakenFrom count old new (DirectSum a b)
 halves_taken count half old mid new a b some is second first = record {
   taken = first.taken ++ second.taken;
@@ -56,7 +59,8 @@ halves_taken count half old mid new a b some is second first = record {
 }
 
 -- all summands were taken away
-pub all_halved : (made rest : List Formula) (f g : Formula) (count : ℕ) → made ≡ balanced_summands f → count ≡ length made → length rest ≡ 0 → IsTakenFrom count made rest g → g ≡ balanced f
+pub all_halved : (made rest : List Formula) (f g : Formula) (count : ℕ) → made ≡ balanced_summands f →
+    count ≡ length made → length rest ≡ 0 → IsTakenFrom count made rest g → g ≡ balanced f
 all_halved made [] f g count is counted none taken =
     let same : taken.taken ≡ balanced_summands f = sym taken.whole ∙ is in
     sym (taken.sum (length made) (omega (arith, counted)))
@@ -64,8 +68,11 @@ all_halved made [] f g count is counted none taken =
 all_halved made (e ∷ rest) f g count is counted none taken = absurd (omega (arith, none))
 
 -- a node without parts is its own summand
-pub leaf_alone : (n : Node) → ((a b : Box Spl Global) → n ≡ node.Compose a b → ⊥) → ((a : Box Spl Global) (k : ℕ) → n ≡ node.TensorLeft a k → ⊥) → ((k : ℕ) (a : Box Spl Global) → n ≡ node.TensorRight k a → ⊥) →
-    ((a b : Box Spl Global) → n ≡ node.DirectSum a b → ⊥) → ((a : Box Spl Global) → n ≡ node.Todo a → ⊥) → balanced_summands (formula_of n) ≡ formula_of n ∷ []
+pub leaf_alone : (n : Node) → ((a b : Box Spl Global) → n ≡ node.Compose a b → ⊥) →
+    ((a : Box Spl Global) (k : ℕ) → n ≡ node.TensorLeft a k → ⊥) →
+    ((k : ℕ) (a : Box Spl Global) → n ≡ node.TensorRight k a → ⊥) →
+    ((a b : Box Spl Global) → n ≡ node.DirectSum a b → ⊥) → ((a : Box Spl Global) → n ≡ node.Todo a → ⊥) →
+    balanced_summands (formula_of n) ≡ formula_of n ∷ []
 leaf_alone (node.I n) p l r s t = refl
 leaf_alone (node.Dft n w) p l r s t = refl
 leaf_alone (node.Wht n) p l r s t = refl

@@ -1,5 +1,6 @@
 -- Formulas with the same summands are alike.
-use Rattle.std.proofs.Common.{◌≡◌, ℕ, ◌+◌, ◌*◌, ◌++◌, take, drop, ◌∙◌, refl, sym, subst, arith, ap, ap₂, append_assoc, add_assoc}
+use Rattle.std.proofs.Common.{◌≡◌, ℕ, ◌+◌, ◌*◌, ◌++◌, take, drop, ◌∙◌, refl, sym, subst, arith, ap, ap₂, append_assoc}
+use Rattle.std.proofs.Common.{add_assoc}
 use Rattle.std.proofs.lemmas.List.{drop-take, drop-drop, take-take}
 use Rattle.spl_ast.specs.Formula.{Formula, DirectSum, size_of, parts_of}
 use Rattle.spl_ast.specs.Meaning.{apply, IsVector, IsSameMatrix}
@@ -36,7 +37,8 @@ parts-know = record {
 }
 
 -- a number that a formula has in common with its summands grouped from the right is the same of formulas with the same summands
-pub alike : (number : Formula → ℕ) → KnowsSums (λ f g. number g ≡ number f) → (f g : Formula) → summands g ≡ summands f → number g ≡ number f
+pub alike : (number : Formula → ℕ) → KnowsSums (λ f g. number g ≡ number f) → (f g : Formula) →
+    summands g ≡ summands f → number g ≡ number f
 alike number laws f g same =
     sym (from_right _ laws g) ∙ ap (λ fs. number (sum_of fs)) same ∙ from_right _ laws f
 

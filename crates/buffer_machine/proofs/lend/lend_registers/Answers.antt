@@ -1,4 +1,5 @@
-use Rattle.std.proofs.Common.{[], refl, ◌*◌, ◌≡◌, ℕ, List, ◌<◌, ◌++◌, take, drop, length, get_or, ap, sym, subst, ◌∙◌, arith}
+use Rattle.std.proofs.Common.{[], refl, ◌*◌, ◌≡◌, ℕ, List, ◌<◌, ◌++◌, take, drop, length, get_or, ap, sym, subst, ◌∙◌}
+use Rattle.std.proofs.Common.{arith}
 use Rattle.std.specs.Prelude.{slice_index}
 use Rattle.std.proofs.lemmas.List.{get_or_read}
 use Rattle.icode.specs.Machine.{Code}

@@ -1,4 +1,5 @@
-use Rattle.icode.proofs.CodeLaws.ByLane.{arithmetic_is_by_lane, lists_follow, muls_are_by_lane, operations_are_by_lane, weighted_is_by_lane}
+use Rattle.icode.proofs.CodeLaws.ByLane.{arithmetic_is_by_lane, lists_follow, muls_are_by_lane, operations_are_by_lane}
+use Rattle.icode.proofs.CodeLaws.ByLane.{weighted_is_by_lane}
 use Rattle.icode.proofs.code_laws.arithmetic_is_by_lane.Goals as goal
 
 pub returns-clause-lanes : goal.returns-clause-lanes

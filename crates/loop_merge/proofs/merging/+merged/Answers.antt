@@ -6,7 +6,8 @@ use Rattle.loop_merge.specs.Views.{plain_merging}
 use Rattle.loop_nests.specs.Views.{from_last}
 use Rattle.loop_merge.proofs.Depths.{term_depth}
 use Rattle.loop_merge.proofs.Merged.{merged-known, nothing-known}
-use Rattle.loop_merge.proofs.Parts.{alone-known, can-merge, factors-of, is-part, known-both, merged-anew, parts-of, same-term}
+use Rattle.loop_merge.proofs.Parts.{alone-known, can-merge, factors-of, is-part, known-both, merged-anew, parts-of}
+use Rattle.loop_merge.proofs.Parts.{same-term}
 use Rattle.loop_merge.proofs.merging.+merged.Goals as goal
 
 pub merged-merged-requires : goal.merged-merged-requires

@@ -1,4 +1,5 @@
-use Rattle.operators.proofs.Scatters.{tensors_as_loops, gather_of_gather, scatter_of_scatter, gather_of_scale, scale_of_scatter, gather_as_scatter}
+use Rattle.operators.proofs.Scatters.{tensors_as_loops, gather_of_gather, scatter_of_scatter, gather_of_scale}
+use Rattle.operators.proofs.Scatters.{scale_of_scatter, gather_as_scatter}
 use Rattle.operators.proofs.laws.loop_identities.Goals as goal
 
 pub returns : goal.returns

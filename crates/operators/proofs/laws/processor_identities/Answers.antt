@@ -1,4 +1,5 @@
-use Rattle.operators.proofs.Blocks.{tensor_of_product, columns_in_blocks, turn_in_blocks, blocks_in_blocks, diagonal_in_blocks}
+use Rattle.operators.proofs.Blocks.{tensor_of_product, columns_in_blocks, turn_in_blocks, blocks_in_blocks}
+use Rattle.operators.proofs.Blocks.{diagonal_in_blocks}
 use Rattle.operators.proofs.WholeLines.{whole_lines}
 use Rattle.operators.proofs.laws.processor_identities.Goals as goal
 

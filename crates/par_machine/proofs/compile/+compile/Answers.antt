@@ -5,7 +5,8 @@ use Rattle.icode.specs.Plain.{Loop, Do, plain_stmt, plain_body, plain_op}
 use Rattle.icode.specs.Limits.{is_body_within}
 use Rattle.icode.proofs.Views.{plain_stmt-Loop, plain_stmt-Do}
 use Rattle.par_machine.specs.declared.cursor.Instruction.TheVariants.{Again}
-use Rattle.par_machine.proofs.Compiles.{DoesBody, loop_parts, item_within, take_whole, compiled_none, compiled_more, compiled_do, compiled_loop, compiled_empty}
+use Rattle.par_machine.proofs.Compiles.{DoesBody, loop_parts, item_within, take_whole, compiled_none, compiled_more}
+use Rattle.par_machine.proofs.Compiles.{compiled_do, compiled_loop, compiled_empty}
 use Rattle.par_machine.proofs.compile.+compile.Goals as goal
 
 pub loop-inner-init : goal.loop-inner-init

@@ -39,8 +39,10 @@ loop-number-preserved g c =
     }
 
 -- the fault met the line of this event
-met : (g : Over) (c : goal.After-from_residual g) → FaultMet (g.E.Engine.code c.args.machine.now) (g.E.Engine.stands c.args.machine.now) 0
-    (events_of c.args.events (g.E.Engine.code c.args.machine.now).procs) (g.E.Engine.stands c.write_step.new.machine) (g.O.Sink.taken c.args.output.now) (g.O.Sink.taken c.write_step.new.output)
+met : (g : Over) (c : goal.After-from_residual g) → FaultMet (g.E.Engine.code c.args.machine.now)
+    (g.E.Engine.stands c.args.machine.now) 0
+    (events_of c.args.events (g.E.Engine.code c.args.machine.now).procs) (g.E.Engine.stands c.write_step.new.machine)
+    (g.O.Sink.taken c.args.output.now) (g.O.Sink.taken c.write_step.new.output)
 met g c =
     let taken = g.O.Sink.taken in
     let code = g.E.Engine.code c.args.machine.now in

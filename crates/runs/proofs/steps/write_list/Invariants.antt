@@ -9,7 +9,8 @@ invariant-loop-number g l =
     let code = g.E.Engine.code l.fn.machine in
     let events = events_of l.events l.procs in
     record {
-      goes : Goes code (taken l.fn.output) (taken l.output) (g.E.Engine.stands l.fn.machine) 0 events (g.E.Engine.stands l.machine) l.number (drop l.number events);
+      goes : Goes code (taken l.fn.output) (taken l.output) (g.E.Engine.stands l.fn.machine) 0 events
+          (g.E.Engine.stands l.machine) l.number (drop l.number events);
       code : g.E.Engine.code l.machine ≡ code;
       faults : g.O.Sink.faults l.output ≡ g.O.Sink.faults l.fn.output;
     }

@@ -53,8 +53,11 @@ loop-next-preserved g c =
     }
 
 -- the fault met the line of this event
-met : (g : Over) (c : goal.After-from_residual g) → FaultMet (g.E.Engine.code c.args.machine.now) (g.E.Engine.stands c.args.machine.now) c.args.first
-    (completion_at (g.E.Engine.code c.args.machine.now) (g.E.Engine.stands c.args.machine.now)) (g.E.Engine.stands c.write_step.new.machine) (g.O.Sink.taken c.args.output.now) (g.O.Sink.taken c.write_step.new.output)
+met : (g : Over) (c : goal.After-from_residual g) → FaultMet (g.E.Engine.code c.args.machine.now)
+    (g.E.Engine.stands c.args.machine.now) c.args.first
+    (completion_at (g.E.Engine.code c.args.machine.now) (g.E.Engine.stands c.args.machine.now))
+    (g.E.Engine.stands c.write_step.new.machine) (g.O.Sink.taken c.args.output.now)
+    (g.O.Sink.taken c.write_step.new.output)
 met g c =
     let taken = g.O.Sink.taken in
     let own = g.E.Engine.code c.args.machine.now in

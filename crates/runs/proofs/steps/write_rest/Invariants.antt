@@ -13,11 +13,13 @@ invariant-loop-next g l =
     let state = g.E.Engine.stands l.fn.machine in
     record {
       act : CompletionActs own (g.E.Engine.stands l.machine) → CompletionActs own state;
-      goes : Goes own (taken l.fn.output) (taken l.output) state l.first (completion_at own state) (g.E.Engine.stands l.machine) l.number (completion_at own (g.E.Engine.stands l.machine));
+      goes : Goes own (taken l.fn.output) (taken l.output) state l.first (completion_at own state)
+          (g.E.Engine.stands l.machine) l.number (completion_at own (g.E.Engine.stands l.machine));
       code : g.E.Engine.code l.machine ≡ own;
       faults : g.O.Sink.faults l.output ≡ g.O.Sink.faults l.fn.output;
       few : l.number + length (completion_at own (g.E.Engine.stands l.machine)) < 2 ^ 64;
-      found : IfSome l.next (λ e. (proc_of e < own.procs) × (completion_at own (g.E.Engine.stands l.machine) ≡ e ∷ completion_at own (stepped own (g.E.Engine.stands l.machine) e)));
+      found : IfSome l.next (λ e. (proc_of e < own.procs) × (completion_at own (g.E.Engine.stands l.machine) ≡ e
+          ∷ completion_at own (stepped own (g.E.Engine.stands l.machine) e)));
       none : IfNone l.next (completion_at own (g.E.Engine.stands l.machine) ≡ []);
     }
 

@@ -19,10 +19,13 @@ invariant-loop-machine g l =
     let events = events_of l.events code.procs in
     record {
       later : List (List ℕ);
-      come : (old : Fed) (before : Option (List ℕ)) (seen : List (List ℕ)) → HasCome code.modulus l.fn.vectors old l.fn.feed before (to_come l.fn.feed (left l.fn.input)) seen
+      come : (old : Fed) (before : Option (List ℕ)) (seen : List (List ℕ)) →
+          HasCome code.modulus l.fn.vectors old l.fn.feed before (to_come l.fn.feed (left l.fn.input)) seen
           → HasCome code.modulus l.vectors old l.feed before (to_come l.feed (left l.input)) (seen ++ later);
-      wrote : Appends (taken l.fn.output) (taken l.output) (texts (λ x. text_at l.lines code (g.E.Engine.begun code x) events) later);
-      stands : g.E.Engine.stands l.machine ≡ state_behind (λ x. ended code (g.E.Engine.begun code x) events) (g.E.Engine.stands l.fn.machine) later;
+      wrote : Appends (taken l.fn.output) (taken l.output) (texts
+          (λ x. text_at l.lines code (g.E.Engine.begun code x) events) later);
+      stands : g.E.Engine.stands l.machine ≡ state_behind (λ x. ended code (g.E.Engine.begun code x) events)
+          (g.E.Engine.stands l.fn.machine) later;
       ready : IsReady l.vectors l.feed (to_come l.feed (left l.input));
       size : l.vectors.size ≡ l.fn.vectors.size;
       code : g.E.Engine.code l.machine ≡ code;

@@ -1,6 +1,7 @@
 use Rattle.std.proofs.Common.{◌≡◌, ◌∙◌, sym, refl, true, false, get_or, length, arith, ◌<◌}
 use Rattle.std.proofs.lemmas.List.{length-set, get_or_default}
-use Rattle.spl_text.proofs.Strays.{stray_large, stray_twice, stray_later, stray_none, seen_later, unmarked_known, unmarked_long}
+use Rattle.spl_text.proofs.Strays.{stray_large, stray_twice, stray_later, stray_none, seen_later, unmarked_known}
+use Rattle.spl_text.proofs.Strays.{unmarked_long}
 use Rattle.spl_text.proofs.kinds.first_stray.Goals as goal
 
 pub loop-i-init : goal.loop-i-init

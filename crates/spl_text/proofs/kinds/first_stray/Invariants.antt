@@ -6,5 +6,6 @@ abbrev pub invariant-loop-i : goal.invariant-loop-i
 invariant-loop-i l = record {
   long : length l.seen.items ≡ length l.places;
   known : (v : ℕ) → v < length l.places → get_or l.seen.items v false ≡ is_among v (take l.i l.places);
-  same : first_stray (length l.places) (take l.i l.places) (drop l.i l.places) ≡ first_stray (length l.places) [] l.places;
+  same : first_stray (length l.places) (take l.i l.places) (drop l.i l.places)
+      ≡ first_stray (length l.places) [] l.places;
 }

@@ -2,7 +2,8 @@ use Rattle.std.proofs.Common.{ap, ap₂, sym, ◌∙◌, if◌then◌else◌, na
 use Rattle.tree_model.specs.declared.tree.Tree.{Tree}
 use Rattle.tree_model.specs.declared.tree.Rule.TheVariants.{Dim}
 use Rattle.tree_model.specs.Breakdown.{node, breakdown_of}
-use Rattle.tree_model.proofs.WholeTraffic.{first_well_formed, flat_at, flat_well_formed, fused_length, fused_loads, is_dim_at, length_in, loads_in_flat}
+use Rattle.tree_model.proofs.WholeTraffic.{first_well_formed, flat_at, flat_well_formed, fused_length, fused_loads}
+use Rattle.tree_model.proofs.WholeTraffic.{is_dim_at, length_in, loads_in_flat}
 use Rattle.tree_model.proofs.passes.+traffic_in.Goals as goal
 
 pub traffic_of-requires-in-Gt-clause-tree : goal.traffic_of-requires-in-Gt-clause-tree

@@ -1,5 +1,6 @@
 use Rattle.std.proofs.Common.{◌+◌, ap, ap₂, ◌∙◌, if◌then◌else◌, nat_le}
-use Rattle.tree_model.proofs.WholeTraffic.{first_well_formed, is_whole_dim, lane_length, lane_loads, plain_length, plain_loads, tile_length, tile_loads}
+use Rattle.tree_model.proofs.WholeTraffic.{first_well_formed, is_whole_dim, lane_length, lane_loads, plain_length}
+use Rattle.tree_model.proofs.WholeTraffic.{plain_loads, tile_length, tile_loads}
 use Rattle.tree_model.proofs.passes.dim_traffic.Goals as goal
 
 pub traffic_of-requires-clause-tree : goal.traffic_of-requires-clause-tree

@@ -4,7 +4,8 @@ use Rattle.std.specs.List.{All}
 use Rattle.data_stream.specs.Vectors.{Cut}
 use Rattle.data_stream.proofs.TokenLemmas.{not_true}
 use Rattle.data_stream.proofs.TokensLemmas.{reports_none, not_ended}
-use Rattle.data_stream.proofs.VectorLemmas.{residues_below, vector_counted, no_vector, no_vector_bytes, none_yet, vector_push, vector_whole, vector_ending, vector_fault}
+use Rattle.data_stream.proofs.VectorLemmas.{residues_below, vector_counted, no_vector, no_vector_bytes, none_yet}
+use Rattle.data_stream.proofs.VectorLemmas.{vector_push, vector_whole, vector_ending, vector_fault}
 use Rattle.data_stream.proofs.vectors.Vectors.next.Goals as goal
 
 pub loop-place-init : goal.loop-place-init

@@ -1,7 +1,9 @@
 use Rattle.std.proofs.Common.{◌≡◌, refl, sym, ap, subst, ◌∙◌, arith, true}
 use Rattle.std.proofs.lemmas.Result.{err_from_is_err_and}
 use Rattle.io_edge.specs.Feed.{to_come}
-use Rattle.data_stream.proofs.TokensLemmas.{Progress, no_progress, no_progress_bytes, progress_push, progress_skip, progress_ended, progress_end, progress_none, progress_bad, progress_faulted, reports_none, not_ended}
+use Rattle.data_stream.proofs.TokensLemmas.{Progress, no_progress, no_progress_bytes, progress_push, progress_skip}
+use Rattle.data_stream.proofs.TokensLemmas.{progress_ended, progress_end, progress_none, progress_bad, progress_faulted}
+use Rattle.data_stream.proofs.TokensLemmas.{reports_none, not_ended}
 use Rattle.data_stream.specs.Vectors.{Cut}
 use Rattle.data_stream.proofs.vectors.Vectors.number.Goals as goal
 

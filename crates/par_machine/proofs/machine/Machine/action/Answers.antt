@@ -10,7 +10,8 @@ use Rattle.par_machine.proofs.Frames.{hand_action}
 use Rattle.par_machine.proofs.Starting.{IsLeft, left_is, can_play, set_is}
 use Rattle.par_machine.proofs.machine.Machine.action.Goals as goal
 
-left_here : (c : goal.After-deref) → IsLeft c.self.inside c.args.proc 1 c.index-routine.result.now c.index-processor.result.now
+left_here : (c : goal.After-deref) → IsLeft c.self.inside c.args.proc 1 c.index-routine.result.now
+    c.index-processor.result.now
 left_here c =
     left_is c.self.inside c.args.self.now c.args.proc 1 c.index-routine.result.now c.index-processor.result.now c.self.view_is c.self.invariant c.requires.proc (omega arith) (omega (arith, c.requires.left)) c.index-routine.ensures c.index-processor.ensures
 

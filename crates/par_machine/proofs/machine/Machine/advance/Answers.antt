@@ -21,7 +21,8 @@ overflow_add-index_mut c =
     let left = left_is c.self.inside c.args.self.now c.args.proc c.args.count c.index-routine.result.now c.index_mut-processor.result.now c.self.view_is c.self.invariant c.requires.proc c.requires.some c.requires.left c.index-routine.ensures c.index_mut-processor.ensures.value in
     omega (arith, done_fits c.self.inside c.args.proc c.args.count c.index_mut.result.now c.index-routine.result.now c.index_mut-processor.result.now left c.index_mut.ensures.value)
 
-left_before : (c : goal.After-self-6-1) → IsLeft c.self.inside c.args.proc c.args.count c.index-routine.result.now c.index_mut-processor.result.now
+left_before : (c : goal.After-self-6-1) → IsLeft c.self.inside c.args.proc c.args.count c.index-routine.result.now
+    c.index_mut-processor.result.now
 left_before c =
     left_is c.self.inside c.args.self.now c.args.proc c.args.count c.index-routine.result.now c.index_mut-processor.result.now c.self.view_is c.self.invariant c.requires.proc c.requires.some c.requires.left c.index-routine.ensures c.index_mut-processor.ensures.value
 
@@ -37,7 +38,8 @@ processors_after c = (with_items (with_item c.self.inside.processors c.args.proc
 abbrev state_after : goal.After-self-6-1 → State
 state_after c = record { memory = memory_after c; registers = registers_of (processors_after c); phase = c.settle-self-inside.result; done = done_after c }
 
-moved : (c : goal.After-self-6-1) → IsMoved c.self.inside c.args.proc c.args.count c.index-routine.result.now c.index_mut-processor.result.now (state_after c) (processors_after c)
+moved : (c : goal.After-self-6-1) → IsMoved c.self.inside c.args.proc c.args.count c.index-routine.result.now
+    c.index_mut-processor.result.now (state_after c) (processors_after c)
 moved c =
     let a = c.self.inside in
     let q = c.args.proc in

@@ -12,7 +12,8 @@ put_registers-requires c =
     let size : length c.args.words.now ≡ a.engine.shape.regs * a.engine.shape.lanes = c.requires.size ∙ sym (ap (λ (r : Running). r.code.regs * r.code.lanes) c.self.view_is) in
     size ∙ sym (file_size a c.args.proc c.index_mut.result.now c.self.invariant lt c.index_mut.ensures.value)
 
-holding : (c : goal.After-self-1) → IsHolding c.self.inside c.args.proc c.index_mut.result.now c.put_registers.new.self c.args.words.now
+holding : (c : goal.After-self-1) → IsHolding c.self.inside c.args.proc c.index_mut.result.now c.put_registers.new.self
+    c.args.words.now
 holding c =
     record {
       whole = c.self.invariant;

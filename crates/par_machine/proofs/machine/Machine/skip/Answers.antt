@@ -33,7 +33,8 @@ overflow_add-index_mut c =
     let left = left_is c.self.inside c.args.self.now c.args.proc 1 c.index-routine.result.now c.index_mut-processor.result.now c.self.view_is c.self.invariant c.requires.proc (omega arith) (omega (arith, c.requires.left)) c.index-routine.ensures c.index_mut-processor.ensures.value in
     omega (arith, done_fits c.self.inside c.args.proc 1 c.index_mut.result.now c.index-routine.result.now c.index_mut-processor.result.now left c.index_mut.ensures.value)
 
-left_before : (c : goal.After-self-5-1) → IsLeft c.self.inside c.args.proc 1 c.index-routine.result.now c.index_mut-processor.result.now
+left_before : (c : goal.After-self-5-1) → IsLeft c.self.inside c.args.proc 1 c.index-routine.result.now
+    c.index_mut-processor.result.now
 left_before c =
     left_is c.self.inside c.args.self.now c.args.proc 1 c.index-routine.result.now c.index_mut-processor.result.now c.self.view_is c.self.invariant c.requires.proc (omega arith) (omega (arith, c.requires.left)) c.index-routine.ensures c.index_mut-processor.ensures.value
 
@@ -46,7 +47,8 @@ processors_after c = (with_items (with_item c.self.inside.processors c.args.proc
 abbrev state_after : goal.After-self-5-1 → State
 state_after c = record { memory = c.self.inside.memory.items; registers = registers_of (processors_after c); phase = c.settle-self-inside.result; done = done_after c }
 
-passed : (c : goal.After-self-5-1) → IsSkipped c.self.inside c.args.proc c.index-routine.result.now c.index_mut-processor.result.now (state_after c) (processors_after c)
+passed : (c : goal.After-self-5-1) → IsSkipped c.self.inside c.args.proc c.index-routine.result.now
+    c.index_mut-processor.result.now (state_after c) (processors_after c)
 passed c =
     let a = c.self.inside in
     let q = c.args.proc in

@@ -10,7 +10,8 @@ use Rattle.par_machine.specs.Performed.{action_by}
 use Rattle.par_machine.specs.Played.{Playing, CanPlay, played, played_one}
 use Rattle.par_machine.specs.Position.{Position}
 use Rattle.par_machine.proofs.Frames.{place_inside}
-use Rattle.par_machine.proofs.Playings.{playing_same, place_same, counted_op_is, act_at, act_fits, not_again, room_here, runs_here, closed_here, within_here, played_first, can_play_rest}
+use Rattle.par_machine.proofs.Playings.{playing_same, place_same, counted_op_is, act_at, act_fits, not_again, room_here}
+use Rattle.par_machine.proofs.Playings.{runs_here, closed_here, within_here, played_first, can_play_rest}
 use Rattle.par_machine.proofs.processor.Processor.play.Goals as goal
 
 pub offset_bounds-code-at : goal.offset_bounds-code-at

@@ -2,12 +2,14 @@ use Rattle.std.proofs.Common.{◌≡◌, ℕ, ◌+◌, ◌*◌, ◌/◌, ◌^◌
 use Rattle.ring_mod.proofs.QuickProducts.Estimate.{estimate_under, estimate_over, rest_is}
 use Rattle.ring_mod.proofs.quick_products.Divisor.rest.Goals as goal
 
-under : (x m r : ℕ) → 2 ^ 61 ≤ m → x < 2 ^ 124 → r ≡ 2 ^ 124 / m → x / 2305843009213693952 * r / 9223372036854775808 * m ≤ x
+under : (x m r : ℕ) → 2 ^ 61 ≤ m → x < 2 ^ 124 → r ≡ 2 ^ 124 / m →
+    x / 2305843009213693952 * r / 9223372036854775808 * m ≤ x
 under x m r least small e =
     subst (λ u. x / 2305843009213693952 * u / 9223372036854775808 * m ≤ x) (sym e)
     (estimate_under 2305843009213693952 9223372036854775808 m x (omega arith) (omega arith) (omega arith) (omega arith) (omega arith))
 
-over : (x m r : ℕ) → 2 ^ 61 ≤ m → x < 2 ^ 124 → r ≡ 2 ^ 124 / m → x < (x / 2305843009213693952 * r / 9223372036854775808 + 3) * m
+over : (x m r : ℕ) → 2 ^ 61 ≤ m → x < 2 ^ 124 → r ≡ 2 ^ 124 / m →
+    x < (x / 2305843009213693952 * r / 9223372036854775808 + 3) * m
 over x m r least small e =
     subst (λ u. x < (x / 2305843009213693952 * u / 9223372036854775808 + 3) * m) (sym e)
     (estimate_over 2305843009213693952 9223372036854775808 m x (omega arith) (omega arith) (omega arith) (omega arith) (omega arith))
