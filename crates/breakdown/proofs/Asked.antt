@@ -33,11 +33,6 @@ forward_by-size Idft c = refl
 pub forward_size : (c : Request) → (forward_of c).size ≡ c.size
 forward_size c = forward_by-size c.kind c
 
-forward_by-modulus : (kind : Kind) (c : Request) → (forward_by kind c).modulus ≡ c.modulus
-forward_by-modulus Dft c = refl
-forward_by-modulus Wht c = refl
-forward_by-modulus Idft c = refl
-
 -- what divides the request's size
 pub forward_divides : (c : Request) (d : ℕ) → c.size % d ≡ 0 → (forward_of c).size % d ≡ 0
 forward_divides c d divides = ap (λ n. n % d) (forward_size c) ∙ divides

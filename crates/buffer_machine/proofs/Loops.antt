@@ -9,24 +9,6 @@ use Rattle.icode.specs.Buffers.{is_waiting, some_wait}
 use Rattle.buffer_machine.specs.Backlog.{Backlog}
 use Rattle.buffer_machine.specs.Stand.{waits_of, first_busy}
 
-pub wait_step : (queues : List Backlog) (i : ℕ) (l : Backlog) → i < length queues → l ≡ get_or queues i l →
-    some_wait (waits_of (drop i queues)) ≡ (is_waiting l.waiting || some_wait (waits_of (drop (i + 1) queues)))
-wait_step queues i l lt e =
-    ap (λ (ls : List Backlog). some_wait (waits_of ls)) (drop_more queues i l lt)
-    ∙ ap (λ (x : Backlog). is_waiting x.waiting || some_wait (waits_of (drop (i + 1) queues))) (sym e)
-
-pub left_step : (len : ℕ) (done : List ℕ) (i d : ℕ) → i < length done → d ≡ get_or done i d →
-    list_any (λ d. nat_lt d len) (drop i done) ≡ (nat_lt d len || list_any (λ d. nat_lt d len) (drop (i + 1) done))
-left_step len done i d lt e =
-    ap (list_any (λ d. nat_lt d len)) (drop_more done i d lt)
-    ∙ ap (λ x. nat_lt x len || list_any (λ d. nat_lt d len) (drop (i + 1) done)) (sym e)
-
-pub or_true : (a b : Bool) → a ≡ true → (a || b) ≡ true
-or_true a b e = rw e
-
-pub or_false : (a b : Bool) → a ≡ false → (a || b) ≡ b
-or_false a b e = rw e
-
 map_step_ : {X : Type 0} (f : X → X) (old : List X) (i : ℕ) (x : X) → i < length old →
     x ≡ get_or (map f (take i old) ++ drop i old) i x → slice_set (map f (take i old) ++ drop i old) i (f x)
     ≡ map f (take (suc i) old) ++ drop (suc i) old
@@ -44,13 +26,6 @@ map_step f old now i x new lt same e en =
     ∙ (map_step_ f old i x lt (e ∙ ap (λ ys. get_or ys i x) same)
     ∙ ap (λ k. map f (take k old) ++ drop k old) (sym (add-one i))))
 
-pub all_mapped : {X : Type 0} (f : X → X) (old : List X) (i : ℕ) → length old ≤ i →
-    map f (take i old) ++ drop i old ≡ map f old
-all_mapped f [] zero le = refl
-all_mapped f [] (suc i) le = refl
-all_mapped f (x ∷ old) zero le = absurd (omega arith)
-all_mapped f (x ∷ old) (suc i) le = ap (λ ys. f x ∷ ys) (all_mapped f old i (omega arith))
-
 -- The first phase with actions
 
 pub busy_skip : (lens : List ℕ) (phase : ℕ) → phase < length lens → slice_index lens phase ≡ 0 →
@@ -65,8 +40,3 @@ pub busy_stop : (lens : List ℕ) (phase : ℕ) → phase < length lens → 0 < 
 busy_stop lens phase lt some =
     let more : length lens - phase ≡ suc (length lens - (phase + 1)) = omega arith in
     ap (λ n. first_busy lens n phase) more ∙ ap (λ b. cond b phase (first_busy lens (length lens - (phase + 1)) (phase + 1))) (lt-ltb _ _ some)
-
-pub busy_end : (lens : List ℕ) (phase : ℕ) → length lens ≤ phase → first_busy lens (length lens - phase) phase ≡ phase
-busy_end lens phase le =
-    let none : length lens - phase ≡ 0 = omega arith in
-    ap (λ n. first_busy lens n phase) none

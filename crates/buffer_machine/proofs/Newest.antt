@@ -62,13 +62,6 @@ newest_push lanes tail address A N M h lt inside e =
           (marked lanes address (tail + 1) word N inside);
     })
 
-pub newest_cleared : (lanes n : ℕ) (A : List ℕ) → AreNewest lanes A (replicate n 0) 0
-newest_cleared lanes n A =
-    record {
-      none_newer = λ word j from to low high. absurd (omega (arith, to));
-      is_for = λ word some. absurd (omega (arith, some, slice_index-zeros n word));
-    }
-
 pub mark_step : (newest old : List ℕ) (address word number : ℕ) →
     newest ≡ with_words old address (replicate word number) →
     slice_set newest (address + word) number ≡ with_words old address (replicate (word + 1) number)

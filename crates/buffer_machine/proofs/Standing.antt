@@ -50,10 +50,6 @@ overlaid_below : (m lanes span : ℕ) (queue : List Waiting) (memory : List ℕ)
 overlaid_below m lanes span [] memory h below = below
 overlaid_below m lanes span (w ∷ queue) memory h below = overlaid_below m lanes span queue (with_words memory w.address w.words) h.3 (below-with_words m memory w.address w.words below h.2)
 
-length-overlaid : (queue : List Waiting) (memory : List ℕ) → length (overlaid memory queue) ≡ length memory
-length-overlaid [] memory = refl
-length-overlaid (w ∷ queue) memory = length-overlaid queue (with_words memory w.address w.words) ∙ length-with_words w.words memory w.address
-
 -- the room before an action is that after it and what the action stores
 room_step : (xs : List Action) (i : ℕ) (a : Action) → slice_get xs i ≡ Some a →
     stores_among (drop i xs) ≡ stores_among (a ∷ []) + stores_among (drop (suc i) xs)
@@ -262,17 +258,6 @@ module _ (code : Code) where
       at : (b : Bool) → IsStanding code (cond b t (next_stand lens t))
       at true = s
       at false = standing_anew t (first_busy lens (length lens - (t.phase + 1)) (t.phase + 1)) s
-
-  -- a drain, before the phase moves on
-  pub oldest_fits : (t : Stand) (q : ℕ) → IsStanding code t → q < code.procs →
-      is_waiting (backlog_at t.queues q).waiting ≡ true → OldestFits (backlog_at t.queues q).lanes (length t.memory)
-      (backlog_at t.queues q).waiting
-  oldest_fits t q s lt e = at (backlog_at t.queues q).waiting (s.waiting q) e
-    where
-      at : (ws : List Waiting) → AreSound code.modulus code.lanes (4 * padded code) ws → is_waiting ws ≡ true →
-          OldestFits (backlog_at t.queues q).lanes (length t.memory) ws
-      at [] h e = absurd (false≢true e)
-      at (w ∷ ws) h e = omega (arith, h.0, s.lanes q lt, s.memory)
 
   pub standing_written : (t u : Stand) (q address : ℕ) → IsStanding code t → q < code.procs → IsWritten q t u address →
       IsStanding code u

@@ -70,24 +70,6 @@ pub not_true : (b : Bool) → (b ≡ true → ⊥) → b ≡ false
 not_true true h = absurd (h refl)
 not_true false h = refl
 
--- what follows no digit, or 20 of them, or makes the number too large, is not good
-pub bad_byte : (count number byte : ℕ) (bytes : List ℕ) → IsDigits count number bytes → is_ascii_digit byte ≡ false →
-    is_good (bytes ++ byte ∷ []) ≡ false
-bad_byte count number byte bytes d other = not_true _ (λ h.
-    let whole = good_parts (bytes ++ byte ∷ []) h in
-    let both = sym (list_all-append is_ascii_digit bytes (byte ∷ [])) ∙ whole.digits in
-    let last = both_left (is_ascii_digit byte) true (both_right (list_all is_ascii_digit bytes) _ both) in
-    cc)
-
-pub bad_count : (count number byte : ℕ) (bytes : List ℕ) → IsDigits count number bytes → 20 ≤ count →
-    is_good (bytes ++ byte ∷ []) ≡ false
-bad_count count number byte bytes d many = not_true _ (λ h.
-    let whole = good_parts (bytes ++ byte ∷ []) h in
-    let longer = length-append bytes (byte ∷ []) in
-    let at = d.count in
-    let short = whole.short in
-    omega arith)
-
 pub bad_value : (count number byte : ℕ) (bytes : List ℕ) → IsDigits count number bytes →
     2 ^ 64 ≤ number * 10 + (byte - 48) → is_good (bytes ++ byte ∷ []) ≡ false
 bad_value count number byte bytes d large = not_true _ (λ h.

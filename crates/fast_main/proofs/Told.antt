@@ -168,16 +168,6 @@ rest_is_no_usage rest.ReadFault e = absurd (cc)
 rest_is_no_usage rest.TooLong e = absurd (cc)
 rest_is_no_usage rest.NoMemory e = absurd (cc)
 
-pub rest_fails : (fault : RestFault) → status_of_rest fault ≢ Success
-rest_fails rest.ReadFault e = absurd (cc)
-rest_fails rest.TooLong e = absurd (cc)
-rest_fails rest.NoMemory e = absurd (cc)
-
--- nor does a refusal of words succeed
-pub refusal_fails : (refusal : Refusal) → status_of_words refusal ≢ Success
-refusal_fails words.Usage e = absurd (cc)
-refusal_fails words.NoMemory e = absurd (cc)
-
 -- of an input that tells its bytes
 pub told_input : (words : List (List ℕ)) (bytes : List ℕ) (left before after : Option (List ℕ)) (status : Status)
     → AccountsFor words (Some bytes) left before after status

@@ -15,32 +15,6 @@ use Rattle.icode.specs.Plain.{part_view, expr_view, plain_expr, plain_part, plai
 pub plain_expr_is : (e : Expr) → plain_expr e ≡ Sum e.constant (parts_of (map plain_part e.parts.items))
 plain_expr_is e = fold_out-Expr PlainPart PlainExpr part_view expr_view e
 
-pub plain_part-Proc : (factor : ℕ) → plain_part (parts.Proc factor) ≡ Proc factor
-plain_part-Proc factor =
-    ap plain_part (sym (parts.rolls-Proc factor)) ∙ fold-roll-Part PlainPart PlainExpr part_view expr_view (Part-F.Proc factor)
-
-pub plain_part-Var : (depth factor : ℕ) → plain_part (parts.Var depth factor) ≡ Var depth factor
-plain_part-Var depth factor =
-    ap plain_part (sym (parts.rolls-Var depth factor)) ∙ fold-roll-Part PlainPart PlainExpr part_view expr_view (Part-F.Var depth factor)
-
-pub plain_part-Product : (outer inner factor : ℕ) → plain_part (parts.Product outer inner factor)
-    ≡ Product outer inner factor
-plain_part-Product outer inner factor =
-    ap plain_part (sym (parts.rolls-Product outer inner factor))
-    ∙ fold-roll-Part PlainPart PlainExpr part_view expr_view (Part-F.Product outer inner factor)
-
-pub plain_part-Rem : (of : Expr) (divisor factor : ℕ) → plain_part (parts.Rem of divisor factor)
-    ≡ Rem (plain_expr of) divisor factor
-plain_part-Rem of divisor factor =
-    ap plain_part (sym (parts.rolls-Rem of divisor factor))
-    ∙ fold-roll-Part PlainPart PlainExpr part_view expr_view (Part-F.Rem of divisor factor)
-
-pub plain_part-Quot : (of : Expr) (divisor factor : ℕ) → plain_part (parts.Quot of divisor factor)
-    ≡ Quot (plain_expr of) divisor factor
-plain_part-Quot of divisor factor =
-    ap plain_part (sym (parts.rolls-Quot of divisor factor))
-    ∙ fold-roll-Part PlainPart PlainExpr part_view expr_view (Part-F.Quot of divisor factor)
-
 pub plain_stmt-Loop : (count : ℕ) (body : Vec Stmt Global) →
     plain_stmt (stmts.Loop count body) ≡ Loop count (plain_body body.items)
 plain_stmt-Loop count body =

@@ -95,11 +95,6 @@ tree-few m kind (node rule a b) w formed =
     node-few (size_of a) (size_of b) (kernel_cost 1 m kind a (power_mod m w (size_of b))) (kernel_cost 1 m kind b (power_mod m w (size_of a))) (rule_cost 1 m rule (size_of a) (size_of b) w)
     formed.0.left formed.0.right (tree-few m kind a (power_mod m w (size_of b)) formed.1) (tree-few m kind b (power_mod m w (size_of a)) formed.2) (rule-le m rule (size_of a) (size_of b) w)
 
--- a register for each item and for each operation, where a product counts once
-pub cost-le : (m : ℕ) (kind : Kind) (t : Breakdown) (w : ℕ) → IsWellFormed kind t →
-    kernel_cost 1 m kind t w + size_of t ≤ 2 * (size_of t * size_of t)
-cost-le m kind t w formed = let few = tree-few m kind t w formed in omega arith
-
 -- ---- several dimensions
 
 pub trees-positive : (m : ℕ) (trees : PlainTrees) → CanMake m trees → 1 ≤ trees_size trees

@@ -49,6 +49,3 @@ words-below m n (tensor kind root tree others) can low fits =
     let left : size_of tree * 1 ≤ size_of tree * trees_size others = mul-le-mul_left (size_of tree) (trees-positive m others can.1) in
     let right : 1 * trees_size others ≤ size_of tree * trees_size others = mul-le-mul_right (trees_size others) first in
     (word_sizes kind tree can.0.0 (omega arith), words-below m n others can.1 (omega arith) fits, omega arith)
-
-pub trees-words : (m : ℕ) (trees : PlainTrees) → CanMake m trees → trees_size trees < 2 ^ 32 → AreWords trees
-trees-words m trees can fits = words-below m (trees_size trees) trees can (omega arith) fits

@@ -36,13 +36,6 @@ steps_turned n xs h = subst (AreSteps n) (from_waiting xs) (steps-end n (waiting
 
 -- ---- passes
 
--- where several passes come, the latest of them takes nothing
-pub passes_step : (room n : ℕ) (st : Merging) (zs : List PlainNest) (ps : List (List PlainNest)) →
-    with_passes (most room) n st (zs ∷ ps) ≡ with_pass (most room) n (with_passes (most room) n st ps) zs
-passes_step room n st zs [] = refl
-passes_step room n st zs (ys ∷ []) = refl
-passes_step room n st zs (ys ∷ xs ∷ ps) = refl
-
 known_left : (room n : ℕ) (ps qs : List (List PlainNest)) → AreKnownPasses room n (ps ++ qs) → AreKnownPasses room n ps
 known_left room n [] qs h = tt
 known_left room n (p ∷ ps) qs h = (h.0, known_left room n ps qs h.1)

@@ -30,32 +30,3 @@ later_fits p n s is some = let once : 1 * s ≤ n * s = mul-le-mul some (omega a
 
 pub digit_below : (k s p : ℕ) → s ≡ p → 0 < p → k % s < p
 digit_below k s p is some = subst (λ z. k % z < p) (sym is) (mod-lt k some)
-
--- the entry where there is one size
-pub entry_in-one : (kind : Kind) (m n w k l : ℕ) (sizes roots later more : List ℕ) →
-    sizes ≡ n ∷ later → roots ≡ w ∷ more → later ≡ [] →
-    entry_in kind m sizes roots k l ≡ entry_of kind m n w k l
-entry_in-one kind m n w k l sizes roots later more sizes_are roots_are none =
-    ap (λ ss. entry_in kind m ss roots k l) (sizes_are ∙ ap (λ ss. n ∷ ss) none)
-    ∙ ap (λ ws. entry_in kind m (n ∷ []) ws k l) roots_are
-
--- the entry by that of the first size and that of those after it
-pub entry_in-several : (kind : Kind) (m n w k l s : ℕ) (sizes roots later more : List ℕ) →
-    sizes ≡ n ∷ later → roots ≡ w ∷ more →
-    length roots ≡ length sizes → 1 ≤ length later → s ≡ product_of later →
-    entry_in kind m sizes roots k l
-    ≡ product_mod m (entry_of kind m n w (k / s) (l / s)) (entry_in kind m later more (k % s) (l % s))
-entry_in-several kind m n w k l s sizes roots later more sizes_are roots_are pairs some product =
-    ap (λ ss. entry_in kind m ss roots k l) sizes_are
-    ∙ ap (λ ws. entry_in kind m (n ∷ later) ws k l) roots_are
-    ∙ by_digits later more some (omega (arith, sym (ap length roots_are) ∙ pairs ∙ ap length sizes_are))
-    ∙ ap (λ p. product_mod m (entry_of kind m n w (k / p) (l / p)) (entry_in kind m later more (k % p) (l % p)))
-    (sym product)
-  where
-    by_digits : (later more : List ℕ) → 1 ≤ length later → length more ≡ length later →
-        entry_in kind m (n ∷ later) (w ∷ more) k l
-        ≡ product_mod m (entry_of kind m n w (k / product_of later) (l / product_of later))
-        (entry_in kind m later more (k % product_of later) (l % product_of later))
-    by_digits [] more some pairs = absurd (omega (arith, some))
-    by_digits (s ∷ later) [] some pairs = absurd (omega (arith, pairs))
-    by_digits (s ∷ later) (v ∷ more) some pairs = refl

@@ -33,10 +33,6 @@ inverse_transform_is m n w x =
     inverse_row m n w k x
     ∙ ap (λ y. (inverse_mod m n * y) % m) (sym (at-matrix_times m n (entry_of Dft m n (inverse_root m n w)) x k row)))
 
--- the size of an inverse transform shares no factor with the modulus
-pub size_is_unit : (r : Request) → IsInRange r → r.kind ≡ Idft → IsGcd r.size r.modulus 1
-size_is_unit r in_range inverse = subst (λ kind. HasUnit kind r.modulus r.size) inverse in_range.unit
-
 pub inverse_root_is_root : InverseRoot
 inverse_root_is_root m n w root =
     let exponent : (n - 1) * n ≡ n * (n - 1) + 0 = omega (arith, mul_comm (n - 1) n) in

@@ -305,10 +305,6 @@ rest_in-sizes r (Two a b) some = refl
 rest_in-sizes r (Three a b c) some = refl
 rest_in-sizes r (Four a b c d) some = refl
 
-pub sizes_by_first : (r : Request) → r.dimensions ≢ One → sizes_of r ≡ (first_of r).size ∷ sizes_of (rest_of r)
-unfolding sizes_by
-sizes_by_first r some = rest_in-sizes r r.dimensions some
-
 rest_in-roots : (r : Request) (ds : Dimensions) → ds ≢ One →
     roots_by r ds ≡ (first_in r ds).root ∷ roots_of (rest_in r ds)
 unfolding roots_by
@@ -317,20 +313,12 @@ rest_in-roots r (Two a b) some = refl
 rest_in-roots r (Three a b c) some = refl
 rest_in-roots r (Four a b c d) some = refl
 
-pub roots_by_first : (r : Request) → r.dimensions ≢ One → roots_of r ≡ (first_of r).root ∷ roots_of (rest_of r)
-unfolding roots_by
-roots_by_first r some = rest_in-roots r r.dimensions some
-
 rest_in-fewer : (r : Request) (ds : Dimensions) → ds ≢ One →
     length (dims_of (rest_in r ds)) < length (dims_by r.size r.root ds)
 rest_in-fewer r One some = absurd (some refl)
 rest_in-fewer r (Two a b) some = omega arith
 rest_in-fewer r (Three a b c) some = omega arith
 rest_in-fewer r (Four a b c d) some = omega arith
-
--- there is one dimension less after the first
-pub rest_has_fewer : (r : Request) → r.dimensions ≢ One → length (dims_of (rest_of r)) < length (dims_of r)
-rest_has_fewer r some = rest_in-fewer r r.dimensions some
 
 -- a Walsh-Hadamard transform and an inverse one are of one size
 one_size : (r : Request) (ds : Dimensions) → AreDimensions r ds → r.kind ≢ Dft → ds ≡ One

@@ -173,15 +173,5 @@ chosen_at_divisor c d valid proper low less divides = elim (best_within c (suc d
       absurd (none tree.0 tree.1 tt)
 ]
 
--- the chosen tree has the least cost
-pub chosen_is_least : (c : Request) (t : Breakdown) → IsChosen c t → IsLeast c (cost_of c t)
-chosen_is_least c t h = least_of_chosen c c.size t h
-
 least_reached : (c : Request) (d j k : ℕ) → IsLeastFor c d j → IsLeastFor c d k → j ≤ k
 least_reached c d j k h l = let le : j ≤ cost_of c l.reached.0 = h.bound l.reached.0 l.reached.1 in omega (arith, l.reached.2)
-
-pub least_once : (c : Request) (j k : ℕ) → IsLeast c j → IsLeast c k → j ≡ k
-least_once c j k h l =
-    let left : j ≤ k = least_reached c c.size j k h l in
-    let right : k ≤ j = least_reached c c.size k j l h in
-    omega arith

@@ -31,14 +31,6 @@ module _ {code : Code} {a : Option (List ℕ)} {first : Standing} {from : ℕ} {
 
   module _ {b : Option (List ℕ)} {s : Standing} {number : ℕ} {left : List Event}
       (g : Goes code a b first from all s number left) where
-    pub goes_passes : PassesThrough code first all s
-    goes_passes = record { front = g.past; rest = left; whole = g.whole; after = g.here }
-
-    pub goes_out : left ≡ [] → Appends a b (step_lines code first from all) × (s ≡ walked code first all)
-    goes_out e =
-        let over : g.past ≡ all = sym (g.whole ∙ (ap (λ l. g.past ++ l) e ∙ append-nil g.past)) in
-        (subst (λ l. Appends a b (step_lines code first from l)) over g.took, g.here ∙ ap (walked code first) over)
-
     -- the next step
     module _ (c : Option (List ℕ)) (q : Event) (rest : List Event) (e : left ≡ q ∷ rest) (t : Standing)
         (moved : t ≡ walked code s (q ∷ [])) where

@@ -48,13 +48,6 @@ rest-append [] counts vs more h = refl
 rest-append (t ∷ path) counts [] more h = absurd h
 rest-append (t ∷ path) counts (v ∷ vs) more h = rest-append path counts vs more h.1
 
-place-append : (path : Path) (n : ℕ) (counts vs more : List ℕ) (j : ℕ) →
-    AreInRange (loops_of (map count_of path ++ counts)) vs → place path n (vs ++ more) j ≡ place path n vs j
-place-append [] n counts vs more j h = refl
-place-append (t ∷ path) n counts [] more j h = absurd h
-place-append (Blocks c ∷ path) n counts (v ∷ vs) more j h = ap (λ p. v * size_under path n + p) (place-append path n counts vs more j h.1)
-place-append (Columns c ∷ path) n counts (v ∷ vs) more j h = ap (λ p. p * c + v) (place-append path n counts vs more j h.1)
-
 -- the values of the path's loops are the first ones
 place-values : (path : Path) (n d : ℕ) (f : ℕ → ℕ) (counts vs : List ℕ) (j : ℕ) →
     AreInRange (loops_of (map count_of path ++ counts)) vs → ((i : ℕ) → f (d + i) ≡ slice_index vs i) →
@@ -65,9 +58,6 @@ place-values (Blocks c ∷ path) n d f counts (v ∷ vs) j h is =
     ap₂ (λ u p. u * size_under path n + p) (ap f (omega arith) ∙ is 0) (place-values path n (d + 1) f counts vs j h.1 (λ i. ap f (omega arith) ∙ is (suc i)))
 place-values (Columns c ∷ path) n d f counts (v ∷ vs) j h is =
     ap₂ (λ u p. p * c + u) (ap f (omega arith) ∙ is 0) (place-values path n (d + 1) f counts vs j h.1 (λ i. ap f (omega arith) ∙ is (suc i)))
-
-empty-index : (i : ℕ) → slice_index [] i ≡ 0
-empty-index i = refl
 
 pub rest-index : (path : Path) (vs : List ℕ) (i : ℕ) → slice_index vs (i + length path)
     ≡ slice_index (rest_of path vs) i

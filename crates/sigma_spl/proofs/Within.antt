@@ -137,14 +137,3 @@ small-true c h = grind (arith, nat_tests)
 
 pub constant-small : (room n : ℕ) (cs : ℕ → ℕ) (c : ℕ) → c < n → n ≤ 2 ^ 20 → IsSmall room n cs (constant c)
 constant-small room n cs c below high = record { parts = omega arith; levels = omega arith; top = below; peak = below; small = small-true c (omega arith) }
-
-constants-small : (room n : ℕ) (cs : ℕ → ℕ) (ks : List ℕ) → n ≤ 2 ^ 20 →
-    ((i : ℕ) → i < length ks → slice_index ks i < n) → list_all (is_limited room n cs)
-    (map (place_sum [] (length ks) 0) (map constant ks)) ≡ true
-constants-small room n cs [] high h = refl
-constants-small room n cs (k ∷ ks) high h =
-    both-true _ _ (limited room n cs (constant k) (constant-small room n cs k (h 0 (omega arith)) high)) (go ks (λ i below. h (suc i) (omega arith))) where
-      go : (js : List ℕ) → ((i : ℕ) → i < length js → slice_index js i < n) →
-          list_all (is_limited room n cs) (map (place_sum [] (length (k ∷ ks)) 0) (map constant js)) ≡ true
-      go [] g = refl
-      go (j ∷ js) g = both-true _ _ (limited room n cs (constant j) (constant-small room n cs j (g 0 (omega arith)) high)) (go js (λ i below. g (suc i) (omega arith)))

@@ -37,18 +37,3 @@ long_rooted : (kind : Kind) (p : Request) (t : Breakdown) → kind ≢ Dft → l
 long_rooted Dft p t other = absurd (other refl)
 long_rooted Wht p t other = refl
 long_rooted Idft p t other = refl
-
--- a node is a kernel, unless it goes row by row
-pub kernel_walked : (p : Request) (t : Breakdown) → (is_kernel p (size_of t) ≡ false → p.kind ≢ Dft) →
-    node_work p t ≡ kernel (node_of p t)
-kernel_walked p t other = pick (is_kernel p (size_of t)) refl
-  where
-    pick : (b : Bool) → is_kernel p (size_of t) ≡ b →
-        (if b then kernel (node_of p t) else long_work p p.kind t) ≡ kernel (node_of p t)
-    pick true short = refl
-    pick false long = long_rooted p.kind p t (other long)
-
-pub rows_walked : (p : Request) (t : Breakdown) → is_kernel p (size_of t) ≡ false → p.kind ≡ Dft →
-    node_work p t ≡ rows (node_root p (size_of t)) (size_of t)
-rows_walked p t long is =
-    ap (λ b. if b then kernel (node_of p t) else long_work p p.kind t) long ∙ ap (λ kind. long_work p kind t) is

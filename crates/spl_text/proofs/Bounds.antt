@@ -48,24 +48,3 @@ in_front_ok : (first : ℕ) (r : Result (List ℕ × Place ℕ) ℕ) (v : List �
 in_front_ok first (Ok x) v next e =
     let both = same_pair (first ∷ x.0, x.1) (v, next) e in (x.0, ap (λ q. Ok (x.0, q.1)) both, sym (ap (λ q. q.0) both))
 in_front_ok first (Err left) v next e = absurd cc
-
--- numbers that were read behind a first one, and the parenthesis behind them
-pub values_read : (place middle end : Place ℕ) (first : ℕ) (v : List ℕ) → value_at place ≡ Ok (first, middle) →
-    (next : Place ℕ) →
-    in_front (first ∷ []) (all_at (named_number_at (codes ",") (2 ^ 62)) middle) ≡ Ok (v, next) →
-    close_at next ≡ Ok (tt, end) → values_at place ≡ Ok (v, end)
-values_read place middle end first v e next h k =
-    let front = in_front_ok first (all_at (named_number_at (codes ",") (2 ^ 62)) middle) v next h in
-    rw (e, front.1, k) (ap (λ w. Ok (w, end)) (sym front.2))
-
--- or no parenthesis
-pub values_stuck : (place middle : Place ℕ) (first : ℕ) (v : List ℕ) (left : ℕ) → value_at place ≡ Ok (first, middle) →
-    (next : Place ℕ) →
-    in_front (first ∷ []) (all_at (named_number_at (codes ",") (2 ^ 62)) middle) ≡ Ok (v, next) →
-    close_at next ≡ Err left → values_at place ≡ Err left
-values_stuck place middle first v left e next h k =
-    let front = in_front_ok first (all_at (named_number_at (codes ",") (2 ^ 62)) middle) v next h in rw (e, front.1, k) refl
-
-pub some_values : (first : ℕ) (r : Result (List ℕ × Place ℕ) ℕ) (v : List ℕ) (next : Place ℕ) →
-    in_front (first ∷ []) r ≡ Ok (v, next) → 0 < length v
-some_values first r v next h = let front = in_front_ok first r v next h in subst (λ w. 0 < length w) (sym front.2) (omega arith)

@@ -123,9 +123,6 @@ plain_by c (Two a b) plain = inl plain
 plain_by c (Three a b d) plain = inl plain
 plain_by c (Four a b d e) plain = inl plain
 
-pub part_divides : (p : Request) → IsPlainDft p → CanDivideWhole p
-part_divides p part = plain_by p p.dimensions part.plain
-
 -- ---- costs
 
 pub part_cost : (p : Request) (t : Breakdown) → IsPlainDft p → whole_cost p t ≡ cost_in p t

@@ -33,9 +33,6 @@ stands_below c p t is some h =
     let size : p.size ≡ c.size = ap (λ (q : Request). q.size) is ∙ forward_size c in
     omega (arith, low, size)
 
-pub stands_words : (c : Request) (t : Breakdown) → IsBetween 1 max_size c.size → StandsIn c t → HasWordSizes t
-stands_words c t size h = tree_word_sizes (forward_of c) t h.0 (stands_fits c t size h)
-
 -- ---- costs
 
 pub part_small : (d n x : ℕ) → IsModest d x → d ≤ n → x ≤ 2001 * (n * n)

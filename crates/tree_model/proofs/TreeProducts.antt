@@ -27,10 +27,6 @@ transform-same kind m n root x y h =
     let c = entry_of kind m n root k l in
     sym (mul-mod_second c (slice_index x l) m) ∙ ap (λ z. (c * z) % m) (h l within) ∙ mul-mod_second c (slice_index y l) m))
 
-pub trees-length : (m : ℕ) (trees : PlainTrees) (x : List ℕ) → length (trees_on m trees x) ≡ trees_size trees
-trees-length m (single kind root tree) x = length-list_below (size_of tree) _
-trees-length m (tensor kind root tree others) x = length-list_below (size_of tree * trees_size others) _
-
 pub trees-below : (m : ℕ) (trees : PlainTrees) (x : List ℕ) (k : ℕ) → 0 < m → k < trees_size trees →
     slice_index (trees_on m trees x) k < m
 trees-below m (single kind root tree) x k modulus below = transform-below kind m (size_of tree) root x k modulus below

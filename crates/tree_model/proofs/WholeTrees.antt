@@ -118,13 +118,6 @@ pub admissible_is_whole : (c : Request) (t : Breakdown) → c.dimensions ≡ One
 admissible_is_whole c t one kind h =
     whole_of_admissible c t one (subst (λ p. IsAdmissible p t) (sym (forward_itself c kind)) h)
 
--- the size of each part of a tree is a `u64`
-pub whole_word_sizes : (c : Request) (t : Breakdown) → IsInRange c → IsWholeTree c t → HasWordSizes t
-whole_word_sizes c t range h =
-    let high = range.size.1 in
-    let size = h.size in
-    tree_word_sizes (forward_of c) t h.tree (omega (arith, high, size))
-
 -- ---- costs
 
 -- what a tree of the whole size costs

@@ -18,9 +18,6 @@ pub record IsFront (text : List ℕ) (begins : Bool) : Type 0 where
   pub before : (more : List ℕ) → first_part (text ++ more) ≡ text ++ before_empty_line begins more
   pub behind : (more : List ℕ) → second_part (text ++ more) ≡ behind_empty_line begins more
 
-pub no_front : IsFront [] true
-no_front = record { ended = λ more. refl; before = λ more. refl; behind = λ more. refl }
-
 -- a byte more, which ends no empty line
 pub front_push : (text : List ℕ) (begins : Bool) (byte : ℕ) → IsFront text begins → (begins && ends_line byte) ≡ false →
     IsFront (text ++ byte ∷ []) (ends_line byte)

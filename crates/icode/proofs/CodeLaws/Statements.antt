@@ -42,22 +42,8 @@ module _ (p : Program) where
   steps-append (x ∷ xs) ys vs q =
       ap (λ zs. stmt_steps p x vs q ++ zs) (steps-append xs ys vs q) ∙ sym (append_assoc (stmt_steps p x vs q) (body_steps p xs vs q) (body_steps p ys vs q))
 
-  pub actions-append : (xs ys : List Stmt) (vs : List ℕ) (q : ℕ) →
-      actions_at p (xs ++ ys) vs q ≡ actions_at p xs vs q ++ actions_at p ys vs q
-  actions-append xs ys vs q = ap actions_of (steps-append xs ys vs q) ∙ actions_of-append (body_steps p xs vs q) (body_steps p ys vs q)
-
   pub actions-loop : (count : ℕ) (body : Vec Stmt Global) (vs : List ℕ) (q : ℕ) →
       actions_at p (Loop count body ∷ []) vs q ≡ bodies count (λ v. actions_at p body.items (vs ++ v ∷ []) q)
   actions-loop count body vs q =
       ap actions_of (append-nil (stmt_steps p (Loop count body) vs q) ∙ steps-Loop p count body vs q)
       ∙ actions_of-bodies count (λ v. body_steps p body.items (vs ++ v ∷ []) q)
-
-  pub actions-do : (op : Op) (vs : List ℕ) (q : ℕ) → actions_at p (Do op ∷ []) vs q ≡ (op_step p op vs q).action ∷ []
-  actions-do op vs q = ap actions_of (append-nil (stmt_steps p (Do op) vs q) ∙ steps-Do p op vs q)
-
-  -- a loop round statements that are the actions of a nest
-  pub nest-loop : (count : ℕ) (counts : List ℕ) (inner : Vec Stmt Global) (body : List ℕ → List Action) (q : ℕ) →
-      ((vs : List ℕ) → actions_at p inner.items vs q ≡ nest counts body vs) → (vs : List ℕ) →
-      actions_at p (Loop count inner ∷ []) vs q ≡ nest (count ∷ counts) body vs
-  nest-loop count counts inner body q h vs =
-      actions-loop count inner vs q ∙ ap (bodies count) (fun_ext (λ v. h (vs ++ v ∷ [])))

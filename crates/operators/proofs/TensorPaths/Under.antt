@@ -33,12 +33,6 @@ under-push (Columns c ∷ path) t n a x =
     ap (λ k. on_columns k c (under (path ++ t ∷ []) n a) x) (size_under-push path t n)
     ∙ on_columns-same (size_under path (grown t n)) c _ _ x (λ y. under-push path t n a y)
 
-pub under-same : (path : Path) (n : ℕ) (a b : Operator) (x : List ℕ) → ((y : List ℕ) → a y ≡ b y) →
-    under path n a x ≡ under path n b x
-under-same [] n a b x h = h x
-under-same (Blocks c ∷ path) n a b x h = on_blocks-same c (size_under path n) _ _ x (λ y. under-same path n a b y h)
-under-same (Columns c ∷ path) n a b x h = on_columns-same (size_under path n) c _ _ x (λ y. under-same path n a b y h)
-
 pub one_under-size : (t : Tensor) (n : ℕ) (a : Operator) → HasSize (grown t n) (one_under t n a)
 one_under-size (Blocks k) n a x = length-list_below _ _
 one_under-size (Columns k) n a x = length-list_below _ _
