@@ -22,16 +22,9 @@ use Rattle.spl_ast.specs.Formula.{Formula, size_of as rows_of}
 use Rattle.breakdown.specs.Expansion.{closed_at, closed_formula, divided, expansion, formula_of}
 use Rattle.breakdown.specs.Law.{ExpansionIsTransform, IsAskedFormula, IsNodeFormula}
 use Rattle.breakdown.proofs.Sizes.{rows_of_expansion, whole_divides}
+use Rattle.tree_model.proofs.WholeTrees.{forward_size}
 
 -- ---- what the request for the transform has of the request
-
-forward_by-size : (kind : Kind) (c : Request) → (forward_by kind c).size ≡ c.size
-forward_by-size Dft c = refl
-forward_by-size Wht c = refl
-forward_by-size Idft c = refl
-
-pub forward_size : (c : Request) → (forward_of c).size ≡ c.size
-forward_size c = forward_by-size c.kind c
 
 -- what divides the request's size
 pub forward_divides : (c : Request) (d : ℕ) → c.size % d ≡ 0 → (forward_of c).size % d ≡ 0

@@ -19,7 +19,7 @@ use Rattle.icode.proofs.Completion.{completion_step, completion_past as turns_pa
 use Rattle.icode.proofs.Runs.{open_at, has_action}
 use Rattle.icode.proofs.Waiting.{none_waits, one_waits, all_empty, overlaid-after, queue_inside}
 
-some_action : (xs : List Action) (i : ℕ) → i < length xs → (a : Action) × (slice_get xs i ≡ Some a)
+pub some_action : (xs : List Action) (i : ℕ) → i < length xs → (a : Action) × (slice_get xs i ≡ Some a)
 some_action [] i lt = absurd (omega arith)
 some_action (x ∷ xs) zero lt = (x, refl)
 some_action (x ∷ xs) (suc i) lt = some_action xs i (omega arith)

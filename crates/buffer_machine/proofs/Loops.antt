@@ -1,13 +1,9 @@
 -- Steps of loops over queues, counts and phases.
-use Rattle.std.proofs.Common.{◌≡◌, ℕ, zero, suc, ◌+◌, ◌-◌, ◌<◌, ◌≤◌, List, [], ◌∷◌, ◌++◌, Bool, true, false, cond, ◌||◌}
-use Rattle.std.proofs.Common.{length, take, drop, map, get_or, nat_lt, refl, sym, ap, ◌∙◌, arith, add-one, lt-ltb}
+use Rattle.std.proofs.Common.{◌≡◌, ℕ, zero, suc, ◌+◌, ◌-◌, ◌<◌, List, [], ◌∷◌, ◌++◌, false, cond}
+use Rattle.std.proofs.Common.{length, take, drop, map, get_or, nat_lt, sym, ap, ◌∙◌, arith, add-one, lt-ltb}
 use Rattle.std.specs.Prelude.{slice_index, slice_set}
-use Rattle.std.specs.List.{list_any}
 use Rattle.std.proofs.lemmas.Bool.{le-ltb}
-use Rattle.std.proofs.lemmas.List.{drop_more}
-use Rattle.icode.specs.Buffers.{is_waiting, some_wait}
-use Rattle.buffer_machine.specs.Backlog.{Backlog}
-use Rattle.buffer_machine.specs.Stand.{waits_of, first_busy}
+use Rattle.buffer_machine.specs.Stand.{first_busy}
 
 map_step_ : {X : Type 0} (f : X → X) (old : List X) (i : ℕ) (x : X) → i < length old →
     x ≡ get_or (map f (take i old) ++ drop i old) i x → slice_set (map f (take i old) ++ drop i old) i (f x)

@@ -5,7 +5,6 @@ use Rattle.std.specs.Prelude.{slice_index, slice_set}
 use Rattle.std.proofs.lemmas.Bool.{cases_eq, cases_lt}
 use Rattle.std.proofs.lemmas.List.{length-replicate, get_or-replicate, replicate-append-replicate}
 use Rattle.icode.specs.Machine.{with_words}
-use Rattle.icode.proofs.End.{slice_index-zeros}
 use Rattle.icode.proofs.LaneSteps.{with_words_more}
 use Rattle.icode.proofs.Words.{with_words-other, slice_index-agree}
 use Rattle.buffer_machine.specs.Sound.{AreNewest}

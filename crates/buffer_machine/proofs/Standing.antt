@@ -21,12 +21,11 @@ use Rattle.icode.proofs.Residues.{AreBelow}
 use Rattle.icode.proofs.Runs.{open_at, not_open}
 use Rattle.icode.proofs.StoreCounts.{stores_first}
 use Rattle.icode.proofs.Words.{length-words_at}
+use Rattle.icode.proofs.CodeLaws.Placing.{length-with_words}
 use Rattle.buffer_machine.specs.Backlog.{Backlog}
 use Rattle.buffer_machine.specs.Drains.{IsWritten}
 use Rattle.buffer_machine.specs.Stand.{Stand, backlog_at, waits_of, buffered_of, after_action, acted_stand, cleared}
 use Rattle.buffer_machine.specs.Stand.{is_held, first_busy, settled_stand, HasLens, AreSound, IsStanding}
-use Rattle.buffer_machine.specs.Waits.{OldestFits}
-use Rattle.buffer_machine.proofs.Windows.{length-with_words}
 
 -- Queues
 

@@ -1,7 +1,7 @@
 -- What a machine keeps.
 use Rattle.std.proofs.Common.{◌≡◌, ℕ, zero, suc, Bool, cond, true, false, ⊎_elim, ◌+◌, ◌-◌, ◌*◌, ◌<◌, ◌≤◌, ◌^◌, List}
 use Rattle.std.proofs.Common.{[], ◌∷◌, ◌++◌, length, map, drop, replicate, Some, refl, sym, ap, ap₂, ◌∙◌, subst, arith}
-use Rattle.std.proofs.Common.{length-append, div-add-mod', mod-lt}
+use Rattle.std.proofs.Common.{length-append}
 use Rattle.std.specs.Prelude.{slice_get, slice_index, slice_index_or, slice_set}
 use Rattle.std.proofs.lemmas.List.{get_or-replicate, length-replicate, length-map, replicate-append-replicate}
 use Rattle.std.proofs.lemmas.Bool.{cases_eq, cases_lt, false≢true}
@@ -45,6 +45,8 @@ use Rattle.buffer_machine.proofs.Few.{few_step, few_start, few_events}
 use Rattle.buffer_machine.proofs.Lens.{acts_none}
 use Rattle.buffer_machine.proofs.Standing.{queue_is, standing_acted, acted_buffered, settled_buffered, standing_settled}
 use Rattle.buffer_machine.proofs.Standing.{standing_anew, standing_written, written_buffered, first_is_busy}
+use Rattle.buffer_machine.proofs.Direct.{some_action}
+use Rattle.par_machine.proofs.Starts.{room_for}
 
 abbrev next_of : Code → State → State
 next_of code s = record { memory = s.memory; registers = s.registers; phase = first_open code (phases_after code s.phase) (s.phase + 1); done = none_done code }
@@ -53,12 +55,6 @@ abbrev pub code_in : Inside → Code
 code_in a = a.walker.code
 
 -- A program is good
-
-room_for : (size line : ℕ) → 0 < line → size ≤ whole_lines size line
-room_for size line pos =
-    let whole = div-add-mod' (size + (line - 1)) line in
-    let small = mod-lt (size + (line - 1)) pos in
-    omega (arith, whole, small)
 
 pub good : (p : Program) → Fits p → IsGood (code_of p)
 good p fits =
@@ -115,11 +111,6 @@ open_here : (a : Inside) (q : ℕ) → IsWhole a → q < (code_in a).procs →
     slice_index a.values.done q < slice_index a.lens.items a.values.phase →
     is_open (code_in a) a.values.phase a.values.done ≡ true
 open_here a q w lt left = open_at (code_in a) a.values.phase a.values.done q lt (omega (arith, w.lens.each a.values.phase q lt))
-
-some_action : (xs : List Action) (i : ℕ) → i < length xs → (a : Action) × (slice_get xs i ≡ Some a)
-some_action [] i lt = absurd (omega arith)
-some_action (x ∷ xs) zero lt = (x, refl)
-some_action (x ∷ xs) (suc i) lt = some_action xs i (omega arith)
 
 -- so the walker does the action
 pub walker_next : (a : Inside) (q : ℕ) → IsWhole a → q < (code_in a).procs →

@@ -8,19 +8,11 @@ use Rattle.icode.specs.Buffers.{Waiting, overlaid}
 use Rattle.icode.specs.Machine.{words_at, with_words}
 use Rattle.icode.proofs.LaneSteps.{words_at_more, with_words_more}
 use Rattle.icode.proofs.Words.{words_at-agree, with_words-other, slice_index-agree, length-words_at}
+use Rattle.icode.proofs.CodeLaws.Placing.{length-with_words, slice_index-words_at}
 use Rattle.buffer_machine.specs.Backlog.{window}
 use Rattle.buffer_machine.specs.Waits.{OldestFits, NoneCovers}
 
 -- Words that were written
-
-pub length-with_words : (vs xs : List ℕ) (i : ℕ) → length (with_words xs i vs) ≡ length xs
-length-with_words [] xs i = refl
-length-with_words (v ∷ vs) xs i = length-with_words vs (slice_set xs i v) (i + 1) ∙ length-set_ xs i v
-  where
-    length-set_ : (xs : List ℕ) (i v : ℕ) → length (slice_set xs i v) ≡ length xs
-    length-set_ [] i v = refl
-    length-set_ (x ∷ xs) zero v = refl
-    length-set_ (x ∷ xs) (suc i) v = ap suc (length-set_ xs i v)
 
 -- the first is where it was written, and is what a later write leaves
 pub words_at-with_words : (vs xs : List ℕ) (i : ℕ) → i + length vs ≤ length xs →
@@ -106,13 +98,6 @@ with_words-here (v ∷ vs) m a place low high inside =
     ∙ ap (slice_index (v ∷ vs)) (sym s))
     (cases_eq a place)
 
-words_at-index : (n : ℕ) (W : List ℕ) (i d : ℕ) → d < n → slice_index (words_at n W i) d ≡ slice_index W (i + d)
-words_at-index zero W i d lt = absurd (omega arith)
-words_at-index (suc n) W i zero lt = ap (slice_index W) (omega arith)
-words_at-index (suc n) W i (suc d) lt =
-    let e : i + 1 + d ≡ i + suc d = omega arith in
-    words_at-index n W (i + 1) d (omega arith) ∙ ap (slice_index W) e
-
 -- where no store is for the word, it is memory's
 pub seen_memory : (lanes n i : ℕ) (A W m : List ℕ) (place : ℕ) → NoneCovers lanes A place i (i + n) →
     slice_index (overlaid m (window lanes A W n i)) place ≡ slice_index m place
@@ -137,7 +122,7 @@ seen_store lanes (suc n) i j A W m place ij jn low high inside none =
     let same : slice_index A i ≡ slice_index A j = ap (slice_index A) e in
     seen_memory lanes n (i + 1) A W (with_words m a vs) place (λ k lo hi. none k (omega arith) (omega arith))
     ∙ (with_words-here vs m a place (omega arith) (omega arith) inside
-    ∙ (words_at-index lanes W (i * lanes) (place - a) (omega arith)
+    ∙ (slice_index-words_at lanes W (i * lanes) (place - a) (omega arith)
     ∙ ap (λ k. slice_index W (k * lanes + (place - slice_index A k))) e)))
     (λ (ne : i ≡ j → ⊥).
     let more : NoneCovers lanes A place (j + 1) (i + 1 + n) = λ k lo hi. none k lo (omega arith) in

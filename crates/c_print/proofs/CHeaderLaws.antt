@@ -1,5 +1,5 @@
 -- Reading the first line of a C text answers for it.
-use Rattle.std.proofs.Common.{◌≡◌, ℕ, List, [], codes, Result, Ok, Err, refl, sym, ap, ◌∙◌}
+use Rattle.std.proofs.Common.{◌≡◌, ℕ, List, codes, Result, Ok, Err, refl, sym, ap, ◌∙◌}
 use Rattle.icode.specs.Plain.{PlainProgram}
 use Rattle.grammar.specs.declared.token.Stuck.{Stuck}
 use Rattle.grammar.specs.Reading.{whole}

@@ -1,5 +1,5 @@
 -- The words of a program that passes the check leave what it leaves.
-use Rattle.std.proofs.Common.{◌≡◌, ℕ, ◌*◌, All, length, ◌<◌, ◌≤◌, Bool, true, false, List, map, inl, inr, refl, sym, ap}
+use Rattle.std.proofs.Common.{◌≡◌, ℕ, ◌*◌, All, length, ◌<◌, ◌≤◌, Bool, true, false, map, inl, inr, refl, sym, ap}
 use Rattle.std.proofs.Common.{subst, ◌∙◌}
 use Rattle.std.specs.Prelude.{if◌then◌else◌}
 use Rattle.std.specs.List.{list_all}

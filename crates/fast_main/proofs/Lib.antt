@@ -1,5 +1,4 @@
 pub mod FastWords
-pub mod Refusals
 pub mod Faithful
 pub mod Laned
 pub mod Rerouted

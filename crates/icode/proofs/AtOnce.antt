@@ -1,18 +1,15 @@
 -- Where each store is written to memory at once.
-use Rattle.std.proofs.Common.{◌≡◌, ℕ, suc, ◌<◌, ◌⊎◌, List, [], ◌∷◌, ◌++◌, Bool, true, false, cond, length, Option, Some}
+use Rattle.std.proofs.Common.{◌≡◌, ℕ, suc, ◌<◌, ◌⊎◌, List, [], ◌∷◌, ◌++◌, false, cond, length, Option, Some}
 use Rattle.std.proofs.Common.{None, refl, sym, ap, ap₂, ◌∙◌, subst, arith, inl, inr, ⊎_elim, get_or-set_same, set-set}
-use Rattle.std.proofs.Common.{append-nil}
 use Rattle.std.specs.Prelude.{slice_index, slice_index_or, slice_set}
 use Rattle.std.proofs.lemmas.List.{set-get_or, length-replicate}
 use Rattle.icode.specs.declared.action.Action.{Action}
 use Rattle.icode.specs.declared.action.Action.TheVariants.{Store}
-use Rattle.icode.specs.declared.event.Event.{Event}
-use Rattle.icode.specs.declared.event.Event.TheVariants.{Turn, Drain}
-use Rattle.icode.specs.Machine.{Code, IsCode, State, Local, effect, memory_after, next_action, moved_on, acted}
+use Rattle.icode.specs.Machine.{Code, IsCode, State, effect, memory_after, next_action, moved_on, acted}
 use Rattle.icode.specs.Machine.{turn_with, turn, run, start}
-use Rattle.icode.specs.Buffers.{Waiting, Buffered, queue_of, some_wait, stored, overlaid, seen_by, buffered_moved_on}
+use Rattle.icode.specs.Buffers.{Waiting, Buffered, queue_of, some_wait, stored, overlaid, buffered_moved_on}
 use Rattle.icode.specs.Buffers.{buffered_acted, buffered_turn_with, buffered_turn, written, drain_with, drain}
-use Rattle.icode.specs.Buffers.{buffered_run, buffered_start, at_once, none_waiting}
+use Rattle.icode.specs.Buffers.{buffered_run, buffered_start, at_once}
 use Rattle.icode.proofs.BufferedCompletion.{none_waiting-none}
 use Rattle.icode.proofs.Runs.{has_action}
 use Rattle.icode.proofs.Waiting.{none_waits, one_waits}

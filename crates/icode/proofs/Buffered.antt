@@ -1,11 +1,11 @@
 -- What each turn and each drain of a phase keeps.
-use Rattle.std.proofs.Common.{◌≡◌, ℕ, suc, ◌+◌, ◌/◌, ◌<◌, ◌≤◌, ◌≢◌, List, [], ◌∷◌, ◌++◌, length, Some, refl, sym, ap}
-use Rattle.std.proofs.Common.{◌∙◌, subst, arith, ⊎_elim, Contains, get_or-set_same, get_or-set_other, length-set, true}
+use Rattle.std.proofs.Common.{◌≡◌, ℕ, suc, ◌+◌, ◌/◌, ◌<◌, List, [], ◌∷◌, ◌++◌, length, Some, sym, ap}
+use Rattle.std.proofs.Common.{◌∙◌, subst, arith, ⊎_elim, Contains, get_or-set_same, get_or-set_other, length-set}
 use Rattle.std.proofs.Common.{false}
 use Rattle.std.specs.Prelude.{slice_get, slice_index, slice_index_or, slice_set}
 use Rattle.std.proofs.lemmas.Bool.{cases_eq}
 use Rattle.icode.specs.declared.action.Action.{Action}
-use Rattle.icode.specs.Machine.{Code, Local, acts, effect, memory_after, touched_words, written_lines, touched_lines}
+use Rattle.icode.specs.Machine.{Code, Local, acts, effect, touched_words, written_lines, touched_lines}
 use Rattle.icode.specs.Machine.{with_words, IsApart}
 use Rattle.icode.specs.Buffers.{Waiting, overlaid, stored, some_wait, queue_of}
 use Rattle.icode.proofs.Lines.{touches}

@@ -1,15 +1,15 @@
 -- Whole runs with store buffers: every list of turns and drains, completed, ends as one processor after another does.
-use Rattle.std.proofs.Common.{◌≡◌, ℕ, ◌+◌, ◌-◌, ◌<◌, ◌≤◌, List, [], ◌∷◌, ◌++◌, Bool, true, false, cond, length, Option}
-use Rattle.std.proofs.Common.{Some, None, refl, sym, ap, ◌∙◌, arith}
+use Rattle.std.proofs.Common.{◌≡◌, ℕ, ◌-◌, ◌<◌, ◌≤◌, List, [], ◌∷◌, Bool, true, false, cond, length, Option}
+use Rattle.std.proofs.Common.{Some, None, refl, arith}
 use Rattle.std.specs.Prelude.{slice_index}
 use Rattle.std.proofs.lemmas.List.{length-replicate}
 use Rattle.icode.specs.declared.action.Action.{Action}
 use Rattle.icode.specs.declared.event.Event.{Event}
 use Rattle.icode.specs.declared.event.Event.TheVariants.{Turn, Drain}
-use Rattle.icode.specs.Machine.{Code, IsCode, Whole, IsApart, next_action, moved_on, start, phases_alone, in_order}
+use Rattle.icode.specs.Machine.{Code, IsCode, Whole, IsApart, next_action, moved_on, phases_alone, in_order}
 use Rattle.icode.specs.Buffers.{Waiting, Buffered, queue_of, some_wait, buffered_moved_on, buffered_acted}
-use Rattle.icode.specs.Buffers.{buffered_turn_with, buffered_turn, written, drain_with, drain, buffered_step}
-use Rattle.icode.specs.Buffers.{buffered_run, buffered_start, none_waiting, buffered_completion, buffered_finished}
+use Rattle.icode.specs.Buffers.{buffered_turn_with, buffered_turn, written, drain_with, drain}
+use Rattle.icode.specs.Buffers.{buffered_run, buffered_start, buffered_completion, buffered_finished}
 use Rattle.icode.specs.Buffers.{buffered_runs, IsBusy}
 use Rattle.icode.proofs.Buffered.{IsBuffered, IsBuffered-acted, IsBuffered-drained, followed_from_buffered}
 use Rattle.icode.proofs.Buffered.{buffered_from_followed}

@@ -188,7 +188,7 @@ module _ (code : Code) (is : IsCode code) where
   run_later [] s = le_refl s.phase
   run_later (q ∷ turns) s = le_trans (turn_later s q) (run_later turns (turn code s q))
 
-  run-append : (xs ys : List ℕ) (s : State) → run code s (xs ++ ys) ≡ run code (run code s xs) ys
+  pub run-append : (xs ys : List ℕ) (s : State) → run code s (xs ++ ys) ≡ run code (run code s xs) ys
   run-append [] ys s = refl
   run-append (q ∷ xs) ys s = run-append xs ys (turn code s q)
 

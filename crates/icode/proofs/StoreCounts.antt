@@ -10,7 +10,7 @@ use Rattle.icode.specs.declared.program.Program.{Program}
 use Rattle.icode.specs.Actions.{Step, actions_of, step_of, steps_of_stmt, steps_of_body}
 use Rattle.icode.specs.Buffers.{stores_among}
 use Rattle.icode.specs.Lengths.{len_of_stmt, len_of_body, stores_of_op, stores_of_stmt, stores_of_body, stmt_stores}
-use Rattle.icode.specs.Lengths.{body_stores, body_len}
+use Rattle.icode.specs.Lengths.{body_stores}
 use Rattle.icode.specs.Machine.{acts}
 use Rattle.icode.specs.Plain.{PlainOp, PlainStmt, PlainBody, PlainProgram, Load, Store, Zero, Add, Sub, Neg, MulConst}
 use Rattle.icode.specs.Plain.{MulTable, Tile, Loop, Do, NoStmts, AndStmts, plain_body}

@@ -3,13 +3,12 @@ use Rattle.std.proofs.Common.{◌≡◌, ℕ, Vec, Global, map, sym, ap, ◌∙�
 use Rattle.icode.specs.declared.program.Op.{Op}
 use Rattle.icode.specs.declared.program.Expr.{Expr}
 use Rattle.icode.specs.declared.program.Part.TheVariants as parts
-use Rattle.icode.specs.declared.program.Part.TheOpen.{Part-F}
-use Rattle.icode.specs.declared.program.Part.TheFolds.{fold_out-Expr, fold-roll-Part}
+use Rattle.icode.specs.declared.program.Part.TheFolds.{fold_out-Expr}
 use Rattle.icode.specs.declared.program.Stmt.{Stmt}
 use Rattle.icode.specs.declared.program.Stmt.TheVariants as stmts
 use Rattle.icode.specs.declared.program.Stmt.TheOpen.{Stmt-F}
 use Rattle.icode.specs.declared.program.Stmt.TheFolds.{fold-roll-Stmt}
-use Rattle.icode.specs.Plain.{PlainExpr, PlainPart, PlainStmt, Sum, Proc, Var, Product, Rem, Quot, Loop, Do, parts_of}
+use Rattle.icode.specs.Plain.{PlainExpr, PlainPart, PlainStmt, Sum, Loop, Do, parts_of}
 use Rattle.icode.specs.Plain.{part_view, expr_view, plain_expr, plain_part, plain_op, stmt_view, plain_stmt, plain_body}
 
 pub plain_expr_is : (e : Expr) → plain_expr e ≡ Sum e.constant (parts_of (map plain_part e.parts.items))

@@ -1,14 +1,14 @@
 -- Stores that wait.
 use Rattle.std.proofs.Common.{◌≡◌, ℕ, zero, suc, ◌+◌, ◌/◌, ◌<◌, ◌≤◌, List, [], ◌∷◌, ◌++◌, true, false, length, refl}
-use Rattle.std.proofs.Common.{sym, ap, ◌∙◌, arith, Contains, Some, ◌*◌}
-use Rattle.std.specs.Prelude.{slice_get, slice_index_or}
+use Rattle.std.proofs.Common.{◌∙◌, arith, Contains, Some, ◌*◌}
+use Rattle.std.specs.Prelude.{slice_get}
 use Rattle.std.proofs.lemmas.List.{get_or_past}
 use Rattle.icode.specs.declared.action.Action.{Action}
 use Rattle.icode.specs.declared.action.Action.TheVariants.{Store}
-use Rattle.icode.specs.Machine.{Code, Local, acts, register_of, memory_after, written_lines}
-use Rattle.icode.specs.Buffers.{Waiting, overlaid, stored, is_waiting, some_wait, queue_of}
+use Rattle.icode.specs.Machine.{Code, acts, memory_after, written_lines}
+use Rattle.icode.specs.Buffers.{Waiting, overlaid, stored, some_wait, queue_of}
 use Rattle.icode.proofs.Lines.{Contains-range, writes}
-use Rattle.icode.proofs.Words.{length-words_at, with_words-other, with_words-agree}
+use Rattle.icode.proofs.Words.{length-words_at, with_words-agree}
 
 pub overlaid-append : (xs ys : List Waiting) (memory : List ℕ) →
     overlaid memory (xs ++ ys) ≡ overlaid (overlaid memory xs) ys

@@ -16,6 +16,7 @@ use Rattle.kernel_gen.specs.declared.straight.Instruction.{Instruction}
 use Rattle.kernel_gen.specs.declared.straight.Instruction.TheVariants.{Add, Sub, Neg, Mul}
 use Rattle.kernel_gen.specs.Instructions.{op_of, action_by, actions_by, code_effect, code_cost, AreWithin}
 use Rattle.kernel_gen.proofs.Below.{length-joined}
+use Rattle.icode.proofs.CodeLaws.Tiles.{slice_index-front}
 
 -- the step of an instruction's operation, in any program, at any values of the loops and on any processor
 pub step-is : (p : PlainProgram) (i : Instruction) (vs : List ℕ) (q : ℕ) →
@@ -26,11 +27,6 @@ step-is p (Neg r x) vs q = refl
 step-is p (Mul r x c) vs q = refl
 
 -- ---- factors
-
-slice_index-front : (xs ys : List ℕ) (i : ℕ) → i < length xs → slice_index (xs ++ ys) i ≡ slice_index xs i
-slice_index-front [] ys i below = absurd (omega arith)
-slice_index-front (x ∷ xs) ys zero below = refl
-slice_index-front (x ∷ xs) ys (suc i) below = slice_index-front xs ys i (omega arith)
 
 lane_factor : (lanes lane c : ℕ) → lane < lanes → slice_index (lane_factors lanes (λ _. c)) lane ≡ c
 lane_factor lanes lane c below =

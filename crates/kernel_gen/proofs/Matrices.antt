@@ -1,14 +1,14 @@
 -- The code of a matrix whose first column is 1.
 use Rattle.std.proofs.Common.{◌≡◌, ℕ, zero, suc, ◌+◌, ◌-◌, ◌*◌, ◌%◌, ◌<◌, arith, refl, sym, ap, ap₂, ◌∙◌, List, [], ◌∷◌}
-use Rattle.std.proofs.Common.{◌++◌, length, map, mod-lt, add-one}
+use Rattle.std.proofs.Common.{◌++◌, length, map, mod-lt}
 use Rattle.std.specs.Prelude.{slice_index}
 use Rattle.std.proofs.Math.Nat.{one-mul}
-use Rattle.std.proofs.lemmas.List.FromFn.{map-range_with_len_more}
 use Rattle.icode.proofs.CodeLaws.Placing.{length-mapped}
 use Rattle.operators.specs.Operator.{Operator, matrix_times}
 use Rattle.operators.specs.Sum.{sum_below, list_below}
 use Rattle.operators.proofs.Lists.{length-list_below}
 use Rattle.operators.proofs.Sums.{sum_below-same, sum_below-add}
+use Rattle.operators.proofs.Places.{list_below-suc}
 use Rattle.kernel_gen.specs.Making.{row_make, matrix_make}
 use Rattle.tree_model.specs.KernelCosts.{product_cost, products_cost}
 use Rattle.kernel_gen.proofs.Below.{AllBelow}
@@ -63,9 +63,6 @@ row-cost weight m e ins one =
     let head : product_cost weight m 0 (e 0) ≡ 0 = ap (product_cost weight m 0) one in
     omega (arith, rest, first, head)
 
-list_below-last : (n : ℕ) (f : ℕ → ℕ) → list_below (suc n) f ≡ list_below n f ++ f n ∷ []
-list_below-last n f = ap (λ k. list_below k f) (sym (add-one n)) ∙ map-range_with_len_more f 0 n n (omega arith)
-
 module _ (m weight : ℕ) (positive : 0 < m) where
   does-row : (n : ℕ) (e : ℕ → ℕ) → 0 < n → e 0 ≡ 1 → ((l : ℕ) → e l < m) →
       Does m weight n 1 (row_cost weight m n e) (row_make m e) (row_on m n e)
@@ -92,7 +89,7 @@ module _ (m weight : ℕ) (positive : 0 < m) where
       let cost = sum_below (suc k) (λ i. row_cost weight m n (e i)) in
       let first : Operator = λ x. list_below k (λ i. sum_below n (λ l. e i l * slice_index x l) % m) in
       does-same m weight n (suc k) cost cost (matrix_make m e (suc k)) (λ x. first x ++ row_on m n (e k) x) _ refl
-      (λ x size residues. sym (list_below-last k (λ i. sum_below n (λ l. e i l * slice_index x l) % m)))
+      (λ x size residues. sym (list_below-suc k (λ i. sum_below n (λ l. e i l * slice_index x l) % m)))
       (λ x size. length-list_below (suc k) _)
       (does-size m weight n n (k + 1) (suc k) cost (matrix_make m e (suc k)) (λ x. first x ++ row_on m n (e k) x) refl (omega arith)
       (does-beside m weight n k 1 (sum_below k (λ i. row_cost weight m n (e i))) (row_cost weight m n (e k)) (matrix_make m e k) (row_make m (e k)) first (row_on m n (e k))

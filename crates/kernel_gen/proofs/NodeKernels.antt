@@ -1,5 +1,5 @@
 -- The kernel of a node: what it does, what it costs, and which registers it names.
-use Rattle.std.proofs.Common.{◌≡◌, ℕ, ◌*◌, ◌%◌, ◌<◌, refl, ap, subst, ◌∙◌, arith, List}
+use Rattle.std.proofs.Common.{◌≡◌, ℕ, ◌*◌, ◌%◌, refl, ap, subst, ◌∙◌, arith, List}
 use Rattle.matrix_meaning.specs.Parts.{forward_by, forward_of}
 use Rattle.matrix_meaning.specs.Valid.{IsValid}
 use Rattle.matrix_meaning.specs.declared.Kind.{Kind}
@@ -22,7 +22,7 @@ use Rattle.tree_model.specs.Whole.{node_on, rooted_of}
 use Rattle.tree_model.proofs.RootedTrees.{rooted_size}
 use Rattle.tree_model.proofs.WholeTrees.{forward_size}
 
-by_modulus : (kind : Kind) (c : Request) → (forward_by kind c).modulus ≡ c.modulus
+pub by_modulus : (kind : Kind) (c : Request) → (forward_by kind c).modulus ≡ c.modulus
 by_modulus Dft c = refl
 by_modulus Wht c = refl
 by_modulus Idft c = refl

@@ -1,14 +1,10 @@
 -- The entries of transforms are residues.
-use Rattle.std.proofs.Common.{ℕ, ◌-◌, ◌%◌, ◌<◌, ◌≤◌, Bool, true, false, arith, subst, mod-lt, if◌then◌else◌}
+use Rattle.std.proofs.Common.{ℕ, ◌-◌, ◌%◌, ◌<◌, ◌≤◌, Bool, true, false, arith, mod-lt, if◌then◌else◌}
 use Rattle.std.specs.Prelude.{◌==◌, bit_and, count_ones}
 use Rattle.matrix_meaning.specs.declared.Kind.{Kind}
 use Rattle.matrix_meaning.specs.declared.Kind.TheVariants.{Dft, Wht, Idft}
 use Rattle.matrix_meaning.specs.Kind.{entry_of}
-use Rattle.ring_mod.specs.Residue.{power_mod}
-use Rattle.ring_mod.proofs.Powers.{power_mod-mod}
-
-pub power_below : (m w e : ℕ) → 0 < m → power_mod m w e < m
-power_below m w e some = subst (λ z. z < m) (power_mod-mod m w e) (mod-lt (power_mod m w e) some)
+use Rattle.matrix_meaning.proofs.Requests.{power_below}
 
 sign_pick : (b : Bool) (m : ℕ) → 2 ≤ m → (if b then 1 else m - 1) < m
 sign_pick true m large = omega arith

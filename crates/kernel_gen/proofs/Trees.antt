@@ -1,16 +1,14 @@
 -- The code of a tree computes the tree's transform, at the tree's cost.
-use Rattle.std.proofs.Common.{◌≡◌, ℕ, ◌+◌, ◌*◌, ◌%◌, ◌<◌, ◌≤◌, inl, inr, arith, sym, ap, ap₂, ◌∙◌, List, length, mod-lt}
+use Rattle.std.proofs.Common.{◌≡◌, ℕ, ◌+◌, ◌*◌, ◌%◌, ◌<◌, ◌≤◌, arith, sym, ap, ap₂, ◌∙◌, List, length, mod-lt}
 use Rattle.std.proofs.Common.{mul_comm, mul-zero}
 use Rattle.std.specs.Prelude.{slice_index, count_ones}
 use lib.Count.{ones}
 use Rattle.std.specs.Int.Bits.{and_zero_r}
 use Rattle.std.proofs.Math.Nat.{mod-eq_of_lt}
-use Rattle.std.proofs.lemmas.Nat.{pow-add}
-use Rattle.std.proofs.lemmas.Bool.{cases_eq}
 use Rattle.matrix_meaning.specs.declared.Kind.{Kind}
 use Rattle.matrix_meaning.specs.declared.Kind.TheVariants.{Dft, Wht, Idft}
 use Rattle.operators.specs.Identities.{turn}
-use Rattle.matrix_meaning.specs.Kind.{entry_of, sign, transform, IsPowerOfTwo}
+use Rattle.matrix_meaning.specs.Kind.{entry_of, sign, transform}
 use Rattle.matrix_meaning.specs.Laws.{twiddle}
 use Rattle.operators.specs.Operator.{good_thomas_in, good_thomas_out}
 use Rattle.operators.specs.Operator.{Operator, gather, scale, stride, block, on_blocks, on_columns, on_each_block}
@@ -18,6 +16,7 @@ use Rattle.operators.specs.Sum.{sum_below}
 use Rattle.matrix_meaning.proofs.CooleyTukey.{cooley_tukey}
 use Rattle.matrix_meaning.proofs.GoodThomas.{good_thomas}
 use Rattle.matrix_meaning.proofs.WalshHadamard.{split}
+use Rattle.matrix_meaning.proofs.Requests.{power_below}
 use Rattle.operators.proofs.Lists.{length-list_below, at-list_below, list_below-same_rows, at-on_blocks, row-of}
 use Rattle.operators.proofs.Lists.{column-of, place_below, factor_positive}
 use Rattle.operators.proofs.Places.{stride_below}
@@ -30,10 +29,11 @@ use Rattle.kernel_gen.specs.Making.{Maker}
 use Rattle.kernel_gen.specs.Kernel.{node_make, tree_make}
 use Rattle.tree_model.specs.KernelCosts.{IsRoot, product_cost, rule_cost, kernel_cost}
 use Rattle.kernel_gen.proofs.Pieces.{Does, Piece, piece, picked, joined, does-as}
-use Rattle.kernel_gen.proofs.Residues.{power_below, entry_below}
+use Rattle.kernel_gen.proofs.Residues.{entry_below}
 use Rattle.kernel_gen.proofs.Rows.{sum_below-constant, in_rows, in_columns}
 use Rattle.kernel_gen.proofs.Factors.{does-diagonal}
 use Rattle.kernel_gen.proofs.Matrices.{does-matrix}
+use Rattle.tree_model.proofs.PowerOfTwo.{walsh_size}
 
 -- the first column of a transform
 first_column : (kind : Kind) (m d w k : ℕ) → AllowsLeaf kind d → 2 ≤ m → entry_of kind m d w k 0 ≡ 1
@@ -43,10 +43,10 @@ first_column Wht m d w k allowed modulus = ap (λ c. sign m (count_ones c)) (and
 first_column Idft m d w k allowed modulus = absurd allowed
 
 -- the places of the permutations
-good_thomas_in_below : (r s p : ℕ) → p < r * s → good_thomas_in r s p < r * s
+pub good_thomas_in_below : (r s p : ℕ) → p < r * s → good_thomas_in r s p < r * s
 good_thomas_in_below r s p below = mod-lt _ (omega arith)
 
-good_thomas_out_below : (r s p : ℕ) → p < r * s → good_thomas_out r s p < r * s
+pub good_thomas_out_below : (r s p : ℕ) → p < r * s → good_thomas_out r s p < r * s
 good_thomas_out_below r s p below =
     let some_columns : 0 < s = factor_positive r s p below in
     let some_rows : 0 < r = factor_positive s r p (rw (mul_comm s r) below) in
@@ -113,18 +113,6 @@ module _ (m weight : ℕ) (modulus : 2 ≤ m) where
       (let each = sum_below-constant r price in let all : sum_below r (λ _. price) + s * cost ≡ s * cost + r * price + rule_cost weight m Split r s w = omega arith in all)
       (λ x size small. sym (law x)) (λ x size. width x)
 
-  -- a tree for Walsh and Hadamard has a power of two as its size
-  power_of_two : (t : Breakdown) → IsWellFormed Wht t → IsPowerOfTwo (size_of t)
-  power_of_two (leaf d) formed =
-      elim (cases_eq d 1) [
-        | inl one ↦ (0, one)
-        | inr other ↦ (1, omega (arith, formed.0, formed.1))
-      ]
-  power_of_two (node rule a b) formed =
-      let left = power_of_two a formed.1 in
-      let right = power_of_two b formed.2 in
-      (left.0 + right.0, ap₂ (λ x y. x * y) left.1 right.1 ∙ sym (pow-add 2 left.0 right.0))
-
   some_items : (kind : Kind) (d : ℕ) → IsWellFormed kind (leaf d) → 0 < d
   some_items Dft d formed = formed
   some_items Wht d formed = formed.0
@@ -151,7 +139,7 @@ module _ (m weight : ℕ) (modulus : 2 ≤ m) where
       (does-tree Dft b (power_mod m w (size_of a)) formed.2 (power_mod-part m w (size_of b) (size_of a) (ap (power_mod m w) (mul_comm (size_of b) (size_of a)) ∙ root)))
   does-tree Wht (node Split a b) w formed root =
       does-split (size_of a) (size_of b) w _ _ _ _ (transform Wht m (size_of a * size_of b) w) (transform Wht m (size_of a) w) (transform Wht m (size_of b) w)
-      (λ x. split m (size_of a) (size_of b) w x (omega arith) (power_of_two b formed.2))
+      (λ x. split m (size_of a) (size_of b) w x (omega arith) (walsh_size b formed.2))
       (λ x. length-list_below (size_of a * size_of b) _)
       (does-tree Wht a (power_mod m w (size_of b)) formed.1 tt)
       (does-tree Wht b (power_mod m w (size_of a)) formed.2 tt)

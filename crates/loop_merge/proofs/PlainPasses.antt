@@ -7,6 +7,7 @@ use Rattle.std.proofs.lemmas.List.Elements.{All-cons, All-head, All-nil, All-tai
 use Rattle.loop_merge.proofs.AloneOwns.{shared-first}
 use Rattle.loop_merge.specs.PlainPasses.{ArePlainPasses, IsPlainNest, IsPlainPass, in_order, plain_phase}
 use Rattle.sigma_spl.proofs.Walk.{and-left}
+use Rattle.sigma_spl.proofs.Phases.{phase-append}
 use Rattle.sigma_spl.specs.Merge.{is_limited, is_multiplier_within, is_within, limits_of}
 use Rattle.sigma_spl.specs.Merged.{merged_on, phase_on}
 use Rattle.sigma_spl.specs.Nest.{PlainNest, nests_on, passes_on, store_place}
@@ -17,11 +18,6 @@ use Rattle.sigma_spl.specs.Shared.Running.{CanRunNest, MovesVectors}
 use Rattle.sigma_spl.specs.Work.{PlainWork, kernel, rows, horner, tile, copy}
 
 -- ---- the same passes in their order
-
-phase-append : (m n : ℕ) (ps qs : List (List PlainNest)) (x : List ℕ) →
-    phase_on m n (ps ++ qs) x ≡ phase_on m n qs (phase_on m n ps x)
-phase-append m n [] qs x = refl
-phase-append m n (p ∷ ps) qs x = phase-append m n ps qs (nests_on m n p x)
 
 ordered-on : (m n : ℕ) (ps : List (List PlainNest)) (x : List ℕ) → phase_on m n (in_order ps) x ≡ passes_on m n ps x
 ordered-on m n [] x = refl

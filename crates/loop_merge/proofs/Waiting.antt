@@ -6,8 +6,7 @@ use Rattle.index_fn.specs.Mapping.{Mapping}
 use Rattle.std.proofs.lemmas.List.{map-append, reverse-append, reverse-reverse}
 use Rattle.index_fn.specs.Index.{mapping_of}
 use Rattle.index_fn.specs.declared.Index.{Index}
-use Rattle.sigma_spl.specs.Merge.{Merging, Room, back_of, can_scatter, ended, from_end, most, settled, with_pass}
-use Rattle.sigma_spl.specs.Merge.{with_passes}
+use Rattle.sigma_spl.specs.Merge.{Room, back_of, can_scatter, ended, from_end, settled}
 use Rattle.sigma_spl.specs.Nest.{PlainNest}
 use Rattle.sigma_spl.specs.declared.nest.Nest.{Nest}
 use Rattle.loop_nests.specs.PassPlaces.Known.{AreSteps}

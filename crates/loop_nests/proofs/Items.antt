@@ -3,9 +3,9 @@ use Rattle.std.proofs.Common.{◌≡◌, ℕ, zero, suc, ◌+◌, ◌-◌, ◌*�
 use Rattle.std.proofs.Common.{◌++◌, length, inl, inr, subst}
 use Rattle.std.specs.Prelude.{All, map, slice_index}
 use Rattle.std.specs.List.{range_with_len}
-use Rattle.std.proofs.Math.Nat.{mul-le-mul, mul-le-mul_right}
+use Rattle.std.proofs.Math.Nat.{mul-le-mul_right}
 use Rattle.std.proofs.lemmas.List.FromFn.{map-range_with_len_more}
-use Rattle.std.proofs.lemmas.Bool.{cases_eq}
+use Rattle.std.proofs.lemmas.Bool.{cases_eq, and_from}
 use Rattle.std.proofs.lemmas.Bool.Decides.{nat_tests}
 use Rattle.std.proofs.lemmas.List.Elements.{All-nil, All-cons}
 use Rattle.perm_algebra.specs.Affine.{Sum, constant, variable, remainder}
@@ -17,13 +17,15 @@ use Rattle.sigma_spl.specs.Good.{AreBelow}
 use Rattle.sigma_spl.specs.Limits.{AreSeveral, HasRows}
 use Rattle.sigma_spl.specs.Merge.{items_in, items_out, one_loop}
 use Rattle.sigma_spl.specs.Work.{PlainWork, kernel, rows, horner, tile, copy, work_size}
-use Rattle.sigma_spl.proofs.Small.{HasCounts, max-lt, divided-true}
-use Rattle.sigma_spl.proofs.Within.{IsSmall, constant-small, small-true, both-true}
+use Rattle.sigma_spl.proofs.Small.{max-lt, divided-true}
+use Rattle.sigma_spl.proofs.Within.{IsSmall, constant-small, small-true}
+use Rattle.sigma_spl.proofs.Limited.{turn-fits, counts-first}
+use Rattle.sigma_spl.proofs.Fitting.{le-times}
 use Rattle.operators.specs.declared.tensor_paths.Tensor.TheVariants.{Blocks, Columns}
 use Rattle.operators.specs.TensorPaths.Path.{Path, count_of, size_under}
 use Rattle.loop_nests.specs.NewNests.{CanMove}
 use Rattle.loop_nests.specs.Placed.{AllCanPlace, CanPlace}
-use Rattle.loop_nests.proofs.Naming.{can-place, le-mul_left}
+use Rattle.loop_nests.proofs.Naming.{can-place}
 
 -- ---- items
 
@@ -64,12 +66,6 @@ variable-item n cs v two is =
       small = refl;
     }
 
-turn-fits : (n c : ℕ) → n ≤ 2 ^ 20 → c ≤ 2 ^ 20 → (n - 1) * (c - 1) + (n - 1) < 2 ^ 64
-turn-fits n c low high =
-    let first : n - 1 ≤ 2 ^ 20 = omega (arith, low) in
-    let second : c - 1 ≤ 2 ^ 20 = omega (arith, high) in
-    let most : (n - 1) * (c - 1) ≤ 2 ^ 20 * 2 ^ 20 = mul-le-mul first second in omega (arith, most, low)
-
 -- the last item first
 turn-item : (n : ℕ) (cs : ℕ → ℕ) (v : ℕ) → 2 ≤ n → n ≤ 2 ^ 20 → cs v ≡ n →
     IsSmall 64 n cs (remainder 1 (variable (n - 1) v (constant (n - 1))) n (constant 0))
@@ -81,10 +77,10 @@ turn-item n cs v two low is =
       levels = omega arith;
       top = omega (arith, two);
       peak = max-lt 1 0 n (omega arith) (omega arith);
-      small = both-true _ _
+      small = and_from _ _
           (divided-true cs 1 (variable (n - 1) v (constant (n - 1))) n
           (omega arith) (omega arith) (omega (arith, two)) (omega (arith, low)) (omega (arith, low)) word)
-          (both-true _ _ (both-true _ _ last last) refl);
+          (and_from _ _ (and_from _ _ last last) refl);
     }
 
 loaded-items : (depth : ℕ) (cs : ℕ → ℕ) (w : PlainWork) → HasRows w → work_size w ≤ 2 ^ 20 →
@@ -109,10 +105,10 @@ stored-items depth cs (copy n) long high is = range-items n cs 0 n high (omega a
 
 pub low-of : (path : Path) (n : ℕ) → AreSeveral path → size_under path n ≤ 2 ^ 20 → n ≤ 2 ^ 20
 low-of [] n several high = high
-low-of (Blocks c ∷ path) n several high = let within = le-mul_left c (size_under path n) (omega (arith, several.0)) in low-of path n several.1 (omega (arith, within, high))
+low-of (Blocks c ∷ path) n several high = let within = le-times c (size_under path n) (omega (arith, several.0)) in low-of path n several.1 (omega (arith, within, high))
 low-of (Columns c ∷ path) n several high =
     let turned : size_under path n * c ≡ c * size_under path n = omega arith in
-    let within = le-mul_left c (size_under path n) (omega (arith, several.0)) in low-of path n several.1 (omega (arith, within, turned, high))
+    let within = le-times c (size_under path n) (omega (arith, several.0)) in low-of path n several.1 (omega (arith, within, turned, high))
 
 -- a path is shorter than what it makes
 pub length-below : (path : Path) (n : ℕ) → AreSeveral path → 0 < n → length path < size_under path n
@@ -121,11 +117,6 @@ length-below (Blocks c ∷ path) n several some = let more = mul-le-mul_right (s
 length-below (Columns c ∷ path) n several some =
     let turned : size_under path n * c ≡ c * size_under path n = omega arith in
     let more = mul-le-mul_right (size_under path n) several.0 in omega (arith, more, turned, length-below path n several.1 some)
-
-pub counts-from : (path : Path) (d : ℕ) (cs : ℕ → ℕ) (more : List ℕ) →
-    ((i : ℕ) → cs (d + i) ≡ slice_index (map count_of path ++ more) i) → HasCounts path d cs
-counts-from [] d cs more is = tt
-counts-from (t ∷ path) d cs more is = (ap cs (omega arith) ∙ is 0, counts-from path (d + 1) cs more (λ i. ap cs (omega arith) ∙ is (suc i)))
 
 -- what the variables of a new nest run below: those of the path's loops, and the two of work on n words
 abbrev limits : Path → ℕ → ℕ → ℕ
@@ -147,7 +138,7 @@ named-each path n [] several some high h = tt
 named-each path n (e ∷ es) several some high h =
     let cs = limits path n in
     let short = length-below path n several some in
-    let counted = counts-from path 0 cs (n ∷ n ∷ []) (λ i. ap cs (omega arith)) in (
+    let counted = counts-first path 0 cs (n ∷ n ∷ []) (λ i. ap cs (omega arith)) in (
       can-place 64 cs path n 0 e several counted some high (omega (arith, short, high)) h.0,
       named-each path n es several some high h.1,
     )
@@ -193,13 +184,6 @@ loop_several n some =
     elim (cases_eq n 1) [
       | inl one ↦ let is : one_loop n ≡ [] = grind (arith, nat_tests) in subst AreSeveral (sym is) tt
       | inr several ↦ let is : one_loop n ≡ Blocks n ∷ [] = grind (arith, nat_tests) in subst AreSeveral (sym is) (omega (arith, some, several), tt)
-    ]
-
-pub loop_size : (n : ℕ) → size_under (one_loop n) 1 ≡ n
-loop_size n =
-    elim (cases_eq n 1) [
-      | inl one ↦ let is : one_loop n ≡ [] = grind (arith, nat_tests) in ap (λ p. size_under p 1) is ∙ sym one
-      | inr several ↦ let is : one_loop n ≡ Blocks n ∷ [] = grind (arith, nat_tests) in ap (λ p. size_under p 1) is ∙ omega arith
     ]
 
 -- ---- values of a function

@@ -3,7 +3,6 @@ use Rattle.std.proofs.Common.{◌≡◌, ℕ, suc, ◌+◌, ◌-◌, ◌^◌, �
 use Rattle.std.proofs.Common.{Option, Some, None}
 use Rattle.std.specs.Prelude.{All, map, slice_index, nat_lt, nat_le, ◌&&◌}
 use Rattle.std.specs.List.{list_all}
-use Rattle.std.proofs.lemmas.Bool.Decides.{nat_tests}
 use Rattle.std.proofs.lemmas.List.Elements.{All-nil, All-cons}
 use Rattle.perm_algebra.specs.Affine.{Sum, constant, variable, remainder, quotient, top, peak, levels, parts, joined}
 use Rattle.perm_algebra.specs.Room.{HasCounts, IsReady}
@@ -15,28 +14,14 @@ use Rattle.sigma_spl.specs.Nest.{PlainMultiplier, PlainNest}
 use Rattle.sigma_spl.specs.Work.{work_size}
 use Rattle.sigma_spl.proofs.Small.{renumbered-small, behind-small}
 use Rattle.sigma_spl.proofs.Walk.{and-left, and-right}
-use Rattle.sigma_spl.proofs.Within.{IsSmall}
+use Rattle.sigma_spl.proofs.Limited.{lt-true, le-true, tested, counts-first}
 use Rattle.operators.specs.TensorPaths.Path.{Path, count_of, size_under}
 use Rattle.loop_nests.specs.Ready.{AreReady, IsReadyMultiplier, IsReadyNest}
 use Rattle.loop_nests.specs.Lifted.{AreCounted, AreRaised, CanLift, CanRaise, IsCounted}
 use Rattle.loop_nests.proofs.Naming.{can-place, constant-le-top}
-use Rattle.loop_nests.proofs.Items.{counts-from, low-of, length-below}
+use Rattle.loop_nests.proofs.Items.{low-of, length-below}
 
 -- ---- from tests
-
-le-true : (a b : ℕ) → nat_le a b ≡ true → a ≤ b
-le-true a b h = grind (arith, nat_tests)
-
-lt-true : (a b : ℕ) → nat_lt a b ≡ true → a < b
-lt-true a b h = grind (arith, nat_tests)
-
-tested : (room n : ℕ) (cs : ℕ → ℕ) (e : Sum) → is_limited room n cs e ≡ true → IsSmall room n cs e
-tested room n cs e h =
-    let first = nat_le (parts e) room && nat_le (levels e) 64 in
-    let bounds = nat_lt (top e cs) n && nat_lt (peak e) n in
-    let one = and-left first (bounds && are_small cs e) h in
-    let two = and-right first (bounds && are_small cs e) h in
-    let three = and-left bounds (are_small cs e) two in
     record {
       parts = le-true _ _ (and-left (nat_le (parts e) room) _ one);
       levels = le-true _ _ (and-right (nat_le (parts e) room) _ one);
@@ -67,7 +52,7 @@ module _ (room part n before : ℕ) (path : Path) (z : PlainNest) (several : Are
       let small = tested room part (limits_of z) e h in
       let higher = renumbered-small k room part (limits_of z) cs e (past path counts) small in
       let behind = behind-small before room part n cs (renumbered k e) fits low higher in
-      let counted = counts-from path 0 cs counts (λ i. ap cs (omega arith)) in
+      let counted = counts-first path 0 cs counts (λ i. ap cs (omega arith)) in
       let short = length-below path n several some in
       let tops = higher.top in
       record {

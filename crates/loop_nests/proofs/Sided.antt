@@ -1,12 +1,13 @@
 -- Passes side by side are of words where both sides are.
 use Rattle.std.proofs.Common.{◌≡◌, ℕ, ◌+◌, arith, subst, List, [], ◌∷◌, ◌++◌, length, length-append, Option, Some, None}
 use Rattle.std.specs.Prelude.{map}
-use Rattle.perm_algebra.specs.Affine.{Sum, constant, variable, remainder, quotient, IsSound, joined}
+use Rattle.perm_algebra.specs.Affine.{Sum, constant, variable, remainder, quotient, joined}
 use Rattle.perm_algebra.specs.Room.{HasCounts, IsReady}
 use Rattle.perm_algebra.proofs.Values.{sound-joined}
 use Rattle.sigma_spl.specs.Merge.{place_sum, copying, renumbered, renumbered_places, lifted, side, sides}
 use Rattle.sigma_spl.specs.Nest.{PlainMultiplier, PlainNest}
 use Rattle.sigma_spl.proofs.Natural.{sound-place_sum}
+use Rattle.sigma_spl.proofs.Sides.{sound-renumbered}
 use Rattle.operators.specs.TensorPaths.Path.{Path, count_of}
 use Rattle.loop_nests.specs.Ready.{AreReady, IsReadyMultiplier, IsReadyNest, IsReadyPass, AreReadyPasses}
 use Rattle.loop_nests.proofs.Readies.{counts-joined, counts-place, depth-is, ready-copying}
@@ -17,14 +18,8 @@ counts-renumbered k n (variable f d rest) h = (omega (arith, h.0), counts-renumb
 counts-renumbered k n (remainder f of m rest) h = (counts-renumbered k n of h.0, counts-renumbered k n rest h.1)
 counts-renumbered k n (quotient f of m rest) h = (counts-renumbered k n of h.0, counts-renumbered k n rest h.1)
 
-sound-later : (k : ℕ) (e : Sum) → IsSound e → IsSound (renumbered k e)
-sound-later k (constant c) h = tt
-sound-later k (variable f d rest) h = sound-later k rest h
-sound-later k (remainder f of m rest) h = (h.0, sound-later k of h.1, sound-later k rest h.2)
-sound-later k (quotient f of m rest) h = (h.0, sound-later k of h.1, sound-later k rest h.2)
-
 ready-later : (k n : ℕ) (e : Sum) → IsReady n e → IsReady (k + n) (renumbered k e)
-ready-later k n e h = record { counts = counts-renumbered k n e h.counts; sound = sound-later k e h.sound }
+ready-later k n e h = record { counts = counts-renumbered k n e h.counts; sound = sound-renumbered k e h.sound }
 
 module _ (path : Path) (size before : ℕ) where
   abbrev up : Sum → Sum

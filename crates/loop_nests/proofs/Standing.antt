@@ -1,9 +1,9 @@
 -- Passes of two parts can stand side by side.
-use Rattle.std.proofs.Common.{◌≡◌, ℕ, ◌+◌, ◌^◌, ◌<◌, ◌≤◌, Bool, true, arith, refl, sym, ap, ap₂, ◌∙◌, List, [], ◌∷◌}
+use Rattle.std.proofs.Common.{◌≡◌, ℕ, ◌+◌, ◌^◌, ◌<◌, ◌≤◌, true, arith, refl, sym, ap, ap₂, ◌∙◌, List, [], ◌∷◌}
 use Rattle.std.proofs.Common.{◌++◌, length, inl, inr, subst, length-append, append-nil, Option, Some, None}
 use Rattle.std.specs.Prelude.{map, reverse, Vec, ◌&&◌}
 use Rattle.std.specs.List.{list_all}
-use Rattle.std.proofs.lemmas.Bool.{cases_eq}
+use Rattle.std.proofs.lemmas.Bool.{cases_eq, and_from}
 use Rattle.std.proofs.lemmas.Bool.Decides.{nat_tests}
 use Rattle.std.proofs.lemmas.List.{map-append, reverse-append, reverse-reverse}
 use Rattle.index_fn.specs.Index.{mapping_of}
@@ -19,7 +19,8 @@ use Rattle.sigma_spl.specs.Views.{plain_nest}
 use Rattle.sigma_spl.specs.declared.nest.Nest.{Nest}
 use Rattle.sigma_spl.specs.Work.{copy}
 use Rattle.sigma_spl.proofs.Walk.{and-left, and-right}
-use Rattle.sigma_spl.proofs.Within.{both-true, constant-small, limited}
+use Rattle.sigma_spl.proofs.Within.{constant-small, limited}
+use Rattle.sigma_spl.proofs.Limited.{both-within}
 use Rattle.operators.specs.declared.tensor_paths.Tensor.TheVariants.{Blocks}
 use Rattle.operators.specs.TensorPaths.Path.{Path, size_under}
 use Rattle.loop_nests.specs.Ready.{AreReadyPasses, IsReadyNest, IsReadyPass}
@@ -39,22 +40,19 @@ record IsPlain (k : ℕ) (z : PlainNest) : Type 0 where
   within : is_within 64 k (z ∷ []) ≡ true
   ready : IsReadyNest z
 
-both-within : (a b : Bool) → a ≡ true → b ≡ true → (((a && b) && true) && true) ≡ true
-both-within a b h g = both-true _ _ (both-true _ _ (both-true _ _ h g) refl) refl
-
 copies-plain : (k : ℕ) → 0 < k → k ≤ 2 ^ 20 → IsPlain k (copies (one_loop k))
 copies-plain k some high =
     elim (cases_eq k 1) [
       | inl one ↦
           let is : one_loop k ≡ [] = grind (arith, nat_tests) in
-          let item = both-true _ _ (limited 64 k (limits_of (copies [])) (constant 0) (constant-small 64 k (limits_of (copies [])) 0 some high)) refl in
+          let item = and_from _ _ (limited 64 k (limits_of (copies [])) (constant 0) (constant-small 64 k (limits_of (copies [])) 0 some high)) refl in
           subst (λ p. IsPlain k (copies p)) (sym is)
           (record { within = both-within _ _ item item; ready = record { words = tt; gathers = (record { counts = tt; sound = tt }, tt); scatters = (record { counts = tt; sound = tt }, tt); multiplier = tt } })
       | inr several ↦
           let is : one_loop k ≡ Blocks k ∷ [] = grind (arith, nat_tests) in
           let cs : ℕ → ℕ = limits_of (copies (Blocks k ∷ [])) in
           let small = variable-item k cs 0 (omega (arith, some, several)) refl in
-          let item = both-true _ _ (limited 64 k cs (variable 1 0 (constant 0)) small) refl in
+          let item = and_from _ _ (limited 64 k cs (variable 1 0 (constant 0)) small) refl in
           subst (λ p. IsPlain k (copies p)) (sym is)
           (record {
             within = both-within _ _ item item;
@@ -70,7 +68,7 @@ module _ (room part n before : ℕ) (path : Path) (several : AreSeveral path) (s
   lift-all [] h ready = tt
   lift-all (z ∷ zs) h ready =
       let here = (list_all (is_limited room part (limits_of z)) z.gathers && list_all (is_limited room part (limits_of z)) z.scatters) && is_multiplier_within room (limits_of z) z.multiplier in (
-        can-lift room part n before path z several some high fits (both-true here true (and-left here _ h) refl) ready.0,
+        can-lift room part n before path z several some high fits (and_from here true (and-left here _ h) refl) ready.0,
         lift-all zs (and-right here _ h) ready.1,
       )
 

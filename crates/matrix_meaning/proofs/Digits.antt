@@ -1,11 +1,8 @@
 -- Entries by the first digits of places and the others.
-use Rattle.std.proofs.Common.{◌≡◌, ℕ, ◌*◌, ◌/◌, ◌%◌, ◌<◌, ◌≤◌, arith, refl, sym, ap, subst, ◌∙◌, List, [], ◌∷◌, length}
+use Rattle.std.proofs.Common.{◌≡◌, ℕ, ◌*◌, ◌%◌, ◌<◌, ◌≤◌, arith, refl, sym, ap, subst, ◌∙◌, List, [], ◌∷◌}
 use Rattle.std.proofs.Common.{mod-lt, mul_comm}
 use Rattle.std.proofs.Math.Nat.{mul-one, mul-le-mul}
-use Rattle.ring_mod.specs.Residue.{product_mod}
-use Rattle.matrix_meaning.specs.declared.Kind.{Kind}
-use Rattle.matrix_meaning.specs.Dimensions.{entry_in, product_of}
-use Rattle.matrix_meaning.specs.Kind.{entry_of}
+use Rattle.matrix_meaning.specs.Dimensions.{product_of}
 use Rattle.operators.proofs.Lists.{factor_positive}
 
 -- the product by the first size

@@ -1,13 +1,10 @@
 -- The law of the inverse transform, entry by entry.
-use Rattle.std.proofs.Common.{◌≡◌, ℕ, List, ◌+◌, ◌-◌, ◌*◌, ◌%◌, arith, sym, ap, subst, ◌∙◌, mul_assoc, mul_comm}
+use Rattle.std.proofs.Common.{◌≡◌, ℕ, List, ◌+◌, ◌-◌, ◌*◌, ◌%◌, arith, sym, ap, ◌∙◌, mul_assoc, mul_comm}
 use Rattle.std.specs.Prelude.{slice_index}
 use Rattle.std.proofs.lemmas.Nat.{mul-mod_first, mul-mod_second}
-use Rattle.std.specs.Int.{IsGcd}
 use Rattle.ring_mod.specs.Inverse.{inverse_mod}
 use Rattle.ring_mod.specs.Residue.{power_mod}
 use Rattle.ring_mod.proofs.Powers.{power_mod_of_power, power_mod-drop, power_mod-zero}
-use Rattle.matrix_meaning.specs.declared.Request.{Request}
-use Rattle.matrix_meaning.specs.Valid.{HasUnit, IsInRange}
 use Rattle.matrix_meaning.specs.declared.Kind.TheVariants.{Dft, Idft}
 use Rattle.matrix_meaning.specs.Kind.{entry_of, inverse_root}
 use Rattle.matrix_meaning.specs.Laws.{InverseTransform, InverseRoot}

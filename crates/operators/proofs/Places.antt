@@ -59,7 +59,7 @@ twiddle_exponent_below s p positive =
     le_trans (mul-le-mul_left (p / s) (le_of_lt inside)) (div-mul-le_self p s)
 
 -- one more item at the end
-list_below-suc : (n : ℕ) (f : ℕ → ℕ) → list_below (suc n) f ≡ list_below n f ++ f n ∷ []
+pub list_below-suc : (n : ℕ) (f : ℕ → ℕ) → list_below (suc n) f ≡ list_below n f ++ f n ∷ []
 list_below-suc n f = ap (λ k. list_below k f) (sym (add-one n)) ∙ map-range_with_len_more f 0 n n (omega arith)
 
 -- a list of a + b items, by its first a and its last b

@@ -25,24 +25,24 @@ sum_below-only (suc n) t f below others =
           omega (arith, sum_below-same n f (λ _. 0) (λ i within. others i (omega arith) (λ e. absurd (omega arith))), sum_below-zeros n, ap f last)
     ]
 
-taken : (a p x : ℕ) → a ≡ p → (if a == p then x else 0) ≡ x
-taken a p x e = grind (arith, nat_tests)
+pub hit : (a p x : ℕ) → a ≡ p → (if a == p then x else 0) ≡ x
+hit a p x e = grind (arith, nat_tests)
 
-left : (a p x : ℕ) → a ≢ p → (if a == p then x else 0) ≡ 0
-left a p x h = grind (arith, nat_tests)
+pub miss : (a p x : ℕ) → a ≢ p → (if a == p then x else 0) ≡ 0
+miss a p x h = grind (arith, nat_tests)
 
 -- a scatter gives the item i at the place f i, where f takes no other item there
 scatter_at : (n d : ℕ) (f : ℕ → ℕ) (x : List ℕ) (p i : ℕ) → p < n → i < d → f i ≡ p →
     ((j : ℕ) → j < d → j ≢ i → f j ≢ p) → slice_index (scatter n d f x) p ≡ slice_index x i
 scatter_at n d f x p i place within here others =
     at-list_below n _ p place
-    ∙ sum_below-only d i _ within (λ j inside apart. left (f j) p (slice_index x j) (others j inside apart))
-    ∙ taken (f i) p (slice_index x i) here
+    ∙ sum_below-only d i _ within (λ j inside apart. miss (f j) p (slice_index x j) (others j inside apart))
+    ∙ hit (f i) p (slice_index x i) here
 
 scatter_off : (n d : ℕ) (f : ℕ → ℕ) (x : List ℕ) (p : ℕ) → p < n → ((j : ℕ) → j < d → f j ≢ p) →
     slice_index (scatter n d f x) p ≡ 0
 scatter_off n d f x p place others =
-    at-list_below n _ p place ∙ sum_below-same d _ (λ _. 0) (λ j inside. left (f j) p (slice_index x j) (others j inside)) ∙ sum_below-zeros d
+    at-list_below n _ p place ∙ sum_below-same d _ (λ _. 0) (λ j inside. miss (f j) p (slice_index x j) (others j inside)) ∙ sum_below-zeros d
 
 pub gather_of_gather : GatherOfGather
 gather_of_gather n d f g x inside = list_below-same d _ _ (λ i within. at-list_below n _ (f i) (inside i within))
@@ -67,8 +67,8 @@ scatter_of_scatter n k d f g x inside =
     ∙ sum_below-swap k d (λ q i. if f q == p then (if g i == q then slice_index x i else 0) else 0)
     ∙ sum_below-same d _ _ (λ i within.
     sum_below-only k (g i) _ (inside i within) (λ q _ apart.
-    ap (λ y. if f q == p then y else 0) (left (g i) q (slice_index x i) (λ e. apart (sym e))) ∙ choice-zero (f q == p))
-    ∙ ap (λ y. if f (g i) == p then y else 0) (taken (g i) (g i) (slice_index x i) refl)))
+    ap (λ y. if f q == p then y else 0) (miss (g i) q (slice_index x i) (λ e. apart (sym e))) ∙ choice-zero (f q == p))
+    ∙ ap (λ y. if f (g i) == p then y else 0) (hit (g i) (g i) (slice_index x i) refl)))
 
 pub tensors_as_loops : TensorsAsLoops
 tensors_as_loops n k a x = (

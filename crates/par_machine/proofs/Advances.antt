@@ -8,10 +8,11 @@ use Rattle.std.proofs.lemmas.Option.{slice_get-get_or}
 use Rattle.icode.specs.declared.action.Action.{Action}
 use Rattle.icode.specs.declared.action.Action.TheVariants.{Zero}
 use Rattle.icode.specs.declared.action.Counts.{Counts}
-use Rattle.icode.specs.Machine.{Code, IsCode, State, Local, acts, next_action, acted, moved_on, turn, turn_with, run}
-use Rattle.icode.specs.Machine.{completion, finished, is_open, first_open, phases_after, none_done, effect, counted}
+use Rattle.icode.specs.Machine.{Code, IsCode, State, acts, next_action, acted, turn, turn_with, run}
+use Rattle.icode.specs.Machine.{completion, is_open, first_open, phases_after, none_done, counted}
 use Rattle.icode.proofs.Completion.{completion_step}
 use Rattle.icode.proofs.Runs.{open_at}
+use Rattle.icode.proofs.Open.{run-append}
 use Rattle.par_machine.specs.declared.phase.Routine.{Routine}
 use Rattle.par_machine.specs.Hand.{step_at, action_of_step}
 use Rattle.par_machine.specs.Played.{Playing, played, played_one}
@@ -181,10 +182,6 @@ module _ (f : Frame) (q : ℕ) (r : Routine) where
 -- The turns that finish a list
 
 module _ (code : Code) (is : IsCode code) where
-  run_both : (xs ys : List ℕ) (s : State) → run code s (xs ++ ys) ≡ run code (run code s xs) ys
-  run_both [] ys s = refl
-  run_both (q ∷ xs) ys s = run_both xs ys (turn code s q)
-
   -- where no processor before has an action left
   rest_turns : (n q : ℕ) (s : State) → length s.done ≡ code.procs → q < code.procs → s.phase < length code.lists →
       slice_index s.done q + n ≤ length (acts code s.phase q) →
@@ -219,6 +216,6 @@ module _ (code : Code) (is : IsCode code) where
       record {
         inside = inside;
         left = left;
-        same = sym (ap (run code s) parts ∙ run_both (replicate n q) (completion code after) s);
+        same = sym (ap (run code s) parts ∙ run-append (replicate n q) (completion code after) s);
         fewer = omega (arith, left, ap length parts, length-append (replicate n q) (completion code after), length-replicate n q);
       }

@@ -1,7 +1,7 @@
 -- Code that is appended statement by statement.
 use Rattle.std.proofs.Common.{◌≡◌, ℕ, zero, suc, ◌+◌, ◌-◌, ◌*◌, ◌<◌, ◌≤◌, List, [], ◌∷◌, ◌++◌, true, length, take}
 use Rattle.std.proofs.Common.{flat_map, get_or, All, refl, sym, ap, ◌∙◌, subst, arith, ⊎_elim, length-append}
-use Rattle.std.proofs.Common.{append_assoc, ltb-true}
+use Rattle.std.proofs.Common.{append_assoc, ltb-true, append-nil}
 use Rattle.std.specs.List.{range_with_len}
 use Rattle.std.proofs.lemmas.Bool.{cases_lt}
 use Rattle.std.proofs.lemmas.List.{take_more}
@@ -18,10 +18,6 @@ use Rattle.par_machine.specs.declared.cursor.Instruction.TheVariants.{Act, Again
 use Rattle.par_machine.specs.Instruction.{IsClosed, IsWithin}
 use Rattle.par_machine.specs.Plays.{Plays, IsCompiled}
 use Rattle.par_machine.proofs.Plays.{plays_none, plays_both, plays_same, plays_act, plays_loop}
-
-append_nil : {X : Type 0} (xs : List X) → xs ++ [] ≡ xs
-append_nil [] = refl
-append_nil (x ∷ xs) = ap (λ ys. x ∷ ys) (append_nil xs)
 
 all_more : {X : Type 0} (P : X → Type 0) (xs : List X) (x : X) → All P xs → P x → All P (xs ++ x ∷ [])
 all_more P [] x all px zero d lt = px
@@ -41,7 +37,7 @@ pub compiled_none : (m depth : ℕ) (code : List Instruction) → IsCompiled m d
 compiled_none m depth code =
     record {
       more = [];
-      appended = sym (append_nil code);
+      appended = sym (append-nil code);
       closed = λ h. h;
       within = λ h. h;
       plays = λ p rest. plays_none p (code ++ rest) (length code) depth;
@@ -176,7 +172,7 @@ compiled_loop m depth count body s a b c is pos deep h long e =
 body_steps_more : (p : PlainProgram) (xs : List Stmt) (x : Stmt) (vs : List ℕ) (q : ℕ) →
     steps_of_body p (plain_body xs) vs q ++ steps_of_stmt p (plain_stmt x) vs q
     ≡ steps_of_body p (plain_body (xs ++ x ∷ [])) vs q
-body_steps_more p [] x vs q = sym (append_nil (steps_of_stmt p (plain_stmt x) vs q))
+body_steps_more p [] x vs q = sym (append-nil (steps_of_stmt p (plain_stmt x) vs q))
 body_steps_more p (y ∷ xs) x vs q =
     append_assoc (steps_of_stmt p (plain_stmt y) vs q) (steps_of_body p (plain_body xs) vs q) (steps_of_stmt p (plain_stmt x) vs q)
     ∙ ap (λ zs. steps_of_stmt p (plain_stmt y) vs q ++ zs) (body_steps_more p xs x vs q)

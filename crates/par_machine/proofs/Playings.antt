@@ -19,8 +19,9 @@ use Rattle.par_machine.specs.Performed.{HasRoom}
 use Rattle.par_machine.specs.Played.{Playing, CanPlay, played_one, played}
 use Rattle.par_machine.specs.Position.{Position, next_position, positions}
 use Rattle.icode.proofs.Below.{effect_memory_below, effect_registers_below}
+use Rattle.icode.proofs.CodeLaws.Placing.{length-with_words}
 use Rattle.par_machine.proofs.Executed.{room_less, room_after}
-use Rattle.par_machine.proofs.Steps.{length-with_words, length-memory_after}
+use Rattle.par_machine.proofs.Steps.{length-memory_after}
 
 pub playing_same : (m m' r r' : List ℕ) (p p' : Position) (c c' : Counts) → m ≡ m' → r ≡ r' → p ≡ p' → c ≡ c' → ◌≡◌ {A = Playing} (record { memory = m; registers = r; place = p; counts = c }) (record { memory = m'; registers = r'; place = p'; counts = c' })
 playing_same m m' r r' p p' c c' em er ep ec =

@@ -11,7 +11,7 @@ use Rattle.icode.specs.declared.action.Action.{Action}
 use Rattle.icode.specs.declared.action.Action.TheVariants.{Store}
 use Rattle.icode.specs.declared.action.Counts.{Counts}
 use Rattle.icode.specs.Machine.{Code, State, Local, acts, next_action, acted, moved_on, turn, turn_with, is_open}
-use Rattle.icode.specs.Machine.{first_open, phases_after, none_done, with_words, memory_after, register_of, effect}
+use Rattle.icode.specs.Machine.{first_open, phases_after, none_done, memory_after, register_of, effect}
 use Rattle.icode.specs.Machine.{value_put, register_put, counted, counts_of, counts_so_far, executed}
 use Rattle.icode.proofs.Completion.{first_opens}
 use Rattle.icode.proofs.End.{none_done-zero}
@@ -21,6 +21,7 @@ use Rattle.par_machine.specs.Position.{Position, next_position, first_position}
 use Rattle.par_machine.specs.Frame.{Frame, Stand, code_of_frame, places_in, IsReady, IsRunning}
 use Rattle.icode.proofs.Residues.{AreBelow}
 use Rattle.icode.proofs.Below.{effect_memory_below, effect_registers_below}
+use Rattle.icode.proofs.CodeLaws.Placing.{length-with_words}
 use Rattle.par_machine.proofs.Executed.{counts_more, executed_moved}
 use Rattle.par_machine.proofs.Frames.{length-positions, places_at, places_first, place_after, is_code, count_lists}
 use Rattle.par_machine.proofs.Frames.{acts_places, IsHere, hand_place}
@@ -38,10 +39,6 @@ moved_on_is code s = at (is_open code s.phase s.done)
     at : (b : Bool) → cond b s (record { memory = s.memory; registers = s.registers; phase = first_open code (phases_after code s.phase) (s.phase + 1); done = none_done code }) ≡ record { memory = s.memory; registers = s.registers; phase = cond b s.phase (first_open code (phases_after code s.phase) (s.phase + 1)); done = cond b s.done (none_done code) }
     at true = refl
     at false = refl
-
-pub length-with_words : (vs xs : List ℕ) (i : ℕ) → length (with_words xs i vs) ≡ length xs
-length-with_words [] xs i = refl
-length-with_words (v ∷ vs) xs i = length-with_words vs (slice_set xs i v) (i + 1) ∙ length-set xs i v
 
 pub length-memory_after : (lanes : ℕ) (action : Action) (s : Local) →
     length (memory_after lanes action s) ≡ length s.memory

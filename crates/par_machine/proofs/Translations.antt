@@ -1,8 +1,8 @@
 -- A new machine runs its program.
 use Rattle.std.proofs.Common.{◌≡◌, ℕ, zero, suc, ◌+◌, ◌^◌, ◌<◌, ◌≤◌, List, [], ◌∷◌, ◌++◌, length, map, take, replicate}
 use Rattle.std.proofs.Common.{get_or, Option, Some, None, All, Vec, Global, refl, sym, ap, ap₂, ◌∙◌, subst, arith}
-use Rattle.std.proofs.Common.{le_trans}
-use Rattle.std.specs.Prelude.{slice_get, slice_index, slice_index_or}
+use Rattle.std.proofs.Common.{le_trans, append-nil}
+use Rattle.std.specs.Prelude.{slice_get, slice_index_or}
 use Rattle.std.specs.List.{range_with_len}
 use Rattle.std.proofs.lemmas.List.{take_more, length-map, get_or-map}
 use Rattle.operators.specs.Sum.{sum_below}
@@ -15,6 +15,7 @@ use Rattle.icode.specs.Headers.{without_statements}
 use Rattle.icode.specs.Lengths.{len_of_body}
 use Rattle.icode.proofs.Headers.{bare_step, fits_bare}
 use Rattle.icode.proofs.Lengths.{body_length}
+use Rattle.icode.proofs.End.{slice_index-zeros}
 use Rattle.par_machine.specs.declared.cursor.Instruction.{Instruction}
 use Rattle.par_machine.specs.declared.cursor.Instruction.TheVariants.{Act, Again}
 use Rattle.par_machine.specs.declared.phase.Routine.{Routine}
@@ -24,16 +25,7 @@ use Rattle.par_machine.specs.Frame.{code_of_frame, places_of, lens_of, total, Is
 use Rattle.par_machine.specs.Plays.{seen, Plays, IsCompiled}
 use Rattle.par_machine.specs.Translated.{IsTranslated, AreTranslated}
 
-append_nil : {X : Type 0} (xs : List X) → xs ++ [] ≡ xs
-append_nil [] = refl
-append_nil (x ∷ xs) = ap (λ ys. x ∷ ys) (append_nil xs)
-
 -- One phase
-
-zeros_closed : (n k : ℕ) → slice_index (replicate n 0) k ≡ 0
-zeros_closed zero k = refl
-zeros_closed (suc n) zero = refl
-zeros_closed (suc n) (suc k) = zeros_closed n k
 
 starts : (p : PlainProgram) (code : List Instruction) (to len : ℕ) (body : PlainBody) (q : ℕ) →
     Plays p code 0 to 0 len (steps_of_body p body) → map (λ (place : Position). step_at p code q place)
@@ -53,11 +45,11 @@ translated p r body e h =
       closed = h.closed (λ k d lt. absurd (omega arith));
       within = h.within (λ k d lt. absurd (omega arith));
       plays = λ q.
-          let plays : Plays p code 0 (length code) 0 (len_of_body body) (steps_of_body p body) = subst (λ xs. Plays p xs 0 (length code) 0 (len_of_body body) (steps_of_body p body)) (append_nil code) (h.plays p []) in
+          let plays : Plays p code 0 (length code) 0 (len_of_body body) (steps_of_body p body) = subst (λ xs. Plays p xs 0 (length code) 0 (len_of_body body) (steps_of_body p body)) (append-nil code) (h.plays p []) in
           ap (λ n. map (λ (place : Position). step_at p code q place) (positions code n first_position)) e
           ∙ (starts p code (length code) (len_of_body body) body q plays
-          ∙ (plays.plays 0 q (replicate 64 0) refl (λ k le. zeros_closed 64 k)
-          ∙ append_nil (map (λ (s : Step). Some s) (steps_of_body p body [] q))));
+          ∙ (plays.plays 0 q (replicate 64 0) refl (λ k le. slice_index-zeros 64 k)
+          ∙ append-nil (map (λ (s : Step). Some s) (steps_of_body p body [] q))));
     }
 
 pub translated_more : (p : PlainProgram) (rs : List Routine) (r : Routine) (bodies : List PlainBody)

@@ -12,6 +12,7 @@ use Rattle.serde_json.specs.View.{items_view, view}
 use Rattle.serde_json.specs.declared.value.Value.{Value}
 use Rattle.tree_model.specs.Chosen.{CanDivideWhole, IsWholeLeast}
 use Rattle.tree_model.proofs.ChosenParts.{least_of_parts}
+use Rattle.tree_model.proofs.CostBounds.{sum_le_product}
 use Rattle.plan_cert.specs.declared.verdict.Verdict.{Verdict}
 use Rattle.plan_cert.specs.declared.verdict.Verdict.TheVariants.{Least, Unread, Wrong}
 use Rattle.plan_cert.specs.Certificate.{IsSmall}
@@ -75,18 +76,12 @@ last_cost n xs a b whole k others is e =
     let same : both.0 ≡ k = omega (arith, both.4, nothing) in
     both.2 ∙ ap Least same
 
-sum_by_product : (r s : ℕ) → 2 ≤ r → 2 ≤ s → r + s ≤ r * s
-sum_by_product r s two more =
-    let left : 2 * s ≤ r * s = mul-le-mul {n₁ = 2} {m₁ = s} {n₂ = r} {m₂ = s} two (omega arith) in
-    let right : 2 * r ≤ s * r = mul-le-mul {n₁ = 2} {m₁ = r} {n₂ = s} {m₂ = r} more (omega arith) in
-    omega (arith, left, right)
-
 -- the cost of both is small
 both_small : (r s x y : ℕ) → 2 ≤ r → 2 ≤ s → IsSmall r x → IsSmall s y → IsSmall (r * s) (s * x + r * y)
 both_small r s x y two more first others =
     let left : s * x ≤ s * (2001 * (r * r)) = mul-le-mul_left s first in
     let right : r * y ≤ r * (2001 * (s * s)) = mul-le-mul_left r others in
-    let both : r * s * (r + s) ≤ r * s * (r * s) = mul-le-mul_left (r * s) (sum_by_product r s two more) in
+    let both : r * s * (r + s) ≤ r * s * (r * s) = mul-le-mul_left (r * s) (sum_le_product r s two more) in
     omega (arith, left, right, both)
 
 -- a small cost is a `u64`

@@ -12,13 +12,13 @@ use Rattle.tree_model.specs.declared.tree.Rule.{Rule}
 use Rattle.tree_model.specs.Breakdown.{Breakdown, leaf, node, size_of}
 use Rattle.tree_model.specs.Cost.{cost_of}
 use Rattle.tree_model.specs.Order.{order_of}
-use Rattle.tree_model.specs.Admissible.{AllowsLeafAt, CanDivide, IsCandidate, IsChosen, IsChosenFor, IsLeast}
+use Rattle.tree_model.specs.Admissible.{AllowsLeafAt, CanDivide, IsCandidate, IsChosen, IsChosenFor}
 use Rattle.tree_model.specs.Admissible.{IsLeastFor}
 use Rattle.tree_model.proofs.OrderLaws.{order_flip}
 use Rattle.tree_model.proofs.Splits.{product_div, div_at_least_two}
 use Rattle.plan_search.specs.Search.{IsNoWorse, AnyTree, IsLeaf, HasLeft, HasLeftBelow, IsBestRule}
 use Rattle.plan_search.proofs.BestOf.{IsBestTree, best_node, none_by_rule, none_by_left, none_by_right}
-use Rattle.plan_search.proofs.Chosen.{chosen_of_tree, least_of_chosen}
+use Rattle.plan_search.proofs.Chosen.{chosen_of_tree}
 use Rattle.plan_search.proofs.Decisions.{decided_leaf, best_rule_of}
 use Rattle.plan_search.proofs.Existence.{some_tree, inner_tree}
 use Rattle.plan_search.proofs.NoWorse.{no_worse_itself, no_worse_trans}

@@ -18,22 +18,15 @@ use Rattle.tree_model.specs.Chosen.{SharesDimensions, whole_cost}
 use Rattle.tree_model.specs.Whole.{IsTreeOf}
 use Rattle.tree_model.specs.Cost.{is_plain}
 use Rattle.tree_model.proofs.ChosenParts.{chosen_of_parts}
-use Rattle.tree_model.proofs.SeveralParts.{first_part, rest_part}
+use Rattle.tree_model.proofs.SeveralParts.{first_part, rest_part, plain_by}
 use Rattle.tree_model.proofs.Sharing.{divide_of_whole}
 use Rattle.tree_model.proofs.WholeTrees.{chosen_of_one, forward_dimensions}
 use Rattle.plan_search.proofs.BestTrees.{chosen_of_shape}
 
 -- ---- requests that divide
 
--- one processor and one lane have nothing to share
-divides_by : (c : Request) (ds : Dimensions) → is_plain c ≡ true → CanDivideBy c ds
-divides_by c One plain = inl plain
-divides_by c (Two a b) plain = inl plain
-divides_by c (Three a b d) plain = inl plain
-divides_by c (Four a b d e) plain = inl plain
-
 pub divides_plain : (c : Request) → is_plain c ≡ true → CanDivideWhole c
-divides_plain c plain = divides_by c c.dimensions plain
+divides_plain c plain = plain_by c c.dimensions plain
 
 pub rest_divides : (c : Request) → c.dimensions ≢ One → CanDivideWhole (rest_of c)
 rest_divides c several = divides_plain (rest_of c) (rest_part c several).plain

@@ -22,7 +22,7 @@ Answer = Result Request RequestFault
 -- ---- of any grammar
 
 -- a text spells one value
-judged_once : {S A : Type 0} (L : List S → A → Type 0) (text : List S) (r : Result A ℕ) (a b : A) → Judges L text r
+pub judged_once : {S A : Type 0} (L : List S → A → Type 0) (text : List S) (r : Result A ℕ) (a b : A) → Judges L text r
     → L text a → L text b → a ≡ b
 judged_once L text (Ok value) a b j p q = j.1 a p ∙ sym (j.1 b q)
 judged_once L text (Err left) a b j p q = absurd (j.1.nothing a p)

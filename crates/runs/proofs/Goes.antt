@@ -1,6 +1,6 @@
 -- Steps of a machine whose lines are written one by one.
 use Rattle.std.proofs.Common.{◌≡◌, ℕ, ◌+◌, List, [], ◌∷◌, ◌++◌, length, arith, sym, ap, ap₂, ◌∙◌, subst, refl}
-use Rattle.std.proofs.Common.{append_assoc, append-nil}
+use Rattle.std.proofs.Common.{append_assoc}
 use Rattle.std.specs.declared.option.Option.{Option}
 use Rattle.std.specs.Io.KnownBytes.{Appends}
 use Rattle.std.proofs.KnownBytes.{Appends-nil, Appends-trans}
@@ -8,7 +8,6 @@ use Rattle.std.proofs.lemmas.List.{length-append}
 use Rattle.io_edge.specs.Taken.{AppendsPrefix}
 use Rattle.icode.specs.declared.event.Event.{Event}
 use Rattle.icode.specs.Machine.{Code}
-use Rattle.runs.specs.Course.{PassesThrough}
 use Rattle.runs.specs.Faults.{FaultMet}
 use Rattle.runs.specs.Lines.{step_lines}
 use Rattle.runs.specs.Standing.{Standing}

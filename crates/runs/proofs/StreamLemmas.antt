@@ -1,12 +1,11 @@
 -- Vectors that come one by one.
-use Rattle.std.proofs.Common.{◌≡◌, ◌<◌, ◌≤◌, ◌+◌, ◌/◌, ◌%◌, ◌⊎◌, ℕ, suc, Bool, true, false, ◌&&◌, List, [], ◌∷◌, ◌++◌}
+use Rattle.std.proofs.Common.{◌≡◌, ◌<◌, ◌≤◌, ◌+◌, ◌/◌, ◌%◌, ◌⊎◌, ℕ, suc, Bool, true, false, List, [], ◌∷◌, ◌++◌}
 use Rattle.std.proofs.Common.{None, Some, Ok, Err, Result, OnOk, nat_lt, ◌==◌, ◌-◌, ◌≢◌, zero, length, take, drop, refl}
 use Rattle.std.proofs.Common.{sym, ap, ap₂, subst, ◌∙◌, arith, append_assoc, append-nil, length-append, cond, add_assoc}
 use Rattle.std.proofs.Common.{add-one, add-zero, slice_index, inl, inr}
 use Rattle.std.proofs.Math.Nat.{add-div_left, div-eq_of_lt, mod-eq_of_lt, add-mod_left}
 use Rattle.std.proofs.Math.Seq.{take-append_seam, take-append-add, drop-append_seam}
 use Rattle.std.proofs.KnownBytes.{Consumes-nil, Consumes-trans, Appends-trans}
-use Rattle.std.proofs.lemmas.List.Folds.{list_all-append}
 use Rattle.std.proofs.lemmas.Grind.{common_steps, flat_map-append}
 use Rattle.std.proofs.lemmas.List.{take_all}
 use Rattle.std.specs.List.{list_all}
@@ -31,13 +30,14 @@ use Rattle.data_stream.specs.declared.DataFault.{DataFault}
 use Rattle.data_stream.specs.declared.DataFault.TheVariants as data_fault
 use Rattle.data_stream.proofs.TokensLemmas.{not_ended}
 use Rattle.data_stream.proofs.TokenLemmas.{both_left, both_right}
-use Rattle.data_stream.proofs.VectorLemmas.{closed_after, over_behind}
+use Rattle.data_stream.proofs.VectorLemmas.{closed_after, over_behind, count_grown, all_good}
 pub use Rattle.runs.specs.Progress.{StreamProgress}
 use Rattle.runs.specs.Stream.{group_vectors, vectors_of, texts, state_behind, good_front, bad_after, answer_of}
 use Rattle.runs.specs.Stream.{vectors_seen, data_answer, data_vectors, Answers, AnswersWith, Reads, Writes}
 use Rattle.runs.specs.declared.stream.StreamFault.{StreamFault}
 use Rattle.runs.specs.StreamFault.{stream_fault}
 use Rattle.runs.specs.declared.stream.StreamFault.TheVariants.{BadNumber, Truncated, TooLong, ReadFault, WriteFault}
+use Rattle.icode.proofs.LaneSteps.{words_at_more}
 
 -- a whole vector at the front comes first
 pub vectors_more : (size modulus : ℕ) (us more : List (List ℕ)) → 0 < size → length us ≡ size →
@@ -91,14 +91,6 @@ joined : (bytes read more : List ℕ) (ts : List (List ℕ)) (mid new : Bool) �
 joined bytes read more ts mid new p once end =
     ap tokens (append_assoc bytes read more) ∙ p (read ++ more) (λ e. let o = once e in ap (λ l. l ++ more) o.0 ∙ end o.1)
 
-grown : (old now new : ℕ) (bytes read : List ℕ) → now ≡ old + length bytes → new ≡ now + length read →
-    new ≡ old + length (bytes ++ read)
-grown old now new bytes read p q = let l = length-append bytes read in omega arith
-
-all_good : (ts us : List (List ℕ)) → list_all is_good ts ≡ true → list_all is_good us ≡ true →
-    list_all is_good (ts ++ us) ≡ true
-all_good ts us p q = list_all-append is_good ts us ∙ ap (λ t. t && list_all is_good us) p ∙ q
-
 going_on : (mid new : Bool) (read : List ℕ) → Once mid new read → new ≡ false → mid ≡ false
 going_on true new read once going = absurd (not_ended new going (once refl).1)
 going_on false new read once going = refl
@@ -116,7 +108,7 @@ stream_push a b c old now new mid ended size modulus done vectors read vector so
       bytes = p.bytes ++ read;
       ts = p.ts ++ us;
       consumed = Consumes-trans a b c p.bytes read p.consumed r;
-      taken = grown old now.taken new.taken p.bytes read p.taken given.0;
+      taken = count_grown old now.taken new.taken p.bytes read p.taken given.0;
       are_tokens = λ more end. joined p.bytes read more p.ts mid ended p.are_tokens once end ∙ ap (λ l. p.ts ++ l) (given.1.1 more end) ∙ sym (append_assoc p.ts us (tokens more));
       good = all_good p.ts us p.good given.1.2;
       count = length-append p.ts us ∙ ap (λ n. n + length us) p.count ∙ ap (λ n. done + n) given.1.3;
@@ -163,7 +155,7 @@ stream_end a b c old now new mid ended size modulus done vectors end read vector
     let there : tokens (p.bytes ++ read) ≡ p.ts = joined_all p.bytes read p.ts mid ended p.are_tokens once ∙ ap (λ l. p.ts ++ l) given.1 ∙ append-nil p.ts in (
       Consumes-trans a b c p.bytes read p.consumed r,
       (
-        grown old.taken now.taken new.taken p.bytes read p.taken given.0,
+        count_grown old.taken now.taken new.taken p.bytes read p.taken given.0,
         at_end given.2,
         ap (list_all is_good) there ∙ p.good,
         ap (λ l. length l % size) there ∙ ap (λ n. n % size) (p.count ∙ sym (add-zero done)) ∙ p.whole 0 ∙ mod-eq_of_lt some,
@@ -217,7 +209,7 @@ stream_fault_at a b c old now new mid ended size modulus done vectors end read v
     let few : length (tokens read) < size = let n = given.3 in let h = given.5 in let s = given.6 in omega arith in (
       Consumes-trans a b c p.bytes read p.consumed r,
       (
-        grown old.taken now.taken new.taken p.bytes read p.taken given.0,
+        count_grown old.taken now.taken new.taken p.bytes read p.taken given.0,
         at_end given.1,
         ap (list_all is_good) there ∙ all_good p.ts (tokens read) p.good given.2,
         ap (λ n. n % size) (ap length there ∙ length-append p.ts (tokens read) ∙ ap (λ n. n + length (tokens read)) p.count) ∙ p.whole (length (tokens read)) ∙ mod-eq_of_lt few ∙ given.3,
@@ -234,7 +226,7 @@ stream_fault_at a b c old now new mid ended size modulus done vectors end read v
     ∙ ap (λ l. p.ts ++ l) (given.1.4 more).2 ∙ sym (append_assoc p.ts us ((given.1.4 more).0 ∷ (given.1.4 more).1)) in (
       Consumes-trans a b c p.bytes read p.consumed r,
       (
-        grown old.taken now.taken new.taken p.bytes read p.taken given.0,
+        count_grown old.taken now.taken new.taken p.bytes read p.taken given.0,
         (
           p.ts ++ us,
           (λ more.
@@ -252,7 +244,7 @@ stream_fault_at a b c old now new mid ended size modulus done vectors end read v
 stream_fault_at a b c old now new mid ended size modulus done vectors end read vector data_fault.ReadFault some p begun r going given at_end =
     let part = part_behind a b old.taken now.taken mid size modulus done vectors read p going given.1 in (
       Consumes-trans a b c p.bytes read p.consumed r,
-      (grown old.taken now.taken new.taken p.bytes read p.taken given.0, part.0, part.1),
+      (count_grown old.taken now.taken new.taken p.bytes read p.taken given.0, part.0, part.1),
     )
 stream_fault_at a b c old now new mid ended size modulus done vectors end read vector data_fault.TooLong some p begun r going given at_end =
     let part = part_behind a b old.taken now.taken mid size modulus done vectors given.0 p going given.2 in (
@@ -384,14 +376,9 @@ words_at-suc : (n : ℕ) (xs : List ℕ) (i : ℕ) → words_at (suc n) xs i ≡
 words_at-suc zero xs i = ap (λ k. slice_index xs k ∷ []) (sym (add-zero i))
 words_at-suc (suc n) xs i = ap (λ l. slice_index xs i ∷ l) (words_at-suc n xs (i + 1) ∙ ap (λ k. words_at n xs (i + 1) ++ slice_index xs k ∷ []) (omega arith))
 
--- one word more
-pub words_at-more : (n : ℕ) (xs : List ℕ) (i : ℕ) → words_at (n + 1) xs i ≡ words_at n xs i ++ slice_index xs (i + n)
-    ∷ []
-words_at-more n xs i = ap (λ m. words_at m xs i) (add-one n) ∙ words_at-suc n xs i
-
 pub word_more : (n : ℕ) (xs : List ℕ) (i v : ℕ) (front : List ℕ) → front ≡ words_at n xs i →
     v ≡ slice_index xs (i + n) → front ++ v ∷ [] ≡ words_at (n + 1) xs i
-word_more n xs i v front p q = ap (λ l. l ++ v ∷ []) p ∙ ap (λ w. words_at n xs i ++ w ∷ []) q ∙ sym (words_at-more n xs i)
+word_more n xs i v front p q = ap (λ l. l ++ v ∷ []) p ∙ ap (λ w. words_at n xs i ++ w ∷ []) q ∙ sym (words_at_more n xs i)
 
 -- a text more was written, or a prefix of it
 pub texts_more : (text : List ℕ → List ℕ) (a b c : Option (List ℕ)) (seen : List (List ℕ)) (x v : List ℕ) → v ≡ text x →

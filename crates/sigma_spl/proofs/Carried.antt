@@ -1,5 +1,6 @@
 -- Places that functions lead to within the limits, one function after the other.
 use Rattle.std.proofs.Common.{◌≡◌, ℕ, Bool, true, refl, List, [], ◌∷◌, ◌++◌, length, Option, Some, None}
+use Rattle.std.proofs.lemmas.Bool.{and_from}
 use Rattle.std.specs.Prelude.{map, ◌&&◌}
 use Rattle.std.specs.List.{list_all}
 use Rattle.index_fn.specs.Mapping.{Mapping}
@@ -11,23 +12,23 @@ use Rattle.sigma_spl.specs.Work.{work_size}
 use Rattle.perm_algebra.specs.Affine.{Sum, simplified}
 use Rattle.perm_algebra.specs.Room.{has_room}
 use Rattle.sigma_spl.proofs.Walk.{and-left, and-right}
-use Rattle.sigma_spl.proofs.Within.{both-true, carries-all}
+use Rattle.sigma_spl.proofs.Within.{carries-all}
 
 -- ---- tests of lists
 
 pub all-mapped : {X Y : Type 0} (p : X → Bool) (q : Y → Bool) (g : X → Y) → ((x : X) → p x ≡ true → q (g x) ≡ true) →
     (xs : List X) → list_all p xs ≡ true → list_all q (map g xs) ≡ true
 all-mapped p q g leads [] h = refl
-all-mapped p q g leads (x ∷ xs) h = both-true _ _ (leads x (and-left (p x) _ h)) (all-mapped p q g leads xs (and-right (p x) _ h))
+all-mapped p q g leads (x ∷ xs) h = and_from _ _ (leads x (and-left (p x) _ h)) (all-mapped p q g leads xs (and-right (p x) _ h))
 
 pub all-same : {X : Type 0} (p q : X → Bool) → ((x : X) → p x ≡ true → q x ≡ true) → (xs : List X) →
     list_all p xs ≡ true → list_all q xs ≡ true
 all-same p q leads [] h = refl
-all-same p q leads (x ∷ xs) h = both-true _ _ (leads x (and-left (p x) _ h)) (all-same p q leads xs (and-right (p x) _ h))
+all-same p q leads (x ∷ xs) h = and_from _ _ (leads x (and-left (p x) _ h)) (all-same p q leads xs (and-right (p x) _ h))
 
 pub taken-true : (r g s m : Bool) → r ≡ true → g ≡ true → s ≡ true → m ≡ true →
     ((r && true) && (((g && s) && m) && true)) ≡ true
-taken-true r g s m a b c d = both-true _ _ (both-true _ _ a refl) (both-true _ _ (both-true _ _ (both-true _ _ b c) d) refl)
+taken-true r g s m a b c d = and_from _ _ (and_from _ _ a refl) (and_from _ _ (and_from _ _ (and_from _ _ b c) d) refl)
 
 -- ---- one sum
 
@@ -50,7 +51,7 @@ module _ (room n count : ℕ) (cs : ℕ → ℕ) where
   pub carried-front : (fs : List Mapping) (f : Mapping) (e : Sum) →
       carries_sum room n count cs (fs ++ f ∷ []) e ≡ true → carries_sum room n n cs fs e ≡ true
   carried-front [] f e h = and-left (is_limited room n cs e) _ h
-  carried-front (g ∷ fs) f e h = both-true _ _ (and-left (is_limited room n cs e) _ h) (both-true _ _ (carried-room g (fs ++ f ∷ []) e h) (carried-front fs f (simplified cs g e) (carried-next g (fs ++ f ∷ []) e h)))
+  carried-front (g ∷ fs) f e h = and_from _ _ (and-left (is_limited room n cs e) _ h) (and_from _ _ (carried-room g (fs ++ f ∷ []) e h) (carried-front fs f (simplified cs g e) (carried-next g (fs ++ f ∷ []) e h)))
 
 pub carried-here : (room n : ℕ) (cs : ℕ → ℕ) (fs : List Mapping) (e : Sum) → carries_sum room n n cs fs e ≡ true →
     is_limited room n cs e ≡ true

@@ -9,10 +9,10 @@ use Rattle.std.proofs.lemmas.Nat.{same_from_place, mul-mod_second}
 use Rattle.ring_mod.proofs.Congruence.{same-add}
 use Rattle.operators.specs.Loop.{IsPermutationBelow}
 use Rattle.operators.specs.Operator.{gather}
-use Rattle.operators.specs.Sum.{sum_below, list_below}
+use Rattle.operators.specs.Sum.{list_below}
 use Rattle.operators.proofs.Lists.{at-list_below, list_below-same, factor_positive}
-use Rattle.operators.proofs.Scatters.{sum_below-only}
-use Rattle.operators.proofs.Sums.{sum_below-same, sum_below-zeros, mul-sum_below, same-sum_below}
+use Rattle.operators.proofs.Scatters.{sum_below-only, miss}
+use Rattle.operators.proofs.Sums.{sum_below-same, mul-sum_below, same-sum_below}
 use Rattle.sigma_spl.specs.Copies.{loops_of, Copies, taken, stored, all_stored, hits, StoreOnce, IsInside, AreInside}
 use Rattle.sigma_spl.specs.Copies.{loaded_by, stored_by, multiplied_by, behind, placed, first_of, others_of, under_one}
 use Rattle.sigma_spl.specs.CopiesLaws.{LoadsGather, StoresScatter, LoopsScale, StandSideBySide, StandUnder, KeepsOnce}
@@ -20,7 +20,7 @@ use Rattle.operators.specs.declared.tensor_paths.Tensor.{Tensor}
 use Rattle.operators.specs.declared.tensor_paths.Tensor.TheVariants.{Blocks, Columns}
 use Rattle.operators.specs.TensorPaths.Loop.{nest_sum, loop_at}
 use Rattle.operators.specs.TensorPaths.Path.{Path, count_of, grown, AreInRange}
-use Rattle.operators.proofs.TensorPaths.PathLoops.{nest_sum-same}
+use Rattle.operators.proofs.TensorPaths.PathLoops.{nest_sum-same, sum_below-zero}
 
 -- ---- tests
 
@@ -36,9 +36,6 @@ same-test a b c d x there back =
           ]
     ]
 
-pub miss : (a b x : ℕ) → a ≢ b → (if a == b then x else 0) ≡ 0
-miss a b x other = grind (arith, nat_tests)
-
 pub low : (w n a b : ℕ) → w < n → (if nat_lt w n then a else b) ≡ a
 low w n a b below = grind (arith, nat_tests)
 
@@ -47,17 +44,14 @@ high w n a b above = grind (arith, nat_tests)
 
 -- ---- what loops put at a place
 
-pub sum-none : (n : ℕ) (f : ℕ → ℕ) → ((i : ℕ) → i < n → f i ≡ 0) → sum_below n f ≡ 0
-sum-none n f h = sum_below-same n f (λ _. 0) h ∙ sum_below-zeros n
-
 pub nest-none : (path : Path) (f : List ℕ → ℕ) → ((vs : List ℕ) → AreInRange path vs → f vs ≡ 0) → nest_sum path f ≡ 0
 nest-none [] f h = h [] tt
-nest-none (t ∷ path) f h = sum-none (count_of t) _ (λ v below. nest-none path (λ vs. f (v ∷ vs)) (λ vs range. h (v ∷ vs) (below, range)))
+nest-none (t ∷ path) f h = sum_below-zero (count_of t) _ (λ v below. nest-none path (λ vs. f (v ∷ vs)) (λ vs range. h (v ∷ vs) (below, range)))
 
 -- nothing, where no place is there
 pub loop-none : (path : Path) (d : ℕ) (to value : List ℕ → ℕ → ℕ) (w : ℕ) →
     ((vs : List ℕ) (k : ℕ) → AreInRange path vs → k < d → to vs k ≢ w) → loop_at path d to value w ≡ 0
-loop-none path d to value w h = nest-none path _ (λ vs range. sum-none d _ (λ k below. miss (to vs k) w (value vs k) (h vs k range below)))
+loop-none path d to value w h = nest-none path _ (λ vs range. sum_below-zero d _ (λ k below. miss (to vs k) w (value vs k) (h vs k range below)))
 
 -- the same, where the same places hit and the values are the same
 pub loop-same : (path : Path) (d : ℕ) (to other value worth : List ℕ → ℕ → ℕ) (w u : ℕ) →
@@ -93,7 +87,7 @@ loop-under : (t : Tensor) (n : ℕ) (path : Path) (d : ℕ) (to value : List ℕ
     (placed t n v u) ≡ loop_at path d to (λ vs k. value (v ∷ vs) k) u
 loop-under t n path d to value v u copy below range =
     sum_below-only (count_of t) v _ copy
-    (λ w within other. nest-none path _ (λ vs in_range. sum-none d _ (λ k inside.
+    (λ w within other. nest-none path _ (λ vs in_range. sum_below-zero d _ (λ k inside.
     miss (placed t n w (to vs k)) (placed t n v u) (value (w ∷ vs) k) (λ e. other (placed-one t n w (to vs k) v u within (range vs k in_range inside) copy below e).0))))
     ∙ loop-same path d (λ vs k. placed t n v (to vs k)) to (λ vs k. value (v ∷ vs) k) (λ vs k. value (v ∷ vs) k) (placed t n v u) u (λ vs k in_range inside.
     same-test (placed t n v (to vs k)) (placed t n v u) (to vs k) u (value (v ∷ vs) k)

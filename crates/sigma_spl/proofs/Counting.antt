@@ -5,7 +5,8 @@ use Rattle.std.specs.Prelude.{map, ◌&&◌, ◌==◌, if◌then◌else◌}
 use Rattle.index_fn.specs.Mapping.{Mapping, at}
 use Rattle.operators.specs.Sum.{sum_below, list_below}
 use Rattle.operators.proofs.Sums.{sum_below-same, sum_below-swap, sum_below-add, sum_below-zeros}
-use Rattle.operators.proofs.Scatters.{sum_below-only}
+use Rattle.operators.proofs.Scatters.{sum_below-only, miss}
+use Rattle.operators.proofs.TensorPaths.PathLoops.{nest_sum-same}
 use Rattle.sigma_spl.specs.Copies.{loops_of, Copies, hits, StoreOnce, IsInside, AreInside}
 use Rattle.sigma_spl.specs.Counts.{copies_in, multiplier_cost, nest_cost, pass_cost, passes_cost, term_cost}
 use Rattle.sigma_spl.specs.Counts.{CopiesAreFree, MergeCounts}
@@ -18,13 +19,12 @@ use Rattle.sigma_spl.specs.Merge.{renumbered_places, if_any, new_nest}
 use Rattle.sigma_spl.specs.Nest.{PlainFactors, spread, PlainMultiplier, PlainNest, copies_of}
 use Rattle.sigma_spl.specs.Term.{PlainTerm, same, gath, scat, diag, nest, move, product, beside}
 use Rattle.sigma_spl.specs.Work.{PlainWork, copy, work_size}
-use Rattle.sigma_spl.proofs.CopiesMerge.{miss}
 use Rattle.sigma_spl.proofs.Keeps.{merged-reaches, nothing-stands}
 use Rattle.sigma_spl.proofs.Nests.{AreFree, all-inside}
 use Rattle.sigma_spl.proofs.Natural.{copying-good}
 use Rattle.sigma_spl.proofs.Walk.{Stands, chosen, and-right, taken-free, copying-free}
 use Rattle.operators.specs.TensorPaths.Loop.{nest_sum, loop_at}
-use Rattle.operators.specs.TensorPaths.Path.{Path, count_of, AreInRange}
+use Rattle.operators.specs.TensorPaths.Path.{Path, count_of}
 use Rattle.operators.specs.TensorPaths.Path as paths
 use Rattle.std.proofs.lemmas.Bool.Decides.{nat_tests}
 
@@ -48,11 +48,6 @@ nest-swap : (n : ℕ) (path : Path) (f : ℕ → List ℕ → ℕ) → sum_below
 nest-swap n [] f = refl
 nest-swap n (t ∷ path) f = sum_below-swap n (count_of t) (λ w v. nest_sum path (λ vs. f w (v ∷ vs))) ∙ sum_below-same (count_of t) _ _ (λ v below. nest-swap n path (λ w vs. f w (v ∷ vs)))
 
-nest-same : (path : Path) (f g : List ℕ → ℕ) → ((vs : List ℕ) → AreInRange path vs → f vs ≡ g vs) →
-    nest_sum path f ≡ nest_sum path g
-nest-same [] f g h = h [] tt
-nest-same (t ∷ path) f g h = sum_below-same (count_of t) _ _ (λ v below. nest-same path (λ vs. f (v ∷ vs)) (λ vs. g (v ∷ vs)) (λ vs range. h (v ∷ vs) (below, range)))
-
 one-hit : (n p : ℕ) → p < n → sum_below n (λ w. if p == w then 1 else 0) ≡ 1
 one-hit n p below = sum_below-only n p _ below (λ w within other. miss p w 1 (λ e. other (sym e))) ∙ self p where
   self : (p : ℕ) → ◌≡◌ {A = ℕ} (if p == p then 1 else 0) 1
@@ -62,7 +57,7 @@ copies-hit : (n : ℕ) (c : Copies) → IsInside n c → sum_below n
     (λ w. loop_at (loops_of c.counts) c.size c.to (λ vs k. 1) w) ≡ copies_in c.counts * c.size
 copies-hit n c h =
     nest-swap n (loops_of c.counts) (λ w vs. sum_below c.size (λ k. if c.to vs k == w then 1 else 0))
-    ∙ nest-same (loops_of c.counts) _ (λ vs. c.size) (λ vs range.
+    ∙ nest_sum-same (loops_of c.counts) _ (λ vs. c.size) (λ vs range.
     sum_below-swap n c.size (λ w k. if c.to vs k == w then 1 else 0)
     ∙ sum_below-same c.size _ (λ k. 1) (λ k below. one-hit n (c.to vs k) (h.stores vs k range below))
     ∙ constant-sum c.size 1

@@ -5,7 +5,7 @@ use Rattle.std.specs.Prelude.{map, nat_lt, nat_le, ◌&&◌, slice_index}
 use Rattle.std.specs.List.{list_all, range_with_len}
 use Rattle.std.proofs.Math.Nat.{pow-succ', mul-le-mul, mul-le-mul_right}
 use Rattle.std.proofs.Math.Pow.{pow_mono}
-use Rattle.std.proofs.lemmas.Bool.{cases_eq, cases_lt}
+use Rattle.std.proofs.lemmas.Bool.{cases_eq, cases_lt, and_from}
 use Rattle.std.proofs.lemmas.Bool.Decides.{nat_tests}
 use Rattle.std.proofs.lemmas.List.FromFn.{get_or-map-range_with_len, length-map-range_with_len}
 use Rattle.index_fn.specs.Mapping.{Mapping, at}
@@ -25,7 +25,7 @@ use Rattle.sigma_spl.proofs.Keeps.{merged-reaches, nothing-stands, inner_positiv
 use Rattle.sigma_spl.proofs.Sides.{rest_of, rest-index}
 use Rattle.sigma_spl.proofs.Small.{max-lt, divided-true, HasCounts, place-small, renumbered-small, behind-small}
 use Rattle.sigma_spl.proofs.Walk.{chosen, and-left, and-right, AreMoves, Stands}
-use Rattle.sigma_spl.proofs.Within.{both-true, within-append, TablesFit, AreInside', within-settled, within-pass}
+use Rattle.sigma_spl.proofs.Within.{within-append, TablesFit, AreInside', within-settled, within-pass}
 use Rattle.sigma_spl.proofs.Within.{within-scatter, inside-end, within-ended, within-multiplied, IsSmall, limited}
 use Rattle.sigma_spl.proofs.Within.{small-true, constant-small}
 use Rattle.operators.specs.declared.tensor_paths.Tensor.TheVariants.{Blocks, Columns}
@@ -33,10 +33,10 @@ use Rattle.operators.specs.TensorPaths.Path.{Path, count_of, size_under}
 
 -- ---- from tests
 
-le-true : (a b : ℕ) → nat_le a b ≡ true → a ≤ b
+pub le-true : (a b : ℕ) → nat_le a b ≡ true → a ≤ b
 le-true a b h = grind (arith, nat_tests)
 
-lt-true : (a b : ℕ) → nat_lt a b ≡ true → a < b
+pub lt-true : (a b : ℕ) → nat_lt a b ≡ true → a < b
 lt-true a b h = grind (arith, nat_tests)
 
 pub tested : (room n : ℕ) (cs : ℕ → ℕ) (e : Sum) → is_limited room n cs e ≡ true → IsSmall room n cs e
@@ -98,7 +98,7 @@ round-inner (Columns c ∷ path) u d several h =
 
 -- ---- new nests
 
-counts-first : (path : Path) (v : ℕ) (cs : ℕ → ℕ) (more : List ℕ) →
+pub counts-first : (path : Path) (v : ℕ) (cs : ℕ → ℕ) (more : List ℕ) →
     ((i : ℕ) → cs (v + i) ≡ slice_index (map count_of path ++ more) i) → HasCounts path v cs
 counts-first [] v cs more is = tt
 counts-first (t ∷ path) v cs more is = (ap cs (omega arith) ∙ is 0, counts-first path (v + 1) cs more (λ i. ap cs (omega arith) ∙ is (suc i)))
@@ -127,7 +127,7 @@ range-below d =
     let within : i < d = omega (arith, size, below) in
     subst (λ v. v < d) (sym (ap (λ ks. slice_index ks i) (sym same) ∙ get_or-map-range_with_len (λ k. k) 0 d i i 0 within (omega arith))) within)
 
-turn-fits : (d c : ℕ) → d ≤ 2 ^ 20 → c ≤ 2 ^ 20 → (d - 1) * (c - 1) + (d - 1) < 2 ^ 64
+pub turn-fits : (d c : ℕ) → d ≤ 2 ^ 20 → c ≤ 2 ^ 20 → (d - 1) * (c - 1) + (d - 1) < 2 ^ 64
 turn-fits d c low high =
     let first : d - 1 ≤ 2 ^ 20 = omega (arith, low) in
     let second : c - 1 ≤ 2 ^ 20 = omega (arith, high) in
@@ -148,7 +148,7 @@ module _ (room : ℕ) (path : Path) (d : ℕ) (several : AreSeveral path) (some 
   constants-limited : (n : ℕ) (ks : List ℕ) → d ≤ n → n ≤ 2 ^ 20 → AreBelow d ks →
       list_all (is_limited room (size_under path d) cs) (map (place_sum path d 0) (map constant ks)) ≡ true
   constants-limited n [] fits low h = refl
-  constants-limited n (k ∷ ks) fits low h = both-true _ _ (place-limited 0 (constant k) (omega arith) (constant-small 0 d cs k h.0 (omega (arith, fits, low)))) (constants-limited n ks fits low h.1)
+  constants-limited n (k ∷ ks) fits low h = and_from _ _ (place-limited 0 (constant k) (omega arith) (constant-small 0 d cs k h.0 (omega (arith, fits, low)))) (constants-limited n ks fits low h.1)
 
   -- the variable after those of the loops, which runs below d
   variable-small : (v : ℕ) → 2 ≤ d → cs v ≡ d → IsSmall 1 d cs (variable 1 v (constant 0))
@@ -165,12 +165,12 @@ module _ (room : ℕ) (path : Path) (d : ℕ) (several : AreSeveral path) (some 
         peak = max-lt 1 0 d (omega arith) (omega arith);
         small =
             let word : (d - 1) * (cs v - 1) + (d - 1) < 2 ^ 64 = turn-fits d (cs v) low (omega (arith, is, low)) in
-            both-true _ _ (divided-true cs 1 (variable (d - 1) v (constant (d - 1))) d (omega arith) (omega arith) (omega (arith, two)) (omega (arith, low)) (omega (arith, low)) word)
-            (both-true _ _ (both-true _ _ (small-true (d - 1) (omega (arith, low))) (small-true (d - 1) (omega (arith, low)))) refl);
+            and_from _ _ (divided-true cs 1 (variable (d - 1) v (constant (d - 1))) d (omega arith) (omega arith) (omega (arith, two)) (omega (arith, low)) (omega (arith, low)) word)
+            (and_from _ _ (and_from _ _ (small-true (d - 1) (omega (arith, low))) (small-true (d - 1) (omega (arith, low)))) refl);
       }
 
-both-within : (a b : Bool) → a ≡ true → b ≡ true → (((a && b) && true) && true) ≡ true
-both-within a b h k = both-true _ _ (both-true _ _ (both-true _ _ h k) refl) refl
+pub both-within : (a b : Bool) → a ≡ true → b ≡ true → (((a && b) && true) && true) ≡ true
+both-within a b h k = and_from _ _ (and_from _ _ (and_from _ _ h k) refl) refl
 
 pub item-low : (path : Path) (d : ℕ) → AreSeveral path → 0 < d → size_under path d ≤ 2 ^ 20 → d ≤ 2 ^ 20
 item-low path d several some high = round-word (0 + length path) d (round-inner path 0 d several (let e : size_under path d * 2 ^ 0 ≡ size_under path d = omega arith in omega (arith, e, high)))
@@ -202,12 +202,12 @@ new-within room lanes path (kernel trees) can long several some high short =
     let all = constants-limited room path d several some high short d (range_with_len 0 d) (omega arith) low (range-below d) in both-within _ _ all all
 new-within room lanes path (rows root d) can long several some high short =
     both-within _ _
-    (both-true _ _ (place-limited room path d several some high short 1 _ (omega arith) (variable-small room path d several some high short (length path + 1) long (ap (slice_index (map count_of path ++ d ∷ d ∷ [])) (omega arith) ∙ at-column path d))) refl)
-    (both-true _ _ (place-limited room path d several some high short 1 _ (omega arith) (variable-small room path d several some high short (length path) long (at-row path d))) refl)
+    (and_from _ _ (place-limited room path d several some high short 1 _ (omega arith) (variable-small room path d several some high short (length path + 1) long (ap (slice_index (map count_of path ++ d ∷ d ∷ [])) (omega arith) ∙ at-column path d))) refl)
+    (and_from _ _ (place-limited room path d several some high short 1 _ (omega arith) (variable-small room path d several some high short (length path) long (at-row path d))) refl)
 new-within room lanes path (horner root d) can long several some high short =
     both-within _ _
-    (both-true _ _ (place-limited room path d several some high short 2 _ (omega arith) (turn-small room path d several some high short (length path + 1) long (item-low path d several some high) (ap (slice_index (map count_of path ++ d ∷ d ∷ [])) (omega arith) ∙ at-column path d))) refl)
-    (both-true _ _ (place-limited room path d several some high short 1 _ (omega arith) (variable-small room path d several some high short (length path) long (at-row path d))) refl)
+    (and_from _ _ (place-limited room path d several some high short 2 _ (omega arith) (turn-small room path d several some high short (length path + 1) long (item-low path d several some high) (ap (slice_index (map count_of path ++ d ∷ d ∷ [])) (omega arith) ∙ at-column path d))) refl)
+    (and_from _ _ (place-limited room path d several some high short 1 _ (omega arith) (variable-small room path d several some high short (length path) long (at-row path d))) refl)
 new-within room lanes path (tile v) can long several some high short =
     let d = v * v in
     let low = item-low path d several some high in
@@ -262,8 +262,8 @@ spread-within room n factors (z ∷ zs) count h =
     let places = list_all (is_limited room n cs) z.gathers && list_all (is_limited room n cs) z.scatters in
     let here = and-left (places && is_multiplier_within room cs z.multiplier) _ h in
     let both = and-left places _ here in
-    both-true _ _
-    (both-true _ _ both (ap₂ (λ k es. list_all (is_limited room k cs) es) count (sums-id z.scatters) ∙ and-right (list_all (is_limited room n cs) z.gathers) _ both))
+    and_from _ _
+    (and_from _ _ both (ap₂ (λ k es. list_all (is_limited room k cs) es) count (sums-id z.scatters) ∙ and-right (list_all (is_limited room n cs) z.gathers) _ both))
     (spread-within room n factors zs count (and-right (places && is_multiplier_within room cs z.multiplier) _ h))
 
 module _ (room n : ℕ) (some : 0 < n) (high : n ≤ 2 ^ 20) (wide : 3 ≤ room) where
@@ -326,14 +326,14 @@ module _ (room n before k : ℕ) (path : Path) (several : AreSeveral path) (some
       list_all (is_limited room (size_under path n) (limits z))
       (map (λ e. place_sum path n 0 (joined (constant before) (renumbered (length path) e))) es) ≡ true
   sums-within z [] h = refl
-  sums-within z (e ∷ es) h = both-true _ _ (sum-within z e (and-left (is_limited (room - length path) k (limits_of z) e) _ h)) (sums-within z es (and-right (is_limited (room - length path) k (limits_of z) e) _ h))
+  sums-within z (e ∷ es) h = and_from _ _ (sum-within z e (and-left (is_limited (room - length path) k (limits_of z) e) _ h)) (sums-within z es (and-right (is_limited (room - length path) k (limits_of z) e) _ h))
 
   places-within : (z : PlainNest) (count : ℕ) (es : List Sum) →
       list_all (is_limited (room - length path) count (limits_of z)) es ≡ true →
       list_all (is_limited room count (limits z)) (map (renumbered (length path)) es) ≡ true
   places-within z count [] h = refl
   places-within z count (e ∷ es) h =
-      both-true _ _
+      and_from _ _
       (limited room count (limits z) _ (roomier (room - length path) room count (limits z) _ (omega arith)
       (renumbered-small (length path) (room - length path) count (limits_of z) (limits z) e (same-limits z) (tested _ _ _ e (and-left (is_limited (room - length path) count (limits_of z) e) _ h)))))
       (places-within z count es (and-right (is_limited (room - length path) count (limits_of z) e) _ h))
@@ -352,9 +352,9 @@ module _ (room n before k : ℕ) (path : Path) (several : AreSeveral path) (some
       let places = list_all (is_limited inner k (limits_of z)) z.gathers && list_all (is_limited inner k (limits_of z)) z.scatters in
       let here = and-left (places && is_multiplier_within inner (limits_of z) z.multiplier) _ h in
       let both = and-left places _ here in
-      both-true _ _
-      (both-true _ _
-      (both-true _ _ (sums-within z z.gathers (and-left (list_all (is_limited inner k (limits_of z)) z.gathers) _ both)) (sums-within z z.scatters (and-right (list_all (is_limited inner k (limits_of z)) z.gathers) _ both)))
+      and_from _ _
+      (and_from _ _
+      (and_from _ _ (sums-within z z.gathers (and-left (list_all (is_limited inner k (limits_of z)) z.gathers) _ both)) (sums-within z z.scatters (and-right (list_all (is_limited inner k (limits_of z)) z.gathers) _ both)))
       (multiplier-within z z.multiplier (and-right places _ here)))
       (lifted-within zs (and-right (places && is_multiplier_within inner (limits_of z) z.multiplier) _ h))
 
@@ -363,7 +363,7 @@ together : (room n : ℕ) (zs ys : List PlainNest) → is_within room n zs ≡ t
 together room n [] ys h g = g
 together room n (z ∷ zs) ys h g =
     let one = (list_all (is_limited room n (limits_of z)) z.gathers && list_all (is_limited room n (limits_of z)) z.scatters) && is_multiplier_within room (limits_of z) z.multiplier in
-    both-true _ _ (and-left one _ h) (together room n zs ys (and-right one _ h) g)
+    and_from _ _ (and-left one _ h) (together room n zs ys (and-right one _ h) g)
 
 module _ (room k l : ℕ) (path : Path) (several : AreSeveral path) (left : 0 < k) (right : 0 < l)
     (high : size_under path (k + l) ≤ 2 ^ 20) (short : length path + 3 ≤ room) where

@@ -1,6 +1,7 @@
 -- Terms in order are merged into their loops, one by one, and the sums of these have the values of their places.
 use Rattle.std.proofs.Common.{◌≡◌, ℕ, Bool, true, false, refl, ap, ap₂, ◌∙◌, List, [], ◌∷◌, ◌++◌, length, Option, Some}
 use Rattle.std.proofs.Common.{None}
+use Rattle.std.proofs.lemmas.Bool.{and_from}
 use Rattle.std.specs.Prelude.{map, ◌&&◌, if◌then◌else◌}
 use Rattle.std.specs.List.{list_all}
 use Rattle.index_fn.specs.Mapping.{Mapping}
@@ -19,7 +20,7 @@ use Rattle.sigma_spl.proofs.Carried.{all-mapped, all-same, taken-true, carried-r
 use Rattle.sigma_spl.proofs.Carried.{carried-front, carried-here, IsWithinElse, multiplier-within}
 use Rattle.sigma_spl.proofs.Natural.{load-natural, store-natural, names-in, names-out, whole-in, whole-out, ranged}
 use Rattle.sigma_spl.proofs.Nests.{load-through, store-through}
-use Rattle.sigma_spl.proofs.Within.{both-true, carries-all}
+use Rattle.sigma_spl.proofs.Within.{carries-all}
 use Rattle.operators.specs.TensorPaths.Path.{Path, count_of}
 
 -- ---- lists of sums
@@ -135,13 +136,13 @@ free-of p (Some d) h = absurd (cc)
 diagonal-taken : (room : Room) (n : ℕ) (path : Path) (factors : PlainFactors) (p : PlainLoop) (ps : List PlainLoop) →
     CanScale path (p ∷ ps) → AreLimitedLoops room n (scaled_last path factors (p ∷ ps)) →
     can_take room n factors (factor_places [] path factors) (one_nest p) ≡ true
-diagonal-taken unbounded n path factors p ps can h = both-true _ _ (both-true _ _ (free-of p p.taken can.0) refl) refl
+diagonal-taken unbounded n path factors p ps can h = and_from _ _ (and_from _ _ (free-of p p.taken can.0) refl) refl
 diagonal-taken (most k) n path factors p ps can h =
     let cs = limits_in p in
     let count = factor_count factors in
     let last = inner_of path count ∷ [] in
-    both-true _ _
-    (both-true _ _ (free-of p p.taken can.0)
+    and_from _ _
+    (and_from _ _ (free-of p p.taken can.0)
     (all-mapped _ _ (all_simplified cs p.afters) (carried-from k n count cs p.afters last) (map (place_sum p.path (work_size p.work) 0) (items_out p.work (length p.path))) (h.0.factors (record { factors = factors; places = p.afters ++ last }) refl)))
     refl
 
@@ -150,7 +151,7 @@ diag-listed : (room : Room) (n : ℕ) (path : Path) (factors : PlainFactors) (wa
     with_diagonal room n waiting (map one_nest ps) path factors ≡ state_of (record { waiting = waiting; loops = scaled_last path factors ps })
 diag-listed room n path factors [] [] none can limited = absurd can
 diag-listed room n path factors [] (p ∷ ps) none can limited =
-    picked (suits path (one_nest p) && can_take room n factors (factor_places [] path factors) (one_nest p)) _ _ (both-true _ _ can.1 (diagonal-taken room n path factors p ps can limited))
+    picked (suits path (one_nest p) && can_take room n factors (factor_places [] path factors) (one_nest p)) _ _ (and_from _ _ can.1 (diagonal-taken room n path factors p ps can limited))
     ∙ ap
     (λ (ds : List Sum).
     let z : PlainNest =

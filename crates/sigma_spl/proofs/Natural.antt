@@ -349,7 +349,7 @@ copies-same m n path d x e v =
     ∙ ap (λ s. s % m) (omega arith)
     ∙ mod-eq_of_lt (v.residues w below)))
 
-size-one_loop : (n : ℕ) → size_under (one_loop n) 1 ≡ n
+pub size-one_loop : (n : ℕ) → size_under (one_loop n) 1 ≡ n
 size-one_loop n =
     elim (cases_eq n 1) [
       | inl one ↦ grind (arith, nat_tests)

@@ -24,7 +24,7 @@ use Rattle.sigma_spl.proofs.Within.{within-append}
 turned-first : (zs : List PlainNest) (ps : List (List PlainNest)) → reverse (zs ∷ ps) ≡ reverse ps ++ zs ∷ []
 turned-first zs ps = reverse-append (zs ∷ []) ps
 
-phase-append : (m n : ℕ) (ps qs : List (List PlainNest)) (x : List ℕ) →
+pub phase-append : (m n : ℕ) (ps qs : List (List PlainNest)) (x : List ℕ) →
     phase_on m n (ps ++ qs) x ≡ phase_on m n qs (phase_on m n ps x)
 phase-append m n [] qs x = refl
 phase-append m n (zs ∷ ps) qs x = phase-append m n ps qs (nests_on m n zs x)

@@ -4,6 +4,7 @@ use Rattle.std.proofs.Common.{List, [], ◌∷◌, ◌++◌, length, subst, Opti
 use Rattle.std.specs.Prelude.{slice_index, slice_index_or, map, ◌==◌, if◌then◌else◌}
 use Rattle.operators.specs.Operator.{Operator}
 use Rattle.operators.proofs.Lists.{factor_positive, at-list_below, list_below-same, place_below}
+use Rattle.operators.proofs.TensorPaths.Under.{one_under-same}
 use Rattle.perm_algebra.specs.Affine.{Sum, constant, variable, remainder, quotient, value, IsSound, joined}
 use Rattle.perm_algebra.proofs.AffineLaws.{value-joined}
 use Rattle.perm_algebra.proofs.Values.{sound-joined}
@@ -21,7 +22,7 @@ use Rattle.sigma_spl.proofs.Nests.{stored-alike, at-map, length-map, all-inside}
 use Rattle.operators.specs.declared.tensor_paths.Tensor.{Tensor}
 use Rattle.operators.specs.declared.tensor_paths.Tensor.TheVariants.{Blocks, Columns}
 use Rattle.operators.specs.TensorPaths.Loop.{loop_at}
-use Rattle.operators.specs.TensorPaths.Path.{Path, count_of, grown, size_under, one_under, under, place, AreInRange}
+use Rattle.operators.specs.TensorPaths.Path.{Path, count_of, grown, size_under, under, place, AreInRange}
 
 -- ---- values of the path's loops, and those behind them
 
@@ -246,17 +247,12 @@ none-hits : (n : ℕ) (cs : List Copies) (w : ℕ) → hits cs w ≡ hits (map (
 none-hits n [] w = refl
 none-hits n (c ∷ cs) w = ap (λ b. loop_at (loops_of c.counts) c.size c.to (λ vs k. 1) w + b) (none-hits n cs w)
 
-one_under-equal : (t : Tensor) (n : ℕ) (a b : Operator) (x : List ℕ) → ((y : List ℕ) → a y ≡ b y) →
-    one_under t n a x ≡ one_under t n b x
-one_under-equal (Blocks c) n a b x h = list_below-same (c * n) _ _ (λ p below. ap (λ y. slice_index y (p % n)) (h _))
-one_under-equal (Columns c) n a b x h = list_below-same (n * c) _ _ (λ p below. ap (λ y. slice_index y (p / c)) (h _))
-
 -- a pass under the tensors of a path
 pub under-pass : (m n : ℕ) (path : Path) (cs : List Copies) (x : List ℕ) → AreInside n cs →
     under path n (pass_on m n cs) x ≡ pass_on m (size_under path n) (map (under_path path n) cs) x
 under-pass m n [] cs x h = list_below-same n _ _ (λ w below. ap (λ s. s % m) (none-stored n cs x w))
 under-pass m n (t ∷ path) cs x h =
-    one_under-equal t (size_under path n) _ _ x (λ y. under-pass m n path cs y h)
+    one_under-same t (size_under path n) _ _ x (λ y. under-pass m n path cs y h)
     ∙ stand_under m (size_under path n) t (map (under_path path n) cs) x (all-inside-path path n cs h)
     ∙ list_below-same (grown t (size_under path n)) _ _ (λ w below. ap (λ s. s % m) (stored-path t path n cs x w))
 
@@ -381,7 +377,7 @@ side-on m k l path zs ys x h g =
       under-equal : (path : Path) (n : ℕ) (a b : Operator) (x : List ℕ) → ((y : List ℕ) → a y ≡ b y) →
           under path n a x ≡ under path n b x
       under-equal [] n a b x h = h x
-      under-equal (t ∷ path) n a b x h = one_under-equal t (size_under path n) _ _ x (λ y. under-equal path n a b y h)
+      under-equal (t ∷ path) n a b x h = one_under-same t (size_under path n) _ _ x (λ y. under-equal path n a b y h)
 
 sound-up : (path : Path) (n before : ℕ) (sums : List Sum) → AreSound sums → AreSound (map (up path n before) sums)
 sound-up path n before [] h = tt

@@ -5,6 +5,7 @@ use Rattle.std.specs.Prelude.{nat_lt, max, ◌&&◌}
 use Rattle.std.proofs.Math.Nat.{mul-le-mul}
 use Rattle.std.proofs.lemmas.Bool.Decides.{nat_tests}
 use Rattle.std.proofs.lemmas.Nat.{mul-add-lt}
+use Rattle.std.proofs.lemmas.Bool.{and_from}
 use Rattle.perm_algebra.specs.Affine.{Sum, constant, variable, remainder, quotient, top, peak, levels, parts, scaled}
 use Rattle.perm_algebra.specs.Affine.{joined}
 use Rattle.perm_algebra.proofs.AffineLaws.{top-scaled, top-joined}
@@ -12,7 +13,7 @@ use Rattle.perm_algebra.proofs.Sizes.{levels-scaled, levels-joined, parts-scaled
 use Rattle.sigma_spl.specs.Limits.{AreSeveral}
 use Rattle.sigma_spl.specs.Merge.{total, is_divided, are_small, place_sum, renumbered}
 use Rattle.sigma_spl.proofs.Walk.{and-left, and-right}
-use Rattle.sigma_spl.proofs.Within.{both-true, IsSmall, small-true}
+use Rattle.sigma_spl.proofs.Within.{IsSmall, small-true}
 use Rattle.operators.specs.declared.tensor_paths.Tensor.TheVariants.{Blocks, Columns}
 use Rattle.operators.specs.TensorPaths.Path.{Path, count_of, size_under}
 
@@ -36,13 +37,13 @@ peak-more c n cs (quotient f of m rest) h t = max-lt f _ n (max-left f (peak res
 small-more : (c : ℕ) (cs : ℕ → ℕ) (e : Sum) → are_small cs e ≡ true → c + top e cs < 2 ^ 32 →
     are_small cs (joined (constant c) e) ≡ true
 small-more c cs (constant d) h t = small-true (c + d) t
-small-more c cs (variable f d rest) h t = both-true _ _ (and-left (nat_lt f (2 ^ 32)) _ h) (small-more c cs rest (and-right (nat_lt f (2 ^ 32)) _ h) (omega arith))
+small-more c cs (variable f d rest) h t = and_from _ _ (and-left (nat_lt f (2 ^ 32)) _ h) (small-more c cs rest (and-right (nat_lt f (2 ^ 32)) _ h) (omega arith))
 small-more c cs (remainder f of m rest) h t =
     let outer = is_divided cs f of m in
-    both-true _ _ (and-left outer _ h) (both-true _ _ (and-left (are_small cs of) _ (and-right outer _ h)) (small-more c cs rest (and-right (are_small cs of) _ (and-right outer _ h)) (omega arith)))
+    and_from _ _ (and-left outer _ h) (and_from _ _ (and-left (are_small cs of) _ (and-right outer _ h)) (small-more c cs rest (and-right (are_small cs of) _ (and-right outer _ h)) (omega arith)))
 small-more c cs (quotient f of m rest) h t =
     let outer = is_divided cs f of m in
-    both-true _ _ (and-left outer _ h) (both-true _ _ (and-left (are_small cs of) _ (and-right outer _ h)) (small-more c cs rest (and-right (are_small cs of) _ (and-right outer _ h)) (omega arith)))
+    and_from _ _ (and-left outer _ h) (and_from _ _ (and-left (are_small cs of) _ (and-right outer _ h)) (small-more c cs rest (and-right (are_small cs of) _ (and-right outer _ h)) (omega arith)))
 
 -- ---- a variable at the end
 
@@ -55,13 +56,13 @@ peak-end v n (quotient f of m rest) h two = max-lt f _ n (max-left f (peak rest)
 small-end : (cs : ℕ → ℕ) (v : ℕ) (e : Sum) → are_small cs e ≡ true →
     are_small cs (joined e (variable 1 v (constant 0))) ≡ true
 small-end cs v (constant c) h = let e : c + 0 ≡ c = omega arith in ap (λ d. nat_lt d (2 ^ 32)) e ∙ h
-small-end cs v (variable f d rest) h = both-true _ _ (and-left (nat_lt f (2 ^ 32)) _ h) (small-end cs v rest (and-right (nat_lt f (2 ^ 32)) _ h))
+small-end cs v (variable f d rest) h = and_from _ _ (and-left (nat_lt f (2 ^ 32)) _ h) (small-end cs v rest (and-right (nat_lt f (2 ^ 32)) _ h))
 small-end cs v (remainder f of m rest) h =
     let outer = is_divided cs f of m in
-    both-true _ _ (and-left outer _ h) (both-true _ _ (and-left (are_small cs of) _ (and-right outer _ h)) (small-end cs v rest (and-right (are_small cs of) _ (and-right outer _ h))))
+    and_from _ _ (and-left outer _ h) (and_from _ _ (and-left (are_small cs of) _ (and-right outer _ h)) (small-end cs v rest (and-right (are_small cs of) _ (and-right outer _ h))))
 small-end cs v (quotient f of m rest) h =
     let outer = is_divided cs f of m in
-    both-true _ _ (and-left outer _ h) (both-true _ _ (and-left (are_small cs of) _ (and-right outer _ h)) (small-end cs v rest (and-right (are_small cs of) _ (and-right outer _ h))))
+    and_from _ _ (and-left outer _ h) (and_from _ _ (and-left (are_small cs of) _ (and-right outer _ h)) (small-end cs v rest (and-right (are_small cs of) _ (and-right outer _ h))))
 
 -- ---- multiples
 
@@ -96,7 +97,7 @@ divided-scaled cs c f n of m some h high s =
     let whole = nat_lt 0 f && nat_lt f (2 ^ 32) in
     let positive : 0 < f = above f (and-left (nat_lt 0 f) (nat_lt f (2 ^ 32)) (and-left whole rest s)) in
     let more : 1 * 1 ≤ c * f = mul-le-mul some positive in
-    both-true _ _ (both-true _ _ (positive-true (c * f) (omega (arith, more))) (small-true (c * f) (omega (arith, times-lt c f n some h, high)))) (and-right whole rest s)
+    and_from _ _ (and_from _ _ (positive-true (c * f) (omega (arith, more))) (small-true (c * f) (omega (arith, times-lt c f n some h, high)))) (and-right whole rest s)
   where
     positive-true : (n : ℕ) → 0 < n → nat_lt 0 n ≡ true
     positive-true n h = grind (arith, nat_tests)
@@ -105,15 +106,15 @@ small-scaled : (cs : ℕ → ℕ) (c n : ℕ) (e : Sum) → 0 < c → peak e < n
     are_small cs (scaled c e) ≡ true
 small-scaled cs c n (constant d) some h high s = small-true (c * d) (omega (arith, times-lt c d n some h))
 small-scaled cs c n (variable f d rest) some h high s =
-    both-true _ _ (small-true (c * f) (omega (arith, times-lt c f n some (max-left f (peak rest) n h)))) (small-scaled cs c n rest some (max-right f (peak rest) n h) high (and-right (nat_lt f (2 ^ 32)) _ s))
+    and_from _ _ (small-true (c * f) (omega (arith, times-lt c f n some (max-left f (peak rest) n h)))) (small-scaled cs c n rest some (max-right f (peak rest) n h) high (and-right (nat_lt f (2 ^ 32)) _ s))
 small-scaled cs c n (remainder f of m rest) some h high s =
     let outer = is_divided cs f of m in
-    both-true _ _ (divided-scaled cs c f n of m some (max-left f (peak rest) n h) high (and-left outer _ s))
-    (both-true _ _ (and-left (are_small cs of) _ (and-right outer _ s)) (small-scaled cs c n rest some (max-right f (peak rest) n h) high (and-right (are_small cs of) _ (and-right outer _ s))))
+    and_from _ _ (divided-scaled cs c f n of m some (max-left f (peak rest) n h) high (and-left outer _ s))
+    (and_from _ _ (and-left (are_small cs of) _ (and-right outer _ s)) (small-scaled cs c n rest some (max-right f (peak rest) n h) high (and-right (are_small cs of) _ (and-right outer _ s))))
 small-scaled cs c n (quotient f of m rest) some h high s =
     let outer = is_divided cs f of m in
-    both-true _ _ (divided-scaled cs c f n of m some (max-left f (peak rest) n h) high (and-left outer _ s))
-    (both-true _ _ (and-left (are_small cs of) _ (and-right outer _ s)) (small-scaled cs c n rest some (max-right f (peak rest) n h) high (and-right (are_small cs of) _ (and-right outer _ s))))
+    and_from _ _ (divided-scaled cs c f n of m some (max-left f (peak rest) n h) high (and-left outer _ s))
+    (and_from _ _ (and-left (are_small cs of) _ (and-right outer _ s)) (small-scaled cs c n rest some (max-right f (peak rest) n h) high (and-right (are_small cs of) _ (and-right outer _ s))))
 
 -- ---- under tensors
 
@@ -159,7 +160,7 @@ place-small (Blocks c ∷ path) r d v e cs several counts some high h =
           let count : cs v - 1 ≡ c - 1 = ap (λ z. z - 1) counts.0 in
           let whole : n * 1 * (cs v - 1) + n * 0 ≡ (c - 1) * n = ap (λ z. n * 1 * z + n * 0) count ∙ flat n (c - 1) in omega (arith, top-joined first g cs, whole, bound);
       peak = max-lt (n * 1) _ (c * n) (omega (arith, larger, one)) (peak-more (n * 0) (c * n) cs g (omega (arith, inner.peak, larger)) (omega (arith, none, inner.top, larger)));
-      small = both-true _ _ (small-true (n * 1) (omega (arith, one, low))) (small-more (n * 0) cs g inner.small (omega (arith, none, inner.top, low)));
+      small = and_from _ _ (small-true (n * 1) (omega (arith, one, low))) (small-more (n * 0) cs g inner.small (omega (arith, none, inner.top, low)));
     } where
       flat : (n b : ℕ) → n * 1 * b + n * 0 ≡ b * n
       flat n b = omega arith

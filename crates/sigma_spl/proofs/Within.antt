@@ -1,8 +1,9 @@
 -- What merging takes is within the limits.
-use Rattle.std.proofs.Common.{◌≡◌, ℕ, suc, ◌^◌, ◌<◌, ◌≤◌, Bool, true, false, arith, refl, List, [], ◌∷◌, ◌++◌, length}
-use Rattle.std.specs.Prelude.{map, nat_lt, nat_le, ◌&&◌, slice_index}
+use Rattle.std.proofs.Common.{◌≡◌, ℕ, ◌^◌, ◌<◌, ◌≤◌, Bool, true, arith, refl, List, [], ◌∷◌, ◌++◌, length}
+use Rattle.std.specs.Prelude.{map, nat_lt, nat_le, ◌&&◌}
 use Rattle.std.specs.List.{list_all}
 use Rattle.std.proofs.lemmas.Bool.Decides.{nat_tests}
+use Rattle.std.proofs.lemmas.Bool.{and_from}
 use Rattle.index_fn.specs.Mapping.{Mapping, at}
 use Rattle.operators.specs.Sum.{list_below}
 use Rattle.perm_algebra.specs.Affine.{Sum, constant, top, peak, levels, parts, simplified}
@@ -12,14 +13,10 @@ use Rattle.sigma_spl.specs.Merge.{most, Merging, Taking, limits_of, is_limited, 
 use Rattle.sigma_spl.specs.Merge.{is_within, loads_have_room, stores_have_room, can_gather, can_scatter, carries_sum}
 use Rattle.sigma_spl.specs.Merge.{is_free, can_multiply, gathered, scattered, all_simplified, multiplied, copying}
 use Rattle.sigma_spl.specs.Merge.{copy_by, take_gathers, copies_before, settled, with_pass, with_scatter, back_of}
-use Rattle.sigma_spl.specs.Merge.{from_end, ended, place_sum, new_nest}
+use Rattle.sigma_spl.specs.Merge.{from_end, ended, new_nest}
 use Rattle.sigma_spl.specs.Nest.{PlainFactors, factor_count, PlainNest}
 use Rattle.sigma_spl.specs.Work.{copy}
 use Rattle.sigma_spl.proofs.Walk.{chosen, and-left, and-right}
-
-pub both-true : (a b : Bool) → a ≡ true → b ≡ true → (a && b) ≡ true
-both-true true b h k = k
-both-true false b h k = absurd (cc)
 
 pub within-append : (room n : ℕ) (ps qs : List (List PlainNest)) → AreWithin room n ps → AreWithin room n qs →
     AreWithin room n (ps ++ qs)
@@ -100,7 +97,7 @@ pub carries-all : (room n count : ℕ) (cs : ℕ → ℕ) (fs : List Mapping) (e
     (map (all_simplified cs fs) es) ≡ true
 carries-all room n count cs fs [] h = refl
 carries-all room n count cs fs (e ∷ es) h =
-    both-true _ _ (carries-last room n count cs fs e (and-left (carries_sum room n count cs fs e) _ h)) (carries-all room n count cs fs es (and-right (carries_sum room n count cs fs e) _ h))
+    and_from _ _ (carries-last room n count cs fs e (and-left (carries_sum room n count cs fs e) _ h)) (carries-all room n count cs fs es (and-right (carries_sum room n count cs fs e) _ h))
 
 -- a pass that can take a diagonal is within the limits with it
 pub within-multiplied : (room n : ℕ) (factors : PlainFactors) (fs : List Mapping) (zs : List PlainNest) →
@@ -112,8 +109,8 @@ within-multiplied room n factors fs (z ∷ zs) h can =
     let places = list_all (is_limited room n cs) z.gathers && list_all (is_limited room n cs) z.scatters in
     let here = and-left (places && is_multiplier_within room cs z.multiplier) _ h in
     let carried = and-left (is_free z.multiplier && list_all (carries_sum room n (factor_count factors) cs fs) z.scatters) _ can in
-    both-true _ _
-    (both-true _ _ (and-left places _ here) (carries-all room n (factor_count factors) cs fs z.scatters (and-right (is_free z.multiplier) _ carried)))
+    and_from _ _
+    (and_from _ _ (and-left places _ here) (carries-all room n (factor_count factors) cs fs z.scatters (and-right (is_free z.multiplier) _ carried)))
     (within-multiplied room n factors fs zs (and-right (places && is_multiplier_within room cs z.multiplier) _ h) (and-right (is_free z.multiplier && list_all (carries_sum room n (factor_count factors) cs fs) z.scatters) _ can))
 
 -- ---- sums within the limits

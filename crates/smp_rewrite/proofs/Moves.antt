@@ -6,6 +6,7 @@ use Rattle.std.proofs.Math.Nat.{div-add-mod', mod-eq_of_lt}
 use Rattle.operators.specs.Identities.{widened, MovesWholeLines}
 use Rattle.operators.specs.Operator.{Operator, gather, on_columns, column, block}
 use Rattle.operators.proofs.Lists.{at-list_below, list_below-same_rows, row-of, column-of, place_below, factor_positive}
+use Rattle.operators.proofs.Lists.{on_columns-same, on_blocks-same}
 use Rattle.operators.proofs.Places.{column_at, block_at}
 use Rattle.operators.proofs.WholeLines.{whole_lines}
 use Rattle.smp_rewrite.specs.LayoutSteps.Meaning.{core_size, core_on, step_on}
@@ -13,7 +14,6 @@ use Rattle.smp_rewrite.specs.LayoutSteps.Step.{PlainCore, PlainStep, step}
 use Rattle.operators.specs.declared.tensor_paths.Tensor.{Tensor}
 use Rattle.operators.specs.declared.tensor_paths.Tensor.TheVariants.{Blocks, Columns}
 use Rattle.operators.specs.TensorPaths.Path.{Path, grown, size_under, one_under, under}
-use Rattle.operators.proofs.TensorPaths.Equal.{on_columns-same, on_blocks-same}
 use Rattle.smp_rewrite.specs.Laws.{step_size, IsPermutation, IsMove, MovesLines}
 use Rattle.smp_rewrite.proofs.Cores.{IsGather, core-gathers}
 

@@ -1,16 +1,14 @@
 -- The parts of a tree, whose walk goes on in them.
-use Rattle.std.proofs.Common.{◌≡◌, ◌≢◌, Bool, true, false, if◌then◌else◌, arith, refl, sym, subst, ap, ◌∙◌}
+use Rattle.std.proofs.Common.{◌≡◌, ◌≢◌, refl, sym, subst}
 use Rattle.kernel_gen.specs.Nodes.{IsNodeTree}
-use Rattle.kernel_gen.proofs.NodeTrees.{left_tree, right_tree, size-le}
+use Rattle.kernel_gen.proofs.NodeTrees.{left_tree, right_tree}
 use Rattle.matrix_meaning.specs.declared.Kind.{Kind}
 use Rattle.matrix_meaning.specs.declared.Kind.TheVariants.{Dft, Wht, Idft}
 use Rattle.matrix_meaning.specs.declared.Request.{Request}
-use Rattle.sigma_spl.specs.Work.{kernel, node_of, rows}
+use Rattle.sigma_spl.specs.Work.{kernel, node_of}
 use Rattle.smp_rewrite.specs.Walk.{left_part, left_request, right_part, right_request}
-use Rattle.smp_rewrite.specs.LayoutSteps.Layout.{long_work, node_work}
-use Rattle.tree_model.specs.Breakdown.{Breakdown, leaf, node, size_of, HasWordSizes}
-use Rattle.tree_model.specs.Cost.{is_kernel, node_root}
-use Rattle.tree_model.proofs.FlatTrees.{tree_word_sizes}
+use Rattle.smp_rewrite.specs.LayoutSteps.Layout.{long_work}
+use Rattle.tree_model.specs.Breakdown.{Breakdown, leaf, node}
 
 pub left_walked : (p : Request) (t : Breakdown) → IsNodeTree p t → IsNodeTree (left_request p t) (left_part t)
 left_walked p (leaf d) h = h
@@ -24,12 +22,6 @@ right_walked p (node rule a b) h = right_tree p rule a b h
 pub walked_as : (p q : Request) (t u : Breakdown) → q ≡ p → u ≡ t → IsNodeTree p t → IsNodeTree q u
 walked_as p q t u is same h =
     subst (λ (r : Request). IsNodeTree r u) (sym is) (subst (IsNodeTree p) (sym same) h)
-
-pub walked_words : (p : Request) (t : Breakdown) → IsNodeTree p t → HasWordSizes t
-walked_words p t h =
-    let high = size-le p t h in
-    let most = h.valid.in_range.size.1 in
-    tree_word_sizes p t h.tree (omega (arith, high, most))
 
 -- ---- a longer work that does not go row by row
 

@@ -11,8 +11,7 @@ use Rattle.operators.proofs.Lists.{at-list_below, list_below-same, row-of, colum
 use Rattle.operators.specs.declared.tensor_paths.Tensor.{Tensor}
 use Rattle.operators.specs.declared.tensor_paths.Tensor.TheVariants.{Blocks, Columns}
 use Rattle.operators.specs.TensorPaths.Path.{Path, count_of, grown, size_under, copies_of, one_under, under, Reads}
-use Rattle.operators.proofs.TensorPaths.Equal.{on_columns-same, on_blocks-same}
-use Rattle.operators.proofs.TensorPaths.Under.{under-size}
+use Rattle.operators.proofs.TensorPaths.Under.{under-size, one_under-same}
 use Rattle.sigma_spl.specs.Good.{AreBlocks}
 use Rattle.smp_rewrite.specs.Smp.{within}
 
@@ -96,11 +95,6 @@ copies-pick false t path one = refl
 
 pub copies-within : (t : Tensor) (path : Path) → copies_of (within t path) ≡ count_of t * copies_of path
 copies-within t path = copies-pick (count_of t == 1) t path (is-one (count_of t))
-
-one_under-same : (t : Tensor) (n : ℕ) (a b : Operator) (x : List ℕ) → ((y : List ℕ) → a y ≡ b y) →
-    one_under t n a x ≡ one_under t n b x
-one_under-same (Blocks k) n a b x h = on_blocks-same k n a b x h
-one_under-same (Columns k) n a b x h = on_columns-same n k a b x h
 
 -- blocks in blocks
 pick-blocks : (b : Bool) (k : ℕ) (path : Path) → AreBlocks path → AreBlocks (if b then path else Blocks k ∷ path)

@@ -1,5 +1,5 @@
 -- What the commands that write a program answer for a right line, where the program's statements are forgotten.
-use Rattle.std.proofs.Common.{◌≡◌, ◌++◌, ◌≤◌, ◌<◌, ◌^◌, ℕ, true, List, [], ◌∷◌, Ok, refl, arith, inr, codes}
+use Rattle.std.proofs.Common.{◌≡◌, ◌≤◌, ℕ, true, List, [], ◌∷◌, Ok, refl, arith, inr, codes}
 use Rattle.c_print.specs.CText.{c_text_of}
 use Rattle.commands.specs.ConvolutionCommands.ConvPlanned.{IsConvPlanned}
 use Rattle.commands.specs.ConvolutionCommands.Convolving.{IsConvRequest}
@@ -10,7 +10,7 @@ use Rattle.commands.specs.Equations.Front.{line, room_behind}
 use Rattle.commands.specs.Equations.Orders.{Planned, planned}
 use Rattle.commands.specs.Equations.Trace.{trace_outcomes, trace_work}
 use Rattle.commands.specs.Equations.Convolutions.{conv_planned}
-use Rattle.commands.specs.Equations.Works.{all, the_first, by_first, mapping, status_by}
+use Rattle.commands.specs.Equations.Works.{all, the_first, by_first, status_by}
 use Rattle.commands.specs.FormulaCommands.Code.{IsCodeOf}
 use Rattle.commands.specs.FormulaCommands.Letters as formulas
 use Rattle.commands.specs.GoodPrograms.{FormulaProgramsAreCode}
@@ -29,7 +29,6 @@ use Rattle.spiral_words.specs.declared.Command.{Command}
 use Rattle.spiral_words.specs.declared.Command.TheVariants as command
 use Rattle.spiral_words.specs.declared.Document.TheVariants as document
 use Rattle.spiral_words.specs.declared.FormulaCommand.TheVariants as formula_command
-use Rattle.spiral_words.specs.declared.Order.{Order}
 use Rattle.spiral_words.specs.declared.RequestCommand.TheVariants as request
 use Rattle.spiral_words.specs.declared.spiral_status.status.Status.{Status}
 use Rattle.spiral_words.specs.declared.spiral_status.status.Status.TheVariants.{Success}

@@ -1,10 +1,9 @@
 -- What is right for each command has one status and one text.
-use Rattle.std.proofs.Common.{◌≡◌, ◌++◌, ◌∷◌, ℕ, Bool, true, false, List, [], Ok, Err, Result, sym, ap, ap₂, ◌∙◌}
+use Rattle.std.proofs.Common.{◌≡◌, ◌++◌, ℕ, Bool, true, false, List, [], Ok, Err, Result, sym, ap, ap₂, ◌∙◌}
 use Rattle.c_print.specs.CText.{c_text_of}
 use Rattle.commands.specs.Emission.Whole.{conv_emission}
 use Rattle.commands.specs.FormulaCommands.Letters as formulas
 use Rattle.commands.specs.Emission.Whole.{emission}
-use Rattle.icode.specs.Plain.{PlainProgram}
 use Rattle.listing_text.specs.Listing.{listing_of}
 use Rattle.matrix_meaning.specs.Asked.{asked_of}
 use Rattle.matrix_meaning.specs.Convolution.{convolution}
@@ -27,7 +26,6 @@ use Rattle.spiral_words.specs.declared.FormulaCommand.{FormulaCommand}
 use Rattle.spiral_words.specs.declared.FormulaCommand.TheVariants as formula
 use Rattle.spiral_words.specs.declared.RequestCommand.{RequestCommand}
 use Rattle.spiral_words.specs.declared.RequestCommand.TheVariants as request
-use Rattle.spiral_words.specs.declared.Order.{Order}
 use Rattle.spl_ast.specs.Formula.{Formula, size_of}
 use Rattle.spl_ast.specs.Meaning as meanings
 use Rattle.spiral_words.specs.declared.spiral_status.status.Status.{Status}

@@ -1,5 +1,5 @@
 -- What is right for a command has one status and one text.
-use Rattle.std.proofs.Common.{◌≡◌, ◌≤◌, ◌<◌, ℕ, List, [], ◌∷◌, sym, ap, ◌∙◌, arith, inl, inr}
+use Rattle.std.proofs.Common.{◌≡◌, ℕ, List, [], ◌∷◌, sym, ap, ◌∙◌, arith, inl, inr}
 use Rattle.plan_cert.specs.declared.verdict.Verdict.{Verdict}
 use Rattle.spiral_words.specs.declared.spiral_status.status.Status.{Status}
 use Rattle.commands.specs.Checked.{status_of_verdict, verdict_text}

@@ -1,5 +1,5 @@
 -- A call that is right succeeds, unless the outside fails or memory runs out.
-use Rattle.std.proofs.Common.{◌≡◌, ◌≢◌, ◌⊎◌, ◌≤◌, ◌∷◌, ℕ, Bool, true, false, List, [], Ok, refl, ap, subst, ◌∙◌, arith}
+use Rattle.std.proofs.Common.{◌≡◌, ◌≢◌, ◌⊎◌, ◌∷◌, ℕ, Bool, true, false, List, [], Ok, refl, ap, subst, ◌∙◌, arith}
 use Rattle.std.proofs.Common.{inl, inr}
 use Rattle.std.specs.declared.option.Option.{Option}
 use Rattle.matrix_meaning.specs.Valid.{IsValid}
@@ -45,7 +45,7 @@ use Rattle.commands.specs.Equations.Orders.{Planned, planned, turned}
 use Rattle.commands.specs.Equations.Requests.{document_outcomes, document_work, outcomes_by_request}
 use Rattle.commands.specs.Equations.Run.{run_work}
 use Rattle.commands.specs.Equations.Trace.{trace_work}
-use Rattle.commands.specs.Equations.Works.{a_first, all, judging, mapping, status_by, the_first}
+use Rattle.commands.specs.Equations.Works.{a_first, judging, status_by, the_first}
 use Rattle.commands.specs.ListingCommands.Listed.{loaded}
 use Rattle.commands.specs.SpiralInput.Asking.{spelt}
 use Rattle.commands.specs.SpiralInput.Commands.{procs_named}

@@ -31,7 +31,7 @@ use Rattle.commands.specs.SpiralInput.Stage.{Stage}
 use Rattle.commands.specs.Equations.Front.{Front, line, ordered, part, room_behind, Work, by_front}
 use Rattle.commands.specs.Equations.Convolve.{IsConvolveText, IsConvolverText, convolve_outcomes, convolve_work}
 use Rattle.commands.specs.Equations.Convolve.{convolver_outcomes, convolver_work}
-use Rattle.commands.specs.Equations.Works.{a_first, all, by_first, status_by, the_first, writing, mapping}
+use Rattle.commands.specs.Equations.Works.{a_first, all, status_by, the_first, writing, mapping}
 use Rattle.commands.specs.Equations.Orders.{Planned, planned}
 use Rattle.commands.specs.Equations.Apply.{apply_outcomes, apply_work}
 use Rattle.spiral_main.specs.Outcome.{IsOutcome, Accounts}

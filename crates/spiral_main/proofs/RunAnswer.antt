@@ -1,5 +1,5 @@
 -- What `run` answers depends on the chosen tree by its cost alone.
-use Rattle.std.proofs.Common.{◌≡◌, ℕ, List, Ok, Err, inl, inr}
+use Rattle.std.proofs.Common.{ℕ, List, Ok, Err, inl, inr}
 use Rattle.commands.specs.Equations.Front.{line, ordered}
 use Rattle.commands.specs.Equations.Orders.{Planned, chosen, planned, spelt_for}
 use Rattle.commands.specs.Equations.Run.{affordable, run_answer, run_outcomes}

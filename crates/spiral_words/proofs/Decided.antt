@@ -180,7 +180,7 @@ asked_or_refused words = at (is_empty (fault_of spiral_app words)) refl
           | inr other ↦ inr (inr (found.0, found.1, found.2, other))
         ]
 
-some_same : {A : Type 0} (a b : A) → Some a ≡ Some b → a ≡ b
+pub some_same : {A : Type 0} (a b : A) → Some a ≡ Some b → a ≡ b
 some_same a b e = cc
 
 refused_usage : (words : List Text) → IsRefused words → IsUsage words

@@ -1,5 +1,5 @@
 -- Words ask for one command.
-use Rattle.std.proofs.Common.{◌≡◌, ℕ, ◌^◌, List, [], ◌∷◌, ◌++◌, Bool, true, false, Result, Ok, Err, Some, refl, sym, ap}
+use Rattle.std.proofs.Common.{◌≡◌, ℕ, ◌^◌, List, [], ◌∷◌, ◌++◌, Bool, true, false, refl, sym, ap}
 use Rattle.std.proofs.Common.{ap₂, subst, ◌∙◌, codes, arith, inl, inr}
 use Rattle.clap.specs.Words.{Row, Text}
 use Rattle.grammar.specs.Grammar.{Judges, number, one_of}
@@ -8,6 +8,7 @@ use Rattle.request_text.specs.Mix.{mix_word}
 use Rattle.request_text.specs.Schedule.{Plan, schedule_word}
 use Rattle.request_text.proofs.MixWord.{mix_judges}
 use Rattle.request_text.proofs.ScheduleWord.{word_judges}
+use Rattle.request_text.proofs.OneAnswer.{judged_once}
 use Rattle.spiral_words.proofs.NumberWord.{seed_judges, small_judges}
 use Rattle.spiral_words.specs.declared.app.OptionName.TheVariants as option
 use Rattle.spiral_words.specs.declared.command.Command.{Command}
@@ -22,24 +23,19 @@ use Rattle.spiral_words.specs.CommandLine.{is_given, text_of}
 use Rattle.spiral_words.specs.Asked.{AsksOrder, IsAsked, Means, SpellsOrder, modulus_word, seed_word}
 use Rattle.spiral_words.proofs.Meanings.{plan_only, formula_only, code_only, c_only, cert_only, check_only, sample_only}
 use Rattle.spiral_words.proofs.Meanings.{run_only, trace_only, compile_only, apply_only, exec_only, convolve_only}
-
--- a text spells one value
-spelt_once : {S A : Type 0} (L : List S → A → Type 0) (text : List S) (r : Result A ℕ) (a b : A) → Judges L text r →
-    L text a → L text b → a ≡ b
-spelt_once L text (Ok value) a b j p q = j.1 a p ∙ sym (j.1 b q)
-spelt_once L text (Err left) a b j p q = absurd (j.1.nothing a p)
+use Rattle.spiral_words.proofs.Decided.{some_same}
 
 seed_once : (word : List ℕ) (s t : ℕ) → seed_word word s → seed_word word t → s ≡ t
-seed_once word s t p q = spelt_once seed_word word _ s t (seed_judges word _ refl) p q
+seed_once word s t p q = judged_once seed_word word _ s t (seed_judges word _ refl) p q
 
 modulus_once : (word : List ℕ) (s t : ℕ) → modulus_word word s → modulus_word word t → s ≡ t
-modulus_once word s t p q = spelt_once (number (2 ^ 62)) word _ s t (small_judges word _ refl) p.0 q.0
+modulus_once word s t p q = judged_once (number (2 ^ 62)) word _ s t (small_judges word _ refl) p.0 q.0
 
 pub schedule_once : (word : List ℕ) (s t : Plan) → schedule_word word s → schedule_word word t → s ≡ t
-schedule_once word s t p q = spelt_once schedule_word word _ s t (word_judges word _ refl) p q
+schedule_once word s t p q = judged_once schedule_word word _ s t (word_judges word _ refl) p q
 
 pub mix_once : (word : List ℕ) (s t : List Event) → mix_word word s → mix_word word t → s ≡ t
-mix_once word s t p q = spelt_once mix_word word _ s t (mix_judges word _ refl) p q
+mix_once word s t p q = judged_once mix_word word _ s t (mix_judges word _ refl) p q
 
 -- ---- no word spells a schedule, and turns and drains
 
@@ -117,9 +113,6 @@ means_once name rows (ByListing schedule) b p q =
 means_once name rows (ByList schedule as_code) b p q =
     let r = convolve_only rows b (subst (λ n. Means n rows b) p.0 q) in
     ap₂ ByList (schedule_once (text_of option.Schedule rows) schedule r.0 p.1 r.3) (p.2 ∙ sym r.4) ∙ sym r.2
-
-some_same : {A : Type 0} (a b : A) → Some a ≡ Some b → a ≡ b
-some_same a b e = cc
 
 pub asked_once : (words : List Text) (a b : Command) → IsAsked words a → IsAsked words b → a ≡ b
 asked_once words a b p q =

@@ -94,7 +94,7 @@ within : (measure : Formula → ℕ) (at : Formula → Formula) (f g : Formula) 
     (measure g < measure f → measure (at g) < measure (at f)) → NotAbove measure f g → NotAbove measure (at f) (at g)
 within measure at f g falls p = ⊎_elim (λ e. inl (ap at e)) (λ l. inr (falls l)) p
 
-is_size_of : {a c : ℕ} → c ≡ a → IsSize a → IsSize c
+pub is_size_of : {a c : ℕ} → c ≡ a → IsSize a → IsSize c
 is_size_of {a} {c} e s = (omega arith, omega arith)
 
 pub rewrites_left : (m : ℕ) (measure : Formula → ℕ) (f a c : Formula) (k : ℕ) → MeasuresParts measure →

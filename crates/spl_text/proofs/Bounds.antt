@@ -1,11 +1,9 @@
 -- What is read of numbers is within their limits.
-use Rattle.std.proofs.Common.{◌≡◌, ℕ, ◌^◌, ◌<◌, Result, Ok, Err, subst, arith, List, [], ◌∷◌, ◌++◌, All, codes, sym, ap}
-use Rattle.std.proofs.Common.{refl, length}
+use Rattle.std.proofs.Common.{◌≡◌, ℕ, ◌^◌, Result, Ok, Err, subst, arith, List, [], ◌∷◌, ◌++◌, All, codes, sym, ap}
 use Rattle.std.proofs.lemmas.Grind.{common_steps}
 use Rattle.grammar.proofs.Loop.{in_front}
 use Rattle.grammar.specs.Grammar.{number, positive, named_number}
-use Rattle.grammar.specs.Reading.{Place, number_at, positive_at, named_number_at, all_at}
-use Rattle.spl_text.specs.Arguments.{value_at, close_at, values_at}
+use Rattle.grammar.specs.Reading.{Place, number_at, positive_at, named_number_at}
 use Rattle.grammar.proofs.Numbers.{NoDigit}
 use Rattle.grammar.proofs.Parts.{number_reader, named_number_reader}
 use Rattle.grammar.proofs.Places.{Answers, IsReader}

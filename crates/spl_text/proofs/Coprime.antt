@@ -2,7 +2,7 @@
 use Rattle.std.proofs.Common.{◌≡◌, ℕ, zero, suc, ◌/◌, ◌%◌, ◌<◌, ◌≤◌, Bool, true, false, not, ◌&&◌, ◌||◌, eqb, ltb}
 use Rattle.std.proofs.Common.{IsTrue, ◌↔◌, refl, sym, ap, ap₂, arith, ◌∙◌, mul_comm, ⊎_elim}
 use Rattle.std.specs.Int.{IsGcd, ◌∣◌}
-use Rattle.std.proofs.lemmas.Bool.{eq-eqb, eqb-true, lt-ltb, ltb-true, cases_lt}
+use Rattle.std.proofs.lemmas.Bool.{eq-eqb, eqb-true, lt-ltb, ltb-true, cases_lt, or_parts}
 use Rattle.std.proofs.lemmas.Nat.Gcd.{dvd_of_mod-eq-zero, mod-eq-zero_of_dvd, dvd_refl, le_of_dvd}
 use Rattle.std.proofs.Math.Nat.{eq-zero_of_zero-dvd, one-dvd}
 use Rattle.tree_model.proofs.Splits.{product_div}
@@ -12,16 +12,12 @@ use Rattle.spl_text.specs.Fault.{share_factor, are_coprime}
 pub multiple : (n r : ℕ) → n % r ≡ 0 → IsMultiple n r
 multiple n r h = mul_comm (n / r) r ∙ product_div n r h
 
-or_false : (a b : Bool) → (a || b) ≡ false → (a ≡ false) × (b ≡ false)
-or_false true b e = absurd cc
-or_false false b e = (refl, e)
-
 -- no number up to n divides both
 no_shared : (n r s : ℕ) → share_factor n r s ≡ false → (d : ℕ) → 2 ≤ d → d ≤ n → r % d ≡ 0 → s % d ≡ 0 → ⊥
 unfolding share_factor
 no_shared zero r s e d low high hr hs = omega arith
 no_shared (suc n) r s e d low high hr hs =
-    let parts = or_false (ltb 0 n && (eqb (r % suc n) 0 && eqb (s % suc n) 0)) (share_factor n r s) e in
+    let parts = or_parts (ltb 0 n && (eqb (r % suc n) 0 && eqb (s % suc n) 0)) (share_factor n r s) e in
     ⊎_elim
     (λ below. no_shared n r s parts.1 d low (omega arith) hr hs)
     (λ over.

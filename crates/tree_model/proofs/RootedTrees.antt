@@ -1,5 +1,5 @@
 -- Trees with the roots of their nodes have the size of the tree, and their sizes are words where the tree's are.
-use Rattle.std.proofs.Common.{◌≡◌, ℕ, ◌*◌, ◌^◌, ◌<◌, refl, ap, subst}
+use Rattle.std.proofs.Common.{◌≡◌, ◌*◌, ◌^◌, ◌<◌, refl, ap, subst}
 use Rattle.matrix_meaning.specs.declared.Request.{Request}
 use Rattle.matrix_meaning.specs.Parts.{rest_of}
 use Rattle.tree_model.specs.Breakdown.{Breakdown, leaf, node, size_of, HasWordSizes}

@@ -117,7 +117,7 @@ whole_by_parts c a b range several can left right =
     left right
 
 -- a request on one processor and one lane can be divided
-plain_by : (c : Request) (ds : Dimensions) → is_plain c ≡ true → CanDivideBy c ds
+pub plain_by : (c : Request) (ds : Dimensions) → is_plain c ≡ true → CanDivideBy c ds
 plain_by c One plain = inl plain
 plain_by c (Two a b) plain = inl plain
 plain_by c (Three a b d) plain = inl plain

@@ -5,10 +5,9 @@ use Rattle.matrix_meaning.specs.declared.Request.{Request}
 use Rattle.matrix_meaning.specs.Parts.{forward_of}
 use Rattle.matrix_meaning.specs.Valid.{IsBetween}
 use Rattle.operators.specs.Sizes.{max_size}
-use Rattle.tree_model.specs.Breakdown.{Breakdown, size_of, HasWordSizes}
+use Rattle.tree_model.specs.Breakdown.{Breakdown, size_of}
 use Rattle.tree_model.specs.Chosen.{StandsIn}
 use Rattle.tree_model.specs.Cost.{IsModest}
-use Rattle.tree_model.proofs.FlatTrees.{tree_word_sizes}
 use Rattle.tree_model.proofs.Splits.{product_div}
 use Rattle.tree_model.proofs.WholeTrees.{forward_size}
 

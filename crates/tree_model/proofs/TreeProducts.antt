@@ -1,11 +1,11 @@
 -- The laws of the tensor product of transforms: how many items it has, and that it looks at residues and leaves residues.
-use Rattle.std.proofs.Common.{◌≡◌, ℕ, ◌+◌, ◌*◌, ◌/◌, ◌%◌, ◌<◌, sym, ap, ◌∙◌, List, length, mod-lt, div-lt_iff_lt-mul}
+use Rattle.std.proofs.Common.{◌≡◌, ℕ, ◌+◌, ◌*◌, ◌/◌, ◌%◌, ◌<◌, sym, ap, ◌∙◌, List, mod-lt, div-lt_iff_lt-mul}
 use Rattle.std.specs.Prelude.{slice_index}
 use Rattle.std.proofs.lemmas.Nat.{mul-mod_second}
 use Rattle.matrix_meaning.specs.declared.Kind.{Kind}
 use Rattle.matrix_meaning.specs.Kind.{entry_of, transform}
 use Rattle.operators.specs.Operator.{column, block, on_blocks, on_columns}
-use Rattle.operators.proofs.Lists.{length-list_below, at-list_below, list_below-same, place_below, factor_positive}
+use Rattle.operators.proofs.Lists.{at-list_below, list_below-same, place_below, factor_positive}
 use Rattle.operators.proofs.Lists.{by_rows, at-on_columns}
 use Rattle.operators.proofs.Matrices.{at-matrix_times}
 use Rattle.operators.proofs.Sums.{same-sum_below}

@@ -22,7 +22,7 @@ use Rattle.tree_model.specs.WholePasses.{RequestPass, pass_of, closed_by, cost_o
 use Rattle.tree_model.specs.WholePasses.{pass_cost_in, passes_in, request_passes, shared_passes}
 use Rattle.tree_model.proofs.FlatTrees.{flat_costs, tree_of_one, well_formed}
 use Rattle.tree_model.proofs.PassLaws.{IsPlainAtEnd, passes_cost_of, passes_plain, plain_append, twiddle_last_cost}
-use Rattle.tree_model.proofs.PassLaws.{whole_passes_cost}
+use Rattle.tree_model.proofs.PassLaws.{whole_passes_cost, plain_pick}
 use Rattle.tree_model.proofs.SeveralParts.{several_forward}
 use Rattle.tree_model.proofs.WholeTrees.{admissible_of_whole, cost_itself, cost_of_one, forward_dimensions}
 use Rattle.tree_model.proofs.WholeTrees.{forward_itself, forward_size}
@@ -122,10 +122,6 @@ plain_tiled p (node Dim a b) =
     plain_behind (tiles false) (passes_of p (size_of a) b ++ (tiles false ∷ passes_of p (size_of b) a))
     (plain_append (passes_of p (size_of a) b) (tiles false ∷ passes_of p (size_of b) a)
     (plain_behind (tiles false) (passes_of p (size_of b) a) (passes_plain p (size_of b) a)))
-
-plain_pick : (b : Bool) (ps qs : List Pass) → IsPlainAtEnd ps → IsPlainAtEnd qs → IsPlainAtEnd (if b then ps else qs)
-plain_pick true ps qs h k = h
-plain_pick false ps qs h k = k
 
 pub whole_plain : (p : Request) (t : Breakdown) → IsPlainAtEnd (whole_passes p t)
 whole_plain p t =

@@ -7,20 +7,19 @@ use Rattle.matrix_meaning.specs.declared.Kind.{Kind}
 use Rattle.matrix_meaning.specs.declared.Kind.TheVariants.{Dft, Wht, Idft}
 use Rattle.matrix_meaning.specs.declared.Request.{Request}
 use Rattle.matrix_meaning.specs.Parts.{forward_by, forward_of}
-use Rattle.matrix_meaning.specs.Valid.{IsInRange}
 use Rattle.tree_model.specs.declared.tree.Rule.{Rule}
 use Rattle.tree_model.specs.declared.tree.Rule.TheVariants.{Gt, Ct, Split, Dim}
 use Rattle.tree_model.specs.Admissible.{Fits, IsAdmissible, IsChosen, IsLeast, RootFits, RuleFits}
-use Rattle.tree_model.specs.Breakdown.{Breakdown, leaf, node, size_of, HasWordSizes}
+use Rattle.tree_model.specs.Breakdown.{Breakdown, leaf, node, size_of}
 use Rattle.tree_model.specs.Chosen.{IsWholeChosen, IsWholeLeast, IsWholeTree, closing_by, closing_cost, whole_cost}
 use Rattle.tree_model.specs.Cost.{cost_of, is_plain}
 use Rattle.tree_model.specs.Laws.{ChosenOfOne, LeastOfOne, WholeOfOne}
 use Rattle.tree_model.specs.Whole.{cost_in}
-use Rattle.tree_model.proofs.FlatTrees.{flat_costs, tree_of_one, tree_word_sizes, well_formed}
+use Rattle.tree_model.proofs.FlatTrees.{flat_costs, tree_of_one, well_formed}
 
 -- ---- the forward request has the fields of the request
 
-by_size : (kind : Kind) (c : Request) → (forward_by kind c).size ≡ c.size
+pub by_size : (kind : Kind) (c : Request) → (forward_by kind c).size ≡ c.size
 by_size Dft c = refl
 by_size Wht c = refl
 by_size Idft c = refl

@@ -6,9 +6,8 @@ use Rattle.operators.specs.Operator.{Operator, on_columns, on_blocks, column, bl
 use Rattle.operators.specs.Sum.{list_below}
 use Rattle.operators.proofs.Blocks.{tensor_of_product, lanes_of_blocks, tiles_first, tiles_last}
 use Rattle.operators.proofs.Lists.{at-list_below, length-list_below, list_below-same, list_below-same_rows, row-of}
-use Rattle.operators.proofs.Lists.{column-of, place_below, at-stride}
+use Rattle.operators.proofs.Lists.{column-of, place_below, at-stride, on_blocks-same}
 use Rattle.operators.proofs.Places.{on_columns_at, on_blocks_at, column_at, block_at, same_by_three}
-use Rattle.operators.proofs.TensorPaths.Equal.{on_blocks-same}
 
 -- blocks of columns are columns of blocks
 pub blocks_of_columns : (k n v : ℕ) (a : Operator) (x : List ℕ) →

@@ -5,14 +5,13 @@ use Rattle.operators.specs.Identities.{HasSize, turn}
 use Rattle.operators.specs.Operator.{Operator, on_columns, on_blocks}
 use Rattle.operators.specs.Sum.{list_below}
 use Rattle.operators.proofs.Blocks.{tensor_of_product, columns_in_columns, turn_in_blocks}
-use Rattle.operators.proofs.Lists.{length-list_below}
+use Rattle.operators.proofs.Lists.{length-list_below, on_blocks-same}
 use Rattle.smp_rewrite.specs.Smp.{within}
 use Rattle.smp_rewrite.proofs.Cores.{core-reads, core-gives}
 use Rattle.smp_rewrite.proofs.Tensors.{under-within_all, reads-one_under}
 use Rattle.smp_rewrite.specs.LayoutSteps.Meaning.{step_on, all_on}
 use Rattle.smp_rewrite.specs.LayoutSteps.Step.{turns, step}
 use Rattle.operators.specs.declared.tensor_paths.Tensor.TheVariants.{Blocks, Columns}
-use Rattle.operators.proofs.TensorPaths.Equal.{on_blocks-same}
 use Rattle.vec_rewrite.specs.declared.Deal.{Deal}
 use Rattle.vec_rewrite.specs.declared.Grid.{Grid}
 use Rattle.vec_rewrite.specs.Turning.{parted, joined}

@@ -3,16 +3,13 @@ use Rattle.std.proofs.Common.{◌≡◌, ℕ, zero, suc, ◌+◌, List, [], ◌�
 use Rattle.std.proofs.Common.{◌∙◌, arith, append-nil, append_assoc}
 use Rattle.std.specs.List.{range_with_len}
 use Rattle.std.proofs.lemmas.List.Concat.{flat_map-append}
-use Rattle.std.proofs.Math.Path.{fun_ext}
-use Rattle.icode.specs.declared.action.Action.{Action}
-use Rattle.icode.specs.declared.program.Op.{Op}
 use Rattle.icode.specs.declared.program.Program.{Program}
 use Rattle.icode.specs.declared.program.Stmt.{Stmt}
-use Rattle.icode.specs.declared.program.Stmt.TheVariants.{Loop, Do}
+use Rattle.icode.specs.declared.program.Stmt.TheVariants.{Loop}
 use Rattle.icode.specs.Actions.{Step, actions_of}
-use Rattle.icode.specs.Program.{op_step, stmt_steps, body_steps}
-use Rattle.icode.proofs.Steps.{steps-Loop, steps-Do}
-use Rattle.icode.specs.CodeLaws.Nests.{bodies, nest}
+use Rattle.icode.specs.Program.{stmt_steps, body_steps}
+use Rattle.icode.proofs.Steps.{steps-Loop}
+use Rattle.icode.specs.CodeLaws.Nests.{bodies}
 use Rattle.icode.specs.CodeLaws.Statements.{actions_at}
 
 actions_of-append : (xs ys : List Step) → actions_of (xs ++ ys) ≡ actions_of xs ++ actions_of ys

@@ -12,7 +12,7 @@ use Rattle.icode.specs.CodeLaws.Lanes.{lane_of}
 use Rattle.icode.proofs.CodeLaws.Placing.{with_words_there, with_words_elsewhere}
 use Rattle.icode.proofs.CodeLaws.Statements.{range-last}
 
-slice_index-front : (xs ys : List ℕ) (i : ℕ) → i < length xs → slice_index (xs ++ ys) i ≡ slice_index xs i
+pub slice_index-front : (xs ys : List ℕ) (i : ℕ) → i < length xs → slice_index (xs ++ ys) i ≡ slice_index xs i
 slice_index-front [] ys i below = absurd (omega arith)
 slice_index-front (x ∷ xs) ys zero below = refl
 slice_index-front (x ∷ xs) ys (suc i) below = slice_index-front xs ys i (omega arith)

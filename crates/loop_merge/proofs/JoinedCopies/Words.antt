@@ -9,6 +9,7 @@ use Rattle.sigma_spl.specs.Merge.{is_free}
 use Rattle.sigma_spl.specs.Nest.{PlainMultiplier, PlainNest}
 use Rattle.sigma_spl.specs.Work.{PlainWork, kernel, rows, horner, tile, copy}
 use Rattle.perm_algebra.specs.Affine.{Sum, constant, variable, remainder, quotient}
+use Rattle.sigma_spl.proofs.Walk.{free-none}
 
 -- ---- the words of a nest
 
@@ -76,10 +77,6 @@ word-is (horner root size) h = absurd (cc)
 word-is (tile lanes) h = absurd (cc)
 word-is (copy size) h = let one : size ≡ 1 = grind (arith, nat_tests) in ap copy one
 
-free-is : (o : Option PlainMultiplier) → is_free o ≡ true → o ≡ None
-free-is None h = refl
-free-is (Some d) h = absurd (cc)
-
 chosen-run : (a b : Bool) (o : Option PlainRun) (r : PlainRun) → ◌≡◌ {A = Option PlainRun} (if a && b then o else None) (Some r) → (a ≡ true) × (b ≡ true) × (o ≡ Some r)
 chosen-run true true o r h = (refl, refl, h)
 chosen-run true false o r h = absurd (cc)
@@ -97,7 +94,7 @@ run-is z r h =
     let loads = words-are z.counts z.gathers r both.from in
     let stores = words-are z.counts z.scatters both.to both.stored in
     record {
-      is = nest-is z.counts z.work z.gathers z.multiplier z.scatters r.first (word-is z.work parts.0) loads.places (free-is z.multiplier parts.1) (stores.places ∙ ap (places_from z.counts) both.same);
+      is = nest-is z.counts z.work z.gathers z.multiplier z.scatters r.first (word-is z.work parts.0) loads.places (free-none z.multiplier parts.1) (stores.places ∙ ap (places_from z.counts) both.same);
       counted = loads.counted;
     }
 

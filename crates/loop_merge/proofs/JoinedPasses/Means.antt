@@ -4,11 +4,12 @@ use Rattle.std.specs.Prelude.{slice_index}
 use Rattle.loop_merge.specs.JoinedPasses.Joined.{joined}
 use Rattle.loop_merge.specs.JoinedPasses.Laws.{AreInTurn}
 use Rattle.loop_merge.specs.MultipliedPasses.Multiplied.{multiplied_last}
-use Rattle.loop_merge.proofs.MultipliedPasses.Means.{last-scaled, one-phase, phase-append}
+use Rattle.loop_merge.proofs.MultipliedPasses.Means.{last-scaled, one-phase}
 use Rattle.operators.specs.Operator.{scale}
 use Rattle.sigma_spl.specs.Shared.Owners.{all_passes}
 use Rattle.sigma_spl.specs.Merged.{PlainMerged, phase_on, phases_on, merged_on}
 use Rattle.sigma_spl.specs.Nest.{PlainNest, values}
+use Rattle.sigma_spl.proofs.Phases.{phase-append}
 
 pub joined_means : (g k : PlainMerged) (ds : List ℕ) → AreInTurn g ds k (joined g ds k)
 joined_means g k ds free size m x positive =

@@ -1,5 +1,5 @@
 -- Passes with a diagonal after the last of them do what the passes do, and then a product with the factor of each place.
-use Rattle.std.proofs.Common.{◌≡◌, ℕ, ◌*◌, ◌%◌, ◌<◌, List, [], ◌∷◌, ◌++◌, map, refl, sym, ap, ap₂, ◌∙◌, Option, None}
+use Rattle.std.proofs.Common.{◌≡◌, ℕ, ◌*◌, ◌%◌, ◌<◌, List, [], ◌∷◌, map, refl, sym, ap, ap₂, ◌∙◌, Option, None}
 use Rattle.std.specs.Prelude.{slice_index}
 use Rattle.std.proofs.lemmas.List.Elements.{All-head, All-tail}
 use Rattle.loop_merge.specs.MultipliedPasses.Multiplied.{multiplied_last, with_factors}
@@ -14,13 +14,9 @@ use Rattle.sigma_spl.specs.Nest.{multiplied_on, nests_on, store_place}
 use Rattle.sigma_spl.specs.Trees.{IsFree}
 use Rattle.sigma_spl.specs.Work.{work_size}
 use Rattle.sigma_spl.proofs.CopiesMerge.{loops_scale}
+use Rattle.sigma_spl.proofs.Phases.{phase-append}
 
 -- ---- passes one after another
-
-pub phase-append : (m n : ℕ) (ps qs : List (List PlainNest)) (x : List ℕ) →
-    phase_on m n (ps ++ qs) x ≡ phase_on m n qs (phase_on m n ps x)
-phase-append m n [] qs x = refl
-phase-append m n (zs ∷ ps) qs x = phase-append m n ps qs (nests_on m n zs x)
 
 pub one-phase : (m n : ℕ) (phases : List (List (List PlainNest))) (x : List ℕ) →
     phases_on m n phases x ≡ phase_on m n (all_passes phases) x

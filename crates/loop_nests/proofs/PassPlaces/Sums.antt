@@ -5,6 +5,7 @@ use Rattle.std.specs.Prelude.{map, take, get_or, ◌&&◌, nat_lt}
 use Rattle.std.specs.List.{list_all}
 use Rattle.std.proofs.lemmas.Bool.Decides.{nat_tests}
 use Rattle.std.proofs.lemmas.List.{map-append, take_more}
+use Rattle.std.proofs.lemmas.Bool.{and_left}
 use Rattle.index_fn.specs.Mapping.{Mapping}
 use Rattle.perm_algebra.specs.Affine.{Sum, constant, variable, remainder, quotient, IsSound, top, value, simplified}
 use Rattle.perm_algebra.specs.Fits.{InRange, IsAffine, Stays}
@@ -76,10 +77,6 @@ place-at room n k cs A view xs i x low ready within below is = place room n k cs
 
 -- ---- tests over a list
 
-false-left : (a b : Bool) → a ≡ false → (a && b) ≡ false
-false-left true b h = absurd (cc)
-false-left false b h = refl
-
 false-right : (a b : Bool) → b ≡ false → (a && b) ≡ false
 false-right true b h = h
 false-right false b h = refl
@@ -88,7 +85,7 @@ false-right false b h = refl
 pub fails-at : (A B : Type 0) (g : B → Bool) (view : A → B) (xs : List A) (i : ℕ) (x : A) → i < length xs →
     x ≡ get_or xs i x → g (view x) ≡ false → list_all g (map view xs) ≡ false
 fails-at A B g view [] i x below is h = absurd (omega (arith, below))
-fails-at A B g view (y ∷ ys) zero x below is h = false-left (g (view y)) _ (ap (λ z. g (view z)) (sym is) ∙ h)
+fails-at A B g view (y ∷ ys) zero x below is h = and_left (g (view y)) _ (ap (λ z. g (view z)) (sym is) ∙ h)
 fails-at A B g view (y ∷ ys) (suc i) x below is h = false-right (g (view y)) _ (fails-at A B g view ys i x (omega (arith, below)) is h)
 
 all-append : (B : Type 0) (g : B → Bool) (xs ys : List B) → list_all g xs ≡ true → list_all g ys ≡ true →

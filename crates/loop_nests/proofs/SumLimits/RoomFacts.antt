@@ -1,9 +1,9 @@
 -- What the tests of room tell of sums that code has made.
 use Rattle.std.proofs.Common.{◌≡◌, ℕ, ◌<◌, true, subst, arith}
 use Rattle.std.specs.Prelude.{◌&&◌, nat_le, nat_lt}
-use Rattle.std.proofs.lemmas.Bool.Decides.{nat_tests}
 use Rattle.sigma_spl.specs.Merge.{are_small, is_limited}
 use Rattle.sigma_spl.proofs.Walk.{and-left, and-right}
+use Rattle.sigma_spl.proofs.Limited.{lt-true}
 use Rattle.perm_algebra.specs.Affine.{Sum, constant, variable, remainder, quotient, levels, parts, peak, top, value}
 use Rattle.perm_algebra.specs.Affine.{IsSound}
 use Rattle.perm_algebra.specs.Fits.{InRange, IsAffine}
@@ -22,9 +22,6 @@ sound m cs (constant c) h = tt
 sound m cs (variable f d rest) h = sound m cs rest h.1
 sound m cs (remainder f of k rest) h = (h.0, sound m cs of h.1, sound m cs rest h.3)
 sound m cs (quotient f of k rest) h = (h.0, sound m cs of h.1, sound m cs rest h.3)
-
-lt-true : (a b : ℕ) → nat_lt a b ≡ true → a < b
-lt-true a b h = grind (arith, nat_tests)
 
 top-below : (room n : ℕ) (cs : ℕ → ℕ) (e : Sum) → is_limited room n cs e ≡ true → top e cs < n
 top-below room n cs e h =

@@ -1,21 +1,20 @@
 -- A loop of gather, body and scatter: its place equation, and that it is the matrix under its tensors.
 use Rattle.std.proofs.Common.{◌≡◌, ◌≢◌, ℕ, zero, suc, ◌+◌, ◌*◌, ◌/◌, ◌%◌, ◌<◌, arith, refl, sym, ap, ap₂, ◌∙◌, List, []}
 use Rattle.std.proofs.Common.{◌∷◌, mod-lt, div-lt_iff_lt-mul}
-use Rattle.std.specs.Prelude.{slice_index, ◌==◌, if◌then◌else◌}
+use Rattle.std.specs.Prelude.{slice_index}
 use Rattle.std.proofs.Math.Nat.{div-add-mod'}
 use Rattle.std.proofs.lemmas.Nat.{same_from_place}
-use Rattle.std.proofs.lemmas.Bool.Decides.{nat_tests}
 use Rattle.operators.specs.Operator.{Operator}
 use Rattle.operators.specs.Sum.{sum_below, list_below}
 use Rattle.operators.proofs.Lists.{at-list_below, factor_positive}
 use Rattle.operators.proofs.Sums.{sum_below-same}
-use Rattle.operators.proofs.Scatters.{sum_below-only}
+use Rattle.operators.proofs.Scatters.{sum_below-only, hit, miss}
 use Rattle.operators.specs.declared.tensor_paths.Tensor.TheVariants.{Blocks, Columns}
 use Rattle.operators.specs.TensorPaths.Path.{Path, count_of, size_under, under, place, AreInRange}
 use Rattle.operators.specs.TensorPaths.Loop.{nest_sum, loop_at, loop_on, IsOneToOne, LoopIsUnder}
 use Rattle.operators.proofs.TensorPaths.PathPlaces.{place-below, at-under}
 
-sum_below-zero : (n : ℕ) (f : ℕ → ℕ) → ((i : ℕ) → i < n → f i ≡ 0) → sum_below n f ≡ 0
+pub sum_below-zero : (n : ℕ) (f : ℕ → ℕ) → ((i : ℕ) → i < n → f i ≡ 0) → sum_below n f ≡ 0
 sum_below-zero zero f h = refl
 sum_below-zero (suc n) f h = omega (arith, sum_below-zero n f (λ i below. h i (omega arith)), h n (omega arith))
 
@@ -31,12 +30,6 @@ nest-only (t ∷ path) f [] range h = absurd range
 nest-only (t ∷ path) f (v ∷ vs) range h =
     sum_below-only (count_of t) v _ range.0 (λ u below other. nest-zero path (λ ws. f (u ∷ ws)) (λ ws in_range. h (u ∷ ws) (below, in_range) (λ e. other (cc))))
     ∙ nest-only path (λ ws. f (v ∷ ws)) vs range.1 (λ ws in_range other. h (v ∷ ws) (range.0, in_range) (λ e. other (cc)))
-
-miss : (a b x : ℕ) → a ≢ b → (if a == b then x else 0) ≡ 0
-miss a b x other = grind (arith, nat_tests)
-
-hit : (a b x : ℕ) → a ≡ b → (if a == b then x else 0) ≡ x
-hit a b x same = grind (arith, nat_tests)
 
 -- the place equation of a loop
 pub loop_at-place : (path : Path) (n : ℕ) (to value : List ℕ → ℕ → ℕ) → IsOneToOne path n to → (vs : List ℕ) (k : ℕ) →

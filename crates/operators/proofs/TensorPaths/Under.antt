@@ -3,8 +3,7 @@ use Rattle.std.proofs.Common.{◌≡◌, ℕ, ◌*◌, refl, ap, ◌∙◌, List
 use Rattle.operators.specs.Identities.{HasSize}
 use Rattle.operators.specs.Operator.{Operator, on_blocks, on_columns}
 use Rattle.operators.proofs.Blocks.{tensor_of_product}
-use Rattle.operators.proofs.Lists.{length-list_below}
-use Rattle.operators.proofs.TensorPaths.Equal.{on_columns-same, on_blocks-same}
+use Rattle.operators.proofs.Lists.{length-list_below, on_columns-same, on_blocks-same}
 use Rattle.operators.specs.declared.tensor_paths.Tensor.{Tensor}
 use Rattle.operators.specs.declared.tensor_paths.Tensor.TheVariants.{Blocks, Columns}
 use Rattle.operators.specs.TensorPaths.Path.{Path, count_of, grown, size_under, copies_of, one_under, under}
@@ -46,7 +45,7 @@ one_under-product : (t : Tensor) (n : ℕ) (a b : Operator) (x : List ℕ) → H
 one_under-product (Blocks k) n a b x h = (tensor_of_product n k a b x h).1
 one_under-product (Columns k) n a b x h = (tensor_of_product n k a b x h).0
 
-one_under-same : (t : Tensor) (n : ℕ) (a b : Operator) (x : List ℕ) → ((y : List ℕ) → a y ≡ b y) →
+pub one_under-same : (t : Tensor) (n : ℕ) (a b : Operator) (x : List ℕ) → ((y : List ℕ) → a y ≡ b y) →
     one_under t n a x ≡ one_under t n b x
 one_under-same (Blocks k) n a b x h = on_blocks-same k n a b x h
 one_under-same (Columns k) n a b x h = on_columns-same n k a b x h

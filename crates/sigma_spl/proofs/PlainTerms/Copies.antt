@@ -52,7 +52,7 @@ trees_read : (m : ℕ) (trees : PlainTrees) → Reads (trees_size trees) (trees_
 trees_read m (single kind root tree) x = matrix_reads m (size_of tree) (entry_of kind m (size_of tree) root) x
 trees_read m (tensor kind root tree others) x = ap (on_columns (size_of tree) (trees_size others) (transform kind m (size_of tree) root)) (blocks_read (size_of tree) (trees_size others) (trees_on m others) x)
 
-gather_reads : (n : ℕ) (f : ℕ → ℕ) → ((i : ℕ) → i < n → f i < n) → Reads n (gather n f)
+pub gather_reads : (n : ℕ) (f : ℕ → ℕ) → ((i : ℕ) → i < n → f i < n) → Reads n (gather n f)
 gather_reads n f inside x = list_below-same n _ _ (λ i below. at-list_below n (slice_index x) (f i) (inside i below))
 
 turn_inside : (v i : ℕ) → i < v * v → stride v v i < v * v

@@ -23,7 +23,7 @@ use Rattle.sigma_spl.specs.Work.{PlainWork, kernel, node_of, work_size, work_on}
 use Rattle.ring_mod.specs.Residue.{power_mod}
 use Rattle.ring_mod.proofs.Powers.{power_mod_of_power}
 use Rattle.smp_rewrite.specs.LayoutSteps.Layout.{Layout, work, by, layout_size, layout_on, layout_cost, layout_of}
-use Rattle.smp_rewrite.specs.LayoutSteps.Layout.{node_work, long_work, rule_on, IsGoodWork, CanPart, IsGoodRule}
+use Rattle.smp_rewrite.specs.LayoutSteps.Layout.{node_work, long_work, rule_on, CanPart, IsGoodRule}
 use Rattle.smp_rewrite.specs.LayoutSteps.Layout.{IsGoodLayout}
 use Rattle.sigma_spl.specs.Shared.Costs.{work_cost}
 use Rattle.smp_rewrite.specs.LayoutSteps.Layout as layouts

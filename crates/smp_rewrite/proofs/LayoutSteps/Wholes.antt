@@ -23,21 +23,14 @@ use Rattle.tree_model.specs.Breakdown.{Breakdown, size_of}
 use Rattle.tree_model.specs.Chosen.{IsWholeTree, closing_by}
 use Rattle.tree_model.proofs.NodesAsked.{nodes_do_what_is_asked}
 use Rattle.tree_model.proofs.WholeTrees.{admissible_of_whole, closed_cost, forward_size}
+use Rattle.kernel_gen.proofs.NodeKernels.{forward_modulus}
 
 -- ---- the forward request
-
-by_modulus : (kind : Kind) (c : Request) → (forward_by kind c).modulus ≡ c.modulus
-by_modulus Dft c = refl
-by_modulus Wht c = refl
-by_modulus Idft c = refl
 
 by_weight : (kind : Kind) (c : Request) → (forward_by kind c).weight ≡ c.weight
 by_weight Dft c = refl
 by_weight Wht c = refl
 by_weight Idft c = refl
-
-pub forward_modulus : (c : Request) → (forward_of c).modulus ≡ c.modulus
-forward_modulus c = by_modulus c.kind c
 
 pub forward_weight : (c : Request) → (forward_of c).weight ≡ c.weight
 forward_weight c = by_weight c.kind c

@@ -4,8 +4,8 @@ use Rattle.std.proofs.Common.{add_assoc}
 use Rattle.std.proofs.lemmas.List.{drop-take, drop-drop, take-take}
 use Rattle.spl_ast.specs.Formula.{Formula, DirectSum, size_of, parts_of}
 use Rattle.spl_ast.specs.Meaning.{apply, IsVector, IsSameMatrix}
-use Rattle.spl_ast.specs.Shape.{IsShaped, IsSize}
-use Rattle.spl_ast.proofs.Contexts.{same_left, same_right, same_product, same_sum, same_refl, same_trans}
+use Rattle.spl_ast.specs.Shape.{IsShaped}
+use Rattle.spl_ast.proofs.Contexts.{same_left, same_right, same_product, same_sum, same_refl, same_trans, is_size_of}
 use Rattle.spl_ast.proofs.Vectors.{shaped_size}
 use Rattle.spl_ast.specs.BalancedSums.Summands.{summands, sum_of}
 use Rattle.spl_ast.proofs.BalancedSums.Grouping.{KnowsSums, from_right}
@@ -68,9 +68,6 @@ same_grouping m a b c = record {
 abbrev BothFit : ℕ → Formula → Formula → Type 0
 BothFit m f g = IsShaped f → IsShaped g × IsSameMatrix m f g
 
-is-size : {n k : ℕ} → k ≡ n → IsSize n → IsSize k
-is-size e h = subst IsSize (sym e) h
-
 matrices-know : (m : ℕ) → KnowsSums (BothFit m)
 matrices-know m = record {
   same = λ f s. (s, same_refl m f);
@@ -82,7 +79,7 @@ matrices-know m = record {
       let first = r s.0 in
       let second = q s.1 in
       let both = same_sum m a b c d first.1 second.1 in
-      ((first.0, second.0, is-size both.size s.2), both);
+      ((first.0, second.0, is_size_of both.size s.2), both);
   product = λ a b c d r q s.
       let first = r s.0 in
       let second = q s.1 in
@@ -90,11 +87,11 @@ matrices-know m = record {
   left = λ a c k r s.
       let part = r s.0 in
       let whole = same_left m a c k s.1.0 part.1 in
-      ((part.0, s.1, is-size whole.size s.2), whole);
+      ((part.0, s.1, is_size_of whole.size s.2), whole);
   right = λ k a c r s.
       let part = r s.1 in
       let whole = same_right m a c k (shaped_size a s.1) part.1 in
-      ((s.0, part.0, is-size whole.size s.2), whole);
+      ((s.0, part.0, is_size_of whole.size s.2), whole);
   pending = λ a c r s. let part = r s in (part.0, record { size = part.1.size; meaning = part.1.meaning });
 }
 

@@ -1,9 +1,3 @@
-use Rattle.std.proofs.Common.{ap, sym, ◌∙◌}
-use Rattle.std.specs.Prelude.{if◌then◌else◌}
-use Rattle.icode.specs.Plain.{PlainProgram}
-use Rattle.icode.specs.Program.{plain_program}
-use Rattle.fast_loops.specs.TwoTables.TwoTables.{factored, large_table}
-use Rattle.fast_main.specs.Translation.{has_cheap_products, in_blocks}
 use Rattle.fast_main.proofs.Faithful.{blocks_fit, blocks_apart}
 use Rattle.fast_main.proofs.prepare.prepare.Goals as goal
 

@@ -6,7 +6,6 @@ use Rattle.tree_model.specs.Breakdown.{breakdown_of, size_of}
 use Rattle.kernel_gen.specs.Kernel.{node_kernel, trees_kernel}
 use Rattle.kernel_gen.specs.Kernels.{TransformsNode, CostsNode, IsStraight}
 use Rattle.kernel_gen.specs.Making.{Made}
-use Rattle.kernel_gen.specs.Nodes.{IsNodeTree}
 use Rattle.kernel_gen.proofs.NodeKernels.{forward_modulus, node_costs, node_straight, node_transforms, stands_node}
 use Rattle.kernel_gen.proofs.Sizes.{node_small, node_words}
 use Rattle.kernel_gen.proofs.generate.kernel.Goals as goal

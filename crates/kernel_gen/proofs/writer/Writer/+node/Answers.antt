@@ -10,7 +10,7 @@ use Rattle.matrix_meaning.specs.declared.Request.{Request}
 use Rattle.kernel_gen.specs.Writing.{Wrote}
 use Rattle.matrix_meaning.specs.Parts.{first_of, rest_of}
 use Rattle.tree_model.specs.Breakdown.{Breakdown, breakdown_of, leaf, node, size_of}
-use Rattle.tree_model.specs.declared.tree.Rule.TheVariants.{Gt, Ct, Split, Dim}
+use Rattle.tree_model.specs.declared.tree.Rule.TheVariants.{Gt, Ct, Split}
 use Rattle.tree_model.specs.declared.tree.Tree.{Tree}
 use Rattle.tree_model.specs.Trees.{tensor}
 use Rattle.tree_model.specs.Whole.{rooted_of, rooted_one}
