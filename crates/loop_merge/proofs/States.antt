@@ -4,7 +4,7 @@ use Rattle.std.specs.Prelude.{map, ◌&&◌}
 use Rattle.index_fn.specs.Mapping.{Mapping}
 use Rattle.perm_algebra.specs.Affine.{Sum, constant}
 use Rattle.perm_algebra.specs.Room.{IsReady}
-use Rattle.perm_algebra.proofs.Counted.{ready-simplified}
+use Rattle.perm_algebra.proofs.Kept.{ready-simplified}
 use Rattle.sigma_spl.specs.Good.{IsFormed}
 use Rattle.sigma_spl.specs.Limits.{HasSeveral}
 use Rattle.sigma_spl.specs.Merge.{most, Merging, Taking, limits_of, all_simplified, can_gather, can_scatter}

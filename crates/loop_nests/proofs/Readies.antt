@@ -4,7 +4,7 @@ use Rattle.std.specs.Prelude.{map}
 use Rattle.std.specs.List.{range_with_len}
 use Rattle.index_fn.specs.Mapping.{Mapping, at}
 use Rattle.operators.specs.Sum.{list_below}
-use Rattle.perm_algebra.specs.Affine.{Sum, constant, variable, remainder, quotient, scaled, joined}
+use Rattle.perm_algebra.specs.Affine.{Sum, constant, variable, scaled}
 use Rattle.perm_algebra.specs.Room.{HasCounts}
 use Rattle.sigma_spl.specs.Merge.{place_sum, items_in, items_out, new_nest, one_loop, copying}
 use Rattle.sigma_spl.specs.Work.{PlainWork, kernel, rows, horner, tile, copy, work_size, HasWords}
@@ -12,23 +12,9 @@ use Rattle.sigma_spl.proofs.Natural.{sound-place_sum}
 use Rattle.operators.specs.declared.tensor_paths.Tensor.TheVariants.{Blocks, Columns}
 use Rattle.operators.specs.TensorPaths.Path.{Path, count_of, size_under}
 use Rattle.loop_nests.specs.Ready.{AreReady, IsReadyPass}
+use Rattle.perm_algebra.proofs.Kept.{counts-scaled, counts-joined}
 
 -- ---- the variables of new nests
-
-pub counts-scaled : (n k : ℕ) (e : Sum) → HasCounts n e → HasCounts n (scaled k e)
-counts-scaled n k (constant c) h = tt
-counts-scaled n k (variable f d rest) h = (h.0, counts-scaled n k rest h.1)
-counts-scaled n k (remainder f of m rest) h = (h.0, counts-scaled n k rest h.1)
-counts-scaled n k (quotient f of m rest) h = (h.0, counts-scaled n k rest h.1)
-
-pub counts-joined : (n : ℕ) (a e : Sum) → HasCounts n a → HasCounts n e → HasCounts n (joined a e)
-counts-joined n (constant c) (constant d) h g = tt
-counts-joined n (constant c) (variable f d rest) h g = (g.0, counts-joined n (constant c) rest tt g.1)
-counts-joined n (constant c) (remainder f of m rest) h g = (g.0, counts-joined n (constant c) rest tt g.1)
-counts-joined n (constant c) (quotient f of m rest) h g = (g.0, counts-joined n (constant c) rest tt g.1)
-counts-joined n (variable f d rest) e h g = (h.0, counts-joined n rest e h.1 g)
-counts-joined n (remainder f of m rest) e h g = (h.0, counts-joined n rest e h.1 g)
-counts-joined n (quotient f of m rest) e h g = (h.0, counts-joined n rest e h.1 g)
 
 pub counts-place : (n : ℕ) (path : Path) (d v : ℕ) (e : Sum) → v + length path ≤ n → HasCounts n e →
     HasCounts n (place_sum path d v e)

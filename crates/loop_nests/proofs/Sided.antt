@@ -3,14 +3,14 @@ use Rattle.std.proofs.Common.{◌≡◌, ℕ, ◌+◌, arith, subst, List, [], �
 use Rattle.std.specs.Prelude.{map}
 use Rattle.perm_algebra.specs.Affine.{Sum, constant, variable, remainder, quotient, joined}
 use Rattle.perm_algebra.specs.Room.{HasCounts, IsReady}
-use Rattle.perm_algebra.proofs.Values.{sound-joined}
+use Rattle.perm_algebra.proofs.Kept.{sound-joined, counts-joined}
 use Rattle.sigma_spl.specs.Merge.{place_sum, copying, renumbered, renumbered_places, lifted, side, sides}
 use Rattle.sigma_spl.specs.Nest.{PlainMultiplier, PlainNest}
 use Rattle.sigma_spl.proofs.Natural.{sound-place_sum}
 use Rattle.sigma_spl.proofs.Sides.{sound-renumbered}
 use Rattle.operators.specs.TensorPaths.Path.{Path, count_of}
 use Rattle.loop_nests.specs.Ready.{AreReady, IsReadyMultiplier, IsReadyNest, IsReadyPass, AreReadyPasses}
-use Rattle.loop_nests.proofs.Readies.{counts-joined, counts-place, depth-is, ready-copying}
+use Rattle.loop_nests.proofs.Readies.{counts-place, depth-is, ready-copying}
 
 counts-renumbered : (k n : ℕ) (e : Sum) → HasCounts n e → HasCounts (k + n) (renumbered k e)
 counts-renumbered k n (constant c) h = tt

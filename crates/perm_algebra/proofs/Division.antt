@@ -8,61 +8,8 @@ use Rattle.perm_algebra.specs.Affine.{mods, reduced}
 use Rattle.perm_algebra.specs.Fits.{Agree, InRange, IsAffine, Stays}
 use Rattle.perm_algebra.specs.Room.{HasTop, CanDivide}
 use Rattle.perm_algebra.proofs.AffineLaws.{value-divided}
+use Rattle.perm_algebra.proofs.Kept.{kept-head, kept-rest, kept-mods, affinity}
 use Rattle.perm_algebra.proofs.Reduced.{value-mods}
-
-affine-head : (n : ℕ) (cs : ℕ → ℕ) (s : ℕ) (e : Sum) → IsAffine n cs e → IsAffine n cs (head s e)
-affine-head n cs s (constant c) h = tt
-affine-head n cs s (variable f d rest) h =
-    elim (cases_eq (f % s) 0) [
-      | inl whole ↦ grind (arith, nat_tests, affine-head n cs s rest h.1)
-      | inr other ↦ grind (arith, nat_tests, affine-head n cs s rest h.1)
-    ]
-affine-head n cs s (remainder f of m rest) h =
-    elim (cases_eq (f % s) 0) [
-      | inl whole ↦ grind (arith, nat_tests, affine-head n cs s rest h.3)
-      | inr other ↦ grind (arith, nat_tests, affine-head n cs s rest h.3)
-    ]
-affine-head n cs s (quotient f of m rest) h =
-    elim (cases_eq (f % s) 0) [
-      | inl whole ↦ grind (arith, nat_tests, affine-head n cs s rest h.3)
-      | inr other ↦ grind (arith, nat_tests, affine-head n cs s rest h.3)
-    ]
-
-affine-rest : (n : ℕ) (cs : ℕ → ℕ) (s : ℕ) (e : Sum) → IsAffine n cs e → IsAffine n cs (rest_of s e)
-affine-rest n cs s (constant c) h = tt
-affine-rest n cs s (variable f d rest) h =
-    elim (cases_eq (f % s) 0) [
-      | inl whole ↦ grind (arith, nat_tests, affine-rest n cs s rest h.1)
-      | inr other ↦ grind (arith, nat_tests, affine-rest n cs s rest h.1)
-    ]
-affine-rest n cs s (remainder f of m rest) h =
-    elim (cases_eq (f % s) 0) [
-      | inl whole ↦ grind (arith, nat_tests, affine-rest n cs s rest h.3)
-      | inr other ↦ grind (arith, nat_tests, affine-rest n cs s rest h.3)
-    ]
-affine-rest n cs s (quotient f of m rest) h =
-    elim (cases_eq (f % s) 0) [
-      | inl whole ↦ grind (arith, nat_tests, affine-rest n cs s rest h.3)
-      | inr other ↦ grind (arith, nat_tests, affine-rest n cs s rest h.3)
-    ]
-
-affine-mods : (n : ℕ) (cs : ℕ → ℕ) (s : ℕ) (e : Sum) → IsAffine n cs e → IsAffine n cs (mods s e)
-affine-mods n cs s (constant c) h = tt
-affine-mods n cs s (variable f d rest) h =
-    elim (cases_eq (f % s) 0) [
-      | inl whole ↦ grind (arith, nat_tests, affine-mods n cs s rest h.1)
-      | inr other ↦ grind (arith, nat_tests, affine-mods n cs s rest h.1)
-    ]
-affine-mods n cs s (remainder f of m rest) h =
-    elim (cases_eq (f % s) 0) [
-      | inl whole ↦ grind (arith, nat_tests, affine-mods n cs s rest h.3)
-      | inr other ↦ grind (arith, nat_tests, affine-mods n cs s rest h.3)
-    ]
-affine-mods n cs s (quotient f of m rest) h =
-    elim (cases_eq (f % s) 0) [
-      | inl whole ↦ grind (arith, nat_tests, affine-mods n cs s rest h.3)
-      | inr other ↦ grind (arith, nat_tests, affine-mods n cs s rest h.3)
-    ]
 
 -- a factor modulo s is no greater
 part_le : (f s x a b : ℕ) → a ≤ b → f % s * x + a ≤ f * x + b
@@ -92,13 +39,13 @@ value-mods-le s (quotient f of m rest) vs =
 -- ---- as the contracts say it
 
 pub affine_head : (n : ℕ) (cs : ℕ → ℕ) (s : ℕ) (e q : Sum) → q ≡ head s e → IsAffine n cs e → IsAffine n cs q
-affine_head n cs s e q is h = rw is (affine-head n cs s e h)
+affine_head n cs s e q is h = rw is (kept-head (IsAffine n cs) (affinity n cs) s e h)
 
 pub affine_rest : (n : ℕ) (cs : ℕ → ℕ) (s : ℕ) (e r : Sum) → r ≡ rest_of s e → IsAffine n cs e → IsAffine n cs r
-affine_rest n cs s e r is h = rw is (affine-rest n cs s e h)
+affine_rest n cs s e r is h = rw is (kept-rest (IsAffine n cs) (affinity n cs) s e h)
 
 pub affine_mods : (n : ℕ) (cs : ℕ → ℕ) (s : ℕ) (e r : Sum) → r ≡ mods s e → IsAffine n cs e → IsAffine n cs r
-affine_mods n cs s e r is h = rw is (affine-mods n cs s e h)
+affine_mods n cs s e r is h = rw is (kept-mods (IsAffine n cs) (affinity n cs) s e h)
 
 pub fits_rest : (cs : ℕ → ℕ) (s : ℕ) (e r : Sum) → r ≡ rest_of s e → Stays cs (value e) → Stays cs (value r)
 fits_rest cs s e r is h vs range = rw is (omega (arith, h vs range, value-divided s e vs))

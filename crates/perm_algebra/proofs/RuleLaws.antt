@@ -8,8 +8,8 @@ use Rattle.perm_algebra.specs.declared.IndexRule.TheVariants.{Scale, Join, TakeM
 use Rattle.perm_algebra.specs.declared.IndexRule.TheVariants.{ReduceFactors, DropRemainder, SplitTensor, NestComposed}
 use Rattle.perm_algebra.specs.Rules.{Holds}
 use Rattle.perm_algebra.proofs.AffineLaws.{value-scaled, value-joined, value-divided, value-le-top, reads-off}
+use Rattle.perm_algebra.proofs.Kept.{sound-mods}
 use Rattle.perm_algebra.proofs.Reduced.{value-mods}
-use Rattle.perm_algebra.proofs.Values.{sound-mods}
 
 dropped : (cs vs : ℕ → ℕ) (n : ℕ) (e : Sum) → IsSound e → AreBelowCounts vs cs → top (mods n e) cs < n →
     value (mods n e) vs ≡ value e vs % n

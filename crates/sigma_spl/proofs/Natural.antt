@@ -12,7 +12,7 @@ use Rattle.operators.specs.Sum.{list_below}
 use Rattle.operators.proofs.Lists.{at-list_below, list_below-same, factor_positive}
 use Rattle.perm_algebra.specs.Affine.{Sum, constant, variable, remainder, value, IsSound, scaled}
 use Rattle.perm_algebra.proofs.AffineLaws.{value-scaled, value-joined}
-use Rattle.perm_algebra.proofs.Values.{sound-scaled, sound-joined}
+use Rattle.perm_algebra.proofs.Kept.{sound-scaled, sound-joined}
 use Rattle.sigma_spl.specs.Copies.{loops_of, pass_on}
 use Rattle.sigma_spl.specs.Good.{AreSound, NamesItems, HasLanes, AreWhole, AreBlocks, CanNest, IsGoodPass, IsVector}
 use Rattle.sigma_spl.specs.Merge.{place_sum, items_in, items_out, new_nest, one_loop, copying}

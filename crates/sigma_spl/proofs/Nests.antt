@@ -8,7 +8,8 @@ use Rattle.operators.specs.Operator.{Operator, gather, scale}
 use Rattle.operators.specs.Sum.{list_below}
 use Rattle.operators.proofs.Lists.{at-list_below, list_below-same, factor_positive}
 use Rattle.perm_algebra.specs.Affine.{Sum, constant, value, IsSound, simplified}
-use Rattle.perm_algebra.proofs.Values.{simplifies}
+use Rattle.perm_algebra.proofs.Kept.{sound-simplified as sound-one}
+use Rattle.perm_algebra.proofs.Values.{simplified_keeps}
 use Rattle.sigma_spl.specs.Copies.{loops_of, Copies, stored, all_stored, hits, AreInside, loaded_by, stored_by}
 use Rattle.sigma_spl.specs.Copies.{multiplied_by}
 use Rattle.sigma_spl.specs.Good.{AreSound, NamesItems, MovesVectors, HasLanes, AreWhole, AreGoodNests, IsGoodPass}
@@ -84,7 +85,7 @@ sound-at (e ∷ es) (suc i) h = sound-at es i h.1
 pub sound-simplified : (cs : ℕ → ℕ) (f : Mapping) (sums : List Sum) → IsFormed f → AreSound sums →
     AreSound (map (simplified cs f) sums)
 sound-simplified cs f [] form h = tt
-sound-simplified cs f (e ∷ es) form h = ((simplifies cs (λ _. 0) f e form.formed form.no_list h.0 (λ d. omega arith)).sound, sound-simplified cs f es form h.1)
+sound-simplified cs f (e ∷ es) form h = (sound-one cs f e form.formed form.no_list h.0, sound-simplified cs f es form h.1)
 
 pub length-map : (g : Sum → Sum) (sums : List Sum) → length (map g sums) ≡ length sums
 length-map g [] = refl
@@ -100,7 +101,8 @@ pub sum-simplified : (cs : ℕ → ℕ) (f : Mapping) (sums : List Sum) (i : ℕ
     sum_value (map (simplified cs f) sums) i vs ≡ at f (sum_value sums i vs)
 sum-simplified cs f sums i vs form sound within range =
     ap (λ e. value e (slice_index vs)) (at-map (simplified cs f) sums i within)
-    ∙ (simplifies cs (slice_index vs) f (slice_index_or sums i (constant 0)) form.formed form.no_list (sound-at sums i sound) range).value_is
+    ∙ simplified_keeps cs (slice_index vs) f (slice_index_or sums i (constant 0)) form.formed form.no_list
+    (sound-at sums i sound) range
 
 -- ---- vectors
 

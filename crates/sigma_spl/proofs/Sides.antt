@@ -7,7 +7,7 @@ use Rattle.operators.proofs.Lists.{factor_positive, at-list_below, list_below-sa
 use Rattle.operators.proofs.TensorPaths.Under.{one_under-same}
 use Rattle.perm_algebra.specs.Affine.{Sum, constant, variable, remainder, quotient, value, IsSound, joined}
 use Rattle.perm_algebra.proofs.AffineLaws.{value-joined}
-use Rattle.perm_algebra.proofs.Values.{sound-joined}
+use Rattle.perm_algebra.proofs.Kept.{sound-joined}
 use Rattle.sigma_spl.specs.Copies.{loops_of, Copies, stored, all_stored, pass_on, hits, StoreOnce, IsInside, AreInside}
 use Rattle.sigma_spl.specs.Copies.{behind, placed, first_of, others_of, under_one, both}
 use Rattle.sigma_spl.specs.Good.{AreSound, NamesItems, HasLanes, AreWhole, AreGoodNests, IsGoodPass}

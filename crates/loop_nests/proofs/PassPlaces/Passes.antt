@@ -6,7 +6,7 @@ use Rattle.std.specs.List.{list_all}
 use Rattle.index_fn.specs.Mapping.{Mapping}
 use Rattle.perm_algebra.specs.Affine.{Sum, simplified}
 use Rattle.perm_algebra.specs.Room.{has_room}
-use Rattle.perm_algebra.proofs.Counted.{ready-simplified}
+use Rattle.perm_algebra.proofs.Kept.{ready-simplified}
 use Rattle.sigma_spl.specs.Good.{IsFormed}
 use Rattle.sigma_spl.specs.Merge.{most, limits_of, is_limited, is_multiplier_within, is_within, can_gather, can_scatter}
 use Rattle.sigma_spl.specs.Merge.{gathered, scattered}
