@@ -1,5 +1,6 @@
 -- What simplification adds to a sum that a divisor takes apart.
 use Rattle.std.proofs.Common.{◌≡◌, ℕ, ◌+◌, ◌*◌, ◌%◌, ◌<◌, ◌≤◌, inl, inr, arith, refl, ap}
+use Rattle.std.specs.Prelude.{◌==◌}
 use Rattle.std.proofs.lemmas.Bool.{cases_eq, cases_lt}
 use Rattle.std.proofs.lemmas.Bool.Decides.{nat_tests}
 use Rattle.std.proofs.lemmas.Nat.{mul-lt}
@@ -8,6 +9,7 @@ use Rattle.perm_algebra.specs.Affine.{Divided, divided, mods, reduced, simplifie
 use Rattle.perm_algebra.specs.ShapeLaw.{tally, AddsRemainders, IsModulo, KeepsShape, ShapeKept}
 use Rattle.perm_algebra.proofs.Reduced.{mods-below}
 use Rattle.perm_algebra.proofs.ShapeAny.{divided-apart}
+use Rattle.perm_algebra.proofs.Kept.{picked}
 
 tally-scaled : (q r k : ℕ) (e : Sum) → tally q r (scaled k e) ≡ tally q r e
 tally-scaled q r k (constant c) = refl
@@ -45,20 +47,14 @@ tally-split q r s (quotient f of m rest) =
 tally-mods : (q r n : ℕ) (e : Sum) → tally q r (mods n e) ≤ tally q r e
 tally-mods q r n (constant c) = omega arith
 tally-mods q r n (variable f d rest) =
-    elim (cases_eq (f % n) 0) [
-      | inl gone ↦ grind (arith, nat_tests, tally-mods q r n rest)
-      | inr other ↦ grind (arith, nat_tests, tally-mods q r n rest)
-    ]
+    let k = tally-mods q r n rest in
+    picked (λ s. tally q r s ≤ tally q r rest) (f % n == 0) _ _ k k
 tally-mods q r n (remainder f of m rest) =
-    elim (cases_eq (f % n) 0) [
-      | inl gone ↦ grind (arith, nat_tests, tally-mods q r n rest)
-      | inr other ↦ grind (arith, nat_tests, tally-mods q r n rest)
-    ]
+    let k = tally-mods q r n rest in
+    picked (λ s. tally q r s ≤ tally q r (remainder f of m rest)) (f % n == 0) _ _ (omega arith) (omega arith)
 tally-mods q r n (quotient f of m rest) =
-    elim (cases_eq (f % n) 0) [
-      | inl gone ↦ grind (arith, nat_tests, tally-mods q r n rest)
-      | inr other ↦ grind (arith, nat_tests, tally-mods q r n rest)
-    ]
+    let k = tally-mods q r n rest in
+    picked (λ s. tally q r s ≤ tally q r (quotient f of m rest)) (f % n == 0) _ _ (omega arith) (omega arith)
 
 tally-reduced : (q r : ℕ) (cs : ℕ → ℕ) (n : ℕ) (e : Sum) → tally q r (reduced cs n e) ≤ r + tally q r e
 tally-reduced q r cs n e =
