@@ -135,25 +135,6 @@ impl BufMachine {
         None
     }
 
-    /// The turn of a processor, whose answer nobody asks for.
-    fn pass(&mut self, proc: u64)
-        requires proc { proc < self.old.code.procs }
-        ensures state { self.new.state ≡ buffered_turn self.old.code self.old.state proc }
-        ensures code { self.new.code ≡ self.old.code }
-    {
-        let phase = self.values.phase();
-        if phase == self.lens.len() as u64 {
-            return;
-        }
-        if self.values.done(proc) >= self.lens[phase as usize] {
-            return;
-        }
-        let action = self.walker.action(proc);
-        self.values.play(&self.shape, &action, proc);
-        self.walker.skip(proc);
-        self.values.settle(&self.lens);
-    }
-
     /// Does an event.
     fn step(&mut self, event: Event)
         requires proc { proc_of event < self.old.code.procs }
@@ -161,7 +142,9 @@ impl BufMachine {
         ensures code { self.new.code ≡ self.old.code }
     {
         match event {
-            Event::Turn(proc) => self.pass(proc),
+            Event::Turn(proc) => {
+                let _ = self.turn(proc);
+            }
             Event::Drain(proc) => {
                 let _ = self.drain(proc);
             }

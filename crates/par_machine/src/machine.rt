@@ -205,22 +205,13 @@ impl Machine {
         }
     }
 
-    /// The processor whose turn is the next of those that finish the run.
+    /// The processor whose turn is the next of those that finish the run. Where it does all that it has left in the phase, the
+    /// rest of the run is what it was.
     pub fn next_proc(&self) -> Option<u64>
         ensures found { IfSome result (IsNextTurn self.now.code self.now.state) }
+        ensures unfinished { IfSome result (IsUnfinished self.now.code self.now.state) }
         ensures none { IfNone result (completion self.now.code self.now.state ≡ []) }
         ensures few { length (completion self.now.code self.now.state) < 2 ^ 63 }
-    {
-        if self.phase == self.phases.len() as u64 {
-            return None;
-        }
-        first_left(&self.done, self.phases[self.phase as usize].len)
-    }
-
-    /// The processor that does all that it has left in the phase next, where the run is finished.
-    fn unfinished(&self) -> Option<u64>
-        ensures found { IfSome result (IsUnfinished self.now.code self.now.state) }
-        ensures none { IfNone result (completion self.now.code self.now.state ≡ []) }
     {
         if self.phase == self.phases.len() as u64 {
             return None;
@@ -233,7 +224,7 @@ impl Machine {
         ensures state { self.new.state ≡ finished self.old.code self.old.state }
         ensures code { self.new.code ≡ self.old.code }
     {
-        while let Some(proc) = self.unfinished() {
+        while let Some(proc) = self.next_proc() {
             let left = self.left(proc);
             self.advance(proc, left);
         }

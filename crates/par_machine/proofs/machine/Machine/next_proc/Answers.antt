@@ -4,7 +4,8 @@ use Rattle.std.proofs.lemmas.Option.{IfSome_then}
 use Rattle.icode.specs.Machine.{completion}
 use Rattle.par_machine.specs.Lengths.{IsFirstLeft}
 use Rattle.par_machine.specs.Running.{Running}
-use Rattle.par_machine.specs.Unfinished.{IsNextTurn}
+use Rattle.par_machine.specs.Unfinished.{IsNextTurn, IsUnfinished}
+use Rattle.par_machine.proofs.Starting.{unfinished_at}
 use Rattle.par_machine.proofs.Wholes.{nothing_left, next_left, some_left, if_none}
 use Rattle.par_machine.proofs.Remaining.{few_left}
 use Rattle.par_machine.proofs.machine.Machine.next_proc.Goals as goal
@@ -23,6 +24,18 @@ returns-clause-found c =
     subst (λ (r : Running). IfSome c.first_left.result (IsNextTurn r.code r.state)) c.self.view_is
     (IfSome_then c.first_left.result c.first_left.ensures.found (λ q p.
     next_left a q c.index.result.now w here c.index.ensures (subst (λ (done : List ℕ). IsFirstLeft done c.index.result.now.len q) c.deref.ensures.value (record { inside = p.inside; left = p.left; none_before = p.none_before }))))
+
+pub returns-clause-unfinished : goal.returns-clause-unfinished
+returns-clause-unfinished c =
+    let a = c.self.inside in
+    let w = c.self.invariant in
+    let here : a.phase < length a.phases.items =
+    omega (arith, w.running.phase, c.if-self-len.false, c.len.ensures, a.phases.ok.0) in
+    subst (λ (r : Running). IfSome c.first_left.result (IsUnfinished r.code r.state)) c.self.view_is
+    (IfSome_then c.first_left.result c.first_left.ensures.found (λ q p.
+    unfinished_at a q c.index.result.now w here c.index.ensures
+    (subst (λ (done : List ℕ). IsFirstLeft done c.index.result.now.len q) c.deref.ensures.value
+    (record { inside = p.inside; left = p.left; none_before = p.none_before }))))
 
 pub returns-clause-none : goal.returns-clause-none
 returns-clause-none c =
