@@ -15,7 +15,7 @@ HERE = os.path.dirname(os.path.abspath(__file__))
 PROGRAM = sys.argv[1]
 TEXTS = sys.argv[2:]
 
-# each with so many vectors for the machine and so many runs for C
+# each with the number of vectors for the machine and of runs for C
 REQUESTS = [
     ("dft 64 mod 12289 root 7311", 2000, 2000),
     ("dft 1024 mod 12289 root 10302", 100, 200),
@@ -51,7 +51,7 @@ def nanoseconds_of_c(text, repeats):
 
 
 def nanoseconds_of_machine(request, count):
-    """Of one vector: what so many take more than none, by the best of three."""
+    """Of one vector: what `count` vectors take more than none, by the best of three."""
     size = int(request.split()[1])
     vectors = (" ".join(str(k * k + 1) for k in range(size)) + "\n") * count
     none = min(spiral("run", request + "\n")[1] for _ in range(3))

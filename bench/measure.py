@@ -61,7 +61,7 @@ def listing(text):
 
 
 def loop_of(actions):
-    """A listing of so many actions: a load, an addition and a store in each turn of its loop."""
+    """A listing of this many actions: a load, an addition and a store in each turn of its loop."""
     body = "ld r0 X[0]\nadd r1 r0 r0\nst Y[0] r1\n"
     return f"program size 4 mod 17 procs 1 line 1 lanes 1 regs 2\nphase\nfor v0 {actions // 3}\n{body}end\nend\n\n"
 

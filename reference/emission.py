@@ -223,7 +223,7 @@ def passes(request, tree, phase, loops, loaded, kept, stored, diagonal):
 
 def spread_passes(request, r, table, right, left):
     """The passes of a product of parts of sizes r and s, spread over processors and lanes, with the twiddles of a Fourier
-    transform between them, or none. Where there are lanes, the right part takes vectors of one place of so many turns, and
+    transform between them, or none. Where there are lanes, the right part takes vectors of one place of as many turns, and
     tiles lie around it. The parts' passes are given by their loops and places."""
     lanes, s = request.lanes, request.size // r
     loops, i = opened_root(request, r // lanes)

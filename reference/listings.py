@@ -56,7 +56,7 @@ class Line:
 
 
 class Place:
-    """The reader of one place, inside so many loops. Parts count at every level."""
+    """The reader of one place, inside a number of loops. Parts count at every level."""
 
     def __init__(self, line, loops):
         self.line, self.loops, self.parts = line, loops, 0

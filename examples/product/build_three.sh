@@ -3,7 +3,7 @@
 # usage: build_three.sh SIZE 'WORDS OF THE REQUESTS' PROGRAM [FLAG ..]
 #   build_three.sh 32768 'lanes 8 unroll 16' three -O3 -march=native
 # Two integers of together at most SIZE limbs of 64 bits can be multiplied. BITS=52 takes words of 52 bits, not 64,
-# which are faster where the processor multiplies 52-bit numbers (AVX-512 IFMA). LANES=8 makes so many lanes of the
+# which are faster where the processor multiplies 52-bit numbers (AVX-512 IFMA). LANES=8 makes eight lanes of the
 # loops of requests without lanes. SPIRAL, SPIRAL_FAST and CC name the programs (bin/spiral, bin/spiral-fast) and the
 # compiler (cc). MAIN names the main file, if not main.c.
 set -euo pipefail

@@ -4,7 +4,7 @@ use Rattle.icode.specs.Buffers.{Waiting}
 use Rattle.icode.specs.Machine.{words_at}
 
 -- the stores that wait, the oldest first, how many more there is room for until the queue is cleared, and for how many
--- there is room in all; a store has so many words
+-- there is room in all; a store has `lanes` words
 pub record Backlog : Type 0 where
   pub lanes : ℕ
   pub waiting : List Waiting

@@ -17,6 +17,6 @@ abbrev pub procs_named : Events → List ℕ
 procs_named (Turns schedule) = named schedule.now
 procs_named (Mixed mix) = map proc_of mix.now
 
--- each of them is one of so many
+-- each of them is one of the processors
 abbrev pub HasNoStranger : Events → ℕ → Type 0
 HasNoStranger events procs = find (λ q. nat_le procs q) (procs_named events) ≡ None

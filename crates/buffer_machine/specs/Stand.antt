@@ -55,11 +55,11 @@ acted_stand m lanes q action t =
 abbrev pub cleared : Backlog → Backlog
 cleared l = record { lanes = l.lanes; waiting = []; room = l.most; most = l.most; span = l.span }
 
--- whether a store waits, or a processor has done fewer than so many actions
+-- whether a store waits, or a processor has done fewer actions than a number
 abbrev pub is_held : ℕ → List ℕ → List Backlog → Bool
 is_held len done queues = some_wait (waits_of queues) || list_any (λ d. nat_lt d len) done
 
--- the first of n phases from this one on that has actions, or what comes after them, where the phases have so many
+-- the first of n phases from this one on that has actions, or what comes after them, given how many the phases have
 abbrev pub first_busy : List ℕ → ℕ → ℕ → ℕ
 first_busy lens zero phase = phase
 first_busy lens (suc n) phase = if nat_lt 0 (slice_index lens phase) then phase else first_busy lens n (phase + 1)
@@ -92,7 +92,7 @@ pub record HasLens (code : Code) (lens : List ℕ) : Type 0 where
   pub count : length code.lists ≡ length lens
   pub each : (phase q : ℕ) → q < code.procs → length (acts code phase q) ≡ slice_index lens phase
 
--- stores of so many words that are within a memory of so many, and are residues
+-- stores of a number of words that are within a memory, and are residues
 abbrev pub AreSound : ℕ → ℕ → ℕ → List Waiting → Type 0
 AreSound m lanes span [] = Unit {0}
 AreSound m lanes span (w ∷ queue) = (w.address + lanes ≤ span) × (length w.words ≡ lanes) × ((k : ℕ) → slice_index w.words k < m) × AreSound m lanes span queue

@@ -4,7 +4,7 @@ use Rattle.icode.specs.Buffers.{Waiting}
 use Rattle.icode.specs.Machine.{with_words}
 use Rattle.buffer_machine.specs.Backlog.{Backlog}
 
--- a store waits, and its words are within a memory of so many
+-- a store waits, and its words are within the memory
 abbrev pub OldestFits : ℕ → ℕ → List Waiting → Type 0
 OldestFits lanes span [] = ⊥
 OldestFits lanes span (w ∷ queue) = w.address + lanes ≤ span

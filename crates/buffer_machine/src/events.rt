@@ -15,7 +15,7 @@ pub enum Events<'a> {
 }
 
 impl Events<'_> {
-    /// How many events there are for so many processors.
+    /// How many events there are for `procs` processors.
     pub fn len(self, procs: u64) -> u64
         requires { (1 ≤ procs) × (procs ≤ 16) }
         ensures value { result ≡ length (events_of self.entry procs) }

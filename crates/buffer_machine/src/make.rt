@@ -50,7 +50,7 @@ pub(crate) fn most_stores(program: &Program) -> u64
     most
 }
 
-/// For each processor a queue with room for so many stores.
+/// For each processor a queue with room for `most` stores.
 pub(crate) fn make_queues(
     alloc: Global,
     procs: u64,

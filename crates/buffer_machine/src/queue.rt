@@ -11,7 +11,7 @@ use memory::NoMemory;
 use std::alloc::Global;
 use std::marker::Model;
 
-// The number for so many words from the address on.
+// The number for `count` words from the address on.
 #[inline]
 fn mark(newest: &mut [u64], address: u64, number: u64, count: u64)
     requires { address + count ≤ length newest.old }
@@ -22,7 +22,8 @@ fn mark(newest: &mut [u64], address: u64, number: u64, count: u64)
     }
 }
 
-/// Stores that wait, the oldest first. It has room for so many until it is cleared, and then takes no more memory.
+/// Stores that wait, the oldest first. It has room for a fixed number of them until it is cleared, and takes no more
+/// memory.
 #[derive(Drop)]
 pub(crate) struct Queue {
     lanes: u64,
@@ -48,7 +49,7 @@ impl Model for Queue {
 }
 
 impl Queue {
-    /// With room for so many stores of so many words each, into a memory of so many.
+    /// With room for `most` stores of `lanes` words each, into a memory of `span` words.
     pub(crate) fn new(alloc: Global, most: u64, lanes: u64, span: u64) -> Result<Self, NoMemory>
         requires most { most < 2 ^ 59 }
         requires lanes { lanes ≤ 16 }

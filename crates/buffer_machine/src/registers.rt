@@ -29,7 +29,7 @@ impl Model for Registers {
 }
 
 impl Registers {
-    /// So many words, all 0.
+    /// `count` words, all 0.
     pub(crate) fn new(alloc: Global, count: u64) -> Result<Self, NoMemory>
         ensures { IfOk result (λ registers. registers ≡ replicate count 0) }
     {

@@ -21,7 +21,7 @@ pub(crate) fn some_wait(queues: &[Queue]) -> bool
     false
 }
 
-/// Whether a processor has done fewer than so many actions.
+/// Whether a processor has done fewer than `len` actions.
 #[inline]
 fn some_left(len: u64, done: &[u64]) -> bool
     ensures { result ≡ list_any (λ d. nat_lt d len) done.now }
@@ -34,7 +34,7 @@ fn some_left(len: u64, done: &[u64]) -> bool
     false
 }
 
-/// Whether something holds a phase of so many actions.
+/// Whether something holds a phase of `len` actions.
 #[inline]
 pub(crate) fn is_held(len: u64, done: &[u64], queues: &[Queue]) -> bool
     ensures { result ≡ is_held len done.now queues.now }

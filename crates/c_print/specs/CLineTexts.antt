@@ -5,7 +5,7 @@ use Rattle.listing_text.specs.Reading.{above_all}
 use Rattle.listing_text.specs.Wording.{PlainAct, Open, Close, Do}
 use Rattle.c_print.specs.CText.{c_line_text}
 
--- an operation within the limits of a program with this modulus, inside so many loops; a loop's numbers are words
+-- an operation within the limits of a program with this modulus, inside a number of loops; a loop's numbers are words
 abbrev pub MayStand : ℕ → ℕ → PlainAct → Type 0
 MayStand modulus loops (Open depth count) = (depth < above_all) × (count < above_all)
 MayStand modulus loops Close = Unit {0}

@@ -9,7 +9,7 @@ use Rattle.c_print.specs.CText.{c_table_text}
 abbrev pub same_length : ℕ → ℕ → List ℕ → Place ℕ → Result ((ℕ × List ℕ) × Place ℕ) ℕ
 same_length number count entries = if length entries == count then pure_at (number, entries) else refuse
 
--- a table's number and its entries, of which there are up to so many more than one
+-- a table's number and its entries: one, and up to a given number more
 abbrev pub c_table_at : ℕ → Place ℕ → Result ((ℕ × List ℕ) × Place ℕ) ℕ
 c_table_at most = do
   number ← named_number_at (codes "static const uint64_t t") above_all

@@ -34,7 +34,7 @@ c_op_text (MulTable register source table place step) =
     becomes_text register ++ codes "mul(" ++ lane_text source ++ codes ", t" ++ decimal table ++ codes "[" ++ sum_text place ++ codes " + " ++ decimal step ++ codes " * l]);"
 c_op_text (Tile register source) = tile_loops ++ codes "r[" ++ decimal register ++ codes " + k][l] = r[" ++ decimal source ++ codes " + l][k];"
 
--- the loop inside so many others begins
+-- the loop at this depth begins
 unfoldable pub loop_text : ℕ → ℕ → List ℕ
 loop_text depth count = codes "for (uint64_t v" ++ decimal depth ++ codes " = 0; v" ++ decimal depth ++ codes " < " ++ decimal count ++ codes "; v" ++ decimal depth ++ codes "++) {\n"
 
@@ -48,7 +48,7 @@ c_line_text (Do op) = c_op_text op ++ codes "\n"
 abbrev pub c_header_text : Header → List ℕ
 c_header_text h = codes "/* " ++ header_text h ++ codes " */\n"
 
--- the modulus, the lanes, and the memory with its four arrays of so many words
+-- the modulus, the lanes, and the memory with its four arrays, whose words are given
 unfoldable pub front_text : ℕ → ℕ → ℕ → List ℕ
 front_text modulus lanes words =
     codes "#include <stdint.h>\n" ++ numbered_text (codes "#define M ") modulus (codes "ULL\n") ++ numbered_text (codes "#define V ") lanes (codes "\n")
@@ -75,7 +75,7 @@ mul_text = codes "static uint64_t mul(uint64_t a, uint64_t b) { return (uint64_t
 unfoldable pub functions_text : List ℕ
 functions_text = add_text ++ sub_text ++ mul_text
 
--- how a phase begins, for a program with so many registers
+-- how a phase begins, given the program's registers and the phase's number
 unfoldable pub phase_start_text : ℕ → ℕ → List ℕ
 phase_start_text regs number = numbered_text (codes "void phase") number (codes "(uint64_t q) {\n") ++ numbered_text (codes "uint64_t r[") regs (codes "][V];\n") ++ codes "(void)q;\n"
 

@@ -13,7 +13,7 @@ use ring_mod::Modulus;
 use std::marker::Model;
 use thiserror::Error;
 
-/// Cuts data into vectors of so many numbers.
+/// Cuts data into vectors of a number of numbers.
 #[derive(Drop)]
 pub struct Vectors {
     size: u64,
@@ -154,7 +154,7 @@ impl Vectors {
     }
 }
 
-// What the end of the data is, behind so many numbers of a vector.
+// What the end of the data is, after `have` numbers of a vector.
 fn ending(have: u64, need: u64) -> Result<Next, DataFault>
     ensures { result ≡ ending_of have need }
 {

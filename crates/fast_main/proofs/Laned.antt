@@ -1,4 +1,4 @@
--- A program that is not on so many lanes stays as it is.
+-- A program that is not on these lanes stays as it is.
 use Rattle.std.proofs.Common.{◌≡◌, ◌≢◌, ℕ, ◌*◌, Bool, true, false, map, refl, sym, ap, ◌∙◌}
 use Rattle.std.specs.Prelude.{if◌then◌else◌}
 use Rattle.icode.specs.Plain.{PlainProgram}

@@ -26,7 +26,7 @@ fn has_cheap_products(size: WordSize, modulus: u64) -> bool
     }
 }
 
-// The program on so many lanes with its loops joined, if it can be laned so, and else the program.
+// The program on these lanes with its loops joined, if it can be laned so, and else the program.
 fn lane_if_joined(alloc: Global, lanes: u64, program: Program) -> Result<Program, NoMemory>
     requires lanes { IsLanes lanes }
     requires others { program.lanes ≢ lanes }
@@ -41,7 +41,7 @@ fn lane_if_joined(alloc: Global, lanes: u64, program: Program) -> Result<Program
     Ok(program)
 }
 
-// The program on so many lanes as its loops are, or else with them joined, and else the program.
+// The program on these lanes as its loops are, or else with them joined, and else the program.
 fn put_on_several(alloc: Global, lanes: u64, program: Program) -> Result<Program, NoMemory>
     requires { IsLanes lanes }
     ensures { IfOk result
@@ -55,7 +55,7 @@ fn put_on_several(alloc: Global, lanes: u64, program: Program) -> Result<Program
     Ok(made)
 }
 
-// The program where loops are interchanged, and where rounds of loops become so many lanes.
+// The program where loops are interchanged, and where rounds of loops become lanes.
 fn put_on_lanes(alloc: Global, lanes: u64, program: Program) -> Result<Program, NoMemory>
     requires { IsLaneCount lanes }
     ensures { IfOk result

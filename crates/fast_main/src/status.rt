@@ -17,7 +17,7 @@ pub enum Status {
     ListingSyntax {
         line: u64,
     },
-    /// The program has more actions than so many.
+    /// The program has more actions than the limit.
     OverSteps {
         limit: u64,
     },
@@ -40,7 +40,7 @@ pub enum Status {
         a: u64,
         b: u64,
     },
-    /// The modulus has more bits than words of so many take.
+    /// The modulus has more bits than words of this size take.
     WideModulus {
         bits: u64,
     },

@@ -132,8 +132,8 @@ stores_among [] = 0
 stores_among (Store address r ∷ actions) = suc (stores_among actions)
 stores_among (_ ∷ actions) = stores_among actions
 
--- a processor that has these actions left and so many stores waiting takes those actions and then drains its queue to
--- the end
+-- a processor that has these actions left and a number of stores waiting takes those actions and then drains its
+-- queue to the end
 abbrev pub rest_of_processor : List Action → ℕ → ℕ → List Event
 rest_of_processor left waiting q = replicate (length left) (Turn q) ++ replicate (waiting + stores_among left) (Drain q)
 

@@ -203,7 +203,7 @@ whole_counts code q = counts_of code.lanes (flat_map (λ phase. acts code phase 
 
 -- Whole runs
 
--- so many words, rounded up to whole lines
+-- a number of words, rounded up to whole lines
 abbrev pub whole_lines : ℕ → ℕ → ℕ
 whole_lines size line = (size + (line - 1)) / line * line
 
@@ -256,7 +256,7 @@ touched_words lanes (Load r address) = range_with_len address lanes
 touched_words lanes (Store address r) = range_with_len address lanes
 touched_words lanes _ = []
 
--- the numbers of the lines of the words, where a line has so many words
+-- the numbers of the lines of the words, given how many words a line has
 abbrev pub lines_of : ℕ → List ℕ → List ℕ
 lines_of line words = map (λ k. k / line) words
 

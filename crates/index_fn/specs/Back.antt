@@ -15,7 +15,7 @@ inverse_below r s zero = 0
 inverse_below r s (suc b) =
     if (s * b) % r == 1 % r && (r * b) % s == 1 % s then b else inverse_below r s b
 
--- so many times a number below n, reduced: L(n, 1) is the identity of n items
+-- a number of times a number below n, reduced: L(n, 1) is the identity of n items
 abbrev pub multiple_below : ℕ → ℕ → Mapping
 multiple_below n times = After (Paired (Always 0) 0 Same n) (After (Line 0 times) (Strided 1 n))
 

@@ -108,7 +108,7 @@ fn back_in(alloc: Global, r: u64, s: u64) -> Result<Index, NoMemory>
     Ok(Index::Composed(out, multiple))
 }
 
-// So many times a number below `n`, reduced.
+// `times` times a number below `n`, reduced.
 fn multiple_below(alloc: Global, n: u64, times: u64) -> Result<Index, NoMemory>
     ensures { IfOk result (λ g. mapping_of g ≡ multiple_below n times) }
 {

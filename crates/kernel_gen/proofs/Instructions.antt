@@ -48,7 +48,7 @@ factors-fit m lanes factor some small = All-append (λ c. c < m) (list_below lan
     below zero from = All-nil (λ c. c < m)
     below (suc n) from = All-cons (λ c. c < m) (factor from) (map factor (range_with_len (from + 1) n)) (small from) (below n (from + 1))
 
--- ---- on so many lanes
+-- ---- on lanes
 
 -- each lane does what one lane does
 lane-effect : (m lanes lane : ℕ) (i : Instruction) (g : Registers) → lane < lanes →

@@ -83,7 +83,7 @@ module _ (m n : ℕ) (made : Made) (f : Operator) where
             ∙ ap f (map-firsts g n),
       )
 
-  -- with exactly so many operations in each lane, where a multiplication counts as `weight` of them
+  -- with exactly `price` operations in each lane, where a multiplication counts as `weight` of them
   pub does_cost : (weight lanes price : ℕ) → 0 < weight → DoesAt m weight n price (firsts n) n made f →
       weighted weight (counts_of lanes (actions_by lanes made.code)) ≡ lanes * price
   does_cost weight lanes price counted done =

@@ -13,11 +13,11 @@ op_of (instructions.Sub r x y) = Sub r x y
 op_of (instructions.Neg r x) = Neg r x
 op_of (instructions.Mul r x c) = MulConst r x c
 
--- a program of so many lanes that does nothing
+-- a program on these lanes that does nothing
 abbrev pub nothing_on : ℕ → PlainProgram
 nothing_on lanes = record { size = 0; modulus = 0; procs = 0; line = 0; lanes = lanes; regs = 0; tables = []; phases = [] }
 
--- the action of an instruction on so many lanes, and those of code: of a program, such operations see the lanes alone
+-- the action of an instruction on these lanes, and those of code: of a program, such operations see the lanes alone
 abbrev pub action_by : ℕ → Instruction → Action
 action_by lanes i = (step_of (nothing_on lanes) (op_of i) [] 0).action
 

@@ -18,7 +18,7 @@ use ring_mod::Modulus;
 use std::alloc::Global;
 use tree_model::{Ctx, Tree};
 
-// The registers of so many inputs.
+// The registers of n inputs.
 fn first_registers(alloc: Global, n: u64) -> Result<Vec<u64>, NoMemory>
     ensures value { IfOk result (λ y. y.items ≡ list_below n (λ k. k)) }
     ensures size { IfOk result (λ y. vec_len y ≡ n) }
@@ -26,7 +26,7 @@ fn first_registers(alloc: Global, n: u64) -> Result<Vec<u64>, NoMemory>
     Ok((0..n).map(|k| k).collect(alloc)?)
 }
 
-// Nothing yet, on so many inputs.
+// Nothing yet, on `inputs` inputs.
 fn begun(alloc: Global, inputs: u64) -> Writer
     ensures inputs { result.inputs ≡ inputs }
     ensures code { result.code.items ≡ [] }

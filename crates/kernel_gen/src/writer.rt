@@ -8,7 +8,7 @@ use memory::NoMemory;
 use ring_mod::Modulus;
 use std::alloc::Global;
 
-/// The code so far, on the registers of so many inputs.
+/// The code so far, on the registers of the inputs.
 #[derive(Drop)]
 pub(crate) struct Writer {
     pub(crate) inputs: u64,

@@ -21,7 +21,7 @@ AreKnownPasses room n (zs ∷ ps) = IsKnownPass room n zs × AreKnownPasses room
 
 -- ---- states
 
--- lists of n words under so many tensors that this room is left of 64
+-- lists of n words under few tensors: this room is left of 64
 pub record HasRoom (room n : ℕ) : Type 0 where
   pub some : 0 < n
   pub most : room ≤ 64

@@ -7,11 +7,11 @@ use Rattle.perm_algebra.specs.Room.{CanJoin, HasCounts, constant_of}
 use Rattle.operators.specs.TensorPaths.Path.{Path}
 use Rattle.loop_nests.specs.Placed.{CanPlace}
 
--- a place of a part that begins behind so many words, in the whole
+-- a place of a part that begins a number of words later, in the whole
 abbrev pub raised : Path → ℕ → ℕ → Sum → Sum
 raised path n before e = place_sum path n 0 (joined (constant before) (renumbered (length path) e))
 
--- it can be made, where so many variables have counts
+-- it can be made, where `depth` variables have counts
 pub record CanRaise (depth : ℕ) (path : Path) (n before : ℕ) (e : Sum) : Type 0 where
   pub counts : HasCounts depth e
   pub joins : CanJoin (constant before) (renumbered (length path) e)
@@ -43,7 +43,7 @@ abbrev pub AreLifted : Path → ℕ → ℕ → List (List PlainNest) → Type 0
 AreLifted path n before [] = Unit {0}
 AreLifted path n before (zs ∷ ps) = AllLift path n before zs × AreLifted path n before ps
 
--- the same nest behind so many words
+-- the same nest a number of words later
 abbrev pub behind : ℕ → PlainNest → PlainNest
 behind before z =
     record {

@@ -5,7 +5,7 @@ use Rattle.perm_algebra.specs.Room.{IsReady}
 use Rattle.sigma_spl.specs.Nest.{PlainMultiplier, PlainNest}
 use Rattle.sigma_spl.specs.Work.{HasWords}
 
--- so many variables have counts
+-- the first n variables have counts
 abbrev pub AreReady : ℕ → List Sum → Type 0
 AreReady depth [] = Unit {0}
 AreReady depth (e ∷ es) = IsReady depth e × AreReady depth es

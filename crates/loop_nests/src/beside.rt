@@ -14,7 +14,7 @@ use operators::Tensor;
 use sigma_spl::Nest;
 use std::alloc::Global;
 
-/// The passes of two parts, on lists of so many words, under the tensors of a path: the shorter begins with copies.
+/// The passes of two parts, on lists of `sizes` words, under the tensors of a path: the shorter begins with copies.
 pub fn sides(
     alloc: Global,
     path: &[Tensor],

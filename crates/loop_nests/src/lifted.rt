@@ -18,7 +18,7 @@ use sigma_spl::{Multiplier, Nest, counts};
 use smallvec::SmallVec;
 use std::alloc::Global;
 
-/// A nest of a part that begins behind so many words, under the tensors of a path round `size` words.
+/// A nest of a part that begins `before` words later, under the tensors of a path round `size` words.
 pub(crate) fn lifted(
     alloc: Global,
     path: &[Tensor],
@@ -128,7 +128,7 @@ fn all_renumbered(alloc: Global, by: u64, sums: &[Affine]) -> Result<Vec<Affine>
     Ok(higher)
 }
 
-/// Nests of a part that begins behind so many words.
+/// Nests of a part that begins `before` words later.
 pub(crate) fn raise_nests(before: u64, nests: &mut [Nest])
     requires { AllFit before (map plain_nest nests.old) }
     ensures { map plain_nest nests.new ≡ map (behind before) (map plain_nest nests.old) }

@@ -123,7 +123,7 @@ fn numbers(alloc: Global, places: &[u64]) -> Result<Vec<Affine>, NoMemory>
     Ok(numbers)
 }
 
-/// A pass that changes nothing, on so many words.
+/// A pass that changes nothing, on `size` words.
 #[tactic(auto, using(crate::proofs::Items::loop_several, crate::proofs::Items::loop_size))]
 pub fn copying(alloc: Global, size: u64) -> Result<Vec<Nest>, NoMemory>
     requires some { 0 < size }
@@ -136,7 +136,7 @@ pub fn copying(alloc: Global, size: u64) -> Result<Vec<Nest>, NoMemory>
     Ok(nests)
 }
 
-// A loop over so many words, which is none for one word.
+// A loop over `size` words; there is none for one word.
 fn one_loop(alloc: Global, size: u64) -> Result<Vec<Tensor>, NoMemory>
     ensures { IfOk result (λ path. path.items ≡ one_loop size) }
 {

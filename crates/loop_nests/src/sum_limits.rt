@@ -133,7 +133,7 @@ pub fn is_within(counts: &[u64], sum: &Affine, limits: Limits) -> bool
     }
 }
 
-// Whether a sum has at most so many parts.
+// Whether a sum has at most `room` parts.
 fn is_short(sum: &Affine, room: u64) -> bool
     ensures { IsTrue result ↔ (parts (plain_sum sum.now) ≤ room) }
 {

@@ -96,7 +96,7 @@ pub fn first_bad_power(modulus: &Modulus, n: u64, w: u64) -> Option<u64>
 }
 
 /// Cyclic convolution by transforms, modulo any m at which the power sums of the root are 0 and
-/// the size has an inverse: a law of the definitions.
+/// the size has an inverse.
 #[tactic(auto, using(crate::proofs::ConvolutionLaw::convolution_by_transforms, crate::proofs::ConvolutionLaw::convolution_by_diagonal))]
 pub fn convolution_by_transforms()
     ensures transforms { ConvolutionByTransforms }
@@ -104,7 +104,7 @@ pub fn convolution_by_transforms()
 {}
 
 /// Where the power sums of the root are 0 and the size has an inverse, the transform and the
-/// inverse transform undo each other: a law of the definitions.
+/// inverse transform undo each other.
 #[tactic(auto, using(crate::proofs::Undoing::inverse_undoes, crate::proofs::Undoing::transform_undoes))]
 pub fn inverse_undoes()
     ensures inverse { InverseUndoes }

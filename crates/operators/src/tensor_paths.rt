@@ -6,9 +6,9 @@ ghost use Rattle.operators.specs.TensorPaths.Loop.{LoopIsUnder};
 /// A tensor around a matrix.
 #[derive(Clone, Copy, PartialEq, Eq, Debug)]
 pub enum Tensor {
-    /// So many copies, one behind the other: `I_k tensor .`.
+    /// A number of copies, one after the other: `I_k tensor .`.
     Blocks(u64),
-    /// So many copies, side by side: `. tensor I_k`.
+    /// A number of copies, side by side: `. tensor I_k`.
     Columns(u64),
 }
 
@@ -26,7 +26,7 @@ impl Tensor {
     }
 }
 
-/// A matrix under tensors is a loop over its copies: a law of the definitions.
+/// A matrix under tensors is a loop over its copies.
 pub fn loop_is_under()
     ensures { LoopIsUnder }
 {}

@@ -17,7 +17,7 @@ step_by engine op values proc = step_of (header_of engine) (plain_op op) values 
 abbrev pub action_by : Engine → Op → List ℕ → ℕ → Action
 action_by engine op values proc = (step_by engine op values proc).action
 
--- it is within the limits, where so many loops are open
+-- it is within the limits, given how many loops are open
 abbrev pub OpIsWithin : Engine → Op → ℕ → Type 0
 OpIsWithin engine op depth = IsTrue (is_op_within engine.shape.modulus (plain_op op) depth)
 

@@ -11,7 +11,7 @@ use Rattle.par_machine.specs.Hand.{step_at}
 abbrev pub seen : PlainProgram → List Instruction → ℕ → ℕ → ℕ → List ℕ → List (Option Step)
 seen p code q n at values = map (λ (place : Position). step_at p code q place) (positions code n (resting (drop at code) at values))
 
--- from one place to another the code does so many steps, where so many loops are open and the others have the value 0
+-- from one place to another the code does `len` steps, where `depth` loops are open and the others have the value 0
 pub record Plays (p : PlainProgram) (code : List Instruction) (from to depth len : ℕ) (steps : Steps) : Type 0 where
   pub order : from ≤ to
   pub some : 0 < len → from < to

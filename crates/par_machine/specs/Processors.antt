@@ -9,7 +9,7 @@ use Rattle.par_machine.specs.declared.cursor.Instruction.TheVariants.{Act, Again
 use Rattle.par_machine.specs.OnRegisters.{counted_op}
 use Rattle.par_machine.specs.Position.{Position, first_position, next_position}
 
--- at the beginning, with so many words of registers
+-- at the beginning, with a number of words of registers
 abbrev pub fresh : ℕ → Context
 fresh words = record { place = first_position; registers = replicate words 0; counts = no_counts }
 

@@ -12,7 +12,7 @@ use icode::program::Stmt;
 use memory::NoMemory;
 use std::alloc::Global;
 
-/// Appends the straight code of a statement, where so many loops are open. A loop whose body holds
+/// Appends the straight code of a statement, where `depth` loops are open. A loop whose body holds
 /// no action has none.
 pub(crate) fn compile(
     alloc: Global,

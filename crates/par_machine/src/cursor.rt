@@ -12,7 +12,7 @@ pub(crate) const OPEN_LOOPS: u64 = 64;
 /// Straight code, whose loops are jumps back.
 #[derive(Drop)]
 pub(crate) enum Instruction {
-    /// One action, where so many loops are open.
+    /// One action, where `depth` loops are open.
     Act { op: Op, depth: u64 },
     /// The end of a loop's body that begins at `start`. The loop's variable runs up to `last`.
     Again { start: u64, last: u64, depth: u64 },

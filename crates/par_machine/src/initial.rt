@@ -29,7 +29,7 @@ pub(crate) fn compile_phases(alloc: Global, program: &Program) -> Result<Vec<Rou
     Ok(routines)
 }
 
-/// The processors, with so many words of registers each.
+/// The processors, with `words` words of registers each.
 pub(crate) fn make_processors(
     alloc: Global,
     procs: u64,
@@ -45,7 +45,7 @@ pub(crate) fn make_processors(
     Ok(processors)
 }
 
-/// So many zeros.
+/// `count` zeros.
 pub(crate) fn zeros(alloc: Global, count: u64) -> Result<Vec<u64>, NoMemory>
     ensures { IfOk result (λ zeros. zeros.items ≡ replicate count 0) }
 {

@@ -96,7 +96,7 @@ impl Machine {
         processor.action(&self.engine, &routine.code, proc)
     }
 
-    /// The processor does so many of the actions that it has left.
+    /// The processor does the next `count` of its actions.
     fn advance(&mut self, proc: u64, count: u64)
         requires proc { proc < self.old.code.procs }
         requires some { 0 < count }

@@ -50,7 +50,7 @@ impl Model for Processor {
 }
 
 impl Processor {
-    /// At the beginning, with so many words of registers.
+    /// At the beginning, with `words` words of registers.
     pub(crate) fn new(alloc: Global, words: u64) -> Result<Self, NoMemory>
         ensures { IfOk result (λ processor. processor ≡ fresh words) }
     {
@@ -120,7 +120,7 @@ impl Processor {
         }
     }
 
-    /// Does so many actions, from its place on.
+    /// Does `count` actions, from its place on.
     pub(crate) fn play(
         &mut self,
         engine: &Engine,

@@ -11,7 +11,7 @@ tally q r (variable f d rest) = tally q r rest
 tally q r (remainder f of m rest) = r + tally q r of + tally q r rest
 tally q r (quotient f of m rest) = q + tally q r of + tally q r rest
 
--- no more quotients than before, and at most so many more remainders
+-- no more quotients than before, and at most `more` more remainders
 pub record AddsRemainders (more : ℕ) (before after : Sum) : Type 0 where
   pub quotients : tally 1 0 after ≤ tally 1 0 before
   pub remainders : tally 0 1 after ≤ more + tally 0 1 before

@@ -164,17 +164,17 @@ fn remainders(
     Ok(both(left, rem))
 }
 
-/// A simplified sum has the function's value: a law of the definitions.
+/// A simplified sum has the function's value.
 pub fn simplified_keeps()
     ensures { SimplifiedKeeps }
 {}
 
-/// What simplification adds to a sum that a divisor takes apart: a law of the definitions.
+/// What simplification adds to a sum that a divisor takes apart.
 pub fn shape_kept()
     ensures { ShapeKept }
 {}
 
-/// Whether every number on the way to a simplified sum fits can be tested: a law of the definitions.
+/// Whether every number on the way to a simplified sum fits can be tested.
 pub fn room_decided()
     ensures { RoomDecided }
 {}

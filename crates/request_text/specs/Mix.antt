@@ -28,7 +28,7 @@ next_event = do
   word (codes ",")
   event
 
--- up to so many of them
+-- up to a given number of them
 unfoldable pub more_events : ℕ → List ℕ → List Event → Type 0
 more_events zero = pure []
 more_events (suc count) = optional [] (do

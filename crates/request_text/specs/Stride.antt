@@ -7,6 +7,6 @@ use Rattle.request_text.specs.Turns.{state_after}
 abbrev pub moved : Stride → ℕ → ℕ
 moved s v = (v * s.multiplier + s.increment) % 2 ^ 64
 
--- the stride is so many steps
+-- the stride is `count` steps
 pub record Makes (s : Stride) (count : ℕ) : Type 0 where
   pub each : (v : ℕ) → v < 2 ^ 64 → moved s v ≡ state_after count v

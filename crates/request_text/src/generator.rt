@@ -46,7 +46,7 @@ impl Stride {
     }
 }
 
-/// So many steps, by doubling.
+/// `count` steps, by doubling.
 fn stride_of(count: u64) -> Stride
     ensures { Makes result count }
 {
@@ -69,7 +69,7 @@ pub fn next_state(state: u64) -> u64
     ONE.from(state)
 }
 
-/// The state after so many steps.
+/// The state after `count` steps.
 pub(crate) fn state_after(seed: u64, count: u64) -> u64
     ensures { result ≡ state_after count seed }
 {

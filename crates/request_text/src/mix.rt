@@ -76,7 +76,7 @@ fn next_event(cursor: &mut Cursor) -> Result<Event, Stuck>
     event(cursor)
 }
 
-/// One event, and up to so many more.
+/// One event, and up to `count` more.
 fn events(alloc: Global, cursor: &mut Cursor, count: u64) -> Result<Vec<Event>, ReadError>
     ensures { Tells (λ v. v.items) result cursor.new (events_at count cursor.old) }
 {
@@ -149,7 +149,7 @@ impl Mix {
         self.events[i as usize]
     }
 
-    /// The first processor named that is none of so many.
+    /// The first processor named that is none of the first `p`.
     pub fn stranger(&self, p: u64) -> Option<u64>
         ensures { result ≡ find (λ q. nat_le p q) (map proc_of self.now) }
     {

@@ -32,11 +32,11 @@ impl Model for Schedule {
 enum Turns {
     /// None.
     Sequential,
-    /// Each processor in rising order, so many times.
+    /// Each processor in rising order, `count` times.
     Rounds { count: u64 },
     /// These.
     Named { turns: Vec<u64> },
-    /// So many of the generator, from a seed.
+    /// `count` turns of the generator, from a seed.
     Seeded { seed: u64, count: u64 },
 }
 
@@ -122,7 +122,7 @@ pub fn read_schedule(alloc: Global, word: &[u8]) -> Result<Schedule, ScheduleFau
 }
 
 impl Schedule {
-    /// How many turns there are for so many processors.
+    /// How many turns there are for `p` processors.
     pub fn len(&self, p: u64) -> u64
         requires { (1 ≤ p) × (p ≤ 16) }
         ensures value { result ≡ length (turns_of self.now p) }
@@ -150,7 +150,7 @@ impl Schedule {
         }
     }
 
-    /// The first named turn that is none of so many processors.
+    /// The first named turn that is none of the first `p` processors.
     pub fn stranger(&self, p: u64) -> Option<u64>
         ensures { result ≡ find (λ q. nat_le p q) (named self.now) }
     {

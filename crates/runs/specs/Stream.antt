@@ -16,7 +16,7 @@ use Rattle.runs.specs.declared.stream.StreamFault.TheVariants.{BadNumber, Trunca
 
 -- Vectors
 
--- the first so many vectors of the tokens
+-- the first vectors of the tokens, of a given number
 abbrev pub group_vectors : ℕ → ℕ → ℕ → List (List ℕ) → List (List ℕ)
 group_vectors size modulus zero ts = []
 group_vectors size modulus (suc count) ts = residues modulus (take size ts) ∷ group_vectors size modulus count (drop size ts)
@@ -45,7 +45,7 @@ abbrev pub good_front : List (List ℕ) → List (List ℕ)
 good_front [] = []
 good_front (t ∷ ts) = if is_good t then t ∷ good_front ts else []
 
--- the number of the first token that is not good, behind so many
+-- the number of the first token that is not good, after a number of tokens
 abbrev pub bad_after : ℕ → List (List ℕ) → Option ℕ
 bad_after done [] = None
 bad_after done (t ∷ ts) = if is_good t then bad_after (done + 1) ts else Some (done + 1)
@@ -62,7 +62,7 @@ vectors_seen size modulus over (Some token) seen = vectors_of size modulus (good
 vectors_seen size modulus true None seen = vectors_of size modulus (tokens (closed_part seen))
 vectors_seen size modulus false None seen = vectors_of size modulus (tokens seen)
 
--- the answer to data of which so many bytes may come
+-- the answer to data, given how many bytes may come
 abbrev pub data_answer : ℕ → ℕ → List ℕ → Result (Unit {0}) StreamFault
 data_answer size room bytes = answer_of size (nat_lt room (length bytes)) (bad_after 0 (tokens (take room bytes))) (length (tokens (take room bytes)))
 

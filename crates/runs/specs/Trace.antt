@@ -8,7 +8,7 @@ use Rattle.icode.specs.declared.event.Drained.TheVariants.{Wrote, Empty}
 use Rattle.icode.specs.declared.event.Turned.{Turned}
 use Rattle.icode.specs.declared.event.Turned.TheVariants.{Did, Waits, Done}
 
--- an action on so many lanes
+-- an action on these lanes
 abbrev pub action_text : ℕ → Action → List ℕ
 action_text lanes (Load register address) = codes "ld r" ++ decimal register ++ codes " " ++ decimal address
 action_text lanes (Store address register) = codes "st " ++ decimal address ++ codes " r" ++ decimal register

@@ -87,7 +87,7 @@ fn put_product(line: &mut Line, register: u64, source: u64, factors: &[u64])
     put_factors(line, factors);
 }
 
-/// Appends the text of an action on so many lanes.
+/// Appends the text of an action on `lanes` lanes.
 fn put_action(line: &mut Line, lanes: u64, action: &Action)
     requires lanes { lanes ≤ 16 }
     requires room { array_string_len line.old ≤ 42 }
@@ -132,7 +132,7 @@ fn put_answer(line: &mut Line, lanes: u64, turned: &Turned)
     }
 }
 
-/// The line of a turn of a machine with so many lanes.
+/// The line of a turn of a machine with `lanes` lanes.
 pub(crate) fn line_of(number: u64, proc: u64, lanes: u64, turned: &Turned) -> Line
     requires lanes { lanes ≤ 16 }
     ensures { result.bytes ≡ turn_line lanes number proc turned.now }

@@ -59,7 +59,7 @@ roomier room more n cs e h s = record { parts = omega (arith, h, s.parts); level
 
 -- ---- tensors that fit
 
--- so many tensors stand round n words, in an array of at most 2 ^ 20
+-- a number of tensors stand round n words, in an array of at most 2 ^ 20
 abbrev pub IsRound : ℕ → ℕ → Type 0
 IsRound u n = n * 2 ^ u ≤ 2 ^ 20
 

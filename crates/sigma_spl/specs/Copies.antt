@@ -77,7 +77,7 @@ multiplied_by m factor c =
 
 -- ---- a pass in a larger one
 
--- the array begins behind so many words of a larger one
+-- the array begins a number of words later in a larger one
 abbrev pub behind : ℕ → Copies → Copies
 behind before c = record {
   counts = c.counts;

@@ -30,12 +30,12 @@ pub record NamesItems (w : PlainWork) (sums : List Sum) : Type 0 where
   pub enough : named w ≤ length sums
   pub sound : AreSound sums
 
--- f moves whole vectors of so many words
+-- f moves whole vectors of `lanes` words
 pub record MovesVectors (lanes : ℕ) (f : ℕ → ℕ) : Type 0 where
   pub together : (i j : ℕ) → i % lanes ≡ 0 → j < lanes → f (i + j) ≡ f i + j
   pub begins : (i : ℕ) → i % lanes ≡ 0 → 0 < lanes → f i % lanes ≡ 0
 
--- a tile that has words is of so many lanes
+-- a tile that has words is of these lanes
 abbrev pub HasLanes : ℕ → PlainWork → Type 0
 HasLanes lanes (tile v) = 0 < v → v ≡ lanes
 HasLanes lanes w = Unit {0}
@@ -92,12 +92,12 @@ AreBlocks [] = Unit {0}
 AreBlocks (Blocks c ∷ path) = AreBlocks path
 AreBlocks (Columns c ∷ path) = ⊥
 
--- tiles are of so many lanes, and stand in blocks
+-- tiles are of these lanes, and stand in blocks
 abbrev pub CanNest : ℕ → Path → PlainWork → Type 0
 CanNest lanes path (tile v) = (0 < v → v ≡ lanes) × AreBlocks path
 CanNest lanes path w = Unit {0}
 
--- a term on lists of n items, whose tiles are of so many lanes: none of them stands in a direct sum. Where there are
+-- a term on lists of n items, whose tiles are of `lanes` lanes: none of them stands in a direct sum. Where there are
 -- no tiles, any permutation moves vectors of no words
 abbrev pub IsGoodTerm : (lanes : ℕ) → ℕ → PlainTerm → Type 0
 IsGoodTerm lanes n same = Unit {0}

@@ -4,7 +4,7 @@ use Rattle.matrix_meaning.specs.declared.Kind.TheVariants.{Dft}
 use Rattle.matrix_meaning.specs.Kind.{transform}
 use Rattle.ring_mod.specs.Residue.{power_mod}
 
--- what stands after so many turns: each takes the item before
+-- what stands after a number of turns: each takes the item before
 -- the one that the turn before took, the first takes the last
 abbrev pub horner_sum : ℕ → ℕ → ℕ → (ℕ → ℕ) → ℕ → ℕ
 horner_sum m power d x zero = 0

@@ -24,7 +24,7 @@ place_sum (Blocks c ∷ path) n d e =
     joined (scaled (size_under path n) (variable 1 d (constant 0))) (place_sum path n (d + 1) e)
 place_sum (Columns c ∷ path) n d e = joined (scaled c (place_sum path n (d + 1) e)) (variable 1 d (constant 0))
 
--- the items that are loaded, and those that are stored, where the loops have so many variables
+-- the items that are loaded, and those that are stored, given the number of the loops' variables
 abbrev pub items_in : PlainWork → ℕ → List Sum
 items_in (rows root size) depth = variable 1 (depth + 1) (constant 0) ∷ []
 items_in (horner root size) depth =
@@ -123,7 +123,7 @@ are_small cs (variable f d rest) = nat_lt f (2 ^ 32) && are_small cs rest
 are_small cs (remainder f of m rest) = is_divided cs f of m && (are_small cs of && are_small cs rest)
 are_small cs (quotient f of m rest) = is_divided cs f of m && (are_small cs of && are_small cs rest)
 
--- a place in an array of n words, in so many parts, whose factors are
+-- a place in an array of n words, in a number of parts at most, whose factors are
 -- below n: so they stay small where the array becomes part of a larger one
 abbrev pub is_limited : ℕ → ℕ → (ℕ → ℕ) → Sum → Bool
 is_limited room n cs e =
@@ -155,7 +155,7 @@ can_multiply room n factors fs zs =
     list_all (λ (z : PlainNest). is_free z.multiplier
     && list_all (carries_sum room n (factor_count factors) (limits_of z) fs) z.scatters) zs
 
--- how many parts a place may have: so many, or any number, where every place is known to stay within the limits
+-- how many parts a place may have: a number, or any number, where every place is known to stay within the limits
 pub data Room : Type 0 where
   most : (parts : ℕ) → Room
   unbounded : Room
@@ -180,7 +180,7 @@ abbrev pub can_take : Room → ℕ → PlainFactors → List Mapping → List Pl
 can_take (most room) n factors fs zs = can_multiply room n factors fs zs
 can_take unbounded n factors fs zs = list_all (λ (z : PlainNest). is_free z.multiplier && true) zs
 
--- the room under so many tensors
+-- the room under a number of tensors
 abbrev pub less : Room → ℕ → Room
 less (most room) d = most (room - d)
 less unbounded d = unbounded
@@ -306,7 +306,7 @@ abbrev pub renumbered_places : ℕ → Option PlainMultiplier → Option PlainMu
 renumbered_places k None = None
 renumbered_places k (Some d) = Some (record { factors = d.factors; places = map (renumbered k) d.places })
 
--- a part that begins behind so many words, under the tensors of a path round n words
+-- a part that begins a number of words later, under the tensors of a path round n words
 abbrev pub lifted : Path → ℕ → ℕ → PlainNest → PlainNest
 lifted path n before z =
     let up : Sum → Sum = λ e. place_sum path n 0 (joined (constant before) (renumbered (length path) e)) in

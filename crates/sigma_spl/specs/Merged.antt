@@ -3,7 +3,7 @@ use Rattle.std.specs.Prelude.{ℕ, List, [], ◌∷◌}
 use Rattle.operators.specs.Operator.{Operator}
 use Rattle.sigma_spl.specs.Nest.{PlainNest, nests_on}
 
--- the passes of each phase, in order, on arrays of so many words, for so many processors and lanes
+-- the passes of each phase, in order, on arrays of `size` words, for `procs` processors and `lanes` lanes
 pub record PlainMerged : Type 0 where
   pub size : ℕ
   pub procs : ℕ

@@ -18,7 +18,7 @@ inner_of [] n = Same
 inner_of (Blocks c ∷ path) n = Paired (Always 0) 0 (inner_of path n) (size_under path n)
 inner_of (Columns c ∷ path) n = Paired (inner_of path n) 1 (Always 0) c
 
--- the factors of a diagonal: these values, the twiddles of a ct of size rows * cols by this root, one value so many
+-- the factors of a diagonal: these values, the twiddles of a ct of size rows * cols by this root, one value a number of
 -- times, or those of a diagonal under tensors
 pub data PlainFactors : Type 0 where
   values : (entries : List ℕ) → PlainFactors

@@ -11,7 +11,7 @@ use Rattle.sigma_spl.specs.Term.{PlainTerm, term_on}
 use Rattle.sigma_spl.specs.Words.{AreWords}
 use Rattle.sigma_spl.specs.Work.{PlainWork}
 
--- the term of each phase, in order, on arrays of so many words, for so many processors and lanes
+-- the term of each phase, in order, on arrays of `size` words, for `procs` processors and `lanes` lanes
 pub record PlainSigma : Type 0 where
   pub size : ℕ
   pub procs : ℕ

@@ -16,7 +16,7 @@ pub enum Factors {
         cols: u64,
         root: u64,
     },
-    /// This value, so many times.
+    /// This value, a number of times.
     Repeated {
         value: u64,
         count: u64,

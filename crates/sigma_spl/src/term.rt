@@ -30,7 +30,7 @@ pub enum Term {
     },
     /// One after the other: the first is applied first.
     Compose(Box<Term>, Box<Term>),
-    /// Two terms side by side, on lists of so many items, under the tensors of a path.
+    /// Two terms side by side, on lists of `size` items, under the tensors of a path.
     Beside {
         path: Vec<Tensor>,
         first_size: u64,
@@ -40,8 +40,8 @@ pub enum Term {
     },
 }
 
-/// The terms of each phase, with a barrier after each: on arrays of `size` words, for so many processors and lanes. Clauses
-/// see it as a `PlainSigma` (Franchetti et al., 2005).
+/// The terms of each phase, with a barrier after each: on arrays of `size` words, for `procs` processors and `lanes`
+/// lanes. Clauses see it as a `PlainSigma` (Franchetti et al., 2005).
 #[derive(Drop)]
 pub struct Sigma {
     /// How many words an array has.

@@ -18,7 +18,7 @@ pub fn counts(alloc: Global, path: &[Tensor]) -> Result<SmallVec<u64, 8>, NoMemo
     Ok(counts)
 }
 
-/// What all variables run below, round copies of so many items: those of the loops, and those of the rows and the columns.
+/// What all variables run below, round copies of `size` items: those of the loops, of the rows and of the columns.
 pub fn limits(alloc: Global, counts: &[u64], size: u64) -> Result<SmallVec<u64, 10>, NoMemory>
     ensures { IfOk result (λ limits. limits.items ≡ counts.now ++ size ∷ size ∷ []) }
 {

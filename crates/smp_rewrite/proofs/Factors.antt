@@ -27,12 +27,12 @@ use Rattle.smp_rewrite.proofs.Dealt.{IsDealt, IsDealtStep, AreDealt}
 use Rattle.smp_rewrite.proofs.Sized.{AreOfSize}
 use Rattle.smp_rewrite.proofs.Tensors.{under-within, under-within_two}
 
--- a stride permutation on so many columns
+-- a stride permutation on a number of columns
 turn-within : (m w r s : ℕ) (x : List ℕ) → step_on m (step (within (Columns w) []) (turns r s)) x
     ≡ on_columns (r * s) w (turn r s) x
 turn-within m w r s x = under-within (Columns w) [] (r * s) (turn r s) x (core-gives m (turns r s)) (core-reads m (turns r s))
 
--- the rows of a step on so many columns
+-- the rows of a step on a number of columns
 pub rows_of : (n m s : ℕ) → 0 < s → m * s ≡ n → n / s ≡ m
 rows_of n m s h e = ap (λ k. k / s) (sym e ∙ omega arith) ∙ mul-div_right m h
 

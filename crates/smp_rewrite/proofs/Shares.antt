@@ -24,7 +24,7 @@ pub shares_in-append : (weight m p : ℕ) (fs gs : List PlainFactor) →
 shares_in-append weight m p [] gs = omega arith
 shares_in-append weight m p (f ∷ fs) gs = let rest = shares_in-append weight m p fs gs in omega (arith, rest)
 
--- a block under one p-th of so many copies
+-- a block under one p-th of a number of copies
 block-share : (p k copies cost : ℕ) (path : Path) → k ≡ p * (k / p) → copies ≡ k / p * copies_of path →
     p * (copies * cost) ≡ k * copies_of path * cost
 block-share p k copies cost path parts e =

@@ -41,7 +41,7 @@ pub record IsRightCertificate (request : Request) (bytes : List ℕ) : Type 0 wh
   pub cost : ℕ
   pub judged : IsVerdict request bytes (Least cost)
 
--- what stands behind the first line is right for the command, of which so many bytes may come
+-- what stands after the first line is right for the command, given how many bytes may come
 abbrev pub IsRightRest : RequestCommand → Request → ℕ → List ℕ → Type 0
 IsRightRest (Runs order) request room bytes = AreWholeVectors request.size room bytes
 IsRightRest (Traces order) request room bytes = AreWholeVectors request.size room bytes

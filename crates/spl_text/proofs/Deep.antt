@@ -30,7 +30,7 @@ use Rattle.spl_text.proofs.Readers.{formula_reader}
 
 -- ---- a parenthesis so deep
 
--- where so much is left, a parenthesis is opened behind so many open ones
+-- where this is left, a parenthesis is opened inside `depth` open ones
 pub record IsDeep (depth : ℕ) (text : List ℕ) (left : ℕ) : Type 0 where
   pub before : List ℕ
   pub after : List ℕ

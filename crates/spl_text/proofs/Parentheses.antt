@@ -19,7 +19,7 @@ opened_both xs ys = sum_by-append _ xs ys
 closed_both : (xs ys : List ℕ) → closed (xs ++ ys) ≡ closed xs + closed ys
 closed_both xs ys = sum_by-append _ xs ys
 
--- so many more are opened than closed
+-- more are opened than closed, by this number
 abbrev pub Opens : ℕ → List ℕ → Type 0
 Opens n text = opened text ≡ closed text + n
 

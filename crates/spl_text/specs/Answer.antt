@@ -79,7 +79,7 @@ opened text = count_by (λ b. b == 40) text
 abbrev pub closed : List ℕ → ℕ
 closed text = count_by (λ b. b == 41) text
 
--- no front of the text leaves more than so many open
+-- no front of the text leaves more than this number open
 abbrev pub IsShallow : ℕ → List ℕ → Type 0
 IsShallow n text = (front rest : List ℕ) → text ≡ front ++ rest → opened front ≤ closed front + n
 

@@ -69,7 +69,7 @@ abbrev pub too_deep : Result (Head × Place ℕ) ℕ → Result (Formula × Plac
 too_deep (Ok x) = Err (Fault (TooDeep (length x.1.rest + 1)))
 too_deep (Err left) = Err (Lost left)
 
--- with so many parentheses left to open
+-- with a number of parentheses left to open
 unfoldable pub formula_at : ℕ → Place ℕ → Result (Formula × Place ℕ) (Stop TextFault)
 formula_at zero place = too_deep (one_of_at heads place)
 formula_at (suc depth) place = tested_at (length place.rest) shape_fault ((plain (one_of_at heads) >>= arguments_by (formula_at depth)) place)

@@ -124,7 +124,7 @@ fn head_of(cursor: &mut Cursor) -> Result<Head, Stuck>
     ])
 }
 
-// The formula at the front, with so many parentheses left to open.
+// The formula at the front, with `depth` parentheses left to open.
 #[cycle(reading)]
 #[tactic(auto, unfolding(crate::specs::Reading::formula_at))]
 fn read_formula(alloc: Global, cursor: &mut Cursor, depth: u64) -> Result<Spl, Halt>

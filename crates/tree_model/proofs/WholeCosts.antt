@@ -154,7 +154,7 @@ flat_passes_cost c t one h =
     ∙ ap (λ x. x + closing_cost c) (whole_passes_cost f t (admissible_of_whole c t one h))
     ∙ sym (cost_of_one c t one h)
 
--- the passes of a tree of one size that stands so many times
+-- the passes of a tree of one size that stands `count` times
 pub node_passes_cost : (p : Request) (count : ℕ) (t : Breakdown) (n : ℕ) → p.dimensions ≡ One → IsTreeOf p t →
     n ≡ count * size_of t →
     sum_by (cost_of_pass n) (node_passes p count t) ≡ count * cost_in p t

@@ -6,7 +6,7 @@ use Rattle.tree_model.specs.declared.tree.Rule.TheVariants.{Gt, Ct, Split, Dim}
 use Rattle.tree_model.specs.Breakdown.{Breakdown, leaf, node, size_of}
 use Rattle.tree_model.specs.Cost.{is_kernel, mul_cost_of, cost_of}
 
--- a pass over all words: a node so many times, or tiles; then the diagonal of a ct, or none
+-- a pass over all words: a node a number of times, or tiles; then the diagonal of a ct, or none
 pub data Pass : Type 0 where
   nodes : (count : ℕ) → (tree : Breakdown) → (twiddled : Bool) → Pass
   tiles : (twiddled : Bool) → Pass
@@ -27,7 +27,8 @@ twiddle_by Ct ps = twiddle_last ps
 twiddle_by Split ps = ps
 twiddle_by Dim ps = ps
 
--- the passes of a node that stands so many times: one of a kernel or a leaf, else those of the right part and then of the left one
+-- the passes of a number of copies of a node: one of a kernel or a leaf, else those of the right part and then of the
+-- left one
 abbrev pub passes_of : Request → ℕ → Breakdown → List Pass
 passes_of c count (leaf d) = nodes count (leaf d) false ∷ []
 passes_of c count (node rule a b) =

@@ -45,7 +45,7 @@ cost_in p (leaf d) = leaf_cost p d
 cost_in p (node rule a b) =
     node_cost p rule (size_of a) (size_of b) (cost_in (left_of rule p) a) (cost_in (right_of rule p) b)
 
--- a transform of one size by its root at a node of so many places
+-- a transform of one size by its root, at a node of a number of places
 abbrev pub node_transform : Request → ℕ → Operator
 node_transform p d = transform p.kind p.modulus d (node_root p d)
 

@@ -26,7 +26,7 @@ cost_of_pass n (pass_of p pass) = pass_cost_in p n pass
 abbrev pub loads_of_pass : ℕ → RequestPass → ℕ
 loads_of_pass n (pass_of p pass) = pass_loads p n pass
 
--- the passes of a tree of one size, which stands so many times
+-- the passes of a number of copies of a tree of one size
 abbrev pub node_passes : Request → ℕ → Breakdown → List RequestPass
 node_passes p count t = map (pass_of p) (passes_of p count t)
 

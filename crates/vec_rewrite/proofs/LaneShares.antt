@@ -36,7 +36,7 @@ share-after weight m p v d o f =
     let both = shares_in-append weight m p v (settled d o) (f ∷ []) in
     let none = settled-share weight m p v d o in omega (arith, both, none)
 
--- a step under one v-th of so many copies, on v lanes
+-- a step under one v-th of a number of copies, on v lanes
 lane-share : (weight m v : ℕ) (t : Tensor) (path : Path) (core : PlainCore) (w : ℕ) → w ≡ count_of t * v →
     v * (copies_of (within t path) * core_cost weight m core) ≡ w * copies_of path * core_cost weight m core
 lane-share weight m v t path core w h =

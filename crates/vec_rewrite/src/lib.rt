@@ -54,7 +54,8 @@ pub struct Deal {
     pub lanes: u64,
 }
 
-/// How the rows of a block lie in groups: each has as many rows as there are lanes, side by side, and so many tiles reach across it.
+/// How the rows of a block lie in groups: each has as many rows as there are lanes, side by side, and `tiles` tiles reach
+/// across it.
 #[derive(Clone, Copy)]
 pub struct Grid {
     pub groups: u64,

@@ -154,7 +154,7 @@ pub(crate) fn tells(
     Ok(())
 }
 
-/// The same on a line of so many letters and what stands behind them.
+/// The same on a line of a given number of letters and what stands after them.
 pub(crate) fn long_tells(
     rt: &impl Abort,
     alloc: Global,

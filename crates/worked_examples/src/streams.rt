@@ -263,7 +263,7 @@ fn certificates_that_are_too_long(rt: HostRuntime) -> Result<(), Fail> {
     long_certificate(&rt, rt.alloc(), 65_537, wanted)
 }
 
-// A turn of processor 0, and so many more, named.
+// A turn of processor 0, and `more` more, named.
 fn named_turns(rt: &impl Abort, alloc: Global, more: usize, wanted: &str) -> Result<(), Fail> {
     let turns = ",0".repeat(alloc, more)?;
     let line = format!(in alloc; "run --schedule turns:0{turns}")?;

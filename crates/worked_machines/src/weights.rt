@@ -26,7 +26,7 @@ dft 4x2x2 mod 17 root 4x16x1 procs 2 weight 5|84 42 42
 dft 4x4 mod 17 root 4x13 procs 2 line 2 lanes 2 unroll 2 weight 5|224 112 112
 ";
 
-// The operations of each processor, where a multiplication counts for so many more.
+// The operations of each processor, where a multiplication counts for `extra` more.
 fn write_shares(text: &mut String, machine: &Machine, extra: u64) -> Result<(), AllocError> {
     for proc in 0..machine.procs() {
         let counts = machine.counts(proc);

@@ -291,7 +291,7 @@ fn lines_inside_loops(rt: HostRuntime) -> Result<(), Fail> {
     check(rt.alloc(), LINES, lost_inside_loops)
 }
 
-// So many loops, one inside the other, from line 16 on, and the end of the phase.
+// `count` loops, one inside the other, from line 16 on, and the end of the phase.
 fn write_nested_loops(text: &mut String, count: u64) -> Result<(), AllocError> {
     for depth in 0..count {
         write!(

@@ -194,7 +194,7 @@ fn lines_of_a_phase(rt: HostRuntime) -> Result<(), Fail> {
     check(rt.alloc(), LINES, lost_inside_loops)
 }
 
-// A program with so many loops, one inside the other.
+// A program with `count` loops, one inside the other.
 fn write_nested_loops(text: &mut String, count: u64) -> Result<(), AllocError> {
     text.push_str("program size 2 mod 15 procs 1 line 1 lanes 1 regs 5\nphase\n")?;
     for depth in 0..count {
@@ -204,7 +204,7 @@ fn write_nested_loops(text: &mut String, count: u64) -> Result<(), AllocError> {
     text.push_str("end\n")
 }
 
-/// So many times this text.
+/// This text, `count` times.
 pub(crate) fn write_times(text: &mut String, count: u64, piece: &str) -> Result<(), AllocError> {
     for _ in 0..count {
         text.push_str(piece)?;
@@ -212,7 +212,7 @@ pub(crate) fn write_times(text: &mut String, count: u64, piece: &str) -> Result<
     Ok(())
 }
 
-/// A place with so many parts in each of so many parentheses.
+/// A place with a number of parts in each of a number of parentheses.
 pub(crate) fn write_place(
     text: &mut String,
     parentheses: u64,

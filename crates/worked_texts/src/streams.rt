@@ -32,7 +32,7 @@ fn copied(
     Ok(next)
 }
 
-// What is written for the data in steps of so many bytes, and how they go on, as the rows have it.
+// What is written for the data in steps of `step` bytes, and how they go on, as the rows have it.
 fn told(alloc: Global, data: &str, step: u64, fail_at: Vec<u64>) -> Result<String, Fail>
     requires { 0 < step }
 {

@@ -1,4 +1,4 @@
--- The rest of an input, which may have so many bytes at most.
+-- The rest of an input, which may have a number of bytes at most.
 use Rattle.std.specs.Prelude.{◌≡◌, ℕ, ◌+◌, ◌≤◌, List, length, Vec, Ok, Err, Result}
 use Rattle.std.proofs.Common.{Global}
 use Rattle.data_stream.specs.declared.input_rest.RestFault.{RestFault}

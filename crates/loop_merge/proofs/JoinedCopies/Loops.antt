@@ -29,7 +29,7 @@ places_from (c ∷ counts) p = variable 1 0 (constant p) ∷ []
 abbrev pub copies_from : List ℕ → ℕ → PlainNest
 copies_from counts p = record { counts = counts; work = copy 1; gathers = places_from counts p; multiplier = None; scatters = places_from counts p }
 
--- so many
+-- the list has this length
 abbrev pub AreCounted : List ℕ → ℕ → Type 0
 AreCounted [] n = n ≡ 1
 AreCounted (c ∷ []) n = c ≡ n
@@ -73,7 +73,7 @@ counted (c ∷ d ∷ counts) n is = absurd is
 
 -- ---- programs of them
 
--- some words, of an array of so many
+-- some words, of an array of `size`
 pub record AreBelow (size n p : ℕ) : Type 0 where
   pub some : 1 ≤ n
   pub below : p + n ≤ size

@@ -6,7 +6,7 @@ use Rattle.sigma_spl.specs.Nest.{PlainNest}
 use Rattle.sigma_spl.specs.Work.{PlainWork, copy}
 use Rattle.perm_algebra.specs.Affine.{Sum, constant, variable}
 
--- so many words from a place on
+-- a number of words from a place on
 pub record PlainRun : Type 0 where
   pub first : ℕ
   pub count : ℕ

@@ -41,7 +41,7 @@ IsReadyJoined g ds k all = (h : Target) → CanJoin h g ds k → IsReady h all
 
 -- ---- what they count
 
--- the last number grown by so many
+-- the last number grown by a number
 abbrev pub more_last : ℕ → List ℕ → List ℕ
 more_last more cs = on_last (λ c. c + more) cs
 

@@ -16,7 +16,7 @@ use std::alloc::Global;
 // Places end below this one.
 const LIMIT: u64 = 1 << 32;
 
-/// So many words from a place on.
+/// A number of words from a place on.
 #[derive(Clone, Copy, Drop)]
 pub(crate) struct Run {
     pub first: u64,

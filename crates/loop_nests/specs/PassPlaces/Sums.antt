@@ -28,7 +28,7 @@ can_lead_all room n counts f es = list_all (can_lead room n (slice_index counts)
 abbrev pub have_room : List ℕ → Mapping → List Sum → Bool
 have_room counts f es = list_all (has_room (slice_index counts) f) es
 
--- where functions lead them one after the other, and whether they can, to one of so many factors
+-- where functions lead them one after the other, and whether they can, to one of a number of factors
 abbrev pub carried_by : List ℕ → List Mapping → List Sum → List Sum
 carried_by counts fs es = map (all_simplified (slice_index counts) fs) es
 

@@ -10,7 +10,7 @@ use Rattle.sigma_spl.proofs.Keeps.{left_positive, right_positive}
 use Rattle.spl_ast.specs.Shape.{IsSize}
 use Rattle.spl_ast.proofs.Blocks.{block_inside}
 
--- the size of one of so many parts
+-- the size of one of a number of parts
 pub block_part : (count s : ℕ) (x : List ℕ) → length x ≡ count * s → 0 < count * s → length x / count ≡ s
 block_part count s x long some = ap (λ n. n / count) long ∙ mul-div_cancel_left s (left_positive count s some)
 

@@ -39,7 +39,7 @@ part_size path t = size_under path (copy_size t)
 abbrev pub part_on : ℕ → Path → PlainTerm → Operator
 part_on m path t = under path (copy_size t) (copy_on m t)
 
--- the same in each of so many rows, and in each of so many columns
+-- the same in each of a number of rows, and in each of a number of columns
 abbrev pub rows_on : ℕ → ℕ → Path → PlainTerm → Operator
 rows_on m count path t = on_blocks count (part_size path t) (part_on m path t)
 

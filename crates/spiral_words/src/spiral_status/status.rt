@@ -29,7 +29,7 @@ pub enum Status {
     NotUnit {
         gcd: u64,
     },
-    /// The schedule's first turn of a processor that is none of so many.
+    /// The schedule's first turn of a processor that is none of the request's.
     Turn {
         q: u64,
         p: u64,

@@ -22,7 +22,7 @@ pub record IsSummand (f : Formula) : Type 0 where
   pub balanced : IsBalanced f
   pub alone : sum_depth f ≡ 0
 
--- so many summands, balanced
+-- `count` summands, balanced
 pub record IsSumOf (count : ℕ) (f : Formula) : Type 0 where
   pub balanced : IsBalanced f
   pub shallow : 2 ^ sum_depth f < 2 * count

@@ -3,7 +3,7 @@ use Rattle.std.specs.Prelude.{◌≡◌, ℕ, ◌≤◌, List, ◌++◌, length}
 use Rattle.spl_ast.specs.Formula.{Formula}
 use Rattle.spl_ast.specs.BalancedSums.Halves.{halved}
 
--- the last so many of the old formulas are no longer there, and g is their sum in halves
+-- the last `count` of the old formulas are no longer there, and g is their sum in halves
 pub record IsTakenFrom (count : ℕ) (old new : List Formula) (g : Formula) : Type 0 where
   pub taken : List Formula
   pub whole : old ≡ new ++ taken
