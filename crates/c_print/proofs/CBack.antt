@@ -50,7 +50,7 @@ value_key w value place rest l e =
     ∷ (codes "X[", values.Load arrays.X) ∷ (codes "Y[", values.Load arrays.Y) ∷ (codes "A[", values.Load arrays.A) ∷ (codes "B[", values.Load arrays.B) ∷ []) refl)
     place w rest value l tt e
 
--- a place, behind which this stands
+-- a place, after which this stands
 expr_back : (e : PlainExpr) (loops : ℕ) (w : List ℕ) → is_expr_within e loops ≡ true → loops ≤ 64 →
     (place : Place ℕ) (rest : List ℕ) → place.rest ≡ sum_text e ++ (codes " + " ++ rest) →
     Back (sum_at 64) e place (codes " + " ++ rest)

@@ -1,4 +1,4 @@
--- How pieces of text are put together, one behind the other.
+-- How pieces of text are put together, one after the other.
 use Rattle.std.proofs.Common.{◌≡◌, ℕ, List, ◌++◌, append_assoc}
 
 pub two_pieces : (old a b end : List ℕ) → ((old ++ a) ++ b) ++ end ≡ old ++ (a ++ b ++ end)

@@ -18,7 +18,7 @@ tile_loops = codes "for (int k = 0; k < V; k++) for (int l = 0; l < V; l++) "
 abbrev pub lane_text : ℕ → List ℕ
 lane_text register = codes "r[" ++ decimal register ++ codes "][l]"
 
--- lane l of a register becomes what the text behind it says
+-- lane l of a register becomes what the text after it says
 abbrev pub becomes_text : ℕ → List ℕ
 becomes_text register = lane_loop ++ lane_text register ++ codes " = "
 

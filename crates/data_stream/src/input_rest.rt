@@ -50,7 +50,7 @@ impl From<NoMemory> for RestFault {
     }
 }
 
-// Puts a byte behind the text.
+// Puts a byte after the text.
 pub(crate) fn append(text: &mut Vec<u8>, byte: u8) -> Result<(), NoMemory>
     ensures { OnOk result (text.new.items ≡ text.old.items ++ byte ∷ []) }
 {

@@ -107,7 +107,7 @@ pub record Accounts (words : List (List ℕ)) (bytes left : List ℕ) (before af
     (status : Status) : Type 0 where
   -- where nothing failed, they are the outcome
   pub answer : IsDefined status → (text : List ℕ) × IsOutcome words bytes status text × Appends before after text
-  -- a read failed, behind bytes that may be the front of a listing's, and nothing was written
+  -- a read failed, after bytes that may be the front of a listing's, and nothing was written
   pub read_fault : status ≡ ReadFault
       → (asked words ≢ None) × ((read : List ℕ) × (bytes ≡ read ++ left) × IsInPart listing_limit read)
       × Appends before after []

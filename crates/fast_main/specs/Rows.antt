@@ -1,4 +1,4 @@
--- The table of statuses: of each its number, and its line behind `spiral_fast: `.
+-- The table of statuses: of each its number, and its line after `spiral_fast: `.
 use Rattle.std.specs.Prelude.{[], ◌∷◌, None, Some, codes}
 use Rattle.io_edge.specs.StatusRows.Rows.{PlainRow, row}
 use Rattle.fast_main.specs.declared.status.Status.{Status}

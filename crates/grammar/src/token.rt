@@ -53,7 +53,7 @@ impl<T: Drop> From<AllocFailed<T>> for ReadError {
     }
 }
 
-/// What stands behind the word.
+/// What comes after the word.
 pub fn after_word<'a>(text: &'a [u8], word: &[u8]) -> Result<&'a [u8], Stuck>
     ensures { GivesToken (λ rest. (tt, rest.now)) result (word_in word.now text.now) }
 {
@@ -72,7 +72,7 @@ pub fn after_word<'a>(text: &'a [u8], word: &[u8]) -> Result<&'a [u8], Stuck>
     Ok(rest)
 }
 
-/// The value of the word at the front, and what stands behind it.
+/// The value of the word at the front, and what comes after it.
 pub fn one_of<'a, T: Copy>(text: &'a [u8], words: &[(&[u8], T)]) -> Result<(T, &'a [u8]), Stuck>
     ensures { GivesToken
         (λ x. (x.0, x.1.now)) result (one_of_in (map (λ w. (w.0.now, w.1)) words.now) text.now) }
@@ -87,7 +87,7 @@ pub fn one_of<'a, T: Copy>(text: &'a [u8], words: &[(&[u8], T)]) -> Result<(T, &
     Err(Stuck { left })
 }
 
-/// The number at the front, at most `most`, and what stands behind it.
+/// The number at the front, at most `most`, and what comes after it.
 pub fn number(text: &[u8], most: u64) -> Result<(u64, &[u8]), Stuck>
     ensures { GivesToken (λ x. (x.0, x.1.now)) result (number_in (most + 1) text.now) }
 {
@@ -114,7 +114,7 @@ pub fn positive(text: &[u8], most: u64) -> Result<(u64, &[u8]), Stuck>
     }
 }
 
-/// The number with the digits by which it goes on, and what stands behind it.
+/// The number with the digits by which it goes on, and what comes after it.
 fn digits(front: u64, text: &[u8], most: u64) -> (u64, &[u8])
     ensures { digits_in (most + 1) front text.now ≡ (result.0, result.1.now) }
 {

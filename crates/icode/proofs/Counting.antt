@@ -1,4 +1,4 @@
--- The counts of two lists of actions, one behind the other.
+-- The counts of two lists of actions, one after the other.
 use Rattle.std.proofs.Common.{◌≡◌, ℕ, ◌+◌, ◌-◌, ◌*◌, List, [], ◌∷◌, ◌++◌, ap₂, ◌∙◌, arith}
 use Rattle.icode.specs.Machine.{counts_of, weighted}
 use Rattle.icode.specs.declared.action.Action.{Action}

@@ -166,7 +166,7 @@ buffered_runs code x events = buffered_finished code (buffered_run code (buffere
 abbrev pub buffered_results : Code → List ℕ → List Event → List ℕ
 buffered_results code x events = words_at code.size (buffered_runs code x events).state.memory (padded code)
 
--- each turn, and a drain of its processor behind it
+-- each turn, and a drain of its processor after it
 abbrev pub at_once : List ℕ → List Event
 at_once [] = []
 at_once (q ∷ turns) = Turn q ∷ Drain q ∷ at_once turns

@@ -12,7 +12,7 @@ abbrev pub Tells : Option (List ℕ) → List ℕ → Type 0
 Tells None bytes = Unit {0}
 Tells (Some left) bytes = bytes ≡ left
 
--- what a reader has left that is not asked again behind its end
+-- what a reader has left that is not asked again after its end
 abbrev pub left_of : Bool → Option (List ℕ) → Option (List ℕ)
 left_of true remaining = Some []
 left_of false remaining = remaining

@@ -90,7 +90,7 @@ fn multiplied_last(
     }
 }
 
-// A diagonal goes into a copy pass, or into one behind the gathers, which then wait no more.
+// A diagonal goes into a copy pass, or into one after the gathers, which then wait no more.
 fn with_copy(
     alloc: Global,
     state: Merging,

@@ -36,7 +36,7 @@ counted_at lanes None c = c
 counted_at lanes (Some (Act op depth)) c = counted_op lanes (plain_op op) c
 counted_at lanes (Some (Again start last depth)) c = c
 
--- behind the action at its place, which is counted and changes nothing
+-- after the action at its place, which is counted and changes nothing
 abbrev pub passed_over : ℕ → List Instruction → Context → Context
 passed_over lanes code p =
     record {

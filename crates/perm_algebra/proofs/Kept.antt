@@ -12,7 +12,7 @@ use Rattle.perm_algebra.specs.Affine.{HasNoList}
 use Rattle.perm_algebra.specs.Fits.{IsAffine}
 use Rattle.perm_algebra.specs.Room.{HasCounts, IsReady}
 
--- each constant has it, and what stands behind a part; there another sum that has it may stand, and another factor
+-- each constant has it, and what comes after a part; there another sum that has it may stand, and another factor
 pub record IsByParts (P : Sum → Type 0) : Type 0 where
   pub constants : (c : ℕ) → P (constant c)
   pub behind_variable : (f d : ℕ) (rest : Sum) → P (variable f d rest) → P rest

@@ -54,7 +54,7 @@ forward_divides c one h = forward_divides_by c.kind c (subst (CanDivideBy c) one
 
 -- ---- induction on the dimensions
 
--- how many there are behind the first
+-- how many there are after the first
 more : Dimensions → ℕ
 more One = 0
 more (Two p q) = 1

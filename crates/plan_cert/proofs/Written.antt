@@ -126,7 +126,7 @@ rows_written c closing (row ∷ rows) h =
 
 -- ---- tables
 
--- a member behind another one
+-- a member after another one
 more_members : (key : List ℕ) (d : Data) (ms : Members) (later : Bool) → IsUtf8 key → IsUtf8 (compact_text d)
     → IsUtf8 (members_text true ms) → IsUtf8 (members_text later (member key d ms))
 more_members key d ms later named first others =

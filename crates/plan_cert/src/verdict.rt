@@ -95,7 +95,7 @@ fn check_values(alloc: Global, c: &Ctx, values: &[Value]) -> Result<Verdict, NoM
     }
 }
 
-// The verdict on members behind that of the last dimension: there are to be none.
+// The verdict on members after that of the last dimension: there are to be none.
 fn no_more(values: &[Value]) -> Verdict
     ensures { IsItemsVerdict [] (items_view values.now) result }
 {

@@ -65,7 +65,7 @@ dimensions_keep Idft sizes = rooted_keeps (codes " root ") sizes refl
 
 -- ---- the line
 
--- what stands behind the sizes is none of them
+-- what comes after the sizes is none of them
 behind_sizes : {B : Type 0} (C : List ℕ → Type 0) (L : ℕ → List ℕ → B → Type 0)
     → Leaves (Behind (codes "x")) C (Follows (named_number (codes " mod ") above_all) L)
 behind_sizes C L u b v l c =

@@ -17,18 +17,18 @@ above_all = 2 ^ 64
 abbrev pub kinds : List (List ℕ × Kind)
 kinds = (codes "dft ", Dft) ∷ (codes "idft ", Idft) ∷ (codes "wht ", Wht) ∷ []
 
--- how many sizes may stand behind the first, each behind an x
+-- how many sizes may come after the first, each after an x
 abbrev pub more_sizes : Kind → ℕ
 more_sizes Dft = 3
 more_sizes kind = 0
 
--- a dimension of this size: its root behind the word
+-- a dimension of this size: its root after the word
 abbrev pub dimension : List ℕ → ℕ → List ℕ → Dimension → Type 0
 dimension word n = do
   w ← named_number word above_all
   pure (record { size = n; root = w })
 
--- a dimension of each size: the first root behind the word, each other one behind an x
+-- a dimension of each size: the first root after the word, each other one after an x
 abbrev pub rooted : List ℕ → List ℕ → List ℕ → List Dimension → Type 0
 rooted word [] = pure []
 rooted word (n ∷ sizes) = do

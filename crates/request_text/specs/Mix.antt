@@ -22,7 +22,7 @@ event = do
   q ← number (2 ^ 32)
   pure (event_of letter q)
 
--- the same behind a comma
+-- the same after a comma
 abbrev pub next_event : List ℕ → Event → Type 0
 next_event = do
   word (codes ",")

@@ -98,7 +98,7 @@ fn sizes_of(cursor: &mut Cursor, kind: Kind) -> Result<Few<u64>, Stuck>
     }
 }
 
-/// The dimension of this size, whose root stands behind the word.
+/// The dimension of this size, whose root comes after the word.
 pub(crate) fn dimension(cursor: &mut Cursor, word: &[u8], size: u64) -> Result<Dimension, Stuck>
     ensures { Gives result cursor.new (dimension_at word.now size cursor.old) }
 {

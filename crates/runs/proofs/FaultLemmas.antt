@@ -45,7 +45,7 @@ module _ {code : Code} where
         (prefix_after a m.before b (step_lines code s number m.front) _ m.written
         (prefix_more m.before b (step_lines code u n (m.met ∷ [])) (step_lines code (walked code u (m.met ∷ [])) (n + 1) m.rest) m.cut))
 
-    -- the machine stands behind a front of the steps
+    -- the machine has done a front of the steps
     pub met_passes : PassesThrough code s steps t
     met_passes = record { front = m.front ++ m.met ∷ []; rest = m.rest; whole = m.whole ∙ sym (append_assoc m.front (m.met ∷ []) m.rest); after = m.after }
 
@@ -63,7 +63,7 @@ module _ {code : Code} where
           cut = m.cut;
         }
 
-  -- it met a step behind others, whose lines are all written
+  -- it met a step after others, whose lines are all written
   pub met_behind : (s : Standing) (xs ys : List Event) (t : Standing) (a b c : Option (List ℕ)) →
       Appends a b (step_lines code s 0 xs) → FaultMet code (walked code s xs) (length xs) ys t b c →
       FaultMet code s 0 (xs ++ ys) t a c
@@ -83,7 +83,7 @@ module _ {code : Code} where
         cut = subst (AppendsPrefix m.before c) (ap₂ (λ (u : Standing) i. step_lines code u i (m.met ∷ [])) there n) m.cut;
       }
 
--- a machine that is the same goes on behind the steps by those that complete them
+-- a machine that is the same goes on after the steps by those that complete them
 module _ (own code : Code) (same : own ≡ code) (u s : Standing) (events : List Event) (e : u ≡ walked code s events)
     (t : Standing) where
   pub passes_after : PassesThrough own u (completion_at own u) t → PassesThrough code s (completed code s events) t

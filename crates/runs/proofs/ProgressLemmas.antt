@@ -1,4 +1,4 @@
--- Vectors that go on behind others.
+-- Vectors that go on after others.
 use Rattle.std.proofs.Common.{◌≡◌, ◌<◌, ◌≤◌, ◌+◌, ◌≢◌, ◌-◌, ℕ, suc, zero, Bool, true, false, List, [], ◌∷◌, ◌++◌, None}
 use Rattle.std.proofs.Common.{Some, Ok, Err, Result, length, take, cond, nat_lt, refl, sym, ap, subst, ◌∙◌, arith}
 use Rattle.std.proofs.Common.{append-nil}
@@ -96,7 +96,7 @@ fault_reads (data_fault.Truncated have need) = λ e. cc
 fault_reads data_fault.TooLong = λ e. cc
 fault_reads data_fault.ReadFault = λ e. cc
 
--- the output fails behind what was read
+-- the output fails after what was read
 pub come_unwritten : (modulus : ℕ) (cut : Cut) (old new : Fed) (a c : Option (List ℕ)) (seen : List (List ℕ))
     → 0 < cut.size → new.taken ≤ limit → (cut.ended ≡ true → IsOver c) → HasCome modulus cut old new a c seen →
     ReadsData cut.size modulus old new a c seen (Err WriteFault)
@@ -161,7 +161,7 @@ take_nothing : (n : ℕ) → take {A = ℕ} n [] ≡ []
 take_nothing zero = refl
 take_nothing (suc n) = refl
 
--- whatever the data have behind them
+-- whatever the data have after them
 pub vectors_begin : (modulus : ℕ) (cut : Cut) (old new : Fed) (before after : Option (List ℕ)) (rest : List ℕ)
     (vectors : List (List ℕ)) → (h : HasCome modulus cut old new before after vectors)
     → old.taken ≤ limit → new.taken ≤ limit → (cut.ended ≡ true → rest ≡ [])

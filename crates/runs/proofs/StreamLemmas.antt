@@ -81,7 +81,7 @@ no_stream a old ended size modulus = record {
   closed = λ e. refl;
 }
 
--- nothing is read behind the end
+-- nothing is read after the end
 abbrev pub Once : Bool → Bool → List ℕ → Type 0
 Once mid new read = mid ≡ true → (read ≡ []) × (new ≡ true)
 
@@ -144,7 +144,7 @@ stream_unwritten a c old new ended size modulus done vectors end some p at_end =
       ap (vectors_of size modulus) (there ∙ sym (append-nil p.ts)) ∙ p.splits [] ∙ ap (λ l. vectors ++ l) (vectors_few size modulus [] some) ∙ append-nil vectors,
     )
 
--- the data end behind a whole vector
+-- the data end after a whole vector
 pub stream_end : (a b c : Option (List ℕ)) (old now new : Fed) (mid ended : Bool) (size modulus done : ℕ)
     (vectors : List (List ℕ)) (end : Type 0) (read vector : List ℕ)
     → 0 < size → (p : StreamProgress a b old.taken now.taken mid size modulus done vectors) → Consumes b c read →
@@ -179,7 +179,7 @@ front_good (t ∷ ts) bad others h b =
     let rest = both_right (is_good t) (list_all is_good ts) h in
     ap (λ b. cond b (t ∷ good_front (ts ++ bad ∷ others)) []) good ∙ ap (λ l. t ∷ l) (front_good ts bad others rest b)
 
--- behind whole vectors, what there is of the next
+-- after whole vectors, what there is of the next
 part_behind : (a b : Option (List ℕ)) (old now : ℕ) (mid : Bool) (size modulus done : ℕ) (vectors : List (List ℕ))
     (read : List ℕ) (p : StreamProgress a b old now mid size modulus done vectors)
     → mid ≡ false → IsPart size read
@@ -439,7 +439,7 @@ pub lines_begun : (asked : Bool) (events : Events) (code own : Code) (first begu
     ≡ asked_lines asked code first (events_of events code.procs)
 lines_begun asked events code own first begun p b = ap (λ (k : Code). asked_lines asked k begun (events_of events k.procs)) p ∙ ap (λ (s : Standing). asked_lines asked code s (events_of events code.procs)) b
 
--- the machine behind events from a vector's start
+-- the machine after events from a vector's start
 pub stands_begun : (events : Events) (code own : Code) (first begun last : Standing) → own ≡ code → begun ≡ first
     → last ≡ ended own begun (events_of events own.procs) → last ≡ ended code first (events_of events code.procs)
 stands_begun events code own first begun last p b e =

@@ -10,7 +10,7 @@ use Rattle.icode.specs.Machine.{Code, IsCode, answer, start}
 use Rattle.runs.specs.Standing.{Standing, completion_at, direct, queued, stepped}
 use Rattle.runs.specs.Walks.{walked}
 
--- the machine stands behind a front of the events
+-- the machine has done a front of the events
 pub record PassesThrough (code : Code) (s : Standing) (events : List Event) (t : Standing) : Type 0 where
   pub front : List Event
   pub rest : List Event

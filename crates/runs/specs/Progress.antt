@@ -25,7 +25,7 @@ pub record StreamProgress (before after : Option (List ℕ)) (old new : ℕ) (en
   pub splits : (more : List (List ℕ)) → vectors_of size modulus (ts ++ more) ≡ vectors ++ vectors_of size modulus more
   pub closed : ended ≡ false → closed_part bytes ≡ bytes
 
--- Behind what was read from these data on, the feed stands here, and these vectors were whole. A feed over its limit has given nothing
+-- After what was read from these data on, the feed stands here, and these vectors were whole. A feed over its limit has given nothing
 pub record HasCome (modulus : ℕ) (cut : Cut) (old new : Fed) (before after : Option (List ℕ)) (vectors : List (List ℕ)) : Type 0 where
   pub progress : StreamProgress before after old.taken new.taken cut.ended cut.size modulus cut.done vectors
   pub begun : limit < new.taken → new.taken ≡ old.taken
@@ -37,7 +37,7 @@ pub record ReadsData (size modulus : ℕ) (old new : Fed) (before after : Option
   pub answer : Reads size modulus old new read (IsOver after) vectors result
   pub answers : old.taken ≤ limit → AnswersWith size modulus (limit - old.taken) read (IsOver after) vectors result
 
--- What a run has read, written and left that goes on behind these vectors: the data are read to their end from where they began, and the texts are those of the later vectors
+-- What a run has read, written and left that goes on after these vectors: the data are read to their end from where they began, and the texts are those of the later vectors
 pub record StreamsBehind {S : Type 0} (seen : List (List ℕ)) (text : List ℕ → List ℕ) (leaves : List ℕ → S) (size modulus : ℕ) (old new : Fed) (before after : Option (List ℕ))
     (out out' : Option (List ℕ)) (first last : S) (result : Result (Unit {0}) StreamFault) : Type 0 where
   pub later : List (List ℕ)

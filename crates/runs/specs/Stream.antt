@@ -50,7 +50,7 @@ abbrev pub bad_after : ℕ → List (List ℕ) → Option ℕ
 bad_after done [] = None
 bad_after done (t ∷ ts) = if is_good t then bad_after (done + 1) ts else Some (done + 1)
 
--- the answer to data of which this many tokens were seen within the limit, and perhaps more stands behind it
+-- the answer to data of which this many tokens were seen within the limit, and perhaps more comes after it
 abbrev pub answer_of : ℕ → Bool → Option ℕ → ℕ → Result (Unit {0}) StreamFault
 answer_of size over (Some token) count = Err (BadNumber token)
 answer_of size true None count = Err TooLong

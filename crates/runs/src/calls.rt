@@ -79,7 +79,7 @@ pub fn run_stream<I: Source, O: Sink>(
     )
 }
 
-/// Goes on as `run_stream` does, behind vectors that were read before: tokens are counted from where these began. The slice
+/// Goes on as `run_stream` does, after vectors that were read before: tokens are counted from where these began. The slice
 /// is room for a vector, which has at least one number.
 pub fn run_vectors<I: Source, O: Sink>(
     machine: &mut Machine,

@@ -97,7 +97,7 @@ fn write_rest<E: Engine, O: Sink>(
 /// Does the events of a word and those that complete them, and writes the line of each before the next.
 ///
 /// Events are numbered from 0. After a fault the output has the lines of some events and a front of the next one's,
-/// and the machine stands right behind that one.
+/// and the machine stands right after that one.
 pub fn write_steps<E: Engine, O: Sink>(
     machine: &mut E,
     events: Events,
@@ -113,7 +113,7 @@ pub fn write_steps<E: Engine, O: Sink>(
         ≡ ended (E.code machine.old) (E.stands machine.old)
         (events_of events.entry (E.code machine.old).procs)) }
     ensures code { E.code machine.new ≡ E.code machine.old }
-    // The machine stands behind a front of these events.
+    // The machine has done a front of these events.
     ensures way { PassesThrough (E.code machine.old) (E.stands machine.old)
         (completed (E.code machine.old) (E.stands machine.old)
         (events_of events.entry (E.code machine.old).procs)) (E.stands machine.new) }

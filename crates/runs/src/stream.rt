@@ -133,7 +133,7 @@ fn write_run<E: Engine, O: Sink>(
 /// Runs the machine on each vector of the data, by the events and those that complete them, and writes the line of its
 /// results before it reads the next. Where lines are asked for, one for each event comes before it.
 ///
-/// It goes on where the feed stands, behind vectors that were read before: tokens are counted from where these began. A feed
+/// It goes on where the feed stands, after vectors that were read before: tokens are counted from where these began. A feed
 /// that has gone over its limit gives `TooLong`. The slice is room for a vector, which has at least one number.
 pub(crate) fn stream<E: Engine, I: Source, O: Sink>(
     machine: &mut E,

@@ -16,7 +16,7 @@ const ROOM: usize = 512;
 
 pub type Line = ArrayString<ROOM>;
 
-/// Appends a word and a number behind it.
+/// Appends a word and a number after it.
 fn put(line: &mut Line, word: &str, number: u64)
     requires room { array_string_len line.old + length word.now + 20 ≤ 512 }
     ensures text { line.new.bytes ≡ line.old.bytes ++ word.now ++ decimal number }
@@ -27,7 +27,7 @@ fn put(line: &mut Line, word: &str, number: u64)
     line.push_str(buffer.format(number));
 }
 
-/// Appends the numbers, each behind a comma.
+/// Appends the numbers, each after a comma.
 fn put_more(line: &mut Line, factors: &[u64])
     requires room { array_string_len line.old + 21 * length factors.now ≤ 512 }
     ensures text { line.new.bytes
@@ -51,7 +51,7 @@ fn put_factors(line: &mut Line, factors: &[u64])
     }
 }
 
-/// Appends two numbers, each behind a word.
+/// Appends two numbers, each after a word.
 fn put_two(line: &mut Line, word: &str, number: u64, then: &str, other: u64)
     requires room { array_string_len line.old + length word.now + length then.now + 40 ≤ 512 }
     ensures text { line.new.bytes

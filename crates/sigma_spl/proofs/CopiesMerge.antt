@@ -211,7 +211,7 @@ hits-before n [] w below = refl
 hits-before n (c ∷ cs) w below =
     ap₂ (λ a b. a + b) (loop-none (loops_of c.counts) c.size (λ vs k. n + c.to vs k) (λ _ _. 1) w (λ vs k range inside e. absurd (omega arith))) (hits-before n cs w below)
 
--- what the second part stores, which takes its items behind n words
+-- what the second part stores, which takes its items after n words
 stored-behind : (n k : ℕ) (c : Copies) (x : List ℕ) (u : ℕ) → IsInside k c →
     stored (behind n c) x (n + u) ≡ stored c (list_below k (λ j. slice_index x (n + j))) u
 stored-behind n k c x u inside =

@@ -73,7 +73,7 @@ value-place_sum (Columns c ∷ path) n d e vs =
     ∙ ap (λ x. x + (1 * vs d + 0)) (value-scaled c (place_sum path n (d + 1) e) vs ∙ ap (λ y. c * y) (value-place_sum path n (d + 1) e vs))
     ∙ omega arith
 
--- the place of an item, where other values stand behind those of the loops
+-- the place of an item, where other values come after those of the loops
 pub place-with : (path : Path) (n : ℕ) (e : Sum) (vs more : List ℕ) (k : ℕ) → AreInRange path vs →
     value e (slice_index (vs ++ more)) ≡ k → value (place_sum path n 0 e) (slice_index (vs ++ more)) ≡ place path n vs k
 place-with path n e vs more k range is =

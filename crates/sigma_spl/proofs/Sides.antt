@@ -24,7 +24,7 @@ use Rattle.operators.specs.declared.tensor_paths.Tensor.TheVariants.{Blocks, Col
 use Rattle.operators.specs.TensorPaths.Loop.{loop_at}
 use Rattle.operators.specs.TensorPaths.Path.{Path, count_of, grown, size_under, under, place, AreInRange}
 
--- ---- values of the path's loops, and those behind them
+-- ---- values of the path's loops, and those after them
 
 abbrev pub rest_of : Path → List ℕ → List ℕ
 rest_of [] vs = vs
@@ -83,7 +83,7 @@ sound-renumbered k (variable f d rest) h = sound-renumbered k rest h
 sound-renumbered k (remainder f of m rest) h = (h.0, sound-renumbered k of h.1, sound-renumbered k rest h.2)
 sound-renumbered k (quotient f of m rest) h = (h.0, sound-renumbered k of h.1, sound-renumbered k rest h.2)
 
--- a sum at the values behind the path's loops
+-- a sum at the values after the path's loops
 value-behind : (path : Path) (e : Sum) (vs : List ℕ) → value (renumbered (length path) e) (slice_index vs)
     ≡ value e (slice_index (rest_of path vs))
 value-behind path e vs = value-renumbered (length path) e (slice_index vs) ∙ ap (value e) (λ t i. rest-index path vs i t)

@@ -1,4 +1,4 @@
--- Sums within the limits, under tensors and behind other words.
+-- Sums within the limits, under tensors and after other words.
 use Rattle.std.proofs.Common.{◌≡◌, ℕ, zero, suc, ◌+◌, ◌*◌, ◌-◌, ◌/◌, ◌^◌, ◌<◌, ◌≤◌, true, arith, refl, sym, ap, ap₂}
 use Rattle.std.proofs.Common.{◌∙◌, [], ◌∷◌, length, subst}
 use Rattle.std.specs.Prelude.{nat_lt, max, ◌&&◌}
@@ -183,7 +183,7 @@ place-small (Columns c ∷ path) r d v e cs several counts some high h =
       small = small-end cs v (scaled c g) (small-scaled cs c n g (omega (arith, several.0)) inner.peak high inner.small);
     }
 
--- ---- behind other words
+-- ---- after other words
 
 levels-more : (c : ℕ) (e : Sum) → levels e ≤ 64 → levels (joined (constant c) e) ≤ 64
 levels-more c e h = levels-joined (constant c) e 64 (omega arith) h

@@ -238,7 +238,7 @@ backs_of (f ∷ fs) = backs_of fs ++ back_of f ∷ []
 abbrev pub factor_places : List Mapping → Path → PlainFactors → List Mapping
 factor_places waiting path factors = backs_of waiting ++ inner_of path (factor_count factors) ∷ []
 
--- a diagonal goes into a copy pass there, or into one behind the gathers, which then wait no more
+-- a diagonal goes into a copy pass there, or into one after the gathers, which then wait no more
 abbrev pub with_copy : Room → ℕ → Merging → Path → PlainFactors → Merging
 with_copy room n st path factors =
     let places = factor_places st.waiting path factors in

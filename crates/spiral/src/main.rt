@@ -10,7 +10,7 @@ use std::{env, io};
 /// How many bytes of a line are written out at once.
 const PIECE: usize = 8192;
 
-// The program's name and what stands behind it.
+// The program's name and what comes after it.
 fn words(rt: &HostRuntime) -> io::Result<Vec<String>> {
     let mut words = Vec::new(rt.alloc());
     for word in env::args(rt)? {

@@ -6,7 +6,7 @@ use io_edge::{ReadSource, WriteSink, write_all};
 use std::process::ExitCode;
 use std::{env, io};
 
-// The program's name and what stands behind it.
+// The program's name and what comes after it.
 fn words(rt: &HostRuntime) -> io::Result<Vec<String>> {
     let mut words = Vec::new(rt.alloc());
     for word in env::args(rt)? {

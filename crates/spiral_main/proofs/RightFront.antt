@@ -64,7 +64,7 @@ pub front_orders : {A : Type 0} (front : Front) (orders : List ℕ → Stage A) 
 front_orders front orders value bytes short gives =
     record { value = front.first bytes; before = sym (short_taken (front.first bytes) front.most short); behind = gives }
 
--- A call that is right by its front: the front is not too long, it orders a value, and the work for this answers what is behind
+-- A call that is right by its front: the front is not too long, it orders a value, and the work for this answers the rest
 pub front_answer : {A : Type 0} (front : Front) (orders : List ℕ → Stage A) (work : A → Work) (value : A)
     (bytes : List ℕ) (s : Status) (t : List ℕ)
     → length (front.first bytes) ≤ front.most → orders (front.first bytes) (Ok value)

@@ -114,7 +114,7 @@ fit_has text =
     both_have (spelt text) fitting (spelt_has text)
     (λ r h. let plan = plan_exists r (spelt_in_range text r h) in fitting_has r plan.0 plan.1)
 
--- ---- what is right behind it
+-- ---- what is right after it
 
 -- some status and text are right
 abbrev HasText : Outcomes → List ℕ → Type 0
@@ -186,7 +186,7 @@ document_has document.C bytes = equations_have [] (λ plan. c_text_of (emission 
 document_has document.Cert bytes = certificate_has bytes
 document_has (document.Sample seed schedule) bytes = equations_have (named schedule) (λ plan. sample_lines plan seed) bytes
 
--- what stands behind the line has a verdict, or is too long
+-- what comes after the line has a verdict, or is too long
 judged_has : (r : Request) → IsInRange r → (room : ℕ) (bytes : List ℕ) → HasText (judging (IsVerdict r) room) bytes
 judged_has r range room bytes = elim (cases_lt certificate_limit (length bytes)) [
   | inl over ↦ (TooLong certificate_limit, [], inl (over, refl, refl))

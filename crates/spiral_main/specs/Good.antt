@@ -40,7 +40,7 @@ Prints name printed P =
     Names words name options → IsRightLine [] bytes plan → IsOutcome words bytes status text →
     Shows printed (P plan) text
 
--- the vectors of the data behind a request's line
+-- the vectors of the data after a request's line
 abbrev pub vectors_read : Planned → List ℕ → List (List ℕ)
 vectors_read plan bytes =
     data_vectors plan.request.size plan.request.modulus (room_behind (line 256) bytes) ((line 256).behind bytes)

@@ -59,7 +59,7 @@ HasBudgetFor _ request = IsWithinBudget request
 
 -- The words are a command line that goes by a request, the first line spells a request, and each turn that the words
 -- name is of one of its processors. The request is valid, admits a tree, and its least cost is within the budget.
--- What stands behind the line is right
+-- What comes after the line is right
 pub record IsRightRequest (words : List (List ℕ)) (bytes : List ℕ) : Type 0 where
   pub wanted : RequestCommand
   pub asked : IsAsked words (ByRequest wanted)
@@ -71,7 +71,7 @@ pub record IsRightRequest (words : List (List ℕ)) (bytes : List ℕ) : Type 0 
   pub rest : IsRightRest wanted request (room_behind (line 256) bytes) ((line 256).behind bytes)
 
 -- The words ask for `exec`, the listing's program passes the check and has the processors that the schedule names,
--- and what stands behind the listing is right
+-- and what comes after the listing is right
 pub record IsRightExecution (words : List (List ℕ)) (bytes : List ℕ) : Type 0 where
   pub schedule : Turns
   pub asked : IsAsked words (ByListing schedule)
@@ -104,7 +104,7 @@ abbrev pub BeginWithList : Request → ℕ → List ℕ → Type 0
 BeginWithList request room bytes = (h : List ℕ) × (later : List (List ℕ))
     × (data_vectors request.size request.modulus room bytes ≡ h ∷ later)
 
--- the data are right for a command that convolves; for the listing those behind the list don't matter
+-- the data are right for a command that convolves; for the listing those after the list don't matter
 abbrev pub AreRightVectors : Bool → Request → List ℕ → Type 0
 AreRightVectors false request bytes = HasWholeVectors (line 256) request.size bytes
 AreRightVectors true request bytes = Unit {0}

@@ -39,14 +39,14 @@ pub record IsRightFormulaLine (bytes : List ℕ) (formula : Formula) : Type 0 wh
   pub short : length ((line 65536).first bytes) ≤ 65536
   pub spells : written ((line 65536).first bytes) (Ok formula)
 
--- behind a front there are whole vectors
+-- after a front there are whole vectors
 abbrev pub HasWholeVectors : Front → ℕ → List ℕ → Type 0
 HasWholeVectors front size bytes = AreWholeVectors size (room_behind front bytes) (front.behind bytes)
 
--- the vectors behind a front
+-- the vectors after a front
 abbrev pub vectors_behind : Front → (size modulus : ℕ) → List ℕ → List (List ℕ)
 vectors_behind front size modulus bytes = vectors_of size modulus (tokens (front.behind bytes))
 
--- those behind the line of a request
+-- those after the line of a request
 abbrev pub request_vectors : Planned → List ℕ → List (List ℕ)
 request_vectors plan bytes = vectors_behind (line 256) plan.request.size plan.request.modulus bytes

@@ -152,7 +152,7 @@ pub fn check_is_right()
         → IsOutcome words bytes Success (least_line cost) }
 {}
 
-/// A right call of `convolve` has the outcome Success with a line for each vector behind the first, of its convolution
+/// A right call of `convolve` has the outcome Success with a line for each vector after the first, of its convolution
 /// with that one.
 pub fn convolve_is_right()
     ensures { (words : List (List ℕ)) (options : Options) (bytes : List ℕ) (schedule : SpecSchedule) (plan : Planned)

@@ -63,12 +63,12 @@ fn ending(ended: Result<(), Status>) -> Status
 /// Does what the words and the input ask for, and says in the note why not if it doesn't.
 ///
 /// The words are the program's name, a command and its options. The first line of the input is the request. What
-/// stands behind it are the data of `run` and `trace`, numbers in tokens, of which every vector has as many as the
+/// comes after it are the data of `run` and `trace`, numbers in tokens, of which every vector has as many as the
 /// request's size, or the certificate that `check` judges. `exec` has no request: the lines before the first empty line
-/// of its input are a listing, and what stands behind that line are the data of its program. Nor have `compile` and
-/// `apply`: the first line of their input is a formula, and what stands behind it are the data of `apply`. The first
+/// of its input are a listing, and what comes after that line are the data of its program. Nor have `compile` and
+/// `apply`: the first line of their input is a formula, and what comes after it are the data of `apply`. The first
 /// line of `convolve` is a request for convolutions, and the first vector of its data is the list with which it
-/// convolves the others; for the listing it reads nothing behind that list.
+/// convolves the others; for the listing it reads nothing after that list.
 pub fn spiral_run<I: Source, O: Sink, E: Sink>(
     alloc: Global,
     words: &Vec<String>,

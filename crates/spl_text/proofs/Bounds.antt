@@ -36,7 +36,7 @@ named_value_bound place next v e =
 pub all_push : (xs : List ℕ) (v : ℕ) → All IsRingValue xs → IsRingValue v → All IsRingValue (xs ++ v ∷ [])
 all_push xs v h k = grind (arith, common_steps)
 
--- ---- the first of the values, and those behind it
+-- ---- the first of the values, and those after it
 
 same_pair : (x y : List ℕ × Place ℕ) → (let r : Result (List ℕ × Place ℕ) ℕ = Ok x in r ≡ Ok y) → x ≡ y
 same_pair x y h = cc

@@ -94,7 +94,7 @@ module _ (read : Place ℕ → Result (Formula × Place ℕ) (Stop TextFault)) w
 passes : (left : ℕ) (f : Formula) (q : Place ℕ) → refusal f ≡ None → passed (shape_fault left f) (f, q) ≡ Ok (f, q)
 passes left f q e = ap (λ o. passed (option_map (λ p. Shape left p.0 p.1) o) (f, q)) e
 
--- a part is read when its head is and what stands behind it
+-- a part is read when its head is and what comes after it
 behind_head : (depth : ℕ) (h : Head) (f : Formula) (text v : List ℕ) (place : Place ℕ) → IsShaped f →
     place.rest ≡ head_word h ++ (text ++ v)
     → ((p : Place ℕ) → p.rest ≡ text ++ v → Gets (arguments_by (formula_at depth) h p) f v) →

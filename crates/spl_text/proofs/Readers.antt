@@ -100,7 +100,7 @@ more_reader = many_reader NoDigit (Behind (codes ",")) item (named_number_at (co
   goes_on = goes_on;
 }
 
--- a parenthesis behind the list
+-- a parenthesis after the list
 list_closes : {B : Type 0} (L : Unit {0} → List ℕ → B → Type 0) →
     Leaves (Behind (codes ",")) Anything (Follows (word (codes ")")) L)
 list_closes L u b v l c = record {
@@ -142,7 +142,7 @@ pub heads_reader : places.IsReader Anything (one_of heads) (one_of_at heads)
 unfolding other_heads
 heads_reader = one_of_reader Anything (codes "I(", head.I) other_heads refl
 
--- numbers behind a head, and what they make
+-- numbers after a head, and what they make
 leaf_reader : {A : Type 0} (L : List ℕ → A → Type 0) (read : Place ℕ → Result (A × Place ℕ) ℕ) (make : A → Formula) →
     places.IsReader Anything L read
     → IsReader Exposes Anything (Follows L (λ x. pure (make x)))

@@ -83,7 +83,7 @@ closed text = count_by (λ b. b == 41) text
 abbrev pub IsShallow : ℕ → List ℕ → Type 0
 IsShallow n text = (front rest : List ℕ) → text ≡ front ++ rest → opened front ≤ closed front + n
 
--- an opening parenthesis stands at this place, the first behind 128 open ones, and the spelling of some formula goes on with it
+-- an opening parenthesis stands at this place, the first after 128 open ones, and the spelling of some formula goes on with it
 pub record HasParenthesis (text : List ℕ) (at : ℕ) : Type 0 where
   pub before : List ℕ
   pub after : List ℕ

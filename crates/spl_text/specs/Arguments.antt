@@ -1,4 +1,4 @@
--- The numbers behind the head of a part, up to its closing parenthesis.
+-- The numbers after the head of a part, up to its closing parenthesis.
 use Rattle.std.specs.Prelude.{ℕ, ◌+◌, ◌^◌, List, ◌∷◌, codes, Result}
 use Rattle.grammar.specs.Reading.{Place, ◌>>=◌, ◌>>◌, pure_at, word_at, number_at, positive_at, named_number_at, all_at}
 use Rattle.operators.specs.Sizes.{max_size}

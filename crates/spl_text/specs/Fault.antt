@@ -18,7 +18,7 @@ abbrev pub is_among : ℕ → List ℕ → Bool
 is_among k [] = false
 is_among k (x ∷ xs) = x == k || is_among k xs
 
--- the first of the entries behind those before that is n or more, or that stood before
+-- the first of the entries after those before that is n or more, or that stood before
 unfoldable pub first_stray : ℕ → List ℕ → List ℕ → Option ℕ
 first_stray n before [] = None
 first_stray n before (k ∷ ks) = if nat_lt k n && not (is_among k before) then first_stray n (before ++ k ∷ []) ks else Some k

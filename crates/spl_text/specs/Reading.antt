@@ -48,7 +48,7 @@ made_at read make = do
   x ← plain read
   plain (pure_at (make x))
 
--- what stands behind the head of a part, where its formulas are read so
+-- what comes after the head of a part, where its formulas are read so
 abbrev pub arguments_by : (Place ℕ → Result (Formula × Place ℕ) (Stop TextFault)) → Head → Place ℕ → Result (Formula × Place ℕ) (Stop TextFault)
 arguments_by read head.I = made_at one_size_at Identity
 arguments_by read head.Dft = made_at size_value_at (λ x. Fourier x.0 x.1)

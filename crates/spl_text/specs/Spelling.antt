@@ -74,7 +74,7 @@ HasSpelling (Pending a) = ⊥
 unfoldable pub spells : List ℕ → Formula → Type 0
 spells text f = HasSpelling f × (text ≡ spelling f)
 
--- the same, with or without a line end behind it
+-- the same, with or without a line end after it
 abbrev pub spells_line : List ℕ → Formula → Type 0
 spells_line = do
   f ← spells

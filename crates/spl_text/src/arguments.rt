@@ -1,4 +1,4 @@
-// The numbers behind the head of a part, up to its closing parenthesis.
+// The numbers after the head of a part, up to its closing parenthesis.
 ghost use Rattle.std.specs.Prelude.{◌≡◌, ℕ, ◌^◌, ◌<◌, length, Ok, All, IfOk, codes};
 ghost use Rattle.grammar.specs.Cursor.{Gives, Tells};
 ghost use Rattle.grammar.specs.Reading.{all_at, named_number_at};
@@ -95,7 +95,7 @@ pub fn values(alloc: Global, cursor: &mut Cursor) -> Result<Vec<u64>, ReadError>
     Ok(values)
 }
 
-// The ring values of the list, and those that are read, each behind a comma.
+// The ring values of the list, and those that are read, each after a comma.
 fn more_values(cursor: &mut Cursor, front: Vec<u64>) -> Result<Vec<u64>, NoMemory>
     requires { All IsRingValue front.items }
     ensures gives { IfOk result (λ v. in_front front.items

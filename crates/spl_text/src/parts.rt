@@ -1,4 +1,4 @@
-// The parts that are made of numbers alone, behind their heads. A part begins at a place, by how much of the text is left there.
+// The parts that are made of numbers alone, after their heads. A part begins at a place, by how much of the text is left there.
 ghost use Rattle.grammar.specs.Stops.{tested_at};
 ghost use Rattle.spl_ast.specs.Formula.{Identity, Fourier, Hadamard, Twiddles, Diagonal, Stride, Permutation, GoodThomasIn, GoodThomasOut};
 ghost use Rattle.spl_text.specs.Answer.{Says};

@@ -120,7 +120,7 @@ fn write_values(out: &mut Vec<u8>, head: &[u8], values: &[u64]) -> Result<(), No
     }
 }
 
-// Each number behind a comma.
+// Each number after a comma.
 fn write_more(out: &mut Vec<u8>, values: &[u64]) -> Result<(), NoMemory>
     ensures { OnOk result (out.new.items ≡ out.old.items ++ more_text values.now) }
 {

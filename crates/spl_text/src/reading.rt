@@ -140,7 +140,7 @@ fn read_formula(alloc: Global, cursor: &mut Cursor, depth: u64) -> Result<Spl, H
     read_part(alloc, cursor, depth - 1, place, head)
 }
 
-// What stands behind the head of the part that begins at the place.
+// What comes after the head of the part that begins at the place.
 #[cycle(reading)]
 fn read_part(
     alloc: Global,
@@ -232,7 +232,7 @@ fn read_line(alloc: Global, cursor: &mut Cursor) -> Result<Spl, Halt>
     Ok(f)
 }
 
-// Goes behind a line end, if it is here.
+// Goes after a line end, if it is here.
 fn line_end(cursor: &mut Cursor)
     ensures { optional_at tt (word_at (codes "\n")) cursor.old ≡ Ok (tt, cursor.new) }
 {
@@ -252,7 +252,7 @@ fn whole_text(alloc: Global, text: &[u8]) -> Result<Spl, Halt>
     Ok(f)
 }
 
-/// The formula that a text spells, with or without a line end behind it; or the first fault from left to right.
+/// The formula that a text spells, with or without a line end after it; or the first fault from left to right.
 /// The text of a formula that can be printed is read as that formula, unless memory runs out. A formula has at most as
 /// many parts as its text has bytes.
 #[tactic(auto, using(crate::proofs::Whole::within, crate::proofs::Whole::first_fault, crate::proofs::Whole::shows_formula, crate::proofs::Whole::shows_fault))]

@@ -27,7 +27,7 @@ joined d g =
     move_before (step (within (Blocks d.procs) (within (Blocks g.groups) [])) (turns g.tiles d.lanes))
     ∷ tiles (within (Blocks g.groups) (within (Blocks g.tiles) [])) ∷ []
 
--- Rows one behind the other again: `L(s * v, v)` is `(L(s, v) tensor I_v) (I_(s / v) tensor L(v * v, v))`
+-- Rows one after the other again: `L(s * v, v)` is `(L(s, v) tensor I_v) (I_(s / v) tensor L(v * v, v))`
 abbrev pub parted : Deal → Grid → List PlainFactor
 parted d g =
     tiles (within (Blocks g.groups) (within (Blocks g.tiles) []))

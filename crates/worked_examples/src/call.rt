@@ -46,7 +46,7 @@ fn list(alloc: Global, call: Option<u64>) -> Result<Vec<u64>, Fail> {
     Ok(calls)
 }
 
-// The program's name, and the words behind it, between spaces. A dash stands for none.
+// The program's name, and the words after it, between spaces. A dash stands for none.
 fn words_of(alloc: Global, line: &str) -> Result<Vec<String>, Fail> {
     let mut words = Vec::new(alloc);
     words.push("spiral".to_string(alloc)?)?;

@@ -6,7 +6,7 @@ use crate::streams::all_stream;
 use std::alloc::Global;
 use std::test::Fail;
 
-// Rows as those of requests: the words behind the program's name, the input, the code, the output and the note.
+// Rows as those of requests: the words after the program's name, the input, the code, the output and the note.
 
 const RESULTS: &str = "\
 convolve; conv 4 mod 17 root 4/1 2 0 0/1 2 3 4/; 0; 9 4 7 10/; -
@@ -144,7 +144,7 @@ write 0; conv 4 mod 17 root 4/1 2 0 0/1 2 3 4/5 6 7 8/; 11; ; spiral: write fail
 room 12; conv 4 mod 17 root 4/1 2 0 0/1 2 3 4/5 6 7 8/; 11; 9 4 7 10/4 1; spiral: write failed/
 ";
 
-// Behind h the listing needs no read.
+// After h the listing needs no read.
 const FAILING_CODES: &str = "\
 write 0; conv 4 mod 17 root 4/1 2 0 0/1 2 3 4/5 6 7 8/; 11; ; spiral: write failed/
 step 29 read 1; conv 4 mod 17 root 4/1 2 0 0/1 2 3 4/5 6 7 8/; 0; program size 4 mod 17 procs 1 line 1 lanes 1 regs 17/table 0 values 5 15 4 11/phase/ld r0 X[0]/ld r1 X[1]/ld r2 X[2]/ld r3 X[3]/add r4 r0 r2/sub r5 r0 r2/add r6 r1 r3/sub r7 r1 r3/mul r8 r7 4/add r9 r4 r6/sub r10 r4 r6/add r11 r5 r8/sub r12 r5 r8/mul r13 r9 t0[0] step 0/st A[0] r13/mul r14 r11 t0[1] step 0/st A[1] r14/mul r15 r10 t0[2] step 0/st A[2] r15/mul r16 r12 t0[3] step 0/st A[3] r16/ld r0 A[0]/ld r1 A[1]/ld r2 A[2]/ld r3 A[3]/add r4 r0 r2/sub r5 r0 r2/add r6 r1 r3/sub r7 r1 r3/mul r8 r7 13/add r9 r4 r6/sub r10 r4 r6/add r11 r5 r8/sub r12 r5 r8/st Y[0] r9/st Y[1] r11/st Y[2] r10/st Y[3] r12/end/;\x20

@@ -9,7 +9,7 @@ use std::process::Abort;
 use std::test::Fail;
 use worked_rows::field;
 
-// Rows as those of requests: the words behind the program's name, the input, the code, the output and the note.
+// Rows as those of requests: the words after the program's name, the input, the code, the output and the note.
 
 const RESULTS: &str = "\
 apply --mod 17; TIMES(LEFT(DFT(2,16),2),L(4,2))/1 2 3 4/; 0; 3 7 16 16/; -
@@ -81,7 +81,7 @@ fn compiled(alloc: Global, modulus: &str, input: &str) -> Result<String, Fail> {
     Ok(text)
 }
 
-// The listing, and behind an empty line what stands behind the input's line.
+// The listing, and after an empty line what comes after the input's line.
 fn with_data(alloc: Global, listing: &str, input: &str) -> Result<String, Fail> {
     let data = match input.split_once('\n') {
         Some((_, data)) => data,

@@ -3,7 +3,7 @@
 use crate::rows::all_answer;
 use std::test::Fail;
 
-// Rows as those of requests: the words behind the program's name, the input, the code, the output and the note.
+// Rows as those of requests: the words after the program's name, the input, the code, the output and the note.
 
 const RESULTS: &str = "\
 run; idft 4 mod 17 root 4/10 7 15 6/4 0 0 0/; 0; 1 2 3 4/1 1 1 1/; -

@@ -29,7 +29,7 @@ st Y[3] r12
 end
 ";
 
-// The twiddles stand directly behind the part whose values they multiply.
+// The twiddles stand directly after the part whose values they multiply.
 const NINE_KERNEL: &str = "program size 9 mod 19 procs 1 line 1 lanes 1 regs 73
 phase
 ld r0 X[0]

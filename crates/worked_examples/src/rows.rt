@@ -6,7 +6,7 @@ use std::process::Abort;
 use std::test::Fail;
 use worked_rows::field;
 
-// A row has the words behind the program's name, the input, the status' code, the output and the note behind the program's
+// A row has the words after the program's name, the input, the status' code, the output and the note after the program's
 // name, with `; ` between them. A stroke stands for a line end, and a dash for nothing.
 
 /// What the note says of words that are no command line.
@@ -207,7 +207,7 @@ pub(crate) fn wanted(alloc: Global, code: &str, output: &str, note: &str) -> Res
     })
 }
 
-/// The same of a row's fields behind its question.
+/// The same of a row's fields after its question.
 pub(crate) fn wanted_of(alloc: Global, answer: &str) -> Result<String, Fail> {
     let (code, rest) = field(answer)?;
     let (output, note) = field(rest)?;

@@ -11,7 +11,7 @@ use std::alloc::Global;
 use std::process::Abort;
 use std::test::Fail;
 
-// A request, and behind the colon the operations, loads and stores of one transform.
+// A request, and after the colon the operations, loads and stores of one transform.
 const ROWS: &str = "\
 dft 1 mod 2 root 1: 0 1 1
 dft 2 mod 2 root 1: 2 2 2
@@ -245,7 +245,7 @@ idft 16 mod 17 root 3 procs 2 line 2 lanes 2: 104 48 48
 idft 6 mod 7 root 3 unroll 2 weight 5: 144 24 12
 ";
 
-// The first `size` states of the generator behind the seed, as residues.
+// The first `size` states of the generator after the seed, as residues.
 fn vector_of_seed(alloc: Global, m: &Modulus, size: u64, seed: u64) -> Result<Vec<u64>, Fail>
     ensures size { IfOk result (λ x. vec_len x ≡ size) }
     ensures residues { IfOk result (λ x. All (λ v. v < m.now) x.items) }

@@ -8,7 +8,7 @@ use std::process::Abort;
 use std::test::Fail;
 use worked_rows::{QUAD, field};
 
-// A request, the words behind `exec`, a vector, and what its listing makes of it. A stroke stands for a line end.
+// A request, the words after `exec`, a vector, and what its listing makes of it. A stroke stands for a line end.
 const LISTED: &str = "\
 dft 4 mod 17 root 4; exec; 1 2 3 4; 10 7 15 6/
 dft 4 mod 17 root 4; exec --schedule rr:3; 1 2 3 4 1 2 3 4/; 10 7 15 6/10 7 15 6/
@@ -21,7 +21,7 @@ dft 1 mod 2 root 1; exec; 3 4/; 1/0/
 dft 4 mod 17 root 4; exec; -; -
 ";
 
-// What stands in the listing of `QUAD`, whose first phase ends with line 12 of 20, what takes its place, the words, what stands behind the listing, and the answer: the status'
+// What stands in the listing of `QUAD`, whose first phase ends with line 12 of 20, what takes its place, the words, what comes after the listing, and the answer: the status'
 // code, the output and the note. A stroke stands for a line end, and a dash for nothing.
 const CHANGED: &str = "\
 -; -; exec; /1 2 3 4; 0; 10 7 15 6/; -
@@ -53,7 +53,7 @@ regs 6; regs 5; exec --schedule turns:0,2; /1 2 3 4; 20; -; bad register in phas
 -; -; exec run; /1 2 3 4; 2; -; usage
 ";
 
-// What `code` writes for the request, and the data behind it.
+// What `code` writes for the request, and the data after it.
 fn listed(alloc: Global, request: &str, data: &str) -> Result<String, Fail> {
     let code = written(alloc, "code", request)?;
     let data = lines_of(alloc, data)?;
@@ -210,7 +210,7 @@ fn fails_as(rt: &impl Abort, alloc: Global, streams: &str, wanted: &str) -> Resu
     streams_tell(rt, alloc, "exec", streams, &input, wanted)
 }
 
-// A read that fails in the listing leaves no output, and one that fails behind it the lines of whole vectors.
+// A read that fails in the listing leaves no output, and one that fails after it the lines of whole vectors.
 #[test]
 fn failing_reads(rt: HostRuntime) -> Result<(), Fail> {
     for read in [

@@ -89,7 +89,7 @@ fn streams_that_fail(rt: HostRuntime) -> Result<(), Fail> {
     all_stream(&rt, rt.alloc(), "run", STREAMS)
 }
 
-/// A command and an input whose first line has 20 bytes, and the output where a read fails behind that line, where it fails
+/// A command and an input whose first line has 20 bytes, and the output where a read fails after that line, where it fails
 /// at the input's end, and where none does.
 #[derive(Clone, Copy)]
 struct Failing<'a> {
@@ -131,7 +131,7 @@ fn front_at<'a>(failing: &Failing<'a>, at: usize) -> &'a str {
     }
 }
 
-// What is wanted where the read of this number fails. There is one at the input's end, and none behind it.
+// What is wanted where the read of this number fails. There is one at the input's end, and none after it.
 fn wanted_at(alloc: Global, failing: &Failing, at: usize) -> Result<String, Fail> {
     if at > failing.input.len() {
         return Ok(format!(in alloc; "0; {}; ", failing.text)?);
@@ -152,7 +152,7 @@ fn fail_read(rt: &impl Abort, alloc: Global, failing: &Failing, at: usize) -> Re
     Ok(())
 }
 
-// Bytes are read one by one, so each call reads the byte of its number, and the call behind the last finds the end.
+// Bytes are read one by one, so each call reads the byte of its number, and the call after the last finds the end.
 fn fail_reads(rt: &impl Abort, alloc: Global, failing: &Failing) -> Result<(), Fail> {
     for at in 0..failing.input.len() + 2 {
         fail_read(rt, alloc, failing, at)?;
@@ -194,7 +194,7 @@ fn each_read_and_each_write_fails(rt: HostRuntime) -> Result<(), Fail> {
     Ok(())
 }
 
-// What is wanted of the first bytes of an input whose line has 19 bytes. A number begins at each second byte behind it.
+// What is wanted of the first bytes of an input whose line has 19 bytes. A number begins at each second byte after it.
 fn wanted_cut(alloc: Global, len: usize) -> Result<String, Fail> {
     let have = len.saturating_sub(19) / 2;
     Ok(if len < 19 {

@@ -159,7 +159,7 @@ fn as_many_turns_as_can_be_named(rt: HostRuntime) -> Result<(), Fail> {
     Ok(())
 }
 
-// What a run leaves of the input behind these turns on another input.
+// What a run leaves of the input after these turns on another input.
 fn put_after_on(alloc: Global, quad: &Program, turns: &[u64]) -> Result<String, Fail>
     requires { Fits quad.now }
 {

@@ -26,7 +26,7 @@ end
 ";
 
 // The transform of size 16 modulo 17 with the root 3, for two processors and two lanes, written by the reference of
-// examples/: a pass of kernels, one of tiles, and behind the barrier one of kernels.
+// examples/: a pass of kernels, one of tiles, and after the barrier one of kernels.
 const TILED: &str = "program size 16 mod 17 procs 2 line 2 lanes 2 regs 13
 table 0 values 1 1 1 1 1 3 9 10 1 9 13 15 1 10 15 14
 phase

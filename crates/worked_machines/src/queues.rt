@@ -66,7 +66,7 @@ fn write_run(text: &mut String, machine: &mut BufMachine, mix: &Mix) -> Result<(
 }
 
 // A program, its input, and turns and drains; and what the machine answers, the phases that are over, the event that
-// completes the run next, the words of the second array, and those behind the completion.
+// completes the run next, the words of the second array, and those after the completion.
 const MIXES: &str = "\
 pair; 1 1; mix:d0|empty 0 Some(Turn(0)): 0 0, 2 5
 pair; 1 1; mix:t0,t0,t0,t0,t0,t0,t0,t0|did did did did did did did waits 0 Some(Drain(0)): 0 0, 2 5

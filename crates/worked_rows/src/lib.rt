@@ -66,7 +66,7 @@ pub fn numbers(alloc: Global, text: &str) -> Result<Vec<u64>, Fail> {
     Ok(numbers)
 }
 
-/// Adds the number, behind a space where the text has begun.
+/// Adds the number, after a space where the text has begun.
 pub fn write_number(text: &mut String, number: u64) -> Result<(), AllocError> {
     if !text.is_empty() {
         text.push_str(" ")?;
@@ -83,7 +83,7 @@ pub fn joined(alloc: Global, numbers: &[u64]) -> Result<String, Fail> {
     Ok(text)
 }
 
-/// The row's two parts, before and behind its last stroke.
+/// The row's two parts, before and after its last stroke.
 pub fn halves(row: &str) -> Result<(&str, &str), Fail> {
     Ok(row.rsplit_once('|').ok_or("a stroke")?)
 }
@@ -109,7 +109,7 @@ fn check_row<F: Fn(Global, &str) -> Result<String, Fail>>(
     }
 }
 
-/// The answer to each row's question, which stands before its last stroke, is what stands behind it.
+/// The answer to each row's question, which stands before its last stroke, is what comes after it.
 pub fn check<F: Fn(Global, &str) -> Result<String, Fail>>(
     alloc: Global,
     rows: &str,

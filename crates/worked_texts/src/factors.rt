@@ -1,4 +1,4 @@
-// The factors of a transform of size 16, by hand from the identities: a step by four rows of four words. Behind `^` stands the root
+// The factors of a transform of size 16, by hand from the identities: a step by four rows of four words. After `^` stands the root
 // of a diagonal, or that of the request whose node a tree is.
 
 use crate::contexts::{context, tree_of};

@@ -205,7 +205,7 @@ fn is_first_and_cheapest(alloc: Global, c: &Ctx, trees: &[Tree]) -> Result<bool,
     }
 }
 
-/// What may stand behind a request: other processors and lanes, and other limits.
+/// What may come after a request: other processors and lanes, and other limits.
 const OPTIONS: [&str; 10] = [
     "",
     " unroll 2",

@@ -10,7 +10,7 @@ use std::alloc::Global;
 use std::test::Fail;
 use worked_rows::{check, field, number, shown, spelled};
 
-// How the data go on behind their vectors of four numbers, at most two, which are written.
+// How the data go on after their vectors of four numbers, at most two, which are written.
 fn copied(
     alloc: Global,
     source: &mut MemSource,
@@ -138,7 +138,7 @@ fn long_lines(rt: HostRuntime) {
     same(&rt, output.count, 21001);
 }
 
-// What is behind the first byte of the source, if it has at most four bytes.
+// What comes after the first byte of the source, if it has at most four bytes.
 fn rest_of(alloc: Global, source: &mut MemSource) -> Result<String, Fail> {
     let mut feed = Feed::new(alloc)?;
     if feed.byte(source).is_err() {
@@ -150,7 +150,7 @@ fn rest_of(alloc: Global, source: &mut MemSource) -> Result<String, Fail> {
     }
 }
 
-// The bytes of a step, the read that fails, and an input; and what is behind its first byte.
+// The bytes of a step, the read that fails, and an input; and what comes after its first byte.
 const RESTS: &str = "\
 1; -; ?abc~|abc~
 1; -; ?|

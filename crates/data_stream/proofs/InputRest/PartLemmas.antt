@@ -71,7 +71,7 @@ part_longer text more begins front =
     ap length (front.before more) ∙ length-append text (before_empty_line begins more) in
     omega arith
 
--- a fault behind a front
+-- a fault after a front
 pub part_failed : (most first : ℕ) (text : List ℕ) (begins : Bool) (start before after : Option (List ℕ))
     (old new : Fed) (fault : FeedFault)
     → Consumes start before text → old.taken ≡ first + length text → length text ≤ most → first + most < limit →
@@ -86,7 +86,7 @@ either : (test a b : Bool) → (a ≡ true → b ≡ true) → (test || a) ≡ t
 either true a b goes there = refl
 either false a b goes there = goes there
 
--- what has ended has ended behind further bytes too
+-- what has ended has ended after further bytes too
 empty_line_behind : (begins : Bool) (read more : List ℕ) → has_empty_line begins read ≡ true →
     has_empty_line begins (read ++ more) ≡ true
 empty_line_behind begins [] more there = absurd (cc)

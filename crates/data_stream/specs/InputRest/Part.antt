@@ -17,12 +17,12 @@ abbrev pub before_empty_line : Bool → List ℕ → List ℕ
 before_empty_line begins [] = []
 before_empty_line begins (byte ∷ bytes) = if begins && ends_line byte then [] else byte ∷ before_empty_line (ends_line byte) bytes
 
--- what stands behind that line
+-- what comes after that line
 abbrev pub behind_empty_line : Bool → List ℕ → List ℕ
 behind_empty_line begins [] = []
 behind_empty_line begins (byte ∷ bytes) = if begins && ends_line byte then bytes else behind_empty_line (ends_line byte) bytes
 
--- the part before the first empty line of an input, and what stands behind that line
+-- the part before the first empty line of an input, and what comes after that line
 abbrev pub first_part : List ℕ → List ℕ
 first_part bytes = before_empty_line true bytes
 

@@ -3,7 +3,7 @@ use Rattle.std.specs.Prelude.{ℕ, List, [], ◌∷◌, ◌++◌, None, Some, co
 use Rattle.std.specs.List.{flat_map}
 use Rattle.std.specs.declared.option.Option.{Option}
 
--- a text, and a number behind it if there is one
+-- a text, and a number after it if there is one
 abbrev pub PlainPart : Type 0
 PlainPart = List ℕ × Option ℕ
 
@@ -11,7 +11,7 @@ abbrev pub part_text : PlainPart → List ℕ
 part_text (text, None) = text
 part_text (text, Some number) = text ++ decimal number
 
--- the line of the parts behind a front; no parts are no line
+-- the line of the parts after a front; no parts are no line
 abbrev pub line_of : List ℕ → List PlainPart → List ℕ
 line_of front [] = []
 line_of front (part ∷ parts) = front ++ (flat_map part_text (part ∷ parts) ++ codes "\n")

@@ -10,7 +10,7 @@ use crate::{Sink, WriteFault, write_all, write_parts};
 use arrayvec::ArrayVec;
 use itoa::Buffer;
 
-/// A text, and a number behind it if there is one.
+/// A text, and a number after it if there is one.
 pub type Part = (&'static str, Option<u64>);
 
 /// The number of a status, and the parts of its line.
@@ -20,7 +20,7 @@ pub struct Row {
     parts: ArrayVec<Part, 4>,
 }
 
-/// The row of a number and a line: texts, and a number behind a text where there is one.
+/// The row of a number and a line: texts, and a number after a text where there is one.
 #[macro_export]
 macro_rules! row {
     (@number) => { None };
@@ -30,7 +30,7 @@ macro_rules! row {
     };
 }
 
-// Writes a text, and the number behind it.
+// Writes a text, and the number after it.
 fn write_part<E: Sink>(note: &mut E, part: &Part) -> Result<(), WriteFault>
     ensures bytes { WritesAll (E.taken note.old) (E.taken note.new) result
         (part_text (plain_part part.now)) }
@@ -78,7 +78,7 @@ impl Row {
         self.code
     }
 
-    /// Writes the line, behind a front that each line of a program has.
+    /// Writes the line, after a front that each line of a program has.
     pub fn write<E: Sink>(&self, note: &mut E, front: &[u8]) -> Result<(), WriteFault>
         ensures bytes { WritesAll (E.taken note.old) (E.taken note.new) result
             (line_of front.now (plain_row self.now).parts) }

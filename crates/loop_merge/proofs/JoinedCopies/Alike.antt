@@ -43,7 +43,7 @@ then zs ys xs a b =
       plain = λ n m high all. a.plain n m high (b.plain n m high all);
     }
 
--- behind the same nest
+-- after the same nest
 pub behind : (z : PlainNest) (zs ys : List PlainNest) → AreAlike zs ys → AreAlike (z ∷ zs) (z ∷ ys)
 behind z zs ys h =
     record {

@@ -26,7 +26,7 @@ phase-more done phase old new is before =
     ap plain_passes is ∙ map-append pass_of old phase.items ∙ ap (λ ps. ps ++ plain_passes phase.items) before
     ∙ sym (ap all_passes (map-append (λ (ps : Vec Pass Global). plain_passes ps.items) done (phase ∷ [])) ∙ all-append (plain_phases done) (plain_passes phase.items))
 
--- passes and others behind them, as the one phase
+-- passes and others after them, as the one phase
 pub one-phase : (none phases : List (Vec Pass Global)) (all : Vec Pass Global) (passes after : List Pass)
     (first second : List (List PlainNest)) → none ≡ [] → phases ≡ none ++ all ∷ [] → all.items ≡ passes ++ after →
     plain_passes passes ≡ first → plain_passes after ≡ second → plain_phases phases ≡ (first ++ second) ∷ []

@@ -1,4 +1,4 @@
--- The table of statuses: of each its number, and its line behind `spiral: `.
+-- The table of statuses: of each its number, and its line after `spiral: `.
 use Rattle.std.specs.Prelude.{[], ◌∷◌, None, Some, codes}
 use Rattle.request_text.specs.Fields.{field_word}
 use Rattle.io_edge.specs.StatusRows.Rows.{PlainRow, row}

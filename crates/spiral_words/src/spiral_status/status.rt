@@ -67,7 +67,7 @@ pub enum Status {
     TooLong {
         limit: u64,
     },
-    /// What stands behind the request line is no certificate for the request.
+    /// What comes after the request line is no certificate for the request.
     Unread,
     /// The certificate's first wrong row: its size, its cost, and the cost that was found in its place.
     Wrong {

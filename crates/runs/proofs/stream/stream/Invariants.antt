@@ -10,7 +10,7 @@ use Rattle.runs.specs.Texts.{text_at}
 use Rattle.runs.specs.Walks.{ended}
 use Rattle.runs.proofs.stream.stream.Given as goal
 
--- Wherever the data began, the later vectors are whole behind the others. The output took their texts, the machine is where the last left it, and nothing failed
+-- Wherever the data began, the later vectors are whole after the others. The output took their texts, the machine is where the last left it, and nothing failed
 abbrev pub invariant-loop-machine : goal.invariant-loop-machine
 invariant-loop-machine g l =
     let left = g.I.Source.left in
