@@ -1,5 +1,5 @@
 -- The requests for the first of several dimensions and for the others.
-use Rattle.std.proofs.Common.{◌≡◌, ◌≢◌, ℕ, ◌*◌, ◌<◌, ◌≤◌, ◌^◌, arith, refl, sym, ap, subst, ◌∙◌, List, [], ◌∷◌, length}
+use Rattle.std.proofs.Common.{◌≡◌, ◌≢◌, ℕ, ◌*◌, ◌<◌, ◌≤◌, ◌^◌, arith, refl, sym, ap, subst, ◌∙◌, List, [], ◌∷◌}
 use Rattle.std.proofs.Math.Nat.{mul-le-mul}
 use Rattle.std.proofs.lemmas.List.Elements.{All-cons, All-head, All-nil, All-tail}
 use Rattle.std.specs.Prelude.{map, All}
@@ -8,7 +8,7 @@ use Rattle.matrix_meaning.specs.declared.Dimensions.{Dimensions}
 use Rattle.matrix_meaning.specs.declared.Dimensions.TheVariants.{One, Two, Three, Four}
 use Rattle.matrix_meaning.specs.declared.Kind.TheVariants.{Dft}
 use Rattle.matrix_meaning.specs.declared.Request.{Request}
-use Rattle.matrix_meaning.specs.Dimensions.{dims_by, dims_of, product_of, roots_of, sizes_of}
+use Rattle.matrix_meaning.specs.Dimensions.{dims_by, product_of}
 use Rattle.matrix_meaning.specs.Parts.{first_in, first_of, part_of, parts_in, parts_of, rest_in, rest_of, together}
 use Rattle.matrix_meaning.specs.Valid.{AreDimensions, IsBetween, IsInRange, IsSeveral, IsValid}
 use Rattle.matrix_meaning.proofs.Roots.{HasItsRoot, one_is_root}
@@ -296,29 +296,6 @@ rest_in-kind r (Four a b c d) some = refl
 
 pub rest_kind : (r : Request) → r.dimensions ≢ One → (rest_of r).kind ≡ Dft
 rest_kind r some = rest_in-kind r r.dimensions some
-
-rest_in-sizes : (r : Request) (ds : Dimensions) → ds ≢ One →
-    sizes_by r ds ≡ (first_in r ds).size ∷ sizes_of (rest_in r ds)
-unfolding sizes_by
-rest_in-sizes r One some = absurd (some refl)
-rest_in-sizes r (Two a b) some = refl
-rest_in-sizes r (Three a b c) some = refl
-rest_in-sizes r (Four a b c d) some = refl
-
-rest_in-roots : (r : Request) (ds : Dimensions) → ds ≢ One →
-    roots_by r ds ≡ (first_in r ds).root ∷ roots_of (rest_in r ds)
-unfolding roots_by
-rest_in-roots r One some = absurd (some refl)
-rest_in-roots r (Two a b) some = refl
-rest_in-roots r (Three a b c) some = refl
-rest_in-roots r (Four a b c d) some = refl
-
-rest_in-fewer : (r : Request) (ds : Dimensions) → ds ≢ One →
-    length (dims_of (rest_in r ds)) < length (dims_by r.size r.root ds)
-rest_in-fewer r One some = absurd (some refl)
-rest_in-fewer r (Two a b) some = omega arith
-rest_in-fewer r (Three a b c) some = omega arith
-rest_in-fewer r (Four a b c d) some = omega arith
 
 -- a Walsh-Hadamard transform and an inverse one are of one size
 one_size : (r : Request) (ds : Dimensions) → AreDimensions r ds → r.kind ≢ Dft → ds ≡ One

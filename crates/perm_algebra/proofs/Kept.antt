@@ -185,9 +185,6 @@ sound-joined = kept-joined IsSound soundness
 pub sound-mods : (n : ℕ) (e : Sum) → IsSound e → IsSound (mods n e)
 sound-mods = kept-mods IsSound soundness
 
-pub sound-head : (s : ℕ) (e : Sum) → IsSound e → IsSound (head s e)
-sound-head = kept-head IsSound soundness
-
 pub sound-rest : (s : ℕ) (e : Sum) → IsSound e → IsSound (rest_of s e)
 sound-rest = kept-rest IsSound soundness
 
@@ -201,9 +198,6 @@ module _ (cs : ℕ → ℕ) where
   pub sound-divided : (s : ℕ) (e : Sum) → 0 < s → IsSound e →
       IsSound (divided cs s e).quot × IsSound (divided cs s e).rem
   sound-divided = kept-divided IsSound soundness (λ e m positive h. ((positive, h, tt), (positive, h, tt))) cs
-
-  pub sound-reduced : (n : ℕ) (e : Sum) → 0 < n → IsSound e → IsSound (reduced cs n e)
-  sound-reduced = kept-reduced IsSound soundness (λ e m positive h. ((positive, h, tt), (positive, h, tt))) cs
 
   pub sound-simplified : (f : Mapping) (e : Sum) → IsWellFormed f → HasNoList f → IsSound e →
       IsSound (simplified cs f e)

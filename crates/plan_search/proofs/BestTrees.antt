@@ -13,7 +13,6 @@ use Rattle.tree_model.specs.Breakdown.{Breakdown, leaf, node, size_of}
 use Rattle.tree_model.specs.Cost.{cost_of}
 use Rattle.tree_model.specs.Order.{order_of}
 use Rattle.tree_model.specs.Admissible.{AllowsLeafAt, CanDivide, IsCandidate, IsChosen, IsChosenFor}
-use Rattle.tree_model.specs.Admissible.{IsLeastFor}
 use Rattle.tree_model.proofs.OrderLaws.{order_flip}
 use Rattle.tree_model.proofs.Splits.{product_div, div_at_least_two}
 use Rattle.plan_search.specs.Search.{IsNoWorse, AnyTree, IsLeaf, HasLeft, HasLeftBelow, IsBestRule}
@@ -172,6 +171,3 @@ chosen_at_divisor c d valid proper low less divides = elim (best_within c (suc d
       let tree = inner_tree c d (c.size / d) proper low (product_div c.size d divides) less valid.in_range.shape in
       absurd (none tree.0 tree.1 tt)
 ]
-
-least_reached : (c : Request) (d j k : ℕ) → IsLeastFor c d j → IsLeastFor c d k → j ≤ k
-least_reached c d j k h l = let le : j ≤ cost_of c l.reached.0 = h.bound l.reached.0 l.reached.1 in omega (arith, l.reached.2)

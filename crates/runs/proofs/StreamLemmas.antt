@@ -372,10 +372,6 @@ answered_with size modulus old new read ended vectors result s start within = λ
     answered size modulus old new read more vectors result
     (reads_more size modulus old new read ended (more ≡ []) vectors result none s) start within
 
-words_at-suc : (n : ℕ) (xs : List ℕ) (i : ℕ) → words_at (suc n) xs i ≡ words_at n xs i ++ slice_index xs (i + n) ∷ []
-words_at-suc zero xs i = ap (λ k. slice_index xs k ∷ []) (sym (add-zero i))
-words_at-suc (suc n) xs i = ap (λ l. slice_index xs i ∷ l) (words_at-suc n xs (i + 1) ∙ ap (λ k. words_at n xs (i + 1) ++ slice_index xs k ∷ []) (omega arith))
-
 pub word_more : (n : ℕ) (xs : List ℕ) (i v : ℕ) (front : List ℕ) → front ≡ words_at n xs i →
     v ≡ slice_index xs (i + n) → front ++ v ∷ [] ≡ words_at (n + 1) xs i
 word_more n xs i v front p q = ap (λ l. l ++ v ∷ []) p ∙ ap (λ w. words_at n xs i ++ w ∷ []) q ∙ sym (words_at_more n xs i)

@@ -1,13 +1,9 @@
 -- The parts of a tree, whose walk goes on in them.
-use Rattle.std.proofs.Common.{◌≡◌, ◌≢◌, refl, sym, subst}
+use Rattle.std.proofs.Common.{◌≡◌, sym, subst}
 use Rattle.kernel_gen.specs.Nodes.{IsNodeTree}
 use Rattle.kernel_gen.proofs.NodeTrees.{left_tree, right_tree}
-use Rattle.matrix_meaning.specs.declared.Kind.{Kind}
-use Rattle.matrix_meaning.specs.declared.Kind.TheVariants.{Dft, Wht, Idft}
 use Rattle.matrix_meaning.specs.declared.Request.{Request}
-use Rattle.sigma_spl.specs.Work.{kernel, node_of}
 use Rattle.smp_rewrite.specs.Walk.{left_part, left_request, right_part, right_request}
-use Rattle.smp_rewrite.specs.LayoutSteps.Layout.{long_work}
 use Rattle.tree_model.specs.Breakdown.{Breakdown, leaf, node}
 
 pub left_walked : (p : Request) (t : Breakdown) → IsNodeTree p t → IsNodeTree (left_request p t) (left_part t)
@@ -24,8 +20,3 @@ walked_as p q t u is same h =
     subst (λ (r : Request). IsNodeTree r u) (sym is) (subst (IsNodeTree p) (sym same) h)
 
 -- ---- a longer work that does not go row by row
-
-long_rooted : (kind : Kind) (p : Request) (t : Breakdown) → kind ≢ Dft → long_work p kind t ≡ kernel (node_of p t)
-long_rooted Dft p t other = absurd (other refl)
-long_rooted Wht p t other = refl
-long_rooted Idft p t other = refl

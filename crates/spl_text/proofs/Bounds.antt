@@ -1,7 +1,6 @@
 -- What is read of numbers is within their limits.
-use Rattle.std.proofs.Common.{◌≡◌, ℕ, ◌^◌, Result, Ok, Err, subst, arith, List, [], ◌∷◌, ◌++◌, All, codes, sym, ap}
+use Rattle.std.proofs.Common.{◌≡◌, ℕ, ◌^◌, Result, Ok, subst, arith, List, [], ◌∷◌, ◌++◌, All, codes}
 use Rattle.std.proofs.lemmas.Grind.{common_steps}
-use Rattle.grammar.proofs.Loop.{in_front}
 use Rattle.grammar.specs.Grammar.{number, positive, named_number}
 use Rattle.grammar.specs.Reading.{Place, number_at, positive_at, named_number_at}
 use Rattle.grammar.proofs.Numbers.{NoDigit}
@@ -37,12 +36,3 @@ pub all_push : (xs : List ℕ) (v : ℕ) → All IsRingValue xs → IsRingValue 
 all_push xs v h k = grind (arith, common_steps)
 
 -- ---- the first of the values, and those after it
-
-same_pair : (x y : List ℕ × Place ℕ) → (let r : Result (List ℕ × Place ℕ) ℕ = Ok x in r ≡ Ok y) → x ≡ y
-same_pair x y h = cc
-
-in_front_ok : (first : ℕ) (r : Result (List ℕ × Place ℕ) ℕ) (v : List ℕ) (next : Place ℕ) →
-    in_front (first ∷ []) r ≡ Ok (v, next) → (others : List ℕ) × (r ≡ Ok (others, next)) × (v ≡ first ∷ others)
-in_front_ok first (Ok x) v next e =
-    let both = same_pair (first ∷ x.0, x.1) (v, next) e in (x.0, ap (λ q. Ok (x.0, q.1)) both, sym (ap (λ q. q.0) both))
-in_front_ok first (Err left) v next e = absurd cc

@@ -1,10 +1,8 @@
 -- What trees cost that may stand in a request.
-use Rattle.std.proofs.Common.{◌≡◌, ℕ, zero, suc, ◌*◌, ◌/◌, ◌^◌, ◌<◌, ◌≤◌, arith, ap, ◌∙◌}
+use Rattle.std.proofs.Common.{◌≡◌, ℕ, zero, suc, ◌*◌, ◌/◌, ◌≤◌, arith, ap, ◌∙◌}
 use Rattle.std.proofs.Math.Nat.{mul-le-mul, mul-le-mul_left, mul-one, mul-zero}
 use Rattle.matrix_meaning.specs.declared.Request.{Request}
 use Rattle.matrix_meaning.specs.Parts.{forward_of}
-use Rattle.matrix_meaning.specs.Valid.{IsBetween}
-use Rattle.operators.specs.Sizes.{max_size}
 use Rattle.tree_model.specs.Breakdown.{Breakdown, size_of}
 use Rattle.tree_model.specs.Chosen.{StandsIn}
 use Rattle.tree_model.specs.Cost.{IsModest}
@@ -22,9 +20,6 @@ from_product n d (suc q) some e =
 
 pub stands_low : (c : Request) (t : Breakdown) → 1 ≤ c.size → StandsIn c t → size_of t ≤ c.size
 stands_low c t some h = from_product c.size (size_of t) (c.size / size_of t) some (product_div c.size (size_of t) h.1)
-
-pub stands_fits : (c : Request) (t : Breakdown) → IsBetween 1 max_size c.size → StandsIn c t → size_of t < 2 ^ 64
-stands_fits c t size h = let low = stands_low c t size.0 h in omega (arith, low, size.1)
 
 pub stands_below : (c p : Request) (t : Breakdown) → p ≡ forward_of c → 1 ≤ c.size → StandsIn c t → size_of t ≤ p.size
 stands_below c p t is some h =

@@ -1,16 +1,13 @@
 -- The actions of statements in a row, and of a loop.
-use Rattle.std.proofs.Common.{◌≡◌, ℕ, zero, suc, ◌+◌, List, [], ◌∷◌, ◌++◌, flat_map, Vec, Global, refl, sym, ap, ap₂}
+use Rattle.std.proofs.Common.{◌≡◌, ℕ, zero, suc, ◌+◌, List, [], ◌∷◌, ◌++◌, flat_map, refl, sym, ap, ap₂}
 use Rattle.std.proofs.Common.{◌∙◌, arith, append-nil, append_assoc}
 use Rattle.std.specs.List.{range_with_len}
 use Rattle.std.proofs.lemmas.List.Concat.{flat_map-append}
 use Rattle.icode.specs.declared.program.Program.{Program}
 use Rattle.icode.specs.declared.program.Stmt.{Stmt}
-use Rattle.icode.specs.declared.program.Stmt.TheVariants.{Loop}
 use Rattle.icode.specs.Actions.{Step, actions_of}
 use Rattle.icode.specs.Program.{stmt_steps, body_steps}
-use Rattle.icode.proofs.Steps.{steps-Loop}
 use Rattle.icode.specs.CodeLaws.Nests.{bodies}
-use Rattle.icode.specs.CodeLaws.Statements.{actions_at}
 
 actions_of-append : (xs ys : List Step) → actions_of (xs ++ ys) ≡ actions_of xs ++ actions_of ys
 actions_of-append [] ys = refl
@@ -38,9 +35,3 @@ module _ (p : Program) where
   steps-append [] ys vs q = refl
   steps-append (x ∷ xs) ys vs q =
       ap (λ zs. stmt_steps p x vs q ++ zs) (steps-append xs ys vs q) ∙ sym (append_assoc (stmt_steps p x vs q) (body_steps p xs vs q) (body_steps p ys vs q))
-
-  pub actions-loop : (count : ℕ) (body : Vec Stmt Global) (vs : List ℕ) (q : ℕ) →
-      actions_at p (Loop count body ∷ []) vs q ≡ bodies count (λ v. actions_at p body.items (vs ++ v ∷ []) q)
-  actions-loop count body vs q =
-      ap actions_of (append-nil (stmt_steps p (Loop count body) vs q) ∙ steps-Loop p count body vs q)
-      ∙ actions_of-bodies count (λ v. body_steps p body.items (vs ++ v ∷ []) q)
