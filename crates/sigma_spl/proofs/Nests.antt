@@ -133,11 +133,18 @@ whole-simplified counts (copy d) f sums suits form names whole = tt
 
 -- ---- places
 
-pub load-simplified : (counts : List ℕ) (w : PlainWork) (f : Mapping) (sums : List Sum) (vs : List ℕ) (k : ℕ) →
+-- what the variables of a work run below
+abbrev limits-under : List ℕ → PlainWork → ℕ → ℕ
+limits-under counts w = slice_index (counts ++ work_size w ∷ work_size w ∷ [])
+
+-- the places of a work follow a function that is put into its sums
+abbrev pub Follow : (PlainWork → List Sum → List ℕ → ℕ → ℕ) → Type 0
+Follow place =
+    (counts : List ℕ) (w : PlainWork) (f : Mapping) (sums : List Sum) (vs : List ℕ) (k : ℕ) →
     Suits w (at f) → IsFormed f → NamesItems w sums → AreWhole counts w sums → AreInRange (loops_of counts) vs →
-    k < work_size w →
-    load_place w (map (simplified (slice_index (counts ++ work_size w ∷ work_size w ∷ [])) f) sums) vs k
-    ≡ at f (load_place w sums vs k)
+    k < work_size w → place w (map (simplified (limits-under counts w) f) sums) vs k ≡ at f (place w sums vs k)
+
+pub load-simplified : Follow load_place
 load-simplified counts (kernel trees) f sums vs k suits form names whole range below = sum-simplified _ f sums k vs form names.sound (omega (arith, names.enough, below)) (alone counts _ vs range)
 load-simplified counts (rows root d) f sums vs k suits form names whole range below =
     sum-simplified _ f sums 0 (vs ++ 0 ∷ k ∷ []) form names.sound (omega (arith, names.enough)) (with_more counts d vs (0 ∷ k ∷ []) range (two_below d 0 k (omega arith) below))
@@ -150,11 +157,7 @@ load-simplified counts (tile v) f sums vs k suits form names whole range below =
     ∙ sym (suits.together (sum_value sums (k / v) vs) (k % v) (whole vs (k / v) range row) (mod-lt k some))
 load-simplified counts (copy d) f sums vs k suits form names whole range below = sum-simplified _ f sums k vs form names.sound (omega (arith, names.enough, below)) (alone counts _ vs range)
 
-pub store-simplified : (counts : List ℕ) (w : PlainWork) (f : Mapping) (sums : List Sum) (vs : List ℕ) (k : ℕ) →
-    Suits w (at f) → IsFormed f → NamesItems w sums → AreWhole counts w sums → AreInRange (loops_of counts) vs →
-    k < work_size w →
-    store_place w (map (simplified (slice_index (counts ++ work_size w ∷ work_size w ∷ [])) f) sums) vs k
-    ≡ at f (store_place w sums vs k)
+pub store-simplified : Follow store_place
 store-simplified counts (kernel trees) f sums vs k suits form names whole range below = sum-simplified _ f sums k vs form names.sound (omega (arith, names.enough, below)) (alone counts _ vs range)
 store-simplified counts (rows root d) f sums vs k suits form names whole range below =
     sum-simplified _ f sums 0 (vs ++ k ∷ []) form names.sound (omega (arith, names.enough)) (with_more counts d vs (k ∷ []) range (one_below d k below))
@@ -171,29 +174,29 @@ map-id : (sums : List Sum) → map (λ e. e) sums ≡ sums
 map-id [] = refl
 map-id (e ∷ es) = ap (λ z. e ∷ z) (map-id es)
 
-pub load-through : (counts : List ℕ) (w : PlainWork) (fs : List Mapping) (sums : List Sum) (vs : List ℕ) (k : ℕ) →
+-- and functions one after the other
+abbrev pub GoThrough : (PlainWork → List Sum → List ℕ → ℕ → ℕ) → Type 0
+GoThrough place =
+    (counts : List ℕ) (w : PlainWork) (fs : List Mapping) (sums : List Sum) (vs : List ℕ) (k : ℕ) →
     AllSuit w fs → AreFormed fs → NamesItems w sums → AreWhole counts w sums → AreInRange (loops_of counts) vs →
     k < work_size w →
-    load_place w (map (all_simplified (slice_index (counts ++ work_size w ∷ work_size w ∷ [])) fs) sums) vs k
-    ≡ through fs (load_place w sums vs k)
-load-through counts w [] sums vs k suit forms names whole range below = ap (λ es. load_place w es vs k) (map-id sums)
-load-through counts w (f ∷ fs) sums vs k suit forms names whole range below =
-    let cs = slice_index (counts ++ work_size w ∷ work_size w ∷ []) in
-    ap (λ es. load_place w es vs k) (sym (map-map (all_simplified cs fs) (simplified cs f) sums))
-    ∙ load-through counts w fs (map (simplified cs f) sums) vs k suit.1 forms.1 (names-simplified w cs f sums forms.0 names) (whole-simplified counts w f sums suit.0 forms.0 names whole) range below
-    ∙ ap (through fs) (load-simplified counts w f sums vs k suit.0 forms.0 names whole range below)
+    place w (map (all_simplified (limits-under counts w) fs) sums) vs k ≡ through fs (place w sums vs k)
 
-pub store-through : (counts : List ℕ) (w : PlainWork) (fs : List Mapping) (sums : List Sum) (vs : List ℕ) (k : ℕ) →
-    AllSuit w fs → AreFormed fs → NamesItems w sums → AreWhole counts w sums → AreInRange (loops_of counts) vs →
-    k < work_size w →
-    store_place w (map (all_simplified (slice_index (counts ++ work_size w ∷ work_size w ∷ [])) fs) sums) vs k
-    ≡ through fs (store_place w sums vs k)
-store-through counts w [] sums vs k suit forms names whole range below = ap (λ es. store_place w es vs k) (map-id sums)
-store-through counts w (f ∷ fs) sums vs k suit forms names whole range below =
-    let cs = slice_index (counts ++ work_size w ∷ work_size w ∷ []) in
-    ap (λ es. store_place w es vs k) (sym (map-map (all_simplified cs fs) (simplified cs f) sums))
-    ∙ store-through counts w fs (map (simplified cs f) sums) vs k suit.1 forms.1 (names-simplified w cs f sums forms.0 names) (whole-simplified counts w f sums suit.0 forms.0 names whole) range below
-    ∙ ap (through fs) (store-simplified counts w f sums vs k suit.0 forms.0 names whole range below)
+through-places : (place : PlainWork → List Sum → List ℕ → ℕ → ℕ) → Follow place → GoThrough place
+through-places place follow counts w [] sums vs k suit forms names whole range below =
+    ap (λ es. place w es vs k) (map-id sums)
+through-places place follow counts w (f ∷ fs) sums vs k suit forms names whole range below =
+    let cs = limits-under counts w in
+    ap (λ es. place w es vs k) (sym (map-map (all_simplified cs fs) (simplified cs f) sums))
+    ∙ through-places place follow counts w fs (map (simplified cs f) sums) vs k suit.1 forms.1
+    (names-simplified w cs f sums forms.0 names) (whole-simplified counts w f sums suit.0 forms.0 names whole) range below
+    ∙ ap (through fs) (follow counts w f sums vs k suit.0 forms.0 names whole range below)
+
+pub load-through : GoThrough load_place
+load-through = through-places load_place load-simplified
+
+pub store-through : GoThrough store_place
+store-through = through-places store_place store-simplified
 
 -- ---- passes
 
