@@ -194,6 +194,15 @@ counts-scaled n = kept-scaled (HasCounts n) (having_counts n)
 pub counts-joined : (n : ℕ) (a e : Sum) → HasCounts n a → HasCounts n e → HasCounts n (joined a e)
 counts-joined n = kept-joined (HasCounts n) (having_counts n)
 
+pub plain-scaled : (k : ℕ) (e : Sum) → HasNoQuotient e → HasNoQuotient (scaled k e)
+plain-scaled = kept-scaled HasNoQuotient having_no_quotient
+
+pub plain-joined : (a e : Sum) → HasNoQuotient a → HasNoQuotient e → HasNoQuotient (joined a e)
+plain-joined = kept-joined HasNoQuotient having_no_quotient
+
+pub plain-mods : (n : ℕ) (e : Sum) → HasNoQuotient e → HasNoQuotient (mods n e)
+plain-mods = kept-mods HasNoQuotient having_no_quotient
+
 module _ (cs : ℕ → ℕ) where
   pub sound-divided : (s : ℕ) (e : Sum) → 0 < s → IsSound e →
       IsSound (divided cs s e).quot × IsSound (divided cs s e).rem
