@@ -1,5 +1,6 @@
 -- The terms of a whole can be merged.
-use Rattle.std.proofs.Common.{◌≡◌, ℕ, ◌*◌, ◌^◌, ◌<◌, ◌≤◌, ◌==◌, Bool, true, false, arith, refl, sym, List, [], ◌∷◌, ◌++◌, subst, if◌then◌else◌}
+use Rattle.std.proofs.Common.{◌≡◌, ℕ, ◌*◌, ◌^◌, ◌<◌, ◌≤◌, ◌==◌, Bool, true, false, arith, refl, sym, List, [], ◌∷◌}
+use Rattle.std.proofs.Common.{◌++◌, subst, if◌then◌else◌}
 use Rattle.std.specs.Prelude.{map}
 use Rattle.std.proofs.lemmas.Bool.{lt-ltb}
 use Rattle.std.proofs.lemmas.Bool.Decides.{nat_tests}
@@ -50,10 +51,12 @@ piece-words (tile v) h = absurd h
 piece-words (copy size) h = absurd h
 
 -- a scatter by a permutation under tensors
-scat-words : (path : Path) (n : ℕ) (f : Mapping) → HasNumbers (size_under path n) (wrapped path n f) → HasNumbers (size_under path n) (wrapped path n (back_of f)) → AreWords (size_under path n) (scat (wrapped path n f))
+scat-words : (path : Path) (n : ℕ) (f : Mapping) → HasNumbers (size_under path n) (wrapped path n f) →
+    HasNumbers (size_under path n) (wrapped path n (back_of f)) → AreWords (size_under path n) (scat (wrapped path n f))
 scat-words path n f h k = (h, subst (HasNumbers (size_under path n)) (sym (back-wrapped path n f)) k)
 
-core-words : (path : Path) (k : PlainCore) → IsGoodCore k → core_size k ≤ 1048576 → size_under path (core_size k) ≤ 1048576 → AreWords (size_under path (core_size k)) (core_term path k)
+core-words : (path : Path) (k : PlainCore) → IsGoodCore k → core_size k ≤ 1048576 →
+    size_under path (core_size k) ≤ 1048576 → AreWords (size_under path (core_size k)) (core_term path k)
 core-words path (piece w) h low high = piece-words w h
 core-words path (turns r s) h low high =
     let closed = strided-closed r s (omega (arith, h.0)) (omega (arith, h.1)) low in numbers-wrapped path (r * s) (Strided r s) high refl closed.0 closed.1
@@ -70,7 +73,8 @@ step-words c s valid h =
     let sizes = sizes-of c s valid h in
     subst (AreWords c.size) (sym (embed-core s.path s.core)) (subst (λ n. AreWords n (core_term s.path s.core)) h.size (core-words s.path s.core h.core sizes.low sizes.high))
 
-after-words : (c : Target) (path : Path) (k : PlainCore) → IsMachine c → IsGood c.size (step path k) → AreWords c.size (embed (lowered_after (step path k)))
+after-words : (c : Target) (path : Path) (k : PlainCore) → IsMachine c → IsGood c.size (step path k) →
+    AreWords c.size (embed (lowered_after (step path k)))
 after-words c path (piece t) valid h = step-words c (step path (piece t)) valid h
 after-words c path (turns r s) valid h =
     let n = r * s in
@@ -82,7 +86,8 @@ after-words c path (steps.twiddles r s w) valid h = step-words c (step path (ste
 after-words c path (thomas_in r s) valid h = step-words c (step path (thomas_in r s)) valid h
 after-words c path (thomas_out r s) valid h = step-words c (step path (thomas_out r s)) valid h
 
-factor-words : (c : Target) (p v : ℕ) (f : PlainFactor) → IsMachine c → IsGood c.size (factor_step p v f) → AreWords c.size (embed (factor_term p v f))
+factor-words : (c : Target) (p v : ℕ) (f : PlainFactor) → IsMachine c → IsGood c.size (factor_step p v f) →
+    AreWords c.size (embed (factor_term p v f))
 factor-words c p v (lanes s) valid h = step-words c (factor_step p v (lanes s)) valid h
 factor-words c p v (diagonals s) valid h = step-words c s valid h
 factor-words c p v (move_before s) valid h = step-words c (factor_step p v (move_before s)) valid h
@@ -93,16 +98,20 @@ abbrev AreWordPhases : Target → List (List lowered.PlainTerm) → Type 0
 AreWordPhases c [] = Unit {0}
 AreWordPhases c (ts ∷ more) = AreWords c.size (phase_term ts) × AreWordPhases c more
 
-phase-words : (c : Target) (p v : ℕ) (fs : List PlainFactor) → IsMachine c → AreGood c.size (map (factor_step p v) fs) → AreWords c.size (phase_term (map (factor_term p v) fs))
+phase-words : (c : Target) (p v : ℕ) (fs : List PlainFactor) → IsMachine c → AreGood c.size (map (factor_step p v) fs) →
+    AreWords c.size (phase_term (map (factor_term p v) fs))
 phase-words c p v [] valid h = tt
 phase-words c p v (f ∷ fs) valid h = (factor-words c p v f valid h.0, phase-words c p v fs valid h.1)
 
-pick-phases : (c : Target) (p v : ℕ) (b : Bool) (first second : List PlainFactor) → IsMachine c → AreGood c.size (map (factor_step p v) (first ++ second)) → AreGood c.size (map (factor_step p v) first) × AreGood c.size (map (factor_step p v) second) →
+pick-phases : (c : Target) (p v : ℕ) (b : Bool) (first second : List PlainFactor) → IsMachine c →
+    AreGood c.size (map (factor_step p v) (first ++ second)) →
+    AreGood c.size (map (factor_step p v) first) × AreGood c.size (map (factor_step p v) second) →
     AreWordPhases c (map (map (factor_term p v)) (if b then (first ++ second) ∷ [] else first ∷ second ∷ []))
 pick-phases c p v true first second valid all each = (phase-words c p v (first ++ second) valid all, tt)
 pick-phases c p v false first second valid all each = (phase-words c p v first valid each.0, (phase-words c p v second valid each.1, tt))
 
-tree-words : (c : Target) (l : Layout) → IsMachine c → CanShareLayout c l → IsGoodLayout c.modulus l → AreWordPhases c (lowered_of c l)
+tree-words : (c : Target) (l : Layout) → IsMachine c → CanShareLayout c l → IsGoodLayout c.modulus l →
+    AreWordPhases c (lowered_of c l)
 tree-words c l valid shares good =
     let g = vec_of (layout_smp c l) in
     let whole : IsGoodWhole c.modulus (only l) = record { layout = good; factor = tt } in
@@ -122,7 +131,8 @@ several-path (Blocks k ∷ path) n h some =
 several-path (Columns k ∷ path) n h some =
     (several-of k (right_positive (size_under path n) k some) h.0, several-path path n h.1 (left_positive (size_under path n) k some))
 
-term-several : (c : Target) (v : ℕ) (ts : List lowered.PlainTerm) → IsMachine c → IsGoodTerm v c.size (phase_term ts) → AreTightTerms ts → HasSeveral (phase_term ts)
+term-several : (c : Target) (v : ℕ) (ts : List lowered.PlainTerm) → IsMachine c → IsGoodTerm v c.size (phase_term ts) →
+    AreTightTerms ts → HasSeveral (phase_term ts)
 term-several c v [] valid good tight = tt
 term-several c v (lowered.gath f ∷ ts) valid good tight = (tt, term-several c v ts valid good.1 tight.1)
 term-several c v (lowered.scat f ∷ ts) valid good tight = (tt, term-several c v ts valid good.1 tight.1)
@@ -132,7 +142,8 @@ term-several c v (lowered.nest path w ∷ ts) valid good tight =
 
 -- ---- phases
 
-all-can : (c : Target) (phases : List (List lowered.PlainTerm)) → IsMachine c → AllEmbed c c.lanes phases → AreTightPhases phases → AreWordPhases c phases → AllCanMerge c.lanes c.size (map phase_term phases)
+all-can : (c : Target) (phases : List (List lowered.PlainTerm)) → IsMachine c → AllEmbed c c.lanes phases →
+    AreTightPhases phases → AreWordPhases c phases → AllCanMerge c.lanes c.size (map phase_term phases)
 all-can c [] valid embeds tight words = tt
 all-can c (ts ∷ more) valid embeds tight words = (
   record { good = embeds.0.good; several = term-several c c.lanes ts valid embeds.0.good tight.0; words = words.0 },

@@ -5,11 +5,13 @@ use Rattle.sigma_spl.specs.Nest as nests
 use Rattle.sigma_spl.specs.Loops.{PlainLoop, Looping, begun, looped, HasLoop, stored_last, scaled_last}
 use Rattle.sigma_lower.specs.Merged.{AllHaveLoops, PhasesHaveLoops}
 use Rattle.sigma_lower.specs.Shared.{embed, phase_term}
-use Rattle.sigma_lower.specs.TreeTerms.Root.{left_core, left_terms, right_path, turned_in, tiled_before, right_terms, root_terms}
+use Rattle.sigma_lower.specs.TreeTerms.Root.{left_core, left_terms, right_path, turned_in, tiled_before, right_terms}
+use Rattle.sigma_lower.specs.TreeTerms.Root.{root_terms}
 use Rattle.sigma_lower.specs.TreeTerms.Term.{PlainTerm, gath, scat, diag, nest, lowered, lowered_core, lowered_of}
 use Rattle.sigma_lower.proofs.TreeTerms.Both.{plain_terms}
 use Rattle.sigma_lower.proofs.TreeTerms.RootTerms.{shared_terms}
-use Rattle.smp_rewrite.specs.LayoutSteps.Step.{PlainCore, piece, turns, twiddles, thomas_in, thomas_out, PlainStep, rule_steps, steps_of}
+use Rattle.smp_rewrite.specs.LayoutSteps.Step.{PlainCore, piece, turns, twiddles, thomas_in, thomas_out, PlainStep}
+use Rattle.smp_rewrite.specs.LayoutSteps.Step.{rule_steps, steps_of}
 use Rattle.smp_rewrite.specs.Fits.{RootHasParts}
 use Rattle.smp_rewrite.specs.LayoutSteps.Layout.{Layout, work, by, layout_size}
 use Rattle.sigma_spl.specs.Shared.Targets.{is_alone}
@@ -48,7 +50,8 @@ pick-nest false ts us h k = k
 
 -- ---- it is a loop, and stays one
 
-stored-has : (ps : List PlainLoop) (t : PlainTerm) (st : Looping) → st.loops ≡ ps → HasLoop ps → HasLoop (looped st (embed t)).loops
+stored-has : (ps : List PlainLoop) (t : PlainTerm) (st : Looping) → st.loops ≡ ps → HasLoop ps →
+    HasLoop (looped st (embed t)).loops
 stored-has ps (gath f) st is h = subst HasLoop (sym is) h
 stored-has [] (scat f) st is h = absurd h
 stored-has (p ∷ ps) (scat f) st is h = subst (λ (qs : List PlainLoop). HasLoop (stored_last f qs)) (sym is) tt
@@ -91,7 +94,8 @@ piece-front : (ss es : List PlainStep) → HasPiece ss → HasPiece (ss ++ es)
 piece-front [] es h = absurd h
 piece-front (s ∷ ss) es h = piece-or s.core (HasPiece ss) (HasPiece (ss ++ es)) h (piece-front ss es)
 
-rule-piece : (rule : Rule) (path : Path) (r s w : ℕ) (left right : List PlainStep) → HasPiece right → HasPiece (rule_steps rule path r s w left right)
+rule-piece : (rule : Rule) (path : Path) (r s w : ℕ) (left right : List PlainStep) → HasPiece right →
+    HasPiece (rule_steps rule path r s w left right)
 rule-piece Gt path r s w left right h = piece-front right _ h
 rule-piece Ct path r s w left right h = piece-front right _ h
 rule-piece Split path r s w left right h = piece-front right left h
@@ -101,7 +105,8 @@ steps-piece : (path : Path) (l : Layout) → HasPiece (steps_of path l)
 steps-piece path (work w) = tt
 steps-piece path (by rule root a b) = rule-piece rule path (layout_size a) (layout_size b) root _ _ (steps-piece (path ++ Blocks (layout_size a) ∷ []) b)
 
-core-nest : (path : Path) (core : PlainCore) (P : Type 0) (ts : List PlainTerm) → PieceOr core P → (P → HasNest ts) → HasNest (lowered_core path core ∷ ts)
+core-nest : (path : Path) (core : PlainCore) (P : Type 0) (ts : List PlainTerm) → PieceOr core P → (P → HasNest ts) →
+    HasNest (lowered_core path core ∷ ts)
 core-nest path (piece t) P ts h k = tt
 core-nest path (turns r s) P ts h k = k h
 core-nest path (twiddles r s w) P ts h k = k h
@@ -112,7 +117,8 @@ lowered-nest : (ss : List PlainStep) → HasPiece ss → HasNest (map lowered ss
 lowered-nest [] h = absurd h
 lowered-nest (s ∷ ss) h = core-nest s.path s.core (HasPiece ss) (map lowered ss) h (lowered-nest ss)
 
-left-nest-core : (p v m s : ℕ) (path : Path) (core : PlainCore) (P : Type 0) (ts : List PlainTerm) → PieceOr core P → (P → HasNest ts) → HasNest (left_core p v m s path core ++ ts)
+left-nest-core : (p v m s : ℕ) (path : Path) (core : PlainCore) (P : Type 0) (ts : List PlainTerm) → PieceOr core P →
+    (P → HasNest ts) → HasNest (left_core p v m s path core ++ ts)
 left-nest-core p v m s path (piece t) P ts h k = left-nest (left_core p v m s path (piece t)) ts (pick-nest (p == 1) _ _ tt tt)
 left-nest-core p v m s path (turns a b) P ts h k = k h
 left-nest-core p v m s path (twiddles a b w) P ts h k = k h
@@ -123,7 +129,8 @@ left-have : (p v m s : ℕ) (ss : List PlainStep) → HasPiece ss → HasNest (l
 left-have p v m s [] h = absurd h
 left-have p v m s (e ∷ ss) h = left-nest-core p v m s e.path e.core (HasPiece ss) (left_terms p v m s ss) h (left-have p v m s ss)
 
-right-have : (c : Target) (p v : ℕ) (rule : Rule) (w : ℕ) (a b : Layout) → RootHasParts c (by rule w a b) → HasNest (right_terms p v rule w a b)
+right-have : (c : Target) (p v : ℕ) (rule : Rule) (w : ℕ) (a b : Layout) → RootHasParts c (by rule w a b) →
+    HasNest (right_terms p v rule w a b)
 right-have c p v Gt w a b fits = absurd fits
 right-have c p v Ct w a b fits = right-nest (turned_in p v (layout_size a) (layout_size b)) _ (left-nest (map lowered (steps_of (right_path p v (layout_size a)) b)) _ (lowered-nest (steps_of (right_path p v (layout_size a)) b) (steps-piece (right_path p v (layout_size a)) b)))
 right-have c p v Split w a b fits = right-nest (tiled_before p v (layout_size a) (layout_size b)) _ (left-nest (map lowered (steps_of (right_path p v (layout_size a)) b)) _ (lowered-nest (steps_of (right_path p v (layout_size a)) b) (steps-piece (right_path p v (layout_size a)) b)))
@@ -134,7 +141,8 @@ right-have c p v Dim w a b fits =
 
 -- ---- phases
 
-phases-have : (c : Target) (b : Bool) (first second : List PlainTerm) → HasNest first → HasNest second → AllHaveLoops c (if b then (first ++ second) ∷ [] else first ∷ second ∷ [])
+phases-have : (c : Target) (b : Bool) (first second : List PlainTerm) → HasNest first → HasNest second →
+    AllHaveLoops c (if b then (first ++ second) ∷ [] else first ∷ second ∷ [])
 phases-have c true first second h k = (nest-loop (first ++ second) begun (left-nest first second h), tt)
 phases-have c false first second h k = (nest-loop first begun h, (nest-loop second begun k, tt))
 

@@ -1,17 +1,21 @@
 -- The terms of trees are in order: a scatter or a diagonal comes right after a loop, a diagonal after one that has none, and after a tile only one under no tensors.
-use Rattle.std.proofs.Common.{◌≡◌, ℕ, ◌*◌, ◌/◌, ◌==◌, Bool, true, false, List, [], ◌∷◌, ◌++◌, refl, sym, subst, if◌then◌else◌, None}
+use Rattle.std.proofs.Common.{◌≡◌, ℕ, ◌*◌, ◌/◌, ◌==◌, Bool, true, false, List, [], ◌∷◌, ◌++◌, refl, sym, subst}
+use Rattle.std.proofs.Common.{if◌then◌else◌, None}
 use Rattle.std.specs.Prelude.{map, not, ◌&&◌}
 use Rattle.sigma_spl.specs.Loops.{PlainLoop, Looping, begun, looped, InOrder}
 use Rattle.sigma_spl.specs.Merge.{is_tile}
 use Rattle.sigma_lower.specs.Order.{IsOrderedPhase, AllOrdered, TreesOrdered}
 use Rattle.sigma_lower.specs.Shared.{embed, phase_term}
-use Rattle.sigma_lower.specs.TreeTerms.Root.{left_path, left_core, left_terms, right_path, tile_path, turned_in, tiled_before, tiled_after, vectors_grouped, lines_moved, vectors_turned, right_terms, root_terms}
+use Rattle.sigma_lower.specs.TreeTerms.Root.{left_path, left_core, left_terms, right_path, tile_path, turned_in}
+use Rattle.sigma_lower.specs.TreeTerms.Root.{tiled_before, tiled_after, vectors_grouped, lines_moved, vectors_turned}
+use Rattle.sigma_lower.specs.TreeTerms.Root.{right_terms, root_terms}
 use Rattle.sigma_lower.specs.TreeTerms.Term.{PlainTerm, gath, scat, diag, nest, lowered_core, lowered, lowered_of}
 use Rattle.sigma_spl.specs.Work.{PlainWork, kernel, rows, horner, tile, copy}
 use Rattle.sigma_lower.proofs.TreeTerms.Both.{plain_terms}
 use Rattle.sigma_lower.proofs.TreeTerms.RootTerms.{shared_terms}
 use Rattle.index_fn.specs.Mapping.{Mapping}
-use Rattle.smp_rewrite.specs.LayoutSteps.Step.{PlainCore, piece, turns, twiddles, thomas_in, thomas_out, PlainStep, step, rule_steps, steps_of}
+use Rattle.smp_rewrite.specs.LayoutSteps.Step.{PlainCore, piece, turns, twiddles, thomas_in, thomas_out, PlainStep}
+use Rattle.smp_rewrite.specs.LayoutSteps.Step.{step, rule_steps, steps_of}
 use Rattle.smp_rewrite.specs.Fits.{CanShareLayout}
 use Rattle.smp_rewrite.specs.LayoutSteps.Layout.{Layout, work, by, layout_size, IsGoodWork, IsGoodLayout}
 use Rattle.sigma_spl.specs.Shared.Targets.{is_alone}
@@ -163,7 +167,8 @@ lead-append e f g (s ∷ ss) ts h k = (h.0, lead-append (ending e (lowered s)) f
 abbrev AreInOrder : List PlainStep → Type 0
 AreInOrder ss = (e : Ending) → StepsLead e ss fresh
 
-rule-order : (rule : Rule) (path : Path) (r s w : ℕ) (left right : List PlainStep) → AreInOrder left → AreInOrder right → AreInOrder (rule_steps rule path r s w left right)
+rule-order : (rule : Rule) (path : Path) (r s w : ℕ) (left right : List PlainStep) → AreInOrder left →
+    AreInOrder right → AreInOrder (rule_steps rule path r s w left right)
 rule-order Gt path r s w left right h k e =
     (tt, lead-append waits fresh fresh right (left ++ step path (thomas_out r s) ∷ []) (k waits) (lead-append fresh fresh fresh left (step path (thomas_out r s) ∷ []) (h fresh) (tt, refl)))
 rule-order Ct path r s w left right h k e = (tt, lead-append waits fresh fresh right (step path (twiddles r s w) ∷ left) (k waits) (refl, h settled))
@@ -192,11 +197,13 @@ leads-lowered e f (s ∷ ss) h = (core-follows e s.path s.core h.0, leads-lowere
 
 -- ---- the left part
 
-leads-piece : (b : Bool) (e : Ending) (into out : Mapping) (path : Path) (w : PlainWork) → IsPiece w → Leads e (if b then nest path w ∷ [] else gath into ∷ nest path w ∷ scat out ∷ []) fresh
+leads-piece : (b : Bool) (e : Ending) (into out : Mapping) (path : Path) (w : PlainWork) → IsPiece w →
+    Leads e (if b then nest path w ∷ [] else gath into ∷ nest path w ∷ scat out ∷ []) fresh
 leads-piece true e into out path w h = (tt, is-fresh e path w h)
 leads-piece false e into out path w h = (tt, (tt, (subst IsFree (sym (is-fresh waits path w h)) tt, is-fresh waits path w h)))
 
-leads-core : (p v m s : ℕ) (e : Ending) (path : Path) (k : PlainCore) → FreshAt e k → Leads e (left_core p v m s path k) (ending e (lowered_core path k))
+leads-core : (p v m s : ℕ) (e : Ending) (path : Path) (k : PlainCore) → FreshAt e k →
+    Leads e (left_core p v m s path k) (ending e (lowered_core path k))
 leads-core p v m s e path (piece w) h = subst (Leads e (left_core p v m s path (piece w))) (sym (is-fresh e (left_path p v s ++ path) w h)) (leads-piece (p == 1) e _ _ _ w h)
 leads-core p v m s e path (turns a b) h = (tt, refl)
 leads-core p v m s e path (twiddles a b w) h = (h, refl)
@@ -210,15 +217,18 @@ leads-left p v m s e f (t ∷ ss) h =
 
 -- ---- the right part
 
-leads-turned : (b : Bool) (first second : Mapping) → Leads settled ((if b then [] else gath first ∷ []) ++ gath second ∷ []) waits
+leads-turned : (b : Bool) (first second : Mapping) → Leads settled
+    ((if b then [] else gath first ∷ []) ++ gath second ∷ []) waits
 leads-turned true first second = (tt, refl)
 leads-turned false first second = (tt, (tt, refl))
 
-leads-first : (b : Bool) (path : Path) (v : ℕ) (f : Mapping) → Leads settled (if b then [] else gath f ∷ nest path (tile v) ∷ []) (if b then settled else tiled)
+leads-first : (b : Bool) (path : Path) (v : ℕ) (f : Mapping) →
+    Leads settled (if b then [] else gath f ∷ nest path (tile v) ∷ []) (if b then settled else tiled)
 leads-first true path v f = refl
 leads-first false path v f = (tt, (tt, refl))
 
-leads-tile : (b : Bool) (path : Path) (v : ℕ) (f : Mapping) → Leads fresh (if b then [] else nest path (tile v) ∷ scat f ∷ []) (if b then fresh else tiled)
+leads-tile : (b : Bool) (path : Path) (v : ℕ) (f : Mapping) →
+    Leads fresh (if b then [] else nest path (tile v) ∷ scat f ∷ []) (if b then fresh else tiled)
 leads-tile true path v f = refl
 leads-tile false path v f = (tt, (tt, refl))
 
@@ -232,7 +242,8 @@ right_ending v Ct = settled
 right_ending v Split = if v == 1 then fresh else tiled
 right_ending v Dim = if v == 1 then fresh else tiled
 
-right-leads : (m p v : ℕ) (rule : Rule) (w : ℕ) (a b : Layout) → IsGoodLayout m b → Leads settled (right_terms p v rule w a b) (right_ending v rule)
+right-leads : (m p v : ℕ) (rule : Rule) (w : ℕ) (a b : Layout) → IsGoodLayout m b →
+    Leads settled (right_terms p v rule w a b) (right_ending v rule)
 right-leads m p v Gt w a b good = refl
 right-leads m p v Ct w a b good =
     let r = layout_size a in
@@ -270,7 +281,8 @@ none-at settled st h not_waits = h
 none-at tiled st h not_waits = h.0
 none-at fresh st h not_waits = h.0
 
-ordered-phase : (c : Target) (f : Ending) (ts : List PlainTerm) → (f ≡ waits → ⊥) → Leads settled ts f → IsOrderedPhase c ts
+ordered-phase : (c : Target) (f : Ending) (ts : List PlainTerm) → (f ≡ waits → ⊥) → Leads settled ts f →
+    IsOrderedPhase c ts
 ordered-phase c f ts not_waits leads = let h = led settled f ts begun leads refl in record { in_order = h.order; none_waits = none-at f (looped begun (phase_term ts)) h.holds not_waits }
 
 fresh-ends : fresh ≡ waits → ⊥
@@ -292,7 +304,9 @@ right-ends v Ct h = settled-ends h
 right-ends v Split h = pick-ends (v == 1) h
 right-ends v Dim h = pick-ends (v == 1) h
 
-pick-phases : (c : Target) (b : Bool) (first second : List PlainTerm) → IsOrderedPhase c (first ++ second) → IsOrderedPhase c first → IsOrderedPhase c second → AllOrdered c (if b then (first ++ second) ∷ [] else first ∷ second ∷ [])
+pick-phases : (c : Target) (b : Bool) (first second : List PlainTerm) → IsOrderedPhase c (first ++ second) →
+    IsOrderedPhase c first → IsOrderedPhase c second → AllOrdered c
+    (if b then (first ++ second) ∷ [] else first ∷ second ∷ [])
 pick-phases c true first second all h k = (all, tt)
 pick-phases c false first second all h k = (h, (k, tt))
 
@@ -308,7 +322,8 @@ root-ordered c (by rule root a b) good =
     pick-phases c (p == 1) first second (ordered-phase c fresh (first ++ second) fresh-ends (leads-append settled e fresh first second (right-leads c.modulus p v rule root a b good.2) (left e)))
     (ordered-phase c e first (right-ends v rule) (right-leads c.modulus p v rule root a b good.2)) (ordered-phase c fresh second fresh-ends (left settled))
 
-pick-layout : (c : Target) (l : Layout) → CanShareLayout c l → IsGoodLayout c.modulus l → (b : Bool) → is_alone c ≡ b → AllOrdered c (lowered_of c l)
+pick-layout : (c : Target) (l : Layout) → CanShareLayout c l → IsGoodLayout c.modulus l → (b : Bool) → is_alone c ≡ b →
+    AllOrdered c (lowered_of c l)
 pick-layout c l shares good true is = subst (AllOrdered c) (sym (plain_terms c l is)) (ordered-phase c fresh (map lowered (steps_of [] l)) fresh-ends (leads-lowered settled fresh (steps_of [] l) (steps-order c.modulus [] l good settled)), tt)
 pick-layout c l shares good false is = subst (AllOrdered c) (sym (shared_terms c l shares good is)) (root-ordered c l good)
 

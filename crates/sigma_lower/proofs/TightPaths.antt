@@ -1,13 +1,16 @@
 -- The paths of a tree's loops have no tensor of one copy.
-use Rattle.std.proofs.Common.{◌≡◌, ℕ, ◌/◌, ◌≤◌, ◌==◌, Bool, true, false, arith, refl, sym, List, [], ◌∷◌, ◌++◌, subst, if◌then◌else◌}
+use Rattle.std.proofs.Common.{◌≡◌, ℕ, ◌/◌, ◌≤◌, ◌==◌, Bool, true, false, arith, refl, sym, List, [], ◌∷◌, ◌++◌, subst}
+use Rattle.std.proofs.Common.{if◌then◌else◌}
 use Rattle.std.specs.Prelude.{map}
 use Rattle.std.proofs.lemmas.Bool.Decides.{nat_tests}
-use Rattle.sigma_lower.specs.TreeTerms.Root.{right_path, left_path, left_core, left_terms, turned_in, tiled_before, tiled_after, tile_path, right_terms, root_terms}
+use Rattle.sigma_lower.specs.TreeTerms.Root.{right_path, left_path, left_core, left_terms, turned_in, tiled_before}
+use Rattle.sigma_lower.specs.TreeTerms.Root.{tiled_after, tile_path, right_terms, root_terms}
 use Rattle.sigma_lower.specs.TreeTerms.Term.{PlainTerm, gath, scat, diag, nest, lowered, lowered_core, lowered_of}
 use Rattle.sigma_lower.proofs.TreeTerms.Both.{plain_terms}
 use Rattle.sigma_lower.proofs.TreeTerms.RootTerms.{shared_terms}
 use Rattle.smp_rewrite.specs.Smp.{within}
-use Rattle.smp_rewrite.specs.LayoutSteps.Step.{PlainCore, piece, turns, twiddles, thomas_in, thomas_out, PlainStep, step, rule_steps, steps_of}
+use Rattle.smp_rewrite.specs.LayoutSteps.Step.{PlainCore, piece, turns, twiddles, thomas_in, thomas_out, PlainStep}
+use Rattle.smp_rewrite.specs.LayoutSteps.Step.{step, rule_steps, steps_of}
 use Rattle.sigma_spl.specs.Limits.{HasRows}
 use Rattle.sigma_spl.specs.Work.{PlainWork, kernel, rows, horner, tile, copy}
 use Rattle.smp_rewrite.specs.Fits.{CanShareLayout}
@@ -33,7 +36,8 @@ tight-append (t ∷ path) more h k = (h.0, tight-append path more h.1 k)
 tight-push : (path : Path) (t : Tensor) → IsTight path → 2 ≤ count_of t → IsTight (path ++ t ∷ [])
 tight-push path t h two = tight-append path (t ∷ []) h (let several : (count_of t == 1) ≡ false = grind (arith, nat_tests) in several, tt)
 
-pick-tight : (b : Bool) (t : Tensor) (path : Path) → (count_of t == 1) ≡ b → IsTight path → IsTight (if b then path else t ∷ path)
+pick-tight : (b : Bool) (t : Tensor) (path : Path) → (count_of t == 1) ≡ b → IsTight path →
+    IsTight (if b then path else t ∷ path)
 pick-tight true t path is h = h
 pick-tight false t path is h = (is, h)
 
@@ -59,7 +63,8 @@ terms-append : (ts us : List PlainTerm) → AreTightTerms ts → AreTightTerms u
 terms-append [] us h k = k
 terms-append (t ∷ ts) us h k = (h.0, terms-append ts us h.1 k)
 
-pick-terms : (b : Bool) (ts us : List PlainTerm) → AreTightTerms ts → AreTightTerms us → AreTightTerms (if b then ts else us)
+pick-terms : (b : Bool) (ts us : List PlainTerm) → AreTightTerms ts → AreTightTerms us →
+    AreTightTerms (if b then ts else us)
 pick-terms true ts us h k = h
 pick-terms false ts us h k = k
 
@@ -87,11 +92,13 @@ steps-append : (ss es : List PlainStep) → AreTightSteps ss → AreTightSteps e
 steps-append [] es h k = k
 steps-append (s ∷ ss) es h k = (h.0, steps-append ss es h.1 k)
 
-pick-steps : (b : Bool) (ss es : List PlainStep) → AreTightSteps ss → AreTightSteps es → AreTightSteps (if b then ss else es)
+pick-steps : (b : Bool) (ss es : List PlainStep) → AreTightSteps ss → AreTightSteps es →
+    AreTightSteps (if b then ss else es)
 pick-steps true ss es h k = h
 pick-steps false ss es h k = k
 
-rule-tight : (rule : Rule) (path : Path) (r s w : ℕ) (left right : List PlainStep) → IsTight path → AreTightSteps left → AreTightSteps right → AreTightSteps (rule_steps rule path r s w left right)
+rule-tight : (rule : Rule) (path : Path) (r s w : ℕ) (left right : List PlainStep) → IsTight path → AreTightSteps left →
+    AreTightSteps right → AreTightSteps (rule_steps rule path r s w left right)
 rule-tight Gt path r s w left right h l k = ((h, tt), steps-append right _ k (steps-append left (step path (thomas_out r s) ∷ []) l ((h, tt), tt)))
 rule-tight Ct path r s w left right h l k = ((h, tt), steps-append right (step path (twiddles r s w) ∷ left) k ((h, tt), l))
 rule-tight Split path r s w left right h l k = steps-append right left k l
@@ -117,7 +124,8 @@ lowered-tight (s ∷ ss) h = (core-tight s.path s.core h.0, lowered-tight ss h.1
 
 -- ---- the root
 
-left-core-tight : (p v m s : ℕ) (path : Path) (k : PlainCore) → IsTight path × HasRowsAt k → AreTightTerms (left_core p v m s path k)
+left-core-tight : (p v m s : ℕ) (path : Path) (k : PlainCore) → IsTight path × HasRowsAt k →
+    AreTightTerms (left_core p v m s path k)
 left-core-tight p v m s path (piece t) h =
     let all : IsTight (left_path p v s ++ path) = tight-append (left_path p v s) path (three-tight (Blocks p) (Columns v) (Columns (s / p / v))) h.0 in
     pick-terms (p == 1) _ _ ((all, h.1), tt) (tt, ((all, h.1), (tt, tt)))
@@ -142,10 +150,12 @@ before-tight p v r s = pick-terms (v == 1) [] _ tt (tt, ((tile-tight p v r s, tt
 after-tight : (p v r s : ℕ) → AreTightTerms (tiled_after p v r s)
 after-tight p v r s = pick-terms (v == 1) [] _ tt ((tile-tight p v r s, tt), (tt, tt))
 
-right-steps-tight : (m p v r : ℕ) (b : Layout) → IsGoodLayout m b → AreTightTerms (map lowered (steps_of (right_path p v r) b))
+right-steps-tight : (m p v r : ℕ) (b : Layout) → IsGoodLayout m b →
+    AreTightTerms (map lowered (steps_of (right_path p v r) b))
 right-steps-tight m p v r b formed = lowered-tight (steps_of (right_path p v r) b) (steps-tight m (right_path p v r) b (three-tight (Blocks p) (Columns v) (Blocks (r / p / v))) formed)
 
-right-tight : (m p v : ℕ) (rule : Rule) (w : ℕ) (a b : Layout) → IsGoodLayout m b → AreTightTerms (right_terms p v rule w a b)
+right-tight : (m p v : ℕ) (rule : Rule) (w : ℕ) (a b : Layout) → IsGoodLayout m b →
+    AreTightTerms (right_terms p v rule w a b)
 right-tight m p v Gt w a b formed = tt
 right-tight m p v Ct w a b formed =
     let r = layout_size a in
@@ -170,7 +180,8 @@ abbrev pub AreTightPhases : List (List PlainTerm) → Type 0
 AreTightPhases [] = Unit {0}
 AreTightPhases (ts ∷ more) = AreTightTerms ts × AreTightPhases more
 
-phases-tight : (b : Bool) (first second : List PlainTerm) → AreTightTerms first → AreTightTerms second → AreTightPhases (if b then (first ++ second) ∷ [] else first ∷ second ∷ [])
+phases-tight : (b : Bool) (first second : List PlainTerm) → AreTightTerms first → AreTightTerms second →
+    AreTightPhases (if b then (first ++ second) ∷ [] else first ∷ second ∷ [])
 phases-tight true first second h k = (terms-append first second h k, tt)
 phases-tight false first second h k = (h, (k, tt))
 
@@ -180,7 +191,8 @@ root-tight c (by rule root a b) good =
     phases-tight (c.procs == 1) _ _ (right-tight c.modulus c.procs c.lanes rule root a b good.2)
     (left-tight c.procs c.lanes (layout_size a) (layout_size b) (steps_of [] a) (steps-tight c.modulus [] a tt good.1))
 
-pub tree-tight : (c : Target) (l : Layout) → CanShareLayout c l → IsGoodLayout c.modulus l → AreTightPhases (lowered_of c l)
+pub tree-tight : (c : Target) (l : Layout) → CanShareLayout c l → IsGoodLayout c.modulus l →
+    AreTightPhases (lowered_of c l)
 tree-tight c l shares good = pick (is_alone c) refl
   where
     pick : (b : Bool) → is_alone c ≡ b → AreTightPhases (lowered_of c l)

@@ -1,17 +1,20 @@
 -- The passes of a layout of one size count as those of the tree in the cost model.
-use Rattle.std.proofs.Common.{◌≡◌, ℕ, ◌*◌, ◌<◌, Bool, true, false, arith, refl, sym, ap, ◌∙◌, List, [], ◌∷◌, ◌++◌, if◌then◌else◌, inl, inr, subst}
+use Rattle.std.proofs.Common.{◌≡◌, ℕ, ◌*◌, ◌<◌, Bool, true, false, arith, refl, sym, ap, ◌∙◌, List, [], ◌∷◌, ◌++◌}
+use Rattle.std.proofs.Common.{if◌then◌else◌, inl, inr, subst}
 use Rattle.std.specs.Prelude.{nat_le}
 use Rattle.std.proofs.lemmas.Bool.{cases_lt}
 use Rattle.std.proofs.lemmas.Bool.Decides.{nat_tests}
 use Rattle.kernel_gen.proofs.NodeCosts.{kernel-short}
-use Rattle.sigma_lower.specs.TreeLoops.Laws.{Counted, works, tiles, with_twiddles, twiddle_last, twiddle_by, passes_of, tiled_passes, whole_passes, loads_by}
+use Rattle.sigma_lower.specs.TreeLoops.Laws.{Counted, works, tiles, with_twiddles, twiddle_last, twiddle_by, passes_of}
+use Rattle.sigma_lower.specs.TreeLoops.Laws.{tiled_passes, whole_passes, loads_by}
 use Rattle.matrix_meaning.specs.Valid.{IsValid}
 use Rattle.matrix_meaning.specs.declared.Dimensions.TheVariants.{One}
 use Rattle.matrix_meaning.specs.declared.Kind.{Kind}
 use Rattle.matrix_meaning.specs.declared.Kind.TheVariants.{Dft, Wht, Idft}
 use Rattle.matrix_meaning.specs.declared.Request.{Request}
 use Rattle.sigma_spl.specs.Work.{PlainWork, kernel, node_of}
-use Rattle.smp_rewrite.specs.LayoutSteps.Layout.{Layout, work, by, layout_cost, layout_size, layout_of, long_work, node_work}
+use Rattle.smp_rewrite.specs.LayoutSteps.Layout.{Layout, work, by, layout_cost, layout_size, layout_of, long_work}
+use Rattle.smp_rewrite.specs.LayoutSteps.Layout.{node_work}
 use Rattle.sigma_spl.specs.Shared.Costs.{work_cost}
 use Rattle.kernel_gen.specs.Nodes.{IsNodeTree}
 use Rattle.smp_rewrite.specs.LayoutSteps.Meaning.{FitsWhole}

@@ -23,7 +23,8 @@ pub record HaveGoodPlaces (c : Target) (P : PlainWork → Type 0) (ps : List Pla
   pub shaped : AreShaped P c.size ps
 
 -- on one processor and one lane
-pub tree_good : (c : Target) (P : PlainWork → Type 0) (l : Layout) → CanShareLayout c l → IsGoodLayout c.modulus l → HasWorks P l → HaveGoodPlaces c P (layout_passes [] [] l)
+pub tree_good : (c : Target) (P : PlainWork → Type 0) (l : Layout) → CanShareLayout c l → IsGoodLayout c.modulus l →
+    HasWorks P l → HaveGoodPlaces c P (layout_passes [] [] l)
 tree_good c P l shares good all =
     let whole : IsSize c.size = size_in c l shares in
     record {
@@ -33,5 +34,6 @@ tree_good c P l shares good all =
       shaped = shaped_passes P c.modulus c.size [] [] l tt good all shares.size;
     }
 
-pub plain_good : (c : Target) (P : PlainWork → Type 0) (l : Layout) → CanShareLayout c l → IsGoodLayout c.modulus l → HasWorks P l → is_alone c ≡ true → HaveGoodPlaces c P (merged_of c l)
+pub plain_good : (c : Target) (P : PlainWork → Type 0) (l : Layout) → CanShareLayout c l → IsGoodLayout c.modulus l →
+    HasWorks P l → is_alone c ≡ true → HaveGoodPlaces c P (merged_of c l)
 plain_good c P l shares good all plain = subst (HaveGoodPlaces c P) (sym (plain_passes c l plain)) (tree_good c P l shares good all)

@@ -1,5 +1,6 @@
 -- The item of its copy that stands at a natural place.
-use Rattle.std.proofs.Common.{◌≡◌, ℕ, ◌+◌, ◌*◌, ◌<◌, ◌≤◌, arith, refl, sym, ap, ◌∙◌, [], ◌∷◌, subst, le-mul_of_pos_right}
+use Rattle.std.proofs.Common.{◌≡◌, ℕ, ◌+◌, ◌*◌, ◌<◌, ◌≤◌, arith, refl, sym, ap, ◌∙◌, [], ◌∷◌, subst}
+use Rattle.std.proofs.Common.{le-mul_of_pos_right}
 use Rattle.perm_algebra.specs.Affine.{Sum, constant, variable, scaled, joined, Divided, simplified}
 use Rattle.perm_algebra.specs.Room.{CanScale, CanJoin, HasRoomFor}
 use Rattle.perm_algebra.proofs.AffineLaws.{top-scaled}
@@ -14,7 +15,8 @@ use Rattle.operators.specs.TensorPaths.Path.{Path, size_under}
 use Rattle.sigma_lower.proofs.TreeTerms.Closed.{le-mul_left}
 
 -- an item's place in its copy, at a natural place
-pub inner-place : (path : Path) (n d : ℕ) (e : Sum) (cs : ℕ → ℕ) → AreCounts path n d cs → Fits n e cs → simplified cs (inner_of path n) (place_sum path n d e) ≡ e
+pub inner-place : (path : Path) (n d : ℕ) (e : Sum) (cs : ℕ → ℕ) → AreCounts path n d cs → Fits n e cs →
+    simplified cs (inner_of path n) (place_sum path n d e) ≡ e
 inner-place [] n d e cs h fits = refl
 inner-place (Blocks c ∷ path) n d e cs h fits =
     let inside = place_sum-fits path n (d + 1) e cs h.2 fits in
@@ -31,7 +33,8 @@ inner-place (Columns c ∷ path) n d e cs h fits =
     ∙ inner-place path n (d + 1) e cs h.2 fits
 
 -- and every number on the way to it fits 64 bits
-pub room-inner : (path : Path) (n d : ℕ) (e : Sum) (cs : ℕ → ℕ) → AreCounts path n d cs → Fits n e cs → n ≤ 1048576 → size_under path n ≤ 1048576 → HasRoomFor cs (inner_of path n) (place_sum path n d e)
+pub room-inner : (path : Path) (n d : ℕ) (e : Sum) (cs : ℕ → ℕ) → AreCounts path n d cs → Fits n e cs → n ≤ 1048576 →
+    size_under path n ≤ 1048576 → HasRoomFor cs (inner_of path n) (place_sum path n d e)
 room-inner [] n d e cs h fits low high = tt
 room-inner (Blocks c ∷ path) n d e cs h fits low high =
     let size = size_under path n in

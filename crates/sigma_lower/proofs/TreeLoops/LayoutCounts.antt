@@ -1,10 +1,13 @@
 -- The passes of the layout of a request's tree count as those of the tree in the cost model.
-use Rattle.std.proofs.Common.{◌≡◌, ◌≢◌, ℕ, ◌+◌, ◌*◌, ◌%◌, ◌==◌, Bool, true, false, arith, refl, sym, ap, ap₂, ◌∙◌, List, [], ◌∷◌, ◌++◌, if◌then◌else◌, subst}
+use Rattle.std.proofs.Common.{◌≡◌, ◌≢◌, ℕ, ◌+◌, ◌*◌, ◌%◌, ◌==◌, Bool, true, false, arith, refl, sym, ap, ap₂, ◌∙◌, List}
+use Rattle.std.proofs.Common.{[], ◌∷◌, ◌++◌, if◌then◌else◌, subst}
 use Rattle.std.specs.Prelude.{map, nat_le}
 use Rattle.std.proofs.lemmas.Bool.Decides.{nat_tests}
 use Rattle.std.proofs.Math.Nat.{mod_self, one-mul}
-use Rattle.sigma_lower.specs.TreeLoops.Laws.{Counted, works, tiles, passes_of, tiled_passes, whole_passes, CountsAs, AllCount, IsForwardTree}
-use Rattle.sigma_lower.proofs.TreeLoops.FlatCounts.{ArePasses, IsFlatTree, IsPass, flat_node_passes, flat_root_passes, kernel-matches, not-kernel}
+use Rattle.sigma_lower.specs.TreeLoops.Laws.{Counted, works, tiles, passes_of, tiled_passes, whole_passes, CountsAs}
+use Rattle.sigma_lower.specs.TreeLoops.Laws.{AllCount, IsForwardTree}
+use Rattle.sigma_lower.proofs.TreeLoops.FlatCounts.{ArePasses, IsFlatTree, IsPass, flat_node_passes, flat_root_passes}
+use Rattle.sigma_lower.proofs.TreeLoops.FlatCounts.{kernel-matches, not-kernel}
 use Rattle.matrix_meaning.specs.Parts.{first_of, forward_by, rest_of}
 use Rattle.matrix_meaning.specs.declared.Dimensions.TheVariants.{One}
 use Rattle.matrix_meaning.specs.declared.Kind.{Kind}
@@ -23,7 +26,8 @@ use Rattle.tree_model.specs.Breakdown.{Breakdown, leaf, node, size_of, AllowsLea
 use Rattle.tree_model.specs.Cost.{is_kernel, is_plain, node_root}
 use Rattle.tree_model.specs.Passes as trees
 use Rattle.tree_model.specs.Whole.{cost_in}
-use Rattle.tree_model.specs.WholePasses.{RequestPass, pass_of, closed_by, flat_passes, node_passes, passes_in, shared_passes, request_passes}
+use Rattle.tree_model.specs.WholePasses.{RequestPass, pass_of, closed_by, flat_passes, node_passes, passes_in}
+use Rattle.tree_model.specs.WholePasses.{shared_passes, request_passes}
 use Rattle.tree_model.specs.declared.tree.Rule.{Rule}
 use Rattle.tree_model.specs.declared.tree.Rule.TheVariants.{Gt, Ct, Split, Dim}
 
@@ -286,7 +290,8 @@ module _ (p : Request) (a b : Breakdown) (h : IsForwardTree p (node Dim a b)) wh
       on-first on-rest (node_root p d) (nat_le p.lanes 1))
 
 -- the passes of a tree's layout count as those of the tree
-pub layouts_count : (p : Request) (t : Breakdown) → IsForwardTree p t → AllCount p (whole_passes p.lanes (layout_of p t)) (request_passes p t)
+pub layouts_count : (p : Request) (t : Breakdown) → IsForwardTree p t →
+    AllCount p (whole_passes p.lanes (layout_of p t)) (request_passes p t)
 layouts_count p (leaf d) h = flat-counts p (leaf d) h h.tree.0 (no-inverse-leaf p.kind d h.tree.1)
 layouts_count p (node Gt a b) h =
     flat-counts p (node Gt a b) h h.tree.2.0 (no-inverse-rule p.kind Gt (size_of a) (size_of b) h.tree.2.1)

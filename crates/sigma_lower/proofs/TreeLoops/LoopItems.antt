@@ -1,5 +1,6 @@
 -- The items of a layout's loops: what their variables run below, and the sums that name an item.
-use Rattle.std.proofs.Common.{◌≡◌, ℕ, zero, suc, ◌+◌, ◌*◌, ◌<◌, ◌≤◌, arith, refl, sym, ap, ◌∙◌, List, [], ◌∷◌, ◌++◌, length, Some}
+use Rattle.std.proofs.Common.{◌≡◌, ℕ, zero, suc, ◌+◌, ◌*◌, ◌<◌, ◌≤◌, arith, refl, sym, ap, ◌∙◌, List, [], ◌∷◌, ◌++◌}
+use Rattle.std.proofs.Common.{length, Some}
 use Rattle.std.specs.Prelude.{map, slice_index}
 use Rattle.std.specs.List.{range_with_len}
 use Rattle.sigma_lower.specs.TreeLoops.Merge.{PlainDiagonal, PlainPass}
@@ -23,14 +24,16 @@ use Rattle.sigma_spl.proofs.Limited.{at-row, at-column}
 -- ---- diagonals
 
 -- a diagonal has a number of words of the whole
-pub diagonal-size : (P : PlainWork → Type 0) (size : ℕ) (p : PlainPass) → 1 ≤ size → IsShaped P size p → (d : PlainDiagonal) → p.diagonal ≡ Some d → (0 < d.rows * d.cols) × (d.rows * d.cols ≤ size)
+pub diagonal-size : (P : PlainWork → Type 0) (size : ℕ) (p : PlainPass) → 1 ≤ size → IsShaped P size p →
+    (d : PlainDiagonal) → p.diagonal ≡ Some d → (0 < d.rows * d.cols) × (d.rows * d.cols ≤ size)
 diagonal-size P size p low shape d is =
     let whole : copies_of d.path * (d.rows * d.cols) ≡ size = sym (size_under-copies d.path (d.rows * d.cols)) ∙ shape.multiplies d is in
     (right_positive (copies_of d.path) (d.rows * d.cols) (omega (arith, whole, low)), part-le (copies_of d.path) (d.rows * d.cols) size whole low)
 
 -- ---- the counts of all variables
 
-pub counts-from : (path : Path) (n d : ℕ) (cs : ℕ → ℕ) (back : List ℕ) → AreSeveral path → 0 < n → ((i : ℕ) → cs (d + i) ≡ slice_index (map count_of path ++ back) i) → AreCounts path n d cs
+pub counts-from : (path : Path) (n d : ℕ) (cs : ℕ → ℕ) (back : List ℕ) → AreSeveral path → 0 < n →
+    ((i : ℕ) → cs (d + i) ≡ slice_index (map count_of path ++ back) i) → AreCounts path n d cs
 counts-from [] n d cs back wide positive is = positive
 counts-from (Blocks c ∷ path) n d cs back wide positive is = (
   ap cs (omega arith) ∙ is 0,
@@ -60,14 +63,17 @@ name-constant (horner root size) k = tt
 name-constant (tile v) k = (k, refl)
 name-constant (copy size) k = tt
 
-constants-name : (w : PlainWork) (cs : ℕ → ℕ) (n : ℕ) (g : ℕ → ℕ) (a len : ℕ) → ((i : ℕ) → i < a + len → g i < n) → AllName w cs n (map (λ i. constant (g i)) (range_with_len a len))
+constants-name : (w : PlainWork) (cs : ℕ → ℕ) (n : ℕ) (g : ℕ → ℕ) (a len : ℕ) → ((i : ℕ) → i < a + len → g i < n) →
+    AllName w cs n (map (λ i. constant (g i)) (range_with_len a len))
 constants-name w cs n g a zero h = tt
 constants-name w cs n g a (suc len) h = ((number-fits n (g a) cs (h a (omega arith)), name-constant w (g a)), constants-name w cs n g (a + 1) len (λ i low. h i (omega (arith, low))))
 
 -- the items of the loads, and those of the stores
 pub record HaveNames (path : Path) (w : PlainWork) : Type 0 where
-  pub loads : AllName w (slice_index (map count_of path ++ work_size w ∷ work_size w ∷ [])) (work_size w) (items_in w (length path))
-  pub stores : AllName w (slice_index (map count_of path ++ work_size w ∷ work_size w ∷ [])) (work_size w) (items_out w (length path))
+  pub loads : AllName w (slice_index (map count_of path ++ work_size w ∷ work_size w ∷ [])) (work_size w)
+      (items_in w (length path))
+  pub stores : AllName w (slice_index (map count_of path ++ work_size w ∷ work_size w ∷ [])) (work_size w)
+      (items_out w (length path))
 
 kernel-names : (path : Path) (k : PlainKernel) → HaveNames path (kernel k)
 kernel-names path k =

@@ -1,5 +1,6 @@
 -- What holds of the places of a shared layout's passes.
-use Rattle.std.proofs.Common.{◌≡◌, ℕ, ◌*◌, ◌/◌, ◌<◌, ◌≤◌, Bool, true, false, arith, refl, sym, ap, ◌∙◌, List, [], ◌∷◌, ◌++◌, if◌then◌else◌, subst, mul_comm, append-nil}
+use Rattle.std.proofs.Common.{◌≡◌, ℕ, ◌*◌, ◌/◌, ◌<◌, ◌≤◌, Bool, true, false, arith, refl, sym, ap, ◌∙◌, List, [], ◌∷◌}
+use Rattle.std.proofs.Common.{◌++◌, if◌then◌else◌, subst, mul_comm, append-nil}
 use Rattle.std.specs.Prelude.{◌==◌, map, Option, None, Some}
 use Rattle.index_fn.specs.Mapping.{Mapping, Same, Strided}
 use Rattle.operators.specs.declared.target.Target.{Target}
@@ -8,23 +9,32 @@ use Rattle.sigma_lower.specs.TreeLoops.Placed.{AllLimited, diagonal_places}
 use Rattle.sigma_spl.specs.Good.{IsFormed}
 use Rattle.sigma_spl.specs.Loops.{AreFormed}
 use Rattle.sigma_spl.proofs.Several.{several-append}
-use Rattle.sigma_lower.proofs.TreeLoops.Closed.{AreClosed, IsClosed, IsClosedPass, AreClosedPasses, strided-closed, closed-inner, closed-append, closed_passes}
+use Rattle.sigma_lower.proofs.TreeLoops.Closed.{AreClosed, IsClosed, IsClosedPass, AreClosedPasses, strided-closed}
+use Rattle.sigma_lower.proofs.TreeLoops.Closed.{closed-inner, closed-append, closed_passes}
 use Rattle.sigma_lower.proofs.TreeLoops.Closed as closed
 use Rattle.sigma_lower.proofs.TreeLoops.GoodPlaces.{HaveGoodPlaces}
 use Rattle.sigma_lower.proofs.TreeLoops.LeftPlaces.{size_under-append, mapped-some, left_fills, left_wide, left_limited}
 use Rattle.sigma_lower.proofs.TreeLoops.PartRules.{IsSize}
-use Rattle.sigma_lower.proofs.TreeLoops.PlaceLimits.{Gathering, gathering-natural, ArePlaced, none_is_some, multiplied-is, placed-multiplied, all_limited, whole_placed}
-use Rattle.sigma_lower.proofs.TreeLoops.PlaceValues.{IsFormedPass, AreFormedPasses, wrapped-formed, strided-formed, formed_passes}
+use Rattle.sigma_lower.proofs.TreeLoops.PlaceLimits.{Gathering, gathering-natural, ArePlaced, none_is_some}
+use Rattle.sigma_lower.proofs.TreeLoops.PlaceLimits.{multiplied-is, placed-multiplied, all_limited, whole_placed}
+use Rattle.sigma_lower.proofs.TreeLoops.PlaceValues.{IsFormedPass, AreFormedPasses, wrapped-formed, strided-formed}
+use Rattle.sigma_lower.proofs.TreeLoops.PlaceValues.{formed_passes}
 use Rattle.sigma_lower.proofs.TreeLoops.PlaceValues as values
 use Rattle.sigma_lower.proofs.TreeLoops.RightPlaces.{right_fills, right_wide, gathering-turned, right_placed}
-use Rattle.sigma_lower.proofs.TreeLoops.RootPasses.{turned_waiting, tile_before, tile_after, if_lanes, on_all, if_dealt, left_diagonal, left_pass, root_passes}
-use Rattle.sigma_lower.proofs.TreeLoops.RootShares.{AreShares, shares_of, rows_some, tiles_some, lines_small, dealt_small, vectors_small, tiles_small, rows_product, columns_product, tiles_product, whole_product, rows_size}
-use Rattle.sigma_lower.proofs.TreeLoops.Shaped.{IsShaped, AreShaped, HasWorks, shaped-append, shaped-last, multiplied-shaped, shaped_passes}
-use Rattle.sigma_lower.proofs.TreeLoops.TilePlaces.{tile_fills, tile_wide, KeepWithin, none_keep, grouped_keep, tile_with, tile_limited}
+use Rattle.sigma_lower.proofs.TreeLoops.RootPasses.{turned_waiting, tile_before, tile_after, if_lanes, on_all, if_dealt}
+use Rattle.sigma_lower.proofs.TreeLoops.RootPasses.{left_diagonal, left_pass, root_passes}
+use Rattle.sigma_lower.proofs.TreeLoops.RootShares.{AreShares, shares_of, rows_some, tiles_some, lines_small}
+use Rattle.sigma_lower.proofs.TreeLoops.RootShares.{dealt_small, vectors_small, tiles_small, rows_product}
+use Rattle.sigma_lower.proofs.TreeLoops.RootShares.{columns_product, tiles_product, whole_product, rows_size}
+use Rattle.sigma_lower.proofs.TreeLoops.Shaped.{IsShaped, AreShaped, HasWorks, shaped-append, shaped-last}
+use Rattle.sigma_lower.proofs.TreeLoops.Shaped.{multiplied-shaped, shaped_passes}
+use Rattle.sigma_lower.proofs.TreeLoops.TilePlaces.{tile_fills, tile_wide, KeepWithin, none_keep, grouped_keep}
+use Rattle.sigma_lower.proofs.TreeLoops.TilePlaces.{tile_with, tile_limited}
 use Rattle.sigma_lower.proofs.TreeLoops.TreePasses.{layout_passes, at_last-append}
 use Rattle.sigma_lower.proofs.TreeLoops.WithinPlaces.{size-all}
 use Rattle.sigma_lower.proofs.TreeTerms.Lowering.{part-le}
-use Rattle.sigma_lower.specs.TreeTerms.Root.{right_path, left_path, whole_path, lines_moved, vectors_turned, vectors_grouped, lines_dealt}
+use Rattle.sigma_lower.specs.TreeTerms.Root.{right_path, left_path, whole_path, lines_moved, vectors_turned}
+use Rattle.sigma_lower.specs.TreeTerms.Root.{vectors_grouped, lines_dealt}
 use Rattle.sigma_spl.specs.Work.{PlainWork, tile, work_size}
 use Rattle.smp_rewrite.specs.LayoutSteps.Layout.{Layout, work, by, layout_size, IsGoodLayout}
 use Rattle.sigma_lower.specs.TreeTerms.Wrapped.{wrapped, inner_of}
@@ -46,7 +56,8 @@ limited-append c (p ∷ ps) qs h k = (h.0, limited-append c ps qs h.1 k)
 good-none : (c : Target) (P : PlainWork → Type 0) → HaveGoodPlaces c P []
 good-none c P = record { limited = tt; formed = tt; closed = tt; shaped = tt }
 
-good-append : (c : Target) (P : PlainWork → Type 0) (ps qs : List PlainPass) → HaveGoodPlaces c P ps → HaveGoodPlaces c P qs → HaveGoodPlaces c P (ps ++ qs)
+good-append : (c : Target) (P : PlainWork → Type 0) (ps qs : List PlainPass) → HaveGoodPlaces c P ps →
+    HaveGoodPlaces c P qs → HaveGoodPlaces c P (ps ++ qs)
 good-append c P ps qs h k =
     record {
       limited = limited-append c ps qs h.limited k.limited;
@@ -55,7 +66,8 @@ good-append c P ps qs h k =
       shaped = shaped-append P c.size ps qs h.shaped k.shaped;
     }
 
-good-if : (c : Target) (P : PlainWork → Type 0) (b : Bool) (p : PlainPass) → HaveGoodPlaces c P (p ∷ []) → HaveGoodPlaces c P (if b then [] else p ∷ [])
+good-if : (c : Target) (P : PlainWork → Type 0) (b : Bool) (p : PlainPass) → HaveGoodPlaces c P (p ∷ []) →
+    HaveGoodPlaces c P (if b then [] else p ∷ [])
 good-if c P true p h = good-none c P
 good-if c P false p h = h
 
@@ -65,7 +77,8 @@ pub record AreGoodFunctions (size : ℕ) (fs : List Mapping) : Type 0 where
   pub formed : AreFormed fs
   pub closed : AreClosed size fs
 
-functions-append : (size : ℕ) (fs gs : List Mapping) → AreGoodFunctions size fs → AreGoodFunctions size gs → AreGoodFunctions size (fs ++ gs)
+functions-append : (size : ℕ) (fs gs : List Mapping) → AreGoodFunctions size fs → AreGoodFunctions size gs →
+    AreGoodFunctions size (fs ++ gs)
 functions-append size [] gs h k = k
 functions-append size (f ∷ fs) gs h k =
     let more = functions-append size fs gs (record { formed = h.formed.1; closed = h.closed.1 }) k in record { formed = (h.formed.0, more.formed); closed = (h.closed.0, more.closed) }
@@ -73,12 +86,14 @@ functions-append size (f ∷ fs) gs h k =
 functions-none : (size : ℕ) → AreGoodFunctions size []
 functions-none size = record { formed = tt; closed = tt }
 
-functions-if : (size : ℕ) (b : Bool) (fs : List Mapping) → AreGoodFunctions size fs → AreGoodFunctions size (if b then [] else fs)
+functions-if : (size : ℕ) (b : Bool) (fs : List Mapping) → AreGoodFunctions size fs →
+    AreGoodFunctions size (if b then [] else fs)
 functions-if size true fs h = functions-none size
 functions-if size false fs h = h
 
 -- a stride permutation under tensors
-strided-good : (size : ℕ) (ts : Path) (n a b : ℕ) → IsSize size → n ≡ a * b → size_under ts n ≡ size → 0 < a → 0 < b → a * b ≤ 1048576 → AreGoodFunctions size (wrapped (within_all ts []) n (Strided a b) ∷ [])
+strided-good : (size : ℕ) (ts : Path) (n a b : ℕ) → IsSize size → n ≡ a * b → size_under ts n ≡ size → 0 < a → 0 < b →
+    a * b ≤ 1048576 → AreGoodFunctions size (wrapped (within_all ts []) n (Strided a b) ∷ [])
 strided-good size ts n a b whole is fills left right small =
     let path : Path = within_all ts [] in
     let under : size_under path n ≡ size = size-all ts n ∙ fills in
@@ -127,11 +142,15 @@ module _ (c : Target) (P : PlainWork → Type 0) (p v r s : ℕ) (h : AreShares 
 
   -- ---- the right part
 
-  right_tree : (b : Layout) (waiting : List Mapping) → IsGoodLayout c.modulus b → layout_size b ≡ s → Gathering size (right_path p v r) waiting s → AreGoodFunctions size waiting → ArePlaced size [] size (layout_passes (right_path p v r) waiting b)
+  right_tree : (b : Layout) (waiting : List Mapping) → IsGoodLayout c.modulus b → layout_size b ≡ s →
+      Gathering size (right_path p v r) waiting s → AreGoodFunctions size waiting →
+      ArePlaced size [] size (layout_passes (right_path p v r) waiting b)
   right_tree b waiting formed is g fs =
       right_placed c.modulus size (right_path p v r) waiting b h.whole formed (ap (size_under (right_path p v r)) is ∙ right_fills size p v r s h) (subst (Gathering size (right_path p v r) waiting) (sym is) g)
 
-  right_good : (b : Layout) (waiting : List Mapping) → IsGoodLayout c.modulus b → HasWorks P b → layout_size b ≡ s → Gathering size (right_path p v r) waiting s → AreGoodFunctions size waiting → HaveGoodPlaces c P (layout_passes (right_path p v r) waiting b)
+  right_good : (b : Layout) (waiting : List Mapping) → IsGoodLayout c.modulus b → HasWorks P b → layout_size b ≡ s →
+      Gathering size (right_path p v r) waiting s → AreGoodFunctions size waiting →
+      HaveGoodPlaces c P (layout_passes (right_path p v r) waiting b)
   right_good b waiting formed all is g fs =
       let path : Path = right_path p v r in
       let fills : size_under path (layout_size b) ≡ size = ap (size_under path) is ∙ right_fills size p v r s h in
@@ -143,7 +162,9 @@ module _ (c : Target) (P : PlainWork → Type 0) (p v r s : ℕ) (h : AreShares 
       }
 
   -- a pass over tiles
-  tile_good : P (tile v) → (befores afters : List Mapping) (diagonal : Option PlainDiagonal) → KeepWithin size p v r s h befores → KeepWithin size p v r s h afters → AreGoodFunctions size befores → AreGoodFunctions size afters →
+  tile_good : P (tile v) → (befores afters : List Mapping) (diagonal : Option PlainDiagonal) →
+      KeepWithin size p v r s h befores → KeepWithin size p v r s h afters → AreGoodFunctions size befores →
+      AreGoodFunctions size afters →
       ((d : PlainDiagonal) → diagonal ≡ Some d → (w : ℕ) × ◌≡◌ {A = PlainDiagonal} (record { path = []; rows = r; cols = s; root = w; places = afters }) d) → HaveGoodPlaces c P (tile_with size p v r s h befores diagonal afters ∷ [])
   tile_good over befores afters diagonal before after fs gs root =
       record {
@@ -197,7 +218,8 @@ module _ (c : Target) (P : PlainWork → Type 0) (p v r s : ℕ) (h : AreShares 
       tile_good over [] fs (Some (record { path = []; rows = r; cols = s; root = w; places = fs })) (none_keep size p v r s h) (grouped_keep size p v r s h n is) (functions-none size) (grouped_good n is) (λ d e. (w, multiplied-is [] r s w fs d e))
 
   -- the right part with the root's diagonal after it, on one lane
-  multiplied_tree : (w : ℕ) (ps : List PlainPass) → ArePlaced size [] size ps → HaveGoodPlaces c P ps → HaveGoodPlaces c P (at_last (multiplied [] r s w) ps)
+  multiplied_tree : (w : ℕ) (ps : List PlainPass) → ArePlaced size [] size ps → HaveGoodPlaces c P ps →
+      HaveGoodPlaces c P (at_last (multiplied [] r s w) ps)
   multiplied_tree w ps placed_passes good =
       let low : r * s ≤ 1048576 = omega (arith, h.product, h.whole.high) in
       record {
@@ -208,12 +230,16 @@ module _ (c : Target) (P : PlainWork → Type 0) (p v r s : ℕ) (h : AreShares 
         shaped = shaped-last P size (multiplied [] r s w) ps (λ q k. multiplied-shaped P size [] r s w q h.product k) good.shaped;
       }
 
-  ct-pick : (w : ℕ) (b : Bool) (ps : List PlainPass) (last : PlainPass) → HaveGoodPlaces c P (at_last (multiplied [] r s w) ps) → HaveGoodPlaces c P ps → HaveGoodPlaces c P (multiplied [] r s w last ∷ []) →
+  ct-pick : (w : ℕ) (b : Bool) (ps : List PlainPass) (last : PlainPass) →
+      HaveGoodPlaces c P (at_last (multiplied [] r s w) ps) → HaveGoodPlaces c P ps →
+      HaveGoodPlaces c P (multiplied [] r s w last ∷ []) →
       HaveGoodPlaces c P (at_last (multiplied [] r s w) (ps ++ (if b then [] else last ∷ [])))
   ct-pick w true ps last merged_last all one = subst (λ qs. HaveGoodPlaces c P (at_last (multiplied [] r s w) qs)) (sym (append-nil ps)) merged_last
   ct-pick w false ps last merged_last all one = subst (HaveGoodPlaces c P) (sym (at_last-append (multiplied [] r s w) ps (last ∷ []) tt)) (good-append c P ps (multiplied [] r s w last ∷ []) all one)
 
-  pub ct_good : (w : ℕ) (b : Layout) → P (tile v) → IsGoodLayout c.modulus b → HasWorks P b → layout_size b ≡ s → HaveGoodPlaces c P (at_last (multiplied [] r s w) (layout_passes (right_path p v r) (turned_waiting p v r s) b ++ if_lanes v (tile_after p v r s)))
+  pub ct_good : (w : ℕ) (b : Layout) → P (tile v) → IsGoodLayout c.modulus b → HasWorks P b → layout_size b ≡ s →
+      HaveGoodPlaces c P (at_last (multiplied [] r s w) (layout_passes (right_path p v r) (turned_waiting p v r s) b
+      ++ if_lanes v (tile_after p v r s)))
   ct_good w b over formed all is =
       let ps : List PlainPass = layout_passes (right_path p v r) (turned_waiting p v r s) b in
       let g : Gathering size (right_path p v r) (turned_waiting p v r s) s = gathering-turned size p v r s h in
@@ -221,7 +247,8 @@ module _ (c : Target) (P : PlainWork → Type 0) (p v r s : ℕ) (h : AreShares 
       ct-pick w (v == 1) ps (tile_after p v r s) (multiplied_tree w ps (right_tree b (turned_waiting p v r s) formed is g turned_good) good) good (twiddled_good over w)
 
   pub split_good : (b : Layout) → P (tile v) → IsGoodLayout c.modulus b → HasWorks P b → layout_size b ≡ s →
-      HaveGoodPlaces c P (if_lanes v (tile_before p v r s) ++ (layout_passes (right_path p v r) [] b ++ if_lanes v (tile_after p v r s)))
+      HaveGoodPlaces c P (if_lanes v (tile_before p v r s) ++ (layout_passes (right_path p v r) [] b
+      ++ if_lanes v (tile_after p v r s)))
   split_good b over formed all is =
       let ps : List PlainPass = layout_passes (right_path p v r) [] b in
       let g : Gathering size (right_path p v r) [] s = gathering-natural size (right_path p v r) s (right_fills size p v r s h) in
@@ -242,11 +269,13 @@ module _ (c : Target) (P : PlainWork → Type 0) (p v r s : ℕ) (h : AreShares 
         closed = (closed-wrapped size (whole_path v s) r f h.whole.high whole_fills within.0, more.closed);
       }
 
-  left_functions : (n : ℕ) (fs : List Mapping) → n ≡ p * r → AreFormed fs → AreClosed r fs → AreGoodFunctions size (if_dealt n p v r s ++ map (on_all v r s) fs)
+  left_functions : (n : ℕ) (fs : List Mapping) → n ≡ p * r → AreFormed fs → AreClosed r fs →
+      AreGoodFunctions size (if_dealt n p v r s ++ map (on_all v r s) fs)
   left_functions n fs is formed within = functions-append size (if_dealt n p v r s) (map (on_all v r s) fs) (dealt_good n is) (mapped_good fs formed within)
 
   -- the diagonal of a pass of the part, in all copies
-  left_fills-diagonal : (d : PlainDiagonal) → size_under d.path (d.rows * d.cols) ≡ r → size_under (Columns s ∷ d.path) (d.rows * d.cols) ≡ size
+  left_fills-diagonal : (d : PlainDiagonal) → size_under d.path (d.rows * d.cols) ≡ r →
+      size_under (Columns s ∷ d.path) (d.rows * d.cols) ≡ size
   left_fills-diagonal d fills = ap (λ k. k * s) fills ∙ h.product
 
   left_formed : (q : PlainPass) → IsFormedPass q → IsClosedPass r q → IsFormedPass (left_pass p v r s q)
@@ -263,7 +292,8 @@ module _ (c : Target) (P : PlainWork → Type 0) (p v r s : ℕ) (h : AreShares 
             (places.formed, record { formed = (omega arith, inner.1.formed, tt); no_list = (inner.1.no_list, tt) });
       }
 
-  left_closed : (q : PlainPass) → IsFormedPass q → IsClosedPass r q → IsShaped P r q → IsClosedPass size (left_pass p v r s q)
+  left_closed : (q : PlainPass) → IsFormedPass q → IsClosedPass r q → IsShaped P r q →
+      IsClosedPass size (left_pass p v r s q)
   left_closed q formed within shape =
       record {
         befores = (left_functions (p * r) q.befores refl formed.befores within.befores).closed;
@@ -290,7 +320,8 @@ module _ (c : Target) (P : PlainWork → Type 0) (p v r s : ℕ) (h : AreShares 
             subst (λ (x : PlainDiagonal). size_under x.path (x.rows * x.cols) ≡ size) found.2 (left_fills-diagonal found.0 (shape.multiplies found.0 found.1));
       }
 
-  left_all : (qs : List PlainPass) → ArePlaced r [] r qs → AreFormedPasses qs → AreClosedPasses r qs → AreShaped P r qs → HaveGoodPlaces c P (map (left_pass p v r s) qs)
+  left_all : (qs : List PlainPass) → ArePlaced r [] r qs → AreFormedPasses qs → AreClosedPasses r qs →
+      AreShaped P r qs → HaveGoodPlaces c P (map (left_pass p v r s) qs)
   left_all [] at_part formed within shape = good-none c P
   left_all (q ∷ qs) at_part formed within shape =
       good-append c P (left_pass p v r s q ∷ []) (map (left_pass p v r s) qs)
@@ -302,7 +333,8 @@ module _ (c : Target) (P : PlainWork → Type 0) (p v r s : ℕ) (h : AreShares 
       })
       (left_all qs at_part.1 formed.1 within.1 shape.1)
 
-  pub left_good : (a : Layout) → IsGoodLayout c.modulus a → HasWorks P a → layout_size a ≡ r → HaveGoodPlaces c P (map (left_pass p v r s) (layout_passes [] [] a))
+  pub left_good : (a : Layout) → IsGoodLayout c.modulus a → HasWorks P a → layout_size a ≡ r →
+      HaveGoodPlaces c P (map (left_pass p v r s) (layout_passes [] [] a))
   left_good a formed all is =
       let whole : IsSize r = rows_size size p v r s h in
       let ps : List PlainPass = layout_passes [] [] a in
@@ -311,12 +343,15 @@ module _ (c : Target) (P : PlainWork → Type 0) (p v r s : ℕ) (h : AreShares 
 
 -- ---- the root
 
-phases_good : (c : Target) (P : PlainWork → Type 0) (b : Bool) (right left : List PlainPass) → HaveGoodPlaces c P right → HaveGoodPlaces c P left → HaveGoodPlaces c P (in_order (if b then (right ++ left) ∷ [] else right ∷ left ∷ []))
+phases_good : (c : Target) (P : PlainWork → Type 0) (b : Bool) (right left : List PlainPass) →
+    HaveGoodPlaces c P right → HaveGoodPlaces c P left → HaveGoodPlaces c P
+    (in_order (if b then (right ++ left) ∷ [] else right ∷ left ∷ []))
 phases_good c P true right left h k = good-append c P (right ++ left) [] (good-append c P right left h k) (good-none c P)
 phases_good c P false right left h k = good-append c P right (left ++ []) h (good-append c P left [] k (good-none c P))
 
 -- a shared root is a ct or a split of sizes that fit
-pub root_good : (c : Target) (P : PlainWork → Type 0) (l : Layout) → CanShareLayout c l → IsGoodLayout c.modulus l → HasWorks P l → P (tile c.lanes) → is_alone c ≡ false →
+pub root_good : (c : Target) (P : PlainWork → Type 0) (l : Layout) → CanShareLayout c l → IsGoodLayout c.modulus l →
+    HasWorks P l → P (tile c.lanes) → is_alone c ≡ false →
     HaveGoodPlaces c P (in_order (root_passes c l))
 root_good c P (work w) h good all over shared = absurd (h.root shared)
 root_good c P (by Gt root a b) h good all over shared = absurd (h.root shared)

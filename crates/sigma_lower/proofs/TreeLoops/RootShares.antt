@@ -22,7 +22,8 @@ pub record AreShares (size p v r s : ℕ) : Type 0 where
 
 -- ---- from a layout that can be shared
 
-pub shares_of : (c : Target) (l : Layout) (r s : ℕ) → CanShareLayout c l → HasParts c r s → 2 ≤ r → 2 ≤ s → r * s ≡ c.size → AreShares c.size c.procs c.lanes r s
+pub shares_of : (c : Target) (l : Layout) (r s : ℕ) → CanShareLayout c l → HasParts c r s → 2 ≤ r → 2 ≤ s →
+    r * s ≡ c.size → AreShares c.size c.procs c.lanes r s
 shares_of c l r s h parts two_r two_s product =
     let dealt = dealt_parts c l r s h parts in
     record {

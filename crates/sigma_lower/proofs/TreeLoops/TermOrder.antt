@@ -46,10 +46,12 @@ lowered-append : (ss ts : List PlainStep) → map lowered (ss ++ ts) ≡ map low
 lowered-append [] ts = refl
 lowered-append (s ∷ ss) ts = rw (lowered-append ss ts) refl
 
-leads-steps : (e f g : Ending) (ss ts : List PlainStep) → Leads e (map lowered ss) f → Leads f (map lowered ts) g → Leads e (map lowered (ss ++ ts)) g
+leads-steps : (e f g : Ending) (ss ts : List PlainStep) → Leads e (map lowered ss) f → Leads f (map lowered ts) g →
+    Leads e (map lowered (ss ++ ts)) g
 leads-steps e f g ss ts h k = subst (λ us. Leads e us g) (sym (lowered-append ss ts)) (leads-append e f g (map lowered ss) (map lowered ts) h k)
 
-rule_in_order : (rule : Rule) (path : Path) (r s w : ℕ) (left right : List PlainStep) → AreInOrder (map lowered left) → AreInOrder (map lowered right) → AreInOrder (map lowered (rule_steps rule path r s w left right))
+rule_in_order : (rule : Rule) (path : Path) (r s w : ℕ) (left right : List PlainStep) → AreInOrder (map lowered left) →
+    AreInOrder (map lowered right) → AreInOrder (map lowered (rule_steps rule path r s w left right))
 rule_in_order Gt path r s w left right h k e =
     (tt, leads-steps waits fresh fresh right (left ++ step path (thomas_out r s) ∷ []) (k waits) (leads-steps fresh fresh fresh left (step path (thomas_out r s) ∷ []) (h fresh) (refl, refl)))
 rule_in_order Ct path r s w left right h k e = (tt, leads-steps waits fresh fresh right (step path (twiddles r s w) ∷ left) (k waits) (refl, h settled))

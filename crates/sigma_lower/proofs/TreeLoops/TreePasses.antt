@@ -2,13 +2,16 @@
 use Rattle.std.proofs.Common.{◌≡◌, ℕ, ◌*◌, Bool, true, false, List, [], ◌∷◌, ◌++◌, refl, ap, ap₂, ◌∙◌, append_assoc}
 use Rattle.std.specs.Prelude.{map}
 use Rattle.index_fn.specs.Mapping.{Mapping, Strided, ThomasIn, ThomasBack}
-use Rattle.sigma_lower.specs.TreeLoops.Merge.{PlainPass, Merging, new_pass, scattered, multiplied, at_last, merge_term, merged, passes_of_terms}
-use Rattle.sigma_lower.specs.TreeLoops.Laws.{has_diagonal, counted_as, counted, with_twiddles, twiddle_last, twiddle_by, passes_of}
+use Rattle.sigma_lower.specs.TreeLoops.Merge.{PlainPass, Merging, new_pass, scattered, multiplied, at_last, merge_term}
+use Rattle.sigma_lower.specs.TreeLoops.Merge.{merged, passes_of_terms}
+use Rattle.sigma_lower.specs.TreeLoops.Laws.{has_diagonal, counted_as, counted, with_twiddles, twiddle_last, twiddle_by}
+use Rattle.sigma_lower.specs.TreeLoops.Laws.{passes_of}
 use Rattle.sigma_lower.specs.TreeTerms.Term.{lowered}
 use Rattle.sigma_spl.specs.Work.{PlainWork, kernel, rows, horner, tile, copy}
 use Rattle.smp_rewrite.specs.LayoutSteps.Layout.{Layout, work, by, layout_size, IsGoodLayout, IsGoodWork}
 use Rattle.sigma_lower.specs.TreeTerms.Wrapped.{wrapped, unit_of}
-use Rattle.smp_rewrite.specs.LayoutSteps.Step.{PlainStep, step, turns, twiddles, thomas_in, thomas_out, rule_steps, steps_of}
+use Rattle.smp_rewrite.specs.LayoutSteps.Step.{PlainStep, step, turns, twiddles, thomas_in, thomas_out, rule_steps}
+use Rattle.smp_rewrite.specs.LayoutSteps.Step.{steps_of}
 use Rattle.operators.specs.declared.tensor_paths.Tensor.TheVariants.{Blocks, Columns}
 use Rattle.operators.specs.TensorPaths.Path.{Path, copies_of}
 use Rattle.operators.proofs.TensorPaths.Under.{copies_of-push}
@@ -50,13 +53,15 @@ full-at_last f [] h = h
 full-at_last f (p ∷ []) h = tt
 full-at_last f (p ∷ q ∷ ps) h = tt
 
-pub at_last-append : (f : PlainPass → PlainPass) (ps qs : List PlainPass) → IsFull qs → at_last f (ps ++ qs) ≡ ps ++ at_last f qs
+pub at_last-append : (f : PlainPass → PlainPass) (ps qs : List PlainPass) → IsFull qs →
+    at_last f (ps ++ qs) ≡ ps ++ at_last f qs
 at_last-append f [] qs h = refl
 at_last-append f (p ∷ []) [] h = absurd h
 at_last-append f (p ∷ []) (q ∷ qs) h = refl
 at_last-append f (p ∷ r ∷ ps) qs h = ap (λ rest. p ∷ rest) (at_last-append f (r ∷ ps) qs h)
 
-full_rule : (rule : Rule) (path : Path) (r s w : ℕ) (left right : List PlainPass) → IsFull left → IsFull (rule_passes rule path r s w left right)
+full_rule : (rule : Rule) (path : Path) (r s w : ℕ) (left right : List PlainPass) → IsFull left →
+    IsFull (rule_passes rule path r s w left right)
 full_rule Gt path r s w left right h = full-append right _ (full-at_last _ left h)
 full_rule Ct path r s w left right h = full-append (at_last (multiplied path r s w) right) left h
 full_rule Split path r s w left right h = full-append right left h
@@ -70,7 +75,8 @@ full_passes path waiting (by rule root a b) =
 
 -- ---- merging makes them
 
-merged-append : (st : Merging) (ss ts : List PlainStep) → merged st (map lowered (ss ++ ts)) ≡ merged (merged st (map lowered ss)) (map lowered ts)
+merged-append : (st : Merging) (ss ts : List PlainStep) → merged st (map lowered (ss ++ ts))
+    ≡ merged (merged st (map lowered ss)) (map lowered ts)
 merged-append st [] ts = refl
 merged-append st (s ∷ ss) ts = merged-append (merge_term st (lowered s)) ss ts
 
@@ -81,9 +87,12 @@ done ps = record { waiting = []; passes = ps }
 abbrev Makes : List PlainStep → (List Mapping → List PlainPass) → Type 0
 Makes ss make = (st : Merging) → merged st (map lowered ss) ≡ done (st.passes ++ make st.waiting)
 
-makes_rule : (rule : Rule) (path : Path) (r s w : ℕ) (left right : List PlainStep) (make_left make_right : List Mapping → List PlainPass) →
-    ((waiting : List Mapping) → IsFull (make_left waiting)) → ((waiting : List Mapping) → IsFull (make_right waiting)) → Makes left make_left → Makes right make_right →
-    Makes (rule_steps rule path r s w left right) (λ waiting. rule_passes rule path r s w (make_left []) (make_right (rule_waiting rule path r s waiting)))
+makes_rule : (rule : Rule) (path : Path) (r s w : ℕ) (left right : List PlainStep)
+    (make_left make_right : List Mapping → List PlainPass) →
+    ((waiting : List Mapping) → IsFull (make_left waiting)) → ((waiting : List Mapping) → IsFull (make_right waiting)) →
+    Makes left make_left → Makes right make_right →
+    Makes (rule_steps rule path r s w left right) (λ waiting. rule_passes rule path r s w (make_left [])
+    (make_right (rule_waiting rule path r s waiting)))
 makes_rule Gt path r s w left right make_left make_right full_left full_right on_left on_right st =
     let waiting = rule_waiting Gt path r s st.waiting in
     let last = step path (thomas_out r s) in
@@ -145,12 +154,14 @@ with-diagonal n (horner root size) b = refl
 with-diagonal n (tile v) b = refl
 with-diagonal n (copy size) b = refl
 
-pub counted-multiplied : (path : Path) (r s w : ℕ) (ps : List PlainPass) → map counted (at_last (multiplied path r s w) ps) ≡ twiddle_last (map counted ps)
+pub counted-multiplied : (path : Path) (r s w : ℕ) (ps : List PlainPass) →
+    map counted (at_last (multiplied path r s w) ps) ≡ twiddle_last (map counted ps)
 counted-multiplied path r s w [] = refl
 counted-multiplied path r s w (p ∷ []) = ap (λ q. q ∷ []) (with-diagonal (copies_of p.path) p.work (has_diagonal p.diagonal))
 counted-multiplied path r s w (p ∷ q ∷ ps) = ap (λ rest. counted p ∷ rest) (counted-multiplied path r s w (q ∷ ps))
 
-counted_rule : (rule : Rule) (path : Path) (r s w : ℕ) (left right : List PlainPass) → map counted (rule_passes rule path r s w left right) ≡ twiddle_by rule (map counted right) ++ map counted left
+counted_rule : (rule : Rule) (path : Path) (r s w : ℕ) (left right : List PlainPass) →
+    map counted (rule_passes rule path r s w left right) ≡ twiddle_by rule (map counted right) ++ map counted left
 counted_rule Gt path r s w left right = map-append right _ ∙ ap (λ rest. map counted right ++ rest) (counted-scattered _ left)
 counted_rule Ct path r s w left right = map-append (at_last (multiplied path r s w) right) left ∙ ap (λ rest. rest ++ map counted left) (counted-multiplied path r s w right)
 counted_rule Split path r s w left right = map-append right left
@@ -164,7 +175,8 @@ counted-work m n (horner root size) h = absurd h
 counted-work m n (tile v) h = absurd h
 counted-work m n (copy size) h = absurd h
 
-pub counted_passes : (m : ℕ) (path : Path) (waiting : List Mapping) (l : Layout) → IsGoodLayout m l → map counted (layout_passes path waiting l) ≡ passes_of (copies_of path) l
+pub counted_passes : (m : ℕ) (path : Path) (waiting : List Mapping) (l : Layout) → IsGoodLayout m l →
+    map counted (layout_passes path waiting l) ≡ passes_of (copies_of path) l
 counted_passes m path waiting (work w) h = counted-work m (copies_of path) w h.1
 counted_passes m path waiting (by rule root a b) h =
     let r = layout_size a in

@@ -1,5 +1,6 @@
 -- The phases of a whole: those of its layout, the last loop of which takes the closing diagonal.
-use Rattle.std.proofs.Common.{◌≡◌, ℕ, ◌*◌, ◌<◌, List, [], ◌∷◌, ◌++◌, length, refl, sym, ap, ap₂, ◌∙◌, arith, subst, Option, None, Some}
+use Rattle.std.proofs.Common.{◌≡◌, ℕ, ◌*◌, ◌<◌, List, [], ◌∷◌, ◌++◌, length, refl, sym, ap, ap₂, ◌∙◌, arith, subst}
+use Rattle.std.proofs.Common.{Option, None, Some}
 use Rattle.std.specs.Prelude.{All, map, reverse}
 use Rattle.std.specs.Option.{option_map}
 use Rattle.std.proofs.lemmas.List.{reverse-append, reverse-reverse}
@@ -10,7 +11,8 @@ use Rattle.operators.specs.TensorPaths.Path.{copies_of}
 use Rattle.operators.proofs.TensorPaths.Under.{size_under-copies}
 use Rattle.perm_algebra.specs.Affine.{Sum, simplified}
 use Rattle.sigma_spl.specs.Lists.{LastIs, on_last}
-use Rattle.sigma_spl.specs.Loops.{PlainLoop, limits_in, loops_in, scaled_last, AreLimitedLoops, HasLoop, IsLimitedLoop, IsOrdered}
+use Rattle.sigma_spl.specs.Loops.{PlainLoop, limits_in, loops_in, scaled_last, AreLimitedLoops, HasLoop, IsLimitedLoop}
+use Rattle.sigma_spl.specs.Loops.{IsOrdered}
 use Rattle.sigma_spl.specs.Merge.{all_simplified, items_out, most, place_sum}
 use Rattle.sigma_spl.specs.Nest.{repeated}
 use Rattle.sigma_spl.specs.Term as terms
@@ -33,7 +35,8 @@ use Rattle.sigma_lower.proofs.TreeLoops.LoopNests.{loops_listed}
 use Rattle.sigma_lower.proofs.TreeLoops.PlaceValues.{right_positive}
 use Rattle.sigma_lower.proofs.TreeLoops.Shaped.{AreShaped, IsShaped, IsShapedWork}
 use Rattle.sigma_lower.proofs.TreeLoops.TreePlaces.{tree_good_places}
-use Rattle.sigma_lower.proofs.TreeSigmas.ClosedLoops.{HasClosing, TakesClosing, can-scale, closed_loop, has-loop, limited-last, scaled-in-order}
+use Rattle.sigma_lower.proofs.TreeSigmas.ClosedLoops.{HasClosing, TakesClosing, can-scale, closed_loop, has-loop}
+use Rattle.sigma_lower.proofs.TreeSigmas.ClosedLoops.{limited-last, scaled-in-order}
 use Rattle.sigma_lower.proofs.TreeSigmas.ClosedPlaces.{AllAlone, closing_path}
 use Rattle.sigma_lower.proofs.TreeSigmas.Endings.{IsEnding, layout_ends}
 use Rattle.sigma_lower.proofs.TreeSigmas.Lasts.{HasItem}
@@ -132,7 +135,8 @@ module _ (h : Target) where
 
   module _ (v : ℕ) where
     closed-loops : (phases : List (List PlainTerm)) →
-        loops_in_order (close_last size v (map phase_term phases)) ≡ on_last (on_last (closed_loop size v)) (loops_by phases)
+        loops_in_order (close_last size v (map phase_term phases)) ≡ on_last (on_last (closed_loop size v))
+        (loops_by phases)
     closed-loops [] = refl
     closed-loops (ts ∷ []) =
         ap (λ ps. ps ∷ [])

@@ -1,10 +1,12 @@
 -- A layout has at least one pass, and few.
-use Rattle.std.proofs.Common.{◌≡◌, ℕ, ◌+◌, ◌*◌, ◌^◌, ◌≤◌, Bool, true, false, List, [], ◌∷◌, ◌++◌, length, map, suc, refl, sym, ap, ap₂, ◌∙◌, inl, inr, arith, subst, if◌then◌else◌, nat_le, length-append}
+use Rattle.std.proofs.Common.{◌≡◌, ℕ, ◌+◌, ◌*◌, ◌^◌, ◌≤◌, Bool, true, false, List, [], ◌∷◌, ◌++◌, length, map, suc}
+use Rattle.std.proofs.Common.{refl, sym, ap, ap₂, ◌∙◌, inl, inr, arith, subst, if◌then◌else◌, nat_le, length-append}
 use Rattle.std.proofs.lemmas.Bool.{cases_lt}
 use Rattle.std.proofs.lemmas.List.{length-map}
 use Rattle.std.proofs.lemmas.Nat.{mul-le, pow-add}
 use Rattle.std.proofs.Math.Pow.{pow_mono}
-use Rattle.sigma_lower.specs.TreeLoops.Laws.{Counted, tiles, counted, passes_of, tiled_passes, twiddle_by, twiddle_last, whole_passes}
+use Rattle.sigma_lower.specs.TreeLoops.Laws.{Counted, tiles, counted, passes_of, tiled_passes, twiddle_by, twiddle_last}
+use Rattle.sigma_lower.specs.TreeLoops.Laws.{whole_passes}
 use Rattle.sigma_lower.specs.TreeLoops.Merge.{PlainPass}
 use Rattle.smp_rewrite.specs.LayoutSteps.Layout.{Layout, work, by, layout_size, IsGoodLayout}
 use Rattle.tree_model.specs.declared.tree.Rule.{Rule}

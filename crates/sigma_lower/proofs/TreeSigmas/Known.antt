@@ -19,7 +19,8 @@ use Rattle.sigma_lower.proofs.TreeLoops.Shaped.{AreShaped, IsShaped, IsShapedWor
 use Rattle.sigma_lower.proofs.TreeLoops.TreePlaces.{good_places, tree_good_places}
 use Rattle.sigma_spl.specs.Shared.Ready.{IsSmallWork}
 use Rattle.sigma_spl.specs.Good.{AreGoodPasses, IsGoodPass}
-use Rattle.sigma_spl.specs.Loops.{PlainLoop, AreGoodLoops, AreLimitedLoops, IsGoodLoop, IsLimitedLoop, loops_in, one_nest, IsOrdered}
+use Rattle.sigma_spl.specs.Loops.{PlainLoop, AreGoodLoops, AreLimitedLoops, IsGoodLoop, IsLimitedLoop, loops_in}
+use Rattle.sigma_spl.specs.Loops.{one_nest, IsOrdered}
 use Rattle.sigma_spl.specs.Merge.{most, unbounded, passes_within}
 use Rattle.sigma_spl.proofs.GoodLoops.{loops_are_good}
 use Rattle.sigma_lower.specs.TreeLoops.SharedPasses.Shared.{AllFramed, IsFramed}

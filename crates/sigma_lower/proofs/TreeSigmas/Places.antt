@@ -1,5 +1,6 @@
 -- The places of a pass's nest are the pass's, and the lanes of its registers stand side by side.
-use Rattle.std.proofs.Common.{◌≡◌, ℕ, ◌+◌, ◌*◌, ◌<◌, List, [], ◌∷◌, ◌++◌, length, map, refl, sym, ap, ◌∙◌, arith, subst, Option, Some, None}
+use Rattle.std.proofs.Common.{◌≡◌, ℕ, ◌+◌, ◌*◌, ◌<◌, List, [], ◌∷◌, ◌++◌, length, map, refl, sym, ap, ◌∙◌, arith, subst}
+use Rattle.std.proofs.Common.{Option, Some, None}
 use Rattle.std.specs.Option.{option_map}
 use Rattle.index_fn.specs.Mapping.{Mapping, at}
 use Rattle.kernel_gen.proofs.Residues.{power_below}

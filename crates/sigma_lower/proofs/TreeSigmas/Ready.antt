@@ -1,5 +1,6 @@
 -- Each loop of a layout can be run, and a program can be made of it.
-use Rattle.std.proofs.Common.{◌≡◌, ℕ, ◌+◌, ◌<◌, ◌≤◌, List, [], ◌∷◌, ◌++◌, All, length, map, refl, sym, ap, ap₂, ◌∙◌, arith, subst, Some}
+use Rattle.std.proofs.Common.{◌≡◌, ℕ, ◌+◌, ◌<◌, ◌≤◌, List, [], ◌∷◌, ◌++◌, All, length, map, refl, sym, ap, ap₂, ◌∙◌}
+use Rattle.std.proofs.Common.{arith, subst, Some}
 use Rattle.std.specs.Prelude.{slice_index, slice_index_or}
 use Rattle.std.specs.Option.{option_map}
 use Rattle.std.proofs.lemmas.List.Elements.{All-weaker}
@@ -28,7 +29,8 @@ use Rattle.sigma_lower.proofs.TreeLoops.PlaceValues.{value-at_place}
 use Rattle.sigma_lower.proofs.TreeLoops.Shaped.{IsShapedWork}
 use Rattle.sigma_lower.proofs.TreeSigmas.Frames.{nest-framed}
 use Rattle.sigma_lower.proofs.TreeSigmas.Known.{IsKnown}
-use Rattle.sigma_lower.proofs.TreeSigmas.Loops.{IsCount, counts-drop, length-drop, length-tensors, loop-counts, path-weight, under-least, weight-small}
+use Rattle.sigma_lower.proofs.TreeSigmas.Loops.{IsCount, counts-drop, length-drop, length-tensors, loop-counts}
+use Rattle.sigma_lower.proofs.TreeSigmas.Loops.{path-weight, under-least, weight-small}
 use Rattle.sigma_lower.proofs.TreeSigmas.Places.{taken-is, moves-vectors, finds-factors, residues-of}
 use Rattle.sigma_lower.proofs.TreeSigmas.Works.{can-work, no-copy}
 

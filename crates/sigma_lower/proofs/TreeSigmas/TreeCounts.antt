@@ -1,6 +1,7 @@
 -- The loops of the layout of a tree count what the forward request's passes do in the cost model.
 use Rattle.std.proofs.Common.{◌≡◌, List, [], ◌∷◌, map, refl, sym, ap, ap₂, ◌∙◌}
-use Rattle.sigma_lower.specs.TreeLoops.Laws.{Counted, counted_cost, counted_loads, whole_passes, AllCount, IsForwardTree}
+use Rattle.sigma_lower.specs.TreeLoops.Laws.{Counted, counted_cost, counted_loads, whole_passes, AllCount}
+use Rattle.sigma_lower.specs.TreeLoops.Laws.{IsForwardTree}
 use Rattle.sigma_lower.proofs.TreeLoops.LayoutCounts.{layouts_count}
 use Rattle.matrix_meaning.specs.Parts.{forward_by, forward_of}
 use Rattle.matrix_meaning.specs.Valid.{IsValid}

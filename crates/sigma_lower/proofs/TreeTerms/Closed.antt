@@ -1,5 +1,6 @@
 -- The functions of a good step's permutation take the places of the whole to places of it, and every number on the way fits 64 bits.
-use Rattle.std.proofs.Common.{◌≡◌, ℕ, ◌*◌, ◌/◌, ◌%◌, ◌<◌, ◌≤◌, arith, [], ◌∷◌, subst, mod-lt, div-lt_iff_lt-mul, mul-le-mul_left, le-mul_of_pos_right, mul_comm}
+use Rattle.std.proofs.Common.{◌≡◌, ℕ, ◌*◌, ◌/◌, ◌%◌, ◌<◌, ◌≤◌, arith, [], ◌∷◌, subst, mod-lt, div-lt_iff_lt-mul}
+use Rattle.std.proofs.Common.{mul-le-mul_left, le-mul_of_pos_right, mul_comm}
 use Rattle.std.proofs.Math.Nat.{div-add-mod'}
 use Rattle.std.proofs.lemmas.Nat.{mul-le, mul-lt}
 use Rattle.index_fn.specs.Mapping.{Mapping, ThomasIn, ThomasBack, at, IsDefinedAt, IsWellFormed}
@@ -20,7 +21,8 @@ le-mul_left r s h = let more : 1 * s ≤ r * s = mul-le 1 s r s h (omega arith) 
 
 -- ---- under tensors
 
-pub wrapped-defined : (path : Path) (n : ℕ) (f : Mapping) → IsClosed n f → size_under path n ≤ 1048576 → (i : ℕ) → i < size_under path n → IsDefinedAt (wrapped path n f) i
+pub wrapped-defined : (path : Path) (n : ℕ) (f : Mapping) → IsClosed n f → size_under path n ≤ 1048576 → (i : ℕ) →
+    i < size_under path n → IsDefinedAt (wrapped path n f) i
 wrapped-defined [] n f h high i below = h.defined i below
 wrapped-defined (Blocks c ∷ path) n f h high i below =
     let size = size_under path n in
@@ -34,12 +36,14 @@ wrapped-defined (Columns c ∷ path) n f h high i below =
     let within : size ≤ size * c = le-mul_of_pos_right {m = c} size positive in
     (wrapped-defined path n f h (omega arith) (i / c) ((div-lt_iff_lt-mul positive).1 below), tt, omega (arith, wrapped-below (Columns c ∷ path) n f h.below i below))
 
-pub closed-wrapped : (whole : ℕ) (path : Path) (n : ℕ) (f : Mapping) → whole ≤ 1048576 → size_under path n ≡ whole → IsClosed n f → IsClosed whole (wrapped path n f)
+pub closed-wrapped : (whole : ℕ) (path : Path) (n : ℕ) (f : Mapping) → whole ≤ 1048576 → size_under path n ≡ whole →
+    IsClosed n f → IsClosed whole (wrapped path n f)
 closed-wrapped whole path n f high e h =
     subst (λ m. IsClosed m (wrapped path n f)) e (record { defined = wrapped-defined path n f h (omega arith); below = wrapped-below path n f h.below })
 
 -- and its factors and divisors are as they must be
-pub wrapped-formed : (path : Path) (n : ℕ) (f : Mapping) → IsWellFormed f → 0 < size_under path n → IsWellFormed (wrapped path n f)
+pub wrapped-formed : (path : Path) (n : ℕ) (f : Mapping) → IsWellFormed f → 0 < size_under path n →
+    IsWellFormed (wrapped path n f)
 wrapped-formed [] n f h positive = h
 wrapped-formed (Blocks c ∷ path) n f h positive =
     let size = size_under path n in
@@ -59,7 +63,8 @@ thomas_in-closed r s pr ps high =
       below = λ i below. mod-lt _ (mul-lt 0 0 r s pr ps);
     }
 
-pub thomas_back-closed : (r s u v : ℕ) → 0 < r → 0 < s → r * s ≤ 1048576 → u < r * s → v < r * s → IsClosed (r * s) (ThomasBack r s u v)
+pub thomas_back-closed : (r s u v : ℕ) → 0 < r → 0 < s → r * s ≤ 1048576 → u < r * s → v < r * s →
+    IsClosed (r * s) (ThomasBack r s u v)
 thomas_back-closed r s u v pr ps high pu pv =
     record {
       defined = λ i below.

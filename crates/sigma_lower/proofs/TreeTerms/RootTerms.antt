@@ -1,5 +1,6 @@
 -- The terms of a layout that is shared, from its root.
-use Rattle.std.proofs.Common.{◌≡◌, ◌≢◌, ℕ, zero, suc, ◌*◌, ◌/◌, ◌%◌, ◌<◌, ◌≤◌, false, arith, refl, sym, ap, ap₂, ◌∙◌, List, [], ◌∷◌, ◌++◌, if◌then◌else◌, inl, inr, subst, append-nil, append_assoc}
+use Rattle.std.proofs.Common.{◌≡◌, ◌≢◌, ℕ, zero, suc, ◌*◌, ◌/◌, ◌%◌, ◌<◌, ◌≤◌, false, arith, refl, sym, ap, ap₂, ◌∙◌}
+use Rattle.std.proofs.Common.{List, [], ◌∷◌, ◌++◌, if◌then◌else◌, inl, inr, subst, append-nil, append_assoc}
 use Rattle.std.specs.Prelude.{map, Option, None, Some, ◌==◌, take, drop, length}
 use Rattle.std.specs.List.{flat_map}
 use Rattle.std.proofs.Math.Nat.{mul-div_right, mod-eq_of_lt}
@@ -23,10 +24,12 @@ use Rattle.sigma_spl.specs.Shared.Targets.{is_alone}
 use Rattle.operators.specs.declared.target.Target.{Target}
 use Rattle.vec_rewrite.specs.declared.Grid.{Grid}
 use Rattle.vec_rewrite.specs.Turning.{kept, laned_from, phase_of, vec_of}
-use Rattle.sigma_lower.specs.TreeTerms.Root.{right_path, turned_in, tiled_before, tiled_after, left_core, left_terms, right_terms, in_phases, root_terms}
+use Rattle.sigma_lower.specs.TreeTerms.Root.{right_path, turned_in, tiled_before, tiled_after, left_core, left_terms}
+use Rattle.sigma_lower.specs.TreeTerms.Root.{right_terms, in_phases, root_terms}
 use Rattle.sigma_lower.specs.TreeTerms.Term.{PlainTerm, diag, lowered, factor_term, terms_in, lowered_of}
 use Rattle.sigma_lower.proofs.TreeTerms.Behind.{behind, steps-behind, HasStep, has_step, by-one}
-use Rattle.sigma_lower.proofs.TreeTerms.RootCuts.{Cuts, Rows, deal, grid_of, kept_from, laned_terms, kept_cuts, alone_cuts, among_cuts}
+use Rattle.sigma_lower.proofs.TreeTerms.RootCuts.{Cuts, Rows, deal, grid_of, kept_from, laned_terms, kept_cuts}
+use Rattle.sigma_lower.proofs.TreeTerms.RootCuts.{alone_cuts, among_cuts}
 use Rattle.vec_rewrite.proofs.StepFollows.{unequal}
 
 -- ---- lists of steps
@@ -47,7 +50,8 @@ lefts s es = map (behind (Columns s ∷ [])) es
 abbrev right_all : ℕ → ℕ → ℕ → List PlainStep → List PlainTerm
 right_all p v r es = map lowered (map (behind (right_path p v r)) es)
 
-rights-next : (divide : Cutter) (from : Former) (g : Grid) (p v r s : ℕ) (es : List PlainStep) (fs : List smp.PlainFactor) → Cuts divide from g p v r s →
+rights-next : (divide : Cutter) (from : Former) (g : Grid) (p v r s : ℕ) (es : List PlainStep)
+    (fs : List smp.PlainFactor) → Cuts divide from g p v r s →
     from (Some g) (flat_map divide (rights r es) ++ fs) ≡ right_all p v r es ++ from (Some g) fs
 rights-next divide from g p v r s [] fs h = refl
 rights-next divide from g p v r s (e ∷ es) fs h =
@@ -56,7 +60,8 @@ rights-next divide from g p v r s (e ∷ es) fs h =
     ∙ h.right_next e.path e.core (rest ++ fs)
     ∙ ap (λ ts. lowered (step (right_path p v r ++ e.path) e.core) ∷ ts) (rights-next divide from g p v r s es fs h)
 
-rights-first : (divide : Cutter) (from : Former) (g : Grid) (p v r s : ℕ) (es : List PlainStep) (fs : List smp.PlainFactor) → HasStep es → Cuts divide from g p v r s →
+rights-first : (divide : Cutter) (from : Former) (g : Grid) (p v r s : ℕ) (es : List PlainStep)
+    (fs : List smp.PlainFactor) → HasStep es → Cuts divide from g p v r s →
     from None (flat_map divide (rights r es) ++ fs) ≡ tiled_before p v r s ++ (right_all p v r es ++ from (Some g) fs)
 rights-first divide from g p v r s [] fs some h = absurd some
 rights-first divide from g p v r s (e ∷ es) fs some h =
@@ -65,11 +70,13 @@ rights-first divide from g p v r s (e ∷ es) fs some h =
     ∙ h.right_first e.path e.core (rest ++ fs)
     ∙ ap (λ ts. tiled_before p v r s ++ (lowered (step (right_path p v r ++ e.path) e.core) ∷ ts)) (rights-next divide from g p v r s es fs h)
 
-lefts-next : (divide : Cutter) (from : Former) (g : Grid) (p v r s : ℕ) (es : List PlainStep) → Cuts divide from g p v r s → from None (flat_map divide (lefts s es)) ≡ left_terms p v r s es
+lefts-next : (divide : Cutter) (from : Former) (g : Grid) (p v r s : ℕ) (es : List PlainStep) →
+    Cuts divide from g p v r s → from None (flat_map divide (lefts s es)) ≡ left_terms p v r s es
 lefts-next divide from g p v r s [] h = h.done
 lefts-next divide from g p v r s (e ∷ es) h = h.left_next e.path e.core (flat_map divide (lefts s es)) ∙ ap (λ ts. left_core p v r s e.path e.core ++ ts) (lefts-next divide from g p v r s es h)
 
-lefts-first : (divide : Cutter) (from : Former) (g : Grid) (p v r s : ℕ) (es : List PlainStep) → HasStep es → Cuts divide from g p v r s →
+lefts-first : (divide : Cutter) (from : Former) (g : Grid) (p v r s : ℕ) (es : List PlainStep) → HasStep es →
+    Cuts divide from g p v r s →
     from (Some g) (flat_map divide (lefts s es)) ≡ tiled_after p v r s ++ left_terms p v r s es
 lefts-first divide from g p v r s [] some h = absurd some
 lefts-first divide from g p v r s (e ∷ es) some h =
@@ -77,9 +84,11 @@ lefts-first divide from g p v r s (e ∷ es) some h =
 
 -- ---- the right part with what stands round it
 
-ct-right : (divide : Cutter) (from : Former) (g : Grid) (p v r s w : ℕ) (es rest : List PlainStep) → Cuts divide from g p v r s →
+ct-right : (divide : Cutter) (from : Former) (g : Grid) (p v r s w : ℕ) (es rest : List PlainStep) →
+    Cuts divide from g p v r s →
     from None (flat_map divide (step [] (turns r s) ∷ (rights r es ++ (step [] (twiddles r s w) ∷ rest))))
-    ≡ (turned_in p v r s ++ (right_all p v r es ++ (tiled_after p v r s ++ diag [] r s w ∷ []))) ++ from None (flat_map divide rest)
+    ≡ (turned_in p v r s ++ (right_all p v r es ++ (tiled_after p v r s ++ diag [] r s w ∷ [])))
+    ++ from None (flat_map divide rest)
 ct-right divide from g p v r s w es rest h =
     let tail = step [] (twiddles r s w) ∷ rest in
     let others = from None (flat_map divide rest) in
@@ -93,9 +102,11 @@ ct-right divide from g p v r s w es rest h =
     ∙ sym (append_assoc all (after ++ diag [] r s w ∷ []) others))
     ∙ sym (append_assoc (turned_in p v r s) (all ++ (after ++ diag [] r s w ∷ [])) others)
 
-split-right : (divide : Cutter) (from : Former) (g : Grid) (p v r s : ℕ) (es rest : List PlainStep) (others : List PlainTerm) → HasStep es → Cuts divide from g p v r s →
+split-right : (divide : Cutter) (from : Former) (g : Grid) (p v r s : ℕ) (es rest : List PlainStep)
+    (others : List PlainTerm) → HasStep es → Cuts divide from g p v r s →
     from (Some g) (flat_map divide rest) ≡ tiled_after p v r s ++ others →
-    from None (flat_map divide (rights r es ++ rest)) ≡ (tiled_before p v r s ++ (right_all p v r es ++ tiled_after p v r s)) ++ others
+    from None (flat_map divide (rights r es ++ rest)) ≡ (tiled_before p v r s
+    ++ (right_all p v r es ++ tiled_after p v r s)) ++ others
 split-right divide from g p v r s es rest others some h e =
     let before = tiled_before p v r s in
     let after = tiled_after p v r s in
@@ -125,15 +136,18 @@ IsShared Ct = Unit {0}
 IsShared Split = Unit {0}
 IsShared Dim = Unit {0}
 
-rule_parts : (rule : Rule) (r s w : ℕ) (es ls : List PlainStep) → IsShared rule → rule_steps rule [] r s w ls (rights r es) ≡ rule_front rule r s w es ++ ls
+rule_parts : (rule : Rule) (r s w : ℕ) (es ls : List PlainStep) → IsShared rule →
+    rule_steps rule [] r s w ls (rights r es) ≡ rule_front rule r s w es ++ ls
 rule_parts Gt r s w es ls h = absurd h
 rule_parts Ct r s w es ls h = ap (λ ss. step [] (turns r s) ∷ ss) (sym (append_assoc (rights r es) (step [] (twiddles r s w) ∷ []) ls))
 rule_parts Split r s w es ls h = refl
 rule_parts Dim r s w es ls h = refl
 
 -- one phase for both parts
-both-terms : (divide : Cutter) (from : Former) (g : Grid) (p v r s w : ℕ) (rule : Rule) (es ls : List PlainStep) → IsShared rule → HasStep es → HasStep ls → Cuts divide from g p v r s →
-    from None (flat_map divide (rule_front rule r s w es ++ lefts s ls)) ≡ rule_right p v rule r s w es ++ left_terms p v r s ls
+both-terms : (divide : Cutter) (from : Former) (g : Grid) (p v r s w : ℕ) (rule : Rule) (es ls : List PlainStep) →
+    IsShared rule → HasStep es → HasStep ls → Cuts divide from g p v r s →
+    from None (flat_map divide (rule_front rule r s w es ++ lefts s ls)) ≡ rule_right p v rule r s w es
+    ++ left_terms p v r s ls
 both-terms divide from g p v r s w Gt es ls shared some more h = absurd shared
 both-terms divide from g p v r s w Ct es ls shared some more h =
     ap (λ ss. from None (flat_map divide (step [] (turns r s) ∷ ss))) (append_assoc (rights r es) (step [] (twiddles r s w) ∷ []) (lefts s ls))
@@ -145,7 +159,8 @@ both-terms divide from g p v r s w Dim es ls shared some more h =
     (lefts-first divide from g p v r s ls more h)
 
 -- a phase for the right part alone
-front-terms : (divide : Cutter) (from : Former) (g : Grid) (p v r s w : ℕ) (rule : Rule) (es : List PlainStep) → IsShared rule → HasStep es → Cuts divide from g p v r s →
+front-terms : (divide : Cutter) (from : Former) (g : Grid) (p v r s w : ℕ) (rule : Rule) (es : List PlainStep) →
+    IsShared rule → HasStep es → Cuts divide from g p v r s →
     from None (flat_map divide (rule_front rule r s w es)) ≡ rule_right p v rule r s w es
 front-terms divide from g p v r s w Gt es shared some h = absurd shared
 front-terms divide from g p v r s w Ct es shared some h =
@@ -172,8 +187,10 @@ made_of n p v line ss = terms_in (vec_of (cut (machine n p v line) ss))
 abbrev Forms : ℕ → ℕ → ℕ → Former → Type 0
 Forms n p v from = (fs : List smp.PlainFactor) → map (factor_term p v) (phase_of (deal p (n / p) v) fs) ≡ from None fs
 
-alone-made : (n v line : ℕ) (from : Former) (g : Grid) (r s w : ℕ) (rule : Rule) (es ls : List PlainStep) → IsShared rule → HasStep es → HasStep ls → Forms n 1 v from → Cuts (factors_of n 1) from g 1 v r s →
-    made_of n 1 v line (rule_front rule r s w es ++ lefts s ls) ≡ in_phases 1 (rule_right 1 v rule r s w es) (left_terms 1 v r s ls)
+alone-made : (n v line : ℕ) (from : Former) (g : Grid) (r s w : ℕ) (rule : Rule) (es ls : List PlainStep) →
+    IsShared rule → HasStep es → HasStep ls → Forms n 1 v from → Cuts (factors_of n 1) from g 1 v r s →
+    made_of n 1 v line (rule_front rule r s w es ++ lefts s ls) ≡ in_phases 1 (rule_right 1 v rule r s w es)
+    (left_terms 1 v r s ls)
 alone-made n v line from g r s w rule es ls shared some more forms h =
     let ss = rule_front rule r s w es ++ lefts s ls in
     let d = deal 1 (n / 1) v in
@@ -204,12 +221,15 @@ count-left : (s : ℕ) (ls : List PlainStep) → right_count (lefts s ls) ≡ 0
 count-left s [] = refl
 count-left s (e ∷ ls) = refl
 
-count-right : (front : List PlainStep) (s : ℕ) (ls : List PlainStep) → AreRight front → right_count (front ++ lefts s ls) ≡ length front
+count-right : (front : List PlainStep) (s : ℕ) (ls : List PlainStep) → AreRight front →
+    right_count (front ++ lefts s ls) ≡ length front
 count-right [] s ls h = count-left s ls
 count-right (x ∷ front) s ls h = ap (λ b. if b then 0 else suc (right_count (front ++ lefts s ls))) h.0 ∙ ap (λ n. suc n) (count-right front s ls h.1)
 
-among-made : (n p v line : ℕ) (from : Former) (g : Grid) (r s w : ℕ) (rule : Rule) (es ls : List PlainStep) → p ≢ 1 → IsShared rule → HasStep es → Forms n p v from → Cuts (factors_of n p) from g p v r s →
-    made_of n p v line (rule_front rule r s w es ++ lefts s ls) ≡ in_phases p (rule_right p v rule r s w es) (left_terms p v r s ls)
+among-made : (n p v line : ℕ) (from : Former) (g : Grid) (r s w : ℕ) (rule : Rule) (es ls : List PlainStep) → p ≢ 1 →
+    IsShared rule → HasStep es → Forms n p v from → Cuts (factors_of n p) from g p v r s →
+    made_of n p v line (rule_front rule r s w es ++ lefts s ls) ≡ in_phases p (rule_right p v rule r s w es)
+    (left_terms p v r s ls)
 among-made n p v line from g r s w rule es ls several shared some forms h =
     let front = rule_front rule r s w es in
     let back = lefts s ls in
@@ -241,8 +261,10 @@ record AreNumbers (n p v r s : ℕ) : Type 0 where
   dealt : p ≢ 1 → IsDealt p 1 r
   wide : p ≢ 1 → v ≢ 1 → (r / p ≢ 1) × (s / p ≢ 1)
 
-made-alone : (n p v line r s w : ℕ) (rule : Rule) (es ls : List PlainStep) → p ≡ 1 → v ≢ 1 → IsShared rule → HasStep es → HasStep ls → AreNumbers n p v r s →
-    made_of n p v line (rule_front rule r s w es ++ lefts s ls) ≡ in_phases p (rule_right p v rule r s w es) (left_terms p v r s ls)
+made-alone : (n p v line r s w : ℕ) (rule : Rule) (es ls : List PlainStep) → p ≡ 1 → v ≢ 1 → IsShared rule →
+    HasStep es → HasStep ls → AreNumbers n p v r s →
+    made_of n p v line (rule_front rule r s w es ++ lefts s ls) ≡ in_phases p (rule_right p v rule r s w es)
+    (left_terms p v r s ls)
 made-alone n p v line r s w rule es ls one many shared some more h =
     let two : 2 ≤ r = h.rows in
     let whole : n / 1 ≡ r * s = by-one n ∙ sym h.product in
@@ -250,16 +272,20 @@ made-alone n p v line r s w rule es ls one many shared some more h =
     subst (λ p. made_of n p v line (rule_front rule r s w es ++ lefts s ls) ≡ in_phases p (rule_right p v rule r s w es) (left_terms p v r s ls)) (sym one)
     (alone-made n v line (laned_terms 1 (n / 1) v) (grid_of (n / 1) v r) r s w rule es ls shared some more (several-form n 1 v many) (alone_cuts n (n / 1) v r s rows))
 
-made-kept : (n p v line r s w : ℕ) (rule : Rule) (es ls : List PlainStep) → p ≢ 1 → v ≡ 1 → IsShared rule → HasStep es → AreNumbers n p v r s →
-    made_of n p v line (rule_front rule r s w es ++ lefts s ls) ≡ in_phases p (rule_right p v rule r s w es) (left_terms p v r s ls)
+made-kept : (n p v line r s w : ℕ) (rule : Rule) (es ls : List PlainStep) → p ≢ 1 → v ≡ 1 → IsShared rule → HasStep es →
+    AreNumbers n p v r s →
+    made_of n p v line (rule_front rule r s w es ++ lefts s ls) ≡ in_phases p (rule_right p v rule r s w es)
+    (left_terms p v r s ls)
 made-kept n p v line r s w rule es ls several one shared some h =
     let two : 2 ≤ s = h.columns in
     let rows : n / s ≡ r = rows_of n r s (omega (arith, two)) h.product in
     subst (λ v. made_of n p v line (rule_front rule r s w es ++ lefts s ls) ≡ in_phases p (rule_right p v rule r s w es) (left_terms p v r s ls)) (sym one)
     (among-made n p 1 line (kept_from p) (grid_of n 1 r) r s w rule es ls several shared some (λ fs. refl) (kept_cuts n p r s (grid_of n 1 r) several (λ e. omega (arith, two, e)) rows))
 
-made-among : (n p v line r s w : ℕ) (rule : Rule) (es ls : List PlainStep) → p ≢ 1 → v ≢ 1 → IsShared rule → HasStep es → AreNumbers n p v r s →
-    made_of n p v line (rule_front rule r s w es ++ lefts s ls) ≡ in_phases p (rule_right p v rule r s w es) (left_terms p v r s ls)
+made-among : (n p v line r s w : ℕ) (rule : Rule) (es ls : List PlainStep) → p ≢ 1 → v ≢ 1 → IsShared rule →
+    HasStep es → AreNumbers n p v r s →
+    made_of n p v line (rule_front rule r s w es ++ lefts s ls) ≡ in_phases p (rule_right p v rule r s w es)
+    (left_terms p v r s ls)
 made-among n p v line r s w rule es ls several many shared some h =
     let two : 2 ≤ s = h.columns in
     let rows : n / s ≡ r = rows_of n r s (omega (arith, two)) h.product in
@@ -275,8 +301,10 @@ made-among n p v line r s w rule es ls several many shared some h =
     among-made n p v line (laned_terms p (n / p) v) (grid_of (n / p) v u) r s w rule es ls several shared some (several-form n p v many)
     (among_cuts n p (n / p) v r s (record { procs = several; dealt = dealt; rows = wide.0; columns = wide.1 }) rows)
 
-made-shared : (n p v line r s w : ℕ) (rule : Rule) (es ls : List PlainStep) → (p ≡ 1 → v ≢ 1) → IsShared rule → HasStep es → HasStep ls → AreNumbers n p v r s →
-    made_of n p v line (rule_front rule r s w es ++ lefts s ls) ≡ in_phases p (rule_right p v rule r s w es) (left_terms p v r s ls)
+made-shared : (n p v line r s w : ℕ) (rule : Rule) (es ls : List PlainStep) → (p ≡ 1 → v ≢ 1) → IsShared rule →
+    HasStep es → HasStep ls → AreNumbers n p v r s →
+    made_of n p v line (rule_front rule r s w es ++ lefts s ls) ≡ in_phases p (rule_right p v rule r s w es)
+    (left_terms p v r s ls)
 made-shared n p v line r s w rule es ls shares shared some more h =
     elim (cases_eq p 1) [
       | inl one ↦ made-alone n p v line r s w rule es ls one (shares one) shared some more h
@@ -306,7 +334,8 @@ several-part p line v k procs lines lanes positive fits e one =
     unit_line (suc zero) h e = refl
     unit_line (suc (suc k)) h e = let same : 1 % suc (suc k) ≡ 1 = mod-eq_of_lt (omega arith) in absurd (omega (arith, e, same))
 
-numbers_of : (h : Target) (l : Layout) (r s : ℕ) → CanShareLayout h l → r * s ≡ h.size → 2 ≤ r → 2 ≤ s → HasParts h r s → AreNumbers h.size h.procs h.lanes r s
+numbers_of : (h : Target) (l : Layout) (r s : ℕ) → CanShareLayout h l → r * s ≡ h.size → 2 ≤ r → 2 ≤ s →
+    HasParts h r s → AreNumbers h.size h.procs h.lanes r s
 numbers_of h l r s shares product two_r two_s fits =
     let low : 1 ≤ h.procs = shares.procs in
     let line_low : 1 ≤ h.line = shares.line in
@@ -341,7 +370,8 @@ rule-fits h Ct r s k = k
 rule-fits h Split r s k = k
 rule-fits h Dim r s k = k
 
-right-same : (p v : ℕ) (rule : Rule) (w : ℕ) (a b : Layout) → rule_right p v rule (layout_size a) (layout_size b) w (steps_of [] b) ≡ right_terms p v rule w a b
+right-same : (p v : ℕ) (rule : Rule) (w : ℕ) (a b : Layout) →
+    rule_right p v rule (layout_size a) (layout_size b) w (steps_of [] b) ≡ right_terms p v rule w a b
 right-same p v Gt w a b = refl
 right-same p v Ct w a b =
     let r = layout_size a in
@@ -357,7 +387,8 @@ right-same p v Dim w a b =
 
 -- the steps of a root
 root-steps : (rule : Rule) (w : ℕ) (a b : Layout) → IsShared rule →
-    steps_of [] (by rule w a b) ≡ rule_front rule (layout_size a) (layout_size b) w (steps_of [] b) ++ lefts (layout_size b) (steps_of [] a)
+    steps_of [] (by rule w a b) ≡ rule_front rule (layout_size a) (layout_size b) w (steps_of [] b)
+    ++ lefts (layout_size b) (steps_of [] a)
 root-steps rule w a b shared =
     let r = layout_size a in
     let s = layout_size b in
@@ -368,7 +399,8 @@ root-steps rule w a b shared =
 terms-of : (h : Target) (ss : List PlainStep) → terms_in (vec_of (cut h ss)) ≡ made_of h.size h.procs h.lanes h.line ss
 terms-of h ss = refl
 
-root-terms : (h : Target) (rule : Rule) (w : ℕ) (a b : Layout) → CanShareLayout h (by rule w a b) → 2 ≤ layout_size a → 2 ≤ layout_size b → is_alone h ≡ false → RuleHasParts h rule (layout_size a) (layout_size b) →
+root-terms : (h : Target) (rule : Rule) (w : ℕ) (a b : Layout) → CanShareLayout h (by rule w a b) → 2 ≤ layout_size a →
+    2 ≤ layout_size b → is_alone h ≡ false → RuleHasParts h rule (layout_size a) (layout_size b) →
     lowered_of h (by rule w a b) ≡ root_terms h (by rule w a b)
 root-terms h rule w a b shares two_r two_s several fits =
     let r = layout_size a in
@@ -384,10 +416,12 @@ root-terms h rule w a b shares two_r two_s several fits =
     (numbers_of h (by rule w a b) r s shares shares.size two_r two_s (rule-fits h rule r s fits))
     ∙ ap (λ ts. in_phases p ts (left_terms p v r s ls)) (right-same p v rule w a b)
 
-layout-terms : (h : Target) (l : Layout) → CanShareLayout h l → IsGoodLayout h.modulus l → is_alone h ≡ false → RootHasParts h l → lowered_of h l ≡ root_terms h l
+layout-terms : (h : Target) (l : Layout) → CanShareLayout h l → IsGoodLayout h.modulus l → is_alone h ≡ false →
+    RootHasParts h l → lowered_of h l ≡ root_terms h l
 layout-terms h (work w) shares good several fits = absurd fits
 layout-terms h (by rule w a b) shares good several fits = root-terms h rule w a b shares good.0.left good.0.right several fits
 
 -- the terms of a layout that several processors or lanes share
-pub shared_terms : (h : Target) (l : Layout) → CanShareLayout h l → IsGoodLayout h.modulus l → is_alone h ≡ false → lowered_of h l ≡ root_terms h l
+pub shared_terms : (h : Target) (l : Layout) → CanShareLayout h l → IsGoodLayout h.modulus l → is_alone h ≡ false →
+    lowered_of h l ≡ root_terms h l
 shared_terms h l shares good several = layout-terms h l shares good several (shares.root several)

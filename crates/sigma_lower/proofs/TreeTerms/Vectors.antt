@@ -1,6 +1,7 @@
 -- Functions that keep vectors: v words side by side, from a multiple of v on, stay so. Under tensors they do where the
 -- first columns are a multiple of v.
-use Rattle.std.proofs.Common.{◌≡◌, ℕ, ◌+◌, ◌*◌, ◌/◌, ◌%◌, ◌<◌, Bool, true, false, arith, refl, sym, ap, ap₂, subst, ◌∙◌, [], ◌∷◌, ◌++◌, inl, inr, if◌then◌else◌, eq-zero-or-pos, mod-lt}
+use Rattle.std.proofs.Common.{◌≡◌, ℕ, ◌+◌, ◌*◌, ◌/◌, ◌%◌, ◌<◌, Bool, true, false, arith, refl, sym, ap, ap₂, subst, ◌∙◌}
+use Rattle.std.proofs.Common.{[], ◌∷◌, ◌++◌, inl, inr, if◌then◌else◌, eq-zero-or-pos, mod-lt}
 use Rattle.std.specs.Prelude.{◌==◌}
 use Rattle.std.proofs.Math.Nat.{div-add-mod', div-zero, mod-zero, zero-mul}
 use Rattle.index_fn.specs.Mapping.{Mapping, at}
@@ -63,14 +64,16 @@ vectors-append v [] rest h = single-vectors v rest h
 vectors-append v (Blocks k ∷ path) rest h = vectors-append v path rest h
 vectors-append v (Columns k ∷ path) rest h = h
 
-blocks-pick : (v : ℕ) (b : Bool) (k : ℕ) (path : Path) → HasVectors v path → HasVectors v (if b then path else Blocks k ∷ path)
+blocks-pick : (v : ℕ) (b : Bool) (k : ℕ) (path : Path) → HasVectors v path →
+    HasVectors v (if b then path else Blocks k ∷ path)
 blocks-pick v true k path h = h
 blocks-pick v false k path h = h
 
 pub vectors-blocks : (v k : ℕ) (path : Path) → HasVectors v path → HasVectors v (within (Blocks k) path)
 vectors-blocks v k path h = blocks-pick v (k == 1) k path h
 
-columns-pick : (v : ℕ) (b : Bool) (path : Path) → (b ≡ true → v ≡ 1) → HasVectors v (if b then path else Columns v ∷ path)
+columns-pick : (v : ℕ) (b : Bool) (path : Path) → (b ≡ true → v ≡ 1) →
+    HasVectors v (if b then path else Columns v ∷ path)
 columns-pick v true path one = single-vectors v path (one refl)
 columns-pick v false path one = (1, omega arith)
 
