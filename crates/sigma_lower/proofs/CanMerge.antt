@@ -3,11 +3,9 @@ use Rattle.std.proofs.Common.{◌≡◌, ℕ, ◌*◌, ◌^◌, ◌<◌, ◌≤�
 use Rattle.std.proofs.Common.{◌++◌, subst, if◌then◌else◌}
 use Rattle.std.specs.Prelude.{map}
 use Rattle.std.proofs.lemmas.Bool.{lt-ltb}
-use Rattle.std.proofs.lemmas.Bool.Decides.{nat_tests}
 use Rattle.index_fn.specs.Mapping.{Mapping, Strided, ThomasIn, ThomasOut, ThomasBack}
 use Rattle.sigma_lower.specs.Machine.{IsMachine}
-use Rattle.sigma_spl.specs.Good.{IsGoodTerm}
-use Rattle.sigma_spl.specs.Limits.{AreSeveral, HasSeveral}
+use Rattle.sigma_spl.specs.Limits.{AreSeveral, HasRows, HasSeveral}
 use Rattle.sigma_spl.specs.Merge.{back_of, unit_below}
 use Rattle.sigma_spl.specs.Sigma.{AllCanMerge}
 use Rattle.sigma_spl.specs.Term.{scat}
@@ -18,10 +16,14 @@ use Rattle.sigma_lower.specs.Shared.{embed, phase_term}
 use Rattle.sigma_lower.specs.Trees.{core_term}
 use Rattle.sigma_lower.proofs.Closing.{closed-can}
 use Rattle.sigma_lower.proofs.Embedded.{embed-core, sizes-of}
-use Rattle.sigma_lower.proofs.Moves.{back-wrapped, left_positive, right_positive}
+use Rattle.sigma_lower.proofs.Moves.{back-wrapped}
 use Rattle.sigma_lower.proofs.Numbers.{numbers-wrapped, strided-closed, in-closed, out-closed}
 use Rattle.sigma_lower.proofs.SharedTrees.{AllEmbed, trees_embed}
-use Rattle.sigma_lower.proofs.TightPaths.{IsTight, AreTightTerms, AreTightPhases, tree-tight}
+use Rattle.sigma_lower.proofs.TreeLoops.PassLists.{AllPasses, all-split, last-back}
+use Rattle.sigma_lower.proofs.TreeLoops.Shaped.{AreShaped, IsShapedWork}
+use Rattle.sigma_lower.proofs.TreeLoops.TreePlaces.{tree_good_places}
+use Rattle.sigma_lower.specs.TreeLoops.Merge.{PlainPass, Merging, new_pass, scattered, multiplied, merge_term, merged}
+use Rattle.sigma_lower.specs.TreeLoops.Merge.{passes_of_terms, in_order, merged_of}
 use Rattle.sigma_lower.specs.TreeTerms.Good.{IsGoodPiece, IsVecOf, IsGoodCore, IsGood, AreGood}
 use Rattle.sigma_lower.specs.TreeTerms.Term as lowered
 use Rattle.sigma_lower.specs.TreeTerms.Term.{lowered_after, factor_term, lowered_of}
@@ -120,35 +122,53 @@ tree-words c l valid shares good =
 
 -- ---- several copies
 
-pub several-of : (n : ℕ) → 0 < n → (n == 1) ≡ false → 2 ≤ n
-several-of n some other = grind (arith, nat_tests)
+-- a pass over several copies by each tensor, and several rows
+abbrev IsSeveral : PlainPass → Type 0
+IsSeveral p = AreSeveral p.path × HasRows p.work
 
--- a path of some words, none of whose tensors has one copy
-several-path : (path : Path) (n : ℕ) → IsTight path → 0 < size_under path n → AreSeveral path
-several-path [] n h some = tt
-several-path (Blocks k ∷ path) n h some =
-    (several-of k (left_positive k (size_under path n) some) h.0, several-path path n h.1 (right_positive k (size_under path n) some))
-several-path (Columns k ∷ path) n h some =
-    (several-of k (right_positive (size_under path n) k some) h.0, several-path path n h.1 (left_positive (size_under path n) k some))
+-- each nest of terms is a pass in the end
+nests-several : (ts : List lowered.PlainTerm) (st : Merging) → AllPasses IsSeveral (merged st ts).passes →
+    HasSeveral (phase_term ts) × AllPasses IsSeveral st.passes
+nests-several [] st h = (tt, h)
+nests-several (lowered.gath f ∷ ts) st h =
+    let rest = nests-several ts (merge_term st (lowered.gath f)) h in ((tt, rest.0), rest.1)
+nests-several (lowered.scat f ∷ ts) st h =
+    let rest = nests-several ts (merge_term st (lowered.scat f)) h in
+    ((tt, rest.0), last-back IsSeveral (scattered f) (λ p k. k) st.passes rest.1)
+nests-several (lowered.diag path r s w ∷ ts) st h =
+    let rest = nests-several ts (merge_term st (lowered.diag path r s w)) h in
+    ((tt, rest.0), last-back IsSeveral (multiplied path r s w) (λ p k. k) st.passes rest.1)
+nests-several (lowered.nest path w ∷ ts) st h =
+    let rest = nests-several ts (merge_term st (lowered.nest path w)) h in
+    let passes = all-split IsSeveral st.passes (new_pass path w st.waiting ∷ []) rest.1 in
+    ((passes.1.0, rest.0), passes.0)
 
-term-several : (c : Target) (v : ℕ) (ts : List lowered.PlainTerm) → IsMachine c → IsGoodTerm v c.size (phase_term ts) →
-    AreTightTerms ts → HasSeveral (phase_term ts)
-term-several c v [] valid good tight = tt
-term-several c v (lowered.gath f ∷ ts) valid good tight = (tt, term-several c v ts valid good.1 tight.1)
-term-several c v (lowered.scat f ∷ ts) valid good tight = (tt, term-several c v ts valid good.1 tight.1)
-term-several c v (lowered.diag path r s w ∷ ts) valid good tight = (tt, term-several c v ts valid good.1 tight.1)
-term-several c v (lowered.nest path w ∷ ts) valid good tight =
-    ((several-path path (work_size w) tight.0.0 (omega (arith, good.0.1, valid.size.0)), tight.0.1), term-several c v ts valid good.1 tight.1)
+shaped-rows : (m : ℕ) (w : PlainWork) → IsShapedWork m w → HasRows w
+shaped-rows m (kernel trees) h = tt
+shaped-rows m (rows root size) h = h.0
+shaped-rows m (horner root size) h = absurd h
+shaped-rows m (tile v) h = tt
+shaped-rows m (copy size) h = absurd h
+
+shaped-several : (m size : ℕ) (ps : List PlainPass) → AreShaped (IsShapedWork m) size ps → AllPasses IsSeveral ps
+shaped-several m size [] h = tt
+shaped-several m size (p ∷ ps) h = ((h.0.wide, shaped-rows m p.work h.0.work), shaped-several m size ps h.1)
 
 -- ---- phases
 
 all-can : (c : Target) (phases : List (List lowered.PlainTerm)) → IsMachine c → AllEmbed c c.lanes phases →
-    AreTightPhases phases → AreWordPhases c phases → AllCanMerge c.lanes c.size (map phase_term phases)
-all-can c [] valid embeds tight words = tt
-all-can c (ts ∷ more) valid embeds tight words = (
-  record { good = embeds.0.good; several = term-several c c.lanes ts valid embeds.0.good tight.0; words = words.0 },
-  all-can c more valid embeds.1 tight.1 words.1,
-)
+    AllPasses IsSeveral (in_order (map passes_of_terms phases)) → AreWordPhases c phases →
+    AllCanMerge c.lanes c.size (map phase_term phases)
+all-can c [] valid embeds several words = tt
+all-can c (ts ∷ more) valid embeds several words =
+    let each = all-split IsSeveral (passes_of_terms ts) (in_order (map passes_of_terms more)) several in (
+      record {
+        good = embeds.0.good;
+        several = (nests-several ts (record { waiting = []; passes = [] }) each.0).0;
+        words = words.0;
+      },
+      all-can c more valid embeds.1 each.1 words.1,
+    )
 
 pub trees_can_merge : TreesCanMerge
 trees_can_merge c w can =
@@ -157,7 +177,8 @@ trees_can_merge c w can =
     let shares = can.shares in
     let good = can.good.layout in
     let embeds = trees_embed c l valid shares good in
-    let phases = all-can c (lowered_of c l) valid embeds (tree-tight c l shares good) (tree-words c l valid shares good) in
+    let several = shaped-several c.modulus c.size (merged_of c l) (tree_good_places c l shares good).shaped in
+    let phases = all-can c (lowered_of c l) valid embeds several (tree-words c l valid shares good) in
     record {
       some = valid.size.0;
       most = omega (arith, valid.size.1);

@@ -1,6 +1,9 @@
 pub mod SharedPasses
+pub mod PassLists
 pub mod TreePasses
-pub mod TermOrder
+pub mod Emitted
+pub mod MadePasses
+pub mod Walks
 pub mod TameSums
 pub mod PlaceSums
 pub mod PlaceLimits

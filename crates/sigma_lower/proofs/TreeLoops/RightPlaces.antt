@@ -2,7 +2,7 @@
 use Rattle.std.proofs.Common.{◌≡◌, ℕ, ◌+◌, ◌*◌, ◌/◌, ◌<◌, ◌≤◌, Bool, true, false, arith, refl, sym, ap, ◌∙◌, List, []}
 use Rattle.std.proofs.Common.{◌∷◌, ◌++◌, if◌then◌else◌, subst, append-nil, append_assoc}
 use Rattle.std.specs.Prelude.{◌==◌}
-use Rattle.sigma_lower.proofs.CanMerge.{several-of}
+use Rattle.std.proofs.lemmas.Bool.Decides.{nat_tests}
 use Rattle.index_fn.specs.Mapping.{Mapping}
 use Rattle.sigma_spl.specs.Limits.{AreSeveral}
 use Rattle.perm_algebra.specs.Affine.{Sum, constant, variable}
@@ -28,6 +28,9 @@ use Rattle.smp_rewrite.specs.LayoutSteps.Layout.{Layout, layout_size, IsGoodLayo
 abbrev pub HaveSome : Path → Type 0
 HaveSome [] = Unit {0}
 HaveSome (t ∷ ts) = (0 < count_of t) × HaveSome ts
+
+several-of : (n : ℕ) → 0 < n → (n == 1) ≡ false → 2 ≤ n
+several-of n some other = grind (arith, nat_tests)
 
 wide-pick : (b : Bool) (t : Tensor) (path : Path) → (b ≡ false → 2 ≤ count_of t) → AreSeveral path →
     AreSeveral (if b then path else t ∷ path)

@@ -130,7 +130,7 @@ rule_front Ct r s w es = step [] (turns r s) ∷ (rights r es ++ step [] (twiddl
 rule_front Split r s w es = rights r es
 rule_front Dim r s w es = rights r es
 
-abbrev IsShared : Rule → Type 0
+abbrev pub IsShared : Rule → Type 0
 IsShared Gt = ⊥
 IsShared Ct = Unit {0}
 IsShared Split = Unit {0}
@@ -358,7 +358,7 @@ numbers_of h l r s shares product two_r two_s fits =
           );
     }
 
-rule-shared : (h : Target) (rule : Rule) (r s : ℕ) → RuleHasParts h rule r s → IsShared rule
+pub rule-shared : (h : Target) (rule : Rule) (r s : ℕ) → RuleHasParts h rule r s → IsShared rule
 rule-shared h Gt r s k = k
 rule-shared h Ct r s k = tt
 rule-shared h Split r s k = tt

@@ -7,7 +7,7 @@ use Rattle.sigma_lower.specs.TreeLoops.Merge.{merge_term, gather_place, scatter_
 use Rattle.sigma_lower.specs.TreeTerms.Term.{gath, scat, diag, nest}
 use Rattle.sigma_spl.specs.Work.{PlainWork, work_size}
 use Rattle.sigma_lower.specs.TreeLoops.SharedPasses.Shared.{Owns, AllOwn, FirstOwns, AllShared, ArePhasesShared}
-use Rattle.sigma_lower.proofs.TreeLoops.SharedPasses.Merging.{at_last-push}
+use Rattle.sigma_lower.proofs.TreeLoops.TreePasses.{at_last-append}
 use Rattle.sigma_lower.proofs.TreeLoops.SharedPasses.Shares.{OwnsNatural}
 use Rattle.operators.specs.TensorPaths.Path.{Path, place}
 use Rattle.sigma_spl.specs.Shared.Owners.{IsOwner}
@@ -115,7 +115,7 @@ pub shared-dealt : (c : Target) (owner : ℕ → ℕ) (st : Merging) (path : Pat
     Shared c owner st →
     Shared c owner (merge_term (merge_term (merge_term st (gath f)) (nest path w)) (scat g))
 shared-dealt c owner st path w f g k l h = (
-  subst (AllOwn c owner) (sym (at_last-push (scattered g) st.passes (new_pass path w (f ∷ st.waiting))))
+  subst (AllOwn c owner) (sym (at_last-append (scattered g) st.passes (new_pass path w (f ∷ st.waiting) ∷ []) tt))
       (own-push c owner st.passes (scattered g (new_pass path w (f ∷ st.waiting))) h.0 (dealt-owns c owner path w f g st.waiting k l h.1)),
   tt,
 )
