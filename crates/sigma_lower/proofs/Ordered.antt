@@ -169,13 +169,13 @@ orders-turned false f g =
 
 orders-before : (b : Bool) (path : Path) (v : ℕ) (f : Mapping) →
     Orders begun (if b then [] else gath f ∷ nest path (tile v) ∷ []) ready
-orders-before true path v f st is = (tt, tt)
+orders-before true path v f = λ st is. (tt, tt)
 orders-before false path v f =
     law.both begun ready ready (gath f ∷ []) (nest path (tile v) ∷ []) (gathers begun f) (λ st is. ((tt, tt), tt))
 
 orders-after : (b : Bool) (path : Path) (v : ℕ) (f : Mapping) →
     Orders done (if b then [] else nest path (tile v) ∷ scat f ∷ []) tiled
-orders-after true path v f st is = (tt, (is.0, is.1))
+orders-after true path v f = λ st is. (tt, (is.0, is.1))
 orders-after false path v f =
     law.both done tiled tiled (nest path (tile v) ∷ []) (scat f ∷ []) (λ st is. ((tt, tt), (refl, refl)))
     (scatters-tiles f)

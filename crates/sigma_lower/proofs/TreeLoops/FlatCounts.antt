@@ -24,6 +24,7 @@ use Rattle.smp_rewrite.proofs.LayoutSteps.NodeTrees.{left_fits, right_fits}
 use Rattle.tree_model.specs.Admissible.{RuleFits}
 use Rattle.tree_model.specs.Breakdown.{Breakdown, leaf, node, size_of, AllowsLeaf}
 use Rattle.tree_model.specs.Cost.{is_kernel, is_plain, node_root}
+use Rattle.tree_model.proofs.PassLaws.{root_no_kernel}
 use Rattle.tree_model.specs.Passes as trees
 use Rattle.tree_model.specs.Whole.{cost_in}
 use Rattle.tree_model.specs.declared.tree.Rule.{Rule}
@@ -220,9 +221,6 @@ module _ (n : ℕ) (p : Request) (rule : Rule) (a b : Breakdown)
       (layout_of p b) (layouts_have_size p a) (layouts_have_size p b) on_left on_right count
       (is_kernel p (size_of a * size_of b)) (λ short. kernel-matches n p rule a b outer count short cost)
 
-pub not-kernel : (p : Request) (d : ℕ) → d ≡ p.size → is_plain p ≡ false → is_kernel p d ≡ false
-not-kernel p d is shared = grind (arith, nat_tests)
-
 several-lanes : (p : Request) → nat_le p.lanes 1 ≡ false → is_plain p ≡ false
 several-lanes p many = grind (arith, nat_tests)
 
@@ -285,11 +283,11 @@ module _ (n : ℕ) where
   tiled-whole p (leaf d) h whole shared = absurd (h.fits whole shared)
   tiled-whole p (node Gt a b) h whole shared = absurd (h.fits whole shared)
   tiled-whole p (node Ct a b) h whole shared =
-      tiled-root p Ct a b (h.fits whole shared) (not-kernel p (size_of a * size_of b) whole shared)
+      tiled-root p Ct a b (h.fits whole shared) (root_no_kernel p (size_of a * size_of b) whole shared)
       (record { one = h.one; tree = left_tree p Ct a b h.tree; fits = left_fits p Ct a b h.tree })
       (record { one = h.one; tree = right_tree p Ct a b h.tree; fits = right_fits p Ct a b h.tree })
   tiled-whole p (node Split a b) h whole shared =
-      tiled-root p Split a b (h.fits whole shared) (not-kernel p (size_of a * size_of b) whole shared)
+      tiled-root p Split a b (h.fits whole shared) (root_no_kernel p (size_of a * size_of b) whole shared)
       (record { one = h.one; tree = left_tree p Split a b h.tree; fits = left_fits p Split a b h.tree })
       (record { one = h.one; tree = right_tree p Split a b h.tree; fits = right_fits p Split a b h.tree })
   tiled-whole p (node Dim a b) h whole shared = absurd (h.tree.tree.2.0 h.one)

@@ -13,7 +13,7 @@ use Rattle.sigma_lower.proofs.TreeLoops.PlaceRoom.{can_scale, can_join, can_divi
 use Rattle.sigma_lower.proofs.TreeLoops.PlaceSums.{parts-fit, variable-fits}
 use Rattle.operators.specs.declared.tensor_paths.Tensor.TheVariants.{Blocks, Columns}
 use Rattle.operators.specs.TensorPaths.Path.{Path, count_of, size_under}
-use Rattle.sigma_lower.proofs.TreeTerms.Closed.{le-mul_left}
+use Rattle.sigma_spl.proofs.Fitting.{le-times}
 
 -- the place of e in the copy that these sums name, one for each tensor
 abbrev pub placed : Path → ℕ → List Sum → Sum → Sum
@@ -90,7 +90,7 @@ room-placed (Blocks c ∷ path) n (u ∷ us) f e cs h fits made high room =
     let fit = h.0 in
     let inner = placed-fits path n us e cs h.1 fits in
     let after = placed-fits path n us (simplified cs f e) cs h.1 made in
-    let within : size ≤ c * size = le-mul_left c size (omega (arith, fit.small)) in
+    let within : size ≤ c * size = le-times c size (omega (arith, fit.small)) in
     let apart = divided-joined size u (placed path n us e) cs positive inner.proper inner.small in
     let is : simplified cs (wrapped path n f) (placed path n us e) ≡ placed path n us (simplified cs f e) = simplified-placed path n us f e cs h.1 fits in
     let whole : size * top u cs ≤ c * size = scaled-top size (top u cs) c fit.small in (
@@ -109,7 +109,7 @@ room-placed (Columns c ∷ path) n (u ∷ us) f e cs h fits made high room =
     let positive : 0 < size = copies-positive path n us cs h.1 (fits-positive n e cs fits) in
     let some : 0 < c = omega (arith, fit.small) in
     let within : size ≤ size * c = le-mul_of_pos_right {m = c} size some in
-    let count : c ≤ size * c = le-mul_left size c positive in
+    let count : c ≤ size * c = le-times size c positive in
     let apart = divided-joined c (placed path n us e) u cs some fit.proper fit.small in
     let is : simplified cs (wrapped path n f) (placed path n us e) ≡ placed path n us (simplified cs f e) = simplified-placed path n us f e cs h.1 fits in
     let whole : c * top (placed path n us (simplified cs f e)) cs ≤ size * c = scaled-top c (top (placed path n us (simplified cs f e)) cs) size after.small in (

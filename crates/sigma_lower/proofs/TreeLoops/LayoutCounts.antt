@@ -7,7 +7,7 @@ use Rattle.std.proofs.Math.Nat.{mod_self, one-mul}
 use Rattle.sigma_lower.specs.TreeLoops.Laws.{Counted, works, tiles, passes_of, tiled_passes, whole_passes, CountsAs}
 use Rattle.sigma_lower.specs.TreeLoops.Laws.{AllCount, IsForwardTree}
 use Rattle.sigma_lower.proofs.TreeLoops.FlatCounts.{ArePasses, IsFlatTree, IsPass, flat_node_passes, flat_root_passes}
-use Rattle.sigma_lower.proofs.TreeLoops.FlatCounts.{kernel-matches, not-kernel}
+use Rattle.sigma_lower.proofs.TreeLoops.FlatCounts.{kernel-matches}
 use Rattle.matrix_meaning.specs.Parts.{first_of, forward_by, rest_of}
 use Rattle.matrix_meaning.specs.declared.Dimensions.TheVariants.{One}
 use Rattle.matrix_meaning.specs.declared.Kind.{Kind}
@@ -24,6 +24,7 @@ use Rattle.kernel_gen.proofs.NodeTrees.{HasFields, left_fields, left_tree, rest_
 use Rattle.smp_rewrite.proofs.LayoutSteps.NodeTrees.{left_fits}
 use Rattle.tree_model.specs.Breakdown.{Breakdown, leaf, node, size_of, AllowsLeaf, AllowsRule}
 use Rattle.tree_model.specs.Cost.{is_kernel, is_plain, node_root}
+use Rattle.tree_model.proofs.PassLaws.{root_no_kernel}
 use Rattle.tree_model.specs.Passes as trees
 use Rattle.tree_model.specs.Whole.{cost_in}
 use Rattle.tree_model.specs.WholePasses.{RequestPass, pass_of, closed_by, flat_passes, node_passes, passes_in}
@@ -285,7 +286,7 @@ module _ (p : Request) (a b : Breakdown) (h : IsForwardTree p (node Dim a b)) wh
   dim-whole true is = by-lanes (nat_le p.lanes 1) refl is
   dim-whole false is =
       shared-root (is_kernel p d) (by Dim (node_root p d) (layout_of first a) (layout_of rest b))
-      (not-kernel p d h.size is)
+      (root_no_kernel p d h.size is)
       (shared-pick p p a b (layout_of first a) (layout_of rest b) (layouts_have_size first a) (layouts_have_size rest b)
       on-first on-rest (node_root p d) (nat_le p.lanes 1))
 

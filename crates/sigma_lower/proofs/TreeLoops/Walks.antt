@@ -48,10 +48,10 @@ pub record Keeps (T : Point → List PlainTerm → Point → Type 0) (m : ℕ) (
 
 -- and of the pieces of a root's right part, with the terms of its layout
 pub record RightKeeps (T : Point → List PlainTerm → Point → Type 0) (p v r s w : ℕ)
-    (steps : List PlainTerm) : Type 0 where
+    (body : List PlainTerm) : Type 0 where
   pub turned : T begun (turned_in p v r s) ready
   pub before : T begun (tiled_before p v r s) ready
-  pub steps : T ready steps done
+  pub steps : T ready body done
   pub after : T done (tiled_after p v r s) tiled
   pub twiddled : T tiled (diag [] r s w ∷ []) settled
 

@@ -34,6 +34,7 @@ use Rattle.sigma_lower.proofs.TreeLoops.LoopLimits.{tree_loops}
 use Rattle.sigma_lower.proofs.TreeLoops.LoopNests.{loops_listed}
 use Rattle.sigma_lower.proofs.TreeLoops.PlaceValues.{right_positive}
 use Rattle.sigma_lower.proofs.TreeLoops.Shaped.{AreShaped, IsShaped, IsShapedWork}
+use Rattle.sigma_lower.proofs.TreeLoops.Staying.{carried-end}
 use Rattle.sigma_lower.proofs.TreeLoops.TreePlaces.{tree_good_places}
 use Rattle.sigma_lower.proofs.TreeSigmas.ClosedLoops.{HasClosing, TakesClosing, can-scale, closed_loop, has-loop}
 use Rattle.sigma_lower.proofs.TreeSigmas.ClosedLoops.{limited-last, scaled-in-order}
@@ -43,11 +44,6 @@ use Rattle.sigma_lower.proofs.TreeSigmas.Lasts.{HasItem}
 use Rattle.sigma_lower.proofs.TreeLoops.Moved.{fits-one}
 
 -- ---- the place of the only word
-
-carried-end : (cs : ℕ → ℕ) (n : ℕ) (fs : List Mapping) (e : Sum) → IsCarried cs n n fs e →
-    Fits n (all_simplified cs fs e) cs
-carried-end cs n [] e h = h
-carried-end cs n (f ∷ fs) e h = carried-end cs n fs (simplified cs f e) h.2
 
 module _ (h : Target) where
   abbrev size : ℕ
@@ -78,7 +74,7 @@ module _ (h : Target) where
     alone-items (e ∷ es) named =
         let last = all_simplified cs p.afters (place_sum p.path n 0 e) in
         let stores = (limited cs e counts named.0.0 named.0.1).stores in
-        let fits = carried-end cs size p.afters (place_sum p.path n 0 e) stores in
+        let fits = carried-end cs size size p.afters (place_sum p.path n 0 e) stores in
         (λ one. fits-one last cs (subst (λ k. Fits k last cs) one fits), alone-items es named.1)
 
     takes-closing : IsEnding p → IsLimitedLoop 64 size (loop_of p) → TakesClosing size (loop_of p)

@@ -10,11 +10,10 @@ use Rattle.sigma_lower.proofs.Ordered.{trees_ordered}
 use Rattle.sigma_lower.proofs.SharedTrees.{AllEmbed, trees_embed}
 use Rattle.sigma_lower.specs.TreeLoops.Merge.{PlainPass, passes_of_terms, in_order, merged_of}
 use Rattle.sigma_lower.specs.TreeLoops.Nests.{loop_of}
-use Rattle.sigma_lower.proofs.TreeLoops.Closed.{AreClosedPasses, IsClosedPass}
+use Rattle.sigma_lower.specs.TreeLoops.Placed.{AllLimited, IsLimitedPass}
 use Rattle.sigma_lower.proofs.TreeLoops.GoodPlaces.{HaveGoodPlaces}
 use Rattle.sigma_lower.proofs.TreeLoops.LoopLimits.{tree_loops}
 use Rattle.sigma_lower.proofs.TreeLoops.LoopNests.{loops_listed}
-use Rattle.sigma_lower.proofs.TreeLoops.PlaceValues.{AreFormedPasses, IsFormedPass}
 use Rattle.sigma_lower.proofs.TreeLoops.Shaped.{AreShaped, IsShaped, IsShapedWork}
 use Rattle.sigma_lower.proofs.TreeLoops.TreePlaces.{good_places, tree_good_places}
 use Rattle.sigma_spl.specs.Shared.Ready.{IsSmallWork}
@@ -38,8 +37,7 @@ pub record IsKnown (c : Target) (p : PlainPass) : Type 0 where
   pub shaped : IsShaped (IsShapedWork c.modulus) c.size p
   pub small : IsSmallWork p.work
   pub limited : IsLimitedLoop 64 c.size (loop_of p)
-  pub formed : IsFormedPass p
-  pub closed : IsClosedPass c.size p
+  pub placed : IsLimitedPass c p
   pub loop : IsGoodLoop c.lanes (loop_of p)
   pub good : IsGoodPass c.lanes c.modulus c.size (one_nest (loop_of p))
 
@@ -98,21 +96,20 @@ AllKnown c [] = Unit {0}
 AllKnown c (p ∷ ps) = IsKnown c p × AllKnown c ps
 
 all-known : (c : Target) (ps : List PlainPass) → AllFramed c ps → AreShaped (IsShapedWork c.modulus) c.size ps →
-    AreShaped IsSmallWork c.size ps → AreLimitedLoops (most 64) c.size (map loop_of ps) → AreFormedPasses ps →
-    AreClosedPasses c.size ps → AreGood c (map loop_of ps) → AllKnown c ps
-all-known c [] framed shaped small limited formed closed good = tt
-all-known c (p ∷ ps) framed shaped small limited formed closed good = (
+    AreShaped IsSmallWork c.size ps → AreLimitedLoops (most 64) c.size (map loop_of ps) → AllLimited c ps →
+    AreGood c (map loop_of ps) → AllKnown c ps
+all-known c [] framed shaped small limited placed good = tt
+all-known c (p ∷ ps) framed shaped small limited placed good = (
   record {
     framed = framed.0;
     shaped = shaped.0;
     small = small.0.work;
     limited = limited.0;
-    formed = formed.0;
-    closed = closed.0;
+    placed = placed.0;
     loop = good.0.loop;
     good = good.0.pass;
   },
-  all-known c ps framed.1 shaped.1 small.1 limited.1 formed.1 closed.1 good.1,
+  all-known c ps framed.1 shaped.1 small.1 limited.1 placed.1 good.1,
 )
 
 pub layout-known : (c : Target) (l : Layout) → IsHosted c l → AllKnown c (merged_of c l)
@@ -122,6 +119,6 @@ layout-known c l is =
     tt in
     all-known c (merged_of c l) (passes_are_framed c l is.shares is.good) places.shaped
     small.shaped
-    (tree_loops 64 c l (omega arith) is.machine is.shares is.good) places.formed places.closed
+    (tree_loops 64 c l (omega arith) is.machine is.shares is.good) places.limited
     (good-phases c (lowered_of c l) is.machine (trees_embed c l is.machine is.shares is.good)
     (trees_ordered c l is.machine is.shares is.good) (phases_have_loops c l is.machine is.shares is.good))

@@ -75,7 +75,7 @@ module _ (c : Target) (p : PlainPass) (host : IsHost c) (known : IsKnown c p) wh
         framed = nest-framed c p known.framed;
         vectors = λ q vs lane k range on below. moves-vectors c p known.loop host known.framed q vs lane k range on
             below;
-        factors = finds-factors c p known.loop known.shaped known.closed;
+        factors = finds-factors c p known.loop known.shaped known.placed;
         residues = residues-of c p some-modulus;
       }
 
@@ -126,7 +126,7 @@ module _ (c : Target) (p : PlainPass) (host : IsHost c) (known : IsKnown c p) wh
       let us = slice_index (vs ++ row ∷ k ∷ []) in
       let cs = slice_index (map count_of p.path ++ n ∷ n ∷ []) in
       let item : Sum = variable 1 (length p.path + 1) (constant 0) in
-      value-at_place cs us p.path n p.befores item known.formed.befores
+      value-at_place cs us p.path n p.befores item known.loop.befores.formed
       (with_more (map count_of p.path) n vs (row ∷ k ∷ []) range (two_below n row k below under)) tt
       ∙ ap₂ (λ ws j. through p.befores (place p.path n ws j))
       (values-are p.path 0 us vs (row ∷ k ∷ []) (ranged p.path vs range) (λ i. ap us (omega arith)))

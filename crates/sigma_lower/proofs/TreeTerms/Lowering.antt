@@ -33,6 +33,7 @@ use Rattle.tree_model.specs.declared.tree.Rule.TheVariants.{Gt, Ct, Split, Dim}
 use Rattle.tree_model.specs.Breakdown.{size_of}
 use Rattle.tree_model.proofs.Sizes.{one_le_size_of}
 use Rattle.vec_rewrite.specs.Vectors.{PlainFactor, lanes, diagonals, move_before, move_after, tiles, factor_step}
+use Rattle.kernel_gen.proofs.KernelSizes.{trees-positive}
 use Rattle.sigma_lower.specs.TreeTerms.Term.{nest, lowered_core, after_core, factor_term, term_on, terms_on}
 use Rattle.sigma_lower.specs.TreeTerms.Term.{diagonal_at}
 use Rattle.sigma_lower.specs.TreeTerms.Wrapped.{wrapped, unit_of}
@@ -63,18 +64,11 @@ good_rule n Split path r s w left right e good on_left on_right = good-append n 
 good_rule n Dim path r s w left right e good on_left on_right = good-append n right left on_right on_left
 
 -- trees that can be made, of few items, have words for sizes
-trees-some : (m : ℕ) (trees : PlainTrees) → CanMake m trees → 1 ≤ trees_size trees
-trees-some m (single kind root t) h = one_le_size_of kind t h.0
-trees-some m (tensor kind root t others) h =
-    let left : 1 ≤ size_of t = one_le_size_of kind t h.0.0 in
-    let right : 1 ≤ trees_size others = trees-some m others h.1 in
-    let more : size_of t * 1 ≤ size_of t * trees_size others = mul-le-mul_left (size_of t) right in omega (arith, left, more)
-
 trees-words : (m : ℕ) (trees : PlainTrees) → CanMake m trees → trees_size trees ≤ 1048576 → AreWords trees
 trees-words m (single kind root t) h small = word_sizes kind t h.0 (omega (arith, small))
 trees-words m (tensor kind root t others) h small =
     let left : 1 ≤ size_of t = one_le_size_of kind t h.0.0 in
-    let right : 1 ≤ trees_size others = trees-some m others h.1 in
+    let right : 1 ≤ trees_size others = trees-positive m others h.1 in
     let one : size_of t * 1 ≤ size_of t * trees_size others = mul-le-mul_left (size_of t) right in
     let two : 1 * trees_size others ≤ size_of t * trees_size others = mul-le-mul_right (trees_size others) left in
     (word_sizes kind t h.0.0 (omega (arith, small, one)), trees-words m others h.1 (omega (arith, small, two)), omega (arith, small))

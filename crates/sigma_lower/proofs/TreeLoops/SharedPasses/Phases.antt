@@ -1,5 +1,5 @@
 -- In each phase of a layout every line belongs to one processor.
-use Rattle.std.proofs.Common.{◌≡◌, ℕ, ◌+◌, ◌*◌, ◌/◌, ◌%◌, ◌<◌, ◌≤◌, Bool, true, false, arith, refl, sym, ap, ◌∙◌, []}
+use Rattle.std.proofs.Common.{◌≡◌, ℕ, ◌+◌, ◌*◌, ◌/◌, ◌%◌, ◌<◌, ◌≤◌, Bool, true, false, arith, refl, sym, ap, ◌∙◌, List, []}
 use Rattle.std.proofs.Common.{◌∷◌, ◌++◌, if◌then◌else◌, subst, inl, inr, append-nil, mod-lt, mul_comm}
 use Rattle.std.specs.Prelude.{◌==◌, map}
 use Rattle.std.proofs.lemmas.Bool.{cases_eq}
