@@ -5,6 +5,7 @@ use Rattle.std.specs.Prelude.{map}
 use Rattle.std.proofs.lemmas.Bool.{lt-ltb}
 use Rattle.index_fn.specs.Mapping.{Mapping, Strided, ThomasIn, ThomasOut, ThomasBack}
 use Rattle.sigma_lower.specs.Machine.{IsMachine}
+use Rattle.sigma_spl.proofs.Walk.{chosen}
 use Rattle.sigma_spl.specs.Limits.{AreSeveral, HasRows, HasSeveral}
 use Rattle.sigma_spl.specs.Merge.{back_of, unit_below}
 use Rattle.sigma_spl.specs.Sigma.{AllCanMerge}
@@ -105,20 +106,18 @@ phase-words : (c : Target) (p v : ℕ) (fs : List PlainFactor) → IsMachine c �
 phase-words c p v [] valid h = tt
 phase-words c p v (f ∷ fs) valid h = (factor-words c p v f valid h.0, phase-words c p v fs valid h.1)
 
-pick-phases : (c : Target) (p v : ℕ) (b : Bool) (first second : List PlainFactor) → IsMachine c →
-    AreGood c.size (map (factor_step p v) (first ++ second)) →
-    AreGood c.size (map (factor_step p v) first) × AreGood c.size (map (factor_step p v) second) →
-    AreWordPhases c (map (map (factor_term p v)) (if b then (first ++ second) ∷ [] else first ∷ second ∷ []))
-pick-phases c p v true first second valid all each = (phase-words c p v (first ++ second) valid all, tt)
-pick-phases c p v false first second valid all each = (phase-words c p v first valid each.0, (phase-words c p v second valid each.1, tt))
-
 tree-words : (c : Target) (l : Layout) → IsMachine c → CanShareLayout c l → IsGoodLayout c.modulus l →
     AreWordPhases c (lowered_of c l)
 tree-words c l valid shares good =
     let g = vec_of (layout_smp c l) in
     let whole : IsGoodWhole c.modulus (only l) = record { layout = good; factor = tt } in
     let is : IsVecOf c g = record { whole = only l; shares = shares; good = whole; form = refl } in
-    pick-phases c c.procs c.lanes (c.procs == 1) g.first g.second valid (vec_good c g is) (phases_good c g is)
+    let each = phases_good c g is in
+    let words = phase-words c c.procs c.lanes in
+    chosen (λ phases. AreWordPhases c (map (map (factor_term c.procs c.lanes)) phases)) (c.procs == 1)
+    ((g.first ++ g.second) ∷ []) (g.first ∷ g.second ∷ [])
+    (λ one. (words (g.first ++ g.second) valid (vec_good c g is), tt))
+    (words g.first valid each.0, (words g.second valid each.1, tt))
 
 -- ---- several copies
 

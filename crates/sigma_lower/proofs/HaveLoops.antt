@@ -12,11 +12,12 @@ use Rattle.sigma_lower.specs.TreeTerms.Root.{right_path}
 use Rattle.sigma_lower.specs.TreeTerms.Term.{PlainTerm, lowered_of}
 use Rattle.sigma_lower.proofs.TreeLoops.LoopNests.{loops_listed}
 use Rattle.sigma_lower.proofs.TreeLoops.RootMerging.{root_merged}
-use Rattle.sigma_lower.proofs.TreeLoops.RootPasses.{if_lanes, left_pass, right_passes, root_passes, tile_after}
+use Rattle.sigma_lower.proofs.TreeLoops.RootPasses.{if_lanes, left_pass, left_passes, right_passes, root_passes, tile_after}
 use Rattle.sigma_lower.proofs.TreeLoops.RootPasses.{tile_before, turned_waiting}
 use Rattle.sigma_lower.proofs.TreeLoops.TreePasses.{IsFull, full-append, full-at_last, full-mapped, full_passes}
 use Rattle.sigma_lower.proofs.TreeLoops.TreePasses.{layout_passes}
 use Rattle.sigma_lower.proofs.TreeLoops.Wholes.{plain_phases}
+use Rattle.sigma_spl.proofs.Walk.{chosen}
 use Rattle.smp_rewrite.specs.Fits.{RootHasParts}
 use Rattle.smp_rewrite.specs.LayoutSteps.Layout.{Layout, work, by, layout_size}
 use Rattle.tree_model.specs.declared.tree.Rule.{Rule}
@@ -66,16 +67,16 @@ full-right c p v Ct w a b fits =
 full-right c p v Split w a b fits = full-split p v a b
 full-right c p v Dim w a b fits = full-split p v a b
 
-full-phases : (b : Bool) (right left : List PlainPass) → IsFull right → IsFull left →
-    AllFull (if b then (right ++ left) ∷ [] else right ∷ left ∷ [])
-full-phases true right left h k = (full-front right left h, tt)
-full-phases false right left h k = (h, (k, tt))
-
 root-full : (c : Target) (l : Layout) → RootHasParts c l → AllFull (root_passes c l)
 root-full c (work w) fits = absurd fits
 root-full c (by rule root a b) fits =
-    full-phases (c.procs == 1) _ _ (full-right c c.procs c.lanes rule root a b fits)
-    (full-mapped (left_pass c.procs c.lanes (layout_size a) (layout_size b)) (layout_passes [] [] a) (full_passes [] [] a))
+    let right = right_passes c.procs c.lanes rule root a b in
+    let left = left_passes c.procs c.lanes (layout_size b) a in
+    let on_right = full-right c c.procs c.lanes rule root a b fits in
+    let on_left =
+    full-mapped (left_pass c.procs c.lanes (layout_size a) (layout_size b)) (layout_passes [] [] a) (full_passes [] [] a) in
+    chosen AllFull (c.procs == 1) ((right ++ left) ∷ []) (right ∷ left ∷ [])
+    (λ one. (full-front right left on_right, tt)) (on_right, (on_left, tt))
 
 pub phases_have_loops : PhasesHaveLoops
 phases_have_loops c l valid shares good = all-have c (lowered_of c l) (pick (is_alone c) refl)

@@ -19,6 +19,7 @@ use Rattle.sigma_lower.proofs.TreeLoops.Walks.{IsLaw, Keeps, Point, RightKeeps, 
 use Rattle.sigma_lower.proofs.TreeLoops.Walks.{steps-law, tiled}
 use Rattle.sigma_lower.proofs.TreeTerms.Both.{plain_terms}
 use Rattle.sigma_lower.proofs.TreeTerms.RootTerms.{rule-shared, shared_terms}
+use Rattle.sigma_spl.proofs.Walk.{chosen}
 use Rattle.sigma_spl.specs.Loops as loops
 use Rattle.sigma_spl.specs.Loops.{PlainLoop, Looping, looped, stored_last, CanScale, HasLoop, InOrder}
 use Rattle.sigma_spl.specs.Merge.{is_tile}
@@ -200,12 +201,6 @@ settled-phase c ts orders = let all = orders loops.begun refl in record { in_ord
 done-phase : (c : Target) (ts : List PlainTerm) → Orders begun ts done → IsOrderedPhase c ts
 done-phase c ts orders = let all = orders loops.begun refl in record { in_order = all.0; none_waits = all.1.0 }
 
-pick-phases : (c : Target) (b : Bool) (first second : List PlainTerm) → IsOrderedPhase c (first ++ second) →
-    IsOrderedPhase c first → IsOrderedPhase c second → AllOrdered c
-    (if b then (first ++ second) ∷ [] else first ∷ second ∷ [])
-pick-phases c true first second all h k = (all, tt)
-pick-phases c false first second all h k = (h, (k, tt))
-
 root-ordered : (c : Target) (l : Layout) → RootHasParts c l → IsGoodLayout c.modulus l → AllOrdered c (root_terms c l)
 root-ordered c (work w) parts good = tt
 root-ordered c (by rule root a b) parts good =
@@ -218,9 +213,10 @@ root-ordered c (by rule root a b) parts good =
     let right : Orders begun first settled =
     right-law Orders law p v root a b (keeps-right c.modulus p v root r b good.2) rule (rule-shared c rule r s parts) in
     let left : Orders ready second done = orders-left c.modulus p v s a good.1 in
-    pick-phases c (p == 1) first second
-    (done-phase c (first ++ second) (law.both begun settled done first second right (law.weak settled done second left)))
-    (settled-phase c first right) (done-phase c second (law.weak begun done second left))
+    let both = law.both begun settled done first second right (law.weak settled done second left) in
+    chosen (AllOrdered c) (p == 1) ((first ++ second) ∷ []) (first ∷ second ∷ [])
+    (λ one. (done-phase c (first ++ second) both, tt))
+    (settled-phase c first right, (done-phase c second (law.weak begun done second left), tt))
 
 pub trees_ordered : TreesOrdered
 trees_ordered c l valid shares good = pick (is_alone c) refl

@@ -17,6 +17,7 @@ use Rattle.sigma_lower.proofs.TreeLoops.RootPasses.{left_diagonal, left_pass, le
 use Rattle.sigma_lower.proofs.TreeLoops.TreePasses.{layout_passes, counted_passes, counted-multiplied}
 use Rattle.sigma_lower.proofs.TreeLoops.Wholes.{plain_passes}
 use Rattle.sigma_lower.specs.TreeTerms.Root.{right_path, left_path}
+use Rattle.sigma_lower.proofs.TreeTerms.RootTerms.{IsShared, rule-fits, rule-shared}
 use Rattle.sigma_spl.specs.Work.{PlainWork, kernel, rows, horner, tile, copy}
 use Rattle.smp_rewrite.specs.LayoutSteps.Layout.{Layout, work, by, layout_size, IsGoodLayout}
 use Rattle.smp_rewrite.specs.Smp.{within}
@@ -26,7 +27,7 @@ use Rattle.operators.specs.declared.tensor_paths.Tensor.TheVariants.{Blocks, Col
 use Rattle.operators.specs.TensorPaths.Path.{Path, count_of, copies_of}
 use Rattle.tree_model.specs.declared.tree.Rule.{Rule}
 use Rattle.tree_model.specs.declared.tree.Rule.TheVariants.{Gt, Ct, Split, Dim}
-use Rattle.smp_rewrite.specs.Fits.{HasParts, RuleHasParts, CanShareLayout}
+use Rattle.smp_rewrite.specs.Fits.{CanShareLayout}
 use Rattle.sigma_spl.specs.Shared.Targets.{is_alone}
 
 -- ---- n times as many copies
@@ -124,9 +125,21 @@ counted_right Ct one ps = twiddle_last (ps ++ (if one then [] else tiles false �
 counted_right Split one ps = (if one then [] else tiles false ∷ []) ++ (ps ++ (if one then [] else tiles false ∷ []))
 counted_right Dim one ps = (if one then [] else tiles false ∷ []) ++ (ps ++ (if one then [] else tiles false ∷ []))
 
+counted-split : (m p v w : ℕ) (a b : Layout) → IsGoodLayout m b →
+    map counted (right_passes p v Split w a b)
+    ≡ counted_right Split (v == 1) (passes_of (copies_of (right_path p v (layout_size a))) b)
+counted-split m p v w a b h =
+    let r = layout_size a in
+    let s = layout_size b in
+    let inner = layout_passes (right_path p v r) [] b in
+    map-append counted (if_lanes v (tile_before p v r s)) (inner ++ if_lanes v (tile_after p v r s))
+    ∙ ap₂ (λ x y. x ++ y) (counted-lanes (v == 1) (tile_before p v r s))
+    (map-append counted inner (if_lanes v (tile_after p v r s))
+    ∙ ap₂ (λ x y. x ++ y) (counted_passes m (right_path p v r) [] b h) (counted-lanes (v == 1) (tile_after p v r s)))
+
 counted-right_passes : (m p v : ℕ) (rule : Rule) (w : ℕ) (a b : Layout) → IsGoodLayout m b →
-    map counted (right_passes p v rule w a b) ≡ counted_right rule (v == 1)
-    (passes_of (copies_of (right_path p v (layout_size a))) b)
+    map counted (right_passes p v rule w a b)
+    ≡ counted_right rule (v == 1) (passes_of (copies_of (right_path p v (layout_size a))) b)
 counted-right_passes m p v Gt w a b h = refl
 counted-right_passes m p v Ct w a b h =
     let r = layout_size a in
@@ -135,23 +148,10 @@ counted-right_passes m p v Ct w a b h =
     counted-multiplied [] r s w (inner ++ if_lanes v (tile_after p v r s))
     ∙ ap twiddle_last
     (map-append counted inner (if_lanes v (tile_after p v r s))
-    ∙ ap₂ (λ x y. x ++ y) (counted_passes m (right_path p v r) (turned_waiting p v r s) b h) (counted-lanes (v == 1) (tile_after p v r s)))
-counted-right_passes m p v Split w a b h =
-    let r = layout_size a in
-    let s = layout_size b in
-    let inner = layout_passes (right_path p v r) [] b in
-    map-append counted (if_lanes v (tile_before p v r s)) (inner ++ if_lanes v (tile_after p v r s))
-    ∙ ap₂ (λ x y. x ++ y) (counted-lanes (v == 1) (tile_before p v r s))
-    (map-append counted inner (if_lanes v (tile_after p v r s))
-    ∙ ap₂ (λ x y. x ++ y) (counted_passes m (right_path p v r) [] b h) (counted-lanes (v == 1) (tile_after p v r s)))
-counted-right_passes m p v Dim w a b h =
-    let r = layout_size a in
-    let s = layout_size b in
-    let inner = layout_passes (right_path p v r) [] b in
-    map-append counted (if_lanes v (tile_before p v r s)) (inner ++ if_lanes v (tile_after p v r s))
-    ∙ ap₂ (λ x y. x ++ y) (counted-lanes (v == 1) (tile_before p v r s))
-    (map-append counted inner (if_lanes v (tile_after p v r s))
-    ∙ ap₂ (λ x y. x ++ y) (counted_passes m (right_path p v r) [] b h) (counted-lanes (v == 1) (tile_after p v r s)))
+    ∙ ap₂ (λ x y. x ++ y) (counted_passes m (right_path p v r) (turned_waiting p v r s) b h)
+    (counted-lanes (v == 1) (tile_after p v r s)))
+counted-right_passes m p v Split w a b h = counted-split m p v w a b h
+counted-right_passes m p v Dim w a b h = counted-split m p v w a b h
 
 -- ---- the root
 
@@ -170,26 +170,30 @@ root_passes_of rule root a b =
     let s_is : 1 * s ≡ s = omega arith in
     ap₂ (λ x y. twiddle_by rule (passes_of x b) ++ passes_of y a) r_is s_is
 
-on_one_lane : (rule : Rule) (ps qs : List Counted) → (rule ≡ Gt → ⊥) →
+on_one_lane : (rule : Rule) (ps qs : List Counted) → IsShared rule →
     counted_right rule true ps ++ qs ≡ twiddle_by rule ps ++ qs
-on_one_lane Gt ps qs h = absurd (h refl)
+on_one_lane Gt ps qs h = absurd h
 on_one_lane Ct ps qs h = ap (λ xs. twiddle_last xs ++ qs) (append-nil ps)
 on_one_lane Split ps qs h = ap (λ xs. xs ++ qs) (append-nil ps)
 on_one_lane Dim ps qs h = ap (λ xs. xs ++ qs) (append-nil ps)
 
-on_lanes : (rule : Rule) (root : ℕ) (a b : Layout) → (rule ≡ Gt → ⊥) →
-    counted_right rule false (passes_of (layout_size a) b) ++ passes_of (layout_size b) a
-    ≡ tiled_passes (by rule root a b)
-on_lanes Gt root a b h = absurd (h refl)
-on_lanes Ct root a b h =
-    ap (λ xs. xs ++ passes_of (layout_size b) a) (last-tile (passes_of (layout_size a) b) false)
-    ∙ append_assoc (passes_of (layout_size a) b) (tiles true ∷ []) (passes_of (layout_size b) a)
-on_lanes Split root a b h = ap (λ xs. tiles false ∷ xs) (append_assoc (passes_of (layout_size a) b) (tiles false ∷ []) (passes_of (layout_size b) a))
-on_lanes Dim root a b h =
+split_on_lanes : (a b : Layout) →
+    counted_right Split false (passes_of (layout_size a) b) ++ passes_of (layout_size b) a ≡ tiled_passes (by Split 0 a b)
+split_on_lanes a b =
     ap (λ xs. tiles false ∷ xs)
     (append_assoc (passes_of (layout_size a) b) (tiles false ∷ []) (passes_of (layout_size b) a))
 
-as_counted : (rule : Rule) (root : ℕ) (a b : Layout) → (rule ≡ Gt → ⊥) → (one few : Bool) → one ≡ few →
+on_lanes : (rule : Rule) (root : ℕ) (a b : Layout) → IsShared rule →
+    counted_right rule false (passes_of (layout_size a) b) ++ passes_of (layout_size b) a
+    ≡ tiled_passes (by rule root a b)
+on_lanes Gt root a b h = absurd h
+on_lanes Ct root a b h =
+    ap (λ xs. xs ++ passes_of (layout_size b) a) (last-tile (passes_of (layout_size a) b) false)
+    ∙ append_assoc (passes_of (layout_size a) b) (tiles true ∷ []) (passes_of (layout_size b) a)
+on_lanes Split root a b h = split_on_lanes a b
+on_lanes Dim root a b h = split_on_lanes a b
+
+as_counted : (rule : Rule) (root : ℕ) (a b : Layout) → IsShared rule → (one few : Bool) → one ≡ few →
     counted_right rule one (passes_of (layout_size a) b) ++ passes_of (layout_size b) a
     ≡ (if few then passes_of 1 (by rule root a b) else tiled_passes (by rule root a b))
 as_counted rule root a b h true true e = on_one_lane rule (passes_of (layout_size a) b) (passes_of (layout_size b) a) h ∙ sym (root_passes_of rule root a b)
@@ -197,7 +201,7 @@ as_counted rule root a b h false false e = on_lanes rule root a b h
 as_counted rule root a b h true false e = absurd (cc)
 as_counted rule root a b h false true e = absurd (cc)
 
-pub counted-root : (c : Target) (rule : Rule) (root : ℕ) (a b : Layout) → (rule ≡ Gt → ⊥) →
+pub counted-root : (c : Target) (rule : Rule) (root : ℕ) (a b : Layout) → IsShared rule →
     IsGoodLayout c.modulus (by rule root a b) → (c.lanes == 1) ≡ nat_le c.lanes 1 →
     IsDealt c.procs c.lanes (layout_size a) → IsDealt c.procs c.lanes (layout_size b) →
     map counted (in_order (root_passes c (by rule root a b))) ≡ whole_passes c.lanes (by rule root a b)
@@ -217,20 +221,16 @@ counted-root c rule root a b h good lanes dealt_r dealt_s =
 
 -- ---- the law
 
-root_rule : (c : Target) (rule : Rule) (r s : ℕ) → RuleHasParts c rule r s → (rule ≡ Gt → ⊥) × HasParts c r s
-root_rule c Gt r s fits = absurd fits
-root_rule c Ct r s fits = ((λ e. absurd (cc)), fits)
-root_rule c Split r s fits = ((λ e. absurd (cc)), fits)
-root_rule c Dim r s fits = ((λ e. absurd (cc)), fits)
-
 shared_counts : (c : Target) (l : Layout) → CanShareLayout c l → IsGoodLayout c.modulus l → is_alone c ≡ false →
     map counted (in_order (root_passes c l)) ≡ whole_passes c.lanes l
 shared_counts c (work w) shares good shared = absurd (shares.root shared)
 shared_counts c (by rule root a b) shares good shared =
-    let both = root_rule c rule (layout_size a) (layout_size b) (shares.root shared) in
-    let dealt = dealt_parts c (by rule root a b) (layout_size a) (layout_size b) shares both.1 in
+    let r = layout_size a in
+    let s = layout_size b in
+    let parts = shares.root shared in
+    let dealt = dealt_parts c (by rule root a b) r s shares (rule-fits c rule r s parts) in
     let one : 1 ≤ c.lanes = shares.lanes in
-    counted-root c rule root a b both.0 good (grind (arith, nat_tests)) dealt.0 dealt.1
+    counted-root c rule root a b (rule-shared c rule r s parts) good (grind (arith, nat_tests)) dealt.0 dealt.1
 
 plain_counts : (c : Target) (l : Layout) → IsGoodLayout c.modulus l → is_alone c ≡ true →
     map counted (merged_of c l) ≡ whole_passes c.lanes l

@@ -11,6 +11,7 @@ use Rattle.perm_algebra.specs.Room.{CanScale, CanJoin, HasRoomFor}
 use Rattle.perm_algebra.proofs.AffineLaws.{top-scaled}
 use Rattle.perm_algebra.proofs.Shape.{divided-joined}
 use Rattle.perm_algebra.proofs.Sizes.{joined-end, scaled-one}
+use Rattle.std.proofs.lemmas.Option.{same_Some}
 use Rattle.sigma_lower.specs.TreeLoops.Merge.{PlainDiagonal, PlainPass}
 use Rattle.sigma_lower.specs.TreeLoops.Placed.{Fits, IsCarried, place_sum, AreCounts, all_simplified, diagonal_places}
 use Rattle.sigma_lower.specs.TreeLoops.Placed.{IsLimitedPass}
@@ -59,14 +60,10 @@ counts-append (Columns c ∷ path) more n d cs h =
 
 -- ---- diagonals
 
-some-is : {A : Type 0} (a b : A) → ◌≡◌ {A = Option A} (Some a) (Some b) → a ≡ b
-some-is a b e = cc
-
--- what is mapped to something is something
 pub mapped-some : {A B : Type 0} (f : A → B) (o : Option A) (x : B) → option_map f o ≡ Some x →
     (d : A) × (o ≡ Some d) × (f d ≡ x)
 mapped-some f None x e = absurd (cc)
-mapped-some f (Some d) x e = (d, refl, some-is (f d) x e)
+mapped-some f (Some d) x e = (d, refl, same_Some (f d) x e)
 
 -- ---- a pass of the part alone, in all copies
 

@@ -11,6 +11,7 @@ use Rattle.perm_algebra.specs.Affine.{simplified}
 use Rattle.perm_algebra.proofs.AffineLaws.{top-scaled, top-joined}
 use Rattle.perm_algebra.proofs.Shape.{divided-joined, turned-joined}
 use Rattle.perm_algebra.proofs.Sizes.{parts-scaled, parts-joined, proper-joined, proper-scaled}
+use Rattle.std.proofs.lemmas.Option.{none-some, same_Some}
 use Rattle.sigma_lower.specs.TreeLoops.Merge.{PlainDiagonal, PlainPass, new_pass, scattered, multiplied, at_last}
 use Rattle.sigma_lower.specs.TreeLoops.Placed.{Fits, IsTame, place_sum, AreCounts, all_simplified, IsLimitedPass}
 use Rattle.sigma_lower.specs.TreeLoops.Placed.{AllLimited}
@@ -275,13 +276,6 @@ pub record IsPlacedPass (size : ℕ) (path : Path) (n : ℕ) (p : PlainPass) : T
   pub scatters : Scattering size path n p
   pub multiplies : (d : PlainDiagonal) → p.diagonal ≡ Some d → Multiplying size p d × (d.rows * d.cols ≤ size)
 
-pub none_is_some : (d : PlainDiagonal) → ◌≡◌ {A = Option PlainDiagonal} None (Some d) → ⊥
-none_is_some d e = absurd (cc)
-
-pub multiplied-is : (path : Path) (r s w : ℕ) (places : List Mapping) (d : PlainDiagonal) → ◌≡◌ {A = Option PlainDiagonal} (Some (record { path = path; rows = r; cols = s; root = w; places = places })) (Some d) →
-    ◌≡◌ {A = PlainDiagonal} (record { path = path; rows = r; cols = s; root = w; places = places }) d
-multiplied-is path r s w places d e = cc
-
 scattering-multiplies : (size : ℕ) (path : Path) (r s w : ℕ) (p : PlainPass) → r * s ≤ 1048576 →
     size_under path (r * s) ≤ 1048576 → Scattering size path (r * s) p →
     Multiplying size (multiplied path r s w p) (record { path = path; rows = r; cols = s; root = w; places = p.afters })
@@ -341,7 +335,7 @@ placed-multiplied size path r s w (p ∷ []) low under within h = (
     gathers = h.0.gathers;
     scatters = record { placed = h.0.scatters.placed; stays = h.0.scatters.stays };
     multiplies = λ d e.
-        subst (λ (z : PlainDiagonal). Multiplying size (multiplied path r s w p) z × (z.rows * z.cols ≤ size)) (multiplied-is path r s w p.afters d e) (scattering-multiplies size path r s w p low under h.0.scatters, within);
+        subst (λ (z : PlainDiagonal). Multiplying size (multiplied path r s w p) z × (z.rows * z.cols ≤ size)) (same_Some _ d e) (scattering-multiplies size path r s w p low under h.0.scatters, within);
   },
   tt,
 )
@@ -363,7 +357,7 @@ placed_rule size Dim path r s w left right h l k =
 
 new-placed : (size : ℕ) (path : Path) (waiting : List Mapping) (w : PlainWork) → size_under path (work_size w) ≡ size →
     Gathering size path waiting (work_size w) → IsPlacedPass size path (work_size w) (new_pass path w waiting)
-new-placed size path waiting w e g = record { gathers = g; scatters = scattering-new size path waiting w e; multiplies = λ d e. absurd (none_is_some d e) }
+new-placed size path waiting w e g = record { gathers = g; scatters = scattering-new size path waiting w e; multiplies = λ d e. absurd (none-some d e) }
 
 pub placed_passes : (m size : ℕ) (path : Path) (waiting : List Mapping) (l : Layout) → IsSize size → IsGoodLayout m l →
     size_under path (layout_size l) ≡ size → Gathering size path waiting (layout_size l) →

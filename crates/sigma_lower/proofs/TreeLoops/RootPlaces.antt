@@ -4,14 +4,15 @@ use Rattle.std.proofs.Common.{◌++◌, if◌then◌else◌, subst, mul_comm, ap
 use Rattle.std.specs.Prelude.{◌==◌, map, Option, None, Some}
 use Rattle.index_fn.specs.Mapping.{Mapping, Same, Strided}
 use Rattle.operators.specs.declared.target.Target.{Target}
+use Rattle.std.proofs.lemmas.Option.{none-some, same_Some}
 use Rattle.sigma_lower.specs.TreeLoops.Merge.{PlainDiagonal, PlainPass, multiplied, at_last, in_order}
 use Rattle.sigma_lower.specs.TreeLoops.Placed.{AllLimited, diagonal_places}
 use Rattle.sigma_spl.proofs.Several.{several-append}
 use Rattle.sigma_lower.proofs.TreeLoops.GoodPlaces.{HaveGoodPlaces}
 use Rattle.sigma_lower.proofs.TreeLoops.LeftPlaces.{size_under-append, mapped-some, left_fills, left_wide, left_limited}
 use Rattle.sigma_lower.proofs.TreeLoops.PartRules.{IsSize}
-use Rattle.sigma_lower.proofs.TreeLoops.PlaceLimits.{Gathering, gathering-natural, ArePlaced, none_is_some}
-use Rattle.sigma_lower.proofs.TreeLoops.PlaceLimits.{multiplied-is, placed-multiplied, all_limited, whole_placed}
+use Rattle.sigma_lower.proofs.TreeLoops.PlaceLimits.{Gathering, gathering-natural, ArePlaced}
+use Rattle.sigma_lower.proofs.TreeLoops.PlaceLimits.{placed-multiplied, all_limited, whole_placed}
 use Rattle.sigma_lower.proofs.TreeLoops.RightPlaces.{right_fills, right_wide, gathering-turned, right_placed}
 use Rattle.sigma_lower.proofs.TreeLoops.RootPasses.{turned_waiting, tile_before, tile_after, if_lanes, on_all, if_dealt}
 use Rattle.sigma_lower.proofs.TreeLoops.RootPasses.{left_diagonal, left_pass, right_passes, root_passes}
@@ -107,7 +108,7 @@ module _ (c : Target) (P : PlainWork → Type 0) (p v r s : ℕ) (h : AreShares 
       }
 
   no-diagonal : (afters : List Mapping) (d : PlainDiagonal) → ◌≡◌ {A = Option PlainDiagonal} None (Some d) → (w : ℕ) × ◌≡◌ {A = PlainDiagonal} (record { path = []; rows = r; cols = s; root = w; places = afters }) d
-  no-diagonal afters d e = absurd (none_is_some d e)
+  no-diagonal afters d e = absurd (none-some d e)
 
   before_good : P (tile v) → HaveGoodPlaces c P (tile_before p v r s ∷ [])
   before_good over =
@@ -124,7 +125,7 @@ module _ (c : Target) (P : PlainWork → Type 0) (p v r s : ℕ) (h : AreShares 
       let n : ℕ = v * (s / v) in
       let is : n ≡ s / v * v = mul_comm v (s / v) in
       let fs : List Mapping = vectors_grouped n p v r s ∷ [] in
-      tile_good over [] fs (Some (record { path = []; rows = r; cols = s; root = w; places = fs })) (none_keep size p v r s h) (grouped_keep size p v r s h n is) (λ d e. (w, multiplied-is [] r s w fs d e))
+      tile_good over [] fs (Some (record { path = []; rows = r; cols = s; root = w; places = fs })) (none_keep size p v r s h) (grouped_keep size p v r s h n is) (λ d e. (w, same_Some _ d e))
 
   -- the right part with the root's diagonal after it, on one lane
   multiplied_tree : (w : ℕ) (ps : List PlainPass) → ArePlaced size [] size ps → HaveGoodPlaces c P ps →

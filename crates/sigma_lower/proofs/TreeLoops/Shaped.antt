@@ -2,8 +2,8 @@
 use Rattle.std.proofs.Common.{◌≡◌, ℕ, ◌*◌, ◌≤◌, ◌∙◌, List, [], ◌∷◌, ◌++◌, subst}
 use Rattle.std.specs.Prelude.{Some}
 use Rattle.index_fn.specs.Mapping.{Mapping}
+use Rattle.std.proofs.lemmas.Option.{none-some, same_Some}
 use Rattle.sigma_lower.specs.TreeLoops.Merge.{PlainDiagonal, PlainPass, new_pass, scattered, multiplied, at_last}
-use Rattle.sigma_lower.proofs.TreeLoops.PlaceLimits.{none_is_some, multiplied-is}
 use Rattle.sigma_lower.proofs.TreeLoops.PassLists.{AllPasses, all-append, all-last}
 use Rattle.sigma_lower.proofs.TreeLoops.TreePasses.{back, rule_waiting, rule_passes, layout_passes}
 use Rattle.sigma_spl.specs.Shared.Kernels.{IsMadeKernel}
@@ -54,7 +54,7 @@ AreShaped P size ps = AllPasses (IsShaped P size) ps
 
 pub new-shaped : (P : PlainWork → Type 0) (size : ℕ) (path : Path) (waiting : List Mapping) (w : PlainWork) →
     AreSeveral path → size_under path (work_size w) ≡ size → P w → IsShaped P size (new_pass path w waiting)
-new-shaped P size path waiting w wide fills does = record { wide = wide; fills = fills; work = does; multiplies = λ d e. absurd (none_is_some d e) }
+new-shaped P size path waiting w wide fills does = record { wide = wide; fills = fills; work = does; multiplies = λ d e. absurd (none-some d e) }
 
 pub scattered-shaped : (P : PlainWork → Type 0) (size : ℕ) (f : Mapping) (p : PlainPass) → IsShaped P size p →
     IsShaped P size (scattered f p)
@@ -67,7 +67,7 @@ multiplied-shaped P size path r s w p fills h =
       wide = h.wide;
       fills = h.fills;
       work = h.work;
-      multiplies = λ d e. subst (λ (z : PlainDiagonal). size_under z.path (z.rows * z.cols) ≡ size) (multiplied-is path r s w p.afters d e) fills;
+      multiplies = λ d e. subst (λ (z : PlainDiagonal). size_under z.path (z.rows * z.cols) ≡ size) (same_Some _ d e) fills;
     }
 
 shaped_rule : (P : PlainWork → Type 0) (size : ℕ) (rule : Rule) (path : Path) (r s w : ℕ)

@@ -11,6 +11,7 @@ use Rattle.sigma_lower.proofs.SharedTrees.{AllEmbed, trees_embed}
 use Rattle.sigma_lower.specs.TreeLoops.Merge.{PlainPass, passes_of_terms, in_order, merged_of}
 use Rattle.sigma_lower.specs.TreeLoops.Nests.{loop_of}
 use Rattle.sigma_lower.specs.TreeLoops.Placed.{AllLimited, IsLimitedPass}
+use Rattle.sigma_lower.proofs.TreeLoops.PassLists.{AllPasses}
 use Rattle.sigma_lower.proofs.TreeLoops.GoodPlaces.{HaveGoodPlaces}
 use Rattle.sigma_lower.proofs.TreeLoops.LoopLimits.{tree_loops}
 use Rattle.sigma_lower.proofs.TreeLoops.LoopNests.{loops_listed}
@@ -92,8 +93,7 @@ good-phases c (ts ∷ more) machine embedded ordered have =
 -- ---- all passes
 
 abbrev pub AllKnown : Target → List PlainPass → Type 0
-AllKnown c [] = Unit {0}
-AllKnown c (p ∷ ps) = IsKnown c p × AllKnown c ps
+AllKnown c ps = AllPasses (IsKnown c) ps
 
 all-known : (c : Target) (ps : List PlainPass) → AllFramed c ps → AreShaped (IsShapedWork c.modulus) c.size ps →
     AreShaped IsSmallWork c.size ps → AreLimitedLoops (most 64) c.size (map loop_of ps) → AllLimited c ps →

@@ -50,9 +50,10 @@ use Rattle.sigma_lower.proofs.TreeSigmas.Closing.{takes-phases, whole-bounded, w
 use Rattle.sigma_lower.proofs.TreeSigmas.Closing.{whole-ready, whole-shared}
 use Rattle.sigma_lower.proofs.TreeSigmas.Few.{AreFewMerged, few_merged}
 use Rattle.sigma_lower.proofs.TreeSigmas.Hosted.{IsHosted}
-use Rattle.sigma_lower.proofs.TreeSigmas.Known.{AllKnown, layout-known}
+use Rattle.sigma_lower.proofs.TreeSigmas.Known.{AllKnown, IsKnown, layout-known}
 use Rattle.sigma_lower.proofs.TreeSigmas.Lasts.{HasItem, order-map}
-use Rattle.sigma_lower.proofs.TreeSigmas.Owned.{known-back, known-front, phases-shared}
+use Rattle.sigma_lower.proofs.TreeLoops.PassLists.{all-split}
+use Rattle.sigma_lower.proofs.TreeSigmas.Owned.{phases-shared}
 use Rattle.sigma_lower.proofs.TreeSigmas.Ready.{ready-loop}
 use Rattle.sigma_lower.proofs.TreeSigmas.TreeCounts.{forward_costs, forward_loads}
 use Rattle.sigma_lower.proofs.TreeSigmas.TreeHosted.{tree_hosted}
@@ -70,7 +71,8 @@ module _ (h : Target) (l : Layout) (is : IsHosted h l) where
   phases-ready [] known = All-nil (All (IsReadyLoop h))
   phases-ready (ps ∷ more) known =
       All-cons (All (IsReadyLoop h)) (map loop_of ps) (map (map loop_of) more)
-      (all-ready ps (known-front h ps (in_order more) known)) (phases-ready more (known-back h ps (in_order more) known))
+      (all-ready ps (all-split (IsKnown h) ps (in_order more) known).0)
+      (phases-ready more (all-split (IsKnown h) ps (in_order more) known).1)
 
 -- ---- the passes of all phases
 

@@ -13,6 +13,7 @@ use Rattle.sigma_spl.specs.Work.{work_size}
 use Rattle.sigma_spl.proofs.Natural.{ranged}
 use Rattle.sigma_lower.specs.TreeLoops.SharedPasses.Shared as shared
 use Rattle.operators.specs.TensorPaths.Path.{AreInRange}
+use Rattle.sigma_lower.proofs.TreeLoops.PassLists.{all-split}
 use Rattle.sigma_lower.proofs.TreeSigmas.Known.{AllKnown, IsKnown}
 use Rattle.sigma_lower.proofs.TreeSigmas.Places.{load-is, store-is}
 
@@ -67,14 +68,6 @@ module _ (c : Target) where
   first-own owner [] known own = tt
   first-own owner (p ∷ ps) known own = (stores-own owner p known.0 own.0, all-own owner ps known.1 own.1)
 
-  pub known-front : (ps qs : List PlainPass) → AllKnown c (ps ++ qs) → AllKnown c ps
-  known-front [] qs h = tt
-  known-front (p ∷ ps) qs h = (h.0, known-front ps qs h.1)
-
-  pub known-back : (ps qs : List PlainPass) → AllKnown c (ps ++ qs) → AllKnown c qs
-  known-back [] qs h = h
-  known-back (p ∷ ps) qs h = known-back ps qs h.1
-
   all-shared : (phases : List (List PlainPass)) → AllKnown c (in_order phases) → shared.AllShared c phases →
       AllShared c (map (map one_nest) (map (map loop_of) phases))
   all-shared [] known h = tt
@@ -82,9 +75,9 @@ module _ (c : Target) where
     record {
       owner = h.0.owner;
       is_owner = h.0.is_owner;
-      owns = all-own h.0.owner ps (known-front ps (in_order more) known) h.0.owns;
+      owns = all-own h.0.owner ps (all-split (IsKnown c) ps (in_order more) known).0 h.0.owns;
     },
-    all-shared more (known-back ps (in_order more) known) h.1,
+    all-shared more (all-split (IsKnown c) ps (in_order more) known).1 h.1,
   )
 
   pub phases-shared : (phases : List (List PlainPass)) → AllKnown c (in_order phases) →
@@ -94,7 +87,7 @@ module _ (c : Target) where
     record {
       owner = h.0.owner;
       is_owner = h.0.is_owner;
-      owns = first-own h.0.owner ps (known-front ps (in_order more) known) h.0.owns;
+      owns = first-own h.0.owner ps (all-split (IsKnown c) ps (in_order more) known).0 h.0.owns;
     },
-    all-shared more (known-back ps (in_order more) known) h.1,
+    all-shared more (all-split (IsKnown c) ps (in_order more) known).1 h.1,
   )

@@ -2,6 +2,7 @@
 use Rattle.std.proofs.Common.{◌≡◌, ℕ, ◌+◌, ◌*◌, ◌<◌, List, [], ◌∷◌, ◌++◌, length, map, refl, sym, ap, ◌∙◌, arith, subst}
 use Rattle.std.proofs.Common.{Option, Some, None}
 use Rattle.std.specs.Option.{option_map}
+use Rattle.std.proofs.lemmas.Option.{none-some, same_Some}
 use Rattle.std.specs.Prelude.{slice_index}
 use Rattle.index_fn.specs.Mapping.{Mapping, at}
 use Rattle.kernel_gen.proofs.Residues.{power_below}
@@ -39,19 +40,13 @@ pub record IsTaken (p : PlainPass) (m : PlainMultiplier) : Type 0 where
   pub is : p.diagonal ≡ Some diagonal
   pub same : m ≡ record { factors = (taken_of diagonal).factors; places = places_by (loop_of p) (taken_of diagonal).places (items_out p.work (length p.path)) }
 
-none-is-some : (m : PlainMultiplier) → ◌≡◌ {A = Option PlainMultiplier} None (Some m) → ⊥
-none-is-some m e = cc
-
-some-same : (a b : PlainMultiplier) → ◌≡◌ {A = Option PlainMultiplier} (Some a) (Some b) → b ≡ a
-some-same a b e = cc
-
 pub taken-is : (p : PlainPass) (m : PlainMultiplier) → (nest_of (loop_of p)).multiplier ≡ Some m → IsTaken p m
 taken-is p m = pick p.diagonal refl
   where
     pick : (o : Option PlainDiagonal) → p.diagonal ≡ o → multiplier_of (loop_of p) (option_map taken_of o) ≡ Some m →
         IsTaken p m
-    pick None is e = absurd (none-is-some m e)
-    pick (Some d) is e = record { diagonal = d; is = is; same = some-same _ m e }
+    pick None is e = absurd (none-some m e)
+    pick (Some d) is e = record { diagonal = d; is = is; same = sym (same_Some _ m e) }
 
 module _ (c : Target) (p : PlainPass) (good : IsGoodLoop c.lanes (loop_of p)) where
   abbrev w : PlainWork

@@ -31,6 +31,7 @@ use Rattle.vec_rewrite.proofs.LaneShapes.{vec_shaped}
 use Rattle.sigma_lower.specs.TreeTerms.Good.{AreCoprime, IsGoodPiece, IsGoodCore, IsGood, AreGood, IsVecOf}
 use Rattle.sigma_lower.proofs.TreeTerms.Lowering.{good_steps}
 use Rattle.sigma_spl.proofs.Keeps.{right_positive}
+use Rattle.sigma_spl.proofs.Walk.{chosen}
 
 -- ---- what a core needs apart from its size, where that of a piece is said of its tree
 
@@ -107,18 +108,14 @@ module _ (Q : PlainWork → Type 0) where
   cut-apt n p (Columns s ∷ path) (thomas_in a b) h = whole-apt (Columns s ∷ path) (thomas_in a b) h
   cut-apt n p (Columns s ∷ path) (thomas_out a b) h = whole-apt (Columns s ∷ path) (thomas_out a b) h
 
-  pick-apt : (b : Bool) (fs gs : List smp.PlainFactor) → All (IsAptFactor Q) fs → All (IsAptFactor Q) gs →
-      All (IsAptFactor Q) (if b then fs else gs)
-  pick-apt true fs gs h k = h
-  pick-apt false fs gs h k = k
-
   flat-apt : (n p : ℕ) (ss : List PlainStep) → All (λ s. IsApt Q s.core) ss →
       All (IsAptFactor Q) (flat_map (factors_of n p) ss)
   flat-apt n p [] h = All-nil (IsAptFactor Q)
   flat-apt n p (s ∷ ss) h =
       let core : IsApt Q s.core = All-head (λ s. IsApt Q s.core) s ss h in
       All-append (IsAptFactor Q) (factors_of n p s) (flat_map (factors_of n p) ss)
-      (pick-apt (p == 1) (smp.blocks s ∷ []) (cut_factors n p s.path s.core) (apt-one (smp.blocks s) core) (cut-apt n p s.path s.core core))
+      (chosen (All (IsAptFactor Q)) (p == 1) (smp.blocks s ∷ []) (cut_factors n p s.path s.core)
+      (λ one. apt-one (smp.blocks s) core) (cut-apt n p s.path s.core core))
       (flat-apt n p ss (All-tail (λ s. IsApt Q s.core) s ss h))
 
   lane-one : (f : PlainFactor) → IsAptLane Q f → All (IsAptLane Q) (f ∷ [])
@@ -184,13 +181,10 @@ module _ (Q : PlainWork → Type 0) where
   kept-apt [] h = All-nil (IsAptLane Q)
   kept-apt (f ∷ fs) h = All-cons (IsAptLane Q) (kept f) (map kept fs) (kept-one f (All-head (IsAptFactor Q) f fs h)) (kept-apt fs (All-tail (IsAptFactor Q) f fs h))
 
-  pick-lane : (b : Bool) (fs gs : List PlainFactor) → All (IsAptLane Q) fs → All (IsAptLane Q) gs →
-      All (IsAptLane Q) (if b then fs else gs)
-  pick-lane true fs gs h k = h
-  pick-lane false fs gs h k = k
-
   phase-apt : (d : Deal) (fs : List smp.PlainFactor) → All (IsAptFactor Q) fs → All (IsAptLane Q) (phase_of d fs)
-  phase-apt d fs h = pick-lane (d.lanes == 1) (map kept fs) (laned_from d None fs) (kept-apt fs h) (from-apt d None fs h)
+  phase-apt d fs h =
+      chosen (All (IsAptLane Q)) (d.lanes == 1) (map kept fs) (laned_from d None fs) (λ one. kept-apt fs h)
+      (from-apt d None fs h)
 
   -- the factors of a layout whose steps are apt
   pub layout-apt : (h : Target) (l : Layout) → All (λ s. IsApt Q s.core) (steps_of [] l) →

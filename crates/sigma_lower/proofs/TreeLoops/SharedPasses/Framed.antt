@@ -35,6 +35,7 @@ use Rattle.tree_model.specs.declared.tree.Rule.{Rule}
 use Rattle.tree_model.specs.declared.tree.Rule.TheVariants.{Gt, Ct, Split, Dim}
 use Rattle.smp_rewrite.specs.Fits.{HasParts, RootHasParts, CanShareLayout}
 use Rattle.smp_rewrite.specs.LayoutSteps.Layout.{Layout, work, by, layout_size, IsGoodLayout, IsGoodWork}
+use Rattle.sigma_spl.proofs.Walk.{chosen}
 use Rattle.sigma_spl.specs.Shared.Targets.{is_alone}
 use Rattle.sigma_lower.proofs.TreeTerms.Both.{plain_terms}
 use Rattle.sigma_lower.proofs.TreeTerms.RootTerms.{shared_terms, rule-fits, rule-shared}
@@ -246,13 +247,6 @@ brings-framed : (c : Target) (n : ℕ) (j : Point) (ts : List PlainTerm) → Lan
     AllFramed c (passes_of_terms ts)
 brings-framed c n j ts brings = all-framed c (λ p. LastAt c n j p.work) (passes_of_terms ts) (brings nothing (tt, tt)).0
 
-phases-pick : (c : Target) (b : Bool) (first second : List PlainTerm) →
-    AllFramed c (passes_of_terms (first ++ second)) → AllFramed c (passes_of_terms first) →
-    AllFramed c (passes_of_terms second) →
-    AllFramed c (in_order (map passes_of_terms (if b then (first ++ second) ∷ [] else first ∷ second ∷ [])))
-phases-pick c true first second h k l = framed-append c (passes_of_terms (first ++ second)) [] h tt
-phases-pick c false first second h k l = framed-append c (passes_of_terms first) (passes_of_terms second ++ []) k (framed-append c (passes_of_terms second) [] l tt)
-
 columns-from : (c : Target) (r s : ℕ) → 1 ≤ c.lanes → HasParts c r s → HasVectors c.lanes (Columns s ∷ [])
 columns-from c r s low fits =
     elim (cases_eq c.lanes 1) [
@@ -275,10 +269,13 @@ root-framed c (by rule w a b) low h good =
     right-law (Lanes c n) (law c n) c.procs c.lanes w a b (right-keeps c w r b good.2) rule (rule-shared c rule r s h) in
     let left : Lanes c n ready second done =
     left-laned c n s a good.1 (columns-from c r s low (rule-fits c rule r s h)) in
-    phases-pick c (c.procs == 1) first second
-    (brings-framed c n done (first ++ second)
-    ((law c n).both begun settled done first second right ((law c n).weak settled done second left)))
-    (brings-framed c n settled first right) (brings-framed c n done second ((law c n).weak begun done second left))
+    let both = (law c n).both begun settled done first second right ((law c n).weak settled done second left) in
+    let alone = brings-framed c n done second ((law c n).weak begun done second left) in
+    chosen (λ phases. AllFramed c (in_order (map passes_of_terms phases))) (c.procs == 1) ((first ++ second) ∷ [])
+    (first ∷ second ∷ [])
+    (λ one. framed-append c (passes_of_terms (first ++ second)) [] (brings-framed c n done (first ++ second) both) tt)
+    (framed-append c (passes_of_terms first) (passes_of_terms second ++ []) (brings-framed c n settled first right)
+    (framed-append c (passes_of_terms second) [] alone tt))
 
 -- ---- one processor and one lane
 

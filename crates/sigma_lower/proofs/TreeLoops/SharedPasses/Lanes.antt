@@ -5,6 +5,7 @@ use Rattle.std.proofs.Math.Nat.{zero-mul}
 use Rattle.index_fn.specs.Mapping.{Mapping, at}
 use Rattle.operators.specs.declared.target.Target.{Target}
 use Rattle.sigma_spl.specs.Shared.Machine.{item_of, values_of, lane_step}
+use Rattle.std.proofs.lemmas.Option.{none-some, same_Some}
 use Rattle.sigma_lower.specs.TreeLoops.Merge.{PlainDiagonal, PlainPass, Merging, through, new_pass, scattered}
 use Rattle.sigma_lower.specs.TreeLoops.Merge.{multiplied, merge_term}
 use Rattle.sigma_lower.specs.TreeTerms.Term.{gath, scat, diag, nest}
@@ -78,9 +79,6 @@ all-framed c R (p ∷ q ∷ ps) h = (laned-framed c p h.0, all-framed c R (q ∷
 
 -- ---- merging
 
-none-some : (d : PlainDiagonal) → ◌≡◌ {A = Option PlainDiagonal} None (Some d) → ⊥
-none-some d e = absurd (cc)
-
 -- such passes, of which the last one has this work, and functions that keep vectors
 abbrev pub Laned : Target → (PlainWork → Type 0) → Merging → Type 0
 Laned c R st = Ends (IsLanedPass c) (λ p. R p.work) st.passes × AllKeepVectors c.lanes st.waiting
@@ -97,9 +95,6 @@ laned-scat c R st f k h = (
   h.1,
 )
 
-some-same : (d e : PlainDiagonal) → ◌≡◌ {A = Option PlainDiagonal} (Some d) (Some e) → d ≡ e
-some-same d e h = cc
-
 multiplied-laned : (c : Target) (path : Path) (r s w : ℕ) (p : PlainPass) →
     HasStep c.lanes (lane_step p.work) path (r * s) → IsLanedPass c p → IsLanedPass c (multiplied path r s w p)
 multiplied-laned c path r s w p k h = record {
@@ -107,7 +102,7 @@ multiplied-laned c path r s w p k h = record {
   befores = h.befores;
   afters = h.afters;
   diagonals = λ d e.
-      subst (IsLanedDiagonal c.lanes (lane_step p.work)) (some-same (record { path = path; rows = r; cols = s; root = w; places = p.afters }) d e) (record { places = h.afters; factors = k });
+      subst (IsLanedDiagonal c.lanes (lane_step p.work)) (same_Some (record { path = path; rows = r; cols = s; root = w; places = p.afters }) d e) (record { places = h.afters; factors = k });
 }
 
 pub laned-diag : (c : Target) (R : PlainWork → Type 0) (st : Merging) (path : Path) (r s w : ℕ) →
