@@ -20,8 +20,8 @@ use Rattle.sigma_lower.proofs.Embedded.{embed-core, sizes-of}
 use Rattle.sigma_lower.proofs.Moves.{back-wrapped}
 use Rattle.sigma_lower.proofs.Numbers.{numbers-wrapped, strided-closed, in-closed, out-closed}
 use Rattle.sigma_lower.proofs.SharedTrees.{AllEmbed, trees_embed}
-use Rattle.sigma_lower.proofs.TreeLoops.PassLists.{AllPasses, all-split, last-back}
-use Rattle.sigma_lower.proofs.TreeLoops.Shaped.{AreShaped, IsShapedWork}
+use Rattle.sigma_lower.proofs.TreeLoops.PassLists.{AllPasses, all-map, all-split, last-back}
+use Rattle.sigma_lower.proofs.TreeLoops.Shaped.{AreShaped, IsShaped, IsShapedWork}
 use Rattle.sigma_lower.proofs.TreeLoops.TreePlaces.{tree_good_places}
 use Rattle.sigma_lower.specs.TreeLoops.Merge.{PlainPass, Merging, new_pass, scattered, multiplied, merge_term, merged}
 use Rattle.sigma_lower.specs.TreeLoops.Merge.{passes_of_terms, in_order, merged_of}
@@ -150,8 +150,7 @@ shaped-rows m (tile v) h = tt
 shaped-rows m (copy size) h = absurd h
 
 shaped-several : (m size : ℕ) (ps : List PlainPass) → AreShaped (IsShapedWork m) size ps → AllPasses IsSeveral ps
-shaped-several m size [] h = tt
-shaped-several m size (p ∷ ps) h = ((h.0.wide, shaped-rows m p.work h.0.work), shaped-several m size ps h.1)
+shaped-several m size = all-map (IsShaped (IsShapedWork m) size) IsSeveral (λ p h. (h.wide, shaped-rows m p.work h.work))
 
 -- ---- phases
 

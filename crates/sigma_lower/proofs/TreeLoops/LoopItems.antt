@@ -11,6 +11,8 @@ use Rattle.sigma_lower.proofs.TreeLoops.PlaceValues.{right_positive}
 use Rattle.sigma_lower.proofs.TreeLoops.Shaped.{IsShaped, IsShapedWork}
 use Rattle.operators.proofs.Lists.{place_below}
 use Rattle.sigma_spl.specs.Limits.{AreSeveral}
+use Rattle.sigma_spl.specs.Loops.{limits_in}
+use Rattle.sigma_lower.specs.TreeLoops.Nests.{loop_of}
 use Rattle.sigma_spl.specs.Merge.{items_in, items_out}
 use Rattle.sigma_spl.specs.Work.{PlainWork, kernel, rows, horner, tile, copy, work_size, PlainKernel, trees_of}
 use Rattle.perm_algebra.specs.Affine.{Sum, constant}
@@ -45,6 +47,16 @@ counts-from (Columns c ∷ path) n d cs back wide positive is = (
   wide.0,
   counts-from path n (d + 1) cs back wide.1 positive (λ i. ap cs (omega arith) ∙ is (suc i)),
 )
+
+-- those of a pass
+pub pass-counts : (P : PlainWork → Type 0) (size : ℕ) (p : PlainPass) → 1 ≤ size → IsShaped P size p →
+    AreCounts p.path (work_size p.work) 0 (limits_in (loop_of p))
+pass-counts P size p low shape =
+    let n = work_size p.work in
+    let cs = limits_in (loop_of p) in
+    let whole : copies_of p.path * n ≡ size = sym (size_under-copies p.path n) ∙ shape.fills in
+    let some : 0 < n = right_positive (copies_of p.path) n (omega (arith, whole, low)) in
+    counts-from p.path n 0 cs (n ∷ n ∷ []) shape.wide some (λ i. ap cs (omega arith))
 
 -- ---- sums that name an item of a copy of n
 

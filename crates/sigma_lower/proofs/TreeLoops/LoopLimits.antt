@@ -8,10 +8,10 @@ use Rattle.index_fn.specs.Mapping.{Mapping}
 use Rattle.sigma_lower.specs.TreeLoops.Limits.{AreLimitedPhases, LoopsAreLimited}
 use Rattle.sigma_lower.specs.TreeLoops.Merge.{PlainDiagonal, PlainPass, passes_of_terms, in_order, merged_of}
 use Rattle.sigma_lower.specs.TreeLoops.Nests.{loop_of, taken_of}
-use Rattle.sigma_lower.specs.TreeLoops.Placed.{IsCarried, IsLimitedPass, AllLimited, AreCounts, diagonal_places}
+use Rattle.sigma_lower.specs.TreeLoops.Placed.{ArePlacesLimited, IsCarried, IsLimitedPass, AllLimited, diagonal_places}
 use Rattle.sigma_lower.specs.TreeLoops.Placed.{place_sum}
 use Rattle.sigma_lower.proofs.TreeLoops.LeftPlaces.{mapped-some}
-use Rattle.sigma_lower.proofs.TreeLoops.LoopItems.{Names, AllName, HaveNames, diagonal-size, counts-from, names-of}
+use Rattle.sigma_lower.proofs.TreeLoops.LoopItems.{Names, AllName, HaveNames, diagonal-size, names-of, pass-counts}
 use Rattle.sigma_lower.proofs.TreeLoops.LoopNests.{loops_listed}
 use Rattle.sigma_lower.proofs.TreeLoops.PlaceValues.{right_positive}
 use Rattle.sigma_lower.proofs.TreeLoops.Shaped.{IsShaped, IsShapedWork, AreShaped}
@@ -47,13 +47,6 @@ all-true test g w cs n (e ∷ es) step h = both-true _ _ (step e h.0) (all-true 
 
 -- ---- a pass
 
--- the places of an item e in copies of n
-record CarriedAt (c : Target) (p : PlainPass) (cs : ℕ → ℕ) (n : ℕ) (e : Sum) : Type 0 where
-  loads : IsCarried cs c.size c.size p.befores (place_sum p.path n 0 e)
-  stores : IsCarried cs c.size c.size p.afters (place_sum p.path n 0 e)
-  factors : (d : PlainDiagonal) → p.diagonal ≡ Some d → IsCarried cs c.size (d.rows * d.cols) (diagonal_places d)
-      (place_sum p.path n 0 e)
-
 module _ (room : ℕ) (enough : 40 ≤ room) (c : Target) (p : PlainPass) (machine : IsMachine c)
     (shape : IsShaped (IsShapedWork c.modulus) c.size p) (limited : IsLimitedPass c p) where
   abbrev n : ℕ
@@ -65,17 +58,9 @@ module _ (room : ℕ) (enough : 40 ≤ room) (c : Target) (p : PlainPass) (machi
   high : c.size ≤ 1048576
   high = machine.size.1
 
-  some : 0 < n
-  some =
-      let whole : copies_of p.path * work_size p.work ≡ c.size = sym (size_under-copies p.path (work_size p.work)) ∙ shape.fills in
-      right_positive (copies_of p.path) (work_size p.work) (omega (arith, whole, machine.size.0))
-
-  counts : AreCounts p.path n 0 cs
-  counts = counts-from p.path n 0 cs (n ∷ n ∷ []) shape.wide some (λ i. ap cs (omega arith))
-
-  carried : (e : Sum) → Names p.work cs n e → CarriedAt c p cs n e
+  carried : (e : Sum) → Names p.work cs n e → ArePlacesLimited c p cs e
   carried e item =
-      let l = limited cs e counts item.0 item.1 in record { loads = l.loads; stores = l.stores; factors = l.factors }
+      limited cs e (pass-counts (IsShapedWork c.modulus) c.size p machine.size.0 shape) item.0 item.1
 
   names : HaveNames p.path p.work
   names = names-of c.modulus p.path p.work shape.work

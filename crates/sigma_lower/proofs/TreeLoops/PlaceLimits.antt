@@ -24,7 +24,8 @@ use Rattle.sigma_lower.proofs.TreeLoops.PlaceSums.{tensor_sum-fits, place_sum-fi
 use Rattle.sigma_lower.proofs.TreeLoops.PartRules.{IsSize, IsRuleIn, rule_in, coprime_in}
 use Rattle.sigma_lower.proofs.TreeLoops.Staying.{StaysIn, carried-push}
 use Rattle.sigma_lower.proofs.TreeLoops.TameSums.{tame-scaled, tame-joined, reduced-fits}
-use Rattle.sigma_lower.proofs.TreeLoops.TreePasses.{rule_waiting, rule_passes, layout_passes}
+use Rattle.sigma_lower.proofs.TreeLoops.PassLists.{AllPasses, all-append, all-last, all-map, map-last}
+use Rattle.sigma_lower.proofs.TreeLoops.TreePasses.{back, rule_waiting, rule_passes, layout_passes}
 use Rattle.sigma_spl.specs.Work.{PlainWork, work_size}
 use Rattle.smp_rewrite.specs.LayoutSteps.Layout.{Layout, work, by, layout_size, IsGoodLayout}
 use Rattle.sigma_lower.specs.TreeTerms.Wrapped.{wrapped, inner_of, unit_of}
@@ -290,13 +291,7 @@ scattering-multiplies size path r s w p low high h cs d e counts fits =
     }
 
 abbrev pub ArePlaced : ℕ → Path → ℕ → List PlainPass → Type 0
-ArePlaced size path n [] = Unit {0}
-ArePlaced size path n (p ∷ ps) = IsPlacedPass size path n p × ArePlaced size path n ps
-
-placed-append : (size : ℕ) (path : Path) (n : ℕ) (ps qs : List PlainPass) → ArePlaced size path n ps →
-    ArePlaced size path n qs → ArePlaced size path n (ps ++ qs)
-placed-append size path n [] qs h k = k
-placed-append size path n (p ∷ ps) qs h k = (h.0, placed-append size path n ps qs h.1 k)
+ArePlaced size path n ps = AllPasses (IsPlacedPass size path n) ps
 
 lift-one : (size : ℕ) (path : Path) (t : Tensor) (n : ℕ) (p : PlainPass) → IsPlacedPass size (path ++ t ∷ []) n p →
     IsPlacedPass size path (grown t n) p
@@ -304,8 +299,8 @@ lift-one size path t n p h = record { gathers = h.gathers; scatters = scattering
 
 pub placed-lift : (size : ℕ) (path : Path) (t : Tensor) (n : ℕ) (ps : List PlainPass) →
     ArePlaced size (path ++ t ∷ []) n ps → ArePlaced size path (grown t n) ps
-placed-lift size path t n [] h = tt
-placed-lift size path t n (p ∷ ps) h = (lift-one size path t n p h.0, placed-lift size path t n ps h.1)
+placed-lift size path t n =
+    all-map (IsPlacedPass size (path ++ t ∷ []) n) (IsPlacedPass size path (grown t n)) (lift-one size path t n)
 
 back-one : (size : ℕ) (path : Path) (r s : ℕ) (p : PlainPass) → IsRuleIn size Gt path r s →
     IsPlacedPass size (path ++ Columns s ∷ []) r p →
@@ -318,42 +313,40 @@ back-one size path r s p rule h =
           let m = h.multiplies d e in (λ cs v g counts fits. let at = m.0 cs v g counts fits in record { stays = at.stays; room = at.room; fits = at.fits }, m.1);
     }
 
-placed-back : (size : ℕ) (path : Path) (r s : ℕ) (ps : List PlainPass) → IsRuleIn size Gt path r s →
-    ArePlaced size (path ++ Columns s ∷ []) r ps →
-    ArePlaced size path (r * s) (at_last (scattered (wrapped path (r * s) (ThomasBack r s (unit_of r s) (unit_of s r))))
-    ps)
-placed-back size path r s [] rule h = tt
-placed-back size path r s (p ∷ []) rule h = (back-one size path r s p rule h.0, tt)
-placed-back size path r s (p ∷ q ∷ ps) rule h = (lift-one size path (Columns s) r p h.0, placed-back size path r s (q ∷ ps) rule h.1)
-
 pub placed-multiplied : (size : ℕ) (path : Path) (r s w : ℕ) (ps : List PlainPass) → r * s ≤ 1048576 →
     size_under path (r * s) ≤ 1048576 → r * s ≤ size → ArePlaced size path (r * s) ps →
     ArePlaced size path (r * s) (at_last (multiplied path r s w) ps)
-placed-multiplied size path r s w [] low under within h = tt
-placed-multiplied size path r s w (p ∷ []) low under within h = (
-  record {
-    gathers = h.0.gathers;
-    scatters = record { placed = h.0.scatters.placed; stays = h.0.scatters.stays };
-    multiplies = λ d e.
-        subst (λ (z : PlainDiagonal). Multiplying size (multiplied path r s w p) z × (z.rows * z.cols ≤ size)) (same_Some _ d e) (scattering-multiplies size path r s w p low under h.0.scatters, within);
-  },
-  tt,
-)
-placed-multiplied size path r s w (p ∷ q ∷ ps) low under within h = (h.0, placed-multiplied size path r s w (q ∷ ps) low under within h.1)
+placed-multiplied size path r s w ps low under within h =
+    all-last (IsPlacedPass size path (r * s)) (multiplied path r s w) one ps h
+  where
+    one : (p : PlainPass) → IsPlacedPass size path (r * s) p →
+        IsPlacedPass size path (r * s) (multiplied path r s w p)
+    one p h = record {
+      gathers = h.gathers;
+      scatters = record { placed = h.scatters.placed; stays = h.scatters.stays };
+      multiplies = λ d e.
+          subst (λ (z : PlainDiagonal). Multiplying size (multiplied path r s w p) z × (z.rows * z.cols ≤ size))
+          (same_Some _ d e) (scattering-multiplies size path r s w p low under h.scatters, within);
+    }
 
 placed_rule : (size : ℕ) (rule : Rule) (path : Path) (r s w : ℕ) (left right : List PlainPass) →
     IsRuleIn size rule path r s →
     ArePlaced size (path ++ Columns s ∷ []) r left → ArePlaced size (path ++ Blocks r ∷ []) s right →
     ArePlaced size path (r * s) (rule_passes rule path r s w left right)
-placed_rule size Gt path r s w left right h l k =
-    placed-append size path (r * s) right _ (placed-lift size path (Blocks r) s right k) (placed-back size path r s left h l)
-placed_rule size Ct path r s w left right h l k =
-    placed-append size path (r * s) _ left (placed-multiplied size path r s w right h.small (omega (arith, h.fills, h.whole.high)) h.within (placed-lift size path (Blocks r) s right k)) (placed-lift size path (Columns s) r left l)
-placed_rule size Split path r s w left right h l k =
-    placed-append size path (r * s) right left (placed-lift size path (Blocks r) s right k) (placed-lift size path (Columns s) r left l)
-placed_rule size Dim path r s w left right h l k =
-    placed-append size path (r * s) right left
-    (placed-lift size path (Blocks r) s right k) (placed-lift size path (Columns s) r left l)
+placed_rule size rule path r s w left right h l k =
+    by-rule rule h (placed-lift size path (Columns s) r left l) (placed-lift size path (Blocks r) s right k)
+  where
+    by-rule : (rule : Rule) → IsRuleIn size rule path r s → ArePlaced size path (r * s) left →
+        ArePlaced size path (r * s) right → ArePlaced size path (r * s) (rule_passes rule path r s w left right)
+    by-rule Gt h on_left on_right =
+        all-append (IsPlacedPass size path (r * s)) right _ on_right
+        (map-last (IsPlacedPass size (path ++ Columns s ∷ []) r) (IsPlacedPass size path (r * s))
+        (lift-one size path (Columns s) r) (scattered (back path r s)) (λ p q. back-one size path r s p h q) left l)
+    by-rule Ct h on_left on_right =
+        all-append (IsPlacedPass size path (r * s)) _ left
+        (placed-multiplied size path r s w right h.small (omega (arith, h.fills, h.whole.high)) h.within on_right) on_left
+    by-rule Split h on_left on_right = all-append (IsPlacedPass size path (r * s)) right left on_right on_left
+    by-rule Dim h on_left on_right = all-append (IsPlacedPass size path (r * s)) right left on_right on_left
 
 new-placed : (size : ℕ) (path : Path) (waiting : List Mapping) (w : PlainWork) → size_under path (work_size w) ≡ size →
     Gathering size path waiting (work_size w) → IsPlacedPass size path (work_size w) (new_pass path w waiting)

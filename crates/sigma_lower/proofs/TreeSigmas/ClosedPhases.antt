@@ -29,7 +29,7 @@ use Rattle.sigma_lower.specs.TreeLoops.Merge as passes
 use Rattle.sigma_lower.specs.TreeLoops.Nests.{loop_of, taken_of}
 use Rattle.sigma_lower.specs.TreeLoops.Placed.{AllLimited, AreCounts, Fits, IsCarried, IsLimitedPass}
 use Rattle.sigma_lower.specs.TreeTerms.Term.{PlainTerm}
-use Rattle.sigma_lower.proofs.TreeLoops.LoopItems.{AllName, counts-from, names-of}
+use Rattle.sigma_lower.proofs.TreeLoops.LoopItems.{AllName, names-of, pass-counts}
 use Rattle.sigma_lower.proofs.TreeLoops.LoopLimits.{tree_loops}
 use Rattle.sigma_lower.proofs.TreeLoops.LoopNests.{loops_listed}
 use Rattle.sigma_lower.proofs.TreeLoops.PlaceValues.{right_positive}
@@ -59,14 +59,8 @@ module _ (h : Target) where
     abbrev cs : ℕ → ℕ
     cs = limits_in (loop_of p)
 
-    some : 0 < n
-    some =
-        let whole : copies_of p.path * work_size p.work ≡ size =
-        sym (size_under-copies p.path (work_size p.work)) ∙ shape.fills in
-        right_positive (copies_of p.path) (work_size p.work) (omega (arith, whole, machine.size.0))
-
     counts : AreCounts p.path n 0 cs
-    counts = counts-from p.path n 0 cs (n ∷ n ∷ []) shape.wide some (λ i. ap cs (omega arith))
+    counts = pass-counts (IsShapedWork h.modulus) size p machine.size.0 shape
 
     alone-items : (es : List Sum) → AllName p.work cs n es →
         AllAlone size (map (all_simplified cs p.afters) (map (place_sum p.path n 0) es))

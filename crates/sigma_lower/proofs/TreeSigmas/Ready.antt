@@ -61,9 +61,6 @@ module _ (c : Target) (p : PlainPass) (host : IsHost c) (known : IsKnown c p) wh
   abbrev z : PlainNest
   z = nest_of (loop_of p)
 
-  some-procs : 0 < c.procs
-  some-procs = let procs = host.procs.0 in omega (arith, procs)
-
   some-modulus : 0 < c.modulus
   some-modulus = let large = host.modulus.0 in omega (arith, large)
 

@@ -33,11 +33,6 @@ wrapped-defined (Columns c ∷ path) n f h high i below =
     let within : size ≤ size * c = le-mul_of_pos_right {m = c} size positive in
     (wrapped-defined path n f h (omega arith) (i / c) ((div-lt_iff_lt-mul positive).1 below), tt, omega (arith, wrapped-below (Columns c ∷ path) n f h.below i below))
 
-pub closed-wrapped : (whole : ℕ) (path : Path) (n : ℕ) (f : Mapping) → whole ≤ 1048576 → size_under path n ≡ whole →
-    IsClosed n f → IsClosed whole (wrapped path n f)
-closed-wrapped whole path n f high e h =
-    subst (λ m. IsClosed m (wrapped path n f)) e (record { defined = wrapped-defined path n f h (omega arith); below = wrapped-below path n f h.below })
-
 -- ---- the permutations of a rule
 
 pub thomas_in-closed : (r s : ℕ) → 0 < r → 0 < s → r * s ≤ 1048576 → IsClosed (r * s) (ThomasIn r s)
