@@ -1,6 +1,6 @@
 -- The terms of a whole can be merged.
-use Rattle.std.proofs.Common.{◌≡◌, ℕ, ◌*◌, ◌^◌, ◌<◌, ◌≤◌, ◌==◌, Bool, true, false, arith, refl, sym, List, [], ◌∷◌}
-use Rattle.std.proofs.Common.{◌++◌, subst, if◌then◌else◌}
+use Rattle.std.proofs.Common.{ℕ, ◌*◌, ◌^◌, ◌≤◌, ◌==◌, arith, refl, sym, List, [], ◌∷◌}
+use Rattle.std.proofs.Common.{◌++◌, subst}
 use Rattle.std.specs.Prelude.{map}
 use Rattle.std.proofs.lemmas.Bool.{lt-ltb}
 use Rattle.index_fn.specs.Mapping.{Mapping, Strided, ThomasIn, ThomasOut, ThomasBack}
@@ -11,7 +11,7 @@ use Rattle.sigma_spl.specs.Merge.{back_of, unit_below}
 use Rattle.sigma_spl.specs.Sigma.{AllCanMerge}
 use Rattle.sigma_spl.specs.Term.{scat}
 use Rattle.sigma_spl.specs.Words.{AreWords, HasNumbers}
-use Rattle.sigma_spl.specs.Work.{PlainWork, kernel, rows, horner, tile, copy, work_size, HasWords}
+use Rattle.sigma_spl.specs.Work.{PlainWork, kernel, rows, horner, tile, copy, HasWords}
 use Rattle.sigma_lower.specs.Merged.{TreesCanMerge}
 use Rattle.sigma_lower.specs.Shared.{embed, phase_term}
 use Rattle.sigma_lower.specs.Trees.{core_term}
@@ -39,7 +39,7 @@ use Rattle.smp_rewrite.specs.Fits.{CanShareLayout}
 use Rattle.smp_rewrite.specs.LayoutSteps.Layout.{Layout, IsGoodLayout}
 use Rattle.smp_rewrite.specs.LayoutSteps.Whole.{only, IsGoodWhole}
 use Rattle.operators.specs.declared.target.Target.{Target}
-use Rattle.operators.specs.declared.tensor_paths.Tensor.TheVariants.{Blocks, Columns}
+use Rattle.operators.specs.declared.tensor_paths.Tensor.TheVariants.{Columns}
 use Rattle.operators.specs.TensorPaths.Path.{Path, size_under}
 use Rattle.vec_rewrite.specs.Turning.{vec_of}
 use Rattle.vec_rewrite.specs.Vectors.{PlainFactor, lanes, diagonals, move_before, move_after, tiles, factor_step}

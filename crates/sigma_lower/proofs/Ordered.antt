@@ -25,7 +25,7 @@ use Rattle.sigma_spl.specs.Loops.{PlainLoop, Looping, looped, stored_last, CanSc
 use Rattle.sigma_spl.specs.Merge.{is_tile}
 use Rattle.sigma_spl.specs.Shared.Targets.{is_alone}
 use Rattle.sigma_spl.specs.Work.{PlainWork, kernel, rows, horner, tile, copy}
-use Rattle.smp_rewrite.specs.Fits.{CanShareLayout, RootHasParts}
+use Rattle.smp_rewrite.specs.Fits.{RootHasParts}
 use Rattle.smp_rewrite.specs.LayoutSteps.Layout.{Layout, work, by, layout_size, IsGoodWork, IsGoodLayout}
 use Rattle.smp_rewrite.specs.LayoutSteps.Step.{steps_of}
 

@@ -1,6 +1,5 @@
 -- The terms of whole trees, for any processors and lanes, are good terms, which do what they did.
-use Rattle.std.proofs.Common.{◌≡◌, ℕ, ◌==◌, Bool, true, false, refl, sym, ap, ◌∙◌, List, [], ◌∷◌, ◌++◌, subst}
-use Rattle.std.proofs.Common.{if◌then◌else◌}
+use Rattle.std.proofs.Common.{◌≡◌, ℕ, ◌==◌, refl, sym, ap, ◌∙◌, List, [], ◌∷◌, ◌++◌, subst}
 use Rattle.std.specs.Prelude.{All, map}
 use Rattle.std.proofs.lemmas.List.Elements.{All-nil, All-cons, All-head, All-tail}
 use Rattle.operators.specs.declared.target.Target.{Target}
@@ -71,6 +70,7 @@ trees_embed c l valid shares good =
     let terms = factor_term c.procs c.lanes in
     let embeds = phase-embeds c c.procs c.lanes in
     chosen (λ phases. AllEmbed c c.lanes (map (map terms) phases)) (c.procs == 1) ((g.first ++ g.second) ∷ [])
-    (g.first ∷ g.second ∷ []) (λ one. (embeds (g.first ++ g.second) valid shaped all, tt))
-    (embeds g.first valid (all-left P g.first g.second shaped) both.0,
-    (embeds g.second valid (all-right P g.first g.second shaped) both.1, tt))
+    (g.first ∷ g.second ∷ []) (λ one. (embeds (g.first ++ g.second) valid shaped all, tt)) (
+      embeds g.first valid (all-left P g.first g.second shaped) both.0,
+      (embeds g.second valid (all-right P g.first g.second shaped) both.1, tt),
+    )

@@ -1,5 +1,5 @@
 -- No place of a layout's loops is over a limit.
-use Rattle.std.proofs.Common.{◌≡◌, ℕ, ◌*◌, ◌<◌, ◌≤◌, Bool, true, arith, refl, sym, ap, ◌∙◌, List, [], ◌∷◌, ◌++◌, length}
+use Rattle.std.proofs.Common.{◌≡◌, ℕ, ◌*◌, ◌≤◌, Bool, true, arith, refl, sym, List, [], ◌∷◌, ◌++◌, length}
 use Rattle.std.proofs.Common.{subst, Some}
 use Rattle.std.specs.Prelude.{map, reverse}
 use Rattle.std.specs.List.{list_all}
@@ -13,7 +13,6 @@ use Rattle.sigma_lower.specs.TreeLoops.Placed.{place_sum}
 use Rattle.sigma_lower.proofs.TreeLoops.LeftPlaces.{mapped-some}
 use Rattle.sigma_lower.proofs.TreeLoops.LoopItems.{Names, AllName, HaveNames, diagonal-size, names-of, pass-counts}
 use Rattle.sigma_lower.proofs.TreeLoops.LoopNests.{loops_listed}
-use Rattle.sigma_lower.proofs.TreeLoops.PlaceValues.{right_positive}
 use Rattle.sigma_lower.proofs.TreeLoops.Shaped.{IsShaped, IsShapedWork, AreShaped}
 use Rattle.sigma_lower.proofs.TreeLoops.TameSums.{fits-limited}
 use Rattle.sigma_lower.proofs.TreeLoops.TreePlaces.{tree_good_places}
@@ -27,8 +26,6 @@ use Rattle.perm_algebra.specs.Affine.{Sum, simplified}
 use Rattle.perm_algebra.proofs.RoomTests.{room_decided}
 use Rattle.sigma_lower.specs.TreeTerms.Term.{PlainTerm, lowered_of}
 use Rattle.sigma_spl.specs.Work.{PlainWork, work_size}
-use Rattle.operators.specs.TensorPaths.Path.{copies_of}
-use Rattle.operators.proofs.TensorPaths.Under.{size_under-copies}
 use Rattle.smp_rewrite.specs.Fits.{CanShareLayout}
 use Rattle.smp_rewrite.specs.LayoutSteps.Layout.{Layout, IsGoodLayout}
 

@@ -1,12 +1,12 @@
 -- What holds of the places of a shared layout's passes.
-use Rattle.std.proofs.Common.{◌≡◌, ℕ, ◌*◌, ◌/◌, ◌<◌, ◌≤◌, Bool, true, false, arith, refl, sym, ap, ◌∙◌, List, [], ◌∷◌}
+use Rattle.std.proofs.Common.{◌≡◌, ℕ, ◌*◌, ◌/◌, ◌≤◌, Bool, true, false, arith, refl, sym, ap, ◌∙◌, List, [], ◌∷◌}
 use Rattle.std.proofs.Common.{◌++◌, if◌then◌else◌, subst, mul_comm, append-nil}
 use Rattle.std.specs.Prelude.{◌==◌, map, Option, None, Some}
-use Rattle.index_fn.specs.Mapping.{Mapping, Same, Strided}
+use Rattle.index_fn.specs.Mapping.{Mapping}
 use Rattle.operators.specs.declared.target.Target.{Target}
 use Rattle.std.proofs.lemmas.Option.{none-some, same_Some}
 use Rattle.sigma_lower.specs.TreeLoops.Merge.{PlainDiagonal, PlainPass, multiplied, at_last, in_order}
-use Rattle.sigma_lower.specs.TreeLoops.Placed.{AllLimited, diagonal_places}
+use Rattle.sigma_lower.specs.TreeLoops.Placed.{AllLimited}
 use Rattle.sigma_spl.proofs.Several.{several-append}
 use Rattle.sigma_lower.proofs.TreeLoops.GoodPlaces.{HaveGoodPlaces}
 use Rattle.sigma_lower.proofs.TreeLoops.LeftPlaces.{size_under-append, mapped-some, left_fills, left_wide, left_limited}
@@ -14,28 +14,22 @@ use Rattle.sigma_lower.proofs.TreeLoops.PartRules.{IsSize}
 use Rattle.sigma_lower.proofs.TreeLoops.PlaceLimits.{Gathering, gathering-natural, ArePlaced}
 use Rattle.sigma_lower.proofs.TreeLoops.PlaceLimits.{placed-multiplied, all_limited, whole_placed}
 use Rattle.sigma_lower.proofs.TreeLoops.RightPlaces.{right_fills, right_wide, gathering-turned, right_placed}
-use Rattle.sigma_lower.proofs.TreeLoops.RootPasses.{turned_waiting, tile_before, tile_after, if_lanes, on_all, if_dealt}
+use Rattle.sigma_lower.proofs.TreeLoops.RootPasses.{turned_waiting, tile_before, tile_after, if_lanes}
 use Rattle.sigma_lower.proofs.TreeLoops.RootPasses.{left_diagonal, left_pass, right_passes, root_passes}
-use Rattle.sigma_lower.proofs.TreeLoops.RootShares.{AreShares, shares_of, rows_some, tiles_some, lines_small}
-use Rattle.sigma_lower.proofs.TreeLoops.RootShares.{dealt_small, vectors_small, tiles_small, rows_product}
-use Rattle.sigma_lower.proofs.TreeLoops.RootShares.{columns_product, tiles_product, whole_product, rows_size}
+use Rattle.sigma_lower.proofs.TreeLoops.RootShares.{AreShares, shares_of}
+use Rattle.sigma_lower.proofs.TreeLoops.RootShares.{rows_size}
 use Rattle.sigma_lower.proofs.TreeLoops.PassLists.{all-append, all-last}
 use Rattle.sigma_lower.proofs.TreeLoops.Shaped.{IsShaped, AreShaped, HasWorks}
 use Rattle.sigma_lower.proofs.TreeLoops.Shaped.{multiplied-shaped, shaped_passes}
 use Rattle.sigma_lower.proofs.TreeLoops.TilePlaces.{tile_fills, tile_wide, KeepWithin, none_keep, grouped_keep}
 use Rattle.sigma_lower.proofs.TreeLoops.TilePlaces.{tile_with, tile_limited}
 use Rattle.sigma_lower.proofs.TreeLoops.TreePasses.{layout_passes, at_last-append}
-use Rattle.sigma_lower.proofs.TreeLoops.WithinPlaces.{size-all}
-use Rattle.sigma_lower.proofs.TreeTerms.Lowering.{part-le}
-use Rattle.sigma_lower.specs.TreeTerms.Root.{right_path, left_path, whole_path, lines_moved, vectors_turned}
-use Rattle.sigma_lower.specs.TreeTerms.Root.{vectors_grouped, lines_dealt}
+use Rattle.sigma_lower.specs.TreeTerms.Root.{right_path, left_path}
+use Rattle.sigma_lower.specs.TreeTerms.Root.{vectors_grouped}
 use Rattle.sigma_spl.specs.Work.{PlainWork, tile, work_size}
 use Rattle.smp_rewrite.specs.LayoutSteps.Layout.{Layout, work, by, layout_size, IsGoodLayout}
-use Rattle.sigma_lower.specs.TreeTerms.Wrapped.{wrapped, inner_of}
-use Rattle.smp_rewrite.proofs.Tensors.{within_all}
-use Rattle.operators.specs.declared.tensor_paths.Tensor.TheVariants.{Blocks, Columns}
-use Rattle.operators.specs.TensorPaths.Path.{Path, size_under, copies_of}
-use Rattle.operators.proofs.TensorPaths.Under.{size_under-copies}
+use Rattle.operators.specs.declared.tensor_paths.Tensor.TheVariants.{Columns}
+use Rattle.operators.specs.TensorPaths.Path.{Path, size_under}
 use Rattle.tree_model.specs.declared.tree.Rule.{Rule}
 use Rattle.tree_model.specs.declared.tree.Rule.TheVariants.{Gt, Ct, Split, Dim}
 use Rattle.sigma_lower.proofs.TreeTerms.RootTerms.{rule-fits}

@@ -3,7 +3,7 @@ use Rattle.std.proofs.Common.{◌≡◌, ℕ, ◌*◌, ◌≤◌, ◌∙◌, Lis
 use Rattle.std.specs.Prelude.{Some}
 use Rattle.index_fn.specs.Mapping.{Mapping}
 use Rattle.std.proofs.lemmas.Option.{none-some, same_Some}
-use Rattle.sigma_lower.specs.TreeLoops.Merge.{PlainDiagonal, PlainPass, new_pass, scattered, multiplied, at_last}
+use Rattle.sigma_lower.specs.TreeLoops.Merge.{PlainDiagonal, PlainPass, new_pass, scattered, multiplied}
 use Rattle.sigma_lower.proofs.TreeLoops.PassLists.{AllPasses, all-append, all-last}
 use Rattle.sigma_lower.proofs.TreeLoops.TreePasses.{back, rule_waiting, rule_passes, layout_passes}
 use Rattle.sigma_spl.specs.Shared.Kernels.{IsMadeKernel}

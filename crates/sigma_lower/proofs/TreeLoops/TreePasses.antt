@@ -1,18 +1,14 @@
 -- The passes of a layout, by recursion on it, and that they are those of the cost model.
-use Rattle.std.proofs.Common.{◌≡◌, ℕ, ◌*◌, Bool, true, false, List, [], ◌∷◌, ◌++◌, refl, ap, ap₂, ◌∙◌, append_assoc}
+use Rattle.std.proofs.Common.{◌≡◌, ℕ, ◌*◌, Bool, true, false, List, [], ◌∷◌, ◌++◌, refl, ap, ap₂, ◌∙◌}
 use Rattle.std.specs.Prelude.{map}
 use Rattle.std.proofs.lemmas.List.{map-append}
 use Rattle.index_fn.specs.Mapping.{Mapping, Strided, ThomasIn, ThomasBack}
-use Rattle.sigma_lower.specs.TreeLoops.Merge.{PlainPass, Merging, new_pass, scattered, multiplied, at_last, merge_term}
-use Rattle.sigma_lower.specs.TreeLoops.Merge.{merged, passes_of_terms}
+use Rattle.sigma_lower.specs.TreeLoops.Merge.{PlainPass, new_pass, scattered, multiplied, at_last}
 use Rattle.sigma_lower.specs.TreeLoops.Laws.{has_diagonal, counted_as, counted, with_twiddles, twiddle_last, twiddle_by}
 use Rattle.sigma_lower.specs.TreeLoops.Laws.{passes_of}
-use Rattle.sigma_lower.specs.TreeTerms.Term.{lowered}
 use Rattle.sigma_spl.specs.Work.{PlainWork, kernel, rows, horner, tile, copy}
 use Rattle.smp_rewrite.specs.LayoutSteps.Layout.{Layout, work, by, layout_size, IsGoodLayout, IsGoodWork}
 use Rattle.sigma_lower.specs.TreeTerms.Wrapped.{wrapped, unit_of}
-use Rattle.smp_rewrite.specs.LayoutSteps.Step.{PlainStep, step, turns, twiddles, thomas_in, thomas_out, rule_steps}
-use Rattle.smp_rewrite.specs.LayoutSteps.Step.{steps_of}
 use Rattle.operators.specs.declared.tensor_paths.Tensor.TheVariants.{Blocks, Columns}
 use Rattle.operators.specs.TensorPaths.Path.{Path, copies_of}
 use Rattle.operators.proofs.TensorPaths.Under.{copies_of-push}

@@ -1,6 +1,6 @@
 -- Laws of the terms of a layout. A law says between which points terms may stand. It holds of a layout's terms if it holds of
 -- those of each step, and of the right part of a root if it holds of the pieces of that.
-use Rattle.std.proofs.Common.{◌≡◌, ℕ, ◌*◌, sym, ap, subst, ◌∙◌, List, [], ◌∷◌, ◌++◌, append_assoc, append-nil}
+use Rattle.std.proofs.Common.{◌≡◌, ℕ, ◌*◌, sym, subst, ◌∙◌, List, [], ◌∷◌, ◌++◌, append_assoc, append-nil}
 use Rattle.std.specs.Prelude.{map}
 use Rattle.sigma_lower.specs.TreeLoops.Merge.{Merging, merged}
 use Rattle.sigma_lower.specs.TreeTerms.Root.{right_path, right_terms, tiled_after, tiled_before, turned_in}
@@ -112,27 +112,27 @@ module _ (T : Point → List PlainTerm → Point → Type 0) (law : IsLaw T) whe
 
   module _ (p v w : ℕ) (a b : Layout)
       (keeps : RightKeeps T p v (layout_size a) (layout_size b) w (map lowered (steps_of (right_path p v (layout_size a)) b)))
-      where
-    abbrev steps : List PlainTerm
-    steps = map lowered (steps_of (right_path p v (layout_size a)) b)
+    where
+      abbrev steps : List PlainTerm
+      steps = map lowered (steps_of (right_path p v (layout_size a)) b)
 
-    abbrev tiles : List PlainTerm
-    tiles = tiled_after p v (layout_size a) (layout_size b)
+      abbrev tiles : List PlainTerm
+      tiles = tiled_after p v (layout_size a) (layout_size b)
 
-    split-law : T begun (right_terms p v Split w a b) settled
-    split-law =
-        law.settle begun (right_terms p v Split w a b)
-        (law.both begun ready tiled (tiled_before p v (layout_size a) (layout_size b)) (steps ++ tiles) keeps.before
-        (law.both ready done tiled steps tiles keeps.steps keeps.after))
+      split-law : T begun (right_terms p v Split w a b) settled
+      split-law =
+          law.settle begun (right_terms p v Split w a b)
+          (law.both begun ready tiled (tiled_before p v (layout_size a) (layout_size b)) (steps ++ tiles) keeps.before
+          (law.both ready done tiled steps tiles keeps.steps keeps.after))
 
-    pub right-law : (rule : Rule) → IsShared rule → T begun (right_terms p v rule w a b) settled
-    right-law Gt shared = absurd shared
-    right-law Ct shared =
-        law.both begun ready settled (turned_in p v (layout_size a) (layout_size b)) _ keeps.turned
-        (law.both ready done settled steps _ keeps.steps
-        (law.both done tiled settled tiles (diag [] (layout_size a) (layout_size b) w ∷ []) keeps.after keeps.twiddled))
-    right-law Split shared = split-law
-    right-law Dim shared = split-law
+      pub right-law : (rule : Rule) → IsShared rule → T begun (right_terms p v rule w a b) settled
+      right-law Gt shared = absurd shared
+      right-law Ct shared =
+          law.both begun ready settled (turned_in p v (layout_size a) (layout_size b)) _ keeps.turned
+          (law.both ready done settled steps _ keeps.steps
+          (law.both done tiled settled tiles (diag [] (layout_size a) (layout_size b) w ∷ []) keeps.after keeps.twiddled))
+      right-law Split shared = split-law
+      right-law Dim shared = split-law
 
 -- ---- laws of the passes that terms are merged into
 

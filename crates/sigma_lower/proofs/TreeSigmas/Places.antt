@@ -1,10 +1,9 @@
 -- The places of a pass's nest are the pass's, and the lanes of its registers stand side by side.
-use Rattle.std.proofs.Common.{◌≡◌, ℕ, ◌+◌, ◌*◌, ◌<◌, List, [], ◌∷◌, ◌++◌, length, map, refl, sym, ap, ◌∙◌, arith, subst}
+use Rattle.std.proofs.Common.{◌≡◌, ℕ, ◌+◌, ◌*◌, ◌<◌, List, [], ◌∷◌, length, map, refl, sym, ap, ◌∙◌, arith, subst}
 use Rattle.std.proofs.Common.{Option, Some, None}
 use Rattle.std.specs.Option.{option_map}
 use Rattle.std.proofs.lemmas.Option.{none-some, same_Some}
 use Rattle.std.specs.Prelude.{slice_index}
-use Rattle.index_fn.specs.Mapping.{Mapping, at}
 use Rattle.kernel_gen.proofs.Residues.{power_below}
 use Rattle.sigma_lower.specs.TreeLoops.Merge.{diagonal_place}
 use Rattle.sigma_lower.specs.TreeLoops.Merge.{PlainDiagonal, PlainPass, through, gather_place, scatter_place}
@@ -31,7 +30,6 @@ use Rattle.sigma_spl.proofs.Natural.{looped, place-alone, ranged, sound-place_su
 use Rattle.sigma_spl.proofs.Listed.{loops_have_places}
 use Rattle.sigma_lower.specs.TreeLoops.SharedPasses.Shared.{IsFramed}
 use Rattle.operators.specs.TensorPaths.Path.{count_of, place, AreInRange}
-use Rattle.operators.proofs.TensorPaths.PathPlaces.{place-below}
 use Rattle.sigma_lower.proofs.TreeSigmas.Frames.{range-of, named, values-named, IsShare, share-of, item-below}
 
 -- a nest's diagonal is that of its pass

@@ -1,9 +1,9 @@
 -- The functions of a good step's permutation take the places of the whole to places of it, and every number on the way fits 64 bits.
-use Rattle.std.proofs.Common.{◌≡◌, ℕ, ◌*◌, ◌/◌, ◌%◌, ◌<◌, ◌≤◌, arith, [], ◌∷◌, subst, mod-lt, div-lt_iff_lt-mul}
-use Rattle.std.proofs.Common.{mul-le-mul_left, le-mul_of_pos_right, mul_comm}
+use Rattle.std.proofs.Common.{ℕ, ◌*◌, ◌/◌, ◌%◌, ◌<◌, ◌≤◌, arith, [], ◌∷◌, mod-lt, div-lt_iff_lt-mul}
+use Rattle.std.proofs.Common.{mul-le-mul_left, le-mul_of_pos_right}
 use Rattle.std.proofs.Math.Nat.{div-add-mod'}
 use Rattle.std.proofs.lemmas.Nat.{mul-le, mul-lt}
-use Rattle.index_fn.specs.Mapping.{Mapping, ThomasIn, ThomasBack, at, IsDefinedAt, IsWellFormed}
+use Rattle.index_fn.specs.Mapping.{Mapping, ThomasIn, ThomasBack, at, IsDefinedAt}
 use Rattle.operators.proofs.Lists.{factor_positive}
 use Rattle.sigma_lower.specs.TreeTerms.Wrapped.{wrapped}
 use Rattle.sigma_lower.proofs.TreeTerms.Permuted.{StaysBelow, wrapped-below}

@@ -7,10 +7,10 @@ use Rattle.std.proofs.lemmas.Bool.{cases_eq}
 use Rattle.std.proofs.lemmas.Bool.Decides.{nat_tests}
 use Rattle.index_fn.specs.Mapping.{Mapping, Strided, ThomasIn, ThomasBack}
 use Rattle.operators.specs.declared.target.Target.{Target}
-use Rattle.sigma_lower.specs.TreeLoops.Merge.{PlainPass, Merging, merge_term, merged, passes_of_terms, in_order}
+use Rattle.sigma_lower.specs.TreeLoops.Merge.{PlainPass, Merging, merge_term, passes_of_terms, in_order}
 use Rattle.sigma_lower.specs.TreeLoops.Merge.{merged_of}
 use Rattle.sigma_lower.specs.TreeTerms.Root.{right_path, left_path, whole_path, tile_path, lines_moved, vectors_turned}
-use Rattle.sigma_lower.specs.TreeTerms.Root.{turned_in, vectors_grouped, tiled_before, tiled_after, lines_dealt}
+use Rattle.sigma_lower.specs.TreeTerms.Root.{vectors_grouped, lines_dealt}
 use Rattle.sigma_lower.specs.TreeTerms.Root.{left_core, left_terms, right_terms, root_terms}
 use Rattle.sigma_lower.specs.TreeTerms.Term.{PlainTerm, gath, scat, diag, nest, lowered}
 use Rattle.sigma_spl.specs.Work.{PlainWork, tile}
@@ -31,8 +31,6 @@ use Rattle.smp_rewrite.specs.Smp.{within}
 use Rattle.smp_rewrite.specs.LayoutSteps.Step.{steps_of}
 use Rattle.operators.specs.declared.tensor_paths.Tensor.TheVariants.{Blocks, Columns}
 use Rattle.operators.specs.TensorPaths.Path.{Path, size_under}
-use Rattle.tree_model.specs.declared.tree.Rule.{Rule}
-use Rattle.tree_model.specs.declared.tree.Rule.TheVariants.{Gt, Ct, Split, Dim}
 use Rattle.smp_rewrite.specs.Fits.{HasParts, RootHasParts, CanShareLayout}
 use Rattle.smp_rewrite.specs.LayoutSteps.Layout.{Layout, work, by, layout_size, IsGoodLayout, IsGoodWork}
 use Rattle.sigma_spl.proofs.Walk.{chosen}

@@ -1,6 +1,6 @@
 -- Passes whose lanes are vectors, and what merging keeps of them.
 use Rattle.std.proofs.Common.{◌≡◌, ℕ, ◌+◌, ◌*◌, ◌<◌, arith, sym, ap, ◌∙◌, List, [], ◌∷◌, mul-zero, subst}
-use Rattle.std.specs.Prelude.{Option, Some, None}
+use Rattle.std.specs.Prelude.{Some}
 use Rattle.std.proofs.Math.Nat.{zero-mul}
 use Rattle.index_fn.specs.Mapping.{Mapping, at}
 use Rattle.operators.specs.declared.target.Target.{Target}

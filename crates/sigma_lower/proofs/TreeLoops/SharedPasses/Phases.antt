@@ -9,9 +9,9 @@ use Rattle.operators.specs.Operator.{stride}
 use Rattle.operators.proofs.Lists.{factor_positive}
 use Rattle.sigma_lower.specs.TreeLoops.Merge.{Merging, merge_term, merged, passes_of_terms, merged_phases}
 use Rattle.sigma_lower.specs.TreeTerms.Root.{right_path, left_path, whole_path, tile_path, turned_in, vectors_grouped}
-use Rattle.sigma_lower.specs.TreeTerms.Root.{tiled_before, tiled_after, lines_moved, vectors_turned, lines_dealt}
+use Rattle.sigma_lower.specs.TreeTerms.Root.{lines_moved, vectors_turned, lines_dealt}
 use Rattle.sigma_lower.specs.TreeTerms.Root.{left_core, left_terms, right_terms, in_phases, root_terms}
-use Rattle.sigma_lower.specs.TreeTerms.Term.{PlainTerm, gath, scat, diag, nest, lowered}
+use Rattle.sigma_lower.specs.TreeTerms.Term.{PlainTerm, gath, scat, nest, lowered}
 use Rattle.sigma_spl.specs.Work.{PlainWork, tile, work_size}
 use Rattle.sigma_lower.specs.TreeTerms.Wrapped.{wrapped, unit_of}
 use Rattle.sigma_lower.proofs.TreeTerms.Permuted.{StaysBelow}
@@ -35,7 +35,6 @@ use Rattle.smp_rewrite.specs.LayoutSteps.Step.{steps_of}
 use Rattle.operators.specs.declared.tensor_paths.Tensor.TheVariants.{Blocks, Columns}
 use Rattle.operators.specs.TensorPaths.Path.{Path, size_under, place}
 use Rattle.tree_model.specs.declared.tree.Rule.{Rule}
-use Rattle.tree_model.specs.declared.tree.Rule.TheVariants.{Gt, Ct, Split, Dim}
 use Rattle.smp_rewrite.specs.Fits.{RuleHasParts, RootHasParts, CanShareLayout}
 use Rattle.smp_rewrite.specs.LayoutSteps.Layout.{Layout, work, by, layout_size, IsGoodLayout}
 use Rattle.vec_rewrite.proofs.StepFollows.{unequal, within-wide}
