@@ -12,8 +12,8 @@ use Rattle.sigma_lower.specs.TreeTerms.Root.{right_path}
 use Rattle.sigma_lower.specs.TreeTerms.Term.{PlainTerm, lowered_of}
 use Rattle.sigma_lower.proofs.TreeLoops.LoopNests.{loops_listed}
 use Rattle.sigma_lower.proofs.TreeLoops.RootMerging.{root_merged}
-use Rattle.sigma_lower.proofs.TreeLoops.RootPasses.{if_lanes, left_pass, left_passes, right_passes, root_passes, tile_after}
-use Rattle.sigma_lower.proofs.TreeLoops.RootPasses.{tile_before, turned_waiting}
+use Rattle.sigma_lower.proofs.TreeLoops.RootPasses.{if_lanes, left_pass, left_passes, right_passes, root_passes}
+use Rattle.sigma_lower.proofs.TreeLoops.RootPasses.{tile_after, tile_before, turned_waiting}
 use Rattle.sigma_lower.proofs.TreeLoops.TreePasses.{IsFull, full-append, full-at_last, full-mapped, full_passes}
 use Rattle.sigma_lower.proofs.TreeLoops.TreePasses.{layout_passes}
 use Rattle.sigma_lower.proofs.TreeLoops.Wholes.{plain_phases}
@@ -73,8 +73,8 @@ root-full c (by rule root a b) fits =
     let right = right_passes c.procs c.lanes rule root a b in
     let left = left_passes c.procs c.lanes (layout_size b) a in
     let on_right = full-right c c.procs c.lanes rule root a b fits in
-    let on_left =
-    full-mapped (left_pass c.procs c.lanes (layout_size a) (layout_size b)) (layout_passes [] [] a) (full_passes [] [] a) in
+    let copied = left_pass c.procs c.lanes (layout_size a) (layout_size b) in
+    let on_left = full-mapped copied (layout_passes [] [] a) (full_passes [] [] a) in
     chosen AllFull (c.procs == 1) ((right ++ left) ∷ []) (right ∷ left ∷ [])
     (λ one. (full-front right left on_right, tt)) (on_right, (on_left, tt))
 

@@ -1,5 +1,5 @@
--- The terms of trees are in order: a scatter or a diagonal comes right after a loop, a diagonal after one that has none, and
--- after tiles only one under no tensors.
+-- The terms of trees are in order: a scatter or a diagonal comes right after a loop, a diagonal after one that has none,
+-- and after tiles only one under no tensors.
 use Rattle.std.proofs.Common.{◌≡◌, ℕ, ◌*◌, ◌/◌, ◌==◌, Bool, true, false, List, [], ◌∷◌, ◌++◌, refl, sym, subst}
 use Rattle.std.proofs.Common.{if◌then◌else◌, None}
 use Rattle.std.specs.Prelude.{map, not, ◌&&◌}
@@ -10,7 +10,8 @@ use Rattle.operators.specs.TensorPaths.Path.{Path, size_under}
 use Rattle.sigma_lower.specs.Order.{IsOrderedPhase, AllOrdered, TreesOrdered}
 use Rattle.sigma_lower.specs.Shared.{embed, phase_term}
 use Rattle.sigma_lower.specs.TreeTerms.Root.{left_core, left_path, left_terms, lines_dealt, lines_moved, right_path}
-use Rattle.sigma_lower.specs.TreeTerms.Root.{right_terms, root_terms, tile_path, vectors_grouped, vectors_turned, whole_path}
+use Rattle.sigma_lower.specs.TreeTerms.Root.{right_terms, root_terms, tile_path, vectors_grouped, vectors_turned}
+use Rattle.sigma_lower.specs.TreeTerms.Root.{whole_path}
 use Rattle.sigma_lower.specs.TreeTerms.Term.{PlainTerm, gath, scat, diag, nest, lowered, lowered_of}
 use Rattle.sigma_lower.specs.TreeTerms.Wrapped.{wrapped}
 use Rattle.sigma_lower.proofs.TreeLoops.Emitted.{as_lowered, emitted-lowered}
@@ -148,7 +149,8 @@ orders-piece m false into out path w good =
 keeps-left : (m n p v k s : ℕ) → Keeps Orders m [] n (left_core p v k s)
 keeps-left m n p v k s = record {
   pieces = λ path w good e.
-      orders-piece m (p == 1) (lines_dealt (p * k) p v k s) (lines_dealt (k * p) p v k s) (left_path p v s ++ path) w good;
+      orders-piece m (p == 1) (lines_dealt (p * k) p v k s) (lines_dealt (k * p) p v k s) (left_path p v s ++ path) w
+      good;
   turned = λ path a b e. gathers ready (wrapped (whole_path v s ++ path) (a * b) (Strided a b));
   twiddled = λ path a b w e. multiplies (Columns s ∷ path) a b w;
   gathered = λ path a b e. gathers ready (wrapped (whole_path v s ++ path) (a * b) (ThomasIn a b));

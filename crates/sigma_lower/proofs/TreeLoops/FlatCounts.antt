@@ -187,7 +187,8 @@ module _ (n : ℕ) (p : Request) (rule : Rule) (a b : Breakdown) (root : ℕ) (w
       (refl, lefts (λ k. k))
 
   tiled-pick : (z : Bool) → z ≡ false → RuleFits p rule (size_of a) (size_of b) →
-      ArePasses n p (tiled_passes (if z then work w else by rule root left right)) (trees.tiled_passes p (node rule a b))
+      ArePasses n p (tiled_passes (if z then work w else by rule root left right))
+      (trees.tiled_passes p (node rule a b))
   tiled-pick true is fits = absurd (cc)
   tiled-pick false is fits = by-rule rule fits
     where
@@ -241,7 +242,8 @@ hands_on p Dim a b h = absurd (h.tree.tree.2.0 h.one)
 handed : (n : ℕ) (p q : Request) (t : Breakdown) → q ≡ p →
     ((k : ℕ) → ArePasses n p (passes_of k (layout_of p t)) (trees.passes_of p k t)) →
     (k : ℕ) → ArePasses n p (passes_of k (layout_of q t)) (trees.passes_of p k t)
-handed n p q t is on k = subst (λ r. ArePasses n p (passes_of k (layout_of r t)) (trees.passes_of p k t)) (sym is) (on k)
+handed n p q t is on k =
+    subst (λ r. ArePasses n p (passes_of k (layout_of r t)) (trees.passes_of p k t)) (sym is) (on k)
 
 -- so many times, over n words
 module _ (n : ℕ) (p : Request) where

@@ -1,6 +1,6 @@
--- The terms of a layout's steps are merged into its passes. Terms that make each function, each pass and the path of each
--- diagonal another are merged into such passes: so those of a root's left part into the passes of its layout, each in all
--- copies.
+-- The terms of a layout's steps are merged into its passes. Terms that make each function, each pass and the path of
+-- each diagonal another are merged into such passes: so those of a root's left part into the passes of its layout, each
+-- in all copies.
 use Rattle.std.proofs.Common.{◌≡◌, ℕ, ◌*◌, List, [], ◌∷◌, ◌++◌, refl, sym, ap, ap₂, subst, ◌∙◌}
 use Rattle.std.proofs.Common.{append_assoc, append-nil}
 use Rattle.std.specs.Prelude.{map}
@@ -11,8 +11,8 @@ use Rattle.sigma_lower.specs.TreeLoops.Merge.{merged, passes_of_terms}
 use Rattle.sigma_lower.specs.TreeTerms.Term.{PlainTerm, gath, scat, diag, lowered}
 use Rattle.sigma_lower.specs.TreeTerms.Wrapped.{wrapped}
 use Rattle.sigma_lower.proofs.TreeLoops.Emitted.{Emission, as_lowered, emitted, emitted-lowered, merged-steps}
-use Rattle.sigma_lower.proofs.TreeLoops.TreePasses.{IsFull, at_last-append, back, full-mapped, full_passes, layout_passes}
-use Rattle.sigma_lower.proofs.TreeLoops.TreePasses.{rule_passes, rule_waiting}
+use Rattle.sigma_lower.proofs.TreeLoops.TreePasses.{IsFull, at_last-append, back, full-mapped, full_passes}
+use Rattle.sigma_lower.proofs.TreeLoops.TreePasses.{layout_passes, rule_passes, rule_waiting}
 use Rattle.sigma_spl.specs.Work.{PlainWork}
 use Rattle.smp_rewrite.specs.LayoutSteps.Layout.{Layout, work, by, layout_size}
 use Rattle.smp_rewrite.specs.LayoutSteps.Step.{PlainStep, piece, step, turns, twiddles, thomas_in, thomas_out}
@@ -114,8 +114,8 @@ module _ (n : ℕ) (emit : Emission) (wait : Mapping → Mapping) (pass : PlainP
       (λ fs. make fs ++ make_left []) (lifts.turned path r s e)
       (subst (λ steps. Make steps (λ fs. make fs ++ make_left [])) (append_assoc right (last ∷ []) left)
       (make-both left (right ++ last ∷ []) make_left make on_left
-      (make-changed last (diag (over path) r s w) (multiplied path r s w) (multiplied (over path) r s w) right make_right
-      (lifts.twiddled path r s w) (λ ps. refl) (lifts.multiplies path r s w) full_right on_right)))
+      (make-changed last (diag (over path) r s w) (multiplied path r s w) (multiplied (over path) r s w) right
+      make_right (lifts.twiddled path r s w) (λ ps. refl) (lifts.multiplies path r s w) full_right on_right)))
   make-rule Split path r s w left right make_left make_right e full_left full_right on_left on_right =
       make-both left right make_left make_right on_left on_right
   make-rule Dim path r s w left right make_left make_right e full_left full_right on_left on_right =
@@ -156,7 +156,8 @@ pub merged_tree : (path : Path) (l : Layout) (fs : List Mapping) (ps : List Plai
     ≡ done (ps ++ layout_passes path fs l)
 merged_tree path l fs ps =
     let n = size_under path (layout_size l) in
-    sym (ap₂ (λ gs ts. merged (record { waiting = gs; passes = ps }) ts) (map-id fs) (emitted-lowered (steps_of path l)))
+    sym (ap₂ (λ gs ts. merged (record { waiting = gs; passes = ps }) ts) (map-id fs)
+    (emitted-lowered (steps_of path l)))
     ∙ make-layout n as_lowered (λ f. f) (λ p. p) (λ path. path) (lifts-lowered n) path l refl fs ps
     ∙ ap (λ qs. done (ps ++ qs)) (map-id (layout_passes path fs l))
 

@@ -1,5 +1,5 @@
--- Laws of the terms of a layout. A law says between which points terms may stand. It holds of a layout's terms if it holds of
--- those of each step, and of the right part of a root if it holds of the pieces of that.
+-- Laws of the terms of a layout. A law says between which points terms may stand. It holds of a layout's terms if it
+-- holds of those of each step, and of the right part of a root if it holds of the pieces of that.
 use Rattle.std.proofs.Common.{◌≡◌, ℕ, ◌*◌, sym, subst, ◌∙◌, List, [], ◌∷◌, ◌++◌, append_assoc, append-nil}
 use Rattle.std.specs.Prelude.{map}
 use Rattle.sigma_lower.specs.TreeLoops.Merge.{Merging, merged}
@@ -18,7 +18,7 @@ use Rattle.operators.proofs.TensorPaths.Under.{size_under-push}
 use Rattle.tree_model.specs.declared.tree.Rule.{Rule}
 use Rattle.tree_model.specs.declared.tree.Rule.TheVariants.{Gt, Ct, Split, Dim}
 
--- there is nothing yet; gathers may wait; a transform was the last; it, or tiles, can take the diagonal of a root; none waits
+-- there is nothing yet; gathers may wait; a transform was the last; it, or tiles, can take a root's diagonal; none waits
 pub data Point : Type 0 where
   begun : Point
   ready : Point
@@ -102,8 +102,10 @@ module _ (T : Point → List PlainTerm → Point → Type 0) (law : IsLaw T) whe
         (size_under-push (pre ++ path) (Blocks (layout_size a)) (layout_size b) ∙ e))
       where
         inner : (u : Tensor) (l : Layout) (x : ℕ) →
-            (size_under (pre ++ (path ++ u ∷ [])) x ≡ n → T ready (emitted emit (steps_of (pre ++ (path ++ u ∷ [])) l)) done) →
-            size_under ((pre ++ path) ++ u ∷ []) x ≡ n → T ready (emitted emit (steps_of ((pre ++ path) ++ u ∷ []) l)) done
+            (size_under (pre ++ (path ++ u ∷ [])) x ≡ n →
+            T ready (emitted emit (steps_of (pre ++ (path ++ u ∷ [])) l)) done) →
+            size_under ((pre ++ path) ++ u ∷ []) x ≡ n →
+            T ready (emitted emit (steps_of ((pre ++ path) ++ u ∷ []) l)) done
         inner u l x =
             subst (λ z. size_under z x ≡ n → T ready (emitted emit (steps_of z l)) done)
             (sym (append_assoc pre path (u ∷ [])))
@@ -111,7 +113,8 @@ module _ (T : Point → List PlainTerm → Point → Type 0) (law : IsLaw T) whe
   -- ---- the right part of a root
 
   module _ (p v w : ℕ) (a b : Layout)
-      (keeps : RightKeeps T p v (layout_size a) (layout_size b) w (map lowered (steps_of (right_path p v (layout_size a)) b)))
+      (keeps : RightKeeps T p v (layout_size a) (layout_size b) w
+      (map lowered (steps_of (right_path p v (layout_size a)) b)))
     where
       abbrev steps : List PlainTerm
       steps = map lowered (steps_of (right_path p v (layout_size a)) b)

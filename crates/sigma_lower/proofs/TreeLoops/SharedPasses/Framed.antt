@@ -43,7 +43,7 @@ use Rattle.sigma_lower.proofs.TreeTerms.Behind.{within-append}
 
 -- ---- the law
 
--- a pass of any work, one of a transform, and one that the diagonal of a root of n words fits: over tiles, or any of one lane
+-- a pass of any work, one of a transform, and one that a diagonal of n words at the root fits: over tiles, or of one lane
 abbrev Whatever : PlainWork → Type 0
 Whatever w = Unit {0}
 
@@ -149,8 +149,8 @@ left-keeps c n m k s h =
     (vectors-append v (whole_path v s) path (vectors-columns v (within (Columns (s / v)) []))) in
     record {
       pieces = λ path w good e.
-          left-piece c n (p == 1) (left_path p v s ++ path) w (lines_dealt (p * m) p v m s) (lines_dealt (m * p) p v m s)
-          good (left-loops c s path w good) (dealt (p * m)) (dealt (m * p));
+          left-piece c n (p == 1) (left_path p v s ++ path) w (lines_dealt (p * m) p v m s)
+          (lines_dealt (m * p) p v m s) good (left-loops c s path w good) (dealt (p * m)) (dealt (m * p));
       turned = λ path a b e.
           gathers c n (wrapped (whole_path v s ++ path) (a * b) (Strided a b)) (keeps path (a * b) (Strided a b));
       twiddled = λ path a b w e. multiplies c n (Columns s ∷ path) a b w h;
@@ -165,7 +165,8 @@ left-laned : (c : Target) (n s : ℕ) (a : Layout) → IsGoodLayout c.modulus a 
     Lanes c n ready (left_terms c.procs c.lanes (layout_size a) s (steps_of [] a)) done
 left-laned c n s a good h =
     let m = layout_size a in
-    steps-law (Lanes c n) (law c n) c.modulus [] m (left_core c.procs c.lanes m s) (left-keeps c n m m s h) [] a good refl
+    let emit = left_core c.procs c.lanes m s in
+    steps-law (Lanes c n) (law c n) c.modulus [] m emit (left-keeps c n m m s h) [] a good refl
 
 -- ---- the right part
 
@@ -232,7 +233,8 @@ right-keeps c w r b good =
       after = after-laned c n (v == 1) (tile_path p v r s) (vectors_grouped (v * (s / v)) p v r s) (is-one v)
           (tile-loops c r s) (grouped-keeps c (v * (s / v)) r s);
       twiddled = λ st h.
-          laned-free c n tiled (merge_term st (diag [] r s w)) (laned-diag c (FitsRoot c n) st [] r s w (λ does e. e) h);
+          laned-free c n tiled (merge_term st (diag [] r s w))
+          (laned-diag c (FitsRoot c n) st [] r s w (λ does e. e) h);
     }
 
 -- ---- the root
@@ -264,7 +266,8 @@ root-framed c (by rule w a b) low h good =
     let first = right_terms c.procs c.lanes rule w a b in
     let second = left_terms c.procs c.lanes r s (steps_of [] a) in
     let right : Lanes c n begun first settled =
-    right-law (Lanes c n) (law c n) c.procs c.lanes w a b (right-keeps c w r b good.2) rule (rule-shared c rule r s h) in
+    right-law (Lanes c n) (law c n) c.procs c.lanes w a b (right-keeps c w r b good.2) rule
+    (rule-shared c rule r s h) in
     let left : Lanes c n ready second done =
     left-laned c n s a good.1 (columns-from c r s low (rule-fits c rule r s h)) in
     let both = (law c n).both begun settled done first second right ((law c n).weak settled done second left) in
@@ -291,7 +294,8 @@ plain-framed : (c : Target) (l : Layout) → IsGoodLayout c.modulus l → is_alo
 plain-framed c l good h =
     let steps = map lowered (steps_of [] l) in
     let brings : Lanes c 0 ready steps done = part-laned c 0 [] l good (is-single c h).1 (plain-loops c h) in
-    framed-append c (passes_of_terms steps) [] (brings-framed c 0 done steps ((law c 0).weak begun done steps brings)) tt
+    framed-append c (passes_of_terms steps) []
+    (brings-framed c 0 done steps ((law c 0).weak begun done steps brings)) tt
 
 -- ---- all layouts
 

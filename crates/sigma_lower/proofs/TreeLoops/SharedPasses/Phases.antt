@@ -311,8 +311,8 @@ second-root : (c : Target) (s : ℕ) (a : Layout) → IsGoodLayout c.modulus a �
 second-root c s a good h =
     let m = layout_size a in
     let law = brings-law (λ i. Shared c (column_owner c s)) (λ i st is. is) (λ st is. is) in
-    steps-law (Seconds c s) law c.modulus [] m (left_core c.procs c.lanes m s) (left-keeps c m s h) [] a good refl nothing
-    (tt, tt)
+    let emit = left_core c.procs c.lanes m s in
+    steps-law (Seconds c s) law c.modulus [] m emit (left-keeps c m s h) [] a good refl nothing (tt, tt)
 
 -- ---- the root
 

@@ -10,6 +10,7 @@ use Rattle.operators.proofs.Lists.{row-of, column-of, place_below, factor_positi
 use Rattle.sigma_lower.specs.TreeTerms.Wrapped.{wrapped}
 use Rattle.sigma_lower.proofs.TreeTerms.Permuted.{StaysBelow, wrapped-below}
 use Rattle.sigma_lower.proofs.TreeTerms.Vectors.{apart}
+use Rattle.sigma_spl.proofs.Walk.{chosen}
 use Rattle.smp_rewrite.specs.Smp.{within}
 use Rattle.smp_rewrite.proofs.Dealt.{IsDealt, is_dealt}
 use Rattle.operators.specs.declared.tensor_paths.Tensor.TheVariants.{Blocks, Columns}
@@ -158,18 +159,16 @@ columns-keep b v f positive h i =
     ∙ h (i / v)
     ∙ div-div-eq-div-mul i v b
 
-keep-pick : (b v : ℕ) (t : Bool) (path : Path) (n : ℕ) (f : Mapping) → (t ≡ true → v ≡ 1) → 0 < v →
-    ((i : ℕ) → at (wrapped path n f) i / b ≡ i / b) →
-    (i : ℕ) → at (wrapped (if t then path else Columns v ∷ path) n f) i / (v * b) ≡ i / (v * b)
-keep-pick b v true path n f one positive h i =
-    let same : b ≡ v * b = sym (ap (λ m. m * b) (one refl) ∙ omega arith) in subst (λ m. at (wrapped path n f) i / m ≡ i / m) same (h i)
-keep-pick b v false path n f one positive h i = columns-keep b v (at (wrapped path n f)) positive h i
-
 -- in blocks of b vectors
 pub columns-keeps : (b v : ℕ) (path : Path) (n : ℕ) (f : Mapping) → 0 < v →
     ((i : ℕ) → at (wrapped path n f) i / b ≡ i / b) → (i : ℕ) →
     at (wrapped (within (Columns v) path) n f) i / (v * b) ≡ i / (v * b)
-columns-keeps b v path n f positive h i = keep-pick b v (v == 1) path n f (is-one v) positive h i
+columns-keeps b v path n f positive h =
+    chosen (λ z. (i : ℕ) → at (wrapped z n f) i / (v * b) ≡ i / (v * b)) (v == 1) path (Columns v ∷ path)
+    (λ one.
+    let same : b ≡ v * b = sym (ap (λ m. m * b) (is-one v one) ∙ omega arith) in
+    subst (λ m. (i : ℕ) → at (wrapped path n f) i / m ≡ i / m) same h)
+    (columns-keep b v (at (wrapped path n f)) positive h)
 
 -- ---- functions on columns
 
@@ -190,16 +189,14 @@ more-columns k v f g positive h i =
     ∙ omega arith
     ∙ sym (ap₂ (λ x y. f x * (k * v) + y) (ap (λ n. n / (k * v)) whole ∙ (apart a k v l below).row) (ap (λ n. n % (k * v)) whole ∙ (apart a k v l below).column))
 
-columns-pick : (k v : ℕ) (t : Bool) (path : Path) (n : ℕ) (f : ℕ → ℕ) (g : Mapping) → (t ≡ true → v ≡ 1) → 0 < v →
-    IsOnColumns k f (at (wrapped path n g)) →
-    IsOnColumns (k * v) f (at (wrapped (if t then path else Columns v ∷ path) n g))
-columns-pick k v true path n f g one positive h =
-    let same : k ≡ k * v = sym (ap (λ m. k * m) (one refl) ∙ omega arith) in subst (λ m. IsOnColumns m f (at (wrapped path n g))) same h
-columns-pick k v false path n f g one positive h = more-columns k v f (at (wrapped path n g)) positive h
-
 columns-within : (k v : ℕ) (path : Path) (n : ℕ) (f : ℕ → ℕ) (g : Mapping) → 0 < v →
     IsOnColumns k f (at (wrapped path n g)) → IsOnColumns (k * v) f (at (wrapped (within (Columns v) path) n g))
-columns-within k v path n f g positive h = columns-pick k v (v == 1) path n f g (is-one v) positive h
+columns-within k v path n f g positive h =
+    chosen (λ z. IsOnColumns (k * v) f (at (wrapped z n g))) (v == 1) path (Columns v ∷ path)
+    (λ one.
+    let same : k ≡ k * v = sym (ap (λ m. k * m) (is-one v one) ∙ omega arith) in
+    subst (λ m. IsOnColumns m f (at (wrapped path n g))) same h)
+    (more-columns k v f (at (wrapped path n g)) positive h)
 
 -- on w columns of v words each
 pub both-columns : (v w k : ℕ) (path : Path) (n : ℕ) (g : Mapping) → 0 < v → 0 < w → w * v ≡ k →
