@@ -1,7 +1,7 @@
 -- Functions that keep vectors: v words side by side, from a multiple of v on, stay so. Under tensors they do where the
 -- first columns are a multiple of v.
-use Rattle.std.proofs.Common.{◌≡◌, ℕ, ◌+◌, ◌*◌, ◌/◌, ◌%◌, ◌<◌, Bool, true, false, arith, refl, sym, ap, ap₂, subst, ◌∙◌}
-use Rattle.std.proofs.Common.{[], ◌∷◌, ◌++◌, inl, inr, if◌then◌else◌, eq-zero-or-pos, mod-lt}
+use Rattle.std.proofs.Common.{◌≡◌, ℕ, ◌+◌, ◌*◌, ◌/◌, ◌%◌, ◌<◌, arith, sym, ap, ap₂, subst, ◌∙◌}
+use Rattle.std.proofs.Common.{[], ◌∷◌, ◌++◌, inl, inr, eq-zero-or-pos, mod-lt}
 use Rattle.std.specs.Prelude.{◌==◌}
 use Rattle.std.proofs.Math.Nat.{div-add-mod', div-zero, mod-zero, zero-mul}
 use Rattle.index_fn.specs.Mapping.{Mapping, at}

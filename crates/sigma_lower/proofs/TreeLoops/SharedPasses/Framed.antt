@@ -4,7 +4,6 @@ use Rattle.std.proofs.Common.{◌++◌, if◌then◌else◌, subst, inl, inr, ap
 use Rattle.std.specs.Prelude.{◌==◌, map}
 use Rattle.std.proofs.Math.Nat.{div-add-mod'}
 use Rattle.std.proofs.lemmas.Bool.{cases_eq}
-use Rattle.std.proofs.lemmas.Bool.Decides.{nat_tests}
 use Rattle.index_fn.specs.Mapping.{Mapping, Strided, ThomasIn, ThomasBack}
 use Rattle.operators.specs.declared.target.Target.{Target}
 use Rattle.sigma_lower.specs.TreeLoops.Merge.{PlainPass, Merging, merge_term, passes_of_terms, in_order}
@@ -35,7 +34,7 @@ use Rattle.smp_rewrite.specs.Fits.{HasParts, RootHasParts, CanShareLayout}
 use Rattle.smp_rewrite.specs.LayoutSteps.Layout.{Layout, work, by, layout_size, IsGoodLayout, IsGoodWork}
 use Rattle.sigma_spl.proofs.Walk.{chosen}
 use Rattle.sigma_spl.specs.Shared.Targets.{is_alone}
-use Rattle.sigma_lower.proofs.TreeTerms.Both.{plain_terms}
+use Rattle.sigma_lower.proofs.TreeTerms.Both.{one_lane, one_proc, plain_terms}
 use Rattle.sigma_lower.proofs.TreeTerms.RootTerms.{shared_terms, rule-fits, rule-shared}
 use Rattle.sigma_spl.specs.Shared.Machine.{lane_step}
 use Rattle.smp_rewrite.proofs.Tensors.{blocks-within, is-one}
@@ -280,20 +279,18 @@ root-framed c (by rule w a b) low h good =
 
 -- ---- one processor and one lane
 
-is-single : (c : Target) → is_alone c ≡ true → (c.procs ≡ 1) × (c.lanes ≡ 1)
-is-single c h = (grind (arith, nat_tests), grind (arith, nat_tests))
-
 plain-loops : (c : Target) → is_alone c ≡ true → (path : Path) (w : PlainWork) → IsGoodWork c.modulus w →
     IsLoop c path w
 plain-loops c h path w good =
-    let one = is-single c h in
-    transform-loop c.modulus c w path path good (sym (ap (λ p. within (Blocks p) (within (Columns c.lanes) path)) one.0 ∙ ap (λ v. within (Columns v) path) one.1))
+    transform-loop c.modulus c w path path good
+    (sym (ap (λ p. within (Blocks p) (within (Columns c.lanes) path)) (one_proc c h)
+    ∙ ap (λ v. within (Columns v) path) (one_lane c h)))
 
 plain-framed : (c : Target) (l : Layout) → IsGoodLayout c.modulus l → is_alone c ≡ true →
     AllFramed c (in_order (map passes_of_terms (map lowered (steps_of [] l) ∷ [])))
 plain-framed c l good h =
     let steps = map lowered (steps_of [] l) in
-    let brings : Lanes c 0 ready steps done = part-laned c 0 [] l good (is-single c h).1 (plain-loops c h) in
+    let brings : Lanes c 0 ready steps done = part-laned c 0 [] l good (one_lane c h) (plain-loops c h) in
     framed-append c (passes_of_terms steps) []
     (brings-framed c 0 done steps ((law c 0).weak begun done steps brings)) tt
 

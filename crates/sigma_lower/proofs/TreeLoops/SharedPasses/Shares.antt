@@ -1,6 +1,6 @@
 -- Each processor's share of a root of r * s words: a block of r / p rows in the first phase, and s / p columns in the second one.
-use Rattle.std.proofs.Common.{◌≡◌, ◌≢◌, ℕ, ◌+◌, ◌*◌, ◌/◌, ◌%◌, ◌<◌, ◌≤◌, Bool, true, false, arith, refl, sym, ap, ap₂}
-use Rattle.std.proofs.Common.{◌∙◌, List, [], ◌∷◌, if◌then◌else◌, subst, mod-lt, div-lt_iff_lt-mul}
+use Rattle.std.proofs.Common.{◌≡◌, ◌≢◌, ℕ, ◌+◌, ◌*◌, ◌/◌, ◌%◌, ◌<◌, ◌≤◌, arith, sym, ap, ap₂}
+use Rattle.std.proofs.Common.{◌∙◌, List, [], ◌∷◌, subst, mod-lt, div-lt_iff_lt-mul}
 use Rattle.std.specs.Prelude.{◌==◌, slice_index}
 use Rattle.std.proofs.Math.Nat.{div-add-mod', div-div-eq-div-mul, div-one, mod-one, mul-div_right, mul-mod_right}
 use Rattle.index_fn.specs.Mapping.{Mapping, at}
