@@ -66,13 +66,12 @@ good-reverse c (l ∷ ls) h =
     subst (AreGood c) (sym (reverse-append (l ∷ []) ls))
     (good-append c (reverse ls) (l ∷ []) (good-reverse c ls h.1) (h.0, tt))
 
-good-back : (c : Target) (ls : List PlainLoop) → AreGood c (reverse ls) → AreGood c ls
-good-back c ls h = subst (AreGood c) (reverse-reverse ls) (good-reverse c (reverse ls) h)
-
 -- those of a phase, in order
 good-phase : (c : Target) (ts : List PlainTerm) → AreGood c (loops_in (phase_term ts)) →
     AreGood c (map loop_of (passes_of_terms ts))
-good-phase c ts h = good-back c (map loop_of (passes_of_terms ts)) (subst (AreGood c) (loops_listed ts) h)
+good-phase c ts h =
+    let ls = map loop_of (passes_of_terms ts) in
+    subst (AreGood c) (reverse-reverse ls) (good-reverse c (reverse ls) (subst (AreGood c) (loops_listed ts) h))
 
 good-phases : (c : Target) (phases : List (List PlainTerm)) → IsMachine c → AllEmbed c c.lanes phases →
     AllOrdered c phases → AllHaveLoops c phases → AreGood c (map loop_of (in_order (map passes_of_terms phases)))

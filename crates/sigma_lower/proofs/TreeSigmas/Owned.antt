@@ -4,7 +4,7 @@ use Rattle.std.specs.Prelude.{Contains}
 use Rattle.sigma_lower.specs.TreeLoops.Merge.{PlainPass, gather_place, scatter_place, in_order}
 use Rattle.sigma_lower.specs.TreeLoops.Nests.{loop_of}
 use Rattle.operators.specs.declared.target.Target.{Target}
-use Rattle.sigma_spl.specs.Shared.Running.{IsLoadedBy, IsStoredBy}
+use Rattle.sigma_spl.specs.Shared.Running.{IsCopyOf, IsLoadedBy, IsStoredBy}
 use Rattle.sigma_spl.specs.Shared.Owners.{AllOwn, AllShared, ArePhasesShared, FirstOwns}
 use Rattle.sigma_spl.specs.Loops.{nest_of, one_nest}
 use Rattle.sigma_spl.specs.Copies.{loops_of}
@@ -27,35 +27,33 @@ module _ (c : Target) where
   abbrev pub pass_nests : List PlainPass → List (List PlainNest)
   pass_nests ps = map one_nest (map loop_of ps)
 
+  -- an item of the one nest of a pass stands where that of the pass does
+  item-owns : (owner : ℕ → ℕ) (p : PlainPass) (at : PlainNest → List ℕ → ℕ → ℕ) (places : List ℕ → ℕ → ℕ) →
+      ((vs : List ℕ) (k : ℕ) → AreInRange p.path vs → k < work_size p.work →
+      at (nest_of (loop_of p)) vs k ≡ places vs k) →
+      shared.Owns c p places owner → (q w : ℕ) → q < c.procs → (z : PlainNest) → Contains (one_nest (loop_of p)) z →
+      (vs : List ℕ) (k : ℕ) → IsCopyOf c z q vs → k < work_size z.work → at z vs k ≡ w → owner w ≡ q
+  item-owns owner p at places is owns q w below z one vs k copy low there =
+      subst
+      (λ (y : PlainNest). AreInRange (loops_of y.counts) vs → k < work_size y.work → at y vs k ≡ w → owner w ≡ q)
+      (only-nest (nest_of (loop_of p)) z one)
+      (λ range item here.
+      let inner : AreInRange p.path vs = ranged p.path vs range in
+      ap owner (sym here ∙ is vs k inner item)
+      ∙ owns q vs k below (record { in_range = inner; processor = copy.processor }) item)
+      copy.in_range low there
+
   loads-own : (owner : ℕ → ℕ) (p : PlainPass) → IsKnown c p → shared.Owns c p (gather_place p) owner → (q w : ℕ) →
       q < c.procs → IsLoadedBy c (one_nest (loop_of p)) q w → owner w ≡ q
   loads-own owner p known owns q w below by =
-      subst
-      (λ (y : PlainNest).
-      AreInRange (loops_of y.counts) by.values → by.item < work_size y.work →
-      load_place y.work y.gathers by.values by.item ≡ w → owner w ≡ q)
-      (only-nest (nest_of (loop_of p)) by.nest by.one)
-      (λ range low there.
-      let inner : AreInRange p.path by.values = ranged p.path by.values range in
-      let item : by.item < work_size p.work = low in
-      ap owner (sym there ∙ load-is c p known.loop by.values by.item inner item)
-      ∙ owns q by.values by.item below (record { in_range = inner; processor = by.copy.processor }) item)
-      by.copy.in_range by.below by.there
+      item-owns owner p (λ z. load_place z.work z.gathers) (gather_place p) (load-is c p known.loop) owns q w below by.nest
+      by.one by.values by.item by.copy by.below by.there
 
   stores-own : (owner : ℕ → ℕ) (p : PlainPass) → IsKnown c p → shared.Owns c p (scatter_place p) owner → (q w : ℕ) →
       q < c.procs → IsStoredBy c (one_nest (loop_of p)) q w → owner w ≡ q
   stores-own owner p known owns q w below by =
-      subst
-      (λ (y : PlainNest).
-      AreInRange (loops_of y.counts) by.values → by.item < work_size y.work →
-      store_place y.work y.scatters by.values by.item ≡ w → owner w ≡ q)
-      (only-nest (nest_of (loop_of p)) by.nest by.one)
-      (λ range low there.
-      let inner : AreInRange p.path by.values = ranged p.path by.values range in
-      let item : by.item < work_size p.work = low in
-      ap owner (sym there ∙ store-is c p known.loop by.values by.item inner item)
-      ∙ owns q by.values by.item below (record { in_range = inner; processor = by.copy.processor }) item)
-      by.copy.in_range by.below by.there
+      item-owns owner p (λ z. store_place z.work z.scatters) (scatter_place p) (store-is c p known.loop) owns q w below
+      by.nest by.one by.values by.item by.copy by.below by.there
 
   all-own : (owner : ℕ → ℕ) (ps : List PlainPass) → AllKnown c ps → shared.AllOwn c owner ps →
       AllOwn c owner (pass_nests ps)
