@@ -1,26 +1,30 @@
 -- The terms of a whole can be merged.
-use Rattle.std.proofs.Common.{◌≡◌, ℕ, ◌*◌, ◌^◌, ◌<◌, ◌≤◌, ◌==◌, Bool, true, false, arith, refl, sym, List, [], ◌∷◌, ◌++◌, subst, if◌then◌else◌}
+use Rattle.std.proofs.Common.{ℕ, ◌*◌, ◌^◌, ◌≤◌, ◌==◌, arith, refl, sym, List, [], ◌∷◌}
+use Rattle.std.proofs.Common.{◌++◌, subst}
 use Rattle.std.specs.Prelude.{map}
 use Rattle.std.proofs.lemmas.Bool.{lt-ltb}
-use Rattle.std.proofs.lemmas.Bool.Decides.{nat_tests}
 use Rattle.index_fn.specs.Mapping.{Mapping, Strided, ThomasIn, ThomasOut, ThomasBack}
 use Rattle.sigma_lower.specs.Machine.{IsMachine}
-use Rattle.sigma_spl.specs.Good.{IsGoodTerm}
-use Rattle.sigma_spl.specs.Limits.{AreSeveral, HasSeveral}
+use Rattle.sigma_spl.proofs.Walk.{chosen}
+use Rattle.sigma_spl.specs.Limits.{AreSeveral, HasRows, HasSeveral}
 use Rattle.sigma_spl.specs.Merge.{back_of, unit_below}
 use Rattle.sigma_spl.specs.Sigma.{AllCanMerge}
 use Rattle.sigma_spl.specs.Term.{scat}
 use Rattle.sigma_spl.specs.Words.{AreWords, HasNumbers}
-use Rattle.sigma_spl.specs.Work.{PlainWork, kernel, rows, horner, tile, copy, work_size, HasWords}
+use Rattle.sigma_spl.specs.Work.{PlainWork, kernel, rows, horner, tile, copy, HasWords}
 use Rattle.sigma_lower.specs.Merged.{TreesCanMerge}
 use Rattle.sigma_lower.specs.Shared.{embed, phase_term}
 use Rattle.sigma_lower.specs.Trees.{core_term}
 use Rattle.sigma_lower.proofs.Closing.{closed-can}
 use Rattle.sigma_lower.proofs.Embedded.{embed-core, sizes-of}
-use Rattle.sigma_lower.proofs.Moves.{back-wrapped, left_positive, right_positive}
+use Rattle.sigma_lower.proofs.Moves.{back-wrapped}
 use Rattle.sigma_lower.proofs.Numbers.{numbers-wrapped, strided-closed, in-closed, out-closed}
 use Rattle.sigma_lower.proofs.SharedTrees.{AllEmbed, trees_embed}
-use Rattle.sigma_lower.proofs.TightPaths.{IsTight, AreTightTerms, AreTightPhases, tree-tight}
+use Rattle.sigma_lower.proofs.TreeLoops.PassLists.{AllPasses, all-map, all-split, last-back}
+use Rattle.sigma_lower.proofs.TreeLoops.Shaped.{AreShaped, IsShaped, IsShapedWork}
+use Rattle.sigma_lower.proofs.TreeLoops.TreePlaces.{tree_good_places}
+use Rattle.sigma_lower.specs.TreeLoops.Merge.{PlainPass, Merging, new_pass, scattered, multiplied, merge_term, merged}
+use Rattle.sigma_lower.specs.TreeLoops.Merge.{passes_of_terms, in_order, merged_of}
 use Rattle.sigma_lower.specs.TreeTerms.Good.{IsGoodPiece, IsVecOf, IsGoodCore, IsGood, AreGood}
 use Rattle.sigma_lower.specs.TreeTerms.Term as lowered
 use Rattle.sigma_lower.specs.TreeTerms.Term.{lowered_after, factor_term, lowered_of}
@@ -35,7 +39,7 @@ use Rattle.smp_rewrite.specs.Fits.{CanShareLayout}
 use Rattle.smp_rewrite.specs.LayoutSteps.Layout.{Layout, IsGoodLayout}
 use Rattle.smp_rewrite.specs.LayoutSteps.Whole.{only, IsGoodWhole}
 use Rattle.operators.specs.declared.target.Target.{Target}
-use Rattle.operators.specs.declared.tensor_paths.Tensor.TheVariants.{Blocks, Columns}
+use Rattle.operators.specs.declared.tensor_paths.Tensor.TheVariants.{Columns}
 use Rattle.operators.specs.TensorPaths.Path.{Path, size_under}
 use Rattle.vec_rewrite.specs.Turning.{vec_of}
 use Rattle.vec_rewrite.specs.Vectors.{PlainFactor, lanes, diagonals, move_before, move_after, tiles, factor_step}
@@ -50,10 +54,12 @@ piece-words (tile v) h = absurd h
 piece-words (copy size) h = absurd h
 
 -- a scatter by a permutation under tensors
-scat-words : (path : Path) (n : ℕ) (f : Mapping) → HasNumbers (size_under path n) (wrapped path n f) → HasNumbers (size_under path n) (wrapped path n (back_of f)) → AreWords (size_under path n) (scat (wrapped path n f))
+scat-words : (path : Path) (n : ℕ) (f : Mapping) → HasNumbers (size_under path n) (wrapped path n f) →
+    HasNumbers (size_under path n) (wrapped path n (back_of f)) → AreWords (size_under path n) (scat (wrapped path n f))
 scat-words path n f h k = (h, subst (HasNumbers (size_under path n)) (sym (back-wrapped path n f)) k)
 
-core-words : (path : Path) (k : PlainCore) → IsGoodCore k → core_size k ≤ 1048576 → size_under path (core_size k) ≤ 1048576 → AreWords (size_under path (core_size k)) (core_term path k)
+core-words : (path : Path) (k : PlainCore) → IsGoodCore k → core_size k ≤ 1048576 →
+    size_under path (core_size k) ≤ 1048576 → AreWords (size_under path (core_size k)) (core_term path k)
 core-words path (piece w) h low high = piece-words w h
 core-words path (turns r s) h low high =
     let closed = strided-closed r s (omega (arith, h.0)) (omega (arith, h.1)) low in numbers-wrapped path (r * s) (Strided r s) high refl closed.0 closed.1
@@ -70,7 +76,8 @@ step-words c s valid h =
     let sizes = sizes-of c s valid h in
     subst (AreWords c.size) (sym (embed-core s.path s.core)) (subst (λ n. AreWords n (core_term s.path s.core)) h.size (core-words s.path s.core h.core sizes.low sizes.high))
 
-after-words : (c : Target) (path : Path) (k : PlainCore) → IsMachine c → IsGood c.size (step path k) → AreWords c.size (embed (lowered_after (step path k)))
+after-words : (c : Target) (path : Path) (k : PlainCore) → IsMachine c → IsGood c.size (step path k) →
+    AreWords c.size (embed (lowered_after (step path k)))
 after-words c path (piece t) valid h = step-words c (step path (piece t)) valid h
 after-words c path (turns r s) valid h =
     let n = r * s in
@@ -82,7 +89,8 @@ after-words c path (steps.twiddles r s w) valid h = step-words c (step path (ste
 after-words c path (thomas_in r s) valid h = step-words c (step path (thomas_in r s)) valid h
 after-words c path (thomas_out r s) valid h = step-words c (step path (thomas_out r s)) valid h
 
-factor-words : (c : Target) (p v : ℕ) (f : PlainFactor) → IsMachine c → IsGood c.size (factor_step p v f) → AreWords c.size (embed (factor_term p v f))
+factor-words : (c : Target) (p v : ℕ) (f : PlainFactor) → IsMachine c → IsGood c.size (factor_step p v f) →
+    AreWords c.size (embed (factor_term p v f))
 factor-words c p v (lanes s) valid h = step-words c (factor_step p v (lanes s)) valid h
 factor-words c p v (diagonals s) valid h = step-words c s valid h
 factor-words c p v (move_before s) valid h = step-words c (factor_step p v (move_before s)) valid h
@@ -93,51 +101,72 @@ abbrev AreWordPhases : Target → List (List lowered.PlainTerm) → Type 0
 AreWordPhases c [] = Unit {0}
 AreWordPhases c (ts ∷ more) = AreWords c.size (phase_term ts) × AreWordPhases c more
 
-phase-words : (c : Target) (p v : ℕ) (fs : List PlainFactor) → IsMachine c → AreGood c.size (map (factor_step p v) fs) → AreWords c.size (phase_term (map (factor_term p v) fs))
+phase-words : (c : Target) (p v : ℕ) (fs : List PlainFactor) → IsMachine c → AreGood c.size (map (factor_step p v) fs) →
+    AreWords c.size (phase_term (map (factor_term p v) fs))
 phase-words c p v [] valid h = tt
 phase-words c p v (f ∷ fs) valid h = (factor-words c p v f valid h.0, phase-words c p v fs valid h.1)
 
-pick-phases : (c : Target) (p v : ℕ) (b : Bool) (first second : List PlainFactor) → IsMachine c → AreGood c.size (map (factor_step p v) (first ++ second)) → AreGood c.size (map (factor_step p v) first) × AreGood c.size (map (factor_step p v) second) →
-    AreWordPhases c (map (map (factor_term p v)) (if b then (first ++ second) ∷ [] else first ∷ second ∷ []))
-pick-phases c p v true first second valid all each = (phase-words c p v (first ++ second) valid all, tt)
-pick-phases c p v false first second valid all each = (phase-words c p v first valid each.0, (phase-words c p v second valid each.1, tt))
-
-tree-words : (c : Target) (l : Layout) → IsMachine c → CanShareLayout c l → IsGoodLayout c.modulus l → AreWordPhases c (lowered_of c l)
+tree-words : (c : Target) (l : Layout) → IsMachine c → CanShareLayout c l → IsGoodLayout c.modulus l →
+    AreWordPhases c (lowered_of c l)
 tree-words c l valid shares good =
     let g = vec_of (layout_smp c l) in
     let whole : IsGoodWhole c.modulus (only l) = record { layout = good; factor = tt } in
     let is : IsVecOf c g = record { whole = only l; shares = shares; good = whole; form = refl } in
-    pick-phases c c.procs c.lanes (c.procs == 1) g.first g.second valid (vec_good c g is) (phases_good c g is)
+    let each = phases_good c g is in
+    let words = phase-words c c.procs c.lanes in
+    chosen (λ phases. AreWordPhases c (map (map (factor_term c.procs c.lanes)) phases)) (c.procs == 1)
+    ((g.first ++ g.second) ∷ []) (g.first ∷ g.second ∷ [])
+    (λ one. (words (g.first ++ g.second) valid (vec_good c g is), tt))
+    (words g.first valid each.0, (words g.second valid each.1, tt))
 
 -- ---- several copies
 
-pub several-of : (n : ℕ) → 0 < n → (n == 1) ≡ false → 2 ≤ n
-several-of n some other = grind (arith, nat_tests)
+-- a pass over several copies by each tensor, and several rows
+abbrev IsSeveral : PlainPass → Type 0
+IsSeveral p = AreSeveral p.path × HasRows p.work
 
--- a path of some words, none of whose tensors has one copy
-several-path : (path : Path) (n : ℕ) → IsTight path → 0 < size_under path n → AreSeveral path
-several-path [] n h some = tt
-several-path (Blocks k ∷ path) n h some =
-    (several-of k (left_positive k (size_under path n) some) h.0, several-path path n h.1 (right_positive k (size_under path n) some))
-several-path (Columns k ∷ path) n h some =
-    (several-of k (right_positive (size_under path n) k some) h.0, several-path path n h.1 (left_positive (size_under path n) k some))
+-- each nest of terms is a pass in the end
+nests-several : (ts : List lowered.PlainTerm) (st : Merging) → AllPasses IsSeveral (merged st ts).passes →
+    HasSeveral (phase_term ts) × AllPasses IsSeveral st.passes
+nests-several [] st h = (tt, h)
+nests-several (lowered.gath f ∷ ts) st h =
+    let rest = nests-several ts (merge_term st (lowered.gath f)) h in ((tt, rest.0), rest.1)
+nests-several (lowered.scat f ∷ ts) st h =
+    let rest = nests-several ts (merge_term st (lowered.scat f)) h in
+    ((tt, rest.0), last-back IsSeveral (scattered f) (λ p k. k) st.passes rest.1)
+nests-several (lowered.diag path r s w ∷ ts) st h =
+    let rest = nests-several ts (merge_term st (lowered.diag path r s w)) h in
+    ((tt, rest.0), last-back IsSeveral (multiplied path r s w) (λ p k. k) st.passes rest.1)
+nests-several (lowered.nest path w ∷ ts) st h =
+    let rest = nests-several ts (merge_term st (lowered.nest path w)) h in
+    let passes = all-split IsSeveral st.passes (new_pass path w st.waiting ∷ []) rest.1 in
+    ((passes.1.0, rest.0), passes.0)
 
-term-several : (c : Target) (v : ℕ) (ts : List lowered.PlainTerm) → IsMachine c → IsGoodTerm v c.size (phase_term ts) → AreTightTerms ts → HasSeveral (phase_term ts)
-term-several c v [] valid good tight = tt
-term-several c v (lowered.gath f ∷ ts) valid good tight = (tt, term-several c v ts valid good.1 tight.1)
-term-several c v (lowered.scat f ∷ ts) valid good tight = (tt, term-several c v ts valid good.1 tight.1)
-term-several c v (lowered.diag path r s w ∷ ts) valid good tight = (tt, term-several c v ts valid good.1 tight.1)
-term-several c v (lowered.nest path w ∷ ts) valid good tight =
-    ((several-path path (work_size w) tight.0.0 (omega (arith, good.0.1, valid.size.0)), tight.0.1), term-several c v ts valid good.1 tight.1)
+shaped-rows : (m : ℕ) (w : PlainWork) → IsShapedWork m w → HasRows w
+shaped-rows m (kernel trees) h = tt
+shaped-rows m (rows root size) h = h.0
+shaped-rows m (horner root size) h = absurd h
+shaped-rows m (tile v) h = tt
+shaped-rows m (copy size) h = absurd h
+
+shaped-several : (m size : ℕ) (ps : List PlainPass) → AreShaped (IsShapedWork m) size ps → AllPasses IsSeveral ps
+shaped-several m size = all-map (IsShaped (IsShapedWork m) size) IsSeveral (λ p h. (h.wide, shaped-rows m p.work h.work))
 
 -- ---- phases
 
-all-can : (c : Target) (phases : List (List lowered.PlainTerm)) → IsMachine c → AllEmbed c c.lanes phases → AreTightPhases phases → AreWordPhases c phases → AllCanMerge c.lanes c.size (map phase_term phases)
-all-can c [] valid embeds tight words = tt
-all-can c (ts ∷ more) valid embeds tight words = (
-  record { good = embeds.0.good; several = term-several c c.lanes ts valid embeds.0.good tight.0; words = words.0 },
-  all-can c more valid embeds.1 tight.1 words.1,
-)
+all-can : (c : Target) (phases : List (List lowered.PlainTerm)) → IsMachine c → AllEmbed c c.lanes phases →
+    AllPasses IsSeveral (in_order (map passes_of_terms phases)) → AreWordPhases c phases →
+    AllCanMerge c.lanes c.size (map phase_term phases)
+all-can c [] valid embeds several words = tt
+all-can c (ts ∷ more) valid embeds several words =
+    let each = all-split IsSeveral (passes_of_terms ts) (in_order (map passes_of_terms more)) several in (
+      record {
+        good = embeds.0.good;
+        several = (nests-several ts (record { waiting = []; passes = [] }) each.0).0;
+        words = words.0;
+      },
+      all-can c more valid embeds.1 each.1 words.1,
+    )
 
 pub trees_can_merge : TreesCanMerge
 trees_can_merge c w can =
@@ -146,7 +175,8 @@ trees_can_merge c w can =
     let shares = can.shares in
     let good = can.good.layout in
     let embeds = trees_embed c l valid shares good in
-    let phases = all-can c (lowered_of c l) valid embeds (tree-tight c l shares good) (tree-words c l valid shares good) in
+    let several = shaped-several c.modulus c.size (merged_of c l) (tree_good_places c l shares good).shaped in
+    let phases = all-can c (lowered_of c l) valid embeds several (tree-words c l valid shares good) in
     record {
       some = valid.size.0;
       most = omega (arith, valid.size.1);

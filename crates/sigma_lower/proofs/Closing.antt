@@ -1,5 +1,6 @@
 -- The products after the last phase: what they do, and that they can be merged.
-use Rattle.std.proofs.Common.{◌≡◌, ℕ, ◌==◌, Bool, true, false, arith, refl, sym, ap, ◌∙◌, List, [], ◌∷◌, ◌++◌, if◌then◌else◌}
+use Rattle.std.proofs.Common.{◌≡◌, ℕ, ◌==◌, Bool, true, false, arith, refl, sym, ap, ◌∙◌, List, [], ◌∷◌, ◌++◌}
+use Rattle.std.proofs.Common.{if◌then◌else◌}
 use Rattle.std.specs.Prelude.{map, Option, None, Some}
 use Rattle.std.proofs.lemmas.List.{map-append}
 use Rattle.sigma_lower.specs.Merged.{closing_term, close_last, closed_phases}
@@ -55,7 +56,8 @@ close-can lanes n v (t ∷ []) h =
     (record { good = (h.0.good, closing-size n); several = (h.0.several, tt); words = (h.0.words, tt) }, tt)
 close-can lanes n v (t ∷ u ∷ ts) h = (h.0, close-can lanes n v (u ∷ ts) h.1)
 
-pub closed-can : (lanes n : ℕ) (o : Option ℕ) (ts : List PlainTerm) → AllCanMerge lanes n ts → AllCanMerge lanes n (closed_phases n o ts)
+pub closed-can : (lanes n : ℕ) (o : Option ℕ) (ts : List PlainTerm) → AllCanMerge lanes n ts →
+    AllCanMerge lanes n (closed_phases n o ts)
 closed-can lanes n None ts h = h
 closed-can lanes n (Some v) ts h = close-can lanes n v ts h
 
@@ -67,8 +69,10 @@ close-append n v [] t = refl
 close-append n v (u ∷ []) t = refl
 close-append n v (u ∷ w ∷ ts) t = ap (λ us. u ∷ us) (close-append n v (w ∷ ts) t)
 
-pub closed_last : (n v : ℕ) (all made rest : List Term) (last one : Term) → all ≡ rest ++ last ∷ [] → made ≡ rest ++ one ∷ [] →
-    plain_term one ≡ product (plain_term last) (closing_term n v) → map plain_term made ≡ close_last n v (map plain_term all)
+pub closed_last : (n v : ℕ) (all made rest : List Term) (last one : Term) → all ≡ rest ++ last ∷ [] →
+    made ≡ rest ++ one ∷ [] →
+    plain_term one ≡ product (plain_term last) (closing_term n v) →
+    map plain_term made ≡ close_last n v (map plain_term all)
 closed_last n v all made rest last one taken put is =
     ap (map plain_term) put
     ∙ map-append plain_term rest (one ∷ [])

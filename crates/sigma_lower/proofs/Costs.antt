@@ -1,5 +1,6 @@
 -- The terms of a formula for lanes have its operations: each processor has its share.
-use Rattle.std.proofs.Common.{◌≡◌, ℕ, ◌+◌, ◌*◌, ◌/◌, ◌%◌, ◌<◌, ◌==◌, Bool, true, false, arith, refl, sym, ap, ap₂, ◌∙◌, List, [], ◌∷◌, ◌++◌, subst, if◌then◌else◌}
+use Rattle.std.proofs.Common.{◌≡◌, ℕ, ◌+◌, ◌*◌, ◌/◌, ◌%◌, ◌<◌, ◌==◌, Bool, true, false, arith, refl, sym, ap, ap₂, ◌∙◌}
+use Rattle.std.proofs.Common.{List, [], ◌∷◌, ◌++◌, subst, if◌then◌else◌}
 use Rattle.std.specs.Prelude.{All, map, Option, None, Some}
 use Rattle.std.proofs.Math.Nat.{mul-div_right, zero-div}
 use Rattle.std.proofs.lemmas.List.Elements.{All-head, All-tail}
@@ -25,7 +26,8 @@ use Rattle.operators.proofs.TensorPaths.Under.{size_under-copies}
 use Rattle.tree_model.proofs.Splits.{product_div}
 use Rattle.vec_rewrite.specs.Laws.{HasLanes}
 use Rattle.vec_rewrite.specs.Turning.{vec_of}
-use Rattle.vec_rewrite.specs.Vectors.{PlainFactor, lanes, diagonals, move_before, move_after, tiles, PlainVec, share_of, shares_in, vec_shares}
+use Rattle.vec_rewrite.specs.Vectors.{PlainFactor, lanes, diagonals, move_before, move_after, tiles, PlainVec, share_of}
+use Rattle.vec_rewrite.specs.Vectors.{shares_in, vec_shares}
 use Rattle.vec_rewrite.proofs.LaneShapes.{vec_shaped}
 use Rattle.vec_rewrite.proofs.LaneShares.{shares_in-append}
 use Rattle.sigma_lower.proofs.SharedTrees.{all-left, all-right}
@@ -35,12 +37,15 @@ use Rattle.sigma_lower.proofs.SharedTrees.{all-left, all-right}
 abbrev cost_in : ℕ → Target → PlainTerm → ℕ
 cost_in weight c t = term_cost weight (work_cost weight c.modulus) c.size t
 
-copies-split : (p v : ℕ) (path : Path) → copies_of (within (Blocks p) (within (Columns v) path)) ≡ p * (v * copies_of path)
+copies-split : (p v : ℕ) (path : Path) → copies_of (within (Blocks p) (within (Columns v) path))
+    ≡ p * (v * copies_of path)
 copies-split p v path = copies-within (Blocks p) (within (Columns v) path) ∙ ap (λ k. p * k) (copies-within (Columns v) path)
 
 -- on each lane of each processor's block
-lane-cost : (weight : ℕ) (c : Target) (p v : ℕ) (path : Path) (k : PlainCore) → p * (v * size_under path (core_size k)) ≡ c.size →
-    cost_in weight c (embed (lowered_core (within (Blocks p) (within (Columns v) path)) k)) ≡ p * (v * (copies_of path * core_cost weight c.modulus k))
+lane-cost : (weight : ℕ) (c : Target) (p v : ℕ) (path : Path) (k : PlainCore) →
+    p * (v * size_under path (core_size k)) ≡ c.size →
+    cost_in weight c (embed (lowered_core (within (Blocks p) (within (Columns v) path)) k))
+    ≡ p * (v * (copies_of path * core_cost weight c.modulus k))
 lane-cost weight c p v path (piece t) size = ap (λ a. a * work_cost weight c.modulus t) (copies-split p v path) ∙ grouped p v (copies_of path) (work_cost weight c.modulus t)
   where
     grouped : (p v k x : ℕ) → p * (v * k) * x ≡ p * (v * (k * x))
@@ -62,7 +67,9 @@ share-exact p w n positive rest =
     turned : (w p k : ℕ) → w * (p * k) ≡ p * (w * k)
     turned w p k = omega arith
 
-diagonal-cost : (weight : ℕ) (c : Target) (p : ℕ) (path : Path) (k : PlainCore) → 0 < p → size_under path (core_size k) ≡ c.size → IsDiagonal k → c.size % p ≡ 0 → cost_in weight c (embed (lowered_core path k)) ≡ p * (copies_of path * core_cost weight c.modulus k / p)
+diagonal-cost : (weight : ℕ) (c : Target) (p : ℕ) (path : Path) (k : PlainCore) → 0 < p →
+    size_under path (core_size k) ≡ c.size → IsDiagonal k → c.size % p ≡ 0 →
+    cost_in weight c (embed (lowered_core path k)) ≡ p * (copies_of path * core_cost weight c.modulus k / p)
 diagonal-cost weight c p path (piece t) positive size is rest = absurd is
 diagonal-cost weight c p path (turns r s) positive size is rest = absurd is
 diagonal-cost weight c p path (twiddles r s w) positive size is rest =
@@ -75,21 +82,24 @@ diagonal-cost weight c p path (thomas_in r s) positive size is rest = absurd is
 diagonal-cost weight c p path (thomas_out r s) positive size is rest = absurd is
 
 -- permutations
-before-cost : (weight : ℕ) (c : Target) (p : ℕ) (path : Path) (k : PlainCore) → IsPermutation k → cost_in weight c (embed (lowered_core path k)) ≡ p * 0
+before-cost : (weight : ℕ) (c : Target) (p : ℕ) (path : Path) (k : PlainCore) → IsPermutation k →
+    cost_in weight c (embed (lowered_core path k)) ≡ p * 0
 before-cost weight c p path (piece t) is = absurd is
 before-cost weight c p path (turns r s) is = omega arith
 before-cost weight c p path (twiddles r s w) is = absurd is
 before-cost weight c p path (thomas_in r s) is = omega arith
 before-cost weight c p path (thomas_out r s) is = omega arith
 
-after-cost : (weight : ℕ) (c : Target) (p : ℕ) (path : Path) (k : PlainCore) → IsPermutation k → cost_in weight c (embed (after_core path k)) ≡ p * 0
+after-cost : (weight : ℕ) (c : Target) (p : ℕ) (path : Path) (k : PlainCore) → IsPermutation k →
+    cost_in weight c (embed (after_core path k)) ≡ p * 0
 after-cost weight c p path (piece t) is = absurd is
 after-cost weight c p path (turns r s) is = omega arith
 after-cost weight c p path (twiddles r s w) is = absurd is
 after-cost weight c p path (thomas_in r s) is = omega arith
 after-cost weight c p path (thomas_out r s) is = omega arith
 
-factor-cost : (weight : ℕ) (c : Target) (p v : ℕ) (f : PlainFactor) → 0 < p → HasLanes c.size p v f → cost_in weight c (embed (factor_term p v f)) ≡ p * share_of weight c.modulus p v f
+factor-cost : (weight : ℕ) (c : Target) (p v : ℕ) (f : PlainFactor) → 0 < p → HasLanes c.size p v f →
+    cost_in weight c (embed (factor_term p v f)) ≡ p * share_of weight c.modulus p v f
 factor-cost weight c p v (lanes s) positive h = lane-cost weight c p v s.path s.core h
 factor-cost weight c p v (diagonals s) positive h = diagonal-cost weight c p s.path s.core positive h.0 h.1 h.2
 factor-cost weight c p v (move_before s) positive h = before-cost weight c p (within (Columns v) s.path) s.core h.1
@@ -101,7 +111,8 @@ factor-cost weight c p v (tiles path) positive h = none (copies_of (within (Bloc
 
 -- ---- phases
 
-phase-cost : (weight : ℕ) (c : Target) (p v : ℕ) (fs : List PlainFactor) → 0 < p → All (HasLanes c.size p v) fs → cost_in weight c (phase_term (map (factor_term p v) fs)) ≡ p * shares_in weight c.modulus p v fs
+phase-cost : (weight : ℕ) (c : Target) (p v : ℕ) (fs : List PlainFactor) → 0 < p → All (HasLanes c.size p v) fs →
+    cost_in weight c (phase_term (map (factor_term p v) fs)) ≡ p * shares_in weight c.modulus p v fs
 phase-cost weight c p v [] positive h = omega arith
 phase-cost weight c p v (f ∷ fs) positive h =
     ap₂ (λ a b. a + b) (factor-cost weight c p v f positive (All-head (HasLanes c.size p v) f fs h))

@@ -1,5 +1,6 @@
 -- The operations of the term of a formula.
-use Rattle.std.proofs.Common.{◌≡◌, ℕ, zero, suc, ◌+◌, ◌-◌, ◌*◌, ◌^◌, ◌<◌, arith, refl, sym, ap, ap₂, ◌∙◌, [], ◌∷◌, ◌++◌, length, inl, inr}
+use Rattle.std.proofs.Common.{◌≡◌, ℕ, zero, suc, ◌+◌, ◌-◌, ◌*◌, ◌^◌, ◌<◌, arith, refl, sym, ap, ap₂, ◌∙◌, [], ◌∷◌, ◌++◌}
+use Rattle.std.proofs.Common.{length, inl, inr}
 use Rattle.std.proofs.Math.Nat.{pow-succ'}
 use Rattle.std.proofs.lemmas.Bool.{cases_eq, cases_lt}
 use Rattle.std.proofs.lemmas.Bool.Decides.{nat_tests}
@@ -12,7 +13,9 @@ use Rattle.sigma_lower.specs.Operations.{operations}
 use Rattle.sigma_lower.specs.Terms.{one_more, halvings, hadamard_term, fourier_term, term_of}
 use Rattle.sigma_lower.proofs.Lowers.{halvings-power, power-above}
 use Rattle.sigma_lower.proofs.Parts.{size-more}
-use Rattle.spl_ast.specs.Formula.{Formula, Identity, Fourier, Hadamard, Twiddles, Diagonal, Stride, Permutation, GoodThomasIn, GoodThomasOut, Product, TensorLeft, TensorRight, DirectSum, Pending, size_of}
+use Rattle.spl_ast.specs.Formula.{Formula, Identity, Fourier, Hadamard, Twiddles, Diagonal, Stride, Permutation}
+use Rattle.spl_ast.specs.Formula.{GoodThomasIn, GoodThomasOut, Product, TensorLeft, TensorRight, DirectSum, Pending}
+use Rattle.spl_ast.specs.Formula.{size_of}
 use Rattle.spl_ast.specs.Shape.{IsShaped}
 use Rattle.operators.specs.declared.tensor_paths.Tensor.{Tensor}
 use Rattle.operators.specs.declared.tensor_paths.Tensor.TheVariants.{Blocks, Columns}
@@ -36,11 +39,13 @@ two-cost weight m = ap (λ c. 2 + (0 + (0 + 0 + 0) + (0 + 0 + c))) (minus m) ∙
   minus : (m : ℕ) → product_cost weight m 0 (m - 1) ≡ 0
   minus m = grind (arith, nat_tests)
 
-hadamard-step : (c n k inner columns all : ℕ) → inner ≡ c * 2 * (n * k) → columns ≡ c * n * 2 → all ≡ 2 * n → inner + columns ≡ c * (all * suc k)
+hadamard-step : (c n k inner columns all : ℕ) → inner ≡ c * 2 * (n * k) → columns ≡ c * n * 2 → all ≡ 2 * n →
+    inner + columns ≡ c * (all * suc k)
 hadamard-step c n k inner columns all e f g =
     let right : c * (2 * n * suc k) ≡ c * 2 * (n * k) + c * n * 2 = omega arith in omega (arith, e, f, right, ap (λ z. c * (z * suc k)) g)
 
-hadamard-cost : (weight m n : ℕ) (path : Path) (k : ℕ) → term_cost weight (work_cost weight m) n (hadamard_term path k) ≡ copies_of path * (2 ^ k * k)
+hadamard-cost : (weight m n : ℕ) (path : Path) (k : ℕ) → term_cost weight (work_cost weight m) n (hadamard_term path k)
+    ≡ copies_of path * (2 ^ k * k)
 hadamard-cost weight m n path zero = omega arith
 hadamard-cost weight m n path (suc k) =
     hadamard-step (copies_of path) (2 ^ k) k _ _ (2 ^ suc k)
@@ -50,7 +55,9 @@ hadamard-cost weight m n path (suc k) =
 
 -- ---- formulas
 
-fourier-cost : (weight m : ℕ) (path : Path) (size n w : ℕ) → term_cost weight (work_cost weight m) size (fourier_term path n w) ≡ copies_of path * operations weight m (Fourier n w)
+fourier-cost : (weight m : ℕ) (path : Path) (size n w : ℕ) →
+    term_cost weight (work_cost weight m) size (fourier_term path n w)
+    ≡ copies_of path * operations weight m (Fourier n w)
 fourier-cost weight m path size n w =
     elim (cases_lt 8 n) [
       | inl long ↦ grind (arith, nat_tests)
@@ -63,11 +70,13 @@ scaled-sum c k a = omega arith
 weighted-items : (weight n c k : ℕ) → n ≡ c * k → weight * n ≡ c * (weight * k)
 weighted-items weight n c k is = ap (λ x. weight * x) is ∙ omega arith
 
-lower-cost : (weight m n : ℕ) (path : Path) (f : Formula) → 0 < m → IsShaped f → n ≡ size_under path (size_of f) → term_cost weight (work_cost weight m) n (term_of m path f) ≡ copies_of path * operations weight m f
+lower-cost : (weight m n : ℕ) (path : Path) (f : Formula) → 0 < m → IsShaped f → n ≡ size_under path (size_of f) →
+    term_cost weight (work_cost weight m) n (term_of m path f) ≡ copies_of path * operations weight m f
 lower-cost weight m n path (Identity k) positive shaped is = omega arith
 lower-cost weight m n path (Fourier k w) positive shaped is = fourier-cost weight m path n k w
 lower-cost weight m n path (Hadamard k) positive shaped is = power shaped.1 where
-  power : IsPowerOfTwo k → term_cost weight (work_cost weight m) n (hadamard_term path (halvings k k)) ≡ copies_of path * (k * halvings k k)
+  power : IsPowerOfTwo k → term_cost weight (work_cost weight m) n (hadamard_term path (halvings k k))
+      ≡ copies_of path * (k * halvings k k)
   power (e, whole) =
       let steps : halvings k k ≡ e = ap (λ z. halvings z z) whole ∙ halvings-power e (2 ^ e) (power-above e) in
       ap (λ z. term_cost weight (work_cost weight m) n (hadamard_term path z)) steps ∙ hadamard-cost weight m n path e ∙ ap₂ (λ a b. copies_of path * (a * b)) (sym whole) (sym steps)
@@ -95,5 +104,6 @@ lower-cost weight m n path (Pending a) positive shaped is = lower-cost weight m 
 
 -- for each copy under the path
 pub lower_counts : (weight m : ℕ) (path : Path) (f : Formula) → 0 < m → IsShaped f →
-    term_cost weight (work_cost weight m) (size_under path (size_of f)) (term_of m path f) ≡ copies_of path * operations weight m f
+    term_cost weight (work_cost weight m) (size_under path (size_of f)) (term_of m path f)
+    ≡ copies_of path * operations weight m f
 lower_counts weight m path f positive shaped = lower-cost weight m (size_under path (size_of f)) path f positive shaped refl

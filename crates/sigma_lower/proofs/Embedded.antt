@@ -38,7 +38,8 @@ use Rattle.smp_rewrite.proofs.Tensors.{blocks-within}
 -- The term of a factor is good, and does what it did
 pub record Embeds (h : Target) (p v : ℕ) (f : PlainFactor) : Type 0 where
   pub good : IsGoodTerm v h.size (embed (factor_term p v f))
-  pub on : (x : List ℕ) → IsVector h.modulus h.size x → term_on h.modulus h.size (embed (factor_term p v f)) x ≡ lowered.term_on h (factor_term p v f) x
+  pub on : (x : List ℕ) → IsVector h.modulus h.size x → term_on h.modulus h.size (embed (factor_term p v f)) x
+      ≡ lowered.term_on h (factor_term p v f) x
 
 -- permutations move whole vectors
 abbrev MovesBy : ℕ → Path → PlainCore → Type 0
@@ -70,13 +71,16 @@ embed-core path (thomas_in r s) = refl
 embed-core path (thomas_out r s) = refl
 
 -- a scatter by what undoes a permutation
-scat-good : (v : ℕ) (path : Path) (n : ℕ) (f : Mapping) → 0 < size_under path n → HasVectors v path → back_of (back_of f) ≡ f → IsMove 0 n f → IsMove 0 n (back_of f) → IsGoodTerm v (size_under path n) (scat (wrapped path n f))
+scat-good : (v : ℕ) (path : Path) (n : ℕ) (f : Mapping) → 0 < size_under path n → HasVectors v path →
+    back_of (back_of f) ≡ f → IsMove 0 n f → IsMove 0 n (back_of f) →
+    IsGoodTerm v (size_under path n) (scat (wrapped path n f))
 scat-good v path n f some vectors twice h g =
     let there = laned-move v path n f some vectors h in
     let other = laned-move v path n (back_of f) some vectors g in
     (there, subst (IsMove v (size_under path n)) (sym (back-wrapped path n f)) other, flip (size_under path n) (at (wrapped path n f)) (at (back_of (wrapped path n f))) there.permutes)
 
-core-good : (v : ℕ) (path : Path) (k : PlainCore) → 0 < size_under path (core_size k) → IsGoodCore k → core_size k ≤ 1048576 → MovesBy v path k → IsGoodTerm v (size_under path (core_size k)) (core_term path k)
+core-good : (v : ℕ) (path : Path) (k : PlainCore) → 0 < size_under path (core_size k) → IsGoodCore k →
+    core_size k ≤ 1048576 → MovesBy v path k → IsGoodTerm v (size_under path (core_size k)) (core_term path k)
 core-good v path (piece w) some h low moves = (piece-nests v path w h, refl)
 core-good v path (turns r s) some h low moves = laned-move v path (r * s) (Strided r s) some moves (strided-move r s (omega (arith, h.0)) (omega (arith, h.1)) low)
 core-good v path (steps.twiddles r s w) some h low moves = refl
@@ -100,18 +104,23 @@ sizes-of c s valid h =
     let low : d ≤ c.size = part-le (copies_of s.path) d c.size (sym (size_under-copies s.path d) ∙ size) valid.size.0 in
     record { some = omega (arith, size, valid.size.0); high = omega (arith, size, valid.size.1); low = omega (arith, low, valid.size.1) }
 
-core-embeds-good : (c : Target) (v : ℕ) (s : PlainStep) → IsMachine c → IsGood c.size s → MovesBy v s.path s.core → IsGoodTerm v c.size (embed (lowered_core s.path s.core))
+core-embeds-good : (c : Target) (v : ℕ) (s : PlainStep) → IsMachine c → IsGood c.size s → MovesBy v s.path s.core →
+    IsGoodTerm v c.size (embed (lowered_core s.path s.core))
 core-embeds-good c v s valid h moves =
     let sizes = sizes-of c s valid h in
     subst (λ t. IsGoodTerm v c.size t) (sym (embed-core s.path s.core)) (subst (λ n. IsGoodTerm v n (core_term s.path s.core)) h.size (core-good v s.path s.core sizes.some h.core sizes.low moves))
 
-core-embeds-on : (c : Target) (s : PlainStep) (x : List ℕ) → IsMachine c → IsGood c.size s → IsVector c.modulus c.size x → term_on c.modulus c.size (embed (lowered_core s.path s.core)) x ≡ step_on c.modulus s x
+core-embeds-on : (c : Target) (s : PlainStep) (x : List ℕ) → IsMachine c → IsGood c.size s →
+    IsVector c.modulus c.size x → term_on c.modulus c.size (embed (lowered_core s.path s.core)) x
+    ≡ step_on c.modulus s x
 core-embeds-on c s x valid h v =
     let sizes = sizes-of c s valid h in
     let lower = core-lowers c s.path s.core sizes.some h.core sizes.high sizes.low in
     ap₂ (λ n t. term_on c.modulus n t x) (sym h.size) (embed-core s.path s.core) ∙ lower.on x (subst (λ n. IsVector c.modulus n x) (sym h.size) v)
 
-core-embeds : (c : Target) (p v : ℕ) (f : PlainFactor) → IsMachine c → IsGood c.size (factor_step p v f) → factor_term p v f ≡ lowered_core (factor_step p v f).path (factor_step p v f).core → MovesBy v (factor_step p v f).path (factor_step p v f).core → Embeds c p v f
+core-embeds : (c : Target) (p v : ℕ) (f : PlainFactor) → IsMachine c → IsGood c.size (factor_step p v f) →
+    factor_term p v f ≡ lowered_core (factor_step p v f).path (factor_step p v f).core →
+    MovesBy v (factor_step p v f).path (factor_step p v f).core → Embeds c p v f
 core-embeds c p v f valid h same moves =
     let s = factor_step p v f in
     record {
@@ -120,7 +129,9 @@ core-embeds c p v f valid h same moves =
     }
 
 -- a stride permutation after what comes before it
-turned-embeds : (c : Target) (p v : ℕ) (path : Path) (r s : ℕ) → IsMachine c → IsGood c.size (factor_step p v (move_after (steps.step path (turns r s)))) → Embeds c p v (move_after (steps.step path (turns r s)))
+turned-embeds : (c : Target) (p v : ℕ) (path : Path) (r s : ℕ) → IsMachine c →
+    IsGood c.size (factor_step p v (move_after (steps.step path (turns r s)))) →
+    Embeds c p v (move_after (steps.step path (turns r s)))
 turned-embeds c p v path r s valid h =
     let all = within (Columns v) path in
     let n = r * s in
@@ -139,7 +150,8 @@ turned-embeds c p v path r s valid h =
           ∙ sym (factor_on c p v (move_after (steps.step path (turns r s))) x h);
     }
 
-tile-embeds : (c : Target) (p v : ℕ) (path : Path) → IsMachine c → AreBlocks path → IsGood c.size (factor_step p v (tiles path)) → Embeds c p v (tiles path)
+tile-embeds : (c : Target) (p v : ℕ) (path : Path) → IsMachine c → AreBlocks path →
+    IsGood c.size (factor_step p v (tiles path)) → Embeds c p v (tiles path)
 tile-embeds c p v path valid blocks h =
     record {
       good = ((λ some. refl, blocks-within p path blocks), h.size);
@@ -150,7 +162,8 @@ tile-embeds c p v path valid blocks h =
           ∙ sym (factor_on c p v (tiles path) x h);
     }
 
-after-embeds : (c : Target) (p v : ℕ) (path : Path) (k : PlainCore) → IsMachine c → IsGood c.size (factor_step p v (move_after (steps.step path k))) → Embeds c p v (move_after (steps.step path k))
+after-embeds : (c : Target) (p v : ℕ) (path : Path) (k : PlainCore) → IsMachine c →
+    IsGood c.size (factor_step p v (move_after (steps.step path k))) → Embeds c p v (move_after (steps.step path k))
 after-embeds c p v path (piece t) valid h = core-embeds c p v (move_after (steps.step path (piece t))) valid h refl tt
 after-embeds c p v path (turns r s) valid h = turned-embeds c p v path r s valid h
 after-embeds c p v path (steps.twiddles r s w) valid h = core-embeds c p v (move_after (steps.step path (steps.twiddles r s w))) valid h refl tt

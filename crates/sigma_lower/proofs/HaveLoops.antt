@@ -1,153 +1,86 @@
--- Each phase of a tree has a loop.
-use Rattle.std.proofs.Common.{◌≡◌, ℕ, ◌==◌, Bool, true, false, List, [], ◌∷◌, ◌++◌, refl, sym, subst, if◌then◌else◌}
-use Rattle.std.specs.Prelude.{map}
-use Rattle.sigma_spl.specs.Nest as nests
-use Rattle.sigma_spl.specs.Loops.{PlainLoop, Looping, begun, looped, HasLoop, stored_last, scaled_last}
+-- Each phase of a layout has a loop, since it has a pass.
+use Rattle.std.proofs.Common.{◌≡◌, ℕ, ◌==◌, Bool, true, false, List, [], ◌∷◌, ◌++◌, refl, sym, subst}
+use Rattle.std.specs.Prelude.{map, reverse}
+use Rattle.std.proofs.lemmas.List.{reverse-append}
+use Rattle.operators.specs.declared.target.Target.{Target}
+use Rattle.sigma_spl.specs.Loops.{PlainLoop, HasLoop}
+use Rattle.sigma_spl.specs.Shared.Targets.{is_alone}
 use Rattle.sigma_lower.specs.Merged.{AllHaveLoops, PhasesHaveLoops}
-use Rattle.sigma_lower.specs.Shared.{embed, phase_term}
-use Rattle.sigma_lower.specs.TreeTerms.Root.{left_core, left_terms, right_path, turned_in, tiled_before, right_terms, root_terms}
-use Rattle.sigma_lower.specs.TreeTerms.Term.{PlainTerm, gath, scat, diag, nest, lowered, lowered_core, lowered_of}
-use Rattle.sigma_lower.proofs.TreeTerms.Both.{plain_terms}
-use Rattle.sigma_lower.proofs.TreeTerms.RootTerms.{shared_terms}
-use Rattle.smp_rewrite.specs.LayoutSteps.Step.{PlainCore, piece, turns, twiddles, thomas_in, thomas_out, PlainStep, rule_steps, steps_of}
+use Rattle.sigma_lower.specs.TreeLoops.Merge.{PlainPass, passes_of_terms, merged_phases}
+use Rattle.sigma_lower.specs.TreeLoops.Nests.{loop_of}
+use Rattle.sigma_lower.specs.TreeTerms.Root.{right_path}
+use Rattle.sigma_lower.specs.TreeTerms.Term.{PlainTerm, lowered_of}
+use Rattle.sigma_lower.proofs.TreeLoops.LoopNests.{loops_listed}
+use Rattle.sigma_lower.proofs.TreeLoops.RootMerging.{root_merged}
+use Rattle.sigma_lower.proofs.TreeLoops.RootPasses.{if_lanes, left_pass, left_passes, right_passes, root_passes}
+use Rattle.sigma_lower.proofs.TreeLoops.RootPasses.{tile_after, tile_before, turned_waiting}
+use Rattle.sigma_lower.proofs.TreeLoops.TreePasses.{IsFull, full-append, full-at_last, full-mapped, full_passes}
+use Rattle.sigma_lower.proofs.TreeLoops.TreePasses.{layout_passes}
+use Rattle.sigma_lower.proofs.TreeLoops.Wholes.{plain_phases}
+use Rattle.sigma_spl.proofs.Walk.{chosen}
 use Rattle.smp_rewrite.specs.Fits.{RootHasParts}
 use Rattle.smp_rewrite.specs.LayoutSteps.Layout.{Layout, work, by, layout_size}
-use Rattle.sigma_spl.specs.Shared.Targets.{is_alone}
-use Rattle.operators.specs.declared.target.Target.{Target}
-use Rattle.operators.specs.declared.tensor_paths.Tensor.TheVariants.{Blocks}
-use Rattle.operators.specs.TensorPaths.Path.{Path}
 use Rattle.tree_model.specs.declared.tree.Rule.{Rule}
 use Rattle.tree_model.specs.declared.tree.Rule.TheVariants.{Gt, Ct, Split, Dim}
 
--- ---- a nest among the terms
+-- ---- from passes to loops
 
-abbrev HasNest : List PlainTerm → Type 0
-HasNest [] = ⊥
-HasNest (gath f ∷ ts) = HasNest ts
-HasNest (scat f ∷ ts) = HasNest ts
-HasNest (diag path r s w ∷ ts) = HasNest ts
-HasNest (nest path w ∷ ts) = Unit {0}
+loop-behind : (ls : List PlainLoop) (l : PlainLoop) → HasLoop (ls ++ l ∷ [])
+loop-behind [] l = tt
+loop-behind (k ∷ ls) l = tt
 
-left-nest : (ts us : List PlainTerm) → HasNest ts → HasNest (ts ++ us)
-left-nest [] us h = absurd h
-left-nest (gath f ∷ ts) us h = left-nest ts us h
-left-nest (scat f ∷ ts) us h = left-nest ts us h
-left-nest (diag path r s w ∷ ts) us h = left-nest ts us h
-left-nest (nest path w ∷ ts) us h = tt
+full-loops : (ps : List PlainPass) → IsFull ps → HasLoop (reverse (map loop_of ps))
+full-loops [] h = absurd h
+full-loops (p ∷ ps) h =
+    subst HasLoop (sym (reverse-append (loop_of p ∷ []) (map loop_of ps)))
+    (loop-behind (reverse (map loop_of ps)) (loop_of p))
 
-right-nest : (ts us : List PlainTerm) → HasNest us → HasNest (ts ++ us)
-right-nest [] us h = h
-right-nest (gath f ∷ ts) us h = right-nest ts us h
-right-nest (scat f ∷ ts) us h = right-nest ts us h
-right-nest (diag path r s w ∷ ts) us h = right-nest ts us h
-right-nest (nest path w ∷ ts) us h = tt
+abbrev AllFull : List (List PlainPass) → Type 0
+AllFull [] = Unit {0}
+AllFull (ps ∷ more) = IsFull ps × AllFull more
 
-pick-nest : (b : Bool) (ts us : List PlainTerm) → HasNest ts → HasNest us → HasNest (if b then ts else us)
-pick-nest true ts us h k = h
-pick-nest false ts us h k = k
+all-have : (c : Target) (phases : List (List PlainTerm)) → AllFull (map passes_of_terms phases) → AllHaveLoops c phases
+all-have c [] full = tt
+all-have c (ts ∷ more) full =
+    (subst HasLoop (sym (loops_listed ts)) (full-loops (passes_of_terms ts) full.0), all-have c more full.1)
 
--- ---- it is a loop, and stays one
+-- ---- the passes of a root
 
-stored-has : (ps : List PlainLoop) (t : PlainTerm) (st : Looping) → st.loops ≡ ps → HasLoop ps → HasLoop (looped st (embed t)).loops
-stored-has ps (gath f) st is h = subst HasLoop (sym is) h
-stored-has [] (scat f) st is h = absurd h
-stored-has (p ∷ ps) (scat f) st is h = subst (λ (qs : List PlainLoop). HasLoop (stored_last f qs)) (sym is) tt
-stored-has [] (diag path r s w) st is h = absurd h
-stored-has (p ∷ ps) (diag path r s w) st is h = subst (λ (qs : List PlainLoop). HasLoop (scaled_last path (nests.twiddles r s w) qs)) (sym is) tt
-stored-has ps (nest path w) st is h = tt
+full-front : (ps qs : List PlainPass) → IsFull ps → IsFull (ps ++ qs)
+full-front [] qs h = absurd h
+full-front (p ∷ ps) qs h = tt
 
-stays : (ts : List PlainTerm) (st : Looping) → HasLoop st.loops → HasLoop (looped st (phase_term ts)).loops
-stays [] st h = h
-stays (t ∷ ts) st h = stays ts (looped st (embed t)) (stored-has st.loops t st refl h)
+full-split : (p v : ℕ) (a b : Layout) → IsFull (right_passes p v Split 0 a b)
+full-split p v a b =
+    let passes = layout_passes (right_path p v (layout_size a)) [] b in
+    full-append (if_lanes v (tile_before p v (layout_size a) (layout_size b))) _
+    (full-front passes (if_lanes v (tile_after p v (layout_size a) (layout_size b)))
+    (full_passes (right_path p v (layout_size a)) [] b))
 
-nest-loop : (ts : List PlainTerm) (st : Looping) → HasNest ts → HasLoop (looped st (phase_term ts)).loops
-nest-loop [] st h = absurd h
-nest-loop (gath f ∷ ts) st h = nest-loop ts (looped st (embed (gath f))) h
-nest-loop (scat f ∷ ts) st h = nest-loop ts (looped st (embed (scat f))) h
-nest-loop (diag path r s w ∷ ts) st h = nest-loop ts (looped st (embed (diag path r s w))) h
-nest-loop (nest path w ∷ ts) st h = stays ts (looped st (embed (nest path w))) tt
+full-right : (c : Target) (p v : ℕ) (rule : Rule) (w : ℕ) (a b : Layout) → RootHasParts c (by rule w a b) →
+    IsFull (right_passes p v rule w a b)
+full-right c p v Gt w a b fits = absurd fits
+full-right c p v Ct w a b fits =
+    let path = right_path p v (layout_size a) in
+    let waiting = turned_waiting p v (layout_size a) (layout_size b) in
+    full-at_last _ _ (full-front (layout_passes path waiting b) _ (full_passes path waiting b))
+full-right c p v Split w a b fits = full-split p v a b
+full-right c p v Dim w a b fits = full-split p v a b
 
--- ---- the steps of a tree have a piece
-
-abbrev PieceOr : PlainCore → Type 0 → Type 0
-PieceOr (piece t) P = Unit {0}
-PieceOr (turns r s) P = P
-PieceOr (twiddles r s w) P = P
-PieceOr (thomas_in r s) P = P
-PieceOr (thomas_out r s) P = P
-
-abbrev HasPiece : List PlainStep → Type 0
-HasPiece [] = ⊥
-HasPiece (s ∷ ss) = PieceOr s.core (HasPiece ss)
-
-piece-or : (core : PlainCore) (P Q : Type 0) → PieceOr core P → (P → Q) → PieceOr core Q
-piece-or (piece t) P Q h k = tt
-piece-or (turns r s) P Q h k = k h
-piece-or (twiddles r s w) P Q h k = k h
-piece-or (thomas_in r s) P Q h k = k h
-piece-or (thomas_out r s) P Q h k = k h
-
-piece-front : (ss es : List PlainStep) → HasPiece ss → HasPiece (ss ++ es)
-piece-front [] es h = absurd h
-piece-front (s ∷ ss) es h = piece-or s.core (HasPiece ss) (HasPiece (ss ++ es)) h (piece-front ss es)
-
-rule-piece : (rule : Rule) (path : Path) (r s w : ℕ) (left right : List PlainStep) → HasPiece right → HasPiece (rule_steps rule path r s w left right)
-rule-piece Gt path r s w left right h = piece-front right _ h
-rule-piece Ct path r s w left right h = piece-front right _ h
-rule-piece Split path r s w left right h = piece-front right left h
-rule-piece Dim path r s w left right h = piece-front right left h
-
-steps-piece : (path : Path) (l : Layout) → HasPiece (steps_of path l)
-steps-piece path (work w) = tt
-steps-piece path (by rule root a b) = rule-piece rule path (layout_size a) (layout_size b) root _ _ (steps-piece (path ++ Blocks (layout_size a) ∷ []) b)
-
-core-nest : (path : Path) (core : PlainCore) (P : Type 0) (ts : List PlainTerm) → PieceOr core P → (P → HasNest ts) → HasNest (lowered_core path core ∷ ts)
-core-nest path (piece t) P ts h k = tt
-core-nest path (turns r s) P ts h k = k h
-core-nest path (twiddles r s w) P ts h k = k h
-core-nest path (thomas_in r s) P ts h k = k h
-core-nest path (thomas_out r s) P ts h k = k h
-
-lowered-nest : (ss : List PlainStep) → HasPiece ss → HasNest (map lowered ss)
-lowered-nest [] h = absurd h
-lowered-nest (s ∷ ss) h = core-nest s.path s.core (HasPiece ss) (map lowered ss) h (lowered-nest ss)
-
-left-nest-core : (p v m s : ℕ) (path : Path) (core : PlainCore) (P : Type 0) (ts : List PlainTerm) → PieceOr core P → (P → HasNest ts) → HasNest (left_core p v m s path core ++ ts)
-left-nest-core p v m s path (piece t) P ts h k = left-nest (left_core p v m s path (piece t)) ts (pick-nest (p == 1) _ _ tt tt)
-left-nest-core p v m s path (turns a b) P ts h k = k h
-left-nest-core p v m s path (twiddles a b w) P ts h k = k h
-left-nest-core p v m s path (thomas_in a b) P ts h k = k h
-left-nest-core p v m s path (thomas_out a b) P ts h k = k h
-
-left-have : (p v m s : ℕ) (ss : List PlainStep) → HasPiece ss → HasNest (left_terms p v m s ss)
-left-have p v m s [] h = absurd h
-left-have p v m s (e ∷ ss) h = left-nest-core p v m s e.path e.core (HasPiece ss) (left_terms p v m s ss) h (left-have p v m s ss)
-
-right-have : (c : Target) (p v : ℕ) (rule : Rule) (w : ℕ) (a b : Layout) → RootHasParts c (by rule w a b) → HasNest (right_terms p v rule w a b)
-right-have c p v Gt w a b fits = absurd fits
-right-have c p v Ct w a b fits = right-nest (turned_in p v (layout_size a) (layout_size b)) _ (left-nest (map lowered (steps_of (right_path p v (layout_size a)) b)) _ (lowered-nest (steps_of (right_path p v (layout_size a)) b) (steps-piece (right_path p v (layout_size a)) b)))
-right-have c p v Split w a b fits = right-nest (tiled_before p v (layout_size a) (layout_size b)) _ (left-nest (map lowered (steps_of (right_path p v (layout_size a)) b)) _ (lowered-nest (steps_of (right_path p v (layout_size a)) b) (steps-piece (right_path p v (layout_size a)) b)))
-right-have c p v Dim w a b fits =
-    right-nest (tiled_before p v (layout_size a) (layout_size b)) _
-    (left-nest (map lowered (steps_of (right_path p v (layout_size a)) b)) _
-    (lowered-nest (steps_of (right_path p v (layout_size a)) b) (steps-piece (right_path p v (layout_size a)) b)))
-
--- ---- phases
-
-phases-have : (c : Target) (b : Bool) (first second : List PlainTerm) → HasNest first → HasNest second → AllHaveLoops c (if b then (first ++ second) ∷ [] else first ∷ second ∷ [])
-phases-have c true first second h k = (nest-loop (first ++ second) begun (left-nest first second h), tt)
-phases-have c false first second h k = (nest-loop first begun h, (nest-loop second begun k, tt))
-
-root-have : (c : Target) (l : Layout) → RootHasParts c l → AllHaveLoops c (root_terms c l)
-root-have c (work w) fits = absurd fits
-root-have c (by rule root a b) fits =
-    let first = right_terms c.procs c.lanes rule root a b in
-    let second = left_terms c.procs c.lanes (layout_size a) (layout_size b) (steps_of [] a) in
-    phases-have c (c.procs == 1) first second (right-have c c.procs c.lanes rule root a b fits) (left-have c.procs c.lanes (layout_size a) (layout_size b) (steps_of [] a) (steps-piece [] a))
+root-full : (c : Target) (l : Layout) → RootHasParts c l → AllFull (root_passes c l)
+root-full c (work w) fits = absurd fits
+root-full c (by rule root a b) fits =
+    let right = right_passes c.procs c.lanes rule root a b in
+    let left = left_passes c.procs c.lanes (layout_size b) a in
+    let on_right = full-right c c.procs c.lanes rule root a b fits in
+    let copied = left_pass c.procs c.lanes (layout_size a) (layout_size b) in
+    let on_left = full-mapped copied (layout_passes [] [] a) (full_passes [] [] a) in
+    chosen AllFull (c.procs == 1) ((right ++ left) ∷ []) (right ∷ left ∷ [])
+    (λ one. (full-front right left on_right, tt)) (on_right, (on_left, tt))
 
 pub phases_have_loops : PhasesHaveLoops
-phases_have_loops c l valid shares good = pick (is_alone c) refl
+phases_have_loops c l valid shares good = all-have c (lowered_of c l) (pick (is_alone c) refl)
   where
-    pick : (b : Bool) → is_alone c ≡ b → AllHaveLoops c (lowered_of c l)
-    pick true is = subst (AllHaveLoops c) (sym (plain_terms c l is)) (nest-loop (map lowered (steps_of [] l)) begun (lowered-nest (steps_of [] l) (steps-piece [] l)), tt)
-    pick false is = subst (AllHaveLoops c) (sym (shared_terms c l shares good is)) (root-have c l (shares.root is))
+    pick : (b : Bool) → is_alone c ≡ b → AllFull (merged_phases c l)
+    pick true is = subst AllFull (sym (plain_phases c l is)) (full_passes [] [] l, tt)
+    pick false is = subst AllFull (sym (root_merged c l shares good is)) (root-full c l (shares.root is))

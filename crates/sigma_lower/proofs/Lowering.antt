@@ -1,5 +1,6 @@
 -- Room for the paths of a formula, and the steps of a WHT.
-use Rattle.std.proofs.Common.{◌≡◌, ℕ, zero, suc, ◌*◌, ◌/◌, ◌^◌, ◌<◌, ◌≤◌, arith, refl, sym, ap, ◌∙◌, [], ◌∷◌, ◌++◌, inl, inr, subst, mul_comm}
+use Rattle.std.proofs.Common.{◌≡◌, ℕ, zero, suc, ◌*◌, ◌/◌, ◌^◌, ◌<◌, ◌≤◌, arith, refl, sym, ap, ◌∙◌, [], ◌∷◌, ◌++◌, inl}
+use Rattle.std.proofs.Common.{inr, subst, mul_comm}
 use Rattle.std.proofs.Math.Nat.{pow-succ'}
 use Rattle.std.proofs.lemmas.Bool.{cases_eq}
 use Rattle.std.proofs.lemmas.Bool.Decides.{nat_tests}
@@ -35,13 +36,16 @@ room-more path t n h small =
 part-small : (a : Formula) → IsShaped a → size_of a < 2 ^ 64
 part-small a h = let size = (size_is_size a h).1 in omega (arith, size)
 
-pub room_left : (path : Path) (a : Formula) (k : ℕ) → IsShaped (TensorLeft a k) → HasRoom path (size_of a * k) → HasRoom (one_more path (Columns k)) (size_of a)
+pub room_left : (path : Path) (a : Formula) (k : ℕ) → IsShaped (TensorLeft a k) → HasRoom path (size_of a * k) →
+    HasRoom (one_more path (Columns k)) (size_of a)
 room_left path a k shaped h = room-more path (Columns k) (size_of a) h (part-small a shaped.0)
 
-pub room_right : (path : Path) (k : ℕ) (a : Formula) → IsShaped (TensorRight k a) → HasRoom path (k * size_of a) → HasRoom (one_more path (Blocks k)) (size_of a)
+pub room_right : (path : Path) (k : ℕ) (a : Formula) → IsShaped (TensorRight k a) → HasRoom path (k * size_of a) →
+    HasRoom (one_more path (Blocks k)) (size_of a)
 room_right path k a shaped h = room-more path (Blocks k) (size_of a) h (part-small a shaped.1)
 
-pub room_same : (path : Path) (a b : Formula) → IsShaped (Product a b) → HasRoom path (size_of a) → HasRoom path (size_of b)
+pub room_same : (path : Path) (a b : Formula) → IsShaped (Product a b) → HasRoom path (size_of a) →
+    HasRoom path (size_of b)
 room_same path a b shaped h = subst (HasRoom path) shaped.2 h
 
 pub room_alone : (a : Formula) → IsShaped a → HasRoom [] (size_of a)
@@ -68,7 +72,8 @@ half_power n two (zero, is) = absurd (omega (arith, is))
 half_power n two (suc k, is) = (k, half-of k n is)
 
 pub hadamard_more : (path : Path) (n : ℕ) → 2 ≤ n → IsPowerOfTwo n →
-    hadamard_term path (halvings n n) ≡ product (hadamard_term (path ++ Blocks 2 ∷ []) (halvings (n / 2) (n / 2))) (nest (one_more path (Columns (n / 2))) (kernel (short Wht 0 2)))
+    hadamard_term path (halvings n n) ≡ product (hadamard_term (path ++ Blocks 2 ∷ []) (halvings (n / 2) (n / 2)))
+    (nest (one_more path (Columns (n / 2))) (kernel (short Wht 0 2)))
 hadamard_more path n two (zero, is) = absurd (omega (arith, is))
 hadamard_more path n two (suc k, is) =
     let half : n / 2 ≡ 2 ^ k = half-of k n is in

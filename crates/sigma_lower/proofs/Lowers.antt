@@ -1,5 +1,7 @@
 -- The term of a formula does what the formula does.
-use Rattle.std.proofs.Common.{◌≡◌, ℕ, zero, suc, ◌+◌, ◌*◌, ◌-◌, ◌/◌, ◌%◌, ◌<◌, ◌≤◌, ◌^◌, arith, refl, sym, ap, ap₂, ◌∙◌, List, [], ◌∷◌, ◌++◌, length, inl, inr, subst, mod-lt, mod-eq_of_lt, take, drop, mul_comm, length-append, length-drop, map}
+use Rattle.std.proofs.Common.{◌≡◌, ℕ, zero, suc, ◌+◌, ◌*◌, ◌-◌, ◌/◌, ◌%◌, ◌<◌, ◌≤◌, ◌^◌, arith, refl, sym, ap, ap₂, ◌∙◌}
+use Rattle.std.proofs.Common.{List, [], ◌∷◌, ◌++◌, length, inl, inr, subst, mod-lt, mod-eq_of_lt, take, drop, mul_comm}
+use Rattle.std.proofs.Common.{length-append, length-drop, map}
 use Rattle.std.specs.Prelude.{slice_index, nat_lt, if◌then◌else◌}
 use Rattle.std.specs.Int.{IsGcd}
 use Rattle.std.proofs.Math.Nat.{pow-succ'}
@@ -7,7 +9,8 @@ use Rattle.std.proofs.Math.Pow.{pow_pos}
 use Rattle.std.proofs.lemmas.Bool.{cases_lt}
 use Rattle.std.proofs.lemmas.Bool.Decides.{nat_tests}
 use Rattle.std.proofs.lemmas.Nat.{mul-mod_first}
-use Rattle.std.proofs.lemmas.List.{get_or-map, length-map, length-take-le, get_or-take, get_or-drop, get_or_append_left, get_or-append_right}
+use Rattle.std.proofs.lemmas.List.{get_or-map, length-map, length-take-le, get_or-take, get_or-drop, get_or_append_left}
+use Rattle.std.proofs.lemmas.List.{get_or-append_right}
 use Rattle.std.proofs.lemmas.List.FromFn.{fill_by_all}
 use Rattle.index_fn.specs.Mapping.{Mapping, Strided, ThomasIn, ThomasOut, at}
 use Rattle.matrix_meaning.specs.declared.Kind.{Kind}
@@ -24,15 +27,19 @@ use Rattle.sigma_spl.specs.Nest.{values, twiddles}
 use Rattle.sigma_spl.specs.Term.{gath, diag, nest, term_on}
 use Rattle.sigma_spl.specs.Work.{kernel, horner, short}
 use Rattle.sigma_spl.proofs.CopiesMerge.{low, high}
-use Rattle.sigma_spl.proofs.Keeps.{under-vector, under-none, vector-fill, both-equal, front, back, front-vector, back-vector}
+use Rattle.sigma_spl.proofs.Keeps.{under-vector, under-none, vector-fill, both-equal, front, back, front-vector}
+use Rattle.sigma_spl.proofs.Keeps.{back-vector}
 use Rattle.sigma_spl.proofs.Walk.{vector-below}
 use Rattle.sigma_lower.specs.Terms.{one_more, halvings, hadamard_term, fourier_term, term_of}
 use Rattle.sigma_lower.proofs.Moves.{left_positive, move-wrapped, strided-move, in-move, out-move}
-use Rattle.sigma_lower.proofs.Parts.{transform-work, nest-lowers, move-lowers, diag-lowers, product-lowers, lowers-as, size-more, more-lowers, under-keeps, Lowers}
+use Rattle.sigma_lower.proofs.Parts.{transform-work, nest-lowers, move-lowers, diag-lowers, product-lowers, lowers-as}
+use Rattle.sigma_lower.proofs.Parts.{size-more, more-lowers, under-keeps, Lowers}
 use Rattle.sigma_lower.specs.TreeTerms.Wrapped.{wrapped}
 use Rattle.sigma_lower.proofs.TreeTerms.Lowering.{AreCoprime}
 use Rattle.sigma_lower.proofs.TreeTerms.Permuted.{gather-under}
-use Rattle.spl_ast.specs.Formula.{Formula, Identity, Fourier, Hadamard, Twiddles, Diagonal, Stride, Permutation, GoodThomasIn, GoodThomasOut, Product, TensorLeft, TensorRight, DirectSum, Pending, size_of}
+use Rattle.spl_ast.specs.Formula.{Formula, Identity, Fourier, Hadamard, Twiddles, Diagonal, Stride, Permutation}
+use Rattle.spl_ast.specs.Formula.{GoodThomasIn, GoodThomasOut, Product, TensorLeft, TensorRight, DirectSum, Pending}
+use Rattle.spl_ast.specs.Formula.{size_of}
 use Rattle.spl_ast.specs.Meaning.{apply}
 use Rattle.spl_ast.specs.Shape.{IsShaped}
 use Rattle.spl_ast.proofs.Vectors.{apply_vector, residue_at, vector_of, shaped_size}
@@ -42,13 +49,15 @@ use Rattle.operators.proofs.TensorPaths.Under.{size_under-push, under-push}
 
 -- ---- vectors
 
-apply-vector : (m : ℕ) (f : Formula) (x : List ℕ) → IsShaped f → IsVector m (size_of f) x → IsVector m (size_of f) (apply m f x)
+apply-vector : (m : ℕ) (f : Formula) (x : List ℕ) → IsShaped f → IsVector m (size_of f) x →
+    IsVector m (size_of f) (apply m f x)
 apply-vector m f x shaped v =
     let w = apply_vector m f x shaped (vector_of m (size_of f) x v.size v.residues) in record { size = w.size; residues = λ i below. residue_at m (size_of f) (apply m f x) i w below }
 
 -- ---- permutations
 
-pub gath-lowers : (m : ℕ) (path : Path) (n : ℕ) (f : Mapping) → 0 < size_under path n → IsMove 0 n f → Lowers m (size_under path n) (gath (wrapped path n f)) (under path n (gather n (at f)))
+pub gath-lowers : (m : ℕ) (path : Path) (n : ℕ) (f : Mapping) → 0 < size_under path n → IsMove 0 n f →
+    Lowers m (size_under path n) (gath (wrapped path n f)) (under path n (gather n (at f)))
 gath-lowers m path n f positive h = record { good = move-wrapped path n f positive h; on = λ x v. sym (gather-under path n f x h.permutes.there_below) }
 
 -- ---- WHT
@@ -65,7 +74,8 @@ hadamard-one m y v =
     subst (λ j. (0 + entry_of Wht m 1 0 j 0 * slice_index y 0) % m ≡ slice_index y j) (sym first)
     (ap (λ s. s % m) value ∙ mod-eq_of_lt (v.residues 0 (omega arith)))))
 
-hadamard-lowers : (m : ℕ) (path : Path) (k : ℕ) → 0 < m → Lowers m (size_under path (2 ^ k)) (hadamard_term path k) (under path (2 ^ k) (transform Wht m (2 ^ k) 0))
+hadamard-lowers : (m : ℕ) (path : Path) (k : ℕ) → 0 < m → Lowers m (size_under path (2 ^ k)) (hadamard_term path k)
+    (under path (2 ^ k) (transform Wht m (2 ^ k) 0))
 hadamard-lowers m path zero positive =
     record {
       good = tt;
@@ -88,7 +98,8 @@ hadamard-lowers m path (suc k) positive =
     let both_parts = product-lowers m path (2 * n) _ _ (on_columns 2 n (transform Wht m 2 0)) (on_blocks 2 n (transform Wht m n 0)) (λ y w. blocks-vector m 2 n (transform Wht m n 0) y (λ z u. transform-vector m n 0 Wht z positive) w) last first in
     subst (λ z. Lowers m (size_under path z) (hadamard_term path (suc k)) (under path z (transform Wht m z 0))) (sym twice)
     (lowers-as m path (2 * n) (hadamard_term path (suc k)) _ (transform Wht m (2 * n) 0) (λ y w. sym (split m 2 n 0 y positive (k, refl))) both_parts) where
-      blocks-vector : (m c n : ℕ) (a : Operator) (y : List ℕ) → ((z : List ℕ) → IsVector m n z → IsVector m n (a z)) → IsVector m (c * n) y → IsVector m (c * n) (on_blocks c n a y)
+      blocks-vector : (m c n : ℕ) (a : Operator) (y : List ℕ) → ((z : List ℕ) → IsVector m n z → IsVector m n (a z)) →
+          IsVector m (c * n) y → IsVector m (c * n) (on_blocks c n a y)
       blocks-vector m c n a y keep v = under-keeps m (Blocks c ∷ []) n a y keep v
 
 halved : (n half b k : ℕ) → 2 ≤ n → n / 2 ≡ half → halvings b half ≡ k → halvings (suc b) n ≡ suc k
@@ -111,7 +122,8 @@ power-above (suc k) = let twice : 2 ^ suc k ≡ 2 * 2 ^ k = pow-succ' 2 k in let
 
 -- ---- direct sums
 
-append-fill : (k l : ℕ) (u v : List ℕ) → length u ≡ k → length v ≡ l → list_below (k + l) (λ w. if nat_lt w k then slice_index u w else slice_index v (w - k)) ≡ u ++ v
+append-fill : (k l : ℕ) (u v : List ℕ) → length u ≡ k → length v ≡ l →
+    list_below (k + l) (λ w. if nat_lt w k then slice_index u w else slice_index v (w - k)) ≡ u ++ v
 append-fill k l u v p q =
     let whole : length (u ++ v) ≡ k + l = length-append u v ∙ ap₂ (λ a b. a + b) p q in
     list_below-same (k + l) _ (slice_index (u ++ v)) (λ w below.
@@ -131,14 +143,16 @@ back-drop k l x size =
     list_below-same l _ (slice_index (drop k x)) (λ i below. sym (get_or-drop k x i 0))
     ∙ sym (fill_by_all (slice_index (drop k x)) (drop k x) l 0 (length-drop k x ∙ ap (λ z. z - k) size ∙ omega arith) (λ i below. refl))
 
-sum-on : (m k l : ℕ) (a b : Operator) (x : List ℕ) → IsVector m (k + l) x → length (a (take k x)) ≡ k → length (b (drop k x)) ≡ l → both k l a b x ≡ a (take k x) ++ b (drop k x)
+sum-on : (m k l : ℕ) (a b : Operator) (x : List ℕ) → IsVector m (k + l) x → length (a (take k x)) ≡ k →
+    length (b (drop k x)) ≡ l → both k l a b x ≡ a (take k x) ++ b (drop k x)
 sum-on m k l a b x v p q =
     ap₂ (λ u w. list_below (k + l) (λ i. if nat_lt i k then slice_index (a u) i else slice_index (b w) (i - k))) (front-take k l x v.size) (back-drop k l x v.size)
     ∙ append-fill k l (a (take k x)) (b (drop k x)) p q
 
 -- ---- formulas
 
-fourier-lowers : (m : ℕ) (path : Path) (n w : ℕ) → Lowers m (size_under path n) (fourier_term path n w) (under path n (transform Dft m n w))
+fourier-lowers : (m : ℕ) (path : Path) (n w : ℕ) → Lowers m (size_under path n) (fourier_term path n w)
+    (under path n (transform Dft m n w))
 fourier-lowers m path n w =
     elim (cases_lt 8 n) [
       | inl long ↦
@@ -150,10 +164,12 @@ fourier-lowers m path n w =
     ]
 
 -- a diagonal's values count modulo m
-residues-scale : (m : ℕ) (c y : List ℕ) → scale m (length c) (slice_index (map (λ v. v % m) c)) y ≡ scale m (length c) (slice_index c) y
+residues-scale : (m : ℕ) (c y : List ℕ) → scale m (length c) (slice_index (map (λ v. v % m) c)) y ≡ scale m (length c)
+    (slice_index c) y
 residues-scale m c y = list_below-same (length c) _ _ (λ i below. ap (λ v. (v * slice_index y i) % m) (get_or-map (λ v. v % m) c i 0 0 below) ∙ mul-mod_first (slice_index c i) (slice_index y i) m)
 
-diagonal-lowers : (m : ℕ) (path : Path) (c : List ℕ) → Lowers m (size_under path (length c)) (diag path (values (map (λ v. v % m) c))) (under path (length c) (scale m (length c) (slice_index c)))
+diagonal-lowers : (m : ℕ) (path : Path) (c : List ℕ) → Lowers m (size_under path (length c))
+    (diag path (values (map (λ v. v % m) c))) (under path (length c) (scale m (length c) (slice_index c)))
 diagonal-lowers m path c =
     let reduced : List ℕ = map (λ v. v % m) c in
     let size : length reduced ≡ length c = length-map c (λ v. v % m) in
@@ -168,7 +184,8 @@ pub lowers : (m : ℕ) (path : Path) (f : Formula) → 0 < m → 0 < size_under 
 lowers m path (Identity n) positive some shaped = record { good = tt; on = λ x v. sym (under-none m path n x v) }
 lowers m path (Fourier n w) positive some shaped = fourier-lowers m path n w
 lowers m path (Hadamard n) positive some shaped = power shaped.1 where
-  power : IsPowerOfTwo n → Lowers m (size_under path n) (hadamard_term path (halvings n n)) (under path n (transform Wht m n 0))
+  power : IsPowerOfTwo n → Lowers m (size_under path n) (hadamard_term path (halvings n n))
+      (under path n (transform Wht m n 0))
   power (k, is) =
       let steps : halvings n n ≡ k = ap (λ z. halvings z z) is ∙ halvings-power k (2 ^ k) (power-above k) in
       subst (λ z. Lowers m (size_under path n) (hadamard_term path z) (under path n (transform Wht m n 0))) (sym steps)

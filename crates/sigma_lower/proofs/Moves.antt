@@ -32,7 +32,8 @@ back-wrapped [] n f = refl
 back-wrapped (Blocks c ∷ path) n f = ap (λ g. Paired Same (size_under path n) g (size_under path n)) (back-wrapped path n f)
 back-wrapped (Columns c ∷ path) n f = ap (λ g. Paired g c Same c) (back-wrapped path n f)
 
-pub move-wrapped : (path : Path) (n : ℕ) (f : Mapping) → 0 < size_under path n → IsMove 0 n f → IsMove 0 (size_under path n) (wrapped path n f)
+pub move-wrapped : (path : Path) (n : ℕ) (f : Mapping) → 0 < size_under path n → IsMove 0 n f →
+    IsMove 0 (size_under path n) (wrapped path n f)
 move-wrapped path n f positive h =
     record {
       vectors = moves-no-words _;

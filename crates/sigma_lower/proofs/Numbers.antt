@@ -23,7 +23,8 @@ back-wrapped-has (Columns c ∷ path) n f h =
     (and_from (has_back g) true (back-wrapped-has path n f h) refl)
     (or_right (not (has_size g)) (eqb c c && true) (and_from (eqb c c) true (eq-eqb c c refl) refl))
 
-pub numbers-wrapped : (path : Path) (n : ℕ) (f : Mapping) → size_under path n ≤ 1048576 → HasBack f → IsClosed n f → IsClosed n (back_of f) → HasNumbers (size_under path n) (wrapped path n f)
+pub numbers-wrapped : (path : Path) (n : ℕ) (f : Mapping) → size_under path n ≤ 1048576 → HasBack f → IsClosed n f →
+    IsClosed n (back_of f) → HasNumbers (size_under path n) (wrapped path n f)
 numbers-wrapped path n f high has there back =
     record {
       undone = back-wrapped-has path n f has;
@@ -33,7 +34,8 @@ numbers-wrapped path n f high has there back =
 
 -- ---- the permutations themselves
 
-pub strided-closed : (r s : ℕ) → 1 ≤ r → 1 ≤ s → r * s ≤ 1048576 → IsClosed (r * s) (Strided r s) × IsClosed (r * s) (back_of (Strided r s))
+pub strided-closed : (r s : ℕ) → 1 ≤ r → 1 ≤ s → r * s ≤ 1048576 →
+    IsClosed (r * s) (Strided r s) × IsClosed (r * s) (back_of (Strided r s))
 strided-closed r s h g small =
     let move = strided-move r s h g small in
     let turned : s * r ≡ r * s = mul_comm s r in (
@@ -48,7 +50,8 @@ in-closed r s h =
       record { defined = undoes.permutes.defined; below = undoes.permutes.below },
     )
 
-pub out-closed : (r s : ℕ) → AreCoprime r s → IsClosed (r * s) (ThomasOut r s) × IsClosed (r * s) (back_of (ThomasOut r s))
+pub out-closed : (r s : ℕ) → AreCoprime r s → IsClosed (r * s) (ThomasOut r s) × IsClosed (r * s)
+    (back_of (ThomasOut r s))
 out-closed r s h =
     let move = out-move r s h in
     let units = both_units r s h in

@@ -1,62 +1,36 @@
--- The terms of trees are in order: a scatter or a diagonal comes right after a loop, a diagonal after one that has none, and after a tile only one under no tensors.
-use Rattle.std.proofs.Common.{◌≡◌, ℕ, ◌*◌, ◌/◌, ◌==◌, Bool, true, false, List, [], ◌∷◌, ◌++◌, refl, sym, subst, if◌then◌else◌, None}
+-- The terms of trees are in order: a scatter or a diagonal comes right after a loop, a diagonal after one that has none,
+-- and after tiles only one under no tensors.
+use Rattle.std.proofs.Common.{◌≡◌, ℕ, ◌*◌, ◌/◌, ◌==◌, Bool, true, false, List, [], ◌∷◌, ◌++◌, refl, sym, subst}
+use Rattle.std.proofs.Common.{if◌then◌else◌, None}
 use Rattle.std.specs.Prelude.{map, not, ◌&&◌}
-use Rattle.sigma_spl.specs.Loops.{PlainLoop, Looping, begun, looped, InOrder}
-use Rattle.sigma_spl.specs.Merge.{is_tile}
+use Rattle.index_fn.specs.Mapping.{Mapping, Strided, ThomasIn}
+use Rattle.operators.specs.declared.target.Target.{Target}
+use Rattle.operators.specs.declared.tensor_paths.Tensor.TheVariants.{Columns}
+use Rattle.operators.specs.TensorPaths.Path.{Path, size_under}
 use Rattle.sigma_lower.specs.Order.{IsOrderedPhase, AllOrdered, TreesOrdered}
 use Rattle.sigma_lower.specs.Shared.{embed, phase_term}
-use Rattle.sigma_lower.specs.TreeTerms.Root.{left_path, left_core, left_terms, right_path, tile_path, turned_in, tiled_before, tiled_after, vectors_grouped, lines_moved, vectors_turned, right_terms, root_terms}
-use Rattle.sigma_lower.specs.TreeTerms.Term.{PlainTerm, gath, scat, diag, nest, lowered_core, lowered, lowered_of}
-use Rattle.sigma_spl.specs.Work.{PlainWork, kernel, rows, horner, tile, copy}
+use Rattle.sigma_lower.specs.TreeTerms.Root.{left_core, left_path, left_terms, lines_dealt, lines_moved, right_path}
+use Rattle.sigma_lower.specs.TreeTerms.Root.{right_terms, root_terms, tile_path, vectors_grouped, vectors_turned}
+use Rattle.sigma_lower.specs.TreeTerms.Root.{whole_path}
+use Rattle.sigma_lower.specs.TreeTerms.Term.{PlainTerm, gath, scat, diag, nest, lowered, lowered_of}
+use Rattle.sigma_lower.specs.TreeTerms.Wrapped.{wrapped}
+use Rattle.sigma_lower.proofs.TreeLoops.Emitted.{as_lowered, emitted-lowered}
+use Rattle.sigma_lower.proofs.TreeLoops.TreePasses.{back}
+use Rattle.sigma_lower.proofs.TreeLoops.Walks.{IsLaw, Keeps, Point, RightKeeps, begun, done, ready, right-law, settled}
+use Rattle.sigma_lower.proofs.TreeLoops.Walks.{steps-law, tiled}
 use Rattle.sigma_lower.proofs.TreeTerms.Both.{plain_terms}
-use Rattle.sigma_lower.proofs.TreeTerms.RootTerms.{shared_terms}
-use Rattle.index_fn.specs.Mapping.{Mapping}
-use Rattle.smp_rewrite.specs.LayoutSteps.Step.{PlainCore, piece, turns, twiddles, thomas_in, thomas_out, PlainStep, step, rule_steps, steps_of}
-use Rattle.smp_rewrite.specs.Fits.{CanShareLayout}
-use Rattle.smp_rewrite.specs.LayoutSteps.Layout.{Layout, work, by, layout_size, IsGoodWork, IsGoodLayout}
+use Rattle.sigma_lower.proofs.TreeTerms.RootTerms.{rule-shared, shared_terms}
+use Rattle.sigma_spl.proofs.Walk.{chosen}
+use Rattle.sigma_spl.specs.Loops as loops
+use Rattle.sigma_spl.specs.Loops.{PlainLoop, Looping, looped, stored_last, CanScale, HasLoop, InOrder}
+use Rattle.sigma_spl.specs.Merge.{is_tile}
 use Rattle.sigma_spl.specs.Shared.Targets.{is_alone}
-use Rattle.operators.specs.declared.target.Target.{Target}
-use Rattle.operators.specs.declared.tensor_paths.Tensor.TheVariants.{Blocks, Columns}
-use Rattle.operators.specs.TensorPaths.Path.{Path}
-use Rattle.tree_model.specs.declared.tree.Rule.{Rule}
-use Rattle.tree_model.specs.declared.tree.Rule.TheVariants.{Gt, Ct, Split, Dim}
+use Rattle.sigma_spl.specs.Work.{PlainWork, kernel, rows, horner, tile, copy}
+use Rattle.smp_rewrite.specs.Fits.{RootHasParts}
+use Rattle.smp_rewrite.specs.LayoutSteps.Layout.{Layout, work, by, layout_size, IsGoodWork, IsGoodLayout}
+use Rattle.smp_rewrite.specs.LayoutSteps.Step.{steps_of}
 
--- how the terms so far end: gathers may wait; or none waits, and the last loop may have a diagonal; or it has none and may be a tile's; or it is none
-pub data Ending : Type 0 where
-  waits : Ending
-  settled : Ending
-  tiled : Ending
-  fresh : Ending
-
-abbrev pub ending : Ending → PlainTerm → Ending
-ending e (gath f) = waits
-ending e (scat f) = e
-ending e (diag path r s w) = settled
-ending e (nest path (tile v)) = tiled
-ending e (nest path w) = fresh
-
-abbrev pub IsFree : Ending → Type 0
-IsFree waits = ⊥
-IsFree settled = ⊥
-IsFree tiled = Unit {0}
-IsFree fresh = Unit {0}
-
-abbrev pub CanFollow : Ending → PlainTerm → Type 0
-CanFollow e (gath f) = Unit {0}
-CanFollow e (nest path w) = Unit {0}
-CanFollow e (scat f) = IsFree e
-CanFollow e (diag [] r s w) = IsFree e
-CanFollow e (diag (t ∷ path) r s w) = e ≡ fresh
-
-abbrev pub Leads : Ending → List PlainTerm → Ending → Type 0
-Leads e [] f = e ≡ f
-Leads e (t ∷ ts) f = CanFollow e t × Leads (ending e t) ts f
-
-leads-append : (e f g : Ending) (ss ts : List PlainTerm) → Leads e ss f → Leads f ts g → Leads e (ss ++ ts) g
-leads-append e f g [] ts h k = subst (λ z. Leads z ts g) (sym h) k
-leads-append e f g (s ∷ ss) ts h k = (h.0, leads-append (ending e s) f g ss ts h.1 k)
-
--- ---- what an ending says of the loops
+-- ---- the law
 
 abbrev LastFree : List PlainLoop → Type 0
 LastFree [] = ⊥
@@ -66,251 +40,193 @@ abbrev LastLoose : List PlainLoop → Type 0
 LastLoose [] = ⊥
 LastLoose (p ∷ ps) = not (is_tile p.work) ≡ true
 
-abbrev pub Holds : Ending → Looping → Type 0
-Holds waits st = Unit {0}
-Holds settled st = st.waiting ≡ []
-Holds tiled st = (st.waiting ≡ []) × LastFree st.loops
-Holds fresh st = (st.waiting ≡ []) × LastFree st.loops × LastLoose st.loops
+-- what holds of the loops at a point
+abbrev At : Point → Looping → Type 0
+At begun st = st.waiting ≡ []
+At ready st = Unit {0}
+At done st = (st.waiting ≡ []) × LastFree st.loops × LastLoose st.loops
+At tiled st = (st.waiting ≡ []) × LastFree st.loops
+At settled st = st.waiting ≡ []
 
-record Follows (e : Ending) (t : PlainTerm) (st : Looping) : Type 0 where
-  pub order : InOrder st (embed t)
-  pub holds : Holds (ending e t) (looped st (embed t))
+-- the terms are in order from one point to another
+abbrev Orders : Point → List PlainTerm → Point → Type 0
+Orders i ts j = (st : Looping) → At i st → InOrder st (phase_term ts) × At j (looped st (phase_term ts))
 
-follows-scat : (e : Ending) (f : Mapping) (waiting : List Mapping) (ps : List PlainLoop) → IsFree e → Holds e (record { waiting = waiting; loops = ps }) → Follows e (scat f) (record { waiting = waiting; loops = ps })
-follows-scat waits f waiting ps free h = absurd free
-follows-scat settled f waiting ps free h = absurd free
-follows-scat tiled f waiting [] free h = absurd h.1
-follows-scat tiled f waiting (p ∷ ps) free h = record { order = (h.0, tt); holds = h }
-follows-scat fresh f waiting [] free h = absurd h.1
-follows-scat fresh f waiting (p ∷ ps) free h = record { order = (h.0, tt); holds = h }
+looped-append : (ts us : List PlainTerm) (st : Looping) →
+    looped st (phase_term (ts ++ us)) ≡ looped (looped st (phase_term ts)) (phase_term us)
+looped-append [] us st = refl
+looped-append (t ∷ ts) us st = looped-append ts us (looped st (embed t))
 
-follows-root : (e : Ending) (r s w : ℕ) (waiting : List Mapping) (ps : List PlainLoop) → IsFree e → Holds e (record { waiting = waiting; loops = ps }) → Follows e (diag [] r s w) (record { waiting = waiting; loops = ps })
-follows-root waits r s w waiting ps free h = absurd free
-follows-root settled r s w waiting ps free h = absurd free
-follows-root tiled r s w waiting [] free h = absurd h.1
-follows-root tiled r s w waiting (p ∷ ps) free h = record { order = (h.0, (h.1, refl)); holds = h.0 }
-follows-root fresh r s w waiting [] free h = absurd h.1
-follows-root fresh r s w waiting (p ∷ ps) free h = record { order = (h.0, (h.1, refl)); holds = h.0 }
+order-append : (ts us : List PlainTerm) (st : Looping) → InOrder st (phase_term ts) →
+    InOrder (looped st (phase_term ts)) (phase_term us) → InOrder st (phase_term (ts ++ us))
+order-append [] us st h k = k
+order-append (t ∷ ts) us st h k = (h.0, order-append ts us (looped st (embed t)) h.1 k)
 
-and-one : (b : Bool) → b ≡ true → (b && true) ≡ true
-and-one true h = refl
-and-one false h = absurd (cc)
+law : IsLaw Orders
+law = record {
+  both = λ i j k ts us h g st is.
+      let first = h st is in
+      let second = g (looped st (phase_term ts)) first.1 in
+      (order-append ts us st first.0 second.0, subst (At k) (sym (looped-append ts us st)) second.1);
+  weak = λ i k ts h st is. h st tt;
+  settle = λ i ts h st is. let all = h st is in (all.0, all.1.0);
+}
 
-follows-diag : (path : Path) (r s w : ℕ) (waiting : List Mapping) (ps : List PlainLoop) → Holds fresh (record { waiting = waiting; loops = ps }) → Follows fresh (diag path r s w) (record { waiting = waiting; loops = ps })
-follows-diag path r s w waiting [] h = absurd h.1
-follows-diag [] r s w waiting (p ∷ ps) h = record { order = (h.0, (h.1, refl)); holds = h.0 }
-follows-diag (t ∷ path) r s w waiting (p ∷ ps) h = record { order = (h.0, (h.1, and-one (not (is_tile p.work)) h.2)); holds = h.0 }
+-- ---- each term
 
-follows : (e : Ending) (t : PlainTerm) (st : Looping) → CanFollow e t → Holds e st → Follows e t st
-follows e (gath f) st can h = record { order = tt; holds = tt }
-follows e (scat f) st can h = follows-scat e f st.waiting st.loops can h
-follows e (diag [] r s w) st can h = follows-root e r s w st.waiting st.loops can h
-follows e (diag (t ∷ path) r s w) st can h = subst (λ z. Follows z (diag (t ∷ path) r s w) st) (sym can) (follows-diag (t ∷ path) r s w st.waiting st.loops (subst (λ z. Holds z st) can h))
-follows e (nest path (kernel t)) st can h = record { order = tt; holds = (refl, refl, refl) }
-follows e (nest path (rows root size)) st can h = record { order = tt; holds = (refl, refl, refl) }
-follows e (nest path (horner root size)) st can h = record { order = tt; holds = (refl, refl, refl) }
-follows e (nest path (copy size)) st can h = record { order = tt; holds = (refl, refl, refl) }
-follows e (nest path (tile v)) st can h = record { order = tt; holds = (refl, refl) }
+gathers : (i : Point) (f : Mapping) → Orders i (gath f ∷ []) ready
+gathers i f st is = ((tt, tt), tt)
 
-record LedTo (f : Ending) (ts : List PlainTerm) (st : Looping) : Type 0 where
-  pub order : InOrder st (phase_term ts)
-  pub holds : Holds f (looped st (phase_term ts))
+transforms : (m : ℕ) (path : Path) (w : PlainWork) → IsGoodWork m w → Orders ready (nest path w ∷ []) done
+transforms m path (kernel trees) good st is = ((tt, tt), (refl, refl, refl))
+transforms m path (rows root size) good st is = ((tt, tt), (refl, refl, refl))
+transforms m path (horner root size) good st is = absurd good
+transforms m path (tile v) good st is = absurd good
+transforms m path (copy size) good st is = absurd good
 
-led : (e f : Ending) (ts : List PlainTerm) (st : Looping) → Leads e ts f → Holds e st → LedTo f ts st
-led e f [] st leads h = record { order = tt; holds = subst (λ z. Holds z st) leads h }
-led e f (t ∷ ts) st leads h =
-    let first = follows e t st leads.0 h in
-    let rest = led (ending e t) f ts (looped st (embed t)) leads.1 first.holds in
-    record { order = (first.order, rest.order); holds = rest.holds }
+stored-free : (f : Mapping) (ps : List PlainLoop) → LastFree ps → HasLoop ps × LastFree (stored_last f ps)
+stored-free f [] free = absurd free
+stored-free f (p ∷ ps) free = (tt, free)
+
+stored-loose : (f : Mapping) (ps : List PlainLoop) → LastLoose ps → LastLoose (stored_last f ps)
+stored-loose f [] loose = loose
+stored-loose f (p ∷ ps) loose = loose
+
+scatters : (f : Mapping) → Orders done (scat f ∷ []) done
+scatters f st is =
+    let last = stored-free f st.loops is.1 in
+    (((is.0, last.0), tt), (is.0, last.1, stored-loose f st.loops is.2))
+
+scatters-tiles : (f : Mapping) → Orders tiled (scat f ∷ []) tiled
+scatters-tiles f st is = let last = stored-free f st.loops is.1 in (((is.0, last.0), tt), (is.0, last.1))
+
+can-scale : (path : Path) (ps : List PlainLoop) → LastFree ps → LastLoose ps → CanScale path ps
+can-scale path [] free loose = absurd free
+can-scale [] (p ∷ ps) free loose = (free, refl)
+can-scale (t ∷ path) (p ∷ ps) free loose = (free, and-one (not (is_tile p.work)) loose)
+  where
+    and-one : (b : Bool) → b ≡ true → (b && true) ≡ true
+    and-one true is = refl
+    and-one false is = absurd (cc)
+
+multiplies : (path : Path) (r s w : ℕ) → Orders done (diag path r s w ∷ []) ready
+multiplies path r s w st is = (((is.0, can-scale path st.loops is.1 is.2), tt), tt)
+
+can-scale-root : (ps : List PlainLoop) → LastFree ps → CanScale [] ps
+can-scale-root [] free = absurd free
+can-scale-root (p ∷ ps) free = (free, refl)
+
+multiplies-root : (r s w : ℕ) → Orders tiled (diag [] r s w ∷ []) settled
+multiplies-root r s w st is = (((is.0, can-scale-root st.loops is.1), tt), is.0)
 
 -- ---- the steps of a tree
 
--- a piece is no tile
-abbrev pub IsPiece : PlainWork → Type 0
-IsPiece (tile v) = ⊥
-IsPiece w = Unit {0}
+keeps-lowered : (m n : ℕ) → Keeps Orders m [] n as_lowered
+keeps-lowered m n = record {
+  pieces = λ path w good e. transforms m path w good;
+  turned = λ path r s e. gathers ready (wrapped path (r * s) (Strided r s));
+  twiddled = λ path r s w e. multiplies path r s w;
+  gathered = λ path r s e. gathers ready (wrapped path (r * s) (ThomasIn r s));
+  scattered = λ path r s e. scatters (back path r s);
+}
 
-is-fresh : (e : Ending) (path : Path) (w : PlainWork) → IsPiece w → ending e (nest path w) ≡ fresh
-is-fresh e path (kernel trees) h = refl
-is-fresh e path (rows root size) h = refl
-is-fresh e path (horner root size) h = refl
-is-fresh e path (tile v) h = absurd h
-is-fresh e path (copy size) h = refl
-
-good-piece : (m : ℕ) (w : PlainWork) → IsGoodWork m w → IsPiece w
-good-piece m (kernel trees) h = tt
-good-piece m (rows root size) h = tt
-good-piece m (horner root size) h = tt
-good-piece m (tile v) h = absurd h
-good-piece m (copy size) h = tt
-
--- a diagonal comes after a transform
-abbrev pub FreshAt : Ending → PlainCore → Type 0
-FreshAt e (piece w) = IsPiece w
-FreshAt e (turns r s) = Unit {0}
-FreshAt e (twiddles r s w) = e ≡ fresh
-FreshAt e (thomas_in r s) = Unit {0}
-FreshAt e (thomas_out r s) = IsFree e
-
-abbrev pub StepsLead : Ending → List PlainStep → Ending → Type 0
-StepsLead e [] f = e ≡ f
-StepsLead e (s ∷ ss) f = FreshAt e s.core × StepsLead (ending e (lowered s)) ss f
-
-lead-append : (e f g : Ending) (ss ts : List PlainStep) → StepsLead e ss f → StepsLead f ts g → StepsLead e (ss ++ ts) g
-lead-append e f g [] ts h k = subst (λ z. StepsLead z ts g) (sym h) k
-lead-append e f g (s ∷ ss) ts h k = (h.0, lead-append (ending e (lowered s)) f g ss ts h.1 k)
-
-abbrev AreInOrder : List PlainStep → Type 0
-AreInOrder ss = (e : Ending) → StepsLead e ss fresh
-
-rule-order : (rule : Rule) (path : Path) (r s w : ℕ) (left right : List PlainStep) → AreInOrder left → AreInOrder right → AreInOrder (rule_steps rule path r s w left right)
-rule-order Gt path r s w left right h k e =
-    (tt, lead-append waits fresh fresh right (left ++ step path (thomas_out r s) ∷ []) (k waits) (lead-append fresh fresh fresh left (step path (thomas_out r s) ∷ []) (h fresh) (tt, refl)))
-rule-order Ct path r s w left right h k e = (tt, lead-append waits fresh fresh right (step path (twiddles r s w) ∷ left) (k waits) (refl, h settled))
-rule-order Split path r s w left right h k e = lead-append e fresh fresh right left (k e) (h fresh)
-rule-order Dim path r s w left right h k e = lead-append e fresh fresh right left (k e) (h fresh)
-
-steps-order : (m : ℕ) (path : Path) (l : Layout) → IsGoodLayout m l → AreInOrder (steps_of path l)
-steps-order m path (work w) good = λ e. (good-piece m w good.1, is-fresh e path w (good-piece m w good.1))
-steps-order m path (by rule root a b) good =
-    rule-order rule path (layout_size a) (layout_size b) root _ _ (steps-order m (path ++ Columns (layout_size b) ∷ []) a good.1) (steps-order m (path ++ Blocks (layout_size a) ∷ []) b good.2)
-
-diag-follows : (e : Ending) (path : Path) (r s w : ℕ) → e ≡ fresh → CanFollow e (diag path r s w)
-diag-follows e [] r s w is = subst IsFree (sym is) tt
-diag-follows e (t ∷ path) r s w is = is
-
-core-follows : (e : Ending) (path : Path) (k : PlainCore) → FreshAt e k → CanFollow e (lowered_core path k)
-core-follows e path (piece t) h = tt
-core-follows e path (turns r s) h = tt
-core-follows e path (twiddles r s w) h = diag-follows e path r s w h
-core-follows e path (thomas_in r s) h = tt
-core-follows e path (thomas_out r s) h = h
-
-leads-lowered : (e f : Ending) (ss : List PlainStep) → StepsLead e ss f → Leads e (map lowered ss) f
-leads-lowered e f [] h = h
-leads-lowered e f (s ∷ ss) h = (core-follows e s.path s.core h.0, leads-lowered (ending e (lowered s)) f ss h.1)
+orders-steps : (m : ℕ) (path : Path) (l : Layout) → IsGoodLayout m l →
+    Orders ready (map lowered (steps_of path l)) done
+orders-steps m path l good =
+    let n = size_under path (layout_size l) in
+    subst (λ ts. Orders ready ts done) (emitted-lowered (steps_of path l))
+    (steps-law Orders law m [] n as_lowered (keeps-lowered m n) path l good refl)
 
 -- ---- the left part
 
-leads-piece : (b : Bool) (e : Ending) (into out : Mapping) (path : Path) (w : PlainWork) → IsPiece w → Leads e (if b then nest path w ∷ [] else gath into ∷ nest path w ∷ scat out ∷ []) fresh
-leads-piece true e into out path w h = (tt, is-fresh e path w h)
-leads-piece false e into out path w h = (tt, (tt, (subst IsFree (sym (is-fresh waits path w h)) tt, is-fresh waits path w h)))
+orders-piece : (m : ℕ) (b : Bool) (into out : Mapping) (path : Path) (w : PlainWork) → IsGoodWork m w →
+    Orders ready (if b then nest path w ∷ [] else gath into ∷ nest path w ∷ scat out ∷ []) done
+orders-piece m true into out path w good = transforms m path w good
+orders-piece m false into out path w good =
+    law.both ready ready done (gath into ∷ []) (nest path w ∷ scat out ∷ []) (gathers ready into)
+    (law.both ready done done (nest path w ∷ []) (scat out ∷ []) (transforms m path w good) (scatters out))
 
-leads-core : (p v m s : ℕ) (e : Ending) (path : Path) (k : PlainCore) → FreshAt e k → Leads e (left_core p v m s path k) (ending e (lowered_core path k))
-leads-core p v m s e path (piece w) h = subst (Leads e (left_core p v m s path (piece w))) (sym (is-fresh e (left_path p v s ++ path) w h)) (leads-piece (p == 1) e _ _ _ w h)
-leads-core p v m s e path (turns a b) h = (tt, refl)
-leads-core p v m s e path (twiddles a b w) h = (h, refl)
-leads-core p v m s e path (thomas_in a b) h = (tt, refl)
-leads-core p v m s e path (thomas_out a b) h = (h, refl)
+keeps-left : (m n p v k s : ℕ) → Keeps Orders m [] n (left_core p v k s)
+keeps-left m n p v k s = record {
+  pieces = λ path w good e.
+      orders-piece m (p == 1) (lines_dealt (p * k) p v k s) (lines_dealt (k * p) p v k s) (left_path p v s ++ path) w
+      good;
+  turned = λ path a b e. gathers ready (wrapped (whole_path v s ++ path) (a * b) (Strided a b));
+  twiddled = λ path a b w e. multiplies (Columns s ∷ path) a b w;
+  gathered = λ path a b e. gathers ready (wrapped (whole_path v s ++ path) (a * b) (ThomasIn a b));
+  scattered = λ path a b e. scatters (back (whole_path v s ++ path) a b);
+}
 
-leads-left : (p v m s : ℕ) (e f : Ending) (ss : List PlainStep) → StepsLead e ss f → Leads e (left_terms p v m s ss) f
-leads-left p v m s e f [] h = h
-leads-left p v m s e f (t ∷ ss) h =
-    leads-append e (ending e (lowered t)) f (left_core p v m s t.path t.core) (left_terms p v m s ss) (leads-core p v m s e t.path t.core h.0) (leads-left p v m s (ending e (lowered t)) f ss h.1)
+orders-left : (m p v s : ℕ) (a : Layout) → IsGoodLayout m a →
+    Orders ready (left_terms p v (layout_size a) s (steps_of [] a)) done
+orders-left m p v s a good =
+    let k = layout_size a in
+    steps-law Orders law m [] k (left_core p v k s) (keeps-left m k p v k s) [] a good refl
 
 -- ---- the right part
 
-leads-turned : (b : Bool) (first second : Mapping) → Leads settled ((if b then [] else gath first ∷ []) ++ gath second ∷ []) waits
-leads-turned true first second = (tt, refl)
-leads-turned false first second = (tt, (tt, refl))
+orders-turned : (b : Bool) (f g : Mapping) → Orders begun ((if b then [] else gath f ∷ []) ++ gath g ∷ []) ready
+orders-turned true f g = gathers begun g
+orders-turned false f g =
+    law.both begun ready ready (gath f ∷ []) (gath g ∷ []) (gathers begun f) (gathers ready g)
 
-leads-first : (b : Bool) (path : Path) (v : ℕ) (f : Mapping) → Leads settled (if b then [] else gath f ∷ nest path (tile v) ∷ []) (if b then settled else tiled)
-leads-first true path v f = refl
-leads-first false path v f = (tt, (tt, refl))
+orders-before : (b : Bool) (path : Path) (v : ℕ) (f : Mapping) →
+    Orders begun (if b then [] else gath f ∷ nest path (tile v) ∷ []) ready
+orders-before true path v f = λ st is. (tt, tt)
+orders-before false path v f =
+    law.both begun ready ready (gath f ∷ []) (nest path (tile v) ∷ []) (gathers begun f) (λ st is. ((tt, tt), tt))
 
-leads-tile : (b : Bool) (path : Path) (v : ℕ) (f : Mapping) → Leads fresh (if b then [] else nest path (tile v) ∷ scat f ∷ []) (if b then fresh else tiled)
-leads-tile true path v f = refl
-leads-tile false path v f = (tt, (tt, refl))
+orders-after : (b : Bool) (path : Path) (v : ℕ) (f : Mapping) →
+    Orders done (if b then [] else nest path (tile v) ∷ scat f ∷ []) tiled
+orders-after true path v f = λ st is. (tt, (is.0, is.1))
+orders-after false path v f =
+    law.both done tiled tiled (nest path (tile v) ∷ []) (scat f ∷ []) (λ st is. ((tt, tt), (refl, refl)))
+    (scatters-tiles f)
 
-pick-free : (b : Bool) → IsFree (if b then fresh else tiled)
-pick-free true = tt
-pick-free false = tt
-
-abbrev right_ending : ℕ → Rule → Ending
-right_ending v Gt = settled
-right_ending v Ct = settled
-right_ending v Split = if v == 1 then fresh else tiled
-right_ending v Dim = if v == 1 then fresh else tiled
-
-right-leads : (m p v : ℕ) (rule : Rule) (w : ℕ) (a b : Layout) → IsGoodLayout m b → Leads settled (right_terms p v rule w a b) (right_ending v rule)
-right-leads m p v Gt w a b good = refl
-right-leads m p v Ct w a b good =
-    let r = layout_size a in
+keeps-right : (m p v w r : ℕ) (b : Layout) → IsGoodLayout m b →
+    RightKeeps Orders p v r (layout_size b) w (map lowered (steps_of (right_path p v r) b))
+keeps-right m p v w r b good =
     let s = layout_size b in
-    let path = right_path p v r in
-    let last = if v == 1 then fresh else tiled in
-    leads-append settled waits settled (turned_in p v r s) _ (leads-turned (p == 1) (lines_moved p v r s) (vectors_turned p v r s))
-    (leads-append waits fresh settled (map lowered (steps_of path b)) _ (leads-lowered waits fresh (steps_of path b) (steps-order m path b good waits))
-    (leads-append fresh last settled (tiled_after p v r s) (diag [] r s w ∷ []) (leads-tile (v == 1) (tile_path p v r s) v (vectors_grouped (v * (s / v)) p v r s)) (pick-free (v == 1), refl)))
-right-leads m p v Split w a b good =
-    let r = layout_size a in
-    let s = layout_size b in
-    let path = right_path p v r in
-    let between = if v == 1 then settled else tiled in
-    let last = if v == 1 then fresh else tiled in
-    leads-append settled between last (tiled_before p v r s) _ (leads-first (v == 1) (tile_path p v r s) v (vectors_grouped (s / v * v) p v r s))
-    (leads-append between fresh last (map lowered (steps_of path b)) _ (leads-lowered between fresh (steps_of path b) (steps-order m path b good between)) (leads-tile (v == 1) (tile_path p v r s) v (vectors_grouped (v * (s / v)) p v r s)))
-right-leads m p v Dim w a b good =
-    let r = layout_size a in
-    let s = layout_size b in
-    let path = right_path p v r in
-    let between = if v == 1 then settled else tiled in
-    let last = if v == 1 then fresh else tiled in
-    leads-append settled between last (tiled_before p v r s) _
-    (leads-first (v == 1) (tile_path p v r s) v (vectors_grouped (s / v * v) p v r s))
-    (leads-append between fresh last (map lowered (steps_of path b)) _
-    (leads-lowered between fresh (steps_of path b) (steps-order m path b good between))
-    (leads-tile (v == 1) (tile_path p v r s) v (vectors_grouped (v * (s / v)) p v r s)))
+    record {
+      turned = orders-turned (p == 1) (lines_moved p v r s) (vectors_turned p v r s);
+      before = orders-before (v == 1) (tile_path p v r s) v (vectors_grouped (s / v * v) p v r s);
+      steps = orders-steps m (right_path p v r) b good;
+      after = orders-after (v == 1) (tile_path p v r s) v (vectors_grouped (v * (s / v)) p v r s);
+      twiddled = multiplies-root r s w;
+    }
 
 -- ---- phases
 
-none-at : (e : Ending) (st : Looping) → Holds e st → (e ≡ waits → ⊥) → st.waiting ≡ []
-none-at waits st h not_waits = absurd (not_waits refl)
-none-at settled st h not_waits = h
-none-at tiled st h not_waits = h.0
-none-at fresh st h not_waits = h.0
+settled-phase : (c : Target) (ts : List PlainTerm) → Orders begun ts settled → IsOrderedPhase c ts
+settled-phase c ts orders = let all = orders loops.begun refl in record { in_order = all.0; none_waits = all.1 }
 
-ordered-phase : (c : Target) (f : Ending) (ts : List PlainTerm) → (f ≡ waits → ⊥) → Leads settled ts f → IsOrderedPhase c ts
-ordered-phase c f ts not_waits leads = let h = led settled f ts begun leads refl in record { in_order = h.order; none_waits = none-at f (looped begun (phase_term ts)) h.holds not_waits }
+done-phase : (c : Target) (ts : List PlainTerm) → Orders begun ts done → IsOrderedPhase c ts
+done-phase c ts orders = let all = orders loops.begun refl in record { in_order = all.0; none_waits = all.1.0 }
 
-fresh-ends : fresh ≡ waits → ⊥
-fresh-ends h = absurd (cc)
-
-settled-ends : settled ≡ waits → ⊥
-settled-ends h = absurd (cc)
-
-tiled-ends : tiled ≡ waits → ⊥
-tiled-ends h = absurd (cc)
-
-pick-ends : (b : Bool) → (if b then fresh else tiled) ≡ waits → ⊥
-pick-ends true h = fresh-ends h
-pick-ends false h = tiled-ends h
-
-right-ends : (v : ℕ) (rule : Rule) → right_ending v rule ≡ waits → ⊥
-right-ends v Gt h = settled-ends h
-right-ends v Ct h = settled-ends h
-right-ends v Split h = pick-ends (v == 1) h
-right-ends v Dim h = pick-ends (v == 1) h
-
-pick-phases : (c : Target) (b : Bool) (first second : List PlainTerm) → IsOrderedPhase c (first ++ second) → IsOrderedPhase c first → IsOrderedPhase c second → AllOrdered c (if b then (first ++ second) ∷ [] else first ∷ second ∷ [])
-pick-phases c true first second all h k = (all, tt)
-pick-phases c false first second all h k = (h, (k, tt))
-
-root-ordered : (c : Target) (l : Layout) → IsGoodLayout c.modulus l → AllOrdered c (root_terms c l)
-root-ordered c (work w) good = tt
-root-ordered c (by rule root a b) good =
+root-ordered : (c : Target) (l : Layout) → RootHasParts c l → IsGoodLayout c.modulus l → AllOrdered c (root_terms c l)
+root-ordered c (work w) parts good = tt
+root-ordered c (by rule root a b) parts good =
     let p = c.procs in
     let v = c.lanes in
-    let e = right_ending v rule in
+    let r = layout_size a in
+    let s = layout_size b in
     let first = right_terms p v rule root a b in
-    let second = left_terms p v (layout_size a) (layout_size b) (steps_of [] a) in
-    let left = λ (e : Ending). leads-left p v (layout_size a) (layout_size b) e fresh (steps_of [] a) (steps-order c.modulus [] a good.1 e) in
-    pick-phases c (p == 1) first second (ordered-phase c fresh (first ++ second) fresh-ends (leads-append settled e fresh first second (right-leads c.modulus p v rule root a b good.2) (left e)))
-    (ordered-phase c e first (right-ends v rule) (right-leads c.modulus p v rule root a b good.2)) (ordered-phase c fresh second fresh-ends (left settled))
-
-pick-layout : (c : Target) (l : Layout) → CanShareLayout c l → IsGoodLayout c.modulus l → (b : Bool) → is_alone c ≡ b → AllOrdered c (lowered_of c l)
-pick-layout c l shares good true is = subst (AllOrdered c) (sym (plain_terms c l is)) (ordered-phase c fresh (map lowered (steps_of [] l)) fresh-ends (leads-lowered settled fresh (steps_of [] l) (steps-order c.modulus [] l good settled)), tt)
-pick-layout c l shares good false is = subst (AllOrdered c) (sym (shared_terms c l shares good is)) (root-ordered c l good)
+    let second = left_terms p v r s (steps_of [] a) in
+    let right : Orders begun first settled =
+    right-law Orders law p v root a b (keeps-right c.modulus p v root r b good.2) rule (rule-shared c rule r s parts) in
+    let left : Orders ready second done = orders-left c.modulus p v s a good.1 in
+    let both = law.both begun settled done first second right (law.weak settled done second left) in
+    chosen (AllOrdered c) (p == 1) ((first ++ second) ∷ []) (first ∷ second ∷ [])
+    (λ one. (done-phase c (first ++ second) both, tt))
+    (settled-phase c first right, (done-phase c second (law.weak begun done second left), tt))
 
 pub trees_ordered : TreesOrdered
-trees_ordered c l valid shares good = pick-layout c l shares good (is_alone c) refl
+trees_ordered c l valid shares good = pick (is_alone c) refl
+  where
+    pick : (b : Bool) → is_alone c ≡ b → AllOrdered c (lowered_of c l)
+    pick true is =
+        let steps : Orders ready (map lowered (steps_of [] l)) done = orders-steps c.modulus [] l good in
+        subst (AllOrdered c) (sym (plain_terms c l is))
+        (done-phase c (map lowered (steps_of [] l)) (law.weak begun done (map lowered (steps_of [] l)) steps), tt)
+    pick false is =
+        subst (AllOrdered c) (sym (shared_terms c l shares good is)) (root-ordered c l (shares.root is) good)

@@ -1,5 +1,6 @@
 -- What terms do under the tensors of a path.
-use Rattle.std.proofs.Common.{◌≡◌, ℕ, suc, ◌+◌, ◌*◌, ◌/◌, ◌%◌, ◌<◌, arith, refl, sym, ap, ap₂, ◌∙◌, List, [], ◌∷◌, ◌++◌, length, inl, inr, subst, mod-lt, mod-eq_of_lt, div-lt_iff_lt-mul}
+use Rattle.std.proofs.Common.{◌≡◌, ℕ, suc, ◌+◌, ◌*◌, ◌/◌, ◌%◌, ◌<◌, arith, refl, sym, ap, ap₂, ◌∙◌, List, [], ◌∷◌, ◌++◌}
+use Rattle.std.proofs.Common.{length, inl, inr, subst, mod-lt, mod-eq_of_lt, div-lt_iff_lt-mul}
 use Rattle.std.specs.Prelude.{slice_index}
 use Rattle.std.proofs.Math.Nat.{mod-mod, div-one, mod-one, div-eq_of_lt}
 use Rattle.std.proofs.lemmas.Bool.{cases_eq}
@@ -41,10 +42,13 @@ pub record IsWork (m d : ℕ) (a : Operator) : Type 0 where
   pub residue : (y : List ℕ) (k : ℕ) → k < d → slice_index (a y) k % m ≡ slice_index (a y) k
   pub size : (y : List ℕ) → length (a y) ≡ d
 
-under-fill : (path : Path) (d : ℕ) (a : Operator) (x : List ℕ) (f : ℕ → ℕ) → ((y : List ℕ) → length (a y) ≡ d) → ((w : ℕ) → w < size_under path d → f w ≡ slice_index (under path d a x) w) → list_below (size_under path d) f ≡ under path d a x
+under-fill : (path : Path) (d : ℕ) (a : Operator) (x : List ℕ) (f : ℕ → ℕ) → ((y : List ℕ) → length (a y) ≡ d) →
+    ((w : ℕ) → w < size_under path d → f w ≡ slice_index (under path d a x) w) →
+    list_below (size_under path d) f ≡ under path d a x
 under-fill path d a x f size h = list_below-same (size_under path d) f (slice_index (under path d a x)) h ∙ sym (fill_by_all (slice_index (under path d a x)) (under path d a x) (size_under path d) 0 (under-size path d a size x) (λ k below. refl))
 
-pub nest-under : (m : ℕ) (path : Path) (w : PlainWork) (x : List ℕ) → IsWork m (work_size w) (work_on m w) → term_on m (size_under path (work_size w)) (nest path w) x ≡ under path (work_size w) (work_on m w) x
+pub nest-under : (m : ℕ) (path : Path) (w : PlainWork) (x : List ℕ) → IsWork m (work_size w) (work_on m w) →
+    term_on m (size_under path (work_size w)) (nest path w) x ≡ under path (work_size w) (work_on m w) x
 nest-under m path w x h =
     let d = work_size w in
     under-fill path d (work_on m w) x _ h.size (λ p below.
@@ -54,7 +58,8 @@ nest-under m path w x h =
     ∙ sym (at-under path d (work_on m w) x vs k h.reads range within)
     ∙ ap (slice_index (under path d (work_on m w) x)) there))
 
-pub nest-lowers : (m : ℕ) (path : Path) (w : PlainWork) → CanNest 0 path w → IsWork m (work_size w) (work_on m w) → Lowers m (size_under path (work_size w)) (nest path w) (under path (work_size w) (work_on m w))
+pub nest-lowers : (m : ℕ) (path : Path) (w : PlainWork) → CanNest 0 path w → IsWork m (work_size w) (work_on m w) →
+    Lowers m (size_under path (work_size w)) (nest path w) (under path (work_size w) (work_on m w))
 nest-lowers m path w loose h = record { good = (loose, refl); on = λ x v. nest-under m path w x h }
 
 pub transform-work : (kind : Kind) (m d w : ℕ) → IsWork m d (transform kind m d w)
@@ -73,7 +78,8 @@ below-all : (n : ℕ) (ks : List ℕ) → ((i : ℕ) → i < length ks → slice
 below-all n [] h = tt
 below-all n (k ∷ ks) h = (h 0 (omega arith), below-all n ks (λ i below. h (suc i) (omega arith)))
 
-pub move-lowers : (m : ℕ) (path : Path) (ks : List ℕ) → ((i : ℕ) → i < length ks → slice_index ks i < length ks) → Lowers m (size_under path (length ks)) (move path ks) (under path (length ks) (gather (length ks) (slice_index ks)))
+pub move-lowers : (m : ℕ) (path : Path) (ks : List ℕ) → ((i : ℕ) → i < length ks → slice_index ks i < length ks) →
+    Lowers m (size_under path (length ks)) (move path ks) (under path (length ks) (gather (length ks) (slice_index ks)))
 move-lowers m path ks h =
     let d = length ks in
     let a : Operator = gather d (slice_index ks) in
@@ -92,7 +98,8 @@ move-lowers m path ks h =
     }
 
 -- a tile turns its items round
-pub tile-under : (m : ℕ) (path : Path) (v : ℕ) (x : List ℕ) → IsVector m (size_under path (v * v)) x → term_on m (size_under path (v * v)) (nest path (tile v)) x ≡ under path (v * v) (turn v v) x
+pub tile-under : (m : ℕ) (path : Path) (v : ℕ) (x : List ℕ) → IsVector m (size_under path (v * v)) x →
+    term_on m (size_under path (v * v)) (nest path (tile v)) x ≡ under path (v * v) (turn v v) x
 tile-under m path v x h =
     let d = v * v in
     let a : Operator = turn v v in
@@ -111,7 +118,9 @@ tile-under m path v x h =
 
 -- ---- diagonals
 
-pub diag-lowers : (m : ℕ) (path : Path) (factors : PlainFactors) → Lowers m (size_under path (factor_count factors)) (diag path factors) (under path (factor_count factors) (scale m (factor_count factors) (factor_at m factors)))
+pub diag-lowers : (m : ℕ) (path : Path) (factors : PlainFactors) →
+    Lowers m (size_under path (factor_count factors)) (diag path factors)
+    (under path (factor_count factors) (scale m (factor_count factors) (factor_at m factors)))
 diag-lowers m path factors =
     let n = factor_count factors in
     record {
@@ -121,7 +130,9 @@ diag-lowers m path factors =
 
 -- ---- vectors under a path
 
-pub under-keeps : (m : ℕ) (path : Path) (n : ℕ) (a : Operator) (x : List ℕ) → ((y : List ℕ) → IsVector m n y → IsVector m n (a y)) → IsVector m (size_under path n) x → IsVector m (size_under path n) (under path n a x)
+pub under-keeps : (m : ℕ) (path : Path) (n : ℕ) (a : Operator) (x : List ℕ) →
+    ((y : List ℕ) → IsVector m n y → IsVector m n (a y)) → IsVector m (size_under path n) x →
+    IsVector m (size_under path n) (under path n a x)
 under-keeps m [] n a x h v = h x v
 under-keeps m (Blocks c ∷ path) n a x h v =
     let size = size_under path n in
@@ -137,7 +148,8 @@ under-keeps m (Columns c ∷ path) n a x h v =
     (under-keeps m path n a (column size c (p % c) x) h (vector-below m size _ (λ i within. v.residues (i * c + p % c) (place_below i (p % c) size c within (mod-lt p positive))))).residues (p / c) row)
 
 -- a product under a path, for operators on vectors
-pub under-times : (m : ℕ) (path : Path) (n : ℕ) (a b : Operator) (x : List ℕ) → ((y : List ℕ) → IsVector m n y → IsVector m n (b y)) → IsVector m (size_under path n) x →
+pub under-times : (m : ℕ) (path : Path) (n : ℕ) (a b : Operator) (x : List ℕ) →
+    ((y : List ℕ) → IsVector m n y → IsVector m n (b y)) → IsVector m (size_under path n) x →
     under path n (λ y. a (b y)) x ≡ under path n a (under path n b x)
 under-times m path n a b x h v =
     let filled : Operator = λ y. list_below n (slice_index (b y)) in
@@ -146,7 +158,9 @@ under-times m path n a b x h v =
     ∙ under-product path n a filled x (λ y. length-list_below n _)
     ∙ ap (under path n a) (sym (under-vector m path n b filled x same v))
 
-pub product-lowers : (m : ℕ) (path : Path) (n : ℕ) (s t : PlainTerm) (a b : Operator) → ((y : List ℕ) → IsVector m n y → IsVector m n (b y)) → Lowers m (size_under path n) s (under path n a) → Lowers m (size_under path n) t (under path n b) →
+pub product-lowers : (m : ℕ) (path : Path) (n : ℕ) (s t : PlainTerm) (a b : Operator) →
+    ((y : List ℕ) → IsVector m n y → IsVector m n (b y)) → Lowers m (size_under path n) s (under path n a) →
+    Lowers m (size_under path n) t (under path n b) →
     Lowers m (size_under path n) (product t s) (under path n (λ y. a (b y)))
 product-lowers m path n s t a b keep h g =
     record {
@@ -158,12 +172,15 @@ product-lowers m path n s t a b keep h g =
     }
 
 -- the same operator on vectors
-pub lowers-as : (m : ℕ) (path : Path) (n : ℕ) (t : PlainTerm) (a b : Operator) → ((y : List ℕ) → IsVector m n y → a y ≡ b y) → Lowers m (size_under path n) t (under path n a) → Lowers m (size_under path n) t (under path n b)
+pub lowers-as : (m : ℕ) (path : Path) (n : ℕ) (t : PlainTerm) (a b : Operator) →
+    ((y : List ℕ) → IsVector m n y → a y ≡ b y) → Lowers m (size_under path n) t (under path n a) →
+    Lowers m (size_under path n) t (under path n b)
 lowers-as m path n t a b equal h = record { good = h.good; on = λ x v. h.on x v ∙ under-vector m path n a b x equal v }
 
 -- ---- one tensor more
 
-one-block : (m c n : ℕ) (a : Operator) (y : List ℕ) → c ≡ 1 → IsVector m n y → length (a y) ≡ n → on_blocks c n a y ≡ a y
+one-block : (m c n : ℕ) (a : Operator) (y : List ℕ) → c ≡ 1 → IsVector m n y → length (a y) ≡ n →
+    on_blocks c n a y ≡ a y
 one-block m c n a y one v size =
     let whole : c * n ≡ n = ap (λ z. z * n) one ∙ omega arith in
     ap (λ k. list_below k (λ p. slice_index (a (block n (p / n) y)) (p % n))) whole
@@ -175,7 +192,8 @@ one-block m c n a y one v size =
       quotient-none : (p n : ℕ) → p < n → p / n ≡ 0
       quotient-none p n below = div-eq_of_lt below
 
-one-column : (m n c : ℕ) (a : Operator) (y : List ℕ) → c ≡ 1 → IsVector m n y → length (a y) ≡ n → on_columns n c a y ≡ a y
+one-column : (m n c : ℕ) (a : Operator) (y : List ℕ) → c ≡ 1 → IsVector m n y → length (a y) ≡ n →
+    on_columns n c a y ≡ a y
 one-column m n c a y one v size =
     ap (λ k. on_columns n k a y) one
     ∙ ap (λ k. list_below k (λ p. slice_index (a (column n 1 (p % 1) y)) (p / 1))) (omega arith)
@@ -186,7 +204,8 @@ one-column m n c a y one v size =
     ∙ ap (λ z. slice_index (a z) p) (vector-fill m n y _ v (λ i within. ap (slice_index y) (omega arith))))
     ∙ sym (fill_by_all (slice_index (a y)) (a y) n 0 size (λ k below. refl))
 
-one-copy : (m : ℕ) (t : Tensor) (n : ℕ) (a : Operator) (y : List ℕ) → count_of t ≡ 1 → IsVector m n y → length (a y) ≡ n → one_under t n a y ≡ a y
+one-copy : (m : ℕ) (t : Tensor) (n : ℕ) (a : Operator) (y : List ℕ) → count_of t ≡ 1 → IsVector m n y →
+    length (a y) ≡ n → one_under t n a y ≡ a y
 one-copy m (Blocks c) n a y one v size = one-block m c n a y one v size
 one-copy m (Columns c) n a y one v size = one-column m n c a y one v size
 
@@ -201,7 +220,8 @@ size-more path t n =
       | inr several ↦ let is : one_more path t ≡ path ++ t ∷ [] = grind (arith, nat_tests) in ap (λ p. size_under p n) is ∙ size_under-push path t n
     ]
 
-pub more-under : (m : ℕ) (path : Path) (t : Tensor) (n : ℕ) (a : Operator) (x : List ℕ) → ((y : List ℕ) → IsVector m n y → IsVector m n (a y)) → IsVector m (size_under path (grown t n)) x →
+pub more-under : (m : ℕ) (path : Path) (t : Tensor) (n : ℕ) (a : Operator) (x : List ℕ) →
+    ((y : List ℕ) → IsVector m n y → IsVector m n (a y)) → IsVector m (size_under path (grown t n)) x →
     under (one_more path t) n a x ≡ under path (grown t n) (one_under t n a) x
 more-under m path t n a x keep v =
     elim (cases_eq (count_of t) 1) [
@@ -213,7 +233,9 @@ more-under m path t n a x keep v =
       | inr several ↦ let is : one_more path t ≡ path ++ t ∷ [] = grind (arith, nat_tests) in ap (λ p. under p n a x) is ∙ under-push path t n a x
     ]
 
-pub more-lowers : (m : ℕ) (path : Path) (t : Tensor) (n : ℕ) (s : PlainTerm) (a : Operator) → ((y : List ℕ) → IsVector m n y → IsVector m n (a y)) → Lowers m (size_under (one_more path t) n) s (under (one_more path t) n a) →
+pub more-lowers : (m : ℕ) (path : Path) (t : Tensor) (n : ℕ) (s : PlainTerm) (a : Operator) →
+    ((y : List ℕ) → IsVector m n y → IsVector m n (a y)) → Lowers m (size_under (one_more path t) n) s
+    (under (one_more path t) n a) →
     Lowers m (size_under path (grown t n)) s (under path (grown t n) (one_under t n a))
 more-lowers m path t n s a keep h =
     let e = size-more path t n in

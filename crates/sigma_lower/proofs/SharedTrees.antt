@@ -1,9 +1,10 @@
 -- The terms of whole trees, for any processors and lanes, are good terms, which do what they did.
-use Rattle.std.proofs.Common.{◌≡◌, ℕ, ◌==◌, Bool, true, false, refl, sym, ap, ◌∙◌, List, [], ◌∷◌, ◌++◌, subst, if◌then◌else◌}
+use Rattle.std.proofs.Common.{◌≡◌, ℕ, ◌==◌, refl, sym, ap, ◌∙◌, List, [], ◌∷◌, ◌++◌, subst}
 use Rattle.std.specs.Prelude.{All, map}
 use Rattle.std.proofs.lemmas.List.Elements.{All-nil, All-cons, All-head, All-tail}
 use Rattle.operators.specs.declared.target.Target.{Target}
 use Rattle.sigma_lower.specs.Machine.{IsMachine}
+use Rattle.sigma_spl.proofs.Walk.{chosen}
 use Rattle.sigma_spl.specs.Good.{IsGoodTerm, IsVector}
 use Rattle.sigma_spl.specs.Term.{term_on}
 use Rattle.sigma_lower.specs.Shared.{phase_term}
@@ -28,7 +29,8 @@ use Rattle.smp_rewrite.specs.LayoutSteps.Layout.{Layout, IsGoodLayout}
 -- The term of a phase is good, and does what its terms did
 pub record PhaseEmbeds (h : Target) (v : ℕ) (ts : List lowered.PlainTerm) : Type 0 where
   pub good : IsGoodTerm v h.size (phase_term ts)
-  pub on : (x : List ℕ) → IsVector h.modulus h.size x → term_on h.modulus h.size (phase_term ts) x ≡ lowered.terms_on h ts x
+  pub on : (x : List ℕ) → IsVector h.modulus h.size x → term_on h.modulus h.size (phase_term ts) x
+      ≡ lowered.terms_on h ts x
 
 abbrev pub AllEmbed : Target → ℕ → List (List lowered.PlainTerm) → Type 0
 AllEmbed h v [] = Unit {0}
@@ -42,7 +44,8 @@ pub all-right : (P : PlainFactor → Type 0) (fs gs : List PlainFactor) → All 
 all-right P [] gs h = h
 all-right P (f ∷ fs) gs h = all-right P fs gs (All-tail P f (fs ++ gs) h)
 
-phase-embeds : (c : Target) (p v : ℕ) (fs : List PlainFactor) → IsMachine c → All (HasLanes c.size p v) fs → AreGood c.size (map (factor_step p v) fs) → PhaseEmbeds c v (map (factor_term p v) fs)
+phase-embeds : (c : Target) (p v : ℕ) (fs : List PlainFactor) → IsMachine c → All (HasLanes c.size p v) fs →
+    AreGood c.size (map (factor_step p v) fs) → PhaseEmbeds c v (map (factor_term p v) fs)
 phase-embeds c p v [] valid laned h = record { good = tt; on = λ x w. refl }
 phase-embeds c p v (f ∷ fs) valid laned h =
     let first = factors_embed c p v f valid (All-head (HasLanes c.size p v) f fs laned) h.0 in
@@ -54,12 +57,8 @@ phase-embeds c p v (f ∷ fs) valid laned h =
           ∙ rest.on (lowered.term_on c (factor_term p v f) x) (subst (IsVector c.modulus c.size) (sym (factor_on c p v f x h.0)) (step-keeps c (factor_step p v f) x valid h.0 w));
     }
 
-pick-phases : (c : Target) (p v : ℕ) (b : Bool) (first second : List PlainFactor) → PhaseEmbeds c v (map (factor_term p v) (first ++ second)) → PhaseEmbeds c v (map (factor_term p v) first) → PhaseEmbeds c v (map (factor_term p v) second) →
-    AllEmbed c v (map (map (factor_term p v)) (if b then (first ++ second) ∷ [] else first ∷ second ∷ []))
-pick-phases c p v true first second all h k = (all, tt)
-pick-phases c p v false first second all h k = (h, (k, tt))
-
-pub trees_embed : (c : Target) (l : Layout) → IsMachine c → CanShareLayout c l → IsGoodLayout c.modulus l → AllEmbed c c.lanes (lowered_of c l)
+pub trees_embed : (c : Target) (l : Layout) → IsMachine c → CanShareLayout c l → IsGoodLayout c.modulus l →
+    AllEmbed c c.lanes (lowered_of c l)
 trees_embed c l valid shares good =
     let g = vec_of (layout_smp c l) in
     let P = HasLanes c.size c.procs c.lanes in
@@ -68,6 +67,10 @@ trees_embed c l valid shares good =
     let shaped = (vec_shaped c (layout_smp c l) (record { whole = only l; shares = shares; form = refl })).0 in
     let both = phases_good c g is in
     let all = vec_good c g is in
-    pick-phases c c.procs c.lanes (c.procs == 1) g.first g.second (phase-embeds c c.procs c.lanes (g.first ++ g.second) valid shaped all)
-    (phase-embeds c c.procs c.lanes g.first valid (all-left P g.first g.second shaped) both.0)
-    (phase-embeds c c.procs c.lanes g.second valid (all-right P g.first g.second shaped) both.1)
+    let terms = factor_term c.procs c.lanes in
+    let embeds = phase-embeds c c.procs c.lanes in
+    chosen (λ phases. AllEmbed c c.lanes (map (map terms) phases)) (c.procs == 1) ((g.first ++ g.second) ∷ [])
+    (g.first ∷ g.second ∷ []) (λ one. (embeds (g.first ++ g.second) valid shaped all, tt)) (
+      embeds g.first valid (all-left P g.first g.second shaped) both.0,
+      (embeds g.second valid (all-right P g.first g.second shaped) both.1, tt),
+    )

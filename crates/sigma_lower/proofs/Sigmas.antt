@@ -35,25 +35,32 @@ before-same : (p v : ℕ) (fs : List PlainFactor) → factors_before p v fs same
 before-same p v [] = refl
 before-same p v (f ∷ fs) = ap (product (embed (factor_term p v f))) (before-same p v fs)
 
-before-both : (p v : ℕ) (fs gs : List PlainFactor) → factors_before p v fs (factors_before p v gs same) ≡ phase_term (map (factor_term p v) (fs ++ gs))
+before-both : (p v : ℕ) (fs gs : List PlainFactor) → factors_before p v fs (factors_before p v gs same)
+    ≡ phase_term (map (factor_term p v) (fs ++ gs))
 before-both p v [] gs = before-same p v gs
 before-both p v (f ∷ fs) gs = ap (product (embed (factor_term p v f))) (before-both p v fs gs)
 
 -- one more factor before those that stand there, the last of which was taken first
-pub before-more : (p v : ℕ) (fs : List VecFactor) (f : VecFactor) (after t u w : PlainTerm) → t ≡ factors_before p v (map plain_vec_factor (reverse fs)) after → u ≡ embed (factor_term p v (plain_vec_factor f)) → w ≡ product u t →
+pub before-more : (p v : ℕ) (fs : List VecFactor) (f : VecFactor) (after t u w : PlainTerm) →
+    t ≡ factors_before p v (map plain_vec_factor (reverse fs)) after →
+    u ≡ embed (factor_term p v (plain_vec_factor f)) → w ≡ product u t →
     w ≡ factors_before p v (map plain_vec_factor (reverse (fs ++ f ∷ []))) after
 before-more p v fs f after t u w so_far one made =
     made ∙ ap₂ product one so_far ∙ ap (λ gs. factors_before p v (map plain_vec_factor gs) after) (sym (reverse-append fs (f ∷ [])))
 
 -- one processor has one phase
-pub one-phase : (g : PlainVec) (left all : PlainTerm) → g.target.procs ≡ 1 → left ≡ factors_before g.target.procs g.target.lanes g.second same → all ≡ factors_before g.target.procs g.target.lanes g.first left → all ∷ [] ≡ map phase_term (terms_in g)
+pub one-phase : (g : PlainVec) (left all : PlainTerm) → g.target.procs ≡ 1 →
+    left ≡ factors_before g.target.procs g.target.lanes g.second same →
+    all ≡ factors_before g.target.procs g.target.lanes g.first left → all ∷ [] ≡ map phase_term (terms_in g)
 one-phase g left all alone second first =
     let is : phases_of g ≡ (g.first ++ g.second) ∷ [] = grind (arith, nat_tests) in
     ap (λ t. t ∷ []) (first ∙ ap (factors_before g.target.procs g.target.lanes g.first) second ∙ before-both g.target.procs g.target.lanes g.first g.second)
     ∙ ap (λ fs. map phase_term (map (map (factor_term g.target.procs g.target.lanes)) fs)) (sym is)
 
 -- and several have two
-pub two-phases : (g : PlainVec) (left right : PlainTerm) → g.target.procs ≢ 1 → left ≡ factors_before g.target.procs g.target.lanes g.second same → right ≡ factors_before g.target.procs g.target.lanes g.first same →
+pub two-phases : (g : PlainVec) (left right : PlainTerm) → g.target.procs ≢ 1 →
+    left ≡ factors_before g.target.procs g.target.lanes g.second same →
+    right ≡ factors_before g.target.procs g.target.lanes g.first same →
     right ∷ left ∷ [] ≡ map phase_term (terms_in g)
 two-phases g left right several second first =
     let is : phases_of g ≡ g.first ∷ g.second ∷ [] = grind (arith, nat_tests) in
@@ -66,13 +73,16 @@ of_phases h ts = record { size = h.size; procs = h.procs; lanes = h.lanes; phase
 -- ---- what they do
 
 -- what the term of a phase leaves is a vector
-phase-vector : (c : Target) (ts : List lowered.PlainTerm) (x : List ℕ) → IsMachine c → PhaseEmbeds c c.lanes ts → IsVector c.modulus c.size x → IsVector c.modulus c.size (term_on c.modulus c.size (phase_term ts) x)
+phase-vector : (c : Target) (ts : List lowered.PlainTerm) (x : List ℕ) → IsMachine c → PhaseEmbeds c c.lanes ts →
+    IsVector c.modulus c.size x → IsVector c.modulus c.size (term_on c.modulus c.size (phase_term ts) x)
 phase-vector c ts x valid h v =
     let positive : 0 < c.modulus = omega (arith, valid.modulus) in
     let merged = merge_keeps c.lanes c.modulus c.size unbounded (phase_term ts) positive (omega (arith, valid.size.0)) h.good in
     subst (IsVector c.modulus c.size) (merged.on x v) (passes-vector c.modulus c.size (passes_within unbounded c.size (phase_term ts)) x positive v)
 
-phases-mean : (c : Target) (phases : List (List lowered.PlainTerm)) (x : List ℕ) → IsMachine c → AllEmbed c c.lanes phases → IsVector c.modulus c.size x → terms_on c.modulus c.size (map phase_term phases) x ≡ lowered.phases_on c phases x
+phases-mean : (c : Target) (phases : List (List lowered.PlainTerm)) (x : List ℕ) → IsMachine c →
+    AllEmbed c c.lanes phases → IsVector c.modulus c.size x →
+    terms_on c.modulus c.size (map phase_term phases) x ≡ lowered.phases_on c phases x
 phases-mean c [] x valid h v = refl
 phases-mean c (ts ∷ more) x valid h v =
     phases-mean c more (term_on c.modulus c.size (phase_term ts) x) valid h.1 (phase-vector c ts x valid h.0 v) ∙ ap (lowered.phases_on c more) (h.0.on x v)
@@ -85,7 +95,8 @@ target-is : (c : Target) (g : PlainVec) → IsVecOf c g → g.target ≡ c
 target-is c g h = ap (λ (z : PlainVec). z.target) h.form
 
 -- they do what the formula for lanes does
-pub vec_means : (c : Target) (g : PlainVec) (x : List ℕ) → IsMachine c → IsVecOf c g → IsVector c.modulus c.size x → sigma_on c.modulus (sigma_of g) x ≡ vec_on c.modulus g x
+pub vec_means : (c : Target) (g : PlainVec) (x : List ℕ) → IsMachine c → IsVecOf c g → IsVector c.modulus c.size x →
+    sigma_on c.modulus (sigma_of g) x ≡ vec_on c.modulus g x
 vec_means c g x valid h v =
     let ts = map phase_term (terms_in g) in
     closed-on c.modulus g.target.size g.closing ts x (has_phase g)

@@ -1,6 +1,9 @@
 pub mod SharedPasses
+pub mod PassLists
 pub mod TreePasses
-pub mod TermOrder
+pub mod Emitted
+pub mod MadePasses
+pub mod Walks
 pub mod TameSums
 pub mod PlaceSums
 pub mod PlaceLimits
@@ -20,7 +23,6 @@ pub mod PartRules
 pub mod Staying
 pub mod InnerPlaces
 pub mod Shaped
-pub mod Closed
 pub mod GoodPlaces
 pub mod RootPasses
 pub mod RootMerging

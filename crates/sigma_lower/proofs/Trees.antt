@@ -80,7 +80,9 @@ pub flip : (n : ℕ) (there back : ℕ → ℕ) → IsPermutationBelow n there b
 flip n there back h = record { there_below = h.back_below; back_below = h.there_below; back-there = h.there-back; there-back = h.back-there }
 
 back-lowers : (m : ℕ) (path : Path) (r s : ℕ) → 0 < size_under path (r * s) → AreCoprime r s →
-    Lowers m (size_under path (r * s)) (scat (wrapped path (r * s) (ThomasBack r s (unit_below r s r) (unit_below s r s)))) (under path (r * s) (gather (r * s) (at (ThomasOut r s))))
+    Lowers m (size_under path (r * s))
+    (scat (wrapped path (r * s) (ThomasBack r s (unit_below r s r) (unit_below s r s))))
+    (under path (r * s) (gather (r * s) (at (ThomasOut r s))))
 back-lowers m path r s some h =
     let n = r * s in
     let out = out-move r s h in
@@ -98,12 +100,14 @@ back-lowers m path r s some h =
           ∙ ap (λ z. gather (size_under path n) (at z) x) e
           ∙ sym (gather-under path n (ThomasOut r s) x out.permutes.there_below);
     } where
-      back-is : (path : Path) (n r s u v : ℕ) → back_of (wrapped path n (ThomasBack r s u v)) ≡ wrapped path n (ThomasOut r s)
+      back-is : (path : Path) (n r s u v : ℕ) → back_of (wrapped path n (ThomasBack r s u v))
+          ≡ wrapped path n (ThomasOut r s)
       back-is path n r s u v = back-wrapped path n (ThomasBack r s u v)
 
 -- ---- steps
 
-pub core-lowers : (c : Target) (path : Path) (k : PlainCore) → 0 < size_under path (core_size k) → IsGoodCore k → size_under path (core_size k) ≤ 1048576 → core_size k ≤ 1048576 →
+pub core-lowers : (c : Target) (path : Path) (k : PlainCore) → 0 < size_under path (core_size k) → IsGoodCore k →
+    size_under path (core_size k) ≤ 1048576 → core_size k ≤ 1048576 →
     Lowers c.modulus (size_under path (core_size k)) (core_term path k) (under path (core_size k) (core_on c.modulus k))
 core-lowers c path (piece w) some h high low = nest-lowers c.modulus path w (piece-nests 0 path w h) (piece-work c.modulus w h)
 core-lowers c path (turns r s) some h high low = gath-lowers c.modulus path (r * s) (Strided r s) some (strided-move r s (omega (arith, h.0)) (omega (arith, h.1)) low)
@@ -111,17 +115,20 @@ core-lowers c path (steps.twiddles r s w) some h high low = diag-lowers c.modulu
 core-lowers c path (thomas_in r s) some h high low = gath-lowers c.modulus path (r * s) (ThomasIn r s) some (in-move r s h)
 core-lowers c path (thomas_out r s) some h high low = back-lowers c.modulus path r s some h
 
-gather-keeps : (m n : ℕ) (f : ℕ → ℕ) (y : List ℕ) → ((i : ℕ) → i < n → f i < n) → IsVector m n y → IsVector m n (gather n f y)
+gather-keeps : (m n : ℕ) (f : ℕ → ℕ) (y : List ℕ) → ((i : ℕ) → i < n → f i < n) → IsVector m n y →
+    IsVector m n (gather n f y)
 gather-keeps m n f y stay v = vector-below m n _ (λ i below. v.residues (f i) (stay i below))
 
-core-keeps : (c : Target) (k : PlainCore) (y : List ℕ) → 0 < c.modulus → IsGoodCore k → core_size k ≤ 1048576 → IsVector c.modulus (core_size k) y → IsVector c.modulus (core_size k) (core_on c.modulus k y)
+core-keeps : (c : Target) (k : PlainCore) (y : List ℕ) → 0 < c.modulus → IsGoodCore k → core_size k ≤ 1048576 →
+    IsVector c.modulus (core_size k) y → IsVector c.modulus (core_size k) (core_on c.modulus k y)
 core-keeps c (piece w) y positive h low v = piece-vector c.modulus w y positive h
 core-keeps c (turns r s) y positive h low v = gather-keeps c.modulus (r * s) _ y (strided-move r s (omega (arith, h.0)) (omega (arith, h.1)) low).permutes.there_below v
 core-keeps c (steps.twiddles r s w) y positive h low v = vector-below c.modulus (r * s) _ (λ i below. mod-lt _ positive)
 core-keeps c (thomas_in r s) y positive h low v = gather-keeps c.modulus (r * s) _ y (in-move r s h).permutes.there_below v
 core-keeps c (thomas_out r s) y positive h low v = gather-keeps c.modulus (r * s) _ y (out-move r s h).permutes.there_below v
 
-pub step-keeps : (c : Target) (s : PlainStep) (x : List ℕ) → IsMachine c → IsGood c.size s → IsVector c.modulus c.size x → IsVector c.modulus c.size (step_on c.modulus s x)
+pub step-keeps : (c : Target) (s : PlainStep) (x : List ℕ) → IsMachine c → IsGood c.size s →
+    IsVector c.modulus c.size x → IsVector c.modulus c.size (step_on c.modulus s x)
 step-keeps c s x valid h v =
     let size = h.size in
     let d = core_size s.core in

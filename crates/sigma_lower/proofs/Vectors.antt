@@ -27,7 +27,8 @@ moves-vectors v f h =
     }
 
 -- a permutation under tensors that move vectors
-pub laned-move : (v : ℕ) (path : Path) (n : ℕ) (f : Mapping) → 0 < size_under path n → HasVectors v path → IsMove 0 n f → IsMove v (size_under path n) (wrapped path n f)
+pub laned-move : (v : ℕ) (path : Path) (n : ℕ) (f : Mapping) → 0 < size_under path n → HasVectors v path →
+    IsMove 0 n f → IsMove v (size_under path n) (wrapped path n f)
 laned-move v path n f positive vectors h =
     let all = move-wrapped path n f positive h in
     record {

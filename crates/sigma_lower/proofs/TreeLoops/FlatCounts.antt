@@ -1,17 +1,20 @@
 -- The passes of a layout of one size count as those of the tree in the cost model.
-use Rattle.std.proofs.Common.{◌≡◌, ℕ, ◌*◌, ◌<◌, Bool, true, false, arith, refl, sym, ap, ◌∙◌, List, [], ◌∷◌, ◌++◌, if◌then◌else◌, inl, inr, subst}
+use Rattle.std.proofs.Common.{◌≡◌, ℕ, ◌*◌, ◌<◌, Bool, true, false, arith, refl, sym, ap, ◌∙◌, List, [], ◌∷◌, ◌++◌}
+use Rattle.std.proofs.Common.{if◌then◌else◌, inl, inr, subst}
 use Rattle.std.specs.Prelude.{nat_le}
 use Rattle.std.proofs.lemmas.Bool.{cases_lt}
 use Rattle.std.proofs.lemmas.Bool.Decides.{nat_tests}
 use Rattle.kernel_gen.proofs.NodeCosts.{kernel-short}
-use Rattle.sigma_lower.specs.TreeLoops.Laws.{Counted, works, tiles, with_twiddles, twiddle_last, twiddle_by, passes_of, tiled_passes, whole_passes, loads_by}
+use Rattle.sigma_lower.specs.TreeLoops.Laws.{Counted, works, tiles, with_twiddles, twiddle_last, twiddle_by, passes_of}
+use Rattle.sigma_lower.specs.TreeLoops.Laws.{tiled_passes, whole_passes, loads_by}
 use Rattle.matrix_meaning.specs.Valid.{IsValid}
 use Rattle.matrix_meaning.specs.declared.Dimensions.TheVariants.{One}
 use Rattle.matrix_meaning.specs.declared.Kind.{Kind}
 use Rattle.matrix_meaning.specs.declared.Kind.TheVariants.{Dft, Wht, Idft}
 use Rattle.matrix_meaning.specs.declared.Request.{Request}
 use Rattle.sigma_spl.specs.Work.{PlainWork, kernel, node_of}
-use Rattle.smp_rewrite.specs.LayoutSteps.Layout.{Layout, work, by, layout_cost, layout_size, layout_of, long_work, node_work}
+use Rattle.smp_rewrite.specs.LayoutSteps.Layout.{Layout, work, by, layout_cost, layout_size, layout_of, long_work}
+use Rattle.smp_rewrite.specs.LayoutSteps.Layout.{node_work}
 use Rattle.sigma_spl.specs.Shared.Costs.{work_cost}
 use Rattle.kernel_gen.specs.Nodes.{IsNodeTree}
 use Rattle.smp_rewrite.specs.LayoutSteps.Meaning.{FitsWhole}
@@ -21,8 +24,9 @@ use Rattle.smp_rewrite.proofs.LayoutSteps.NodeTrees.{left_fits, right_fits}
 use Rattle.tree_model.specs.Admissible.{RuleFits}
 use Rattle.tree_model.specs.Breakdown.{Breakdown, leaf, node, size_of, AllowsLeaf}
 use Rattle.tree_model.specs.Cost.{is_kernel, is_plain, node_root}
+use Rattle.tree_model.proofs.PassLaws.{root_no_kernel}
 use Rattle.tree_model.specs.Passes as trees
-use Rattle.tree_model.specs.Whole.{cost_in}
+use Rattle.tree_model.specs.Whole.{cost_in, left_of, right_of}
 use Rattle.tree_model.specs.declared.tree.Rule.{Rule}
 use Rattle.tree_model.specs.declared.tree.Rule.TheVariants.{Gt, Ct, Split, Dim}
 
@@ -150,15 +154,15 @@ module _ (n : ℕ) (p : Request) (rule : Rule) (a b : Breakdown) (root : ℕ) (w
     (is_left : layout_size left ≡ size_of a) (is_right : layout_size right ≡ size_of b)
     (on_left : (k : ℕ) → ArePasses n p (passes_of k left) (trees.passes_of p k a))
     (on_right : (k : ℕ) → ArePasses n p (passes_of k right) (trees.passes_of p k b)) where
-  rights : (k : ℕ) → ArePasses n p (passes_of (k * layout_size left) right) (trees.passes_of p (k * size_of a) b)
-  rights k =
-      subst (λ z. ArePasses n p (passes_of (k * z) right) (trees.passes_of p (k * size_of a) b)) (sym is_left)
-      (on_right (k * size_of a))
+  rights : (f : ℕ → ℕ) → ArePasses n p (passes_of (f (layout_size left)) right) (trees.passes_of p (f (size_of a)) b)
+  rights f =
+      subst (λ z. ArePasses n p (passes_of (f z) right) (trees.passes_of p (f (size_of a)) b)) (sym is_left)
+      (on_right (f (size_of a)))
 
-  lefts : (k : ℕ) → ArePasses n p (passes_of (k * layout_size right) left) (trees.passes_of p (k * size_of b) a)
-  lefts k =
-      subst (λ z. ArePasses n p (passes_of (k * z) left) (trees.passes_of p (k * size_of b) a)) (sym is_right)
-      (on_left (k * size_of b))
+  lefts : (f : ℕ → ℕ) → ArePasses n p (passes_of (f (layout_size right)) left) (trees.passes_of p (f (size_of b)) a)
+  lefts f =
+      subst (λ z. ArePasses n p (passes_of (f z) left) (trees.passes_of p (f (size_of b)) a)) (sym is_right)
+      (on_left (f (size_of b)))
 
   node-pick : (count : ℕ) (z : Bool) → (z ≡ true → Matches n p count w count (node rule a b)) →
       ArePasses n p (passes_of count (if z then work w else by rule root left right))
@@ -170,55 +174,30 @@ module _ (n : ℕ) (p : Request) (rule : Rule) (a b : Breakdown) (root : ℕ) (w
       (passes_of (count * layout_size right) left)
       (trees.twiddle_by rule (trees.passes_of p (count * size_of a) b)) (trees.passes_of p (count * size_of b) a)
       (passes-by n p rule (passes_of (count * layout_size left) right) (trees.passes_of p (count * size_of a) b)
-      (rights count))
-      (lefts count)
+      (rights (λ k. count * k)))
+      (lefts (λ k. count * k))
 
   -- the root, on several lanes
-  tiled-parts : RuleFits p rule (size_of a) (size_of b) →
-      ArePasses n p (tiled_passes (by rule root left right)) (trees.tiled_passes p (node rule a b))
-  tiled-parts fits = by-rule rule fits
-    where
-      tiled-both : (t : Bool) →
-          ArePasses n p (passes_of (layout_size left) right ++ (tiles t ∷ passes_of (layout_size right) left))
-          (trees.passes_of p (size_of a) b ++ (trees.tiles t ∷ trees.passes_of p (size_of b) a))
-      tiled-both t =
-          passes-append n p (passes_of (layout_size left) right) (tiles t ∷ passes_of (layout_size right) left)
-          (trees.passes_of p (size_of a) b) (trees.tiles t ∷ trees.passes_of p (size_of b) a)
-          (subst (λ k. ArePasses n p (passes_of k right) (trees.passes_of p (size_of a) b)) (sym is_left)
-          (on_right (size_of a))) (
-            refl,
-            subst (λ k. ArePasses n p (passes_of k left) (trees.passes_of p (size_of b) a)) (sym is_right)
-                (on_left (size_of b)),
-          )
+  tiled-both : (t : Bool) →
+      ArePasses n p (passes_of (layout_size left) right ++ (tiles t ∷ passes_of (layout_size right) left))
+      (trees.passes_of p (size_of a) b ++ (trees.tiles t ∷ trees.passes_of p (size_of b) a))
+  tiled-both t =
+      passes-append n p (passes_of (layout_size left) right) (tiles t ∷ passes_of (layout_size right) left)
+      (trees.passes_of p (size_of a) b) (trees.tiles t ∷ trees.passes_of p (size_of b) a) (rights (λ k. k))
+      (refl, lefts (λ k. k))
 
+  tiled-pick : (z : Bool) → z ≡ false → RuleFits p rule (size_of a) (size_of b) →
+      ArePasses n p (tiled_passes (if z then work w else by rule root left right))
+      (trees.tiled_passes p (node rule a b))
+  tiled-pick true is fits = absurd (cc)
+  tiled-pick false is fits = by-rule rule fits
+    where
       by-rule : (rule : Rule) → RuleFits p rule (size_of a) (size_of b) →
           ArePasses n p (tiled_passes (by rule root left right)) (trees.tiled_passes p (node rule a b))
       by-rule Gt fits = absurd fits
       by-rule Ct fits = tiled-both true
       by-rule Split fits = (refl, tiled-both false)
       by-rule Dim fits = (refl, tiled-both false)
-
--- a node by a rule that hands the request itself to both parts
-module _ (n : ℕ) (p : Request) (rule : Rule) (a b : Breakdown)
-    (cost : layout_cost p.weight p.modulus
-    (if is_kernel p (size_of a * size_of b) then work (node_work p (node rule a b))
-    else by rule (node_root p (size_of a * size_of b)) (layout_of p a) (layout_of p b)) ≡ cost_in p (node rule a b))
-    (on_left : (k : ℕ) → ArePasses n p (passes_of k (layout_of p a)) (trees.passes_of p k a))
-    (on_right : (k : ℕ) → ArePasses n p (passes_of k (layout_of p b)) (trees.passes_of p k b)) where
-  abbrev outer : Layout
-  outer = by rule (node_root p (size_of a * size_of b)) (layout_of p a) (layout_of p b)
-
-  node-passes : (count : ℕ) →
-      ArePasses n p
-      (passes_of count (if is_kernel p (size_of a * size_of b) then work (node_work p (node rule a b)) else outer))
-      (trees.passes_of p count (node rule a b))
-  node-passes count =
-      node-pick n p rule a b (node_root p (size_of a * size_of b)) (node_work p (node rule a b)) (layout_of p a)
-      (layout_of p b) (layouts_have_size p a) (layouts_have_size p b) on_left on_right count
-      (is_kernel p (size_of a * size_of b)) (λ short. kernel-matches n p rule a b outer count short cost)
-
-pub not-kernel : (p : Request) (d : ℕ) → d ≡ p.size → is_plain p ≡ false → is_kernel p d ≡ false
-not-kernel p d is shared = grind (arith, nat_tests)
 
 several-lanes : (p : Request) → nat_le p.lanes 1 ≡ false → is_plain p ≡ false
 several-lanes p many = grind (arith, nat_tests)
@@ -229,76 +208,82 @@ pub record IsFlatTree (p : Request) (t : Breakdown) : Type 0 where
   pub tree : IsNodeTree p t
   pub fits : FitsWhole p t
 
+-- its rule hands the request itself to both parts
+record HandsOn (p : Request) (rule : Rule) (a b : Breakdown) : Type 0 where
+  on_left : left_of rule p ≡ p
+  on_right : right_of rule p ≡ p
+  left : IsFlatTree p a
+  right : IsFlatTree p b
+
+hands_same : (p : Request) (rule : Rule) (a b : Breakdown) → IsFlatTree p (node rule a b) → left_of rule p ≡ p →
+    right_of rule p ≡ p → HandsOn p rule a b
+hands_same p rule a b h left right = record {
+  on_left = left;
+  on_right = right;
+  left = record {
+    one = h.one;
+    tree = subst (λ q. IsNodeTree q a) left (left_tree p rule a b h.tree);
+    fits = subst (λ q. FitsWhole q a) left (left_fits p rule a b h.tree);
+  };
+  right = record {
+    one = h.one;
+    tree = subst (λ q. IsNodeTree q b) right (right_tree p rule a b h.tree);
+    fits = subst (λ q. FitsWhole q b) right (right_fits p rule a b h.tree);
+  };
+}
+
+hands_on : (p : Request) (rule : Rule) (a b : Breakdown) → IsFlatTree p (node rule a b) → HandsOn p rule a b
+hands_on p Gt a b h = hands_same p Gt a b h refl refl
+hands_on p Ct a b h = hands_same p Ct a b h refl refl
+hands_on p Split a b h = hands_same p Split a b h refl refl
+hands_on p Dim a b h = absurd (h.tree.tree.2.0 h.one)
+
+-- the passes of a part are those under the request that its rule hands to it
+handed : (n : ℕ) (p q : Request) (t : Breakdown) → q ≡ p →
+    ((k : ℕ) → ArePasses n p (passes_of k (layout_of p t)) (trees.passes_of p k t)) →
+    (k : ℕ) → ArePasses n p (passes_of k (layout_of q t)) (trees.passes_of p k t)
+handed n p q t is on k =
+    subst (λ r. ArePasses n p (passes_of k (layout_of r t)) (trees.passes_of p k t)) (sym is) (on k)
+
 -- so many times, over n words
-module _ (n : ℕ) where
-  pub flat_node_passes : (p : Request) (count : ℕ) (t : Breakdown) → IsFlatTree p t →
+module _ (n : ℕ) (p : Request) where
+  pub flat_node_passes : (count : ℕ) (t : Breakdown) → IsFlatTree p t →
       ArePasses n p (passes_of count (layout_of p t)) (trees.passes_of p count t)
-  flat_node_passes p count (leaf d) h = leaf_passes n p count d h.tree h.fits
-  flat_node_passes p count (node Gt a b) h =
-      node-passes n p Gt a b (layouts_cost p (node Gt a b) h.tree h.fits)
-      (λ k. flat_node_passes p k a
-      (record { one = h.one; tree = left_tree p Gt a b h.tree; fits = left_fits p Gt a b h.tree }))
-      (λ k. flat_node_passes p k b
-      (record { one = h.one; tree = right_tree p Gt a b h.tree; fits = right_fits p Gt a b h.tree }))
-      count
-  flat_node_passes p count (node Ct a b) h =
-      node-passes n p Ct a b (layouts_cost p (node Ct a b) h.tree h.fits)
-      (λ k. flat_node_passes p k a
-      (record { one = h.one; tree = left_tree p Ct a b h.tree; fits = left_fits p Ct a b h.tree }))
-      (λ k. flat_node_passes p k b
-      (record { one = h.one; tree = right_tree p Ct a b h.tree; fits = right_fits p Ct a b h.tree }))
-      count
-  flat_node_passes p count (node Split a b) h =
-      node-passes n p Split a b (layouts_cost p (node Split a b) h.tree h.fits)
-      (λ k. flat_node_passes p k a
-      (record { one = h.one; tree = left_tree p Split a b h.tree; fits = left_fits p Split a b h.tree }))
-      (λ k. flat_node_passes p k b
-      (record { one = h.one; tree = right_tree p Split a b h.tree; fits = right_fits p Split a b h.tree }))
-      count
-  flat_node_passes p count (node Dim a b) h = absurd (h.tree.tree.2.0 h.one)
+  flat_node_passes count (leaf d) h = leaf_passes n p count d h.tree h.fits
+  flat_node_passes count (node rule a b) h =
+      let d = size_of a * size_of b in
+      let parts = hands_on p rule a b h in
+      let left = layout_of (left_of rule p) a in
+      let right = layout_of (right_of rule p) b in
+      node-pick n p rule a b (node_root p d) (node_work p (node rule a b)) left right
+      (layouts_have_size (left_of rule p) a) (layouts_have_size (right_of rule p) b)
+      (handed n p (left_of rule p) a parts.on_left (λ k. flat_node_passes k a parts.left))
+      (handed n p (right_of rule p) b parts.on_right (λ k. flat_node_passes k b parts.right)) count (is_kernel p d)
+      (λ short.
+      kernel-matches n p rule a b (by rule (node_root p d) left right) count short
+      (layouts_cost p (node rule a b) h.tree h.fits))
 
   -- ---- the root
 
-  root-pick : (p : Request) (z : Bool) (w : PlainWork) (l : Layout) (qs : List trees.Pass) → z ≡ false →
-      ArePasses n p (tiled_passes l) qs → ArePasses n p (tiled_passes (if z then work w else l)) qs
-  root-pick p true w l qs e h = absurd (cc)
-  root-pick p false w l qs e h = h
-
-  tiled-root : (p : Request) (rule : Rule) (a b : Breakdown) → RuleFits p rule (size_of a) (size_of b) →
-      is_kernel p (size_of a * size_of b) ≡ false → IsFlatTree p a → IsFlatTree p b →
-      ArePasses n p (tiled_passes (if is_kernel p (size_of a * size_of b) then work (node_work p (node rule a b))
-      else by rule (node_root p (size_of a * size_of b)) (layout_of p a) (layout_of p b)))
-      (trees.tiled_passes p (node rule a b))
-  tiled-root p rule a b fits outer left right =
-      let d = size_of a * size_of b in
-      root-pick p (is_kernel p d) (node_work p (node rule a b))
-      (by rule (node_root p d) (layout_of p a) (layout_of p b)) (trees.tiled_passes p (node rule a b)) outer
-      (tiled-parts n p rule a b (node_root p d) (node_work p (node rule a b)) (layout_of p a) (layout_of p b)
-      (layouts_have_size p a) (layouts_have_size p b) (λ k. flat_node_passes p k a left)
-      (λ k. flat_node_passes p k b right) fits)
-
-  tiled-whole : (p : Request) (t : Breakdown) → IsFlatTree p t → size_of t ≡ p.size → is_plain p ≡ false →
+  tiled-whole : (t : Breakdown) → IsFlatTree p t → size_of t ≡ p.size → is_plain p ≡ false →
       ArePasses n p (tiled_passes (layout_of p t)) (trees.tiled_passes p t)
-  tiled-whole p (leaf d) h whole shared = absurd (h.fits whole shared)
-  tiled-whole p (node Gt a b) h whole shared = absurd (h.fits whole shared)
-  tiled-whole p (node Ct a b) h whole shared =
-      tiled-root p Ct a b (h.fits whole shared) (not-kernel p (size_of a * size_of b) whole shared)
-      (record { one = h.one; tree = left_tree p Ct a b h.tree; fits = left_fits p Ct a b h.tree })
-      (record { one = h.one; tree = right_tree p Ct a b h.tree; fits = right_fits p Ct a b h.tree })
-  tiled-whole p (node Split a b) h whole shared =
-      tiled-root p Split a b (h.fits whole shared) (not-kernel p (size_of a * size_of b) whole shared)
-      (record { one = h.one; tree = left_tree p Split a b h.tree; fits = left_fits p Split a b h.tree })
-      (record { one = h.one; tree = right_tree p Split a b h.tree; fits = right_fits p Split a b h.tree })
-  tiled-whole p (node Dim a b) h whole shared = absurd (h.tree.tree.2.0 h.one)
+  tiled-whole (leaf d) h whole shared = absurd (h.fits whole shared)
+  tiled-whole (node rule a b) h whole shared =
+      let d = size_of a * size_of b in
+      let parts = hands_on p rule a b h in
+      tiled-pick n p rule a b (node_root p d) (node_work p (node rule a b)) (layout_of (left_of rule p) a)
+      (layout_of (right_of rule p) b) (layouts_have_size (left_of rule p) a) (layouts_have_size (right_of rule p) b)
+      (handed n p (left_of rule p) a parts.on_left (λ k. flat_node_passes k a parts.left))
+      (handed n p (right_of rule p) b parts.on_right (λ k. flat_node_passes k b parts.right)) (is_kernel p d)
+      (root_no_kernel p d whole shared) (h.fits whole shared)
 
-  by-lanes : (p : Request) (t : Breakdown) → IsFlatTree p t → size_of t ≡ p.size → (one : Bool) →
-      nat_le p.lanes 1 ≡ one →
+  by-lanes : (t : Breakdown) → IsFlatTree p t → size_of t ≡ p.size → (one : Bool) → nat_le p.lanes 1 ≡ one →
       ArePasses n p (if one then passes_of 1 (layout_of p t) else tiled_passes (layout_of p t))
       (if one then trees.passes_of p 1 t else trees.tiled_passes p t)
-  by-lanes p t h whole true is = flat_node_passes p 1 t h
-  by-lanes p t h whole false is = tiled-whole p t h whole (several-lanes p is)
+  by-lanes t h whole true is = flat_node_passes 1 t h
+  by-lanes t h whole false is = tiled-whole t h whole (several-lanes p is)
 
   -- the passes of the whole
-  pub flat_root_passes : (p : Request) (t : Breakdown) → IsFlatTree p t → size_of t ≡ p.size →
+  pub flat_root_passes : (t : Breakdown) → IsFlatTree p t → size_of t ≡ p.size →
       ArePasses n p (whole_passes p.lanes (layout_of p t)) (trees.whole_passes p t)
-  flat_root_passes p t h whole = by-lanes p t h whole (nat_le p.lanes 1) refl
+  flat_root_passes t h whole = by-lanes t h whole (nat_le p.lanes 1) refl

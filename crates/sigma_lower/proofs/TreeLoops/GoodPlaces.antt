@@ -1,11 +1,8 @@
--- What holds of the places of a layout's passes: they are within the limits, of functions that are well formed and permute the whole, and their copies fill it.
+-- What holds of the places of a layout's passes: they are within the limits, and their copies fill the whole.
 use Rattle.std.proofs.Common.{◌≡◌, true, List, [], sym, subst}
 use Rattle.sigma_lower.specs.TreeLoops.Merge.{PlainPass, merged_of}
 use Rattle.sigma_lower.specs.TreeLoops.Placed.{AllLimited}
-use Rattle.sigma_lower.proofs.TreeLoops.Closed.{AreClosedPasses, closed_passes}
-use Rattle.sigma_lower.proofs.TreeLoops.PartRules.{IsSize}
-use Rattle.sigma_lower.proofs.TreeLoops.PlaceLimits.{size_in, tree_limited}
-use Rattle.sigma_lower.proofs.TreeLoops.PlaceValues.{AreFormedPasses, formed_passes}
+use Rattle.sigma_lower.proofs.TreeLoops.PlaceLimits.{tree_limited}
 use Rattle.sigma_lower.proofs.TreeLoops.Shaped.{AreShaped, HasWorks, shaped_passes}
 use Rattle.sigma_lower.proofs.TreeLoops.TreePasses.{layout_passes}
 use Rattle.sigma_lower.proofs.TreeLoops.Wholes.{plain_passes}
@@ -18,20 +15,17 @@ use Rattle.operators.specs.declared.target.Target.{Target}
 -- P holds of each pass's work
 pub record HaveGoodPlaces (c : Target) (P : PlainWork → Type 0) (ps : List PlainPass) : Type 0 where
   pub limited : AllLimited c ps
-  pub formed : AreFormedPasses ps
-  pub closed : AreClosedPasses c.size ps
   pub shaped : AreShaped P c.size ps
 
 -- on one processor and one lane
-pub tree_good : (c : Target) (P : PlainWork → Type 0) (l : Layout) → CanShareLayout c l → IsGoodLayout c.modulus l → HasWorks P l → HaveGoodPlaces c P (layout_passes [] [] l)
+pub tree_good : (c : Target) (P : PlainWork → Type 0) (l : Layout) → CanShareLayout c l → IsGoodLayout c.modulus l →
+    HasWorks P l → HaveGoodPlaces c P (layout_passes [] [] l)
 tree_good c P l shares good all =
-    let whole : IsSize c.size = size_in c l shares in
     record {
       limited = tree_limited c l shares good;
-      formed = formed_passes c.modulus c.size [] [] l whole good shares.size tt;
-      closed = closed_passes c.modulus c.size [] [] l whole good shares.size tt;
       shaped = shaped_passes P c.modulus c.size [] [] l tt good all shares.size;
     }
 
-pub plain_good : (c : Target) (P : PlainWork → Type 0) (l : Layout) → CanShareLayout c l → IsGoodLayout c.modulus l → HasWorks P l → is_alone c ≡ true → HaveGoodPlaces c P (merged_of c l)
+pub plain_good : (c : Target) (P : PlainWork → Type 0) (l : Layout) → CanShareLayout c l → IsGoodLayout c.modulus l →
+    HasWorks P l → is_alone c ≡ true → HaveGoodPlaces c P (merged_of c l)
 plain_good c P l shares good all plain = subst (HaveGoodPlaces c P) (sym (plain_passes c l plain)) (tree_good c P l shares good all)

@@ -1,5 +1,6 @@
 -- Places in copies that any sums name: a natural place is one where the loops' variables name the copy.
-use Rattle.std.proofs.Common.{◌≡◌, ℕ, ◌+◌, ◌*◌, ◌<◌, ◌≤◌, arith, refl, sym, ap, ◌∙◌, List, [], ◌∷◌, subst, le-mul_of_pos_right}
+use Rattle.std.proofs.Common.{◌≡◌, ℕ, ◌+◌, ◌*◌, ◌<◌, ◌≤◌, arith, refl, sym, ap, ◌∙◌, List, [], ◌∷◌, subst}
+use Rattle.std.proofs.Common.{le-mul_of_pos_right}
 use Rattle.index_fn.specs.Mapping.{Mapping}
 use Rattle.perm_algebra.specs.Affine.{Sum, constant, variable, top, scaled, joined, Divided, simplified}
 use Rattle.perm_algebra.specs.Room.{CanScale, CanJoin, HasRoomFor}
@@ -12,7 +13,7 @@ use Rattle.sigma_lower.proofs.TreeLoops.PlaceRoom.{can_scale, can_join, can_divi
 use Rattle.sigma_lower.proofs.TreeLoops.PlaceSums.{parts-fit, variable-fits}
 use Rattle.operators.specs.declared.tensor_paths.Tensor.TheVariants.{Blocks, Columns}
 use Rattle.operators.specs.TensorPaths.Path.{Path, count_of, size_under}
-use Rattle.sigma_lower.proofs.TreeTerms.Closed.{le-mul_left}
+use Rattle.sigma_spl.proofs.Fitting.{le-times}
 
 -- the place of e in the copy that these sums name, one for each tensor
 abbrev pub placed : Path → ℕ → List Sum → Sum → Sum
@@ -37,12 +38,14 @@ place_sum-placed [] n d e = refl
 place_sum-placed (Blocks c ∷ path) n d e = ap (joined (scaled (size_under path n) (variable 1 d (constant 0)))) (place_sum-placed path n (d + 1) e)
 place_sum-placed (Columns c ∷ path) n d e = ap (λ g. joined (scaled c g) (variable 1 d (constant 0))) (place_sum-placed path n (d + 1) e)
 
-pub counts-copies : (path : Path) (n d : ℕ) (cs : ℕ → ℕ) → AreCounts path n d cs → AreCopies path (variables_of path d) cs
+pub counts-copies : (path : Path) (n d : ℕ) (cs : ℕ → ℕ) → AreCounts path n d cs →
+    AreCopies path (variables_of path d) cs
 counts-copies [] n d cs h = tt
 counts-copies (Blocks c ∷ path) n d cs h = (variable-fits c d cs h.0 h.1, counts-copies path n (d + 1) cs h.2)
 counts-copies (Columns c ∷ path) n d cs h = (variable-fits c d cs h.0 h.1, counts-copies path n (d + 1) cs h.2)
 
-copies-positive : (path : Path) (n : ℕ) (us : List Sum) (cs : ℕ → ℕ) → AreCopies path us cs → 0 < n → 0 < size_under path n
+copies-positive : (path : Path) (n : ℕ) (us : List Sum) (cs : ℕ → ℕ) → AreCopies path us cs → 0 < n →
+    0 < size_under path n
 copies-positive [] n us cs h positive = positive
 copies-positive (t ∷ path) n [] cs h positive = absurd h
 copies-positive (Blocks c ∷ path) n (u ∷ us) cs h positive = positive-product c (size_under path n) (omega (arith, h.0.small)) (copies-positive path n us cs h.1 positive)
@@ -51,7 +54,8 @@ copies-positive (Columns c ∷ path) n (u ∷ us) cs h positive = positive-produ
 fits-positive : (n : ℕ) (e : Sum) (cs : ℕ → ℕ) → Fits n e cs → 0 < n
 fits-positive n e cs f = omega (arith, f.small)
 
-pub placed-fits : (path : Path) (n : ℕ) (us : List Sum) (e : Sum) (cs : ℕ → ℕ) → AreCopies path us cs → Fits n e cs → Fits (size_under path n) (placed path n us e) cs
+pub placed-fits : (path : Path) (n : ℕ) (us : List Sum) (e : Sum) (cs : ℕ → ℕ) → AreCopies path us cs → Fits n e cs →
+    Fits (size_under path n) (placed path n us e) cs
 placed-fits [] n us e cs h f = f
 placed-fits (t ∷ path) n [] e cs h f = absurd h
 placed-fits (Blocks c ∷ path) n (u ∷ us) e cs h f =
@@ -59,7 +63,8 @@ placed-fits (Blocks c ∷ path) n (u ∷ us) e cs h f =
 placed-fits (Columns c ∷ path) n (u ∷ us) e cs h f = parts-fit (size_under path n) c (placed path n us e) u cs (omega (arith, h.0.small)) (placed-fits path n us e cs h.1 f) h.0
 
 -- a permutation under tensors, at a place under the same tensors, is the permutation at the inner place
-pub simplified-placed : (path : Path) (n : ℕ) (us : List Sum) (f : Mapping) (e : Sum) (cs : ℕ → ℕ) → AreCopies path us cs → Fits n e cs →
+pub simplified-placed : (path : Path) (n : ℕ) (us : List Sum) (f : Mapping) (e : Sum) (cs : ℕ → ℕ) →
+    AreCopies path us cs → Fits n e cs →
     simplified cs (wrapped path n f) (placed path n us e) ≡ placed path n us (simplified cs f e)
 simplified-placed [] n us f e cs h fits = refl
 simplified-placed (t ∷ path) n [] f e cs h fits = absurd h
@@ -74,7 +79,8 @@ simplified-placed (Columns c ∷ path) n (u ∷ us) f e cs h fits =
     ∙ ap (λ z. joined (scaled c z) u) (simplified-placed path n us f e cs h.1 fits)
 
 -- a function under tensors has room at a place under them, where it has room at the inner place
-pub room-placed : (path : Path) (n : ℕ) (us : List Sum) (f : Mapping) (e : Sum) (cs : ℕ → ℕ) → AreCopies path us cs → Fits n e cs → Fits n (simplified cs f e) cs → size_under path n ≤ 1048576 → HasRoomFor cs f e →
+pub room-placed : (path : Path) (n : ℕ) (us : List Sum) (f : Mapping) (e : Sum) (cs : ℕ → ℕ) → AreCopies path us cs →
+    Fits n e cs → Fits n (simplified cs f e) cs → size_under path n ≤ 1048576 → HasRoomFor cs f e →
     HasRoomFor cs (wrapped path n f) (placed path n us e)
 room-placed [] n us f e cs h fits made high room = room
 room-placed (t ∷ path) n [] f e cs h fits made high room = absurd h
@@ -84,7 +90,7 @@ room-placed (Blocks c ∷ path) n (u ∷ us) f e cs h fits made high room =
     let fit = h.0 in
     let inner = placed-fits path n us e cs h.1 fits in
     let after = placed-fits path n us (simplified cs f e) cs h.1 made in
-    let within : size ≤ c * size = le-mul_left c size (omega (arith, fit.small)) in
+    let within : size ≤ c * size = le-times c size (omega (arith, fit.small)) in
     let apart = divided-joined size u (placed path n us e) cs positive inner.proper inner.small in
     let is : simplified cs (wrapped path n f) (placed path n us e) ≡ placed path n us (simplified cs f e) = simplified-placed path n us f e cs h.1 fits in
     let whole : size * top u cs ≤ c * size = scaled-top size (top u cs) c fit.small in (
@@ -103,7 +109,7 @@ room-placed (Columns c ∷ path) n (u ∷ us) f e cs h fits made high room =
     let positive : 0 < size = copies-positive path n us cs h.1 (fits-positive n e cs fits) in
     let some : 0 < c = omega (arith, fit.small) in
     let within : size ≤ size * c = le-mul_of_pos_right {m = c} size some in
-    let count : c ≤ size * c = le-mul_left size c positive in
+    let count : c ≤ size * c = le-times size c positive in
     let apart = divided-joined c (placed path n us e) u cs some fit.proper fit.small in
     let is : simplified cs (wrapped path n f) (placed path n us e) ≡ placed path n us (simplified cs f e) = simplified-placed path n us f e cs h.1 fits in
     let whole : c * top (placed path n us (simplified cs f e)) cs ≤ size * c = scaled-top c (top (placed path n us (simplified cs f e)) cs) size after.small in (
@@ -118,14 +124,16 @@ room-placed (Columns c ∷ path) n (u ∷ us) f e cs h fits made high room =
 
 -- ---- at natural places
 
-pub simplified-wrapped : (path : Path) (n d : ℕ) (f : Mapping) (e : Sum) (cs : ℕ → ℕ) → AreCounts path n d cs → Fits n e cs →
+pub simplified-wrapped : (path : Path) (n d : ℕ) (f : Mapping) (e : Sum) (cs : ℕ → ℕ) → AreCounts path n d cs →
+    Fits n e cs →
     simplified cs (wrapped path n f) (place_sum path n d e) ≡ place_sum path n d (simplified cs f e)
 simplified-wrapped path n d f e cs h fits =
     ap (simplified cs (wrapped path n f)) (place_sum-placed path n d e)
     ∙ simplified-placed path n (variables_of path d) f e cs (counts-copies path n d cs h) fits
     ∙ sym (place_sum-placed path n d (simplified cs f e))
 
-pub room-wrapped : (path : Path) (n d : ℕ) (f : Mapping) (e : Sum) (cs : ℕ → ℕ) → AreCounts path n d cs → Fits n e cs → Fits n (simplified cs f e) cs → size_under path n ≤ 1048576 → HasRoomFor cs f e →
+pub room-wrapped : (path : Path) (n d : ℕ) (f : Mapping) (e : Sum) (cs : ℕ → ℕ) → AreCounts path n d cs → Fits n e cs →
+    Fits n (simplified cs f e) cs → size_under path n ≤ 1048576 → HasRoomFor cs f e →
     HasRoomFor cs (wrapped path n f) (place_sum path n d e)
 room-wrapped path n d f e cs h fits made high room =
     subst (HasRoomFor cs (wrapped path n f)) (sym (place_sum-placed path n d e)) (room-placed path n (variables_of path d) f e cs (counts-copies path n d cs h) fits made high room)

@@ -1,5 +1,6 @@
 -- The item of its copy that stands at a natural place.
-use Rattle.std.proofs.Common.{◌≡◌, ℕ, ◌+◌, ◌*◌, ◌<◌, ◌≤◌, arith, refl, sym, ap, ◌∙◌, [], ◌∷◌, subst, le-mul_of_pos_right}
+use Rattle.std.proofs.Common.{◌≡◌, ℕ, ◌+◌, ◌*◌, ◌<◌, ◌≤◌, arith, refl, sym, ap, ◌∙◌, [], ◌∷◌, subst}
+use Rattle.std.proofs.Common.{le-mul_of_pos_right}
 use Rattle.perm_algebra.specs.Affine.{Sum, constant, variable, scaled, joined, Divided, simplified}
 use Rattle.perm_algebra.specs.Room.{CanScale, CanJoin, HasRoomFor}
 use Rattle.perm_algebra.proofs.AffineLaws.{top-scaled}
@@ -11,10 +12,11 @@ use Rattle.sigma_lower.proofs.TreeLoops.PlaceRoom.{can_divide, can_join, can_sca
 use Rattle.sigma_lower.proofs.TreeLoops.PlaceSums.{place_sum-fits, size-positive, variable-fits}
 use Rattle.operators.specs.declared.tensor_paths.Tensor.TheVariants.{Blocks, Columns}
 use Rattle.operators.specs.TensorPaths.Path.{Path, size_under}
-use Rattle.sigma_lower.proofs.TreeTerms.Closed.{le-mul_left}
+use Rattle.sigma_spl.proofs.Fitting.{le-times}
 
 -- an item's place in its copy, at a natural place
-pub inner-place : (path : Path) (n d : ℕ) (e : Sum) (cs : ℕ → ℕ) → AreCounts path n d cs → Fits n e cs → simplified cs (inner_of path n) (place_sum path n d e) ≡ e
+pub inner-place : (path : Path) (n d : ℕ) (e : Sum) (cs : ℕ → ℕ) → AreCounts path n d cs → Fits n e cs →
+    simplified cs (inner_of path n) (place_sum path n d e) ≡ e
 inner-place [] n d e cs h fits = refl
 inner-place (Blocks c ∷ path) n d e cs h fits =
     let inside = place_sum-fits path n (d + 1) e cs h.2 fits in
@@ -31,14 +33,15 @@ inner-place (Columns c ∷ path) n d e cs h fits =
     ∙ inner-place path n (d + 1) e cs h.2 fits
 
 -- and every number on the way to it fits 64 bits
-pub room-inner : (path : Path) (n d : ℕ) (e : Sum) (cs : ℕ → ℕ) → AreCounts path n d cs → Fits n e cs → n ≤ 1048576 → size_under path n ≤ 1048576 → HasRoomFor cs (inner_of path n) (place_sum path n d e)
+pub room-inner : (path : Path) (n d : ℕ) (e : Sum) (cs : ℕ → ℕ) → AreCounts path n d cs → Fits n e cs → n ≤ 1048576 →
+    size_under path n ≤ 1048576 → HasRoomFor cs (inner_of path n) (place_sum path n d e)
 room-inner [] n d e cs h fits low high = tt
 room-inner (Blocks c ∷ path) n d e cs h fits low high =
     let size = size_under path n in
     let positive : 0 < size = size-positive path n (d + 1) cs h.2 in
     let v = variable 1 d (constant 0) in
     let inner = place_sum-fits path n (d + 1) e cs h.2 fits in
-    let within : size ≤ c * size = le-mul_left c size (omega (arith, h.1)) in
+    let within : size ≤ c * size = le-times c size (omega (arith, h.1)) in
     let apart = divided-joined size v (place_sum path n (d + 1) e) cs positive inner.proper inner.small in
     let is : simplified cs (inner_of path n) (place_sum path n (d + 1) e) ≡ e = inner-place path n (d + 1) e cs h.2 fits in (
       can_divide size v (place_sum path n (d + 1) e) cs positive (omega arith) inner.proper inner.small,
@@ -54,7 +57,7 @@ room-inner (Columns c ∷ path) n d e cs h fits low high =
     let fit = variable-fits c d cs h.0 h.1 in
     let positive : 0 < size = size-positive path n (d + 1) cs h.2 in
     let within : size ≤ size * c = le-mul_of_pos_right {m = c} size (omega (arith, h.1)) in
-    let count : c ≤ size * c = le-mul_left size c positive in
+    let count : c ≤ size * c = le-times size c positive in
     let apart = divided-joined c (place_sum path n (d + 1) e) v cs (omega (arith, h.1)) fit.proper fit.small in
     let is : simplified cs (inner_of path n) (place_sum path n (d + 1) e) ≡ e = inner-place path n (d + 1) e cs h.2 fits in (
       can_divide c (place_sum path n (d + 1) e) v cs (omega (arith, h.1)) (omega arith) fit.proper fit.small,

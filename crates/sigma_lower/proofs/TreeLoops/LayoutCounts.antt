@@ -1,10 +1,13 @@
 -- The passes of the layout of a request's tree count as those of the tree in the cost model.
-use Rattle.std.proofs.Common.{◌≡◌, ◌≢◌, ℕ, ◌+◌, ◌*◌, ◌%◌, ◌==◌, Bool, true, false, arith, refl, sym, ap, ap₂, ◌∙◌, List, [], ◌∷◌, ◌++◌, if◌then◌else◌, subst}
+use Rattle.std.proofs.Common.{◌≡◌, ◌≢◌, ℕ, ◌+◌, ◌*◌, ◌%◌, ◌==◌, Bool, true, false, arith, refl, sym, ap, ap₂, ◌∙◌, List}
+use Rattle.std.proofs.Common.{[], ◌∷◌, ◌++◌, if◌then◌else◌, subst}
 use Rattle.std.specs.Prelude.{map, nat_le}
 use Rattle.std.proofs.lemmas.Bool.Decides.{nat_tests}
 use Rattle.std.proofs.Math.Nat.{mod_self, one-mul}
-use Rattle.sigma_lower.specs.TreeLoops.Laws.{Counted, works, tiles, passes_of, tiled_passes, whole_passes, CountsAs, AllCount, IsForwardTree}
-use Rattle.sigma_lower.proofs.TreeLoops.FlatCounts.{ArePasses, IsFlatTree, IsPass, flat_node_passes, flat_root_passes, kernel-matches, not-kernel}
+use Rattle.sigma_lower.specs.TreeLoops.Laws.{Counted, works, tiles, passes_of, tiled_passes, whole_passes, CountsAs}
+use Rattle.sigma_lower.specs.TreeLoops.Laws.{AllCount, IsForwardTree}
+use Rattle.sigma_lower.proofs.TreeLoops.FlatCounts.{ArePasses, IsFlatTree, IsPass, flat_node_passes, flat_root_passes}
+use Rattle.sigma_lower.proofs.TreeLoops.FlatCounts.{kernel-matches}
 use Rattle.matrix_meaning.specs.Parts.{first_of, forward_by, rest_of}
 use Rattle.matrix_meaning.specs.declared.Dimensions.TheVariants.{One}
 use Rattle.matrix_meaning.specs.declared.Kind.{Kind}
@@ -21,9 +24,11 @@ use Rattle.kernel_gen.proofs.NodeTrees.{HasFields, left_fields, left_tree, rest_
 use Rattle.smp_rewrite.proofs.LayoutSteps.NodeTrees.{left_fits}
 use Rattle.tree_model.specs.Breakdown.{Breakdown, leaf, node, size_of, AllowsLeaf, AllowsRule}
 use Rattle.tree_model.specs.Cost.{is_kernel, is_plain, node_root}
+use Rattle.tree_model.proofs.PassLaws.{root_no_kernel}
 use Rattle.tree_model.specs.Passes as trees
 use Rattle.tree_model.specs.Whole.{cost_in}
-use Rattle.tree_model.specs.WholePasses.{RequestPass, pass_of, closed_by, flat_passes, node_passes, passes_in, shared_passes, request_passes}
+use Rattle.tree_model.specs.WholePasses.{RequestPass, pass_of, closed_by, flat_passes, node_passes, passes_in}
+use Rattle.tree_model.specs.WholePasses.{shared_passes, request_passes}
 use Rattle.tree_model.specs.declared.tree.Rule.{Rule}
 use Rattle.tree_model.specs.declared.tree.Rule.TheVariants.{Gt, Ct, Split, Dim}
 
@@ -101,21 +106,23 @@ module _ (c : Request) where
       (is_left : layout_size left ≡ size_of a) (is_right : layout_size right ≡ size_of b)
       (on_left : (k : ℕ) → AllCount c (passes_of k left) (node_passes (first_of p) k a))
       (on_right : (k : ℕ) → AllCount c (passes_of k right) (passes_in (rest_of p) k b)) where
-    rows : (k : ℕ) → AllCount c (passes_of (k * layout_size left) right) (passes_in (rest_of p) (k * size_of a) b)
-    rows k =
-        subst (λ z. AllCount c (passes_of (k * z) right) (passes_in (rest_of p) (k * size_of a) b)) (sym is_left)
-        (on_right (k * size_of a))
+    rows : (f : ℕ → ℕ) → AllCount c (passes_of (f (layout_size left)) right) (passes_in (rest_of p) (f (size_of a)) b)
+    rows f =
+        subst (λ z. AllCount c (passes_of (f z) right) (passes_in (rest_of p) (f (size_of a)) b)) (sym is_left)
+        (on_right (f (size_of a)))
 
-    columns : (k : ℕ) → AllCount c (passes_of (k * layout_size right) left) (node_passes (first_of p) (k * size_of b) a)
-    columns k =
-        subst (λ z. AllCount c (passes_of (k * z) left) (node_passes (first_of p) (k * size_of b) a)) (sym is_right)
-        (on_left (k * size_of b))
+    columns : (f : ℕ → ℕ) →
+        AllCount c (passes_of (f (layout_size right)) left) (node_passes (first_of p) (f (size_of b)) a)
+    columns f =
+        subst (λ z. AllCount c (passes_of (f z) left) (node_passes (first_of p) (f (size_of b)) a)) (sym is_right)
+        (on_left (f (size_of b)))
 
-    both : (k : ℕ) → AllCount c (passes_of (k * layout_size left) right ++ passes_of (k * layout_size right) left)
-        (passes_in (rest_of p) (k * size_of a) b ++ node_passes (first_of p) (k * size_of b) a)
-    both k =
-        counts-append (passes_of (k * layout_size left) right) (passes_of (k * layout_size right) left)
-        (passes_in (rest_of p) (k * size_of a) b) (node_passes (first_of p) (k * size_of b) a) (rows k) (columns k)
+    both : (f : ℕ → ℕ) →
+        AllCount c (passes_of (f (layout_size left)) right ++ passes_of (f (layout_size right)) left)
+        (passes_in (rest_of p) (f (size_of a)) b ++ node_passes (first_of p) (f (size_of b)) a)
+    both f =
+        counts-append (passes_of (f (layout_size left)) right) (passes_of (f (layout_size right)) left)
+        (passes_in (rest_of p) (f (size_of a)) b) (node_passes (first_of p) (f (size_of b)) a) (rows f) (columns f)
 
     dim-pick : (k root : ℕ) (w : PlainWork) (short few : Bool) → short ≡ few →
         (short ≡ true → CountsAs c (works k w false) (pass_of p (trees.nodes k (node Dim a b) false))) →
@@ -123,21 +130,11 @@ module _ (c : Request) where
         (if few then pass_of p (trees.nodes k (node Dim a b) false) ∷ []
         else passes_in (rest_of p) (k * size_of a) b ++ node_passes (first_of p) (k * size_of b) a)
     dim-pick k root w true true e h = (h refl, tt)
-    dim-pick k root w false false e h = both k
+    dim-pick k root w false false e h = both (λ n. k * n)
     dim-pick k root w true false e h = absurd (cc)
     dim-pick k root w false true e h = absurd (cc)
 
     -- the whole of a dim that processors or lanes share
-    rows-once : AllCount c (passes_of (layout_size left) right) (passes_in (rest_of p) (size_of a) b)
-    rows-once =
-        subst (λ z. AllCount c (passes_of z right) (passes_in (rest_of p) (size_of a) b)) (sym is_left)
-        (on_right (size_of a))
-
-    columns-once : AllCount c (passes_of (layout_size right) left) (node_passes (first_of p) (size_of b) a)
-    columns-once =
-        subst (λ z. AllCount c (passes_of z left) (node_passes (first_of p) (size_of b) a)) (sym is_right)
-        (on_left (size_of b))
-
     shared-pick : (root : ℕ) (one : Bool) →
         AllCount c (if one then passes_of 1 (by Dim root left right) else tiled_passes (by Dim root left right))
         (if one then passes_in (rest_of p) (size_of a) b ++ node_passes (first_of p) (size_of b) a
@@ -149,15 +146,13 @@ module _ (c : Request) where
         ≡ passes_of (layout_size left) right ++ passes_of (layout_size right) left =
         ap₂ (λ x y. passes_of x right ++ passes_of y left) (one-mul (layout_size left)) (one-mul (layout_size right)) in
         subst (λ zs. AllCount c zs (passes_in (rest_of p) (size_of a) b ++ node_passes (first_of p) (size_of b) a))
-        (sym same)
-        (counts-append (passes_of (layout_size left) right) (passes_of (layout_size right) left)
-        (passes_in (rest_of p) (size_of a) b) (node_passes (first_of p) (size_of b) a) rows-once columns-once)
+        (sym same) (both (λ n. n))
     shared-pick root false = (
       tile-counts p,
       counts-append (passes_of (layout_size left) right) (tiles false ∷ passes_of (layout_size right) left)
           (passes_in (rest_of p) (size_of a) b)
-          (pass_of p (trees.tiles false) ∷ node_passes (first_of p) (size_of b) a) rows-once
-          (tile-counts p, columns-once),
+          (pass_of p (trees.tiles false) ∷ node_passes (first_of p) (size_of b) a) (rows (λ n. n))
+          (tile-counts p, columns (λ n. n)),
     )
 
   -- straight-line code of a dim
@@ -170,19 +165,16 @@ module _ (c : Request) where
       pass-counts p (works k (node_work p (node Dim a b)) false) (trees.nodes k (node Dim a b) false) like
       (kernel-matches c.size p Dim a b l k short cost, refl)
 
+  alone-counts : (p : Request) (count : ℕ) (t : Breakdown) → HasFields c p → IsNodeTree p t → is_plain p ≡ true →
+      p.dimensions ≡ One → AllCount c (passes_of count (layout_of p t)) (node_passes p count t)
+  alone-counts p count t like h plain one = node-counts p count t like (flat p t h (plain-fits p t plain) one)
+
   all-in : (p : Request) (count : ℕ) (t : Breakdown) → HasFields c p → IsNodeTree p t → is_plain p ≡ true →
       AllCount c (passes_of count (layout_of p t)) (passes_in p count t)
-  all-in p count (leaf d) like h plain =
-      node-counts p count (leaf d) like (flat p (leaf d) h (plain-fits p (leaf d) plain) h.tree.0)
-  all-in p count (node Gt a b) like h plain =
-      node-counts p count (node Gt a b) like
-      (flat p (node Gt a b) h (plain-fits p (node Gt a b) plain) h.tree.2.0)
-  all-in p count (node Ct a b) like h plain =
-      node-counts p count (node Ct a b) like
-      (flat p (node Ct a b) h (plain-fits p (node Ct a b) plain) h.tree.2.0)
-  all-in p count (node Split a b) like h plain =
-      node-counts p count (node Split a b) like
-      (flat p (node Split a b) h (plain-fits p (node Split a b) plain) h.tree.2.0)
+  all-in p count (leaf d) like h plain = alone-counts p count (leaf d) like h plain h.tree.0
+  all-in p count (node Gt a b) like h plain = alone-counts p count (node Gt a b) like h plain h.tree.2.0
+  all-in p count (node Ct a b) like h plain = alone-counts p count (node Ct a b) like h plain h.tree.2.0
+  all-in p count (node Split a b) like h plain = alone-counts p count (node Split a b) like h plain h.tree.2.0
   all-in p count (node Dim a b) like h plain =
       let d = size_of a * size_of b in
       let first = left_tree p Dim a b h in
@@ -281,12 +273,13 @@ module _ (p : Request) (a b : Breakdown) (h : IsForwardTree p (node Dim a b)) wh
   dim-whole true is = by-lanes (nat_le p.lanes 1) refl is
   dim-whole false is =
       shared-root (is_kernel p d) (by Dim (node_root p d) (layout_of first a) (layout_of rest b))
-      (not-kernel p d h.size is)
+      (root_no_kernel p d h.size is)
       (shared-pick p p a b (layout_of first a) (layout_of rest b) (layouts_have_size first a) (layouts_have_size rest b)
       on-first on-rest (node_root p d) (nat_le p.lanes 1))
 
 -- the passes of a tree's layout count as those of the tree
-pub layouts_count : (p : Request) (t : Breakdown) → IsForwardTree p t → AllCount p (whole_passes p.lanes (layout_of p t)) (request_passes p t)
+pub layouts_count : (p : Request) (t : Breakdown) → IsForwardTree p t →
+    AllCount p (whole_passes p.lanes (layout_of p t)) (request_passes p t)
 layouts_count p (leaf d) h = flat-counts p (leaf d) h h.tree.0 (no-inverse-leaf p.kind d h.tree.1)
 layouts_count p (node Gt a b) h =
     flat-counts p (node Gt a b) h h.tree.2.0 (no-inverse-rule p.kind Gt (size_of a) (size_of b) h.tree.2.1)

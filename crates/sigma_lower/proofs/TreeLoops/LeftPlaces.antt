@@ -1,5 +1,6 @@
 -- The places of the left part of a shared root: those of the part alone, in the copies that processors, lanes and loops name.
-use Rattle.std.proofs.Common.{◌≡◌, ℕ, ◌+◌, ◌*◌, ◌/◌, ◌<◌, ◌≤◌, arith, refl, sym, ap, ap₂, ◌∙◌, List, [], ◌∷◌, ◌++◌, length, if◌then◌else◌, subst, mul_comm}
+use Rattle.std.proofs.Common.{◌≡◌, ℕ, ◌+◌, ◌*◌, ◌/◌, ◌<◌, ◌≤◌, arith, refl, sym, ap, ap₂, ◌∙◌, List, [], ◌∷◌, ◌++◌}
+use Rattle.std.proofs.Common.{length, if◌then◌else◌, subst, mul_comm}
 use Rattle.std.specs.Prelude.{◌==◌, map, Option, None, Some}
 use Rattle.std.specs.Option.{option_map}
 use Rattle.index_fn.specs.Mapping.{Mapping}
@@ -10,19 +11,24 @@ use Rattle.perm_algebra.specs.Room.{CanScale, CanJoin, HasRoomFor}
 use Rattle.perm_algebra.proofs.AffineLaws.{top-scaled}
 use Rattle.perm_algebra.proofs.Shape.{divided-joined}
 use Rattle.perm_algebra.proofs.Sizes.{joined-end, scaled-one}
+use Rattle.std.proofs.lemmas.Option.{same_Some}
 use Rattle.sigma_lower.specs.TreeLoops.Merge.{PlainDiagonal, PlainPass}
-use Rattle.sigma_lower.specs.TreeLoops.Placed.{Fits, IsCarried, place_sum, AreCounts, all_simplified, diagonal_places, IsLimitedPass}
+use Rattle.sigma_lower.specs.TreeLoops.Placed.{Fits, IsCarried, place_sum, AreCounts, all_simplified, diagonal_places}
+use Rattle.sigma_lower.specs.TreeLoops.Placed.{IsLimitedPass}
 use Rattle.sigma_lower.proofs.TreeLoops.InCopies.{placed, AreCopies, placed-fits}
-use Rattle.sigma_lower.proofs.TreeLoops.LineMoves.{LeadsTo, AreThree, leads-none, leads-step, leads-join, leads-same, dealt-leads}
+use Rattle.sigma_lower.proofs.TreeLoops.LineMoves.{LeadsTo, AreThree, leads-none, leads-step, leads-join, leads-same}
+use Rattle.sigma_lower.proofs.TreeLoops.LineMoves.{dealt-leads}
 use Rattle.sigma_lower.proofs.TreeLoops.Moved.{placed-columns}
 use Rattle.sigma_lower.proofs.TreeLoops.PlaceLimits.{IsMultiplied, IsPlacedPass}
 use Rattle.sigma_lower.proofs.TreeLoops.PlaceRoom.{can_scale, can_join, can_divide}
 use Rattle.sigma_lower.proofs.TreeLoops.PlaceSums.{parts-fit, size-positive}
 use Rattle.sigma_lower.proofs.TreeLoops.RightPlaces.{wide-all}
 use Rattle.sigma_lower.proofs.TreeLoops.RootPasses.{on_all, if_dealt, left_diagonal, left_pass}
-use Rattle.sigma_lower.proofs.TreeLoops.RootShares.{AreShares, columns_some, tiles_are, tiles_fill, dealt_small, columns_high, rows_high}
+use Rattle.sigma_lower.proofs.TreeLoops.RootShares.{AreShares, columns_some, tiles_are, tiles_fill, dealt_small}
+use Rattle.sigma_lower.proofs.TreeLoops.RootShares.{columns_high, rows_high}
 use Rattle.sigma_lower.proofs.TreeLoops.Staying.{StaysIn, stays-begin, carried-end, carried-push}
-use Rattle.sigma_lower.proofs.TreeLoops.WithinPlaces.{size-all, simplified-within, room-within, natural-placed, natural-copies}
+use Rattle.sigma_lower.proofs.TreeLoops.WithinPlaces.{size-all, simplified-within, room-within, natural-placed}
+use Rattle.sigma_lower.proofs.TreeLoops.WithinPlaces.{natural-copies}
 use Rattle.sigma_lower.specs.TreeTerms.Root.{left_path}
 use Rattle.sigma_spl.specs.Work.{work_size}
 use Rattle.sigma_lower.specs.TreeTerms.Wrapped.{inner_of}
@@ -35,7 +41,8 @@ pub size_under-append : (path more : Path) (n : ℕ) → size_under (path ++ mor
 size_under-append [] more n = refl
 size_under-append (t ∷ path) more n = ap (grown t) (size_under-append path more n)
 
-pub place_sum-append : (path more : Path) (n d : ℕ) (e : Sum) → place_sum (path ++ more) n d e ≡ place_sum path (size_under more n) d (place_sum more n (d + length path) e)
+pub place_sum-append : (path more : Path) (n d : ℕ) (e : Sum) →
+    place_sum (path ++ more) n d e ≡ place_sum path (size_under more n) d (place_sum more n (d + length path) e)
 place_sum-append [] more n d e = ap (λ i. place_sum more n i e) (omega arith)
 place_sum-append (Blocks c ∷ path) more n d e =
     ap₂ (λ size g. joined (scaled size (variable 1 d (constant 0))) g) (size_under-append path more n)
@@ -43,7 +50,8 @@ place_sum-append (Blocks c ∷ path) more n d e =
 place_sum-append (Columns c ∷ path) more n d e =
     ap (λ g. joined (scaled c g) (variable 1 d (constant 0))) (place_sum-append path more n (d + 1) e ∙ ap (λ i. place_sum path (size_under more n) (d + 1) (place_sum more n i e)) (omega arith))
 
-pub counts-append : (path more : Path) (n d : ℕ) (cs : ℕ → ℕ) → AreCounts (path ++ more) n d cs → AreCounts path (size_under more n) d cs × AreCounts more n (d + length path) cs
+pub counts-append : (path more : Path) (n d : ℕ) (cs : ℕ → ℕ) → AreCounts (path ++ more) n d cs →
+    AreCounts path (size_under more n) d cs × AreCounts more n (d + length path) cs
 counts-append [] more n d cs h = (size-positive more n d cs h, subst (λ i. AreCounts more n i cs) (omega arith) h)
 counts-append (Blocks c ∷ path) more n d cs h =
     let inner = counts-append path more n (d + 1) cs h.2 in ((h.0, h.1, inner.0), subst (λ i. AreCounts more n i cs) (omega arith) inner.1)
@@ -52,13 +60,10 @@ counts-append (Columns c ∷ path) more n d cs h =
 
 -- ---- diagonals
 
-some-is : {A : Type 0} (a b : A) → ◌≡◌ {A = Option A} (Some a) (Some b) → a ≡ b
-some-is a b e = cc
-
--- what is mapped to something is something
-pub mapped-some : {A B : Type 0} (f : A → B) (o : Option A) (x : B) → option_map f o ≡ Some x → (d : A) × (o ≡ Some d) × (f d ≡ x)
+pub mapped-some : {A B : Type 0} (f : A → B) (o : Option A) (x : B) → option_map f o ≡ Some x →
+    (d : A) × (o ≡ Some d) × (f d ≡ x)
 mapped-some f None x e = absurd (cc)
-mapped-some f (Some d) x e = (d, refl, some-is (f d) x e)
+mapped-some f (Some d) x e = (d, refl, same_Some (f d) x e)
 
 -- ---- a pass of the part alone, in all copies
 
@@ -86,7 +91,8 @@ module _ (size p v m s : ℕ) (h : AreShares size p v m s) where
     pub lane : Sum
     pub column : Sum
     pub copies : AreCopies whole (lane ∷ column ∷ []) cs
-    pub dealt : (k : ℕ) (e : Sum) → k ≡ p * m → Fits m e cs → LeadsTo cs size (if_dealt k p v m s) (place_sum (left_path p v s) m d e) (placed whole m (lane ∷ column ∷ []) e)
+    pub dealt : (k : ℕ) (e : Sum) → k ≡ p * m → Fits m e cs →
+        LeadsTo cs size (if_dealt k p v m s) (place_sum (left_path p v s) m d e) (placed whole m (lane ∷ column ∷ []) e)
 
   -- of a processor, a lane and a loop by these sums
   abbrev pub spread-by : (cs : ℕ → ℕ) (d : ℕ) (q l j : Sum) → AreCopies three (q ∷ l ∷ j ∷ []) cs →
@@ -122,7 +128,9 @@ module _ (size p v m s : ℕ) (h : AreShares size p v m s) where
       (natural-placed three m d)
 
   -- what a permutation of the m words does to the places of all copies
-  pub mapped-leads : (cs : ℕ → ℕ) (us : List Sum) (fs : List Mapping) (e : Sum) → AreCopies whole us cs → StaysIn cs m fs e → LeadsTo cs size (map (on_all v m s) fs) (placed whole m us e) (placed whole m us (all_simplified cs fs e))
+  pub mapped-leads : (cs : ℕ → ℕ) (us : List Sum) (fs : List Mapping) (e : Sum) → AreCopies whole us cs →
+      StaysIn cs m fs e → LeadsTo cs size (map (on_all v m s) fs) (placed whole m us e)
+      (placed whole m us (all_simplified cs fs e))
   mapped-leads cs us [] e copies stays = leads-none cs size (placed whole m us e) (placed whole m us e) (subst (λ n. Fits n (placed whole m us e) cs) whole_fills (placed-fits whole m us e cs copies stays)) refl
   mapped-leads cs us (f ∷ fs) e copies stays =
       let here = placed whole m us e in
@@ -134,9 +142,11 @@ module _ (size p v m s : ℕ) (h : AreShares size p v m s) where
       (mapped-leads cs us fs (simplified cs f e) copies stays.2)
 
   -- functions of the part alone, at the natural place under its path and the root's
-  pub part-leads : (cs : ℕ → ℕ) (path : Path) (fs : List Mapping) (n k : ℕ) (e : Sum) (sp : Spread cs 0) → size_under path n ≡ m → k ≡ p * m → StaysIn cs m fs (place_sum path n (0 + length (left_path p v s)) e) →
+  pub part-leads : (cs : ℕ → ℕ) (path : Path) (fs : List Mapping) (n k : ℕ) (e : Sum) (sp : Spread cs 0) →
+      size_under path n ≡ m → k ≡ p * m → StaysIn cs m fs (place_sum path n (0 + length (left_path p v s)) e) →
       LeadsTo cs size (if_dealt k p v m s ++ map (on_all v m s) fs) (place_sum (left_path p v s ++ path) n 0 e)
-      (placed whole m (sp.lane ∷ sp.column ∷ []) (all_simplified cs fs (place_sum path n (0 + length (left_path p v s)) e)))
+      (placed whole m (sp.lane ∷ sp.column ∷ []) (all_simplified cs fs
+      (place_sum path n (0 + length (left_path p v s)) e)))
   part-leads cs path fs n k e sp fills is stays =
       let inner = place_sum path n (0 + length (left_path p v s)) e in
       let same : place_sum (left_path p v s ++ path) n 0 e ≡ place_sum (left_path p v s) m 0 inner =
@@ -161,8 +171,10 @@ module _ (size p v m s : ℕ) (h : AreShares size p v m s) where
       }
 
   -- the item of its copy, at the place in all copies
-  pub item-whole : (cs : ℕ → ℕ) (lane column : Sum) (path : Path) (n : ℕ) (y : Sum) → Fits v lane cs → Fits (s / v) column cs →
-      simplified cs (inner_of (Columns s ∷ path) n) (placed whole m (lane ∷ column ∷ []) y) ≡ simplified cs (inner_of path n) y
+  pub item-whole : (cs : ℕ → ℕ) (lane column : Sum) (path : Path) (n : ℕ) (y : Sum) → Fits v lane cs →
+      Fits (s / v) column cs →
+      simplified cs (inner_of (Columns s ∷ path) n) (placed whole m (lane ∷ column ∷ []) y)
+      ≡ simplified cs (inner_of path n) y
   item-whole cs lane column path n y low high =
       let is = numbered cs lane column y low high in
       let some : 0 < s = omega (arith, h.right) in
@@ -193,8 +205,11 @@ module _ (size p v m s : ℕ) (h : AreShares size p v m s) where
       )
 
   -- the places of a diagonal within the part are those in all copies
-  left_multiplied : (cs : ℕ → ℕ) (sp : Spread cs 0) (q : PlainPass) (e : Sum) (o : PlainDiagonal) → size_under q.path (work_size q.work) ≡ m → IsMultiplied cs m q o (0 + length (left_path p v s)) e → o.rows * o.cols ≤ m →
-      IsCarried cs size (o.rows * o.cols) (diagonal_places (left_diagonal p v m s o)) (place_sum (left_path p v s ++ q.path) (work_size q.work) 0 e)
+  left_multiplied : (cs : ℕ → ℕ) (sp : Spread cs 0) (q : PlainPass) (e : Sum) (o : PlainDiagonal) →
+      size_under q.path (work_size q.work) ≡ m → IsMultiplied cs m q o (0 + length (left_path p v s)) e →
+      o.rows * o.cols ≤ m →
+      IsCarried cs size (o.rows * o.cols) (diagonal_places (left_diagonal p v m s o))
+      (place_sum (left_path p v s ++ q.path) (work_size q.work) 0 e)
   left_multiplied cs sp q e o fills part within =
       let n : ℕ = work_size q.work in
       let rc : ℕ = o.rows * o.cols in
@@ -212,7 +227,8 @@ module _ (size p v m s : ℕ) (h : AreShares size p v m s) where
       (subst (λ g. Fits rc g cs) (sym (ap (simplified cs item) lead.is ∙ same)) part.fits)
 
   -- a pass of the part alone within the limits is so in all copies
-  pub left_limited : (c : Target) (q : PlainPass) → c.size ≡ size → size_under q.path (work_size q.work) ≡ m → IsPlacedPass m [] m q → IsLimitedPass c (left_pass p v m s q)
+  pub left_limited : (c : Target) (q : PlainPass) → c.size ≡ size → size_under q.path (work_size q.work) ≡ m →
+      IsPlacedPass m [] m q → IsLimitedPass c (left_pass p v m s q)
   left_limited c q sized fills placed_part cs e counts fits name =
       let n : ℕ = work_size q.work in
       let d : ℕ = 0 + length (left_path p v s) in

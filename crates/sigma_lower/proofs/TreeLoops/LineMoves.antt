@@ -1,5 +1,6 @@
 -- The permutations of lines and of vectors, at natural places: each puts the sums that name a copy into another order.
-use Rattle.std.proofs.Common.{◌≡◌, ℕ, ◌*◌, ◌/◌, ◌%◌, ◌<◌, ◌≤◌, Bool, true, false, arith, refl, sym, ap, ap₂, ◌∙◌, List, [], ◌∷◌, ◌++◌, if◌then◌else◌, subst, mul_comm, mod-lt, div-lt_iff_lt-mul}
+use Rattle.std.proofs.Common.{◌≡◌, ℕ, ◌*◌, ◌/◌, ◌%◌, ◌<◌, ◌≤◌, Bool, true, false, arith, refl, sym, ap, ap₂, ◌∙◌, List}
+use Rattle.std.proofs.Common.{[], ◌∷◌, ◌++◌, if◌then◌else◌, subst, mul_comm, mod-lt, div-lt_iff_lt-mul}
 use Rattle.std.specs.Prelude.{◌==◌}
 use Rattle.std.proofs.Math.Nat.{div-add-mod'}
 use Rattle.index_fn.specs.Mapping.{Mapping, Strided}
@@ -31,25 +32,30 @@ pub leads-none : (cs : ℕ → ℕ) (n : ℕ) (from to : Sum) → Fits n from cs
 leads-none cs n from to fits is = record { is = is; stays = fits }
 
 -- one function, at another form of the sum
-pub leads-step : (cs : ℕ → ℕ) (n : ℕ) (f : Mapping) (fs : List Mapping) (from mid next to : Sum) → from ≡ mid → Fits n mid cs → HasRoomFor cs f mid → simplified cs f mid ≡ next → LeadsTo cs n fs next to → LeadsTo cs n (f ∷ fs) from to
+pub leads-step : (cs : ℕ → ℕ) (n : ℕ) (f : Mapping) (fs : List Mapping) (from mid next to : Sum) → from ≡ mid →
+    Fits n mid cs → HasRoomFor cs f mid → simplified cs f mid ≡ next → LeadsTo cs n fs next to →
+    LeadsTo cs n (f ∷ fs) from to
 leads-step cs n f fs from mid next to same fits room made more =
     record {
       is = ap (λ e. all_simplified cs fs (simplified cs f e)) same ∙ ap (all_simplified cs fs) made ∙ more.is;
       stays = subst (StaysIn cs n (f ∷ fs)) (sym same) (fits, room, subst (StaysIn cs n fs) (sym made) more.stays);
     }
 
-pub leads-join : (cs : ℕ → ℕ) (n : ℕ) (fs gs : List Mapping) (from mid to : Sum) → LeadsTo cs n fs from mid → LeadsTo cs n gs mid to → LeadsTo cs n (fs ++ gs) from to
+pub leads-join : (cs : ℕ → ℕ) (n : ℕ) (fs gs : List Mapping) (from mid to : Sum) → LeadsTo cs n fs from mid →
+    LeadsTo cs n gs mid to → LeadsTo cs n (fs ++ gs) from to
 leads-join cs n fs gs from mid to h k =
     record {
       is = all_simplified-join cs fs gs from ∙ ap (all_simplified cs gs) h.is ∙ k.is;
       stays = stays-join cs n fs gs from h.stays (subst (StaysIn cs n gs) (sym h.is) k.stays);
     }
 
-pub leads-pick : (cs : ℕ → ℕ) (n : ℕ) (b : Bool) (fs : List Mapping) (from to : Sum) → (b ≡ true → LeadsTo cs n [] from to) → LeadsTo cs n fs from to → LeadsTo cs n (if b then [] else fs) from to
+pub leads-pick : (cs : ℕ → ℕ) (n : ℕ) (b : Bool) (fs : List Mapping) (from to : Sum) →
+    (b ≡ true → LeadsTo cs n [] from to) → LeadsTo cs n fs from to → LeadsTo cs n (if b then [] else fs) from to
 leads-pick cs n true fs from to h k = h refl
 leads-pick cs n false fs from to h k = k
 
-pub leads-same : (cs : ℕ → ℕ) (n : ℕ) (fs : List Mapping) (from mid to : Sum) → from ≡ mid → LeadsTo cs n fs mid to → LeadsTo cs n fs from to
+pub leads-same : (cs : ℕ → ℕ) (n : ℕ) (fs : List Mapping) (from mid to : Sum) → from ≡ mid → LeadsTo cs n fs mid to →
+    LeadsTo cs n fs from to
 leads-same cs n fs from mid to same h = subst (λ e. LeadsTo cs n fs e to) (sym same) h
 
 -- ---- a stride permutation under tensors
@@ -58,13 +64,16 @@ some-of : (n : ℕ) (e : Sum) (cs : ℕ → ℕ) → Fits n e cs → 0 < n
 some-of n e cs f = omega (arith, f.small)
 
 -- at a block of copies it makes a column of them
-pub flipped : (ts : Path) (r s : ℕ) (us : List Sum) (u e : Sum) (cs : ℕ → ℕ) → AreCopies ts us cs → Fits r u cs → Fits s e cs →
-    simplified cs (wrapped (within_all ts []) (r * s) (Strided r s)) (placed ts (r * s) us (joined (scaled s u) e)) ≡ placed ts (r * s) us (joined (scaled r e) u)
+pub flipped : (ts : Path) (r s : ℕ) (us : List Sum) (u e : Sum) (cs : ℕ → ℕ) → AreCopies ts us cs → Fits r u cs →
+    Fits s e cs →
+    simplified cs (wrapped (within_all ts []) (r * s) (Strided r s)) (placed ts (r * s) us (joined (scaled s u) e))
+    ≡ placed ts (r * s) us (joined (scaled r e) u)
 flipped ts r s us u e cs h f g =
     simplified-within ts (r * s) us (Strided r s) (joined (scaled s u) e) cs h (parts-fit r s u e cs (some-of s e cs g) f g)
     ∙ ap (placed ts (r * s) us) (turned-joined r s u e cs (some-of s e cs g) g.proper g.small)
 
-pub flipped-room : (ts : Path) (r s : ℕ) (us : List Sum) (u e : Sum) (cs : ℕ → ℕ) → AreCopies ts us cs → Fits r u cs → Fits s e cs → size_under ts (r * s) ≤ 1048576 → r * s ≤ 1048576 →
+pub flipped-room : (ts : Path) (r s : ℕ) (us : List Sum) (u e : Sum) (cs : ℕ → ℕ) → AreCopies ts us cs → Fits r u cs →
+    Fits s e cs → size_under ts (r * s) ≤ 1048576 → r * s ≤ 1048576 →
     HasRoomFor cs (wrapped (within_all ts []) (r * s) (Strided r s)) (placed ts (r * s) us (joined (scaled s u) e))
 flipped-room ts r s us u e cs h f g high small =
     let turned = turned-joined r s u e cs (some-of s e cs g) g.proper g.small in
@@ -79,16 +88,21 @@ pub record AreThree (cs : ℕ → ℕ) (p v k : ℕ) (q l j : Sum) : Type 0 wher
   pub lane : Fits v l cs
   pub other : Fits k j cs
 
-dealt-swapped : (p v k m : ℕ) (q l j e : Sum) → placed (Blocks p ∷ Columns v ∷ Columns k ∷ []) m (q ∷ l ∷ j ∷ []) e ≡ placed (Columns v ∷ Columns k ∷ Blocks p ∷ []) m (l ∷ j ∷ q ∷ []) e
+dealt-swapped : (p v k m : ℕ) (q l j e : Sum) → placed (Blocks p ∷ Columns v ∷ Columns k ∷ []) m (q ∷ l ∷ j ∷ []) e
+    ≡ placed (Columns v ∷ Columns k ∷ Blocks p ∷ []) m (l ∷ j ∷ q ∷ []) e
 dealt-swapped p v k m q l j e = placed-swap p v (Columns k ∷ []) m q l (j ∷ []) e ∙ ap (λ g. joined (scaled v g) l) (placed-swap p k [] m q j [] e)
 
 -- on one processor nothing is dealt
-dealt-one : (p v k m : ℕ) (q l j e : Sum) (cs : ℕ → ℕ) → p ≡ 1 → Fits p q cs → placed (Columns v ∷ Columns k ∷ Blocks p ∷ []) m (l ∷ j ∷ q ∷ []) e ≡ placed (Columns v ∷ Columns k ∷ Columns p ∷ []) m (l ∷ j ∷ q ∷ []) e
+dealt-one : (p v k m : ℕ) (q l j e : Sum) (cs : ℕ → ℕ) → p ≡ 1 → Fits p q cs →
+    placed (Columns v ∷ Columns k ∷ Blocks p ∷ []) m (l ∷ j ∷ q ∷ []) e
+    ≡ placed (Columns v ∷ Columns k ∷ Columns p ∷ []) m (l ∷ j ∷ q ∷ []) e
 dealt-one p v k m q l j e cs one f =
     ap (λ g. joined (scaled v (joined (scaled k g) j)) l) (one-copy (Blocks p) [] m q [] e cs one f ∙ sym (one-copy (Columns p) [] m q [] e cs one f))
 
-pub dealt-leads : (p v k m n size : ℕ) (q l j e : Sum) (cs : ℕ → ℕ) → AreThree cs p v k q l j → Fits m e cs → size ≡ p * m → size_under (Blocks p ∷ Columns v ∷ Columns k ∷ []) m ≡ n → n ≤ 1048576 → p * m ≤ 1048576 →
-    LeadsTo cs n (if p == 1 then [] else wrapped (within_all (Columns v ∷ Columns k ∷ []) []) size (Strided p m) ∷ []) (placed (Blocks p ∷ Columns v ∷ Columns k ∷ []) m (q ∷ l ∷ j ∷ []) e)
+pub dealt-leads : (p v k m n size : ℕ) (q l j e : Sum) (cs : ℕ → ℕ) → AreThree cs p v k q l j → Fits m e cs →
+    size ≡ p * m → size_under (Blocks p ∷ Columns v ∷ Columns k ∷ []) m ≡ n → n ≤ 1048576 → p * m ≤ 1048576 →
+    LeadsTo cs n (if p == 1 then [] else wrapped (within_all (Columns v ∷ Columns k ∷ []) []) size (Strided p m) ∷ [])
+    (placed (Blocks p ∷ Columns v ∷ Columns k ∷ []) m (q ∷ l ∷ j ∷ []) e)
     (placed (Columns v ∷ Columns k ∷ Columns p ∷ []) m (l ∷ j ∷ q ∷ []) e)
 dealt-leads p v k m n size q l j e cs three fits sized whole high small =
     let from = placed (Blocks p ∷ Columns v ∷ Columns k ∷ []) m (q ∷ l ∷ j ∷ []) e in
@@ -110,9 +124,12 @@ dealt-leads p v k m n size q l j e cs three fits sized whole high small =
 
 -- ---- the root's permutation: of vectors in each processor's block, and of lines between processors
 
-pub turned-leads : (p v k s n : ℕ) (q l j e : Sum) (cs : ℕ → ℕ) → AreThree cs p v k q l j → Fits s e cs → size_under (Blocks p ∷ Columns v ∷ Blocks k ∷ []) s ≡ n → n ≤ 1048576 → p * s ≤ 1048576 → k * s ≤ 1048576 →
-    LeadsTo cs n (wrapped (within_all (Blocks p ∷ Columns v ∷ []) []) (k * s) (Strided k s) ∷ (if p == 1 then [] else wrapped (within_all (Columns v ∷ Columns k ∷ []) []) (p * s) (Strided p s) ∷ []))
-    (placed (Blocks p ∷ Columns v ∷ Blocks k ∷ []) s (q ∷ l ∷ j ∷ []) e) (placed (Columns v ∷ Columns k ∷ Columns p ∷ []) s (l ∷ j ∷ q ∷ []) e)
+pub turned-leads : (p v k s n : ℕ) (q l j e : Sum) (cs : ℕ → ℕ) → AreThree cs p v k q l j → Fits s e cs →
+    size_under (Blocks p ∷ Columns v ∷ Blocks k ∷ []) s ≡ n → n ≤ 1048576 → p * s ≤ 1048576 → k * s ≤ 1048576 →
+    LeadsTo cs n (wrapped (within_all (Blocks p ∷ Columns v ∷ []) []) (k * s) (Strided k s)
+    ∷ (if p == 1 then [] else wrapped (within_all (Columns v ∷ Columns k ∷ []) []) (p * s) (Strided p s) ∷ []))
+    (placed (Blocks p ∷ Columns v ∷ Blocks k ∷ []) s (q ∷ l ∷ j ∷ []) e)
+    (placed (Columns v ∷ Columns k ∷ Columns p ∷ []) s (l ∷ j ∷ q ∷ []) e)
 turned-leads p v k s n q l j e cs three fits whole high lines rows =
     let from = placed (Blocks p ∷ Columns v ∷ Blocks k ∷ []) s (q ∷ l ∷ j ∷ []) e in
     let next = placed (Blocks p ∷ Columns v ∷ Columns k ∷ []) s (q ∷ l ∷ j ∷ []) e in
@@ -132,7 +149,8 @@ blocks-size (Blocks b ∷ path) n c h = ap (λ k. b * k) (blocks-size path n c h
 blocks-size (Columns b ∷ path) n c h = absurd h
 
 -- columns inside of blocks, as columns of them
-columns-outside : (path : Path) (n c : ℕ) (us : List Sum) (e w : Sum) → AreBlocks path → placed path (n * c) us (joined (scaled c e) w) ≡ joined (scaled c (placed path n us e)) w
+columns-outside : (path : Path) (n c : ℕ) (us : List Sum) (e w : Sum) → AreBlocks path →
+    placed path (n * c) us (joined (scaled c e) w) ≡ joined (scaled c (placed path n us e)) w
 columns-outside [] n c us e w h = refl
 columns-outside (Blocks b ∷ path) n c [] e w h = refl
 columns-outside (Blocks b ∷ path) n c (u ∷ us) e w h =
@@ -151,9 +169,13 @@ tile-item v k = ap constant (omega (arith, div-add-mod' k v))
 pub number-fits : (n k : ℕ) (cs : ℕ → ℕ) → k < n → Fits n (constant k) cs
 number-fits n k cs below = record { proper = tt; small = below; tame = tt; few = positive-product n n (omega (arith, below)) (omega (arith, below)) }
 
-pub grouped-leads : (p v r t n size : ℕ) (q g i : Sum) (k : ℕ) (cs : ℕ → ℕ) → Fits p q cs → Fits r g cs → Fits t i cs → k < v * v → size ≡ t * v → size_under (Blocks p ∷ Blocks r ∷ Blocks t ∷ []) (v * v) ≡ n → n ≤ 1048576 → t * v ≤ 1048576 →
-    LeadsTo cs n (wrapped (within_all (Columns v ∷ Blocks p ∷ Blocks r ∷ []) []) size (Strided t v) ∷ []) (placed (Blocks p ∷ Blocks r ∷ Blocks t ∷ []) (v * v) (q ∷ g ∷ i ∷ []) (constant k))
-    (placed (Columns v ∷ Blocks p ∷ Blocks r ∷ []) (t * v) (constant (k % v) ∷ q ∷ g ∷ []) (joined (scaled t (constant (k / v))) i))
+pub grouped-leads : (p v r t n size : ℕ) (q g i : Sum) (k : ℕ) (cs : ℕ → ℕ) → Fits p q cs → Fits r g cs → Fits t i cs →
+    k < v * v → size ≡ t * v → size_under (Blocks p ∷ Blocks r ∷ Blocks t ∷ []) (v * v) ≡ n → n ≤ 1048576 →
+    t * v ≤ 1048576 →
+    LeadsTo cs n (wrapped (within_all (Columns v ∷ Blocks p ∷ Blocks r ∷ []) []) size (Strided t v) ∷ [])
+    (placed (Blocks p ∷ Blocks r ∷ Blocks t ∷ []) (v * v) (q ∷ g ∷ i ∷ []) (constant k))
+    (placed (Columns v ∷ Blocks p ∷ Blocks r ∷ []) (t * v) (constant (k % v) ∷ q ∷ g ∷ [])
+    (joined (scaled t (constant (k / v))) i))
 grouped-leads p v r t n size q g i k cs fq fg fi below sized whole high small =
     let three : Path = Blocks p ∷ Blocks r ∷ Blocks t ∷ [] in
     let outer : Path = Columns v ∷ Blocks p ∷ Blocks r ∷ [] in

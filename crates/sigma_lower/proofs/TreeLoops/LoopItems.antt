@@ -1,5 +1,6 @@
 -- The items of a layout's loops: what their variables run below, and the sums that name an item.
-use Rattle.std.proofs.Common.{◌≡◌, ℕ, zero, suc, ◌+◌, ◌*◌, ◌<◌, ◌≤◌, arith, refl, sym, ap, ◌∙◌, List, [], ◌∷◌, ◌++◌, length, Some}
+use Rattle.std.proofs.Common.{◌≡◌, ℕ, zero, suc, ◌+◌, ◌*◌, ◌<◌, ◌≤◌, arith, refl, sym, ap, ◌∙◌, List, [], ◌∷◌, ◌++◌}
+use Rattle.std.proofs.Common.{length, Some}
 use Rattle.std.specs.Prelude.{map, slice_index}
 use Rattle.std.specs.List.{range_with_len}
 use Rattle.sigma_lower.specs.TreeLoops.Merge.{PlainDiagonal, PlainPass}
@@ -10,6 +11,8 @@ use Rattle.sigma_lower.proofs.TreeLoops.PlaceValues.{right_positive}
 use Rattle.sigma_lower.proofs.TreeLoops.Shaped.{IsShaped, IsShapedWork}
 use Rattle.operators.proofs.Lists.{place_below}
 use Rattle.sigma_spl.specs.Limits.{AreSeveral}
+use Rattle.sigma_spl.specs.Loops.{limits_in}
+use Rattle.sigma_lower.specs.TreeLoops.Nests.{loop_of}
 use Rattle.sigma_spl.specs.Merge.{items_in, items_out}
 use Rattle.sigma_spl.specs.Work.{PlainWork, kernel, rows, horner, tile, copy, work_size, PlainKernel, trees_of}
 use Rattle.perm_algebra.specs.Affine.{Sum, constant}
@@ -23,14 +26,16 @@ use Rattle.sigma_spl.proofs.Limited.{at-row, at-column}
 -- ---- diagonals
 
 -- a diagonal has a number of words of the whole
-pub diagonal-size : (P : PlainWork → Type 0) (size : ℕ) (p : PlainPass) → 1 ≤ size → IsShaped P size p → (d : PlainDiagonal) → p.diagonal ≡ Some d → (0 < d.rows * d.cols) × (d.rows * d.cols ≤ size)
+pub diagonal-size : (P : PlainWork → Type 0) (size : ℕ) (p : PlainPass) → 1 ≤ size → IsShaped P size p →
+    (d : PlainDiagonal) → p.diagonal ≡ Some d → (0 < d.rows * d.cols) × (d.rows * d.cols ≤ size)
 diagonal-size P size p low shape d is =
     let whole : copies_of d.path * (d.rows * d.cols) ≡ size = sym (size_under-copies d.path (d.rows * d.cols)) ∙ shape.multiplies d is in
     (right_positive (copies_of d.path) (d.rows * d.cols) (omega (arith, whole, low)), part-le (copies_of d.path) (d.rows * d.cols) size whole low)
 
 -- ---- the counts of all variables
 
-pub counts-from : (path : Path) (n d : ℕ) (cs : ℕ → ℕ) (back : List ℕ) → AreSeveral path → 0 < n → ((i : ℕ) → cs (d + i) ≡ slice_index (map count_of path ++ back) i) → AreCounts path n d cs
+pub counts-from : (path : Path) (n d : ℕ) (cs : ℕ → ℕ) (back : List ℕ) → AreSeveral path → 0 < n →
+    ((i : ℕ) → cs (d + i) ≡ slice_index (map count_of path ++ back) i) → AreCounts path n d cs
 counts-from [] n d cs back wide positive is = positive
 counts-from (Blocks c ∷ path) n d cs back wide positive is = (
   ap cs (omega arith) ∙ is 0,
@@ -42,6 +47,16 @@ counts-from (Columns c ∷ path) n d cs back wide positive is = (
   wide.0,
   counts-from path n (d + 1) cs back wide.1 positive (λ i. ap cs (omega arith) ∙ is (suc i)),
 )
+
+-- those of a pass
+pub pass-counts : (P : PlainWork → Type 0) (size : ℕ) (p : PlainPass) → 1 ≤ size → IsShaped P size p →
+    AreCounts p.path (work_size p.work) 0 (limits_in (loop_of p))
+pass-counts P size p low shape =
+    let n = work_size p.work in
+    let cs = limits_in (loop_of p) in
+    let whole : copies_of p.path * n ≡ size = sym (size_under-copies p.path n) ∙ shape.fills in
+    let some : 0 < n = right_positive (copies_of p.path) n (omega (arith, whole, low)) in
+    counts-from p.path n 0 cs (n ∷ n ∷ []) shape.wide some (λ i. ap cs (omega arith))
 
 -- ---- sums that name an item of a copy of n
 
@@ -60,14 +75,17 @@ name-constant (horner root size) k = tt
 name-constant (tile v) k = (k, refl)
 name-constant (copy size) k = tt
 
-constants-name : (w : PlainWork) (cs : ℕ → ℕ) (n : ℕ) (g : ℕ → ℕ) (a len : ℕ) → ((i : ℕ) → i < a + len → g i < n) → AllName w cs n (map (λ i. constant (g i)) (range_with_len a len))
+constants-name : (w : PlainWork) (cs : ℕ → ℕ) (n : ℕ) (g : ℕ → ℕ) (a len : ℕ) → ((i : ℕ) → i < a + len → g i < n) →
+    AllName w cs n (map (λ i. constant (g i)) (range_with_len a len))
 constants-name w cs n g a zero h = tt
 constants-name w cs n g a (suc len) h = ((number-fits n (g a) cs (h a (omega arith)), name-constant w (g a)), constants-name w cs n g (a + 1) len (λ i low. h i (omega (arith, low))))
 
 -- the items of the loads, and those of the stores
 pub record HaveNames (path : Path) (w : PlainWork) : Type 0 where
-  pub loads : AllName w (slice_index (map count_of path ++ work_size w ∷ work_size w ∷ [])) (work_size w) (items_in w (length path))
-  pub stores : AllName w (slice_index (map count_of path ++ work_size w ∷ work_size w ∷ [])) (work_size w) (items_out w (length path))
+  pub loads : AllName w (slice_index (map count_of path ++ work_size w ∷ work_size w ∷ [])) (work_size w)
+      (items_in w (length path))
+  pub stores : AllName w (slice_index (map count_of path ++ work_size w ∷ work_size w ∷ [])) (work_size w)
+      (items_out w (length path))
 
 kernel-names : (path : Path) (k : PlainKernel) → HaveNames path (kernel k)
 kernel-names path k =

@@ -1,5 +1,6 @@
 -- No place of a layout's loops is over a limit.
-use Rattle.std.proofs.Common.{◌≡◌, ℕ, ◌*◌, ◌<◌, ◌≤◌, Bool, true, arith, refl, sym, ap, ◌∙◌, List, [], ◌∷◌, ◌++◌, length, subst, Some}
+use Rattle.std.proofs.Common.{◌≡◌, ℕ, ◌*◌, ◌≤◌, Bool, true, arith, refl, sym, List, [], ◌∷◌, ◌++◌, length}
+use Rattle.std.proofs.Common.{subst, Some}
 use Rattle.std.specs.Prelude.{map, reverse}
 use Rattle.std.specs.List.{list_all}
 use Rattle.std.proofs.lemmas.List.{reverse-append}
@@ -7,11 +8,11 @@ use Rattle.index_fn.specs.Mapping.{Mapping}
 use Rattle.sigma_lower.specs.TreeLoops.Limits.{AreLimitedPhases, LoopsAreLimited}
 use Rattle.sigma_lower.specs.TreeLoops.Merge.{PlainDiagonal, PlainPass, passes_of_terms, in_order, merged_of}
 use Rattle.sigma_lower.specs.TreeLoops.Nests.{loop_of, taken_of}
-use Rattle.sigma_lower.specs.TreeLoops.Placed.{IsCarried, IsLimitedPass, AllLimited, AreCounts, diagonal_places, place_sum}
+use Rattle.sigma_lower.specs.TreeLoops.Placed.{ArePlacesLimited, IsCarried, IsLimitedPass, AllLimited, diagonal_places}
+use Rattle.sigma_lower.specs.TreeLoops.Placed.{place_sum}
 use Rattle.sigma_lower.proofs.TreeLoops.LeftPlaces.{mapped-some}
-use Rattle.sigma_lower.proofs.TreeLoops.LoopItems.{Names, AllName, HaveNames, diagonal-size, counts-from, names-of}
+use Rattle.sigma_lower.proofs.TreeLoops.LoopItems.{Names, AllName, HaveNames, diagonal-size, names-of, pass-counts}
 use Rattle.sigma_lower.proofs.TreeLoops.LoopNests.{loops_listed}
-use Rattle.sigma_lower.proofs.TreeLoops.PlaceValues.{right_positive}
 use Rattle.sigma_lower.proofs.TreeLoops.Shaped.{IsShaped, IsShapedWork, AreShaped}
 use Rattle.sigma_lower.proofs.TreeLoops.TameSums.{fits-limited}
 use Rattle.sigma_lower.proofs.TreeLoops.TreePlaces.{tree_good_places}
@@ -25,31 +26,26 @@ use Rattle.perm_algebra.specs.Affine.{Sum, simplified}
 use Rattle.perm_algebra.proofs.RoomTests.{room_decided}
 use Rattle.sigma_lower.specs.TreeTerms.Term.{PlainTerm, lowered_of}
 use Rattle.sigma_spl.specs.Work.{PlainWork, work_size}
-use Rattle.operators.specs.TensorPaths.Path.{copies_of}
-use Rattle.operators.proofs.TensorPaths.Under.{size_under-copies}
 use Rattle.smp_rewrite.specs.Fits.{CanShareLayout}
 use Rattle.smp_rewrite.specs.LayoutSteps.Layout.{Layout, IsGoodLayout}
 
 -- ---- the tests
 
-carried-true : (cs : ℕ → ℕ) (room n count : ℕ) (fs : List Mapping) (e : Sum) → 40 ≤ room → n ≤ 1048576 → count ≤ 1048576 → IsCarried cs n count fs e → carries_sum room n count cs fs e ≡ true
+carried-true : (cs : ℕ → ℕ) (room n count : ℕ) (fs : List Mapping) (e : Sum) → 40 ≤ room → n ≤ 1048576 →
+    count ≤ 1048576 → IsCarried cs n count fs e → carries_sum room n count cs fs e ≡ true
 carried-true cs room n count [] e enough high low h = fits-limited room count e cs enough low h
 carried-true cs room n count (f ∷ fs) e enough high low h =
     both-true _ _ (fits-limited room n e cs enough high h.0) (both-true _ _ ((room_decided cs f e).1 h.1) (carried-true cs room n count fs (simplified cs f e) enough high low h.2))
 
-all-true : (test : Sum → Bool) (g : Sum → Sum) (w : PlainWork) (cs : ℕ → ℕ) (n : ℕ) (es : List Sum) → ((e : Sum) → Names w cs n e → test (g e) ≡ true) → AllName w cs n es → list_all test (map g es) ≡ true
+all-true : (test : Sum → Bool) (g : Sum → Sum) (w : PlainWork) (cs : ℕ → ℕ) (n : ℕ) (es : List Sum) →
+    ((e : Sum) → Names w cs n e → test (g e) ≡ true) → AllName w cs n es → list_all test (map g es) ≡ true
 all-true test g w cs n [] step h = refl
 all-true test g w cs n (e ∷ es) step h = both-true _ _ (step e h.0) (all-true test g w cs n es step h.1)
 
 -- ---- a pass
 
--- the places of an item e in copies of n
-record CarriedAt (c : Target) (p : PlainPass) (cs : ℕ → ℕ) (n : ℕ) (e : Sum) : Type 0 where
-  loads : IsCarried cs c.size c.size p.befores (place_sum p.path n 0 e)
-  stores : IsCarried cs c.size c.size p.afters (place_sum p.path n 0 e)
-  factors : (d : PlainDiagonal) → p.diagonal ≡ Some d → IsCarried cs c.size (d.rows * d.cols) (diagonal_places d) (place_sum p.path n 0 e)
-
-module _ (room : ℕ) (enough : 40 ≤ room) (c : Target) (p : PlainPass) (machine : IsMachine c) (shape : IsShaped (IsShapedWork c.modulus) c.size p) (limited : IsLimitedPass c p) where
+module _ (room : ℕ) (enough : 40 ≤ room) (c : Target) (p : PlainPass) (machine : IsMachine c)
+    (shape : IsShaped (IsShapedWork c.modulus) c.size p) (limited : IsLimitedPass c p) where
   abbrev n : ℕ
   n = work_size p.work
 
@@ -59,23 +55,16 @@ module _ (room : ℕ) (enough : 40 ≤ room) (c : Target) (p : PlainPass) (machi
   high : c.size ≤ 1048576
   high = machine.size.1
 
-  some : 0 < n
-  some =
-      let whole : copies_of p.path * work_size p.work ≡ c.size = sym (size_under-copies p.path (work_size p.work)) ∙ shape.fills in
-      right_positive (copies_of p.path) (work_size p.work) (omega (arith, whole, machine.size.0))
-
-  counts : AreCounts p.path n 0 cs
-  counts = counts-from p.path n 0 cs (n ∷ n ∷ []) shape.wide some (λ i. ap cs (omega arith))
-
-  carried : (e : Sum) → Names p.work cs n e → CarriedAt c p cs n e
+  carried : (e : Sum) → Names p.work cs n e → ArePlacesLimited c p cs e
   carried e item =
-      let l = limited cs e counts item.0 item.1 in record { loads = l.loads; stores = l.stores; factors = l.factors }
+      limited cs e (pass-counts (IsShapedWork c.modulus) c.size p machine.size.0 shape) item.0 item.1
 
   names : HaveNames p.path p.work
   names = names-of c.modulus p.path p.work shape.work
 
   factors-limited : (d : PlainDiagonal) → p.diagonal ≡ Some d →
-      list_all (carries_sum room c.size (d.rows * d.cols) cs (diagonal_places d)) (map (place_sum p.path n 0) (items_out p.work (length p.path))) ≡ true
+      list_all (carries_sum room c.size (d.rows * d.cols) cs (diagonal_places d))
+      (map (place_sum p.path n 0) (items_out p.work (length p.path))) ≡ true
   factors-limited d is =
       let count : ℕ = d.rows * d.cols in
       let few = (diagonal-size (IsShapedWork c.modulus) c.size p machine.size.0 shape d is).1 in
@@ -96,21 +85,25 @@ module _ (room : ℕ) (enough : 40 ≤ room) (c : Target) (p : PlainPass) (machi
 
 -- ---- the passes of a tree
 
-limited_loops : (room : ℕ) (c : Target) (ps : List PlainPass) → 40 ≤ room → IsMachine c → AreShaped (IsShapedWork c.modulus) c.size ps → AllLimited c ps → AreLimitedLoops (most room) c.size (map loop_of ps)
+limited_loops : (room : ℕ) (c : Target) (ps : List PlainPass) → 40 ≤ room → IsMachine c →
+    AreShaped (IsShapedWork c.modulus) c.size ps → AllLimited c ps → AreLimitedLoops (most room) c.size (map loop_of ps)
 limited_loops room c [] enough machine shapes h = tt
 limited_loops room c (p ∷ ps) enough machine shapes h = (limited_loop room enough c p machine shapes.0 h.0, limited_loops room c ps enough machine shapes.1 h.1)
 
-pub tree_loops : (room : ℕ) (c : Target) (l : Layout) → 40 ≤ room → IsMachine c → CanShareLayout c l → IsGoodLayout c.modulus l → AreLimitedLoops (most room) c.size (map loop_of (merged_of c l))
+pub tree_loops : (room : ℕ) (c : Target) (l : Layout) → 40 ≤ room → IsMachine c → CanShareLayout c l →
+    IsGoodLayout c.modulus l → AreLimitedLoops (most room) c.size (map loop_of (merged_of c l))
 tree_loops room c l enough machine shares good =
     let places = tree_good_places c l shares good in limited_loops room c (merged_of c l) enough machine places.shaped places.limited
 
 -- ---- the loops of a phase, the latest first
 
-limited-append : (n : ℕ) (ps qs : List PlainLoop) → AreLimitedLoops (most 64) n ps → AreLimitedLoops (most 64) n qs → AreLimitedLoops (most 64) n (ps ++ qs)
+limited-append : (n : ℕ) (ps qs : List PlainLoop) → AreLimitedLoops (most 64) n ps → AreLimitedLoops (most 64) n qs →
+    AreLimitedLoops (most 64) n (ps ++ qs)
 limited-append n [] qs h k = k
 limited-append n (p ∷ ps) qs h k = (h.0, limited-append n ps qs h.1 k)
 
-limited-reverse : (n : ℕ) (ps : List PlainLoop) → AreLimitedLoops (most 64) n ps → AreLimitedLoops (most 64) n (reverse ps)
+limited-reverse : (n : ℕ) (ps : List PlainLoop) → AreLimitedLoops (most 64) n ps →
+    AreLimitedLoops (most 64) n (reverse ps)
 limited-reverse n [] h = tt
 limited-reverse n (p ∷ ps) h = subst (AreLimitedLoops (most 64) n) (sym (reverse-append (p ∷ []) ps)) (limited-append n (reverse ps) (p ∷ []) (limited-reverse n ps h.1) (h.0, tt))
 
@@ -119,7 +112,8 @@ limited-split : (c : Target) (ps qs : List PlainPass) → AreLimitedLoops (most 
 limited-split c [] qs h = (tt, h)
 limited-split c (p ∷ ps) qs h = let more = limited-split c ps qs h.1 in ((h.0, more.0), more.1)
 
-limited_phases : (c : Target) (phases : List (List PlainTerm)) → AreLimitedLoops (most 64) c.size (map loop_of (in_order (map passes_of_terms phases))) → AreLimitedPhases c phases
+limited_phases : (c : Target) (phases : List (List PlainTerm)) →
+    AreLimitedLoops (most 64) c.size (map loop_of (in_order (map passes_of_terms phases))) → AreLimitedPhases c phases
 limited_phases c [] h = tt
 limited_phases c (ts ∷ more) h =
     let ps = passes_of_terms ts in

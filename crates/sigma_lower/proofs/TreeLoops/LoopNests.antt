@@ -4,7 +4,8 @@ use Rattle.std.specs.Prelude.{map, reverse}
 use Rattle.std.proofs.lemmas.List.{map-append, reverse-append}
 use Rattle.sigma_lower.specs.Shared.{embed, phase_term}
 use Rattle.index_fn.specs.Mapping.{Mapping}
-use Rattle.sigma_lower.specs.TreeLoops.Merge.{PlainPass, Merging, new_pass, scattered, multiplied, at_last, merge_term, merged, passes_of_terms}
+use Rattle.sigma_lower.specs.TreeLoops.Merge.{PlainPass, Merging, new_pass, scattered, multiplied, at_last, merge_term}
+use Rattle.sigma_lower.specs.TreeLoops.Merge.{merged, passes_of_terms}
 use Rattle.sigma_lower.specs.TreeLoops.Nests.{loop_of}
 use Rattle.sigma_spl.specs.Loops.{PlainLoop, Looping, stored_last, scaled_last, looped, loops_in}
 use Rattle.sigma_spl.specs.Nest.{PlainFactors, factor_count, twiddles, inner_of}
@@ -20,16 +21,19 @@ at_first g (p ∷ ps) = g p ∷ ps
 reverse-first : (p : PlainLoop) (ps : List PlainLoop) → reverse (p ∷ ps) ≡ reverse ps ++ p ∷ []
 reverse-first p ps = reverse-append (p ∷ []) ps
 
-first-of : (g : PlainLoop → PlainLoop) (ps : List PlainLoop) (p q : PlainLoop) → at_first g ((ps ++ p ∷ []) ++ q ∷ []) ≡ at_first g (ps ++ p ∷ []) ++ q ∷ []
+first-of : (g : PlainLoop → PlainLoop) (ps : List PlainLoop) (p q : PlainLoop) →
+    at_first g ((ps ++ p ∷ []) ++ q ∷ []) ≡ at_first g (ps ++ p ∷ []) ++ q ∷ []
 first-of g [] p q = refl
 first-of g (o ∷ ps) p q = refl
 
-first-more : (g : PlainLoop → PlainLoop) (p : PlainLoop) (ps : List PlainLoop) (q : PlainLoop) → at_first g (reverse (p ∷ ps) ++ q ∷ []) ≡ at_first g (reverse (p ∷ ps)) ++ q ∷ []
+first-more : (g : PlainLoop → PlainLoop) (p : PlainLoop) (ps : List PlainLoop) (q : PlainLoop) →
+    at_first g (reverse (p ∷ ps) ++ q ∷ []) ≡ at_first g (reverse (p ∷ ps)) ++ q ∷ []
 first-more g p ps q =
     ap (λ xs. at_first g (xs ++ q ∷ [])) (reverse-first p ps) ∙ first-of g (reverse ps) p q ∙ ap (λ xs. at_first g xs ++ q ∷ []) (sym (reverse-first p ps))
 
 -- a change of the last pass is one of the first loop
-at_last-first : (f : PlainPass → PlainPass) (g : PlainLoop → PlainLoop) → ((p : PlainPass) → g (loop_of p) ≡ loop_of (f p)) → (ps : List PlainPass) →
+at_last-first : (f : PlainPass → PlainPass) (g : PlainLoop → PlainLoop) →
+    ((p : PlainPass) → g (loop_of p) ≡ loop_of (f p)) → (ps : List PlainPass) →
     at_first g (reverse (map loop_of ps)) ≡ reverse (map loop_of (at_last f ps))
 at_last-first f g same [] = refl
 at_last-first f g same (p ∷ []) = ap (λ q. q ∷ []) (same p)
@@ -56,11 +60,13 @@ abbrev scaled_by : Path → PlainFactors → PlainLoop → PlainLoop
 scaled_by path factors p =
     record { path = p.path; work = p.work; befores = p.befores; taken = Some (record { factors = factors; places = p.afters ++ inner_of path (factor_count factors) ∷ [] }); afters = p.afters }
 
-scaled-first : (path : Path) (factors : PlainFactors) (ps : List PlainLoop) → scaled_last path factors ps ≡ at_first (scaled_by path factors) ps
+scaled-first : (path : Path) (factors : PlainFactors) (ps : List PlainLoop) →
+    scaled_last path factors ps ≡ at_first (scaled_by path factors) ps
 scaled-first path factors [] = refl
 scaled-first path factors (p ∷ ps) = refl
 
-new-first : (ps : List PlainPass) (p : PlainPass) → loop_of p ∷ reverse (map loop_of ps) ≡ reverse (map loop_of (ps ++ p ∷ []))
+new-first : (ps : List PlainPass) (p : PlainPass) → loop_of p ∷ reverse (map loop_of ps)
+    ≡ reverse (map loop_of (ps ++ p ∷ []))
 new-first ps p = sym (ap reverse (map-append loop_of ps (p ∷ [])) ∙ reverse-append (map loop_of ps) (loop_of p ∷ []))
 
 abbrev with_loops : List Mapping → List PlainLoop → Looping

@@ -40,7 +40,8 @@ scaled-scaled j k (quotient f of m rest) = ap₂ (λ g r. quotient g of m r) (om
 -- ---- tensors
 
 -- blocks of columns are columns of blocks
-pub placed-swap : (b c : ℕ) (path : Path) (n : ℕ) (u w : Sum) (us : List Sum) (e : Sum) → placed (Blocks b ∷ Columns c ∷ path) n (u ∷ w ∷ us) e ≡ placed (Columns c ∷ Blocks b ∷ path) n (w ∷ u ∷ us) e
+pub placed-swap : (b c : ℕ) (path : Path) (n : ℕ) (u w : Sum) (us : List Sum) (e : Sum) →
+    placed (Blocks b ∷ Columns c ∷ path) n (u ∷ w ∷ us) e ≡ placed (Columns c ∷ Blocks b ∷ path) n (w ∷ u ∷ us) e
 placed-swap b c path n u w us e =
     let inner = placed path n us e in
     let size = size_under path n in
@@ -50,7 +51,8 @@ placed-swap b c path n u w us e =
 
 -- columns of columns are columns
 pub placed-columns : (b c : ℕ) (path : Path) (n : ℕ) (u w : Sum) (us : List Sum) (e : Sum) →
-    placed (Columns b ∷ Columns c ∷ path) n (u ∷ w ∷ us) e ≡ placed (Columns (b * c) ∷ path) n (joined (scaled b w) u ∷ us) e
+    placed (Columns b ∷ Columns c ∷ path) n (u ∷ w ∷ us) e ≡ placed (Columns (b * c) ∷ path) n
+    (joined (scaled b w) u ∷ us) e
 placed-columns b c path n u w us e =
     let inner = placed path n us e in
     ap (λ g. joined g u) (scaled-joined b (scaled c inner) w ∙ ap (λ g. joined g (scaled b w)) (scaled-scaled b c inner))
@@ -65,8 +67,10 @@ fits-one (variable k d rest) cs f = absurd (let more : k ≤ k * (cs d - 1) = le
 fits-one (remainder k of m rest) cs f = absurd (let more : k ≤ k * (m - 1) = le-mul_of_pos_right {m = m - 1} k (omega (arith, f.proper.1)) in omega (arith, f.small, f.proper.0))
 fits-one (quotient k of m rest) cs f = absurd f.proper
 
-pub placed-one_block : (path : Path) (n : ℕ) (us : List Sum) (e : Sum) → placed (Blocks 1 ∷ path) n (constant 0 ∷ us) e ≡ placed path n us e
+pub placed-one_block : (path : Path) (n : ℕ) (us : List Sum) (e : Sum) →
+    placed (Blocks 1 ∷ path) n (constant 0 ∷ us) e ≡ placed path n us e
 placed-one_block path n us e = ap (λ k. joined (constant k) (placed path n us e)) (omega arith) ∙ joined-zero (placed path n us e)
 
-pub placed-one_column : (path : Path) (n : ℕ) (us : List Sum) (e : Sum) → placed (Columns 1 ∷ path) n (constant 0 ∷ us) e ≡ placed path n us e
+pub placed-one_column : (path : Path) (n : ℕ) (us : List Sum) (e : Sum) →
+    placed (Columns 1 ∷ path) n (constant 0 ∷ us) e ≡ placed path n us e
 placed-one_column path n us e = joined-end (scaled 1 (placed path n us e)) ∙ scaled-one (placed path n us e)

@@ -23,7 +23,8 @@ pub record IsRuleIn (size : ℕ) (rule : Rule) (path : Path) (r s : ℕ) : Type 
   pub within : r * s ≤ size
   pub whole : IsSize size
 
-pub rule_in : (m size : ℕ) (rule : Rule) (root : ℕ) (path : Path) (a b : Layout) → IsSize size → IsGoodLayout m (by rule root a b) →
+pub rule_in : (m size : ℕ) (rule : Rule) (root : ℕ) (path : Path) (a b : Layout) → IsSize size →
+    IsGoodLayout m (by rule root a b) →
     size_under path (layout_size (by rule root a b)) ≡ size → IsRuleIn size rule path (layout_size a) (layout_size b)
 rule_in m size rule root path a b whole h e =
     let n = layout_size a * layout_size b in

@@ -1,25 +1,31 @@
 -- No place of a layout's passes is over a limit, nor is any on the way there.
-use Rattle.std.proofs.Common.{◌≡◌, ℕ, ◌+◌, ◌*◌, ◌<◌, ◌≤◌, arith, refl, sym, ap, ◌∙◌, List, [], ◌∷◌, ◌++◌, length, subst, mul_comm}
-use Rattle.std.specs.Prelude.{Option, Some, None}
+use Rattle.std.proofs.Common.{◌≡◌, ℕ, ◌+◌, ◌*◌, ◌<◌, ◌≤◌, arith, refl, sym, ap, ◌∙◌, List, [], ◌∷◌, ◌++◌, length, subst}
+use Rattle.std.proofs.Common.{mul_comm}
+use Rattle.std.specs.Prelude.{Some}
 use Rattle.std.proofs.Math.Nat.{mul-le-mul_right}
 use Rattle.std.proofs.lemmas.Nat.{mul-le}
 use Rattle.index_fn.specs.Mapping.{Mapping, Strided, ThomasIn, ThomasBack}
 use Rattle.operators.specs.declared.target.Target.{Target}
-use Rattle.perm_algebra.specs.Affine.{IsProper, Sum, constant, variable, top, parts, scaled, joined, Divided, reduced, simplified}
+use Rattle.perm_algebra.specs.Affine.{IsProper, Sum, constant, variable, top, parts, scaled, joined, Divided, reduced}
+use Rattle.perm_algebra.specs.Affine.{simplified}
 use Rattle.perm_algebra.proofs.AffineLaws.{top-scaled, top-joined}
 use Rattle.perm_algebra.proofs.Shape.{divided-joined, turned-joined}
 use Rattle.perm_algebra.proofs.Sizes.{parts-scaled, parts-joined, proper-joined, proper-scaled}
+use Rattle.std.proofs.lemmas.Option.{none-some, same_Some}
 use Rattle.sigma_lower.specs.TreeLoops.Merge.{PlainDiagonal, PlainPass, new_pass, scattered, multiplied, at_last}
-use Rattle.sigma_lower.specs.TreeLoops.Placed.{Fits, IsTame, place_sum, AreCounts, all_simplified, IsLimitedPass, AllLimited}
+use Rattle.sigma_lower.specs.TreeLoops.Placed.{Fits, IsTame, place_sum, AreCounts, all_simplified, IsLimitedPass}
+use Rattle.sigma_lower.specs.TreeLoops.Placed.{AllLimited}
 use Rattle.sigma_lower.proofs.TreeLoops.InnerPlaces.{inner-place, room-inner}
 use Rattle.sigma_lower.proofs.TreeLoops.InCopies.{simplified-wrapped, room-wrapped}
 use Rattle.sigma_lower.proofs.TreeLoops.RuleRoom.{thomas_in-room, turns-room, thomas_back-room}
 use Rattle.perm_algebra.specs.Room.{HasRoomFor}
-use Rattle.sigma_lower.proofs.TreeLoops.PlaceSums.{tensor_sum, place_sum-push, counts-push, variable-fits, parts-fit, tensor_sum-fits, place_sum-fits, all_simplified-append}
+use Rattle.sigma_lower.proofs.TreeLoops.PlaceSums.{tensor_sum, place_sum-push, counts-push, variable-fits, parts-fit}
+use Rattle.sigma_lower.proofs.TreeLoops.PlaceSums.{tensor_sum-fits, place_sum-fits, all_simplified-append}
 use Rattle.sigma_lower.proofs.TreeLoops.PartRules.{IsSize, IsRuleIn, rule_in, coprime_in}
 use Rattle.sigma_lower.proofs.TreeLoops.Staying.{StaysIn, carried-push}
 use Rattle.sigma_lower.proofs.TreeLoops.TameSums.{tame-scaled, tame-joined, reduced-fits}
-use Rattle.sigma_lower.proofs.TreeLoops.TreePasses.{rule_waiting, rule_passes, layout_passes}
+use Rattle.sigma_lower.proofs.TreeLoops.PassLists.{AllPasses, all-append, all-last, all-map, map-last}
+use Rattle.sigma_lower.proofs.TreeLoops.TreePasses.{back, rule_waiting, rule_passes, layout_passes}
 use Rattle.sigma_spl.specs.Work.{PlainWork, work_size}
 use Rattle.smp_rewrite.specs.LayoutSteps.Layout.{Layout, work, by, layout_size, IsGoodLayout}
 use Rattle.sigma_lower.specs.TreeTerms.Wrapped.{wrapped, inner_of, unit_of}
@@ -46,8 +52,10 @@ low-product : (a t n : ℕ) → n ≤ 1048576 → a ≤ n → t < n → a * t �
 low-product a t n high h g = mul-le a t 1048576 1048576 (omega arith) (omega arith)
 
 -- two multiples, modulo n
-mixed : (cs : ℕ → ℕ) (n a b d size : ℕ) (e : Sum) → AreInArray n a b (cs d) size → 0 < a → 0 < b → Fits size e cs → 2 ≤ cs d →
-    Fits n (reduced cs n (joined (scaled a (variable 1 d (constant 0))) (scaled b e))) cs × Fits n (reduced cs n (joined (scaled b e) (scaled a (variable 1 d (constant 0))))) cs
+mixed : (cs : ℕ → ℕ) (n a b d size : ℕ) (e : Sum) → AreInArray n a b (cs d) size → 0 < a → 0 < b → Fits size e cs →
+    2 ≤ cs d →
+    Fits n (reduced cs n (joined (scaled a (variable 1 d (constant 0))) (scaled b e))) cs
+    × Fits n (reduced cs n (joined (scaled b e) (scaled a (variable 1 d (constant 0))))) cs
 mixed cs n a b d size e within p q f two =
     let v = variable 1 d (constant 0) in
     let one = joined (scaled a v) (scaled b e) in
@@ -69,7 +77,8 @@ mixed cs n a b d size e within p q f two =
     )
 
 -- the numbers of a product of at least 2 by 2
-product-array : (r s a b : ℕ) → 2 ≤ r → 2 ≤ s → r * s ≤ 1048576 → a ≤ r * s → b ≤ r * s → AreInArray (r * s) a b r s × AreInArray (r * s) a b s r
+product-array : (r s a b : ℕ) → 2 ≤ r → 2 ≤ s → r * s ≤ 1048576 → a ≤ r * s → b ≤ r * s →
+    AreInArray (r * s) a b r s × AreInArray (r * s) a b s r
 product-array r s a b h g high first second =
     let one : 2 * s ≤ r * s = mul-le-mul_right s h in
     let other : 2 * r ≤ s * r = mul-le-mul_right r g in
@@ -78,7 +87,8 @@ product-array r s a b h g high first second =
       record { high = high; first = first; second = second; count = omega arith; half = omega arith },
     )
 
-pub thomas_in-one : (r s d : ℕ) (e : Sum) (cs : ℕ → ℕ) → cs d ≡ r → 2 ≤ r → 2 ≤ s → r * s ≤ 1048576 → Fits s e cs → Fits (r * s) (simplified cs (ThomasIn r s) (tensor_sum (Blocks r) s d e)) cs
+pub thomas_in-one : (r s d : ℕ) (e : Sum) (cs : ℕ → ℕ) → cs d ≡ r → 2 ≤ r → 2 ≤ s → r * s ≤ 1048576 → Fits s e cs →
+    Fits (r * s) (simplified cs (ThomasIn r s) (tensor_sum (Blocks r) s d e)) cs
 thomas_in-one r s d e cs count two_r two_s high f =
     let v = variable 1 d (constant 0) in
     let within = (product-array r s s r two_r two_s high (omega (arith, mul-le-mul_right s two_r)) (omega (arith, mul-le-mul_right r two_s, mul_comm s r))).0 in
@@ -86,7 +96,8 @@ thomas_in-one r s d e cs count two_r two_s high f =
     ap (λ (z : Divided). reduced cs (r * s) (joined (scaled s z.quot) (scaled r z.rem))) (divided-joined s v e cs (omega arith) f.proper f.small) in
     subst (λ g. Fits (r * s) g cs) (sym is) (mixed cs (r * s) s r d s e (subst (λ z. AreInArray (r * s) s r z s) (sym count) within) (omega arith) (omega arith) f (omega arith)).0
 
-pub turns-one : (r s d : ℕ) (e : Sum) (cs : ℕ → ℕ) → cs d ≡ r → 2 ≤ r → 2 ≤ s → Fits s e cs → Fits (r * s) (simplified cs (Strided r s) (tensor_sum (Blocks r) s d e)) cs
+pub turns-one : (r s d : ℕ) (e : Sum) (cs : ℕ → ℕ) → cs d ≡ r → 2 ≤ r → 2 ≤ s → Fits s e cs →
+    Fits (r * s) (simplified cs (Strided r s) (tensor_sum (Blocks r) s d e)) cs
 turns-one r s d e cs count two_r two_s f =
     let v = variable 1 d (constant 0) in
     let positive : 0 < r = omega arith in
@@ -112,24 +123,29 @@ abbrev pub Gathering : ℕ → Path → List Mapping → ℕ → Type 0
 Gathering size path waiting n = (cs : ℕ → ℕ) (d : ℕ) (e : Sum) → AreCounts path n d cs → Fits n e cs → StaysIn cs size waiting (place_sum path n d e)
 
 -- natural places
-pub natural-fits : (size : ℕ) (path : Path) (n d : ℕ) (e : Sum) (cs : ℕ → ℕ) → size_under path n ≡ size → AreCounts path n d cs → Fits n e cs → Fits size (place_sum path n d e) cs
+pub natural-fits : (size : ℕ) (path : Path) (n d : ℕ) (e : Sum) (cs : ℕ → ℕ) → size_under path n ≡ size →
+    AreCounts path n d cs → Fits n e cs → Fits size (place_sum path n d e) cs
 natural-fits size path n d e cs whole counts fits = subst (λ m. Fits m (place_sum path n d e) cs) whole (place_sum-fits path n d e cs counts fits)
 
 pub gathering-natural : (size : ℕ) (path : Path) (n : ℕ) → size_under path n ≡ size → Gathering size path [] n
 gathering-natural size path n whole cs d e counts fits = natural-fits size path n d e cs whole counts fits
 
 -- the place under one tensor
-pub at-tensor : (path : Path) (t : Tensor) (n d : ℕ) (e : Sum) (cs : ℕ → ℕ) → AreCounts (path ++ t ∷ []) n d cs → Fits n e cs → Fits (grown t n) (tensor_sum t n (d + length path) e) cs
+pub at-tensor : (path : Path) (t : Tensor) (n d : ℕ) (e : Sum) (cs : ℕ → ℕ) → AreCounts (path ++ t ∷ []) n d cs →
+    Fits n e cs → Fits (grown t n) (tensor_sum t n (d + length path) e) cs
 at-tensor path t n d e cs counts fits = let p = counts-push path t n d cs counts in tensor_sum-fits t n (d + length path) e cs p.count p.two p.positive fits
 
-pub gathering-push : (size : ℕ) (path : Path) (waiting : List Mapping) (t : Tensor) (n : ℕ) → Gathering size path waiting (grown t n) → Gathering size (path ++ t ∷ []) waiting n
+pub gathering-push : (size : ℕ) (path : Path) (waiting : List Mapping) (t : Tensor) (n : ℕ) →
+    Gathering size path waiting (grown t n) → Gathering size (path ++ t ∷ []) waiting n
 gathering-push size path waiting t n g cs d e counts fits =
     subst (StaysIn cs size waiting) (sym (place_sum-push path t n d e)) (g cs d (tensor_sum t n (d + length path) e) (counts-push path t n d cs counts).before (at-tensor path t n d e cs counts fits))
 
 -- with a permutation before a rule's right part
 gathering-mapped : (size : ℕ) (path : Path) (waiting : List Mapping) (f : Mapping) (r s : ℕ) →
-    ((d : ℕ) (e : Sum) (cs : ℕ → ℕ) → cs d ≡ r → Fits s e cs → Fits (r * s) (simplified cs f (tensor_sum (Blocks r) s d e)) cs) →
-    ((d : ℕ) (e : Sum) (cs : ℕ → ℕ) → cs d ≡ r → Fits s e cs → HasRoomFor cs f (tensor_sum (Blocks r) s d e)) → size_under path (r * s) ≡ size → size ≤ 1048576 →
+    ((d : ℕ) (e : Sum) (cs : ℕ → ℕ) → cs d ≡ r → Fits s e cs →
+    Fits (r * s) (simplified cs f (tensor_sum (Blocks r) s d e)) cs) →
+    ((d : ℕ) (e : Sum) (cs : ℕ → ℕ) → cs d ≡ r → Fits s e cs → HasRoomFor cs f (tensor_sum (Blocks r) s d e)) →
+    size_under path (r * s) ≡ size → size ≤ 1048576 →
     Gathering size path waiting (r * s) → Gathering size (path ++ Blocks r ∷ []) (wrapped path (r * s) f ∷ waiting) s
 gathering-mapped size path waiting f r s step room whole high g cs d e counts fits =
     let p = counts-push path (Blocks r) s d cs counts in
@@ -142,7 +158,8 @@ gathering-mapped size path waiting f r s step room whole high g cs d e counts fi
       subst (StaysIn cs size waiting) (sym (simplified-wrapped path (r * s) d f at_tensor cs p.before inside)) (g cs d (simplified cs f at_tensor) p.before one),
     )
 
-gathering_rule : (size : ℕ) (rule : Rule) (path : Path) (r s : ℕ) (waiting : List Mapping) → IsRuleIn size rule path r s → Gathering size path waiting (r * s) →
+gathering_rule : (size : ℕ) (rule : Rule) (path : Path) (r s : ℕ) (waiting : List Mapping) →
+    IsRuleIn size rule path r s → Gathering size path waiting (r * s) →
     Gathering size (path ++ Blocks r ∷ []) (rule_waiting rule path r s waiting) s
 gathering_rule size Gt path r s waiting h g =
     gathering-mapped size path waiting (ThomasIn r s) r s (λ d e cs count fits. thomas_in-one r s d e cs count h.left h.right h.small fits)
@@ -166,17 +183,21 @@ pub record IsPlacedAt (cs : ℕ → ℕ) (path : Path) (n d : ℕ) (place : Sum)
   pub fits : Fits n inner cs
 
 pub record Scattering (size : ℕ) (path : Path) (n : ℕ) (p : PlainPass) : Type 0 where
-  pub placed : (cs : ℕ → ℕ) (d : ℕ) (e : Sum) → AreCounts p.path (work_size p.work) d cs → Fits (work_size p.work) e cs → IsPlacedAt cs path n d (scatter_from cs p d e)
-  pub stays : (cs : ℕ → ℕ) (d : ℕ) (e : Sum) → AreCounts p.path (work_size p.work) d cs → Fits (work_size p.work) e cs → StaysIn cs size p.afters (place_sum p.path (work_size p.work) d e)
+  pub placed : (cs : ℕ → ℕ) (d : ℕ) (e : Sum) → AreCounts p.path (work_size p.work) d cs →
+      Fits (work_size p.work) e cs → IsPlacedAt cs path n d (scatter_from cs p d e)
+  pub stays : (cs : ℕ → ℕ) (d : ℕ) (e : Sum) → AreCounts p.path (work_size p.work) d cs → Fits (work_size p.work) e cs →
+      StaysIn cs size p.afters (place_sum p.path (work_size p.work) d e)
 
-scattering-new : (size : ℕ) (path : Path) (waiting : List Mapping) (w : PlainWork) → size_under path (work_size w) ≡ size → Scattering size path (work_size w) (new_pass path w waiting)
+scattering-new : (size : ℕ) (path : Path) (waiting : List Mapping) (w : PlainWork) →
+    size_under path (work_size w) ≡ size → Scattering size path (work_size w) (new_pass path w waiting)
 scattering-new size path waiting w whole =
     record {
       placed = λ cs d e counts fits. record { inner = e; is = refl; counts = counts; fits = fits };
       stays = λ cs d e counts fits. natural-fits size path (work_size w) d e cs whole counts fits;
     }
 
-scattering-lift : (size : ℕ) (path : Path) (t : Tensor) (n : ℕ) (p : PlainPass) → Scattering size (path ++ t ∷ []) n p → Scattering size path (grown t n) p
+scattering-lift : (size : ℕ) (path : Path) (t : Tensor) (n : ℕ) (p : PlainPass) → Scattering size (path ++ t ∷ []) n p →
+    Scattering size path (grown t n) p
 scattering-lift size path t n p h =
     record {
       placed = λ cs d e counts fits.
@@ -192,11 +213,13 @@ scattering-lift size path t n p h =
 
 -- the inverse of a rule by coprime factors, at the place under its tensor
 record IsTakenBack (cs : ℕ → ℕ) (size : ℕ) (path : Path) (r s d : ℕ) (place : Sum) : Type 0 where
-  at_whole : IsPlacedAt cs path (r * s) d (simplified cs (wrapped path (r * s) (ThomasBack r s (unit_of r s) (unit_of s r))) place)
+  at_whole : IsPlacedAt cs path (r * s) d (simplified cs (wrapped path (r * s)
+      (ThomasBack r s (unit_of r s) (unit_of s r))) place)
   room : HasRoomFor cs (wrapped path (r * s) (ThomasBack r s (unit_of r s) (unit_of s r))) place
   fits : Fits size (simplified cs (wrapped path (r * s) (ThomasBack r s (unit_of r s) (unit_of s r))) place) cs
 
-taken_back : (size : ℕ) (path : Path) (r s d : ℕ) (cs : ℕ → ℕ) (place : Sum) → IsRuleIn size Gt path r s → IsPlacedAt cs (path ++ Columns s ∷ []) r d place → IsTakenBack cs size path r s d place
+taken_back : (size : ℕ) (path : Path) (r s d : ℕ) (cs : ℕ → ℕ) (place : Sum) → IsRuleIn size Gt path r s →
+    IsPlacedAt cs (path ++ Columns s ∷ []) r d place → IsTakenBack cs size path r s d place
 taken_back size path r s d cs place h there =
     let f = ThomasBack r s (unit_of r s) (unit_of s r) in
     let both : AreCoprime r s = coprime_in size path r s h in
@@ -217,7 +240,8 @@ taken_back size path r s d cs place h there =
       fits = subst (λ g. Fits size g cs) (sym after) (natural-fits size path (r * s) d (simplified cs f at_tensor) cs h.fills q.before made);
     }
 
-scattering-back : (size : ℕ) (path : Path) (r s : ℕ) (p : PlainPass) → IsRuleIn size Gt path r s → Scattering size (path ++ Columns s ∷ []) r p →
+scattering-back : (size : ℕ) (path : Path) (r s : ℕ) (p : PlainPass) → IsRuleIn size Gt path r s →
+    Scattering size (path ++ Columns s ∷ []) r p →
     Scattering size path (r * s) (scattered (wrapped path (r * s) (ThomasBack r s (unit_of r s) (unit_of s r))) p)
 scattering-back size path r s p rule h =
     let f = wrapped path (r * s) (ThomasBack r s (unit_of r s) (unit_of s r)) in
@@ -240,8 +264,10 @@ scattering-back size path r s p rule h =
 -- the places in a ct's diagonal, past the functions before its own
 pub record IsMultiplied (cs : ℕ → ℕ) (size : ℕ) (p : PlainPass) (d : PlainDiagonal) (v : ℕ) (e : Sum) : Type 0 where
   pub stays : StaysIn cs size d.places (place_sum p.path (work_size p.work) v e)
-  pub room : HasRoomFor cs (inner_of d.path (d.rows * d.cols)) (all_simplified cs d.places (place_sum p.path (work_size p.work) v e))
-  pub fits : Fits (d.rows * d.cols) (simplified cs (inner_of d.path (d.rows * d.cols)) (all_simplified cs d.places (place_sum p.path (work_size p.work) v e))) cs
+  pub room : HasRoomFor cs (inner_of d.path (d.rows * d.cols))
+      (all_simplified cs d.places (place_sum p.path (work_size p.work) v e))
+  pub fits : Fits (d.rows * d.cols) (simplified cs (inner_of d.path (d.rows * d.cols))
+      (all_simplified cs d.places (place_sum p.path (work_size p.work) v e))) cs
 
 abbrev pub Multiplying : ℕ → PlainPass → PlainDiagonal → Type 0
 Multiplying size p d = (cs : ℕ → ℕ) (v : ℕ) (e : Sum) → AreCounts p.path (work_size p.work) v cs → Fits (work_size p.work) e cs → IsMultiplied cs size p d v e
@@ -251,14 +277,8 @@ pub record IsPlacedPass (size : ℕ) (path : Path) (n : ℕ) (p : PlainPass) : T
   pub scatters : Scattering size path n p
   pub multiplies : (d : PlainDiagonal) → p.diagonal ≡ Some d → Multiplying size p d × (d.rows * d.cols ≤ size)
 
-pub none_is_some : (d : PlainDiagonal) → ◌≡◌ {A = Option PlainDiagonal} None (Some d) → ⊥
-none_is_some d e = absurd (cc)
-
-pub multiplied-is : (path : Path) (r s w : ℕ) (places : List Mapping) (d : PlainDiagonal) → ◌≡◌ {A = Option PlainDiagonal} (Some (record { path = path; rows = r; cols = s; root = w; places = places })) (Some d) →
-    ◌≡◌ {A = PlainDiagonal} (record { path = path; rows = r; cols = s; root = w; places = places }) d
-multiplied-is path r s w places d e = cc
-
-scattering-multiplies : (size : ℕ) (path : Path) (r s w : ℕ) (p : PlainPass) → r * s ≤ 1048576 → size_under path (r * s) ≤ 1048576 → Scattering size path (r * s) p →
+scattering-multiplies : (size : ℕ) (path : Path) (r s w : ℕ) (p : PlainPass) → r * s ≤ 1048576 →
+    size_under path (r * s) ≤ 1048576 → Scattering size path (r * s) p →
     Multiplying size (multiplied path r s w p) (record { path = path; rows = r; cols = s; root = w; places = p.afters })
 scattering-multiplies size path r s w p low high h cs d e counts fits =
     let there = h.placed cs d e counts fits in
@@ -271,21 +291,19 @@ scattering-multiplies size path r s w p low high h cs d e counts fits =
     }
 
 abbrev pub ArePlaced : ℕ → Path → ℕ → List PlainPass → Type 0
-ArePlaced size path n [] = Unit {0}
-ArePlaced size path n (p ∷ ps) = IsPlacedPass size path n p × ArePlaced size path n ps
+ArePlaced size path n ps = AllPasses (IsPlacedPass size path n) ps
 
-placed-append : (size : ℕ) (path : Path) (n : ℕ) (ps qs : List PlainPass) → ArePlaced size path n ps → ArePlaced size path n qs → ArePlaced size path n (ps ++ qs)
-placed-append size path n [] qs h k = k
-placed-append size path n (p ∷ ps) qs h k = (h.0, placed-append size path n ps qs h.1 k)
-
-lift-one : (size : ℕ) (path : Path) (t : Tensor) (n : ℕ) (p : PlainPass) → IsPlacedPass size (path ++ t ∷ []) n p → IsPlacedPass size path (grown t n) p
+lift-one : (size : ℕ) (path : Path) (t : Tensor) (n : ℕ) (p : PlainPass) → IsPlacedPass size (path ++ t ∷ []) n p →
+    IsPlacedPass size path (grown t n) p
 lift-one size path t n p h = record { gathers = h.gathers; scatters = scattering-lift size path t n p h.scatters; multiplies = h.multiplies }
 
-pub placed-lift : (size : ℕ) (path : Path) (t : Tensor) (n : ℕ) (ps : List PlainPass) → ArePlaced size (path ++ t ∷ []) n ps → ArePlaced size path (grown t n) ps
-placed-lift size path t n [] h = tt
-placed-lift size path t n (p ∷ ps) h = (lift-one size path t n p h.0, placed-lift size path t n ps h.1)
+pub placed-lift : (size : ℕ) (path : Path) (t : Tensor) (n : ℕ) (ps : List PlainPass) →
+    ArePlaced size (path ++ t ∷ []) n ps → ArePlaced size path (grown t n) ps
+placed-lift size path t n =
+    all-map (IsPlacedPass size (path ++ t ∷ []) n) (IsPlacedPass size path (grown t n)) (lift-one size path t n)
 
-back-one : (size : ℕ) (path : Path) (r s : ℕ) (p : PlainPass) → IsRuleIn size Gt path r s → IsPlacedPass size (path ++ Columns s ∷ []) r p →
+back-one : (size : ℕ) (path : Path) (r s : ℕ) (p : PlainPass) → IsRuleIn size Gt path r s →
+    IsPlacedPass size (path ++ Columns s ∷ []) r p →
     IsPlacedPass size path (r * s) (scattered (wrapped path (r * s) (ThomasBack r s (unit_of r s) (unit_of s r))) p)
 back-one size path r s p rule h =
     record {
@@ -295,41 +313,47 @@ back-one size path r s p rule h =
           let m = h.multiplies d e in (λ cs v g counts fits. let at = m.0 cs v g counts fits in record { stays = at.stays; room = at.room; fits = at.fits }, m.1);
     }
 
-placed-back : (size : ℕ) (path : Path) (r s : ℕ) (ps : List PlainPass) → IsRuleIn size Gt path r s → ArePlaced size (path ++ Columns s ∷ []) r ps →
-    ArePlaced size path (r * s) (at_last (scattered (wrapped path (r * s) (ThomasBack r s (unit_of r s) (unit_of s r)))) ps)
-placed-back size path r s [] rule h = tt
-placed-back size path r s (p ∷ []) rule h = (back-one size path r s p rule h.0, tt)
-placed-back size path r s (p ∷ q ∷ ps) rule h = (lift-one size path (Columns s) r p h.0, placed-back size path r s (q ∷ ps) rule h.1)
+pub placed-multiplied : (size : ℕ) (path : Path) (r s w : ℕ) (ps : List PlainPass) → r * s ≤ 1048576 →
+    size_under path (r * s) ≤ 1048576 → r * s ≤ size → ArePlaced size path (r * s) ps →
+    ArePlaced size path (r * s) (at_last (multiplied path r s w) ps)
+placed-multiplied size path r s w ps low under within h =
+    all-last (IsPlacedPass size path (r * s)) (multiplied path r s w) one ps h
+  where
+    one : (p : PlainPass) → IsPlacedPass size path (r * s) p →
+        IsPlacedPass size path (r * s) (multiplied path r s w p)
+    one p h = record {
+      gathers = h.gathers;
+      scatters = record { placed = h.scatters.placed; stays = h.scatters.stays };
+      multiplies = λ d e.
+          subst (λ (z : PlainDiagonal). Multiplying size (multiplied path r s w p) z × (z.rows * z.cols ≤ size))
+          (same_Some _ d e) (scattering-multiplies size path r s w p low under h.scatters, within);
+    }
 
-pub placed-multiplied : (size : ℕ) (path : Path) (r s w : ℕ) (ps : List PlainPass) → r * s ≤ 1048576 → size_under path (r * s) ≤ 1048576 → r * s ≤ size → ArePlaced size path (r * s) ps → ArePlaced size path (r * s) (at_last (multiplied path r s w) ps)
-placed-multiplied size path r s w [] low under within h = tt
-placed-multiplied size path r s w (p ∷ []) low under within h = (
-  record {
-    gathers = h.0.gathers;
-    scatters = record { placed = h.0.scatters.placed; stays = h.0.scatters.stays };
-    multiplies = λ d e.
-        subst (λ (z : PlainDiagonal). Multiplying size (multiplied path r s w p) z × (z.rows * z.cols ≤ size)) (multiplied-is path r s w p.afters d e) (scattering-multiplies size path r s w p low under h.0.scatters, within);
-  },
-  tt,
-)
-placed-multiplied size path r s w (p ∷ q ∷ ps) low under within h = (h.0, placed-multiplied size path r s w (q ∷ ps) low under within h.1)
+placed_rule : (size : ℕ) (rule : Rule) (path : Path) (r s w : ℕ) (left right : List PlainPass) →
+    IsRuleIn size rule path r s →
+    ArePlaced size (path ++ Columns s ∷ []) r left → ArePlaced size (path ++ Blocks r ∷ []) s right →
+    ArePlaced size path (r * s) (rule_passes rule path r s w left right)
+placed_rule size rule path r s w left right h l k =
+    by-rule rule h (placed-lift size path (Columns s) r left l) (placed-lift size path (Blocks r) s right k)
+  where
+    by-rule : (rule : Rule) → IsRuleIn size rule path r s → ArePlaced size path (r * s) left →
+        ArePlaced size path (r * s) right → ArePlaced size path (r * s) (rule_passes rule path r s w left right)
+    by-rule Gt h on_left on_right =
+        all-append (IsPlacedPass size path (r * s)) right _ on_right
+        (map-last (IsPlacedPass size (path ++ Columns s ∷ []) r) (IsPlacedPass size path (r * s))
+        (lift-one size path (Columns s) r) (scattered (back path r s)) (λ p q. back-one size path r s p h q) left l)
+    by-rule Ct h on_left on_right =
+        all-append (IsPlacedPass size path (r * s)) _ left
+        (placed-multiplied size path r s w right h.small (omega (arith, h.fills, h.whole.high)) h.within on_right) on_left
+    by-rule Split h on_left on_right = all-append (IsPlacedPass size path (r * s)) right left on_right on_left
+    by-rule Dim h on_left on_right = all-append (IsPlacedPass size path (r * s)) right left on_right on_left
 
-placed_rule : (size : ℕ) (rule : Rule) (path : Path) (r s w : ℕ) (left right : List PlainPass) → IsRuleIn size rule path r s →
-    ArePlaced size (path ++ Columns s ∷ []) r left → ArePlaced size (path ++ Blocks r ∷ []) s right → ArePlaced size path (r * s) (rule_passes rule path r s w left right)
-placed_rule size Gt path r s w left right h l k =
-    placed-append size path (r * s) right _ (placed-lift size path (Blocks r) s right k) (placed-back size path r s left h l)
-placed_rule size Ct path r s w left right h l k =
-    placed-append size path (r * s) _ left (placed-multiplied size path r s w right h.small (omega (arith, h.fills, h.whole.high)) h.within (placed-lift size path (Blocks r) s right k)) (placed-lift size path (Columns s) r left l)
-placed_rule size Split path r s w left right h l k =
-    placed-append size path (r * s) right left (placed-lift size path (Blocks r) s right k) (placed-lift size path (Columns s) r left l)
-placed_rule size Dim path r s w left right h l k =
-    placed-append size path (r * s) right left
-    (placed-lift size path (Blocks r) s right k) (placed-lift size path (Columns s) r left l)
+new-placed : (size : ℕ) (path : Path) (waiting : List Mapping) (w : PlainWork) → size_under path (work_size w) ≡ size →
+    Gathering size path waiting (work_size w) → IsPlacedPass size path (work_size w) (new_pass path w waiting)
+new-placed size path waiting w e g = record { gathers = g; scatters = scattering-new size path waiting w e; multiplies = λ d e. absurd (none-some d e) }
 
-new-placed : (size : ℕ) (path : Path) (waiting : List Mapping) (w : PlainWork) → size_under path (work_size w) ≡ size → Gathering size path waiting (work_size w) → IsPlacedPass size path (work_size w) (new_pass path w waiting)
-new-placed size path waiting w e g = record { gathers = g; scatters = scattering-new size path waiting w e; multiplies = λ d e. absurd (none_is_some d e) }
-
-pub placed_passes : (m size : ℕ) (path : Path) (waiting : List Mapping) (l : Layout) → IsSize size → IsGoodLayout m l → size_under path (layout_size l) ≡ size → Gathering size path waiting (layout_size l) →
+pub placed_passes : (m size : ℕ) (path : Path) (waiting : List Mapping) (l : Layout) → IsSize size → IsGoodLayout m l →
+    size_under path (layout_size l) ≡ size → Gathering size path waiting (layout_size l) →
     ArePlaced size path (layout_size l) (layout_passes path waiting l)
 placed_passes m size path waiting (work w) whole h e g = (new-placed size path waiting w e g, tt)
 placed_passes m size path waiting (by rule root a b) whole h e g =
@@ -343,7 +367,8 @@ placed_passes m size path waiting (by rule root a b) whole h e g =
 -- ---- the whole layout
 
 -- the passes of a layout that stands for the whole
-pub whole_placed : (m : ℕ) (l : Layout) → IsSize (layout_size l) → IsGoodLayout m l → ArePlaced (layout_size l) [] (layout_size l) (layout_passes [] [] l)
+pub whole_placed : (m : ℕ) (l : Layout) → IsSize (layout_size l) → IsGoodLayout m l →
+    ArePlaced (layout_size l) [] (layout_size l) (layout_passes [] [] l)
 whole_placed m l whole h = placed_passes m (layout_size l) [] [] l whole h refl (gathering-natural (layout_size l) [] (layout_size l) refl)
 
 limited_pass : (c : Target) (p : PlainPass) → IsPlacedPass c.size [] c.size p → IsLimitedPass c p
@@ -364,7 +389,8 @@ pub size_in : (c : Target) (l : Layout) → CanShareLayout c l → IsSize c.size
 size_in c l h = record { low = h.some; high = h.small }
 
 -- the passes of a layout on one processor and one lane
-pub tree_limited : (c : Target) (l : Layout) → CanShareLayout c l → IsGoodLayout c.modulus l → AllLimited c (layout_passes [] [] l)
+pub tree_limited : (c : Target) (l : Layout) → CanShareLayout c l → IsGoodLayout c.modulus l →
+    AllLimited c (layout_passes [] [] l)
 tree_limited c l shares good =
     all_limited c (layout_passes [] [] l)
     (subst (λ n. ArePlaced n [] n (layout_passes [] [] l)) shares.size (whole_placed c.modulus l (subst IsSize (sym shares.size) (size_in c l shares)) good))

@@ -1,9 +1,11 @@
 -- Where scaled, joined and divided sums fit 64 bits.
-use Rattle.std.proofs.Common.{ℕ, ◌+◌, ◌-◌, ◌*◌, ◌/◌, ◌%◌, ◌^◌, ◌<◌, ◌≤◌, inl, inr, arith, sym, ◌∙◌, subst, le-mul_of_pos_right}
+use Rattle.std.proofs.Common.{ℕ, ◌+◌, ◌-◌, ◌*◌, ◌/◌, ◌%◌, ◌^◌, ◌<◌, ◌≤◌, inl, inr, arith, sym, ◌∙◌, subst}
+use Rattle.std.proofs.Common.{le-mul_of_pos_right}
 use Rattle.std.proofs.Math.Nat.{mul-le-mul_left, mul-le-mul_right, mod-le}
 use Rattle.std.proofs.lemmas.Bool.{cases_eq}
 use Rattle.std.proofs.lemmas.Bool.Decides.{nat_tests}
-use Rattle.perm_algebra.specs.Affine.{IsProper, Sum, constant, variable, remainder, quotient, top, peak, scaled, joined, mods}
+use Rattle.perm_algebra.specs.Affine.{IsProper, Sum, constant, variable, remainder, quotient, top, peak, scaled, joined}
+use Rattle.perm_algebra.specs.Affine.{mods}
 use Rattle.perm_algebra.specs.Room.{constant_of, HasTop, CanScale, CanJoin, CanDivide}
 use Rattle.perm_algebra.proofs.Shape.{rest-joined, rest-small}
 
@@ -32,7 +34,8 @@ pub can_join : (a e : Sum) (cs : ℕ → ℕ) → top a cs + top e cs < 2 ^ 64 �
 can_join a e cs below = omega (arith, constant-le-top a cs, constant-le-top e cs)
 
 -- what is divided at a multiple of s and a small rest is the rest
-pub can_divide : (s : ℕ) (a e : Sum) (cs : ℕ → ℕ) → 0 < s → s ≤ 2 ^ 64 → IsProper e cs → top e cs < s → CanDivide cs s (joined (scaled s a) e)
+pub can_divide : (s : ℕ) (a e : Sum) (cs : ℕ → ℕ) → 0 < s → s ≤ 2 ^ 64 → IsProper e cs → top e cs < s →
+    CanDivide cs s (joined (scaled s a) e)
 can_divide s a e cs positive high h small = subst (HasTop cs) (sym (rest-joined s a e positive ∙ rest-small s e cs h small)) (has_top e cs h (omega arith))
 
 pub scaled-top : (a t b : ℕ) → t < b → a * t ≤ b * a

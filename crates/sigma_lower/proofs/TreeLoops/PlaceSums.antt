@@ -18,7 +18,8 @@ abbrev pub tensor_sum : Tensor → ℕ → ℕ → Sum → Sum
 tensor_sum (Blocks c) n d e = joined (scaled n (variable 1 d (constant 0))) e
 tensor_sum (Columns c) n d e = joined (scaled c e) (variable 1 d (constant 0))
 
-pub place_sum-push : (path : Path) (t : Tensor) (n d : ℕ) (e : Sum) → place_sum (path ++ t ∷ []) n d e ≡ place_sum path (grown t n) d (tensor_sum t n (d + length path) e)
+pub place_sum-push : (path : Path) (t : Tensor) (n d : ℕ) (e : Sum) →
+    place_sum (path ++ t ∷ []) n d e ≡ place_sum path (grown t n) d (tensor_sum t n (d + length path) e)
 place_sum-push [] (Blocks c) n d e = ap (λ i. joined (scaled n (variable 1 i (constant 0))) e) (omega arith)
 place_sum-push [] (Columns c) n d e = ap (λ i. joined (scaled c e) (variable 1 i (constant 0))) (omega arith)
 place_sum-push (Blocks c ∷ path) t n d e =
@@ -37,7 +38,8 @@ pub record ArePushed (path : Path) (t : Tensor) (n d : ℕ) (cs : ℕ → ℕ) :
   pub two : 2 ≤ count_of t
   pub positive : 0 < n
 
-pub counts-push : (path : Path) (t : Tensor) (n d : ℕ) (cs : ℕ → ℕ) → AreCounts (path ++ t ∷ []) n d cs → ArePushed path t n d cs
+pub counts-push : (path : Path) (t : Tensor) (n d : ℕ) (cs : ℕ → ℕ) → AreCounts (path ++ t ∷ []) n d cs →
+    ArePushed path t n d cs
 counts-push [] (Blocks c) n d cs h =
     record { before = positive-product c n (omega (arith, h.1)) h.2; count = ap cs (omega arith) ∙ h.0; two = h.1; positive = h.2 }
 counts-push [] (Columns c) n d cs h =
@@ -58,7 +60,8 @@ pub variable-fits : (c d : ℕ) (cs : ℕ → ℕ) → cs d ≡ c → 2 ≤ c �
 variable-fits c d cs e h = record { proper = (omega arith, omega arith, tt); small = omega arith; tame = tt; few = let four : 2 * 2 ≤ c * c = mul-le-mul h h in omega arith }
 
 -- a multiple and a rest
-pub parts-fit : (r s : ℕ) (a e : Sum) (cs : ℕ → ℕ) → 0 < s → Fits r a cs → Fits s e cs → Fits (r * s) (joined (scaled s a) e) cs
+pub parts-fit : (r s : ℕ) (a e : Sum) (cs : ℕ → ℕ) → 0 < s → Fits r a cs → Fits s e cs →
+    Fits (r * s) (joined (scaled s a) e) cs
 parts-fit r s a e cs h f g =
     record {
       proper = proper-joined (scaled s a) e cs (proper-scaled s a cs h f.proper) g.proper;
@@ -70,17 +73,20 @@ parts-fit r s a e cs h f g =
       few = few-joined r s a e f.few g.few;
     }
 
-pub tensor_sum-fits : (t : Tensor) (n d : ℕ) (e : Sum) (cs : ℕ → ℕ) → cs d ≡ count_of t → 2 ≤ count_of t → 0 < n → Fits n e cs → Fits (grown t n) (tensor_sum t n d e) cs
+pub tensor_sum-fits : (t : Tensor) (n d : ℕ) (e : Sum) (cs : ℕ → ℕ) → cs d ≡ count_of t → 2 ≤ count_of t → 0 < n →
+    Fits n e cs → Fits (grown t n) (tensor_sum t n d e) cs
 tensor_sum-fits (Blocks c) n d e cs count two positive f = parts-fit c n (variable 1 d (constant 0)) e cs positive (variable-fits c d cs count two) f
 tensor_sum-fits (Columns c) n d e cs count two positive f = parts-fit n c e (variable 1 d (constant 0)) cs (omega arith) f (variable-fits c d cs count two)
 
-pub place_sum-fits : (path : Path) (n d : ℕ) (e : Sum) (cs : ℕ → ℕ) → AreCounts path n d cs → Fits n e cs → Fits (size_under path n) (place_sum path n d e) cs
+pub place_sum-fits : (path : Path) (n d : ℕ) (e : Sum) (cs : ℕ → ℕ) → AreCounts path n d cs → Fits n e cs →
+    Fits (size_under path n) (place_sum path n d e) cs
 place_sum-fits [] n d e cs h f = f
 place_sum-fits (Blocks c ∷ path) n d e cs h f =
     tensor_sum-fits (Blocks c) (size_under path n) d (place_sum path n (d + 1) e) cs h.0 h.1 (size-positive path n (d + 1) cs h.2) (place_sum-fits path n (d + 1) e cs h.2 f)
 place_sum-fits (Columns c ∷ path) n d e cs h f =
     tensor_sum-fits (Columns c) (size_under path n) d (place_sum path n (d + 1) e) cs h.0 h.1 (size-positive path n (d + 1) cs h.2) (place_sum-fits path n (d + 1) e cs h.2 f)
 
-pub all_simplified-append : (cs : ℕ → ℕ) (fs : List Mapping) (f : Mapping) (e : Sum) → all_simplified cs (fs ++ f ∷ []) e ≡ simplified cs f (all_simplified cs fs e)
+pub all_simplified-append : (cs : ℕ → ℕ) (fs : List Mapping) (f : Mapping) (e : Sum) →
+    all_simplified cs (fs ++ f ∷ []) e ≡ simplified cs f (all_simplified cs fs e)
 all_simplified-append cs [] f e = refl
 all_simplified-append cs (g ∷ fs) f e = all_simplified-append cs fs f (simplified cs g e)

@@ -1,7 +1,8 @@
 -- The places of the right part of a shared root.
-use Rattle.std.proofs.Common.{◌≡◌, ℕ, ◌+◌, ◌*◌, ◌/◌, ◌<◌, ◌≤◌, Bool, true, false, arith, refl, sym, ap, ◌∙◌, List, [], ◌∷◌, ◌++◌, if◌then◌else◌, subst, append-nil, append_assoc}
+use Rattle.std.proofs.Common.{◌≡◌, ℕ, ◌+◌, ◌*◌, ◌/◌, ◌<◌, ◌≤◌, Bool, true, false, arith, refl, sym, ap, ◌∙◌, List, []}
+use Rattle.std.proofs.Common.{◌∷◌, ◌++◌, if◌then◌else◌, subst, append-nil, append_assoc}
 use Rattle.std.specs.Prelude.{◌==◌}
-use Rattle.sigma_lower.proofs.CanMerge.{several-of}
+use Rattle.std.proofs.lemmas.Bool.Decides.{nat_tests}
 use Rattle.index_fn.specs.Mapping.{Mapping}
 use Rattle.sigma_spl.specs.Limits.{AreSeveral}
 use Rattle.perm_algebra.specs.Affine.{Sum, constant, variable}
@@ -28,7 +29,11 @@ abbrev pub HaveSome : Path → Type 0
 HaveSome [] = Unit {0}
 HaveSome (t ∷ ts) = (0 < count_of t) × HaveSome ts
 
-wide-pick : (b : Bool) (t : Tensor) (path : Path) → (b ≡ false → 2 ≤ count_of t) → AreSeveral path → AreSeveral (if b then path else t ∷ path)
+several-of : (n : ℕ) → 0 < n → (n == 1) ≡ false → 2 ≤ n
+several-of n some other = grind (arith, nat_tests)
+
+wide-pick : (b : Bool) (t : Tensor) (path : Path) → (b ≡ false → 2 ≤ count_of t) → AreSeveral path →
+    AreSeveral (if b then path else t ∷ path)
 wide-pick true t path two h = h
 wide-pick false t path two h = (two refl, h)
 
@@ -52,7 +57,8 @@ module _ (size p v r s : ℕ) (h : AreShares size p v r s) where
   right_wide = wide-all three (h.procs, (h.lanes, (rows_some size p v r s h, tt)))
 
   right_leads : (cs : ℕ → ℕ) (q l j e : Sum) → AreThree cs p v (r / p / v) q l j → Fits s e cs →
-      LeadsTo cs size (turned_waiting p v r s) (placed three s (q ∷ l ∷ j ∷ []) e) (placed (Columns v ∷ Columns (r / p / v) ∷ Columns p ∷ []) s (l ∷ j ∷ q ∷ []) e)
+      LeadsTo cs size (turned_waiting p v r s) (placed three s (q ∷ l ∷ j ∷ []) e)
+      (placed (Columns v ∷ Columns (r / p / v) ∷ Columns p ∷ []) s (l ∷ j ∷ q ∷ []) e)
   right_leads cs q l j e named fits = turned-leads p v (r / p / v) s size q l j e cs named fits right_whole h.whole.high (lines_small size p v r s h) (vectors_small size p v r s h)
 
   pub gathering-turned : Gathering size (right_path p v r) (turned_waiting p v r s) s
@@ -68,13 +74,15 @@ module _ (size p v r s : ℕ) (h : AreShares size p v r s) where
 
 -- ---- passes under a path, as passes of the whole
 
-pub lift-all : (size : ℕ) (front back : Path) (n : ℕ) (ps : List PlainPass) → ArePlaced size (front ++ back) n ps → ArePlaced size front (size_under back n) ps
+pub lift-all : (size : ℕ) (front back : Path) (n : ℕ) (ps : List PlainPass) → ArePlaced size (front ++ back) n ps →
+    ArePlaced size front (size_under back n) ps
 lift-all size front [] n ps h = subst (λ path. ArePlaced size path n ps) (append-nil front) h
 lift-all size front (t ∷ back) n ps h =
     placed-lift size front t (size_under back n) ps (lift-all size (front ++ t ∷ []) back n ps (subst (λ path. ArePlaced size path n ps) (sym (append_assoc front (t ∷ []) back)) h))
 
 -- the right part's passes, where these gathers wait
-pub right_placed : (m size : ℕ) (path : Path) (waiting : List Mapping) (b : Layout) → IsSize size → IsGoodLayout m b → size_under path (layout_size b) ≡ size → Gathering size path waiting (layout_size b) →
+pub right_placed : (m size : ℕ) (path : Path) (waiting : List Mapping) (b : Layout) → IsSize size → IsGoodLayout m b →
+    size_under path (layout_size b) ≡ size → Gathering size path waiting (layout_size b) →
     ArePlaced size [] size (layout_passes path waiting b)
 right_placed m size path waiting b whole formed fills g =
     subst (λ n. ArePlaced size [] n (layout_passes path waiting b)) fills (lift-all size [] path (layout_size b) _ (placed_passes m size path waiting b whole formed fills g))

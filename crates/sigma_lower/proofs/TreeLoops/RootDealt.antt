@@ -25,7 +25,8 @@ in_parts : (p v k : ℕ) → p * (k / p) ≡ k → IsWide v (k / p) → IsDealt 
 in_parts p v k parts wide = ap (λ n. p * n) (mul_comm v (k / p / v) ∙ sym wide) ∙ parts
 
 -- a size that the processors' lines divide, and the vectors
-pub dealt_part : (c : Target) (l : Layout) (k : ℕ) → CanShareLayout c l → (1 < c.procs → k % (c.procs * c.line) ≡ 0) → (1 < c.lanes → k % c.lanes ≡ 0) → IsDealt c.procs c.lanes k
+pub dealt_part : (c : Target) (l : Layout) (k : ℕ) → CanShareLayout c l → (1 < c.procs → k % (c.procs * c.line) ≡ 0) →
+    (1 < c.lanes → k % c.lanes ≡ 0) → IsDealt c.procs c.lanes k
 dealt_part c l k h on_procs on_lanes =
     let p = c.procs in
     let v = c.lanes in
@@ -43,6 +44,7 @@ dealt_part c l k h on_procs on_lanes =
           in_parts p v k (sym dealt.parts) (lanes-wide v (k / p) lanes_low (λ lanes. wide_part v c.line (k / p) dealt.lines (h.in_line several)))
     ]
 
-pub dealt_parts : (c : Target) (l : Layout) (r s : ℕ) → CanShareLayout c l → HasParts c r s → IsDealt c.procs c.lanes r × IsDealt c.procs c.lanes s
+pub dealt_parts : (c : Target) (l : Layout) (r s : ℕ) → CanShareLayout c l → HasParts c r s →
+    IsDealt c.procs c.lanes r × IsDealt c.procs c.lanes s
 dealt_parts c l r s h fits =
     (dealt_part c l r h (λ several. (fits.procs several).0) (λ several. (fits.lanes several).0), dealt_part c l s h (λ several. (fits.procs several).1) (λ several. (fits.lanes several).1))

@@ -4,9 +4,11 @@ use Rattle.std.specs.Prelude.{map}
 use Rattle.std.specs.Option.{option_map}
 use Rattle.index_fn.specs.Mapping.{Mapping}
 use Rattle.operators.specs.declared.target.Target.{Target}
-use Rattle.sigma_lower.specs.TreeLoops.Merge.{PlainDiagonal, PlainPass, new_pass, scattered, multiplied, at_last, merged_phases}
+use Rattle.sigma_lower.specs.TreeLoops.Merge.{PlainDiagonal, PlainPass, new_pass, scattered, multiplied, at_last}
+use Rattle.sigma_lower.specs.TreeLoops.Merge.{merged_phases}
 use Rattle.sigma_lower.proofs.TreeLoops.TreePasses.{layout_passes}
-use Rattle.sigma_lower.specs.TreeTerms.Root.{right_path, left_path, whole_path, tile_path, lines_moved, vectors_turned, vectors_grouped, lines_dealt}
+use Rattle.sigma_lower.specs.TreeTerms.Root.{right_path, left_path, whole_path, tile_path, lines_moved, vectors_turned}
+use Rattle.sigma_lower.specs.TreeTerms.Root.{vectors_grouped, lines_dealt}
 use Rattle.sigma_spl.specs.Work.{tile}
 use Rattle.sigma_lower.specs.TreeTerms.Wrapped.{wrapped}
 use Rattle.operators.specs.declared.tensor_paths.Tensor.TheVariants.{Columns}

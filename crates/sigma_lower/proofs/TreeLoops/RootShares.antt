@@ -22,7 +22,8 @@ pub record AreShares (size p v r s : ℕ) : Type 0 where
 
 -- ---- from a layout that can be shared
 
-pub shares_of : (c : Target) (l : Layout) (r s : ℕ) → CanShareLayout c l → HasParts c r s → 2 ≤ r → 2 ≤ s → r * s ≡ c.size → AreShares c.size c.procs c.lanes r s
+pub shares_of : (c : Target) (l : Layout) (r s : ℕ) → CanShareLayout c l → HasParts c r s → 2 ≤ r → 2 ≤ s →
+    r * s ≡ c.size → AreShares c.size c.procs c.lanes r s
 shares_of c l r s h parts two_r two_s product =
     let dealt = dealt_parts c l r s h parts in
     record {
@@ -91,14 +92,8 @@ module _ (size p v r s : ℕ) (h : AreShares size p v r s) where
   pub rows_product : p * (v * (r / p / v)) * s ≡ size
   rows_product = ap (λ k. k * s) (sym h.rows) ∙ h.product
 
-  pub columns_product : r * (p * (v * (s / p / v))) ≡ size
-  columns_product = ap (λ k. r * k) (sym h.columns) ∙ h.product
-
   pub tiles_product : p * (v * (r / p / v)) * (v * (s / v)) ≡ size
   tiles_product = ap (λ k. p * (v * (r / p / v)) * k) tiles_fill ∙ rows_product
-
-  pub whole_product : r * (v * (s / v)) ≡ size
-  whole_product = ap (λ k. r * k) tiles_fill ∙ h.product
 
   pub rows_size : IsSize r
   rows_size = record { low = omega (arith, h.left); high = rows_high }

@@ -2,9 +2,10 @@
 use Rattle.std.proofs.Common.{◌≡◌, ℕ, ◌*◌, ◌≤◌, ◌∙◌, List, [], ◌∷◌, ◌++◌, subst}
 use Rattle.std.specs.Prelude.{Some}
 use Rattle.index_fn.specs.Mapping.{Mapping}
-use Rattle.sigma_lower.specs.TreeLoops.Merge.{PlainDiagonal, PlainPass, new_pass, scattered, multiplied, at_last}
-use Rattle.sigma_lower.proofs.TreeLoops.PlaceLimits.{none_is_some, multiplied-is}
-use Rattle.sigma_lower.proofs.TreeLoops.TreePasses.{rule_waiting, rule_passes, layout_passes}
+use Rattle.std.proofs.lemmas.Option.{none-some, same_Some}
+use Rattle.sigma_lower.specs.TreeLoops.Merge.{PlainDiagonal, PlainPass, new_pass, scattered, multiplied}
+use Rattle.sigma_lower.proofs.TreeLoops.PassLists.{AllPasses, all-append, all-last}
+use Rattle.sigma_lower.proofs.TreeLoops.TreePasses.{back, rule_waiting, rule_passes, layout_passes}
 use Rattle.sigma_spl.specs.Shared.Kernels.{IsMadeKernel}
 use Rattle.sigma_spl.specs.Limits.{AreSeveral}
 use Rattle.sigma_spl.proofs.Several.{several-push}
@@ -49,41 +50,40 @@ pub record IsShaped (P : PlainWork → Type 0) (size : ℕ) (p : PlainPass) : Ty
   pub multiplies : (d : PlainDiagonal) → p.diagonal ≡ Some d → size_under d.path (d.rows * d.cols) ≡ size
 
 abbrev pub AreShaped : (PlainWork → Type 0) → ℕ → List PlainPass → Type 0
-AreShaped P size [] = Unit {0}
-AreShaped P size (p ∷ ps) = IsShaped P size p × AreShaped P size ps
+AreShaped P size ps = AllPasses (IsShaped P size) ps
 
-pub shaped-append : (P : PlainWork → Type 0) (size : ℕ) (ps qs : List PlainPass) → AreShaped P size ps → AreShaped P size qs → AreShaped P size (ps ++ qs)
-shaped-append P size [] qs h k = k
-shaped-append P size (p ∷ ps) qs h k = (h.0, shaped-append P size ps qs h.1 k)
+pub new-shaped : (P : PlainWork → Type 0) (size : ℕ) (path : Path) (waiting : List Mapping) (w : PlainWork) →
+    AreSeveral path → size_under path (work_size w) ≡ size → P w → IsShaped P size (new_pass path w waiting)
+new-shaped P size path waiting w wide fills does = record { wide = wide; fills = fills; work = does; multiplies = λ d e. absurd (none-some d e) }
 
-pub shaped-last : (P : PlainWork → Type 0) (size : ℕ) (f : PlainPass → PlainPass) (ps : List PlainPass) → ((p : PlainPass) → IsShaped P size p → IsShaped P size (f p)) → AreShaped P size ps → AreShaped P size (at_last f ps)
-shaped-last P size f [] step h = tt
-shaped-last P size f (p ∷ []) step h = (step p h.0, tt)
-shaped-last P size f (p ∷ q ∷ ps) step h = (h.0, shaped-last P size f (q ∷ ps) step h.1)
-
-pub new-shaped : (P : PlainWork → Type 0) (size : ℕ) (path : Path) (waiting : List Mapping) (w : PlainWork) → AreSeveral path → size_under path (work_size w) ≡ size → P w → IsShaped P size (new_pass path w waiting)
-new-shaped P size path waiting w wide fills does = record { wide = wide; fills = fills; work = does; multiplies = λ d e. absurd (none_is_some d e) }
-
-pub scattered-shaped : (P : PlainWork → Type 0) (size : ℕ) (f : Mapping) (p : PlainPass) → IsShaped P size p → IsShaped P size (scattered f p)
+pub scattered-shaped : (P : PlainWork → Type 0) (size : ℕ) (f : Mapping) (p : PlainPass) → IsShaped P size p →
+    IsShaped P size (scattered f p)
 scattered-shaped P size f p h = record { wide = h.wide; fills = h.fills; work = h.work; multiplies = h.multiplies }
 
-pub multiplied-shaped : (P : PlainWork → Type 0) (size : ℕ) (path : Path) (r s w : ℕ) (p : PlainPass) → size_under path (r * s) ≡ size → IsShaped P size p → IsShaped P size (multiplied path r s w p)
+pub multiplied-shaped : (P : PlainWork → Type 0) (size : ℕ) (path : Path) (r s w : ℕ) (p : PlainPass) →
+    size_under path (r * s) ≡ size → IsShaped P size p → IsShaped P size (multiplied path r s w p)
 multiplied-shaped P size path r s w p fills h =
     record {
       wide = h.wide;
       fills = h.fills;
       work = h.work;
-      multiplies = λ d e. subst (λ (z : PlainDiagonal). size_under z.path (z.rows * z.cols) ≡ size) (multiplied-is path r s w p.afters d e) fills;
+      multiplies = λ d e. subst (λ (z : PlainDiagonal). size_under z.path (z.rows * z.cols) ≡ size) (same_Some _ d e) fills;
     }
 
-shaped_rule : (P : PlainWork → Type 0) (size : ℕ) (rule : Rule) (path : Path) (r s w : ℕ) (left right : List PlainPass) → size_under path (r * s) ≡ size → AreShaped P size left → AreShaped P size right →
+shaped_rule : (P : PlainWork → Type 0) (size : ℕ) (rule : Rule) (path : Path) (r s w : ℕ)
+    (left right : List PlainPass) → size_under path (r * s) ≡ size → AreShaped P size left → AreShaped P size right →
     AreShaped P size (rule_passes rule path r s w left right)
-shaped_rule P size Gt path r s w left right fills l k = shaped-append P size right _ k (shaped-last P size _ left (λ p h. scattered-shaped P size _ p h) l)
-shaped_rule P size Ct path r s w left right fills l k = shaped-append P size _ left (shaped-last P size (multiplied path r s w) right (λ p h. multiplied-shaped P size path r s w p fills h) k) l
-shaped_rule P size Split path r s w left right fills l k = shaped-append P size right left k l
-shaped_rule P size Dim path r s w left right fills l k = shaped-append P size right left k l
+shaped_rule P size Gt path r s w left right fills l k =
+    all-append (IsShaped P size) right _ k
+    (all-last (IsShaped P size) (scattered (back path r s)) (λ p h. scattered-shaped P size (back path r s) p h) left l)
+shaped_rule P size Ct path r s w left right fills l k =
+    all-append (IsShaped P size) _ left
+    (all-last (IsShaped P size) (multiplied path r s w) (λ p h. multiplied-shaped P size path r s w p fills h) right k) l
+shaped_rule P size Split path r s w left right fills l k = all-append (IsShaped P size) right left k l
+shaped_rule P size Dim path r s w left right fills l k = all-append (IsShaped P size) right left k l
 
-pub shaped_passes : (P : PlainWork → Type 0) (m size : ℕ) (path : Path) (waiting : List Mapping) (l : Layout) → AreSeveral path → IsGoodLayout m l →
+pub shaped_passes : (P : PlainWork → Type 0) (m size : ℕ) (path : Path) (waiting : List Mapping) (l : Layout) →
+    AreSeveral path → IsGoodLayout m l →
     HasWorks P l → size_under path (layout_size l) ≡ size → AreShaped P size (layout_passes path waiting l)
 shaped_passes P m size path waiting (work w) wide h all e = (new-shaped P size path waiting w wide e all, tt)
 shaped_passes P m size path waiting (by rule root a b) wide h all e =

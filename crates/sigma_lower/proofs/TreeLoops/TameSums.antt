@@ -1,5 +1,6 @@
 -- Sums whose remainders are of small numbers, in few parts.
-use Rattle.std.proofs.Common.{◌≡◌, ℕ, suc, ◌+◌, ◌-◌, ◌*◌, ◌%◌, ◌^◌, ◌<◌, ◌≤◌, true, inl, inr, arith, sym, subst, le-mul_of_pos_right}
+use Rattle.std.proofs.Common.{◌≡◌, ℕ, suc, ◌+◌, ◌-◌, ◌*◌, ◌%◌, ◌^◌, ◌<◌, ◌≤◌, true, inl, inr, arith, sym, subst}
+use Rattle.std.proofs.Common.{le-mul_of_pos_right}
 use Rattle.std.proofs.Math.Nat.{pow-succ', mul-le-mul}
 use Rattle.std.proofs.Math.Pow.{pow_mono}
 use Rattle.std.proofs.lemmas.Bool.{cases_eq, cases_lt}
@@ -8,7 +9,8 @@ use Rattle.std.proofs.lemmas.Nat.{pow-add}
 use Rattle.sigma_spl.specs.Merge.{total, are_small, is_limited}
 use Rattle.sigma_spl.proofs.Small.{divided-true}
 use Rattle.sigma_spl.proofs.Within.{both-true, limited, small-true}
-use Rattle.perm_algebra.specs.Affine.{AreBelow, HasNoQuotient, IsProper, Sum, constant, variable, remainder, quotient, top, levels, parts, scaled, joined, mods, reduced}
+use Rattle.perm_algebra.specs.Affine.{AreBelow, HasNoQuotient, IsProper, Sum, constant, variable, remainder, quotient}
+use Rattle.perm_algebra.specs.Affine.{top, levels, parts, scaled, joined, mods, reduced}
 use Rattle.perm_algebra.proofs.Reduced.{mods-below, mods-proper}
 use Rattle.perm_algebra.proofs.Sizes.{is_reduced, parts-scaled, parts-joined}
 use Rattle.sigma_lower.specs.TreeLoops.Placed.{Fits, IsSmallPart, IsTame}
@@ -65,7 +67,8 @@ total-le n (variable f d rest) high h = omega (arith, h.0, total-le n rest high 
 total-le n (remainder f of m rest) high h = omega (arith, h.0, total-le n rest high h.1)
 total-le n (quotient f of m rest) high h = omega (arith, h.0, total-le n rest high h.1)
 
-tame-small : (n : ℕ) (e : Sum) (cs : ℕ → ℕ) → n ≤ 1048576 → IsProper e cs → IsTame cs e → AreBelow n e → are_small cs e ≡ true
+tame-small : (n : ℕ) (e : Sum) (cs : ℕ → ℕ) → n ≤ 1048576 → IsProper e cs → IsTame cs e → AreBelow n e →
+    are_small cs e ≡ true
 tame-small n (constant c) cs high h tame low = small-true c (omega (arith, low))
 tame-small n (variable f d rest) cs high h tame low = both-true _ _ (small-true f (omega (arith, low.0))) (tame-small n rest cs high h.2 tame low.1)
 tame-small n (remainder f of m rest) cs high h tame low =
@@ -98,7 +101,8 @@ few-both r s j k h g =
     subst (λ x. x ≤ r * s * (r * s)) (sym (pow-add 2 j k)) (subst (λ y. 2 ^ j * 2 ^ k ≤ y) turned both)
 
 -- a multiple and a rest
-pub few-joined : (r s : ℕ) (a e : Sum) → 2 ^ parts a ≤ r * r → 2 ^ parts e ≤ s * s → 2 ^ parts (joined (scaled s a) e) ≤ r * s * (r * s)
+pub few-joined : (r s : ℕ) (a e : Sum) → 2 ^ parts a ≤ r * r → 2 ^ parts e ≤ s * s →
+    2 ^ parts (joined (scaled s a) e) ≤ r * s * (r * s)
 few-joined r s a e h g =
     let is : parts a + parts e ≡ parts (joined (scaled s a) e) = omega (arith, parts-joined (scaled s a) e, parts-scaled s a) in
     subst (λ k. 2 ^ k ≤ r * s * (r * s)) is (few-both r s (parts a) (parts e) h g)
@@ -114,7 +118,8 @@ few-more k j s n more twice few =
 
 -- ---- modulo n
 
-tame-part : (cs : ℕ → ℕ) (n : ℕ) (e : Sum) → 2 ≤ n → n ≤ 1048576 → IsProper e cs → IsTame cs e → parts e ≤ 64 → top e cs < 2 ^ 64 → HasNoQuotient (mods n e) → parts (mods n e) ≤ 64 → IsSmallPart cs (mods n e) n
+tame-part : (cs : ℕ → ℕ) (n : ℕ) (e : Sum) → 2 ≤ n → n ≤ 1048576 → IsProper e cs → IsTame cs e → parts e ≤ 64 →
+    top e cs < 2 ^ 64 → HasNoQuotient (mods n e) → parts (mods n e) ≤ 64 → IsSmallPart cs (mods n e) n
 tame-part cs n e two high proper tame few word plain less =
     let low = mods-below n e (omega arith) in
     record {
@@ -126,7 +131,8 @@ tame-part cs n e two high proper tame few word plain less =
     }
 
 -- what is taken modulo n stands in few small numbers, where all that is before fits a word
-pub reduced-fits : (cs : ℕ → ℕ) (n s j : ℕ) (e : Sum) → 2 * s ≤ n → 0 < s → n ≤ 1048576 → IsProper e cs → IsTame cs e → parts e ≤ 1 + j → 2 ^ j ≤ s * s → top e cs < 2 ^ 64 → Fits n (reduced cs n e) cs
+pub reduced-fits : (cs : ℕ → ℕ) (n s j : ℕ) (e : Sum) → 2 * s ≤ n → 0 < s → n ≤ 1048576 → IsProper e cs → IsTame cs e →
+    parts e ≤ 1 + j → 2 ^ j ≤ s * s → top e cs < 2 ^ 64 → Fits n (reduced cs n e) cs
 reduced-fits cs n s j e twice some high proper tame more few word =
     let two : 2 ≤ n = omega arith in
     let made = is_reduced cs n e two proper (tame-plain cs e tame) in
@@ -153,7 +159,8 @@ reduced-fits cs n s j e twice some high proper tame more few word =
 pub few-parts : (n : ℕ) (e : Sum) (cs : ℕ → ℕ) → n ≤ 1048576 → Fits n e cs → (parts e ≤ 40) × (levels e ≤ 40)
 few-parts n e cs high h = let few = few-small (parts e) n high h.few in (few, omega (arith, few, levels-le-parts e))
 
-pub fits-limited : (room n : ℕ) (e : Sum) (cs : ℕ → ℕ) → 40 ≤ room → n ≤ 1048576 → Fits n e cs → is_limited room n cs e ≡ true
+pub fits-limited : (room n : ℕ) (e : Sum) (cs : ℕ → ℕ) → 40 ≤ room → n ≤ 1048576 → Fits n e cs →
+    is_limited room n cs e ≡ true
 fits-limited room n e cs enough high h =
     let few = few-parts n e cs high h in
     limited room n cs e

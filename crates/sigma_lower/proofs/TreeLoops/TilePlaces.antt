@@ -1,12 +1,14 @@
 -- The places of tiles.
-use Rattle.std.proofs.Common.{◌≡◌, ℕ, ◌+◌, ◌*◌, ◌/◌, ◌<◌, arith, sym, ap, ◌∙◌, List, [], ◌∷◌, ◌++◌, if◌then◌else◌, subst}
+use Rattle.std.proofs.Common.{◌≡◌, ℕ, ◌+◌, ◌*◌, ◌/◌, ◌<◌, arith, sym, ap, ◌∙◌, List, [], ◌∷◌, ◌++◌, if◌then◌else◌}
+use Rattle.std.proofs.Common.{subst}
 use Rattle.std.specs.Prelude.{◌==◌, Option, Some}
 use Rattle.index_fn.specs.Mapping.{Mapping, Same}
 use Rattle.operators.specs.declared.target.Target.{Target}
 use Rattle.sigma_spl.specs.Limits.{AreSeveral}
 use Rattle.perm_algebra.specs.Affine.{Sum, constant, variable}
 use Rattle.sigma_lower.specs.TreeLoops.Merge.{PlainDiagonal, PlainPass}
-use Rattle.sigma_lower.specs.TreeLoops.Placed.{Fits, IsCarried, place_sum, AreCounts, all_simplified, diagonal_places, ArePlacesLimited, IsLimitedPass}
+use Rattle.sigma_lower.specs.TreeLoops.Placed.{Fits, IsCarried, place_sum, AreCounts, all_simplified, diagonal_places}
+use Rattle.sigma_lower.specs.TreeLoops.Placed.{ArePlacesLimited, IsLimitedPass}
 use Rattle.sigma_lower.proofs.TreeLoops.LineMoves.{LeadsTo, leads-same, grouped-leads, number-fits}
 use Rattle.sigma_lower.proofs.TreeLoops.PlaceLimits.{natural-fits}
 use Rattle.sigma_lower.proofs.TreeLoops.RightPlaces.{wide-all}
@@ -58,7 +60,8 @@ module _ (size p v r s : ℕ) (h : AreShares size p v r s) where
   abbrev pub tile_with : List Mapping → Option PlainDiagonal → List Mapping → PlainPass
   tile_with befores diagonal afters = record { path = tile_path p v r s; work = tile v; befores = befores; diagonal = diagonal; afters = afters }
 
-  pub tile_limited : (c : Target) (befores afters : List Mapping) (diagonal : Option PlainDiagonal) → c.size ≡ size → KeepWithin befores → KeepWithin afters →
+  pub tile_limited : (c : Target) (befores afters : List Mapping) (diagonal : Option PlainDiagonal) → c.size ≡ size →
+      KeepWithin befores → KeepWithin afters →
       ((d : PlainDiagonal) → diagonal ≡ Some d → (w : ℕ) × (record { path = []; rows = r; cols = s; root = w; places = afters } ≡ d)) → IsLimitedPass c (tile_with befores diagonal afters)
   tile_limited c befores afters diagonal sized before after root cs e counts fits (k, is) =
       let n : ℕ = v * v in

@@ -1,14 +1,14 @@
--- The passes of a layout, by recursion on it, and that merging makes them.
-use Rattle.std.proofs.Common.{◌≡◌, ℕ, ◌*◌, Bool, true, false, List, [], ◌∷◌, ◌++◌, refl, ap, ap₂, ◌∙◌, append_assoc}
+-- The passes of a layout, by recursion on it, and that they are those of the cost model.
+use Rattle.std.proofs.Common.{◌≡◌, ℕ, ◌*◌, Bool, true, false, List, [], ◌∷◌, ◌++◌, refl, ap, ap₂, ◌∙◌}
 use Rattle.std.specs.Prelude.{map}
+use Rattle.std.proofs.lemmas.List.{map-append}
 use Rattle.index_fn.specs.Mapping.{Mapping, Strided, ThomasIn, ThomasBack}
-use Rattle.sigma_lower.specs.TreeLoops.Merge.{PlainPass, Merging, new_pass, scattered, multiplied, at_last, merge_term, merged, passes_of_terms}
-use Rattle.sigma_lower.specs.TreeLoops.Laws.{has_diagonal, counted_as, counted, with_twiddles, twiddle_last, twiddle_by, passes_of}
-use Rattle.sigma_lower.specs.TreeTerms.Term.{lowered}
+use Rattle.sigma_lower.specs.TreeLoops.Merge.{PlainPass, new_pass, scattered, multiplied, at_last}
+use Rattle.sigma_lower.specs.TreeLoops.Laws.{has_diagonal, counted_as, counted, with_twiddles, twiddle_last, twiddle_by}
+use Rattle.sigma_lower.specs.TreeLoops.Laws.{passes_of}
 use Rattle.sigma_spl.specs.Work.{PlainWork, kernel, rows, horner, tile, copy}
 use Rattle.smp_rewrite.specs.LayoutSteps.Layout.{Layout, work, by, layout_size, IsGoodLayout, IsGoodWork}
 use Rattle.sigma_lower.specs.TreeTerms.Wrapped.{wrapped, unit_of}
-use Rattle.smp_rewrite.specs.LayoutSteps.Step.{PlainStep, step, turns, twiddles, thomas_in, thomas_out, rule_steps, steps_of}
 use Rattle.operators.specs.declared.tensor_paths.Tensor.TheVariants.{Blocks, Columns}
 use Rattle.operators.specs.TensorPaths.Path.{Path, copies_of}
 use Rattle.operators.proofs.TensorPaths.Under.{copies_of-push}
@@ -22,8 +22,12 @@ rule_waiting Ct path r s waiting = wrapped path (r * s) (Strided r s) ∷ waitin
 rule_waiting Split path r s waiting = waiting
 rule_waiting Dim path r s waiting = waiting
 
+-- the inverse of a gt's permutation
+abbrev pub back : Path → ℕ → ℕ → Mapping
+back path r s = wrapped path (r * s) (ThomasBack r s (unit_of r s) (unit_of s r))
+
 abbrev pub rule_passes : Rule → Path → ℕ → ℕ → ℕ → List PlainPass → List PlainPass → List PlainPass
-rule_passes Gt path r s w left right = right ++ at_last (scattered (wrapped path (r * s) (ThomasBack r s (unit_of r s) (unit_of s r)))) left
+rule_passes Gt path r s w left right = right ++ at_last (scattered (back path r s)) left
 rule_passes Ct path r s w left right = at_last (multiplied path r s w) right ++ left
 rule_passes Split path r s w left right = right ++ left
 rule_passes Dim path r s w left right = right ++ left
@@ -50,13 +54,19 @@ full-at_last f [] h = h
 full-at_last f (p ∷ []) h = tt
 full-at_last f (p ∷ q ∷ ps) h = tt
 
-pub at_last-append : (f : PlainPass → PlainPass) (ps qs : List PlainPass) → IsFull qs → at_last f (ps ++ qs) ≡ ps ++ at_last f qs
+pub full-mapped : (f : PlainPass → PlainPass) (ps : List PlainPass) → IsFull ps → IsFull (map f ps)
+full-mapped f [] h = absurd h
+full-mapped f (p ∷ ps) h = tt
+
+pub at_last-append : (f : PlainPass → PlainPass) (ps qs : List PlainPass) → IsFull qs →
+    at_last f (ps ++ qs) ≡ ps ++ at_last f qs
 at_last-append f [] qs h = refl
 at_last-append f (p ∷ []) [] h = absurd h
 at_last-append f (p ∷ []) (q ∷ qs) h = refl
 at_last-append f (p ∷ r ∷ ps) qs h = ap (λ rest. p ∷ rest) (at_last-append f (r ∷ ps) qs h)
 
-full_rule : (rule : Rule) (path : Path) (r s w : ℕ) (left right : List PlainPass) → IsFull left → IsFull (rule_passes rule path r s w left right)
+full_rule : (rule : Rule) (path : Path) (r s w : ℕ) (left right : List PlainPass) → IsFull left →
+    IsFull (rule_passes rule path r s w left right)
 full_rule Gt path r s w left right h = full-append right _ (full-at_last _ left h)
 full_rule Ct path r s w left right h = full-append (at_last (multiplied path r s w) right) left h
 full_rule Split path r s w left right h = full-append right left h
@@ -68,70 +78,7 @@ full_passes path waiting (by rule root a b) =
     full_rule rule path (layout_size a) (layout_size b) root (layout_passes (path ++ Columns (layout_size b) ∷ []) [] a) _
     (full_passes (path ++ Columns (layout_size b) ∷ []) [] a)
 
--- ---- merging makes them
-
-merged-append : (st : Merging) (ss ts : List PlainStep) → merged st (map lowered (ss ++ ts)) ≡ merged (merged st (map lowered ss)) (map lowered ts)
-merged-append st [] ts = refl
-merged-append st (s ∷ ss) ts = merged-append (merge_term st (lowered s)) ss ts
-
-abbrev pub done : List PlainPass → Merging
-done ps = record { waiting = []; passes = ps }
-
--- steps that make these passes, whatever waits
-abbrev Makes : List PlainStep → (List Mapping → List PlainPass) → Type 0
-Makes ss make = (st : Merging) → merged st (map lowered ss) ≡ done (st.passes ++ make st.waiting)
-
-makes_rule : (rule : Rule) (path : Path) (r s w : ℕ) (left right : List PlainStep) (make_left make_right : List Mapping → List PlainPass) →
-    ((waiting : List Mapping) → IsFull (make_left waiting)) → ((waiting : List Mapping) → IsFull (make_right waiting)) → Makes left make_left → Makes right make_right →
-    Makes (rule_steps rule path r s w left right) (λ waiting. rule_passes rule path r s w (make_left []) (make_right (rule_waiting rule path r s waiting)))
-makes_rule Gt path r s w left right make_left make_right full_left full_right on_left on_right st =
-    let waiting = rule_waiting Gt path r s st.waiting in
-    let last = step path (thomas_out r s) in
-    let back = scattered (wrapped path (r * s) (ThomasBack r s (unit_of r s) (unit_of s r))) in
-    merged-append (merge_term st (lowered (step path (thomas_in r s)))) right (left ++ last ∷ [])
-    ∙ ap (λ z. merged z (map lowered (left ++ last ∷ []))) (on_right (record { waiting = waiting; passes = st.passes }))
-    ∙ merged-append (done (st.passes ++ make_right waiting)) left (last ∷ [])
-    ∙ ap (λ z. merged z (map lowered (last ∷ []))) (on_left (done (st.passes ++ make_right waiting)))
-    ∙ ap done
-    (at_last-append back (st.passes ++ make_right waiting) (make_left []) (full_left [])
-    ∙ append_assoc st.passes (make_right waiting) (at_last back (make_left [])))
-makes_rule Ct path r s w left right make_left make_right full_left full_right on_left on_right st =
-    let waiting = rule_waiting Ct path r s st.waiting in
-    let last = step path (twiddles r s w) in
-    let turned = multiplied path r s w in
-    merged-append (merge_term st (lowered (step path (turns r s)))) right (last ∷ left)
-    ∙ ap (λ z. merged z (map lowered (last ∷ left))) (on_right (record { waiting = waiting; passes = st.passes }))
-    ∙ ap (λ ps. merged (done ps) (map lowered left)) (at_last-append turned st.passes (make_right waiting) (full_right waiting))
-    ∙ on_left (done (st.passes ++ at_last turned (make_right waiting)))
-    ∙ ap done (append_assoc st.passes (at_last turned (make_right waiting)) (make_left []))
-makes_rule Split path r s w left right make_left make_right full_left full_right on_left on_right st =
-    merged-append st right left
-    ∙ ap (λ z. merged z (map lowered left)) (on_right st)
-    ∙ on_left (done (st.passes ++ make_right st.waiting))
-    ∙ ap done (append_assoc st.passes (make_right st.waiting) (make_left []))
-makes_rule Dim path r s w left right make_left make_right full_left full_right on_left on_right st =
-    merged-append st right left
-    ∙ ap (λ z. merged z (map lowered left)) (on_right st)
-    ∙ on_left (done (st.passes ++ make_right st.waiting))
-    ∙ ap done (append_assoc st.passes (make_right st.waiting) (make_left []))
-
-pub merged_tree : (path : Path) (l : Layout) → Makes (steps_of path l) (λ waiting. layout_passes path waiting l)
-merged_tree path (work w) = λ st. refl
-merged_tree path (by rule root a b) =
-    let r = layout_size a in
-    let s = layout_size b in
-    makes_rule rule path r s root _ _ (λ waiting. layout_passes (path ++ Columns s ∷ []) waiting a) (λ waiting. layout_passes (path ++ Blocks r ∷ []) waiting b)
-    (λ waiting. full_passes (path ++ Columns s ∷ []) waiting a) (λ waiting. full_passes (path ++ Blocks r ∷ []) waiting b)
-    (merged_tree (path ++ Columns s ∷ []) a) (merged_tree (path ++ Blocks r ∷ []) b)
-
-pub passes_of_terms-tree : (l : Layout) → passes_of_terms (map lowered (steps_of [] l)) ≡ layout_passes [] [] l
-passes_of_terms-tree l = ap (λ (z : Merging). z.passes) (merged_tree [] l (done []))
-
 -- ---- they are the passes of the cost model
-
-map-append : (ps qs : List PlainPass) → map counted (ps ++ qs) ≡ map counted ps ++ map counted qs
-map-append [] qs = refl
-map-append (p ∷ ps) qs = ap (λ rest. counted p ∷ rest) (map-append ps qs)
 
 counted-scattered : (f : Mapping) (ps : List PlainPass) → map counted (at_last (scattered f) ps) ≡ map counted ps
 counted-scattered f [] = refl
@@ -145,16 +92,18 @@ with-diagonal n (horner root size) b = refl
 with-diagonal n (tile v) b = refl
 with-diagonal n (copy size) b = refl
 
-pub counted-multiplied : (path : Path) (r s w : ℕ) (ps : List PlainPass) → map counted (at_last (multiplied path r s w) ps) ≡ twiddle_last (map counted ps)
+pub counted-multiplied : (path : Path) (r s w : ℕ) (ps : List PlainPass) →
+    map counted (at_last (multiplied path r s w) ps) ≡ twiddle_last (map counted ps)
 counted-multiplied path r s w [] = refl
 counted-multiplied path r s w (p ∷ []) = ap (λ q. q ∷ []) (with-diagonal (copies_of p.path) p.work (has_diagonal p.diagonal))
 counted-multiplied path r s w (p ∷ q ∷ ps) = ap (λ rest. counted p ∷ rest) (counted-multiplied path r s w (q ∷ ps))
 
-counted_rule : (rule : Rule) (path : Path) (r s w : ℕ) (left right : List PlainPass) → map counted (rule_passes rule path r s w left right) ≡ twiddle_by rule (map counted right) ++ map counted left
-counted_rule Gt path r s w left right = map-append right _ ∙ ap (λ rest. map counted right ++ rest) (counted-scattered _ left)
-counted_rule Ct path r s w left right = map-append (at_last (multiplied path r s w) right) left ∙ ap (λ rest. rest ++ map counted left) (counted-multiplied path r s w right)
-counted_rule Split path r s w left right = map-append right left
-counted_rule Dim path r s w left right = map-append right left
+counted_rule : (rule : Rule) (path : Path) (r s w : ℕ) (left right : List PlainPass) →
+    map counted (rule_passes rule path r s w left right) ≡ twiddle_by rule (map counted right) ++ map counted left
+counted_rule Gt path r s w left right = map-append counted right _ ∙ ap (λ rest. map counted right ++ rest) (counted-scattered _ left)
+counted_rule Ct path r s w left right = map-append counted (at_last (multiplied path r s w) right) left ∙ ap (λ rest. rest ++ map counted left) (counted-multiplied path r s w right)
+counted_rule Split path r s w left right = map-append counted right left
+counted_rule Dim path r s w left right = map-append counted right left
 
 -- a work of a good layout is no tile
 counted-work : (m n : ℕ) (w : PlainWork) → IsGoodWork m w → counted_as n w false ∷ [] ≡ passes_of n (work w)
@@ -164,7 +113,8 @@ counted-work m n (horner root size) h = absurd h
 counted-work m n (tile v) h = absurd h
 counted-work m n (copy size) h = absurd h
 
-pub counted_passes : (m : ℕ) (path : Path) (waiting : List Mapping) (l : Layout) → IsGoodLayout m l → map counted (layout_passes path waiting l) ≡ passes_of (copies_of path) l
+pub counted_passes : (m : ℕ) (path : Path) (waiting : List Mapping) (l : Layout) → IsGoodLayout m l →
+    map counted (layout_passes path waiting l) ≡ passes_of (copies_of path) l
 counted_passes m path waiting (work w) h = counted-work m (copies_of path) w h.1
 counted_passes m path waiting (by rule root a b) h =
     let r = layout_size a in

@@ -11,15 +11,18 @@ use Rattle.smp_rewrite.specs.LayoutSteps.Layout.{Layout, IsGoodLayout}
 use Rattle.sigma_spl.specs.Shared.Targets.{is_alone}
 use Rattle.operators.specs.declared.target.Target.{Target}
 
-good_either : (c : Target) (P : PlainWork → Type 0) (l : Layout) → CanShareLayout c l → IsGoodLayout c.modulus l → HasWorks P l → P (tile c.lanes) → (b : Bool) → is_alone c ≡ b →
+good_either : (c : Target) (P : PlainWork → Type 0) (l : Layout) → CanShareLayout c l → IsGoodLayout c.modulus l →
+    HasWorks P l → P (tile c.lanes) → (b : Bool) → is_alone c ≡ b →
     HaveGoodPlaces c P (merged_of c l)
 good_either c P l shares good all over true plain = plain_good c P l shares good all plain
 good_either c P l shares good all over false shared =
     subst (λ phases. HaveGoodPlaces c P (in_order phases)) (sym (root_merged c l shares good shared)) (root_good c P l shares good all over shared)
 
 -- where P holds of the works of the layout, and of tiles
-pub good_places : (c : Target) (P : PlainWork → Type 0) (l : Layout) → CanShareLayout c l → IsGoodLayout c.modulus l → HasWorks P l → P (tile c.lanes) → HaveGoodPlaces c P (merged_of c l)
+pub good_places : (c : Target) (P : PlainWork → Type 0) (l : Layout) → CanShareLayout c l → IsGoodLayout c.modulus l →
+    HasWorks P l → P (tile c.lanes) → HaveGoodPlaces c P (merged_of c l)
 good_places c P l shares good all over = good_either c P l shares good all over (is_alone c) refl
 
-pub tree_good_places : (c : Target) (l : Layout) → CanShareLayout c l → IsGoodLayout c.modulus l → HaveGoodPlaces c (IsShapedWork c.modulus) (merged_of c l)
+pub tree_good_places : (c : Target) (l : Layout) → CanShareLayout c l → IsGoodLayout c.modulus l →
+    HaveGoodPlaces c (IsShapedWork c.modulus) (merged_of c l)
 tree_good_places c l shares good = good_places c (IsShapedWork c.modulus) l shares good (shaped_works c.modulus l good) tt

@@ -4,7 +4,8 @@ use Rattle.std.specs.Prelude.{map}
 use Rattle.std.proofs.lemmas.List.{append-nil}
 use Rattle.operators.specs.declared.target.Target.{Target}
 use Rattle.sigma_lower.specs.TreeLoops.Merge.{passes_of_terms, in_order, merged_phases, merged_of}
-use Rattle.sigma_lower.proofs.TreeLoops.TreePasses.{layout_passes, passes_of_terms-tree}
+use Rattle.sigma_lower.proofs.TreeLoops.MadePasses.{passes_of_terms-tree}
+use Rattle.sigma_lower.proofs.TreeLoops.TreePasses.{layout_passes}
 use Rattle.sigma_lower.proofs.TreeTerms.Both.{plain_terms}
 use Rattle.smp_rewrite.specs.LayoutSteps.Layout.{Layout}
 use Rattle.sigma_spl.specs.Shared.Targets.{is_alone}

@@ -1,5 +1,6 @@
 -- The passes of an inverse in the cost model are those of the forward request, with products more in the last.
-use Rattle.std.proofs.Common.{◌≡◌, ℕ, ◌+◌, ◌*◌, true, false, List, [], ◌∷◌, Option, None, Some, refl, sym, ap, ◌∙◌, arith, subst}
+use Rattle.std.proofs.Common.{◌≡◌, ℕ, ◌+◌, ◌*◌, true, false, List, [], ◌∷◌, Option, None, Some, refl, sym, ap, ◌∙◌}
+use Rattle.std.proofs.Common.{arith, subst}
 use Rattle.std.specs.Prelude.{map}
 use Rattle.std.proofs.lemmas.Simd.{map-map}
 use Rattle.matrix_meaning.specs.declared.Dimensions.TheVariants.{One}
@@ -17,7 +18,8 @@ use Rattle.tree_model.specs.Chosen.{IsWholeTree}
 use Rattle.tree_model.specs.Cost.{mul_cost_of}
 use Rattle.tree_model.specs.Passes.{Pass, nodes, tiles, pass_loads, twiddle_last, whole_passes, with_twiddles}
 use Rattle.tree_model.specs.Whole.{IsTreeOf}
-use Rattle.tree_model.specs.WholePasses.{closed_by, cost_of_pass, flat_passes, loads_of_pass, pass_cost_in, pass_of, request_passes}
+use Rattle.tree_model.specs.WholePasses.{closed_by, cost_of_pass, flat_passes, loads_of_pass, pass_cost_in, pass_of}
+use Rattle.tree_model.specs.WholePasses.{request_passes}
 use Rattle.tree_model.proofs.PassLaws.{IsPlainAtEnd, IsPlainPass}
 use Rattle.tree_model.proofs.WholeCosts.{whole_plain}
 use Rattle.tree_model.proofs.WholeTraffic.{IsFlat}

@@ -1,5 +1,6 @@
 -- The closing diagonal of a term is taken into its last loop, each item of which then takes the first entry.
-use Rattle.std.proofs.Common.{◌≡◌, ℕ, zero, suc, ◌+◌, ◌*◌, ◌<◌, ◌≤◌, Bool, true, false, List, [], ◌∷◌, ◌++◌, length, refl, sym, ap, ◌∙◌, arith, subst, Some, None, if◌then◌else◌}
+use Rattle.std.proofs.Common.{◌≡◌, ℕ, zero, suc, ◌+◌, ◌*◌, ◌<◌, ◌≤◌, Bool, true, false, List, [], ◌∷◌, ◌++◌, length}
+use Rattle.std.proofs.Common.{refl, sym, ap, ◌∙◌, arith, subst, Some, None, if◌then◌else◌}
 use Rattle.std.specs.Prelude.{map, not, reverse, slice_index, slice_index_or, ◌==◌, ◌&&◌}
 use Rattle.std.proofs.lemmas.List.{length-map, reverse-append, reverse-reverse}
 use Rattle.operators.specs.declared.target.Target.{Target}
@@ -7,7 +8,8 @@ use Rattle.operators.specs.declared.tensor_paths.Tensor.TheVariants.{Blocks}
 use Rattle.perm_algebra.specs.Affine.{Sum, constant, value}
 use Rattle.sigma_spl.specs.Good.{AreSound, NamesItems, named}
 use Rattle.sigma_spl.specs.Lists.{on_last}
-use Rattle.sigma_spl.specs.Loops.{PlainLoop, PlainTaken, limits_in, nest_of, one_nest, places_by, scaled_last, AreCarried, AreLimitedLoops, CanScale, HasLoop, IsLimitedLoop}
+use Rattle.sigma_spl.specs.Loops.{PlainLoop, PlainTaken, limits_in, nest_of, one_nest, places_by, scaled_last}
+use Rattle.sigma_spl.specs.Loops.{AreCarried, AreLimitedLoops, CanScale, HasLoop, IsLimitedLoop}
 use Rattle.sigma_spl.specs.Merge.{is_tile, items_out, most, place_sum, suits}
 use Rattle.sigma_spl.specs.Nest.{PlainMultiplier, PlainNest, factor_at, factor_count, repeated, store_place, sum_value}
 use Rattle.sigma_spl.specs.Shared.Machine.{item_of, lane_step, values_of}
@@ -101,7 +103,8 @@ module _ (v : ℕ) where
         let step = one-step z.work lane whole in
         omega (arith, here, there, step)
 
-    closed-runs : (z : PlainNest) → is_tile z.work ≡ false → v < h.modulus → CanRunNest h z → CanRunNest h (closed_nest z)
+    closed-runs : (z : PlainNest) → is_tile z.work ≡ false → v < h.modulus → CanRunNest h z →
+        CanRunNest h (closed_nest z)
     closed-runs z whole residue can =
         record {
           work = can.work;

@@ -1,16 +1,15 @@
 -- The phases of a whole: those of its layout, the last loop of which takes the closing diagonal.
-use Rattle.std.proofs.Common.{◌≡◌, ℕ, ◌*◌, ◌<◌, List, [], ◌∷◌, ◌++◌, length, refl, sym, ap, ap₂, ◌∙◌, arith, subst, Option, None, Some}
+use Rattle.std.proofs.Common.{◌≡◌, ℕ, List, [], ◌∷◌, ◌++◌, length, refl, sym, ap, ap₂, ◌∙◌, arith, subst}
+use Rattle.std.proofs.Common.{Option, None, Some}
 use Rattle.std.specs.Prelude.{All, map, reverse}
 use Rattle.std.specs.Option.{option_map}
 use Rattle.std.proofs.lemmas.List.{reverse-append, reverse-reverse}
 use Rattle.std.proofs.lemmas.List.Elements.{All-nil, All-cons}
-use Rattle.index_fn.specs.Mapping.{Mapping}
 use Rattle.operators.specs.declared.target.Target.{Target}
-use Rattle.operators.specs.TensorPaths.Path.{copies_of}
-use Rattle.operators.proofs.TensorPaths.Under.{size_under-copies}
-use Rattle.perm_algebra.specs.Affine.{Sum, simplified}
+use Rattle.perm_algebra.specs.Affine.{Sum}
 use Rattle.sigma_spl.specs.Lists.{LastIs, on_last}
-use Rattle.sigma_spl.specs.Loops.{PlainLoop, limits_in, loops_in, scaled_last, AreLimitedLoops, HasLoop, IsLimitedLoop, IsOrdered}
+use Rattle.sigma_spl.specs.Loops.{PlainLoop, limits_in, loops_in, scaled_last, AreLimitedLoops, HasLoop, IsLimitedLoop}
+use Rattle.sigma_spl.specs.Loops.{IsOrdered}
 use Rattle.sigma_spl.specs.Merge.{all_simplified, items_out, most, place_sum}
 use Rattle.sigma_spl.specs.Nest.{repeated}
 use Rattle.sigma_spl.specs.Term as terms
@@ -25,26 +24,22 @@ use Rattle.sigma_lower.specs.TreeLoops.Limits.{AreLimitedPhases}
 use Rattle.sigma_lower.specs.TreeLoops.Merge.{PlainPass, passes_of_terms}
 use Rattle.sigma_lower.specs.TreeLoops.Merge as passes
 use Rattle.sigma_lower.specs.TreeLoops.Nests.{loop_of, taken_of}
-use Rattle.sigma_lower.specs.TreeLoops.Placed.{AllLimited, AreCounts, Fits, IsCarried, IsLimitedPass}
+use Rattle.sigma_lower.specs.TreeLoops.Placed.{AllLimited, AreCounts, Fits, IsLimitedPass}
 use Rattle.sigma_lower.specs.TreeTerms.Term.{PlainTerm}
-use Rattle.sigma_lower.proofs.TreeLoops.LoopItems.{AllName, counts-from, names-of}
+use Rattle.sigma_lower.proofs.TreeLoops.LoopItems.{AllName, names-of, pass-counts}
 use Rattle.sigma_lower.proofs.TreeLoops.LoopLimits.{tree_loops}
 use Rattle.sigma_lower.proofs.TreeLoops.LoopNests.{loops_listed}
-use Rattle.sigma_lower.proofs.TreeLoops.PlaceValues.{right_positive}
 use Rattle.sigma_lower.proofs.TreeLoops.Shaped.{AreShaped, IsShaped, IsShapedWork}
+use Rattle.sigma_lower.proofs.TreeLoops.Staying.{carried-end}
 use Rattle.sigma_lower.proofs.TreeLoops.TreePlaces.{tree_good_places}
-use Rattle.sigma_lower.proofs.TreeSigmas.ClosedLoops.{HasClosing, TakesClosing, can-scale, closed_loop, has-loop, limited-last, scaled-in-order}
+use Rattle.sigma_lower.proofs.TreeSigmas.ClosedLoops.{HasClosing, TakesClosing, can-scale, closed_loop, has-loop}
+use Rattle.sigma_lower.proofs.TreeSigmas.ClosedLoops.{limited-last, scaled-in-order}
 use Rattle.sigma_lower.proofs.TreeSigmas.ClosedPlaces.{AllAlone, closing_path}
 use Rattle.sigma_lower.proofs.TreeSigmas.Endings.{IsEnding, layout_ends}
 use Rattle.sigma_lower.proofs.TreeSigmas.Lasts.{HasItem}
 use Rattle.sigma_lower.proofs.TreeLoops.Moved.{fits-one}
 
 -- ---- the place of the only word
-
-carried-end : (cs : ℕ → ℕ) (n : ℕ) (fs : List Mapping) (e : Sum) → IsCarried cs n n fs e →
-    Fits n (all_simplified cs fs e) cs
-carried-end cs n [] e h = h
-carried-end cs n (f ∷ fs) e h = carried-end cs n fs (simplified cs f e) h.2
 
 module _ (h : Target) where
   abbrev size : ℕ
@@ -60,14 +55,8 @@ module _ (h : Target) where
     abbrev cs : ℕ → ℕ
     cs = limits_in (loop_of p)
 
-    some : 0 < n
-    some =
-        let whole : copies_of p.path * work_size p.work ≡ size =
-        sym (size_under-copies p.path (work_size p.work)) ∙ shape.fills in
-        right_positive (copies_of p.path) (work_size p.work) (omega (arith, whole, machine.size.0))
-
     counts : AreCounts p.path n 0 cs
-    counts = counts-from p.path n 0 cs (n ∷ n ∷ []) shape.wide some (λ i. ap cs (omega arith))
+    counts = pass-counts (IsShapedWork h.modulus) size p machine.size.0 shape
 
     alone-items : (es : List Sum) → AllName p.work cs n es →
         AllAlone size (map (all_simplified cs p.afters) (map (place_sum p.path n 0) es))
@@ -75,7 +64,7 @@ module _ (h : Target) where
     alone-items (e ∷ es) named =
         let last = all_simplified cs p.afters (place_sum p.path n 0 e) in
         let stores = (limited cs e counts named.0.0 named.0.1).stores in
-        let fits = carried-end cs size p.afters (place_sum p.path n 0 e) stores in
+        let fits = carried-end cs size size p.afters (place_sum p.path n 0 e) stores in
         (λ one. fits-one last cs (subst (λ k. Fits k last cs) one fits), alone-items es named.1)
 
     takes-closing : IsEnding p → IsLimitedLoop 64 size (loop_of p) → TakesClosing size (loop_of p)
@@ -132,7 +121,8 @@ module _ (h : Target) where
 
   module _ (v : ℕ) where
     closed-loops : (phases : List (List PlainTerm)) →
-        loops_in_order (close_last size v (map phase_term phases)) ≡ on_last (on_last (closed_loop size v)) (loops_by phases)
+        loops_in_order (close_last size v (map phase_term phases)) ≡ on_last (on_last (closed_loop size v))
+        (loops_by phases)
     closed-loops [] = refl
     closed-loops (ts ∷ []) =
         ap (λ ps. ps ∷ [])

@@ -1,5 +1,6 @@
 -- A diagonal of one entry over all words takes every place to its first factor.
-use Rattle.std.proofs.Common.{◌≡◌, ℕ, ◌%◌, ◌<◌, Bool, true, false, List, [], ◌∷◌, ◌++◌, refl, sym, ap, ap₂, ◌∙◌, arith, subst, mod-lt, if◌then◌else◌}
+use Rattle.std.proofs.Common.{◌≡◌, ℕ, ◌%◌, ◌<◌, Bool, true, false, List, [], ◌∷◌, ◌++◌, refl, sym, ap, ap₂, ◌∙◌, arith}
+use Rattle.std.proofs.Common.{subst, mod-lt, if◌then◌else◌}
 use Rattle.std.specs.Prelude.{map, ◌==◌, ◌&&◌, nat_lt}
 use Rattle.std.specs.List.{list_all}
 use Rattle.std.proofs.lemmas.Bool.Decides.{nat_tests}
@@ -9,7 +10,8 @@ use Rattle.sigma_spl.specs.Nest.{inner_of}
 use Rattle.sigma_spl.proofs.Carried.{carried-next, carried-room}
 use Rattle.sigma_spl.proofs.Walk.{and-left, and-right}
 use Rattle.sigma_spl.proofs.Within.{both-true}
-use Rattle.perm_algebra.specs.Affine.{Sum, constant, variable, remainder, quotient, Divided, divided, head, joined, rest_of, simplified, top}
+use Rattle.perm_algebra.specs.Affine.{Sum, constant, variable, remainder, quotient, Divided, divided, head, joined}
+use Rattle.perm_algebra.specs.Affine.{rest_of, simplified, top}
 use Rattle.perm_algebra.specs.Room.{can_join, can_scale, has_room, has_top}
 use Rattle.smp_rewrite.specs.Smp.{within}
 use Rattle.operators.specs.declared.tensor_paths.Tensor.TheVariants.{Blocks}

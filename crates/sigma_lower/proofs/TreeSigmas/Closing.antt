@@ -1,5 +1,6 @@
 -- Loops of which the last one takes the closing diagonal: who owns their lines, what they count, and that they are ready.
-use Rattle.std.proofs.Common.{◌≡◌, ℕ, ◌+◌, ◌*◌, ◌<◌, List, [], ◌∷◌, refl, sym, ap, ◌∙◌, arith, subst, Option, None, Some}
+use Rattle.std.proofs.Common.{◌≡◌, ℕ, ◌+◌, ◌*◌, ◌<◌, List, [], ◌∷◌, refl, sym, ap, ◌∙◌, arith, subst, Option, None}
+use Rattle.std.proofs.Common.{Some}
 use Rattle.std.specs.Prelude.{All, length, map}
 use Rattle.std.proofs.lemmas.List.Elements.{All-head, All-tail}
 use Rattle.operators.specs.declared.target.Target.{Target}

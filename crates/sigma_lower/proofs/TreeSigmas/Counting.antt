@@ -1,8 +1,10 @@
 -- The loops of a layout have the operations and loads that it counts.
-use Rattle.std.proofs.Common.{◌≡◌, ℕ, ◌+◌, ◌*◌, Bool, true, false, List, [], ◌∷◌, map, refl, sym, ap, ap₂, ◌∙◌, arith, Option, Some, None, if◌then◌else◌}
+use Rattle.std.proofs.Common.{◌≡◌, ℕ, ◌+◌, ◌*◌, Bool, true, false, List, [], ◌∷◌, map, refl, sym, ap, ap₂, ◌∙◌, arith}
+use Rattle.std.proofs.Common.{Option, Some, None, if◌then◌else◌}
 use Rattle.std.specs.Option.{option_map}
 use Rattle.index_fn.specs.Mapping.{Mapping}
-use Rattle.sigma_lower.specs.TreeLoops.Laws.{Counted, counted, counted_as, counted_cost, counted_loads, has_diagonal, whole_passes}
+use Rattle.sigma_lower.specs.TreeLoops.Laws.{Counted, counted, counted_as, counted_cost, counted_loads, has_diagonal}
+use Rattle.sigma_lower.specs.TreeLoops.Laws.{whole_passes}
 use Rattle.sigma_lower.specs.TreeLoops.Merge.{PlainDiagonal, PlainPass, merged_of}
 use Rattle.sigma_lower.specs.TreeLoops.Nests.{loop_of, taken_of}
 use Rattle.sigma_lower.proofs.TreeLoops.Counts.{merge_counts}

@@ -1,6 +1,8 @@
 -- The last pass of a layout has no diagonal, and its work is no tile.
-use Rattle.std.proofs.Common.{◌≡◌, ℕ, ◌*◌, Bool, true, false, List, [], ◌∷◌, ◌++◌, map, refl, sym, subst, Option, Some, None, if◌then◌else◌, nat_le}
-use Rattle.sigma_lower.specs.TreeLoops.Laws.{Counted, works, tiles, counted, counted_as, has_diagonal, passes_of, tiled_passes, twiddle_by, whole_passes}
+use Rattle.std.proofs.Common.{◌≡◌, ℕ, ◌*◌, Bool, true, false, List, [], ◌∷◌, ◌++◌, map, refl, sym, subst, Option, Some}
+use Rattle.std.proofs.Common.{None, if◌then◌else◌, nat_le}
+use Rattle.sigma_lower.specs.TreeLoops.Laws.{Counted, works, tiles, counted, counted_as, has_diagonal, passes_of}
+use Rattle.sigma_lower.specs.TreeLoops.Laws.{tiled_passes, twiddle_by, whole_passes}
 use Rattle.sigma_lower.specs.TreeLoops.Merge.{PlainDiagonal, PlainPass, merged_of}
 use Rattle.sigma_lower.proofs.TreeLoops.Counts.{merge_counts}
 use Rattle.sigma_spl.specs.Lists.{LastIs}

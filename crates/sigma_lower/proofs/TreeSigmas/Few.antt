@@ -1,10 +1,13 @@
 -- A layout has at least one pass, and few.
-use Rattle.std.proofs.Common.{◌≡◌, ℕ, ◌+◌, ◌*◌, ◌^◌, ◌≤◌, Bool, true, false, List, [], ◌∷◌, ◌++◌, length, map, suc, refl, sym, ap, ap₂, ◌∙◌, inl, inr, arith, subst, if◌then◌else◌, nat_le, length-append}
+use Rattle.std.proofs.Common.{◌≡◌, ℕ, ◌+◌, ◌*◌, ◌^◌, ◌≤◌, Bool, true, false, List, [], ◌∷◌, ◌++◌, length, map, suc}
+use Rattle.std.proofs.Common.{refl, sym, ap, ap₂, ◌∙◌, inl, inr, arith, subst, nat_le, length-append}
 use Rattle.std.proofs.lemmas.Bool.{cases_lt}
 use Rattle.std.proofs.lemmas.List.{length-map}
 use Rattle.std.proofs.lemmas.Nat.{mul-le, pow-add}
 use Rattle.std.proofs.Math.Pow.{pow_mono}
-use Rattle.sigma_lower.specs.TreeLoops.Laws.{Counted, tiles, counted, passes_of, tiled_passes, twiddle_by, twiddle_last, whole_passes}
+use Rattle.sigma_spl.proofs.Walk.{chosen}
+use Rattle.sigma_lower.specs.TreeLoops.Laws.{Counted, tiles, counted, passes_of, tiled_passes, twiddle_by, twiddle_last}
+use Rattle.sigma_lower.specs.TreeLoops.Laws.{whole_passes}
 use Rattle.sigma_lower.specs.TreeLoops.Merge.{PlainPass}
 use Rattle.smp_rewrite.specs.LayoutSteps.Layout.{Layout, work, by, layout_size, IsGoodLayout}
 use Rattle.tree_model.specs.declared.tree.Rule.{Rule}
@@ -68,52 +71,33 @@ number-small m (by rule root a b) h high =
 
 -- ---- a layout of at most 1048576 words has at most 22 passes
 
-record AreFew (passes : List Counted) : Type 0 where
-  some : 1 ≤ length passes
-  few : length passes ≤ 22
+-- the passes of both parts, and one over tiles between them
+between : (a b : Layout) (t : Bool) →
+    length (passes_of (layout_size a) b ++ (tiles t ∷ passes_of (layout_size b) a)) ≡ number b + suc (number a)
+between a b t =
+    length-append (passes_of (layout_size a) b) (tiles t ∷ passes_of (layout_size b) a)
+    ∙ ap₂ (λ x y. x + suc y) (length-passes (layout_size a) b) (length-passes (layout_size b) a)
 
-few-plain : (m : ℕ) (l : Layout) → IsGoodLayout m l → layout_size l ≤ 1048576 → AreFew (passes_of 1 l)
-few-plain m l h high =
+record AreFew (most : ℕ) (passes : List Counted) : Type 0 where
+  some : 1 ≤ length passes
+  few : length passes ≤ 2 + most
+
+few-plain : (l : Layout) → AreFew (number l) (passes_of 1 l)
+few-plain l =
     let is = length-passes 1 l in
     let some = number-some l in
-    let few = number-small m l h high in
-    record { some = omega (arith, is, some); few = omega (arith, is, few) }
+    record { some = omega (arith, is, some); few = omega (arith, is) }
 
--- the passes of both parts, and one over tiles between them
-few-between : (m root : ℕ) (rule : Rule) (a b : Layout) (t : Bool) → IsGoodLayout m (by rule root a b) →
-    layout_size a * layout_size b ≤ 1048576 →
-    length (passes_of (layout_size a) b ++ (tiles t ∷ passes_of (layout_size b) a)) ≤ 21
-few-between m root rule a b t h high =
-    let all = length-append (passes_of (layout_size a) b) (tiles t ∷ passes_of (layout_size b) a) in
-    let left = length-passes (layout_size b) a in
-    let right = length-passes (layout_size a) b in
-    let few = number-small m (by rule root a b) h high in
-    omega (arith, all, left, right, few)
+few-tiled : (l : Layout) → AreFew (number l) (tiled_passes l)
+few-tiled (work w) = few-plain (work w)
+few-tiled (by Gt root a b) = few-plain (by Gt root a b)
+few-tiled (by Ct root a b) = let is = between a b true in record { some = omega (arith, is); few = omega (arith, is) }
+few-tiled (by Split root a b) = let is = between a b false in record { some = omega arith; few = omega (arith, is) }
+few-tiled (by Dim root a b) = let is = between a b false in record { some = omega arith; few = omega (arith, is) }
 
-some-between : (a b : Layout) (t : Bool) →
-    1 ≤ length (passes_of (layout_size a) b ++ (tiles t ∷ passes_of (layout_size b) a))
-some-between a b t =
-    let all = length-append (passes_of (layout_size a) b) (tiles t ∷ passes_of (layout_size b) a) in
-    omega (arith, all)
-
-few-tiled : (m : ℕ) (l : Layout) → IsGoodLayout m l → layout_size l ≤ 1048576 → AreFew (tiled_passes l)
-few-tiled m (work w) h high = few-plain m (work w) h high
-few-tiled m (by Gt root a b) h high = few-plain m (by Gt root a b) h high
-few-tiled m (by Ct root a b) h high =
-    let some = some-between a b true in
-    let few = few-between m root Ct a b true h high in
-    record { some = some; few = omega (arith, few) }
-few-tiled m (by Split root a b) h high =
-    let few = few-between m root Split a b false h high in record { some = omega arith; few = omega (arith, few) }
-few-tiled m (by Dim root a b) h high =
-    let few = few-between m root Dim a b false h high in record { some = omega arith; few = omega (arith, few) }
-
-few-whole : (m lanes : ℕ) (l : Layout) → IsGoodLayout m l → layout_size l ≤ 1048576 → AreFew (whole_passes lanes l)
-few-whole m lanes l h high = by-lanes (nat_le lanes 1)
-  where
-    by-lanes : (b : Bool) → AreFew (if b then passes_of 1 l else tiled_passes l)
-    by-lanes true = few-plain m l h high
-    by-lanes false = few-tiled m l h high
+few-whole : (lanes : ℕ) (l : Layout) → AreFew (number l) (whole_passes lanes l)
+few-whole lanes l =
+    chosen (AreFew (number l)) (nat_le lanes 1) (passes_of 1 l) (tiled_passes l) (λ one. few-plain l) (few-tiled l)
 
 -- the merged passes of a layout, which are as many
 pub record AreFewMerged (ps : List PlainPass) : Type 0 where
@@ -123,9 +107,10 @@ pub record AreFewMerged (ps : List PlainPass) : Type 0 where
 pub few_merged : (m lanes : ℕ) (l : Layout) (ps : List PlainPass) → IsGoodLayout m l → layout_size l ≤ 1048576 →
     map counted ps ≡ whole_passes lanes l → AreFewMerged ps
 few_merged m lanes l ps h high counts =
-    let all = few-whole m lanes l h high in
+    let all = few-whole lanes l in
     let some = all.some in
     let few = all.few in
+    let low = number-small m l h high in
     let same = ap length counts in
     let long = length-map ps counted in
-    record { some = omega (arith, some, same, long); few = omega (arith, few, same, long) }
+    record { some = omega (arith, some, same, long); few = omega (arith, few, low, same, long) }

@@ -1,5 +1,6 @@
 -- The nest of a pass that processors and lanes share: its counts, its variables, and what they name.
-use Rattle.std.proofs.Common.{◌≡◌, ℕ, ◌<◌, Bool, true, false, List, [], ◌∷◌, ◌++◌, map, refl, sym, ap, ◌∙◌, arith, subst}
+use Rattle.std.proofs.Common.{◌≡◌, ℕ, ◌<◌, Bool, true, false, List, [], ◌∷◌, ◌++◌, map, refl, sym, ap, ◌∙◌, arith}
+use Rattle.std.proofs.Common.{subst}
 use Rattle.std.specs.Prelude.{◌==◌, if◌then◌else◌}
 use Rattle.sigma_lower.specs.TreeLoops.Merge.{PlainPass}
 use Rattle.sigma_lower.specs.TreeLoops.Nests.{loop_of}
@@ -42,33 +43,27 @@ nest-framed c p frame = record { loops = map count_of frame.loops; counts = ap (
 
 -- ---- the values of the variables
 
-range-both : (one_proc one_lane : Bool) (p v q lane : ℕ) (loops : Path) (vs : List ℕ) → q < p → lane < v →
-    AreInRange loops vs →
-    AreInRange (if one_proc then (if one_lane then loops else Columns v ∷ loops) else Blocks p ∷
-    (if one_lane then loops else Columns v ∷ loops))
-    ((if one_proc then [] else q ∷ []) ++ ((if one_lane then [] else lane ∷ []) ++ vs))
-range-both true true p v q lane loops vs h k range = range
-range-both true false p v q lane loops vs h k range = (k, range)
-range-both false true p v q lane loops vs h k range = (h, range)
-range-both false false p v q lane loops vs h k range = (h, (k, range))
+range-pick : (b : Bool) (t : Tensor) (x : ℕ) (path : Path) (vs : List ℕ) → x < count_of t → AreInRange path vs →
+    AreInRange (if b then path else t ∷ path) ((if b then [] else x ∷ []) ++ vs)
+range-pick true t x path vs h range = range
+range-pick false t x path vs h range = (h, range)
 
-range-procs : (one_proc : Bool) (p q : ℕ) (loops : Path) (vs : List ℕ) → q < p → AreInRange loops vs →
-    AreInRange (if one_proc then loops else Blocks p ∷ loops) ((if one_proc then [] else q ∷ []) ++ vs)
-range-procs true p q loops vs h range = range
-range-procs false p q loops vs h range = (h, range)
+range-lanes : (c : Target) (q lane : ℕ) (loops : Path) (vs : List ℕ) → q < c.procs → lane < c.lanes →
+    AreInRange loops vs →
+    AreInRange (within (Blocks c.procs) (within (Columns c.lanes) loops))
+    (if_several c.procs q ++ (if_several c.lanes lane ++ vs))
+range-lanes c q lane loops vs h k range =
+    range-pick (c.procs == 1) (Blocks c.procs) q (within (Columns c.lanes) loops) (if_several c.lanes lane ++ vs) h
+    (range-pick (c.lanes == 1) (Columns c.lanes) lane loops vs k range)
 
 range-framed : (c : Target) (w : PlainWork) (q lane : ℕ) (loops : Path) (vs : List ℕ) → q < c.procs → lane < c.lanes →
     AreInRange loops vs →
     AreInRange (framed c w loops) (values_of c w q lane vs)
-range-framed c (kernel trees) q lane loops vs h k range =
-    range-both (c.procs == 1) (c.lanes == 1) c.procs c.lanes q lane loops vs h k range
-range-framed c (rows root size) q lane loops vs h k range =
-    range-both (c.procs == 1) (c.lanes == 1) c.procs c.lanes q lane loops vs h k range
-range-framed c (horner root size) q lane loops vs h k range =
-    range-both (c.procs == 1) (c.lanes == 1) c.procs c.lanes q lane loops vs h k range
-range-framed c (tile v) q lane loops vs h k range = range-procs (c.procs == 1) c.procs q loops vs h range
-range-framed c (copy size) q lane loops vs h k range =
-    range-both (c.procs == 1) (c.lanes == 1) c.procs c.lanes q lane loops vs h k range
+range-framed c (kernel trees) q lane loops vs h k range = range-lanes c q lane loops vs h k range
+range-framed c (rows root size) q lane loops vs h k range = range-lanes c q lane loops vs h k range
+range-framed c (horner root size) q lane loops vs h k range = range-lanes c q lane loops vs h k range
+range-framed c (tile v) q lane loops vs h k range = range-pick (c.procs == 1) (Blocks c.procs) q loops vs h range
+range-framed c (copy size) q lane loops vs h k range = range-lanes c q lane loops vs h k range
 
 pub range-of : (c : Target) (p : PlainPass) (h : IsFramed c p) (q lane : ℕ) (vs : List ℕ) → q < c.procs →
     lane < c.lanes → AreInRange h.loops vs → AreInRange p.path (values_of c p.work q lane vs)
@@ -76,37 +71,33 @@ range-of c p h q lane vs below on range =
     subst (λ (path : Path). AreInRange path (values_of c p.work q lane vs)) (sym h.path)
     (range-framed c p.work q lane h.loops vs below on range)
 
--- values in range name loops' values in range, and a processor where there are several
-record AreParts (one_proc : Bool) (p q : ℕ) (loops : Path) (vs : List ℕ) : Type 0 where
-  inner : AreInRange loops vs
-  proc : one_proc ≡ false → q < p
+-- values in range name those inside of a tensor, and one below its count where it has several copies
+record AreParts (one : Bool) (count x : ℕ) (path : Path) (vs : List ℕ) : Type 0 where
+  inner : AreInRange path vs
+  outer : one ≡ false → x < count
 
-parts-both : (one_proc one_lane : Bool) (p v q lane : ℕ) (loops : Path) (vs : List ℕ) →
-    AreInRange (if one_proc then (if one_lane then loops else Columns v ∷ loops) else Blocks p ∷
-    (if one_lane then loops else Columns v ∷ loops))
-    ((if one_proc then [] else q ∷ []) ++ ((if one_lane then [] else lane ∷ []) ++ vs)) →
-    AreParts one_proc p q loops vs
-parts-both true true p v q lane loops vs h = record { inner = h; proc = λ e. absurd (cc) }
-parts-both true false p v q lane loops vs h = record { inner = h.1; proc = λ e. absurd (cc) }
-parts-both false true p v q lane loops vs h = record { inner = h.1; proc = λ e. h.0 }
-parts-both false false p v q lane loops vs h = record { inner = h.1.1; proc = λ e. h.0 }
+parts-pick : (b : Bool) (t : Tensor) (x : ℕ) (path : Path) (vs : List ℕ) →
+    AreInRange (if b then path else t ∷ path) ((if b then [] else x ∷ []) ++ vs) → AreParts b (count_of t) x path vs
+parts-pick true t x path vs h = record { inner = h; outer = λ e. absurd (cc) }
+parts-pick false t x path vs h = record { inner = h.1; outer = λ e. h.0 }
 
-parts-procs : (one_proc : Bool) (p q : ℕ) (loops : Path) (vs : List ℕ) →
-    AreInRange (if one_proc then loops else Blocks p ∷ loops) ((if one_proc then [] else q ∷ []) ++ vs) →
-    AreParts one_proc p q loops vs
-parts-procs true p q loops vs h = record { inner = h; proc = λ e. absurd (cc) }
-parts-procs false p q loops vs h = record { inner = h.1; proc = λ e. h.0 }
+parts-lanes : (c : Target) (q lane : ℕ) (loops : Path) (vs : List ℕ) →
+    AreInRange (within (Blocks c.procs) (within (Columns c.lanes) loops))
+    (if_several c.procs q ++ (if_several c.lanes lane ++ vs)) →
+    AreParts (c.procs == 1) c.procs q loops vs
+parts-lanes c q lane loops vs h =
+    let procs = parts-pick (c.procs == 1) (Blocks c.procs) q (within (Columns c.lanes) loops) _ h in
+    let lanes = parts-pick (c.lanes == 1) (Columns c.lanes) lane loops vs procs.inner in
+    record { inner = lanes.inner; outer = procs.outer }
 
 parts-of : (c : Target) (w : PlainWork) (q lane : ℕ) (loops : Path) (vs : List ℕ) →
     AreInRange (framed c w loops) (values_of c w q lane vs) →
     AreParts (c.procs == 1) c.procs q loops vs
-parts-of c (kernel trees) q lane loops vs h = parts-both (c.procs == 1) (c.lanes == 1) c.procs c.lanes q lane loops vs h
-parts-of c (rows root size) q lane loops vs h =
-    parts-both (c.procs == 1) (c.lanes == 1) c.procs c.lanes q lane loops vs h
-parts-of c (horner root size) q lane loops vs h =
-    parts-both (c.procs == 1) (c.lanes == 1) c.procs c.lanes q lane loops vs h
-parts-of c (tile v) q lane loops vs h = parts-procs (c.procs == 1) c.procs q loops vs h
-parts-of c (copy size) q lane loops vs h = parts-both (c.procs == 1) (c.lanes == 1) c.procs c.lanes q lane loops vs h
+parts-of c (kernel trees) q lane loops vs h = parts-lanes c q lane loops vs h
+parts-of c (rows root size) q lane loops vs h = parts-lanes c q lane loops vs h
+parts-of c (horner root size) q lane loops vs h = parts-lanes c q lane loops vs h
+parts-of c (tile v) q lane loops vs h = parts-pick (c.procs == 1) (Blocks c.procs) q loops vs h
+parts-of c (copy size) q lane loops vs h = parts-lanes c q lane loops vs h
 
 -- the processor that stands for q: any for the only one
 abbrev pub named : Target → ℕ → ℕ
@@ -139,7 +130,7 @@ pub share-of : (c : Target) (p : PlainPass) (h : IsFramed c p) (q lane : ℕ) (v
 share-of c p h q lane vs some range =
     let parts = parts-of c p.work q lane h.loops vs
     (subst (λ (path : Path). AreInRange path (values_of c p.work q lane vs)) h.path range) in
-    record { inner = parts.inner; proc = proc-below (c.procs == 1) c.procs q some parts.proc }
+    record { inner = parts.inner; proc = proc-below (c.procs == 1) c.procs q some parts.outer }
 
 -- the items on the lanes of a register are items of the copy
 pub item-below : (c : Target) (w : PlainWork) (k lane : ℕ) → HasLanes c w → k < vectors_of w → lane < c.lanes →

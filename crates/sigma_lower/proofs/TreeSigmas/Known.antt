@@ -10,16 +10,17 @@ use Rattle.sigma_lower.proofs.Ordered.{trees_ordered}
 use Rattle.sigma_lower.proofs.SharedTrees.{AllEmbed, trees_embed}
 use Rattle.sigma_lower.specs.TreeLoops.Merge.{PlainPass, passes_of_terms, in_order, merged_of}
 use Rattle.sigma_lower.specs.TreeLoops.Nests.{loop_of}
-use Rattle.sigma_lower.proofs.TreeLoops.Closed.{AreClosedPasses, IsClosedPass}
+use Rattle.sigma_lower.specs.TreeLoops.Placed.{AllLimited, IsLimitedPass}
+use Rattle.sigma_lower.proofs.TreeLoops.PassLists.{AllPasses}
 use Rattle.sigma_lower.proofs.TreeLoops.GoodPlaces.{HaveGoodPlaces}
 use Rattle.sigma_lower.proofs.TreeLoops.LoopLimits.{tree_loops}
 use Rattle.sigma_lower.proofs.TreeLoops.LoopNests.{loops_listed}
-use Rattle.sigma_lower.proofs.TreeLoops.PlaceValues.{AreFormedPasses, IsFormedPass}
 use Rattle.sigma_lower.proofs.TreeLoops.Shaped.{AreShaped, IsShaped, IsShapedWork}
 use Rattle.sigma_lower.proofs.TreeLoops.TreePlaces.{good_places, tree_good_places}
 use Rattle.sigma_spl.specs.Shared.Ready.{IsSmallWork}
 use Rattle.sigma_spl.specs.Good.{AreGoodPasses, IsGoodPass}
-use Rattle.sigma_spl.specs.Loops.{PlainLoop, AreGoodLoops, AreLimitedLoops, IsGoodLoop, IsLimitedLoop, loops_in, one_nest, IsOrdered}
+use Rattle.sigma_spl.specs.Loops.{PlainLoop, AreGoodLoops, AreLimitedLoops, IsGoodLoop, IsLimitedLoop, loops_in}
+use Rattle.sigma_spl.specs.Loops.{one_nest, IsOrdered}
 use Rattle.sigma_spl.specs.Merge.{most, unbounded, passes_within}
 use Rattle.sigma_spl.proofs.GoodLoops.{loops_are_good}
 use Rattle.sigma_lower.specs.TreeLoops.SharedPasses.Shared.{AllFramed, IsFramed}
@@ -37,8 +38,7 @@ pub record IsKnown (c : Target) (p : PlainPass) : Type 0 where
   pub shaped : IsShaped (IsShapedWork c.modulus) c.size p
   pub small : IsSmallWork p.work
   pub limited : IsLimitedLoop 64 c.size (loop_of p)
-  pub formed : IsFormedPass p
-  pub closed : IsClosedPass c.size p
+  pub placed : IsLimitedPass c p
   pub loop : IsGoodLoop c.lanes (loop_of p)
   pub good : IsGoodPass c.lanes c.modulus c.size (one_nest (loop_of p))
 
@@ -66,13 +66,12 @@ good-reverse c (l ∷ ls) h =
     subst (AreGood c) (sym (reverse-append (l ∷ []) ls))
     (good-append c (reverse ls) (l ∷ []) (good-reverse c ls h.1) (h.0, tt))
 
-good-back : (c : Target) (ls : List PlainLoop) → AreGood c (reverse ls) → AreGood c ls
-good-back c ls h = subst (AreGood c) (reverse-reverse ls) (good-reverse c (reverse ls) h)
-
 -- those of a phase, in order
 good-phase : (c : Target) (ts : List PlainTerm) → AreGood c (loops_in (phase_term ts)) →
     AreGood c (map loop_of (passes_of_terms ts))
-good-phase c ts h = good-back c (map loop_of (passes_of_terms ts)) (subst (AreGood c) (loops_listed ts) h)
+good-phase c ts h =
+    let ls = map loop_of (passes_of_terms ts) in
+    subst (AreGood c) (reverse-reverse ls) (good-reverse c (reverse ls) (subst (AreGood c) (loops_listed ts) h))
 
 good-phases : (c : Target) (phases : List (List PlainTerm)) → IsMachine c → AllEmbed c c.lanes phases →
     AllOrdered c phases → AllHaveLoops c phases → AreGood c (map loop_of (in_order (map passes_of_terms phases)))
@@ -93,25 +92,23 @@ good-phases c (ts ∷ more) machine embedded ordered have =
 -- ---- all passes
 
 abbrev pub AllKnown : Target → List PlainPass → Type 0
-AllKnown c [] = Unit {0}
-AllKnown c (p ∷ ps) = IsKnown c p × AllKnown c ps
+AllKnown c ps = AllPasses (IsKnown c) ps
 
 all-known : (c : Target) (ps : List PlainPass) → AllFramed c ps → AreShaped (IsShapedWork c.modulus) c.size ps →
-    AreShaped IsSmallWork c.size ps → AreLimitedLoops (most 64) c.size (map loop_of ps) → AreFormedPasses ps →
-    AreClosedPasses c.size ps → AreGood c (map loop_of ps) → AllKnown c ps
-all-known c [] framed shaped small limited formed closed good = tt
-all-known c (p ∷ ps) framed shaped small limited formed closed good = (
+    AreShaped IsSmallWork c.size ps → AreLimitedLoops (most 64) c.size (map loop_of ps) → AllLimited c ps →
+    AreGood c (map loop_of ps) → AllKnown c ps
+all-known c [] framed shaped small limited placed good = tt
+all-known c (p ∷ ps) framed shaped small limited placed good = (
   record {
     framed = framed.0;
     shaped = shaped.0;
     small = small.0.work;
     limited = limited.0;
-    formed = formed.0;
-    closed = closed.0;
+    placed = placed.0;
     loop = good.0.loop;
     good = good.0.pass;
   },
-  all-known c ps framed.1 shaped.1 small.1 limited.1 formed.1 closed.1 good.1,
+  all-known c ps framed.1 shaped.1 small.1 limited.1 placed.1 good.1,
 )
 
 pub layout-known : (c : Target) (l : Layout) → IsHosted c l → AllKnown c (merged_of c l)
@@ -121,6 +118,6 @@ layout-known c l is =
     tt in
     all-known c (merged_of c l) (passes_are_framed c l is.shares is.good) places.shaped
     small.shaped
-    (tree_loops 64 c l (omega arith) is.machine is.shares is.good) places.formed places.closed
+    (tree_loops 64 c l (omega arith) is.machine is.shares is.good) places.limited
     (good-phases c (lowered_of c l) is.machine (trees_embed c l is.machine is.shares is.good)
     (trees_ordered c l is.machine is.shares is.good) (phases_have_loops c l is.machine is.shares is.good))

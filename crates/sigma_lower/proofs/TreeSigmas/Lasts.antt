@@ -47,7 +47,8 @@ some-front : {A : Type 0} (xs ys : List A) → HasItem xs → HasItem (xs ++ ys)
 some-front [] ys some = absurd (omega (arith, some))
 some-front (x ∷ xs) ys some = omega arith
 
-some-order : {A : Type 0} (xs : List A) (more : List (List A)) → All HasItem (xs ∷ more) → HasItem (in_order (xs ∷ more))
+some-order : {A : Type 0} (xs : List A) (more : List (List A)) → All HasItem (xs ∷ more) →
+    HasItem (in_order (xs ∷ more))
 some-order xs more each = some-front xs (in_order more) (All-head HasItem xs more each)
 
 pub last-order : {A : Type 0} (Q : A → Type 0) (xss : List (List A)) → All HasItem xss → LastIs Q (in_order xss) →

@@ -1,5 +1,6 @@
 -- The terms of each tree that a valid request admits are a tree's.
-use Rattle.std.proofs.Common.{◌≡◌, ◌≢◌, ℕ, ◌*◌, ◌^◌, ◌<◌, ◌≤◌, ◌==◌, Bool, true, false, List, [], ◌∷◌, length, suc, refl, sym, ap, ◌∙◌, arith, subst, Option, None, Some, if◌then◌else◌}
+use Rattle.std.proofs.Common.{◌≡◌, ◌≢◌, ℕ, ◌*◌, ◌^◌, ◌<◌, ◌≤◌, ◌==◌, Bool, true, false, List, [], ◌∷◌, length, suc}
+use Rattle.std.proofs.Common.{refl, sym, ap, ◌∙◌, arith, subst, Option, None, Some, if◌then◌else◌}
 use Rattle.std.specs.Prelude.{All, map}
 use Rattle.std.proofs.lemmas.List.{length-map}
 use Rattle.std.proofs.lemmas.List.Elements.{All-nil, All-cons, All-weaker}
@@ -43,13 +44,16 @@ use Rattle.sigma_lower.proofs.TreeLoops.SharedPasses.Phases.{phases_are_shared}
 use Rattle.sigma_lower.proofs.TreeSigmas.Bounds.{IsBounded, actions-few, all-bounded}
 use Rattle.sigma_lower.proofs.TreeSigmas.ClosedCounts.{closed_costs, closed_loads, more_by}
 use Rattle.sigma_lower.proofs.TreeSigmas.ClosedLoops.{TakesClosing}
-use Rattle.sigma_lower.proofs.TreeSigmas.ClosedPhases.{IsPhase, closing_loops, each-some, layout-takes, loops_by, whole-loops, whole-phases}
-use Rattle.sigma_lower.proofs.TreeSigmas.Closing.{takes-phases, whole-bounded, whole-costs, whole-length, whole-loads, whole-ready, whole-shared}
+use Rattle.sigma_lower.proofs.TreeSigmas.ClosedPhases.{IsPhase, closing_loops, each-some, layout-takes, loops_by}
+use Rattle.sigma_lower.proofs.TreeSigmas.ClosedPhases.{whole-loops, whole-phases}
+use Rattle.sigma_lower.proofs.TreeSigmas.Closing.{takes-phases, whole-bounded, whole-costs, whole-length, whole-loads}
+use Rattle.sigma_lower.proofs.TreeSigmas.Closing.{whole-ready, whole-shared}
 use Rattle.sigma_lower.proofs.TreeSigmas.Few.{AreFewMerged, few_merged}
 use Rattle.sigma_lower.proofs.TreeSigmas.Hosted.{IsHosted}
-use Rattle.sigma_lower.proofs.TreeSigmas.Known.{AllKnown, layout-known}
+use Rattle.sigma_lower.proofs.TreeSigmas.Known.{AllKnown, IsKnown, layout-known}
 use Rattle.sigma_lower.proofs.TreeSigmas.Lasts.{HasItem, order-map}
-use Rattle.sigma_lower.proofs.TreeSigmas.Owned.{known-back, known-front, phases-shared}
+use Rattle.sigma_lower.proofs.TreeLoops.PassLists.{all-split}
+use Rattle.sigma_lower.proofs.TreeSigmas.Owned.{phases-shared}
 use Rattle.sigma_lower.proofs.TreeSigmas.Ready.{ready-loop}
 use Rattle.sigma_lower.proofs.TreeSigmas.TreeCounts.{forward_costs, forward_loads}
 use Rattle.sigma_lower.proofs.TreeSigmas.TreeHosted.{tree_hosted}
@@ -67,7 +71,8 @@ module _ (h : Target) (l : Layout) (is : IsHosted h l) where
   phases-ready [] known = All-nil (All (IsReadyLoop h))
   phases-ready (ps ∷ more) known =
       All-cons (All (IsReadyLoop h)) (map loop_of ps) (map (map loop_of) more)
-      (all-ready ps (known-front h ps (in_order more) known)) (phases-ready more (known-back h ps (in_order more) known))
+      (all-ready ps (all-split (IsKnown h) ps (in_order more) known).0)
+      (phases-ready more (all-split (IsKnown h) ps (in_order more) known).1)
 
 -- ---- the passes of all phases
 

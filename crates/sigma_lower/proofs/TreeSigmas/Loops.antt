@@ -1,5 +1,6 @@
 -- The loops of a pass: how often they run, and how many they are.
-use Rattle.std.proofs.Common.{◌≡◌, ℕ, zero, suc, ◌*◌, ◌^◌, ◌<◌, ◌≤◌, arith, refl, sym, ap, List, [], ◌∷◌, length, inl, inr, subst, le-mul_of_pos_right, mul_comm}
+use Rattle.std.proofs.Common.{◌≡◌, ℕ, zero, suc, ◌*◌, ◌^◌, ◌<◌, ◌≤◌, arith, refl, sym, ap, List, [], ◌∷◌, length, inl}
+use Rattle.std.proofs.Common.{inr, subst, le-mul_of_pos_right, mul_comm}
 use Rattle.std.specs.Prelude.{All, map, drop}
 use Rattle.std.proofs.Math.Nat.{pow-succ'}
 use Rattle.std.proofs.Math.Pow.{pow_mono}
@@ -28,7 +29,8 @@ record FitsUnder (t : Tensor) (path : Path) (n : ℕ) : Type 0 where
   count : count_of t ≤ 1048576
   rest : size_under path n ≤ 1048576
 
-fits-under : (t : Tensor) (path : Path) (n : ℕ) → AreSeveral (t ∷ path) → 0 < n → size_under (t ∷ path) n ≤ 1048576 → FitsUnder t path n
+fits-under : (t : Tensor) (path : Path) (n : ℕ) → AreSeveral (t ∷ path) → 0 < n → size_under (t ∷ path) n ≤ 1048576 →
+    FitsUnder t path n
 fits-under (Blocks c) path n wide h high =
     let count : c ≤ c * size_under path n = le-mul_of_pos_right {m = size_under path n} c (under-positive path n wide.1 h) in
     let rest : size_under path n ≤ size_under path n * c = le-mul_of_pos_right {m = c} (size_under path n) (omega (arith, wide.0)) in
@@ -42,7 +44,8 @@ fits-under (Columns c) path n wide h high =
 abbrev pub IsCount : ℕ → Type 0
 IsCount k = (2 ≤ k) × (k ≤ 1048576)
 
-pub loop-counts : (path : Path) (n : ℕ) → AreSeveral path → 0 < n → size_under path n ≤ 1048576 → All IsCount (map count_of path)
+pub loop-counts : (path : Path) (n : ℕ) → AreSeveral path → 0 < n → size_under path n ≤ 1048576 →
+    All IsCount (map count_of path)
 loop-counts [] n wide h high = All-nil IsCount
 loop-counts (t ∷ path) n wide h high =
     let f = fits-under t path n wide h high in

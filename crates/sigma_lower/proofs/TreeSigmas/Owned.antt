@@ -1,10 +1,10 @@
 -- In each phase of a layout every line belongs to one processor.
-use Rattle.std.proofs.Common.{◌≡◌, ℕ, zero, suc, ◌<◌, List, [], ◌∷◌, ◌++◌, map, sym, ap, ◌∙◌, arith, subst}
+use Rattle.std.proofs.Common.{◌≡◌, ℕ, zero, suc, ◌<◌, List, [], ◌∷◌, map, sym, ap, ◌∙◌, arith, subst}
 use Rattle.std.specs.Prelude.{Contains}
 use Rattle.sigma_lower.specs.TreeLoops.Merge.{PlainPass, gather_place, scatter_place, in_order}
 use Rattle.sigma_lower.specs.TreeLoops.Nests.{loop_of}
 use Rattle.operators.specs.declared.target.Target.{Target}
-use Rattle.sigma_spl.specs.Shared.Running.{IsLoadedBy, IsStoredBy}
+use Rattle.sigma_spl.specs.Shared.Running.{IsCopyOf, IsLoadedBy, IsStoredBy}
 use Rattle.sigma_spl.specs.Shared.Owners.{AllOwn, AllShared, ArePhasesShared, FirstOwns}
 use Rattle.sigma_spl.specs.Loops.{nest_of, one_nest}
 use Rattle.sigma_spl.specs.Copies.{loops_of}
@@ -13,6 +13,7 @@ use Rattle.sigma_spl.specs.Work.{work_size}
 use Rattle.sigma_spl.proofs.Natural.{ranged}
 use Rattle.sigma_lower.specs.TreeLoops.SharedPasses.Shared as shared
 use Rattle.operators.specs.TensorPaths.Path.{AreInRange}
+use Rattle.sigma_lower.proofs.TreeLoops.PassLists.{all-split}
 use Rattle.sigma_lower.proofs.TreeSigmas.Known.{AllKnown, IsKnown}
 use Rattle.sigma_lower.proofs.TreeSigmas.Places.{load-is, store-is}
 
@@ -26,35 +27,33 @@ module _ (c : Target) where
   abbrev pub pass_nests : List PlainPass → List (List PlainNest)
   pass_nests ps = map one_nest (map loop_of ps)
 
+  -- an item of the one nest of a pass stands where that of the pass does
+  item-owns : (owner : ℕ → ℕ) (p : PlainPass) (at : PlainNest → List ℕ → ℕ → ℕ) (places : List ℕ → ℕ → ℕ) →
+      ((vs : List ℕ) (k : ℕ) → AreInRange p.path vs → k < work_size p.work →
+      at (nest_of (loop_of p)) vs k ≡ places vs k) →
+      shared.Owns c p places owner → (q w : ℕ) → q < c.procs → (z : PlainNest) → Contains (one_nest (loop_of p)) z →
+      (vs : List ℕ) (k : ℕ) → IsCopyOf c z q vs → k < work_size z.work → at z vs k ≡ w → owner w ≡ q
+  item-owns owner p at places is owns q w below z one vs k copy low there =
+      subst
+      (λ (y : PlainNest). AreInRange (loops_of y.counts) vs → k < work_size y.work → at y vs k ≡ w → owner w ≡ q)
+      (only-nest (nest_of (loop_of p)) z one)
+      (λ range item here.
+      let inner : AreInRange p.path vs = ranged p.path vs range in
+      ap owner (sym here ∙ is vs k inner item)
+      ∙ owns q vs k below (record { in_range = inner; processor = copy.processor }) item)
+      copy.in_range low there
+
   loads-own : (owner : ℕ → ℕ) (p : PlainPass) → IsKnown c p → shared.Owns c p (gather_place p) owner → (q w : ℕ) →
       q < c.procs → IsLoadedBy c (one_nest (loop_of p)) q w → owner w ≡ q
   loads-own owner p known owns q w below by =
-      subst
-      (λ (y : PlainNest).
-      AreInRange (loops_of y.counts) by.values → by.item < work_size y.work →
-      load_place y.work y.gathers by.values by.item ≡ w → owner w ≡ q)
-      (only-nest (nest_of (loop_of p)) by.nest by.one)
-      (λ range low there.
-      let inner : AreInRange p.path by.values = ranged p.path by.values range in
-      let item : by.item < work_size p.work = low in
-      ap owner (sym there ∙ load-is c p known.loop by.values by.item inner item)
-      ∙ owns q by.values by.item below (record { in_range = inner; processor = by.copy.processor }) item)
-      by.copy.in_range by.below by.there
+      item-owns owner p (λ z. load_place z.work z.gathers) (gather_place p) (load-is c p known.loop) owns q w below by.nest
+      by.one by.values by.item by.copy by.below by.there
 
   stores-own : (owner : ℕ → ℕ) (p : PlainPass) → IsKnown c p → shared.Owns c p (scatter_place p) owner → (q w : ℕ) →
       q < c.procs → IsStoredBy c (one_nest (loop_of p)) q w → owner w ≡ q
   stores-own owner p known owns q w below by =
-      subst
-      (λ (y : PlainNest).
-      AreInRange (loops_of y.counts) by.values → by.item < work_size y.work →
-      store_place y.work y.scatters by.values by.item ≡ w → owner w ≡ q)
-      (only-nest (nest_of (loop_of p)) by.nest by.one)
-      (λ range low there.
-      let inner : AreInRange p.path by.values = ranged p.path by.values range in
-      let item : by.item < work_size p.work = low in
-      ap owner (sym there ∙ store-is c p known.loop by.values by.item inner item)
-      ∙ owns q by.values by.item below (record { in_range = inner; processor = by.copy.processor }) item)
-      by.copy.in_range by.below by.there
+      item-owns owner p (λ z. store_place z.work z.scatters) (scatter_place p) (store-is c p known.loop) owns q w below
+      by.nest by.one by.values by.item by.copy by.below by.there
 
   all-own : (owner : ℕ → ℕ) (ps : List PlainPass) → AllKnown c ps → shared.AllOwn c owner ps →
       AllOwn c owner (pass_nests ps)
@@ -67,14 +66,6 @@ module _ (c : Target) where
   first-own owner [] known own = tt
   first-own owner (p ∷ ps) known own = (stores-own owner p known.0 own.0, all-own owner ps known.1 own.1)
 
-  pub known-front : (ps qs : List PlainPass) → AllKnown c (ps ++ qs) → AllKnown c ps
-  known-front [] qs h = tt
-  known-front (p ∷ ps) qs h = (h.0, known-front ps qs h.1)
-
-  pub known-back : (ps qs : List PlainPass) → AllKnown c (ps ++ qs) → AllKnown c qs
-  known-back [] qs h = h
-  known-back (p ∷ ps) qs h = known-back ps qs h.1
-
   all-shared : (phases : List (List PlainPass)) → AllKnown c (in_order phases) → shared.AllShared c phases →
       AllShared c (map (map one_nest) (map (map loop_of) phases))
   all-shared [] known h = tt
@@ -82,9 +73,9 @@ module _ (c : Target) where
     record {
       owner = h.0.owner;
       is_owner = h.0.is_owner;
-      owns = all-own h.0.owner ps (known-front ps (in_order more) known) h.0.owns;
+      owns = all-own h.0.owner ps (all-split (IsKnown c) ps (in_order more) known).0 h.0.owns;
     },
-    all-shared more (known-back ps (in_order more) known) h.1,
+    all-shared more (all-split (IsKnown c) ps (in_order more) known).1 h.1,
   )
 
   pub phases-shared : (phases : List (List PlainPass)) → AllKnown c (in_order phases) →
@@ -94,7 +85,7 @@ module _ (c : Target) where
     record {
       owner = h.0.owner;
       is_owner = h.0.is_owner;
-      owns = first-own h.0.owner ps (known-front ps (in_order more) known) h.0.owns;
+      owns = first-own h.0.owner ps (all-split (IsKnown c) ps (in_order more) known).0 h.0.owns;
     },
-    all-shared more (known-back ps (in_order more) known) h.1,
+    all-shared more (all-split (IsKnown c) ps (in_order more) known).1 h.1,
   )

@@ -1,28 +1,35 @@
 -- The places of a pass's nest are the pass's, and the lanes of its registers stand side by side.
-use Rattle.std.proofs.Common.{◌≡◌, ℕ, ◌+◌, ◌*◌, ◌<◌, List, [], ◌∷◌, ◌++◌, length, map, refl, sym, ap, ◌∙◌, arith, subst, Option, Some, None}
+use Rattle.std.proofs.Common.{◌≡◌, ℕ, ◌+◌, ◌*◌, ◌<◌, List, [], ◌∷◌, length, map, refl, sym, ap, ◌∙◌, arith, subst}
+use Rattle.std.proofs.Common.{Option, Some, None}
 use Rattle.std.specs.Option.{option_map}
-use Rattle.index_fn.specs.Mapping.{Mapping, at}
+use Rattle.std.proofs.lemmas.Option.{none-some, same_Some}
+use Rattle.std.specs.Prelude.{slice_index}
 use Rattle.kernel_gen.proofs.Residues.{power_below}
 use Rattle.sigma_lower.specs.TreeLoops.Merge.{diagonal_place}
 use Rattle.sigma_lower.specs.TreeLoops.Merge.{PlainDiagonal, PlainPass, through, gather_place, scatter_place}
 use Rattle.sigma_lower.specs.TreeLoops.Nests.{loop_of, taken_of}
-use Rattle.sigma_lower.proofs.TreeLoops.Closed.{AreClosed, IsClosedPass, inner-below}
-use Rattle.sigma_lower.proofs.TreeLoops.PlaceValues.{through-end}
+use Rattle.sigma_lower.specs.TreeLoops.Placed.{AreCounts, Fits, IsLimitedPass, all_simplified, diagonal_places, place_sum}
+use Rattle.sigma_lower.proofs.TreeLoops.LineMoves.{number-fits}
+use Rattle.sigma_lower.proofs.TreeLoops.LoopItems.{counts-from, name-constant}
+use Rattle.sigma_lower.proofs.TreeLoops.PlaceValues.{follows, through-end}
+use Rattle.sigma_lower.proofs.TreeLoops.Staying.{carried-end}
+use Rattle.perm_algebra.specs.Affine.{Sum, constant, value}
+use Rattle.perm_algebra.proofs.AffineLaws.{value-le-top}
+use Rattle.sigma_spl.proofs.Nests.{alone}
 use Rattle.sigma_lower.proofs.TreeLoops.Shaped.{IsShaped, IsShapedWork}
 use Rattle.operators.specs.declared.target.Target.{Target}
 use Rattle.sigma_spl.specs.Shared.Owners.{IsHost}
 use Rattle.sigma_spl.specs.Shared.Running.{FindsFactors, HasResidues, MovesVectors}
 use Rattle.sigma_spl.specs.Shared.Machine.{item_of, lane_step, values_of}
 use Rattle.sigma_spl.specs.Copies.{loops_of}
-use Rattle.sigma_spl.specs.Loops.{nest_of, multiplier_of, places_by, IsGoodLoop}
+use Rattle.sigma_spl.specs.Loops.{nest_of, limits_in, multiplier_of, places_by, IsGoodLoop}
 use Rattle.sigma_spl.specs.Merge.{items_out}
 use Rattle.sigma_spl.specs.Nest.{PlainMultiplier, inner_of, load_place, store_place, factor_at, factor_count}
 use Rattle.sigma_spl.specs.Work.{PlainWork, vectors_of, work_size}
-use Rattle.sigma_spl.proofs.Natural.{looped, ranged}
+use Rattle.sigma_spl.proofs.Natural.{looped, place-alone, ranged, sound-place_sum}
 use Rattle.sigma_spl.proofs.Listed.{loops_have_places}
 use Rattle.sigma_lower.specs.TreeLoops.SharedPasses.Shared.{IsFramed}
 use Rattle.operators.specs.TensorPaths.Path.{count_of, place, AreInRange}
-use Rattle.operators.proofs.TensorPaths.PathPlaces.{place-below}
 use Rattle.sigma_lower.proofs.TreeSigmas.Frames.{range-of, named, values-named, IsShare, share-of, item-below}
 
 -- a nest's diagonal is that of its pass
@@ -31,24 +38,13 @@ pub record IsTaken (p : PlainPass) (m : PlainMultiplier) : Type 0 where
   pub is : p.diagonal ≡ Some diagonal
   pub same : m ≡ record { factors = (taken_of diagonal).factors; places = places_by (loop_of p) (taken_of diagonal).places (items_out p.work (length p.path)) }
 
-none-is-some : (m : PlainMultiplier) → ◌≡◌ {A = Option PlainMultiplier} None (Some m) → ⊥
-none-is-some m e = cc
-
-some-same : (a b : PlainMultiplier) → ◌≡◌ {A = Option PlainMultiplier} (Some a) (Some b) → b ≡ a
-some-same a b e = cc
-
 pub taken-is : (p : PlainPass) (m : PlainMultiplier) → (nest_of (loop_of p)).multiplier ≡ Some m → IsTaken p m
 taken-is p m = pick p.diagonal refl
   where
     pick : (o : Option PlainDiagonal) → p.diagonal ≡ o → multiplier_of (loop_of p) (option_map taken_of o) ≡ Some m →
         IsTaken p m
-    pick None is e = absurd (none-is-some m e)
-    pick (Some d) is e = record { diagonal = d; is = is; same = some-same _ m e }
-
-through-below : (n : ℕ) (fs : List Mapping) (f : Mapping) (i : ℕ) → AreClosed n (fs ++ f ∷ []) → i < n →
-    through fs i < n
-through-below n [] f i h below = below
-through-below n (g ∷ fs) f i h below = through-below n fs f (at g i) h.1 (h.0.below i below)
+    pick None is e = absurd (none-some m e)
+    pick (Some d) is e = record { diagonal = d; is = is; same = sym (same_Some _ m e) }
 
 module _ (c : Target) (p : PlainPass) (good : IsGoodLoop c.lanes (loop_of p)) where
   abbrev w : PlainWork
@@ -136,27 +132,44 @@ module _ (c : Target) (p : PlainPass) (good : IsGoodLoop c.lanes (loop_of p)) wh
 
   -- ---- factors
 
-  pub finds-factors : IsShaped (IsShapedWork c.modulus) c.size p → IsClosedPass c.size p →
+  -- the place of an item in its diagonal is a sum within the limits
+  factor-below : (vs : List ℕ) (k : ℕ) → IsShaped (IsShapedWork c.modulus) c.size p → IsLimitedPass c p →
+      AreInRange (loops_of (map count_of p.path)) vs → k < work_size w → (d : PlainDiagonal) → p.diagonal ≡ Some d →
+      diagonal_place p d vs k < d.rows * d.cols
+  factor-below vs k shape limited range below d is =
+      let n = work_size w in
+      let cs = limits_in (loop_of p) in
+      let us = slice_index vs in
+      let item : Sum = constant k in
+      let natural : Sum = place_sum p.path n 0 item in
+      let counts : AreCounts p.path n 0 cs =
+      counts-from p.path n 0 cs (n ∷ n ∷ []) shape.wide good.some (λ i. ap cs (omega arith)) in
+      let placed = limited cs item counts (number-fits n k cs below) (name-constant w k) in
+      let fits : Fits (d.rows * d.cols) (all_simplified cs (diagonal_places d) natural) cs =
+      carried-end cs c.size (d.rows * d.cols) (diagonal_places d) natural (placed.factors d is) in
+      let formed = (good.taken (taken_of d) (ap (option_map taken_of) is)).formed in
+      let inside = alone (map count_of p.path) n vs range in
+      let led = follows cs us (diagonal_places d) natural formed inside (sound-place_sum p.path n 0 item tt) in
+      let value_is : value (all_simplified cs (diagonal_places d) natural) us ≡ diagonal_place p d vs k =
+      led.value_is
+      ∙ ap (through (diagonal_places d)) (place-alone p.path n k vs (ranged p.path vs range))
+      ∙ through-end d.places (inner_of d.path (d.rows * d.cols)) (place p.path n vs k) in
+      let low = value-le-top (all_simplified cs (diagonal_places d) natural) us cs led.sound inside in
+      let small = fits.small in
+      omega (arith, value_is, low, small)
+
+  pub finds-factors : IsShaped (IsShapedWork c.modulus) c.size p → IsLimitedPass c p →
       FindsFactors (nest_of (loop_of p))
-  finds-factors shape closed m is vs k range below =
+  finds-factors shape limited m is vs k range below =
       let t = taken-is p m is in
       let d = t.diagonal in
-      let inner : AreInRange p.path vs = ranged p.path vs range in
-      let item : k < work_size p.work = below in
-      let natural : place p.path (work_size p.work) vs k < c.size = subst
-      (λ n. place p.path (work_size p.work) vs k < n) shape.fills
-      (place-below p.path (work_size p.work) vs k inner item) in
-      let there : through d.places (place p.path (work_size p.work) vs k) < c.size = through-below c.size d.places _ _
-      (closed.multiplies d t.is) natural in
-      let inside : diagonal_place p d vs k < d.rows * d.cols = inner-below d.path (d.rows * d.cols) _
-      (subst (λ n. through d.places (place p.path (work_size p.work) vs k) < n) (sym (shape.multiplies d t.is)) there)
-      in
-      let value : store_place w m.places vs k
-      ≡ diagonal_place p d vs k = ap (λ (n : PlainMultiplier). store_place w n.places vs k) t.same
-      ∙ factor-is vs k inner item d t.is in
-      let count : factor_count m.factors
-      ≡ d.rows * d.cols = ap (λ (n : PlainMultiplier). factor_count n.factors) t.same in
-      omega (arith, inside, value, count)
+      let inside : diagonal_place p d vs k < d.rows * d.cols = factor-below vs k shape limited range below d t.is in
+      let value_is : store_place w m.places vs k ≡ diagonal_place p d vs k =
+      ap (λ (n : PlainMultiplier). store_place w n.places vs k) t.same
+      ∙ factor-is vs k (ranged p.path vs range) below d t.is in
+      let count : factor_count m.factors ≡ d.rows * d.cols =
+      ap (λ (n : PlainMultiplier). factor_count n.factors) t.same in
+      omega (arith, inside, value_is, count)
 
 pub residues-of : (c : Target) (p : PlainPass) → 0 < c.modulus → HasResidues c (nest_of (loop_of p))
 residues-of c p some m is i =

@@ -1,5 +1,6 @@
 -- Each loop of a layout can be run, and a program can be made of it.
-use Rattle.std.proofs.Common.{◌≡◌, ℕ, ◌+◌, ◌<◌, ◌≤◌, List, [], ◌∷◌, ◌++◌, All, length, map, refl, sym, ap, ap₂, ◌∙◌, arith, subst, Some}
+use Rattle.std.proofs.Common.{◌≡◌, ℕ, ◌+◌, ◌<◌, ◌≤◌, List, [], ◌∷◌, ◌++◌, All, length, map, refl, sym, ap, ap₂, ◌∙◌}
+use Rattle.std.proofs.Common.{arith, subst, Some}
 use Rattle.std.specs.Prelude.{slice_index, slice_index_or}
 use Rattle.std.specs.Option.{option_map}
 use Rattle.std.proofs.lemmas.List.Elements.{All-weaker}
@@ -28,7 +29,8 @@ use Rattle.sigma_lower.proofs.TreeLoops.PlaceValues.{value-at_place}
 use Rattle.sigma_lower.proofs.TreeLoops.Shaped.{IsShapedWork}
 use Rattle.sigma_lower.proofs.TreeSigmas.Frames.{nest-framed}
 use Rattle.sigma_lower.proofs.TreeSigmas.Known.{IsKnown}
-use Rattle.sigma_lower.proofs.TreeSigmas.Loops.{IsCount, counts-drop, length-drop, length-tensors, loop-counts, path-weight, under-least, weight-small}
+use Rattle.sigma_lower.proofs.TreeSigmas.Loops.{IsCount, counts-drop, length-drop, length-tensors, loop-counts}
+use Rattle.sigma_lower.proofs.TreeSigmas.Loops.{path-weight, under-least, weight-small}
 use Rattle.sigma_lower.proofs.TreeSigmas.Places.{taken-is, moves-vectors, finds-factors, residues-of}
 use Rattle.sigma_lower.proofs.TreeSigmas.Works.{can-work, no-copy}
 
@@ -59,9 +61,6 @@ module _ (c : Target) (p : PlainPass) (host : IsHost c) (known : IsKnown c p) wh
   abbrev z : PlainNest
   z = nest_of (loop_of p)
 
-  some-procs : 0 < c.procs
-  some-procs = let procs = host.procs.0 in omega (arith, procs)
-
   some-modulus : 0 < c.modulus
   some-modulus = let large = host.modulus.0 in omega (arith, large)
 
@@ -73,7 +72,7 @@ module _ (c : Target) (p : PlainPass) (host : IsHost c) (known : IsKnown c p) wh
         framed = nest-framed c p known.framed;
         vectors = λ q vs lane k range on below. moves-vectors c p known.loop host known.framed q vs lane k range on
             below;
-        factors = finds-factors c p known.loop known.shaped known.closed;
+        factors = finds-factors c p known.loop known.shaped known.placed;
         residues = residues-of c p some-modulus;
       }
 
@@ -124,7 +123,7 @@ module _ (c : Target) (p : PlainPass) (host : IsHost c) (known : IsKnown c p) wh
       let us = slice_index (vs ++ row ∷ k ∷ []) in
       let cs = slice_index (map count_of p.path ++ n ∷ n ∷ []) in
       let item : Sum = variable 1 (length p.path + 1) (constant 0) in
-      value-at_place cs us p.path n p.befores item known.formed.befores
+      value-at_place cs us p.path n p.befores item known.loop.befores.formed
       (with_more (map count_of p.path) n vs (row ∷ k ∷ []) range (two_below n row k below under)) tt
       ∙ ap₂ (λ ws j. through p.befores (place p.path n ws j))
       (values-are p.path 0 us vs (row ∷ k ∷ []) (ranged p.path vs range) (λ i. ap us (omega arith)))

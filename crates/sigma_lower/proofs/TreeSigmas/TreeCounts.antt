@@ -1,6 +1,7 @@
 -- The loops of the layout of a tree count what the forward request's passes do in the cost model.
-use Rattle.std.proofs.Common.{◌≡◌, List, [], ◌∷◌, map, refl, sym, ap, ap₂, ◌∙◌}
-use Rattle.sigma_lower.specs.TreeLoops.Laws.{Counted, counted_cost, counted_loads, whole_passes, AllCount, IsForwardTree}
+use Rattle.std.proofs.Common.{◌≡◌, ℕ, List, [], ◌∷◌, map, refl, sym, ap, ap₂, ◌∙◌}
+use Rattle.sigma_lower.specs.TreeLoops.Laws.{Counted, counted_cost, counted_loads, whole_passes, AllCount, CountsAs}
+use Rattle.sigma_lower.specs.TreeLoops.Laws.{IsForwardTree}
 use Rattle.sigma_lower.proofs.TreeLoops.LayoutCounts.{layouts_count}
 use Rattle.matrix_meaning.specs.Parts.{forward_by, forward_of}
 use Rattle.matrix_meaning.specs.Valid.{IsValid}
@@ -49,19 +50,13 @@ module _ (c p : Request) (same : HasNumbers c p) where
 
 -- ---- pass by pass
 
-costs-are : (p : Request) (zs : List Counted) (qs : List RequestPass) → AllCount p zs qs →
-    map (counted_cost p.weight p.modulus p.size) zs ≡ map (cost_of_pass p.size) qs
-costs-are p [] [] h = refl
-costs-are p [] (q ∷ qs) h = absurd h
-costs-are p (z ∷ zs) [] h = absurd h
-costs-are p (z ∷ zs) (q ∷ qs) h = ap₂ (λ x xs. x ∷ xs) h.0.operations (costs-are p zs qs h.1)
-
-loads-are : (p : Request) (zs : List Counted) (qs : List RequestPass) → AllCount p zs qs →
-    map (counted_loads p.size) zs ≡ map (loads_of_pass p.size) qs
-loads-are p [] [] h = refl
-loads-are p [] (q ∷ qs) h = absurd h
-loads-are p (z ∷ zs) [] h = absurd h
-loads-are p (z ∷ zs) (q ∷ qs) h = ap₂ (λ x xs. x ∷ xs) h.0.loads (loads-are p zs qs h.1)
+all-are : (p : Request) (f : Counted → ℕ) (g : RequestPass → ℕ) →
+    ((z : Counted) (q : RequestPass) → CountsAs p z q → f z ≡ g q) → (zs : List Counted) (qs : List RequestPass) →
+    AllCount p zs qs → map f zs ≡ map g qs
+all-are p f g is [] [] h = refl
+all-are p f g is [] (q ∷ qs) h = absurd h
+all-are p f g is (z ∷ zs) [] h = absurd h
+all-are p f g is (z ∷ zs) (q ∷ qs) h = ap₂ (λ x xs. x ∷ xs) (is z q h.0) (all-are p f g is zs qs h.1)
 
 -- ---- the loops of the layout
 
@@ -90,12 +85,14 @@ module _ (c : Request) (t : Breakdown) (valid : IsValid c) (h : IsWholeTree c t)
   forward_costs =
       layout_costs (target_of c) l (tree_hosted c t valid h) c.weight
       ∙ costs-same c p (numbers c.kind c) l
-      ∙ costs-are p (whole_passes p.lanes l) (request_passes p t) all
+      ∙ all-are p (counted_cost p.weight p.modulus p.size) (cost_of_pass p.size) (λ z q h. h.operations)
+      (whole_passes p.lanes l) (request_passes p t) all
       ∙ ap (λ n. map (cost_of_pass n) (request_passes p t)) (forward_size c)
 
   pub forward_loads : map pass_loads nests ≡ map (loads_of_pass c.size) (request_passes p t)
   forward_loads =
       layout_loads (target_of c) l (tree_hosted c t valid h)
       ∙ loads-same c p (numbers c.kind c) l
-      ∙ loads-are p (whole_passes p.lanes l) (request_passes p t) all
+      ∙ all-are p (counted_loads p.size) (loads_of_pass p.size) (λ z q h. h.loads) (whole_passes p.lanes l)
+      (request_passes p t) all
       ∙ ap (λ n. map (loads_of_pass n) (request_passes p t)) (forward_size c)

@@ -1,9 +1,11 @@
 -- Steps of a layout behind more tensors, and paths of tensors that may have one copy.
-use Rattle.std.proofs.Common.{◌≡◌, ℕ, ◌/◌, Bool, true, false, arith, refl, sym, ap, ap₂, ◌∙◌, List, [], ◌∷◌, ◌++◌, if◌then◌else◌, append-nil, append_assoc}
+use Rattle.std.proofs.Common.{◌≡◌, ℕ, ◌/◌, Bool, true, false, arith, refl, sym, ap, ap₂, ◌∙◌, List, [], ◌∷◌, ◌++◌}
+use Rattle.std.proofs.Common.{if◌then◌else◌, append-nil, append_assoc}
 use Rattle.std.specs.Prelude.{map, ◌==◌}
 use Rattle.std.proofs.lemmas.List.{map-append}
 use Rattle.smp_rewrite.specs.Smp.{within}
-use Rattle.smp_rewrite.specs.LayoutSteps.Step.{turns, twiddles, thomas_in, thomas_out, PlainStep, step, rule_steps, steps_of}
+use Rattle.smp_rewrite.specs.LayoutSteps.Step.{turns, twiddles, thomas_in, thomas_out, PlainStep, step, rule_steps}
+use Rattle.smp_rewrite.specs.LayoutSteps.Step.{steps_of}
 use Rattle.operators.specs.declared.tensor_paths.Tensor.{Tensor}
 use Rattle.operators.specs.declared.tensor_paths.Tensor.TheVariants.{Blocks, Columns}
 use Rattle.operators.specs.TensorPaths.Path.{Path, count_of}
@@ -19,7 +21,8 @@ abbrev pub behind : Path → PlainStep → PlainStep
 behind front e = step (front ++ e.path) e.core
 
 rule-behind : (front : Path) (rule : Rule) (path : Path) (r s w : ℕ) (left right : List PlainStep) →
-    rule_steps rule (front ++ path) r s w (map (behind front) left) (map (behind front) right) ≡ map (behind front) (rule_steps rule path r s w left right)
+    rule_steps rule (front ++ path) r s w (map (behind front) left) (map (behind front) right) ≡ map (behind front)
+    (rule_steps rule path r s w left right)
 rule-behind front Gt path r s w left right =
     let last = step path (thomas_out r s) ∷ [] in
     ap (λ ss. step (front ++ path) (thomas_in r s) ∷ ss) (ap (λ ss. map (behind front) right ++ ss) (sym (map-append (behind front) left last)) ∙ sym (map-append (behind front) right (left ++ last)))
@@ -51,7 +54,8 @@ append-step : (ss ts : List PlainStep) → HasStep ss → HasStep (ss ++ ts)
 append-step [] ts h = absurd h
 append-step (s ∷ ss) ts h = tt
 
-rule-step : (rule : Rule) (path : Path) (r s w : ℕ) (left right : List PlainStep) → HasStep right → HasStep (rule_steps rule path r s w left right)
+rule-step : (rule : Rule) (path : Path) (r s w : ℕ) (left right : List PlainStep) → HasStep right →
+    HasStep (rule_steps rule path r s w left right)
 rule-step Gt path r s w left right h = tt
 rule-step Ct path r s w left right h = tt
 rule-step Split path r s w left right h = append-step right left h
@@ -63,7 +67,8 @@ has_step path (by rule root a b) = rule-step rule path (layout_size a) (layout_s
 
 -- ---- paths
 
-pick-append : (b : Bool) (t : Tensor) (path rest : Path) → (if b then path else t ∷ path) ++ rest ≡ (if b then path ++ rest else t ∷ (path ++ rest))
+pick-append : (b : Bool) (t : Tensor) (path rest : Path) → (if b then path else t ∷ path) ++ rest
+    ≡ (if b then path ++ rest else t ∷ (path ++ rest))
 pick-append true t path rest = refl
 pick-append false t path rest = refl
 
@@ -73,13 +78,16 @@ within-append t path rest = pick-append (count_of t == 1) t path rest
 two-append : (t u : Tensor) (rest : Path) → within t (within u []) ++ rest ≡ within t (within u rest)
 two-append t u rest = within-append t (within u []) rest ∙ ap (within t) (within-append u [] rest)
 
-three-append : (t u w : Tensor) (rest : Path) → within t (within u (within w [])) ++ rest ≡ within t (within u (within w rest))
+three-append : (t u w : Tensor) (rest : Path) → within t (within u (within w [])) ++ rest
+    ≡ within t (within u (within w rest))
 three-append t u w rest = within-append t (within u (within w [])) rest ∙ ap (within t) (two-append u w rest)
 
-pub right-behind : (p v r : ℕ) (path : Path) → right_path p v r ++ path ≡ within (Blocks p) (within (Columns v) (within (Blocks (r / p / v)) path))
+pub right-behind : (p v r : ℕ) (path : Path) → right_path p v r ++ path ≡ within (Blocks p)
+    (within (Columns v) (within (Blocks (r / p / v)) path))
 right-behind p v r path = three-append (Blocks p) (Columns v) (Blocks (r / p / v)) path
 
-pub left-behind : (p v s : ℕ) (path : Path) → left_path p v s ++ path ≡ within (Blocks p) (within (Columns v) (within (Columns (s / p / v)) path))
+pub left-behind : (p v s : ℕ) (path : Path) → left_path p v s ++ path ≡ within (Blocks p)
+    (within (Columns v) (within (Columns (s / p / v)) path))
 left-behind p v s path = three-append (Blocks p) (Columns v) (Columns (s / p / v)) path
 
 pub whole-behind : (v s : ℕ) (path : Path) → whole_path v s ++ path ≡ within (Columns v) (within (Columns (s / v)) path)

@@ -1,5 +1,6 @@
 -- All phases: their terms do what the formula for lanes does.
-use Rattle.std.proofs.Common.{◌≡◌, ℕ, Bool, true, false, arith, refl, sym, ap, ap₂, ◌∙◌, List, [], ◌∷◌, ◌++◌, if◌then◌else◌}
+use Rattle.std.proofs.Common.{◌≡◌, ℕ, Bool, true, false, arith, refl, sym, ap, ap₂, ◌∙◌, List, [], ◌∷◌, ◌++◌}
+use Rattle.std.proofs.Common.{if◌then◌else◌}
 use Rattle.std.specs.Prelude.{map, ◌==◌}
 use Rattle.std.specs.List.{flat_map}
 use Rattle.std.proofs.lemmas.Bool.Decides.{nat_tests}
@@ -23,13 +24,15 @@ use Rattle.vec_rewrite.specs.Vectors.{PlainVec, factor_step, vec_steps}
 
 -- what two lists of factors do, one after the other
 both-on : (m : ℕ) (g : PlainVec) (x : List ℕ) → all_on m (vec_steps g) x
-    ≡ all_on m (map (factor_step g.target.procs g.target.lanes) g.second) (all_on m (map (factor_step g.target.procs g.target.lanes) g.first) x)
+    ≡ all_on m (map (factor_step g.target.procs g.target.lanes) g.second)
+    (all_on m (map (factor_step g.target.procs g.target.lanes) g.first) x)
 both-on m g x =
     let step = factor_step g.target.procs g.target.lanes in
     ap (λ ss. all_on m ss x) (map-append step g.first g.second) ∙ all_on-append m (map step g.first) (map step g.second) x
 
 terms-pick : (h : Target) (g : PlainVec) (b : Bool) (x : List ℕ) → IsVecOf h g →
-    phases_on h (map (map (factor_term g.target.procs g.target.lanes)) (if b then (g.first ++ g.second) ∷ [] else g.first ∷ g.second ∷ [])) x
+    phases_on h (map (map (factor_term g.target.procs g.target.lanes))
+    (if b then (g.first ++ g.second) ∷ [] else g.first ∷ g.second ∷ [])) x
     ≡ all_on h.modulus (vec_steps g) x
 terms-pick h g true x k = factors_on h g.target.procs g.target.lanes (g.first ++ g.second) x (vec_good h g k)
 terms-pick h g false x k =
@@ -50,7 +53,8 @@ terms_mean h g x k = terms-pick h g (g.target.procs == 1) x k
 abbrev made_of : ℕ → ℕ → ℕ → ℕ → ℕ → List PlainStep → List (List PlainTerm)
 made_of n m p v line ss = terms_in (vec_of (cut (record { size = n; modulus = m; procs = p; line = line; lanes = v }) ss))
 
-plain-flat : (n : ℕ) (ss : List PlainStep) → map (factor_term 1 1) (map kept (flat_map (factors_of n 1) ss)) ≡ map lowered ss
+plain-flat : (n : ℕ) (ss : List PlainStep) → map (factor_term 1 1) (map kept (flat_map (factors_of n 1) ss))
+    ≡ map lowered ss
 plain-flat n [] = refl
 plain-flat n (s ∷ ss) = ap (λ rest. lowered s ∷ rest) (plain-flat n ss)
 
@@ -60,10 +64,10 @@ plain-made n m line ss =
     ap (λ ts. ts ∷ [])
     (ap (map (factor_term 1 1)) (sym (map-append kept (cut h ss).first (cut h ss).second) ∙ ap (map kept) (cut-factors h ss)) ∙ plain-flat n ss)
 
-one_proc : (h : Target) → is_alone h ≡ true → h.procs ≡ 1
+pub one_proc : (h : Target) → is_alone h ≡ true → h.procs ≡ 1
 one_proc h e = grind (arith, nat_tests)
 
-one_lane : (h : Target) → is_alone h ≡ true → h.lanes ≡ 1
+pub one_lane : (h : Target) → is_alone h ≡ true → h.lanes ≡ 1
 one_lane h e = grind (arith, nat_tests)
 
 pub plain_terms : (h : Target) (l : Layout) → is_alone h ≡ true → lowered_of h l ≡ map lowered (steps_of [] l) ∷ []

@@ -1,52 +1,37 @@
 -- The functions of a good step's permutation take the places of the whole to places of it, and every number on the way fits 64 bits.
-use Rattle.std.proofs.Common.{◌≡◌, ℕ, ◌*◌, ◌/◌, ◌%◌, ◌<◌, ◌≤◌, arith, [], ◌∷◌, subst, mod-lt, div-lt_iff_lt-mul, mul-le-mul_left, le-mul_of_pos_right, mul_comm}
+use Rattle.std.proofs.Common.{ℕ, ◌*◌, ◌/◌, ◌%◌, ◌<◌, ◌≤◌, arith, [], ◌∷◌, mod-lt, div-lt_iff_lt-mul}
+use Rattle.std.proofs.Common.{mul-le-mul_left, le-mul_of_pos_right}
 use Rattle.std.proofs.Math.Nat.{div-add-mod'}
 use Rattle.std.proofs.lemmas.Nat.{mul-le, mul-lt}
-use Rattle.index_fn.specs.Mapping.{Mapping, ThomasIn, ThomasBack, at, IsDefinedAt, IsWellFormed}
+use Rattle.index_fn.specs.Mapping.{Mapping, ThomasIn, ThomasBack, at, IsDefinedAt}
 use Rattle.operators.proofs.Lists.{factor_positive}
 use Rattle.sigma_lower.specs.TreeTerms.Wrapped.{wrapped}
 use Rattle.sigma_lower.proofs.TreeTerms.Permuted.{StaysBelow, wrapped-below}
 use Rattle.operators.specs.declared.tensor_paths.Tensor.TheVariants.{Blocks, Columns}
 use Rattle.operators.specs.TensorPaths.Path.{Path, size_under}
-use Rattle.sigma_spl.proofs.Keeps.{right_positive}
+use Rattle.sigma_spl.proofs.Fitting.{le-times}
 
 -- a function of the numbers below n
 pub record IsClosed (n : ℕ) (f : Mapping) : Type 0 where
   pub defined : (i : ℕ) → i < n → IsDefinedAt f i
   pub below : StaysBelow n (at f)
 
-pub le-mul_left : (r s : ℕ) → 0 < r → s ≤ r * s
-le-mul_left r s h = let more : 1 * s ≤ r * s = mul-le 1 s r s h (omega arith) in omega arith
-
 -- ---- under tensors
 
-pub wrapped-defined : (path : Path) (n : ℕ) (f : Mapping) → IsClosed n f → size_under path n ≤ 1048576 → (i : ℕ) → i < size_under path n → IsDefinedAt (wrapped path n f) i
+pub wrapped-defined : (path : Path) (n : ℕ) (f : Mapping) → IsClosed n f → size_under path n ≤ 1048576 → (i : ℕ) →
+    i < size_under path n → IsDefinedAt (wrapped path n f) i
 wrapped-defined [] n f h high i below = h.defined i below
 wrapped-defined (Blocks c ∷ path) n f h high i below =
     let size = size_under path n in
     let positive : 0 < size = factor_positive c size i below in
     let count : 0 < c = factor_positive size c i (omega arith) in
-    let within : size ≤ c * size = le-mul_left c size count in
+    let within : size ≤ c * size = le-times c size count in
     (tt, wrapped-defined path n f h (omega arith) (i % size) (mod-lt i positive), omega (arith, wrapped-below (Blocks c ∷ path) n f h.below i below))
 wrapped-defined (Columns c ∷ path) n f h high i below =
     let size = size_under path n in
     let positive : 0 < c = factor_positive size c i below in
     let within : size ≤ size * c = le-mul_of_pos_right {m = c} size positive in
     (wrapped-defined path n f h (omega arith) (i / c) ((div-lt_iff_lt-mul positive).1 below), tt, omega (arith, wrapped-below (Columns c ∷ path) n f h.below i below))
-
-pub closed-wrapped : (whole : ℕ) (path : Path) (n : ℕ) (f : Mapping) → whole ≤ 1048576 → size_under path n ≡ whole → IsClosed n f → IsClosed whole (wrapped path n f)
-closed-wrapped whole path n f high e h =
-    subst (λ m. IsClosed m (wrapped path n f)) e (record { defined = wrapped-defined path n f h (omega arith); below = wrapped-below path n f h.below })
-
--- and its factors and divisors are as they must be
-pub wrapped-formed : (path : Path) (n : ℕ) (f : Mapping) → IsWellFormed f → 0 < size_under path n → IsWellFormed (wrapped path n f)
-wrapped-formed [] n f h positive = h
-wrapped-formed (Blocks c ∷ path) n f h positive =
-    let size = size_under path n in
-    let inner : 0 < size = right_positive c size positive in (inner, tt, wrapped-formed path n f h inner)
-wrapped-formed (Columns c ∷ path) n f h positive =
-    let size = size_under path n in
-    let inner : 0 < size = right_positive c size (omega (arith, mul_comm size c)) in (right_positive size c positive, wrapped-formed path n f h inner, tt)
 
 -- ---- the permutations of a rule
 
@@ -59,13 +44,14 @@ thomas_in-closed r s pr ps high =
       below = λ i below. mod-lt _ (mul-lt 0 0 r s pr ps);
     }
 
-pub thomas_back-closed : (r s u v : ℕ) → 0 < r → 0 < s → r * s ≤ 1048576 → u < r * s → v < r * s → IsClosed (r * s) (ThomasBack r s u v)
+pub thomas_back-closed : (r s u v : ℕ) → 0 < r → 0 < s → r * s ≤ 1048576 → u < r * s → v < r * s →
+    IsClosed (r * s) (ThomasBack r s u v)
 thomas_back-closed r s u v pr ps high pu pv =
     record {
       defined = λ i below.
           let row : i / s < r = (div-lt_iff_lt-mul ps).1 below in
           let rows : r ≤ r * s = le-mul_of_pos_right {m = s} r ps in
-          let columns : s ≤ r * s = le-mul_left r s pr in
+          let columns : s ≤ r * s = le-times r s pr in
           let one : i / s * u ≤ 1048576 * 1048576 = mul-le (i / s) u 1048576 1048576 (omega arith) (omega arith) in
           let other : i % s * v ≤ 1048576 * 1048576 = mul-le (i % s) v 1048576 1048576 (omega (arith, mod-lt i ps)) (omega arith) in
           (below, omega arith);

@@ -1,5 +1,6 @@
 -- The factors of an admissible tree are good: of the request's size, and with what their permutations need.
-use Rattle.std.proofs.Common.{◌≡◌, ℕ, ◌*◌, ◌/◌, ◌<◌, ◌≤◌, Bool, true, false, arith, refl, sym, ap, ◌∙◌, List, [], ◌∷◌, ◌++◌, if◌then◌else◌, subst, mul_comm}
+use Rattle.std.proofs.Common.{◌≡◌, ℕ, ◌*◌, ◌/◌, ◌<◌, ◌≤◌, arith, refl, sym, ap, ◌∙◌, List, [], ◌∷◌}
+use Rattle.std.proofs.Common.{◌++◌, subst, mul_comm}
 use Rattle.std.specs.Prelude.{All, map, Option, None, Some, ◌==◌, take, drop}
 use Rattle.std.specs.List.{flat_map}
 use Rattle.std.proofs.lemmas.List.{map-append}
@@ -9,7 +10,8 @@ use Rattle.smp_rewrite.specs.Smp as smp
 use Rattle.smp_rewrite.specs.Smp.{within}
 use Rattle.smp_rewrite.proofs.Tensors.{size-within}
 use Rattle.smp_rewrite.specs.LayoutSteps.Meaning.{core_size}
-use Rattle.smp_rewrite.specs.LayoutSteps.Step.{PlainCore, piece, turns, twiddles, thomas_in, thomas_out, PlainStep, step, steps_of}
+use Rattle.smp_rewrite.specs.LayoutSteps.Step.{PlainCore, piece, turns, twiddles, thomas_in, thomas_out, PlainStep}
+use Rattle.smp_rewrite.specs.LayoutSteps.Step.{step, steps_of}
 use Rattle.operators.specs.declared.tensor_paths.Tensor.TheVariants.{Blocks, Columns}
 use Rattle.operators.specs.TensorPaths.Path.{Path, size_under, copies_of}
 use Rattle.operators.proofs.TensorPaths.Under.{size_under-copies}
@@ -21,12 +23,15 @@ use Rattle.operators.specs.declared.target.Target.{Target}
 use Rattle.vec_rewrite.specs.declared.Deal.{Deal}
 use Rattle.vec_rewrite.specs.declared.Grid.{Grid}
 use Rattle.vec_rewrite.specs.Laws.{HasLanes}
-use Rattle.vec_rewrite.specs.Turning.{kept, settled, grouped, order_after, narrowed, block_factors, laned, laned_from, phase_of, deal_of, vec_of}
-use Rattle.vec_rewrite.specs.Vectors.{PlainFactor, lanes, diagonals, move_before, move_after, tiles, PlainVec, factor_step, vec_steps}
+use Rattle.vec_rewrite.specs.Turning.{kept, settled, grouped, order_after, narrowed, block_factors, laned, laned_from}
+use Rattle.vec_rewrite.specs.Turning.{phase_of, deal_of, vec_of}
+use Rattle.vec_rewrite.specs.Vectors.{PlainFactor, lanes, diagonals, move_before, move_after, tiles, PlainVec}
+use Rattle.vec_rewrite.specs.Vectors.{factor_step, vec_steps}
 use Rattle.vec_rewrite.proofs.LaneShapes.{vec_shaped}
 use Rattle.sigma_lower.specs.TreeTerms.Good.{AreCoprime, IsGoodPiece, IsGoodCore, IsGood, AreGood, IsVecOf}
 use Rattle.sigma_lower.proofs.TreeTerms.Lowering.{good_steps}
 use Rattle.sigma_spl.proofs.Keeps.{right_positive}
+use Rattle.sigma_spl.proofs.Walk.{chosen}
 
 -- ---- what a core needs apart from its size, where that of a piece is said of its tree
 
@@ -44,7 +49,8 @@ apt-core (twiddles r s w) h = tt
 apt-core (thomas_in r s) h = h
 apt-core (thomas_out r s) h = h
 
-good-core : (path : Path) (k : PlainCore) (n : ℕ) → IsApt IsGoodPiece k → size_under path (core_size k) ≡ n → 0 < n → IsGoodCore k
+good-core : (path : Path) (k : PlainCore) (n : ℕ) → IsApt IsGoodPiece k → size_under path (core_size k) ≡ n → 0 < n →
+    IsGoodCore k
 good-core path (piece t) n h e positive = h
 good-core path (turns r s) n h e positive =
     let whole : copies_of path * (r * s) ≡ n = sym (size_under-copies path (r * s)) ∙ e in
@@ -102,16 +108,14 @@ module _ (Q : PlainWork → Type 0) where
   cut-apt n p (Columns s ∷ path) (thomas_in a b) h = whole-apt (Columns s ∷ path) (thomas_in a b) h
   cut-apt n p (Columns s ∷ path) (thomas_out a b) h = whole-apt (Columns s ∷ path) (thomas_out a b) h
 
-  pick-apt : (b : Bool) (fs gs : List smp.PlainFactor) → All (IsAptFactor Q) fs → All (IsAptFactor Q) gs → All (IsAptFactor Q) (if b then fs else gs)
-  pick-apt true fs gs h k = h
-  pick-apt false fs gs h k = k
-
-  flat-apt : (n p : ℕ) (ss : List PlainStep) → All (λ s. IsApt Q s.core) ss → All (IsAptFactor Q) (flat_map (factors_of n p) ss)
+  flat-apt : (n p : ℕ) (ss : List PlainStep) → All (λ s. IsApt Q s.core) ss →
+      All (IsAptFactor Q) (flat_map (factors_of n p) ss)
   flat-apt n p [] h = All-nil (IsAptFactor Q)
   flat-apt n p (s ∷ ss) h =
       let core : IsApt Q s.core = All-head (λ s. IsApt Q s.core) s ss h in
       All-append (IsAptFactor Q) (factors_of n p s) (flat_map (factors_of n p) ss)
-      (pick-apt (p == 1) (smp.blocks s ∷ []) (cut_factors n p s.path s.core) (apt-one (smp.blocks s) core) (cut-apt n p s.path s.core core))
+      (chosen (All (IsAptFactor Q)) (p == 1) (smp.blocks s ∷ []) (cut_factors n p s.path s.core)
+      (λ one. apt-one (smp.blocks s) core) (cut-apt n p s.path s.core core))
       (flat-apt n p ss (All-tail (λ s. IsApt Q s.core) s ss h))
 
   lane-one : (f : PlainFactor) → IsAptLane Q f → All (IsAptLane Q) (f ∷ [])
@@ -129,7 +133,8 @@ module _ (Q : PlainWork → Type 0) where
       let across = tiles (within (Blocks g.groups) (within (Blocks g.tiles) [])) in All-cons (IsAptLane Q) before (across ∷ []) tt (lane-one across tt)
   grouped-apt d (Some h) g = All-nil (IsAptLane Q)
 
-  settled-then : (d : Deal) (o : Option Grid) (f : PlainFactor) → IsAptLane Q f → All (IsAptLane Q) (settled d o ++ f ∷ [])
+  settled-then : (d : Deal) (o : Option Grid) (f : PlainFactor) → IsAptLane Q f →
+      All (IsAptLane Q) (settled d o ++ f ∷ [])
   settled-then d o f h = All-append (IsAptLane Q) (settled d o) (f ∷ []) (settled-apt d o) (lane-one f h)
 
   narrowed-apt : (v : ℕ) (path : Path) (k : PlainCore) → IsApt Q k → IsApt Q (narrowed v path k).core
@@ -137,7 +142,8 @@ module _ (Q : PlainWork → Type 0) where
   narrowed-apt v (Blocks r ∷ path) k h = h
   narrowed-apt v (Columns s ∷ path) k h = h
 
-  block-apt : (d : Deal) (o : Option Grid) (path : Path) (k : PlainCore) → IsApt Q k → All (IsAptLane Q) (block_factors d o path k)
+  block-apt : (d : Deal) (o : Option Grid) (path : Path) (k : PlainCore) → IsApt Q k →
+      All (IsAptLane Q) (block_factors d o path k)
   block-apt d o [] (piece t) h = settled-then d o (lanes (step [] (piece t))) h
   block-apt d o [] (turns r s) h = settled-then d o (lanes (step [] (turns (r / d.lanes) s))) tt
   block-apt d o [] (twiddles r s w) h = settled-then d o (diagonals (step (within (Blocks d.procs) []) (twiddles r s w))) tt
@@ -159,7 +165,8 @@ module _ (Q : PlainWork → Type 0) where
   laned-apt d o (smp.move_before s) h = settled-then d o (move_before (narrowed d.lanes s.path s.core)) (narrowed-apt d.lanes s.path s.core h)
   laned-apt d o (smp.move_after s) h = settled-then d o (move_after (narrowed d.lanes s.path s.core)) (narrowed-apt d.lanes s.path s.core h)
 
-  from-apt : (d : Deal) (o : Option Grid) (fs : List smp.PlainFactor) → All (IsAptFactor Q) fs → All (IsAptLane Q) (laned_from d o fs)
+  from-apt : (d : Deal) (o : Option Grid) (fs : List smp.PlainFactor) → All (IsAptFactor Q) fs →
+      All (IsAptLane Q) (laned_from d o fs)
   from-apt d o [] h = settled-apt d o
   from-apt d o (f ∷ fs) h =
       All-append (IsAptLane Q) (laned d o f) (laned_from d (order_after d f) fs) (laned-apt d o f (All-head (IsAptFactor Q) f fs h)) (from-apt d (order_after d f) fs (All-tail (IsAptFactor Q) f fs h))
@@ -174,12 +181,10 @@ module _ (Q : PlainWork → Type 0) where
   kept-apt [] h = All-nil (IsAptLane Q)
   kept-apt (f ∷ fs) h = All-cons (IsAptLane Q) (kept f) (map kept fs) (kept-one f (All-head (IsAptFactor Q) f fs h)) (kept-apt fs (All-tail (IsAptFactor Q) f fs h))
 
-  pick-lane : (b : Bool) (fs gs : List PlainFactor) → All (IsAptLane Q) fs → All (IsAptLane Q) gs → All (IsAptLane Q) (if b then fs else gs)
-  pick-lane true fs gs h k = h
-  pick-lane false fs gs h k = k
-
   phase-apt : (d : Deal) (fs : List smp.PlainFactor) → All (IsAptFactor Q) fs → All (IsAptLane Q) (phase_of d fs)
-  phase-apt d fs h = pick-lane (d.lanes == 1) (map kept fs) (laned_from d None fs) (kept-apt fs h) (from-apt d None fs h)
+  phase-apt d fs h =
+      chosen (All (IsAptLane Q)) (d.lanes == 1) (map kept fs) (laned_from d None fs) (λ one. kept-apt fs h)
+      (from-apt d None fs h)
 
   -- the factors of a layout whose steps are apt
   pub layout-apt : (h : Target) (l : Layout) → All (λ s. IsApt Q s.core) (steps_of [] l) →
@@ -196,7 +201,8 @@ module _ (Q : PlainWork → Type 0) where
 
 -- ---- all factors
 
-good-factor : (n p v : ℕ) (f : PlainFactor) → 0 < n → HasLanes n p v f → IsAptLane IsGoodPiece f → IsGood n (factor_step p v f)
+good-factor : (n p v : ℕ) (f : PlainFactor) → 0 < n → HasLanes n p v f → IsAptLane IsGoodPiece f →
+    IsGood n (factor_step p v f)
 good-factor n p v (lanes s) some h apt =
     let path = within (Blocks p) (within (Columns v) s.path) in
     let d = core_size s.core in
@@ -215,7 +221,8 @@ good-factor n p v (tiles path) some h apt =
     let size = size-within (Blocks p) path (v * v) ∙ h.0 in
     record { size = size; core = good-core (within (Blocks p) path) (turns v v) n tt size some }
 
-good-factors : (n p v : ℕ) (fs : List PlainFactor) → 0 < n → All (HasLanes n p v) fs → All (IsAptLane IsGoodPiece) fs → AreGood n (map (factor_step p v) fs)
+good-factors : (n p v : ℕ) (fs : List PlainFactor) → 0 < n → All (HasLanes n p v) fs → All (IsAptLane IsGoodPiece) fs →
+    AreGood n (map (factor_step p v) fs)
 good-factors n p v [] some h apt = tt
 good-factors n p v (f ∷ fs) some h apt = (
   good-factor n p v f some (All-head (HasLanes n p v) f fs h) (All-head (IsAptLane IsGoodPiece) f fs apt),
@@ -241,7 +248,9 @@ good-split : (n : ℕ) (ss ts : List PlainStep) → AreGood n (ss ++ ts) → Are
 good-split n [] ts h = (tt, h)
 good-split n (s ∷ ss) ts h = let rest = good-split n ss ts h.1 in ((h.0, rest.0), rest.1)
 
-pub phases_good : (h : Target) (g : PlainVec) → IsVecOf h g → AreGood h.size (map (factor_step g.target.procs g.target.lanes) g.first) × AreGood h.size (map (factor_step g.target.procs g.target.lanes) g.second)
+pub phases_good : (h : Target) (g : PlainVec) → IsVecOf h g →
+    AreGood h.size (map (factor_step g.target.procs g.target.lanes) g.first)
+    × AreGood h.size (map (factor_step g.target.procs g.target.lanes) g.second)
 phases_good h g k =
     good-split h.size (map (factor_step g.target.procs g.target.lanes) g.first) (map (factor_step g.target.procs g.target.lanes) g.second)
     (subst (AreGood h.size) (map-append (factor_step g.target.procs g.target.lanes) g.first g.second) (vec_good h g k))

@@ -1,5 +1,6 @@
 -- Each term does what its step does.
-use Rattle.std.proofs.Common.{◌≡◌, ℕ, zero, suc, ◌*◌, ◌%◌, ◌<◌, ◌≤◌, ◌+◌, ◌/◌, arith, refl, sym, ap, ap₂, ◌∙◌, List, [], ◌∷◌, ◌++◌, mod-lt, subst, mul_comm, div-lt_iff_lt-mul, mul-le-mul_left, mul-le-mul_right}
+use Rattle.std.proofs.Common.{◌≡◌, ℕ, zero, suc, ◌*◌, ◌%◌, ◌<◌, ◌≤◌, ◌+◌, ◌/◌, arith, refl, sym, ap, ap₂, ◌∙◌, List, []}
+use Rattle.std.proofs.Common.{◌∷◌, ◌++◌, mod-lt, subst, mul_comm, div-lt_iff_lt-mul, mul-le-mul_left, mul-le-mul_right}
 use Rattle.std.specs.Prelude.{map}
 use Rattle.std.proofs.Math.Nat.{zero-mod, mod-eq_of_lt, div-add-mod'}
 use Rattle.std.proofs.lemmas.List.FromFn.{fill_by_all}
@@ -19,7 +20,8 @@ use Rattle.smp_rewrite.specs.LayoutSteps.Layout.{Layout, work, by, layout_size, 
 use Rattle.operators.specs.declared.target.Target.{Target}
 use Rattle.smp_rewrite.proofs.Cores.{core-reads, core-gives}
 use Rattle.smp_rewrite.specs.LayoutSteps.Meaning.{core_size, core_on, step_on, all_on}
-use Rattle.smp_rewrite.specs.LayoutSteps.Step.{PlainCore, piece, turns, twiddles, thomas_in, thomas_out, PlainStep, rule_steps, steps_of}
+use Rattle.smp_rewrite.specs.LayoutSteps.Step.{PlainCore, piece, turns, twiddles, thomas_in, thomas_out, PlainStep}
+use Rattle.smp_rewrite.specs.LayoutSteps.Step.{rule_steps, steps_of}
 use Rattle.tree_model.proofs.Sizes.{word_sizes}
 use Rattle.operators.specs.declared.tensor_paths.Tensor.TheVariants.{Blocks, Columns}
 use Rattle.operators.specs.TensorPaths.Loop.{loop_on}
@@ -31,7 +33,9 @@ use Rattle.tree_model.specs.declared.tree.Rule.TheVariants.{Gt, Ct, Split, Dim}
 use Rattle.tree_model.specs.Breakdown.{size_of}
 use Rattle.tree_model.proofs.Sizes.{one_le_size_of}
 use Rattle.vec_rewrite.specs.Vectors.{PlainFactor, lanes, diagonals, move_before, move_after, tiles, factor_step}
-use Rattle.sigma_lower.specs.TreeTerms.Term.{nest, lowered_core, after_core, factor_term, term_on, terms_on, diagonal_at}
+use Rattle.kernel_gen.proofs.KernelSizes.{trees-positive}
+use Rattle.sigma_lower.specs.TreeTerms.Term.{nest, lowered_core, after_core, factor_term, term_on, terms_on}
+use Rattle.sigma_lower.specs.TreeTerms.Term.{diagonal_at}
 use Rattle.sigma_lower.specs.TreeTerms.Wrapped.{wrapped, unit_of}
 use Rattle.sigma_lower.proofs.TreeTerms.Permuted.{StaysBelow, gather-under, scale-under, wrapped-permutes}
 use Rattle.sigma_lower.proofs.TreeTerms.Sizes.{within_whole}
@@ -44,7 +48,8 @@ pub good-append : (n : ℕ) (ss ts : List PlainStep) → AreGood n ss → AreGoo
 good-append n [] ts h k = k
 good-append n (s ∷ ss) ts h k = (h.0, good-append n ss ts h.1 k)
 
-good_rule : (n : ℕ) (rule : Rule) (path : Path) (r s w : ℕ) (left right : List PlainStep) → size_under path (r * s) ≡ n → IsGoodRule rule r s →
+good_rule : (n : ℕ) (rule : Rule) (path : Path) (r s w : ℕ) (left right : List PlainStep) →
+    size_under path (r * s) ≡ n → IsGoodRule rule r s →
     AreGood n left → AreGood n right → AreGood n (rule_steps rule path r s w left right)
 good_rule n Gt path r s w left right e good on_left on_right =
     let h : 2 ≤ r = good.left in
@@ -59,18 +64,11 @@ good_rule n Split path r s w left right e good on_left on_right = good-append n 
 good_rule n Dim path r s w left right e good on_left on_right = good-append n right left on_right on_left
 
 -- trees that can be made, of few items, have words for sizes
-trees-some : (m : ℕ) (trees : PlainTrees) → CanMake m trees → 1 ≤ trees_size trees
-trees-some m (single kind root t) h = one_le_size_of kind t h.0
-trees-some m (tensor kind root t others) h =
-    let left : 1 ≤ size_of t = one_le_size_of kind t h.0.0 in
-    let right : 1 ≤ trees_size others = trees-some m others h.1 in
-    let more : size_of t * 1 ≤ size_of t * trees_size others = mul-le-mul_left (size_of t) right in omega (arith, left, more)
-
 trees-words : (m : ℕ) (trees : PlainTrees) → CanMake m trees → trees_size trees ≤ 1048576 → AreWords trees
 trees-words m (single kind root t) h small = word_sizes kind t h.0 (omega (arith, small))
 trees-words m (tensor kind root t others) h small =
     let left : 1 ≤ size_of t = one_le_size_of kind t h.0.0 in
-    let right : 1 ≤ trees_size others = trees-some m others h.1 in
+    let right : 1 ≤ trees_size others = trees-positive m others h.1 in
     let one : size_of t * 1 ≤ size_of t * trees_size others = mul-le-mul_left (size_of t) right in
     let two : 1 * trees_size others ≤ size_of t * trees_size others = mul-le-mul_right (trees_size others) left in
     (word_sizes kind t h.0.0 (omega (arith, small, one)), trees-words m others h.1 (omega (arith, small, two)), omega (arith, small))
@@ -82,7 +80,8 @@ work-words m (horner root size) h small = absurd h
 work-words m (tile v) h small = absurd h
 work-words m (copy size) h small = absurd h
 
-pub good_steps : (m n : ℕ) (path : Path) (l : Layout) → 1 ≤ n → n ≤ 1048576 → IsGoodLayout m l → size_under path (layout_size l) ≡ n → AreGood n (steps_of path l)
+pub good_steps : (m n : ℕ) (path : Path) (l : Layout) → 1 ≤ n → n ≤ 1048576 → IsGoodLayout m l →
+    size_under path (layout_size l) ≡ n → AreGood n (steps_of path l)
 good_steps m n path (work w) some high h e = (record { size = e; core = work-words m w h.1 (omega (arith, high, within_whole path (work_size w) n some e)) }, tt)
 good_steps m n path (by rule root a b) some high h e =
     let r = layout_size a in
@@ -96,10 +95,12 @@ good_steps m n path (by rule root a b) some high h e =
 pub units_of : (r s u : ℕ) → 0 < r → 0 < s → (s * u) % r ≡ 1 % r → IsUnit r s (unit_of r s)
 units_of r s u h g e = unit_from r s r (u % r) (omega arith) (omega arith) (mod-lt u h) (mul-mod_second s u r ∙ e)
 
-pub thomas_permutes : (r s : ℕ) → AreCoprime r s → IsPermutationBelow (r * s) (at (ThomasOut r s)) (at (ThomasBack r s (unit_of r s) (unit_of s r)))
+pub thomas_permutes : (r s : ℕ) → AreCoprime r s → IsPermutationBelow (r * s) (at (ThomasOut r s))
+    (at (ThomasBack r s (unit_of r s) (unit_of s r)))
 thomas_permutes r s h = from_inverses (inverses_of r s h.left h.gcd)
   where
-    from_inverses : (u : ℕ) × (v : ℕ) × AreInverses r s u v → IsPermutationBelow (r * s) (at (ThomasOut r s)) (at (ThomasBack r s (unit_of r s) (unit_of s r)))
+    from_inverses : (u : ℕ) × (v : ℕ) × AreInverses r s u v →
+        IsPermutationBelow (r * s) (at (ThomasOut r s)) (at (ThomasBack r s (unit_of r s) (unit_of s r)))
     from_inverses (u, v, both) =
         let undoes = thomas_out_undoes r s (unit_of r s) (unit_of s r) (omega (arith, h.left)) (omega (arith, h.right)) (omega (arith, h.small))
         (units_of r s u h.left h.right (inverse_of_s r s u v both)) (units_of s r v h.right h.left (inverse_of_r r s u v both)) in
@@ -143,7 +144,8 @@ unit_small r s h = from_inverses (inverses_of r s h.left h.gcd)
 -- ---- each term
 
 -- the loops over the copies
-pub nest_on : (h : Target) (path : Path) (w : PlainWork) (x : List ℕ) → size_under path (work_size w) ≡ h.size → term_on h (nest path w) x ≡ under path (work_size w) (work_on h.modulus w) x
+pub nest_on : (h : Target) (path : Path) (w : PlainWork) (x : List ℕ) → size_under path (work_size w) ≡ h.size →
+    term_on h (nest path w) x ≡ under path (work_size w) (work_on h.modulus w) x
 nest_on h path w x e =
     let d = work_size w in
     let a = work_on h.modulus w in
@@ -171,7 +173,8 @@ turns-permute r s =
       there-back = turn-undone r s;
     }
 
-pub lowered_core_on : (h : Target) (path : Path) (k : PlainCore) (x : List ℕ) → size_under path (core_size k) ≡ h.size → IsGoodCore k →
+pub lowered_core_on : (h : Target) (path : Path) (k : PlainCore) (x : List ℕ) → size_under path (core_size k) ≡ h.size →
+    IsGoodCore k →
     term_on h (lowered_core path k) x ≡ under path (core_size k) (core_on h.modulus k) x
 lowered_core_on h path (piece w) x e g = nest_on h path w x e
 lowered_core_on h path (turns r s) x e g =
@@ -189,7 +192,8 @@ lowered_core_on h path (thomas_out r s) x e g =
     ∙ sym (gather_as_scatter (size_under path (r * s)) _ _ x (wrapped-permutes path (r * s) (ThomasOut r s) (ThomasBack r s (unit_of r s) (unit_of s r)) both))
     ∙ sym (gather-under path (r * s) (ThomasOut r s) x both.there_below)
 
-after_core_on : (h : Target) (path : Path) (k : PlainCore) (x : List ℕ) → size_under path (core_size k) ≡ h.size → IsGoodCore k →
+after_core_on : (h : Target) (path : Path) (k : PlainCore) (x : List ℕ) → size_under path (core_size k) ≡ h.size →
+    IsGoodCore k →
     term_on h (after_core path k) x ≡ under path (core_size k) (core_on h.modulus k) x
 after_core_on h path (piece w) x e g = lowered_core_on h path (piece w) x e g
 after_core_on h path (turns r s) x e g =
@@ -201,14 +205,17 @@ after_core_on h path (thomas_in r s) x e g = lowered_core_on h path (thomas_in r
 after_core_on h path (thomas_out r s) x e g = lowered_core_on h path (thomas_out r s) x e g
 
 -- the term of a factor does what its step does
-pub factor_on : (h : Target) (p v : ℕ) (f : PlainFactor) (x : List ℕ) → IsGood h.size (factor_step p v f) → term_on h (factor_term p v f) x ≡ step_on h.modulus (factor_step p v f) x
+pub factor_on : (h : Target) (p v : ℕ) (f : PlainFactor) (x : List ℕ) → IsGood h.size (factor_step p v f) →
+    term_on h (factor_term p v f) x ≡ step_on h.modulus (factor_step p v f) x
 factor_on h p v (lanes s) x g = lowered_core_on h (factor_step p v (lanes s)).path s.core x g.size g.core
 factor_on h p v (diagonals s) x g = lowered_core_on h s.path s.core x g.size g.core
 factor_on h p v (move_before s) x g = lowered_core_on h (factor_step p v (move_before s)).path s.core x g.size g.core
 factor_on h p v (move_after s) x g = after_core_on h (factor_step p v (move_after s)).path s.core x g.size g.core
 factor_on h p v (tiles path) x g = nest_on h (factor_step p v (tiles path)).path (tile v) x g.size
 
-pub factors_on : (h : Target) (p v : ℕ) (fs : List PlainFactor) (x : List ℕ) → AreGood h.size (map (factor_step p v) fs) → terms_on h (map (factor_term p v) fs) x ≡ all_on h.modulus (map (factor_step p v) fs) x
+pub factors_on : (h : Target) (p v : ℕ) (fs : List PlainFactor) (x : List ℕ) →
+    AreGood h.size (map (factor_step p v) fs) → terms_on h (map (factor_term p v) fs) x
+    ≡ all_on h.modulus (map (factor_step p v) fs) x
 factors_on h p v [] x g = refl
 factors_on h p v (f ∷ fs) x g =
     ap (terms_on h (map (factor_term p v) fs)) (factor_on h p v f x g.0) ∙ factors_on h p v fs (step_on h.modulus (factor_step p v f) x) g.1

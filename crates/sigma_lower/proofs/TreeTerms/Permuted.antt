@@ -1,11 +1,13 @@
 -- Gathers and diagonals under tensors.
-use Rattle.std.proofs.Common.{◌≡◌, ℕ, ◌+◌, ◌*◌, ◌/◌, ◌%◌, ◌<◌, arith, refl, sym, ap, ap₂, ◌∙◌, List, [], ◌∷◌, mod-lt, div-lt_iff_lt-mul}
+use Rattle.std.proofs.Common.{◌≡◌, ℕ, ◌+◌, ◌*◌, ◌/◌, ◌%◌, ◌<◌, arith, refl, sym, ap, ap₂, ◌∙◌, List, [], ◌∷◌, mod-lt}
+use Rattle.std.proofs.Common.{div-lt_iff_lt-mul}
 use Rattle.std.specs.Prelude.{slice_index}
 use Rattle.std.proofs.Math.Nat.{div-add-mod'}
 use Rattle.index_fn.specs.Mapping.{Mapping, at}
 use Rattle.operators.specs.Loop.{IsPermutationBelow}
 use Rattle.operators.specs.Operator.{gather, scale, on_columns, on_blocks, column, block}
-use Rattle.operators.proofs.Lists.{at-list_below, list_below-same, list_below-same_rows, row-of, column-of, place_below, factor_positive}
+use Rattle.operators.proofs.Lists.{at-list_below, list_below-same, list_below-same_rows, row-of, column-of, place_below}
+use Rattle.operators.proofs.Lists.{factor_positive}
 use Rattle.operators.proofs.Places.{column_at, block_at}
 use Rattle.operators.proofs.TensorPaths.Equal.{on_columns-same, on_blocks-same}
 use Rattle.operators.specs.declared.tensor_paths.Tensor.TheVariants.{Blocks, Columns}
@@ -16,7 +18,8 @@ use Rattle.sigma_lower.specs.TreeTerms.Wrapped.{wrapped, inner_of}
 abbrev pub StaysBelow : ℕ → (ℕ → ℕ) → Type 0
 StaysBelow n f = (i : ℕ) → i < n → f i < n
 
-blocks_of_gather : (k n : ℕ) (f : ℕ → ℕ) (x : List ℕ) → StaysBelow n f → on_blocks k n (gather n f) x ≡ gather (k * n) (λ w. w / n * n + f (w % n)) x
+blocks_of_gather : (k n : ℕ) (f : ℕ → ℕ) (x : List ℕ) → StaysBelow n f →
+    on_blocks k n (gather n f) x ≡ gather (k * n) (λ w. w / n * n + f (w % n)) x
 blocks_of_gather k n f x h =
     list_below-same_rows k n _ _ (λ a b row below.
     ap₂ (λ i j. slice_index (gather n f (block n i x)) j) (row-of a b n below) (column-of a b n below)
@@ -24,7 +27,8 @@ blocks_of_gather k n f x h =
     ∙ block_at n a x (f b) (h b below)
     ∙ sym (ap₂ (λ i j. slice_index x (i * n + f j)) (row-of a b n below) (column-of a b n below)))
 
-columns_of_gather : (n k : ℕ) (f : ℕ → ℕ) (x : List ℕ) → StaysBelow n f → on_columns n k (gather n f) x ≡ gather (n * k) (λ w. f (w / k) * k + w % k) x
+columns_of_gather : (n k : ℕ) (f : ℕ → ℕ) (x : List ℕ) → StaysBelow n f →
+    on_columns n k (gather n f) x ≡ gather (n * k) (λ w. f (w / k) * k + w % k) x
 columns_of_gather n k f x h =
     list_below-same_rows n k _ _ (λ a b row below.
     ap₂ (λ i j. slice_index (gather n f (column n k j x)) i) (row-of a b k below) (column-of a b k below)
@@ -32,7 +36,8 @@ columns_of_gather n k f x h =
     ∙ column_at n k b x (f a) (h a row)
     ∙ sym (ap₂ (λ i j. slice_index x (f i * k + j)) (row-of a b k below) (column-of a b k below)))
 
-pub wrapped-below : (path : Path) (n : ℕ) (f : Mapping) → StaysBelow n (at f) → StaysBelow (size_under path n) (at (wrapped path n f))
+pub wrapped-below : (path : Path) (n : ℕ) (f : Mapping) → StaysBelow n (at f) →
+    StaysBelow (size_under path n) (at (wrapped path n f))
 wrapped-below [] n f h i below = h i below
 wrapped-below (Blocks c ∷ path) n f h i below =
     let size = size_under path n in
@@ -43,7 +48,8 @@ wrapped-below (Columns c ∷ path) n f h i below =
     place_below (at (wrapped path n f) (i / c)) (i % c) (size_under path n) c (wrapped-below path n f h (i / c) ((div-lt_iff_lt-mul positive).1 below)) (mod-lt i positive)
 
 -- a permutation under tensors is the gather of its index function under them
-pub gather-under : (path : Path) (n : ℕ) (f : Mapping) (x : List ℕ) → StaysBelow n (at f) → under path n (gather n (at f)) x ≡ gather (size_under path n) (at (wrapped path n f)) x
+pub gather-under : (path : Path) (n : ℕ) (f : Mapping) (x : List ℕ) → StaysBelow n (at f) →
+    under path n (gather n (at f)) x ≡ gather (size_under path n) (at (wrapped path n f)) x
 gather-under [] n f x h = refl
 gather-under (Blocks c ∷ path) n f x h =
     on_blocks-same c (size_under path n) _ _ x (λ y. gather-under path n f y h)
@@ -52,14 +58,16 @@ gather-under (Columns c ∷ path) n f x h =
     on_columns-same (size_under path n) c _ _ x (λ y. gather-under path n f y h)
     ∙ columns_of_gather (size_under path n) c (at (wrapped path n f)) x (wrapped-below path n f h)
 
-blocks_of_scale : (m k n : ℕ) (d : ℕ → ℕ) (x : List ℕ) → on_blocks k n (scale m n d) x ≡ scale m (k * n) (λ w. d (w % n)) x
+blocks_of_scale : (m k n : ℕ) (d : ℕ → ℕ) (x : List ℕ) → on_blocks k n (scale m n d) x ≡ scale m (k * n)
+    (λ w. d (w % n)) x
 blocks_of_scale m k n d x =
     list_below-same_rows k n _ _ (λ a b row below.
     ap₂ (λ i j. slice_index (scale m n d (block n i x)) j) (row-of a b n below) (column-of a b n below)
     ∙ at-list_below n _ b below
     ∙ ap₂ (λ e y. (d e * y) % m) (sym (column-of a b n below)) (block_at n a x b below))
 
-columns_of_scale : (m n k : ℕ) (d : ℕ → ℕ) (x : List ℕ) → on_columns n k (scale m n d) x ≡ scale m (n * k) (λ w. d (w / k)) x
+columns_of_scale : (m n k : ℕ) (d : ℕ → ℕ) (x : List ℕ) → on_columns n k (scale m n d) x ≡ scale m (n * k)
+    (λ w. d (w / k)) x
 columns_of_scale m n k d x =
     list_below-same_rows n k _ _ (λ a b row below.
     ap₂ (λ i j. slice_index (scale m n d (column n k j x)) i) (row-of a b k below) (column-of a b k below)
@@ -67,7 +75,8 @@ columns_of_scale m n k d x =
     ∙ ap₂ (λ e y. (d e * y) % m) (sym (row-of a b k below)) (column_at n k b x a row))
 
 -- a diagonal under tensors
-pub scale-under : (path : Path) (m n : ℕ) (d : ℕ → ℕ) (x : List ℕ) → under path n (scale m n d) x ≡ scale m (size_under path n) (λ w. d (at (inner_of path n) w)) x
+pub scale-under : (path : Path) (m n : ℕ) (d : ℕ → ℕ) (x : List ℕ) →
+    under path n (scale m n d) x ≡ scale m (size_under path n) (λ w. d (at (inner_of path n) w)) x
 scale-under [] m n d x = refl
 scale-under (Blocks c ∷ path) m n d x =
     let size = size_under path n in
@@ -81,7 +90,9 @@ scale-under (Columns c ∷ path) m n d x =
     ∙ list_below-same (size * c) _ _ (λ w below. ap (λ e. (d e * slice_index x w) % m) (omega arith))
 
 -- two index functions that undo one another do so under tensors
-pub wrapped-inverse : (path : Path) (n : ℕ) (f g : Mapping) → StaysBelow n (at g) → ((i : ℕ) → i < n → at f (at g i) ≡ i) → (i : ℕ) → i < size_under path n → at (wrapped path n f) (at (wrapped path n g) i) ≡ i
+pub wrapped-inverse : (path : Path) (n : ℕ) (f g : Mapping) → StaysBelow n (at g) →
+    ((i : ℕ) → i < n → at f (at g i) ≡ i) → (i : ℕ) → i < size_under path n →
+    at (wrapped path n f) (at (wrapped path n g) i) ≡ i
 wrapped-inverse [] n f g h back i below = back i below
 wrapped-inverse (Blocks c ∷ path) n f g h back i below =
     let size = size_under path n in
@@ -97,7 +108,8 @@ wrapped-inverse (Columns c ∷ path) n f g h back i below =
     ∙ ap (λ a. a * c + i % c) (wrapped-inverse path n f g h back (i / c) row)
     ∙ div-add-mod' i c
 
-pub wrapped-permutes : (path : Path) (n : ℕ) (f g : Mapping) → IsPermutationBelow n (at f) (at g) → IsPermutationBelow (size_under path n) (at (wrapped path n f)) (at (wrapped path n g))
+pub wrapped-permutes : (path : Path) (n : ℕ) (f g : Mapping) → IsPermutationBelow n (at f) (at g) →
+    IsPermutationBelow (size_under path n) (at (wrapped path n f)) (at (wrapped path n g))
 wrapped-permutes path n f g h =
     record {
       there_below = wrapped-below path n f h.there_below;

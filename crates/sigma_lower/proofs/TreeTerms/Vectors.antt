@@ -1,11 +1,13 @@
 -- Functions that keep vectors: v words side by side, from a multiple of v on, stay so. Under tensors they do where the
 -- first columns are a multiple of v.
-use Rattle.std.proofs.Common.{◌≡◌, ℕ, ◌+◌, ◌*◌, ◌/◌, ◌%◌, ◌<◌, Bool, true, false, arith, refl, sym, ap, ap₂, subst, ◌∙◌, [], ◌∷◌, ◌++◌, inl, inr, if◌then◌else◌, eq-zero-or-pos, mod-lt}
+use Rattle.std.proofs.Common.{◌≡◌, ℕ, ◌+◌, ◌*◌, ◌/◌, ◌%◌, ◌<◌, arith, sym, ap, ap₂, subst, ◌∙◌}
+use Rattle.std.proofs.Common.{[], ◌∷◌, ◌++◌, inl, inr, eq-zero-or-pos, mod-lt}
 use Rattle.std.specs.Prelude.{◌==◌}
 use Rattle.std.proofs.Math.Nat.{div-add-mod', div-zero, mod-zero, zero-mul}
 use Rattle.index_fn.specs.Mapping.{Mapping, at}
 use Rattle.operators.proofs.Lists.{row-of, column-of, place_below}
 use Rattle.sigma_lower.specs.TreeTerms.Wrapped.{wrapped}
+use Rattle.sigma_spl.proofs.Walk.{chosen}
 use Rattle.smp_rewrite.specs.Smp.{within}
 use Rattle.operators.specs.declared.tensor_paths.Tensor.TheVariants.{Blocks, Columns}
 use Rattle.operators.specs.TensorPaths.Path.{Path, size_under}
@@ -63,19 +65,12 @@ vectors-append v [] rest h = single-vectors v rest h
 vectors-append v (Blocks k ∷ path) rest h = vectors-append v path rest h
 vectors-append v (Columns k ∷ path) rest h = h
 
-blocks-pick : (v : ℕ) (b : Bool) (k : ℕ) (path : Path) → HasVectors v path → HasVectors v (if b then path else Blocks k ∷ path)
-blocks-pick v true k path h = h
-blocks-pick v false k path h = h
-
 pub vectors-blocks : (v k : ℕ) (path : Path) → HasVectors v path → HasVectors v (within (Blocks k) path)
-vectors-blocks v k path h = blocks-pick v (k == 1) k path h
-
-columns-pick : (v : ℕ) (b : Bool) (path : Path) → (b ≡ true → v ≡ 1) → HasVectors v (if b then path else Columns v ∷ path)
-columns-pick v true path one = single-vectors v path (one refl)
-columns-pick v false path one = (1, omega arith)
+vectors-blocks v k path h = chosen (HasVectors v) (k == 1) path (Blocks k ∷ path) (λ one. h) h
 
 pub vectors-columns : (v : ℕ) (path : Path) → HasVectors v (within (Columns v) path)
-vectors-columns v path = columns-pick v (v == 1) path (is-one v)
+vectors-columns v path =
+    chosen (HasVectors v) (v == 1) path (Columns v ∷ path) (λ one. single-vectors v path (is-one v one)) (1, omega arith)
 
 -- the whole is a number of vectors
 pub size-vectors : (v : ℕ) (path : Path) (n : ℕ) → HasVectors v path → (m : ℕ) × (size_under path n ≡ m * v)

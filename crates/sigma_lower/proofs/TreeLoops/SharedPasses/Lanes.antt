@@ -1,11 +1,13 @@
 -- Passes whose lanes are vectors, and what merging keeps of them.
 use Rattle.std.proofs.Common.{◌≡◌, ℕ, ◌+◌, ◌*◌, ◌<◌, arith, sym, ap, ◌∙◌, List, [], ◌∷◌, mul-zero, subst}
-use Rattle.std.specs.Prelude.{Option, Some, None}
+use Rattle.std.specs.Prelude.{Some}
 use Rattle.std.proofs.Math.Nat.{zero-mul}
 use Rattle.index_fn.specs.Mapping.{Mapping, at}
 use Rattle.operators.specs.declared.target.Target.{Target}
 use Rattle.sigma_spl.specs.Shared.Machine.{item_of, values_of, lane_step}
-use Rattle.sigma_lower.specs.TreeLoops.Merge.{PlainDiagonal, PlainPass, Merging, through, new_pass, scattered, multiplied, merge_term}
+use Rattle.std.proofs.lemmas.Option.{none-some, same_Some}
+use Rattle.sigma_lower.specs.TreeLoops.Merge.{PlainDiagonal, PlainPass, Merging, through, new_pass, scattered}
+use Rattle.sigma_lower.specs.TreeLoops.Merge.{multiplied, merge_term}
 use Rattle.sigma_lower.specs.TreeTerms.Term.{gath, scat, diag, nest}
 use Rattle.sigma_spl.specs.Work.{PlainWork, work_size}
 use Rattle.sigma_lower.specs.TreeTerms.Wrapped.{inner_of}
@@ -34,7 +36,8 @@ pub record IsLanedPass (c : Target) (p : PlainPass) : Type 0 where
 -- ---- such a pass is framed
 
 -- what functions that keep vectors make of a vector is one
-moved-vector : (v : ℕ) (fs : List Mapping) (b : ℕ) (natural : ℕ → ℕ) → AllKeepVectors v fs → ((l : ℕ) → l < v → natural l ≡ b * v + l) →
+moved-vector : (v : ℕ) (fs : List Mapping) (b : ℕ) (natural : ℕ → ℕ) → AllKeepVectors v fs →
+    ((l : ℕ) → l < v → natural l ≡ b * v + l) →
     (t : ℕ) × ((l : ℕ) → l < v → through fs (natural l) ≡ t * v + l)
 moved-vector v fs b natural h e =
     let to = through-keeps v fs h b in (to.0, λ l below. ap (through fs) (e l below) ∙ to.1 l below)
@@ -68,57 +71,58 @@ laned-framed c p h =
           ∙ ap (λ y. y + lane_step p.work * lane) (sym (ap inner (to.1 0 (omega (arith, below)))));
     }
 
-pub all-framed : (c : Target) (R : PlainPass → Type 0) (ps : List PlainPass) → Ends (IsLanedPass c) R ps → AllFramed c ps
+pub all-framed : (c : Target) (R : PlainPass → Type 0) (ps : List PlainPass) → Ends (IsLanedPass c) R ps →
+    AllFramed c ps
 all-framed c R [] h = tt
 all-framed c R (p ∷ []) h = (laned-framed c p h.0, tt)
 all-framed c R (p ∷ q ∷ ps) h = (laned-framed c p h.0, all-framed c R (q ∷ ps) h.1)
 
 -- ---- merging
 
-none-some : (d : PlainDiagonal) → ◌≡◌ {A = Option PlainDiagonal} None (Some d) → ⊥
-none-some d e = absurd (cc)
-
 -- such passes, of which the last one has this work, and functions that keep vectors
 abbrev pub Laned : Target → (PlainWork → Type 0) → Merging → Type 0
 Laned c R st = Ends (IsLanedPass c) (λ p. R p.work) st.passes × AllKeepVectors c.lanes st.waiting
 
-pub laned-gath : (c : Target) (R : PlainWork → Type 0) (st : Merging) (f : Mapping) → KeepsVectors c.lanes f → Laned c R st → Laned c R (merge_term st (gath f))
+pub laned-gath : (c : Target) (R : PlainWork → Type 0) (st : Merging) (f : Mapping) → KeepsVectors c.lanes f →
+    Laned c R st → Laned c R (merge_term st (gath f))
 laned-gath c R st f k h = (h.0, (k, h.1))
 
-pub laned-scat : (c : Target) (R : PlainWork → Type 0) (st : Merging) (f : Mapping) → KeepsVectors c.lanes f → Laned c R st → Laned c R (merge_term st (scat f))
+pub laned-scat : (c : Target) (R : PlainWork → Type 0) (st : Merging) (f : Mapping) → KeepsVectors c.lanes f →
+    Laned c R st → Laned c R (merge_term st (scat f))
 laned-scat c R st f k h = (
   ends-last (IsLanedPass c) (λ p. R p.work) (λ p. R p.work) (scattered f) st.passes h.0 (λ p g r.
       (record { loop = g.loop; befores = g.befores; afters = keep-append c.lanes p.afters f g.afters k; diagonals = g.diagonals }, r)),
   h.1,
 )
 
-some-same : (d e : PlainDiagonal) → ◌≡◌ {A = Option PlainDiagonal} (Some d) (Some e) → d ≡ e
-some-same d e h = cc
-
-multiplied-laned : (c : Target) (path : Path) (r s w : ℕ) (p : PlainPass) → HasStep c.lanes (lane_step p.work) path (r * s) → IsLanedPass c p → IsLanedPass c (multiplied path r s w p)
+multiplied-laned : (c : Target) (path : Path) (r s w : ℕ) (p : PlainPass) →
+    HasStep c.lanes (lane_step p.work) path (r * s) → IsLanedPass c p → IsLanedPass c (multiplied path r s w p)
 multiplied-laned c path r s w p k h = record {
   loop = h.loop;
   befores = h.befores;
   afters = h.afters;
   diagonals = λ d e.
-      subst (IsLanedDiagonal c.lanes (lane_step p.work)) (some-same (record { path = path; rows = r; cols = s; root = w; places = p.afters }) d e) (record { places = h.afters; factors = k });
+      subst (IsLanedDiagonal c.lanes (lane_step p.work)) (same_Some (record { path = path; rows = r; cols = s; root = w; places = p.afters }) d e) (record { places = h.afters; factors = k });
 }
 
-pub laned-diag : (c : Target) (R : PlainWork → Type 0) (st : Merging) (path : Path) (r s w : ℕ) → ((does : PlainWork) → R does → HasStep c.lanes (lane_step does) path (r * s)) →
+pub laned-diag : (c : Target) (R : PlainWork → Type 0) (st : Merging) (path : Path) (r s w : ℕ) →
+    ((does : PlainWork) → R does → HasStep c.lanes (lane_step does) path (r * s)) →
     Laned c R st → Laned c R (merge_term st (diag path r s w))
 laned-diag c R st path r s w k h = (
   ends-last (IsLanedPass c) (λ p. R p.work) (λ p. R p.work) (multiplied path r s w) st.passes h.0 (λ p g l. (multiplied-laned c path r s w p (k p.work l) g, l)),
   h.1,
 )
 
-pub laned-nest : (c : Target) (R S : PlainWork → Type 0) (st : Merging) (path : Path) (w : PlainWork) → IsLoop c path w → S w → Laned c R st → Laned c S (merge_term st (nest path w))
+pub laned-nest : (c : Target) (R S : PlainWork → Type 0) (st : Merging) (path : Path) (w : PlainWork) →
+    IsLoop c path w → S w → Laned c R st → Laned c S (merge_term st (nest path w))
 laned-nest c R S st path w k l h = (
   ends-push (IsLanedPass c) (λ p. R p.work) (λ p. S p.work) st.passes (new_pass path w st.waiting) h.0
       (record { loop = k; befores = h.1; afters = tt; diagonals = λ d e. absurd (none-some d e) }) l,
   tt,
 )
 
-pub laned-weaken : (c : Target) (R S : PlainWork → Type 0) (st : Merging) → ((w : PlainWork) → R w → S w) → Laned c R st → Laned c S st
+pub laned-weaken : (c : Target) (R S : PlainWork → Type 0) (st : Merging) → ((w : PlainWork) → R w → S w) →
+    Laned c R st → Laned c S st
 laned-weaken c R S st k h = (ends-weaken (IsLanedPass c) (λ p. R p.work) (λ p. S p.work) st.passes h.0 (λ p g r. k p.work r), h.1)
 
 -- ---- diagonals

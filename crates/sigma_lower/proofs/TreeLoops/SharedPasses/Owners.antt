@@ -2,11 +2,12 @@
 use Rattle.std.proofs.Common.{◌≡◌, ℕ, ◌≤◌, arith, refl, sym, ap, ◌∙◌, List, [], ◌∷◌, ◌++◌, subst}
 use Rattle.index_fn.specs.Mapping.{Mapping, at}
 use Rattle.operators.specs.declared.target.Target.{Target}
-use Rattle.sigma_lower.specs.TreeLoops.Merge.{PlainPass, Merging, through, new_pass, scattered, multiplied, at_last, merge_term, gather_place, scatter_place}
+use Rattle.sigma_lower.specs.TreeLoops.Merge.{PlainPass, Merging, through, new_pass, scattered, multiplied, at_last}
+use Rattle.sigma_lower.specs.TreeLoops.Merge.{merge_term, gather_place, scatter_place}
 use Rattle.sigma_lower.specs.TreeTerms.Term.{gath, scat, diag, nest}
 use Rattle.sigma_spl.specs.Work.{PlainWork, work_size}
 use Rattle.sigma_lower.specs.TreeLoops.SharedPasses.Shared.{Owns, AllOwn, FirstOwns, AllShared, ArePhasesShared}
-use Rattle.sigma_lower.proofs.TreeLoops.SharedPasses.Merging.{at_last-push}
+use Rattle.sigma_lower.proofs.TreeLoops.TreePasses.{at_last-append}
 use Rattle.sigma_lower.proofs.TreeLoops.SharedPasses.Shares.{OwnsNatural}
 use Rattle.operators.specs.TensorPaths.Path.{Path, place}
 use Rattle.sigma_spl.specs.Shared.Owners.{IsOwner}
@@ -33,32 +34,39 @@ pub record OwnsBoth (c : Target) (owner : ℕ → ℕ) (p : PlainPass) : Type 0 
   pub scatters : Owns c p (scatter_place p) owner
 
 -- a new pass whose latest functions take its natural places to its processors' own
-new-gathers : (c : Target) (owner : ℕ → ℕ) (path : Path) (w : PlainWork) (fs : List Mapping) → OwnsNatural c path (work_size w) owner → AllKeepOwner owner fs →
+new-gathers : (c : Target) (owner : ℕ → ℕ) (path : Path) (w : PlainWork) (fs : List Mapping) →
+    OwnsNatural c path (work_size w) owner → AllKeepOwner owner fs →
     Owns c (new_pass path w fs) (gather_place (new_pass path w fs)) owner
 new-gathers c owner path w fs h k q vs j below copy inside = through-owner owner fs k (place path (work_size w) vs j) ∙ h q vs j below copy.in_range copy.processor inside
 
-new-scatters : (c : Target) (owner : ℕ → ℕ) (path : Path) (w : PlainWork) (fs : List Mapping) → OwnsNatural c path (work_size w) owner → Owns c (new_pass path w fs) (scatter_place (new_pass path w fs)) owner
+new-scatters : (c : Target) (owner : ℕ → ℕ) (path : Path) (w : PlainWork) (fs : List Mapping) →
+    OwnsNatural c path (work_size w) owner → Owns c (new_pass path w fs) (scatter_place (new_pass path w fs)) owner
 new-scatters c owner path w fs h q vs j below copy inside = h q vs j below copy.in_range copy.processor inside
 
-pub new-owns : (c : Target) (owner : ℕ → ℕ) (path : Path) (w : PlainWork) (fs : List Mapping) → OwnsNatural c path (work_size w) owner → AllKeepOwner owner fs → OwnsBoth c owner (new_pass path w fs)
+pub new-owns : (c : Target) (owner : ℕ → ℕ) (path : Path) (w : PlainWork) (fs : List Mapping) →
+    OwnsNatural c path (work_size w) owner → AllKeepOwner owner fs → OwnsBoth c owner (new_pass path w fs)
 new-owns c owner path w fs h k = record { gathers = new-gathers c owner path w fs h k; scatters = new-scatters c owner path w fs h }
 
-scattered-stores : (c : Target) (owner : ℕ → ℕ) (f : Mapping) (p : PlainPass) → KeepsOwner owner f → Owns c p (scatter_place p) owner → Owns c (scattered f p) (scatter_place (scattered f p)) owner
+scattered-stores : (c : Target) (owner : ℕ → ℕ) (f : Mapping) (p : PlainPass) → KeepsOwner owner f →
+    Owns c p (scatter_place p) owner → Owns c (scattered f p) (scatter_place (scattered f p)) owner
 scattered-stores c owner f p k h q vs j below copy inside =
     ap owner (through-end p.afters f (place p.path (work_size p.work) vs j))
     ∙ k (through p.afters (place p.path (work_size p.work) vs j))
     ∙ h q vs j below (record { in_range = copy.in_range; processor = copy.processor }) inside
 
-scattered-owns : (c : Target) (owner : ℕ → ℕ) (f : Mapping) (p : PlainPass) → KeepsOwner owner f → OwnsBoth c owner p → OwnsBoth c owner (scattered f p)
+scattered-owns : (c : Target) (owner : ℕ → ℕ) (f : Mapping) (p : PlainPass) → KeepsOwner owner f → OwnsBoth c owner p →
+    OwnsBoth c owner (scattered f p)
 scattered-owns c owner f p k h = record {
   gathers = λ q vs j below copy inside. h.gathers q vs j below (record { in_range = copy.in_range; processor = copy.processor }) inside;
   scatters = scattered-stores c owner f p k h.scatters;
 }
 
-multiplied-stores : (c : Target) (owner : ℕ → ℕ) (path : Path) (r s w : ℕ) (p : PlainPass) → Owns c p (scatter_place p) owner → Owns c (multiplied path r s w p) (scatter_place (multiplied path r s w p)) owner
+multiplied-stores : (c : Target) (owner : ℕ → ℕ) (path : Path) (r s w : ℕ) (p : PlainPass) →
+    Owns c p (scatter_place p) owner → Owns c (multiplied path r s w p) (scatter_place (multiplied path r s w p)) owner
 multiplied-stores c owner path r s w p h q vs j below copy inside = h q vs j below (record { in_range = copy.in_range; processor = copy.processor }) inside
 
-multiplied-owns : (c : Target) (owner : ℕ → ℕ) (path : Path) (r s w : ℕ) (p : PlainPass) → OwnsBoth c owner p → OwnsBoth c owner (multiplied path r s w p)
+multiplied-owns : (c : Target) (owner : ℕ → ℕ) (path : Path) (r s w : ℕ) (p : PlainPass) → OwnsBoth c owner p →
+    OwnsBoth c owner (multiplied path r s w p)
 multiplied-owns c owner path r s w p h = record {
   gathers = λ q vs j below copy inside. h.gathers q vs j below (record { in_range = copy.in_range; processor = copy.processor }) inside;
   scatters = multiplied-stores c owner path r s w p h.scatters;
@@ -66,7 +74,8 @@ multiplied-owns c owner path r s w p h = record {
 
 -- a pass between lines that are dealt and dealt back
 pub dealt-owns : (c : Target) (owner : ℕ → ℕ) (path : Path) (w : PlainWork) (f g : Mapping) (fs : List Mapping) →
-    OwnsNatural c path (work_size w) (λ i. owner (at f i)) → OwnsNatural c path (work_size w) (λ i. owner (at g i)) → AllKeepOwner owner fs → OwnsBoth c owner (scattered g (new_pass path w (f ∷ fs)))
+    OwnsNatural c path (work_size w) (λ i. owner (at f i)) → OwnsNatural c path (work_size w) (λ i. owner (at g i)) →
+    AllKeepOwner owner fs → OwnsBoth c owner (scattered g (new_pass path w (f ∷ fs)))
 dealt-owns c owner path w f g fs h l k = record {
   gathers = λ q vs j below copy inside. through-owner owner fs k (at f (place path (work_size w) vs j)) ∙ h q vs j below copy.in_range copy.processor inside;
   scatters = λ q vs j below copy inside. l q vs j below copy.in_range copy.processor inside;
@@ -74,11 +83,13 @@ dealt-owns c owner path w f g fs h l k = record {
 
 -- ---- all passes
 
-own-push : (c : Target) (owner : ℕ → ℕ) (ps : List PlainPass) (p : PlainPass) → AllOwn c owner ps → OwnsBoth c owner p → AllOwn c owner (ps ++ p ∷ [])
+own-push : (c : Target) (owner : ℕ → ℕ) (ps : List PlainPass) (p : PlainPass) → AllOwn c owner ps → OwnsBoth c owner p →
+    AllOwn c owner (ps ++ p ∷ [])
 own-push c owner [] p h k = (k.gathers, k.scatters, tt)
 own-push c owner (q ∷ ps) p h k = (h.0, h.1, own-push c owner ps p h.2 k)
 
-own-last : (c : Target) (owner : ℕ → ℕ) (f : PlainPass → PlainPass) (ps : List PlainPass) → AllOwn c owner ps → ((p : PlainPass) → OwnsBoth c owner p → OwnsBoth c owner (f p)) → AllOwn c owner (at_last f ps)
+own-last : (c : Target) (owner : ℕ → ℕ) (f : PlainPass → PlainPass) (ps : List PlainPass) → AllOwn c owner ps →
+    ((p : PlainPass) → OwnsBoth c owner p → OwnsBoth c owner (f p)) → AllOwn c owner (at_last f ps)
 own-last c owner f [] h k = tt
 own-last c owner f (p ∷ []) h k = let both = k p (record { gathers = h.0; scatters = h.1 }) in (both.gathers, both.scatters, tt)
 own-last c owner f (p ∷ q ∷ ps) h k = (h.0, h.1, own-last c owner f (q ∷ ps) h.2 k)
@@ -87,20 +98,24 @@ own-last c owner f (p ∷ q ∷ ps) h k = (h.0, h.1, own-last c owner f (q ∷ p
 abbrev pub Shared : Target → (ℕ → ℕ) → Merging → Type 0
 Shared c owner st = AllOwn c owner st.passes × AllKeepOwner owner st.waiting
 
-pub shared-gath : (c : Target) (owner : ℕ → ℕ) (st : Merging) (f : Mapping) → KeepsOwner owner f → Shared c owner st → Shared c owner (merge_term st (gath f))
+pub shared-gath : (c : Target) (owner : ℕ → ℕ) (st : Merging) (f : Mapping) → KeepsOwner owner f → Shared c owner st →
+    Shared c owner (merge_term st (gath f))
 shared-gath c owner st f k h = (h.0, (k, h.1))
 
-pub shared-scat : (c : Target) (owner : ℕ → ℕ) (st : Merging) (f : Mapping) → KeepsOwner owner f → Shared c owner st → Shared c owner (merge_term st (scat f))
+pub shared-scat : (c : Target) (owner : ℕ → ℕ) (st : Merging) (f : Mapping) → KeepsOwner owner f → Shared c owner st →
+    Shared c owner (merge_term st (scat f))
 shared-scat c owner st f k h = (own-last c owner (scattered f) st.passes h.0 (λ p g. scattered-owns c owner f p k g), h.1)
 
-pub shared-diag : (c : Target) (owner : ℕ → ℕ) (st : Merging) (path : Path) (r s w : ℕ) → Shared c owner st → Shared c owner (merge_term st (diag path r s w))
+pub shared-diag : (c : Target) (owner : ℕ → ℕ) (st : Merging) (path : Path) (r s w : ℕ) → Shared c owner st →
+    Shared c owner (merge_term st (diag path r s w))
 shared-diag c owner st path r s w h = (own-last c owner (multiplied path r s w) st.passes h.0 (λ p g. multiplied-owns c owner path r s w p g), h.1)
 
 pub shared-dealt : (c : Target) (owner : ℕ → ℕ) (st : Merging) (path : Path) (w : PlainWork) (f g : Mapping) →
-    OwnsNatural c path (work_size w) (λ i. owner (at f i)) → OwnsNatural c path (work_size w) (λ i. owner (at g i)) → Shared c owner st →
+    OwnsNatural c path (work_size w) (λ i. owner (at f i)) → OwnsNatural c path (work_size w) (λ i. owner (at g i)) →
+    Shared c owner st →
     Shared c owner (merge_term (merge_term (merge_term st (gath f)) (nest path w)) (scat g))
 shared-dealt c owner st path w f g k l h = (
-  subst (AllOwn c owner) (sym (at_last-push (scattered g) st.passes (new_pass path w (f ∷ st.waiting))))
+  subst (AllOwn c owner) (sym (at_last-append (scattered g) st.passes (new_pass path w (f ∷ st.waiting) ∷ []) tt))
       (own-push c owner st.passes (scattered g (new_pass path w (f ∷ st.waiting))) h.0 (dealt-owns c owner path w f g st.waiting k l h.1)),
   tt,
 )
@@ -114,11 +129,13 @@ WaitsFirst owner (p ∷ ps) fs = AllKeepOwner owner fs
 abbrev pub First : Target → (ℕ → ℕ) → Merging → Type 0
 First c owner st = FirstOwns c owner st.passes × WaitsFirst owner st.passes st.waiting
 
-waits-more : (owner : ℕ → ℕ) (ps : List PlainPass) (fs : List Mapping) (f : Mapping) → KeepsOwner owner f → WaitsFirst owner ps fs → WaitsFirst owner ps (f ∷ fs)
+waits-more : (owner : ℕ → ℕ) (ps : List PlainPass) (fs : List Mapping) (f : Mapping) → KeepsOwner owner f →
+    WaitsFirst owner ps fs → WaitsFirst owner ps (f ∷ fs)
 waits-more owner [] fs f k h = tt
 waits-more owner (p ∷ ps) fs f k h = (k, h)
 
-waits-last : (owner : ℕ → ℕ) (f : PlainPass → PlainPass) (ps : List PlainPass) (fs : List Mapping) → WaitsFirst owner ps fs → WaitsFirst owner (at_last f ps) fs
+waits-last : (owner : ℕ → ℕ) (f : PlainPass → PlainPass) (ps : List PlainPass) (fs : List Mapping) →
+    WaitsFirst owner ps fs → WaitsFirst owner (at_last f ps) fs
 waits-last owner f [] fs h = h
 waits-last owner f (p ∷ []) fs h = h
 waits-last owner f (p ∷ q ∷ ps) fs h = h
@@ -127,33 +144,39 @@ waits-none : (owner : ℕ → ℕ) (ps : List PlainPass) (p : PlainPass) → Wai
 waits-none owner [] p = tt
 waits-none owner (q ∷ ps) p = tt
 
-first-own : (c : Target) (owner : ℕ → ℕ) (f : PlainPass → PlainPass) (ps : List PlainPass) → FirstOwns c owner ps → ((p : PlainPass) → Owns c p (scatter_place p) owner → Owns c (f p) (scatter_place (f p)) owner) →
+first-own : (c : Target) (owner : ℕ → ℕ) (f : PlainPass → PlainPass) (ps : List PlainPass) → FirstOwns c owner ps →
+    ((p : PlainPass) → Owns c p (scatter_place p) owner → Owns c (f p) (scatter_place (f p)) owner) →
     ((p : PlainPass) → OwnsBoth c owner p → OwnsBoth c owner (f p)) → FirstOwns c owner (at_last f ps)
 first-own c owner f [] h k l = tt
 first-own c owner f (p ∷ []) h k l = (k p h.0, tt)
 first-own c owner f (p ∷ q ∷ ps) h k l = (h.0, own-last c owner f (q ∷ ps) h.1 l)
 
-first-push : (c : Target) (owner : ℕ → ℕ) (ps : List PlainPass) (path : Path) (w : PlainWork) (fs : List Mapping) → OwnsNatural c path (work_size w) owner → FirstOwns c owner ps → WaitsFirst owner ps fs →
+first-push : (c : Target) (owner : ℕ → ℕ) (ps : List PlainPass) (path : Path) (w : PlainWork) (fs : List Mapping) →
+    OwnsNatural c path (work_size w) owner → FirstOwns c owner ps → WaitsFirst owner ps fs →
     FirstOwns c owner (ps ++ new_pass path w fs ∷ [])
 first-push c owner [] path w fs k h l = (new-scatters c owner path w fs k, tt)
 first-push c owner (p ∷ ps) path w fs k h l = (h.0, own-push c owner ps (new_pass path w fs) h.1 (new-owns c owner path w fs k l))
 
-pub first-gath : (c : Target) (owner : ℕ → ℕ) (st : Merging) (f : Mapping) → KeepsOwner owner f → First c owner st → First c owner (merge_term st (gath f))
+pub first-gath : (c : Target) (owner : ℕ → ℕ) (st : Merging) (f : Mapping) → KeepsOwner owner f → First c owner st →
+    First c owner (merge_term st (gath f))
 first-gath c owner st f k h = (h.0, waits-more owner st.passes st.waiting f k h.1)
 
-pub first-scat : (c : Target) (owner : ℕ → ℕ) (st : Merging) (f : Mapping) → KeepsOwner owner f → First c owner st → First c owner (merge_term st (scat f))
+pub first-scat : (c : Target) (owner : ℕ → ℕ) (st : Merging) (f : Mapping) → KeepsOwner owner f → First c owner st →
+    First c owner (merge_term st (scat f))
 first-scat c owner st f k h = (
   first-own c owner (scattered f) st.passes h.0 (λ p g. scattered-stores c owner f p k g) (λ p g. scattered-owns c owner f p k g),
   waits-last owner (scattered f) st.passes st.waiting h.1,
 )
 
-pub first-diag : (c : Target) (owner : ℕ → ℕ) (st : Merging) (path : Path) (r s w : ℕ) → First c owner st → First c owner (merge_term st (diag path r s w))
+pub first-diag : (c : Target) (owner : ℕ → ℕ) (st : Merging) (path : Path) (r s w : ℕ) → First c owner st →
+    First c owner (merge_term st (diag path r s w))
 first-diag c owner st path r s w h = (
   first-own c owner (multiplied path r s w) st.passes h.0 (λ p g. multiplied-stores c owner path r s w p g) (λ p g. multiplied-owns c owner path r s w p g),
   waits-last owner (multiplied path r s w) st.passes st.waiting h.1,
 )
 
-pub first-nest : (c : Target) (owner : ℕ → ℕ) (st : Merging) (path : Path) (w : PlainWork) → OwnsNatural c path (work_size w) owner → First c owner st → First c owner (merge_term st (nest path w))
+pub first-nest : (c : Target) (owner : ℕ → ℕ) (st : Merging) (path : Path) (w : PlainWork) →
+    OwnsNatural c path (work_size w) owner → First c owner st → First c owner (merge_term st (nest path w))
 first-nest c owner st path w k h = (first-push c owner st.passes path w st.waiting k h.0 h.1, waits-none owner st.passes (new_pass path w st.waiting))
 
 -- ---- one processor owns all words

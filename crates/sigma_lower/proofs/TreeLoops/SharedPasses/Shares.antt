@@ -1,5 +1,6 @@
 -- Each processor's share of a root of r * s words: a block of r / p rows in the first phase, and s / p columns in the second one.
-use Rattle.std.proofs.Common.{◌≡◌, ◌≢◌, ℕ, ◌+◌, ◌*◌, ◌/◌, ◌%◌, ◌<◌, ◌≤◌, Bool, true, false, arith, refl, sym, ap, ap₂, ◌∙◌, List, [], ◌∷◌, if◌then◌else◌, subst, mod-lt, div-lt_iff_lt-mul}
+use Rattle.std.proofs.Common.{◌≡◌, ◌≢◌, ℕ, ◌+◌, ◌*◌, ◌/◌, ◌%◌, ◌<◌, ◌≤◌, arith, sym, ap, ap₂}
+use Rattle.std.proofs.Common.{◌∙◌, List, [], ◌∷◌, subst, mod-lt, div-lt_iff_lt-mul}
 use Rattle.std.specs.Prelude.{◌==◌, slice_index}
 use Rattle.std.proofs.Math.Nat.{div-add-mod', div-div-eq-div-mul, div-one, mod-one, mul-div_right, mul-mod_right}
 use Rattle.index_fn.specs.Mapping.{Mapping, at}
@@ -9,6 +10,7 @@ use Rattle.operators.proofs.Lists.{row-of, column-of, place_below, factor_positi
 use Rattle.sigma_lower.specs.TreeTerms.Wrapped.{wrapped}
 use Rattle.sigma_lower.proofs.TreeTerms.Permuted.{StaysBelow, wrapped-below}
 use Rattle.sigma_lower.proofs.TreeTerms.Vectors.{apart}
+use Rattle.sigma_spl.proofs.Walk.{chosen}
 use Rattle.smp_rewrite.specs.Smp.{within}
 use Rattle.smp_rewrite.proofs.Dealt.{IsDealt, is_dealt}
 use Rattle.operators.specs.declared.tensor_paths.Tensor.TheVariants.{Blocks, Columns}
@@ -33,7 +35,8 @@ pub record AreShares (c : Target) (r s : ℕ) : Type 0 where
   pub column_vectors : IsWide c.lanes (s / c.procs)
   pub vectors : IsWide c.lanes s
 
-pub shares : (c : Target) (l : Layout) (r s : ℕ) → CanShareLayout c l → 1 < c.procs → HasParts c r s → r * s ≡ c.size → AreShares c r s
+pub shares : (c : Target) (l : Layout) (r s : ℕ) → CanShareLayout c l → 1 < c.procs → HasParts c r s → r * s ≡ c.size →
+    AreShares c r s
 shares c l r s can several fits product =
     let line_low : 1 ≤ c.line = can.line in
     let positive : 0 < c.procs = omega (arith, several) in
@@ -126,7 +129,8 @@ column-owner c r s line_low h =
 abbrev pub OwnsNatural : Target → Path → ℕ → (ℕ → ℕ) → Type 0
 OwnsNatural c path n owner = (q : ℕ) (vs : List ℕ) (k : ℕ) → q < c.procs → AreInRange path vs → (c.procs ≢ 1 → slice_index vs 0 ≡ q) → k < n → owner (place path n vs k) ≡ q
 
-pub block-natural : (c : Target) (rest : Path) (n : ℕ) → 1 < c.procs → c.procs * size_under rest n ≡ c.size → OwnsNatural c (Blocks c.procs ∷ rest) n (block_owner c)
+pub block-natural : (c : Target) (rest : Path) (n : ℕ) → 1 < c.procs → c.procs * size_under rest n ≡ c.size →
+    OwnsNatural c (Blocks c.procs ∷ rest) n (block_owner c)
 block-natural c rest n several e q [] k below range head inside = absurd range
 block-natural c rest n several e q (x ∷ vs) k below range head inside =
     let size = size_under rest n in
@@ -137,7 +141,8 @@ block-natural c rest n several e q (x ∷ vs) k below range head inside =
 
 -- ---- functions that stay in blocks
 
-pub block-keeps : (b k : ℕ) (rest : Path) (n : ℕ) (f : Mapping) → size_under rest n ≡ b → 0 < b → StaysBelow n (at f) → (i : ℕ) → at (wrapped (Blocks k ∷ rest) n f) i / b ≡ i / b
+pub block-keeps : (b k : ℕ) (rest : Path) (n : ℕ) (f : Mapping) → size_under rest n ≡ b → 0 < b → StaysBelow n (at f) →
+    (i : ℕ) → at (wrapped (Blocks k ∷ rest) n f) i / b ≡ i / b
 block-keeps b k rest n f e some stays i =
     let size = size_under rest n in
     let positive : 0 < size = omega (arith, e, some) in
@@ -146,22 +151,24 @@ block-keeps b k rest n f e some stays i =
     ∙ row-of (i / size) inner size (wrapped-below rest n f stays (i % size) (mod-lt i positive))
     ∙ ap (λ m. i / m) e
 
-columns-keep : (b v : ℕ) (f : ℕ → ℕ) → 0 < v → ((i : ℕ) → f i / b ≡ i / b) → (i : ℕ) → (f (i / v) * v + i % v) / (v * b) ≡ i / (v * b)
+columns-keep : (b v : ℕ) (f : ℕ → ℕ) → 0 < v → ((i : ℕ) → f i / b ≡ i / b) → (i : ℕ) →
+    (f (i / v) * v + i % v) / (v * b) ≡ i / (v * b)
 columns-keep b v f positive h i =
     sym (div-div-eq-div-mul (f (i / v) * v + i % v) v b)
     ∙ ap (λ x. x / b) (row-of (f (i / v)) (i % v) v (mod-lt i positive))
     ∙ h (i / v)
     ∙ div-div-eq-div-mul i v b
 
-keep-pick : (b v : ℕ) (t : Bool) (path : Path) (n : ℕ) (f : Mapping) → (t ≡ true → v ≡ 1) → 0 < v → ((i : ℕ) → at (wrapped path n f) i / b ≡ i / b) →
-    (i : ℕ) → at (wrapped (if t then path else Columns v ∷ path) n f) i / (v * b) ≡ i / (v * b)
-keep-pick b v true path n f one positive h i =
-    let same : b ≡ v * b = sym (ap (λ m. m * b) (one refl) ∙ omega arith) in subst (λ m. at (wrapped path n f) i / m ≡ i / m) same (h i)
-keep-pick b v false path n f one positive h i = columns-keep b v (at (wrapped path n f)) positive h i
-
 -- in blocks of b vectors
-pub columns-keeps : (b v : ℕ) (path : Path) (n : ℕ) (f : Mapping) → 0 < v → ((i : ℕ) → at (wrapped path n f) i / b ≡ i / b) → (i : ℕ) → at (wrapped (within (Columns v) path) n f) i / (v * b) ≡ i / (v * b)
-columns-keeps b v path n f positive h i = keep-pick b v (v == 1) path n f (is-one v) positive h i
+pub columns-keeps : (b v : ℕ) (path : Path) (n : ℕ) (f : Mapping) → 0 < v →
+    ((i : ℕ) → at (wrapped path n f) i / b ≡ i / b) → (i : ℕ) →
+    at (wrapped (within (Columns v) path) n f) i / (v * b) ≡ i / (v * b)
+columns-keeps b v path n f positive h =
+    chosen (λ z. (i : ℕ) → at (wrapped z n f) i / (v * b) ≡ i / (v * b)) (v == 1) path (Columns v ∷ path)
+    (λ one.
+    let same : b ≡ v * b = sym (ap (λ m. m * b) (is-one v one) ∙ omega arith) in
+    subst (λ m. (i : ℕ) → at (wrapped path n f) i / m ≡ i / m) same h)
+    (columns-keep b v (at (wrapped path n f)) positive h)
 
 -- ---- functions on columns
 
@@ -182,17 +189,18 @@ more-columns k v f g positive h i =
     ∙ omega arith
     ∙ sym (ap₂ (λ x y. f x * (k * v) + y) (ap (λ n. n / (k * v)) whole ∙ (apart a k v l below).row) (ap (λ n. n % (k * v)) whole ∙ (apart a k v l below).column))
 
-columns-pick : (k v : ℕ) (t : Bool) (path : Path) (n : ℕ) (f : ℕ → ℕ) (g : Mapping) → (t ≡ true → v ≡ 1) → 0 < v → IsOnColumns k f (at (wrapped path n g)) →
-    IsOnColumns (k * v) f (at (wrapped (if t then path else Columns v ∷ path) n g))
-columns-pick k v true path n f g one positive h =
-    let same : k ≡ k * v = sym (ap (λ m. k * m) (one refl) ∙ omega arith) in subst (λ m. IsOnColumns m f (at (wrapped path n g))) same h
-columns-pick k v false path n f g one positive h = more-columns k v f (at (wrapped path n g)) positive h
-
-columns-within : (k v : ℕ) (path : Path) (n : ℕ) (f : ℕ → ℕ) (g : Mapping) → 0 < v → IsOnColumns k f (at (wrapped path n g)) → IsOnColumns (k * v) f (at (wrapped (within (Columns v) path) n g))
-columns-within k v path n f g positive h = columns-pick k v (v == 1) path n f g (is-one v) positive h
+columns-within : (k v : ℕ) (path : Path) (n : ℕ) (f : ℕ → ℕ) (g : Mapping) → 0 < v →
+    IsOnColumns k f (at (wrapped path n g)) → IsOnColumns (k * v) f (at (wrapped (within (Columns v) path) n g))
+columns-within k v path n f g positive h =
+    chosen (λ z. IsOnColumns (k * v) f (at (wrapped z n g))) (v == 1) path (Columns v ∷ path)
+    (λ one.
+    let same : k ≡ k * v = sym (ap (λ m. k * m) (is-one v one) ∙ omega arith) in
+    subst (λ m. IsOnColumns m f (at (wrapped path n g))) same h)
+    (more-columns k v f (at (wrapped path n g)) positive h)
 
 -- on w columns of v words each
-pub both-columns : (v w k : ℕ) (path : Path) (n : ℕ) (g : Mapping) → 0 < v → 0 < w → w * v ≡ k → IsOnColumns k (at (wrapped path n g)) (at (wrapped (within (Columns v) (within (Columns w) path)) n g))
+pub both-columns : (v w k : ℕ) (path : Path) (n : ℕ) (g : Mapping) → 0 < v → 0 < w → w * v ≡ k →
+    IsOnColumns k (at (wrapped path n g)) (at (wrapped (within (Columns v) (within (Columns w) path)) n g))
 both-columns v w k path n g hv hw e =
     let f = at (wrapped path n g) in
     let inner : IsOnColumns (1 * w) f (at (wrapped (within (Columns w) path) n g)) = columns-within 1 w path n f g hw (one-column f) in
@@ -200,7 +208,8 @@ both-columns v w k path n g hv hw e =
     subst (λ m. IsOnColumns m f (at (wrapped (within (Columns v) (within (Columns w) path)) n g))) same (columns-within (1 * w) v (within (Columns w) path) n f g hv inner)
 
 -- such a function stays in its column
-pub stays-in_column : (c : Target) (s : ℕ) (f g : ℕ → ℕ) → 0 < s → IsOnColumns s f g → (i : ℕ) → column_owner c s (g i) ≡ column_owner c s i
+pub stays-in_column : (c : Target) (s : ℕ) (f g : ℕ → ℕ) → 0 < s → IsOnColumns s f g → (i : ℕ) →
+    column_owner c s (g i) ≡ column_owner c s i
 stays-in_column c s f g positive h i = ap (λ x. x / (s / c.procs)) (ap (λ x. x % s) (h i) ∙ column-of (f (i / s)) (i % s) s (mod-lt i positive))
 
 -- lines that are dealt go from the block of a processor to its columns

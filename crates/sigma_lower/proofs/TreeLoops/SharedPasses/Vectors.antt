@@ -11,11 +11,13 @@ abbrev pub AllKeepVectors : ℕ → List Mapping → Type 0
 AllKeepVectors v [] = Unit {0}
 AllKeepVectors v (f ∷ fs) = KeepsVectors v f × AllKeepVectors v fs
 
-pub keep-append : (v : ℕ) (fs : List Mapping) (f : Mapping) → AllKeepVectors v fs → KeepsVectors v f → AllKeepVectors v (fs ++ f ∷ [])
+pub keep-append : (v : ℕ) (fs : List Mapping) (f : Mapping) → AllKeepVectors v fs → KeepsVectors v f →
+    AllKeepVectors v (fs ++ f ∷ [])
 keep-append v [] f h k = (k, tt)
 keep-append v (g ∷ fs) f h k = (h.0, keep-append v fs f h.1 k)
 
-pub through-keeps : (v : ℕ) (fs : List Mapping) → AllKeepVectors v fs → (a : ℕ) → (b : ℕ) × ((l : ℕ) → l < v → through fs (a * v + l) ≡ b * v + l)
+pub through-keeps : (v : ℕ) (fs : List Mapping) → AllKeepVectors v fs → (a : ℕ) →
+    (b : ℕ) × ((l : ℕ) → l < v → through fs (a * v + l) ≡ b * v + l)
 through-keeps v [] h a = (a, λ l below. refl)
 through-keeps v (f ∷ fs) h a =
     let one = h.0 a in
@@ -23,7 +25,8 @@ through-keeps v (f ∷ fs) h a =
     (rest.0, λ l below. ap (through fs) (one.1 l below) ∙ rest.1 l below)
 
 -- the words of a vector are one item of their copies
-pub inner-vectors : (v : ℕ) (path : Path) (n a l : ℕ) → HasVectors v path → l < v → at (inner_of path n) (a * v + l) ≡ at (inner_of path n) (a * v + 0)
+pub inner-vectors : (v : ℕ) (path : Path) (n a l : ℕ) → HasVectors v path → l < v →
+    at (inner_of path n) (a * v + l) ≡ at (inner_of path n) (a * v + 0)
 inner-vectors v [] n a l h below = omega (arith, h, below)
 inner-vectors v (Blocks k ∷ path) n a l h below =
     let whole = size-vectors v path n h in
