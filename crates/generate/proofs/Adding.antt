@@ -6,7 +6,8 @@ use Rattle.icode.proofs.Counting.{add-up, weighted-append}
 
 -- the counts of two lists, where a multiplication has a weight
 pub record Adds (lanes weight : ℕ) (xs ys : List Action) : Type 0 where
-  pub operations : weighted weight (counts_of lanes (xs ++ ys)) ≡ weighted weight (counts_of lanes xs) + weighted weight (counts_of lanes ys)
+  pub operations : weighted weight (counts_of lanes (xs ++ ys)) ≡ weighted weight (counts_of lanes xs)
+      + weighted weight (counts_of lanes ys)
   pub loads : (counts_of lanes (xs ++ ys)).loads ≡ (counts_of lanes xs).loads + (counts_of lanes ys).loads
   pub stores : (counts_of lanes (xs ++ ys)).stores ≡ (counts_of lanes xs).stores + (counts_of lanes ys).stores
 

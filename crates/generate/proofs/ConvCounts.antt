@@ -1,5 +1,6 @@
 -- What a program of joined passes counts on its one processor.
-use Rattle.std.proofs.Common.{◌≡◌, ℕ, suc, ◌+◌, ◌*◌, ◌<◌, All, List, [], ◌∷◌, ◌++◌, length, map, flat_map, sym, ap, ap₂, ◌∙◌, arith, subst, append-nil, length-append}
+use Rattle.std.proofs.Common.{◌≡◌, ℕ, suc, ◌+◌, ◌*◌, ◌<◌, All, List, [], ◌∷◌, ◌++◌, length, map, flat_map, sym, ap, ap₂}
+use Rattle.std.proofs.Common.{◌∙◌, arith, subst, append-nil, length-append}
 use Rattle.std.specs.List.{range_with_len}
 use Rattle.std.specs.Prelude.{sum_by}
 use Rattle.std.proofs.lemmas.List.{length-map}
@@ -75,7 +76,8 @@ abbrev executed : PlainProgram → ℕ → List Action
 executed p q = flat_map (λ phase. acts (plain_code p) phase q) (range_with_len 0 (length (plain_code p).lists))
 
 -- so does each processor of a program that performs them
-performed-count : (h : Target) (g : PlainMerged) (p : PlainProgram) (q : ℕ) → q < h.procs → IsReady h g → Performs h g p →
+performed-count : (h : Target) (g : PlainMerged) (p : PlainProgram) (q : ℕ) → q < h.procs → IsReady h g →
+    Performs h g p →
     CountsPasses h (all_passes g.phases) (executed p q)
 performed-count h g p q low ready performs =
     let long : length (plain_code p).lists ≡ length g.phases = length-map p.phases _ ∙ performs.phases in

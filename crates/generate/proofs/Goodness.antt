@@ -1,5 +1,6 @@
 -- The program of the chosen tree is good and lean.
-use Rattle.std.proofs.Common.{◌≡◌, ℕ, zero, suc, ◌+◌, ◌*◌, ◌/◌, ◌<◌, List, [], sym, ap, ◌∙◌, arith, subst, flat_map, length}
+use Rattle.std.proofs.Common.{◌≡◌, ℕ, zero, suc, ◌+◌, ◌*◌, ◌/◌, ◌<◌, List, [], sym, ap, ◌∙◌, arith, subst, flat_map}
+use Rattle.std.proofs.Common.{length}
 use Rattle.std.proofs.Math.Nat.{mul-div_cancel_left}
 use Rattle.std.specs.List.{range_with_len}
 use Rattle.sigma_lower.specs.Merged.{tree_merged}

@@ -1,5 +1,6 @@
 -- Programs of passes that count what those of the cost model do.
-use Rattle.std.proofs.Common.{◌≡◌, ℕ, suc, ◌+◌, ◌*◌, ◌<◌, List, [], ◌∷◌, ◌++◌, length, length-append, map, sum_by, flat_map, refl, sym, ap, ap₂, ◌∙◌, arith, subst, All}
+use Rattle.std.proofs.Common.{◌≡◌, ℕ, suc, ◌+◌, ◌*◌, ◌<◌, List, [], ◌∷◌, ◌++◌, length, length-append, map, sum_by}
+use Rattle.std.proofs.Common.{flat_map, refl, sym, ap, ap₂, ◌∙◌, arith, subst, All}
 use Rattle.std.specs.List.{range_with_len}
 use Rattle.std.specs.Prelude.{drop, take}
 use Rattle.std.proofs.lemmas.Grind.{flat_map-append}
@@ -76,7 +77,8 @@ module _ (r : Request) where
   count-same (zs ∷ ps) [] h = absurd h
   count-same (zs ∷ ps) (pass ∷ passes) h = ap suc (count-same ps passes h.1)
 
-  one-part : (zs : List PlainNest) (pass : RequestPass) (source target : ℕ) (part : List Action) → 0 < r.weight → CountsAs zs pass → contract.IsPart (target_of r) zs source target part → IsPart r pass source target part
+  one-part : (zs : List PlainNest) (pass : RequestPass) (source target : ℕ) (part : List Action) → 0 < r.weight →
+      CountsAs zs pass → contract.IsPart (target_of r) zs source target part → IsPart r pass source target part
   one-part zs pass source target part some counts h =
       let all = parts_share (target_of r) zs source target part counts.shares h in
       record {
@@ -86,7 +88,9 @@ module _ (r : Request) where
         stores = all.stores;
       }
 
-  parts-are : (t : ℕ) (source : Array) (ps : List (List PlainNest)) (passes : List RequestPass) (parts : List (List Action)) → 0 < r.weight → AllCount ps passes → contract.AreParts (target_of r) t source ps parts →
+  parts-are : (t : ℕ) (source : Array) (ps : List (List PlainNest)) (passes : List RequestPass)
+      (parts : List (List Action)) → 0 < r.weight → AllCount ps passes →
+      contract.AreParts (target_of r) t source ps parts →
       AreParts r t source passes parts
   parts-are t source [] [] [] some counts h = tt
   parts-are t source [] [] (part ∷ parts) some counts h = absurd h
@@ -114,7 +118,8 @@ module _ (r : Request) where
   one-more : (n k : ℕ) → n + n * k ≡ n * suc k
   one-more n k = omega arith
 
-  sums : (t : ℕ) (source : Array) (passes : List RequestPass) (parts : List (List Action)) → AreParts r t source passes parts → IsShare passes (counts_of r.lanes (joined parts))
+  sums : (t : ℕ) (source : Array) (passes : List RequestPass) (parts : List (List Action)) →
+      AreParts r t source passes parts → IsShare passes (counts_of r.lanes (joined parts))
   sums t source [] [] h = record { operations = no-operations; loads = omega arith; stores = omega arith }
   sums t source [] (part ∷ parts) h = absurd h
   sums t source (pass ∷ passes) [] h = absurd h
@@ -135,7 +140,8 @@ module _ (r : Request) where
     pub whole : joined parts ≡ actions
     pub each : AreParts r 0 X passes parts
 
-  pub share-of : (passes : List RequestPass) (actions : List Action) → IsListed passes actions → IsShare passes (counts_of r.lanes actions)
+  pub share-of : (passes : List RequestPass) (actions : List Action) → IsListed passes actions →
+      IsShare passes (counts_of r.lanes actions)
   share-of passes actions listed = subst (λ list. IsShare passes (counts_of r.lanes list)) listed.whole (sums 0 X passes listed.parts listed.each)
 
   -- lists in a row are one list
@@ -173,7 +179,8 @@ record IsCut (phases : List (List (List PlainNest))) (passes : List RequestPass)
   whole : flat_map (λ ps. ps) cut ≡ passes
   counts : map length phases ≡ map length cut
 
-cut-in : (phases : List (List (List PlainNest))) (passes : List RequestPass) → length (all_passes phases) ≡ length passes → IsCut phases passes
+cut-in : (phases : List (List (List PlainNest))) (passes : List RequestPass) →
+    length (all_passes phases) ≡ length passes → IsCut phases passes
 cut-in [] [] is = record { cut = []; whole = refl; counts = refl }
 cut-in [] (pass ∷ passes) is = cc
 cut-in (ps ∷ phases) passes is =

@@ -19,7 +19,8 @@ use Rattle.sigma_lower.proofs.Ordered.{trees_ordered}
 use Rattle.sigma_lower.proofs.TreeLayouts.{trees_can_lower}
 use Rattle.sigma_lower.proofs.TreeLoops.LoopLimits.{loops_are_limited}
 use Rattle.sigma_lower.proofs.TreeSigmas.ClosedLoops.{TakesClosing, closed-nest, closed_loop}
-use Rattle.sigma_lower.proofs.TreeSigmas.ClosedPhases.{ArePhases, IsPhase, closing_loops, each-some, layout-takes, loops_by, whole-loops, whole-phases}
+use Rattle.sigma_lower.proofs.TreeSigmas.ClosedPhases.{ArePhases, IsPhase, closing_loops, each-some, layout-takes}
+use Rattle.sigma_lower.proofs.TreeSigmas.ClosedPhases.{loops_by, whole-loops, whole-phases}
 use Rattle.sigma_lower.proofs.TreeSigmas.Closing.{takes-phases}
 use Rattle.sigma_lower.proofs.TreeSigmas.Lasts.{order-map}
 use Rattle.sigma_spl.specs.Lists.{LastIs, on_last}

@@ -1,5 +1,6 @@
 -- The program of passes by the rules of emission is that of their nests.
-use Rattle.std.proofs.Common.{◌≡◌, ℕ, zero, suc, ◌+◌, ◌-◌, ◌%◌, ◌==◌, Bool, true, false, refl, sym, ap, ap₂, ◌∙◌, List, [], ◌∷◌, ◌++◌, length, arith, append_assoc}
+use Rattle.std.proofs.Common.{◌≡◌, ℕ, zero, suc, ◌+◌, ◌-◌, ◌%◌, ◌==◌, Bool, true, false, refl, sym, ap, ap₂, ◌∙◌, List}
+use Rattle.std.proofs.Common.{[], ◌∷◌, ◌++◌, length, arith, append_assoc}
 use Rattle.std.specs.Prelude.{cond, map, max, nat_eq, not, slice_index, if◌then◌else◌, ◌&&◌, ◌||◌}
 use Rattle.std.specs.Cmp.Lexicographic.{pointwise}
 use Rattle.std.specs.List.{flat_map, fold, list_any}
@@ -9,8 +10,11 @@ use Rattle.std.proofs.lemmas.Grind.{flat_map-append, fold-append}
 use Rattle.std.proofs.lemmas.List.{length-append, length-map, map-append}
 use Rattle.std.proofs.lemmas.List.FromFn.{fill_by_all}
 use Rattle.code_gen.specs.PassActions.Acts.{nest_registers, pass_registers, with_multiplier}
-use Rattle.code_gen.specs.PassCode.Program.{array_after, count_in, most_of, most_of_phases, phase_body, phases_body, program_of, tables_of_phases, tables_through, written_array}
-use Rattle.code_gen.specs.PassCode.Statements.{diagonal_of, followed_by, is_table, multiplier_number, pass_body, powers_number, table_number, tables_after, tables_of_multiplier, tables_of_work, with_table}
+use Rattle.code_gen.specs.PassCode.Program.{array_after, count_in, most_of, most_of_phases, phase_body, phases_body}
+use Rattle.code_gen.specs.PassCode.Program.{program_of, tables_of_phases, tables_through, written_array}
+use Rattle.code_gen.specs.PassCode.Statements.{diagonal_of, followed_by, is_table, multiplier_number, pass_body}
+use Rattle.code_gen.specs.PassCode.Statements.{powers_number, table_number, tables_after, tables_of_multiplier}
+use Rattle.code_gen.specs.PassCode.Statements.{tables_of_work, with_table}
 use Rattle.icode.specs.Plain.{PlainBody, PlainProgram, body_of}
 use Rattle.icode.specs.declared.program.Array.{Array}
 use Rattle.icode.specs.declared.program.Array.TheVariants.{X, Y, A, B}
@@ -23,7 +27,8 @@ use Rattle.sigma_spl.specs.Work as works
 use Rattle.tree_model.specs.Trees.{trees_size}
 use Rattle.tree_model.specs.Whole.{rooted_of}
 use Rattle.generate.specs.Emission.Bodies.{Setting, pass_code}
-use Rattle.generate.specs.Emission.Passes.{Diagonal, Factors, Pass, Work, entries, kernel, none, number, rows, tile, twiddles, values}
+use Rattle.generate.specs.Emission.Passes.{Diagonal, Factors, Pass, Work, entries, kernel, none, number, rows, tile}
+use Rattle.generate.specs.Emission.Passes.{twiddles, values}
 use Rattle.generate.specs.Emission.Program.{phase_code, phases_code, products, program_in, read, registers, written}
 use Rattle.generate.specs.Emission.Tables.{added, entries_in, number_of, powers_in, powers_of, table_of, tables_in}
 use Rattle.generate.proofs.Emission.Nested.{emitted, emitted_nest, multiplier_at, plain_factors, plain_work}

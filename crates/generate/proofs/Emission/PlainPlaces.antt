@@ -6,15 +6,20 @@ use Rattle.matrix_meaning.specs.declared.Kind.TheVariants.{Dft, Wht, Idft}
 use Rattle.matrix_meaning.specs.declared.Request.{Request}
 use Rattle.index_fn.specs.Back.{unit_below}
 use Rattle.perm_algebra.proofs.Sizes.{plain-joined, plain-scaled}
-use Rattle.perm_algebra.specs.Affine.{HasNoQuotient, Sum, constant, variable, remainder, quotient, joined, mods, reduced, scaled, top}
+use Rattle.perm_algebra.specs.Affine.{HasNoQuotient, Sum, constant, variable, remainder, quotient, joined, mods}
+use Rattle.perm_algebra.specs.Affine.{reduced, scaled, top}
 use Rattle.tree_model.specs.Breakdown.{Breakdown, leaf, node, size_of}
 use Rattle.tree_model.specs.Cost.{is_kernel, is_plain, node_root}
 use Rattle.tree_model.specs.Whole.{left_of, right_of}
 use Rattle.tree_model.specs.declared.tree.Rule.{Rule}
 use Rattle.tree_model.specs.declared.tree.Rule.TheVariants.{Gt, Ct, Split, Dim}
-use Rattle.generate.specs.Emission.Passes.{Factors, Pass, Site, entries, left_site, moved, node_work, none, number, passes, right_site, site_by, twiddled}
-use Rattle.generate.specs.Emission.Places.{PlaceFunction, after, blocks, columns, inside, left_out, right_in, same, turn_of}
-use Rattle.generate.specs.Emission.Root.{across, along, in_lanes, lane_loops, left_root, packed, processor_loops, right_root, root_in, root_phases, share, shared, strided, tile_column, tile_row, tiles, tiles_after, tiles_before, turns}
+use Rattle.generate.specs.Emission.Passes.{Factors, Pass, Site, entries, left_site, moved, node_work, none, number}
+use Rattle.generate.specs.Emission.Passes.{passes, right_site, site_by, twiddled}
+use Rattle.generate.specs.Emission.Places.{PlaceFunction, after, blocks, columns, inside, left_out, right_in, same}
+use Rattle.generate.specs.Emission.Places.{turn_of}
+use Rattle.generate.specs.Emission.Root.{across, along, in_lanes, lane_loops, left_root, packed, processor_loops}
+use Rattle.generate.specs.Emission.Root.{right_root, root_in, root_phases, share, shared, strided, tile_column}
+use Rattle.generate.specs.Emission.Root.{tile_row, tiles, tiles_after, tiles_before, turns}
 use Rattle.generate.specs.Emission.Whole.{closing_factors, phases_of, whole_site}
 use Rattle.generate.proofs.Emission.Nested.{pass_at}
 use Rattle.generate.proofs.Emission.PassBodies.{ArePlainFactors, IsPlainSite, KeepsPlain}

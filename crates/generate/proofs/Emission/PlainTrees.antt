@@ -1,5 +1,6 @@
 -- On one processor and one lane the program of a tree is its emission.
-use Rattle.std.proofs.Common.{◌≡◌, ℕ, ◌<◌, ◌==◌, ◌&&◌, true, if◌then◌else◌, refl, sym, ap, ap₂, ◌∙◌, arith, List, [], ◌∷◌, ◌++◌, Option, None, Some}
+use Rattle.std.proofs.Common.{◌≡◌, ℕ, ◌<◌, ◌==◌, ◌&&◌, true, if◌then◌else◌, refl, sym, ap, ap₂, ◌∙◌, arith, List, []}
+use Rattle.std.proofs.Common.{◌∷◌, ◌++◌, Option, None, Some}
 use Rattle.std.specs.Prelude.{map}
 use Rattle.std.proofs.lemmas.List.{map-append, append-nil}
 use Rattle.std.proofs.lemmas.Simd.{map-map}
@@ -35,14 +36,16 @@ use Rattle.generate.specs.Emission.Whole.{closing_factors, conv_emission, emissi
 use Rattle.generate.specs.Factors.{factors_of}
 use Rattle.generate.specs.Letters.{program_for}
 use Rattle.generate.proofs.ConvTrees.{inverse_tree, inverse_valid}
-use Rattle.generate.proofs.Emission.Closed.{closed-phases, closed_tree, closing-is, factors_by, firsts, phases-in, plain-forward}
+use Rattle.generate.proofs.Emission.Closed.{closed-phases, closed_tree, closing-is, factors_by, firsts, phases-in}
+use Rattle.generate.proofs.Emission.Closed.{plain-forward}
 use Rattle.generate.proofs.Emission.Layouts.{layout_emitted, passes_of_layout, tree_works}
 use Rattle.generate.proofs.Emission.Matches.{ArePasses, IsAround, IsSame}
 use Rattle.generate.proofs.Emission.Nested.{emitted, emitted_nest}
 use Rattle.generate.proofs.Emission.Nests.{IsLooped, IsNodeWork, maps-same, multiplying, nests, same-nest}
 use Rattle.generate.proofs.Emission.Lists.{AllPasses, factors-passes, free-passes}
 use Rattle.generate.proofs.Emission.PassPrograms.{programs-by-passes}
-use Rattle.generate.proofs.Emission.PlainPlaces.{plain-closing, plain-joined-passes, plain-passes, plain-phases, plain-whole}
+use Rattle.generate.proofs.Emission.PlainPlaces.{plain-closing, plain-joined-passes, plain-passes, plain-phases}
+use Rattle.generate.proofs.Emission.PlainPlaces.{plain-whole}
 use Rattle.generate.proofs.Emission.PlainWorks.{looped-all}
 use Rattle.generate.proofs.Emission.Trees.{layouts_match}
 use Rattle.tree_model.proofs.WholeTrees.{forward_itself}

@@ -17,7 +17,8 @@ use Rattle.tree_model.specs.declared.tree.Rule.{Rule}
 use Rattle.tree_model.specs.declared.tree.Rule.TheVariants.{Ct}
 use Rattle.generate.specs.Emission.Passes.{Factors}
 use Rattle.generate.specs.Emission.Places.{inside, same, turn_of}
-use Rattle.generate.specs.Emission.Root.{lane_loops, left_root, packed, processor_loops, right_root, root_in, shared, strided, turns}
+use Rattle.generate.specs.Emission.Root.{lane_loops, left_root, packed, processor_loops, right_root, root_in, shared}
+use Rattle.generate.specs.Emission.Root.{strided, turns}
 use Rattle.generate.proofs.Emission.Matches.{IsAround}
 use Rattle.generate.proofs.Emission.RootPlaces.{insides-are, natural-turns, packed-is, strided-is, turns-are}
 

@@ -1,5 +1,6 @@
 -- On several processors or lanes the program of a tree is its emission.
-use Rattle.std.proofs.Common.{◌≡◌, ℕ, ◌+◌, ◌*◌, ◌==◌, Bool, true, false, if◌then◌else◌, arith, refl, sym, ap, ap₂, ◌∙◌, List, [], ◌∷◌, ◌++◌, length, subst, Option, None, Some}
+use Rattle.std.proofs.Common.{◌≡◌, ℕ, ◌+◌, ◌*◌, ◌==◌, Bool, true, false, if◌then◌else◌, arith, refl, sym, ap, ap₂, ◌∙◌}
+use Rattle.std.proofs.Common.{List, [], ◌∷◌, ◌++◌, length, subst, Option, None, Some}
 use Rattle.std.specs.Prelude.{map, nat_le}
 use Rattle.std.proofs.lemmas.Bool.{eq-eqb}
 use Rattle.std.proofs.lemmas.List.{length-map}
@@ -42,7 +43,8 @@ use Rattle.generate.specs.Emission.Passes.{Factors, Pass, none, passes}
 use Rattle.generate.specs.Emission.Root.{left_root, right_root, root_phases, strided, tiles_after, tiles_before}
 use Rattle.generate.specs.Emission.Whole.{closing_factors, emission, phases_of, whole_site}
 use Rattle.generate.specs.Letters.{program_for}
-use Rattle.generate.proofs.Emission.Closed.{closed-phases, closed_tree, closing, closing-is, factors_by, firsts, phases-in, plain-forward}
+use Rattle.generate.proofs.Emission.Closed.{closed-phases, closed_tree, closing, closing-is, factors_by, firsts}
+use Rattle.generate.proofs.Emission.Closed.{phases-in, plain-forward}
 use Rattle.generate.proofs.Emission.Layouts.{layout_emitted, passes_of_layout, tree_works}
 use Rattle.generate.proofs.Emission.Left.{IsPart, left_nest}
 use Rattle.generate.proofs.Emission.Lists.{AllPasses, factors-passes, free-passes, nests_as}

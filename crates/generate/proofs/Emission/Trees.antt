@@ -1,5 +1,6 @@
 -- The passes of a layout by the rules of emission are those that merging makes.
-use Rattle.std.proofs.Common.{◌≡◌, ℕ, ◌+◌, ◌*◌, ◌≤◌, ◌==◌, if◌then◌else◌, false, arith, refl, sym, ap, ap₂, ◌∙◌, List, [], ◌∷◌, ◌++◌, length, length-append, subst}
+use Rattle.std.proofs.Common.{◌≡◌, ℕ, ◌+◌, ◌*◌, ◌≤◌, ◌==◌, if◌then◌else◌, false, arith, refl, sym, ap, ap₂, ◌∙◌, List}
+use Rattle.std.proofs.Common.{[], ◌∷◌, ◌++◌, length, length-append, subst}
 use Rattle.std.specs.Prelude.{map}
 use Rattle.std.proofs.lemmas.Bool.Decides.{nat_tests}
 use Rattle.std.proofs.lemmas.List.{map-append, append_assoc, length-map}
@@ -22,9 +23,11 @@ use Rattle.operators.proofs.TensorPaths.Under.{size_under-push}
 use Rattle.tree_model.specs.declared.tree.Rule.{Rule}
 use Rattle.tree_model.specs.declared.tree.Rule.TheVariants.{Gt, Ct, Split, Dim}
 use Rattle.generate.specs.Emission.Passes.{Factors, Pass, Site, entries, left_site, moved, none, number, right_site}
-use Rattle.generate.specs.Emission.Places.{PlaceFunction, after, blocks, columns, inside, left_out, right_in, same, turn_of}
+use Rattle.generate.specs.Emission.Places.{PlaceFunction, after, blocks, columns, inside, left_out, right_in, same}
+use Rattle.generate.specs.Emission.Places.{turn_of}
 use Rattle.generate.proofs.Emission.Layouts.{layout_emitted, named, named-plain}
-use Rattle.generate.proofs.Emission.Matches.{Always, ArePasses, AreSame, IsAround, IsLast, IsSame, HasDiagonal, at_last-none, last-other, last-same, natural, passes-append}
+use Rattle.generate.proofs.Emission.Matches.{Always, ArePasses, AreSame, IsAround, IsLast, IsSame, HasDiagonal}
+use Rattle.generate.proofs.Emission.Matches.{at_last-none, last-other, last-same, natural, passes-append}
 use Rattle.generate.proofs.Emission.Nested.{pass_at, plain_work}
 use Rattle.generate.proofs.Emission.Nests.{IsNodeWork}
 use Rattle.generate.proofs.Emission.Steps.{loaded_by, stored_back}

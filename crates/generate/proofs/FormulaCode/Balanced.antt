@@ -1,5 +1,7 @@
 -- A formula with its direct sums in halves has the same summands, and is shaped.
-use Rattle.std.proofs.Common.{◌≡◌, ℕ, zero, suc, ◌+◌, ◌*◌, ◌/◌, ◌<◌, ◌≤◌, nat_le, if◌then◌else◌, List, [], ◌∷◌, ◌++◌, flat_map, take, drop, length, length-append, append-nil, refl, sym, ap, ap₂, ◌∙◌, arith, subst, inl, inr, add_assoc}
+use Rattle.std.proofs.Common.{◌≡◌, ℕ, zero, suc, ◌+◌, ◌*◌, ◌/◌, ◌<◌, ◌≤◌, nat_le, if◌then◌else◌, List, [], ◌∷◌, ◌++◌}
+use Rattle.std.proofs.Common.{flat_map, take, drop, length, length-append, append-nil, refl, sym, ap, ap₂, ◌∙◌, arith}
+use Rattle.std.proofs.Common.{subst, inl, inr, add_assoc}
 use Rattle.std.proofs.lemmas.Bool.{cases_Bool}
 use Rattle.std.proofs.lemmas.Bool.Decides.{nat_tests}
 use Rattle.std.proofs.lemmas.Grind.{flat_map-append}
@@ -7,7 +9,9 @@ use Rattle.std.proofs.lemmas.List.{take-append-drop}
 use Rattle.spl_ast.specs.BalancedSums.Halves.{halved, balanced, balanced_summands}
 use Rattle.spl_ast.specs.BalancedSums.Summands.{summands, sum_of}
 use Rattle.spl_ast.proofs.BalancedSums.Grouping.{KnowsSums, from_right}
-use Rattle.spl_ast.specs.Formula.{Formula, Identity, Fourier, Hadamard, Twiddles, Diagonal, Stride, Permutation, GoodThomasIn, GoodThomasOut, Product, TensorLeft, TensorRight, DirectSum, Pending, size_of}
+use Rattle.spl_ast.specs.Formula.{Formula, Identity, Fourier, Hadamard, Twiddles, Diagonal, Stride, Permutation}
+use Rattle.spl_ast.specs.Formula.{GoodThomasIn, GoodThomasOut, Product, TensorLeft, TensorRight, DirectSum, Pending}
+use Rattle.spl_ast.specs.Formula.{size_of}
 use Rattle.spl_ast.specs.Shape.{IsShaped, IsSize}
 use Rattle.spl_ast.proofs.Vectors.{shaped_size}
 

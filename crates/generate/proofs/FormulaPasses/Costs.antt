@@ -1,5 +1,6 @@
 -- The operations and loads of a formula's passes.
-use Rattle.std.proofs.Common.{◌≡◌, ℕ, zero, suc, ◌+◌, ◌-◌, ◌*◌, ◌/◌, ◌^◌, ◌<◌, ◌≤◌, Bool, true, false, List, [], ◌∷◌, length, map, sym, subst, ap, arith, Option, Some, None, if◌then◌else◌}
+use Rattle.std.proofs.Common.{◌≡◌, ℕ, zero, suc, ◌+◌, ◌-◌, ◌*◌, ◌/◌, ◌^◌, ◌<◌, ◌≤◌, Bool, true, false, List, [], ◌∷◌}
+use Rattle.std.proofs.Common.{length, map, sym, subst, ap, arith, Option, Some, None, if◌then◌else◌}
 use Rattle.std.specs.Prelude.{◌==◌, max, nat_le, nat_lt}
 use Rattle.std.proofs.Math.Nat.{mul-le-mul, mul-le-mul_left, mul-le-mul_right}
 use Rattle.sigma_lower.specs.Operations as formulas
@@ -15,7 +16,9 @@ use Rattle.sigma_spl.specs.Nest.{PlainMultiplier, PlainNest, copies_of}
 use Rattle.sigma_spl.specs.Work.{PlainWork, kernel, rows, horner, tile, copy, work_size}
 use Rattle.sigma_spl.proofs.Counting.{items_of}
 use Rattle.tree_model.specs.Trees.{single, tensor}
-use Rattle.spl_ast.specs.Formula.{Formula, Identity, Fourier, Hadamard, Twiddles, Diagonal, Stride, Permutation, GoodThomasIn, GoodThomasOut, Product, TensorLeft, TensorRight, DirectSum, Pending, size_of, parts_of}
+use Rattle.spl_ast.specs.Formula.{Formula, Identity, Fourier, Hadamard, Twiddles, Diagonal, Stride, Permutation}
+use Rattle.spl_ast.specs.Formula.{GoodThomasIn, GoodThomasOut, Product, TensorLeft, TensorRight, DirectSum, Pending}
+use Rattle.spl_ast.specs.Formula.{size_of, parts_of}
 use Rattle.spl_ast.specs.Shape.{IsShaped}
 use Rattle.tree_model.specs.Breakdown.{leaf, node}
 use Rattle.generate.proofs.FormulaPasses.Made.{IsFormulaWork, AreMade}
@@ -61,7 +64,8 @@ loads-le m (horner root d) work = omega arith
 loads-le m (tile v) work = absurd work
 loads-le m (copy d) work = omega arith
 
-pub pass-loads-le : (m : ℕ) (zs : List PlainNest) → AreMade m zs → pass_loads zs ≤ pass_cost 1 m zs + items_of (map (copies_of m) zs)
+pub pass-loads-le : (m : ℕ) (zs : List PlainNest) → AreMade m zs →
+    pass_loads zs ≤ pass_cost 1 m zs + items_of (map (copies_of m) zs)
 pass-loads-le m [] made = omega arith
 pass-loads-le m (z ∷ zs) made =
     let copies = copies_in z.counts in
@@ -91,7 +95,8 @@ under-le k s p x h =
     omega (arith, one, more, turned)
 
 -- for each of its parts at most twice as many as a matrix of its size has entries
-pub operations-le : (m : ℕ) (f : Formula) → IsShaped f → formulas.operations 1 m f ≤ 2 * (size_of f * size_of f) * (parts_of f + 1)
+pub operations-le : (m : ℕ) (f : Formula) → IsShaped f → formulas.operations 1 m f
+    ≤ 2 * (size_of f * size_of f) * (parts_of f + 1)
 operations-le m (Identity n) shaped = omega arith
 operations-le m (Fourier n w) shaped =
     let short = leaf-size n (products_cost 1 m 0 (entry_of Dft m n w) n n) (products-le m n (entry_of Dft m n w)) in

@@ -1,5 +1,6 @@
 -- The passes of every formula are ready.
-use Rattle.std.proofs.Common.{◌≡◌, ℕ, zero, suc, ◌+◌, ◌*◌, ◌%◌, ◌^◌, ◌<◌, ◌≤◌, true, List, [], ◌∷◌, ◌++◌, All, length, map, refl, sym, ap, ◌∙◌, arith, subst, inl, inr, mod-lt}
+use Rattle.std.proofs.Common.{◌≡◌, ℕ, zero, suc, ◌+◌, ◌*◌, ◌%◌, ◌^◌, ◌<◌, ◌≤◌, true, List, [], ◌∷◌, ◌++◌, All, length}
+use Rattle.std.proofs.Common.{map, refl, sym, ap, ◌∙◌, arith, subst, inl, inr, mod-lt}
 use Rattle.std.specs.Prelude.{slice_index}
 use Rattle.std.proofs.Math.Nat.{mul-le-mul}
 use Rattle.std.proofs.Math.Pow.{pow_mono}
@@ -38,7 +39,9 @@ use Rattle.sigma_spl.specs.Work.{kernel, horner, short}
 use Rattle.sigma_spl.proofs.Counting.{items_of, items-once}
 use Rattle.sigma_spl.proofs.Nests.{all-inside}
 use Rattle.loop_merge.specs.PlainPasses.{ArePlainPasses, IsPlainPass, in_order}
-use Rattle.spl_ast.specs.Formula.{Formula, Identity, Fourier, Hadamard, Twiddles, Diagonal, Stride, Permutation, GoodThomasIn, GoodThomasOut, Product, TensorLeft, TensorRight, DirectSum, Pending, size_of, parts_of}
+use Rattle.spl_ast.specs.Formula.{Formula, Identity, Fourier, Hadamard, Twiddles, Diagonal, Stride, Permutation}
+use Rattle.spl_ast.specs.Formula.{GoodThomasIn, GoodThomasOut, Product, TensorLeft, TensorRight, DirectSum, Pending}
+use Rattle.spl_ast.specs.Formula.{size_of, parts_of}
 use Rattle.spl_ast.specs.Shape.{IsShaped}
 use Rattle.spl_ast.proofs.Vectors.{shaped_size, size_is_size}
 use Rattle.operators.specs.declared.tensor_paths.Tensor.TheVariants.{Blocks, Columns}
@@ -106,7 +109,8 @@ hadamard-makers : (path : Path) (k : ℕ) → makers_in (hadamard_term path k) �
 hadamard-makers path zero = refl
 hadamard-makers path (suc k) = let rest = hadamard-makers (path ++ Blocks 2 ∷ []) k in omega (arith, rest)
 
-fourier-counted : (path : Path) (n w : ℕ) → IsCounted (Fourier n w) (steps_in (fourier_term path n w)) (sums_in (fourier_term path n w)) (makers_in (fourier_term path n w))
+fourier-counted : (path : Path) (n w : ℕ) → IsCounted (Fourier n w) (steps_in (fourier_term path n w))
+    (sums_in (fourier_term path n w)) (makers_in (fourier_term path n w))
 fourier-counted path n w =
     elim (cases_lt 8 n) [
       | inl long ↦ let is : fourier_term path n w ≡ nest path (horner w n) = grind (arith, nat_tests) in
@@ -151,7 +155,8 @@ term-counted m path (Pending a) shaped =
 
 -- ---- all passes
 
-all-one : (P : List PlainNest → Type 0) (ps : List (List PlainNest)) (zs : List PlainNest) → All P ps → P zs → All P (ps ++ zs ∷ [])
+all-one : (P : List PlainNest → Type 0) (ps : List (List PlainNest)) (zs : List PlainNest) → All P ps → P zs →
+    All P (ps ++ zs ∷ [])
 all-one P [] zs h one = All-cons P zs [] one (All-nil P)
 all-one P (ys ∷ ps) zs h one = All-cons P ys (ps ++ zs ∷ []) (All-head P ys ps h) (all-one P ps zs (All-tail P ys ps h) one)
 
@@ -159,23 +164,27 @@ module _ (m n : ℕ) (large : 2 ≤ m) (some : 0 < n) (high : n ≤ 1048576) whe
   all-items : (zs : List PlainNest) → IsGoodPass 0 m n zs → items_of (map (copies_of m) zs) ≡ n
   all-items zs good = items-once n (map (copies_of m) zs) (all-inside 0 m n zs good.nests) good.once
 
-  plain-pass : (zs : List PlainNest) → AreMade m zs → IsGoodPass 0 m n zs → is_within 64 n zs ≡ true → IsPlainPass n m zs
+  plain-pass : (zs : List PlainNest) → AreMade m zs → IsGoodPass 0 m n zs → is_within 64 n zs ≡ true →
+      IsPlainPass n m zs
   plain-pass zs made good within =
       let items = all-items zs good in
       record { nests = plain-nests m n high zs made good.nests within (omega (arith, items)); once = good.once }
 
-  plain-passes : (ps : List (List PlainNest)) → AllMade m ps → AreGoodPasses 0 m n ps → AreWithin 64 n ps → All (IsPlainPass n m) (in_order ps)
+  plain-passes : (ps : List (List PlainNest)) → AllMade m ps → AreGoodPasses 0 m n ps → AreWithin 64 n ps →
+      All (IsPlainPass n m) (in_order ps)
   plain-passes [] made good within = All-nil (IsPlainPass n m)
   plain-passes (zs ∷ ps) made good within = all-one (IsPlainPass n m) (in_order ps) zs (plain-passes ps made.1 good.1 within.1) (plain-pass zs made.0 good.0 within.0)
 
   -- ---- actions
 
-  actions-append : (ps qs : List (List PlainNest)) → most_actions (plain_machine n m) (ps ++ qs) ≡ most_actions (plain_machine n m) ps + most_actions (plain_machine n m) qs
+  actions-append : (ps qs : List (List PlainNest)) → most_actions (plain_machine n m) (ps ++ qs)
+      ≡ most_actions (plain_machine n m) ps + most_actions (plain_machine n m) qs
   actions-append [] qs = omega arith
   actions-append (zs ∷ ps) qs = let rest = actions-append ps qs in omega (arith, rest)
 
   -- operations as often again for the loads, and three actions a word
-  passes-actions : (ps : List (List PlainNest)) → AllMade m ps → AreGoodPasses 0 m n ps → most_actions (plain_machine n m) (in_order ps) ≤ 2 * passes_cost 1 (work_cost 1 m) ps + 3 * n * length ps
+  passes-actions : (ps : List (List PlainNest)) → AllMade m ps → AreGoodPasses 0 m n ps →
+      most_actions (plain_machine n m) (in_order ps) ≤ 2 * passes_cost 1 (work_cost 1 m) ps + 3 * n * length ps
   passes-actions [] made good = omega arith
   passes-actions (zs ∷ ps) made good =
       let loads = pass-loads-le m zs made.0 in
@@ -183,7 +192,8 @@ module _ (m n : ℕ) (large : 2 ≤ m) (some : 0 < n) (high : n ≤ 1048576) whe
       let rest = passes-actions ps made.1 good.1 in
       let both = actions-append (in_order ps) (zs ∷ []) in omega (arith, loads, items, rest, both)
 
-few-actions : (n parts steps cost long : ℕ) → n ≤ 1048576 → parts ≤ 65536 → cost ≤ 2 * (n * n) * (parts + 1) → steps ≤ 21 * (parts + 1) → long ≤ steps + 1 → 2 * cost + 3 * n * long < 2 ^ 59
+few-actions : (n parts steps cost long : ℕ) → n ≤ 1048576 → parts ≤ 65536 → cost ≤ 2 * (n * n) * (parts + 1) →
+    steps ≤ 21 * (parts + 1) → long ≤ steps + 1 → 2 * cost + 3 * n * long < 2 ^ 59
 few-actions n parts steps cost long high few low brief last =
     let square : n * n ≤ 1048576 * 1048576 = mul-le-mul {n₁ = n} {m₁ = n} {n₂ = 1048576} {m₂ = 1048576} high high in
     let all : n * n * (parts + 1) ≤ 1099511627776 * 65537 = mul-le-mul {n₁ = n * n} {m₁ = parts + 1} {n₂ = 1099511627776} {m₂ = 65537} (omega (arith, square)) (omega (arith, few)) in

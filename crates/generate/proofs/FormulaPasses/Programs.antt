@@ -1,5 +1,6 @@
 -- The programs of a formula's merged passes compute it, in its operations.
-use Rattle.std.proofs.Common.{◌≡◌, ℕ, suc, ◌+◌, ◌*◌, ◌<◌, List, [], ◌∷◌, ◌++◌, length, flat_map, refl, sym, ap, ap₂, ◌∙◌, arith, All}
+use Rattle.std.proofs.Common.{◌≡◌, ℕ, suc, ◌+◌, ◌*◌, ◌<◌, List, [], ◌∷◌, ◌++◌, length, flat_map, refl, sym, ap, ap₂}
+use Rattle.std.proofs.Common.{◌∙◌, arith, All}
 use Rattle.std.specs.List.{range_with_len}
 use Rattle.std.proofs.lemmas.List.{length-map, append-nil}
 use Rattle.std.proofs.lemmas.List.Elements.{All-head, All-tail}
@@ -35,7 +36,8 @@ use Rattle.loop_merge.specs.PlainPasses.{in_order}
 use Rattle.spl_ast.specs.Formula.{Formula, size_of}
 
 module _ (n m weight : ℕ) (counted : 0 < weight) where
-  one-part : (part : List Action) (a : ℕ) → 1 * weighted weight (counts_of 1 part) ≡ a → weighted_operations weight part ≡ a
+  one-part : (part : List Action) (a : ℕ) → 1 * weighted weight (counts_of 1 part) ≡ a →
+      weighted_operations weight part ≡ a
   one-part part a h = let is = weighted_is_by_lane weight 1 part counted in omega (arith, is, h)
 
   -- all parts together
@@ -52,11 +54,13 @@ module _ (n m weight : ℕ) (counted : 0 < weight) where
       ∙ ap₂ (λ a b. a + b) (one-part part (pass_cost weight m zs) (all.operations weight counted))
       (parts-cost (suc t) (written_array t (length ps)) ps parts (All-tail (IsReadyPass (plain_machine n m)) zs ps ready) h.1)
 
-  cost-append : (ps qs : List (List PlainNest)) → passes_cost weight (work_cost weight m) (ps ++ qs) ≡ passes_cost weight (work_cost weight m) ps + passes_cost weight (work_cost weight m) qs
+  cost-append : (ps qs : List (List PlainNest)) → passes_cost weight (work_cost weight m) (ps ++ qs)
+      ≡ passes_cost weight (work_cost weight m) ps + passes_cost weight (work_cost weight m) qs
   cost-append [] qs = omega arith
   cost-append (zs ∷ ps) qs = let rest = cost-append ps qs in omega (arith, rest)
 
-  cost-order : (ps : List (List PlainNest)) → passes_cost weight (work_cost weight m) (in_order ps) ≡ passes_cost weight (work_cost weight m) ps
+  cost-order : (ps : List (List PlainNest)) → passes_cost weight (work_cost weight m) (in_order ps)
+      ≡ passes_cost weight (work_cost weight m) ps
   cost-order [] = refl
   cost-order (zs ∷ ps) = let both = cost-append (in_order ps) (zs ∷ []) in let rest = cost-order ps in omega (arith, both, rest)
 
@@ -71,7 +75,8 @@ module _ (m : ℕ) (f : Formula) (p : PlainProgram) (ready : IsReady (plain_mach
   lists-length : length (plain_code p).lists ≡ 1
   lists-length = length-map p.phases _ ∙ performs.phases
 
-  whole-cost : (weight : ℕ) → 0 < weight → weighted weight (whole_counts (plain_code p) 0) ≡ passes_cost weight (work_cost weight m) ps
+  whole-cost : (weight : ℕ) → 0 < weight → weighted weight (whole_counts (plain_code p) 0)
+      ≡ passes_cost weight (work_cost weight m) ps
   whole-cost weight counted =
       let listed = parts_in_a_row _ _ (plain_code p) 0 (performs.parts 0 (omega arith)) in
       let one : all_passes (in_order ps ∷ []) ≡ in_order ps = append-nil (in_order ps) in
