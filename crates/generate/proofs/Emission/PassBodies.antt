@@ -139,9 +139,6 @@ module _ (o : Setting) where
       expression-is o (length (loops o) + inner) (f cs k) (keeps cs k plain)
       ∙ ap (λ b. emission.expression o (length (loops o) + inner) (f b k)) limits-are
 
-  abbrev pub Stores : List Sum → ℕ → ℕ → Sum → Type 0
-  Stores sums i inner k = slice_index_or sums i (constant 0) ≡ site.store cs k
-
   -- the same, of an item that a list of places has
   from-list : (sums : List Sum) (i inner : ℕ) (f : PlaceFunction) (k : Sum) → KeepsPlain f → HasNoQuotient k →
       slice_index_or sums i (constant 0) ≡ f cs k →

@@ -69,9 +69,6 @@ module _ (c : Request) (r s : ℕ) (h : AreShares c.size c.procs c.lanes r s) wh
       ∙ sym (packed-is v s rows q j e l)
       ∙ sym (natural-turns three s e)
 
-  rows-product : p * (v * rows) ≡ r
-  rows-product = sym h.rows
-
   right_whole : size_under three s ≡ c.size
   right_whole = let rows' : r * s ≡ p * (v * rows) * s = ap (λ k. k * s) h.rows in omega (arith, h.product, rows')
 

@@ -221,13 +221,28 @@ module _ (outer : List ℕ) (d : ℕ) (whole : PlaceFunction) (long : length out
 
   -- ---- a node
 
-  unchanged : (ps : List PlainPass) (qs : List Pass) → AreSame outer d whole (at_last (λ p. p) ps) qs →
-      AreSame outer d whole ps qs
-  unchanged ps qs h = subst (λ rs. AreSame outer d whole rs qs) (at_last-none ps) h
+  -- the right part's passes where its last one has no diagonal
+  same_right : (size : ℕ) (rule : Rule) (path : Path) (r s root : ℕ) (waiting : List Mapping) (o : Site)
+      (right : List PlainPass) (rights : List Pass) → (right_site rule r s root o).factors ≡ none →
+      IsRuleIn size rule path r s → IsAround outer d whole path waiting (r * s) o →
+      ArePasses outer d whole (path ++ Blocks r ∷ []) s (right_site rule r s root o) right rights →
+      AreSame outer d whole right rights
+  same_right size rule path r s root waiting o right rights free h around k =
+      subst (λ ps. AreSame outer d whole ps rights) (at_last-none right)
+      (last-same outer d whole (path ++ Blocks r ∷ []) s _ (λ p. p)
+      (λ p q. right_free size rule path r s root waiting o p q free h around) right rights k)
 
-  unchanged-last : (path : Path) (n : ℕ) (o : Site) (ps : List PlainPass) (qs : List Pass) →
-      ArePasses outer d whole path n o (at_last (λ p. p) ps) qs → ArePasses outer d whole path n o ps qs
-  unchanged-last path n o ps qs h = subst (λ rs. ArePasses outer d whole path n o rs qs) (at_last-none ps) h
+  -- the left part's passes where its last one stores by columns
+  same_left : (size : ℕ) (rule : Rule) (path : Path) (r s : ℕ) (waiting : List Mapping) (o : Site)
+      (left : List PlainPass) (lefts : List Pass) →
+      ((i : Sum) (cs : ℕ → ℕ) (k : Sum) → left_out rule r s i cs k ≡ columns s i cs k) → IsRuleIn size rule path r s →
+      IsAround outer d whole path waiting (r * s) o →
+      ArePasses outer d whole (path ++ Columns s ∷ []) r (left_site rule r s o) left lefts →
+      ArePasses outer d whole path (r * s) o left lefts
+  same_left size rule path r s waiting o left lefts out h around l =
+      subst (λ ps. ArePasses outer d whole path (r * s) o ps lefts) (at_last-none left)
+      (last-other outer d whole path (path ++ Columns s ∷ []) (r * s) r o _ (λ p. p)
+      (λ p q. left_last size rule path r s waiting o p q out h around) left lefts l)
 
   by_rule : (size : ℕ) (rule : Rule) (path : Path) (r s root : ℕ) (waiting : List Mapping) (o : Site)
       (left right : List PlainPass) (lefts rights : List Pass) → IsRuleIn size rule path r s →
@@ -237,34 +252,22 @@ module _ (outer : List ℕ) (d : ℕ) (whole : PlaceFunction) (long : length out
       ArePasses outer d whole path (r * s) o (rule_passes rule path r s root left right) (rights ++ lefts)
   by_rule size Gt path r s root waiting o left right lefts rights h around l k =
       passes-append outer d whole path (r * s) o right _ rights lefts
-      (unchanged right rights
-      (last-same outer d whole (path ++ Blocks r ∷ []) s _ (λ p. p)
-      (λ p q. right_free size Gt path r s root waiting o p q refl h around) right rights k))
+      (same_right size Gt path r s root waiting o right rights refl h around k)
       (last-other outer d whole path (path ++ Columns s ∷ []) (r * s) r o _ _
       (λ p q. left_back size path r s waiting o p q h around) left lefts l)
   by_rule size Ct path r s root waiting o left right lefts rights h around l k =
       passes-append outer d whole path (r * s) o _ left rights lefts
       (last-same outer d whole (path ++ Blocks r ∷ []) s _ (multiplied path r s root)
       (λ p q. right_twiddled size path r s root waiting o p q h around) right rights k)
-      (unchanged-last path (r * s) o left lefts
-      (last-other outer d whole path (path ++ Columns s ∷ []) (r * s) r o _ (λ p. p)
-      (λ p q. left_last size Ct path r s waiting o p q (λ i cs e. refl) h around) left lefts l))
+      (same_left size Ct path r s waiting o left lefts (λ i cs e. refl) h around l)
   by_rule size Split path r s root waiting o left right lefts rights h around l k =
       passes-append outer d whole path (r * s) o right left rights lefts
-      (unchanged right rights
-      (last-same outer d whole (path ++ Blocks r ∷ []) s _ (λ p. p)
-      (λ p q. right_free size Split path r s root waiting o p q refl h around) right rights k))
-      (unchanged-last path (r * s) o left lefts
-      (last-other outer d whole path (path ++ Columns s ∷ []) (r * s) r o _ (λ p. p)
-      (λ p q. left_last size Split path r s waiting o p q (λ i cs e. refl) h around) left lefts l))
+      (same_right size Split path r s root waiting o right rights refl h around k)
+      (same_left size Split path r s waiting o left lefts (λ i cs e. refl) h around l)
   by_rule size Dim path r s root waiting o left right lefts rights h around l k =
       passes-append outer d whole path (r * s) o right left rights lefts
-      (unchanged right rights
-      (last-same outer d whole (path ++ Blocks r ∷ []) s _ (λ p. p)
-      (λ p q. right_free size Dim path r s root waiting o p q refl h around) right rights k))
-      (unchanged-last path (r * s) o left lefts
-      (last-other outer d whole path (path ++ Columns s ∷ []) (r * s) r o _ (λ p. p)
-      (λ p q. left_last size Dim path r s waiting o p q (λ i cs e. refl) h around) left lefts l))
+      (same_right size Dim path r s root waiting o right rights refl h around k)
+      (same_left size Dim path r s waiting o left lefts (λ i cs e. refl) h around l)
 
   one-pass : (path : Path) (waiting : List Mapping) (o : Site) (w : PlainWork) →
       plain_work (named w) ≡ w → IsAround outer d whole path waiting (work_size w) o →

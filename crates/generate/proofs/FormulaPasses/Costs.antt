@@ -15,6 +15,7 @@ use Rattle.sigma_spl.specs.Counts.{copies_in, multiplier_cost}
 use Rattle.sigma_spl.specs.Nest.{PlainMultiplier, PlainNest, copies_of}
 use Rattle.sigma_spl.specs.Work.{PlainWork, kernel, rows, horner, tile, copy, work_size}
 use Rattle.sigma_spl.proofs.Counting.{items_of}
+use Rattle.sigma_spl.proofs.Walk.{chosen}
 use Rattle.tree_model.specs.Trees.{single, tensor}
 use Rattle.spl_ast.specs.Formula.{Formula, Identity, Fourier, Hadamard, Twiddles, Diagonal, Stride, Permutation}
 use Rattle.spl_ast.specs.Formula.{GoodThomasIn, GoodThomasOut, Product, TensorLeft, TensorRight, DirectSum, Pending}
@@ -79,13 +80,11 @@ pass-loads-le m (z ∷ zs) made =
 
 -- ---- operations of a formula
 
-either-le : (b : Bool) (x y z : ℕ) → x ≤ z → y ≤ z → (if b then x else y) ≤ z
-either-le true x y z first second = first
-either-le false x y z first second = second
-
 halvings-le : (b n : ℕ) → halvings b n ≤ b
 halvings-le zero n = omega arith
-halvings-le (suc b) n = let rest = halvings-le b (n / 2) in either-le (nat_lt n 2) 0 (suc (halvings b (n / 2))) (suc b) (omega arith) (omega (arith, rest))
+halvings-le (suc b) n =
+    let rest = halvings-le b (n / 2) in
+    chosen (λ k. k ≤ suc b) (nat_lt n 2) 0 (suc (halvings b (n / 2))) (λ _. omega arith) (omega (arith, rest))
 
 under-le : (k s p x : ℕ) → x ≤ 2 * (s * s) * p → k * x ≤ 2 * ((k * s) * (k * s)) * p
 under-le k s p x h =
@@ -100,8 +99,8 @@ pub operations-le : (m : ℕ) (f : Formula) → IsShaped f → formulas.operatio
 operations-le m (Identity n) shaped = omega arith
 operations-le m (Fourier n w) shaped =
     let short = leaf-size n (products_cost 1 m 0 (entry_of Dft m n w) n n) (products-le m n (entry_of Dft m n w)) in
-    either-le (nat_le n 8) (n * (n - 1) + products_cost 1 m 0 (entry_of Dft m n w) n n) ((1 + 1) * n * n)
-    (2 * (n * n) * (0 + 1)) (omega (arith, short)) (omega arith)
+    chosen (λ k. k ≤ 2 * (n * n) * (0 + 1)) (nat_le n 8) (n * (n - 1) + products_cost 1 m 0 (entry_of Dft m n w) n n)
+    ((1 + 1) * n * n) (λ _. omega (arith, short)) (omega arith)
 operations-le m (Hadamard n) shaped = let each : n * halvings n n ≤ n * n = mul-le-mul_left n (halvings-le n n) in omega (arith, each)
 operations-le m (Twiddles n s w) shaped = let square = square-le n in omega (arith, square)
 operations-le m (Diagonal c) shaped = let square = square-le (length c) in omega (arith, square)

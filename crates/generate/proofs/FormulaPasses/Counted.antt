@@ -1,9 +1,10 @@
 -- How many passes, nests and tables merging makes of a term.
-use Rattle.std.proofs.Common.{◌≡◌, ℕ, suc, ◌+◌, ◌*◌, ◌≤◌, List, [], ◌∷◌, ◌++◌, length, refl, ap, arith, Option, Some}
+use Rattle.std.proofs.Common.{◌≡◌, ℕ, suc, ◌+◌, ◌*◌, ◌≤◌, List, [], ◌∷◌, ◌++◌, length, refl, ap, ap₂, arith, Option}
+use Rattle.std.proofs.Common.{Some}
 use Rattle.std.proofs.Common.{None, map}
 use Rattle.std.specs.Prelude.{◌&&◌, max}
 use Rattle.std.proofs.Math.Nat.{mul-le-mul_left, mul-le-mul_right}
-use Rattle.std.proofs.lemmas.List.{length-append}
+use Rattle.std.proofs.lemmas.List.{length-append, length-map}
 use Rattle.index_fn.specs.Mapping.{Mapping}
 use Rattle.sigma_spl.specs.Merge.{Room, less, Merging, Taking, nothing, new_nest, items_in, copying, can_gather}
 use Rattle.sigma_spl.specs.Merge.{can_scatter, can_take, suits, gathered, scattered, multiplied, take_gathers, copy_by}
@@ -61,39 +62,20 @@ tables-both : (zs ys : List PlainNest) → nests_tables (zs ++ ys) ≡ nests_tab
 tables-both [] ys = omega arith
 tables-both (z ∷ zs) ys = let rest = tables-both zs ys in omega (arith, rest)
 
-length-gathered : (f : Mapping) (zs : List PlainNest) → length (gathered f zs) ≡ length zs
-length-gathered f [] = refl
-length-gathered f (z ∷ zs) = ap suc (length-gathered f zs)
+-- nests that are changed but not in their tables
+tables-map : (g : PlainNest → PlainNest) → ((z : PlainNest) → work_tables (g z).work
+    + diagonal_tables (g z).multiplier ≡ work_tables z.work + diagonal_tables z.multiplier) →
+    (zs : List PlainNest) → nests_tables (map g zs) ≡ nests_tables zs
+tables-map g kept [] = refl
+tables-map g kept (z ∷ zs) = ap₂ (λ n k. n + k) (kept z) (tables-map g kept zs)
 
-length-scattered : (f : Mapping) (zs : List PlainNest) → length (scattered f zs) ≡ length zs
-length-scattered f [] = refl
-length-scattered f (z ∷ zs) = ap suc (length-scattered f zs)
-
-length-multiplied : (factors : PlainFactors) (fs : List Mapping) (zs : List PlainNest) →
-    length (multiplied factors fs zs) ≡ length zs
-length-multiplied factors fs [] = refl
-length-multiplied factors fs (z ∷ zs) = ap suc (length-multiplied factors fs zs)
-
-length-lifted : (path : Path) (n before : ℕ) (zs : List PlainNest) → length (map (lifted path n before) zs) ≡ length zs
-length-lifted path n before [] = refl
-length-lifted path n before (z ∷ zs) = ap suc (length-lifted path n before zs)
-
-tables-gathered : (f : Mapping) (zs : List PlainNest) → nests_tables (gathered f zs) ≡ nests_tables zs
-tables-gathered f [] = refl
-tables-gathered f (z ∷ zs) = ap (λ t. work_tables z.work + diagonal_tables z.multiplier + t) (tables-gathered f zs)
-
-tables-scattered : (f : Mapping) (zs : List PlainNest) → nests_tables (scattered f zs) ≡ nests_tables zs
-tables-scattered f [] = refl
-tables-scattered f (z ∷ zs) = ap (λ t. work_tables z.work + diagonal_tables z.multiplier + t) (tables-scattered f zs)
-
-tables-renumbered : (k : ℕ) (o : Option PlainMultiplier) → diagonal_tables (renumbered_places k o) ≡ diagonal_tables o
-tables-renumbered k None = refl
-tables-renumbered k (Some d) = refl
-
-tables-lifted : (path : Path) (n before : ℕ) (zs : List PlainNest) →
-    nests_tables (map (lifted path n before) zs) ≡ nests_tables zs
-tables-lifted path n before [] = refl
-tables-lifted path n before (z ∷ zs) = let first = tables-renumbered (length path) z.multiplier in let rest = tables-lifted path n before zs in omega (arith, first, rest)
+tables-lifted : (path : Path) (n before : ℕ) (z : PlainNest) → work_tables (lifted path n before z).work
+    + diagonal_tables (lifted path n before z).multiplier ≡ work_tables z.work + diagonal_tables z.multiplier
+tables-lifted path n before z = ap (λ n. work_tables z.work + n) (by z.multiplier)
+  where
+    by : (o : Option PlainMultiplier) → diagonal_tables (renumbered_places (length path) o) ≡ diagonal_tables o
+    by None = refl
+    by (Some d) = refl
 
 -- at most one more for each nest
 tables-multiplied : (factors : PlainFactors) (fs : List Mapping) (zs : List PlainNest) →
@@ -108,17 +90,26 @@ pub record IsFew (b t : ℕ) (zs : List PlainNest) : Type 0 where
   pub nests : length zs ≤ b
   pub tables : nests_tables zs ≤ t
 
+few-map : (b t : ℕ) (g : PlainNest → PlainNest) → ((z : PlainNest) → work_tables (g z).work
+    + diagonal_tables (g z).multiplier ≡ work_tables z.work + diagonal_tables z.multiplier) →
+    (zs : List PlainNest) → IsFew b t zs → IsFew b t (map g zs)
+few-map b t g kept zs h =
+    let long = length-map zs g in
+    let all = tables-map g kept zs in
+    record { nests = omega (arith, h.nests, long); tables = omega (arith, h.tables, all) }
+
 few-gathered : (b t : ℕ) (f : Mapping) (zs : List PlainNest) → IsFew b t zs → IsFew b t (gathered f zs)
-few-gathered b t f zs h = let long = length-gathered f zs in let all = tables-gathered f zs in record { nests = omega (arith, h.nests, long); tables = omega (arith, h.tables, all) }
+few-gathered b t f zs h = few-map b t _ (λ z. refl) zs h
 
 few-scattered : (b t : ℕ) (f : Mapping) (zs : List PlainNest) → IsFew b t zs → IsFew b t (scattered f zs)
-few-scattered b t f zs h = let long = length-scattered f zs in let all = tables-scattered f zs in record { nests = omega (arith, h.nests, long); tables = omega (arith, h.tables, all) }
+few-scattered b t f zs h = few-map b t _ (λ z. refl) zs h
 
 few-multiplied : (b t : ℕ) (factors : PlainFactors) (fs : List Mapping) (zs : List PlainNest) → IsFew b t zs →
     IsFew b (t + b) (multiplied factors fs zs)
 few-multiplied b t factors fs zs h =
-    let long = length-multiplied factors fs zs in
-    let all = tables-multiplied factors fs zs in record { nests = omega (arith, h.nests, long); tables = omega (arith, h.nests, h.tables, all) }
+    let long : length (multiplied factors fs zs) ≡ length zs = length-map zs _ in
+    let all = tables-multiplied factors fs zs in
+    record { nests = omega (arith, h.nests, long); tables = omega (arith, h.nests, h.tables, all) }
 
 few-copying : (b n : ℕ) → 1 ≤ b → IsFew b 0 (copying n)
 few-copying b n some = record { nests = some; tables = omega arith }
@@ -255,13 +246,14 @@ few-passes room n b l k s t st (zs ∷ ys ∷ ps) some h g =
 few-side : (a b s t k l : ℕ) (path : Path) (zs ys : List PlainNest) → IsFew a s zs → IsFew b t ys →
     IsFew (a + b) (s + t) (side path k l zs ys)
 few-side a b s t k l path zs ys h g =
-    let first = length-lifted path (k + l) 0 zs in
-    let second = length-lifted path (k + l) k ys in
+    let first = few-map a s (lifted path (k + l) 0) (tables-lifted path (k + l) 0) zs h in
+    let second = few-map b t (lifted path (k + l) k) (tables-lifted path (k + l) k) ys g in
     let long = length-append (map (lifted path (k + l) 0) zs) (map (lifted path (k + l) k) ys) in
-    let one = tables-lifted path (k + l) 0 zs in
-    let two = tables-lifted path (k + l) k ys in
     let all = tables-both (map (lifted path (k + l) 0) zs) (map (lifted path (k + l) k) ys) in
-    record { nests = omega (arith, first, second, long, h.nests, g.nests); tables = omega (arith, one, two, all, h.tables, g.tables) }
+    record {
+      nests = omega (arith, first.nests, second.nests, long);
+      tables = omega (arith, first.tables, second.tables, all);
+    }
 
 none-few : (b : ℕ) → AreFew b 0 0 []
 none-few b = record { narrow = tt; long = omega arith; tables = omega arith }

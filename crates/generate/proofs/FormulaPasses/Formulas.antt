@@ -6,7 +6,7 @@ use Rattle.std.proofs.Math.Nat.{mul-le-mul}
 use Rattle.std.proofs.Math.Pow.{pow_mono}
 use Rattle.std.proofs.lemmas.Bool.{cases_lt}
 use Rattle.std.proofs.lemmas.Bool.Decides.{nat_tests}
-use Rattle.std.proofs.lemmas.List.Elements.{All-nil, All-cons, All-head, All-tail}
+use Rattle.std.proofs.lemmas.List.Elements.{All-append, All-cons, All-nil}
 use Rattle.sigma_lower.specs.Operations.{operations}
 use Rattle.sigma_lower.specs.Terms.{one_more, halvings, hadamard_term, fourier_term, term_of}
 use Rattle.sigma_lower.proofs.Compiling.{formulas_compile}
@@ -34,7 +34,7 @@ use Rattle.sigma_spl.specs.Good.{AreGoodPasses, IsGoodPass}
 use Rattle.sigma_spl.specs.Limits.{AreWithin}
 use Rattle.sigma_spl.specs.Merge.{most, if_any, is_within, passes_of}
 use Rattle.sigma_spl.specs.Nest.{PlainNest, copies_of}
-use Rattle.sigma_spl.specs.Term.{nest}
+use Rattle.sigma_spl.specs.Term.{PlainTerm, nest}
 use Rattle.sigma_spl.specs.Work.{kernel, horner, short}
 use Rattle.sigma_spl.proofs.Counting.{items_of, items-once}
 use Rattle.sigma_spl.proofs.Nests.{all-inside}
@@ -58,16 +58,22 @@ hadamard-formed : (m : ℕ) (path : Path) (k : ℕ) → IsFormulaTerm m (hadamar
 hadamard-formed m path zero = tt
 hadamard-formed m path (suc k) = (hadamard-formed m (path ++ Blocks 2 ∷ []) k, ((omega arith, omega arith), omega arith))
 
-fourier-formed : (m : ℕ) (path : Path) (n w : ℕ) → 1 ≤ n → IsFormulaTerm m (fourier_term path n w)
-fourier-formed m path n w some =
+-- a short transform is one kernel, and a longer one goes row by row
+fourier-by : (P : PlainTerm → Type 0) (path : Path) (n w : ℕ) → (8 < n → P (nest path (horner w n))) →
+    (n ≤ 8 → P (nest path (kernel (short Dft w n)))) → P (fourier_term path n w)
+fourier-by P path n w row kept =
     elim (cases_lt 8 n) [
-      | inl long ↦ let is : fourier_term path n w ≡ nest path (horner w n) = grind (arith, nat_tests) in subst (IsFormulaTerm m) (sym is) (omega (arith, some))
-      | inr few ↦ let is : fourier_term path n w ≡ nest path (kernel (short Dft w n)) = grind (arith, nat_tests) in subst (IsFormulaTerm m) (sym is) (some, few)
+      | inl long ↦ let is : fourier_term path n w ≡ nest path (horner w n) = grind (arith, nat_tests) in
+          subst P (sym is) (row long)
+      | inr few ↦ let is : fourier_term path n w ≡ nest path (kernel (short Dft w n)) = grind (arith, nat_tests) in
+          subst P (sym is) (kept few)
     ]
 
 term-formed : (m : ℕ) (path : Path) (f : Formula) → 0 < m → IsShaped f → IsFormulaTerm m (term_of m path f)
 term-formed m path (Identity n) some shaped = tt
-term-formed m path (Fourier n w) some shaped = fourier-formed m path n w shaped.0.0
+term-formed m path (Fourier n w) some shaped =
+    let least = shaped.0.0 in
+    fourier-by (IsFormulaTerm m) path n w (λ long. omega (arith, long)) (λ few. (least, few))
 term-formed m path (Hadamard n) some shaped = hadamard-formed m path (halvings n n)
 term-formed m path (Twiddles n s w) some shaped = λ i. power_below m w _ some
 term-formed m path (Diagonal c) some shaped = λ i. residues-below m c i some
@@ -97,41 +103,31 @@ halvings-few n high (e, whole) =
       | inr few ↦ omega (arith, steps, few)
     ]
 
-hadamard-steps : (path : Path) (k : ℕ) → steps_in (hadamard_term path k) ≡ suc k
-hadamard-steps path zero = refl
-hadamard-steps path (suc k) = let rest = hadamard-steps (path ++ Blocks 2 ∷ []) k in omega (arith, rest)
-
-hadamard-sums : (path : Path) (k : ℕ) → sums_in (hadamard_term path k) ≡ 0
-hadamard-sums path zero = refl
-hadamard-sums path (suc k) = let rest = hadamard-sums (path ++ Blocks 2 ∷ []) k in omega (arith, rest)
-
-hadamard-makers : (path : Path) (k : ℕ) → makers_in (hadamard_term path k) ≡ 0
-hadamard-makers path zero = refl
-hadamard-makers path (suc k) = let rest = hadamard-makers (path ++ Blocks 2 ∷ []) k in omega (arith, rest)
-
-fourier-counted : (path : Path) (n w : ℕ) → IsCounted (Fourier n w) (steps_in (fourier_term path n w))
-    (sums_in (fourier_term path n w)) (makers_in (fourier_term path n w))
-fourier-counted path n w =
-    elim (cases_lt 8 n) [
-      | inl long ↦ let is : fourier_term path n w ≡ nest path (horner w n) = grind (arith, nat_tests) in
-          subst (λ t. IsCounted (Fourier n w) (steps_in t) (sums_in t) (makers_in t)) (sym is) (record { steps = omega arith; sums = omega arith; makers = omega arith })
-      | inr few ↦ let is : fourier_term path n w ≡ nest path (kernel (short Dft w n)) = grind (arith, nat_tests) in
-          subst (λ t. IsCounted (Fourier n w) (steps_in t) (sums_in t) (makers_in t)) (sym is) (record { steps = omega arith; sums = omega arith; makers = omega arith })
-    ]
+hadamard-counted : (path : Path) (k : ℕ) → (steps_in (hadamard_term path k) ≡ suc k)
+    × (sums_in (hadamard_term path k) ≡ 0) × (makers_in (hadamard_term path k) ≡ 0)
+hadamard-counted path zero = (refl, refl, refl)
+hadamard-counted path (suc k) =
+    let rest = hadamard-counted (path ++ Blocks 2 ∷ []) k in
+    (omega (arith, rest.0), omega (arith, rest.1), omega (arith, rest.2))
 
 abbrev Counts : Formula → ℕ → Path → Type 0
 Counts f m path = IsCounted f (steps_in (term_of m path f)) (sums_in (term_of m path f)) (makers_in (term_of m path f))
 
 term-counted : (m : ℕ) (path : Path) (f : Formula) → IsShaped f → Counts f m path
 term-counted m path (Identity n) shaped = record { steps = omega arith; sums = omega arith; makers = omega arith }
-term-counted m path (Fourier n w) shaped = fourier-counted path n w
+term-counted m path (Fourier n w) shaped =
+    fourier-by (λ t. IsCounted (Fourier n w) (steps_in t) (sums_in t) (makers_in t)) path n w
+    (λ long. record { steps = omega arith; sums = omega arith; makers = omega arith })
+    (λ few. record { steps = omega arith; sums = omega arith; makers = omega arith })
 term-counted m path (Hadamard n) shaped =
     let k = halvings n n in
     let few = halvings-few n shaped.0.1 shaped.1 in
-    let steps = hadamard-steps path k in
-    let sums = hadamard-sums path k in
-    let makers = hadamard-makers path k in
-    record { steps = omega (arith, few, steps); sums = omega (arith, sums); makers = omega (arith, sums, makers) }
+    let all = hadamard-counted path k in
+    record {
+      steps = omega (arith, few, all.0);
+      sums = omega (arith, all.1);
+      makers = omega (arith, all.1, all.2);
+    }
 term-counted m path (Twiddles n s w) shaped = record { steps = omega arith; sums = omega arith; makers = omega arith }
 term-counted m path (Diagonal c) shaped = record { steps = omega arith; sums = omega arith; makers = omega arith }
 term-counted m path (Stride n r) shaped = record { steps = omega arith; sums = omega arith; makers = omega arith }
@@ -155,11 +151,6 @@ term-counted m path (Pending a) shaped =
 
 -- ---- all passes
 
-all-one : (P : List PlainNest → Type 0) (ps : List (List PlainNest)) (zs : List PlainNest) → All P ps → P zs →
-    All P (ps ++ zs ∷ [])
-all-one P [] zs h one = All-cons P zs [] one (All-nil P)
-all-one P (ys ∷ ps) zs h one = All-cons P ys (ps ++ zs ∷ []) (All-head P ys ps h) (all-one P ps zs (All-tail P ys ps h) one)
-
 module _ (m n : ℕ) (large : 2 ≤ m) (some : 0 < n) (high : n ≤ 1048576) where
   all-items : (zs : List PlainNest) → IsGoodPass 0 m n zs → items_of (map (copies_of m) zs) ≡ n
   all-items zs good = items-once n (map (copies_of m) zs) (all-inside 0 m n zs good.nests) good.once
@@ -173,7 +164,9 @@ module _ (m n : ℕ) (large : 2 ≤ m) (some : 0 < n) (high : n ≤ 1048576) whe
   plain-passes : (ps : List (List PlainNest)) → AllMade m ps → AreGoodPasses 0 m n ps → AreWithin 64 n ps →
       All (IsPlainPass n m) (in_order ps)
   plain-passes [] made good within = All-nil (IsPlainPass n m)
-  plain-passes (zs ∷ ps) made good within = all-one (IsPlainPass n m) (in_order ps) zs (plain-passes ps made.1 good.1 within.1) (plain-pass zs made.0 good.0 within.0)
+  plain-passes (zs ∷ ps) made good within =
+      All-append (IsPlainPass n m) (in_order ps) (zs ∷ []) (plain-passes ps made.1 good.1 within.1)
+      (All-cons (IsPlainPass n m) zs [] (plain-pass zs made.0 good.0 within.0) (All-nil (IsPlainPass n m)))
 
   -- ---- actions
 

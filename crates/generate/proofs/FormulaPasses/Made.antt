@@ -79,6 +79,12 @@ pub all-append : (m : ℕ) (ps qs : List (List PlainNest)) → AllMade m ps → 
 all-append m [] qs h g = g
 all-append m (zs ∷ ps) qs h g = (h.0, all-append m ps qs h.1 g)
 
+-- what keeps this of a nest keeps it of all
+made-map : (m : ℕ) (g : PlainNest → PlainNest) → ((z : PlainNest) → IsMade m z → IsMade m (g z)) →
+    (zs : List PlainNest) → AreMade m zs → AreMade m (map g zs)
+made-map m g keeps [] h = tt
+made-map m g keeps (z ∷ zs) h = (keeps z h.0, made-map m g keeps zs h.1)
+
 -- ---- permutations
 
 alike-simplified : (counts : List ℕ) (w : PlainWork) (f : Mapping) (sums : List Sum) → IsFormed f → NamesItems w sums →
@@ -94,50 +100,38 @@ alike-simplified counts (tile v) f sums form names h = tt
 alike-simplified counts (copy d) f sums form names h = tt
 
 pub made-gathered : (m : ℕ) (f : Mapping) (zs : List PlainNest) → IsFormed f → AreMade m zs → AreMade m (gathered f zs)
-made-gathered m f [] form h = tt
-made-gathered m f (z ∷ zs) form h = (
-  record {
-    work = h.0.work;
-    counts = h.0.counts;
-    gathers = names-simplified z.work (limits_of z) f z.gathers form h.0.gathers;
-    scatters = h.0.scatters;
-    diagonal = h.0.diagonal;
-    alike = alike-simplified z.counts z.work f z.gathers form h.0.gathers h.0.alike;
-  },
-  made-gathered m f zs form h.1,
-)
+made-gathered m f zs form h = made-map m _ (λ z made. record {
+  work = made.work;
+  counts = made.counts;
+  gathers = names-simplified z.work (limits_of z) f z.gathers form made.gathers;
+  scatters = made.scatters;
+  diagonal = made.diagonal;
+  alike = alike-simplified z.counts z.work f z.gathers form made.gathers made.alike;
+}) zs h
 
 pub made-scattered : (m : ℕ) (f : Mapping) (zs : List PlainNest) → IsFormed f → AreMade m zs →
     AreMade m (scattered f zs)
-made-scattered m f [] form h = tt
-made-scattered m f (z ∷ zs) form h = (
-  record {
-    work = h.0.work;
-    counts = h.0.counts;
-    gathers = h.0.gathers;
-    scatters = names-simplified z.work (limits_of z) f z.scatters form h.0.scatters;
-    diagonal = h.0.diagonal;
-    alike = h.0.alike;
-  },
-  made-scattered m f zs form h.1,
-)
+made-scattered m f zs form h = made-map m _ (λ z made. record {
+  work = made.work;
+  counts = made.counts;
+  gathers = made.gathers;
+  scatters = names-simplified z.work (limits_of z) f z.scatters form made.scatters;
+  diagonal = made.diagonal;
+  alike = made.alike;
+}) zs h
 
 -- ---- diagonals
 
 pub made-multiplied : (m : ℕ) (factors : PlainFactors) (fs : List Mapping) (zs : List PlainNest) →
     IsDiagonal m factors → AreFormed fs → AreMade m zs → AreMade m (multiplied factors fs zs)
-made-multiplied m factors fs [] diagonal form h = tt
-made-multiplied m factors fs (z ∷ zs) diagonal form h = (
-  record {
-    work = h.0.work;
-    counts = h.0.counts;
-    gathers = h.0.gathers;
-    scatters = h.0.scatters;
-    diagonal = (names-all z.work (limits_of z) fs z.scatters form h.0.scatters, diagonal);
-    alike = h.0.alike;
-  },
-  made-multiplied m factors fs zs diagonal form h.1,
-)
+made-multiplied m factors fs zs diagonal form h = made-map m _ (λ z made. record {
+  work = made.work;
+  counts = made.counts;
+  gathers = made.gathers;
+  scatters = made.scatters;
+  diagonal = (names-all z.work (limits_of z) fs z.scatters form made.scatters, diagonal);
+  alike = made.alike;
+}) zs h
 
 -- ---- side by side
 
@@ -171,18 +165,14 @@ diagonal-up m k w (Some d) h = (record { enough = let same = length-map (renumbe
 
 made-lifted : (m : ℕ) (path : Path) (n before : ℕ) (zs : List PlainNest) → AreSeveral path → AreMade m zs →
     AreMade m (map (lifted path n before) zs)
-made-lifted m path n before [] several h = tt
-made-lifted m path n before (z ∷ zs) several h = (
-  record {
-    work = h.0.work;
-    counts = many-under path z.counts several h.0.counts;
-    gathers = names-up path n before z.work z.gathers h.0.gathers;
-    scatters = names-up path n before z.work z.scatters h.0.scatters;
-    diagonal = diagonal-up m (length path) z.work z.multiplier h.0.diagonal;
-    alike = alike-up path n before z.counts z.work z.gathers h.0.gathers h.0.alike;
-  },
-  made-lifted m path n before zs several h.1,
-)
+made-lifted m path n before zs several h = made-map m (lifted path n before) (λ z made. record {
+  work = made.work;
+  counts = many-under path z.counts several made.counts;
+  gathers = names-up path n before z.work z.gathers made.gathers;
+  scatters = names-up path n before z.work z.scatters made.scatters;
+  diagonal = diagonal-up m (length path) z.work z.multiplier made.diagonal;
+  alike = alike-up path n before z.counts z.work z.gathers made.gathers made.alike;
+}) zs h
 
 pub made-side : (m : ℕ) (path : Path) (k l : ℕ) (zs ys : List PlainNest) → AreSeveral path → AreMade m zs →
     AreMade m ys → AreMade m (side path k l zs ys)

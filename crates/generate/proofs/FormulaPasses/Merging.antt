@@ -7,6 +7,7 @@ use Rattle.std.proofs.lemmas.Bool.Decides.{nat_tests}
 use Rattle.index_fn.specs.Mapping.{Mapping, at}
 use Rattle.operators.specs.Sum.{list_below}
 use Rattle.operators.proofs.Lists.{length-list_below}
+use Rattle.loop_nests.proofs.Items.{loop_several}
 use Rattle.sigma_spl.specs.Good.{IsFormed, IsGoodTerm, IsGoodPass}
 use Rattle.sigma_spl.specs.Limits.{AreSeveral, HasSeveral}
 use Rattle.sigma_spl.specs.Loops.{AreFormed}
@@ -69,16 +70,9 @@ pub moved-made : (m n : ℕ) (path : Path) (ks : List ℕ) → 0 < length ks →
 moved-made m n path ks some several good =
     (record { work = some; counts = many-path path several; gathers = good.nests.0.gathers; scatters = good.nests.0.scatters; diagonal = tt; alike = tt }, tt)
 
-several-loop : (n : ℕ) → 0 < n → AreSeveral (one_loop n)
-several-loop n some =
-    elim (cases_eq n 1) [
-      | inl one ↦ let is : one_loop n ≡ [] = grind (arith, nat_tests) in subst AreSeveral (sym is) tt
-      | inr several ↦ let is : one_loop n ≡ Blocks n ∷ [] = grind (arith, nat_tests) in subst AreSeveral (sym is) (omega (arith, some, several), tt)
-    ]
-
 module _ (m n : ℕ) (some : 0 < n) (high : n ≤ 1048576) where
   copying-made : AreMade m (copying n)
-  copying-made = new-made m n (one_loop n) (copy 1) (omega arith) (several-loop n some) (copying-good 0 m n)
+  copying-made = new-made m n (one_loop n) (copy 1) (omega arith) (loop_several n some) (copying-good 0 m n)
 
   table-made : (f : Mapping) → ((i : ℕ) → i < n → at f i < n) →
       AreMade m (new_nest [] (copy (length (list_below n (at f)))) (map constant (list_below n (at f))) ∷ [])

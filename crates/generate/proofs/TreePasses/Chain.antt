@@ -31,9 +31,6 @@ module _ (c : Request) (t : Breakdown) (valid : IsValid c) (h : IsWholeTree c t)
   module _ (blocks : PlainSmp) (vectors : PlainVec) (cut : blocks ≡ smp_of (target_of c) (whole_of c t))
       (turned : vectors ≡ vec_of blocks) where
     -- the formula for lanes is the tree's
-    pub vec-of-tree : IsVecOfTree c t vectors
-    vec-of-tree = record { valid = valid; tree = h; form = turned ∙ ap vec_of cut }
-
     pub vec-is : IsVecOf (target_of c) vectors
     vec-is =
         let can = trees_can_lower c t valid h in
