@@ -25,7 +25,6 @@ use Rattle.commands.specs.SpiralInput.Outcomes.{Meets, SourceMeets}
 use Rattle.commands.proofs.Documents.{generate_refusal}
 use Rattle.commands.proofs.SpiralInput.StageLemmas.{stage_refused, stage_told}
 use Rattle.io_edge.proofs.ToldLemmas.{over_left}
-use Rattle.commands.proofs.SpiralInput.OutcomeLemmas.{meets_answer, meets_unread, meets_unwritten}
 use Rattle.commands.proofs.SpiralInput.OutcomeLemmas.{told_nothing}
 
 abbrev pub judges : Request → Work
@@ -50,12 +49,20 @@ unread_told request room before after out read rest_fault.TooLong consumed given
   meets = λ rest tells.
       let count : length (read ++ rest) ≡ length read + length rest = length-append read rest in
       let long : certificate_limit < length (read ++ rest) = omega (arith, count, given) in
-      meets_answer _ _ rest out out _ (λ e. cc) (λ e. cc) ([], inl (long, refl, refl), Appends-nil out);
+      record {
+        answer = λ d. ([], inl (long, refl, refl), Appends-nil out);
+        read_fault = λ e. absurd (cc);
+        write_fault = λ e. absurd (cc);
+      };
 }
 unread_told request room before after out read rest_fault.ReadFault consumed given = record {
   read = read;
   consumed = consumed;
-  meets = λ rest tells. meets_unread _ _ rest out out (read, [], refl, (given, refl), Appends-nil out);
+  meets = λ rest tells. record {
+    answer = λ d. absurd (d.read refl);
+    read_fault = λ _. (read, [], refl, (given, refl), Appends-nil out);
+    write_fault = λ e. absurd (cc);
+  };
 }
 unread_told request room before after out read rest_fault.NoMemory consumed given = told_nothing (judges request room) before after out read consumed
 
@@ -67,7 +74,7 @@ check_unread request room before after out read fault there consumed given =
     stage_told (fitting request) judges room request before after out out (status_of_rest fault) (refl, there) (unread_told request room before after out read fault consumed given)
 
 -- the verdict on the bytes, as it was found
-judged_of : (request context : Request) (text seen : List ℕ) (found other : Verdict)
+pub judged_of : (request context : Request) (text seen : List ℕ) (found other : Verdict)
     → context ≡ request → seen ≡ text → other ≡ found → IsVerdict context seen other → IsVerdict request text found
 judged_of request context text seen found other c q e judged =
     subst (λ (v : Verdict). IsVerdict request text v) e
@@ -76,14 +83,21 @@ judged_of request context text seen found other c q e judged =
 judged_meets : (request : Request) (room : ℕ) (bytes left : List ℕ) (out out' : Option (List ℕ)) (found : Verdict)
     → length bytes ≤ certificate_limit → IsVerdict request bytes found → Appends out out' (verdict_text found)
     → Meets (judges request room) bytes left out out' (status_of_verdict found)
-judged_meets request room bytes left out out' (verdict.Least cost) few judged w =
-    meets_answer _ bytes left out out' _ (λ e. cc) (λ e. cc)
-    (least_line cost, inr (few, (verdict.Least cost, judged, refl, refl)), w)
-judged_meets request room bytes left out out' verdict.Unread few judged w =
-    meets_answer _ bytes left out out' _ (λ e. cc) (λ e. cc) ([], inr (few, (verdict.Unread, judged, refl, refl)), w)
-judged_meets request room bytes left out out' (verdict.Wrong size given found) few judged w =
-    meets_answer _ bytes left out out' _ (λ e. cc) (λ e. cc)
-    ([], inr (few, (verdict.Wrong size given found, judged, refl, refl)), w)
+judged_meets request room bytes left out out' (verdict.Least cost) few judged w = record {
+  answer = λ d. (least_line cost, inr (few, (verdict.Least cost, judged, refl, refl)), w);
+  read_fault = λ e. absurd (cc);
+  write_fault = λ e. absurd (cc);
+}
+judged_meets request room bytes left out out' verdict.Unread few judged w = record {
+  answer = λ d. ([], inr (few, (verdict.Unread, judged, refl, refl)), w);
+  read_fault = λ e. absurd (cc);
+  write_fault = λ e. absurd (cc);
+}
+judged_meets request room bytes left out out' (verdict.Wrong size given found) few judged w = record {
+  answer = λ d. ([], inr (few, (verdict.Wrong size given found, judged, refl, refl)), w);
+  read_fault = λ e. absurd (cc);
+  write_fault = λ e. absurd (cc);
+}
 
 judged_told : (request : Request) (room : ℕ) (before after out out' : Option (List ℕ)) (read text : List ℕ)
     (found : Verdict)
@@ -102,17 +116,14 @@ judged_told request room before after out out' read text found consumed same end
 }
 
 -- a rest that was judged
-pub check_judged : (request context : Request) (room : ℕ) (before after out out' : Option (List ℕ))
-    (read text seen : List ℕ) (found other : Verdict)
-    → IsAdmitted request → Consumes before after read
-    → (text ≡ read) × IsOver after × (length read ≤ certificate_limit)
-    → context ≡ request → seen ≡ text → other ≡ found → IsVerdict context seen other
-    → Appends out out' (verdict_text found)
+pub check_judged : (request : Request) (room : ℕ) (before after out out' : Option (List ℕ)) (read text : List ℕ)
+    (found : Verdict)
+    → IsAdmitted request → Consumes before after read → text ≡ read → IsOver after → length read ≤ certificate_limit
+    → IsVerdict request text found → Appends out out' (verdict_text found)
     → SourceMeets (checking request room) before after out out' (status_of_verdict found)
-check_judged request context room before after out out' read text seen found other there consumed given c q e judged w =
+check_judged request room before after out out' read text found there consumed same end short judged w =
     stage_told (fitting request) judges room request before after out out' (status_of_verdict found) (refl, there)
-    (judged_told request room before after out out' read text found consumed given.0 given.1 given.2
-    (judged_of request context text seen found other c q e judged) w)
+    (judged_told request room before after out out' read text found consumed same end short judged w)
 
 cut_told : (request : Request) (room : ℕ) (before after out out' : Option (List ℕ)) (read text : List ℕ) (cost : ℕ)
     → Consumes before after read → text ≡ read → IsOver after → length read ≤ certificate_limit
@@ -121,29 +132,29 @@ cut_told : (request : Request) (room : ℕ) (before after out out' : Option (Lis
 cut_told request room before after out out' read text cost consumed same end short judged w = record {
   read = read;
   consumed = consumed;
-  meets = λ rest tells. meets_unwritten _ _ rest out out' (
-    read,
-    [],
-    least_line cost,
-    refl,
-    (
-      over_left after rest tells end,
-      short,
-      (verdict.Least cost, subst (λ l. IsVerdict request l (verdict.Least cost)) same judged, refl, refl),
-    ),
-    w,
-  );
+  meets = λ rest tells. record {
+    answer = λ d. absurd (d.write refl);
+    read_fault = λ e. absurd (cc);
+    write_fault = λ _. (
+      read,
+      [],
+      least_line cost,
+      refl,
+      (
+        over_left after rest tells end,
+        short,
+        (verdict.Least cost, subst (λ l. IsVerdict request l (verdict.Least cost)) same judged, refl, refl),
+      ),
+      w,
+    );
+  };
 }
 
 -- a rest that was judged right, and the line that says so was not written whole
-pub check_cut : (request context : Request) (room : ℕ) (before after out out' : Option (List ℕ))
-    (read text seen : List ℕ) (cost : ℕ) (other : Verdict)
-    → IsAdmitted request → Consumes before after read
-    → (text ≡ read) × IsOver after × (length read ≤ certificate_limit)
-    → context ≡ request → seen ≡ text → other ≡ verdict.Least cost → IsVerdict context seen other
-    → AppendsPrefix out out' (least_line cost)
+pub check_cut : (request : Request) (room : ℕ) (before after out out' : Option (List ℕ)) (read text : List ℕ) (cost : ℕ)
+    → IsAdmitted request → Consumes before after read → text ≡ read → IsOver after → length read ≤ certificate_limit
+    → IsVerdict request text (verdict.Least cost) → AppendsPrefix out out' (least_line cost)
     → SourceMeets (checking request room) before after out out' WriteFault
-check_cut request context room before after out out' read text seen cost other there consumed given c q e judged w =
+check_cut request room before after out out' read text cost there consumed same end short judged w =
     stage_told (fitting request) judges room request before after out out' WriteFault (refl, there)
-    (cut_told request room before after out out' read text cost consumed given.0 given.1 given.2
-    (judged_of request context text seen (verdict.Least cost) other c q e judged) w)
+    (cut_told request room before after out out' read text cost consumed same end short judged w)

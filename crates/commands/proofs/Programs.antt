@@ -32,7 +32,13 @@ pub code_made : (request : Request) (program : Program) → IsProgramFor request
     IsCodeFor request (code_of program)
 code_made request program made = (made.0, made.1, ap plain_code made.2)
 
--- the program has the numbers of its request
+-- the program stands within its own limits
+pub program_fits : (request : Request) (program : Program) → IsInRange request → IsProgramFor request program →
+    Fits program
+program_fits request program in_range made =
+    subst PlainFits (sym made.2) (programs_are_good request made.0 in_range made.1).0.fits
+
+-- and has the numbers of its request
 pub program_size : (request : Request) (program : Program) → IsInRange request → IsProgramFor request program →
     program.size ≡ request.size
 program_size request program in_range made =

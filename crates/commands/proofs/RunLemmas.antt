@@ -54,7 +54,7 @@ use Rattle.commands.proofs.Requests.{limits}
 use Rattle.commands.proofs.SpiralInput.DataLemmas.{lines_equal}
 use Rattle.commands.proofs.SpiralInput.StageLemmas.{stage_told}
 use Rattle.commands.proofs.SpiralInput.Within.{told_within}
-use Rattle.commands.proofs.StreamLemmas.{mapping_within, turns_below}
+use Rattle.commands.proofs.StreamLemmas.{mapping_within}
 
 -- The program's processors
 
@@ -66,7 +66,8 @@ good_procs request code good = ap (λ (k : Code). k.procs) good.is ∙ good.good
 pub good_turns : (plan : Plan) (request : Request) (code : Code) → IsGoodCode request code → IsInRange request →
     HasNoStranger plan request.procs → All (λ q. q < request.procs) (turns_of plan code.procs)
 good_turns plan request code good in_range none =
-    turns_below plan code.procs request.procs (good_procs request code good) (limits request in_range).procs none
+    subst (λ p. All (λ q. q < request.procs) (turns_of plan p)) (sym (good_procs request code good))
+    (All-from_get_or (λ q. q < request.procs) (turns_of plan request.procs) 0 (turns_there plan request.procs (limits request in_range).procs none))
 
 -- where the request has no stranger, its program has none
 pub no_stranger : (names : List ℕ) (request : Request) (program : Program) → IsInRange request →
@@ -167,3 +168,31 @@ trace_told request program front way room before after out out' status in_range 
     let vectors = vectors_of request.size request.modulus ts in
     written ∙ ap (λ l. l ++ texts text vectors) (listed ∙ ap listing_of made.2) ∙ ap (λ (f : List ℕ → List ℕ). listing_of own ++ texts f vectors) same))
     (sized request program Writes room before after out out' status in_range made p))
+
+-- How it ends
+
+abbrev passed : Result (Unit {0}) StreamFault
+passed = Ok tt
+
+-- a run that ends well reports no fault
+passes : (fault : StreamFault) (before now : ℕ) (status : Status) → Success ≢ status →
+    Reports before now (passed ≡ Err fault)
+    → Reports before now (Success ≡ status)
+passes fault before now status other r =
+    record { later = r.later; cause = λ e. absurd (other e); told = λ h. absurd (clash (r.told h)) }
+  where
+    clash : passed ≡ Err fault → ⊥
+    clash e = absurd (cc)
+
+-- so no read and no write failed
+pub passed_ends : (held : List ℕ) (read_before read_now write_before write_now : ℕ) (out out' : Option (List ℕ))
+    → Reports read_before read_now (passed ≡ Err stream.ReadFault)
+    → Reports write_before write_now (passed ≡ Err stream.WriteFault)
+    → EndsCleanly Success held read_before read_now write_before write_now out out'
+passed_ends held read_before read_now write_before write_now out out' read write = record {
+  empty = λ e. absurd (cc);
+  usage = λ e. cc;
+  read = passes stream.ReadFault read_before read_now ReadFault (λ e. cc) read;
+  write = passes stream.WriteFault write_before write_now WriteFault (λ e. cc) write;
+  memory = λ e. absurd (cc);
+}

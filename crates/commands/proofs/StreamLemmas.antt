@@ -1,10 +1,7 @@
 -- What a run of a program over the data comes to.
 use Rattle.std.proofs.Common.{◌≡◌, ◌≢◌, ◌<◌, ◌≤◌, ◌-◌, ℕ, Bool, true, false, List, [], ◌++◌, None, Some, Err, Result}
 use Rattle.std.proofs.Common.{length, refl, sym, ap, subst, ◌∙◌, arith, append-nil, nat_lt, inl, take}
-use Rattle.std.proofs.lemmas.List.Elements.{All-from_get_or}
-use Rattle.std.specs.List.{All}
 use Rattle.std.specs.declared.option.Option.{Option}
-use Rattle.par_machine.proofs.Schedules.{turns_there}
 use Rattle.std.specs.Io.KnownBytes.{Appends}
 use Rattle.buffer_machine.specs.Listed as listed
 use Rattle.buffer_machine.specs.declared.Events.{Events}
@@ -19,7 +16,7 @@ use Rattle.io_edge.specs.Taken.{AppendsPrefix}
 use Rattle.request_text.specs.Schedule.{Plan}
 use Rattle.request_text.specs.Turns.{turns_of}
 use Rattle.runs.proofs.StreamLemmas.{vectors_few}
-use Rattle.runs.specs.Stream.{HasNoStranger, Streams, bad_after, good_front, texts, vectors_of, vectors_seen}
+use Rattle.runs.specs.Stream.{Streams, bad_after, good_front, texts, vectors_of, vectors_seen}
 use Rattle.runs.specs.Texts.{buffered_text, run_text}
 use Rattle.runs.specs.declared.stream.StreamFault.{StreamFault}
 use Rattle.runs.specs.declared.stream.StreamFault.TheVariants as stream
@@ -34,16 +31,8 @@ use Rattle.commands.specs.Prepared.{stream_text, stream_work}
 use Rattle.commands.specs.SpiralInput.Outcomes.{SourceMeets}
 use Rattle.commands.specs.declared.streams.Prepared.{Prepared}
 use Rattle.commands.proofs.SpiralInput.DataLemmas.{streams_told}
-use Rattle.commands.proofs.SpiralInput.OutcomeLemmas.{meets_unwritten, unread_meets}
+use Rattle.commands.proofs.SpiralInput.OutcomeLemmas.{unread_meets}
 use Rattle.commands.proofs.SpiralInput.Within.{Within}
-
--- The turns of a schedule are of so many processors
-
-pub turns_below : (schedule : Plan) (procs n : ℕ) → procs ≡ n → 0 < n → HasNoStranger schedule n →
-    All (λ q. q < n) (turns_of schedule procs)
-turns_below schedule procs n same some none =
-    subst (λ p. All (λ q. q < n) (turns_of schedule p)) (sym same)
-    (All-from_get_or (λ q. q < n) (turns_of schedule n) 0 (turns_there schedule n some none))
 
 -- The front is not written whole
 
@@ -57,9 +46,11 @@ front_cut made way room before out out' wrote =
     let none : vectors_of size modulus [] ≡ [] = vectors_few size modulus [] some in
     let alone : made.front.items ≡ stream_text made way (vectors_of size modulus []) =
     sym (ap (stream_text made way) none ∙ append-nil made.front.items) in
-    unread_meets (stream_work made way room) before out out' WriteFault (λ bytes.
-    meets_unwritten _ bytes bytes out out'
-    ([], [], made.front.items, refl, (record { few = omega arith; good = refl }, inl refl, alone), wrote))
+    unread_meets (stream_work made way room) before out out' WriteFault (λ bytes. record {
+      answer = λ d. absurd (d.write refl);
+      read_fault = λ e. absurd (cc);
+      write_fault = λ _. ([], [], made.front.items, refl, (record { few = omega arith; good = refl }, inl refl, alone), wrote);
+    })
 
 -- The machines
 

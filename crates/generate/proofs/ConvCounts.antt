@@ -1,35 +1,23 @@
 -- What a program of joined passes counts on its one processor.
-use Rattle.std.proofs.Common.{◌≡◌, ℕ, suc, ◌+◌, ◌*◌, ◌<◌, All, List, [], ◌∷◌, ◌++◌, length, map, flat_map, sym, ap, ap₂}
+use Rattle.std.proofs.Common.{◌≡◌, ℕ, ◌+◌, ◌*◌, ◌<◌, List, ◌++◌, length, map, ap}
 use Rattle.std.proofs.Common.{◌∙◌, arith, subst, append-nil, length-append}
-use Rattle.std.specs.List.{range_with_len}
 use Rattle.std.specs.Prelude.{sum_by}
-use Rattle.std.proofs.lemmas.List.{length-map}
-use Rattle.std.proofs.lemmas.List.Elements.{All-head, All-tail, All-weaker}
-use Rattle.std.proofs.lemmas.List.Sums.{sum_by-append, sum_by-cons}
-use Rattle.code_gen.proofs.WholePrograms.PhaseParts.{parts_in_a_row}
-use Rattle.code_gen.proofs.WholePrograms.PartShares.{parts_share}
-use Rattle.code_gen.specs.PassCode.Contract as contract
-use Rattle.code_gen.specs.PassCode.Contract.{AreParts, Performs}
-use Rattle.code_gen.specs.PassCode.Program.{written_array}
+use Rattle.std.proofs.lemmas.List.Sums.{sum_by-append}
+use Rattle.code_gen.specs.PassCode.Contract.{Performs}
 use Rattle.icode.specs.Actions.{plain_code}
-use Rattle.icode.specs.Machine.{acts, counts_of, weighted, whole_counts}
+use Rattle.icode.specs.Machine.{weighted, whole_counts}
 use Rattle.icode.specs.Plain.{PlainProgram}
-use Rattle.icode.specs.declared.action.Action.{Action}
-use Rattle.icode.specs.declared.program.Array.{Array}
-use Rattle.icode.specs.declared.program.Array.TheVariants.{X}
 use Rattle.loop_merge.proofs.MultipliedPasses.Counts.{sum-costs, sum-loads}
 use Rattle.loop_merge.proofs.MultipliedPasses.Lasts.{length-last}
 use Rattle.loop_merge.specs.JoinedPasses.Joined.{joined}
 use Rattle.loop_merge.specs.MultipliedPasses.Multiplied.{multiplied_last, with_factors}
-use Rattle.loop_nests.proofs.Shares.{runs_have_shares}
 use Rattle.operators.specs.declared.target.Target.{Target}
 use Rattle.sigma_spl.specs.Lists.{LastIs}
 use Rattle.sigma_spl.specs.Merged.{PlainMerged}
 use Rattle.sigma_spl.specs.Nest.{PlainNest, values}
 use Rattle.sigma_spl.specs.Shared.Costs.{pass_cost, pass_loads}
-use Rattle.sigma_spl.specs.Shared.Names.{HasShares}
 use Rattle.sigma_spl.specs.Shared.Owners.{all_passes}
-use Rattle.sigma_spl.specs.Shared.Ready.{IsReady, IsReadyPass}
+use Rattle.sigma_spl.specs.Shared.Ready.{IsReady}
 use Rattle.sigma_spl.specs.Trees.{IsFree}
 use Rattle.generate.proofs.Performed.{CountsPasses, alone, performed-counts}
 

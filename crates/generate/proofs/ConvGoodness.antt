@@ -1,5 +1,5 @@
 -- A program of a tree's joined passes is one for convolutions.
-use Rattle.std.proofs.Common.{◌≡◌, ℕ, ◌+◌, ◌*◌, ◌<◌, List, [], All, Ok, length, refl, ap, ap₂, ◌∙◌, arith, sym, mod-lt}
+use Rattle.std.proofs.Common.{◌≡◌, ℕ, ◌+◌, ◌*◌, ◌<◌, List, All, Ok, length, ap, ap₂, ◌∙◌, arith, mod-lt}
 use Rattle.std.proofs.lemmas.List.{length-map}
 use Rattle.std.proofs.lemmas.List.Elements.{All-map}
 use Rattle.std.specs.Prelude.{slice_index}
@@ -10,11 +10,7 @@ use Rattle.ring_mod.specs.Inverse.{inverse_mod}
 use Rattle.matrix_meaning.specs.Convolution.{IsPrincipal}
 use Rattle.matrix_meaning.specs.Convolving.{IsConvRequest}
 use Rattle.sigma_lower.specs.Merged.{tree_merged}
-use Rattle.icode.specs.Actions.{plain_code}
-use Rattle.icode.specs.Machine.{padded, results, words_at}
 use Rattle.icode.specs.Plain.{PlainProgram}
-use Rattle.icode.proofs.Lists.{code_is}
-use Rattle.icode.proofs.Runs.{memory_of_runs}
 use Rattle.matrix_meaning.specs.Parts.{inverted}
 use Rattle.matrix_meaning.proofs.Requests.{valid_by_powers}
 use Rattle.tree_model.proofs.InverseTraffic.{inverse_loads, whole-same}
@@ -27,7 +23,6 @@ use Rattle.matrix_meaning.specs.declared.Request.{Request}
 use Rattle.matrix_meaning.specs.Valid.{IsValid}
 use Rattle.operators.proofs.Lists.{length-list_below}
 use Rattle.code_gen.specs.PassCode.Contract.{Performs}
-use Rattle.sigma_spl.specs.Good as passes
 use Rattle.sigma_spl.specs.Lists.{LastIs}
 use Rattle.sigma_spl.specs.Merged.{PlainMerged}
 use Rattle.sigma_spl.specs.Nest.{values}

@@ -1,15 +1,7 @@
 -- The programs of requests and of convolutions are good.
-use Rattle.std.proofs.Common.{ℕ, ◌*◌, ◌<◌, List, All, arith, mod-lt, subst}
-use Rattle.std.proofs.lemmas.List.Elements.{All-map}
-use Rattle.std.specs.Prelude.{slice_index}
-use Rattle.std.specs.List.{range_with_len}
+use Rattle.std.proofs.Common.{subst}
 use Rattle.icode.specs.Limits.{IsWithinLimits}
-use Rattle.matrix_meaning.specs.Convolution.{convolution_factor}
-use Rattle.matrix_meaning.specs.declared.Kind.TheVariants.{Dft}
-use Rattle.matrix_meaning.specs.declared.Request.{Request}
-use Rattle.matrix_meaning.specs.Kind.{transform}
 use Rattle.matrix_meaning.proofs.Requests.{valid_by_powers}
-use Rattle.ring_mod.specs.Inverse.{inverse_mod}
 use Rattle.sigma_lower.specs.Merged.{tree_merged}
 use Rattle.sigma_spl.specs.Shared.Targets.{target_of}
 use Rattle.code_gen.proofs.WholePrograms.Performs.{programs_perform}

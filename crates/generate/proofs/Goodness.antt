@@ -1,30 +1,23 @@
 -- The program of the chosen tree is good and lean.
-use Rattle.std.proofs.Common.{◌≡◌, ℕ, zero, suc, ◌+◌, ◌*◌, ◌/◌, ◌<◌, List, [], sym, ap, ◌∙◌, arith, subst, flat_map}
-use Rattle.std.proofs.Common.{length}
-use Rattle.std.proofs.Math.Nat.{mul-div_cancel_left}
-use Rattle.std.specs.List.{range_with_len}
+use Rattle.std.proofs.Common.{◌≡◌, ℕ, ◌*◌, ◌<◌, List, [], ap, ◌∙◌, arith}
 use Rattle.sigma_lower.specs.Merged.{tree_merged}
 use Rattle.icode.specs.Actions.{plain_code}
-use Rattle.icode.specs.Machine.{acts, counts_of, padded, results, whole_counts, words_at}
+use Rattle.icode.specs.Machine.{results, whole_counts}
 use Rattle.icode.specs.Plain.{PlainProgram}
-use Rattle.icode.proofs.Lists.{code_is}
-use Rattle.icode.proofs.Runs.{memory_of_runs}
 use Rattle.matrix_meaning.specs.Asked.{asked_of}
 use Rattle.matrix_meaning.specs.declared.Request.{Request}
 use Rattle.matrix_meaning.specs.Valid.{IsValid}
-use Rattle.operators.specs.Sum.{sum_below}
 use Rattle.code_gen.specs.PassCode.Contract.{Performs}
 use Rattle.sigma_spl.specs.Good as vectors
 use Rattle.tree_model.specs.Breakdown.{Breakdown}
 use Rattle.tree_model.specs.Chosen.{IsWholeTree, whole_cost}
-use Rattle.tree_model.specs.WholePasses.{request_passes, whole_loads, whole_stores}
-use Rattle.tree_model.proofs.WholeCosts.{passes_do_the_cost}
+use Rattle.tree_model.specs.WholePasses.{whole_loads, whole_stores}
 use Rattle.sigma_spl.specs.Shared.Targets.{target_of}
 use Rattle.sigma_spl.specs.Trees.{IsMergedTree}
 use Rattle.generate.proofs.TreePasses.Merged.{trees_are_merged, trees_mean}
 use Rattle.generate.specs.Good.{HasHeader, IsGood, IsVector}
 use Rattle.sigma_spl.specs.Merged.{PlainMerged}
-use Rattle.generate.specs.Lean.{IsLean, IsLeanCode}
+use Rattle.generate.specs.Lean.{IsLean}
 use Rattle.generate.proofs.Parts.{lean-code}
 use Rattle.generate.proofs.Performed.{CountsPasses, any-turns, performed-counts, whole-of}
 use Rattle.generate.proofs.Totals.{Totals, tree-totals}

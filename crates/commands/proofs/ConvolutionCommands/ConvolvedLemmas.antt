@@ -47,10 +47,7 @@ use Rattle.commands.specs.SpiralInput.Refusals.{IsRefusal}
 use Rattle.commands.specs.SpiralInput.Stage.{◌>>=◌}
 use Rattle.commands.proofs.Documents.{with_tree}
 use Rattle.io_edge.proofs.ToldLemmas.{over_left}
-use Rattle.commands.proofs.SpiralInput.DataLemmas.{ended, fine_by, lines_equal, reads_vectors}
-use Rattle.commands.proofs.SpiralInput.OutcomeLemmas.{meets_answer, meets_unread, meets_unwritten}
-use Rattle.runs.proofs.StreamLemmas.{reads_more}
-use Rattle.commands.proofs.StreamLemmas.{turns_below}
+use Rattle.commands.proofs.SpiralInput.DataLemmas.{fine_by, reads_vectors, lines_equal}
 use Rattle.commands.proofs.SpiralInput.StageLemmas.{stage_told}
 use Rattle.commands.proofs.SpiralInput.Within.{Within, front_join}
 
@@ -107,29 +104,41 @@ module _ (wants : Wants) (size modulus : ℕ) (list : WantsList wants size)
       → (r : ReadsData size modulus old new before after [] result)
       → Answers size modulus (limit - old.taken) (r.read ++ rest) [] result
       → Meets (work (limit - old.taken)) (r.read ++ rest) rest out out (status_of_fault (lacking size result))
-  lacks old new before after rest out (Ok u) start ends other r seen =
-      meets_answer _ _ rest out out _ (λ e. cc) (λ e. cc)
-      (lacked (limit - old.taken) (r.read ++ rest) (Ok u) out seen.0 seen.1)
-  lacks old new before after rest out (Err (stream.Truncated have need)) start ends other r seen =
-      meets_answer _ _ rest out out _ (λ e. cc) (λ e. cc)
-      (lacked (limit - old.taken) (r.read ++ rest) (Err (stream.Truncated have need)) out seen.0 seen.1)
-  lacks old new before after rest out (Err (stream.BadNumber token)) start ends other r seen =
-      meets_answer _ _ rest out out _ (λ e. cc) (λ e. cc)
-      (lacked (limit - old.taken) (r.read ++ rest) (Err (stream.BadNumber token)) out seen.0 seen.1)
-  lacks old new before after rest out (Err stream.TooLong) start ends other r seen =
-      meets_answer _ _ rest out out _ (λ e. cc) (λ e. cc)
-      (lacked (limit - old.taken) (r.read ++ rest) (Err stream.TooLong) out seen.0 seen.1)
-  lacks old new before after rest out (Err stream.ReadFault) start ends other r seen = meets_unread _ _ rest out out (
-    r.read,
-    [],
-    refl,
-    (
-      fine_by old.taken new.taken r.read r.answer.0 (ends (λ e. cc)) r.answer.1,
-      subst (ReadsOn wants) (sym r.answer.2) list.on,
-      subst (λ vectors. by_first IsText vectors []) (sym r.answer.2) refl,
-    ),
-    Appends-nil out,
-  )
+  lacks old new before after rest out (Ok u) start ends other r seen = record {
+    answer = λ d. lacked (limit - old.taken) (r.read ++ rest) (Ok u) out seen.0 seen.1;
+    read_fault = λ e. absurd (cc);
+    write_fault = λ e. absurd (cc);
+  }
+  lacks old new before after rest out (Err (stream.Truncated have need)) start ends other r seen = record {
+    answer = λ d. lacked (limit - old.taken) (r.read ++ rest) (Err (stream.Truncated have need)) out seen.0 seen.1;
+    read_fault = λ e. absurd (cc);
+    write_fault = λ e. absurd (cc);
+  }
+  lacks old new before after rest out (Err (stream.BadNumber token)) start ends other r seen = record {
+    answer = λ d. lacked (limit - old.taken) (r.read ++ rest) (Err (stream.BadNumber token)) out seen.0 seen.1;
+    read_fault = λ e. absurd (cc);
+    write_fault = λ e. absurd (cc);
+  }
+  lacks old new before after rest out (Err stream.TooLong) start ends other r seen = record {
+    answer = λ d. lacked (limit - old.taken) (r.read ++ rest) (Err stream.TooLong) out seen.0 seen.1;
+    read_fault = λ e. absurd (cc);
+    write_fault = λ e. absurd (cc);
+  }
+  lacks old new before after rest out (Err stream.ReadFault) start ends other r seen = record {
+    answer = λ d. absurd (d.read refl);
+    read_fault = λ _. (
+      r.read,
+      [],
+      refl,
+      (
+        fine_by old.taken new.taken r.read r.answer.0 (ends (λ e. cc)) r.answer.1,
+        subst (ReadsOn wants) (sym r.answer.2) list.on,
+        subst (λ vectors. by_first IsText vectors []) (sym r.answer.2) refl,
+      ),
+      Appends-nil out,
+    );
+    write_fault = λ e. absurd (cc);
+  }
   lacks old new before after rest out (Err stream.WriteFault) start ends other r seen = absurd (other refl)
 
   pub list_lacking : (old new : Fed) (before after out : Option (List ℕ)) (fault : StreamFault)
@@ -167,9 +176,6 @@ convolves_lacking code plan request old new before after out fault chosen start 
 
 -- The listing
 
-abbrev IsListing : Planned → List (List ℕ) → List ℕ → Type 0
-IsListing plan = by_first (λ h later text. text ≡ listing_of (conv_emission plan.request plan.tree h))
-
 -- all of it is written
 listing_told : (plan : Planned) (cut : Cut) (old new : Fed) (before after out out' : Option (List ℕ))
     (h listing : List ℕ)
@@ -186,14 +192,18 @@ listing_told plan cut old new before after out out' h listing size come start wi
       let bytes : List ℕ = come.progress.bytes ++ rest in
       let first = vectors_begin request.modulus cut old new before after rest (h ∷ []) come start within (λ e. over_left after rest tells (end e)) in
       let seen : data_vectors request.size request.modulus room bytes ≡ h ∷ first.0 = ap (λ n. data_vectors n request.modulus room bytes) (sym size) ∙ first.1 in
-      meets_answer _ bytes rest out out' Success (λ e. cc) (λ e. cc) (
-        listing,
-        (
-          sym (ap (status_by the_first request.size (data_answer request.size room bytes)) seen),
-          subst (λ vectors. IsListing plan vectors listing) (sym seen) same,
-        ),
-        wrote,
-      );
+      record {
+        answer = λ d. (
+          listing,
+          (
+            sym (ap (status_by the_first request.size (data_answer request.size room bytes)) seen),
+            subst (λ vectors. by_first (λ x later text. text ≡ listing_of (conv_emission request plan.tree x)) vectors listing) (sym seen) same,
+          ),
+          wrote,
+        );
+        read_fault = λ e. absurd (cc);
+        write_fault = λ e. absurd (cc);
+      };
 }
 
 pub convolves_listing : (request : Request) (cut : Cut) (old new : Fed) (before after out out' : Option (List ℕ))
@@ -221,18 +231,22 @@ listing_cut plan cut old new before after out out' h listing size some come with
     record {
       read = r.read;
       consumed = r.consumed;
-      meets = λ rest tells. meets_unwritten _ _ rest out out' (
-        r.read,
-        [],
-        listing,
-        refl,
-        (
-          fine_by old.taken new.taken r.read r.answer.0 within r.answer.1,
-          closed_or_none after rest (closed_part r.read ≡ r.read) tells r.answer.2,
-          subst (λ vectors. IsListing plan vectors listing) (sym seen) same,
-        ),
-        wrote,
-      );
+      meets = λ rest tells. record {
+        answer = λ d. absurd (d.write refl);
+        read_fault = λ e. absurd (cc);
+        write_fault = λ _. (
+          r.read,
+          [],
+          listing,
+          refl,
+          (
+            fine_by old.taken new.taken r.read r.answer.0 within r.answer.1,
+            closed_or_none after rest (closed_part r.read ≡ r.read) tells r.answer.2,
+            subst (λ vectors. by_first (λ x later text. text ≡ listing_of (conv_emission request plan.tree x)) vectors listing) (sym seen) same,
+          ),
+          wrote,
+        );
+      };
     }
 
 pub convolves_cut : (request : Request) (cut : Cut) (old new : Fed) (before after out out' : Option (List ℕ))
@@ -277,11 +291,90 @@ convolved_lines request h program code turns later made same some there whole =
     λ x full below. ap (λ k. results k x turns) same ∙ made.convolver.product x turns (record { size = full; residues = below }) there in
     later_lines request.size request.modulus f g each some (length whole.0 / request.size) whole.0 h later (div-mul-le_self (length whole.0) request.size) whole.1
 
-abbrev IsLines : Request → List (List ℕ) → List ℕ → Type 0
-IsLines request = by_first (λ h later text. text ≡ conv_lines request h later)
+module _ (request : Request) where
+  abbrev IsLines : List (List ℕ) → List ℕ → Type 0
+  IsLines = by_first (λ h later text. text ≡ conv_lines request h later)
 
-abbrev convolving : Request → ℕ → Outcomes
-convolving request = mapping a_first request.size request.modulus (IsLines request)
+  abbrev convolving : ℕ → Outcomes
+  convolving = mapping a_first request.size request.modulus IsLines
+
+  -- where nothing failed
+  lines_answer : (room : ℕ) (bytes h : List ℕ) (later : List (List ℕ)) (result : Result (Unit {0}) StreamFault)
+      (text : List ℕ) (out out' : Option (List ℕ))
+      → data_answer request.size room bytes ≡ result → data_vectors request.size request.modulus room bytes ≡ h
+      ∷ later → text ≡ conv_lines request h later → Appends out out' text
+      → (written : List ℕ) × (convolving room).answer bytes (status_of_stream result) written × Appends out out' written
+  lines_answer room bytes h later result text out out' a v same wrote = (
+    text,
+    (
+      sym (ap (status_by a_first request.size (data_answer request.size room bytes)) v ∙ ap status_of_stream a),
+      subst (λ vectors. IsLines vectors text) (sym v) same,
+    ),
+    wrote,
+  )
+
+  -- by each way in which it may end
+  lines_ended : (old new : Fed) (before after : Option (List ℕ)) (rest h : List ℕ) (later : List (List ℕ))
+      (out out' : Option (List ℕ)) (text : List ℕ) (result : Result (Unit {0}) StreamFault)
+      → (result ≢ Err stream.TooLong → new.taken ≤ limit) → Tells after rest
+      → (r : ReadsData request.size request.modulus old new before after (h ∷ later) result)
+      → Answers request.size request.modulus (limit - old.taken) (r.read ++ rest) (h ∷ later) result
+      → text ≡ conv_lines request h later → Writes out out' result text
+      → Meets (convolving (limit - old.taken)) (r.read ++ rest) rest out out' (status_of_stream result)
+  lines_ended old new before after rest h later out out' text (Ok u) ends tells r seen same wrote = record {
+    answer = λ d. lines_answer (limit - old.taken) (r.read ++ rest) h later (Ok u) text out out' seen.0 seen.1 same wrote;
+    read_fault = λ e. absurd (cc);
+    write_fault = λ e. absurd (cc);
+  }
+  lines_ended old new before after rest h later out out' text (Err (stream.Truncated have need)) ends tells r seen same wrote = record {
+    answer = λ d. lines_answer (limit - old.taken) (r.read ++ rest) h later (Err (stream.Truncated have need)) text out out' seen.0 seen.1 same wrote;
+    read_fault = λ e. absurd (cc);
+    write_fault = λ e. absurd (cc);
+  }
+  lines_ended old new before after rest h later out out' text (Err (stream.BadNumber token)) ends tells r seen same wrote = record {
+    answer = λ d. lines_answer (limit - old.taken) (r.read ++ rest) h later (Err (stream.BadNumber token)) text out out' seen.0 seen.1 same wrote;
+    read_fault = λ e. absurd (cc);
+    write_fault = λ e. absurd (cc);
+  }
+  lines_ended old new before after rest h later out out' text (Err stream.TooLong) ends tells r seen same wrote = record {
+    answer = λ d. lines_answer (limit - old.taken) (r.read ++ rest) h later (Err stream.TooLong) text out out' seen.0 seen.1 same wrote;
+    read_fault = λ e. absurd (cc);
+    write_fault = λ e. absurd (cc);
+  }
+  lines_ended old new before after rest h later out out' text (Err stream.ReadFault) ends tells r seen same wrote = record {
+    answer = λ d. absurd (d.read refl);
+    read_fault = λ _. (
+      r.read,
+      text,
+      refl,
+      (fine_by old.taken new.taken r.read r.answer.0 (ends (λ e. cc)) r.answer.1, tt, subst (λ vectors. IsLines vectors text) (sym r.answer.2) same),
+      wrote,
+    );
+    write_fault = λ e. absurd (cc);
+  }
+  lines_ended old new before after rest h later out out' text (Err stream.WriteFault) ends tells r seen same wrote = record {
+    answer = λ d. absurd (d.write refl);
+    read_fault = λ e. absurd (cc);
+    write_fault = λ _. (
+      r.read,
+      [],
+      text,
+      refl,
+      (
+        fine_by old.taken new.taken r.read r.answer.0 (ends (λ e. cc)) r.answer.1,
+        closed_or_none after rest (closed_part r.read ≡ r.read) tells r.answer.2,
+        subst (λ vectors. IsLines vectors text) (sym r.answer.3) same,
+      ),
+      wrote,
+    );
+  }
+
+-- the turns of the schedule are of the one processor
+conv_turns : (schedule : Plan) (request : Request) (procs : ℕ) → request.procs ≡ 1 → procs ≡ 1 →
+    HasNoStranger schedule 1 → All (λ q. q < request.procs) (turns_of schedule procs)
+conv_turns schedule request procs own one none =
+    subst (λ p. All (λ q. q < request.procs) (turns_of schedule p)) (sym one)
+    (subst (λ n. All (λ q. q < n) (turns_of schedule 1)) (sym own) (All-from_get_or (λ q. q < 1) (turns_of schedule 1) 0 (turns_there schedule 1 (omega arith) none)))
 
 run_told : {S : Type 0} (schedule : Plan) (request : Request) (code : Code) (old new : Fed)
     (before after out out' : Option (List ℕ)) (h : List ℕ) (program : Program) (leaves : List ℕ → S) (first last : S)
@@ -300,15 +393,9 @@ run_told schedule request code old new before after out out' h program leaves fi
       read = r.read;
       consumed = r.consumed;
       meets = λ rest tells.
-          let goes : IsOver after → rest ≡ [] = over_left after rest tells in
-          ended a_first (IsLines request) request.size request.modulus [] (lines (λ x. results code x turns) s.later)
-          old new r.read rest (h ∷ s.later) out out out' (λ answer. refl) tt
-          (convolved_lines request h program code turns s.later made same some
-          (turns_below schedule code.procs request.procs (one ∙ sym own) (omega (arith, own))
-          (subst (HasNoStranger schedule) (sym own) none)) whole) (Appends-nil out) result
-          (reads_more request.size request.modulus old new r.read (IsOver after) (rest ≡ []) (h ∷ s.later) result goes
-          r.answer)
-          (r.answers start rest goes) s.wrote ends;
+          lines_ended request old new before after rest h s.later out out' (lines (λ x. results code x turns) s.later) result ends tells r
+          (r.answers start rest (over_left after rest tells))
+          (convolved_lines request h program code turns s.later made same some (conv_turns schedule request code.procs own one none) whole) s.wrote;
     }
 
 -- the list has come, by what the machine's code says of the modulus

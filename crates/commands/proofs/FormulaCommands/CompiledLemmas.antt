@@ -55,8 +55,8 @@ use Rattle.commands.proofs.SpiralInput.FrontLemmas.{asks_read_fault, asks_too_lo
 use Rattle.commands.proofs.SpiralInput.FrontLemmas.{front_refused, front_told}
 use Rattle.commands.proofs.SpiralInput.LineLemmas.{line_is_front}
 use Rattle.commands.proofs.SpiralInput.Within.{told_within}
-use Rattle.commands.proofs.SpiralInput.OutcomeLemmas.{meets_answer, meets_unwritten, told_nothing, unread_meets}
-use Rattle.commands.proofs.StreamLemmas.{mapping_within, turns_below}
+use Rattle.commands.proofs.SpiralInput.OutcomeLemmas.{told_nothing, unread_meets}
+use Rattle.commands.proofs.StreamLemmas.{mapping_within}
 
 -- The line
 
@@ -123,16 +123,22 @@ listing_told : (m : ℕ) (formula : Formula) (room : ℕ) (before out out' : Opt
     → listing ≡ listing_of (program_for m formula) → Appends out out' listing
     → SourceMeets (compile_work m formula room) before before out out' Success
 listing_told m formula room before out out' listing is wrote =
-    unread_meets (compile_work m formula room) before out out' Success (λ bytes.
-    meets_answer _ bytes bytes out out' Success (λ e. cc) (λ e. cc) (listing, (refl, is), wrote))
+    unread_meets (compile_work m formula room) before out out' Success (λ bytes. record {
+      answer = λ d. (listing, (refl, is), wrote);
+      read_fault = λ e. absurd (cc);
+      write_fault = λ e. absurd (cc);
+    })
 
 -- a front of it is written
 listing_cut : (m : ℕ) (formula : Formula) (room : ℕ) (before out out' : Option (List ℕ)) (listing : List ℕ)
     → listing ≡ listing_of (program_for m formula) → AppendsPrefix out out' listing
     → SourceMeets (compile_work m formula room) before before out out' WriteFault
 listing_cut m formula room before out out' listing is wrote =
-    unread_meets (compile_work m formula room) before out out' WriteFault (λ bytes.
-    meets_unwritten _ bytes bytes out out' ([], [], listing, refl, (refl, is), wrote))
+    unread_meets (compile_work m formula room) before out out' WriteFault (λ bytes. record {
+      answer = λ d. absurd (d.write refl);
+      read_fault = λ e. absurd (cc);
+      write_fault = λ _. ([], [], listing, refl, (refl, is), wrote);
+    })
 
 pub compile_told : (m : ℕ) (before after out out' : Option (List ℕ)) (taken : ℕ) (read text listing : List ℕ)
     → Consumes before after read → taken ≡ length read → IsWhole (line 65536) read (IsOver after) text
@@ -166,6 +172,13 @@ formula_lines m formula own turns is there ts =
     λ x full below. is.product x turns (record { size = full; residues = λ i _. below_from_all m x some below i }) there in
     lines_equal (size_of formula) m f (formulas.apply m formula) same some (length ts / size_of formula) ts (div-mul-le_self (length ts) (size_of formula))
 
+-- the turns of the schedule are of the one processor
+formula_turns : (schedule : Plan) (procs : ℕ) → procs ≡ 1 → HasNoStranger schedule procs →
+    All (λ q. q < 1) (turns_of schedule procs)
+formula_turns schedule procs one none =
+    subst (λ p. All (λ q. q < 1) (turns_of schedule p)) (sym one)
+    (All-from_get_or (λ q. q < 1) (turns_of schedule 1) 0 (turns_there schedule 1 (omega arith) (subst (HasNoStranger schedule) one none)))
+
 pub apply_told : (m : ℕ) (schedule : Plan) (program : Program) (front : Vec ℕ Global)
     (before mid left out out' : Option (List ℕ)) (taken : ℕ) (read text : List ℕ) (status : Status)
     → Consumes before mid read → taken ≡ length read → IsWhole (line 65536) read (IsOver mid) text → length text ≤ 65536
@@ -187,6 +200,4 @@ apply_told m schedule program front before mid left out out' taken read text sta
     (told_within (mapping all (size_of formula) m Writes room) (apply_work m formula room) mid left out out' status
     (mapping_within (size_of formula) m Writes Wanted room (λ ts t written.
     written ∙ ap (λ l. l ++ texts (run_text false (plain_code own) turns) (vectors_of (size_of formula) m ts)) alone
-    ∙ formula_lines m formula own turns is
-    (turns_below schedule program.procs 1 is.header.procs (omega arith)
-    (subst (HasNoStranger schedule) is.header.procs none)) ts)) sized)
+    ∙ formula_lines m formula own turns is (formula_turns schedule program.procs is.header.procs none) ts)) sized)

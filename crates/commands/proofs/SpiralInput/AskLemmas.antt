@@ -37,47 +37,43 @@ request_fault_other (request.Shape size) = λ e. cc
 request_fault_other (request.LanesLine lanes line) = λ e. cc
 request_fault_other (request.NotUnit gcd) = λ e. cc
 
-take_short : (n most : ℕ) (xs : List ℕ) → n ≤ most → length (take n xs) ≤ most
-take_short zero most xs few = omega arith
-take_short (suc n) most [] few = omega arith
-take_short (suc n) most (x ∷ xs) few = let rest = take_short n n xs (omega arith) in omega (arith, rest, few)
-
 -- the line spells no request that can be served
 pub asked_request_fault : (spells : List ℕ → Stage Request) (names : List ℕ) (before after : Option (List ℕ))
-    (taken : ℕ) (read : List ℕ) (count : ℕ) (buffer : List ℕ) (fault : RequestFault)
-    → Consumes before after read → GivesLine read (IsOver after) taken buffer (Ok count) →
-    spells (take count buffer) (Err (status_of_request fault))
+    (taken : ℕ) (read text : List ℕ) (fault : RequestFault)
+    → Consumes before after read → IsWhole (line 256) read (IsOver after) text → length text ≤ 256 →
+    spells text (Err (status_of_request fault))
     → Asks (line 256) (λ text. spells text >>= turned names) before after taken (Err (status_of_request fault))
-asked_request_fault spells names before after taken read count buffer fault consumed given answer =
-    asks_refused (line 256) (λ text. spells text >>= turned names) before after taken read (take count buffer)
-    (status_of_request fault) consumed given.3 (take_short count 256 buffer given.1) (λ _. inl answer)
-    (request_fault_other fault)
+asked_request_fault spells names before after taken read text fault consumed whole short answer =
+    asks_refused (line 256) (λ text. spells text >>= turned names) before after taken read text (status_of_request fault) consumed whole short (λ _. inl answer) (request_fault_other fault)
 
 -- a turn is of a processor that is not there
 pub asked_turn_fault : (spells : List ℕ → Stage Request) (names : List ℕ) (before after : Option (List ℕ)) (taken : ℕ)
-    (read : List ℕ) (count : ℕ) (buffer : List ℕ) (wanted : Request) (q : ℕ)
-    → Consumes before after read → GivesLine read (IsOver after) taken buffer (Ok count) →
-    spells (take count buffer) (Ok wanted)
+    (read text : List ℕ) (wanted : Request) (q : ℕ)
+    → Consumes before after read → IsWhole (line 256) read (IsOver after) text → length text ≤ 256 →
+    spells text (Ok wanted)
     → first_stranger names wanted.procs ≡ Some q
     → Asks (line 256) (λ text. spells text >>= turned names) before after taken (Err (Turn q wanted.procs))
-asked_turn_fault spells names before after taken read count buffer wanted q consumed given answer found =
-    asks_refused (line 256) (λ text. spells text >>= turned names) before after taken read (take count buffer)
-    (Turn q wanted.procs) consumed given.3 (take_short count 256 buffer given.1)
+asked_turn_fault spells names before after taken read text wanted q consumed whole short answer found =
+    asks_refused (line 256) (λ text. spells text >>= turned names) before after taken read text (Turn q wanted.procs) consumed whole short
     (λ _. inr (record { value = wanted; before = answer; behind = sym (ap (λ o. admitted o wanted.procs wanted) found) })) (λ e. cc)
 
 -- the request
 pub asked_request : (spells : List ℕ → Stage Request) (names : List ℕ) (before after : Option (List ℕ)) (taken : ℕ)
-    (read : List ℕ) (count : ℕ) (buffer : List ℕ) (wanted : Request)
-    → Consumes before after read → GivesLine read (IsOver after) taken buffer (Ok count) →
-    spells (take count buffer) (Ok wanted)
+    (read text : List ℕ) (wanted : Request)
+    → Consumes before after read → taken ≡ length read → IsWhole (line 256) read (IsOver after) text →
+    length text ≤ 256 → spells text (Ok wanted)
     → first_stranger names wanted.procs ≡ None → Asks (line 256)
     (λ text. spells text >>= turned names) before after taken (Ok wanted)
-asked_request spells names before after taken read count buffer wanted consumed given answer none =
-    asks_value (line 256) (λ text. spells text >>= turned names) before after taken read (take count buffer) wanted
-    consumed given.0 given.3 (take_short count 256 buffer given.1)
+asked_request spells names before after taken read text wanted consumed count whole short answer none =
+    asks_value (line 256) (λ text. spells text >>= turned names) before after taken read text wanted consumed count whole short
     (record { value = wanted; before = answer; behind = sym (ap (λ o. admitted o wanted.procs wanted) none) })
 
 -- words ask for one command, so they tell whether the input is read to its end
 pub reads_same : (words : List (List ℕ)) (a b : Command) → IsAsked words a → IsAsked words b →
     reads_rest a ≡ reads_rest b
 reads_same words a b asked other = ap reads_rest (asked_once words a b asked other)
+
+pub take_short : (n : ℕ) (xs : List ℕ) → length (take n xs) ≤ n
+take_short zero xs = omega arith
+take_short (suc n) [] = omega arith
+take_short (suc n) (x ∷ xs) = let rest = take_short n xs in omega arith

@@ -14,9 +14,8 @@ use Rattle.data_stream.specs.Line.{line_of}
 use Rattle.data_stream.specs.Reading.{residues}
 use Rattle.data_stream.proofs.VectorLemmas.{residues_below}
 use Rattle.spiral_words.specs.SpiralStatus.Fault.{status_of_stream}
-use Rattle.commands.specs.SpiralInput.Outcomes.{Meets, Outcomes, SourceMeets}
-use Rattle.commands.specs.Equations.Works.{ReadsOn, Wants, all, mapping, status_by}
-use Rattle.commands.proofs.SpiralInput.OutcomeLemmas.{meets_answer, meets_unread, meets_unwritten}
+use Rattle.commands.specs.SpiralInput.Outcomes.{Meets, SourceMeets}
+use Rattle.commands.specs.Equations.Works.{all, mapping}
 use Rattle.commands.specs.SpiralInput.Fine.{IsFine}
 use Rattle.runs.specs.declared.stream.StreamFault.{StreamFault}
 use Rattle.runs.specs.declared.stream.StreamFault.TheVariants as stream
@@ -36,76 +35,86 @@ reads_vectors size modulus old new read ended vectors (Err stream.TooLong) s = (
 reads_vectors size modulus old new read ended vectors (Err stream.ReadFault) s = (tokens (closed_part read), s.2)
 reads_vectors size modulus old new read ended vectors (Err stream.WriteFault) s = (tokens read, s.3)
 
+-- the text is known by what the data call for
+stream_answer : (IsText : List (List ℕ) → List ℕ → Type 0) (size modulus room : ℕ) (bytes text : List ℕ)
+    (vectors : List (List ℕ)) (out out' : Option (List ℕ)) (result : Result (Unit {0}) StreamFault)
+    → IsText vectors text → data_answer size room bytes ≡ result → data_vectors size modulus room bytes ≡ vectors →
+    Appends out out' text
+    → (text : List ℕ) × (mapping all size modulus IsText room).answer bytes (status_of_stream result) text
+    × Appends out out' text
+stream_answer IsText size modulus room bytes text vectors out out' result told answer seen w =
+    (text, (ap status_of_stream (sym answer), subst (λ (v : List (List ℕ)). IsText v text) (sym seen) told), w)
+
 -- what was read within the limit
 pub fine_by : (old new : ℕ) (read : List ℕ) → new ≡ old + length read → new ≤ limit →
     list_all is_good (tokens read) ≡ true → IsFine (limit - old) read
 fine_by old new read count within good = record { few = omega (arith, count, within); good = good }
 
--- By each way in which it may end, with the bytes that are left. With these vectors the status is by how the data end
-module _ (wants : Wants) (IsText : List (List ℕ) → List ℕ → Type 0) (size modulus : ℕ) (front text : List ℕ)
-    (old new : Fed) (read left : List ℕ) (vectors : List (List ℕ)) (start out out' : Option (List ℕ))
-    (plain : (answer : Result (Unit {0}) StreamFault) → status_by wants size answer vectors ≡ status_of_stream answer)
-    (on : ReadsOn wants vectors) (told : IsText vectors (front ++ text)) (begun : Appends start out front) where
-  abbrev room : ℕ
-  room = limit - old.taken
+-- by each way in which it may end, with the bytes that are left
+module _ (IsText : List (List ℕ) → List ℕ → Type 0) (size modulus : ℕ) (front : List ℕ) (text : List ℕ → List ℕ)
+    (old new : Fed) (read left : List ℕ) (vectors : List (List ℕ)) (start out out' : Option (List ℕ)) where
+  abbrev whole : List ℕ
+  whole = front ++ texts text vectors
 
-  abbrev bytes : List ℕ
-  bytes = read ++ left
+  well : (result : Result (Unit {0}) StreamFault) → IsText vectors whole → Appends start out front
+      → Appends out out' (texts text vectors)
+      → data_answer size (limit - old.taken) (read ++ left) ≡ result
+      → data_vectors size modulus (limit - old.taken) (read ++ left) ≡ vectors
+      → (written : List ℕ) × (mapping all size modulus IsText (limit - old.taken)).answer (read ++ left)
+      (status_of_stream result) written × Appends start out' written
+  well result told begun wrote answer seen =
+      stream_answer IsText size modulus (limit - old.taken) (read ++ left) whole vectors start out' result told answer seen
+      (Appends-trans start out out' front (texts text vectors) begun wrote)
 
-  abbrev work : Outcomes
-  work = mapping wants size modulus IsText room
-
-  well : (result : Result (Unit {0}) StreamFault) → Appends out out' text
-      → data_answer size room bytes ≡ result → data_vectors size modulus room bytes ≡ vectors
-      → (written : List ℕ) × work.answer bytes (status_of_stream result) written × Appends start out' written
-  well result wrote answer seen = (
-    front ++ text,
-    (
-      sym (ap (status_by wants size (data_answer size room bytes)) seen
-          ∙ ap (λ r. status_by wants size r vectors) answer
-          ∙ plain result),
-      subst (λ (v : List (List ℕ)). IsText v (front ++ text)) (sym seen) told,
-    ),
-    Appends-trans start out out' front text begun wrote,
-  )
-
-  pub ended : (result : Result (Unit {0}) StreamFault) → Reads size modulus old new read (left ≡ []) vectors result
-      → Answers size modulus room bytes vectors result → Writes out out' result text
-      → (result ≢ Err stream.TooLong → new.taken ≤ limit)
-      → Meets work bytes left start out' (status_of_stream result)
-  ended (Ok u) s seen wrote ends =
-      meets_answer work bytes left start out' _ (λ e. cc) (λ e. cc) (well (Ok u) wrote seen.0 seen.1)
-  ended (Err (stream.Truncated have need)) s seen wrote ends =
-      meets_answer work bytes left start out' _ (λ e. cc) (λ e. cc)
-      (well (Err (stream.Truncated have need)) wrote seen.0 seen.1)
-  ended (Err (stream.BadNumber token)) s seen wrote ends =
-      meets_answer work bytes left start out' _ (λ e. cc) (λ e. cc)
-      (well (Err (stream.BadNumber token)) wrote seen.0 seen.1)
-  ended (Err stream.TooLong) s seen wrote ends =
-      meets_answer work bytes left start out' _ (λ e. cc) (λ e. cc) (well (Err stream.TooLong) wrote seen.0 seen.1)
-  ended (Err stream.ReadFault) s seen wrote ends = meets_unread work bytes left start out' (
-    read,
-    front ++ text,
-    refl,
-    (
-      fine_by old.taken new.taken read s.0 (ends (λ e. cc)) s.1,
-      subst (ReadsOn wants) (sym s.2) on,
-      subst (λ (v : List (List ℕ)). IsText v (front ++ text)) (sym s.2) told,
-    ),
-    Appends-trans start out out' front text begun wrote,
-  )
-  ended (Err stream.WriteFault) s seen wrote ends = meets_unwritten work bytes left start out' (
-    read,
-    [],
-    front ++ text,
-    refl,
-    (
-      fine_by old.taken new.taken read s.0 (ends (λ e. cc)) s.1,
-      s.2,
-      subst (λ (v : List (List ℕ)). IsText v (front ++ text)) (sym s.3) told,
-    ),
-    prefix_after start out out' front text begun wrote,
-  )
+  ended : (result : Result (Unit {0}) StreamFault) → Reads size modulus old new read (left ≡ []) vectors result
+      → Answers size modulus (limit - old.taken) (read ++ left) vectors result
+      → Writes out out' result (texts text vectors)
+      → IsText vectors whole → Appends start out front → (result ≢ Err stream.TooLong → new.taken ≤ limit)
+      → Meets (mapping all size modulus IsText (limit - old.taken))
+      (read ++ left) left start out' (status_of_stream result)
+  ended (Ok u) s seen wrote told begun ends = record {
+    answer = λ d. well (Ok u) told begun wrote seen.0 seen.1;
+    read_fault = λ e. absurd (cc);
+    write_fault = λ e. absurd (cc);
+  }
+  ended (Err (stream.Truncated have need)) s seen wrote told begun ends = record {
+    answer = λ d. well (Err (stream.Truncated have need)) told begun wrote seen.0 seen.1;
+    read_fault = λ e. absurd (cc);
+    write_fault = λ e. absurd (cc);
+  }
+  ended (Err (stream.BadNumber token)) s seen wrote told begun ends = record {
+    answer = λ d. well (Err (stream.BadNumber token)) told begun wrote seen.0 seen.1;
+    read_fault = λ e. absurd (cc);
+    write_fault = λ e. absurd (cc);
+  }
+  ended (Err stream.TooLong) s seen wrote told begun ends = record {
+    answer = λ d. well (Err stream.TooLong) told begun wrote seen.0 seen.1;
+    read_fault = λ e. absurd (cc);
+    write_fault = λ e. absurd (cc);
+  }
+  ended (Err stream.ReadFault) s seen wrote told begun ends = record {
+    answer = λ d. absurd (d.read refl);
+    read_fault = λ _. (
+      read,
+      whole,
+      refl,
+      (fine_by old.taken new.taken read s.0 (ends (λ e. cc)) s.1, tt, subst (λ (v : List (List ℕ)). IsText v whole) (sym s.2) told),
+      Appends-trans start out out' front (texts text vectors) begun wrote,
+    );
+    write_fault = λ e. absurd (cc);
+  }
+  ended (Err stream.WriteFault) s seen wrote told begun ends = record {
+    answer = λ d. absurd (d.write refl);
+    read_fault = λ e. absurd (cc);
+    write_fault = λ _. (
+      read,
+      [],
+      whole,
+      refl,
+      (fine_by old.taken new.taken read s.0 (ends (λ e. cc)) s.1, s.2, subst (λ (v : List (List ℕ)). IsText v whole) (sym s.3) told),
+      prefix_after start out out' front (texts text vectors) begun wrote,
+    );
+  }
 
 -- behind the front, the texts of whole vectors are texts of them
 pub streams_told : {S : Type 0} (IsText : List (List ℕ) → List ℕ → Type 0) (size modulus : ℕ) (front : List ℕ)
@@ -124,10 +133,9 @@ streams_told IsText size modulus front text leaves old new before after start ou
       let goes : IsOver after → rest ≡ [] = over_left after rest tells in
       let made = reads_vectors size modulus old new s.read (IsOver after) s.vectors result s.answer in
       let told : IsText s.vectors (front ++ texts text s.vectors) = subst (λ (v : List (List ℕ)). IsText v (front ++ texts text v)) made.1 (writes made.0) in
-      ended all IsText size modulus front (texts text s.vectors) old new s.read rest s.vectors start out out'
-      (λ answer. refl) tt told begun result
+      ended IsText size modulus front text old new s.read rest s.vectors start out out' result
       (reads_more size modulus old new s.read (IsOver after) (rest ≡ []) s.vectors result goes s.answer)
-      (s.answers within rest goes) s.wrote ends;
+      (s.answers within rest goes) s.wrote told begun ends;
 }
 
 -- programs that do the same to each vector write the same lines

@@ -2,8 +2,7 @@
 use Rattle.std.proofs.Common.{◌≡◌, ◌≢◌, ℕ, List, [], ◌++◌, refl, sym, ap, subst, ◌∙◌, append_assoc}
 use Rattle.std.proofs.KnownBytes.{Appends-nil, Consumes-nil}
 use Rattle.std.specs.declared.option.Option.{Option}
-use Rattle.std.specs.Io.KnownBytes.{Appends, Consumes}
-use Rattle.io_edge.specs.Taken.{AppendsPrefix}
+use Rattle.std.specs.Io.KnownBytes.{Consumes}
 use Rattle.io_edge.specs.Feed.{Fed, to_come}
 use Rattle.io_edge.proofs.ToldLemmas.{tells_held, consumes_held}
 use Rattle.spiral_words.specs.SpiralStatus.Status.{IsDefined}
@@ -11,33 +10,7 @@ use Rattle.spiral_words.specs.declared.spiral_status.status.Status.{Status}
 use Rattle.spiral_words.specs.declared.spiral_status.status.Status.TheVariants.{ReadFault, WriteFault, NoMemory}
 use Rattle.commands.specs.SpiralInput.Outcomes.{Outcomes, Meets, SourceMeets}
 
--- of a call that no failed read or write stopped
-pub meets_answer : (outcomes : Outcomes) (bytes left : List ℕ) (out out' : Option (List ℕ)) (status : Status)
-    → status ≢ ReadFault → status ≢ WriteFault
-    → (text : List ℕ) × outcomes.answer bytes status text × Appends out out' text
-    → Meets outcomes bytes left out out' status
-meets_answer outcomes bytes left out out' status read write right = record {
-  answer = λ d. right;
-  read_fault = λ e. absurd (read e);
-  write_fault = λ e. absurd (write e);
-}
-
--- of one that a failed read stopped
-pub meets_unread : (outcomes : Outcomes) (bytes left : List ℕ) (out out' : Option (List ℕ))
-    → (read text : List ℕ) × (bytes ≡ read ++ left) × outcomes.broken read (left ≡ []) text × Appends out out' text
-    → Meets outcomes bytes left out out' ReadFault
-meets_unread outcomes bytes left out out' right =
-    record { answer = λ d. absurd (d.read refl); read_fault = λ _. right; write_fault = λ e. absurd (cc) }
-
--- of one that a failed write stopped
-pub meets_unwritten : (outcomes : Outcomes) (bytes left : List ℕ) (out out' : Option (List ℕ))
-    → (read held text : List ℕ) × (bytes ≡ read ++ (held ++ left)) × outcomes.cut read (held ++ left) text
-    × AppendsPrefix out out' text
-    → Meets outcomes bytes left out out' WriteFault
-meets_unwritten outcomes bytes left out out' right =
-    record { answer = λ d. absurd (d.write refl); read_fault = λ e. absurd (cc); write_fault = λ _. right }
-
--- of one that ends before its output
+-- of a call that ends before its output
 pub meets_nothing : (outcomes : Outcomes) (bytes left : List ℕ) (out : Option (List ℕ)) (status : Status)
     → (IsDefined status → outcomes.answer bytes status []) → status ≢ ReadFault → status ≢ WriteFault →
     Meets outcomes bytes left out out status

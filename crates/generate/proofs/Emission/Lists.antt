@@ -1,5 +1,5 @@
 -- Lists of passes that are the same are the same nests, with factors in the last of them or with none.
-use Rattle.std.proofs.Common.{◌≡◌, ℕ, refl, sym, ap, ap₂, ◌∙◌, List, [], ◌∷◌, ◌++◌, length, subst, Option, None, Some}
+use Rattle.std.proofs.Common.{◌≡◌, ℕ, refl, sym, ap, ap₂, ◌∙◌, List, [], ◌∷◌, length, subst, Option, None, Some}
 use Rattle.std.specs.Prelude.{map}
 use Rattle.std.proofs.lemmas.Simd.{map-map}
 use Rattle.sigma_spl.specs.Lists.{on_last}

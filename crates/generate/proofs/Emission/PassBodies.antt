@@ -12,7 +12,6 @@ use Rattle.code_gen.specs.PassCode.Expressions.{expr_of}
 use Rattle.code_gen.specs.PassCode.Statements.{do_only, finish_body, followed_by, in_a_row, loads_body}
 use Rattle.code_gen.specs.PassCode.Statements.{multiplier_number, nest_body, nested, pass_body, place_at, powers_number}
 use Rattle.code_gen.specs.PassCode.Statements.{straight_body, term_body, tables_of_work, work_body}
-use Rattle.icode.specs.Plain as code
 use Rattle.icode.specs.Plain.{PlainBody, PlainStmt, AndStmts, Do, Load, Loop, MulConst, MulTable, NoStmts, Store, Tile}
 use Rattle.icode.specs.Plain.{Zero, body_of}
 use Rattle.kernel_gen.specs.Instructions.{op_of}

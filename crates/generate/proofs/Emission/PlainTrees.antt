@@ -1,9 +1,8 @@
 -- On one processor and one lane the program of a tree is its emission.
 use Rattle.std.proofs.Common.{◌≡◌, ℕ, ◌<◌, ◌==◌, ◌&&◌, true, if◌then◌else◌, refl, sym, ap, ap₂, ◌∙◌, arith, List, []}
-use Rattle.std.proofs.Common.{◌∷◌, ◌++◌, Option, None, Some}
+use Rattle.std.proofs.Common.{◌∷◌, ◌++◌, Option, None}
 use Rattle.std.specs.Prelude.{map}
 use Rattle.std.proofs.lemmas.List.{map-append, append-nil}
-use Rattle.std.proofs.lemmas.Simd.{map-map}
 use Rattle.loop_merge.specs.JoinedPasses.Joined.{joined}
 use Rattle.sigma_spl.specs.Lists.{on_last}
 use Rattle.matrix_meaning.specs.Convolving.{IsConvRequest}
@@ -20,7 +19,6 @@ use Rattle.sigma_lower.proofs.TreeLoops.Shaped.{IsShapedWork, shaped_passes, sha
 use Rattle.sigma_lower.proofs.TreeLoops.TreePasses.{layout_passes}
 use Rattle.sigma_lower.proofs.TreeLoops.Wholes.{plain_phases}
 use Rattle.sigma_spl.specs.Loops.{nest_of}
-use Rattle.perm_algebra.specs.Affine.{constant}
 use Rattle.sigma_spl.specs.Nest as sums
 use Rattle.sigma_spl.specs.Shared.Targets.{target_of}
 use Rattle.smp_rewrite.specs.LayoutSteps.Layout.{Layout, layout_of, layout_size}
@@ -32,7 +30,7 @@ use Rattle.generate.specs.ConvLetters.{conv_program}
 use Rattle.generate.specs.Emission.Passes.{Factors, Pass, entries, none, passes, values}
 use Rattle.generate.specs.Emission.Places.{same}
 use Rattle.generate.specs.Emission.Root.{root_phases}
-use Rattle.generate.specs.Emission.Whole.{closing_factors, conv_emission, emission, phases_of, whole_site}
+use Rattle.generate.specs.Emission.Whole.{conv_emission, emission, whole_site}
 use Rattle.generate.specs.Factors.{factors_of}
 use Rattle.generate.specs.Letters.{program_for}
 use Rattle.generate.proofs.ConvTrees.{inverse_tree, inverse_valid}
@@ -44,7 +42,7 @@ use Rattle.generate.proofs.Emission.Nested.{emitted, emitted_nest}
 use Rattle.generate.proofs.Emission.Nests.{IsLooped, IsNodeWork, maps-same, multiplying, nests, same-nest}
 use Rattle.generate.proofs.Emission.Lists.{AllPasses, closed-passes, factors-passes}
 use Rattle.generate.proofs.Emission.PassPrograms.{programs-by-passes}
-use Rattle.generate.proofs.Emission.PlainPlaces.{plain-closing, plain-joined-passes, plain-passes, plain-phases}
+use Rattle.generate.proofs.Emission.PlainPlaces.{plain-joined-passes, plain-passes}
 use Rattle.generate.proofs.Emission.PlainPlaces.{plain-whole}
 use Rattle.generate.proofs.Emission.PlainWorks.{looped-all}
 use Rattle.generate.proofs.Emission.Trees.{layouts_match}

@@ -1,18 +1,15 @@
 -- On several processors or lanes the program of a tree is its emission.
 use Rattle.std.proofs.Common.{◌≡◌, ℕ, ◌+◌, ◌*◌, ◌==◌, Bool, true, false, if◌then◌else◌, arith, refl, sym, ap, ap₂, ◌∙◌}
 use Rattle.std.proofs.Common.{List, [], ◌∷◌, ◌++◌, length, subst, Option, None, Some}
-use Rattle.std.specs.Prelude.{map, nat_le}
-use Rattle.std.proofs.lemmas.Bool.{eq-eqb}
+use Rattle.std.specs.Prelude.{map}
 use Rattle.std.proofs.lemmas.List.{length-map, map-append}
 use Rattle.std.proofs.lemmas.Simd.{map-map}
-use Rattle.code_gen.specs.PassCode.Program.{program_of}
 use Rattle.sigma_spl.specs.Lists.{on_last}
 use Rattle.matrix_meaning.specs.Parts.{forward_by, forward_of, inverted}
 use Rattle.matrix_meaning.specs.Valid.{IsValid}
 use Rattle.matrix_meaning.specs.declared.Kind.{Kind}
 use Rattle.matrix_meaning.specs.declared.Kind.TheVariants.{Dft, Wht, Idft}
 use Rattle.matrix_meaning.specs.declared.Request.{Request}
-use Rattle.perm_algebra.specs.Affine.{constant}
 use Rattle.sigma_lower.specs.Merged.{CanLower}
 use Rattle.sigma_lower.specs.TreeLoops.Merge.{PlainPass}
 use Rattle.sigma_lower.specs.TreeLoops.Nests.{loop_of}
@@ -36,13 +33,13 @@ use Rattle.operators.specs.TensorPaths.Path.{count_of}
 use Rattle.tree_model.proofs.PassLaws.{root_no_kernel}
 use Rattle.tree_model.specs.Breakdown.{Breakdown, leaf, node, size_of}
 use Rattle.tree_model.specs.Chosen.{IsWholeTree}
-use Rattle.tree_model.specs.Cost.{is_kernel, is_plain, node_root}
+use Rattle.tree_model.specs.Cost.{is_plain, node_root}
 use Rattle.tree_model.specs.Whole.{left_of, right_of}
 use Rattle.tree_model.specs.declared.tree.Rule.{Rule}
 use Rattle.tree_model.specs.declared.tree.Rule.TheVariants.{Gt, Ct, Split, Dim}
 use Rattle.generate.specs.Emission.Passes.{Factors, Pass, moved, passes}
 use Rattle.generate.specs.Emission.Root.{left_root, right_root, root_phases, strided, tiles_after, tiles_before}
-use Rattle.generate.specs.Emission.Whole.{closing_factors, emission, phases_of, whole_site}
+use Rattle.generate.specs.Emission.Whole.{emission, whole_site}
 use Rattle.generate.specs.Letters.{program_for}
 use Rattle.generate.proofs.Emission.Closed.{closed-phases, closing, emission-by, factors_by, firsts, plain-forward}
 use Rattle.generate.proofs.Emission.Layouts.{layout_emitted, passes_of_layout, tree_works}
@@ -51,8 +48,6 @@ use Rattle.generate.proofs.Emission.Lists.{AllPasses, closed-passes}
 use Rattle.generate.proofs.Emission.Matches.{ArePasses, IsAround}
 use Rattle.generate.proofs.Emission.Nested.{emitted, emitted_nest}
 use Rattle.generate.proofs.Emission.Nests.{IsNodeWork, multiplying, nests}
-use Rattle.generate.proofs.Emission.PassPrograms.{programs-by-passes}
-use Rattle.generate.proofs.Emission.PlainPlaces.{plain-closing, plain-phases}
 use Rattle.generate.proofs.Emission.Right.{ct_right, none-either, split_right}
 use Rattle.generate.proofs.Emission.Root.{left_around}
 use Rattle.generate.proofs.Emission.Trees.{layouts_match}

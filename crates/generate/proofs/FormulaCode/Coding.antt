@@ -11,8 +11,6 @@ use Rattle.generate.specs.FormulaPasses.Computes.{formula_merged}
 use Rattle.generate.proofs.FormulaPasses.Formulas.{formulas_are_ready}
 use Rattle.generate.proofs.FormulaPasses.Programs.{formulas_compute}
 use Rattle.icode.specs.Plain.{PlainProgram}
-use Rattle.icode.specs.Actions.{plain_code}
-use Rattle.icode.specs.Machine.{padded, results, words_at}
 use Rattle.generate.proofs.Performed.{any-turns}
 use Rattle.loop_merge.specs.JoinedCopies.Joined.{all_joined}
 use Rattle.loop_merge.proofs.JoinedCopies.Passes.{joined-order}

@@ -1,5 +1,5 @@
 -- The program of a formula is its code.
-use Rattle.std.proofs.Common.{ℕ, ◌^◌, ◌<◌, ◌≤◌, refl}
+use Rattle.std.proofs.Common.{ℕ, ◌^◌, ◌<◌, ◌≤◌}
 use Rattle.generate.specs.FormulaCode.Letters.{program_as_it_stands}
 use Rattle.generate.specs.FormulaPasses.Computes.{formula_merged}
 use Rattle.generate.specs.FormulaCode.Code.{IsCodeOf}

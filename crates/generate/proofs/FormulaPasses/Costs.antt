@@ -1,27 +1,26 @@
 -- The operations and loads of a formula's passes.
-use Rattle.std.proofs.Common.{◌≡◌, ℕ, zero, suc, ◌+◌, ◌-◌, ◌*◌, ◌/◌, ◌^◌, ◌<◌, ◌≤◌, Bool, true, false, List, [], ◌∷◌}
-use Rattle.std.proofs.Common.{length, map, sym, subst, ap, arith, Option, Some, None, if◌then◌else◌}
-use Rattle.std.specs.Prelude.{◌==◌, max, nat_le, nat_lt}
-use Rattle.std.proofs.Math.Nat.{mul-le-mul, mul-le-mul_left, mul-le-mul_right}
+use Rattle.std.proofs.Common.{◌≡◌, ℕ, zero, suc, ◌+◌, ◌-◌, ◌*◌, ◌/◌, ◌≤◌, Bool, true, false, List, [], ◌∷◌}
+use Rattle.std.proofs.Common.{length, map, sym, subst, ap, arith, if◌then◌else◌}
+use Rattle.std.specs.Prelude.{◌==◌, nat_le, nat_lt}
+use Rattle.std.proofs.Math.Nat.{mul-le-mul_left, mul-le-mul_right}
 use Rattle.sigma_lower.specs.Operations as formulas
 use Rattle.sigma_lower.specs.Terms.{halvings}
-use Rattle.tree_model.specs.KernelCosts.{AllowsRoot, kernel_cost, product_cost, products_cost}
+use Rattle.tree_model.specs.KernelCosts.{AllowsRoot, product_cost, products_cost}
 use Rattle.matrix_meaning.specs.declared.Kind.{Kind}
 use Rattle.matrix_meaning.specs.declared.Kind.TheVariants.{Dft, Wht, Idft}
 use Rattle.matrix_meaning.specs.Kind.{entry_of}
 use Rattle.operators.specs.Sum.{sum_below}
 use Rattle.sigma_spl.specs.Shared.Costs.{pass_cost, pass_loads, work_cost, work_loads}
 use Rattle.sigma_spl.specs.Counts.{copies_in, multiplier_cost}
-use Rattle.sigma_spl.specs.Nest.{PlainMultiplier, PlainNest, copies_of}
+use Rattle.sigma_spl.specs.Nest.{PlainNest, copies_of}
 use Rattle.sigma_spl.specs.Work.{PlainWork, kernel, rows, horner, tile, copy, work_size}
 use Rattle.sigma_spl.proofs.Counting.{items_of}
 use Rattle.sigma_spl.proofs.Walk.{chosen}
-use Rattle.tree_model.specs.Trees.{single, tensor}
 use Rattle.spl_ast.specs.Formula.{Formula, Identity, Fourier, Hadamard, Twiddles, Diagonal, Stride, Permutation}
 use Rattle.spl_ast.specs.Formula.{GoodThomasIn, GoodThomasOut, Product, TensorLeft, TensorRight, DirectSum, Pending}
 use Rattle.spl_ast.specs.Formula.{size_of, parts_of}
 use Rattle.spl_ast.specs.Shape.{IsShaped}
-use Rattle.tree_model.specs.Breakdown.{leaf, node}
+use Rattle.tree_model.specs.Breakdown.{leaf}
 use Rattle.generate.proofs.FormulaPasses.Made.{IsFormulaWork, AreMade}
 
 -- ---- kernels of leaves

@@ -14,7 +14,6 @@ use Rattle.sigma_spl.specs.Merge.{with_passes, merged, if_any, passes_within}
 use Rattle.sigma_spl.specs.Nest.{PlainFactors, spread, PlainMultiplier, PlainNest}
 use Rattle.sigma_spl.specs.Shared.Ready.{diagonal_tables, nests_tables, passes_tables, work_tables}
 use Rattle.sigma_spl.specs.Term.{PlainTerm, same, gath, scat, diag, nest, move, product, beside}
-use Rattle.sigma_spl.specs.Work.{PlainWork, rows, horner}
 use Rattle.sigma_spl.proofs.Walk.{chosen}
 use Rattle.operators.specs.TensorPaths.Path.{Path}
 

@@ -1,8 +1,7 @@
 -- The conditions can be met: a transform of size 2 modulo 5 by the root 3, which is none of its size, by Horner's rule.
-use Rattle.std.proofs.Common.{◌≡◌, ℕ, zero, suc, ◌+◌, ◌*◌, ◌-◌, ◌%◌, ◌^◌, ◌<◌, ◌≤◌, refl, arith, List, [], ◌∷◌, mod-lt}
+use Rattle.std.proofs.Common.{◌≡◌, ℕ, zero, suc, ◌+◌, ◌*◌, ◌-◌, ◌%◌, ◌<◌, ◌≤◌, refl, arith, List, [], ◌∷◌, mod-lt}
 use Rattle.std.proofs.Common.{All}
-use Rattle.std.specs.Prelude.{Some, true, false, map, ◌==◌, if◌then◌else◌}
-use Rattle.std.proofs.lemmas.Bool.Decides.{nat_tests}
+use Rattle.std.specs.Prelude.{Some, true, false, map}
 use Rattle.std.proofs.lemmas.List.Elements.{All-nil, All-cons}
 use Rattle.icode.specs.Limits.{is_expr_within}
 use Rattle.icode.specs.Plain.{NoStmts, AndStmts, Loop, Do, Load, Store, Zero, Add, MulConst, MulTable, Sum, NoParts}

@@ -14,7 +14,6 @@ use Rattle.sigma_lower.proofs.Lowers.{halvings-power, power-above, lowers}
 use Rattle.sigma_lower.proofs.Several.{term-several}
 use Rattle.kernel_gen.proofs.Residues.{power_below}
 use Rattle.generate.specs.FormulaPasses.Laws.{FormulasAreReady}
-use Rattle.generate.specs.FormulaPasses.Computes.{formula_merged}
 use Rattle.loop_merge.proofs.JoinedCopies.Passes.{joined_are_plain}
 use Rattle.loop_merge.proofs.PlainPasses.{plain_are_ready}
 use Rattle.loop_merge.specs.JoinedCopies.Joined.{all_joined}

@@ -1,41 +1,24 @@
 -- The programs of a formula's merged passes compute it, in its operations.
-use Rattle.std.proofs.Common.{◌≡◌, ℕ, suc, ◌+◌, ◌*◌, ◌<◌, List, [], ◌∷◌, ◌++◌, length, flat_map, refl, sym, ap, ap₂}
-use Rattle.std.proofs.Common.{◌∙◌, arith, All}
+use Rattle.std.proofs.Common.{◌≡◌, ℕ, List, [], ◌∷◌, refl, ap}
+use Rattle.std.proofs.Common.{◌∙◌, arith}
 use Rattle.std.specs.Prelude.{sum_by}
 use Rattle.std.proofs.lemmas.List.Sums.{sum_by-append, sum_by-cons}
 use Rattle.generate.proofs.Performed.{alone, performed-counts}
-use Rattle.std.proofs.lemmas.List.{length-map, append-nil}
-use Rattle.std.proofs.lemmas.List.Elements.{All-head, All-tail}
-use Rattle.icode.specs.CodeLaws.Lanes.{weighted_operations}
-use Rattle.icode.proofs.CodeLaws.ByLane.{weighted_is_by_lane}
+use Rattle.std.proofs.lemmas.List.{append-nil}
 use Rattle.sigma_lower.specs.Terms.{term_of}
 use Rattle.sigma_lower.proofs.Compiling.{formulas_compile}
 use Rattle.generate.specs.FormulaPasses.Computes.{FormulasCompute, formula_merged}
 use Rattle.generate.proofs.FormulaPasses.Formulas.{formulas_are_ready}
-use Rattle.icode.specs.Actions.{plain_code}
-use Rattle.icode.specs.Machine.{acts, counts_of, weighted, whole_counts}
-use Rattle.icode.specs.Plain.{PlainProgram}
-use Rattle.icode.specs.declared.action.Action.{Action}
-use Rattle.icode.specs.declared.program.Array.{Array}
-use Rattle.icode.specs.declared.program.Array.TheVariants.{X}
 use Rattle.loop_merge.specs.JoinedCopies.Joined.{all_joined}
 use Rattle.loop_merge.proofs.JoinedCopies.Passes.{joined_mean, joined_cost}
 use Rattle.loop_merge.proofs.PlainPasses.{plain_on}
-use Rattle.loop_nests.proofs.Shares.{runs_have_shares}
-use Rattle.sigma_spl.specs.Shared.Ready.{IsReady, IsReadyPass}
-use Rattle.code_gen.proofs.WholePrograms.PhaseParts.{parts_in_a_row}
-use Rattle.code_gen.proofs.WholePrograms.PartShares.{parts_share}
-use Rattle.kernel_gen.proofs.Pieces.{weighted-append}
 use Rattle.sigma_spl.specs.Shared.Costs.{pass_cost, work_cost}
 use Rattle.sigma_spl.specs.Shared.Machine.{plain_machine}
-use Rattle.code_gen.specs.PassCode.Contract.{AreParts, Performs, joined}
-use Rattle.sigma_spl.specs.Shared.Owners.{all_passes}
-use Rattle.code_gen.specs.PassCode.Program.{written_array}
 use Rattle.sigma_spl.specs.Counts.{passes_cost}
 use Rattle.sigma_spl.specs.Merge.{passes_of}
 use Rattle.sigma_spl.specs.Nest.{PlainNest}
 use Rattle.loop_merge.specs.PlainPasses.{in_order}
-use Rattle.spl_ast.specs.Formula.{Formula, size_of}
+use Rattle.spl_ast.specs.Formula.{size_of}
 
 -- passes count in order what they count from the last to the first
 cost-order : (weight m : ℕ) (ps : List (List PlainNest)) →

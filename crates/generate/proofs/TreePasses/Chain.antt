@@ -4,7 +4,6 @@ use Rattle.matrix_meaning.specs.Valid.{IsValid}
 use Rattle.matrix_meaning.specs.declared.Request.{Request}
 use Rattle.sigma_lower.proofs.TreeLayouts.{trees_can_lower}
 use Rattle.sigma_lower.specs.Merged.{sigma_of, tree_merged}
-use Rattle.sigma_lower.specs.TreeSigmas.{IsVecOfTree}
 use Rattle.sigma_lower.specs.TreeTerms.Good.{IsVecOf}
 use Rattle.sigma_spl.specs.Merged.{PlainMerged}
 use Rattle.sigma_spl.specs.Shared.Targets.{target_of}

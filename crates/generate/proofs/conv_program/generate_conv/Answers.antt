@@ -1,26 +1,17 @@
-use Rattle.std.proofs.Common.{◌≡◌, ℕ, ◌<◌, All, List, Ok, sym, ap, ap₂, ◌∙◌, subst}
-use Rattle.icode.specs.Program.{plain_program}
+use Rattle.std.proofs.Common.{◌≡◌, sym, ap, ap₂, ◌∙◌, subst}
 use Rattle.matrix_meaning.specs.declared.Request.{Request}
 use Rattle.matrix_meaning.specs.Valid.{IsValid}
 use Rattle.sigma_spl.specs.Shared.Ready.{IsReady}
 use Rattle.code_gen.specs.PassCode.Program.{program_of}
 use Rattle.sigma_spl.specs.Views.{plain_merged}
-use Rattle.tree_model.specs.Breakdown.{Breakdown, breakdown_of}
+use Rattle.tree_model.specs.Breakdown.{breakdown_of}
 use Rattle.tree_model.specs.Chosen.{IsWholeTree}
 use Rattle.sigma_spl.specs.Shared.Targets.{target_of}
 use Rattle.generate.specs.ConvLetters.{conv_merged}
-use Rattle.generate.specs.ConvPlanned.{IsConvPlanned}
 use Rattle.generate.specs.Factors.{factors_of}
 use Rattle.generate.proofs.ConvTrees.{inverse_tree, inverse_valid}
-use Rattle.icode.specs.Plain.{PlainProgram}
-use Rattle.loop_merge.specs.JoinedPasses.Joined.{joined}
-use Rattle.matrix_meaning.specs.Convolving.{IsConvRequest}
-use Rattle.matrix_meaning.specs.Parts.{inverted}
-use Rattle.sigma_lower.specs.Merged.{tree_merged}
-use Rattle.sigma_spl.specs.Merged.{PlainMerged}
 use Rattle.generate.specs.Convolver.{IsConvolver}
 use Rattle.generate.proofs.ConvGoodness.{can-convolve, joined-same, planned-valid}
-use Rattle.generate.specs.Emission.Whole.{conv_emission}
 use Rattle.generate.proofs.Emission.Programs.{conv_programs_are_emissions}
 use Rattle.generate.proofs.GoodPrograms.{conv_programs_convolve}
 use Rattle.generate.proofs.conv_program.generate_conv.Goals as goal
@@ -70,7 +61,7 @@ emit_joined-requires-clause-ready c =
     let t = breakdown_of c.args.plan.now.tree in
     let valid = planned-valid r t c.requires.request c.requires.plan in
     subst (λ (z : Request). IsReady (target_of z) (plain_merged c.in_ok-joined.joined)) (sym c.new-forward.ensures)
-    (subst (IsReady (target_of r)) (sym (joined-are c))
+    (subst (IsReady (target_of r)) (sym (joined-are (goal.at.emit_joined-requires-clause-ready c).In_ok-joined))
     (can-convolve r t c.args.h.now c.requires.request valid c.requires.plan.2.tree))
 
 -- the program is that of the rules of emission

@@ -1,7 +1,4 @@
-use Rattle.std.proofs.Common.{◌≡◌, ◌∙◌, arith, ap, subst, sym, ℕ}
-use Rattle.sigma_lower.specs.Merged.{tree_merged}
-use Rattle.sigma_spl.specs.Good.{IsVector}
-use Rattle.sigma_spl.specs.Sigma.{PlainSigma}
+use Rattle.std.proofs.Common.{◌∙◌, ap, subst, sym}
 use Rattle.sigma_spl.specs.Views.{plain_merged, plain_sigma}
 use Rattle.smp_rewrite.specs.Views.{plain_smp}
 use Rattle.tree_model.specs.Breakdown.{breakdown_of}
