@@ -1,5 +1,6 @@
 -- What `check` comes to behind the first line.
-use Rattle.std.proofs.Common.{◌≡◌, ◌<◌, ◌≤◌, ◌+◌, ℕ, List, [], ◌++◌, Err, length, refl, sym, ap, subst, ◌∙◌, arith, append-nil, length-append, inl, inr}
+use Rattle.std.proofs.Common.{◌≡◌, ◌<◌, ◌≤◌, ◌+◌, ℕ, List, [], ◌++◌, Err, length, refl, sym, ap, subst, ◌∙◌, arith}
+use Rattle.std.proofs.Common.{append-nil, length-append, inl, inr}
 use Rattle.std.proofs.KnownBytes.{Appends-nil}
 use Rattle.std.specs.declared.option.Option.{Option}
 use Rattle.std.specs.Io.KnownBytes.{Appends, Consumes}
@@ -65,7 +66,8 @@ unread_told request room before after out read rest_fault.ReadFault consumed giv
 }
 unread_told request room before after out read rest_fault.NoMemory consumed given = told_nothing (judges request room) before after out read consumed
 
-pub check_unread : (request : Request) (room : ℕ) (before after out : Option (List ℕ)) (read : List ℕ) (fault : RestFault)
+pub check_unread : (request : Request) (room : ℕ) (before after out : Option (List ℕ)) (read : List ℕ)
+    (fault : RestFault)
     → IsAdmitted request → Consumes before after read → GivesRest certificate_limit read (IsOver after) (Err fault)
     → SourceMeets (checking request room) before after out out (status_of_rest fault)
 check_unread request room before after out read fault there consumed given =
@@ -97,7 +99,8 @@ judged_meets request room bytes left out out' (verdict.Wrong size given found) f
   write_fault = λ e. absurd (cc);
 }
 
-judged_told : (request : Request) (room : ℕ) (before after out out' : Option (List ℕ)) (read text : List ℕ) (found : Verdict)
+judged_told : (request : Request) (room : ℕ) (before after out out' : Option (List ℕ)) (read text : List ℕ)
+    (found : Verdict)
     → Consumes before after read → text ≡ read → IsOver after → length read ≤ certificate_limit
     → IsVerdict request text found → Appends out out' (verdict_text found)
     → SourceMeets (judges request room) before after out out' (status_of_verdict found)
@@ -113,7 +116,8 @@ judged_told request room before after out out' read text found consumed same end
 }
 
 -- a rest that was judged
-pub check_judged : (request : Request) (room : ℕ) (before after out out' : Option (List ℕ)) (read text : List ℕ) (found : Verdict)
+pub check_judged : (request : Request) (room : ℕ) (before after out out' : Option (List ℕ)) (read text : List ℕ)
+    (found : Verdict)
     → IsAdmitted request → Consumes before after read → text ≡ read → IsOver after → length read ≤ certificate_limit
     → IsVerdict request text found → Appends out out' (verdict_text found)
     → SourceMeets (checking request room) before after out out' (status_of_verdict found)

@@ -1,5 +1,6 @@
 -- What the processors of a program execute together is within 64 bits.
-use Rattle.std.proofs.Common.{◌≡◌, ◌<◌, ◌≤◌, ◌+◌, ◌-◌, ◌*◌, ◌/◌, ◌^◌, ℕ, zero, suc, List, [], length, map, flat_map, refl, sym, ap, ◌∙◌, arith, add-zero, add_assoc, length-append, mul_comm}
+use Rattle.std.proofs.Common.{◌≡◌, ◌<◌, ◌≤◌, ◌+◌, ◌-◌, ◌*◌, ◌/◌, ◌^◌, ℕ, zero, suc, List, [], length, map, flat_map}
+use Rattle.std.proofs.Common.{refl, sym, ap, ◌∙◌, arith, add-zero, add_assoc, length-append, mul_comm}
 use Rattle.std.specs.Prelude.{slice_index_or}
 use Rattle.std.specs.List.{range_with_len}
 use Rattle.std.proofs.Math.Nat.{mul-div_cancel_left, mul-le-mul_left}
@@ -28,7 +29,8 @@ sum_of_fewer n k f h =
     omega (arith, whole, sum_below-append k (n - k) f)
 
 -- a sum of so many terms that fits has room for each of them
-pub next_fits : (n k sum term : ℕ) (f : ℕ → ℕ) → k < n → sum ≡ sum_below k f → term ≡ f k → sum_below n f < 2 ^ 64 → sum + term < 2 ^ 64
+pub next_fits : (n k sum term : ℕ) (f : ℕ → ℕ) → k < n → sum ≡ sum_below k f → term ≡ f k → sum_below n f < 2 ^ 64 →
+    sum + term < 2 ^ 64
 next_fits n k sum term f low s e fits =
     let one : sum_below (suc k) f ≡ sum_below k f + f k = refl in
     omega (arith, s, e, one, fits, sum_of_fewer n (suc k) f (omega (arith, low)))
@@ -48,7 +50,8 @@ pub whole-of : (p whole : ℕ) (f : ℕ → ℕ) → 0 < p → ((q : ℕ) → q 
 whole-of p whole f some each = sym (mul-div_cancel_left (sum_below p f) some) ∙ ap (λ n. n / p) (shares-sum p whole f p each) ∙ mul-div_cancel_left whole some
 
 -- a list that is joined of parts is as long as all parts
-parts_length : {X : Type 0} (g : ℕ → List X) (n first : ℕ) → length (flat_map g (range_with_len first n)) ≡ sum_below n (λ k. length (g (first + k)))
+parts_length : {X : Type 0} (g : ℕ → List X) (n first : ℕ) →
+    length (flat_map g (range_with_len first n)) ≡ sum_below n (λ k. length (g (first + k)))
 parts_length g zero first = refl
 parts_length g (suc n) first =
     let f : ℕ → ℕ = λ k. length (g (first + k)) in
@@ -60,7 +63,8 @@ parts_length g (suc n) first =
 
 module _ (p : PlainProgram) where
   -- an action for each step
-  acts_length : (phase q : ℕ) → phase < length p.phases → q < p.procs → length (acts (plain_code p) phase q) ≡ length (steps_of_phase p phase q)
+  acts_length : (phase q : ℕ) → phase < length p.phases → q < p.procs →
+      length (acts (plain_code p) phase q) ≡ length (steps_of_phase p phase q)
   acts_length phase q there here =
       let lists : PlainBody → List (List Action) = λ b. map (λ q. actions_of (steps_of_body p b [] q)) (range_with_len 0 p.procs) in
       let body = slice_index_or p.phases phase NoStmts in
@@ -69,7 +73,8 @@ module _ (p : PlainProgram) where
       ∙ length-map (steps_of_body p body [] q) (λ (s : Step). s.action)
 
   -- the actions of all processors are as many as their steps
-  all_actions : sum_below p.procs (λ q. length (flat_map (λ phase. acts (plain_code p) phase q) (range_with_len 0 (length (plain_code p).lists))))
+  all_actions : sum_below p.procs (λ q. length (flat_map (λ phase. acts (plain_code p) phase q)
+      (range_with_len 0 (length (plain_code p).lists))))
       ≡ sum_below (length p.phases) (λ phase. sum_below p.procs (λ q. length (steps_of_phase p phase q)))
   all_actions =
       let phases : length (plain_code p).lists ≡ length p.phases = length-map p.phases _ in
@@ -81,7 +86,8 @@ module _ (p : PlainProgram) where
       ∙ sum_below-swap p.procs (length p.phases) (λ q phase. length (steps_of_phase p phase q))
 
   -- one of the counts, which is at most the lanes of all actions, over all processors
-  pub within_word : PlainFits p → p.lanes ≤ 16 → (pick : Counts → ℕ) → ((actions : List Action) → pick (counts_of p.lanes actions) ≤ length actions * p.lanes)
+  pub within_word : PlainFits p → p.lanes ≤ 16 → (pick : Counts → ℕ) →
+      ((actions : List Action) → pick (counts_of p.lanes actions) ≤ length actions * p.lanes)
       → sum_below p.procs (λ q. pick (whole_counts (plain_code p) q)) < 2 ^ 64
   within_word fits few pick most =
       let count : ℕ → ℕ = λ q. length (flat_map (λ phase. acts (plain_code p) phase q) (range_with_len 0 (length (plain_code p).lists))) in

@@ -43,7 +43,8 @@ pub document_of : (wanted : Document) (request : Request) (tree : Breakdown) (te
 document_of wanted request tree text planned told = (with_tree request tree, (refl, planned), told)
 
 pub formula_document : (request : Request) (tree : Breakdown) (text : List ℕ)
-    → IsPlanned request (Ok tree) → text ≡ spelling (formula_of request tree) ++ 10 ∷ [] → IsDocument document.Formula request text
+    → IsPlanned request (Ok tree) → text ≡ spelling (formula_of request tree) ++ 10 ∷ [] →
+    IsDocument document.Formula request text
 formula_document request tree text planned told = document_of document.Formula request tree text planned told
 
 -- of a context that is the request
@@ -77,7 +78,8 @@ document_meets wanted request room bytes left out out' text is wrote =
     })
 
 -- a text that is not written whole
-pub document_cut : (wanted : Document) (request : Request) (room : ℕ) (bytes : List ℕ) (out out' : Option (List ℕ)) (text : List ℕ)
+pub document_cut : (wanted : Document) (request : Request) (room : ℕ) (bytes : List ℕ) (out out' : Option (List ℕ))
+    (text : List ℕ)
     → IsDocument wanted request text → AppendsPrefix out out' text
     → Meets (staged (chosen request) (document_work wanted) room) bytes bytes out out' WriteFault
 document_cut wanted request room bytes out out' text is wrote =

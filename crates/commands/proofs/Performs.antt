@@ -28,7 +28,8 @@ same_within a = record { answer = λ bytes s t p. p; broken = λ read ended t p.
 
 -- with the tree that is chosen
 planned_within : (names : List ℕ) (work : Planned → Work)
-    → Within (by_front (line 256) (λ text. spelt text >>= turned names) (λ (request : Request). staged (chosen request) work))
+    → Within (by_front (line 256) (λ text. spelt text >>= turned names)
+    (λ (request : Request). staged (chosen request) work))
     (by_front (line 256) (planned names) work)
 planned_within names work = front_join (line 256) (λ text. spelt text >>= turned names) chosen work
 

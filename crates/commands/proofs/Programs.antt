@@ -28,23 +28,28 @@ good_code request code in_range made =
     let known = programs_are_good request made.0 in_range made.1 in
     record { tree = made.0; planned = made.1; good = known.0; lean = known.1; is = made.2 }
 
-pub code_made : (request : Request) (program : Program) → IsProgramFor request program → IsCodeFor request (code_of program)
+pub code_made : (request : Request) (program : Program) → IsProgramFor request program →
+    IsCodeFor request (code_of program)
 code_made request program made = (made.0, made.1, ap plain_code made.2)
 
 -- the program stands within its own limits
-pub program_fits : (request : Request) (program : Program) → IsInRange request → IsProgramFor request program → Fits program
+pub program_fits : (request : Request) (program : Program) → IsInRange request → IsProgramFor request program →
+    Fits program
 program_fits request program in_range made =
     subst PlainFits (sym made.2) (programs_are_good request made.0 in_range made.1).0.fits
 
 -- and has the numbers of its request
-pub program_size : (request : Request) (program : Program) → IsInRange request → IsProgramFor request program → program.size ≡ request.size
+pub program_size : (request : Request) (program : Program) → IsInRange request → IsProgramFor request program →
+    program.size ≡ request.size
 program_size request program in_range made =
     ap (λ (p : PlainProgram). p.size) made.2 ∙ (programs_are_good request made.0 in_range made.1).0.header.size
 
-pub program_modulus : (request : Request) (program : Program) → IsInRange request → IsProgramFor request program → program.modulus ≡ request.modulus
+pub program_modulus : (request : Request) (program : Program) → IsInRange request → IsProgramFor request program →
+    program.modulus ≡ request.modulus
 program_modulus request program in_range made =
     ap (λ (p : PlainProgram). p.modulus) made.2 ∙ (programs_are_good request made.0 in_range made.1).0.header.modulus
 
-pub program_procs : (request : Request) (program : Program) → IsInRange request → IsProgramFor request program → program.procs ≡ request.procs
+pub program_procs : (request : Request) (program : Program) → IsInRange request → IsProgramFor request program →
+    program.procs ≡ request.procs
 program_procs request program in_range made =
     ap (λ (p : PlainProgram). p.procs) made.2 ∙ (programs_are_good request made.0 in_range made.1).0.header.procs

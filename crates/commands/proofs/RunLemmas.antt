@@ -1,5 +1,6 @@
 -- A good program's runs for its request.
-use Rattle.std.proofs.Common.{◌≡◌, ◌≢◌, ◌<◌, ◌/◌, ℕ, true, false, Vec, Global, List, [], ◌++◌, None, Ok, Err, Result, length, map, refl, sym, ap, subst, ◌∙◌, arith}
+use Rattle.std.proofs.Common.{◌≡◌, ◌≢◌, ◌<◌, ◌/◌, ℕ, true, false, Vec, Global, List, [], ◌++◌, None, Ok, Err, Result}
+use Rattle.std.proofs.Common.{length, map, refl, sym, ap, subst, ◌∙◌, arith}
 use Rattle.std.proofs.Math.Nat.{div-mul-le_self}
 use Rattle.std.proofs.lemmas.List.Elements.{All-from_get_or}
 use Rattle.std.specs.List.{All}
@@ -62,21 +63,25 @@ good_procs : (request : Request) (code : Code) → IsGoodCode request code → c
 good_procs request code good = ap (λ (k : Code). k.procs) good.is ∙ good.good.header.procs
 
 -- the turns of a schedule are of these processors
-pub good_turns : (plan : Plan) (request : Request) (code : Code) → IsGoodCode request code → IsInRange request → HasNoStranger plan request.procs → All (λ q. q < request.procs) (turns_of plan code.procs)
+pub good_turns : (plan : Plan) (request : Request) (code : Code) → IsGoodCode request code → IsInRange request →
+    HasNoStranger plan request.procs → All (λ q. q < request.procs) (turns_of plan code.procs)
 good_turns plan request code good in_range none =
     subst (λ p. All (λ q. q < request.procs) (turns_of plan p)) (sym (good_procs request code good))
     (All-from_get_or (λ q. q < request.procs) (turns_of plan request.procs) 0 (turns_there plan request.procs (limits request in_range).procs none))
 
 -- where the request has no stranger, its program has none
-pub no_stranger : (names : List ℕ) (request : Request) (program : Program) → IsInRange request → IsProgramFor request program → first_stranger names request.procs ≡ None
+pub no_stranger : (names : List ℕ) (request : Request) (program : Program) → IsInRange request →
+    IsProgramFor request program → first_stranger names request.procs ≡ None
     → first_stranger names program.procs ≡ None
 no_stranger names request program in_range made none = subst (λ p. first_stranger names p ≡ None) (sym (program_procs request program in_range made)) none
 
 -- The lines of a run
 
 -- the machine's lines are those of the matrix
-good_lines : (request : Request) (code : Code) (turns : List ℕ) (vectors : List (List ℕ)) → IsGoodCode request code → 0 < request.modulus → All (λ q. q < request.procs) turns
-    → (ts : List (List ℕ)) × (vectors_of request.size request.modulus ts ≡ vectors) → lines (λ x. results code x turns) vectors ≡ lines (asked_of request) vectors
+good_lines : (request : Request) (code : Code) (turns : List ℕ) (vectors : List (List ℕ)) → IsGoodCode request code →
+    0 < request.modulus → All (λ q. q < request.procs) turns
+    → (ts : List (List ℕ)) × (vectors_of request.size request.modulus ts ≡ vectors) →
+    lines (λ x. results code x turns) vectors ≡ lines (asked_of request) vectors
 good_lines request code turns vectors good some there made =
     let apart = good.good.product in
     let f : List ℕ → List ℕ = λ x. results code x turns in
@@ -86,15 +91,18 @@ good_lines request code turns vectors good some there made =
     (lines_equal request.size request.modulus f (asked_of request) same some (length made.0 / request.size) made.0 (div-mul-le_self (length made.0) request.size))
 
 -- with store buffers a good program leaves what it leaves without
-good_memory : (request : Request) (code : Code) → IsGoodCode request code → (x : List ℕ) (events : List Event) → buffered_results code x events ≡ results code x []
+good_memory : (request : Request) (code : Code) → IsGoodCode request code → (x : List ℕ) (events : List Event) →
+    buffered_results code x events ≡ results code x []
 good_memory request code good x events =
     let own : Code = plain_code (emission request good.tree) in
     let is : IsCode own = code_is (emission request good.tree) in
     let same : buffered_results own x events ≡ results own x [] = ap (λ (m : List ℕ). words_at own.size m (padded own)) (memory_of_buffered own is good.good.apart x events ∙ sym (memory_of_runs own is good.good.apart x [])) in
     subst (λ (k : Code). buffered_results k x events ≡ results k x []) (sym good.is) same
 
-buffered_lines : (request : Request) (program : Program) (drains : List Event) (ts : List (List ℕ)) → IsInRange request → IsProgramFor request program
-    → texts (buffered_text false (code_of program) drains) (vectors_of request.size request.modulus ts) ≡ lines (asked_of request) (vectors_of request.size request.modulus ts)
+buffered_lines : (request : Request) (program : Program) (drains : List Event) (ts : List (List ℕ)) →
+    IsInRange request → IsProgramFor request program
+    → texts (buffered_text false (code_of program) drains) (vectors_of request.size request.modulus ts)
+    ≡ lines (asked_of request) (vectors_of request.size request.modulus ts)
 buffered_lines request program drains ts in_range made =
     let code : Code = code_of program in
     let good : IsGoodCode request code = good_code request code in_range (code_made request program made) in
@@ -102,9 +110,11 @@ buffered_lines request program drains ts in_range made =
     ∙ good_lines request code [] (vectors_of request.size request.modulus ts) good (limits request in_range).modulus (λ i d lt. absurd (omega arith)) (ts, refl)
 
 -- in any order they are those of the matrix
-order_lines : (way : Order) (request : Request) (program : Program) (ts : List (List ℕ)) → IsInRange request → IsProgramFor request program
+order_lines : (way : Order) (request : Request) (program : Program) (ts : List (List ℕ)) → IsInRange request →
+    IsProgramFor request program
     → first_stranger (procs_in way) request.procs ≡ None
-    → texts (order_text false way program.procs (code_of program)) (vectors_of request.size request.modulus ts) ≡ lines (asked_of request) (vectors_of request.size request.modulus ts)
+    → texts (order_text false way program.procs (code_of program)) (vectors_of request.size request.modulus ts)
+    ≡ lines (asked_of request) (vectors_of request.size request.modulus ts)
 order_lines (order.Turns schedule) request program ts in_range made none =
     let good : IsGoodCode request (code_of program) = good_code request (code_of program) in_range (code_made request program made) in
     good_lines request (code_of program) (turns_of schedule program.procs) (vectors_of request.size request.modulus ts) good (limits request in_range).modulus
@@ -115,15 +125,19 @@ order_lines (order.Mixed mix) request program ts in_range made none = buffered_l
 -- What a run comes to
 
 -- the program's data are those of its request
-sized : (request : Request) (program : Program) (IsText : List (List ℕ) → List ℕ → Type 0) (room : ℕ) (before after out out' : Option (List ℕ)) (status : Status)
-    → IsInRange request → IsProgramFor request program → SourceMeets (mapping all program.size program.modulus IsText room) before after out out' status
+sized : (request : Request) (program : Program) (IsText : List (List ℕ) → List ℕ → Type 0) (room : ℕ)
+    (before after out out' : Option (List ℕ)) (status : Status)
+    → IsInRange request → IsProgramFor request program → SourceMeets
+    (mapping all program.size program.modulus IsText room) before after out out' status
     → SourceMeets (mapping all request.size request.modulus IsText room) before after out out' status
 sized request program IsText room before after out out' status in_range made p =
     subst (λ n. SourceMeets (mapping all request.size n IsText room) before after out out' status) (program_modulus request program in_range made)
     (subst (λ n. SourceMeets (mapping all n program.modulus IsText room) before after out out' status) (program_size request program in_range made) p)
 
-pub run_told : (request : Request) (program : Program) (front : Vec ℕ Global) (way : Order) (room : ℕ) (before after out out' : Option (List ℕ)) (status : Status)
-    → IsInRange request → IsProgramFor request program → first_stranger (procs_in way) request.procs ≡ None → front.items ≡ []
+pub run_told : (request : Request) (program : Program) (front : Vec ℕ Global) (way : Order) (room : ℕ)
+    (before after out out' : Option (List ℕ)) (status : Status)
+    → IsInRange request → IsProgramFor request program → first_stranger (procs_in way) request.procs ≡ None →
+    front.items ≡ []
     → SourceMeets (stream_work (record { program = program; front = front; lines = false }) way room) before after out out' status
     → SourceMeets (work_for (command.Runs way) request room) before after out out' status
 run_told request program front way room before after out out' status in_range made none alone p =
@@ -136,7 +150,8 @@ run_told request program front way room before after out out' status in_range ma
     written ∙ ap (λ l. l ++ texts text (vectors_of request.size request.modulus ts)) alone ∙ order_lines way request program ts in_range made none))
     (sized request program Writes room before after out out' status in_range made p))
 
-pub trace_told : (request : Request) (program : Program) (front : Vec ℕ Global) (way : Order) (room : ℕ) (before after out out' : Option (List ℕ)) (status : Status)
+pub trace_told : (request : Request) (program : Program) (front : Vec ℕ Global) (way : Order) (room : ℕ)
+    (before after out out' : Option (List ℕ)) (status : Status)
     → IsInRange request → IsProgramFor request program → front.items ≡ listing_of (plain_program program)
     → SourceMeets (stream_work (record { program = program; front = front; lines = true }) way room) before after out out' status
     → SourceMeets (work_for (command.Traces way) request room) before after out out' status
@@ -160,7 +175,8 @@ abbrev passed : Result (Unit {0}) StreamFault
 passed = Ok tt
 
 -- a run that ends well reports no fault
-passes : (fault : StreamFault) (before now : ℕ) (status : Status) → Success ≢ status → Reports before now (passed ≡ Err fault)
+passes : (fault : StreamFault) (before now : ℕ) (status : Status) → Success ≢ status →
+    Reports before now (passed ≡ Err fault)
     → Reports before now (Success ≡ status)
 passes fault before now status other r =
     record { later = r.later; cause = λ e. absurd (other e); told = λ h. absurd (clash (r.told h)) }

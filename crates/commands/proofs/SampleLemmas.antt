@@ -1,5 +1,6 @@
 -- The vector of a seed, and what a run on it counts.
-use Rattle.std.proofs.Common.{◌≡◌, ◌<◌, ◌≤◌, ◌+◌, ◌-◌, ◌*◌, ◌%◌, ◌^◌, ℕ, zero, suc, List, [], ◌∷◌, ◌++◌, length, slice_index, All, refl, sym, ap, ap₂, subst, ◌∙◌, arith, mod-lt, mul-zero, zero-add}
+use Rattle.std.proofs.Common.{◌≡◌, ◌<◌, ◌≤◌, ◌+◌, ◌-◌, ◌*◌, ◌%◌, ◌^◌, ℕ, zero, suc, List, [], ◌∷◌, ◌++◌, length}
+use Rattle.std.proofs.Common.{slice_index, All, refl, sym, ap, ap₂, subst, ◌∙◌, arith, mod-lt, mul-zero, zero-add}
 use Rattle.std.proofs.lemmas.Nat.{mul-mod}
 use Rattle.std.proofs.lemmas.List.Elements.{All-map}
 use Rattle.std.proofs.lemmas.List.FromFn.{map-range_with_len_more}
@@ -12,7 +13,8 @@ use Rattle.matrix_meaning.specs.Valid.{IsInRange}
 use Rattle.tree_model.specs.Chosen.{whole_cost}
 use Rattle.icode.specs.declared.action.Action.{Action}
 use Rattle.icode.specs.declared.action.Counts.{Counts}
-use Rattle.icode.specs.Machine.{Code, State, IsCode, IsApart, results, runs, counts_of, counts_so_far, weighted, whole_counts}
+use Rattle.icode.specs.Machine.{Code, State, IsCode, IsApart, results, runs, counts_of, counts_so_far, weighted}
+use Rattle.icode.specs.Machine.{whole_counts}
 use Rattle.icode.specs.Actions.{plain_code}
 use Rattle.generate.specs.Emission.Whole.{emission}
 use Rattle.icode.proofs.Lists.{code_is}
@@ -40,14 +42,17 @@ state_more zero v = refl
 state_more (suc n) v = let on : suc n + 1 ≡ suc (n + 1) = omega arith in ap (λ k. state_after k v) on ∙ state_more n (next_state v)
 
 -- one datum more
-pub sample_more : (modulus seed n state next v : ℕ) (front : List ℕ) → front ≡ sample_vector modulus n seed → state ≡ state_after n seed → next ≡ next_state state → v ≡ next % modulus
+pub sample_more : (modulus seed n state next v : ℕ) (front : List ℕ) → front ≡ sample_vector modulus n seed →
+    state ≡ state_after n seed → next ≡ next_state state → v ≡ next % modulus
     → front ++ v ∷ [] ≡ sample_vector modulus (n + 1) seed
 sample_more modulus seed n state next v front p s e d =
     let datum : v ≡ state_after (n + 1) seed % modulus = d ∙ ap (λ k. k % modulus) (e ∙ ap next_state s ∙ sym (state_more n seed)) in
     ap₂ (λ l w. l ++ w ∷ []) p datum ∙ sym (map-range_with_len_more (λ i. state_after (i + 1) seed % modulus) 0 n n (zero-add n))
 
 -- one term more
-pub weight_more : (m n sum weight x v term total : ℕ) (y : List ℕ) → sum ≡ sum_below n (λ k. (k + 1) * slice_index y k) % m → weight ≡ (n + 1) % m → x ≡ slice_index y n → v ≡ x % m → term ≡ (weight * v) % m
+pub weight_more : (m n sum weight x v term total : ℕ) (y : List ℕ) →
+    sum ≡ sum_below n (λ k. (k + 1) * slice_index y k) % m → weight ≡ (n + 1) % m → x ≡ slice_index y n → v ≡ x % m →
+    term ≡ (weight * v) % m
     → total ≡ (sum + term) % m → total ≡ sum_below (n + 1) (λ k. (k + 1) * slice_index y k) % m
 weight_more m n sum weight x v term total y s w at d t all =
     let item : term ≡ ((n + 1) * slice_index y n) % m = t ∙ ap₂ (λ a b. (a * b) % m) w (d ∙ ap (λ k. k % m) at) ∙ sym (mul-mod (n + 1) (slice_index y n) m) in
@@ -57,14 +62,16 @@ pub sample_below : (modulus size seed : ℕ) → 0 < modulus → All (λ v. v < 
 sample_below modulus size seed some = All-map (λ v. v < modulus) (λ i. state_after (i + 1) seed % modulus) (range_with_len 0 size) (λ k d _. mod-lt _ some)
 
 -- and they are residues of a good program's machine
-pub sample_residues : (request : Request) (code : Code) (m n seed : ℕ) (xs : List ℕ) → IsGoodCode request code → IsInRange request → m ≡ code.modulus → xs ≡ sample_vector m n seed → All (λ v. v < code.modulus) xs
+pub sample_residues : (request : Request) (code : Code) (m n seed : ℕ) (xs : List ℕ) → IsGoodCode request code →
+    IsInRange request → m ≡ code.modulus → xs ≡ sample_vector m n seed → All (λ v. v < code.modulus) xs
 sample_residues request code m n seed xs good in_range same is =
     let of_request : code.modulus ≡ request.modulus = ap (λ (k : Code). k.modulus) good.is ∙ good.good.header.modulus in
     let some : 0 < code.modulus = omega (arith, of_request, (limits request in_range).modulus) in
     rw (is, same) (sample_below code.modulus n seed some)
 
 -- a finished run of a good program is counted in 64 bits
-pub good_counts : (request : Request) (code : Code) (state : State) (vector turns : List ℕ) → IsGoodCode request code → IsInRange request → state ≡ runs code vector turns → AreCountable code state
+pub good_counts : (request : Request) (code : Code) (state : State) (vector turns : List ℕ) → IsGoodCode request code →
+    IsInRange request → state ≡ runs code vector turns → AreCountable code state
 good_counts request code state vector turns good in_range ran =
     let p = emission request good.tree in
     let header = good.good.header in
@@ -84,18 +91,21 @@ good_counts request code state vector turns good in_range ran =
     }
 
 -- the vector of a seed is one of the request
-pub sample_is : (request : Request) (code : Code) (m n seed : ℕ) → IsGoodCode request code → m ≡ code.modulus → n ≡ code.size → sample_vector m n seed ≡ sample_vector request.modulus request.size seed
+pub sample_is : (request : Request) (code : Code) (m n seed : ℕ) → IsGoodCode request code → m ≡ code.modulus →
+    n ≡ code.size → sample_vector m n seed ≡ sample_vector request.modulus request.size seed
 sample_is request code m n seed good modulus size =
     ap₂ (λ k l. sample_vector k l seed) (modulus ∙ ap (λ (k : Code). k.modulus) good.is ∙ good.good.header.modulus) (size ∙ ap (λ (k : Code). k.size) good.is ∙ good.good.header.size)
 
-sample_fits : (request : Request) (seed : ℕ) → IsInRange request → IsVector request (sample_vector request.modulus request.size seed)
+sample_fits : (request : Request) (seed : ℕ) → IsInRange request →
+    IsVector request (sample_vector request.modulus request.size seed)
 sample_fits request seed in_range = record {
   size = length-list_below request.size (λ i. state_after (i + 1) seed % request.modulus);
   residues = sample_below request.modulus request.size seed (limits request in_range).modulus;
 }
 
 -- the operations of all, where a multiplication counts as several
-sum-weighted : (weight n : ℕ) (f : ℕ → Counts) → sum_below n (λ q. weighted weight (f q)) ≡ sum_below n (λ q. (f q).operations) + (weight - 1) * sum_below n (λ q. (f q).muls)
+sum-weighted : (weight n : ℕ) (f : ℕ → Counts) → sum_below n (λ q. weighted weight (f q))
+    ≡ sum_below n (λ q. (f q).operations) + (weight - 1) * sum_below n (λ q. (f q).muls)
 sum-weighted weight zero f = let none = mul-zero (weight - 1) in omega arith
 sum-weighted weight (suc n) f =
     ap (λ k. k + weighted weight (f n)) (sum-weighted weight n f)
@@ -105,7 +115,8 @@ sum-weighted weight (suc n) f =
     more-weighted more o m p n = omega arith
 
 -- all processors together have executed exactly what the chosen tree costs
-pub costs : (request : Request) (code after : Code) (vector turns : List ℕ) (state : State) (counts : Counts) → (good : IsGoodCode request code) → IsInRange request → after ≡ code → state ≡ runs code vector turns
+pub costs : (request : Request) (code after : Code) (vector turns : List ℕ) (state : State) (counts : Counts) →
+    (good : IsGoodCode request code) → IsInRange request → after ≡ code → state ≡ runs code vector turns
     → counts.operations ≡ sum_below after.procs (λ q. (counts_so_far after state q).operations)
     → counts.muls ≡ sum_below after.procs (λ q. (counts_so_far after state q).muls)
     → weighted request.weight counts ≡ whole_cost request good.tree
@@ -125,14 +136,17 @@ costs request code after vector turns state counts good in_range same ran operat
     ∙ whole-of (plain_code program).procs (whole_cost request good.tree) (λ q. weighted request.weight (whole_counts (plain_code program) q)) some share
 
 -- which is counted in 64 bits
-pub cost_fits : (request : Request) (code : Code) (n : ℕ) → (good : IsGoodCode request code) → IsInRange request → n ≡ whole_cost request good.tree → n < 2 ^ 64
+pub cost_fits : (request : Request) (code : Code) (n : ℕ) → (good : IsGoodCode request code) → IsInRange request →
+    n ≡ whole_cost request good.tree → n < 2 ^ 64
 cost_fits request code n good in_range is = let within = good.planned.2 in let high = (limits request in_range).budget in omega arith
 
 -- what the parts of a sample come to
-pub sampled : (request : Request) (code after : Code) (plan : Plan) (m n seed : ℕ) (vector y : List ℕ) (state : State) (sum : ℕ) (counts : Counts) (text : List ℕ)
+pub sampled : (request : Request) (code after : Code) (plan : Plan) (m n seed : ℕ) (vector y : List ℕ) (state : State)
+    (sum : ℕ) (counts : Counts) (text : List ℕ)
     → IsGoodCode request code → IsInRange request → HasNoStranger plan request.procs
     → after ≡ code → m ≡ code.modulus → n ≡ code.size → vector ≡ sample_vector m n seed
-    → y ≡ results code vector (turns_of plan code.procs) → state ≡ runs code vector (turns_of plan code.procs) → sum ≡ weighted_sum m y
+    → y ≡ results code vector (turns_of plan code.procs) → state ≡ runs code vector (turns_of plan code.procs) →
+    sum ≡ weighted_sum m y
     → counts.operations ≡ sum_below after.procs (λ q. (counts_so_far after state q).operations)
     → counts.muls ≡ sum_below after.procs (λ q. (counts_so_far after state q).muls)
     → counts.loads ≡ sum_below after.procs (λ q. (counts_so_far after state q).loads)

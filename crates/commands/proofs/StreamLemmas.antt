@@ -1,5 +1,6 @@
 -- What a run of a program over the data comes to.
-use Rattle.std.proofs.Common.{◌≡◌, ◌≢◌, ◌<◌, ◌≤◌, ◌-◌, ℕ, Bool, true, false, List, [], ◌++◌, None, Some, Err, Result, length, refl, sym, ap, subst, ◌∙◌, arith, append-nil, nat_lt, inl, take}
+use Rattle.std.proofs.Common.{◌≡◌, ◌≢◌, ◌<◌, ◌≤◌, ◌-◌, ℕ, Bool, true, false, List, [], ◌++◌, None, Some, Err, Result}
+use Rattle.std.proofs.Common.{length, refl, sym, ap, subst, ◌∙◌, arith, append-nil, nat_lt, inl, take}
 use Rattle.std.specs.declared.option.Option.{Option}
 use Rattle.std.specs.Io.KnownBytes.{Appends}
 use Rattle.buffer_machine.specs.Listed as listed
@@ -58,7 +59,8 @@ abbrev work_by : List ℕ → Code → (Code → List ℕ → List ℕ) → Work
 work_by front code text = mapping all code.size code.modulus (λ vectors t. t ≡ front ++ texts (text code) vectors)
 
 -- a stream of the program's code
-of_code : (front : List ℕ) (code : Code) (program : Program) (text : Code → List ℕ → List ℕ) (room : ℕ) (before after start out' : Option (List ℕ))
+of_code : (front : List ℕ) (code : Code) (program : Program) (text : Code → List ℕ → List ℕ) (room : ℕ)
+    (before after start out' : Option (List ℕ))
     (result : Result (Unit {0}) StreamFault)
     → code ≡ code_of program
     → SourceMeets (work_by front code text room) before after start out' (status_of_stream result)
@@ -66,28 +68,37 @@ of_code : (front : List ℕ) (code : Code) (program : Program) (text : Code → 
 of_code front code program text room before after start out' result same p =
     subst (λ (k : Code). SourceMeets (work_by front k text room) before after start out' (status_of_stream result)) same p
 
-pub turns_told : (made : Prepared) (schedule : Plan) (code : Code) (old new : Fed) (before after start out out' : Option (List ℕ)) (first last : State)
+pub turns_told : (made : Prepared) (schedule : Plan) (code : Code) (old new : Fed)
+    (before after start out out' : Option (List ℕ)) (first last : State)
     (result : Result (Unit {0}) StreamFault)
-    → code ≡ code_of made.program → Appends start out made.front.items → old.taken ≤ limit → (result ≢ Err stream.TooLong → new.taken ≤ limit)
-    → Streams (run_text made.lines code (turns_of schedule code.procs)) (λ x. runs code x (turns_of schedule code.procs)) code.size code.modulus
+    → code ≡ code_of made.program → Appends start out made.front.items → old.taken ≤ limit →
+    (result ≢ Err stream.TooLong → new.taken ≤ limit)
+    → Streams (run_text made.lines code (turns_of schedule code.procs))
+    (λ x. runs code x (turns_of schedule code.procs)) code.size code.modulus
     old new before after out out' first last result
-    → SourceMeets (stream_work made (order.Turns schedule) (limit - old.taken)) before after start out' (status_of_stream result)
+    → SourceMeets (stream_work made (order.Turns schedule) (limit - old.taken)) before after start out'
+    (status_of_stream result)
 turns_told made schedule code old new before after start out out' first last result same begun within ends s =
     of_code made.front.items code made.program (λ (k : Code). run_text made.lines k (turns_of schedule k.procs)) (limit - old.taken) before after start out' result same
     (streams_told (λ vectors t. t ≡ made.front.items ++ texts (run_text made.lines code (turns_of schedule code.procs)) vectors) code.size code.modulus made.front.items
     (run_text made.lines code (turns_of schedule code.procs)) (λ x. runs code x (turns_of schedule code.procs)) old new before after start out out' first last result
     (λ ts. refl) begun within ends s)
 
-events_text : (asked : Bool) (word : Events) (procs : ℕ) (code : Code) → buffered_text asked code (listed.events_of word procs) ≡ order_text asked (order_of word) procs code
+events_text : (asked : Bool) (word : Events) (procs : ℕ) (code : Code) →
+    buffered_text asked code (listed.events_of word procs) ≡ order_text asked (order_of word) procs code
 events_text asked (events.Turns schedule) procs code = refl
 events_text asked (events.Mixed mix) procs code = refl
 
-pub events_told : (made : Prepared) (word : Events) (code : Code) (old new : Fed) (before after start out out' : Option (List ℕ)) (first last : Buffered)
+pub events_told : (made : Prepared) (word : Events) (code : Code) (old new : Fed)
+    (before after start out out' : Option (List ℕ)) (first last : Buffered)
     (result : Result (Unit {0}) StreamFault)
-    → code ≡ code_of made.program → Appends start out made.front.items → old.taken ≤ limit → (result ≢ Err stream.TooLong → new.taken ≤ limit)
-    → Streams (buffered_text made.lines code (listed.events_of word code.procs)) (λ x. buffered_runs code x (listed.events_of word code.procs)) code.size code.modulus
+    → code ≡ code_of made.program → Appends start out made.front.items → old.taken ≤ limit →
+    (result ≢ Err stream.TooLong → new.taken ≤ limit)
+    → Streams (buffered_text made.lines code (listed.events_of word code.procs))
+    (λ x. buffered_runs code x (listed.events_of word code.procs)) code.size code.modulus
     old new before after out out' first last result
-    → SourceMeets (stream_work made (order_of word) (limit - old.taken)) before after start out' (status_of_stream result)
+    → SourceMeets (stream_work made (order_of word) (limit - old.taken)) before after start out'
+    (status_of_stream result)
 events_told made word code old new before after start out out' first last result same begun within ends s =
     let text : List ℕ → List ℕ = buffered_text made.lines code (listed.events_of word code.procs) in
     of_code made.front.items code made.program (λ (k : Code). order_text made.lines (order_of word) k.procs k) (limit - old.taken) before after start out' result same
@@ -98,7 +109,8 @@ events_told made word code old new before after start out out' first last result
 -- Other texts of the same vectors
 
 -- the vectors of data are whole vectors of some tokens
-vectors_made : (size modulus : ℕ) (over : Bool) (bad : Option ℕ) (seen : List ℕ) → (ts : List (List ℕ)) × (vectors_of size modulus ts ≡ vectors_seen size modulus over bad seen)
+vectors_made : (size modulus : ℕ) (over : Bool) (bad : Option ℕ) (seen : List ℕ) →
+    (ts : List (List ℕ)) × (vectors_of size modulus ts ≡ vectors_seen size modulus over bad seen)
 vectors_made size modulus over (Some token) seen = (good_front (tokens seen), refl)
 vectors_made size modulus true None seen = (tokens (closed_part seen), refl)
 vectors_made size modulus false None seen = (tokens seen, refl)

@@ -16,7 +16,8 @@ use Rattle.tree_model.specs.Chosen.{IsWholeChosen, whole_cost}
 use Rattle.generate.specs.ConvPlanned.{HasPrincipalRoot, IsConvPlanned, conv_cost}
 
 -- the power sums below k are 0, or there is a first one that is not
-first_bad_or_none : (m n w k : ℕ) → k ≤ n → ((j : ℕ) → 1 ≤ j → j < k → power_sum m n w j ≡ 0) ⊎ ((i : ℕ) × IsFirstBadPower m n w i)
+first_bad_or_none : (m n w k : ℕ) → k ≤ n → ((j : ℕ) → 1 ≤ j → j < k → power_sum m n w j ≡ 0)
+    ⊎ ((i : ℕ) × IsFirstBadPower m n w i)
 first_bad_or_none m n w zero within = inl (λ j low less. absurd (omega arith))
 first_bad_or_none m n w (suc k) within = elim (first_bad_or_none m n w k (omega arith)) [
   | inr found ↦ inr found
@@ -32,7 +33,8 @@ first_bad_or_none m n w (suc k) within = elim (first_bad_or_none m n w k (omega 
   ]
 ]
 
-within_budget_or_not : (r : Request) (t : Breakdown) → IsRooted r → HasPrincipalRoot r → IsWholeChosen r t → (answer : Result Breakdown ConvFault) × IsConvPlanned r answer
+within_budget_or_not : (r : Request) (t : Breakdown) → IsRooted r → HasPrincipalRoot r → IsWholeChosen r t →
+    (answer : Result Breakdown ConvFault) × IsConvPlanned r answer
 within_budget_or_not r t rooted principal chosen = elim (cases_lt r.budget (conv_cost r t)) [
   | inl over ↦ (Err (OverBudget (conv_cost r t) r.budget), (rooted, principal, (whole_cost r t, whole_is_least r t chosen, refl), refl, over))
   | inr within ↦ (Ok t, (rooted, principal, chosen, within))

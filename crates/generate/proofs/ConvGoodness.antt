@@ -1,14 +1,16 @@
 -- A program of a tree's joined passes is one for convolutions.
-use Rattle.std.proofs.Common.{◌≡◌, ℕ, ◌+◌, ◌*◌, ◌<◌, List, [], All, Ok, length, refl, ap, ap₂, ◌∙◌, arith, sym}
+use Rattle.std.proofs.Common.{◌≡◌, ℕ, ◌+◌, ◌*◌, ◌<◌, List, All, Ok, length, ap, ap₂, ◌∙◌, arith, mod-lt}
 use Rattle.std.proofs.lemmas.List.{length-map}
+use Rattle.std.proofs.lemmas.List.Elements.{All-map}
+use Rattle.std.specs.Prelude.{slice_index}
+use Rattle.std.specs.List.{range_with_len}
+use Rattle.matrix_meaning.specs.Convolution.{convolution_factor}
+use Rattle.matrix_meaning.specs.Kind.{transform}
+use Rattle.ring_mod.specs.Inverse.{inverse_mod}
 use Rattle.matrix_meaning.specs.Convolution.{IsPrincipal}
 use Rattle.matrix_meaning.specs.Convolving.{IsConvRequest}
 use Rattle.sigma_lower.specs.Merged.{tree_merged}
-use Rattle.icode.specs.Actions.{plain_code}
-use Rattle.icode.specs.Machine.{padded, results, words_at}
 use Rattle.icode.specs.Plain.{PlainProgram}
-use Rattle.icode.proofs.Lists.{code_is}
-use Rattle.icode.proofs.Runs.{memory_of_runs}
 use Rattle.matrix_meaning.specs.Parts.{inverted}
 use Rattle.matrix_meaning.proofs.Requests.{valid_by_powers}
 use Rattle.tree_model.proofs.InverseTraffic.{inverse_loads, whole-same}
@@ -21,7 +23,6 @@ use Rattle.matrix_meaning.specs.declared.Request.{Request}
 use Rattle.matrix_meaning.specs.Valid.{IsValid}
 use Rattle.operators.proofs.Lists.{length-list_below}
 use Rattle.code_gen.specs.PassCode.Contract.{Performs}
-use Rattle.sigma_spl.specs.Good as passes
 use Rattle.sigma_spl.specs.Lists.{LastIs}
 use Rattle.sigma_spl.specs.Merged.{PlainMerged}
 use Rattle.sigma_spl.specs.Nest.{values}
@@ -38,9 +39,12 @@ use Rattle.generate.specs.Convolver.{IsConvolver}
 use Rattle.generate.specs.Factors.{factors_of}
 use Rattle.generate.specs.ConvLetters.{conv_merged}
 use Rattle.generate.specs.ConvPlanned.{IsConvPlanned}
-use Rattle.generate.proofs.ConvTrees.{conv_not_idft, inverse_cost, inverse_request, inverse_tree, inverse_valid}
+use Rattle.generate.proofs.ConvTrees.{conv_not_idft, conv_tree, inverse_cost, inverse_request, inverse_tree}
+use Rattle.generate.proofs.ConvTrees.{inverse_valid}
 use Rattle.generate.proofs.ConvMeaning.{joined-convolve}
-use Rattle.generate.proofs.Totals.{tree-totals}
+use Rattle.generate.proofs.Goodness.{header-of, items-of}
+use Rattle.generate.proofs.Performed.{any-turns}
+use Rattle.generate.proofs.Totals.{flat-loads, flat-number, tree-totals}
 
 -- a request that is planned is valid
 pub planned-valid : (r : Request) (t : Breakdown) → IsConvRequest r → IsConvPlanned r (Ok t) → IsValid r
@@ -55,6 +59,17 @@ joined-same r c d t ls ds f s g forward backward listed first second both =
     ∙ ap₂ (λ x y. joined x ds y) first second
     ∙ ap (λ fs. joined (tree_merged c t) fs (tree_merged d t)) listed
     ∙ ap₂ (λ z y. joined (tree_merged z t) (factors_of z ls) (tree_merged y t)) forward backward
+
+-- the diagonal of a convolution is of residues
+all-numbers : (P : ℕ → Type 0) → ((k : ℕ) → P k) → (ks : List ℕ) → All P ks
+all-numbers P each ks = λ i d low. each _
+
+factors-residues : (r : Request) (h : List ℕ) → 0 < r.modulus → All (λ d. d < r.modulus) (factors_of r h)
+factors-residues r h some =
+    All-map (λ d. d < r.modulus) (convolution_factor r.modulus r.size r.root h) (range_with_len 0 r.size)
+    (all-numbers _ (λ k. mod-lt
+    (inverse_mod r.modulus r.size * slice_index (transform Dft r.modulus r.size r.root h) k) some)
+    (range_with_len 0 r.size))
 
 module _ (r : Request) (t : Breakdown) (ls : List ℕ) (request : IsConvRequest r) (valid : IsValid r)
     (h : IsWholeTree r t) where
@@ -79,8 +94,8 @@ module _ (r : Request) (t : Breakdown) (ls : List ℕ) (request : IsConvRequest 
   free : LastIs IsFree (all_passes (tree_merged r t).phases)
   free = first.free (conv_not_idft r request)
 
-  can-join : All (λ d. d < r.modulus) ds → CanJoin (target_of r) (tree_merged r t) ds (tree_merged (inverted r) t)
-  can-join residues =
+  can-join : CanJoin (target_of r) (tree_merged r t) ds (tree_merged (inverted r) t)
+  can-join =
       let low = first.few in
       let low' = second.few in
       let few = first.tables in
@@ -94,42 +109,36 @@ module _ (r : Request) (t : Breakdown) (ls : List ℕ) (request : IsConvRequest 
         second = second.ready;
         free = free;
         size = length-list_below r.size _;
-        residues = residues;
+        residues = factors-residues r ls (let two = request.in_range.modulus.0 in omega (arith, two));
         actions = omega (arith, low, low', most);
         tables = omega (arith, few, few', more);
       }
 
-  pub can-convolve : All (λ d. d < r.modulus) ds → IsReady (target_of r) (conv_merged r t ds)
-  can-convolve residues =
-      joined_are_ready (tree_merged r t) (tree_merged (inverted r) t) ds (target_of r) (can-join residues)
+  pub can-convolve : IsReady (target_of r) (conv_merged r t ds)
+  can-convolve = joined_are_ready (tree_merged r t) (tree_merged (inverted r) t) ds (target_of r) can-join
 
-  module _ (p : PlainProgram) (residues : All (λ d. d < r.modulus) ds)
-      (performs : Performs (target_of r) (conv_merged r t ds) p) where
-    any-turns : (x turns : List ℕ) → results (plain_code p) x turns ≡ results (plain_code p) x []
-    any-turns x turns =
-        let first = memory_of_runs (plain_code p) (code_is p) performs.apart x turns in
-        let none = memory_of_runs (plain_code p) (code_is p) performs.apart x [] in
-        ap (λ memory. words_at p.size memory (padded (plain_code p))) (first ∙ sym none)
-
+  module _ (p : PlainProgram) (performs : Performs (target_of r) (conv_merged r t ds) p) where
     both : CountsBoth (target_of r) (tree_merged r t) (tree_merged (inverted r) t) p
     both =
         counts-both (target_of r) (tree_merged r t) (tree_merged (inverted r) t) ds request.procs first.ready
-        (can-convolve residues) free p performs
+        can-convolve free p performs
 
     pub is-convolver : IsPrincipal r.modulus r.size r.root → IsConvolver r t ls p
     is-convolver principal =
-        let whole = tree-totals r t request valid h in
-        let whole' = tree-totals (inverted r) t request' valid' h' in
+        let whole = tree-totals r t valid h in
+        let whole' = tree-totals (inverted r) t valid' h' in
+        let tree = conv_tree r request t h in
+        let tree' = conv_tree (inverted r) request' t h' in
         let weight = valid.in_range.weight.0 in
         record {
-          header = record { size = performs.size; modulus = performs.modulus; procs = performs.procs; line = performs.line; lanes = performs.lanes };
+          header = header-of r (conv_merged r t ds) p performs;
           limits = performs.limits;
           fits = performs.fits;
           phases = length-map _ _ ∙ performs.phases;
           apart = performs.apart;
           product = λ x turns vector _.
-              let items : passes.IsVector r.modulus r.size x = record { size = vector.size; residues = λ i low. vector.residues i 0 (let size = vector.size in omega (arith, low, size)) } in
-              any-turns x turns
+              let items = items-of r x vector in
+              any-turns (target_of r) (conv_merged r t ds) p performs x turns
               ∙ performs.results x items
               ∙ joined-convolve r t ls request valid h principal x items;
           operations =
@@ -139,10 +148,15 @@ module _ (r : Request) (t : Breakdown) (ls : List ℕ) (request : IsConvRequest 
               omega (arith, all, one, other);
           loads =
               let all = both.loads in
-              let one = whole.loads in
-              let other = whole'.loads ∙ inverse_loads r t in
+              let one = whole.loads ∙ flat-loads r request t tree in
+              let other = whole'.loads ∙ flat-loads (inverted r) request' t tree' ∙ inverse_loads r t in
               omega (arith, all, one, other);
-          stores = both.stores ∙ ap₂ (λ a b. r.size * (a + b)) whole.number (whole'.number ∙ ap length (whole-same r Dft (inverted r).root t)) ∙ twice r.size (length (whole_passes r t));
+          stores =
+              both.stores
+              ∙ ap₂ (λ a b. r.size * (a + b)) (whole.number ∙ flat-number r request t tree)
+              (whole'.number ∙ flat-number (inverted r) request' t tree'
+              ∙ ap length (whole-same r Dft (inverted r).root t))
+              ∙ twice r.size (length (whole_passes r t));
         }
       where
         twice : (n k : ℕ) → n * (k + k) ≡ 2 * (n * k)

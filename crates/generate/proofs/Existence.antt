@@ -40,7 +40,8 @@ decided_whole r = by r.dimensions
     by (Three a b c) = decided_shares r
     by (Four a b c d) = decided_shares r
 
-within_budget_or_not : (r : Request) (t : Breakdown) → IsRooted r → IsWholeChosen r t → (answer : Result Breakdown GenerateFault) × IsPlanned r answer
+within_budget_or_not : (r : Request) (t : Breakdown) → IsRooted r → IsWholeChosen r t →
+    (answer : Result Breakdown GenerateFault) × IsPlanned r answer
 within_budget_or_not r t rooted chosen = elim (cases_lt r.budget (whole_cost r t)) [
   | inl over ↦ (Err (OverBudget (whole_cost r t) r.budget), (rooted, whole_is_least r t chosen, refl, over))
   | inr within ↦ (Ok t, (rooted, chosen, within))

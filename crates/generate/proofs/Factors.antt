@@ -19,7 +19,8 @@ map-listed : (n : ℕ) (f g : ℕ → ℕ) → map f (list_below n g) ≡ list_b
 map-listed n f g = map-twice f g (range_with_len 0 n) ∙ list_below-same n _ _ (λ k low. ap f (sym (at-list_below n g k low)))
 
 -- the transform of a list, times the inverse of the size
-pub factors-are : (kind : Kind) (m n w inverse : ℕ) (ls ys zs : List ℕ) → kind ≡ Dft → ys ≡ transform kind m n w ls → inverse ≡ inverse_mod m n → zs ≡ map (product_mod m inverse) ys →
+pub factors-are : (kind : Kind) (m n w inverse : ℕ) (ls ys zs : List ℕ) → kind ≡ Dft → ys ≡ transform kind m n w ls →
+    inverse ≡ inverse_mod m n → zs ≡ map (product_mod m inverse) ys →
     zs ≡ list_below n (convolution_factor m n w ls)
 factors-are kind m n w inverse ls ys zs dft transformed inverts multiplied =
     multiplied

@@ -1,15 +1,7 @@
 -- The programs of requests and of convolutions are good.
-use Rattle.std.proofs.Common.{ℕ, ◌*◌, ◌<◌, List, All, arith, mod-lt, subst}
-use Rattle.std.proofs.lemmas.List.Elements.{All-map}
-use Rattle.std.specs.Prelude.{slice_index}
-use Rattle.std.specs.List.{range_with_len}
+use Rattle.std.proofs.Common.{subst}
 use Rattle.icode.specs.Limits.{IsWithinLimits}
-use Rattle.matrix_meaning.specs.Convolution.{convolution_factor}
-use Rattle.matrix_meaning.specs.declared.Kind.TheVariants.{Dft}
-use Rattle.matrix_meaning.specs.declared.Request.{Request}
-use Rattle.matrix_meaning.specs.Kind.{transform}
 use Rattle.matrix_meaning.proofs.Requests.{valid_by_powers}
-use Rattle.ring_mod.specs.Inverse.{inverse_mod}
 use Rattle.sigma_lower.specs.Merged.{tree_merged}
 use Rattle.sigma_spl.specs.Shared.Targets.{target_of}
 use Rattle.code_gen.proofs.WholePrograms.Performs.{programs_perform}
@@ -39,24 +31,11 @@ programs_are_good r t range planned =
       subst IsWithinLimits same performs.limits,
     )
 
--- the diagonal of a convolution is of residues
-all-numbers : (P : ℕ → Type 0) → ((k : ℕ) → P k) → (ks : List ℕ) → All P ks
-all-numbers P each ks = λ i d low. each _
-
-factors-residues : (r : Request) (h : List ℕ) → 0 < r.modulus → All (λ d. d < r.modulus) (factors_of r h)
-factors-residues r h some =
-    All-map (λ d. d < r.modulus) (convolution_factor r.modulus r.size r.root h) (range_with_len 0 r.size)
-    (all-numbers _ (λ k. mod-lt
-    (inverse_mod r.modulus r.size * slice_index (transform Dft r.modulus r.size r.root h) k) some)
-    (range_with_len 0 r.size))
-
 pub conv_programs_convolve : ConvProgramsConvolve
 conv_programs_convolve r t h request planned =
     let valid = planned-valid r t request planned in
-    let two = request.in_range.modulus.0 in
-    let residues = factors-residues r h (omega (arith, two)) in
-    let ready = can-convolve r t h request valid planned.2.tree residues in
+    let ready = can-convolve r t h request valid planned.2.tree in
     let g = conv_merged r t (factors_of r h) in
     subst (IsConvolver r t h) (conv_programs_are_emissions r t h request planned)
-    (is-convolver r t h request valid planned.2.tree (conv_program r t h) residues
+    (is-convolver r t h request valid planned.2.tree (conv_program r t h)
     (programs_perform (target_of r) g (ready_can_program (target_of r) g ready)) planned.1)

@@ -1,7 +1,6 @@
 pub mod FormulaCode
 pub mod FormulaPasses
 pub mod TreePasses
-pub mod Adding
 pub mod ConvCounts
 pub mod ConvExistence
 pub mod ConvGoodness
@@ -13,4 +12,5 @@ pub mod Factors
 pub mod Goodness
 pub mod GoodPrograms
 pub mod Parts
+pub mod Performed
 pub mod Totals

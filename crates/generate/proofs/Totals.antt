@@ -1,8 +1,8 @@
--- What the merged passes of a request for convolutions count together.
+-- What the merged passes of a tree count together.
 use Rattle.std.proofs.Common.{◌≡◌, ℕ, ◌+◌, List, [], ◌∷◌, length, map, refl, sym, ap, ◌∙◌}
-use Rattle.std.specs.Prelude.{sum_by}
+use Rattle.std.specs.Prelude.{sum, sum_by}
 use Rattle.std.proofs.lemmas.List.{length-map}
-use Rattle.std.proofs.lemmas.List.Sums.{sum_by-cons}
+use Rattle.std.proofs.lemmas.List.Sums.{sum-map, sum_by-cons}
 use Rattle.sigma_lower.specs.Merged.{tree_merged}
 use Rattle.matrix_meaning.specs.Convolving.{IsConvRequest}
 use Rattle.matrix_meaning.specs.declared.Kind.{Kind}
@@ -19,25 +19,37 @@ use Rattle.tree_model.specs.Passes.{Pass, loads_in, loads_of, whole_passes}
 use Rattle.tree_model.specs.Passes as trees
 use Rattle.tree_model.specs.Whole.{IsTreeOf}
 use Rattle.tree_model.specs.WholePasses.{pass_of, closed_by, cost_of_pass, flat_passes, loads_of_pass, request_passes}
+use Rattle.tree_model.specs.WholePasses.{whole_loads}
 use Rattle.tree_model.proofs.WholeCosts.{passes_do_the_cost}
 use Rattle.sigma_spl.specs.Trees.{CountsTree}
 use Rattle.generate.proofs.TreePasses.Merged.{trees_are_merged}
-use Rattle.generate.proofs.ConvTrees.{conv_tree}
+use Rattle.generate.proofs.Parts.{same-length}
 
 -- ---- what is listed alike has the same sum
 
-sum_list : List ℕ → ℕ
-sum_list [] = 0
-sum_list (x ∷ xs) = x + sum_list xs
-
-sum-listed : {A : Type 0} (f : A → ℕ) (xs : List A) → sum_by f xs ≡ sum_list (map f xs)
-unfolding sum_list
-sum-listed f [] = refl
-sum-listed f (x ∷ xs) = sum_by-cons f x xs ∙ ap (λ n. f x + n) (sum-listed f xs)
-
 sums-same : {A B : Type 0} (f : A → ℕ) (g : B → ℕ) (xs : List A) (ys : List B) → map f xs ≡ map g ys →
     sum_by f xs ≡ sum_by g ys
-sums-same f g xs ys h = sum-listed f xs ∙ ap sum_list h ∙ sym (sum-listed g ys)
+sums-same f g xs ys h = sym (sum-map f xs) ∙ ap sum h ∙ sum-map g ys
+
+-- the operations and loads of the cost model, and a pass for each of its passes
+pub record Totals (c : Request) (t : Breakdown) (ps : List (List PlainNest)) : Type 0 where
+  pub operations : sum_by (pass_cost c.weight c.modulus) ps ≡ whole_cost c t
+  pub loads : sum_by pass_loads ps ≡ whole_loads c t
+  pub number : length ps ≡ length (request_passes c t)
+
+pub tree-totals : (c : Request) (t : Breakdown) → IsValid c → IsWholeTree c t →
+    Totals c t (all_passes (tree_merged c t).phases)
+tree-totals c t valid h =
+    let ps = all_passes (tree_merged c t).phases in
+    let qs = request_passes c t in
+    let counts : CountsTree c t ps = (trees_are_merged c t valid h).counts in
+    record {
+      operations =
+          sums-same (pass_cost c.weight c.modulus) (cost_of_pass c.size) ps qs counts.costs
+          ∙ passes_do_the_cost c t valid h;
+      loads = sums-same pass_loads (loads_of_pass c.size) ps qs counts.loads;
+      number = same-length pass_loads (loads_of_pass c.size) ps qs counts.loads;
+    }
 
 -- ---- the passes of a tree of one size
 
@@ -60,33 +72,9 @@ module _ (c : Request) (request : IsConvRequest c) where
   passes-are (node Split a b) h = flat-are (node Split a b)
   passes-are (node Dim a b) h = absurd (h.2.0 request.dimensions)
 
--- ---- together
+  -- so many loads and passes
+  pub flat-loads : (t : Breakdown) → IsTreeOf c t → whole_loads c t ≡ loads_of c t
+  flat-loads t h = ap (sum_by (loads_of_pass c.size)) (passes-are t h) ∙ loads-listed c (whole_passes c t)
 
--- the operations and loads of the cost model, and a pass for each of its passes
-pub record Totals (c : Request) (t : Breakdown) (ps : List (List PlainNest)) : Type 0 where
-  pub operations : sum_by (pass_cost c.weight c.modulus) ps ≡ whole_cost c t
-  pub loads : sum_by pass_loads ps ≡ loads_of c t
-  pub number : length ps ≡ length (whole_passes c t)
-
-pub tree-totals : (c : Request) (t : Breakdown) → IsConvRequest c → IsValid c → IsWholeTree c t →
-    Totals c t (all_passes (tree_merged c t).phases)
-tree-totals c t request valid h =
-    let ps = all_passes (tree_merged c t).phases in
-    let qs = request_passes c t in
-    let counts : CountsTree c t ps = (trees_are_merged c t valid h).counts in
-    let flat : qs ≡ map (pass_of c) (whole_passes c t) = passes-are c request t (conv_tree c request t h) in
-    record {
-      operations =
-          sums-same (pass_cost c.weight c.modulus) (cost_of_pass c.size) ps qs counts.costs
-          ∙ passes_do_the_cost c t valid h;
-      loads =
-          sums-same pass_loads (loads_of_pass c.size) ps qs counts.loads
-          ∙ ap (sum_by (loads_of_pass c.size)) flat
-          ∙ loads-listed c (whole_passes c t);
-      number =
-          sym (length-map ps pass_loads)
-          ∙ ap length counts.loads
-          ∙ length-map qs (loads_of_pass c.size)
-          ∙ ap length flat
-          ∙ length-map (whole_passes c t) (pass_of c);
-    }
+  pub flat-number : (t : Breakdown) → IsTreeOf c t → length (request_passes c t) ≡ length (whole_passes c t)
+  flat-number t h = ap length (passes-are t h) ∙ length-map (whole_passes c t) (pass_of c)

@@ -1,5 +1,6 @@
 -- What `convolve` comes to.
-use Rattle.std.proofs.Common.{◌≡◌, ◌≢◌, ◌<◌, ◌≤◌, ◌+◌, ◌*◌, ◌-◌, ◌/◌, ℕ, zero, suc, Bool, true, false, ◌⊎◌, List, [], ◌∷◌, ◌++◌, Ok, Err, Result, length, drop, refl, sym, ap, subst, ◌∙◌, arith, inl, inr}
+use Rattle.std.proofs.Common.{◌≡◌, ◌≢◌, ◌<◌, ◌≤◌, ◌+◌, ◌*◌, ◌-◌, ◌/◌, ℕ, zero, suc, Bool, true, false, ◌⊎◌, List, []}
+use Rattle.std.proofs.Common.{◌∷◌, ◌++◌, Ok, Err, Result, length, drop, refl, sym, ap, subst, ◌∙◌, arith, inl, inr}
 use Rattle.std.proofs.KnownBytes.{Appends-nil}
 use Rattle.std.proofs.Math.Nat.{div-mul-le_self}
 use Rattle.std.proofs.lemmas.List.Elements.{All-from_get_or}
@@ -30,7 +31,8 @@ use Rattle.spiral_words.specs.SpiralStatus.Fault.{status_of_conv, status_of_faul
 use Rattle.spiral_words.specs.SpiralStatus.Status.{IsDefined}
 use Rattle.runs.specs.Progress.{HasCome, ReadsData, StreamsBehind, StreamsOn, lacking, HasNoVector}
 use Rattle.runs.specs.Texts.{run_text}
-use Rattle.runs.specs.Stream.{lines, group_vectors, vectors_of, data_answer, data_vectors, Answers, HasNoStranger, Writes}
+use Rattle.runs.specs.Stream.{lines, group_vectors, vectors_of, data_answer, data_vectors, Answers, HasNoStranger}
+use Rattle.runs.specs.Stream.{Writes}
 use Rattle.runs.specs.declared.stream.StreamFault.{StreamFault}
 use Rattle.runs.specs.declared.stream.StreamFault.TheVariants as stream
 use Rattle.runs.proofs.ProgressLemmas.{vectors_begin, come_unwritten}
@@ -57,7 +59,9 @@ closed_or_none source left closed tells (inr over) = inr (over_left source left 
 
 -- Refusals
 
-pub conv_refused : (request : Request) (fault : ConvFault) → (fault ≢ conv.NoMemory → IsConvPlanned request (Err fault)) → IsDefined (status_of_conv fault) → conv_chosen request (Err (status_of_conv fault))
+pub conv_refused : (request : Request) (fault : ConvFault) →
+    (fault ≢ conv.NoMemory → IsConvPlanned request (Err fault)) → IsDefined (status_of_conv fault) →
+    conv_chosen request (Err (status_of_conv fault))
 conv_refused request (conv.Root power) p d = (conv.Root power, p (λ e. cc), refl)
 conv_refused request (conv.NotPrincipal k) p d = (conv.NotPrincipal k, p (λ e. cc), refl)
 conv_refused request (conv.OverBudget cost budget) p d = (conv.OverBudget cost budget, p (λ e. cc), refl)
@@ -73,10 +77,12 @@ conv_refusal conv.NoMemory = record { success = λ e. cc; read = λ e. cc; write
 
 -- where no vector is there, a work that wants one lacks it
 pub record WantsList (wants : Wants) (size : ℕ) : Type 0 where
-  pub lacks : (answer : Result (Unit {0}) StreamFault) → status_by wants size answer [] ≡ status_of_fault (lacking size answer)
+  pub lacks : (answer : Result (Unit {0}) StreamFault) → status_by wants size answer []
+      ≡ status_of_fault (lacking size answer)
   pub on : ReadsOn wants []
 
-module _ (wants : Wants) (size modulus : ℕ) (list : WantsList wants size) (IsText : List ℕ → List (List ℕ) → List ℕ → Type 0) where
+module _ (wants : Wants) (size modulus : ℕ) (list : WantsList wants size)
+    (IsText : List ℕ → List (List ℕ) → List ℕ → Type 0) where
   abbrev work : ℕ → Outcomes
   work = mapping wants size modulus (by_first IsText)
 
@@ -136,7 +142,8 @@ module _ (wants : Wants) (size modulus : ℕ) (list : WantsList wants size) (IsT
   lacks old new before after rest out (Err stream.WriteFault) start ends other r seen = absurd (other refl)
 
   pub list_lacking : (old new : Fed) (before after out : Option (List ℕ)) (fault : StreamFault)
-      → old.taken ≤ limit → (fault ≢ stream.TooLong → new.taken ≤ limit) → HasNoVector size modulus old new before after fault
+      → old.taken ≤ limit → (fault ≢ stream.TooLong → new.taken ≤ limit) →
+      HasNoVector size modulus old new before after fault
       → SourceMeets (work (limit - old.taken)) before after out out (status_of_fault fault)
   list_lacking old new before after out fault start ends none =
       let r = none.2 in
@@ -150,14 +157,16 @@ module _ (wants : Wants) (size modulus : ℕ) (list : WantsList wants size) (IsT
       }
 
 list_told : (code : Bool) (plan : Planned) (old new : Fed) (before after out : Option (List ℕ)) (fault : StreamFault)
-    → old.taken ≤ limit → (fault ≢ stream.TooLong → new.taken ≤ limit) → HasNoVector plan.request.size plan.request.modulus old new before after fault
+    → old.taken ≤ limit → (fault ≢ stream.TooLong → new.taken ≤ limit) →
+    HasNoVector plan.request.size plan.request.modulus old new before after fault
     → SourceMeets (list_work code plan (limit - old.taken)) before after out out (status_of_fault fault)
 list_told false plan old new before after out fault start ends none =
     list_lacking a_first plan.request.size plan.request.modulus (record { lacks = λ answer. refl; on = tt }) _ old new before after out fault start ends none
 list_told true plan old new before after out fault start ends none =
     list_lacking the_first plan.request.size plan.request.modulus (record { lacks = λ answer. refl; on = refl }) _ old new before after out fault start ends none
 
-pub convolves_lacking : (code : Bool) (plan : Planned) (request : Request) (old new : Fed) (before after out : Option (List ℕ)) (fault : StreamFault)
+pub convolves_lacking : (code : Bool) (plan : Planned) (request : Request) (old new : Fed)
+    (before after out : Option (List ℕ)) (fault : StreamFault)
     → conv_chosen request (Ok plan) → old.taken ≤ limit → (fault ≢ stream.TooLong → new.taken ≤ limit)
     → HasNoVector plan.request.size plan.request.modulus old new before after fault
     → SourceMeets (work_by_list code request (limit - old.taken)) before after out out (status_of_fault fault)
@@ -168,7 +177,8 @@ convolves_lacking code plan request old new before after out fault chosen start 
 -- The listing
 
 -- all of it is written
-listing_told : (plan : Planned) (cut : Cut) (old new : Fed) (before after out out' : Option (List ℕ)) (h listing : List ℕ)
+listing_told : (plan : Planned) (cut : Cut) (old new : Fed) (before after out out' : Option (List ℕ))
+    (h listing : List ℕ)
     → cut.size ≡ plan.request.size → HasCome plan.request.modulus cut old new before after (h ∷ []) → old.taken ≤ limit
     → new.taken ≤ limit → (cut.ended ≡ true → IsOver after)
     → listing ≡ listing_of (conv_emission plan.request plan.tree h) → Appends out out' listing
@@ -196,7 +206,8 @@ listing_told plan cut old new before after out out' h listing size come start wi
       };
 }
 
-pub convolves_listing : (request : Request) (cut : Cut) (old new : Fed) (before after out out' : Option (List ℕ)) (h listing : List ℕ) (program : Program)
+pub convolves_listing : (request : Request) (cut : Cut) (old new : Fed) (before after out out' : Option (List ℕ))
+    (h listing : List ℕ) (program : Program)
     → cut.size ≡ request.size → HasCome request.modulus cut old new before after (h ∷ []) → old.taken ≤ limit
     → new.taken ≤ limit → (cut.ended ≡ true → IsOver after)
     → IsListProgram request h program → listing ≡ listing_of (plain_program program) → Appends out out' listing
@@ -206,7 +217,8 @@ convolves_listing request cut old new before after out out' h listing program si
     (listing_told (with_tree request made.tree) cut old new before after out out' h listing size come start within end (same ∙ ap listing_of made.letters) wrote)
 
 -- a front of it is written
-listing_cut : (plan : Planned) (cut : Cut) (old new : Fed) (before after out out' : Option (List ℕ)) (h listing : List ℕ)
+listing_cut : (plan : Planned) (cut : Cut) (old new : Fed) (before after out out' : Option (List ℕ))
+    (h listing : List ℕ)
     → cut.size ≡ plan.request.size → 0 < plan.request.size
     → HasCome plan.request.modulus cut old new before after (h ∷ []) → new.taken ≤ limit
     → (cut.ended ≡ true → IsOver after)
@@ -237,7 +249,8 @@ listing_cut plan cut old new before after out out' h listing size some come with
       };
     }
 
-pub convolves_cut : (request : Request) (cut : Cut) (old new : Fed) (before after out out' : Option (List ℕ)) (h listing : List ℕ) (program : Program)
+pub convolves_cut : (request : Request) (cut : Cut) (old new : Fed) (before after out out' : Option (List ℕ))
+    (h listing : List ℕ) (program : Program)
     → cut.size ≡ request.size → 0 < request.size → HasCome request.modulus cut old new before after (h ∷ [])
     → new.taken ≤ limit → (cut.ended ≡ true → IsOver after)
     → IsListProgram request h program → listing ≡ listing_of (plain_program program) → AppendsPrefix out out' listing
@@ -255,8 +268,10 @@ tail_same : (x y : List ℕ) (xs ys : List (List ℕ)) → x ∷ xs ≡ y ∷ ys
 tail_same x y xs ys e = cc
 
 -- what is the same on all whole vectors is so on the later ones
-later_lines : (size modulus : ℕ) (f g : List ℕ → List ℕ) → ((x : List ℕ) → length x ≡ size → All (λ v. v < modulus) x → f x ≡ g x) → 0 < modulus
-    → (count : ℕ) (ts : List (List ℕ)) (h : List ℕ) (later : List (List ℕ)) → count * size ≤ length ts → group_vectors size modulus count ts ≡ h ∷ later → lines f later ≡ lines g later
+later_lines : (size modulus : ℕ) (f g : List ℕ → List ℕ) → ((x : List ℕ) → length x ≡ size → All (λ v. v < modulus) x →
+    f x ≡ g x) → 0 < modulus
+    → (count : ℕ) (ts : List (List ℕ)) (h : List ℕ) (later : List (List ℕ)) → count * size ≤ length ts →
+    group_vectors size modulus count ts ≡ h ∷ later → lines f later ≡ lines g later
 later_lines size modulus f g same some zero ts h later fits e = absurd (cc)
 later_lines size modulus f g same some (suc count) ts h later fits e =
     let back : length (drop size ts) ≡ length ts - size = length-drop size ts in
@@ -264,8 +279,10 @@ later_lines size modulus f g same some (suc count) ts h later fits e =
     subst (λ vectors. lines f vectors ≡ lines g vectors) rest (lines_equal size modulus f g same some count (drop size ts) (omega arith))
 
 -- the machine's lines are those of the convolutions
-convolved_lines : (request : Request) (h : List ℕ) (program : Program) (code : Code) (turns : List ℕ) (later : List (List ℕ)) → IsListProgram request h program → code ≡ code_of program
-    → 0 < request.modulus → All (λ q. q < request.procs) turns → (ts : List (List ℕ)) × (vectors_of request.size request.modulus ts ≡ h ∷ later)
+convolved_lines : (request : Request) (h : List ℕ) (program : Program) (code : Code) (turns : List ℕ)
+    (later : List (List ℕ)) → IsListProgram request h program → code ≡ code_of program
+    → 0 < request.modulus → All (λ q. q < request.procs) turns →
+    (ts : List (List ℕ)) × (vectors_of request.size request.modulus ts ≡ h ∷ later)
     → lines (λ x. results code x turns) later ≡ conv_lines request h later
 convolved_lines request h program code turns later made same some there whole =
     let f : List ℕ → List ℕ = λ x. results code x turns in
@@ -282,8 +299,10 @@ module _ (request : Request) where
   convolving = mapping a_first request.size request.modulus IsLines
 
   -- where nothing failed
-  lines_answer : (room : ℕ) (bytes h : List ℕ) (later : List (List ℕ)) (result : Result (Unit {0}) StreamFault) (text : List ℕ) (out out' : Option (List ℕ))
-      → data_answer request.size room bytes ≡ result → data_vectors request.size request.modulus room bytes ≡ h ∷ later → text ≡ conv_lines request h later → Appends out out' text
+  lines_answer : (room : ℕ) (bytes h : List ℕ) (later : List (List ℕ)) (result : Result (Unit {0}) StreamFault)
+      (text : List ℕ) (out out' : Option (List ℕ))
+      → data_answer request.size room bytes ≡ result → data_vectors request.size request.modulus room bytes ≡ h
+      ∷ later → text ≡ conv_lines request h later → Appends out out' text
       → (written : List ℕ) × (convolving room).answer bytes (status_of_stream result) written × Appends out out' written
   lines_answer room bytes h later result text out out' a v same wrote = (
     text,
@@ -351,15 +370,19 @@ module _ (request : Request) where
   }
 
 -- the turns of the schedule are of the one processor
-conv_turns : (schedule : Plan) (request : Request) (procs : ℕ) → request.procs ≡ 1 → procs ≡ 1 → HasNoStranger schedule 1 → All (λ q. q < request.procs) (turns_of schedule procs)
+conv_turns : (schedule : Plan) (request : Request) (procs : ℕ) → request.procs ≡ 1 → procs ≡ 1 →
+    HasNoStranger schedule 1 → All (λ q. q < request.procs) (turns_of schedule procs)
 conv_turns schedule request procs own one none =
     subst (λ p. All (λ q. q < request.procs) (turns_of schedule p)) (sym one)
     (subst (λ n. All (λ q. q < n) (turns_of schedule 1)) (sym own) (All-from_get_or (λ q. q < 1) (turns_of schedule 1) 0 (turns_there schedule 1 (omega arith) none)))
 
-run_told : {S : Type 0} (schedule : Plan) (request : Request) (code : Code) (old new : Fed) (before after out out' : Option (List ℕ)) (h : List ℕ) (program : Program) (leaves : List ℕ → S) (first last : S)
+run_told : {S : Type 0} (schedule : Plan) (request : Request) (code : Code) (old new : Fed)
+    (before after out out' : Option (List ℕ)) (h : List ℕ) (program : Program) (leaves : List ℕ → S) (first last : S)
     (result : Result (Unit {0}) StreamFault)
-    → IsListProgram request h program → code ≡ code_of program → request.procs ≡ 1 → 0 < request.modulus → HasNoStranger schedule 1 → old.taken ≤ limit → (result ≢ Err stream.TooLong → new.taken ≤ limit)
-    → StreamsBehind (h ∷ []) (run_text false code (turns_of schedule code.procs)) leaves request.size request.modulus old new before after out out' first last result
+    → IsListProgram request h program → code ≡ code_of program → request.procs ≡ 1 → 0 < request.modulus →
+    HasNoStranger schedule 1 → old.taken ≤ limit → (result ≢ Err stream.TooLong → new.taken ≤ limit)
+    → StreamsBehind (h ∷ []) (run_text false code (turns_of schedule code.procs)) leaves request.size request.modulus
+    old new before after out out' first last result
     → SourceMeets (convolving request (limit - old.taken)) before after out out' (status_of_stream result)
 run_told schedule request code old new before after out out' h program leaves first last result made same own some none start ends s =
     let turns = turns_of schedule code.procs in
@@ -376,17 +399,24 @@ run_told schedule request code old new before after out out' h program leaves fi
     }
 
 -- the list has come, by what the machine's code says of the modulus
-pub list_come : (request : Request) (code : Code) (cut : Cut) (old now : Fed) (before mid : Option (List ℕ)) (h : List ℕ) (program : Program)
-    → IsListProgram request h program → code ≡ code_of program → HasCome request.modulus cut old now before mid (h ∷ []) → HasCome code.modulus cut old now before mid (h ∷ [])
+pub list_come : (request : Request) (code : Code) (cut : Cut) (old now : Fed) (before mid : Option (List ℕ))
+    (h : List ℕ) (program : Program)
+    → IsListProgram request h program → code ≡ code_of program →
+    HasCome request.modulus cut old now before mid (h ∷ []) → HasCome code.modulus cut old now before mid (h ∷ [])
 list_come request code cut old now before mid h program made same come =
     subst (λ m. HasCome m cut old now before mid (h ∷ [])) (sym (ap (λ (k : Code). k.modulus) same ∙ made.convolver.header.modulus)) come
 
 -- the machine runs behind the list
-pub convolves_run : {S : Type 0} (schedule : Plan) (request : Request) (code : Code) (cut : Cut) (old now new : Fed) (before mid after out out' : Option (List ℕ)) (h : List ℕ) (program : Program) (leaves : List ℕ → S) (first last : S)
+pub convolves_run : {S : Type 0} (schedule : Plan) (request : Request) (code : Code) (cut : Cut) (old now new : Fed)
+    (before mid after out out' : Option (List ℕ)) (h : List ℕ) (program : Program) (leaves : List ℕ → S)
+    (first last : S)
     (result : Result (Unit {0}) StreamFault)
-    → IsListProgram request h program → code ≡ code_of program → cut.size ≡ request.size → request.procs ≡ 1 → 0 < request.modulus → HasNoStranger schedule 1 → old.taken ≤ limit → (result ≢ Err stream.TooLong → new.taken ≤ limit)
+    → IsListProgram request h program → code ≡ code_of program → cut.size ≡ request.size → request.procs ≡ 1 →
+    0 < request.modulus → HasNoStranger schedule 1 → old.taken ≤ limit →
+    (result ≢ Err stream.TooLong → new.taken ≤ limit)
     → HasCome request.modulus cut old now before mid (h ∷ [])
-    → StreamsOn (run_text false code (turns_of schedule code.procs)) leaves code.modulus cut now new mid after out out' first last result
+    → StreamsOn (run_text false code (turns_of schedule code.procs)) leaves code.modulus cut now new mid after out out'
+    first last result
     → SourceMeets (work_by_list false request (limit - old.taken)) before after out out' (status_of_stream result)
 convolves_run schedule request code cut old now new before mid after out out' h program leaves first last result made same size own some none start ends come s =
     let text : List ℕ → List ℕ = run_text false code (turns_of schedule code.procs) in

@@ -46,7 +46,8 @@ turned_same : (o : Option ℕ) (procs : ℕ) (request own : Request) → Ok own 
 turned_same None procs request own e = cc
 turned_same (Some q) procs request own e = absurd (cc)
 
-conv_request : (line : List ℕ) (names : List ℕ) (own : Request) → (conv_spelt line >>= turned names) (Ok own) → IsConvRequest own
+conv_request : (line : List ℕ) (names : List ℕ) (own : Request) → (conv_spelt line >>= turned names) (Ok own) →
+    IsConvRequest own
 conv_request line names own p =
     subst IsConvRequest (sym (turned_same (first_stranger names p.value.procs) p.value.procs p.value own p.behind))
     (conv_in_range line p.value p.before.0 p.before.1)
@@ -59,7 +60,8 @@ planned_by names line (Ok own) h =
     let found = by_plan own plan.0 plan.1 in
     at found.0 found.1
   where
-    at : (r : Result Planned Status) → conv_chosen own r → (result : Result Planned Status) × conv_planned names line result
+    at : (r : Result Planned Status) → conv_chosen own r → (result : Result Planned Status)
+        × conv_planned names line result
     at (Ok plan) chosen = (Ok plan, record { value = own; before = h; behind = chosen })
     at (Err status) chosen = (Err status, inr (record { value = own; before = h; behind = chosen }))
 

@@ -1,5 +1,6 @@
 -- A line orders one plan for convolutions, or is refused with one status.
-use Rattle.std.proofs.Common.{◌≡◌, ◌<◌, ◌≤◌, ℕ, Bool, true, false, List, [], ◌∷◌, None, Some, Ok, Err, Result, nat_lt, refl, sym, ap, ap₂, ◌∙◌, arith}
+use Rattle.std.proofs.Common.{◌≡◌, ◌<◌, ◌≤◌, ℕ, Bool, true, false, List, [], ◌∷◌, None, Some, Ok, Err, Result, nat_lt}
+use Rattle.std.proofs.Common.{refl, sym, ap, ap₂, ◌∙◌, arith}
 use Rattle.std.proofs.lemmas.Grind.{common_steps}
 use Rattle.std.specs.declared.option.Option.{Option}
 use Rattle.matrix_meaning.specs.Convolution.{IsFirstBadPower}
@@ -55,7 +56,8 @@ power_clash o power p q = absurd (cc)
 power_once : (o : Option ℕ) (j k : ℕ) → o ≡ Some j → o ≡ Some k → j ≡ k
 power_once o j k p q = cc
 
-plan_clash : (r : Request) (t : Breakdown) (fault : ConvFault) → IsConvPlanned r (Ok t) → IsConvPlanned r (Err fault) → ⊥
+plan_clash : (r : Request) (t : Breakdown) (fault : ConvFault) → IsConvPlanned r (Ok t) → IsConvPlanned r (Err fault) →
+    ⊥
 plan_clash r t (conv.Root power) p q = power_clash (bad_power r) power p.0 q
 plan_clash r t (conv.NotPrincipal k) p q = q.1.bad (p.1 k q.1.from q.1.below)
 plan_clash r t (conv.OverBudget cost budget) p q =

@@ -1,5 +1,6 @@
 -- What `compile` and `apply` come to.
-use Rattle.std.proofs.Common.{◌≡◌, ◌<◌, ◌≤◌, ◌+◌, ◌-◌, ◌/◌, ℕ, false, List, [], ◌++◌, None, Some, Ok, Err, Vec, length, refl, sym, ap, subst, ◌∙◌, arith, inr}
+use Rattle.std.proofs.Common.{◌≡◌, ◌<◌, ◌≤◌, ◌+◌, ◌-◌, ◌/◌, ℕ, false, List, [], ◌++◌, None, Some, Ok, Err, Vec, length}
+use Rattle.std.proofs.Common.{refl, sym, ap, subst, ◌∙◌, arith, inr}
 use Rattle.std.proofs.Common.{Global}
 use Rattle.std.proofs.KnownBytes.{Consumes-kept}
 use Rattle.std.proofs.Math.Nat.{div-mul-le_self}
@@ -31,7 +32,8 @@ use Rattle.request_text.specs.Turns.{named, turns_of}
 use Rattle.par_machine.proofs.Schedules.{turns_there}
 use Rattle.spiral_words.specs.declared.Order.TheVariants as order
 use Rattle.spiral_words.specs.declared.spiral_status.status.Status.{Status}
-use Rattle.spiral_words.specs.declared.spiral_status.status.Status.TheVariants.{Success, Turn, ReadFault, WriteFault, TooLong}
+use Rattle.spiral_words.specs.declared.spiral_status.status.Status.TheVariants.{Success, Turn, ReadFault, WriteFault}
+use Rattle.spiral_words.specs.declared.spiral_status.status.Status.TheVariants.{TooLong}
 use Rattle.spiral_words.specs.SpiralStatus.Fault.{status_of_text}
 use Rattle.spiral_words.specs.SpiralStatus.Status.{IsDefined}
 use Rattle.runs.specs.Texts.{run_text}
@@ -49,7 +51,8 @@ use Rattle.commands.specs.SpiralInput.Outcomes.{Outcomes, SourceMeets}
 use Rattle.commands.specs.SpiralInput.Refusals.{IsRefusal}
 use Rattle.commands.specs.SpiralInput.Stage.{Stage}
 use Rattle.commands.proofs.SpiralInput.DataLemmas.{lines_equal}
-use Rattle.commands.proofs.SpiralInput.FrontLemmas.{asks_read_fault, asks_too_long, asks_refused, asks_value, front_refused, front_told}
+use Rattle.commands.proofs.SpiralInput.FrontLemmas.{asks_read_fault, asks_too_long, asks_refused, asks_value}
+use Rattle.commands.proofs.SpiralInput.FrontLemmas.{front_refused, front_told}
 use Rattle.commands.proofs.SpiralInput.LineLemmas.{line_is_front}
 use Rattle.commands.proofs.SpiralInput.Within.{told_within}
 use Rattle.commands.proofs.SpiralInput.OutcomeLemmas.{told_nothing, unread_meets}
@@ -69,10 +72,12 @@ text_failed text start before after old new feed.TooLong consumed taken short un
 -- The formula
 
 -- the schedule names a second processor
-pub unformed : (names text : List ℕ) (formula : Formula) (q : ℕ) → written text (Ok formula) → first_stranger names 1 ≡ Some q → formed names text (Err (Turn q 1))
+pub unformed : (names text : List ℕ) (formula : Formula) (q : ℕ) → written text (Ok formula) →
+    first_stranger names 1 ≡ Some q → formed names text (Err (Turn q 1))
 unformed names text formula q spelt found = inr (record { value = formula; before = spelt; behind = sym (ap (λ o. admitted o 1 formula) found) })
 
-pub forms : (names text : List ℕ) (formula : Formula) → written text (Ok formula) → first_stranger names 1 ≡ None → formed names text (Ok formula)
+pub forms : (names text : List ℕ) (formula : Formula) → written text (Ok formula) → first_stranger names 1 ≡ None →
+    formed names text (Ok formula)
 forms names text formula spelt none = record { value = formula; before = spelt; behind = sym (ap (λ o. admitted o 1 formula) none) }
 
 -- Without a formula
@@ -101,7 +106,8 @@ module _ (orders : List ℕ → Stage Formula) (work : Formula → Work) where
       (asks_refused (line 65536) orders before after taken read text status consumed whole short refused refusal.read) refusal.write
 
   -- it orders a formula, and behind it this is right for the formula's work
-  pub line_told : (before mid left out out' : Option (List ℕ)) (taken : ℕ) (read text : List ℕ) (formula : Formula) (status : Status)
+  pub line_told : (before mid left out out' : Option (List ℕ)) (taken : ℕ) (read text : List ℕ) (formula : Formula)
+      (status : Status)
       → Consumes before mid read → taken ≡ length read → IsWhole (line 65536) read (IsOver mid) text
       → length text ≤ 65536 → orders text (Ok formula)
       → SourceMeets (work formula (limit - taken)) mid left out out' status
@@ -155,8 +161,10 @@ compile_cut m before after out out' taken read text listing consumed count whole
 -- The formula's matrix times the vectors
 
 -- the machine's lines are those of the matrix
-formula_lines : (m : ℕ) (formula : Formula) (own : PlainProgram) (turns : List ℕ) → IsCodeOf m formula own → All (λ q. q < 1) turns
-    → (ts : List (List ℕ)) → lines (λ x. results (plain_code own) x turns) (vectors_of (size_of formula) m ts) ≡ lines (formulas.apply m formula) (vectors_of (size_of formula) m ts)
+formula_lines : (m : ℕ) (formula : Formula) (own : PlainProgram) (turns : List ℕ) → IsCodeOf m formula own →
+    All (λ q. q < 1) turns
+    → (ts : List (List ℕ)) → lines (λ x. results (plain_code own) x turns) (vectors_of (size_of formula) m ts)
+    ≡ lines (formulas.apply m formula) (vectors_of (size_of formula) m ts)
 formula_lines m formula own turns is there ts =
     let some : 0 < m = omega (arith, is.limits.header.of_modulus.0, is.header.modulus) in
     let f : List ℕ → List ℕ = λ x. results (plain_code own) x turns in
@@ -165,12 +173,14 @@ formula_lines m formula own turns is there ts =
     lines_equal (size_of formula) m f (formulas.apply m formula) same some (length ts / size_of formula) ts (div-mul-le_self (length ts) (size_of formula))
 
 -- the turns of the schedule are of the one processor
-formula_turns : (schedule : Plan) (procs : ℕ) → procs ≡ 1 → HasNoStranger schedule procs → All (λ q. q < 1) (turns_of schedule procs)
+formula_turns : (schedule : Plan) (procs : ℕ) → procs ≡ 1 → HasNoStranger schedule procs →
+    All (λ q. q < 1) (turns_of schedule procs)
 formula_turns schedule procs one none =
     subst (λ p. All (λ q. q < 1) (turns_of schedule p)) (sym one)
     (All-from_get_or (λ q. q < 1) (turns_of schedule 1) 0 (turns_there schedule 1 (omega arith) (subst (HasNoStranger schedule) one none)))
 
-pub apply_told : (m : ℕ) (schedule : Plan) (program : Program) (front : Vec ℕ Global) (before mid left out out' : Option (List ℕ)) (taken : ℕ) (read text : List ℕ) (status : Status)
+pub apply_told : (m : ℕ) (schedule : Plan) (program : Program) (front : Vec ℕ Global)
+    (before mid left out out' : Option (List ℕ)) (taken : ℕ) (read text : List ℕ) (status : Status)
     → Consumes before mid read → taken ≡ length read → IsWhole (line 65536) read (IsOver mid) text → length text ≤ 65536
     → IsFormedProgram m (named schedule) text program → HasNoStranger schedule program.procs → front.items ≡ []
     → SourceMeets (stream_work (record { program = program; front = front; lines = false }) (order.Turns schedule) (limit - taken)) mid left out out' status

@@ -54,7 +54,8 @@ shape_seconds a first second b other last e = cc
 place_same : (text : List ℕ) (a b left other : ℕ) → IsLeft text a left → IsLeft text b other → left ≡ other → a ≡ b
 place_same text a b left other p q e = omega (arith, p.within, q.within, p.left_is, q.left_is, e)
 
-fault_once : (text : List ℕ) (f g : SplFault) → f ≢ spl.NoMemory → g ≢ spl.NoMemory → IsFirst text (Err f) → IsFirst text (Err g) → f ≡ g
+fault_once : (text : List ℕ) (f g : SplFault) → f ≢ spl.NoMemory → g ≢ spl.NoMemory → IsFirst text (Err f) →
+    IsFirst text (Err g) → f ≡ g
 fault_once text (spl.Syntax a) (spl.Syntax b) m n p q = ap spl.Syntax (place_same text a b p.0 q.0 p.1 q.1 (lost_same p.0 q.0 (sym p.2 ∙ q.2)))
 fault_once text (spl.Syntax a) (spl.TooDeep b) m n p q = absurd (lost_fault p.0 (TooDeep q.0) (sym p.2 ∙ q.2))
 fault_once text (spl.Syntax a) (spl.Shape b first second) m n p q = absurd (lost_fault p.0 (Shape q.0 first second) (sym p.2 ∙ q.2))
@@ -74,7 +75,8 @@ fault_once text (spl.Shape a first second) (spl.Shape b other last) m n p q =
 fault_once text spl.NoMemory g m n p q = absurd (m refl)
 fault_once text f spl.NoMemory m n p q = absurd (n refl)
 
-formula_or_fault : (text : List ℕ) (a : Formula) (fault : SplFault) → fault ≢ spl.NoMemory → IsFirst text (Ok a) → IsFirst text (Err fault) → ⊥
+formula_or_fault : (text : List ℕ) (a : Formula) (fault : SplFault) → fault ≢ spl.NoMemory → IsFirst text (Ok a) →
+    IsFirst text (Err fault) → ⊥
 formula_or_fault text a (spl.Syntax at) m p q = whole_stopped a (Lost q.0) (sym p ∙ q.2)
 formula_or_fault text a (spl.TooDeep at) m p q = whole_stopped a (Fault (TooDeep q.0)) (sym p ∙ q.2)
 formula_or_fault text a (spl.Shape at first second) m p q = whole_stopped a (Fault (Shape q.0 first second)) (sym p ∙ q.2)

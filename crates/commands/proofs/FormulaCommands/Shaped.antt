@@ -1,5 +1,7 @@
 -- A formula that a line spells has fitting shapes, and no more parts than the line has bytes.
-use Rattle.std.proofs.Common.{◌≡◌, ℕ, zero, suc, ◌+◌, ◌*◌, ◌<◌, ◌≤◌, Bool, true, false, not, ◌&&◌, nat_lt, eqb, ltb, List, [], ◌∷◌, All, length, Option, Some, None, Result, Ok, Err, refl, sym, ap, subst, arith}
+use Rattle.std.proofs.Common.{◌≡◌, ℕ, zero, suc, ◌+◌, ◌*◌, ◌<◌, ◌≤◌, Bool, true, false, not, ◌&&◌, nat_lt, eqb, ltb}
+use Rattle.std.proofs.Common.{List, [], ◌∷◌, All, length, Option, Some, None, Result, Ok, Err, refl, sym, ap, subst}
+use Rattle.std.proofs.Common.{arith}
 use Rattle.std.specs.Int.{is_power_of_two}
 use Rattle.std.specs.Option.{option_map}
 use Rattle.std.proofs.Math.Nat.{mul-le-mul}
@@ -9,12 +11,17 @@ use Rattle.grammar.specs.Reading.{Place, start, ended, placed, pure_at, one_of_a
 use Rattle.grammar.specs.Reading.{or_else as reading_else}
 use Rattle.grammar.specs.Stops.{Stop, and_go_on, passed, spelling_only, tested_at}
 use Rattle.tree_model.proofs.PowerOfTwo.{power_of_two}
-use Rattle.spl_ast.specs.Formula.{Formula, Identity, Fourier, Hadamard, Twiddles, Diagonal, Stride, Permutation, GoodThomasIn, GoodThomasOut, Product, TensorLeft, TensorRight, DirectSum, Pending, parts_of, size_of}
+use Rattle.spl_ast.specs.Formula.{Formula, Identity, Fourier, Hadamard, Twiddles, Diagonal, Stride, Permutation}
+use Rattle.spl_ast.specs.Formula.{GoodThomasIn, GoodThomasOut, Product, TensorLeft, TensorRight, DirectSum, Pending}
+use Rattle.spl_ast.specs.Formula.{parts_of, size_of}
 use Rattle.spl_ast.specs.Shape.{IsShaped, IsSize, IsRingValue, AreGoodThomasFactors}
 use Rattle.spl_ast.proofs.Vectors.{size_is_size}
-use Rattle.spl_text.specs.Arguments.{factor_at, comma_at, close_at, one_size_at, two_sizes_at, size_value_at, sizes_value_at, values_at}
-use Rattle.spl_text.specs.Fault.{TextFault, Shape, are_coprime, first_stray, misfit, or_else, refusal, refused_if, shape_fault, share_factor}
-use Rattle.spl_text.specs.Reading.{heads, plain, made_at, arguments_by, two_formulas_by, tensor_left_by, tensor_right_by, too_deep, formula_at, line_at, ended_formula, all_of, whole_line}
+use Rattle.spl_text.specs.Arguments.{factor_at, comma_at, close_at, one_size_at, two_sizes_at, size_value_at}
+use Rattle.spl_text.specs.Arguments.{sizes_value_at, values_at}
+use Rattle.spl_text.specs.Fault.{TextFault, Shape, are_coprime, first_stray, misfit, or_else, refusal, refused_if}
+use Rattle.spl_text.specs.Fault.{shape_fault, share_factor}
+use Rattle.spl_text.specs.Reading.{heads, plain, made_at, arguments_by, two_formulas_by, tensor_left_by}
+use Rattle.spl_text.specs.Reading.{tensor_right_by, too_deep, formula_at, line_at, ended_formula, all_of, whole_line}
 use Rattle.spl_text.specs.Spelling.{spells, spells_line, AreSomeValues, AreValues, HasSpelling, IsFactor}
 use Rattle.spl_text.proofs.Coprime.{gcd_from_shared, multiple}
 use Rattle.spl_text.proofs.Lengths.{few_parts}
@@ -159,7 +166,8 @@ sum_ready a b p q h e = (p h.0, q h.1, (let low = (size_is_size a (p h.0)).0 in 
 
 -- Reading
 
-go_ok : {A B : Type 0} (r : Result (A × Place ℕ) (Stop TextFault)) (next : A → Place ℕ → Result (B × Place ℕ) (Stop TextFault)) (y : B × Place ℕ)
+go_ok : {A B : Type 0} (r : Result (A × Place ℕ) (Stop TextFault))
+    (next : A → Place ℕ → Result (B × Place ℕ) (Stop TextFault)) (y : B × Place ℕ)
     → and_go_on r next ≡ Ok y → (x : A × Place ℕ) × (r ≡ Ok x) × (next x.0 x.1 ≡ Ok y)
 go_ok (Ok x) next y e = (x, refl, e)
 go_ok (Err s) next y e = absurd (cc)
@@ -170,11 +178,13 @@ good x = Ok x
 same_ok : (x y : Formula × Place ℕ) → good x ≡ good y → x.0 ≡ y.0
 same_ok x y e = let both : x ≡ y = cc in ap (λ z. z.0) both
 
-passed_ok : (o : Option (ℕ × ℕ)) (left : ℕ) (x y : Formula × Place ℕ) → passed (option_map (λ p. Shape left p.0 p.1) o) x ≡ good y → (x ≡ y) × (o ≡ None)
+passed_ok : (o : Option (ℕ × ℕ)) (left : ℕ) (x y : Formula × Place ℕ) →
+    passed (option_map (λ p. Shape left p.0 p.1) o) x ≡ good y → (x ≡ y) × (o ≡ None)
 passed_ok None left x y e = (cc, refl)
 passed_ok (Some p) left x y e = absurd (cc)
 
-tested_ok : (left : ℕ) (r : Result (Formula × Place ℕ) (Stop TextFault)) (y : Formula × Place ℕ) → tested_at left shape_fault r ≡ Ok y → (r ≡ Ok y) × (refusal y.0 ≡ None)
+tested_ok : (left : ℕ) (r : Result (Formula × Place ℕ) (Stop TextFault)) (y : Formula × Place ℕ) →
+    tested_at left shape_fault r ≡ Ok y → (r ≡ Ok y) × (refusal y.0 ≡ None)
 tested_ok left (Ok x) y e =
     let found = passed_ok (refusal x.0) left x y e in
     (ap good found.0, subst (λ (z : Formula × Place ℕ). refusal z.0 ≡ None) found.0 found.1)
@@ -192,11 +202,13 @@ module _ {H : Type 0} (P : H → Type 0) where
   first_same : (x y : H × List ℕ) → word_of x ≡ word_of y → x.0 ≡ y.0
   first_same x y e = let both : x ≡ y = cc in ap (λ z. z.0) both
 
-  in_list : (rows : List (List ℕ × H)) (text : List ℕ) (x : H × List ℕ) → EachHead P rows → one_of_in rows text ≡ word_of x → P x.0
+  in_list : (rows : List (List ℕ × H)) (text : List ℕ) (x : H × List ℕ) → EachHead P rows →
+      one_of_in rows text ≡ word_of x → P x.0
   in_list [] text x each e = absurd (cc)
   in_list (row ∷ rows) text x each e = at (word_in row.0 text) (one_of_in rows text) e (in_list rows text x each.1)
     where
-      at : (first : Result (Unit {0} × List ℕ) ℕ) (others : Result (H × List ℕ) ℕ) → reading_else (valued row.1 first) others ≡ word_of x
+      at : (first : Result (Unit {0} × List ℕ) ℕ) (others : Result (H × List ℕ) ℕ) →
+          reading_else (valued row.1 first) others ≡ word_of x
           → (others ≡ word_of x → P x.0) → P x.0
       at (Ok y) others e later = subst P (first_same (row.1, y.1) x e) each.0
       at (Err left) (Ok z) e later = later e
@@ -208,19 +220,23 @@ module _ {H : Type 0} (P : H → Type 0) where
   head_same : (x y : H × Place ℕ) → placed_head x ≡ placed_head y → x.0 ≡ y.0
   head_same x y e = let both : x ≡ y = cc in ap (λ z. z.0) both
 
-  at_place : (rows : List (List ℕ × H)) (place : Place ℕ) (x : H × Place ℕ) → EachHead P rows → plain (one_of_at rows) place ≡ placed_head x → P x.0
+  at_place : (rows : List (List ℕ × H)) (place : Place ℕ) (x : H × Place ℕ) → EachHead P rows →
+      plain (one_of_at rows) place ≡ placed_head x → P x.0
   at_place rows place x each e = at (one_of_in rows place.rest) e (λ y. in_list rows place.rest y each)
     where
-      at : (r : Result (H × List ℕ) ℕ) → spelling_only (placed place.far r) ≡ placed_head x → ((y : H × List ℕ) → r ≡ word_of y → P y.0) → P x.0
+      at : (r : Result (H × List ℕ) ℕ) → spelling_only (placed place.far r) ≡ placed_head x →
+          ((y : H × List ℕ) → r ≡ word_of y → P y.0) → P x.0
       at (Ok y) e found = subst P (head_same (y.0, record { rest = y.1; far = place.far }) x e) (found y refl)
       at (Err left) e found = absurd (cc)
 
-made_ready : {A : Type 0} (read : Place ℕ → Result (A × Place ℕ) ℕ) (make : A → Formula) (place : Place ℕ) (y : Formula × Place ℕ) → ((x : A) → IsReady (make x)) → made_at read make place ≡ Ok y → IsReady y.0
+made_ready : {A : Type 0} (read : Place ℕ → Result (A × Place ℕ) ℕ) (make : A → Formula) (place : Place ℕ)
+    (y : Formula × Place ℕ) → ((x : A) → IsReady (make x)) → made_at read make place ≡ Ok y → IsReady y.0
 made_ready read make place y h e =
     let g = go_ok (plain read place) (λ x. plain (pure_at (make x))) y e in
     subst IsReady (same_ok (make g.0.0, g.0.1) y g.2) (h g.0.0)
 
-module _ (read : Place ℕ → Result (Formula × Place ℕ) (Stop TextFault)) (inner : (place : Place ℕ) (x : Formula × Place ℕ) → read place ≡ Ok x → WillBe x.0) where
+module _ (read : Place ℕ → Result (Formula × Place ℕ) (Stop TextFault))
+    (inner : (place : Place ℕ) (x : Formula × Place ℕ) → read place ≡ Ok x → WillBe x.0) where
   two_ready : (make : Formula → Formula → Formula) → ((a b : Formula) → WillBe a → WillBe b → IsReady (make a b))
       → (place : Place ℕ) (y : Formula × Place ℕ) → two_formulas_by read make place ≡ Ok y → IsReady y.0
   two_ready make h place y e =
@@ -247,7 +263,8 @@ module _ (read : Place ℕ → Result (Formula × Place ℕ) (Stop TextFault)) (
       subst IsReady (same_ok (TensorRight g1.0.0 g3.0.0, g4.0.1) y g4.2) (right_ready g1.0.0 g3.0.0 (inner g2.0.1 g3.0 g3.1))
 
   -- behind each head of a part stands one that is ready
-  heads_ready : EachHead (λ h. (place : Place ℕ) (y : Formula × Place ℕ) → arguments_by read h place ≡ Ok y → IsReady y.0) heads
+  heads_ready : EachHead (λ h. (place : Place ℕ) (y : Formula × Place ℕ) → arguments_by read h place ≡ Ok y →
+      IsReady y.0) heads
   heads_ready = (
     λ place y e. made_ready one_size_at Identity place y identity_ready e,
     (
@@ -315,7 +332,8 @@ ended_ok : (x f : Formula) (rest : List ℕ) (far : ℕ) → ended_formula (ende
 ended_ok x f [] far e = cc
 ended_ok x f (y ∷ rest) far e = absurd (cc)
 
-whole_shaped : (f : Formula) (r : Result (Formula × Place ℕ) (Stop TextFault)) → ((y : Formula × Place ℕ) → r ≡ Ok y → WillBe y.0) → all_of r ≡ whole f → WillBe f
+whole_shaped : (f : Formula) (r : Result (Formula × Place ℕ) (Stop TextFault)) →
+    ((y : Formula × Place ℕ) → r ≡ Ok y → WillBe y.0) → all_of r ≡ whole f → WillBe f
 whole_shaped f (Ok x) h e = subst WillBe (ended_ok x.0 f x.1.rest x.1.far e) (h x refl)
 whole_shaped f (Err s) h e = absurd (cc)
 

@@ -16,7 +16,8 @@ use Rattle.commands.specs.Equations.Formulas.{written}
 abbrev IsWritten : List ℕ → Type 0
 IsWritten text = (result : Result Formula Status) × written text result
 
-by_halt : (text : List ℕ) (halt : Halt) → SaysAll (Err halt) (whole_line text) → fault_of (length text) halt ≢ spl.NoMemory → IsWritten text
+by_halt : (text : List ℕ) (halt : Halt) → SaysAll (Err halt) (whole_line text) →
+    fault_of (length text) halt ≢ spl.NoMemory → IsWritten text
 by_halt text halt is some =
     let fault = fault_of (length text) halt in
     (Err (status_of_spl fault), (fault, some, first_fault text halt is, shows_fault text halt is, refl))

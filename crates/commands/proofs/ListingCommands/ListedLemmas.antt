@@ -1,5 +1,6 @@
 -- What `exec` comes to.
-use Rattle.std.proofs.Common.{◌≡◌, ◌⊎◌, ◌≤◌, ◌+◌, ◌-◌, ◌&&◌, ◌||◌, ℕ, Bool, true, false, List, [], ◌∷◌, ◌++◌, None, Some, Ok, Err, Result, Vec, length, cond, refl, sym, ap, subst, ◌∙◌, inl, inr}
+use Rattle.std.proofs.Common.{◌≡◌, ◌⊎◌, ◌≤◌, ◌+◌, ◌-◌, ◌&&◌, ◌||◌, ℕ, Bool, true, false, List, [], ◌∷◌, ◌++◌, None}
+use Rattle.std.proofs.Common.{Some, Ok, Err, Result, Vec, length, cond, refl, sym, ap, subst, ◌∙◌, inl, inr}
 use Rattle.std.specs.declared.option.Option.{Option}
 use Rattle.std.specs.Io.KnownBytes.{Consumes}
 use Rattle.io_edge.specs.Told.{IsOver}
@@ -16,7 +17,8 @@ use Rattle.code_check.specs.Refusals.{PassesCheck}
 use Rattle.io_edge.specs.Feed.{limit}
 use Rattle.data_stream.specs.declared.input_rest.RestFault.{RestFault}
 use Rattle.data_stream.specs.declared.input_rest.RestFault.TheVariants as rest_fault
-use Rattle.data_stream.specs.InputRest.Part.{ends_line, has_empty_line, behind_empty_line, second_part, IsWholePart, GivesPart}
+use Rattle.data_stream.specs.InputRest.Part.{ends_line, has_empty_line, behind_empty_line, second_part, IsWholePart}
+use Rattle.data_stream.specs.InputRest.Part.{GivesPart}
 use Rattle.data_stream.proofs.InputRest.PartLemmas.{still_ended}
 use Rattle.data_stream.specs.Line.{line_of}
 use Rattle.request_text.specs.Schedule.{Plan}
@@ -35,7 +37,8 @@ use Rattle.commands.specs.Equations.Front.{HasEnded, part}
 use Rattle.commands.specs.SpiralInput.Commands.{stranger, admitted}
 use Rattle.commands.specs.SpiralInput.Outcomes.{SourceMeets}
 use Rattle.commands.specs.SpiralInput.Refusals.{IsRefusal}
-use Rattle.commands.proofs.SpiralInput.FrontLemmas.{IsFront, asks_read_fault, asks_too_long, asks_refused, asks_value, front_refused, front_told}
+use Rattle.commands.proofs.SpiralInput.FrontLemmas.{IsFront, asks_read_fault, asks_too_long, asks_refused, asks_value}
+use Rattle.commands.proofs.SpiralInput.FrontLemmas.{front_refused, front_told}
 use Rattle.commands.proofs.SpiralInput.Within.{told_within}
 use Rattle.commands.proofs.SpiralInput.OutcomeLemmas.{told_nothing}
 use Rattle.commands.proofs.StreamLemmas.{mapping_within}
@@ -43,7 +46,8 @@ use Rattle.commands.proofs.StreamLemmas.{mapping_within}
 -- The front
 
 -- a byte that ends no line leaves a part unended, and nothing behind it
-unended_push : (begins : Bool) (read : List ℕ) → has_empty_line begins read ≡ false → behind_empty_line begins (read ++ 0 ∷ []) ≡ []
+unended_push : (begins : Bool) (read : List ℕ) → has_empty_line begins read ≡ false →
+    behind_empty_line begins (read ++ 0 ∷ []) ≡ []
 unended_push true [] none = refl
 unended_push false [] none = refl
 unended_push begins (byte ∷ read) none = at (begins && ends_line byte) refl none (unended_push (ends_line byte) read)
@@ -58,7 +62,8 @@ two_cases : (b : Bool) → (b ≡ true) ⊎ (b ≡ false)
 two_cases true = inl refl
 two_cases false = inr refl
 
-part_there : (most : ℕ) (read rest : List ℕ) → ((more : List ℕ) → (rest ≡ [] → more ≡ []) → second_part (read ++ more) ≡ more)
+part_there : (most : ℕ) (read rest : List ℕ) → ((more : List ℕ) → (rest ≡ [] → more ≡ []) →
+    second_part (read ++ more) ≡ more)
     → HasEnded (part most) read (rest ≡ [])
 part_there most read [] behind = inr refl
 part_there most read (x ∷ rest) behind =
@@ -70,7 +75,8 @@ part_there most read (x ∷ rest) behind =
           absurd (cc)
     ]
 
-ended_kept : (most : ℕ) (read more : List ℕ) → has_empty_line true read ≡ true → has_empty_line true (read ++ more) ≡ true
+ended_kept : (most : ℕ) (read more : List ℕ) → has_empty_line true read ≡ true →
+    has_empty_line true (read ++ more) ≡ true
 ended_kept most read more there = elim (still_ended read more ⊥ ⊥ (inl there) (λ e. e)) [ inl kept ↦ kept | inr e ↦ absurd e ]
 
 part_is_front : (most : ℕ) → IsFront (part most)
@@ -79,7 +85,8 @@ part_is_front most = record { kept = ended_kept most; there = part_there most }
 -- The program of the listing
 
 -- the schedule names a processor that is not there
-pub unturned : (schedule : Plan) (text : List ℕ) (program : PlainProgram) (q : ℕ) → is_listing text program → PassesCheck action_limit program → stranger schedule program.procs ≡ Some q
+pub unturned : (schedule : Plan) (text : List ℕ) (program : PlainProgram) (q : ℕ) → is_listing text program →
+    PassesCheck action_limit program → stranger schedule program.procs ≡ Some q
     → loaded schedule text (Err (Turn q program.procs))
 unturned schedule text program q listed passes found = inr (record {
   value = program;
@@ -88,7 +95,8 @@ unturned schedule text program q listed passes found = inr (record {
 })
 
 -- the program runs
-pub loads : (schedule : Plan) (text : List ℕ) (program : PlainProgram) → is_listing text program → PassesCheck action_limit program → stranger schedule program.procs ≡ None
+pub loads : (schedule : Plan) (text : List ℕ) (program : PlainProgram) → is_listing text program →
+    PassesCheck action_limit program → stranger schedule program.procs ≡ None
     → loaded schedule text (Ok program)
 loads schedule text program listed passes none = record {
   value = program;
@@ -107,19 +115,22 @@ admitted_same None procs p q e = done_same q p e
 admitted_same (Some s) procs p q e = absurd (cc)
 
 -- what runs has passed the check
-pub loaded_passes : (schedule : Plan) (text : List ℕ) (program : PlainProgram) → loaded schedule text (Ok program) → PassesCheck action_limit program
+pub loaded_passes : (schedule : Plan) (text : List ℕ) (program : PlainProgram) → loaded schedule text (Ok program) →
+    PassesCheck action_limit program
 loaded_passes schedule text program l =
     let passed = l.behind.value in
     subst (λ (p : PlainProgram). PassesCheck action_limit p) (sym (admitted_same (stranger schedule passed.procs) passed.procs passed program l.behind.behind ∙ l.behind.before.1)) l.behind.before.0
 
 -- so every order of turns leaves the same results
-same_results : (program : PlainProgram) (x turns : List ℕ) → PassesCheck action_limit program → results (plain_code program) x turns ≡ result_of program x
+same_results : (program : PlainProgram) (x turns : List ℕ) → PassesCheck action_limit program →
+    results (plain_code program) x turns ≡ result_of program x
 same_results program x turns passes =
     let code = plain_code program in
     let is = code_is program in
     ap (λ memory. words_at code.size memory (padded code)) (memory_of_runs code is passes.apart x turns ∙ sym (memory_of_runs code is passes.apart x []))
 
-same_lines : (program : PlainProgram) (turns : List ℕ) → PassesCheck action_limit program → (vectors : List (List ℕ)) → texts (run_text false (plain_code program) turns) vectors ≡ lines (result_of program) vectors
+same_lines : (program : PlainProgram) (turns : List ℕ) → PassesCheck action_limit program → (vectors : List (List ℕ)) →
+    texts (run_text false (plain_code program) turns) vectors ≡ lines (result_of program) vectors
 same_lines program turns passes [] = refl
 same_lines program turns passes (x ∷ vectors) =
     ap (λ y. line_of y ++ texts (run_text false (plain_code program) turns) vectors) (same_results program x turns passes)
@@ -140,15 +151,18 @@ exec_unread schedule before after out taken read rest_fault.ReadFault consumed g
 exec_unread schedule before after out taken read rest_fault.NoMemory consumed given = told_nothing (exec_outcomes schedule) before after out read consumed
 
 -- the listing orders no program to run
-pub exec_refused : (schedule : Plan) (before after out : Option (List ℕ)) (taken : ℕ) (read text : List ℕ) (status : Status)
+pub exec_refused : (schedule : Plan) (before after out : Option (List ℕ)) (taken : ℕ) (read text : List ℕ)
+    (status : Status)
     → Consumes before after read → IsWholePart read (IsOver after) text → length text ≤ 1048576
-    → (IsDefined status → loaded schedule text (Err status)) → IsRefusal status → SourceMeets (exec_outcomes schedule) before after out out status
+    → (IsDefined status → loaded schedule text (Err status)) → IsRefusal status →
+    SourceMeets (exec_outcomes schedule) before after out out status
 exec_refused schedule before after out taken read text status consumed whole short refused refusal =
     front_refused (part 1048576) (loaded schedule) exec_work before after out taken status
     (asks_refused (part 1048576) (loaded schedule) before after taken read text status consumed whole.parts short refused refusal.read) refusal.write
 
 -- its program runs
-pub exec_told : (schedule : Plan) (program : Program) (front : Vec ℕ Global) (before mid left out out' : Option (List ℕ)) (taken : ℕ) (read text : List ℕ) (status : Status)
+pub exec_told : (schedule : Plan) (program : Program) (front : Vec ℕ Global)
+    (before mid left out out' : Option (List ℕ)) (taken : ℕ) (read text : List ℕ) (status : Status)
     → Consumes before mid read → taken ≡ length read → IsWholePart read (IsOver mid) text → length text ≤ 1048576
     → loaded schedule text (Ok (plain_program program)) → front.items ≡ []
     → SourceMeets (stream_work (record { program = program; front = front; lines = false }) (order.Turns schedule) (limit - taken)) mid left out out' status

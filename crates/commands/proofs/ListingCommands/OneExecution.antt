@@ -1,5 +1,6 @@
 -- A listing orders one program to run, or is refused with one status.
-use Rattle.std.proofs.Common.{◌≡◌, ◌<◌, ◌≤◌, ◌-◌, ◌==◌, ℕ, zero, suc, Bool, true, false, List, [], ◌∷◌, ◌++◌, None, Ok, Err, Result, nat_lt, cond, refl, sym, ap, subst, ◌∙◌, arith, append_assoc}
+use Rattle.std.proofs.Common.{◌≡◌, ◌<◌, ◌≤◌, ◌-◌, ◌==◌, ℕ, zero, suc, Bool, true, false, List, [], ◌∷◌, ◌++◌, None, Ok}
+use Rattle.std.proofs.Common.{Err, Result, nat_lt, cond, refl, sym, ap, subst, ◌∙◌, arith, append_assoc}
 use Rattle.std.proofs.lemmas.Grind.{common_steps}
 use Rattle.icode.specs.Plain.{PlainProgram}
 use Rattle.grammar.specs.Grammar.{Begins, IsLost, first_lines}
@@ -33,7 +34,8 @@ front_lines (b ∷ text) (suc a) (suc c) h =
     let rest = front_lines text (cond (b == 10) a (suc a)) (cond (b == 10) c (suc c)) (fewer (b == 10) a c (omega (arith, h))) in
     (rest.0, ap (λ l. b ∷ l) rest.1)
 
-fewer_begin : {A : Type 0} (spells : List ℕ → A → Type 0) (text : List ℕ) (a c : ℕ) → a ≤ c → Begins spells (first_lines c text) → Begins spells (first_lines a text)
+fewer_begin : {A : Type 0} (spells : List ℕ → A → Type 0) (text : List ℕ) (a c : ℕ) → a ≤ c →
+    Begins spells (first_lines c text) → Begins spells (first_lines a text)
 fewer_begin spells text a c h begins =
     let front = front_lines text a c h in (
       front.0 ++ begins.0,
@@ -41,11 +43,13 @@ fewer_begin spells text a c h begins =
       subst (λ l. spells l begins.1) (ap (λ l. l ++ begins.0) front.1 ∙ append_assoc (first_lines a text) front.0 begins.0) begins.2,
     )
 
-never_before : {A : Type 0} (spells : List ℕ → A → Type 0) (text : List ℕ) (a b : ℕ) → IsLost spells text a → IsLost spells text b → a < b → ⊥
+never_before : {A : Type 0} (spells : List ℕ → A → Type 0) (text : List ℕ) (a b : ℕ) → IsLost spells text a →
+    IsLost spells text b → a < b → ⊥
 never_before spells text a b p q h =
     p.here (omega (arith, q.counted.1, h)) (fewer_begin spells text a (b - 1) (omega (arith, h)) q.before)
 
-lost_once : {A : Type 0} (spells : List ℕ → A → Type 0) (text : List ℕ) (a b : ℕ) → IsLost spells text a → IsLost spells text b → a ≡ b
+lost_once : {A : Type 0} (spells : List ℕ → A → Type 0) (text : List ℕ) (a b : ℕ) → IsLost spells text a →
+    IsLost spells text b → a ≡ b
 lost_once spells text a b p q = at (nat_lt a b) (nat_lt b a) refl refl
   where
     at : (x y : Bool) → nat_lt a b ≡ x → nat_lt b a ≡ y → a ≡ b
@@ -55,7 +59,8 @@ lost_once spells text a b p q = at (nat_lt a b) (nat_lt b a) refl refl
 
 -- The stages
 
-listing_once : (text : List ℕ) (r : Result PlainProgram ℕ) (p q : PlainProgram) → Judges is_listing text r → is_listing text p → is_listing text q → p ≡ q
+listing_once : (text : List ℕ) (r : Result PlainProgram ℕ) (p q : PlainProgram) → Judges is_listing text r →
+    is_listing text p → is_listing text q → p ≡ q
 listing_once text (Ok value) p q j l m = j.1 p l ∙ sym (j.1 q m)
 listing_once text (Err lines) p q j l m = absurd (j.nothing p l)
 

@@ -1,5 +1,6 @@
 -- From the first line to a request.
-use Rattle.std.proofs.Common.{◌≡◌, ◌≢◌, ◌≤◌, ℕ, zero, suc, List, [], ◌∷◌, take, None, Some, Ok, Err, length, sym, ap, arith, inl, inr}
+use Rattle.std.proofs.Common.{◌≡◌, ◌≢◌, ◌≤◌, ℕ, zero, suc, List, [], ◌∷◌, take, None, Some, Ok, Err, length, sym, ap}
+use Rattle.std.proofs.Common.{arith, inl, inr}
 use Rattle.std.specs.declared.option.Option.{Option}
 use Rattle.std.specs.Io.KnownBytes.{Consumes}
 use Rattle.io_edge.specs.Told.{IsOver}
@@ -22,8 +23,10 @@ use Rattle.commands.specs.Equations.Orders.{turned}
 use Rattle.commands.proofs.SpiralInput.FrontLemmas.{asks_read_fault, asks_too_long, asks_refused, asks_value}
 
 -- the first line can't be read
-pub asked_line_fault : {A : Type 0} (orders : List ℕ → Stage A) (before after : Option (List ℕ)) (taken : ℕ) (read buffer : List ℕ) (ended : Type 0) (fault : FeedFault)
-    → Consumes before after read → GivesLine read ended taken buffer (Err fault) → Asks (line 256) orders before after taken (Err (status_of_line fault))
+pub asked_line_fault : {A : Type 0} (orders : List ℕ → Stage A) (before after : Option (List ℕ)) (taken : ℕ)
+    (read buffer : List ℕ) (ended : Type 0) (fault : FeedFault)
+    → Consumes before after read → GivesLine read ended taken buffer (Err fault) →
+    Asks (line 256) orders before after taken (Err (status_of_line fault))
 asked_line_fault orders before after taken read buffer ended feed.ReadFault consumed given = asks_read_fault (line 256) orders before after taken read consumed given
 asked_line_fault orders before after taken read buffer ended feed.TooLong consumed given = asks_too_long (line 256) orders before after taken read consumed given
 
@@ -35,15 +38,19 @@ request_fault_other (request.LanesLine lanes line) = λ e. cc
 request_fault_other (request.NotUnit gcd) = λ e. cc
 
 -- the line spells no request that can be served
-pub asked_request_fault : (spells : List ℕ → Stage Request) (names : List ℕ) (before after : Option (List ℕ)) (taken : ℕ) (read text : List ℕ) (fault : RequestFault)
-    → Consumes before after read → IsWhole (line 256) read (IsOver after) text → length text ≤ 256 → spells text (Err (status_of_request fault))
+pub asked_request_fault : (spells : List ℕ → Stage Request) (names : List ℕ) (before after : Option (List ℕ))
+    (taken : ℕ) (read text : List ℕ) (fault : RequestFault)
+    → Consumes before after read → IsWhole (line 256) read (IsOver after) text → length text ≤ 256 →
+    spells text (Err (status_of_request fault))
     → Asks (line 256) (λ text. spells text >>= turned names) before after taken (Err (status_of_request fault))
 asked_request_fault spells names before after taken read text fault consumed whole short answer =
     asks_refused (line 256) (λ text. spells text >>= turned names) before after taken read text (status_of_request fault) consumed whole short (λ _. inl answer) (request_fault_other fault)
 
 -- a turn is of a processor that is not there
-pub asked_turn_fault : (spells : List ℕ → Stage Request) (names : List ℕ) (before after : Option (List ℕ)) (taken : ℕ) (read text : List ℕ) (wanted : Request) (q : ℕ)
-    → Consumes before after read → IsWhole (line 256) read (IsOver after) text → length text ≤ 256 → spells text (Ok wanted)
+pub asked_turn_fault : (spells : List ℕ → Stage Request) (names : List ℕ) (before after : Option (List ℕ)) (taken : ℕ)
+    (read text : List ℕ) (wanted : Request) (q : ℕ)
+    → Consumes before after read → IsWhole (line 256) read (IsOver after) text → length text ≤ 256 →
+    spells text (Ok wanted)
     → first_stranger names wanted.procs ≡ Some q
     → Asks (line 256) (λ text. spells text >>= turned names) before after taken (Err (Turn q wanted.procs))
 asked_turn_fault spells names before after taken read text wanted q consumed whole short answer found =
@@ -51,15 +58,19 @@ asked_turn_fault spells names before after taken read text wanted q consumed who
     (λ _. inr (record { value = wanted; before = answer; behind = sym (ap (λ o. admitted o wanted.procs wanted) found) })) (λ e. cc)
 
 -- the request
-pub asked_request : (spells : List ℕ → Stage Request) (names : List ℕ) (before after : Option (List ℕ)) (taken : ℕ) (read text : List ℕ) (wanted : Request)
-    → Consumes before after read → taken ≡ length read → IsWhole (line 256) read (IsOver after) text → length text ≤ 256 → spells text (Ok wanted)
-    → first_stranger names wanted.procs ≡ None → Asks (line 256) (λ text. spells text >>= turned names) before after taken (Ok wanted)
+pub asked_request : (spells : List ℕ → Stage Request) (names : List ℕ) (before after : Option (List ℕ)) (taken : ℕ)
+    (read text : List ℕ) (wanted : Request)
+    → Consumes before after read → taken ≡ length read → IsWhole (line 256) read (IsOver after) text →
+    length text ≤ 256 → spells text (Ok wanted)
+    → first_stranger names wanted.procs ≡ None → Asks (line 256)
+    (λ text. spells text >>= turned names) before after taken (Ok wanted)
 asked_request spells names before after taken read text wanted consumed count whole short answer none =
     asks_value (line 256) (λ text. spells text >>= turned names) before after taken read text wanted consumed count whole short
     (record { value = wanted; before = answer; behind = sym (ap (λ o. admitted o wanted.procs wanted) none) })
 
 -- words ask for one command, so they tell whether the input is read to its end
-pub reads_same : (words : List (List ℕ)) (a b : Command) → IsAsked words a → IsAsked words b → reads_rest a ≡ reads_rest b
+pub reads_same : (words : List (List ℕ)) (a b : Command) → IsAsked words a → IsAsked words b →
+    reads_rest a ≡ reads_rest b
 reads_same words a b asked other = ap reads_rest (asked_once words a b asked other)
 
 pub take_short : (n : ℕ) (xs : List ℕ) → length (take n xs) ≤ n

@@ -1,5 +1,6 @@
 -- From what stands behind a front to the whole input.
-use Rattle.std.proofs.Common.{◌≡◌, ◌≢◌, ◌<◌, ◌≤◌, ◌+◌, ◌-◌, ℕ, true, false, List, [], ◌++◌, Ok, Err, Result, nat_le, length, cond, refl, sym, ap, subst, ◌∙◌, arith, append_assoc, length-append, inl, inr}
+use Rattle.std.proofs.Common.{◌≡◌, ◌≢◌, ◌<◌, ◌≤◌, ◌+◌, ◌-◌, ℕ, true, false, List, [], ◌++◌, Ok, Err, Result, nat_le}
+use Rattle.std.proofs.Common.{length, cond, refl, sym, ap, subst, ◌∙◌, arith, append_assoc, length-append, inl, inr}
 use Rattle.std.proofs.lemmas.Grind.{common_steps}
 use Rattle.std.proofs.KnownBytes.{Appends-nil, Consumes-trans}
 use Rattle.std.specs.declared.option.Option.{Option}
@@ -23,27 +24,32 @@ pub record IsFront (front : Front) : Type 0 where
   -- one that has ended has ended behind further bytes too
   pub kept : (read more : List ℕ) → front.has_end read ≡ true → front.has_end (read ++ more) ≡ true
   -- one has ended where what stands behind it is known, whatever follows
-  pub there : (read rest : List ℕ) → ((more : List ℕ) → (rest ≡ [] → more ≡ []) → front.behind (read ++ more) ≡ more) → HasEnded front read (rest ≡ [])
+  pub there : (read rest : List ℕ) → ((more : List ℕ) → (rest ≡ [] → more ≡ []) → front.behind (read ++ more) ≡ more) →
+      HasEnded front read (rest ≡ [])
 
-still_ended : (front : Front) → IsFront front → (read more : List ℕ) (now later : Type 0) → HasEnded front read now → (now → later) → HasEnded front (read ++ more) later
+still_ended : (front : Front) → IsFront front → (read more : List ℕ) (now later : Type 0) → HasEnded front read now →
+    (now → later) → HasEnded front (read ++ more) later
 still_ended front is read more now later (inl there) goes = inl (is.kept read more there)
 still_ended front is read more now later (inr e) goes = inr (goes e)
 
 -- as many bytes may come behind it as the limit leaves behind what was taken for it
-room_after : (front : Front) (read more : List ℕ) (taken : ℕ) → taken ≡ length read → front.behind (read ++ more) ≡ more → limit - taken ≡ room_behind front (read ++ more)
+room_after : (front : Front) (read more : List ℕ) (taken : ℕ) → taken ≡ length read →
+    front.behind (read ++ more) ≡ more → limit - taken ≡ room_behind front (read ++ more)
 room_after front read more taken count is =
     let whole : length (read ++ more) ≡ length read + length more = length-append read more in
     let behind : length (front.behind (read ++ more)) ≡ length more = ap length is in
     ap (λ n. limit - n) (omega (arith, count, whole, behind))
 
 -- a front that is not too long, and one that is
-pub front_short : (front : Front) (bytes text : List ℕ) → front.first bytes ≡ text → length text ≤ front.most → taken_from front bytes ≡ Ok text
+pub front_short : (front : Front) (bytes text : List ℕ) → front.first bytes ≡ text → length text ≤ front.most →
+    taken_from front bytes ≡ Ok text
 front_short front bytes text same short =
     let test : nat_le (length text) front.most ≡ true = grind (arith, common_steps) in
     ap (λ l. cond {A = Result (List ℕ) Status} (nat_le (length l) front.most) (Ok l) (Err (TooLong front.most))) same
     ∙ ap (λ b. cond {A = Result (List ℕ) Status} b (Ok text) (Err (TooLong front.most))) test
 
-pub front_long : (front : Front) (bytes : List ℕ) → front.most < length (front.first bytes) → taken_from front bytes ≡ Err (TooLong front.most)
+pub front_long : (front : Front) (bytes : List ℕ) → front.most < length (front.first bytes) →
+    taken_from front bytes ≡ Err (TooLong front.most)
 front_long front bytes long =
     let test : nat_le (length (front.first bytes)) front.most ≡ false = grind (arith, common_steps) in
     ap (λ b. cond {A = Result (List ℕ) Status} b (Ok (front.first bytes)) (Err (TooLong front.most))) test
@@ -51,7 +57,8 @@ front_long front bytes long =
 -- The front orders a value
 
 -- what the work comes to behind the front is right for the whole input
-front_meets : {A : Type 0} (front : Front) → IsFront front → (orders : List ℕ → Stage A) (work : A → Work) (bytes read rest : List ℕ) (taken : ℕ) (value : A)
+front_meets : {A : Type 0} (front : Front) → IsFront front →
+    (orders : List ℕ → Stage A) (work : A → Work) (bytes read rest : List ℕ) (taken : ℕ) (value : A)
     (left : List ℕ) (out out' : Option (List ℕ)) (status : Status)
     → bytes ≡ read ++ rest → AsksBy front orders read (rest ≡ []) taken (Ok value)
     → Meets (work value (limit - taken)) rest left out out' status
@@ -111,7 +118,8 @@ front_meets {A} front is orders work bytes read rest taken value left out out' s
           );
     }
 
-pub front_told : {A : Type 0} (front : Front) → IsFront front → (orders : List ℕ → Stage A) (work : A → Work) (before mid left : Option (List ℕ)) (taken : ℕ) (value : A)
+pub front_told : {A : Type 0} (front : Front) → IsFront front →
+    (orders : List ℕ → Stage A) (work : A → Work) (before mid left : Option (List ℕ)) (taken : ℕ) (value : A)
     (out out' : Option (List ℕ)) (status : Status)
     → Asks front orders before mid taken (Ok value)
     → SourceMeets (work value (limit - taken)) mid left out out' status
@@ -129,7 +137,8 @@ front_told front is orders work before mid left taken value out out' status a p 
 
 -- The front orders nothing
 
-pub front_refused : {A : Type 0} (front : Front) (orders : List ℕ → Stage A) (work : A → Work) (before left out : Option (List ℕ)) (taken : ℕ) (status : Status)
+pub front_refused : {A : Type 0} (front : Front) (orders : List ℕ → Stage A) (work : A → Work)
+    (before left out : Option (List ℕ)) (taken : ℕ) (status : Status)
     → Asks front orders before left taken (Err status) → status ≢ WriteFault
     → SourceMeets (by_front front orders work) before left out out status
 front_refused front orders work before left out taken status a w = record {
@@ -145,14 +154,17 @@ front_refused front orders work before left out taken status a w = record {
 -- What a call for the front answers
 
 -- the front can't be read
-pub asks_read_fault : {A : Type 0} (front : Front) (orders : List ℕ → Stage A) (before after : Option (List ℕ)) (taken : ℕ) (read : List ℕ)
+pub asks_read_fault : {A : Type 0} (front : Front) (orders : List ℕ → Stage A) (before after : Option (List ℕ))
+    (taken : ℕ) (read : List ℕ)
     → Consumes before after read → MayGoOn front read → Asks front orders before after taken (Err ReadFault)
 asks_read_fault front orders before after taken read consumed part =
     record { read = read; consumed = consumed; asks = (λ d. absurd (d.read refl), λ _. part) }
 
 -- it is too long
-pub asks_too_long : {A : Type 0} (front : Front) (orders : List ℕ → Stage A) (before after : Option (List ℕ)) (taken : ℕ) (read : List ℕ)
-    → Consumes before after read → ((more : List ℕ) → front.most < length (front.first (read ++ more))) → Asks front orders before after taken (Err (TooLong front.most))
+pub asks_too_long : {A : Type 0} (front : Front) (orders : List ℕ → Stage A) (before after : Option (List ℕ))
+    (taken : ℕ) (read : List ℕ)
+    → Consumes before after read → ((more : List ℕ) → front.most < length (front.first (read ++ more))) →
+    Asks front orders before after taken (Err (TooLong front.most))
 asks_too_long front orders before after taken read consumed long = record {
   read = read;
   consumed = consumed;
@@ -160,7 +172,8 @@ asks_too_long front orders before after taken read consumed long = record {
 }
 
 -- its text orders nothing
-pub asks_refused : {A : Type 0} (front : Front) (orders : List ℕ → Stage A) (before after : Option (List ℕ)) (taken : ℕ) (read text : List ℕ) (status : Status)
+pub asks_refused : {A : Type 0} (front : Front) (orders : List ℕ → Stage A) (before after : Option (List ℕ)) (taken : ℕ)
+    (read text : List ℕ) (status : Status)
     → Consumes before after read → IsWhole front read (IsOver after) text → length text ≤ front.most
     → (IsDefined status → orders text (Err status)) → status ≢ ReadFault
     → Asks front orders before after taken (Err status)
@@ -176,7 +189,8 @@ asks_refused front orders before after taken read text status consumed whole sho
 }
 
 -- its text orders a value
-pub asks_value : {A : Type 0} (front : Front) (orders : List ℕ → Stage A) (before after : Option (List ℕ)) (taken : ℕ) (read text : List ℕ) (value : A)
+pub asks_value : {A : Type 0} (front : Front) (orders : List ℕ → Stage A) (before after : Option (List ℕ)) (taken : ℕ)
+    (read text : List ℕ) (value : A)
     → Consumes before after read → taken ≡ length read → IsWhole front read (IsOver after) text
     → length text ≤ front.most → orders text (Ok value)
     → Asks front orders before after taken (Ok value)

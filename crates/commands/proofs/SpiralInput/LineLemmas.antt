@@ -1,5 +1,7 @@
 -- Where the first line of an input ends.
-use Rattle.std.proofs.Common.{◌≡◌, ◌⊎◌, ◌≤◌, ◌+◌, ◌-◌, ℕ, Bool, true, false, not, ◌||◌, List, [], ◌∷◌, ◌++◌, length, take, drop, cond, refl, sym, ap, ◌∙◌, arith, append_assoc, append-nil, length-append, add-zero, zero-add, inl, inr}
+use Rattle.std.proofs.Common.{◌≡◌, ◌⊎◌, ◌≤◌, ◌+◌, ◌-◌, ℕ, Bool, true, false, not, ◌||◌, List, [], ◌∷◌, ◌++◌, length}
+use Rattle.std.proofs.Common.{take, drop, cond, refl, sym, ap, ◌∙◌, arith, append_assoc, append-nil, length-append}
+use Rattle.std.proofs.Common.{add-zero, zero-add, inl, inr}
 use Rattle.std.proofs.Math.Seq.{take-append_seam, take-append-add, drop-append-add}
 use Rattle.std.proofs.lemmas.List.{take_all}
 use Rattle.std.proofs.lemmas.List.Folds.{list_any-append}
@@ -20,7 +22,8 @@ neither true b h = absurd (cc)
 neither false b h = (refl, h)
 
 -- the first line goes past bytes that have no line end
-pub goes_past : (text more : List ℕ) → list_any is_line_end text ≡ false → position_or_len is_line_end (text ++ more) ≡ length text + position_or_len is_line_end more
+pub goes_past : (text more : List ℕ) → list_any is_line_end text ≡ false →
+    position_or_len is_line_end (text ++ more) ≡ length text + position_or_len is_line_end more
 goes_past [] more h = sym (zero-add (position_or_len is_line_end more))
 goes_past (x ∷ text) more h =
     let parts = neither (is_line_end x) (list_any is_line_end text) h in
@@ -28,12 +31,14 @@ goes_past (x ∷ text) more h =
     ap (λ t. cond (not t) (1 + position_or_len is_line_end (text ++ more)) 0) parts.0 ∙ omega arith
 
 -- a byte more without a line end
-pub unended_push : (text : List ℕ) (byte : ℕ) → list_any is_line_end text ≡ false → is_line_end byte ≡ false → list_any is_line_end (text ++ byte ∷ []) ≡ false
+pub unended_push : (text : List ℕ) (byte : ℕ) → list_any is_line_end text ≡ false → is_line_end byte ≡ false →
+    list_any is_line_end (text ++ byte ∷ []) ≡ false
 unended_push text byte h other =
     list_any-append is_line_end text (byte ∷ []) ∙ ap (λ t. t || (is_line_end byte || false)) h ∙ ap (λ t. t || false) other
 
 -- a line and its end
-pub line_ended : (most : ℕ) (text : List ℕ) (byte : ℕ) (ended : Type 0) → list_any is_line_end text ≡ false → is_line_end byte ≡ true → IsWhole (line most) (text ++ byte ∷ []) ended text
+pub line_ended : (most : ℕ) (text : List ℕ) (byte : ℕ) (ended : Type 0) → list_any is_line_end text ≡ false →
+    is_line_end byte ≡ true → IsWhole (line most) (text ++ byte ∷ []) ended text
 line_ended most text byte ended h end more none =
     let all : (text ++ byte ∷ []) ++ more ≡ text ++ byte ∷ more = append_assoc text (byte ∷ []) more in
     let at : position_or_len is_line_end (text ++ byte ∷ more) ≡ length text =
@@ -43,7 +48,8 @@ line_ended most text byte ended h end more none =
     )
 
 -- a line that the input ends
-pub line_cut : (most : ℕ) (text : List ℕ) (ended : Type 0) → list_any is_line_end text ≡ false → ended → IsWhole (line most) text ended text
+pub line_cut : (most : ℕ) (text : List ℕ) (ended : Type 0) → list_any is_line_end text ≡ false → ended →
+    IsWhole (line most) text ended text
 line_cut most text ended h end more none =
     let all : text ++ more ≡ text = ap (λ l. text ++ l) (none end) ∙ append-nil text in
     let at : position_or_len is_line_end text ≡ length text = ap (position_or_len is_line_end) (sym (append-nil text)) ∙ goes_past text [] h ∙ add-zero (length text) in (
@@ -52,7 +58,8 @@ line_cut most text ended h end more none =
     )
 
 -- bytes without a line end are a part of the first line
-pub line_longer : (text more : List ℕ) → list_any is_line_end text ≡ false → length text ≤ length (first_line (text ++ more))
+pub line_longer : (text more : List ℕ) → list_any is_line_end text ≡ false →
+    length text ≤ length (first_line (text ++ more))
 line_longer text more h =
     let k = position_or_len is_line_end more in
     let same : first_line (text ++ more) ≡ text ++ take k more = ap (λ n. take n (text ++ more)) (goes_past text more h) ∙ take-append-add text more k in
@@ -64,7 +71,8 @@ two_cases true = inl refl
 two_cases false = inr refl
 
 -- the first line has ended where what stands behind it is known, whatever follows
-line_there : (most : ℕ) (read rest : List ℕ) → ((more : List ℕ) → (rest ≡ [] → more ≡ []) → data_of (read ++ more) ≡ more) → HasEnded (line most) read (rest ≡ [])
+line_there : (most : ℕ) (read rest : List ℕ) → ((more : List ℕ) → (rest ≡ [] → more ≡ []) →
+    data_of (read ++ more) ≡ more) → HasEnded (line most) read (rest ≡ [])
 line_there most read [] behind = inr refl
 line_there most read (x ∷ rest) behind =
     elim (two_cases (list_any is_line_end read)) [

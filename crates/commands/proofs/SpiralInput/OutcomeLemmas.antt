@@ -12,7 +12,8 @@ use Rattle.commands.specs.SpiralInput.Outcomes.{Outcomes, Meets, SourceMeets}
 
 -- of a call that ends before its output
 pub meets_nothing : (outcomes : Outcomes) (bytes left : List ℕ) (out : Option (List ℕ)) (status : Status)
-    → (IsDefined status → outcomes.answer bytes status []) → status ≢ ReadFault → status ≢ WriteFault → Meets outcomes bytes left out out status
+    → (IsDefined status → outcomes.answer bytes status []) → status ≢ ReadFault → status ≢ WriteFault →
+    Meets outcomes bytes left out out status
 meets_nothing outcomes bytes left out status right read write = record {
   answer = λ d. ([], right d, Appends-nil out);
   read_fault = λ e. absurd (read e);
@@ -59,7 +60,8 @@ held_meets outcomes bytes held left out out' status empty m = record {
       );
 }
 
-pub meets_by_source : (outcomes : Outcomes) (before : Option (List ℕ)) (feed : Fed) (left out out' : Option (List ℕ)) (status : Status)
+pub meets_by_source : (outcomes : Outcomes) (before : Option (List ℕ)) (feed : Fed) (left out out' : Option (List ℕ))
+    (status : Status)
     → (status ≡ ReadFault → feed.held ≡ []) → SourceMeets outcomes before (to_come feed left) out out' status
     → SourceMeets outcomes before left out out' status
 meets_by_source outcomes before feed left out out' status empty p = record {

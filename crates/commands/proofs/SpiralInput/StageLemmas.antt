@@ -12,7 +12,8 @@ use Rattle.commands.proofs.SpiralInput.OutcomeLemmas.{meets_nothing, unread_meet
 -- the stage refuses
 pub stage_meets_nothing : {A : Type 0} (stage : Stage A) (work : A → Work) (room : ℕ) (bytes left : List ℕ)
     (out : Option (List ℕ)) (status : Status)
-    → (IsDefined status → stage (Err status)) → IsRefusal status → Meets (staged stage work room) bytes left out out status
+    → (IsDefined status → stage (Err status)) → IsRefusal status →
+    Meets (staged stage work room) bytes left out out status
 stage_meets_nothing stage work room bytes left out status refused r =
     meets_nothing (staged stage work room) bytes left out status (λ d. inl (refused d, refl)) r.read r.write
 
@@ -26,14 +27,16 @@ stage_refused stage work room before out status refused r =
 -- it gives a value, and the work for this comes to that
 pub stage_meets : {A : Type 0} (stage : Stage A) (work : A → Work) (room : ℕ) (value : A) (bytes left : List ℕ)
     (out out' : Option (List ℕ)) (status : Status)
-    → stage (Ok value) → Meets (work value room) bytes left out out' status → Meets (staged stage work room) bytes left out out' status
+    → stage (Ok value) → Meets (work value room) bytes left out out' status →
+    Meets (staged stage work room) bytes left out out' status
 stage_meets stage work room value bytes left out out' status gives p = record {
   answer = λ d. let found = p.answer d in (found.0, inr (value, gives, found.1), found.2);
   read_fault = λ e. let found = p.read_fault e in (found.0, found.1, found.2, (value, gives, found.3), found.4);
   write_fault = λ e. let found = p.write_fault e in (found.0, found.1, found.2, found.3, (value, gives, found.4), found.5);
 }
 
-pub stage_told : {A : Type 0} (stage : Stage A) (work : A → Work) (room : ℕ) (value : A) (before left out out' : Option (List ℕ)) (status : Status)
+pub stage_told : {A : Type 0} (stage : Stage A) (work : A → Work) (room : ℕ) (value : A)
+    (before left out out' : Option (List ℕ)) (status : Status)
     → stage (Ok value) → SourceMeets (work value room) before left out out' status
     → SourceMeets (staged stage work room) before left out out' status
 stage_told stage work room value before left out out' status gives p = record {

@@ -25,16 +25,19 @@ done_ended a s e = absurd (cc)
 pub given_decided : {A : Type 0} (answer : Result A Status) → IsDecided (given answer)
 given_decided answer x y p q = p ∙ sym q
 
-behind_same : {A B : Type 0} (first : Stage A) (next : A → Stage B) → IsDecided first → ((a : A) → IsDecided (next a)) → (x y : Result B Status)
+behind_same : {A B : Type 0} (first : Stage A) (next : A → Stage B) → IsDecided first → ((a : A) → IsDecided (next a)) →
+    (x y : Result B Status)
     → GoesOn first next x → GoesOn first next y → x ≡ y
 behind_same {A} {B} first next d n x y p q =
     let same : p.value ≡ q.value = done_same p.value q.value (d (Ok p.value) (Ok q.value) p.before q.before) in
     n q.value x y (subst (λ (a : A). next a x) same p.behind) q.behind
 
-stage_clash : {A B : Type 0} (first : Stage A) (next : A → Stage B) (s : Status) (y : Result B Status) → IsDecided first → first (Err s) → GoesOn first next y → ⊥
+stage_clash : {A B : Type 0} (first : Stage A) (next : A → Stage B) (s : Status) (y : Result B Status) →
+    IsDecided first → first (Err s) → GoesOn first next y → ⊥
 stage_clash first next s y d p q = done_ended q.value s (d (Ok q.value) (Err s) q.before p)
 
-pub bind_decided : {A B : Type 0} (first : Stage A) (next : A → Stage B) → IsDecided first → ((a : A) → IsDecided (next a)) → IsDecided (first >>= next)
+pub bind_decided : {A B : Type 0} (first : Stage A) (next : A → Stage B) → IsDecided first →
+    ((a : A) → IsDecided (next a)) → IsDecided (first >>= next)
 bind_decided first next d n (Ok a) (Ok b) p q = behind_same first next d n (Ok a) (Ok b) p q
 bind_decided first next d n (Ok a) (Err t) p (inl q) = absurd (stage_clash first next t (Ok a) d q p)
 bind_decided first next d n (Ok a) (Err t) p (inr q) = behind_same first next d n (Ok a) (Err t) p q
@@ -48,14 +51,16 @@ bind_decided first next d n (Err s) (Err t) (inr p) (inr q) = behind_same first 
 -- What a call answers by such a stage
 
 -- where the stage gives a value, the answer is right for it
-pub answer_for : {A : Type 0} (stage : Stage A) (Settles : A → Status → List ℕ → Type 0) (value : A) (status : Status) (text : List ℕ)
+pub answer_for : {A : Type 0} (stage : Stage A) (Settles : A → Status → List ℕ → Type 0) (value : A) (status : Status)
+    (text : List ℕ)
     → IsDecided stage → stage (Ok value) → IsAnswerBy stage Settles status text → Settles value status text
 answer_for stage Settles value status text decided gives (inl p) = absurd (done_ended value status (decided (Ok value) (Err status) gives p.0))
 answer_for {A} stage Settles value status text decided gives (inr p) =
     subst (λ (v : A). Settles v status text) (done_same p.0 value (decided (Ok p.0) (Ok value) p.1 gives)) p.2
 
 -- what is so of two answers without a value, and of two that are right for one value, is so of any two
-pub of_answers : {A : Type 0} (Holds : Type 0) (stage : Stage A) (Settles : A → Status → List ℕ → Type 0) (a b : Status) (s t : List ℕ) → IsDecided stage
+pub of_answers : {A : Type 0} (Holds : Type 0) (stage : Stage A) (Settles : A → Status → List ℕ → Type 0) (a b : Status)
+    (s t : List ℕ) → IsDecided stage
     → (a ≡ b → s ≡ t → Holds) → ((value : A) → stage (Ok value) → Settles value a s → Settles value b t → Holds)
     → IsAnswerBy stage Settles a s → IsAnswerBy stage Settles b t → Holds
 of_answers Holds stage Settles a b s t decided without by (inl p) (inl q) = without (ended_same a b (decided (Err a) (Err b) p.0 q.0)) (p.1 ∙ sym q.1)
@@ -70,10 +75,12 @@ HasAnswer {A} stage = (result : Result A Status) × stage result
 pub given_has : {A : Type 0} (answer : Result A Status) → HasAnswer (given answer)
 given_has answer = (answer, refl)
 
-behind_has : {A B : Type 0} (first : Stage A) (next : A → Stage B) (value : A) → first (Ok value) → HasAnswer (next value) → HasAnswer (first >>= next)
+behind_has : {A B : Type 0} (first : Stage A) (next : A → Stage B) (value : A) → first (Ok value) →
+    HasAnswer (next value) → HasAnswer (first >>= next)
 behind_has first next value before (Ok later, behind) = (Ok later, record { value = value; before = before; behind = behind })
 behind_has first next value before (Err status, behind) = (Err status, inr (record { value = value; before = before; behind = behind }))
 
-pub both_have : {A B : Type 0} (first : Stage A) (next : A → Stage B) → HasAnswer first → ((value : A) → first (Ok value) → HasAnswer (next value)) → HasAnswer (first >>= next)
+pub both_have : {A B : Type 0} (first : Stage A) (next : A → Stage B) → HasAnswer first →
+    ((value : A) → first (Ok value) → HasAnswer (next value)) → HasAnswer (first >>= next)
 both_have first next (Ok value, before) later = behind_has first next value before (later value before)
 both_have first next (Err status, before) later = (Err status, inl before)

@@ -6,7 +6,8 @@ use Rattle.io_edge.specs.Faults.{Reports, Rose}
 use Rattle.data_stream.specs.declared.input_rest.RestFault.{RestFault}
 use Rattle.data_stream.specs.declared.input_rest.RestFault.TheVariants as rest_fault
 use Rattle.spiral_words.specs.declared.spiral_status.status.Status.{Status}
-use Rattle.spiral_words.specs.declared.spiral_status.status.Status.TheVariants.{Success, Usage, ReadFault, WriteFault, NoMemory}
+use Rattle.spiral_words.specs.declared.spiral_status.status.Status.TheVariants.{Success, Usage, ReadFault, WriteFault}
+use Rattle.spiral_words.specs.declared.spiral_status.status.Status.TheVariants.{NoMemory}
 use Rattle.runs.specs.declared.stream.StreamFault.{StreamFault}
 use Rattle.runs.specs.declared.stream.StreamFault.TheVariants as stream
 use Rattle.spiral_words.specs.SpiralStatus.Fault.{status_of_rest, status_of_fault}
@@ -44,14 +45,16 @@ failed_same a b e = cc
 read_alone : (fault : StreamFault) → status_of_fault fault ≡ ReadFault → failed fault ≡ failed stream.ReadFault
 read_alone fault e = ap failed (from_read fault e)
 
-reports_read : (before now : ℕ) (fault : StreamFault) → Reports before now (failed fault ≡ failed stream.ReadFault) → Reports before now (status_of_fault fault ≡ ReadFault)
+reports_read : (before now : ℕ) (fault : StreamFault) → Reports before now (failed fault ≡ failed stream.ReadFault) →
+    Reports before now (status_of_fault fault ≡ ReadFault)
 reports_read before now fault r = record {
   later = r.later;
   cause = λ e. r.cause (ap failed (from_read fault e));
   told = λ h. ap status_of_fault (failed_same fault stream.ReadFault (r.told h));
 }
 
-reports_write : (before now : ℕ) (fault : StreamFault) → Reports before now (failed fault ≡ failed stream.WriteFault) → Reports before now (status_of_fault fault ≡ WriteFault)
+reports_write : (before now : ℕ) (fault : StreamFault) → Reports before now (failed fault ≡ failed stream.WriteFault) →
+    Reports before now (status_of_fault fault ≡ WriteFault)
 reports_write before now fault r = record {
   later = r.later;
   cause = λ e. r.cause (ap failed (from_write fault e));
@@ -89,7 +92,8 @@ fault_success stream.WriteFault e = absurd (cc)
 
 -- by a status that is no fault of the outside, where no read failed and nothing was written
 pub quiet_ends : (status : Status) (held : List ℕ) (before now writes : ℕ) (out : Option (List ℕ))
-    → now ≡ before → status ≢ Usage → status ≢ ReadFault → status ≢ WriteFault → EndsCleanly status held before now writes writes out out
+    → now ≡ before → status ≢ Usage → status ≢ ReadFault → status ≢ WriteFault →
+    EndsCleanly status held before now writes writes out out
 quiet_ends status held before now writes out same usage read write = record {
   empty = λ e. absurd (read e);
   usage = usage;
@@ -105,7 +109,8 @@ refusal_ends status held before now writes out same refusal = quiet_ends status 
 
 -- by a failed write, where no read failed
 pub write_ends : (held : List ℕ) (before now write_before write_now : ℕ) (out out' : Option (List ℕ))
-    → now ≡ before → write_before ≤ write_now → Rose write_before write_now → EndsCleanly WriteFault held before now write_before write_now out out'
+    → now ≡ before → write_before ≤ write_now → Rose write_before write_now →
+    EndsCleanly WriteFault held before now write_before write_now out out'
 write_ends held before now write_before write_now out out' same later rose = record {
   empty = λ e. absurd (cc);
   usage = λ e. cc;
@@ -115,9 +120,11 @@ write_ends held before now write_before write_now out out' same later rose = rec
 }
 
 -- by a fault of a run over the data, before which no read and no write failed
-pub run_ends : (fault : StreamFault) (held : List ℕ) (read_before read_mid read_now write_before write_mid write_now : ℕ) (out out' : Option (List ℕ))
+pub run_ends : (fault : StreamFault) (held : List ℕ) (read_before read_mid read_now write_before write_mid write_now
+    : ℕ) (out out' : Option (List ℕ))
     → read_mid ≡ read_before → write_mid ≡ write_before → (failed fault ≡ failed stream.ReadFault → held ≡ [])
-    → Reports read_mid read_now (failed fault ≡ failed stream.ReadFault) → Reports write_mid write_now (failed fault ≡ failed stream.WriteFault)
+    → Reports read_mid read_now (failed fault ≡ failed stream.ReadFault) →
+    Reports write_mid write_now (failed fault ≡ failed stream.WriteFault)
     → EndsCleanly (status_of_fault fault) held read_before read_now write_before write_now out out'
 run_ends fault held read_before read_mid read_now write_before write_mid write_now out out' no_read no_write empty read write = record {
   empty = λ e. empty (read_alone fault e);

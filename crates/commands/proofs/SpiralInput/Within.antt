@@ -4,7 +4,8 @@ use Rattle.std.specs.declared.option.Option.{Option}
 use Rattle.spiral_words.specs.declared.spiral_status.status.Status.{Status}
 use Rattle.commands.specs.SpiralInput.Outcomes.{Outcomes, Meets, SourceMeets}
 use Rattle.commands.specs.SpiralInput.Stage.{Stage, given, ◌>>=◌}
-use Rattle.commands.specs.Equations.Front.{Front, taken_from, room_behind, MayGoOn, HasEnded, ordered, Work, by_front, staged}
+use Rattle.commands.specs.Equations.Front.{Front, taken_from, room_behind, MayGoOn, HasEnded, ordered, Work, by_front}
+use Rattle.commands.specs.Equations.Front.{staged}
 use Rattle.commands.proofs.SpiralInput.Nested.{joined, split_off, nested, unnested, answer_map, broken_map, cut_map}
 
 -- all that is right for the first is right for the second
@@ -81,7 +82,8 @@ join_broken front orders next work read ended t (inr (a, p, (b, n, q))) =
 
 -- the last stage of what a front orders may stand with the work
 pub front_split : {A B : Type 0} (front : Front) (orders : List ℕ → Stage A) (next : A → Stage B) (work : B → Work)
-    → Within (by_front front (λ text. orders text >>= next) work) (by_front front orders (λ (a : A). staged (next a) work))
+    → Within (by_front front (λ text. orders text >>= next) work)
+    (by_front front orders (λ (a : A). staged (next a) work))
 front_split {A} {B} front orders next work = record {
   answer = λ bytes s t p.
       let Settles : B → Status → List ℕ → Type 0 = λ b. (work b (room_behind front bytes)).answer (front.behind bytes) in
@@ -95,7 +97,8 @@ front_split {A} {B} front orders next work = record {
 }
 
 pub front_join : {A B : Type 0} (front : Front) (orders : List ℕ → Stage A) (next : A → Stage B) (work : B → Work)
-    → Within (by_front front orders (λ (a : A). staged (next a) work)) (by_front front (λ text. orders text >>= next) work)
+    → Within (by_front front orders (λ (a : A). staged (next a) work))
+    (by_front front (λ text. orders text >>= next) work)
 front_join {A} {B} front orders next work = record {
   answer = λ bytes s t p.
       let Settles : B → Status → List ℕ → Type 0 = λ b. (work b (room_behind front bytes)).answer (front.behind bytes) in

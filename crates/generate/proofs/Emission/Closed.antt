@@ -3,6 +3,7 @@ use Rattle.std.proofs.Common.{◌≡◌, ℕ, refl, sym, ap, ap₂, ◌∙◌, s
 use Rattle.std.specs.Prelude.{map, reverse}
 use Rattle.std.proofs.lemmas.List.{map-append, reverse-append}
 use Rattle.std.proofs.lemmas.List.Elements.{All-head, All-tail}
+use Rattle.std.proofs.lemmas.Simd.{map-map}
 use Rattle.matrix_meaning.specs.declared.Kind.{Kind}
 use Rattle.matrix_meaning.specs.declared.Kind.TheVariants.{Dft, Wht, Idft}
 use Rattle.matrix_meaning.specs.declared.Request.{Request}
@@ -19,7 +20,8 @@ use Rattle.sigma_lower.proofs.Ordered.{trees_ordered}
 use Rattle.sigma_lower.proofs.TreeLayouts.{trees_can_lower}
 use Rattle.sigma_lower.proofs.TreeLoops.LoopLimits.{loops_are_limited}
 use Rattle.sigma_lower.proofs.TreeSigmas.ClosedLoops.{TakesClosing, closed-nest, closed_loop}
-use Rattle.sigma_lower.proofs.TreeSigmas.ClosedPhases.{ArePhases, IsPhase, closing_loops, each-some, layout-takes, loops_by, whole-loops, whole-phases}
+use Rattle.sigma_lower.proofs.TreeSigmas.ClosedPhases.{ArePhases, IsPhase, closing_loops, each-some, layout-takes}
+use Rattle.sigma_lower.proofs.TreeSigmas.ClosedPhases.{loops_by, whole-loops, whole-phases}
 use Rattle.sigma_lower.proofs.TreeSigmas.Closing.{takes-phases}
 use Rattle.sigma_lower.proofs.TreeSigmas.Lasts.{order-map}
 use Rattle.sigma_spl.specs.Lists.{LastIs, on_last}
@@ -37,7 +39,12 @@ use Rattle.tree_model.specs.Breakdown.{Breakdown}
 use Rattle.tree_model.specs.Chosen.{IsWholeTree}
 use Rattle.tree_model.specs.Cost.{is_plain}
 use Rattle.generate.specs.Emission.Passes.{Factors, none, number}
-use Rattle.generate.specs.Emission.Whole.{closing_factors}
+use Rattle.generate.specs.Emission.Whole.{closing_factors, emission, phases_of}
+use Rattle.generate.specs.Letters.{program_for}
+use Rattle.code_gen.specs.PassCode.Program.{program_of}
+use Rattle.generate.proofs.Emission.Nested.{emitted}
+use Rattle.generate.proofs.Emission.PassPrograms.{programs-by-passes}
+use Rattle.generate.proofs.Emission.PlainPlaces.{plain-closing, plain-phases}
 use Rattle.generate.proofs.Emission.Nests.{multiplying, nests}
 use Rattle.perm_algebra.specs.Affine.{Sum, constant}
 
@@ -49,7 +56,7 @@ abbrev pub factors_by : Option ℕ → Factors
 factors_by None = none
 factors_by (Some v) = number v
 
-pub closing-is : (kind : Kind) (c : Request) → closing_factors kind c ≡ factors_by (factor_by kind c)
+closing-is : (kind : Kind) (c : Request) → closing_factors kind c ≡ factors_by (factor_by kind c)
 closing-is Dft c = refl
 closing-is Wht c = refl
 closing-is Idft c = refl
@@ -71,6 +78,10 @@ closing (Some v) ps = on_last (map (multiplying (repeated v 1) firsts)) ps
 abbrev pub closed-phases : Option ℕ → List (List (List PlainNest)) → List (List (List PlainNest))
 closed-phases None phases = phases
 closed-phases (Some v) phases = on_last (closing (Some v)) phases
+
+pub closed-one : (o : Option ℕ) (ps : List (List PlainNest)) → closed-phases o (ps ∷ []) ≡ closing o ps ∷ []
+closed-one None ps = refl
+closed-one (Some v) ps = refl
 
 -- ---- merging makes a nest of each loop
 
@@ -108,13 +119,9 @@ closed-loops h (Some v) phases last =
     (λ ps takes. last-mapped one_nest (closed_loop h.size v) (map (multiplying (repeated v 1) firsts))
     (TakesClosing h.size) (λ p one. ap (λ z. z ∷ []) (closed-nest h.size v p one)) ps takes) phases last
 
-nests-of : (ps : List PlainPass) → map one_nest (map loop_of ps) ≡ nests ps
-nests-of [] = refl
-nests-of (p ∷ ps) = ap (λ zs. one_nest (loop_of p) ∷ zs) (nests-of ps)
-
 all-nests : (phases : List (List PlainPass)) → map (map one_nest) (map (map loop_of) phases) ≡ map nests phases
 all-nests [] = refl
-all-nests (ps ∷ phases) = ap₂ (λ z zs. z ∷ zs) (nests-of ps) (all-nests phases)
+all-nests (ps ∷ phases) = ap₂ (λ z zs. z ∷ zs) (map-map one_nest loop_of ps) (all-nests phases)
 
 pub closed_tree : (c : Request) (t : Breakdown) → IsValid c → IsWholeTree c t →
     tree_merged c t ≡ phases-in c
@@ -139,3 +146,17 @@ closed_tree c t valid tree =
     ∙ ap (map (map one_nest)) (whole-loops h o ts)
     ∙ closed-loops h o loops takes
     ∙ ap (closed-phases o) (all-nests (merged_phases h l)))
+
+-- ---- programs
+
+-- merged passes that are those of emission give its program
+pub emission-by : (c : Request) (t : Breakdown) → IsValid c → IsWholeTree c t →
+    closed-phases (factor_by c.kind c) (map nests (merged_phases (target_of c) (layout_of (forward_of c) t)))
+    ≡ map emitted (phases_of (forward_of c) (factors_by (factor_by c.kind c)) t) → program_for c t ≡ emission c t
+emission-by c t valid tree same =
+    ap (program_of (target_of c))
+    (closed_tree c t valid tree
+    ∙ ap (phases-in c)
+    (same ∙ ap (λ f. map emitted (phases_of (forward_of c) f t)) (sym (closing-is c.kind c))))
+    ∙ programs-by-passes c (phases_of (forward_of c) (closing_factors c.kind c) t)
+    (plain-phases (forward_of c) (closing_factors c.kind c) t (plain-closing c.kind c))

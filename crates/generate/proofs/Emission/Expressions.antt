@@ -1,8 +1,10 @@
 -- Places by the rules of emission are the generator's, since no place has a quotient.
-use Rattle.std.proofs.Common.{◌≡◌, ℕ, zero, suc, ◌+◌, ◌==◌, Bool, true, false, refl, sym, ap, ap₂, ◌∙◌, List, [], ◌∷◌, ◌++◌, length, append_assoc}
+use Rattle.std.proofs.Common.{◌≡◌, ℕ, zero, suc, ◌+◌, ◌==◌, Bool, true, false, refl, sym, ap, ap₂, ◌∙◌, List, [], ◌∷◌}
+use Rattle.std.proofs.Common.{◌++◌, length, append_assoc}
 use Rattle.std.specs.Prelude.{not, if◌then◌else◌}
 use Rattle.std.specs.List.{flat_map, range_with_len}
-use Rattle.code_gen.specs.PassCode.Expressions.{expr_of, factor_at, processor_of, quotients_of, remainders_of, sum_of, variables_of}
+use Rattle.code_gen.specs.PassCode.Expressions.{expr_of, factor_at, processor_of, quotients_of, remainders_of, sum_of}
+use Rattle.code_gen.specs.PassCode.Expressions.{variables_of}
 use Rattle.icode.specs.Plain as code
 use Rattle.icode.specs.Plain.{PlainPart, AndParts, NoParts, Proc, Rem, Var, parts_of}
 use Rattle.matrix_meaning.specs.declared.Request.{Request}

@@ -11,7 +11,8 @@ use Rattle.smp_rewrite.proofs.LayoutSteps.Layouts.{layouts_have_size}
 use Rattle.tree_model.specs.Breakdown.{Breakdown, leaf, node, size_of}
 use Rattle.tree_model.specs.Cost.{is_kernel, node_root}
 use Rattle.tree_model.specs.Whole.{left_of, right_of}
-use Rattle.generate.specs.Emission.Passes.{Pass, Site, Work, kernel, left_site, long_work, node_work, passes, right_site, rows, tile}
+use Rattle.generate.specs.Emission.Passes.{Pass, Site, Work, kernel, left_site, long_work, node_work, passes}
+use Rattle.generate.specs.Emission.Passes.{right_site, rows, tile}
 use Rattle.generate.proofs.Emission.Nested.{pass_at, plain_work}
 use Rattle.generate.proofs.Emission.Nests.{IsNodeWork}
 use Rattle.sigma_lower.proofs.TreeLoops.Shaped.{HasWorks}

@@ -1,5 +1,6 @@
 -- The passes of a shared root's left part are those of the part alone, in all copies.
-use Rattle.std.proofs.Common.{◌≡◌, ℕ, ◌+◌, ◌*◌, ◌/◌, arith, refl, sym, ap, ap₂, ◌∙◌, List, [], ◌∷◌, ◌++◌, length, subst, mul_comm, Option, None, Some}
+use Rattle.std.proofs.Common.{◌≡◌, ℕ, ◌+◌, ◌*◌, ◌/◌, arith, refl, sym, ap, ap₂, ◌∙◌, List, [], ◌∷◌, ◌++◌, length, subst}
+use Rattle.std.proofs.Common.{mul_comm, Option, None, Some}
 use Rattle.std.specs.Prelude.{map}
 use Rattle.std.specs.Option.{option_map}
 use Rattle.std.proofs.lemmas.List.{map-append}
@@ -12,7 +13,8 @@ use Rattle.sigma_lower.specs.TreeLoops.Placed.{AreCounts, Fits, all_simplified, 
 use Rattle.sigma_lower.specs.TreeTerms.Root.{left_path}
 use Rattle.sigma_lower.specs.TreeTerms.Wrapped.{inner_of}
 use Rattle.sigma_lower.proofs.TreeLoops.InCopies.{AreCopies, placed}
-use Rattle.sigma_lower.proofs.TreeLoops.LeftPlaces.{Spread, spread-by, item-whole, counts-append, left_fills, left_wide, part-leads, size_under-append}
+use Rattle.sigma_lower.proofs.TreeLoops.LeftPlaces.{Spread, spread-by, item-whole, counts-append, left_fills, left_wide}
+use Rattle.sigma_lower.proofs.TreeLoops.LeftPlaces.{part-leads, size_under-append}
 use Rattle.sigma_lower.proofs.TreeLoops.Moved.{placed-columns}
 use Rattle.sigma_lower.proofs.TreeLoops.PlaceLimits.{IsPlacedPass}
 use Rattle.sigma_lower.proofs.TreeLoops.RootPasses.{if_dealt, left_diagonal, left_pass, on_all}

@@ -82,13 +82,6 @@ module _ (outer : List ℕ) (d : ℕ) (whole : PlaceFunction) where
   ArePasses path n o (p ∷ ps) [] = ⊥
   ArePasses path n o (p ∷ ps) (q ∷ qs) = AreUpTo path n o p q ps qs
 
-  pub same-append : (ps rs : List PlainPass) (qs ts : List Pass) → AreSame ps qs → AreSame rs ts →
-      AreSame (ps ++ rs) (qs ++ ts)
-  same-append [] rs [] ts h k = k
-  same-append [] rs (q ∷ qs) ts h k = absurd h
-  same-append (p ∷ ps) rs [] ts h k = absurd h
-  same-append (p ∷ ps) rs (q ∷ qs) ts h k = (h.0, same-append ps rs qs ts h.1 k)
-
   passes-cons : (path : Path) (n : ℕ) (o : Site) (p : PlainPass) (q : Pass) (ps : List PlainPass) (qs : List Pass) →
       IsSame p q → ArePasses path n o ps qs → ArePasses path n o (p ∷ ps) (q ∷ qs)
   passes-cons path n o p q [] qs h k = absurd k
@@ -114,10 +107,6 @@ module _ (outer : List ℕ) (d : ℕ) (whole : PlaceFunction) where
   last-same path n o f step (p ∷ x ∷ xs) (q ∷ []) h = absurd h
   last-same path n o f step (p ∷ x ∷ xs) (q ∷ y ∷ ys) h = (h.0, last-same path n o f step (x ∷ xs) (y ∷ ys) h.1)
 
-  up-to-cons : (path : Path) (n : ℕ) (o : Site) (p : PlainPass) (q : Pass) (ps : List PlainPass) (y : Pass)
-      (ys : List Pass) → IsSame p q → ArePasses path n o ps (y ∷ ys) → ArePasses path n o (p ∷ ps) (q ∷ y ∷ ys)
-  up-to-cons path n o p q ps y ys h k = passes-cons path n o p q ps (y ∷ ys) h k
-
   -- the last one changed, as the last of another node
   pub last-other : (path inner : Path) (n k : ℕ) (o i : Site) (f : PlainPass → PlainPass) →
       ((p : PlainPass) (q : Pass) → IsLast inner k i p q → IsLast path n o (f p) q) →
@@ -129,7 +118,8 @@ module _ (outer : List ℕ) (d : ℕ) (whole : PlaceFunction) where
   last-other path inner n k o i f step (p ∷ []) (q ∷ y ∷ ys) h = absurd h
   last-other path inner n k o i f step (p ∷ x ∷ xs) (q ∷ []) h = absurd h
   last-other path inner n k o i f step (p ∷ x ∷ xs) (q ∷ y ∷ ys) h =
-      up-to-cons path n o p q (at_last f (x ∷ xs)) y ys h.0 (last-other path inner n k o i f step (x ∷ xs) (y ∷ ys) h.1)
+      passes-cons path n o p q (at_last f (x ∷ xs)) (y ∷ ys) h.0
+      (last-other path inner n k o i f step (x ∷ xs) (y ∷ ys) h.1)
 
 -- nothing changed
 pub at_last-none : (ps : List PlainPass) → at_last (λ p. p) ps ≡ ps

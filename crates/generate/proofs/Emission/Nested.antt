@@ -7,7 +7,8 @@ use Rattle.sigma_spl.specs.Nest as nests
 use Rattle.sigma_spl.specs.Nest.{PlainFactors, PlainMultiplier, PlainNest}
 use Rattle.sigma_spl.specs.Work as works
 use Rattle.sigma_spl.specs.Work.{PlainWork, is_straight, vectors_of}
-use Rattle.generate.specs.Emission.Passes.{Diagonal, Factors, Pass, Site, Work, entries, kernel, none, number, rows, tile, twiddles, values}
+use Rattle.generate.specs.Emission.Passes.{Diagonal, Factors, Pass, Site, Work, entries, kernel, none, number, rows}
+use Rattle.generate.specs.Emission.Passes.{tile, twiddles, values}
 use Rattle.generate.specs.Emission.Places.{PlaceFunction}
 
 abbrev pub pass_at : Site → Work → Pass

@@ -1,5 +1,6 @@
 -- The code of a pass by the rules of emission is that of its nest.
-use Rattle.std.proofs.Common.{◌≡◌, ℕ, zero, suc, ◌+◌, ◌<◌, refl, sym, ap, ap₂, ◌∙◌, List, [], ◌∷◌, ◌++◌, length, arith, append-nil, Option}
+use Rattle.std.proofs.Common.{◌≡◌, ℕ, zero, suc, ◌+◌, ◌<◌, refl, sym, ap, ap₂, ◌∙◌, List, [], ◌∷◌, ◌++◌, length, arith}
+use Rattle.std.proofs.Common.{append-nil, Option}
 use Rattle.std.specs.Prelude.{map, drop, slice_index, slice_index_or}
 use Rattle.std.specs.List.{flat_map, range_with_len}
 use Rattle.std.proofs.lemmas.Grind.{flat_map-append}
@@ -8,9 +9,11 @@ use Rattle.std.proofs.lemmas.List.Concat.{flat_map_single}
 use Rattle.std.proofs.lemmas.Simd.{map-map}
 use Rattle.std.proofs.lemmas.List.FromFn.{get_or-map-range_with_len, map-range_with_len_more}
 use Rattle.code_gen.specs.PassCode.Expressions.{expr_of}
-use Rattle.code_gen.specs.PassCode.Statements.{do_only, finish_body, followed_by, in_a_row, loads_body, multiplier_number, nest_body, nested, pass_body, place_at, powers_number, straight_body, term_body, tables_of_work, work_body}
-use Rattle.icode.specs.Plain as code
-use Rattle.icode.specs.Plain.{PlainBody, PlainStmt, AndStmts, Do, Load, Loop, MulConst, MulTable, NoStmts, Store, Tile, Zero, body_of}
+use Rattle.code_gen.specs.PassCode.Statements.{do_only, finish_body, followed_by, in_a_row, loads_body}
+use Rattle.code_gen.specs.PassCode.Statements.{multiplier_number, nest_body, nested, pass_body, place_at, powers_number}
+use Rattle.code_gen.specs.PassCode.Statements.{straight_body, term_body, tables_of_work, work_body}
+use Rattle.icode.specs.Plain.{PlainBody, PlainStmt, AndStmts, Do, Load, Loop, MulConst, MulTable, NoStmts, Store, Tile}
+use Rattle.icode.specs.Plain.{Zero, body_of}
 use Rattle.kernel_gen.specs.Instructions.{op_of}
 use Rattle.kernel_gen.specs.Kernel.{trees_kernel}
 use Rattle.kernel_gen.specs.declared.straight.Instruction.{Instruction}
@@ -23,8 +26,10 @@ use Rattle.sigma_spl.specs.Shared.Targets.{target_of}
 use Rattle.tree_model.specs.Trees.{trees_size}
 use Rattle.tree_model.specs.Whole.{rooted_of}
 use Rattle.generate.specs.Emission.Bodies as emission
-use Rattle.generate.specs.Emission.Bodies.{Setting, by_rows, finish, in_loops, load, loops, pass_code, place, store, straight}
-use Rattle.generate.specs.Emission.Passes.{Diagonal, Factors, Site, Work, entries, kernel, none, number, rows, tile, twiddles, values, work_size}
+use Rattle.generate.specs.Emission.Bodies.{Setting, by_rows, finish, in_loops, load, loops, pass_code, place, store}
+use Rattle.generate.specs.Emission.Bodies.{straight}
+use Rattle.generate.specs.Emission.Passes.{Diagonal, Factors, Site, Work, entries, kernel, none, number, rows, tile}
+use Rattle.generate.specs.Emission.Passes.{twiddles, values, work_size}
 use Rattle.generate.specs.Emission.Places.{PlaceFunction}
 use Rattle.generate.specs.Emission.Tables.{number_of, powers_of, table_of}
 use Rattle.generate.proofs.Emission.Expressions.{expression-is, hidden-is}
@@ -132,9 +137,6 @@ module _ (o : Setting) where
   at-place inner f k keeps plain =
       expression-is o (length (loops o) + inner) (f cs k) (keeps cs k plain)
       ∙ ap (λ b. emission.expression o (length (loops o) + inner) (f b k)) limits-are
-
-  abbrev pub Stores : List Sum → ℕ → ℕ → Sum → Type 0
-  Stores sums i inner k = slice_index_or sums i (constant 0) ≡ site.store cs k
 
   -- the same, of an item that a list of places has
   from-list : (sums : List Sum) (i inner : ℕ) (f : PlaceFunction) (k : Sum) → KeepsPlain f → HasNoQuotient k →

@@ -1,5 +1,6 @@
 -- The program of passes by the rules of emission is that of their nests.
-use Rattle.std.proofs.Common.{◌≡◌, ℕ, zero, suc, ◌+◌, ◌-◌, ◌%◌, ◌==◌, Bool, true, false, refl, sym, ap, ap₂, ◌∙◌, List, [], ◌∷◌, ◌++◌, length, arith, append_assoc}
+use Rattle.std.proofs.Common.{◌≡◌, ℕ, zero, suc, ◌+◌, ◌-◌, ◌%◌, ◌==◌, Bool, true, false, refl, sym, ap, ap₂, ◌∙◌, List}
+use Rattle.std.proofs.Common.{[], ◌∷◌, ◌++◌, length, arith, append-nil, append_assoc}
 use Rattle.std.specs.Prelude.{cond, map, max, nat_eq, not, slice_index, if◌then◌else◌, ◌&&◌, ◌||◌}
 use Rattle.std.specs.Cmp.Lexicographic.{pointwise}
 use Rattle.std.specs.List.{flat_map, fold, list_any}
@@ -9,8 +10,13 @@ use Rattle.std.proofs.lemmas.Grind.{flat_map-append, fold-append}
 use Rattle.std.proofs.lemmas.List.{length-append, length-map, map-append}
 use Rattle.std.proofs.lemmas.List.FromFn.{fill_by_all}
 use Rattle.code_gen.specs.PassActions.Acts.{nest_registers, pass_registers, with_multiplier}
-use Rattle.code_gen.specs.PassCode.Program.{array_after, count_in, most_of, most_of_phases, phase_body, phases_body, program_of, tables_of_phases, tables_through, written_array}
-use Rattle.code_gen.specs.PassCode.Statements.{diagonal_of, followed_by, is_table, multiplier_number, pass_body, powers_number, table_number, tables_after, tables_of_multiplier, tables_of_work, with_table}
+use Rattle.code_gen.specs.PassCode.Program.{array_after, count_in, most_of, most_of_phases, phase_body, phases_body}
+use Rattle.code_gen.specs.PassCode.Program.{program_of, tables_of_phases, tables_through, written_array}
+use Rattle.code_gen.specs.PassCode.Statements.{diagonal_of, followed_by, is_table, multiplier_number, pass_body}
+use Rattle.code_gen.specs.PassCode.Statements.{powers_number, table_number, tables_after, tables_of_multiplier}
+use Rattle.code_gen.specs.PassCode.Statements.{tables_of_work, with_table}
+use Rattle.code_gen.proofs.PassCode.NestEmits.{extends-more}
+use Rattle.code_gen.proofs.PassCode.SharedTables.{Extends, is_table-Decides, with_table-extends}
 use Rattle.icode.specs.Plain.{PlainBody, PlainProgram, body_of}
 use Rattle.icode.specs.declared.program.Array.{Array}
 use Rattle.icode.specs.declared.program.Array.TheVariants.{X, Y, A, B}
@@ -23,7 +29,8 @@ use Rattle.sigma_spl.specs.Work as works
 use Rattle.tree_model.specs.Trees.{trees_size}
 use Rattle.tree_model.specs.Whole.{rooted_of}
 use Rattle.generate.specs.Emission.Bodies.{Setting, pass_code}
-use Rattle.generate.specs.Emission.Passes.{Diagonal, Factors, Pass, Work, entries, kernel, none, number, rows, tile, twiddles, values}
+use Rattle.generate.specs.Emission.Passes.{Diagonal, Factors, Pass, Work, entries, kernel, none, number, rows, tile}
+use Rattle.generate.specs.Emission.Passes.{twiddles, values}
 use Rattle.generate.specs.Emission.Program.{phase_code, phases_code, products, program_in, read, registers, written}
 use Rattle.generate.specs.Emission.Tables.{added, entries_in, number_of, powers_in, powers_of, table_of, tables_in}
 use Rattle.generate.proofs.Emission.Nested.{emitted, emitted_nest, multiplier_at, plain_factors, plain_work}
@@ -70,67 +77,27 @@ folds-added ts (e ∷ es) = folds-added (with_table ts e) es ∙ ap (λ us. fold
 
 -- ---- tables that are there keep their numbers
 
-same-table : (xs : List ℕ) → is_table xs xs ≡ true
-same-table [] = refl
-same-table (x ∷ xs) =
-    ap (λ b. if b then is_table xs xs else false) (let same : x == x ≡ true = grind (arith, nat_tests) in same)
-    ∙ same-table xs
-
-abbrev has : List (List ℕ) → List ℕ → Bool
-has [] e = false
-has (t ∷ ts) e = if is_table t e then true else has ts e
-
-number-with : (ts : List (List ℕ)) (e : List ℕ) → table_number (with_table ts e) e ≡ table_number ts e
-number-with [] e = ap (λ b. if b then 0 else 1) (same-table e)
-number-with (t ∷ ts) e = by (number-with ts e) (is_table t e) refl
+number-before : (ts : List (List ℕ)) (e : List ℕ) (more : List (List ℕ)) →
+    table_number (with_table ts e ++ more) e ≡ table_number ts e
+number-before [] e more = ap (λ b. if b then 0 else suc (table_number more e)) ((is_table-Decides e e).1 refl)
+number-before (t ∷ ts) e more = by (number-before ts e more) (is_table t e) refl
   where
-    by : table_number (with_table ts e) e ≡ table_number ts e → (b : Bool) → is_table t e ≡ b →
-        table_number (if b then t ∷ ts else t ∷ with_table ts e) e ≡ (if b then 0 else suc (table_number ts e))
-    by rest true is = ap (λ b. if b then 0 else suc (table_number ts e)) is
-    by rest false is = ap (λ b. if b then 0 else suc (table_number (with_table ts e) e)) is ∙ ap suc rest
+    by : table_number (with_table ts e ++ more) e ≡ table_number ts e → (b : Bool) → is_table t e ≡ b →
+        table_number ((if b then t ∷ ts else t ∷ with_table ts e) ++ more) e
+        ≡ (if b then 0 else suc (table_number ts e))
+    by rest true is = ap (λ b. if b then 0 else suc (table_number (ts ++ more) e)) is
+    by rest false is = ap (λ b. if b then 0 else suc (table_number (with_table ts e ++ more) e)) is ∙ ap suc rest
 
-has-with : (ts : List (List ℕ)) (e : List ℕ) → has (with_table ts e) e ≡ true
-has-with [] e = ap (λ b. if b then true else false) (same-table e)
-has-with (t ∷ ts) e = by (has-with ts e) (is_table t e) refl
-  where
-    by : has (with_table ts e) e ≡ true → (b : Bool) → is_table t e ≡ b →
-        has (if b then t ∷ ts else t ∷ with_table ts e) e ≡ true
-    by rest true is = ap (λ b. if b then true else has ts e) is
-    by rest false is = ap (λ b. if b then true else has (with_table ts e) e) is ∙ rest
-
-has-kept : (ts : List (List ℕ)) (x e : List ℕ) → has ts e ≡ true → has (with_table ts x) e ≡ true
-has-kept [] x e h = let clash : false ≡ true = h in grind arith
-has-kept (t ∷ ts) x e h = by (has-kept ts x e) (is_table t x) (is_table t e) refl h
-  where
-    by : (has ts e ≡ true → has (with_table ts x) e ≡ true) → (b d : Bool) → is_table t e ≡ d →
-        (if d then true else has ts e) ≡ true →
-        has (if b then t ∷ ts else t ∷ with_table ts x) e ≡ true
-    by rest true d is k = ap (λ d. if d then true else has ts e) is ∙ k
-    by rest false true is k = ap (λ d. if d then true else has (with_table ts x) e) is
-    by rest false false is k = ap (λ d. if d then true else has (with_table ts x) e) is ∙ rest k
-
-number-kept : (ts : List (List ℕ)) (x e : List ℕ) → has ts e ≡ true →
-    table_number (with_table ts x) e ≡ table_number ts e
-number-kept [] x e h = let clash : false ≡ true = h in grind arith
-number-kept (t ∷ ts) x e h = by (number-kept ts x e) (is_table t x) (is_table t e) refl h
-  where
-    by : (has ts e ≡ true → table_number (with_table ts x) e ≡ table_number ts e) → (b d : Bool) → is_table t e ≡ d →
-        (if d then true else has ts e) ≡ true →
-        table_number (if b then t ∷ ts else t ∷ with_table ts x) e ≡ table_number (t ∷ ts) e
-    by rest true d is k = refl
-    by rest false true is k =
-        ap (λ d. if d then 0 else suc (table_number (with_table ts x) e)) is
-        ∙ sym (ap (λ d. if d then 0 else suc (table_number ts e)) is)
-    by rest false false is k = ap (λ n. if is_table t e then 0 else suc n) (rest k)
-
-kept : (ts xs : List (List ℕ)) (e : List ℕ) → has ts e ≡ true →
-    table_number (fold with_table ts xs) e ≡ table_number ts e
-kept ts [] e h = refl
-kept ts (x ∷ xs) e h = kept (with_table ts x) xs e (has-kept ts x e h) ∙ number-kept ts x e h
+all-extend : (ts xs : List (List ℕ)) → Extends (fold with_table ts xs) ts
+all-extend ts [] = record { last = []; is = sym (append-nil ts) }
+all-extend ts (x ∷ xs) =
+    extends-more _ (with_table ts x) ts (all-extend (with_table ts x) xs) (with_table-extends ts x)
 
 found : (ts : List (List ℕ)) (e : List ℕ) (xs : List (List ℕ)) →
     table_number ts e ≡ table_number (fold with_table (with_table ts e) xs) e
-found ts e xs = sym (kept (with_table ts e) xs e (has-with ts e) ∙ number-with ts e)
+found ts e xs =
+    let all = all-extend (with_table ts e) xs in
+    sym (ap (λ us. table_number us e) all.is ∙ number-before ts e all.last)
 
 -- ---- the tables of a pass
 
@@ -202,13 +169,9 @@ module _ (o : Setting) (ts rest : List (List ℕ)) where
       ∙ found (fold with_table ts (powers_in m' v)) (table_of m' x) rest
       ∙ ap (λ us. table_number us (table_of m' x))
       (sym (fold-append with_table ts (powers_in m' v) (table_of m' x ∷ rest))
-      ∙ ap (fold with_table ts) (sym (regrouped (powers_in m' v)))
+      ∙ ap (fold with_table ts) (sym (append_assoc (powers_in m' v) (table_of m' x ∷ []) rest))
       ∙ sym are)
       ∙ number-is o.tables (table_of m' x)
-    where
-      regrouped : (xs : List (List ℕ)) → (xs ++ table_of m' x ∷ []) ++ rest ≡ xs ++ table_of m' x ∷ rest
-      regrouped [] = refl
-      regrouped (y ∷ ys) = ap (λ zs. y ∷ zs) (regrouped ys)
 
   entries-found : (v : Work) (counts : List ℕ) (f : Factors) →
       o.tables ≡ fold with_table ts ((powers_in m' v ++ entries_in m' f) ++ rest) →

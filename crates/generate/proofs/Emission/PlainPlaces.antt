@@ -1,49 +1,49 @@
 -- No place of a pass by the rules of emission has a quotient.
-use Rattle.std.proofs.Common.{ℕ, ◌*◌, ◌/◌, ◌%◌, ◌==◌, Bool, true, false, List, [], ◌∷◌, ◌++◌, nat_lt}
-use Rattle.std.specs.Prelude.{if◌then◌else◌}
+use Rattle.std.proofs.Common.{ℕ, ◌*◌, ◌/◌, ◌%◌, ◌==◌, List, [], ◌∷◌, ◌++◌, nat_lt}
 use Rattle.matrix_meaning.specs.declared.Kind.{Kind}
 use Rattle.matrix_meaning.specs.declared.Kind.TheVariants.{Dft, Wht, Idft}
 use Rattle.matrix_meaning.specs.declared.Request.{Request}
 use Rattle.index_fn.specs.Back.{unit_below}
 use Rattle.perm_algebra.proofs.Sizes.{plain-joined, plain-scaled}
-use Rattle.perm_algebra.specs.Affine.{HasNoQuotient, Sum, constant, variable, remainder, quotient, joined, mods, reduced, scaled, top}
+use Rattle.perm_algebra.specs.Affine.{HasNoQuotient, Sum, constant, variable, remainder, quotient, joined, mods}
+use Rattle.perm_algebra.specs.Affine.{reduced, scaled, top}
+use Rattle.sigma_spl.proofs.Walk.{chosen}
 use Rattle.tree_model.specs.Breakdown.{Breakdown, leaf, node, size_of}
 use Rattle.tree_model.specs.Cost.{is_kernel, is_plain, node_root}
 use Rattle.tree_model.specs.Whole.{left_of, right_of}
 use Rattle.tree_model.specs.declared.tree.Rule.{Rule}
 use Rattle.tree_model.specs.declared.tree.Rule.TheVariants.{Gt, Ct, Split, Dim}
-use Rattle.generate.specs.Emission.Passes.{Factors, Pass, Site, entries, left_site, moved, node_work, none, number, passes, right_site, site_by, twiddled}
-use Rattle.generate.specs.Emission.Places.{PlaceFunction, after, blocks, columns, inside, left_out, right_in, same, turn_of}
-use Rattle.generate.specs.Emission.Root.{across, along, in_lanes, lane_loops, left_root, packed, processor_loops, right_root, root_in, root_phases, share, shared, strided, tile_column, tile_row, tiles, tiles_after, tiles_before, turns}
+use Rattle.generate.specs.Emission.Passes.{Factors, Pass, Site, entries, left_site, moved, node_work, none, number}
+use Rattle.generate.specs.Emission.Passes.{passes, right_site, site_by, twiddled}
+use Rattle.generate.specs.Emission.Places.{PlaceFunction, after, blocks, columns, inside, left_out, right_in, same}
+use Rattle.generate.specs.Emission.Places.{turn_of}
+use Rattle.generate.specs.Emission.Root.{across, along, in_lanes, lane_loops, left_root, packed, processor_loops}
+use Rattle.generate.specs.Emission.Root.{right_root, root_in, root_phases, share, shared, strided, tile_column}
+use Rattle.generate.specs.Emission.Root.{tile_row, tiles, tiles_after, tiles_before, turns}
 use Rattle.generate.specs.Emission.Whole.{closing_factors, phases_of, whole_site}
 use Rattle.generate.proofs.Emission.Nested.{pass_at}
 use Rattle.generate.proofs.Emission.PassBodies.{ArePlainFactors, IsPlainSite, KeepsPlain}
 use Rattle.generate.proofs.Emission.PassPrograms.{ArePlain, ArePlainPhases}
-
--- what holds of both holds of either
-either : {A : Type 0} (P : A → Type 0) (b : Bool) (x y : A) → P x → P y → P (if b then x else y)
-either P true x y h k = h
-either P false x y h k = k
 
 -- ---- sums
 
 plain-mods : (n : ℕ) (e : Sum) → HasNoQuotient e → HasNoQuotient (mods n e)
 plain-mods n (constant c) h = tt
 plain-mods n (variable f d rest) h =
-    either HasNoQuotient (f % n == 0) (mods n rest) (variable (f % n) d (mods n rest)) (plain-mods n rest h)
+    chosen HasNoQuotient (f % n == 0) (mods n rest) (variable (f % n) d (mods n rest)) (λ _. plain-mods n rest h)
     (plain-mods n rest h)
 plain-mods n (remainder f of m rest) h =
-    either HasNoQuotient (f % n == 0) (mods n rest) (remainder (f % n) of m (mods n rest)) (plain-mods n rest h.1)
+    chosen HasNoQuotient (f % n == 0) (mods n rest) (remainder (f % n) of m (mods n rest)) (λ _. plain-mods n rest h.1)
     (h.0, plain-mods n rest h.1)
 plain-mods n (quotient f of m rest) h = absurd h
 
 plain-reduced : (cs : ℕ → ℕ) (n : ℕ) (e : Sum) → HasNoQuotient e → HasNoQuotient (reduced cs n e)
 plain-reduced cs n e h =
-    either HasNoQuotient (nat_lt (top (mods n e) cs) n) (mods n e) (remainder 1 (mods n e) n (constant 0))
-    (plain-mods n e h) (plain-mods n e h, tt)
+    chosen HasNoQuotient (nat_lt (top (mods n e) cs) n) (mods n e) (remainder 1 (mods n e) n (constant 0))
+    (λ _. plain-mods n e h) (plain-mods n e h, tt)
 
 plain-turn : (counts : List ℕ) (n : ℕ) → HasNoQuotient (turn_of counts n)
-plain-turn counts n = either HasNoQuotient (n == 1) (constant 0) _ tt tt
+plain-turn counts n = chosen HasNoQuotient (n == 1) (constant 0) _ (λ _. tt) tt
 
 both : (a b : ℕ) (x y : Sum) → HasNoQuotient x → HasNoQuotient y → HasNoQuotient (joined (scaled a x) (scaled b y))
 both a b x y h k = plain-joined (scaled a x) (scaled b y) (plain-scaled a x h) (plain-scaled b y k)
@@ -117,8 +117,8 @@ plain-passes c o (node rule a b) h =
     let r = size_of a in
     let s = size_of b in
     let root = node_root c (r * s) in
-    either ArePlain (is_kernel c (r * s)) (pass_at o (node_work c (node rule a b)) ∷ []) _
-    (h, tt)
+    chosen ArePlain (is_kernel c (r * s)) (pass_at o (node_work c (node rule a b)) ∷ []) _
+    (λ _. (h, tt))
     (plain-append (passes (right_of rule c) (right_site rule r s root o) b) _
     (plain-passes (right_of rule c) (right_site rule r s root o) b (right-plain rule r s root o h))
     (plain-passes (left_of rule c) (left_site rule r s o) a (left-plain rule r s o h)))
@@ -172,8 +172,8 @@ module _ (c : Request) where
   plain-right : (rule : Rule) (r s root : ℕ) → IsPlainSite (right_root rule c r s root)
   plain-right rule r s root =
       by-plain (turns c r (lane_loops c)) (root_in rule c r s) _ (packed c r s) (keeps-root rule r s)
-      (either ArePlainFactors (c.lanes == 1) (twiddled rule r s root (packed c r s)) none
-      (plain-twiddled rule r s root (packed c r s) (keeps-packed r s)) tt)
+      (chosen ArePlainFactors (c.lanes == 1) (twiddled rule r s root (packed c r s)) none
+      (λ _. plain-twiddled rule r s root (packed c r s) (keeps-packed r s)) tt)
       (keeps-packed r s)
 
   plain-left : (s : ℕ) (f : Factors) → ArePlainFactors f → IsPlainSite (left_root c s f)
@@ -184,7 +184,7 @@ module _ (c : Request) where
   plain-tiles : (r s : ℕ) (load : PlaceFunction) (f : Factors) (store : PlaceFunction) → KeepsPlain load →
       ArePlainFactors f → KeepsPlain store → ArePlain (tiles c r s load f store)
   plain-tiles r s load f store h k l =
-      either ArePlain (c.lanes == 1) [] _ tt
+      chosen ArePlain (c.lanes == 1) [] _ (λ _. tt)
       (by-plain (inside (turns c r (processor_loops c)) (s / c.lanes)) load f store h k l, tt)
 
   plain-before : (rule : Rule) (r s : ℕ) → ArePlain (tiles_before rule c r s)
@@ -208,7 +208,7 @@ module _ (c : Request) where
       (plain-tiles r s (along c r s) _ (across c r s) (keeps-along r s)
       (plain-twiddled rule r s root (across c r s) (keeps-across r s)) (keeps-across r s))) in
       let second = plain-passes (left_of rule c) (left_root c s factors) a (plain-left s factors h) in
-      either ArePlainPhases (c.procs == 1) _ _ (plain-append _ _ first second, tt) (first, (second, tt))
+      chosen ArePlainPhases (c.procs == 1) _ _ (λ _. (plain-append _ _ first second, tt)) (first, (second, tt))
 
 -- ---- wholes
 
@@ -222,8 +222,8 @@ plain-closing Idft c = tt
 
 pub plain-phases : (c : Request) (f : Factors) (t : Breakdown) → ArePlainFactors f → ArePlainPhases (phases_of c f t)
 plain-phases c f t h =
-    either ArePlainPhases (is_plain c) (passes c (whole_site f) t ∷ []) (root_phases c f t)
-    (plain-passes c (whole_site f) t (plain-whole f h), tt) (plain-root c f t h)
+    chosen ArePlainPhases (is_plain c) (passes c (whole_site f) t ∷ []) (root_phases c f t)
+    (λ _. (plain-passes c (whole_site f) t (plain-whole f h), tt)) (plain-root c f t h)
 
 -- the passes of a convolution
 pub plain-joined-passes : (ps qs : List Pass) → ArePlain ps → ArePlain qs → ArePlainPhases ((ps ++ qs) ∷ [])

@@ -1,8 +1,8 @@
 -- On one processor and one lane the program of a tree is its emission.
-use Rattle.std.proofs.Common.{◌≡◌, ℕ, ◌<◌, ◌==◌, ◌&&◌, true, if◌then◌else◌, refl, sym, ap, ap₂, ◌∙◌, arith, List, [], ◌∷◌, ◌++◌, Option, None, Some}
+use Rattle.std.proofs.Common.{◌≡◌, ℕ, ◌<◌, ◌==◌, ◌&&◌, true, if◌then◌else◌, refl, sym, ap, ap₂, ◌∙◌, arith, List, []}
+use Rattle.std.proofs.Common.{◌∷◌, ◌++◌, Option, None}
 use Rattle.std.specs.Prelude.{map}
 use Rattle.std.proofs.lemmas.List.{map-append, append-nil}
-use Rattle.std.proofs.lemmas.Simd.{map-map}
 use Rattle.loop_merge.specs.JoinedPasses.Joined.{joined}
 use Rattle.sigma_spl.specs.Lists.{on_last}
 use Rattle.matrix_meaning.specs.Convolving.{IsConvRequest}
@@ -19,7 +19,6 @@ use Rattle.sigma_lower.proofs.TreeLoops.Shaped.{IsShapedWork, shaped_passes, sha
 use Rattle.sigma_lower.proofs.TreeLoops.TreePasses.{layout_passes}
 use Rattle.sigma_lower.proofs.TreeLoops.Wholes.{plain_phases}
 use Rattle.sigma_spl.specs.Loops.{nest_of}
-use Rattle.perm_algebra.specs.Affine.{constant}
 use Rattle.sigma_spl.specs.Nest as sums
 use Rattle.sigma_spl.specs.Shared.Targets.{target_of}
 use Rattle.smp_rewrite.specs.LayoutSteps.Layout.{Layout, layout_of, layout_size}
@@ -31,18 +30,20 @@ use Rattle.generate.specs.ConvLetters.{conv_program}
 use Rattle.generate.specs.Emission.Passes.{Factors, Pass, entries, none, passes, values}
 use Rattle.generate.specs.Emission.Places.{same}
 use Rattle.generate.specs.Emission.Root.{root_phases}
-use Rattle.generate.specs.Emission.Whole.{closing_factors, conv_emission, emission, phases_of, whole_site}
+use Rattle.generate.specs.Emission.Whole.{conv_emission, emission, whole_site}
 use Rattle.generate.specs.Factors.{factors_of}
 use Rattle.generate.specs.Letters.{program_for}
 use Rattle.generate.proofs.ConvTrees.{inverse_tree, inverse_valid}
-use Rattle.generate.proofs.Emission.Closed.{closed-phases, closed_tree, closing-is, factors_by, firsts, phases-in, plain-forward}
+use Rattle.generate.proofs.Emission.Closed.{closed-one, closed-phases, closed_tree, closing, emission-by, factors_by}
+use Rattle.generate.proofs.Emission.Closed.{phases-in, plain-forward}
 use Rattle.generate.proofs.Emission.Layouts.{layout_emitted, passes_of_layout, tree_works}
 use Rattle.generate.proofs.Emission.Matches.{ArePasses, IsAround, IsSame}
 use Rattle.generate.proofs.Emission.Nested.{emitted, emitted_nest}
 use Rattle.generate.proofs.Emission.Nests.{IsLooped, IsNodeWork, maps-same, multiplying, nests, same-nest}
-use Rattle.generate.proofs.Emission.Lists.{AllPasses, factors-passes, free-passes}
+use Rattle.generate.proofs.Emission.Lists.{AllPasses, closed-passes, factors-passes}
 use Rattle.generate.proofs.Emission.PassPrograms.{programs-by-passes}
-use Rattle.generate.proofs.Emission.PlainPlaces.{plain-closing, plain-joined-passes, plain-passes, plain-phases, plain-whole}
+use Rattle.generate.proofs.Emission.PlainPlaces.{plain-joined-passes, plain-passes}
+use Rattle.generate.proofs.Emission.PlainPlaces.{plain-whole}
 use Rattle.generate.proofs.Emission.PlainWorks.{looped-all}
 use Rattle.generate.proofs.Emission.Trees.{layouts_match}
 use Rattle.tree_model.proofs.WholeTrees.{forward_itself}
@@ -96,11 +97,11 @@ module _ (c : Request) (t : Breakdown) (valid : IsValid c) (h : IsWholeTree c t)
   abbrev qs : Factors → List Pass
   qs f = passes (forward_of c) (whole_site f) t
 
-  pub with-none : nests ps ≡ emitted (qs none)
-  with-none =
-      free-passes [] 0 same (λ p. p) (IsLooped c.modulus (layout_size l)) nest (layout_size l) (whole_site none)
-      (λ cs e. refl) ps _ refl good (matches none)
-      ∙ ap emitted (sym (passes_of_layout (forward_of c) (whole_site none) t))
+  pub closed : (o : Option ℕ) → closing o (nests ps) ≡ emitted (qs (factors_by o))
+  closed o =
+      closed-passes [] 0 same (λ p. p) (IsLooped c.modulus (layout_size l)) nest (layout_size l)
+      (whole_site (factors_by o)) (λ cs e. refl) o refl ps _ good (matches (factors_by o))
+      ∙ ap emitted (sym (passes_of_layout (forward_of c) (whole_site (factors_by o)) t))
 
   pub with-own : (ds : List ℕ) →
       on_last (map (multiplying (sums.values ds) (λ es. es))) (nests ps) ≡ emitted (qs (entries (values ds) same))
@@ -110,27 +111,16 @@ module _ (c : Request) (t : Breakdown) (valid : IsValid c) (h : IsWholeTree c t)
       (λ cs stored own es step. maps-same stored own es step) ps _ good (matches (entries (values ds) same))
       ∙ ap emitted (sym (passes_of_layout (forward_of c) (whole_site (entries (values ds) same)) t))
 
-  all-closed : (o : Option ℕ) → closed-phases o (nests ps ∷ []) ≡ emitted (qs (factors_by o)) ∷ []
-  all-closed None = ap (λ z. z ∷ []) with-none
-  all-closed (Some v) =
-      ap (λ z. z ∷ [])
-      (factors-passes [] 0 same (λ p. p) (IsLooped c.modulus (layout_size l)) nest (layout_size l)
-      (whole_site (factors_by (Some v))) (λ cs e. refl) (sums.repeated v 1) (λ counts k. constant 0) firsts
-      (λ counts w own. refl)
-      (λ cs stored own es step. map-map (λ _. constant 0) stored es) ps _ good (matches (factors_by (Some v)))
-      ∙ ap emitted (sym (passes_of_layout (forward_of c) (whole_site (factors_by (Some v))) t)))
-
   pub plain_emission : program_for c t ≡ emission c t
   plain_emission =
-      ap (program_of (target_of c))
-      (closed_passes
-      ∙ ap (phases-in c)
-      (all-closed (factor_by c.kind c) ∙ ap (λ f. emitted (qs f) ∷ []) (sym (closing-is c.kind c)))
-      ∙ ap (λ b. phases-in c
-      (map emitted (if b then qs (closing_factors c.kind c) ∷ [] else root_phases (forward_of c)
-      (closing_factors c.kind c) t))) (sym (plain-forward c c.kind ∙ plain)))
-      ∙ programs-by-passes c (phases_of (forward_of c) (closing_factors c.kind c) t)
-      (plain-phases (forward_of c) (closing_factors c.kind c) t (plain-closing c.kind c))
+      let o = factor_by c.kind c in
+      emission-by c t valid h
+      (ap (λ zs. closed-phases o (map nests zs)) (plain_phases (target_of c) l plain)
+      ∙ closed-one o (nests ps)
+      ∙ ap (λ z. z ∷ []) (closed o)
+      ∙ ap (λ b. map emitted
+      (if b then qs (factors_by o) ∷ [] else root_phases (forward_of c) (factors_by o) t))
+      (sym (plain-forward c c.kind ∙ plain)))
 
 -- ---- convolutions
 
@@ -156,7 +146,7 @@ conv_emissions r t ls request valid h =
     (append-nil (nests ps)) (append-nil (nests qs))
     ∙ ap₂ (λ xs ys. phases-in r ((xs ++ ys) ∷ []))
     (with-own r t valid h plain ds ∙ ap (λ z. emitted (passes z o t)) forward)
-    (with-none back t valid' h' plain)
+    (closed back t valid' h' plain None)
     ∙ ap (λ zs. phases-in r (zs ∷ []))
     (sym (map-append (λ q. emitted_nest q ∷ []) (passes r o t) (passes back (whole_site none) t))))
     ∙ programs-by-passes r ((passes r o t ++ passes back (whole_site none) t) ∷ [])

@@ -1,5 +1,6 @@
 -- The passes of a shared root's right part, with the tiles beside them.
-use Rattle.std.proofs.Common.{◌≡◌, ℕ, ◌*◌, ◌/◌, ◌<◌, ◌==◌, Bool, true, false, if◌then◌else◌, arith, refl, sym, ap, ap₂, ◌∙◌, List, [], ◌∷◌, ◌++◌, append-nil, subst, mul_comm, None, Some}
+use Rattle.std.proofs.Common.{◌≡◌, ℕ, ◌*◌, ◌/◌, ◌<◌, ◌==◌, Bool, true, false, if◌then◌else◌, arith, refl, sym, ap, ap₂}
+use Rattle.std.proofs.Common.{◌∙◌, List, [], ◌∷◌, ◌++◌, append-nil, subst, mul_comm, None, Some}
 use Rattle.std.proofs.lemmas.List.{map-append}
 use Rattle.index_fn.specs.Mapping.{Mapping}
 use Rattle.matrix_meaning.specs.declared.Request.{Request}
@@ -22,7 +23,8 @@ use Rattle.generate.specs.Emission.Places.{after, same}
 use Rattle.generate.specs.Emission.Root.{across, along, packed, right_root, root_in, tiles, tiles_after, tiles_before}
 use Rattle.generate.proofs.Emission.Layouts.{layout_emitted}
 use Rattle.generate.proofs.Emission.Lists.{AllPasses, same-passes}
-use Rattle.generate.proofs.Emission.Matches.{ArePasses, AreSame, HasDiagonal, IsAround, IsLast, IsSame, at_last-none, last-same}
+use Rattle.generate.proofs.Emission.Matches.{ArePasses, AreSame, HasDiagonal, IsAround, IsLast, IsSame, at_last-none}
+use Rattle.generate.proofs.Emission.Matches.{last-same}
 use Rattle.generate.proofs.Emission.Nested.{emitted, emitted_nest}
 use Rattle.generate.proofs.Emission.Nests.{IsLooped, IsNodeWork, nests, same-nest}
 use Rattle.generate.proofs.Emission.PlainWorks.{looped-all}

@@ -17,7 +17,8 @@ use Rattle.tree_model.specs.declared.tree.Rule.{Rule}
 use Rattle.tree_model.specs.declared.tree.Rule.TheVariants.{Ct}
 use Rattle.generate.specs.Emission.Passes.{Factors}
 use Rattle.generate.specs.Emission.Places.{inside, same, turn_of}
-use Rattle.generate.specs.Emission.Root.{lane_loops, left_root, packed, processor_loops, right_root, root_in, shared, strided, turns}
+use Rattle.generate.specs.Emission.Root.{lane_loops, left_root, packed, processor_loops, right_root, root_in, shared}
+use Rattle.generate.specs.Emission.Root.{strided, turns}
 use Rattle.generate.proofs.Emission.Matches.{IsAround}
 use Rattle.generate.proofs.Emission.RootPlaces.{insides-are, natural-turns, packed-is, strided-is, turns-are}
 
@@ -67,9 +68,6 @@ module _ (c : Request) (r s : ℕ) (h : AreShares c.size c.procs c.lanes r s) wh
       ap (λ i. joined (scaled v (joined (scaled s i) e)) l) shared-is
       ∙ sym (packed-is v s rows q j e l)
       ∙ sym (natural-turns three s e)
-
-  rows-product : p * (v * rows) ≡ r
-  rows-product = sym h.rows
 
   right_whole : size_under three s ≡ c.size
   right_whole = let rows' : r * s ≡ p * (v * rows) * s = ap (λ k. k * s) h.rows in omega (arith, h.product, rows')

@@ -1,17 +1,15 @@
 -- On several processors or lanes the program of a tree is its emission.
-use Rattle.std.proofs.Common.{◌≡◌, ℕ, ◌+◌, ◌*◌, ◌==◌, Bool, true, false, if◌then◌else◌, arith, refl, sym, ap, ap₂, ◌∙◌, List, [], ◌∷◌, ◌++◌, length, subst, Option, None, Some}
-use Rattle.std.specs.Prelude.{map, nat_le}
-use Rattle.std.proofs.lemmas.Bool.{eq-eqb}
-use Rattle.std.proofs.lemmas.List.{length-map}
+use Rattle.std.proofs.Common.{◌≡◌, ℕ, ◌+◌, ◌*◌, ◌==◌, Bool, true, false, if◌then◌else◌, arith, refl, sym, ap, ap₂, ◌∙◌}
+use Rattle.std.proofs.Common.{List, [], ◌∷◌, ◌++◌, length, subst, Option, None, Some}
+use Rattle.std.specs.Prelude.{map}
+use Rattle.std.proofs.lemmas.List.{length-map, map-append}
 use Rattle.std.proofs.lemmas.Simd.{map-map}
-use Rattle.code_gen.specs.PassCode.Program.{program_of}
 use Rattle.sigma_spl.specs.Lists.{on_last}
 use Rattle.matrix_meaning.specs.Parts.{forward_by, forward_of, inverted}
 use Rattle.matrix_meaning.specs.Valid.{IsValid}
 use Rattle.matrix_meaning.specs.declared.Kind.{Kind}
 use Rattle.matrix_meaning.specs.declared.Kind.TheVariants.{Dft, Wht, Idft}
 use Rattle.matrix_meaning.specs.declared.Request.{Request}
-use Rattle.perm_algebra.specs.Affine.{constant}
 use Rattle.sigma_lower.specs.Merged.{CanLower}
 use Rattle.sigma_lower.specs.TreeLoops.Merge.{PlainPass}
 use Rattle.sigma_lower.specs.TreeLoops.Nests.{loop_of}
@@ -27,37 +25,32 @@ use Rattle.sigma_lower.proofs.TreeLoops.TreePasses.{IsFull, full_passes, layout_
 use Rattle.sigma_spl.specs.Loops.{one_nest}
 use Rattle.sigma_spl.specs.Nest.{PlainNest, repeated}
 use Rattle.sigma_spl.specs.Shared.Targets.{is_alone, target_of}
-use Rattle.smp_rewrite.specs.Fits.{CanShareLayout}
+use Rattle.smp_rewrite.specs.Fits.{CanShareLayout, HasParts}
 use Rattle.smp_rewrite.specs.LayoutSteps.Layout.{IsGoodLayout, Layout, by, layout_of, layout_size, node_work, work}
 use Rattle.smp_rewrite.specs.LayoutSteps.Whole.{factor_by, whole_of}
 use Rattle.smp_rewrite.proofs.LayoutSteps.Layouts.{layouts_have_size}
 use Rattle.operators.specs.TensorPaths.Path.{count_of}
+use Rattle.tree_model.proofs.PassLaws.{root_no_kernel}
 use Rattle.tree_model.specs.Breakdown.{Breakdown, leaf, node, size_of}
 use Rattle.tree_model.specs.Chosen.{IsWholeTree}
-use Rattle.tree_model.specs.Cost.{is_kernel, is_plain, node_root}
+use Rattle.tree_model.specs.Cost.{is_plain, node_root}
 use Rattle.tree_model.specs.Whole.{left_of, right_of}
 use Rattle.tree_model.specs.declared.tree.Rule.{Rule}
 use Rattle.tree_model.specs.declared.tree.Rule.TheVariants.{Gt, Ct, Split, Dim}
-use Rattle.generate.specs.Emission.Passes.{Factors, Pass, none, passes}
+use Rattle.generate.specs.Emission.Passes.{Factors, Pass, moved, passes}
 use Rattle.generate.specs.Emission.Root.{left_root, right_root, root_phases, strided, tiles_after, tiles_before}
-use Rattle.generate.specs.Emission.Whole.{closing_factors, emission, phases_of, whole_site}
+use Rattle.generate.specs.Emission.Whole.{emission, whole_site}
 use Rattle.generate.specs.Letters.{program_for}
-use Rattle.generate.proofs.Emission.Closed.{closed-phases, closed_tree, closing, closing-is, factors_by, firsts, phases-in, plain-forward}
+use Rattle.generate.proofs.Emission.Closed.{closed-phases, closing, emission-by, factors_by, firsts, plain-forward}
 use Rattle.generate.proofs.Emission.Layouts.{layout_emitted, passes_of_layout, tree_works}
 use Rattle.generate.proofs.Emission.Left.{IsPart, left_nest}
-use Rattle.generate.proofs.Emission.Lists.{AllPasses, factors-passes, free-passes, nests_as}
+use Rattle.generate.proofs.Emission.Lists.{AllPasses, closed-passes}
 use Rattle.generate.proofs.Emission.Matches.{ArePasses, IsAround}
-use Rattle.generate.proofs.Emission.Nested.{emitted}
+use Rattle.generate.proofs.Emission.Nested.{emitted, emitted_nest}
 use Rattle.generate.proofs.Emission.Nests.{IsNodeWork, multiplying, nests}
-use Rattle.generate.proofs.Emission.PassPrograms.{programs-by-passes}
-use Rattle.generate.proofs.Emission.PlainPlaces.{plain-closing, plain-phases}
-use Rattle.generate.proofs.Emission.Right.{ct_right, emitted-append, nests-append, none-either, split_right}
+use Rattle.generate.proofs.Emission.Right.{ct_right, none-either, split_right}
 use Rattle.generate.proofs.Emission.Root.{left_around}
 use Rattle.generate.proofs.Emission.Trees.{layouts_match}
-
-maps-passes : (g : PlainPass → PlainPass) (ps : List PlainPass) → nests (map g ps) ≡ nests_as g ps
-maps-passes g [] = refl
-maps-passes g (p ∷ ps) = ap (λ zs. one_nest (loop_of (g p)) ∷ zs) (maps-passes g ps)
 
 -- ---- the left part
 
@@ -104,29 +97,21 @@ module _ (c : Request) (r s : ℕ) (h : AreShares c.size c.procs c.lanes r s) (a
   lefts = map (left_pass c.procs c.lanes r s) alone
 
   left-closed : (o : Option ℕ) → closing o (nests lefts) ≡ emitted (qs (factors_by o))
-  left-closed None =
-      maps-passes (left_pass c.procs c.lanes r s) alone
-      ∙ free-passes outer d (strided c s) (left_pass c.procs c.lanes r s) (IsPart c r s h c.modulus)
-      (λ z q part is. left_nest c r s h c.modulus z part q is) r (left_root c s none) (λ cs e. refl) alone
-      (qs none) refl all (matches none)
-  left-closed (Some v) =
-      ap (closing (Some v)) (maps-passes (left_pass c.procs c.lanes r s) alone)
-      ∙ factors-passes outer d (strided c s) (left_pass c.procs c.lanes r s) (IsPart c r s h c.modulus)
-      (λ z q part is. left_nest c r s h c.modulus z part q is) r (left_root c s (factors_by (Some v)))
-      (λ cs e. refl)
-      (repeated v 1) (λ counts k. constant 0) firsts (λ counts w own. refl)
-      (λ cs stored own es step. map-map (λ _. constant 0) stored es) alone (qs (factors_by (Some v))) all
-      (matches (factors_by (Some v)))
+  left-closed o =
+      ap (closing o) (map-map (λ z. one_nest (loop_of z)) (left_pass c.procs c.lanes r s) alone)
+      ∙ closed-passes outer d (strided c s) (left_pass c.procs c.lanes r s) (IsPart c r s h c.modulus)
+      (λ z q part is. left_nest c r s h c.modulus z part q is) r (left_root c s (factors_by o)) (λ cs e. refl)
+      o (unmoved o) alone (qs (factors_by o)) all (matches (factors_by o))
+    where
+      unmoved : (o : Option ℕ) → moved (factors_by o) (strided c s) ≡ factors_by o
+      unmoved None = refl
+      unmoved (Some v) = refl
 
 -- ---- lists of which the last is changed
 
 abbrev IsSome : List (List PlainNest) → Type 0
 IsSome [] = ⊥
 IsSome (z ∷ zs) = Unit {0}
-
-some-behind : (zs ys : List (List PlainNest)) → IsSome ys → IsSome (zs ++ ys)
-some-behind [] ys h = h
-some-behind (z ∷ zs) ys h = tt
 
 last-behind : (f : List PlainNest → List PlainNest) (zs ys : List (List PlainNest)) → IsSome ys →
     on_last f (zs ++ ys) ≡ zs ++ on_last f ys
@@ -149,55 +134,54 @@ some-map g (p ∷ ps) h = tt
 
 -- ---- both parts
 
-abbrev phases-of : Bool → List (List PlainNest) → List (List PlainNest) → List (List (List PlainNest))
-phases-of one right left = if one then (right ++ left) ∷ [] else right ∷ left ∷ []
+abbrev in_phases : {A : Type 0} → Bool → List A → List A → List (List A)
+in_phases one right left = if one then (right ++ left) ∷ [] else right ∷ left ∷ []
 
 closed-parts : (one : Bool) (o : Option ℕ) (right left : List (List PlainNest)) → IsSome left →
-    closed-phases o (phases-of one right left) ≡ phases-of one right (closing o left)
+    closed-phases o (in_phases one right left) ≡ in_phases one right (closing o left)
 closed-parts true None right left h = refl
 closed-parts false None right left h = refl
 closed-parts true (Some v) right left h = ap (λ z. z ∷ []) (closed-behind (Some v) right left h)
 closed-parts false (Some v) right left h = refl
 
-nests-phases : (one : Bool) (right left : List PlainPass) →
-    map nests (if one then (right ++ left) ∷ [] else right ∷ left ∷ []) ≡ phases-of one (nests right) (nests left)
-nests-phases true right left = ap (λ z. z ∷ []) (nests-append right left)
-nests-phases false right left = refl
+map-phases : {A B : Type 0} (f : A → B) (one : Bool) (right left : List A) →
+    map (map f) (in_phases one right left) ≡ in_phases one (map f right) (map f left)
+map-phases f true right left = ap (λ z. z ∷ []) (map-append f right left)
+map-phases f false right left = refl
 
-emitted-phases : (one : Bool) (right left : List Pass) →
-    map emitted (if one then (right ++ left) ∷ [] else right ∷ left ∷ []) ≡ phases-of one (emitted right) (emitted left)
-emitted-phases true right left = ap (λ z. z ∷ []) (emitted-append right left)
-emitted-phases false right left = refl
+-- what emission makes of a root, whose parts have these passes
+abbrev parts_emitted : Request → Rule → ℕ → ℕ → ℕ → List Pass → List Pass → List (List Pass)
+parts_emitted c rule r s root right left =
+    in_phases (c.procs == 1) (tiles_before rule c r s ++ (right ++ tiles_after rule c r s root)) left
 
--- what emission makes of a root of two layouts
+-- and of a root of two layouts
 abbrev root_emitted : Request → Factors → Layout → List (List Pass)
 root_emitted c factors (work w) = []
 root_emitted c factors (by rule root a b) =
     let r = layout_size a in
     let s = layout_size b in
-    let first = tiles_before rule c r
-    s ++ (layout_emitted (right_root rule c r s root) b ++ tiles_after rule c r s root) in
-    let second = layout_emitted (left_root c s factors) a in
-    if c.procs == 1 then (first ++ second) ∷ [] else first ∷ second ∷ []
+    parts_emitted c rule r s root (layout_emitted (right_root rule c r s root) b)
+    (layout_emitted (left_root c s factors) a)
 
 module _ (c : Request) (o : Option ℕ) where
   both : (rule : Rule) (root : ℕ) (a b : Layout) (right : List PlainPass) (first : List Pass) →
-      AreShares c.size c.procs c.lanes (layout_size a) (layout_size b) → IsGoodLayout c.modulus a →
-      HasWorks IsNodeWork a → nests right ≡ emitted first →
+      CanShareLayout (target_of c) (by rule root a b) → IsGoodLayout c.modulus (by rule root a b) →
+      HasWorks IsNodeWork a → HasParts (target_of c) (layout_size a) (layout_size b) →
+      (AreShares c.size c.procs c.lanes (layout_size a) (layout_size b) → nests right ≡ emitted first) →
       closed-phases o (map nests (pass_phases c.procs right (left_passes c.procs c.lanes (layout_size b) a)))
-      ≡ map emitted (if c.procs == 1 then
-      (first ++ layout_emitted (left_root c (layout_size b) (factors_by o)) a) ∷ [] else first ∷ layout_emitted
-      (left_root c (layout_size b) (factors_by o)) a ∷ [])
-  both rule root a b right first dealt good works is =
+      ≡ map emitted (in_phases (c.procs == 1) first
+      (layout_emitted (left_root c (layout_size b) (factors_by o)) a))
+  both rule root a b right first can good works parts is =
       let r = layout_size a in
       let s = layout_size b in
       let left = left_passes c.procs c.lanes s a in
       let one = c.procs == 1 in
-      ap (closed-phases o) (nests-phases one right left)
+      let dealt = shares_of (target_of c) (by rule root a b) r s can parts good.0.left good.0.right can.size in
+      ap (closed-phases o) (map-phases (λ z. one_nest (loop_of z)) one right left)
       ∙ closed-parts one o (nests right) (nests left)
       (some-nests left (some-map (left_pass c.procs c.lanes r s) (layout_passes [] [] a) (full_passes [] [] a)))
-      ∙ ap₂ (phases-of one) is (left-closed c r s dealt a good works refl o)
-      ∙ sym (emitted-phases one first (layout_emitted (left_root c s (factors_by o)) a))
+      ∙ ap₂ (in_phases one) (is dealt) (left-closed c r s dealt a good.1 works refl o)
+      ∙ sym (map-phases (λ q. emitted_nest q ∷ []) one first (layout_emitted (left_root c s (factors_by o)) a))
 
   root-closed : (l : Layout) → CanShareLayout (target_of c) l → IsGoodLayout c.modulus l → HasWorks IsNodeWork l →
       is_alone (target_of c) ≡ false →
@@ -205,35 +189,18 @@ module _ (c : Request) (o : Option ℕ) where
   root-closed (work w) can good works shared = absurd (can.root shared)
   root-closed (by Gt root a b) can good works shared = absurd (can.root shared)
   root-closed (by Ct root a b) can good works shared =
-      let dealt = shares_of (target_of c) (by Ct root a b) (layout_size a) (layout_size b) can
-      (can.root shared) good.0.left good.0.right can.size in
-      both Ct root a b _ _ dealt good.1 works.0
-      (ct_right c (layout_size a) (layout_size b) root dealt b good.2 works.1 refl)
+      both Ct root a b _ _ can good works.0 (can.root shared)
+      (λ dealt. ct_right c (layout_size a) (layout_size b) root dealt b good.2 works.1 refl)
   root-closed (by Split root a b) can good works shared =
-      let dealt = shares_of (target_of c) (by Split root a b) (layout_size a) (layout_size b) can
-      (can.root shared) good.0.left good.0.right can.size in
-      both Split root a b _ _ dealt good.1 works.0
-      (split_right c (layout_size a) (layout_size b) root dealt b good.2 works.1 refl Split (λ cs e. refl)
+      both Split root a b _ _ can good works.0 (can.root shared)
+      (λ dealt. split_right c (layout_size a) (layout_size b) root dealt b good.2 works.1 refl Split (λ cs e. refl)
       (none-either (c.lanes == 1)))
   root-closed (by Dim root a b) can good works shared =
-      let dealt = shares_of (target_of c) (by Dim root a b) (layout_size a) (layout_size b) can
-      (can.root shared) good.0.left good.0.right can.size in
-      both Dim root a b _ _ dealt good.1 works.0
-      (split_right c (layout_size a) (layout_size b) root dealt b good.2 works.1 refl Dim (λ cs e. refl)
+      both Dim root a b _ _ can good works.0 (can.root shared)
+      (λ dealt. split_right c (layout_size a) (layout_size b) root dealt b good.2 works.1 refl Dim (λ cs e. refl)
       (none-either (c.lanes == 1)))
 
 -- ---- trees
-
--- the root of a whole that is shared is no kernel
-no-kernel : (z : Request) (n : ℕ) → n ≡ z.size → is_plain z ≡ false → is_kernel z n ≡ false
-no-kernel z n is shared = by (nat_le n z.unroll)
-  where
-    whole : n == z.size ≡ true
-    whole = eq-eqb n z.size is
-
-    by : (small : Bool) → (if small then (if n == z.size then is_plain z else true) else false) ≡ false
-    by true = ap (λ b. if b then is_plain z else true) whole ∙ shared
-    by false = refl
 
 -- the same passes, by the tree and by its layout
 emitted-tree : (z : Request) (factors : Factors) (t : Breakdown) → size_of t ≡ z.size → is_plain z ≡ false →
@@ -246,27 +213,15 @@ emitted-tree z factors (node rule a b) is shared =
     let lb = layout_of (right_of rule z) b in
     let r : size_of a ≡ layout_size la = sym (layouts_have_size (left_of rule z) a) in
     let s : size_of b ≡ layout_size lb = sym (layouts_have_size (right_of rule z) b) in
-    ap₂ (λ ps qs. map emitted (phases ps qs))
+    ap₂ (λ ps qs. map emitted (parts_emitted z rule (size_of a) (size_of b) root ps qs))
     (passes_of_layout (right_of rule z) (right_root rule z (size_of a) (size_of b) root) b)
     (passes_of_layout (left_of rule z) (left_root z (size_of b) factors) a)
-    ∙ ap₂ (λ x y. map emitted (by_sizes root la lb x y)) r s
+    ∙ ap₂ (λ x y. map emitted
+    (parts_emitted z rule x y root (layout_emitted (right_root rule z x y root) lb)
+    (layout_emitted (left_root z y factors) la))) r s
     ∙ ap (λ k. map emitted
     (root_emitted z factors (if k then work (node_work z (node rule a b)) else by rule root la lb)))
-    (sym (no-kernel z (size_of a * size_of b) is shared))
-  where
-    phases : List Pass → List Pass → List (List Pass)
-    phases ps qs =
-        let r = size_of a in
-        let s = size_of b in
-        let first = tiles_before rule z r s ++ (ps ++ tiles_after rule z r s (node_root z (r * s))) in
-        if z.procs == 1 then (first ++ qs) ∷ [] else first ∷ qs ∷ []
-
-    by_sizes : ℕ → Layout → Layout → ℕ → ℕ → List (List Pass)
-    by_sizes root la lb r s =
-        let first = tiles_before rule z r
-        s ++ (layout_emitted (right_root rule z r s root) lb ++ tiles_after rule z r s root) in
-        let second = layout_emitted (left_root z s factors) la in
-        if z.procs == 1 then (first ++ second) ∷ [] else first ∷ second ∷ []
+    (sym (root_no_kernel z (size_of a * size_of b) is shared))
 
 size-forward : (c : Request) (kind : Kind) → (forward_by kind c).size ≡ c.size
 size-forward c Dft = refl
@@ -292,9 +247,6 @@ module _ (c : Request) (t : Breakdown) (valid : IsValid c) (tree : IsWholeTree c
   abbrev l : Layout
   l = layout_of (forward_of c) t
 
-  abbrev factors : Factors
-  factors = closing_factors c.kind c
-
   can : CanLower (target_of c) (whole_of c t)
   can = trees_can_lower c t valid tree
 
@@ -306,18 +258,13 @@ module _ (c : Request) (t : Breakdown) (valid : IsValid c) (tree : IsWholeTree c
 
   pub shared_emission : program_for c t ≡ emission c t
   shared_emission =
-      ap (program_of (target_of c))
-      (closed_tree c t valid tree
-      ∙ ap (λ qs. phases-in c (closed-phases (factor_by c.kind c) (map nests qs)))
-      (root_merged (target_of c) l can.shares can.good.layout shared)
-      ∙ ap (phases-in c)
-      (root-closed c (factor_by c.kind c) l can.shares can.good.layout
-      (tree_works (forward_of c) t) shared
-      ∙ ap (λ f. map emitted (root_emitted c f l)) (sym (closing-is c.kind c))
+      let o = factor_by c.kind c in
+      let factors = factors_by o in
+      emission-by c t valid tree
+      (ap (λ ps. closed-phases o (map nests ps)) (root_merged (target_of c) l can.shares can.good.layout shared)
+      ∙ root-closed c o l can.shares can.good.layout (tree_works (forward_of c) t) shared
       ∙ ap (map emitted) (sym (root-forward c factors l c.kind))
-      ∙ sym (emitted-tree (forward_of c) factors t forward_size forward_shared))
-      ∙ ap (λ b. phases-in c
-      (map emitted (if b then passes (forward_of c) (whole_site factors) t ∷ [] else root_phases
-      (forward_of c) factors t))) (sym forward_shared))
-      ∙ programs-by-passes c (phases_of (forward_of c) factors t)
-      (plain-phases (forward_of c) factors t (plain-closing c.kind c))
+      ∙ sym (emitted-tree (forward_of c) factors t forward_size forward_shared)
+      ∙ ap (λ b. map emitted
+      (if b then passes (forward_of c) (whole_site factors) t ∷ [] else root_phases (forward_of c) factors t))
+      (sym forward_shared))

@@ -1,11 +1,12 @@
 -- The passes of a layout by the rules of emission are those that merging makes.
-use Rattle.std.proofs.Common.{◌≡◌, ℕ, ◌+◌, ◌*◌, ◌≤◌, ◌==◌, if◌then◌else◌, false, arith, refl, sym, ap, ap₂, ◌∙◌, List, [], ◌∷◌, ◌++◌, length, length-append, subst}
+use Rattle.std.proofs.Common.{◌≡◌, ℕ, ◌+◌, ◌*◌, ◌≤◌, ◌==◌, if◌then◌else◌, false, arith, refl, sym, ap, ap₂, ◌∙◌, List}
+use Rattle.std.proofs.Common.{[], ◌∷◌, ◌++◌, length, length-append, subst}
 use Rattle.std.specs.Prelude.{map}
 use Rattle.std.proofs.lemmas.Bool.Decides.{nat_tests}
 use Rattle.std.proofs.lemmas.List.{map-append, append_assoc, length-map}
 use Rattle.index_fn.specs.Mapping.{Mapping, ThomasBack}
 use Rattle.perm_algebra.specs.Affine.{Sum, constant, variable, simplified}
-use Rattle.sigma_lower.specs.TreeLoops.Merge.{PlainPass, at_last, multiplied, new_pass, scattered}
+use Rattle.sigma_lower.specs.TreeLoops.Merge.{PlainPass, multiplied, new_pass, scattered}
 use Rattle.sigma_lower.specs.TreeLoops.Placed.{Fits, place_sum, all_simplified}
 use Rattle.sigma_lower.specs.TreeTerms.Wrapped.{inner_of, unit_of, wrapped}
 use Rattle.sigma_lower.proofs.TreeLoops.InnerPlaces.{inner-place}
@@ -22,9 +23,12 @@ use Rattle.operators.proofs.TensorPaths.Under.{size_under-push}
 use Rattle.tree_model.specs.declared.tree.Rule.{Rule}
 use Rattle.tree_model.specs.declared.tree.Rule.TheVariants.{Gt, Ct, Split, Dim}
 use Rattle.generate.specs.Emission.Passes.{Factors, Pass, Site, entries, left_site, moved, none, number, right_site}
-use Rattle.generate.specs.Emission.Places.{PlaceFunction, after, blocks, columns, inside, left_out, right_in, same, turn_of}
+use Rattle.generate.specs.Emission.Passes.{twiddles}
+use Rattle.generate.specs.Emission.Places.{PlaceFunction, after, blocks, columns, inside, left_out, right_in, same}
+use Rattle.generate.specs.Emission.Places.{turn_of}
 use Rattle.generate.proofs.Emission.Layouts.{layout_emitted, named, named-plain}
-use Rattle.generate.proofs.Emission.Matches.{Always, ArePasses, AreSame, IsAround, IsLast, IsSame, HasDiagonal, at_last-none, last-other, last-same, natural, passes-append}
+use Rattle.generate.proofs.Emission.Matches.{Always, ArePasses, AreSame, IsAround, IsLast, IsSame, HasDiagonal}
+use Rattle.generate.proofs.Emission.Matches.{at_last-none, last-other, last-same, natural, passes-append}
 use Rattle.generate.proofs.Emission.Nested.{pass_at, plain_work}
 use Rattle.generate.proofs.Emission.Nests.{IsNodeWork}
 use Rattle.generate.proofs.Emission.Steps.{loaded_by, stored_back}
@@ -68,134 +72,141 @@ module _ (outer : List ℕ) (d : ℕ) (whole : PlaceFunction) (long : length out
       ∙ ap (λ k. variable 1 k (constant 0))
       (ap length is ∙ length-append outer (map count_of path) ∙ ap₂ (λ n k. n + k) long (length-map path count_of))
 
-  -- ---- the sites of parts
+  -- ---- the parts of a node
 
-  right_around : (size : ℕ) (rule : Rule) (path : Path) (r s root : ℕ) (waiting : List Mapping) (o : Site) →
-      IsRuleIn size rule path r s → IsAround outer d whole path waiting (r * s) o →
-      IsAround outer d whole (path ++ Blocks r ∷ []) (rule_waiting rule path r s waiting) s (right_site rule r s root o)
-  right_around size rule path r s root waiting o h around =
-      let i : turn_of o.counts r ≡ variable 1 (d + length path) (constant 0) =
-      turn-inside path r o.counts h.left around.counts in
-      record {
-        counts = counts-inside path (Blocks r) o.counts h.left around.counts;
-        load = λ cs e counts fits.
-            let there = loaded_by size rule path r s d waiting e cs h counts fits in
-            ap (λ z. o.load cs (right_in rule r s z cs e)) i
-            ∙ around.load cs _ (counts-push path (Blocks r) s d cs counts).before there.fits
-            ∙ ap (whole cs) (sym there.is);
-        keep = λ cs e.
-            ap (λ z. o.keep cs (blocks s z cs e)) i
-            ∙ around.keep cs (tensor_sum (Blocks r) s (d + length path) e)
-            ∙ ap (whole cs) (sym (place_sum-push path (Blocks r) s d e));
-      }
+  module _ (size : ℕ) (rule : Rule) (path : Path) (r s root : ℕ) (waiting : List Mapping) (o : Site)
+      (h : IsRuleIn size rule path r s) (around : IsAround outer d whole path waiting (r * s) o) where
+    right-turn : turn_of o.counts r ≡ variable 1 (d + length path) (constant 0)
+    right-turn = turn-inside path r o.counts h.left around.counts
 
-  left_around : (size : ℕ) (rule : Rule) (path : Path) (r s : ℕ) (waiting : List Mapping) (o : Site) →
-      IsRuleIn size rule path r s → IsAround outer d whole path waiting (r * s) o →
-      IsAround outer d whole (path ++ Columns s ∷ []) [] r (left_site rule r s o)
-  left_around size rule path r s waiting o h around =
-      let j : turn_of o.counts s ≡ variable 1 (d + length path) (constant 0) =
-      turn-inside path s o.counts h.right around.counts in
-      let kept : (cs : ℕ → ℕ) (e : Sum) →
-      o.keep cs (columns s (turn_of o.counts s) cs e) ≡ whole cs (place_sum (path ++ Columns s ∷ []) r d e) =
-      λ cs e.
-      ap (λ z. o.keep cs (columns s z cs e)) j
-      ∙ around.keep cs (tensor_sum (Columns s) r (d + length path) e)
-      ∙ ap (whole cs) (sym (place_sum-push path (Columns s) r d e)) in
-      record {
-        counts = counts-inside path (Columns s) o.counts h.right around.counts;
-        load = λ cs e counts fits. kept cs e;
-        keep = kept;
-      }
+    left-turn : turn_of o.counts s ≡ variable 1 (d + length path) (constant 0)
+    left-turn = turn-inside path s o.counts h.right around.counts
 
-  -- ---- the last pass of a right part
+    right_around :
+        IsAround outer d whole (path ++ Blocks r ∷ []) (rule_waiting rule path r s waiting) s (right_site rule r s root o)
+    right_around = record {
+      counts = counts-inside path (Blocks r) o.counts h.left around.counts;
+      load = λ cs e counts fits.
+          let there = loaded_by size rule path r s d waiting e cs h counts fits in
+          ap (λ z. o.load cs (right_in rule r s z cs e)) right-turn
+          ∙ around.load cs _ (counts-push path (Blocks r) s d cs counts).before there.fits
+          ∙ ap (whole cs) (sym there.is);
+      keep = λ cs e.
+          ap (λ z. o.keep cs (blocks s z cs e)) right-turn
+          ∙ around.keep cs (tensor_sum (Blocks r) s (d + length path) e)
+          ∙ ap (whole cs) (sym (place_sum-push path (Blocks r) s d e));
+    }
 
-  -- stores at natural places
-  stored-natural : (size : ℕ) (rule : Rule) (path : Path) (r s root : ℕ) (waiting : List Mapping) (o : Site)
-      (p : PlainPass) (q : Pass) → IsRuleIn size rule path r s → IsAround outer d whole path waiting (r * s) o →
-      IsLast outer d whole (path ++ Blocks r ∷ []) s (right_site rule r s root o) p q →
-      Always outer d whole p
-      (λ cs e. q.site.store cs e ≡ whole cs (all_simplified cs p.afters (natural outer d whole p e)))
-  stored-natural size rule path r s root waiting o p q h around last cs e counts fits =
-      last.store cs e
-      ∙ (right_around size rule path r s root waiting o h around).keep cs (last.own cs e)
-      ∙ ap (whole cs) (sym (last.place cs e counts fits))
+    kept : (cs : ℕ → ℕ) (e : Sum) →
+        o.keep cs (columns s (turn_of o.counts s) cs e) ≡ whole cs (place_sum (path ++ Columns s ∷ []) r d e)
+    kept cs e =
+        ap (λ z. o.keep cs (columns s z cs e)) left-turn
+        ∙ around.keep cs (tensor_sum (Columns s) r (d + length path) e)
+        ∙ ap (whole cs) (sym (place_sum-push path (Columns s) r d e))
 
-  -- and with no diagonal it is the same
-  right_free : (size : ℕ) (rule : Rule) (path : Path) (r s root : ℕ) (waiting : List Mapping) (o : Site)
-      (p : PlainPass) (q : Pass) → (right_site rule r s root o).factors ≡ none → IsRuleIn size rule path r s →
-      IsAround outer d whole path waiting (r * s) o →
-      IsLast outer d whole (path ++ Blocks r ∷ []) s (right_site rule r s root o) p q → IsSame outer d whole p q
-  right_free size rule path r s root waiting o p q free h around last = record {
-    begun = last.begun;
-    store = stored-natural size rule path r s root waiting o p q h around last;
-    factors = subst (HasDiagonal outer d whole p q) (sym last.free) (last.factors ∙ ap (λ f. moved f last.own) free);
-  }
+    left_around : IsAround outer d whole (path ++ Columns s ∷ []) [] r (left_site rule r s o)
+    left_around = record {
+      counts = counts-inside path (Columns s) o.counts h.right around.counts;
+      load = λ cs e counts fits. kept cs e;
+      keep = kept;
+    }
 
-  -- the twiddles of a ct come with it
-  right_twiddled : (size : ℕ) (path : Path) (r s root : ℕ) (waiting : List Mapping) (o : Site) (p : PlainPass)
-      (q : Pass) → IsRuleIn size Ct path r s → IsAround outer d whole path waiting (r * s) o →
-      IsLast outer d whole (path ++ Blocks r ∷ []) s (right_site Ct r s root o) p q →
-      IsSame outer d whole (multiplied path r s root p) q
-  right_twiddled size path r s root waiting o p q h around last =
-      let i : turn_of o.counts r ≡ variable 1 (d + length path) (constant 0) =
-      turn-inside path r o.counts h.left around.counts in
-      record {
-        begun = record { counts = last.begun.counts; work = last.begun.work; load = last.begun.load };
-        store = stored-natural size Ct path r s root waiting o p q h around last;
-        factors = (
-          after (blocks s (turn_of o.counts r)) last.own,
-          last.factors,
-          λ cs e counts fits.
-              let below = last.counts cs counts in
-              let own = last.own cs e in
-              ap (λ z. blocks s z cs own) i
-              ∙ sym (inner-place path (r * s) d (tensor_sum (Blocks r) s (d + length path) own) cs
-              (counts-push path (Blocks r) s d cs below).before
-              (at-tensor path (Blocks r) s d own cs below (last.fits cs e counts fits)))
-              ∙ ap (simplified cs (inner_of path (r * s)))
-              (sym (last.place cs e counts fits ∙ place_sum-push path (Blocks r) s d own)),
-        );
-      }
+    -- ---- the last pass of the right part
 
-  -- ---- the last pass of a left part is that of the node
+    abbrev IsLastRight : PlainPass → Pass → Type 0
+    IsLastRight = IsLast outer d whole (path ++ Blocks r ∷ []) s (right_site rule r s root o)
 
-  left_last : (size : ℕ) (rule : Rule) (path : Path) (r s : ℕ) (waiting : List Mapping) (o : Site) (p : PlainPass)
-      (q : Pass) →
-      ((i : Sum) (cs : ℕ → ℕ) (k : Sum) → left_out rule r s i cs k ≡ columns s i cs k) → IsRuleIn size rule path r s →
-      IsAround outer d whole path waiting (r * s) o →
-      IsLast outer d whole (path ++ Columns s ∷ []) r (left_site rule r s o) p q →
-      IsLast outer d whole path (r * s) o p q
-  left_last size rule path r s waiting o p q out h around last =
-      let j : turn_of o.counts s ≡ variable 1 (d + length path) (constant 0) =
-      turn-inside path s o.counts h.right around.counts in
-      let is : (cs : ℕ → ℕ) (k : Sum) →
-      left_out rule r s (turn_of o.counts s) cs k ≡ tensor_sum (Columns s) r (d + length path) k =
-      λ cs k. out (turn_of o.counts s) cs k ∙ ap (λ z. columns s z cs k) j in
-      record {
-        begun = last.begun;
-        free = last.free;
-        own = after (left_out rule r s (turn_of o.counts s)) last.own;
-        counts = λ cs counts. (counts-push path (Columns s) r d cs (last.counts cs counts)).before;
-        fits = λ cs e counts fits.
-            subst (λ z. Fits (r * s) z cs) (sym (is cs (last.own cs e)))
-            (at-tensor path (Columns s) r d (last.own cs e) cs (last.counts cs counts) (last.fits cs e counts fits));
-        place = λ cs e counts fits.
-            last.place cs e counts fits
-            ∙ place_sum-push path (Columns s) r d (last.own cs e)
-            ∙ ap (place_sum path (r * s) d) (sym (is cs (last.own cs e)));
-        store = last.store;
-        factors = last.factors ∙ moved-moved o.factors (left_out rule r s (turn_of o.counts s)) last.own;
-      }
+    -- stores at natural places
+    stored-natural : (p : PlainPass) (q : Pass) → IsLastRight p q → Always outer d whole p
+        (λ cs e. q.site.store cs e ≡ whole cs (all_simplified cs p.afters (natural outer d whole p e)))
+    stored-natural p q last cs e counts fits =
+        last.store cs e
+        ∙ right_around.keep cs (last.own cs e)
+        ∙ ap (whole cs) (sym (last.place cs e counts fits))
 
-  left_back : (size : ℕ) (path : Path) (r s : ℕ) (waiting : List Mapping) (o : Site) (p : PlainPass) (q : Pass) →
-      IsRuleIn size Gt path r s → IsAround outer d whole path waiting (r * s) o →
+    -- and with no diagonal it is the same
+    right_free : (right_site rule r s root o).factors ≡ none → (p : PlainPass) (q : Pass) → IsLastRight p q →
+        IsSame outer d whole p q
+    right_free free p q last = record {
+      begun = last.begun;
+      store = stored-natural p q last;
+      factors = subst (HasDiagonal outer d whole p q) (sym last.free)
+          (last.factors ∙ ap (λ f. moved f last.own) free);
+    }
+
+    -- the twiddles of a ct come with it
+    right_twiddled : (right_site rule r s root o).factors ≡ entries (twiddles r s root)
+        (blocks s (turn_of o.counts r)) →
+        (p : PlainPass) (q : Pass) → IsLastRight p q → IsSame outer d whole (multiplied path r s root p) q
+    right_twiddled has p q last = record {
+      begun = record { counts = last.begun.counts; work = last.begun.work; load = last.begun.load };
+      store = stored-natural p q last;
+      factors = (
+        after (blocks s (turn_of o.counts r)) last.own,
+        last.factors ∙ ap (λ f. moved f last.own) has,
+        λ cs e counts fits.
+            let below = last.counts cs counts in
+            let own = last.own cs e in
+            ap (λ z. blocks s z cs own) right-turn
+            ∙ sym (inner-place path (r * s) d (tensor_sum (Blocks r) s (d + length path) own) cs
+            (counts-push path (Blocks r) s d cs below).before
+            (at-tensor path (Blocks r) s d own cs below (last.fits cs e counts fits)))
+            ∙ ap (simplified cs (inner_of path (r * s)))
+            (sym (last.place cs e counts fits ∙ place_sum-push path (Blocks r) s d own)),
+      );
+    }
+
+    -- the right part's passes where its last one has no diagonal
+    right_freed : (right_site rule r s root o).factors ≡ none → (ps : List PlainPass) (qs : List Pass) →
+        ArePasses outer d whole (path ++ Blocks r ∷ []) s (right_site rule r s root o) ps qs →
+        AreSame outer d whole ps qs
+    right_freed free ps qs k =
+        subst (λ zs. AreSame outer d whole zs qs) (at_last-none ps)
+        (last-same outer d whole (path ++ Blocks r ∷ []) s _ (λ p. p) (right_free free) ps qs k)
+
+    -- ---- the last pass of the left part is that of the node
+
+    abbrev IsLastLeft : PlainPass → Pass → Type 0
+    IsLastLeft = IsLast outer d whole (path ++ Columns s ∷ []) r (left_site rule r s o)
+
+    left_last : ((i : Sum) (cs : ℕ → ℕ) (k : Sum) → left_out rule r s i cs k ≡ columns s i cs k) → (p : PlainPass)
+        (q : Pass) → IsLastLeft p q → IsLast outer d whole path (r * s) o p q
+    left_last out p q last =
+        let is : (cs : ℕ → ℕ) (k : Sum) →
+        left_out rule r s (turn_of o.counts s) cs k ≡ tensor_sum (Columns s) r (d + length path) k =
+        λ cs k. out (turn_of o.counts s) cs k ∙ ap (λ z. columns s z cs k) left-turn in
+        record {
+          begun = last.begun;
+          free = last.free;
+          own = after (left_out rule r s (turn_of o.counts s)) last.own;
+          counts = λ cs counts. (counts-push path (Columns s) r d cs (last.counts cs counts)).before;
+          fits = λ cs e counts fits.
+              subst (λ z. Fits (r * s) z cs) (sym (is cs (last.own cs e)))
+              (at-tensor path (Columns s) r d (last.own cs e) cs (last.counts cs counts) (last.fits cs e counts fits));
+          place = λ cs e counts fits.
+              last.place cs e counts fits
+              ∙ place_sum-push path (Columns s) r d (last.own cs e)
+              ∙ ap (place_sum path (r * s) d) (sym (is cs (last.own cs e)));
+          store = last.store;
+          factors = last.factors ∙ moved-moved o.factors (left_out rule r s (turn_of o.counts s)) last.own;
+        }
+
+    left_same : ((i : Sum) (cs : ℕ → ℕ) (k : Sum) → left_out rule r s i cs k ≡ columns s i cs k) → (ps : List PlainPass)
+        (qs : List Pass) → ArePasses outer d whole (path ++ Columns s ∷ []) r (left_site rule r s o) ps qs →
+        ArePasses outer d whole path (r * s) o ps qs
+    left_same out ps qs l =
+        subst (λ zs. ArePasses outer d whole path (r * s) o zs qs) (at_last-none ps)
+        (last-other outer d whole path (path ++ Columns s ∷ []) (r * s) r o _ (λ p. p) (left_last out) ps qs l)
+
+  -- a gt's goes back
+  left_back : (size : ℕ) (path : Path) (r s root : ℕ) (waiting : List Mapping) (o : Site) → IsRuleIn size Gt path r s →
+      IsAround outer d whole path waiting (r * s) o → (p : PlainPass) (q : Pass) →
       IsLast outer d whole (path ++ Columns s ∷ []) r (left_site Gt r s o) p q →
       IsLast outer d whole path (r * s) o
       (scattered (wrapped path (r * s) (ThomasBack r s (unit_of r s) (unit_of s r))) p) q
-  left_back size path r s waiting o p q h around last =
+  left_back size path r s root waiting o h around p q last =
       let back = wrapped path (r * s) (ThomasBack r s (unit_of r s) (unit_of s r)) in
-      let j : turn_of o.counts s ≡ variable 1 (d + length path) (constant 0) =
-      turn-inside path s o.counts h.right around.counts in
+      let j = left-turn size Gt path r s root waiting o h around in
       record {
         begun = record { counts = last.begun.counts; work = last.begun.work; load = last.begun.load };
         free = last.free;
@@ -218,14 +229,6 @@ module _ (outer : List ℕ) (d : ℕ) (whole : PlaceFunction) (long : length out
 
   -- ---- a node
 
-  unchanged : (ps : List PlainPass) (qs : List Pass) → AreSame outer d whole (at_last (λ p. p) ps) qs →
-      AreSame outer d whole ps qs
-  unchanged ps qs h = subst (λ rs. AreSame outer d whole rs qs) (at_last-none ps) h
-
-  unchanged-last : (path : Path) (n : ℕ) (o : Site) (ps : List PlainPass) (qs : List Pass) →
-      ArePasses outer d whole path n o (at_last (λ p. p) ps) qs → ArePasses outer d whole path n o ps qs
-  unchanged-last path n o ps qs h = subst (λ rs. ArePasses outer d whole path n o rs qs) (at_last-none ps) h
-
   by_rule : (size : ℕ) (rule : Rule) (path : Path) (r s root : ℕ) (waiting : List Mapping) (o : Site)
       (left right : List PlainPass) (lefts rights : List Pass) → IsRuleIn size rule path r s →
       IsAround outer d whole path waiting (r * s) o →
@@ -234,34 +237,22 @@ module _ (outer : List ℕ) (d : ℕ) (whole : PlaceFunction) (long : length out
       ArePasses outer d whole path (r * s) o (rule_passes rule path r s root left right) (rights ++ lefts)
   by_rule size Gt path r s root waiting o left right lefts rights h around l k =
       passes-append outer d whole path (r * s) o right _ rights lefts
-      (unchanged right rights
-      (last-same outer d whole (path ++ Blocks r ∷ []) s _ (λ p. p)
-      (λ p q. right_free size Gt path r s root waiting o p q refl h around) right rights k))
+      (right_freed size Gt path r s root waiting o h around refl right rights k)
       (last-other outer d whole path (path ++ Columns s ∷ []) (r * s) r o _ _
-      (λ p q. left_back size path r s waiting o p q h around) left lefts l)
+      (left_back size path r s root waiting o h around) left lefts l)
   by_rule size Ct path r s root waiting o left right lefts rights h around l k =
       passes-append outer d whole path (r * s) o _ left rights lefts
       (last-same outer d whole (path ++ Blocks r ∷ []) s _ (multiplied path r s root)
-      (λ p q. right_twiddled size path r s root waiting o p q h around) right rights k)
-      (unchanged-last path (r * s) o left lefts
-      (last-other outer d whole path (path ++ Columns s ∷ []) (r * s) r o _ (λ p. p)
-      (λ p q. left_last size Ct path r s waiting o p q (λ i cs e. refl) h around) left lefts l))
+      (right_twiddled size Ct path r s root waiting o h around refl) right rights k)
+      (left_same size Ct path r s root waiting o h around (λ i cs e. refl) left lefts l)
   by_rule size Split path r s root waiting o left right lefts rights h around l k =
       passes-append outer d whole path (r * s) o right left rights lefts
-      (unchanged right rights
-      (last-same outer d whole (path ++ Blocks r ∷ []) s _ (λ p. p)
-      (λ p q. right_free size Split path r s root waiting o p q refl h around) right rights k))
-      (unchanged-last path (r * s) o left lefts
-      (last-other outer d whole path (path ++ Columns s ∷ []) (r * s) r o _ (λ p. p)
-      (λ p q. left_last size Split path r s waiting o p q (λ i cs e. refl) h around) left lefts l))
+      (right_freed size Split path r s root waiting o h around refl right rights k)
+      (left_same size Split path r s root waiting o h around (λ i cs e. refl) left lefts l)
   by_rule size Dim path r s root waiting o left right lefts rights h around l k =
       passes-append outer d whole path (r * s) o right left rights lefts
-      (unchanged right rights
-      (last-same outer d whole (path ++ Blocks r ∷ []) s _ (λ p. p)
-      (λ p q. right_free size Dim path r s root waiting o p q refl h around) right rights k))
-      (unchanged-last path (r * s) o left lefts
-      (last-other outer d whole path (path ++ Columns s ∷ []) (r * s) r o _ (λ p. p)
-      (λ p q. left_last size Dim path r s waiting o p q (λ i cs e. refl) h around) left lefts l))
+      (right_freed size Dim path r s root waiting o h around refl right rights k)
+      (left_same size Dim path r s root waiting o h around (λ i cs e. refl) left lefts l)
 
   one-pass : (path : Path) (waiting : List Mapping) (o : Site) (w : PlainWork) →
       plain_work (named w) ≡ w → IsAround outer d whole path waiting (work_size w) o →
@@ -289,7 +280,8 @@ module _ (outer : List ℕ) (d : ℕ) (whole : PlaceFunction) (long : length out
       let here = rule_in m size rule root path a b low h e in
       by_rule size rule path r s root waiting o _ _ _ _ here around
       (layouts_match m size (path ++ Columns s ∷ []) [] (left_site rule r s o) a low h.1 works.0
-      (size_under-push path (Columns s) r ∙ e) (left_around size rule path r s waiting o here around))
+      (size_under-push path (Columns s) r ∙ e)
+      (left_around size rule path r s root waiting o here around))
       (layouts_match m size (path ++ Blocks r ∷ []) (rule_waiting rule path r s waiting)
       (right_site rule r s root o) b low h.2 works.1 (size_under-push path (Blocks r) s ∙ e)
       (right_around size rule path r s root waiting o here around))

@@ -1,13 +1,17 @@
 -- A formula with its direct sums in halves has the same summands, and is shaped.
-use Rattle.std.proofs.Common.{◌≡◌, ℕ, zero, suc, ◌+◌, ◌*◌, ◌/◌, ◌<◌, ◌≤◌, nat_le, if◌then◌else◌, List, [], ◌∷◌, ◌++◌, flat_map, take, drop, length, length-append, append-nil, refl, sym, ap, ap₂, ◌∙◌, arith, subst, inl, inr, add_assoc}
+use Rattle.std.proofs.Common.{◌≡◌, ℕ, zero, suc, ◌+◌, ◌*◌, ◌/◌, ◌<◌, ◌≤◌, nat_le, if◌then◌else◌, List, [], ◌∷◌, ◌++◌}
+use Rattle.std.proofs.Common.{flat_map, take, drop, length, length-append, append-nil, refl, sym, ap, ap₂, ◌∙◌, arith}
+use Rattle.std.proofs.Common.{subst, inl, inr, add_assoc}
 use Rattle.std.proofs.lemmas.Bool.{cases_Bool}
 use Rattle.std.proofs.lemmas.Bool.Decides.{nat_tests}
 use Rattle.std.proofs.lemmas.Grind.{flat_map-append}
-use Rattle.std.proofs.lemmas.List.{take-append-drop}
+use Rattle.std.proofs.lemmas.List.{length-take-le, take-append-drop}
 use Rattle.spl_ast.specs.BalancedSums.Halves.{halved, balanced, balanced_summands}
 use Rattle.spl_ast.specs.BalancedSums.Summands.{summands, sum_of}
 use Rattle.spl_ast.proofs.BalancedSums.Grouping.{KnowsSums, from_right}
-use Rattle.spl_ast.specs.Formula.{Formula, Identity, Fourier, Hadamard, Twiddles, Diagonal, Stride, Permutation, GoodThomasIn, GoodThomasOut, Product, TensorLeft, TensorRight, DirectSum, Pending, size_of}
+use Rattle.spl_ast.specs.Formula.{Formula, Identity, Fourier, Hadamard, Twiddles, Diagonal, Stride, Permutation}
+use Rattle.spl_ast.specs.Formula.{GoodThomasIn, GoodThomasOut, Product, TensorLeft, TensorRight, DirectSum, Pending}
+use Rattle.spl_ast.specs.Formula.{size_of}
 use Rattle.spl_ast.specs.Shape.{IsShaped, IsSize}
 use Rattle.spl_ast.proofs.Vectors.{shaped_size}
 
@@ -22,11 +26,6 @@ summands-sum (f ∷ g ∷ gs) some = ap (λ rest. summands f ++ rest) (summands-
 length-halves : (fs : List Formula) (n : ℕ) → length (take n fs) + length (drop n fs) ≡ length fs
 length-halves fs n = sym (length-append (take n fs) (drop n fs)) ∙ ap length (take-append-drop n fs)
 
-length-take : (fs : List Formula) (n : ℕ) → n ≤ length fs → length (take n fs) ≡ n
-length-take fs zero low = refl
-length-take [] (suc n) low = absurd (omega (arith, low))
-length-take (f ∷ fs) (suc n) low = ap suc (length-take fs n (omega (arith, low)))
-
 summands-halved : (depth : ℕ) (fs : List Formula) → 0 < length fs → summands (halved depth fs) ≡ flat_map summands fs
 summands-halved zero fs some = summands-sum fs some
 summands-halved (suc depth) fs some = elim (cases_Bool (nat_le (length fs) 1)) [
@@ -38,7 +37,7 @@ summands-halved (suc depth) fs some = elim (cases_Bool (nat_le (length fs) 1)) [
       let two : 2 ≤ length fs = grind (arith, nat_tests) in
       let half : (length fs / 2) + (length fs / 2) ≤ length fs = omega arith in
       let least : 1 ≤ length fs / 2 = omega (arith, two) in
-      let front = length-take fs (length fs / 2) (omega (arith, half)) in
+      let front = length-take-le (length fs / 2) fs (omega (arith, half)) in
       let both = length-halves fs (length fs / 2) in
       ap (λ b. summands (if b then sum_of fs else DirectSum (halved depth (take (length fs / 2) fs))
       (halved depth (drop (length fs / 2) fs)))) many

@@ -11,10 +11,7 @@ use Rattle.generate.specs.FormulaPasses.Computes.{formula_merged}
 use Rattle.generate.proofs.FormulaPasses.Formulas.{formulas_are_ready}
 use Rattle.generate.proofs.FormulaPasses.Programs.{formulas_compute}
 use Rattle.icode.specs.Plain.{PlainProgram}
-use Rattle.icode.specs.Actions.{plain_code}
-use Rattle.icode.specs.Machine.{padded, results, words_at}
-use Rattle.icode.proofs.Lists.{code_is}
-use Rattle.icode.proofs.Runs.{memory_of_runs}
+use Rattle.generate.proofs.Performed.{any-turns}
 use Rattle.loop_merge.specs.JoinedCopies.Joined.{all_joined}
 use Rattle.loop_merge.proofs.JoinedCopies.Passes.{joined-order}
 use Rattle.sigma_spl.specs.Shared.Machine.{plain_machine}
@@ -50,15 +47,9 @@ can_emit m f g large small shaped few is =
 
 -- ---- code
 
--- the turns that come first do not matter
-any-turns : (m : ℕ) (f : Formula) (p : PlainProgram) → Performs (plain_machine (size_of f) m) (formula_merged m f) p → (x turns : List ℕ) → results (plain_code p) x turns ≡ results (plain_code p) x []
-any-turns m f p performs x turns =
-    let first = memory_of_runs (plain_code p) (code_is p) performs.apart x turns in
-    let none = memory_of_runs (plain_code p) (code_is p) performs.apart x [] in
-    ap (λ memory. words_at p.size memory (padded (plain_code p))) (first ∙ sym none)
-
-code-of : (m : ℕ) (f : Formula) (p : PlainProgram) → 2 ≤ m → m < 2 ^ 62 → IsShaped f → parts_of f ≤ 65536 → Performs (plain_machine (size_of f) m) (formula_merged m f) p → IsCodeOf m f p
-code-of m f p large small shaped few performs =
+pub is_code : (m : ℕ) (f : Formula) (p : PlainProgram) → 2 ≤ m → m < 2 ^ 62 → IsShaped f → parts_of f ≤ 65536 →
+    Performs (plain_machine (size_of f) m) (formula_merged m f) p → IsCodeOf m f p
+is_code m f p large small shaped few performs =
     let computes = formulas_compute m f p large small shaped few performs in
     record {
       header = record { size = performs.size; modulus = performs.modulus; procs = performs.procs; line = performs.line; lanes = performs.lanes };
@@ -66,14 +57,13 @@ code-of m f p large small shaped few performs =
       fits = performs.fits;
       phases = length-map _ _ ∙ performs.phases;
       apart = performs.apart;
-      product = λ x turns vector _. any-turns m f p performs x turns ∙ computes.results x vector;
+      product = λ x turns vector _.
+          any-turns (plain_machine (size_of f) m) (formula_merged m f) p performs x turns ∙ computes.results x vector;
       operations = computes.cost 1 (omega arith);
     }
 
-pub is_code : (m : ℕ) (f : Formula) (g : PlainMerged) (p : PlainProgram) → 2 ≤ m → m < 2 ^ 62 → IsShaped f → parts_of f ≤ 65536 → g ≡ formula_merged m f → Performs (plain_machine g.size m) g p → IsCodeOf m f p
-is_code m f g p large small shaped few is performs = code-of m f p large small shaped few (subst (λ (h : PlainMerged). Performs (plain_machine h.size m) h p) is performs)
-
 -- ---- letters
 
-pub has_letters : (m : ℕ) (f : Formula) (g : PlainMerged) (p : PlainProgram) → g ≡ formula_merged m f → p ≡ program_of (plain_machine g.size m) g → p ≡ program_as_it_stands m f
+pub has_letters : (m : ℕ) (f : Formula) (g : PlainMerged) (p : PlainProgram) → g ≡ formula_merged m f →
+    p ≡ program_of (plain_machine g.size m) g → p ≡ program_as_it_stands m f
 has_letters m f g p is written = written ∙ ap (λ (h : PlainMerged). program_of (plain_machine h.size m) h) is

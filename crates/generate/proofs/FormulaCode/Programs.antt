@@ -1,11 +1,12 @@
 -- The program of a formula is its code.
-use Rattle.std.proofs.Common.{ℕ, ◌^◌, ◌<◌, ◌≤◌, refl}
+use Rattle.std.proofs.Common.{ℕ, ◌^◌, ◌<◌, ◌≤◌}
 use Rattle.generate.specs.FormulaCode.Letters.{program_as_it_stands}
 use Rattle.generate.specs.FormulaPasses.Computes.{formula_merged}
 use Rattle.generate.specs.FormulaCode.Code.{IsCodeOf}
 use Rattle.generate.specs.GoodPrograms.{FormulaProgramsAreCode}
 use Rattle.generate.proofs.FormulaCode.Balanced.{balanced_alike, balanced_shaped}
-use Rattle.generate.proofs.FormulaCode.Coding.{can_emit, is_code}
+use Rattle.generate.proofs.FormulaCode.Coding.{is_code}
+use Rattle.generate.proofs.FormulaPasses.Formulas.{formulas_are_ready}
 use Rattle.generate.proofs.FormulaCode.Regrouped.{few_parts, same_code}
 use Rattle.code_gen.proofs.WholePrograms.Performs.{programs_perform}
 use Rattle.code_gen.proofs.WholePrograms.ReadyPrograms.{ready_can_program}
@@ -16,13 +17,13 @@ use Rattle.spl_ast.specs.Shape.{IsShaped}
 use Rattle.spl_ast.proofs.BalancedSums.Sums.{same_matrix}
 
 -- as its direct sums stand
-as-it-stands : (m : ℕ) (f : Formula) → 2 ≤ m → m < 2 ^ 62 → IsShaped f → parts_of f ≤ 65536 →
+pub as-it-stands : (m : ℕ) (f : Formula) → 2 ≤ m → m < 2 ^ 62 → IsShaped f → parts_of f ≤ 65536 →
     IsCodeOf m f (program_as_it_stands m f)
 as-it-stands m f large small shaped few =
     let g = formula_merged m f in
-    is_code m f g (program_as_it_stands m f) large small shaped few refl
+    is_code m f (program_as_it_stands m f) large small shaped few
     (programs_perform (plain_machine (size_of f) m) g
-    (ready_can_program (plain_machine (size_of f) m) g (can_emit m f g large small shaped few refl)))
+    (ready_can_program (plain_machine (size_of f) m) g (formulas_are_ready m f large small shaped few)))
 
 pub formula_programs_are_code : FormulaProgramsAreCode
 formula_programs_are_code m f large small shaped few =

@@ -26,7 +26,8 @@ operations-know weight m = record {
 pub few_parts : (f g : Formula) → summands g ≡ summands f → parts_of f ≤ 65536 → parts_of g ≤ 65536
 few_parts f g same few = omega (arith, parts_alike f g same, few)
 
-pub same_code : (m : ℕ) (f g : Formula) (p : PlainProgram) → summands g ≡ summands f → IsSameMatrix m f g → IsCodeOf m g p → IsCodeOf m f p
+pub same_code : (m : ℕ) (f g : Formula) (p : PlainProgram) → summands g ≡ summands f → IsSameMatrix m f g →
+    IsCodeOf m g p → IsCodeOf m f p
 same_code m f g p regrouped same code = record {
   header = record {
     size = code.header.size ∙ same.size;

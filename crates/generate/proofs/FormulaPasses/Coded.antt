@@ -1,5 +1,6 @@
 -- What is known of a nest of a formula's passes, with places within the limits, lets a program be made of it.
-use Rattle.std.proofs.Common.{◌≡◌, ℕ, zero, suc, ◌-◌, ◌*◌, ◌^◌, ◌<◌, ◌≤◌, true, List, [], ◌∷◌, ◌++◌, All, length, map, refl, sym, ap₂, arith, subst, Bool, Some, inl, inr}
+use Rattle.std.proofs.Common.{◌≡◌, ℕ, zero, suc, ◌-◌, ◌*◌, ◌^◌, ◌<◌, ◌≤◌, true, List, [], ◌∷◌, ◌++◌, All, length, map}
+use Rattle.std.proofs.Common.{refl, sym, ap₂, arith, subst, Bool, Some, inl, inr}
 use Rattle.std.specs.Prelude.{◌&&◌, drop, nat_le, nat_lt, slice_index, slice_index_or}
 use Rattle.std.specs.List.{list_all}
 use Rattle.std.proofs.Math.Nat.{mul-le-mul, mul-le-mul_left, mul-le-mul_right, pow-succ'}
@@ -38,18 +39,23 @@ top-limited room n cs e h =
     let bounds = nat_lt (top e cs) n && nat_lt (peak e) n in
     lt-true _ _ (and-left (nat_lt (top e cs) n) _ (and-left bounds (are_small cs e) (and-right first (bounds && are_small cs e) h)))
 
-limited-at : (room n : ℕ) (cs : ℕ → ℕ) (sums : List Sum) (i : ℕ) → list_all (is_limited room n cs) sums ≡ true → i < length sums → is_limited room n cs (slice_index_or sums i (constant 0)) ≡ true
+limited-at : (room n : ℕ) (cs : ℕ → ℕ) (sums : List Sum) (i : ℕ) → list_all (is_limited room n cs) sums ≡ true →
+    i < length sums → is_limited room n cs (slice_index_or sums i (constant 0)) ≡ true
 limited-at room n cs [] i h within = absurd (omega arith)
 limited-at room n cs (e ∷ es) zero h within = and-left (is_limited room n cs e) _ h
 limited-at room n cs (e ∷ es) (suc i) h within = limited-at room n cs es i (and-right (is_limited room n cs e) _ h) (omega (arith, within))
 
 -- a sum within the limits stays below its bound
-value-below : (count : ℕ) (cs : ℕ → ℕ) (sums : List Sum) (i : ℕ) (vs : List ℕ) (w : PlainWork) → NamesItems w sums → list_all (is_limited 64 count cs) sums ≡ true → i < length sums → ((d : ℕ) → slice_index vs d ≤ cs d - 1) → sum_value sums i vs < count
+value-below : (count : ℕ) (cs : ℕ → ℕ) (sums : List Sum) (i : ℕ) (vs : List ℕ) (w : PlainWork) → NamesItems w sums →
+    list_all (is_limited 64 count cs) sums ≡ true → i < length sums → ((d : ℕ) → slice_index vs d ≤ cs d - 1) →
+    sum_value sums i vs < count
 value-below count cs sums i vs w names h within range =
     let least = value-le-top (slice_index_or sums i (constant 0)) (slice_index vs) cs (sound-at sums i names.sound) range in
     let below = top-limited 64 count cs (slice_index_or sums i (constant 0)) (limited-at 64 count cs sums i h within) in omega (arith, least, below)
 
-factor-below : (counts : List ℕ) (w : PlainWork) (count : ℕ) (places : List Sum) (vs : List ℕ) (k : ℕ) → IsFormulaWork w → NamesItems w places → list_all (is_limited 64 count (slice_index (counts ++ work_size w ∷ work_size w ∷ []))) places ≡ true →
+factor-below : (counts : List ℕ) (w : PlainWork) (count : ℕ) (places : List Sum) (vs : List ℕ) (k : ℕ) →
+    IsFormulaWork w → NamesItems w places →
+    list_all (is_limited 64 count (slice_index (counts ++ work_size w ∷ work_size w ∷ []))) places ≡ true →
     AreInRange (loops_of counts) vs → k < work_size w → store_place w places vs k < count
 factor-below counts (kernel trees) count places vs k work names h range below = value-below count _ places k vs (kernel trees) names h (omega (arith, names.enough, below)) (alone counts _ vs range)
 factor-below counts (rows root d) count places vs k work names h range below = absurd work
@@ -78,7 +84,8 @@ few-loops counts h high =
       | inr few ↦ few
     ]
 
-small-counts : (counts : List ℕ) → AreMany counts → copies_in counts ≤ 1048576 → All (λ c. (1 ≤ c) × (c ≤ 1048576)) counts
+small-counts : (counts : List ℕ) → AreMany counts → copies_in counts ≤ 1048576 →
+    All (λ c. (1 ≤ c) × (c ≤ 1048576)) counts
 small-counts [] h high = All-nil (λ c. (1 ≤ c) × (c ≤ 1048576))
 small-counts (c ∷ counts) h high =
     let some = some-copies counts h.1 in
@@ -106,7 +113,8 @@ can-work n m (horner root d) h = h
 can-work n m (tile v) h = absurd h
 can-work n m (copy d) h = tt
 
-alike-as : (z : PlainNest) (w : PlainWork) → z.work ≡ w → IsFormulaWork w → IsAlike z.counts w z.gathers → LoadsAlike z w
+alike-as : (z : PlainNest) (w : PlainWork) → z.work ≡ w → IsFormulaWork w → IsAlike z.counts w z.gathers →
+    LoadsAlike z w
 alike-as z (kernel trees) is work h = tt
 alike-as z (rows root d) is work h = absurd work
 alike-as z (horner root d) is work h = λ vs row k range below under. h vs row k range (subst (λ v. row < work_size v) is below) (subst (λ v. k < work_size v) is under)
@@ -155,7 +163,8 @@ module _ (m n : ℕ) (high : n ≤ 1048576) where
     diagonal : (d : PlainMultiplier) → z.multiplier ≡ Some d → HasDiagonal m z.work (Some d)
     diagonal d is = subst (HasDiagonal m z.work) is made.diagonal
 
-    places : (d : PlainMultiplier) → z.multiplier ≡ Some d → list_all (is_limited 64 (factor_count d.factors) (limits_of z)) d.places ≡ true
+    places : (d : PlainMultiplier) → z.multiplier ≡ Some d →
+        list_all (is_limited 64 (factor_count d.factors) (limits_of z)) d.places ≡ true
     places d is = subst (λ o. is_multiplier_within 64 (limits_of z) o ≡ true) is factors
 
     ready : IsReadyNest (plain_machine n m) z
@@ -187,7 +196,8 @@ module _ (m n : ℕ) (high : n ≤ 1048576) where
           within = within;
         }
 
-  pub plain-nests : (zs : List PlainNest) → AreMade m zs → AreGoodNests 0 m n zs → is_within 64 n zs ≡ true → items_of (map (copies_of m) zs) ≤ n → All (IsPlainNest n m) zs
+  pub plain-nests : (zs : List PlainNest) → AreMade m zs → AreGoodNests 0 m n zs → is_within 64 n zs ≡ true →
+      items_of (map (copies_of m) zs) ≤ n → All (IsPlainNest n m) zs
   plain-nests [] made good within room = All-nil (IsPlainNest n m)
   plain-nests (z ∷ zs) made good within room =
       let cs = limits_of z in

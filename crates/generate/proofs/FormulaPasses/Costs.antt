@@ -1,23 +1,26 @@
 -- The operations and loads of a formula's passes.
-use Rattle.std.proofs.Common.{◌≡◌, ℕ, zero, suc, ◌+◌, ◌-◌, ◌*◌, ◌/◌, ◌^◌, ◌<◌, ◌≤◌, Bool, true, false, List, [], ◌∷◌, length, map, sym, subst, ap, arith, Option, Some, None, if◌then◌else◌}
-use Rattle.std.specs.Prelude.{◌==◌, max, nat_le, nat_lt}
-use Rattle.std.proofs.Math.Nat.{mul-le-mul, mul-le-mul_left, mul-le-mul_right}
+use Rattle.std.proofs.Common.{◌≡◌, ℕ, zero, suc, ◌+◌, ◌-◌, ◌*◌, ◌/◌, ◌≤◌, Bool, true, false, List, [], ◌∷◌}
+use Rattle.std.proofs.Common.{length, map, sym, subst, ap, arith, if◌then◌else◌}
+use Rattle.std.specs.Prelude.{◌==◌, nat_le, nat_lt}
+use Rattle.std.proofs.Math.Nat.{mul-le-mul_left, mul-le-mul_right}
 use Rattle.sigma_lower.specs.Operations as formulas
 use Rattle.sigma_lower.specs.Terms.{halvings}
-use Rattle.tree_model.specs.KernelCosts.{AllowsRoot, kernel_cost, product_cost, products_cost}
+use Rattle.tree_model.specs.KernelCosts.{AllowsRoot, product_cost, products_cost}
 use Rattle.matrix_meaning.specs.declared.Kind.{Kind}
 use Rattle.matrix_meaning.specs.declared.Kind.TheVariants.{Dft, Wht, Idft}
 use Rattle.matrix_meaning.specs.Kind.{entry_of}
 use Rattle.operators.specs.Sum.{sum_below}
 use Rattle.sigma_spl.specs.Shared.Costs.{pass_cost, pass_loads, work_cost, work_loads}
 use Rattle.sigma_spl.specs.Counts.{copies_in, multiplier_cost}
-use Rattle.sigma_spl.specs.Nest.{PlainMultiplier, PlainNest, copies_of}
+use Rattle.sigma_spl.specs.Nest.{PlainNest, copies_of}
 use Rattle.sigma_spl.specs.Work.{PlainWork, kernel, rows, horner, tile, copy, work_size}
 use Rattle.sigma_spl.proofs.Counting.{items_of}
-use Rattle.tree_model.specs.Trees.{single, tensor}
-use Rattle.spl_ast.specs.Formula.{Formula, Identity, Fourier, Hadamard, Twiddles, Diagonal, Stride, Permutation, GoodThomasIn, GoodThomasOut, Product, TensorLeft, TensorRight, DirectSum, Pending, size_of, parts_of}
+use Rattle.sigma_spl.proofs.Walk.{chosen}
+use Rattle.spl_ast.specs.Formula.{Formula, Identity, Fourier, Hadamard, Twiddles, Diagonal, Stride, Permutation}
+use Rattle.spl_ast.specs.Formula.{GoodThomasIn, GoodThomasOut, Product, TensorLeft, TensorRight, DirectSum, Pending}
+use Rattle.spl_ast.specs.Formula.{size_of, parts_of}
 use Rattle.spl_ast.specs.Shape.{IsShaped}
-use Rattle.tree_model.specs.Breakdown.{leaf, node}
+use Rattle.tree_model.specs.Breakdown.{leaf}
 use Rattle.generate.proofs.FormulaPasses.Made.{IsFormulaWork, AreMade}
 
 -- ---- kernels of leaves
@@ -61,7 +64,8 @@ loads-le m (horner root d) work = omega arith
 loads-le m (tile v) work = absurd work
 loads-le m (copy d) work = omega arith
 
-pub pass-loads-le : (m : ℕ) (zs : List PlainNest) → AreMade m zs → pass_loads zs ≤ pass_cost 1 m zs + items_of (map (copies_of m) zs)
+pub pass-loads-le : (m : ℕ) (zs : List PlainNest) → AreMade m zs →
+    pass_loads zs ≤ pass_cost 1 m zs + items_of (map (copies_of m) zs)
 pass-loads-le m [] made = omega arith
 pass-loads-le m (z ∷ zs) made =
     let copies = copies_in z.counts in
@@ -75,13 +79,11 @@ pass-loads-le m (z ∷ zs) made =
 
 -- ---- operations of a formula
 
-either-le : (b : Bool) (x y z : ℕ) → x ≤ z → y ≤ z → (if b then x else y) ≤ z
-either-le true x y z first second = first
-either-le false x y z first second = second
-
 halvings-le : (b n : ℕ) → halvings b n ≤ b
 halvings-le zero n = omega arith
-halvings-le (suc b) n = let rest = halvings-le b (n / 2) in either-le (nat_lt n 2) 0 (suc (halvings b (n / 2))) (suc b) (omega arith) (omega (arith, rest))
+halvings-le (suc b) n =
+    let rest = halvings-le b (n / 2) in
+    chosen (λ k. k ≤ suc b) (nat_lt n 2) 0 (suc (halvings b (n / 2))) (λ _. omega arith) (omega (arith, rest))
 
 under-le : (k s p x : ℕ) → x ≤ 2 * (s * s) * p → k * x ≤ 2 * ((k * s) * (k * s)) * p
 under-le k s p x h =
@@ -91,12 +93,13 @@ under-le k s p x h =
     omega (arith, one, more, turned)
 
 -- for each of its parts at most twice as many as a matrix of its size has entries
-pub operations-le : (m : ℕ) (f : Formula) → IsShaped f → formulas.operations 1 m f ≤ 2 * (size_of f * size_of f) * (parts_of f + 1)
+pub operations-le : (m : ℕ) (f : Formula) → IsShaped f → formulas.operations 1 m f
+    ≤ 2 * (size_of f * size_of f) * (parts_of f + 1)
 operations-le m (Identity n) shaped = omega arith
 operations-le m (Fourier n w) shaped =
     let short = leaf-size n (products_cost 1 m 0 (entry_of Dft m n w) n n) (products-le m n (entry_of Dft m n w)) in
-    either-le (nat_le n 8) (n * (n - 1) + products_cost 1 m 0 (entry_of Dft m n w) n n) ((1 + 1) * n * n)
-    (2 * (n * n) * (0 + 1)) (omega (arith, short)) (omega arith)
+    chosen (λ k. k ≤ 2 * (n * n) * (0 + 1)) (nat_le n 8) (n * (n - 1) + products_cost 1 m 0 (entry_of Dft m n w) n n)
+    ((1 + 1) * n * n) (λ _. omega (arith, short)) (omega arith)
 operations-le m (Hadamard n) shaped = let each : n * halvings n n ≤ n * n = mul-le-mul_left n (halvings-le n n) in omega (arith, each)
 operations-le m (Twiddles n s w) shaped = let square = square-le n in omega (arith, square)
 operations-le m (Diagonal c) shaped = let square = square-le (length c) in omega (arith, square)

@@ -1,14 +1,19 @@
 -- How many passes, nests and tables merging makes of a term.
-use Rattle.std.proofs.Common.{◌≡◌, ℕ, suc, ◌+◌, ◌*◌, ◌≤◌, List, [], ◌∷◌, ◌++◌, length, refl, ap, arith, Option, Some, None, map}
+use Rattle.std.proofs.Common.{◌≡◌, ℕ, suc, ◌+◌, ◌*◌, ◌≤◌, List, [], ◌∷◌, ◌++◌, length, refl, ap, ap₂, arith, Option}
+use Rattle.std.proofs.Common.{Some}
+use Rattle.std.proofs.Common.{None, map}
 use Rattle.std.specs.Prelude.{◌&&◌, max}
 use Rattle.std.proofs.Math.Nat.{mul-le-mul_left, mul-le-mul_right}
-use Rattle.std.proofs.lemmas.List.{length-append}
+use Rattle.std.proofs.lemmas.List.{length-append, length-map}
 use Rattle.index_fn.specs.Mapping.{Mapping}
-use Rattle.sigma_spl.specs.Merge.{Room, less, Merging, Taking, nothing, new_nest, items_in, copying, can_gather, can_scatter, can_take, suits, gathered, scattered, multiplied, take_gathers, copy_by, copies_before, settled, with_pass, factor_places, with_copy, with_diagonal, with_scatter, back_of, from_end, ended, lifted, renumbered_places, side, sides, with_passes, merged, if_any, passes_within}
+use Rattle.sigma_spl.specs.Merge.{Room, less, Merging, Taking, nothing, new_nest, items_in, copying, can_gather}
+use Rattle.sigma_spl.specs.Merge.{can_scatter, can_take, suits, gathered, scattered, multiplied, take_gathers, copy_by}
+use Rattle.sigma_spl.specs.Merge.{copies_before, settled, with_pass, factor_places, with_copy, with_diagonal}
+use Rattle.sigma_spl.specs.Merge.{with_scatter, back_of, from_end, ended, lifted, renumbered_places, side, sides}
+use Rattle.sigma_spl.specs.Merge.{with_passes, merged, if_any, passes_within}
 use Rattle.sigma_spl.specs.Nest.{PlainFactors, spread, PlainMultiplier, PlainNest}
 use Rattle.sigma_spl.specs.Shared.Ready.{diagonal_tables, nests_tables, passes_tables, work_tables}
 use Rattle.sigma_spl.specs.Term.{PlainTerm, same, gath, scat, diag, nest, move, product, beside}
-use Rattle.sigma_spl.specs.Work.{PlainWork, rows, horner}
 use Rattle.sigma_spl.proofs.Walk.{chosen}
 use Rattle.operators.specs.TensorPaths.Path.{Path}
 
@@ -56,40 +61,24 @@ tables-both : (zs ys : List PlainNest) → nests_tables (zs ++ ys) ≡ nests_tab
 tables-both [] ys = omega arith
 tables-both (z ∷ zs) ys = let rest = tables-both zs ys in omega (arith, rest)
 
-length-gathered : (f : Mapping) (zs : List PlainNest) → length (gathered f zs) ≡ length zs
-length-gathered f [] = refl
-length-gathered f (z ∷ zs) = ap suc (length-gathered f zs)
+-- nests that are changed but not in their tables
+tables-map : (g : PlainNest → PlainNest) → ((z : PlainNest) → work_tables (g z).work
+    + diagonal_tables (g z).multiplier ≡ work_tables z.work + diagonal_tables z.multiplier) →
+    (zs : List PlainNest) → nests_tables (map g zs) ≡ nests_tables zs
+tables-map g kept [] = refl
+tables-map g kept (z ∷ zs) = ap₂ (λ n k. n + k) (kept z) (tables-map g kept zs)
 
-length-scattered : (f : Mapping) (zs : List PlainNest) → length (scattered f zs) ≡ length zs
-length-scattered f [] = refl
-length-scattered f (z ∷ zs) = ap suc (length-scattered f zs)
-
-length-multiplied : (factors : PlainFactors) (fs : List Mapping) (zs : List PlainNest) → length (multiplied factors fs zs) ≡ length zs
-length-multiplied factors fs [] = refl
-length-multiplied factors fs (z ∷ zs) = ap suc (length-multiplied factors fs zs)
-
-length-lifted : (path : Path) (n before : ℕ) (zs : List PlainNest) → length (map (lifted path n before) zs) ≡ length zs
-length-lifted path n before [] = refl
-length-lifted path n before (z ∷ zs) = ap suc (length-lifted path n before zs)
-
-tables-gathered : (f : Mapping) (zs : List PlainNest) → nests_tables (gathered f zs) ≡ nests_tables zs
-tables-gathered f [] = refl
-tables-gathered f (z ∷ zs) = ap (λ t. work_tables z.work + diagonal_tables z.multiplier + t) (tables-gathered f zs)
-
-tables-scattered : (f : Mapping) (zs : List PlainNest) → nests_tables (scattered f zs) ≡ nests_tables zs
-tables-scattered f [] = refl
-tables-scattered f (z ∷ zs) = ap (λ t. work_tables z.work + diagonal_tables z.multiplier + t) (tables-scattered f zs)
-
-tables-renumbered : (k : ℕ) (o : Option PlainMultiplier) → diagonal_tables (renumbered_places k o) ≡ diagonal_tables o
-tables-renumbered k None = refl
-tables-renumbered k (Some d) = refl
-
-tables-lifted : (path : Path) (n before : ℕ) (zs : List PlainNest) → nests_tables (map (lifted path n before) zs) ≡ nests_tables zs
-tables-lifted path n before [] = refl
-tables-lifted path n before (z ∷ zs) = let first = tables-renumbered (length path) z.multiplier in let rest = tables-lifted path n before zs in omega (arith, first, rest)
+tables-lifted : (path : Path) (n before : ℕ) (z : PlainNest) → work_tables (lifted path n before z).work
+    + diagonal_tables (lifted path n before z).multiplier ≡ work_tables z.work + diagonal_tables z.multiplier
+tables-lifted path n before z = ap (λ n. work_tables z.work + n) (by z.multiplier)
+  where
+    by : (o : Option PlainMultiplier) → diagonal_tables (renumbered_places (length path) o) ≡ diagonal_tables o
+    by None = refl
+    by (Some d) = refl
 
 -- at most one more for each nest
-tables-multiplied : (factors : PlainFactors) (fs : List Mapping) (zs : List PlainNest) → nests_tables (multiplied factors fs zs) ≤ nests_tables zs + length zs
+tables-multiplied : (factors : PlainFactors) (fs : List Mapping) (zs : List PlainNest) →
+    nests_tables (multiplied factors fs zs) ≤ nests_tables zs + length zs
 tables-multiplied factors fs [] = omega arith
 tables-multiplied factors fs (z ∷ zs) = let rest = tables-multiplied factors fs zs in omega (arith, rest)
 
@@ -100,25 +89,37 @@ pub record IsFew (b t : ℕ) (zs : List PlainNest) : Type 0 where
   pub nests : length zs ≤ b
   pub tables : nests_tables zs ≤ t
 
+few-map : (b t : ℕ) (g : PlainNest → PlainNest) → ((z : PlainNest) → work_tables (g z).work
+    + diagonal_tables (g z).multiplier ≡ work_tables z.work + diagonal_tables z.multiplier) →
+    (zs : List PlainNest) → IsFew b t zs → IsFew b t (map g zs)
+few-map b t g kept zs h =
+    let long = length-map zs g in
+    let all = tables-map g kept zs in
+    record { nests = omega (arith, h.nests, long); tables = omega (arith, h.tables, all) }
+
 few-gathered : (b t : ℕ) (f : Mapping) (zs : List PlainNest) → IsFew b t zs → IsFew b t (gathered f zs)
-few-gathered b t f zs h = let long = length-gathered f zs in let all = tables-gathered f zs in record { nests = omega (arith, h.nests, long); tables = omega (arith, h.tables, all) }
+few-gathered b t f zs h = few-map b t _ (λ z. refl) zs h
 
 few-scattered : (b t : ℕ) (f : Mapping) (zs : List PlainNest) → IsFew b t zs → IsFew b t (scattered f zs)
-few-scattered b t f zs h = let long = length-scattered f zs in let all = tables-scattered f zs in record { nests = omega (arith, h.nests, long); tables = omega (arith, h.tables, all) }
+few-scattered b t f zs h = few-map b t _ (λ z. refl) zs h
 
-few-multiplied : (b t : ℕ) (factors : PlainFactors) (fs : List Mapping) (zs : List PlainNest) → IsFew b t zs → IsFew b (t + b) (multiplied factors fs zs)
+few-multiplied : (b t : ℕ) (factors : PlainFactors) (fs : List Mapping) (zs : List PlainNest) → IsFew b t zs →
+    IsFew b (t + b) (multiplied factors fs zs)
 few-multiplied b t factors fs zs h =
-    let long = length-multiplied factors fs zs in
-    let all = tables-multiplied factors fs zs in record { nests = omega (arith, h.nests, long); tables = omega (arith, h.nests, h.tables, all) }
+    let long : length (multiplied factors fs zs) ≡ length zs = length-map zs _ in
+    let all = tables-multiplied factors fs zs in
+    record { nests = omega (arith, h.nests, long); tables = omega (arith, h.nests, h.tables, all) }
 
 few-copying : (b n : ℕ) → 1 ≤ b → IsFew b 0 (copying n)
 few-copying b n some = record { nests = some; tables = omega arith }
 
-few-take : (room : Room) (n b t : ℕ) (zs : List PlainNest) (fs : List Mapping) → IsFew b t zs → IsFew b t (take_gathers room n zs fs).pass
+few-take : (room : Room) (n b t : ℕ) (zs : List PlainNest) (fs : List Mapping) → IsFew b t zs →
+    IsFew b t (take_gathers room n zs fs).pass
 few-take room n b t zs [] h = h
 few-take room n b t zs (f ∷ fs) h = chosen (λ (taking : Taking). IsFew b t taking.pass) (can_gather room n f zs) _ _ (λ _. few-take room n b t (gathered f zs) fs (few-gathered b t f zs h)) h
 
-left-few : (room : Room) (n : ℕ) (zs : List PlainNest) (fs : List Mapping) → length (take_gathers room n zs fs).left ≤ length fs
+left-few : (room : Room) (n : ℕ) (zs : List PlainNest) (fs : List Mapping) →
+    length (take_gathers room n zs fs).left ≤ length fs
 left-few room n zs [] = omega arith
 left-few room n zs (f ∷ fs) = chosen (λ (taking : Taking). length taking.left ≤ suc (length fs)) (can_gather room n f zs) _ _ (λ _. let rest = left-few room n (gathered f zs) fs in omega (arith, rest)) (omega arith)
 
@@ -133,10 +134,12 @@ pub record AreFew (b l t : ℕ) (ps : List (List PlainNest)) : Type 0 where
   pub long : length ps ≤ l
   pub tables : passes_tables ps ≤ t
 
-few-cons : (b l s t : ℕ) (zs : List PlainNest) (ps : List (List PlainNest)) → IsFew b s zs → AreFew b l t ps → AreFew b (suc l) (s + t) (zs ∷ ps)
+few-cons : (b l s t : ℕ) (zs : List PlainNest) (ps : List (List PlainNest)) → IsFew b s zs → AreFew b l t ps →
+    AreFew b (suc l) (s + t) (zs ∷ ps)
 few-cons b l s t zs ps h g = record { narrow = (h.nests, g.narrow); long = omega (arith, g.long); tables = omega (arith, h.tables, g.tables) }
 
-few-append : (b k l s t : ℕ) (ps qs : List (List PlainNest)) → AreFew b k s ps → AreFew b l t qs → AreFew b (k + l) (s + t) (ps ++ qs)
+few-append : (b k l s t : ℕ) (ps qs : List (List PlainNest)) → AreFew b k s ps → AreFew b l t qs →
+    AreFew b (k + l) (s + t) (ps ++ qs)
 few-append b k l s t ps qs h g =
     let both = length-append ps qs in
     let all = tables-append ps qs in record { narrow = narrow-append b ps qs h.narrow g.narrow; long = omega (arith, both, h.long, g.long); tables = omega (arith, all, h.tables, g.tables) }
@@ -144,7 +147,8 @@ few-append b k l s t ps qs h g =
 few-more : (b c k l s t : ℕ) (ps : List (List PlainNest)) → b ≤ c → k ≤ l → s ≤ t → AreFew b k s ps → AreFew c l t ps
 few-more b c k l s t ps wide long more h = record { narrow = narrow-more b c ps wide h.narrow; long = omega (arith, long, h.long); tables = omega (arith, more, h.tables) }
 
-few-copies : (room : Room) (n b t : ℕ) (zs : List PlainNest) (fs : List Mapping) → 1 ≤ b → IsFew b t zs → AreFew b (suc (length fs)) t (copies_before room n zs fs)
+few-copies : (room : Room) (n b t : ℕ) (zs : List PlainNest) (fs : List Mapping) → 1 ≤ b → IsFew b t zs →
+    AreFew b (suc (length fs)) t (copies_before room n zs fs)
 few-copies room n b t zs [] some h = record { narrow = (h.nests, tt); long = omega arith; tables = omega (arith, h.tables) }
 few-copies room n b t zs (f ∷ fs) some h =
     chosen (AreFew b (suc (suc (length fs))) t) (can_gather room n f zs) _ _
@@ -169,14 +173,16 @@ stood-few b l t st h = record { narrow = h.narrow; long = omega arith; tables = 
 stands-more : (b k l s t : ℕ) (st : Merging) → k ≤ l → s ≤ t → StandsFew b k s st → StandsFew b l t st
 stands-more b k l s t st long more h = record { narrow = h.narrow; long = omega (arith, long, h.long); tables = omega (arith, more, h.tables) }
 
-few-pass : (room : Room) (n b l s t : ℕ) (st : Merging) (zs : List PlainNest) → 1 ≤ b → IsFew b s zs → StandsFew b l t st → StandsFew b (l + 1) (t + s) (with_pass room n st zs)
+few-pass : (room : Room) (n b l s t : ℕ) (st : Merging) (zs : List PlainNest) → 1 ≤ b → IsFew b s zs →
+    StandsFew b l t st → StandsFew b (l + 1) (t + s) (with_pass room n st zs)
 few-pass room n b l s t st zs some h g =
     let left = (take_gathers room n zs st.waiting).left in
     let fewer = left-few room n zs st.waiting in
     let all = few-cons b (length left + length st.passes) s (0 + t) _ _ (few-take room n b s zs st.waiting h) (few-append b (length left) (length st.passes) 0 t (settled room n left) st.passes (few-settled room n b left some) (stood-few b l t st g)) in
     record { narrow = all.narrow; long = omega (arith, all.long, fewer, g.long); tables = omega (arith, all.tables) }
 
-few-copy : (room : Room) (n b l t : ℕ) (st : Merging) (path : Path) (factors : PlainFactors) → 1 ≤ b → StandsFew b l t st → StandsFew b (l + 1) (t + b) (with_copy room n st path factors)
+few-copy : (room : Room) (n b l t : ℕ) (st : Merging) (path : Path) (factors : PlainFactors) → 1 ≤ b →
+    StandsFew b l t st → StandsFew b (l + 1) (t + b) (with_copy room n st path factors)
 few-copy room n b l t st path factors some g =
     chosen (StandsFew b (l + 1) (t + b)) (can_take room n factors (factor_places st.waiting path factors) (copying n)) _ _
     (λ _.
@@ -225,7 +231,8 @@ few-ended room n b l t (f ∷ fs) (zs ∷ ps) some g =
     (few-append b (length (from_end (f ∷ fs))) (length (zs ∷ ps)) 0 (passes_tables (zs ∷ ps)) (settled room n (from_end (f ∷ fs))) (zs ∷ ps) (few-settled room n b (from_end (f ∷ fs)) some)
     (record { narrow = g.narrow; long = omega arith; tables = omega arith })))
 
-few-passes : (room : Room) (n b l k s t : ℕ) (st : Merging) (ps : List (List PlainNest)) → 1 ≤ b → AreFew b k s ps → StandsFew b l t st → StandsFew b (l + k) (t + s) (with_passes room n st ps)
+few-passes : (room : Room) (n b l k s t : ℕ) (st : Merging) (ps : List (List PlainNest)) → 1 ≤ b → AreFew b k s ps →
+    StandsFew b l t st → StandsFew b (l + k) (t + s) (with_passes room n st ps)
 few-passes room n b l k s t st [] some h g = stands-more b l (l + k) t (t + s) st (omega arith) (omega arith) g
 few-passes room n b l k s t st (zs ∷ []) some h g =
     stands-more b (l + 1) (l + k) (t + nests_tables zs) (t + s) _ (omega (arith, h.long)) (omega (arith, h.tables)) (few-pass room n b l (nests_tables zs) t st zs some (record { nests = h.narrow.0; tables = omega arith }) g)
@@ -235,20 +242,23 @@ few-passes room n b l k s t st (zs ∷ ys ∷ ps) some h g =
 
 -- ---- side by side
 
-few-side : (a b s t k l : ℕ) (path : Path) (zs ys : List PlainNest) → IsFew a s zs → IsFew b t ys → IsFew (a + b) (s + t) (side path k l zs ys)
+few-side : (a b s t k l : ℕ) (path : Path) (zs ys : List PlainNest) → IsFew a s zs → IsFew b t ys →
+    IsFew (a + b) (s + t) (side path k l zs ys)
 few-side a b s t k l path zs ys h g =
-    let first = length-lifted path (k + l) 0 zs in
-    let second = length-lifted path (k + l) k ys in
+    let first = few-map a s (lifted path (k + l) 0) (tables-lifted path (k + l) 0) zs h in
+    let second = few-map b t (lifted path (k + l) k) (tables-lifted path (k + l) k) ys g in
     let long = length-append (map (lifted path (k + l) 0) zs) (map (lifted path (k + l) k) ys) in
-    let one = tables-lifted path (k + l) 0 zs in
-    let two = tables-lifted path (k + l) k ys in
     let all = tables-both (map (lifted path (k + l) 0) zs) (map (lifted path (k + l) k) ys) in
-    record { nests = omega (arith, first, second, long, h.nests, g.nests); tables = omega (arith, one, two, all, h.tables, g.tables) }
+    record {
+      nests = omega (arith, first.nests, second.nests, long);
+      tables = omega (arith, first.tables, second.tables, all);
+    }
 
 none-few : (b : ℕ) → AreFew b 0 0 []
 none-few b = record { narrow = tt; long = omega arith; tables = omega arith }
 
-few-sides : (a b k l : ℕ) (path : Path) (ps qs : List (List PlainNest)) → 1 ≤ a → 1 ≤ b → AreNarrow a ps → AreNarrow b qs → AreFew (a + b) (length ps + length qs) (passes_tables ps + passes_tables qs) (sides path k l ps qs)
+few-sides : (a b k l : ℕ) (path : Path) (ps qs : List (List PlainNest)) → 1 ≤ a → 1 ≤ b → AreNarrow a ps →
+    AreNarrow b qs → AreFew (a + b) (length ps + length qs) (passes_tables ps + passes_tables qs) (sides path k l ps qs)
 few-sides a b k l path [] [] one two h g = none-few (a + b)
 few-sides a b k l path (zs ∷ ps) [] one two h g =
     let here = few-side a b (nests_tables zs) 0 k l path zs (copying l) (record { nests = h.0; tables = omega arith }) (few-copying b l two) in
@@ -276,7 +286,8 @@ beside-tables a b x y s t h g =
     omega (arith, one, two, cut, h, g)
 
 -- the passes of a part
-part-few : (room : Room) (n b l t : ℕ) (st : Merging) → 1 ≤ b → StandsFew b (0 + l) (0 + t) st → AreFew b l t (ended room n (from_end st.waiting) st.passes)
+part-few : (room : Room) (n b l t : ℕ) (st : Merging) → 1 ≤ b → StandsFew b (0 + l) (0 + t) st →
+    AreFew b l t (ended room n (from_end st.waiting) st.passes)
 part-few room n b l t st some g =
     let same = length-end st.waiting in
     few-ended room n b l t (from_end st.waiting) st.passes some (record { narrow = g.narrow; long = omega (arith, g.long, same); tables = omega (arith, g.tables) })
@@ -284,7 +295,8 @@ part-few room n b l t st some g =
 none-stands : (b : ℕ) → StandsFew b 0 0 nothing
 none-stands b = record { narrow = tt; long = omega arith; tables = omega arith }
 
-few-merged : (room : Room) (n b l t : ℕ) (st : Merging) (term : PlainTerm) → sums_in term + 1 ≤ b → StandsFew b l t st → StandsFew b (l + steps_in term) (t + b * makers_in term) (merged room n st term)
+few-merged : (room : Room) (n b l t : ℕ) (st : Merging) (term : PlainTerm) → sums_in term + 1 ≤ b → StandsFew b l t st →
+    StandsFew b (l + steps_in term) (t + b * makers_in term) (merged room n st term)
 few-merged room n b l t st same wide g = stands-more b l (l + 1) t (t + b * 0) st (omega arith) (omega arith) g
 few-merged room n b l t st (gath f) wide g = record { narrow = g.narrow; long = omega (arith, g.long); tables = omega (arith, g.tables) }
 few-merged room n b l t st (scat f) wide g = stands-more b (l + 1) (l + 1) t (t + b * 0) _ (omega arith) (omega arith) (few-scatter room n b l t st.waiting st.passes f g)
@@ -323,7 +335,8 @@ any-few n b l t [] some h = record { narrow = (some, tt); long = omega arith; ta
 any-few n b l t (zs ∷ ps) some h = record { narrow = h.narrow; long = omega (arith, h.long); tables = h.tables }
 
 -- as many passes as the term has steps, and one, and as many tables as makers for each direct sum, and one
-pub passes-few : (room : Room) (n : ℕ) (t : PlainTerm) → AreFew (sums_in t + 1) (steps_in t + 1) ((sums_in t + 1) * makers_in t) (passes_within room n t)
+pub passes-few : (room : Room) (n : ℕ) (t : PlainTerm) → AreFew (sums_in t + 1) (steps_in t + 1)
+    ((sums_in t + 1) * makers_in t) (passes_within room n t)
 passes-few room n t =
     let b = sums_in t + 1 in
     any-few n b (steps_in t) (b * makers_in t) _ (omega arith) (part-few room n b (steps_in t) (b * makers_in t) (merged room n nothing t) (omega arith) (few-merged room n b 0 0 nothing t (omega arith) (none-stands b)))

@@ -1,10 +1,11 @@
 -- The conditions can be met: a transform of size 2 modulo 5 by the root 3, which is none of its size, by Horner's rule.
-use Rattle.std.proofs.Common.{◌≡◌, ℕ, zero, suc, ◌+◌, ◌*◌, ◌-◌, ◌%◌, ◌^◌, ◌<◌, ◌≤◌, refl, arith, List, [], ◌∷◌, mod-lt, All}
-use Rattle.std.specs.Prelude.{Some, true, false, map, ◌==◌, if◌then◌else◌}
-use Rattle.std.proofs.lemmas.Bool.Decides.{nat_tests}
+use Rattle.std.proofs.Common.{◌≡◌, ℕ, zero, suc, ◌+◌, ◌*◌, ◌-◌, ◌%◌, ◌<◌, ◌≤◌, refl, arith, List, [], ◌∷◌, mod-lt}
+use Rattle.std.proofs.Common.{All}
+use Rattle.std.specs.Prelude.{Some, true, false, map}
 use Rattle.std.proofs.lemmas.List.Elements.{All-nil, All-cons}
 use Rattle.icode.specs.Limits.{is_expr_within}
-use Rattle.icode.specs.Plain.{NoStmts, AndStmts, Loop, Do, Load, Store, Zero, Add, MulConst, MulTable, Sum, NoParts, AndParts, Var, Rem}
+use Rattle.icode.specs.Plain.{NoStmts, AndStmts, Loop, Do, Load, Store, Zero, Add, MulConst, MulTable, Sum, NoParts}
+use Rattle.icode.specs.Plain.{AndParts, Var, Rem}
 use Rattle.icode.specs.declared.program.Array.TheVariants.{X, Y}
 use Rattle.sigma_spl.specs.Merge.{new_nest, items_in}
 use Rattle.sigma_spl.specs.Copies.{hits}
@@ -86,7 +87,8 @@ passes-plain =
     stored-once (suc (suc w)) low = absurd (omega arith)
 
 -- so its program performs it
-pub example : Performs (plain_machine 2 5) (plain_phase 2 ((nest ∷ []) ∷ [])) (program_of (plain_machine 2 5) (plain_phase 2 ((nest ∷ []) ∷ [])))
+pub example : Performs (plain_machine 2 5) (plain_phase 2 ((nest ∷ []) ∷ []))
+    (program_of (plain_machine 2 5) (plain_phase 2 ((nest ∷ []) ∷ [])))
 example =
     programs_perform (plain_machine 2 5) (plain_phase 2 ((nest ∷ []) ∷ []))
     (ready_can_program (plain_machine 2 5) (plain_phase 2 ((nest ∷ []) ∷ [])) (plain_are_ready 2 5 ((nest ∷ []) ∷ []) passes-plain))
@@ -127,5 +129,6 @@ tripled-tables : tables_of_nest 5 tripled [] ≡ []
 tripled-tables = refl
 
 -- a Good-Thomas permutation, whose place has a quotient before a remainder, is within the limits
-gtin : is_expr_within (expr_of frame 1 (sums.simplified (λ d. 6) (ThomasIn 3 2) (sums.variable 1 0 (sums.constant 0)))) 1 ≡ true
+gtin : is_expr_within (expr_of frame 1 (sums.simplified (λ d. 6) (ThomasIn 3 2) (sums.variable 1 0 (sums.constant 0))))
+    1 ≡ true
 gtin = refl

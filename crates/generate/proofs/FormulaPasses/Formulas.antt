@@ -1,11 +1,12 @@
 -- The passes of every formula are ready.
-use Rattle.std.proofs.Common.{◌≡◌, ℕ, zero, suc, ◌+◌, ◌*◌, ◌%◌, ◌^◌, ◌<◌, ◌≤◌, true, List, [], ◌∷◌, ◌++◌, All, length, map, refl, sym, ap, ◌∙◌, arith, subst, inl, inr, mod-lt}
+use Rattle.std.proofs.Common.{◌≡◌, ℕ, zero, suc, ◌+◌, ◌*◌, ◌%◌, ◌^◌, ◌<◌, ◌≤◌, true, List, [], ◌∷◌, ◌++◌, All, length}
+use Rattle.std.proofs.Common.{map, refl, sym, ap, ◌∙◌, arith, subst, inl, inr, mod-lt}
 use Rattle.std.specs.Prelude.{slice_index}
 use Rattle.std.proofs.Math.Nat.{mul-le-mul}
 use Rattle.std.proofs.Math.Pow.{pow_mono}
 use Rattle.std.proofs.lemmas.Bool.{cases_lt}
 use Rattle.std.proofs.lemmas.Bool.Decides.{nat_tests}
-use Rattle.std.proofs.lemmas.List.Elements.{All-nil, All-cons, All-head, All-tail}
+use Rattle.std.proofs.lemmas.List.Elements.{All-append, All-cons, All-nil}
 use Rattle.sigma_lower.specs.Operations.{operations}
 use Rattle.sigma_lower.specs.Terms.{one_more, halvings, hadamard_term, fourier_term, term_of}
 use Rattle.sigma_lower.proofs.Compiling.{formulas_compile}
@@ -13,7 +14,6 @@ use Rattle.sigma_lower.proofs.Lowers.{halvings-power, power-above, lowers}
 use Rattle.sigma_lower.proofs.Several.{term-several}
 use Rattle.kernel_gen.proofs.Residues.{power_below}
 use Rattle.generate.specs.FormulaPasses.Laws.{FormulasAreReady}
-use Rattle.generate.specs.FormulaPasses.Computes.{formula_merged}
 use Rattle.loop_merge.proofs.JoinedCopies.Passes.{joined_are_plain}
 use Rattle.loop_merge.proofs.PlainPasses.{plain_are_ready}
 use Rattle.loop_merge.specs.JoinedCopies.Joined.{all_joined}
@@ -33,12 +33,14 @@ use Rattle.sigma_spl.specs.Good.{AreGoodPasses, IsGoodPass}
 use Rattle.sigma_spl.specs.Limits.{AreWithin}
 use Rattle.sigma_spl.specs.Merge.{most, if_any, is_within, passes_of}
 use Rattle.sigma_spl.specs.Nest.{PlainNest, copies_of}
-use Rattle.sigma_spl.specs.Term.{nest}
+use Rattle.sigma_spl.specs.Term.{PlainTerm, nest}
 use Rattle.sigma_spl.specs.Work.{kernel, horner, short}
 use Rattle.sigma_spl.proofs.Counting.{items_of, items-once}
 use Rattle.sigma_spl.proofs.Nests.{all-inside}
 use Rattle.loop_merge.specs.PlainPasses.{ArePlainPasses, IsPlainPass, in_order}
-use Rattle.spl_ast.specs.Formula.{Formula, Identity, Fourier, Hadamard, Twiddles, Diagonal, Stride, Permutation, GoodThomasIn, GoodThomasOut, Product, TensorLeft, TensorRight, DirectSum, Pending, size_of, parts_of}
+use Rattle.spl_ast.specs.Formula.{Formula, Identity, Fourier, Hadamard, Twiddles, Diagonal, Stride, Permutation}
+use Rattle.spl_ast.specs.Formula.{GoodThomasIn, GoodThomasOut, Product, TensorLeft, TensorRight, DirectSum, Pending}
+use Rattle.spl_ast.specs.Formula.{size_of, parts_of}
 use Rattle.spl_ast.specs.Shape.{IsShaped}
 use Rattle.spl_ast.proofs.Vectors.{shaped_size, size_is_size}
 use Rattle.operators.specs.declared.tensor_paths.Tensor.TheVariants.{Blocks, Columns}
@@ -55,16 +57,22 @@ hadamard-formed : (m : ℕ) (path : Path) (k : ℕ) → IsFormulaTerm m (hadamar
 hadamard-formed m path zero = tt
 hadamard-formed m path (suc k) = (hadamard-formed m (path ++ Blocks 2 ∷ []) k, ((omega arith, omega arith), omega arith))
 
-fourier-formed : (m : ℕ) (path : Path) (n w : ℕ) → 1 ≤ n → IsFormulaTerm m (fourier_term path n w)
-fourier-formed m path n w some =
+-- a short transform is one kernel, and a longer one goes row by row
+fourier-by : (P : PlainTerm → Type 0) (path : Path) (n w : ℕ) → (8 < n → P (nest path (horner w n))) →
+    (n ≤ 8 → P (nest path (kernel (short Dft w n)))) → P (fourier_term path n w)
+fourier-by P path n w row kept =
     elim (cases_lt 8 n) [
-      | inl long ↦ let is : fourier_term path n w ≡ nest path (horner w n) = grind (arith, nat_tests) in subst (IsFormulaTerm m) (sym is) (omega (arith, some))
-      | inr few ↦ let is : fourier_term path n w ≡ nest path (kernel (short Dft w n)) = grind (arith, nat_tests) in subst (IsFormulaTerm m) (sym is) (some, few)
+      | inl long ↦ let is : fourier_term path n w ≡ nest path (horner w n) = grind (arith, nat_tests) in
+          subst P (sym is) (row long)
+      | inr few ↦ let is : fourier_term path n w ≡ nest path (kernel (short Dft w n)) = grind (arith, nat_tests) in
+          subst P (sym is) (kept few)
     ]
 
 term-formed : (m : ℕ) (path : Path) (f : Formula) → 0 < m → IsShaped f → IsFormulaTerm m (term_of m path f)
 term-formed m path (Identity n) some shaped = tt
-term-formed m path (Fourier n w) some shaped = fourier-formed m path n w shaped.0.0
+term-formed m path (Fourier n w) some shaped =
+    let least = shaped.0.0 in
+    fourier-by (IsFormulaTerm m) path n w (λ long. omega (arith, long)) (λ few. (least, few))
 term-formed m path (Hadamard n) some shaped = hadamard-formed m path (halvings n n)
 term-formed m path (Twiddles n s w) some shaped = λ i. power_below m w _ some
 term-formed m path (Diagonal c) some shaped = λ i. residues-below m c i some
@@ -94,40 +102,31 @@ halvings-few n high (e, whole) =
       | inr few ↦ omega (arith, steps, few)
     ]
 
-hadamard-steps : (path : Path) (k : ℕ) → steps_in (hadamard_term path k) ≡ suc k
-hadamard-steps path zero = refl
-hadamard-steps path (suc k) = let rest = hadamard-steps (path ++ Blocks 2 ∷ []) k in omega (arith, rest)
-
-hadamard-sums : (path : Path) (k : ℕ) → sums_in (hadamard_term path k) ≡ 0
-hadamard-sums path zero = refl
-hadamard-sums path (suc k) = let rest = hadamard-sums (path ++ Blocks 2 ∷ []) k in omega (arith, rest)
-
-hadamard-makers : (path : Path) (k : ℕ) → makers_in (hadamard_term path k) ≡ 0
-hadamard-makers path zero = refl
-hadamard-makers path (suc k) = let rest = hadamard-makers (path ++ Blocks 2 ∷ []) k in omega (arith, rest)
-
-fourier-counted : (path : Path) (n w : ℕ) → IsCounted (Fourier n w) (steps_in (fourier_term path n w)) (sums_in (fourier_term path n w)) (makers_in (fourier_term path n w))
-fourier-counted path n w =
-    elim (cases_lt 8 n) [
-      | inl long ↦ let is : fourier_term path n w ≡ nest path (horner w n) = grind (arith, nat_tests) in
-          subst (λ t. IsCounted (Fourier n w) (steps_in t) (sums_in t) (makers_in t)) (sym is) (record { steps = omega arith; sums = omega arith; makers = omega arith })
-      | inr few ↦ let is : fourier_term path n w ≡ nest path (kernel (short Dft w n)) = grind (arith, nat_tests) in
-          subst (λ t. IsCounted (Fourier n w) (steps_in t) (sums_in t) (makers_in t)) (sym is) (record { steps = omega arith; sums = omega arith; makers = omega arith })
-    ]
+hadamard-counted : (path : Path) (k : ℕ) → (steps_in (hadamard_term path k) ≡ suc k)
+    × (sums_in (hadamard_term path k) ≡ 0) × (makers_in (hadamard_term path k) ≡ 0)
+hadamard-counted path zero = (refl, refl, refl)
+hadamard-counted path (suc k) =
+    let rest = hadamard-counted (path ++ Blocks 2 ∷ []) k in
+    (omega (arith, rest.0), omega (arith, rest.1), omega (arith, rest.2))
 
 abbrev Counts : Formula → ℕ → Path → Type 0
 Counts f m path = IsCounted f (steps_in (term_of m path f)) (sums_in (term_of m path f)) (makers_in (term_of m path f))
 
 term-counted : (m : ℕ) (path : Path) (f : Formula) → IsShaped f → Counts f m path
 term-counted m path (Identity n) shaped = record { steps = omega arith; sums = omega arith; makers = omega arith }
-term-counted m path (Fourier n w) shaped = fourier-counted path n w
+term-counted m path (Fourier n w) shaped =
+    fourier-by (λ t. IsCounted (Fourier n w) (steps_in t) (sums_in t) (makers_in t)) path n w
+    (λ long. record { steps = omega arith; sums = omega arith; makers = omega arith })
+    (λ few. record { steps = omega arith; sums = omega arith; makers = omega arith })
 term-counted m path (Hadamard n) shaped =
     let k = halvings n n in
     let few = halvings-few n shaped.0.1 shaped.1 in
-    let steps = hadamard-steps path k in
-    let sums = hadamard-sums path k in
-    let makers = hadamard-makers path k in
-    record { steps = omega (arith, few, steps); sums = omega (arith, sums); makers = omega (arith, sums, makers) }
+    let all = hadamard-counted path k in
+    record {
+      steps = omega (arith, few, all.0);
+      sums = omega (arith, all.1);
+      makers = omega (arith, all.1, all.2);
+    }
 term-counted m path (Twiddles n s w) shaped = record { steps = omega arith; sums = omega arith; makers = omega arith }
 term-counted m path (Diagonal c) shaped = record { steps = omega arith; sums = omega arith; makers = omega arith }
 term-counted m path (Stride n r) shaped = record { steps = omega arith; sums = omega arith; makers = omega arith }
@@ -151,31 +150,33 @@ term-counted m path (Pending a) shaped =
 
 -- ---- all passes
 
-all-one : (P : List PlainNest → Type 0) (ps : List (List PlainNest)) (zs : List PlainNest) → All P ps → P zs → All P (ps ++ zs ∷ [])
-all-one P [] zs h one = All-cons P zs [] one (All-nil P)
-all-one P (ys ∷ ps) zs h one = All-cons P ys (ps ++ zs ∷ []) (All-head P ys ps h) (all-one P ps zs (All-tail P ys ps h) one)
-
 module _ (m n : ℕ) (large : 2 ≤ m) (some : 0 < n) (high : n ≤ 1048576) where
   all-items : (zs : List PlainNest) → IsGoodPass 0 m n zs → items_of (map (copies_of m) zs) ≡ n
   all-items zs good = items-once n (map (copies_of m) zs) (all-inside 0 m n zs good.nests) good.once
 
-  plain-pass : (zs : List PlainNest) → AreMade m zs → IsGoodPass 0 m n zs → is_within 64 n zs ≡ true → IsPlainPass n m zs
+  plain-pass : (zs : List PlainNest) → AreMade m zs → IsGoodPass 0 m n zs → is_within 64 n zs ≡ true →
+      IsPlainPass n m zs
   plain-pass zs made good within =
       let items = all-items zs good in
       record { nests = plain-nests m n high zs made good.nests within (omega (arith, items)); once = good.once }
 
-  plain-passes : (ps : List (List PlainNest)) → AllMade m ps → AreGoodPasses 0 m n ps → AreWithin 64 n ps → All (IsPlainPass n m) (in_order ps)
+  plain-passes : (ps : List (List PlainNest)) → AllMade m ps → AreGoodPasses 0 m n ps → AreWithin 64 n ps →
+      All (IsPlainPass n m) (in_order ps)
   plain-passes [] made good within = All-nil (IsPlainPass n m)
-  plain-passes (zs ∷ ps) made good within = all-one (IsPlainPass n m) (in_order ps) zs (plain-passes ps made.1 good.1 within.1) (plain-pass zs made.0 good.0 within.0)
+  plain-passes (zs ∷ ps) made good within =
+      All-append (IsPlainPass n m) (in_order ps) (zs ∷ []) (plain-passes ps made.1 good.1 within.1)
+      (All-cons (IsPlainPass n m) zs [] (plain-pass zs made.0 good.0 within.0) (All-nil (IsPlainPass n m)))
 
   -- ---- actions
 
-  actions-append : (ps qs : List (List PlainNest)) → most_actions (plain_machine n m) (ps ++ qs) ≡ most_actions (plain_machine n m) ps + most_actions (plain_machine n m) qs
+  actions-append : (ps qs : List (List PlainNest)) → most_actions (plain_machine n m) (ps ++ qs)
+      ≡ most_actions (plain_machine n m) ps + most_actions (plain_machine n m) qs
   actions-append [] qs = omega arith
   actions-append (zs ∷ ps) qs = let rest = actions-append ps qs in omega (arith, rest)
 
   -- operations as often again for the loads, and three actions a word
-  passes-actions : (ps : List (List PlainNest)) → AllMade m ps → AreGoodPasses 0 m n ps → most_actions (plain_machine n m) (in_order ps) ≤ 2 * passes_cost 1 (work_cost 1 m) ps + 3 * n * length ps
+  passes-actions : (ps : List (List PlainNest)) → AllMade m ps → AreGoodPasses 0 m n ps →
+      most_actions (plain_machine n m) (in_order ps) ≤ 2 * passes_cost 1 (work_cost 1 m) ps + 3 * n * length ps
   passes-actions [] made good = omega arith
   passes-actions (zs ∷ ps) made good =
       let loads = pass-loads-le m zs made.0 in
@@ -183,7 +184,8 @@ module _ (m n : ℕ) (large : 2 ≤ m) (some : 0 < n) (high : n ≤ 1048576) whe
       let rest = passes-actions ps made.1 good.1 in
       let both = actions-append (in_order ps) (zs ∷ []) in omega (arith, loads, items, rest, both)
 
-few-actions : (n parts steps cost long : ℕ) → n ≤ 1048576 → parts ≤ 65536 → cost ≤ 2 * (n * n) * (parts + 1) → steps ≤ 21 * (parts + 1) → long ≤ steps + 1 → 2 * cost + 3 * n * long < 2 ^ 59
+few-actions : (n parts steps cost long : ℕ) → n ≤ 1048576 → parts ≤ 65536 → cost ≤ 2 * (n * n) * (parts + 1) →
+    steps ≤ 21 * (parts + 1) → long ≤ steps + 1 → 2 * cost + 3 * n * long < 2 ^ 59
 few-actions n parts steps cost long high few low brief last =
     let square : n * n ≤ 1048576 * 1048576 = mul-le-mul {n₁ = n} {m₁ = n} {n₂ = 1048576} {m₂ = 1048576} high high in
     let all : n * n * (parts + 1) ≤ 1099511627776 * 65537 = mul-le-mul {n₁ = n * n} {m₁ = parts + 1} {n₂ = 1099511627776} {m₂ = 65537} (omega (arith, square)) (omega (arith, few)) in

@@ -1,12 +1,14 @@
 -- What is known of a nest of a formula's passes, which all that a pass takes keeps.
-use Rattle.std.proofs.Common.{◌≡◌, ℕ, ◌+◌, ◌-◌, ◌*◌, ◌%◌, ◌<◌, ◌≤◌, List, [], ◌∷◌, ◌++◌, length, refl, sym, ap, ◌∙◌, arith, Option, Some, None}
+use Rattle.std.proofs.Common.{◌≡◌, ℕ, ◌+◌, ◌-◌, ◌*◌, ◌%◌, ◌<◌, ◌≤◌, List, [], ◌∷◌, ◌++◌, length, refl, sym, ap, ◌∙◌}
+use Rattle.std.proofs.Common.{arith, Option, Some, None}
 use Rattle.std.specs.Prelude.{map, slice_index}
 use Rattle.index_fn.specs.Mapping.{Mapping, at}
 use Rattle.sigma_spl.specs.Copies.{loops_of}
 use Rattle.sigma_spl.specs.Good.{AreSound, NamesItems, IsFormed}
 use Rattle.sigma_spl.specs.Limits.{AreSeveral}
 use Rattle.sigma_spl.specs.Loops.{AreFormed}
-use Rattle.sigma_spl.specs.Merge.{place_sum, items_in, limits_of, renumbered, renumbered_places, gathered, scattered, multiplied, lifted, side}
+use Rattle.sigma_spl.specs.Merge.{place_sum, items_in, limits_of, renumbered, renumbered_places, gathered, scattered}
+use Rattle.sigma_spl.specs.Merge.{multiplied, lifted, side}
 use Rattle.sigma_spl.specs.Nest.{PlainFactors, factor_count, factor_at, PlainMultiplier, PlainNest, sum_value}
 use Rattle.sigma_spl.specs.Work.{PlainWork, kernel, rows, horner, tile, copy, node_of, short, work_size}
 use Rattle.sigma_spl.proofs.Natural.{ranged, at-second, place-with}
@@ -77,9 +79,16 @@ pub all-append : (m : ℕ) (ps qs : List (List PlainNest)) → AllMade m ps → 
 all-append m [] qs h g = g
 all-append m (zs ∷ ps) qs h g = (h.0, all-append m ps qs h.1 g)
 
+-- what keeps this of a nest keeps it of all
+made-map : (m : ℕ) (g : PlainNest → PlainNest) → ((z : PlainNest) → IsMade m z → IsMade m (g z)) →
+    (zs : List PlainNest) → AreMade m zs → AreMade m (map g zs)
+made-map m g keeps [] h = tt
+made-map m g keeps (z ∷ zs) h = (keeps z h.0, made-map m g keeps zs h.1)
+
 -- ---- permutations
 
-alike-simplified : (counts : List ℕ) (w : PlainWork) (f : Mapping) (sums : List Sum) → IsFormed f → NamesItems w sums → IsAlike counts w sums →
+alike-simplified : (counts : List ℕ) (w : PlainWork) (f : Mapping) (sums : List Sum) → IsFormed f → NamesItems w sums →
+    IsAlike counts w sums →
     IsAlike counts w (map (simplified (slice_index (counts ++ work_size w ∷ work_size w ∷ [])) f) sums)
 alike-simplified counts (kernel trees) f sums form names h = tt
 alike-simplified counts (rows root d) f sums form names h = tt
@@ -91,52 +100,43 @@ alike-simplified counts (tile v) f sums form names h = tt
 alike-simplified counts (copy d) f sums form names h = tt
 
 pub made-gathered : (m : ℕ) (f : Mapping) (zs : List PlainNest) → IsFormed f → AreMade m zs → AreMade m (gathered f zs)
-made-gathered m f [] form h = tt
-made-gathered m f (z ∷ zs) form h = (
-  record {
-    work = h.0.work;
-    counts = h.0.counts;
-    gathers = names-simplified z.work (limits_of z) f z.gathers form h.0.gathers;
-    scatters = h.0.scatters;
-    diagonal = h.0.diagonal;
-    alike = alike-simplified z.counts z.work f z.gathers form h.0.gathers h.0.alike;
-  },
-  made-gathered m f zs form h.1,
-)
+made-gathered m f zs form h = made-map m _ (λ z made. record {
+  work = made.work;
+  counts = made.counts;
+  gathers = names-simplified z.work (limits_of z) f z.gathers form made.gathers;
+  scatters = made.scatters;
+  diagonal = made.diagonal;
+  alike = alike-simplified z.counts z.work f z.gathers form made.gathers made.alike;
+}) zs h
 
-pub made-scattered : (m : ℕ) (f : Mapping) (zs : List PlainNest) → IsFormed f → AreMade m zs → AreMade m (scattered f zs)
-made-scattered m f [] form h = tt
-made-scattered m f (z ∷ zs) form h = (
-  record {
-    work = h.0.work;
-    counts = h.0.counts;
-    gathers = h.0.gathers;
-    scatters = names-simplified z.work (limits_of z) f z.scatters form h.0.scatters;
-    diagonal = h.0.diagonal;
-    alike = h.0.alike;
-  },
-  made-scattered m f zs form h.1,
-)
+pub made-scattered : (m : ℕ) (f : Mapping) (zs : List PlainNest) → IsFormed f → AreMade m zs →
+    AreMade m (scattered f zs)
+made-scattered m f zs form h = made-map m _ (λ z made. record {
+  work = made.work;
+  counts = made.counts;
+  gathers = made.gathers;
+  scatters = names-simplified z.work (limits_of z) f z.scatters form made.scatters;
+  diagonal = made.diagonal;
+  alike = made.alike;
+}) zs h
 
 -- ---- diagonals
 
-pub made-multiplied : (m : ℕ) (factors : PlainFactors) (fs : List Mapping) (zs : List PlainNest) → IsDiagonal m factors → AreFormed fs → AreMade m zs → AreMade m (multiplied factors fs zs)
-made-multiplied m factors fs [] diagonal form h = tt
-made-multiplied m factors fs (z ∷ zs) diagonal form h = (
-  record {
-    work = h.0.work;
-    counts = h.0.counts;
-    gathers = h.0.gathers;
-    scatters = h.0.scatters;
-    diagonal = (names-all z.work (limits_of z) fs z.scatters form h.0.scatters, diagonal);
-    alike = h.0.alike;
-  },
-  made-multiplied m factors fs zs diagonal form h.1,
-)
+pub made-multiplied : (m : ℕ) (factors : PlainFactors) (fs : List Mapping) (zs : List PlainNest) →
+    IsDiagonal m factors → AreFormed fs → AreMade m zs → AreMade m (multiplied factors fs zs)
+made-multiplied m factors fs zs diagonal form h = made-map m _ (λ z made. record {
+  work = made.work;
+  counts = made.counts;
+  gathers = made.gathers;
+  scatters = made.scatters;
+  diagonal = (names-all z.work (limits_of z) fs z.scatters form made.scatters, diagonal);
+  alike = made.alike;
+}) zs h
 
 -- ---- side by side
 
-alike-up : (path : Path) (n before : ℕ) (counts : List ℕ) (w : PlainWork) (sums : List Sum) → NamesItems w sums → IsAlike counts w sums → IsAlike (map count_of path ++ counts) w (map (up path n before) sums)
+alike-up : (path : Path) (n before : ℕ) (counts : List ℕ) (w : PlainWork) (sums : List Sum) → NamesItems w sums →
+    IsAlike counts w sums → IsAlike (map count_of path ++ counts) w (map (up path n before) sums)
 alike-up path n before counts (kernel trees) sums names h = tt
 alike-up path n before counts (rows root d) sums names h = tt
 alike-up path n before counts (horner root d) sums names h = λ vs row k range below under.
@@ -158,38 +158,40 @@ sound-all : (k : ℕ) (sums : List Sum) → AreSound sums → AreSound (map (ren
 sound-all k [] h = tt
 sound-all k (e ∷ es) h = (sound-renumbered k e h.0, sound-all k es h.1)
 
-diagonal-up : (m k : ℕ) (w : PlainWork) (o : Option PlainMultiplier) → HasDiagonal m w o → HasDiagonal m w (renumbered_places k o)
+diagonal-up : (m k : ℕ) (w : PlainWork) (o : Option PlainMultiplier) → HasDiagonal m w o →
+    HasDiagonal m w (renumbered_places k o)
 diagonal-up m k w None h = tt
 diagonal-up m k w (Some d) h = (record { enough = let same = length-map (renumbered k) d.places in omega (arith, h.0.enough, same); sound = sound-all k d.places h.0.sound }, h.1)
 
-made-lifted : (m : ℕ) (path : Path) (n before : ℕ) (zs : List PlainNest) → AreSeveral path → AreMade m zs → AreMade m (map (lifted path n before) zs)
-made-lifted m path n before [] several h = tt
-made-lifted m path n before (z ∷ zs) several h = (
-  record {
-    work = h.0.work;
-    counts = many-under path z.counts several h.0.counts;
-    gathers = names-up path n before z.work z.gathers h.0.gathers;
-    scatters = names-up path n before z.work z.scatters h.0.scatters;
-    diagonal = diagonal-up m (length path) z.work z.multiplier h.0.diagonal;
-    alike = alike-up path n before z.counts z.work z.gathers h.0.gathers h.0.alike;
-  },
-  made-lifted m path n before zs several h.1,
-)
+made-lifted : (m : ℕ) (path : Path) (n before : ℕ) (zs : List PlainNest) → AreSeveral path → AreMade m zs →
+    AreMade m (map (lifted path n before) zs)
+made-lifted m path n before zs several h = made-map m (lifted path n before) (λ z made. record {
+  work = made.work;
+  counts = many-under path z.counts several made.counts;
+  gathers = names-up path n before z.work z.gathers made.gathers;
+  scatters = names-up path n before z.work z.scatters made.scatters;
+  diagonal = diagonal-up m (length path) z.work z.multiplier made.diagonal;
+  alike = alike-up path n before z.counts z.work z.gathers made.gathers made.alike;
+}) zs h
 
-pub made-side : (m : ℕ) (path : Path) (k l : ℕ) (zs ys : List PlainNest) → AreSeveral path → AreMade m zs → AreMade m ys → AreMade m (side path k l zs ys)
+pub made-side : (m : ℕ) (path : Path) (k l : ℕ) (zs ys : List PlainNest) → AreSeveral path → AreMade m zs →
+    AreMade m ys → AreMade m (side path k l zs ys)
 made-side m path k l zs ys several h g = made-append m (map (lifted path (k + l) 0) zs) _ (made-lifted m path (k + l) 0 zs several h) (made-lifted m path (k + l) k ys several g)
 
 -- ---- new nests
 
-turn-alike : (path : Path) (d : ℕ) (e : Sum) → ((vs : List ℕ) (row k : ℕ) → AreInRange path vs → value e (slice_index (vs ++ row ∷ k ∷ [])) ≡ value e (slice_index (vs ++ 0 ∷ k ∷ []))) →
+turn-alike : (path : Path) (d : ℕ) (e : Sum) → ((vs : List ℕ) (row k : ℕ) → AreInRange path vs →
+    value e (slice_index (vs ++ row ∷ k ∷ [])) ≡ value e (slice_index (vs ++ 0 ∷ k ∷ []))) →
     HasEachRow (map count_of path) d (place_sum path d 0 e ∷ [])
 turn-alike path d e same vs row k range below under =
     let there = ranged path vs range in place-with path d e vs (row ∷ k ∷ []) _ there (same vs row k there) ∙ sym (place-with path d e vs (0 ∷ k ∷ []) _ there refl)
 
-last-value : (path : Path) (vs : List ℕ) (row k : ℕ) → AreInRange path vs → slice_index (vs ++ row ∷ k ∷ []) (length path + 1) ≡ k
+last-value : (path : Path) (vs : List ℕ) (row k : ℕ) → AreInRange path vs →
+    slice_index (vs ++ row ∷ k ∷ []) (length path + 1) ≡ k
 last-value path vs row k range = ap (slice_index (vs ++ row ∷ k ∷ [])) (omega arith) ∙ at-second path vs row k range
 
-pub new-alike : (path : Path) (w : PlainWork) → IsAlike (map count_of path) w (map (place_sum path (work_size w) 0) (items_in w (length path)))
+pub new-alike : (path : Path) (w : PlainWork) → IsAlike (map count_of path) w
+    (map (place_sum path (work_size w) 0) (items_in w (length path)))
 new-alike path (kernel trees) = tt
 new-alike path (rows root d) = tt
 new-alike path (horner root d) =

@@ -1,15 +1,19 @@
 -- What is known of new nests is known of all nests that merging makes.
-use Rattle.std.proofs.Common.{◌≡◌, ℕ, zero, suc, ◌+◌, ◌*◌, ◌<◌, ◌≤◌, List, [], ◌∷◌, length, sym, arith, subst, inl, inr, map}
+use Rattle.std.proofs.Common.{◌≡◌, ℕ, zero, suc, ◌+◌, ◌*◌, ◌<◌, ◌≤◌, List, [], ◌∷◌, length, sym, arith, subst}
+use Rattle.std.proofs.Common.{map}
 use Rattle.std.specs.Prelude.{◌&&◌}
-use Rattle.std.proofs.lemmas.Bool.{cases_eq}
-use Rattle.std.proofs.lemmas.Bool.Decides.{nat_tests}
 use Rattle.index_fn.specs.Mapping.{Mapping, at}
 use Rattle.operators.specs.Sum.{list_below}
 use Rattle.operators.proofs.Lists.{length-list_below}
+use Rattle.loop_nests.proofs.Items.{loop_several}
 use Rattle.sigma_spl.specs.Good.{IsFormed, IsGoodTerm, IsGoodPass}
 use Rattle.sigma_spl.specs.Limits.{AreSeveral, HasSeveral}
 use Rattle.sigma_spl.specs.Loops.{AreFormed}
-use Rattle.sigma_spl.specs.Merge.{Room, less, Merging, Taking, nothing, new_nest, items_in, one_loop, copying, can_gather, can_scatter, can_take, suits, gathered, scattered, take_gathers, copy_by, copies_before, settled, with_pass, factor_places, with_copy, with_diagonal, with_scatter, back_of, from_end, ended, sides, with_passes, merged, if_any, passes_within}
+use Rattle.sigma_spl.specs.Merge.{Room, less, Merging, Taking, nothing, new_nest, items_in, one_loop, copying}
+use Rattle.sigma_spl.specs.Merge.{can_gather, can_scatter, can_take, suits, gathered, scattered, take_gathers, copy_by}
+use Rattle.sigma_spl.specs.Merge.{copies_before, settled, with_pass, factor_places, with_copy, with_diagonal}
+use Rattle.sigma_spl.specs.Merge.{with_scatter, back_of, from_end, ended, sides, with_passes, merged, if_any}
+use Rattle.sigma_spl.specs.Merge.{passes_within}
 use Rattle.sigma_spl.specs.Nest.{PlainFactors, spread, factor_count, PlainNest}
 use Rattle.sigma_spl.specs.Term.{PlainTerm, same, gath, scat, diag, nest, move, product, beside}
 use Rattle.sigma_spl.specs.Work.{PlainWork, copy, work_size}
@@ -20,7 +24,9 @@ use Rattle.sigma_spl.proofs.Walk.{chosen, AreMoves, moves-end, places-formed, St
 use Rattle.perm_algebra.specs.Affine.{constant}
 use Rattle.operators.specs.declared.tensor_paths.Tensor.TheVariants.{Blocks, Columns}
 use Rattle.operators.specs.TensorPaths.Path.{Path, size_under}
-use Rattle.generate.proofs.FormulaPasses.Made.{IsFormulaWork, AreResidues, IsDiagonal, AreMade, AllMade, all-append, made-gathered, made-scattered, made-multiplied, many-path, made-side, new-alike}
+use Rattle.generate.proofs.FormulaPasses.Made.{IsFormulaWork, AreResidues, IsDiagonal, AreMade, AllMade, all-append}
+use Rattle.generate.proofs.FormulaPasses.Made.{made-gathered, made-scattered, made-multiplied, many-path, made-side}
+use Rattle.generate.proofs.FormulaPasses.Made.{new-alike}
 
 -- ---- terms
 
@@ -50,42 +56,43 @@ inner-least (Columns c ∷ path) n h =
 
 -- ---- new passes
 
-pub new-made : (m n : ℕ) (path : Path) (w : PlainWork) → IsFormulaWork w → AreSeveral path → IsGoodPass 0 m n (new_nest path w (items_in w (length path)) ∷ []) → AreMade m (new_nest path w (items_in w (length path)) ∷ [])
+pub new-made : (m n : ℕ) (path : Path) (w : PlainWork) → IsFormulaWork w → AreSeveral path →
+    IsGoodPass 0 m n (new_nest path w (items_in w (length path)) ∷ []) →
+    AreMade m (new_nest path w (items_in w (length path)) ∷ [])
 new-made m n path w work several good =
     (record { work = work; counts = many-path path several; gathers = good.nests.0.gathers; scatters = good.nests.0.scatters; diagonal = tt; alike = new-alike path w }, tt)
 
-pub moved-made : (m n : ℕ) (path : Path) (ks : List ℕ) → 0 < length ks → AreSeveral path → IsGoodPass 0 m n (new_nest path (copy (length ks)) (map constant ks) ∷ []) → AreMade m (new_nest path (copy (length ks)) (map constant ks) ∷ [])
+pub moved-made : (m n : ℕ) (path : Path) (ks : List ℕ) → 0 < length ks → AreSeveral path →
+    IsGoodPass 0 m n (new_nest path (copy (length ks)) (map constant ks) ∷ []) →
+    AreMade m (new_nest path (copy (length ks)) (map constant ks) ∷ [])
 moved-made m n path ks some several good =
     (record { work = some; counts = many-path path several; gathers = good.nests.0.gathers; scatters = good.nests.0.scatters; diagonal = tt; alike = tt }, tt)
 
-several-loop : (n : ℕ) → 0 < n → AreSeveral (one_loop n)
-several-loop n some =
-    elim (cases_eq n 1) [
-      | inl one ↦ let is : one_loop n ≡ [] = grind (arith, nat_tests) in subst AreSeveral (sym is) tt
-      | inr several ↦ let is : one_loop n ≡ Blocks n ∷ [] = grind (arith, nat_tests) in subst AreSeveral (sym is) (omega (arith, some, several), tt)
-    ]
-
 module _ (m n : ℕ) (some : 0 < n) (high : n ≤ 1048576) where
   copying-made : AreMade m (copying n)
-  copying-made = new-made m n (one_loop n) (copy 1) (omega arith) (several-loop n some) (copying-good 0 m n)
+  copying-made = new-made m n (one_loop n) (copy 1) (omega arith) (loop_several n some) (copying-good 0 m n)
 
-  table-made : (f : Mapping) → ((i : ℕ) → i < n → at f i < n) → AreMade m (new_nest [] (copy (length (list_below n (at f)))) (map constant (list_below n (at f))) ∷ [])
+  table-made : (f : Mapping) → ((i : ℕ) → i < n → at f i < n) →
+      AreMade m (new_nest [] (copy (length (list_below n (at f)))) (map constant (list_below n (at f))) ∷ [])
   table-made f stay = let size = length-list_below n (at f) in moved-made m n [] (list_below n (at f)) (omega (arith, size, some)) tt (table-good 0 m n f stay)
 
   -- ---- gathers
 
-  made-take : (room : Room) (zs : List PlainNest) (fs : List Mapping) → AreMoves 0 n fs → AreMade m zs → AreMade m (take_gathers room n zs fs).pass
+  made-take : (room : Room) (zs : List PlainNest) (fs : List Mapping) → AreMoves 0 n fs → AreMade m zs →
+      AreMade m (take_gathers room n zs fs).pass
   made-take room zs [] moves h = h
   made-take room zs (f ∷ fs) moves h = chosen (λ (t : Taking). AreMade m t.pass) (can_gather room n f zs) _ _ (λ _. made-take room (gathered f zs) fs moves.1 (made-gathered m f zs moves.0.there h)) h
 
-  left-moves : (room : Room) (zs : List PlainNest) (fs : List Mapping) → AreMoves 0 n fs → AreMoves 0 n (take_gathers room n zs fs).left
+  left-moves : (room : Room) (zs : List PlainNest) (fs : List Mapping) → AreMoves 0 n fs →
+      AreMoves 0 n (take_gathers room n zs fs).left
   left-moves room zs [] moves = tt
   left-moves room zs (f ∷ fs) moves = chosen (λ (t : Taking). AreMoves 0 n t.left) (can_gather room n f zs) _ _ (λ _. left-moves room (gathered f zs) fs moves.1) moves
 
   made-by : (room : Room) (f : Mapping) → AreMoves 0 n (f ∷ []) → AreMade m (copy_by room n f)
   made-by room f moves = chosen (AreMade m) (can_gather room n f (copying n)) _ _ (λ _. made-gathered m f (copying n) moves.0.there copying-made) (table-made f moves.0.permutes.there_below)
 
-  made-copies : (room : Room) (zs : List PlainNest) (fs : List Mapping) → AreMoves 0 n fs → AreMade m zs → AllMade m (copies_before room n zs fs)
+  made-copies : (room : Room) (zs : List PlainNest) (fs : List Mapping) → AreMoves 0 n fs → AreMade m zs →
+      AllMade m (copies_before room n zs fs)
   made-copies room zs [] moves h = (h, tt)
   made-copies room zs (f ∷ fs) moves h =
       chosen (AllMade m) (can_gather room n f zs) _ _
@@ -96,32 +103,39 @@ module _ (m n : ℕ) (some : 0 < n) (high : n ≤ 1048576) where
   made-settled room [] moves = tt
   made-settled room (f ∷ fs) moves = made-copies room (copy_by room n f) fs moves.1 (made-by room f (moves.0, tt))
 
-  made-pass : (room : Room) (st : Merging) (zs : List PlainNest) → AreMoves 0 n st.waiting → AllMade m st.passes → AreMade m zs → AllMade m (with_pass room n st zs).passes
+  made-pass : (room : Room) (st : Merging) (zs : List PlainNest) → AreMoves 0 n st.waiting → AllMade m st.passes →
+      AreMade m zs → AllMade m (with_pass room n st zs).passes
   made-pass room st zs moves before h =
       (made-take room zs st.waiting moves h, all-append m (settled room n (take_gathers room n zs st.waiting).left) st.passes (made-settled room _ (left-moves room zs st.waiting moves)) before)
 
   -- ---- diagonals
 
-  diagonal-of : (path : Path) (factors : PlainFactors) → AreResidues m factors → size_under path (factor_count factors) ≡ n → IsDiagonal m factors
+  diagonal-of : (path : Path) (factors : PlainFactors) → AreResidues m factors →
+      size_under path (factor_count factors) ≡ n → IsDiagonal m factors
   diagonal-of path factors residues count =
       let positive : 0 < size_under path (factor_count factors) = omega (arith, count, some) in
       let least = inner-least path (factor_count factors) positive in
       record { residues = residues; some = inner_positive path (factor_count factors) positive; few = omega (arith, least, count, high) }
 
-  spread-of : (path : Path) (factors : PlainFactors) → AreResidues m factors → size_under path (factor_count factors) ≡ n → IsDiagonal m (spread path factors)
+  spread-of : (path : Path) (factors : PlainFactors) → AreResidues m factors →
+      size_under path (factor_count factors) ≡ n → IsDiagonal m (spread path factors)
   spread-of path factors residues count = record { residues = λ i. residues _; some = omega (arith, count, some); few = omega (arith, count, high) }
 
-  places-of : (waiting : List Mapping) (path : Path) (factors : PlainFactors) → AreMoves 0 n waiting → size_under path (factor_count factors) ≡ n → AreFormed (factor_places waiting path factors)
+  places-of : (waiting : List Mapping) (path : Path) (factors : PlainFactors) → AreMoves 0 n waiting →
+      size_under path (factor_count factors) ≡ n → AreFormed (factor_places waiting path factors)
   places-of waiting path factors moves count = places-formed 0 n waiting path factors moves (inner-formed path (factor_count factors) (omega (arith, count, some)))
 
-  made-copy : (room : Room) (st : Merging) (path : Path) (factors : PlainFactors) → AreResidues m factors → size_under path (factor_count factors) ≡ n → AreMoves 0 n st.waiting → AllMade m st.passes →
+  made-copy : (room : Room) (st : Merging) (path : Path) (factors : PlainFactors) → AreResidues m factors →
+      size_under path (factor_count factors) ≡ n → AreMoves 0 n st.waiting → AllMade m st.passes →
       AllMade m (with_copy room n st path factors).passes
   made-copy room st path factors residues count moves before =
       chosen (λ (next : Merging). AllMade m next.passes) (can_take room n factors (factor_places st.waiting path factors) (copying n)) _ _
       (λ _. (made-multiplied m factors (factor_places st.waiting path factors) (copying n) (diagonal-of path factors residues count) (places-of st.waiting path factors moves count) copying-made, before))
       (made-multiplied m (spread path factors) [] (copying n) (spread-of path factors residues count) tt copying-made, all-append m (settled room n st.waiting) st.passes (made-settled room st.waiting moves) before)
 
-  made-diagonal : (room : Room) (waiting : List Mapping) (passes : List (List PlainNest)) (path : Path) (factors : PlainFactors) → AreResidues m factors → size_under path (factor_count factors) ≡ n → AreMoves 0 n waiting → AllMade m passes →
+  made-diagonal : (room : Room) (waiting : List Mapping) (passes : List (List PlainNest)) (path : Path)
+      (factors : PlainFactors) → AreResidues m factors → size_under path (factor_count factors) ≡ n →
+      AreMoves 0 n waiting → AllMade m passes →
       AllMade m (with_diagonal room n waiting passes path factors).passes
   made-diagonal room waiting [] path factors residues count moves before = made-copy room (record { waiting = waiting; passes = [] }) path factors residues count moves before
   made-diagonal room waiting (zs ∷ ps) path factors residues count moves before =
@@ -131,12 +145,14 @@ module _ (m n : ℕ) (some : 0 < n) (high : n ≤ 1048576) where
 
   -- ---- scatters
 
-  made-scatter : (room : Room) (waiting : List Mapping) (passes : List (List PlainNest)) (f : Mapping) → IsFormed f → AllMade m passes → AllMade m (with_scatter room n waiting passes f).passes
+  made-scatter : (room : Room) (waiting : List Mapping) (passes : List (List PlainNest)) (f : Mapping) → IsFormed f →
+      AllMade m passes → AllMade m (with_scatter room n waiting passes f).passes
   made-scatter room [] [] f form before = before
   made-scatter room [] (zs ∷ ps) f form before = chosen (λ (next : Merging). AllMade m next.passes) (can_scatter room n f zs) _ _ (λ _. (made-scattered m f zs form before.0, before.1)) before
   made-scatter room (g ∷ gs) passes f form before = before
 
-  made-ended : (room : Room) (fs : List Mapping) (passes : List (List PlainNest)) → AreMoves 0 n fs → AllMade m passes → AllMade m (ended room n fs passes)
+  made-ended : (room : Room) (fs : List Mapping) (passes : List (List PlainNest)) → AreMoves 0 n fs → AllMade m passes →
+      AllMade m (ended room n fs passes)
   made-ended room [] passes moves before = before
   made-ended room (f ∷ fs) [] moves before = made-settled room (from_end (f ∷ fs)) (moves-end 0 n (f ∷ fs) moves)
   made-ended room (f ∷ fs) (zs ∷ ps) moves before =
@@ -146,12 +162,14 @@ module _ (m n : ℕ) (some : 0 < n) (high : n ≤ 1048576) where
 
   -- ---- several passes more
 
-  made-passes : (room : Room) (st : Merging) (ps : List (List PlainNest)) → AreMoves 0 n st.waiting → AllMade m st.passes → AllMade m ps → AllMade m (with_passes room n st ps).passes
+  made-passes : (room : Room) (st : Merging) (ps : List (List PlainNest)) → AreMoves 0 n st.waiting →
+      AllMade m st.passes → AllMade m ps → AllMade m (with_passes room n st ps).passes
   made-passes room st [] moves before h = before
   made-passes room st (zs ∷ []) moves before h = made-pass room st zs moves before h.0
   made-passes room st (zs ∷ ys ∷ ps) moves before h = (h.0, made-passes room st (ys ∷ ps) moves before h.1)
 
-made-sides : (m k l : ℕ) (path : Path) (ps qs : List (List PlainNest)) → 0 < k → k ≤ 1048576 → 0 < l → l ≤ 1048576 → AreSeveral path → AllMade m ps → AllMade m qs → AllMade m (sides path k l ps qs)
+made-sides : (m k l : ℕ) (path : Path) (ps qs : List (List PlainNest)) → 0 < k → k ≤ 1048576 → 0 < l → l ≤ 1048576 →
+    AreSeveral path → AllMade m ps → AllMade m qs → AllMade m (sides path k l ps qs)
 made-sides m k l path [] [] some small more low several h g = tt
 made-sides m k l path (zs ∷ ps) [] some small more low several h g = (made-side m path k l zs (copying l) several h.0 (copying-made m l more low), made-sides m k l path ps [] some small more low several h.1 tt)
 made-sides m k l path [] (ys ∷ qs) some small more low several h g = (made-side m path k l (copying k) ys several (copying-made m k some small) g.0, made-sides m k l path [] qs some small more low several tt g.1)
@@ -165,7 +183,8 @@ pub record IsCodable (m n : ℕ) (t : PlainTerm) : Type 0 where
   pub several : HasSeveral t
   pub formula : IsFormulaTerm m t
 
-made-merged : (m n : ℕ) (room : Room) (st : Merging) (t : PlainTerm) → 0 < m → 0 < n → n ≤ 1048576 → IsGoodTerm 0 n t → HasSeveral t → IsFormulaTerm m t → Stands 0 m n st → AllMade m st.passes → AllMade m (merged room n st t).passes
+made-merged : (m n : ℕ) (room : Room) (st : Merging) (t : PlainTerm) → 0 < m → 0 < n → n ≤ 1048576 → IsGoodTerm 0 n t →
+    HasSeveral t → IsFormulaTerm m t → Stands 0 m n st → AllMade m st.passes → AllMade m (merged room n st t).passes
 made-merged m n room st same positive some high good several form stands before = before
 made-merged m n room st (gath f) positive some high good several form stands before = before
 made-merged m n room st (scat f) positive some high good several form stands before = made-scatter m n some high room st.waiting st.passes f good.0.there before
@@ -198,7 +217,8 @@ made-any m n [] some high h = (copying-made m n some high, tt)
 made-any m n (zs ∷ ps) some high h = h
 
 -- all nests of its passes
-pub passes-made : (m n : ℕ) (room : Room) (t : PlainTerm) → 0 < m → 0 < n → n ≤ 1048576 → IsCodable m n t → AllMade m (passes_within room n t)
+pub passes-made : (m n : ℕ) (room : Room) (t : PlainTerm) → 0 < m → 0 < n → n ≤ 1048576 → IsCodable m n t →
+    AllMade m (passes_within room n t)
 passes-made m n room t positive some high h =
     let all = merged room n nothing t in
     let reached = merged-reaches 0 m n room nothing t positive some h.good (nothing-stands 0 m n) in

@@ -4,7 +4,6 @@ use Rattle.matrix_meaning.specs.Valid.{IsValid}
 use Rattle.matrix_meaning.specs.declared.Request.{Request}
 use Rattle.sigma_lower.proofs.TreeLayouts.{trees_can_lower}
 use Rattle.sigma_lower.specs.Merged.{sigma_of, tree_merged}
-use Rattle.sigma_lower.specs.TreeSigmas.{IsVecOfTree}
 use Rattle.sigma_lower.specs.TreeTerms.Good.{IsVecOf}
 use Rattle.sigma_spl.specs.Merged.{PlainMerged}
 use Rattle.sigma_spl.specs.Shared.Targets.{target_of}
@@ -31,9 +30,6 @@ module _ (c : Request) (t : Breakdown) (valid : IsValid c) (h : IsWholeTree c t)
   module _ (blocks : PlainSmp) (vectors : PlainVec) (cut : blocks ≡ smp_of (target_of c) (whole_of c t))
       (turned : vectors ≡ vec_of blocks) where
     -- the formula for lanes is the tree's
-    pub vec-of-tree : IsVecOfTree c t vectors
-    vec-of-tree = record { valid = valid; tree = h; form = turned ∙ ap vec_of cut }
-
     pub vec-is : IsVecOf (target_of c) vectors
     vec-is =
         let can = trees_can_lower c t valid h in

@@ -6,7 +6,8 @@ use Rattle.request_text.specs.Turns.{named}
 use Rattle.commands.specs.SpiralInput.Stage.{◌>>=◌}
 use Rattle.commands.specs.Equations.Convolutions.{conv_spelt}
 use Rattle.commands.specs.Equations.Orders.{turned}
-use Rattle.commands.proofs.SpiralInput.AskLemmas.{asked_line_fault, asked_request_fault, asked_turn_fault, asked_request, take_short}
+use Rattle.commands.proofs.SpiralInput.AskLemmas.{asked_line_fault, asked_request_fault, asked_turn_fault}
+use Rattle.commands.proofs.SpiralInput.AskLemmas.{asked_request, take_short}
 use Rattle.commands.proofs.convolution_commands.ask_conv.Goals as goal
 
 pub returns-in_err-count-clause-told : goal.returns-in_err-count-clause-told

@@ -1,29 +1,21 @@
-use Rattle.std.proofs.Common.{◌≡◌, ℕ, ◌<◌, All, List, Ok, sym, ap, ap₂, ◌∙◌, subst}
-use Rattle.icode.specs.Program.{plain_program}
+use Rattle.std.proofs.Common.{◌≡◌, sym, ap, ap₂, ◌∙◌, subst}
 use Rattle.matrix_meaning.specs.declared.Request.{Request}
 use Rattle.matrix_meaning.specs.Valid.{IsValid}
 use Rattle.sigma_spl.specs.Shared.Ready.{IsReady}
 use Rattle.code_gen.specs.PassCode.Program.{program_of}
 use Rattle.sigma_spl.specs.Views.{plain_merged}
-use Rattle.tree_model.specs.Breakdown.{Breakdown, breakdown_of}
+use Rattle.tree_model.specs.Breakdown.{breakdown_of}
 use Rattle.tree_model.specs.Chosen.{IsWholeTree}
 use Rattle.sigma_spl.specs.Shared.Targets.{target_of}
 use Rattle.generate.specs.ConvLetters.{conv_merged}
-use Rattle.generate.specs.ConvPlanned.{IsConvPlanned}
 use Rattle.generate.specs.Factors.{factors_of}
 use Rattle.generate.proofs.ConvTrees.{inverse_tree, inverse_valid}
-use Rattle.icode.specs.Plain.{PlainProgram}
-use Rattle.loop_merge.specs.JoinedPasses.Joined.{joined}
-use Rattle.matrix_meaning.specs.Convolving.{IsConvRequest}
-use Rattle.matrix_meaning.specs.Parts.{inverted}
-use Rattle.sigma_lower.specs.Merged.{tree_merged}
-use Rattle.sigma_spl.specs.Merged.{PlainMerged}
 use Rattle.generate.specs.Convolver.{IsConvolver}
 use Rattle.generate.proofs.ConvGoodness.{can-convolve, joined-same, planned-valid}
-use Rattle.generate.specs.Emission.Whole.{conv_emission}
 use Rattle.generate.proofs.Emission.Programs.{conv_programs_are_emissions}
 use Rattle.generate.proofs.GoodPrograms.{conv_programs_convolve}
 use Rattle.generate.proofs.conv_program.generate_conv.Goals as goal
+use Rattle.generate.proofs.conv_program.generate_conv.Goals.{In_ok-joined}
 
 pub new-backward-requires : goal.new-backward-requires
 new-backward-requires c =
@@ -53,58 +45,38 @@ pub emit_joined-requires-clause-alike : goal.emit_joined-requires-clause-alike
 emit_joined-requires-clause-alike c =
     ap target_of c.new-forward.ensures ∙ sym (ap target_of (c.new-backward.ensures ∙ c.inverted.ensures.value))
 
-pub emit_joined-requires-clause-ready : goal.emit_joined-requires-clause-ready
-emit_joined-requires-clause-ready c =
-    let r = c.args.request.now in
-    let t = breakdown_of c.args.plan.now.tree in
-    let ls = c.args.h.now in
-    let valid = planned-valid r t c.requires.request c.requires.plan in
-    let residues : All (λ d. d < r.modulus) (factors_of r ls) =
-    subst (λ (z : Request). All (λ d. d < z.modulus) (factors_of z ls)) c.new-forward.ensures
-    (subst (All (λ d. d < c.new-forward.result.modulus)) c.in_ok-diagonal.ensures.value
-    c.in_ok-diagonal.ensures.residues) in
-    let same : plain_merged c.in_ok-joined.joined ≡ conv_merged r t (factors_of r ls) =
+-- the passes that are joined are those of the convolution
+joined-are : (c : In_ok-joined) → plain_merged c.in_ok-joined.joined
+    ≡ conv_merged c.args.request.now (breakdown_of c.args.plan.now.tree) (factors_of c.args.request.now c.args.h.now)
+joined-are c =
     joined-same c.args.request.now c.new-forward.result c.new-backward.result (breakdown_of c.args.plan.now.tree)
     c.args.h.now c.in_ok-diagonal.diagonal.items
     (plain_merged c.in_ok-first.first) (plain_merged c.in_ok-second.second) (plain_merged c.in_ok-joined.joined)
     c.new-forward.ensures (c.new-backward.ensures ∙ c.inverted.ensures.value) c.in_ok-diagonal.ensures.value
-    c.in_ok-first.ensures.merged c.in_ok-second.ensures.merged c.in_ok-joined.ensures.joined in
+    c.in_ok-first.ensures.merged c.in_ok-second.ensures.merged c.in_ok-joined.ensures.joined
+
+pub emit_joined-requires-clause-ready : goal.emit_joined-requires-clause-ready
+emit_joined-requires-clause-ready c =
+    let r = c.args.request.now in
+    let t = breakdown_of c.args.plan.now.tree in
+    let valid = planned-valid r t c.requires.request c.requires.plan in
     subst (λ (z : Request). IsReady (target_of z) (plain_merged c.in_ok-joined.joined)) (sym c.new-forward.ensures)
-    (subst (IsReady (target_of r)) (sym same)
-    (can-convolve r t ls c.requires.request valid c.requires.plan.2.tree residues))
+    (subst (IsReady (target_of r)) (sym (joined-are (goal.at.emit_joined-requires-clause-ready c).In_ok-joined))
+    (can-convolve r t c.args.h.now c.requires.request valid c.requires.plan.2.tree))
 
 -- the program is that of the rules of emission
-emitted : (r c d : Request) (t : Breakdown) (ls ds : List ℕ) (f s g : PlainMerged) (p : PlainProgram) →
-    IsConvRequest r → IsConvPlanned r (Ok t) → c ≡ r → d ≡ inverted r → ds ≡ factors_of c ls →
-    f ≡ tree_merged c t → s ≡ tree_merged d t → g ≡ joined f ds s → p ≡ program_of (target_of c) g →
-    p ≡ conv_emission r t ls
-emitted r c d t ls ds f s g p request planned forward backward listed first second both code =
-    code
-    ∙ ap₂ (λ z passes. program_of (target_of z) passes) forward
-    (joined-same r c d t ls ds f s g forward backward listed first second both)
-    ∙ conv_programs_are_emissions r t ls request planned
+pub returns-clause-letters : goal.returns-clause-letters
+returns-clause-letters c =
+    c.in_ok-program.ensures.code
+    ∙ ap₂ (λ z passes. program_of (target_of z) passes) c.new-forward.ensures
+    (joined-are (goal.at.returns-clause-letters c).In_ok-joined)
+    ∙ conv_programs_are_emissions c.args.request.now (breakdown_of c.args.plan.now.tree) c.args.h.now
+    c.requires.request c.requires.plan
 
+-- which is one for convolutions
 pub returns-clause-convolver : goal.returns-clause-convolver
 returns-clause-convolver c =
     let r = c.args.request.now in
     let t = breakdown_of c.args.plan.now.tree in
-    let letters : plain_program c.in_ok-program.program ≡ conv_emission r t c.args.h.now =
-    emitted c.args.request.now c.new-forward.result c.new-backward.result (breakdown_of c.args.plan.now.tree)
-    c.args.h.now c.in_ok-diagonal.diagonal.items
-    (plain_merged c.in_ok-first.first) (plain_merged c.in_ok-second.second) (plain_merged c.in_ok-joined.joined)
-    (plain_program c.in_ok-program.program) c.requires.request c.requires.plan
-    c.new-forward.ensures (c.new-backward.ensures ∙ c.inverted.ensures.value) c.in_ok-diagonal.ensures.value
-    c.in_ok-first.ensures.merged c.in_ok-second.ensures.merged c.in_ok-joined.ensures.joined
-    c.in_ok-program.ensures.code in
-    subst (IsConvolver r t c.args.h.now) (sym letters)
+    subst (IsConvolver r t c.args.h.now) (sym (returns-clause-letters c))
     (conv_programs_convolve r t c.args.h.now c.requires.request c.requires.plan)
-
-pub returns-clause-letters : goal.returns-clause-letters
-returns-clause-letters c =
-    emitted c.args.request.now c.new-forward.result c.new-backward.result (breakdown_of c.args.plan.now.tree)
-    c.args.h.now c.in_ok-diagonal.diagonal.items
-    (plain_merged c.in_ok-first.first) (plain_merged c.in_ok-second.second) (plain_merged c.in_ok-joined.joined)
-    (plain_program c.in_ok-program.program) c.requires.request c.requires.plan
-    c.new-forward.ensures (c.new-backward.ensures ∙ c.inverted.ensures.value) c.in_ok-diagonal.ensures.value
-    c.in_ok-first.ensures.merged c.in_ok-second.ensures.merged c.in_ok-joined.ensures.joined
-    c.in_ok-program.ensures.code

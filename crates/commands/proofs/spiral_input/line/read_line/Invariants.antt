@@ -10,7 +10,8 @@ abbrev pub invariant-loop-byte : goal.invariant-loop-byte
 invariant-loop-byte g l =
     let left = g.S.Source.left in
     record {
-      consumed : Consumes (to_come l.fn.feed (left l.fn.source)) (to_come l.feed (left l.source)) (take l.count l.buffer);
+      consumed : Consumes (to_come l.fn.feed (left l.fn.source)) (to_come l.feed (left l.source))
+          (take l.count l.buffer);
       taken : l.feed.taken ≡ l.count;
       short : l.count ≤ 256;
       unended : list_any is_line_end (take l.count l.buffer) ≡ false;

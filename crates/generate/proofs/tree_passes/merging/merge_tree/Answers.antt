@@ -1,12 +1,12 @@
-use Rattle.std.proofs.Common.{◌≡◌, ◌∙◌, arith, ap, subst, sym, ℕ}
-use Rattle.sigma_lower.specs.Merged.{tree_merged}
-use Rattle.sigma_spl.specs.Good.{IsVector}
-use Rattle.sigma_spl.specs.Sigma.{PlainSigma}
+use Rattle.std.proofs.Common.{◌∙◌, ap, subst, sym}
 use Rattle.sigma_spl.specs.Views.{plain_merged, plain_sigma}
 use Rattle.smp_rewrite.specs.Views.{plain_smp}
 use Rattle.tree_model.specs.Breakdown.{breakdown_of}
 use Rattle.vec_rewrite.specs.Views.{plain_vec}
-use Rattle.generate.proofs.TreePasses.Chain.{smp-is, tree-merges, tree-stands, vec-is, vec-of-tree}
+use Rattle.generate.proofs.TreePasses.Chain.{smp-is, tree-merges, tree-stands, vec-is}
+use Rattle.generate.proofs.TreePasses.Merged.{trees_are_merged, trees_mean}
+use Rattle.sigma_spl.specs.Merged.{merged_on}
+use Rattle.sigma_spl.specs.Trees.{IsMergedTree}
 use Rattle.generate.proofs.tree_passes.merging.merge_tree.Goals as goal
 
 pub expand-requires : goal.expand-requires
@@ -32,25 +32,13 @@ returns-clause-merged c =
     c.in_ok-vectors.ensures.form (plain_sigma c.in_ok-sigma.sigma) (plain_merged c.in_ok-merged.merged)
     c.in_ok-sigma.ensures.form c.in_ok-merged.ensures.merged
 
--- each stage keeps the meaning
+-- and so they do what the request asks for
 pub returns-clause-meaning : goal.returns-clause-meaning
 returns-clause-meaning c = λ x vector.
-    let valid = c.request-request.ensures.valid in
-    let some = valid.in_range.modulus.0 in
-    let tree = c.in_ok-sigma.ensures.tree (breakdown_of c.args.tree.now)
-    (vec-of-tree c.args.c.now (breakdown_of c.args.tree.now) valid c.requires
-    (plain_smp c.in_ok-blocks.blocks) (plain_vec c.in_ok-vectors.vectors) c.in_ok-blocks.ensures.form
-    c.in_ok-vectors.ensures.form) in
-    c.in_ok-merged.ensures.meaning c.args.c.now.modulus x (omega (arith, some))
-    (subst (λ n. IsVector c.args.c.now.modulus n x) (sym tree.size) vector)
-    ∙ c.in_ok-sigma.ensures.meaning x vector
-    ∙ c.in_ok-vectors.ensures.meaning x
-    ∙ c.in_ok-blocks.ensures.meaning x
+    ap (λ g. merged_on c.args.c.now.modulus g x) (returns-clause-merged c)
+    ∙ trees_mean c.args.c.now (breakdown_of c.args.tree.now) c.request-request.ensures.valid c.requires x vector
 
 pub returns-clause-tree : goal.returns-clause-tree
 returns-clause-tree c =
-    c.in_ok-merged.ensures.tree c.args.c.now (breakdown_of c.args.tree.now)
-    (c.in_ok-sigma.ensures.tree (breakdown_of c.args.tree.now)
-    (vec-of-tree c.args.c.now (breakdown_of c.args.tree.now) c.request-request.ensures.valid c.requires
-    (plain_smp c.in_ok-blocks.blocks) (plain_vec c.in_ok-vectors.vectors) c.in_ok-blocks.ensures.form
-    c.in_ok-vectors.ensures.form))
+    subst (IsMergedTree c.args.c.now (breakdown_of c.args.tree.now)) (sym (returns-clause-merged c))
+    (trees_are_merged c.args.c.now (breakdown_of c.args.tree.now) c.request-request.ensures.valid c.requires)
