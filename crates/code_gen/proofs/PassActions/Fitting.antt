@@ -12,7 +12,6 @@ use Rattle.kernel_gen.specs.Kernel.{trees_kernel}
 use Rattle.kernel_gen.proofs.Below.{at-AllBelow}
 use Rattle.kernel_gen.proofs.Instructions.{factors-fit}
 use Rattle.kernel_gen.proofs.Products.{trees-does}
-use Rattle.kernel_gen.proofs.Residues.{power_below}
 use Rattle.ring_mod.specs.Residue.{power_mod}
 use Rattle.code_gen.specs.PassActions.Acts.{load_at, store_at, factors_at, finish_acts, rows_acts, items_acts, term_acts, horner_acts, copy_acts, nest_acts, pass_acts, with_multiplier, nest_registers, pass_registers}
 use Rattle.sigma_spl.specs.Shared.Running.{CanRun, CanRunNest}
@@ -27,6 +26,7 @@ use Rattle.code_gen.proofs.PassActions.StraightCopies.{ends_of, copy_body, finis
 use Rattle.sigma_spl.specs.Nest.{PlainMultiplier, PlainNest, factor_at}
 use Rattle.sigma_spl.specs.Work.{PlainWork, kernel, rows, horner, tile, copy, trees_of}
 use Rattle.tree_model.specs.Trees.{trees_size}
+use Rattle.matrix_meaning.proofs.Requests.{power_below}
 
 module _ (regs lanes m : ℕ) where
   abbrev Fit : List Action → Type 0

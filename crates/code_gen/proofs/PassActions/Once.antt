@@ -5,9 +5,10 @@ use Rattle.std.proofs.lemmas.Bool.{cases_eq}
 use Rattle.std.proofs.lemmas.Bool.Decides.{nat_tests}
 use Rattle.operators.specs.Sum.{sum_below}
 use Rattle.operators.proofs.Scatters.{sum_below-only}
+use Rattle.operators.proofs.TensorPaths.PathLoops.{sum_below-zero}
 use Rattle.sigma_spl.specs.Copies.{loops_of, taken, stored, all_stored, hits}
 use Rattle.sigma_spl.specs.Nest.{PlainNest, copies_of}
-use Rattle.sigma_spl.proofs.CopiesMerge.{sum-none, nest-none}
+use Rattle.sigma_spl.proofs.CopiesMerge.{nest-none}
 use Rattle.operators.specs.TensorPaths.Loop.{nest_sum, loop_at}
 use Rattle.operators.specs.TensorPaths.Path.{Path, count_of, AreInRange}
 
@@ -78,7 +79,7 @@ module _ (path : Path) (d : ℕ) (to : List ℕ → ℕ → ℕ) (value : List �
   put vs k = if to vs k == w then value vs k else 0
 
   row-zero : (vs : List ℕ) → sum_below d (met vs) ≡ 0 → sum_below d (put vs) ≡ 0
-  row-zero vs zero_is = sum-none d (put vs) (λ k below. test-none (to vs k) w (value vs k) (let le = term_le d (met vs) k below in omega arith))
+  row-zero vs zero_is = sum_below-zero d (put vs) (λ k below. test-none (to vs k) w (value vs k) (let le = term_le d (met vs) k below in omega arith))
 
   loop-zero : loop_at path d to (λ vs k. 1) w ≡ 0 → loop_at path d to value w ≡ 0
   loop-zero = nest-zero path (λ vs. sum_below d (met vs)) (λ vs. sum_below d (put vs)) (λ vs range. row-zero vs)

@@ -14,11 +14,11 @@ use Rattle.operators.specs.declared.target.Target.{Target}
 use Rattle.code_gen.specs.PassCode.Program.{tables_through, tables_of_phases}
 use Rattle.code_gen.specs.PassCode.Statements.{with_diagonal, with_table, is_table, one_factor, tables_after, tables_of_nest, tables_of_work, tables_of_multiplier, powers_of, diagonal_of}
 use Rattle.code_gen.proofs.PassActions.Copies.{nest-can}
-use Rattle.kernel_gen.proofs.Residues.{power_below}
 use Rattle.sigma_spl.specs.Nest.{PlainMultiplier, PlainNest, factor_at, factor_count}
 use Rattle.sigma_spl.specs.Work.{PlainWork, kernel, rows, horner, tile, copy}
 use Rattle.code_gen.proofs.WholePrograms.Known.{Pass, AllKnown, PhasesKnown}
 use Rattle.ring_mod.specs.Residue.{power_mod}
+use Rattle.matrix_meaning.proofs.Requests.{power_below}
 
 below-is : (n k : ℕ) → n < k → nat_lt n k ≡ true
 below-is n k low = grind (arith, nat_tests)

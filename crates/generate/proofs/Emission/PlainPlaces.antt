@@ -4,7 +4,7 @@ use Rattle.matrix_meaning.specs.declared.Kind.{Kind}
 use Rattle.matrix_meaning.specs.declared.Kind.TheVariants.{Dft, Wht, Idft}
 use Rattle.matrix_meaning.specs.declared.Request.{Request}
 use Rattle.index_fn.specs.Back.{unit_below}
-use Rattle.perm_algebra.proofs.Sizes.{plain-joined, plain-scaled}
+use Rattle.perm_algebra.proofs.Kept.{plain-joined, plain-scaled}
 use Rattle.perm_algebra.specs.Affine.{HasNoQuotient, Sum, constant, variable, remainder, quotient, joined, mods}
 use Rattle.perm_algebra.specs.Affine.{reduced, scaled, top}
 use Rattle.sigma_spl.proofs.Walk.{chosen}

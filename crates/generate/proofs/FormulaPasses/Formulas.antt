@@ -12,7 +12,6 @@ use Rattle.sigma_lower.specs.Terms.{one_more, halvings, hadamard_term, fourier_t
 use Rattle.sigma_lower.proofs.Compiling.{formulas_compile}
 use Rattle.sigma_lower.proofs.Lowers.{halvings-power, power-above, lowers}
 use Rattle.sigma_lower.proofs.Several.{term-several}
-use Rattle.kernel_gen.proofs.Residues.{power_below}
 use Rattle.generate.specs.FormulaPasses.Laws.{FormulasAreReady}
 use Rattle.loop_merge.proofs.JoinedCopies.Passes.{joined_are_plain}
 use Rattle.loop_merge.proofs.PlainPasses.{plain_are_ready}
@@ -45,6 +44,7 @@ use Rattle.spl_ast.specs.Shape.{IsShaped}
 use Rattle.spl_ast.proofs.Vectors.{shaped_size, size_is_size}
 use Rattle.operators.specs.declared.tensor_paths.Tensor.TheVariants.{Blocks, Columns}
 use Rattle.operators.specs.TensorPaths.Path.{Path}
+use Rattle.matrix_meaning.proofs.Requests.{power_below}
 
 -- ---- the term of a formula
 

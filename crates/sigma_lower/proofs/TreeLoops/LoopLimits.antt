@@ -4,6 +4,7 @@ use Rattle.std.proofs.Common.{subst, Some}
 use Rattle.std.specs.Prelude.{map, reverse}
 use Rattle.std.specs.List.{list_all}
 use Rattle.std.proofs.lemmas.List.{reverse-append}
+use Rattle.std.proofs.lemmas.Bool.{and_from}
 use Rattle.index_fn.specs.Mapping.{Mapping}
 use Rattle.sigma_lower.specs.TreeLoops.Limits.{AreLimitedPhases, LoopsAreLimited}
 use Rattle.sigma_lower.specs.TreeLoops.Merge.{PlainDiagonal, PlainPass, passes_of_terms, in_order, merged_of}
@@ -21,7 +22,6 @@ use Rattle.sigma_lower.specs.Machine.{IsMachine}
 use Rattle.sigma_spl.specs.Loops.{PlainLoop, PlainTaken, limits_in, IsLimitedLoop, AreLimitedLoops}
 use Rattle.sigma_spl.specs.Merge.{most, items_in, items_out, carries_sum}
 use Rattle.sigma_spl.specs.Nest.{factor_count}
-use Rattle.sigma_spl.proofs.Within.{both-true}
 use Rattle.perm_algebra.specs.Affine.{Sum, simplified}
 use Rattle.perm_algebra.proofs.RoomTests.{room_decided}
 use Rattle.sigma_lower.specs.TreeTerms.Term.{PlainTerm, lowered_of}
@@ -35,12 +35,12 @@ carried-true : (cs : ℕ → ℕ) (room n count : ℕ) (fs : List Mapping) (e : 
     count ≤ 1048576 → IsCarried cs n count fs e → carries_sum room n count cs fs e ≡ true
 carried-true cs room n count [] e enough high low h = fits-limited room count e cs enough low h
 carried-true cs room n count (f ∷ fs) e enough high low h =
-    both-true _ _ (fits-limited room n e cs enough high h.0) (both-true _ _ ((room_decided cs f e).1 h.1) (carried-true cs room n count fs (simplified cs f e) enough high low h.2))
+    and_from _ _ (fits-limited room n e cs enough high h.0) (and_from _ _ ((room_decided cs f e).1 h.1) (carried-true cs room n count fs (simplified cs f e) enough high low h.2))
 
 all-true : (test : Sum → Bool) (g : Sum → Sum) (w : PlainWork) (cs : ℕ → ℕ) (n : ℕ) (es : List Sum) →
     ((e : Sum) → Names w cs n e → test (g e) ≡ true) → AllName w cs n es → list_all test (map g es) ≡ true
 all-true test g w cs n [] step h = refl
-all-true test g w cs n (e ∷ es) step h = both-true _ _ (step e h.0) (all-true test g w cs n es step h.1)
+all-true test g w cs n (e ∷ es) step h = and_from _ _ (step e h.0) (all-true test g w cs n es step h.1)
 
 -- ---- a pass
 

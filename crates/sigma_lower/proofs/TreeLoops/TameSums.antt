@@ -3,12 +3,12 @@ use Rattle.std.proofs.Common.{◌≡◌, ℕ, suc, ◌+◌, ◌-◌, ◌*◌, �
 use Rattle.std.proofs.Common.{le-mul_of_pos_right}
 use Rattle.std.proofs.Math.Nat.{pow-succ', mul-le-mul}
 use Rattle.std.proofs.Math.Pow.{pow_mono}
-use Rattle.std.proofs.lemmas.Bool.{cases_eq, cases_lt}
+use Rattle.std.proofs.lemmas.Bool.{cases_eq, cases_lt, and_from}
 use Rattle.std.proofs.lemmas.Bool.Decides.{nat_tests}
 use Rattle.std.proofs.lemmas.Nat.{pow-add}
 use Rattle.sigma_spl.specs.Merge.{total, are_small, is_limited}
 use Rattle.sigma_spl.proofs.Small.{divided-true}
-use Rattle.sigma_spl.proofs.Within.{both-true, limited, small-true}
+use Rattle.sigma_spl.proofs.Within.{limited, small-true}
 use Rattle.perm_algebra.specs.Affine.{AreBelow, HasNoQuotient, IsProper, Sum, constant, variable, remainder, quotient}
 use Rattle.perm_algebra.specs.Affine.{top, levels, parts, scaled, joined, mods, reduced}
 use Rattle.perm_algebra.proofs.Reduced.{mods-below, mods-proper}
@@ -70,11 +70,11 @@ total-le n (quotient f of m rest) high h = omega (arith, h.0, total-le n rest hi
 tame-small : (n : ℕ) (e : Sum) (cs : ℕ → ℕ) → n ≤ 1048576 → IsProper e cs → IsTame cs e → AreBelow n e →
     are_small cs e ≡ true
 tame-small n (constant c) cs high h tame low = small-true c (omega (arith, low))
-tame-small n (variable f d rest) cs high h tame low = both-true _ _ (small-true f (omega (arith, low.0))) (tame-small n rest cs high h.2 tame low.1)
+tame-small n (variable f d rest) cs high h tame low = and_from _ _ (small-true f (omega (arith, low.0))) (tame-small n rest cs high h.2 tame low.1)
 tame-small n (remainder f of m rest) cs high h tame low =
     let part = tame.0 in
-    both-true _ _ (divided-true cs f of m h.0 (omega (arith, low.0)) (omega (arith, h.1)) part.divisor part.sum part.word)
-    (both-true _ _ part.small (tame-small n rest cs high h.2 tame.1 low.1))
+    and_from _ _ (divided-true cs f of m h.0 (omega (arith, low.0)) (omega (arith, h.1)) part.divisor part.sum part.word)
+    (and_from _ _ part.small (tame-small n rest cs high h.2 tame.1 low.1))
 tame-small n (quotient f of m rest) cs high h tame low = absurd h
 
 -- ---- few parts

@@ -4,12 +4,12 @@ use Rattle.std.proofs.Common.{subst, mod-lt, if◌then◌else◌}
 use Rattle.std.specs.Prelude.{map, ◌==◌, ◌&&◌, nat_lt}
 use Rattle.std.specs.List.{list_all}
 use Rattle.std.proofs.lemmas.Bool.Decides.{nat_tests}
+use Rattle.std.proofs.lemmas.Bool.{and_from}
 use Rattle.index_fn.specs.Mapping.{Mapping}
 use Rattle.sigma_spl.specs.Merge.{all_simplified, carries_sum, is_limited}
 use Rattle.sigma_spl.specs.Nest.{inner_of}
 use Rattle.sigma_spl.proofs.Carried.{carried-next, carried-room}
 use Rattle.sigma_spl.proofs.Walk.{and-left, and-right}
-use Rattle.sigma_spl.proofs.Within.{both-true}
 use Rattle.perm_algebra.specs.Affine.{Sum, constant, variable, remainder, quotient, Divided, divided, head, joined}
 use Rattle.perm_algebra.specs.Affine.{rest_of, simplified, top}
 use Rattle.perm_algebra.specs.Room.{can_join, can_scale, has_room, has_top}
@@ -77,12 +77,12 @@ module _ (cs : ℕ → ℕ) where
   first-carried : (n : ℕ) (fs : List Mapping) (e : Sum) → carries_sum 64 n n cs fs e ≡ true →
       (n ≡ 1 → all_simplified cs fs e ≡ constant 0) → carries_sum 64 n 1 cs (fs ++ closing_place n ∷ []) e ≡ true
   first-carried n [] e carried alone =
-      both-true _ _ carried
-      (both-true _ _ (first-room n e)
+      and_from _ _ carried
+      (and_from _ _ (first-room n e)
       (subst (λ r. is_limited 64 1 cs r ≡ true) (sym (first-place n e alone)) refl))
   first-carried n (f ∷ fs) e carried alone =
-      both-true _ _ (and-left (is_limited 64 n cs e) _ carried)
-      (both-true _ _ (carried-room 64 n n cs f fs e carried)
+      and_from _ _ (and-left (is_limited 64 n cs e) _ carried)
+      (and_from _ _ (carried-room 64 n n cs f fs e carried)
       (first-carried n fs (simplified cs f e) (carried-next 64 n n cs f fs e carried) alone))
 
   pub all-carried : (n : ℕ) (fs : List Mapping) (es : List Sum) → list_all (carries_sum 64 n n cs fs) es ≡ true →
@@ -90,7 +90,7 @@ module _ (cs : ℕ → ℕ) where
       list_all (carries_sum 64 n 1 cs (fs ++ closing_place n ∷ [])) es ≡ true
   all-carried n fs [] carried alone = refl
   all-carried n fs (e ∷ es) carried alone =
-      both-true _ _ (first-carried n fs e (and-left (carries_sum 64 n n cs fs e) _ carried) alone.0)
+      and_from _ _ (first-carried n fs e (and-left (carries_sum 64 n n cs fs e) _ carried) alone.0)
       (all-carried n fs es (and-right (carries_sum 64 n n cs fs e) _ carried) alone.1)
 
   -- ---- and lead to the first entry

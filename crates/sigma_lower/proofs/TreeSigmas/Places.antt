@@ -4,7 +4,6 @@ use Rattle.std.proofs.Common.{Option, Some, None}
 use Rattle.std.specs.Option.{option_map}
 use Rattle.std.proofs.lemmas.Option.{none-some, same_Some}
 use Rattle.std.specs.Prelude.{slice_index}
-use Rattle.kernel_gen.proofs.Residues.{power_below}
 use Rattle.sigma_lower.specs.TreeLoops.Merge.{diagonal_place}
 use Rattle.sigma_lower.specs.TreeLoops.Merge.{PlainDiagonal, PlainPass, through, gather_place, scatter_place}
 use Rattle.sigma_lower.specs.TreeLoops.Nests.{loop_of, taken_of}
@@ -31,6 +30,7 @@ use Rattle.sigma_spl.proofs.Listed.{loops_have_places}
 use Rattle.sigma_lower.specs.TreeLoops.SharedPasses.Shared.{IsFramed}
 use Rattle.operators.specs.TensorPaths.Path.{count_of, place, AreInRange}
 use Rattle.sigma_lower.proofs.TreeSigmas.Frames.{range-of, named, values-named, IsShare, share-of, item-below}
+use Rattle.matrix_meaning.proofs.Requests.{power_below}
 
 -- a nest's diagonal is that of its pass
 pub record IsTaken (p : PlainPass) (m : PlainMultiplier) : Type 0 where

@@ -7,9 +7,8 @@ use Rattle.index_fn.specs.Mapping.{Mapping, at}
 use Rattle.operators.specs.Loop.{IsPermutationBelow}
 use Rattle.operators.specs.Operator.{gather, scale, on_columns, on_blocks, column, block}
 use Rattle.operators.proofs.Lists.{at-list_below, list_below-same, list_below-same_rows, row-of, column-of, place_below}
-use Rattle.operators.proofs.Lists.{factor_positive}
+use Rattle.operators.proofs.Lists.{factor_positive, on_columns-same, on_blocks-same}
 use Rattle.operators.proofs.Places.{column_at, block_at}
-use Rattle.operators.proofs.TensorPaths.Equal.{on_columns-same, on_blocks-same}
 use Rattle.operators.specs.declared.tensor_paths.Tensor.TheVariants.{Blocks, Columns}
 use Rattle.operators.specs.TensorPaths.Path.{Path, size_under, under}
 use Rattle.sigma_lower.specs.TreeTerms.Wrapped.{wrapped, inner_of}
