@@ -19,12 +19,14 @@ pub actions_of-append : (xs ys : List Step) → actions_of (xs ++ ys) ≡ action
 actions_of-append [] ys = refl
 actions_of-append (x ∷ xs) ys = ap (λ zs. x.action ∷ zs) (actions_of-append xs ys)
 
-pub actions_of-loop : (f : ℕ → List Step) (is : List ℕ) → actions_of (flat_map f is) ≡ flat_map (λ i. actions_of (f i)) is
+pub actions_of-loop : (f : ℕ → List Step) (is : List ℕ) → actions_of (flat_map f is)
+    ≡ flat_map (λ i. actions_of (f i)) is
 actions_of-loop f [] = refl
 actions_of-loop f (i ∷ is) = actions_of-append (f i) (flat_map f is) ∙ ap (λ zs. actions_of (f i) ++ zs) (actions_of-loop f is)
 
 -- a step of a round is one of the loop's, and the other way round
-pub in-loop : (f : ℕ → List Step) (a n i : ℕ) (s : Step) → a ≤ i → i < a + n → Contains (f i) s → Contains (flat_map f (range_with_len a n)) s
+pub in-loop : (f : ℕ → List Step) (a n i : ℕ) (s : Step) → a ≤ i → i < a + n → Contains (f i) s →
+    Contains (flat_map f (range_with_len a n)) s
 in-loop f a zero i s low high h = absurd (omega arith)
 in-loop f a (suc n) i s low high h = ⊎_elim
     (λ (e : a ≡ i). Contains-append_left (f a) (flat_map f (range_with_len (a + 1) n)) s (subst (λ k. Contains (f k) s) (sym e) h))
@@ -76,7 +78,8 @@ module _ (m lanes : ℕ)
 
   -- two loops, one in the other, in either order
   pub for-exchange : (outer inner : ℕ) (round : ℕ → ℕ → List Step) →
-      DoTheSame m lanes (flat_map (λ j. flat_map (λ i. actions_of (round i j)) (range_with_len 0 outer)) (range_with_len 0 inner))
+      DoTheSame m lanes (flat_map (λ j. flat_map (λ i. actions_of (round i j)) (range_with_len 0 outer))
+      (range_with_len 0 inner))
       (flat_map (λ i. flat_map (λ j. actions_of (round i j)) (range_with_len 0 inner)) (range_with_len 0 outer)) →
       AreFor m lanes (flat_map (λ j. flat_map (λ i. round i j) (range_with_len 0 outer)) (range_with_len 0 inner))
       (flat_map (λ i. flat_map (λ j. round i j) (range_with_len 0 inner)) (range_with_len 0 outer))

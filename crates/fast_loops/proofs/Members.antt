@@ -15,20 +15,23 @@ module _ {X : Type 0} where
   tail_within : (x : X) (xs zs : List X) → IsWithin (x ∷ xs) zs → IsWithin xs zs
   tail_within x xs zs within y h = within y (Contains-tail x xs y h)
 
-  pub map_within : {Y : Type 0} (f : X → Y) (xs zs : List X) → IsWithin xs zs → (y : Y) → Contains (map f xs) y → Contains (map f zs) y
+  pub map_within : {Y : Type 0} (f : X → Y) (xs zs : List X) → IsWithin xs zs → (y : Y) → Contains (map f xs) y →
+      Contains (map f zs) y
   map_within f [] zs within y h = absurd (Contains-nil y h)
   map_within f (x ∷ xs) zs within y (zero, lt, e) =
       subst (λ w. Contains (map f zs) w) e (Contains-map f zs x (within x (Contains-head x xs)))
   map_within f (x ∷ xs) zs within y (suc k, lt, e) = map_within f xs zs (tail_within x xs zs within) y (k, omega arith, e)
 
-  into_flat_map : {Y : Type 0} (f : X → List Y) (zs : List X) (x : X) (y : Y) → Contains zs x → Contains (f x) y → Contains (flat_map f zs) y
+  into_flat_map : {Y : Type 0} (f : X → List Y) (zs : List X) (x : X) (y : Y) → Contains zs x → Contains (f x) y →
+      Contains (flat_map f zs) y
   into_flat_map f [] x y h in_x = absurd (Contains-nil x h)
   into_flat_map f (z ∷ zs) x y (zero, lt, e) in_x =
       subst (λ w. Contains (f w) y → Contains (flat_map f (z ∷ zs)) y) e (λ in_z. Contains-append_left (f z) (flat_map f zs) y in_z) in_x
   into_flat_map f (z ∷ zs) x y (suc k, lt, e) in_x =
       Contains-append_right (f z) (flat_map f zs) y (into_flat_map f zs x y (k, omega arith, e) in_x)
 
-  pub flat_map_within : {Y : Type 0} (f : X → List Y) (xs zs : List X) → IsWithin xs zs → (y : Y) → Contains (flat_map f xs) y → Contains (flat_map f zs) y
+  pub flat_map_within : {Y : Type 0} (f : X → List Y) (xs zs : List X) → IsWithin xs zs → (y : Y) →
+      Contains (flat_map f xs) y → Contains (flat_map f zs) y
   flat_map_within f [] zs within y h = absurd (Contains-nil y h)
   flat_map_within f (x ∷ xs) zs within y h =
       ⊎_elim

@@ -141,7 +141,8 @@ module _ (p : PlainProgram) (q : ℕ) where
       ∙ sym (append-nil (flat_map (λ j. steps_of_body p body ((vs ++ i ∷ []) ++ j ∷ []) q) (range_with_len 0 inner)))))
 
   one-same : (loop count : ℕ) (body : PlainBody) (vs : List ℕ) → length vs ≡ loop →
-      steps_of_stmt p (unwrap_or (as_one loop count body) (Loop count body)) vs q ≡ steps_of_stmt p (Loop count body) vs q
+      steps_of_stmt p (unwrap_or (as_one loop count body) (Loop count body)) vs q
+      ≡ steps_of_stmt p (Loop count body) vs q
   one-same loop count NoStmts vs deep = refl
   one-same loop count (AndStmts (Do op) rest) vs deep = refl
   one-same loop count (AndStmts (Loop inner body) (AndStmts stmt rest)) vs deep = refl

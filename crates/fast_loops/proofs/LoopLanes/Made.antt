@@ -38,7 +38,8 @@ tile_low g m v lt some =
     omega (arith, all, most, some)
 
 -- an operation that can be done in lanes is not wide
-pub narrow : (v loop : ℕ) (to : Stored) (op : PlainOp) → v ≤ 16 → v * stride loop to.parts < 2 ^ 32 → is_by_lane loop to op ≡ true →
+pub narrow : (v loop : ℕ) (to : Stored) (op : PlainOp) → v ≤ 16 → v * stride loop to.parts < 2 ^ 32 →
+    is_by_lane loop to op ≡ true →
     v * stride_in loop op < 2 ^ 64
 narrow v loop to (Load r array place) few wide h =
     let two = both_true (is_linear place) (place_stride loop place == 1) (both_true (not (same_array array to.array)) _ h).1 in
@@ -63,7 +64,8 @@ narrow v loop to (Tile r x) few wide h = omega arith
 -- ---- lists
 
 -- one more row
-pub row_more : (f : ℕ → List PlainOp) (n : ℕ) → flat_map f (range_with_len 0 (n + 1)) ≡ flat_map f (range_with_len 0 n) ++ f n
+pub row_more : (f : ℕ → List PlainOp) (n : ℕ) → flat_map f (range_with_len 0 (n + 1)) ≡ flat_map f (range_with_len 0 n)
+    ++ f n
 row_more f n =
     let more : n + 1 ≡ suc n = omega arith in
     let same : 0 + n ≡ n = omega arith in
@@ -78,24 +80,29 @@ straight_is [] = refl
 straight_is (op ∷ ops) = ap (AndStmts (Do op)) (straight_is ops)
 
 -- nests, one by one
-pub body_laned : (v n : ℕ) (stmts : List PlainStmt) → laned_body v n (body_of stmts) ≡ body_of (map (laned_nest v n) stmts)
+pub body_laned : (v n : ℕ) (stmts : List PlainStmt) → laned_body v n (body_of stmts)
+    ≡ body_of (map (laned_nest v n) stmts)
 body_laned v n [] = refl
 body_laned v n (stmt ∷ stmts) = ap (AndStmts (laned_nest v n stmt)) (body_laned v n stmts)
 
 -- ---- loops of the code
 
 -- what is made is all of it, where none is left
-pub whole : {X Y : Type 0} (f : List X → List Y) (i : ℕ) (xs : List X) (made : List Y) → length xs ≤ i → made ++ f (drop i xs) ≡ f xs →
+pub whole : {X Y : Type 0} (f : List X → List Y) (i : ℕ) (xs : List X) (made : List Y) → length xs ≤ i →
+    made ++ f (drop i xs) ≡ f xs →
     f [] ≡ [] → made ≡ f xs
 whole f i xs made le h nothing =
     sym (append-nil made) ∙ ap (λ ys. made ++ ys) (sym nothing ∙ ap f (sym (drop_all i xs le))) ∙ h
 
 -- the first operation that is left
-first_left : (i : ℕ) (ops : List Op) (op : Op) → i < length ops → op ≡ get_or ops i op → drop i ops ≡ op ∷ drop (i + 1) ops
+first_left : (i : ℕ) (ops : List Op) (op : Op) → i < length ops → op ≡ get_or ops i op →
+    drop i ops ≡ op ∷ drop (i + 1) ops
 first_left i ops op lt e = rw (add-one, drop-cons ops i op) (ap (λ y. y ∷ drop (suc i) ops) (sym e))
 
-pub narrow_first : (v loop : ℕ) (to : Stored) (ops : List Op) (i : ℕ) (op copy : Op) → v ≤ 16 → v * stride loop to.parts < 2 ^ 32 →
-    i < length ops → op ≡ get_or ops i op → plain_op copy ≡ plain_op op → list_all (is_by_lane loop to) (plain_ops (drop i ops)) ≡ true →
+pub narrow_first : (v loop : ℕ) (to : Stored) (ops : List Op) (i : ℕ) (op copy : Op) → v ≤ 16 →
+    v * stride loop to.parts < 2 ^ 32 →
+    i < length ops → op ≡ get_or ops i op → plain_op copy ≡ plain_op op →
+    list_all (is_by_lane loop to) (plain_ops (drop i ops)) ≡ true →
     v * stride_in loop (plain_op copy) < 2 ^ 64
 narrow_first v loop to ops i op copy few wide lt e same h =
     let first = both_true (is_by_lane loop to (plain_op op)) _
@@ -104,7 +111,8 @@ narrow_first v loop to ops i op copy few wide lt e same h =
 
 -- a list that has grown by a row
 pub grown : (f : ℕ → List PlainOp) (n : ℕ) (start front before now : List PlainOp) → now ≡ before ++ f n →
-    before ≡ start ++ (front ++ flat_map f (range_with_len 0 n)) → now ≡ start ++ (front ++ flat_map f (range_with_len 0 (n + 1)))
+    before ≡ start ++ (front ++ flat_map f (range_with_len 0 n)) →
+    now ≡ start ++ (front ++ flat_map f (range_with_len 0 (n + 1)))
 grown f n start front before now e h =
     e
     ∙ ap (λ (xs : List PlainOp). xs ++ f n) h

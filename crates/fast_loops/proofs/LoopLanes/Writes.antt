@@ -8,7 +8,8 @@ use Rattle.icode.proofs.Words.{slice_get-set_other, slice_index-agree}
 use Rattle.icode.proofs.CodeLaws.Placing.{length-slice_set, slice_index-slice_set}
 use Rattle.fast_loops.specs.LoopLanes.Layers.{Write, written, OrderIsFree}
 
-pub words_same : (xs ys : List ℕ) → length xs ≡ length ys → ((k : ℕ) → k < length xs → slice_index xs k ≡ slice_index ys k) → xs ≡ ys
+pub words_same : (xs ys : List ℕ) → length xs ≡ length ys → ((k : ℕ) → k < length xs →
+    slice_index xs k ≡ slice_index ys k) → xs ≡ ys
 words_same [] [] e h = refl
 words_same [] (y ∷ ys) e h = absurd (omega (arith, e))
 words_same (x ∷ xs) [] e h = absurd (omega (arith, e))
@@ -26,7 +27,8 @@ written-append memory (w ∷ ws) zs = written-append (slice_set memory w.word w.
 
 -- what stands at a word: what stood there, or what one of the writes puts there
 pub data StandsAt (memory : List ℕ) (ws : List Write) (k : ℕ) : Type 0 where
-  Before : ((w : Write) → Contains ws w → w.word ≢ k) → slice_index (written memory ws) k ≡ slice_index memory k → StandsAt memory ws k
+  Before : ((w : Write) → Contains ws w → w.word ≢ k) → slice_index (written memory ws) k ≡ slice_index memory k →
+      StandsAt memory ws k
   Put : (w : Write) → Contains ws w → w.word ≡ k → slice_index (written memory ws) k ≡ w.value → StandsAt memory ws k
 
 pub other_word : (memory : List ℕ) (i v k : ℕ) → i ≢ k → slice_index (slice_set memory i v) k ≡ slice_index memory k
@@ -58,7 +60,8 @@ order_is_free memory after ws sure h =
     (λ k lt. let low : k < length memory = omega (arith, lt, length-written memory h.done) in
     same k (stands_at memory h.done k low) (stands_at memory ws k low))
   where
-    same : (k : ℕ) → StandsAt memory h.done k → StandsAt memory ws k → slice_index (written memory h.done) k ≡ slice_index (written memory ws) k
+    same : (k : ℕ) → StandsAt memory h.done k → StandsAt memory ws k →
+        slice_index (written memory h.done) k ≡ slice_index (written memory ws) k
     same k (Before none is) (Before none_too is_too) = is ∙ sym is_too
     same k (Put w has there is) (Put x has_too there_too is_too) =
         is ∙ sure.sure w x (h.within w has) has_too (there ∙ sym there_too) ∙ sym is_too
