@@ -24,8 +24,8 @@ pub actions_of-loop : (f : ℕ → List Step) (is : List ℕ) → actions_of (fl
 actions_of-loop f [] = refl
 actions_of-loop f (i ∷ is) = actions_of-append (f i) (flat_map f is) ∙ ap (λ zs. actions_of (f i) ++ zs) (actions_of-loop f is)
 
--- a step of a round is one of the loop's, and the other way round
-pub in-loop : (f : ℕ → List Step) (a n i : ℕ) (s : Step) → a ≤ i → i < a + n → Contains (f i) s →
+-- an item of a round is one of the loop's, and the other way round
+pub in-loop : {X : Type 0} (f : ℕ → List X) (a n i : ℕ) (s : X) → a ≤ i → i < a + n → Contains (f i) s →
     Contains (flat_map f (range_with_len a n)) s
 in-loop f a zero i s low high h = absurd (omega arith)
 in-loop f a (suc n) i s low high h = ⊎_elim
@@ -33,13 +33,13 @@ in-loop f a (suc n) i s low high h = ⊎_elim
     (λ ne. Contains-append_right (f a) (flat_map f (range_with_len (a + 1) n)) s (in-loop f (a + 1) n i s (omega arith) (omega arith) h))
     (cases_eq a i)
 
-pub record InRound (f : ℕ → List Step) (a n : ℕ) (s : Step) : Type 0 where
+pub record InRound {X : Type 0} (f : ℕ → List X) (a n : ℕ) (s : X) : Type 0 where
   pub round : ℕ
   pub low : a ≤ round
   pub high : round < a + n
   pub inside : Contains (f round) s
 
-pub of-loop : (f : ℕ → List Step) (a n : ℕ) (s : Step) → Contains (flat_map f (range_with_len a n)) s → InRound f a n s
+pub of-loop : {X : Type 0} (f : ℕ → List X) (a n : ℕ) (s : X) → Contains (flat_map f (range_with_len a n)) s → InRound f a n s
 of-loop f a zero s h = absurd (Contains-nil s h)
 of-loop f a (suc n) s h = ⊎_elim
     (λ here. record { round = a; low = omega arith; high = omega arith; inside = here })

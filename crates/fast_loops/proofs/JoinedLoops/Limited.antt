@@ -12,7 +12,7 @@ use Rattle.icode.specs.Plain.{Product, Rem, Quot, Load, Store, Zero, Add, Sub, N
 use Rattle.icode.specs.Plain.{NoStmts, AndStmts}
 use Rattle.fast_loops.specs.Places.{are_linear}
 use Rattle.fast_loops.specs.JoinedLoops.JoinedLoops.{place_goes_on, op_goes_on, body_goes_on}
-use Rattle.fast_loops.specs.JoinedLoops.JoinedLoops.{lifted_parts, lifted_place, lifted_op, lifted_stmt, lifted_body}
+use Rattle.fast_loops.specs.JoinedLoops.JoinedLoops.{lifted_parts, lifted_place, lifted_op, lifted_body}
 use Rattle.fast_loops.specs.JoinedLoops.JoinedLoops.{as_one, joined_stmt, joined_body}
 use Rattle.fast_loops.proofs.Limited.{IsVarWithin, IsLoopWithin, and_three, one-within, var-within, loop-within}
 use Rattle.fast_loops.proofs.Limited.{loop-is, only-within}
@@ -68,9 +68,7 @@ parts-within loop n first least lower (AndParts (Var depth a) rest) deep le few 
         ∙ one-within lifted.up a n lower (lifted.up + 2) (lifted_parts loop rest)
         (omega (arith, there, next)) rank known.small (omega arith)
         (more (lifted.up + 2) (omega (arith, next)) (inr (omega (arith, next))))
-parts-within loop n first least lower (AndParts (Product outer inner a) rest) deep le few linear h = wrong linear
-parts-within loop n first least lower (AndParts (Rem of divisor a) rest) deep le few linear h = wrong linear
-parts-within loop n first least lower (AndParts (Quot of divisor a) rest) deep le few linear h = wrong linear
+parts-within loop n first least lower (AndParts _ rest) deep le few linear h = wrong linear
 
 -- there are no more of them, and none has parentheses
 fewer : (loop first : ℕ) (parts : PlainParts) → are_linear first parts ≡ true →
@@ -86,9 +84,7 @@ fewer loop first (AndParts (Var depth a) rest) linear =
       | inr (inl stays) ↦ subst few (sym stays.1) (omega (arith, more))
       | inr (inr lifted) ↦ subst few (sym lifted.is) (omega (arith, more))
     ]
-fewer loop first (AndParts (Product outer inner a) rest) linear = wrong linear
-fewer loop first (AndParts (Rem of divisor a) rest) linear = wrong linear
-fewer loop first (AndParts (Quot of divisor a) rest) linear = wrong linear
+fewer loop first (AndParts _ rest) linear = wrong linear
 
 flat : (loop first : ℕ) (parts : PlainParts) → are_linear first parts ≡ true → parts_depth (lifted_parts loop parts) ≡ 0
 flat loop first NoParts linear = refl
@@ -100,9 +96,7 @@ flat loop first (AndParts (Var depth a) rest) linear =
       | inr (inl stays) ↦ ap parts_depth stays.1 ∙ ap (max 0) more
       | inr (inr lifted) ↦ ap parts_depth lifted.is ∙ ap (max 0) more
     ]
-flat loop first (AndParts (Product outer inner a) rest) linear = wrong linear
-flat loop first (AndParts (Rem of divisor a) rest) linear = wrong linear
-flat loop first (AndParts (Quot of divisor a) rest) linear = wrong linear
+flat loop first (AndParts _ rest) linear = wrong linear
 
 place-within : (loop inner n : ℕ) (place : PlainExpr) → loop < n → place_goes_on loop inner place ≡ true →
     is_expr_within place (n + 1) ≡ true → is_expr_within (lifted_place loop place) n ≡ true
@@ -139,12 +133,7 @@ op-within m loop inner n (MulTable register source table place step) deep on h =
     (and_from (is_small source) _ b.0
     (and_from (is_small table) _ c.0
     (and_from (nat_lt step 2) _ d.0 (place-within loop inner n place deep on d.1))))
-op-within m loop inner n (Zero register) deep on h = h
-op-within m loop inner n (Add register left right) deep on h = h
-op-within m loop inner n (Sub register left right) deep on h = h
-op-within m loop inner n (Neg register source) deep on h = h
-op-within m loop inner n (MulConst register source factor) deep on h = h
-op-within m loop inner n (Tile register source) deep on h = h
+op-within m loop inner n op deep on h = h
 
 -- statements with one loop less around them
 body-lifted : (m loop inner n : ℕ) (body : PlainBody) → loop < n → body_goes_on loop inner body ≡ true →

@@ -79,9 +79,7 @@ linear-low least (AndParts (Proc factor) rest) vs q h =
 linear-low least (AndParts (Var depth factor) rest) vs q h =
     low-part (slice_index vs depth * factor) (parts_numbers rest vs q)
     (linear-low (depth + 1) rest vs q (from_least least depth _ h).1)
-linear-low least (AndParts (Product outer inner other) rest) vs q h = wrong h
-linear-low least (AndParts (Rem of divisor other) rest) vs q h = wrong h
-linear-low least (AndParts (Quot of divisor other) rest) vs q h = wrong h
+linear-low least (AndParts _ rest) vs q h = wrong h
 
 lifted-low : (loop least : ℕ) (parts : PlainParts) (vs : List ℕ) (q : ℕ) → are_linear least parts ≡ true →
     IsLow (parts_numbers (lifted_parts loop parts) vs q)
@@ -99,9 +97,7 @@ lifted-low loop least (AndParts (Var depth factor) rest) vs q h =
       | inr (inr lifted) ↦ subst low (sym lifted.is)
           (low-part (slice_index vs lifted.up * factor) (parts_numbers (lifted_parts loop rest) vs q) more)
     ]
-lifted-low loop least (AndParts (Product outer inner other) rest) vs q h = wrong h
-lifted-low loop least (AndParts (Rem of divisor other) rest) vs q h = wrong h
-lifted-low loop least (AndParts (Quot of divisor other) rest) vs q h = wrong h
+lifted-low loop least (AndParts _ rest) vs q h = wrong h
 
 sum-is : (constant value : ℕ) (n : Numbers) → IsLow n → n.value ≡ value → with_sum constant n ≡ alone (constant + value)
 sum-is constant value n low is =
@@ -231,9 +227,7 @@ module _ (loop : ℕ) (vs us : List ℕ) (i j k q : ℕ) (deep : length vs ≡ l
                   ∙ ap (slice_index two) (sym next)) more
             ])
       ]
-  values least (AndParts (Product outer inner other) rest) h = wrong h
-  values least (AndParts (Rem of divisor other) rest) h = wrong h
-  values least (AndParts (Quot of divisor other) rest) h = wrong h
+  values least (AndParts _ rest) h = wrong h
 
   -- they add as much where the place goes on
   pub place_same : (inner : ℕ) (place : PlainExpr) → place_goes_on loop inner place ≡ true → k ≡ inner * i + j →

@@ -17,53 +17,8 @@ use Rattle.icode.specs.Plain.{MulTable, Tile, Loop, Do, NoStmts, AndStmts}
 use Rattle.icode.proofs.Bools.{both_true}
 use Rattle.fast_loops.specs.JoinedLoops.JoinedLoops.{op_goes_on, body_goes_on, lifted_op}
 use Rattle.fast_loops.specs.JoinedLoops.JoinedLoops.{lifted_body, as_one, joined_stmt, joined_body}
+use Rattle.fast_loops.proofs.Grouped.{in_groups}
 use Rattle.fast_loops.proofs.JoinedLoops.Numbers.{place_same}
-
--- ---- rounds of two loops, and of one
-
-range-split : (a m n : ℕ) → range_with_len a (m + n) ≡ range_with_len a m ++ range_with_len (a + m) n
-range-split a zero n =
-    let one : zero + n ≡ n = omega arith in
-    let two : a ≡ a + zero = omega arith in
-    ap₂ range_with_len two one
-range-split a (suc m) n =
-    let one : suc m + n ≡ suc (m + n) = omega arith in
-    let two : a + 1 + m ≡ a + suc m = omega arith in
-    ap (range_with_len a) one
-    ∙ ap (λ is. a ∷ is) (range-split (a + 1) m n ∙ ap (λ k. range_with_len (a + 1) m ++ range_with_len k n) two)
-
--- rounds that are counted from elsewhere
-rounds-from : {X : Type 0} (f : ℕ → List X) (a b n : ℕ) →
-    flat_map f (range_with_len (a + b) n) ≡ flat_map (λ i. f (a + i)) (range_with_len b n)
-rounds-from f a b zero = refl
-rounds-from f a b (suc n) =
-    let next : a + b + 1 ≡ a + (b + 1) = omega arith in
-    ap (λ xs. f (a + b) ++ xs) (ap (λ k. flat_map f (range_with_len k n)) next ∙ rounds-from f a (b + 1) n)
-
-rounds-split : {X : Type 0} (f : ℕ → List X) (inner n a : ℕ) →
-    flat_map f (range_with_len (inner * a) (inner * n))
-    ≡ flat_map (λ i. flat_map (λ j. f (inner * i + j)) (range_with_len 0 inner)) (range_with_len a n)
-rounds-split f inner zero a =
-    let none : inner * zero ≡ 0 = omega arith in
-    ap (λ k. flat_map f (range_with_len (inner * a) k)) none
-rounds-split f inner (suc n) a =
-    let many : inner * suc n ≡ inner + inner * n = omega arith in
-    let next : inner * a + inner ≡ inner * (a + 1) = omega arith in
-    let first : inner * a ≡ inner * a + 0 = omega arith in
-    ap (λ k. flat_map f (range_with_len (inner * a) k)) many
-    ∙ ap (flat_map f) (range-split (inner * a) inner (inner * n))
-    ∙ flat_map-append f (range_with_len (inner * a) inner) (range_with_len (inner * a + inner) (inner * n))
-    ∙ ap₂ (λ xs ys. xs ++ ys)
-    (ap (λ k. flat_map f (range_with_len k inner)) first ∙ rounds-from f (inner * a) 0 inner)
-    (ap (λ k. flat_map f (range_with_len k (inner * n))) next ∙ rounds-split f inner n (a + 1))
-
-rounds-joined : {X : Type 0} (f : ℕ → List X) (count inner : ℕ) →
-    flat_map f (range_with_len 0 (count * inner))
-    ≡ flat_map (λ i. flat_map (λ j. f (inner * i + j)) (range_with_len 0 inner)) (range_with_len 0 count)
-rounds-joined f count inner =
-    let start : 0 ≡ inner * 0 = omega arith in
-    let many : count * inner ≡ inner * count = omega arith in
-    ap₂ (λ a n. flat_map f (range_with_len a n)) start many ∙ rounds-split f inner count 0
 
 module _ (p : PlainProgram) (q : ℕ) where
   -- ---- steps by the numbers of their places
@@ -110,12 +65,7 @@ module _ (p : PlainProgram) (q : ℕ) where
         ap (store_by array r) (place_same loop vs us i j (inner * i + j) q deep inner place h refl)
     op-same (MulTable r x table place step) us h =
         ap (product_by r x table step) (place_same loop vs us i j (inner * i + j) q deep inner place h refl)
-    op-same (Zero r) us h = refl
-    op-same (Add r x y) us h = refl
-    op-same (Sub r x y) us h = refl
-    op-same (Neg r x) us h = refl
-    op-same (MulConst r x factor) us h = refl
-    op-same (Tile r x) us h = refl
+    op-same op us h = refl
 
     body-same : (body : PlainBody) (us : List ℕ) → body_goes_on loop inner body ≡ true →
         steps_of_body p (lifted_body loop body) (vs ++ (inner * i + j) ∷ us) q
@@ -133,7 +83,8 @@ module _ (p : PlainProgram) (q : ℕ) where
       steps_of_stmt p (Loop (count * inner) (lifted_body loop body)) vs q
       ≡ steps_of_stmt p (Loop count (AndStmts (Loop inner body) NoStmts)) vs q
   both-same loop count inner body vs deep h =
-      rounds-joined (λ k. steps_of_body p (lifted_body loop body) (vs ++ k ∷ []) q) count inner
+      in_groups (λ k. steps_of_body p (lifted_body loop body) (vs ++ k ∷ []) q) inner count (count * inner)
+      (omega arith)
       ∙ ap (λ (f : ℕ → List Step). flat_map f (range_with_len 0 count)) (fun_ext (λ i.
       ap (λ (f : ℕ → List Step). flat_map f (range_with_len 0 inner)) (fun_ext (λ j.
       body-same loop inner vs i j deep body [] h

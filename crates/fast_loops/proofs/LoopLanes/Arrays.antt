@@ -1,11 +1,12 @@
 -- Words of different arrays.
-use Rattle.std.proofs.Common.{◌≡◌, ◌⊎◌, ℕ, ◌+◌, ◌*◌, ◌<◌, ◌≤◌, true, false, ap, sym, ◌∙◌, arith, inl, inr, eq-eqb}
+use Rattle.std.proofs.Common.{◌≡◌, ◌⊎◌, ℕ, ◌+◌, ◌*◌, ◌<◌, ◌≤◌, true, false, refl, ap, sym, ◌∙◌, arith, inl, inr, eq-eqb}
 use Rattle.std.proofs.Common.{eqb-true, true≢false, mul-le-mul_left}
 use Rattle.std.proofs.lemmas.Bool.{cases_order}
 use Rattle.icode.specs.declared.program.Array.{Array}
 use Rattle.icode.specs.declared.program.Array.TheVariants.{X, Y, A, B}
 use Rattle.icode.specs.Actions.{array_start}
 use Rattle.fast_loops.specs.Rounds.{same_array}
+use Rattle.fast_loops.proofs.Linear.{wrong}
 
 start_is : (words : ℕ) (a : Array) → array_start words a ≡ words * array_start 1 a
 start_is words X = omega arith
@@ -13,10 +14,16 @@ start_is words Y = omega arith
 start_is words A = omega arith
 start_is words B = omega arith
 
+pub array_same : (a c : Array) → same_array a c ≡ true → a ≡ c
+array_same X X h = refl
+array_same Y Y h = refl
+array_same A A h = refl
+array_same B B h = refl
+array_same _ _ h = wrong h
+
 -- the same array begins at the same word
 pub same_start : (words : ℕ) (a c : Array) → same_array a c ≡ true → array_start words a ≡ array_start words c
-same_start words a c h =
-    start_is words a ∙ ap (λ n. words * n) (eqb-true (array_start 1 a) (array_start 1 c) h) ∙ sym (start_is words c)
+same_start words a c h = ap (array_start words) (array_same a c h)
 
 -- before the array or behind it
 abbrev pub IsOutside : ℕ → Array → ℕ → Type 0

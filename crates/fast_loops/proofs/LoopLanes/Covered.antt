@@ -43,21 +43,6 @@ pub record IsCovered (v : ℕ) (p : PlainProgram) (old : List Step) (s : Step) :
   pub touched : (k : ℕ) → Contains (touched_words v s.action) k → Contains (touched_by 1 (actions_of old)) k
   pub fits : StepFits (on_lanes v p) s
 
--- what holds in each round of a loop
-pub all-loop : {X : Type 0} (P : X → Type 0) (f : ℕ → List X) (a n : ℕ) →
-    ((i : ℕ) → a ≤ i → i < a + n → All P (f i)) → All P (flat_map f (range_with_len a n))
-all-loop P f a zero h = All-nil P
-all-loop P f a (suc n) h =
-    All-append P (f a) (flat_map f (range_with_len (a + 1) n)) (h a (omega arith) (omega arith))
-    (all-loop P f (a + 1) n (λ i low high. h i (omega (arith, low)) (omega (arith, high))))
-
-pub all-row : {X : Type 0} (P : X → Type 0) (f : ℕ → X) (a n : ℕ) → ((i : ℕ) → a ≤ i → i < a + n → P (f i)) →
-    All P (map f (range_with_len a n))
-all-row P f a zero h = All-nil P
-all-row P f a (suc n) h =
-    All-cons P (f a) (map f (range_with_len (a + 1) n)) (h a (omega arith) (omega arith))
-    (all-row P f (a + 1) n (λ i low high. h i (omega (arith, low)) (omega (arith, high))))
-
 module _ (v : ℕ) (p : PlainProgram) (old : List Step) (ws : List ℕ) (q : ℕ) where
   -- the step of an operation is
   abbrev pub IsOpCovered : PlainOp → Type 0

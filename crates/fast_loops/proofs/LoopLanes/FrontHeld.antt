@@ -29,7 +29,7 @@ use Rattle.fast_loops.proofs.Linear.{wrong}
 use Rattle.fast_loops.specs.LoopLanes.Columns.{renumbered_op}
 use Rattle.fast_loops.specs.LoopLanes.Layers.{on_lanes, steps_at, values_put}
 use Rattle.fast_loops.specs.LoopLanes.Rounds.{straight, is_by_lane, is_store, in_row, place_stride, widened}
-use Rattle.fast_loops.proofs.LoopLanes.Held.{AreHeld, FrontHeld, in_lanes, front_after, values_in}
+use Rattle.fast_loops.proofs.LoopLanes.Held.{AreHeld, IsFront, HoldsBy, in_lanes, values_in}
 use Rattle.fast_loops.proofs.LoopLanes.Wide.{widened_value, lane_value}
 
 -- one more register is held
@@ -105,15 +105,8 @@ two_sources r next x y h =
 
 -- one register is put
 pub put_next : (next : ℕ) (op : PlainOp) → is_store op ≡ false → put_after 1 next op ≡ next + 1
-put_next next (Load r array place) puts = refl
 put_next next (Store array place r) puts = absurd (true≢false puts)
-put_next next (Zero r) puts = refl
-put_next next (Add r x y) puts = refl
-put_next next (Sub r x y) puts = refl
-put_next next (Neg r x) puts = refl
-put_next next (MulConst r x factor) puts = refl
-put_next next (MulTable r x table place step) puts = refl
-put_next next (Tile r x) puts = refl
+put_next next op puts = refl
 
 -- ---- one operation
 
@@ -293,15 +286,8 @@ module _ (v : ℕ) (p : PlainProgram) (f : ℕ → ℕ) (vs : List ℕ) (b q : �
   -- ---- operations that store nothing
 
   pub kept_op : (op : PlainOp) (s : Local) → is_store op ≡ false → memory_after v (wide_act op) s ≡ s.memory
-  kept_op (Load r array place) s puts = refl
   kept_op (Store array place r) s puts = absurd (true≢false puts)
-  kept_op (Zero r) s puts = refl
-  kept_op (Add r x y) s puts = refl
-  kept_op (Sub r x y) s puts = refl
-  kept_op (Neg r x) s puts = refl
-  kept_op (MulConst r x factor) s puts = refl
-  kept_op (MulTable r x table place step) s puts = refl
-  kept_op (Tile r x) s puts = refl
+  kept_op op s puts = refl
 
   -- the actions in round l, and on v lanes
   abbrev pub round_acts : List PlainOp → ℕ → List Action
@@ -351,18 +337,15 @@ module _ (v : ℕ) (p : PlainProgram) (f : ℕ → ℕ) (vs : List ℕ) (b q : �
         one_more a c = omega arith
 
 -- operations that store nothing leave the memory, and in each lane what they put in its round
-pub front_held : FrontHeld
+pub front_held : (v : ℕ) (p : PlainProgram) (to : Stored) (f : ℕ → ℕ) (front : List PlainOp) (vs : List ℕ) (b q : ℕ)
+    (s : Local) → IsFront p (length vs) to f front → 3 * p.regs * v ≤ length s.registers →
+    HoldsBy v p f (in_lanes v (length vs) f front) front vs b q s
 front_held v p to f front vs b q s h room =
-    let none : ℕ → List ℕ = λ l. [] in
-    let all = front_from v p f vs b q to (length front) h.alone h.low h.apart s.memory s none 0 front
+    let all = front_from v p f vs b q to (length front) h.alone h.low h.apart s.memory s (λ l. []) 0 front
     h.fresh h.by_lane h.puts (omega arith) room refl
     (record { long = λ l below. refl; held = λ r l below under. absurd (omega (arith, below)) }) in
-    let after : Local = front_after v p f front vs b q s in
+    let whole : 0 + length front ≡ length front = omega arith in
     record {
       memory = all.0;
-      registers =
-          subst (AreHeld v f after.registers (values_in v p s.memory front vs b q)) (whole (length front)) all.1;
+      registers = subst (AreHeld v f _ (values_in v p s.memory front vs b q)) whole all.1;
     }
-  where
-    whole : (n : ℕ) → 0 + n ≡ n
-    whole n = omega arith

@@ -13,8 +13,7 @@ use Rattle.fast_loops.specs.Rounds.{Stored, same_array}
 use Rattle.fast_loops.proofs.Linear.{wrong, chosen, passed}
 use Rattle.fast_loops.specs.LoopLanes.Rounds.{is_store, widened_parts, widened, place_stride, is_by_lane, in_row}
 use Rattle.fast_loops.specs.LoopLanes.Columns.{renumbered_op}
-use Rattle.fast_loops.proofs.LoopLanes.Orders.{parts_same}
-use Rattle.fast_loops.proofs.LoopLanes.Parts.{AreSome}
+use Rattle.fast_loops.proofs.LoopLanes.Orders.{AreSome, parts_same}
 
 -- ---- places
 
@@ -87,10 +86,7 @@ module _ (v loop : ℕ) (some : 2 ≤ v) where
           (widened_parts v loop rest)) ≡ 1 + all_parts rest
       by_test true h = refl
       by_test false h = ap (λ n. 1 + n) h
-  parts-count (AndParts (Proc a) rest) = ap (λ n. 1 + n) (parts-count rest)
-  parts-count (AndParts (Product outer inner a) rest) = ap (λ n. 1 + n) (parts-count rest)
-  parts-count (AndParts (Rem of divisor a) rest) = ap (λ n. part_parts (Rem of divisor a) + n) (parts-count rest)
-  parts-count (AndParts (Quot of divisor a) rest) = ap (λ n. part_parts (Quot of divisor a) + n) (parts-count rest)
+  parts-count (AndParts part rest) = ap (λ n. part_parts part + n) (parts-count rest)
 
   parts-depth : (parts : PlainParts) → parts_depth (widened_parts v loop parts) ≡ parts_depth parts
   parts-depth NoParts = refl
@@ -101,10 +97,7 @@ module _ (v loop : ℕ) (some : 2 ≤ v) where
           (widened_parts v loop rest)) ≡ max 0 (parts_depth rest)
       by_test true h = refl
       by_test false h = ap (max 0) h
-  parts-depth (AndParts (Proc a) rest) = ap (max 0) (parts-depth rest)
-  parts-depth (AndParts (Product outer inner a) rest) = ap (max 0) (parts-depth rest)
-  parts-depth (AndParts (Rem of divisor a) rest) = ap (max (part_depth (Rem of divisor a))) (parts-depth rest)
-  parts-depth (AndParts (Quot of divisor a) rest) = ap (max (part_depth (Quot of divisor a))) (parts-depth rest)
+  parts-depth (AndParts part rest) = ap (max (part_depth part)) (parts-depth rest)
 
   -- a place of another constant, of a wide step
   pub place-within : (n c constant : ℕ) (parts : PlainParts) → is_expr_within (Sum c parts) n ≡ true →
@@ -170,8 +163,6 @@ op-within m v loop n to f (Store array (Sum constant parts) r) lanes low unit by
     (wide-place v loop lanes.some n (Sum constant parts) both.1
     (unit-small v (stride loop parts) lanes.few (omega (arith, one))))
 op-within m v loop n to f (Zero r) lanes low unit by_lane h = low r h
-op-within m v loop n to f (Add r x y) lanes low unit by_lane h = three-small f r x y low h
-op-within m v loop n to f (Sub r x y) lanes low unit by_lane h = three-small f r x y low h
 op-within m v loop n to f (Neg r x) lanes low unit by_lane h = two-small f r x low h
 op-within m v loop n to f (MulConst r x factor) lanes low unit by_lane h =
     let a = and_parts (is_small r) (is_small x && nat_lt factor m) h in
@@ -190,3 +181,5 @@ op-within m v loop n to f (MulTable r x table place step) lanes low unit by_lane
     (and_from (nat_lt (place_stride loop place) 2) _ (lt-ltb (place_stride loop place) 2 (omega (arith, one)))
     (wide-place v loop lanes.some n place d.1 (unit-small v (place_stride loop place) lanes.few one)))))
 op-within m v loop n to f (Tile r x) lanes low unit by_lane h = wrong by_lane
+op-within m v loop n to f (Add r x y) lanes low unit by_lane h = three-small f r x y low h
+op-within m v loop n to f (Sub r x y) lanes low unit by_lane h = three-small f r x y low h

@@ -5,8 +5,6 @@ use Rattle.std.proofs.Common.{take-append-drop}
 use Rattle.std.specs.Prelude.{◌==◌, slice_index, nat_le, if◌then◌else◌}
 use Rattle.std.specs.List.{list_all, range_with_len}
 use Rattle.std.proofs.lemmas.List.{append_assoc}
-use Rattle.icode.specs.declared.program.Array.{Array}
-use Rattle.icode.specs.declared.program.Array.TheVariants.{X, Y, A, B}
 use Rattle.icode.specs.Actions.{array_start}
 use Rattle.icode.specs.Expression.{sum_numbers}
 use Rattle.icode.specs.Machine.{whole_lines}
@@ -19,6 +17,7 @@ use Rattle.fast_loops.specs.LoopLanes.Layers.{values_put}
 use Rattle.fast_loops.specs.LoopLanes.Loads.{Loaded, is_loaded, row_length}
 use Rattle.fast_loops.specs.LoopLanes.Rounds.{straight}
 use Rattle.fast_loops.proofs.Linear.{wrong, passed}
+use Rattle.fast_loops.proofs.LoopLanes.Arrays.{array_same}
 use Rattle.fast_loops.proofs.LoopLanes.Orders.{parts_same}
 use Rattle.fast_loops.proofs.LoopLanes.RoundWrites.{acts_in}
 
@@ -29,40 +28,15 @@ row from k (suc n) = Load k from.array (Sum k from.parts) ∷ row from (k + 1) n
 
 -- ---- the operations of a round begin with such loads
 
-array-same : (a c : Array) → same_array a c ≡ true → a ≡ c
-array-same X X h = refl
-array-same Y Y h = refl
-array-same A A h = refl
-array-same B B h = refl
-array-same X Y h = wrong h
-array-same X A h = wrong h
-array-same X B h = wrong h
-array-same Y X h = wrong h
-array-same Y A h = wrong h
-array-same Y B h = wrong h
-array-same A X h = wrong h
-array-same A Y h = wrong h
-array-same A B h = wrong h
-array-same B X h = wrong h
-array-same B Y h = wrong h
-array-same B A h = wrong h
-
 loaded-is : (from : Loaded) (k : ℕ) (op : PlainOp) → is_loaded from k op ≡ true →
     op ≡ Load k from.array (Sum k from.parts)
 loaded-is from k (Load r array (Sum constant parts)) h =
     let two = both_true (r == k) _ h in
     let three = both_true (constant == k) _ two.1 in
     let four = both_true (same_array array from.array) (same_parts parts from.parts) three.1 in
-    ap₂ (λ i a. Load i a (Sum constant parts)) (eqb-true r k two.0) (array-same array from.array four.0)
+    ap₂ (λ i a. Load i a (Sum constant parts)) (eqb-true r k two.0) (array_same array from.array four.0)
     ∙ ap₂ (λ c ps. Load k from.array (Sum c ps)) (eqb-true constant k three.0) (parts_same parts from.parts four.1)
-loaded-is from k (Store array place r) h = wrong h
-loaded-is from k (Zero r) h = wrong h
-loaded-is from k (Add r x y) h = wrong h
-loaded-is from k (Sub r x y) h = wrong h
-loaded-is from k (Neg r x) h = wrong h
-loaded-is from k (MulConst r x factor) h = wrong h
-loaded-is from k (MulTable r x table place step) h = wrong h
-loaded-is from k (Tile r x) h = wrong h
+loaded-is from k op h = wrong h
 
 row-taken : (from : Loaded) (k : ℕ) (ops : List PlainOp) →
     take (row_length from k ops) ops ≡ row from k (row_length from k ops)
@@ -88,15 +62,13 @@ length-row from k zero = refl
 length-row from k (suc n) = ap suc (length-row from (k + 1) n)
 
 -- what is behind it puts registers behind those of the row
-pub row_fresh : (from : Loaded) (k n : ℕ) (rest : List PlainOp) →
-    are_fresh 1 k (straight (row from k n ++ rest)) ≡ true → are_fresh 1 (k + n) (straight rest) ≡ true
-row_fresh from k zero rest h =
-    let none : k ≡ k + 0 = omega arith in
-    subst (λ i. are_fresh 1 i (straight rest) ≡ true) none h
-row_fresh from k (suc n) rest h =
-    let more : k + 1 + n ≡ k + suc n = omega arith in
-    subst (λ i. are_fresh 1 i (straight rest) ≡ true) more
-    (row_fresh from (k + 1) n rest (both_true (k == k) _ h).1)
+pub row_fresh : (from : Loaded) (k n next : ℕ) (rest : List PlainOp) → k + n ≡ next →
+    are_fresh 1 k (straight (row from k n ++ rest)) ≡ true → are_fresh 1 next (straight rest) ≡ true
+row_fresh from k zero next rest e h =
+    let same : k ≡ next = omega (arith, e) in
+    subst (λ i. are_fresh 1 i (straight rest) ≡ true) same h
+row_fresh from k (suc n) next rest e h =
+    row_fresh from (k + 1) n next rest (omega (arith, e)) (both_true (k == k) _ h).1
 
 pub row_puts : (f : PlainOp → Bool) (from : Loaded) (k n : ℕ) (rest : List PlainOp) →
     list_all f (row from k n ++ rest) ≡ true → list_all f rest ≡ true

@@ -15,6 +15,7 @@ use Rattle.fast_loops.specs.LoopLanes.Columns.{Columns, Factors, are_tiles, are_
 use Rattle.fast_loops.specs.LoopLanes.Loads.{Loaded, are_whole, behind, are_behind}
 use Rattle.fast_loops.specs.LoopLanes.Rounds.{stores, stored_constants, are_from, is_by_lane}
 use Rattle.fast_loops.specs.LoopLanes.View.{has_entries, has_words}
+use Rattle.fast_loops.proofs.LoopLanes.ColumnsAre.{columns_told}
 use Rattle.fast_loops.proofs.LoopLanes.Made.{row_more}
 
 -- ---- lists
@@ -48,20 +49,14 @@ behind_told v loop to ops c from m some h entries =
     let n : ℕ = length c.turned in
     let s : ℕ = stride loop to.parts in
     let columns = (both_true (list_all (nat_le m) c.turned) _ (both_true (are_whole v loop to from m) _ h).1).1 in
-    let two = both_true (are_tiles v loop to ops (behind m c)) _ columns in
-    let tiles =
-    both_true ((length (stores ops) == n) && ((n % v == 0) && nat_le n (length (behind m c).front))) _ two.0 in
-    let many = eqb-true (length (stores ops)) n (both_true (length (stores ops) == n) _ tiles.0).0 in
-    let words = both_true (are_from 0 (stored_constants ops)) _ tiles.1 in
-    let room = both_true (nat_le n s) _ words.1 in
-    let few : n ≤ s = leb-true n s room.0 in
-    let small : 2 ^ 20 + v * s < 2 ^ 32 = ltb-true (2 ^ 20 + v * s) (2 ^ 32) room.1 in
+    let told = columns_told v loop to ops (behind m c) columns in
+    let few = told.turned.apart in
+    let small : 2 ^ 20 + v * s < 2 ^ 32 = ltb-true (2 ^ 20 + v * s) (2 ^ 32) told.turned.small in
     let wide : s * 1 ≤ s * v = mul-le-mul_left s some in
-    let turned : s * v ≡ v * s = omega arith in
-    let lanes = both_true (list_all (is_by_lane loop to) (stores ops)) _ two.1 in (
+    let turned : s * v ≡ v * s = omega arith in (
       and_from (is_small n && is_small (v * s)) (has_entries v loop n c.by)
           (and_from (is_small n) (is_small (v * s)) (lt-ltb n (2 ^ 32) (omega (arith, few, small, wide, turned)))
           (lt-ltb (v * s) (2 ^ 32) (omega (arith, small))))
-          (entries_same v loop (length (stores ops)) n c.by many entries),
-      (both_true (list_all (is_by_lane loop to) (behind m c).front) (are_distinct c.turned) lanes.1).0,
+          (entries_same v loop (length (stores ops)) n c.by told.turned.many entries),
+      told.front_by_lane,
     )

@@ -22,21 +22,6 @@ use Rattle.fast_loops.proofs.LoopLanes.Orders.{parts_same}
 
 -- ---- numbers
 
--- steps of fewer lanes are less wide
-pub less_wide : (v l s : ℕ) → l < v → s * l ≤ v * s
-less_wide v l s lt =
-    let le : l ≤ v = omega (arith, lt) in
-    let most : s * l ≤ s * v = mul-le-mul_left s le in
-    omega (arith, most)
-
--- a whole tile is of words below the number of registers
-pub tile_low : (g m v : ℕ) → g < m / v → 1 ≤ v → g * v < m
-tile_low g m v lt some =
-    let all : v * (m / v) + m % v ≡ m = div-add-mod m v in
-    let next : g + 1 ≤ m / v = omega (arith, lt) in
-    let most : v * (g + 1) ≤ v * (m / v) = mul-le-mul_left v next in
-    omega (arith, all, most, some)
-
 -- an operation that can be done in lanes is not wide
 pub narrow : (v loop : ℕ) (to : Stored) (op : PlainOp) → v ≤ 16 → v * stride loop to.parts < 2 ^ 32 →
     is_by_lane loop to op ≡ true →
@@ -54,12 +39,7 @@ narrow v loop to (MulTable r x table place step) few wide h =
     let low : place_stride loop place ≤ 1 = leb-true (place_stride loop place) 1 (both_true (is_linear place) _ h).1 in
     let most : v * place_stride loop place ≤ v * 1 = mul-le-mul_left v low in
     omega (arith, few, most)
-narrow v loop to (Zero r) few wide h = omega arith
-narrow v loop to (Add r x y) few wide h = omega arith
-narrow v loop to (Sub r x y) few wide h = omega arith
-narrow v loop to (Neg r x) few wide h = omega arith
-narrow v loop to (MulConst r x factor) few wide h = omega arith
-narrow v loop to (Tile r x) few wide h = omega arith
+narrow v loop to op few wide h = omega arith
 
 -- ---- lists
 

@@ -1,5 +1,5 @@
 -- Operations of a round in the order of the text, and in others: those that put, and those that store.
-use Rattle.std.proofs.Common.{◌≡◌, ℕ, ◌+◌, ◌*◌, ◌<◌, true, false, List, [], ◌∷◌, ◌++◌, All, Contains, flat_map, length}
+use Rattle.std.proofs.Common.{◌≡◌, ℕ, ◌+◌, ◌*◌, ◌<◌, ◌≤◌, true, false, List, [], ◌∷◌, ◌++◌, All, Contains, flat_map, length}
 use Rattle.std.proofs.Common.{refl, ap, ◌∙◌, arith, inl, inr, eqb-true, length-append, ⊎_elim}
 use Rattle.std.specs.Prelude.{slice_index, ◌==◌, ◌&&◌, nat_le}
 use Rattle.std.specs.List.{range_with_len}
@@ -27,14 +27,22 @@ use Rattle.fast_loops.specs.LoopLanes.Rounds.{is_store}
 
 -- ---- groups
 
-pub some_lanes : (v : ℕ) → IsLanes v → 0 < v
-some_lanes v h =
+-- what is known of a number of lanes
+pub record AreSome (v : ℕ) : Type 0 where
+  pub some : 2 ≤ v
+  pub few : v ≤ 16
+
+pub are_some : (v : ℕ) → IsLanes v → AreSome v
+are_some v h =
     elim h [
-      | inl two ↦ omega (arith, two)
-      | inr (inl four) ↦ omega (arith, four)
-      | inr (inr (inl eight)) ↦ omega (arith, eight)
-      | inr (inr (inr sixteen)) ↦ omega (arith, sixteen)
+      | inl two ↦ record { some = omega (arith, two); few = omega (arith, two) }
+      | inr (inl four) ↦ record { some = omega (arith, four); few = omega (arith, four) }
+      | inr (inr (inl eight)) ↦ record { some = omega (arith, eight); few = omega (arith, eight) }
+      | inr (inr (inr sixteen)) ↦ record { some = omega (arith, sixteen); few = omega (arith, sixteen) }
     ]
+
+pub some_lanes : (v : ℕ) → IsLanes v → 0 < v
+some_lanes v h = let two = (are_some v h).some in omega (arith, two)
 
 -- the steps of a round fit
 pub group_fits : (v : ℕ) (p : PlainProgram) (ops : List PlainOp) (vs : List ℕ) (b q l : ℕ) → l < v →
@@ -86,14 +94,8 @@ values_stay m memory xs (act ∷ acts) k below =
 
 writes-first : (xs : List ℕ) (act : Action) (acts : List Action) →
     writes_of xs (act ∷ acts) ≡ writes_of xs (act ∷ []) ++ writes_of xs acts
-writes-first xs (actions.Load r address) acts = refl
 writes-first xs (actions.Store address r) acts = refl
-writes-first xs (actions.Zero r) acts = refl
-writes-first xs (actions.Add r x y) acts = refl
-writes-first xs (actions.Sub r x y) acts = refl
-writes-first xs (actions.Neg r x) acts = refl
-writes-first xs (actions.Mul r x factors) acts = refl
-writes-first xs (actions.Tile r x) acts = refl
+writes-first xs act acts = refl
 
 -- operation by operation
 pub writes_split : (p : PlainProgram) (xs : List ℕ) (ops : List PlainOp) (ws : List ℕ) (q : ℕ) →

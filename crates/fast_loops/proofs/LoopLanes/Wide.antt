@@ -43,9 +43,7 @@ deeper least (AndParts (Var depth factor) rest) vs x y q h below =
     ap₂ with_part
     (ap (λ n. alone (n * factor)) (elsewhere vs x y depth (λ e. omega (arith, e, two.0, below))))
     (deeper (depth + 1) rest vs x y q two.1 (omega (arith, two.0, below)))
-deeper least (AndParts (Product outer inner other) rest) vs x y q h below = wrong h
-deeper least (AndParts (Rem of divisor other) rest) vs x y q h below = wrong h
-deeper least (AndParts (Quot of divisor other) rest) vs x y q h below = wrong h
+deeper least (AndParts _ rest) vs x y q h below = wrong h
 
 -- parts of the wide step are those of its first round
 widened-numbers : (v least : ℕ) (parts : PlainParts) (vs : List ℕ) (b q : ℕ) → are_linear least parts ≡ true →
@@ -76,9 +74,7 @@ widened-numbers v least (AndParts (Var depth factor) rest) vs b q h =
         ap (λ n. n * (v * factor)) (ap (slice_index (vs ++ b ∷ [])) same ∙ here vs b)
         ∙ sym (mul_assoc b v factor)
         ∙ ap (λ n. n * factor) (mul_comm b v ∙ sym (ap (slice_index (vs ++ (v * b) ∷ [])) same ∙ here vs (v * b)))
-widened-numbers v least (AndParts (Product outer inner other) rest) vs b q h = wrong h
-widened-numbers v least (AndParts (Rem of divisor other) rest) vs b q h = wrong h
-widened-numbers v least (AndParts (Quot of divisor other) rest) vs b q h = wrong h
+widened-numbers v least (AndParts _ rest) vs b q h = wrong h
 
 -- a place of the wide step is that of its first round
 pub widened_value : (v loop : ℕ) (place : PlainExpr) (vs : List ℕ) (b q : ℕ) →
@@ -87,11 +83,6 @@ pub widened_value : (v loop : ℕ) (place : PlainExpr) (vs : List ℕ) (b q : �
 widened_value v loop (Sum constant parts) vs b q h deep =
     ap (λ l. with_sum constant (parts_numbers (widened_parts v l parts) (vs ++ b ∷ []) q)) (sym deep)
     ∙ ap (with_sum constant) (widened-numbers v 0 parts vs b q h)
-
-pub widened_peak : (v loop : ℕ) (place : PlainExpr) (vs : List ℕ) (b q : ℕ) →
-    is_linear place ≡ true → length vs ≡ loop →
-    (sum_numbers (widened v loop place) (vs ++ b ∷ []) q).peak ≡ (sum_numbers place (vs ++ (v * b) ∷ []) q).peak
-widened_peak v loop place vs b q h deep = ap (λ n. n.peak) (widened_value v loop place vs b q h deep)
 
 -- ---- rounds behind the first
 
@@ -149,9 +140,7 @@ peak-grows least (AndParts (Var depth factor) rest) vs x y q h le =
     let one : factor * slice_index (vs ++ x ∷ []) depth ≤ factor * slice_index (vs ++ y ∷ []) depth =
     mul-le-mul_left factor (grows vs x y depth le) in
     omega (arith, more, one)
-peak-grows least (AndParts (Product outer inner other) rest) vs x y q h le = wrong h
-peak-grows least (AndParts (Rem of divisor other) rest) vs x y q h le = wrong h
-peak-grows least (AndParts (Quot of divisor other) rest) vs x y q h le = wrong h
+peak-grows least (AndParts _ rest) vs x y q h le = wrong h
 
 -- ---- a place of the wide step that is moved by strides is that of a round behind the first
 
