@@ -10,7 +10,6 @@ use Rattle.icode.specs.Machine.{Local, effects}
 use Rattle.icode.specs.Plain.{PlainOp, PlainProgram}
 use Rattle.icode.proofs.Bools.{both_true}
 use Rattle.icode.specs.CodeLaws.Lanes.{lane_of}
-use Rattle.icode.proofs.CodeLaws.ByLane.{lists_follow}
 use Rattle.icode.proofs.CodeLaws.Stores.{length-registers}
 use Rattle.fast_loops.specs.Places.{are_linear, stride}
 use Rattle.fast_loops.specs.Rounds.{Stored, are_fresh}
@@ -31,7 +30,7 @@ use Rattle.fast_loops.proofs.LoopLanes.Parted.{length-stored_registers, stored_l
 use Rattle.fast_loops.proofs.LoopLanes.Renumbered.{renumbered_is, renumbered_apart, renumbered_at}
 use Rattle.fast_loops.proofs.LoopLanes.RoundWrites.{acts_in, acts-append, others_values, values_follow, products_low}
 use Rattle.fast_loops.proofs.LoopLanes.RoundWrites.{products_put, writes_in_order}
-use Rattle.fast_loops.proofs.LoopLanes.Tiled.{Leave, AreLinearBy, stored_in, write_in, wide_acts, wide-append, tile_ops}
+use Rattle.fast_loops.proofs.LoopLanes.Tiled.{Leave, AreLinearBy, stored_in, write_in, wide_acts, wide_follow, tile_ops}
 use Rattle.fast_loops.proofs.LoopLanes.Tiled.{in_tiles}
 use Rattle.fast_loops.proofs.LoopLanes.Turned.{by_rounds, by_tiles, turned_after}
 
@@ -229,9 +228,7 @@ module _ (v : ℕ) (p : PlainProgram) (to : Stored) (ops : List PlainOp) (vs : L
 
       leaves : memory_by p.modulus v (wide_acts v p to vs b q (front ++ tiles)) r memory ≡ written memory done
       leaves =
-          ap (λ acts. memory_by p.modulus v acts r memory) (wide-append v p to vs b q front tiles)
-          ∙ ap (λ (z : Local). z.memory)
-          (lists_follow p.modulus v (wide_acts v p to vs b q front) (wide_acts v p to vs b q tiles) begun)
+          ap (λ (z : Local). z.memory) (wide_follow v p to vs b q front tiles begun)
           ∙ left.memory
           ∙ ap (λ words. written words done) held.memory
 

@@ -23,7 +23,7 @@ use Rattle.fast_loops.specs.LoopLanes.Columns.{renumbered_op}
 use Rattle.fast_loops.specs.LoopLanes.Layers.{group_at, on_lanes}
 use Rattle.fast_loops.proofs.LoopLanes.Covered.{IsCovered, IsInGroup, in_group, group}
 use Rattle.fast_loops.proofs.LoopLanes.Orders.{parts_same}
-use Rattle.fast_loops.proofs.LoopLanes.Wide.{widened_value, lane_value}
+use Rattle.fast_loops.proofs.LoopLanes.Wide.{widened_value, wide_value}
 
 -- ---- factors
 
@@ -94,13 +94,6 @@ module _ (v : ℕ) (p : PlainProgram) (ops : List PlainOp) (vs : List ℕ) (b q 
   abbrev wide_place : PlainExpr → ℕ
   wide_place place = (sum_numbers (widened v loop place) (vs ++ b ∷ []) q).value
 
-  -- the place in a round, from that of the wide step
-  place_in : (place : PlainExpr) (l : ℕ) → is_linear place ≡ true →
-      (sum_numbers place (vs ++ (v * b + l) ∷ []) q).value ≡ wide_place place + place_stride loop place * l
-  place_in place l linear =
-      lane_value loop place vs (v * b) l q linear refl
-      ∙ ap (λ n. n.value + place_stride loop place * l) (sym (widened_value v loop place vs b q linear refl))
-
   peak_in : (place : PlainExpr) → is_linear place ≡ true →
       (sum_numbers place (vs ++ (v * b + 0) ∷ []) q).peak < 2 ^ 64 →
       (sum_numbers (widened v loop place) (vs ++ b ∷ []) q).peak < 2 ^ 64
@@ -114,7 +107,7 @@ module _ (v : ℕ) (p : PlainProgram) (ops : List PlainOp) (vs : List ℕ) (b q 
       (sum_numbers place (vs ++ (v * b + l) ∷ []) q).value ≡ wide_place place + l
   place_by_one place l linear unit =
       let far : place_stride loop place * l ≡ 1 * l = ap (λ s. s * l) unit in
-      omega (arith, place_in place l linear, far)
+      omega (arith, wide_value v place vs b l q linear, far)
 
   -- they end within the array
   ends_within : (place : PlainExpr) (room : ℕ) → is_linear place ≡ true → place_stride loop place ≡ 1 →
@@ -209,13 +202,14 @@ module _ (v : ℕ) (p : PlainProgram) (ops : List PlainOp) (vs : List ℕ) (b q 
           numbers = peak_in place linear (old.fits 0 some).numbers;
           place =
               reached (at (v - 1)) (wide_place place + place_stride loop place * (v - 1)) step p.lanes
-              (length entries) (place_in place (v - 1) linear) end;
+              (length entries) (wide_value v place vs b (v - 1) q linear) end;
           registers = low_two r x (old.fits 0 some).registers;
           factors =
               factors_fit p.modulus v
               (λ lane. slice_index entries (wide_place place + place_stride loop place * lane))
               (omega (arith, first))
-              (λ l lt. subst (λ i. slice_index entries i < p.modulus) (place_in place l linear) (entry l lt));
+              (λ l lt.
+              subst (λ i. slice_index entries i < p.modulus) (wide_value v place vs b l q linear) (entry l lt));
         })
       where
         reached : (a wide step lanes room : ℕ) → a ≡ wide → a + step * (lanes - 1) + 1 ≤ room → wide + 1 ≤ room

@@ -30,7 +30,7 @@ use Rattle.fast_loops.specs.LoopLanes.Columns.{renumbered_op}
 use Rattle.fast_loops.specs.LoopLanes.Layers.{on_lanes, steps_at, values_put}
 use Rattle.fast_loops.specs.LoopLanes.Rounds.{straight, is_by_lane, is_store, in_row, place_stride, widened}
 use Rattle.fast_loops.proofs.LoopLanes.Held.{AreHeld, IsFront, HoldsBy, in_lanes, values_in}
-use Rattle.fast_loops.proofs.LoopLanes.Wide.{widened_value, lane_value}
+use Rattle.fast_loops.proofs.LoopLanes.Wide.{wide_value}
 
 -- one more register is held
 more_held : (v : ℕ) (f : ℕ → ℕ) (registers after : List ℕ) (values more : ℕ → List ℕ) (r next : ℕ) (x : ℕ → ℕ) →
@@ -136,12 +136,6 @@ module _ (v : ℕ) (p : PlainProgram) (f : ℕ → ℕ) (vs : List ℕ) (b q : �
   abbrev place_on : PlainExpr → ℕ
   place_on place = (sum_numbers (widened v (length vs) place) (vs ++ b ∷ []) q).value
 
-  pub place_at : (place : PlainExpr) (l : ℕ) → is_linear place ≡ true →
-      place_in place l ≡ place_on place + place_stride (length vs) place * l
-  place_at place l h =
-      lane_value (length vs) place vs (v * b) l q h refl
-      ∙ ap (λ n. n.value + place_stride (length vs) place * l) (sym (widened_value v (length vs) place vs b q h refl))
-
   module _ (to : Stored) (n : ℕ) (alone : p.lanes ≡ 1) (low : (r : ℕ) → r < n → f r < 3 * p.regs)
       (apart : (r k : ℕ) → r < n → k < n → f r ≡ f k → r ≡ k) where
     abbrev IsWide : Local → Type 0
@@ -228,7 +222,7 @@ module _ (v : ℕ) (p : PlainProgram) (f : ℕ → ℕ) (vs : List ℕ) (b q : �
         let one = eqb-true (place_stride (length vs) place) 1 more.1 in
         load_held memory s values r next (start + place_on place) (λ l. start + place_in place l)
         (eqb-true r next fresh) inside room
-        (λ l below. one_on start (place_on place) l (place_in place l) _ one (place_at place l more.0))
+        (λ l below. one_on start (place_on place) l (place_in place l) _ one (wide_value v place vs b l q more.0))
         (λ l below. same l (start + place_in place l) below (Contains-head _ [])) h
       where
         one_on : (start first l value stride : ℕ) → stride ≡ 1 → value ≡ first + stride * l →
@@ -278,7 +272,7 @@ module _ (v : ℕ) (p : PlainProgram) (f : ℕ → ℕ) (vs : List ℕ) (b q : �
         product_held memory s values r x next
         (λ lane. slice_index entries (place_on place + place_stride (length vs) place * lane))
         (λ l lane. slice_index entries (place_in place l + step * lane)) is.0 is.1 inside room h
-        (λ l below. ap (slice_index entries) (sym (place_at place l two.0) ∙ none_more _ step))
+        (λ l below. ap (slice_index entries) (sym (wide_value v place vs b l q two.0) ∙ none_more _ step))
       where
         none_more : (a c : ℕ) → a ≡ a + c * 0
         none_more a c = omega arith

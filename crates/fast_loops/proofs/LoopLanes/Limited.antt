@@ -55,27 +55,11 @@ module _ (v loop : ℕ) (some : 2 ≤ v) where
             (ap (λ s. is_small (v * s)) (sym (passed depth loop factor (stride loop rest) other))
             ∙ small) ranked.1))
       ]
-  parts-within n least (AndParts (Proc factor) rest) small h =
-      let two = and_parts (is_part_within (Proc factor) n) _ h in
-      let ranked = and_parts (nat_le least 0) _ two.1 in
-      and_from (is_part_within (Proc factor) n) _ two.0
-      (and_from (nat_le least 0) _ ranked.0 (parts-within n 1 rest small ranked.1))
-  parts-within n least (AndParts (Product outer inner factor) rest) small h =
-      let two = and_parts (is_part_within (Product outer inner factor) n) _ h in
-      let ranked = and_parts (nat_le least (rank (Product outer inner factor))) _ two.1 in
-      and_from (is_part_within (Product outer inner factor) n) _ two.0
-      (and_from (nat_le least (rank (Product outer inner factor))) _ ranked.0
-      (parts-within n (next_rank (Product outer inner factor)) rest small ranked.1))
-  parts-within n least (AndParts (Rem of divisor factor) rest) small h =
-      let two = and_parts (is_part_within (Rem of divisor factor) n) _ h in
-      let ranked = and_parts (nat_le least 5000) _ two.1 in
-      and_from (is_part_within (Rem of divisor factor) n) _ two.0
-      (and_from (nat_le least 5000) _ ranked.0 (parts-within n 5000 rest small ranked.1))
-  parts-within n least (AndParts (Quot of divisor factor) rest) small h =
-      let two = and_parts (is_part_within (Quot of divisor factor) n) _ h in
-      let ranked = and_parts (nat_le least 5001) _ two.1 in
-      and_from (is_part_within (Quot of divisor factor) n) _ two.0
-      (and_from (nat_le least 5001) _ ranked.0 (parts-within n 5001 rest small ranked.1))
+  parts-within n least (AndParts part rest) small h =
+      let two = and_parts (is_part_within part n) _ h in
+      let ranked = and_parts (nat_le least (rank part)) _ two.1 in
+      and_from (is_part_within part n) _ two.0
+      (and_from (nat_le least (rank part)) _ ranked.0 (parts-within n (next_rank part) rest small ranked.1))
 
   parts-count : (parts : PlainParts) → all_parts (widened_parts v loop parts) ≡ all_parts parts
   parts-count NoParts = refl

@@ -23,14 +23,16 @@ use Rattle.fast_loops.specs.LoopLanes.Columns.{Columns, Factors, renumbered, ren
 use Rattle.fast_loops.specs.LoopLanes.Loads.{Loaded, behind, load_tiles}
 use Rattle.fast_loops.specs.LoopLanes.Lanes.{IsLanes, can_lane, laned_ops, laned_round, last_count, is_lanable}
 use Rattle.fast_loops.specs.LoopLanes.Lanes.{are_lanable, narrowed, laned_nest, laned_body}
+use Rattle.fast_loops.proofs.LoopLanes.Arrays.{step_before}
 use Rattle.fast_loops.proofs.LoopLanes.Everywhere.{all_lanes, all_rows, all_loads, all_columns}
 use Rattle.fast_loops.proofs.LoopLanes.Limited.{StaysSmall, op-within, place-within, small-less}
 use Rattle.fast_loops.proofs.LoopLanes.LoadsTold.{IsRow, of_good_kinds, loads_each}
 use Rattle.fast_loops.proofs.LoopLanes.Nests.{straight-is}
+use Rattle.fast_loops.proofs.LoopLanes.Made.{tile_within}
 use Rattle.fast_loops.proofs.LoopLanes.Orders.{AreSome, are_some}
 use Rattle.fast_loops.proofs.LoopLanes.Parts.{IsOther, stored_each}
 use Rattle.fast_loops.proofs.LoopLanes.Renumbered.{renumbered_is}
-use Rattle.fast_loops.proofs.LoopLanes.Tests.{AreGood, AreMultiplied, tile_within}
+use Rattle.fast_loops.proofs.LoopLanes.Tests.{AreGood, AreMultiplied}
 use Rattle.fast_loops.proofs.LoopLanes.Wide.{moved}
 
 -- ---- straight statements
@@ -76,11 +78,7 @@ module _ (m v loop n regs : ℕ) (to : Stored) (ops : List PlainOp) (lanes : Are
   -- a place that is moved by fewer strides than there are lanes
   moved_far : (s l : ℕ) → l < v → s * l + s ≤ v * s
   moved_far s l lt =
-      let next : l + 1 ≤ v = omega (arith, lt) in
-      let steps : s * (l + 1) ≤ s * v = mul-le-mul_left s next in
-      let out : s * (l + 1) ≡ s * l + s = omega arith in
-      let turned : s * v ≡ v * s = omega arith in
-      omega (arith, steps, out, turned)
+      let step = step_before s l v lt in let turned : s * v ≡ v * s = omega arith in omega (arith, step, turned)
 
   module _ (c : Columns) (tests : AreGood v loop to ops c) where
     abbrev many : ℕ

@@ -3,7 +3,6 @@ use Rattle.std.proofs.Common.{◌≡◌, ℕ, ◌+◌, ◌*◌, ◌<◌, ◌≤�
 use Rattle.std.proofs.Common.{arith, subst}
 use Rattle.std.specs.List.{list_all}
 use Rattle.std.proofs.lemmas.List.{append_assoc}
-use Rattle.icode.proofs.CodeLaws.ByLane.{lists_follow}
 use Rattle.icode.proofs.CodeLaws.Stores.{length-registers}
 use Rattle.icode.specs.Machine.{Local, effects}
 use Rattle.icode.specs.Plain.{PlainOp, PlainProgram}
@@ -24,7 +23,7 @@ use Rattle.fast_loops.proofs.LoopLanes.LoadsTold.{IsLoaded, of_loaded, front_man
 use Rattle.fast_loops.proofs.LoopLanes.Orders.{some_lanes}
 use Rattle.fast_loops.proofs.LoopLanes.RoundWrites.{acts_in}
 use Rattle.fast_loops.proofs.LoopLanes.RowsAre.{held_same}
-use Rattle.fast_loops.proofs.LoopLanes.Tiled.{AreLinearBy, wide_acts, wide-append}
+use Rattle.fast_loops.proofs.LoopLanes.Tiled.{AreLinearBy, wide_acts, wide_follow}
 
 module _ (v : ℕ) (p : PlainProgram) (to : Stored) (ops : List PlainOp) (vs : List ℕ) (b q : ℕ)
     (group : IsGroup v p to ops vs b q) (c : Columns) (from : Loaded) (m : ℕ)
@@ -79,8 +78,7 @@ module _ (v : ℕ) (p : PlainProgram) (to : Stored) (ops : List PlainOp) (vs : L
       (row_held v p from vs b q m known.first.linear f (λ r low. row_stays p.regs m c.turned r known.high low)
       s first rows) in
       let split : effects p.modulus v (wide_acts v p to vs b q (loads ++ others)) s ≡ last =
-      ap (λ acts. effects p.modulus v acts s) (wide-append v p to vs b q loads others)
-      ∙ lists_follow p.modulus v (wide_acts v p to vs b q loads) (wide_acts v p to vs b q others) s in
+      wide_follow v p to vs b q loads others s in
       let held : AreHeld v f last.registers (values_in v p s.memory c.front vs b q) (m + length rest) =
       held_same v f last.registers
       (λ l. values_put p.modulus s.memory (row_in v p from vs b q m s.memory l) (acts_in p (round_at l) q rest))

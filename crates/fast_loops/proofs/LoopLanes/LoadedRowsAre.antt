@@ -8,7 +8,6 @@ use Rattle.std.proofs.lemmas.List.Elements.{All-tail}
 use Rattle.icode.specs.Actions.{Step, StepFits, step_of}
 use Rattle.icode.specs.Machine.{Local, effects}
 use Rattle.icode.specs.Plain.{PlainOp, PlainProgram, Sum, Load}
-use Rattle.icode.proofs.CodeLaws.ByLane.{lists_follow}
 use Rattle.icode.proofs.CodeLaws.Stores.{length-registers}
 use Rattle.fast_loops.specs.Rounds.{Stored}
 use Rattle.fast_loops.specs.LoopLanes.Layers.{IsGroup, LeaveWrites, memory_by, steps_at, values_put, written}
@@ -23,7 +22,7 @@ use Rattle.fast_loops.proofs.LoopLanes.Orders.{group_fits, some_lanes}
 use Rattle.fast_loops.proofs.LoopLanes.RoundWrites.{acts_in}
 use Rattle.fast_loops.proofs.LoopLanes.RowHeld.{row_in, values_first, row_held}
 use Rattle.fast_loops.proofs.LoopLanes.RowsAre.{lane_writes, no_writes, rows_from, rows_in_lanes, rows_after}
-use Rattle.fast_loops.proofs.LoopLanes.Tiled.{wide_acts, wide-append}
+use Rattle.fast_loops.proofs.LoopLanes.Tiled.{wide_acts, wide_follow}
 
 -- ---- what is behind a row
 
@@ -108,9 +107,7 @@ module _ (v : ℕ) (p : PlainProgram) (to : Stored) (ops : List PlainOp) (vs : L
         alike = λ k outside. ap (λ ws. slice_index ws k) rows.memory;
         held = row_held v p from vs b q m known.first.linear keep (λ r low. refl) begun first rows;
       }) in
-      ap (λ acts. memory_by p.modulus v acts r memory) (wide-append v p to vs b q loads wide)
-      ∙ ap (λ (z : Local). z.memory)
-      (lists_follow p.modulus v (wide_acts v p to vs b q loads) (wide_acts v p to vs b q wide) begun)
+      ap (λ (z : Local). z.memory) (wide_follow v p to vs b q loads wide begun)
       ∙ ap (λ new. (effects p.modulus v (wide_acts v p to vs b q new) first).memory) (rows_in_lanes v (length vs) rest)
       ∙ is
       ∙ ap (λ words. written words (lane_writes v p keep vs b q (values_behind memory) rest)) rows.memory

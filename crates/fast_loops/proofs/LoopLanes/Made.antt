@@ -4,7 +4,7 @@ use Rattle.std.proofs.Common.{◌++◌, Option, Some, None, map, flat_map, lengt
 use Rattle.std.proofs.Common.{add-one, drop-cons, drop, get_or, eqb-true, leb-true, mul-le-mul_left}
 use Rattle.std.specs.Prelude.{not, ◌&&◌, ◌==◌, nat_le, if◌then◌else◌}
 use Rattle.std.specs.List.{list_all, range_with_len}
-use Rattle.std.proofs.Math.Nat.{div-add-mod}
+use Rattle.std.proofs.Math.Nat.{div-mul-le_self}
 use Rattle.std.proofs.lemmas.List.{append_assoc, drop_all}
 use Rattle.std.proofs.lemmas.List.Concat.{flat_map-append}
 use Rattle.icode.specs.declared.program.Op.{Op}
@@ -18,16 +18,31 @@ use Rattle.fast_loops.proofs.Linear.{wrong}
 use Rattle.fast_loops.specs.LoopLanes.Rounds.{straight, place_stride, is_by_lane}
 use Rattle.fast_loops.specs.LoopLanes.View.{stride_in, plain_ops}
 use Rattle.fast_loops.specs.LoopLanes.Lanes.{laned_nest, laned_body}
+use Rattle.fast_loops.proofs.LoopLanes.Arrays.{step_before}
 use Rattle.fast_loops.proofs.LoopLanes.Orders.{parts_same}
 
 -- ---- numbers
+
+-- a tile more does not go past the last
+pub tile_within : (g v m : ℕ) → g < m / v → g * v + v ≤ m
+tile_within g v m lt =
+    let whole : m / v * v ≤ m = div-mul-le_self m v in
+    let step = step_before v g (m / v) lt in
+    let turned : v * (m / v) ≡ m / v * v = omega arith in
+    let same : v * g ≡ g * v = omega arith in
+    omega (arith, whole, step, turned, same)
+
+-- a whole tile is of words below the number of registers
+pub tile_low : (g m v : ℕ) → g < m / v → 1 ≤ v → g * v < m
+tile_low g m v lt some = let within = tile_within g v m lt in omega (arith, within, some)
 
 -- an operation that can be done in lanes is not wide
 pub narrow : (v loop : ℕ) (to : Stored) (op : PlainOp) → v ≤ 16 → v * stride loop to.parts < 2 ^ 32 →
     is_by_lane loop to op ≡ true →
     v * stride_in loop op < 2 ^ 64
 narrow v loop to (Load r array place) few wide h =
-    let two = both_true (is_linear place) (place_stride loop place == 1) (both_true (not (same_array array to.array)) _ h).1 in
+    let two =
+    both_true (is_linear place) (place_stride loop place == 1) (both_true (not (same_array array to.array)) _ h).1 in
     let one : place_stride loop place ≡ 1 = eqb-true (place_stride loop place) 1 two.1 in
     let same : v * place_stride loop place ≡ v * 1 = ap (λ s. v * s) one in
     omega (arith, few, same)
@@ -97,4 +112,6 @@ grown f n start front before now e h =
     e
     ∙ ap (λ (xs : List PlainOp). xs ++ f n) h
     ∙ append_assoc start (front ++ flat_map f (range_with_len 0 n)) (f n)
-    ∙ ap (λ (xs : List PlainOp). start ++ xs) (append_assoc front (flat_map f (range_with_len 0 n)) (f n) ∙ ap (λ (xs : List PlainOp). front ++ xs) (sym (row_more f n)))
+    ∙ ap (λ (xs : List PlainOp). start ++ xs)
+    (append_assoc front (flat_map f (range_with_len 0 n)) (f n)
+    ∙ ap (λ (xs : List PlainOp). front ++ xs) (sym (row_more f n)))

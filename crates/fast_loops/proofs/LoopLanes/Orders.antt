@@ -1,6 +1,6 @@
 -- Operations of a round in the order of the text, and in others: those that put, and those that store.
-use Rattle.std.proofs.Common.{◌≡◌, ℕ, ◌+◌, ◌*◌, ◌<◌, ◌≤◌, true, false, List, [], ◌∷◌, ◌++◌, All, Contains, flat_map, length}
-use Rattle.std.proofs.Common.{refl, ap, ◌∙◌, arith, inl, inr, eqb-true, length-append, ⊎_elim}
+use Rattle.std.proofs.Common.{◌≡◌, ℕ, ◌+◌, ◌*◌, ◌<◌, ◌≤◌, true, false, List, [], ◌∷◌, ◌++◌, All, Contains, flat_map}
+use Rattle.std.proofs.Common.{length, refl, ap, ◌∙◌, arith, inl, inr, eqb-true, length-append, ⊎_elim}
 use Rattle.std.specs.Prelude.{slice_index, ◌==◌, ◌&&◌, nat_le}
 use Rattle.std.specs.List.{range_with_len}
 use Rattle.std.proofs.lemmas.Bool.{true≢false}

@@ -28,10 +28,11 @@ use Rattle.fast_loops.proofs.LoopLanes.Everywhere.{all_lanes, all_rows, all_load
 use Rattle.fast_loops.proofs.LoopLanes.FrontCovered.{AreLow, front_covered}
 use Rattle.fast_loops.proofs.LoopLanes.LoadedRowsAre.{row_few}
 use Rattle.fast_loops.proofs.LoopLanes.LoadsTold.{IsRow, AreLoadedRows, of_good_kinds, loads_each, front_many}
+use Rattle.fast_loops.proofs.LoopLanes.Made.{tile_within}
 use Rattle.fast_loops.proofs.LoopLanes.Orders.{are_some, some_lanes}
 use Rattle.fast_loops.proofs.LoopLanes.Parts.{IsOther, stored_each}
 use Rattle.fast_loops.proofs.LoopLanes.Renumbered.{renumbered_is}
-use Rattle.fast_loops.proofs.LoopLanes.Tests.{AreGood, AreMultiplied, tile_within}
+use Rattle.fast_loops.proofs.LoopLanes.Tests.{AreGood, AreMultiplied}
 use Rattle.fast_loops.proofs.LoopLanes.TilesCovered.{IsStored, tile_covered, row_covered, product_covered, load_covered}
 use Rattle.fast_loops.proofs.LoopLanes.Writes.{order_is_free}
 

@@ -33,6 +33,7 @@ use Rattle.fast_loops.proofs.LoopLanes.FrontHeld as lanes
 use Rattle.fast_loops.proofs.LoopLanes.FrontHeld.{put_next}
 use Rattle.fast_loops.proofs.LoopLanes.Orders.{group_fits, register_low, writes_split, members_turned, values_stay}
 use Rattle.fast_loops.proofs.LoopLanes.Orders.{parts_same, some_lanes}
+use Rattle.fast_loops.proofs.LoopLanes.Wide.{wide_value}
 use Rattle.fast_loops.proofs.LoopLanes.Writes.{written-append}
 
 -- ---- what a store writes
@@ -129,7 +130,7 @@ module _ (v : ℕ) (p : PlainProgram) (f : ℕ → ℕ) (vs : List ℕ) (b q : �
     store_at : (array : Array) (constant : ℕ) (parts : PlainParts) (l : ℕ) → parts ≡ to.parts →
         store_in array constant parts l ≡ store_on array constant parts + l
     store_at array constant parts l by =
-        let is = lanes.place_at v p f vs b q (Sum constant parts) l (ap (are_linear 0) by ∙ linear) in
+        let is = wide_value v (Sum constant parts) vs b l q (ap (are_linear 0) by ∙ linear) in
         let far : stride (length vs) parts * l ≡ 1 * l = ap (λ s. s * l) (ap (stride (length vs)) by ∙ one) in
         omega (arith, is, far)
 

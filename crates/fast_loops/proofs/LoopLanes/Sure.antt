@@ -5,7 +5,8 @@ use Rattle.std.proofs.Common.{eqb-true, leb-true, mul-le-mul_left}
 use Rattle.std.specs.Prelude.{◌==◌, nat_le, slice_index}
 use Rattle.std.specs.List.{list_all, range_with_len}
 use Rattle.std.proofs.lemmas.Bool.{or_cases, cases_order}
-use Rattle.std.proofs.lemmas.List.Elements.{Contains-append_cases}
+use Rattle.std.proofs.lemmas.List.Elements.{All-get_or}
+use Rattle.std.proofs.lemmas.List.Sums.{AllPass-from_list_all}
 use Rattle.icode.specs.Plain.{PlainOp, PlainProgram, Sum, Load, Store, Zero, Add, Sub, Neg, MulConst, MulTable, Tile}
 use Rattle.icode.proofs.Bools.{both_true}
 use Rattle.icode.proofs.Lines.{Contains-nil}
@@ -18,6 +19,7 @@ use Rattle.fast_loops.specs.LoopLanes.Lanes.{can_lane}
 use Rattle.fast_loops.specs.LoopLanes.Loads.{behind, are_loaded}
 use Rattle.fast_loops.specs.LoopLanes.Layers.{Write, GroupsAreSure, round_writes, group_writes}
 use Rattle.fast_loops.proofs.Changes.{of-loop}
+use Rattle.fast_loops.proofs.LoopLanes.Arrays.{step_before}
 use Rattle.fast_loops.proofs.LoopLanes.ColumnsAre.{columns_told}
 use Rattle.fast_loops.proofs.LoopLanes.Held.{values_in}
 use Rattle.fast_loops.proofs.LoopLanes.Kinds.{of_kinds}
@@ -54,10 +56,8 @@ store_of base zs (c ∷ cs) (r ∷ rs) w (suc k, lt, e) =
 
 passes-at : (test : ℕ → Bool) (ks : List ℕ) (i : ℕ) →
     list_all test ks ≡ true → i < length ks → test (slice_index ks i) ≡ true
-passes-at test [] i all below = absurd (omega (arith, below))
-passes-at test (k ∷ ks) zero all below = (both_true (test k) (list_all test ks) all).0
-passes-at test (k ∷ ks) (suc i) all below =
-    passes-at test ks i (both_true (test k) (list_all test ks) all).1 (omega (arith, below))
+passes-at test ks i all below =
+    All-get_or (λ k. test k ≡ true) ks i 0 below (AllPass-from_list_all test ks all)
 
 clear : (v a b : ℕ) → is_clear v a b ≡ true → (a + v ≤ b) ⊎ (b + v ≤ a)
 clear v a b h =
@@ -105,10 +105,7 @@ rows-spread v cs all l k i j low lower i_low j_low same =
 
 apart : (s l k i j : ℕ) → l < k → i < s → s * l + i ≡ s * k + j → ⊥
 apart s l k i j less low same =
-    let next : l + 1 ≤ k = omega (arith, less) in
-    let steps : s * (l + 1) ≤ s * k = mul-le-mul_left s next in
-    let out : s * (l + 1) ≡ s * l + s = omega arith in
-    omega (arith, steps, out, low, same)
+    let step = step_before s l k less in omega (arith, step, low, same)
 
 columns-spread : (v s : ℕ) (cs : List ℕ) → are_from 0 cs ≡ true → length cs ≤ s → AreSpread v s cs
 columns-spread v s cs all few l k i j low lower i_low j_low same =

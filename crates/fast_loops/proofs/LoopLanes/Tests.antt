@@ -1,8 +1,7 @@
 -- What the tests of a round that can be laned tell of it.
 use Rattle.std.proofs.Common.{◌≡◌, ℕ, ◌+◌, ◌*◌, ◌/◌, ◌<◌, ◌≤◌, true, not, List, All, Contains, Option, Some, None}
-use Rattle.std.proofs.Common.{length, arith, mul-le-mul_left}
+use Rattle.std.proofs.Common.{length, arith}
 use Rattle.std.specs.Prelude.{◌&&◌}
-use Rattle.std.proofs.Math.Nat.{div-mul-le_self}
 use Rattle.std.proofs.lemmas.List.{length-take}
 use Rattle.std.proofs.lemmas.List.Elements.{All-filter, All-take, All-drop}
 use Rattle.icode.specs.Limits.{is_small}
@@ -86,13 +85,3 @@ factored_good v loop to ops h =
       short = factored_short ops;
       factors = multiplied_by v loop ops (first_factors (last_products ops)) two.0;
     }
-
--- a tile more does not go past the last
-pub tile_within : (g v m : ℕ) → g < m / v → g * v + v ≤ m
-tile_within g v m lt =
-    let whole : m / v * v ≤ m = div-mul-le_self m v in
-    let next : g + 1 ≤ m / v = omega (arith, lt) in
-    let more : v * (g + 1) ≤ v * (m / v) = mul-le-mul_left v next in
-    let out : v * (g + 1) ≡ g * v + v = omega arith in
-    let turned : v * (m / v) ≡ m / v * v = omega arith in
-    omega (arith, whole, more, out, turned)

@@ -8,6 +8,7 @@ use Rattle.std.proofs.lemmas.List.Elements.{Contains-append_left, Contains-appen
 use Rattle.icode.proofs.Lines.{Contains-map, Contains-nil, Contains-range}
 use Rattle.fast_loops.specs.LoopLanes.Layers.{Write, IsAfter, written}
 use Rattle.fast_loops.proofs.Changes.{in-loop, of-loop}
+use Rattle.fast_loops.proofs.LoopLanes.Made.{tile_within}
 
 -- ---- items of loops
 
@@ -86,10 +87,7 @@ module _ (v m : ℕ) (w : ℕ → ℕ → Write) where
 
       inside : (g i : ℕ) → g < m / v → i < v → g * v + i < m
       inside g i few below =
-          let next : g + 1 ≤ m / v = omega (arith, few) in
-          let far : v * (g + 1) ≤ v * (m / v) = mul-le-mul_left v next in
-          let out : v * (g + 1) ≡ g * v + v = omega arith in
-          omega (arith, far, out, all, below)
+          let within = tile_within g v m few in omega (arith, within, below)
 
       first : (c : ℕ) → c < m → c / v < m / v
       first c low =

@@ -128,6 +128,14 @@ lane_value loop (Sum constant parts) vs a l q h deep =
     let far : stride (length vs) parts * l ≡ stride loop parts * l = ap (λ d. stride d parts * l) deep in
     omega (arith, is, far)
 
+-- and so it is that of the wide step
+pub wide_value : (v : ℕ) (place : PlainExpr) (vs : List ℕ) (b l q : ℕ) → is_linear place ≡ true →
+    (sum_numbers place (vs ++ (v * b + l) ∷ []) q).value
+    ≡ (sum_numbers (widened v (length vs) place) (vs ++ b ∷ []) q).value + place_stride (length vs) place * l
+wide_value v place vs b l q h =
+    lane_value (length vs) place vs (v * b) l q h refl
+    ∙ ap (λ n. n.value + place_stride (length vs) place * l) (sym (widened_value v (length vs) place vs b q h refl))
+
 peak-grows : (least : ℕ) (parts : PlainParts) (vs : List ℕ) (x y q : ℕ) → are_linear least parts ≡ true → x ≤ y →
     (parts_numbers parts (vs ++ x ∷ []) q).peak ≤ (parts_numbers parts (vs ++ y ∷ []) q).peak
 peak-grows least NoParts vs x y q h le = omega arith
