@@ -1,6 +1,6 @@
 -- What code makes of parts and statements, one after another.
-use Rattle.std.proofs.Common.{◌≡◌, ℕ, zero, suc, ◌<◌, ◌≤◌, List, [], ◌∷◌, ◌++◌, Bool, true, false, Option, None}
-use Rattle.std.proofs.Common.{Vec, Global, flat_map, length, take, map, get_or, refl, sym, ap, ◌∙◌, arith}
+use Rattle.std.proofs.Common.{◌≡◌, ℕ, zero, suc, ◌<◌, ◌≤◌, List, [], ◌∷◌, ◌++◌, Bool, true, false, Option, None, Vec}
+use Rattle.std.proofs.Common.{Global, flat_map, length, take, map, get_or, refl, ap, ◌∙◌, arith}
 use Rattle.std.specs.Prelude.{◌==◌, if◌then◌else◌}
 use Rattle.std.specs.List.{list_all}
 use Rattle.std.proofs.lemmas.List.{take_all}
@@ -8,14 +8,13 @@ use Rattle.icode.specs.declared.program.Part.{Part}
 use Rattle.icode.specs.declared.program.Stmt.{Stmt}
 use Rattle.icode.specs.declared.program.Stmt.TheVariants as stmts
 use Rattle.icode.specs.Limits.{is_stmt_within, is_body_within}
-use Rattle.icode.specs.Plain.{PlainPart, PlainStmt, PlainBody, AndParts, Proc, Var, Product, Rem, Quot, Loop}
-use Rattle.icode.specs.Plain.{Do, NoStmts, AndStmts, parts_of, body_of, plain_part, plain_stmt, plain_body}
+use Rattle.icode.specs.Plain.{PlainPart, PlainStmt, PlainBody, AndParts, Var, Loop, Do, NoStmts, AndStmts, parts_of}
+use Rattle.icode.specs.Plain.{body_of, plain_part, plain_stmt, plain_body}
 use Rattle.icode.proofs.Bools.{both_true}
 use Rattle.icode.proofs.Views.{plain_stmt-Loop}
 use Rattle.fast_loops.specs.Interchange.{counts_in}
 use Rattle.fast_loops.specs.View.{plain_parts}
-use Rattle.fast_loops.specs.JoinedLoops.JoinedLoops.{lifted_depth, lifted_parts, as_one}
-use Rattle.fast_loops.specs.JoinedLoops.JoinedLoops.{joined_stmt, joined_body}
+use Rattle.fast_loops.specs.JoinedLoops.JoinedLoops.{lifted_depth, lifted_parts, as_one, joined_stmt, joined_body}
 use Rattle.fast_loops.specs.JoinedLoops.View.{lifted_part}
 
 -- ---- parts

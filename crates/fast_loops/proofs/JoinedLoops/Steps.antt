@@ -1,22 +1,21 @@
 -- Two loops that are one do the steps that they did.
-use Rattle.std.proofs.Common.{◌≡◌, ℕ, zero, suc, ◌+◌, ◌*◌, Bool, true, false, Some, None, List, [], ◌∷◌, ◌++◌, flat_map}
-use Rattle.std.proofs.Common.{length, refl, sym, ap, ap₂, ◌∙◌, arith, append-nil, append_assoc, length-append}
+use Rattle.std.proofs.Common.{◌≡◌, ℕ, ◌+◌, ◌*◌, Bool, true, false, Some, None, List, [], ◌∷◌, ◌++◌, flat_map, length}
+use Rattle.std.proofs.Common.{refl, sym, ap, ap₂, ◌∙◌, arith, append-nil, append_assoc, length-append}
 use Rattle.std.specs.Prelude.{◌%◌, ◌==◌, ◌&&◌, not, slice_index_or, slice_index, ◌-◌, if◌then◌else◌}
 use Rattle.std.specs.List.{range_with_len}
 use Rattle.std.specs.Option.{unwrap_or}
 use Rattle.std.proofs.Math.Path.{fun_ext}
-use Rattle.std.proofs.lemmas.List.Concat.{flat_map-append}
 use Rattle.icode.specs.declared.program.Array.{Array}
 use Rattle.icode.specs.Actions.{Step, array_start, lane_factors, step_of, steps_of_stmt, steps_of_body}
 use Rattle.icode.specs.declared.action.Action.TheVariants as actions
 use Rattle.icode.specs.Expression.{Numbers}
 use Rattle.icode.specs.Limits.{is_small}
 use Rattle.icode.specs.Machine.{whole_lines}
-use Rattle.icode.specs.Plain.{PlainOp, PlainStmt, PlainBody, PlainProgram, Load, Store, Zero, Add, Sub, Neg, MulConst}
-use Rattle.icode.specs.Plain.{MulTable, Tile, Loop, Do, NoStmts, AndStmts}
+use Rattle.icode.specs.Plain.{PlainOp, PlainStmt, PlainBody, PlainProgram, Load, Store, MulTable, Loop, Do, NoStmts}
+use Rattle.icode.specs.Plain.{AndStmts}
 use Rattle.icode.proofs.Bools.{both_true}
-use Rattle.fast_loops.specs.JoinedLoops.JoinedLoops.{op_goes_on, body_goes_on, lifted_op}
-use Rattle.fast_loops.specs.JoinedLoops.JoinedLoops.{lifted_body, as_one, joined_stmt, joined_body}
+use Rattle.fast_loops.specs.JoinedLoops.JoinedLoops.{op_goes_on, body_goes_on, lifted_op, lifted_body, as_one}
+use Rattle.fast_loops.specs.JoinedLoops.JoinedLoops.{joined_stmt, joined_body}
 use Rattle.fast_loops.proofs.Grouped.{in_groups}
 use Rattle.fast_loops.proofs.JoinedLoops.Numbers.{place_same}
 

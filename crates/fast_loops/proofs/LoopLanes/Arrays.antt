@@ -1,6 +1,6 @@
 -- Words of different arrays.
 use Rattle.std.proofs.Common.{◌≡◌, ◌⊎◌, ℕ, ◌+◌, ◌*◌, ◌<◌, ◌≤◌, true, false, refl, ap, sym, ◌∙◌, arith, inl, inr, eq-eqb}
-use Rattle.std.proofs.Common.{eqb-true, true≢false, mul-le-mul_left}
+use Rattle.std.proofs.Common.{true≢false, mul-le-mul_left}
 use Rattle.std.proofs.lemmas.Bool.{cases_order}
 use Rattle.icode.specs.declared.program.Array.{Array}
 use Rattle.icode.specs.declared.program.Array.TheVariants.{X, Y, A, B}

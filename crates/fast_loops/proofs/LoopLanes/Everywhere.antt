@@ -1,11 +1,13 @@
 -- What holds of each operation of rows, columns and loads of rows holds of all operations that rounds become.
-use Rattle.std.proofs.Common.{◌≡◌, ℕ, zero, suc, ◌+◌, ◌*◌, ◌/◌, ◌<◌, ◌≤◌, true, List, [], ◌∷◌, ◌++◌, All, Contains, map}
-use Rattle.std.proofs.Common.{flat_map, length, sym, subst, arith}
+use Rattle.std.proofs.Common.{◌≡◌, ℕ, ◌+◌, ◌*◌, ◌/◌, ◌<◌, true, List, [], ◌∷◌, All, Contains, map, flat_map, length}
+use Rattle.std.proofs.Common.{sym, subst, arith}
 use Rattle.std.specs.List.{list_all, range_with_len}
+use Rattle.std.proofs.lemmas.List.Concat.{flat_map_single}
 use Rattle.std.proofs.lemmas.List.Elements.{All-nil, All-cons, All-append, All-map, All-contains}
 use Rattle.std.proofs.lemmas.List.Sums.{AllPass-from_list_all}
 use Rattle.icode.specs.Plain.{PlainOp, Store, Tile}
 use Rattle.fast_loops.specs.Rounds.{Stored}
+use Rattle.fast_loops.proofs.Changes.{of-loop}
 use Rattle.fast_loops.proofs.Members.{all_of_members}
 use Rattle.fast_loops.specs.LoopLanes.Rounds.{is_by_lane, in_row}
 use Rattle.fast_loops.specs.LoopLanes.Columns.{Columns, renumbered, renumbered_op, product_at, row_at, tile_at}
@@ -20,23 +22,18 @@ module _ (P : PlainOp → Type 0) where
 
   -- ---- loops
 
-  rounds-from : (f : ℕ → List PlainOp) (a n : ℕ) → ((i : ℕ) → a ≤ i → i < a + n → All P (f i)) →
-      All P (flat_map f (range_with_len a n))
-  rounds-from f a zero each = All-nil P
-  rounds-from f a (suc n) each =
-      All-append P (f a) (flat_map f (range_with_len (a + 1) n)) (each a (omega arith) (omega arith))
-      (rounds-from f (a + 1) n (λ i low high. each i (omega (arith, low)) (omega (arith, high))))
-
   all-rounds : (f : ℕ → List PlainOp) (n : ℕ) → ((i : ℕ) → i < n → All P (f i)) →
       All P (flat_map f (range_with_len 0 n))
-  all-rounds f n each = rounds-from f 0 n (λ i low high. each i (omega (arith, high)))
+  all-rounds f n each =
+      all_of_members P (flat_map f (range_with_len 0 n)) (λ op has.
+      let at = of-loop f 0 n op has in
+      let high = at.high in
+      All-contains P (f at.round) op (each at.round (omega (arith, high))) at.inside)
 
-  items-from : (f : ℕ → PlainOp) (a n : ℕ) → ((i : ℕ) → a ≤ i → i < a + n → P (f i)) →
-      All P (map f (range_with_len a n))
-  items-from f a zero each = All-nil P
-  items-from f a (suc n) each =
-      All-cons P (f a) (map f (range_with_len (a + 1) n)) (each a (omega arith) (omega arith))
-      (items-from f (a + 1) n (λ i low high. each i (omega (arith, low)) (omega (arith, high))))
+  all-items : (f : ℕ → PlainOp) (n : ℕ) → ((i : ℕ) → i < n → P (f i)) → All P (map f (range_with_len 0 n))
+  all-items f n each =
+      subst (All P) (flat_map_single f (range_with_len 0 n))
+      (all-rounds (λ i. f i ∷ []) n (λ i low. one (f i) (each i low)))
 
   -- ---- operations that are done in lanes
 
@@ -67,7 +64,7 @@ module _ (P : PlainOp → Type 0) where
   all_loads v x loop from m loads tiles =
       all-rounds (λ g. load_tile v loop x from (g * v)) (m / v) (λ g there.
       All-append P (map (load_at v loop x from (g * v)) (range_with_len 0 v)) (Tile (g * v) x ∷ [])
-      (items-from (load_at v loop x from (g * v)) 0 v (λ l low high. loads g l there (omega (arith, high))))
+      (all-items (load_at v loop x from (g * v)) v (λ l low. loads g l there low))
       (one (Tile (g * v) x) (tiles g there)))
 
   pub all_columns : (v n loop : ℕ) (to : Stored) (c : Columns) →

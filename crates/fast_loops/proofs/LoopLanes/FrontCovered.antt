@@ -4,8 +4,7 @@ use Rattle.std.proofs.Common.{length, replicate, refl, sym, ap, ◌∙◌, subst
 use Rattle.std.specs.Prelude.{◌==◌, slice_index, slice_index_or}
 use Rattle.std.specs.List.{range_with_len}
 use Rattle.std.proofs.lemmas.List.Elements.{All-append, All-head, All-replicate}
-use Rattle.std.proofs.lemmas.List.FromFn.{get_or-map-range_with_len, length-map-range_with_len, length-range_with_len}
-use Rattle.std.proofs.lemmas.List.FromFn.{get_or-range_with_len}
+use Rattle.std.proofs.lemmas.List.FromFn.{get_or-map-range_with_len, length-map-range_with_len}
 use Rattle.operators.specs.Sum.{list_below}
 use Rattle.icode.specs.declared.program.Array.{Array}
 use Rattle.icode.specs.Actions.{Step, StepFits, array_start, lane_factors, step_of}
@@ -18,6 +17,7 @@ use Rattle.icode.proofs.Lines.{Contains-nil, Contains-range}
 use Rattle.fast_loops.specs.Places.{are_linear, is_linear, stride}
 use Rattle.fast_loops.specs.Rounds.{Stored, same_array}
 use Rattle.fast_loops.proofs.Linear.{wrong}
+use Rattle.fast_loops.proofs.Members.{range_item}
 use Rattle.fast_loops.specs.LoopLanes.Rounds.{widened, place_stride, is_store, is_by_lane, in_row}
 use Rattle.fast_loops.specs.LoopLanes.Columns.{renumbered_op}
 use Rattle.fast_loops.specs.LoopLanes.Layers.{group_at, on_lanes}
@@ -49,16 +49,6 @@ factor_fits m lanes g alone all =
 
 -- ---- words one behind the other
 
-record IsLaneWord (first n k : ℕ) : Type 0 where
-  lane : ℕ
-  low : lane < n
-  there : k ≡ first + lane
-
-lane_word : (first n k : ℕ) → Contains (range_with_len first n) k → IsLaneWord first n k
-lane_word first n k h =
-    let low : h.0 < n = omega (arith, h.1, length-range_with_len first n) in
-    record { lane = h.0; low = low; there = sym h.2 ∙ get_or-range_with_len first n h.0 k low }
-
 -- the word alone
 one_word : (a k : ℕ) → k ≡ a → Contains (range_with_len a 1) k
 one_word a k e = Contains-range 1 a k (omega (arith, e)) (omega (arith, e))
@@ -68,9 +58,10 @@ pub words_of_lanes : (P : ℕ → Type 0) (v first : ℕ) (at : ℕ → ℕ) →
     ((l : ℕ) → l < v → (k : ℕ) → Contains (range_with_len (at l) 1) k → P k) →
     (k : ℕ) → Contains (range_with_len first v) k → P k
 words_of_lanes P v first at is each k h =
-    let word = lane_word first v k h in
-    let there = word.there in
-    each word.lane word.low k (one_word (at word.lane) k (omega (arith, there, is word.lane)))
+    let within = range_item first v k h in
+    let from = within.0 in
+    let l : ℕ = k - first in
+    each l (omega (arith, within.1, from)) k (one_word (at l) k (omega (arith, from, is l)))
 
 -- ---- operations
 

@@ -1,5 +1,5 @@
 -- What v lanes hold of v rounds: in lane l, each register has what it has in round l.
-use Rattle.std.specs.Prelude.{◌≡◌, ℕ, ◌+◌, ◌*◌, ◌<◌, ◌≤◌, true, not, List, [], ◌∷◌, ◌++◌, map, length, slice_index}
+use Rattle.std.specs.Prelude.{◌≡◌, ℕ, ◌+◌, ◌*◌, ◌<◌, true, not, List, [], ◌∷◌, ◌++◌, map, length, slice_index}
 use Rattle.std.specs.List.{list_all}
 use Rattle.icode.specs.Actions.{actions_of}
 use Rattle.icode.specs.Machine.{Local, effects}

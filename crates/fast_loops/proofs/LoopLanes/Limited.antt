@@ -5,8 +5,8 @@ use Rattle.std.specs.Prelude.{◌&&◌, ◌==◌, nat_lt, nat_le, max, if◌then
 use Rattle.std.proofs.lemmas.Bool.{and_parts, and_from, cases_eq}
 use Rattle.icode.specs.Limits.{rank, next_rank, is_small, is_small_positive, is_part_within, are_parts_within}
 use Rattle.icode.specs.Limits.{all_parts, part_parts, parts_depth, part_depth, is_expr_within, is_op_within}
-use Rattle.icode.specs.Plain.{PlainExpr, PlainParts, PlainOp, Sum, NoParts, AndParts, Proc, Var, Product, Rem, Quot}
-use Rattle.icode.specs.Plain.{Load, Store, Zero, Add, Sub, Neg, MulConst, MulTable, Tile}
+use Rattle.icode.specs.Plain.{PlainExpr, PlainParts, PlainOp, Sum, NoParts, AndParts, Var, Load, Store, Zero, Add, Sub}
+use Rattle.icode.specs.Plain.{Neg, MulConst, MulTable, Tile}
 use Rattle.icode.proofs.Bools.{both_true}
 use Rattle.fast_loops.specs.Places.{is_linear, stride}
 use Rattle.fast_loops.specs.Rounds.{Stored, same_array}
@@ -61,27 +61,24 @@ module _ (v loop : ℕ) (some : 2 ≤ v) where
       and_from (is_part_within part n) _ two.0
       (and_from (nat_le least (rank part)) _ ranked.0 (parts-within n (next_rank part) rest small ranked.1))
 
-  parts-count : (parts : PlainParts) → all_parts (widened_parts v loop parts) ≡ all_parts parts
-  parts-count NoParts = refl
-  parts-count (AndParts (Var depth factor) rest) = by_test (depth == loop) (parts-count rest)
+  parts-same : (parts : PlainParts) →
+      (all_parts (widened_parts v loop parts) ≡ all_parts parts)
+      × (parts_depth (widened_parts v loop parts) ≡ parts_depth parts)
+  parts-same NoParts = (refl, refl)
+  parts-same (AndParts (Var depth factor) rest) = by_test (depth == loop) (parts-same rest)
     where
-      by_test : (t : Bool) → all_parts (widened_parts v loop rest) ≡ all_parts rest →
-          all_parts (if t then AndParts (Var depth (v * factor)) rest else AndParts (Var depth factor)
-          (widened_parts v loop rest)) ≡ 1 + all_parts rest
-      by_test true h = refl
-      by_test false h = ap (λ n. 1 + n) h
-  parts-count (AndParts part rest) = ap (λ n. part_parts part + n) (parts-count rest)
+      wide : Bool → PlainParts
+      wide t =
+          if t then AndParts (Var depth (v * factor)) rest else AndParts (Var depth factor) (widened_parts v loop rest)
 
-  parts-depth : (parts : PlainParts) → parts_depth (widened_parts v loop parts) ≡ parts_depth parts
-  parts-depth NoParts = refl
-  parts-depth (AndParts (Var depth factor) rest) = by_test (depth == loop) (parts-depth rest)
-    where
-      by_test : (t : Bool) → parts_depth (widened_parts v loop rest) ≡ parts_depth rest →
-          parts_depth (if t then AndParts (Var depth (v * factor)) rest else AndParts (Var depth factor)
-          (widened_parts v loop rest)) ≡ max 0 (parts_depth rest)
-      by_test true h = refl
-      by_test false h = ap (max 0) h
-  parts-depth (AndParts part rest) = ap (max (part_depth part)) (parts-depth rest)
+      by_test : (t : Bool) →
+          (all_parts (widened_parts v loop rest) ≡ all_parts rest)
+          × (parts_depth (widened_parts v loop rest) ≡ parts_depth rest) →
+          (all_parts (wide t) ≡ 1 + all_parts rest) × (parts_depth (wide t) ≡ max 0 (parts_depth rest))
+      by_test true h = (refl, refl)
+      by_test false h = (ap (λ n. 1 + n) h.0, ap (max 0) h.1)
+  parts-same (AndParts part rest) =
+      let more = parts-same rest in (ap (λ n. part_parts part + n) more.0, ap (max (part_depth part)) more.1)
 
   -- a place of another constant, of a wide step
   pub place-within : (n c constant : ℕ) (parts : PlainParts) → is_expr_within (Sum c parts) n ≡ true →
@@ -90,9 +87,10 @@ module _ (v loop : ℕ) (some : 2 ≤ v) where
   place-within n c constant parts h small wide =
       let two = and_parts (is_small c && are_parts_within parts n 0) _ h in
       let sum = and_parts (is_small c) (are_parts_within parts n 0) two.0 in
+      let same = parts-same parts in
       and_from (is_small constant && are_parts_within (widened_parts v loop parts) n 0) _
       (and_from (is_small constant) _ small (parts-within n 0 parts wide sum.1))
-      (ap₂ (λ k d. nat_le k 64 && nat_le d 64) (parts-count parts) (parts-depth parts) ∙ two.1)
+      (ap₂ (λ k d. nat_le k 64 && nat_le d 64) same.0 same.1 ∙ two.1)
 
   wide-place : (n : ℕ) (place : PlainExpr) → is_expr_within place n ≡ true →
       is_small (v * place_stride loop place) ≡ true →

@@ -1,7 +1,7 @@
 -- Rounds, nests and programs on lanes stand within the limits of programs.
 use Rattle.std.proofs.Common.{◌≡◌, ℕ, zero, suc, ◌+◌, ◌*◌, ◌/◌, ◌%◌, ◌^◌, ◌<◌, ◌≤◌, true, List, [], ◌∷◌, All, Contains}
-use Rattle.std.proofs.Common.{Option, Some, None, map, drop, length, refl, sym, ap, ◌∙◌, subst, arith, eqb-true}
-use Rattle.std.proofs.Common.{ltb-true, lt-ltb, mul-le-mul_left, ⊎_elim}
+use Rattle.std.proofs.Common.{Option, Some, None, map, drop, length, refl, sym, ap, ◌∙◌, arith, eqb-true, ltb-true}
+use Rattle.std.proofs.Common.{lt-ltb, mul-le-mul_left, ⊎_elim}
 use Rattle.std.specs.Prelude.{◌==◌, nat_le, nat_lt}
 use Rattle.std.specs.List.{list_all}
 use Rattle.std.proofs.Math.Nat.{div-add-mod, div-mul-le_self}

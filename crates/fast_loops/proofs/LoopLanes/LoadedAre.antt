@@ -1,8 +1,10 @@
 -- Columns behind the loads of a row leave what v rounds write.
-use Rattle.std.proofs.Common.{◌≡◌, ℕ, ◌+◌, ◌*◌, ◌<◌, ◌≤◌, true, not, List, [], ◌∷◌, ◌++◌, length, drop, sym, ap, ◌∙◌}
-use Rattle.std.proofs.Common.{arith, subst}
+use Rattle.std.proofs.Common.{◌≡◌, ℕ, ◌+◌, ◌*◌, ◌<◌, ◌≤◌, Bool, true, not, List, [], ◌∷◌, ◌++◌, length, drop, sym, ap}
+use Rattle.std.proofs.Common.{◌∙◌, arith, subst}
 use Rattle.std.specs.List.{list_all}
 use Rattle.std.proofs.lemmas.List.{append_assoc}
+use Rattle.std.proofs.lemmas.List.Elements.{All-drop}
+use Rattle.std.proofs.lemmas.List.Sums.{AllPass-from_list_all, list_all-from_AllPass}
 use Rattle.icode.proofs.CodeLaws.Stores.{length-registers}
 use Rattle.icode.specs.Machine.{Local, effects}
 use Rattle.icode.specs.Plain.{PlainOp, PlainProgram}
@@ -16,7 +18,7 @@ use Rattle.fast_loops.proofs.LoopLanes.ColumnsAre.{tiles_of, numbers_low, number
 use Rattle.fast_loops.proofs.LoopLanes.ColumnsAre.{factored_before, factored_stored, factored_linear}
 use Rattle.fast_loops.proofs.LoopLanes.FrontHeld.{front_from}
 use Rattle.fast_loops.proofs.LoopLanes.Held.{AreHeld, HoldsBy, in_lanes, values_in}
-use Rattle.fast_loops.proofs.LoopLanes.LoadedRow.{row_puts, row_stays}
+use Rattle.fast_loops.proofs.LoopLanes.LoadedRow.{row_stays}
 use Rattle.fast_loops.proofs.LoopLanes.LoadsHeld.{rows_held}
 use Rattle.fast_loops.proofs.LoopLanes.RowHeld.{row_in, values_first, row_held}
 use Rattle.fast_loops.proofs.LoopLanes.LoadsTold.{IsLoaded, of_loaded, front_many, lanes_few, rest_fresh}
@@ -57,8 +59,9 @@ module _ (v : ℕ) (p : PlainProgram) (to : Stored) (ops : List PlainOp) (vs : L
 
   puts : list_all (λ op. not (is_store op)) rest ≡ true
   puts =
-      row_puts (λ op. not (is_store op)) from 0 m rest
-      (subst (λ xs. list_all (λ op. not (is_store op)) xs ≡ true) known.first.row before.puts)
+      let test : PlainOp → Bool = λ op. not (is_store op) in
+      list_all-from_AllPass test rest
+      (All-drop (λ op. test op ≡ true) m c.front (AllPass-from_list_all test c.front before.puts))
 
   holds : (s : Local) → 3 * p.regs * v ≤ length s.registers → HoldsBy v p f (loads ++ others) c.front vs b q s
   holds s room =

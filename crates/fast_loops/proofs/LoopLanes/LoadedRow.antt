@@ -1,14 +1,13 @@
 -- The loads of a row: word k of the round, into register k.
-use Rattle.std.proofs.Common.{◌≡◌, ℕ, zero, suc, ◌+◌, ◌<◌, ◌≤◌, Bool, true, false, List, [], ◌∷◌, ◌++◌, map, length}
-use Rattle.std.proofs.Common.{take, drop, refl, sym, ap, ap₂, ◌∙◌, subst, arith, eqb-true, leb-true, append-nil}
-use Rattle.std.proofs.Common.{take-append-drop}
+use Rattle.std.proofs.Common.{◌≡◌, ℕ, zero, suc, ◌+◌, ◌<◌, ◌≤◌, Bool, true, false, List, [], ◌∷◌, ◌++◌, map, take, drop}
+use Rattle.std.proofs.Common.{refl, sym, ap, ap₂, ◌∙◌, subst, arith, eqb-true, leb-true, append-nil, take-append-drop}
 use Rattle.std.specs.Prelude.{◌==◌, slice_index, nat_le, if◌then◌else◌}
 use Rattle.std.specs.List.{list_all, range_with_len}
 use Rattle.std.proofs.lemmas.List.{append_assoc}
 use Rattle.icode.specs.Actions.{array_start}
 use Rattle.icode.specs.Expression.{sum_numbers}
 use Rattle.icode.specs.Machine.{whole_lines}
-use Rattle.icode.specs.Plain.{PlainOp, PlainProgram, Sum, Load, Store, Zero, Add, Sub, Neg, MulConst, MulTable, Tile}
+use Rattle.icode.specs.Plain.{PlainOp, PlainProgram, Sum, Load}
 use Rattle.icode.proofs.Bools.{both_true}
 use Rattle.fast_loops.specs.Places.{same_parts}
 use Rattle.fast_loops.specs.Rounds.{same_array, are_fresh}
@@ -23,8 +22,7 @@ use Rattle.fast_loops.proofs.LoopLanes.RoundWrites.{acts_in}
 
 -- loads of n words from word k on
 abbrev pub row : Loaded → ℕ → ℕ → List PlainOp
-row from k zero = []
-row from k (suc n) = Load k from.array (Sum k from.parts) ∷ row from (k + 1) n
+row from k n = map (λ i. Load i from.array (Sum i from.parts)) (range_with_len k n)
 
 -- ---- the operations of a round begin with such loads
 
@@ -57,10 +55,6 @@ row_first from ops =
     let m : ℕ = row_length from 0 ops in
     sym (take-append-drop m ops) ∙ ap (λ xs. xs ++ drop m ops) (row-taken from 0 ops)
 
-pub length-row : (from : Loaded) (k n : ℕ) → length (row from k n) ≡ n
-length-row from k zero = refl
-length-row from k (suc n) = ap suc (length-row from (k + 1) n)
-
 -- what is behind it puts registers behind those of the row
 pub row_fresh : (from : Loaded) (k n next : ℕ) (rest : List PlainOp) → k + n ≡ next →
     are_fresh 1 k (straight (row from k n ++ rest)) ≡ true → are_fresh 1 next (straight rest) ≡ true
@@ -69,12 +63,6 @@ row_fresh from k zero next rest e h =
     subst (λ i. are_fresh 1 i (straight rest) ≡ true) same h
 row_fresh from k (suc n) next rest e h =
     row_fresh from (k + 1) n next rest (omega (arith, e)) (both_true (k == k) _ h).1
-
-pub row_puts : (f : PlainOp → Bool) (from : Loaded) (k n : ℕ) (rest : List PlainOp) →
-    list_all f (row from k n ++ rest) ≡ true → list_all f rest ≡ true
-row_puts f from k zero rest h = h
-row_puts f from k (suc n) rest h =
-    row_puts f from (k + 1) n rest (both_true (f (Load k from.array (Sum k from.parts))) _ h).1
 
 -- registers of the row keep their numbers where none of them is turned
 pub row_stays : (at m : ℕ) (xs : List ℕ) (r : ℕ) → list_all (nat_le m) xs ≡ true → r < m → renumbered at xs r ≡ r

@@ -1,11 +1,11 @@
 -- Rows behind the loads of a row leave what v rounds write.
-use Rattle.std.proofs.Common.{◌≡◌, ℕ, zero, suc, ◌+◌, ◌*◌, ◌<◌, ◌≤◌, true, List, [], ◌∷◌, ◌++◌, All, Contains, length}
-use Rattle.std.proofs.Common.{map, flat_map, drop, refl, sym, ap, ◌∙◌, arith, subst}
+use Rattle.std.proofs.Common.{◌≡◌, ℕ, zero, suc, ◌+◌, ◌*◌, ◌<◌, ◌≤◌, true, List, [], ◌∷◌, ◌++◌, All, length, map, drop}
+use Rattle.std.proofs.Common.{refl, sym, ap, ◌∙◌, arith, subst}
 use Rattle.std.specs.Prelude.{slice_index}
-use Rattle.std.specs.List.{range_with_len}
 use Rattle.std.proofs.Math.Path.{fun_ext}
-use Rattle.std.proofs.lemmas.List.Elements.{All-tail}
-use Rattle.icode.specs.Actions.{Step, StepFits, step_of}
+use Rattle.std.proofs.lemmas.List.{drop-map}
+use Rattle.std.proofs.lemmas.List.Elements.{All-drop}
+use Rattle.icode.specs.Actions.{StepFits, step_of}
 use Rattle.icode.specs.Machine.{Local, effects}
 use Rattle.icode.specs.Plain.{PlainOp, PlainProgram, Sum, Load}
 use Rattle.icode.proofs.CodeLaws.Stores.{length-registers}
@@ -25,14 +25,6 @@ use Rattle.fast_loops.proofs.LoopLanes.RowsAre.{lane_writes, no_writes, rows_fro
 use Rattle.fast_loops.proofs.LoopLanes.Tiled.{wide_acts, wide_follow}
 
 -- ---- what is behind a row
-
-row-fits : (P : Step → Type 0) (p : PlainProgram) (from : Loaded) (k n : ℕ) (rest : List PlainOp) (ws : List ℕ)
-    (q : ℕ) → All P (steps_at p (row from k n ++ rest) ws q) → All P (steps_at p rest ws q)
-row-fits P p from k zero rest ws q h = h
-row-fits P p from k (suc n) rest ws q h =
-    row-fits P p from (k + 1) n rest ws q
-    (All-tail P (step_of p (Load k from.array (Sum k from.parts)) ws q)
-    (steps_at p (row from (k + 1) n ++ rest) ws q) h)
 
 row_others : (from : Loaded) (k n : ℕ) (rest : List PlainOp) → n ≤ length (others (row from k n ++ rest))
 row_others from k zero rest = omega arith
@@ -78,9 +70,9 @@ module _ (v : ℕ) (p : PlainProgram) (to : Stored) (ops : List PlainOp) (vs : L
 
   fits : (l : ℕ) → l < v → All (StepFits p) (steps_at p rest (vs ++ (v * b + l) ∷ []) q)
   fits l below =
-      row-fits (StepFits p) p from 0 m rest (vs ++ (v * b + l) ∷ []) q
-      (subst (λ xs. All (StepFits p) (steps_at p xs (vs ++ (v * b + l) ∷ []) q)) known.first.row
-      (group_fits v p ops vs b q l below group.fits))
+      let ws : List ℕ = vs ++ (v * b + l) ∷ [] in
+      subst (All (StepFits p)) (drop-map (λ op. step_of p op ws q) m ops)
+      (All-drop (StepFits p) m (steps_at p ops ws q) (group_fits v p ops vs b q l below group.fits))
 
   -- what round l puts by the row and then by the others
   abbrev values_behind : List ℕ → ℕ → List ℕ

@@ -1,7 +1,7 @@
 -- What code makes of rounds that load rows.
-use Rattle.std.proofs.Common.{◌≡◌, ℕ, ◌+◌, ◌*◌, ◌%◌, ◌^◌, ◌<◌, ◌≤◌, true, List, [], ◌∷◌, ◌++◌, Option, map, length, sym}
-use Rattle.std.proofs.Common.{ap, ◌∙◌, subst, arith, leb-true, eqb-true, ltb-true, lt-ltb, mul-le-mul_left}
-use Rattle.std.specs.Prelude.{◌&&◌, ◌==◌, nat_le}
+use Rattle.std.proofs.Common.{◌≡◌, ℕ, ◌+◌, ◌*◌, ◌^◌, ◌<◌, ◌≤◌, true, List, [], ◌∷◌, ◌++◌, Option, map, length, sym, ap}
+use Rattle.std.proofs.Common.{◌∙◌, subst, arith, ltb-true, lt-ltb, mul-le-mul_left}
+use Rattle.std.specs.Prelude.{◌&&◌, nat_le}
 use Rattle.std.specs.List.{list_all, range_with_len}
 use Rattle.std.proofs.lemmas.Bool.{and_from}
 use Rattle.std.proofs.lemmas.List.{append_assoc}
@@ -11,9 +11,9 @@ use Rattle.icode.specs.Plain.{PlainOp}
 use Rattle.icode.proofs.Bools.{both_true}
 use Rattle.fast_loops.specs.Places.{stride}
 use Rattle.fast_loops.specs.Rounds.{Stored}
-use Rattle.fast_loops.specs.LoopLanes.Columns.{Columns, Factors, are_tiles, are_distinct}
+use Rattle.fast_loops.specs.LoopLanes.Columns.{Columns, Factors}
 use Rattle.fast_loops.specs.LoopLanes.Loads.{Loaded, are_whole, behind, are_behind}
-use Rattle.fast_loops.specs.LoopLanes.Rounds.{stores, stored_constants, are_from, is_by_lane}
+use Rattle.fast_loops.specs.LoopLanes.Rounds.{stores, is_by_lane}
 use Rattle.fast_loops.specs.LoopLanes.View.{has_entries, has_words}
 use Rattle.fast_loops.proofs.LoopLanes.ColumnsAre.{columns_told}
 use Rattle.fast_loops.proofs.LoopLanes.Made.{row_more}

@@ -3,13 +3,14 @@ use Rattle.std.proofs.Common.{◌≡◌, ℕ, zero, suc, ◌+◌, ◌*◌, ◌/�
 use Rattle.std.proofs.Common.{Contains, Option, Some, None, length, map, drop, sym, ap, ◌∙◌, subst, arith, eqb-true}
 use Rattle.std.proofs.Common.{ltb-true, length-append}
 use Rattle.std.specs.Prelude.{◌==◌, ◌&&◌, nat_le, nat_lt}
-use Rattle.std.specs.List.{list_all}
+use Rattle.std.specs.List.{list_all, range_with_len}
 use Rattle.std.proofs.lemmas.Bool.{not-true}
-use Rattle.std.proofs.lemmas.List.Elements.{All-drop}
+use Rattle.std.proofs.lemmas.List.Elements.{All-drop, Contains-append_left}
+use Rattle.std.proofs.lemmas.List.FromFn.{length-map-range_with_len}
 use Rattle.icode.specs.Limits.{is_small}
 use Rattle.icode.specs.Plain.{PlainOp, Sum, Load}
 use Rattle.icode.proofs.Bools.{both_true}
-use Rattle.icode.proofs.Lines.{Contains-head, Contains-tail}
+use Rattle.icode.proofs.Lines.{Contains-map, Contains-range}
 use Rattle.fast_loops.specs.Places.{are_linear, stride}
 use Rattle.fast_loops.specs.Rounds.{Stored, same_array, are_fresh}
 use Rattle.fast_loops.specs.LoopLanes.Columns.{Columns, are_columns, plain_columns, factored_columns, in_columns}
@@ -22,7 +23,7 @@ use Rattle.fast_loops.specs.LoopLanes.Loads.{in_loaded}
 use Rattle.fast_loops.proofs.Linear.{wrong}
 use Rattle.fast_loops.proofs.LoopLanes.ColumnsAre.{columns_told}
 use Rattle.fast_loops.proofs.LoopLanes.Kinds.{of_kinds}
-use Rattle.fast_loops.proofs.LoopLanes.LoadedRow.{row, row_first, length-row, row_fresh}
+use Rattle.fast_loops.proofs.LoopLanes.LoadedRow.{row, row_first, row_fresh}
 use Rattle.fast_loops.proofs.LoopLanes.Parts.{IsOther, others_are}
 use Rattle.fast_loops.proofs.LoopLanes.Tests.{AreGood, AreMultiplied, plain_good, factored_good, factored_front}
 use Rattle.fast_loops.proofs.LoopLanes.Tests.{factored_short, multiplied_by}
@@ -127,37 +128,22 @@ from_loaded P v loop to ops c h each = of_loaded (λ ops. P) v 0 loop to ops c h
 
 -- ---- rows
 
-row-has : (from : Loaded) (k n : ℕ) (rest : List PlainOp) (i : ℕ) → i < n →
-    Contains (row from k n ++ rest) (Load (k + i) from.array (Sum (k + i) from.parts))
-row-has from k zero rest i below = absurd (omega (arith, below))
-row-has from k (suc n) rest zero below =
-    let same : k ≡ k + 0 = omega arith in
-    subst (λ j. Contains (row from k (suc n) ++ rest) (Load j from.array (Sum j from.parts))) same
-    (Contains-head (Load k from.array (Sum k from.parts)) (row from (k + 1) n ++ rest))
-row-has from k (suc n) rest (suc i) below =
-    let same : k + 1 + i ≡ k + suc i = omega arith in
-    Contains-tail (Load k from.array (Sum k from.parts)) (row from (k + 1) n ++ rest)
-    (Load (k + suc i) from.array (Sum (k + suc i) from.parts))
-    (subst (λ j. Contains (row from (k + 1) n ++ rest) (Load j from.array (Sum j from.parts))) same
-    (row-has from (k + 1) n rest i (omega (arith, below))))
-
 module _ (v loop : ℕ) (to : Stored) (front : List PlainOp) (from : Loaded) (m : ℕ)
     (known : IsRow v loop to front from m) where
   -- the round has each load of the row
   pub loads_each : (ops : List PlainOp) → ((op : PlainOp) → Contains front op → Contains ops op) → (i : ℕ) → i < m →
       Contains ops (Load i from.array (Sum i from.parts))
   loads_each ops among i below =
-      let load : PlainOp = Load i from.array (Sum i from.parts) in
-      let first : 0 + i ≡ i = omega arith in
-      among load
-      (subst (λ xs. Contains xs load) (sym known.row)
-      (subst (λ j. Contains (row from 0 m ++ drop m front) (Load j from.array (Sum j from.parts))) first
-      (row-has from 0 m (drop m front) i below)))
+      let load : ℕ → PlainOp = λ i. Load i from.array (Sum i from.parts) in
+      among (load i)
+      (subst (λ xs. Contains xs (load i)) (sym known.row)
+      (Contains-append_left (row from 0 m) (drop m front) (load i)
+      (Contains-map load (range_with_len 0 m) i (Contains-range m 0 i (omega arith) (omega (arith, below))))))
 
   -- as many operations as loads, and the others
   pub front_many : length front ≡ m + length (drop m front)
   front_many =
-      let row_many = length-row from 0 m in
+      let row_many = length-map-range_with_len (λ i. Load i from.array (Sum i from.parts)) 0 m in
       ap length known.row ∙ length-append (row from 0 m) (drop m front) ∙ ap (λ k. k + length (drop m front)) row_many
 
   -- a tile at least

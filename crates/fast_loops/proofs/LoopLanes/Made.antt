@@ -1,20 +1,18 @@
 -- What code makes of lanes: numbers that it counts, and lists that grow by a row.
-use Rattle.std.proofs.Common.{◌≡◌, ℕ, zero, suc, ◌+◌, ◌*◌, ◌/◌, ◌%◌, ◌^◌, ◌<◌, ◌≤◌, Bool, true, false, List, [], ◌∷◌}
-use Rattle.std.proofs.Common.{◌++◌, Option, Some, None, map, flat_map, length, refl, sym, ap, ◌∙◌, arith, append-nil}
-use Rattle.std.proofs.Common.{add-one, drop-cons, drop, get_or, eqb-true, leb-true, mul-le-mul_left}
-use Rattle.std.specs.Prelude.{not, ◌&&◌, ◌==◌, nat_le, if◌then◌else◌}
+use Rattle.std.proofs.Common.{◌≡◌, ℕ, suc, ◌+◌, ◌*◌, ◌/◌, ◌^◌, ◌<◌, ◌≤◌, true, List, [], ◌∷◌, ◌++◌, map, flat_map}
+use Rattle.std.proofs.Common.{length, refl, sym, ap, ◌∙◌, arith, append-nil, add-one, drop-cons, drop, get_or, eqb-true}
+use Rattle.std.proofs.Common.{leb-true, mul-le-mul_left}
+use Rattle.std.specs.Prelude.{not, ◌==◌}
 use Rattle.std.specs.List.{list_all, range_with_len}
 use Rattle.std.proofs.Math.Nat.{div-mul-le_self}
 use Rattle.std.proofs.lemmas.List.{append_assoc, drop_all}
 use Rattle.std.proofs.lemmas.List.Concat.{flat_map-append}
 use Rattle.icode.specs.declared.program.Op.{Op}
-use Rattle.icode.specs.Plain.{PlainOp, PlainStmt, Sum, Load, Store, Zero, Add, Sub, Neg, MulConst, MulTable, Tile, Do}
-use Rattle.icode.specs.Plain.{AndStmts, body_of, plain_op}
+use Rattle.icode.specs.Plain.{PlainOp, PlainStmt, Sum, Load, Store, MulTable, Do, AndStmts, body_of, plain_op}
 use Rattle.icode.proofs.Bools.{both_true}
 use Rattle.icode.proofs.CodeLaws.Statements.{range-last}
-use Rattle.fast_loops.specs.Places.{is_linear, stride, same_parts}
+use Rattle.fast_loops.specs.Places.{is_linear, stride}
 use Rattle.fast_loops.specs.Rounds.{Stored, same_array}
-use Rattle.fast_loops.proofs.Linear.{wrong}
 use Rattle.fast_loops.specs.LoopLanes.Rounds.{straight, place_stride, is_by_lane}
 use Rattle.fast_loops.specs.LoopLanes.View.{stride_in, plain_ops}
 use Rattle.fast_loops.specs.LoopLanes.Lanes.{laned_nest, laned_body}

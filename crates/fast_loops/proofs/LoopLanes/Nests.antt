@@ -1,6 +1,6 @@
 -- Loops, one in the other, of which the innermost goes v rounds at a time, and bodies of phases.
-use Rattle.std.proofs.Common.{◌≡◌, ℕ, zero, suc, ◌+◌, ◌*◌, ◌<◌, ◌≤◌, List, [], ◌∷◌, ◌++◌, true, Contains, Option, Some}
-use Rattle.std.proofs.Common.{None, flat_map, length, refl, sym, ap, ap₂, ◌∙◌, subst, arith, length-append, eqb-true}
+use Rattle.std.proofs.Common.{◌≡◌, ℕ, ◌+◌, ◌*◌, ◌<◌, ◌≤◌, List, [], ◌∷◌, ◌++◌, true, Contains, Option, Some, None}
+use Rattle.std.proofs.Common.{flat_map, length, refl, sym, ap, ◌∙◌, subst, arith, length-append, eqb-true}
 use Rattle.std.specs.Prelude.{◌/◌, ◌%◌, ◌==◌, nat_le}
 use Rattle.std.specs.List.{range_with_len}
 use Rattle.std.proofs.Math.Nat.{div-add-mod}

@@ -10,8 +10,7 @@ use Rattle.icode.specs.declared.action.Action.{Action}
 use Rattle.icode.specs.Actions.{actions_of, array_start, lane_factors, step_of}
 use Rattle.icode.specs.Expression.{sum_numbers}
 use Rattle.icode.specs.Machine.{lane_by_lane, value_put, whole_lines}
-use Rattle.icode.specs.Plain.{PlainParts, PlainOp, PlainProgram, Sum, Load, Store, Zero, Add, Sub, Neg, MulConst}
-use Rattle.icode.specs.Plain.{MulTable, Tile}
+use Rattle.icode.specs.Plain.{PlainParts, PlainOp, PlainProgram, Sum, Store, MulTable}
 use Rattle.icode.proofs.Bools.{both_true}
 use Rattle.fast_loops.specs.Places.{same_parts}
 use Rattle.fast_loops.specs.Rounds.{Stored, same_array}

@@ -12,8 +12,7 @@ use Rattle.icode.specs.declared.program.Array.{Array}
 use Rattle.icode.specs.Actions.{StepFits, actions_of, array_start, step_of}
 use Rattle.icode.specs.Expression.{sum_numbers}
 use Rattle.icode.specs.Machine.{Local, effect, effects, memory_after, register_of, words_at, with_words, whole_lines}
-use Rattle.icode.specs.Plain.{PlainExpr, PlainParts, PlainOp, PlainProgram, Sum, Load, Store, Zero, Add, Sub, Neg}
-use Rattle.icode.specs.Plain.{MulConst, MulTable, Tile}
+use Rattle.icode.specs.Plain.{PlainExpr, PlainParts, PlainOp, PlainProgram, Sum, Load, Store}
 use Rattle.icode.proofs.Bools.{both_true}
 use Rattle.icode.proofs.Lines.{Contains-nil}
 use Rattle.icode.proofs.Words.{length-words_at}

@@ -1,7 +1,6 @@
 -- What the tests of a round that can be laned tell of it.
-use Rattle.std.proofs.Common.{◌≡◌, ℕ, ◌+◌, ◌*◌, ◌/◌, ◌<◌, ◌≤◌, true, not, List, All, Contains, Option, Some, None}
-use Rattle.std.proofs.Common.{length, arith}
-use Rattle.std.specs.Prelude.{◌&&◌}
+use Rattle.std.proofs.Common.{◌≡◌, ℕ, ◌+◌, ◌*◌, ◌<◌, ◌≤◌, true, not, List, All, Contains, Option, Some, None, length}
+use Rattle.std.proofs.Common.{arith}
 use Rattle.std.proofs.lemmas.List.{length-take}
 use Rattle.std.proofs.lemmas.List.Elements.{All-filter, All-take, All-drop}
 use Rattle.icode.specs.Limits.{is_small}

@@ -7,7 +7,7 @@ use Rattle.std.proofs.lemmas.List.Concat.{flat_map_single}
 use Rattle.ring_mod.specs.Residue.{product_mod}
 use Rattle.icode.specs.declared.action.Action.{Action}
 use Rattle.icode.specs.declared.action.Action.TheVariants.{Store, Mul, Tile}
-use Rattle.icode.specs.Actions.{actions_of, array_start, lane_factors, step_of}
+use Rattle.icode.specs.Actions.{array_start, lane_factors}
 use Rattle.icode.specs.Expression.{sum_numbers}
 use Rattle.icode.specs.Machine.{Local, effect, effects, whole_lines}
 use Rattle.icode.specs.Plain.{PlainOp, PlainProgram, Sum}
@@ -19,7 +19,7 @@ use Rattle.icode.proofs.CodeLaws.Tiles.{tile_by_lane, tile_elsewhere}
 use Rattle.fast_loops.specs.Places.{are_linear}
 use Rattle.fast_loops.specs.Rounds.{Stored}
 use Rattle.fast_loops.specs.LoopLanes.Columns.{Factors, row_at, tile_at}
-use Rattle.fast_loops.specs.LoopLanes.Layers.{Write, written, steps_at, on_lanes}
+use Rattle.fast_loops.specs.LoopLanes.Layers.{Write, written, on_lanes}
 use Rattle.fast_loops.proofs.LoopLanes.FrontHeld.{factor_of, factor_each}
 use Rattle.fast_loops.proofs.LoopLanes.RoundWrites.{acts_in, acts-append, entry_at}
 use Rattle.fast_loops.proofs.LoopLanes.RowsAre.{words_written}

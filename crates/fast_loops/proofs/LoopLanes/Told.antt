@@ -1,17 +1,17 @@
 -- What the tests of lanes tell of the operations of rounds.
 use Rattle.std.proofs.Common.{◌≡◌, ℕ, zero, suc, ◌+◌, ◌<◌, ◌≤◌, true, false, List, [], ◌∷◌, ◌++◌, take, drop, All, Some}
-use Rattle.std.proofs.Common.{None, Option, refl, sym, ap, ap₂, ◌∙◌, subst, arith, inl, inr, ⊎_elim, take-append-drop}
+use Rattle.std.proofs.Common.{None, Option, refl, sym, ap, ap₂, ◌∙◌, subst, arith, ⊎_elim, take-append-drop}
 use Rattle.std.specs.Prelude.{◌==◌, slice_index}
 use Rattle.std.specs.List.{list_all}
-use Rattle.std.proofs.lemmas.Bool.{not-true, or_cases}
+use Rattle.std.proofs.lemmas.Bool.{not-true}
 use Rattle.std.proofs.lemmas.List.Elements.{All-head, All-tail}
 use Rattle.icode.specs.declared.program.Array.{Array}
 use Rattle.icode.specs.Actions.{Step, StepFits, actions_of, array_start, step_of, steps_of_body}
 use Rattle.icode.specs.Expression.{sum_numbers, parts_numbers}
 use Rattle.icode.specs.Machine.{whole_lines}
-use Rattle.icode.specs.Plain.{PlainOp, PlainProgram, Sum, Load, Store, Zero, Add, Sub, Neg, MulConst, MulTable, Tile}
+use Rattle.icode.specs.Plain.{PlainOp, PlainProgram, Sum, Load, Store, Zero, MulTable, Tile}
 use Rattle.icode.proofs.Bools.{both_true}
-use Rattle.fast_loops.specs.Places.{are_linear, stride, same_parts}
+use Rattle.fast_loops.specs.Places.{stride, same_parts}
 use Rattle.fast_loops.specs.Rounds.{Stored, same_array, are_fresh}
 use Rattle.fast_loops.proofs.Acts.{IsRound}
 use Rattle.fast_loops.proofs.Linear.{wrong}

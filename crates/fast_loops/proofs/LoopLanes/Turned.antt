@@ -1,10 +1,8 @@
 -- Columns that are written tile by tile are those that are written round by round, in another order.
-use Rattle.std.proofs.Common.{◌≡◌, ℕ, zero, suc, ◌+◌, ◌*◌, ◌/◌, ◌%◌, ◌<◌, ◌≤◌, List, map, flat_map, refl, sym, ap, ◌∙◌}
+use Rattle.std.proofs.Common.{◌≡◌, ℕ, zero, suc, ◌+◌, ◌*◌, ◌/◌, ◌%◌, ◌<◌, ◌≤◌, List, map, flat_map, refl, ap, ◌∙◌}
 use Rattle.std.proofs.Common.{arith, subst, ⊎_elim, Contains, mul-le-mul_left, mul_comm}
 use Rattle.std.specs.List.{range_with_len}
-use Rattle.std.proofs.Math.Nat.{eq-or-lt_of_le}
 use Rattle.std.proofs.lemmas.Bool.{cases_lt}
-use Rattle.std.proofs.lemmas.List.Elements.{Contains-append_left, Contains-append_right, Contains-append_cases}
 use Rattle.icode.proofs.Lines.{Contains-map, Contains-nil, Contains-range}
 use Rattle.fast_loops.specs.LoopLanes.Layers.{Write, IsAfter, written}
 use Rattle.fast_loops.proofs.Changes.{in-loop, of-loop}

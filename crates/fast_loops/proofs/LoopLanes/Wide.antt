@@ -3,9 +3,10 @@ use Rattle.std.proofs.Common.{◌≡◌, ◌≢◌, ℕ, zero, suc, ◌+◌, ◌
 use Rattle.std.proofs.Common.{ap, ap₂, ◌∙◌, arith, inl, inr, mul-le-mul_left, mul_comm}
 use Rattle.std.specs.Prelude.{slice_index}
 use Rattle.std.proofs.Math.Nat.{mul_assoc}
+use Rattle.std.proofs.Math.Seq.{get_or-append_seam}
 use Rattle.std.proofs.lemmas.Bool.{cases_eq}
 use Rattle.icode.specs.Expression.{alone, with_part, with_sum, sum_numbers, parts_numbers}
-use Rattle.icode.specs.Plain.{PlainExpr, PlainParts, Sum, NoParts, AndParts, Proc, Var, Product, Rem, Quot}
+use Rattle.icode.specs.Plain.{PlainExpr, PlainParts, Sum, NoParts, AndParts, Proc, Var}
 use Rattle.fast_loops.specs.Places.{are_linear, is_linear, stride}
 use Rattle.fast_loops.proofs.Linear.{wrong, chosen, passed, proc_first, from_least}
 use Rattle.fast_loops.proofs.Strides.{added, value_by_strides}
@@ -14,8 +15,7 @@ use Rattle.fast_loops.specs.LoopLanes.Rounds.{widened_parts, widened, place_stri
 -- ---- the value of the innermost loop
 
 pub here : (vs : List ℕ) (x : ℕ) → slice_index (vs ++ x ∷ []) (length vs) ≡ x
-here [] x = refl
-here (v ∷ vs) x = here vs x
+here vs x = get_or-append_seam vs x [] 0
 
 elsewhere : (vs : List ℕ) (x y d : ℕ) → d ≢ length vs → slice_index (vs ++ x ∷ []) d ≡ slice_index (vs ++ y ∷ []) d
 elsewhere [] x y zero ne = absurd (ne refl)
