@@ -1,16 +1,12 @@
 -- Two loops that are one do the steps that they did.
 use Rattle.std.proofs.Common.{◌≡◌, ℕ, ◌+◌, ◌*◌, Bool, true, false, Some, None, List, [], ◌∷◌, ◌++◌, flat_map, length}
 use Rattle.std.proofs.Common.{refl, sym, ap, ap₂, ◌∙◌, arith, append-nil, append_assoc, length-append}
-use Rattle.std.specs.Prelude.{◌%◌, ◌==◌, ◌&&◌, not, slice_index_or, slice_index, ◌-◌, if◌then◌else◌}
+use Rattle.std.specs.Prelude.{◌%◌, ◌==◌, ◌&&◌, not, if◌then◌else◌}
 use Rattle.std.specs.List.{range_with_len}
 use Rattle.std.specs.Option.{unwrap_or}
 use Rattle.std.proofs.Math.Path.{fun_ext}
-use Rattle.icode.specs.declared.program.Array.{Array}
-use Rattle.icode.specs.Actions.{Step, array_start, lane_factors, step_of, steps_of_stmt, steps_of_body}
-use Rattle.icode.specs.declared.action.Action.TheVariants as actions
-use Rattle.icode.specs.Expression.{Numbers}
+use Rattle.icode.specs.Actions.{Step, step_of, steps_of_stmt, steps_of_body}
 use Rattle.icode.specs.Limits.{is_small}
-use Rattle.icode.specs.Machine.{whole_lines}
 use Rattle.icode.specs.Plain.{PlainOp, PlainStmt, PlainBody, PlainProgram, Load, Store, MulTable, Loop, Do, NoStmts}
 use Rattle.icode.specs.Plain.{AndStmts}
 use Rattle.icode.proofs.Bools.{both_true}
@@ -20,50 +16,15 @@ use Rattle.fast_loops.proofs.Grouped.{in_groups}
 use Rattle.fast_loops.proofs.JoinedLoops.Numbers.{place_same}
 
 module _ (p : PlainProgram) (q : ℕ) where
-  -- ---- steps by the numbers of their places
-
-  abbrev load_by : ℕ → Array → Numbers → Step
-  load_by r array at =
-      let words = whole_lines p.size p.line in
-      record {
-        action = actions.Load r (array_start words array + at.value);
-        peak = at.peak;
-        reach = at.value + p.lanes;
-        room = words;
-      }
-
-  abbrev store_by : Array → ℕ → Numbers → Step
-  store_by array r at =
-      let words = whole_lines p.size p.line in
-      record {
-        action = actions.Store (array_start words array + at.value) r;
-        peak = at.peak;
-        reach = at.value + p.lanes;
-        room = words;
-      }
-
-  abbrev product_by : ℕ → ℕ → ℕ → ℕ → Numbers → Step
-  product_by r x table step at =
-      let entries = slice_index_or p.tables table [] in
-      let factors = lane_factors p.lanes (λ lane. slice_index entries (at.value + step * lane)) in
-      record {
-        action = actions.Mul r x factors;
-        peak = at.peak;
-        reach = at.value + step * (p.lanes - 1) + 1;
-        room = length entries;
-      }
-
   -- ---- the body of two loops, in the round i of the outer one and j of the inner one
 
   module _ (loop inner : ℕ) (vs : List ℕ) (i j : ℕ) (deep : length vs ≡ loop) where
     op-same : (op : PlainOp) (us : List ℕ) → op_goes_on loop inner op ≡ true →
         step_of p (lifted_op loop op) (vs ++ (inner * i + j) ∷ us) q ≡ step_of p op (vs ++ i ∷ j ∷ us) q
-    op-same (Load r array place) us h =
-        ap (load_by r array) (place_same loop vs us i j (inner * i + j) q deep inner place h refl)
-    op-same (Store array place r) us h =
-        ap (store_by array r) (place_same loop vs us i j (inner * i + j) q deep inner place h refl)
+    op-same (Load r array place) us h = rw (place_same loop vs us i j (inner * i + j) q deep inner place h refl) refl
+    op-same (Store array place r) us h = rw (place_same loop vs us i j (inner * i + j) q deep inner place h refl) refl
     op-same (MulTable r x table place step) us h =
-        ap (product_by r x table step) (place_same loop vs us i j (inner * i + j) q deep inner place h refl)
+        rw (place_same loop vs us i j (inner * i + j) q deep inner place h refl) refl
     op-same op us h = refl
 
     body-same : (body : PlainBody) (us : List ℕ) → body_goes_on loop inner body ≡ true →

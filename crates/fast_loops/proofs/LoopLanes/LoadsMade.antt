@@ -5,7 +5,7 @@ use Rattle.std.specs.Prelude.{◌&&◌, nat_le}
 use Rattle.std.specs.List.{list_all, range_with_len}
 use Rattle.std.proofs.lemmas.Bool.{and_from}
 use Rattle.std.proofs.lemmas.List.{append_assoc}
-use Rattle.std.proofs.lemmas.List.Concat.{flat_map_single}
+use Rattle.std.proofs.lemmas.List.FromFn.{map-range_with_len_more}
 use Rattle.icode.specs.Limits.{is_small}
 use Rattle.icode.specs.Plain.{PlainOp}
 use Rattle.icode.proofs.Bools.{both_true}
@@ -16,7 +16,6 @@ use Rattle.fast_loops.specs.LoopLanes.Loads.{Loaded, are_whole, behind, are_behi
 use Rattle.fast_loops.specs.LoopLanes.Rounds.{stores, is_by_lane}
 use Rattle.fast_loops.specs.LoopLanes.View.{has_entries, has_words}
 use Rattle.fast_loops.proofs.LoopLanes.ColumnsAre.{columns_told}
-use Rattle.fast_loops.proofs.LoopLanes.Made.{row_more}
 
 -- ---- lists
 
@@ -24,15 +23,11 @@ use Rattle.fast_loops.proofs.LoopLanes.Made.{row_more}
 pub item_more : (f : ℕ → PlainOp) (n : ℕ) (start before now : List PlainOp) → now ≡ before ++ f n ∷ [] →
     before ≡ start ++ map f (range_with_len 0 n) → now ≡ start ++ map f (range_with_len 0 (n + 1))
 item_more f n start before now e h =
-    let each : ℕ → List PlainOp = λ i. f i ∷ [] in
-    let last : map f (range_with_len 0 n) ++ f n ∷ [] ≡ map f (range_with_len 0 (n + 1)) =
-    sym (ap (λ (xs : List PlainOp). xs ++ f n ∷ []) (flat_map_single f (range_with_len 0 n)))
-    ∙ sym (row_more each n)
-    ∙ flat_map_single f (range_with_len 0 (n + 1)) in
+    let last = map-range_with_len_more f 0 n n (omega arith) in
     e
     ∙ ap (λ (xs : List PlainOp). xs ++ f n ∷ []) h
     ∙ append_assoc start (map f (range_with_len 0 n)) (f n ∷ [])
-    ∙ ap (λ (xs : List PlainOp). start ++ xs) last
+    ∙ ap (λ (xs : List PlainOp). start ++ xs) (sym last)
 
 -- ---- columns behind a row
 

@@ -5,8 +5,7 @@ use Rattle.std.proofs.Common.{leb-true, mul-le-mul_left}
 use Rattle.std.specs.Prelude.{not, ◌==◌}
 use Rattle.std.specs.List.{list_all, range_with_len}
 use Rattle.std.proofs.Math.Nat.{div-mul-le_self}
-use Rattle.std.proofs.lemmas.List.{append_assoc, drop_all}
-use Rattle.std.proofs.lemmas.List.Concat.{flat_map-append}
+use Rattle.std.proofs.lemmas.List.{append_assoc, drop_all, flat_map_more}
 use Rattle.icode.specs.declared.program.Op.{Op}
 use Rattle.icode.specs.Plain.{PlainOp, PlainStmt, Sum, Load, Store, MulTable, Do, AndStmts, body_of, plain_op}
 use Rattle.icode.proofs.Bools.{both_true}
@@ -56,16 +55,12 @@ narrow v loop to op few wide h = omega arith
 
 -- ---- lists
 
--- one more row
-pub row_more : (f : ℕ → List PlainOp) (n : ℕ) → flat_map f (range_with_len 0 (n + 1)) ≡ flat_map f (range_with_len 0 n)
-    ++ f n
-row_more f n =
+-- one more round
+range-more : (n : ℕ) → range_with_len 0 (n + 1) ≡ range_with_len 0 n ++ n ∷ []
+range-more n =
     let more : n + 1 ≡ suc n = omega arith in
     let same : 0 + n ≡ n = omega arith in
-    ap (λ k. flat_map f (range_with_len 0 k)) more
-    ∙ ap (flat_map f) (range-last 0 n ∙ ap (λ k. range_with_len 0 n ++ k ∷ []) same)
-    ∙ flat_map-append f (range_with_len 0 n) (n ∷ [])
-    ∙ ap (λ (fs : List PlainOp). flat_map f (range_with_len 0 n) ++ fs) (append-nil (f n))
+    ap (range_with_len 0) more ∙ range-last 0 n ∙ ap (λ k. range_with_len 0 n ++ k ∷ []) same
 
 -- operations, one by one
 pub straight_is : (ops : List PlainOp) → straight ops ≡ body_of (map Do ops)
@@ -111,5 +106,5 @@ grown f n start front before now e h =
     ∙ ap (λ (xs : List PlainOp). xs ++ f n) h
     ∙ append_assoc start (front ++ flat_map f (range_with_len 0 n)) (f n)
     ∙ ap (λ (xs : List PlainOp). start ++ xs)
-    (append_assoc front (flat_map f (range_with_len 0 n)) (f n)
-    ∙ ap (λ (xs : List PlainOp). front ++ xs) (sym (row_more f n)))
+    (flat_map_more f front (range_with_len 0 n) n
+    ∙ ap (λ is. front ++ flat_map f is) (sym (range-more n)))

@@ -1,10 +1,11 @@
 -- What the tests of columns tell of a round: which constants it stores at, and which entries it multiplies by.
-use Rattle.std.proofs.Common.{◌≡◌, ℕ, suc, ◌+◌, ◌<◌, ◌≤◌, Bool, true, false, not, cond, ◌&&◌, List, [], ◌∷◌, All}
-use Rattle.std.proofs.Common.{Contains, length, refl, ap, ap₂, ◌∙◌, subst, arith, inl, inr, eqb-true}
+use Rattle.std.proofs.Common.{◌≡◌, ℕ, suc, ◌+◌, ◌<◌, ◌≤◌, true, false, not, ◌&&◌, List, [], ◌∷◌, All, Contains, length}
+use Rattle.std.proofs.Common.{refl, ap, ap₂, ◌∙◌, subst, arith, inl, inr, eqb-true}
 use Rattle.std.specs.Prelude.{◌==◌, nat_lt}
 use Rattle.std.specs.List.{list_all}
-use Rattle.std.proofs.lemmas.Bool.{cases_eq}
-use Rattle.std.proofs.lemmas.List.Elements.{All-nil, All-cons, All-head, All-tail}
+use Rattle.std.proofs.lemmas.Bool.{cases_eq, not-true}
+use Rattle.std.proofs.lemmas.List.Elements.{All-head, All-tail, All-filter, All-contains}
+use Rattle.std.proofs.lemmas.List.Sums.{AllPass-from_list_all}
 use Rattle.icode.specs.declared.program.Array.{Array}
 use Rattle.icode.specs.Plain.{PlainParts, PlainOp, Sum, Store, MulTable}
 use Rattle.icode.proofs.Bools.{both_true}
@@ -16,6 +17,7 @@ use Rattle.fast_loops.specs.LoopLanes.Rounds.{is_store, stores, others, stored_c
 use Rattle.fast_loops.specs.LoopLanes.Columns.{Factors, are_products, factored_registers}
 use Rattle.fast_loops.proofs.LoopLanes.Arrays.{array_same}
 use Rattle.fast_loops.proofs.LoopLanes.Orders.{parts_same}
+use Rattle.fast_loops.proofs.LoopLanes.Parted.{others_put}
 use Rattle.fast_loops.proofs.LoopLanes.TilesCovered.{IsStored, IsMultiplied}
 
 -- ---- operations that store, and others
@@ -24,17 +26,17 @@ use Rattle.fast_loops.proofs.LoopLanes.TilesCovered.{IsStored, IsMultiplied}
 abbrev pub IsOther : List PlainOp → PlainOp → Type 0
 IsOther ops op = Contains ops op × (is_store op ≡ false)
 
-all-others : (ops all : List PlainOp) → All (Contains all) ops → All (IsOther all) (others ops)
-all-others [] all h = All-nil (IsOther all)
-all-others (op ∷ ops) all h = by (is_store op) refl (all-others ops all (All-tail (Contains all) op ops h))
-  where
-    by : (t : Bool) → is_store op ≡ t → All (IsOther all) (others ops) →
-        All (IsOther all) (cond (not t) (op ∷ others ops) (others ops))
-    by true e rest = rest
-    by false e rest = All-cons (IsOther all) op (others ops) (All-head (Contains all) op ops h, e) rest
+pub members : (ops : List PlainOp) → All (Contains ops) (others ops)
+members ops =
+    All-filter (λ op. not (is_store op)) (Contains ops) ops (all_of_members (Contains ops) ops (λ op has. has))
 
 pub others_are : (ops : List PlainOp) → All (IsOther ops) (others ops)
-others_are ops = all-others ops ops (all_of_members (Contains ops) ops (λ op has. has))
+others_are ops =
+    let puts = AllPass-from_list_all (λ op. not (is_store op)) (others ops) (others_put ops) in
+    all_of_members (IsOther ops) (others ops) (λ op has. (
+      All-contains (Contains ops) (others ops) op (members ops) has,
+      not-true (is_store op) (All-contains (λ op. not (is_store op) ≡ true) (others ops) op puts has),
+    ))
 
 -- ---- constants
 

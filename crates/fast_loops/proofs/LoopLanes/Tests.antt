@@ -1,21 +1,19 @@
 -- What the tests of a round that can be laned tell of it.
-use Rattle.std.proofs.Common.{◌≡◌, ℕ, ◌+◌, ◌*◌, ◌<◌, ◌≤◌, true, not, List, All, Contains, Option, Some, None, length}
-use Rattle.std.proofs.Common.{arith}
+use Rattle.std.proofs.Common.{◌≡◌, ℕ, ◌+◌, ◌*◌, ◌<◌, ◌≤◌, true, List, All, Contains, Option, Some, None, length, arith}
 use Rattle.std.proofs.lemmas.List.{length-take}
-use Rattle.std.proofs.lemmas.List.Elements.{All-filter, All-take, All-drop}
+use Rattle.std.proofs.lemmas.List.Elements.{All-take, All-drop}
 use Rattle.icode.specs.Limits.{is_small}
 use Rattle.icode.specs.Plain.{PlainOp}
 use Rattle.icode.proofs.Bools.{both_true}
 use Rattle.fast_loops.specs.Places.{are_linear, stride}
 use Rattle.fast_loops.specs.Rounds.{Stored}
 use Rattle.fast_loops.proofs.Linear.{wrong}
-use Rattle.fast_loops.proofs.Members.{all_of_members}
-use Rattle.fast_loops.specs.LoopLanes.Rounds.{is_store, stores, others}
+use Rattle.fast_loops.specs.LoopLanes.Rounds.{stores, others}
 use Rattle.fast_loops.specs.LoopLanes.Columns.{Columns, Factors, factored_registers, first_factors, front_length}
 use Rattle.fast_loops.specs.LoopLanes.Columns.{last_products, plain_columns, factored_columns, are_by}
 use Rattle.fast_loops.specs.LoopLanes.Columns.{are_plain_columns, are_factored_columns}
 use Rattle.fast_loops.proofs.LoopLanes.ColumnsAre.{AreColumns, columns_told, by_told}
-use Rattle.fast_loops.proofs.LoopLanes.Parts.{IsOther, others_are, multiplied_each, as_many_products}
+use Rattle.fast_loops.proofs.LoopLanes.Parts.{IsOther, members, others_are, multiplied_each, as_many_products}
 use Rattle.fast_loops.proofs.LoopLanes.TilesCovered.{IsMultiplied}
 
 -- ---- columns
@@ -37,10 +35,6 @@ pub record AreGood (v loop : ℕ) (to : Stored) (ops : List PlainOp) (c : Column
   pub front : All (IsOther ops) c.front
   pub short : length c.front ≤ length (others ops)
   pub factors : AreMultiplied v loop ops c.by (length c.turned)
-
-members : (ops : List PlainOp) → All (Contains ops) (others ops)
-members ops =
-    All-filter (λ op. not (is_store op)) (Contains ops) ops (all_of_members (Contains ops) ops (λ op has. has))
 
 pub multiplied_by : (v loop : ℕ) (ops : List PlainOp) (factors : Option Factors) → are_by v loop ops factors ≡ true →
     AreMultiplied v loop ops factors (length (factored_registers (last_products ops)))
