@@ -39,29 +39,35 @@ others-counts (x ∷ y ∷ rest) ne = of_stmt (plain_stmt x)
     of_stmt (plain.Do op) = refl
 
 -- one operation is none
-pub op-counts : (items : List Stmt) (x : Stmt) (op : Op) → length items ≡ 1 → x ≡ get_or items 0 x → x ≡ Do op → counts_in (plain_body items) ≡ []
+pub op-counts : (items : List Stmt) (x : Stmt) (op : Op) → length items ≡ 1 → x ≡ get_or items 0 x → x ≡ Do op →
+    counts_in (plain_body items) ≡ []
 op-counts items x op one at does =
     ap (λ xs. counts_in (plain_body xs)) (only items x one at) ∙ ap (λ s. counts_in (AndStmts s NoStmts)) (ap plain_stmt does ∙ plain_stmt-Do op)
 
 -- one loop
-pub loop-seen : (items : List Stmt) (x : Stmt) (inner : ℕ) (inside : Vec Stmt Global) → length items ≡ 1 → x ≡ get_or items 0 x → x ≡ Loop inner inside → plain_body items ≡ one_loop inner (plain_body inside.items)
+pub loop-seen : (items : List Stmt) (x : Stmt) (inner : ℕ) (inside : Vec Stmt Global) → length items ≡ 1 →
+    x ≡ get_or items 0 x → x ≡ Loop inner inside → plain_body items ≡ one_loop inner (plain_body inside.items)
 loop-seen items x inner inside one at loop =
     ap plain_body (only items x one at) ∙ ap (λ s. AndStmts s NoStmts) (ap plain_stmt loop ∙ plain_stmt-Loop inner inside)
 
 -- one loop that is written
-pub loop-set : (items : List Stmt) (inner : ℕ) (inside : Vec Stmt Global) → length items ≡ 1 → plain_body (slice_set items 0 (Loop inner inside)) ≡ one_loop inner (plain_body inside.items)
+pub loop-set : (items : List Stmt) (inner : ℕ) (inside : Vec Stmt Global) → length items ≡ 1 →
+    plain_body (slice_set items 0 (Loop inner inside)) ≡ one_loop inner (plain_body inside.items)
 loop-set items inner inside one =
     ap plain_body (set-one items (Loop inner inside) one) ∙ ap (λ s. AndStmts s NoStmts) (plain_stmt-Loop inner inside)
 
 -- ---- innermost statements
 
-pub exchanged-alone : (loop : ℕ) (body : PlainBody) → counts_in body ≡ [] → exchanged_in loop body ≡ exchanged_round loop body
+pub exchanged-alone : (loop : ℕ) (body : PlainBody) → counts_in body ≡ [] →
+    exchanged_in loop body ≡ exchanged_round loop body
 exchanged-alone loop body e = ap (λ cs. looped cs (exchanged_round loop (round_in body))) e ∙ ap (exchanged_round loop) (inner-round body e)
 
-pub sunk-alone : (loop count : ℕ) (body : PlainBody) → counts_in body ≡ [] → plain.Loop count body ≡ sunk_loop loop count body
+pub sunk-alone : (loop count : ℕ) (body : PlainBody) → counts_in body ≡ [] →
+    plain.Loop count body ≡ sunk_loop loop count body
 sunk-alone loop count body e = ap (plain.Loop count) (sym (inner-round body e)) ∙ ap (λ cs. nest_stmt (sunk loop count cs (round_in body))) (sym e)
 
-pub ordered-alone : (loop count : ℕ) (body : PlainBody) → counts_in body ≡ [] → plain.Loop count body ≡ ordered_loop loop count body
+pub ordered-alone : (loop count : ℕ) (body : PlainBody) → counts_in body ≡ [] →
+    plain.Loop count body ≡ ordered_loop loop count body
 ordered-alone loop count body e = ap (plain.Loop count) (sym (inner-round body e)) ∙ ap (λ cs. nest_stmt (ordered loop count cs (round_in body))) (sym e)
 
 -- ---- a loop that goes inward
@@ -69,7 +75,8 @@ ordered-alone loop count body e = ap (plain.Loop count) (sym (inner-round body e
 pub loops-exchanged : (loop : ℕ) (body : PlainBody) → loops_in (exchanged_in loop body) ≡ loops_in body
 loops-exchanged loop body = ap length (counts-looped (counts_in body) (exchanged_round loop (round_in body)) (inner-exchanged loop (round_in body) (round-inner body)))
 
-pub sunk-stays : (loop count inner : ℕ) (body : PlainBody) → steps_less loop (first_load (round_in body)) ≡ false → plain.Loop count (one_loop inner body) ≡ sunk_loop loop count (one_loop inner body)
+pub sunk-stays : (loop count inner : ℕ) (body : PlainBody) → steps_less loop (first_load (round_in body)) ≡ false →
+    plain.Loop count (one_loop inner body) ≡ sunk_loop loop count (one_loop inner body)
 sunk-stays loop count inner body fails =
     ap (λ b. plain.Loop count (one_loop inner b)) (sym (looped_is body))
     ∙ by_test (steps_less loop (first_load (round_in body))) fails
@@ -79,7 +86,10 @@ sunk-stays loop count inner body fails =
     by_test false e = refl
     by_test true e = cc
 
-pub sunk-deeper : (loop count inner k : ℕ) (body changed made : PlainBody) → steps_less loop (first_load (round_in body)) ≡ true → changed ≡ exchanged_in loop body → plain.Loop k made ≡ sunk_loop (loop + 1) count changed → plain.Loop inner (one_loop k made) ≡ sunk_loop loop count (one_loop inner body)
+pub sunk-deeper : (loop count inner k : ℕ) (body changed made : PlainBody) →
+    steps_less loop (first_load (round_in body)) ≡ true → changed ≡ exchanged_in loop body →
+    plain.Loop k made ≡ sunk_loop (loop + 1) count changed →
+    plain.Loop inner (one_loop k made) ≡ sunk_loop loop count (one_loop inner body)
 sunk-deeper loop count inner k body changed made holds e h =
     ap (λ s. plain.Loop inner (AndStmts s NoStmts)) (h ∙ (ap (sunk_loop (loop + 1) count) e ∙ below))
     ∙ by_test (steps_less loop (first_load (round_in body))) holds
@@ -87,10 +97,13 @@ sunk-deeper loop count inner k body changed made holds e h =
     still : counts_in (exchanged_round loop (round_in body)) ≡ []
     still = inner-exchanged loop (round_in body) (round-inner body)
 
-    below : sunk_loop (loop + 1) count (exchanged_in loop body) ≡ nest_stmt (sunk (loop + 1) count (counts_in body) (exchanged_round loop (round_in body)))
+    below : sunk_loop (loop + 1) count (exchanged_in loop body)
+        ≡ nest_stmt (sunk (loop + 1) count (counts_in body) (exchanged_round loop (round_in body)))
     below = ap₂ (λ cs r. nest_stmt (sunk (loop + 1) count cs r)) (counts-looped (counts_in body) (exchanged_round loop (round_in body)) still) (round-looped (counts_in body) (exchanged_round loop (round_in body)) still)
 
-    by_test : (t : Bool) → t ≡ true → plain.Loop inner (AndStmts (nest_stmt (sunk (loop + 1) count (counts_in body) (exchanged_round loop (round_in body)))) NoStmts)
+    by_test : (t : Bool) → t ≡ true →
+        plain.Loop inner (AndStmts (nest_stmt (sunk (loop + 1) count (counts_in body)
+        (exchanged_round loop (round_in body)))) NoStmts)
         ≡ nest_stmt (if t then within inner (sunk (loop + 1) count (counts_in body) (exchanged_round loop (round_in body))) else record { outer = count; inner = inner ∷ counts_in body; round = round_in body })
     by_test true e = refl
     by_test false e = cc
@@ -101,14 +114,17 @@ abbrev body_of_loop : PlainStmt → PlainBody
 body_of_loop (plain.Loop count body) = body
 body_of_loop (plain.Do op) = NoStmts
 
-pub ordered-loops : (loop inner k : ℕ) (body made : PlainBody) → plain.Loop k made ≡ ordered_loop loop inner body → loops_in made ≡ loops_in body
+pub ordered-loops : (loop inner k : ℕ) (body made : PlainBody) → plain.Loop k made ≡ ordered_loop loop inner body →
+    loops_in made ≡ loops_in body
 ordered-loops loop inner k body made h =
     let nest = ordered loop inner (counts_in body) (round_in body) in
     ap (λ s. loops_in (body_of_loop s)) h
     ∙ (ap length (counts-looped nest.inner nest.round (inner-ordered loop inner (counts_in body) (round_in body) (round-inner body)))
     ∙ long-ordered loop inner (counts_in body) (round_in body))
 
-pub ordered-deeper : (loop count inner k : ℕ) (body made : PlainBody) (whole : PlainStmt) → plain.Loop k made ≡ ordered_loop (loop + 1) inner body → whole ≡ sunk_loop loop count (one_loop k made) → whole ≡ ordered_loop loop count (one_loop inner body)
+pub ordered-deeper : (loop count inner k : ℕ) (body made : PlainBody) (whole : PlainStmt) →
+    plain.Loop k made ≡ ordered_loop (loop + 1) inner body → whole ≡ sunk_loop loop count (one_loop k made) →
+    whole ≡ ordered_loop loop count (one_loop inner body)
 ordered-deeper loop count inner k body made whole h e =
     let nest = ordered (loop + 1) inner (counts_in body) (round_in body) in
     let still : counts_in nest.round ≡ [] = inner-ordered (loop + 1) inner (counts_in body) (round_in body) (round-inner body) in
@@ -117,30 +133,40 @@ ordered-deeper loop count inner k body made whole h e =
 
 -- ---- what code reads of a body
 
-pub nested-alone : (loop : ℕ) (body : PlainBody) (parts : PlainParts) → counts_in body ≡ [] → true ≡ are_nested_in loop body parts
+pub nested-alone : (loop : ℕ) (body : PlainBody) (parts : PlainParts) → counts_in body ≡ [] →
+    true ≡ are_nested_in loop body parts
 nested-alone loop NoStmts parts e = refl
 nested-alone loop (AndStmts (plain.Do op) rest) parts e = refl
 nested-alone loop (AndStmts (plain.Loop count body) NoStmts) parts e = cc
 nested-alone loop (AndStmts (plain.Loop count body) (AndStmts stmt rest)) parts e = refl
 
-pub last-alone : (loop : ℕ) (body : PlainBody) (parts : PlainParts) → counts_in body ≡ [] → stride loop parts ≡ last_stride_in loop body parts
+pub last-alone : (loop : ℕ) (body : PlainBody) (parts : PlainParts) → counts_in body ≡ [] →
+    stride loop parts ≡ last_stride_in loop body parts
 last-alone loop NoStmts parts e = refl
 last-alone loop (AndStmts (plain.Do op) rest) parts e = refl
 last-alone loop (AndStmts (plain.Loop count body) NoStmts) parts e = cc
 last-alone loop (AndStmts (plain.Loop count body) (AndStmts stmt rest)) parts e = refl
 
 -- a loop in the body, which code has read
-pub nested-loop : (loop inner a b : ℕ) (items inside : List Stmt) (parts : PlainParts) (t : Bool) → plain_body items ≡ one_loop inner (plain_body inside) → a ≡ stride (loop + 1) parts → b ≡ stride loop parts → inner * a ≤ b → t ≡ are_nested_in (loop + 1) (plain_body inside) parts → t ≡ are_nested_in loop (plain_body items) parts
+pub nested-loop : (loop inner a b : ℕ) (items inside : List Stmt) (parts : PlainParts) (t : Bool) →
+    plain_body items ≡ one_loop inner (plain_body inside) → a ≡ stride (loop + 1) parts → b ≡ stride loop parts →
+    inner * a ≤ b → t ≡ are_nested_in (loop + 1) (plain_body inside) parts →
+    t ≡ are_nested_in loop (plain_body items) parts
 nested-loop loop inner a b items inside parts t seen ea eb le h =
     h ∙ (ap (λ k. k && are_nested_in (loop + 1) (plain_body inside) parts) (sym (ap₂ (λ x y. nat_le (inner * x) y) (sym ea) (sym eb) ∙ le-leb (inner * a) b le))
     ∙ ap (λ s. are_nested_in loop s parts) (sym seen))
 
-pub nested-not : (loop inner a b : ℕ) (items inside : List Stmt) (parts : PlainParts) → plain_body items ≡ one_loop inner (plain_body inside) → a ≡ stride (loop + 1) parts → b ≡ stride loop parts → nat_le (inner * a) b ≡ false → nat_le (inner * a) b ≡ are_nested_in loop (plain_body items) parts
+pub nested-not : (loop inner a b : ℕ) (items inside : List Stmt) (parts : PlainParts) →
+    plain_body items ≡ one_loop inner (plain_body inside) → a ≡ stride (loop + 1) parts → b ≡ stride loop parts →
+    nat_le (inner * a) b ≡ false → nat_le (inner * a) b ≡ are_nested_in loop (plain_body items) parts
 nested-not loop inner a b items inside parts seen ea eb fails =
     fails ∙ (ap (λ k. k && are_nested_in (loop + 1) (plain_body inside) parts) (sym (ap₂ (λ x y. nat_le (inner * x) y) (sym ea) (sym eb) ∙ fails))
     ∙ ap (λ s. are_nested_in loop s parts) (sym seen))
 
 -- the counts of the two loops are swapped, and the outer one goes on
-pub sunk-swapped : (loop count inner x y k : ℕ) (body changed made : PlainBody) → steps_less loop (first_load (round_in body)) ≡ true → changed ≡ exchanged_in loop body → x ≡ inner → y ≡ count → plain.Loop k made ≡ sunk_loop (loop + 1) y changed → plain.Loop x (one_loop k made) ≡ sunk_loop loop count (one_loop inner body)
+pub sunk-swapped : (loop count inner x y k : ℕ) (body changed made : PlainBody) →
+    steps_less loop (first_load (round_in body)) ≡ true → changed ≡ exchanged_in loop body → x ≡ inner → y ≡ count →
+    plain.Loop k made ≡ sunk_loop (loop + 1) y changed → plain.Loop x (one_loop k made)
+    ≡ sunk_loop loop count (one_loop inner body)
 sunk-swapped loop count inner x y k body changed made holds e ex ey h =
     ap (λ n. plain.Loop n (one_loop k made)) ex ∙ sunk-deeper loop count inner k body changed made holds e (h ∙ ap (λ n. sunk_loop (loop + 1) n changed) ey)

@@ -32,7 +32,8 @@ array-same words B B h = refl
 array-same words _ _ h = wrong h
 
 array-other : (words : ℕ) (a b : Array) →
-    same_array a b ≡ false → (array_start words a + words ≤ array_start words b) ⊎ (array_start words b + words ≤ array_start words a)
+    same_array a b ≡ false → (array_start words a + words ≤ array_start words b)
+    ⊎ (array_start words b + words ≤ array_start words a)
 array-other words X X h = absurd (true≢false h)
 array-other words X Y h = inl (omega arith)
 array-other words X A h = inl (omega arith)
@@ -71,8 +72,10 @@ record IsLoaded (p : PlainProgram) (to : Stored) (k : ℕ) : Type 0 where
   from : array_start (whole_lines p.size p.line) array ≤ k
   inside : k < array_start (whole_lines p.size p.line) array + whole_lines p.size p.line
 
-stored-step : (p : PlainProgram) (step : ℕ) (to : Stored) (op : PlainOp) (ws : List ℕ) (q k : ℕ) → is_placed p.lanes to step op ≡ true → StepFits p (step_of p op ws q) →
-    Contains (stored_words p.lanes (step_of p op ws q).action) k → IsStored p to (parts_numbers to.parts ws q).value step k
+stored-step : (p : PlainProgram) (step : ℕ) (to : Stored) (op : PlainOp) (ws : List ℕ) (q k : ℕ) →
+    is_placed p.lanes to step op ≡ true → StepFits p (step_of p op ws q) →
+    Contains (stored_words p.lanes (step_of p op ws q).action) k →
+    IsStored p to (parts_numbers to.parts ws q).value step k
 stored-step p step to (Store array (Sum constant parts) r) ws q k h fits has =
     let words : ℕ = whole_lines p.size p.line in
     let told = store_told p.lanes to step array constant parts r h in
@@ -88,7 +91,8 @@ stored-step p step to (Store array (Sum constant parts) r) ws q k h fits has =
     }
 stored-step p step to _ ws q k h fits has = absurd (Contains-nil k has)
 
-loaded-step : (p : PlainProgram) (step : ℕ) (to : Stored) (op : PlainOp) (ws : List ℕ) (q k : ℕ) → is_placed p.lanes to step op ≡ true → StepFits p (step_of p op ws q) →
+loaded-step : (p : PlainProgram) (step : ℕ) (to : Stored) (op : PlainOp) (ws : List ℕ) (q k : ℕ) →
+    is_placed p.lanes to step op ≡ true → StepFits p (step_of p op ws q) →
     Contains (loaded_words p.lanes (step_of p op ws q).action) k → IsLoaded p to k
 loaded-step p step to (Load r array place) ws q k h fits has =
     let words : ℕ = whole_lines p.size p.line in
@@ -104,8 +108,10 @@ loaded-step p step to (Load r array place) ws q k h fits has =
 loaded-step p step to _ ws q k h fits has = absurd (Contains-nil k has)
 
 -- what holds of a word by each operation that names it holds of it by all of them
-of-operations : (p : PlainProgram) (step : ℕ) (to : Stored) (ws : List ℕ) (q k : ℕ) (words : Action → List ℕ) (Told : Type 0) →
-    ((op : PlainOp) → is_placed p.lanes to step op ≡ true → StepFits p (step_of p op ws q) → Contains (words (step_of p op ws q).action) k → Told) →
+of-operations : (p : PlainProgram) (step : ℕ) (to : Stored) (ws : List ℕ) (q k : ℕ) (words : Action → List ℕ)
+    (Told : Type 0) →
+    ((op : PlainOp) → is_placed p.lanes to step op ≡ true → StepFits p (step_of p op ws q) →
+    Contains (words (step_of p op ws q).action) k → Told) →
     (body : PlainBody) → are_placed p.lanes to step body ≡ true → All (StepFits p) (steps_of_body p body ws q) →
     Contains (flat_map words (actions_of (steps_of_body p body ws q))) k → Told
 of-operations p step to ws q k words Told by NoStmts h fit has = absurd (Contains-nil k has)
@@ -146,14 +152,16 @@ never-both p to value step k s l =
     other
 
 -- two words stored into by rounds of which one ends before the other begins
-never-same : (p : PlainProgram) (to : Stored) (low high step k : ℕ) → low + step ≤ high → IsStored p to low step k → IsStored p to high step k → ⊥
+never-same : (p : PlainProgram) (to : Stored) (low high step k : ℕ) → low + step ≤ high → IsStored p to low step k →
+    IsStored p to high step k → ⊥
 never-same p to low high step k far s t =
     let a = s.before in
     let b = t.from in
     omega (arith, a, b, far)
 
 -- rounds of different values are apart
-pub apart_rounds : (p : PlainProgram) (counts : List ℕ) (to : Stored) (body : PlainBody) (vs ws : List ℕ) (q : ℕ) → are_apart p.lanes counts to body ≡ true →
+pub apart_rounds : (p : PlainProgram) (counts : List ℕ) (to : Stored) (body : PlainBody) (vs ws : List ℕ) (q : ℕ) →
+    are_apart p.lanes counts to body ≡ true →
     AreInRange counts vs → AreInRange counts ws → vs ≢ ws →
     All (StepFits p) (steps_of_body p body vs q) → All (StepFits p) (steps_of_body p body ws q) →
     AreApart p.lanes (actions_of (steps_of_body p body vs q)) (actions_of (steps_of_body p body ws q))

@@ -3,12 +3,12 @@ use Rattle.std.proofs.Common.{◌≡◌, ℕ, zero, suc, ◌+◌, ◌<◌, ◌�
 use Rattle.std.proofs.Common.{◌∙◌, subst, arith, ⊎_elim}
 use Rattle.std.specs.List.{range_with_len}
 use Rattle.std.proofs.Math.Path.{fun_ext}
-use Rattle.std.proofs.lemmas.Bool.{cases_eq}
 use Rattle.std.proofs.lemmas.List.Elements.{Contains-append_left, Contains-append_right, Contains-append_cases}
 use Rattle.icode.specs.declared.action.Action.{Action}
 use Rattle.icode.specs.Actions.{Step, actions_of}
-use Rattle.icode.proofs.Lines.{Contains-nil}
+use Rattle.icode.proofs.Lines.{Contains-range}
 use Rattle.fast_loops.proofs.Acts.{DoTheSame}
+use Rattle.fast_loops.proofs.Members.{into_flat_map, from_flat_map, range_item}
 use Rattle.fast_loops.proofs.Same.{same-trans}
 
 pub record AreFor (m lanes : ℕ) (xs ys : List Step) : Type 0 where
@@ -19,32 +19,27 @@ pub actions_of-append : (xs ys : List Step) → actions_of (xs ++ ys) ≡ action
 actions_of-append [] ys = refl
 actions_of-append (x ∷ xs) ys = ap (λ zs. x.action ∷ zs) (actions_of-append xs ys)
 
-pub actions_of-loop : (f : ℕ → List Step) (is : List ℕ) → actions_of (flat_map f is) ≡ flat_map (λ i. actions_of (f i)) is
+pub actions_of-loop : (f : ℕ → List Step) (is : List ℕ) → actions_of (flat_map f is)
+    ≡ flat_map (λ i. actions_of (f i)) is
 actions_of-loop f [] = refl
 actions_of-loop f (i ∷ is) = actions_of-append (f i) (flat_map f is) ∙ ap (λ zs. actions_of (f i) ++ zs) (actions_of-loop f is)
 
--- a step of a round is one of the loop's, and the other way round
-pub in-loop : (f : ℕ → List Step) (a n i : ℕ) (s : Step) → a ≤ i → i < a + n → Contains (f i) s → Contains (flat_map f (range_with_len a n)) s
-in-loop f a zero i s low high h = absurd (omega arith)
-in-loop f a (suc n) i s low high h = ⊎_elim
-    (λ (e : a ≡ i). Contains-append_left (f a) (flat_map f (range_with_len (a + 1) n)) s (subst (λ k. Contains (f k) s) (sym e) h))
-    (λ ne. Contains-append_right (f a) (flat_map f (range_with_len (a + 1) n)) s (in-loop f (a + 1) n i s (omega arith) (omega arith) h))
-    (cases_eq a i)
+-- an item of a round is one of the loop's, and the other way round
+pub in-loop : {X : Type 0} (f : ℕ → List X) (a n i : ℕ) (s : X) → a ≤ i → i < a + n → Contains (f i) s →
+    Contains (flat_map f (range_with_len a n)) s
+in-loop f a n i s low high h = into_flat_map f (range_with_len a n) i s (Contains-range n a i low high) h
 
-pub record InRound (f : ℕ → List Step) (a n : ℕ) (s : Step) : Type 0 where
+pub record InRound {X : Type 0} (f : ℕ → List X) (a n : ℕ) (s : X) : Type 0 where
   pub round : ℕ
   pub low : a ≤ round
   pub high : round < a + n
   pub inside : Contains (f round) s
 
-pub of-loop : (f : ℕ → List Step) (a n : ℕ) (s : Step) → Contains (flat_map f (range_with_len a n)) s → InRound f a n s
-of-loop f a zero s h = absurd (Contains-nil s h)
-of-loop f a (suc n) s h = ⊎_elim
-    (λ here. record { round = a; low = omega arith; high = omega arith; inside = here })
-    (λ later. let r = of-loop f (a + 1) n s later in
-    let low = r.low in let high = r.high in
-    record { round = r.round; low = omega arith; high = omega arith; inside = r.inside })
-    (Contains-append_cases (f a) (flat_map f (range_with_len (a + 1) n)) s h)
+pub of-loop : {X : Type 0} (f : ℕ → List X) (a n : ℕ) (s : X) → Contains (flat_map f (range_with_len a n)) s → InRound f a n s
+of-loop f a n s h =
+    let at = from_flat_map f (range_with_len a n) s h in
+    let within = range_item a n at.0 at.1 in
+    record { round = at.0; low = within.0; high = within.1; inside = at.2 }
 
 module _ (m lanes : ℕ)
     (same-append : (a b c d : List Action) → DoTheSame m lanes a b → DoTheSame m lanes c d → DoTheSame m lanes (a ++ c) (b ++ d)) where
@@ -76,7 +71,8 @@ module _ (m lanes : ℕ)
 
   -- two loops, one in the other, in either order
   pub for-exchange : (outer inner : ℕ) (round : ℕ → ℕ → List Step) →
-      DoTheSame m lanes (flat_map (λ j. flat_map (λ i. actions_of (round i j)) (range_with_len 0 outer)) (range_with_len 0 inner))
+      DoTheSame m lanes (flat_map (λ j. flat_map (λ i. actions_of (round i j)) (range_with_len 0 outer))
+      (range_with_len 0 inner))
       (flat_map (λ i. flat_map (λ j. actions_of (round i j)) (range_with_len 0 inner)) (range_with_len 0 outer)) →
       AreFor m lanes (flat_map (λ j. flat_map (λ i. round i j) (range_with_len 0 outer)) (range_with_len 0 inner))
       (flat_map (λ i. flat_map (λ j. round i j) (range_with_len 0 inner)) (range_with_len 0 outer))

@@ -18,7 +18,8 @@ round_len loop (AndStmts (Do op) rest) = ap (λ n. 1 + n) (round_len loop rest)
 round_len loop (AndStmts (Loop count body) rest) = ap (λ n. count * len_of_body body + n) (round_len loop rest)
 
 -- loops around rounds that are as long
-looped_len : (counts : List ℕ) (a b : PlainBody) → len_of_body a ≡ len_of_body b → len_of_body (looped counts a) ≡ len_of_body (looped counts b)
+looped_len : (counts : List ℕ) (a b : PlainBody) → len_of_body a ≡ len_of_body b →
+    len_of_body (looped counts a) ≡ len_of_body (looped counts b)
 looped_len [] a b e = e
 looped_len (count ∷ counts) a b e = ap (λ n. count * n + 0) (looped_len counts a b e)
 
@@ -41,13 +42,15 @@ either_len loop outer count counts round deeper true e =
     ∙ turned_len count outer (len_of_body (looped counts round))
 either_len loop outer count counts round deeper false e = refl
 
-sunk_len : (loop outer : ℕ) (counts : List ℕ) (round : PlainBody) → nest_len (sunk loop outer counts round) ≡ len_of_body (looped (outer ∷ counts) round)
+sunk_len : (loop outer : ℕ) (counts : List ℕ) (round : PlainBody) →
+    nest_len (sunk loop outer counts round) ≡ len_of_body (looped (outer ∷ counts) round)
 sunk_len loop outer [] round = refl
 sunk_len loop outer (count ∷ counts) round =
     either_len loop outer count counts round (sunk (loop + 1) outer counts (exchanged_round loop round)) (steps_less loop (first_load round))
     (sunk_len (loop + 1) outer counts (exchanged_round loop round))
 
-ordered_len : (loop outer : ℕ) (counts : List ℕ) (round : PlainBody) → nest_len (ordered loop outer counts round) ≡ len_of_body (looped (outer ∷ counts) round)
+ordered_len : (loop outer : ℕ) (counts : List ℕ) (round : PlainBody) →
+    nest_len (ordered loop outer counts round) ≡ len_of_body (looped (outer ∷ counts) round)
 ordered_len loop outer [] round = refl
 ordered_len loop outer (count ∷ counts) round =
     let rest = ordered (loop + 1) count counts round in
@@ -74,5 +77,6 @@ body_len lanes NoStmts = refl
 body_len lanes (AndStmts stmt rest) = ap₂ (λ m n. m + n) (stmt_len lanes stmt) (body_len lanes rest)
 
 -- whether its statements are nests or not
-pub as_long : (p : PlainProgram) (body : PlainBody) (q : ℕ) → length (steps_of_body p (interchanged_body p.lanes body) [] q) ≡ length (steps_of_body p body [] q)
+pub as_long : (p : PlainProgram) (body : PlainBody) (q : ℕ) →
+    length (steps_of_body p (interchanged_body p.lanes body) [] q) ≡ length (steps_of_body p body [] q)
 as_long p body q = body_length p (interchanged_body p.lanes body) [] q ∙ body_len p.lanes body ∙ sym (body_length p body [] q)

@@ -22,7 +22,8 @@ inner-round (AndStmts (Loop count body) NoStmts) e = cc
 inner-round (AndStmts (Loop count body) (AndStmts stmt rest)) e = refl
 
 -- the loops around innermost statements are those that were put there
-pub counts-looped : (counts : List ℕ) (round : PlainBody) → counts_in round ≡ [] → counts_in (looped counts round) ≡ counts
+pub counts-looped : (counts : List ℕ) (round : PlainBody) → counts_in round ≡ [] →
+    counts_in (looped counts round) ≡ counts
 counts-looped [] round e = e
 counts-looped (count ∷ counts) round e = ap (λ cs. count ∷ cs) (counts-looped counts round e)
 
@@ -31,7 +32,8 @@ round-looped [] round e = inner-round round e
 round-looped (count ∷ counts) round e = round-looped counts round e
 
 -- innermost statements stay so
-pub inner-exchanged : (loop : ℕ) (round : PlainBody) → counts_in round ≡ [] → counts_in (exchanged_round loop round) ≡ []
+pub inner-exchanged : (loop : ℕ) (round : PlainBody) → counts_in round ≡ [] →
+    counts_in (exchanged_round loop round) ≡ []
 inner-exchanged loop NoStmts e = refl
 inner-exchanged loop (AndStmts (Do op) rest) e = refl
 inner-exchanged loop (AndStmts (Loop count body) NoStmts) e = cc
@@ -40,7 +42,8 @@ inner-exchanged loop (AndStmts (Loop count body) (AndStmts (Loop inner within) r
 
 -- ---- the order of loops
 
-pub inner-sunk : (loop outer : ℕ) (counts : List ℕ) (round : PlainBody) → counts_in round ≡ [] → counts_in (sunk loop outer counts round).round ≡ []
+pub inner-sunk : (loop outer : ℕ) (counts : List ℕ) (round : PlainBody) → counts_in round ≡ [] →
+    counts_in (sunk loop outer counts round).round ≡ []
 inner-sunk loop outer [] round e = e
 inner-sunk loop outer (count ∷ counts) round e = by_test (steps_less loop (first_load round)) (inner-sunk (loop + 1) outer counts (exchanged_round loop round) (inner-exchanged loop round e))
   where
@@ -49,7 +52,8 @@ inner-sunk loop outer (count ∷ counts) round e = by_test (steps_less loop (fir
     by_test true h = h
     by_test false h = e
 
-pub inner-ordered : (loop outer : ℕ) (counts : List ℕ) (round : PlainBody) → counts_in round ≡ [] → counts_in (ordered loop outer counts round).round ≡ []
+pub inner-ordered : (loop outer : ℕ) (counts : List ℕ) (round : PlainBody) → counts_in round ≡ [] →
+    counts_in (ordered loop outer counts round).round ≡ []
 inner-ordered loop outer [] round e = e
 inner-ordered loop outer (count ∷ counts) round e =
     let rest = ordered (loop + 1) count counts round in
@@ -57,7 +61,8 @@ inner-ordered loop outer (count ∷ counts) round e =
 
 -- ---- as many loops
 
-pub long-sunk : (loop outer : ℕ) (counts : List ℕ) (round : PlainBody) → length (sunk loop outer counts round).inner ≡ length counts
+pub long-sunk : (loop outer : ℕ) (counts : List ℕ) (round : PlainBody) →
+    length (sunk loop outer counts round).inner ≡ length counts
 long-sunk loop outer [] round = refl
 long-sunk loop outer (count ∷ counts) round = by_test (steps_less loop (first_load round)) (long-sunk (loop + 1) outer counts (exchanged_round loop round))
   where
@@ -66,7 +71,8 @@ long-sunk loop outer (count ∷ counts) round = by_test (steps_less loop (first_
     by_test true h = ap suc h
     by_test false h = refl
 
-pub long-ordered : (loop outer : ℕ) (counts : List ℕ) (round : PlainBody) → length (ordered loop outer counts round).inner ≡ length counts
+pub long-ordered : (loop outer : ℕ) (counts : List ℕ) (round : PlainBody) →
+    length (ordered loop outer counts round).inner ≡ length counts
 long-ordered loop outer [] round = refl
 long-ordered loop outer (count ∷ counts) round =
     let rest = ordered (loop + 1) count counts round in
@@ -75,37 +81,44 @@ long-ordered loop outer (count ∷ counts) round =
 -- ---- the steps of loops
 
 -- whatever the count of the outermost
-pub nested-in : (loop count : ℕ) (body : PlainBody) (parts : PlainParts) → are_nested loop (count ∷ counts_in body) parts ≡ are_nested_in loop body parts
+pub nested-in : (loop count : ℕ) (body : PlainBody) (parts : PlainParts) →
+    are_nested loop (count ∷ counts_in body) parts ≡ are_nested_in loop body parts
 nested-in loop count NoStmts parts = refl
 nested-in loop count (AndStmts (Do op) rest) parts = refl
 nested-in loop count (AndStmts (Loop inner body) NoStmts) parts = ap (λ t. nat_le (inner * stride (loop + 1) parts) (stride loop parts) && t) (nested-in (loop + 1) inner body parts)
 nested-in loop count (AndStmts (Loop inner body) (AndStmts stmt rest)) parts = refl
 
-pub last-in : (loop count : ℕ) (body : PlainBody) (parts : PlainParts) → last_stride loop (count ∷ counts_in body) parts ≡ last_stride_in loop body parts
+pub last-in : (loop count : ℕ) (body : PlainBody) (parts : PlainParts) →
+    last_stride loop (count ∷ counts_in body) parts ≡ last_stride_in loop body parts
 last-in loop count NoStmts parts = refl
 last-in loop count (AndStmts (Do op) rest) parts = refl
 last-in loop count (AndStmts (Loop inner body) NoStmts) parts = last-in (loop + 1) inner body parts
 last-in loop count (AndStmts (Loop inner body) (AndStmts stmt rest)) parts = refl
 
-pub apart-in : (lanes count : ℕ) (body : PlainBody) (to : Stored) (round : PlainBody) → are_apart lanes (count ∷ counts_in body) to round ≡ are_apart_in lanes body to round
+pub apart-in : (lanes count : ℕ) (body : PlainBody) (to : Stored) (round : PlainBody) →
+    are_apart lanes (count ∷ counts_in body) to round ≡ are_apart_in lanes body to round
 apart-in lanes count body to round =
     ap₂ (λ n s. are_linear 0 to.parts && (n && are_placed lanes to s round)) (nested-in 0 count body to.parts) (last-in 0 count body to.parts)
 
-pub independent-in : (lanes count : ℕ) (body : PlainBody) (to : Option Stored) (round : PlainBody) → are_independent lanes (count ∷ counts_in body) to round ≡ are_independent_in lanes body to round
+pub independent-in : (lanes count : ℕ) (body : PlainBody) (to : Option Stored) (round : PlainBody) →
+    are_independent lanes (count ∷ counts_in body) to round ≡ are_independent_in lanes body to round
 independent-in lanes count body None round = refl
 independent-in lanes count body (Some to) round = apart-in lanes count body to round
 
 -- ---- nests
 
-pub nest-ordered : (lanes count : ℕ) (body : PlainBody) → are_independent_in lanes body (first_store (round_in body)) (round_in body) ≡ true → interchanged_nest lanes (Loop count body) ≡ ordered_loop 0 count body
+pub nest-ordered : (lanes count : ℕ) (body : PlainBody) → are_independent_in lanes body (first_store (round_in body))
+    (round_in body) ≡ true → interchanged_nest lanes (Loop count body) ≡ ordered_loop 0 count body
 nest-ordered lanes count body h =
     by_test (are_independent lanes (count ∷ counts_in body) (first_store (round_in body)) (round_in body)) (independent-in lanes count body (first_store (round_in body)) (round_in body) ∙ h)
   where
-    by_test : (t : Bool) → t ≡ true → (if t then ordered_loop 0 count body else Loop count body) ≡ ordered_loop 0 count body
+    by_test : (t : Bool) → t ≡ true → (if t then ordered_loop 0 count body else Loop count body)
+        ≡ ordered_loop 0 count body
     by_test true e = refl
     by_test false e = cc
 
-pub nest-stays : (lanes count : ℕ) (body : PlainBody) → are_independent_in lanes body (first_store (round_in body)) (round_in body) ≡ false → interchanged_nest lanes (Loop count body) ≡ Loop count body
+pub nest-stays : (lanes count : ℕ) (body : PlainBody) → are_independent_in lanes body (first_store (round_in body))
+    (round_in body) ≡ false → interchanged_nest lanes (Loop count body) ≡ Loop count body
 nest-stays lanes count body h =
     by_test (are_independent lanes (count ∷ counts_in body) (first_store (round_in body)) (round_in body)) (independent-in lanes count body (first_store (round_in body)) (round_in body) ∙ h)
   where

@@ -27,7 +27,8 @@ module _ (m lanes : ℕ) where
       same-between m lanes _ _ (c ++ (a ++ b)) _ (append_assoc a b c) all refl
 
   -- a loop whose rounds may come before or behind other actions
-  pub commute-loop : (n : ℕ) (f : ℕ → List Action) (c : List Action) → IsSure c → ((i : ℕ) → i < n → IsSure (f i)) → ((i : ℕ) → i < n → Commute (f i) c) →
+  pub commute-loop : (n : ℕ) (f : ℕ → List Action) (c : List Action) → IsSure c → ((i : ℕ) → i < n → IsSure (f i)) →
+      ((i : ℕ) → i < n → Commute (f i) c) →
       Commute (flat_map f (range_with_len 0 n)) c
   commute-loop zero f c sure_there sure commute = same-between m lanes c c c (c ++ []) refl sure_there (sym (append-nil c))
   commute-loop (suc n) f c sure_there sure commute =
@@ -39,7 +40,8 @@ module _ (m lanes : ℕ) where
       same-between m lanes _ _ _ _ (ap (λ (fs : List Action). fs ++ c) is) whole (sym (ap (λ (fs : List Action). c ++ fs) is))
 
   -- four lists, of which those in the middle change places
-  commute-middle : (a b c d : List Action) → IsSure a → IsSure d → Commute b c → DoTheSame m lanes ((a ++ b) ++ (c ++ d)) ((a ++ c) ++ (b ++ d))
+  commute-middle : (a b c d : List Action) → IsSure a → IsSure d → Commute b c →
+      DoTheSame m lanes ((a ++ b) ++ (c ++ d)) ((a ++ c) ++ (b ++ d))
   commute-middle a b c d sure sure_too commute =
       let middle = same-append m lanes a a ((b ++ c) ++ d) ((c ++ b) ++ d) sure (same-append m lanes (b ++ c) (c ++ b) d d commute sure_too) in
       same-between m lanes _ _ _ _ (shape a b c d) middle (sym (shape a c b d))
@@ -72,7 +74,8 @@ module _ (m lanes : ℕ) where
   -- loops over rounds of which those at different places may come in either order
   pub exchanged_loops : (outer inner : ℕ) (round : ℕ → ℕ → List Action) →
       ((i j : ℕ) → i < outer → j < inner → IsSure (round i j)) →
-      ((i j k l : ℕ) → i < outer → j < inner → k < outer → l < inner → ((i ≢ k) ⊎ (j ≢ l)) → Commute (round i j) (round k l)) →
+      ((i j k l : ℕ) → i < outer → j < inner → k < outer → l < inner → ((i ≢ k) ⊎ (j ≢ l)) →
+      Commute (round i j) (round k l)) →
       DoTheSame m lanes
       (flat_map (λ j. flat_map (λ i. round i j) (range_with_len 0 outer)) (range_with_len 0 inner))
       (flat_map (λ i. flat_map (λ j. round i j) (range_with_len 0 inner)) (range_with_len 0 outer))

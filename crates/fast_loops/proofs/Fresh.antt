@@ -14,13 +14,15 @@ use Rattle.fast_loops.proofs.Linear.{wrong}
 one-source : (r next x : ℕ) → ((r == next) && nat_lt x next) ≡ true → (r ≡ next) × (x < next)
 one-source r next x h = let two = both_true (r == next) (nat_lt x next) h in (eqb-true r next two.0, ltb-true x next two.1)
 
-two-sources : (r next x y : ℕ) → ((r == next) && (nat_lt x next && nat_lt y next)) ≡ true → (r ≡ next) × (x < next) × (y < next)
+two-sources : (r next x y : ℕ) → ((r == next) && (nat_lt x next && nat_lt y next)) ≡ true →
+    (r ≡ next) × (x < next) × (y < next)
 two-sources r next x y h =
     let two = both_true (r == next) (nat_lt x next && nat_lt y next) h in
     let both = both_true (nat_lt x next) (nat_lt y next) two.1 in
     (eqb-true r next two.0, ltb-true x next both.0, ltb-true y next both.1)
 
-fresh-op : (p : PlainProgram) (next : ℕ) (op : PlainOp) (vs : List ℕ) (q : ℕ) → is_fresh p.lanes next op ≡ true → IsFresh p.lanes next (step_of p op vs q).action
+fresh-op : (p : PlainProgram) (next : ℕ) (op : PlainOp) (vs : List ℕ) (q : ℕ) → is_fresh p.lanes next op ≡ true →
+    IsFresh p.lanes next (step_of p op vs q).action
 fresh-op p next (Load r array place) vs q h = eqb-true r next h
 fresh-op p next (Store array place r) vs q h = ltb-true r next h
 fresh-op p next (Zero r) vs q h = eqb-true r next h
@@ -32,7 +34,8 @@ fresh-op p next (MulTable r x table place step) vs q h = one-source r next x h
 fresh-op p next (Tile r x) vs q h =
     let two = both_true (r == next) (nat_le (x + p.lanes) next) h in (eqb-true r next two.0, leb-true (x + p.lanes) next two.1)
 
-put-op : (p : PlainProgram) (next : ℕ) (op : PlainOp) (vs : List ℕ) (q : ℕ) → put_after p.lanes next op ≡ next_after p.lanes next (step_of p op vs q).action
+put-op : (p : PlainProgram) (next : ℕ) (op : PlainOp) (vs : List ℕ) (q : ℕ) →
+    put_after p.lanes next op ≡ next_after p.lanes next (step_of p op vs q).action
 put-op p next (Load r array place) vs q = refl
 put-op p next (Store array place r) vs q = refl
 put-op p next (Zero r) vs q = refl
@@ -43,7 +46,8 @@ put-op p next (MulConst r x factor) vs q = refl
 put-op p next (MulTable r x table place step) vs q = refl
 put-op p next (Tile r x) vs q = refl
 
-fresh-from : (p : PlainProgram) (next : ℕ) (body : PlainBody) (vs : List ℕ) (q : ℕ) → are_fresh p.lanes next body ≡ true →
+fresh-from : (p : PlainProgram) (next : ℕ) (body : PlainBody) (vs : List ℕ) (q : ℕ) →
+    are_fresh p.lanes next body ≡ true →
     AreFresh p.lanes next (actions_of (steps_of_body p body vs q))
 fresh-from p next NoStmts vs q h = tt
 fresh-from p next (AndStmts (Do op) rest) vs q h =
@@ -63,7 +67,8 @@ fresh_acts p body vs q h = fresh-from p 0 body vs q h
 
 -- the operation puts and reads the registers that it did
 same-registers : (lanes next loop : ℕ) (op : PlainOp) →
-    (is_fresh lanes next (exchanged_op loop op) ≡ is_fresh lanes next op) × (put_after lanes next (exchanged_op loop op) ≡ put_after lanes next op)
+    (is_fresh lanes next (exchanged_op loop op) ≡ is_fresh lanes next op)
+    × (put_after lanes next (exchanged_op loop op) ≡ put_after lanes next op)
 same-registers lanes next loop (Load r array place) = (refl, refl)
 same-registers lanes next loop (Store array place r) = (refl, refl)
 same-registers lanes next loop (Zero r) = (refl, refl)
@@ -74,7 +79,8 @@ same-registers lanes next loop (MulConst r x factor) = (refl, refl)
 same-registers lanes next loop (MulTable r x table place step) = (refl, refl)
 same-registers lanes next loop (Tile r x) = (refl, refl)
 
-are-fresh-exchanged : (lanes next loop : ℕ) (body : PlainBody) → are_fresh lanes next (exchanged_round loop body) ≡ are_fresh lanes next body
+are-fresh-exchanged : (lanes next loop : ℕ) (body : PlainBody) →
+    are_fresh lanes next (exchanged_round loop body) ≡ are_fresh lanes next body
 are-fresh-exchanged lanes next loop NoStmts = refl
 are-fresh-exchanged lanes next loop (AndStmts (Do op) rest) =
     ap₂ (λ one more. one && more)
@@ -84,5 +90,6 @@ are-fresh-exchanged lanes next loop (AndStmts (Do op) rest) =
 are-fresh-exchanged lanes next loop (AndStmts (Loop count body) rest) = refl
 
 -- an exchanged round reads no register that it has not put
-pub fresh_exchanged : (lanes next loop : ℕ) (body : PlainBody) → are_fresh lanes next body ≡ true → are_fresh lanes next (exchanged_round loop body) ≡ true
+pub fresh_exchanged : (lanes next loop : ℕ) (body : PlainBody) → are_fresh lanes next body ≡ true →
+    are_fresh lanes next (exchanged_round loop body) ≡ true
 fresh_exchanged lanes next loop body h = are-fresh-exchanged lanes next loop body ∙ h

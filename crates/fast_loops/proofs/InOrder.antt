@@ -16,7 +16,8 @@ length_at [] q = refl
 length_at (file ∷ files) zero = refl
 length_at (file ∷ files) (suc q) = length_at files q
 
-lengths-set : (files : List (List ℕ)) (q : ℕ) (file : List ℕ) → lengths (slice_set files q file) ≡ slice_set (lengths files) q (length file)
+lengths-set : (files : List (List ℕ)) (q : ℕ) (file : List ℕ) →
+    lengths (slice_set files q file) ≡ slice_set (lengths files) q (length file)
 lengths-set [] q file = refl
 lengths-set (other ∷ files) zero file = refl
 lengths-set (other ∷ files) (suc q) file = ap (λ ns. length other ∷ ns) (lengths-set files q file)
@@ -31,8 +32,10 @@ module _ (code : Code) (lists : List (List (List Action))) where
   abbrev other : Code
   other = record code { lists = lists }
 
-  module _ (each : (phase q : ℕ) → q < code.procs → DoTheSame code.modulus code.lanes (acts other phase q) (acts code phase q)) where
-    processor_alike : (phase q : ℕ) (v w : Whole) → q < code.procs → AreAlike v w → AreAlike (processor_alone other phase q v) (processor_alone code phase q w)
+  module _ (each : (phase q : ℕ) → q < code.procs → DoTheSame code.modulus code.lanes (acts other phase q)
+      (acts code phase q)) where
+    processor_alike : (phase q : ℕ) (v w : Whole) → q < code.procs → AreAlike v w →
+        AreAlike (processor_alone other phase q v) (processor_alone code phase q w)
     processor_alike phase q v w lt alike =
         let file : List ℕ = slice_index_or v.registers q [] in
         let file_too : List ℕ = slice_index_or w.registers q [] in
@@ -55,20 +58,23 @@ module _ (code : Code) (lists : List (List (List Action))) where
               ∙ sym (lengths-set w.registers q after_too);
         }
 
-    processors_alike : (phase n q : ℕ) (v w : Whole) → q + n ≤ code.procs → AreAlike v w → AreAlike (processors_alone other phase n q v) (processors_alone code phase n q w)
+    processors_alike : (phase n q : ℕ) (v w : Whole) → q + n ≤ code.procs → AreAlike v w →
+        AreAlike (processors_alone other phase n q v) (processors_alone code phase n q w)
     processors_alike phase zero q v w room alike = alike
     processors_alike phase (suc n) q v w room alike =
         processors_alike phase n (q + 1) (processor_alone other phase q v) (processor_alone code phase q w) (omega arith)
         (processor_alike phase q v w (omega arith) alike)
 
-    phases_alike : (n phase : ℕ) (v w : Whole) → AreAlike v w → AreAlike (phases_alone other n phase v) (phases_alone code n phase w)
+    phases_alike : (n phase : ℕ) (v w : Whole) → AreAlike v w →
+        AreAlike (phases_alone other n phase v) (phases_alone code n phase w)
     phases_alike zero phase v w alike = alike
     phases_alike (suc n) phase v w alike =
         phases_alike n (phase + 1) (processors_alone other phase code.procs 0 v) (processors_alone code phase code.procs 0 w)
         (processors_alike phase code.procs 0 v w (omega arith) alike)
 
     -- processor after processor and phase after phase
-    pub same_in_order : length lists ≡ length code.lists → (x : List ℕ) → (in_order other x).memory ≡ (in_order code x).memory
+    pub same_in_order : length lists ≡ length code.lists → (x : List ℕ) →
+        (in_order other x).memory ≡ (in_order code x).memory
     same_in_order many x =
         let begin : Whole = record { memory = (start code x).memory; registers = (start code x).registers } in
         ap (λ n. (phases_alone other n 0 begin).memory) many

@@ -21,7 +21,8 @@ use Rattle.fast_loops.proofs.Acts.{memory_by, DoTheSame}
 
 -- ---- words
 
-set_there : (xs ys : List ℕ) (i v : ℕ) → length xs ≡ length ys → slice_get (slice_set xs i v) i ≡ slice_get (slice_set ys i v) i
+set_there : (xs ys : List ℕ) (i v : ℕ) → length xs ≡ length ys →
+    slice_get (slice_set xs i v) i ≡ slice_get (slice_set ys i v) i
 set_there [] [] i v long = refl
 set_there [] (y ∷ ys) i v long = absurd (omega arith)
 set_there (x ∷ xs) [] i v long = absurd (omega arith)
@@ -29,7 +30,8 @@ set_there (x ∷ xs) (y ∷ ys) zero v long = refl
 set_there (x ∷ xs) (y ∷ ys) (suc i) v long = set_there xs ys i v (omega arith)
 
 -- the same words written into lists of one length, at a place where they are written or where the lists agree
-written_alike : (vs xs ys : List ℕ) (i k : ℕ) → length xs ≡ length ys → ((i ≤ k → k < i + length vs → ⊥) → slice_get xs k ≡ slice_get ys k) →
+written_alike : (vs xs ys : List ℕ) (i k : ℕ) → length xs ≡ length ys →
+    ((i ≤ k → k < i + length vs → ⊥) → slice_get xs k ≡ slice_get ys k) →
     slice_get (with_words xs i vs) k ≡ slice_get (with_words ys i vs) k
 written_alike [] xs ys i k long h = h (λ a b. omega arith)
 written_alike (v ∷ vs) xs ys i k long h =
@@ -40,12 +42,14 @@ written_alike (v ∷ vs) xs ys i k long h =
       | inr other ↦ slice_get-set_agree xs ys i k v (h (λ a b. outside (omega arith) (omega arith)))
     ])
 
-map-alike : (f g : ℕ → ℕ) (n i : ℕ) → ((l : ℕ) → l < i + n → f l ≡ g l) → map f (range_with_len i n) ≡ map g (range_with_len i n)
+map-alike : (f g : ℕ → ℕ) (n i : ℕ) → ((l : ℕ) → l < i + n → f l ≡ g l) →
+    map f (range_with_len i n) ≡ map g (range_with_len i n)
 map-alike f g zero i h = refl
 map-alike f g (suc n) i h =
     ap₂ (λ (x : ℕ) (xs : List ℕ). x ∷ xs) (h i (omega arith)) (map-alike f g n (i + 1) (λ l below. h l (omega arith)))
 
-flat_map-alike : (f g : ℕ → List ℕ) (n i : ℕ) → ((l : ℕ) → l < i + n → f l ≡ g l) → flat_map f (range_with_len i n) ≡ flat_map g (range_with_len i n)
+flat_map-alike : (f g : ℕ → List ℕ) (n i : ℕ) → ((l : ℕ) → l < i + n → f l ≡ g l) →
+    flat_map f (range_with_len i n) ≡ flat_map g (range_with_len i n)
 flat_map-alike f g zero i h = refl
 flat_map-alike f g (suc n) i h =
     ap₂ (λ (xs ys : List ℕ). xs ++ ys) (h i (omega arith)) (flat_map-alike f g n (i + 1) (λ l below. h l (omega arith)))
@@ -78,7 +82,8 @@ module _ (lanes next : ℕ) (other : List ℕ) (s t : Local) (same : Agree lanes
       words_at-agree lanes s.memory t.memory address (λ k a b. same.words k (apart k (Contains-range lanes address k a b)))
 
   -- the same words put from the next register on
-  put_alike : (m after : ℕ) (f : Action) → register_put f ≡ next → memory_after lanes f s ≡ s.memory → memory_after lanes f t ≡ t.memory →
+  put_alike : (m after : ℕ) (f : Action) → register_put f ≡ next → memory_after lanes f s ≡ s.memory →
+      memory_after lanes f t ≡ t.memory →
       value_put m lanes f s ≡ value_put m lanes f t → after * lanes ≤ next * lanes + length (value_put m lanes f s) →
       Agree lanes after other (effect m lanes f s) (effect m lanes f t)
   put_alike m after f is kept kept_too values enough =
@@ -98,7 +103,8 @@ module _ (lanes next : ℕ) (other : List ℕ) (s t : Local) (same : Agree lanes
       }
     where
       inside : (k : ℕ) → register_put f * lanes ≡ next * lanes → k < after * lanes →
-          (register_put f * lanes ≤ k → k < register_put f * lanes + length (value_put m lanes f s) → ⊥) → k < next * lanes
+          (register_put f * lanes ≤ k → k < register_put f * lanes + length (value_put m lanes f s) → ⊥) →
+          k < next * lanes
       inside k place below outside =
           elim (cases_lt k (next * lanes)) [
             | inl lower ↦ lower
@@ -106,7 +112,8 @@ module _ (lanes next : ℕ) (other : List ℕ) (s t : Local) (same : Agree lanes
           ]
 
   two_size : (f : ℕ → ℕ → ℕ) (x y : ℕ) →
-      (next + 1) * lanes ≤ next * lanes + length (lane_by_lane f (register_of lanes s.registers x) (register_of lanes s.registers y))
+      (next + 1) * lanes ≤ next * lanes + length (lane_by_lane f (register_of lanes s.registers x)
+      (register_of lanes s.registers y))
   two_size f x y =
       let xs = register_of lanes s.registers x in
       let ys = register_of lanes s.registers y in
@@ -116,7 +123,8 @@ module _ (lanes next : ℕ) (other : List ℕ) (s t : Local) (same : Agree lanes
       omega arith
 
   -- one action
-  act_alike : (m : ℕ) (f : Action) → IsFresh lanes next f → IsWide lanes f → ((k : ℕ) → Contains (loaded_words lanes f) k → Contains other k → ⊥) →
+  act_alike : (m : ℕ) (f : Action) → IsFresh lanes next f → IsWide lanes f →
+      ((k : ℕ) → Contains (loaded_words lanes f) k → Contains other k → ⊥) →
       Agree lanes (next_after lanes next f) other (effect m lanes f s) (effect m lanes f t)
   act_alike m (Load r address) fresh wide apart =
       let size = length-words_at lanes s.memory address in
@@ -152,9 +160,11 @@ module _ (lanes next : ℕ) (other : List ℕ) (s t : Local) (same : Agree lanes
       put_alike m (next + lanes) (Tile r x) fresh.0 refl refl (tile_alike x fresh.1) (omega arith)
 
 -- a list of actions
-pub acts_alike : (m lanes next : ℕ) (other : List ℕ) (fs : List Action) (s t : Local) → AreFresh lanes next fs → AreWide lanes fs →
+pub acts_alike : (m lanes next : ℕ) (other : List ℕ) (fs : List Action) (s t : Local) → AreFresh lanes next fs →
+    AreWide lanes fs →
     ((k : ℕ) → Loads lanes fs k → Contains other k → ⊥) → Agree lanes next other s t →
-    (k : ℕ) → (Contains other k → ⊥) → slice_get (effects m lanes fs s).memory k ≡ slice_get (effects m lanes fs t).memory k
+    (k : ℕ) → (Contains other k → ⊥) → slice_get (effects m lanes fs s).memory k
+    ≡ slice_get (effects m lanes fs t).memory k
 acts_alike m lanes next other [] s t fresh wide apart same k elsewhere = same.words k elsewhere
 acts_alike m lanes next other (f ∷ fs) s t fresh wide apart same k elsewhere =
     acts_alike m lanes (next_after lanes next f) other fs (effect m lanes f s) (effect m lanes f t) fresh.1 wide.1

@@ -9,6 +9,7 @@ pub mod Counted
 pub mod Counts
 pub mod Folds
 pub mod Fresh
+pub mod Grouped
 pub mod InOrder
 pub mod Independent
 pub mod Items

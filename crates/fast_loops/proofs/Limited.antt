@@ -24,7 +24,8 @@ pub and_three : (a b c : Bool) → a ≡ true → b ≡ true → c ≡ true → 
 and_three a b c ea eb ec = and_from a (b && c) ea (and_from b c eb ec)
 
 -- what stands behind a rank stands behind lower ones
-parts-lower : (parts : PlainParts) (n least lower : ℕ) → lower ≤ least → are_parts_within parts n least ≡ true → are_parts_within parts n lower ≡ true
+parts-lower : (parts : PlainParts) (n least lower : ℕ) → lower ≤ least → are_parts_within parts n least ≡ true →
+    are_parts_within parts n lower ≡ true
 parts-lower NoParts n least lower le h = refl
 parts-lower (AndParts part rest) n least lower le h =
     let within = and_parts (is_part_within part n) _ h in
@@ -33,14 +34,18 @@ parts-lower (AndParts part rest) n least lower le h =
     and_three (is_part_within part n) (nat_le lower (rank part)) (are_parts_within rest n (next_rank part)) within.0 (le-leb lower (rank part) (omega (arith, bound, le))) ranked.1
 
 -- two multiples of loops' values in front
-pair-within : (loop a b n least : ℕ) (rest : PlainParts) → loop + 1 < n → least ≤ loop + 1 → is_small_positive a ≡ true → is_small_positive b ≡ true → are_parts_within rest n (loop + 3) ≡ true → are_parts_within (AndParts (Var loop a) (AndParts (Var (loop + 1) b) rest)) n least ≡ true
+pair-within : (loop a b n least : ℕ) (rest : PlainParts) → loop + 1 < n → least ≤ loop + 1 →
+    is_small_positive a ≡ true → is_small_positive b ≡ true → are_parts_within rest n (loop + 3) ≡ true →
+    are_parts_within (AndParts (Var loop a) (AndParts (Var (loop + 1) b) rest)) n least ≡ true
 pair-within loop a b n least rest deep le ea eb h =
     and_three (nat_lt loop n && is_small_positive a) (nat_le least (1 + loop)) _ (and_from (nat_lt loop n) _ (lt-ltb loop n (omega (arith, deep))) ea) (le-leb least (1 + loop) (omega (arith, le)))
     (and_three (nat_lt (loop + 1) n && is_small_positive b) (nat_le (suc (1 + loop)) (1 + (loop + 1))) _ (and_from (nat_lt (loop + 1) n) _ (lt-ltb (loop + 1) n deep) eb) (le-leb (suc (1 + loop)) (1 + (loop + 1)) (omega arith))
     (parts-lower rest n (loop + 3) (suc (1 + (loop + 1))) (omega arith) h))
 
 -- one in front
-pub one-within : (depth a n least behind : ℕ) (rest : PlainParts) → depth < n → least ≤ depth + 1 → is_small_positive a ≡ true → depth + 2 ≤ behind → are_parts_within rest n behind ≡ true → are_parts_within (AndParts (Var depth a) rest) n least ≡ true
+pub one-within : (depth a n least behind : ℕ) (rest : PlainParts) → depth < n → least ≤ depth + 1 →
+    is_small_positive a ≡ true → depth + 2 ≤ behind → are_parts_within rest n behind ≡ true →
+    are_parts_within (AndParts (Var depth a) rest) n least ≡ true
 one-within depth a n least behind rest deep le ea lower h =
     and_three (nat_lt depth n && is_small_positive a) (nat_le least (1 + depth)) _ (and_from (nat_lt depth n) _ (lt-ltb depth n deep) ea) (le-leb least (1 + depth) (omega (arith, le)))
     (parts-lower rest n behind (suc (1 + depth)) (omega (arith, lower)) h)
@@ -52,7 +57,8 @@ pub record IsVarWithin (depth a n least : ℕ) (rest : PlainParts) : Type 0 wher
   pub ranked : least ≤ depth + 1
   pub behind : are_parts_within rest n (depth + 2) ≡ true
 
-pub var-within : (depth a n least : ℕ) (rest : PlainParts) → are_parts_within (AndParts (Var depth a) rest) n least ≡ true → IsVarWithin depth a n least rest
+pub var-within : (depth a n least : ℕ) (rest : PlainParts) →
+    are_parts_within (AndParts (Var depth a) rest) n least ≡ true → IsVarWithin depth a n least rest
 var-within depth a n least rest h =
     let within = and_parts (nat_lt depth n && is_small_positive a) _ h in
     let part = and_parts (nat_lt depth n) _ within.0 in
@@ -65,7 +71,9 @@ var-within depth a n least rest h =
       behind = parts-lower rest n (suc (1 + depth)) (depth + 2) (omega arith) ranked.1;
     }
 
-first-within : (loop factor n least : ℕ) (rest : PlainParts) → loop + 1 < n → n ≤ 64 → least ≤ loop + 1 → is_small_positive factor ≡ true → are_parts_within rest n (loop + 2) ≡ true → are_parts_within (exchanged_first loop factor rest) n least ≡ true
+first-within : (loop factor n least : ℕ) (rest : PlainParts) → loop + 1 < n → n ≤ 64 → least ≤ loop + 1 →
+    is_small_positive factor ≡ true → are_parts_within rest n (loop + 2) ≡ true →
+    are_parts_within (exchanged_first loop factor rest) n least ≡ true
 first-within loop factor n least NoParts deep top le small h =
     one-within (loop + 1) factor n least (loop + 3) NoParts deep (omega (arith, le)) small (omega arith) refl
 first-within loop factor n least (AndParts (Var depth inner) rest) deep top le small h =
@@ -75,7 +83,9 @@ first-within loop factor n least (AndParts (Var depth inner) rest) deep top le s
     known = var-within depth inner n (loop + 2) rest h
 
     by_test : (t : Bool) → ((t ≡ true) × (depth ≡ loop + 1)) ⊎ ((t ≡ false) × (depth ≢ loop + 1)) →
-        are_parts_within (if t then AndParts (Var loop inner) (AndParts (Var (loop + 1) factor) rest) else AndParts (Var (loop + 1) factor) (AndParts (Var depth inner) rest)) n least ≡ true
+        are_parts_within (if t then AndParts (Var loop inner)
+        (AndParts (Var (loop + 1) factor) rest) else AndParts (Var (loop + 1) factor) (AndParts (Var depth inner) rest))
+        n least ≡ true
     by_test true (inl e) = pair-within loop inner factor n least rest deep le known.small small (parts-lower rest n (depth + 2) (loop + 3) (omega (arith, e.1)) known.behind)
     by_test true (inr e) = cc
     by_test false (inl e) = cc
@@ -103,7 +113,8 @@ first-within loop factor n least (AndParts (Quot of divisor a) rest) deep top le
     (and_three (is_part_within (Quot of divisor a) n) (nat_le (loop + 3) 5001) (are_parts_within rest n 5001) within.0 (le-leb (loop + 3) 5001 (omega (arith, deep, top))) ranked.1)
 
 -- parts stand by their ranks where no part has that of the loop behind it
-parts-within : (loop n least : ℕ) (parts : PlainParts) → loop + 1 < n → n ≤ 64 → least ≢ loop + 2 → are_parts_within parts n least ≡ true → are_parts_within (exchanged_parts loop parts) n least ≡ true
+parts-within : (loop n least : ℕ) (parts : PlainParts) → loop + 1 < n → n ≤ 64 → least ≢ loop + 2 →
+    are_parts_within parts n least ≡ true → are_parts_within (exchanged_parts loop parts) n least ≡ true
 parts-within loop n least NoParts deep top ne h = refl
 parts-within loop n least (AndParts (Var depth factor) rest) deep top ne h =
     by_tests (depth == loop) (depth == loop + 1) (eqb_tells depth loop) (eqb_tells depth (loop + 1))
@@ -112,9 +123,11 @@ parts-within loop n least (AndParts (Var depth factor) rest) deep top ne h =
     known : IsVarWithin depth factor n least rest
     known = var-within depth factor n least rest h
 
-    by_tests : (t u : Bool) → ((t ≡ true) × (depth ≡ loop)) ⊎ ((t ≡ false) × (depth ≢ loop)) → ((u ≡ true) × (depth ≡ loop + 1)) ⊎ ((u ≡ false) × (depth ≢ loop + 1)) →
+    by_tests : (t u : Bool) → ((t ≡ true) × (depth ≡ loop)) ⊎ ((t ≡ false) × (depth ≢ loop)) →
+        ((u ≡ true) × (depth ≡ loop + 1)) ⊎ ((u ≡ false) × (depth ≢ loop + 1)) →
         (depth ≢ loop → are_parts_within (exchanged_parts loop rest) n (depth + 2) ≡ true) →
-        are_parts_within (if t then exchanged_first loop factor rest else if u then AndParts (Var loop factor) rest else AndParts (Var depth factor) (exchanged_parts loop rest)) n least ≡ true
+        are_parts_within (if t then exchanged_first loop factor rest else if u then AndParts (Var loop factor) rest
+        else AndParts (Var depth factor) (exchanged_parts loop rest)) n least ≡ true
     by_tests true u (inl e) d more =
         first-within loop factor n least rest deep top (omega (arith, known.ranked, e.1)) known.small (parts-lower rest n (depth + 2) (loop + 2) (omega (arith, e.1)) known.behind)
     by_tests true u (inr e) d more = cc
@@ -147,7 +160,9 @@ first-count : (loop factor : ℕ) (rest : PlainParts) → all_parts (exchanged_f
 first-count loop factor NoParts = refl
 first-count loop factor (AndParts (Var depth inner) rest) = by_test (depth == loop + 1)
   where
-    by_test : (t : Bool) → all_parts (if t then AndParts (Var loop inner) (AndParts (Var (loop + 1) factor) rest) else AndParts (Var (loop + 1) factor) (AndParts (Var depth inner) rest)) ≡ 1 + (1 + all_parts rest)
+    by_test : (t : Bool) → all_parts (if t then AndParts (Var loop inner)
+        (AndParts (Var (loop + 1) factor) rest) else AndParts (Var (loop + 1) factor) (AndParts (Var depth inner) rest))
+        ≡ 1 + (1 + all_parts rest)
     by_test true = refl
     by_test false = refl
 first-count loop factor (AndParts (Proc a) rest) = refl
@@ -160,7 +175,8 @@ parts-count loop NoParts = refl
 parts-count loop (AndParts (Var depth factor) rest) = by_tests (depth == loop) (depth == loop + 1) (parts-count loop rest)
   where
     by_tests : (t u : Bool) → all_parts (exchanged_parts loop rest) ≡ all_parts rest →
-        all_parts (if t then exchanged_first loop factor rest else if u then AndParts (Var loop factor) rest else AndParts (Var depth factor) (exchanged_parts loop rest)) ≡ 1 + all_parts rest
+        all_parts (if t then exchanged_first loop factor rest else if u then AndParts (Var loop factor) rest
+        else AndParts (Var depth factor) (exchanged_parts loop rest)) ≡ 1 + all_parts rest
     by_tests true u h = first-count loop factor rest
     by_tests false true h = refl
     by_tests false false h = ap (λ n. 1 + n) h
@@ -169,11 +185,14 @@ parts-count loop (AndParts (Product outer inner a) rest) = ap (λ n. 1 + n) (par
 parts-count loop (AndParts (Rem of divisor a) rest) = ap (λ n. part_parts (Rem of divisor a) + n) (parts-count loop rest)
 parts-count loop (AndParts (Quot of divisor a) rest) = ap (λ n. part_parts (Quot of divisor a) + n) (parts-count loop rest)
 
-first-depth : (loop factor : ℕ) (rest : PlainParts) → parts_depth (exchanged_first loop factor rest) ≡ max 0 (parts_depth rest)
+first-depth : (loop factor : ℕ) (rest : PlainParts) → parts_depth (exchanged_first loop factor rest)
+    ≡ max 0 (parts_depth rest)
 first-depth loop factor NoParts = refl
 first-depth loop factor (AndParts (Var depth inner) rest) = by_test (depth == loop + 1)
   where
-    by_test : (t : Bool) → parts_depth (if t then AndParts (Var loop inner) (AndParts (Var (loop + 1) factor) rest) else AndParts (Var (loop + 1) factor) (AndParts (Var depth inner) rest)) ≡ max 0 (max 0 (parts_depth rest))
+    by_test : (t : Bool) → parts_depth (if t then AndParts (Var loop inner)
+        (AndParts (Var (loop + 1) factor) rest) else AndParts (Var (loop + 1) factor) (AndParts (Var depth inner) rest))
+        ≡ max 0 (max 0 (parts_depth rest))
     by_test true = refl
     by_test false = refl
 first-depth loop factor (AndParts (Proc a) rest) = refl
@@ -186,7 +205,8 @@ parts-depth loop NoParts = refl
 parts-depth loop (AndParts (Var depth factor) rest) = by_tests (depth == loop) (depth == loop + 1) (parts-depth loop rest)
   where
     by_tests : (t u : Bool) → parts_depth (exchanged_parts loop rest) ≡ parts_depth rest →
-        parts_depth (if t then exchanged_first loop factor rest else if u then AndParts (Var loop factor) rest else AndParts (Var depth factor) (exchanged_parts loop rest)) ≡ max 0 (parts_depth rest)
+        parts_depth (if t then exchanged_first loop factor rest else if u then AndParts (Var loop factor) rest
+        else AndParts (Var depth factor) (exchanged_parts loop rest)) ≡ max 0 (parts_depth rest)
     by_tests true u h = first-depth loop factor rest
     by_tests false true h = refl
     by_tests false false h = ap (max 0) h
@@ -197,7 +217,8 @@ parts-depth loop (AndParts (Quot of divisor a) rest) = ap (max (part_depth (Quot
 
 -- ---- statements
 
-place-within : (loop n : ℕ) (place : PlainExpr) → loop + 1 < n → n ≤ 64 → is_expr_within place n ≡ true → is_expr_within (exchanged_place loop place) n ≡ true
+place-within : (loop n : ℕ) (place : PlainExpr) → loop + 1 < n → n ≤ 64 → is_expr_within place n ≡ true →
+    is_expr_within (exchanged_place loop place) n ≡ true
 place-within loop n (Sum constant parts) deep top h =
     let within = and_parts (is_small constant && are_parts_within parts n 0) _ h in
     let sum = and_parts (is_small constant) _ within.0 in
@@ -207,7 +228,8 @@ place-within loop n (Sum constant parts) deep top h =
     (ap (λ k. nat_le k 64 && nat_le (parts_depth (exchanged_parts loop parts)) 64) (parts-count loop parts)
     ∙ (ap (λ k. nat_le (all_parts parts) 64 && nat_le k 64) (parts-depth loop parts) ∙ within.1))
 
-op-within : (m loop n : ℕ) (op : PlainOp) → loop + 1 < n → n ≤ 64 → is_op_within m op n ≡ true → is_op_within m (exchanged_op loop op) n ≡ true
+op-within : (m loop n : ℕ) (op : PlainOp) → loop + 1 < n → n ≤ 64 → is_op_within m op n ≡ true →
+    is_op_within m (exchanged_op loop op) n ≡ true
 op-within m loop n (Load register array place) deep top h =
     let both = and_parts (is_small register) _ h in
     and_from (is_small register) _ both.0 (place-within loop n place deep top both.1)
@@ -227,7 +249,8 @@ op-within m loop n (Neg register source) deep top h = h
 op-within m loop n (MulConst register source factor) deep top h = h
 op-within m loop n (Tile register source) deep top h = h
 
-round-within : (m loop n : ℕ) (round : PlainBody) → loop + 1 < n → n ≤ 64 → is_body_within m round n ≡ true → is_body_within m (exchanged_round loop round) n ≡ true
+round-within : (m loop n : ℕ) (round : PlainBody) → loop + 1 < n → n ≤ 64 → is_body_within m round n ≡ true →
+    is_body_within m (exchanged_round loop round) n ≡ true
 round-within m loop n NoStmts deep top h = refl
 round-within m loop n (AndStmts (Do op) rest) deep top h =
     let both = and_parts (is_op_within m op n) _ h in
@@ -242,19 +265,23 @@ pub record IsLoopWithin (m count depth : ℕ) (body : PlainBody) : Type 0 where
   pub deep : depth < 64
   pub within : is_body_within m body (depth + 1) ≡ true
 
-pub loop-within : (m count depth : ℕ) (body : PlainBody) → is_stmt_within m (Loop count body) depth ≡ true → IsLoopWithin m count depth body
+pub loop-within : (m count depth : ℕ) (body : PlainBody) → is_stmt_within m (Loop count body) depth ≡ true →
+    IsLoopWithin m count depth body
 loop-within m count depth body h =
     let a = and_parts (is_small_positive count) _ h in
     let b = and_parts (nat_lt depth 64) _ a.1 in
     record { small = a.0; deep = ltb-true depth 64 b.0; within = b.1 }
 
-pub loop-is : (m count depth : ℕ) (body : PlainBody) → IsLoopWithin m count depth body → is_stmt_within m (Loop count body) depth ≡ true
+pub loop-is : (m count depth : ℕ) (body : PlainBody) → IsLoopWithin m count depth body →
+    is_stmt_within m (Loop count body) depth ≡ true
 loop-is m count depth body k = and_three (is_small_positive count) (nat_lt depth 64) (is_body_within m body (depth + 1)) k.small (lt-ltb depth 64 k.deep) k.within
 
-pub only-within : (m depth : ℕ) (stmt : PlainStmt) → is_body_within m (AndStmts stmt NoStmts) depth ≡ true → is_stmt_within m stmt depth ≡ true
+pub only-within : (m depth : ℕ) (stmt : PlainStmt) → is_body_within m (AndStmts stmt NoStmts) depth ≡ true →
+    is_stmt_within m stmt depth ≡ true
 only-within m depth stmt h = (and_parts (is_stmt_within m stmt depth) _ h).0
 
-only-is : (m depth : ℕ) (stmt : PlainStmt) → is_stmt_within m stmt depth ≡ true → is_body_within m (AndStmts stmt NoStmts) depth ≡ true
+only-is : (m depth : ℕ) (stmt : PlainStmt) → is_stmt_within m stmt depth ≡ true →
+    is_body_within m (AndStmts stmt NoStmts) depth ≡ true
 only-is m depth stmt h = and_from (is_stmt_within m stmt depth) true h refl
 
 -- what is known of loops of these counts within the limits, and of the round in them
@@ -263,7 +290,8 @@ record AreLoopsWithin (m depth : ℕ) (counts : List ℕ) (round : PlainBody) : 
   deep : depth + length counts ≤ 64
   within : is_body_within m round (depth + length counts) ≡ true
 
-looped-within : (m depth : ℕ) (counts : List ℕ) (round : PlainBody) → depth ≤ 64 → is_body_within m (looped counts round) depth ≡ true → AreLoopsWithin m depth counts round
+looped-within : (m depth : ℕ) (counts : List ℕ) (round : PlainBody) → depth ≤ 64 →
+    is_body_within m (looped counts round) depth ≡ true → AreLoopsWithin m depth counts round
 looped-within m depth [] round top h = record { small = refl; deep = omega (arith, top); within = ap (λ n. is_body_within m round n) (omega arith) ∙ h }
 looped-within m depth (count ∷ counts) round top h =
     let one = loop-within m count depth (looped counts round) (only-within m depth (Loop count (looped counts round)) h) in
@@ -274,7 +302,8 @@ looped-within m depth (count ∷ counts) round top h =
       within = ap (λ n. is_body_within m round n) (omega arith) ∙ more.within;
     }
 
-looped-is : (m depth : ℕ) (counts : List ℕ) (round : PlainBody) → AreLoopsWithin m depth counts round → is_body_within m (looped counts round) depth ≡ true
+looped-is : (m depth : ℕ) (counts : List ℕ) (round : PlainBody) → AreLoopsWithin m depth counts round →
+    is_body_within m (looped counts round) depth ≡ true
 looped-is m depth [] round k = ap (λ n. is_body_within m round n) (omega arith) ∙ k.within
 looped-is m depth (count ∷ counts) round k =
     let both = and_parts (is_small_positive count) _ k.small in
@@ -288,7 +317,9 @@ record IsNestWithin (m n many : ℕ) (nest : Nest) : Type 0 where
   many_are : length nest.inner ≡ many
   within : is_body_within m nest.round n ≡ true
 
-sunk-within : (m n loop outer : ℕ) (counts : List ℕ) (round : PlainBody) → loop + length counts < n → n ≤ 64 → list_all is_small_positive (outer ∷ counts) ≡ true → is_body_within m round n ≡ true → IsNestWithin m n (length counts) (sunk loop outer counts round)
+sunk-within : (m n loop outer : ℕ) (counts : List ℕ) (round : PlainBody) → loop + length counts < n → n ≤ 64 →
+    list_all is_small_positive (outer ∷ counts) ≡ true → is_body_within m round n ≡ true →
+    IsNestWithin m n (length counts) (sunk loop outer counts round)
 sunk-within m n loop outer [] round deep top small h = record { small = small; many_are = refl; within = h }
 sunk-within m n loop outer (count ∷ counts) round deep top small h =
     by_test (steps_less loop (first_load round))
@@ -300,12 +331,15 @@ sunk-within m n loop outer (count ∷ counts) round deep top small h =
     second : (is_small_positive count ≡ true) × (list_all is_small_positive counts ≡ true)
     second = and_parts (is_small_positive count) _ first.1
 
-    by_test : (t : Bool) → IsNestWithin m n (length counts) (sunk (loop + 1) outer counts (exchanged_round loop round)) →
+    by_test : (t : Bool) → IsNestWithin m n (length counts) (sunk (loop + 1) outer counts (exchanged_round loop round))
+        →
         IsNestWithin m n (suc (length counts)) (if t then within count (sunk (loop + 1) outer counts (exchanged_round loop round)) else record { outer = outer; inner = count ∷ counts; round = round })
     by_test true k = record { small = and_from (is_small_positive count) _ second.0 k.small; many_are = ap suc k.many_are; within = k.within }
     by_test false k = record { small = small; many_are = refl; within = h }
 
-ordered-within : (m n loop outer : ℕ) (counts : List ℕ) (round : PlainBody) → loop + length counts < n → n ≤ 64 → list_all is_small_positive (outer ∷ counts) ≡ true → is_body_within m round n ≡ true → IsNestWithin m n (length counts) (ordered loop outer counts round)
+ordered-within : (m n loop outer : ℕ) (counts : List ℕ) (round : PlainBody) → loop + length counts < n → n ≤ 64 →
+    list_all is_small_positive (outer ∷ counts) ≡ true → is_body_within m round n ≡ true →
+    IsNestWithin m n (length counts) (ordered loop outer counts round)
 ordered-within m n loop outer [] round deep top small h = record { small = small; many_are = refl; within = h }
 ordered-within m n loop outer (count ∷ counts) round deep top small h =
     let first = and_parts (is_small_positive outer) _ small in
@@ -316,7 +350,8 @@ ordered-within m n loop outer (count ∷ counts) round deep top small h =
     record { small = made.small; many_are = made.many_are ∙ ap suc many; within = made.within }
 
 -- a nest that is interchanged stays within the limits
-pub nest-within : (m lanes : ℕ) (stmt : PlainStmt) → is_stmt_within m stmt 0 ≡ true → is_stmt_within m (interchanged_nest lanes stmt) 0 ≡ true
+pub nest-within : (m lanes : ℕ) (stmt : PlainStmt) → is_stmt_within m stmt 0 ≡ true →
+    is_stmt_within m (interchanged_nest lanes stmt) 0 ≡ true
 nest-within m lanes (Do op) h = h
 nest-within m lanes (Loop count body) h =
     by_test (are_independent lanes (count ∷ counts_in body) (first_store (round_in body)) (round_in body))
@@ -324,10 +359,13 @@ nest-within m lanes (Loop count body) h =
     known : AreLoopsWithin m 0 (count ∷ counts_in body) (round_in body)
     known = looped-within m 0 (count ∷ counts_in body) (round_in body) (omega arith) (ap (λ b. is_body_within m (AndStmts (Loop count b) NoStmts) 0) (looped_is body) ∙ only-is m 0 (Loop count body) h)
 
-    turned : IsNestWithin m (0 + length (count ∷ counts_in body)) (length (counts_in body)) (ordered 0 count (counts_in body) (round_in body))
+    turned : IsNestWithin m (0 + length (count ∷ counts_in body)) (length (counts_in body))
+        (ordered 0 count (counts_in body) (round_in body))
     turned = ordered-within m (0 + length (count ∷ counts_in body)) 0 count (counts_in body) (round_in body) (omega arith) known.deep known.small known.within
 
-    by_test : (t : Bool) → is_stmt_within m (if t then nest_stmt (ordered 0 count (counts_in body) (round_in body)) else Loop count body) 0 ≡ true
+    by_test : (t : Bool) →
+        is_stmt_within m (if t then nest_stmt (ordered 0 count (counts_in body) (round_in body)) else Loop count body) 0
+        ≡ true
     by_test false = h
     by_test true =
         let made = ordered 0 count (counts_in body) (round_in body) in
@@ -336,20 +374,23 @@ nest-within m lanes (Loop count body) h =
         (looped-is m 0 (made.outer ∷ made.inner) made.round
         (record { small = turned.small; deep = (let deep = known.deep in let many = turned.many_are in omega (arith, deep, many)); within = ap (λ n. is_body_within m made.round n) (sym same) ∙ turned.within }))
 
-body-within : (m lanes : ℕ) (body : PlainBody) → is_body_within m body 0 ≡ true → is_body_within m (interchanged_body lanes body) 0 ≡ true
+body-within : (m lanes : ℕ) (body : PlainBody) → is_body_within m body 0 ≡ true →
+    is_body_within m (interchanged_body lanes body) 0 ≡ true
 body-within m lanes NoStmts h = refl
 body-within m lanes (AndStmts stmt rest) h =
     let both = and_parts (is_stmt_within m stmt 0) _ h in
     and_from (is_stmt_within m (interchanged_nest lanes stmt) 0) _ (nest-within m lanes stmt both.0) (body-within m lanes rest both.1)
 
 -- the phases of a program whose loops are interchanged stay within the limits
-pub phases-within : (m lanes : ℕ) (phases : List PlainBody) → are_phases_within m phases ≡ true → are_phases_within m (map (interchanged_body lanes) phases) ≡ true
+pub phases-within : (m lanes : ℕ) (phases : List PlainBody) → are_phases_within m phases ≡ true →
+    are_phases_within m (map (interchanged_body lanes) phases) ≡ true
 phases-within m lanes [] h = h
 phases-within m lanes (body ∷ rest) h =
     let both = and_parts (nat_lt 0 (length (body ∷ rest))) _ h in
     and_from (nat_lt 0 (length (map (interchanged_body lanes) (body ∷ rest)))) _ (lt-ltb 0 _ (omega arith)) (all (body ∷ rest) both.1)
   where
-    all : (bodies : List PlainBody) → list_all (λ b. is_body_within m b 0) bodies ≡ true → list_all (λ b. is_body_within m b 0) (map (interchanged_body lanes) bodies) ≡ true
+    all : (bodies : List PlainBody) → list_all (λ b. is_body_within m b 0) bodies ≡ true →
+        list_all (λ b. is_body_within m b 0) (map (interchanged_body lanes) bodies) ≡ true
     all [] h = refl
     all (b ∷ bs) h =
         let both = and_parts (is_body_within m b 0) _ h in
@@ -373,10 +414,12 @@ body-shallow m (AndStmts stmt rest) h =
     and_from (is_shallow stmt) _ (stmt-shallow m stmt both.0) (body-shallow m rest both.1)
 
 -- the nests of a program within the limits are shallow
-pub phases-shallow : (m : ℕ) (phases : List PlainBody) → are_phases_within m phases ≡ true → list_all are_shallow phases ≡ true
+pub phases-shallow : (m : ℕ) (phases : List PlainBody) → are_phases_within m phases ≡ true →
+    list_all are_shallow phases ≡ true
 phases-shallow m phases h = all phases (and_parts (nat_lt 0 (length phases)) _ h).1
   where
-    all : (bodies : List PlainBody) → list_all (λ b. is_body_within m b 0) bodies ≡ true → list_all are_shallow bodies ≡ true
+    all : (bodies : List PlainBody) → list_all (λ b. is_body_within m b 0) bodies ≡ true →
+        list_all are_shallow bodies ≡ true
     all [] h = refl
     all (b ∷ bs) h =
         let both = and_parts (is_body_within m b 0) _ h in

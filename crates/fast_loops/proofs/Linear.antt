@@ -55,7 +55,8 @@ second-at loop vs us i j is =
     let e : loop + 1 ≡ suc (length vs) = omega arith in
     ap (slice_index (vs ++ i ∷ j ∷ us)) e ∙ at-second vs us i j
 
-rounds-exchanged : (loop : ℕ) (vs us : List ℕ) (i j : ℕ) → length vs ≡ loop → AreExchanged loop (vs ++ i ∷ j ∷ us) (vs ++ j ∷ i ∷ us)
+rounds-exchanged : (loop : ℕ) (vs us : List ℕ) (i j : ℕ) → length vs ≡ loop →
+    AreExchanged loop (vs ++ i ∷ j ∷ us) (vs ++ j ∷ i ∷ us)
 rounds-exchanged loop vs us i j is =
     record {
       first = first-at loop vs us j i is ∙ sym (second-at loop vs us i j is);
@@ -87,11 +88,13 @@ pub passed : {X : Type 0} (a b : ℕ) (x y : X) → a ≢ b → (if a == b then 
 passed a b x y e = ap (λ t. cond t x y) (ne_eqb a b e)
 
 -- the processor's part stands before those of the loops' values
-pub proc_first : (least factor : ℕ) (rest : PlainParts) → are_linear least (AndParts (Proc factor) rest) ≡ true → (least ≡ 0) × (are_linear least rest ≡ true)
+pub proc_first : (least factor : ℕ) (rest : PlainParts) → are_linear least (AndParts (Proc factor) rest) ≡ true →
+    (least ≡ 0) × (are_linear least rest ≡ true)
 proc_first least factor rest h = let two = both_true (least == 0) (are_linear least rest) h in (eqb-true least 0 two.0, two.1)
 
 -- no part of a loop before the least depth
-pub stride_before : (least loop : ℕ) (parts : PlainParts) → are_linear least parts ≡ true → loop < least → stride loop parts ≡ 0
+pub stride_before : (least loop : ℕ) (parts : PlainParts) → are_linear least parts ≡ true → loop < least →
+    stride loop parts ≡ 0
 stride_before least loop NoParts h before = refl
 stride_before least loop (AndParts (Proc factor) rest) h before = stride_before least loop rest (proc_first least factor rest h).1 before
 stride_before least loop (AndParts (Var depth factor) rest) h before =
@@ -102,7 +105,8 @@ stride_before least loop (AndParts (Rem of divisor factor) rest) h before = wron
 stride_before least loop (AndParts (Quot of divisor factor) rest) h before = wrong h
 
 -- parts of deeper loops alone
-deeper : (least loop : ℕ) (parts : PlainParts) (ws us : List ℕ) (q : ℕ) → are_linear least parts ≡ true → loop + 1 < least → Agree loop ws us →
+deeper : (least loop : ℕ) (parts : PlainParts) (ws us : List ℕ) (q : ℕ) → are_linear least parts ≡ true →
+    loop + 1 < least → Agree loop ws us →
     parts_numbers parts us q ≡ parts_numbers parts ws q
 deeper least loop NoParts ws us q h before agree = refl
 deeper least loop (AndParts (Proc factor) rest) ws us q h before agree = ap (with_part (alone (q * factor))) (deeper least loop rest ws us q (proc_first least factor rest h).1 before agree)
@@ -116,8 +120,10 @@ deeper least loop (AndParts (Rem of divisor factor) rest) ws us q h before agree
 deeper least loop (AndParts (Quot of divisor factor) rest) ws us q h before agree = wrong h
 
 -- where the loop's multiple stands in front
-exchanged-first : (loop factor : ℕ) (rest : PlainParts) (ws us : List ℕ) (q : ℕ) → are_linear (loop + 1) rest ≡ true → AreExchanged loop ws us →
-    parts_numbers (exchanged_first loop factor rest) us q ≡ with_part (alone (slice_index ws loop * factor)) (parts_numbers rest ws q)
+exchanged-first : (loop factor : ℕ) (rest : PlainParts) (ws us : List ℕ) (q : ℕ) → are_linear (loop + 1) rest ≡ true →
+    AreExchanged loop ws us →
+    parts_numbers (exchanged_first loop factor rest) us q ≡ with_part (alone (slice_index ws loop * factor))
+    (parts_numbers rest ws q)
 exchanged-first loop factor NoParts ws us q h is = ap (λ v. with_part (alone (v * factor)) (alone 0)) is.second
 exchanged-first loop factor (AndParts (Proc other) rest) ws us q h is = absurd (omega (arith, (proc_first (loop + 1) other rest h).0))
 exchanged-first loop factor (AndParts (Var depth inner) rest) ws us q h is =
@@ -146,7 +152,8 @@ exchanged-first loop factor (AndParts (Rem of divisor other) rest) ws us q h is 
 exchanged-first loop factor (AndParts (Quot of divisor other) rest) ws us q h is = wrong h
 
 -- parts of an exchanged round have the numbers that they had
-exchanged-numbers : (least loop : ℕ) (parts : PlainParts) (ws us : List ℕ) (q : ℕ) → are_linear least parts ≡ true → AreExchanged loop ws us →
+exchanged-numbers : (least loop : ℕ) (parts : PlainParts) (ws us : List ℕ) (q : ℕ) → are_linear least parts ≡ true →
+    AreExchanged loop ws us →
     parts_numbers (exchanged_parts loop parts) us q ≡ parts_numbers parts ws q
 exchanged-numbers least loop NoParts ws us q h is = refl
 exchanged-numbers least loop (AndParts (Proc factor) rest) ws us q h is =
@@ -182,7 +189,8 @@ exchanged-numbers least loop (AndParts (Rem of divisor other) rest) ws us q h is
 exchanged-numbers least loop (AndParts (Quot of divisor other) rest) ws us q h is = wrong h
 
 -- a place of an exchanged round is the place that it was
-exchanged_numbers : (loop : ℕ) (place : PlainExpr) (ws us : List ℕ) (q : ℕ) → is_linear place ≡ true → AreExchanged loop ws us →
+exchanged_numbers : (loop : ℕ) (place : PlainExpr) (ws us : List ℕ) (q : ℕ) → is_linear place ≡ true →
+    AreExchanged loop ws us →
     sum_numbers (exchanged_place loop place) us q ≡ sum_numbers place ws q
 exchanged_numbers loop (Sum constant parts) ws us q h is = ap (with_sum constant) (exchanged-numbers 0 loop parts ws us q h is)
 
@@ -230,7 +238,8 @@ has_linear_places (AndStmts (Loop count body) rest) = false
 both : (a b : Bool) → a ≡ true → b ≡ true → (a && b) ≡ true
 both a b h g = ap₂ (λ x y. x && y) h g
 
-placed-linear : (lanes : ℕ) (to : Stored) (step : ℕ) (op : PlainOp) → are_linear 0 to.parts ≡ true → is_placed lanes to step op ≡ true →
+placed-linear : (lanes : ℕ) (to : Stored) (step : ℕ) (op : PlainOp) → are_linear 0 to.parts ≡ true →
+    is_placed lanes to step op ≡ true →
     has_linear_place op ≡ true
 placed-linear lanes to step (Load r array place) linear h = (both_true (not (same_array array to.array)) (is_linear place) h).1
 placed-linear lanes to step (Store array (Sum constant parts) r) linear h =
@@ -244,7 +253,8 @@ placed-linear lanes to step (MulConst r x factor) linear h = refl
 placed-linear lanes to step (Tile r x) linear h = refl
 
 -- statements that store by linear parts have linear places
-pub placed_linear : (lanes : ℕ) (to : Stored) (step : ℕ) (body : PlainBody) → are_linear 0 to.parts ≡ true → are_placed lanes to step body ≡ true →
+pub placed_linear : (lanes : ℕ) (to : Stored) (step : ℕ) (body : PlainBody) → are_linear 0 to.parts ≡ true →
+    are_placed lanes to step body ≡ true →
     has_linear_places body ≡ true
 placed_linear lanes to step NoStmts linear h = refl
 placed_linear lanes to step (AndStmts (Do op) rest) linear h =
@@ -254,7 +264,8 @@ placed_linear lanes to step (AndStmts (Loop count body) rest) linear h = wrong h
 
 -- ---- exchanged places are linear
 
-lower : (least less : ℕ) (parts : PlainParts) → less ≤ least → are_linear least parts ≡ true → are_linear less parts ≡ true
+lower : (least less : ℕ) (parts : PlainParts) → less ≤ least → are_linear least parts ≡ true →
+    are_linear less parts ≡ true
 lower least less NoParts within h = refl
 lower least less (AndParts (Proc factor) rest) within h =
     let two = proc_first least factor rest h in
@@ -289,7 +300,8 @@ first-linear least loop factor (AndParts (Product outer inner other) rest) withi
 first-linear least loop factor (AndParts (Rem of divisor other) rest) within h = wrong h
 first-linear least loop factor (AndParts (Quot of divisor other) rest) within h = wrong h
 
-parts-linear : (least loop : ℕ) (parts : PlainParts) → least ≢ loop + 1 → are_linear least parts ≡ true → are_linear least (exchanged_parts loop parts) ≡ true
+parts-linear : (least loop : ℕ) (parts : PlainParts) → least ≢ loop + 1 → are_linear least parts ≡ true →
+    are_linear least (exchanged_parts loop parts) ≡ true
 parts-linear least loop NoParts far h = refl
 parts-linear least loop (AndParts (Proc factor) rest) far h =
     let two = proc_first least factor rest h in
@@ -336,7 +348,8 @@ op-linear loop (MulConst r x factor) h = refl
 op-linear loop (Tile r x) h = refl
 
 -- an exchanged round has linear places
-pub linear_exchanged : (loop : ℕ) (body : PlainBody) → has_linear_places body ≡ true → has_linear_places (exchanged_round loop body) ≡ true
+pub linear_exchanged : (loop : ℕ) (body : PlainBody) → has_linear_places body ≡ true →
+    has_linear_places (exchanged_round loop body) ≡ true
 linear_exchanged loop NoStmts h = refl
 linear_exchanged loop (AndStmts (Do op) rest) h =
     let two = both_true (has_linear_place op) (has_linear_places rest) h in
@@ -345,7 +358,8 @@ linear_exchanged loop (AndStmts (Loop count body) rest) h = wrong h
 
 -- ---- exchanged rounds
 
-exchanged-step : (p : PlainProgram) (loop : ℕ) (op : PlainOp) (ws us : List ℕ) (q : ℕ) → has_linear_place op ≡ true → AreExchanged loop ws us →
+exchanged-step : (p : PlainProgram) (loop : ℕ) (op : PlainOp) (ws us : List ℕ) (q : ℕ) → has_linear_place op ≡ true →
+    AreExchanged loop ws us →
     step_of p (exchanged_op loop op) us q ≡ step_of p op ws q
 exchanged-step p loop (Load r array place) ws us q h is = rw (exchanged_numbers loop place ws us q h is) refl
 exchanged-step p loop (Store array place r) ws us q h is = rw (exchanged_numbers loop place ws us q h is) refl
@@ -357,7 +371,8 @@ exchanged-step p loop (Neg r x) ws us q h is = refl
 exchanged-step p loop (MulConst r x factor) ws us q h is = refl
 exchanged-step p loop (Tile r x) ws us q h is = refl
 
-exchanged-from : (p : PlainProgram) (loop : ℕ) (body : PlainBody) (ws us : List ℕ) (q : ℕ) → has_linear_places body ≡ true → AreExchanged loop ws us →
+exchanged-from : (p : PlainProgram) (loop : ℕ) (body : PlainBody) (ws us : List ℕ) (q : ℕ) →
+    has_linear_places body ≡ true → AreExchanged loop ws us →
     steps_of_body p (exchanged_round loop body) us q ≡ steps_of_body p body ws q
 exchanged-from p loop NoStmts ws us q h is = refl
 exchanged-from p loop (AndStmts (Do op) rest) ws us q h is =
@@ -366,7 +381,8 @@ exchanged-from p loop (AndStmts (Do op) rest) ws us q h is =
 exchanged-from p loop (AndStmts (Loop count body) rest) ws us q h is = wrong h
 
 -- a round where the loops are interchanged has the steps that it had
-pub exchanged_steps : (p : PlainProgram) (loop : ℕ) (body : PlainBody) (vs us : List ℕ) (i j q : ℕ) → length vs ≡ loop → has_linear_places body ≡ true →
+pub exchanged_steps : (p : PlainProgram) (loop : ℕ) (body : PlainBody) (vs us : List ℕ) (i j q : ℕ) → length vs ≡ loop →
+    has_linear_places body ≡ true →
     steps_of_body p (exchanged_round loop body) (vs ++ j ∷ i ∷ us) q ≡ steps_of_body p body (vs ++ i ∷ j ∷ us) q
 exchanged_steps p loop body vs us i j q deep linear =
     exchanged-from p loop body (vs ++ i ∷ j ∷ us) (vs ++ j ∷ i ∷ us) q linear (rounds-exchanged loop vs us i j deep)

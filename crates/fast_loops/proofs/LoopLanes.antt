@@ -2,12 +2,14 @@ pub mod Arrays
 pub mod Choices
 pub mod ColumnsAre
 pub mod Covered
+pub mod Everywhere
 pub mod FrontCovered
 pub mod FrontHeld
 pub mod Groups
 pub mod Held
 pub mod InOrder
 pub mod Joined
+pub mod Kinds
 pub mod Law
 pub mod Limited
 pub mod LimitedNests

@@ -1,7 +1,10 @@
 -- Lists whose items are items of others.
-use Rattle.std.proofs.Common.{zero, suc, List, [], ◌∷◌, All, map, flat_map, arith, subst, ⊎_elim, Contains}
+use Rattle.std.proofs.Common.{◌≡◌, ℕ, zero, suc, ◌+◌, ◌<◌, ◌≤◌, List, [], ◌∷◌, All, map, flat_map, sym, ◌∙◌, arith}
+use Rattle.std.proofs.Common.{subst, ⊎_elim, Contains}
+use Rattle.std.specs.List.{range_with_len}
 use Rattle.std.proofs.lemmas.List.Elements.{Contains-get_or, Contains-append_left, Contains-append_right}
 use Rattle.std.proofs.lemmas.List.Elements.{Contains-append_cases}
+use Rattle.std.proofs.lemmas.List.FromFn.{length-range_with_len, get_or-range_with_len}
 use Rattle.icode.proofs.Lines.{Contains-head, Contains-tail, Contains-nil, Contains-map}
 
 module _ {X : Type 0} where
@@ -15,23 +18,40 @@ module _ {X : Type 0} where
   tail_within : (x : X) (xs zs : List X) → IsWithin (x ∷ xs) zs → IsWithin xs zs
   tail_within x xs zs within y h = within y (Contains-tail x xs y h)
 
-  pub map_within : {Y : Type 0} (f : X → Y) (xs zs : List X) → IsWithin xs zs → (y : Y) → Contains (map f xs) y → Contains (map f zs) y
+  pub map_within : {Y : Type 0} (f : X → Y) (xs zs : List X) → IsWithin xs zs → (y : Y) → Contains (map f xs) y →
+      Contains (map f zs) y
   map_within f [] zs within y h = absurd (Contains-nil y h)
   map_within f (x ∷ xs) zs within y (zero, lt, e) =
       subst (λ w. Contains (map f zs) w) e (Contains-map f zs x (within x (Contains-head x xs)))
   map_within f (x ∷ xs) zs within y (suc k, lt, e) = map_within f xs zs (tail_within x xs zs within) y (k, omega arith, e)
 
-  into_flat_map : {Y : Type 0} (f : X → List Y) (zs : List X) (x : X) (y : Y) → Contains zs x → Contains (f x) y → Contains (flat_map f zs) y
+  pub into_flat_map : {Y : Type 0} (f : X → List Y) (zs : List X) (x : X) (y : Y) → Contains zs x → Contains (f x) y →
+      Contains (flat_map f zs) y
   into_flat_map f [] x y h in_x = absurd (Contains-nil x h)
   into_flat_map f (z ∷ zs) x y (zero, lt, e) in_x =
       subst (λ w. Contains (f w) y → Contains (flat_map f (z ∷ zs)) y) e (λ in_z. Contains-append_left (f z) (flat_map f zs) y in_z) in_x
   into_flat_map f (z ∷ zs) x y (suc k, lt, e) in_x =
       Contains-append_right (f z) (flat_map f zs) y (into_flat_map f zs x y (k, omega arith, e) in_x)
 
-  pub flat_map_within : {Y : Type 0} (f : X → List Y) (xs zs : List X) → IsWithin xs zs → (y : Y) → Contains (flat_map f xs) y → Contains (flat_map f zs) y
-  flat_map_within f [] zs within y h = absurd (Contains-nil y h)
-  flat_map_within f (x ∷ xs) zs within y h =
+  -- an item of a list of lists is one of the list that an item gives
+  pub from_flat_map : {Y : Type 0} (f : X → List Y) (xs : List X) (y : Y) → Contains (flat_map f xs) y →
+      (x : X) × Contains xs x × Contains (f x) y
+  from_flat_map f [] y h = absurd (Contains-nil y h)
+  from_flat_map f (x ∷ xs) y h =
       ⊎_elim
-      (λ (here : Contains (f x) y). into_flat_map f zs x y (within x (Contains-head x xs)) here)
-      (λ (later : Contains (flat_map f xs) y). flat_map_within f xs zs (tail_within x xs zs within) y later)
+      (λ (here : Contains (f x) y). (x, Contains-head x xs, here))
+      (λ (later : Contains (flat_map f xs) y).
+      let more = from_flat_map f xs y later in (more.0, Contains-tail x xs more.0 more.1, more.2))
       (Contains-append_cases (f x) (flat_map f xs) y h)
+
+  pub flat_map_within : {Y : Type 0} (f : X → List Y) (xs zs : List X) → IsWithin xs zs → (y : Y) →
+      Contains (flat_map f xs) y → Contains (flat_map f zs) y
+  flat_map_within f xs zs within y h =
+      let at = from_flat_map f xs y h in into_flat_map f zs at.0 y (within at.0 at.1) at.2
+
+-- a number of a range
+pub range_item : (a n k : ℕ) → Contains (range_with_len a n) k → (a ≤ k) × (k < a + n)
+range_item a n k h =
+    let low : h.0 < n = omega (arith, h.1, length-range_with_len a n) in
+    let is : k ≡ a + h.0 = sym h.2 ∙ get_or-range_with_len a n h.0 k low in
+    (omega (arith, is), omega (arith, is, low))

@@ -41,12 +41,14 @@ record AreFree (p : PlainProgram) (q : ℕ) (outers counts : List ℕ) (round : 
 -- a nest in outer loops does what loops of these counts do, and is as free
 record IsInPlace (p : PlainProgram) (q : ℕ) (outers : List ℕ) (nest : Nest) (counts : List ℕ) (round : PlainBody) : Type 0 where
   free : AreFree p q outers (nest.outer ∷ nest.inner) nest.round
-  same : (vs : List ℕ) → AreInRange outers vs → For p q (rows p q (nest.outer ∷ nest.inner) nest.round vs) (rows p q counts round vs)
+  same : (vs : List ℕ) → AreInRange outers vs → For p q (rows p q (nest.outer ∷ nest.inner) nest.round vs)
+      (rows p q counts round vs)
 
 module _ (p : PlainProgram) (q : ℕ) where
   -- ---- two loops change places
 
-  turned_acts : (outers : List ℕ) (first second : ℕ) (counts : List ℕ) (round : PlainBody) (us : List ℕ) → has_linear_places round ≡ true →
+  turned_acts : (outers : List ℕ) (first second : ℕ) (counts : List ℕ) (round : PlainBody) (us : List ℕ) →
+      has_linear_places round ≡ true →
       AreInRange (outers ++ first ∷ second ∷ counts) us →
       acts_of p q (exchanged_round (length outers) round) us ≡ acts_of p q round (turned (length outers) us)
   turned_acts outers first second counts round us linear in_range =
@@ -55,8 +57,10 @@ module _ (p : PlainProgram) (q : ℕ) where
       ∙ ap actions_of (exchanged_steps p (length outers) round parts.before parts.behind parts.second parts.first q parts.long linear)
       ∙ ap (acts_of p q round) (sym parts.turn)
 
-  turned_apart : (outers : List ℕ) (outer inner : ℕ) (counts : List ℕ) (round : PlainBody) → has_linear_places round ≡ true →
-      AllApart p q (outers ++ outer ∷ inner ∷ counts) round → AllApart p q (outers ++ inner ∷ outer ∷ counts) (exchanged_round (length outers) round)
+  turned_apart : (outers : List ℕ) (outer inner : ℕ) (counts : List ℕ) (round : PlainBody) →
+      has_linear_places round ≡ true →
+      AllApart p q (outers ++ outer ∷ inner ∷ counts) round →
+      AllApart p q (outers ++ inner ∷ outer ∷ counts) (exchanged_round (length outers) round)
   turned_apart outers outer inner counts round linear apart us ws in_range in_range_too other =
       let depth = length outers in
       let acts = turned_acts outers inner outer counts round us linear in_range in
@@ -67,8 +71,10 @@ module _ (p : PlainProgram) (q : ℕ) where
       (apart (turned depth us) (turned depth ws) (turned_in_range outers inner outer counts us in_range)
       (turned_in_range outers inner outer counts ws in_range_too) turned_other))
 
-  turned_free : (loop : ℕ) (outers : List ℕ) (outer inner : ℕ) (counts : List ℕ) (round : PlainBody) → length outers ≡ loop →
-      AreFree p q outers (outer ∷ inner ∷ counts) round → AreFree p q outers (inner ∷ outer ∷ counts) (exchanged_round loop round)
+  turned_free : (loop : ℕ) (outers : List ℕ) (outer inner : ℕ) (counts : List ℕ) (round : PlainBody) →
+      length outers ≡ loop →
+      AreFree p q outers (outer ∷ inner ∷ counts) round → AreFree p q outers (inner ∷ outer ∷ counts)
+      (exchanged_round loop round)
   turned_free loop outers outer inner counts round deep free =
       record {
         fresh = fresh_exchanged p.lanes 0 loop round free.fresh;
@@ -78,7 +84,8 @@ module _ (p : PlainProgram) (q : ℕ) where
             (turned_apart outers outer inner counts round free.linear free.apart);
       }
 
-  turned_rows : (loop : ℕ) (counts : List ℕ) (round : PlainBody) (vs us : List ℕ) (i j : ℕ) → length vs ≡ loop → has_linear_places round ≡ true →
+  turned_rows : (loop : ℕ) (counts : List ℕ) (round : PlainBody) (vs us : List ℕ) (i j : ℕ) → length vs ≡ loop →
+      has_linear_places round ≡ true →
       rows p q counts (exchanged_round loop round) (vs ++ j ∷ i ∷ us) ≡ rows p q counts round (vs ++ i ∷ j ∷ us)
   turned_rows loop [] round vs us i j long linear = exchanged_steps p loop round vs us i j q long linear
   turned_rows loop (count ∷ counts) round vs us i j long linear =
@@ -98,7 +105,8 @@ module _ (p : PlainProgram) (q : ℕ) where
     values_are : (i j : ℕ) (us : List ℕ) → values i j ++ us ≡ vs ++ i ∷ j ∷ us
     values_are i j us = append_assoc (vs ++ i ∷ []) (j ∷ []) us ∙ append_assoc vs (i ∷ []) (j ∷ us)
 
-    cells_apart : (i j k l : ℕ) → i < outer → j < inner → k < outer → l < inner → (i ≢ k) ⊎ (j ≢ l) → (us zs : List ℕ) → AreInRange counts us → AreInRange counts zs →
+    cells_apart : (i j k l : ℕ) → i < outer → j < inner → k < outer → l < inner → (i ≢ k) ⊎ (j ≢ l) → (us zs : List ℕ) →
+        AreInRange counts us → AreInRange counts zs →
         AreApart p.lanes (acts_of p q round (values i j ++ us)) (acts_of p q round (values k l ++ zs))
     cells_apart i j k l small low less lower other us zs h h_too =
         subst (λ ws. AreApart p.lanes (acts_of p q round ws) (acts_of p q round (values k l ++ zs))) (sym (values_are i j us))
@@ -108,7 +116,8 @@ module _ (p : PlainProgram) (q : ℕ) where
         (in_both outers (outer ∷ inner ∷ counts) vs (k ∷ l ∷ zs) in_range (less, (lower, h_too)))
         (others_behind vs i j k l us zs other)))
 
-    turned_for : For p q (rows p q (inner ∷ outer ∷ counts) (exchanged_round loop round) vs) (rows p q (outer ∷ inner ∷ counts) round vs)
+    turned_for : For p q (rows p q (inner ∷ outer ∷ counts) (exchanged_round loop round) vs)
+        (rows p q (outer ∷ inner ∷ counts) round vs)
     turned_for =
         let new : rows p q (inner ∷ outer ∷ counts) (exchanged_round loop round) vs
         ≡ flat_map (λ j. flat_map (λ i. cell i j) (range_with_len 0 outer)) (range_with_len 0 inner) =
@@ -129,13 +138,15 @@ module _ (p : PlainProgram) (q : ℕ) where
 
   -- ---- loops in order
 
-  itself : (outers : List ℕ) (outer : ℕ) (counts : List ℕ) (round : PlainBody) → AreFree p q outers (outer ∷ counts) round →
+  itself : (outers : List ℕ) (outer : ℕ) (counts : List ℕ) (round : PlainBody) →
+      AreFree p q outers (outer ∷ counts) round →
       IsInPlace p q outers (record { outer = outer; inner = counts; round = round }) (outer ∷ counts) round
   itself outers outer counts round free =
       record { free = free; same = λ vs in_range. rows_itself p q (outer ∷ counts) round vs free.fresh }
 
   -- the outermost of the loops becomes one of the outer loops, and the other way round
-  free_inside : (outers : List ℕ) (count : ℕ) (counts : List ℕ) (round : PlainBody) → AreFree p q outers (count ∷ counts) round →
+  free_inside : (outers : List ℕ) (count : ℕ) (counts : List ℕ) (round : PlainBody) →
+      AreFree p q outers (count ∷ counts) round →
       AreFree p q (outers ++ count ∷ []) counts round
   free_inside outers count counts round free =
       record {
@@ -144,7 +155,8 @@ module _ (p : PlainProgram) (q : ℕ) where
         apart = subst (λ ns. AllApart p q ns round) (sym (append_assoc outers (count ∷ []) counts)) free.apart;
       }
 
-  free_outside : (outers : List ℕ) (count : ℕ) (counts : List ℕ) (round : PlainBody) → AreFree p q (outers ++ count ∷ []) counts round →
+  free_outside : (outers : List ℕ) (count : ℕ) (counts : List ℕ) (round : PlainBody) →
+      AreFree p q (outers ++ count ∷ []) counts round →
       AreFree p q outers (count ∷ counts) round
   free_outside outers count counts round free =
       record {
@@ -153,7 +165,8 @@ module _ (p : PlainProgram) (q : ℕ) where
         apart = subst (λ ns. AllApart p q ns round) (append_assoc outers (count ∷ []) counts) free.apart;
       }
 
-  within_for : (outers : List ℕ) (count : ℕ) (nest : Nest) (counts : List ℕ) (round : PlainBody) (vs : List ℕ) → AreInRange outers vs →
+  within_for : (outers : List ℕ) (count : ℕ) (nest : Nest) (counts : List ℕ) (round : PlainBody) (vs : List ℕ) →
+      AreInRange outers vs →
       IsInPlace p q (outers ++ count ∷ []) nest counts round →
       For p q (rows p q (count ∷ nest.outer ∷ nest.inner) nest.round vs) (rows p q (count ∷ counts) round vs)
   within_for outers count nest counts round vs in_range inside =
@@ -161,8 +174,10 @@ module _ (p : PlainProgram) (q : ℕ) where
       (λ i lt. inside.same (vs ++ i ∷ []) (in_more outers vs count i in_range lt)))
 
   -- two loops that are interchanged, or not
-  either_in_place : (loop : ℕ) (outers : List ℕ) (outer count : ℕ) (counts : List ℕ) (round : PlainBody) (deeper : Nest) (b : Bool) → length outers ≡ loop →
-      AreFree p q outers (outer ∷ count ∷ counts) round → IsInPlace p q (outers ++ count ∷ []) deeper (outer ∷ counts) (exchanged_round loop round) →
+  either_in_place : (loop : ℕ) (outers : List ℕ) (outer count : ℕ) (counts : List ℕ) (round : PlainBody) (deeper : Nest)
+      (b : Bool) → length outers ≡ loop →
+      AreFree p q outers (outer ∷ count ∷ counts) round → IsInPlace p q (outers ++ count ∷ []) deeper (outer ∷ counts)
+      (exchanged_round loop round) →
       IsInPlace p q outers (if b then within count deeper else record { outer = outer; inner = count ∷ counts; round = round }) (outer ∷ count ∷ counts) round
   either_in_place loop outers outer count counts round deeper true deep free inside =
       record {
@@ -175,19 +190,24 @@ module _ (p : PlainProgram) (q : ℕ) where
       }
   either_in_place loop outers outer count counts round deeper false deep free inside = itself outers outer (count ∷ counts) round free
 
-  one_deeper : (loop : ℕ) (outers : List ℕ) (count : ℕ) → length outers ≡ loop → length (outers ++ count ∷ []) ≡ loop + 1
+  one_deeper : (loop : ℕ) (outers : List ℕ) (count : ℕ) → length outers ≡ loop →
+      length (outers ++ count ∷ []) ≡ loop + 1
   one_deeper loop outers count deep = let long = length-append outers (count ∷ []) in omega (arith, long, deep)
 
-  sunk_in_place : (loop : ℕ) (outers : List ℕ) (outer : ℕ) (counts : List ℕ) (round : PlainBody) → length outers ≡ loop →
-      AreFree p q outers (outer ∷ counts) round → IsInPlace p q outers (sunk loop outer counts round) (outer ∷ counts) round
+  sunk_in_place : (loop : ℕ) (outers : List ℕ) (outer : ℕ) (counts : List ℕ) (round : PlainBody) →
+      length outers ≡ loop →
+      AreFree p q outers (outer ∷ counts) round → IsInPlace p q outers (sunk loop outer counts round)
+      (outer ∷ counts) round
   sunk_in_place loop outers outer [] round deep free = itself outers outer [] round free
   sunk_in_place loop outers outer (count ∷ counts) round deep free =
       either_in_place loop outers outer count counts round (sunk (loop + 1) outer counts (exchanged_round loop round)) (steps_less loop (first_load round)) deep free
       (sunk_in_place (loop + 1) (outers ++ count ∷ []) outer counts (exchanged_round loop round) (one_deeper loop outers count deep)
       (free_inside outers count (outer ∷ counts) (exchanged_round loop round) (turned_free loop outers outer count counts round deep free)))
 
-  ordered_in_place : (loop : ℕ) (outers : List ℕ) (outer : ℕ) (counts : List ℕ) (round : PlainBody) → length outers ≡ loop →
-      AreFree p q outers (outer ∷ counts) round → IsInPlace p q outers (ordered loop outer counts round) (outer ∷ counts) round
+  ordered_in_place : (loop : ℕ) (outers : List ℕ) (outer : ℕ) (counts : List ℕ) (round : PlainBody) →
+      length outers ≡ loop →
+      AreFree p q outers (outer ∷ counts) round → IsInPlace p q outers (ordered loop outer counts round)
+      (outer ∷ counts) round
   ordered_in_place loop outers outer [] round deep free = itself outers outer [] round free
   ordered_in_place loop outers outer (count ∷ counts) round deep free =
       let rest : Nest = ordered (loop + 1) count counts round in
@@ -205,7 +225,8 @@ module _ (p : PlainProgram) (q : ℕ) where
 
   -- ---- nests
 
-  independent_free : (counts : List ℕ) (round : PlainBody) (store : Option Stored) → are_independent p.lanes counts store round ≡ true →
+  independent_free : (counts : List ℕ) (round : PlainBody) (store : Option Stored) →
+      are_independent p.lanes counts store round ≡ true →
       are_fresh p.lanes 0 round ≡ true → StepsFit p (rows p q counts round []) → AreFree p q [] counts round
   independent_free counts round None h fresh fit = wrong h
   independent_free counts round (Some to) h fresh fit =
@@ -224,7 +245,8 @@ module _ (p : PlainProgram) (q : ℕ) where
   chosen_for : (count : ℕ) (body : PlainBody) (b : Bool) →
       are_independent p.lanes (count ∷ counts_in body) (first_store (round_in body)) (round_in body) ≡ b →
       are_fresh p.lanes 0 (round_in body) ≡ true → StepsFit p (steps_of_stmt p (Loop count body) [] q) →
-      For p q (steps_of_stmt p (if b then nest_stmt (ordered 0 count (counts_in body) (round_in body)) else Loop count body) [] q)
+      For p q (steps_of_stmt p (if b then nest_stmt (ordered 0 count (counts_in body) (round_in body)) else Loop count
+      body) [] q)
       (steps_of_stmt p (Loop count body) [] q)
   chosen_for count body b e fresh fit = either b e
     where
@@ -239,7 +261,8 @@ module _ (p : PlainProgram) (q : ℕ) where
       nest = ordered 0 count (counts_in body) (round_in body)
 
       either : (b : Bool) → are_independent p.lanes counts (first_store (round_in body)) (round_in body) ≡ b →
-          For p q (steps_of_stmt p (if b then nest_stmt nest else Loop count body) [] q) (steps_of_stmt p (Loop count body) [] q)
+          For p q (steps_of_stmt p (if b then nest_stmt nest else Loop count body) [] q)
+          (steps_of_stmt p (Loop count body) [] q)
       either true e =
           let free = independent_free counts (round_in body) (first_store (round_in body)) e fresh (subst (StepsFit p) (sym rows_are) fit) in
           subst (For p q (steps_of_stmt p (nest_stmt nest) [] q)) rows_are

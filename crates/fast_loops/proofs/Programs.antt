@@ -62,12 +62,14 @@ module _ (p : PlainProgram) (bodies : List PlainBody) where
   step_is (Tile r x) vs q = refl
 
   mutual
-    stmt_is : (stmt : PlainStmt) (vs : List ℕ) (q : ℕ) → steps_of_stmt (with_phases p bodies) stmt vs q ≡ steps_of_stmt p stmt vs q
+    stmt_is : (stmt : PlainStmt) (vs : List ℕ) (q : ℕ) → steps_of_stmt (with_phases p bodies) stmt vs q
+        ≡ steps_of_stmt p stmt vs q
     stmt_is (Loop count body) vs q =
         ap (λ (f : ℕ → List Step). flat_map f (range_with_len 0 count)) (fun_ext (λ i. body_is body (vs ++ i ∷ []) q))
     stmt_is (Do op) vs q = ap (λ s. s ∷ []) (step_is op vs q)
 
-    pub body_is : (body : PlainBody) (vs : List ℕ) (q : ℕ) → steps_of_body (with_phases p bodies) body vs q ≡ steps_of_body p body vs q
+    pub body_is : (body : PlainBody) (vs : List ℕ) (q : ℕ) →
+        steps_of_body (with_phases p bodies) body vs q ≡ steps_of_body p body vs q
     body_is NoStmts vs q = refl
     body_is (AndStmts stmt rest) vs q = ap₂ (λ xs ys. xs ++ ys) (stmt_is stmt vs q) (body_is rest vs q)
 
@@ -80,7 +82,8 @@ module _ (p : PlainProgram) where
   abbrev pub row : PlainBody → List (List Action)
   row body = map (λ q. actions_of (steps_of_body p body [] q)) (range_with_len 0 p.procs)
 
-  row_at : (body : PlainBody) (q : ℕ) → q < p.procs → slice_index_or (row body) q [] ≡ actions_of (steps_of_body p body [] q)
+  row_at : (body : PlainBody) (q : ℕ) → q < p.procs → slice_index_or (row body) q []
+      ≡ actions_of (steps_of_body p body [] q)
   row_at body q lt = get_or-map-range_with_len (λ q. actions_of (steps_of_body p body [] q)) 0 p.procs q q [] lt (omega arith)
 
   row_past : (body : PlainBody) (q : ℕ) → p.procs ≤ q → slice_index_or (row body) q [] ≡ []
@@ -88,12 +91,14 @@ module _ (p : PlainProgram) where
       get_or_past (row body) q [] (omega (arith, length-map-range_with_len (λ q. actions_of (steps_of_body p body [] q)) 0 p.procs))
 
   pub listed : (bodies : List PlainBody) (phase q : ℕ) → q < p.procs →
-      slice_index_or (slice_index_or (map row bodies) phase []) q [] ≡ actions_of (steps_of_body p (slice_index_or bodies phase NoStmts) [] q)
+      slice_index_or (slice_index_or (map row bodies) phase []) q []
+      ≡ actions_of (steps_of_body p (slice_index_or bodies phase NoStmts) [] q)
   listed [] phase q lt = refl
   listed (body ∷ bodies) zero q lt = row_at body q lt
   listed (body ∷ bodies) (suc phase) q lt = listed bodies phase q lt
 
-  pub not_listed : (bodies : List PlainBody) (phase q : ℕ) → p.procs ≤ q → slice_index_or (slice_index_or (map row bodies) phase []) q [] ≡ []
+  pub not_listed : (bodies : List PlainBody) (phase q : ℕ) → p.procs ≤ q →
+      slice_index_or (slice_index_or (map row bodies) phase []) q [] ≡ []
   not_listed [] phase q past = refl
   not_listed (body ∷ bodies) zero q past = row_past body q past
   not_listed (body ∷ bodies) (suc phase) q past = not_listed bodies phase q past
@@ -101,12 +106,14 @@ module _ (p : PlainProgram) where
 -- ---- phases
 
 interchanged_at : (lanes : ℕ) (bodies : List PlainBody) (phase : ℕ) →
-    slice_index_or (map (interchanged_body lanes) bodies) phase NoStmts ≡ interchanged_body lanes (slice_index_or bodies phase NoStmts)
+    slice_index_or (map (interchanged_body lanes) bodies) phase NoStmts
+    ≡ interchanged_body lanes (slice_index_or bodies phase NoStmts)
 interchanged_at lanes [] phase = refl
 interchanged_at lanes (body ∷ bodies) zero = refl
 interchanged_at lanes (body ∷ bodies) (suc phase) = interchanged_at lanes bodies phase
 
-nests_at : (lanes : ℕ) (bodies : List PlainBody) (phase : ℕ) → list_all (are_nests lanes) bodies ≡ true → are_nests lanes (slice_index_or bodies phase NoStmts) ≡ true
+nests_at : (lanes : ℕ) (bodies : List PlainBody) (phase : ℕ) → list_all (are_nests lanes) bodies ≡ true →
+    are_nests lanes (slice_index_or bodies phase NoStmts) ≡ true
 nests_at lanes [] phase all = refl
 nests_at lanes (body ∷ bodies) zero all = (both_true (are_nests lanes body) _ all).0
 nests_at lanes (body ∷ bodies) (suc phase) all = nests_at lanes bodies phase (both_true (are_nests lanes body) _ all).1
@@ -133,7 +140,8 @@ module _ (p : PlainProgram) (fits : PlainFits p) (apart : (phase : ℕ) → IsAp
             (memory_of_runs (plain_code p) (code_is p) apart x turns ∙ sym (memory_of_runs (plain_code p) (code_is p) apart x orders));
       }
 
-  module _ (body_same : BodiesAreSame) (body_steps : BodiesHaveSteps) (nests : list_all (are_nests p.lanes) p.phases ≡ true) where
+  module _ (body_same : BodiesAreSame) (body_steps : BodiesHaveSteps)
+      (nests : list_all (are_nests p.lanes) p.phases ≡ true) where
     abbrev phases : List PlainBody
     phases = map (interchanged_body p.lanes) p.phases
 
@@ -175,7 +183,8 @@ module _ (p : PlainProgram) (fits : PlainFits p) (apart : (phase : ℕ) → IsAp
               (λ s h. step_fits p phases s (All-contains (StepFits p) (steps_of_phase p phase q) s (fits.each phase q lt) (steps_within phase q lt s h)));
         }
 
-    acts_there : (phase q : ℕ) → q < p.procs → acts (plain_code there) phase q ≡ actions_of (steps_of_phase there phase q)
+    acts_there : (phase q : ℕ) → q < p.procs → acts (plain_code there) phase q
+        ≡ actions_of (steps_of_phase there phase q)
     acts_there phase q lt = listed there phases phase q lt
 
     acts_within : (phase q : ℕ) → IsWithin (acts (plain_code there) phase q) (acts (plain_code p) phase q)
@@ -196,7 +205,8 @@ module _ (p : PlainProgram) (fits : PlainFits p) (apart : (phase : ℕ) → IsAp
               (flat_map_within (λ a. lines_of p.line (touched_words p.lanes a)) (acts (plain_code there) phase other) (acts (plain_code p) phase other) (acts_within phase other) line touched);
         }
 
-    acts_same : (phase q : ℕ) → q < p.procs → DoTheSame p.modulus p.lanes (acts (plain_code there) phase q) (acts (plain_code p) phase q)
+    acts_same : (phase q : ℕ) → q < p.procs → DoTheSame p.modulus p.lanes (acts (plain_code there) phase q)
+        (acts (plain_code p) phase q)
     acts_same phase q lt =
         subst (λ fs. DoTheSame p.modulus p.lanes fs (acts (plain_code p) phase q)) (sym (acts_there phase q lt ∙ ap actions_of (phase_is phase q)))
         (subst (λ gs. DoTheSame p.modulus p.lanes (actions_of (steps_there p (body_of phase) q)) gs) (sym (listed p p.phases phase q lt))
@@ -235,6 +245,7 @@ same_from_bodies body_same body_steps p fits apart =
 pub modulus_stays : (p : PlainProgram) → (interchanged p).modulus ≡ p.modulus
 modulus_stays p = of_choice (list_all (are_nests p.lanes) p.phases)
   where
-    of_choice : (b : Bool) → (if b then with_phases p (map (interchanged_body p.lanes) p.phases) else p).modulus ≡ p.modulus
+    of_choice : (b : Bool) → (if b then with_phases p (map (interchanged_body p.lanes) p.phases) else p).modulus
+        ≡ p.modulus
     of_choice true = refl
     of_choice false = refl

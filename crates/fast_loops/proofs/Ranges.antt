@@ -16,7 +16,8 @@ in_both (b ∷ bs) cs [] us h k = absurd h
 in_both (b ∷ bs) cs (v ∷ vs) us h k = (h.0, in_both bs cs vs us h.1 k)
 
 -- a value for one loop more
-pub in_more : (bs vs : List ℕ) (count i : ℕ) → AreInRange bs vs → i < count → AreInRange (bs ++ count ∷ []) (vs ++ i ∷ [])
+pub in_more : (bs vs : List ℕ) (count i : ℕ) → AreInRange bs vs → i < count →
+    AreInRange (bs ++ count ∷ []) (vs ++ i ∷ [])
 in_more bs vs count i h lt = in_both bs (count ∷ []) vs (i ∷ []) h (lt, tt)
 
 -- the value at this depth and the next change places
@@ -52,7 +53,8 @@ pub record AreSplit (depth : ℕ) (us : List ℕ) : Type 0 where
   pub turn : turned depth us ≡ before ++ second ∷ first ∷ behind
   pub long : length before ≡ depth
 
-pub split_range : (bs : List ℕ) (first second : ℕ) (cs us : List ℕ) → AreInRange (bs ++ first ∷ second ∷ cs) us → AreSplit (length bs) us
+pub split_range : (bs : List ℕ) (first second : ℕ) (cs us : List ℕ) → AreInRange (bs ++ first ∷ second ∷ cs) us →
+    AreSplit (length bs) us
 split_range [] first second cs [] h = absurd h
 split_range [] first second cs (j ∷ []) h = absurd h.1
 split_range [] first second cs (j ∷ i ∷ us) h =
@@ -75,7 +77,8 @@ pub same_behind : (vs us ws : List ℕ) → vs ++ us ≡ vs ++ ws → us ≡ ws
 same_behind [] us ws e = e
 same_behind (v ∷ vs) us ws e = same_behind vs us ws (ap (λ (zs : List ℕ). drop 1 zs) e)
 
-pub others_behind : (vs : List ℕ) (i j k l : ℕ) (us ws : List ℕ) → (i ≢ k) ⊎ (j ≢ l) → vs ++ i ∷ j ∷ us ≢ vs ++ k ∷ l ∷ ws
+pub others_behind : (vs : List ℕ) (i j k l : ℕ) (us ws : List ℕ) → (i ≢ k) ⊎ (j ≢ l) →
+    vs ++ i ∷ j ∷ us ≢ vs ++ k ∷ l ∷ ws
 others_behind vs i j k l us ws other e =
     let same = same_behind vs (i ∷ j ∷ us) (k ∷ l ∷ ws) e in
     ⊎_elim

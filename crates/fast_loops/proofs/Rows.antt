@@ -37,7 +37,8 @@ factors_each lanes factor =
     let own = length-list_below lanes factor in
     omega (arith, whole, own)
 
-wide_acts : (p : PlainProgram) (next : ℕ) (body : PlainBody) (vs : List ℕ) (q : ℕ) → are_fresh p.lanes next body ≡ true →
+wide_acts : (p : PlainProgram) (next : ℕ) (body : PlainBody) (vs : List ℕ) (q : ℕ) →
+    are_fresh p.lanes next body ≡ true →
     AreWide p.lanes (actions_of (steps_of_body p body vs q))
 wide_acts p next NoStmts vs q h = tt
 wide_acts p next (AndStmts (Loop count body) rest) vs q h = cc
@@ -58,7 +59,8 @@ module _ (p : PlainProgram) (q : ℕ) where
   abbrev pub For : List Step → List Step → Type 0
   For = AreFor p.modulus p.lanes
 
-  pub joined : (a b c d : List Action) → DoTheSame p.modulus p.lanes a b → DoTheSame p.modulus p.lanes c d → DoTheSame p.modulus p.lanes (a ++ c) (b ++ d)
+  pub joined : (a b c d : List Action) → DoTheSame p.modulus p.lanes a b → DoTheSame p.modulus p.lanes c d →
+      DoTheSame p.modulus p.lanes (a ++ c) (b ++ d)
   joined = same-append p.modulus p.lanes
 
   -- the actions of a round
@@ -69,18 +71,21 @@ module _ (p : PlainProgram) (q : ℕ) where
   abbrev pub rows : List ℕ → PlainBody → List ℕ → List Step
   rows counts round vs = steps_of_body p (looped counts round) vs q
 
-  pub round_acts : (round : PlainBody) (vs : List ℕ) → are_fresh p.lanes 0 round ≡ true → IsRound p.lanes (acts_of round vs)
+  pub round_acts : (round : PlainBody) (vs : List ℕ) → are_fresh p.lanes 0 round ≡ true →
+      IsRound p.lanes (acts_of round vs)
   round_acts round vs h = (fresh_acts p round vs q h, wide_acts p 0 round vs q h)
 
   -- ---- loops do what they did
 
-  pub loops_for : (f g : ℕ → List Step) (n : ℕ) → ((i : ℕ) → i < n → For (f i) (g i)) → For (flat_map f (range_with_len 0 n)) (flat_map g (range_with_len 0 n))
+  pub loops_for : (f g : ℕ → List Step) (n : ℕ) → ((i : ℕ) → i < n → For (f i) (g i)) →
+      For (flat_map f (range_with_len 0 n)) (flat_map g (range_with_len 0 n))
   loops_for f g n h = for-loop p.modulus p.lanes joined f g 0 n (λ i low high. h i (omega arith))
 
   pub alone_for : (a b : List Step) → For a b → For (a ++ []) (b ++ [])
   alone_for a b h = subst (λ xs. For xs (b ++ [])) (sym (append-nil a)) (subst (For a) (sym (append-nil b)) h)
 
-  pub rows_itself : (counts : List ℕ) (round : PlainBody) (vs : List ℕ) → are_fresh p.lanes 0 round ≡ true → For (rows counts round vs) (rows counts round vs)
+  pub rows_itself : (counts : List ℕ) (round : PlainBody) (vs : List ℕ) → are_fresh p.lanes 0 round ≡ true →
+      For (rows counts round vs) (rows counts round vs)
   rows_itself [] round vs h =
       record { same = independent p.modulus p.lanes (acts_of round vs) (round_acts round vs h); members = λ s has. has }
   rows_itself (count ∷ counts) round vs h =
@@ -111,12 +116,15 @@ module _ (p : PlainProgram) (q : ℕ) where
   abbrev pub EitherFirst : List Action → List Action → Type 0
   EitherFirst = Commute p.modulus p.lanes
 
-  pub rows_sure : (counts : List ℕ) (round : PlainBody) (vs : List ℕ) → are_fresh p.lanes 0 round ≡ true → Sure (actions_of (rows counts round vs))
+  pub rows_sure : (counts : List ℕ) (round : PlainBody) (vs : List ℕ) → are_fresh p.lanes 0 round ≡ true →
+      Sure (actions_of (rows counts round vs))
   rows_sure counts round vs h = (rows_itself counts round vs h).same
 
   -- loops whose rounds may come before or behind other actions
-  pub past_rows : (counts : List ℕ) (round : PlainBody) (vs : List ℕ) (b : List Action) → are_fresh p.lanes 0 round ≡ true → Sure b →
-      ((us : List ℕ) → AreInRange counts us → EitherFirst (acts_of round (vs ++ us)) b) → EitherFirst (actions_of (rows counts round vs)) b
+  pub past_rows : (counts : List ℕ) (round : PlainBody) (vs : List ℕ) (b : List Action) →
+      are_fresh p.lanes 0 round ≡ true → Sure b →
+      ((us : List ℕ) → AreInRange counts us → EitherFirst (acts_of round (vs ++ us)) b) →
+      EitherFirst (actions_of (rows counts round vs)) b
   past_rows [] round vs b fresh sure h =
       subst (λ ws. EitherFirst (acts_of round ws) b) (append-nil vs) (h [] tt)
   past_rows (count ∷ counts) round vs b fresh sure h =
@@ -131,7 +139,8 @@ module _ (p : PlainProgram) (q : ℕ) where
 
   -- two loops of rounds that are apart from one another
   pub rows_commute : (counts : List ℕ) (round : PlainBody) (vs ws : List ℕ) → are_fresh p.lanes 0 round ≡ true →
-      ((us zs : List ℕ) → AreInRange counts us → AreInRange counts zs → AreApart p.lanes (acts_of round (vs ++ us)) (acts_of round (ws ++ zs))) →
+      ((us zs : List ℕ) → AreInRange counts us → AreInRange counts zs →
+      AreApart p.lanes (acts_of round (vs ++ us)) (acts_of round (ws ++ zs))) →
       EitherFirst (actions_of (rows counts round vs)) (actions_of (rows counts round ws))
   rows_commute counts round vs ws fresh apart =
       past_rows counts round vs (actions_of (rows counts round ws)) fresh (rows_sure counts round ws fresh) (λ us in_range.

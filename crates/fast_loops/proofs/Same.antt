@@ -11,7 +11,8 @@ use Rattle.icode.proofs.CodeLaws.Stores.{length-registers}
 use Rattle.fast_loops.proofs.Acts.{memory_by, DoTheSame}
 
 -- the last round of a loop
-pub flat_map-last : (f : ℕ → List Action) (n : ℕ) → flat_map f (range_with_len 0 (suc n)) ≡ flat_map f (range_with_len 0 n) ++ f n
+pub flat_map-last : (f : ℕ → List Action) (n : ℕ) → flat_map f (range_with_len 0 (suc n))
+    ≡ flat_map f (range_with_len 0 n) ++ f n
 flat_map-last f n =
     let same : 0 + n ≡ n = omega arith in
     ap (flat_map f) (range-last 0 n ∙ ap (λ k. range_with_len 0 n ++ k ∷ []) same)
@@ -41,7 +42,8 @@ module _ (m lanes : ℕ) where
   same-between a b c d first h last =
       subst (λ (fs : List Action). DoTheSame m lanes a fs) last (subst (λ (fs : List Action). DoTheSame m lanes fs c) (sym first) h)
 
-  pub same-append : (a b c d : List Action) → DoTheSame m lanes a b → DoTheSame m lanes c d → DoTheSame m lanes (a ++ c) (b ++ d)
+  pub same-append : (a b c d : List Action) → DoTheSame m lanes a b → DoTheSame m lanes c d →
+      DoTheSame m lanes (a ++ c) (b ++ d)
   same-append a b c d first second r s memory long =
       let after : Local = effects m lanes a (record { memory = memory; registers = r }) in
       let other : Local = effects m lanes b (record { memory = memory; registers = s }) in

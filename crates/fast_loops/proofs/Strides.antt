@@ -22,12 +22,14 @@ added-none : (loop : ℕ) (vs : List ℕ) → added loop vs NoParts ≡ 0
 added-none loop [] = refl
 added-none loop (v ∷ vs) = let more = added-none (loop + 1) vs in omega (arith, more)
 
-added-proc : (loop factor : ℕ) (vs : List ℕ) (rest : PlainParts) → added loop vs (AndParts (Proc factor) rest) ≡ added loop vs rest
+added-proc : (loop factor : ℕ) (vs : List ℕ) (rest : PlainParts) →
+    added loop vs (AndParts (Proc factor) rest) ≡ added loop vs rest
 added-proc loop factor [] rest = refl
 added-proc loop factor (v ∷ vs) rest = ap (λ n. v * stride loop rest + n) (added-proc (loop + 1) factor vs rest)
 
 -- a multiple of an outer loop adds nothing
-added-outer : (loop depth factor : ℕ) (vs : List ℕ) (rest : PlainParts) → depth < loop → added loop vs (AndParts (Var depth factor) rest) ≡ added loop vs rest
+added-outer : (loop depth factor : ℕ) (vs : List ℕ) (rest : PlainParts) → depth < loop →
+    added loop vs (AndParts (Var depth factor) rest) ≡ added loop vs rest
 added-outer loop depth factor [] rest before = refl
 added-outer loop depth factor (v ∷ vs) rest before =
     ap₂ (λ s n. v * s + n)
@@ -85,7 +87,8 @@ farther s v w rest less within =
     omega (arith, steps, out, within)
 
 -- the rounds of the loops in a loop stay within its step
-within-step : (loop count : ℕ) (counts : List ℕ) (parts : PlainParts) (vs : List ℕ) → are_nested loop (count ∷ counts) parts ≡ true →
+within-step : (loop count : ℕ) (counts : List ℕ) (parts : PlainParts) (vs : List ℕ) →
+    are_nested loop (count ∷ counts) parts ≡ true →
     AreInRange counts vs → added (loop + 1) vs parts + last_stride loop (count ∷ counts) parts ≤ stride loop parts
 within-step loop count [] parts [] nested low = omega arith
 within-step loop count [] parts (v ∷ vs) nested low = absurd low
@@ -98,13 +101,15 @@ within-step loop count (inner ∷ counts) parts (v ∷ vs) nested low =
     omega (arith, wide, far)
 
 -- an earlier round of a loop ends before a later one begins
-later : (loop count v w : ℕ) (counts vs ws : List ℕ) (parts : PlainParts) → are_nested loop (count ∷ counts) parts ≡ true → AreInRange counts vs → v < w →
+later : (loop count v w : ℕ) (counts vs ws : List ℕ) (parts : PlainParts) →
+    are_nested loop (count ∷ counts) parts ≡ true → AreInRange counts vs → v < w →
     added loop (v ∷ vs) parts + last_stride loop (count ∷ counts) parts ≤ added loop (w ∷ ws) parts
 later loop count v w counts vs ws parts nested low less =
     let far = farther (stride loop parts) v w _ less (within-step loop count counts parts vs nested low) in
     omega (arith, far)
 
-nested-behind : (loop count : ℕ) (counts : List ℕ) (parts : PlainParts) → are_nested loop (count ∷ counts) parts ≡ true → are_nested (loop + 1) counts parts ≡ true
+nested-behind : (loop count : ℕ) (counts : List ℕ) (parts : PlainParts) →
+    are_nested loop (count ∷ counts) parts ≡ true → are_nested (loop + 1) counts parts ≡ true
 nested-behind loop count [] parts nested = refl
 nested-behind loop count (inner ∷ counts) parts nested =
     (both_true (nat_le (inner * stride (loop + 1) parts) (stride loop parts)) _ nested).1
@@ -115,7 +120,8 @@ OneEndsBefore loop counts parts vs ws =
     (added loop vs parts + last_stride loop counts parts ≤ added loop ws parts) ⊎ (added loop ws parts + last_stride loop counts parts ≤ added loop vs parts)
 
 -- in the same round of a loop
-same-round : (loop count v w : ℕ) (counts : List ℕ) (parts : PlainParts) (vs ws : List ℕ) → AreInRange counts vs → AreInRange counts ws → vs ≢ ws → v ≡ w →
+same-round : (loop count v w : ℕ) (counts : List ℕ) (parts : PlainParts) (vs ws : List ℕ) → AreInRange counts vs →
+    AreInRange counts ws → vs ≢ ws → v ≡ w →
     OneEndsBefore (loop + 1) counts parts vs ws → OneEndsBefore loop (count ∷ counts) parts (v ∷ vs) (w ∷ ws)
 same-round loop count v w [] parts [] [] low lower other same more = absurd (other refl)
 same-round loop count v w [] parts (x ∷ vs) ws low lower other same more = absurd low
@@ -128,7 +134,8 @@ same-round loop count v w (inner ∷ counts) parts vs ws low lower other same mo
     ]
 
 -- different rounds do not meet
-pub rounds_differ : (loop : ℕ) (counts : List ℕ) (parts : PlainParts) (vs ws : List ℕ) → are_nested loop counts parts ≡ true →
+pub rounds_differ : (loop : ℕ) (counts : List ℕ) (parts : PlainParts) (vs ws : List ℕ) →
+    are_nested loop counts parts ≡ true →
     AreInRange counts vs → AreInRange counts ws → vs ≢ ws → OneEndsBefore loop counts parts vs ws
 rounds_differ loop [] parts [] [] nested low lower other = absurd (other refl)
 rounds_differ loop [] parts (v ∷ vs) ws nested low lower other = absurd low

@@ -12,23 +12,27 @@ use Rattle.icode.proofs.CodeLaws.Stores.{length-memory, length-registers}
 use Rattle.fast_loops.proofs.Acts.{AreFresh, AreApart, Stores, Loads, memory_by, DoTheSame, AreWide, IsRound}
 use Rattle.fast_loops.proofs.Independent.{acts_alike}
 
-kept_by : (m lanes : ℕ) (f : Action) (s : Local) (k : ℕ) → (Contains (stored_words lanes f) k → ⊥) → slice_get (effect m lanes f s).memory k ≡ slice_get s.memory k
+kept_by : (m lanes : ℕ) (f : Action) (s : Local) (k : ℕ) → (Contains (stored_words lanes f) k → ⊥) →
+    slice_get (effect m lanes f s).memory k ≡ slice_get s.memory k
 kept_by m lanes (Store address r) s k outside =
     let size = length-words_at lanes s.registers (r * lanes) in
     with_words-other (register_of lanes s.registers r) s.memory address k (λ a b. outside (Contains-range lanes address k a (omega arith)))
 kept_by m lanes _ s k outside = refl
 
 -- a word that no action stores into stays
-pub kept_by_all : (m lanes : ℕ) (fs : List Action) (s : Local) (k : ℕ) → (Stores lanes fs k → ⊥) → slice_get (effects m lanes fs s).memory k ≡ slice_get s.memory k
+pub kept_by_all : (m lanes : ℕ) (fs : List Action) (s : Local) (k : ℕ) → (Stores lanes fs k → ⊥) →
+    slice_get (effects m lanes fs s).memory k ≡ slice_get s.memory k
 kept_by_all m lanes [] s k outside = refl
 kept_by_all m lanes (f ∷ fs) s k outside =
     kept_by_all m lanes fs (effect m lanes f s) k (λ h. outside (Contains-append_right (stored_words lanes f) (flat_map (stored_words lanes) fs) k h))
     ∙ kept_by m lanes f s k (λ h. outside (Contains-append_left (stored_words lanes f) (flat_map (stored_words lanes) fs) k h))
 
 -- what actions leave of a word that others, of which they load nothing, have not stored into
-behind : (m lanes : ℕ) (fs gs : List Action) (s t : Local) → AreFresh lanes 0 gs → AreWide lanes gs → ((k : ℕ) → Loads lanes gs k → Stores lanes fs k → ⊥) →
+behind : (m lanes : ℕ) (fs gs : List Action) (s t : Local) → AreFresh lanes 0 gs → AreWide lanes gs →
+    ((k : ℕ) → Loads lanes gs k → Stores lanes fs k → ⊥) →
     s.memory ≡ t.memory → length s.registers ≡ length t.registers →
-    (k : ℕ) → (Stores lanes fs k → ⊥) → slice_get (effects m lanes gs (effects m lanes fs s)).memory k ≡ slice_get (effects m lanes gs t).memory k
+    (k : ℕ) → (Stores lanes fs k → ⊥) → slice_get (effects m lanes gs (effects m lanes fs s)).memory k
+    ≡ slice_get (effects m lanes gs t).memory k
 behind m lanes fs gs s t fresh wide apart same long k outside =
     acts_alike m lanes 0 (flat_map (stored_words lanes) fs) gs (effects m lanes fs s) t fresh wide apart
     (record {
@@ -53,7 +57,8 @@ swapped m lanes fs gs (fresh, wide) (fresh_too, wide_too) apart r s memory long 
     to : Local
     to = record { memory = memory; registers = s }
 
-    at : (k : ℕ) → slice_get (effects m lanes gs (effects m lanes fs from)).memory k ≡ slice_get (effects m lanes fs (effects m lanes gs to)).memory k
+    at : (k : ℕ) → slice_get (effects m lanes gs (effects m lanes fs from)).memory k
+        ≡ slice_get (effects m lanes fs (effects m lanes gs to)).memory k
     at k =
         elim (Contains_or_not (flat_map (stored_words lanes) fs) k) [
           | inl stored ↦

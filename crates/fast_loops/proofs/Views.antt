@@ -19,12 +19,15 @@ use Rattle.fast_loops.specs.Rounds.{is_fresh, put_after, are_fresh}
 use Rattle.fast_loops.specs.View.{factor_at, plain_parts, exchanged_stmt, is_shallow, are_shallow}
 
 -- a part that is a multiple of neither loop stays
-pub exchanged-other : (loop : ℕ) (part : PlainPart) (rest : PlainParts) → factor_at loop part ≡ None → factor_at (loop + 1) part ≡ None → exchanged_parts loop (AndParts part rest) ≡ AndParts part (exchanged_parts loop rest)
+pub exchanged-other : (loop : ℕ) (part : PlainPart) (rest : PlainParts) → factor_at loop part ≡ None →
+    factor_at (loop + 1) part ≡ None → exchanged_parts loop (AndParts part rest)
+    ≡ AndParts part (exchanged_parts loop rest)
 exchanged-other loop (Proc factor) rest e f = refl
 exchanged-other loop (Var depth factor) rest e f = by_tests (depth == loop) (depth == loop + 1) e f
   where
     by_tests : (a b : Bool) → (if a then Some factor else None) ≡ None → (if b then Some factor else None) ≡ None →
-        (if a then exchanged_first loop factor rest else if b then AndParts (Var loop factor) rest else AndParts (Var depth factor) (exchanged_parts loop rest))
+        (if a then exchanged_first loop factor rest else if b then AndParts (Var loop factor) rest else AndParts
+        (Var depth factor) (exchanged_parts loop rest))
         ≡ AndParts (Var depth factor) (exchanged_parts loop rest)
     by_tests false false e f = refl
     by_tests true b e f = cc
@@ -34,45 +37,59 @@ exchanged-other loop (Rem of divisor factor) rest e f = refl
 exchanged-other loop (Quot of divisor factor) rest e f = refl
 
 -- the first part stays, and what is behind it is changed
-pub others-changed : (loop : ℕ) (part : Part) (rest made items all : List Part) → items ≡ part ∷ rest → all ≡ part ∷ made → factor_at loop (plain_part part) ≡ None → factor_at (loop + 1) (plain_part part) ≡ None → plain_parts made ≡ exchanged_parts loop (plain_parts rest) → plain_parts all ≡ exchanged_parts loop (plain_parts items)
+pub others-changed : (loop : ℕ) (part : Part) (rest made items all : List Part) → items ≡ part ∷ rest →
+    all ≡ part ∷ made → factor_at loop (plain_part part) ≡ None → factor_at (loop + 1) (plain_part part) ≡ None →
+    plain_parts made ≡ exchanged_parts loop (plain_parts rest) →
+    plain_parts all ≡ exchanged_parts loop (plain_parts items)
 others-changed loop part rest made items all e f a b h =
     ap plain_parts f ∙ (ap (AndParts (plain_part part)) h ∙ (sym (exchanged-other loop (plain_part part) (plain_parts rest) a b) ∙ ap (λ xs. exchanged_parts loop (plain_parts xs)) (sym e)))
 
 -- what stands from an item on
-pub drop_item : (items : List Stmt) (i : ℕ) (x : Stmt) → i < length items → x ≡ get_or items i x → drop i items ≡ x ∷ drop (i + 1) items
+pub drop_item : (items : List Stmt) (i : ℕ) (x : Stmt) → i < length items → x ≡ get_or items i x →
+    drop i items ≡ x ∷ drop (i + 1) items
 drop_item items i x lt e = rw (add-one, drop-cons items i x) (ap (λ y. y ∷ drop (suc i) items) (sym e))
 
 -- an operation in front
-pub fresh-Do : (lanes next i : ℕ) (items : List Stmt) (stmt : Stmt) (op : Op) → i < length items → stmt ≡ get_or items i stmt → stmt ≡ Do op → are_fresh lanes next (plain_body (drop i items)) ≡ (is_fresh lanes next (plain_op op) && are_fresh lanes (put_after lanes next (plain_op op)) (plain_body (drop (i + 1) items)))
+pub fresh-Do : (lanes next i : ℕ) (items : List Stmt) (stmt : Stmt) (op : Op) → i < length items →
+    stmt ≡ get_or items i stmt → stmt ≡ Do op → are_fresh lanes next (plain_body (drop i items))
+    ≡ (is_fresh lanes next (plain_op op) && are_fresh lanes (put_after lanes next (plain_op op))
+    (plain_body (drop (i + 1) items)))
 fresh-Do lanes next i items stmt op lt e is =
     ap (λ xs. are_fresh lanes next (plain_body xs)) (drop_item items i stmt lt e)
     ∙ ap (λ s. are_fresh lanes next (AndStmts s (plain_body (drop (i + 1) items)))) (ap plain_stmt is ∙ plain_stmt-Do op)
 
 -- the others go on from there
-pub fresh-more : (lanes next after i : ℕ) (items : List Stmt) (stmt : Stmt) (op : Op) (whole : Bool) → i < length items → stmt ≡ get_or items i stmt → stmt ≡ Do op → is_fresh lanes next (plain_op op) ≡ true → after ≡ put_after lanes next (plain_op op) → are_fresh lanes next (plain_body (drop i items)) ≡ whole → are_fresh lanes after (plain_body (drop (i + 1) items)) ≡ whole
+pub fresh-more : (lanes next after i : ℕ) (items : List Stmt) (stmt : Stmt) (op : Op) (whole : Bool) →
+    i < length items → stmt ≡ get_or items i stmt → stmt ≡ Do op → is_fresh lanes next (plain_op op) ≡ true →
+    after ≡ put_after lanes next (plain_op op) → are_fresh lanes next (plain_body (drop i items)) ≡ whole →
+    are_fresh lanes after (plain_body (drop (i + 1) items)) ≡ whole
 fresh-more lanes next after i items stmt op whole lt e is fresh a h =
     ap (λ n. are_fresh lanes n (plain_body (drop (i + 1) items))) a
     ∙ (ap (λ b. b && are_fresh lanes (put_after lanes next (plain_op op)) (plain_body (drop (i + 1) items))) (sym fresh) ∙ (sym (fresh-Do lanes next i items stmt op lt e is) ∙ h))
 
 -- ---- statements, one by one
 
-pub round-map : (loop : ℕ) (stmts : List PlainStmt) → exchanged_round loop (body_of stmts) ≡ body_of (map (exchanged_stmt loop) stmts)
+pub round-map : (loop : ℕ) (stmts : List PlainStmt) → exchanged_round loop (body_of stmts)
+    ≡ body_of (map (exchanged_stmt loop) stmts)
 round-map loop [] = refl
 round-map loop (plain.Do op ∷ rest) = ap (AndStmts (plain.Do (exchanged_op loop op))) (round-map loop rest)
 round-map loop (plain.Loop count body ∷ rest) = ap (AndStmts (plain.Loop count body)) (round-map loop rest)
 
-pub body-map : (lanes : ℕ) (stmts : List PlainStmt) → interchanged_body lanes (body_of stmts) ≡ body_of (map (interchanged_nest lanes) stmts)
+pub body-map : (lanes : ℕ) (stmts : List PlainStmt) → interchanged_body lanes (body_of stmts)
+    ≡ body_of (map (interchanged_nest lanes) stmts)
 body-map lanes [] = refl
 body-map lanes (stmt ∷ rest) = ap (AndStmts (interchanged_nest lanes stmt)) (body-map lanes rest)
 
 -- ---- shallow nests
 
-pub shallow-at : (stmts : List PlainStmt) (i : ℕ) (x d : PlainStmt) → are_shallow (body_of stmts) ≡ true → x ≡ get_or stmts i d → i < length stmts → is_shallow x ≡ true
+pub shallow-at : (stmts : List PlainStmt) (i : ℕ) (x d : PlainStmt) → are_shallow (body_of stmts) ≡ true →
+    x ≡ get_or stmts i d → i < length stmts → is_shallow x ≡ true
 shallow-at [] i x d h e lt = absurd (omega arith)
 shallow-at (y ∷ stmts) zero x d h e lt = ap is_shallow e ∙ (both_true (is_shallow y) _ h).0
 shallow-at (y ∷ stmts) (suc i) x d h e lt = shallow-at stmts i x d (both_true (is_shallow y) _ h).1 e (omega (arith, lt))
 
-pub all-shallow-at : (phases : List PlainBody) (i : ℕ) (x d : PlainBody) → list_all are_shallow phases ≡ true → x ≡ get_or phases i d → i < length phases → are_shallow x ≡ true
+pub all-shallow-at : (phases : List PlainBody) (i : ℕ) (x d : PlainBody) → list_all are_shallow phases ≡ true →
+    x ≡ get_or phases i d → i < length phases → are_shallow x ≡ true
 all-shallow-at [] i x d h e lt = absurd (omega arith)
 all-shallow-at (y ∷ phases) zero x d h e lt = ap are_shallow e ∙ (both_true (are_shallow y) _ h).0
 all-shallow-at (y ∷ phases) (suc i) x d h e lt = all-shallow-at phases i x d (both_true (are_shallow y) _ h).1 e (omega (arith, lt))

@@ -50,12 +50,17 @@ exchanged_parts loop (AndParts part rest) = AndParts part (exchanged_parts loop 
 abbrev pub exchanged_place : ℕ → PlainExpr → PlainExpr
 exchanged_place loop (Sum constant parts) = Sum constant (exchanged_parts loop parts)
 
+-- ---- operations with other places
+
+-- the operation, with what becomes of its place
+abbrev pub placed_op : (PlainExpr → PlainExpr) → PlainOp → PlainOp
+placed_op to (Load register array place) = Load register array (to place)
+placed_op to (Store array place register) = Store array (to place) register
+placed_op to (MulTable register source table place step) = MulTable register source table (to place) step
+placed_op to op = op
+
 abbrev pub exchanged_op : ℕ → PlainOp → PlainOp
-exchanged_op loop (Load register array place) = Load register array (exchanged_place loop place)
-exchanged_op loop (Store array place register) = Store array (exchanged_place loop place) register
-exchanged_op loop (MulTable register source table place step) =
-    MulTable register source table (exchanged_place loop place) step
-exchanged_op loop op = op
+exchanged_op loop op = placed_op (exchanged_place loop) op
 
 -- straight statements
 abbrev pub exchanged_round : ℕ → PlainBody → PlainBody

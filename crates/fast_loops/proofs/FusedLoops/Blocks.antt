@@ -45,7 +45,8 @@ start-is words Y = omega arith
 start-is words A = refl
 start-is words B = refl
 
-place-told : (lanes : ℕ) (counts front : List ℕ) (step constant : ℕ) (parts : PlainParts) → PlaceFollows lanes counts (front ++ step ∷ []) (Sum constant parts) →
+place-told : (lanes : ℕ) (counts front : List ℕ) (step constant : ℕ) (parts : PlainParts) →
+    PlaceFollows lanes counts (front ++ step ∷ []) (Sum constant parts) →
     (are_values parts ≡ true) × AreFollowed counts (constant + lanes) 0 (front ++ step ∷ []) parts
 place-told lanes counts [] step constant parts h = h
 place-told lanes counts (s ∷ front) step constant parts h = h
@@ -53,7 +54,8 @@ place-told lanes counts (s ∷ front) step constant parts h = h
 module _ (p : PlainProgram) (q : ℕ) where
   word-lies : (array : Array) (constant value low step k : ℕ) →
       Contains (range_with_len (array_start (whole_lines p.size p.line) array + (constant + value)) p.lanes) k →
-      constant + value + p.lanes ≤ whole_lines p.size p.line → IsPlaced (constant + p.lanes) low step value → Lies p low step k
+      constant + value + p.lanes ≤ whole_lines p.size p.line → IsPlaced (constant + p.lanes) low step value →
+      Lies p low step k
   word-lies array constant value low step k has room is =
       let words : ℕ = whole_lines p.size p.line in
       let there = in-range (array_start words array + (constant + value)) p.lanes k has in
@@ -71,21 +73,26 @@ module _ (p : PlainProgram) (q : ℕ) where
       split : (start other far k : ℕ) → start ≡ other → start + far ≤ k → other + (k - start) ≡ k
       split start other far k e le = omega (arith, e, le)
 
-      under : (start far lanes words k : ℕ) → start + far ≤ k → k < start + far + lanes → far + lanes ≤ words → k - start < words
+      under : (start far lanes words k : ℕ) → start + far ≤ k → k < start + far + lanes → far + lanes ≤ words →
+          k - start < words
       under start far lanes words k from lt le = omega (arith, from, lt, le)
 
-      least : (start constant value low k at : ℕ) → at ≡ k - start → start + (constant + value) ≤ k → low ≤ value → low ≤ at
+      least : (start constant value low k at : ℕ) → at ≡ k - start → start + (constant + value) ≤ k → low ≤ value →
+          low ≤ at
       least start constant value low k at e le from = omega (arith, e, le, from)
 
-      greatest : (start constant value lanes low step k at : ℕ) → at ≡ k - start → start + (constant + value) ≤ k → k < start + (constant + value) + lanes →
+      greatest : (start constant value lanes low step k at : ℕ) → at ≡ k - start → start + (constant + value) ≤ k →
+          k < start + (constant + value) + lanes →
           constant + lanes + value ≤ low + step → at < low + step
       greatest start constant value lanes low step k at e le lt room = omega (arith, e, le, lt, room)
 
-  module _ (counts front : List ℕ) (step : ℕ) (ws : List ℕ) (in_range : AreInRange counts ws) (long : length front < length ws) where
+  module _ (counts front : List ℕ) (step : ℕ) (ws : List ℕ) (in_range : AreInRange counts ws)
+      (long : length front < length ws) where
     abbrev low : ℕ
     low = begin (front ++ step ∷ []) ws
 
-    loaded-lies : (op : PlainOp) (k : ℕ) → OpFollows p.lanes counts (front ++ step ∷ []) op → StepFits p (step_of p op ws q) →
+    loaded-lies : (op : PlainOp) (k : ℕ) → OpFollows p.lanes counts (front ++ step ∷ []) op →
+        StepFits p (step_of p op ws q) →
         Contains (loaded_words p.lanes (step_of p op ws q).action) k → Lies p low step k
     loaded-lies (Load r array (Sum constant parts)) k follows fits has =
         let told = place-told p.lanes counts front step constant parts follows in
@@ -93,7 +100,8 @@ module _ (p : PlainProgram) (q : ℕ) where
         (placed counts ws (constant + p.lanes) q step front parts in_range told.0 long told.1)
     loaded-lies _ k follows fits has = absurd (Contains-nil k has)
 
-    stored-lies : (op : PlainOp) (k : ℕ) → OpFollows p.lanes counts (front ++ step ∷ []) op → StepFits p (step_of p op ws q) →
+    stored-lies : (op : PlainOp) (k : ℕ) → OpFollows p.lanes counts (front ++ step ∷ []) op →
+        StepFits p (step_of p op ws q) →
         Contains (stored_words p.lanes (step_of p op ws q).action) k → Lies p low step k
     stored-lies (Store array (Sum constant parts) r) k follows fits has =
         let told = place-told p.lanes counts front step constant parts follows in
@@ -102,9 +110,12 @@ module _ (p : PlainProgram) (q : ℕ) where
     stored-lies _ k follows fits has = absurd (Contains-nil k has)
 
     of-round : (f : Action → List ℕ) (k : ℕ) →
-        ((op : PlainOp) → OpFollows p.lanes counts (front ++ step ∷ []) op → StepFits p (step_of p op ws q) → Contains (f (step_of p op ws q).action) k → Lies p low step k) →
-        (next : ℕ) (round : PlainBody) → are_fresh p.lanes next round ≡ true → RoundFollows p.lanes counts (front ++ step ∷ []) round →
-        All (StepFits p) (steps_of_body p round ws q) → Contains (flat_map f (acts_of p q round ws)) k → Lies p low step k
+        ((op : PlainOp) → OpFollows p.lanes counts (front ++ step ∷ []) op → StepFits p (step_of p op ws q) →
+        Contains (f (step_of p op ws q).action) k → Lies p low step k) →
+        (next : ℕ) (round : PlainBody) → are_fresh p.lanes next round ≡ true →
+        RoundFollows p.lanes counts (front ++ step ∷ []) round →
+        All (StepFits p) (steps_of_body p round ws q) → Contains (flat_map f (acts_of p q round ws)) k →
+        Lies p low step k
     of-round f k by next NoStmts fresh follows fit has = absurd (Contains-nil k has)
     of-round f k by next (AndStmts (Do op) rest) fresh follows fit has =
         let first : Step = step_of p op ws q in
@@ -116,7 +127,8 @@ module _ (p : PlainProgram) (q : ℕ) where
         (Contains-append_cases (f first.action) (flat_map f (actions_of others)) k has)
     of-round f k by next (AndStmts (Loop count body) rest) fresh follows fit has = wrong fresh
 
-    round-inside : (round : PlainBody) → are_fresh p.lanes 0 round ≡ true → RoundFollows p.lanes counts (front ++ step ∷ []) round →
+    round-inside : (round : PlainBody) → are_fresh p.lanes 0 round ≡ true →
+        RoundFollows p.lanes counts (front ++ step ∷ []) round →
         All (StepFits p) (steps_of_body p round ws q) → IsInside p low step (acts_of p q round ws)
     round-inside round fresh follows fit k (inl loaded) = of-round (loaded_words p.lanes) k (λ op. loaded-lies op k) 0 round fresh follows fit loaded
     round-inside round fresh follows fit k (inr stored) = of-round (stored_words p.lanes) k (λ op. stored-lies op k) 0 round fresh follows fit stored
@@ -140,22 +152,26 @@ module _ (p : PlainProgram) (q : ℕ) where
       × HasBlocks blocks inside (vs ++ i ∷ []) (base + i * block.step))
 
   -- the steps of a body in a loop are steps of the loop
-  inside-fits : (count : ℕ) (inside : PlainBody) (vs : List ℕ) (i : ℕ) → i < count → StepsFit p (steps_of_body p (AndStmts (Loop count inside) NoStmts) vs q) →
+  inside-fits : (count : ℕ) (inside : PlainBody) (vs : List ℕ) (i : ℕ) → i < count →
+      StepsFit p (steps_of_body p (AndStmts (Loop count inside) NoStmts) vs q) →
       StepsFit p (steps_of_body p inside (vs ++ i ∷ []) q)
   inside-fits count inside vs i lt fit s has =
       let turn : ℕ → List Step = λ i. steps_of_body p inside (vs ++ i ∷ []) q in
       fit s (Contains-append_left (flat_map turn (range_with_len 0 count)) [] s (in-loop turn 0 count i s (omega arith) (omega (arith, lt)) has))
 
   -- the steps of a round
-  round-fits : (body : PlainBody) (vs us : List ℕ) → AreInRange (counts_in body) us → StepsFit p (steps_of_body p body vs q) →
+  round-fits : (body : PlainBody) (vs us : List ℕ) → AreInRange (counts_in body) us →
+      StepsFit p (steps_of_body p body vs q) →
       All (StepFits p) (steps_of_body p (round_in body) (vs ++ us) q)
   round-fits body vs us in_range fit =
       all_fit p (steps_of_body p (round_in body) (vs ++ us) q) (λ s has.
       fit s (subst (λ b. Contains (steps_of_body p b vs q) s) (looped_is body) (in_rows p q (counts_in body) (round_in body) vs us s in_range has)))
 
   module _ (counts steps : List ℕ) where
-    pub has-blocks : (body : PlainBody) (done vs front more : List ℕ) → counts ≡ done ++ counts_in body → steps ≡ front ++ more →
-        AreInRange done vs → length front ≡ length vs → are_fresh p.lanes 0 (round_in body) ≡ true → RoundFollows p.lanes counts steps (round_in body) →
+    pub has-blocks : (body : PlainBody) (done vs front more : List ℕ) → counts ≡ done ++ counts_in body →
+        steps ≡ front ++ more →
+        AreInRange done vs → length front ≡ length vs → are_fresh p.lanes 0 (round_in body) ≡ true →
+        RoundFollows p.lanes counts steps (round_in body) →
         StepsFit p (steps_of_body p body vs q) → HasBlocks (blocks_with (counts_in body) more) body vs (begin front vs)
     has-blocks NoStmts done vs front more counts_are steps_are in_range long fresh follows fit = tt
     has-blocks (AndStmts (Do op) rest) done vs front more counts_are steps_are in_range long fresh follows fit = tt

@@ -59,7 +59,8 @@ record Keeps (counts : List ℕ) (words loop : ℕ) (steps : List ℕ) (parts : 
   front : IsFront kept steps
   all : AreFollowed counts words loop kept parts
 
-keeps : (counts : List ℕ) (words loop : ℕ) (steps : List ℕ) (parts : PlainParts) → Keeps counts words loop steps parts (followed counts words loop steps parts)
+keeps : (counts : List ℕ) (words loop : ℕ) (steps : List ℕ) (parts : PlainParts) →
+    Keeps counts words loop steps parts (followed counts words loop steps parts)
 keeps counts words loop [] parts = record { front = tt; all = tt }
 keeps counts words loop (step ∷ steps) NoParts = record { front = tt; all = tt }
 keeps counts words loop (step ∷ steps) (AndParts part rest) =
@@ -67,7 +68,8 @@ keeps counts words loop (step ∷ steps) (AndParts part rest) =
   where
     of_test : Keeps counts words (loop + 1) steps rest (followed counts words (loop + 1) steps rest) →
         (b : Bool) → (is_step loop step part && nat_le (words + most counts rest) step) ≡ b →
-        Keeps counts words loop (step ∷ steps) (AndParts part rest) (if b then step ∷ followed counts words (loop + 1) steps rest else [])
+        Keeps counts words loop (step ∷ steps) (AndParts part rest)
+        (if b then step ∷ followed counts words (loop + 1) steps rest else [])
     of_test more false e = record { front = tt; all = tt }
     of_test more true e =
         let two = both_true (is_step loop step part) (nat_le (words + most counts rest) step) e in
@@ -96,13 +98,15 @@ RoundFollows lanes counts steps NoStmts = Unit {0}
 RoundFollows lanes counts steps (AndStmts (Do op) rest) = OpFollows lanes counts steps op × RoundFollows lanes counts steps rest
 RoundFollows lanes counts steps (AndStmts (Loop count body) rest) = RoundFollows lanes counts steps rest
 
-place-front : (lanes : ℕ) (counts xs ys : List ℕ) (place : PlainExpr) → IsFront xs ys → PlaceFollows lanes counts ys place → PlaceFollows lanes counts xs place
+place-front : (lanes : ℕ) (counts xs ys : List ℕ) (place : PlainExpr) → IsFront xs ys →
+    PlaceFollows lanes counts ys place → PlaceFollows lanes counts xs place
 place-front lanes counts [] ys place h k = tt
 place-front lanes counts (x ∷ xs) [] place h k = absurd h
 place-front lanes counts (x ∷ xs) (y ∷ ys) (Sum constant parts) h k =
     (k.0, followed-front counts (constant + lanes) 0 (x ∷ xs) (y ∷ ys) parts h k.1)
 
-op-front : (lanes : ℕ) (counts xs ys : List ℕ) (op : PlainOp) → IsFront xs ys → OpFollows lanes counts ys op → OpFollows lanes counts xs op
+op-front : (lanes : ℕ) (counts xs ys : List ℕ) (op : PlainOp) → IsFront xs ys → OpFollows lanes counts ys op →
+    OpFollows lanes counts xs op
 op-front lanes counts xs ys (Load r array place) h k = place-front lanes counts xs ys place h k
 op-front lanes counts xs ys (Store array place r) h k = place-front lanes counts xs ys place h k
 op-front lanes counts xs ys (Zero r) h k = tt
@@ -130,7 +134,8 @@ place-keeps lanes counts (Sum constant parts) steps = of_test (are_values parts)
     kept = keeps counts (constant + lanes) 0 steps parts
 
     of_test : (b : Bool) → are_values parts ≡ b →
-        KeepsFor (λ kept. PlaceFollows lanes counts kept (Sum constant parts)) steps (if b then followed counts (constant + lanes) 0 steps parts else [])
+        KeepsFor (λ kept. PlaceFollows lanes counts kept (Sum constant parts)) steps
+        (if b then followed counts (constant + lanes) 0 steps parts else [])
     of_test false e = record { front = tt; all = tt }
     of_test true e = record { front = kept.front; all = as-place lanes counts constant parts (followed counts (constant + lanes) 0 steps parts) e kept.all }
 
@@ -167,7 +172,8 @@ pub round-follows : (lanes : ℕ) (counts : List ℕ) (round : PlainBody) (steps
     RoundFollows lanes counts (followed_in lanes counts round steps) round
 round-follows lanes counts round steps = (round-keeps lanes counts round steps).all
 
-pub round-front : (lanes : ℕ) (counts xs ys : List ℕ) (round : PlainBody) → IsFront xs ys → RoundFollows lanes counts ys round → RoundFollows lanes counts xs round
+pub round-front : (lanes : ℕ) (counts xs ys : List ℕ) (round : PlainBody) → IsFront xs ys →
+    RoundFollows lanes counts ys round → RoundFollows lanes counts xs round
 round-front lanes counts xs ys NoStmts h k = tt
 round-front lanes counts xs ys (AndStmts (Do op) rest) h k = (op-front lanes counts xs ys op h k.0, round-front lanes counts xs ys rest h k.1)
 round-front lanes counts xs ys (AndStmts (Loop count body) rest) h k = round-front lanes counts xs ys rest h k
@@ -187,7 +193,8 @@ value-below (count ∷ counts) (w ∷ ws) zero h = let low = h.0 in omega (arith
 value-below (count ∷ counts) (w ∷ ws) (suc d) h = value-below counts ws d h.1
 
 -- the value of parts is no more than the most
-value-most : (counts ws : List ℕ) (q : ℕ) (parts : PlainParts) → AreInRange counts ws → are_values parts ≡ true → (parts_numbers parts ws q).value ≤ most counts parts
+value-most : (counts ws : List ℕ) (q : ℕ) (parts : PlainParts) → AreInRange counts ws → are_values parts ≡ true →
+    (parts_numbers parts ws q).value ≤ most counts parts
 value-most counts ws q NoParts h values = omega arith
 value-most counts ws q (AndParts (Proc factor) rest) h values = wrong values
 value-most counts ws q (AndParts (Var depth factor) rest) h values =
@@ -216,7 +223,8 @@ begin-more (s ∷ steps) step (v ∷ vs) us i long =
 abbrev AreFrom : ℕ → List ℕ → List ℕ → Type 0
 AreFrom loop ws all = (d : ℕ) → slice_index all (loop + d) ≡ slice_index ws d
 
-step-told : (loop step : ℕ) (part : PlainPart) (ws : List ℕ) (q : ℕ) → is_step loop step part ≡ true → (one_numbers part ws q).value ≡ slice_index ws loop * step
+step-told : (loop step : ℕ) (part : PlainPart) (ws : List ℕ) (q : ℕ) → is_step loop step part ≡ true →
+    (one_numbers part ws q).value ≡ slice_index ws loop * step
 step-told loop step (Proc factor) ws q h = wrong h
 step-told loop step (Var depth factor) ws q h =
     let two = both_true (depth == loop) (factor == step) h in
@@ -237,8 +245,10 @@ pub record IsPlaced (words start step value : ℕ) : Type 0 where
   pub from : start ≤ value
   pub before : words + value ≤ start + step
 
-placed-from : (counts all : List ℕ) (words q : ℕ) (step : ℕ) (front : List ℕ) (loop : ℕ) (ws : List ℕ) (parts : PlainParts) →
-    AreInRange counts all → AreFrom loop ws all → are_values parts ≡ true → length front < length ws → AreFollowed counts words loop (front ++ step ∷ []) parts →
+placed-from : (counts all : List ℕ) (words q : ℕ) (step : ℕ) (front : List ℕ) (loop : ℕ) (ws : List ℕ)
+    (parts : PlainParts) →
+    AreInRange counts all → AreFrom loop ws all → are_values parts ≡ true → length front < length ws →
+    AreFollowed counts words loop (front ++ step ∷ []) parts →
     IsPlaced words (begin (front ++ step ∷ []) ws) step (parts_numbers parts all q).value
 placed-from counts all words q step [] loop [] parts in_range is values long h = absurd (omega (arith, long))
 placed-from counts all words q step (s ∷ front) loop [] parts in_range is values long h = absurd (omega (arith, long))
@@ -260,7 +270,8 @@ placed-from counts all words q step (s ∷ front) loop (w ∷ ws) (AndParts part
     record { from = omega (arith, told, a); before = omega (arith, told, b) }
 
 pub placed : (counts all : List ℕ) (words q step : ℕ) (front : List ℕ) (parts : PlainParts) →
-    AreInRange counts all → are_values parts ≡ true → length front < length all → AreFollowed counts words 0 (front ++ step ∷ []) parts →
+    AreInRange counts all → are_values parts ≡ true → length front < length all →
+    AreFollowed counts words 0 (front ++ step ∷ []) parts →
     IsPlaced words (begin (front ++ step ∷ []) all) step (parts_numbers parts all q).value
 placed counts all words q step front parts in_range values long h =
     placed-from counts all words q step front 0 all parts in_range (λ d. ap (slice_index all) (omega arith)) values long h

@@ -63,7 +63,8 @@ module _ (p : PlainProgram) (q : ℕ) where
       }
 
   -- behind the same steps
-  leaves-front : (front xs ys : List Step) → length xs ≡ length ys → For p q xs ys → LeavesFor (front ++ xs) (front ++ ys)
+  leaves-front : (front xs ys : List Step) → length xs ≡ length ys → For p q xs ys →
+      LeavesFor (front ++ xs) (front ++ ys)
   leaves-front front xs ys as_long h =
       record {
         long = length-append front xs ∙ ap (λ n. length front + n) as_long ∙ sym (length-append front ys);
@@ -120,7 +121,8 @@ module _ (p : PlainProgram) (q : ℕ) where
 
   parted-for : (n : ℕ) (f g : ℕ → List Step) → ((i : ℕ) → i < n → Sure (f i)) → ((i : ℕ) → i < n → Sure (g i)) →
       ((j l : ℕ) → j < l → l < n → Commute p.modulus p.lanes (actions_of (g j)) (actions_of (f l))) →
-      For p q (flat_map (λ i. f i ++ g i) (range_with_len 0 n)) (flat_map f (range_with_len 0 n) ++ flat_map g (range_with_len 0 n))
+      For p q (flat_map (λ i. f i ++ g i) (range_with_len 0 n))
+      (flat_map f (range_with_len 0 n) ++ flat_map g (range_with_len 0 n))
   parted-for n f g sure sure_too commute =
       let both : ℕ → List Step = λ i. f i ++ g i in
       let rounds : List ℕ = range_with_len 0 n in
@@ -146,7 +148,8 @@ module _ (p : PlainProgram) (q : ℕ) where
   -- ---- nests
 
   rows-within : (low step : ℕ) (counts : List ℕ) (round : PlainBody) (ws : List ℕ) → are_fresh p.lanes 0 round ≡ true →
-      ((us : List ℕ) → AreInRange counts us → IsInside p low step (acts_of p q round (ws ++ us))) → IsWithin p low step (actions_of (rows p q counts round ws))
+      ((us : List ℕ) → AreInRange counts us → IsInside p low step (acts_of p q round (ws ++ us))) →
+      IsWithin p low step (actions_of (rows p q counts round ws))
   rows-within low step [] round ws fresh inside =
       subst (λ vs. IsWithin p low step (acts_of p q round vs)) (append-nil ws)
       (within-round p low step (acts_of p q round (ws ++ [])) (round_acts p q round (ws ++ []) fresh) (inside [] tt))
@@ -164,13 +167,16 @@ module _ (p : PlainProgram) (q : ℕ) where
   body-within low step body ws fresh inside =
       subst (λ b. IsWithin p low step (acts_of p q b ws)) (looped_is body) (rows-within low step (counts_in body) (round_in body) ws fresh inside)
 
-  pub body-sure : (body : PlainBody) (ws : List ℕ) → are_fresh p.lanes 0 (round_in body) ≡ true → Sure (steps_of_body p body ws q)
+  pub body-sure : (body : PlainBody) (ws : List ℕ) → are_fresh p.lanes 0 (round_in body) ≡ true →
+      Sure (steps_of_body p body ws q)
   body-sure body ws fresh =
       subst (λ b. IsSure p.modulus p.lanes (acts_of p q b ws)) (looped_is body) (rows_sure p q (counts_in body) (round_in body) ws fresh)
 
   -- an earlier round of a nest may come behind a later round of others
-  past-later : (base step j l : ℕ) (body inside : PlainBody) (vs : List ℕ) → j < l → are_fresh p.lanes 0 (round_in body) ≡ true →
-      AreRoundsInside p q (base + j * step) step body (vs ++ j ∷ []) → IsWithin p (base + l * step) step (acts_of p q inside (vs ++ l ∷ [])) →
+  past-later : (base step j l : ℕ) (body inside : PlainBody) (vs : List ℕ) → j < l →
+      are_fresh p.lanes 0 (round_in body) ≡ true →
+      AreRoundsInside p q (base + j * step) step body (vs ++ j ∷ []) →
+      IsWithin p (base + l * step) step (acts_of p q inside (vs ++ l ∷ [])) →
       Commute p.modulus p.lanes (acts_of p q body (vs ++ j ∷ [])) (acts_of p q inside (vs ++ l ∷ []))
   past-later base step j l body inside vs less fresh rounds within =
       subst (λ b. Commute p.modulus p.lanes (acts_of p q b (vs ++ j ∷ [])) (acts_of p q inside (vs ++ l ∷ []))) (looped_is body)
@@ -189,7 +195,8 @@ module _ (p : PlainProgram) (q : ℕ) where
       IsWithin p (base + i * block.step) block.step (acts_of p q inside (vs ++ i ∷ []))
       × Ends blocks inside (vs ++ i ∷ []) (base + i * block.step))
 
-  nest-ends : (body : PlainBody) (blocks : List Block) (vs : List ℕ) (base : ℕ) → are_fresh p.lanes 0 (round_in body) ≡ true →
+  nest-ends : (body : PlainBody) (blocks : List Block) (vs : List ℕ) (base : ℕ) →
+      are_fresh p.lanes 0 (round_in body) ≡ true →
       HasBlocks p q blocks body vs base → Ends blocks body vs base
   nest-ends body [] vs base fresh h = tt
   nest-ends NoStmts (block ∷ blocks) vs base fresh h = absurd h
@@ -206,8 +213,10 @@ module _ (p : PlainProgram) (q : ℕ) where
         ),
   )
 
-  put-ends : (count : ℕ) (inside made : PlainBody) (block : Block) (blocks : List Block) (vs : List ℕ) (base : ℕ) → are_fresh p.lanes 0 (round_in inside) ≡ true →
-      HasBlocks p q (block ∷ blocks) (AndStmts (Loop count inside) NoStmts) vs base → Ends (block ∷ blocks) (put_behind (Loop count inside) made) vs base
+  put-ends : (count : ℕ) (inside made : PlainBody) (block : Block) (blocks : List Block) (vs : List ℕ) (base : ℕ) →
+      are_fresh p.lanes 0 (round_in inside) ≡ true →
+      HasBlocks p q (block ∷ blocks) (AndStmts (Loop count inside) NoStmts) vs base →
+      Ends (block ∷ blocks) (put_behind (Loop count inside) made) vs base
   put-ends count inside made block blocks vs base fresh h = (
     inside,
     subst (λ n. EndsIn n inside (put_behind (Loop count inside) made)) h.0 (ends-put count inside made),
@@ -223,15 +232,18 @@ module _ (p : PlainProgram) (q : ℕ) where
 
   -- it does what it did, and stands at the end
   pub record IsGrown (n : ℕ) (body : PlainBody) (blocks : List Block) (made : PlainBody) (vs : List ℕ) (base : ℕ) : Type 0 where
-    pub leaves : LeavesFor (steps_of_body p (all_joined n body made) vs q) (steps_of_body p made vs q ++ steps_of_body p body vs q)
+    pub leaves : LeavesFor (steps_of_body p (all_joined n body made) vs q)
+        (steps_of_body p made vs q ++ steps_of_body p body vs q)
     pub ends : Ends blocks (all_joined n body made) vs base
 
   -- into no loop
-  put-grown : (body : PlainBody) (blocks : List Block) (made : PlainBody) (vs : List ℕ) (base : ℕ) → are_fresh p.lanes 0 (round_in body) ≡ true →
+  put-grown : (body : PlainBody) (blocks : List Block) (made : PlainBody) (vs : List ℕ) (base : ℕ) →
+      are_fresh p.lanes 0 (round_in body) ≡ true →
       HasBlocks p q blocks body vs base → IsGrown 0 body blocks made vs base
   put-grown body blocks made vs base fresh h = record { leaves = leaves-itself _ _ (put-all p q body made vs); ends = at_end body blocks fresh h }
     where
-      at_end : (body : PlainBody) (blocks : List Block) → are_fresh p.lanes 0 (round_in body) ≡ true → HasBlocks p q blocks body vs base → Ends blocks (all_joined 0 body made) vs base
+      at_end : (body : PlainBody) (blocks : List Block) → are_fresh p.lanes 0 (round_in body) ≡ true →
+          HasBlocks p q blocks body vs base → Ends blocks (all_joined 0 body made) vs base
       at_end body [] fresh h = tt
       at_end NoStmts (block ∷ blocks) fresh h = absurd h
       at_end (AndStmts (Do op) rest) (block ∷ blocks) fresh h = absurd h
@@ -288,7 +300,8 @@ module _ (p : PlainProgram) (q : ℕ) where
         out : (n a b : ℕ) → n * (a + b) ≡ n * a + n * b
         out n a b = omega arith
 
-        all_rounds : (n : ℕ) → n ≡ block.count → block.count * len_of_body changed ≡ block.count * len_of_body inside + block.count * len_of_body inner
+        all_rounds : (n : ℕ) → n ≡ block.count → block.count * len_of_body changed ≡ block.count * len_of_body inside
+            + block.count * len_of_body inner
         all_rounds zero e =
             let nothing : 0 * len_of_body changed ≡ 0 * len_of_body inside + 0 * len_of_body inner = omega arith in
             ap (λ k. k * len_of_body changed) (sym e) ∙ (nothing ∙ ap (λ k. k * len_of_body inside + k * len_of_body inner) e)
@@ -334,7 +347,8 @@ module _ (p : PlainProgram) (q : ℕ) where
   none-shared [] = refl
   none-shared (b ∷ bs) = refl
 
-  pub grows : (body : PlainBody) (bs cs : List Block) (made : PlainBody) (vs : List ℕ) (base : ℕ) → are_fresh p.lanes 0 (round_in body) ≡ true →
+  pub grows : (body : PlainBody) (bs cs : List Block) (made : PlainBody) (vs : List ℕ) (base : ℕ) →
+      are_fresh p.lanes 0 (round_in body) ≡ true →
       Ends bs made vs base → HasBlocks p q cs body vs base → IsGrown (shared bs cs) body cs made vs base
   grows body bs [] made vs base fresh end has =
       subst (λ n. IsGrown n body [] made vs base) (sym (none-shared bs)) (put-grown body [] made vs base fresh has)
@@ -348,9 +362,11 @@ module _ (p : PlainProgram) (q : ℕ) where
       body : PlainBody
       body = AndStmts (Loop count inner) NoStmts
 
-      of_test : ((i : ℕ) (inside : PlainBody) → Ends bs inside (vs ++ i ∷ []) (base + i * c.step) → HasBlocks p q cs inner (vs ++ i ∷ []) (base + i * c.step) →
+      of_test : ((i : ℕ) (inside : PlainBody) → Ends bs inside (vs ++ i ∷ []) (base + i * c.step) →
+          HasBlocks p q cs inner (vs ++ i ∷ []) (base + i * c.step) →
           IsGrown (shared bs cs) inner cs inside (vs ++ i ∷ []) (base + i * c.step)) →
-          (t : Bool) → ((b.count == c.count) && (b.step == c.step)) ≡ t → IsGrown (if t then suc (shared bs cs) else 0) body (c ∷ cs) made vs base
+          (t : Bool) → ((b.count == c.count) && (b.step == c.step)) ≡ t →
+          IsGrown (if t then suc (shared bs cs) else 0) body (c ∷ cs) made vs base
       of_test deeper false e = put-grown body (c ∷ cs) made vs base fresh has
       of_test deeper true e =
           let two = both_true (b.count == c.count) (b.step == c.step) e in

@@ -12,7 +12,8 @@ use Rattle.fast_loops.specs.FusedLoops.FusedLoops.{fused_onto, fused_phase, fuse
 use Rattle.fast_loops.proofs.TwoTables.Within.{and_is}
 
 module _ (m : ℕ) where
-  put-within : (stmt : PlainStmt) (body : PlainBody) (depth : ℕ) → is_stmt_within m stmt depth ≡ true → is_body_within m body depth ≡ true →
+  put-within : (stmt : PlainStmt) (body : PlainBody) (depth : ℕ) → is_stmt_within m stmt depth ≡ true →
+      is_body_within m body depth ≡ true →
       is_body_within m (put_behind stmt body) depth ≡ true
   put-within stmt NoStmts depth h k = and_is (is_stmt_within m stmt depth) true h refl
   put-within stmt (AndStmts first rest) depth h k =
@@ -20,15 +21,18 @@ module _ (m : ℕ) where
       and_is (is_stmt_within m first depth) (is_body_within m (put_behind stmt rest) depth) two.0 (put-within stmt rest depth h two.1)
 
   -- a change that keeps the limits in a loop
-  module _ (f : PlainBody → PlainBody) (depth : ℕ) (keeps : (body : PlainBody) → is_body_within m body (depth + 1) ≡ true → is_body_within m (f body) (depth + 1) ≡ true) where
-    with-within : (stmt : PlainStmt) → is_stmt_within m stmt depth ≡ true → is_stmt_within m (with_body f stmt) depth ≡ true
+  module _ (f : PlainBody → PlainBody) (depth : ℕ) (keeps : (body : PlainBody) →
+      is_body_within m body (depth + 1) ≡ true → is_body_within m (f body) (depth + 1) ≡ true) where
+    with-within : (stmt : PlainStmt) → is_stmt_within m stmt depth ≡ true →
+        is_stmt_within m (with_body f stmt) depth ≡ true
     with-within (Do op) h = h
     with-within (Loop count body) h =
         let two = both_true (is_small_positive count) _ h in
         let more = both_true (nat_lt depth 64) (is_body_within m body (depth + 1)) two.1 in
         and_is (is_small_positive count) _ two.0 (and_is (nat_lt depth 64) (is_body_within m (f body) (depth + 1)) more.0 (keeps body more.1))
 
-    last-within : (made : PlainBody) → is_body_within m made depth ≡ true → is_body_within m (in_last f made) depth ≡ true
+    last-within : (made : PlainBody) → is_body_within m made depth ≡ true →
+        is_body_within m (in_last f made) depth ≡ true
     last-within NoStmts h = refl
     last-within (AndStmts stmt NoStmts) h =
         and_is (is_stmt_within m (with_body f stmt) depth) true (with-within stmt (both_true (is_stmt_within m stmt depth) true h).0) refl
@@ -37,7 +41,8 @@ module _ (m : ℕ) where
         and_is (is_stmt_within m stmt depth) (is_body_within m (in_last f (AndStmts next rest)) depth) two.0 (last-within (AndStmts next rest) two.1)
 
   mutual
-    joined-within : (n : ℕ) (stmt : PlainStmt) (made : PlainBody) (depth : ℕ) → is_stmt_within m stmt depth ≡ true → is_body_within m made depth ≡ true →
+    joined-within : (n : ℕ) (stmt : PlainStmt) (made : PlainBody) (depth : ℕ) → is_stmt_within m stmt depth ≡ true →
+        is_body_within m made depth ≡ true →
         is_body_within m (joined n stmt made) depth ≡ true
     joined-within zero stmt made depth h k = put-within stmt made depth h k
     joined-within (suc n) (Do op) made depth h k = put-within (Do op) made depth h k
@@ -46,14 +51,16 @@ module _ (m : ℕ) where
         let more = both_true (nat_lt depth 64) (is_body_within m inside (depth + 1)) two.1 in
         last-within (all_joined n inside) depth (λ body low. all-joined-within n inside body (depth + 1) more.1 low) made k
 
-    all-joined-within : (n : ℕ) (body made : PlainBody) (depth : ℕ) → is_body_within m body depth ≡ true → is_body_within m made depth ≡ true →
+    all-joined-within : (n : ℕ) (body made : PlainBody) (depth : ℕ) → is_body_within m body depth ≡ true →
+        is_body_within m made depth ≡ true →
         is_body_within m (all_joined n body made) depth ≡ true
     all-joined-within n NoStmts made depth h k = k
     all-joined-within n (AndStmts stmt rest) made depth h k =
         let two = both_true (is_stmt_within m stmt depth) (is_body_within m rest depth) h in
         all-joined-within n rest (joined n stmt made) depth two.1 (joined-within n stmt made depth two.0 k)
 
-  onto-within : (lanes wait : ℕ) (before : List Block) (made body : PlainBody) → is_body_within m made 0 ≡ true → is_body_within m body 0 ≡ true →
+  onto-within : (lanes wait : ℕ) (before : List Block) (made body : PlainBody) → is_body_within m made 0 ≡ true →
+      is_body_within m body 0 ≡ true →
       is_body_within m (fused_onto lanes wait before made body) 0 ≡ true
   onto-within lanes wait before made NoStmts h k = h
   onto-within lanes (suc wait) before made (AndStmts stmt rest) h k =
@@ -64,7 +71,8 @@ module _ (m : ℕ) where
       onto-within lanes zero (blocks_of lanes stmt) (joined (shared before (blocks_of lanes stmt)) stmt made) rest
       (joined-within (shared before (blocks_of lanes stmt)) stmt made 0 two.0 h) two.1
 
-  pub fused-within : (lanes : ℕ) (phases : List PlainBody) → are_phases_within m phases ≡ true → are_phases_within m (fused_phases lanes phases) ≡ true
+  pub fused-within : (lanes : ℕ) (phases : List PlainBody) → are_phases_within m phases ≡ true →
+      are_phases_within m (fused_phases lanes phases) ≡ true
   fused-within lanes [] h = h
   fused-within lanes (body ∷ []) h =
       let two = both_true (is_body_within m body 0) true h in

@@ -52,7 +52,8 @@ module _ (p : PlainProgram) (q : ℕ) where
       (subst (λ xs. IsSure p.modulus p.lanes (actions_of xs)) (append-nil first) (body-sure p q (AndStmts (Loop count inside) NoStmts) [] two.0))
       (nests-sure rest two.1)
 
-  nests-onto : (body : PlainBody) (before : List Block) (made : PlainBody) → are_nests p.lanes body ≡ true → Ends p q before made [] 0 → StepsFit p (steps body) →
+  nests-onto : (body : PlainBody) (before : List Block) (made : PlainBody) → are_nests p.lanes body ≡ true →
+      Ends p q before made [] 0 → StepsFit p (steps body) →
       LeavesFor p q (steps (fused_onto p.lanes 0 before made body)) (steps made ++ steps body)
   nests-onto NoStmts before made h ends fit = leaves-itself p q _ _ (sym (append-nil (steps made)))
   nests-onto (AndStmts (Do op) rest) before made h ends fit = wrong h
@@ -86,23 +87,27 @@ module _ (p : PlainProgram) (q : ℕ) where
       first : List Step
       first = steps_of_stmt p stmt [] q
 
-      of_test : LeavesFor p q (steps (fused_onto p.lanes (waiting p.lanes rest) [] (put_behind stmt made) rest)) (steps (put_behind stmt made) ++ steps rest) →
+      of_test : LeavesFor p q (steps (fused_onto p.lanes (waiting p.lanes rest) [] (put_behind stmt made) rest))
+          (steps (put_behind stmt made) ++ steps rest) →
           (t : Bool) → (is_nest p.lanes stmt && are_nests p.lanes rest) ≡ t →
-          LeavesFor p q (steps (fused_onto p.lanes (if t then 0 else suc (waiting p.lanes rest)) [] made (AndStmts stmt rest))) (steps made ++ (first ++ steps rest))
+          LeavesFor p q (steps (fused_onto p.lanes (if t then 0 else suc (waiting p.lanes rest)) [] made
+          (AndStmts stmt rest))) (steps made ++ (first ++ steps rest))
       of_test more true e = nests-onto (AndStmts stmt rest) [] made e tt fit
       of_test more false e =
           subst (LeavesFor p q (steps (fused_onto p.lanes (waiting p.lanes rest) [] (put_behind stmt made) rest)))
           (ap (λ xs. xs ++ steps rest) (put-steps p q stmt made []) ∙ append_assoc (steps made) first (steps rest))
           more
 
-  fused-for : (body : PlainBody) → StepsFit p (steps body) → LeavesFor p q (steps (fused_phase p.lanes body)) (steps body)
+  fused-for : (body : PlainBody) → StepsFit p (steps body) →
+      LeavesFor p q (steps (fused_phase p.lanes body)) (steps body)
   fused-for body fit = waiting-onto body NoStmts fit
 
 -- ---- one phase of one processor
 
 -- the memory that such a code leaves
 alone-in-order : (code : Code) (x : List ℕ) → code.procs ≡ 1 → length code.lists ≡ 1 →
-    (in_order code x).memory ≡ memory_by code.modulus code.lanes (acts code 0 0) (slice_index_or (start code x).registers 0 []) (start code x).memory
+    (in_order code x).memory ≡ memory_by code.modulus code.lanes (acts code 0 0)
+    (slice_index_or (start code x).registers 0 []) (start code x).memory
 alone-in-order code x one phase =
     let begin : Whole = record { memory = (start code x).memory; registers = (start code x).registers } in
     ap (λ n. (phases_alone code n 0 begin).memory) phase ∙ ap (λ n. (processors_alone code 0 n 0 begin).memory) one
@@ -140,7 +145,8 @@ module _ (p : PlainProgram) (body : PlainBody) (one : p.procs ≡ 1) where
               record { numbers = f.numbers; place = f.place; registers = f.registers; factors = f.factors });
         }
 
-    acts_there : (phase q : ℕ) → q < p.procs → acts (plain_code there) phase q ≡ actions_of (steps_of_phase there phase q)
+    acts_there : (phase q : ℕ) → q < p.procs → acts (plain_code there) phase q
+        ≡ actions_of (steps_of_phase there phase q)
     acts_there phase q lt = listed there there.phases phase q lt
 
     acts_here : (phase q : ℕ) → q < p.procs → acts (plain_code here) phase q ≡ actions_of (steps_of_phase here phase q)
@@ -192,15 +198,18 @@ module _ (p : PlainProgram) (body : PlainBody) (one : p.procs ≡ 1) where
 
 -- ---- programs
 
-pub fused_program : (least : ℕ) (p : PlainProgram) → PlainFits p → ((phase : ℕ) → IsApart (plain_code p) phase) → IsInPlaceOf (fused least p) p
+pub fused_program : (least : ℕ) (p : PlainProgram) → PlainFits p → ((phase : ℕ) → IsApart (plain_code p) phase) →
+    IsInPlaceOf (fused least p) p
 fused_program least p fits apart = of_test (may_be_fused least p) refl
   where
-    of_phases : (phases : List PlainBody) → p.procs ≡ 1 → PlainFits (with_phases p phases) → ((phase : ℕ) → IsApart (plain_code (with_phases p phases)) phase) →
+    of_phases : (phases : List PlainBody) → p.procs ≡ 1 → PlainFits (with_phases p phases) →
+        ((phase : ℕ) → IsApart (plain_code (with_phases p phases)) phase) →
         IsInPlaceOf (with_phases p (fused_phases p.lanes phases)) (with_phases p phases)
     of_phases [] one fits apart = itself (with_phases p []) fits apart
     of_phases (body ∷ []) one fits apart = fused_is p body one fits apart
     of_phases (body ∷ next ∷ phases) one fits apart = itself (with_phases p (body ∷ next ∷ phases)) fits apart
 
-    of_test : (t : Bool) → may_be_fused least p ≡ t → IsInPlaceOf (if t then with_phases p (fused_phases p.lanes p.phases) else p) p
+    of_test : (t : Bool) → may_be_fused least p ≡ t → IsInPlaceOf
+        (if t then with_phases p (fused_phases p.lanes p.phases) else p) p
     of_test false e = itself p fits apart
     of_test true e = of_phases p.phases (eqb-true p.procs 1 (both_true (nat_le least p.size) (p.procs == 1) e).1) fits apart

@@ -16,23 +16,27 @@ use Rattle.fast_loops.specs.FusedLoops.FusedLoops.{fused_onto}
 
 -- ---- statements behind others
 
-pub put-pushed : (items : List Stmt) (stmt : Stmt) → plain_body (items ++ stmt ∷ []) ≡ put_behind (plain_stmt stmt) (plain_body items)
+pub put-pushed : (items : List Stmt) (stmt : Stmt) → plain_body (items ++ stmt ∷ []) ≡ put_behind (plain_stmt stmt)
+    (plain_body items)
 put-pushed [] stmt = refl
 put-pushed (x ∷ items) stmt = ap (AndStmts (plain_stmt x)) (put-pushed items stmt)
 
-last-behind : (f : PlainBody → PlainBody) (items : List Stmt) (stmt : Stmt) → put_behind (with_body f (plain_stmt stmt)) (plain_body items) ≡ in_last f (plain_body (items ++ stmt ∷ []))
+last-behind : (f : PlainBody → PlainBody) (items : List Stmt) (stmt : Stmt) →
+    put_behind (with_body f (plain_stmt stmt)) (plain_body items) ≡ in_last f (plain_body (items ++ stmt ∷ []))
 last-behind f [] stmt = refl
 last-behind f (x ∷ []) stmt = refl
 last-behind f (x ∷ y ∷ items) stmt = ap (AndStmts (plain_stmt x)) (last-behind f (y ∷ items) stmt)
 
 -- what is in the last statement is changed
 pub last-changed : (f : PlainBody → PlainBody) (old rest made : List Stmt) (last : Stmt) → old ≡ rest ++ last ∷ [] →
-    plain_body made ≡ put_behind (with_body f (plain_stmt last)) (plain_body rest) → plain_body made ≡ in_last f (plain_body old)
+    plain_body made ≡ put_behind (with_body f (plain_stmt last)) (plain_body rest) →
+    plain_body made ≡ in_last f (plain_body old)
 last-changed f old rest made last old_is made_is =
     made_is ∙ last-behind f rest last ∙ ap (λ xs. in_last f (plain_body xs)) (sym old_is)
 
 -- an operation stays
-pub into-do : (f : PlainBody → PlainBody) (items new : List Stmt) (last : Stmt) (op : Op) → last ≡ stmts.Do op → new ≡ items ++ stmts.Do op ∷ [] →
+pub into-do : (f : PlainBody → PlainBody) (items new : List Stmt) (last : Stmt) (op : Op) → last ≡ stmts.Do op →
+    new ≡ items ++ stmts.Do op ∷ [] →
     plain_body new ≡ put_behind (with_body f (plain_stmt last)) (plain_body items)
 into-do f items new last op does is =
     ap plain_body is
@@ -40,7 +44,8 @@ into-do f items new last op does is =
     ∙ ap (λ s. put_behind s (plain_body items)) (plain_stmt-Do op ∙ sym (ap (with_body f) (ap plain_stmt does ∙ plain_stmt-Do op)))
 
 -- what is in a loop is changed
-pub into-loop : (f : PlainBody → PlainBody) (items new : List Stmt) (last : Stmt) (count : ℕ) (body made : Vec Stmt Global) → last ≡ stmts.Loop count body →
+pub into-loop : (f : PlainBody → PlainBody) (items new : List Stmt) (last : Stmt) (count : ℕ)
+    (body made : Vec Stmt Global) → last ≡ stmts.Loop count body →
     new ≡ items ++ stmts.Loop count made ∷ [] → plain_body made.items ≡ f (plain_body body.items) →
     plain_body new ≡ put_behind (with_body f (plain_stmt last)) (plain_body items)
 into-loop f items new last count body made loops is changed =
@@ -50,7 +55,8 @@ into-loop f items new last count body made loops is changed =
     (plain_stmt-Loop count made ∙ ap (Loop count) changed ∙ sym (ap (with_body f) (ap plain_stmt loops ∙ plain_stmt-Loop count body)))
 
 -- into no loop
-pub joined-none : (loops : ℕ) (items new : List Stmt) (stmt : Stmt) → loops ≡ 0 → new ≡ items ++ stmt ∷ [] → plain_body new ≡ joined loops (plain_stmt stmt) (plain_body items)
+pub joined-none : (loops : ℕ) (items new : List Stmt) (stmt : Stmt) → loops ≡ 0 → new ≡ items ++ stmt ∷ [] →
+    plain_body new ≡ joined loops (plain_stmt stmt) (plain_body items)
 joined-none loops items new stmt none is =
     ap plain_body is ∙ put-pushed items stmt ∙ ap (λ n. joined n (plain_stmt stmt) (plain_body items)) (sym none)
 
@@ -59,7 +65,8 @@ op-joined zero op made = refl
 op-joined (suc loops) op made = refl
 
 -- an operation goes into no loop
-pub joined-do : (loops : ℕ) (items new : List Stmt) (stmt : Stmt) (op : Op) → stmt ≡ stmts.Do op → new ≡ items ++ stmts.Do op ∷ [] →
+pub joined-do : (loops : ℕ) (items new : List Stmt) (stmt : Stmt) (op : Op) → stmt ≡ stmts.Do op →
+    new ≡ items ++ stmts.Do op ∷ [] →
     plain_body new ≡ joined loops (plain_stmt stmt) (plain_body items)
 joined-do loops items new stmt op does is =
     ap plain_body is
@@ -71,7 +78,8 @@ joined-do loops items new stmt op does is =
 -- ---- blocks
 
 -- where the counts or the steps end
-pub blocks-done : (counts steps : List ℕ) (index : ℕ) → min (length counts) (length steps) ≤ index → blocks_with (drop index counts) (drop index steps) ≡ []
+pub blocks-done : (counts steps : List ℕ) (index : ℕ) → min (length counts) (length steps) ≤ index →
+    blocks_with (drop index counts) (drop index steps) ≡ []
 blocks-done [] [] zero le = refl
 blocks-done [] [] (suc index) le = refl
 blocks-done [] (step ∷ steps) zero le = refl
@@ -87,9 +95,11 @@ blocks-done (count ∷ counts) (step ∷ steps) (suc index) le = blocks-done cou
 
 -- ---- phases
 
-onto-step : (lanes wait : ℕ) (before blocks : List Block) (stmt : PlainStmt) (made rest : PlainBody) (stays : Bool) → stays ≡ nat_lt 0 wait →
+onto-step : (lanes wait : ℕ) (before blocks : List Block) (stmt : PlainStmt) (made rest : PlainBody) (stays : Bool) →
+    stays ≡ nat_lt 0 wait →
     blocks ≡ (if stays then [] else blocks_of lanes stmt) →
-    fused_onto lanes (wait - 1) blocks (joined (shared before blocks) stmt made) rest ≡ fused_onto lanes wait before made (AndStmts stmt rest)
+    fused_onto lanes (wait - 1) blocks (joined (shared before blocks) stmt made) rest
+    ≡ fused_onto lanes wait before made (AndStmts stmt rest)
 onto-step lanes zero before blocks stmt made rest stays test is =
     let same : blocks ≡ blocks_of lanes stmt = is ∙ ap (λ b. if b then [] else blocks_of lanes stmt) test in
     let none : zero - 1 ≡ 0 = omega arith in
@@ -106,8 +116,10 @@ onto-step lanes (suc wait) before blocks stmt made rest stays test is =
     none (b ∷ bs) = refl
 
 -- one statement more has gone in
-pub onto-kept : (lanes wait : ℕ) (before blocks : List Block) (stmt : PlainStmt) (made new rest : PlainBody) (n left : ℕ) (whole : PlainBody) → left ≡ wait - 1 →
-    n ≡ shared before blocks → blocks ≡ (if nat_lt 0 wait then [] else blocks_of lanes stmt) → new ≡ joined n stmt made →
+pub onto-kept : (lanes wait : ℕ) (before blocks : List Block) (stmt : PlainStmt) (made new rest : PlainBody)
+    (n left : ℕ) (whole : PlainBody) → left ≡ wait - 1 →
+    n ≡ shared before blocks → blocks ≡ (if nat_lt 0 wait then [] else blocks_of lanes stmt) →
+    new ≡ joined n stmt made →
     fused_onto lanes wait before made (AndStmts stmt rest) ≡ whole → fused_onto lanes left blocks new rest ≡ whole
 onto-kept lanes wait before blocks stmt made new rest n left whole left_is n_is blocks_are new_is so_far =
     ap₂ (λ k body. fused_onto lanes k blocks body rest) left_is (new_is ∙ ap (λ k. joined k stmt made) n_is)
@@ -137,7 +149,8 @@ waits-nest lanes stmt rest count index nest =
     ap (λ b. if b && are_nests lanes rest then count else index + (if b && are_nests lanes rest then 0 else suc (waiting lanes rest))) nest
     ∙ of_test (are_nests lanes rest)
   where
-    of_test : (b : Bool) → (if b then count else index + (if b then 0 else suc (waiting lanes rest))) ≡ (if b then count else index + 1 + waiting lanes rest)
+    of_test : (b : Bool) → (if b then count else index + (if b then 0 else suc (waiting lanes rest)))
+        ≡ (if b then count else index + 1 + waiting lanes rest)
     of_test true = refl
     of_test false = omega arith
 
@@ -147,7 +160,8 @@ waits-other lanes stmt rest count index other =
     ap (λ b. if b && are_nests lanes rest then count else index + (if b && are_nests lanes rest then 0 else suc (waiting lanes rest))) other
     ∙ of_test (are_nests lanes rest) refl
   where
-    of_test : (b : Bool) → are_nests lanes rest ≡ b → index + suc (waiting lanes rest) ≡ (if b then index + 1 else index + 1 + waiting lanes rest)
+    of_test : (b : Bool) → are_nests lanes rest ≡ b → index + suc (waiting lanes rest)
+        ≡ (if b then index + 1 else index + 1 + waiting lanes rest)
     of_test true e = let none = waiting-nests lanes rest e in omega (arith, none)
     of_test false e = omega arith
 
@@ -165,8 +179,10 @@ module _ (lanes : ℕ) (items : List Stmt) (stmt : Stmt) (index count whole : �
   now = so_far ∙ ap (λ body. waits lanes body count index) (next-stmt items index stmt lt at)
 
   -- a nest more has been seen, or another statement
-  pub after-nest : is_nest lanes (plain_stmt stmt) ≡ true → whole ≡ waits lanes (plain_body (drop (index + 1) items)) count (index + 1)
+  pub after-nest : is_nest lanes (plain_stmt stmt) ≡ true → whole
+      ≡ waits lanes (plain_body (drop (index + 1) items)) count (index + 1)
   after-nest nest = now ∙ waits-nest lanes (plain_stmt stmt) (plain_body (drop (index + 1) items)) count index nest
 
-  pub after-other : is_nest lanes (plain_stmt stmt) ≡ false → whole ≡ waits lanes (plain_body (drop (index + 1) items)) (index + 1) (index + 1)
+  pub after-other : is_nest lanes (plain_stmt stmt) ≡ false →
+      whole ≡ waits lanes (plain_body (drop (index + 1) items)) (index + 1) (index + 1)
   after-other other = now ∙ waits-other lanes (plain_stmt stmt) (plain_body (drop (index + 1) items)) count index other

@@ -12,7 +12,8 @@ EndsIn count inside NoStmts = ⊥
 EndsIn count inside (AndStmts stmt NoStmts) = stmt ≡ Loop count inside
 EndsIn count inside (AndStmts stmt (AndStmts next rest)) = EndsIn count inside (AndStmts next rest)
 
-ends-more : (count : ℕ) (inside : PlainBody) (stmt : PlainStmt) (body : PlainBody) → EndsIn count inside body → EndsIn count inside (AndStmts stmt body)
+ends-more : (count : ℕ) (inside : PlainBody) (stmt : PlainStmt) (body : PlainBody) → EndsIn count inside body →
+    EndsIn count inside (AndStmts stmt body)
 ends-more count inside stmt NoStmts h = absurd h
 ends-more count inside stmt (AndStmts next rest) h = h
 
@@ -20,7 +21,8 @@ pub ends-put : (count : ℕ) (inside made : PlainBody) → EndsIn count inside (
 ends-put count inside NoStmts = refl
 ends-put count inside (AndStmts stmt rest) = ends-more count inside stmt (put_behind (Loop count inside) rest) (ends-put count inside rest)
 
-pub ends-changed : (f : PlainBody → PlainBody) (count : ℕ) (inside made : PlainBody) → EndsIn count inside made → EndsIn count (f inside) (in_last f made)
+pub ends-changed : (f : PlainBody → PlainBody) (count : ℕ) (inside made : PlainBody) → EndsIn count inside made →
+    EndsIn count (f inside) (in_last f made)
 ends-changed f count inside NoStmts h = absurd h
 ends-changed f count inside (AndStmts stmt NoStmts) h = ap (with_body f) h
 ends-changed f count inside (AndStmts stmt (AndStmts next rest)) h =
@@ -47,9 +49,11 @@ module _ (p : PlainProgram) (q : ℕ) where
   pub record Parted (count : ℕ) (inside made : PlainBody) (vs : List ℕ) : Type 0 where
     pub front : List Step
     pub now : steps_of_body p made vs q ≡ front ++ steps_of_stmt p (Loop count inside) vs q
-    pub changed : (f : PlainBody → PlainBody) → steps_of_body p (in_last f made) vs q ≡ front ++ steps_of_stmt p (Loop count (f inside)) vs q
+    pub changed : (f : PlainBody → PlainBody) → steps_of_body p (in_last f made) vs q ≡ front
+        ++ steps_of_stmt p (Loop count (f inside)) vs q
 
-  pub parted_last : (count : ℕ) (inside made : PlainBody) (vs : List ℕ) → EndsIn count inside made → Parted count inside made vs
+  pub parted_last : (count : ℕ) (inside made : PlainBody) (vs : List ℕ) → EndsIn count inside made →
+      Parted count inside made vs
   parted_last count inside NoStmts vs h = absurd h
   parted_last count inside (AndStmts stmt NoStmts) vs h =
       record {
@@ -72,6 +76,7 @@ module _ (p : PlainProgram) (q : ℕ) where
 
 -- ---- how many steps there are
 
-pub put-length : (stmt : PlainStmt) (body : PlainBody) → len_of_body (put_behind stmt body) ≡ len_of_body body + len_of_stmt stmt
+pub put-length : (stmt : PlainStmt) (body : PlainBody) → len_of_body (put_behind stmt body) ≡ len_of_body body
+    + len_of_stmt stmt
 put-length stmt NoStmts = omega arith
 put-length stmt (AndStmts first rest) = let more = put-length stmt rest in omega (arith, more)

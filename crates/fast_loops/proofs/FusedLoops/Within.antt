@@ -62,7 +62,8 @@ module _ (p : PlainProgram) where
             same-between p.modulus p.lanes (r ++ []) r r r (append-nil r) (independent p.modulus p.lanes r other) refl;
       }
 
-  pub within-append : (low step : ℕ) (a b : List Action) → IsWithin low step a → IsWithin low step b → IsWithin low step (a ++ b)
+  pub within-append : (low step : ℕ) (a b : List Action) → IsWithin low step a → IsWithin low step b →
+      IsWithin low step (a ++ b)
   within-append low step a b one two =
       record {
         sure = same-append p.modulus p.lanes a a b b one.sure two.sure;
@@ -84,7 +85,8 @@ module _ (p : PlainProgram) where
       }
 
   -- what does the same
-  pub within-same : (low step : ℕ) (a b : List Action) → DoTheSame p.modulus p.lanes a b → IsWithin low step b → IsWithin low step a
+  pub within-same : (low step : ℕ) (a b : List Action) → DoTheSame p.modulus p.lanes a b → IsWithin low step b →
+      IsWithin low step a
   within-same low step a b same is =
       let back = same-sym p.modulus p.lanes a b same in
       record {

@@ -1,6 +1,6 @@
 -- Joined loops stand within the limits of programs.
-use Rattle.std.proofs.Common.{◌≡◌, ◌⊎◌, inl, inr, ℕ, ◌+◌, ◌*◌, ◌<◌, ◌≤◌, List, [], ◌∷◌, Bool, true, false, Some}
-use Rattle.std.proofs.Common.{None, ap, sym, subst, ◌∙◌, arith, refl, ltb-true, lt-ltb, map, length, mul-le-mul_left}
+use Rattle.std.proofs.Common.{◌≡◌, ◌⊎◌, inl, inr, ℕ, ◌+◌, ◌*◌, ◌<◌, ◌≤◌, List, [], ◌∷◌, Bool, true, false, Some, None}
+use Rattle.std.proofs.Common.{ap, sym, subst, ◌∙◌, arith, refl, ltb-true, lt-ltb, map, length, mul-le-mul_left}
 use Rattle.std.specs.Prelude.{◌%◌, ◌==◌, ◌&&◌, not, nat_lt, nat_le, max, if◌then◌else◌}
 use Rattle.std.specs.List.{list_all}
 use Rattle.std.specs.Option.{unwrap_or}
@@ -8,12 +8,11 @@ use Rattle.std.proofs.lemmas.Bool.{leb-true, le-leb, and_parts, and_from}
 use Rattle.icode.specs.Limits.{is_small, is_small_positive, are_parts_within, all_parts, parts_depth, is_expr_within}
 use Rattle.icode.specs.Limits.{is_op_within, is_stmt_within, is_body_within, are_phases_within}
 use Rattle.icode.specs.Plain.{PlainExpr, PlainParts, PlainOp, PlainStmt, PlainBody, Sum, NoParts, AndParts, Proc, Var}
-use Rattle.icode.specs.Plain.{Product, Rem, Quot, Load, Store, Zero, Add, Sub, Neg, MulConst, MulTable, Tile, Loop, Do}
-use Rattle.icode.specs.Plain.{NoStmts, AndStmts}
+use Rattle.icode.specs.Plain.{Load, Store, MulTable, Loop, Do, NoStmts, AndStmts}
 use Rattle.fast_loops.specs.Places.{are_linear}
-use Rattle.fast_loops.specs.JoinedLoops.JoinedLoops.{place_goes_on, op_goes_on, body_goes_on}
-use Rattle.fast_loops.specs.JoinedLoops.JoinedLoops.{lifted_parts, lifted_place, lifted_op, lifted_stmt, lifted_body}
-use Rattle.fast_loops.specs.JoinedLoops.JoinedLoops.{as_one, joined_stmt, joined_body}
+use Rattle.fast_loops.specs.JoinedLoops.JoinedLoops.{place_goes_on, op_goes_on, body_goes_on, lifted_parts}
+use Rattle.fast_loops.specs.JoinedLoops.JoinedLoops.{lifted_place, lifted_op, lifted_body, as_one, joined_stmt}
+use Rattle.fast_loops.specs.JoinedLoops.JoinedLoops.{joined_body}
 use Rattle.fast_loops.proofs.Limited.{IsVarWithin, IsLoopWithin, and_three, one-within, var-within, loop-within}
 use Rattle.fast_loops.proofs.Limited.{loop-is, only-within}
 use Rattle.fast_loops.proofs.Linear.{wrong, from_least, proc_first}
@@ -68,41 +67,26 @@ parts-within loop n first least lower (AndParts (Var depth a) rest) deep le few 
         ∙ one-within lifted.up a n lower (lifted.up + 2) (lifted_parts loop rest)
         (omega (arith, there, next)) rank known.small (omega arith)
         (more (lifted.up + 2) (omega (arith, next)) (inr (omega (arith, next))))
-parts-within loop n first least lower (AndParts (Product outer inner a) rest) deep le few linear h = wrong linear
-parts-within loop n first least lower (AndParts (Rem of divisor a) rest) deep le few linear h = wrong linear
-parts-within loop n first least lower (AndParts (Quot of divisor a) rest) deep le few linear h = wrong linear
+parts-within loop n first least lower (AndParts _ rest) deep le few linear h = wrong linear
 
 -- there are no more of them, and none has parentheses
-fewer : (loop first : ℕ) (parts : PlainParts) → are_linear first parts ≡ true →
-    all_parts (lifted_parts loop parts) ≤ all_parts parts
-fewer loop first NoParts linear = omega arith
-fewer loop first (AndParts (Proc a) rest) linear =
-    let more = fewer loop first rest (proc_first first a rest linear).1 in omega (arith, more)
-fewer loop first (AndParts (Var depth a) rest) linear =
-    let more = fewer loop (depth + 1) rest (from_least first depth _ linear).1 in
-    let few : PlainParts → Type 0 = λ parts. all_parts parts ≤ 1 + all_parts rest in
+few-and-flat : (loop first : ℕ) (parts : PlainParts) → are_linear first parts ≡ true →
+    (all_parts (lifted_parts loop parts) ≤ all_parts parts) × (parts_depth (lifted_parts loop parts) ≡ 0)
+few-and-flat loop first NoParts linear = (omega arith, refl)
+few-and-flat loop first (AndParts (Proc a) rest) linear =
+    let more = few-and-flat loop first rest (proc_first first a rest linear).1 in
+    let few = more.0 in
+    (omega (arith, few), ap (max 0) more.1)
+few-and-flat loop first (AndParts (Var depth a) rest) linear =
+    let more = few-and-flat loop (depth + 1) rest (from_least first depth _ linear).1 in
+    let few = more.0 in
+    let both : PlainParts → Type 0 = λ parts. (all_parts parts ≤ 1 + all_parts rest) × (parts_depth parts ≡ 0) in
     elim (lifted_var loop depth a rest) [
-      | inl gone ↦ subst few (sym gone.1) (omega (arith, more))
-      | inr (inl stays) ↦ subst few (sym stays.1) (omega (arith, more))
-      | inr (inr lifted) ↦ subst few (sym lifted.is) (omega (arith, more))
+      | inl gone ↦ subst both (sym gone.1) (omega (arith, few), more.1)
+      | inr (inl stays) ↦ subst both (sym stays.1) (omega (arith, few), ap (max 0) more.1)
+      | inr (inr lifted) ↦ subst both (sym lifted.is) (omega (arith, few), ap (max 0) more.1)
     ]
-fewer loop first (AndParts (Product outer inner a) rest) linear = wrong linear
-fewer loop first (AndParts (Rem of divisor a) rest) linear = wrong linear
-fewer loop first (AndParts (Quot of divisor a) rest) linear = wrong linear
-
-flat : (loop first : ℕ) (parts : PlainParts) → are_linear first parts ≡ true → parts_depth (lifted_parts loop parts) ≡ 0
-flat loop first NoParts linear = refl
-flat loop first (AndParts (Proc a) rest) linear = ap (max 0) (flat loop first rest (proc_first first a rest linear).1)
-flat loop first (AndParts (Var depth a) rest) linear =
-    let more = flat loop (depth + 1) rest (from_least first depth _ linear).1 in
-    elim (lifted_var loop depth a rest) [
-      | inl gone ↦ ap parts_depth gone.1 ∙ more
-      | inr (inl stays) ↦ ap parts_depth stays.1 ∙ ap (max 0) more
-      | inr (inr lifted) ↦ ap parts_depth lifted.is ∙ ap (max 0) more
-    ]
-flat loop first (AndParts (Product outer inner a) rest) linear = wrong linear
-flat loop first (AndParts (Rem of divisor a) rest) linear = wrong linear
-flat loop first (AndParts (Quot of divisor a) rest) linear = wrong linear
+few-and-flat loop first (AndParts _ rest) linear = wrong linear
 
 place-within : (loop inner n : ℕ) (place : PlainExpr) → loop < n → place_goes_on loop inner place ≡ true →
     is_expr_within place (n + 1) ≡ true → is_expr_within (lifted_place loop place) n ≡ true
@@ -112,13 +96,14 @@ place-within loop inner n (Sum constant parts) deep on h =
     let sum = and_parts (is_small constant) _ within.0 in
     let few : all_parts parts ≤ 64 = leb-true (all_parts parts) 64
     (and_parts (nat_le (all_parts parts) 64) _ within.1).0 in
-    let less = fewer loop 0 parts linear in
+    let lifted = few-and-flat loop 0 parts linear in
+    let less = lifted.0 in
     and_from (is_small constant && are_parts_within (lifted_parts loop parts) n 0) _
     (and_from (is_small constant) _ sum.0
     (parts-within loop n 0 0 0 parts deep (omega arith) (inl (omega arith)) linear sum.1))
     (and_from (nat_le (all_parts (lifted_parts loop parts)) 64) _
     (le-leb (all_parts (lifted_parts loop parts)) 64 (omega (arith, few, less)))
-    (ap (λ k. nat_le k 64) (flat loop 0 parts linear)))
+    (ap (λ k. nat_le k 64) lifted.1))
 
 -- ---- statements
 
@@ -139,12 +124,7 @@ op-within m loop inner n (MulTable register source table place step) deep on h =
     (and_from (is_small source) _ b.0
     (and_from (is_small table) _ c.0
     (and_from (nat_lt step 2) _ d.0 (place-within loop inner n place deep on d.1))))
-op-within m loop inner n (Zero register) deep on h = h
-op-within m loop inner n (Add register left right) deep on h = h
-op-within m loop inner n (Sub register left right) deep on h = h
-op-within m loop inner n (Neg register source) deep on h = h
-op-within m loop inner n (MulConst register source factor) deep on h = h
-op-within m loop inner n (Tile register source) deep on h = h
+op-within m loop inner n op deep on h = h
 
 -- statements with one loop less around them
 body-lifted : (m loop inner n : ℕ) (body : PlainBody) → loop < n → body_goes_on loop inner body ≡ true →

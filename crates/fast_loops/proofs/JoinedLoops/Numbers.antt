@@ -1,12 +1,13 @@
 -- A place with one loop less around it has the numbers that it had.
 use Rattle.std.proofs.Common.{Bool, ◌≡◌, ◌≢◌, ◌⊎◌, inl, inr, ℕ, zero, suc, ◌+◌, ◌*◌, ◌<◌, ◌≤◌, List, [], ◌∷◌, ◌++◌}
-use Rattle.std.proofs.Common.{true}
-use Rattle.std.proofs.Common.{length, refl, sym, ap, ◌∙◌, subst, arith, lt-ltb, eqb-true}
+use Rattle.std.proofs.Common.{true, length, refl, sym, ap, ◌∙◌, subst, arith, lt-ltb, eqb-true}
 use Rattle.std.specs.Prelude.{◌-◌, ◌==◌, max, slice_index, if◌then◌else◌}
 use Rattle.std.proofs.Math.Nat.{max-le, max-eq_left}
+use Rattle.std.proofs.Math.Seq.{get_or-append_seam}
 use Rattle.std.proofs.lemmas.Bool.{cases_eq, cases_lt, lt-leb}
+use Rattle.std.proofs.lemmas.List.{get_or_append_left}
 use Rattle.icode.specs.Expression.{Numbers, alone, with_part, with_sum, sum_numbers, parts_numbers}
-use Rattle.icode.specs.Plain.{PlainExpr, PlainParts, Sum, NoParts, AndParts, Proc, Var, Product, Rem, Quot}
+use Rattle.icode.specs.Plain.{PlainExpr, PlainParts, Sum, NoParts, AndParts, Proc, Var}
 use Rattle.icode.proofs.Bools.{both_true}
 use Rattle.fast_loops.specs.Places.{are_linear, stride}
 use Rattle.fast_loops.specs.JoinedLoops.JoinedLoops.{place_goes_on, lifted_depth, lifted_parts, lifted_place}
@@ -79,9 +80,7 @@ linear-low least (AndParts (Proc factor) rest) vs q h =
 linear-low least (AndParts (Var depth factor) rest) vs q h =
     low-part (slice_index vs depth * factor) (parts_numbers rest vs q)
     (linear-low (depth + 1) rest vs q (from_least least depth _ h).1)
-linear-low least (AndParts (Product outer inner other) rest) vs q h = wrong h
-linear-low least (AndParts (Rem of divisor other) rest) vs q h = wrong h
-linear-low least (AndParts (Quot of divisor other) rest) vs q h = wrong h
+linear-low least (AndParts _ rest) vs q h = wrong h
 
 lifted-low : (loop least : ℕ) (parts : PlainParts) (vs : List ℕ) (q : ℕ) → are_linear least parts ≡ true →
     IsLow (parts_numbers (lifted_parts loop parts) vs q)
@@ -99,9 +98,7 @@ lifted-low loop least (AndParts (Var depth factor) rest) vs q h =
       | inr (inr lifted) ↦ subst low (sym lifted.is)
           (low-part (slice_index vs lifted.up * factor) (parts_numbers (lifted_parts loop rest) vs q) more)
     ]
-lifted-low loop least (AndParts (Product outer inner other) rest) vs q h = wrong h
-lifted-low loop least (AndParts (Rem of divisor other) rest) vs q h = wrong h
-lifted-low loop least (AndParts (Quot of divisor other) rest) vs q h = wrong h
+lifted-low loop least (AndParts _ rest) vs q h = wrong h
 
 sum-is : (constant value : ℕ) (n : Numbers) → IsLow n → n.value ≡ value → with_sum constant n ≡ alone (constant + value)
 sum-is constant value n low is =
@@ -113,9 +110,7 @@ sum-is constant value n low is =
 -- ---- values
 
 before : (vs us ws : List ℕ) (d : ℕ) → d < length vs → slice_index (vs ++ us) d ≡ slice_index (vs ++ ws) d
-before [] us ws d lt = absurd (omega (arith, lt))
-before (v ∷ vs) us ws zero lt = refl
-before (v ∷ vs) us ws (suc d) lt = before vs us ws d (omega (arith, lt))
+before vs us ws d lt = get_or_append_left vs us 0 d lt ∙ sym (get_or_append_left vs ws 0 d lt)
 
 behind : (vs us : List ℕ) (i j k d : ℕ) → length vs < d →
     slice_index (vs ++ k ∷ us) d ≡ slice_index (vs ++ i ∷ j ∷ us) (suc d)
@@ -125,8 +120,7 @@ behind (v ∷ vs) us i j k zero lt = absurd (omega (arith, lt))
 behind (v ∷ vs) us i j k (suc d) lt = behind vs us i j k d (omega (arith, lt))
 
 at : (vs us : List ℕ) (k : ℕ) → slice_index (vs ++ k ∷ us) (length vs) ≡ k
-at [] us k = refl
-at (v ∷ vs) us k = at vs us k
+at vs us k = get_or-append_seam vs k us 0
 
 -- sums where the outer loop's multiple stands in front, where the inner one's does, and where another does
 module _ (i j k f x y s t r u : ℕ) where
@@ -231,9 +225,7 @@ module _ (loop : ℕ) (vs us : List ℕ) (i j k q : ℕ) (deep : length vs ≡ l
                   ∙ ap (slice_index two) (sym next)) more
             ])
       ]
-  values least (AndParts (Product outer inner other) rest) h = wrong h
-  values least (AndParts (Rem of divisor other) rest) h = wrong h
-  values least (AndParts (Quot of divisor other) rest) h = wrong h
+  values least (AndParts _ rest) h = wrong h
 
   -- they add as much where the place goes on
   pub place_same : (inner : ℕ) (place : PlainExpr) → place_goes_on loop inner place ≡ true → k ≡ inner * i + j →

@@ -1,6 +1,6 @@
 -- What code makes of parts and statements, one after another.
-use Rattle.std.proofs.Common.{◌≡◌, ℕ, zero, suc, ◌<◌, ◌≤◌, List, [], ◌∷◌, ◌++◌, Bool, true, false, Option, None}
-use Rattle.std.proofs.Common.{Vec, Global, flat_map, length, take, map, get_or, refl, sym, ap, ◌∙◌, arith}
+use Rattle.std.proofs.Common.{◌≡◌, ℕ, zero, suc, ◌<◌, ◌≤◌, List, [], ◌∷◌, ◌++◌, Bool, true, false, Option, None, Vec}
+use Rattle.std.proofs.Common.{Global, flat_map, length, take, map, get_or, refl, ap, ◌∙◌, arith}
 use Rattle.std.specs.Prelude.{◌==◌, if◌then◌else◌}
 use Rattle.std.specs.List.{list_all}
 use Rattle.std.proofs.lemmas.List.{take_all}
@@ -8,14 +8,13 @@ use Rattle.icode.specs.declared.program.Part.{Part}
 use Rattle.icode.specs.declared.program.Stmt.{Stmt}
 use Rattle.icode.specs.declared.program.Stmt.TheVariants as stmts
 use Rattle.icode.specs.Limits.{is_stmt_within, is_body_within}
-use Rattle.icode.specs.Plain.{PlainPart, PlainStmt, PlainBody, AndParts, Proc, Var, Product, Rem, Quot, Loop}
-use Rattle.icode.specs.Plain.{Do, NoStmts, AndStmts, parts_of, body_of, plain_part, plain_stmt, plain_body}
+use Rattle.icode.specs.Plain.{PlainPart, PlainStmt, PlainBody, AndParts, Var, Loop, Do, NoStmts, AndStmts, parts_of}
+use Rattle.icode.specs.Plain.{body_of, plain_part, plain_stmt, plain_body}
 use Rattle.icode.proofs.Bools.{both_true}
 use Rattle.icode.proofs.Views.{plain_stmt-Loop}
 use Rattle.fast_loops.specs.Interchange.{counts_in}
 use Rattle.fast_loops.specs.View.{plain_parts}
-use Rattle.fast_loops.specs.JoinedLoops.JoinedLoops.{lifted_depth, lifted_parts, lifted_stmt, lifted_body, as_one}
-use Rattle.fast_loops.specs.JoinedLoops.JoinedLoops.{joined_stmt, joined_body}
+use Rattle.fast_loops.specs.JoinedLoops.JoinedLoops.{lifted_depth, lifted_parts, as_one, joined_stmt, joined_body}
 use Rattle.fast_loops.specs.JoinedLoops.View.{lifted_part}
 
 -- ---- parts
@@ -23,7 +22,6 @@ use Rattle.fast_loops.specs.JoinedLoops.View.{lifted_part}
 parts-is : (loop : ℕ) (parts : List PlainPart) →
     parts_of (flat_map (lifted_part loop) parts) ≡ lifted_parts loop (parts_of parts)
 parts-is loop [] = refl
-parts-is loop (Proc factor ∷ rest) = ap (AndParts (Proc factor)) (parts-is loop rest)
 parts-is loop (Var depth factor ∷ rest) = by_test (depth == loop) (parts-is loop rest)
   where
     by_test : (t : Bool) → parts_of (flat_map (lifted_part loop) rest) ≡ lifted_parts loop (parts_of rest) →
@@ -32,9 +30,7 @@ parts-is loop (Var depth factor ∷ rest) = by_test (depth == loop) (parts-is lo
         else AndParts (Var (lifted_depth loop depth) factor) (lifted_parts loop (parts_of rest)))
     by_test true e = e
     by_test false e = ap (AndParts (Var (lifted_depth loop depth) factor)) e
-parts-is loop (Product outer inner factor ∷ rest) = ap (AndParts (Product outer inner factor)) (parts-is loop rest)
-parts-is loop (Rem of divisor factor ∷ rest) = ap (AndParts (Rem of divisor factor)) (parts-is loop rest)
-parts-is loop (Quot of divisor factor ∷ rest) = ap (AndParts (Quot of divisor factor)) (parts-is loop rest)
+parts-is loop (part ∷ rest) = ap (AndParts part) (parts-is loop rest)
 
 -- parts that have been pushed
 pub parts-pushed : (loop i : ℕ) (items made : List Part) → length items ≤ i →
@@ -46,24 +42,12 @@ parts-pushed loop i items made whole is =
 
 -- ---- statements
 
-lifted-is : (loop : ℕ) (stmts : List PlainStmt) →
-    body_of (map (lifted_stmt loop) stmts) ≡ lifted_body loop (body_of stmts)
-lifted-is loop [] = refl
-lifted-is loop (stmt ∷ rest) = ap (AndStmts (lifted_stmt loop stmt)) (lifted-is loop rest)
-
 joined-is : (loop : ℕ) (stmts : List PlainStmt) →
     body_of (map (joined_stmt loop) stmts) ≡ joined_body loop (body_of stmts)
 joined-is loop [] = refl
 joined-is loop (stmt ∷ rest) = ap (AndStmts (joined_stmt loop stmt)) (joined-is loop rest)
 
 -- statements that have been pushed
-pub lifted-pushed : (loop i : ℕ) (items made : List Stmt) → length items ≤ i →
-    map plain_stmt made ≡ map (lifted_stmt loop) (map plain_stmt (take i items)) →
-    plain_body made ≡ lifted_body loop (plain_body items)
-lifted-pushed loop i items made whole is =
-    ap body_of (is ∙ ap (λ xs. map (lifted_stmt loop) (map plain_stmt xs)) (take_all i items whole))
-    ∙ lifted-is loop (map plain_stmt items)
-
 pub joined-pushed : (loop i : ℕ) (items made : List Stmt) → length items ≤ i →
     map plain_stmt made ≡ map (joined_stmt loop) (map plain_stmt (take i items)) →
     plain_body made ≡ joined_body loop (plain_body items)
@@ -75,12 +59,6 @@ joined-pushed loop i items made whole is =
 pub loop-is : (stmt : Stmt) (count : ℕ) (body : Vec Stmt Global) → stmt ≡ stmts.Loop count body →
     plain_stmt stmt ≡ Loop count (plain_body body.items)
 loop-is stmt count body is = ap plain_stmt is ∙ plain_stmt-Loop count body
-
-pub loop-lifted : (loop count : ℕ) (stmt : Stmt) (body inside : Vec Stmt Global) → stmt ≡ stmts.Loop count body →
-    plain_body inside.items ≡ lifted_body loop (plain_body body.items) →
-    plain_stmt (stmts.Loop count inside) ≡ lifted_stmt loop (plain_stmt stmt)
-loop-lifted loop count stmt body inside is made =
-    plain_stmt-Loop count inside ∙ ap (Loop count) made ∙ ap (lifted_stmt loop) (sym (loop-is stmt count body is))
 
 -- what is no loop alone
 pub not-one : (loop count : ℕ) (body : PlainBody) → counts_in body ≡ [] →

@@ -1,121 +1,31 @@
 -- Two loops that are one do the steps that they did.
-use Rattle.std.proofs.Common.{◌≡◌, ℕ, zero, suc, ◌+◌, ◌*◌, Bool, true, false, Some, None, List, [], ◌∷◌, ◌++◌, flat_map}
-use Rattle.std.proofs.Common.{length, refl, sym, ap, ap₂, ◌∙◌, arith, append-nil, append_assoc, length-append}
-use Rattle.std.specs.Prelude.{◌%◌, ◌==◌, ◌&&◌, not, slice_index_or, slice_index, ◌-◌, if◌then◌else◌}
+use Rattle.std.proofs.Common.{◌≡◌, ℕ, ◌+◌, ◌*◌, Bool, true, false, Some, None, List, [], ◌∷◌, ◌++◌, flat_map, length}
+use Rattle.std.proofs.Common.{refl, sym, ap, ap₂, ◌∙◌, arith, append-nil, append_assoc, length-append}
+use Rattle.std.specs.Prelude.{◌%◌, ◌==◌, ◌&&◌, not, if◌then◌else◌}
 use Rattle.std.specs.List.{range_with_len}
 use Rattle.std.specs.Option.{unwrap_or}
 use Rattle.std.proofs.Math.Path.{fun_ext}
-use Rattle.std.proofs.lemmas.List.Concat.{flat_map-append}
-use Rattle.icode.specs.declared.program.Array.{Array}
-use Rattle.icode.specs.Actions.{Step, array_start, lane_factors, step_of, steps_of_stmt, steps_of_body}
-use Rattle.icode.specs.declared.action.Action.TheVariants as actions
-use Rattle.icode.specs.Expression.{Numbers}
+use Rattle.icode.specs.Actions.{Step, step_of, steps_of_stmt, steps_of_body}
 use Rattle.icode.specs.Limits.{is_small}
-use Rattle.icode.specs.Machine.{whole_lines}
-use Rattle.icode.specs.Plain.{PlainOp, PlainStmt, PlainBody, PlainProgram, Load, Store, Zero, Add, Sub, Neg, MulConst}
-use Rattle.icode.specs.Plain.{MulTable, Tile, Loop, Do, NoStmts, AndStmts}
+use Rattle.icode.specs.Plain.{PlainOp, PlainStmt, PlainBody, PlainProgram, Load, Store, MulTable, Loop, Do, NoStmts}
+use Rattle.icode.specs.Plain.{AndStmts}
 use Rattle.icode.proofs.Bools.{both_true}
-use Rattle.fast_loops.specs.JoinedLoops.JoinedLoops.{op_goes_on, body_goes_on, lifted_op}
-use Rattle.fast_loops.specs.JoinedLoops.JoinedLoops.{lifted_body, as_one, joined_stmt, joined_body}
+use Rattle.fast_loops.specs.JoinedLoops.JoinedLoops.{op_goes_on, body_goes_on, lifted_op, lifted_body, as_one}
+use Rattle.fast_loops.specs.JoinedLoops.JoinedLoops.{joined_stmt, joined_body}
+use Rattle.fast_loops.proofs.Grouped.{in_groups}
 use Rattle.fast_loops.proofs.JoinedLoops.Numbers.{place_same}
 
--- ---- rounds of two loops, and of one
-
-range-split : (a m n : ℕ) → range_with_len a (m + n) ≡ range_with_len a m ++ range_with_len (a + m) n
-range-split a zero n =
-    let one : zero + n ≡ n = omega arith in
-    let two : a ≡ a + zero = omega arith in
-    ap₂ range_with_len two one
-range-split a (suc m) n =
-    let one : suc m + n ≡ suc (m + n) = omega arith in
-    let two : a + 1 + m ≡ a + suc m = omega arith in
-    ap (range_with_len a) one
-    ∙ ap (λ is. a ∷ is) (range-split (a + 1) m n ∙ ap (λ k. range_with_len (a + 1) m ++ range_with_len k n) two)
-
--- rounds that are counted from elsewhere
-rounds-from : {X : Type 0} (f : ℕ → List X) (a b n : ℕ) →
-    flat_map f (range_with_len (a + b) n) ≡ flat_map (λ i. f (a + i)) (range_with_len b n)
-rounds-from f a b zero = refl
-rounds-from f a b (suc n) =
-    let next : a + b + 1 ≡ a + (b + 1) = omega arith in
-    ap (λ xs. f (a + b) ++ xs) (ap (λ k. flat_map f (range_with_len k n)) next ∙ rounds-from f a (b + 1) n)
-
-rounds-split : {X : Type 0} (f : ℕ → List X) (inner n a : ℕ) →
-    flat_map f (range_with_len (inner * a) (inner * n))
-    ≡ flat_map (λ i. flat_map (λ j. f (inner * i + j)) (range_with_len 0 inner)) (range_with_len a n)
-rounds-split f inner zero a =
-    let none : inner * zero ≡ 0 = omega arith in
-    ap (λ k. flat_map f (range_with_len (inner * a) k)) none
-rounds-split f inner (suc n) a =
-    let many : inner * suc n ≡ inner + inner * n = omega arith in
-    let next : inner * a + inner ≡ inner * (a + 1) = omega arith in
-    let first : inner * a ≡ inner * a + 0 = omega arith in
-    ap (λ k. flat_map f (range_with_len (inner * a) k)) many
-    ∙ ap (flat_map f) (range-split (inner * a) inner (inner * n))
-    ∙ flat_map-append f (range_with_len (inner * a) inner) (range_with_len (inner * a + inner) (inner * n))
-    ∙ ap₂ (λ xs ys. xs ++ ys)
-    (ap (λ k. flat_map f (range_with_len k inner)) first ∙ rounds-from f (inner * a) 0 inner)
-    (ap (λ k. flat_map f (range_with_len k (inner * n))) next ∙ rounds-split f inner n (a + 1))
-
-rounds-joined : {X : Type 0} (f : ℕ → List X) (count inner : ℕ) →
-    flat_map f (range_with_len 0 (count * inner))
-    ≡ flat_map (λ i. flat_map (λ j. f (inner * i + j)) (range_with_len 0 inner)) (range_with_len 0 count)
-rounds-joined f count inner =
-    let start : 0 ≡ inner * 0 = omega arith in
-    let many : count * inner ≡ inner * count = omega arith in
-    ap₂ (λ a n. flat_map f (range_with_len a n)) start many ∙ rounds-split f inner count 0
-
 module _ (p : PlainProgram) (q : ℕ) where
-  -- ---- steps by the numbers of their places
-
-  abbrev load_by : ℕ → Array → Numbers → Step
-  load_by r array at =
-      let words = whole_lines p.size p.line in
-      record {
-        action = actions.Load r (array_start words array + at.value);
-        peak = at.peak;
-        reach = at.value + p.lanes;
-        room = words;
-      }
-
-  abbrev store_by : Array → ℕ → Numbers → Step
-  store_by array r at =
-      let words = whole_lines p.size p.line in
-      record {
-        action = actions.Store (array_start words array + at.value) r;
-        peak = at.peak;
-        reach = at.value + p.lanes;
-        room = words;
-      }
-
-  abbrev product_by : ℕ → ℕ → ℕ → ℕ → Numbers → Step
-  product_by r x table step at =
-      let entries = slice_index_or p.tables table [] in
-      let factors = lane_factors p.lanes (λ lane. slice_index entries (at.value + step * lane)) in
-      record {
-        action = actions.Mul r x factors;
-        peak = at.peak;
-        reach = at.value + step * (p.lanes - 1) + 1;
-        room = length entries;
-      }
-
   -- ---- the body of two loops, in the round i of the outer one and j of the inner one
 
   module _ (loop inner : ℕ) (vs : List ℕ) (i j : ℕ) (deep : length vs ≡ loop) where
     op-same : (op : PlainOp) (us : List ℕ) → op_goes_on loop inner op ≡ true →
         step_of p (lifted_op loop op) (vs ++ (inner * i + j) ∷ us) q ≡ step_of p op (vs ++ i ∷ j ∷ us) q
-    op-same (Load r array place) us h =
-        ap (load_by r array) (place_same loop vs us i j (inner * i + j) q deep inner place h refl)
-    op-same (Store array place r) us h =
-        ap (store_by array r) (place_same loop vs us i j (inner * i + j) q deep inner place h refl)
+    op-same (Load r array place) us h = rw (place_same loop vs us i j (inner * i + j) q deep inner place h refl) refl
+    op-same (Store array place r) us h = rw (place_same loop vs us i j (inner * i + j) q deep inner place h refl) refl
     op-same (MulTable r x table place step) us h =
-        ap (product_by r x table step) (place_same loop vs us i j (inner * i + j) q deep inner place h refl)
-    op-same (Zero r) us h = refl
-    op-same (Add r x y) us h = refl
-    op-same (Sub r x y) us h = refl
-    op-same (Neg r x) us h = refl
-    op-same (MulConst r x factor) us h = refl
-    op-same (Tile r x) us h = refl
+        rw (place_same loop vs us i j (inner * i + j) q deep inner place h refl) refl
+    op-same op us h = refl
 
     body-same : (body : PlainBody) (us : List ℕ) → body_goes_on loop inner body ≡ true →
         steps_of_body p (lifted_body loop body) (vs ++ (inner * i + j) ∷ us) q
@@ -133,7 +43,8 @@ module _ (p : PlainProgram) (q : ℕ) where
       steps_of_stmt p (Loop (count * inner) (lifted_body loop body)) vs q
       ≡ steps_of_stmt p (Loop count (AndStmts (Loop inner body) NoStmts)) vs q
   both-same loop count inner body vs deep h =
-      rounds-joined (λ k. steps_of_body p (lifted_body loop body) (vs ++ k ∷ []) q) count inner
+      in_groups (λ k. steps_of_body p (lifted_body loop body) (vs ++ k ∷ []) q) inner count (count * inner)
+      (omega arith)
       ∙ ap (λ (f : ℕ → List Step). flat_map f (range_with_len 0 count)) (fun_ext (λ i.
       ap (λ (f : ℕ → List Step). flat_map f (range_with_len 0 inner)) (fun_ext (λ j.
       body-same loop inner vs i j deep body [] h
@@ -141,7 +52,8 @@ module _ (p : PlainProgram) (q : ℕ) where
       ∙ sym (append-nil (flat_map (λ j. steps_of_body p body ((vs ++ i ∷ []) ++ j ∷ []) q) (range_with_len 0 inner)))))
 
   one-same : (loop count : ℕ) (body : PlainBody) (vs : List ℕ) → length vs ≡ loop →
-      steps_of_stmt p (unwrap_or (as_one loop count body) (Loop count body)) vs q ≡ steps_of_stmt p (Loop count body) vs q
+      steps_of_stmt p (unwrap_or (as_one loop count body) (Loop count body)) vs q
+      ≡ steps_of_stmt p (Loop count body) vs q
   one-same loop count NoStmts vs deep = refl
   one-same loop count (AndStmts (Do op) rest) vs deep = refl
   one-same loop count (AndStmts (Loop inner body) (AndStmts stmt rest)) vs deep = refl

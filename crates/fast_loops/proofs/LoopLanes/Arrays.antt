@@ -1,11 +1,20 @@
 -- Words of different arrays.
-use Rattle.std.proofs.Common.{◌≡◌, ◌⊎◌, ℕ, ◌+◌, ◌*◌, ◌<◌, ◌≤◌, true, false, ap, sym, ◌∙◌, arith, inl, inr, eq-eqb}
-use Rattle.std.proofs.Common.{eqb-true, true≢false, mul-le-mul_left}
+use Rattle.std.proofs.Common.{◌≡◌, ◌⊎◌, ℕ, ◌+◌, ◌*◌, ◌<◌, ◌≤◌, true, false, refl, ap, sym, ◌∙◌, arith, inl, inr, eq-eqb}
+use Rattle.std.proofs.Common.{true≢false, mul-le-mul_left}
 use Rattle.std.proofs.lemmas.Bool.{cases_order}
 use Rattle.icode.specs.declared.program.Array.{Array}
 use Rattle.icode.specs.declared.program.Array.TheVariants.{X, Y, A, B}
 use Rattle.icode.specs.Actions.{array_start}
 use Rattle.fast_loops.specs.Rounds.{same_array}
+use Rattle.fast_loops.proofs.Linear.{wrong}
+
+-- a step of this width does not go past a later one
+pub step_before : (width i j : ℕ) → i < j → width * i + width ≤ width * j
+step_before width i j less =
+    let next : i + 1 ≤ j = omega (arith, less) in
+    let far : width * (i + 1) ≤ width * j = mul-le-mul_left width next in
+    let out : width * (i + 1) ≡ width * i + width = omega arith in
+    omega (arith, far, out)
 
 start_is : (words : ℕ) (a : Array) → array_start words a ≡ words * array_start 1 a
 start_is words X = omega arith
@@ -13,10 +22,16 @@ start_is words Y = omega arith
 start_is words A = omega arith
 start_is words B = omega arith
 
+pub array_same : (a c : Array) → same_array a c ≡ true → a ≡ c
+array_same X X h = refl
+array_same Y Y h = refl
+array_same A A h = refl
+array_same B B h = refl
+array_same _ _ h = wrong h
+
 -- the same array begins at the same word
 pub same_start : (words : ℕ) (a c : Array) → same_array a c ≡ true → array_start words a ≡ array_start words c
-same_start words a c h =
-    start_is words a ∙ ap (λ n. words * n) (eqb-true (array_start 1 a) (array_start 1 c) h) ∙ sym (start_is words c)
+same_start words a c h = ap (array_start words) (array_same a c h)
 
 -- before the array or behind it
 abbrev pub IsOutside : ℕ → Array → ℕ → Type 0
@@ -28,8 +43,12 @@ pub other_outside : (words : ℕ) (a c : Array) (k : ℕ) → same_array a c ≡
 other_outside words a c k h from inside =
     elim (cases_order first second) [
       | inl same ↦ absurd (true≢false (sym (eq-eqb first second same) ∙ h))
-      | inr (inl less) ↦ inl (omega (arith, start_is words a, start_is words c, steps first second less, inside))
-      | inr (inr more) ↦ inr (omega (arith, start_is words a, start_is words c, steps second first more, from))
+      | inr (inl less) ↦
+          let step = step_before words first second less in
+          inl (omega (arith, start_is words a, start_is words c, step, inside))
+      | inr (inr more) ↦
+          let step = step_before words second first more in
+          inr (omega (arith, start_is words a, start_is words c, step, from))
     ]
   where
     first : ℕ
@@ -37,10 +56,3 @@ other_outside words a c k h from inside =
 
     second : ℕ
     second = array_start 1 c
-
-    steps : (i j : ℕ) → i < j → words * i + words ≤ words * j
-    steps i j less =
-        let next : i + 1 ≤ j = omega (arith, less) in
-        let far : words * (i + 1) ≤ words * j = mul-le-mul_left words next in
-        let out : words * (i + 1) ≡ words * i + words = omega arith in
-        omega (arith, far, out)

@@ -1,7 +1,7 @@
 -- Columns on v lanes, turned by tiles, leave what v rounds write.
-use Rattle.std.proofs.Common.{◌≡◌, ℕ, zero, suc, ◌+◌, ◌*◌, ◌/◌, ◌%◌, ◌<◌, ◌≤◌, Bool, true, not, List, [], ◌∷◌, ◌++◌}
-use Rattle.std.proofs.Common.{Contains, Option, Some, None, map, flat_map, length, take, refl, sym, ap, ap₂, ◌∙◌, arith}
-use Rattle.std.proofs.Common.{inl, inr, subst, eqb-true, leb-true, mul_comm, take-append-drop}
+use Rattle.std.proofs.Common.{◌≡◌, ℕ, zero, suc, ◌+◌, ◌*◌, ◌/◌, ◌%◌, ◌^◌, ◌<◌, ◌≤◌, Bool, true, not, List, [], ◌∷◌}
+use Rattle.std.proofs.Common.{◌++◌, Contains, Option, Some, None, map, flat_map, length, take, refl, sym, ap, ap₂, ◌∙◌}
+use Rattle.std.proofs.Common.{arith, inl, inr, subst, eqb-true, leb-true, mul_comm, take-append-drop}
 use Rattle.std.specs.Prelude.{◌==◌, ◌&&◌, nat_le, slice_index}
 use Rattle.std.specs.List.{list_all, range_with_len}
 use Rattle.std.proofs.lemmas.List.{length-take-le}
@@ -10,16 +10,16 @@ use Rattle.icode.specs.Machine.{Local, effects}
 use Rattle.icode.specs.Plain.{PlainOp, PlainProgram}
 use Rattle.icode.proofs.Bools.{both_true}
 use Rattle.icode.specs.CodeLaws.Lanes.{lane_of}
-use Rattle.icode.proofs.CodeLaws.ByLane.{lists_follow}
 use Rattle.icode.proofs.CodeLaws.Stores.{length-registers}
 use Rattle.fast_loops.specs.Places.{are_linear, stride}
 use Rattle.fast_loops.specs.Rounds.{Stored, are_fresh}
 use Rattle.fast_loops.proofs.Linear.{wrong}
 use Rattle.fast_loops.specs.LoopLanes.Columns.{Columns, Factors, renumbered, are_distinct, are_products}
 use Rattle.fast_loops.specs.LoopLanes.Columns.{factored_registers, front_length, last_products, plain_columns}
-use Rattle.fast_loops.specs.LoopLanes.Columns.{factored_columns, are_tiles, are_columns, are_by, in_columns}
-use Rattle.fast_loops.specs.LoopLanes.Layers.{Write, IsAfter, IsGroup, LeaveWrites, memory_by, ColumnsWrite}
-use Rattle.fast_loops.specs.LoopLanes.Layers.{FactoredColumnsWrite, written, values_put, round_writes, group_writes}
+use Rattle.fast_loops.specs.LoopLanes.Columns.{factored_columns, are_tiles, are_columns, are_by, are_plain_columns}
+use Rattle.fast_loops.specs.LoopLanes.Columns.{are_factored_columns, in_columns}
+use Rattle.fast_loops.specs.LoopLanes.Layers.{Write, IsAfter, IsGroup, LeaveWrites, memory_by, written, values_put}
+use Rattle.fast_loops.specs.LoopLanes.Layers.{round_writes, group_writes}
 use Rattle.fast_loops.specs.LoopLanes.Rounds.{straight, is_store, is_by_lane, stores, others, stored_registers}
 use Rattle.fast_loops.specs.LoopLanes.Rounds.{stored_constants, are_from}
 use Rattle.fast_loops.proofs.LoopLanes.Held.{IsFront, HoldsBy, in_lanes, values_in}
@@ -30,62 +30,70 @@ use Rattle.fast_loops.proofs.LoopLanes.Parted.{length-stored_registers, stored_l
 use Rattle.fast_loops.proofs.LoopLanes.Renumbered.{renumbered_is, renumbered_apart, renumbered_at}
 use Rattle.fast_loops.proofs.LoopLanes.RoundWrites.{acts_in, acts-append, others_values, values_follow, products_low}
 use Rattle.fast_loops.proofs.LoopLanes.RoundWrites.{products_put, writes_in_order}
-use Rattle.fast_loops.proofs.LoopLanes.Tiled.{Leave, AreLinearBy, stored_in, write_in, wide_acts, wide-append, tile_ops}
+use Rattle.fast_loops.proofs.LoopLanes.Tiled.{Leave, AreLinearBy, stored_in, write_in, wide_acts, wide_follow, tile_ops}
 use Rattle.fast_loops.proofs.LoopLanes.Tiled.{in_tiles}
 use Rattle.fast_loops.proofs.LoopLanes.Turned.{by_rounds, by_tiles, turned_after}
 
 -- ---- what the tests tell
 
+-- columns of these registers, whatever stands before the tiles
+pub record AreTurned (v loop : ℕ) (to : Stored) (ops : List PlainOp) (turned : List ℕ) : Type 0 where
+  pub many : length (stores ops) ≡ length turned
+  pub whole : length turned % v ≡ 0
+  pub from : are_from 0 (stored_constants ops) ≡ true
+  pub apart : length turned ≤ stride loop to.parts
+  pub small : is_small (2 ^ 20 + v * stride loop to.parts) ≡ true
+  pub stores_by_lane : list_all (is_by_lane loop to) (stores ops) ≡ true
+  pub distinct : are_distinct turned ≡ true
+
 pub record AreColumns (v loop : ℕ) (to : Stored) (ops : List PlainOp) (c : Columns) : Type 0 where
-  pub many : length (stores ops) ≡ length c.turned
-  pub whole : length c.turned % v ≡ 0
+  pub turned : AreTurned v loop to ops c.turned
   pub few : length c.turned ≤ length c.front
-  pub from : are_from 0 (stored_constants ops) ≡ true
-  pub stores_by_lane : list_all (is_by_lane loop to) (stores ops) ≡ true
   pub front_by_lane : list_all (is_by_lane loop to) c.front ≡ true
-  pub distinct : are_distinct c.turned ≡ true
-
--- those of any operations before the tiles
-pub record AreTurned (v loop : ℕ) (to : Stored) (ops : List PlainOp) (c : Columns) : Type 0 where
-  pub many : length (stores ops) ≡ length c.turned
-  pub whole : length c.turned % v ≡ 0
-  pub few : length c.turned ≤ length c.front
-  pub from : are_from 0 (stored_constants ops) ≡ true
-  pub stores_by_lane : list_all (is_by_lane loop to) (stores ops) ≡ true
-  pub distinct : are_distinct c.turned ≡ true
-
-turned-are : (v loop : ℕ) (to : Stored) (ops : List PlainOp) (c : Columns) → AreColumns v loop to ops c →
-    AreTurned v loop to ops c
-turned-are v loop to ops c are =
-    record {
-      many = are.many;
-      whole = are.whole;
-      few = are.few;
-      from = are.from;
-      stores_by_lane = are.stores_by_lane;
-      distinct = are.distinct;
-    }
 
 pub columns_told : (v loop : ℕ) (to : Stored) (ops : List PlainOp) (c : Columns) → are_columns v loop to ops c ≡ true →
     AreColumns v loop to ops c
 columns_told v loop to ops c h =
     let m : ℕ = length c.turned in
+    let s : ℕ = stride loop to.parts in
     let tiles = both_true (are_tiles v loop to ops c) _ h in
     let counts = both_true ((length (stores ops) == m) && ((m % v == 0) && nat_le m (length c.front))) _ tiles.0 in
     let many = both_true (length (stores ops) == m) _ counts.0 in
     let whole = both_true (m % v == 0) (nat_le m (length c.front)) many.1 in
     let from = both_true (are_from 0 (stored_constants ops)) _ counts.1 in
+    let room = both_true (nat_le m s) (is_small (2 ^ 20 + v * s)) from.1 in
     let lanes = both_true (list_all (is_by_lane loop to) (stores ops)) _ tiles.1 in
     let front = both_true (list_all (is_by_lane loop to) c.front) (are_distinct c.turned) lanes.1 in
     record {
-      many = eqb-true (length (stores ops)) m many.0;
-      whole = eqb-true (m % v) 0 whole.0;
+      turned =
+          record {
+            many = eqb-true (length (stores ops)) m many.0;
+            whole = eqb-true (m % v) 0 whole.0;
+            from = from.0;
+            apart = leb-true m s room.0;
+            small = room.1;
+            stores_by_lane = lanes.0;
+            distinct = front.1;
+          };
       few = leb-true m (length c.front) whole.1;
-      from = from.0;
-      stores_by_lane = lanes.0;
       front_by_lane = front.0;
-      distinct = front.1;
     }
+
+-- what the test tells of products
+pub record AreBy (v loop : ℕ) (ops : List PlainOp) (by : Factors) : Type 0 where
+  pub linear : are_linear 0 by.parts ≡ true
+  pub small : is_small (by.constant + (length (stores ops) + v * stride loop by.parts)) ≡ true
+  pub products : are_products by (front_length ops) 0 (last_products ops) ≡ true
+  pub from : are_from (front_length ops) (stored_registers ops) ≡ true
+
+pub by_told : (v loop : ℕ) (ops : List PlainOp) (by : Factors) → are_by v loop ops (Some by) ≡ true →
+    AreBy v loop ops by
+by_told v loop ops by h =
+    let small : Bool = is_small (by.constant + (length (stores ops) + v * stride loop by.parts)) in
+    let both = both_true (are_linear 0 by.parts && small) _ h in
+    let place = both_true (are_linear 0 by.parts) small both.0 in
+    let two = both_true _ (are_from (front_length ops) (stored_registers ops)) both.1 in
+    record { linear = place.0; small = place.1; products = two.0; from = two.1 }
 
 -- ---- any columns
 
@@ -117,7 +125,7 @@ module _ (v : ℕ) (p : PlainProgram) (to : Stored) (ops : List PlainOp) (vs : L
       ≡ stored_in v p to vs b q c.by l j (held_in c memory l j)
 
   -- what the group writes
-  group-by_rounds : (c : Columns) (memory : List ℕ) → AreTurned v (length vs) to ops c →
+  group-by_rounds : (c : Columns) (memory : List ℕ) → AreTurned v (length vs) to ops c.turned →
       ((l : ℕ) → l < v → length (values_in v p memory c.front vs b q l) ≡ length c.front) → AreStored c →
       group_writes v p memory ops vs b q
       ≡ by_rounds v (length c.turned) (write_in v p to vs b q c.by (held_in c memory))
@@ -167,11 +175,11 @@ module _ (v : ℕ) (p : PlainProgram) (to : Stored) (ops : List PlainOp) (vs : L
 
   -- behind operations on the lanes that hold what the rounds put
   pub columns_from : (c : Columns) (front : List PlainOp) (group : IsGroup v p to ops vs b q) →
-      AreTurned v (length vs) to ops c → IsBefore p c →
+      AreTurned v (length vs) to ops c.turned → length c.turned ≤ length c.front → IsBefore p c →
       ((s : Local) → 3 * p.regs * v ≤ length s.registers →
       HoldsBy v p (renumbered p.regs c.turned) front c.front vs b q s) →
       AreLinearBy v p to vs b q c.by → AreStored c → LeaveWrites v p (front ++ tiles_of group c) ops vs b q
-  columns_from c front group are before holds linear_by stored r memory room =
+  columns_from c front group are few before holds linear_by stored r memory room =
       record {
         done = turned.done;
         is = leaves ∙ turned.is;
@@ -212,7 +220,7 @@ module _ (v : ℕ) (p : PlainProgram) (to : Stored) (ops : List PlainOp) (vs : L
       left : Leave p.modulus v (wide_acts v p to vs b q tiles) (λ i. i < p.regs + m) after done
       left =
           in_tiles v p to vs b q group.linear c.by m (m / v) after (held_in c memory) linear_by
-          (omega (arith, are.few, before.short)) whole
+          (omega (arith, few, before.short)) whole
           (omega (arith, room, length-registers p.modulus v (wide_acts v p to vs b q front) begun))
           (λ l j low below.
           ap (lane_of v after.registers l) (sym (renumbered_at p.regs c.turned j are.distinct below))
@@ -220,9 +228,7 @@ module _ (v : ℕ) (p : PlainProgram) (to : Stored) (ops : List PlainOp) (vs : L
 
       leaves : memory_by p.modulus v (wide_acts v p to vs b q (front ++ tiles)) r memory ≡ written memory done
       leaves =
-          ap (λ acts. memory_by p.modulus v acts r memory) (wide-append v p to vs b q front tiles)
-          ∙ ap (λ (z : Local). z.memory)
-          (lists_follow p.modulus v (wide_acts v p to vs b q front) (wide_acts v p to vs b q tiles) begun)
+          ap (λ (z : Local). z.memory) (wide_follow v p to vs b q front tiles begun)
           ∙ left.memory
           ∙ ap (λ words. written words done) held.memory
 
@@ -237,125 +243,112 @@ module _ (v : ℕ) (p : PlainProgram) (to : Stored) (ops : List PlainOp) (vs : L
       LeaveWrites v p (in_columns v p.regs (length vs) to c) ops vs b q
   columns-write c group are before linear_by stored =
       let f : ℕ → ℕ = renumbered p.regs c.turned in
-      columns_from c (in_lanes v (length vs) f c.front) group (turned-are v (length vs) to ops c are) before
-      (λ s room.
-      let held = front_held v p to f c.front vs b q s (front-is c group.alone are before) room in
-      record { memory = held.memory; registers = held.registers })
-      linear_by stored
+      columns_from c (in_lanes v (length vs) f c.front) group are.turned are.few before
+      (λ s room. front_held v p to f c.front vs b q s (front-is c group.alone are before) room) linear_by stored
 
--- ---- plain columns
+module _ (v : ℕ) (p : PlainProgram) (to : Stored) (ops : List PlainOp) (vs : List ℕ) (b q : ℕ)
+    (group : IsGroup v p to ops vs b q) where
+  -- ---- plain columns
 
--- the first round fits, so the registers that are put are the program's
-pub short-others : (v : ℕ) (p : PlainProgram) (to : Stored) (ops : List PlainOp) (vs : List ℕ) (b q : ℕ) →
-    IsGroup v p to ops vs b q →
-    length (others ops) ≤ p.regs
-short-others v p to ops vs b q group =
-    omega (
-      arith,
-      puts_low p (vs ++ (v * b + 0) ∷ []) q ops 0 group.alone group.fresh
-          (group_fits v p ops vs b q 0 (some_lanes v group.lanes) group.fits) (omega arith),
-    )
+  -- the first round fits, so the registers that are put are the program's
+  pub short-others : length (others ops) ≤ p.regs
+  short-others =
+      omega (
+        arith,
+        puts_low p (vs ++ (v * b + 0) ∷ []) q ops 0 group.alone group.fresh
+            (group_fits v p ops vs b q 0 (some_lanes v group.lanes) group.fits) (omega arith),
+      )
 
-pub plain_before : (v : ℕ) (p : PlainProgram) (to : Stored) (ops : List PlainOp) (vs : List ℕ) (b q : ℕ) →
-    IsGroup v p to ops vs b q → IsBefore p (plain_columns ops)
-plain_before v p to ops vs b q group =
-    record {
-      fresh = others_fresh ops 0 group.fresh;
-      puts = others_put ops;
-      short = short-others v p to ops vs b q group;
-      low = λ j below. omega (arith, stored_low ops 0 j group.fresh below);
-    }
+  pub plain_before : IsBefore p (plain_columns ops)
+  plain_before =
+      record {
+        fresh = others_fresh ops 0 group.fresh;
+        puts = others_put ops;
+        short = short-others;
+        low = λ j below. omega (arith, stored_low ops 0 j group.fresh below);
+      }
 
-pub plain_stored : (v : ℕ) (p : PlainProgram) (to : Stored) (ops : List PlainOp) (vs : List ℕ) (b q : ℕ) →
-    AreStored v p to ops vs b q (plain_columns ops)
-plain_stored v p to ops vs b q memory l j low below long =
-    ap (λ xs. slice_index xs (slice_index (stored_registers ops) j))
-    (others_values p (vs ++ (v * b + l) ∷ []) q memory [] ops)
+  pub plain_stored : AreStored v p to ops vs b q (plain_columns ops)
+  plain_stored memory l j low below long =
+      ap (λ xs. slice_index xs (slice_index (stored_registers ops) j))
+      (others_values p (vs ++ (v * b + l) ∷ []) q memory [] ops)
 
-pub columns_write : ColumnsWrite
-columns_write v p to ops vs b q group h =
-    let c : Columns = plain_columns ops in
-    columns-write v p to ops vs b q c group (columns_told v (length vs) to ops c h)
-    (plain_before v p to ops vs b q group) tt (plain_stored v p to ops vs b q)
+  pub columns_write : are_plain_columns v (length vs) to ops ≡ true →
+      LeaveWrites v p (in_columns v p.regs (length vs) to (plain_columns ops)) ops vs b q
+  columns_write h =
+      let c : Columns = plain_columns ops in
+      columns-write v p to ops vs b q c group (columns_told v (length vs) to ops c h) plain_before tt plain_stored
 
--- ---- factored columns
+  -- ---- factored columns
 
--- what the test tells of products
-by_told : (v loop : ℕ) (ops : List PlainOp) (by : Factors) → are_by v loop ops (Some by) ≡ true →
-    (are_linear 0 by.parts ≡ true)
-    × (are_products by (front_length ops) 0 (last_products ops) ≡ true)
-    × (are_from (front_length ops) (stored_registers ops) ≡ true)
-by_told v loop ops by h =
-    let small : Bool = is_small (by.constant + (length (stores ops) + v * stride loop by.parts)) in
-    let both = both_true (are_linear 0 by.parts && small) _ h in
-    let two = both_true _ (are_from (front_length ops) (stored_registers ops)) both.1 in
-    ((both_true (are_linear 0 by.parts) small both.0).0, two.0, two.1)
+  -- what is stored is a product, of what was put before the products
+  factored-stored : (by : Option Factors) → are_by v (length vs) ops by ≡ true →
+      length (stores ops) ≡ length (factored_columns ops).turned →
+      (memory : List ℕ) (l j : ℕ) → j < length (factored_columns ops).turned →
+      length (values_in v p memory (factored_columns ops).front vs b q l) ≡ length (factored_columns ops).front →
+      slice_index (values_in v p memory ops vs b q l) (slice_index (stored_registers ops) j)
+      ≡ stored_in v p to vs b q by l j (held_in v p to ops vs b q (factored_columns ops) memory l j)
+  factored-stored None h many memory l j below long = wrong h
+  factored-stored (Some by) h many memory l j below long =
+      let us : List ℕ = vs ++ (v * b + l) ∷ [] in
+      let n : ℕ = front_length ops in
+      let front : List PlainOp = take n (others ops) in
+      let products : List PlainOp = last_products ops in
+      let xs : List ℕ = values_in v p memory front vs b q l in
+      let told = by_told v (length vs) ops by h in
+      let size : length xs ≡ n = long ∙ length-take-le n (others ops) (omega arith) in
+      let last : slice_index (stored_registers ops) j ≡ length xs + j =
+      from_at n (stored_registers ops) j told.from (omega (arith, below, many, length-stored_registers ops))
+      ∙ ap (λ k. k + j) (sym size) in
+      let parted : values_in v p memory ops vs b q l ≡ values_put p.modulus memory xs (acts_in p us q products) =
+      others_values p us q memory [] ops
+      ∙ ap (λ zs. values_put p.modulus memory [] (acts_in p us q zs)) (sym (take-append-drop n (others ops)))
+      ∙ ap (values_put p.modulus memory []) (acts-append p us q front products)
+      ∙ values_follow p.modulus memory [] (acts_in p us q front) (acts_in p us q products) in
+      let first : 0 + j ≡ j = omega arith in
+      let x : ℕ = slice_index xs (slice_index (factored_registers products) j) in
+      ap₂ (λ zs k. slice_index zs k) parted last
+      ∙ products_put p us q by n 0 products memory xs j group.alone told.products (omega (arith, size)) below
+      ∙ ap (λ k. stored_in v p to vs b q (Some by) l k x) first
 
--- what is stored is a product, of what was put before the products
-pub factored_stored : (v : ℕ) (p : PlainProgram) (to : Stored) (ops : List PlainOp) (vs : List ℕ) (b q : ℕ)
-    (by : Option Factors) →
-    p.lanes ≡ 1 → are_by v (length vs) ops by ≡ true → length (stores ops) ≡ length (factored_columns ops).turned →
-    (memory : List ℕ) (l j : ℕ) → j < length (factored_columns ops).turned →
-    length (values_in v p memory (factored_columns ops).front vs b q l) ≡ length (factored_columns ops).front →
-    slice_index (values_in v p memory ops vs b q l) (slice_index (stored_registers ops) j)
-    ≡ stored_in v p to vs b q by l j (held_in v p to ops vs b q (factored_columns ops) memory l j)
-factored_stored v p to ops vs b q None alone h many memory l j below long = wrong h
-factored_stored v p to ops vs b q (Some by) alone h many memory l j below long =
-    let us : List ℕ = vs ++ (v * b + l) ∷ [] in
-    let n : ℕ = front_length ops in
-    let front : List PlainOp = take n (others ops) in
-    let products : List PlainOp = last_products ops in
-    let xs : List ℕ = values_in v p memory front vs b q l in
-    let told = by_told v (length vs) ops by h in
-    let size : length xs ≡ n = long ∙ length-take-le n (others ops) (omega arith) in
-    let last : slice_index (stored_registers ops) j ≡ length xs + j =
-    from_at n (stored_registers ops) j told.2 (omega (arith, below, many, length-stored_registers ops))
-    ∙ ap (λ k. k + j) (sym size) in
-    let parted : values_in v p memory ops vs b q l ≡ values_put p.modulus memory xs (acts_in p us q products) =
-    others_values p us q memory [] ops
-    ∙ ap (λ zs. values_put p.modulus memory [] (acts_in p us q zs)) (sym (take-append-drop n (others ops)))
-    ∙ ap (values_put p.modulus memory []) (acts-append p us q front products)
-    ∙ values_follow p.modulus memory [] (acts_in p us q front) (acts_in p us q products) in
-    let first : 0 + j ≡ j = omega arith in
-    let x : ℕ = slice_index xs (slice_index (factored_registers products) j) in
-    ap₂ (λ zs k. slice_index zs k) parted last
-    ∙ products_put p us q by n 0 products memory xs j alone told.1 (omega (arith, size)) below
-    ∙ ap (λ k. stored_in v p to vs b q (Some by) l k x) first
+  -- registers that are multiplied were put before the products
+  factored-low : (by : Option Factors) → are_by v (length vs) ops by ≡ true →
+      (j : ℕ) → j < length (factored_registers (last_products ops)) →
+      slice_index (factored_registers (last_products ops)) j < front_length ops
+  factored-low None h j below = wrong h
+  factored-low (Some by) h j below =
+      products_low by (front_length ops) 0 (last_products ops) j (by_told v (length vs) ops by h).products below
 
--- registers that are multiplied were put before the products
-factored-low : (v loop : ℕ) (ops : List PlainOp) (by : Option Factors) → are_by v loop ops by ≡ true →
-    (j : ℕ) → j < length (factored_registers (last_products ops)) →
-    slice_index (factored_registers (last_products ops)) j < front_length ops
-factored-low v loop ops None h j below = wrong h
-factored-low v loop ops (Some by) h j below =
-    products_low by (front_length ops) 0 (last_products ops) j (by_told v loop ops by h).1 below
+  -- factors are by linear places
+  factored-linear : (by : Option Factors) → are_by v (length vs) ops by ≡ true → AreLinearBy v p to vs b q by
+  factored-linear None h = wrong h
+  factored-linear (Some by) h = (by_told v (length vs) ops by h).linear
 
--- factors are by linear places
-pub factored_linear : (v : ℕ) (p : PlainProgram) (to : Stored) (ops : List PlainOp) (vs : List ℕ) (b q : ℕ)
-    (by : Option Factors) →
-    are_by v (length vs) ops by ≡ true → AreLinearBy v p to vs b q by
-factored_linear v p to ops vs b q None h = tt
-factored_linear v p to ops vs b q (Some by) h = (by_told v (length vs) ops by h).0
+  module _ (by : are_by v (length vs) ops (factored_columns ops).by ≡ true) where
+    pub factored_before : IsBefore p (factored_columns ops)
+    factored_before =
+        let n : ℕ = front_length ops in
+        let size : length (take n (others ops)) ≡ n = length-take-le n (others ops) (omega arith) in
+        record {
+          fresh = taken_fresh (others ops) 0 n (others_fresh ops 0 group.fresh);
+          puts = all_taken (λ op. not (is_store op)) (others ops) n (others_put ops);
+          short = omega (arith, size, short-others);
+          low = λ j below. omega (arith, size, factored-low (factored_columns ops).by by j below);
+        }
 
-pub factored_before : (v : ℕ) (p : PlainProgram) (to : Stored) (ops : List PlainOp) (vs : List ℕ) (b q : ℕ) →
-    IsGroup v p to ops vs b q → are_by v (length vs) ops (factored_columns ops).by ≡ true →
-    IsBefore p (factored_columns ops)
-factored_before v p to ops vs b q group h =
-    let n : ℕ = front_length ops in
-    let size : length (take n (others ops)) ≡ n = length-take-le n (others ops) (omega arith) in
-    record {
-      fresh = taken_fresh (others ops) 0 n (others_fresh ops 0 group.fresh);
-      puts = all_taken (λ op. not (is_store op)) (others ops) n (others_put ops);
-      short = omega (arith, size, short-others v p to ops vs b q group);
-      low = λ j below. omega (arith, size, factored-low v (length vs) ops (factored_columns ops).by h j below);
-    }
+    pub factored_linear : AreLinearBy v p to vs b q (factored_columns ops).by
+    factored_linear = factored-linear (factored_columns ops).by by
 
-pub factored_columns_write : FactoredColumnsWrite
-factored_columns_write v p to ops vs b q group h =
-    let c : Columns = factored_columns ops in
-    let two = both_true (are_by v (length vs) ops c.by) (are_columns v (length vs) to ops c) h in
-    let are = columns_told v (length vs) to ops c two.1 in
-    columns-write v p to ops vs b q c group are (factored_before v p to ops vs b q group two.0)
-    (factored_linear v p to ops vs b q c.by two.0)
-    (λ memory l j low below long.
-    factored_stored v p to ops vs b q c.by group.alone two.0 are.many memory l j below long)
+    pub factored_stored : length (stores ops) ≡ length (factored_columns ops).turned →
+        AreStored v p to ops vs b q (factored_columns ops)
+    factored_stored many memory l j low below long =
+        factored-stored (factored_columns ops).by by many memory l j below long
+
+  pub factored_columns_write : are_factored_columns v (length vs) to ops ≡ true →
+      LeaveWrites v p (in_columns v p.regs (length vs) to (factored_columns ops)) ops vs b q
+  factored_columns_write h =
+      let c : Columns = factored_columns ops in
+      let two = both_true (are_by v (length vs) ops c.by) (are_columns v (length vs) to ops c) h in
+      let are = columns_told v (length vs) to ops c two.1 in
+      columns-write v p to ops vs b q c group are (factored_before two.0) (factored_linear two.0)
+      (factored_stored two.0 are.turned.many)

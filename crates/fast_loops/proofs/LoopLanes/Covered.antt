@@ -1,16 +1,15 @@
 -- Steps of v lanes that touch words of a group's steps alone, and fit.
-use Rattle.std.proofs.Common.{◌≡◌, ℕ, zero, suc, ◌+◌, ◌*◌, ◌<◌, ◌≤◌, List, [], ◌∷◌, ◌++◌, All, Contains, map, flat_map}
-use Rattle.std.proofs.Common.{length, sym, subst, arith, ⊎_elim}
-use Rattle.std.specs.List.{range_with_len}
-use Rattle.std.proofs.lemmas.List.Elements.{All-nil, All-cons, All-head, All-tail, All-append, All-contains}
-use Rattle.std.proofs.lemmas.List.Elements.{Contains-append_left, Contains-append_right, Contains-append_cases}
+use Rattle.std.proofs.Common.{◌≡◌, ℕ, ◌+◌, ◌*◌, ◌<◌, ◌≤◌, List, [], ◌∷◌, ◌++◌, All, Contains, flat_map, length, subst}
+use Rattle.std.proofs.Common.{arith}
+use Rattle.std.proofs.lemmas.List.Elements.{All-map, All-contains}
+use Rattle.std.proofs.lemmas.List.Folds.{flat_map-map}
 use Rattle.icode.specs.declared.action.Action.{Action}
 use Rattle.icode.specs.Actions.{Step, StepFits, step_of, actions_of}
 use Rattle.icode.specs.Machine.{stored_words, touched_words}
 use Rattle.icode.specs.Plain.{PlainOp, PlainProgram}
-use Rattle.icode.proofs.Lines.{Contains-head, Contains-tail, Contains-nil, Contains-map}
+use Rattle.icode.proofs.Lines.{Contains-map}
 use Rattle.fast_loops.proofs.Changes.{in-loop}
-use Rattle.fast_loops.proofs.Members.{all_of_members}
+use Rattle.fast_loops.proofs.Members.{all_of_members, into_flat_map, from_flat_map}
 use Rattle.fast_loops.specs.LoopLanes.Layers.{AreLanesFor, steps_at, group_at, on_lanes, memory_by, stored_by}
 use Rattle.fast_loops.specs.LoopLanes.Layers.{touched_by}
 
@@ -18,22 +17,17 @@ use Rattle.fast_loops.specs.LoopLanes.Layers.{touched_by}
 
 words-of : (f : Action → List ℕ) (steps : List Step) (s : Step) (k : ℕ) → Contains steps s → Contains (f s.action) k →
     Contains (flat_map f (actions_of steps)) k
-words-of f [] s k h has = absurd (Contains-nil s h)
-words-of f (x ∷ steps) s k (zero, lt, e) has =
-    Contains-append_left (f x.action) (flat_map f (actions_of steps)) k
-    (subst (λ (y : Step). Contains (f y.action) k) (sym e) has)
-words-of f (x ∷ steps) s k (suc i, lt, e) has =
-    Contains-append_right (f x.action) (flat_map f (actions_of steps)) k (words-of f steps s k (i, omega arith, e) has)
+words-of f steps s k h has =
+    into_flat_map f (actions_of steps) s.action k (Contains-map (λ (s : Step). s.action) steps s h) has
 
 words-among : (f : Action → List ℕ) (steps : List Step) (P : ℕ → Type 0) →
     ((s : Step) → Contains steps s → (k : ℕ) → Contains (f s.action) k → P k) →
     (k : ℕ) → Contains (flat_map f (actions_of steps)) k → P k
-words-among f [] P each k h = absurd (Contains-nil k h)
-words-among f (s ∷ steps) P each k h =
-    ⊎_elim
-    (λ here. each s (Contains-head s steps) k here)
-    (λ later. words-among f steps P (λ x has. each x (Contains-tail s steps x has)) k later)
-    (Contains-append_cases (f s.action) (flat_map f (actions_of steps)) k h)
+words-among f steps P each k h =
+    let at =
+    from_flat_map (λ (s : Step). f s.action) steps k
+    (subst (λ ks. Contains ks k) (flat_map-map f (λ (s : Step). s.action) steps) h) in
+    each at.0 at.1 k at.2
 
 -- ---- steps that are covered
 
@@ -43,21 +37,6 @@ pub record IsCovered (v : ℕ) (p : PlainProgram) (old : List Step) (s : Step) :
   pub touched : (k : ℕ) → Contains (touched_words v s.action) k → Contains (touched_by 1 (actions_of old)) k
   pub fits : StepFits (on_lanes v p) s
 
--- what holds in each round of a loop
-pub all-loop : {X : Type 0} (P : X → Type 0) (f : ℕ → List X) (a n : ℕ) →
-    ((i : ℕ) → a ≤ i → i < a + n → All P (f i)) → All P (flat_map f (range_with_len a n))
-all-loop P f a zero h = All-nil P
-all-loop P f a (suc n) h =
-    All-append P (f a) (flat_map f (range_with_len (a + 1) n)) (h a (omega arith) (omega arith))
-    (all-loop P f (a + 1) n (λ i low high. h i (omega (arith, low)) (omega (arith, high))))
-
-pub all-row : {X : Type 0} (P : X → Type 0) (f : ℕ → X) (a n : ℕ) → ((i : ℕ) → a ≤ i → i < a + n → P (f i)) →
-    All P (map f (range_with_len a n))
-all-row P f a zero h = All-nil P
-all-row P f a (suc n) h =
-    All-cons P (f a) (map f (range_with_len (a + 1) n)) (h a (omega arith) (omega arith))
-    (all-row P f (a + 1) n (λ i low high. h i (omega (arith, low)) (omega (arith, high))))
-
 module _ (v : ℕ) (p : PlainProgram) (old : List Step) (ws : List ℕ) (q : ℕ) where
   -- the step of an operation is
   abbrev pub IsOpCovered : PlainOp → Type 0
@@ -65,11 +44,9 @@ module _ (v : ℕ) (p : PlainProgram) (old : List Step) (ws : List ℕ) (q : ℕ
 
   steps_covered : (ops : List PlainOp) → All IsOpCovered ops → (s : Step) →
       Contains (steps_at (on_lanes v p) ops ws q) s → IsCovered v p old s
-  steps_covered [] covered s h = absurd (Contains-nil s h)
-  steps_covered (op ∷ ops) covered s (zero, lt, e) =
-      subst (IsCovered v p old) e (All-head IsOpCovered op ops covered)
-  steps_covered (op ∷ ops) covered s (suc k, lt, e) =
-      steps_covered ops (All-tail IsOpCovered op ops covered) s (k, omega arith, e)
+  steps_covered ops covered s h =
+      All-contains (IsCovered v p old) (steps_at (on_lanes v p) ops ws q) s
+      (All-map (IsCovered v p old) (λ op. step_of (on_lanes v p) op ws q) ops covered) h
 
   -- and leave the same memory, and are no more
   pub lanes_from : (ops : List PlainOp) → All IsOpCovered ops →

@@ -4,13 +4,12 @@ use Rattle.std.proofs.Common.{length, replicate, refl, sym, ap, ◌∙◌, subst
 use Rattle.std.specs.Prelude.{◌==◌, slice_index, slice_index_or}
 use Rattle.std.specs.List.{range_with_len}
 use Rattle.std.proofs.lemmas.List.Elements.{All-append, All-head, All-replicate}
-use Rattle.std.proofs.lemmas.List.FromFn.{get_or-map-range_with_len, length-map-range_with_len, length-range_with_len}
-use Rattle.std.proofs.lemmas.List.FromFn.{get_or-range_with_len}
+use Rattle.std.proofs.lemmas.List.FromFn.{get_or-map-range_with_len, length-map-range_with_len}
 use Rattle.operators.specs.Sum.{list_below}
 use Rattle.icode.specs.declared.program.Array.{Array}
 use Rattle.icode.specs.Actions.{Step, StepFits, array_start, lane_factors, step_of}
 use Rattle.icode.specs.Expression.{sum_numbers}
-use Rattle.icode.specs.Machine.{whole_lines}
+use Rattle.icode.specs.Machine.{whole_lines, stored_words, touched_words}
 use Rattle.icode.specs.Plain.{PlainExpr, PlainOp, PlainProgram, Sum, Load, Store, Zero, Add, Sub, Neg, MulConst}
 use Rattle.icode.specs.Plain.{MulTable, Tile}
 use Rattle.icode.proofs.Bools.{both_true}
@@ -18,12 +17,13 @@ use Rattle.icode.proofs.Lines.{Contains-nil, Contains-range}
 use Rattle.fast_loops.specs.Places.{are_linear, is_linear, stride}
 use Rattle.fast_loops.specs.Rounds.{Stored, same_array}
 use Rattle.fast_loops.proofs.Linear.{wrong}
+use Rattle.fast_loops.proofs.Members.{range_item}
 use Rattle.fast_loops.specs.LoopLanes.Rounds.{widened, place_stride, is_store, is_by_lane, in_row}
 use Rattle.fast_loops.specs.LoopLanes.Columns.{renumbered_op}
 use Rattle.fast_loops.specs.LoopLanes.Layers.{group_at, on_lanes}
 use Rattle.fast_loops.proofs.LoopLanes.Covered.{IsCovered, IsInGroup, in_group, group}
 use Rattle.fast_loops.proofs.LoopLanes.Orders.{parts_same}
-use Rattle.fast_loops.proofs.LoopLanes.Wide.{widened_value, lane_value}
+use Rattle.fast_loops.proofs.LoopLanes.Wide.{widened_value, wide_value}
 
 -- ---- factors
 
@@ -49,19 +49,19 @@ factor_fits m lanes g alone all =
 
 -- ---- words one behind the other
 
-pub record IsLaneWord (first n k : ℕ) : Type 0 where
-  pub lane : ℕ
-  pub low : lane < n
-  pub there : k ≡ first + lane
-
-pub lane_word : (first n k : ℕ) → Contains (range_with_len first n) k → IsLaneWord first n k
-lane_word first n k h =
-    let low : h.0 < n = omega (arith, h.1, length-range_with_len first n) in
-    record { lane = h.0; low = low; there = sym h.2 ∙ get_or-range_with_len first n h.0 k low }
-
 -- the word alone
-pub one_word : (a k : ℕ) → k ≡ a → Contains (range_with_len a 1) k
+one_word : (a k : ℕ) → k ≡ a → Contains (range_with_len a 1) k
 one_word a k e = Contains-range 1 a k (omega (arith, e)) (omega (arith, e))
+
+-- what holds of the word of each lane holds of the words from the first on
+pub words_of_lanes : (P : ℕ → Type 0) (v first : ℕ) (at : ℕ → ℕ) → ((l : ℕ) → at l ≡ first + l) →
+    ((l : ℕ) → l < v → (k : ℕ) → Contains (range_with_len (at l) 1) k → P k) →
+    (k : ℕ) → Contains (range_with_len first v) k → P k
+words_of_lanes P v first at is each k h =
+    let within = range_item first v k h in
+    let from = within.0 in
+    let l : ℕ = k - first in
+    each l (omega (arith, within.1, from)) k (one_word (at l) k (omega (arith, from, is l)))
 
 -- ---- operations
 
@@ -85,13 +85,6 @@ module _ (v : ℕ) (p : PlainProgram) (ops : List PlainOp) (vs : List ℕ) (b q 
   abbrev wide_place : PlainExpr → ℕ
   wide_place place = (sum_numbers (widened v loop place) (vs ++ b ∷ []) q).value
 
-  -- the place in a round, from that of the wide step
-  place_in : (place : PlainExpr) (l : ℕ) → is_linear place ≡ true →
-      (sum_numbers place (vs ++ (v * b + l) ∷ []) q).value ≡ wide_place place + place_stride loop place * l
-  place_in place l linear =
-      lane_value loop place vs (v * b) l q linear refl
-      ∙ ap (λ n. n.value + place_stride loop place * l) (sym (widened_value v loop place vs b q linear refl))
-
   peak_in : (place : PlainExpr) → is_linear place ≡ true →
       (sum_numbers place (vs ++ (v * b + 0) ∷ []) q).peak < 2 ^ 64 →
       (sum_numbers (widened v loop place) (vs ++ b ∷ []) q).peak < 2 ^ 64
@@ -105,7 +98,7 @@ module _ (v : ℕ) (p : PlainProgram) (ops : List PlainOp) (vs : List ℕ) (b q 
       (sum_numbers place (vs ++ (v * b + l) ∷ []) q).value ≡ wide_place place + l
   place_by_one place l linear unit =
       let far : place_stride loop place * l ≡ 1 * l = ap (λ s. s * l) unit in
-      omega (arith, place_in place l linear, far)
+      omega (arith, wide_value v place vs b l q linear, far)
 
   -- they end within the array
   ends_within : (place : PlainExpr) (room : ℕ) → is_linear place ≡ true → place_stride loop place ≡ 1 →
@@ -121,17 +114,33 @@ module _ (v : ℕ) (p : PlainProgram) (ops : List PlainOp) (vs : List ℕ) (b q 
       ((l : ℕ) → l < v → (k : ℕ) →
       Contains (range_with_len (start + (sum_numbers place (vs ++ (v * b + l) ∷ []) q).value) 1) k → P k) →
       (k : ℕ) → Contains (range_with_len (start + wide_place place) v) k → P k
-  words_in start place P linear unit each k h =
-      let at = lane_word (start + wide_place place) v k h in
-      let there = at.there in
-      each at.lane at.low k (one_word (start + (sum_numbers place (vs ++ (v * b + at.lane) ∷ []) q).value) k
-      (omega (arith, there, place_by_one place at.lane linear unit)))
+  words_in start place P linear unit each =
+      words_of_lanes P v (start + wide_place place)
+      (λ l. start + (sum_numbers place (vs ++ (v * b + l) ∷ []) q).value)
+      (λ l. omega (arith, place_by_one place l linear unit)) each
+
+  -- a step that stores and touches nothing
+  pub silent : (op : PlainOp) → stored_words v (wide_step op).action ≡ [] → touched_words v (wide_step op).action ≡ [] →
+      StepFits (on_lanes v p) (wide_step op) → Covered op
+  silent op none nothing fits =
+      record {
+        stored = λ k h. absurd (Contains-nil k (subst (λ ks. Contains ks k) none h));
+        touched = λ k h. absurd (Contains-nil k (subst (λ ks. Contains ks k) nothing h));
+        fits = fits;
+      }
 
   -- registers are still there under other numbers
   abbrev pub AreLow : (ℕ → ℕ) → Type 0
   AreLow f = (r : ℕ) → r < p.regs → f r < 3 * p.regs
 
   module _ (f : ℕ → ℕ) (low : AreLow f) where
+    low_two : (r x : ℕ) → (r < p.regs) × (x < p.regs) → (f r < 3 * p.regs) × (f x < 3 * p.regs)
+    low_two r x h = (low r h.0, low x h.1)
+
+    low_three : (r x y : ℕ) → (r < p.regs) × (x < p.regs) × (y < p.regs) →
+        (f r < 3 * p.regs) × (f x < 3 * p.regs) × (f y < 3 * p.regs)
+    low_three r x y h = (low r h.0, low x h.1, low y h.2)
+
     load_covered : (r : ℕ) (array : Array) (place : PlainExpr) → is_linear place ≡ true → place_stride loop place ≡ 1 →
         Contains ops (Load r array place) → Covered (Load (f r) array (widened v loop place))
     load_covered r array place linear unit has =
@@ -165,76 +174,6 @@ module _ (v : ℕ) (p : PlainProgram) (ops : List PlainOp) (vs : List ℕ) (b q 
               };
         }
 
-    zero_covered : (r : ℕ) → Contains ops (Zero r) → Covered (Zero (f r))
-    zero_covered r has =
-        let old = (known (Zero r) has).fits 0 some in
-        record {
-          stored = λ k h. absurd (Contains-nil k h);
-          touched = λ k h. absurd (Contains-nil k h);
-          fits = record { numbers = old.numbers; place = old.place; registers = low r old.registers; factors = tt };
-        }
-
-    add_covered : (r x y : ℕ) → Contains ops (Add r x y) → Covered (Add (f r) (f x) (f y))
-    add_covered r x y has =
-        let old = (known (Add r x y) has).fits 0 some in
-        record {
-          stored = λ k h. absurd (Contains-nil k h);
-          touched = λ k h. absurd (Contains-nil k h);
-          fits =
-              record {
-                numbers = old.numbers;
-                place = old.place;
-                registers = (low r old.registers.0, low x old.registers.1, low y old.registers.2);
-                factors = tt;
-              };
-        }
-
-    sub_covered : (r x y : ℕ) → Contains ops (Sub r x y) → Covered (Sub (f r) (f x) (f y))
-    sub_covered r x y has =
-        let old = (known (Sub r x y) has).fits 0 some in
-        record {
-          stored = λ k h. absurd (Contains-nil k h);
-          touched = λ k h. absurd (Contains-nil k h);
-          fits =
-              record {
-                numbers = old.numbers;
-                place = old.place;
-                registers = (low r old.registers.0, low x old.registers.1, low y old.registers.2);
-                factors = tt;
-              };
-        }
-
-    neg_covered : (r x : ℕ) → Contains ops (Neg r x) → Covered (Neg (f r) (f x))
-    neg_covered r x has =
-        let old = (known (Neg r x) has).fits 0 some in
-        record {
-          stored = λ k h. absurd (Contains-nil k h);
-          touched = λ k h. absurd (Contains-nil k h);
-          fits =
-              record {
-                numbers = old.numbers;
-                place = old.place;
-                registers = (low r old.registers.0, low x old.registers.1);
-                factors = tt;
-              };
-        }
-
-    constant_covered : (r x factor : ℕ) → Contains ops (MulConst r x factor) → Covered (MulConst (f r) (f x) factor)
-    constant_covered r x factor has =
-        let old = (known (MulConst r x factor) has).fits 0 some in
-        let small : factor < p.modulus = factor_fits p.modulus p.lanes (λ lane. factor) alone old.factors in
-        record {
-          stored = λ k h. absurd (Contains-nil k h);
-          touched = λ k h. absurd (Contains-nil k h);
-          fits =
-              record {
-                numbers = old.numbers;
-                place = old.place;
-                registers = (low r old.registers.0, low x old.registers.1);
-                factors = factors_fit p.modulus v (λ lane. factor) (omega (arith, small)) (λ l lt. small);
-              };
-        }
-
     table_covered : (r x table : ℕ) (place : PlainExpr) (step : ℕ) → is_linear place ≡ true →
         Contains ops (MulTable r x table place step) →
         Covered (MulTable (f r) (f x) table (widened v loop place) (place_stride loop place))
@@ -249,23 +188,20 @@ module _ (v : ℕ) (p : PlainProgram) (ops : List PlainOp) (vs : List ℕ) (b q 
         let last : v - 1 < v = omega (arith, some) in
         let end = (old.fits (v - 1) last).place in
         let first = entry 0 some in
-        record {
-          stored = λ k h. absurd (Contains-nil k h);
-          touched = λ k h. absurd (Contains-nil k h);
-          fits =
-              record {
-                numbers = peak_in place linear (old.fits 0 some).numbers;
-                place =
-                    reached (at (v - 1)) (wide_place place + place_stride loop place * (v - 1)) step p.lanes
-                    (length entries) (place_in place (v - 1) linear) end;
-                registers = (low r (old.fits 0 some).registers.0, low x (old.fits 0 some).registers.1);
-                factors =
-                    factors_fit p.modulus v
-                    (λ lane. slice_index entries (wide_place place + place_stride loop place * lane))
-                    (omega (arith, first))
-                    (λ l lt. subst (λ i. slice_index entries i < p.modulus) (place_in place l linear) (entry l lt));
-              };
-        }
+        silent (MulTable (f r) (f x) table (widened v loop place) (place_stride loop place)) refl refl
+        (record {
+          numbers = peak_in place linear (old.fits 0 some).numbers;
+          place =
+              reached (at (v - 1)) (wide_place place + place_stride loop place * (v - 1)) step p.lanes
+              (length entries) (wide_value v place vs b (v - 1) q linear) end;
+          registers = low_two r x (old.fits 0 some).registers;
+          factors =
+              factors_fit p.modulus v
+              (λ lane. slice_index entries (wide_place place + place_stride loop place * lane))
+              (omega (arith, first))
+              (λ l lt.
+              subst (λ i. slice_index entries i < p.modulus) (wide_value v place vs b l q linear) (entry l lt));
+        })
       where
         reached : (a wide step lanes room : ℕ) → a ≡ wide → a + step * (lanes - 1) + 1 ≤ room → wide + 1 ≤ room
         reached a wide step lanes room same h = omega (arith, same, h)
@@ -283,11 +219,32 @@ module _ (v : ℕ) (p : PlainProgram) (ops : List PlainOp) (vs : List ℕ) (b q 
         let same : to.parts ≡ parts = sym (parts_same parts to.parts (both_true (same_array array to.array) _ h).1) in
         store_covered array (Sum constant parts) r (subst (λ parts. are_linear 0 parts ≡ true) same linear)
         (subst (λ parts. stride loop parts ≡ 1) same (unit refl)) has
-    front_covered to (Zero r) linear unit h has = zero_covered r has
-    front_covered to (Add r x y) linear unit h has = add_covered r x y has
-    front_covered to (Sub r x y) linear unit h has = sub_covered r x y has
-    front_covered to (Neg r x) linear unit h has = neg_covered r x has
-    front_covered to (MulConst r x factor) linear unit h has = constant_covered r x factor has
+    front_covered to (Zero r) linear unit h has =
+        let old = (known (Zero r) has).fits 0 some in
+        silent (Zero (f r)) refl refl
+        (record { numbers = old.numbers; place = old.place; registers = low r old.registers; factors = tt })
+    front_covered to (Add r x y) linear unit h has =
+        let old = (known (Add r x y) has).fits 0 some in
+        silent (Add (f r) (f x) (f y)) refl refl
+        (record { numbers = old.numbers; place = old.place; registers = low_three r x y old.registers; factors = tt })
+    front_covered to (Sub r x y) linear unit h has =
+        let old = (known (Sub r x y) has).fits 0 some in
+        silent (Sub (f r) (f x) (f y)) refl refl
+        (record { numbers = old.numbers; place = old.place; registers = low_three r x y old.registers; factors = tt })
+    front_covered to (Neg r x) linear unit h has =
+        let old = (known (Neg r x) has).fits 0 some in
+        silent (Neg (f r) (f x)) refl refl
+        (record { numbers = old.numbers; place = old.place; registers = low_two r x old.registers; factors = tt })
+    front_covered to (MulConst r x factor) linear unit h has =
+        let old = (known (MulConst r x factor) has).fits 0 some in
+        let small : factor < p.modulus = factor_fits p.modulus p.lanes (λ lane. factor) alone old.factors in
+        silent (MulConst (f r) (f x) factor) refl refl
+        (record {
+          numbers = old.numbers;
+          place = old.place;
+          registers = low_two r x old.registers;
+          factors = factors_fit p.modulus v (λ lane. factor) (omega (arith, small)) (λ l lt. small);
+        })
     front_covered to (MulTable r x table place step) linear unit h has =
         table_covered r x table place step (both_true (is_linear place) _ h).0 has
     front_covered to (Tile r x) linear unit h has = wrong h

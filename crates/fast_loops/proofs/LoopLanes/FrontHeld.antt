@@ -29,8 +29,8 @@ use Rattle.fast_loops.proofs.Linear.{wrong}
 use Rattle.fast_loops.specs.LoopLanes.Columns.{renumbered_op}
 use Rattle.fast_loops.specs.LoopLanes.Layers.{on_lanes, steps_at, values_put}
 use Rattle.fast_loops.specs.LoopLanes.Rounds.{straight, is_by_lane, is_store, in_row, place_stride, widened}
-use Rattle.fast_loops.proofs.LoopLanes.Held.{AreHeld, FrontHeld, in_lanes, front_after, values_in}
-use Rattle.fast_loops.proofs.LoopLanes.Wide.{widened_value, lane_value}
+use Rattle.fast_loops.proofs.LoopLanes.Held.{AreHeld, IsFront, HoldsBy, in_lanes, values_in}
+use Rattle.fast_loops.proofs.LoopLanes.Wide.{wide_value}
 
 -- one more register is held
 more_held : (v : ℕ) (f : ℕ → ℕ) (registers after : List ℕ) (values more : ℕ → List ℕ) (r next : ℕ) (x : ℕ → ℕ) →
@@ -105,15 +105,8 @@ two_sources r next x y h =
 
 -- one register is put
 pub put_next : (next : ℕ) (op : PlainOp) → is_store op ≡ false → put_after 1 next op ≡ next + 1
-put_next next (Load r array place) puts = refl
 put_next next (Store array place r) puts = absurd (true≢false puts)
-put_next next (Zero r) puts = refl
-put_next next (Add r x y) puts = refl
-put_next next (Sub r x y) puts = refl
-put_next next (Neg r x) puts = refl
-put_next next (MulConst r x factor) puts = refl
-put_next next (MulTable r x table place step) puts = refl
-put_next next (Tile r x) puts = refl
+put_next next op puts = refl
 
 -- ---- one operation
 
@@ -142,12 +135,6 @@ module _ (v : ℕ) (p : PlainProgram) (f : ℕ → ℕ) (vs : List ℕ) (b q : �
 
   abbrev place_on : PlainExpr → ℕ
   place_on place = (sum_numbers (widened v (length vs) place) (vs ++ b ∷ []) q).value
-
-  pub place_at : (place : PlainExpr) (l : ℕ) → is_linear place ≡ true →
-      place_in place l ≡ place_on place + place_stride (length vs) place * l
-  place_at place l h =
-      lane_value (length vs) place vs (v * b) l q h refl
-      ∙ ap (λ n. n.value + place_stride (length vs) place * l) (sym (widened_value v (length vs) place vs b q h refl))
 
   module _ (to : Stored) (n : ℕ) (alone : p.lanes ≡ 1) (low : (r : ℕ) → r < n → f r < 3 * p.regs)
       (apart : (r k : ℕ) → r < n → k < n → f r ≡ f k → r ≡ k) where
@@ -235,7 +222,7 @@ module _ (v : ℕ) (p : PlainProgram) (f : ℕ → ℕ) (vs : List ℕ) (b q : �
         let one = eqb-true (place_stride (length vs) place) 1 more.1 in
         load_held memory s values r next (start + place_on place) (λ l. start + place_in place l)
         (eqb-true r next fresh) inside room
-        (λ l below. one_on start (place_on place) l (place_in place l) _ one (place_at place l more.0))
+        (λ l below. one_on start (place_on place) l (place_in place l) _ one (wide_value v place vs b l q more.0))
         (λ l below. same l (start + place_in place l) below (Contains-head _ [])) h
       where
         one_on : (start first l value stride : ℕ) → stride ≡ 1 → value ≡ first + stride * l →
@@ -285,7 +272,7 @@ module _ (v : ℕ) (p : PlainProgram) (f : ℕ → ℕ) (vs : List ℕ) (b q : �
         product_held memory s values r x next
         (λ lane. slice_index entries (place_on place + place_stride (length vs) place * lane))
         (λ l lane. slice_index entries (place_in place l + step * lane)) is.0 is.1 inside room h
-        (λ l below. ap (slice_index entries) (sym (place_at place l two.0) ∙ none_more _ step))
+        (λ l below. ap (slice_index entries) (sym (wide_value v place vs b l q two.0) ∙ none_more _ step))
       where
         none_more : (a c : ℕ) → a ≡ a + c * 0
         none_more a c = omega arith
@@ -293,15 +280,8 @@ module _ (v : ℕ) (p : PlainProgram) (f : ℕ → ℕ) (vs : List ℕ) (b q : �
   -- ---- operations that store nothing
 
   pub kept_op : (op : PlainOp) (s : Local) → is_store op ≡ false → memory_after v (wide_act op) s ≡ s.memory
-  kept_op (Load r array place) s puts = refl
   kept_op (Store array place r) s puts = absurd (true≢false puts)
-  kept_op (Zero r) s puts = refl
-  kept_op (Add r x y) s puts = refl
-  kept_op (Sub r x y) s puts = refl
-  kept_op (Neg r x) s puts = refl
-  kept_op (MulConst r x factor) s puts = refl
-  kept_op (MulTable r x table place step) s puts = refl
-  kept_op (Tile r x) s puts = refl
+  kept_op op s puts = refl
 
   -- the actions in round l, and on v lanes
   abbrev pub round_acts : List PlainOp → ℕ → List Action
@@ -351,18 +331,15 @@ module _ (v : ℕ) (p : PlainProgram) (f : ℕ → ℕ) (vs : List ℕ) (b q : �
         one_more a c = omega arith
 
 -- operations that store nothing leave the memory, and in each lane what they put in its round
-pub front_held : FrontHeld
+pub front_held : (v : ℕ) (p : PlainProgram) (to : Stored) (f : ℕ → ℕ) (front : List PlainOp) (vs : List ℕ) (b q : ℕ)
+    (s : Local) → IsFront p (length vs) to f front → 3 * p.regs * v ≤ length s.registers →
+    HoldsBy v p f (in_lanes v (length vs) f front) front vs b q s
 front_held v p to f front vs b q s h room =
-    let none : ℕ → List ℕ = λ l. [] in
-    let all = front_from v p f vs b q to (length front) h.alone h.low h.apart s.memory s none 0 front
+    let all = front_from v p f vs b q to (length front) h.alone h.low h.apart s.memory s (λ l. []) 0 front
     h.fresh h.by_lane h.puts (omega arith) room refl
     (record { long = λ l below. refl; held = λ r l below under. absurd (omega (arith, below)) }) in
-    let after : Local = front_after v p f front vs b q s in
+    let whole : 0 + length front ≡ length front = omega arith in
     record {
       memory = all.0;
-      registers =
-          subst (AreHeld v f after.registers (values_in v p s.memory front vs b q)) (whole (length front)) all.1;
+      registers = subst (AreHeld v f _ (values_in v p s.memory front vs b q)) whole all.1;
     }
-  where
-    whole : (n : ℕ) → 0 + n ≡ n
-    whole n = omega arith

@@ -1,5 +1,5 @@
 -- What v lanes hold of v rounds: in lane l, each register has what it has in round l.
-use Rattle.std.specs.Prelude.{◌≡◌, ℕ, ◌+◌, ◌*◌, ◌<◌, ◌≤◌, true, not, List, [], ◌∷◌, ◌++◌, map, length, slice_index}
+use Rattle.std.specs.Prelude.{◌≡◌, ℕ, ◌+◌, ◌*◌, ◌<◌, true, not, List, [], ◌∷◌, ◌++◌, map, length, slice_index}
 use Rattle.std.specs.List.{list_all}
 use Rattle.icode.specs.Actions.{actions_of}
 use Rattle.icode.specs.Machine.{Local, effects}
@@ -33,27 +33,10 @@ values_in v p memory ops vs b q l =
 abbrev pub in_lanes : ℕ → ℕ → (ℕ → ℕ) → List PlainOp → List PlainOp
 in_lanes v loop f ops = map (λ op. renumbered_op f (in_row v loop op)) ops
 
--- the state behind them
-abbrev pub front_after : ℕ → PlainProgram → (ℕ → ℕ) → List PlainOp → List ℕ → ℕ → ℕ → Local → Local
-front_after v p f front vs b q s =
-    effects p.modulus v (actions_of (steps_at (on_lanes v p) (in_lanes v (length vs) f front) (vs ++ b ∷ []) q)) s
-
--- they leave the memory, and what the rounds put
-pub record HoldsFront (v : ℕ) (p : PlainProgram) (f : ℕ → ℕ) (front : List PlainOp) (vs : List ℕ) (b q : ℕ)
-    (s : Local) : Type 0 where
-  pub memory : (front_after v p f front vs b q s).memory ≡ s.memory
-  pub registers :
-      AreHeld v f (front_after v p f front vs b q s).registers (values_in v p s.memory front vs b q) (length front)
-
--- so do these operations on v lanes in the place of those of the rounds
+-- these operations on v lanes leave the memory, and what those of the rounds put
 pub record HoldsBy (v : ℕ) (p : PlainProgram) (f : ℕ → ℕ) (new front : List PlainOp) (vs : List ℕ) (b q : ℕ)
     (s : Local) : Type 0 where
   pub memory : (effects p.modulus v (actions_of (steps_at (on_lanes v p) new (vs ++ b ∷ []) q)) s).memory ≡ s.memory
   pub registers :
       AreHeld v f (effects p.modulus v (actions_of (steps_at (on_lanes v p) new (vs ++ b ∷ []) q)) s).registers
       (values_in v p s.memory front vs b q) (length front)
-
-abbrev pub FrontHeld : Type 0
-FrontHeld =
-    (v : ℕ) (p : PlainProgram) (to : Stored) (f : ℕ → ℕ) (front : List PlainOp) (vs : List ℕ) (b q : ℕ) (s : Local) →
-    IsFront p (length vs) to f front → 3 * p.regs * v ≤ length s.registers → HoldsFront v p f front vs b q s

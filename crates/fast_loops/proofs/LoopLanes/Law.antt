@@ -1,7 +1,10 @@
 -- The law of lanes from loops.
 use Rattle.fast_loops.specs.LoopLanes.Laws.{LanedLeavesTheSame}
+use Rattle.fast_loops.specs.LoopLanes.Layers.{LanesWrite, LeaveWrites}
+use Rattle.std.proofs.Common.{length}
 use Rattle.fast_loops.proofs.LoopLanes.ColumnsAre.{columns_write, factored_columns_write}
 use Rattle.fast_loops.proofs.LoopLanes.Groups.{groups_write}
+use Rattle.fast_loops.proofs.LoopLanes.Kinds.{of_kinds}
 use Rattle.fast_loops.proofs.LoopLanes.LoadedAre.{loaded_write, loaded_factored_write}
 use Rattle.fast_loops.proofs.LoopLanes.LoadedRowsAre.{loaded_rows_write}
 use Rattle.fast_loops.proofs.LoopLanes.Programs.{lanes_follow}
@@ -9,8 +12,12 @@ use Rattle.fast_loops.proofs.LoopLanes.RoundsAre.{rounds_are_lanes}
 use Rattle.fast_loops.proofs.LoopLanes.RowsAre.{rows_write}
 use Rattle.fast_loops.proofs.LoopLanes.Sure.{groups_are_sure}
 
+lanes_write : LanesWrite
+lanes_write v p to ops vs b q group can =
+    of_kinds (λ new. LeaveWrites v p new ops vs b q) v p.regs (length vs) to ops can
+    (rows_write v p to ops vs b q group) (columns_write v p to ops vs b q group)
+    (factored_columns_write v p to ops vs b q group) (loaded_rows_write v p to ops vs b q group)
+    (loaded_write v p to ops vs b q group) (loaded_factored_write v p to ops vs b q group)
+
 pub laned_leaves_the_same : LanedLeavesTheSame
-laned_leaves_the_same =
-    lanes_follow
-    (rounds_are_lanes groups_write groups_are_sure rows_write columns_write factored_columns_write loaded_rows_write
-    loaded_write loaded_factored_write)
+laned_leaves_the_same = lanes_follow (rounds_are_lanes groups_write groups_are_sure lanes_write)

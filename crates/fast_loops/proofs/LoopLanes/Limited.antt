@@ -5,16 +5,15 @@ use Rattle.std.specs.Prelude.{◌&&◌, ◌==◌, nat_lt, nat_le, max, if◌then
 use Rattle.std.proofs.lemmas.Bool.{and_parts, and_from, cases_eq}
 use Rattle.icode.specs.Limits.{rank, next_rank, is_small, is_small_positive, is_part_within, are_parts_within}
 use Rattle.icode.specs.Limits.{all_parts, part_parts, parts_depth, part_depth, is_expr_within, is_op_within}
-use Rattle.icode.specs.Plain.{PlainExpr, PlainParts, PlainOp, Sum, NoParts, AndParts, Proc, Var, Product, Rem, Quot}
-use Rattle.icode.specs.Plain.{Load, Store, Zero, Add, Sub, Neg, MulConst, MulTable, Tile}
+use Rattle.icode.specs.Plain.{PlainExpr, PlainParts, PlainOp, Sum, NoParts, AndParts, Var, Load, Store, Zero, Add, Sub}
+use Rattle.icode.specs.Plain.{Neg, MulConst, MulTable, Tile}
 use Rattle.icode.proofs.Bools.{both_true}
 use Rattle.fast_loops.specs.Places.{is_linear, stride}
 use Rattle.fast_loops.specs.Rounds.{Stored, same_array}
 use Rattle.fast_loops.proofs.Linear.{wrong, chosen, passed}
 use Rattle.fast_loops.specs.LoopLanes.Rounds.{is_store, widened_parts, widened, place_stride, is_by_lane, in_row}
 use Rattle.fast_loops.specs.LoopLanes.Columns.{renumbered_op}
-use Rattle.fast_loops.proofs.LoopLanes.Orders.{parts_same}
-use Rattle.fast_loops.proofs.LoopLanes.Parts.{AreSome}
+use Rattle.fast_loops.proofs.LoopLanes.Orders.{AreSome, parts_same}
 
 -- ---- places
 
@@ -56,55 +55,30 @@ module _ (v loop : ℕ) (some : 2 ≤ v) where
             (ap (λ s. is_small (v * s)) (sym (passed depth loop factor (stride loop rest) other))
             ∙ small) ranked.1))
       ]
-  parts-within n least (AndParts (Proc factor) rest) small h =
-      let two = and_parts (is_part_within (Proc factor) n) _ h in
-      let ranked = and_parts (nat_le least 0) _ two.1 in
-      and_from (is_part_within (Proc factor) n) _ two.0
-      (and_from (nat_le least 0) _ ranked.0 (parts-within n 1 rest small ranked.1))
-  parts-within n least (AndParts (Product outer inner factor) rest) small h =
-      let two = and_parts (is_part_within (Product outer inner factor) n) _ h in
-      let ranked = and_parts (nat_le least (rank (Product outer inner factor))) _ two.1 in
-      and_from (is_part_within (Product outer inner factor) n) _ two.0
-      (and_from (nat_le least (rank (Product outer inner factor))) _ ranked.0
-      (parts-within n (next_rank (Product outer inner factor)) rest small ranked.1))
-  parts-within n least (AndParts (Rem of divisor factor) rest) small h =
-      let two = and_parts (is_part_within (Rem of divisor factor) n) _ h in
-      let ranked = and_parts (nat_le least 5000) _ two.1 in
-      and_from (is_part_within (Rem of divisor factor) n) _ two.0
-      (and_from (nat_le least 5000) _ ranked.0 (parts-within n 5000 rest small ranked.1))
-  parts-within n least (AndParts (Quot of divisor factor) rest) small h =
-      let two = and_parts (is_part_within (Quot of divisor factor) n) _ h in
-      let ranked = and_parts (nat_le least 5001) _ two.1 in
-      and_from (is_part_within (Quot of divisor factor) n) _ two.0
-      (and_from (nat_le least 5001) _ ranked.0 (parts-within n 5001 rest small ranked.1))
+  parts-within n least (AndParts part rest) small h =
+      let two = and_parts (is_part_within part n) _ h in
+      let ranked = and_parts (nat_le least (rank part)) _ two.1 in
+      and_from (is_part_within part n) _ two.0
+      (and_from (nat_le least (rank part)) _ ranked.0 (parts-within n (next_rank part) rest small ranked.1))
 
-  parts-count : (parts : PlainParts) → all_parts (widened_parts v loop parts) ≡ all_parts parts
-  parts-count NoParts = refl
-  parts-count (AndParts (Var depth factor) rest) = by_test (depth == loop) (parts-count rest)
+  parts-same : (parts : PlainParts) →
+      (all_parts (widened_parts v loop parts) ≡ all_parts parts)
+      × (parts_depth (widened_parts v loop parts) ≡ parts_depth parts)
+  parts-same NoParts = (refl, refl)
+  parts-same (AndParts (Var depth factor) rest) = by_test (depth == loop) (parts-same rest)
     where
-      by_test : (t : Bool) → all_parts (widened_parts v loop rest) ≡ all_parts rest →
-          all_parts (if t then AndParts (Var depth (v * factor)) rest else AndParts (Var depth factor)
-          (widened_parts v loop rest)) ≡ 1 + all_parts rest
-      by_test true h = refl
-      by_test false h = ap (λ n. 1 + n) h
-  parts-count (AndParts (Proc a) rest) = ap (λ n. 1 + n) (parts-count rest)
-  parts-count (AndParts (Product outer inner a) rest) = ap (λ n. 1 + n) (parts-count rest)
-  parts-count (AndParts (Rem of divisor a) rest) = ap (λ n. part_parts (Rem of divisor a) + n) (parts-count rest)
-  parts-count (AndParts (Quot of divisor a) rest) = ap (λ n. part_parts (Quot of divisor a) + n) (parts-count rest)
+      wide : Bool → PlainParts
+      wide t =
+          if t then AndParts (Var depth (v * factor)) rest else AndParts (Var depth factor) (widened_parts v loop rest)
 
-  parts-depth : (parts : PlainParts) → parts_depth (widened_parts v loop parts) ≡ parts_depth parts
-  parts-depth NoParts = refl
-  parts-depth (AndParts (Var depth factor) rest) = by_test (depth == loop) (parts-depth rest)
-    where
-      by_test : (t : Bool) → parts_depth (widened_parts v loop rest) ≡ parts_depth rest →
-          parts_depth (if t then AndParts (Var depth (v * factor)) rest else AndParts (Var depth factor)
-          (widened_parts v loop rest)) ≡ max 0 (parts_depth rest)
-      by_test true h = refl
-      by_test false h = ap (max 0) h
-  parts-depth (AndParts (Proc a) rest) = ap (max 0) (parts-depth rest)
-  parts-depth (AndParts (Product outer inner a) rest) = ap (max 0) (parts-depth rest)
-  parts-depth (AndParts (Rem of divisor a) rest) = ap (max (part_depth (Rem of divisor a))) (parts-depth rest)
-  parts-depth (AndParts (Quot of divisor a) rest) = ap (max (part_depth (Quot of divisor a))) (parts-depth rest)
+      by_test : (t : Bool) →
+          (all_parts (widened_parts v loop rest) ≡ all_parts rest)
+          × (parts_depth (widened_parts v loop rest) ≡ parts_depth rest) →
+          (all_parts (wide t) ≡ 1 + all_parts rest) × (parts_depth (wide t) ≡ max 0 (parts_depth rest))
+      by_test true h = (refl, refl)
+      by_test false h = (ap (λ n. 1 + n) h.0, ap (max 0) h.1)
+  parts-same (AndParts part rest) =
+      let more = parts-same rest in (ap (λ n. part_parts part + n) more.0, ap (max (part_depth part)) more.1)
 
   -- a place of another constant, of a wide step
   pub place-within : (n c constant : ℕ) (parts : PlainParts) → is_expr_within (Sum c parts) n ≡ true →
@@ -113,9 +87,10 @@ module _ (v loop : ℕ) (some : 2 ≤ v) where
   place-within n c constant parts h small wide =
       let two = and_parts (is_small c && are_parts_within parts n 0) _ h in
       let sum = and_parts (is_small c) (are_parts_within parts n 0) two.0 in
+      let same = parts-same parts in
       and_from (is_small constant && are_parts_within (widened_parts v loop parts) n 0) _
       (and_from (is_small constant) _ small (parts-within n 0 parts wide sum.1))
-      (ap₂ (λ k d. nat_le k 64 && nat_le d 64) (parts-count parts) (parts-depth parts) ∙ two.1)
+      (ap₂ (λ k d. nat_le k 64 && nat_le d 64) same.0 same.1 ∙ two.1)
 
   wide-place : (n : ℕ) (place : PlainExpr) → is_expr_within place n ≡ true →
       is_small (v * place_stride loop place) ≡ true →
@@ -170,8 +145,6 @@ op-within m v loop n to f (Store array (Sum constant parts) r) lanes low unit by
     (wide-place v loop lanes.some n (Sum constant parts) both.1
     (unit-small v (stride loop parts) lanes.few (omega (arith, one))))
 op-within m v loop n to f (Zero r) lanes low unit by_lane h = low r h
-op-within m v loop n to f (Add r x y) lanes low unit by_lane h = three-small f r x y low h
-op-within m v loop n to f (Sub r x y) lanes low unit by_lane h = three-small f r x y low h
 op-within m v loop n to f (Neg r x) lanes low unit by_lane h = two-small f r x low h
 op-within m v loop n to f (MulConst r x factor) lanes low unit by_lane h =
     let a = and_parts (is_small r) (is_small x && nat_lt factor m) h in
@@ -190,3 +163,5 @@ op-within m v loop n to f (MulTable r x table place step) lanes low unit by_lane
     (and_from (nat_lt (place_stride loop place) 2) _ (lt-ltb (place_stride loop place) 2 (omega (arith, one)))
     (wide-place v loop lanes.some n place d.1 (unit-small v (place_stride loop place) lanes.few one)))))
 op-within m v loop n to f (Tile r x) lanes low unit by_lane h = wrong by_lane
+op-within m v loop n to f (Add r x y) lanes low unit by_lane h = three-small f r x y low h
+op-within m v loop n to f (Sub r x y) lanes low unit by_lane h = three-small f r x y low h

@@ -1,30 +1,31 @@
 -- Columns behind the loads of a row leave what v rounds write.
-use Rattle.std.proofs.Common.{◌≡◌, ℕ, ◌+◌, ◌*◌, ◌<◌, ◌≤◌, true, not, List, [], ◌∷◌, ◌++◌, length, drop, sym, ap, ◌∙◌}
-use Rattle.std.proofs.Common.{arith, subst}
+use Rattle.std.proofs.Common.{◌≡◌, ℕ, ◌+◌, ◌*◌, ◌<◌, ◌≤◌, Bool, true, not, List, [], ◌∷◌, ◌++◌, length, drop, sym, ap}
+use Rattle.std.proofs.Common.{◌∙◌, arith, subst}
 use Rattle.std.specs.List.{list_all}
 use Rattle.std.proofs.lemmas.List.{append_assoc}
-use Rattle.icode.proofs.CodeLaws.ByLane.{lists_follow}
+use Rattle.std.proofs.lemmas.List.Elements.{All-drop}
+use Rattle.std.proofs.lemmas.List.Sums.{AllPass-from_list_all, list_all-from_AllPass}
 use Rattle.icode.proofs.CodeLaws.Stores.{length-registers}
 use Rattle.icode.specs.Machine.{Local, effects}
 use Rattle.icode.specs.Plain.{PlainOp, PlainProgram}
-use Rattle.fast_loops.specs.Rounds.{Stored, are_fresh}
-use Rattle.fast_loops.specs.LoopLanes.Columns.{Columns, renumbered, plain_columns, factored_columns}
-use Rattle.fast_loops.specs.LoopLanes.Layers.{IsGroup, LeaveWrites, LoadedWrite, LoadedFactoredWrite, values_put}
-use Rattle.fast_loops.specs.LoopLanes.Loads.{Loaded, behind, load_tiles, in_tiles}
-use Rattle.fast_loops.specs.LoopLanes.Rounds.{straight, is_by_lane, is_store}
-use Rattle.fast_loops.proofs.LoopLanes.ColumnsAre.{AreTurned, IsBefore, AreStored, columns_told, columns_from, tiles_of}
-use Rattle.fast_loops.proofs.LoopLanes.ColumnsAre.{numbers_low, numbers_apart, plain_before, plain_stored}
+use Rattle.fast_loops.specs.Rounds.{Stored}
+use Rattle.fast_loops.specs.LoopLanes.Columns.{Columns, renumbered, plain_columns, factored_columns, are_by}
+use Rattle.fast_loops.specs.LoopLanes.Layers.{IsGroup, LeaveWrites, values_put}
+use Rattle.fast_loops.specs.LoopLanes.Loads.{Loaded, behind, load_tiles, are_loaded, in_tiles, in_loaded}
+use Rattle.fast_loops.specs.LoopLanes.Rounds.{is_store}
+use Rattle.fast_loops.proofs.LoopLanes.ColumnsAre.{AreColumns, IsBefore, AreStored, columns_told, columns_from}
+use Rattle.fast_loops.proofs.LoopLanes.ColumnsAre.{tiles_of, numbers_low, numbers_apart, plain_before, plain_stored}
 use Rattle.fast_loops.proofs.LoopLanes.ColumnsAre.{factored_before, factored_stored, factored_linear}
 use Rattle.fast_loops.proofs.LoopLanes.FrontHeld.{front_from}
 use Rattle.fast_loops.proofs.LoopLanes.Held.{AreHeld, HoldsBy, in_lanes, values_in}
-use Rattle.fast_loops.proofs.LoopLanes.LoadedRow.{row_fresh, row_puts, row_stays}
+use Rattle.fast_loops.proofs.LoopLanes.LoadedRow.{row_stays}
 use Rattle.fast_loops.proofs.LoopLanes.LoadsHeld.{rows_held}
 use Rattle.fast_loops.proofs.LoopLanes.RowHeld.{row_in, values_first, row_held}
-use Rattle.fast_loops.proofs.LoopLanes.LoadsTold.{IsLoaded, of_loaded, front_many, lanes_few, loaded_turned}
+use Rattle.fast_loops.proofs.LoopLanes.LoadsTold.{IsLoaded, of_loaded, front_many, lanes_few, rest_fresh}
 use Rattle.fast_loops.proofs.LoopLanes.Orders.{some_lanes}
 use Rattle.fast_loops.proofs.LoopLanes.RoundWrites.{acts_in}
 use Rattle.fast_loops.proofs.LoopLanes.RowsAre.{held_same}
-use Rattle.fast_loops.proofs.LoopLanes.Tiled.{AreLinearBy, wide_acts, wide-append}
+use Rattle.fast_loops.proofs.LoopLanes.Tiled.{AreLinearBy, wide_acts, wide_follow}
 
 module _ (v : ℕ) (p : PlainProgram) (to : Stored) (ops : List PlainOp) (vs : List ℕ) (b q : ℕ)
     (group : IsGroup v p to ops vs b q) (c : Columns) (from : Loaded) (m : ℕ)
@@ -50,22 +51,17 @@ module _ (v : ℕ) (p : PlainProgram) (to : Stored) (ops : List PlainOp) (vs : L
   many : length c.front ≡ m + length rest
   many = front_many v (length vs) to c.front from m known.first
 
-  turned : AreTurned v (length vs) to ops c
-  turned = loaded_turned v (length vs) to ops c from m known
+  told : AreColumns v (length vs) to ops (behind m c)
+  told = columns_told v (length vs) to ops (behind m c) known.columns
 
-  fresh : are_fresh 1 m (straight rest) ≡ true
-  fresh =
-      let none : 0 + m ≡ m = omega arith in
-      subst (λ i. are_fresh 1 i (straight rest) ≡ true) none
-      (row_fresh from 0 m rest (subst (λ xs. are_fresh 1 0 (straight xs) ≡ true) known.first.row before.fresh))
+  few : length c.turned ≤ length c.front
+  few = let few = told.few in omega (arith, few, many)
 
   puts : list_all (λ op. not (is_store op)) rest ≡ true
   puts =
-      row_puts (λ op. not (is_store op)) from 0 m rest
-      (subst (λ xs. list_all (λ op. not (is_store op)) xs ≡ true) known.first.row before.puts)
-
-  by_lane : list_all (is_by_lane (length vs) to) rest ≡ true
-  by_lane = (columns_told v (length vs) to ops (behind m c) known.columns).front_by_lane
+      let test : PlainOp → Bool = λ op. not (is_store op) in
+      list_all-from_AllPass test rest
+      (All-drop (λ op. test op ≡ true) m c.front (AllPass-from_list_all test c.front before.puts))
 
   holds : (s : Local) → 3 * p.regs * v ≤ length s.registers → HoldsBy v p f (loads ++ others) c.front vs b q s
   holds s room =
@@ -77,16 +73,15 @@ module _ (v : ℕ) (p : PlainProgram) (to : Stored) (ops : List PlainOp) (vs : L
       (omega (arith, many, short, lanes_few v (length vs) to c.front from m known.first some)) room in
       let all =
       front_from v p f vs b q to (length c.front) group.alone
-      (numbers_low v p to ops vs b q c turned.few before)
+      (numbers_low v p to ops vs b q c few before)
       (numbers_apart v p to ops vs b q c before) s.memory first (row_in v p from vs b q m s.memory) m rest
-      fresh by_lane puts
+      (rest_fresh v (length vs) to c.front from m known.first before.fresh) told.front_by_lane puts
       (omega (arith, many)) (omega (arith, room, length-registers p.modulus v (wide_acts v p to vs b q loads) s))
       rows.memory
       (row_held v p from vs b q m known.first.linear f (λ r low. row_stays p.regs m c.turned r known.high low)
       s first rows) in
       let split : effects p.modulus v (wide_acts v p to vs b q (loads ++ others)) s ≡ last =
-      ap (λ acts. effects p.modulus v acts s) (wide-append v p to vs b q loads others)
-      ∙ lists_follow p.modulus v (wide_acts v p to vs b q loads) (wide_acts v p to vs b q others) s in
+      wide_follow v p to vs b q loads others s in
       let held : AreHeld v f last.registers (values_in v p s.memory c.front vs b q) (m + length rest) =
       held_same v f last.registers
       (λ l. values_put p.modulus s.memory (row_in v p from vs b q m s.memory l) (acts_in p (round_at l) q rest))
@@ -104,24 +99,28 @@ module _ (v : ℕ) (p : PlainProgram) (to : Stored) (ops : List PlainOp) (vs : L
       LeaveWrites v p (in_tiles v p.regs (length vs) to c from m) ops vs b q
   tiles_write linear_by stored =
       subst (λ new. LeaveWrites v p new ops vs b q) (append_assoc loads others (tiles_of v p to ops vs b q group c))
-      (columns_from v p to ops vs b q c (loads ++ others) group turned before holds linear_by stored)
+      (columns_from v p to ops vs b q c (loads ++ others) group told.turned few before holds linear_by stored)
 
 -- ---- the laws
 
-pub loaded_write : LoadedWrite
-loaded_write v p to ops vs b q group h =
-    of_loaded (λ new. LeaveWrites v p new ops vs b q) v p.regs (length vs) to ops (plain_columns ops) h
-    (λ from m known.
-    tiles_write v p to ops vs b q group (plain_columns ops) from m known (plain_before v p to ops vs b q group) tt
-    (plain_stored v p to ops vs b q))
+module _ (v : ℕ) (p : PlainProgram) (to : Stored) (ops : List PlainOp) (vs : List ℕ) (b q : ℕ)
+    (group : IsGroup v p to ops vs b q) where
+  pub loaded_write : are_loaded v (length vs) to ops (plain_columns ops) ≡ true →
+      LeaveWrites v p (in_loaded v p.regs (length vs) to (plain_columns ops)) ops vs b q
+  loaded_write h =
+      of_loaded (λ new. LeaveWrites v p new ops vs b q) v p.regs (length vs) to ops (plain_columns ops) h
+      (λ from m known.
+      tiles_write v p to ops vs b q group (plain_columns ops) from m known (plain_before v p to ops vs b q group) tt
+      (plain_stored v p to ops vs b q group))
 
-pub loaded_factored_write : LoadedFactoredWrite
-loaded_factored_write v p to ops vs b q group by h =
-    let c : Columns = factored_columns ops in
-    of_loaded (λ new. LeaveWrites v p new ops vs b q) v p.regs (length vs) to ops c h
-    (λ from m known.
-    tiles_write v p to ops vs b q group c from m known (factored_before v p to ops vs b q group by)
-    (factored_linear v p to ops vs b q c.by by)
-    (λ memory l j low below long.
-    factored_stored v p to ops vs b q c.by group.alone by
-    (loaded_turned v (length vs) to ops c from m known).many memory l j below long))
+  pub loaded_factored_write : are_by v (length vs) ops (factored_columns ops).by ≡ true →
+      are_loaded v (length vs) to ops (factored_columns ops) ≡ true →
+      LeaveWrites v p (in_loaded v p.regs (length vs) to (factored_columns ops)) ops vs b q
+  loaded_factored_write by h =
+      let c : Columns = factored_columns ops in
+      of_loaded (λ new. LeaveWrites v p new ops vs b q) v p.regs (length vs) to ops c h
+      (λ from m known.
+      tiles_write v p to ops vs b q group c from m known (factored_before v p to ops vs b q group by)
+      (factored_linear v p to ops vs b q group by)
+      (factored_stored v p to ops vs b q group by
+      (columns_told v (length vs) to ops (behind m c) known.columns).turned.many))

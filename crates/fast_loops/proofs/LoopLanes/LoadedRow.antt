@@ -1,16 +1,13 @@
 -- The loads of a row: word k of the round, into register k.
-use Rattle.std.proofs.Common.{◌≡◌, ℕ, zero, suc, ◌+◌, ◌<◌, ◌≤◌, Bool, true, false, List, [], ◌∷◌, ◌++◌, map, length}
-use Rattle.std.proofs.Common.{take, drop, refl, sym, ap, ap₂, ◌∙◌, subst, arith, eqb-true, leb-true, append-nil}
-use Rattle.std.proofs.Common.{take-append-drop}
+use Rattle.std.proofs.Common.{◌≡◌, ℕ, zero, suc, ◌+◌, ◌<◌, ◌≤◌, Bool, true, false, List, [], ◌∷◌, ◌++◌, map, take, drop}
+use Rattle.std.proofs.Common.{refl, sym, ap, ap₂, ◌∙◌, subst, arith, eqb-true, leb-true, append-nil, take-append-drop}
 use Rattle.std.specs.Prelude.{◌==◌, slice_index, nat_le, if◌then◌else◌}
 use Rattle.std.specs.List.{list_all, range_with_len}
 use Rattle.std.proofs.lemmas.List.{append_assoc}
-use Rattle.icode.specs.declared.program.Array.{Array}
-use Rattle.icode.specs.declared.program.Array.TheVariants.{X, Y, A, B}
 use Rattle.icode.specs.Actions.{array_start}
 use Rattle.icode.specs.Expression.{sum_numbers}
 use Rattle.icode.specs.Machine.{whole_lines}
-use Rattle.icode.specs.Plain.{PlainOp, PlainProgram, Sum, Load, Store, Zero, Add, Sub, Neg, MulConst, MulTable, Tile}
+use Rattle.icode.specs.Plain.{PlainOp, PlainProgram, Sum, Load}
 use Rattle.icode.proofs.Bools.{both_true}
 use Rattle.fast_loops.specs.Places.{same_parts}
 use Rattle.fast_loops.specs.Rounds.{same_array, are_fresh}
@@ -19,33 +16,15 @@ use Rattle.fast_loops.specs.LoopLanes.Layers.{values_put}
 use Rattle.fast_loops.specs.LoopLanes.Loads.{Loaded, is_loaded, row_length}
 use Rattle.fast_loops.specs.LoopLanes.Rounds.{straight}
 use Rattle.fast_loops.proofs.Linear.{wrong, passed}
+use Rattle.fast_loops.proofs.LoopLanes.Arrays.{array_same}
 use Rattle.fast_loops.proofs.LoopLanes.Orders.{parts_same}
 use Rattle.fast_loops.proofs.LoopLanes.RoundWrites.{acts_in}
 
 -- loads of n words from word k on
 abbrev pub row : Loaded → ℕ → ℕ → List PlainOp
-row from k zero = []
-row from k (suc n) = Load k from.array (Sum k from.parts) ∷ row from (k + 1) n
+row from k n = map (λ i. Load i from.array (Sum i from.parts)) (range_with_len k n)
 
 -- ---- the operations of a round begin with such loads
-
-array-same : (a c : Array) → same_array a c ≡ true → a ≡ c
-array-same X X h = refl
-array-same Y Y h = refl
-array-same A A h = refl
-array-same B B h = refl
-array-same X Y h = wrong h
-array-same X A h = wrong h
-array-same X B h = wrong h
-array-same Y X h = wrong h
-array-same Y A h = wrong h
-array-same Y B h = wrong h
-array-same A X h = wrong h
-array-same A Y h = wrong h
-array-same A B h = wrong h
-array-same B X h = wrong h
-array-same B Y h = wrong h
-array-same B A h = wrong h
 
 loaded-is : (from : Loaded) (k : ℕ) (op : PlainOp) → is_loaded from k op ≡ true →
     op ≡ Load k from.array (Sum k from.parts)
@@ -53,16 +32,9 @@ loaded-is from k (Load r array (Sum constant parts)) h =
     let two = both_true (r == k) _ h in
     let three = both_true (constant == k) _ two.1 in
     let four = both_true (same_array array from.array) (same_parts parts from.parts) three.1 in
-    ap₂ (λ i a. Load i a (Sum constant parts)) (eqb-true r k two.0) (array-same array from.array four.0)
+    ap₂ (λ i a. Load i a (Sum constant parts)) (eqb-true r k two.0) (array_same array from.array four.0)
     ∙ ap₂ (λ c ps. Load k from.array (Sum c ps)) (eqb-true constant k three.0) (parts_same parts from.parts four.1)
-loaded-is from k (Store array place r) h = wrong h
-loaded-is from k (Zero r) h = wrong h
-loaded-is from k (Add r x y) h = wrong h
-loaded-is from k (Sub r x y) h = wrong h
-loaded-is from k (Neg r x) h = wrong h
-loaded-is from k (MulConst r x factor) h = wrong h
-loaded-is from k (MulTable r x table place step) h = wrong h
-loaded-is from k (Tile r x) h = wrong h
+loaded-is from k op h = wrong h
 
 row-taken : (from : Loaded) (k : ℕ) (ops : List PlainOp) →
     take (row_length from k ops) ops ≡ row from k (row_length from k ops)
@@ -83,26 +55,14 @@ row_first from ops =
     let m : ℕ = row_length from 0 ops in
     sym (take-append-drop m ops) ∙ ap (λ xs. xs ++ drop m ops) (row-taken from 0 ops)
 
-pub length-row : (from : Loaded) (k n : ℕ) → length (row from k n) ≡ n
-length-row from k zero = refl
-length-row from k (suc n) = ap suc (length-row from (k + 1) n)
-
 -- what is behind it puts registers behind those of the row
-pub row_fresh : (from : Loaded) (k n : ℕ) (rest : List PlainOp) →
-    are_fresh 1 k (straight (row from k n ++ rest)) ≡ true → are_fresh 1 (k + n) (straight rest) ≡ true
-row_fresh from k zero rest h =
-    let none : k ≡ k + 0 = omega arith in
-    subst (λ i. are_fresh 1 i (straight rest) ≡ true) none h
-row_fresh from k (suc n) rest h =
-    let more : k + 1 + n ≡ k + suc n = omega arith in
-    subst (λ i. are_fresh 1 i (straight rest) ≡ true) more
-    (row_fresh from (k + 1) n rest (both_true (k == k) _ h).1)
-
-pub row_puts : (f : PlainOp → Bool) (from : Loaded) (k n : ℕ) (rest : List PlainOp) →
-    list_all f (row from k n ++ rest) ≡ true → list_all f rest ≡ true
-row_puts f from k zero rest h = h
-row_puts f from k (suc n) rest h =
-    row_puts f from (k + 1) n rest (both_true (f (Load k from.array (Sum k from.parts))) _ h).1
+pub row_fresh : (from : Loaded) (k n next : ℕ) (rest : List PlainOp) → k + n ≡ next →
+    are_fresh 1 k (straight (row from k n ++ rest)) ≡ true → are_fresh 1 next (straight rest) ≡ true
+row_fresh from k zero next rest e h =
+    let same : k ≡ next = omega (arith, e) in
+    subst (λ i. are_fresh 1 i (straight rest) ≡ true) same h
+row_fresh from k (suc n) next rest e h =
+    row_fresh from (k + 1) n next rest (omega (arith, e)) (both_true (k == k) _ h).1
 
 -- registers of the row keep their numbers where none of them is turned
 pub row_stays : (at m : ℕ) (xs : List ℕ) (r : ℕ) → list_all (nat_le m) xs ≡ true → r < m → renumbered at xs r ≡ r

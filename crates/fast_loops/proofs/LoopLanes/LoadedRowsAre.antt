@@ -1,42 +1,32 @@
 -- Rows behind the loads of a row leave what v rounds write.
-use Rattle.std.proofs.Common.{◌≡◌, ℕ, zero, suc, ◌+◌, ◌*◌, ◌<◌, ◌≤◌, true, List, [], ◌∷◌, ◌++◌, All, Contains, length}
-use Rattle.std.proofs.Common.{map, flat_map, drop, refl, sym, ap, ◌∙◌, arith, subst}
+use Rattle.std.proofs.Common.{◌≡◌, ℕ, zero, suc, ◌+◌, ◌*◌, ◌<◌, ◌≤◌, true, List, [], ◌∷◌, ◌++◌, All, length, map, drop}
+use Rattle.std.proofs.Common.{refl, sym, ap, ◌∙◌, arith, subst}
 use Rattle.std.specs.Prelude.{slice_index}
-use Rattle.std.specs.List.{range_with_len}
 use Rattle.std.proofs.Math.Path.{fun_ext}
-use Rattle.std.proofs.lemmas.List.Elements.{All-tail}
-use Rattle.icode.specs.Actions.{Step, StepFits, step_of}
+use Rattle.std.proofs.lemmas.List.{drop-map}
+use Rattle.std.proofs.lemmas.List.Elements.{All-drop}
+use Rattle.icode.specs.Actions.{StepFits, step_of}
 use Rattle.icode.specs.Machine.{Local, effects}
 use Rattle.icode.specs.Plain.{PlainOp, PlainProgram, Sum, Load}
-use Rattle.icode.proofs.CodeLaws.ByLane.{lists_follow}
 use Rattle.icode.proofs.CodeLaws.Stores.{length-registers}
-use Rattle.fast_loops.specs.Rounds.{Stored, are_fresh}
-use Rattle.fast_loops.specs.LoopLanes.Layers.{Write, IsGroup, LeaveWrites, LoadedRowsWrite, memory_by, steps_at}
-use Rattle.fast_loops.specs.LoopLanes.Layers.{values_put, group_writes, written}
-use Rattle.fast_loops.specs.LoopLanes.Loads.{Loaded, load_tiles}
-use Rattle.fast_loops.specs.LoopLanes.Rounds.{straight, others, in_row}
+use Rattle.fast_loops.specs.Rounds.{Stored}
+use Rattle.fast_loops.specs.LoopLanes.Layers.{IsGroup, LeaveWrites, memory_by, steps_at, values_put, written}
+use Rattle.fast_loops.specs.LoopLanes.Loads.{Loaded, load_tiles, are_loaded_rows, in_loaded_rows}
+use Rattle.fast_loops.specs.LoopLanes.Rounds.{others, in_row}
 use Rattle.fast_loops.proofs.LoopLanes.ColumnsAre.{short-others}
-use Rattle.fast_loops.proofs.LoopLanes.Held.{in_lanes, values_in}
-use Rattle.fast_loops.proofs.LoopLanes.LoadedRow.{row, row_fresh}
+use Rattle.fast_loops.proofs.LoopLanes.Held.{values_in}
+use Rattle.fast_loops.proofs.LoopLanes.LoadedRow.{row}
 use Rattle.fast_loops.proofs.LoopLanes.LoadsHeld.{rows_held}
-use Rattle.fast_loops.proofs.LoopLanes.LoadsTold.{AreLoadedRows, of_loaded_rows, lanes_few}
-use Rattle.fast_loops.proofs.LoopLanes.Orders.{group_fits, members_turned, some_lanes, writes_split}
+use Rattle.fast_loops.proofs.LoopLanes.LoadsTold.{AreLoadedRows, of_loaded_rows, lanes_few, rest_fresh}
+use Rattle.fast_loops.proofs.LoopLanes.Orders.{group_fits, some_lanes}
 use Rattle.fast_loops.proofs.LoopLanes.RoundWrites.{acts_in}
 use Rattle.fast_loops.proofs.LoopLanes.RowHeld.{row_in, values_first, row_held}
-use Rattle.fast_loops.proofs.LoopLanes.RowsAre.{one_write, lane_writes, no_writes, rows_from, renumbered_none}
-use Rattle.fast_loops.proofs.LoopLanes.Tiled.{wide_acts, wide-append}
+use Rattle.fast_loops.proofs.LoopLanes.RowsAre.{lane_writes, no_writes, rows_from, rows_in_lanes, rows_after}
+use Rattle.fast_loops.proofs.LoopLanes.Tiled.{wide_acts, wide_follow}
 
 -- ---- what is behind a row
 
-row-fits : (P : Step → Type 0) (p : PlainProgram) (from : Loaded) (k n : ℕ) (rest : List PlainOp) (ws : List ℕ)
-    (q : ℕ) → All P (steps_at p (row from k n ++ rest) ws q) → All P (steps_at p rest ws q)
-row-fits P p from k zero rest ws q h = h
-row-fits P p from k (suc n) rest ws q h =
-    row-fits P p from (k + 1) n rest ws q
-    (All-tail P (step_of p (Load k from.array (Sum k from.parts)) ws q)
-    (steps_at p (row from (k + 1) n ++ rest) ws q) h)
-
-pub row_others : (from : Loaded) (k n : ℕ) (rest : List PlainOp) → n ≤ length (others (row from k n ++ rest))
+row_others : (from : Loaded) (k n : ℕ) (rest : List PlainOp) → n ≤ length (others (row from k n ++ rest))
 row_others from k zero rest = omega arith
 row_others from k (suc n) rest = let more = row_others from (k + 1) n rest in omega (arith, more)
 
@@ -70,27 +60,19 @@ module _ (v : ℕ) (p : PlainProgram) (to : Stored) (ops : List PlainOp) (vs : L
   some : 0 < v
   some = some_lanes v group.lanes
 
-  few : m ≤ p.regs
-  few =
+  -- the registers of the row are the program's
+  pub row_few : m ≤ p.regs
+  row_few =
       let room = short-others v p to ops vs b q group in
       let all : m ≤ length (others ops) =
       subst (λ xs. m ≤ length (others xs)) (sym known.first.row) (row_others from 0 m rest) in
       omega (arith, room, all)
 
-  fresh : are_fresh 1 m (straight rest) ≡ true
-  fresh =
-      let none : 0 + m ≡ m = omega arith in
-      subst (λ i. are_fresh 1 i (straight rest) ≡ true) none
-      (row_fresh from 0 m rest (subst (λ xs. are_fresh 1 0 (straight xs) ≡ true) known.first.row group.fresh))
-
   fits : (l : ℕ) → l < v → All (StepFits p) (steps_at p rest (vs ++ (v * b + l) ∷ []) q)
   fits l below =
-      row-fits (StepFits p) p from 0 m rest (vs ++ (v * b + l) ∷ []) q
-      (subst (λ xs. All (StepFits p) (steps_at p xs (vs ++ (v * b + l) ∷ []) q)) known.first.row
-      (group_fits v p ops vs b q l below group.fits))
-
-  wide-is : wide ≡ in_lanes v (length vs) keep rest
-  wide-is = sym (ap (λ g. map g rest) (fun_ext (λ op. renumbered_none (in_row v (length vs) op))))
+      let ws : List ℕ = vs ++ (v * b + l) ∷ [] in
+      subst (All (StepFits p)) (drop-map (λ op. step_of p op ws q) m ops)
+      (All-drop (StepFits p) m (steps_at p ops ws q) (group_fits v p ops vs b q l below group.fits))
 
   -- what round l puts by the row and then by the others
   abbrev values_behind : List ℕ → ℕ → List ℕ
@@ -106,21 +88,19 @@ module _ (v : ℕ) (p : PlainProgram) (to : Stored) (ops : List PlainOp) (vs : L
       let first : Local = effects p.modulus v (wide_acts v p to vs b q loads) begun in
       let finals : ℕ → List ℕ = values_in v p memory ops vs b q in
       let rows =
-      rows_held v p from vs b q known.first.linear (2 * p.regs) m begun some known.first.whole (omega (arith, few))
-      (omega (arith, few, lanes_few v (length vs) to ops from m known.first some)) room in
+      rows_held v p from vs b q known.first.linear (2 * p.regs) m begun some known.first.whole (omega (arith, row_few))
+      (omega (arith, row_few, lanes_few v (length vs) to ops from m known.first some)) room in
       let is =
       rows_from v p keep vs b q to group.linear known.unit group.alone some
       (λ r below. omega (arith, below)) (λ r k below under e. e) memory first (row_in v p from vs b q m memory) m rest
-      fresh known.by_lane fits
+      (rest_fresh v (length vs) to ops from m known.first group.fresh) known.by_lane fits
       (record {
         room = omega (arith, room, length-registers p.modulus v (wide_acts v p to vs b q loads) begun);
         alike = λ k outside. ap (λ ws. slice_index ws k) rows.memory;
         held = row_held v p from vs b q m known.first.linear keep (λ r low. refl) begun first rows;
       }) in
-      ap (λ acts. memory_by p.modulus v acts r memory) (wide-append v p to vs b q loads wide)
-      ∙ ap (λ (z : Local). z.memory)
-      (lists_follow p.modulus v (wide_acts v p to vs b q loads) (wide_acts v p to vs b q wide) begun)
-      ∙ ap (λ new. (effects p.modulus v (wide_acts v p to vs b q new) first).memory) wide-is
+      ap (λ (z : Local). z.memory) (wide_follow v p to vs b q loads wide begun)
+      ∙ ap (λ new. (effects p.modulus v (wide_acts v p to vs b q new) first).memory) (rows_in_lanes v (length vs) rest)
       ∙ is
       ∙ ap (λ words. written words (lane_writes v p keep vs b q (values_behind memory) rest)) rows.memory
       ∙ ap (λ values. written memory (lane_writes v p keep vs b q values rest))
@@ -128,21 +108,10 @@ module _ (v : ℕ) (p : PlainProgram) (to : Stored) (ops : List PlainOp) (vs : L
       ∙ sym (ap (written memory)
       (ap (lane_writes v p keep vs b q finals) known.first.row ∙ row-silent v p keep vs b q finals from 0 m rest))
 
-  pub rows_write_behind : LeaveWrites v p (loads ++ wide) ops vs b q
-  rows_write_behind r memory room =
-      let finals : ℕ → List ℕ = values_in v p memory ops vs b q in
-      let each : PlainOp → ℕ → List Write = one_write v p keep vs b q finals in
-      let rounds : List ℕ = range_with_len 0 v in
-      let same : group_writes v p memory ops vs b q ≡ flat_map (λ l. flat_map (λ op. each op l) ops) rounds =
-      ap (λ g. flat_map g rounds) (fun_ext (λ l. writes_split p (finals l) ops (vs ++ (v * b + l) ∷ []) q)) in
-      record {
-        done = flat_map (λ op. flat_map (each op) rounds) ops;
-        is = left memory r room;
-        within = λ w has. subst (λ ws. Contains ws w) (sym same) (members_turned each ops rounds w has);
-        whole = λ w has. members_turned (λ l op. each op l) rounds ops w (subst (λ ws. Contains ws w) same has);
-      }
-
-pub loaded_rows_write : LoadedRowsWrite
+pub loaded_rows_write : (v : ℕ) (p : PlainProgram) (to : Stored) (ops : List PlainOp) (vs : List ℕ) (b q : ℕ) →
+    IsGroup v p to ops vs b q → are_loaded_rows v (length vs) to ops ≡ true →
+    LeaveWrites v p (in_loaded_rows v p.regs (length vs) ops) ops vs b q
 loaded_rows_write v p to ops vs b q group h =
     of_loaded_rows (λ new. LeaveWrites v p new ops vs b q) v p.regs (length vs) to ops h
-    (λ from m known. rows_write_behind v p to ops vs b q group from m known)
+    (λ from m known r memory room.
+    rows_after v p ops vs b q memory _ (left v p to ops vs b q group from m known memory r room))

@@ -12,14 +12,14 @@ use Rattle.icode.specs.Expression.{sum_numbers}
 use Rattle.icode.specs.Machine.{Local, effect, effects, whole_lines}
 use Rattle.icode.specs.Plain.{PlainOp, PlainProgram}
 use Rattle.icode.specs.CodeLaws.Lanes.{Registers, lane_of, with_register}
-use Rattle.icode.proofs.CodeLaws.ByLane.{this_register, other_register, length-registers_after, lists_follow}
+use Rattle.icode.proofs.CodeLaws.ByLane.{this_register, other_register, length-registers_after}
 use Rattle.icode.proofs.CodeLaws.Stores.{length-registers, load_by_lane}
 use Rattle.icode.proofs.CodeLaws.Tiles.{tile_by_lane, tile_elsewhere}
 use Rattle.fast_loops.specs.Places.{are_linear}
 use Rattle.fast_loops.specs.LoopLanes.Loads.{Loaded, load_at, load_tile, load_tiles}
 use Rattle.fast_loops.proofs.LoopLanes.LoadedRow.{row_word}
-use Rattle.fast_loops.proofs.LoopLanes.Tiled.{wide_acts, wide-append}
-use Rattle.fast_loops.proofs.LoopLanes.Wide.{moved, moved_value}
+use Rattle.fast_loops.proofs.LoopLanes.Tiled.{wide_acts, wide_follow, word-at}
+use Rattle.fast_loops.proofs.LoopLanes.Wide.{moved}
 
 module _ (v : ℕ) (p : PlainProgram) (from : Loaded) (vs : List ℕ) (b q : ℕ)
     (linear : are_linear 0 from.parts ≡ true) where
@@ -35,11 +35,6 @@ module _ (v : ℕ) (p : PlainProgram) (from : Loaded) (vs : List ℕ) (b q : ℕ
   first_of k l =
       array_start (whole_lines p.size p.line) from.array
       + (sum_numbers (moved v (length vs) k from.parts l) (vs ++ b ∷ []) q).value
-
-  word-at : (k l i : ℕ) → first_of k l + i ≡ word_of l (k + i)
-  word-at k l i =
-      let is = moved_value v (length vs) k from.parts vs b l q linear refl in
-      omega (arith, is)
 
   -- ---- loads
 
@@ -84,7 +79,7 @@ module _ (v : ℕ) (p : PlainProgram) (from : Loaded) (vs : List ℕ) (b q : ℕ
             ∙ ap (λ d. lane_of v next.registers i (x + d)) (sym here)
             ∙ ap (λ (g : Registers). g (x + j)) (one i there)
             ∙ this_register (lane_of v s.registers i) (x + j) (slice_index s.memory (first_of k j + i))
-            ∙ ap (slice_index s.memory) (word-at k j i)
+            ∙ ap (slice_index s.memory) (word-at v p from vs b q linear k j i)
             ∙ ap (λ d. slice_index s.memory (word_of d (k + i))) here)
             (λ (later : j < l). rest.put l i (omega (arith, later)) (omega (arith, most)) there)
             (eq-or-lt_of_le least);
@@ -105,8 +100,7 @@ module _ (v : ℕ) (p : PlainProgram) (from : Loaded) (vs : List ℕ) (b q : ℕ
       let mid : Local = effects p.modulus v (acts front) s in
       let held = loads-held x k v 0 s (omega (arith, low)) room in
       let split : effects p.modulus v (acts (load_tile v (length vs) x from k)) s ≡ effect p.modulus v (Tile k x) mid =
-      ap (λ fs. effects p.modulus v fs s) (wide-append v p from vs b q front (PlainOp.Tile k x ∷ []))
-      ∙ lists_follow p.modulus v (acts front) (Tile k x ∷ []) s in
+      wide_follow v p from vs b q front (PlainOp.Tile k x ∷ []) s in
       let long = length-registers p.modulus v (acts front) s in
       record {
         memory = ap (λ (z : Local). z.memory) split ∙ held.memory;
@@ -151,9 +145,7 @@ module _ (v : ℕ) (p : PlainProgram) (from : Loaded) (vs : List ℕ) (b q : ℕ
       tiles-held x n (g + 1) mid (omega (arith, before, all, rest_all)) low
       (omega (arith, room, length-registers p.modulus v (acts tile) s)) in
       let after : Local = effects p.modulus v (acts more) mid in
-      let split : effects p.modulus v (acts (tile ++ more)) s ≡ after =
-      ap (λ fs. effects p.modulus v fs s) (wide-append v p from vs b q tile more)
-      ∙ lists_follow p.modulus v (acts tile) (acts more) s in
+      let split : effects p.modulus v (acts (tile ++ more)) s ≡ after = wide_follow v p from vs b q tile more s in
       record {
         memory = ap (λ (z : Local). z.memory) split ∙ rest.memory ∙ one.memory;
         kept = λ r l below there.

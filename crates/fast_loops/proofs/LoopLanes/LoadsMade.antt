@@ -1,21 +1,21 @@
 -- What code makes of rounds that load rows.
-use Rattle.std.proofs.Common.{◌≡◌, ℕ, ◌+◌, ◌*◌, ◌%◌, ◌^◌, ◌<◌, ◌≤◌, true, List, [], ◌∷◌, ◌++◌, Option, map, length, sym}
-use Rattle.std.proofs.Common.{ap, ◌∙◌, subst, arith, leb-true, eqb-true, ltb-true, lt-ltb, mul-le-mul_left}
-use Rattle.std.specs.Prelude.{◌&&◌, ◌==◌, nat_le}
+use Rattle.std.proofs.Common.{◌≡◌, ℕ, ◌+◌, ◌*◌, ◌^◌, ◌<◌, ◌≤◌, true, List, [], ◌∷◌, ◌++◌, Option, map, length, sym, ap}
+use Rattle.std.proofs.Common.{◌∙◌, subst, arith, ltb-true, lt-ltb, mul-le-mul_left}
+use Rattle.std.specs.Prelude.{◌&&◌, nat_le}
 use Rattle.std.specs.List.{list_all, range_with_len}
 use Rattle.std.proofs.lemmas.Bool.{and_from}
 use Rattle.std.proofs.lemmas.List.{append_assoc}
-use Rattle.std.proofs.lemmas.List.Concat.{flat_map_single}
+use Rattle.std.proofs.lemmas.List.FromFn.{map-range_with_len_more}
 use Rattle.icode.specs.Limits.{is_small}
 use Rattle.icode.specs.Plain.{PlainOp}
 use Rattle.icode.proofs.Bools.{both_true}
 use Rattle.fast_loops.specs.Places.{stride}
 use Rattle.fast_loops.specs.Rounds.{Stored}
-use Rattle.fast_loops.specs.LoopLanes.Columns.{Columns, Factors, are_tiles, are_distinct}
+use Rattle.fast_loops.specs.LoopLanes.Columns.{Columns, Factors}
 use Rattle.fast_loops.specs.LoopLanes.Loads.{Loaded, are_whole, behind, are_behind}
-use Rattle.fast_loops.specs.LoopLanes.Rounds.{stores, stored_constants, are_from, is_by_lane}
+use Rattle.fast_loops.specs.LoopLanes.Rounds.{stores, is_by_lane}
 use Rattle.fast_loops.specs.LoopLanes.View.{has_entries, has_words}
-use Rattle.fast_loops.proofs.LoopLanes.Made.{row_more}
+use Rattle.fast_loops.proofs.LoopLanes.ColumnsAre.{columns_told}
 
 -- ---- lists
 
@@ -23,15 +23,11 @@ use Rattle.fast_loops.proofs.LoopLanes.Made.{row_more}
 pub item_more : (f : ℕ → PlainOp) (n : ℕ) (start before now : List PlainOp) → now ≡ before ++ f n ∷ [] →
     before ≡ start ++ map f (range_with_len 0 n) → now ≡ start ++ map f (range_with_len 0 (n + 1))
 item_more f n start before now e h =
-    let each : ℕ → List PlainOp = λ i. f i ∷ [] in
-    let last : map f (range_with_len 0 n) ++ f n ∷ [] ≡ map f (range_with_len 0 (n + 1)) =
-    sym (ap (λ (xs : List PlainOp). xs ++ f n ∷ []) (flat_map_single f (range_with_len 0 n)))
-    ∙ sym (row_more each n)
-    ∙ flat_map_single f (range_with_len 0 (n + 1)) in
+    let last = map-range_with_len_more f 0 n n (omega arith) in
     e
     ∙ ap (λ (xs : List PlainOp). xs ++ f n ∷ []) h
     ∙ append_assoc start (map f (range_with_len 0 n)) (f n ∷ [])
-    ∙ ap (λ (xs : List PlainOp). start ++ xs) last
+    ∙ ap (λ (xs : List PlainOp). start ++ xs) (sym last)
 
 -- ---- columns behind a row
 
@@ -48,20 +44,14 @@ behind_told v loop to ops c from m some h entries =
     let n : ℕ = length c.turned in
     let s : ℕ = stride loop to.parts in
     let columns = (both_true (list_all (nat_le m) c.turned) _ (both_true (are_whole v loop to from m) _ h).1).1 in
-    let two = both_true (are_tiles v loop to ops (behind m c)) _ columns in
-    let tiles =
-    both_true ((length (stores ops) == n) && ((n % v == 0) && nat_le n (length (behind m c).front))) _ two.0 in
-    let many = eqb-true (length (stores ops)) n (both_true (length (stores ops) == n) _ tiles.0).0 in
-    let words = both_true (are_from 0 (stored_constants ops)) _ tiles.1 in
-    let room = both_true (nat_le n s) _ words.1 in
-    let few : n ≤ s = leb-true n s room.0 in
-    let small : 2 ^ 20 + v * s < 2 ^ 32 = ltb-true (2 ^ 20 + v * s) (2 ^ 32) room.1 in
+    let told = columns_told v loop to ops (behind m c) columns in
+    let few = told.turned.apart in
+    let small : 2 ^ 20 + v * s < 2 ^ 32 = ltb-true (2 ^ 20 + v * s) (2 ^ 32) told.turned.small in
     let wide : s * 1 ≤ s * v = mul-le-mul_left s some in
-    let turned : s * v ≡ v * s = omega arith in
-    let lanes = both_true (list_all (is_by_lane loop to) (stores ops)) _ two.1 in (
+    let turned : s * v ≡ v * s = omega arith in (
       and_from (is_small n && is_small (v * s)) (has_entries v loop n c.by)
           (and_from (is_small n) (is_small (v * s)) (lt-ltb n (2 ^ 32) (omega (arith, few, small, wide, turned)))
           (lt-ltb (v * s) (2 ^ 32) (omega (arith, small))))
-          (entries_same v loop (length (stores ops)) n c.by many entries),
-      (both_true (list_all (is_by_lane loop to) (behind m c).front) (are_distinct c.turned) lanes.1).0,
+          (entries_same v loop (length (stores ops)) n c.by told.turned.many entries),
+      told.front_by_lane,
     )

@@ -3,26 +3,30 @@ use Rattle.std.proofs.Common.{◌≡◌, ℕ, zero, suc, ◌+◌, ◌*◌, ◌/�
 use Rattle.std.proofs.Common.{Contains, Option, Some, None, length, map, drop, sym, ap, ◌∙◌, subst, arith, eqb-true}
 use Rattle.std.proofs.Common.{ltb-true, length-append}
 use Rattle.std.specs.Prelude.{◌==◌, ◌&&◌, nat_le, nat_lt}
-use Rattle.std.specs.List.{list_all}
+use Rattle.std.specs.List.{list_all, range_with_len}
 use Rattle.std.proofs.lemmas.Bool.{not-true}
-use Rattle.std.proofs.lemmas.List.Elements.{All-drop}
+use Rattle.std.proofs.lemmas.List.Elements.{All-drop, Contains-append_left}
+use Rattle.std.proofs.lemmas.List.FromFn.{length-map-range_with_len}
 use Rattle.icode.specs.Limits.{is_small}
 use Rattle.icode.specs.Plain.{PlainOp, Sum, Load}
 use Rattle.icode.proofs.Bools.{both_true}
-use Rattle.icode.proofs.Lines.{Contains-head, Contains-tail}
+use Rattle.icode.proofs.Lines.{Contains-map, Contains-range}
 use Rattle.fast_loops.specs.Places.{are_linear, stride}
-use Rattle.fast_loops.specs.Rounds.{Stored, same_array}
-use Rattle.fast_loops.specs.LoopLanes.Columns.{Columns, are_columns}
-use Rattle.fast_loops.specs.LoopLanes.Rounds.{others, stored_constants, is_by_lane, are_clear, in_row}
+use Rattle.fast_loops.specs.Rounds.{Stored, same_array, are_fresh}
+use Rattle.fast_loops.specs.LoopLanes.Columns.{Columns, are_columns, plain_columns, factored_columns, in_columns}
+use Rattle.fast_loops.specs.LoopLanes.Lanes.{can_lane, laned_ops}
+use Rattle.fast_loops.specs.LoopLanes.Rounds.{straight, others, stored_constants, is_by_lane, are_clear, in_row}
 use Rattle.fast_loops.specs.LoopLanes.Loads.{Loaded, first_load, row_length, are_whole, are_rows_behind, are_rows_from}
 use Rattle.fast_loops.specs.LoopLanes.Loads.{are_loaded_rows, behind, are_behind, are_loaded_from, are_loaded}
 use Rattle.fast_loops.specs.LoopLanes.Loads.{load_tiles, in_loaded_rows_from, in_loaded_rows, in_tiles, in_loaded_from}
 use Rattle.fast_loops.specs.LoopLanes.Loads.{in_loaded}
 use Rattle.fast_loops.proofs.Linear.{wrong}
-use Rattle.fast_loops.proofs.LoopLanes.ColumnsAre.{AreTurned, columns_told}
-use Rattle.fast_loops.proofs.LoopLanes.LoadedRow.{row, row_first, length-row}
-use Rattle.fast_loops.proofs.LoopLanes.Parts.{IsOther}
-use Rattle.fast_loops.proofs.LoopLanes.Tests.{AreGood, AreMultiplied, good}
+use Rattle.fast_loops.proofs.LoopLanes.ColumnsAre.{columns_told}
+use Rattle.fast_loops.proofs.LoopLanes.Kinds.{of_kinds}
+use Rattle.fast_loops.proofs.LoopLanes.LoadedRow.{row, row_first, row_fresh}
+use Rattle.fast_loops.proofs.LoopLanes.Parts.{IsOther, others_are}
+use Rattle.fast_loops.proofs.LoopLanes.Tests.{AreGood, AreMultiplied, plain_good, factored_good, factored_front}
+use Rattle.fast_loops.proofs.LoopLanes.Tests.{factored_short, multiplied_by}
 
 -- operations that begin with the loads of a row of m words
 pub record IsRow (v loop : ℕ) (to : Stored) (front : List PlainOp) (from : Loaded) (m : ℕ) : Type 0 where
@@ -124,37 +128,22 @@ from_loaded P v loop to ops c h each = of_loaded (λ ops. P) v 0 loop to ops c h
 
 -- ---- rows
 
-row-has : (from : Loaded) (k n : ℕ) (rest : List PlainOp) (i : ℕ) → i < n →
-    Contains (row from k n ++ rest) (Load (k + i) from.array (Sum (k + i) from.parts))
-row-has from k zero rest i below = absurd (omega (arith, below))
-row-has from k (suc n) rest zero below =
-    let same : k ≡ k + 0 = omega arith in
-    subst (λ j. Contains (row from k (suc n) ++ rest) (Load j from.array (Sum j from.parts))) same
-    (Contains-head (Load k from.array (Sum k from.parts)) (row from (k + 1) n ++ rest))
-row-has from k (suc n) rest (suc i) below =
-    let same : k + 1 + i ≡ k + suc i = omega arith in
-    Contains-tail (Load k from.array (Sum k from.parts)) (row from (k + 1) n ++ rest)
-    (Load (k + suc i) from.array (Sum (k + suc i) from.parts))
-    (subst (λ j. Contains (row from (k + 1) n ++ rest) (Load j from.array (Sum j from.parts))) same
-    (row-has from (k + 1) n rest i (omega (arith, below))))
-
 module _ (v loop : ℕ) (to : Stored) (front : List PlainOp) (from : Loaded) (m : ℕ)
     (known : IsRow v loop to front from m) where
   -- the round has each load of the row
   pub loads_each : (ops : List PlainOp) → ((op : PlainOp) → Contains front op → Contains ops op) → (i : ℕ) → i < m →
       Contains ops (Load i from.array (Sum i from.parts))
   loads_each ops among i below =
-      let load : PlainOp = Load i from.array (Sum i from.parts) in
-      let first : 0 + i ≡ i = omega arith in
-      among load
-      (subst (λ xs. Contains xs load) (sym known.row)
-      (subst (λ j. Contains (row from 0 m ++ drop m front) (Load j from.array (Sum j from.parts))) first
-      (row-has from 0 m (drop m front) i below)))
+      let load : ℕ → PlainOp = λ i. Load i from.array (Sum i from.parts) in
+      among (load i)
+      (subst (λ xs. Contains xs (load i)) (sym known.row)
+      (Contains-append_left (row from 0 m) (drop m front) (load i)
+      (Contains-map load (range_with_len 0 m) i (Contains-range m 0 i (omega arith) (omega (arith, below))))))
 
   -- as many operations as loads, and the others
   pub front_many : length front ≡ m + length (drop m front)
   front_many =
-      let row_many = length-row from 0 m in
+      let row_many = length-map-range_with_len (λ i. Load i from.array (Sum i from.parts)) 0 m in
       ap length known.row ∙ length-append (row from 0 m) (drop m front) ∙ ap (λ k. k + length (drop m front)) row_many
 
   -- a tile at least
@@ -171,26 +160,46 @@ module _ (v loop : ℕ) (to : Stored) (front : List PlainOp) (from : Loaded) (m 
           absurd (omega (arith, e, some, none))
       at_least (suc t) e = let out : v * suc t ≡ v + v * t = omega arith in omega (arith, e, out)
 
-module _ (v loop : ℕ) (to : Stored) (ops : List PlainOp) (c : Columns) (from : Loaded) (m : ℕ)
-    (known : IsLoaded v loop to ops c from m) where
-  many : length c.front ≡ m + length (drop m c.front)
-  many = front_many v loop to c.front from m known.first
+  -- what is behind the row puts registers behind those of the row
+  pub rest_fresh : are_fresh 1 0 (straight front) ≡ true → are_fresh 1 m (straight (drop m front)) ≡ true
+  rest_fresh h =
+      row_fresh from 0 m m (drop m front) (omega arith)
+      (subst (λ xs. are_fresh 1 0 (straight xs) ≡ true) known.row h)
 
-  pub loaded_turned : AreTurned v loop to ops c
-  loaded_turned =
-      let told = columns_told v loop to ops (behind m c) known.columns in
-      let few = told.few in
-      record {
-        many = told.many;
-        whole = told.whole;
-        few = omega (arith, few, many);
-        from = told.from;
-        stores_by_lane = told.stores_by_lane;
-        distinct = told.distinct;
-      }
+-- ---- columns and rows that pass the tests
 
-  pub loaded_good : All (IsOther ops) c.front → length c.front ≤ length (others ops) →
-      AreMultiplied v loop ops c.by (length c.turned) → AreGood v loop to ops (behind m c)
-  loaded_good front short factors =
-      good v loop to ops (behind m c) known.columns (All-drop (IsOther ops) m c.front front)
-      (omega (arith, short, many)) factors
+-- what holds of rows and of columns, and of these behind a row that is loaded, holds of what becomes of the round
+pub of_good_kinds : (P : List PlainOp → Type 0) (v n loop : ℕ) (to : Stored) (ops : List PlainOp) →
+    can_lane v loop (Some to) ops ≡ true →
+    (stride loop to.parts ≡ 1 → list_all (is_by_lane loop to) ops ≡ true → P (map (in_row v loop) ops)) →
+    ((c : Columns) → AreGood v loop to ops c → P (in_columns v n loop to c)) →
+    ((from : Loaded) (m : ℕ) → AreLoadedRows v loop to ops from m →
+    P (load_tiles v (2 * n) loop from m ++ map (in_row v loop) (drop m ops))) →
+    ((c : Columns) (from : Loaded) (m : ℕ) → IsRow v loop to c.front from m → All (IsOther ops) c.front →
+    length c.front ≤ length (others ops) → AreGood v loop to ops (behind m c) → P (in_tiles v n loop to c from m)) →
+    P (laned_ops v n loop (Some to) ops)
+of_good_kinds P v n loop to ops can rows columns loaded_rows loaded =
+    of_kinds P v n loop to ops can
+    (λ h.
+    let two = both_true (stride loop to.parts == 1) _ h in
+    rows (eqb-true (stride loop to.parts) 1 two.0) (both_true (list_all (is_by_lane loop to) ops) _ two.1).0)
+    (λ h. columns (plain_columns ops) (plain_good v loop to ops h))
+    (λ h. columns (factored_columns ops) (factored_good v loop to ops h))
+    (λ h. of_loaded_rows P v n loop to ops h loaded_rows)
+    (λ h. behind_row (plain_columns ops) h (others_are ops) (omega arith) tt)
+    (λ by h. behind_row (factored_columns ops) h (factored_front ops) (factored_short ops)
+    (multiplied_by v loop ops (factored_columns ops).by by))
+  where
+    behind_row : (c : Columns) → are_loaded v loop to ops c ≡ true → All (IsOther ops) c.front →
+        length c.front ≤ length (others ops) → AreMultiplied v loop ops c.by (length c.turned) →
+        P (in_loaded v n loop to c)
+    behind_row c h front short factors =
+        of_loaded P v n loop to ops c h (λ from m known.
+        let many = front_many v loop to c.front from m known.first in
+        loaded c from m known.first front short
+        (record {
+          columns = columns_told v loop to ops (behind m c) known.columns;
+          front = All-drop (IsOther ops) m c.front front;
+          short = omega (arith, short, many);
+          factors = factors;
+        }))

@@ -1,47 +1,45 @@
 -- What code makes of lanes: numbers that it counts, and lists that grow by a row.
-use Rattle.std.proofs.Common.{◌≡◌, ℕ, zero, suc, ◌+◌, ◌*◌, ◌/◌, ◌%◌, ◌^◌, ◌<◌, ◌≤◌, Bool, true, false, List, [], ◌∷◌}
-use Rattle.std.proofs.Common.{◌++◌, Option, Some, None, map, flat_map, length, refl, sym, ap, ◌∙◌, arith, append-nil}
-use Rattle.std.proofs.Common.{add-one, drop-cons, drop, get_or, eqb-true, leb-true, mul-le-mul_left}
-use Rattle.std.specs.Prelude.{not, ◌&&◌, ◌==◌, nat_le, if◌then◌else◌}
+use Rattle.std.proofs.Common.{◌≡◌, ℕ, suc, ◌+◌, ◌*◌, ◌/◌, ◌^◌, ◌<◌, ◌≤◌, true, List, [], ◌∷◌, ◌++◌, map, flat_map}
+use Rattle.std.proofs.Common.{length, refl, sym, ap, ◌∙◌, arith, append-nil, add-one, drop-cons, drop, get_or, eqb-true}
+use Rattle.std.proofs.Common.{leb-true, mul-le-mul_left}
+use Rattle.std.specs.Prelude.{not, ◌==◌}
 use Rattle.std.specs.List.{list_all, range_with_len}
-use Rattle.std.proofs.Math.Nat.{div-add-mod}
-use Rattle.std.proofs.lemmas.List.{append_assoc, drop_all}
-use Rattle.std.proofs.lemmas.List.Concat.{flat_map-append}
+use Rattle.std.proofs.Math.Nat.{div-mul-le_self}
+use Rattle.std.proofs.lemmas.List.{append_assoc, drop_all, flat_map_more}
 use Rattle.icode.specs.declared.program.Op.{Op}
-use Rattle.icode.specs.Plain.{PlainOp, PlainStmt, Sum, Load, Store, Zero, Add, Sub, Neg, MulConst, MulTable, Tile, Do}
-use Rattle.icode.specs.Plain.{AndStmts, body_of, plain_op}
+use Rattle.icode.specs.Plain.{PlainOp, PlainStmt, Sum, Load, Store, MulTable, Do, AndStmts, body_of, plain_op}
 use Rattle.icode.proofs.Bools.{both_true}
 use Rattle.icode.proofs.CodeLaws.Statements.{range-last}
-use Rattle.fast_loops.specs.Places.{is_linear, stride, same_parts}
+use Rattle.fast_loops.specs.Places.{is_linear, stride}
 use Rattle.fast_loops.specs.Rounds.{Stored, same_array}
-use Rattle.fast_loops.proofs.Linear.{wrong}
 use Rattle.fast_loops.specs.LoopLanes.Rounds.{straight, place_stride, is_by_lane}
 use Rattle.fast_loops.specs.LoopLanes.View.{stride_in, plain_ops}
 use Rattle.fast_loops.specs.LoopLanes.Lanes.{laned_nest, laned_body}
+use Rattle.fast_loops.proofs.LoopLanes.Arrays.{step_before}
 use Rattle.fast_loops.proofs.LoopLanes.Orders.{parts_same}
 
 -- ---- numbers
 
--- steps of fewer lanes are less wide
-pub less_wide : (v l s : ℕ) → l < v → s * l ≤ v * s
-less_wide v l s lt =
-    let le : l ≤ v = omega (arith, lt) in
-    let most : s * l ≤ s * v = mul-le-mul_left s le in
-    omega (arith, most)
+-- a tile more does not go past the last
+pub tile_within : (g v m : ℕ) → g < m / v → g * v + v ≤ m
+tile_within g v m lt =
+    let whole : m / v * v ≤ m = div-mul-le_self m v in
+    let step = step_before v g (m / v) lt in
+    let turned : v * (m / v) ≡ m / v * v = omega arith in
+    let same : v * g ≡ g * v = omega arith in
+    omega (arith, whole, step, turned, same)
 
 -- a whole tile is of words below the number of registers
 pub tile_low : (g m v : ℕ) → g < m / v → 1 ≤ v → g * v < m
-tile_low g m v lt some =
-    let all : v * (m / v) + m % v ≡ m = div-add-mod m v in
-    let next : g + 1 ≤ m / v = omega (arith, lt) in
-    let most : v * (g + 1) ≤ v * (m / v) = mul-le-mul_left v next in
-    omega (arith, all, most, some)
+tile_low g m v lt some = let within = tile_within g v m lt in omega (arith, within, some)
 
 -- an operation that can be done in lanes is not wide
-pub narrow : (v loop : ℕ) (to : Stored) (op : PlainOp) → v ≤ 16 → v * stride loop to.parts < 2 ^ 32 → is_by_lane loop to op ≡ true →
+pub narrow : (v loop : ℕ) (to : Stored) (op : PlainOp) → v ≤ 16 → v * stride loop to.parts < 2 ^ 32 →
+    is_by_lane loop to op ≡ true →
     v * stride_in loop op < 2 ^ 64
 narrow v loop to (Load r array place) few wide h =
-    let two = both_true (is_linear place) (place_stride loop place == 1) (both_true (not (same_array array to.array)) _ h).1 in
+    let two =
+    both_true (is_linear place) (place_stride loop place == 1) (both_true (not (same_array array to.array)) _ h).1 in
     let one : place_stride loop place ≡ 1 = eqb-true (place_stride loop place) 1 two.1 in
     let same : v * place_stride loop place ≡ v * 1 = ap (λ s. v * s) one in
     omega (arith, few, same)
@@ -53,24 +51,16 @@ narrow v loop to (MulTable r x table place step) few wide h =
     let low : place_stride loop place ≤ 1 = leb-true (place_stride loop place) 1 (both_true (is_linear place) _ h).1 in
     let most : v * place_stride loop place ≤ v * 1 = mul-le-mul_left v low in
     omega (arith, few, most)
-narrow v loop to (Zero r) few wide h = omega arith
-narrow v loop to (Add r x y) few wide h = omega arith
-narrow v loop to (Sub r x y) few wide h = omega arith
-narrow v loop to (Neg r x) few wide h = omega arith
-narrow v loop to (MulConst r x factor) few wide h = omega arith
-narrow v loop to (Tile r x) few wide h = omega arith
+narrow v loop to op few wide h = omega arith
 
 -- ---- lists
 
--- one more row
-pub row_more : (f : ℕ → List PlainOp) (n : ℕ) → flat_map f (range_with_len 0 (n + 1)) ≡ flat_map f (range_with_len 0 n) ++ f n
-row_more f n =
+-- one more round
+range-more : (n : ℕ) → range_with_len 0 (n + 1) ≡ range_with_len 0 n ++ n ∷ []
+range-more n =
     let more : n + 1 ≡ suc n = omega arith in
     let same : 0 + n ≡ n = omega arith in
-    ap (λ k. flat_map f (range_with_len 0 k)) more
-    ∙ ap (flat_map f) (range-last 0 n ∙ ap (λ k. range_with_len 0 n ++ k ∷ []) same)
-    ∙ flat_map-append f (range_with_len 0 n) (n ∷ [])
-    ∙ ap (λ (fs : List PlainOp). flat_map f (range_with_len 0 n) ++ fs) (append-nil (f n))
+    ap (range_with_len 0) more ∙ range-last 0 n ∙ ap (λ k. range_with_len 0 n ++ k ∷ []) same
 
 -- operations, one by one
 pub straight_is : (ops : List PlainOp) → straight ops ≡ body_of (map Do ops)
@@ -78,24 +68,29 @@ straight_is [] = refl
 straight_is (op ∷ ops) = ap (AndStmts (Do op)) (straight_is ops)
 
 -- nests, one by one
-pub body_laned : (v n : ℕ) (stmts : List PlainStmt) → laned_body v n (body_of stmts) ≡ body_of (map (laned_nest v n) stmts)
+pub body_laned : (v n : ℕ) (stmts : List PlainStmt) → laned_body v n (body_of stmts)
+    ≡ body_of (map (laned_nest v n) stmts)
 body_laned v n [] = refl
 body_laned v n (stmt ∷ stmts) = ap (AndStmts (laned_nest v n stmt)) (body_laned v n stmts)
 
 -- ---- loops of the code
 
 -- what is made is all of it, where none is left
-pub whole : {X Y : Type 0} (f : List X → List Y) (i : ℕ) (xs : List X) (made : List Y) → length xs ≤ i → made ++ f (drop i xs) ≡ f xs →
+pub whole : {X Y : Type 0} (f : List X → List Y) (i : ℕ) (xs : List X) (made : List Y) → length xs ≤ i →
+    made ++ f (drop i xs) ≡ f xs →
     f [] ≡ [] → made ≡ f xs
 whole f i xs made le h nothing =
     sym (append-nil made) ∙ ap (λ ys. made ++ ys) (sym nothing ∙ ap f (sym (drop_all i xs le))) ∙ h
 
 -- the first operation that is left
-first_left : (i : ℕ) (ops : List Op) (op : Op) → i < length ops → op ≡ get_or ops i op → drop i ops ≡ op ∷ drop (i + 1) ops
+first_left : (i : ℕ) (ops : List Op) (op : Op) → i < length ops → op ≡ get_or ops i op →
+    drop i ops ≡ op ∷ drop (i + 1) ops
 first_left i ops op lt e = rw (add-one, drop-cons ops i op) (ap (λ y. y ∷ drop (suc i) ops) (sym e))
 
-pub narrow_first : (v loop : ℕ) (to : Stored) (ops : List Op) (i : ℕ) (op copy : Op) → v ≤ 16 → v * stride loop to.parts < 2 ^ 32 →
-    i < length ops → op ≡ get_or ops i op → plain_op copy ≡ plain_op op → list_all (is_by_lane loop to) (plain_ops (drop i ops)) ≡ true →
+pub narrow_first : (v loop : ℕ) (to : Stored) (ops : List Op) (i : ℕ) (op copy : Op) → v ≤ 16 →
+    v * stride loop to.parts < 2 ^ 32 →
+    i < length ops → op ≡ get_or ops i op → plain_op copy ≡ plain_op op →
+    list_all (is_by_lane loop to) (plain_ops (drop i ops)) ≡ true →
     v * stride_in loop (plain_op copy) < 2 ^ 64
 narrow_first v loop to ops i op copy few wide lt e same h =
     let first = both_true (is_by_lane loop to (plain_op op)) _
@@ -104,9 +99,12 @@ narrow_first v loop to ops i op copy few wide lt e same h =
 
 -- a list that has grown by a row
 pub grown : (f : ℕ → List PlainOp) (n : ℕ) (start front before now : List PlainOp) → now ≡ before ++ f n →
-    before ≡ start ++ (front ++ flat_map f (range_with_len 0 n)) → now ≡ start ++ (front ++ flat_map f (range_with_len 0 (n + 1)))
+    before ≡ start ++ (front ++ flat_map f (range_with_len 0 n)) →
+    now ≡ start ++ (front ++ flat_map f (range_with_len 0 (n + 1)))
 grown f n start front before now e h =
     e
     ∙ ap (λ (xs : List PlainOp). xs ++ f n) h
     ∙ append_assoc start (front ++ flat_map f (range_with_len 0 n)) (f n)
-    ∙ ap (λ (xs : List PlainOp). start ++ xs) (append_assoc front (flat_map f (range_with_len 0 n)) (f n) ∙ ap (λ (xs : List PlainOp). front ++ xs) (sym (row_more f n)))
+    ∙ ap (λ (xs : List PlainOp). start ++ xs)
+    (flat_map_more f front (range_with_len 0 n) n
+    ∙ ap (λ is. front ++ flat_map f is) (sym (range-more n)))

@@ -1,11 +1,10 @@
 -- Loops, one in the other, of which the innermost goes v rounds at a time, and bodies of phases.
-use Rattle.std.proofs.Common.{◌≡◌, ℕ, zero, suc, ◌+◌, ◌*◌, ◌<◌, ◌≤◌, List, [], ◌∷◌, ◌++◌, true, Contains, Option, Some}
-use Rattle.std.proofs.Common.{None, flat_map, length, refl, sym, ap, ap₂, ◌∙◌, subst, arith, length-append, eqb-true}
+use Rattle.std.proofs.Common.{◌≡◌, ℕ, ◌+◌, ◌*◌, ◌<◌, ◌≤◌, List, [], ◌∷◌, ◌++◌, true, Contains, Option, Some, None}
+use Rattle.std.proofs.Common.{flat_map, length, refl, sym, ap, ◌∙◌, subst, arith, length-append, eqb-true}
 use Rattle.std.specs.Prelude.{◌/◌, ◌%◌, ◌==◌, nat_le}
 use Rattle.std.specs.List.{range_with_len}
 use Rattle.std.proofs.Math.Nat.{div-add-mod}
 use Rattle.std.proofs.Math.Path.{fun_ext}
-use Rattle.std.proofs.lemmas.List.Concat.{flat_map-append}
 use Rattle.std.proofs.lemmas.List.Elements.{Contains-append_left, Contains-append_right}
 use Rattle.icode.specs.Actions.{Step, steps_of_stmt, steps_of_body}
 use Rattle.icode.specs.Plain.{PlainOp, PlainStmt, PlainBody, PlainProgram, Loop, Do, NoStmts, AndStmts}
@@ -14,6 +13,7 @@ use Rattle.fast_loops.specs.Places.{are_linear}
 use Rattle.fast_loops.specs.Rounds.{Stored, put_after, are_fresh, first_store}
 use Rattle.fast_loops.specs.Interchange.{counts_in, round_in, looped}
 use Rattle.fast_loops.proofs.Changes.{in-loop}
+use Rattle.fast_loops.proofs.Grouped.{in_groups}
 use Rattle.fast_loops.proofs.Linear.{wrong}
 use Rattle.fast_loops.proofs.Looped.{looped_is}
 use Rattle.fast_loops.proofs.Rows.{StepsFit, all_fit}
@@ -36,52 +36,14 @@ straight-is lanes next (AndStmts (Loop count body) rest) h = wrong h
 
 -- ---- a loop in groups
 
-range-split : (a m n : ℕ) → range_with_len a (m + n) ≡ range_with_len a m ++ range_with_len (a + m) n
-range-split a zero n =
-    let one : zero + n ≡ n = omega arith in
-    let two : a ≡ a + zero = omega arith in
-    ap₂ range_with_len two one
-range-split a (suc m) n =
-    let one : suc m + n ≡ suc (m + n) = omega arith in
-    let two : a + 1 + m ≡ a + suc m = omega arith in
-    ap (range_with_len a) one
-    ∙ ap (λ is. a ∷ is) (range-split (a + 1) m n ∙ ap (λ k. range_with_len (a + 1) m ++ range_with_len k n) two)
-
--- rounds that are counted from elsewhere
-rounds-from : {X : Type 0} (f : ℕ → List X) (a b n : ℕ) →
-    flat_map f (range_with_len (a + b) n) ≡ flat_map (λ i. f (a + i)) (range_with_len b n)
-rounds-from f a b zero = refl
-rounds-from f a b (suc n) =
-    let next : a + b + 1 ≡ a + (b + 1) = omega arith in
-    ap (λ xs. f (a + b) ++ xs) (ap (λ k. flat_map f (range_with_len k n)) next ∙ rounds-from f a (b + 1) n)
-
-in-groups : {X : Type 0} (f : ℕ → List X) (v n a : ℕ) →
-    flat_map f (range_with_len (v * a) (v * n)) ≡ flat_map (λ b. flat_map (λ l. f (v * b + l)) (range_with_len 0 v))
-    (range_with_len a n)
-in-groups f v zero a =
-    let none : v * zero ≡ 0 = omega arith in
-    ap (λ k. flat_map f (range_with_len (v * a) k)) none
-in-groups f v (suc n) a =
-    let many : v * suc n ≡ v + v * n = omega arith in
-    let next : v * a + v ≡ v * (a + 1) = omega arith in
-    let first : v * a ≡ v * a + 0 = omega arith in
-    ap (λ k. flat_map f (range_with_len (v * a) k)) many
-    ∙ ap (flat_map f) (range-split (v * a) v (v * n))
-    ∙ flat_map-append f (range_with_len (v * a) v) (range_with_len (v * a + v) (v * n))
-    ∙ ap₂ (λ xs ys. xs ++ ys)
-    (ap (λ k. flat_map f (range_with_len k v)) first ∙ rounds-from f (v * a) 0 v)
-    (ap (λ k. flat_map f (range_with_len k (v * n))) next ∙ in-groups f v n (a + 1))
-
 -- v rounds at a time
-pub loop-in-groups : {X : Type 0} (f : ℕ → List X) (v count : ℕ) → (count % v == 0) ≡ true →
+loop-in-groups : {X : Type 0} (f : ℕ → List X) (v count : ℕ) → (count % v == 0) ≡ true →
     flat_map f (range_with_len 0 count) ≡ flat_map (λ b. flat_map (λ l. f (v * b + l)) (range_with_len 0 v))
     (range_with_len 0 (count / v))
 loop-in-groups f v count h =
     let none : count % v ≡ 0 = eqb-true (count % v) 0 h in
     let whole : v * (count / v) + count % v ≡ count = div-add-mod count v in
-    let many : count ≡ v * (count / v) = omega (arith, none, whole) in
-    let start : 0 ≡ v * 0 = omega arith in
-    ap₂ (λ a n. flat_map f (range_with_len a n)) start many ∙ in-groups f v (count / v) 0
+    in_groups f v (count / v) count (omega (arith, none, whole))
 
 module _ (rounds_are : RoundsAreLanes) (v : ℕ) (p : PlainProgram) (q : ℕ) (is_lanes : IsLanes v)
     (alone : p.lanes ≡ 1) where
@@ -131,9 +93,6 @@ module _ (rounds_are : RoundsAreLanes) (v : ℕ) (p : PlainProgram) (q : ℕ) (i
           (subst (λ d. can_lane v d (Some to) ops ≡ true) (sym deep) can))
 
   -- ---- loops around it
-
-  abbrev rows : List ℕ → PlainBody → List ℕ → List Step
-  rows counts round vs = steps_of_body p (looped counts round) vs q
 
   alone_for : (a b : List Step) → AreLanesFor v p a b → AreLanesFor v p (a ++ []) (b ++ [])
   alone_for a b h = lanes-append v p a b [] [] h (lanes-nil v p)

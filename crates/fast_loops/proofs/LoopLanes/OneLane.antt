@@ -9,10 +9,11 @@ use Rattle.ring_mod.specs.Residue.{sum_mod, difference_mod, negation_mod, produc
 use Rattle.icode.specs.declared.action.Action.{Action}
 use Rattle.icode.specs.declared.action.Action.TheVariants.{Load, Store, Zero, Add, Sub, Neg, Mul, Tile}
 use Rattle.icode.specs.Machine.{Local, effect, effects, value_put, register_put, register_of, with_words, lane_by_lane}
+use Rattle.icode.specs.Machine.{stored_words}
 use Rattle.icode.proofs.CodeLaws.ByLane.{lists_follow, length-registers_after}
 use Rattle.icode.proofs.CodeLaws.Placing.{slice_index-slice_set}
 use Rattle.icode.proofs.CodeLaws.Stores.{length-registers}
-use Rattle.fast_loops.proofs.Acts.{IsFresh, AreFresh, AreWide, IsRound, next_after}
+use Rattle.fast_loops.proofs.Acts.{IsFresh, AreFresh, IsWide, AreWide, IsRound, next_after}
 use Rattle.fast_loops.specs.LoopLanes.Layers.{memory_by, Write, written, values_put, writes_of}
 use Rattle.fast_loops.proofs.LoopLanes.Orders.{values_stay}
 use Rattle.fast_loops.proofs.LoopLanes.Wide.{here}
@@ -22,12 +23,8 @@ use Rattle.fast_loops.proofs.LoopLanes.Writes.{other_word, written-append}
 abbrev pub IsPlaced : (ℕ → Type 0) → ℕ → Action → Type 0
 IsPlaced Into regs (Load r address) = (r < regs) × (Into address → ⊥)
 IsPlaced Into regs (Store address r) = Into address
-IsPlaced Into regs (Zero r) = r < regs
-IsPlaced Into regs (Add r x y) = r < regs
-IsPlaced Into regs (Sub r x y) = r < regs
-IsPlaced Into regs (Neg r x) = r < regs
-IsPlaced Into regs (Mul r x factors) = r < regs
 IsPlaced Into regs (Tile r x) = ⊥
+IsPlaced Into regs act = register_put act < regs
 
 abbrev pub ArePlaced : (ℕ → Type 0) → ℕ → List Action → Type 0
 ArePlaced Into regs [] = Unit {0}
@@ -89,8 +86,6 @@ module _ (m : ℕ) (Into : ℕ → Type 0) (regs : ℕ) (first : List ℕ) where
       HoldValues xs registers → IsKept memory →
       value_put m 1 act (record { memory = memory; registers = registers }) ≡ put act xs
   puts-same (Load r address) xs registers memory fresh placed held kept = ap (λ w. w ∷ []) (kept address placed.1)
-  puts-same (Store address r) xs registers memory fresh placed held kept = refl
-  puts-same (Zero r) xs registers memory fresh placed held kept = refl
   puts-same (Add r x y) xs registers memory fresh placed held kept =
       ap₂ (lane_by_lane (sum_mod m)) (read xs registers x held fresh.1) (read xs registers y held fresh.2)
   puts-same (Sub r x y) xs registers memory fresh placed held kept =
@@ -100,27 +95,55 @@ module _ (m : ℕ) (Into : ℕ → Type 0) (regs : ℕ) (first : List ℕ) where
   puts-same (Mul r x factors) xs registers memory fresh placed held kept =
       ap (λ ws. lane_by_lane (product_mod m) ws factors) (read xs registers x held fresh.1)
   puts-same (Tile r x) xs registers memory fresh placed held kept = absurd placed
+  puts-same act xs registers memory fresh placed held kept = refl
 
-  -- what is known behind an action that puts a register
+  -- an action that puts one value, into the next register
+  record PutsNext (act : Action) (xs : List ℕ) : Type 0 where
+    is : register_put act ≡ length xs
+    low : register_put act < regs
+    next : next_after 1 (length xs) act ≡ length xs + 1
+    one : length (put act xs) ≡ 1
+
+  -- so does each that stores nothing
+  puts-next : (act : Action) (xs : List ℕ) → stored_words 1 act ≡ [] → IsFresh 1 (length xs) act → IsWide 1 act →
+      IsPlaced Into regs act → PutsNext act xs
+  puts-next (Load r address) xs s fresh wide placed =
+      record { is = fresh; low = placed.0; next = refl; one = refl }
+  puts-next (Zero r) xs s fresh wide placed = record { is = fresh; low = placed; next = refl; one = refl }
+  puts-next (Mul r x factors) xs s fresh wide placed =
+      record { is = fresh.0; low = placed; next = refl; one = one-product factors wide }
+    where
+      one-product : (cs : List ℕ) → 1 ≤ length cs →
+          length (lane_by_lane (product_mod m) (slice_index xs (x * 1) ∷ []) cs) ≡ 1
+      one-product [] le = absurd (omega (arith, le))
+      one-product (c ∷ cs) le = refl
+  puts-next (Store address r) xs s fresh wide placed = absurd (cc)
+  puts-next (Tile r x) xs s fresh wide placed = absurd placed
+  puts-next act xs s fresh wide placed = record { is = fresh.0; low = placed; next = refl; one = refl }
+
+  -- what is known behind it
   record Goes (act : Action) (acts : List Action) (xs registers memory : List ℕ) : Type 0 where
     fresh : AreFresh 1 (length (xs ++ put act xs)) acts
     room : regs ≤ length (after act registers memory).registers
     held : HoldValues (xs ++ put act xs) (after act registers memory).registers
 
-  goes : (act : Action) (acts : List Action) (xs registers memory : List ℕ) →
-      AreFresh 1 (next_after 1 (length xs) act) acts →
-      IsFresh 1 (length xs) act → IsPlaced Into regs act → register_put act ≡ length xs → register_put act < regs →
-      next_after 1 (length xs) act ≡ length xs + 1 → length (put act xs) ≡ 1 →
+  goes : (act : Action) (acts : List Action) (xs registers memory : List ℕ) → stored_words 1 act ≡ [] →
+      AreFresh 1 (length xs) (act ∷ acts) → IsWide 1 act → IsPlaced Into regs act →
       regs ≤ length registers → HoldValues xs registers → IsKept memory → Goes act acts xs registers memory
-  goes act acts xs registers memory more fresh placed is low next one room held kept =
+  goes act acts xs registers memory s fresh wide placed room held kept =
+      let puts = puts-next act xs s fresh.0 wide placed in
+      let is = puts.is in
+      let low = puts.low in
+      let next = puts.next in
+      let one = puts.one in
       let long = length-append xs (put act xs) in
       let y : ℕ = slice_index (put act xs) 0 in
       record {
-        fresh = subst (λ n. AreFresh 1 n acts) (omega (arith, next, long, one)) more;
+        fresh = subst (λ n. AreFresh 1 n acts) (omega (arith, next, long, one)) fresh.1;
         room = omega (arith, room, length-registers_after m 1 act (record { memory = memory; registers = registers }));
         held = λ k below.
             ap (λ ws. slice_index (with_words registers (register_put act * 1) ws) k)
-            (puts-same act xs registers memory fresh placed held kept ∙ is-one (put act xs) one)
+            (puts-same act xs registers memory fresh.0 placed held kept ∙ is-one (put act xs) one)
             ∙ put-behind xs registers (register_put act) y k held is (omega (arith, low, room))
             (omega (arith, below, long, one))
             ∙ sym (ap (λ ws. slice_index (xs ++ ws) k) (is-one (put act xs) one));
@@ -153,43 +176,11 @@ module _ (m : ℕ) (Into : ℕ → Type 0) (regs : ℕ) (first : List ℕ) where
       ∙ ap₂ (λ w zs. written (slice_set memory address w) (writes_of zs acts))
       (stored-value acts xs registers r held fresh.0)
       (ap (λ ys. values_put m first ys acts) (sym (append-nil xs)))
-  acts_write (Load r address ∷ acts) xs registers memory fresh wide placed room held kept =
-      let act : Action = Load r address in
-      let n = goes act acts xs registers memory fresh.1 fresh.0 placed.0 fresh.0 placed.0.0 refl refl room held kept in
-      acts_write acts (xs ++ put act xs) (after act registers memory).registers memory
-      n.fresh wide.1 placed.1 n.room n.held kept
-  acts_write (Zero r ∷ acts) xs registers memory fresh wide placed room held kept =
-      let act : Action = Zero r in
-      let n = goes act acts xs registers memory fresh.1 fresh.0 placed.0 fresh.0 placed.0 refl refl room held kept in
-      acts_write acts (xs ++ put act xs) (after act registers memory).registers memory
-      n.fresh wide.1 placed.1 n.room n.held kept
-  acts_write (Add r x y ∷ acts) xs registers memory fresh wide placed room held kept =
-      let act : Action = Add r x y in
-      let n = goes act acts xs registers memory fresh.1 fresh.0 placed.0 fresh.0.0 placed.0 refl refl room held kept in
-      acts_write acts (xs ++ put act xs) (after act registers memory).registers memory
-      n.fresh wide.1 placed.1 n.room n.held kept
-  acts_write (Sub r x y ∷ acts) xs registers memory fresh wide placed room held kept =
-      let act : Action = Sub r x y in
-      let n = goes act acts xs registers memory fresh.1 fresh.0 placed.0 fresh.0.0 placed.0 refl refl room held kept in
-      acts_write acts (xs ++ put act xs) (after act registers memory).registers memory
-      n.fresh wide.1 placed.1 n.room n.held kept
-  acts_write (Neg r x ∷ acts) xs registers memory fresh wide placed room held kept =
-      let act : Action = Neg r x in
-      let n = goes act acts xs registers memory fresh.1 fresh.0 placed.0 fresh.0.0 placed.0 refl refl room held kept in
-      acts_write acts (xs ++ put act xs) (after act registers memory).registers memory
-      n.fresh wide.1 placed.1 n.room n.held kept
-  acts_write (Mul r x factors ∷ acts) xs registers memory fresh wide placed room held kept =
-      let act : Action = Mul r x factors in
-      let n = goes act acts xs registers memory fresh.1 fresh.0 placed.0 fresh.0.0 placed.0 refl
-      (one-product factors wide.0) room held kept in
-      acts_write acts (xs ++ put act xs) (after act registers memory).registers memory
-      n.fresh wide.1 placed.1 n.room n.held kept
-    where
-      one-product : (cs : List ℕ) → 1 ≤ length cs →
-          length (lane_by_lane (product_mod m) (slice_index xs (x * 1) ∷ []) cs) ≡ 1
-      one-product [] le = absurd (omega (arith, le))
-      one-product (c ∷ cs) le = refl
   acts_write (Tile r x ∷ acts) xs registers memory fresh wide placed room held kept = absurd placed.0
+  acts_write (act ∷ acts) xs registers memory fresh wide placed room held kept =
+      let n = goes act acts xs registers memory refl fresh wide.0 placed.0 room held kept in
+      acts_write acts (xs ++ put act xs) (after act registers memory).registers memory
+      n.fresh wide.1 placed.1 n.room n.held kept
 
   -- and where they write nothing
   written-kept : (acts : List Action) (zs memory : List ℕ) → ArePlaced Into regs acts → IsKept memory →
@@ -198,13 +189,8 @@ module _ (m : ℕ) (Into : ℕ → Type 0) (regs : ℕ) (first : List ℕ) where
   written-kept (Store address r ∷ acts) zs memory placed kept =
       let w : ℕ = slice_index zs r in
       written-kept acts zs (slice_set memory address w) placed.1 (set-kept memory address w placed.0 kept)
-  written-kept (Load r address ∷ acts) zs memory placed kept = written-kept acts zs memory placed.1 kept
-  written-kept (Zero r ∷ acts) zs memory placed kept = written-kept acts zs memory placed.1 kept
-  written-kept (Add r x y ∷ acts) zs memory placed kept = written-kept acts zs memory placed.1 kept
-  written-kept (Sub r x y ∷ acts) zs memory placed kept = written-kept acts zs memory placed.1 kept
-  written-kept (Neg r x ∷ acts) zs memory placed kept = written-kept acts zs memory placed.1 kept
-  written-kept (Mul r x factors ∷ acts) zs memory placed kept = written-kept acts zs memory placed.1 kept
   written-kept (Tile r x ∷ acts) zs memory placed kept = absurd placed.0
+  written-kept (act ∷ acts) zs memory placed kept = written-kept acts zs memory placed.1 kept
 
   -- ---- rounds, one after the other
 

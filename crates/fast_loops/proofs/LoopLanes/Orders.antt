@@ -1,12 +1,11 @@
 -- Operations of a round in the order of the text, and in others: those that put, and those that store.
-use Rattle.std.proofs.Common.{◌≡◌, ℕ, ◌+◌, ◌*◌, ◌<◌, true, false, List, [], ◌∷◌, ◌++◌, All, Contains, flat_map, length}
-use Rattle.std.proofs.Common.{refl, ap, ◌∙◌, arith, inl, inr, eqb-true, length-append, ⊎_elim}
+use Rattle.std.proofs.Common.{◌≡◌, ℕ, ◌+◌, ◌*◌, ◌<◌, ◌≤◌, true, false, List, [], ◌∷◌, ◌++◌, All, Contains, flat_map}
+use Rattle.std.proofs.Common.{length, refl, ap, ◌∙◌, arith, inl, inr, eqb-true, length-append}
 use Rattle.std.specs.Prelude.{slice_index, ◌==◌, ◌&&◌, nat_le}
 use Rattle.std.specs.List.{range_with_len}
 use Rattle.std.proofs.lemmas.Bool.{true≢false}
 use Rattle.std.proofs.lemmas.List.{get_or_append_left}
-use Rattle.std.proofs.lemmas.List.Elements.{All-contains, Contains-append_left, Contains-append_right}
-use Rattle.std.proofs.lemmas.List.Elements.{Contains-append_cases}
+use Rattle.std.proofs.lemmas.List.Elements.{All-contains}
 use Rattle.icode.specs.declared.action.Action.{Action}
 use Rattle.icode.specs.declared.action.Action.TheVariants as actions
 use Rattle.icode.specs.declared.program.Array.TheVariants.{X}
@@ -15,26 +14,33 @@ use Rattle.icode.specs.Machine.{value_put}
 use Rattle.icode.specs.Plain.{PlainParts, PlainOp, PlainProgram, Load, Store, Zero, Add, Sub, Neg, MulConst, MulTable}
 use Rattle.icode.specs.Plain.{Tile}
 use Rattle.icode.proofs.Bools.{both_true}
-use Rattle.icode.proofs.Lines.{Contains-nil}
 use Rattle.fast_loops.specs.Places.{same_parts}
 use Rattle.fast_loops.specs.Rounds.{Stored, is_fresh}
 use Rattle.fast_loops.proofs.Changes.{in-loop}
 use Rattle.fast_loops.proofs.Linear.{store_told}
-use Rattle.fast_loops.proofs.Members.{all_of_members}
+use Rattle.fast_loops.proofs.Members.{all_of_members, into_flat_map, from_flat_map}
 use Rattle.fast_loops.specs.LoopLanes.Lanes.{IsLanes}
 use Rattle.fast_loops.specs.LoopLanes.Layers.{steps_at, group_at, values_put, writes_of}
 use Rattle.fast_loops.specs.LoopLanes.Rounds.{is_store}
 
 -- ---- groups
 
-pub some_lanes : (v : ℕ) → IsLanes v → 0 < v
-some_lanes v h =
+-- what is known of a number of lanes
+pub record AreSome (v : ℕ) : Type 0 where
+  pub some : 2 ≤ v
+  pub few : v ≤ 16
+
+pub are_some : (v : ℕ) → IsLanes v → AreSome v
+are_some v h =
     elim h [
-      | inl two ↦ omega (arith, two)
-      | inr (inl four) ↦ omega (arith, four)
-      | inr (inr (inl eight)) ↦ omega (arith, eight)
-      | inr (inr (inr sixteen)) ↦ omega (arith, sixteen)
+      | inl two ↦ record { some = omega (arith, two); few = omega (arith, two) }
+      | inr (inl four) ↦ record { some = omega (arith, four); few = omega (arith, four) }
+      | inr (inr (inl eight)) ↦ record { some = omega (arith, eight); few = omega (arith, eight) }
+      | inr (inr (inr sixteen)) ↦ record { some = omega (arith, sixteen); few = omega (arith, sixteen) }
     ]
+
+pub some_lanes : (v : ℕ) → IsLanes v → 0 < v
+some_lanes v h = let two = (are_some v h).some in omega (arith, two)
 
 -- the steps of a round fit
 pub group_fits : (v : ℕ) (p : PlainProgram) (ops : List PlainOp) (vs : List ℕ) (b q l : ℕ) → l < v →
@@ -86,14 +92,8 @@ values_stay m memory xs (act ∷ acts) k below =
 
 writes-first : (xs : List ℕ) (act : Action) (acts : List Action) →
     writes_of xs (act ∷ acts) ≡ writes_of xs (act ∷ []) ++ writes_of xs acts
-writes-first xs (actions.Load r address) acts = refl
 writes-first xs (actions.Store address r) acts = refl
-writes-first xs (actions.Zero r) acts = refl
-writes-first xs (actions.Add r x y) acts = refl
-writes-first xs (actions.Sub r x y) acts = refl
-writes-first xs (actions.Neg r x) acts = refl
-writes-first xs (actions.Mul r x factors) acts = refl
-writes-first xs (actions.Tile r x) acts = refl
+writes-first xs act acts = refl
 
 -- operation by operation
 pub writes_split : (p : PlainProgram) (xs : List ℕ) (ops : List PlainOp) (ws : List ℕ) (q : ℕ) →
@@ -106,26 +106,10 @@ writes_split p xs (op ∷ ops) ws q =
 
 -- ---- members of lists of lists, in either order
 
-more_members : {X Y : Type 0} (g h : X → List Y) (xs : List X) →
-    ((x : X) (y : Y) → Contains (g x) y → Contains (h x) y) →
-    (y : Y) → Contains (flat_map g xs) y → Contains (flat_map h xs) y
-more_members g h [] each y has = has
-more_members g h (x ∷ xs) each y has =
-    ⊎_elim
-    (λ (here : Contains (g x) y). Contains-append_left (h x) (flat_map h xs) y (each x y here))
-    (λ (later : Contains (flat_map g xs) y).
-    Contains-append_right (h x) (flat_map h xs) y (more_members g h xs each y later))
-    (Contains-append_cases (g x) (flat_map g xs) y has)
-
 pub members_turned : {X Y Z : Type 0} (g : X → Y → List Z) (xs : List X) (ys : List Y) (z : Z) →
     Contains (flat_map (λ x. flat_map (g x) ys) xs) z → Contains (flat_map (λ y. flat_map (λ x. g x y) xs) ys) z
-members_turned g [] ys z has = absurd (Contains-nil z has)
-members_turned g (x ∷ xs) ys z has =
-    ⊎_elim
-    (λ (here : Contains (flat_map (g x) ys) z).
-    more_members (g x) (λ y. g x y ++ flat_map (λ w. g w y) xs) ys
-    (λ y z in_x. Contains-append_left (g x y) (flat_map (λ w. g w y) xs) z in_x) z here)
-    (λ (later : Contains (flat_map (λ w. flat_map (g w) ys) xs) z).
-    more_members (λ y. flat_map (λ w. g w y) xs) (λ y. g x y ++ flat_map (λ w. g w y) xs) ys
-    (λ y z in_xs. Contains-append_right (g x y) (flat_map (λ w. g w y) xs) z in_xs) z (members_turned g xs ys z later))
-    (Contains-append_cases (flat_map (g x) ys) (flat_map (λ w. flat_map (g w) ys) xs) z has)
+members_turned g xs ys z has =
+    let outer = from_flat_map (λ x. flat_map (g x) ys) xs z has in
+    let inner = from_flat_map (g outer.0) ys z outer.2 in
+    into_flat_map (λ y. flat_map (λ x. g x y) xs) ys inner.0 z inner.1
+    (into_flat_map (λ x. g x inner.0) xs outer.0 z outer.1 inner.2)

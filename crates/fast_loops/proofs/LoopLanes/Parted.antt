@@ -4,6 +4,8 @@ use Rattle.std.proofs.Common.{ap, ◌∙◌, arith, eqb-true, ltb-true}
 use Rattle.std.specs.Prelude.{slice_index, nat_lt, ◌==◌}
 use Rattle.std.specs.List.{list_all}
 use Rattle.std.proofs.lemmas.Bool.{and_from}
+use Rattle.std.proofs.lemmas.List.Elements.{All-take}
+use Rattle.std.proofs.lemmas.List.Sums.{AllPass-from_list_all, list_all-from_AllPass}
 use Rattle.icode.specs.Actions.{StepFits, step_of}
 use Rattle.icode.specs.Plain.{PlainOp, PlainProgram, Store}
 use Rattle.icode.proofs.Bools.{both_true}
@@ -16,11 +18,8 @@ use Rattle.fast_loops.proofs.LoopLanes.Orders.{register_low}
 
 pub all_taken : {X : Type 0} (f : X → Bool) (xs : List X) (n : ℕ) → list_all f xs ≡ true →
     list_all f (take n xs) ≡ true
-all_taken f xs zero h = refl
-all_taken f [] (suc n) h = refl
-all_taken f (x ∷ xs) (suc n) h =
-    let two =
-    both_true (f x) (list_all f xs) h in and_from (f x) (list_all f (take n xs)) two.0 (all_taken f xs n two.1)
+all_taken f xs n h =
+    list_all-from_AllPass f (take n xs) (All-take (λ x. f x ≡ true) n xs (AllPass-from_list_all f xs h))
 
 -- numbers one behind the other
 pub from_at : (n : ℕ) (ks : List ℕ) (j : ℕ) → are_from n ks ≡ true → j < length ks → slice_index ks j ≡ n + j

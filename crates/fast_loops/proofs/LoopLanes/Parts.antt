@@ -1,38 +1,24 @@
 -- What the tests of columns tell of a round: which constants it stores at, and which entries it multiplies by.
-use Rattle.std.proofs.Common.{◌≡◌, ℕ, suc, ◌+◌, ◌<◌, ◌≤◌, Bool, true, false, not, cond, ◌&&◌, List, [], ◌∷◌, All}
-use Rattle.std.proofs.Common.{Contains, length, refl, ap, ◌∙◌, subst, arith, inl, inr, eqb-true}
+use Rattle.std.proofs.Common.{◌≡◌, ℕ, suc, ◌+◌, ◌<◌, ◌≤◌, true, false, not, ◌&&◌, List, [], ◌∷◌, All, Contains, length}
+use Rattle.std.proofs.Common.{refl, ap, ap₂, ◌∙◌, subst, arith, inl, inr, eqb-true}
 use Rattle.std.specs.Prelude.{◌==◌, nat_lt}
 use Rattle.std.specs.List.{list_all}
-use Rattle.std.proofs.lemmas.Bool.{cases_eq}
-use Rattle.std.proofs.lemmas.List.Elements.{All-nil, All-cons, All-head, All-tail}
+use Rattle.std.proofs.lemmas.Bool.{cases_eq, not-true}
+use Rattle.std.proofs.lemmas.List.Elements.{All-head, All-tail, All-filter, All-contains}
+use Rattle.std.proofs.lemmas.List.Sums.{AllPass-from_list_all}
 use Rattle.icode.specs.declared.program.Array.{Array}
-use Rattle.icode.specs.Plain.{PlainParts, PlainOp, Sum, Load, Store, Zero, Add, Sub, Neg, MulConst, MulTable, Tile}
+use Rattle.icode.specs.Plain.{PlainParts, PlainOp, Sum, Store, MulTable}
 use Rattle.icode.proofs.Bools.{both_true}
 use Rattle.fast_loops.specs.Places.{same_parts}
 use Rattle.fast_loops.specs.Rounds.{Stored, same_array}
 use Rattle.fast_loops.proofs.Linear.{wrong}
 use Rattle.fast_loops.proofs.Members.{all_of_members}
 use Rattle.fast_loops.specs.LoopLanes.Rounds.{is_store, stores, others, stored_constants, are_from, is_by_lane}
-use Rattle.fast_loops.specs.LoopLanes.Lanes.{IsLanes}
 use Rattle.fast_loops.specs.LoopLanes.Columns.{Factors, are_products, factored_registers}
+use Rattle.fast_loops.proofs.LoopLanes.Arrays.{array_same}
 use Rattle.fast_loops.proofs.LoopLanes.Orders.{parts_same}
+use Rattle.fast_loops.proofs.LoopLanes.Parted.{others_put}
 use Rattle.fast_loops.proofs.LoopLanes.TilesCovered.{IsStored, IsMultiplied}
-
--- ---- lanes
-
--- what is known of a number of lanes
-pub record AreSome (v : ℕ) : Type 0 where
-  pub some : 2 ≤ v
-  pub few : v ≤ 16
-
-pub are_some : (v : ℕ) → IsLanes v → AreSome v
-are_some v h =
-    elim h [
-      | inl two ↦ record { some = omega (arith, two); few = omega (arith, two) }
-      | inr (inl four) ↦ record { some = omega (arith, four); few = omega (arith, four) }
-      | inr (inr (inl eight)) ↦ record { some = omega (arith, eight); few = omega (arith, eight) }
-      | inr (inr (inr sixteen)) ↦ record { some = omega (arith, sixteen); few = omega (arith, sixteen) }
-    ]
 
 -- ---- operations that store, and others
 
@@ -40,17 +26,17 @@ are_some v h =
 abbrev pub IsOther : List PlainOp → PlainOp → Type 0
 IsOther ops op = Contains ops op × (is_store op ≡ false)
 
-all-others : (ops all : List PlainOp) → All (Contains all) ops → All (IsOther all) (others ops)
-all-others [] all h = All-nil (IsOther all)
-all-others (op ∷ ops) all h = by (is_store op) refl (all-others ops all (All-tail (Contains all) op ops h))
-  where
-    by : (t : Bool) → is_store op ≡ t → All (IsOther all) (others ops) →
-        All (IsOther all) (cond (not t) (op ∷ others ops) (others ops))
-    by true e rest = rest
-    by false e rest = All-cons (IsOther all) op (others ops) (All-head (Contains all) op ops h, e) rest
+pub members : (ops : List PlainOp) → All (Contains ops) (others ops)
+members ops =
+    All-filter (λ op. not (is_store op)) (Contains ops) ops (all_of_members (Contains ops) ops (λ op has. has))
 
 pub others_are : (ops : List PlainOp) → All (IsOther ops) (others ops)
-others_are ops = all-others ops ops (all_of_members (Contains ops) ops (λ op has. has))
+others_are ops =
+    let puts = AllPass-from_list_all (λ op. not (is_store op)) (others ops) (others_put ops) in
+    all_of_members (IsOther ops) (others ops) (λ op has. (
+      All-contains (Contains ops) (others ops) op (members ops) has,
+      not-true (is_store op) (All-contains (λ op. not (is_store op) ≡ true) (others ops) op puts has),
+    ))
 
 -- ---- constants
 
@@ -61,14 +47,10 @@ stored-at : (loop : ℕ) (to : Stored) (array : Array) (constant : ℕ) (parts :
     Contains all (Store array (Sum constant parts) r) → IsStored to all c
 stored-at loop to array constant parts r all c h same has =
     let two = both_true (same_array array to.array) (same_parts parts to.parts) h in
-    record {
-      array = array;
-      register = r;
-      into = two.0;
-      has =
-          subst (λ n. Contains all (Store array (Sum n to.parts) r)) same
-          (subst (λ parts. Contains all (Store array (Sum constant parts) r)) (parts_same parts to.parts two.1) has);
-    }
+    let is : Store array (Sum constant parts) r ≡ Store to.array (Sum c to.parts) r =
+    ap₂ (λ a parts. Store a (Sum constant parts) r) (array_same array to.array two.0) (parts_same parts to.parts two.1)
+    ∙ ap (λ n. Store to.array (Sum n to.parts) r) same in
+    record { register = r; has = subst (Contains all) is has }
 
 stored-from : (loop : ℕ) (to : Stored) (all : List PlainOp) (k : ℕ) (ops : List PlainOp) → All (Contains all) ops →
     are_from k (stored_constants ops) ≡ true →
@@ -89,23 +71,8 @@ stored-from loop to all k (Store array (Sum constant parts) r ∷ ops) has from 
           (All-tail (Contains all) (Store array (Sum constant parts) r) ops has) here.1 told.1 c
           (omega (arith, low, other)) (omega (arith, high))
     ]
-stored-from loop to all k (Load r array place ∷ ops) has from by_lane c low high =
-    stored-from loop to all k ops (All-tail (Contains all) (Load r array place) ops has) from by_lane c low high
-stored-from loop to all k (Zero r ∷ ops) has from by_lane c low high =
-    stored-from loop to all k ops (All-tail (Contains all) (Zero r) ops has) from by_lane c low high
-stored-from loop to all k (Add r x y ∷ ops) has from by_lane c low high =
-    stored-from loop to all k ops (All-tail (Contains all) (Add r x y) ops has) from by_lane c low high
-stored-from loop to all k (Sub r x y ∷ ops) has from by_lane c low high =
-    stored-from loop to all k ops (All-tail (Contains all) (Sub r x y) ops has) from by_lane c low high
-stored-from loop to all k (Neg r x ∷ ops) has from by_lane c low high =
-    stored-from loop to all k ops (All-tail (Contains all) (Neg r x) ops has) from by_lane c low high
-stored-from loop to all k (MulConst r x factor ∷ ops) has from by_lane c low high =
-    stored-from loop to all k ops (All-tail (Contains all) (MulConst r x factor) ops has) from by_lane c low high
-stored-from loop to all k (MulTable r x table place step ∷ ops) has from by_lane c low high =
-    stored-from loop to all k ops
-    (All-tail (Contains all) (MulTable r x table place step) ops has) from by_lane c low high
-stored-from loop to all k (Tile r x ∷ ops) has from by_lane c low high =
-    stored-from loop to all k ops (All-tail (Contains all) (Tile r x) ops has) from by_lane c low high
+stored-from loop to all k (op ∷ ops) has from by_lane c low high =
+    stored-from loop to all k ops (All-tail (Contains all) op ops has) from by_lane c low high
 
 -- stores one behind the other, each into a word of its own
 pub stored_each : (loop : ℕ) (to : Stored) (ops : List PlainOp) → are_from 0 (stored_constants ops) ≡ true →
@@ -128,37 +95,27 @@ multiplied-from by bound all k (MulTable r x table (Sum constant parts) step ∷
     (are_products by bound (k + 1) ops) products in
     let more = both_true (table == by.table) _ (both_true (nat_lt x bound) _ two.0).1 in
     let last = both_true (constant == by.constant + k) (same_parts parts by.parts) more.1 in
-    let first : Contains all (MulTable r x table (Sum constant parts) step) =
-    All-head (Contains all) (MulTable r x table (Sum constant parts) step) ops has in
-    let entries : Contains all (MulTable r x by.table (Sum constant parts) step) =
-    subst (λ t. Contains all (MulTable r x t (Sum constant parts) step)) (eqb-true table by.table more.0) first in
-    let placed : Contains all (MulTable r x by.table (Sum (by.constant + k) parts) step) =
-    subst (λ n. Contains all (MulTable r x by.table (Sum n parts) step))
-    (eqb-true constant (by.constant + k) last.0) entries in
-    let whole : Contains all (MulTable r x by.table (Sum (by.constant + k) by.parts) step) =
-    subst (λ parts. Contains all (MulTable r x by.table (Sum (by.constant + k) parts) step))
-    (parts_same parts by.parts last.1) placed in
+    let first : PlainOp = MulTable r x table (Sum constant parts) step in
+    let is : first ≡ MulTable r x by.table (Sum (by.constant + k) by.parts) step =
+    ap₂ (λ t parts. MulTable r x t (Sum constant parts) step)
+    (eqb-true table by.table more.0) (parts_same parts by.parts last.1)
+    ∙ ap (λ n. MulTable r x by.table (Sum n by.parts) step) (eqb-true constant (by.constant + k) last.0) in
     elim (cases_eq k c) [
       | inl same ↦
           record {
             register = r;
             source = x;
             step = step;
-            has = subst (λ n. Contains all (MulTable r x by.table (Sum (by.constant + n) by.parts) step)) same whole;
+            has =
+                subst (λ n. Contains all (MulTable r x by.table (Sum (by.constant + n) by.parts) step)) same
+                (subst (Contains all) is (All-head (Contains all) first ops has));
           }
       | inr other ↦
           multiplied-from by bound all (k + 1) ops
           (All-tail (Contains all) (MulTable r x table (Sum constant parts) step) ops has) two.1 c
           (omega (arith, low, other)) (omega (arith, high))
     ]
-multiplied-from by bound all k (Load r array place ∷ ops) has products c low high = wrong products
-multiplied-from by bound all k (Store array place r ∷ ops) has products c low high = wrong products
-multiplied-from by bound all k (Zero r ∷ ops) has products c low high = wrong products
-multiplied-from by bound all k (Add r x y ∷ ops) has products c low high = wrong products
-multiplied-from by bound all k (Sub r x y ∷ ops) has products c low high = wrong products
-multiplied-from by bound all k (Neg r x ∷ ops) has products c low high = wrong products
-multiplied-from by bound all k (MulConst r x factor ∷ ops) has products c low high = wrong products
-multiplied-from by bound all k (Tile r x ∷ ops) has products c low high = wrong products
+multiplied-from by bound all k (op ∷ ops) has products c low high = wrong products
 
 -- products one behind the other, each by an entry of its own
 pub multiplied_each : (by : Factors) (bound : ℕ) (ops products : List PlainOp) → All (Contains ops) products →
@@ -173,11 +130,4 @@ pub as_many_products : (by : Factors) (bound k : ℕ) (ops : List PlainOp) → a
 as_many_products by bound k [] h = refl
 as_many_products by bound k (MulTable r x table (Sum constant parts) step ∷ ops) h =
     ap suc (as_many_products by bound (k + 1) ops (both_true _ (are_products by bound (k + 1) ops) h).1)
-as_many_products by bound k (Load r array place ∷ ops) h = wrong h
-as_many_products by bound k (Store array place r ∷ ops) h = wrong h
-as_many_products by bound k (Zero r ∷ ops) h = wrong h
-as_many_products by bound k (Add r x y ∷ ops) h = wrong h
-as_many_products by bound k (Sub r x y ∷ ops) h = wrong h
-as_many_products by bound k (Neg r x ∷ ops) h = wrong h
-as_many_products by bound k (MulConst r x factor ∷ ops) h = wrong h
-as_many_products by bound k (Tile r x ∷ ops) h = wrong h
+as_many_products by bound k (op ∷ ops) h = wrong h

@@ -10,8 +10,7 @@ use Rattle.icode.specs.declared.action.Action.{Action}
 use Rattle.icode.specs.Actions.{actions_of, array_start, lane_factors, step_of}
 use Rattle.icode.specs.Expression.{sum_numbers}
 use Rattle.icode.specs.Machine.{lane_by_lane, value_put, whole_lines}
-use Rattle.icode.specs.Plain.{PlainParts, PlainOp, PlainProgram, Sum, Load, Store, Zero, Add, Sub, Neg, MulConst}
-use Rattle.icode.specs.Plain.{MulTable, Tile}
+use Rattle.icode.specs.Plain.{PlainParts, PlainOp, PlainProgram, Sum, Store, MulTable}
 use Rattle.icode.proofs.Bools.{both_true}
 use Rattle.fast_loops.specs.Places.{same_parts}
 use Rattle.fast_loops.specs.Rounds.{Stored, same_array}
@@ -32,14 +31,7 @@ products_low by bound k (MulTable r x table (Sum constant parts) step ∷ ops) z
 products_low by bound k (MulTable r x table (Sum constant parts) step ∷ ops) (suc j) h below =
     let two = both_true _ (are_products by bound (k + 1) ops) h in
     products_low by bound (k + 1) ops j two.1 (omega arith)
-products_low by bound k (Load r array place ∷ ops) j h below = wrong h
-products_low by bound k (Store array place r ∷ ops) j h below = wrong h
-products_low by bound k (Zero r ∷ ops) j h below = wrong h
-products_low by bound k (Add r x y ∷ ops) j h below = wrong h
-products_low by bound k (Sub r x y ∷ ops) j h below = wrong h
-products_low by bound k (Neg r x ∷ ops) j h below = wrong h
-products_low by bound k (MulConst r x factor ∷ ops) j h below = wrong h
-products_low by bound k (Tile r x ∷ ops) j h below = wrong h
+products_low by bound k (op ∷ ops) j h below = wrong h
 
 -- ---- values
 
@@ -136,14 +128,7 @@ module _ (p : PlainProgram) (us : List ℕ) (q : ℕ) where
       ∙ products_put by bound (k + 1) ops memory ys j alone two.1 (omega (arith, few, long)) (omega arith)
       ∙ ap₂ (λ a i. product_mod p.modulus a (entry_at by i))
       (get_or_append_left xs (z ∷ []) 0 (slice_index (factored_registers ops) j) (omega (arith, low, few))) next
-  products_put by bound k (Load r array place ∷ ops) memory xs j alone h few below = wrong h
-  products_put by bound k (Store array place r ∷ ops) memory xs j alone h few below = wrong h
-  products_put by bound k (Zero r ∷ ops) memory xs j alone h few below = wrong h
-  products_put by bound k (Add r x y ∷ ops) memory xs j alone h few below = wrong h
-  products_put by bound k (Sub r x y ∷ ops) memory xs j alone h few below = wrong h
-  products_put by bound k (Neg r x ∷ ops) memory xs j alone h few below = wrong h
-  products_put by bound k (MulConst r x factor ∷ ops) memory xs j alone h few below = wrong h
-  products_put by bound k (Tile r x ∷ ops) memory xs j alone h few below = wrong h
+  products_put by bound k (op ∷ ops) memory xs j alone h few below = wrong h
 
   -- ---- writes
 

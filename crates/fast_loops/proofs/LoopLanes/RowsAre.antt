@@ -12,8 +12,7 @@ use Rattle.icode.specs.declared.program.Array.{Array}
 use Rattle.icode.specs.Actions.{StepFits, actions_of, array_start, step_of}
 use Rattle.icode.specs.Expression.{sum_numbers}
 use Rattle.icode.specs.Machine.{Local, effect, effects, memory_after, register_of, words_at, with_words, whole_lines}
-use Rattle.icode.specs.Plain.{PlainExpr, PlainParts, PlainOp, PlainProgram, Sum, Load, Store, Zero, Add, Sub, Neg}
-use Rattle.icode.specs.Plain.{MulConst, MulTable, Tile}
+use Rattle.icode.specs.Plain.{PlainExpr, PlainParts, PlainOp, PlainProgram, Sum, Load, Store}
 use Rattle.icode.proofs.Bools.{both_true}
 use Rattle.icode.proofs.Lines.{Contains-nil}
 use Rattle.icode.proofs.Words.{length-words_at}
@@ -24,15 +23,16 @@ use Rattle.fast_loops.specs.Rounds.{Stored, same_array, is_fresh, put_after, are
 use Rattle.fast_loops.proofs.Acts.{loaded_words}
 use Rattle.fast_loops.proofs.Linear.{wrong}
 use Rattle.fast_loops.specs.LoopLanes.Columns.{renumbered_op}
-use Rattle.fast_loops.specs.LoopLanes.Layers.{Write, written, RowsWrite, memory_by, on_lanes, steps_at, group_writes}
-use Rattle.fast_loops.specs.LoopLanes.Layers.{writes_of}
-use Rattle.fast_loops.specs.LoopLanes.Rounds.{straight, is_by_lane, is_store, in_row, widened}
+use Rattle.fast_loops.specs.LoopLanes.Layers.{Write, IsAfter, IsGroup, LeaveWrites, written, memory_by, on_lanes}
+use Rattle.fast_loops.specs.LoopLanes.Layers.{steps_at, group_writes, writes_of}
+use Rattle.fast_loops.specs.LoopLanes.Rounds.{straight, is_by_lane, is_store, are_rows, in_row, widened}
 use Rattle.fast_loops.proofs.LoopLanes.Arrays.{IsOutside, same_start, other_outside}
-use Rattle.fast_loops.proofs.LoopLanes.Held.{AreHeld, in_lanes}
+use Rattle.fast_loops.proofs.LoopLanes.Held.{AreHeld, in_lanes, values_in}
 use Rattle.fast_loops.proofs.LoopLanes.FrontHeld as lanes
 use Rattle.fast_loops.proofs.LoopLanes.FrontHeld.{put_next}
 use Rattle.fast_loops.proofs.LoopLanes.Orders.{group_fits, register_low, writes_split, members_turned, values_stay}
 use Rattle.fast_loops.proofs.LoopLanes.Orders.{parts_same, some_lanes}
+use Rattle.fast_loops.proofs.LoopLanes.Wide.{wide_value}
 use Rattle.fast_loops.proofs.LoopLanes.Writes.{written-append}
 
 -- ---- what a store writes
@@ -108,15 +108,8 @@ module _ (v : ℕ) (p : PlainProgram) (f : ℕ → ℕ) (vs : List ℕ) (b q : �
       none (l ∷ ls) = none ls
 
       nothing : (op : PlainOp) (l : ℕ) → is_store op ≡ false → one_write values op l ≡ []
-      nothing (Load r array place) l puts = refl
       nothing (Store array place r) l puts = absurd (true≢false puts)
-      nothing (Zero r) l puts = refl
-      nothing (Add r x y) l puts = refl
-      nothing (Sub r x y) l puts = refl
-      nothing (Neg r x) l puts = refl
-      nothing (MulConst r x factor) l puts = refl
-      nothing (MulTable r x table place step) l puts = refl
-      nothing (Tile r x) l puts = refl
+      nothing op l puts = refl
 
   module _ (to : Stored) (linear : are_linear 0 to.parts ≡ true) (one : stride (length vs) to.parts ≡ 1)
       (alone : p.lanes ≡ 1) where
@@ -136,7 +129,7 @@ module _ (v : ℕ) (p : PlainProgram) (f : ℕ → ℕ) (vs : List ℕ) (b q : �
     store_at : (array : Array) (constant : ℕ) (parts : PlainParts) (l : ℕ) → parts ≡ to.parts →
         store_in array constant parts l ≡ store_on array constant parts + l
     store_at array constant parts l by =
-        let is = lanes.place_at v p f vs b q (Sum constant parts) l (ap (are_linear 0) by ∙ linear) in
+        let is = wide_value v (Sum constant parts) vs b l q (ap (are_linear 0) by ∙ linear) in
         let far : stride (length vs) parts * l ≡ 1 * l = ap (λ s. s * l) (ap (stride (length vs)) by ∙ one) in
         omega (arith, is, far)
 
@@ -194,14 +187,7 @@ module _ (v : ℕ) (p : PlainProgram) (f : ℕ → ℕ) (vs : List ℕ) (b q : �
     loads_outside : (op : PlainOp) (l k : ℕ) → is_by_lane (length vs) to op ≡ true → FitsIn op l →
         Contains (loaded_words 1 (round_act op l)) k → IsOutside words to.array k
     loads_outside (Load r array place) l k h fits has = load_outside array place r l k h fits has
-    loads_outside (Store array place r) l k h fits has = absurd (Contains-nil k has)
-    loads_outside (Zero r) l k h fits has = absurd (Contains-nil k has)
-    loads_outside (Add r x y) l k h fits has = absurd (Contains-nil k has)
-    loads_outside (Sub r x y) l k h fits has = absurd (Contains-nil k has)
-    loads_outside (Neg r x) l k h fits has = absurd (Contains-nil k has)
-    loads_outside (MulConst r x factor) l k h fits has = absurd (Contains-nil k has)
-    loads_outside (MulTable r x table place step) l k h fits has = absurd (Contains-nil k has)
-    loads_outside (Tile r x) l k h fits has = absurd (Contains-nil k has)
+    loads_outside op l k h fits has = absurd (Contains-nil k has)
 
     -- ---- all operations
 
@@ -305,14 +291,7 @@ module _ (v : ℕ) (p : PlainProgram) (f : ℕ → ℕ) (vs : List ℕ) (b q : �
                 values_stay p.modulus memory (values l) (acts l) r (omega (arith, lower, h.held.long l below)));
             behind = store_first memory s values next array constant parts r by into.0 fits h;
           }
-      first_of memory s values next (Load r array place) ops true stores fresh by_lane fits h = wrong stores
-      first_of memory s values next (Zero r) ops true stores fresh by_lane fits h = wrong stores
-      first_of memory s values next (Add r x y) ops true stores fresh by_lane fits h = wrong stores
-      first_of memory s values next (Sub r x y) ops true stores fresh by_lane fits h = wrong stores
-      first_of memory s values next (Neg r x) ops true stores fresh by_lane fits h = wrong stores
-      first_of memory s values next (MulConst r x factor) ops true stores fresh by_lane fits h = wrong stores
-      first_of memory s values next (MulTable r x table place step) ops true stores fresh by_lane fits h = wrong stores
-      first_of memory s values next (Tile r x) ops true stores fresh by_lane fits h = wrong stores
+      first_of memory s values next op ops true stores fresh by_lane fits h = wrong stores
 
       pub rows_from : (memory : List ℕ) (s : Local) (values : ℕ → List ℕ) (next : ℕ) (ops : List PlainOp) →
           are_fresh 1 next (straight ops) ≡ true → list_all (is_by_lane (length vs) to) ops ≡ true → RoundsFit ops →
@@ -332,42 +311,44 @@ module _ (v : ℕ) (p : PlainProgram) (f : ℕ → ℕ) (vs : List ℕ) (b q : �
 
 pub renumbered_none : (op : PlainOp) → renumbered_op (λ r. r) op ≡ op
 renumbered_none (Load r array place) = refl
-renumbered_none (Store array place r) = refl
-renumbered_none (Zero r) = refl
-renumbered_none (Add r x y) = refl
-renumbered_none (Sub r x y) = refl
-renumbered_none (Neg r x) = refl
-renumbered_none (MulConst r x factor) = refl
-renumbered_none (MulTable r x table place step) = refl
-renumbered_none (Tile r x) = refl
+renumbered_none op = refl
 
-pub rows_write : RowsWrite
-rows_write v p to ops vs b q group are registers memory room =
-    let two = both_true (stride (length vs) to.parts == 1) _ are in
-    let by_lane = both_true (list_all (is_by_lane (length vs) to) ops) _ two.1 in
-    let keep : ℕ → ℕ = λ r. r in
-    let values : ℕ → List ℕ = λ l. [] in
-    let finals : ℕ → List ℕ = values_behind v p keep vs b q memory values ops in
-    let each : PlainOp → ℕ → List Write = one_write v p keep vs b q finals in
+-- rows on the lanes keep their registers
+pub rows_in_lanes : (v loop : ℕ) (ops : List PlainOp) → map (in_row v loop) ops ≡ in_lanes v loop (λ r. r) ops
+rows_in_lanes v loop ops = sym (ap (λ g. map g ops) (fun_ext (λ op. renumbered_none (in_row v loop op))))
+
+-- a memory with all that the rounds write, operation by operation
+pub rows_after : (v : ℕ) (p : PlainProgram) (ops : List PlainOp) (vs : List ℕ) (b q : ℕ) (memory now : List ℕ) →
+    now ≡ written memory (lane_writes v p (λ r. r) vs b q (values_in v p memory ops vs b q) ops) →
+    IsAfter memory now (group_writes v p memory ops vs b q)
+rows_after v p ops vs b q memory now is =
+    let finals : ℕ → List ℕ = values_in v p memory ops vs b q in
+    let each : PlainOp → ℕ → List Write = one_write v p (λ r. r) vs b q finals in
     let rounds : List ℕ = range_with_len 0 v in
     let same : group_writes v p memory ops vs b q ≡ flat_map (λ l. flat_map (λ op. each op l) ops) rounds =
     ap (λ g. flat_map g rounds) (fun_ext (λ l. writes_split p (finals l) ops (vs ++ (v * b + l) ∷ []) q)) in
-    let wide : map (in_row v (length vs)) ops ≡ in_lanes v (length vs) keep ops =
-    sym (ap (λ g. map g ops) (fun_ext (λ op. renumbered_none (in_row v (length vs) op)))) in
-    let acts : List PlainOp → List Action = λ new. actions_of (steps_at (on_lanes v p) new (vs ++ b ∷ []) q) in
     record {
       done = flat_map (λ op. flat_map (each op) rounds) ops;
-      is =
-          ap (λ new. memory_by p.modulus v (acts new) registers memory) wide
-          ∙ rows_from v p keep vs b q to group.linear (eqb-true (stride (length vs) to.parts) 1 two.0) group.alone
-          (some_lanes v group.lanes) (λ r below. omega (arith, below)) (λ r k below under e. e)
-          memory (record { memory = memory; registers = registers }) values 0 ops group.fresh by_lane.0
-          (λ l below. group_fits v p ops vs b q l below group.fits)
-          (record {
-            room = room;
-            alike = λ k outside. refl;
-            held = record { long = λ l below. refl; held = λ r l below under. absurd (omega (arith, below)) };
-          });
+      is = is;
       within = λ w has. subst (λ ws. Contains ws w) (sym same) (members_turned each ops rounds w has);
       whole = λ w has. members_turned (λ l op. each op l) rounds ops w (subst (λ ws. Contains ws w) same has);
     }
+
+pub rows_write : (v : ℕ) (p : PlainProgram) (to : Stored) (ops : List PlainOp) (vs : List ℕ) (b q : ℕ) →
+    IsGroup v p to ops vs b q → are_rows v (length vs) to ops ≡ true →
+    LeaveWrites v p (map (in_row v (length vs)) ops) ops vs b q
+rows_write v p to ops vs b q group are registers memory room =
+    let two = both_true (stride (length vs) to.parts == 1) _ are in
+    let by_lane = both_true (list_all (is_by_lane (length vs) to) ops) _ two.1 in
+    let acts : List PlainOp → List Action = λ new. actions_of (steps_at (on_lanes v p) new (vs ++ b ∷ []) q) in
+    rows_after v p ops vs b q memory _
+    (ap (λ new. memory_by p.modulus v (acts new) registers memory) (rows_in_lanes v (length vs) ops)
+    ∙ rows_from v p (λ r. r) vs b q to group.linear (eqb-true (stride (length vs) to.parts) 1 two.0) group.alone
+    (some_lanes v group.lanes) (λ r below. omega (arith, below)) (λ r k below under e. e)
+    memory (record { memory = memory; registers = registers }) (λ l. []) 0 ops group.fresh by_lane.0
+    (λ l below. group_fits v p ops vs b q l below group.fits)
+    (record {
+      room = room;
+      alike = λ k outside. refl;
+      held = record { long = λ l below. refl; held = λ r l below under. absurd (omega (arith, below)) };
+    }))

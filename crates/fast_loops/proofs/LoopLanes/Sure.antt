@@ -1,28 +1,31 @@
 -- No word gets two values from the rounds of a group.
-use Rattle.std.proofs.Common.{◌≡◌, ◌⊎◌, ℕ, zero, suc, ◌+◌, ◌*◌, ◌<◌, ◌≤◌, Bool, true, ◌&&◌, List, [], ◌∷◌, ◌++◌, length}
-use Rattle.std.proofs.Common.{flat_map, Contains, Some, refl, sym, ap, ap₂, ◌∙◌, subst, arith, inl, inr, ⊎_elim}
-use Rattle.std.proofs.Common.{eqb-true, leb-true, mul-le-mul_left}
+use Rattle.std.proofs.Common.{◌≡◌, ◌⊎◌, ℕ, zero, suc, ◌+◌, ◌*◌, ◌<◌, ◌≤◌, Bool, true, List, [], ◌∷◌, ◌++◌, length}
+use Rattle.std.proofs.Common.{Contains, Some, refl, sym, ap, ap₂, ◌∙◌, subst, arith, inl, inr, ⊎_elim, eqb-true}
+use Rattle.std.proofs.Common.{leb-true}
 use Rattle.std.specs.Prelude.{◌==◌, nat_le, slice_index}
-use Rattle.std.specs.List.{list_all, range_with_len}
+use Rattle.std.specs.List.{list_all}
 use Rattle.std.proofs.lemmas.Bool.{or_cases, cases_order}
-use Rattle.std.proofs.lemmas.List.Elements.{Contains-append_cases}
-use Rattle.icode.specs.Plain.{PlainOp, PlainProgram, Sum, Load, Store, Zero, Add, Sub, Neg, MulConst, MulTable, Tile}
+use Rattle.std.proofs.lemmas.List.Elements.{All-get_or}
+use Rattle.std.proofs.lemmas.List.Sums.{AllPass-from_list_all}
+use Rattle.icode.specs.Plain.{PlainOp, PlainProgram, Sum, Store}
 use Rattle.icode.proofs.Bools.{both_true}
 use Rattle.icode.proofs.Lines.{Contains-nil}
 use Rattle.fast_loops.specs.Places.{are_linear, stride}
 use Rattle.fast_loops.specs.Rounds.{Stored}
 use Rattle.fast_loops.specs.LoopLanes.Rounds.{is_by_lane, stores, stored_registers, stored_constants, are_from}
 use Rattle.fast_loops.specs.LoopLanes.Rounds.{is_clear, are_clear}
-use Rattle.fast_loops.specs.LoopLanes.Columns.{Columns, plain_columns, factored_columns, first_factors, last_products}
-use Rattle.fast_loops.specs.LoopLanes.Columns.{are_by, are_tiles, are_columns}
+use Rattle.fast_loops.specs.LoopLanes.Columns.{Columns, plain_columns, factored_columns, are_by, are_columns}
 use Rattle.fast_loops.specs.LoopLanes.Lanes.{can_lane}
 use Rattle.fast_loops.specs.LoopLanes.Loads.{behind, are_loaded}
 use Rattle.fast_loops.specs.LoopLanes.Layers.{Write, GroupsAreSure, round_writes, group_writes}
+use Rattle.fast_loops.proofs.Changes.{of-loop}
+use Rattle.fast_loops.proofs.LoopLanes.Arrays.{step_before}
+use Rattle.fast_loops.proofs.LoopLanes.ColumnsAre.{columns_told}
 use Rattle.fast_loops.proofs.LoopLanes.Held.{values_in}
+use Rattle.fast_loops.proofs.LoopLanes.Kinds.{of_kinds}
 use Rattle.fast_loops.proofs.LoopLanes.LoadsTold.{from_loaded_rows, from_loaded}
-use Rattle.fast_loops.proofs.LoopLanes.Told.{IsOneOf, InRows, InColumns, InFactoredColumns, InLoadedRows, InLoaded}
-use Rattle.fast_loops.proofs.LoopLanes.Told.{InLoadedFactored, AreTold, kind_of, told, stored_at, store_base}
-use Rattle.fast_loops.proofs.LoopLanes.Told.{writes_are}
+use Rattle.fast_loops.proofs.LoopLanes.Parted.{from_at}
+use Rattle.fast_loops.proofs.LoopLanes.Told.{AreTold, told, stored_at, store_base, writes_are}
 use Rattle.fast_loops.proofs.LoopLanes.Wide.{lane_value}
 
 -- ---- a write of a list
@@ -49,31 +52,12 @@ store_of base zs (c ∷ cs) (r ∷ rs) w (suc k, lt, e) =
     let is = store_of base zs cs rs w (k, omega (arith, lt), e) in
     record { index = suc is.index; low = omega (arith, is.low); word = is.word; value = is.value }
 
--- which round it is of
-pub record IsWriteOf (f : ℕ → List Write) (a n : ℕ) (w : Write) : Type 0 where
-  pub round : ℕ
-  pub high : round < a + n
-  pub inside : Contains (f round) w
-
-pub write_of : (f : ℕ → List Write) (a n : ℕ) (w : Write) →
-    Contains (flat_map f (range_with_len a n)) w → IsWriteOf f a n w
-write_of f a zero w h = absurd (Contains-nil w h)
-write_of f a (suc n) w h =
-    ⊎_elim
-    (λ (here : Contains (f a) w). record { round = a; high = omega arith; inside = here })
-    (λ (later : Contains (flat_map f (range_with_len (a + 1) n)) w).
-    let is = write_of f (a + 1) n w later in
-    record { round = is.round; high = omega (arith, is.high); inside = is.inside })
-    (Contains-append_cases (f a) (flat_map f (range_with_len (a + 1) n)) w h)
-
 -- ---- constants
 
 passes-at : (test : ℕ → Bool) (ks : List ℕ) (i : ℕ) →
     list_all test ks ≡ true → i < length ks → test (slice_index ks i) ≡ true
-passes-at test [] i all below = absurd (omega (arith, below))
-passes-at test (k ∷ ks) zero all below = (both_true (test k) (list_all test ks) all).0
-passes-at test (k ∷ ks) (suc i) all below =
-    passes-at test ks i (both_true (test k) (list_all test ks) all).1 (omega (arith, below))
+passes-at test ks i all below =
+    All-get_or (λ k. test k ≡ true) ks i 0 below (AllPass-from_list_all test ks all)
 
 clear : (v a b : ℕ) → is_clear v a b ≡ true → (a + v ≤ b) ⊎ (b + v ≤ a)
 clear v a b h =
@@ -92,15 +76,6 @@ clear-at v (c ∷ cs) zero (suc j) all less below =
 clear-at v (c ∷ cs) (suc i) (suc j) all less below =
     let two = both_true (list_all (is_clear v c) cs) (are_clear v cs) all in
     clear-at v cs i j two.1 (omega (arith, less)) (omega (arith, below))
-
-pub from_at : (n : ℕ) (cs : List ℕ) (i : ℕ) → are_from n cs ≡ true → i < length cs → slice_index cs i ≡ n + i
-from_at n [] i all below = absurd (omega (arith, below))
-from_at n (c ∷ cs) zero all below =
-    let is = eqb-true c n (both_true (c == n) (are_from (n + 1) cs) all).0 in
-    omega (arith, is)
-from_at n (c ∷ cs) (suc i) all below =
-    let is = from_at (n + 1) cs i (both_true (c == n) (are_from (n + 1) cs) all).1 (omega (arith, below)) in
-    omega (arith, is)
 
 -- of v rounds that go on by s, no two stores meet
 abbrev pub AreSpread : ℕ → ℕ → List ℕ → Type 0
@@ -130,10 +105,7 @@ rows-spread v cs all l k i j low lower i_low j_low same =
 
 apart : (s l k i j : ℕ) → l < k → i < s → s * l + i ≡ s * k + j → ⊥
 apart s l k i j less low same =
-    let next : l + 1 ≤ k = omega (arith, less) in
-    let steps : s * (l + 1) ≤ s * k = mul-le-mul_left s next in
-    let out : s * (l + 1) ≡ s * l + s = omega arith in
-    omega (arith, steps, out, low, same)
+    let step = step_before s l k less in omega (arith, step, low, same)
 
 columns-spread : (v s : ℕ) (cs : List ℕ) → are_from 0 cs ≡ true → length cs ≤ s → AreSpread v s cs
 columns-spread v s cs all few l k i j low lower i_low j_low same =
@@ -149,52 +121,44 @@ columns-spread v s cs all few l k i j low lower i_low j_low same =
 pub constants_are : (ops : List PlainOp) → length (stored_constants ops) ≡ length (stores ops)
 constants_are [] = refl
 constants_are (Store array (Sum constant parts) r ∷ ops) = ap suc (constants_are ops)
-constants_are (Load r array place ∷ ops) = constants_are ops
-constants_are (Zero r ∷ ops) = constants_are ops
-constants_are (Add r x y ∷ ops) = constants_are ops
-constants_are (Sub r x y ∷ ops) = constants_are ops
-constants_are (Neg r x ∷ ops) = constants_are ops
-constants_are (MulConst r x factor ∷ ops) = constants_are ops
-constants_are (MulTable r x table place step ∷ ops) = constants_are ops
-constants_are (Tile r x ∷ ops) = constants_are ops
+constants_are (op ∷ ops) = constants_are ops
 
-tiles-spread : (v loop : ℕ) (to : Stored) (ops : List PlainOp) (c : Columns) → are_columns v loop to ops c ≡ true →
+columns-told : (v loop : ℕ) (to : Stored) (ops : List PlainOp) (c : Columns) → are_columns v loop to ops c ≡ true →
     AreSpread v (stride loop to.parts) (stored_constants ops)
-tiles-spread v loop to ops c h =
-    let m : ℕ = length c.turned in
-    let two = both_true ((length (stores ops) == m) && _) _ (both_true (are_tiles v loop to ops c) _ h).0 in
-    let one = both_true (are_from 0 (stored_constants ops)) _ two.1 in
-    let whole = eqb-true (length (stores ops)) m (both_true (length (stores ops) == m) _ two.0).0 in
-    let few = leb-true m (stride loop to.parts) (both_true (nat_le m (stride loop to.parts)) _ one.1).0 in
+columns-told v loop to ops c h =
+    let told = (columns_told v loop to ops c h).turned in
+    let many = told.many in
+    let apart = told.apart in
     let long = constants_are ops in
-    columns-spread v (stride loop to.parts) (stored_constants ops) one.0 (omega (arith, whole, few, long))
+    columns-spread v (stride loop to.parts) (stored_constants ops) told.from (omega (arith, many, apart, long))
 
-loaded-spread : (v loop : ℕ) (to : Stored) (ops : List PlainOp) (c : Columns) → are_loaded v loop to ops c ≡ true →
+loaded-told : (v loop : ℕ) (to : Stored) (ops : List PlainOp) (c : Columns) → are_loaded v loop to ops c ≡ true →
     AreSpread v (stride loop to.parts) (stored_constants ops)
-loaded-spread v loop to ops c h =
+loaded-told v loop to ops c h =
     from_loaded (AreSpread v (stride loop to.parts) (stored_constants ops)) v loop to ops c h (λ from m known.
-    tiles-spread v loop to ops (behind m c) known.columns)
+    columns-told v loop to ops (behind m c) known.columns)
+
+rows-told : (v loop : ℕ) (to : Stored) (ops : List PlainOp) → stride loop to.parts ≡ 1 →
+    are_clear v (stored_constants ops) ≡ true → AreSpread v (stride loop to.parts) (stored_constants ops)
+rows-told v loop to ops unit clear =
+    subst (λ s. AreSpread v s (stored_constants ops)) (sym unit) (rows-spread v (stored_constants ops) clear)
 
 pub spread : (v loop : ℕ) (to : Stored) (ops : List PlainOp) → can_lane v loop (Some to) ops ≡ true →
     AreSpread v (stride loop to.parts) (stored_constants ops)
-spread v loop to ops h = of_kind (kind_of v loop to ops h)
-  where
-    of_kind : IsOneOf v loop to ops → AreSpread v (stride loop to.parts) (stored_constants ops)
-    of_kind (InRows rows) =
-        let two = both_true (stride loop to.parts == 1) _ rows in
-        subst (λ s. AreSpread v s (stored_constants ops)) (sym (eqb-true (stride loop to.parts) 1 two.0))
-        (rows-spread v (stored_constants ops) (both_true (list_all (is_by_lane loop to) ops) _ two.1).1)
-    of_kind (InColumns plain) = tiles-spread v loop to ops (plain_columns ops) plain
-    of_kind (InFactoredColumns factored) =
-        tiles-spread v loop to ops (factored_columns ops)
-        (both_true (are_by v loop ops (first_factors (last_products ops))) _ factored).1
-    of_kind (InLoadedRows rows) =
-        from_loaded_rows (AreSpread v (stride loop to.parts) (stored_constants ops)) v loop to ops rows
-        (λ from m known.
-        subst (λ s. AreSpread v s (stored_constants ops)) (sym known.unit)
-        (rows-spread v (stored_constants ops) known.clear))
-    of_kind (InLoaded plain) = loaded-spread v loop to ops (plain_columns ops) plain
-    of_kind (InLoadedFactored by factored) = loaded-spread v loop to ops (factored_columns ops) factored
+spread v loop to ops h =
+    of_kinds (λ new. AreSpread v (stride loop to.parts) (stored_constants ops)) v 0 loop to ops h
+    (λ rows.
+    let two = both_true (stride loop to.parts == 1) _ rows in
+    rows-told v loop to ops (eqb-true (stride loop to.parts) 1 two.0)
+    (both_true (list_all (is_by_lane loop to) ops) _ two.1).1)
+    (λ plain. columns-told v loop to ops (plain_columns ops) plain)
+    (λ factored.
+    columns-told v loop to ops (factored_columns ops)
+    (both_true (are_by v loop ops (factored_columns ops).by) _ factored).1)
+    (λ rows. from_loaded_rows (AreSpread v (stride loop to.parts) (stored_constants ops)) v loop to ops rows
+    (λ from m known. rows-told v loop to ops known.unit known.clear))
+    (λ plain. loaded-told v loop to ops (plain_columns ops) plain)
+    (λ by factored. loaded-told v loop to ops (factored_columns ops) factored)
 
 -- ---- groups
 
@@ -215,7 +179,7 @@ pub of_group : (v : ℕ) (p : PlainProgram) (to : Stored) (ops : List PlainOp) (
     Contains (group_writes v p memory ops vs b q) w →
     IsOfGroup v p to ops vs b q memory w
 of_group v p to ops vs b q memory w linear is has =
-    let at = write_of (λ l. round_writes p memory ops (vs ++ (v * b + l) ∷ []) q) 0 v w has in
+    let at = of-loop (λ l. round_writes p memory ops (vs ++ (v * b + l) ∷ []) q) 0 v w has in
     let ws : List ℕ = vs ++ (v * b + at.round) ∷ [] in
     let zs : List ℕ = values_in v p memory ops vs b q at.round in
     let one = store_of (store_base p to ws q) zs (stored_constants ops) (stored_registers ops) w

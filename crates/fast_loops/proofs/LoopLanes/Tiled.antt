@@ -7,7 +7,7 @@ use Rattle.std.proofs.lemmas.List.Concat.{flat_map_single}
 use Rattle.ring_mod.specs.Residue.{product_mod}
 use Rattle.icode.specs.declared.action.Action.{Action}
 use Rattle.icode.specs.declared.action.Action.TheVariants.{Store, Mul, Tile}
-use Rattle.icode.specs.Actions.{actions_of, array_start, lane_factors, step_of}
+use Rattle.icode.specs.Actions.{array_start, lane_factors}
 use Rattle.icode.specs.Expression.{sum_numbers}
 use Rattle.icode.specs.Machine.{Local, effect, effects, whole_lines}
 use Rattle.icode.specs.Plain.{PlainOp, PlainProgram, Sum}
@@ -19,8 +19,9 @@ use Rattle.icode.proofs.CodeLaws.Tiles.{tile_by_lane, tile_elsewhere}
 use Rattle.fast_loops.specs.Places.{are_linear}
 use Rattle.fast_loops.specs.Rounds.{Stored}
 use Rattle.fast_loops.specs.LoopLanes.Columns.{Factors, row_at, tile_at}
-use Rattle.fast_loops.specs.LoopLanes.Layers.{Write, written, steps_at, on_lanes}
+use Rattle.fast_loops.specs.LoopLanes.Layers.{Write, written, on_lanes}
 use Rattle.fast_loops.proofs.LoopLanes.FrontHeld.{factor_of, factor_each}
+use Rattle.fast_loops.proofs.LoopLanes.RoundWrites.{acts_in, acts-append, entry_at}
 use Rattle.fast_loops.proofs.LoopLanes.RowsAre.{words_written}
 use Rattle.fast_loops.proofs.LoopLanes.Wide.{moved, moved_value}
 use Rattle.fast_loops.proofs.LoopLanes.Writes.{written-append}
@@ -83,9 +84,7 @@ module _ (v : ℕ) (p : PlainProgram) (to : Stored) (vs : List ℕ) (b q : ℕ) 
 
   -- of round l, the entry of column c
   abbrev pub entry_in : Factors → ℕ → ℕ → ℕ
-  entry_in by l c =
-      slice_index (slice_index_or p.tables by.table [])
-      (sum_numbers (Sum (by.constant + c) by.parts) (vs ++ (v * b + l) ∷ []) q).value
+  entry_in by l c = entry_at p (vs ++ (v * b + l) ∷ []) q by c
 
   -- and what is stored there
   abbrev pub stored_in : Option Factors → ℕ → ℕ → ℕ → ℕ
@@ -108,22 +107,26 @@ module _ (v : ℕ) (p : PlainProgram) (to : Stored) (vs : List ℕ) (b q : ℕ) 
 
   -- the actions of operations on the lanes
   abbrev pub wide_acts : List PlainOp → List Action
-  wide_acts ops = actions_of (steps_at (on_lanes v p) ops (vs ++ b ∷ []) q)
+  wide_acts ops = acts_in (on_lanes v p) (vs ++ b ∷ []) q ops
 
-  pub wide-append : (ops more : List PlainOp) → wide_acts (ops ++ more) ≡ wide_acts ops ++ wide_acts more
-  wide-append [] more = refl
-  wide-append (op ∷ ops) more =
-      ap (λ acts. (step_of (on_lanes v p) op (vs ++ b ∷ []) q).action ∷ acts) (wide-append ops more)
+  -- operations behind others
+  pub wide_follow : (ops more : List PlainOp) (s : Local) →
+      effects p.modulus v (wide_acts (ops ++ more)) s
+      ≡ effects p.modulus v (wide_acts more) (effects p.modulus v (wide_acts ops) s)
+  wide_follow ops more s =
+      ap (λ acts. effects p.modulus v acts s) (acts-append (on_lanes v p) (vs ++ b ∷ []) q ops more)
+      ∙ lists_follow p.modulus v (wide_acts ops) (wide_acts more) s
 
   wide-loop : (f : ℕ → List PlainOp) (g : ℕ → List Action) → ((n : ℕ) → wide_acts (f n) ≡ g n) → (ns : List ℕ) →
       wide_acts (flat_map f ns) ≡ flat_map g ns
   wide-loop f g h [] = refl
   wide-loop f g h (n ∷ ns) =
-      wide-append (f n) (flat_map f ns) ∙ ap₂ (λ acts more. acts ++ more) (h n) (wide-loop f g h ns)
+      acts-append (on_lanes v p) (vs ++ b ∷ []) q (f n) (flat_map f ns)
+      ∙ ap₂ (λ acts more. acts ++ more) (h n) (wide-loop f g h ns)
 
   module _ (linear : are_linear 0 to.parts ≡ true) where
     -- the word of a lane of the row
-    word-at : (k l i : ℕ) →
+    pub word-at : (k l i : ℕ) →
         array_start (whole_lines p.size p.line) to.array
         + (sum_numbers (moved v (length vs) k to.parts l) (vs ++ b ∷ []) q).value
         + i

@@ -1,6 +1,6 @@
 -- Rows of tiles, products of these, and loads, touch words that the rounds touch, and fit.
 use Rattle.std.proofs.Common.{◌≡◌, ℕ, ◌+◌, ◌-◌, ◌*◌, ◌^◌, ◌<◌, ◌≤◌, true, List, [], ◌∷◌, ◌++◌, All, Contains, length}
-use Rattle.std.proofs.Common.{refl, ap, ◌∙◌, subst, arith, inl, inr}
+use Rattle.std.proofs.Common.{◌⊎◌, refl, ap, ◌∙◌, subst, arith}
 use Rattle.std.specs.Prelude.{slice_index, slice_index_or}
 use Rattle.std.specs.List.{range_with_len}
 use Rattle.icode.specs.declared.program.Array.{Array}
@@ -10,21 +10,19 @@ use Rattle.icode.specs.Machine.{whole_lines}
 use Rattle.icode.specs.Plain.{PlainParts, PlainOp, PlainProgram, Sum, Load, Store, MulTable, Tile}
 use Rattle.icode.proofs.Lines.{Contains-nil}
 use Rattle.fast_loops.specs.Places.{are_linear}
-use Rattle.fast_loops.specs.Rounds.{Stored, same_array}
+use Rattle.fast_loops.specs.Rounds.{Stored}
 use Rattle.fast_loops.specs.LoopLanes.Columns.{Factors}
 use Rattle.fast_loops.specs.LoopLanes.Layers.{group_at}
 use Rattle.fast_loops.specs.LoopLanes.Loads.{Loaded}
-use Rattle.fast_loops.proofs.LoopLanes.Arrays.{same_start}
 use Rattle.fast_loops.proofs.LoopLanes.Covered.{IsInGroup, in_group}
-use Rattle.fast_loops.proofs.LoopLanes.FrontCovered.{Covered, factors_fit, factor_fits, lane_word, no_steps, one_word}
+use Rattle.fast_loops.proofs.LoopLanes.FrontCovered.{Covered, factors_fit, factor_fits, no_steps, silent}
+use Rattle.fast_loops.proofs.LoopLanes.FrontCovered.{words_of_lanes}
 use Rattle.fast_loops.proofs.LoopLanes.Wide.{moved, moved_value, moved_peak}
 
 -- the rounds store into the word of this constant
 pub record IsStored (to : Stored) (ops : List PlainOp) (constant : ℕ) : Type 0 where
-  pub array : Array
   pub register : ℕ
-  pub into : same_array array to.array ≡ true
-  pub has : Contains ops (Store array (Sum constant to.parts) register)
+  pub has : Contains ops (Store to.array (Sum constant to.parts) register)
 
 -- the rounds multiply by the entry of this number
 pub record IsMultiplied (by : Factors) (ops : List PlainOp) (k : ℕ) : Type 0 where
@@ -72,62 +70,38 @@ module _ (v : ℕ) (p : PlainProgram) (ops : List PlainOp) (vs : List ℕ) (b q 
 
   -- ---- tiles
 
-  pub tile_covered : (r x : ℕ) → r + v ≤ 3 * p.regs → x + v ≤ r → IsCovered (Tile r x)
-  tile_covered r x room before =
-      record {
-        stored = λ k h. absurd (Contains-nil k h);
-        touched = λ k h. absurd (Contains-nil k h);
-        fits =
-            record {
-              numbers = omega arith;
-              place = omega arith;
-              registers = (room, omega (arith, room, before), inr before);
-              factors = tt;
-            };
-      }
-
-  pub load_tile_covered : (r x : ℕ) → x + v ≤ 3 * p.regs → r + v ≤ x → IsCovered (Tile r x)
-  load_tile_covered r x room before =
-      record {
-        stored = λ k h. absurd (Contains-nil k h);
-        touched = λ k h. absurd (Contains-nil k h);
-        fits =
-            record {
-              numbers = omega arith;
-              place = omega arith;
-              registers = (omega (arith, room, before), room, inl before);
-              factors = tt;
-            };
-      }
+  pub tile_covered : (r x : ℕ) → r + v ≤ 3 * p.regs → x + v ≤ 3 * p.regs → (r + v ≤ x) ⊎ (x + v ≤ r) →
+      IsCovered (Tile r x)
+  tile_covered r x room more apart =
+      silent v p ops vs b q some alone fits (Tile r x) refl refl
+      (record { numbers = omega arith; place = omega arith; registers = (room, more, apart); factors = tt })
 
   -- ---- rows
 
-  -- words from a constant on, in a round
+  -- words of an array from a constant on, in a round
+  module _ (array : Array) (parts : PlainParts) (linear : are_linear 0 parts ≡ true) (constant l : ℕ) where
+    abbrev place_of : ℕ → ℕ
+    place_of i = (sum_numbers (Sum (constant + i) parts) (vs ++ (v * b + l) ∷ []) q).value
+
+    words_of_row : (P : ℕ → Type 0) →
+        ((i : ℕ) → i < v → (k : ℕ) → Contains (range_with_len (array_start words array + place_of i) 1) k → P k) →
+        (k : ℕ) → Contains (range_with_len (array_start words array + place_at constant parts l) v) k → P k
+    words_of_row P =
+        words_of_lanes P v (array_start words array + place_at constant parts l)
+        (λ i. array_start words array + place_of i) (λ i. omega (arith, place_behind constant i parts l linear))
+
   module _ (to : Stored) (linear : are_linear 0 to.parts ≡ true) (constant : ℕ) (each : (i : ℕ) → i < v →
       IsStored to ops (constant + i))
       (l : ℕ) (low : l < v) where
-    abbrev place_of : ℕ → ℕ
-    place_of i = (sum_numbers (Sum (constant + i) to.parts) (vs ++ (v * b + l) ∷ []) q).value
-
-    words_at_row : (P : ℕ → Type 0) →
-        ((i : ℕ) (lt : i < v) (k : ℕ) →
-        Contains (range_with_len (array_start words (each i lt).array + place_of i) 1) k → P k) →
-        (k : ℕ) → Contains (range_with_len (array_start words to.array + place_at constant to.parts l) v) k → P k
-    words_at_row P old k h =
-        let at = lane_word (array_start words to.array + place_at constant to.parts l) v k h in
-        let start = same_start words (each at.lane at.low).array to.array (each at.lane at.low).into in
-        let there = at.there in
-        old at.lane at.low k
-        (one_word (array_start words (each at.lane at.low).array + place_of at.lane) k
-        (omega (arith, there, start, place_behind constant at.lane to.parts l linear)))
-
     pub row_covered : (r : ℕ) → r < 3 * p.regs → IsCovered (Store to.array (moved v loop constant to.parts l) r)
     row_covered r small =
         let last : v - 1 < v = omega (arith, some) in
         let end = ((known _ (each (v - 1) last).has).fits l low).place in
         record {
-          stored = words_at_row _ (λ i lt. (known _ (each i lt).has).stored l low);
-          touched = words_at_row _ (λ i lt. (known _ (each i lt).has).touched l low);
+          stored =
+              words_of_row to.array to.parts linear constant l _ (λ i lt. (known _ (each i lt).has).stored l low);
+          touched =
+              words_of_row to.array to.parts linear constant l _ (λ i lt. (known _ (each i lt).has).touched l low);
           fits =
               record {
                 numbers =
@@ -141,24 +115,16 @@ module _ (v : ℕ) (p : PlainProgram) (ops : List PlainOp) (vs : List ℕ) (b q 
 
   -- ---- loads of tiles
 
-  -- words from a constant on, in a round
   module _ (from : Loaded) (linear : are_linear 0 from.parts ≡ true) (constant : ℕ) (each : (i : ℕ) → i < v →
       Contains ops (Load (constant + i) from.array (Sum (constant + i) from.parts))) (l : ℕ) (low : l < v) where
-    abbrev place_of_word : ℕ → ℕ
-    place_of_word i = (sum_numbers (Sum (constant + i) from.parts) (vs ++ (v * b + l) ∷ []) q).value
-
     pub load_covered : (r : ℕ) → r < 3 * p.regs → IsCovered (Load r from.array (moved v loop constant from.parts l))
     load_covered r small =
         let last : v - 1 < v = omega (arith, some) in
         let end = ((known _ (each (v - 1) last)).fits l low).place in
         record {
           stored = λ k h. absurd (Contains-nil k h);
-          touched = λ k h.
-              let at = lane_word (array_start words from.array + place_at constant from.parts l) v k h in
-              let there = at.there in
-              (known _ (each at.lane at.low)).touched l low k
-              (one_word (array_start words from.array + place_of_word at.lane) k
-              (omega (arith, there, place_behind constant at.lane from.parts l linear)));
+          touched =
+              words_of_row from.array from.parts linear constant l _ (λ i lt. (known _ (each i lt)).touched l low);
           fits =
               record {
                 numbers =
@@ -200,27 +166,24 @@ module _ (v : ℕ) (p : PlainProgram) (ops : List PlainOp) (vs : List ℕ) (b q 
         let last : v - 1 < v = omega (arith, some) in
         let end = ((known _ (each (v - 1) last).has).fits l low).place in
         let first = entry_fits 0 some in
-        record {
-          stored = λ k h. absurd (Contains-nil k h);
-          touched = λ k h. absurd (Contains-nil k h);
-          fits =
-              record {
-                numbers =
-                    peak_at (by.constant + k) (by.constant + (k + 0)) by.parts l linear (omega arith)
-                    ((known _ (each 0 some).has).fits l low).numbers;
-                place =
-                    reached (place_of_entry (v - 1)) (place_at (by.constant + k) by.parts l)
-                    (each (v - 1) last).step p.lanes (length entries)
-                    (entry_behind (v - 1)) end;
-                registers = (small, small);
-                factors =
-                    factors_fit p.modulus v
-                    (λ lane. slice_index entries (place_at (by.constant + k) by.parts l + 1 * lane))
-                    (omega (arith, first))
-                    (λ i lt. subst (λ at. slice_index entries at < p.modulus)
-                    (entry_behind i ∙ by_one (place_at (by.constant + k) by.parts l) i) (entry_fits i lt));
-              };
-        }
+        silent v p ops vs b q some alone fits (MulTable r r by.table (moved v loop (by.constant + k) by.parts l) 1)
+        refl refl
+        (record {
+          numbers =
+              peak_at (by.constant + k) (by.constant + (k + 0)) by.parts l linear (omega arith)
+              ((known _ (each 0 some).has).fits l low).numbers;
+          place =
+              reached (place_of_entry (v - 1)) (place_at (by.constant + k) by.parts l)
+              (each (v - 1) last).step p.lanes (length entries)
+              (entry_behind (v - 1)) end;
+          registers = (small, small);
+          factors =
+              factors_fit p.modulus v
+              (λ lane. slice_index entries (place_at (by.constant + k) by.parts l + 1 * lane))
+              (omega (arith, first))
+              (λ i lt. subst (λ at. slice_index entries at < p.modulus)
+              (entry_behind i ∙ by_one (place_at (by.constant + k) by.parts l) i) (entry_fits i lt));
+        })
       where
         by_one : (a i : ℕ) → a + i ≡ a + 1 * i
         by_one a i = omega arith

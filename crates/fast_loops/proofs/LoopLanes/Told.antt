@@ -1,78 +1,34 @@
 -- What the tests of lanes tell of the operations of rounds.
 use Rattle.std.proofs.Common.{◌≡◌, ℕ, zero, suc, ◌+◌, ◌<◌, ◌≤◌, true, false, List, [], ◌∷◌, ◌++◌, take, drop, All, Some}
-use Rattle.std.proofs.Common.{None, Option, refl, sym, ap, ap₂, ◌∙◌, subst, arith, inl, inr, ⊎_elim, take-append-drop}
+use Rattle.std.proofs.Common.{None, Option, refl, sym, ap, ap₂, ◌∙◌, subst, arith, ⊎_elim, take-append-drop}
 use Rattle.std.specs.Prelude.{◌==◌, slice_index}
 use Rattle.std.specs.List.{list_all}
-use Rattle.std.proofs.lemmas.Bool.{not-true, or_cases}
+use Rattle.std.proofs.lemmas.Bool.{not-true}
 use Rattle.std.proofs.lemmas.List.Elements.{All-head, All-tail}
 use Rattle.icode.specs.declared.program.Array.{Array}
 use Rattle.icode.specs.Actions.{Step, StepFits, actions_of, array_start, step_of, steps_of_body}
 use Rattle.icode.specs.Expression.{sum_numbers, parts_numbers}
 use Rattle.icode.specs.Machine.{whole_lines}
-use Rattle.icode.specs.Plain.{PlainOp, PlainProgram, Sum, Load, Store, Zero, Add, Sub, Neg, MulConst, MulTable, Tile}
+use Rattle.icode.specs.Plain.{PlainOp, PlainProgram, Sum, Load, Store, Zero, MulTable, Tile}
 use Rattle.icode.proofs.Bools.{both_true}
-use Rattle.fast_loops.specs.Places.{are_linear, stride, same_parts}
+use Rattle.fast_loops.specs.Places.{stride, same_parts}
 use Rattle.fast_loops.specs.Rounds.{Stored, same_array, are_fresh}
 use Rattle.fast_loops.proofs.Acts.{IsRound}
 use Rattle.fast_loops.proofs.Linear.{wrong}
 use Rattle.fast_loops.proofs.Rows.{round_acts}
 use Rattle.fast_loops.specs.LoopLanes.Rounds.{straight, is_by_lane, stores, others, stored_registers, stored_constants}
-use Rattle.fast_loops.specs.LoopLanes.Rounds.{are_rows}
-use Rattle.fast_loops.specs.LoopLanes.Columns.{Columns, Factors, plain_columns, factored_columns, first_factors}
-use Rattle.fast_loops.specs.LoopLanes.Columns.{front_length, last_products, are_products, are_by, are_tiles}
-use Rattle.fast_loops.specs.LoopLanes.Columns.{are_columns, are_plain_columns, are_factored_columns}
-use Rattle.fast_loops.specs.LoopLanes.Lanes.{can_by_lane, can_lane}
-use Rattle.fast_loops.specs.LoopLanes.Loads.{Loaded, behind, can_load, are_loaded_rows, are_loaded}
+use Rattle.fast_loops.specs.LoopLanes.Columns.{Columns, Factors, plain_columns, factored_columns, front_length}
+use Rattle.fast_loops.specs.LoopLanes.Columns.{last_products, are_products, are_by, are_columns}
+use Rattle.fast_loops.specs.LoopLanes.Lanes.{can_lane}
+use Rattle.fast_loops.specs.LoopLanes.Loads.{Loaded, behind, are_loaded}
 use Rattle.fast_loops.specs.LoopLanes.Layers.{Write, steps_at, writes_of}
 use Rattle.fast_loops.proofs.LoopLanes.Arrays.{IsOutside, same_start, other_outside}
+use Rattle.fast_loops.proofs.LoopLanes.ColumnsAre.{columns_told, by_told}
+use Rattle.fast_loops.proofs.LoopLanes.Kinds.{of_kinds}
 use Rattle.fast_loops.proofs.LoopLanes.LoadedRow.{row}
-use Rattle.fast_loops.proofs.LoopLanes.LoadsTold.{from_loaded_rows, from_loaded}
+use Rattle.fast_loops.proofs.LoopLanes.LoadsTold.{IsRow, from_loaded_rows, from_loaded}
 use Rattle.fast_loops.proofs.LoopLanes.Orders.{parts_same}
 use Rattle.fast_loops.proofs.LoopLanes.OneLane.{IsPlaced, ArePlaced, IsLaneRound}
-
--- ---- kinds of rounds
-
-pub data IsOneOf (v loop : ℕ) (to : Stored) (ops : List PlainOp) : Type 0 where
-  InRows : are_rows v loop to ops ≡ true → IsOneOf v loop to ops
-  InColumns : are_plain_columns v loop to ops ≡ true → IsOneOf v loop to ops
-  InFactoredColumns : are_factored_columns v loop to ops ≡ true → IsOneOf v loop to ops
-  InLoadedRows : are_loaded_rows v loop to ops ≡ true → IsOneOf v loop to ops
-  InLoaded : are_loaded v loop to ops (plain_columns ops) ≡ true → IsOneOf v loop to ops
-  InLoadedFactored :
-      are_by v loop ops (factored_columns ops).by ≡ true → are_loaded v loop to ops (factored_columns ops) ≡ true →
-      IsOneOf v loop to ops
-
-lane_kind : (v loop : ℕ) (to : Stored) (ops : List PlainOp) → can_by_lane v loop to ops ≡ true → IsOneOf v loop to ops
-lane_kind v loop to ops h =
-    elim (or_cases (are_rows v loop to ops) _ h) [
-      | inl rows ↦ InRows rows
-      | inr columns ↦
-          elim (or_cases (are_plain_columns v loop to ops) (are_factored_columns v loop to ops) columns) [
-            | inl plain ↦ InColumns plain
-            | inr factored ↦ InFactoredColumns factored
-          ]
-    ]
-
-loaded_kind : (v loop : ℕ) (to : Stored) (ops : List PlainOp) → can_load v loop to ops ≡ true → IsOneOf v loop to ops
-loaded_kind v loop to ops h =
-    elim (or_cases (are_loaded_rows v loop to ops) _ h) [
-      | inl rows ↦ InLoadedRows rows
-      | inr columns ↦
-          elim (or_cases (are_loaded v loop to ops (plain_columns ops)) _ columns) [
-            | inl plain ↦ InLoaded plain
-            | inr factored ↦
-                let two =
-                both_true (are_by v loop ops (factored_columns ops).by) _ factored in InLoadedFactored two.0 two.1
-          ]
-    ]
-
-pub kind_of : (v loop : ℕ) (to : Stored) (ops : List PlainOp) →
-    can_lane v loop (Some to) ops ≡ true → IsOneOf v loop to ops
-kind_of v loop to ops h =
-    elim (or_cases (can_by_lane v loop to ops) (can_load v loop to ops) (both_true (are_linear 0 to.parts) _ h).1) [
-      | inl by_lane ↦ lane_kind v loop to ops by_lane
-      | inr loads ↦ loaded_kind v loop to ops loads
-    ]
 
 -- ---- what holds of operations of all kinds
 
@@ -80,13 +36,8 @@ kind_of v loop to ops h =
 abbrev pub IsTold : Stored → PlainOp → Type 0
 IsTold to (Load r array place) = same_array array to.array ≡ false
 IsTold to (Store array (Sum constant parts) r) = (same_array array to.array ≡ true) × (parts ≡ to.parts)
-IsTold to (Zero r) = Unit {0}
-IsTold to (Add r x y) = Unit {0}
-IsTold to (Sub r x y) = Unit {0}
-IsTold to (Neg r x) = Unit {0}
-IsTold to (MulConst r x factor) = Unit {0}
-IsTold to (MulTable r x table place step) = Unit {0}
 IsTold to (Tile r x) = ⊥
+IsTold to op = Unit {0}
 
 abbrev pub AreTold : Stored → List PlainOp → Type 0
 AreTold to [] = Unit {0}
@@ -97,13 +48,8 @@ told-op loop to (Load r array place) h = not-true (same_array array to.array) (b
 told-op loop to (Store array (Sum constant parts) r) h =
     let two = both_true (same_array array to.array) (same_parts parts to.parts) h in
     (two.0, parts_same parts to.parts two.1)
-told-op loop to (Zero r) h = tt
-told-op loop to (Add r x y) h = tt
-told-op loop to (Sub r x y) h = tt
-told-op loop to (Neg r x) h = tt
-told-op loop to (MulConst r x factor) h = tt
-told-op loop to (MulTable r x table place step) h = tt
 told-op loop to (Tile r x) h = wrong h
+told-op loop to op h = tt
 
 told-all : (loop : ℕ) (to : Stored) (ops : List PlainOp) → list_all (is_by_lane loop to) ops ≡ true → AreTold to ops
 told-all loop to [] h = tt
@@ -115,13 +61,8 @@ told-split : (to : Stored) (ops : List PlainOp) → AreTold to (stores ops) → 
 told-split to [] s o = tt
 told-split to (Load r array place ∷ ops) s o = (o.0, told-split to ops s o.1)
 told-split to (Store array place r ∷ ops) s o = (s.0, told-split to ops s.1 o)
-told-split to (Zero r ∷ ops) s o = (tt, told-split to ops s o.1)
-told-split to (Add r x y ∷ ops) s o = (tt, told-split to ops s o.1)
-told-split to (Sub r x y ∷ ops) s o = (tt, told-split to ops s o.1)
-told-split to (Neg r x ∷ ops) s o = (tt, told-split to ops s o.1)
-told-split to (MulConst r x factor ∷ ops) s o = (tt, told-split to ops s o.1)
-told-split to (MulTable r x table place step ∷ ops) s o = (tt, told-split to ops s o.1)
 told-split to (Tile r x ∷ ops) s o = absurd o.0
+told-split to (op ∷ ops) s o = (tt, told-split to ops s o.1)
 
 told-append : (to : Stored) (xs ys : List PlainOp) → AreTold to xs → AreTold to ys → AreTold to (xs ++ ys)
 told-append to [] ys h k = k
@@ -139,63 +80,59 @@ told-by : (v loop : ℕ) (to : Stored) (ops : List PlainOp) (by : Option Factors
 told-by v loop to ops None h = wrong h
 told-by v loop to ops (Some by) h =
     told-products to by (front_length ops) 0 (last_products ops)
-    (both_true (are_products by (front_length ops) 0 (last_products ops)) _ (both_true _ _ h).1).0
+    (by_told v loop ops by h).products
 
 told-row : (to : Stored) (from : Loaded) (k n : ℕ) → same_array from.array to.array ≡ false → AreTold to (row from k n)
 told-row to from k zero other = tt
 told-row to from k (suc n) other = (other, told-row to from (k + 1) n other)
 
--- the tests of stores and of the front of columns
-by-lanes : (v loop : ℕ) (to : Stored) (ops : List PlainOp) (c : Columns) → are_columns v loop to ops c ≡ true →
-    (list_all (is_by_lane loop to) (stores ops) ≡ true) × (list_all (is_by_lane loop to) c.front ≡ true)
-by-lanes v loop to ops c h =
-    let two = both_true (list_all (is_by_lane loop to) (stores ops)) _ (both_true (are_tiles v loop to ops c) _ h).1 in
-    (two.0, (both_true (list_all (is_by_lane loop to) c.front) _ two.1).0)
+-- operations that begin with a row that is loaded
+told-behind : (v loop : ℕ) (to : Stored) (front : List PlainOp) (from : Loaded) (m : ℕ) → IsRow v loop to front from m →
+    list_all (is_by_lane loop to) (drop m front) ≡ true → AreTold to front
+told-behind v loop to front from m first by_lane =
+    subst (AreTold to) (sym first.row)
+    (told-append to (row from 0 m) (drop m front) (told-row to from 0 m first.other)
+    (told-all loop to (drop m front) by_lane))
 
--- a row that is loaded, and what is by lane
-loaded-front : (v loop : ℕ) (to : Stored) (ops : List PlainOp) (c : Columns) → are_loaded v loop to ops c ≡ true →
+-- stores, and what stands before the tiles of columns
+told-columns : (v loop : ℕ) (to : Stored) (ops : List PlainOp) (c : Columns) → are_columns v loop to ops c ≡ true →
     AreTold to (stores ops) × AreTold to c.front
-loaded-front v loop to ops c h =
+told-columns v loop to ops c h =
+    let told = columns_told v loop to ops c h in
+    (told-all loop to (stores ops) told.turned.stores_by_lane, told-all loop to c.front told.front_by_lane)
+
+told-loaded : (v loop : ℕ) (to : Stored) (ops : List PlainOp) (c : Columns) → are_loaded v loop to ops c ≡ true →
+    AreTold to (stores ops) × AreTold to c.front
+told-loaded v loop to ops c h =
     from_loaded (AreTold to (stores ops) × AreTold to c.front) v loop to ops c h (λ from m known.
-    let two = by-lanes v loop to ops (behind m c) known.columns in (
-      told-all loop to (stores ops) two.0,
-      subst (AreTold to) (sym known.first.row)
-          (told-append to (row from 0 m) (drop m c.front) (told-row to from 0 m known.first.other)
-          (told-all loop to (drop m c.front) two.1)),
+    let told = columns_told v loop to ops (behind m c) known.columns in (
+      told-all loop to (stores ops) told.turned.stores_by_lane,
+      told-behind v loop to c.front from m known.first told.front_by_lane,
     ))
 
+-- those of factored columns, and the products
+told-factored : (v loop : ℕ) (to : Stored) (ops : List PlainOp) → are_by v loop ops (factored_columns ops).by ≡ true →
+    AreTold to (stores ops) × AreTold to (factored_columns ops).front → AreTold to ops
+told-factored v loop to ops by two =
+    told-split to ops two.0
+    (subst (AreTold to) (take-append-drop (front_length ops) (others ops))
+    (told-append to (take (front_length ops) (others ops)) (last_products ops) two.1
+    (told-by v loop to ops (factored_columns ops).by by)))
+
 pub told : (v loop : ℕ) (to : Stored) (ops : List PlainOp) → can_lane v loop (Some to) ops ≡ true → AreTold to ops
-told v loop to ops h = of_kind (kind_of v loop to ops h)
-  where
-    of_kind : IsOneOf v loop to ops → AreTold to ops
-    of_kind (InRows rows) =
-        let two = both_true (stride loop to.parts == 1) _ rows in
-        told-all loop to ops (both_true (list_all (is_by_lane loop to) ops) _ two.1).0
-    of_kind (InColumns plain) =
-        let two = by-lanes v loop to ops (plain_columns ops) plain in
-        told-split to ops (told-all loop to (stores ops) two.0) (told-all loop to (others ops) two.1)
-    of_kind (InFactoredColumns factored) =
-        let both = both_true (are_by v loop ops (first_factors (last_products ops))) _ factored in
-        let two = by-lanes v loop to ops (factored_columns ops) both.1 in
-        told-split to ops
-        (told-all loop to (stores ops) two.0)
-        (subst (AreTold to) (take-append-drop (front_length ops) (others ops))
-        (told-append to (take (front_length ops) (others ops)) (last_products ops)
-        (told-all loop to (take (front_length ops) (others ops)) two.1)
-        (told-by v loop to ops (first_factors (last_products ops)) both.0)))
-    of_kind (InLoadedRows rows) =
-        from_loaded_rows (AreTold to ops) v loop to ops rows (λ from m known.
-        subst (AreTold to) (sym known.first.row)
-        (told-append to (row from 0 m) (drop m ops) (told-row to from 0 m known.first.other)
-        (told-all loop to (drop m ops) known.by_lane)))
-    of_kind (InLoaded plain) =
-        let two = loaded-front v loop to ops (plain_columns ops) plain in told-split to ops two.0 two.1
-    of_kind (InLoadedFactored by factored) =
-        let two = loaded-front v loop to ops (factored_columns ops) factored in
-        told-split to ops two.0
-        (subst (AreTold to) (take-append-drop (front_length ops) (others ops))
-        (told-append to (take (front_length ops) (others ops)) (last_products ops) two.1
-        (told-by v loop to ops (factored_columns ops).by by)))
+told v loop to ops h =
+    of_kinds (λ new. AreTold to ops) v 0 loop to ops h
+    (λ rows.
+    told-all loop to ops
+    (both_true (list_all (is_by_lane loop to) ops) _ (both_true (stride loop to.parts == 1) _ rows).1).0)
+    (λ plain. let two = told-columns v loop to ops (plain_columns ops) plain in told-split to ops two.0 two.1)
+    (λ factored.
+    let two = both_true (are_by v loop ops (factored_columns ops).by) _ factored in
+    told-factored v loop to ops two.0 (told-columns v loop to ops (factored_columns ops) two.1))
+    (λ rows. from_loaded_rows (AreTold to ops) v loop to ops rows (λ from m known.
+    told-behind v loop to ops from m known.first known.by_lane))
+    (λ plain. let two = told-loaded v loop to ops (plain_columns ops) plain in told-split to ops two.0 two.1)
+    (λ by factored. told-factored v loop to ops by (told-loaded v loop to ops (factored_columns ops) factored))
 
 -- ---- arrays
 
@@ -233,12 +170,8 @@ placed-op p to (Store array (Sum constant parts) r) ws q alone is fits =
     let start = same_start words array to.array is.0 in
     (omega (arith, start), omega (arith, start, room, alone))
 placed-op p to (Zero r) ws q alone is fits = fits.registers
-placed-op p to (Add r x y) ws q alone is fits = fits.registers.0
-placed-op p to (Sub r x y) ws q alone is fits = fits.registers.0
-placed-op p to (Neg r x) ws q alone is fits = fits.registers.0
-placed-op p to (MulConst r x factor) ws q alone is fits = fits.registers.0
-placed-op p to (MulTable r x table place step) ws q alone is fits = fits.registers.0
 placed-op p to (Tile r x) ws q alone is fits = absurd is
+placed-op p to op ws q alone is fits = fits.registers.0
 
 placed-ops : (p : PlainProgram) (to : Stored) (ops : List PlainOp) (ws : List ℕ) (q : ℕ) →
     p.lanes ≡ 1 → AreTold to ops → All (StepFits p) (steps_at p ops ws q) →
@@ -294,11 +227,5 @@ writes_are p to (Store array (Sum constant parts) r ∷ ops) ws q zs is =
     ap₂ (λ (k : ℕ) (more : List Write). record { word = k; value = slice_index zs r } ∷ more)
     there
     (writes_are p to ops ws q zs is.1)
-writes_are p to (Load r array place ∷ ops) ws q zs is = writes_are p to ops ws q zs is.1
-writes_are p to (Zero r ∷ ops) ws q zs is = writes_are p to ops ws q zs is.1
-writes_are p to (Add r x y ∷ ops) ws q zs is = writes_are p to ops ws q zs is.1
-writes_are p to (Sub r x y ∷ ops) ws q zs is = writes_are p to ops ws q zs is.1
-writes_are p to (Neg r x ∷ ops) ws q zs is = writes_are p to ops ws q zs is.1
-writes_are p to (MulConst r x factor ∷ ops) ws q zs is = writes_are p to ops ws q zs is.1
-writes_are p to (MulTable r x table place step ∷ ops) ws q zs is = writes_are p to ops ws q zs is.1
 writes_are p to (Tile r x ∷ ops) ws q zs is = absurd is.0
+writes_are p to (op ∷ ops) ws q zs is = writes_are p to ops ws q zs is.1

@@ -1,44 +1,25 @@
 -- Columns that are written tile by tile are those that are written round by round, in another order.
-use Rattle.std.proofs.Common.{◌≡◌, ℕ, zero, suc, ◌+◌, ◌*◌, ◌/◌, ◌%◌, ◌<◌, ◌≤◌, List, map, flat_map, refl, sym, ap, ◌∙◌}
+use Rattle.std.proofs.Common.{◌≡◌, ℕ, zero, suc, ◌+◌, ◌*◌, ◌/◌, ◌%◌, ◌<◌, ◌≤◌, List, map, flat_map, refl, ap, ◌∙◌}
 use Rattle.std.proofs.Common.{arith, subst, ⊎_elim, Contains, mul-le-mul_left, mul_comm}
 use Rattle.std.specs.List.{range_with_len}
-use Rattle.std.proofs.Math.Nat.{eq-or-lt_of_le}
 use Rattle.std.proofs.lemmas.Bool.{cases_lt}
-use Rattle.std.proofs.lemmas.List.Elements.{Contains-append_left, Contains-append_right, Contains-append_cases}
 use Rattle.icode.proofs.Lines.{Contains-map, Contains-nil, Contains-range}
 use Rattle.fast_loops.specs.LoopLanes.Layers.{Write, IsAfter, written}
+use Rattle.fast_loops.proofs.Changes.{in-loop, of-loop}
+use Rattle.fast_loops.proofs.LoopLanes.Made.{tile_within}
 
 -- ---- items of loops
 
-pub map_has : {X : Type 0} (f : ℕ → X) (j n i : ℕ) → j ≤ i → i < j + n → Contains (map f (range_with_len j n)) (f i)
+map_has : {X : Type 0} (f : ℕ → X) (j n i : ℕ) → j ≤ i → i < j + n → Contains (map f (range_with_len j n)) (f i)
 map_has f j n i from to = Contains-map f (range_with_len j n) i (Contains-range n j i from to)
 
-pub map_item : {X : Type 0} (f : ℕ → X) (j n : ℕ) (x : X) → Contains (map f (range_with_len j n)) x →
+map_item : {X : Type 0} (f : ℕ → X) (j n : ℕ) (x : X) → Contains (map f (range_with_len j n)) x →
     (i : ℕ) × (j ≤ i) × (i < j + n) × (f i ≡ x)
 map_item f j zero x h = absurd (Contains-nil x h)
 map_item f j (suc n) x (zero, lt, e) = (j, omega arith, omega arith, e)
 map_item f j (suc n) x (suc k, lt, e) =
     let more =
     map_item f (j + 1) n x (k, omega arith, e) in (more.0, omega (arith, more.1), omega (arith, more.2), more.3)
-
-pub loop_has : {X : Type 0} (f : ℕ → List X) (j n i : ℕ) (x : X) → j ≤ i → i < j + n → Contains (f i) x →
-    Contains (flat_map f (range_with_len j n)) x
-loop_has f j zero i x from to h = absurd (omega arith)
-loop_has f j (suc n) i x from to h =
-    ⊎_elim
-    (λ (e : j ≡ i). Contains-append_left (f j) _ x (subst (λ k. Contains (f k) x) (sym e) h))
-    (λ (less : j < i). Contains-append_right (f j) _ x (loop_has f (j + 1) n i x (omega arith) (omega arith) h))
-    (eq-or-lt_of_le from)
-
-pub loop_item : {X : Type 0} (f : ℕ → List X) (j n : ℕ) (x : X) → Contains (flat_map f (range_with_len j n)) x →
-    (i : ℕ) × (j ≤ i) × (i < j + n) × Contains (f i) x
-loop_item f j zero x h = absurd (Contains-nil x h)
-loop_item f j (suc n) x h =
-    ⊎_elim
-    (λ (here : Contains (f j) x). (j, omega arith, omega arith, here))
-    (λ (later : Contains (flat_map f (range_with_len (j + 1) n)) x).
-    let more = loop_item f (j + 1) n x later in (more.0, omega (arith, more.1), omega (arith, more.2), more.3))
-    (Contains-append_cases (f j) _ x h)
 
 -- ---- m columns of v rounds
 
@@ -55,14 +36,14 @@ module _ (v m : ℕ) (w : ℕ → ℕ → Write) where
 
   round_has : (l c : ℕ) → l < v → c < m → Contains by_rounds (w l c)
   round_has l c low below =
-      loop_has (λ l. map (w l) (range_with_len 0 m)) 0 v l (w l c) (omega arith) (omega arith)
+      in-loop (λ l. map (w l) (range_with_len 0 m)) 0 v l (w l c) (omega arith) (omega arith)
       (map_has (w l) 0 m c (omega arith) (omega arith))
 
   tile_has : (g l i : ℕ) → g < m / v → l < v → i < v → Contains by_tiles (w l (g * v + i))
   tile_has g l i few low below =
-      loop_has (λ g. flat_map (λ l. map (λ i. w l (g * v + i)) (range_with_len 0 v)) (range_with_len 0 v)) 0
+      in-loop (λ g. flat_map (λ l. map (λ i. w l (g * v + i)) (range_with_len 0 v)) (range_with_len 0 v)) 0
       (m / v) g (w l (g * v + i)) (omega arith) (omega arith)
-      (loop_has (λ l. map (λ i. w l (g * v + i)) (range_with_len 0 v)) 0
+      (in-loop (λ l. map (λ i. w l (g * v + i)) (range_with_len 0 v)) 0
       v l (w l (g * v + i)) (omega arith) (omega arith)
       (map_has (λ i. w l (g * v + i)) 0 v i (omega arith) (omega arith)))
 
@@ -73,22 +54,25 @@ module _ (v m : ℕ) (w : ℕ → ℕ → Write) where
         is = refl;
         within = λ x h.
             let tile =
-            loop_item
+            of-loop
             (λ g. flat_map (λ l. map (λ i. w l (g * v + i)) (range_with_len 0 v)) (range_with_len 0 v)) 0
             (m / v) x h in
-            let row = loop_item (λ l. map (λ i. w l (tile.0 * v + i)) (range_with_len 0 v)) 0 v x tile.3 in
-            let one = map_item (λ i. w row.0 (tile.0 * v + i)) 0 v x row.3 in
+            let row = of-loop (λ l. map (λ i. w l (tile.round * v + i)) (range_with_len 0 v)) 0 v x tile.inside in
+            let one = map_item (λ i. w row.round (tile.round * v + i)) 0 v x row.inside in
+            let few = tile.high in
+            let low = row.high in
             subst (Contains by_rounds) one.3
-            (round_has row.0 (tile.0 * v + one.0) (omega (arith, row.2))
-            (inside tile.0 one.0 (omega (arith, tile.2)) (omega (arith, one.2))));
+            (round_has row.round (tile.round * v + one.0) (omega (arith, low))
+            (inside tile.round one.0 (omega (arith, few)) (omega (arith, one.2))));
         whole = λ x h.
-            let round = loop_item (λ l. map (w l) (range_with_len 0 m)) 0 v x h in
-            let one = map_item (w round.0) 0 m x round.3 in
+            let at = of-loop (λ l. map (w l) (range_with_len 0 m)) 0 v x h in
+            let high = at.high in
+            let one = map_item (w at.round) 0 m x at.inside in
             let c : ℕ = one.0 in
             let low : c < m = omega (arith, one.2) in
             let place : c / v * v + c % v ≡ c = split c in
-            subst (Contains by_tiles) (ap (w round.0) place ∙ one.3)
-            (tile_has (c / v) round.0 (c % v) (first c low) (omega (arith, round.2)) (omega (arith, some)));
+            subst (Contains by_tiles) (ap (w at.round) place ∙ one.3)
+            (tile_has (c / v) at.round (c % v) (first c low) (omega (arith, high)) (omega (arith, some)));
       }
     where
       all : v * (m / v) ≡ m
@@ -101,10 +85,7 @@ module _ (v m : ℕ) (w : ℕ → ℕ → Write) where
 
       inside : (g i : ℕ) → g < m / v → i < v → g * v + i < m
       inside g i few below =
-          let next : g + 1 ≤ m / v = omega (arith, few) in
-          let far : v * (g + 1) ≤ v * (m / v) = mul-le-mul_left v next in
-          let out : v * (g + 1) ≡ g * v + v = omega arith in
-          omega (arith, far, out, all, below)
+          let within = tile_within g v m few in omega (arith, within, below)
 
       first : (c : ℕ) → c < m → c / v < m / v
       first c low =

@@ -3,9 +3,10 @@ use Rattle.std.proofs.Common.{◌≡◌, ◌≢◌, ℕ, zero, suc, ◌+◌, ◌
 use Rattle.std.proofs.Common.{ap, ap₂, ◌∙◌, arith, inl, inr, mul-le-mul_left, mul_comm}
 use Rattle.std.specs.Prelude.{slice_index}
 use Rattle.std.proofs.Math.Nat.{mul_assoc}
+use Rattle.std.proofs.Math.Seq.{get_or-append_seam}
 use Rattle.std.proofs.lemmas.Bool.{cases_eq}
 use Rattle.icode.specs.Expression.{alone, with_part, with_sum, sum_numbers, parts_numbers}
-use Rattle.icode.specs.Plain.{PlainExpr, PlainParts, Sum, NoParts, AndParts, Proc, Var, Product, Rem, Quot}
+use Rattle.icode.specs.Plain.{PlainExpr, PlainParts, Sum, NoParts, AndParts, Proc, Var}
 use Rattle.fast_loops.specs.Places.{are_linear, is_linear, stride}
 use Rattle.fast_loops.proofs.Linear.{wrong, chosen, passed, proc_first, from_least}
 use Rattle.fast_loops.proofs.Strides.{added, value_by_strides}
@@ -14,8 +15,7 @@ use Rattle.fast_loops.specs.LoopLanes.Rounds.{widened_parts, widened, place_stri
 -- ---- the value of the innermost loop
 
 pub here : (vs : List ℕ) (x : ℕ) → slice_index (vs ++ x ∷ []) (length vs) ≡ x
-here [] x = refl
-here (v ∷ vs) x = here vs x
+here vs x = get_or-append_seam vs x [] 0
 
 elsewhere : (vs : List ℕ) (x y d : ℕ) → d ≢ length vs → slice_index (vs ++ x ∷ []) d ≡ slice_index (vs ++ y ∷ []) d
 elsewhere [] x y zero ne = absurd (ne refl)
@@ -43,9 +43,7 @@ deeper least (AndParts (Var depth factor) rest) vs x y q h below =
     ap₂ with_part
     (ap (λ n. alone (n * factor)) (elsewhere vs x y depth (λ e. omega (arith, e, two.0, below))))
     (deeper (depth + 1) rest vs x y q two.1 (omega (arith, two.0, below)))
-deeper least (AndParts (Product outer inner other) rest) vs x y q h below = wrong h
-deeper least (AndParts (Rem of divisor other) rest) vs x y q h below = wrong h
-deeper least (AndParts (Quot of divisor other) rest) vs x y q h below = wrong h
+deeper least (AndParts _ rest) vs x y q h below = wrong h
 
 -- parts of the wide step are those of its first round
 widened-numbers : (v least : ℕ) (parts : PlainParts) (vs : List ℕ) (b q : ℕ) → are_linear least parts ≡ true →
@@ -76,9 +74,7 @@ widened-numbers v least (AndParts (Var depth factor) rest) vs b q h =
         ap (λ n. n * (v * factor)) (ap (slice_index (vs ++ b ∷ [])) same ∙ here vs b)
         ∙ sym (mul_assoc b v factor)
         ∙ ap (λ n. n * factor) (mul_comm b v ∙ sym (ap (slice_index (vs ++ (v * b) ∷ [])) same ∙ here vs (v * b)))
-widened-numbers v least (AndParts (Product outer inner other) rest) vs b q h = wrong h
-widened-numbers v least (AndParts (Rem of divisor other) rest) vs b q h = wrong h
-widened-numbers v least (AndParts (Quot of divisor other) rest) vs b q h = wrong h
+widened-numbers v least (AndParts _ rest) vs b q h = wrong h
 
 -- a place of the wide step is that of its first round
 pub widened_value : (v loop : ℕ) (place : PlainExpr) (vs : List ℕ) (b q : ℕ) →
@@ -87,11 +83,6 @@ pub widened_value : (v loop : ℕ) (place : PlainExpr) (vs : List ℕ) (b q : �
 widened_value v loop (Sum constant parts) vs b q h deep =
     ap (λ l. with_sum constant (parts_numbers (widened_parts v l parts) (vs ++ b ∷ []) q)) (sym deep)
     ∙ ap (with_sum constant) (widened-numbers v 0 parts vs b q h)
-
-pub widened_peak : (v loop : ℕ) (place : PlainExpr) (vs : List ℕ) (b q : ℕ) →
-    is_linear place ≡ true → length vs ≡ loop →
-    (sum_numbers (widened v loop place) (vs ++ b ∷ []) q).peak ≡ (sum_numbers place (vs ++ (v * b) ∷ []) q).peak
-widened_peak v loop place vs b q h deep = ap (λ n. n.peak) (widened_value v loop place vs b q h deep)
 
 -- ---- rounds behind the first
 
@@ -137,6 +128,14 @@ lane_value loop (Sum constant parts) vs a l q h deep =
     let far : stride (length vs) parts * l ≡ stride loop parts * l = ap (λ d. stride d parts * l) deep in
     omega (arith, is, far)
 
+-- and so it is that of the wide step
+pub wide_value : (v : ℕ) (place : PlainExpr) (vs : List ℕ) (b l q : ℕ) → is_linear place ≡ true →
+    (sum_numbers place (vs ++ (v * b + l) ∷ []) q).value
+    ≡ (sum_numbers (widened v (length vs) place) (vs ++ b ∷ []) q).value + place_stride (length vs) place * l
+wide_value v place vs b l q h =
+    lane_value (length vs) place vs (v * b) l q h refl
+    ∙ ap (λ n. n.value + place_stride (length vs) place * l) (sym (widened_value v (length vs) place vs b q h refl))
+
 peak-grows : (least : ℕ) (parts : PlainParts) (vs : List ℕ) (x y q : ℕ) → are_linear least parts ≡ true → x ≤ y →
     (parts_numbers parts (vs ++ x ∷ []) q).peak ≤ (parts_numbers parts (vs ++ y ∷ []) q).peak
 peak-grows least NoParts vs x y q h le = omega arith
@@ -149,9 +148,7 @@ peak-grows least (AndParts (Var depth factor) rest) vs x y q h le =
     let one : factor * slice_index (vs ++ x ∷ []) depth ≤ factor * slice_index (vs ++ y ∷ []) depth =
     mul-le-mul_left factor (grows vs x y depth le) in
     omega (arith, more, one)
-peak-grows least (AndParts (Product outer inner other) rest) vs x y q h le = wrong h
-peak-grows least (AndParts (Rem of divisor other) rest) vs x y q h le = wrong h
-peak-grows least (AndParts (Quot of divisor other) rest) vs x y q h le = wrong h
+peak-grows least (AndParts _ rest) vs x y q h le = wrong h
 
 -- ---- a place of the wide step that is moved by strides is that of a round behind the first
 

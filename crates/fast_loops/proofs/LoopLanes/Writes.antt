@@ -3,22 +3,16 @@ use Rattle.std.proofs.Common.{◌≡◌, ◌≢◌, ℕ, zero, suc, ◌<◌, Lis
 use Rattle.std.proofs.Common.{arith, ⊎_elim, Contains}
 use Rattle.std.specs.Prelude.{slice_index, slice_set}
 use Rattle.std.proofs.lemmas.Bool.{cases_eq}
+use Rattle.std.proofs.lemmas.List.{ext_get_or}
 use Rattle.icode.proofs.Lines.{Contains-head, Contains-tail, Contains-nil}
 use Rattle.icode.proofs.Words.{slice_get-set_other, slice_index-agree}
 use Rattle.icode.proofs.CodeLaws.Placing.{length-slice_set, slice_index-slice_set}
 use Rattle.fast_loops.specs.LoopLanes.Layers.{Write, written, OrderIsFree}
 
-pub words_same : (xs ys : List ℕ) → length xs ≡ length ys → ((k : ℕ) → k < length xs → slice_index xs k ≡ slice_index ys k) → xs ≡ ys
-words_same [] [] e h = refl
-words_same [] (y ∷ ys) e h = absurd (omega (arith, e))
-words_same (x ∷ xs) [] e h = absurd (omega (arith, e))
-words_same (x ∷ xs) (y ∷ ys) e h =
-    ap (λ z. z ∷ xs) (h 0 (omega arith))
-    ∙ ap (λ zs. y ∷ zs) (words_same xs ys (omega (arith, e)) (λ k lt. h (suc k) (omega (arith, lt))))
-
 pub length-written : (memory : List ℕ) (ws : List Write) → length (written memory ws) ≡ length memory
 length-written memory [] = refl
-length-written memory (w ∷ ws) = length-written (slice_set memory w.word w.value) ws ∙ length-slice_set memory w.word w.value
+length-written memory (w ∷ ws) =
+    length-written (slice_set memory w.word w.value) ws ∙ length-slice_set memory w.word w.value
 
 pub written-append : (memory : List ℕ) (ws zs : List Write) → written memory (ws ++ zs) ≡ written (written memory ws) zs
 written-append memory [] zs = refl
@@ -26,11 +20,13 @@ written-append memory (w ∷ ws) zs = written-append (slice_set memory w.word w.
 
 -- what stands at a word: what stood there, or what one of the writes puts there
 pub data StandsAt (memory : List ℕ) (ws : List Write) (k : ℕ) : Type 0 where
-  Before : ((w : Write) → Contains ws w → w.word ≢ k) → slice_index (written memory ws) k ≡ slice_index memory k → StandsAt memory ws k
+  Before : ((w : Write) → Contains ws w → w.word ≢ k) → slice_index (written memory ws) k ≡ slice_index memory k →
+      StandsAt memory ws k
   Put : (w : Write) → Contains ws w → w.word ≡ k → slice_index (written memory ws) k ≡ w.value → StandsAt memory ws k
 
 pub other_word : (memory : List ℕ) (i v k : ℕ) → i ≢ k → slice_index (slice_set memory i v) k ≡ slice_index memory k
-other_word memory i v k ne = slice_index-agree (slice_set memory i v) memory k (slice_get-set_other memory i k v (λ e. ne (sym e)))
+other_word memory i v k ne =
+    slice_index-agree (slice_set memory i v) memory k (slice_get-set_other memory i k v (λ e. ne (sym e)))
 
 none_more : (w : Write) (ws : List Write) (k : ℕ) → w.word ≢ k → ((x : Write) → Contains ws x → x.word ≢ k) →
     (x : Write) → Contains (w ∷ ws) x → x.word ≢ k
@@ -47,18 +43,20 @@ stands_at memory (w ∷ ws) k lt =
     more (Before none is) =
         ⊎_elim
         (λ (e : w.word ≡ k). Put w (Contains-head w ws) e
-        (is ∙ ap (slice_index (slice_set memory w.word w.value)) (sym e) ∙ slice_index-slice_set memory w.word w.value (omega (arith, lt, e))))
+        (is ∙ ap (slice_index (slice_set memory w.word w.value)) (sym e)
+        ∙ slice_index-slice_set memory w.word w.value (omega (arith, lt, e))))
         (λ (ne : w.word ≢ k). Before (none_more w ws k ne none) (is ∙ other_word memory w.word w.value k ne))
         (cases_eq w.word k)
 
 pub order_is_free : OrderIsFree
 order_is_free memory after ws sure h =
-    h.is ∙ words_same (written memory h.done) (written memory ws)
+    h.is ∙ ext_get_or 0 (written memory h.done) (written memory ws)
     (length-written memory h.done ∙ sym (length-written memory ws))
     (λ k lt. let low : k < length memory = omega (arith, lt, length-written memory h.done) in
     same k (stands_at memory h.done k low) (stands_at memory ws k low))
   where
-    same : (k : ℕ) → StandsAt memory h.done k → StandsAt memory ws k → slice_index (written memory h.done) k ≡ slice_index (written memory ws) k
+    same : (k : ℕ) → StandsAt memory h.done k → StandsAt memory ws k →
+        slice_index (written memory h.done) k ≡ slice_index (written memory ws) k
     same k (Before none is) (Before none_too is_too) = is ∙ sym is_too
     same k (Put w has there is) (Put x has_too there_too is_too) =
         is ∙ sure.sure w x (h.within w has) has_too (there ∙ sym there_too) ∙ sym is_too

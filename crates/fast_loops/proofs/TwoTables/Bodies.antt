@@ -22,7 +22,8 @@ abbrev steps_of_all : PlainProgram → List PlainStmt → List ℕ → ℕ → L
 steps_of_all p [] vs i = []
 steps_of_all p (stmt ∷ stmts) vs i = steps_of_stmt p stmt vs i ++ steps_of_all p stmts vs i
 
-steps_before : (p : PlainProgram) (stmts : List PlainStmt) (body : PlainBody) (vs : List ℕ) (i : ℕ) → steps_of_body p (put_before stmts body) vs i ≡ steps_of_all p stmts vs i ++ steps_of_body p body vs i
+steps_before : (p : PlainProgram) (stmts : List PlainStmt) (body : PlainBody) (vs : List ℕ) (i : ℕ) →
+    steps_of_body p (put_before stmts body) vs i ≡ steps_of_all p stmts vs i ++ steps_of_body p body vs i
 steps_before p [] body vs i = refl
 steps_before p (stmt ∷ stmts) body vs i =
     ap (λ xs. steps_of_stmt p stmt vs i ++ xs) (steps_before p stmts body vs i)
@@ -69,7 +70,8 @@ module _ (p : PlainProgram) (table : ℕ) (cut : Cut) (is : IsSplit p table cut)
           (subst (λ k. StepFits p (step_of p (MulTable r x k place step) vs i)) e fit))
 
   mutual
-    stmt-for : (stmt : PlainStmt) (vs : List ℕ) (i : ℕ) → is_stmt_even p.lanes table stmt ≡ true → All (StepFits p) (steps_of_stmt p stmt vs i) →
+    stmt-for : (stmt : PlainStmt) (vs : List ℕ) (i : ℕ) → is_stmt_even p.lanes table stmt ≡ true →
+        All (StepFits p) (steps_of_stmt p stmt vs i) →
         AreFor p there (steps_of_all there (factored_stmt split stmt) vs i) (steps_of_stmt p stmt vs i)
     stmt-for (Loop count body) vs i even fit =
         subst (λ xs. AreFor p there xs (flat_map (λ k. steps_of_body p body (vs ++ k ∷ []) i) (range_with_len 0 count)))
@@ -78,7 +80,8 @@ module _ (p : PlainProgram) (table : ℕ) (cut : Cut) (is : IsSplit p table cut)
         (λ k low high. body-for body (vs ++ k ∷ []) i even (all-in-loop (StepFits p) (λ k. steps_of_body p body (vs ++ k ∷ []) i) 0 count k fit low high)))
     stmt-for (Do op) vs i even fit = op-for op vs i even (All-head (StepFits p) (step_of p op vs i) [] fit)
 
-    pub body-for : (body : PlainBody) (vs : List ℕ) (i : ℕ) → is_body_even p.lanes table body ≡ true → All (StepFits p) (steps_of_body p body vs i) →
+    pub body-for : (body : PlainBody) (vs : List ℕ) (i : ℕ) → is_body_even p.lanes table body ≡ true →
+        All (StepFits p) (steps_of_body p body vs i) →
         AreFor p there (steps_of_body there (factored_body split body) vs i) (steps_of_body p body vs i)
     body-for NoStmts vs i even fit = for-none p there
     body-for (AndStmts stmt rest) vs i even fit =

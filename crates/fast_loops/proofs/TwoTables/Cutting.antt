@@ -29,12 +29,14 @@ from_block n w a j wide some below =
     record { block = omega (arith, up, room); row = omega (arith, room); entry = omega (arith, room, small) }
 
 -- one entry more
-pub list_more : (n : ℕ) (f : ℕ → ℕ) (xs new : List ℕ) (x : ℕ) → xs ≡ list_below n f → new ≡ xs ++ x ∷ [] → x ≡ f n → new ≡ list_below (n + 1) f
+pub list_more : (n : ℕ) (f : ℕ → ℕ) (xs new : List ℕ) (x : ℕ) → xs ≡ list_below n f → new ≡ xs ++ x ∷ [] → x ≡ f n →
+    new ≡ list_below (n + 1) f
 list_more n f xs new x is pushed e =
     pushed ∙ (ap₂ (λ ys y. ys ++ y ∷ []) is e ∙ sym (map-range_with_len_more f 0 n n (omega arith)))
 
 -- one number more passes
-pub range_more : (f : ℕ → Bool) (a n : ℕ) (whole : Bool) → a < n → f a ≡ true → list_all f (range_with_len a (n - a)) ≡ whole → list_all f (range_with_len (a + 1) (n - (a + 1))) ≡ whole
+pub range_more : (f : ℕ → Bool) (a n : ℕ) (whole : Bool) → a < n → f a ≡ true →
+    list_all f (range_with_len a (n - a)) ≡ whole → list_all f (range_with_len (a + 1) (n - (a + 1))) ≡ whole
 range_more f a n whole lt passes h =
     ap (λ b. b && list_all f (range_with_len (a + 1) (n - (a + 1)))) (sym passes)
     ∙ (ap (λ k. list_all f (range_with_len a k)) (sym left) ∙ h)
@@ -43,22 +45,26 @@ range_more f a n whole lt passes h =
     left = omega arith
 
 -- one phase more
-phase-front : (items : List (Vec Stmt Global)) (i : ℕ) → i < length items → plain_phases (drop i items) ≡ slice_index_or (plain_phases items) i NoStmts ∷ plain_phases (drop (suc i) items)
+phase-front : (items : List (Vec Stmt Global)) (i : ℕ) → i < length items →
+    plain_phases (drop i items) ≡ slice_index_or (plain_phases items) i NoStmts ∷ plain_phases (drop (suc i) items)
 phase-front [] i lt = absurd (omega arith)
 phase-front (body ∷ items) zero lt = refl
 phase-front (body ∷ items) (suc i) lt = phase-front items i (omega arith)
 
-phase-next : (items : List (Vec Stmt Global)) (i : ℕ) → i < length items → plain_phases (drop i items) ≡ slice_index_or (plain_phases items) i NoStmts ∷ plain_phases (drop (i + 1) items)
+phase-next : (items : List (Vec Stmt Global)) (i : ℕ) → i < length items →
+    plain_phases (drop i items) ≡ slice_index_or (plain_phases items) i NoStmts ∷ plain_phases (drop (i + 1) items)
 phase-next items i lt =
     let next : suc i ≡ i + 1 = omega arith in
     phase-front items i lt ∙ ap (λ k. slice_index_or (plain_phases items) i NoStmts ∷ plain_phases (drop k items)) next
 
-pub phase_passes : (f : PlainBody → Bool) (items : List (Vec Stmt Global)) (i : ℕ) (whole : Bool) → i < length items → f (slice_index_or (plain_phases items) i NoStmts) ≡ true →
+pub phase_passes : (f : PlainBody → Bool) (items : List (Vec Stmt Global)) (i : ℕ) (whole : Bool) → i < length items →
+    f (slice_index_or (plain_phases items) i NoStmts) ≡ true →
     list_all f (plain_phases (drop i items)) ≡ whole → list_all f (plain_phases (drop (i + 1) items)) ≡ whole
 phase_passes f items i whole lt passes h =
     ap (λ b. b && list_all f (plain_phases (drop (i + 1) items))) (sym passes) ∙ (ap (list_all f) (sym (phase-next items i lt)) ∙ h)
 
-pub phase_fails : (f : PlainBody → Bool) (items : List (Vec Stmt Global)) (i : ℕ) (whole : Bool) → i < length items → f (slice_index_or (plain_phases items) i NoStmts) ≡ false →
+pub phase_fails : (f : PlainBody → Bool) (items : List (Vec Stmt Global)) (i : ℕ) (whole : Bool) → i < length items →
+    f (slice_index_or (plain_phases items) i NoStmts) ≡ false →
     list_all f (plain_phases (drop i items)) ≡ whole → false ≡ whole
 phase_fails f items i whole lt fails h =
     ap (λ b. b && list_all f (plain_phases (drop (i + 1) items))) (sym fails) ∙ (ap (list_all f) (sym (phase-next items i lt)) ∙ h)

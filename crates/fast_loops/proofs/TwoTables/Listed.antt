@@ -29,7 +29,8 @@ set-there [] i v lt = absurd (omega arith)
 set-there (x ∷ xs) zero v lt = refl
 set-there (x ∷ xs) (suc i) v lt = set-there xs i v (omega arith)
 
-pub set-elsewhere : (xs : List (List ℕ)) (i k : ℕ) (v : List ℕ) → k ≢ i → slice_index_or (slice_set xs i v) k [] ≡ slice_index_or xs k []
+pub set-elsewhere : (xs : List (List ℕ)) (i k : ℕ) (v : List ℕ) → k ≢ i →
+    slice_index_or (slice_set xs i v) k [] ≡ slice_index_or xs k []
 set-elsewhere [] i k v ne = refl
 set-elsewhere (x ∷ xs) zero zero v ne = absurd (ne refl)
 set-elsewhere (x ∷ xs) zero (suc k) v ne = refl
@@ -52,7 +53,8 @@ pub all-right : {X : Type 0} (P : X → Type 0) (xs ys : List X) → All P (xs +
 all-right P [] ys h = h
 all-right P (x ∷ xs) ys h = all-right P xs ys (All-tail P x (xs ++ ys) h)
 
-pub all-in-loop : {X : Type 0} (P : X → Type 0) (f : ℕ → List X) (a n i : ℕ) → All P (flat_map f (range_with_len a n)) → a ≤ i → i < a + n → All P (f i)
+pub all-in-loop : {X : Type 0} (P : X → Type 0) (f : ℕ → List X) (a n i : ℕ) → All P (flat_map f (range_with_len a n)) →
+    a ≤ i → i < a + n → All P (f i)
 all-in-loop P f a zero i h low high = absurd (omega arith)
 all-in-loop P f a (suc n) i h low high =
     ⊎_elim

@@ -22,17 +22,20 @@ use Rattle.fast_loops.proofs.TwoTables.Products.{what_splits}
 use Rattle.fast_loops.proofs.TwoTables.Programs.{at_table}
 use Rattle.fast_loops.proofs.TwoTables.Within.{tables_within, phases_within}
 
-pub table-at : (items : List (Vec ℕ Global)) (k : ℕ) (t : Vec ℕ Global) → k < length items → t ≡ get_or items k t → t.items ≡ slice_index_or (plain_tables items) k []
+pub table-at : (items : List (Vec ℕ Global)) (k : ℕ) (t : Vec ℕ Global) → k < length items → t ≡ get_or items k t →
+    t.items ≡ slice_index_or (plain_tables items) k []
 table-at [] k t lt e = absurd (omega arith)
 table-at (x ∷ items) zero t lt e = ap (λ (v : Vec ℕ Global). v.items) e
 table-at (x ∷ items) (suc k) t lt e = table-at items k t (omega arith) e
 
-map-set : (items : List (Vec ℕ Global)) (k : ℕ) (t : Vec ℕ Global) → plain_tables (slice_set items k t) ≡ slice_set (plain_tables items) k t.items
+map-set : (items : List (Vec ℕ Global)) (k : ℕ) (t : Vec ℕ Global) →
+    plain_tables (slice_set items k t) ≡ slice_set (plain_tables items) k t.items
 map-set [] k t = refl
 map-set (x ∷ items) zero t = refl
 map-set (x ∷ items) (suc k) t = ap (λ xs. x.items ∷ xs) (map-set items k t)
 
-tables-are : (items new : List (Vec ℕ Global)) (k : ℕ) (first second : Vec ℕ Global) → new ≡ slice_set items k first ++ second ∷ [] →
+tables-are : (items new : List (Vec ℕ Global)) (k : ℕ) (first second : Vec ℕ Global) →
+    new ≡ slice_set items k first ++ second ∷ [] →
     plain_tables new ≡ slice_set (plain_tables items) k first.items ++ second.items ∷ []
 tables-are items new k first second e =
     ap plain_tables e ∙ (map-append (λ (v : Vec ℕ Global). v.items) (slice_set items k first) (second ∷ [])
@@ -48,10 +51,13 @@ pub record IsMade (p : Program) (table : ℕ) (cut : Cut) (tables : List (Vec �
 abbrev pub put_behind : Program → ℕ → Cut → ℕ → Split
 put_behind p table cut behind = record { cut = cut; table = table; second = behind; register = p.regs }
 
-pub is_made : (p : Program) (table : ℕ) (cut : Cut) (behind : ℕ) (first second : Vec ℕ Global) (tables : List (Vec ℕ Global)) (bodies phases : List (Vec Stmt Global)) →
-    can_split (plain_program p) table cut ≡ true → first.items ≡ first_factor cut (table_of p table) → second.items ≡ second_factor cut (table_of p table) →
+pub is_made : (p : Program) (table : ℕ) (cut : Cut) (behind : ℕ) (first second : Vec ℕ Global)
+    (tables : List (Vec ℕ Global)) (bodies phases : List (Vec Stmt Global)) →
+    can_split (plain_program p) table cut ≡ true → first.items ≡ first_factor cut (table_of p table) →
+    second.items ≡ second_factor cut (table_of p table) →
     behind ≡ length p.tables.items → tables ≡ slice_set p.tables.items table first ++ second ∷ [] →
-    bodies ≡ p.phases.items → plain_phases phases ≡ map (factored_body (put_behind p table cut behind)) (plain_phases bodies) →
+    bodies ≡ p.phases.items → plain_phases phases ≡ map (factored_body (put_behind p table cut behind))
+    (plain_phases bodies) →
     IsMade p table cut tables phases
 is_made p table cut behind first second tables bodies phases can one two behind_is tables_is bodies_are phases_are =
     let q = plain_program p in
@@ -89,7 +95,8 @@ is_made p table cut behind first second tables bodies phases can one two behind_
 abbrev with_both : (p : Program) → List (List ℕ) → List PlainBody → PlainProgram
 with_both p tables phases = record (plain_program p) { regs = p.regs + 1; tables = tables; phases = phases }
 
-pub program_made : (p : Program) (table : ℕ) (cut : Cut) (tables : List (Vec ℕ Global)) (phases : List (Vec Stmt Global)) → IsMade p table cut tables phases →
+pub program_made : (p : Program) (table : ℕ) (cut : Cut) (tables : List (Vec ℕ Global))
+    (phases : List (Vec Stmt Global)) → IsMade p table cut tables phases →
     with_both p (plain_tables tables) (plain_phases phases) ≡ in_factors (plain_program p) table cut
 program_made p table cut tables phases made = ap₂ (with_both p) made.tables_are made.phases_are
 
@@ -99,26 +106,31 @@ module _ (least table : ℕ) (p : PlainProgram) (cut : Cut) (is : cut ≡ cut_of
   abbrev chosen : Bool → Cut → PlainProgram
   chosen b c = if b then in_factors p table c else p
 
-  answer : (b : Bool) → (may_be_split least p table cut && is_cut_well p table cut) ≡ b → chosen b cut ≡ factored_at least p table
+  answer : (b : Bool) → (may_be_split least p table cut && is_cut_well p table cut) ≡ b →
+      chosen b cut ≡ factored_at least p table
   answer b e =
       ap (λ b. chosen b cut) (sym e) ∙ ap (λ c. chosen (may_be_split least p table c && is_cut_well p table c) c) is
 
   pub may_not : may_be_split least p table cut ≡ false → p ≡ factored_at least p table
   may_not fails = answer false (ap (λ b. b && is_cut_well p table cut) fails)
 
-  pub is_no_product : may_be_split least p table cut ≡ true → is_cut_well p table cut ≡ false → p ≡ factored_at least p table
+  pub is_no_product : may_be_split least p table cut ≡ true → is_cut_well p table cut ≡ false →
+      p ≡ factored_at least p table
   is_no_product may fails = answer false (ap₂ (λ a b. a && b) may fails)
 
-  pub is_product : may_be_split least p table cut ≡ true → is_cut_well p table cut ≡ true → in_factors p table cut ≡ factored_at least p table
+  pub is_product : may_be_split least p table cut ≡ true → is_cut_well p table cut ≡ true →
+      in_factors p table cut ≡ factored_at least p table
   is_product may well = answer true (ap₂ (λ a b. a && b) may well)
 
-pub may_can : (least table : ℕ) (p : PlainProgram) (cut : Cut) → may_be_split least p table cut ≡ true → is_cut_well p table cut ≡ true →
+pub may_can : (least table : ℕ) (p : PlainProgram) (cut : Cut) → may_be_split least p table cut ≡ true →
+    is_cut_well p table cut ≡ true →
     can_split p table cut ≡ true
 may_can least table p cut may well =
     ap₂ (λ a b. a && b) (both_true (nat_le least (length (slice_index_or p.tables table []))) (is_usable p table cut) may).1 well
 
 -- the test of the entries, of factors that were made
-pub tested : (p : PlainProgram) (table m : ℕ) (cut : Cut) (first second entries : List ℕ) (test : Bool) → m ≡ p.modulus →
+pub tested : (p : PlainProgram) (table m : ℕ) (cut : Cut) (first second entries : List ℕ) (test : Bool) →
+    m ≡ p.modulus →
     entries ≡ slice_index_or p.tables table [] → first ≡ first_factor cut entries → second ≡ second_factor cut entries →
     test ≡ are_factors m cut first second entries → test ≡ is_cut_well p table cut
 tested p table m cut first second entries test m_is entries_is first_is second_is test_is =
@@ -126,7 +138,8 @@ tested p table m cut first second entries test m_is entries_is first_is second_i
     ∙ (ap₂ (λ xs ys. are_factors m cut xs ys entries) first_is second_is
     ∙ ap₂ (λ n xs. are_factors n cut (first_factor cut xs) (second_factor cut xs) xs) m_is entries_is)
 
-pub some_width : (least table : ℕ) (p : PlainProgram) (cut : Cut) → may_be_split least p table cut ≡ true → (0 < cut.width) × (0 < cut.across)
+pub some_width : (least table : ℕ) (p : PlainProgram) (cut : Cut) → may_be_split least p table cut ≡ true →
+    (0 < cut.width) × (0 < cut.across)
 some_width least table p cut may =
     let usable = (both_true (nat_le least (length (slice_index_or p.tables table []))) (is_usable p table cut) may).1 in
     let a = both_true (has_room p) (is_cut p.lanes cut && list_all (is_body_even p.lanes table) p.phases) usable in
@@ -156,7 +169,8 @@ pub record AreDone (least : ℕ) (p : PlainProgram) (count table : ℕ) (q : Pla
   pub fits : PlainFits q
   pub apart : (phase : ℕ) → IsApart (plain_code q) phase
 
-pub none_done : (least : ℕ) (p : Program) → PlainFits (plain_program p) → ((phase : ℕ) → IsApart (plain_code (plain_program p)) phase) →
+pub none_done : (least : ℕ) (p : Program) → PlainFits (plain_program p) →
+    ((phase : ℕ) → IsApart (plain_code (plain_program p)) phase) →
     AreDone least (plain_program p) (length p.tables.items) 0 (plain_program p) (length p.tables.items)
 none_done least p fits apart =
     let whole : length p.tables.items - 0 ≡ length p.tables.items = omega arith in
@@ -168,7 +182,8 @@ none_done least p fits apart =
     }
 
 pub one_more : (least count table : ℕ) (p : PlainProgram) (q r : Program) → table < count →
-    AreDone least p count table (plain_program q) (length q.tables.items) → plain_program r ≡ factored_at least (plain_program q) table →
+    AreDone least p count table (plain_program q) (length q.tables.items) →
+    plain_program r ≡ factored_at least (plain_program q) table →
     AreDone least p count (table + 1) (plain_program r) (length r.tables.items)
 one_more least count table p q r lt done is =
     let here = at_table (plain_program q) done.fits done.apart least table in
@@ -186,7 +201,8 @@ one_more least count table p q r lt done is =
       apart = subst (λ s. (phase : ℕ) → IsApart (plain_code s) phase) (sym is) here.apart;
     }
 
-pub all_done : (least count table many : ℕ) (p q : PlainProgram) → count ≤ table → AreDone least p count table q many → q ≡ factored least p
+pub all_done : (least count table many : ℕ) (p q : PlainProgram) → count ≤ table → AreDone least p count table q many →
+    q ≡ factored least p
 all_done least count table many p q past done =
     let none : count - table ≡ 0 = omega arith in
     sym (ap (λ n. factored_from least n table q) none) ∙ done.rest

@@ -19,7 +19,8 @@ times_even lanes a factor even = same-mul lanes a a factor 0 refl (even ∙ sym 
 sum_even : (lanes a b : ℕ) → a % lanes ≡ 0 → b % lanes ≡ 0 → (a + b) % lanes ≡ 0
 sum_even lanes a b one two = same-add lanes a 0 b 0 (one ∙ sym (zero-mod lanes)) (two ∙ sym (zero-mod lanes)) ∙ zero-mod lanes
 
-parts_even : (lanes room : ℕ) (parts : PlainParts) (vs : List ℕ) (q : ℕ) → are_even lanes room parts ≡ true → (parts_numbers parts vs q).value % lanes ≡ 0
+parts_even : (lanes room : ℕ) (parts : PlainParts) (vs : List ℕ) (q : ℕ) → are_even lanes room parts ≡ true →
+    (parts_numbers parts vs q).value % lanes ≡ 0
 parts_even lanes room NoParts vs q h = zero-mod lanes
 parts_even lanes zero (AndParts part rest) vs q h = cc
 parts_even lanes (suc room) (AndParts (Proc factor) rest) vs q h =
@@ -35,7 +36,8 @@ parts_even lanes (suc room) (AndParts (Product outer inner factor) rest) vs q h 
 parts_even lanes (suc room) (AndParts (Rem of divisor factor) rest) vs q h = cc
 parts_even lanes (suc room) (AndParts (Quot of divisor factor) rest) vs q h = cc
 
-pub place_even : (lanes : ℕ) (place : PlainExpr) (vs : List ℕ) (q : ℕ) → is_even lanes place ≡ true → (sum_numbers place vs q).value % lanes ≡ 0
+pub place_even : (lanes : ℕ) (place : PlainExpr) (vs : List ℕ) (q : ℕ) → is_even lanes place ≡ true →
+    (sum_numbers place vs q).value % lanes ≡ 0
 place_even lanes (Sum constant parts) vs q h =
     let two = both_true (constant % lanes == 0) _ h in
     sum_even lanes constant _ (eqb-true (constant % lanes) 0 two.0) (parts_even lanes 30 parts vs q two.1)
@@ -48,10 +50,12 @@ value_small (Sum constant parts) vs q = le-max_left (constant + (parts_numbers p
 once : (n : ℕ) → n * 1 ≡ n
 once n = omega arith
 
-pub first_value : (cut : Cut) (place : PlainExpr) (vs : List ℕ) (q : ℕ) → (sum_numbers (place_in_first cut place) vs q).value ≡ first_place cut (sum_numbers place vs q).value
+pub first_value : (cut : Cut) (place : PlainExpr) (vs : List ℕ) (q : ℕ) →
+    (sum_numbers (place_in_first cut place) vs q).value ≡ first_place cut (sum_numbers place vs q).value
 first_value cut place vs q = let n = (sum_numbers place vs q).value / cut.width in let e = once n in omega arith
 
-pub first_peak : (cut : Cut) (place : PlainExpr) (vs : List ℕ) (q : ℕ) → (sum_numbers (place_in_first cut place) vs q).peak ≤ (sum_numbers place vs q).peak
+pub first_peak : (cut : Cut) (place : PlainExpr) (vs : List ℕ) (q : ℕ) →
+    (sum_numbers (place_in_first cut place) vs q).peak ≤ (sum_numbers place vs q).peak
 first_peak cut place vs q =
     let v = (sum_numbers place vs q).value in
     let n = v / cut.width in
@@ -60,7 +64,8 @@ first_peak cut place vs q =
     let top = value_small place vs q in
     max-le (omega (arith, low, top, e)) (max-le (max-le (omega arith) (omega (arith, low, top, e))) (omega arith))
 
-pub second_value : (cut : Cut) (place : PlainExpr) (vs : List ℕ) (q : ℕ) → (sum_numbers (place_in_second cut place) vs q).value ≡ second_place cut (sum_numbers place vs q).value
+pub second_value : (cut : Cut) (place : PlainExpr) (vs : List ℕ) (q : ℕ) →
+    (sum_numbers (place_in_second cut place) vs q).value ≡ second_place cut (sum_numbers place vs q).value
 second_value cut place vs q =
     let v = (sum_numbers place vs q).value in
     let one = once (v % cut.width) in
@@ -68,7 +73,8 @@ second_value cut place vs q =
     let outer : (sum_numbers (quotient_by place cut.width) vs q).value / cut.across * cut.width ≡ v / cut.width / cut.across * cut.width = ap (λ n. n / cut.across * cut.width) inner in
     omega (arith, one, outer)
 
-pub second_peak : (cut : Cut) (place : PlainExpr) (vs : List ℕ) (q : ℕ) → (sum_numbers (place_in_second cut place) vs q).peak ≤ (sum_numbers place vs q).peak
+pub second_peak : (cut : Cut) (place : PlainExpr) (vs : List ℕ) (q : ℕ) →
+    (sum_numbers (place_in_second cut place) vs q).peak ≤ (sum_numbers place vs q).peak
 second_peak cut place vs q =
     let v = (sum_numbers place vs q).value in
     let b = (sum_numbers (quotient_by place cut.width) vs q).value in

@@ -121,12 +121,14 @@ module _ (p : PlainProgram) (table : ℕ) (cut : Cut) (is : IsSplit p table cut)
   kept_as s t e fit = subst (λ z. AreFor p q (z ∷ []) (s ∷ [])) (sym e) (kept s fit)
 
   -- another table is as it was
-  other_table : (of : ℕ) → of ≢ table → of < length p.tables → slice_index_or q.tables of [] ≡ slice_index_or p.tables of []
+  other_table : (of : ℕ) → of ≢ table → of < length p.tables →
+      slice_index_or q.tables of [] ≡ slice_index_or p.tables of []
   other_table of ne lt =
       at-front (slice_set p.tables table first) (second ∷ []) of (let size = set-length p.tables table first in omega (arith, size, lt))
       ∙ set-elsewhere p.tables table of first ne
 
-  pub other_product : (r x of : ℕ) (place : PlainExpr) (step : ℕ) (vs : List ℕ) (i : ℕ) → of ≢ table → StepFits p (step_of p (MulTable r x of place step) vs i) →
+  pub other_product : (r x of : ℕ) (place : PlainExpr) (step : ℕ) (vs : List ℕ) (i : ℕ) → of ≢ table →
+      StepFits p (step_of p (MulTable r x of place step) vs i) →
       AreFor p q (step_of q (MulTable r x of place step) vs i ∷ []) (step_of p (MulTable r x of place step) vs i ∷ [])
   other_product r x of place step vs i ne fit =
       let reach = fit.place in
@@ -141,7 +143,8 @@ module _ (p : PlainProgram) (table : ℕ) (cut : Cut) (is : IsSplit p table cut)
       } in
       kept_as (step_of p (MulTable r x of place step) vs i) (step_of q (MulTable r x of place step) vs i) (ap with_entries same) fit
 
-  pub other_step : (op : PlainOp) (vs : List ℕ) (i : ℕ) → step_of q op vs i ≡ step_of p op vs i → StepFits p (step_of p op vs i) →
+  pub other_step : (op : PlainOp) (vs : List ℕ) (i : ℕ) → step_of q op vs i ≡ step_of p op vs i →
+      StepFits p (step_of p op vs i) →
       AreFor p q (step_of q op vs i ∷ []) (step_of p op vs i ∷ [])
   other_step op vs i e fit = kept_as (step_of p op vs i) (step_of q op vs i) e fit
 
@@ -248,7 +251,8 @@ module _ (p : PlainProgram) (table : ℕ) (cut : Cut) (is : IsSplit p table cut)
         }
 
     each : (lane : ℕ) → lane < p.lanes →
-        product_mod p.modulus (slice_index (lane_factors p.lanes factors_one) lane) (slice_index (lane_factors p.lanes factors_two) lane)
+        product_mod p.modulus (slice_index (lane_factors p.lanes factors_one) lane)
+        (slice_index (lane_factors p.lanes factors_two) lane)
         ≡ slice_index (lane_factors p.lanes factors_of) lane
     each lane lt =
         let left : at_first + 0 * lane ≡ first_place cut (at + step * lane) = let e = first_is lane lt in omega (arith, e) in

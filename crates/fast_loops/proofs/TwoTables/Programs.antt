@@ -38,19 +38,22 @@ module _ (p : PlainProgram) where
   row body = map (λ q. actions_of (steps_of_body p body [] q)) (range_with_len 0 p.procs)
 
   listed : (bodies : List PlainBody) (phase q : ℕ) → q < p.procs →
-      slice_index_or (slice_index_or (map row bodies) phase []) q [] ≡ actions_of (steps_of_body p (slice_index_or bodies phase NoStmts) [] q)
+      slice_index_or (slice_index_or (map row bodies) phase []) q []
+      ≡ actions_of (steps_of_body p (slice_index_or bodies phase NoStmts) [] q)
   listed [] phase q lt = refl
   listed (body ∷ bodies) zero q lt = get_or-map-range_with_len (λ q. actions_of (steps_of_body p body [] q)) 0 p.procs q q [] lt (omega arith)
   listed (body ∷ bodies) (suc phase) q lt = listed bodies phase q lt
 
-  not_listed : (bodies : List PlainBody) (phase q : ℕ) → p.procs ≤ q → slice_index_or (slice_index_or (map row bodies) phase []) q [] ≡ []
+  not_listed : (bodies : List PlainBody) (phase q : ℕ) → p.procs ≤ q →
+      slice_index_or (slice_index_or (map row bodies) phase []) q [] ≡ []
   not_listed [] phase q past = refl
   not_listed (body ∷ bodies) zero q past =
       get_or_past (row body) q [] (omega (arith, length-map-range_with_len (λ q. actions_of (steps_of_body p body [] q)) 0 p.procs))
   not_listed (body ∷ bodies) (suc phase) q past = not_listed bodies phase q past
 
 -- how long the list of the first processor is
-pub phase_length : (p : PlainProgram) (phase : ℕ) → 0 < p.procs → length (acts (plain_code p) phase 0) ≡ len_of_body (slice_index_or p.phases phase NoStmts)
+pub phase_length : (p : PlainProgram) (phase : ℕ) → 0 < p.procs →
+    length (acts (plain_code p) phase 0) ≡ len_of_body (slice_index_or p.phases phase NoStmts)
 phase_length p phase some =
     ap length (listed p p.phases phase 0 some)
     ∙ (length-map (steps_of_phase p phase 0) (λ (s : Step). s.action) ∙ body_length p (slice_index_or p.phases phase NoStmts) [] 0)
@@ -58,18 +61,21 @@ phase_length p phase some =
 -- ---- phases
 
 factored_phase : (split : Split) (bodies : List PlainBody) (phase : ℕ) →
-    slice_index_or (map (factored_body split) bodies) phase NoStmts ≡ factored_body split (slice_index_or bodies phase NoStmts)
+    slice_index_or (map (factored_body split) bodies) phase NoStmts
+    ≡ factored_body split (slice_index_or bodies phase NoStmts)
 factored_phase split [] phase = refl
 factored_phase split (body ∷ bodies) zero = refl
 factored_phase split (body ∷ bodies) (suc phase) = factored_phase split bodies phase
 
-even_phase : (lanes table : ℕ) (bodies : List PlainBody) (phase : ℕ) → list_all (is_body_even lanes table) bodies ≡ true →
+even_phase : (lanes table : ℕ) (bodies : List PlainBody) (phase : ℕ) →
+    list_all (is_body_even lanes table) bodies ≡ true →
     is_body_even lanes table (slice_index_or bodies phase NoStmts) ≡ true
 even_phase lanes table [] phase h = refl
 even_phase lanes table (body ∷ bodies) zero h = (both_true (is_body_even lanes table body) _ h).0
 even_phase lanes table (body ∷ bodies) (suc phase) h = even_phase lanes table bodies phase (both_true (is_body_even lanes table body) _ h).1
 
-short_phase : (bodies : List PlainBody) (phase : ℕ) → list_all is_short bodies ≡ true → len_of_body (slice_index_or bodies phase NoStmts) < 2 ^ 47
+short_phase : (bodies : List PlainBody) (phase : ℕ) → list_all is_short bodies ≡ true →
+    len_of_body (slice_index_or bodies phase NoStmts) < 2 ^ 47
 short_phase [] phase h = omega arith
 short_phase (body ∷ bodies) zero h = ltb-true (len_of_body body) (2 ^ 47) (both_true (is_short body) _ h).0
 short_phase (body ∷ bodies) (suc phase) h = short_phase bodies phase (both_true (is_short body) _ h).1
@@ -82,7 +88,8 @@ sum_most (suc n) c f h =
     omega (arith, rest, here)
 
 -- phases and processors that are few, of lists that are short
-few_steps : (phases procs : ℕ) (f : ℕ → ℕ → ℕ) → phases ≤ 64 → procs ≤ 16 → ((phase q : ℕ) → q < procs → f phase q ≤ 2 ^ 48) → sum_below phases (λ phase. sum_below procs (f phase)) < 2 ^ 59
+few_steps : (phases procs : ℕ) (f : ℕ → ℕ → ℕ) → phases ≤ 64 → procs ≤ 16 →
+    ((phase q : ℕ) → q < procs → f phase q ≤ 2 ^ 48) → sum_below phases (λ phase. sum_below procs (f phase)) < 2 ^ 59
 few_steps phases procs f few alone short =
     let each : (phase : ℕ) → sum_below procs (f phase) ≤ 16 * 2 ^ 48 =
     λ phase. let a = sum_most procs (2 ^ 48) (f phase) (short phase) in let b = mul-le-mul_right (2 ^ 48) alone in omega (arith, a, b) in
@@ -143,10 +150,12 @@ module _ (p : PlainProgram) (fits : PlainFits p) (apart : (phase : ℕ) → IsAp
     acts_are : (phase q : ℕ) → q < p.procs → acts (plain_code p) phase q ≡ actions_of (steps_of_phase p phase q)
     acts_are phase q lt = listed p p.phases phase q lt
 
-    acts_there : (phase q : ℕ) → q < p.procs → acts (plain_code there) phase q ≡ actions_of (steps_of_phase there phase q)
+    acts_there : (phase q : ℕ) → q < p.procs → acts (plain_code there) phase q
+        ≡ actions_of (steps_of_phase there phase q)
     acts_there phase q lt = listed there there.phases phase q lt
 
-    words_same : (f : Action → List ℕ) → IsOfOthers f → (phase q : ℕ) → flat_map f (acts (plain_code there) phase q) ≡ flat_map f (acts (plain_code p) phase q)
+    words_same : (f : Action → List ℕ) → IsOfOthers f → (phase q : ℕ) →
+        flat_map f (acts (plain_code there) phase q) ≡ flat_map f (acts (plain_code p) phase q)
     words_same f others phase q =
         ⊎_elim
         (λ (lt : q < p.procs).
@@ -164,7 +173,8 @@ module _ (p : PlainProgram) (fits : PlainFits p) (apart : (phase : ℕ) → IsAp
         }
 
     acts_like : (phase q : ℕ) → q < p.procs → (s t : Local) → AreLike p.modulus p.lanes p.regs s t →
-        AreLike p.modulus p.lanes p.regs (effects p.modulus p.lanes (acts (plain_code p) phase q) s) (effects p.modulus p.lanes (acts (plain_code there) phase q) t)
+        AreLike p.modulus p.lanes p.regs (effects p.modulus p.lanes (acts (plain_code p) phase q) s)
+        (effects p.modulus p.lanes (acts (plain_code there) phase q) t)
     acts_like phase q lt s t like =
         subst (λ xs. AreLike p.modulus p.lanes p.regs (effects p.modulus p.lanes xs s) (effects p.modulus p.lanes (acts (plain_code there) phase q) t)) (sym (acts_are phase q lt))
         (subst (λ ys. AreLike p.modulus p.lanes p.regs (effects p.modulus p.lanes (actions_of (steps_of_phase p phase q)) s) (effects p.modulus p.lanes ys t)) (sym (acts_there phase q lt))
@@ -225,7 +235,8 @@ after r q p one two =
       same = λ x turns orders. one.same x turns turns ∙ two.same x turns orders;
     }
 
-pub from_table : (least n table : ℕ) (p : PlainProgram) → PlainFits p → ((phase : ℕ) → IsApart (plain_code p) phase) → IsInPlaceOf (factored_from least n table p) p
+pub from_table : (least n table : ℕ) (p : PlainProgram) → PlainFits p → ((phase : ℕ) → IsApart (plain_code p) phase) →
+    IsInPlaceOf (factored_from least n table p) p
 from_table least zero table p fits apart = itself p fits apart
 from_table least (suc n) table p fits apart =
     let here = at_table p fits apart least table in

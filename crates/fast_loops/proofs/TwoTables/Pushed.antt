@@ -10,8 +10,10 @@ use Rattle.icode.proofs.Views.{plain_stmt-Loop}
 use Rattle.fast_loops.specs.TwoTables.TwoTables.{Split, put_before, factored_stmt, factored_body}
 use Rattle.fast_loops.specs.TwoTables.View.{plain_stmts}
 
-pub push_more : (f : PlainStmt → List PlainStmt) (i : ℕ) (items : List Stmt) (item : Stmt) (made new : List PlainStmt) → i < length items → item ≡ get_or items i item →
-    made ≡ flat_map f (plain_stmts (take i items)) → new ≡ made ++ f (plain_stmt item) → new ≡ flat_map f (plain_stmts (take (i + 1) items))
+pub push_more : (f : PlainStmt → List PlainStmt) (i : ℕ) (items : List Stmt) (item : Stmt) (made new : List PlainStmt) →
+    i < length items → item ≡ get_or items i item →
+    made ≡ flat_map f (plain_stmts (take i items)) → new ≡ made ++ f (plain_stmt item) →
+    new ≡ flat_map f (plain_stmts (take (i + 1) items))
 push_more f i items item made new lt e is pushed =
     pushed
     ∙ (ap (λ xs. xs ++ f (plain_stmt item)) is
@@ -23,7 +25,8 @@ before-is : (xs ys : List PlainStmt) → put_before xs (body_of ys) ≡ body_of 
 before-is [] ys = refl
 before-is (x ∷ xs) ys = ap (AndStmts x) (before-is xs ys)
 
-pub body-is : (split : Split) (xs : List PlainStmt) → factored_body split (body_of xs) ≡ body_of (flat_map (factored_stmt split) xs)
+pub body-is : (split : Split) (xs : List PlainStmt) → factored_body split (body_of xs)
+    ≡ body_of (flat_map (factored_stmt split) xs)
 body-is split [] = refl
 body-is split (x ∷ xs) = ap (put_before (factored_stmt split x)) (body-is split xs) ∙ before-is (factored_stmt split x) (flat_map (factored_stmt split) xs)
 
@@ -34,14 +37,17 @@ take-all zero (x ∷ xs) le = absurd (omega arith)
 take-all (suc n) (x ∷ xs) le = ap (λ ys. x ∷ ys) (take-all n xs (omega arith))
 
 -- a body whose statements have been pushed
-pub body-pushed : (split : Split) (i : ℕ) (items : List Stmt) (made : List Stmt) → length items ≤ i → plain_stmts made ≡ flat_map (factored_stmt split) (plain_stmts (take i items)) →
+pub body-pushed : (split : Split) (i : ℕ) (items : List Stmt) (made : List Stmt) → length items ≤ i →
+    plain_stmts made ≡ flat_map (factored_stmt split) (plain_stmts (take i items)) →
     plain_body made ≡ factored_body split (plain_body items)
 body-pushed split i items made whole is =
     ap body_of (is ∙ ap (λ xs. flat_map (factored_stmt split) (plain_stmts xs)) (take-all i items whole)) ∙ sym (body-is split (plain_stmts items))
 
 -- a loop of such a body
-pub loop-pushed : (split : Split) (count : ℕ) (inside body : Vec Stmt Global) (stmt : Stmt) (before after : List Stmt) → plain_stmt stmt ≡ Loop count (plain_body body.items) →
-    plain_body inside.items ≡ factored_body split (plain_body body.items) → after ≡ before ++ stmts.Loop count inside ∷ [] →
+pub loop-pushed : (split : Split) (count : ℕ) (inside body : Vec Stmt Global) (stmt : Stmt) (before after : List Stmt) →
+    plain_stmt stmt ≡ Loop count (plain_body body.items) →
+    plain_body inside.items ≡ factored_body split (plain_body body.items) →
+    after ≡ before ++ stmts.Loop count inside ∷ [] →
     plain_stmts after ≡ plain_stmts before ++ factored_stmt split (plain_stmt stmt)
 loop-pushed split count inside body stmt before after is made pushed =
     ap plain_stmts pushed ∙ (map-append plain_stmt before (stmts.Loop count inside ∷ [])

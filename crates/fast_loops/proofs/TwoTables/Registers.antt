@@ -17,11 +17,13 @@ use Rattle.icode.proofs.CodeLaws.Placing.{length-lane_by_lane, length-slice_set,
 
 -- ---- lists
 
-map-same : (f g : ℕ → ℕ) (a n : ℕ) → ((i : ℕ) → i < a + n → f i ≡ g i) → map f (range_with_len a n) ≡ map g (range_with_len a n)
+map-same : (f g : ℕ → ℕ) (a n : ℕ) → ((i : ℕ) → i < a + n → f i ≡ g i) →
+    map f (range_with_len a n) ≡ map g (range_with_len a n)
 map-same f g a zero h = refl
 map-same f g a (suc n) h = ap₂ (λ x xs. x ∷ xs) (h a (omega arith)) (map-same f g (a + 1) n (λ i lt. h i (omega arith)))
 
-flat_map-same : (f g : ℕ → List ℕ) (a n : ℕ) → ((i : ℕ) → i < a + n → f i ≡ g i) → flat_map f (range_with_len a n) ≡ flat_map g (range_with_len a n)
+flat_map-same : (f g : ℕ → List ℕ) (a n : ℕ) → ((i : ℕ) → i < a + n → f i ≡ g i) →
+    flat_map f (range_with_len a n) ≡ flat_map g (range_with_len a n)
 flat_map-same f g a zero h = refl
 flat_map-same f g a (suc n) h = ap₂ (λ x xs. x ++ xs) (h a (omega arith)) (flat_map-same f g (a + 1) n (λ i lt. h i (omega arith)))
 
@@ -42,7 +44,8 @@ product_twice m w a b c is =
     ∙ (sym (same-mul m w w ((a * b) % m) (a * b) refl (mod-mod (a * b) m))
     ∙ ap (λ k. (w * k) % m) is))
 
-pub lanes_twice : (m : ℕ) (ws fa fb ft : List ℕ) → length ws ≤ length fa → length ws ≤ length fb → length ws ≤ length ft →
+pub lanes_twice : (m : ℕ) (ws fa fb ft : List ℕ) → length ws ≤ length fa → length ws ≤ length fb →
+    length ws ≤ length ft →
     ((l : ℕ) → l < length ws → product_mod m (slice_index fa l) (slice_index fb l) ≡ slice_index ft l) →
     lane_by_lane (product_mod m) (lane_by_lane (product_mod m) ws fa) fb ≡ lane_by_lane (product_mod m) ws ft
 lanes_twice m [] fa fb ft a b t each = refl
@@ -67,11 +70,13 @@ module _ (m lanes regs : ℕ) where
       let c = mul_comm lanes regs in
       omega (arith, a, b, c)
 
-  register_same : (s t : Local) (r : ℕ) → r < regs → AreLike s t → register_of lanes t.registers r ≡ register_of lanes s.registers r
+  register_same : (s t : Local) (r : ℕ) → r < regs → AreLike s t →
+      register_of lanes t.registers r ≡ register_of lanes s.registers r
   register_same s t r lt like =
       words_at-agree lanes t.registers s.registers (r * lanes) (λ k low high. like.below k (let a = inside r lt in omega (arith, a, high)))
 
-  tile_same : (s t : Local) (x : ℕ) → x + lanes ≤ regs → AreLike s t → transposed lanes t.registers x ≡ transposed lanes s.registers x
+  tile_same : (s t : Local) (x : ℕ) → x + lanes ≤ regs → AreLike s t →
+      transposed lanes t.registers x ≡ transposed lanes s.registers x
   tile_same s t x lt like =
       flat_map-same (λ k. map (λ l. slice_index t.registers ((x + l) * lanes + k)) (range_with_len 0 lanes))
       (λ k. map (λ l. slice_index s.registers ((x + l) * lanes + k)) (range_with_len 0 lanes)) 0 lanes
@@ -80,7 +85,8 @@ module _ (m lanes regs : ℕ) where
       (λ l low. slice_index-agree t.registers s.registers ((x + l) * lanes + k)
       (like.below ((x + l) * lanes + k) (let a = inside (x + l) (omega arith) in omega (arith, a, small)))))
 
-  value_same : (a : Action) (s t : Local) → RegistersFit regs lanes a → AreLike s t → value_put m lanes a t ≡ value_put m lanes a s
+  value_same : (a : Action) (s t : Local) → RegistersFit regs lanes a → AreLike s t →
+      value_put m lanes a t ≡ value_put m lanes a s
   value_same (Load r address) s t fit like = ap (λ memory. words_at lanes memory address) like.memory
   value_same (Store address r) s t fit like = refl
   value_same (Zero r) s t fit like = refl
@@ -93,7 +99,8 @@ module _ (m lanes regs : ℕ) where
       ap (λ ws. lane_by_lane (product_mod m) ws factors) (register_same s t x fit.1 like)
   value_same (Tile r x) s t fit like = tile_same s t x fit.1 like
 
-  memory_same : (a : Action) (s t : Local) → RegistersFit regs lanes a → AreLike s t → memory_after lanes a t ≡ memory_after lanes a s
+  memory_same : (a : Action) (s t : Local) → RegistersFit regs lanes a → AreLike s t →
+      memory_after lanes a t ≡ memory_after lanes a s
   memory_same (Store address r) s t fit like = ap₂ (λ memory ws. with_words memory address ws) like.memory (register_same s t r fit like)
   memory_same (Load r address) s t fit like = like.memory
   memory_same (Zero r) s t fit like = like.memory
@@ -104,7 +111,8 @@ module _ (m lanes regs : ℕ) where
   memory_same (Tile r x) s t fit like = like.memory
 
   -- an action that names none but the first registers
-  pub like_after : (a : Action) (s t : Local) → RegistersFit regs lanes a → AreLike s t → AreLike (effect m lanes a s) (effect m lanes a t)
+  pub like_after : (a : Action) (s t : Local) → RegistersFit regs lanes a → AreLike s t →
+      AreLike (effect m lanes a s) (effect m lanes a t)
   like_after a s t fit like =
       let at : ℕ = register_put a * lanes in
       let size = length-registers_after m lanes a t in
@@ -117,7 +125,8 @@ module _ (m lanes regs : ℕ) where
       }
 
   -- one product, and two by way of the register behind them
-  pub like_products : (r x : ℕ) (fa fb ft : List ℕ) (s t : Local) → x < regs → lanes ≤ length fa → lanes ≤ length fb → lanes ≤ length ft →
+  pub like_products : (r x : ℕ) (fa fb ft : List ℕ) (s t : Local) → x < regs → lanes ≤ length fa → lanes ≤ length fb →
+      lanes ≤ length ft →
       ((l : ℕ) → l < lanes → product_mod m (slice_index fa l) (slice_index fb l) ≡ slice_index ft l) → AreLike s t →
       AreLike (effect m lanes (Mul r x ft) s) (effect m lanes (Mul r regs fb) (effect m lanes (Mul regs x fa) t))
   like_products r x fa fb ft s t low a b c each like =

@@ -26,7 +26,8 @@ module _ (p q : PlainProgram) where
     pub fits : All (StepFits q) there
     pub few : length there ≤ 2 * length here
     pub like : (s t : Local) → AreLike p.modulus p.lanes p.regs s t →
-        AreLike p.modulus p.lanes p.regs (effects p.modulus p.lanes (actions_of here) s) (effects p.modulus p.lanes (actions_of there) t)
+        AreLike p.modulus p.lanes p.regs (effects p.modulus p.lanes (actions_of here) s)
+        (effects p.modulus p.lanes (actions_of there) t)
     pub words : (f : Action → List ℕ) → IsOfOthers f → flat_map f (actions_of there) ≡ flat_map f (actions_of here)
 
   pub for-none : AreFor [] []

@@ -14,7 +14,8 @@ of_range f a (suc n) e h low high =
     let two = both_true (f a) (list_all f (range_with_len (a + 1) n)) h in
     ⊎_elim (λ (is : a ≡ e). ap f (sym is) ∙ two.0) (λ ne. of_range f (a + 1) n e two.1 (omega arith) (omega arith)) (cases_eq a e)
 
-entry_small : (m : ℕ) (entries : List ℕ) (k : ℕ) → 0 < m → list_all (λ c. nat_lt c m) entries ≡ true → slice_index entries k < m
+entry_small : (m : ℕ) (entries : List ℕ) (k : ℕ) → 0 < m → list_all (λ c. nat_lt c m) entries ≡ true →
+    slice_index entries k < m
 entry_small m [] k pos h = pos
 entry_small m (c ∷ entries) zero pos h = ltb-true c m (both_true (nat_lt c m) _ h).0
 entry_small m (c ∷ entries) (suc k) pos h = entry_small m entries k pos (both_true (nat_lt c m) _ h).1
@@ -31,7 +32,8 @@ table_small m entries k h = entry_small m entries k (some_residue m entries h) (
 pub record IsProduct (m : ℕ) (cut : Cut) (first second entries : List ℕ) (e : ℕ) : Type 0 where
   pub first_there : first_place cut e < length first
   pub second_there : second_place cut e < length second
-  pub product : product_mod m (slice_index first (first_place cut e)) (slice_index second (second_place cut e)) ≡ slice_index entries e
+  pub product : product_mod m (slice_index first (first_place cut e)) (slice_index second (second_place cut e))
+      ≡ slice_index entries e
 
 pub record AreFactors (m : ℕ) (cut : Cut) (first second entries : List ℕ) : Type 0 where
   pub some : 0 < m
@@ -39,7 +41,8 @@ pub record AreFactors (m : ℕ) (cut : Cut) (first second entries : List ℕ) : 
   pub second_small : is_table m second ≡ true
   pub each : (e : ℕ) → e < length entries → IsProduct m cut first second entries e
 
-pub walked : (m : ℕ) (cut : Cut) (first second entries : List ℕ) → are_factors m cut first second entries ≡ true → AreFactors m cut first second entries
+pub walked : (m : ℕ) (cut : Cut) (first second entries : List ℕ) → are_factors m cut first second entries ≡ true →
+    AreFactors m cut first second entries
 walked m cut first second entries h =
     let two = both_true (is_table m first) _ h in
     let more = both_true (is_table m second) _ two.1 in

@@ -9,14 +9,16 @@ use Rattle.icode.specs.Machine.{Code, Whole, Local, acts, effects, start, proces
 use Rattle.icode.specs.Machine.{phases_alone, in_order}
 use Rattle.fast_loops.proofs.TwoTables.Registers.{AreLike}
 
-file-set : (files : List (List ℕ)) (q k : ℕ) (file : List ℕ) → k ≢ q → slice_index_or (slice_set files q file) k [] ≡ slice_index_or files k []
+file-set : (files : List (List ℕ)) (q k : ℕ) (file : List ℕ) → k ≢ q →
+    slice_index_or (slice_set files q file) k [] ≡ slice_index_or files k []
 file-set [] q k file ne = refl
 file-set (other ∷ files) zero zero file ne = absurd (ne refl)
 file-set (other ∷ files) zero (suc k) file ne = refl
 file-set (other ∷ files) (suc q) zero file ne = refl
 file-set (other ∷ files) (suc q) (suc k) file ne = file-set files q k file (λ e. ne (ap suc e))
 
-file-there : (files : List (List ℕ)) (q : ℕ) (file : List ℕ) → q < length files → slice_index_or (slice_set files q file) q [] ≡ file
+file-there : (files : List (List ℕ)) (q : ℕ) (file : List ℕ) → q < length files →
+    slice_index_or (slice_set files q file) q [] ≡ file
 file-there [] q file lt = absurd (omega arith)
 file-there (other ∷ files) zero file lt = refl
 file-there (other ∷ files) (suc q) file lt = file-there files q file (omega arith)
@@ -58,7 +60,8 @@ module _ (code : Code) (lists : List (List (List Action))) where
 
   module _ (each : (phase q : ℕ) → q < code.procs → (s t : Local) → Like s t →
       Like (effects code.modulus code.lanes (acts code phase q) s) (effects code.modulus code.lanes (acts other phase q) t)) where
-    processor_alike : (phase q : ℕ) (w v : Whole) → q < code.procs → AreAlike w v → AreAlike (processor_alone code phase q w) (processor_alone other phase q v)
+    processor_alike : (phase q : ℕ) (w v : Whole) → q < code.procs → AreAlike w v →
+        AreAlike (processor_alone code phase q w) (processor_alone other phase q v)
     processor_alike phase q w v lt alike =
         let s : Local = record { memory = w.memory; registers = slice_index_or w.registers q [] } in
         let t : Local = record { memory = v.memory; registers = slice_index_or v.registers q [] } in
@@ -89,13 +92,15 @@ module _ (code : Code) (lists : List (List (List Action))) where
               (cases_eq k q);
         }
 
-    processors_alike : (phase n q : ℕ) (w v : Whole) → q + n ≤ code.procs → AreAlike w v → AreAlike (processors_alone code phase n q w) (processors_alone other phase n q v)
+    processors_alike : (phase n q : ℕ) (w v : Whole) → q + n ≤ code.procs → AreAlike w v →
+        AreAlike (processors_alone code phase n q w) (processors_alone other phase n q v)
     processors_alike phase zero q w v room alike = alike
     processors_alike phase (suc n) q w v room alike =
         processors_alike phase n (q + 1) (processor_alone code phase q w) (processor_alone other phase q v) (omega arith)
         (processor_alike phase q w v (omega arith) alike)
 
-    phases_alike : (n phase : ℕ) (w v : Whole) → AreAlike w v → AreAlike (phases_alone code n phase w) (phases_alone other n phase v)
+    phases_alike : (n phase : ℕ) (w v : Whole) → AreAlike w v →
+        AreAlike (phases_alone code n phase w) (phases_alone other n phase v)
     phases_alike zero phase w v alike = alike
     phases_alike (suc n) phase w v alike =
         phases_alike n (phase + 1) (processors_alone code phase code.procs 0 w) (processors_alone other phase code.procs 0 v)
@@ -123,7 +128,8 @@ module _ (code : Code) (lists : List (List (List Action))) where
         }
 
     -- processor after processor and phase after phase
-    pub like_in_order : length lists ≡ length code.lists → (x : List ℕ) → (in_order other x).memory ≡ (in_order code x).memory
+    pub like_in_order : length lists ≡ length code.lists → (x : List ℕ) →
+        (in_order other x).memory ≡ (in_order code x).memory
     like_in_order many x =
         ap (λ n. (phases_alone other n 0 (record { memory = (start other x).memory; registers = (start other x).registers })).memory) many
         ∙ (phases_alike (length code.lists) 0 (record { memory = (start code x).memory; registers = (start code x).registers })

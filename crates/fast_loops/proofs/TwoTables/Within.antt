@@ -45,11 +45,13 @@ place_count lanes (Sum constant parts) h = even_count lanes 30 parts (both_true 
 place_depth : (lanes : ℕ) (place : PlainExpr) → is_even lanes place ≡ true → sum_depth place ≡ 0
 place_depth lanes (Sum constant parts) h = even_depth lanes 30 parts (both_true (constant % lanes == 0) _ h).1
 
-quotient_within : (place : PlainExpr) (divisor n : ℕ) → is_sum_within place n ≡ true → is_small_positive divisor ≡ true → is_sum_within (quotient_by place divisor) n ≡ true
+quotient_within : (place : PlainExpr) (divisor n : ℕ) → is_sum_within place n ≡ true →
+    is_small_positive divisor ≡ true → is_sum_within (quotient_by place divisor) n ≡ true
 quotient_within place divisor n sum small =
     ap₂ (λ a b. (a && (b && true)) && true) sum small
 
-first_within : (lanes : ℕ) (cut : Cut) (place : PlainExpr) (n : ℕ) → is_small_positive cut.width ≡ true → is_even lanes place ≡ true → is_expr_within place n ≡ true → is_expr_within (place_in_first cut place) n ≡ true
+first_within : (lanes : ℕ) (cut : Cut) (place : PlainExpr) (n : ℕ) → is_small_positive cut.width ≡ true →
+    is_even lanes place ≡ true → is_expr_within place n ≡ true → is_expr_within (place_in_first cut place) n ≡ true
 first_within lanes cut place n wide even h =
     let two = both_true (is_sum_within place n) _ h in
     let few = place_count lanes place even in
@@ -58,7 +60,9 @@ first_within lanes cut place n wide even h =
     (le-leb (1 + sum_parts place + 0) 64 (omega (arith, few)))
     (ap (λ d. nat_le (max (1 + d) 0) 64) (place_depth lanes place even)))
 
-second_within : (lanes : ℕ) (cut : Cut) (place : PlainExpr) (n : ℕ) → is_small_positive cut.width ≡ true → is_small_positive cut.across ≡ true → is_even lanes place ≡ true → is_expr_within place n ≡ true → is_expr_within (place_in_second cut place) n ≡ true
+second_within : (lanes : ℕ) (cut : Cut) (place : PlainExpr) (n : ℕ) → is_small_positive cut.width ≡ true →
+    is_small_positive cut.across ≡ true → is_even lanes place ≡ true → is_expr_within place n ≡ true →
+    is_expr_within (place_in_second cut place) n ≡ true
 second_within lanes cut place n wide across even h =
     let two = both_true (is_sum_within place n) _ h in
     let few = place_count lanes place even in
@@ -73,7 +77,9 @@ second_within lanes cut place n wide across even h =
 
 -- ---- statements
 
-before_within : (m n : ℕ) (stmts : List PlainStmt) (body : PlainBody) → list_all (λ s. is_stmt_within m s n) stmts ≡ true → is_body_within m body n ≡ true → is_body_within m (put_before stmts body) n ≡ true
+before_within : (m n : ℕ) (stmts : List PlainStmt) (body : PlainBody) →
+    list_all (λ s. is_stmt_within m s n) stmts ≡ true → is_body_within m body n ≡ true →
+    is_body_within m (put_before stmts body) n ≡ true
 before_within m n [] body h k = k
 before_within m n (stmt ∷ stmts) body h k =
     let two = both_true (is_stmt_within m stmt n) _ h in
@@ -87,7 +93,8 @@ module _ (m lanes : ℕ) (split : Split) (register : is_small split.register ≡
   alone : (op : PlainOp) (n : ℕ) → is_op_within m op n ≡ true → all n (Do op ∷ []) ≡ true
   alone op n h = and_is (is_op_within m op n) true h refl
 
-  products_within : (r x of step n : ℕ) (place : PlainExpr) → of ≡ split.table → is_even lanes place ≡ true → is_op_within m (MulTable r x of place step) n ≡ true →
+  products_within : (r x of step n : ℕ) (place : PlainExpr) → of ≡ split.table → is_even lanes place ≡ true →
+      is_op_within m (MulTable r x of place step) n ≡ true →
       all n (two_products split (MulTable r x of place step)) ≡ true
   products_within r x of step n place e even h =
       let a = both_true (is_small r) _ h in
@@ -102,7 +109,8 @@ module _ (m lanes : ℕ) (split : Split) (register : is_small split.register ≡
       (and_is (is_small r) _ a.0 (and_is (is_small split.register) _ register (and_is (is_small split.second) _ second (and_is (nat_lt step 2) _ d.0 two))))
       refl)
 
-  op_within : (op : PlainOp) (n : ℕ) → is_op_even lanes split.table op ≡ true → is_op_within m op n ≡ true → all n (factored_op split op) ≡ true
+  op_within : (op : PlainOp) (n : ℕ) → is_op_even lanes split.table op ≡ true → is_op_within m op n ≡ true →
+      all n (factored_op split op) ≡ true
   op_within (Load r array place) n even h = alone (Load r array place) n h
   op_within (Store array place r) n even h = alone (Store array place r) n h
   op_within (Zero r) n even h = alone (Zero r) n h
@@ -124,7 +132,8 @@ module _ (m lanes : ℕ) (split : Split) (register : is_small split.register ≡
       chosen b = if b then two_products split (MulTable r x of place step) else Do (MulTable r x of place step) ∷ []
 
   mutual
-    stmt_within : (stmt : PlainStmt) (n : ℕ) → is_stmt_even lanes split.table stmt ≡ true → is_stmt_within m stmt n ≡ true → all n (factored_stmt split stmt) ≡ true
+    stmt_within : (stmt : PlainStmt) (n : ℕ) → is_stmt_even lanes split.table stmt ≡ true →
+        is_stmt_within m stmt n ≡ true → all n (factored_stmt split stmt) ≡ true
     stmt_within (Loop count body) n even h =
         let a = both_true (is_small_positive count) _ h in
         let b = both_true (nat_lt n 64) _ a.1 in
@@ -132,14 +141,16 @@ module _ (m lanes : ℕ) (split : Split) (register : is_small split.register ≡
         (and_is (is_small_positive count) _ a.0 (and_is (nat_lt n 64) _ b.0 (body_within body (n + 1) even b.1))) refl
     stmt_within (Do op) n even h = op_within op n even h
 
-    body_within : (body : PlainBody) (n : ℕ) → is_body_even lanes split.table body ≡ true → is_body_within m body n ≡ true → is_body_within m (factored_body split body) n ≡ true
+    body_within : (body : PlainBody) (n : ℕ) → is_body_even lanes split.table body ≡ true →
+        is_body_within m body n ≡ true → is_body_within m (factored_body split body) n ≡ true
     body_within NoStmts n even h = refl
     body_within (AndStmts stmt rest) n even h =
         let a = both_true (is_stmt_even lanes split.table stmt) _ even in
         let b = both_true (is_stmt_within m stmt n) _ h in
         before_within m n (factored_stmt split stmt) (factored_body split rest) (stmt_within stmt n a.0 b.0) (body_within rest n a.1 b.1)
 
-  bodies_within : (bodies : List PlainBody) → list_all (is_body_even lanes split.table) bodies ≡ true → list_all (λ body. is_body_within m body 0) bodies ≡ true →
+  bodies_within : (bodies : List PlainBody) → list_all (is_body_even lanes split.table) bodies ≡ true →
+      list_all (λ body. is_body_within m body 0) bodies ≡ true →
       list_all (λ body. is_body_within m body 0) (map (factored_body split) bodies) ≡ true
   bodies_within [] even h = refl
   bodies_within (body ∷ bodies) even h =
@@ -147,7 +158,8 @@ module _ (m lanes : ℕ) (split : Split) (register : is_small split.register ≡
       let b = both_true (is_body_within m body 0) _ h in
       and_is (is_body_within m (factored_body split body) 0) _ (body_within body 0 a.0 b.0) (bodies_within bodies a.1 b.1)
 
-  pub phases_within : (bodies : List PlainBody) → list_all (is_body_even lanes split.table) bodies ≡ true → are_phases_within m bodies ≡ true →
+  pub phases_within : (bodies : List PlainBody) → list_all (is_body_even lanes split.table) bodies ≡ true →
+      are_phases_within m bodies ≡ true →
       are_phases_within m (map (factored_body split) bodies) ≡ true
   phases_within [] even h = h
   phases_within (body ∷ bodies) even h =
@@ -157,13 +169,15 @@ module _ (m lanes : ℕ) (split : Split) (register : is_small split.register ≡
 
 -- ---- tables
 
-pub tables_within : (m : ℕ) (tables : List (List ℕ)) (k : ℕ) (first second : List ℕ) → are_tables_within m tables ≡ true → is_table m first ≡ true → is_table m second ≡ true →
+pub tables_within : (m : ℕ) (tables : List (List ℕ)) (k : ℕ) (first second : List ℕ) →
+    are_tables_within m tables ≡ true → is_table m first ≡ true → is_table m second ≡ true →
     are_tables_within m (slice_set tables k first ++ second ∷ []) ≡ true
 tables_within m [] k first second h one two = and_is (is_table m second) true two refl
 tables_within m (entries ∷ tables) zero first second h one two =
     and_is (is_table m first) _ one (behind tables (both_true (is_table m entries) _ h).1)
   where
-    behind : (tables : List (List ℕ)) → are_tables_within m tables ≡ true → are_tables_within m (tables ++ second ∷ []) ≡ true
+    behind : (tables : List (List ℕ)) → are_tables_within m tables ≡ true →
+        are_tables_within m (tables ++ second ∷ []) ≡ true
     behind [] h = and_is (is_table m second) true two refl
     behind (entries ∷ tables) h = let a = both_true (is_table m entries) _ h in and_is (is_table m entries) _ a.0 (behind tables a.1)
 tables_within m (entries ∷ tables) (suc k) first second h one two =

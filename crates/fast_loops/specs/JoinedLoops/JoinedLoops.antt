@@ -7,7 +7,8 @@ use Rattle.std.specs.Option.{unwrap_or}
 use Rattle.icode.specs.Limits.{is_small}
 use Rattle.icode.specs.Plain.{PlainExpr, PlainParts, PlainOp, PlainStmt, PlainBody, PlainProgram, Sum, NoParts}
 use Rattle.icode.specs.Plain.{AndParts, Var, Load, Store, MulTable, Loop, Do, NoStmts, AndStmts}
-use Rattle.fast_loops.specs.Places.{are_linear, stride}
+use Rattle.fast_loops.specs.Places.{are_linear, stride, placed_op}
+use Rattle.fast_loops.specs.LoopLanes.Rounds.{straight, ops_in}
 
 -- ---- where it can be done
 
@@ -46,20 +47,11 @@ abbrev pub lifted_place : ℕ → PlainExpr → PlainExpr
 lifted_place loop (Sum constant parts) = Sum constant (lifted_parts loop parts)
 
 abbrev pub lifted_op : ℕ → PlainOp → PlainOp
-lifted_op loop (Load register array place) = Load register array (lifted_place loop place)
-lifted_op loop (Store array place register) = Store array (lifted_place loop place) register
-lifted_op loop (MulTable register source table place step) =
-    MulTable register source table (lifted_place loop place) step
-lifted_op loop op = op
+lifted_op loop op = placed_op (lifted_place loop) op
 
-abbrev mutual
-  pub lifted_stmt : ℕ → PlainStmt → PlainStmt
-  lifted_stmt loop (Loop count body) = Loop count (lifted_body loop body)
-  lifted_stmt loop (Do op) = Do (lifted_op loop op)
-
-  pub lifted_body : ℕ → PlainBody → PlainBody
-  lifted_body loop NoStmts = NoStmts
-  lifted_body loop (AndStmts stmt rest) = AndStmts (lifted_stmt loop stmt) (lifted_body loop rest)
+-- operations alone
+abbrev pub lifted_body : ℕ → PlainBody → PlainBody
+lifted_body loop body = straight (map (lifted_op loop) (ops_in body))
 
 -- ---- loops
 

@@ -10,10 +10,7 @@ use Rattle.icode.specs.Machine.{effects, value_put, stored_words, touched_words}
 use Rattle.icode.specs.Plain.{PlainOp, PlainProgram}
 use Rattle.fast_loops.specs.Places.{are_linear}
 use Rattle.fast_loops.specs.Rounds.{Stored, are_fresh}
-use Rattle.fast_loops.specs.LoopLanes.Rounds.{straight, are_rows, in_row}
-use Rattle.fast_loops.specs.LoopLanes.Columns.{plain_columns, factored_columns, are_by, are_plain_columns}
-use Rattle.fast_loops.specs.LoopLanes.Columns.{are_factored_columns, in_columns}
-use Rattle.fast_loops.specs.LoopLanes.Loads.{are_loaded_rows, are_loaded, in_loaded_rows, in_loaded}
+use Rattle.fast_loops.specs.LoopLanes.Rounds.{straight}
 use Rattle.fast_loops.specs.LoopLanes.Lanes.{IsLanes, can_lane, laned_ops}
 use Rattle.fast_loops.specs.LoopLanes.Laws.{LanedLeavesTheSame}
 
@@ -132,47 +129,13 @@ LeaveWrites v p new ops vs b q =
     IsAfter memory (memory_by p.modulus v (actions_of (steps_at (on_lanes v p) new (vs ++ b ∷ []) q)) r memory)
     (group_writes v p memory ops vs b q)
 
-abbrev pub RowsWrite : Type 0
-RowsWrite =
+-- A round of v lanes does so, whichever way it is made
+abbrev pub LanesWrite : Type 0
+LanesWrite =
     (v : ℕ) (p : PlainProgram) (to : Stored) (ops : List PlainOp) (vs : List ℕ) (b q : ℕ) →
     IsGroup v p to ops vs b q →
-    are_rows v (length vs) to ops ≡ true → LeaveWrites v p (map (in_row v (length vs)) ops) ops vs b q
-
-abbrev pub ColumnsWrite : Type 0
-ColumnsWrite =
-    (v : ℕ) (p : PlainProgram) (to : Stored) (ops : List PlainOp) (vs : List ℕ) (b q : ℕ) →
-    IsGroup v p to ops vs b q →
-    are_plain_columns v (length vs) to ops ≡ true →
-    LeaveWrites v p (in_columns v p.regs (length vs) to (plain_columns ops)) ops vs b q
-
-abbrev pub FactoredColumnsWrite : Type 0
-FactoredColumnsWrite =
-    (v : ℕ) (p : PlainProgram) (to : Stored) (ops : List PlainOp) (vs : List ℕ) (b q : ℕ) →
-    IsGroup v p to ops vs b q →
-    are_factored_columns v (length vs) to ops ≡ true →
-    LeaveWrites v p (in_columns v p.regs (length vs) to (factored_columns ops)) ops vs b q
-
--- where rows are loaded
-abbrev pub LoadedRowsWrite : Type 0
-LoadedRowsWrite =
-    (v : ℕ) (p : PlainProgram) (to : Stored) (ops : List PlainOp) (vs : List ℕ) (b q : ℕ) →
-    IsGroup v p to ops vs b q →
-    are_loaded_rows v (length vs) to ops ≡ true → LeaveWrites v p (in_loaded_rows v p.regs (length vs) ops) ops vs b q
-
-abbrev pub LoadedWrite : Type 0
-LoadedWrite =
-    (v : ℕ) (p : PlainProgram) (to : Stored) (ops : List PlainOp) (vs : List ℕ) (b q : ℕ) →
-    IsGroup v p to ops vs b q →
-    are_loaded v (length vs) to ops (plain_columns ops) ≡ true →
-    LeaveWrites v p (in_loaded v p.regs (length vs) to (plain_columns ops)) ops vs b q
-
-abbrev pub LoadedFactoredWrite : Type 0
-LoadedFactoredWrite =
-    (v : ℕ) (p : PlainProgram) (to : Stored) (ops : List PlainOp) (vs : List ℕ) (b q : ℕ) →
-    IsGroup v p to ops vs b q →
-    are_by v (length vs) ops (factored_columns ops).by ≡ true →
-    are_loaded v (length vs) to ops (factored_columns ops) ≡ true →
-    LeaveWrites v p (in_loaded v p.regs (length vs) to (factored_columns ops)) ops vs b q
+    can_lane v (length vs) (Some to) ops ≡ true →
+    LeaveWrites v p (laned_ops v p.regs (length vs) (Some to) ops) ops vs b q
 
 -- A round of v lanes stands for a group
 abbrev pub RoundsAreLanes : Type 0

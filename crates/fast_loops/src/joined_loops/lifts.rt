@@ -1,9 +1,9 @@
-// Statements with one loop less around them.
+// Operations with one loop less around them.
 
 ghost use Rattle.std.specs.Prelude.{◌≡◌, ◌++◌, List, map, IfOk, OnOk};
-ghost use Rattle.icode.specs.Plain.{plain_expr, plain_part, plain_op, plain_stmt, plain_body};
+ghost use Rattle.icode.specs.Plain.{plain_expr, plain_part, plain_op, plain_body};
 ghost use Rattle.fast_loops.specs.View.{plain_parts};
-ghost use Rattle.fast_loops.specs.JoinedLoops.JoinedLoops.{lifted_depth, lifted_parts, lifted_place, lifted_op, lifted_stmt, lifted_body};
+ghost use Rattle.fast_loops.specs.JoinedLoops.JoinedLoops.{lifted_depth, lifted_parts, lifted_place, lifted_op, lifted_body};
 ghost use Rattle.fast_loops.specs.JoinedLoops.View.{lifted_part};
 
 use icode::program::{Expr, Op, Part, Stmt};
@@ -96,38 +96,17 @@ fn lifted_op(alloc: Global, depth: u64, op: &Op) -> Result<Op, NoMemory>
     }
 }
 
-fn lifted_stmt(alloc: Global, depth: u64, stmt: &Stmt) -> Result<Stmt, NoMemory>
-    ensures { IfOk result
-        (λ made. plain_stmt made ≡ lifted_stmt depth (plain_stmt stmt.now)) }
-{
-    match stmt {
-        Stmt::Loop { count, body } => {
-            let mut inside = Vec::new(alloc);
-            for inner in body {
-                let inner = lifted_stmt(alloc, depth, inner)?;
-                inside.push(inner)?;
-            }
-            Ok(Stmt::Loop {
-                count: *count,
-                body: inside,
-            })
-        }
-        Stmt::Do(op) => {
-            let op = lifted_op(alloc, depth, op)?;
-            Ok(Stmt::Do(op))
-        }
-    }
-}
-
-/// The statements where the loop at this depth is no more, and those in it stand one higher.
+/// The operations where the loop at this depth is no more, and those in it stand one higher.
 pub(crate) fn lifted_body(alloc: Global, depth: u64, body: &[Stmt]) -> Result<Vec<Stmt>, NoMemory>
     ensures { IfOk result
         (λ made. plain_body made.items ≡ lifted_body depth (plain_body body.now)) }
 {
     let mut made = Vec::new(alloc);
     for stmt in body {
-        let stmt = lifted_stmt(alloc, depth, stmt)?;
-        made.push(stmt)?;
+        if let Stmt::Do(op) = stmt {
+            let op = lifted_op(alloc, depth, op)?;
+            made.push(Stmt::Do(op))?;
+        }
     }
     Ok(made)
 }

@@ -223,9 +223,8 @@ pub(crate) fn appended(ops: Vec<Op>, more: Vec<Op>) -> Result<Vec<Op>, NoMemory>
     ensures { IfOk result (λ all. all.items ≡ ops.items ++ more.items) }
 {
     let mut all = ops;
-    for op in more {
-        all.push(op)?;
-    }
+    let mut more = more;
+    all.append(&mut more)?;
     Ok(all)
 }
 

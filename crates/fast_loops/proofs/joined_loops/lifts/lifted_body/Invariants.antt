@@ -1,8 +1,10 @@
-use Rattle.std.proofs.Common.{◌≡◌, take, map}
-use Rattle.icode.specs.Plain.{plain_stmt}
-use Rattle.fast_loops.specs.JoinedLoops.JoinedLoops.{lifted_stmt}
+use Rattle.std.proofs.Common.{◌≡◌, ◌++◌, drop, map}
+use Rattle.icode.specs.Plain.{plain_stmt, plain_body, Do}
+use Rattle.fast_loops.specs.JoinedLoops.JoinedLoops.{lifted_op}
+use Rattle.fast_loops.specs.LoopLanes.Rounds.{ops_in}
 use Rattle.fast_loops.proofs.joined_loops.lifts.lifted_body.Given as goal
 
 abbrev pub invariant-loop-stmt : goal.invariant-loop-stmt
 invariant-loop-stmt l =
-    map plain_stmt l.made.items ≡ map (lifted_stmt l.depth) (map plain_stmt (take l.stmt-index l.body))
+    map plain_stmt l.made.items ++ map Do (map (lifted_op l.depth) (ops_in (plain_body (drop l.stmt-index l.body))))
+    ≡ map Do (map (lifted_op l.depth) (ops_in (plain_body l.body)))

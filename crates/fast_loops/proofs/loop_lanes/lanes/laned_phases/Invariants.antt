@@ -6,7 +6,8 @@ use Rattle.fast_loops.proofs.loop_lanes.lanes.laned_phases.Given as goal
 
 abbrev pub invariant-loop-phase : goal.invariant-loop-phase
 invariant-loop-phase l = record {
-  tests : list_all (are_lanable l.lanes) (plain_phases (drop l.phase-index l.phases)) ≡ list_all (are_lanable l.lanes) (plain_phases l.phases);
+  tests : list_all (are_lanable l.lanes) (plain_phases (drop l.phase-index l.phases)) ≡ list_all (are_lanable l.lanes)
+      (plain_phases l.phases);
   so_far : plain_phases l.bodies.items ++ map (laned_body l.lanes l.regs) (plain_phases (drop l.phase-index l.phases))
       ≡ map (laned_body l.lanes l.regs) (plain_phases l.phases);
 }

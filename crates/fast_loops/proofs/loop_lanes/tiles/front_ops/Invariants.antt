@@ -7,7 +7,9 @@ use Rattle.fast_loops.proofs.loop_lanes.tiles.front_ops.Given as goal
 
 abbrev pub invariant-loop-op : goal.invariant-loop-op
 invariant-loop-op l = record {
-  by_lane : list_all (is_by_lane l.group.depth (stored_into l.target.array l.target.parts.now)) (plain_ops (drop l.op-index l.columns.front.now)) ≡ true;
-  so_far : plain_ops l.ops.items ++ laned_front l.group.lanes l.from l.group.depth l.columns.turned.now (plain_ops (drop l.op-index l.columns.front.now))
+  by_lane : list_all (is_by_lane l.group.depth (stored_into l.target.array l.target.parts.now))
+      (plain_ops (drop l.op-index l.columns.front.now)) ≡ true;
+  so_far : plain_ops l.ops.items ++ laned_front l.group.lanes l.from l.group.depth l.columns.turned.now
+      (plain_ops (drop l.op-index l.columns.front.now))
       ≡ laned_front l.group.lanes l.from l.group.depth l.columns.turned.now (plain_ops l.columns.front.now);
 }
