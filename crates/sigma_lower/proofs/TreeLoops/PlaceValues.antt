@@ -2,7 +2,8 @@
 use Rattle.std.proofs.Common.{◌≡◌, ℕ, refl, ap, ◌∙◌, List, [], ◌∷◌, ◌++◌}
 use Rattle.index_fn.specs.Mapping.{Mapping, at}
 use Rattle.perm_algebra.specs.Affine.{Sum, value, IsSound, simplified, AreBelowCounts}
-use Rattle.perm_algebra.proofs.Values.{simplifies}
+use Rattle.perm_algebra.proofs.Kept.{sound-simplified}
+use Rattle.perm_algebra.proofs.Values.{simplified_keeps}
 use Rattle.sigma_lower.specs.TreeLoops.Merge.{through}
 use Rattle.sigma_lower.specs.TreeLoops.Placed.{place_sum, all_simplified}
 use Rattle.sigma_spl.specs.Loops.{AreFormed}
@@ -19,9 +20,9 @@ pub follows : (cs vs : ℕ → ℕ) (fs : List Mapping) (e : Sum) → AreFormed 
     Follows cs vs fs e
 follows cs vs [] e h range sound = record { value_is = refl; sound = sound }
 follows cs vs (f ∷ fs) e h range sound =
-    let one = simplifies cs vs f e h.0.formed h.0.no_list sound range in
-    let rest = follows cs vs fs (simplified cs f e) h.1 range one.sound in
-    record { value_is = rest.value_is ∙ ap (through fs) one.value_is; sound = rest.sound }
+    let one = simplified_keeps cs vs f e h.0.formed h.0.no_list sound range in
+    let rest = follows cs vs fs (simplified cs f e) h.1 range (sound-simplified cs f e h.0.formed h.0.no_list sound) in
+    record { value_is = rest.value_is ∙ ap (through fs) one; sound = rest.sound }
 
 pub value-at_place : (cs vs : ℕ → ℕ) (path : Path) (n : ℕ) (fs : List Mapping) (e : Sum) → AreFormed fs →
     AreBelowCounts vs cs → IsSound e →
