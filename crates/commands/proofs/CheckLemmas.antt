@@ -1,4 +1,4 @@
--- What `check` comes to behind the first line.
+-- What `check` comes to after the first line.
 use Rattle.std.proofs.Common.{◌≡◌, ◌<◌, ◌≤◌, ◌+◌, ℕ, List, [], ◌++◌, Err, length, refl, sym, ap, subst, ◌∙◌, arith}
 use Rattle.std.proofs.Common.{append-nil, length-append, inl, inr}
 use Rattle.std.proofs.KnownBytes.{Appends-nil}
@@ -30,7 +30,7 @@ use Rattle.commands.proofs.SpiralInput.OutcomeLemmas.{told_nothing}
 abbrev pub judges : Request → Work
 judges request = judging (IsVerdict request)
 
--- what is right for `check` behind the line of this request
+-- what is right for `check` after the line of this request
 abbrev pub checking : Request → Work
 checking request = staged (fitting request) judges
 

@@ -28,7 +28,7 @@ sum_of_fewer n k f h =
     let whole : sum_below n f ≡ sum_below (k + (n - k)) f = ap (λ j. sum_below j f) parts in
     omega (arith, whole, sum_below-append k (n - k) f)
 
--- a sum of so many terms that fits has room for each of them
+-- a sum of n terms that fits has room for each of them
 pub next_fits : (n k sum term : ℕ) (f : ℕ → ℕ) → k < n → sum ≡ sum_below k f → term ≡ f k → sum_below n f < 2 ^ 64 →
     sum + term < 2 ^ 64
 next_fits n k sum term f low s e fits =

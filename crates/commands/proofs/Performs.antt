@@ -1,4 +1,4 @@
--- From what stands behind the line of a request to the whole input.
+-- From what comes after the line of a request to the whole input.
 use Rattle.std.proofs.Common.{◌-◌, ℕ, List, []}
 use Rattle.matrix_meaning.specs.declared.Request.{Request}
 use Rattle.spiral_words.specs.declared.Document.{Document}
@@ -19,7 +19,7 @@ use Rattle.commands.proofs.CheckLemmas.{checking, judges}
 use Rattle.commands.proofs.SpiralInput.Nested.{no_unit}
 use Rattle.commands.proofs.SpiralInput.Within.{Within, within_then, front_within, front_join}
 
--- what is right by the line of a request, and then behind it
+-- what is right by the line of a request, and then after it
 abbrev pub by_line : RequestCommand → Outcomes
 by_line command = by_front (line 256) (λ text. spelt text >>= turned (procs_named command)) (work_for command)
 

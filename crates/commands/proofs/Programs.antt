@@ -1,11 +1,11 @@
 -- What is known of the program of a request's chosen tree.
-use Rattle.std.proofs.Common.{◌≡◌, ℕ, None, Ok, sym, ap, subst, ◌∙◌}
+use Rattle.std.proofs.Common.{◌≡◌, Ok, sym, ap, subst, ◌∙◌}
 use Rattle.matrix_meaning.specs.Valid.{IsInRange}
 use Rattle.matrix_meaning.specs.declared.Request.{Request}
 use Rattle.icode.specs.Actions.{PlainFits, plain_code}
 use Rattle.icode.specs.Machine.{Code}
 use Rattle.icode.specs.Plain.{PlainProgram}
-use Rattle.icode.specs.Program.{Fits, code_of, plain_program}
+use Rattle.icode.specs.Program.{Fits, code_of}
 use Rattle.icode.specs.declared.program.Program.{Program}
 use Rattle.generate.proofs.GoodPrograms.{programs_are_good}
 use Rattle.generate.specs.Good.{IsGood}

@@ -1,4 +1,4 @@
--- What `check` answers for the bytes behind the first line.
+-- What `check` answers for the bytes after the first line.
 use Rattle.std.specs.Prelude.{◌≡◌, ℕ, ◌<◌, List, [], ◌∷◌, length, codes, decimal}
 use Rattle.std.specs.List.{concat}
 use Rattle.plan_cert.specs.declared.verdict.Verdict.{Verdict}

@@ -9,7 +9,7 @@ use Rattle.spiral_words.specs.declared.Order.{Order}
 use Rattle.spiral_words.specs.declared.Order.TheVariants as order
 use Rattle.runs.specs.Texts.{buffered_text, run_text}
 
--- The text of a vector's run on so many processors: a line for each turn and drain, where these are asked for, and
+-- The text of a vector's run on a number of processors: a line for each turn and drain, where these are asked for, and
 -- the line of its results. Turns alone are those of the machine without buffers
 abbrev pub order_text : Bool → Order → ℕ → Code → List ℕ → List ℕ
 order_text asked (order.Turns schedule) procs code = run_text asked code (turns_of schedule procs)

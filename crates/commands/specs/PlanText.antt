@@ -9,7 +9,7 @@ use Rattle.tree_model.specs.Text.{tree_text}
 abbrev pub phases_of : ℕ → ℕ
 phases_of procs = if nat_le procs 1 then 1 else 2
 
--- what stands behind a tree: its cost, how many phases there are, and the share of each processor in the cost
+-- what comes after a tree: its cost, how many phases there are, and the share of each processor in the cost
 abbrev pub cost_lines : ℕ → ℕ → List ℕ
 cost_lines procs cost =
     codes "\ncost " ++ (decimal cost

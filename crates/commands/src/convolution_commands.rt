@@ -55,7 +55,7 @@ fn ask_conv<I: Source>(
     Ok(request)
 }
 
-// A program for the list with which the data begin, what cuts the vectors behind it, and the list.
+// A program for the list with which the data begin, what cuts the vectors after it, and the list.
 fn listed_program<I: Source>(
     alloc: Global,
     request: &Request,
@@ -88,7 +88,7 @@ fn listed_program<I: Source>(
     Ok((program, vectors, list))
 }
 
-// Writes the listing of the program, and reads nothing behind the list.
+// Writes the listing of the program, and reads nothing after the list.
 fn print_convolver<I: Source, O: Sink>(
     alloc: Global,
     request: &Request,

@@ -61,7 +61,7 @@ fn loaded_program(alloc: Global, text: &[u8], schedule: &Schedule) -> Result<Pro
     Ok(program)
 }
 
-/// Runs the program of the listing with which the input begins on each vector of the data behind it, and writes the
+/// Runs the program of the listing with which the input begins on each vector of the data after it, and writes the
 /// line of its results. The program runs only if it passes the check.
 pub fn exec<I: Source, O: Sink>(
     alloc: Global,

@@ -71,7 +71,7 @@ fn all_counts(machine: &Machine) -> Counts
     }
 }
 
-// The operations, where a multiplication counts as so many of them.
+// The operations, where a multiplication counts as `weight` of them.
 fn weighted(counts: &Counts, weight: u64) -> u64
     requires weight { 1 ≤ weight }
     requires room { weighted weight counts.now < 2 ^ 64 }

@@ -60,7 +60,7 @@ pub fn asked(alloc: Global, words: &Vec<String>) -> Result<Command, Status>
     }
 }
 
-/// No turn is of a stranger to so many processors.
+/// No turn is of a stranger to `p` processors.
 pub(crate) fn check_turns(stranger: Option<u64>, p: u64) -> Result<(), Status>
     ensures none { OnOk result (stranger ≡ None) }
     ensures first { IfErr result (λ status.
@@ -72,7 +72,7 @@ pub(crate) fn check_turns(stranger: Option<u64>, p: u64) -> Result<(), Status>
     }
 }
 
-// The first stranger to so many processors that the order names.
+// The first stranger to `p` processors that the order names.
 fn stranger_in(order: &Order, p: u64) -> Option<u64>
     ensures { result ≡ first_stranger (procs_in order.now) p }
 {
@@ -83,7 +83,7 @@ fn stranger_in(order: &Order, p: u64) -> Option<u64>
     }
 }
 
-// The first stranger to so many processors that the words of a document name.
+// The first stranger to `p` processors that the words of a document name.
 fn stranger_to(document: &Document, p: u64) -> Option<u64>
     ensures { result ≡ first_stranger (procs_named (RequestCommand.Writes document.now)) p }
 {
@@ -93,7 +93,7 @@ fn stranger_to(document: &Document, p: u64) -> Option<u64>
     }
 }
 
-// The first stranger to so many processors that the words of the command name.
+// The first stranger to `p` processors that the words of the command name.
 fn stranger(command: &RequestCommand, p: u64) -> Option<u64>
     ensures { result ≡ first_stranger (procs_named command.now) p }
 {

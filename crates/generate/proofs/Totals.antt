@@ -72,7 +72,7 @@ module _ (c : Request) (request : IsConvRequest c) where
   passes-are (node Split a b) h = flat-are (node Split a b)
   passes-are (node Dim a b) h = absurd (h.2.0 request.dimensions)
 
-  -- so many loads and passes
+  -- the loads, and how many passes there are
   pub flat-loads : (t : Breakdown) → IsTreeOf c t → whole_loads c t ≡ loads_of c t
   flat-loads t h = ap (sum_by (loads_of_pass c.size)) (passes-are t h) ∙ loads-listed c (whole_passes c t)
 

@@ -406,7 +406,7 @@ pub list_come : (request : Request) (code : Code) (cut : Cut) (old now : Fed) (b
 list_come request code cut old now before mid h program made same come =
     subst (λ m. HasCome m cut old now before mid (h ∷ [])) (sym (ap (λ (k : Code). k.modulus) same ∙ made.convolver.header.modulus)) come
 
--- the machine runs behind the list
+-- the machine runs after the list
 pub convolves_run : {S : Type 0} (schedule : Plan) (request : Request) (code : Code) (cut : Cut) (old now new : Fed)
     (before mid after out out' : Option (List ℕ)) (h : List ℕ) (program : Program) (leaves : List ℕ → S)
     (first last : S)
@@ -427,9 +427,9 @@ convolves_run schedule request code cut old now new before mid after out out' h 
     (subst (λ m. StreamsBehind (h ∷ []) text leaves cut.size m old new before after out out' first last result) modulus
     (s old before (h ∷ []) (list_come request code cut old now before mid h program made same come)))))
 
--- From what stands behind the line to the whole input
+-- From what comes after the line to the whole input
 
--- what is right by the line of a request, and then behind it
+-- what is right by the line of a request, and then after it
 abbrev pub by_line : Plan → Bool → Outcomes
 by_line schedule code = by_front (line 256) (λ text. conv_spelt text >>= turned (named schedule)) (work_by_list code)
 

@@ -1,5 +1,5 @@
 -- A line orders one plan for convolutions, or is refused with one status.
-use Rattle.std.proofs.Common.{◌≡◌, ◌<◌, ◌≤◌, ℕ, Bool, true, false, List, [], ◌∷◌, None, Some, Ok, Err, Result, nat_lt}
+use Rattle.std.proofs.Common.{◌≡◌, ◌<◌, ◌≤◌, ℕ, Bool, true, false, List, None, Some, Ok, Err, Result, nat_lt}
 use Rattle.std.proofs.Common.{refl, sym, ap, ap₂, ◌∙◌, arith}
 use Rattle.std.proofs.lemmas.Grind.{common_steps}
 use Rattle.std.specs.declared.option.Option.{Option}
@@ -13,7 +13,6 @@ use Rattle.matrix_meaning.specs.declared.Request.{Request}
 use Rattle.matrix_meaning.specs.Parts.{bad_power}
 use Rattle.request_text.specs.declared.RequestFault.{RequestFault}
 use Rattle.request_text.proofs.OneAnswer.{one_conv_answer}
-use Rattle.spiral_words.specs.declared.spiral_status.status.Status.{Status}
 use Rattle.spiral_words.specs.SpiralStatus.Fault.{status_of_conv, status_of_request}
 use Rattle.tree_model.specs.Breakdown.{Breakdown}
 use Rattle.tree_model.specs.Chosen.{whole_cost}

@@ -60,7 +60,7 @@ use Rattle.commands.proofs.StreamLemmas.{mapping_within}
 
 -- The line
 
--- a fault behind a part of the line
+-- a fault after a part of the line
 pub text_failed : (text : List ℕ) (start before after : Option (List ℕ)) (old new : Fed) (fault : FeedFault)
     → Consumes start before text → old.taken ≡ length text → length text ≤ 65536 → list_any is_line_end text ≡ false
     → Feeds old new before after (Err fault)
@@ -105,7 +105,7 @@ module _ (orders : List ℕ → Stage Formula) (work : Formula → Work) where
       front_refused (line 65536) orders work before after out taken status
       (asks_refused (line 65536) orders before after taken read text status consumed whole short refused refusal.read) refusal.write
 
-  -- it orders a formula, and behind it this is right for the formula's work
+  -- it orders a formula, and after it this is right for the formula's work
   pub line_told : (before mid left out out' : Option (List ℕ)) (taken : ℕ) (read text : List ℕ) (formula : Formula)
       (status : Status)
       → Consumes before mid read → taken ≡ length read → IsWhole (line 65536) read (IsOver mid) text

@@ -6,7 +6,6 @@ use Rattle.spl_text.specs.Answer.{IsFirst, IsLeft}
 use Rattle.spl_text.specs.Fault.{TextFault, TooDeep, Shape}
 use Rattle.spl_text.specs.declared.reading.SplFault.{SplFault}
 use Rattle.spl_text.specs.declared.reading.SplFault.TheVariants as spl
-use Rattle.spiral_words.specs.declared.spiral_status.status.Status.{Status}
 use Rattle.commands.specs.SpiralInput.Commands.{admitted, first_stranger}
 use Rattle.commands.specs.Equations.Formulas.{formed, written}
 use Rattle.spiral_words.specs.SpiralStatus.Fault.{status_of_spl}

@@ -1,5 +1,5 @@
 -- A formula that a line spells has fitting shapes, and no more parts than the line has bytes.
-use Rattle.std.proofs.Common.{◌≡◌, ℕ, zero, suc, ◌+◌, ◌*◌, ◌<◌, ◌≤◌, Bool, true, false, not, ◌&&◌, nat_lt, eqb, ltb}
+use Rattle.std.proofs.Common.{◌≡◌, ℕ, zero, suc, ◌*◌, ◌<◌, ◌≤◌, Bool, true, false, not, ◌&&◌, eqb, ltb}
 use Rattle.std.proofs.Common.{List, [], ◌∷◌, All, length, Option, Some, None, Result, Ok, Err, refl, sym, ap, subst}
 use Rattle.std.proofs.Common.{arith}
 use Rattle.std.specs.Int.{is_power_of_two}
@@ -12,7 +12,7 @@ use Rattle.grammar.specs.Reading.{or_else as reading_else}
 use Rattle.grammar.specs.Stops.{Stop, and_go_on, passed, spelling_only, tested_at}
 use Rattle.tree_model.proofs.PowerOfTwo.{power_of_two}
 use Rattle.spl_ast.specs.Formula.{Formula, Identity, Fourier, Hadamard, Twiddles, Diagonal, Stride, Permutation}
-use Rattle.spl_ast.specs.Formula.{GoodThomasIn, GoodThomasOut, Product, TensorLeft, TensorRight, DirectSum, Pending}
+use Rattle.spl_ast.specs.Formula.{GoodThomasIn, GoodThomasOut, Product, TensorLeft, TensorRight, DirectSum}
 use Rattle.spl_ast.specs.Formula.{parts_of, size_of}
 use Rattle.spl_ast.specs.Shape.{IsShaped, IsSize, IsRingValue, AreGoodThomasFactors}
 use Rattle.spl_ast.proofs.Vectors.{size_is_size}
@@ -21,7 +21,7 @@ use Rattle.spl_text.specs.Arguments.{sizes_value_at, values_at}
 use Rattle.spl_text.specs.Fault.{TextFault, Shape, are_coprime, first_stray, misfit, or_else, refusal, refused_if}
 use Rattle.spl_text.specs.Fault.{shape_fault, share_factor}
 use Rattle.spl_text.specs.Reading.{heads, plain, made_at, arguments_by, two_formulas_by, tensor_left_by}
-use Rattle.spl_text.specs.Reading.{tensor_right_by, too_deep, formula_at, line_at, ended_formula, all_of, whole_line}
+use Rattle.spl_text.specs.Reading.{tensor_right_by, too_deep, formula_at, line_at, ended_formula, all_of}
 use Rattle.spl_text.specs.Spelling.{spells, spells_line, AreSomeValues, AreValues, HasSpelling, IsFactor}
 use Rattle.spl_text.proofs.Coprime.{gcd_from_shared, multiple}
 use Rattle.spl_text.proofs.Lengths.{few_parts}
@@ -262,7 +262,7 @@ module _ (read : Place ℕ → Result (Formula × Place ℕ) (Stop TextFault))
       let g4 = go_ok (plain close_at g3.0.1) _ y g3.2 in
       subst IsReady (same_ok (TensorRight g1.0.0 g3.0.0, g4.0.1) y g4.2) (right_ready g1.0.0 g3.0.0 (inner g2.0.1 g3.0 g3.1))
 
-  -- behind each head of a part stands one that is ready
+  -- after each head of a part stands one that is ready
   heads_ready : EachHead (λ h. (place : Place ℕ) (y : Formula × Place ℕ) → arguments_by read h place ≡ Ok y →
       IsReady y.0) heads
   heads_ready = (

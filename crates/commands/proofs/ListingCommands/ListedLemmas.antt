@@ -45,7 +45,7 @@ use Rattle.commands.proofs.StreamLemmas.{mapping_within}
 
 -- The front
 
--- a byte that ends no line leaves a part unended, and nothing behind it
+-- a byte that ends no line leaves a part unended, and nothing after it
 unended_push : (begins : Bool) (read : List ℕ) → has_empty_line begins read ≡ false →
     behind_empty_line begins (read ++ 0 ∷ []) ≡ []
 unended_push true [] none = refl

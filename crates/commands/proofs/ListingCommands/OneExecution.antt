@@ -12,7 +12,6 @@ use Rattle.listing_text.specs.Texts.{is_listing}
 use Rattle.listing_text.proofs.ListingReads.{listing_judges}
 use Rattle.code_check.proofs.Causes.{one_cause, none_if_passed}
 use Rattle.request_text.specs.Schedule.{Plan}
-use Rattle.spiral_words.specs.declared.spiral_status.status.Status.{Status}
 use Rattle.spiral_words.specs.declared.spiral_status.status.Status.TheVariants.{ListingSyntax}
 use Rattle.commands.specs.SpiralInput.Commands.{stranger, admitted}
 use Rattle.spiral_words.specs.SpiralStatus.Fault.{status_of_check}

@@ -116,7 +116,7 @@ module _ (IsText : List (List ℕ) → List ℕ → Type 0) (size modulus : ℕ)
     );
   }
 
--- behind the front, the texts of whole vectors are texts of them
+-- after the front, the texts of whole vectors are texts of them
 pub streams_told : {S : Type 0} (IsText : List (List ℕ) → List ℕ → Type 0) (size modulus : ℕ) (front : List ℕ)
     (text : List ℕ → List ℕ) (leaves : List ℕ → S) (old new : Fed) (before after start out out' : Option (List ℕ))
     (first last : S)

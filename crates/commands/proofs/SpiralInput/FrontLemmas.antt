@@ -1,4 +1,4 @@
--- From what stands behind a front to the whole input.
+-- From what comes after a front to the whole input.
 use Rattle.std.proofs.Common.{◌≡◌, ◌≢◌, ◌<◌, ◌≤◌, ◌+◌, ◌-◌, ℕ, true, false, List, [], ◌++◌, Ok, Err, Result, nat_le}
 use Rattle.std.proofs.Common.{length, cond, refl, sym, ap, subst, ◌∙◌, arith, append_assoc, length-append, inl, inr}
 use Rattle.std.proofs.lemmas.Grind.{common_steps}
@@ -21,9 +21,9 @@ use Rattle.io_edge.proofs.ToldLemmas.{over_left, over_rest}
 -- What holds of each front
 
 pub record IsFront (front : Front) : Type 0 where
-  -- one that has ended has ended behind further bytes too
+  -- one that has ended has ended after further bytes too
   pub kept : (read more : List ℕ) → front.has_end read ≡ true → front.has_end (read ++ more) ≡ true
-  -- one has ended where what stands behind it is known, whatever follows
+  -- one has ended where what comes after it is known, whatever follows
   pub there : (read rest : List ℕ) → ((more : List ℕ) → (rest ≡ [] → more ≡ []) → front.behind (read ++ more) ≡ more) →
       HasEnded front read (rest ≡ [])
 
@@ -32,7 +32,7 @@ still_ended : (front : Front) → IsFront front → (read more : List ℕ) (now 
 still_ended front is read more now later (inl there) goes = inl (is.kept read more there)
 still_ended front is read more now later (inr e) goes = inr (goes e)
 
--- as many bytes may come behind it as the limit leaves behind what was taken for it
+-- as many bytes may come after it as the limit leaves after what was taken for it
 room_after : (front : Front) (read more : List ℕ) (taken : ℕ) → taken ≡ length read →
     front.behind (read ++ more) ≡ more → limit - taken ≡ room_behind front (read ++ more)
 room_after front read more taken count is =
@@ -56,7 +56,7 @@ front_long front bytes long =
 
 -- The front orders a value
 
--- what the work comes to behind the front is right for the whole input
+-- what the work comes to after the front is right for the whole input
 front_meets : {A : Type 0} (front : Front) → IsFront front →
     (orders : List ℕ → Stage A) (work : A → Work) (bytes read rest : List ℕ) (taken : ℕ) (value : A)
     (left : List ℕ) (out out' : Option (List ℕ)) (status : Status)

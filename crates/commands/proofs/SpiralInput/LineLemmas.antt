@@ -10,7 +10,7 @@ use Rattle.commands.specs.SpiralInput.Line.{IsWhole}
 use Rattle.commands.specs.Equations.Front.{is_line_end, line, HasEnded}
 use Rattle.commands.proofs.SpiralInput.FrontLemmas.{IsFront}
 
--- the first line, and what stands behind its end
+-- the first line, and what comes after its end
 abbrev first_line : List ℕ → List ℕ
 first_line bytes = before_first is_line_end bytes
 
@@ -70,7 +70,7 @@ two_cases : (b : Bool) → (b ≡ true) ⊎ (b ≡ false)
 two_cases true = inl refl
 two_cases false = inr refl
 
--- the first line has ended where what stands behind it is known, whatever follows
+-- the first line has ended where what comes after it is known, whatever follows
 line_there : (most : ℕ) (read rest : List ℕ) → ((more : List ℕ) → (rest ≡ [] → more ≡ []) →
     data_of (read ++ more) ≡ more) → HasEnded (line most) read (rest ≡ [])
 line_there most read [] behind = inr refl

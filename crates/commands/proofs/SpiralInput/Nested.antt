@@ -1,4 +1,4 @@
--- Stages one behind another, and what is answered by them.
+-- Stages one after another, and what is answered by them.
 use Rattle.std.proofs.Common.{◌≡◌, ◌⊎◌, ℕ, List, [], Ok, Err, Result, refl, subst, sym, inl, inr}
 use Rattle.spiral_words.specs.declared.spiral_status.status.Status.{Status}
 use Rattle.commands.specs.SpiralInput.Stage.{Stage, given, GoesOn, ◌>>=◌, IsAnswerBy, IsBrokenBy, IsCutBy}

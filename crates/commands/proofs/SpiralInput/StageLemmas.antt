@@ -1,4 +1,4 @@
--- What a call comes to by a stage behind a front.
+-- What a call comes to by a stage after a front.
 use Rattle.std.proofs.Common.{ℕ, List, ◌++◌, Ok, Err, refl, inl, inr}
 use Rattle.std.specs.declared.option.Option.{Option}
 use Rattle.spiral_words.specs.SpiralStatus.Status.{IsDefined}

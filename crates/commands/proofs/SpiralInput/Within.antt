@@ -44,7 +44,7 @@ ordered_map front orders others bytes h (Ok v) p = record { value = p.value; bef
 ordered_map front orders others bytes h (Err s) (inl p) = inl p
 ordered_map front orders others bytes h (Err s) (inr p) = inr (record { value = p.value; before = p.before; behind = h p.value (Err s) p.behind })
 
--- more orders, and more that is right behind the front
+-- more orders, and more that is right after the front
 pub front_within : {A : Type 0} (front : Front) (orders others : List ℕ → Stage A) (v w : A → Work)
     → ((text : List ℕ) (r : Result A Status) → orders text r → others text r)
     → ((a : A) (room : ℕ) → Within (v a room) (w a room)) → Within (by_front front orders v) (by_front front others w)

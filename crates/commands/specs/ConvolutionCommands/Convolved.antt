@@ -24,6 +24,6 @@ abbrev pub list_work : Bool → Planned → Work
 list_work false plan = convolve_work plan
 list_work true plan = convolver_work plan
 
--- what is right behind the line of the request
+-- what is right after the line of the request
 abbrev pub work_by_list : Bool → Request → Work
 work_by_list code request = staged (conv_chosen request) (list_work code)

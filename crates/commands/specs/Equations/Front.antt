@@ -1,4 +1,4 @@
--- The front of an input, by which a command goes, and what is right for a command behind it.
+-- The front of an input, by which a command goes, and what is right for a command after it.
 use Rattle.std.specs.Prelude.{◌≡◌, ◌⊎◌, ℕ, ◌-◌, ◌≤◌, ◌==◌, nat_le, Bool, true, false, List, [], length, Ok, Err, Result}
 use Rattle.std.specs.Prelude.{if◌then◌else◌}
 use Rattle.std.specs.List.{before_first, after_first, list_any}
@@ -9,7 +9,7 @@ use Rattle.spiral_words.specs.declared.spiral_status.status.Status.TheVariants.{
 use Rattle.commands.specs.SpiralInput.Outcomes.{Outcomes}
 use Rattle.commands.specs.SpiralInput.Stage.{Stage, given, ◌>>=◌, IsAnswerBy, IsBrokenBy, IsCutBy}
 
--- A front of an input: what it is, what stands behind its end, whether this is there, and how many bytes it has at most
+-- A front of an input: what it is, what comes after its end, whether this is there, and how many bytes it has at most
 pub record Front : Type 0 where
   pub first : List ℕ → List ℕ
   pub behind : List ℕ → List ℕ
@@ -37,7 +37,7 @@ abbrev pub taken_from : Front → List ℕ → Result (List ℕ) Status
 taken_from front bytes =
     if nat_le (length (front.first bytes)) front.most then Ok (front.first bytes) else Err (TooLong front.most)
 
--- as many bytes as the limit leaves behind it
+-- as many bytes as the limit leaves after it
 abbrev pub room_behind : Front → List ℕ → ℕ
 room_behind front bytes = limit - (length bytes - length (front.behind bytes))
 
@@ -60,13 +60,13 @@ ordered front orders bytes = do
 abbrev pub Answer : Type 1
 Answer = List ℕ → Status → List ℕ → Type 0
 
--- What is answered: the front orders a value, and status and text are right for it and for what is behind, where so
+-- What is answered: the front orders a value, and status and text are right for it and for what comes after, where so
 -- many bytes may come; or it refuses, and nothing is written
 abbrev pub answered : {A : Type 0} → Front → (List ℕ → Stage A) → (A → ℕ → Answer) → Answer
 answered {A} front orders settles bytes = IsAnswerBy (ordered front orders bytes)
     (λ (value : A). settles value (room_behind front bytes) (front.behind bytes))
 
--- what is right for a command behind its front, where so many bytes may come
+-- what is right for a command after its front, given how many bytes may come
 abbrev pub Work : Type 1
 Work = ℕ → Outcomes
 
@@ -80,7 +80,7 @@ by_front {A} front orders work = record {
       (λ (value : A). (work value (room_behind front read)).cut (front.behind read) left);
 }
 
--- a further stage behind a front, and then the work
+-- a further stage after a front, and then the work
 abbrev pub staged : {A : Type 0} → Stage A → (A → Work) → Work
 staged {A} stage work room = record {
   answer = λ bytes. IsAnswerBy stage (λ (value : A). (work value room).answer bytes);

@@ -53,7 +53,7 @@ IsDocument document request text = (plan : Planned) × chosen request (Ok plan) 
 abbrev pub document_work : Document → Planned → Work
 document_work document plan = writing (IsDocumentText document plan)
 
--- what is right behind the request's line
+-- what is right after the request's line
 abbrev pub work_for : RequestCommand → Request → Work
 work_for (Writes document) request = staged (chosen request) (document_work document)
 work_for (Runs order) request = staged (chosen request) run_work

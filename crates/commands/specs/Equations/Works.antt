@@ -1,4 +1,4 @@
--- What a command does behind its front: it writes a text, or one for the vectors of the data, or it judges all that
+-- What a command does after its front: it writes a text, or one for the vectors of the data, or it judges all that
 -- is there.
 use Rattle.std.specs.Prelude.{◌≡◌, ◌⊎◌, ℕ, ◌≤◌, List, [], ◌∷◌, length, Result}
 use Rattle.plan_cert.specs.declared.verdict.Verdict.{Verdict}
@@ -49,7 +49,7 @@ abbrev pub mapped_by : Wants → (size modulus : ℕ) → (List (List ℕ) → L
 mapped_by wants size modulus IsText room bytes status text = let vectors = data_vectors size modulus room bytes in
     (status ≡ status_by wants size (data_answer size room bytes) vectors) × IsText vectors text
 
--- it reads on behind these vectors
+-- it reads on after these vectors
 abbrev pub ReadsOn : Wants → List (List ℕ) → Type 0
 ReadsOn the_first vectors = vectors ≡ []
 ReadsOn _ vectors = Unit {0}
@@ -64,12 +64,12 @@ mapping wants size modulus IsText room = record {
       × IsText (vectors_of size modulus (tokens read)) text;
 }
 
--- a text for the vectors behind the first. Before that is there, nothing is written
+-- a text for the vectors after the first. Before that is there, nothing is written
 abbrev pub by_first : (List ℕ → List (List ℕ) → List ℕ → Type 0) → List (List ℕ) → List ℕ → Type 0
 by_first IsText [] text = text ≡ []
 by_first IsText (x ∷ later) text = IsText x later text
 
--- It judges all that stands behind the front
+-- It judges all that comes after the front
 
 -- the status and the text of the verdict on the bytes
 abbrev pub IsJudged : (List ℕ → Verdict → Type 0) → List ℕ → Status → List ℕ → Type 0

@@ -58,11 +58,11 @@ first_stranger names procs = find (λ q. nat_le procs q) names
 abbrev pub stranger : Turns → ℕ → Option ℕ
 stranger schedule procs = first_stranger (named schedule) procs
 
--- each processor that the command names is one of so many
+-- each processor that the command names is one of the request's
 abbrev pub NamesNoStranger : RequestCommand → ℕ → Type 0
 NamesNoStranger command procs = first_stranger (procs_named command) procs ≡ None
 
--- what goes on, if there is no stranger to so many processors
+-- what goes on, if no stranger to the processors is named
 abbrev pub admitted : {A : Type 0} → Option ℕ → ℕ → A → Result A Status
 admitted None procs value = Ok value
 admitted (Some q) procs value = Err (Turn q procs)

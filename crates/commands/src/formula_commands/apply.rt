@@ -47,7 +47,7 @@ fn formed_program(
     Ok(program)
 }
 
-/// Writes for each vector of the data behind the first line the line of the matrix times it, whose formula the first
+/// Writes for each vector of the data after the first line the line of the matrix times it, whose formula the first
 /// line spells.
 pub(crate) fn apply<I: Source, O: Sink>(
     alloc: Global,

@@ -45,7 +45,7 @@ fn formula_listing(alloc: Global, modulus: &Modulus, text: &[u8]) -> Result<Vec<
     Ok(listing)
 }
 
-/// Writes the listing of a program for the formula that the first line spells, and reads nothing behind that line.
+/// Writes the listing of a program for the formula that the first line spells, and reads nothing after that line.
 pub(crate) fn compile<I: Source, O: Sink>(
     alloc: Global,
     modulus: &Modulus,

@@ -16,7 +16,7 @@ use std::alloc::Global;
 /// How many bytes the line of a formula has at most, without its end.
 const FORMULA_LIMIT: u64 = 65536;
 
-// Puts a byte behind the text.
+// Puts a byte after the text.
 fn append(text: &mut Vec<u8>, byte: u8) -> Result<(), NoMemory>
     ensures { OnOk result (text.new.items ≡ text.old.items ++ byte ∷ []) }
 {

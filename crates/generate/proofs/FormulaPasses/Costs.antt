@@ -56,7 +56,7 @@ square-le : (n : ℕ) → n ≤ n * n
 square-le zero = omega arith
 square-le (suc n) = omega arith
 
--- each copy loads at most so many words as it has operations and items
+-- each copy loads at most as many words as it has operations and items
 loads-le : (m : ℕ) (w : PlainWork) → IsFormulaWork w → work_loads w ≤ work_cost 1 m w + work_size w
 loads-le m (kernel trees) work = omega arith
 loads-le m (rows root d) work = absurd work

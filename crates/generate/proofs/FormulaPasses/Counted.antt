@@ -84,7 +84,7 @@ tables-multiplied factors fs (z ∷ zs) = let rest = tables-multiplied factors f
 
 -- ---- one pass
 
--- so many nests at most, and so many tables
+-- b nests at most, and t tables
 pub record IsFew (b t : ℕ) (zs : List PlainNest) : Type 0 where
   pub nests : length zs ≤ b
   pub tables : nests_tables zs ≤ t
@@ -128,7 +128,7 @@ few-by room n b f some = chosen (IsFew b 0) (can_gather room n f (copying n)) _ 
 
 -- ---- passes
 
--- so many nests a pass, passes and tables
+-- b nests a pass, l passes and t tables
 pub record AreFew (b l t : ℕ) (ps : List (List PlainNest)) : Type 0 where
   pub narrow : AreNarrow b ps
   pub long : length ps ≤ l

@@ -88,7 +88,7 @@ term-formed m path (Pending a) some shaped = term-formed m path a some shaped
 
 -- ---- how many steps it has
 
--- so many steps, direct sums and tables
+-- s steps, d direct sums and t tables
 record IsCounted (f : Formula) (s d t : ℕ) : Type 0 where
   steps : s ≤ 21 * (parts_of f + 1)
   sums : d ≤ parts_of f

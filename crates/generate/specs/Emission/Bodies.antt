@@ -63,7 +63,7 @@ remainders o depth (remainder k of n rest) =
     Rem (at (constant_of of) (variables o depth of ++ remainders o depth of)) n k ∷ remainders o depth rest
 remainders o depth e = []
 
--- a place as an expression, where so many loops are open
+-- a place as an expression, given how many loops are open
 abbrev pub expression : Setting → ℕ → Sum → PlainExpr
 expression o depth e = at (constant_of e) (variables o depth e ++ remainders o depth e)
 
@@ -71,7 +71,7 @@ expression o depth e = at (constant_of e) (variables o depth e ++ remainders o d
 abbrev pub limits : Pass → ℕ → ℕ
 limits p = slice_index (p.site.counts ++ work_size p.work ∷ work_size p.work ∷ [])
 
--- where the place k of the work stands, inside so many loops of the work
+-- where the place k of the work stands, given how many loops of the work are open
 abbrev pub place : Setting → ℕ → PlaceFunction → Sum → PlainExpr
 place o inner f k = expression o (length (loops o) + inner) (f (limits o.pass) k)
 

@@ -18,7 +18,7 @@ processor_loops c = inside [] c.procs
 abbrev pub lane_loops : Request → List ℕ
 lane_loops c = inside (processor_loops c) c.lanes
 
--- n turns, as many at a time as there are lanes: each processor takes so many, one after the other
+-- n turns, as many at a time as there are lanes: what a processor takes of them, one after the other
 abbrev pub share : Request → ℕ → ℕ
 share c n = n / c.lanes / c.procs
 

@@ -32,7 +32,7 @@ use Rattle.tree_model.specs.declared.tree.Rule.TheVariants.{Gt, Ct, Split, Dim}
 
 -- ---- one pass
 
--- a work has the operations of a node, and its loads over n words, so many times
+-- a work has the operations of a node, and its loads over n words, `count` times
 pub record Matches (n : ℕ) (p : Request) (k : ℕ) (w : PlainWork) (count : ℕ) (t : Breakdown) : Type 0 where
   pub copies : k ≡ count
   pub operations : work_cost p.weight p.modulus w ≡ cost_in p t
@@ -149,7 +149,7 @@ module _ (n : ℕ) (p : Request) (rule : Rule) (a b : Breakdown) (l : Layout) wh
     loads = kernel-loads short;
   }
 
--- so many times, by the passes of its parts
+-- a number of times, by the passes of its parts
 module _ (n : ℕ) (p : Request) (rule : Rule) (a b : Breakdown) (root : ℕ) (w : PlainWork) (left right : Layout)
     (is_left : layout_size left ≡ size_of a) (is_right : layout_size right ≡ size_of b)
     (on_left : (k : ℕ) → ArePasses n p (passes_of k left) (trees.passes_of p k a))
@@ -245,7 +245,7 @@ handed : (n : ℕ) (p q : Request) (t : Breakdown) → q ≡ p →
 handed n p q t is on k =
     subst (λ r. ArePasses n p (passes_of k (layout_of r t)) (trees.passes_of p k t)) (sym is) (on k)
 
--- so many times, over n words
+-- a number of times, over n words
 module _ (n : ℕ) (p : Request) where
   pub flat_node_passes : (count : ℕ) (t : Breakdown) → IsFlatTree p t →
       ArePasses n p (passes_of count (layout_of p t)) (trees.passes_of p count t)

@@ -62,7 +62,7 @@ module _ (c : Request) where
   all-count p (z ∷ zs) [] like h = absurd h
   all-count p (z ∷ zs) (q ∷ qs) like h = (pass-counts p z q like h.0, all-count p zs qs like h.1)
 
-  -- a node of one size, so many times
+  -- a node of one size, `count` times
   node-counts : (p : Request) (count : ℕ) (t : Breakdown) → HasFields c p → IsFlatTree p t →
       AllCount c (passes_of count (layout_of p t)) (node_passes p count t)
   node-counts p count t like h =

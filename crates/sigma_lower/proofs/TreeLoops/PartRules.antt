@@ -1,4 +1,4 @@
--- What a rule finds under the tensors of a path, in a part of a layout that stands for so many words.
+-- What a rule finds under the tensors of a path, in a part of a layout that stands for a number of words.
 use Rattle.std.proofs.Common.{◌≡◌, ℕ, ◌*◌, ◌≤◌, arith, sym, ◌∙◌}
 use Rattle.sigma_lower.specs.TreeTerms.Good.{AreCoprime}
 use Rattle.sigma_lower.proofs.TreeTerms.Sizes.{part-le}
@@ -8,7 +8,7 @@ use Rattle.operators.proofs.TensorPaths.Under.{size_under-copies}
 use Rattle.tree_model.specs.declared.tree.Rule.{Rule}
 use Rattle.tree_model.specs.declared.tree.Rule.TheVariants.{Gt}
 
--- so many words, at least one, that a request may have
+-- the words, at least one, that a request may have
 pub record IsSize (size : ℕ) : Type 0 where
   pub low : 1 ≤ size
   pub high : size ≤ 1048576

@@ -117,7 +117,7 @@ thomas_back-one r s d e cs both count two_r two_s f =
     ap (λ (z : Divided). reduced cs (r * s) (joined (scaled (unit_of r s) z.quot) (scaled (unit_of s r) z.rem))) (divided-joined s e v cs (omega arith) fit.proper fit.small) in
     subst (λ g. Fits (r * s) g cs) (sym is) (mixed cs (r * s) (unit_of s r) (unit_of r s) d r e (subst (λ z. AreInArray (r * s) (unit_of s r) (unit_of r s) z r) (sym count) within) units.1 units.0 f (omega arith)).1
 
--- ---- gathers: from the pass outwards to a whole of so many words
+-- ---- gathers: from the pass outwards to a whole of a number of words
 
 abbrev pub Gathering : ℕ → Path → List Mapping → ℕ → Type 0
 Gathering size path waiting n = (cs : ℕ → ℕ) (d : ℕ) (e : Sum) → AreCounts path n d cs → Fits n e cs → StaysIn cs size waiting (place_sum path n d e)

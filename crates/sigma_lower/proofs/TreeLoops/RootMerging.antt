@@ -72,7 +72,7 @@ lifts-left p v m s = record {
   scatters = λ f q. lifted-scattered p v m s f q;
 }
 
--- behind passes that are there
+-- after passes that are there
 merged-left : (p v s : ℕ) (a : Layout) (ps : List PlainPass) →
     merged (done ps) (left_terms p v (layout_size a) s (steps_of [] a)) ≡ done (ps ++ left_passes p v s a)
 merged-left p v s a ps =

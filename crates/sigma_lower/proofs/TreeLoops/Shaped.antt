@@ -42,7 +42,7 @@ pub shaped_works : (m : ℕ) (l : Layout) → IsGoodLayout m l → HasWorks (IsS
 shaped_works m (work w) h = shaped-work m w h.0 h.1
 shaped_works m (by rule root a b) h = (shaped_works m a h.1, shaped_works m b h.2)
 
--- the copies fill so many words, and so do those of a diagonal; and the work is such
+-- the copies fill `size` words, and so do those of a diagonal; and the work is such
 pub record IsShaped (P : PlainWork → Type 0) (size : ℕ) (p : PlainPass) : Type 0 where
   pub wide : AreSeveral p.path
   pub fills : size_under p.path (work_size p.work) ≡ size

@@ -26,7 +26,7 @@ use Rattle.tree_model.proofs.WholeTraffic.{IsFlat}
 
 -- ---- a diagonal more in the last pass
 
--- the last number grown by so many
+-- the last number grown by a number
 abbrev pub more_last : ℕ → List ℕ → List ℕ
 more_last more cs = on_last (λ c. c + more) cs
 

@@ -52,7 +52,7 @@ names-all w cs (f ∷ fs) sums formed h =
     map-twice [] = refl
     map-twice (e ∷ es) = ap (λ rest. all_simplified cs fs (simplified cs f e) ∷ rest) (map-twice es)
 
--- ---- values in range, with others behind them
+-- ---- values in range, with others after them
 
 module _ (c : Target) (p : PlainPass) (host : IsHost c) (known : IsKnown c p) where
   abbrev w : PlainWork

@@ -1,4 +1,4 @@
--- Steps of a layout behind more tensors, and paths of tensors that may have one copy.
+-- Steps of a layout after more tensors, and paths of tensors that may have one copy.
 use Rattle.std.proofs.Common.{◌≡◌, ℕ, ◌/◌, Bool, true, false, arith, refl, sym, ap, ap₂, ◌∙◌, List, [], ◌∷◌, ◌++◌}
 use Rattle.std.proofs.Common.{if◌then◌else◌, append-nil, append_assoc}
 use Rattle.std.specs.Prelude.{map, ◌==◌}

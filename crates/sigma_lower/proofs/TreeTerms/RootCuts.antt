@@ -127,7 +127,7 @@ grid_of b v u = record { groups = u / v; tiles = b / u / v }
 abbrev pub laned_terms : ℕ → ℕ → ℕ → Option Grid → List smp.PlainFactor → List PlainTerm
 laned_terms p b v o fs = map (factor_term p v) (laned_from (deal p b v) o fs)
 
--- rows side by side, in a groups that t tiles reach across, and one behind the other again
+-- rows side by side, in a groups that t tiles reach across, and one after the other again
 abbrev joined_terms : ℕ → ℕ → ℕ → ℕ → List PlainTerm
 joined_terms p v a t =
     gath (wrapped (within (Columns v) (within (Blocks p) (within (Blocks a) []))) (t * v) (Strided t v)) ∷ nest (within (Blocks p) (within (Blocks a) (within (Blocks t) []))) (tile v) ∷ []

@@ -110,7 +110,7 @@ module _ (divide : Cutter) (from : Former) (g : Grid) (p v r s : ℕ) (cuts : Cu
       cuts.left_first e.path e.core (flat_map divide (lefts s es))
       ∙ ap (λ ts. tiled_after p v r s ++ (left_core p v r s e.path e.core ++ ts)) (lefts-next es)
 
-  -- ---- the right part with what stands round it, and other steps behind it
+  -- ---- the right part with what stands round it, and other steps after it
 
   module _ (w : ℕ) (es rest : List PlainStep) (others : List PlainTerm) (some : HasStep es)
       (next : from None (flat_map divide rest) ≡ others)

@@ -22,7 +22,7 @@ has_diagonal (Some d) = true
 
 -- ---- the passes of a layout, by what they count
 
--- a pass over all words: a work so many times, or tiles; then the diagonal of a ct, or none
+-- a pass over all words: a work a number of times, or tiles; then the diagonal of a ct, or none
 pub data Counted : Type 0 where
   works : (copies : ℕ) (does : PlainWork) (twiddled : Bool) → Counted
   tiles : (twiddled : Bool) → Counted
@@ -43,7 +43,7 @@ twiddle_by Ct ps = twiddle_last ps
 twiddle_by Split ps = ps
 twiddle_by Dim ps = ps
 
--- the passes of so many copies of a layout: one of a work, else those of the right part and then of the left one
+-- the passes of a number of copies of a layout: one of a work, else those of the right part and then of the left one
 abbrev pub passes_of : ℕ → Layout → List Counted
 passes_of n (work w) = works n w false ∷ []
 passes_of n (by rule root a b) = twiddle_by rule (passes_of (n * layout_size a) b) ++ passes_of (n * layout_size b) a

@@ -50,7 +50,7 @@ abbrev pub vectors_grouped : ℕ → ℕ → ℕ → ℕ → ℕ → Mapping
 vectors_grouped size p v r s =
     wrapped (within (Columns v) (within (Blocks p) (within (Blocks (r / p / v)) []))) size (Strided (s / v) v)
 
--- rows side by side, and one behind the other again
+-- rows side by side, and one after the other again
 abbrev pub tiled_before : ℕ → ℕ → ℕ → ℕ → List PlainTerm
 tiled_before p v r s =
     if v == 1 then [] else gath (vectors_grouped (s / v * v) p v r s) ∷ nest (tile_path p v r s) (tile v) ∷ []

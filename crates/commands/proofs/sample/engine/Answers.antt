@@ -1,5 +1,5 @@
 use Rattle.commands.proofs.Programs.{code_made}
-use Rattle.std.proofs.Common.{◌∙◌, sym, subst}
+use Rattle.std.proofs.Common.{sym, subst}
 use Rattle.commands.specs.Programs.{IsCodeFor}
 use Rattle.commands.proofs.sample.engine.Goals as goal
 

@@ -1,4 +1,4 @@
--- Gathers that keep vectors, one behind the other, and what a path leaves of them.
+-- Gathers that keep vectors, one after the other, and what a path leaves of them.
 use Rattle.std.proofs.Common.{◌≡◌, ℕ, ◌+◌, ◌*◌, ◌/◌, ◌%◌, ◌<◌, arith, refl, sym, ap, ◌∙◌, List, [], ◌∷◌, ◌++◌}
 use Rattle.index_fn.specs.Mapping.{Mapping, at}
 use Rattle.sigma_lower.specs.TreeLoops.Merge.{through}
