@@ -10,6 +10,7 @@ pub mod Counts
 pub mod Folds
 pub mod Fresh
 pub mod InOrder
+pub mod InPlace
 pub mod Independent
 pub mod Items
 pub mod JoinedLoops
@@ -19,6 +20,7 @@ pub mod Linear
 pub mod Looped
 pub mod Members
 pub mod Nests
+pub mod Phases
 pub mod Programs
 pub mod Ranges
 pub mod Rows

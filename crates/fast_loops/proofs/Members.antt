@@ -1,5 +1,5 @@
 -- Lists whose items are items of others.
-use Rattle.std.proofs.Common.{zero, suc, List, [], ◌∷◌, All, map, flat_map, arith, subst, ⊎_elim, Contains}
+use Rattle.std.proofs.Common.{zero, suc, List, [], ◌∷◌, ◌++◌, All, map, flat_map, arith, subst, ⊎_elim, Contains}
 use Rattle.std.proofs.lemmas.List.Elements.{Contains-get_or, Contains-append_left, Contains-append_right}
 use Rattle.std.proofs.lemmas.List.Elements.{Contains-append_cases}
 use Rattle.icode.proofs.Lines.{Contains-head, Contains-tail, Contains-nil, Contains-map}
@@ -14,6 +14,13 @@ module _ {X : Type 0} where
 
   tail_within : (x : X) (xs zs : List X) → IsWithin (x ∷ xs) zs → IsWithin xs zs
   tail_within x xs zs within y h = within y (Contains-tail x xs y h)
+
+  pub append_within : (xs zs ys ws : List X) → IsWithin xs zs → IsWithin ys ws → IsWithin (xs ++ ys) (zs ++ ws)
+  append_within xs zs ys ws first second x h =
+      ⊎_elim
+      (λ (early : Contains xs x). Contains-append_left zs ws x (first x early))
+      (λ (late : Contains ys x). Contains-append_right zs ws x (second x late))
+      (Contains-append_cases xs ys x h)
 
   pub map_within : {Y : Type 0} (f : X → Y) (xs zs : List X) → IsWithin xs zs → (y : Y) → Contains (map f xs) y →
       Contains (map f zs) y

@@ -72,9 +72,7 @@ value_by_strides least (AndParts (Var depth factor) rest) vs q h =
     let more = value_by_strides (depth + 1) rest vs q two.1 in
     let one = added-var 0 depth depth factor vs rest (omega arith) (stride_before (depth + 1) depth rest two.1 (omega arith)) in
     omega (arith, more, one)
-value_by_strides least (AndParts (Product outer inner other) rest) vs q h = wrong h
-value_by_strides least (AndParts (Rem of divisor other) rest) vs q h = wrong h
-value_by_strides least (AndParts (Quot of divisor other) rest) vs q h = wrong h
+value_by_strides least (AndParts part rest) vs q h = wrong h
 
 -- ---- different rounds
 

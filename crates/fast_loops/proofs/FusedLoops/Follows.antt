@@ -109,13 +109,7 @@ op-front : (lanes : ℕ) (counts xs ys : List ℕ) (op : PlainOp) → IsFront xs
     OpFollows lanes counts xs op
 op-front lanes counts xs ys (Load r array place) h k = place-front lanes counts xs ys place h k
 op-front lanes counts xs ys (Store array place r) h k = place-front lanes counts xs ys place h k
-op-front lanes counts xs ys (Zero r) h k = tt
-op-front lanes counts xs ys (Add r x y) h k = tt
-op-front lanes counts xs ys (Sub r x y) h k = tt
-op-front lanes counts xs ys (Neg r x) h k = tt
-op-front lanes counts xs ys (MulConst r x factor) h k = tt
-op-front lanes counts xs ys (MulTable r x table place entries) h k = tt
-op-front lanes counts xs ys (Tile r x) h k = tt
+op-front lanes counts xs ys _ h k = tt
 
 record KeepsFor (Follows : List ℕ → Type 0) (steps kept : List ℕ) : Type 0 where
   front : IsFront kept steps
@@ -145,13 +139,7 @@ op-keeps lanes counts (Load r array place) steps =
     let k = place-keeps lanes counts place steps in record { front = k.front; all = k.all }
 op-keeps lanes counts (Store array place r) steps =
     let k = place-keeps lanes counts place steps in record { front = k.front; all = k.all }
-op-keeps lanes counts (Zero r) steps = record { front = front-itself steps; all = tt }
-op-keeps lanes counts (Add r x y) steps = record { front = front-itself steps; all = tt }
-op-keeps lanes counts (Sub r x y) steps = record { front = front-itself steps; all = tt }
-op-keeps lanes counts (Neg r x) steps = record { front = front-itself steps; all = tt }
-op-keeps lanes counts (MulConst r x factor) steps = record { front = front-itself steps; all = tt }
-op-keeps lanes counts (MulTable r x table place entries) steps = record { front = front-itself steps; all = tt }
-op-keeps lanes counts (Tile r x) steps = record { front = front-itself steps; all = tt }
+op-keeps lanes counts _ steps = record { front = front-itself steps; all = tt }
 
 round-keeps : (lanes : ℕ) (counts : List ℕ) (round : PlainBody) (steps : List ℕ) →
     KeepsFor (λ kept. RoundFollows lanes counts kept round) steps (followed_in lanes counts round steps)
@@ -196,14 +184,11 @@ value-below (count ∷ counts) (w ∷ ws) (suc d) h = value-below counts ws d h.
 value-most : (counts ws : List ℕ) (q : ℕ) (parts : PlainParts) → AreInRange counts ws → are_values parts ≡ true →
     (parts_numbers parts ws q).value ≤ most counts parts
 value-most counts ws q NoParts h values = omega arith
-value-most counts ws q (AndParts (Proc factor) rest) h values = wrong values
 value-most counts ws q (AndParts (Var depth factor) rest) h values =
     let more = value-most counts ws q rest h values in
     let low : slice_index ws depth * factor ≤ (slice_index counts depth - 1) * factor = mul-le-mul_right factor (value-below counts ws depth h) in
     omega (arith, more, low)
-value-most counts ws q (AndParts (Product outer inner factor) rest) h values = wrong values
-value-most counts ws q (AndParts (Rem of divisor factor) rest) h values = wrong values
-value-most counts ws q (AndParts (Quot of divisor factor) rest) h values = wrong values
+value-most counts ws q (AndParts part rest) h values = wrong values
 
 -- where the block of a round begins, by the values of the loops
 abbrev pub begin : List ℕ → List ℕ → ℕ
@@ -225,20 +210,14 @@ AreFrom loop ws all = (d : ℕ) → slice_index all (loop + d) ≡ slice_index w
 
 step-told : (loop step : ℕ) (part : PlainPart) (ws : List ℕ) (q : ℕ) → is_step loop step part ≡ true →
     (one_numbers part ws q).value ≡ slice_index ws loop * step
-step-told loop step (Proc factor) ws q h = wrong h
 step-told loop step (Var depth factor) ws q h =
     let two = both_true (depth == loop) (factor == step) h in
     ap₂ (λ d f. slice_index ws d * f) (eqb-true depth loop two.0) (eqb-true factor step two.1)
-step-told loop step (Product outer inner factor) ws q h = wrong h
-step-told loop step (Rem of divisor factor) ws q h = wrong h
-step-told loop step (Quot of divisor factor) ws q h = wrong h
+step-told loop step part ws q h = wrong h
 
 rest-values : (part : PlainPart) (rest : PlainParts) → are_values (AndParts part rest) ≡ true → are_values rest ≡ true
-rest-values (Proc factor) rest h = wrong h
 rest-values (Var depth factor) rest h = h
-rest-values (Product outer inner factor) rest h = wrong h
-rest-values (Rem of divisor factor) rest h = wrong h
-rest-values (Quot of divisor factor) rest h = wrong h
+rest-values part rest h = wrong h
 
 -- the value of a place is in the block of its round
 pub record IsPlaced (words start step value : ℕ) : Type 0 where

@@ -73,10 +73,3 @@ module _ (p : PlainProgram) (q : ℕ) where
             ap (λ xs. first ++ xs) (more.changed f)
             ∙ sym (append_assoc first more.front (steps_of_stmt p (Loop count (f inside)) vs q));
       }
-
--- ---- how many steps there are
-
-pub put-length : (stmt : PlainStmt) (body : PlainBody) → len_of_body (put_behind stmt body) ≡ len_of_body body
-    + len_of_stmt stmt
-put-length stmt NoStmts = omega arith
-put-length stmt (AndStmts first rest) = let more = put-length stmt rest in omega (arith, more)

@@ -54,14 +54,6 @@ module _ (p : PlainProgram) where
             });
       }
 
-  pub within-nothing : (low step : ℕ) → IsWithin low step []
-  within-nothing low step =
-      record {
-        sure = same-nothing p.modulus p.lanes;
-        past = λ r other outside.
-            same-between p.modulus p.lanes (r ++ []) r r r (append-nil r) (independent p.modulus p.lanes r other) refl;
-      }
-
   pub within-append : (low step : ℕ) (a b : List Action) → IsWithin low step a → IsWithin low step b →
       IsWithin low step (a ++ b)
   within-append low step a b one two =

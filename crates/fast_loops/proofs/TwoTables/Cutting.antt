@@ -68,7 +68,3 @@ pub phase_fails : (f : PlainBody → Bool) (items : List (Vec Stmt Global)) (i :
     list_all f (plain_phases (drop i items)) ≡ whole → false ≡ whole
 phase_fails f items i whole lt fails h =
     ap (λ b. b && list_all f (plain_phases (drop (i + 1) items))) (sym fails) ∙ (ap (list_all f) (sym (phase-next items i lt)) ∙ h)
-
--- what stands from an entry on
-pub drop_entry : (xs : List ℕ) (i x : ℕ) → i < length xs → x ≡ get_or xs i x → drop i xs ≡ x ∷ drop (i + 1) xs
-drop_entry xs i x lt e = rw (add-one, drop-cons xs i x) (ap (λ y. y ∷ drop (suc i) xs) (sym e))

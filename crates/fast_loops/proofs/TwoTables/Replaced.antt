@@ -10,11 +10,8 @@ use Rattle.icode.specs.Actions.{Step, StepFits, actions_of}
 use Rattle.icode.specs.Machine.{Local, effects}
 use Rattle.icode.specs.Plain.{PlainProgram}
 use Rattle.icode.proofs.Phase.{effects-append}
+use Rattle.fast_loops.proofs.Changes.{actions_of-append}
 use Rattle.fast_loops.proofs.TwoTables.Registers.{AreLike}
-
-actions_of-append : (xs ys : List Step) → actions_of (xs ++ ys) ≡ actions_of xs ++ actions_of ys
-actions_of-append [] ys = refl
-actions_of-append (x ∷ xs) ys = ap (λ zs. x.action ∷ zs) (actions_of-append xs ys)
 
 -- words of actions that products have none of
 abbrev pub IsOfOthers : (Action → List ℕ) → Type 0
