@@ -6,12 +6,11 @@ use Rattle.std.proofs.Math.Path.{fun_ext}
 use Rattle.std.proofs.lemmas.Bool.{cases_eq}
 use Rattle.std.proofs.lemmas.List.{map-append}
 use Rattle.std.proofs.lemmas.List.Elements.{Contains-append_left, Contains-append_right, Contains-append_cases}
-use Rattle.icode.specs.declared.action.Action.{Action}
 use Rattle.icode.specs.Actions.{Step, actions_of}
 use Rattle.icode.proofs.Lines.{Contains-nil}
 use Rattle.fast_loops.proofs.Acts.{DoTheSame}
 use Rattle.fast_loops.proofs.Members.{append_within}
-use Rattle.fast_loops.proofs.Same.{same-append, same-trans}
+use Rattle.fast_loops.proofs.Same.{in-loops, same-append, same-trans}
 
 pub record AreFor (m lanes : ℕ) (xs ys : List Step) : Type 0 where
   pub same : DoTheSame m lanes (actions_of xs) (actions_of ys)
@@ -71,10 +70,7 @@ module _ (m lanes : ℕ) where
 
   pub for-loop : (f g : ℕ → List Step) (a n : ℕ) → ((i : ℕ) → a ≤ i → i < a + n → AreFor m lanes (f i) (g i)) →
       AreFor m lanes (flat_map f (range_with_len a n)) (flat_map g (range_with_len a n))
-  for-loop f g a zero h = for-nil
-  for-loop f g a (suc n) h =
-      for-append (f a) (g a) (flat_map f (range_with_len (a + 1) n)) (flat_map g (range_with_len (a + 1) n)) (h a (omega arith) (omega arith))
-      (for-loop f g (a + 1) n (λ i low high. h i (omega arith) (omega arith)))
+  for-loop = in-loops (AreFor m lanes) for-nil for-append
 
   -- two loops, one in the other, in either order
   pub for-exchange : (outer inner : ℕ) (round : ℕ → ℕ → List Step) →

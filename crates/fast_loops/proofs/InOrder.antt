@@ -4,7 +4,7 @@ use Rattle.std.proofs.Common.{◌≡◌, ℕ, zero, suc, ◌+◌, ◌*◌, ◌<�
 use Rattle.std.proofs.Common.{arith}
 use Rattle.std.specs.Prelude.{slice_index_or, slice_set, replicate}
 use Rattle.icode.specs.declared.action.Action.{Action}
-use Rattle.icode.specs.Machine.{Code, Whole, acts, effects, start, processor_alone, processors_alone, phases_alone}
+use Rattle.icode.specs.Machine.{Code, Whole, acts, start, processor_alone, processors_alone, phases_alone}
 use Rattle.icode.specs.Machine.{in_order}
 use Rattle.icode.proofs.CodeLaws.Stores.{length-registers}
 use Rattle.fast_loops.proofs.Acts.{memory_by, registers_by}
@@ -14,7 +14,8 @@ use Rattle.fast_loops.proofs.Acts.{memory_by, registers_by}
 -- from registers that are like, on v lanes and on so many others
 pub record Keep (m v lanes : ℕ) (Like : List ℕ → List ℕ → Type 0) (fs gs : List Action) : Type 0 where
   pub memory : (r s memory : List ℕ) → Like r s → memory_by m v fs r memory ≡ memory_by m lanes gs s memory
-  pub registers : (r s memory : List ℕ) → Like r s → Like (registers_by m v fs r memory) (registers_by m lanes gs s memory)
+  pub registers : (r s memory : List ℕ) → Like r s →
+      Like (registers_by m v fs r memory) (registers_by m lanes gs s memory)
 
 -- how many registers there are is kept by all actions
 pub keep-many : (m v lanes : ℕ) (Many : ℕ → ℕ → Type 0) (fs gs : List Action) →
@@ -26,7 +27,8 @@ keep-many m v lanes Many fs gs same =
       registers = λ r s memory many.
           subst (λ n. Many n (length (registers_by m lanes gs s memory)))
           (sym (length-registers m v fs (record { memory = memory; registers = r })))
-          (subst (Many (length r)) (sym (length-registers m lanes gs (record { memory = memory; registers = s }))) many);
+          (subst (Many (length r))
+          (sym (length-registers m lanes gs (record { memory = memory; registers = s }))) many);
     }
 
 -- ---- the registers of all processors
@@ -87,8 +89,8 @@ module _ (code there : Code) (Like : List ℕ → List ℕ → Type 0) where
               ∙ (keep phase q lt).memory r s w.memory like;
           registers =
               like_set Like code.procs q v.registers w.registers
-              (registers_by code.modulus there.lanes new r v.memory) (registers_by code.modulus code.lanes old s w.memory)
-              alike.registers
+              (registers_by code.modulus there.lanes new r v.memory)
+              (registers_by code.modulus code.lanes old s w.memory) alike.registers
               (subst (λ memory. Like (registers_by code.modulus there.lanes new r memory)
               (registers_by code.modulus code.lanes old s w.memory))
               (sym alike.memory) ((keep phase q lt).registers r s w.memory like));

@@ -1,8 +1,8 @@
 -- One program in place of another, with its size, modulus, line and processors. Where the steps of each phase and
 -- processor fit, and store and touch no other words, the program fits and its processors are apart. Where they keep a
 -- relation on registers, it leaves the same in order, and so in every order of turns.
-use Rattle.std.proofs.Common.{◌≡◌, ℕ, zero, suc, ◌+◌, ◌*◌, ◌/◌, ◌^◌, ◌<◌, ◌≤◌, List, [], ◌∷◌, ◌++◌, Bool, true, false, All}
-use Rattle.std.proofs.Common.{inl, inr, Contains, map, flat_map, length, refl, sym, ap, ◌∙◌, subst, arith}
+use Rattle.std.proofs.Common.{◌≡◌, ℕ, zero, suc, ◌*◌, ◌/◌, ◌^◌, ◌<◌, ◌≤◌, List, [], ◌∷◌, ◌++◌, Bool, true, false, All}
+use Rattle.std.proofs.Common.{inl, inr, Contains, flat_map, length, refl, sym, ap, ◌∙◌, subst, arith}
 use Rattle.std.specs.Prelude.{replicate, if◌then◌else◌}
 use Rattle.std.proofs.lemmas.Bool.{cases_lt}
 use Rattle.std.proofs.lemmas.List.{length-map, map-append}

@@ -53,4 +53,7 @@ changed-all view f i old now le h =
 pub unchanged-item : {X Y : Type 0} (view : X → Y) (f : Y → Y) (i : ℕ) (old now : List X) (x : X) → i < length now →
     x ≡ get_or now i x → AreChanged view f i old now → view (get_or now i x) ≡ get_or (map view old) i (view x)
 unchanged-item view f i old now x lt e h =
-    ap view (sym e) ∙ (seen view now i x e ∙ (ap (λ xs. get_or xs i (view x)) h.so_far ∙ same_item f (map view old) i (view x) (omega (arith, lt, h.same, length-map old view))))
+    let small : i < length (map view old) = omega (arith, lt, h.same, length-map old view) in
+    ap view (sym e)
+    ∙ (seen view now i x e
+    ∙ (ap (λ xs. get_or xs i (view x)) h.so_far ∙ same_item f (map view old) i (view x) small))

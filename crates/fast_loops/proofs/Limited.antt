@@ -9,7 +9,7 @@ use Rattle.icode.specs.Limits.{rank, next_rank, is_small, is_small_positive, is_
 use Rattle.icode.specs.Limits.{all_parts, part_parts, parts_depth, part_depth, is_expr_within, is_op_within}
 use Rattle.icode.specs.Limits.{is_stmt_within, is_body_within, are_phases_within}
 use Rattle.icode.specs.Plain.{PlainExpr, PlainParts, PlainPart, PlainOp, PlainStmt, PlainBody, Sum, NoParts, AndParts, Proc, Var}
-use Rattle.icode.specs.Plain.{Product, Rem, Quot, Load, Store, Zero, Add, Sub, Neg, MulConst, MulTable, Tile, Loop, Do}
+use Rattle.icode.specs.Plain.{Load, Store, MulTable, Loop, Do}
 use Rattle.icode.specs.Plain.{NoStmts, AndStmts}
 use Rattle.fast_loops.specs.Interchange.{Nest, counts_in, round_in, looped, nest_stmt, within, sunk, ordered}
 use Rattle.fast_loops.specs.Interchange.{interchanged_nest, interchanged_body}
@@ -17,6 +17,7 @@ use Rattle.fast_loops.specs.Places.{exchanged_first, exchanged_parts, exchanged_
 use Rattle.fast_loops.specs.Rounds.{first_store, first_load, steps_less, are_independent}
 use Rattle.fast_loops.specs.View.{loops_in, is_shallow, are_shallow}
 use Rattle.fast_loops.proofs.Looped.{looped_is}
+use Rattle.fast_loops.proofs.Phases.{all-within}
 
 -- ---- parts
 
@@ -371,17 +372,9 @@ body-within m lanes (AndStmts stmt rest) h =
 -- the phases of a program whose loops are interchanged stay within the limits
 pub phases-within : (m lanes : ℕ) (phases : List PlainBody) → are_phases_within m phases ≡ true →
     are_phases_within m (map (interchanged_body lanes) phases) ≡ true
-phases-within m lanes [] h = h
-phases-within m lanes (body ∷ rest) h =
-    let both = and_parts (nat_lt 0 (length (body ∷ rest))) _ h in
-    and_from (nat_lt 0 (length (map (interchanged_body lanes) (body ∷ rest)))) _ (lt-ltb 0 _ (omega arith)) (all (body ∷ rest) both.1)
-  where
-    all : (bodies : List PlainBody) → list_all (λ b. is_body_within m b 0) bodies ≡ true →
-        list_all (λ b. is_body_within m b 0) (map (interchanged_body lanes) bodies) ≡ true
-    all [] h = refl
-    all (b ∷ bs) h =
-        let both = and_parts (is_body_within m b 0) _ h in
-        and_from (is_body_within m (interchanged_body lanes b) 0) _ (body-within m lanes b both.0) (all bs both.1)
+phases-within m lanes phases h =
+    all-within m (interchanged_body lanes) (λ body. is_body_within m body 0)
+    (λ body within also. body-within m lanes body within) phases (and_parts (nat_lt 0 (length phases)) _ h).1 h
 
 -- ---- depths
 

@@ -8,8 +8,8 @@ use Rattle.icode.specs.Expression.{Numbers, alone, with_part, with_sum, sum_numb
 use Rattle.icode.specs.declared.program.Array.{Array}
 use Rattle.icode.specs.Actions.{Step, step_of, steps_of_body}
 use Rattle.icode.specs.Plain.{PlainExpr, PlainParts, PlainPart, PlainOp, PlainBody, PlainProgram, Sum, NoParts}
-use Rattle.icode.specs.Plain.{AndParts, Proc, Var, Product, Rem, Quot, Load, Store, Zero, Add, Sub, Neg, MulConst}
-use Rattle.icode.specs.Plain.{MulTable, Tile, Loop, Do, NoStmts, AndStmts}
+use Rattle.icode.specs.Plain.{AndParts, Proc, Var, Load, Store}
+use Rattle.icode.specs.Plain.{MulTable, Loop, Do, NoStmts, AndStmts}
 use Rattle.icode.proofs.Bools.{both_true}
 use Rattle.fast_loops.specs.Places.{are_linear, is_linear, stride, same_part, same_parts, exchanged_first}
 use Rattle.fast_loops.specs.Places.{exchanged_parts, exchanged_place, exchanged_op, exchanged_round}

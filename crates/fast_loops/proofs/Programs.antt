@@ -1,11 +1,11 @@
 -- A program whose bodies are interchanged leaves what it left.
-use Rattle.std.proofs.Common.{◌≡◌, ℕ, ◌^◌, ◌<◌, ◌≤◌, List, [], Bool, true, false, map, length, refl, sym, ap, ◌∙◌, subst}
-use Rattle.std.proofs.Common.{arith, Contains}
-use Rattle.std.specs.Prelude.{slice_index_or, if◌then◌else◌}
+use Rattle.std.proofs.Common.{◌≡◌, ℕ, ◌<◌, true, map, length, refl, sym, ap, ◌∙◌, subst}
+use Rattle.std.proofs.Common.{arith}
+use Rattle.std.specs.Prelude.{slice_index_or}
 use Rattle.std.specs.List.{list_all}
 use Rattle.std.proofs.lemmas.List.{length-map}
 use Rattle.std.proofs.lemmas.List.Elements.{All-contains}
-use Rattle.icode.specs.Actions.{Step, StepFits, PlainFits, steps_of_body, steps_of_phase, actions_of, plain_code}
+use Rattle.icode.specs.Actions.{StepFits, PlainFits, steps_of_phase, actions_of, plain_code}
 use Rattle.icode.specs.Machine.{IsApart}
 use Rattle.icode.specs.Plain.{PlainBody, PlainProgram, NoStmts}
 use Rattle.fast_loops.specs.Interchange.{are_nests, interchanged_body, interchanged}

@@ -6,15 +6,15 @@ use Rattle.std.specs.List.{range_with_len}
 use Rattle.std.proofs.lemmas.List.Elements.{Contains-append_left, Contains-get_or}
 use Rattle.icode.specs.declared.action.Action.{Action}
 use Rattle.icode.specs.Actions.{Step, StepFits, actions_of, lane_factors, step_of, steps_of_body}
-use Rattle.icode.specs.Plain.{PlainOp, PlainBody, PlainProgram, Load, Store, Zero, Add, Sub, Neg, MulConst, MulTable}
-use Rattle.icode.specs.Plain.{Tile, Loop, Do, NoStmts, AndStmts}
+use Rattle.icode.specs.Plain.{PlainOp, PlainBody, PlainProgram, MulConst, MulTable}
+use Rattle.icode.specs.Plain.{Loop, Do, NoStmts, AndStmts}
 use Rattle.operators.specs.Sum.{list_below}
 use Rattle.operators.proofs.Lists.{length-list_below}
 use Rattle.icode.specs.CodeLaws.Nests.{AreInRange}
 use Rattle.icode.proofs.Bools.{both_true}
 use Rattle.fast_loops.specs.Rounds.{are_fresh, put_after}
 use Rattle.fast_loops.specs.Interchange.{looped}
-use Rattle.fast_loops.proofs.Acts.{IsWide, AreWide, IsRound, DoTheSame, AreApart}
+use Rattle.fast_loops.proofs.Acts.{IsWide, AreWide, IsRound, AreApart}
 use Rattle.fast_loops.proofs.Independent.{independent}
 use Rattle.fast_loops.proofs.Swaps.{swapped}
 use Rattle.fast_loops.proofs.Same.{same-sym}

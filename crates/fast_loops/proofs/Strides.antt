@@ -5,7 +5,7 @@ use Rattle.std.specs.Prelude.{slice_index, nat_le}
 use Rattle.std.proofs.lemmas.Bool.{cases_order}
 use Rattle.icode.specs.CodeLaws.Nests.{AreInRange}
 use Rattle.icode.specs.Expression.{parts_numbers}
-use Rattle.icode.specs.Plain.{PlainParts, NoParts, AndParts, Proc, Var, Product, Rem, Quot}
+use Rattle.icode.specs.Plain.{PlainParts, NoParts, AndParts, Proc, Var}
 use Rattle.icode.proofs.Bools.{both_true}
 use Rattle.fast_loops.specs.Places.{are_linear, stride}
 use Rattle.fast_loops.specs.Rounds.{are_nested, last_stride}

@@ -1,10 +1,9 @@
 -- Code's parts and statements, as the definitions see them.
-use Rattle.std.proofs.Common.{◌≡◌, map, ℕ, zero, suc, ◌+◌, ◌<◌, List, [], ◌∷◌, Bool, true, false, Some, None, ap, sym}
-use Rattle.std.proofs.Common.{◌∙◌, drop, arith, refl, get_or, length, add-one, drop-cons}
-use Rattle.std.specs.Prelude.{◌&&◌, ◌==◌, if◌then◌else◌}
+use Rattle.std.proofs.Common.{◌≡◌, map, ℕ, zero, suc, ◌+◌, ◌<◌, List, [], ◌∷◌, Bool, true, ap, sym}
+use Rattle.std.proofs.Common.{◌∙◌, drop, arith, refl, get_or, length}
+use Rattle.std.specs.Prelude.{◌&&◌}
 use Rattle.std.specs.List.{list_all}
 use Rattle.icode.specs.declared.program.Op.{Op}
-use Rattle.icode.specs.declared.program.Part.{Part}
 use Rattle.icode.specs.declared.program.Stmt.{Stmt}
 use Rattle.icode.specs.declared.program.Stmt.TheVariants.{Do}
 use Rattle.icode.specs.Plain.{PlainOp, PlainPart, PlainParts, PlainStmt, PlainBody, AndParts, NoStmts, AndStmts, Var}
@@ -14,10 +13,10 @@ use Rattle.icode.specs.Plain as plain
 use Rattle.icode.proofs.Bools.{both_true}
 use Rattle.icode.proofs.Steps.{drop_item}
 use Rattle.icode.proofs.Views.{plain_stmt-Do}
-use Rattle.fast_loops.specs.Places.{exchanged_first, exchanged_parts, exchanged_op, exchanged_round}
+use Rattle.fast_loops.specs.Places.{exchanged_op, exchanged_round}
 use Rattle.fast_loops.specs.Interchange.{interchanged_nest, interchanged_body}
 use Rattle.fast_loops.specs.Rounds.{is_fresh, put_after, are_fresh}
-use Rattle.fast_loops.specs.View.{factor_at, plain_parts, exchanged_stmt, is_shallow, are_shallow}
+use Rattle.fast_loops.specs.View.{exchanged_stmt, is_shallow, are_shallow}
 
 -- an operation in front
 pub fresh-Do : (lanes next i : ℕ) (items : List Stmt) (stmt : Stmt) (op : Op) → i < length items →

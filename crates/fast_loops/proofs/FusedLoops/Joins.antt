@@ -1,18 +1,17 @@
 -- A nest that goes into the loops of others, whose blocks it shares: it does what it did behind them.
-use Rattle.std.proofs.Common.{◌≡◌, ℕ, zero, suc, ◌+◌, ◌*◌, ◌<◌, ◌≤◌, Bool, true, false, ◌&&◌, List, [], ◌∷◌, ◌++◌}
+use Rattle.std.proofs.Common.{◌≡◌, ℕ, zero, suc, ◌+◌, ◌*◌, ◌<◌, Bool, true, false, ◌&&◌, List, [], ◌∷◌, ◌++◌}
 use Rattle.std.proofs.Common.{Contains, flat_map, length, refl, sym, ap, ap₂, ◌∙◌, subst, arith, eqb-true, ⊎_elim}
 use Rattle.std.proofs.Common.{append-nil, append_assoc, length-append}
 use Rattle.std.specs.Prelude.{◌==◌, if◌then◌else◌}
 use Rattle.std.specs.List.{range_with_len}
 use Rattle.std.proofs.Math.Path.{fun_ext}
-use Rattle.std.proofs.lemmas.Bool.{cases_Bool}
 use Rattle.std.proofs.lemmas.List.Elements.{Contains-append_left, Contains-append_right, Contains-append_cases}
 use Rattle.icode.specs.CodeLaws.Nests.{AreInRange}
 use Rattle.icode.specs.declared.action.Action.{Action}
-use Rattle.icode.specs.Actions.{Step, actions_of, steps_of_stmt, steps_of_body}
+use Rattle.icode.specs.Actions.{Step, actions_of, steps_of_body}
 use Rattle.icode.specs.Lengths.{len_of_body}
 use Rattle.icode.specs.Machine.{Local, effects}
-use Rattle.icode.specs.Plain.{PlainStmt, PlainBody, PlainProgram, Loop, Do, NoStmts, AndStmts}
+use Rattle.icode.specs.Plain.{PlainBody, PlainProgram, Loop, Do, NoStmts, AndStmts}
 use Rattle.icode.proofs.Bools.{both_true}
 use Rattle.icode.proofs.CodeLaws.ByLane.{lists_follow}
 use Rattle.icode.proofs.CodeLaws.Stores.{length-registers}
@@ -21,7 +20,7 @@ use Rattle.fast_loops.specs.declared.fused_loops.blocks.Block.{Block}
 use Rattle.fast_loops.specs.Interchange.{counts_in, round_in}
 use Rattle.fast_loops.specs.Rounds.{are_fresh}
 use Rattle.fast_loops.specs.FusedLoops.Blocks.{shared}
-use Rattle.fast_loops.specs.FusedLoops.FusedLoops.{put_behind, in_last, joined, all_joined}
+use Rattle.fast_loops.specs.FusedLoops.FusedLoops.{put_behind, in_last, all_joined}
 use Rattle.fast_loops.proofs.Acts.{DoTheSame, memory_by}
 use Rattle.fast_loops.proofs.Changes.{actions_of-append, actions_of-loop, in-loop, of-loop, for-trans}
 use Rattle.fast_loops.proofs.Folds.{IsSure, Commute, parted}

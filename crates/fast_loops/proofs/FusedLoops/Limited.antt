@@ -1,9 +1,8 @@
 -- A program whose nests are fused is within the limits of programs.
-use Rattle.std.proofs.Common.{◌≡◌, ℕ, zero, suc, ◌+◌, ◌&&◌, List, [], ◌∷◌, Bool, true, false, refl, ap₂}
-use Rattle.std.specs.Prelude.{nat_lt, if◌then◌else◌}
-use Rattle.std.specs.List.{list_all}
+use Rattle.std.proofs.Common.{◌≡◌, ℕ, zero, suc, ◌+◌, List, [], ◌∷◌, true, refl}
+use Rattle.std.specs.Prelude.{nat_lt}
 use Rattle.std.proofs.lemmas.Bool.{and_from}
-use Rattle.icode.specs.Limits.{is_small_positive, is_op_within, is_stmt_within, is_body_within, are_phases_within}
+use Rattle.icode.specs.Limits.{is_small_positive, is_stmt_within, is_body_within, are_phases_within}
 use Rattle.icode.specs.Plain.{PlainStmt, PlainBody, Loop, Do, NoStmts, AndStmts}
 use Rattle.icode.proofs.Bools.{both_true}
 use Rattle.fast_loops.specs.declared.fused_loops.blocks.Block.{Block}

@@ -1,5 +1,5 @@
 -- A program whose nests are fused leaves what it left.
-use Rattle.std.proofs.Common.{◌≡◌, ℕ, zero, suc, ◌^◌, ◌<◌, ◌≤◌, ◌&&◌, List, [], ◌∷◌, ◌++◌, Bool, true, false, Contains, map}
+use Rattle.std.proofs.Common.{◌≡◌, ℕ, suc, ◌<◌, ◌&&◌, List, [], ◌∷◌, ◌++◌, Bool, true, false, Contains, map}
 use Rattle.std.proofs.Common.{length, refl, sym, ap, ◌∙◌, subst, arith, append-nil, append_assoc, eqb-true}
 use Rattle.std.specs.Prelude.{◌==◌, nat_le, slice_index_or, if◌then◌else◌}
 use Rattle.std.proofs.lemmas.List.{length-map}
@@ -42,7 +42,8 @@ module _ (p : PlainProgram) (q : ℕ) where
       let two = both_true (is_nest p.lanes (Loop count inside)) (are_nests p.lanes rest) h in
       let first : List Step = steps_of_stmt p (Loop count inside) [] q in
       sure-append p q first (steps rest)
-      (subst (λ xs. IsSure p.modulus p.lanes (actions_of xs)) (append-nil first) (body-sure p q (AndStmts (Loop count inside) NoStmts) [] two.0))
+      (subst (λ xs. IsSure p.modulus p.lanes (actions_of xs)) (append-nil first)
+      (body-sure p q (AndStmts (Loop count inside) NoStmts) [] two.0))
       (nests-sure rest two.1)
 
   nests-onto : (body : PlainBody) (before : List Block) (made : PlainBody) → are_nests p.lanes body ≡ true →
@@ -62,19 +63,23 @@ module _ (p : PlainProgram) (q : ℕ) where
       let fit_alone : StepsFit p (steps alone) = λ s has.
       fit s (Contains-append_left first (steps rest) s (subst (λ xs. Contains xs s) (append-nil first) has)) in
       let grown = grows p q alone before blocks made [] 0 two.0 ends
-      (has-blocks p q counts kept alone [] [] [] kept refl refl tt refl two.0 (round-follows p.lanes counts round (first_steps (first_load round))) fit_alone) in
+      (has-blocks p q counts kept alone [] [] [] kept refl refl tt refl two.0
+      (round-follows p.lanes counts round (first_steps (first_load round))) fit_alone) in
       let more : PlainBody = joined (shared before blocks) stmt made in
-      leaves-trans p q (steps (fused_onto p.lanes 0 blocks more rest)) (steps more ++ steps rest) (steps made ++ (first ++ steps rest))
+      leaves-trans p q (steps (fused_onto p.lanes 0 blocks more rest)) (steps more ++ steps rest)
+      (steps made ++ (first ++ steps rest))
       (nests-onto rest blocks more two.1 grown.ends (λ s has. fit s (Contains-append_right first (steps rest) s has)))
       (subst (LeavesFor p q (steps more ++ steps rest))
-      (append_assoc (steps made) (first ++ []) (steps rest) ∙ ap (λ xs. steps made ++ (xs ++ steps rest)) (append-nil first))
+      (append_assoc (steps made) (first ++ []) (steps rest)
+      ∙ ap (λ xs. steps made ++ (xs ++ steps rest)) (append-nil first))
       (leaves-behind p q (steps more) (steps made ++ (first ++ [])) (steps rest) grown.leaves (nests-sure rest two.1)))
 
   waiting-onto : (body made : PlainBody) → StepsFit p (steps body) →
       LeavesFor p q (steps (fused_onto p.lanes (waiting p.lanes body) [] made body)) (steps made ++ steps body)
   waiting-onto NoStmts made fit = leaves-itself p q _ _ (sym (append-nil (steps made)))
   waiting-onto (AndStmts stmt rest) made fit =
-      of_test (waiting-onto rest (put_behind stmt made) (λ s has. fit s (Contains-append_right first (steps rest) s has)))
+      of_test
+      (waiting-onto rest (put_behind stmt made) (λ s has. fit s (Contains-append_right first (steps rest) s has)))
       (is_nest p.lanes stmt && are_nests p.lanes rest) refl
     where
       first : List Step

@@ -1,5 +1,5 @@
 -- The law of joined loops.
-use Rattle.std.proofs.Common.{◌≡◌, ℕ, ◌^◌, ◌<◌, ◌≤◌, List, [], ◌∷◌, map, length, refl, sym, ap, ap₂, ◌∙◌, subst}
+use Rattle.std.proofs.Common.{◌≡◌, ℕ, List, [], ◌∷◌, map, length, refl, ap, ap₂, ◌∙◌, subst}
 use Rattle.std.proofs.Common.{Contains, arith}
 use Rattle.std.specs.Prelude.{slice_index_or}
 use Rattle.std.specs.List.{range_with_len}
@@ -33,17 +33,7 @@ module _ (p : PlainProgram) where
 
   code_there : plain_code there ≡ plain_code p
   code_there =
-      ap (λ (lists : List (List (List Action))).
-      record {
-        size = p.size;
-        modulus = p.modulus;
-        procs = p.procs;
-        line = p.line;
-        lanes = p.lanes;
-        regs = p.regs;
-        lists = lists;
-      })
-      (rows_there p.phases)
+      ap (λ (lists : List (List (List Action))). record (plain_code p) { lists = lists }) (rows_there p.phases)
 
   -- ---- what fits
 

@@ -1,11 +1,11 @@
 -- A program whose bodies are laned leaves what it left.
-use Rattle.std.proofs.Common.{◌≡◌, ℕ, ◌*◌, ◌^◌, ◌<◌, ◌≤◌, List, [], Bool, true, false, map, flat_map, length, sym, ap, ◌∙◌}
+use Rattle.std.proofs.Common.{◌≡◌, ℕ, ◌*◌, ◌^◌, ◌<◌, ◌≤◌, List, true, map, flat_map, length, sym, ap, ◌∙◌}
 use Rattle.std.proofs.Common.{refl, subst, arith, eqb-true}
-use Rattle.std.specs.Prelude.{slice_index_or, replicate, ◌==◌, nat_lt, if◌then◌else◌}
+use Rattle.std.specs.Prelude.{slice_index_or, replicate, ◌==◌, nat_lt}
 use Rattle.std.specs.List.{list_all}
 use Rattle.std.proofs.lemmas.List.{length-map, length-replicate}
 use Rattle.std.proofs.lemmas.List.Elements.{All-contains}
-use Rattle.icode.specs.Actions.{Step, StepFits, PlainFits, steps_of_body, steps_of_phase, actions_of, plain_code}
+use Rattle.icode.specs.Actions.{Step, StepFits, PlainFits, steps_of_phase, actions_of, plain_code}
 use Rattle.icode.specs.Machine.{IsApart, stored_words, touched_words}
 use Rattle.icode.specs.Plain.{PlainBody, PlainProgram, NoStmts}
 use Rattle.icode.proofs.Bools.{both_true}

@@ -1,38 +1,31 @@
 -- What becomes of a program's fields where a table is in two factors.
-use Rattle.std.proofs.Common.{◌≡◌, ℕ, zero, suc, ◌+◌, ◌-◌, ◌^◌, ◌<◌, ◌≤◌, ◌&&◌, Bool, true, false, List, [], ◌∷◌, ◌++◌}
-use Rattle.std.proofs.Common.{Vec, Global, map, length, get_or, refl, sym, ap, ap₂, ◌∙◌, subst, arith, length-append}
-use Rattle.std.proofs.Common.{lt-ltb, ltb-true}
-use Rattle.std.specs.Prelude.{nat_lt, nat_le, slice_index_or, slice_set, if◌then◌else◌}
-use Rattle.std.specs.List.{list_all}
-use Rattle.std.proofs.lemmas.List.{length-map, length-set, map-append}
+use Rattle.std.proofs.Common.{◌≡◌, ℕ, suc, ◌+◌, ◌-◌, ◌^◌, ◌<◌, ◌≤◌, ◌&&◌, Bool, true, false, List, [], ◌∷◌, ◌++◌}
+use Rattle.std.proofs.Common.{Vec, Global, map, length, sym, ap, ap₂, ◌∙◌, subst, arith, length-append}
+use Rattle.std.proofs.Common.{lt-ltb}
+use Rattle.std.specs.Prelude.{nat_le, slice_index_or, slice_set, if◌then◌else◌}
+use Rattle.std.proofs.lemmas.List.{length-map, length-set, map-append, map-set}
 use Rattle.icode.specs.declared.program.Program.{Program}
 use Rattle.icode.specs.declared.program.Stmt.{Stmt}
 use Rattle.icode.specs.Actions.{PlainFits, plain_code}
 use Rattle.icode.specs.Machine.{IsApart}
-use Rattle.icode.specs.Limits.{is_small, is_small_positive, IsHeaderWithin, are_tables_within, are_phases_within}
+use Rattle.icode.specs.Limits.{IsHeaderWithin, are_tables_within, are_phases_within}
 use Rattle.icode.specs.Plain.{PlainBody, PlainProgram, plain_tables, plain_phases}
 use Rattle.icode.specs.Program.{plain_program, table_of}
 use Rattle.icode.proofs.Bools.{both_true}
-use Rattle.fast_loops.specs.TwoTables.Factors.{Cut, first_factor, second_factor, are_factors, is_cut, cut_of}
-use Rattle.fast_loops.specs.TwoTables.TwoTables.{Split, split_at, in_factors, factored_body, has_room, is_usable}
-use Rattle.fast_loops.specs.TwoTables.TwoTables.{is_cut_well, may_be_split, can_split, is_body_even, factored_at}
+use Rattle.fast_loops.specs.TwoTables.Factors.{Cut, first_factor, second_factor, are_factors, cut_of}
+use Rattle.fast_loops.specs.TwoTables.TwoTables.{Split, split_at, in_factors, factored_body, is_usable}
+use Rattle.fast_loops.specs.TwoTables.TwoTables.{is_cut_well, may_be_split, can_split, factored_at}
 use Rattle.fast_loops.specs.TwoTables.TwoTables.{factored_from, factored}
 use Rattle.fast_loops.proofs.TwoTables.Products.{what_is_usable, positive, what_splits}
 use Rattle.fast_loops.proofs.TwoTables.Programs.{at_table}
 use Rattle.fast_loops.proofs.TwoTables.Within.{tables_within, phases_within}
-
-map-set : (items : List (Vec ℕ Global)) (k : ℕ) (t : Vec ℕ Global) →
-    plain_tables (slice_set items k t) ≡ slice_set (plain_tables items) k t.items
-map-set [] k t = refl
-map-set (x ∷ items) zero t = refl
-map-set (x ∷ items) (suc k) t = ap (λ xs. x.items ∷ xs) (map-set items k t)
 
 tables-are : (items new : List (Vec ℕ Global)) (k : ℕ) (first second : Vec ℕ Global) →
     new ≡ slice_set items k first ++ second ∷ [] →
     plain_tables new ≡ slice_set (plain_tables items) k first.items ++ second.items ∷ []
 tables-are items new k first second e =
     ap plain_tables e ∙ (map-append (λ (v : Vec ℕ Global). v.items) (slice_set items k first) (second ∷ [])
-    ∙ ap (λ xs. xs ++ second.items ∷ []) (map-set items k first))
+    ∙ ap (λ xs. xs ++ second.items ∷ []) (map-set (λ (v : Vec ℕ Global). v.items) items k first))
 
 pub record IsMade (p : Program) (table : ℕ) (cut : Cut) (tables : List (Vec ℕ Global)) (phases : List (Vec Stmt Global)) : Type 0 where
   pub header : IsHeaderWithin p.size p.modulus p.procs p.line p.lanes (p.regs + 1)

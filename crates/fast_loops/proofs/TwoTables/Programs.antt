@@ -1,14 +1,12 @@
 -- A program with a table in two factors leaves what it left.
-use Rattle.std.proofs.Common.{◌≡◌, ℕ, zero, suc, ◌+◌, ◌*◌, ◌^◌, ◌<◌, ◌≤◌, ◌&&◌, List, [], ◌∷◌, Bool, true, false, map}
-use Rattle.std.proofs.Common.{flat_map, length, refl, sym, ap₂, ◌∙◌, subst, arith, ltb-true, leb-true, Contains}
-use Rattle.std.specs.Prelude.{slice_index_or, nat_lt, nat_le, if◌then◌else◌}
-use Rattle.std.specs.List.{list_all}
+use Rattle.std.proofs.Common.{◌≡◌, ℕ, zero, suc, ◌+◌, ◌*◌, ◌^◌, ◌<◌, ◌≤◌, ◌&&◌, List, [], true}
+use Rattle.std.proofs.Common.{length, refl, sym, ap₂, subst, arith, ltb-true, Contains}
+use Rattle.std.specs.Prelude.{slice_index_or, nat_le}
 use Rattle.std.proofs.Math.Nat.{mul-le-mul_right}
 use Rattle.std.proofs.lemmas.List.{length-map}
 use Rattle.operators.specs.Sum.{sum_below}
 use Rattle.icode.specs.Actions.{Step, PlainFits, steps_of_body, steps_of_phase, actions_of, plain_code}
 use Rattle.icode.specs.Lengths.{len_of_body}
-use Rattle.icode.specs.Limits.{is_small}
 use Rattle.icode.specs.Machine.{IsApart, effects, stored_words, touched_words}
 use Rattle.icode.specs.Plain.{PlainBody, PlainProgram, NoStmts}
 use Rattle.icode.proofs.Bools.{both_true}
@@ -16,7 +14,7 @@ use Rattle.icode.proofs.Lengths.{body_length}
 use Rattle.fast_loops.specs.TwoTables.Factors.{Cut, cut_of}
 use Rattle.fast_loops.specs.TwoTables.Laws.{IsInPlaceOf}
 use Rattle.fast_loops.specs.TwoTables.TwoTables.{split_at, in_factors, factored_body, is_body_even, is_short}
-use Rattle.fast_loops.specs.TwoTables.TwoTables.{has_room, is_usable, may_be_split, is_cut_well, can_split, factored_at}
+use Rattle.fast_loops.specs.TwoTables.TwoTables.{is_usable, may_be_split, is_cut_well, can_split, factored_at}
 use Rattle.fast_loops.specs.TwoTables.TwoTables.{factored_from}
 use Rattle.fast_loops.proofs.InOrder.{Keep}
 use Rattle.fast_loops.proofs.InPlace.{StandFor, total, memory-same, in-place, itself, where-true, after}
@@ -40,7 +38,10 @@ few_steps : (phases procs : ℕ) (f : ℕ → ℕ → ℕ) → phases ≤ 64 →
     ((phase q : ℕ) → q < procs → f phase q ≤ 2 ^ 48) → sum_below phases (λ phase. sum_below procs (f phase)) < 2 ^ 59
 few_steps phases procs f few alone short =
     let each : (phase : ℕ) → sum_below procs (f phase) ≤ 16 * 2 ^ 48 =
-    λ phase. let a = sum_most procs (2 ^ 48) (f phase) (short phase) in let b = mul-le-mul_right (2 ^ 48) alone in omega (arith, a, b) in
+    λ phase.
+    let a = sum_most procs (2 ^ 48) (f phase) (short phase) in
+    let b = mul-le-mul_right (2 ^ 48) alone in
+    omega (arith, a, b) in
     let all = sum_most phases (16 * 2 ^ 48) (λ phase. sum_below procs (f phase)) (λ phase lt. each phase) in
     let b = mul-le-mul_right (16 * 2 ^ 48) few in
     omega (arith, all, b)
@@ -84,7 +85,8 @@ module _ (p : PlainProgram) (fits : PlainFits p) (apart : (phase : ℕ) → IsAp
         (λ phase q lt.
         let twice = (phase-for phase q lt).few in
         let size = body_length p (body_of phase) [] q in
-        let short = ltb-true (len_of_body (body_of phase)) (2 ^ 47) (passes-at is_short refl p.phases phase usable.short) in
+        let passes = passes-at is_short refl p.phases phase usable.short in
+        let short = ltb-true (len_of_body (body_of phase)) (2 ^ 47) passes in
         omega (arith, twice, size, short))
 
     stand_there : (phase q : ℕ) → q < p.procs → StandFor there p (new phase q) (old phase q)
@@ -97,7 +99,8 @@ module _ (p : PlainProgram) (fits : PlainFits p) (apart : (phase : ℕ) → IsAp
         }
 
     keep_there : (phase q : ℕ) → q < p.procs →
-        Keep p.modulus p.lanes p.lanes (HaveOneMore p.lanes p.regs) (actions_of (new phase q)) (actions_of (old phase q))
+        Keep p.modulus p.lanes p.lanes (HaveOneMore p.lanes p.regs)
+        (actions_of (new phase q)) (actions_of (old phase q))
     keep_there phase q lt =
         record {
           memory = λ r s memory more. (like r s memory more).memory;

@@ -1,8 +1,7 @@
 -- Statements that are pushed one after another.
-use Rattle.std.proofs.Common.{◌≡◌, ℕ, zero, suc, ◌+◌, ◌<◌, ◌≤◌, List, [], ◌∷◌, ◌++◌, Vec, Global, flat_map, length}
-use Rattle.std.proofs.Common.{take, map, get_or, refl, sym, ap, ◌∙◌, append-nil, arith}
+use Rattle.std.proofs.Common.{◌≡◌, ℕ, ◌≤◌, List, [], ◌∷◌, ◌++◌, Vec, Global, flat_map, length}
+use Rattle.std.proofs.Common.{take, refl, sym, ap, ◌∙◌}
 use Rattle.std.proofs.lemmas.List.{take_all, map-append}
-use Rattle.std.proofs.lemmas.List.Concat.{flat_map-append}
 use Rattle.icode.specs.declared.program.Stmt.{Stmt}
 use Rattle.icode.specs.declared.program.Stmt.TheVariants as stmts
 use Rattle.icode.specs.Plain.{PlainStmt, Loop, AndStmts, body_of, plain_stmt, plain_body}

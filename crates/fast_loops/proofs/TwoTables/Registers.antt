@@ -1,8 +1,7 @@
 -- Registers with one more behind them.
-use Rattle.std.proofs.Common.{◌≡◌, ℕ, zero, suc, ◌+◌, ◌*◌, ◌%◌, ◌<◌, ◌≤◌, List, [], ◌∷◌, ◌++◌, map, flat_map, length}
-use Rattle.std.proofs.Common.{refl, sym, ap, ap₂, ◌∙◌, arith, mul-le-mul_left, mul_comm}
+use Rattle.std.proofs.Common.{◌≡◌, ℕ, zero, suc, ◌+◌, ◌*◌, ◌%◌, ◌<◌, ◌≤◌, List, [], ◌∷◌, map, length}
+use Rattle.std.proofs.Common.{refl, sym, ap, ap₂, ◌∙◌, arith}
 use Rattle.std.specs.Prelude.{replicate, slice_index, slice_get, slice_set}
-use Rattle.std.specs.List.{range_with_len}
 use Rattle.std.proofs.Math.Nat.{mod-mod, mul_assoc}
 use Rattle.std.proofs.lemmas.List.{length-replicate}
 use Rattle.ring_mod.specs.Residue.{sum_mod, difference_mod, negation_mod, product_mod}
@@ -11,8 +10,8 @@ use Rattle.icode.specs.declared.action.Action.{Action}
 use Rattle.icode.specs.declared.action.Action.TheVariants.{Load, Store, Zero, Add, Sub, Neg, Mul, Tile}
 use Rattle.icode.specs.Actions.{RegistersFit}
 use Rattle.icode.specs.Machine.{Local, effect, memory_after, value_put, register_put, register_of, words_at, with_words}
-use Rattle.icode.specs.Machine.{lane_by_lane, transposed}
-use Rattle.icode.proofs.Words.{slice_index-agree, words_at-agree, with_words-agree, with_words-other, length-words_at}
+use Rattle.icode.specs.Machine.{lane_by_lane}
+use Rattle.icode.proofs.Words.{with_words-agree, with_words-other, length-words_at}
 use Rattle.icode.proofs.CodeLaws.ByLane.{length-registers_after}
 use Rattle.icode.proofs.CodeLaws.Placing.{length-lane_by_lane, length-slice_set, with_words_there}
 use Rattle.fast_loops.proofs.Independent.{register_agrees, tile_agrees}

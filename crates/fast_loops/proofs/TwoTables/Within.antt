@@ -1,6 +1,6 @@
 -- A program with a table in two factors is within the limits of programs.
-use Rattle.std.proofs.Common.{◌≡◌, ℕ, zero, suc, ◌+◌, ◌≤◌, ◌&&◌, Bool, true, false, List, [], ◌∷◌, ◌++◌, map, length}
-use Rattle.std.proofs.Common.{refl, sym, ap, ap₂, ◌∙◌, arith, eqb-true, lt-ltb, le-leb, ⊎_elim}
+use Rattle.std.proofs.Common.{◌≡◌, ℕ, zero, suc, ◌+◌, ◌≤◌, ◌&&◌, Bool, true, false, List, [], ◌∷◌, ◌++◌, map}
+use Rattle.std.proofs.Common.{refl, sym, ap, ap₂, ◌∙◌, arith, eqb-true, le-leb, ⊎_elim}
 use Rattle.std.specs.Prelude.{nat_lt, nat_le, max, ◌==◌, ◌%◌, slice_set, if◌then◌else◌}
 use Rattle.std.specs.List.{list_all}
 use Rattle.std.proofs.lemmas.Bool.{cases_Bool, and_from}
@@ -8,13 +8,14 @@ use Rattle.icode.specs.Limits.{is_small, is_small_positive, is_sum_within, sum_p
 use Rattle.icode.specs.Limits.{is_expr_within, is_op_within, is_stmt_within, is_body_within, are_tables_within}
 use Rattle.icode.specs.Limits.{are_phases_within}
 use Rattle.icode.specs.Plain.{PlainExpr, PlainParts, PlainOp, PlainStmt, PlainBody, Sum, NoParts, AndParts, Proc, Var}
-use Rattle.icode.specs.Plain.{Product, Rem, Quot, Load, Store, Zero, Add, Sub, Neg, MulConst, MulTable, Tile, Loop, Do}
+use Rattle.icode.specs.Plain.{Product, MulTable, Loop, Do}
 use Rattle.icode.specs.Plain.{NoStmts, AndStmts}
 use Rattle.icode.proofs.Bools.{both_true}
 use Rattle.fast_loops.specs.TwoTables.Factors.{Cut, is_table}
 use Rattle.fast_loops.specs.TwoTables.Places.{are_even, is_even, quotient_by, place_in_first, place_in_second}
 use Rattle.fast_loops.specs.TwoTables.TwoTables.{Split, factored_op, two_products, put_before, factored_stmt}
 use Rattle.fast_loops.specs.TwoTables.TwoTables.{factored_body, is_op_even, is_stmt_even, is_body_even}
+use Rattle.fast_loops.proofs.Phases.{all-within}
 
 -- ---- places
 
@@ -136,23 +137,10 @@ module _ (m lanes : ℕ) (split : Split) (register : is_small split.register ≡
         let b = both_true (is_stmt_within m stmt n) _ h in
         before_within m n (factored_stmt split stmt) (factored_body split rest) (stmt_within stmt n a.0 b.0) (body_within rest n a.1 b.1)
 
-  bodies_within : (bodies : List PlainBody) → list_all (is_body_even lanes split.table) bodies ≡ true →
-      list_all (λ body. is_body_within m body 0) bodies ≡ true →
-      list_all (λ body. is_body_within m body 0) (map (factored_body split) bodies) ≡ true
-  bodies_within [] even h = refl
-  bodies_within (body ∷ bodies) even h =
-      let a = both_true (is_body_even lanes split.table body) _ even in
-      let b = both_true (is_body_within m body 0) _ h in
-      and_from (is_body_within m (factored_body split body) 0) _ (body_within body 0 a.0 b.0) (bodies_within bodies a.1 b.1)
-
   pub phases_within : (bodies : List PlainBody) → list_all (is_body_even lanes split.table) bodies ≡ true →
-      are_phases_within m bodies ≡ true →
-      are_phases_within m (map (factored_body split) bodies) ≡ true
-  phases_within [] even h = h
-  phases_within (body ∷ bodies) even h =
-      and_from (nat_lt 0 (length (map (factored_body split) (body ∷ bodies)))) _
-      (lt-ltb 0 (suc (length (map (factored_body split) bodies))) (omega arith))
-      (bodies_within (body ∷ bodies) even (both_true (nat_lt 0 (length (body ∷ bodies))) _ h).1)
+      are_phases_within m bodies ≡ true → are_phases_within m (map (factored_body split) bodies) ≡ true
+  phases_within =
+      all-within m (factored_body split) (is_body_even lanes split.table) (λ body even within. body_within body 0 even within)
 
 -- ---- tables
 
