@@ -8,7 +8,8 @@ use Rattle.std.proofs.lemmas.Bool.Decides.{eqb_tells}
 use Rattle.icode.specs.Limits.{rank, next_rank, is_small, is_small_positive, is_part_within, are_parts_within}
 use Rattle.icode.specs.Limits.{all_parts, part_parts, parts_depth, part_depth, is_expr_within, is_op_within}
 use Rattle.icode.specs.Limits.{is_stmt_within, is_body_within, are_phases_within}
-use Rattle.icode.specs.Plain.{PlainExpr, PlainParts, PlainPart, PlainOp, PlainStmt, PlainBody, Sum, NoParts, AndParts, Proc, Var}
+use Rattle.icode.specs.Plain.{PlainExpr, PlainParts, PlainPart, PlainOp, PlainStmt, PlainBody, Sum, NoParts, AndParts}
+use Rattle.icode.specs.Plain.{Proc, Var}
 use Rattle.icode.specs.Plain.{Load, Store, MulTable, Loop, Do}
 use Rattle.icode.specs.Plain.{NoStmts, AndStmts}
 use Rattle.fast_loops.specs.Interchange.{Nest, counts_in, round_in, looped, nest_stmt, within, sunk, ordered}

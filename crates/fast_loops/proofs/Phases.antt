@@ -36,7 +36,8 @@ pub all-within : (m : ℕ) (f : PlainBody → PlainBody) (test : PlainBody → B
     are_phases_within m (map f phases) ≡ true
 all-within m f test each phases pass within =
     let some = both_true (nat_lt 0 (length phases)) _ within in
-    and_from (nat_lt 0 (length (map f phases))) _ (ap (nat_lt 0) (length-map phases f) ∙ some.0) (all phases pass some.1)
+    and_from (nat_lt 0 (length (map f phases))) _ (ap (nat_lt 0) (length-map phases f) ∙ some.0)
+    (all phases pass some.1)
   where
     all : (bodies : List PlainBody) → list_all test bodies ≡ true →
         list_all (λ body. is_body_within m body 0) bodies ≡ true →

@@ -1,5 +1,6 @@
 -- Lists of actions that leave the same memory: put behind one another, and in loops.
-use Rattle.std.proofs.Common.{◌≡◌, ℕ, zero, suc, ◌+◌, ◌<◌, ◌≤◌, List, [], ◌∷◌, ◌++◌, length, flat_map, refl, sym, ap, ◌∙◌}
+use Rattle.std.proofs.Common.{◌≡◌, ℕ, zero, suc, ◌+◌, ◌<◌, ◌≤◌, List, [], ◌∷◌, ◌++◌, length, flat_map, refl, sym, ap}
+use Rattle.std.proofs.Common.{◌∙◌}
 use Rattle.std.proofs.Common.{subst, arith, append-nil}
 use Rattle.std.specs.List.{range_with_len}
 use Rattle.std.proofs.lemmas.List.Concat.{flat_map-append}
@@ -68,4 +69,5 @@ module _ (m lanes : ℕ) where
   -- loops whose rounds do the same
   pub same-loops : (n : ℕ) (f g : ℕ → List Action) → ((i : ℕ) → i < n → DoTheSame m lanes (f i) (g i)) →
       DoTheSame m lanes (flat_map f (range_with_len 0 n)) (flat_map g (range_with_len 0 n))
-  same-loops n f g h = in-loops (DoTheSame m lanes) same-nothing same-append f g 0 n (λ i low high. h i (omega (arith, high)))
+  same-loops n f g h =
+      in-loops (DoTheSame m lanes) same-nothing same-append f g 0 n (λ i low high. h i (omega (arith, high)))

@@ -53,7 +53,8 @@ pub record HaveOneMore (lanes regs : ℕ) (more few : List ℕ) : Type 0 where
   pub room : regs * lanes + lanes ≤ length more
 
 -- registers in which nothing has been put
-pub one-more-first : (lanes regs : ℕ) → HaveOneMore lanes regs (replicate ((regs + 1) * lanes) 0) (replicate (regs * lanes) 0)
+pub one-more-first : (lanes regs : ℕ) → HaveOneMore lanes regs (replicate ((regs + 1) * lanes) 0)
+    (replicate (regs * lanes) 0)
 one-more-first lanes regs =
     let words : (regs + 1) * lanes ≡ regs * lanes + lanes = omega arith in
     record {
