@@ -193,7 +193,7 @@ same-part (Proc a) (Proc b) h = ap Proc (eqb-true a b h)
 same-part (Var v a) (Var w b) h = let two = both_true (v == w) (a == b) h in ap₂ Var (eqb-true v w two.0) (eqb-true a b two.1)
 same-part _ _ h = wrong h
 
-parts_equal : (a b : PlainParts) → same_parts a b ≡ true → a ≡ b
+pub parts_equal : (a b : PlainParts) → same_parts a b ≡ true → a ≡ b
 parts_equal NoParts NoParts h = refl
 parts_equal (AndParts a more) (AndParts b others) h =
     let two = both_true (same_part a b) (same_parts more others) h in ap₂ AndParts (same-part a b two.0) (parts_equal more others two.1)

@@ -33,7 +33,7 @@ use Rattle.fast_loops.proofs.TwoTables.Replaced.{AreFor}
 
 -- ---- the factors of lanes
 
-factor_at : (lanes : ℕ) (f : ℕ → ℕ) (lane : ℕ) → lane < lanes → slice_index (lane_factors lanes f) lane ≡ f lane
+pub factor_at : (lanes : ℕ) (f : ℕ → ℕ) (lane : ℕ) → lane < lanes → slice_index (lane_factors lanes f) lane ≡ f lane
 factor_at lanes f lane lt =
     let size = length-list_below lanes f in
     get_or_append_left (list_below lanes f) (replicate (16 - lanes) 0) 0 lane (omega (arith, size, lt))
