@@ -57,9 +57,13 @@ pub record AreApart (lanes : ℕ) (fs gs : List Action) : Type 0 where
   pub from : (k : ℕ) → Loads lanes fs k → Stores lanes gs k → ⊥
   pub words : (k : ℕ) → Stores lanes fs k → Stores lanes gs k → ⊥
 
--- the memory that actions leave
+-- the memory and the registers that actions leave
 abbrev pub memory_by : ℕ → ℕ → List Action → List ℕ → List ℕ → List ℕ
 memory_by m lanes fs registers memory = (effects m lanes fs (record { memory = memory; registers = registers })).memory
+
+abbrev pub registers_by : ℕ → ℕ → List Action → List ℕ → List ℕ → List ℕ
+registers_by m lanes fs registers memory =
+    (effects m lanes fs (record { memory = memory; registers = registers })).registers
 
 -- two lists of actions leave the same memory, whatever stands in the registers
 abbrev pub DoTheSame : ℕ → ℕ → List Action → List Action → Type 0

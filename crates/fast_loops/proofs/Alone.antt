@@ -1,12 +1,12 @@
 -- Bodies of one loop and of others, as code takes them apart.
 use Rattle.std.proofs.Common.{◌≡◌, ◌≢◌, Vec, Global, ℕ, ◌+◌, ◌≤◌, List, [], ◌∷◌, Bool, true, false, ap, ap₂, sym, ◌∙◌}
 use Rattle.std.proofs.Common.{arith, refl, get_or, length}
-use Rattle.std.specs.Prelude.{◌*◌, ◌&&◌, nat_le, slice_set, if◌then◌else◌}
+use Rattle.std.specs.Prelude.{◌*◌, ◌&&◌, nat_le, if◌then◌else◌}
 use Rattle.std.proofs.lemmas.Bool.{le-leb}
 use Rattle.icode.specs.declared.program.Op.{Op}
 use Rattle.icode.specs.declared.program.Stmt.{Stmt}
 use Rattle.icode.specs.declared.program.Stmt.TheVariants.{Loop, Do}
-use Rattle.icode.specs.Plain.{PlainParts, PlainStmt, PlainBody, NoStmts, AndStmts, plain_op, plain_stmt, plain_body}
+use Rattle.icode.specs.Plain.{PlainParts, PlainStmt, PlainBody, NoStmts, AndStmts, plain_stmt, plain_body}
 use Rattle.icode.specs.Plain as plain
 use Rattle.icode.proofs.Views.{plain_stmt-Do, plain_stmt-Loop}
 use Rattle.fast_loops.specs.Interchange.{counts_in, round_in, looped, nest_stmt, within, sunk, ordered}
@@ -22,11 +22,6 @@ only : (items : List Stmt) (x : Stmt) → length items ≡ 1 → x ≡ get_or it
 only [] x one e = absurd (omega (arith, one))
 only (y ∷ []) x one e = ap (λ z. z ∷ []) (sym e)
 only (y ∷ z ∷ rest) x one e = absurd (omega (arith, one))
-
-set-one : (items : List Stmt) (x : Stmt) → length items ≡ 1 → slice_set items 0 x ≡ x ∷ []
-set-one [] x one = absurd (omega (arith, one))
-set-one (y ∷ []) x one = refl
-set-one (y ∷ z ∷ rest) x one = absurd (omega (arith, one))
 
 -- more statements than one, or none, are no loop
 pub others-counts : (items : List Stmt) → length items ≢ 1 → counts_in (plain_body items) ≡ []
@@ -50,12 +45,6 @@ pub loop-seen : (items : List Stmt) (x : Stmt) (inner : ℕ) (inside : Vec Stmt 
 loop-seen items x inner inside one at loop =
     ap plain_body (only items x one at) ∙ ap (λ s. AndStmts s NoStmts) (ap plain_stmt loop ∙ plain_stmt-Loop inner inside)
 
--- one loop that is written
-pub loop-set : (items : List Stmt) (inner : ℕ) (inside : Vec Stmt Global) → length items ≡ 1 →
-    plain_body (slice_set items 0 (Loop inner inside)) ≡ one_loop inner (plain_body inside.items)
-loop-set items inner inside one =
-    ap plain_body (set-one items (Loop inner inside) one) ∙ ap (λ s. AndStmts s NoStmts) (plain_stmt-Loop inner inside)
-
 -- ---- innermost statements
 
 pub exchanged-alone : (loop : ℕ) (body : PlainBody) → counts_in body ≡ [] →
@@ -75,16 +64,18 @@ ordered-alone loop count body e = ap (plain.Loop count) (sym (inner-round body e
 pub loops-exchanged : (loop : ℕ) (body : PlainBody) → loops_in (exchanged_in loop body) ≡ loops_in body
 loops-exchanged loop body = ap length (counts-looped (counts_in body) (exchanged_round loop (round_in body)) (inner-exchanged loop (round_in body) (round-inner body)))
 
+-- which of two nests it is
+abbrev either_nest : ℕ → ℕ → ℕ → PlainBody → Bool → PlainStmt
+either_nest loop count inner body t =
+    nest_stmt
+    (if t then within inner (sunk (loop + 1) count (counts_in body) (exchanged_round loop (round_in body)))
+    else record { outer = count; inner = inner ∷ counts_in body; round = round_in body })
+
 pub sunk-stays : (loop count inner : ℕ) (body : PlainBody) → steps_less loop (first_load (round_in body)) ≡ false →
     plain.Loop count (one_loop inner body) ≡ sunk_loop loop count (one_loop inner body)
 sunk-stays loop count inner body fails =
     ap (λ b. plain.Loop count (one_loop inner b)) (sym (looped_is body))
-    ∙ by_test (steps_less loop (first_load (round_in body))) fails
-  where
-    by_test : (t : Bool) → t ≡ false → plain.Loop count (one_loop inner (looped (counts_in body) (round_in body)))
-        ≡ nest_stmt (if t then within inner (sunk (loop + 1) count (counts_in body) (exchanged_round loop (round_in body))) else record { outer = count; inner = inner ∷ counts_in body; round = round_in body })
-    by_test false e = refl
-    by_test true e = cc
+    ∙ ap (either_nest loop count inner body) (sym fails)
 
 pub sunk-deeper : (loop count inner k : ℕ) (body changed made : PlainBody) →
     steps_less loop (first_load (round_in body)) ≡ true → changed ≡ exchanged_in loop body →
@@ -92,7 +83,7 @@ pub sunk-deeper : (loop count inner k : ℕ) (body changed made : PlainBody) →
     plain.Loop inner (one_loop k made) ≡ sunk_loop loop count (one_loop inner body)
 sunk-deeper loop count inner k body changed made holds e h =
     ap (λ s. plain.Loop inner (AndStmts s NoStmts)) (h ∙ (ap (sunk_loop (loop + 1) count) e ∙ below))
-    ∙ by_test (steps_less loop (first_load (round_in body))) holds
+    ∙ ap (either_nest loop count inner body) (sym holds)
   where
     still : counts_in (exchanged_round loop (round_in body)) ≡ []
     still = inner-exchanged loop (round_in body) (round-inner body)
@@ -100,13 +91,6 @@ sunk-deeper loop count inner k body changed made holds e h =
     below : sunk_loop (loop + 1) count (exchanged_in loop body)
         ≡ nest_stmt (sunk (loop + 1) count (counts_in body) (exchanged_round loop (round_in body)))
     below = ap₂ (λ cs r. nest_stmt (sunk (loop + 1) count cs r)) (counts-looped (counts_in body) (exchanged_round loop (round_in body)) still) (round-looped (counts_in body) (exchanged_round loop (round_in body)) still)
-
-    by_test : (t : Bool) → t ≡ true →
-        plain.Loop inner (AndStmts (nest_stmt (sunk (loop + 1) count (counts_in body)
-        (exchanged_round loop (round_in body)))) NoStmts)
-        ≡ nest_stmt (if t then within inner (sunk (loop + 1) count (counts_in body) (exchanged_round loop (round_in body))) else record { outer = count; inner = inner ∷ counts_in body; round = round_in body })
-    by_test true e = refl
-    by_test false e = cc
 
 -- ---- loops in order
 

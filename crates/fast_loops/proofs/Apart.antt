@@ -24,7 +24,7 @@ use Rattle.fast_loops.proofs.Strides.{added, value_by_strides, rounds_differ}
 
 -- ---- arrays
 
-array-same : (words : ℕ) (a b : Array) → same_array a b ≡ true → array_start words a ≡ array_start words b
+pub array-same : (words : ℕ) (a b : Array) → same_array a b ≡ true → array_start words a ≡ array_start words b
 array-same words X X h = refl
 array-same words Y Y h = refl
 array-same words A A h = refl

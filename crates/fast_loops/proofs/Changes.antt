@@ -1,23 +1,22 @@
 -- Steps in place of others: they leave the same memory, and are some of them.
-use Rattle.std.proofs.Common.{◌≡◌, ℕ, zero, suc, ◌+◌, ◌<◌, ◌≤◌, List, [], ◌∷◌, ◌++◌, Contains, flat_map, refl, sym, ap}
-use Rattle.std.proofs.Common.{◌∙◌, subst, arith, ⊎_elim}
+use Rattle.std.proofs.Common.{◌≡◌, ℕ, ◌+◌, ◌<◌, ◌≤◌, List, [], ◌∷◌, ◌++◌, Contains, flat_map, refl, sym, ap}
+use Rattle.std.proofs.Common.{◌∙◌, subst}
 use Rattle.std.specs.List.{range_with_len}
 use Rattle.std.proofs.Math.Path.{fun_ext}
-use Rattle.std.proofs.lemmas.List.Elements.{Contains-append_left, Contains-append_right, Contains-append_cases}
-use Rattle.icode.specs.declared.action.Action.{Action}
+use Rattle.std.proofs.lemmas.List.{map-append}
 use Rattle.icode.specs.Actions.{Step, actions_of}
 use Rattle.icode.proofs.Lines.{Contains-range}
 use Rattle.fast_loops.proofs.Acts.{DoTheSame}
 use Rattle.fast_loops.proofs.Members.{into_flat_map, from_flat_map, range_item}
-use Rattle.fast_loops.proofs.Same.{same-trans}
+use Rattle.fast_loops.proofs.Members.{append_within}
+use Rattle.fast_loops.proofs.Same.{in-loops, same-append, same-trans}
 
 pub record AreFor (m lanes : ℕ) (xs ys : List Step) : Type 0 where
   pub same : DoTheSame m lanes (actions_of xs) (actions_of ys)
   pub members : (s : Step) → Contains xs s → Contains ys s
 
 pub actions_of-append : (xs ys : List Step) → actions_of (xs ++ ys) ≡ actions_of xs ++ actions_of ys
-actions_of-append [] ys = refl
-actions_of-append (x ∷ xs) ys = ap (λ zs. x.action ∷ zs) (actions_of-append xs ys)
+actions_of-append xs ys = map-append (λ (s : Step). s.action) xs ys
 
 pub actions_of-loop : (f : ℕ → List Step) (is : List ℕ) → actions_of (flat_map f is)
     ≡ flat_map (λ i. actions_of (f i)) is
@@ -41,8 +40,7 @@ of-loop f a n s h =
     let within = range_item a n at.0 at.1 in
     record { round = at.0; low = within.0; high = within.1; inside = at.2 }
 
-module _ (m lanes : ℕ)
-    (same-append : (a b c d : List Action) → DoTheSame m lanes a b → DoTheSame m lanes c d → DoTheSame m lanes (a ++ c) (b ++ d)) where
+module _ (m lanes : ℕ) where
   pub for-nil : AreFor m lanes [] []
   for-nil = record { same = λ r s memory e. refl; members = λ s h. h }
 
@@ -58,16 +56,13 @@ module _ (m lanes : ℕ)
       record {
         same = subst (λ xs. DoTheSame m lanes xs (actions_of (b ++ d))) (sym (actions_of-append a c))
             (subst (DoTheSame m lanes (actions_of a ++ actions_of c)) (sym (actions_of-append b d))
-            (same-append (actions_of a) (actions_of b) (actions_of c) (actions_of d) h.same k.same));
-        members = λ s c_has. ⊎_elim (λ l. Contains-append_left b d s (h.members s l)) (λ r. Contains-append_right b d s (k.members s r)) (Contains-append_cases a c s c_has);
+            (same-append m lanes (actions_of a) (actions_of b) (actions_of c) (actions_of d) h.same k.same));
+        members = append_within a b c d h.members k.members;
       }
 
   pub for-loop : (f g : ℕ → List Step) (a n : ℕ) → ((i : ℕ) → a ≤ i → i < a + n → AreFor m lanes (f i) (g i)) →
       AreFor m lanes (flat_map f (range_with_len a n)) (flat_map g (range_with_len a n))
-  for-loop f g a zero h = for-nil
-  for-loop f g a (suc n) h =
-      for-append (f a) (g a) (flat_map f (range_with_len (a + 1) n)) (flat_map g (range_with_len (a + 1) n)) (h a (omega arith) (omega arith))
-      (for-loop f g (a + 1) n (λ i low high. h i (omega arith) (omega arith)))
+  for-loop = in-loops (AreFor m lanes) for-nil for-append
 
   -- two loops, one in the other, in either order
   pub for-exchange : (outer inner : ℕ) (round : ℕ → ℕ → List Step) →

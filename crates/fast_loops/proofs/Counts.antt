@@ -110,18 +110,11 @@ independent-in lanes count body (Some to) round = apart-in lanes count body to r
 pub nest-ordered : (lanes count : ℕ) (body : PlainBody) → are_independent_in lanes body (first_store (round_in body))
     (round_in body) ≡ true → interchanged_nest lanes (Loop count body) ≡ ordered_loop 0 count body
 nest-ordered lanes count body h =
-    by_test (are_independent lanes (count ∷ counts_in body) (first_store (round_in body)) (round_in body)) (independent-in lanes count body (first_store (round_in body)) (round_in body) ∙ h)
-  where
-    by_test : (t : Bool) → t ≡ true → (if t then ordered_loop 0 count body else Loop count body)
-        ≡ ordered_loop 0 count body
-    by_test true e = refl
-    by_test false e = cc
+    ap (λ t. if t then ordered_loop 0 count body else Loop count body)
+    (independent-in lanes count body (first_store (round_in body)) (round_in body) ∙ h)
 
 pub nest-stays : (lanes count : ℕ) (body : PlainBody) → are_independent_in lanes body (first_store (round_in body))
     (round_in body) ≡ false → interchanged_nest lanes (Loop count body) ≡ Loop count body
 nest-stays lanes count body h =
-    by_test (are_independent lanes (count ∷ counts_in body) (first_store (round_in body)) (round_in body)) (independent-in lanes count body (first_store (round_in body)) (round_in body) ∙ h)
-  where
-    by_test : (t : Bool) → t ≡ false → (if t then ordered_loop 0 count body else Loop count body) ≡ Loop count body
-    by_test false e = refl
-    by_test true e = cc
+    ap (λ t. if t then ordered_loop 0 count body else Loop count body)
+    (independent-in lanes count body (first_store (round_in body)) (round_in body) ∙ h)

@@ -11,10 +11,10 @@ use Rattle.fast_loops.specs.Rounds.{is_fresh, put_after, are_fresh}
 use Rattle.fast_loops.proofs.Acts.{IsFresh, next_after, AreFresh}
 use Rattle.fast_loops.proofs.Linear.{wrong}
 
-one-source : (r next x : ℕ) → ((r == next) && nat_lt x next) ≡ true → (r ≡ next) × (x < next)
+pub one-source : (r next x : ℕ) → ((r == next) && nat_lt x next) ≡ true → (r ≡ next) × (x < next)
 one-source r next x h = let two = both_true (r == next) (nat_lt x next) h in (eqb-true r next two.0, ltb-true x next two.1)
 
-two-sources : (r next x y : ℕ) → ((r == next) && (nat_lt x next && nat_lt y next)) ≡ true →
+pub two-sources : (r next x y : ℕ) → ((r == next) && (nat_lt x next && nat_lt y next)) ≡ true →
     (r ≡ next) × (x < next) × (y < next)
 two-sources r next x y h =
     let two = both_true (r == next) (nat_lt x next && nat_lt y next) h in
@@ -37,14 +37,7 @@ fresh-op p next (Tile r x) vs q h =
 put-op : (p : PlainProgram) (next : ℕ) (op : PlainOp) (vs : List ℕ) (q : ℕ) →
     put_after p.lanes next op ≡ next_after p.lanes next (step_of p op vs q).action
 put-op p next (Load r array place) vs q = refl
-put-op p next (Store array place r) vs q = refl
-put-op p next (Zero r) vs q = refl
-put-op p next (Add r x y) vs q = refl
-put-op p next (Sub r x y) vs q = refl
-put-op p next (Neg r x) vs q = refl
-put-op p next (MulConst r x factor) vs q = refl
-put-op p next (MulTable r x table place step) vs q = refl
-put-op p next (Tile r x) vs q = refl
+put-op p next _ vs q = refl
 
 fresh-from : (p : PlainProgram) (next : ℕ) (body : PlainBody) (vs : List ℕ) (q : ℕ) →
     are_fresh p.lanes next body ≡ true →
@@ -70,14 +63,7 @@ same-registers : (lanes next loop : ℕ) (op : PlainOp) →
     (is_fresh lanes next (exchanged_op loop op) ≡ is_fresh lanes next op)
     × (put_after lanes next (exchanged_op loop op) ≡ put_after lanes next op)
 same-registers lanes next loop (Load r array place) = (refl, refl)
-same-registers lanes next loop (Store array place r) = (refl, refl)
-same-registers lanes next loop (Zero r) = (refl, refl)
-same-registers lanes next loop (Add r x y) = (refl, refl)
-same-registers lanes next loop (Sub r x y) = (refl, refl)
-same-registers lanes next loop (Neg r x) = (refl, refl)
-same-registers lanes next loop (MulConst r x factor) = (refl, refl)
-same-registers lanes next loop (MulTable r x table place step) = (refl, refl)
-same-registers lanes next loop (Tile r x) = (refl, refl)
+same-registers lanes next loop _ = (refl, refl)
 
 are-fresh-exchanged : (lanes next loop : ℕ) (body : PlainBody) →
     are_fresh lanes next (exchanged_round loop body) ≡ are_fresh lanes next body

@@ -54,6 +54,20 @@ flat_map-alike f g zero i h = refl
 flat_map-alike f g (suc n) i h =
     ap₂ (λ (xs ys : List ℕ). xs ++ ys) (h i (omega arith)) (flat_map-alike f g n (i + 1) (λ l below. h l (omega arith)))
 
+-- ---- registers of which the first are the same
+
+module _ (lanes next : ℕ) (r s : List ℕ) (same : (k : ℕ) → k < next * lanes → slice_get r k ≡ slice_get s k) where
+  pub register_agrees : (x : ℕ) → x < next → register_of lanes r x ≡ register_of lanes s x
+  register_agrees x before =
+      let room = mul-le-mul_left lanes before in words_at-agree lanes r s (x * lanes) (λ k a b. same k (omega arith))
+
+  pub tile_agrees : (x : ℕ) → x + lanes ≤ next → transposed lanes r x ≡ transposed lanes s x
+  tile_agrees x before =
+      flat_map-alike _ _ lanes 0 (λ k k_below. map-alike _ _ lanes 0 (λ l l_below.
+      let low : x + l < next = omega arith in
+      let room = mul-le-mul_left lanes low in
+      slice_index-agree r s ((x + l) * lanes + k) (same ((x + l) * lanes + k) (omega arith))))
+
 -- ---- states
 
 -- registers before the next one agree, and the memories do but for the words `other`
@@ -65,16 +79,10 @@ pub record Agree (lanes next : ℕ) (other : List ℕ) (s t : Local) : Type 0 wh
 
 module _ (lanes next : ℕ) (other : List ℕ) (s t : Local) (same : Agree lanes next other s t) where
   register_alike : (x : ℕ) → x < next → register_of lanes s.registers x ≡ register_of lanes t.registers x
-  register_alike x before =
-      let room = mul-le-mul_left lanes before in
-      words_at-agree lanes s.registers t.registers (x * lanes) (λ k a b. same.registers k (omega arith))
+  register_alike = register_agrees lanes next s.registers t.registers same.registers
 
   tile_alike : (x : ℕ) → x + lanes ≤ next → transposed lanes s.registers x ≡ transposed lanes t.registers x
-  tile_alike x before =
-      flat_map-alike _ _ lanes 0 (λ k k_below. map-alike _ _ lanes 0 (λ l l_below.
-      let low : x + l < next = omega arith in
-      let room = mul-le-mul_left lanes low in
-      slice_index-agree s.registers t.registers ((x + l) * lanes + k) (same.registers ((x + l) * lanes + k) (omega arith))))
+  tile_alike = tile_agrees lanes next s.registers t.registers same.registers
 
   load_alike : (address : ℕ) → ((k : ℕ) → Contains (range_with_len address lanes) k → Contains other k → ⊥) →
       words_at lanes s.memory address ≡ words_at lanes t.memory address

@@ -11,6 +11,7 @@ pub mod Folds
 pub mod Fresh
 pub mod Grouped
 pub mod InOrder
+pub mod InPlace
 pub mod Independent
 pub mod Items
 pub mod JoinedLoops
@@ -20,6 +21,7 @@ pub mod Linear
 pub mod Looped
 pub mod Members
 pub mod Nests
+pub mod Phases
 pub mod Programs
 pub mod Ranges
 pub mod Rows

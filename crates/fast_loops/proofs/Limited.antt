@@ -8,8 +8,9 @@ use Rattle.std.proofs.lemmas.Bool.Decides.{eqb_tells}
 use Rattle.icode.specs.Limits.{rank, next_rank, is_small, is_small_positive, is_part_within, are_parts_within}
 use Rattle.icode.specs.Limits.{all_parts, part_parts, parts_depth, part_depth, is_expr_within, is_op_within}
 use Rattle.icode.specs.Limits.{is_stmt_within, is_body_within, are_phases_within}
-use Rattle.icode.specs.Plain.{PlainExpr, PlainParts, PlainOp, PlainStmt, PlainBody, Sum, NoParts, AndParts, Proc, Var}
-use Rattle.icode.specs.Plain.{Product, Rem, Quot, Load, Store, Zero, Add, Sub, Neg, MulConst, MulTable, Tile, Loop, Do}
+use Rattle.icode.specs.Plain.{PlainExpr, PlainParts, PlainPart, PlainOp, PlainStmt, PlainBody, Sum, NoParts, AndParts}
+use Rattle.icode.specs.Plain.{Proc, Var}
+use Rattle.icode.specs.Plain.{Load, Store, MulTable, Loop, Do}
 use Rattle.icode.specs.Plain.{NoStmts, AndStmts}
 use Rattle.fast_loops.specs.Interchange.{Nest, counts_in, round_in, looped, nest_stmt, within, sunk, ordered}
 use Rattle.fast_loops.specs.Interchange.{interchanged_nest, interchanged_body}
@@ -17,38 +18,66 @@ use Rattle.fast_loops.specs.Places.{exchanged_first, exchanged_parts, exchanged_
 use Rattle.fast_loops.specs.Rounds.{first_store, first_load, steps_less, are_independent}
 use Rattle.fast_loops.specs.View.{loops_in, is_shallow, are_shallow}
 use Rattle.fast_loops.proofs.Looped.{looped_is}
+use Rattle.fast_loops.proofs.Phases.{all-within}
 
 -- ---- parts
 
 pub and_three : (a b c : Bool) → a ≡ true → b ≡ true → c ≡ true → (a && (b && c)) ≡ true
 and_three a b c ea eb ec = and_from a (b && c) ea (and_from b c eb ec)
 
+-- what is known of a part in front
+record IsPartWithin (part : PlainPart) (n least : ℕ) (rest : PlainParts) : Type 0 where
+  within : is_part_within part n ≡ true
+  ranked : least ≤ rank part
+  behind : are_parts_within rest n (next_rank part) ≡ true
+
+part-within : (part : PlainPart) (n least : ℕ) (rest : PlainParts) →
+    are_parts_within (AndParts part rest) n least ≡ true → IsPartWithin part n least rest
+part-within part n least rest h =
+    let two = and_parts (is_part_within part n) _ h in
+    let more = and_parts (nat_le least (rank part)) _ two.1 in
+    record { within = two.0; ranked = leb-true least (rank part) more.0; behind = more.1 }
+
+part-is : (part : PlainPart) (n least : ℕ) (rest : PlainParts) → IsPartWithin part n least rest →
+    are_parts_within (AndParts part rest) n least ≡ true
+part-is part n least rest k =
+    and_three (is_part_within part n) (nat_le least (rank part)) (are_parts_within rest n (next_rank part))
+    k.within (le-leb least (rank part) k.ranked) k.behind
+
+-- behind another rank, as long as it is no greater
+part-moved : (part : PlainPart) (n least other : ℕ) (rest : PlainParts) → other ≤ rank part →
+    are_parts_within (AndParts part rest) n least ≡ true → are_parts_within (AndParts part rest) n other ≡ true
+part-moved part n least other rest le h =
+    let k = part-within part n least rest h in
+    part-is part n other rest (record { within = k.within; ranked = le; behind = k.behind })
+
 -- what stands behind a rank stands behind lower ones
 parts-lower : (parts : PlainParts) (n least lower : ℕ) → lower ≤ least → are_parts_within parts n least ≡ true →
     are_parts_within parts n lower ≡ true
 parts-lower NoParts n least lower le h = refl
 parts-lower (AndParts part rest) n least lower le h =
-    let within = and_parts (is_part_within part n) _ h in
-    let ranked = and_parts (nat_le least (rank part)) _ within.1 in
-    let bound : least ≤ rank part = leb-true least (rank part) ranked.0 in
-    and_three (is_part_within part n) (nat_le lower (rank part)) (are_parts_within rest n (next_rank part)) within.0 (le-leb lower (rank part) (omega (arith, bound, le))) ranked.1
+    let bound = (part-within part n least rest h).ranked in
+    part-moved part n least lower rest (omega (arith, bound, le)) h
 
--- two multiples of loops' values in front
-pair-within : (loop a b n least : ℕ) (rest : PlainParts) → loop + 1 < n → least ≤ loop + 1 →
-    is_small_positive a ≡ true → is_small_positive b ≡ true → are_parts_within rest n (loop + 3) ≡ true →
-    are_parts_within (AndParts (Var loop a) (AndParts (Var (loop + 1) b) rest)) n least ≡ true
-pair-within loop a b n least rest deep le ea eb h =
-    and_three (nat_lt loop n && is_small_positive a) (nat_le least (1 + loop)) _ (and_from (nat_lt loop n) _ (lt-ltb loop n (omega (arith, deep))) ea) (le-leb least (1 + loop) (omega (arith, le)))
-    (and_three (nat_lt (loop + 1) n && is_small_positive b) (nat_le (suc (1 + loop)) (1 + (loop + 1))) _ (and_from (nat_lt (loop + 1) n) _ (lt-ltb (loop + 1) n deep) eb) (le-leb (suc (1 + loop)) (1 + (loop + 1)) (omega arith))
-    (parts-lower rest n (loop + 3) (suc (1 + (loop + 1))) (omega arith) h))
-
--- one in front
+-- a multiple of a loop's value in front
 pub one-within : (depth a n least behind : ℕ) (rest : PlainParts) → depth < n → least ≤ depth + 1 →
     is_small_positive a ≡ true → depth + 2 ≤ behind → are_parts_within rest n behind ≡ true →
     are_parts_within (AndParts (Var depth a) rest) n least ≡ true
 one-within depth a n least behind rest deep le ea lower h =
-    and_three (nat_lt depth n && is_small_positive a) (nat_le least (1 + depth)) _ (and_from (nat_lt depth n) _ (lt-ltb depth n deep) ea) (le-leb least (1 + depth) (omega (arith, le)))
-    (parts-lower rest n behind (suc (1 + depth)) (omega (arith, lower)) h)
+    part-is (Var depth a) n least rest
+    (record {
+      within = and_from (nat_lt depth n) _ (lt-ltb depth n deep) ea;
+      ranked = omega (arith, le);
+      behind = parts-lower rest n behind (suc (1 + depth)) (omega (arith, lower)) h;
+    })
+
+-- two of them
+pair-within : (loop a b n least : ℕ) (rest : PlainParts) → loop + 1 < n → least ≤ loop + 1 →
+    is_small_positive a ≡ true → is_small_positive b ≡ true → are_parts_within rest n (loop + 3) ≡ true →
+    are_parts_within (AndParts (Var loop a) (AndParts (Var (loop + 1) b) rest)) n least ≡ true
+pair-within loop a b n least rest deep le ea eb h =
+    one-within loop a n least (loop + 2) (AndParts (Var (loop + 1) b) rest) (omega (arith, deep)) le ea (omega arith)
+    (one-within (loop + 1) b n (loop + 2) (loop + 3) rest deep (omega arith) eb (omega arith) h)
 
 -- what is known of a multiple of a loop's value in front
 pub record IsVarWithin (depth a n least : ℕ) (rest : PlainParts) : Type 0 where
@@ -60,15 +89,14 @@ pub record IsVarWithin (depth a n least : ℕ) (rest : PlainParts) : Type 0 wher
 pub var-within : (depth a n least : ℕ) (rest : PlainParts) →
     are_parts_within (AndParts (Var depth a) rest) n least ≡ true → IsVarWithin depth a n least rest
 var-within depth a n least rest h =
-    let within = and_parts (nat_lt depth n && is_small_positive a) _ h in
-    let part = and_parts (nat_lt depth n) _ within.0 in
-    let ranked = and_parts (nat_le least (1 + depth)) _ within.1 in
-    let le : least ≤ 1 + depth = leb-true least (1 + depth) ranked.0 in
+    let k = part-within (Var depth a) n least rest h in
+    let part = and_parts (nat_lt depth n) _ k.within in
+    let le : least ≤ 1 + depth = k.ranked in
     record {
       deep = ltb-true depth n part.0;
       small = part.1;
       ranked = omega (arith, le);
-      behind = parts-lower rest n (suc (1 + depth)) (depth + 2) (omega arith) ranked.1;
+      behind = parts-lower rest n (suc (1 + depth)) (depth + 2) (omega arith) k.behind;
     }
 
 first-within : (loop factor n least : ℕ) (rest : PlainParts) → loop + 1 < n → n ≤ 64 → least ≤ loop + 1 →
@@ -93,24 +121,10 @@ first-within loop factor n least (AndParts (Var depth inner) rest) deep top le s
         one-within (loop + 1) factor n least (loop + 3) (AndParts (Var depth inner) rest) deep (omega (arith, le)) small (omega arith)
         (one-within depth inner n (loop + 3) (depth + 2) rest known.deep (let ne = e.1 in omega (arith, known.ranked, ne)) known.small (omega arith) known.behind)
 first-within loop factor n least (AndParts (Proc a) rest) deep top le small h =
-    let ranked = and_parts (nat_le (loop + 2) 0) _ (and_parts (is_small_positive a) _ h).1 in
-    let none : loop + 2 ≤ 0 = leb-true (loop + 2) 0 ranked.0 in
-    absurd (omega (arith, none))
-first-within loop factor n least (AndParts (Product outer inner a) rest) deep top le small h =
-    let within = and_parts (is_part_within (Product outer inner a) n) _ h in
-    let ranked = and_parts (nat_le (loop + 2) (rank (Product outer inner a))) _ within.1 in
-    one-within (loop + 1) factor n least (loop + 3) (AndParts (Product outer inner a) rest) deep (omega (arith, le)) small (omega arith)
-    (and_three (is_part_within (Product outer inner a) n) (nat_le (loop + 3) (rank (Product outer inner a))) (are_parts_within rest n (next_rank (Product outer inner a))) within.0 (le-leb (loop + 3) (rank (Product outer inner a)) (omega (arith, deep, top))) ranked.1)
-first-within loop factor n least (AndParts (Rem of divisor a) rest) deep top le small h =
-    let within = and_parts (is_part_within (Rem of divisor a) n) _ h in
-    let ranked = and_parts (nat_le (loop + 2) 5000) _ within.1 in
-    one-within (loop + 1) factor n least (loop + 3) (AndParts (Rem of divisor a) rest) deep (omega (arith, le)) small (omega arith)
-    (and_three (is_part_within (Rem of divisor a) n) (nat_le (loop + 3) 5000) (are_parts_within rest n 5000) within.0 (le-leb (loop + 3) 5000 (omega (arith, deep, top))) ranked.1)
-first-within loop factor n least (AndParts (Quot of divisor a) rest) deep top le small h =
-    let within = and_parts (is_part_within (Quot of divisor a) n) _ h in
-    let ranked = and_parts (nat_le (loop + 2) 5001) _ within.1 in
-    one-within (loop + 1) factor n least (loop + 3) (AndParts (Quot of divisor a) rest) deep (omega (arith, le)) small (omega arith)
-    (and_three (is_part_within (Quot of divisor a) n) (nat_le (loop + 3) 5001) (are_parts_within rest n 5001) within.0 (le-leb (loop + 3) 5001 (omega (arith, deep, top))) ranked.1)
+    let none : loop + 2 ≤ 0 = (part-within (Proc a) n (loop + 2) rest h).ranked in absurd (omega (arith, none))
+first-within loop factor n least (AndParts part rest) deep top le small h =
+    one-within (loop + 1) factor n least (loop + 3) (AndParts part rest) deep (omega (arith, le)) small (omega arith)
+    (part-moved part n (loop + 2) (loop + 3) rest (omega (arith, deep, top)) h)
 
 -- parts stand by their ranks where no part has that of the loop behind it
 parts-within : (loop n least : ℕ) (parts : PlainParts) → loop + 1 < n → n ≤ 64 → least ≢ loop + 2 →
@@ -137,22 +151,14 @@ parts-within loop n least (AndParts (Var depth factor) rest) deep top ne h =
     by_tests false true (inr e) (inr d) more = cc
     by_tests false false (inr e) (inl d) more = cc
     by_tests false false (inr e) (inr d) more = one-within depth factor n least (depth + 2) (exchanged_parts loop rest) known.deep known.ranked known.small (omega arith) (more e.1)
-parts-within loop n least (AndParts (Proc a) rest) deep top ne h =
-    let within = and_parts (is_small_positive a) _ h in
-    let ranked = and_parts (nat_le least 0) _ within.1 in
-    and_three (is_small_positive a) (nat_le least 0) (are_parts_within (exchanged_parts loop rest) n 1) within.0 ranked.0 (parts-within loop n 1 rest deep top (λ e. omega (arith, e)) ranked.1)
-parts-within loop n least (AndParts (Product outer inner a) rest) deep top ne h =
-    let within = and_parts (is_part_within (Product outer inner a) n) _ h in
-    let ranked = and_parts (nat_le least (rank (Product outer inner a))) _ within.1 in
-    and_three (is_part_within (Product outer inner a) n) (nat_le least (rank (Product outer inner a))) (are_parts_within (exchanged_parts loop rest) n (next_rank (Product outer inner a))) within.0 ranked.0 (parts-within loop n (next_rank (Product outer inner a)) rest deep top (λ e. omega (arith, e, deep, top)) ranked.1)
-parts-within loop n least (AndParts (Rem of divisor a) rest) deep top ne h =
-    let within = and_parts (is_part_within (Rem of divisor a) n) _ h in
-    let ranked = and_parts (nat_le least 5000) _ within.1 in
-    and_three (is_part_within (Rem of divisor a) n) (nat_le least 5000) (are_parts_within (exchanged_parts loop rest) n 5000) within.0 ranked.0 (parts-within loop n 5000 rest deep top (λ e. omega (arith, e, deep, top)) ranked.1)
-parts-within loop n least (AndParts (Quot of divisor a) rest) deep top ne h =
-    let within = and_parts (is_part_within (Quot of divisor a) n) _ h in
-    let ranked = and_parts (nat_le least 5001) _ within.1 in
-    and_three (is_part_within (Quot of divisor a) n) (nat_le least 5001) (are_parts_within (exchanged_parts loop rest) n 5001) within.0 ranked.0 (parts-within loop n 5001 rest deep top (λ e. omega (arith, e, deep, top)) ranked.1)
+parts-within loop n least (AndParts part rest) deep top ne h =
+    let k = part-within part n least rest h in
+    part-is part n least (exchanged_parts loop rest)
+    (record {
+      within = k.within;
+      ranked = k.ranked;
+      behind = parts-within loop n (next_rank part) rest deep top (λ e. omega (arith, e, deep, top)) k.behind;
+    })
 
 -- ---- counts of parts and of parentheses
 
@@ -165,10 +171,7 @@ first-count loop factor (AndParts (Var depth inner) rest) = by_test (depth == lo
         ≡ 1 + (1 + all_parts rest)
     by_test true = refl
     by_test false = refl
-first-count loop factor (AndParts (Proc a) rest) = refl
-first-count loop factor (AndParts (Product outer inner a) rest) = refl
-first-count loop factor (AndParts (Rem of divisor a) rest) = refl
-first-count loop factor (AndParts (Quot of divisor a) rest) = refl
+first-count loop factor (AndParts part rest) = refl
 
 parts-count : (loop : ℕ) (parts : PlainParts) → all_parts (exchanged_parts loop parts) ≡ all_parts parts
 parts-count loop NoParts = refl
@@ -180,10 +183,7 @@ parts-count loop (AndParts (Var depth factor) rest) = by_tests (depth == loop) (
     by_tests true u h = first-count loop factor rest
     by_tests false true h = refl
     by_tests false false h = ap (λ n. 1 + n) h
-parts-count loop (AndParts (Proc a) rest) = ap (λ n. 1 + n) (parts-count loop rest)
-parts-count loop (AndParts (Product outer inner a) rest) = ap (λ n. 1 + n) (parts-count loop rest)
-parts-count loop (AndParts (Rem of divisor a) rest) = ap (λ n. part_parts (Rem of divisor a) + n) (parts-count loop rest)
-parts-count loop (AndParts (Quot of divisor a) rest) = ap (λ n. part_parts (Quot of divisor a) + n) (parts-count loop rest)
+parts-count loop (AndParts part rest) = ap (λ n. part_parts part + n) (parts-count loop rest)
 
 first-depth : (loop factor : ℕ) (rest : PlainParts) → parts_depth (exchanged_first loop factor rest)
     ≡ max 0 (parts_depth rest)
@@ -195,10 +195,7 @@ first-depth loop factor (AndParts (Var depth inner) rest) = by_test (depth == lo
         ≡ max 0 (max 0 (parts_depth rest))
     by_test true = refl
     by_test false = refl
-first-depth loop factor (AndParts (Proc a) rest) = refl
-first-depth loop factor (AndParts (Product outer inner a) rest) = refl
-first-depth loop factor (AndParts (Rem of divisor a) rest) = refl
-first-depth loop factor (AndParts (Quot of divisor a) rest) = refl
+first-depth loop factor (AndParts part rest) = refl
 
 parts-depth : (loop : ℕ) (parts : PlainParts) → parts_depth (exchanged_parts loop parts) ≡ parts_depth parts
 parts-depth loop NoParts = refl
@@ -210,10 +207,7 @@ parts-depth loop (AndParts (Var depth factor) rest) = by_tests (depth == loop) (
     by_tests true u h = first-depth loop factor rest
     by_tests false true h = refl
     by_tests false false h = ap (max 0) h
-parts-depth loop (AndParts (Proc a) rest) = ap (max 0) (parts-depth loop rest)
-parts-depth loop (AndParts (Product outer inner a) rest) = ap (max 0) (parts-depth loop rest)
-parts-depth loop (AndParts (Rem of divisor a) rest) = ap (max (part_depth (Rem of divisor a))) (parts-depth loop rest)
-parts-depth loop (AndParts (Quot of divisor a) rest) = ap (max (part_depth (Quot of divisor a))) (parts-depth loop rest)
+parts-depth loop (AndParts part rest) = ap (max (part_depth part)) (parts-depth loop rest)
 
 -- ---- statements
 
@@ -242,12 +236,7 @@ op-within m loop n (MulTable register source table place step) deep top h =
     let c = and_parts (is_small table) _ b.1 in
     let d = and_parts (nat_lt step 2) _ c.1 in
     and_from (is_small register) _ a.0 (and_from (is_small source) _ b.0 (and_from (is_small table) _ c.0 (and_from (nat_lt step 2) _ d.0 (place-within loop n place deep top d.1))))
-op-within m loop n (Zero register) deep top h = h
-op-within m loop n (Add register left right) deep top h = h
-op-within m loop n (Sub register left right) deep top h = h
-op-within m loop n (Neg register source) deep top h = h
-op-within m loop n (MulConst register source factor) deep top h = h
-op-within m loop n (Tile register source) deep top h = h
+op-within m loop n _ deep top h = h
 
 round-within : (m loop n : ℕ) (round : PlainBody) → loop + 1 < n → n ≤ 64 → is_body_within m round n ≡ true →
     is_body_within m (exchanged_round loop round) n ≡ true
@@ -384,17 +373,9 @@ body-within m lanes (AndStmts stmt rest) h =
 -- the phases of a program whose loops are interchanged stay within the limits
 pub phases-within : (m lanes : ℕ) (phases : List PlainBody) → are_phases_within m phases ≡ true →
     are_phases_within m (map (interchanged_body lanes) phases) ≡ true
-phases-within m lanes [] h = h
-phases-within m lanes (body ∷ rest) h =
-    let both = and_parts (nat_lt 0 (length (body ∷ rest))) _ h in
-    and_from (nat_lt 0 (length (map (interchanged_body lanes) (body ∷ rest)))) _ (lt-ltb 0 _ (omega arith)) (all (body ∷ rest) both.1)
-  where
-    all : (bodies : List PlainBody) → list_all (λ b. is_body_within m b 0) bodies ≡ true →
-        list_all (λ b. is_body_within m b 0) (map (interchanged_body lanes) bodies) ≡ true
-    all [] h = refl
-    all (b ∷ bs) h =
-        let both = and_parts (is_body_within m b 0) _ h in
-        and_from (is_body_within m (interchanged_body lanes b) 0) _ (body-within m lanes b both.0) (all bs both.1)
+phases-within m lanes phases h =
+    all-within m (interchanged_body lanes) (λ body. is_body_within m body 0)
+    (λ body within also. body-within m lanes body within) phases (and_parts (nat_lt 0 (length phases)) _ h).1 h
 
 -- ---- depths
 

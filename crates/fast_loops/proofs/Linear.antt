@@ -3,13 +3,13 @@ use Rattle.std.proofs.Common.{◌≡◌, ◌≢◌, ℕ, zero, suc, ◌+◌, ◌
 use Rattle.std.proofs.Common.{◌∷◌, ◌++◌, length, refl, sym, ap, ap₂, ◌∙◌, subst, arith, inl, inr, eq-eqb, ne_eqb}
 use Rattle.std.proofs.Common.{leb-true, le-leb, eqb-true}
 use Rattle.std.specs.Prelude.{slice_index, nat_le, ◌==◌, if◌then◌else◌}
-use Rattle.std.proofs.lemmas.Bool.{cases_eq, true≢false}
+use Rattle.std.proofs.lemmas.Bool.{cases_eq, true≢false, and_from}
 use Rattle.icode.specs.Expression.{Numbers, alone, with_part, with_sum, sum_numbers, parts_numbers}
 use Rattle.icode.specs.declared.program.Array.{Array}
 use Rattle.icode.specs.Actions.{Step, step_of, steps_of_body}
 use Rattle.icode.specs.Plain.{PlainExpr, PlainParts, PlainPart, PlainOp, PlainBody, PlainProgram, Sum, NoParts}
-use Rattle.icode.specs.Plain.{AndParts, Proc, Var, Product, Rem, Quot, Load, Store, Zero, Add, Sub, Neg, MulConst}
-use Rattle.icode.specs.Plain.{MulTable, Tile, Loop, Do, NoStmts, AndStmts}
+use Rattle.icode.specs.Plain.{AndParts, Proc, Var, Load, Store}
+use Rattle.icode.specs.Plain.{MulTable, Loop, Do, NoStmts, AndStmts}
 use Rattle.icode.proofs.Bools.{both_true}
 use Rattle.fast_loops.specs.Places.{are_linear, is_linear, stride, same_part, same_parts, exchanged_first}
 use Rattle.fast_loops.specs.Places.{exchanged_parts, exchanged_place, exchanged_op, exchanged_round}
@@ -100,9 +100,7 @@ stride_before least loop (AndParts (Proc factor) rest) h before = stride_before 
 stride_before least loop (AndParts (Var depth factor) rest) h before =
     let two = from_least least depth _ h in
     passed depth loop factor (stride loop rest) (λ e. omega (arith, two.0)) ∙ stride_before (depth + 1) loop rest two.1 (omega (arith, two.0))
-stride_before least loop (AndParts (Product outer inner factor) rest) h before = wrong h
-stride_before least loop (AndParts (Rem of divisor factor) rest) h before = wrong h
-stride_before least loop (AndParts (Quot of divisor factor) rest) h before = wrong h
+stride_before least loop (AndParts part rest) h before = wrong h
 
 -- parts of deeper loops alone
 deeper : (least loop : ℕ) (parts : PlainParts) (ws us : List ℕ) (q : ℕ) → are_linear least parts ≡ true →
@@ -115,9 +113,7 @@ deeper least loop (AndParts (Var depth factor) rest) ws us q h before agree =
     ap₂ with_part
     (ap (λ v. alone (v * factor)) (agree.others depth (λ e. omega (arith, two.0)) (λ e. omega (arith, two.0))))
     (deeper (depth + 1) loop rest ws us q two.1 (omega (arith, two.0)) agree)
-deeper least loop (AndParts (Product outer inner factor) rest) ws us q h before agree = wrong h
-deeper least loop (AndParts (Rem of divisor factor) rest) ws us q h before agree = wrong h
-deeper least loop (AndParts (Quot of divisor factor) rest) ws us q h before agree = wrong h
+deeper least loop (AndParts part rest) ws us q h before agree = wrong h
 
 -- where the loop's multiple stands in front
 exchanged-first : (loop factor : ℕ) (rest : PlainParts) (ws us : List ℕ) (q : ℕ) → are_linear (loop + 1) rest ≡ true →
@@ -147,9 +143,7 @@ exchanged-first loop factor (AndParts (Var depth inner) rest) ws us q h is =
           (ap (λ v. alone (v * inner)) (is.agree.others depth (λ e. omega (arith, two.0)) other))
           (deeper (depth + 1) loop rest ws us q two.1 (omega (arith, two.0, other)) is.agree))
     ]
-exchanged-first loop factor (AndParts (Product outer inner other) rest) ws us q h is = wrong h
-exchanged-first loop factor (AndParts (Rem of divisor other) rest) ws us q h is = wrong h
-exchanged-first loop factor (AndParts (Quot of divisor other) rest) ws us q h is = wrong h
+exchanged-first loop factor (AndParts part rest) ws us q h is = wrong h
 
 -- parts of an exchanged round have the numbers that they had
 exchanged-numbers : (least loop : ℕ) (parts : PlainParts) (ws us : List ℕ) (q : ℕ) → are_linear least parts ≡ true →
@@ -184,9 +178,7 @@ exchanged-numbers least loop (AndParts (Var depth factor) rest) ws us q h is =
                 (exchanged-numbers (depth + 1) loop rest ws us q two.1 is)
           ]
     ]
-exchanged-numbers least loop (AndParts (Product outer inner other) rest) ws us q h is = wrong h
-exchanged-numbers least loop (AndParts (Rem of divisor other) rest) ws us q h is = wrong h
-exchanged-numbers least loop (AndParts (Quot of divisor other) rest) ws us q h is = wrong h
+exchanged-numbers least loop (AndParts part rest) ws us q h is = wrong h
 
 -- a place of an exchanged round is the place that it was
 exchanged_numbers : (loop : ℕ) (place : PlainExpr) (ws us : List ℕ) (q : ℕ) → is_linear place ≡ true →
@@ -201,7 +193,7 @@ same-part (Proc a) (Proc b) h = ap Proc (eqb-true a b h)
 same-part (Var v a) (Var w b) h = let two = both_true (v == w) (a == b) h in ap₂ Var (eqb-true v w two.0) (eqb-true a b two.1)
 same-part _ _ h = wrong h
 
-parts_equal : (a b : PlainParts) → same_parts a b ≡ true → a ≡ b
+pub parts_equal : (a b : PlainParts) → same_parts a b ≡ true → a ≡ b
 parts_equal NoParts NoParts h = refl
 parts_equal (AndParts a more) (AndParts b others) h =
     let two = both_true (same_part a b) (same_parts more others) h in ap₂ AndParts (same-part a b two.0) (parts_equal more others two.1)
@@ -235,9 +227,6 @@ has_linear_places NoStmts = true
 has_linear_places (AndStmts (Do op) rest) = has_linear_place op && has_linear_places rest
 has_linear_places (AndStmts (Loop count body) rest) = false
 
-both : (a b : Bool) → a ≡ true → b ≡ true → (a && b) ≡ true
-both a b h g = ap₂ (λ x y. x && y) h g
-
 placed-linear : (lanes : ℕ) (to : Stored) (step : ℕ) (op : PlainOp) → are_linear 0 to.parts ≡ true →
     is_placed lanes to step op ≡ true →
     has_linear_place op ≡ true
@@ -245,12 +234,7 @@ placed-linear lanes to step (Load r array place) linear h = (both_true (not (sam
 placed-linear lanes to step (Store array (Sum constant parts) r) linear h =
     ap (are_linear 0) (store_told lanes to step array constant parts r h).by ∙ linear
 placed-linear lanes to step (MulTable r x table place entries) linear h = h
-placed-linear lanes to step (Zero r) linear h = refl
-placed-linear lanes to step (Add r x y) linear h = refl
-placed-linear lanes to step (Sub r x y) linear h = refl
-placed-linear lanes to step (Neg r x) linear h = refl
-placed-linear lanes to step (MulConst r x factor) linear h = refl
-placed-linear lanes to step (Tile r x) linear h = refl
+placed-linear lanes to step _ linear h = refl
 
 -- statements that store by linear parts have linear places
 pub placed_linear : (lanes : ℕ) (to : Stored) (step : ℕ) (body : PlainBody) → are_linear 0 to.parts ≡ true →
@@ -259,7 +243,7 @@ pub placed_linear : (lanes : ℕ) (to : Stored) (step : ℕ) (body : PlainBody) 
 placed_linear lanes to step NoStmts linear h = refl
 placed_linear lanes to step (AndStmts (Do op) rest) linear h =
     let two = both_true (is_placed lanes to step op) (are_placed lanes to step rest) h in
-    both (has_linear_place op) (has_linear_places rest) (placed-linear lanes to step op linear two.0) (placed_linear lanes to step rest linear two.1)
+    and_from (has_linear_place op) (has_linear_places rest) (placed-linear lanes to step op linear two.0) (placed_linear lanes to step rest linear two.1)
 placed_linear lanes to step (AndStmts (Loop count body) rest) linear h = wrong h
 
 -- ---- exchanged places are linear
@@ -269,17 +253,15 @@ lower : (least less : ℕ) (parts : PlainParts) → less ≤ least → are_linea
 lower least less NoParts within h = refl
 lower least less (AndParts (Proc factor) rest) within h =
     let two = proc_first least factor rest h in
-    both (less == 0) (are_linear less rest) (eq-eqb less 0 (omega (arith, within, two.0))) (lower least less rest within two.1)
+    and_from (less == 0) (are_linear less rest) (eq-eqb less 0 (omega (arith, within, two.0))) (lower least less rest within two.1)
 lower least less (AndParts (Var depth factor) rest) within h =
     let two = from_least least depth _ h in
-    both (nat_le less depth) (are_linear (depth + 1) rest) (le-leb less depth (omega (arith, within, two.0))) two.1
-lower least less (AndParts (Product outer inner factor) rest) within h = wrong h
-lower least less (AndParts (Rem of divisor factor) rest) within h = wrong h
-lower least less (AndParts (Quot of divisor factor) rest) within h = wrong h
+    and_from (nat_le less depth) (are_linear (depth + 1) rest) (le-leb less depth (omega (arith, within, two.0))) two.1
+lower least less (AndParts part rest) within h = wrong h
 
 first-linear : (least loop factor : ℕ) (rest : PlainParts) → least ≤ loop → are_linear (loop + 1) rest ≡ true →
     are_linear least (exchanged_first loop factor rest) ≡ true
-first-linear least loop factor NoParts within h = both (nat_le least (loop + 1)) true (le-leb least (loop + 1) (omega arith)) refl
+first-linear least loop factor NoParts within h = and_from (nat_le least (loop + 1)) true (le-leb least (loop + 1) (omega arith)) refl
 first-linear least loop factor (AndParts (Proc other) rest) within h = absurd (omega (arith, (proc_first (loop + 1) other rest h).0))
 first-linear least loop factor (AndParts (Var depth inner) rest) within h =
     let two = from_least (loop + 1) depth _ h in
@@ -288,24 +270,22 @@ first-linear least loop factor (AndParts (Var depth inner) rest) within h =
     elim (cases_eq depth (loop + 1)) [
       | inl same ↦
           ap (are_linear least) (chosen depth (loop + 1) swapped kept same)
-          ∙ both (nat_le least loop) _ (le-leb least loop within)
-          (both (nat_le (loop + 1) (loop + 1)) (are_linear (loop + 1 + 1) rest) (le-leb (loop + 1) (loop + 1) (omega arith))
+          ∙ and_from (nat_le least loop) _ (le-leb least loop within)
+          (and_from (nat_le (loop + 1) (loop + 1)) (are_linear (loop + 1 + 1) rest) (le-leb (loop + 1) (loop + 1) (omega arith))
           (subst (λ d. are_linear (d + 1) rest ≡ true) same two.1))
       | inr other ↦
           ap (are_linear least) (passed depth (loop + 1) swapped kept other)
-          ∙ both (nat_le least (loop + 1)) _ (le-leb least (loop + 1) (omega arith))
-          (both (nat_le (loop + 1 + 1) depth) (are_linear (depth + 1) rest) (le-leb (loop + 1 + 1) depth (omega (arith, two.0, other))) two.1)
+          ∙ and_from (nat_le least (loop + 1)) _ (le-leb least (loop + 1) (omega arith))
+          (and_from (nat_le (loop + 1 + 1) depth) (are_linear (depth + 1) rest) (le-leb (loop + 1 + 1) depth (omega (arith, two.0, other))) two.1)
     ]
-first-linear least loop factor (AndParts (Product outer inner other) rest) within h = wrong h
-first-linear least loop factor (AndParts (Rem of divisor other) rest) within h = wrong h
-first-linear least loop factor (AndParts (Quot of divisor other) rest) within h = wrong h
+first-linear least loop factor (AndParts part rest) within h = wrong h
 
 parts-linear : (least loop : ℕ) (parts : PlainParts) → least ≢ loop + 1 → are_linear least parts ≡ true →
     are_linear least (exchanged_parts loop parts) ≡ true
 parts-linear least loop NoParts far h = refl
 parts-linear least loop (AndParts (Proc factor) rest) far h =
     let two = proc_first least factor rest h in
-    both (least == 0) _ (eq-eqb least 0 two.0) (parts-linear least loop rest far two.1)
+    and_from (least == 0) _ (eq-eqb least 0 two.0) (parts-linear least loop rest far two.1)
 parts-linear least loop (AndParts (Var depth factor) rest) far h =
     let two = from_least least depth _ h in
     let first : PlainParts = exchanged_first loop factor rest in
@@ -321,17 +301,15 @@ parts-linear least loop (AndParts (Var depth factor) rest) far h =
           ∙ elim (cases_eq depth (loop + 1)) [
             | inl next ↦
                 ap (are_linear least) (chosen depth (loop + 1) second neither next)
-                ∙ both (nat_le least loop) (are_linear (loop + 1) rest) (le-leb least loop (omega (arith, two.0, next, far)))
+                ∙ and_from (nat_le least loop) (are_linear (loop + 1) rest) (le-leb least loop (omega (arith, two.0, next, far)))
                 (lower (depth + 1) (loop + 1) rest (omega (arith, next)) two.1)
             | inr farther ↦
                 ap (are_linear least) (passed depth (loop + 1) second neither farther)
-                ∙ both (nat_le least depth) _ (le-leb least depth two.0)
+                ∙ and_from (nat_le least depth) _ (le-leb least depth two.0)
                 (parts-linear (depth + 1) loop rest (λ e. other (omega (arith, e))) two.1)
           ]
     ]
-parts-linear least loop (AndParts (Product outer inner other) rest) far h = wrong h
-parts-linear least loop (AndParts (Rem of divisor other) rest) far h = wrong h
-parts-linear least loop (AndParts (Quot of divisor other) rest) far h = wrong h
+parts-linear least loop (AndParts part rest) far h = wrong h
 
 place-linear : (loop : ℕ) (place : PlainExpr) → is_linear place ≡ true → is_linear (exchanged_place loop place) ≡ true
 place-linear loop (Sum constant parts) h = parts-linear 0 loop parts (λ e. omega (arith, e)) h
@@ -340,12 +318,7 @@ op-linear : (loop : ℕ) (op : PlainOp) → has_linear_place op ≡ true → has
 op-linear loop (Load r array place) h = place-linear loop place h
 op-linear loop (Store array place r) h = place-linear loop place h
 op-linear loop (MulTable r x table place entries) h = place-linear loop place h
-op-linear loop (Zero r) h = refl
-op-linear loop (Add r x y) h = refl
-op-linear loop (Sub r x y) h = refl
-op-linear loop (Neg r x) h = refl
-op-linear loop (MulConst r x factor) h = refl
-op-linear loop (Tile r x) h = refl
+op-linear loop _ h = refl
 
 -- an exchanged round has linear places
 pub linear_exchanged : (loop : ℕ) (body : PlainBody) → has_linear_places body ≡ true →
@@ -353,7 +326,7 @@ pub linear_exchanged : (loop : ℕ) (body : PlainBody) → has_linear_places bod
 linear_exchanged loop NoStmts h = refl
 linear_exchanged loop (AndStmts (Do op) rest) h =
     let two = both_true (has_linear_place op) (has_linear_places rest) h in
-    both (has_linear_place (exchanged_op loop op)) _ (op-linear loop op two.0) (linear_exchanged loop rest two.1)
+    and_from (has_linear_place (exchanged_op loop op)) _ (op-linear loop op two.0) (linear_exchanged loop rest two.1)
 linear_exchanged loop (AndStmts (Loop count body) rest) h = wrong h
 
 -- ---- exchanged rounds
@@ -364,12 +337,7 @@ exchanged-step : (p : PlainProgram) (loop : ℕ) (op : PlainOp) (ws us : List �
 exchanged-step p loop (Load r array place) ws us q h is = rw (exchanged_numbers loop place ws us q h is) refl
 exchanged-step p loop (Store array place r) ws us q h is = rw (exchanged_numbers loop place ws us q h is) refl
 exchanged-step p loop (MulTable r x table place entries) ws us q h is = rw (exchanged_numbers loop place ws us q h is) refl
-exchanged-step p loop (Zero r) ws us q h is = refl
-exchanged-step p loop (Add r x y) ws us q h is = refl
-exchanged-step p loop (Sub r x y) ws us q h is = refl
-exchanged-step p loop (Neg r x) ws us q h is = refl
-exchanged-step p loop (MulConst r x factor) ws us q h is = refl
-exchanged-step p loop (Tile r x) ws us q h is = refl
+exchanged-step p loop _ ws us q h is = refl
 
 exchanged-from : (p : PlainProgram) (loop : ℕ) (body : PlainBody) (ws us : List ℕ) (q : ℕ) →
     has_linear_places body ≡ true → AreExchanged loop ws us →

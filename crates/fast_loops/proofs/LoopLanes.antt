@@ -7,7 +7,6 @@ pub mod FrontCovered
 pub mod FrontHeld
 pub mod Groups
 pub mod Held
-pub mod InOrder
 pub mod Joined
 pub mod Kinds
 pub mod Law

@@ -1,6 +1,6 @@
 -- Lists whose items are items of others.
-use Rattle.std.proofs.Common.{◌≡◌, ℕ, zero, suc, ◌+◌, ◌<◌, ◌≤◌, List, [], ◌∷◌, All, map, flat_map, sym, ◌∙◌, arith}
-use Rattle.std.proofs.Common.{subst, ⊎_elim, Contains}
+use Rattle.std.proofs.Common.{◌≡◌, ℕ, zero, suc, ◌+◌, ◌<◌, ◌≤◌, List, [], ◌∷◌, ◌++◌, All, map, flat_map, sym, ◌∙◌}
+use Rattle.std.proofs.Common.{arith, subst, ⊎_elim, Contains}
 use Rattle.std.specs.List.{range_with_len}
 use Rattle.std.proofs.lemmas.List.Elements.{Contains-get_or, Contains-append_left, Contains-append_right}
 use Rattle.std.proofs.lemmas.List.Elements.{Contains-append_cases}
@@ -17,6 +17,13 @@ module _ {X : Type 0} where
 
   tail_within : (x : X) (xs zs : List X) → IsWithin (x ∷ xs) zs → IsWithin xs zs
   tail_within x xs zs within y h = within y (Contains-tail x xs y h)
+
+  pub append_within : (xs zs ys ws : List X) → IsWithin xs zs → IsWithin ys ws → IsWithin (xs ++ ys) (zs ++ ws)
+  append_within xs zs ys ws first second x h =
+      ⊎_elim
+      (λ (early : Contains xs x). Contains-append_left zs ws x (first x early))
+      (λ (late : Contains ys x). Contains-append_right zs ws x (second x late))
+      (Contains-append_cases xs ys x h)
 
   pub map_within : {Y : Type 0} (f : X → Y) (xs zs : List X) → IsWithin xs zs → (y : Y) → Contains (map f xs) y →
       Contains (map f zs) y

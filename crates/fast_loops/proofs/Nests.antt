@@ -24,7 +24,7 @@ use Rattle.fast_loops.proofs.Changes.{for-nil, for-append, for-exchange, for-tra
 use Rattle.fast_loops.proofs.Looped.{looped_is}
 use Rattle.fast_loops.proofs.Ranges.{long_range, in_both, in_more, turned, turned_back, turned_in_range, split_range}
 use Rattle.fast_loops.proofs.Ranges.{others_behind}
-use Rattle.fast_loops.proofs.Rows.{StepsFit, all_fit, For, joined, acts_of, rows, loops_for, alone_for, rows_itself}
+use Rattle.fast_loops.proofs.Rows.{StepsFit, all_fit, For, acts_of, rows, loops_for, alone_for, rows_itself}
 use Rattle.fast_loops.proofs.Rows.{in_rows, rows_sure, rows_commute}
 
 -- the rounds of loops of these counts are apart from one another
@@ -130,7 +130,7 @@ module _ (p : PlainProgram) (q : ℕ) where
         append-nil _ ∙ ap (λ (f : ℕ → List Step). flat_map f (range_with_len 0 outer)) (fun_ext (λ i. append-nil _)) in
         subst (λ xs. For p q xs (rows p q (outer ∷ inner ∷ counts) round vs)) (sym new)
         (subst (For p q (flat_map (λ j. flat_map (λ i. cell i j) (range_with_len 0 outer)) (range_with_len 0 inner))) (sym old)
-        (for-exchange p.modulus p.lanes (joined p q) outer inner cell
+        (for-exchange p.modulus p.lanes outer inner cell
         (exchanged_loops p.modulus p.lanes outer inner (λ i j. actions_of (cell i j))
         (λ i j small low. rows_sure p q counts round (values i j) free.fresh)
         (λ i j k l small low less lower other. rows_commute p q counts round (values i j) (values k l) free.fresh
@@ -144,26 +144,26 @@ module _ (p : PlainProgram) (q : ℕ) where
   itself outers outer counts round free =
       record { free = free; same = λ vs in_range. rows_itself p q (outer ∷ counts) round vs free.fresh }
 
-  -- the outermost of the loops becomes one of the outer loops, and the other way round
-  free_inside : (outers : List ℕ) (count : ℕ) (counts : List ℕ) (round : PlainBody) →
-      AreFree p q outers (count ∷ counts) round →
-      AreFree p q (outers ++ count ∷ []) counts round
-  free_inside outers count counts round free =
+  -- which of the loops are outer ones
+  free_moved : (outers counts others more : List ℕ) (round : PlainBody) → outers ++ counts ≡ others ++ more →
+      AreFree p q outers counts round → AreFree p q others more round
+  free_moved outers counts others more round same free =
       record {
         fresh = free.fresh;
         linear = free.linear;
-        apart = subst (λ ns. AllApart p q ns round) (sym (append_assoc outers (count ∷ []) counts)) free.apart;
+        apart = subst (λ ns. AllApart p q ns round) same free.apart;
       }
 
+  -- the outermost of the loops becomes one of the outer loops, and the other way round
+  free_inside : (outers : List ℕ) (count : ℕ) (counts : List ℕ) (round : PlainBody) →
+      AreFree p q outers (count ∷ counts) round → AreFree p q (outers ++ count ∷ []) counts round
+  free_inside outers count counts round =
+      free_moved outers (count ∷ counts) (outers ++ count ∷ []) counts round (sym (append_assoc outers (count ∷ []) counts))
+
   free_outside : (outers : List ℕ) (count : ℕ) (counts : List ℕ) (round : PlainBody) →
-      AreFree p q (outers ++ count ∷ []) counts round →
-      AreFree p q outers (count ∷ counts) round
-  free_outside outers count counts round free =
-      record {
-        fresh = free.fresh;
-        linear = free.linear;
-        apart = subst (λ ns. AllApart p q ns round) (append_assoc outers (count ∷ []) counts) free.apart;
-      }
+      AreFree p q (outers ++ count ∷ []) counts round → AreFree p q outers (count ∷ counts) round
+  free_outside outers count counts round =
+      free_moved (outers ++ count ∷ []) counts outers (count ∷ counts) round (append_assoc outers (count ∷ []) counts)
 
   within_for : (outers : List ℕ) (count : ℕ) (nest : Nest) (counts : List ℕ) (round : PlainBody) (vs : List ℕ) →
       AreInRange outers vs →
@@ -183,7 +183,7 @@ module _ (p : PlainProgram) (q : ℕ) where
       record {
         free = free_outside outers count (deeper.outer ∷ deeper.inner) deeper.round inside.free;
         same = λ vs in_range.
-            for-trans p.modulus p.lanes (joined p q) (rows p q (count ∷ deeper.outer ∷ deeper.inner) deeper.round vs)
+            for-trans p.modulus p.lanes (rows p q (count ∷ deeper.outer ∷ deeper.inner) deeper.round vs)
             (rows p q (count ∷ outer ∷ counts) (exchanged_round loop round) vs) (rows p q (outer ∷ count ∷ counts) round vs)
             (within_for outers count deeper (outer ∷ counts) (exchanged_round loop round) vs in_range inside)
             (turned_for loop outers outer count counts round vs deep in_range free);
@@ -218,7 +218,7 @@ module _ (p : PlainProgram) (q : ℕ) where
       record {
         free = whole.free;
         same = λ vs in_range.
-            for-trans p.modulus p.lanes (joined p q) (rows p q (nest.outer ∷ nest.inner) nest.round vs)
+            for-trans p.modulus p.lanes (rows p q (nest.outer ∷ nest.inner) nest.round vs)
             (rows p q (outer ∷ rest.outer ∷ rest.inner) rest.round vs) (rows p q (outer ∷ count ∷ counts) round vs)
             (whole.same vs in_range) (within_for outers outer rest (count ∷ counts) round vs in_range inside);
       }
@@ -280,10 +280,10 @@ module _ (p : PlainProgram) (q : ℕ) where
 
   pub body_for : (body : PlainBody) → are_nests p.lanes body ≡ true → StepsFit p (steps_of_body p body [] q) →
       For p q (steps_of_body p (interchanged_body p.lanes body) [] q) (steps_of_body p body [] q)
-  body_for NoStmts h fit = for-nil p.modulus p.lanes (joined p q)
+  body_for NoStmts h fit = for-nil p.modulus p.lanes
   body_for (AndStmts stmt rest) h fit =
       let both = both_true _ _ h in
-      for-append p.modulus p.lanes (joined p q) (steps_of_stmt p (interchanged_nest p.lanes stmt) [] q) (steps_of_stmt p stmt [] q)
+      for-append p.modulus p.lanes (steps_of_stmt p (interchanged_nest p.lanes stmt) [] q) (steps_of_stmt p stmt [] q)
       (steps_of_body p (interchanged_body p.lanes rest) [] q) (steps_of_body p rest [] q)
       (stmt_for stmt both.0 (λ s has. fit s (Contains-append_left (steps_of_stmt p stmt [] q) (steps_of_body p rest [] q) s has)))
       (body_for rest both.1 (λ s has. fit s (Contains-append_right (steps_of_stmt p stmt [] q) (steps_of_body p rest [] q) s has)))

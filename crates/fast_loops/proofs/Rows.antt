@@ -6,18 +6,18 @@ use Rattle.std.specs.List.{range_with_len}
 use Rattle.std.proofs.lemmas.List.Elements.{Contains-append_left, Contains-get_or}
 use Rattle.icode.specs.declared.action.Action.{Action}
 use Rattle.icode.specs.Actions.{Step, StepFits, actions_of, lane_factors, step_of, steps_of_body}
-use Rattle.icode.specs.Plain.{PlainOp, PlainBody, PlainProgram, Load, Store, Zero, Add, Sub, Neg, MulConst, MulTable}
-use Rattle.icode.specs.Plain.{Tile, Loop, Do, NoStmts, AndStmts}
+use Rattle.icode.specs.Plain.{PlainOp, PlainBody, PlainProgram, MulConst, MulTable}
+use Rattle.icode.specs.Plain.{Loop, Do, NoStmts, AndStmts}
 use Rattle.operators.specs.Sum.{list_below}
 use Rattle.operators.proofs.Lists.{length-list_below}
 use Rattle.icode.specs.CodeLaws.Nests.{AreInRange}
 use Rattle.icode.proofs.Bools.{both_true}
 use Rattle.fast_loops.specs.Rounds.{are_fresh, put_after}
 use Rattle.fast_loops.specs.Interchange.{looped}
-use Rattle.fast_loops.proofs.Acts.{IsWide, AreWide, IsRound, DoTheSame, AreApart}
+use Rattle.fast_loops.proofs.Acts.{IsWide, AreWide, IsRound, AreApart}
 use Rattle.fast_loops.proofs.Independent.{independent}
 use Rattle.fast_loops.proofs.Swaps.{swapped}
-use Rattle.fast_loops.proofs.Same.{same-append, same-sym}
+use Rattle.fast_loops.proofs.Same.{same-sym}
 use Rattle.fast_loops.proofs.Folds.{IsSure, Commute, commute-loop}
 use Rattle.fast_loops.proofs.Fresh.{fresh_acts}
 use Rattle.fast_loops.proofs.Changes.{AreFor, actions_of-loop, for-loop, in-loop}
@@ -31,7 +31,7 @@ all_fit p xs h k d lt = h _ (Contains-get_or xs k d lt)
 
 -- ---- a factor for each lane
 
-factors_each : (lanes : ℕ) (factor : ℕ → ℕ) → lanes ≤ length (lane_factors lanes factor)
+pub factors_each : (lanes : ℕ) (factor : ℕ → ℕ) → lanes ≤ length (lane_factors lanes factor)
 factors_each lanes factor =
     let whole = length-append (list_below lanes factor) (replicate (16 - lanes) 0) in
     let own = length-list_below lanes factor in
@@ -45,23 +45,13 @@ wide_acts p next (AndStmts (Loop count body) rest) vs q h = cc
 wide_acts p next (AndStmts (Do op) rest) vs q h = (wide_op op, wide_acts p (put_after p.lanes next op) rest vs q (both_true _ _ h).1)
   where
     wide_op : (op : PlainOp) → IsWide p.lanes (step_of p op vs q).action
-    wide_op (Load r array place) = tt
-    wide_op (Store array place r) = tt
-    wide_op (Zero r) = tt
-    wide_op (Add r x y) = tt
-    wide_op (Sub r x y) = tt
-    wide_op (Neg r x) = tt
     wide_op (MulConst r x factor) = factors_each p.lanes (λ lane. factor)
     wide_op (MulTable r x table place entries) = factors_each p.lanes _
-    wide_op (Tile r x) = tt
+    wide_op _ = tt
 
 module _ (p : PlainProgram) (q : ℕ) where
   abbrev pub For : List Step → List Step → Type 0
   For = AreFor p.modulus p.lanes
-
-  pub joined : (a b c d : List Action) → DoTheSame p.modulus p.lanes a b → DoTheSame p.modulus p.lanes c d →
-      DoTheSame p.modulus p.lanes (a ++ c) (b ++ d)
-  joined = same-append p.modulus p.lanes
 
   -- the actions of a round
   abbrev pub acts_of : PlainBody → List ℕ → List Action
@@ -79,7 +69,7 @@ module _ (p : PlainProgram) (q : ℕ) where
 
   pub loops_for : (f g : ℕ → List Step) (n : ℕ) → ((i : ℕ) → i < n → For (f i) (g i)) →
       For (flat_map f (range_with_len 0 n)) (flat_map g (range_with_len 0 n))
-  loops_for f g n h = for-loop p.modulus p.lanes joined f g 0 n (λ i low high. h i (omega arith))
+  loops_for f g n h = for-loop p.modulus p.lanes f g 0 n (λ i low high. h i (omega arith))
 
   pub alone_for : (a b : List Step) → For a b → For (a ++ []) (b ++ [])
   alone_for a b h = subst (λ xs. For xs (b ++ [])) (sym (append-nil a)) (subst (For a) (sym (append-nil b)) h)

@@ -1,5 +1,6 @@
 -- Lists of actions that leave the same memory: put behind one another, and in loops.
-use Rattle.std.proofs.Common.{◌≡◌, ℕ, zero, suc, ◌+◌, ◌<◌, List, [], ◌∷◌, ◌++◌, length, flat_map, refl, sym, ap, ◌∙◌}
+use Rattle.std.proofs.Common.{◌≡◌, ℕ, zero, suc, ◌+◌, ◌<◌, ◌≤◌, List, [], ◌∷◌, ◌++◌, length, flat_map, refl, sym, ap}
+use Rattle.std.proofs.Common.{◌∙◌}
 use Rattle.std.proofs.Common.{subst, arith, append-nil}
 use Rattle.std.specs.List.{range_with_len}
 use Rattle.std.proofs.lemmas.List.Concat.{flat_map-append}
@@ -9,6 +10,17 @@ use Rattle.icode.proofs.CodeLaws.ByLane.{lists_follow}
 use Rattle.icode.proofs.CodeLaws.Statements.{range-last}
 use Rattle.icode.proofs.CodeLaws.Stores.{length-registers}
 use Rattle.fast_loops.proofs.Acts.{memory_by, DoTheSame}
+
+-- what holds of none, and of lists behind one another where it holds of each, holds of loops
+pub in-loops : {X : Type 0} (Holds : List X → List X → Type 0) → Holds [] [] →
+    ((a b c d : List X) → Holds a b → Holds c d → Holds (a ++ c) (b ++ d)) → (f g : ℕ → List X) (a n : ℕ) →
+    ((i : ℕ) → a ≤ i → i < a + n → Holds (f i) (g i)) →
+    Holds (flat_map f (range_with_len a n)) (flat_map g (range_with_len a n))
+in-loops Holds none append f g a zero h = none
+in-loops Holds none append f g a (suc n) h =
+    append (f a) (g a) (flat_map f (range_with_len (a + 1) n)) (flat_map g (range_with_len (a + 1) n))
+    (h a (omega arith) (omega arith))
+    (in-loops Holds none append f g (a + 1) n (λ i low high. h i (omega (arith, low)) (omega (arith, high))))
 
 -- the last round of a loop
 pub flat_map-last : (f : ℕ → List Action) (n : ℕ) → flat_map f (range_with_len 0 (suc n))
@@ -57,8 +69,5 @@ module _ (m lanes : ℕ) where
   -- loops whose rounds do the same
   pub same-loops : (n : ℕ) (f g : ℕ → List Action) → ((i : ℕ) → i < n → DoTheSame m lanes (f i) (g i)) →
       DoTheSame m lanes (flat_map f (range_with_len 0 n)) (flat_map g (range_with_len 0 n))
-  same-loops zero f g h = same-nothing
-  same-loops (suc n) f g h =
-      let rest = same-loops n f g (λ i below. h i (omega arith)) in
-      let both = same-append (flat_map f (range_with_len 0 n)) (flat_map g (range_with_len 0 n)) (f n) (g n) rest (h n (omega arith)) in
-      same-between _ _ _ _ (flat_map-last f n) both (sym (flat_map-last g n))
+  same-loops n f g h =
+      in-loops (DoTheSame m lanes) same-nothing same-append f g 0 n (λ i low high. h i (omega (arith, high)))

@@ -5,7 +5,7 @@ use Rattle.std.specs.Prelude.{slice_index, nat_le}
 use Rattle.std.proofs.lemmas.Bool.{cases_order}
 use Rattle.icode.specs.CodeLaws.Nests.{AreInRange}
 use Rattle.icode.specs.Expression.{parts_numbers}
-use Rattle.icode.specs.Plain.{PlainParts, NoParts, AndParts, Proc, Var, Product, Rem, Quot}
+use Rattle.icode.specs.Plain.{PlainParts, NoParts, AndParts, Proc, Var}
 use Rattle.icode.proofs.Bools.{both_true}
 use Rattle.fast_loops.specs.Places.{are_linear, stride}
 use Rattle.fast_loops.specs.Rounds.{are_nested, last_stride}
@@ -72,9 +72,7 @@ value_by_strides least (AndParts (Var depth factor) rest) vs q h =
     let more = value_by_strides (depth + 1) rest vs q two.1 in
     let one = added-var 0 depth depth factor vs rest (omega arith) (stride_before (depth + 1) depth rest two.1 (omega arith)) in
     omega (arith, more, one)
-value_by_strides least (AndParts (Product outer inner other) rest) vs q h = wrong h
-value_by_strides least (AndParts (Rem of divisor other) rest) vs q h = wrong h
-value_by_strides least (AndParts (Quot of divisor other) rest) vs q h = wrong h
+value_by_strides least (AndParts part rest) vs q h = wrong h
 
 -- ---- different rounds
 

@@ -11,5 +11,4 @@ pub mod Pushed
 pub mod Registers
 pub mod Replaced
 pub mod Walked
-pub mod Whole
 pub mod Within

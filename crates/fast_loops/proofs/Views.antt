@@ -1,53 +1,21 @@
 -- Code's parts and statements, as the definitions see them.
-use Rattle.std.proofs.Common.{◌≡◌, map, ℕ, zero, suc, ◌+◌, ◌<◌, List, [], ◌∷◌, Bool, true, false, Some, None, ap, sym}
-use Rattle.std.proofs.Common.{◌∙◌, drop, arith, refl, get_or, length, add-one, drop-cons}
-use Rattle.std.specs.Prelude.{◌&&◌, ◌==◌, if◌then◌else◌}
+use Rattle.std.proofs.Common.{◌≡◌, map, ℕ, zero, suc, ◌+◌, ◌<◌, List, [], ◌∷◌, Bool, true, ap, sym}
+use Rattle.std.proofs.Common.{◌∙◌, drop, arith, refl, get_or, length}
+use Rattle.std.specs.Prelude.{◌&&◌}
 use Rattle.std.specs.List.{list_all}
 use Rattle.icode.specs.declared.program.Op.{Op}
-use Rattle.icode.specs.declared.program.Part.{Part}
 use Rattle.icode.specs.declared.program.Stmt.{Stmt}
 use Rattle.icode.specs.declared.program.Stmt.TheVariants.{Do}
-use Rattle.icode.specs.Plain.{PlainOp, PlainPart, PlainParts, PlainStmt, PlainBody, AndParts, NoStmts, AndStmts, Var}
-use Rattle.icode.specs.Plain.{Proc, Product, Rem, Quot, Load, Store, Zero, Add, Sub, Neg, MulConst, MulTable, Tile}
-use Rattle.icode.specs.Plain.{body_of, plain_part, plain_op, plain_stmt, plain_body}
+use Rattle.icode.specs.Plain.{PlainStmt, PlainBody, AndStmts}
+use Rattle.icode.specs.Plain.{body_of, plain_op, plain_stmt, plain_body}
 use Rattle.icode.specs.Plain as plain
 use Rattle.icode.proofs.Bools.{both_true}
+use Rattle.icode.proofs.Steps.{drop_item}
 use Rattle.icode.proofs.Views.{plain_stmt-Do}
-use Rattle.fast_loops.specs.Places.{exchanged_first, exchanged_parts, exchanged_op, exchanged_round}
+use Rattle.fast_loops.specs.Places.{exchanged_op, exchanged_round}
 use Rattle.fast_loops.specs.Interchange.{interchanged_nest, interchanged_body}
 use Rattle.fast_loops.specs.Rounds.{is_fresh, put_after, are_fresh}
-use Rattle.fast_loops.specs.View.{factor_at, plain_parts, exchanged_stmt, is_shallow, are_shallow}
-
--- a part that is a multiple of neither loop stays
-pub exchanged-other : (loop : ℕ) (part : PlainPart) (rest : PlainParts) → factor_at loop part ≡ None →
-    factor_at (loop + 1) part ≡ None → exchanged_parts loop (AndParts part rest)
-    ≡ AndParts part (exchanged_parts loop rest)
-exchanged-other loop (Proc factor) rest e f = refl
-exchanged-other loop (Var depth factor) rest e f = by_tests (depth == loop) (depth == loop + 1) e f
-  where
-    by_tests : (a b : Bool) → (if a then Some factor else None) ≡ None → (if b then Some factor else None) ≡ None →
-        (if a then exchanged_first loop factor rest else if b then AndParts (Var loop factor) rest else AndParts
-        (Var depth factor) (exchanged_parts loop rest))
-        ≡ AndParts (Var depth factor) (exchanged_parts loop rest)
-    by_tests false false e f = refl
-    by_tests true b e f = cc
-    by_tests false true e f = cc
-exchanged-other loop (Product outer inner factor) rest e f = refl
-exchanged-other loop (Rem of divisor factor) rest e f = refl
-exchanged-other loop (Quot of divisor factor) rest e f = refl
-
--- the first part stays, and what is behind it is changed
-pub others-changed : (loop : ℕ) (part : Part) (rest made items all : List Part) → items ≡ part ∷ rest →
-    all ≡ part ∷ made → factor_at loop (plain_part part) ≡ None → factor_at (loop + 1) (plain_part part) ≡ None →
-    plain_parts made ≡ exchanged_parts loop (plain_parts rest) →
-    plain_parts all ≡ exchanged_parts loop (plain_parts items)
-others-changed loop part rest made items all e f a b h =
-    ap plain_parts f ∙ (ap (AndParts (plain_part part)) h ∙ (sym (exchanged-other loop (plain_part part) (plain_parts rest) a b) ∙ ap (λ xs. exchanged_parts loop (plain_parts xs)) (sym e)))
-
--- what stands from an item on
-pub drop_item : (items : List Stmt) (i : ℕ) (x : Stmt) → i < length items → x ≡ get_or items i x →
-    drop i items ≡ x ∷ drop (i + 1) items
-drop_item items i x lt e = rw (add-one, drop-cons items i x) (ap (λ y. y ∷ drop (suc i) items) (sym e))
+use Rattle.fast_loops.specs.View.{exchanged_stmt, is_shallow, are_shallow}
 
 -- an operation in front
 pub fresh-Do : (lanes next i : ℕ) (items : List Stmt) (stmt : Stmt) (op : Op) → i < length items →

@@ -2,7 +2,6 @@
 use Rattle.std.proofs.Common.{◌≡◌, ℕ, ◌*◌, All, length, ◌<◌, ◌≤◌, Bool, true, false, map, inl, inr, refl, sym, ap}
 use Rattle.std.proofs.Common.{subst, ◌∙◌}
 use Rattle.std.specs.Prelude.{if◌then◌else◌}
-use Rattle.std.specs.List.{list_all}
 use Rattle.icode.specs.Actions.{PlainFits, plain_code}
 use Rattle.icode.specs.declared.program.Program.{Program}
 use Rattle.icode.specs.Machine.{IsApart, results}
@@ -11,9 +10,8 @@ use Rattle.icode.specs.Program.{plain_program, code_of, Fits}
 use Rattle.word_code.specs.InPlace.InPlace.{in_place}
 use Rattle.word_code.specs.InPlace.Laws.{LeavesAlike}
 use Rattle.word_code.proofs.InPlace.Fitting.{in_place_fits, in_place_apart}
-use Rattle.fast_loops.specs.Interchange.{are_nests, interchanged_body, interchanged}
-use Rattle.fast_loops.proofs.Law.{interchanged_leaves_the_same}
-use Rattle.fast_loops.proofs.Programs.{modulus_stays}
+use Rattle.fast_loops.specs.Interchange.{interchanged}
+use Rattle.fast_loops.proofs.Programs.{interchanged_program}
 use Rattle.fast_loops.specs.JoinedLoops.JoinedLoops.{joined}
 use Rattle.fast_loops.proofs.JoinedLoops.Law.{joined_does_the_same}
 use Rattle.fast_loops.specs.LoopLanes.Lanes.{IsLanes, can_be_laned, laned, laned_body}
@@ -23,7 +21,7 @@ use Rattle.fast_loops.proofs.FusedLoops.Law.{fused_leaves_the_same}
 use Rattle.fast_loops.specs.TwoTables.Laws.{IsInPlaceOf}
 use Rattle.fast_loops.specs.TwoTables.TwoTables.{factored, large_table}
 use Rattle.fast_loops.proofs.TwoTables.Law.{factored_leaves_the_same}
-use Rattle.fast_loops.proofs.TwoTables.Programs.{after, itself}
+use Rattle.fast_loops.proofs.InPlace.{after, itself}
 use Rattle.word_code.specs.declared.program.WordProgram.{WordProgram}
 use Rattle.word_code.specs.declared.choose.WordSize.{WordSize}
 use Rattle.word_code.specs.Choice.{allows, fast_words, laziness_for}
@@ -38,19 +36,6 @@ use Rattle.fast_main.specs.Translation.{has_cheap_products, on_several, on_lanes
 use Rattle.fast_main.specs.Translation.{IsFaithful, AreSoundWords}
 
 -- ---- the prepared program
-
-size_stays : (p : PlainProgram) → (interchanged p).size ≡ p.size
-size_stays p = of_choice (list_all (are_nests p.lanes) p.phases)
-  where
-    of_choice : (b : Bool) → (if b then record p { phases = map (interchanged_body p.lanes) p.phases } else p).size ≡ p.size
-    of_choice true = refl
-    of_choice false = refl
-
-interchanged_is : (p : PlainProgram) → PlainFits p → ((phase : ℕ) → IsApart (plain_code p) phase) →
-    IsInPlaceOf (interchanged p) p
-interchanged_is p fits apart =
-    let law = interchanged_leaves_the_same p fits apart in
-    record { size = size_stays p; modulus = modulus_stays p; fits = law.fits; apart = law.apart; same = law.same }
 
 laned_size : (v : ℕ) (p : PlainProgram) → (laned v p).size ≡ p.size
 laned_size v p = of_choice (can_be_laned v p)
@@ -108,13 +93,13 @@ several_is v p lanes fits apart = of_choice (can_be_laned v p) (can_be_laned v (
 lanes_is : (v : ℕ) (p : PlainProgram) → IsLanes v → PlainFits p → ((phase : ℕ) → IsApart (plain_code p) phase) →
     IsInPlaceOf (on_several v (interchanged p)) p
 lanes_is v p lanes fits apart =
-    let first = interchanged_is p fits apart in
+    let first = interchanged_program p fits apart in
     after (on_several v (interchanged p)) (interchanged p) p
     (several_is v (interchanged p) lanes first.fits first.apart) first
 
 on_lanes_is : (lanes : ℕ) (p : PlainProgram) → IsLaneCount lanes → PlainFits p →
     ((phase : ℕ) → IsApart (plain_code p) phase) → IsInPlaceOf (on_lanes lanes p) p
-on_lanes_is lanes p (inl one) fits apart = subst (λ n. IsInPlaceOf (on_lanes n p) p) (sym one) (interchanged_is p fits apart)
+on_lanes_is lanes p (inl one) fits apart = subst (λ n. IsInPlaceOf (on_lanes n p) p) (sym one) (interchanged_program p fits apart)
 on_lanes_is lanes p (inr (inl two)) fits apart =
     subst (λ n. IsInPlaceOf (on_lanes n p) p) (sym two) (lanes_is 2 p (inl refl) fits apart)
 on_lanes_is lanes p (inr (inr (inl four))) fits apart =

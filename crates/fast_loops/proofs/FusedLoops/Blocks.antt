@@ -1,5 +1,5 @@
 -- The blocks of a nest: where the words of its rounds lie.
-use Rattle.std.proofs.Common.{◌≡◌, ℕ, zero, suc, ◌+◌, ◌-◌, ◌*◌, ◌%◌, ◌<◌, ◌≤◌, true, List, [], ◌∷◌, ◌++◌, All, Contains}
+use Rattle.std.proofs.Common.{◌≡◌, ℕ, ◌+◌, ◌-◌, ◌*◌, ◌%◌, ◌<◌, ◌≤◌, true, List, [], ◌∷◌, ◌++◌, All, Contains}
 use Rattle.std.proofs.Common.{flat_map, length, inl, inr, refl, sym, ap, ◌∙◌, subst, arith, ⊎_elim, append-nil}
 use Rattle.std.proofs.Common.{append_assoc, length-append}
 use Rattle.std.specs.List.{range_with_len}
@@ -12,8 +12,8 @@ use Rattle.icode.specs.declared.program.Array.TheVariants.{X, Y, A, B}
 use Rattle.icode.specs.Actions.{Step, StepFits, actions_of, array_start, step_of, steps_of_body}
 use Rattle.icode.specs.Expression.{parts_numbers}
 use Rattle.icode.specs.Machine.{stored_words, whole_lines}
-use Rattle.icode.specs.Plain.{PlainParts, PlainOp, PlainBody, PlainProgram, Sum, Load, Store, Zero, Add, Sub, Neg}
-use Rattle.icode.specs.Plain.{MulConst, MulTable, Tile, Loop, Do, NoStmts, AndStmts}
+use Rattle.icode.specs.Plain.{PlainParts, PlainOp, PlainBody, PlainProgram, Sum, Load, Store}
+use Rattle.icode.specs.Plain.{Loop, Do, NoStmts, AndStmts}
 use Rattle.icode.proofs.Bools.{both_true}
 use Rattle.icode.proofs.Lines.{Contains-nil}
 use Rattle.fast_loops.specs.declared.fused_loops.blocks.Block.{Block}
@@ -25,11 +25,11 @@ use Rattle.fast_loops.proofs.Apart.{in-range}
 use Rattle.fast_loops.proofs.Changes.{in-loop}
 use Rattle.fast_loops.proofs.Linear.{wrong}
 use Rattle.fast_loops.proofs.Looped.{looped_is}
-use Rattle.fast_loops.proofs.Ranges.{in_both, in_more, long_range}
+use Rattle.fast_loops.proofs.Ranges.{in_both, in_more}
 use Rattle.fast_loops.proofs.Rows.{StepsFit, all_fit, acts_of, in_rows}
 use Rattle.fast_loops.proofs.FusedLoops.Follows.{AreFollowed, PlaceFollows, OpFollows, RoundFollows, IsPlaced, begin}
 use Rattle.fast_loops.proofs.FusedLoops.Follows.{begin-more, front-append, placed, round-front}
-use Rattle.fast_loops.proofs.FusedLoops.Within.{Touches, Lies, IsInside}
+use Rattle.fast_loops.proofs.FusedLoops.Within.{Lies, IsInside}
 
 -- ---- words of an array
 

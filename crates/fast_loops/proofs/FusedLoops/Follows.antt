@@ -1,16 +1,15 @@
 -- Places that go steps of loops: how far they are from the first word of the round's block.
-use Rattle.std.proofs.Common.{◌≡◌, ◌≢◌, ℕ, zero, suc, ◌+◌, ◌-◌, ◌*◌, ◌<◌, ◌≤◌, Bool, true, false, ◌&&◌, List, [], ◌∷◌}
-use Rattle.std.proofs.Common.{◌++◌, length, refl, sym, ap, ap₂, ◌∙◌, subst, arith, eqb-true, leb-true, ⊎_elim}
+use Rattle.std.proofs.Common.{◌≡◌, ℕ, zero, suc, ◌+◌, ◌-◌, ◌*◌, ◌<◌, ◌≤◌, Bool, true, false, ◌&&◌, List, [], ◌∷◌}
+use Rattle.std.proofs.Common.{◌++◌, length, refl, ap, ap₂, ◌∙◌, arith, eqb-true, leb-true}
 use Rattle.std.specs.Prelude.{slice_index, nat_le, ◌==◌, if◌then◌else◌}
 use Rattle.std.proofs.Math.Nat.{mul-le-mul_right}
-use Rattle.std.proofs.lemmas.Bool.{cases_Bool}
 use Rattle.icode.specs.CodeLaws.Nests.{AreInRange}
 use Rattle.icode.specs.Expression.{parts_numbers, one_numbers}
-use Rattle.icode.specs.Plain.{PlainExpr, PlainParts, PlainPart, PlainOp, PlainBody, Sum, NoParts, AndParts, Proc, Var}
-use Rattle.icode.specs.Plain.{Product, Rem, Quot, Load, Store, Zero, Add, Sub, Neg, MulConst, MulTable, Tile, Loop, Do}
+use Rattle.icode.specs.Plain.{PlainExpr, PlainParts, PlainPart, PlainOp, PlainBody, Sum, NoParts, AndParts, Var}
+use Rattle.icode.specs.Plain.{Load, Store, Zero, Add, Sub, Neg, MulConst, MulTable, Tile, Loop, Do}
 use Rattle.icode.specs.Plain.{NoStmts, AndStmts}
 use Rattle.icode.proofs.Bools.{both_true}
-use Rattle.fast_loops.specs.FusedLoops.Blocks.{are_values, most_of, most, is_step, followed, followed_by, followed_op}
+use Rattle.fast_loops.specs.FusedLoops.Blocks.{are_values, most, is_step, followed, followed_by, followed_op}
 use Rattle.fast_loops.specs.FusedLoops.Blocks.{followed_in}
 use Rattle.fast_loops.proofs.Linear.{wrong}
 
@@ -109,13 +108,7 @@ op-front : (lanes : ℕ) (counts xs ys : List ℕ) (op : PlainOp) → IsFront xs
     OpFollows lanes counts xs op
 op-front lanes counts xs ys (Load r array place) h k = place-front lanes counts xs ys place h k
 op-front lanes counts xs ys (Store array place r) h k = place-front lanes counts xs ys place h k
-op-front lanes counts xs ys (Zero r) h k = tt
-op-front lanes counts xs ys (Add r x y) h k = tt
-op-front lanes counts xs ys (Sub r x y) h k = tt
-op-front lanes counts xs ys (Neg r x) h k = tt
-op-front lanes counts xs ys (MulConst r x factor) h k = tt
-op-front lanes counts xs ys (MulTable r x table place entries) h k = tt
-op-front lanes counts xs ys (Tile r x) h k = tt
+op-front lanes counts xs ys _ h k = tt
 
 record KeepsFor (Follows : List ℕ → Type 0) (steps kept : List ℕ) : Type 0 where
   front : IsFront kept steps
@@ -145,13 +138,7 @@ op-keeps lanes counts (Load r array place) steps =
     let k = place-keeps lanes counts place steps in record { front = k.front; all = k.all }
 op-keeps lanes counts (Store array place r) steps =
     let k = place-keeps lanes counts place steps in record { front = k.front; all = k.all }
-op-keeps lanes counts (Zero r) steps = record { front = front-itself steps; all = tt }
-op-keeps lanes counts (Add r x y) steps = record { front = front-itself steps; all = tt }
-op-keeps lanes counts (Sub r x y) steps = record { front = front-itself steps; all = tt }
-op-keeps lanes counts (Neg r x) steps = record { front = front-itself steps; all = tt }
-op-keeps lanes counts (MulConst r x factor) steps = record { front = front-itself steps; all = tt }
-op-keeps lanes counts (MulTable r x table place entries) steps = record { front = front-itself steps; all = tt }
-op-keeps lanes counts (Tile r x) steps = record { front = front-itself steps; all = tt }
+op-keeps lanes counts _ steps = record { front = front-itself steps; all = tt }
 
 round-keeps : (lanes : ℕ) (counts : List ℕ) (round : PlainBody) (steps : List ℕ) →
     KeepsFor (λ kept. RoundFollows lanes counts kept round) steps (followed_in lanes counts round steps)
@@ -196,14 +183,11 @@ value-below (count ∷ counts) (w ∷ ws) (suc d) h = value-below counts ws d h.
 value-most : (counts ws : List ℕ) (q : ℕ) (parts : PlainParts) → AreInRange counts ws → are_values parts ≡ true →
     (parts_numbers parts ws q).value ≤ most counts parts
 value-most counts ws q NoParts h values = omega arith
-value-most counts ws q (AndParts (Proc factor) rest) h values = wrong values
 value-most counts ws q (AndParts (Var depth factor) rest) h values =
     let more = value-most counts ws q rest h values in
     let low : slice_index ws depth * factor ≤ (slice_index counts depth - 1) * factor = mul-le-mul_right factor (value-below counts ws depth h) in
     omega (arith, more, low)
-value-most counts ws q (AndParts (Product outer inner factor) rest) h values = wrong values
-value-most counts ws q (AndParts (Rem of divisor factor) rest) h values = wrong values
-value-most counts ws q (AndParts (Quot of divisor factor) rest) h values = wrong values
+value-most counts ws q (AndParts part rest) h values = wrong values
 
 -- where the block of a round begins, by the values of the loops
 abbrev pub begin : List ℕ → List ℕ → ℕ
@@ -225,20 +209,14 @@ AreFrom loop ws all = (d : ℕ) → slice_index all (loop + d) ≡ slice_index w
 
 step-told : (loop step : ℕ) (part : PlainPart) (ws : List ℕ) (q : ℕ) → is_step loop step part ≡ true →
     (one_numbers part ws q).value ≡ slice_index ws loop * step
-step-told loop step (Proc factor) ws q h = wrong h
 step-told loop step (Var depth factor) ws q h =
     let two = both_true (depth == loop) (factor == step) h in
     ap₂ (λ d f. slice_index ws d * f) (eqb-true depth loop two.0) (eqb-true factor step two.1)
-step-told loop step (Product outer inner factor) ws q h = wrong h
-step-told loop step (Rem of divisor factor) ws q h = wrong h
-step-told loop step (Quot of divisor factor) ws q h = wrong h
+step-told loop step part ws q h = wrong h
 
 rest-values : (part : PlainPart) (rest : PlainParts) → are_values (AndParts part rest) ≡ true → are_values rest ≡ true
-rest-values (Proc factor) rest h = wrong h
 rest-values (Var depth factor) rest h = h
-rest-values (Product outer inner factor) rest h = wrong h
-rest-values (Rem of divisor factor) rest h = wrong h
-rest-values (Quot of divisor factor) rest h = wrong h
+rest-values part rest h = wrong h
 
 -- the value of a place is in the block of its round
 pub record IsPlaced (words start step value : ℕ) : Type 0 where

@@ -1,18 +1,17 @@
 -- A nest that goes into the loops of others, whose blocks it shares: it does what it did behind them.
-use Rattle.std.proofs.Common.{◌≡◌, ℕ, zero, suc, ◌+◌, ◌*◌, ◌<◌, ◌≤◌, Bool, true, false, ◌&&◌, List, [], ◌∷◌, ◌++◌}
+use Rattle.std.proofs.Common.{◌≡◌, ℕ, zero, suc, ◌+◌, ◌*◌, ◌<◌, Bool, true, false, ◌&&◌, List, [], ◌∷◌, ◌++◌}
 use Rattle.std.proofs.Common.{Contains, flat_map, length, refl, sym, ap, ap₂, ◌∙◌, subst, arith, eqb-true, ⊎_elim}
 use Rattle.std.proofs.Common.{append-nil, append_assoc, length-append}
 use Rattle.std.specs.Prelude.{◌==◌, if◌then◌else◌}
 use Rattle.std.specs.List.{range_with_len}
 use Rattle.std.proofs.Math.Path.{fun_ext}
-use Rattle.std.proofs.lemmas.Bool.{cases_Bool}
 use Rattle.std.proofs.lemmas.List.Elements.{Contains-append_left, Contains-append_right, Contains-append_cases}
 use Rattle.icode.specs.CodeLaws.Nests.{AreInRange}
 use Rattle.icode.specs.declared.action.Action.{Action}
-use Rattle.icode.specs.Actions.{Step, actions_of, steps_of_stmt, steps_of_body}
+use Rattle.icode.specs.Actions.{Step, actions_of, steps_of_body}
 use Rattle.icode.specs.Lengths.{len_of_body}
 use Rattle.icode.specs.Machine.{Local, effects}
-use Rattle.icode.specs.Plain.{PlainStmt, PlainBody, PlainProgram, Loop, Do, NoStmts, AndStmts}
+use Rattle.icode.specs.Plain.{PlainBody, PlainProgram, Loop, Do, NoStmts, AndStmts}
 use Rattle.icode.proofs.Bools.{both_true}
 use Rattle.icode.proofs.CodeLaws.ByLane.{lists_follow}
 use Rattle.icode.proofs.CodeLaws.Stores.{length-registers}
@@ -21,13 +20,13 @@ use Rattle.fast_loops.specs.declared.fused_loops.blocks.Block.{Block}
 use Rattle.fast_loops.specs.Interchange.{counts_in, round_in}
 use Rattle.fast_loops.specs.Rounds.{are_fresh}
 use Rattle.fast_loops.specs.FusedLoops.Blocks.{shared}
-use Rattle.fast_loops.specs.FusedLoops.FusedLoops.{put_behind, in_last, joined, all_joined}
+use Rattle.fast_loops.specs.FusedLoops.FusedLoops.{put_behind, in_last, all_joined}
 use Rattle.fast_loops.proofs.Acts.{DoTheSame, memory_by}
 use Rattle.fast_loops.proofs.Changes.{actions_of-append, actions_of-loop, in-loop, of-loop, for-trans}
 use Rattle.fast_loops.proofs.Folds.{IsSure, Commute, parted}
 use Rattle.fast_loops.proofs.Looped.{looped_is}
+use Rattle.fast_loops.proofs.Members.{append_within}
 use Rattle.fast_loops.proofs.Rows.{For, acts_of, rows, round_acts, loops_for, past_rows, rows_sure}
-use Rattle.fast_loops.proofs.Rows.{joined as append_joined}
 use Rattle.fast_loops.proofs.Same.{same-append}
 use Rattle.fast_loops.proofs.FusedLoops.Blocks.{AreRoundsInside, HasBlocks}
 use Rattle.fast_loops.proofs.FusedLoops.Steps.{EndsIn, ends-put, ends-changed, put-all, parted_last}
@@ -76,11 +75,7 @@ module _ (p : PlainProgram) (q : ℕ) where
             ∙ h.same after.registers after.registers after.memory refl
             ∙ sym (ap (λ (z : Local). z.memory) (lists_follow p.modulus p.lanes (actions_of front) (actions_of ys) start))
             ∙ sym (ap (λ fs. memory_by p.modulus p.lanes fs r memory) (actions_of-append front ys));
-        members = λ s has.
-            ⊎_elim
-            (λ (early : Contains front s). Contains-append_left front ys s early)
-            (λ (late : Contains xs s). Contains-append_right front ys s (h.members s late))
-            (Contains-append_cases front xs s has);
+        members = append_within front front xs ys (λ s has. has) h.members;
       }
 
   -- before steps that leave the same whatever stands in the registers
@@ -100,11 +95,7 @@ module _ (p : PlainProgram) (q : ℕ) where
             ∙ ap (memory_by p.modulus p.lanes (actions_of zs) other.registers) (h.same r memory)
             ∙ sym (ap (λ (z : Local). z.memory) (lists_follow p.modulus p.lanes (actions_of ys) (actions_of zs) start))
             ∙ sym (ap (λ fs. memory_by p.modulus p.lanes fs r memory) (actions_of-append ys zs));
-        members = λ s has.
-            ⊎_elim
-            (λ (early : Contains xs s). Contains-append_left ys zs s (h.members s early))
-            (λ (late : Contains zs s). Contains-append_right ys zs s late)
-            (Contains-append_cases xs zs s has);
+        members = append_within xs ys zs zs h.members (λ s has. has);
       }
 
   -- whatever stands in the registers
@@ -217,16 +208,12 @@ module _ (p : PlainProgram) (q : ℕ) where
       are_fresh p.lanes 0 (round_in inside) ≡ true →
       HasBlocks p q (block ∷ blocks) (AndStmts (Loop count inside) NoStmts) vs base →
       Ends (block ∷ blocks) (put_behind (Loop count inside) made) vs base
-  put-ends count inside made block blocks vs base fresh h = (
-    inside,
-    subst (λ n. EndsIn n inside (put_behind (Loop count inside) made)) h.0 (ends-put count inside made),
-    λ i lt.
-        let same = h.0 in
-        let at = h.1 i (omega (arith, lt, same)) in (
-          body-within (base + i * block.step) block.step inside (vs ++ i ∷ []) fresh at.0,
-          nest-ends inside blocks (vs ++ i ∷ []) (base + i * block.step) fresh at.1,
-        ),
-  )
+  put-ends count inside made block blocks vs base fresh h =
+      let end = nest-ends (AndStmts (Loop count inside) NoStmts) (block ∷ blocks) vs base fresh h in (
+        end.0,
+        subst (λ s. EndsIn block.count end.0 (put_behind s made)) (sym end.1) (ends-put block.count end.0 made),
+        end.2,
+      )
 
   -- ---- a nest goes behind others
 
@@ -283,7 +270,7 @@ module _ (p : PlainProgram) (q : ℕ) where
 
     loop-for : For p q (flat_map new rounds) (flat_map old rounds ++ flat_map added rounds)
     loop-for =
-        for-trans p.modulus p.lanes (append_joined p q) (flat_map new rounds) (flat_map (λ i. old i ++ added i) rounds) (flat_map old rounds ++ flat_map added rounds)
+        for-trans p.modulus p.lanes (flat_map new rounds) (flat_map (λ i. old i ++ added i) rounds) (flat_map old rounds ++ flat_map added rounds)
         (loops_for p q new (λ i. old i ++ added i) block.count each)
         (parted-for block.count old added (λ i lt. (end.2 i lt).0.sure) (λ i lt. body-sure inner (vs ++ i ∷ []) fresh)
         (λ j l less lt. past-later base block.step j l inner inside vs less fresh (has.1 j (omega (arith, less, lt))).0 (end.2 l lt).0))

@@ -1,20 +1,14 @@
 -- A program whose nests are fused leaves what it left.
-use Rattle.std.proofs.Common.{◌≡◌, ℕ, zero, suc, ◌^◌, ◌<◌, ◌≤◌, ◌&&◌, List, [], ◌∷◌, ◌++◌, Bool, true, false, Contains}
-use Rattle.std.proofs.Common.{length, refl, sym, ap, ◌∙◌, subst, arith, ⊎_elim, append-nil, append_assoc, eqb-true}
+use Rattle.std.proofs.Common.{◌≡◌, ℕ, suc, ◌<◌, ◌&&◌, List, [], ◌∷◌, ◌++◌, Bool, true, false, Contains, map}
+use Rattle.std.proofs.Common.{length, refl, sym, ap, ◌∙◌, subst, arith, append-nil, append_assoc, eqb-true}
 use Rattle.std.specs.Prelude.{◌==◌, nat_le, slice_index_or, if◌then◌else◌}
-use Rattle.std.proofs.lemmas.Bool.{cases_lt}
+use Rattle.std.proofs.lemmas.List.{length-map}
 use Rattle.std.proofs.lemmas.List.Elements.{All-contains, Contains-append_left, Contains-append_right}
-use Rattle.operators.specs.Sum.{sum_below}
-use Rattle.operators.proofs.Sums.{sum_below-same}
 use Rattle.icode.specs.Actions.{Step, StepFits, PlainFits, actions_of, plain_code, steps_of_stmt, steps_of_body}
 use Rattle.icode.specs.Actions.{steps_of_phase}
-use Rattle.icode.specs.Machine.{Code, IsApart, acts, in_order, lines_of, phases_alone, processors_alone, start}
-use Rattle.icode.specs.Machine.{stored_words, touched_words, whole_lines, words_at, Whole}
+use Rattle.icode.specs.Machine.{Code, IsApart, acts, in_order, phases_alone, processors_alone, start, Whole}
 use Rattle.icode.specs.Plain.{PlainStmt, PlainBody, PlainProgram, Loop, Do, NoStmts, AndStmts}
 use Rattle.icode.proofs.Bools.{both_true}
-use Rattle.icode.proofs.Lines.{Contains-nil}
-use Rattle.icode.proofs.Lists.{code_is}
-use Rattle.icode.proofs.Runs.{memory_of_runs}
 use Rattle.fast_loops.specs.declared.fused_loops.blocks.Block.{Block}
 use Rattle.fast_loops.specs.Interchange.{counts_in, round_in, is_nest, are_nests}
 use Rattle.fast_loops.specs.Rounds.{first_load}
@@ -24,12 +18,11 @@ use Rattle.fast_loops.specs.FusedLoops.FusedLoops.{may_be_fused, fused}
 use Rattle.fast_loops.specs.TwoTables.Laws.{IsInPlaceOf}
 use Rattle.fast_loops.proofs.Acts.{memory_by}
 use Rattle.fast_loops.proofs.Folds.{IsSure}
+use Rattle.fast_loops.proofs.InPlace.{of-members, no-more, in-place, itself, where-true}
 use Rattle.fast_loops.proofs.Linear.{wrong}
-use Rattle.fast_loops.proofs.Members.{IsWithin, all_of_members, map_within, flat_map_within}
-use Rattle.fast_loops.proofs.Programs.{with_phases, body_is, step_fits, listed, not_listed}
+use Rattle.fast_loops.proofs.Phases.{with_phases, phase-is, row, listed}
 use Rattle.fast_loops.proofs.Rows.{StepsFit}
 use Rattle.fast_loops.proofs.Same.{same-nothing}
-use Rattle.fast_loops.proofs.TwoTables.Programs.{itself}
 use Rattle.fast_loops.proofs.FusedLoops.Blocks.{has-blocks}
 use Rattle.fast_loops.proofs.FusedLoops.Follows.{round-follows}
 use Rattle.fast_loops.proofs.FusedLoops.Joins.{LeavesFor, Ends, body-sure, grows, leaves-behind, leaves-itself}
@@ -49,7 +42,8 @@ module _ (p : PlainProgram) (q : ℕ) where
       let two = both_true (is_nest p.lanes (Loop count inside)) (are_nests p.lanes rest) h in
       let first : List Step = steps_of_stmt p (Loop count inside) [] q in
       sure-append p q first (steps rest)
-      (subst (λ xs. IsSure p.modulus p.lanes (actions_of xs)) (append-nil first) (body-sure p q (AndStmts (Loop count inside) NoStmts) [] two.0))
+      (subst (λ xs. IsSure p.modulus p.lanes (actions_of xs)) (append-nil first)
+      (body-sure p q (AndStmts (Loop count inside) NoStmts) [] two.0))
       (nests-sure rest two.1)
 
   nests-onto : (body : PlainBody) (before : List Block) (made : PlainBody) → are_nests p.lanes body ≡ true →
@@ -69,19 +63,23 @@ module _ (p : PlainProgram) (q : ℕ) where
       let fit_alone : StepsFit p (steps alone) = λ s has.
       fit s (Contains-append_left first (steps rest) s (subst (λ xs. Contains xs s) (append-nil first) has)) in
       let grown = grows p q alone before blocks made [] 0 two.0 ends
-      (has-blocks p q counts kept alone [] [] [] kept refl refl tt refl two.0 (round-follows p.lanes counts round (first_steps (first_load round))) fit_alone) in
+      (has-blocks p q counts kept alone [] [] [] kept refl refl tt refl two.0
+      (round-follows p.lanes counts round (first_steps (first_load round))) fit_alone) in
       let more : PlainBody = joined (shared before blocks) stmt made in
-      leaves-trans p q (steps (fused_onto p.lanes 0 blocks more rest)) (steps more ++ steps rest) (steps made ++ (first ++ steps rest))
+      leaves-trans p q (steps (fused_onto p.lanes 0 blocks more rest)) (steps more ++ steps rest)
+      (steps made ++ (first ++ steps rest))
       (nests-onto rest blocks more two.1 grown.ends (λ s has. fit s (Contains-append_right first (steps rest) s has)))
       (subst (LeavesFor p q (steps more ++ steps rest))
-      (append_assoc (steps made) (first ++ []) (steps rest) ∙ ap (λ xs. steps made ++ (xs ++ steps rest)) (append-nil first))
+      (append_assoc (steps made) (first ++ []) (steps rest)
+      ∙ ap (λ xs. steps made ++ (xs ++ steps rest)) (append-nil first))
       (leaves-behind p q (steps more) (steps made ++ (first ++ [])) (steps rest) grown.leaves (nests-sure rest two.1)))
 
   waiting-onto : (body made : PlainBody) → StepsFit p (steps body) →
       LeavesFor p q (steps (fused_onto p.lanes (waiting p.lanes body) [] made body)) (steps made ++ steps body)
   waiting-onto NoStmts made fit = leaves-itself p q _ _ (sym (append-nil (steps made)))
   waiting-onto (AndStmts stmt rest) made fit =
-      of_test (waiting-onto rest (put_behind stmt made) (λ s has. fit s (Contains-append_right first (steps rest) s has)))
+      of_test
+      (waiting-onto rest (put_behind stmt made) (λ s has. fit s (Contains-append_right first (steps rest) s has)))
       (is_nest p.lanes stmt && are_nests p.lanes rest) refl
     where
       first : List Step
@@ -112,104 +110,51 @@ alone-in-order code x one phase =
     let begin : Whole = record { memory = (start code x).memory; registers = (start code x).registers } in
     ap (λ n. (phases_alone code n 0 begin).memory) phase ∙ ap (λ n. (processors_alone code 0 n 0 begin).memory) one
 
-module _ (p : PlainProgram) (body : PlainBody) (one : p.procs ≡ 1) where
-  abbrev here : PlainProgram
-  here = with_phases p (body ∷ [])
-
+module _ (p : PlainProgram) (fits : PlainFits p) (apart : (phase : ℕ) → IsApart (plain_code p) phase) where
   abbrev there : PlainProgram
-  there = with_phases p (fused_phase p.lanes body ∷ [])
+  there = with_phases p (map (fused_phase p.lanes) p.phases)
 
-  module _ (fits : PlainFits here) (apart : (phase : ℕ) → IsApart (plain_code here) phase) where
-    phase-for : (phase q : ℕ) → q < p.procs → LeavesFor p q (steps_of_phase there phase q) (steps_of_phase here phase q)
-    phase-for zero q lt =
-        let old : steps_of_body here body [] q ≡ steps_of_body p body [] q = body_is p (body ∷ []) body [] q in
-        let new : steps_of_body there (fused_phase p.lanes body) [] q ≡ steps_of_body p (fused_phase p.lanes body) [] q =
-        body_is p (fused_phase p.lanes body ∷ []) (fused_phase p.lanes body) [] q in
-        let fit : StepsFit p (steps_of_body p body [] q) = λ s has.
-        let f = All-contains (StepFits here) (steps_of_body here body [] q) s (fits.each 0 q lt) (subst (λ xs. Contains xs s) (sym old) has) in
-        record { numbers = f.numbers; place = f.place; registers = f.registers; factors = f.factors } in
-        subst (λ xs. LeavesFor p q xs (steps_of_body here body [] q)) (sym new)
-        (subst (LeavesFor p q (steps_of_body p (fused_phase p.lanes body) [] q)) (sym old) (fused-for p q body fit))
-    phase-for (suc phase) q lt = leaves-itself p q _ _ refl
+  phase-for : (phase q : ℕ) → q < p.procs → LeavesFor p q (steps_of_phase there phase q) (steps_of_phase p phase q)
+  phase-for phase q lt =
+      subst (λ xs. LeavesFor p q xs (steps_of_phase p phase q))
+      (sym (phase-is (fused_phase p.lanes) refl p.phases p phase q))
+      (fused-for p q (slice_index_or p.phases phase NoStmts)
+      (λ s has. All-contains (StepFits p) (steps_of_phase p phase q) s (fits.each phase q lt) has))
 
-    fits_there : PlainFits there
-    fits_there =
-        let same : sum_below 1 (λ phase. sum_below p.procs (λ q. length (steps_of_phase there phase q))) ≡ sum_below 1 (λ phase. sum_below p.procs (λ q. length (steps_of_phase here phase q))) =
-        sum_below-same 1 (λ phase. sum_below p.procs (λ q. length (steps_of_phase there phase q))) (λ phase. sum_below p.procs (λ q. length (steps_of_phase here phase q)))
-        (λ phase _. sum_below-same p.procs (λ q. length (steps_of_phase there phase q)) (λ q. length (steps_of_phase here phase q)) (λ q lt. (phase-for phase q lt).long)) in
-        record {
-          few = let bound = fits.few in subst (λ n. n < 2 ^ 59) (sym same) bound;
-          each = λ phase q lt.
-              all_of_members (StepFits there) (steps_of_phase there phase q) (λ s h.
-              let f = All-contains (StepFits here) (steps_of_phase here phase q) s (fits.each phase q lt) ((phase-for phase q lt).members s h) in
-              record { numbers = f.numbers; place = f.place; registers = f.registers; factors = f.factors });
-        }
+  module _ (one : p.procs ≡ 1) (phase : length p.phases ≡ 1) where
+    many : length there.phases ≡ length p.phases
+    many = length-map p.phases (fused_phase p.lanes)
 
-    acts_there : (phase q : ℕ) → q < p.procs → acts (plain_code there) phase q
-        ≡ actions_of (steps_of_phase there phase q)
-    acts_there phase q lt = listed there there.phases phase q lt
-
-    acts_here : (phase q : ℕ) → q < p.procs → acts (plain_code here) phase q ≡ actions_of (steps_of_phase here phase q)
-    acts_here phase q lt = listed here here.phases phase q lt
-
-    acts_within : (phase q : ℕ) → IsWithin (acts (plain_code there) phase q) (acts (plain_code here) phase q)
-    acts_within phase q a h =
-        ⊎_elim
-        (λ (lt : q < p.procs).
-        subst (λ actions. Contains actions a) (sym (acts_here phase q lt))
-        (map_within (λ (s : Step). s.action) (steps_of_phase there phase q) (steps_of_phase here phase q) (phase-for phase q lt).members a
-        (subst (λ actions. Contains actions a) (acts_there phase q lt) h)))
-        (λ (past : p.procs ≤ q). absurd (Contains-nil a (subst (λ actions. Contains actions a) (not_listed there there.phases phase q past) h)))
-        (cases_lt q p.procs)
-
-    apart_there : (phase : ℕ) → IsApart (plain_code there) phase
-    apart_there phase =
-        record {
-          alone = λ q other line ne written touched. (apart phase).alone q other line ne
-              (flat_map_within (λ a. lines_of p.line (stored_words p.lanes a)) (acts (plain_code there) phase q) (acts (plain_code here) phase q) (acts_within phase q) line written)
-              (flat_map_within (λ a. lines_of p.line (touched_words p.lanes a)) (acts (plain_code there) phase other) (acts (plain_code here) phase other) (acts_within phase other) line touched);
-        }
-
-    -- the same memory
-    memory_same : (x : List ℕ) → (in_order (plain_code there) x).memory ≡ (in_order (plain_code here) x).memory
+    memory_same : (x : List ℕ) → (in_order (plain_code there) x).memory ≡ (in_order (plain_code p) x).memory
     memory_same x =
         let some : 0 < p.procs = omega (arith, one) in
-        let registers : List ℕ = slice_index_or (start (plain_code here) x).registers 0 [] in
-        let memory : List ℕ = (start (plain_code here) x).memory in
-        alone-in-order (plain_code there) x one refl
-        ∙ ap (λ fs. memory_by p.modulus p.lanes fs registers memory) (acts_there 0 0 some)
+        let registers : List ℕ = slice_index_or (start (plain_code p) x).registers 0 [] in
+        let memory : List ℕ = (start (plain_code p) x).memory in
+        alone-in-order (plain_code there) x one (length-map there.phases (row there) ∙ many ∙ phase)
+        ∙ ap (λ fs. memory_by p.modulus p.lanes fs registers memory) (listed there 0 0 some)
         ∙ (phase-for 0 0 some).same registers memory
-        ∙ ap (λ fs. memory_by p.modulus p.lanes fs registers memory) (sym (acts_here 0 0 some))
-        ∙ sym (alone-in-order (plain_code here) x one refl)
+        ∙ ap (λ fs. memory_by p.modulus p.lanes fs registers memory) (sym (listed p 0 0 some))
+        ∙ sym (alone-in-order (plain_code p) x one (length-map p.phases (row p) ∙ phase))
 
-    fused_is : IsInPlaceOf there here
+    fused_is : IsInPlaceOf there p
     fused_is =
-        record {
-          size = refl;
-          modulus = refl;
-          fits = fits_there;
-          apart = apart_there;
-          same = λ x turns orders.
-              ap (λ memory. words_at p.size memory (whole_lines p.size p.line))
-              (memory_of_runs (plain_code there) (code_is there) apart_there x turns
-              ∙ memory_same x
-              ∙ sym (memory_of_runs (plain_code here) (code_is here) apart x orders));
-        }
+        in-place p there apart
+        (λ phase q lt. of-members p there.phases (steps_of_phase there phase q) (steps_of_phase p phase q)
+        (fits.each phase q lt) (phase-for phase q lt).members)
+        (no-more p there fits many (λ phase q lt. let e = (phase-for phase q lt).long in omega (arith, e)))
+        memory_same
 
 -- ---- programs
 
 pub fused_program : (least : ℕ) (p : PlainProgram) → PlainFits p → ((phase : ℕ) → IsApart (plain_code p) phase) →
     IsInPlaceOf (fused least p) p
-fused_program least p fits apart = of_test (may_be_fused least p) refl
+fused_program least p fits apart =
+    where-true p fits apart (with_phases p (fused_phases p.lanes p.phases)) (may_be_fused least p)
+    (λ may. of_phases p.phases (eqb-true p.procs 1 (both_true (nat_le least p.size) (p.procs == 1) may).1) fits apart)
   where
     of_phases : (phases : List PlainBody) → p.procs ≡ 1 → PlainFits (with_phases p phases) →
         ((phase : ℕ) → IsApart (plain_code (with_phases p phases)) phase) →
         IsInPlaceOf (with_phases p (fused_phases p.lanes phases)) (with_phases p phases)
     of_phases [] one fits apart = itself (with_phases p []) fits apart
-    of_phases (body ∷ []) one fits apart = fused_is p body one fits apart
+    of_phases (body ∷ []) one fits apart = fused_is (with_phases p (body ∷ [])) fits apart one refl
     of_phases (body ∷ next ∷ phases) one fits apart = itself (with_phases p (body ∷ next ∷ phases)) fits apart
-
-    of_test : (t : Bool) → may_be_fused least p ≡ t → IsInPlaceOf
-        (if t then with_phases p (fused_phases p.lanes p.phases) else p) p
-    of_test false e = itself p fits apart
-    of_test true e = of_phases p.phases (eqb-true p.procs 1 (both_true (nat_le least p.size) (p.procs == 1) e).1) fits apart

@@ -1,17 +1,18 @@
 -- What code reads and makes, as plain data.
 use Rattle.std.proofs.Common.{◌≡◌, Vec, Global, ℕ, zero, suc, ◌+◌, ◌-◌, ◌<◌, ◌≤◌, ◌&&◌, Bool, true, false, List, []}
-use Rattle.std.proofs.Common.{◌∷◌, ◌++◌, drop, get_or, length, refl, sym, ap, ap₂, ◌∙◌, subst, arith, lt-ltb, min}
+use Rattle.std.proofs.Common.{◌∷◌, ◌++◌, drop, get_or, length, refl, sym, ap, ap₂, ◌∙◌, arith, lt-ltb, min}
 use Rattle.std.specs.Prelude.{nat_lt, if◌then◌else◌}
 use Rattle.icode.specs.declared.program.Op.{Op}
 use Rattle.icode.specs.declared.program.Stmt.{Stmt}
 use Rattle.icode.specs.declared.program.Stmt.TheVariants as stmts
 use Rattle.icode.specs.Plain.{PlainOp, PlainStmt, PlainBody, Loop, Do, NoStmts, AndStmts, plain_op, plain_stmt}
 use Rattle.icode.specs.Plain.{plain_body}
+use Rattle.icode.proofs.Steps.{drop_item}
 use Rattle.icode.proofs.Views.{plain_stmt-Do, plain_stmt-Loop}
 use Rattle.fast_loops.specs.declared.fused_loops.blocks.Block.{Block}
 use Rattle.fast_loops.specs.Interchange.{is_nest, are_nests}
 use Rattle.fast_loops.specs.FusedLoops.Blocks.{blocks_with, blocks_of, shared}
-use Rattle.fast_loops.specs.FusedLoops.FusedLoops.{put_behind, with_body, in_last, joined, all_joined, waiting}
+use Rattle.fast_loops.specs.FusedLoops.FusedLoops.{put_behind, with_body, in_last, joined, waiting}
 use Rattle.fast_loops.specs.FusedLoops.FusedLoops.{fused_onto}
 
 -- ---- statements behind others
@@ -167,11 +168,7 @@ waits-other lanes stmt rest count index other =
 
 next-stmt : (items : List Stmt) (index : ℕ) (stmt : Stmt) → index < length items → stmt ≡ get_or items index stmt →
     plain_body (drop index items) ≡ AndStmts (plain_stmt stmt) (plain_body (drop (index + 1) items))
-next-stmt [] index stmt lt e = absurd (omega (arith, lt))
-next-stmt (x ∷ items) zero stmt lt e = ap (λ s. AndStmts (plain_stmt s) (plain_body items)) (sym e)
-next-stmt (x ∷ items) (suc index) stmt lt e =
-    let next : suc index + 1 ≡ suc (index + 1) = omega arith in
-    next-stmt items index stmt (omega (arith, lt)) e ∙ ap (λ n. AndStmts (plain_stmt stmt) (plain_body (drop n (x ∷ items)))) (sym next)
+next-stmt items index stmt lt e = ap plain_body (drop_item items index stmt lt e)
 
 module _ (lanes : ℕ) (items : List Stmt) (stmt : Stmt) (index count whole : ℕ) (lt : index < length items) (at : stmt ≡ get_or items index stmt)
     (so_far : whole ≡ waits lanes (plain_body (drop index items)) count index) where

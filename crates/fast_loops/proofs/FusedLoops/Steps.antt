@@ -1,10 +1,9 @@
 -- The steps of statements that go behind others, or into their last loop.
-use Rattle.std.proofs.Common.{◌≡◌, ℕ, zero, suc, ◌+◌, ◌*◌, List, [], ◌∷◌, ◌++◌, refl, sym, ap, ◌∙◌, arith, append-nil}
+use Rattle.std.proofs.Common.{◌≡◌, ℕ, List, [], ◌++◌, refl, sym, ap, ◌∙◌, append-nil}
 use Rattle.std.proofs.Common.{append_assoc}
 use Rattle.icode.specs.Actions.{Step, steps_of_stmt, steps_of_body}
-use Rattle.icode.specs.Lengths.{len_of_stmt, len_of_body}
-use Rattle.icode.specs.Plain.{PlainStmt, PlainBody, PlainProgram, Loop, Do, NoStmts, AndStmts}
-use Rattle.fast_loops.specs.FusedLoops.FusedLoops.{put_behind, with_body, in_last, joined, all_joined}
+use Rattle.icode.specs.Plain.{PlainStmt, PlainBody, PlainProgram, Loop, NoStmts, AndStmts}
+use Rattle.fast_loops.specs.FusedLoops.FusedLoops.{put_behind, with_body, in_last, all_joined}
 
 -- the last statement is a loop of so many rounds of this body
 abbrev pub EndsIn : ℕ → PlainBody → PlainBody → Type 0
@@ -73,10 +72,3 @@ module _ (p : PlainProgram) (q : ℕ) where
             ap (λ xs. first ++ xs) (more.changed f)
             ∙ sym (append_assoc first more.front (steps_of_stmt p (Loop count (f inside)) vs q));
       }
-
--- ---- how many steps there are
-
-pub put-length : (stmt : PlainStmt) (body : PlainBody) → len_of_body (put_behind stmt body) ≡ len_of_body body
-    + len_of_stmt stmt
-put-length stmt NoStmts = omega arith
-put-length stmt (AndStmts first rest) = let more = put-length stmt rest in omega (arith, more)

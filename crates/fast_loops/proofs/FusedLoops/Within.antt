@@ -1,15 +1,15 @@
 -- Actions that may come before or behind rounds that touch no words of a block.
-use Rattle.std.proofs.Common.{◌≡◌, ◌⊎◌, ℕ, zero, suc, ◌+◌, ◌*◌, ◌%◌, ◌<◌, ◌≤◌, List, [], ◌∷◌, ◌++◌, flat_map, inl, inr}
-use Rattle.std.proofs.Common.{refl, sym, arith, append-nil}
+use Rattle.std.proofs.Common.{◌≡◌, ◌⊎◌, ℕ, ◌+◌, ◌*◌, ◌%◌, ◌<◌, ◌≤◌, List, ◌++◌, flat_map, inl, inr}
+use Rattle.std.proofs.Common.{arith}
 use Rattle.std.proofs.Math.Nat.{mul-le-mul_right}
 use Rattle.std.specs.List.{range_with_len}
 use Rattle.icode.specs.declared.action.Action.{Action}
 use Rattle.icode.specs.Machine.{whole_lines}
 use Rattle.icode.specs.Plain.{PlainProgram}
-use Rattle.fast_loops.proofs.Acts.{IsRound, AreApart, Loads, Stores, DoTheSame}
+use Rattle.fast_loops.proofs.Acts.{IsRound, Loads, Stores, DoTheSame}
 use Rattle.fast_loops.proofs.Folds.{IsSure, Commute, commute-append, commute-loop}
 use Rattle.fast_loops.proofs.Independent.{independent}
-use Rattle.fast_loops.proofs.Same.{same-nothing, same-sym, same-trans, same-between, same-append, same-loops}
+use Rattle.fast_loops.proofs.Same.{same-sym, same-trans, same-append, same-loops}
 use Rattle.fast_loops.proofs.Swaps.{swapped}
 
 abbrev pub Touches : ℕ → List Action → ℕ → Type 0
@@ -52,14 +52,6 @@ module _ (p : PlainProgram) where
               from = λ k l s. outside k (inl l) (inside k (inr s));
               words = λ k s t. outside k (inr s) (inside k (inr t));
             });
-      }
-
-  pub within-nothing : (low step : ℕ) → IsWithin low step []
-  within-nothing low step =
-      record {
-        sure = same-nothing p.modulus p.lanes;
-        past = λ r other outside.
-            same-between p.modulus p.lanes (r ++ []) r r r (append-nil r) (independent p.modulus p.lanes r other) refl;
       }
 
   pub within-append : (low step : ℕ) (a b : List Action) → IsWithin low step a → IsWithin low step b →

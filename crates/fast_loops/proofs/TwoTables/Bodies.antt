@@ -6,8 +6,8 @@ use Rattle.std.specs.List.{range_with_len}
 use Rattle.std.proofs.lemmas.Bool.{cases_Bool, eqb-false}
 use Rattle.std.proofs.lemmas.List.Elements.{All-head}
 use Rattle.icode.specs.Actions.{Step, StepFits, step_of, steps_of_stmt, steps_of_body}
-use Rattle.icode.specs.Plain.{PlainOp, PlainStmt, PlainBody, PlainProgram, Load, Store, Zero, Add, Sub, Neg, MulConst}
-use Rattle.icode.specs.Plain.{MulTable, Tile, Loop, Do, NoStmts, AndStmts}
+use Rattle.icode.specs.Plain.{PlainOp, PlainStmt, PlainBody, PlainProgram}
+use Rattle.icode.specs.Plain.{MulTable, Loop, Do, NoStmts, AndStmts}
 use Rattle.icode.proofs.Bools.{both_true}
 use Rattle.fast_loops.specs.TwoTables.Factors.{Cut}
 use Rattle.fast_loops.specs.TwoTables.Places.{is_even}
@@ -38,14 +38,6 @@ module _ (p : PlainProgram) (table : ℕ) (cut : Cut) (is : IsSplit p table cut)
 
   op-for : (op : PlainOp) (vs : List ℕ) (i : ℕ) → is_op_even p.lanes table op ≡ true → StepFits p (step_of p op vs i) →
       AreFor p there (steps_of_all there (factored_op split op) vs i) (step_of p op vs i ∷ [])
-  op-for (Load r array place) vs i even fit = other_step p table cut is (Load r array place) vs i refl fit
-  op-for (Store array place r) vs i even fit = other_step p table cut is (Store array place r) vs i refl fit
-  op-for (Zero r) vs i even fit = other_step p table cut is (Zero r) vs i refl fit
-  op-for (Add r x y) vs i even fit = other_step p table cut is (Add r x y) vs i refl fit
-  op-for (Sub r x y) vs i even fit = other_step p table cut is (Sub r x y) vs i refl fit
-  op-for (Neg r x) vs i even fit = other_step p table cut is (Neg r x) vs i refl fit
-  op-for (MulConst r x factor) vs i even fit = other_step p table cut is (MulConst r x factor) vs i refl fit
-  op-for (Tile r x) vs i even fit = other_step p table cut is (Tile r x) vs i refl fit
   op-for (MulTable r x of place step) vs i even fit =
       ⊎_elim
       (λ (same : (of == table) ≡ true).
@@ -68,6 +60,7 @@ module _ (p : PlainProgram) (table : ℕ) (cut : Cut) (is : IsSplit p table cut)
           subst (λ k. AreFor p there (steps_of_all there (two_products split (MulTable r x of place step)) vs i) (step_of p (MulTable r x k place step) vs i ∷ [])) (sym e)
           (products p table cut is r x place step vs i (ltb-true step 2 h.0) h.1
           (subst (λ k. StepFits p (step_of p (MulTable r x k place step) vs i)) e fit))
+  op-for op vs i even fit = other_step p table cut is op vs i refl fit
 
   mutual
     stmt-for : (stmt : PlainStmt) (vs : List ℕ) (i : ℕ) → is_stmt_even p.lanes table stmt ≡ true →

@@ -1,15 +1,16 @@
 -- The entries that factors are made of, and tables that are walked over.
-use Rattle.std.proofs.Common.{◌≡◌, ℕ, zero, suc, ◌+◌, ◌-◌, ◌*◌, ◌/◌, ◌%◌, ◌<◌, ◌≤◌, ◌&&◌, Bool, true, false, List, []}
-use Rattle.std.proofs.Common.{◌∷◌, ◌++◌, Vec, Global, length, drop, get_or, refl, sym, ap, ap₂, ◌∙◌, arith, add-one}
+use Rattle.std.proofs.Common.{◌≡◌, ℕ, suc, ◌+◌, ◌-◌, ◌*◌, ◌/◌, ◌%◌, ◌<◌, ◌≤◌, ◌&&◌, Bool, true, false, List, []}
+use Rattle.std.proofs.Common.{◌∷◌, ◌++◌, Vec, Global, length, drop, sym, ap, ap₂, ◌∙◌, arith, add-one}
 use Rattle.std.proofs.Common.{drop-cons}
 use Rattle.std.specs.Prelude.{slice_index_or}
 use Rattle.std.specs.List.{list_all, range_with_len}
 use Rattle.std.proofs.Math.Nat.{div-lt_iff_lt-mul, le-mul_of_pos_right}
 use Rattle.std.proofs.lemmas.Nat.{mod_below}
+use Rattle.std.proofs.lemmas.List.{drop-map, length-map}
 use Rattle.std.proofs.lemmas.List.FromFn.{map-range_with_len_more}
 use Rattle.operators.specs.Sum.{list_below}
 use Rattle.icode.specs.declared.program.Stmt.{Stmt}
-use Rattle.icode.specs.Plain.{PlainBody, NoStmts, plain_phases}
+use Rattle.icode.specs.Plain.{PlainBody, NoStmts, plain_body, plain_phases}
 use Rattle.fast_loops.proofs.TwoTables.Dividing.{block_room}
 
 -- where an entry of the second factor comes from
@@ -45,17 +46,15 @@ range_more f a n whole lt passes h =
     left = omega arith
 
 -- one phase more
-phase-front : (items : List (Vec Stmt Global)) (i : ℕ) → i < length items →
-    plain_phases (drop i items) ≡ slice_index_or (plain_phases items) i NoStmts ∷ plain_phases (drop (suc i) items)
-phase-front [] i lt = absurd (omega arith)
-phase-front (body ∷ items) zero lt = refl
-phase-front (body ∷ items) (suc i) lt = phase-front items i (omega arith)
-
 phase-next : (items : List (Vec Stmt Global)) (i : ℕ) → i < length items →
     plain_phases (drop i items) ≡ slice_index_or (plain_phases items) i NoStmts ∷ plain_phases (drop (i + 1) items)
 phase-next items i lt =
-    let next : suc i ≡ i + 1 = omega arith in
-    phase-front items i lt ∙ ap (λ k. slice_index_or (plain_phases items) i NoStmts ∷ plain_phases (drop k items)) next
+    let view : Vec Stmt Global → PlainBody = λ body. plain_body body.items in
+    let there : i < length (plain_phases items) = omega (arith, lt, length-map items view) in
+    sym (drop-map view i items)
+    ∙ (drop-cons (plain_phases items) i NoStmts there
+    ∙ ap (λ bodies. slice_index_or (plain_phases items) i NoStmts ∷ bodies)
+    (ap (λ n. drop n (plain_phases items)) (sym (add-one i)) ∙ drop-map view (i + 1) items))
 
 pub phase_passes : (f : PlainBody → Bool) (items : List (Vec Stmt Global)) (i : ℕ) (whole : Bool) → i < length items →
     f (slice_index_or (plain_phases items) i NoStmts) ≡ true →
@@ -68,7 +67,3 @@ pub phase_fails : (f : PlainBody → Bool) (items : List (Vec Stmt Global)) (i :
     list_all f (plain_phases (drop i items)) ≡ whole → false ≡ whole
 phase_fails f items i whole lt fails h =
     ap (λ b. b && list_all f (plain_phases (drop (i + 1) items))) (sym fails) ∙ (ap (list_all f) (sym (phase-next items i lt)) ∙ h)
-
--- what stands from an entry on
-pub drop_entry : (xs : List ℕ) (i x : ℕ) → i < length xs → x ≡ get_or xs i x → drop i xs ≡ x ∷ drop (i + 1) xs
-drop_entry xs i x lt e = rw (add-one, drop-cons xs i x) (ap (λ y. y ∷ drop (suc i) xs) (sym e))

@@ -1,45 +1,31 @@
 -- What becomes of a program's fields where a table is in two factors.
-use Rattle.std.proofs.Common.{◌≡◌, ℕ, zero, suc, ◌+◌, ◌-◌, ◌^◌, ◌<◌, ◌≤◌, ◌&&◌, Bool, true, false, List, [], ◌∷◌, ◌++◌}
-use Rattle.std.proofs.Common.{Vec, Global, map, length, get_or, refl, sym, ap, ap₂, ◌∙◌, subst, arith, length-append}
-use Rattle.std.proofs.Common.{lt-ltb, ltb-true}
-use Rattle.std.specs.Prelude.{nat_lt, nat_le, slice_index_or, slice_set, if◌then◌else◌}
-use Rattle.std.specs.List.{list_all}
-use Rattle.std.proofs.lemmas.List.{length-map, map-append}
+use Rattle.std.proofs.Common.{◌≡◌, ℕ, suc, ◌+◌, ◌-◌, ◌^◌, ◌<◌, ◌≤◌, ◌&&◌, Bool, true, false, List, [], ◌∷◌, ◌++◌}
+use Rattle.std.proofs.Common.{Vec, Global, map, length, sym, ap, ap₂, ◌∙◌, subst, arith, length-append}
+use Rattle.std.proofs.Common.{lt-ltb}
+use Rattle.std.specs.Prelude.{nat_le, slice_index_or, slice_set, if◌then◌else◌}
+use Rattle.std.proofs.lemmas.List.{length-map, length-set, map-append, map-set}
 use Rattle.icode.specs.declared.program.Program.{Program}
 use Rattle.icode.specs.declared.program.Stmt.{Stmt}
 use Rattle.icode.specs.Actions.{PlainFits, plain_code}
 use Rattle.icode.specs.Machine.{IsApart}
-use Rattle.icode.specs.Limits.{is_small, is_small_positive, IsHeaderWithin, are_tables_within, are_phases_within}
+use Rattle.icode.specs.Limits.{IsHeaderWithin, are_tables_within, are_phases_within}
 use Rattle.icode.specs.Plain.{PlainBody, PlainProgram, plain_tables, plain_phases}
 use Rattle.icode.specs.Program.{plain_program, table_of}
 use Rattle.icode.proofs.Bools.{both_true}
-use Rattle.fast_loops.specs.TwoTables.Factors.{Cut, first_factor, second_factor, are_factors, is_cut, cut_of}
-use Rattle.fast_loops.specs.TwoTables.TwoTables.{Split, split_at, in_factors, factored_body, has_room, is_usable}
-use Rattle.fast_loops.specs.TwoTables.TwoTables.{is_cut_well, may_be_split, can_split, is_body_even, factored_at}
+use Rattle.fast_loops.specs.TwoTables.Factors.{Cut, first_factor, second_factor, are_factors, cut_of}
+use Rattle.fast_loops.specs.TwoTables.TwoTables.{Split, split_at, in_factors, factored_body, is_usable}
+use Rattle.fast_loops.specs.TwoTables.TwoTables.{is_cut_well, may_be_split, can_split, factored_at}
 use Rattle.fast_loops.specs.TwoTables.TwoTables.{factored_from, factored}
-use Rattle.fast_loops.proofs.TwoTables.Listed.{set-length}
-use Rattle.fast_loops.proofs.TwoTables.Products.{what_splits}
+use Rattle.fast_loops.proofs.TwoTables.Products.{what_is_usable, positive, what_splits}
 use Rattle.fast_loops.proofs.TwoTables.Programs.{at_table}
 use Rattle.fast_loops.proofs.TwoTables.Within.{tables_within, phases_within}
-
-pub table-at : (items : List (Vec ℕ Global)) (k : ℕ) (t : Vec ℕ Global) → k < length items → t ≡ get_or items k t →
-    t.items ≡ slice_index_or (plain_tables items) k []
-table-at [] k t lt e = absurd (omega arith)
-table-at (x ∷ items) zero t lt e = ap (λ (v : Vec ℕ Global). v.items) e
-table-at (x ∷ items) (suc k) t lt e = table-at items k t (omega arith) e
-
-map-set : (items : List (Vec ℕ Global)) (k : ℕ) (t : Vec ℕ Global) →
-    plain_tables (slice_set items k t) ≡ slice_set (plain_tables items) k t.items
-map-set [] k t = refl
-map-set (x ∷ items) zero t = refl
-map-set (x ∷ items) (suc k) t = ap (λ xs. x.items ∷ xs) (map-set items k t)
 
 tables-are : (items new : List (Vec ℕ Global)) (k : ℕ) (first second : Vec ℕ Global) →
     new ≡ slice_set items k first ++ second ∷ [] →
     plain_tables new ≡ slice_set (plain_tables items) k first.items ++ second.items ∷ []
 tables-are items new k first second e =
     ap plain_tables e ∙ (map-append (λ (v : Vec ℕ Global). v.items) (slice_set items k first) (second ∷ [])
-    ∙ ap (λ xs. xs ++ second.items ∷ []) (map-set items k first))
+    ∙ ap (λ xs. xs ++ second.items ∷ []) (map-set (λ (v : Vec ℕ Global). v.items) items k first))
 
 pub record IsMade (p : Program) (table : ℕ) (cut : Cut) (tables : List (Vec ℕ Global)) (phases : List (Vec Stmt Global)) : Type 0 where
   pub header : IsHeaderWithin p.size p.modulus p.procs p.line p.lanes (p.regs + 1)
@@ -62,15 +48,8 @@ pub is_made : (p : Program) (table : ℕ) (cut : Cut) (behind : ℕ) (first seco
 is_made p table cut behind first second tables bodies phases can one two behind_is tables_is bodies_are phases_are =
     let q = plain_program p in
     let is = what_splits q table cut can in
-    let usable = (both_true (is_usable q table cut) (is_cut_well q table cut) can).0 in
-    let a = both_true (has_room q) (is_cut q.lanes cut && list_all (is_body_even q.lanes table) q.phases) usable in
-    let b = both_true (nat_lt 1 q.lanes) _ a.0 in
-    let c = both_true (nat_lt (q.regs + 1) (2 ^ 20)) _ b.1 in
-    let d = both_true (is_small (length q.tables)) _ c.1 in
-    let regs = ltb-true (q.regs + 1) (2 ^ 20) c.0 in
-    let e = both_true (is_cut q.lanes cut) (list_all (is_body_even q.lanes table) q.phases) a.1 in
-    let f = both_true (is_small_positive cut.width) _ e.0 in
-    let g = both_true (is_small_positive cut.across) _ f.1 in
+    let usable = is.usable in
+    let regs = usable.regs in
     let there : put_behind p table cut behind ≡ split_at q table cut =
     ap (put_behind p table cut) (behind_is ∙ sym (length-map p.tables.items (λ (v : Vec ℕ Global). v.items))) in
     let new_tables : plain_tables tables ≡ (in_factors q table cut).tables =
@@ -87,7 +66,7 @@ is_made p table cut behind first second tables bodies phases can one two behind_
         of_regs = regs;
       };
       constants = ap (are_tables_within p.modulus) new_tables ∙ tables_within p.modulus q.tables table (first_factor cut (table_of p table)) (second_factor cut (table_of p table)) p.constants is.factors.first_small is.factors.second_small;
-      statements = ap (are_phases_within p.modulus) new_phases ∙ phases_within p.modulus p.lanes (split_at q table cut) (lt-ltb p.regs (2 ^ 32) (omega (arith, regs))) d.0 f.0 g.0 q.phases is.even p.statements;
+      statements = ap (are_phases_within p.modulus) new_phases ∙ phases_within p.modulus p.lanes (split_at q table cut) (lt-ltb p.regs (2 ^ 32) (omega (arith, regs))) usable.tables usable.width usable.across q.phases usable.even p.statements;
       tables_are = new_tables;
       phases_are = new_phases;
     }
@@ -141,12 +120,9 @@ tested p table m cut first second entries test m_is entries_is first_is second_i
 pub some_width : (least table : ℕ) (p : PlainProgram) (cut : Cut) → may_be_split least p table cut ≡ true →
     (0 < cut.width) × (0 < cut.across)
 some_width least table p cut may =
-    let usable = (both_true (nat_le least (length (slice_index_or p.tables table []))) (is_usable p table cut) may).1 in
-    let a = both_true (has_room p) (is_cut p.lanes cut && list_all (is_body_even p.lanes table) p.phases) usable in
-    let e = both_true (is_cut p.lanes cut) (list_all (is_body_even p.lanes table) p.phases) a.1 in
-    let f = both_true (is_small_positive cut.width) _ e.0 in
-    let g = both_true (is_small_positive cut.across) _ f.1 in
-    (ltb-true 0 cut.width (both_true (nat_lt 0 cut.width) (is_small cut.width) f.0).0, ltb-true 0 cut.across (both_true (nat_lt 0 cut.across) (is_small cut.across) g.0).0)
+    let entries = slice_index_or p.tables table [] in
+    let usable = what_is_usable p table cut (both_true (nat_le least (length entries)) (is_usable p table cut) may).1 in
+    (positive cut.width usable.width, positive cut.across usable.across)
 
 -- there are no fewer tables
 pub no_fewer : (least table : ℕ) (p : PlainProgram) → length p.tables ≤ length (factored_at least p table).tables
@@ -157,7 +133,7 @@ no_fewer least table p = of_choice (may_be_split least p table (cut_of (slice_in
 
     of_choice : (b : Bool) → length p.tables ≤ length (if b then in_factors p table split_cut else p).tables
     of_choice true =
-        omega (arith, set-length p.tables table (first_factor split_cut (slice_index_or p.tables table [])), length-append (slice_set p.tables table (first_factor split_cut (slice_index_or p.tables table []))) (second_factor split_cut (slice_index_or p.tables table []) ∷ []))
+        omega (arith, length-set p.tables table (first_factor split_cut (slice_index_or p.tables table [])), length-append (slice_set p.tables table (first_factor split_cut (slice_index_or p.tables table []))) (second_factor split_cut (slice_index_or p.tables table []) ∷ []))
     of_choice false = omega arith
 
 -- ---- one table after another

@@ -6,7 +6,7 @@ use Rattle.std.proofs.Math.Nat.{le-max_left, max-le, div-le_self, mod-le, zero-m
 use Rattle.std.proofs.Math.Nat.{div-add-mod', div-mul-le_self}
 use Rattle.ring_mod.proofs.Congruence.{same-add, same-mul}
 use Rattle.icode.specs.Expression.{sum_numbers, parts_numbers}
-use Rattle.icode.specs.Plain.{PlainExpr, PlainParts, Sum, NoParts, AndParts, Proc, Var, Product, Rem, Quot}
+use Rattle.icode.specs.Plain.{PlainExpr, PlainParts, Sum, NoParts, AndParts, Proc, Var, Product}
 use Rattle.icode.proofs.Bools.{both_true}
 use Rattle.fast_loops.specs.TwoTables.Factors.{Cut, first_place, second_place}
 use Rattle.fast_loops.specs.TwoTables.Places.{are_even, is_even, quotient_by, place_in_first, place_in_second}
@@ -33,8 +33,7 @@ parts_even lanes (suc room) (AndParts (Product outer inner factor) rest) vs q h 
     let two = both_true (factor % lanes == 0) _ h in
     let both = slice_index vs outer * slice_index vs inner in
     sum_even lanes (both * factor) _ (times_even lanes both factor (eqb-true (factor % lanes) 0 two.0)) (parts_even lanes room rest vs q two.1)
-parts_even lanes (suc room) (AndParts (Rem of divisor factor) rest) vs q h = cc
-parts_even lanes (suc room) (AndParts (Quot of divisor factor) rest) vs q h = cc
+parts_even lanes (suc room) (AndParts part rest) vs q h = cc
 
 pub place_even : (lanes : ℕ) (place : PlainExpr) (vs : List ℕ) (q : ℕ) → is_even lanes place ≡ true →
     (sum_numbers place vs q).value % lanes ≡ 0

@@ -1,9 +1,13 @@
 -- A product by an entry of the table, and the two products that it becomes.
-use Rattle.std.proofs.Common.{◌≡◌, ◌≢◌, ℕ, zero, suc, ◌+◌, ◌-◌, ◌*◌, ◌/◌, ◌%◌, ◌<◌, ◌≤◌, true, List, [], ◌∷◌, ◌++◌, All}
+use Rattle.std.proofs.Common.{◌≡◌, ◌≢◌, ℕ, zero, suc, ◌+◌, ◌-◌, ◌*◌, ◌/◌, ◌%◌, ◌^◌, ◌<◌, ◌≤◌, true, List, [], ◌∷◌, ◌++◌}
+use Rattle.std.proofs.Common.{All}
 use Rattle.std.proofs.Common.{map, replicate, length, refl, sym, ap, ap₂, ◌∙◌, subst, arith, eqb-true, ltb-true}
-use Rattle.std.proofs.Common.{length-append, mul-le-mul_left}
-use Rattle.std.specs.Prelude.{slice_index, slice_index_or, slice_set, nat_lt}
+use Rattle.std.proofs.Common.{leb-true}
+use Rattle.std.proofs.Common.{mul-le-mul_left}
+use Rattle.std.specs.Prelude.{slice_index, slice_index_or, slice_set, nat_lt, nat_le}
 use Rattle.std.specs.List.{range_with_len, list_all}
+use Rattle.std.proofs.Math.Seq.{get_or-append_seam}
+use Rattle.std.proofs.lemmas.List.{get_or_append_left, get_or-set_same, get_or-set_other, length-set}
 use Rattle.std.proofs.lemmas.List.Elements.{All-nil, All-cons, All-append, All-map, All-replicate}
 use Rattle.operators.specs.Sum.{list_below}
 use Rattle.operators.proofs.Lists.{length-list_below, at-list_below}
@@ -18,29 +22,22 @@ use Rattle.icode.proofs.Bools.{both_true}
 use Rattle.fast_loops.specs.TwoTables.Factors.{Cut, first_factor, second_factor, first_place, second_place, is_cut}
 use Rattle.fast_loops.specs.TwoTables.Places.{is_even, place_in_first, place_in_second}
 use Rattle.fast_loops.specs.TwoTables.TwoTables.{has_room, is_usable, is_cut_well, can_split, in_factors, is_body_even}
+use Rattle.fast_loops.specs.TwoTables.TwoTables.{is_short}
+use Rattle.fast_loops.proofs.Rows.{factors_each}
 use Rattle.fast_loops.proofs.TwoTables.Dividing.{IsInBlock, in_block}
 use Rattle.fast_loops.proofs.TwoTables.Walked.{AreFactors, IsProduct, walked, table_small}
-use Rattle.fast_loops.proofs.TwoTables.Listed.{set-length, at-front, at-end, set-there, set-elsewhere, is-there}
+use Rattle.fast_loops.proofs.TwoTables.Listed.{is-there}
 use Rattle.fast_loops.proofs.TwoTables.Placed.{place_even, first_value, first_peak, second_value, second_peak}
 use Rattle.fast_loops.proofs.TwoTables.Registers.{like_after, like_products}
 use Rattle.fast_loops.proofs.TwoTables.Replaced.{AreFor}
 
 -- ---- the factors of lanes
 
-front : (xs ys : List ℕ) (i : ℕ) → i < length xs → slice_index (xs ++ ys) i ≡ slice_index xs i
-front [] ys i lt = absurd (omega arith)
-front (x ∷ xs) ys zero lt = refl
-front (x ∷ xs) ys (suc i) lt = front xs ys i (omega arith)
-
-factor_at : (lanes : ℕ) (f : ℕ → ℕ) (lane : ℕ) → lane < lanes → slice_index (lane_factors lanes f) lane ≡ f lane
+pub factor_at : (lanes : ℕ) (f : ℕ → ℕ) (lane : ℕ) → lane < lanes → slice_index (lane_factors lanes f) lane ≡ f lane
 factor_at lanes f lane lt =
-    front (list_below lanes f) (replicate (16 - lanes) 0) lane (let size = length-list_below lanes f in omega (arith, size, lt)) ∙ at-list_below lanes f lane lt
-
-factor_each : (lanes : ℕ) (f : ℕ → ℕ) → lanes ≤ length (lane_factors lanes f)
-factor_each lanes f =
-    let whole = length-append (list_below lanes f) (replicate (16 - lanes) 0) in
-    let own = length-list_below lanes f in
-    omega (arith, whole, own)
+    let size = length-list_below lanes f in
+    get_or_append_left (list_below lanes f) (replicate (16 - lanes) 0) 0 lane (omega (arith, size, lt))
+    ∙ at-list_below lanes f lane lt
 
 factors_small : (m lanes : ℕ) (f : ℕ → ℕ) → 0 < m → ((lane : ℕ) → f lane < m) → All (λ c. c < m) (lane_factors lanes f)
 factors_small m lanes f some h =
@@ -67,11 +64,48 @@ small_step (suc (suc step)) a b low le = absurd (omega (arith, low))
 
 -- ---- a program that can be split
 
-pub record IsSplit (p : PlainProgram) (table : ℕ) (cut : Cut) : Type 0 where
+-- what the test of a program tells
+pub record IsUsable (p : PlainProgram) (table : ℕ) (cut : Cut) : Type 0 where
   pub lanes : 1 < p.lanes
-  pub wide : 0 < cut.width
+  pub regs : p.regs + 1 < 2 ^ 20
+  pub tables : is_small (length p.tables) ≡ true
+  pub procs : p.procs ≤ 16
+  pub phases : length p.phases ≤ 64
+  pub short : list_all is_short p.phases ≡ true
+  pub width : is_small_positive cut.width ≡ true
+  pub across : is_small_positive cut.across ≡ true
   pub whole : cut.width % p.lanes ≡ 0
   pub even : list_all (is_body_even p.lanes table) p.phases ≡ true
+
+pub what_is_usable : (p : PlainProgram) (table : ℕ) (cut : Cut) → is_usable p table cut ≡ true → IsUsable p table cut
+what_is_usable p table cut usable =
+    let all = both_true (has_room p) _ usable in
+    let a = both_true (nat_lt 1 p.lanes) _ all.0 in
+    let b = both_true (nat_lt (p.regs + 1) (2 ^ 20)) _ a.1 in
+    let c = both_true (is_small (length p.tables)) _ b.1 in
+    let d = both_true (nat_le p.procs 16) _ c.1 in
+    let e = both_true (nat_le (length p.phases) 64) (list_all is_short p.phases) d.1 in
+    let f = both_true (is_cut p.lanes cut) (list_all (is_body_even p.lanes table) p.phases) all.1 in
+    let g = both_true (is_small_positive cut.width) _ f.0 in
+    let h = both_true (is_small_positive cut.across) _ g.1 in
+    record {
+      lanes = ltb-true 1 p.lanes a.0;
+      regs = ltb-true (p.regs + 1) (2 ^ 20) b.0;
+      tables = c.0;
+      procs = leb-true p.procs 16 d.0;
+      phases = leb-true (length p.phases) 64 e.0;
+      short = e.1;
+      width = g.0;
+      across = h.0;
+      whole = eqb-true (cut.width % p.lanes) 0 h.1;
+      even = f.1;
+    }
+
+pub positive : (n : ℕ) → is_small_positive n ≡ true → 0 < n
+positive n h = ltb-true 0 n (both_true (nat_lt 0 n) (is_small n) h).0
+
+pub record IsSplit (p : PlainProgram) (table : ℕ) (cut : Cut) : Type 0 where
+  pub usable : IsUsable p table cut
   pub factors : let entries = slice_index_or p.tables table [] in
       AreFactors p.modulus cut (first_factor cut entries) (second_factor cut entries) entries
 
@@ -79,15 +113,8 @@ pub what_splits : (p : PlainProgram) (table : ℕ) (cut : Cut) → can_split p t
 what_splits p table cut can =
     let entries : List ℕ = slice_index_or p.tables table [] in
     let both = both_true (is_usable p table cut) (is_cut_well p table cut) can in
-    let a = both_true (has_room p) _ both.0 in
-    let b = both_true (is_cut p.lanes cut) (list_all (is_body_even p.lanes table) p.phases) a.1 in
-    let width = both_true (is_small_positive cut.width) _ b.0 in
-    let across = both_true (is_small_positive cut.across) _ width.1 in
     record {
-      lanes = ltb-true 1 p.lanes (both_true (nat_lt 1 p.lanes) _ a.0).0;
-      wide = ltb-true 0 cut.width (both_true (nat_lt 0 cut.width) (is_small cut.width) width.0).0;
-      whole = eqb-true (cut.width % p.lanes) 0 across.1;
-      even = b.1;
+      usable = what_is_usable p table cut both.0;
       factors = walked p.modulus cut (first_factor cut entries) (second_factor cut entries) entries both.1;
     }
 
@@ -124,8 +151,9 @@ module _ (p : PlainProgram) (table : ℕ) (cut : Cut) (is : IsSplit p table cut)
   other_table : (of : ℕ) → of ≢ table → of < length p.tables →
       slice_index_or q.tables of [] ≡ slice_index_or p.tables of []
   other_table of ne lt =
-      at-front (slice_set p.tables table first) (second ∷ []) of (let size = set-length p.tables table first in omega (arith, size, lt))
-      ∙ set-elsewhere p.tables table of first ne
+      let size = length-set p.tables table first in
+      get_or_append_left (slice_set p.tables table first) (second ∷ []) [] of (omega (arith, size, lt))
+      ∙ get_or-set_other p.tables table of first [] ne
 
   pub other_product : (r x of : ℕ) (place : PlainExpr) (step : ℕ) (vs : List ℕ) (i : ℕ) → of ≢ table →
       StepFits p (step_of p (MulTable r x of place step) vs i) →
@@ -160,11 +188,14 @@ module _ (p : PlainProgram) (table : ℕ) (cut : Cut) (is : IsSplit p table cut)
 
     in_first : slice_index_or q.tables table [] ≡ first
     in_first =
-        at-front (slice_set p.tables table first) (second ∷ []) table (let size = set-length p.tables table first in omega (arith, size, some))
-        ∙ set-there p.tables table first some
+        let size = length-set p.tables table first in
+        get_or_append_left (slice_set p.tables table first) (second ∷ []) [] table (omega (arith, size, some))
+        ∙ get_or-set_same p.tables table first [] some
 
     in_second : slice_index_or q.tables (length p.tables) [] ≡ second
-    in_second = at-end (slice_set p.tables table first) second (length p.tables) (sym (set-length p.tables table first))
+    in_second =
+        ap (λ n. slice_index_or q.tables n []) (sym (length-set p.tables table first))
+        ∙ get_or-append_seam (slice_set p.tables table first) second [] []
 
     -- the entry of a lane
     lane_low : (lane : ℕ) → lane < p.lanes → step * lane < p.lanes
@@ -179,8 +210,8 @@ module _ (p : PlainProgram) (table : ℕ) (cut : Cut) (is : IsSplit p table cut)
 
     block : (lane : ℕ) → lane < p.lanes → IsInBlock cut.width at (step * lane)
     block lane lt =
-        let many = is.lanes in
-        in_block cut.width p.lanes at (step * lane) (omega (arith, many)) is.wide (place_even p.lanes place vs i even) is.whole (lane_low lane lt)
+        let many = is.usable.lanes in
+        in_block cut.width p.lanes at (step * lane) (omega (arith, many)) (positive cut.width is.usable.width) (place_even p.lanes place vs i even) is.usable.whole (lane_low lane lt)
 
     product : (lane : ℕ) → lane < p.lanes → IsProduct p.modulus cut first second entries (at + step * lane)
     product lane lt = is.factors.each (at + step * lane) (lane_in lane lt)
@@ -218,7 +249,7 @@ module _ (p : PlainProgram) (table : ℕ) (cut : Cut) (is : IsSplit p table cut)
     factors_of lane = slice_index entries (at + step * lane)
 
     last : p.lanes - 1 < p.lanes
-    last = let many = is.lanes in omega (arith, many)
+    last = let many = is.usable.lanes in omega (arith, many)
 
     one_fits : StepFits q one
     one_fits =
@@ -269,7 +300,7 @@ module _ (p : PlainProgram) (table : ℕ) (cut : Cut) (is : IsSplit p table cut)
           few = omega arith;
           like = λ s t like.
               like_products p.modulus p.lanes p.regs r x (lane_factors p.lanes factors_one) (lane_factors p.lanes factors_two) (lane_factors p.lanes factors_of) s t
-              (let fits = fit.registers in fits.1) (factor_each p.lanes factors_one) (factor_each p.lanes factors_two) (factor_each p.lanes factors_of) each like;
+              (let fits = fit.registers in fits.1) (factors_each p.lanes factors_one) (factors_each p.lanes factors_two) (factors_each p.lanes factors_of) each like;
           words = λ f others.
               ap (λ xs. xs ++ (f two.action ++ [])) (others p.regs x (lane_factors p.lanes factors_one))
               ∙ (ap (λ xs. xs ++ []) (others r p.regs (lane_factors p.lanes factors_two))

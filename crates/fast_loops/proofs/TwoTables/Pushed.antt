@@ -1,25 +1,13 @@
 -- Statements that are pushed one after another.
-use Rattle.std.proofs.Common.{◌≡◌, ℕ, zero, suc, ◌+◌, ◌<◌, ◌≤◌, List, [], ◌∷◌, ◌++◌, Vec, Global, flat_map, length}
-use Rattle.std.proofs.Common.{take, map, get_or, refl, sym, ap, ◌∙◌, append-nil, arith}
-use Rattle.std.proofs.lemmas.List.{take_more, map-append}
-use Rattle.std.proofs.lemmas.List.Concat.{flat_map-append}
+use Rattle.std.proofs.Common.{◌≡◌, ℕ, ◌≤◌, List, [], ◌∷◌, ◌++◌, Vec, Global, flat_map, length}
+use Rattle.std.proofs.Common.{take, refl, sym, ap, ◌∙◌}
+use Rattle.std.proofs.lemmas.List.{take_all, map-append}
 use Rattle.icode.specs.declared.program.Stmt.{Stmt}
 use Rattle.icode.specs.declared.program.Stmt.TheVariants as stmts
 use Rattle.icode.specs.Plain.{PlainStmt, Loop, AndStmts, body_of, plain_stmt, plain_body}
 use Rattle.icode.proofs.Views.{plain_stmt-Loop}
 use Rattle.fast_loops.specs.TwoTables.TwoTables.{Split, put_before, factored_stmt, factored_body}
 use Rattle.fast_loops.specs.TwoTables.View.{plain_stmts}
-
-pub push_more : (f : PlainStmt → List PlainStmt) (i : ℕ) (items : List Stmt) (item : Stmt) (made new : List PlainStmt) →
-    i < length items → item ≡ get_or items i item →
-    made ≡ flat_map f (plain_stmts (take i items)) → new ≡ made ++ f (plain_stmt item) →
-    new ≡ flat_map f (plain_stmts (take (i + 1) items))
-push_more f i items item made new lt e is pushed =
-    pushed
-    ∙ (ap (λ xs. xs ++ f (plain_stmt item)) is
-    ∙ (ap (λ xs. flat_map f (plain_stmts (take i items)) ++ xs) (sym (append-nil (f (plain_stmt item))))
-    ∙ (sym (flat_map-append f (plain_stmts (take i items)) (plain_stmt item ∷ []))
-    ∙ ap (flat_map f) (sym (ap (map plain_stmt) (take_more items i item lt ∙ ap (λ (s : Stmt). take i items ++ s ∷ []) (sym e)) ∙ map-append plain_stmt (take i items) (item ∷ []))))))
 
 before-is : (xs ys : List PlainStmt) → put_before xs (body_of ys) ≡ body_of (xs ++ ys)
 before-is [] ys = refl
@@ -30,18 +18,12 @@ pub body-is : (split : Split) (xs : List PlainStmt) → factored_body split (bod
 body-is split [] = refl
 body-is split (x ∷ xs) = ap (put_before (factored_stmt split x)) (body-is split xs) ∙ before-is (factored_stmt split x) (flat_map (factored_stmt split) xs)
 
-pub take-all : (n : ℕ) (xs : List Stmt) → length xs ≤ n → take n xs ≡ xs
-take-all zero [] le = refl
-take-all (suc n) [] le = refl
-take-all zero (x ∷ xs) le = absurd (omega arith)
-take-all (suc n) (x ∷ xs) le = ap (λ ys. x ∷ ys) (take-all n xs (omega arith))
-
 -- a body whose statements have been pushed
 pub body-pushed : (split : Split) (i : ℕ) (items : List Stmt) (made : List Stmt) → length items ≤ i →
     plain_stmts made ≡ flat_map (factored_stmt split) (plain_stmts (take i items)) →
     plain_body made ≡ factored_body split (plain_body items)
 body-pushed split i items made whole is =
-    ap body_of (is ∙ ap (λ xs. flat_map (factored_stmt split) (plain_stmts xs)) (take-all i items whole)) ∙ sym (body-is split (plain_stmts items))
+    ap body_of (is ∙ ap (λ xs. flat_map (factored_stmt split) (plain_stmts xs)) (take_all i items whole)) ∙ sym (body-is split (plain_stmts items))
 
 -- a loop of such a body
 pub loop-pushed : (split : Split) (count : ℕ) (inside body : Vec Stmt Global) (stmt : Stmt) (before after : List Stmt) →

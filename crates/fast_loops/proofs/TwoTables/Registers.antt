@@ -1,31 +1,22 @@
 -- Registers with one more behind them.
-use Rattle.std.proofs.Common.{◌≡◌, ℕ, zero, suc, ◌+◌, ◌*◌, ◌%◌, ◌<◌, ◌≤◌, List, [], ◌∷◌, ◌++◌, map, flat_map, length}
-use Rattle.std.proofs.Common.{refl, sym, ap, ap₂, ◌∙◌, arith, mul-le-mul_left, mul_comm}
-use Rattle.std.specs.Prelude.{slice_index, slice_get, slice_set}
-use Rattle.std.specs.List.{range_with_len}
+use Rattle.std.proofs.Common.{◌≡◌, ℕ, zero, suc, ◌+◌, ◌*◌, ◌%◌, ◌<◌, ◌≤◌, List, [], ◌∷◌, map, length}
+use Rattle.std.proofs.Common.{refl, sym, ap, ap₂, ◌∙◌, arith}
+use Rattle.std.specs.Prelude.{replicate, slice_index, slice_get, slice_set}
 use Rattle.std.proofs.Math.Nat.{mod-mod, mul_assoc}
+use Rattle.std.proofs.lemmas.List.{length-replicate}
 use Rattle.ring_mod.specs.Residue.{sum_mod, difference_mod, negation_mod, product_mod}
 use Rattle.ring_mod.proofs.Congruence.{same-mul}
 use Rattle.icode.specs.declared.action.Action.{Action}
 use Rattle.icode.specs.declared.action.Action.TheVariants.{Load, Store, Zero, Add, Sub, Neg, Mul, Tile}
 use Rattle.icode.specs.Actions.{RegistersFit}
 use Rattle.icode.specs.Machine.{Local, effect, memory_after, value_put, register_put, register_of, words_at, with_words}
-use Rattle.icode.specs.Machine.{lane_by_lane, transposed}
-use Rattle.icode.proofs.Words.{slice_index-agree, words_at-agree, with_words-agree, with_words-other, length-words_at}
+use Rattle.icode.specs.Machine.{lane_by_lane}
+use Rattle.icode.proofs.Words.{with_words-agree, with_words-other, length-words_at}
 use Rattle.icode.proofs.CodeLaws.ByLane.{length-registers_after}
 use Rattle.icode.proofs.CodeLaws.Placing.{length-lane_by_lane, length-slice_set, with_words_there}
+use Rattle.fast_loops.proofs.Independent.{register_agrees, tile_agrees}
 
 -- ---- lists
-
-map-same : (f g : ℕ → ℕ) (a n : ℕ) → ((i : ℕ) → i < a + n → f i ≡ g i) →
-    map f (range_with_len a n) ≡ map g (range_with_len a n)
-map-same f g a zero h = refl
-map-same f g a (suc n) h = ap₂ (λ x xs. x ∷ xs) (h a (omega arith)) (map-same f g (a + 1) n (λ i lt. h i (omega arith)))
-
-flat_map-same : (f g : ℕ → List ℕ) (a n : ℕ) → ((i : ℕ) → i < a + n → f i ≡ g i) →
-    flat_map f (range_with_len a n) ≡ flat_map g (range_with_len a n)
-flat_map-same f g a zero h = refl
-flat_map-same f g a (suc n) h = ap₂ (λ x xs. x ++ xs) (h a (omega arith)) (flat_map-same f g (a + 1) n (λ i lt. h i (omega arith)))
 
 -- what is written stands there
 words_back : (vs xs : List ℕ) (i : ℕ) → i + length vs ≤ length xs → words_at (length vs) (with_words xs i vs) i ≡ vs
@@ -56,34 +47,36 @@ lanes_twice m (w ∷ ws) (x ∷ fa) (y ∷ fb) (z ∷ ft) a b t each =
     ap₂ (λ v vs. v ∷ vs) (product_twice m w x y z (each 0 (omega arith)))
     (lanes_twice m ws fa fb ft (omega arith) (omega arith) (omega arith) (λ l lt. each (suc l) (omega arith)))
 
+-- the words of so many registers, and room for one more behind them
+pub record HaveOneMore (lanes regs : ℕ) (more few : List ℕ) : Type 0 where
+  pub below : (k : ℕ) → k < regs * lanes → slice_get more k ≡ slice_get few k
+  pub room : regs * lanes + lanes ≤ length more
+
+-- registers in which nothing has been put
+pub one-more-first : (lanes regs : ℕ) → HaveOneMore lanes regs (replicate ((regs + 1) * lanes) 0)
+    (replicate (regs * lanes) 0)
+one-more-first lanes regs =
+    let words : (regs + 1) * lanes ≡ regs * lanes + lanes = omega arith in
+    record {
+      below = λ k lt. zeros-agree ((regs + 1) * lanes) (regs * lanes) k (omega (arith, words, lt)) lt;
+      room = let long = length-replicate {A = ℕ} ((regs + 1) * lanes) 0 in omega (arith, words, long);
+    }
+  where
+    zeros-agree : (m n k : ℕ) → k < m → k < n → slice_get {X = ℕ} (replicate m 0) k ≡ slice_get {X = ℕ} (replicate n 0) k
+    zeros-agree zero n k low high = absurd (omega arith)
+    zeros-agree (suc m) zero k low high = absurd (omega arith)
+    zeros-agree (suc m) (suc n) zero low high = refl
+    zeros-agree (suc m) (suc n) (suc k) low high = zeros-agree m n k (omega arith) (omega arith)
+
 module _ (m lanes regs : ℕ) where
-  -- the same memory, and the same words in all registers but one more
+  -- the same memory too
   pub record AreLike (s t : Local) : Type 0 where
     pub memory : t.memory ≡ s.memory
-    pub below : (k : ℕ) → k < regs * lanes → slice_get t.registers k ≡ slice_get s.registers k
-    pub room : regs * lanes + lanes ≤ length t.registers
-
-  inside : (r : ℕ) → r < regs → r * lanes + lanes ≤ regs * lanes
-  inside r lt =
-      let a = mul-le-mul_left lanes lt in
-      let b : lanes * (r + 1) ≡ r * lanes + lanes = omega arith in
-      let c = mul_comm lanes regs in
-      omega (arith, a, b, c)
+    pub registers : HaveOneMore lanes regs t.registers s.registers
 
   register_same : (s t : Local) (r : ℕ) → r < regs → AreLike s t →
       register_of lanes t.registers r ≡ register_of lanes s.registers r
-  register_same s t r lt like =
-      words_at-agree lanes t.registers s.registers (r * lanes) (λ k low high. like.below k (let a = inside r lt in omega (arith, a, high)))
-
-  tile_same : (s t : Local) (x : ℕ) → x + lanes ≤ regs → AreLike s t →
-      transposed lanes t.registers x ≡ transposed lanes s.registers x
-  tile_same s t x lt like =
-      flat_map-same (λ k. map (λ l. slice_index t.registers ((x + l) * lanes + k)) (range_with_len 0 lanes))
-      (λ k. map (λ l. slice_index s.registers ((x + l) * lanes + k)) (range_with_len 0 lanes)) 0 lanes
-      (λ k small.
-      map-same (λ l. slice_index t.registers ((x + l) * lanes + k)) (λ l. slice_index s.registers ((x + l) * lanes + k)) 0 lanes
-      (λ l low. slice_index-agree t.registers s.registers ((x + l) * lanes + k)
-      (like.below ((x + l) * lanes + k) (let a = inside (x + l) (omega arith) in omega (arith, a, small)))))
+  register_same s t r lt like = register_agrees lanes regs t.registers s.registers like.registers.below r lt
 
   value_same : (a : Action) (s t : Local) → RegistersFit regs lanes a → AreLike s t →
       value_put m lanes a t ≡ value_put m lanes a s
@@ -97,18 +90,12 @@ module _ (m lanes regs : ℕ) where
   value_same (Neg r x) s t fit like = ap (map (negation_mod m)) (register_same s t x fit.1 like)
   value_same (Mul r x factors) s t fit like =
       ap (λ ws. lane_by_lane (product_mod m) ws factors) (register_same s t x fit.1 like)
-  value_same (Tile r x) s t fit like = tile_same s t x fit.1 like
+  value_same (Tile r x) s t fit like = tile_agrees lanes regs t.registers s.registers like.registers.below x fit.1
 
   memory_same : (a : Action) (s t : Local) → RegistersFit regs lanes a → AreLike s t →
       memory_after lanes a t ≡ memory_after lanes a s
   memory_same (Store address r) s t fit like = ap₂ (λ memory ws. with_words memory address ws) like.memory (register_same s t r fit like)
-  memory_same (Load r address) s t fit like = like.memory
-  memory_same (Zero r) s t fit like = like.memory
-  memory_same (Add r x y) s t fit like = like.memory
-  memory_same (Sub r x y) s t fit like = like.memory
-  memory_same (Neg r x) s t fit like = like.memory
-  memory_same (Mul r x factors) s t fit like = like.memory
-  memory_same (Tile r x) s t fit like = like.memory
+  memory_same _ s t fit like = like.memory
 
   -- an action that names none but the first registers
   pub like_after : (a : Action) (s t : Local) → RegistersFit regs lanes a → AreLike s t →
@@ -118,10 +105,13 @@ module _ (m lanes regs : ℕ) where
       let size = length-registers_after m lanes a t in
       record {
         memory = memory_same a s t fit like;
-        below = λ k lt.
-            ap (λ vs. slice_get (with_words t.registers at vs) k) (value_same a s t fit like)
-            ∙ with_words-agree (value_put m lanes a s) t.registers s.registers at k (like.below k lt);
-        room = let r = like.room in omega (arith, size, r);
+        registers =
+            record {
+              below = λ k lt.
+                  ap (λ vs. slice_get (with_words t.registers at vs) k) (value_same a s t fit like)
+                  ∙ with_words-agree (value_put m lanes a s) t.registers s.registers at k (like.registers.below k lt);
+              room = let r = like.registers.room in omega (arith, size, r);
+            };
       }
 
   -- one product, and two by way of the register behind them
@@ -136,7 +126,7 @@ module _ (m lanes regs : ℕ) where
       let v_wide : length v ≡ lanes = length-lane_by_lane (product_mod m) ws fa (omega (arith, wide, a)) ∙ wide in
       let t1 = effect m lanes (Mul regs x fa) t in
       let size : length t1.registers ≡ length t.registers = length-registers_after m lanes (Mul regs x fa) t in
-      let room = like.room in
+      let room = like.registers.room in
       let back : register_of lanes t1.registers regs ≡ v =
       ap (λ n. words_at n t1.registers (regs * lanes)) (sym v_wide) ∙ words_back v t.registers (regs * lanes) (omega (arith, v_wide, room)) in
       let value : lane_by_lane (product_mod m) (register_of lanes t1.registers regs) fb ≡ lane_by_lane (product_mod m) (register_of lanes s.registers x) ft =
@@ -146,9 +136,14 @@ module _ (m lanes regs : ℕ) where
       let size_too = length-registers_after m lanes (Mul r regs fb) t1 in
       record {
         memory = like.memory;
-        below = λ k lt.
-            ap (λ vs. slice_get (with_words t1.registers (r * lanes) vs) k) value
-            ∙ with_words-agree (lane_by_lane (product_mod m) (register_of lanes s.registers x) ft) t1.registers s.registers (r * lanes) k
-            (with_words-other v t.registers (regs * lanes) k (λ from to. omega (arith, from, lt)) ∙ like.below k lt);
-        room = omega (arith, size_too, size, room);
+        registers =
+            record {
+              below = λ k lt.
+                  ap (λ vs. slice_get (with_words t1.registers (r * lanes) vs) k) value
+                  ∙ with_words-agree (lane_by_lane (product_mod m) (register_of lanes s.registers x) ft) t1.registers
+                  s.registers (r * lanes) k
+                  (with_words-other v t.registers (regs * lanes) k (λ from to. omega (arith, from, lt))
+                  ∙ like.registers.below k lt);
+              room = omega (arith, size_too, size, room);
+            };
       }

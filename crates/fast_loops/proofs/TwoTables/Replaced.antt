@@ -1,5 +1,5 @@
 -- Steps in place of others, where registers have one more behind them.
-use Rattle.std.proofs.Common.{◌≡◌, ℕ, zero, suc, ◌+◌, ◌*◌, ◌<◌, ◌≤◌, List, [], ◌∷◌, ◌++◌, All, flat_map, length, refl}
+use Rattle.std.proofs.Common.{◌≡◌, ℕ, ◌+◌, ◌*◌, ◌<◌, ◌≤◌, List, [], ◌++◌, All, flat_map, length, refl}
 use Rattle.std.proofs.Common.{sym, ap, ap₂, ◌∙◌, subst, arith, length-append}
 use Rattle.std.specs.List.{range_with_len}
 use Rattle.std.proofs.lemmas.List.Concat.{flat_map-append}
@@ -10,11 +10,9 @@ use Rattle.icode.specs.Actions.{Step, StepFits, actions_of}
 use Rattle.icode.specs.Machine.{Local, effects}
 use Rattle.icode.specs.Plain.{PlainProgram}
 use Rattle.icode.proofs.Phase.{effects-append}
+use Rattle.fast_loops.proofs.Changes.{actions_of-append}
+use Rattle.fast_loops.proofs.Same.{in-loops}
 use Rattle.fast_loops.proofs.TwoTables.Registers.{AreLike}
-
-actions_of-append : (xs ys : List Step) → actions_of (xs ++ ys) ≡ actions_of xs ++ actions_of ys
-actions_of-append [] ys = refl
-actions_of-append (x ∷ xs) ys = ap (λ zs. x.action ∷ zs) (actions_of-append xs ys)
 
 -- words of actions that products have none of
 abbrev pub IsOfOthers : (Action → List ℕ) → Type 0
@@ -53,7 +51,4 @@ module _ (p q : PlainProgram) where
 
   pub for-loop : (f g : ℕ → List Step) (a n : ℕ) → ((i : ℕ) → a ≤ i → i < a + n → AreFor (f i) (g i)) →
       AreFor (flat_map f (range_with_len a n)) (flat_map g (range_with_len a n))
-  for-loop f g a zero h = for-none
-  for-loop f g a (suc n) h =
-      for-append (f a) (g a) (flat_map f (range_with_len (a + 1) n)) (flat_map g (range_with_len (a + 1) n)) (h a (omega arith) (omega arith))
-      (for-loop f g (a + 1) n (λ i low high. h i (omega arith) (omega arith)))
+  for-loop = in-loops AreFor for-none for-append

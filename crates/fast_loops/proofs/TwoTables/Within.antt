@@ -1,49 +1,44 @@
 -- A program with a table in two factors is within the limits of programs.
-use Rattle.std.proofs.Common.{◌≡◌, ℕ, zero, suc, ◌+◌, ◌≤◌, ◌&&◌, Bool, true, false, List, [], ◌∷◌, ◌++◌, map, length}
-use Rattle.std.proofs.Common.{refl, sym, ap, ap₂, ◌∙◌, arith, eqb-true, lt-ltb, le-leb, ⊎_elim}
+use Rattle.std.proofs.Common.{◌≡◌, ℕ, zero, suc, ◌+◌, ◌≤◌, ◌&&◌, Bool, true, false, List, [], ◌∷◌, ◌++◌, map}
+use Rattle.std.proofs.Common.{refl, sym, ap, ap₂, ◌∙◌, arith, eqb-true, le-leb, ⊎_elim}
 use Rattle.std.specs.Prelude.{nat_lt, nat_le, max, ◌==◌, ◌%◌, slice_set, if◌then◌else◌}
 use Rattle.std.specs.List.{list_all}
-use Rattle.std.proofs.lemmas.Bool.{cases_Bool}
+use Rattle.std.proofs.lemmas.Bool.{cases_Bool, and_from}
 use Rattle.icode.specs.Limits.{is_small, is_small_positive, is_sum_within, sum_parts, all_parts, sum_depth, parts_depth}
 use Rattle.icode.specs.Limits.{is_expr_within, is_op_within, is_stmt_within, is_body_within, are_tables_within}
 use Rattle.icode.specs.Limits.{are_phases_within}
 use Rattle.icode.specs.Plain.{PlainExpr, PlainParts, PlainOp, PlainStmt, PlainBody, Sum, NoParts, AndParts, Proc, Var}
-use Rattle.icode.specs.Plain.{Product, Rem, Quot, Load, Store, Zero, Add, Sub, Neg, MulConst, MulTable, Tile, Loop, Do}
+use Rattle.icode.specs.Plain.{Product, MulTable, Loop, Do}
 use Rattle.icode.specs.Plain.{NoStmts, AndStmts}
 use Rattle.icode.proofs.Bools.{both_true}
 use Rattle.fast_loops.specs.TwoTables.Factors.{Cut, is_table}
 use Rattle.fast_loops.specs.TwoTables.Places.{are_even, is_even, quotient_by, place_in_first, place_in_second}
 use Rattle.fast_loops.specs.TwoTables.TwoTables.{Split, factored_op, two_products, put_before, factored_stmt}
 use Rattle.fast_loops.specs.TwoTables.TwoTables.{factored_body, is_op_even, is_stmt_even, is_body_even}
-
-pub and_is : (a b : Bool) → a ≡ true → b ≡ true → (a && b) ≡ true
-and_is a b one two = ap₂ (λ x y. x && y) one two
+use Rattle.fast_loops.proofs.Phases.{all-within}
 
 -- ---- places
 
-even_count : (lanes room : ℕ) (parts : PlainParts) → are_even lanes room parts ≡ true → all_parts parts ≤ room
-even_count lanes room NoParts h = omega arith
-even_count lanes zero (AndParts part rest) h = cc
-even_count lanes (suc room) (AndParts (Proc factor) rest) h = let r = even_count lanes room rest (both_true (factor % lanes == 0) _ h).1 in omega (arith, r)
-even_count lanes (suc room) (AndParts (Var depth factor) rest) h = let r = even_count lanes room rest (both_true (factor % lanes == 0) _ h).1 in omega (arith, r)
-even_count lanes (suc room) (AndParts (Product outer inner factor) rest) h = let r = even_count lanes room rest (both_true (factor % lanes == 0) _ h).1 in omega (arith, r)
-even_count lanes (suc room) (AndParts (Rem of divisor factor) rest) h = cc
-even_count lanes (suc room) (AndParts (Quot of divisor factor) rest) h = cc
+-- the parts fit into the room that there is, and have no parentheses
+one_more : (room : ℕ) (rest : PlainParts) → (all_parts rest ≤ room) × (parts_depth rest ≡ 0) →
+    (1 + all_parts rest ≤ suc room) × (max 0 (parts_depth rest) ≡ 0)
+one_more room rest (few, flat) = (omega (arith, few), ap (max 0) flat)
 
-even_depth : (lanes room : ℕ) (parts : PlainParts) → are_even lanes room parts ≡ true → parts_depth parts ≡ 0
-even_depth lanes room NoParts h = refl
-even_depth lanes zero (AndParts part rest) h = cc
-even_depth lanes (suc room) (AndParts (Proc factor) rest) h = ap (max 0) (even_depth lanes room rest (both_true (factor % lanes == 0) _ h).1)
-even_depth lanes (suc room) (AndParts (Var depth factor) rest) h = ap (max 0) (even_depth lanes room rest (both_true (factor % lanes == 0) _ h).1)
-even_depth lanes (suc room) (AndParts (Product outer inner factor) rest) h = ap (max 0) (even_depth lanes room rest (both_true (factor % lanes == 0) _ h).1)
-even_depth lanes (suc room) (AndParts (Rem of divisor factor) rest) h = cc
-even_depth lanes (suc room) (AndParts (Quot of divisor factor) rest) h = cc
+even_parts : (lanes room : ℕ) (parts : PlainParts) → are_even lanes room parts ≡ true →
+    (all_parts parts ≤ room) × (parts_depth parts ≡ 0)
+even_parts lanes room NoParts h = (omega arith, refl)
+even_parts lanes zero (AndParts part rest) h = cc
+even_parts lanes (suc room) (AndParts (Proc factor) rest) h =
+    one_more room rest (even_parts lanes room rest (both_true (factor % lanes == 0) _ h).1)
+even_parts lanes (suc room) (AndParts (Var depth factor) rest) h =
+    one_more room rest (even_parts lanes room rest (both_true (factor % lanes == 0) _ h).1)
+even_parts lanes (suc room) (AndParts (Product outer inner factor) rest) h =
+    one_more room rest (even_parts lanes room rest (both_true (factor % lanes == 0) _ h).1)
+even_parts lanes (suc room) (AndParts part rest) h = cc
 
-place_count : (lanes : ℕ) (place : PlainExpr) → is_even lanes place ≡ true → sum_parts place ≤ 30
-place_count lanes (Sum constant parts) h = even_count lanes 30 parts (both_true (constant % lanes == 0) _ h).1
-
-place_depth : (lanes : ℕ) (place : PlainExpr) → is_even lanes place ≡ true → sum_depth place ≡ 0
-place_depth lanes (Sum constant parts) h = even_depth lanes 30 parts (both_true (constant % lanes == 0) _ h).1
+even_place : (lanes : ℕ) (place : PlainExpr) → is_even lanes place ≡ true →
+    (sum_parts place ≤ 30) × (sum_depth place ≡ 0)
+even_place lanes (Sum constant parts) h = even_parts lanes 30 parts (both_true (constant % lanes == 0) _ h).1
 
 quotient_within : (place : PlainExpr) (divisor n : ℕ) → is_sum_within place n ≡ true →
     is_small_positive divisor ≡ true → is_sum_within (quotient_by place divisor) n ≡ true
@@ -54,26 +49,26 @@ first_within : (lanes : ℕ) (cut : Cut) (place : PlainExpr) (n : ℕ) → is_sm
     is_even lanes place ≡ true → is_expr_within place n ≡ true → is_expr_within (place_in_first cut place) n ≡ true
 first_within lanes cut place n wide even h =
     let two = both_true (is_sum_within place n) _ h in
-    let few = place_count lanes place even in
-    and_is (is_sum_within (place_in_first cut place) n) _ (quotient_within place cut.width n two.0 wide)
-    (and_is (nat_le (1 + sum_parts place + 0) 64) (nat_le (max (1 + sum_depth place) 0) 64)
-    (le-leb (1 + sum_parts place + 0) 64 (omega (arith, few)))
-    (ap (λ d. nat_le (max (1 + d) 0) 64) (place_depth lanes place even)))
+    let flat = even_place lanes place even in
+    and_from (is_sum_within (place_in_first cut place) n) _ (quotient_within place cut.width n two.0 wide)
+    (and_from (nat_le (1 + sum_parts place + 0) 64) (nat_le (max (1 + sum_depth place) 0) 64)
+    (le-leb (1 + sum_parts place + 0) 64 (omega (arith, flat)))
+    (ap (λ d. nat_le (max (1 + d) 0) 64) flat.1))
 
 second_within : (lanes : ℕ) (cut : Cut) (place : PlainExpr) (n : ℕ) → is_small_positive cut.width ≡ true →
     is_small_positive cut.across ≡ true → is_even lanes place ≡ true → is_expr_within place n ≡ true →
     is_expr_within (place_in_second cut place) n ≡ true
 second_within lanes cut place n wide across even h =
     let two = both_true (is_sum_within place n) _ h in
-    let few = place_count lanes place even in
+    let flat = even_place lanes place even in
     let block = quotient_within place cut.width n two.0 wide in
-    and_is (is_sum_within (place_in_second cut place) n) _
-    (and_is (is_sum_within place n && (is_small_positive cut.width && true)) ((is_sum_within (quotient_by place cut.width) n && (is_small_positive cut.across && is_small_positive cut.width)) && true)
+    and_from (is_sum_within (place_in_second cut place) n) _
+    (and_from (is_sum_within place n && (is_small_positive cut.width && true)) ((is_sum_within (quotient_by place cut.width) n && (is_small_positive cut.across && is_small_positive cut.width)) && true)
     (ap₂ (λ a b. a && (b && true)) two.0 wide)
-    (ap₂ (λ a b. (a && b) && true) block (and_is (is_small_positive cut.across) (is_small_positive cut.width) across wide)))
-    (and_is (nat_le (sum_parts (place_in_second cut place)) 64) (nat_le (sum_depth (place_in_second cut place)) 64)
-    (le-leb (1 + sum_parts place + (1 + (1 + sum_parts place + 0) + 0)) 64 (omega (arith, few)))
-    (ap (λ d. nat_le (max (1 + d) (max (1 + max (1 + d) 0) 0)) 64) (place_depth lanes place even)))
+    (ap₂ (λ a b. (a && b) && true) block (and_from (is_small_positive cut.across) (is_small_positive cut.width) across wide)))
+    (and_from (nat_le (sum_parts (place_in_second cut place)) 64) (nat_le (sum_depth (place_in_second cut place)) 64)
+    (le-leb (1 + sum_parts place + (1 + (1 + sum_parts place + 0) + 0)) 64 (omega (arith, flat)))
+    (ap (λ d. nat_le (max (1 + d) (max (1 + max (1 + d) 0) 0)) 64) flat.1))
 
 -- ---- statements
 
@@ -83,7 +78,7 @@ before_within : (m n : ℕ) (stmts : List PlainStmt) (body : PlainBody) →
 before_within m n [] body h k = k
 before_within m n (stmt ∷ stmts) body h k =
     let two = both_true (is_stmt_within m stmt n) _ h in
-    and_is (is_stmt_within m stmt n) _ two.0 (before_within m n stmts body two.1 k)
+    and_from (is_stmt_within m stmt n) _ two.0 (before_within m n stmts body two.1 k)
 
 module _ (m lanes : ℕ) (split : Split) (register : is_small split.register ≡ true) (second : is_small split.second ≡ true)
     (wide : is_small_positive split.cut.width ≡ true) (across : is_small_positive split.cut.across ≡ true) where
@@ -91,7 +86,7 @@ module _ (m lanes : ℕ) (split : Split) (register : is_small split.register ≡
   all n stmts = list_all (λ s. is_stmt_within m s n) stmts
 
   alone : (op : PlainOp) (n : ℕ) → is_op_within m op n ≡ true → all n (Do op ∷ []) ≡ true
-  alone op n h = and_is (is_op_within m op n) true h refl
+  alone op n h = and_from (is_op_within m op n) true h refl
 
   products_within : (r x of step n : ℕ) (place : PlainExpr) → of ≡ split.table → is_even lanes place ≡ true →
       is_op_within m (MulTable r x of place step) n ≡ true →
@@ -103,22 +98,14 @@ module _ (m lanes : ℕ) (split : Split) (register : is_small split.register ≡
       let d = both_true (nat_lt step 2) _ c.1 in
       let one = first_within lanes split.cut place n wide even d.1 in
       let two = second_within lanes split.cut place n wide across even d.1 in
-      and_is (is_op_within m (MulTable split.register x split.table (place_in_first split.cut place) 0) n) _
-      (and_is (is_small split.register) _ register (and_is (is_small x) _ b.0 (and_is (is_small split.table) _ (ap is_small (sym e) ∙ c.0) one)))
-      (and_is (is_op_within m (MulTable r split.register split.second (place_in_second split.cut place) step) n) true
-      (and_is (is_small r) _ a.0 (and_is (is_small split.register) _ register (and_is (is_small split.second) _ second (and_is (nat_lt step 2) _ d.0 two))))
+      and_from (is_op_within m (MulTable split.register x split.table (place_in_first split.cut place) 0) n) _
+      (and_from (is_small split.register) _ register (and_from (is_small x) _ b.0 (and_from (is_small split.table) _ (ap is_small (sym e) ∙ c.0) one)))
+      (and_from (is_op_within m (MulTable r split.register split.second (place_in_second split.cut place) step) n) true
+      (and_from (is_small r) _ a.0 (and_from (is_small split.register) _ register (and_from (is_small split.second) _ second (and_from (nat_lt step 2) _ d.0 two))))
       refl)
 
   op_within : (op : PlainOp) (n : ℕ) → is_op_even lanes split.table op ≡ true → is_op_within m op n ≡ true →
       all n (factored_op split op) ≡ true
-  op_within (Load r array place) n even h = alone (Load r array place) n h
-  op_within (Store array place r) n even h = alone (Store array place r) n h
-  op_within (Zero r) n even h = alone (Zero r) n h
-  op_within (Add r x y) n even h = alone (Add r x y) n h
-  op_within (Sub r x y) n even h = alone (Sub r x y) n h
-  op_within (Neg r x) n even h = alone (Neg r x) n h
-  op_within (MulConst r x factor) n even h = alone (MulConst r x factor) n h
-  op_within (Tile r x) n even h = alone (Tile r x) n h
   op_within (MulTable r x of place step) n even h =
       ⊎_elim
       (λ (same : (of == split.table) ≡ true).
@@ -130,6 +117,7 @@ module _ (m lanes : ℕ) (split : Split) (register : is_small split.register ≡
     where
       chosen : Bool → List PlainStmt
       chosen b = if b then two_products split (MulTable r x of place step) else Do (MulTable r x of place step) ∷ []
+  op_within op n even h = alone op n h
 
   mutual
     stmt_within : (stmt : PlainStmt) (n : ℕ) → is_stmt_even lanes split.table stmt ≡ true →
@@ -137,8 +125,8 @@ module _ (m lanes : ℕ) (split : Split) (register : is_small split.register ≡
     stmt_within (Loop count body) n even h =
         let a = both_true (is_small_positive count) _ h in
         let b = both_true (nat_lt n 64) _ a.1 in
-        and_is (is_stmt_within m (Loop count (factored_body split body)) n) true
-        (and_is (is_small_positive count) _ a.0 (and_is (nat_lt n 64) _ b.0 (body_within body (n + 1) even b.1))) refl
+        and_from (is_stmt_within m (Loop count (factored_body split body)) n) true
+        (and_from (is_small_positive count) _ a.0 (and_from (nat_lt n 64) _ b.0 (body_within body (n + 1) even b.1))) refl
     stmt_within (Do op) n even h = op_within op n even h
 
     body_within : (body : PlainBody) (n : ℕ) → is_body_even lanes split.table body ≡ true →
@@ -149,36 +137,23 @@ module _ (m lanes : ℕ) (split : Split) (register : is_small split.register ≡
         let b = both_true (is_stmt_within m stmt n) _ h in
         before_within m n (factored_stmt split stmt) (factored_body split rest) (stmt_within stmt n a.0 b.0) (body_within rest n a.1 b.1)
 
-  bodies_within : (bodies : List PlainBody) → list_all (is_body_even lanes split.table) bodies ≡ true →
-      list_all (λ body. is_body_within m body 0) bodies ≡ true →
-      list_all (λ body. is_body_within m body 0) (map (factored_body split) bodies) ≡ true
-  bodies_within [] even h = refl
-  bodies_within (body ∷ bodies) even h =
-      let a = both_true (is_body_even lanes split.table body) _ even in
-      let b = both_true (is_body_within m body 0) _ h in
-      and_is (is_body_within m (factored_body split body) 0) _ (body_within body 0 a.0 b.0) (bodies_within bodies a.1 b.1)
-
   pub phases_within : (bodies : List PlainBody) → list_all (is_body_even lanes split.table) bodies ≡ true →
-      are_phases_within m bodies ≡ true →
-      are_phases_within m (map (factored_body split) bodies) ≡ true
-  phases_within [] even h = h
-  phases_within (body ∷ bodies) even h =
-      and_is (nat_lt 0 (length (map (factored_body split) (body ∷ bodies)))) _
-      (lt-ltb 0 (suc (length (map (factored_body split) bodies))) (omega arith))
-      (bodies_within (body ∷ bodies) even (both_true (nat_lt 0 (length (body ∷ bodies))) _ h).1)
+      are_phases_within m bodies ≡ true → are_phases_within m (map (factored_body split) bodies) ≡ true
+  phases_within =
+      all-within m (factored_body split) (is_body_even lanes split.table) (λ body even within. body_within body 0 even within)
 
 -- ---- tables
 
 pub tables_within : (m : ℕ) (tables : List (List ℕ)) (k : ℕ) (first second : List ℕ) →
     are_tables_within m tables ≡ true → is_table m first ≡ true → is_table m second ≡ true →
     are_tables_within m (slice_set tables k first ++ second ∷ []) ≡ true
-tables_within m [] k first second h one two = and_is (is_table m second) true two refl
+tables_within m [] k first second h one two = and_from (is_table m second) true two refl
 tables_within m (entries ∷ tables) zero first second h one two =
-    and_is (is_table m first) _ one (behind tables (both_true (is_table m entries) _ h).1)
+    and_from (is_table m first) _ one (behind tables (both_true (is_table m entries) _ h).1)
   where
     behind : (tables : List (List ℕ)) → are_tables_within m tables ≡ true →
         are_tables_within m (tables ++ second ∷ []) ≡ true
-    behind [] h = and_is (is_table m second) true two refl
-    behind (entries ∷ tables) h = let a = both_true (is_table m entries) _ h in and_is (is_table m entries) _ a.0 (behind tables a.1)
+    behind [] h = and_from (is_table m second) true two refl
+    behind (entries ∷ tables) h = let a = both_true (is_table m entries) _ h in and_from (is_table m entries) _ a.0 (behind tables a.1)
 tables_within m (entries ∷ tables) (suc k) first second h one two =
-    let a = both_true (is_table m entries) _ h in and_is (is_table m entries) _ a.0 (tables_within m tables k first second a.1 one two)
+    let a = both_true (is_table m entries) _ h in and_from (is_table m entries) _ a.0 (tables_within m tables k first second a.1 one two)

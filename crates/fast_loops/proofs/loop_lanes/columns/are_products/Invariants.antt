@@ -1,4 +1,4 @@
-use Rattle.std.proofs.Common.{◌≡◌, ◌≤◌, drop}
+use Rattle.std.proofs.Common.{◌≡◌, drop}
 use Rattle.fast_loops.specs.LoopLanes.Columns.{are_products}
 use Rattle.fast_loops.specs.LoopLanes.View.{plain_factors, plain_ops}
 use Rattle.fast_loops.proofs.loop_lanes.columns.are_products.Given as goal

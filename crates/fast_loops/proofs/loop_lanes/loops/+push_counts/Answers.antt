@@ -1,6 +1,4 @@
 use Rattle.std.proofs.Common.{◌++◌, ◌∙◌, sym, ap, append-nil}
-use Rattle.icode.specs.Plain.{plain_body}
-use Rattle.fast_loops.specs.Interchange.{counts_in}
 use Rattle.fast_loops.proofs.Alone.{others-counts, op-counts}
 use Rattle.fast_loops.proofs.loop_lanes.loops.+push_counts.Goals as goal
 

@@ -1,4 +1,4 @@
-use Rattle.std.proofs.Common.{List, [], ◌∷◌}
+use Rattle.std.proofs.Common.{[], ◌∷◌}
 use Rattle.icode.specs.Plain.{Tile}
 use Rattle.fast_loops.specs.LoopLanes.View.{plain_ops, row_of}
 use Rattle.fast_loops.proofs.LoopLanes.Made.{grown}

@@ -1,4 +1,4 @@
-use Rattle.std.proofs.Common.{List, []}
+use Rattle.std.proofs.Common.{[]}
 use Rattle.fast_loops.specs.LoopLanes.View.{plain_ops, tile_number}
 use Rattle.fast_loops.proofs.LoopLanes.Made.{grown}
 use Rattle.fast_loops.proofs.loop_lanes.tiles.push_tiles.Goals as goal
