@@ -1,5 +1,6 @@
 -- Reading line by line reads the texts of a language: what was read so far is the front of one.
-use Rattle.std.proofs.Common.{◌≡◌, ℕ, ◌-◌, ◌≤◌, ◌^◌, Bool, true, false, cond, ◌||◌, List, [], ◌∷◌, ◌++◌, length, take, Option, Some, None, Result, Ok, Err, refl, sym, ap, subst, ◌∙◌, append_assoc, arith}
+use Rattle.std.proofs.Common.{◌≡◌, ℕ, ◌-◌, ◌≤◌, ◌^◌, Bool, true, false, cond, ◌||◌, List, [], ◌∷◌, ◌++◌, length, take}
+use Rattle.std.proofs.Common.{Option, Some, None, Result, Ok, Err, refl, sym, ap, subst, ◌∙◌, append_assoc, arith}
 use Rattle.std.specs.List.{list_all}
 use Rattle.std.specs.Option.{option_map}
 use Rattle.std.proofs.lemmas.List.{append-nil, length-append}
@@ -9,12 +10,17 @@ use Rattle.grammar.specs.Grammar.{Begins}
 use Rattle.grammar.specs.Reading.{word_in, whole}
 use Rattle.listing_text.specs.declared.draft.Header.{Header}
 use Rattle.listing_text.specs.Wording.{Close, Wording, program_of, text_of}
-use Rattle.listing_text.specs.Drafts.{PlainDraft, blank, act_step, read_step, is_empty, table_step, entered, header_step}
-use Rattle.listing_text.specs.Progress.{Grammar, PlainProgress, free, owing, begin_text, phase_or_table, progress_step, begun, kept, step, draft_ends, finish}
+use Rattle.listing_text.specs.Drafts.{PlainDraft, blank, act_step, read_step, is_empty, table_step, entered}
+use Rattle.listing_text.specs.Drafts.{header_step}
+use Rattle.listing_text.specs.Progress.{Grammar, PlainProgress, free, owing, begin_text, phase_or_table, progress_step}
+use Rattle.listing_text.specs.Progress.{begun, kept, step, draft_ends, finish}
 use Rattle.listing_text.proofs.Owed.{word_is}
-use Rattle.listing_text.proofs.GoodDrafts.{GoodDraft, table_taken, closed_body, all-push, act_frame, good_act, good_table, good_entered, good_blank, blank_is, good_program, with_phase, with_ends}
+use Rattle.listing_text.proofs.GoodDrafts.{GoodDraft, table_taken, closed_body, all-push, act_frame, good_act}
+use Rattle.listing_text.proofs.GoodDrafts.{good_table, good_entered, good_blank, blank_is, good_program, with_phase}
+use Rattle.listing_text.proofs.GoodDrafts.{with_ends}
 use Rattle.listing_text.proofs.Languages.{IsLanguage}
-use Rattle.listing_text.proofs.NestTexts.{ends_lines, draft_text, phase_pushed, whole_text, act_grows, ends_behind, outside_is, text_blank, text_entered, table_grows}
+use Rattle.listing_text.proofs.NestTexts.{ends_lines, draft_text, phase_pushed, whole_text, act_grows, ends_behind}
+use Rattle.listing_text.proofs.NestTexts.{outside_is, text_blank, text_entered, table_grows}
 use Rattle.listing_text.proofs.NestReads.{some_pushed}
 
 -- the text is that of a program, which stays in its limits, and whose tables pass the test

@@ -5,7 +5,8 @@ use Rattle.icode.specs.Plain.{PlainPart, Proc, Var, Product, Rem, Quot}
 use Rattle.icode.specs.Limits.{is_small_positive, is_part_within, rank, next_rank}
 
 -- the rank of a part that names open loops is small
-pub rank_is_small : (p : PlainPart) (open_loops : ℕ) → is_part_within p open_loops ≡ true → open_loops ≤ 64 → (rank p < 2 ^ 32) × (next_rank p < 2 ^ 32)
+pub rank_is_small : (p : PlainPart) (open_loops : ℕ) → is_part_within p open_loops ≡ true → open_loops ≤ 64 →
+    (rank p < 2 ^ 32) × (next_rank p < 2 ^ 32)
 rank_is_small (Proc factor) n w few = (omega arith, omega arith)
 rank_is_small (Var depth factor) n w few =
     let below = ltb-true depth n (and_parts (ltb depth n) (is_small_positive factor) w).0 in

@@ -71,7 +71,8 @@ rough_under half a b pos =
         let eb = div-add-mod' b half in
         parts (a / half) (a % half) (b / half) (b % half) a b ea eb
       where
-        parts : (a1 a0 b1 b0 a b : ℕ) → a1 * half + a0 ≡ a → b1 * half + b0 ≡ b → (a1 * b1 + a1 * b0 / half + a0 * b1 / half) * (half * half) ≤ a * b
+        parts : (a1 a0 b1 b0 a b : ℕ) → a1 * half + a0 ≡ a → b1 * half + b0 ≡ b →
+            (a1 * b1 + a1 * b0 / half + a0 * b1 / half) * (half * half) ≤ a * b
         parts a1 a0 b1 b0 a b ea eb =
             let u = mul-le-mul_left half (div_under (a1 * b0) half) in
             let v = mul-le-mul_left half (div_under (a0 * b1) half) in
@@ -87,7 +88,8 @@ rough_over half a b pos =
     enough =
         parts (a / half) (a % half) (b / half) (b % half) a b (div-add-mod' a half) (div-add-mod' b half) (mod_below a half pos) (mod_below b half pos)
       where
-        parts : (a1 a0 b1 b0 a b : ℕ) → a1 * half + a0 ≡ a → b1 * half + b0 ≡ b → a0 < half → b0 < half → a * b < (a1 * b1 + a1 * b0 / half + a0 * b1 / half + 3) * (half * half)
+        parts : (a1 a0 b1 b0 a b : ℕ) → a1 * half + a0 ≡ a → b1 * half + b0 ≡ b → a0 < half → b0 < half →
+            a * b < (a1 * b1 + a1 * b0 / half + a0 * b1 / half + 3) * (half * half)
         parts a1 a0 b1 b0 a b ea eb sa sb =
             let pu : a1 * b0 ≤ (a1 * b0 / half + 1) * half = let s = div_over (a1 * b0) half pos in omega arith in
             let pv : a0 * b1 ≤ (a0 * b1 / half + 1) * half = let s = div_over (a0 * b1) half pos in omega arith in
@@ -97,7 +99,8 @@ rough_over half a b pos =
             let whole : a * b ≡ a1 * b1 * (half * half) + half * (a1 * b0) + half * (a0 * b1) + a0 * b0 = ap₂ (λ x y. x * y) (sym ea) (sym eb) ∙ omega arith in
             omega (arith, u, v, low, whole)
 
-high_is : (w : Width) (a b : ℕ) → 0 < w.half → (high_of w a b ≤ high (base_of w) a b) × (high (base_of w) a b + 2 ≤ high_of w a b + product_bound w)
+high_is : (w : Width) (a b : ℕ) → 0 < w.half → (high_of w a b ≤ high (base_of w) a b)
+    × (high (base_of w) a b + 2 ≤ high_of w a b + product_bound w)
 high_is w a b pos =
     elim w.rough as (λ r. (cond r (rough_high w.half a b) (high (base_of w) a b) ≤ high (base_of w) a b) × (high (base_of w) a b + 2 ≤ cond r (rough_high w.half a b) (high (base_of w) a b) + cond r 4 2)) [
       | true ↦ (rough_under w.half a b pos, let h = rough_over w.half a b pos in omega arith)
@@ -129,7 +132,8 @@ module _ (base m a c h bound : ℕ) (whole : 0 < base) (positive : 0 < m) (small
       cancel_lt (a * c) ((h + bound) * m) base (omega (arith, f2, f4, f5, positive))
 
 -- it is congruent to the product, and below so many times m
-pub product_word : (w : Width) (m a c q : ℕ) → 0 < w.half → 0 < m → product_bound w * m ≤ base_of w → a < base_of w → q ≡ quotient_of (base_of w) m c →
+pub product_word : (w : Width) (m a c q : ℕ) → 0 < w.half → 0 < m → product_bound w * m ≤ base_of w → a < base_of w →
+    q ≡ quotient_of (base_of w) m c →
     (product_mod m (a % m) c ≡ lazy_product w m a c q % m) × (lazy_product w m a c q < product_bound w * m)
 product_word w m a c q pos positive room small is =
     let base = base_of w in
@@ -171,7 +175,8 @@ turned m k b positive below =
         omega arith
 
 pub difference_word : (base m p k a b : ℕ) → 0 < m → p + k * m ≤ base → a < p → b < k * m →
-    (difference_mod m (a % m) (b % m) ≡ biased_difference base (k * m) a b % m) × (biased_difference base (k * m) a b < p + k * m)
+    (difference_mod m (a % m) (b % m) ≡ biased_difference base (k * m) a b % m)
+    × (biased_difference base (k * m) a b < p + k * m)
 difference_word base m p k a b positive room lp lq =
     let small : a + k * m < base = omega arith in
     let value : biased_difference base (k * m) a b ≡ a + (k * m - b) =

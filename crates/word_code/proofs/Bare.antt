@@ -37,13 +37,15 @@ module _ (z : Laziness) (h : Header) where
   phases_stay [] = refl
   phases_stay (body ∷ phases) = ap₂ (λ x xs. x ∷ xs) (body_stays body (loosest z h)) (phases_stay phases)
 
-alone_stays : (z : Laziness) (h : Header) (body : PlainBody) (bounds : List ℕ) → bare_body (quick_alone z h body bounds).body ≡ body
+alone_stays : (z : Laziness) (h : Header) (body : PlainBody) (bounds : List ℕ) →
+    bare_body (quick_alone z h body bounds).body ≡ body
 alone_stays z h plain.NoStmts bounds = refl
 alone_stays z h (plain.AndStmts stmt rest) bounds =
     let y = loosened z (needs (plain.AndStmts stmt rest)) in
     ap₂ plain.AndStmts (stmt_stays y h stmt bounds) (alone_stays z h rest (quick_stmt y h stmt bounds).bounds)
 
-all_stay : (z : Laziness) (h : Header) (procs : ℕ) (phases : List PlainBody) → map bare_body (quick_phases z h procs phases) ≡ phases
+all_stay : (z : Laziness) (h : Header) (procs : ℕ) (phases : List PlainBody) →
+    map bare_body (quick_phases z h procs phases) ≡ phases
 all_stay z h procs [] = refl
 all_stay z h procs (body ∷ []) = ap (λ b. b ∷ []) (either (nat_eq procs 1))
   where
@@ -57,7 +59,8 @@ bare_quickened z p = ap (with_bodies p) (all_stay z (header_of p) p.procs p.phas
 
 -- The actions on words are those of the operations
 
-action_is : (w : PlainWordProgram) (note : Note) (op : PlainOp) (vs : List ℕ) (q : ℕ) → (word_action_of w note op vs q).action ≡ (step_of (bare w) op vs q).action
+action_is : (w : PlainWordProgram) (note : Note) (op : PlainOp) (vs : List ℕ) (q : ℕ) →
+    (word_action_of w note op vs q).action ≡ (step_of (bare w) op vs q).action
 action_is w note (Load r array place) vs q = refl
 action_is w note (Store array place r) vs q = refl
 action_is w note (Zero r) vs q = refl
@@ -68,7 +71,8 @@ action_is w note (MulConst r x factor) vs q = refl
 action_is w note (MulTable r x table place step) vs q = refl
 action_is w note (Tile r x) vs q = refl
 
-turns_under : (f : ℕ → List WordAction) (g : ℕ → List Step) → ((i : ℕ) → actions_under (f i) ≡ actions_of (g i)) → (is : List ℕ) → actions_under (flat_map f is) ≡ actions_of (flat_map g is)
+turns_under : (f : ℕ → List WordAction) (g : ℕ → List Step) → ((i : ℕ) → actions_under (f i) ≡ actions_of (g i)) →
+    (is : List ℕ) → actions_under (flat_map f is) ≡ actions_of (flat_map g is)
 turns_under f g e [] = refl
 turns_under f g e (i ∷ is) =
     map-append (λ (a : WordAction). a.action) (f i) (flat_map f is)
@@ -77,25 +81,29 @@ turns_under f g e (i ∷ is) =
 
 module _ (w : PlainWordProgram) where
   mutual
-    pub stmt_acts : (stmt : WordStmt) (vs : List ℕ) (q : ℕ) → actions_under (word_actions_of_stmt w stmt vs q) ≡ actions_of (steps_of_stmt (bare w) (bare_stmt stmt) vs q)
+    pub stmt_acts : (stmt : WordStmt) (vs : List ℕ) (q : ℕ) →
+        actions_under (word_actions_of_stmt w stmt vs q) ≡ actions_of (steps_of_stmt (bare w) (bare_stmt stmt) vs q)
     stmt_acts (Loop count body) vs q =
         turns_under (λ i. word_actions_of_body w body (vs ++ i ∷ []) q) (λ i. steps_of_body (bare w) (bare_body body) (vs ++ i ∷ []) q)
         (λ i. body_acts body (vs ++ i ∷ []) q) (range_with_len 0 count)
     stmt_acts (Do note op) vs q = ap (λ a. a ∷ []) (action_is w note op vs q)
 
-    body_acts : (body : WordBody) (vs : List ℕ) (q : ℕ) → actions_under (word_actions_of_body w body vs q) ≡ actions_of (steps_of_body (bare w) (bare_body body) vs q)
+    body_acts : (body : WordBody) (vs : List ℕ) (q : ℕ) → actions_under (word_actions_of_body w body vs q)
+        ≡ actions_of (steps_of_body (bare w) (bare_body body) vs q)
     body_acts NoStmts vs q = refl
     body_acts (AndStmts stmt rest) vs q =
         map-append (λ (a : WordAction). a.action) (word_actions_of_stmt w stmt vs q) (word_actions_of_body w rest vs q)
         ∙ ap₂ (λ xs ys. xs ++ ys) (stmt_acts stmt vs q) (body_acts rest vs q)
         ∙ sym (map-append (λ (s : Step). s.action) (steps_of_stmt (bare w) (bare_stmt stmt) vs q) (steps_of_body (bare w) (bare_body rest) vs q))
 
-  row_under : (body : WordBody) (qs : List ℕ) → map actions_under (map (λ q. word_actions_of_body w body [] q) qs) ≡ map (λ q. actions_of (steps_of_body (bare w) (bare_body body) [] q)) qs
+  row_under : (body : WordBody) (qs : List ℕ) → map actions_under (map (λ q. word_actions_of_body w body [] q) qs)
+      ≡ map (λ q. actions_of (steps_of_body (bare w) (bare_body body) [] q)) qs
   row_under body [] = refl
   row_under body (q ∷ qs) = ap₂ (λ x xs. x ∷ xs) (body_acts body [] q) (row_under body qs)
 
   lists_under : (bodies : List WordBody) (qs : List ℕ) →
-      map (λ (lists : List (List WordAction)). map actions_under lists) (map (λ body. map (λ q. word_actions_of_body w body [] q) qs) bodies)
+      map (λ (lists : List (List WordAction)). map actions_under lists)
+      (map (λ body. map (λ q. word_actions_of_body w body [] q) qs) bodies)
       ≡ map (λ body. map (λ q. actions_of (steps_of_body (bare w) body [] q)) qs) (map bare_body bodies)
   lists_under [] qs = refl
   lists_under (body ∷ bodies) qs = ap₂ (λ x xs. x ∷ xs) (row_under body qs) (lists_under bodies qs)
@@ -107,18 +115,21 @@ module _ (w : PlainWordProgram) where
 
 -- A quickened program is apart where the program is
 
-pub lengths_stay : (f : ℕ → ℕ) (tables : List (List ℕ)) → map (λ entries. length entries) (map (λ entries. map f entries) tables) ≡ map (λ entries. length entries) tables
+pub lengths_stay : (f : ℕ → ℕ) (tables : List (List ℕ)) → map (λ entries. length entries)
+    (map (λ entries. map f entries) tables) ≡ map (λ entries. length entries) tables
 lengths_stay f [] = refl
 lengths_stay f (entries ∷ tables) = ap₂ (λ x xs. x ∷ xs) (length-map entries f) (lengths_stay f tables)
 
-pub quickened_apart : (z : Laziness) (p : PlainProgram) → ((phase : ℕ) → IsApart (plain_code p) phase) → (phase : ℕ) → IsApart (under (word_code (quickened z p))) phase
+pub quickened_apart : (z : Laziness) (p : PlainProgram) → ((phase : ℕ) → IsApart (plain_code p) phase) → (phase : ℕ) →
+    IsApart (under (word_code (quickened z p))) phase
 quickened_apart z p apart phase =
     subst (λ code. IsApart code phase) (sym (code_under_is (quickened z p) ∙ ap plain_code (bare_quickened z p))) (apart phase)
 
 -- One processor shares no line with another
 
 past_processors : (p : PlainProgram) (bodies : List PlainBody) (phase q : ℕ) → p.procs ≤ q →
-    slice_index_or (slice_index_or (map (λ body. map (λ q. actions_of (steps_of_body p body [] q)) (range_with_len 0 p.procs)) bodies) phase []) q [] ≡ []
+    slice_index_or (slice_index_or (map (λ body. map (λ q. actions_of (steps_of_body p body [] q))
+    (range_with_len 0 p.procs)) bodies) phase []) q [] ≡ []
 past_processors p [] phase q ge = refl
 past_processors p (body ∷ bodies) zero q ge =
     let row = map (λ q. actions_of (steps_of_body p body [] q)) (range_with_len 0 p.procs) in

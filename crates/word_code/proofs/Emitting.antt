@@ -25,11 +25,13 @@ use Rattle.word_code.proofs.Settling.{settled_sane}
 use Rattle.icode.specs.Limits.{is_stmt_within, is_body_within}
 use Rattle.icode.proofs.Bools.{both_true}
 
-pub plain_word_stmt-Loop : (count : ℕ) (body : Vec WordStmt Global) → plain_word_stmt (words.Loop count body) ≡ plain_words.Loop count (plain_word_body body.items)
+pub plain_word_stmt-Loop : (count : ℕ) (body : Vec WordStmt Global) →
+    plain_word_stmt (words.Loop count body) ≡ plain_words.Loop count (plain_word_body body.items)
 plain_word_stmt-Loop count body =
     ap plain_word_stmt (sym (words.rolls-Loop count body)) ∙ fold-roll-WordStmt plain_words.WordStmt word_stmt_view (WordStmt-F.Loop count body)
 
-pub plain_word_stmt-Do : (note : Note) (op : Op) → plain_word_stmt (words.Do note op) ≡ plain_words.Do (plain_note note) (plain_op op)
+pub plain_word_stmt-Do : (note : Note) (op : Op) → plain_word_stmt (words.Do note op) ≡ plain_words.Do (plain_note note)
+    (plain_op op)
 plain_word_stmt-Do note op =
     ap plain_word_stmt (sym (words.rolls-Do note op)) ∙ fold-roll-WordStmt plain_words.WordStmt word_stmt_view (WordStmt-F.Do note op)
 
@@ -41,7 +43,8 @@ pub record IsQuickBody (z : Laziness) (h : Header) (stmts : List Stmt) (before :
 pub quick_none : (z : Laziness) (h : Header) (bounds : List ℕ) → IsQuickBody z h [] bounds [] bounds
 quick_none z h bounds = record { is = refl }
 
-quick_last : (z : Laziness) (h : Header) (stmts : List PlainStmt) (stmt : PlainStmt) (before : List ℕ) (made : List plain_words.WordStmt) (after : List ℕ) →
+quick_last : (z : Laziness) (h : Header) (stmts : List PlainStmt) (stmt : PlainStmt) (before : List ℕ)
+    (made : List plain_words.WordStmt) (after : List ℕ) →
     quick_body z h (body_of stmts) before ≡ record { body = word_body_of made; bounds = after } →
     quick_body z h (body_of (stmts ++ stmt ∷ [])) before ≡ record { body = word_body_of (made ++ (quick_stmt z h stmt after).stmt ∷ []); bounds = (quick_stmt z h stmt after).bounds }
 quick_last z h stmts stmt before made after e = walk stmts before made after e
@@ -78,8 +81,12 @@ map-append : {X Y : Type 0} (f : X → Y) (xs ys : List X) → map f (xs ++ ys) 
 map-append f [] ys = refl
 map-append f (x ∷ xs) ys = ap (λ zs. f x ∷ zs) (map-append f xs ys)
 
-pub quick_more : (z : Laziness) (h : Header) (i : ℕ) (stmts : List Stmt) (stmt : Stmt) (before : List ℕ) (made new : List WordStmt) (word : WordStmt) (bounds after : List ℕ) → i < length stmts → stmt ≡ get_or stmts i stmt →
-    IsQuickBody z h (take i stmts) before made bounds → plain_word_stmt word ≡ (quick_stmt z h (plain_stmt stmt) bounds).stmt → after ≡ (quick_stmt z h (plain_stmt stmt) bounds).bounds → new ≡ made ++ word ∷ [] →
+pub quick_more : (z : Laziness) (h : Header) (i : ℕ) (stmts : List Stmt) (stmt : Stmt) (before : List ℕ)
+    (made new : List WordStmt) (word : WordStmt) (bounds after : List ℕ) → i < length stmts →
+    stmt ≡ get_or stmts i stmt →
+    IsQuickBody z h (take i stmts) before made bounds → plain_word_stmt word
+    ≡ (quick_stmt z h (plain_stmt stmt) bounds).stmt → after ≡ (quick_stmt z h (plain_stmt stmt) bounds).bounds →
+    new ≡ made ++ word ∷ [] →
     IsQuickBody z h (take (i + 1) stmts) before new after
 quick_more z h i stmts stmt before made new word bounds after lt e is same ends appended =
     record {
@@ -94,13 +101,15 @@ quick_more z h i stmts stmt before made new word bounds after lt e is same ends 
 
 -- No bound passes the limit
 
-array_sane : (z : Laziness) (array : Array) → 1 ≤ z.limit → z.kept.of_a ≤ z.limit → z.kept.of_b ≤ z.limit → array_bound z.kept array ≤ z.limit
+array_sane : (z : Laziness) (array : Array) → 1 ≤ z.limit → z.kept.of_a ≤ z.limit → z.kept.of_b ≤ z.limit →
+    array_bound z.kept array ≤ z.limit
 array_sane z arrays.X some of_a of_b = some
 array_sane z arrays.Y some of_a of_b = some
 array_sane z arrays.A some of_a of_b = of_a
 array_sane z arrays.B some of_a of_b = of_b
 
-pub noted_sane : (z : Laziness) (m lanes : ℕ) (op : PlainOp) (bounds : List ℕ) → 1 ≤ z.limit → z.kept.of_a ≤ z.limit → z.kept.of_b ≤ z.limit → product_bound z.width ≤ z.limit → ((r : ℕ) → bound_at z.limit bounds r ≤ z.limit) →
+pub noted_sane : (z : Laziness) (m lanes : ℕ) (op : PlainOp) (bounds : List ℕ) → 1 ≤ z.limit → z.kept.of_a ≤ z.limit →
+    z.kept.of_b ≤ z.limit → product_bound z.width ≤ z.limit → ((r : ℕ) → bound_at z.limit bounds r ≤ z.limit) →
     (r : ℕ) → bound_at z.limit (noted z m lanes op bounds).bounds r ≤ z.limit
 noted_sane z m lanes (Load r array place) bounds some of_a of_b product sane = set_sane z.limit bounds r (array_bound z.kept array) (array_sane z array some of_a of_b) sane
 noted_sane z m lanes (Store array place r) bounds some of_a of_b product sane = settled_sane m z.limit (2 * z.limit) r r (2 * array_bound z.kept array) bounds sane
@@ -121,23 +130,27 @@ copies_sane limit zero r = omega arith
 copies_sane limit (suc n) zero = omega arith
 copies_sane limit (suc n) (suc r) = copies_sane limit n r
 
-pub stmt_sane : (z : Laziness) (h : Header) (stmt : PlainStmt) (bounds : List ℕ) → 1 ≤ z.limit → z.kept.of_a ≤ z.limit → z.kept.of_b ≤ z.limit → product_bound z.width ≤ z.limit → ((r : ℕ) → bound_at z.limit bounds r ≤ z.limit) →
+pub stmt_sane : (z : Laziness) (h : Header) (stmt : PlainStmt) (bounds : List ℕ) → 1 ≤ z.limit → z.kept.of_a ≤ z.limit →
+    z.kept.of_b ≤ z.limit → product_bound z.width ≤ z.limit → ((r : ℕ) → bound_at z.limit bounds r ≤ z.limit) →
     (r : ℕ) → bound_at z.limit (quick_stmt z h stmt bounds).bounds r ≤ z.limit
 stmt_sane z h (plain.Loop count body) bounds some of_a of_b product sane = λ r. copies_sane z.limit h.regs r
 stmt_sane z h (plain.Do op) bounds some of_a of_b product sane = noted_sane z h.modulus h.lanes op bounds some of_a of_b product sane
 
 -- What stands within the limits
 
-loop_within : (m depth count : ℕ) (body : PlainBody) → is_stmt_within m (plain.Loop count body) depth ≡ true → (depth < 64) × (is_body_within m body (depth + 1) ≡ true)
+loop_within : (m depth count : ℕ) (body : PlainBody) → is_stmt_within m (plain.Loop count body) depth ≡ true →
+    (depth < 64) × (is_body_within m body (depth + 1) ≡ true)
 loop_within m depth count body e =
     let a = (both_true _ _ e).1 in
     let b = both_true _ _ a in
     (ltb-true _ _ b.0, b.1)
 
-pub loop_parts : (m depth count : ℕ) (body : PlainBody) (s : PlainStmt) → s ≡ plain.Loop count body → is_stmt_within m s depth ≡ true → (depth < 64) × (is_body_within m body (depth + 1) ≡ true)
+pub loop_parts : (m depth count : ℕ) (body : PlainBody) (s : PlainStmt) → s ≡ plain.Loop count body →
+    is_stmt_within m s depth ≡ true → (depth < 64) × (is_body_within m body (depth + 1) ≡ true)
 loop_parts m depth count body s is e = loop_within m depth count body (sym (ap (λ s. is_stmt_within m s depth) is) ∙ e)
 
-pub item_within : (m depth i : ℕ) (items : List Stmt) (x : Stmt) → is_body_within m (plain_body items) depth ≡ true → i < length items → x ≡ get_or items i x → is_stmt_within m (plain_stmt x) depth ≡ true
+pub item_within : (m depth i : ℕ) (items : List Stmt) (x : Stmt) → is_body_within m (plain_body items) depth ≡ true →
+    i < length items → x ≡ get_or items i x → is_stmt_within m (plain_stmt x) depth ≡ true
 item_within m depth i [] x e lt is = absurd (omega arith)
 item_within m depth zero (y ∷ items) x e lt is = ap (λ s. is_stmt_within m (plain_stmt s) depth) is ∙ (both_true _ _ e).0
 item_within m depth (suc i) (y ∷ items) x e lt is = item_within m depth i items x (both_true _ _ e).1 (omega arith) is
@@ -148,8 +161,10 @@ take_whole (suc n) [] le = refl
 take_whole zero (x ∷ xs) le = absurd (omega arith)
 take_whole (suc n) (x ∷ xs) le = ap (λ ys. x ∷ ys) (take_whole n xs (omega arith))
 
-pub loop_made : (z : Laziness) (h : Header) (count : ℕ) (body : List Stmt) (s : Stmt) (bounds : List ℕ) (made : Vec WordStmt Global) (after : List ℕ) → plain_stmt s ≡ plain.Loop count (plain_body body) →
-    IsQuickBody z h body (loosest z h) made.items after → plain_word_stmt (words.Loop count made) ≡ (quick_stmt z h (plain_stmt s) bounds).stmt
+pub loop_made : (z : Laziness) (h : Header) (count : ℕ) (body : List Stmt) (s : Stmt) (bounds : List ℕ)
+    (made : Vec WordStmt Global) (after : List ℕ) → plain_stmt s ≡ plain.Loop count (plain_body body) →
+    IsQuickBody z h body (loosest z h) made.items after → plain_word_stmt (words.Loop count made)
+    ≡ (quick_stmt z h (plain_stmt s) bounds).stmt
 loop_made z h count body s bounds made after is quick =
     plain_word_stmt-Loop count made
     ∙ ap (λ (b : QuickBody). plain_words.Loop count b.body) (sym quick.is)

@@ -53,7 +53,8 @@ grows true true x y le = omega arith
 grows true false x y le = le
 grows false c x y le = omega arith
 
-memory_grows : (z : Laziness) (p : PlainProgram) (n m : Needs) (memory : List ℕ) → z.kept.of_a ≤ z.limit → z.kept.of_b ≤ z.limit →
+memory_grows : (z : Laziness) (p : PlainProgram) (n m : Needs) (memory : List ℕ) → z.kept.of_a ≤ z.limit →
+    z.kept.of_b ≤ z.limit →
     IsMemoryBelow (scale (loosened z (both_needs n m)) p) memory → IsMemoryBelow (scale (loosened z m) p) memory
 memory_grows z p n m memory of_a of_b kept =
     record {
@@ -67,7 +68,8 @@ memory_grows z p n m memory of_a of_b kept =
 abbrev with_phases : PlainWordProgram → List WordBody → PlainWordProgram
 with_phases w phases = record { width = w.width; frame = w.frame; quotients = w.quotients; phases = phases }
 
-op_same : (w : PlainWordProgram) (phases : List WordBody) (note : Note) (op : PlainOp) (vs : List ℕ) (q : ℕ) → word_action_of (with_phases w phases) note op vs q ≡ word_action_of w note op vs q
+op_same : (w : PlainWordProgram) (phases : List WordBody) (note : Note) (op : PlainOp) (vs : List ℕ) (q : ℕ) →
+    word_action_of (with_phases w phases) note op vs q ≡ word_action_of w note op vs q
 op_same w phases note (Load r array place) vs q = refl
 op_same w phases note (Store array place r) vs q = refl
 op_same w phases note (Zero r) vs q = refl
@@ -83,7 +85,8 @@ turns_same f g e [] = refl
 turns_same f g e (i ∷ is) = ap₂ (λ xs ys. xs ++ ys) (e i) (turns_same f g e is)
 
 mutual
-  stmt_same : (w : PlainWordProgram) (phases : List WordBody) (stmt : WordStmt) (vs : List ℕ) (q : ℕ) → word_actions_of_stmt (with_phases w phases) stmt vs q ≡ word_actions_of_stmt w stmt vs q
+  stmt_same : (w : PlainWordProgram) (phases : List WordBody) (stmt : WordStmt) (vs : List ℕ) (q : ℕ) →
+      word_actions_of_stmt (with_phases w phases) stmt vs q ≡ word_actions_of_stmt w stmt vs q
   stmt_same w phases (Loop count body) vs q =
       turns_same
       (λ i. word_actions_of_body (with_phases w phases) body (vs ++ i ∷ []) q)
@@ -92,7 +95,8 @@ mutual
       (range_with_len 0 count)
   stmt_same w phases (Do note op) vs q = ap (λ a. a ∷ []) (op_same w phases note op vs q)
 
-  body_same : (w : PlainWordProgram) (phases : List WordBody) (body : WordBody) (vs : List ℕ) (q : ℕ) → word_actions_of_body (with_phases w phases) body vs q ≡ word_actions_of_body w body vs q
+  body_same : (w : PlainWordProgram) (phases : List WordBody) (body : WordBody) (vs : List ℕ) (q : ℕ) →
+      word_actions_of_body (with_phases w phases) body vs q ≡ word_actions_of_body w body vs q
   body_same w phases NoStmts vs q = refl
   body_same w phases (AndStmts stmt rest) vs q = ap₂ (λ xs ys. xs ++ ys) (stmt_same w phases stmt vs q) (body_same w phases rest vs q)
 
@@ -116,8 +120,11 @@ module _ (z : Laziness) (p : PlainProgram) (lazy : IsLazyWithin z p.modulus) (po
   words_of body bounds vs q t =
       word_effects z.width p.modulus p.lanes (word_actions_of_body (quickened z p) (quick_alone z (header_of p) body bounds).body vs q) t
 
-  alone_goes : (body : PlainBody) (bounds vs : List ℕ) (q : ℕ) (t : Local) → length bounds ≡ p.regs → ((r : ℕ) → bound_at z.limit bounds r ≤ z.limit) → Each (StepFits p) (steps_of_body p body vs q) →
-      IsMemoryBelow (scale (loosened z (needs body)) p) t.memory → AreRegistersBelow p.modulus p.lanes (bound_at z.limit bounds) t.registers → Ends (residues_of body vs q t) (words_of body bounds vs q t)
+  alone_goes : (body : PlainBody) (bounds vs : List ℕ) (q : ℕ) (t : Local) → length bounds ≡ p.regs →
+      ((r : ℕ) → bound_at z.limit bounds r ≤ z.limit) → Each (StepFits p) (steps_of_body p body vs q) →
+      IsMemoryBelow (scale (loosened z (needs body)) p) t.memory →
+      AreRegistersBelow p.modulus p.lanes (bound_at z.limit bounds) t.registers →
+      Ends (residues_of body vs q t) (words_of body bounds vs q t)
   alone_goes plain.NoStmts bounds vs q t long sane fit kept low = record { same = refl; outer = kept.outer }
   alone_goes (plain.AndStmts stmt rest) bounds vs q t long sane fit kept low =
       let m = p.modulus in
@@ -151,7 +158,9 @@ module _ (z : Laziness) (p : PlainProgram) (lazy : IsLazyWithin z p.modulus) (po
       }
 
 -- whatever the order of turns, a program of one processor and one phase leaves the residues that it leaves on residues
-pub alone_is_same : (z : Laziness) (p : PlainProgram) (body : PlainBody) → p.procs ≡ 1 → p.phases ≡ body ∷ [] → PlainFits p → IsLazyWithin z p.modulus → 0 < p.modulus → 1 ≤ p.line → (x turns : List ℕ) → All (λ v. v < p.modulus) x →
+pub alone_is_same : (z : Laziness) (p : PlainProgram) (body : PlainBody) → p.procs ≡ 1 → p.phases ≡ body ∷ [] →
+    PlainFits p → IsLazyWithin z p.modulus → 0 < p.modulus → 1 ≤ p.line → (x turns : List ℕ) →
+    All (λ v. v < p.modulus) x →
     word_results (word_code (quickened z p)) x turns ≡ results (plain_code p) x turns
 alone_is_same z p body one is fits lazy pos line x turns low =
     let m = p.modulus in

@@ -23,7 +23,8 @@ abbrev then_rest : List plain_words.WordStmt → QuickBody → QuickBody
 then_rest [] rest = rest
 then_rest (stmt ∷ stmts) rest = quick_and stmt (then_rest stmts rest)
 
-rest-last : (stmts : List plain_words.WordStmt) (stmt : plain_words.WordStmt) (rest : QuickBody) → then_rest (stmts ++ stmt ∷ []) rest ≡ then_rest stmts (quick_and stmt rest)
+rest-last : (stmts : List plain_words.WordStmt) (stmt : plain_words.WordStmt) (rest : QuickBody) →
+    then_rest (stmts ++ stmt ∷ []) rest ≡ then_rest stmts (quick_and stmt rest)
 rest-last [] stmt rest = refl
 rest-last (s ∷ stmts) stmt rest = ap (quick_and s) (rest-last stmts stmt rest)
 
@@ -34,10 +35,15 @@ rest-none (s ∷ stmts) bounds = ap (plain_words.AndStmts s) (rest-none stmts bo
 -- What is made of so many statements, and what the others lead to
 
 pub record IsQuickAlone (z : Laziness) (h : Header) (i : ℕ) (body : List Stmt) (before : List ℕ) (made : List WordStmt) (after : List ℕ) : Type 0 where
-  pub is : quick_alone z h (plain_body body) before ≡ then_rest (map plain_word_stmt made) (quick_alone z h (plain_body (drop i body)) after)
+  pub is : quick_alone z h (plain_body body) before ≡ then_rest (map plain_word_stmt made)
+      (quick_alone z h (plain_body (drop i body)) after)
 
-pub alone-more : (z : Laziness) (h : Header) (i : ℕ) (body : List Stmt) (stmt : Stmt) (n : Needs) (before : List ℕ) (made new : List WordStmt) (word : WordStmt) (bounds after : List ℕ) → i < length body → stmt ≡ get_or body i stmt → n ≡ get_or (needs_of_each (plain_body body)) i n →
-    IsQuickAlone z h i body before made bounds → plain_word_stmt word ≡ (quick_stmt (loosened z n) h (plain_stmt stmt) bounds).stmt → after ≡ (quick_stmt (loosened z n) h (plain_stmt stmt) bounds).bounds → new ≡ made ++ word ∷ [] →
+pub alone-more : (z : Laziness) (h : Header) (i : ℕ) (body : List Stmt) (stmt : Stmt) (n : Needs) (before : List ℕ)
+    (made new : List WordStmt) (word : WordStmt) (bounds after : List ℕ) → i < length body → stmt ≡ get_or body i stmt →
+    n ≡ get_or (needs_of_each (plain_body body)) i n →
+    IsQuickAlone z h i body before made bounds → plain_word_stmt word
+    ≡ (quick_stmt (loosened z n) h (plain_stmt stmt) bounds).stmt →
+    after ≡ (quick_stmt (loosened z n) h (plain_stmt stmt) bounds).bounds → new ≡ made ++ word ∷ [] →
     IsQuickAlone z h (i + 1) body before new after
 alone-more z h i body stmt n before made new word bounds after lt e needed is same ends appended =
     let rest : List Stmt = drop (i + 1) body in
@@ -56,7 +62,9 @@ alone-more z h i body stmt n before made new word bounds after lt e needed is sa
           ∙ ap (λ ws. then_rest ws (others after)) (sym (ap (map plain_word_stmt) appended ∙ map-append plain_word_stmt made (word ∷ [])))));
     }
 
-pub alone-all : (z : Laziness) (h : Header) (i : ℕ) (body : List Stmt) (before : List ℕ) (made : List WordStmt) (after : List ℕ) → length body ≤ i → IsQuickAlone z h i body before made after → plain_word_body made ≡ (quick_alone z h (plain_body body) before).body
+pub alone-all : (z : Laziness) (h : Header) (i : ℕ) (body : List Stmt) (before : List ℕ) (made : List WordStmt)
+    (after : List ℕ) → length body ≤ i → IsQuickAlone z h i body before made after →
+    plain_word_body made ≡ (quick_alone z h (plain_body body) before).body
 alone-all z h i body before made after le is =
     sym
     (ap (λ (b : QuickBody). b.body) (is.is ∙ ap (λ ss. then_rest (map plain_word_stmt made) (quick_alone z h (plain_body ss) after)) (drop_all i body le))
@@ -68,13 +76,16 @@ either-low : (b : Bool) (k limit : ℕ) → k ≤ limit → (if b then k else li
 either-low true k limit le = le
 either-low false k limit le = omega arith
 
-pub needed_sane : (z : Laziness) (h : Header) (n : Needs) (stmt : PlainStmt) (bounds : List ℕ) → 1 ≤ z.limit → z.kept.of_a ≤ z.limit → z.kept.of_b ≤ z.limit → product_bound z.width ≤ z.limit → ((r : ℕ) → bound_at z.limit bounds r ≤ z.limit) →
+pub needed_sane : (z : Laziness) (h : Header) (n : Needs) (stmt : PlainStmt) (bounds : List ℕ) → 1 ≤ z.limit →
+    z.kept.of_a ≤ z.limit → z.kept.of_b ≤ z.limit → product_bound z.width ≤ z.limit →
+    ((r : ℕ) → bound_at z.limit bounds r ≤ z.limit) →
     (r : ℕ) → bound_at z.limit (quick_stmt (loosened z n) h stmt bounds).bounds r ≤ z.limit
 needed_sane z h n stmt bounds some of_a of_b product sane =
     stmt_sane (loosened z n) h stmt bounds some (either-low n.of_a z.kept.of_a z.limit of_a) (either-low n.of_b z.kept.of_b z.limit of_b) product sane
 
 -- Phases
 
-pub one-phase : (procs : ℕ) (phases : List (Vec Stmt Global)) → true ≡ (procs == 1 && length phases == 1) → 0 < length phases
+pub one-phase : (procs : ℕ) (phases : List (Vec Stmt Global)) → true ≡ (procs == 1 && length phases == 1) →
+    0 < length phases
 one-phase procs phases alone =
     let long = eqb-true (length phases) 1 (both_true (procs == 1) (length phases == 1) (sym alone)).1 in omega (arith, long)

@@ -33,7 +33,9 @@ both_none a = ap₂ pair (or_false a.of_a) (or_false a.of_b)
 pub record AreLoads (i : ℕ) (body : List Stmt) (loads : Needs) : Type 0 where
   pub is : both_needs loads (loads_of_body (plain_body (drop i body))) ≡ loads_of_body (plain_body body)
 
-pub loads-more : (i : ℕ) (body : List Stmt) (stmt : Stmt) (loads of next : Needs) → i < length body → stmt ≡ get_or body i stmt → of ≡ loads_of_stmt (plain_stmt stmt) → next ≡ both_needs loads of → AreLoads i body loads → AreLoads (i + 1) body next
+pub loads-more : (i : ℕ) (body : List Stmt) (stmt : Stmt) (loads of next : Needs) → i < length body →
+    stmt ≡ get_or body i stmt → of ≡ loads_of_stmt (plain_stmt stmt) → next ≡ both_needs loads of →
+    AreLoads i body loads → AreLoads (i + 1) body next
 loads-more i body stmt loads of next lt e is both h =
     let rest : Needs = loads_of_body (plain_body (drop (i + 1) body)) in
     record {
@@ -43,7 +45,9 @@ loads-more i body stmt loads of next lt e is both h =
           ∙ (ap (λ ss. both_needs loads (loads_of_body (plain_body ss))) (sym (drop_item body i stmt lt e)) ∙ h.is));
     }
 
-pub loads-all : (i count : ℕ) (body items : List Stmt) (stmt : PlainStmt) (loads : Needs) → stmt ≡ Loop count (plain_body items) → body ≡ items → length body ≤ i → AreLoads i body loads → loads ≡ loads_of_stmt stmt
+pub loads-all : (i count : ℕ) (body items : List Stmt) (stmt : PlainStmt) (loads : Needs) →
+    stmt ≡ Loop count (plain_body items) → body ≡ items → length body ≤ i → AreLoads i body loads →
+    loads ≡ loads_of_stmt stmt
 loads-all i count body items stmt loads e same le h =
     sym (both_none loads)
     ∙ (ap (λ ss. both_needs loads (loads_of_body (plain_body ss))) (sym (drop_all i body le))
@@ -55,14 +59,18 @@ loads-all i count body items stmt loads e same le h =
 pub record IsLeft (i : ℕ) (body : List Stmt) (last : Option ℕ) : Type 0 where
   pub is : multiply None (plain_body body) ≡ multiply last (plain_body (drop i body))
 
-left-step : (i : ℕ) (body : List Stmt) (stmt : Stmt) (last : Option ℕ) (b : Bool) → i < length body → stmt ≡ get_or body i stmt → b ≡ multiplies last (plain_stmt stmt) → IsLeft i body last →
-    multiply None (plain_body body) ≡ (b && multiply (product_of last (plain_stmt stmt)) (plain_body (drop (i + 1) body)))
+left-step : (i : ℕ) (body : List Stmt) (stmt : Stmt) (last : Option ℕ) (b : Bool) → i < length body →
+    stmt ≡ get_or body i stmt → b ≡ multiplies last (plain_stmt stmt) → IsLeft i body last →
+    multiply None (plain_body body) ≡ (b && multiply (product_of last (plain_stmt stmt))
+    (plain_body (drop (i + 1) body)))
 left-step i body stmt last b lt e is h =
     h.is
     ∙ (ap (λ ss. multiply last (plain_body ss)) (drop_item body i stmt lt e)
     ∙ ap (λ c. c && multiply (product_of last (plain_stmt stmt)) (plain_body (drop (i + 1) body))) (sym is))
 
-pub left-more : (i : ℕ) (body : List Stmt) (stmt : Stmt) (last next : Option ℕ) (b : Bool) → i < length body → stmt ≡ get_or body i stmt → b ≡ multiplies last (plain_stmt stmt) → b ≡ true → next ≡ product_of last (plain_stmt stmt) → IsLeft i body last → IsLeft (i + 1) body next
+pub left-more : (i : ℕ) (body : List Stmt) (stmt : Stmt) (last next : Option ℕ) (b : Bool) → i < length body →
+    stmt ≡ get_or body i stmt → b ≡ multiplies last (plain_stmt stmt) → b ≡ true →
+    next ≡ product_of last (plain_stmt stmt) → IsLeft i body last → IsLeft (i + 1) body next
 left-more i body stmt last next b lt e is passes goes h =
     record {
       is =
@@ -71,13 +79,16 @@ left-more i body stmt last next b lt e is passes goes h =
           ∙ ap (λ l. multiply l (plain_body (drop (i + 1) body))) (sym goes));
     }
 
-pub left-fails : (i : ℕ) (body : List Stmt) (stmt : Stmt) (last : Option ℕ) (b : Bool) → i < length body → stmt ≡ get_or body i stmt → b ≡ multiplies last (plain_stmt stmt) → b ≡ false → IsLeft i body last → false ≡ multiply None (plain_body body)
+pub left-fails : (i : ℕ) (body : List Stmt) (stmt : Stmt) (last : Option ℕ) (b : Bool) → i < length body →
+    stmt ≡ get_or body i stmt → b ≡ multiplies last (plain_stmt stmt) → b ≡ false → IsLeft i body last →
+    false ≡ multiply None (plain_body body)
 left-fails i body stmt last b lt e is fails h =
     sym
     (left-step i body stmt last b lt e is h
     ∙ ap (λ c. c && multiply (product_of last (plain_stmt stmt)) (plain_body (drop (i + 1) body))) fails)
 
-pub left-all : (i : ℕ) (body : List Stmt) (last : Option ℕ) → length body ≤ i → IsLeft i body last → true ≡ multiply None (plain_body body)
+pub left-all : (i : ℕ) (body : List Stmt) (last : Option ℕ) → length body ≤ i → IsLeft i body last →
+    true ≡ multiply None (plain_body body)
 left-all i body last le h = sym (h.is ∙ ap (λ ss. multiply last (plain_body ss)) (drop_all i body le))
 
 -- ---- from the last statement to the first
@@ -96,7 +107,10 @@ needed-none body made empty =
     }
 
 -- the statement before them
-pub needed-more : (behind at : ℕ) (body : List Stmt) (each : List Needs) (last : Needs) (stmt : Stmt) (of next : Needs) (made : List Needs) → behind < length body → at + behind + 1 ≡ length body → stmt ≡ get_or body at stmt → of ≡ needs_of_stmt (plain_stmt stmt) → next ≡ both_needs of last → made ≡ each ++ next ∷ [] → AreNeeded behind body each last → AreNeeded (behind + 1) body made next
+pub needed-more : (behind at : ℕ) (body : List Stmt) (each : List Needs) (last : Needs) (stmt : Stmt) (of next : Needs)
+    (made : List Needs) → behind < length body → at + behind + 1 ≡ length body → stmt ≡ get_or body at stmt →
+    of ≡ needs_of_stmt (plain_stmt stmt) → next ≡ both_needs of last → made ≡ each ++ next ∷ [] →
+    AreNeeded behind body each last → AreNeeded (behind + 1) body made next
 needed-more behind at body each last stmt of next made lt here e is both put h =
     let rest : List Stmt = drop (length body - behind) body in
     let from_here : drop (length body - (behind + 1)) body ≡ stmt ∷ rest =
@@ -115,7 +129,8 @@ pub length-each : (body : List Stmt) → length (needs_of_each (plain_body body)
 length-each [] = refl
 length-each (stmt ∷ body) = ap suc (length-each body)
 
-pub needed-at : (body : List Stmt) (i : ℕ) (n : Needs) → i < length body → n ≡ get_or (needs_of_each (plain_body body)) i n → n ≡ needs (plain_body (drop i body))
+pub needed-at : (body : List Stmt) (i : ℕ) (n : Needs) → i < length body →
+    n ≡ get_or (needs_of_each (plain_body body)) i n → n ≡ needs (plain_body (drop i body))
 needed-at [] i n lt e = absurd (omega (arith, lt))
 needed-at (stmt ∷ body) zero n lt e = e
 needed-at (stmt ∷ body) (suc i) n lt e = needed-at body i n (omega (arith, lt)) e

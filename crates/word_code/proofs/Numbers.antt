@@ -54,7 +54,8 @@ greater_below limit x y n bounds lx ly = either (nat_le (bound_at limit bounds y
     either true = lx
     either false = ly
 
-settled_fits : (m limit sums regs n x y target : ℕ) (bounds : List ℕ) → limit * m < sums → x < regs → y < regs → ((r : ℕ) → bound_at limit bounds r ≤ limit) →
+settled_fits : (m limit sums regs n x y target : ℕ) (bounds : List ℕ) → limit * m < sums → x < regs → y < regs →
+    ((r : ℕ) → bound_at limit bounds r ≤ limit) →
     Each (ReductionFits sums regs) (settled m limit n x y target bounds).reductions
 settled_fits m limit sums regs zero x y target bounds room lx ly sane = tt
 settled_fits m limit sums regs (suc n) x y target bounds room lx ly sane =
@@ -70,7 +71,8 @@ settled_fits m limit sums regs (suc n) x y target bounds room lx ly sane =
     (settled_fits m limit sums regs n x y target (slice_set bounds r h) room lx ly
     (λ q. let a = set_lower limit bounds r h q under in let b = sane q in omega (arith, a, b)))
   where
-    either : (first : Reduction) (rest : Settled) (b : Bool) → ReductionFits sums regs first → Each (ReductionFits sums regs) rest.reductions →
+    either : (first : Reduction) (rest : Settled) (b : Bool) → ReductionFits sums regs first →
+        Each (ReductionFits sums regs) rest.reductions →
         Each (ReductionFits sums regs) (cond b (record { reductions = []; bounds = bounds }) (then_settled first rest)).reductions
     either first rest true one others = tt
     either first rest false one others = (one, others)
@@ -83,7 +85,8 @@ quotient_below base m c some lt =
     let a = mul-le-mul_left base up in
     div_below (c * base) m base (omega (arith, lt)) (omega (arith, a, some))
 
-quotients_below : (base m : ℕ) (cs qs : List ℕ) → 0 < base → AreQuotients base m cs qs → Each (λ c. c < m) cs → Each (λ q. q < base) qs
+quotients_below : (base m : ℕ) (cs qs : List ℕ) → 0 < base → AreQuotients base m cs qs → Each (λ c. c < m) cs →
+    Each (λ q. q < base) qs
 quotients_below base m [] [] some are low = tt
 quotients_below base m [] (q ∷ qs) some are low = absurd are
 quotients_below base m (c ∷ cs) [] some are low = absurd are
@@ -114,7 +117,8 @@ module _ (z : Laziness) (p : PlainProgram) (lazy : IsLazyWithin z p.modulus) (po
     abbrev y : Laziness
     y = record { width = z.width; kept = kept; limit = z.limit }
 
-    op_numbers : (op : PlainOp) (bounds vs : List ℕ) (q : ℕ) → ((r : ℕ) → bound_at z.limit bounds r ≤ z.limit) → StepFits p (step_of p op vs q) →
+    op_numbers : (op : PlainOp) (bounds vs : List ℕ) (q : ℕ) → ((r : ℕ) → bound_at z.limit bounds r ≤ z.limit) →
+        StepFits p (step_of p op vs q) →
         Fit (word_action_of w (noted y p.modulus p.lanes op bounds).note op vs q)
     op_numbers (Load r array place) bounds vs q sane fits =
         record { before = all_of_each (ReductionFits (sums_of z.width) p.regs) [] tt; bias = some_sums; quotients = all_of_each (λ q. q < base_of z.width) [] tt }
@@ -180,7 +184,8 @@ module _ (z : Laziness) (p : PlainProgram) (lazy : IsLazyWithin z p.modulus) (po
     op_numbers (Tile r x) bounds vs q sane fits =
         record { before = all_of_each (ReductionFits (sums_of z.width) p.regs) [] tt; bias = some_sums; quotients = all_of_each (λ q. q < base_of z.width) [] tt }
 
-    turns_fit : (f : ℕ → List WordAction) (g : ℕ → List Step) → ((i : ℕ) → Each (StepFits p) (g i) → Each Fit (f i)) → (is : List ℕ) → Each (StepFits p) (flat_map g is) → Each Fit (flat_map f is)
+    turns_fit : (f : ℕ → List WordAction) (g : ℕ → List Step) → ((i : ℕ) → Each (StepFits p) (g i) → Each Fit (f i)) →
+        (is : List ℕ) → Each (StepFits p) (flat_map g is) → Each Fit (flat_map f is)
     turns_fit f g each [] fit = tt
     turns_fit f g each (i ∷ is) fit =
         each_append Fit (f i) (flat_map f is) (each i (each_front (StepFits p) (g i) (flat_map g is) fit))
@@ -188,7 +193,8 @@ module _ (z : Laziness) (p : PlainProgram) (lazy : IsLazyWithin z p.modulus) (po
 
     module _ (sound : IsSound (scale y p)) where
       mutual
-        stmt_numbers : (stmt : PlainStmt) (bounds vs : List ℕ) (q : ℕ) → length bounds ≡ p.regs → ((r : ℕ) → bound_at z.limit bounds r ≤ z.limit) → Each (StepFits p) (steps_of_stmt p stmt vs q) →
+        stmt_numbers : (stmt : PlainStmt) (bounds vs : List ℕ) (q : ℕ) → length bounds ≡ p.regs →
+            ((r : ℕ) → bound_at z.limit bounds r ≤ z.limit) → Each (StepFits p) (steps_of_stmt p stmt vs q) →
             Each Fit (word_actions_of_stmt w (quick_stmt y (header_of p) stmt bounds).stmt vs q)
         stmt_numbers (plain.Loop count body) bounds vs q long sane fit =
             turns_fit (λ i. word_actions_of_body w (quick_body y (header_of p) body (loosest y (header_of p))).body (vs ++ i ∷ []) q) (λ i. steps_of_body p body (vs ++ i ∷ []) q)
@@ -196,7 +202,8 @@ module _ (z : Laziness) (p : PlainProgram) (lazy : IsLazyWithin z p.modulus) (po
             (range_with_len 0 count) fit
         stmt_numbers (plain.Do op) bounds vs q long sane fit = (op_numbers op bounds vs q sane fit.0, tt)
 
-        body_numbers : (body : PlainBody) (bounds vs : List ℕ) (q : ℕ) → length bounds ≡ p.regs → ((r : ℕ) → bound_at z.limit bounds r ≤ z.limit) → Each (StepFits p) (steps_of_body p body vs q) →
+        body_numbers : (body : PlainBody) (bounds vs : List ℕ) (q : ℕ) → length bounds ≡ p.regs →
+            ((r : ℕ) → bound_at z.limit bounds r ≤ z.limit) → Each (StepFits p) (steps_of_body p body vs q) →
             Each Fit (word_actions_of_body w (quick_body y (header_of p) body bounds).body vs q)
         body_numbers plain.NoStmts bounds vs q long sane fit = tt
         body_numbers (plain.AndStmts stmt rest) bounds vs q long sane fit =
@@ -215,7 +222,8 @@ module _ (z : Laziness) (p : PlainProgram) (lazy : IsLazyWithin z p.modulus) (po
   sound : IsSound (scale z p)
   sound = record { half = lazy.half; modulus = pos; room = lazy.room; sums = lazy.sums; product = lazy.product; of_a = lazy.of_a; of_b = lazy.of_b }
 
-  alone_numbers : (body : PlainBody) (bounds : List ℕ) (q : ℕ) → length bounds ≡ p.regs → ((r : ℕ) → bound_at z.limit bounds r ≤ z.limit) → Each (StepFits p) (steps_of_body p body [] q) →
+  alone_numbers : (body : PlainBody) (bounds : List ℕ) (q : ℕ) → length bounds ≡ p.regs →
+      ((r : ℕ) → bound_at z.limit bounds r ≤ z.limit) → Each (StepFits p) (steps_of_body p body [] q) →
       Each Fit (word_actions_of_body w (quick_alone z (header_of p) body bounds).body [] q)
   alone_numbers plain.NoStmts bounds q long sane fit = tt
   alone_numbers (plain.AndStmts stmt rest) bounds q long sane fit =
@@ -232,19 +240,25 @@ module _ (z : Laziness) (p : PlainProgram) (lazy : IsLazyWithin z p.modulus) (po
   abbrev FitsAll : List PlainBody → ℕ → Type 0
   FitsAll phases q = (phase : ℕ) → Each (StepFits p) (steps_of_body p (slice_index_or phases phase plain.NoStmts) [] q)
 
-  phase_numbers : (body : PlainBody) (q : ℕ) → Each (StepFits p) (steps_of_body p body [] q) → Each Fit (word_actions_of_body w (quick_phase z (header_of p) body) [] q)
+  phase_numbers : (body : PlainBody) (q : ℕ) → Each (StepFits p) (steps_of_body p body [] q) →
+      Each Fit (word_actions_of_body w (quick_phase z (header_of p) body) [] q)
   phase_numbers body q fit = body_numbers z.kept sound body (loosest z (header_of p)) [] q (loose_long z p sound) (loose_sane z p sound) fit
 
-  evenly_numbers : (phases : List PlainBody) (q : ℕ) → FitsAll phases q → (phase : ℕ) → Each Fit (word_actions_of_body w (slice_index_or (map (quick_phase z (header_of p)) phases) phase NoStmts) [] q)
+  evenly_numbers : (phases : List PlainBody) (q : ℕ) → FitsAll phases q → (phase : ℕ) →
+      Each Fit (word_actions_of_body w (slice_index_or (map (quick_phase z (header_of p)) phases) phase NoStmts) [] q)
   evenly_numbers [] q fit phase = tt
   evenly_numbers (body ∷ phases) q fit zero = phase_numbers body q (fit 0)
   evenly_numbers (body ∷ phases) q fit (suc phase) = evenly_numbers phases q (λ k. fit (suc k)) phase
 
-  phases_numbers : (phases : List PlainBody) (q : ℕ) → FitsAll phases q → (phase : ℕ) → Each Fit (word_actions_of_body w (slice_index_or (quick_phases z (header_of p) p.procs phases) phase NoStmts) [] q)
+  phases_numbers : (phases : List PlainBody) (q : ℕ) → FitsAll phases q → (phase : ℕ) →
+      Each Fit (word_actions_of_body w (slice_index_or (quick_phases z (header_of p) p.procs phases) phase NoStmts) []
+      q)
   phases_numbers [] q fit phase = tt
   phases_numbers (body ∷ []) q fit zero = either (nat_eq p.procs 1)
     where
-      either : (b : Bool) → Each Fit (word_actions_of_body w (cond b (quick_alone z (header_of p) body (loosest z (header_of p))).body (quick_phase z (header_of p) body)) [] q)
+      either : (b : Bool) →
+          Each Fit (word_actions_of_body w (cond b (quick_alone z (header_of p) body (loosest z (header_of p))).body
+          (quick_phase z (header_of p) body)) [] q)
       either true = alone_numbers body (loosest z (header_of p)) q (loose_long z p sound) (loose_sane z p sound) (fit 0)
       either false = phase_numbers body q (fit 0)
   phases_numbers (body ∷ []) q fit (suc phase) = tt
@@ -252,7 +266,8 @@ module _ (z : Laziness) (p : PlainProgram) (lazy : IsLazyWithin z p.modulus) (po
 
 -- what a processor below their number does in a phase is what its body says
 pub acts_are : (w : PlainWordProgram) (bodies : List WordBody) (phase q : ℕ) → q < w.frame.procs →
-    slice_index_or (slice_index_or (map (λ body. map (λ q. word_actions_of_body w body [] q) (range_with_len 0 w.frame.procs)) bodies) phase []) q []
+    slice_index_or (slice_index_or (map (λ body. map (λ q. word_actions_of_body w body [] q)
+    (range_with_len 0 w.frame.procs)) bodies) phase []) q []
     ≡ word_actions_of_body w (slice_index_or bodies phase NoStmts) [] q
 acts_are w [] phase q lt = refl
 acts_are w (body ∷ bodies) zero q lt = get_or-map-range_with_len (λ q. word_actions_of_body w body [] q) 0 w.frame.procs q q [] lt (omega arith)
@@ -260,8 +275,11 @@ acts_are w (body ∷ bodies) (suc phase) q lt = acts_are w bodies phase q lt
 
 -- the lists of a program on words have what its bodies have
 pub lists_have : (w : PlainWordProgram) (P : WordAction → Type 0) (bodies : List WordBody) →
-    ((q : ℕ) → q < w.frame.procs → (phase : ℕ) → Each P (word_actions_of_body w (slice_index_or bodies phase NoStmts) [] q)) →
-    (phase q : ℕ) → Each P (slice_index_or (slice_index_or (map (λ body. map (λ q. word_actions_of_body w body [] q) (range_with_len 0 w.frame.procs)) bodies) phase []) q [])
+    ((q : ℕ) → q < w.frame.procs → (phase : ℕ) →
+    Each P (word_actions_of_body w (slice_index_or bodies phase NoStmts) [] q)) →
+    (phase q : ℕ) → Each P
+    (slice_index_or (slice_index_or (map (λ body. map (λ q. word_actions_of_body w body [] q)
+    (range_with_len 0 w.frame.procs)) bodies) phase []) q [])
 lists_have w P [] each phase q = tt
 lists_have w P (body ∷ bodies) each zero q =
     let row = map (λ q. word_actions_of_body w body [] q) (range_with_len 0 w.frame.procs) in
@@ -275,7 +293,8 @@ lists_have w P (body ∷ bodies) each zero q =
 lists_have w P (body ∷ bodies) each (suc phase) q = lists_have w P bodies (λ q lt k. each q lt (suc k)) phase q
 
 -- a quickened program fits where the program does
-pub quickened_fits : (z : Laziness) (p : PlainProgram) → PlainFits p → IsLazyWithin z p.modulus → 0 < p.modulus → WordsFit (quickened z p)
+pub quickened_fits : (z : Laziness) (p : PlainProgram) → PlainFits p → IsLazyWithin z p.modulus → 0 < p.modulus →
+    WordsFit (quickened z p)
 quickened_fits z p fits lazy pos =
     record {
       fits = subst PlainFits (sym (bare_quickened z p)) fits;

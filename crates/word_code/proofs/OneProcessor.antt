@@ -67,7 +67,8 @@ module _ (w : Width) (size m line lanes regs : ℕ) (fs : List WordAction) where
   abbrev having : ℕ → Local → State
   having d s = moved_on (under alone) (standing 0 d s)
 
-  opens : (d : ℕ) (s : Local) (f : WordAction) (rest : List WordAction) → drop d fs ≡ f ∷ rest → having d s ≡ standing 0 d s
+  opens : (d : ℕ) (s : Local) (f : WordAction) (rest : List WordAction) → drop d fs ≡ f ∷ rest →
+      having d s ≡ standing 0 d s
   opens d s f rest e =
       let lt : d < length (actions_under fs) = omega (arith, is_left fs d f rest e, length-map fs (λ (f : WordAction). f.action)) in
       ap (λ b. cond b (standing 0 d s) (standing 1 0 s)) (open_at (under alone) 0 (d ∷ []) 0 (omega arith) lt)
@@ -77,20 +78,23 @@ module _ (w : Width) (size m line lanes regs : ℕ) (fs : List WordAction) where
       let ge : length (actions_under fs) ≤ d = omega (arith, none_is_left fs d e, length-map fs (λ (f : WordAction). f.action)) in
       ap (λ b. cond b (standing 0 d s) (standing 1 0 s)) (not_open (under alone) 0 (d ∷ []) (λ q lt. only q lt ge))
     where
-      only : (q : ℕ) → q < 1 → length (actions_under fs) ≤ d → nat_lt (slice_index (d ∷ []) q) (length (acts (under alone) 0 q)) ≡ false
+      only : (q : ℕ) → q < 1 → length (actions_under fs) ≤ d →
+          nat_lt (slice_index (d ∷ []) q) (length (acts (under alone) 0 q)) ≡ false
       only zero lt ge = le-ltb d (length (actions_under fs)) ge
       only (suc q) lt ge = absurd (omega arith)
 
   -- ---- turns
 
   -- the processor does the action that is next
-  acts_next : (d : ℕ) (s : Local) (f : WordAction) (rest : List WordAction) → drop d fs ≡ f ∷ rest → word_turn alone (having d s) 0 ≡ having (suc d) (word_effect w m lanes f s)
+  acts_next : (d : ℕ) (s : Local) (f : WordAction) (rest : List WordAction) → drop d fs ≡ f ∷ rest →
+      word_turn alone (having d s) 0 ≡ having (suc d) (word_effect w m lanes f s)
   acts_next d s f rest e =
       ap (λ t. word_turn alone t 0) (opens d s f rest e)
       ∙ ap (word_turn_with alone 0 (standing 0 d s)) (next_left fs d f rest e)
 
   -- there is no other processor
-  others_wait : (d q : ℕ) (s : Local) (f : WordAction) (rest : List WordAction) → drop d fs ≡ f ∷ rest → word_turn alone (having d s) (suc q) ≡ having d s
+  others_wait : (d q : ℕ) (s : Local) (f : WordAction) (rest : List WordAction) → drop d fs ≡ f ∷ rest →
+      word_turn alone (having d s) (suc q) ≡ having d s
   others_wait d q s f rest e =
       ap (λ t. word_turn alone t (suc q)) (opens d s f rest e) ∙ sym (opens d s f rest e)
 
@@ -108,7 +112,8 @@ module _ (w : Width) (size m line lanes regs : ℕ) (fs : List WordAction) where
   turn_from : (d q : ℕ) (s : Local) → Leads (leaves (drop d fs) s) (word_turn alone (having d s) q)
   turn_from d q s = cases (drop d fs) q refl
     where
-      cases : (gs : List WordAction) (q : ℕ) → drop d fs ≡ gs → Leads (leaves (drop d fs) s) (word_turn alone (having d s) q)
+      cases : (gs : List WordAction) (q : ℕ) → drop d fs ≡ gs →
+          Leads (leaves (drop d fs) s) (word_turn alone (having d s) q)
       cases [] q e = record { count = d; here = s; is = all_wait d q s e; leads = refl }
       cases (f ∷ rest) zero e =
           record {
@@ -135,7 +140,8 @@ module _ (w : Width) (size m line lanes regs : ℕ) (fs : List WordAction) where
 
   -- ---- the completion
 
-  runs_out : (gs : List WordAction) (d : ℕ) (s : Local) → drop d fs ≡ gs → (word_run alone (having d s) (replicate (length gs) 0)).memory ≡ (leaves gs s).memory
+  runs_out : (gs : List WordAction) (d : ℕ) (s : Local) → drop d fs ≡ gs →
+      (word_run alone (having d s) (replicate (length gs) 0)).memory ≡ (leaves gs s).memory
   runs_out [] d s e = ap (λ (t : State). t.memory) (ends d s e)
   runs_out (f ∷ gs) d s e =
       ap (λ t. (word_run alone t (replicate (length gs) 0)).memory) (acts_next d s f gs e)
@@ -168,11 +174,13 @@ module _ (w : Width) (size m line lanes regs : ℕ) (fs : List WordAction) where
   starts : (x : List ℕ) → start (under alone) x ≡ having 0 (start_alone alone x)
   starts x = cases (is_open (under alone) 0 (0 ∷ []))
     where
-      cases : (b : Bool) → standing (cond b 0 1) 0 (start_alone alone x) ≡ cond b (standing 0 0 (start_alone alone x)) (standing 1 0 (start_alone alone x))
+      cases : (b : Bool) → standing (cond b 0 1) 0 (start_alone alone x) ≡ cond b (standing 0 0 (start_alone alone x))
+          (standing 1 0 (start_alone alone x))
       cases true = refl
       cases false = refl
 
-  results_of_alone : (x turns : List ℕ) → word_results alone x turns ≡ words_at size (leaves fs (start_alone alone x)).memory (padded (under alone))
+  results_of_alone : (x turns : List ℕ) → word_results alone x turns
+      ≡ words_at size (leaves fs (start_alone alone x)).memory (padded (under alone))
   results_of_alone x turns =
       let s = start_alone alone x in
       let first : Leads (leaves fs s) (start (under alone) x) = record { count = 0; here = s; is = starts x; leads = refl } in
@@ -187,8 +195,10 @@ IsAlone code fs x turns =
     word_results code x turns ≡ words_at code.size (word_effects code.width code.modulus code.lanes fs (start_alone code x)).memory (padded (under code))
 
 -- a code of one processor and one phase leaves what its actions leave one after another, whatever the order of turns
-pub results_alone : (code : WordCode) (fs : List WordAction) → code.procs ≡ 1 → code.lists ≡ (fs ∷ []) ∷ [] → (x turns : List ℕ) →
-    word_results code x turns ≡ words_at code.size (word_effects code.width code.modulus code.lanes fs (start_alone code x)).memory (padded (under code))
+pub results_alone : (code : WordCode) (fs : List WordAction) → code.procs ≡ 1 → code.lists ≡ (fs ∷ []) ∷ [] →
+    (x turns : List ℕ) →
+    word_results code x turns ≡ words_at code.size (word_effects code.width code.modulus code.lanes fs
+    (start_alone code x)).memory (padded (under code))
 results_alone code fs one lists x turns =
     subst (λ n. IsAlone (again code n code.lists) fs x turns) (sym one)
     (subst (λ ls. IsAlone (again code 1 ls) fs x turns) (sym lists)

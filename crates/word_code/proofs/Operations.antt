@@ -34,14 +34,16 @@ scale z p =
 
 -- Bounds that are set
 
-pub set_sane : (limit : ℕ) (bounds : List ℕ) (r v : ℕ) → v ≤ limit → ((q : ℕ) → bound_at limit bounds q ≤ limit) → (q : ℕ) → bound_at limit (slice_set bounds r v) q ≤ limit
+pub set_sane : (limit : ℕ) (bounds : List ℕ) (r v : ℕ) → v ≤ limit → ((q : ℕ) → bound_at limit bounds q ≤ limit) →
+    (q : ℕ) → bound_at limit (slice_set bounds r v) q ≤ limit
 set_sane limit [] r v le sane q = omega arith
 set_sane limit (b ∷ bounds) zero v le sane zero = le
 set_sane limit (b ∷ bounds) zero v le sane (suc q) = sane (suc q)
 set_sane limit (b ∷ bounds) (suc r) v le sane zero = sane 0
 set_sane limit (b ∷ bounds) (suc r) v le sane (suc q) = set_sane limit bounds r v le (λ k. sane (suc k)) q
 
-tile_old : (limit n : ℕ) (bounds : List ℕ) (r v q : ℕ) → (q < r) ⊎ (r + n ≤ q) → bound_at limit bounds q ≤ bound_at limit (with_words bounds r (replicate n v)) q
+tile_old : (limit n : ℕ) (bounds : List ℕ) (r v q : ℕ) → (q < r) ⊎ (r + n ≤ q) →
+    bound_at limit bounds q ≤ bound_at limit (with_words bounds r (replicate n v)) q
 tile_old limit zero bounds r v q apart = omega arith
 tile_old limit (suc n) bounds r v q apart =
     let one : (q < r) ⊎ (r + 1 ≤ q) = elim apart [ inl lt ↦ inl lt | inr ge ↦ inr (omega (arith, ge)) ] in
@@ -50,7 +52,8 @@ tile_old limit (suc n) bounds r v q apart =
     let b = tile_old limit n (slice_set bounds r v) (r + 1) v q rest in
     omega (arith, a, b)
 
-tile_new : (limit n : ℕ) (bounds : List ℕ) (r v q : ℕ) → v ≤ limit → r ≤ q → q < r + n → v ≤ bound_at limit (with_words bounds r (replicate n v)) q
+tile_new : (limit n : ℕ) (bounds : List ℕ) (r v q : ℕ) → v ≤ limit → r ≤ q → q < r + n →
+    v ≤ bound_at limit (with_words bounds r (replicate n v)) q
 tile_new limit zero bounds r v q le from to = absurd (omega arith)
 tile_new limit (suc n) bounds r v q le from to =
     ⊎_elim
@@ -61,7 +64,8 @@ tile_new limit (suc n) bounds r v q le from to =
     (λ (later : r + 1 ≤ q). tile_new limit n (slice_set bounds r v) (r + 1) v q le later (omega arith))
     (cases_lt q (r + 1))
 
-pub tile_sane : (limit n : ℕ) (bounds : List ℕ) (r v : ℕ) → v ≤ limit → ((q : ℕ) → bound_at limit bounds q ≤ limit) → (q : ℕ) → bound_at limit (with_words bounds r (replicate n v)) q ≤ limit
+pub tile_sane : (limit n : ℕ) (bounds : List ℕ) (r v : ℕ) → v ≤ limit → ((q : ℕ) → bound_at limit bounds q ≤ limit) →
+    (q : ℕ) → bound_at limit (with_words bounds r (replicate n v)) q ≤ limit
 tile_sane limit zero bounds r v le sane = sane
 tile_sane limit (suc n) bounds r v le sane = tile_sane limit n (slice_set bounds r v) (r + 1) v le (set_sane limit bounds r v le sane)
 
@@ -69,7 +73,8 @@ pub tile_length : (n : ℕ) (bounds : List ℕ) (r v : ℕ) → length (with_wor
 tile_length zero bounds r v = refl
 tile_length (suc n) bounds r v = tile_length n (slice_set bounds r v) (r + 1) v ∙ length-set bounds r v
 
-greatest_is : (limit : ℕ) (bounds : List ℕ) (n x l : ℕ) → l < n → bound_at limit bounds (x + l) ≤ greatest_bound limit bounds n x
+greatest_is : (limit : ℕ) (bounds : List ℕ) (n x l : ℕ) → l < n →
+    bound_at limit bounds (x + l) ≤ greatest_bound limit bounds n x
 greatest_is limit bounds zero x l lt = absurd (omega arith)
 greatest_is limit bounds (suc n) x zero lt =
     let same : x + 0 ≡ x = omega arith in
@@ -80,7 +85,8 @@ greatest_is limit bounds (suc n) x (suc l) lt =
     let b = le-max_right (bound_at limit bounds x) (greatest_bound limit bounds n (x + 1)) in
     subst (λ k. bound_at limit bounds k ≤ greatest_bound limit bounds (suc n) x) (sym place) (omega (arith, a, b))
 
-pub greatest_sane : (limit : ℕ) (bounds : List ℕ) (n x : ℕ) → ((q : ℕ) → bound_at limit bounds q ≤ limit) → greatest_bound limit bounds n x ≤ limit
+pub greatest_sane : (limit : ℕ) (bounds : List ℕ) (n x : ℕ) → ((q : ℕ) → bound_at limit bounds q ≤ limit) →
+    greatest_bound limit bounds n x ≤ limit
 greatest_sane limit bounds zero x sane = omega arith
 greatest_sane limit bounds (suc n) x sane = max-le (sane x) (greatest_sane limit bounds n (x + 1) sane)
 
@@ -94,7 +100,8 @@ quotients_of_zeros base m zero = tt
 quotients_of_zeros base m (suc n) = (sym (quotient_of_zero base m), quotients_of_zeros base m n)
 
 pub quotients_of_lanes : (base m : ℕ) (f g : ℕ → ℕ) → ((l : ℕ) → g l ≡ quotient_of base m (f l)) → (n from k : ℕ) →
-    AreQuotients base m (map f (range_with_len from n) ++ replicate k 0) (map g (range_with_len from n) ++ replicate k 0)
+    AreQuotients base m (map f (range_with_len from n) ++ replicate k 0)
+    (map g (range_with_len from n) ++ replicate k 0)
 quotients_of_lanes base m f g e zero from k = quotients_of_zeros base m k
 quotients_of_lanes base m f g e (suc n) from k = (e from, quotients_of_lanes base m f g e n (from + 1) k)
 
@@ -108,19 +115,24 @@ enough_factors lanes f =
     rows zero from = refl
     rows (suc n) from = ap suc (rows n (from + 1))
 
-pub quotient_entry : (base m : ℕ) (entries : List ℕ) (i : ℕ) → slice_index (map (quotient_of base m) entries) i ≡ quotient_of base m (slice_index entries i)
+pub quotient_entry : (base m : ℕ) (entries : List ℕ) (i : ℕ) →
+    slice_index (map (quotient_of base m) entries) i ≡ quotient_of base m (slice_index entries i)
 quotient_entry base m [] i = sym (quotient_of_zero base m)
 quotient_entry base m (c ∷ entries) zero = refl
 quotient_entry base m (c ∷ entries) (suc i) = quotient_entry base m entries i
 
-pub quotient_table : (base m : ℕ) (tables : List (List ℕ)) (t : ℕ) → slice_index_or (map (λ entries. map (quotient_of base m) entries) tables) t [] ≡ map (quotient_of base m) (slice_index_or tables t [])
+pub quotient_table : (base m : ℕ) (tables : List (List ℕ)) (t : ℕ) →
+    slice_index_or (map (λ entries. map (quotient_of base m) entries) tables) t [] ≡ map (quotient_of base m)
+    (slice_index_or tables t [])
 quotient_table base m [] t = refl
 quotient_table base m (entries ∷ tables) zero = refl
 quotient_table base m (entries ∷ tables) (suc t) = quotient_table base m tables t
 
 -- what an operation on words does, and the bounds behind it
 pub record IsDone (z : Laziness) (p : PlainProgram) (bounds : List ℕ) (op : PlainOp) (vs : List ℕ) (q : ℕ) : Type 0 where
-  pub quick : IsQuick (scale z p) (bound_at z.limit bounds) (word_action_of (quickened z p) (noted z p.modulus p.lanes op bounds).note op vs q) (bound_at z.limit (noted z p.modulus p.lanes op bounds).bounds)
+  pub quick : IsQuick (scale z p) (bound_at z.limit bounds) (word_action_of (quickened z p)
+      (noted z p.modulus p.lanes op bounds).note op vs q) (bound_at z.limit
+      (noted z p.modulus p.lanes op bounds).bounds)
   pub long : length (noted z p.modulus p.lanes op bounds).bounds ≡ p.regs
 
 module _ (z : Laziness) (p : PlainProgram) (sound : IsSound (scale z p)) where
@@ -137,7 +149,8 @@ module _ (z : Laziness) (p : PlainProgram) (sound : IsSound (scale z p)) where
   some = let a = two in omega arith
 
   -- a load's words
-  place : (array : Array) (at : ℕ) → at + p.lanes ≤ whole_lines p.size p.line → (memory : List ℕ) → IsMemoryBelow s memory → (l : ℕ) → l < p.lanes →
+  place : (array : Array) (at : ℕ) → at + p.lanes ≤ whole_lines p.size p.line → (memory : List ℕ) →
+      IsMemoryBelow s memory → (l : ℕ) → l < p.lanes →
       slice_index memory (array_start (whole_lines p.size p.line) array + at + l) < array_bound z.kept array * p.modulus
   place arrays.X at fits memory kept l lt = let a = kept.outer (0 + at + l) (omega arith) in omega arith
   place arrays.Y at fits memory kept l lt = let a = kept.outer (whole_lines p.size p.line + at + l) (omega arith) in omega arith
@@ -151,33 +164,40 @@ module _ (z : Laziness) (p : PlainProgram) (sound : IsSound (scale z p)) where
   array_sane arrays.B = sound.of_b
 
   -- a store stays in its array: into the first two it has a residue, and into the others what they are below
-  outer : (array : Array) (at d : ℕ) → d ≤ array_bound z.kept array → (k : ℕ) → k < 2 * whole_lines p.size p.line → array_start (whole_lines p.size p.line) array + at ≤ k → d ≤ 1
+  outer : (array : Array) (at d : ℕ) → d ≤ array_bound z.kept array → (k : ℕ) → k < 2 * whole_lines p.size p.line →
+      array_start (whole_lines p.size p.line) array + at ≤ k → d ≤ 1
   outer arrays.X at d le k lt from = le
   outer arrays.Y at d le k lt from = le
   outer arrays.A at d le k lt from = absurd (omega arith)
   outer arrays.B at d le k lt from = absurd (omega arith)
 
-  in_a : (array : Array) (at d : ℕ) → at + p.lanes ≤ whole_lines p.size p.line → d ≤ array_bound z.kept array → (k : ℕ) → 2 * whole_lines p.size p.line ≤ k → k < 3 * whole_lines p.size p.line →
-      array_start (whole_lines p.size p.line) array + at ≤ k → k < array_start (whole_lines p.size p.line) array + at + p.lanes → d ≤ z.kept.of_a
+  in_a : (array : Array) (at d : ℕ) → at + p.lanes ≤ whole_lines p.size p.line → d ≤ array_bound z.kept array →
+      (k : ℕ) → 2 * whole_lines p.size p.line ≤ k → k < 3 * whole_lines p.size p.line →
+      array_start (whole_lines p.size p.line) array + at ≤ k →
+      k < array_start (whole_lines p.size p.line) array + at + p.lanes → d ≤ z.kept.of_a
   in_a arrays.X at d fits le k ge lt from to = absurd (omega arith)
   in_a arrays.Y at d fits le k ge lt from to = absurd (omega arith)
   in_a arrays.A at d fits le k ge lt from to = le
   in_a arrays.B at d fits le k ge lt from to = absurd (omega arith)
 
-  in_b : (array : Array) (at d : ℕ) → at + p.lanes ≤ whole_lines p.size p.line → d ≤ array_bound z.kept array → (k : ℕ) → 3 * whole_lines p.size p.line ≤ k →
+  in_b : (array : Array) (at d : ℕ) → at + p.lanes ≤ whole_lines p.size p.line → d ≤ array_bound z.kept array →
+      (k : ℕ) → 3 * whole_lines p.size p.line ≤ k →
       k < array_start (whole_lines p.size p.line) array + at + p.lanes → d ≤ z.kept.of_b
   in_b arrays.X at d fits le k ge to = absurd (omega arith)
   in_b arrays.Y at d fits le k ge to = absurd (omega arith)
   in_b arrays.A at d fits le k ge to = absurd (omega arith)
   in_b arrays.B at d fits le k ge to = le
 
-  settles : (x y target : ℕ) (bounds : List ℕ) → 2 ≤ target → x < length bounds → y < length bounds → ((r : ℕ) → bound_at z.limit bounds r ≤ z.limit) →
-      IsSettled (sums_of z.width) p.modulus p.lanes z.limit x y target bounds (settled p.modulus z.limit (2 * z.limit) x y target bounds)
+  settles : (x y target : ℕ) (bounds : List ℕ) → 2 ≤ target → x < length bounds → y < length bounds →
+      ((r : ℕ) → bound_at z.limit bounds r ≤ z.limit) →
+      IsSettled (sums_of z.width) p.modulus p.lanes z.limit x y target bounds
+      (settled p.modulus z.limit (2 * z.limit) x y target bounds)
   settles x y target bounds enough in_x in_y sane =
       settled_is (sums_of z.width) p.modulus p.lanes z.limit (2 * z.limit) x y target bounds sound.modulus roomy enough in_x in_y sane
       (let a = sane x in let b = sane y in omega (arith, a, b))
 
-  pub do_is_quick : (op : PlainOp) (bounds : List ℕ) (vs : List ℕ) (q : ℕ) → length bounds ≡ p.regs → ((r : ℕ) → bound_at z.limit bounds r ≤ z.limit) → StepFits p (step_of p op vs q) → IsDone z p bounds op vs q
+  pub do_is_quick : (op : PlainOp) (bounds : List ℕ) (vs : List ℕ) (q : ℕ) → length bounds ≡ p.regs →
+      ((r : ℕ) → bound_at z.limit bounds r ≤ z.limit) → StepFits p (step_of p op vs q) → IsDone z p bounds op vs q
   do_is_quick (Load r array expr) bounds vs q long sane fits =
       let v = array_bound z.kept array in
       let le : v ≤ z.limit = (array_sane array).1 in

@@ -51,7 +51,8 @@ pub below_of_all : (m : ℕ) (xs : List ℕ) → All (λ v. v < m) xs → AllBel
 below_of_all m [] all = tt
 below_of_all m (x ∷ xs) all = (all 0 x (omega arith), below_of_all m xs (λ k d lt. all (suc k) d (omega arith)))
 
-ends_weaker : (s : Scale) (b c d : ℕ → ℕ) (fs : List WordAction) → ((r : ℕ) → c r ≤ d r) → AreQuick s b fs c → AreQuick s b fs d
+ends_weaker : (s : Scale) (b c d : ℕ → ℕ) (fs : List WordAction) → ((r : ℕ) → c r ≤ d r) → AreQuick s b fs c →
+    AreQuick s b fs d
 ends_weaker s b c d [] le are = λ r. let x = are r in let y = le r in omega (arith, x, y)
 ends_weaker s b c d (f ∷ fs) le are = (are.0, are.1, ends_weaker s are.0 c d fs le are.2)
 
@@ -66,7 +67,8 @@ bare_evenly : (z : Laziness) (p : PlainProgram) → bare (evenly z p) ≡ p
 bare_evenly z p = ap (with_bodies p) (phases_stay z (header_of p) p.phases)
 
 pub stmt_under : (z : Laziness) (p : PlainProgram) (stmt : PlainStmt) (bounds vs : List ℕ) (q : ℕ) →
-    actions_under (word_actions_of_stmt (evenly z p) (quick_stmt z (header_of p) stmt bounds).stmt vs q) ≡ actions_of (steps_of_stmt p stmt vs q)
+    actions_under (word_actions_of_stmt (evenly z p) (quick_stmt z (header_of p) stmt bounds).stmt vs q)
+    ≡ actions_of (steps_of_stmt p stmt vs q)
 stmt_under z p stmt bounds vs q =
     stmt_acts (evenly z p) (quick_stmt z (header_of p) stmt bounds).stmt vs q
     ∙ ap₂ (λ p stmt. actions_of (steps_of_stmt p stmt vs q)) (bare_evenly z p) (stmt_stays z (header_of p) stmt bounds)
@@ -93,7 +95,8 @@ module _ (z : Laziness) (p : PlainProgram) (sound : IsSound (scale z p)) where
       copies zero = refl
       copies (suc n) = ap suc (copies n)
 
-  loose_weak : (bounds : List ℕ) → ((r : ℕ) → bound_at z.limit bounds r ≤ z.limit) → (r : ℕ) → bound_at z.limit bounds r ≤ bound_at z.limit loose r
+  loose_weak : (bounds : List ℕ) → ((r : ℕ) → bound_at z.limit bounds r ≤ z.limit) → (r : ℕ) →
+      bound_at z.limit bounds r ≤ bound_at z.limit loose r
   loose_weak bounds sane r = let e = loosest_is z.limit p.regs r in let a = sane r in omega (arith, e, a)
 
   -- a list of actions goes from the bounds to the bounds behind it
@@ -103,7 +106,9 @@ module _ (z : Laziness) (p : PlainProgram) (sound : IsSound (scale z p)) where
     pub long : length after ≡ p.regs
 
   -- the turns of a loop
-  loop_leads : (f : ℕ → List WordAction) (g : ℕ → List Step) (after : List ℕ) → ((i : ℕ) → Each (StepFits p) (g i) → Leads loose (f i) after) → (is : List ℕ) → Each (StepFits p) (flat_map g is) →
+  loop_leads : (f : ℕ → List WordAction) (g : ℕ → List Step) (after : List ℕ) →
+      ((i : ℕ) → Each (StepFits p) (g i) → Leads loose (f i) after) → (is : List ℕ) →
+      Each (StepFits p) (flat_map g is) →
       AreQuick s (bound_at z.limit loose) (flat_map f is) (bound_at z.limit loose)
   loop_leads f g after each [] fit = λ r. omega arith
   loop_leads f g after each (i ∷ is) fit =
@@ -113,8 +118,10 @@ module _ (z : Laziness) (p : PlainProgram) (sound : IsSound (scale z p)) where
       (loop_leads f g after each is (each_back (StepFits p) (g i) (flat_map g is) fit))
 
   mutual
-    pub stmt_leads : (stmt : PlainStmt) (bounds vs : List ℕ) (q : ℕ) → length bounds ≡ p.regs → ((r : ℕ) → bound_at z.limit bounds r ≤ z.limit) → Each (StepFits p) (steps_of_stmt p stmt vs q) →
-        Leads bounds (word_actions_of_stmt (evenly z p) (quick_stmt z (header_of p) stmt bounds).stmt vs q) (quick_stmt z (header_of p) stmt bounds).bounds
+    pub stmt_leads : (stmt : PlainStmt) (bounds vs : List ℕ) (q : ℕ) → length bounds ≡ p.regs →
+        ((r : ℕ) → bound_at z.limit bounds r ≤ z.limit) → Each (StepFits p) (steps_of_stmt p stmt vs q) →
+        Leads bounds (word_actions_of_stmt (evenly z p) (quick_stmt z (header_of p) stmt bounds).stmt vs q)
+        (quick_stmt z (header_of p) stmt bounds).bounds
     stmt_leads (plain.Loop count body) bounds vs q long sane fit =
         let fs : ℕ → List WordAction = λ i. word_actions_of_body (evenly z p) (quick_body z (header_of p) body loose).body (vs ++ i ∷ []) q in
         record {
@@ -130,8 +137,10 @@ module _ (z : Laziness) (p : PlainProgram) (sound : IsSound (scale z p)) where
         let done = do_is_quick z p sound op bounds vs q long sane fit.0 in
         record { goes = (bound_at z.limit (noted z p.modulus p.lanes op bounds).bounds, done.quick, λ r. omega arith); sane = done.quick.sane; long = done.long }
 
-    body_leads : (body : PlainBody) (bounds vs : List ℕ) (q : ℕ) → length bounds ≡ p.regs → ((r : ℕ) → bound_at z.limit bounds r ≤ z.limit) → Each (StepFits p) (steps_of_body p body vs q) →
-        Leads bounds (word_actions_of_body (evenly z p) (quick_body z (header_of p) body bounds).body vs q) (quick_body z (header_of p) body bounds).bounds
+    body_leads : (body : PlainBody) (bounds vs : List ℕ) (q : ℕ) → length bounds ≡ p.regs →
+        ((r : ℕ) → bound_at z.limit bounds r ≤ z.limit) → Each (StepFits p) (steps_of_body p body vs q) →
+        Leads bounds (word_actions_of_body (evenly z p) (quick_body z (header_of p) body bounds).body vs q)
+        (quick_body z (header_of p) body bounds).bounds
     body_leads plain.NoStmts bounds vs q long sane fit = record { goes = λ r. omega arith; sane = sane; long = long }
     body_leads (plain.AndStmts stmt rest) bounds vs q long sane fit =
         let one = stmt_leads stmt bounds vs q long sane (each_front (StepFits p) (steps_of_stmt p stmt vs q) (steps_of_body p rest vs q) fit) in
@@ -158,12 +167,14 @@ module _ (z : Laziness) (p : PlainProgram) (sound : IsSound (scale z p)) where
   row body = map (λ q. word_actions_of_body (evenly z p) body [] q) (range_with_len 0 p.procs)
 
   -- the lists of the phases
-  past_processors : (bodies : List WordBody) (phase q : ℕ) → p.procs ≤ q → slice_index_or (slice_index_or (map row bodies) phase []) q [] ≡ []
+  past_processors : (bodies : List WordBody) (phase q : ℕ) → p.procs ≤ q →
+      slice_index_or (slice_index_or (map row bodies) phase []) q [] ≡ []
   past_processors [] phase q ge = refl
   past_processors (body ∷ bodies) zero q ge = let a = length-map-range_with_len (λ q. word_actions_of_body (evenly z p) body [] q) 0 p.procs in get_or_past (row body) q [] (omega (arith, a, ge))
   past_processors (body ∷ bodies) (suc phase) q ge = past_processors bodies phase q ge
 
-  in_phase : (bodies : List PlainBody) (phase q : ℕ) → q < p.procs → Each (StepFits p) (steps_of_body p (slice_index_or bodies phase plain.NoStmts) [] q) →
+  in_phase : (bodies : List PlainBody) (phase q : ℕ) → q < p.procs →
+      Each (StepFits p) (steps_of_body p (slice_index_or bodies phase plain.NoStmts) [] q) →
       AreQuick s top (slice_index_or (slice_index_or (map row (map quick_of bodies)) phase []) q []) top
   in_phase [] phase q lt fit = λ r. omega arith
   in_phase (body ∷ bodies) zero q lt fit =
@@ -186,7 +197,8 @@ module _ (z : Laziness) (p : PlainProgram) (sound : IsSound (scale z p)) where
       }
 
 -- what it leaves is what the program leaves, whatever the order of turns
-pub evenly_is_same : (z : Laziness) (p : PlainProgram) → PlainFits p → IsLazyWithin z p.modulus → 0 < p.modulus → 1 ≤ p.line → (x turns : List ℕ) → All (λ v. v < p.modulus) x →
+pub evenly_is_same : (z : Laziness) (p : PlainProgram) → PlainFits p → IsLazyWithin z p.modulus → 0 < p.modulus →
+    1 ≤ p.line → (x turns : List ℕ) → All (λ v. v < p.modulus) x →
     word_results (word_code (evenly z p)) x turns ≡ results (plain_code p) x turns
 evenly_is_same z p fits lazy pos line x turns low =
     let sound : IsSound (scale z p) = record { half = lazy.half; modulus = pos; room = lazy.room; sums = lazy.sums; product = lazy.product; of_a = lazy.of_a; of_b = lazy.of_b } in

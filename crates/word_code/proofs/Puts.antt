@@ -35,15 +35,19 @@ pub record IsSound (s : Scale) : Type 0 where
 -- the words that an action puts into n registers stand for those of the residues, and are below v times the modulus
 pub record IsPut (s : Scale) (b : Bounds) (action : Action) (bias : ℕ) (quotients : List ℕ) (n v : ℕ) : Type 0 where
   pub same : (t : Local) → AreRegistersBelow s.modulus s.lanes b t.registers →
-      value_put s.modulus s.lanes action (residue_local s.modulus t) ≡ residues s.modulus (word_put s.width s.modulus s.lanes bias quotients action t)
+      value_put s.modulus s.lanes action (residue_local s.modulus t)
+      ≡ residues s.modulus (word_put s.width s.modulus s.lanes bias quotients action t)
   pub low : (t : Local) → IsMemoryBelow s t.memory → AreRegistersBelow s.modulus s.lanes b t.registers →
       AllBelow (v * s.modulus) (word_put s.width s.modulus s.lanes bias quotients action t)
   pub long : (t : Local) → length (word_put s.width s.modulus s.lanes bias quotients action t) ≡ n * s.lanes
 
 -- an action that leaves the memory
-pub quick_put : (s : Scale) (b d c : Bounds) (rs : List Reduction) (action : Action) (bias : ℕ) (quotients : List ℕ) (n v : ℕ) →
-    AreReductions (sums_of s.width) s.modulus s.lanes b rs d → ((t : Local) → memory_after s.lanes action t ≡ t.memory) → IsPut s d action bias quotients n v →
-    ((r : ℕ) → c r ≤ s.limit) → ((q : ℕ) → register_put action ≤ q → q < register_put action + n → v ≤ c q) → ((q : ℕ) → (q < register_put action) ⊎ (register_put action + n ≤ q) → d q ≤ c q) →
+pub quick_put : (s : Scale) (b d c : Bounds) (rs : List Reduction) (action : Action) (bias : ℕ) (quotients : List ℕ)
+    (n v : ℕ) →
+    AreReductions (sums_of s.width) s.modulus s.lanes b rs d →
+    ((t : Local) → memory_after s.lanes action t ≡ t.memory) → IsPut s d action bias quotients n v →
+    ((r : ℕ) → c r ≤ s.limit) → ((q : ℕ) → register_put action ≤ q → q < register_put action + n → v ≤ c q) →
+    ((q : ℕ) → (q < register_put action) ⊎ (register_put action + n ≤ q) → d q ≤ c q) →
     IsQuick s b (record { before = rs; action = action; bias = bias; quotients = quotients }) c
 quick_put s b d c rs action bias quotients n v reductions stays put sane new old =
     record {
@@ -135,7 +139,8 @@ zero_put s d r sound =
       long = λ t. length-zeros s.lanes ∙ one_lane s.lanes;
     }
 
-pub load_put : (s : Scale) (d : Bounds) (r address v : ℕ) → ((memory : List ℕ) → IsMemoryBelow s memory → (l : ℕ) → l < s.lanes → slice_index memory (address + l) < v * s.modulus) →
+pub load_put : (s : Scale) (d : Bounds) (r address v : ℕ) → ((memory : List ℕ) → IsMemoryBelow s memory → (l : ℕ) →
+    l < s.lanes → slice_index memory (address + l) < v * s.modulus) →
     IsPut s d (Load r address) 0 [] 1 v
 load_put s d r address v place =
     record {
@@ -145,13 +150,15 @@ load_put s d r address v place =
     }
 
 -- the words of two registers
-length-both : (s : Scale) (f : ℕ → ℕ → ℕ) (words : List ℕ) (x y : ℕ) → length (lane_by_lane f (register_of s.lanes words x) (register_of s.lanes words y)) ≡ 1 * s.lanes
+length-both : (s : Scale) (f : ℕ → ℕ → ℕ) (words : List ℕ) (x y : ℕ) →
+    length (lane_by_lane f (register_of s.lanes words x) (register_of s.lanes words y)) ≡ 1 * s.lanes
 length-both s f words x y =
     let a = length-words_at s.lanes words (x * s.lanes) in
     let b = length-words_at s.lanes words (y * s.lanes) in
     length-lane_by_lane f (register_of s.lanes words x) (register_of s.lanes words y) (omega (arith, a, b)) ∙ a ∙ one_lane s.lanes
 
-pub add_put : (s : Scale) (d : Bounds) (r x y : ℕ) → IsSound s → d x + d y ≤ s.limit → IsPut s d (Add r x y) 0 [] 1 (d x + d y)
+pub add_put : (s : Scale) (d : Bounds) (r x y : ℕ) → IsSound s → d x + d y ≤ s.limit →
+    IsPut s d (Add r x y) 0 [] 1 (d x + d y)
 add_put s d r x y sound small =
     record {
       same = λ t low. ap₂ (lane_by_lane (sum_mod s.modulus)) (residues-words_at s.modulus s.lanes t.registers (x * s.lanes)) (residues-words_at s.modulus s.lanes t.registers (y * s.lanes)) ∙ (lanes t low).0;
@@ -160,8 +167,12 @@ add_put s d r x y sound small =
     }
   where
     lanes : (t : Local) → AreRegistersBelow s.modulus s.lanes d t.registers →
-        (lane_by_lane (sum_mod s.modulus) (residues s.modulus (register_of s.lanes t.registers x)) (residues s.modulus (register_of s.lanes t.registers y)) ≡ residues s.modulus (lane_by_lane (wrapped_sum (sums_of s.width)) (register_of s.lanes t.registers x) (register_of s.lanes t.registers y)))
-        × AllBelow ((d x + d y) * s.modulus) (lane_by_lane (wrapped_sum (sums_of s.width)) (register_of s.lanes t.registers x) (register_of s.lanes t.registers y))
+        (lane_by_lane (sum_mod s.modulus) (residues s.modulus (register_of s.lanes t.registers x))
+        (residues s.modulus (register_of s.lanes t.registers y))
+        ≡ residues s.modulus (lane_by_lane (wrapped_sum (sums_of s.width)) (register_of s.lanes t.registers x)
+        (register_of s.lanes t.registers y)))
+        × AllBelow ((d x + d y) * s.modulus) (lane_by_lane (wrapped_sum (sums_of s.width))
+        (register_of s.lanes t.registers x) (register_of s.lanes t.registers y))
     lanes t low =
         let up = mul-le-mul_left s.modulus small in
         let all = sound.room in
@@ -172,7 +183,8 @@ add_put s d r x y sound small =
         (λ a b la lb. let go = sum_word (sums_of s.width) s.modulus (d x * s.modulus) (d y * s.modulus) a b room la lb in (go.0, subst (λ k. wrapped_sum (sums_of s.width) a b < k) (sym spread) go.1))
         (register_of s.lanes t.registers x) (register_of s.lanes t.registers y) (register_below s.modulus s.lanes d t.registers x low) (register_below s.modulus s.lanes d t.registers y low)
 
-pub sub_put : (s : Scale) (d : Bounds) (r x y : ℕ) → IsSound s → d x + d y ≤ s.limit → IsPut s d (Sub r x y) (d y * s.modulus) [] 1 (d x + d y)
+pub sub_put : (s : Scale) (d : Bounds) (r x y : ℕ) → IsSound s → d x + d y ≤ s.limit →
+    IsPut s d (Sub r x y) (d y * s.modulus) [] 1 (d x + d y)
 sub_put s d r x y sound small =
     record {
       same = λ t low. ap₂ (lane_by_lane (difference_mod s.modulus)) (residues-words_at s.modulus s.lanes t.registers (x * s.lanes)) (residues-words_at s.modulus s.lanes t.registers (y * s.lanes)) ∙ (lanes t low).0;
@@ -181,8 +193,12 @@ sub_put s d r x y sound small =
     }
   where
     lanes : (t : Local) → AreRegistersBelow s.modulus s.lanes d t.registers →
-        (lane_by_lane (difference_mod s.modulus) (residues s.modulus (register_of s.lanes t.registers x)) (residues s.modulus (register_of s.lanes t.registers y)) ≡ residues s.modulus (lane_by_lane (biased_difference (sums_of s.width) (d y * s.modulus)) (register_of s.lanes t.registers x) (register_of s.lanes t.registers y)))
-        × AllBelow ((d x + d y) * s.modulus) (lane_by_lane (biased_difference (sums_of s.width) (d y * s.modulus)) (register_of s.lanes t.registers x) (register_of s.lanes t.registers y))
+        (lane_by_lane (difference_mod s.modulus) (residues s.modulus (register_of s.lanes t.registers x))
+        (residues s.modulus (register_of s.lanes t.registers y))
+        ≡ residues s.modulus (lane_by_lane (biased_difference (sums_of s.width) (d y * s.modulus))
+        (register_of s.lanes t.registers x) (register_of s.lanes t.registers y)))
+        × AllBelow ((d x + d y) * s.modulus) (lane_by_lane (biased_difference (sums_of s.width) (d y * s.modulus))
+        (register_of s.lanes t.registers x) (register_of s.lanes t.registers y))
     lanes t low =
         let up = mul-le-mul_left s.modulus small in
         let all = sound.room in
@@ -193,7 +209,8 @@ sub_put s d r x y sound small =
         (λ a b la lb. let go = difference_word (sums_of s.width) s.modulus (d x * s.modulus) (d y) a b sound.modulus room la lb in (go.0, subst (λ k. biased_difference (sums_of s.width) (d y * s.modulus) a b < k) (sym spread) go.1))
         (register_of s.lanes t.registers x) (register_of s.lanes t.registers y) (register_below s.modulus s.lanes d t.registers x low) (register_below s.modulus s.lanes d t.registers y low)
 
-pub neg_put : (s : Scale) (d : Bounds) (r x : ℕ) → IsSound s → d x + 1 ≤ s.limit → IsPut s d (Neg r x) (d x * s.modulus) [] 1 (d x + 1)
+pub neg_put : (s : Scale) (d : Bounds) (r x : ℕ) → IsSound s → d x + 1 ≤ s.limit →
+    IsPut s d (Neg r x) (d x * s.modulus) [] 1 (d x + 1)
 neg_put s d r x sound small =
     record {
       same = λ t low. ap (map (negation_mod s.modulus)) (residues-words_at s.modulus s.lanes t.registers (x * s.lanes)) ∙ (lanes t low).0;
@@ -202,8 +219,11 @@ neg_put s d r x sound small =
     }
   where
     lanes : (t : Local) → AreRegistersBelow s.modulus s.lanes d t.registers →
-        (map (negation_mod s.modulus) (residues s.modulus (register_of s.lanes t.registers x)) ≡ residues s.modulus (map (wrapped_difference (sums_of s.width) (d x * s.modulus)) (register_of s.lanes t.registers x)))
-        × AllBelow ((d x + 1) * s.modulus) (map (wrapped_difference (sums_of s.width) (d x * s.modulus)) (register_of s.lanes t.registers x))
+        (map (negation_mod s.modulus) (residues s.modulus (register_of s.lanes t.registers x))
+        ≡ residues s.modulus (map (wrapped_difference (sums_of s.width) (d x * s.modulus))
+        (register_of s.lanes t.registers x)))
+        × AllBelow ((d x + 1) * s.modulus) (map (wrapped_difference (sums_of s.width) (d x * s.modulus))
+        (register_of s.lanes t.registers x))
     lanes t low =
         let up = mul-le-mul_left s.modulus small in
         let all = sound.room in
@@ -213,7 +233,8 @@ neg_put s d r x sound small =
         (λ a la. negation_word (sums_of s.width) s.modulus (d x) a sound.modulus room la)
         (register_of s.lanes t.registers x) (register_below s.modulus s.lanes d t.registers x low)
 
-pub mul_put : (s : Scale) (d : Bounds) (r x bias : ℕ) (factors quotients : List ℕ) → IsSound s → d x ≤ s.limit → s.lanes ≤ length factors → AreQuotients (base_of s.width) s.modulus factors quotients →
+pub mul_put : (s : Scale) (d : Bounds) (r x bias : ℕ) (factors quotients : List ℕ) → IsSound s → d x ≤ s.limit →
+    s.lanes ≤ length factors → AreQuotients (base_of s.width) s.modulus factors quotients →
     IsPut s d (Mul r x factors) bias quotients 1 (product_bound s.width)
 mul_put s d r x bias factors quotients sound sane enough are =
     record {
@@ -225,8 +246,11 @@ mul_put s d r x bias factors quotients sound sane enough are =
     }
   where
     lanes : (t : Local) → AreRegistersBelow s.modulus s.lanes d t.registers →
-        (lane_by_lane (product_mod s.modulus) (residues s.modulus (register_of s.lanes t.registers x)) factors ≡ residues s.modulus (lane_by_three (lazy_product s.width s.modulus) (register_of s.lanes t.registers x) factors quotients))
-        × AllBelow (product_bound s.width * s.modulus) (lane_by_three (lazy_product s.width s.modulus) (register_of s.lanes t.registers x) factors quotients)
+        (lane_by_lane (product_mod s.modulus) (residues s.modulus (register_of s.lanes t.registers x)) factors
+        ≡ residues s.modulus (lane_by_three (lazy_product s.width s.modulus)
+        (register_of s.lanes t.registers x) factors quotients))
+        × AllBelow (product_bound s.width * s.modulus) (lane_by_three (lazy_product s.width s.modulus)
+        (register_of s.lanes t.registers x) factors quotients)
     lanes t low =
         let all = sound.room in
         let up = mul-le-mul_left s.modulus sound.product in
@@ -238,14 +262,16 @@ length-row : (f : ℕ → ℕ) (n from : ℕ) → length (map f (range_with_len 
 length-row f zero from = refl
 length-row f (suc n) from = ap suc (length-row f n (from + 1))
 
-length-rows : (f : ℕ → ℕ → ℕ) (wide n from : ℕ) → length (flat_map (λ k. map (f k) (range_with_len 0 wide)) (range_with_len from n)) ≡ n * wide
+length-rows : (f : ℕ → ℕ → ℕ) (wide n from : ℕ) → length (flat_map (λ k. map (f k) (range_with_len 0 wide))
+    (range_with_len from n)) ≡ n * wide
 length-rows f wide zero from = omega arith
 length-rows f wide (suc n) from =
     let rest = length-rows f wide n (from + 1) in
     let row = length-row (f from) wide 0 in
     length-append (map (f from) (range_with_len 0 wide)) (flat_map (λ k. map (f k) (range_with_len 0 wide)) (range_with_len (from + 1) n)) ∙ omega (arith, rest, row)
 
-pub tile_put : (s : Scale) (d : Bounds) (r x v : ℕ) → ((l : ℕ) → l < s.lanes → d (x + l) ≤ v) → IsPut s d (Tile r x) 0 [] s.lanes v
+pub tile_put : (s : Scale) (d : Bounds) (r x v : ℕ) → ((l : ℕ) → l < s.lanes → d (x + l) ≤ v) →
+    IsPut s d (Tile r x) 0 [] s.lanes v
 tile_put s d r x v greatest =
     record {
       same = λ t low. residues-transposed s.modulus s.lanes t.registers x;

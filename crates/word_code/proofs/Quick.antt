@@ -29,7 +29,8 @@ residue_local m t = record { memory = residues m t.memory; registers = residues 
 pub record IsQuick (s : Scale) (b : Bounds) (f : WordAction) (c : Bounds) : Type 0 where
   pub sane : (r : ℕ) → c r ≤ s.limit
   pub same : (t : Local) → IsMemoryBelow s t.memory → AreRegistersBelow s.modulus s.lanes b t.registers →
-      effect s.modulus s.lanes f.action (residue_local s.modulus t) ≡ residue_local s.modulus (word_effect s.width s.modulus s.lanes f t)
+      effect s.modulus s.lanes f.action (residue_local s.modulus t)
+      ≡ residue_local s.modulus (word_effect s.width s.modulus s.lanes f t)
   pub memory : (t : Local) → IsMemoryBelow s t.memory → AreRegistersBelow s.modulus s.lanes b t.registers →
       IsMemoryBelow s (word_effect s.width s.modulus s.lanes f t).memory
   pub registers : (t : Local) → IsMemoryBelow s t.memory → AreRegistersBelow s.modulus s.lanes b t.registers →
@@ -40,7 +41,8 @@ abbrev pub AreQuick : Scale → Bounds → List WordAction → Bounds → Type 0
 AreQuick s b [] c = (r : ℕ) → b r ≤ c r
 AreQuick s b (f ∷ fs) c = (d : Bounds) × IsQuick s b f d × AreQuick s d fs c
 
-pub from_weaker : (s : Scale) (a b : Bounds) (fs : List WordAction) (c : Bounds) → ((r : ℕ) → a r ≤ b r) → AreQuick s b fs c → AreQuick s a fs c
+pub from_weaker : (s : Scale) (a b : Bounds) (fs : List WordAction) (c : Bounds) → ((r : ℕ) → a r ≤ b r) →
+    AreQuick s b fs c → AreQuick s a fs c
 from_weaker s a b [] c le are = λ r. let x = le r in let y = are r in omega (arith, x, y)
 from_weaker s a b (f ∷ fs) c le are = (
   are.0,
@@ -53,6 +55,7 @@ from_weaker s a b (f ∷ fs) c le are = (
   are.2,
 )
 
-pub quick-append : (s : Scale) (b c d : Bounds) (fs gs : List WordAction) → AreQuick s b fs c → AreQuick s c gs d → AreQuick s b (fs ++ gs) d
+pub quick-append : (s : Scale) (b c d : Bounds) (fs gs : List WordAction) → AreQuick s b fs c → AreQuick s c gs d →
+    AreQuick s b (fs ++ gs) d
 quick-append s b c d [] gs le are = from_weaker s b c gs d le are
 quick-append s b c d (f ∷ fs) gs first second = (first.0, first.1, quick-append s first.0 c d fs gs first.2 second)

@@ -16,7 +16,8 @@ use Rattle.word_code.proofs.Flow.{alone_is_same}
 abbrev IsOfOne : ℕ → List PlainBody → Type 0
 IsOfOne procs phases = (body : PlainBody) × (procs ≡ 1) × (phases ≡ body ∷ [])
 
-one_or_evenly : (z : Laziness) (h : Header) (procs : ℕ) (phases : List PlainBody) → IsOfOne procs phases ⊎ (quick_phases z h procs phases ≡ map (quick_phase z h) phases)
+one_or_evenly : (z : Laziness) (h : Header) (procs : ℕ) (phases : List PlainBody) →
+    IsOfOne procs phases ⊎ (quick_phases z h procs phases ≡ map (quick_phase z h) phases)
 one_or_evenly z h procs [] = inr refl
 one_or_evenly z h procs (body ∷ []) =
     ⊎_elim

@@ -38,13 +38,15 @@ set_bound limit [] r v le = le
 set_bound limit (b ∷ bounds) zero v le = omega arith
 set_bound limit (b ∷ bounds) (suc r) v le = set_bound limit bounds r v le
 
-pub kept_bound : (limit : ℕ) (bounds : List ℕ) (r v q : ℕ) → (q < r) ⊎ (r + 1 ≤ q) → bound_at limit bounds q ≤ bound_at limit (slice_set bounds r v) q
+pub kept_bound : (limit : ℕ) (bounds : List ℕ) (r v q : ℕ) → (q < r) ⊎ (r + 1 ≤ q) →
+    bound_at limit bounds q ≤ bound_at limit (slice_set bounds r v) q
 kept_bound limit bounds r v q apart =
     let other : q ≢ r = λ e. elim apart [ inl lt ↦ omega (arith, lt, e) | inr gt ↦ omega (arith, gt, e) ] in
     let e : bound_at limit (slice_set bounds r v) q ≡ bound_at limit bounds q = get_or-set_other bounds r q v limit other in
     omega arith
 
-pub set_bound_here : (limit : ℕ) (bounds : List ℕ) (r v q : ℕ) → v ≤ limit → r ≤ q → q < r + 1 → v ≤ bound_at limit (slice_set bounds r v) q
+pub set_bound_here : (limit : ℕ) (bounds : List ℕ) (r v q : ℕ) → v ≤ limit → r ≤ q → q < r + 1 →
+    v ≤ bound_at limit (slice_set bounds r v) q
 set_bound_here limit bounds r v q le from to =
     let e : q ≡ r = omega arith in
     subst (λ k. v ≤ bound_at limit (slice_set bounds r v) k) (sym e) (set_bound limit bounds r v le)
@@ -60,20 +62,25 @@ half_less b two = let a = div-add-mod' (b + 1) 2 in omega arith
 
 -- what reductions keep and what they reach
 pub record AreReductions (base m lanes : ℕ) (b : Bounds) (rs : List Reduction) (c : Bounds) : Type 0 where
-  pub same : (words : List ℕ) → AreRegistersBelow m lanes b words → residues m (reduce_registers base lanes rs words) ≡ residues m words
-  pub below : (words : List ℕ) → AreRegistersBelow m lanes b words → AreRegistersBelow m lanes c (reduce_registers base lanes rs words)
+  pub same : (words : List ℕ) → AreRegistersBelow m lanes b words →
+      residues m (reduce_registers base lanes rs words) ≡ residues m words
+  pub below : (words : List ℕ) → AreRegistersBelow m lanes b words →
+      AreRegistersBelow m lanes c (reduce_registers base lanes rs words)
 
 pub no_reductions : (base m lanes : ℕ) (b : Bounds) → AreReductions base m lanes b [] b
 no_reductions base m lanes b = record { same = λ words low. refl; below = λ words low. low }
 
-and_reductions : (base m lanes : ℕ) (b c d : Bounds) (r : Reduction) (rs : List Reduction) → AreReductions base m lanes b (r ∷ []) c → AreReductions base m lanes c rs d → AreReductions base m lanes b (r ∷ rs) d
+and_reductions : (base m lanes : ℕ) (b c d : Bounds) (r : Reduction) (rs : List Reduction) →
+    AreReductions base m lanes b (r ∷ []) c → AreReductions base m lanes c rs d →
+    AreReductions base m lanes b (r ∷ rs) d
 and_reductions base m lanes b c d r rs one rest =
     record {
       same = λ words low. rest.same (reduce_register base lanes r words) (one.below words low) ∙ one.same words low;
       below = λ words low. rest.below (reduce_register base lanes r words) (one.below words low);
     }
 
-one_reduction : (base m lanes limit r : ℕ) (bounds : List ℕ) → 0 < m → limit * m < base → bound_at limit bounds r ≤ limit →
+one_reduction : (base m lanes limit r : ℕ) (bounds : List ℕ) → 0 < m → limit * m < base →
+    bound_at limit bounds r ≤ limit →
     AreReductions base m lanes (bound_at limit bounds) (record { register = r; amount = half_up (bound_at limit bounds r) * m } ∷ []) (bound_at limit (slice_set bounds r (half_up (bound_at limit bounds r))))
 one_reduction base m lanes limit r bounds pos room sane =
     record { same = λ words low. same words low; below = λ words low. below words low }
@@ -85,7 +92,9 @@ one_reduction base m lanes limit r bounds pos room sane =
     h = half_up b
 
     lazy : (words : List ℕ) → AreRegistersBelow m lanes (bound_at limit bounds) words →
-        (map (λ a. a) (residues m (register_of lanes words r)) ≡ residues m (map (reduced base (h * m)) (register_of lanes words r))) × AllBelow (h * m) (map (reduced base (h * m)) (register_of lanes words r))
+        (map (λ a. a) (residues m (register_of lanes words r))
+        ≡ residues m (map (reduced base (h * m)) (register_of lanes words r))) × AllBelow (h * m)
+        (map (reduced base (h * m)) (register_of lanes words r))
     lazy words low =
         let low_half = mul-le-mul_left m (half_low b) in
         let under = half_under b in
@@ -98,14 +107,18 @@ one_reduction base m lanes limit r bounds pos room sane =
         (λ a lt. let small : a < base = omega (arith, lt, up, room) in reduced_word base m h (b * m) a pos enough fits small lt)
         (register_of lanes words r) (register_below m lanes (bound_at limit bounds) words r low)
 
-    same : (words : List ℕ) → AreRegistersBelow m lanes (bound_at limit bounds) words → residues m (with_words words (r * lanes) (map (reduced base (h * m)) (register_of lanes words r))) ≡ residues m words
+    same : (words : List ℕ) → AreRegistersBelow m lanes (bound_at limit bounds) words →
+        residues m (with_words words (r * lanes) (map (reduced base (h * m)) (register_of lanes words r)))
+        ≡ residues m words
     same words low =
         sym (residues-with_words m (map (reduced base (h * m)) (register_of lanes words r)) words (r * lanes))
         ∙ ap (with_words (residues m words) (r * lanes)) (sym (lazy words low).0 ∙ map-same (residues m (register_of lanes words r)))
         ∙ residues-with_words m (register_of lanes words r) words (r * lanes)
         ∙ ap (residues m) (with_words-same lanes words (r * lanes))
 
-    below : (words : List ℕ) → AreRegistersBelow m lanes (bound_at limit bounds) words → AreRegistersBelow m lanes (bound_at limit (slice_set bounds r h)) (with_words words (r * lanes) (map (reduced base (h * m)) (register_of lanes words r)))
+    below : (words : List ℕ) → AreRegistersBelow m lanes (bound_at limit bounds) words →
+        AreRegistersBelow m lanes (bound_at limit (slice_set bounds r h))
+        (with_words words (r * lanes) (map (reduced base (h * m)) (register_of lanes words r)))
     below words low =
         let less : h ≤ limit = let under = half_under b in omega (arith, under, sane) in
         let one : 1 * lanes ≡ lanes = omega arith in
@@ -128,7 +141,8 @@ length-set [] i v = refl
 length-set (x ∷ xs) zero v = refl
 length-set (x ∷ xs) (suc i) v = ap suc (length-set xs i v)
 
-pub set_lower : (limit : ℕ) (bounds : List ℕ) (r v q : ℕ) → v ≤ bound_at limit bounds r → bound_at limit (slice_set bounds r v) q ≤ bound_at limit bounds q
+pub set_lower : (limit : ℕ) (bounds : List ℕ) (r v q : ℕ) → v ≤ bound_at limit bounds r →
+    bound_at limit (slice_set bounds r v) q ≤ bound_at limit bounds q
 set_lower limit [] r v q le = omega arith
 set_lower limit (b ∷ bounds) zero v zero le = le
 set_lower limit (b ∷ bounds) zero v (suc q) le = omega arith
@@ -137,9 +151,11 @@ set_lower limit (b ∷ bounds) (suc r) v (suc q) le = set_lower limit bounds r v
 
 -- one of the two falls
 falls : (limit x y target n : ℕ) (bounds : List ℕ) → 2 ≤ target → x < length bounds → y < length bounds →
-    target < bound_at limit bounds x + bound_at limit bounds y → bound_at limit bounds x + bound_at limit bounds y ≤ target + suc n →
+    target < bound_at limit bounds x + bound_at limit bounds y →
+    bound_at limit bounds x + bound_at limit bounds y ≤ target + suc n →
     (r : ℕ) → (r ≡ x) ⊎ (r ≡ y) → 2 ≤ bound_at limit bounds r →
-    bound_at limit (slice_set bounds r (half_up (bound_at limit bounds r))) x + bound_at limit (slice_set bounds r (half_up (bound_at limit bounds r))) y ≤ target + n
+    bound_at limit (slice_set bounds r (half_up (bound_at limit bounds r))) x
+    + bound_at limit (slice_set bounds r (half_up (bound_at limit bounds r))) y ≤ target + n
 falls limit x y target n bounds two in_x in_y over fuel r which big =
     let h = half_up (bound_at limit bounds r) in
     let less = half_less (bound_at limit bounds r) big in
@@ -159,8 +175,10 @@ falls limit x y target n bounds two in_x in_y over fuel r which big =
           omega (arith, there, was, less, at_x, fuel)
     ]
 
-greater_is : (limit x y target : ℕ) (bounds : List ℕ) → 2 ≤ target → target < bound_at limit bounds x + bound_at limit bounds y →
-    ((greater limit x y bounds ≡ x) ⊎ (greater limit x y bounds ≡ y)) × (2 ≤ bound_at limit bounds (greater limit x y bounds))
+greater_is : (limit x y target : ℕ) (bounds : List ℕ) → 2 ≤ target →
+    target < bound_at limit bounds x + bound_at limit bounds y →
+    ((greater limit x y bounds ≡ x) ⊎ (greater limit x y bounds ≡ y))
+    × (2 ≤ bound_at limit bounds (greater limit x y bounds))
 greater_is limit x y target bounds two over =
     ⊎_elim
     (λ (lt : bound_at limit bounds x < bound_at limit bounds y).
@@ -173,7 +191,8 @@ greater_is limit x y target bounds two over =
     (inl e, subst (λ r. 2 ≤ bound_at limit bounds r) (sym e) (omega arith)) in both)
     (cases_lt (bound_at limit bounds x) (bound_at limit bounds y))
 
-and_settled : (base m lanes limit x y target r : ℕ) (bounds : List ℕ) (rest : Settled) → 0 < m → limit * m < base → ((q : ℕ) → bound_at limit bounds q ≤ limit) →
+and_settled : (base m lanes limit x y target r : ℕ) (bounds : List ℕ) (rest : Settled) → 0 < m → limit * m < base →
+    ((q : ℕ) → bound_at limit bounds q ≤ limit) →
     IsSettled base m lanes limit x y target (slice_set bounds r (half_up (bound_at limit bounds r))) rest →
     IsSettled base m lanes limit x y target bounds (then_settled (record { register = r; amount = half_up (bound_at limit bounds r) * m }) rest)
 and_settled base m lanes limit x y target r bounds rest pos room sane is =
@@ -187,8 +206,10 @@ and_settled base m lanes limit x y target r bounds rest pos room sane is =
       small = is.small;
     }
 
-pub settled_is : (base m lanes limit n x y target : ℕ) (bounds : List ℕ) → 0 < m → limit * m < base → 2 ≤ target → x < length bounds → y < length bounds → ((r : ℕ) → bound_at limit bounds r ≤ limit) →
-    bound_at limit bounds x + bound_at limit bounds y ≤ target + n → IsSettled base m lanes limit x y target bounds (settled m limit n x y target bounds)
+pub settled_is : (base m lanes limit n x y target : ℕ) (bounds : List ℕ) → 0 < m → limit * m < base → 2 ≤ target →
+    x < length bounds → y < length bounds → ((r : ℕ) → bound_at limit bounds r ≤ limit) →
+    bound_at limit bounds x + bound_at limit bounds y ≤ target + n →
+    IsSettled base m lanes limit x y target bounds (settled m limit n x y target bounds)
 settled_is base m lanes limit zero x y target bounds pos room two in_x in_y sane fuel =
     record { reductions = no_reductions base m lanes (bound_at limit bounds); low = λ r. omega arith; long = refl; small = omega arith }
 settled_is base m lanes limit (suc n) x y target bounds pos room two in_x in_y sane fuel =

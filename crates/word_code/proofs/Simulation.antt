@@ -30,7 +30,8 @@ acts_under code phase q =
     ap (λ lists. slice_index_or lists q []) (get_or-map (λ (lists : List (List WordAction)). map actions_under lists) code.lists phase [])
     ∙ get_or-map actions_under (slice_index_or code.lists phase []) q []
 
-map-set : {X Y : Type 0} (f : X → Y) (xs : List X) (i : ℕ) (v : X) → map f (slice_set xs i v) ≡ slice_set (map f xs) i (f v)
+map-set : {X Y : Type 0} (f : X → Y) (xs : List X) (i : ℕ) (v : X) →
+    map f (slice_set xs i v) ≡ slice_set (map f xs) i (f v)
 map-set f [] i v = refl
 map-set f (x ∷ xs) zero v = refl
 map-set f (x ∷ xs) (suc i) v = ap (λ ys. f x ∷ ys) (map-set f xs i v)
@@ -85,7 +86,8 @@ pub record IsSteady (s : Scale) (code : WordCode) (t : State) : Type 0 where
   pub memory : IsMemoryBelow s t.memory
   pub files : length t.registers ≡ code.procs
   pub counts : length t.done ≡ code.procs
-  pub each : (q : ℕ) → q < code.procs → IsReady s (slice_index_or t.registers q []) (drop (slice_index t.done q) (word_acts code t.phase q))
+  pub each : (q : ℕ) → q < code.procs → IsReady s (slice_index_or t.registers q [])
+      (drop (slice_index t.done q) (word_acts code t.phase q))
 
 -- a state on words goes with the state of its residues
 pub record Goes (s : Scale) (code : WordCode) (residue : State) (t : State) : Type 0 where
@@ -138,10 +140,12 @@ module _ (code : WordCode) (kept : Kept) (limit : ℕ) (quick : IsQuickCode (sca
       length-zeros zero = refl
       length-zeros (suc n) = ap suc (length-zeros n)
 
-  moves_on : (t : State) → IsSteady s code t → Goes s code (moved_on (under code) (residue_state code.modulus t)) (moved_on (under code) t)
+  moves_on : (t : State) → IsSteady s code t → Goes s code (moved_on (under code) (residue_state code.modulus t))
+      (moved_on (under code) t)
   moves_on t steady = cases (is_open (under code) t.phase t.done)
     where
-      cases : (b : Bool) → Goes s code (cond b (residue_state code.modulus t) (residue_state code.modulus (next_phase t))) (cond b t (next_phase t))
+      cases : (b : Bool) → Goes s code (cond b (residue_state code.modulus t)
+          (residue_state code.modulus (next_phase t))) (cond b t (next_phase t))
       cases true = record { same = refl; steady = steady }
       cases false = record { same = refl; steady = next_steady t steady }
 
@@ -162,7 +166,8 @@ module _ (code : WordCode) (kept : Kept) (limit : ℕ) (quick : IsQuickCode (sca
         done = slice_set t.done q (suc (slice_index t.done q));
       }
 
-  actions_go : (t : State) (q : ℕ) (f : WordAction) → q < code.procs → slice_get (word_acts code t.phase q) (slice_index t.done q) ≡ Some f → IsSteady s code t →
+  actions_go : (t : State) (q : ℕ) (f : WordAction) → q < code.procs →
+      slice_get (word_acts code t.phase q) (slice_index t.done q) ≡ Some f → IsSteady s code t →
       Goes s code (acted (under code) q f.action (residue_state code.modulus t)) (word_acted code q f t)
   actions_go t q f lt e steady =
       let ready = steady.each q lt in
@@ -170,7 +175,8 @@ module _ (code : WordCode) (kept : Kept) (limit : ℕ) (quick : IsQuickCode (sca
       let goes : AreQuick s ready.bounds (f ∷ drop (suc (slice_index t.done q)) (word_acts code t.phase q)) (top s) = subst (λ fs. AreQuick s ready.bounds fs (top s)) first ready.goes in
       at ready.bounds ready.below goes.0 goes.1 goes.2
     where
-      at : (b : Bounds) → AreRegistersBelow code.modulus code.lanes b (slice_index_or t.registers q []) → (c : Bounds) → IsQuick s b f c →
+      at : (b : Bounds) → AreRegistersBelow code.modulus code.lanes b (slice_index_or t.registers q []) → (c : Bounds) →
+          IsQuick s b f c →
           AreQuick s c (drop (suc (slice_index t.done q)) (word_acts code t.phase q)) (top s) →
           Goes s code (acted (under code) q f.action (residue_state code.modulus t)) (word_acted code q f t)
       at b below c is rest =
@@ -193,7 +199,8 @@ module _ (code : WordCode) (kept : Kept) (limit : ℕ) (quick : IsQuickCode (sca
           long : q < length t.done
           long = let x = steady.counts in omega arith
 
-          this : IsReady s (slice_index_or (slice_set t.registers q ((after t q f).registers)) q []) (drop (slice_index (slice_set t.done q (suc (slice_index t.done q))) q) (word_acts code t.phase q))
+          this : IsReady s (slice_index_or (slice_set t.registers q ((after t q f).registers)) q [])
+              (drop (slice_index (slice_set t.done q (suc (slice_index t.done q))) q) (word_acts code t.phase q))
           this =
               let words : slice_index_or (slice_set t.registers q ((after t q f).registers)) q [] ≡ ((after t q f).registers) = get_or-set_same t.registers q ((after t q f).registers) [] wide in
               let count : slice_index (slice_set t.done q (suc (slice_index t.done q))) q ≡ suc (slice_index t.done q) = get_or-set_same t.done q (suc (slice_index t.done q)) 0 long in
@@ -204,7 +211,9 @@ module _ (code : WordCode) (kept : Kept) (limit : ℕ) (quick : IsQuickCode (sca
                 goes = subst (λ k. AreQuick s c (drop k (word_acts code t.phase q)) (top s)) (sym count) rest;
               }
 
-          others : (p : ℕ) → p < code.procs → p ≢ q → IsReady s (slice_index_or (slice_set t.registers q ((after t q f).registers)) p []) (drop (slice_index (slice_set t.done q (suc (slice_index t.done q))) p) (word_acts code t.phase p))
+          others : (p : ℕ) → p < code.procs → p ≢ q → IsReady s
+              (slice_index_or (slice_set t.registers q ((after t q f).registers)) p [])
+              (drop (slice_index (slice_set t.done q (suc (slice_index t.done q))) p) (word_acts code t.phase p))
           others p small other =
               let words : slice_index_or (slice_set t.registers q ((after t q f).registers)) p [] ≡ slice_index_or t.registers p [] = get_or-set_other t.registers q p ((after t q f).registers) [] other in
               let count : slice_index (slice_set t.done q (suc (slice_index t.done q))) p ≡ slice_index t.done p = get_or-set_other t.done q p (suc (slice_index t.done q)) 0 other in
@@ -213,7 +222,8 @@ module _ (code : WordCode) (kept : Kept) (limit : ℕ) (quick : IsQuickCode (sca
               (subst (λ k. IsReady s (slice_index_or t.registers p []) (drop k (word_acts code t.phase p))) (sym count) ready)
 
           -- the processor's registers are read as residues
-          read : slice_index_or (map (residues code.modulus) t.registers) q [] ≡ residues code.modulus (slice_index_or t.registers q [])
+          read : slice_index_or (map (residues code.modulus) t.registers) q []
+              ≡ residues code.modulus (slice_index_or t.registers q [])
           read = get_or-map (residues code.modulus) t.registers q []
 
           effects_go : effect code.modulus code.lanes f.action (record { memory = residues code.modulus t.memory; registers = slice_index_or (map (residues code.modulus) t.registers) q [] }) ≡ residue_local code.modulus (after t q f)
@@ -221,7 +231,8 @@ module _ (code : WordCode) (kept : Kept) (limit : ℕ) (quick : IsQuickCode (sca
               ap (λ xs. effect code.modulus code.lanes f.action (record { memory = residues code.modulus t.memory; registers = xs })) read
               ∙ is.same (local t q) steady.memory below
 
-          same : acted (under code) q f.action (residue_state code.modulus t) ≡ residue_state code.modulus (word_acted code q f t)
+          same : acted (under code) q f.action (residue_state code.modulus t)
+              ≡ residue_state code.modulus (word_acted code q f t)
           same =
               ap (made t q) effects_go
               ∙ ap (λ files. let s : State = record { memory = residues code.modulus (after t q f).memory; registers = files; phase = t.phase; done = slice_set t.done q (suc (slice_index t.done q)) } in s)
@@ -229,7 +240,8 @@ module _ (code : WordCode) (kept : Kept) (limit : ℕ) (quick : IsQuickCode (sca
 
   -- a turn
 
-  turn_goes : (t : State) (q : ℕ) → IsSteady s code t → Goes s code (turn (under code) (residue_state code.modulus t) q) (word_turn code t q)
+  turn_goes : (t : State) (q : ℕ) → IsSteady s code t → Goes s code (turn (under code) (residue_state code.modulus t) q)
+      (word_turn code t q)
   turn_goes t q steady =
       let fs = word_acts code t.phase q in
       let i = slice_index t.done q in
@@ -239,7 +251,8 @@ module _ (code : WordCode) (kept : Kept) (limit : ℕ) (quick : IsQuickCode (sca
       (cases (slice_get fs i) refl)
     where
       cases : (o : Option WordAction) → slice_get (word_acts code t.phase q) (slice_index t.done q) ≡ o →
-          Goes s code (turn_with (under code) q (residue_state code.modulus t) (option_map (λ (f : WordAction). f.action) o)) (word_turn_with code q t o)
+          Goes s code (turn_with (under code) q (residue_state code.modulus t)
+          (option_map (λ (f : WordAction). f.action) o)) (word_turn_with code q t o)
       cases None e = record { same = refl; steady = steady }
       cases (Some f) e =
           let lt : q < code.procs =
@@ -251,7 +264,8 @@ module _ (code : WordCode) (kept : Kept) (limit : ℕ) (quick : IsQuickCode (sca
           let on = moves_on (word_acted code q f t) act.steady in
           record { same = ap (moved_on (under code)) act.same ∙ on.same; steady = on.steady }
 
-  run_goes : (turns : List ℕ) (t : State) → IsSteady s code t → Goes s code (run (under code) (residue_state code.modulus t) turns) (word_run code t turns)
+  run_goes : (turns : List ℕ) (t : State) → IsSteady s code t →
+      Goes s code (run (under code) (residue_state code.modulus t) turns) (word_run code t turns)
   run_goes [] t steady = record { same = refl; steady = steady }
   run_goes (q ∷ turns) t steady =
       let one = turn_goes t q steady in
@@ -273,7 +287,8 @@ module _ (code : WordCode) (kept : Kept) (limit : ℕ) (quick : IsQuickCode (sca
   length-copies zero x = refl
   length-copies (suc n) x = ap suc (length-copies n x)
 
-  start_goes : (x : List ℕ) → 0 < code.modulus → 1 ≤ kept.of_a → 1 ≤ kept.of_b → 1 ≤ limit → AllBelow code.modulus x → Goes s code (start (under code) x) (start (under code) x)
+  start_goes : (x : List ℕ) → 0 < code.modulus → 1 ≤ kept.of_a → 1 ≤ kept.of_b → 1 ≤ limit → AllBelow code.modulus x →
+      Goes s code (start (under code) x) (start (under code) x)
   start_goes x pos of_a of_b some low =
       record {
         same =
@@ -299,7 +314,8 @@ module _ (code : WordCode) (kept : Kept) (limit : ℕ) (quick : IsQuickCode (sca
         };
       }
 
-  runs_go : (x turns : List ℕ) → 0 < code.modulus → 1 ≤ kept.of_a → 1 ≤ kept.of_b → 1 ≤ limit → AllBelow code.modulus x → Goes s code (runs (under code) x turns) (word_runs code x turns)
+  runs_go : (x turns : List ℕ) → 0 < code.modulus → 1 ≤ kept.of_a → 1 ≤ kept.of_b → 1 ≤ limit →
+      AllBelow code.modulus x → Goes s code (runs (under code) x turns) (word_runs code x turns)
   runs_go x turns pos of_a of_b some low =
       let begin = start_goes x pos of_a of_b some low in
       let middle = run_goes turns (start (under code) x) begin.steady in
@@ -310,7 +326,8 @@ module _ (code : WordCode) (kept : Kept) (limit : ℕ) (quick : IsQuickCode (sca
       record { same = ap (λ r. run (under code) r (completion (under code) r)) between ∙ last.same; steady = last.steady }
 
   -- the words that a run leaves in Y are those of the run on residues
-  pub results_are : (x turns : List ℕ) → 0 < code.modulus → 1 ≤ code.line → 1 ≤ kept.of_a → 1 ≤ kept.of_b → 1 ≤ limit → AllBelow code.modulus x → word_results code x turns ≡ results (under code) x turns
+  pub results_are : (x turns : List ℕ) → 0 < code.modulus → 1 ≤ code.line → 1 ≤ kept.of_a → 1 ≤ kept.of_b → 1 ≤ limit →
+      AllBelow code.modulus x → word_results code x turns ≡ results (under code) x turns
   results_are x turns pos line of_a of_b some low =
       let go = runs_go x turns pos of_a of_b some low in
       let t = word_runs code x turns in

@@ -12,7 +12,8 @@ range_more n =
     let next : n + 1 ≡ suc n = omega arith in ap (range_with_len 0) next ∙ range_suc 0 n n (omega arith)
 
 module _ (h : Homes) (count at to word : ℕ) where
-  words_split : word < count → are_home h (count - word) (at + word) (to + word) ≡ (is_home h (at + word) (to + word) && are_home h (count - (word + 1)) (at + (word + 1)) (to + (word + 1)))
+  words_split : word < count → are_home h (count - word) (at + word) (to + word)
+      ≡ (is_home h (at + word) (to + word) && are_home h (count - (word + 1)) (at + (word + 1)) (to + (word + 1)))
   words_split lt =
       let left : count - word ≡ suc (count - (word + 1)) = omega arith in
       let next : (at + word) + 1 ≡ at + (word + 1) = omega arith in
@@ -21,5 +22,7 @@ module _ (h : Homes) (count at to word : ℕ) where
       ∙ (ap (λ k. is_home h (at + word) (to + word) && are_home h (count - (word + 1)) k ((to + word) + 1)) next
       ∙ ap (λ k. is_home h (at + word) (to + word) && are_home h (count - (word + 1)) (at + (word + 1)) k) next_to)
 
-  pub words_go_on : word < count → is_home h (at + word) (to + word) ≡ true → are_home h (count - word) (at + word) (to + word) ≡ are_home h (count - (word + 1)) (at + (word + 1)) (to + (word + 1))
+  pub words_go_on : word < count → is_home h (at + word) (to + word) ≡ true →
+      are_home h (count - word) (at + word) (to + word) ≡ are_home h (count - (word + 1)) (at + (word + 1))
+      (to + (word + 1))
   words_go_on lt e = words_split lt ∙ ap (λ b. b && are_home h (count - (word + 1)) (at + (word + 1)) (to + (word + 1))) e

@@ -35,7 +35,8 @@ pub record Goes (p : PlainProgram) (phases : List PlainBody) : Type 0 where
   may : may_go p body (chosen body) ≡ true
   routes : routes_of p phases ≡ chosen body
 
-goes_by : (p : PlainProgram) (body : PlainBody) (test : Bool) → ((p.procs == 1) && ((are_loops body && are_full body) && may_go p body (chosen body))) ≡ test →
+goes_by : (p : PlainProgram) (body : PlainBody) (test : Bool) →
+    ((p.procs == 1) && ((are_loops body && are_full body) && may_go p body (chosen body))) ≡ test →
     (routes_of p (body ∷ []) ≡ []) ⊎ Goes p (body ∷ [])
 goes_by p body false e = inl (ap (λ (b : Bool). if b then chosen body else []) e)
 goes_by p body true e =
@@ -61,14 +62,17 @@ no_routes z p =
 
 -- One phase of one processor
 
-one_list : (w : PlainWordProgram) (body : WordBody) (bodies : List WordBody) (procs : ℕ) → bodies ≡ body ∷ [] → procs ≡ 1 →
-    map (λ body. map (λ q. word_actions_of_body w body [] q) (range_with_len 0 procs)) bodies ≡ (word_actions_of_body w body [] 0 ∷ []) ∷ []
+one_list : (w : PlainWordProgram) (body : WordBody) (bodies : List WordBody) (procs : ℕ) → bodies ≡ body ∷ [] →
+    procs ≡ 1 →
+    map (λ body. map (λ q. word_actions_of_body w body [] q) (range_with_len 0 procs)) bodies
+    ≡ (word_actions_of_body w body [] 0 ∷ []) ∷ []
 one_list w body bodies procs only alone =
     ap (λ n. map (λ body. map (λ q. word_actions_of_body w body [] q) (range_with_len 0 n)) bodies) alone
     ∙ ap (map (λ body. map (λ q. word_actions_of_body w body [] q) (range_with_len 0 1))) only
 
 -- the only phase of the only processor on words
-one_phase : (z : Laziness) (h : Header) (procs : ℕ) (phases : List PlainBody) (body : PlainBody) → phases ≡ body ∷ [] → procs ≡ 1 →
+one_phase : (z : Laziness) (h : Header) (procs : ℕ) (phases : List PlainBody) (body : PlainBody) → phases ≡ body ∷ [] →
+    procs ≡ 1 →
     quick_phases z h procs phases ≡ (quick_alone z h body (loosest z h)).body ∷ []
 one_phase z h procs phases body only alone = ap (quick_phases z h procs) only ∙ ap (λ n. quick_phases z h n (body ∷ [])) alone
 
@@ -88,11 +92,13 @@ whole_at_least size line pos =
     let small = mod-lt (size + (line - 1)) pos in
     omega (arith, whole, small)
 
-phase_fits : (p : PlainProgram) (phases : List PlainBody) (body : PlainBody) → phases ≡ body ∷ [] → All (StepFits p) (steps_of_body p (slice_index_or phases 0 NoStmts) [] 0) → BodyFits p body []
+phase_fits : (p : PlainProgram) (phases : List PlainBody) (body : PlainBody) → phases ≡ body ∷ [] →
+    All (StepFits p) (steps_of_body p (slice_index_or phases 0 NoStmts) [] 0) → BodyFits p body []
 phase_fits p phases body only fits = subst (λ phases. All (StepFits p) (steps_of_body p (slice_index_or phases 0 NoStmts) [] 0)) only fits
 
 -- by its chosen routes the program leaves what it left
-goes_alike : (z : Laziness) (p : PlainProgram) (g : Goes p p.phases) → PlainFits p → 1 ≤ p.line → LeavesAlike (rerouted (chosen g.body) (quickened z p)) (quickened z p)
+goes_alike : (z : Laziness) (p : PlainProgram) (g : Goes p p.phases) → PlainFits p → 1 ≤ p.line →
+    LeavesAlike (rerouted (chosen g.body) (quickened z p)) (quickened z p)
 goes_alike z p g fits line x turns long =
     let words = whole_lines p.size p.line in
     let routes = chosen g.body in
@@ -131,7 +137,8 @@ in_place_is_same z p fits line = ⊎_elim stays goes (stays_or_goes p p.phases)
     goes : Goes p p.phases → LeavesAlike (in_place p (quickened z p)) (quickened z p)
     goes g = subst (λ routes. LeavesAlike (rerouted routes (quickened z p)) (quickened z p)) (sym g.routes) (goes_alike z p g fits line)
 
-pub alike_from : (z : Laziness) (p : PlainProgram) (words made : PlainWordProgram) → PlainFits p → 1 ≤ p.line → made ≡ in_place p words → words ≡ quickened z p → LeavesAlike made words
+pub alike_from : (z : Laziness) (p : PlainProgram) (words made : PlainWordProgram) → PlainFits p → 1 ≤ p.line →
+    made ≡ in_place p words → words ≡ quickened z p → LeavesAlike made words
 alike_from z p words made fits line is quick =
     subst (λ made. LeavesAlike made words) (sym is)
     (subst (λ words. LeavesAlike (in_place p words) words) (sym quick) (in_place_is_same z p fits line))

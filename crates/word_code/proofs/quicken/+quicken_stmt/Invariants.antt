@@ -10,6 +10,7 @@ decreases-quicken_stmt l = goal.size-quicken_stmt l
 
 abbrev pub invariant-loop-inner : goal.invariant-loop-inner
 invariant-loop-inner l = record {
-  is : IsQuickBody (lazy_of l.setting.slack) (header_in l.setting) (take l.inner-index l.inner-items) (loosest (lazy_of l.setting.slack) (header_in l.setting)) l.made.items l.bounds;
+  is : IsQuickBody (lazy_of l.setting.slack) (header_in l.setting) (take l.inner-index l.inner-items)
+      (loosest (lazy_of l.setting.slack) (header_in l.setting)) l.made.items l.bounds;
   sane : AreBoundsWithin l.setting l.bounds;
 }

@@ -7,7 +7,8 @@ use Rattle.word_code.proofs.quicken.quicken_phase.Given as goal
 
 abbrev pub invariant-loop-stmt : goal.invariant-loop-stmt
 invariant-loop-stmt l = record {
-  is : IsQuickBody (lazy_of l.setting.slack) (header_in l.setting) (take l.stmt-index l.body) (loosest (lazy_of l.setting.slack) (header_in l.setting)) l.made.items l.bounds;
+  is : IsQuickBody (lazy_of l.setting.slack) (header_in l.setting) (take l.stmt-index l.body)
+      (loosest (lazy_of l.setting.slack) (header_in l.setting)) l.made.items l.bounds;
   sane : AreBoundsWithin l.setting l.bounds;
   long : length l.bounds ≡ l.setting.regs;
 }

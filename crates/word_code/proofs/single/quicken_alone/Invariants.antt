@@ -7,7 +7,8 @@ use Rattle.word_code.proofs.single.quicken_alone.Given as goal
 
 abbrev pub invariant-loop-index : goal.invariant-loop-index
 invariant-loop-index l = record {
-  is : IsQuickAlone (lazy_of l.setting.slack) (header_in l.setting) l.index l.body (loosest (lazy_of l.setting.slack) (header_in l.setting)) l.made.items l.bounds;
+  is : IsQuickAlone (lazy_of l.setting.slack) (header_in l.setting) l.index l.body
+      (loosest (lazy_of l.setting.slack) (header_in l.setting)) l.made.items l.bounds;
   sane : AreBoundsWithin l.setting l.bounds;
   long : length l.bounds ≡ l.setting.regs;
 }
