@@ -2,16 +2,13 @@
 use Rattle.std.proofs.Common.{◌≡◌, ℕ, ◌+◌, ◌-◌, ◌*◌, ◌/◌, ◌%◌, ◌<◌, ◌≤◌, arith, refl, sym, ap, ◌∙◌, subst}
 use Rattle.std.proofs.Common.{mul-le-mul_left, ⊎_elim, min, cond, true, false, ap₂}
 use Rattle.std.proofs.Math.Nat.{add-mod, add-mul-mod_self_left, mul-add-mod_self_right, mod-eq_of_lt, mod-mod}
-use Rattle.std.proofs.Math.Nat.{min-eq_left, min-eq_right}
+use Rattle.std.proofs.Math.Nat.{min-eq_left, min-eq_right, div-mul-le_self}
 use Rattle.std.proofs.lemmas.Nat.{div-add-mod', mul-lt, mul-mod_first, mod_below, div_below, le-div}
 use Rattle.std.proofs.lemmas.Bool.{cases_lt}
 use Rattle.ring_mod.specs.Residue.{sum_mod, difference_mod, negation_mod, product_mod}
 use Rattle.ring_mod.proofs.Congruence.{same-add}
 use Rattle.word_code.specs.Words.{Width, base_of, wrapped_sum, wrapped_difference, high, rough_high, high_of}
 use Rattle.word_code.specs.Words.{quotient_of, lazy_product, product_bound, biased_difference, reduced}
-
-div_under : (n k : ℕ) → n / k * k ≤ n
-div_under n k = omega (arith, div-add-mod' n k)
 
 div_over : (n k : ℕ) → 0 < k → n < (n / k + 1) * k
 div_over n k pos = omega (arith, div-add-mod' n k, mod_below n k pos)
@@ -61,6 +58,11 @@ plain_difference base x y le small =
 
 -- The high half of a product, or what may be 2 below it
 
+-- a product by its four parts
+by_parts : (half a1 a0 b1 b0 a b : ℕ) → a1 * half + a0 ≡ a → b1 * half + b0 ≡ b →
+    a * b ≡ a1 * b1 * (half * half) + half * (a1 * b0) + half * (a0 * b1) + a0 * b0
+by_parts half a1 a0 b1 b0 a b ea eb = ap₂ (λ x y. x * y) (sym ea) (sym eb) ∙ omega arith
+
 rough_under : (half a b : ℕ) → 0 < half → rough_high half a b ≤ high (half * half) a b
 rough_under half a b pos =
     le-div (rough_high half a b) (a * b) (half * half) (mul-lt 0 0 half half pos pos) enough
@@ -74,10 +76,9 @@ rough_under half a b pos =
         parts : (a1 a0 b1 b0 a b : ℕ) → a1 * half + a0 ≡ a → b1 * half + b0 ≡ b →
             (a1 * b1 + a1 * b0 / half + a0 * b1 / half) * (half * half) ≤ a * b
         parts a1 a0 b1 b0 a b ea eb =
-            let u = mul-le-mul_left half (div_under (a1 * b0) half) in
-            let v = mul-le-mul_left half (div_under (a0 * b1) half) in
-            let whole : a * b ≡ a1 * b1 * (half * half) + half * (a1 * b0) + half * (a0 * b1) + a0 * b0 = ap₂ (λ x y. x * y) (sym ea) (sym eb) ∙ omega arith in
-            omega (arith, u, v, whole)
+            let u = mul-le-mul_left half (div-mul-le_self (a1 * b0) half) in
+            let v = mul-le-mul_left half (div-mul-le_self (a0 * b1) half) in
+            omega (arith, u, v, by_parts half a1 a0 b1 b0 a b ea eb)
 
 rough_over : (half a b : ℕ) → 0 < half → high (half * half) a b ≤ rough_high half a b + 2
 rough_over half a b pos =
@@ -96,8 +97,7 @@ rough_over half a b pos =
             let u = mul-le-mul_left half pu in
             let v = mul-le-mul_left half pv in
             let low = mul-lt a0 b0 half half sa sb in
-            let whole : a * b ≡ a1 * b1 * (half * half) + half * (a1 * b0) + half * (a0 * b1) + a0 * b0 = ap₂ (λ x y. x * y) (sym ea) (sym eb) ∙ omega arith in
-            omega (arith, u, v, low, whole)
+            omega (arith, u, v, low, by_parts half a1 a0 b1 b0 a b ea eb)
 
 high_is : (w : Width) (a b : ℕ) → 0 < w.half → (high_of w a b ≤ high (base_of w) a b)
     × (high (base_of w) a b + 2 ≤ high_of w a b + product_bound w)
@@ -117,9 +117,9 @@ module _ (base m a c h bound : ℕ) (whole : 0 < base) (positive : 0 < m) (small
 
   product_under : h ≤ high base a q → h * m ≤ a * c
   product_under le =
-      let e1 : h * base ≤ a * q = let x = mul-le-mul_left base le in omega (arith, x, div_under (a * q) base) in
+      let e1 : h * base ≤ a * q = let x = mul-le-mul_left base le in omega (arith, x, div-mul-le_self (a * q) base) in
       let e2 = mul-le-mul_left m e1 in
-      let e3 = mul-le-mul_left a (div_under (c * base) m) in
+      let e3 = mul-le-mul_left a (div-mul-le_self (c * base) m) in
       cancel_le (h * m) (a * c) base whole (omega (arith, e2, e3))
 
   product_over : high base a q + 2 ≤ h + bound → a * c < (h + bound) * m

@@ -1,7 +1,8 @@
 -- What statements need, one after another.
 use Rattle.std.proofs.Common.{◌≡◌, ℕ, zero, suc, ◌+◌, ◌-◌, ◌<◌, ◌≤◌, List, [], ◌∷◌, ◌++◌, Bool, true, false, Option}
 use Rattle.std.proofs.Common.{None, length, drop, get_or, refl, sym, ap, ap₂, ◌∙◌, arith}
-use Rattle.std.specs.Prelude.{◌&&◌, ◌||◌, reverse}
+use Rattle.std.specs.Prelude.{◌&&◌, reverse}
+use Rattle.std.proofs.Math.Bool.{or_assoc, or-false}
 use Rattle.std.proofs.lemmas.List.{drop_all, reverse-append}
 use Rattle.icode.specs.declared.program.Stmt.{Stmt}
 use Rattle.icode.specs.Plain.{PlainStmt, Loop, plain_stmt, plain_body}
@@ -10,14 +11,6 @@ use Rattle.word_code.specs.declared.needs.Needs.{Needs}
 use Rattle.word_code.specs.Needs.{no_needs, both_needs, loads_of_stmt, loads_of_body, multiplies, multiply, product_of}
 use Rattle.word_code.specs.Needs.{needs_of_stmt, needs, needs_of_each}
 
-or_assoc : (a b c : Bool) → ((a || b) || c) ≡ (a || (b || c))
-or_assoc true b c = refl
-or_assoc false b c = refl
-
-or_false : (a : Bool) → (a || false) ≡ a
-or_false true = refl
-or_false false = refl
-
 abbrev pair : Bool → Bool → Needs
 pair a b = record { of_a = a; of_b = b }
 
@@ -25,7 +18,7 @@ both_assoc : (a b c : Needs) → both_needs (both_needs a b) c ≡ both_needs a 
 both_assoc a b c = ap₂ pair (or_assoc a.of_a b.of_a c.of_a) (or_assoc a.of_b b.of_b c.of_b)
 
 both_none : (a : Needs) → both_needs a no_needs ≡ a
-both_none a = ap₂ pair (or_false a.of_a) (or_false a.of_b)
+both_none a = ap₂ pair (or-false a.of_a) (or-false a.of_b)
 
 -- ---- loads
 

@@ -1,10 +1,11 @@
 -- Runs on words of one processor and one phase.
-use Rattle.std.proofs.Common.{◌≡◌, ℕ, zero, suc, ◌-◌, ◌<◌, ◌≤◌, List, [], ◌∷◌, ◌++◌, Bool, true, false, cond, Some}
-use Rattle.std.proofs.Common.{length, drop, replicate, refl, sym, ap, ◌∙◌, subst, arith, nat_lt}
+use Rattle.std.proofs.Common.{◌≡◌, ℕ, zero, suc, ◌+◌, ◌-◌, ◌<◌, ◌≤◌, List, [], ◌∷◌, ◌++◌, Bool, true, false, cond, Some}
+use Rattle.std.proofs.Common.{length, drop, get_or, replicate, refl, sym, ap, ◌∙◌, subst, arith, nat_lt, add-one}
 use Rattle.std.specs.Prelude.{slice_get, slice_index, slice_index_or}
 use Rattle.std.proofs.lemmas.Bool.{le-ltb}
-use Rattle.std.proofs.lemmas.List.{length-drop, length-map, append-nil}
-use Rattle.icode.specs.Machine.{State, Local, acts, is_open, moved_on, completion, start, padded, words_at}
+use Rattle.std.proofs.lemmas.List.{length-drop, length-map, append-nil, drop_more}
+use Rattle.std.proofs.lemmas.Option.{slice_get-get_or}
+use Rattle.icode.specs.Machine.{Code, State, Local, acts, is_open, moved_on, completion, start, padded, words_at}
 use Rattle.icode.proofs.Open.{open_at, not_open}
 use Rattle.word_code.specs.Words.{Width}
 use Rattle.word_code.specs.WordMachine.{WordAction, WordCode, under, actions_under, word_effect, word_turn_with}
@@ -16,12 +17,15 @@ word_effects w m lanes [] s = s
 word_effects w m lanes (f ∷ fs) s = word_effects w m lanes fs (word_effect w m lanes f s)
 
 -- where the only processor of a code begins
-abbrev pub start_alone : WordCode → List ℕ → Local
-start_alone code x =
+abbrev pub beginning : Code → List ℕ → Local
+beginning code x =
     record {
-      memory = (start (under code) x).memory;
-      registers = slice_index_or (start (under code) x).registers 0 [];
+      memory = (start code x).memory;
+      registers = slice_index_or (start code x).registers 0 [];
     }
+
+abbrev pub start_alone : WordCode → List ℕ → Local
+start_alone code = beginning (under code)
 
 -- ---- what is left of a list
 
@@ -31,17 +35,14 @@ is_left xs d x rest e = omega (arith, length-drop d xs, ap length e)
 none_is_left : {X : Type 0} (xs : List X) (d : ℕ) → drop d xs ≡ [] → length xs ≤ d
 none_is_left xs d e = omega (arith, length-drop d xs, ap length e)
 
-next_left : {X : Type 0} (xs : List X) (d : ℕ) (x : X) (rest : List X) → drop d xs ≡ x ∷ rest → slice_get xs d ≡ Some x
-next_left [] zero x rest e = cc
-next_left [] (suc d) x rest e = cc
-next_left (y ∷ xs) zero x rest e = cc
-next_left (y ∷ xs) (suc d) x rest e = next_left xs d x rest e
-
-rest_left : {X : Type 0} (xs : List X) (d : ℕ) (x : X) (rest : List X) → drop d xs ≡ x ∷ rest → drop (suc d) xs ≡ rest
-rest_left [] zero x rest e = cc
-rest_left [] (suc d) x rest e = cc
-rest_left (y ∷ xs) zero x rest e = cc
-rest_left (y ∷ xs) (suc d) x rest e = rest_left xs d x rest e
+next_is : {X : Type 0} (xs : List X) (d : ℕ) (x : X) (rest : List X) → drop d xs ≡ x ∷ rest →
+    (slice_get xs d ≡ Some x) × (drop (suc d) xs ≡ rest)
+next_is xs d x rest e =
+    let lt = is_left xs d x rest e in
+    let split : get_or xs d x ∷ drop (d + 1) xs ≡ x ∷ rest = sym (drop_more xs d x lt) ∙ e in
+    let first : get_or xs d x ≡ x = cc in
+    let others : drop (d + 1) xs ≡ rest = cc in
+    (slice_get-get_or xs d x lt ∙ ap Some first, ap (λ k. drop k xs) (sym (add-one d)) ∙ others)
 
 module _ (w : Width) (size m line lanes regs : ℕ) (fs : List WordAction) where
   abbrev alone : WordCode
@@ -90,7 +91,7 @@ module _ (w : Width) (size m line lanes regs : ℕ) (fs : List WordAction) where
       word_turn alone (having d s) 0 ≡ having (suc d) (word_effect w m lanes f s)
   acts_next d s f rest e =
       ap (λ t. word_turn alone t 0) (opens d s f rest e)
-      ∙ ap (word_turn_with alone 0 (standing 0 d s)) (next_left fs d f rest e)
+      ∙ ap (word_turn_with alone 0 (standing 0 d s)) (next_is fs d f rest e).0
 
   -- there is no other processor
   others_wait : (d q : ℕ) (s : Local) (f : WordAction) (rest : List WordAction) → drop d fs ≡ f ∷ rest →
@@ -120,7 +121,7 @@ module _ (w : Width) (size m line lanes regs : ℕ) (fs : List WordAction) where
             count = suc d;
             here = word_effect w m lanes f s;
             is = acts_next d s f rest e;
-            leads = ap (λ gs. leaves gs (word_effect w m lanes f s)) (rest_left fs d f rest e) ∙ ap (λ gs. leaves gs s) (sym e);
+            leads = ap (λ gs. leaves gs (word_effect w m lanes f s)) (next_is fs d f rest e).1 ∙ ap (λ gs. leaves gs s) (sym e);
           }
       cases (f ∷ rest) (suc q) e = record { count = d; here = s; is = others_wait d q s f rest e; leads = refl }
 
@@ -145,7 +146,7 @@ module _ (w : Width) (size m line lanes regs : ℕ) (fs : List WordAction) where
   runs_out [] d s e = ap (λ (t : State). t.memory) (ends d s e)
   runs_out (f ∷ gs) d s e =
       ap (λ t. (word_run alone t (replicate (length gs) 0)).memory) (acts_next d s f gs e)
-      ∙ runs_out gs (suc d) (word_effect w m lanes f s) (rest_left fs d f gs e)
+      ∙ runs_out gs (suc d) (word_effect w m lanes f s) (next_is fs d f gs e).1
 
   bare : (turns : List ℕ) → (turns ++ []) ++ [] ≡ turns
   bare turns = append-nil (turns ++ []) ∙ append-nil turns

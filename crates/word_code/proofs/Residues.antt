@@ -4,6 +4,7 @@ use Rattle.std.proofs.Common.{replicate, refl, sym, ap, ap₂, ◌∙◌, arith}
 use Rattle.std.specs.Prelude.{slice_index, slice_set}
 use Rattle.std.specs.List.{range_with_len}
 use Rattle.std.proofs.Math.Nat.{zero-mod}
+use Rattle.std.proofs.lemmas.List.{map-set, map-append}
 use Rattle.ring_mod.specs.Residue.{product_mod}
 use Rattle.icode.specs.Machine.{words_at, with_words, lane_by_lane, transposed}
 use Rattle.word_code.specs.Words.{Width, base_of, quotient_of, lazy_product, product_bound}
@@ -13,11 +14,6 @@ use Rattle.word_code.proofs.Arithmetic.{product_word}
 -- the residues modulo m of the words
 abbrev pub residues : ℕ → List ℕ → List ℕ
 residues m xs = map (λ w. w % m) xs
-
-pub residues-set : (m : ℕ) (xs : List ℕ) (i v : ℕ) → residues m (slice_set xs i v) ≡ slice_set (residues m xs) i (v % m)
-residues-set m [] i v = refl
-residues-set m (x ∷ xs) zero v = refl
-residues-set m (x ∷ xs) (suc i) v = ap (λ ys. x % m ∷ ys) (residues-set m xs i v)
 
 pub residues-index : (m : ℕ) (xs : List ℕ) (i : ℕ) → slice_index (residues m xs) i ≡ slice_index xs i % m
 residues-index m [] i = sym (zero-mod m)
@@ -32,15 +28,11 @@ pub residues-with_words : (m : ℕ) (vs xs : List ℕ) (i : ℕ) →
     with_words (residues m xs) i (residues m vs) ≡ residues m (with_words xs i vs)
 residues-with_words m [] xs i = refl
 residues-with_words m (v ∷ vs) xs i =
-    ap (λ ys. with_words ys (i + 1) (residues m vs)) (sym (residues-set m xs i v)) ∙ residues-with_words m vs (slice_set xs i v) (i + 1)
+    ap (λ ys. with_words ys (i + 1) (residues m vs)) (sym (map-set (λ w. w % m) xs i v)) ∙ residues-with_words m vs (slice_set xs i v) (i + 1)
 
 pub residues-zeros : (m n : ℕ) → residues m (replicate n 0) ≡ replicate n 0
 residues-zeros m zero = refl
 residues-zeros m (suc n) = ap₂ (λ y ys. y ∷ ys) (zero-mod m) (residues-zeros m n)
-
-pub residues-append : (m : ℕ) (xs ys : List ℕ) → residues m (xs ++ ys) ≡ residues m xs ++ residues m ys
-residues-append m [] ys = refl
-residues-append m (x ∷ xs) ys = ap (λ zs. x % m ∷ zs) (residues-append m xs ys)
 
 residues-row : (m : ℕ) (f g : ℕ → ℕ) → ((l : ℕ) → f l ≡ g l % m) → (ls : List ℕ) → map f ls ≡ residues m (map g ls)
 residues-row m f g e [] = refl
@@ -51,7 +43,7 @@ residues-rows : (m : ℕ) (f g : ℕ → ℕ → ℕ) → ((k l : ℕ) → f k l
 residues-rows m f g e [] ls = refl
 residues-rows m f g e (k ∷ ks) ls =
     ap₂ (λ xs ys. xs ++ ys) (residues-row m (f k) (g k) (e k) ls) (residues-rows m f g e ks ls)
-    ∙ sym (residues-append m (map (g k) ls) (flat_map (λ k. map (g k) ls) ks))
+    ∙ sym (map-append (λ w. w % m) (map (g k) ls) (flat_map (λ k. map (g k) ls) ks))
 
 pub residues-transposed : (m lanes : ℕ) (registers : List ℕ) (source : ℕ) →
     transposed lanes (residues m registers) source ≡ residues m (transposed lanes registers source)
@@ -87,10 +79,6 @@ below-words_at bound (suc n) xs i h =
 pub below-zeros : (bound n : ℕ) → 0 < bound → AllBelow bound (replicate n 0)
 below-zeros bound zero pos = tt
 below-zeros bound (suc n) pos = (pos, below-zeros bound n pos)
-
-below-row : (bound : ℕ) (f : ℕ → ℕ) (ls : List ℕ) → ((l : ℕ) → f l < bound) → AllBelow bound (map f ls)
-below-row bound f [] h = tt
-below-row bound f (l ∷ ls) h = (h l, below-row bound f ls h)
 
 -- words that are made lane by lane
 

@@ -1,7 +1,6 @@
 -- The law of passes in place.
 use Rattle.std.proofs.Common.{◌≡◌, ℕ, ◌+◌, ◌*◌, ◌-◌, ◌≤◌, ◌⊎◌, List, [], ◌∷◌, ◌++◌, Bool, true, false, ◌&&◌, All}
 use Rattle.std.proofs.Common.{length, map, replicate, inl, inr, refl, sym, ap, ◌∙◌, subst, arith, ⊎_elim, length-append}
-use Rattle.std.proofs.Common.{div-add-mod', mod-lt}
 use Rattle.std.specs.Prelude.{◌==◌, if◌then◌else◌, slice_index_or}
 use Rattle.std.specs.List.{range_with_len}
 use Rattle.std.proofs.lemmas.Bool.{eqb-true}
@@ -21,6 +20,7 @@ use Rattle.word_code.specs.InPlace.Laws.{LeavesAlike, InPlaceLeavesTheSame}
 use Rattle.word_code.specs.InPlace.Routes.{rerouted_phase, rerouted}
 use Rattle.word_code.specs.InPlace.View.{BodyFits}
 use Rattle.word_code.proofs.InPlace.Effects.{effects_alike}
+use Rattle.word_code.proofs.Simulation.{size_within}
 use Rattle.word_code.proofs.OneProcessor.{word_effects, start_alone, results_alone}
 use Rattle.word_code.proofs.InPlace.Pairing.{chosen_reach, phase_pairs}
 use Rattle.word_code.proofs.InPlace.Standing.{stands_first, stands_read}
@@ -86,12 +86,6 @@ start_long words size x le =
 second_array : (words size : ℕ) → size ≤ words → words + size ≤ 4 * words
 second_array words size le = omega (arith, le)
 
-whole_at_least : (size line : ℕ) → 1 ≤ line → size ≤ whole_lines size line
-whole_at_least size line pos =
-    let whole = div-add-mod' (size + (line - 1)) line in
-    let small = mod-lt (size + (line - 1)) pos in
-    omega (arith, whole, small)
-
 phase_fits : (p : PlainProgram) (phases : List PlainBody) (body : PlainBody) → phases ≡ body ∷ [] →
     All (StepFits p) (steps_of_body p (slice_index_or phases 0 NoStmts) [] 0) → BodyFits p body []
 phase_fits p phases body only fits = subst (λ phases. All (StepFits p) (steps_of_body p (slice_index_or phases 0 NoStmts) [] 0)) only fits
@@ -121,7 +115,7 @@ goes_alike z p g fits line x turns long =
     let found = both_true (are_right p.lanes accesses at_start) _ g.may in
     let first = stands_first (4 * words) s.memory (start_long words p.size x long) in
     let last = effects_alike z.width p.modulus p.lanes (4 * words) fs gs accesses at_start s.memory s.memory s.registers pairs found.0 first in
-    let inside = second_array words p.size (whole_at_least p.size p.line line) in
+    let inside = second_array words p.size (size_within p.size p.line line) in
     let after : List WordAction → Local = λ actions. word_effects z.width p.modulus p.lanes actions s in
     results_alone (word_code other) gs g.alone other_lists x turns
     ∙ sym (stands_read (4 * words) p.size words words at_end (after fs).memory (after gs).memory inside inside found.1 last)

@@ -24,7 +24,7 @@ use Rattle.word_code.specs.InPlace.Accesses.{accesses_of_phase}
 use Rattle.word_code.specs.InPlace.Choice.{chosen}
 use Rattle.word_code.specs.InPlace.Routes.{rerouted_op, rerouted_stmt, rerouted_body, rerouted_phase, rerouted}
 use Rattle.word_code.specs.InPlace.View.{StmtFits, BodyFits}
-use Rattle.word_code.proofs.InPlace.Joined.{all_front, all_back}
+use Rattle.fast_loops.proofs.TwoTables.Listed.{all-left, all-right}
 use Rattle.word_code.proofs.InPlace.Pairs.{IsInner, IsTouchPair, ArePairs, pairs-append, stored}
 
 -- what lies in an array lies in the memory
@@ -107,8 +107,8 @@ module _ (z : Laziness) (p : PlainProgram) (all : List Route) where
   turns_pairs f g a s each [] fits = refl
   turns_pairs f g a s each (i ∷ is) fits =
       pairs-append p.lanes span_of (f i) (g i) (flat_map f is) (flat_map g is) (a i) (flat_map a is)
-      (each i (all_front (StepFits p) (s i) (flat_map s is) fits))
-      (turns_pairs f g a s each is (all_back (StepFits p) (s i) (flat_map s is) fits))
+      (each i (all-left (StepFits p) (s i) (flat_map s is) fits))
+      (turns_pairs f g a s each is (all-right (StepFits p) (s i) (flat_map s is) fits))
 
   mutual
     stmt_pairs : (y : Laziness) (route : Route) (stmt : PlainStmt) (bounds vs : List ℕ) → StmtFits p stmt vs →
@@ -137,8 +137,8 @@ module _ (z : Laziness) (p : PlainProgram) (all : List Route) where
         pairs-append p.lanes span_of (word_actions_of_stmt words_of one.stmt vs 0) (word_actions_of_stmt other_of (rerouted_stmt route one.stmt) vs 0)
         (word_actions_of_body words_of after vs 0) (word_actions_of_body other_of (rerouted_body route after) vs 0)
         (accesses_of_stmt p route stmt vs) (accesses_of_body p route rest vs)
-        (stmt_pairs y route stmt bounds vs (all_front (StepFits p) (steps_of_stmt p stmt vs 0) (steps_of_body p rest vs 0) fits))
-        (body_pairs y route rest one.bounds vs (all_back (StepFits p) (steps_of_stmt p stmt vs 0) (steps_of_body p rest vs 0) fits))
+        (stmt_pairs y route stmt bounds vs (all-left (StepFits p) (steps_of_stmt p stmt vs 0) (steps_of_body p rest vs 0) fits))
+        (body_pairs y route rest one.bounds vs (all-right (StepFits p) (steps_of_stmt p stmt vs 0) (steps_of_body p rest vs 0) fits))
 
   pub phase_pairs : (routes : List Route) (body : PlainBody) (bounds : List ℕ) → ReachAll routes body →
       BodyFits p body [] →
@@ -155,5 +155,5 @@ module _ (z : Laziness) (p : PlainProgram) (all : List Route) where
       pairs-append p.lanes span_of (word_actions_of_stmt words_of one.stmt [] 0) (word_actions_of_stmt other_of (rerouted_stmt route one.stmt) [] 0)
       (word_actions_of_body words_of after [] 0) (word_actions_of_body other_of (rerouted_phase routes after) [] 0)
       (accesses_of_stmt p route stmt []) (accesses_of_phase p routes rest)
-      (stmt_pairs y route stmt bounds [] (all_front (StepFits p) (steps_of_stmt p stmt [] 0) (steps_of_body p rest [] 0) fits))
-      (phase_pairs routes rest one.bounds reach (all_back (StepFits p) (steps_of_stmt p stmt [] 0) (steps_of_body p rest [] 0) fits))
+      (stmt_pairs y route stmt bounds [] (all-left (StepFits p) (steps_of_stmt p stmt [] 0) (steps_of_body p rest [] 0) fits))
+      (phase_pairs routes rest one.bounds reach (all-right (StepFits p) (steps_of_stmt p stmt [] 0) (steps_of_body p rest [] 0) fits))

@@ -2,7 +2,8 @@
 use Rattle.std.proofs.Common.{◌≡◌, ℕ, zero, suc, ◌+◌, ◌<◌, ◌≤◌, List, [], ◌∷◌, length, take, map, get_or, refl, sym, ap}
 use Rattle.std.proofs.Common.{◌∙◌, arith, add-one, length-set}
 use Rattle.std.specs.Prelude.{slice_set, min}
-use Rattle.std.proofs.lemmas.List.{length-map}
+use Rattle.std.proofs.Math.ListN.{get_or-map}
+use Rattle.std.proofs.lemmas.List.{length-map, map-set}
 use Rattle.word_code.specs.declared.program.WordStmt.{WordStmt}
 use Rattle.word_code.specs.WordProgram as plain
 use Rattle.word_code.specs.View.{word_body_of, plain_word_stmt, plain_word_body}
@@ -55,18 +56,6 @@ all-of-them (route ∷ routes) [] i le = each-short (take i (route ∷ routes))
 all-of-them (route ∷ routes) (stmt ∷ rest) zero le = absurd (omega arith)
 all-of-them (route ∷ routes) (stmt ∷ rest) (suc i) le = ap (λ ss. rerouted_stmt route stmt ∷ ss) (all-of-them routes rest i (omega arith))
 
-map-set : (stmts : List WordStmt) (i : ℕ) (stmt : WordStmt) →
-    map plain_word_stmt (slice_set stmts i stmt) ≡ slice_set (map plain_word_stmt stmts) i (plain_word_stmt stmt)
-map-set [] i stmt = refl
-map-set (x ∷ rest) zero stmt = refl
-map-set (x ∷ rest) (suc i) stmt = ap (λ ss. plain_word_stmt x ∷ ss) (map-set rest i stmt)
-
-get-map : (stmts : List WordStmt) (i : ℕ) (stmt : WordStmt) → stmt ≡ get_or stmts i stmt →
-    plain_word_stmt stmt ≡ get_or (map plain_word_stmt stmts) i (plain_word_stmt stmt)
-get-map [] i stmt is = refl
-get-map (x ∷ rest) zero stmt is = ap plain_word_stmt is
-get-map (x ∷ rest) (suc i) stmt is = get-map rest i stmt is
-
 -- so many statements go their routes, and the others are as they were
 pub record AreRerouted (routes : List Route) (i : ℕ) (old now : List WordStmt) : Type 0 where
   pub same : length now ≡ length old
@@ -84,11 +73,11 @@ rerouted-more routes i old now other x y short lt is new h =
     let olds = map plain_word_stmt old in
     let route = get_or routes i other in
     let small : i < length olds = omega (arith, lt, h.same, length-map old plain_word_stmt) in
-    let seen = get-map now i x is ∙ ap (λ ss. get_or ss i (plain_word_stmt x)) h.so_far in
+    let seen = ap plain_word_stmt is ∙ sym (get_or-map plain_word_stmt now i x) ∙ ap (λ ss. get_or ss i (plain_word_stmt x)) h.so_far in
     record {
       same = length-set now i y ∙ h.same;
       so_far =
-          map-set now i y
+          map-set plain_word_stmt now i y
           ∙ (ap (slice_set (map plain_word_stmt now) i) (new ∙ ap (λ s. rerouted_stmt route (plain_word_stmt s)) (sym is))
           ∙ (ap (λ ss. slice_set ss i (rerouted_stmt route (plain_word_stmt x))) h.so_far
           ∙ (one-more routes olds i other (plain_word_stmt x) short small seen

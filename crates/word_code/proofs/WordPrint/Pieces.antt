@@ -4,9 +4,6 @@ use Rattle.listing_text.specs.Numbers.{numbered_text}
 use Rattle.word_code.specs.WordPrint.FunctionText.{each_from}
 use Rattle.word_code.specs.WordPrint.WordText.{becomes_text, sources_text, targets_text}
 
-pub two_pieces : (old a b : List ℕ) → (old ++ a) ++ b ≡ old ++ (a ++ b)
-two_pieces old a b = append_assoc old a b
-
 pub three_pieces : (old a b c : List ℕ) → ((old ++ a) ++ b) ++ c ≡ old ++ (a ++ b ++ c)
 three_pieces old a b c = simp append_assoc
 
