@@ -4,6 +4,7 @@ use Rattle.std.proofs.Common.{[], ◌∷◌, ◌++◌, length, Some, None, refl,
 use Rattle.std.specs.List.{list_all}
 use Rattle.std.proofs.lemmas.Bool.{ltb-true, leb-true, lt-ltb, le-leb, and_parts, and_from, eqb-true}
 use Rattle.std.proofs.lemmas.List.{length-append}
+use Rattle.std.proofs.lemmas.List.Folds.{list_all-append}
 use Rattle.icode.specs.Plain.{PlainStmt, PlainBody, Loop, body_of}
 use Rattle.icode.specs.Plain as plain
 use Rattle.icode.specs.Limits.{is_small_positive, is_stmt_within, is_body_within, is_op_within, are_tables_within}
@@ -26,10 +27,8 @@ body_within-push m (x ∷ xs) s loops h k =
 
 pub all-push : {A : Type 0} (test : A → Bool) (xs : List A) (x : A) → list_all test xs ≡ true → test x ≡ true →
     list_all test (xs ++ x ∷ []) ≡ true
-all-push test [] x h k = and_from (test x) true k refl
-all-push test (y ∷ xs) x h k =
-    let parts = and_parts (test y) (list_all test xs) h in
-    and_from (test y) (list_all test (xs ++ x ∷ [])) parts.0 (all-push test xs x parts.1 k)
+all-push test xs x h k =
+    list_all-append test xs (x ∷ []) ∙ and_from (list_all test xs) (test x && true) h (and_from (test x) true k refl)
 
 -- the open loops, closed with what they have
 abbrev pub closed_body : List PlainLevel → List PlainStmt → PlainBody
@@ -41,31 +40,39 @@ abbrev pub are_levels_within : ℕ → List PlainLevel → Bool
 are_levels_within m [] = true
 are_levels_within m (level ∷ levels) = is_small_positive level.count && (ltb (length levels) 64 && (is_body_within m (body_of level.before) (length levels) && are_levels_within m levels))
 
+-- what the innermost of the open loops says
+record LevelWithin (m : ℕ) (level : PlainLevel) (levels : List PlainLevel) : Type 0 where
+  count : is_small_positive level.count ≡ true
+  deep : ltb (length levels) 64 ≡ true
+  before : is_body_within m (body_of level.before) (length levels) ≡ true
+  others : are_levels_within m levels ≡ true
+
+level_parts : (m : ℕ) (level : PlainLevel) (levels : List PlainLevel) → are_levels_within m (level ∷ levels) ≡ true →
+    LevelWithin m level levels
+level_parts m level levels h =
+    let n = length levels in
+    let before = is_body_within m (body_of level.before) n in
+    let p1 = and_parts (is_small_positive level.count) (ltb n 64 && (before && are_levels_within m levels)) h in
+    let p2 = and_parts (ltb n 64) (before && are_levels_within m levels) p1.1 in
+    let p3 = and_parts before (are_levels_within m levels) p2.1 in
+    record { count = p1.0; deep = p2.0; before = p3.0; others = p3.1 }
+
 loop_within : (m : ℕ) (level : PlainLevel) (levels : List PlainLevel) (body : List PlainStmt) →
     are_levels_within m (level ∷ levels) ≡ true → is_body_within m (body_of body) (length (level ∷ levels)) ≡ true
     → is_body_within m (body_of (level.before ++ Loop level.count (body_of body) ∷ [])) (length levels) ≡ true
 loop_within m level levels body h k =
     let n = length levels in
-    let p1 = and_parts (is_small_positive level.count) (ltb n 64 && (is_body_within m (body_of level.before) n && are_levels_within m levels)) h in
-    let p2 = and_parts (ltb n 64) (is_body_within m (body_of level.before) n && are_levels_within m levels) p1.1 in
-    let p3 = and_parts (is_body_within m (body_of level.before) n) (are_levels_within m levels) p2.1 in
+    let parts = level_parts m level levels h in
     let deeper : suc n ≡ n + 1 = omega arith in
-    body_within-push m level.before (Loop level.count (body_of body)) n p3.0
-    (and_from (is_small_positive level.count) (ltb n 64 && is_body_within m (body_of body) (n + 1)) p1.0
-    (and_from (ltb n 64) (is_body_within m (body_of body) (n + 1)) p2.0 (subst (λ d. is_body_within m (body_of body) d ≡ true) deeper k)))
-
-levels_below : (m : ℕ) (level : PlainLevel) (levels : List PlainLevel) → are_levels_within m (level ∷ levels) ≡ true →
-    are_levels_within m levels ≡ true
-levels_below m level levels h =
-    let n = length levels in
-    let p1 = and_parts (is_small_positive level.count) (ltb n 64 && (is_body_within m (body_of level.before) n && are_levels_within m levels)) h in
-    let p2 = and_parts (ltb n 64) (is_body_within m (body_of level.before) n && are_levels_within m levels) p1.1 in
-    (and_parts (is_body_within m (body_of level.before) n) (are_levels_within m levels) p2.1).1
+    body_within-push m level.before (Loop level.count (body_of body)) n parts.before
+    (and_from (is_small_positive level.count) (ltb n 64 && is_body_within m (body_of body) (n + 1)) parts.count
+    (and_from (ltb n 64) (is_body_within m (body_of body) (n + 1)) parts.deep
+    (subst (λ d. is_body_within m (body_of body) d ≡ true) deeper k)))
 
 closed_within : (m : ℕ) (levels : List PlainLevel) (body : List PlainStmt) → are_levels_within m levels ≡ true →
     is_body_within m (body_of body) (length levels) ≡ true → is_body_within m (closed_body levels body) 0 ≡ true
 closed_within m [] body h k = k
-closed_within m (level ∷ levels) body h k = closed_within m levels (level.before ++ Loop level.count (body_of body) ∷ []) (levels_below m level levels h) (loop_within m level levels body h k)
+closed_within m (level ∷ levels) body h k = closed_within m levels (level.before ++ Loop level.count (body_of body) ∷ []) (level_parts m level levels h).others (loop_within m level levels body h k)
 
 -- ---- a step that is taken
 
@@ -146,7 +153,7 @@ good_closed d (level ∷ levels) e g =
     let m = d.header.modulus in
     let within : are_levels_within m (level ∷ levels) ≡ true = ap (λ ls. are_levels_within m ls) (sym e) ∙ g.levels in
     let body : is_body_within m (body_of d.body) (length (level ∷ levels)) ≡ true = ap (λ ls. is_body_within m (body_of d.body) (length ls)) (sym e) ∙ g.body in
-    record { header = g.header; tables = g.tables; phases = g.phases; levels = levels_below m level levels within; body = loop_within m level levels d.body within body; few = g.few }
+    record { header = g.header; tables = g.tables; phases = g.phases; levels = (level_parts m level levels within).others; body = loop_within m level levels d.body within body; few = g.few }
 
 pub good_act : (d : PlainDraft) (act : PlainAct) (t : PlainDraft) → GoodDraft d → act_step d act ≡ Some t → GoodDraft t
 good_act d (Open depth count) t g e = good_open d depth count t g e

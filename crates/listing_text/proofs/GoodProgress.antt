@@ -3,7 +3,7 @@ use Rattle.std.proofs.Common.{◌≡◌, ℕ, ◌-◌, ◌≤◌, ◌^◌, Bool,
 use Rattle.std.proofs.Common.{Option, Some, None, Result, Ok, Err, refl, sym, ap, subst, ◌∙◌, append_assoc, arith}
 use Rattle.std.specs.List.{list_all}
 use Rattle.std.specs.Option.{option_map}
-use Rattle.std.proofs.lemmas.List.{append-nil, length-append}
+use Rattle.std.proofs.lemmas.List.{append-nil, length-append, take_at}
 use Rattle.icode.specs.Plain.{PlainProgram, NoStmts}
 use Rattle.icode.specs.Limits.{IsWithinLimits}
 use Rattle.grammar.specs.Grammar.{Begins}
@@ -58,15 +58,11 @@ owing_some d text line t e =
     let r = read_some (λ rest. Some (owed_after d rest.1)) (word_in line text) t e in
     (r.0.1, word_is line text r.0 r.1, some_is r.2)
 
-take_front : (front owed : List ℕ) → take (length front) (front ++ owed) ≡ front
-take_front [] owed = refl
-take_front (b ∷ front) owed = ap (λ y. b ∷ y) (take_front front owed)
-
 -- what stands before the text that is owed
 front_is : (front owed full : List ℕ) → front ++ owed ≡ full → take (length full - length owed) full ≡ front
 front_is front owed full e =
     let n : length (front ++ owed) - length owed ≡ length front = omega (arith, length-append front owed) in
-    subst (λ t. take (length t - length owed) t ≡ front) e (ap (λ k. take k (front ++ owed)) n ∙ take_front front owed)
+    subst (λ t. take (length t - length owed) t ≡ front) e (ap (λ k. take k (front ++ owed)) n ∙ take_at front owed (length front) refl)
 
 unfoldable some_header : Header
 some_header = record { size = 1; modulus = 2; procs = 1; line = 1; lanes = 1; regs = 0 }

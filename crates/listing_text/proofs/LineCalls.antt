@@ -46,6 +46,3 @@ line_taken step finish s t rest line after lines total l e f so_far =
 pub line_counted : (rest line after : List ℕ) (lines most : ℕ) → IsLine line → rest ≡ line ++ after →
     lines + length rest ≤ most → lines + 1 + length after ≤ most
 line_counted rest line after lines most l e within = omega (arith, within, ap length e, length-append line after, length-line line l)
-
-pub after_shorter : (rest line after : List ℕ) → IsLine line → rest ≡ line ++ after → length after < length rest
-after_shorter rest line after l e = omega (arith, ap length e, length-append line after, length-line line l)

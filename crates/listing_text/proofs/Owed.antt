@@ -2,7 +2,7 @@
 use Rattle.std.proofs.Common.{◌≡◌, ℕ, zero, suc, ◌<◌, ◌≤◌, true, false, List, [], ◌∷◌, ◌++◌, length, drop, Result, Ok}
 use Rattle.std.proofs.Common.{Err, refl, sym, ap, ◌∙◌, arith}
 use Rattle.std.specs.Result.{is_ok}
-use Rattle.std.proofs.lemmas.List.{length-append}
+use Rattle.std.proofs.lemmas.List.{length-append, drop_at}
 use Rattle.grammar.specs.declared.token.Stuck.{Stuck}
 use Rattle.grammar.specs.Cursor.{Gives}
 use Rattle.grammar.specs.Grammar.{word}
@@ -20,10 +20,6 @@ word_cases line text (Err left) x p e = absurd cc
 pub word_is : (line text : List ℕ) (x : Unit {0} × List ℕ) → word_in line text ≡ Ok x → text ≡ line ++ x.1
 word_is line text x e = word_cases line text (word_in line text) x ((word_token Anything line).each text) e
 
-drop_front : (front rest : List ℕ) → drop (length front) (front ++ rest) ≡ rest
-drop_front [] rest = refl
-drop_front (b ∷ front) rest = drop_front front rest
-
 placed_ok : (far : ℕ) (r : Result (Unit {0} × List ℕ) ℕ) (x : Unit {0} × Place ℕ) → placed far r ≡ Ok x →
     (y : Unit {0} × List ℕ) × (r ≡ Ok y)
 placed_ok far (Ok y) x e = (y, refl)
@@ -38,7 +34,7 @@ found : (line text : List ℕ) (x : Unit {0} × Place ℕ) → word_at line (sta
 found line text x e =
     let y = placed_ok (length text) (word_in line text) x e in
     let is = word_is line text y.0 y.1 in
-    let rest : drop (length line) text ≡ y.0.1 = ap (λ t. drop (length line) t) is ∙ drop_front line y.0.1 in
+    let rest : drop (length line) text ≡ y.0.1 = ap (λ t. drop (length line) t) is ∙ drop_at line y.0.1 (length line) refl in
     (omega (arith, ap length is, length-append line y.0.1), y.1 ∙ ap (λ t. Ok (tt, t)) (sym rest))
 
 pub front_yes : (line text : List ℕ) (r : Result (Unit {0}) Stuck) (place : Place ℕ) →

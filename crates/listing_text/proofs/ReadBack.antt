@@ -1,9 +1,9 @@
 -- The text of a place is read back.
-use Rattle.std.proofs.Common.{◌≡◌, ℕ, zero, suc, ◌<◌, ◌≤◌, ◌^◌, Bool, true, false, eqb, ltb, leb, ◌&&◌, ◌||◌, List, []}
+use Rattle.std.proofs.Common.{◌≡◌, ℕ, zero, suc, ◌<◌, ◌≤◌, ◌^◌, Bool, true, false, cond, eqb, ltb, leb, ◌&&◌, ◌||◌, List, []}
 use Rattle.std.proofs.Common.{◌∷◌, ◌++◌, length, codes, decimal, Some, Result, Ok, refl, sym, ap, ◌∙◌, append_assoc}
 use Rattle.std.proofs.Common.{arith, inl, inr}
 use Rattle.std.specs.Str.Parse.{AllDigits}
-use Rattle.std.proofs.lemmas.Bool.{ne_eqb, ltb-true, and_parts}
+use Rattle.std.proofs.lemmas.Bool.{ne_eqb, ltb-true, and_parts, or_parts}
 use Rattle.std.proofs.lemmas.Fmt.{decimal_is_IsNumeral, decimal_nonempty}
 use Rattle.std.proofs.lemmas.Str.Parse.{digit_from_value}
 use Rattle.icode.specs.Plain.{PlainExpr, PlainPart, PlainParts, Sum, NoParts, AndParts, Proc, Var, Product, Rem, Quot}
@@ -19,7 +19,7 @@ use Rattle.grammar.proofs.Whole.{again}
 use Rattle.listing_text.specs.declared.reading.Head.TheVariants as heads
 use Rattle.listing_text.specs.Listing.{sum_text, parts_text, part_text}
 use Rattle.listing_text.specs.Reading.{above_all, up_to_at, part_heads, second_heads, division_words, part_at, inner_at}
-use Rattle.listing_text.specs.Reading.{sum_at}
+use Rattle.listing_text.specs.Reading.{sum_at, divided}
 
 -- reading gives the value, and leaves this
 abbrev pub Back : {A : Type 0} → (Place ℕ → Result (A × Place ℕ) ℕ) → A → Place ℕ → List ℕ → Type 0
@@ -74,17 +74,13 @@ first_digit n fits = first_digit_of (decimal n) (decimal_nonempty n fits) (decim
 abbrev pub goes_on : ℕ → Bool
 goes_on b = is_digit b || eqb 43 b
 
-or_false : (x y : Bool) → (x || y) ≡ false → (x ≡ false) × (y ≡ false)
-or_false true y h = absurd cc
-or_false false y h = (refl, h)
-
 behind_no_digit : (rest : List ℕ) → begins goes_on rest ≡ false → NoDigit rest
 behind_no_digit [] h = refl
-behind_no_digit (b ∷ rest) h = (or_false (is_digit b) (eqb 43 b) h).0
+behind_no_digit (b ∷ rest) h = (or_parts (is_digit b) (eqb 43 b) h).0
 
 no_head : (rest : List ℕ) (far : ℕ) → begins goes_on rest ≡ false → placed far (one_of_in part_heads rest) ≡ Ok (heads.End, record { rest = rest; far = far })
 no_head [] far h = refl
-no_head (b ∷ rest) far h = let other : eqb 43 b ≡ false = (or_false (is_digit b) (eqb 43 b) h).1 in rw other refl
+no_head (b ∷ rest) far h = let other : eqb 43 b ≡ false = (or_parts (is_digit b) (eqb 43 b) h).1 in rw other refl
 
 parts_no_digit : (ps : PlainParts) (rest : List ℕ) → begins goes_on rest ≡ false → NoDigit (parts_text ps ++ rest)
 parts_no_digit NoParts rest h = behind_no_digit rest h
@@ -118,47 +114,43 @@ part_counts (Product outer inner factor) = omega arith
 part_counts (Rem of divisor factor) = omega arith
 part_counts (Quot of divisor factor) = omega arith
 
-remainder_reader : (place : Place ℕ) (rest : List ℕ) → place.rest ≡ codes ")%" ++ rest →
-    Back (one_of_at division_words) true place rest
-remainder_reader place rest e = again Anything (one_of division_words) (one_of_at division_words) (one_of_reader Anything (codes ")%", true) ((codes ")/", false) ∷ []) refl) place (codes ")%") rest true (inl (refl, refl)) tt e
+-- what stands behind parentheses that are divided: `true` for a remainder
+abbrev sign : Bool → List ℕ
+sign k = cond k (codes ")%") (codes ")/")
 
-quotient_reader : (place : Place ℕ) (rest : List ℕ) → place.rest ≡ codes ")/" ++ rest →
-    Back (one_of_at division_words) false place rest
-quotient_reader place rest e = again Anything (one_of division_words) (one_of_at division_words) (one_of_reader Anything (codes ")%", true) ((codes ")/", false) ∷ []) refl) place (codes ")/") rest false (inr (inl (refl, refl))) tt e
+sign_reader : (k : Bool) (place : Place ℕ) (rest : List ℕ) → place.rest ≡ sign k ++ rest →
+    Back (one_of_at division_words) k place rest
+sign_reader k place rest e =
+    again Anything (one_of division_words) (one_of_at division_words)
+    (one_of_reader Anything (codes ")%", true) ((codes ")/", false) ∷ []) refl) place (sign k) rest k (is k) tt e
+  where
+    is : (k : Bool) → one_of division_words (sign k) k
+    is true = inl (refl, refl)
+    is false = inr (inl (refl, refl))
 
 -- what is read back in parentheses, where so many are left to open
 InnerBack : ℕ → PlainExpr → Type 0
 InnerBack depth e = (place : Place ℕ) (rest : List ℕ) → place.rest ≡ sum_text e ++ rest → begins goes_on rest ≡ false → Back (inner_at depth) e place rest
 
-part_back_rem : (depth : ℕ) (of : PlainExpr) (divisor factor : ℕ) → InnerBack depth of →
-    is_small_positive divisor ≡ true → is_small_positive factor ≡ true
-    → (place : Place ℕ) (rest : List ℕ) → place.rest ≡ part_text (Rem of divisor factor) ++ rest → NoDigit rest →
-    Back (part_at (inner_at depth)) (Some (Rem of divisor factor)) place rest
+part_back_division : (k : Bool) (depth : ℕ) (of : PlainExpr) (divisor factor : ℕ) → InnerBack depth of →
+    is_small_positive divisor ≡ true → is_small_positive factor ≡ true → (place : Place ℕ) (rest : List ℕ) →
+    place.rest ≡ codes "+(" ++ (sum_text of ++ (sign k ++ (decimal divisor ++ (codes "*" ++ (decimal factor ++ rest))))) →
+    NoDigit rest → Back (part_at (inner_at depth)) (Some (divided of k divisor factor)) place rest
 unfolding InnerBack
-part_back_rem depth of divisor factor inner d f place rest e c =
-    let tail = sum_text of ++ (codes ")%" ++ (decimal divisor ++ (codes "*" ++ (decimal factor ++ rest)))) in
-    let start : place.rest ≡ codes "+(" ++ tail = e ∙ simp append_assoc in
-    let h : one_of_at part_heads place ≡ Ok (heads.Inner, record { rest = tail; far = place.far }) = ap (λ r. placed place.far (one_of_in part_heads r)) start in
-    let s = inner (record { rest = tail; far = place.far }) (codes ")%" ++ (decimal divisor ++ (codes "*" ++ (decimal factor ++ rest)))) refl refl in
-    let k = remainder_reader s.0 (decimal divisor ++ (codes "*" ++ (decimal factor ++ rest))) s.2 in
-    let n = number_back divisor k.0 (codes "*" ++ (decimal factor ++ rest)) (positive_fits divisor d) refl k.2 in
+part_back_division k depth of divisor factor inner d f place rest e c =
+    let numbers = decimal divisor ++ (codes "*" ++ (decimal factor ++ rest)) in
+    let tail = sum_text of ++ (sign k ++ numbers) in
+    let h : one_of_at part_heads place ≡ Ok (heads.Inner, record { rest = tail; far = place.far }) =
+    ap (λ r. placed place.far (one_of_in part_heads r)) e in
+    let s = inner (record { rest = tail; far = place.far }) (sign k ++ numbers) refl (no_more k numbers) in
+    let w = sign_reader k s.0 numbers s.2 in
+    let n = number_back divisor w.0 (codes "*" ++ (decimal factor ++ rest)) (positive_fits divisor d) refl w.2 in
     let m = named_back (codes "*") factor n.0 rest (positive_fits factor f) c n.2 in
-    (m.0, rw (h, s.1, k.1, n.1, m.1) refl, m.2)
-
-part_back_quot : (depth : ℕ) (of : PlainExpr) (divisor factor : ℕ) → InnerBack depth of →
-    is_small_positive divisor ≡ true → is_small_positive factor ≡ true
-    → (place : Place ℕ) (rest : List ℕ) → place.rest ≡ part_text (Quot of divisor factor) ++ rest → NoDigit rest →
-    Back (part_at (inner_at depth)) (Some (Quot of divisor factor)) place rest
-unfolding InnerBack
-part_back_quot depth of divisor factor inner d f place rest e c =
-    let tail = sum_text of ++ (codes ")/" ++ (decimal divisor ++ (codes "*" ++ (decimal factor ++ rest)))) in
-    let start : place.rest ≡ codes "+(" ++ tail = e ∙ simp append_assoc in
-    let h : one_of_at part_heads place ≡ Ok (heads.Inner, record { rest = tail; far = place.far }) = ap (λ r. placed place.far (one_of_in part_heads r)) start in
-    let s = inner (record { rest = tail; far = place.far }) (codes ")/" ++ (decimal divisor ++ (codes "*" ++ (decimal factor ++ rest)))) refl refl in
-    let k = quotient_reader s.0 (decimal divisor ++ (codes "*" ++ (decimal factor ++ rest))) s.2 in
-    let n = number_back divisor k.0 (codes "*" ++ (decimal factor ++ rest)) (positive_fits divisor d) refl k.2 in
-    let m = named_back (codes "*") factor n.0 rest (positive_fits factor f) c n.2 in
-    (m.0, rw (h, s.1, k.1, n.1, m.1) refl, m.2)
+    (m.0, rw (h, s.1, w.1, n.1, m.1) refl, m.2)
+  where
+    no_more : (k : Bool) (rest : List ℕ) → begins goes_on (sign k ++ rest) ≡ false
+    no_more true rest = refl
+    no_more false rest = refl
 
 part_back_proc : (depth factor : ℕ) → is_small_positive factor ≡ true → (place : Place ℕ) (rest : List ℕ) →
     place.rest ≡ part_text (Proc factor) ++ rest → NoDigit rest →
@@ -267,9 +259,9 @@ mutual
   part_back (Rem of divisor factor) (suc depth) open_loops w few_open few deep place rest e c =
       let limits = and_parts (is_sum_within of open_loops) (is_small_positive divisor && is_small_positive factor) w in
       let numbers = and_parts (is_small_positive divisor) (is_small_positive factor) limits.1 in
-      part_back_rem (suc depth) of divisor factor (λ q r e1 b. place_back of depth open_loops limits.0 few_open (omega (arith, few)) (omega (arith, deep)) q r e1 b) numbers.0 numbers.1 place rest e c
+      part_back_division true (suc depth) of divisor factor (λ q r e1 b. place_back of depth open_loops limits.0 few_open (omega (arith, few)) (omega (arith, deep)) q r e1 b) numbers.0 numbers.1 place rest (e ∙ simp append_assoc) c
   part_back (Quot of divisor factor) zero open_loops w few_open few deep place rest e c = absurd (omega (arith, deep))
   part_back (Quot of divisor factor) (suc depth) open_loops w few_open few deep place rest e c =
       let limits = and_parts (is_sum_within of open_loops) (is_small_positive divisor && is_small_positive factor) w in
       let numbers = and_parts (is_small_positive divisor) (is_small_positive factor) limits.1 in
-      part_back_quot (suc depth) of divisor factor (λ q r e1 b. place_back of depth open_loops limits.0 few_open (omega (arith, few)) (omega (arith, deep)) q r e1 b) numbers.0 numbers.1 place rest e c
+      part_back_division false (suc depth) of divisor factor (λ q r e1 b. place_back of depth open_loops limits.0 few_open (omega (arith, few)) (omega (arith, deep)) q r e1 b) numbers.0 numbers.1 place rest (e ∙ simp append_assoc) c

@@ -1,7 +1,7 @@
 -- The steps of the loop that reads the parts of a place.
 use Rattle.std.proofs.Common.{◌≡◌, ℕ, zero, suc, ◌+◌, ◌-◌, ◌<◌, ◌≤◌, ◌≢◌, List, [], ◌∷◌, ◌++◌, length, map, Option}
 use Rattle.std.proofs.Common.{Some, None, Result, Ok, Err, refl, sym, ap, ◌∙◌, append_assoc, arith}
-use Rattle.std.proofs.lemmas.List.{append-nil}
+use Rattle.std.proofs.lemmas.List.{append-nil, map-append}
 use Rattle.grammar.specs.Reading.{Place, and_then, pure_at}
 use Rattle.grammar.specs.Cursor.{Tells}
 use Rattle.grammar.specs.declared.token.ReadError.{ReadError}
@@ -12,10 +12,6 @@ use Rattle.listing_text.specs.Reading.{up_to_at, inner_at, sum_at}
 abbrev pub in_front : {A : Type 0} → List A → Result (List A × Place ℕ) ℕ → Result (List A × Place ℕ) ℕ
 in_front front (Ok x) = Ok (front ++ x.0, x.1)
 in_front front (Err left) = Err left
-
-pub nothing_in_front : {A : Type 0} (r : Result (List A × Place ℕ) ℕ) → in_front [] r ≡ r
-nothing_in_front (Ok x) = refl
-nothing_in_front (Err left) = refl
 
 regrouped : {A : Type 0} (front : List A) (x : A) (r : Result (List A × Place ℕ) ℕ) →
     in_front front (and_then r (λ others. pure_at (x ∷ others))) ≡ in_front (front ++ x ∷ []) r
@@ -80,8 +76,4 @@ pub part_pushed : {X A : Type 0} (view : X → A) (read : Place ℕ → Result (
     in_front (map view front) (up_to_at (64 - i) read place) ≡ total →
     in_front (map view pushed) (up_to_at (64 - (i + 1)) read next) ≡ total
 part_pushed view read i place next front pushed x total lt p e so_far =
-    ap (λ xs. in_front xs (up_to_at (64 - (i + 1)) read next)) (ap (map view) p ∙ map_push view front x) ∙ one_part read i place next (map view front) (view x) total lt e so_far
-  where
-    map_push : {X A : Type 0} (f : X → A) (xs : List X) (x : X) → map f (xs ++ x ∷ []) ≡ map f xs ++ f x ∷ []
-    map_push f [] x = refl
-    map_push f (y ∷ xs) x = ap (λ ys. f y ∷ ys) (map_push f xs x)
+    ap (λ xs. in_front xs (up_to_at (64 - (i + 1)) read next)) (ap (map view) p ∙ map-append view front (x ∷ [])) ∙ one_part read i place next (map view front) (view x) total lt e so_far
