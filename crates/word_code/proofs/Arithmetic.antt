@@ -1,6 +1,6 @@
 -- Lazy residues: words below a multiple of m that stand for residues.
 use Rattle.std.proofs.Common.{◌≡◌, ℕ, ◌+◌, ◌-◌, ◌*◌, ◌/◌, ◌%◌, ◌<◌, ◌≤◌, arith, refl, sym, ap, ◌∙◌, subst}
-use Rattle.std.proofs.Common.{mul-le-mul_left, ⊎_elim, min, cond, true, false, ap₂}
+use Rattle.std.proofs.Common.{mul-le-mul_left, ⊎_elim, inl, inr, min, cond, true, false, ap₂}
 use Rattle.std.proofs.Math.Nat.{add-mod, add-mul-mod_self_left, mul-add-mod_self_right, mod-eq_of_lt, mod-mod}
 use Rattle.std.proofs.Math.Nat.{min-eq_left, min-eq_right, div-mul-le_self}
 use Rattle.std.proofs.lemmas.Nat.{div-add-mod', mul-lt, mul-mod_first, mod_below, div_below, le-div}
@@ -197,16 +197,17 @@ negation_word base m k b positive room lq =
 pub reduced_word : (base m h p a : ℕ) → 0 < m → p ≤ 2 * (h * m) → h * m < base → a < base → a < p →
     (a % m ≡ reduced base (h * m) a % m) × (reduced base (h * m) a < h * m)
 reduced_word base m h p a positive enough room small lp =
-    ⊎_elim
-    (λ (lt : a < h * m).
-    let fits : a + (base - h * m) < base = omega arith in
-    let other : wrapped_difference base a (h * m) ≡ a + (base - h * m) = mod-eq_of_lt fits in
-    let value : reduced base (h * m) a ≡ a = ap (min a) other ∙ min-eq_left (omega arith) in
-    let both : (a % m ≡ reduced base (h * m) a % m) × (reduced base (h * m) a < h * m) = (ap (λ n. n % m) (sym value), subst (λ n. n < h * m) (sym value) lt) in both)
-    (λ (le : h * m ≤ a).
-    let other : wrapped_difference base a (h * m) ≡ a - h * m = plain_difference base a (h * m) le small in
-    let value : reduced base (h * m) a ≡ a - h * m = ap (min a) other ∙ min-eq_right (omega arith) in
-    let e : a ≡ h * m + (a - h * m) = omega arith in
-    let both : (a % m ≡ reduced base (h * m) a % m) × (reduced base (h * m) a < h * m) =
-    (ap (λ n. n % m) e ∙ mul-add-mod_self_right h m (a - h * m) ∙ sym (ap (λ n. n % m) value), subst (λ n. n < h * m) (sym value) (omega arith)) in both)
-    (cases_lt a (h * m))
+    elim (cases_lt a (h * m)) [
+      | inl lt ↦
+          let fits : a + (base - h * m) < base = omega arith in
+          let other : wrapped_difference base a (h * m) ≡ a + (base - h * m) = mod-eq_of_lt fits in
+          let value : reduced base (h * m) a ≡ a = ap (min a) other ∙ min-eq_left (omega arith) in
+          (ap (λ n. n % m) (sym value), subst (λ n. n < h * m) (sym value) lt)
+      | inr le ↦
+          let other : wrapped_difference base a (h * m) ≡ a - h * m = plain_difference base a (h * m) le small in
+          let value : reduced base (h * m) a ≡ a - h * m = ap (min a) other ∙ min-eq_right (omega arith) in
+          let e : a ≡ h * m + (a - h * m) = omega arith in (
+            ap (λ n. n % m) e ∙ mul-add-mod_self_right h m (a - h * m) ∙ sym (ap (λ n. n % m) value),
+            subst (λ n. n < h * m) (sym value) (omega arith),
+          )
+    ]

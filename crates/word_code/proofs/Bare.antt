@@ -57,7 +57,8 @@ phases_cases z h procs (body ∷ []) P alone evenly =
     (λ (one : procs ≡ 1). subst (λ n. P (quick_phases z h n (body ∷ []))) (sym one) (alone body one refl))
     (λ (more : procs ≢ 1).
     let other : nat_eq procs 1 ≡ false = grind (arith, nat_tests) in
-    let either : Bool → List WordBody = λ b. cond b (quick_alone z h body (loosest z h)).body (quick_phase z h body) ∷ [] in
+    let either : Bool → List WordBody = λ b. cond b (quick_alone z h body (loosest z h)).body
+    (quick_phase z h body) ∷ [] in
     subst (λ b. P (either b)) (sym other) evenly)
     (cases_eq procs 1)
 phases_cases z h procs (body ∷ (next ∷ phases)) P alone evenly = evenly
@@ -131,4 +132,5 @@ quickened_apart z p apart phase =
 -- One processor shares no line with another
 
 pub one_is_apart : (p : PlainProgram) → p.procs ≡ 1 → (phase : ℕ) → IsApart (plain_code p) phase
-one_is_apart p one = apart_alone (plain_code p) (λ phase q past. acts_past (plain_code p) (code_is p) phase q (omega (arith, one, past)))
+one_is_apart p one =
+    apart_alone (plain_code p) (λ phase q past. acts_past (plain_code p) (code_is p) phase q (omega (arith, one, past)))

@@ -42,18 +42,21 @@ rest-last [] stmt rest = refl
 rest-last (s ∷ stmts) stmt rest = ap (quick_and s) (rest-last stmts stmt rest)
 
 rest-none : (stmts : List plain_words.WordStmt) (bounds : List ℕ) →
-    then_rest stmts (record { body = plain_words.NoStmts; bounds = bounds }) ≡ record { body = word_body_of stmts; bounds = bounds }
+    then_rest stmts (record { body = plain_words.NoStmts; bounds = bounds })
+    ≡ record { body = word_body_of stmts; bounds = bounds }
 rest-none [] bounds = refl
 rest-none (s ∷ stmts) bounds = ap (quick_and s) (rest-none stmts bounds)
 
 -- so many statements are made, and the others lead to the rest
-pub record AreMade (go : PlainBody → List ℕ → QuickBody) (i : ℕ) (body : List Stmt) (before : List ℕ) (made : List WordStmt) (after : List ℕ) : Type 0 where
+pub record AreMade (go : PlainBody → List ℕ → QuickBody) (i : ℕ) (body : List Stmt) (before : List ℕ)
+    (made : List WordStmt) (after : List ℕ) : Type 0 where
   pub is : go (plain_body body) before ≡ then_rest (map plain_word_stmt made) (go (plain_body (drop i body)) after)
 
 module _ (go : PlainBody → List ℕ → QuickBody) (i : ℕ) (body : List Stmt) (before : List ℕ) where
   pub made-more : (stmt : Stmt) (one : QuickStmt) (made new : List WordStmt) (word : WordStmt) (bounds after : List ℕ) →
       i < length body → stmt ≡ get_or body i stmt →
-      go (plain_body (stmt ∷ drop (i + 1) body)) bounds ≡ quick_and one.stmt (go (plain_body (drop (i + 1) body)) one.bounds) →
+      go (plain_body (stmt ∷ drop (i + 1) body)) bounds ≡ quick_and one.stmt
+      (go (plain_body (drop (i + 1) body)) one.bounds) →
       AreMade go i body before made bounds → plain_word_stmt word ≡ one.stmt → after ≡ one.bounds →
       new ≡ made ++ word ∷ [] → AreMade go (i + 1) body before new after
   made-more stmt one made new word bounds after lt e splits is same ends appended =
@@ -71,7 +74,8 @@ module _ (go : PlainBody → List ℕ → QuickBody) (i : ℕ) (body : List Stmt
       }
 
   pub made-all : (made : List WordStmt) (after : List ℕ) → length body ≤ i →
-      go plain.NoStmts after ≡ record { body = plain_words.NoStmts; bounds = after } → AreMade go i body before made after →
+      go plain.NoStmts after ≡ record { body = plain_words.NoStmts; bounds = after } →
+      AreMade go i body before made after →
       go (plain_body body) before ≡ record { body = plain_word_body made; bounds = after }
   made-all made after le none is =
       is.is
@@ -90,19 +94,26 @@ module _ (z : Laziness) (some : 1 ≤ z.limit) (of_a : z.kept.of_a ≤ z.limit) 
 
   noted_sane : (m lanes : ℕ) (op : PlainOp) (bounds : List ℕ) → ((r : ℕ) → bound_at z.limit bounds r ≤ z.limit) →
       (r : ℕ) → bound_at z.limit (noted z m lanes op bounds).bounds r ≤ z.limit
-  noted_sane m lanes (Load r array place) bounds sane = set_sane z.limit bounds r (array_bound z.kept array) (array_sane array) sane
-  noted_sane m lanes (Store array place r) bounds sane = settled_sane m z.limit (2 * z.limit) r r (2 * array_bound z.kept array) bounds sane
+  noted_sane m lanes (Load r array place) bounds sane =
+      set_sane z.limit bounds r (array_bound z.kept array) (array_sane array) sane
+  noted_sane m lanes (Store array place r) bounds sane =
+      settled_sane m z.limit (2 * z.limit) r r (2 * array_bound z.kept array) bounds sane
   noted_sane m lanes (Zero r) bounds sane = set_sane z.limit bounds r 1 some sane
   noted_sane m lanes (Add r x y) bounds sane =
-      set_sane z.limit (settled m z.limit (2 * z.limit) x y z.limit bounds).bounds r _ (omega arith) (settled_sane m z.limit (2 * z.limit) x y z.limit bounds sane)
+      set_sane z.limit (settled m z.limit (2 * z.limit) x y z.limit bounds).bounds r _ (omega arith)
+      (settled_sane m z.limit (2 * z.limit) x y z.limit bounds sane)
   noted_sane m lanes (Sub r x y) bounds sane =
-      set_sane z.limit (settled m z.limit (2 * z.limit) x y z.limit bounds).bounds r _ (omega arith) (settled_sane m z.limit (2 * z.limit) x y z.limit bounds sane)
+      set_sane z.limit (settled m z.limit (2 * z.limit) x y z.limit bounds).bounds r _ (omega arith)
+      (settled_sane m z.limit (2 * z.limit) x y z.limit bounds sane)
   noted_sane m lanes (Neg r x) bounds sane =
-      set_sane z.limit (settled m z.limit (2 * z.limit) x x (2 * (z.limit - 1)) bounds).bounds r _ (omega arith) (settled_sane m z.limit (2 * z.limit) x x (2 * (z.limit - 1)) bounds sane)
+      set_sane z.limit (settled m z.limit (2 * z.limit) x x (2 * (z.limit - 1)) bounds).bounds r _ (omega arith)
+      (settled_sane m z.limit (2 * z.limit) x x (2 * (z.limit - 1)) bounds sane)
   noted_sane m lanes (MulConst r x factor) bounds sane = set_sane z.limit bounds r (product_bound z.width) product sane
-  noted_sane m lanes (MulTable r x table place step) bounds sane = set_sane z.limit bounds r (product_bound z.width) product sane
+  noted_sane m lanes (MulTable r x table place step) bounds sane =
+      set_sane z.limit bounds r (product_bound z.width) product sane
   noted_sane m lanes (Tile r x) bounds sane =
-      tile_sane z.limit lanes bounds r (greatest_bound z.limit bounds lanes x) (greatest_sane z.limit bounds lanes x sane) sane
+      tile_sane z.limit lanes bounds r (greatest_bound z.limit bounds lanes x)
+      (greatest_sane z.limit bounds lanes x sane) sane
 
   pub stmt_sane : (h : Header) (stmt : PlainStmt) (bounds : List ℕ) → ((r : ℕ) → bound_at z.limit bounds r ≤ z.limit) →
       (r : ℕ) → bound_at z.limit (quick_stmt z h stmt bounds).bounds r ≤ z.limit

@@ -162,8 +162,8 @@ module _ (z : Laziness) (p : PlainProgram) (lazy : IsLazyWithin z p.modulus) (po
 pub alone_is_same : (z : Laziness) (p : PlainProgram) (body : PlainBody) → p.procs ≡ 1 → p.phases ≡ body ∷ [] →
     PlainFits p → IsLazyWithin z p.modulus → 0 < p.modulus → 1 ≤ p.line → (x turns : List ℕ) →
     All (λ v. v < p.modulus) x →
-    word_results (word_code (with_phases (quickened z p) ((quick_alone z (header_of p) body (loosest z (header_of p))).body
-    ∷ []))) x turns ≡ results (plain_code p) x turns
+    let quick = (quick_alone z (header_of p) body (loosest z (header_of p))).body in
+    word_results (word_code (with_phases (quickened z p) (quick ∷ []))) x turns ≡ results (plain_code p) x turns
 alone_is_same z p body one is fits lazy pos line x turns low =
     let m = p.modulus in
     let n = whole_lines p.size p.line in
@@ -183,7 +183,8 @@ alone_is_same z p body one is fits lazy pos line x turns low =
     let loosest : (r : ℕ) → bound_at z.limit loose r ≡ z.limit = loosest_is z.limit p.regs in
     let known = loosened_lazy z m (needs body) lazy in
     let fit : All (StepFits p) (steps_of_body p body [] 0) = subst (λ phases. All (StepFits p) (steps_of_body p (slice_index_or phases 0 plain.NoStmts) [] 0)) is (fits.each 0 0 (omega (arith, one))) in
-    let go = alone_goes z p lazy pos body loose [] 0 t (length-replicate p.regs z.limit) (λ r. let e = loosest r in omega arith) fit
+    let go = alone_goes z p lazy pos body loose [] 0 t (length-replicate p.regs z.limit)
+    (λ r. let e = loosest r in omega arith) fit
     (begins_below (plain_code p) (scale (loosened z (needs body)) p) x pos known.of_a.0 known.of_b.0 small)
     (begins_low (plain_code p) (bound_at z.limit loose) m p.lanes x pos (λ r. let e = loosest r in omega (arith, e, some))) in
     let words = (word_effects z.width m p.lanes fs t).memory in

@@ -1,5 +1,5 @@
--- The operations of a program on words, one behind the other: what its actions and steps are, and what is kept where each
--- operation has another in its place.
+-- The operations of a program on words, one behind the other: what its actions and steps are, and what is kept where
+-- each operation has another in its place.
 use Rattle.std.proofs.Common.{◌≡◌, ℕ, suc, List, [], ◌∷◌, ◌++◌, All, length, map, flat_map, refl, sym, ap, ap₂, ◌∙◌}
 use Rattle.std.specs.List.{range_with_len}
 use Rattle.std.proofs.lemmas.List.{map-append}
@@ -87,7 +87,8 @@ module _ (w : PlainWordProgram) (q : ℕ) where
     pub stmt-acts : (stmt : WordStmt) (vs : List ℕ) →
         word_actions_of_stmt w stmt vs q ≡ map (act_at w q) (leaves_of_stmt stmt vs)
     stmt-acts (Loop count body) vs =
-        map-turns (act_at w q) (λ i. leaves_of_body body (vs ++ i ∷ [])) (λ i. word_actions_of_body w body (vs ++ i ∷ []) q)
+        map-turns (act_at w q) (λ i. leaves_of_body body (vs ++ i ∷ []))
+        (λ i. word_actions_of_body w body (vs ++ i ∷ []) q)
         (λ i. body-acts body (vs ++ i ∷ [])) (range_with_len 0 count)
     stmt-acts (Do note op) vs = refl
 
@@ -107,7 +108,8 @@ module _ (p : PlainProgram) (q : ℕ) where
     pub stmt-steps : (stmt : WordStmt) (vs : List ℕ) →
         steps_of_stmt p (bare_stmt stmt) vs q ≡ map (step_at p q) (leaves_of_stmt stmt vs)
     stmt-steps (Loop count body) vs =
-        map-turns (step_at p q) (λ i. leaves_of_body body (vs ++ i ∷ [])) (λ i. steps_of_body p (bare_body body) (vs ++ i ∷ []) q)
+        map-turns (step_at p q) (λ i. leaves_of_body body (vs ++ i ∷ []))
+        (λ i. steps_of_body p (bare_body body) (vs ++ i ∷ []) q)
         (λ i. body-steps body (vs ++ i ∷ [])) (range_with_len 0 count)
     stmt-steps (Do note op) vs = refl
 
@@ -115,5 +117,6 @@ module _ (p : PlainProgram) (q : ℕ) where
         steps_of_body p (bare_body body) vs q ≡ map (step_at p q) (leaves_of_body body vs)
     body-steps NoStmts vs = refl
     body-steps (AndStmts stmt rest) vs =
-        map-behind (step_at p q) (leaves_of_stmt stmt vs) (leaves_of_body rest vs) (steps_of_stmt p (bare_stmt stmt) vs q)
+        map-behind (step_at p q) (leaves_of_stmt stmt vs) (leaves_of_body rest vs)
+        (steps_of_stmt p (bare_stmt stmt) vs q)
         (steps_of_body p (bare_body rest) vs q) (stmt-steps stmt vs) (body-steps rest vs)

@@ -19,7 +19,8 @@ pub alone_splits : (z : Laziness) (h : Header) (i : ℕ) (body : List Stmt) (stm
     i < length body → stmt ≡ get_or body i stmt → n ≡ get_or (needs_of_each (plain_body body)) i n →
     let one = quick_stmt (loosened z n) h (plain_stmt stmt) bounds in
     let rest = plain_body (drop (i + 1) body) in
-    quick_alone z h (plain_body (stmt ∷ drop (i + 1) body)) bounds ≡ quick_and one.stmt (quick_alone z h rest one.bounds)
+    quick_alone z h (plain_body (stmt ∷ drop (i + 1) body)) bounds ≡ quick_and one.stmt
+    (quick_alone z h rest one.bounds)
 alone_splits z h i body stmt n bounds lt e needed =
     let all : needs (plain_body (stmt ∷ drop (i + 1) body)) ≡ n =
     sym (needed-at body i n lt needed ∙ ap (λ ss. needs (plain_body ss)) (drop_item body i stmt lt e)) in
@@ -37,7 +38,8 @@ pub needed_sane : (z : Laziness) (h : Header) (n : Needs) (stmt : PlainStmt) (bo
     ((r : ℕ) → bound_at z.limit bounds r ≤ z.limit) →
     (r : ℕ) → bound_at z.limit (quick_stmt (loosened z n) h stmt bounds).bounds r ≤ z.limit
 needed_sane z h n stmt bounds some of_a of_b product sane =
-    stmt_sane (loosened z n) some (either-low n.of_a z.kept.of_a z.limit of_a) (either-low n.of_b z.kept.of_b z.limit of_b) product h stmt bounds sane
+    stmt_sane (loosened z n) some (either-low n.of_a z.kept.of_a z.limit of_a)
+    (either-low n.of_b z.kept.of_b z.limit of_b) product h stmt bounds sane
 
 -- Phases
 

@@ -121,7 +121,8 @@ module _ (w : Width) (size m line lanes regs : ℕ) (fs : List WordAction) where
             count = suc d;
             here = word_effect w m lanes f s;
             is = acts_next d s f rest e;
-            leads = ap (λ gs. leaves gs (word_effect w m lanes f s)) (next_is fs d f rest e).1 ∙ ap (λ gs. leaves gs s) (sym e);
+            leads = ap (λ gs. leaves gs (word_effect w m lanes f s)) (next_is fs d f rest e).1
+                ∙ ap (λ gs. leaves gs s) (sym e);
           }
       cases (f ∷ rest) (suc q) e = record { count = d; here = s; is = others_wait d q s f rest e; leads = refl }
 

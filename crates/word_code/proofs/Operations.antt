@@ -181,7 +181,8 @@ module _ (z : Laziness) (p : PlainProgram) (sound : IsSound (scale z p)) where
       slice_index memory (array_start (whole_lines p.size p.line) array + at + l) < array_bound z.kept array * p.modulus
   place array at fits memory kept l lt =
       let k = array_start (whole_lines p.size p.line) array + at + l in
-      subst (λ b. slice_index memory k < b * p.modulus) (bound_in array at k fits (omega arith) (omega arith)) (kept.each k)
+      subst (λ b. slice_index memory k < b * p.modulus) (bound_in array at k fits (omega arith) (omega arith))
+      (kept.each k)
 
   array_sane : (array : Array) → (1 ≤ array_bound z.kept array) × (array_bound z.kept array ≤ z.limit)
   array_sane arrays.X = let a = some in (omega arith, omega arith)
@@ -238,7 +239,8 @@ module _ (z : Laziness) (p : PlainProgram) (sound : IsSound (scale z p)) where
           reductions = is.reductions;
           sane = λ k. let a = is.low k in let b = sane k in omega (arith, a, b);
           long = is.long ∙ long;
-          fit = subst (λ n. All (ReductionFits (sums_of z.width) n) (settled_to x y target bounds).reductions) long is.fit;
+          fit = subst (λ n. All (ReductionFits (sums_of z.width) n) (settled_to x y target bounds).reductions) long
+              is.fit;
         };
         small = is.small;
       }
@@ -269,14 +271,20 @@ module _ (z : Laziness) (p : PlainProgram) (sound : IsSound (scale z p)) where
       IsDone z p bounds (record { before = []; action = action; bias = 0; quotients = [] })
       (slice_set bounds (register_put action) v)
   plain_done bounds action v long sane stays put low =
-      put_done bounds bounds [] action 0 [] v v (unreduced bounds long sane) stays put (omega arith) low no_bias no_quotients
+      put_done bounds bounds [] action 0 [] v v (unreduced bounds long sane) stays put (omega arith) low no_bias
+      no_quotients
 
   -- and of one that puts less than the limit, whose registers are settled before
   settled_done : (bounds : List ℕ) (x y target : ℕ) (action : Action) (bias v : ℕ) → AreSettled x y target bounds →
       ((t : Local) → memory_after p.lanes action t ≡ t.memory) →
       IsPut s (bound_at z.limit (settled_to x y target bounds).bounds) action bias [] 1 v → v ≤ z.limit →
       bias < sums_of z.width →
-      IsDone z p bounds (record { before = (settled_to x y target bounds).reductions; action = action; bias = bias; quotients = [] })
+      IsDone z p bounds (record {
+        before = (settled_to x y target bounds).reductions;
+        action = action;
+        bias = bias;
+        quotients = [];
+      })
       (slice_set (settled_to x y target bounds).bounds (register_put action) (min z.limit v))
   settled_done bounds x y target action bias v done stays put small fit =
       let same : min z.limit v ≡ v = min-eq_right small in
@@ -369,9 +377,11 @@ module _ (z : Laziness) (p : PlainProgram) (sound : IsSound (scale z p)) where
       record {
         quick =
             quick_put s (bound_at z.limit bounds) (bound_at z.limit bounds)
-            (bound_at z.limit (with_words bounds r (replicate p.lanes v))) [] _ 0 [] p.lanes v none.reductions (λ t. refl)
+            (bound_at z.limit (with_words bounds r (replicate p.lanes v))) [] _ 0 [] p.lanes v none.reductions
+            (λ t. refl)
             (tile_put s (bound_at z.limit bounds) r x v (λ l lt. greatest_is z.limit bounds p.lanes x l lt))
-            (tile_sane z.limit p.lanes bounds r v le sane) (λ k from to. tile_new z.limit p.lanes bounds r v k le from to)
+            (tile_sane z.limit p.lanes bounds r v le sane)
+            (λ k from to. tile_new z.limit p.lanes bounds r v k le from to)
             (λ k apart. tile_old z.limit p.lanes bounds r v k apart);
         long = tile_length p.lanes bounds r v ∙ long;
         numbers = record { before = none.fit; bias = no_bias; quotients = no_quotients };

@@ -13,7 +13,8 @@ use Rattle.icode.specs.Plain.{PlainStmt, PlainBody, PlainProgram}
 use Rattle.icode.specs.Plain as plain
 use Rattle.fast_loops.proofs.TwoTables.Listed.{all-left, all-right}
 use Rattle.word_code.specs.WordMachine.{WordAction, under, actions_under, word_results}
-use Rattle.word_code.specs.WordProgram.{NoStmts, PlainWordProgram, word_action_of, word_actions_of_stmt, word_actions_of_body}
+use Rattle.word_code.specs.WordProgram.{NoStmts, PlainWordProgram, word_action_of, word_actions_of_stmt}
+use Rattle.word_code.specs.WordProgram.{word_actions_of_body}
 use Rattle.word_code.specs.WordProgram.{word_code}
 use Rattle.word_code.specs.Quicken.{Laziness, bound_at, loosest, header_of, noted, quick_stmt, quick_body, quick_phase}
 use Rattle.word_code.specs.Quicken.{quickened}
@@ -90,11 +91,13 @@ module _ (z : Laziness) (p : PlainProgram) (sound : IsSound (scale z p)) where
   no_leads bounds sane long =
       record { goes = λ r. omega arith; sane = sane; long = long; numbers = All-nil (NumbersFit z.width p.regs) }
 
-  both_lead : (bounds middle after : List ℕ) (fs gs : List WordAction) → Leads bounds fs middle → Leads middle gs after →
+  both_lead : (bounds middle after : List ℕ) (fs gs : List WordAction) → Leads bounds fs middle →
+      Leads middle gs after →
       Leads bounds (fs ++ gs) after
   both_lead bounds middle after fs gs one other =
       record {
-        goes = quick-append s (bound_at z.limit bounds) (bound_at z.limit middle) (bound_at z.limit after) fs gs one.goes other.goes;
+        goes = quick-append s (bound_at z.limit bounds) (bound_at z.limit middle) (bound_at z.limit after) fs gs
+            one.goes other.goes;
         sane = other.sane;
         long = other.long;
         numbers = All-append (NumbersFit z.width p.regs) fs gs one.numbers other.numbers;
@@ -182,13 +185,15 @@ module _ (z : Laziness) (p : PlainProgram) (sound : IsSound (scale z p)) where
 
   quick_code : PlainFits p → IsQuickCode (scale_of (word_code w) z.kept z.limit) (word_code w)
   quick_code fits =
-      let from : (r : ℕ) → z.limit ≤ bound_at z.limit loose r = λ r. let e = loosest_is z.limit p.regs r in omega arith in
+      let from : (r : ℕ) → z.limit ≤ bound_at z.limit loose r =
+      λ r. let e = loosest_is z.limit p.regs r in omega arith in
       record {
         each = lists_have w (λ fs. AreQuick s top fs top) (λ r. omega arith)
             (λ phase q lt.
             let fs = word_actions_of_body w (slice_index_or w.phases phase NoStmts) [] q in
             from_weaker s top (bound_at z.limit loose) fs top from
-            (ends_weaker s (bound_at z.limit loose) (bound_at z.limit loose) top fs loose_sane (phase_leads fits phase q lt).goes));
+            (ends_weaker s (bound_at z.limit loose) (bound_at z.limit loose) top fs loose_sane
+            (phase_leads fits phase q lt).goes));
         past = none_past w;
       }
 
@@ -198,5 +203,6 @@ pub evenly_is_same : (z : Laziness) (p : PlainProgram) → PlainFits p → IsLaz
     word_results (word_code (evenly z p)) x turns ≡ results (plain_code p) x turns
 evenly_is_same z p fits lazy pos line x turns low =
     let some : 1 ≤ z.limit = let a = lazy.of_a.0 in let b = lazy.of_a.1 in omega (arith, a, b) in
-    results_are (word_code (evenly z p)) z.kept z.limit (quick_code z p (sound_of z p lazy pos) fits) x turns pos line lazy.of_a.0 lazy.of_b.0 some (below_of_all p.modulus x low)
+    results_are (word_code (evenly z p)) z.kept z.limit (quick_code z p (sound_of z p lazy pos) fits) x turns pos line
+    lazy.of_a.0 lazy.of_b.0 some (below_of_all p.modulus x low)
     ∙ ap (λ c. results c x turns) (code_under z p)

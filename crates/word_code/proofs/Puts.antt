@@ -83,7 +83,8 @@ quick_store s b d rs address r bias quotients reductions sane small =
       memory = λ t kept low. record {
         each = λ k.
             write_below (words t) t.memory address k (d r * s.modulus) (address_bound s k * s.modulus) (below t low)
-            (λ from to. let a = mul-le-mul_left s.modulus (small k from (inside t k to)) in omega (arith, a)) (kept.each k);
+            (λ from to. let a = mul-le-mul_left s.modulus (small k from (inside t k to)) in omega (arith, a))
+            (kept.each k);
       };
       registers = λ t kept low. reductions.below t.registers low;
     }
@@ -147,7 +148,8 @@ module _ (s : Scale) (d : Bounds) (x y : ℕ) (f g : ℕ → ℕ → ℕ) where
       (d x * s.modulus + d y * s.modulus ≤ sums_of s.width → (a b : ℕ) → a < d x * s.modulus → b < d y * s.modulus →
       (f (a % s.modulus) (b % s.modulus) ≡ g a b % s.modulus) × (g a b < d x * s.modulus + d y * s.modulus)) →
       (words : List ℕ) → AreRegistersBelow s.modulus s.lanes d words →
-      (lane_by_lane f (register_of s.lanes (residues s.modulus words) x) (register_of s.lanes (residues s.modulus words) y)
+      (lane_by_lane f (register_of s.lanes (residues s.modulus words) x)
+      (register_of s.lanes (residues s.modulus words) y)
       ≡ residues s.modulus (lane_by_lane g (register_of s.lanes words x) (register_of s.lanes words y)))
       × AllBelow ((d x + d y) * s.modulus) (lane_by_lane g (register_of s.lanes words x) (register_of s.lanes words y))
   both_lanes sound small does words low =
@@ -161,7 +163,8 @@ module _ (s : Scale) (d : Bounds) (x y : ℕ) (f g : ℕ → ℕ → ℕ) where
       (register_below s.modulus s.lanes d words x low) (register_below s.modulus s.lanes d words y low) in (
         ap₂ (lane_by_lane f) (residues-words_at s.modulus s.lanes words (x * s.lanes))
             (residues-words_at s.modulus s.lanes words (y * s.lanes)) ∙ lanes.0,
-        subst (λ k. AllBelow k (lane_by_lane g (register_of s.lanes words x) (register_of s.lanes words y))) (sym spread) lanes.1,
+        subst (λ k. AllBelow k (lane_by_lane g (register_of s.lanes words x) (register_of s.lanes words y)))
+            (sym spread) lanes.1,
       )
 
 pub add_put : (s : Scale) (d : Bounds) (r x y : ℕ) → IsSound s → d x + d y ≤ s.limit →
@@ -183,7 +186,8 @@ sub_put s d r x y sound small =
     let difference : ℕ → ℕ → ℕ = biased_difference (sums_of s.width) (d y * s.modulus) in
     let lanes =
     both_lanes s d x y (difference_mod s.modulus) difference sound small
-    (λ room a b la lb. difference_word (sums_of s.width) s.modulus (d x * s.modulus) (d y) a b sound.modulus room la lb) in
+    (λ room a b la lb.
+    difference_word (sums_of s.width) s.modulus (d x * s.modulus) (d y) a b sound.modulus room la lb) in
     record {
       same = λ t low. (lanes t.registers low).0;
       low = λ t kept low. (lanes t.registers low).1;
@@ -204,7 +208,8 @@ neg_put s d r x sound small =
     (register_of s.lanes t.registers x) (register_below s.modulus s.lanes d t.registers x low) in
     record {
       same = λ t low.
-          ap (map (negation_mod s.modulus)) (residues-words_at s.modulus s.lanes t.registers (x * s.lanes)) ∙ (lanes t low).0;
+          ap (map (negation_mod s.modulus)) (residues-words_at s.modulus s.lanes t.registers (x * s.lanes))
+          ∙ (lanes t low).0;
       low = λ t kept low. (lanes t low).1;
       long = λ t.
           length-mapped negation (register_of s.lanes t.registers x) ∙ length-words_at s.lanes t.registers (x * s.lanes)

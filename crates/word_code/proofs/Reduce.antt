@@ -111,7 +111,8 @@ one_reduction base m lanes limit r bounds pos room sane =
         ≡ residues m words
     same words low =
         sym (residues-with_words m (map (reduced base (h * m)) (register_of lanes words r)) words (r * lanes))
-        ∙ ap (with_words (residues m words) (r * lanes)) (sym (lazy words low).0 ∙ map-id (residues m (register_of lanes words r)))
+        ∙ ap (with_words (residues m words) (r * lanes))
+        (sym (lazy words low).0 ∙ map-id (residues m (register_of lanes words r)))
         ∙ residues-with_words m (register_of lanes words r) words (r * lanes)
         ∙ ap (residues m) (with_words-same lanes words (r * lanes))
 
@@ -158,7 +159,8 @@ falls limit x y target n bounds two in_x in_y over fuel r which big =
     let at_x = set_lower limit bounds r h x under in
     let at_y = set_lower limit bounds r h y under in
     let there : (k : ℕ) → r ≡ k → k < length bounds → bound_at limit (slice_set bounds r h) k ≡ h =
-    λ k e in_k. subst (λ i. bound_at limit (slice_set bounds i h) k ≡ h) (sym e) (get_or-set_same bounds k h limit in_k) in
+    λ k e in_k. subst (λ i. bound_at limit (slice_set bounds i h) k ≡ h) (sym e)
+    (get_or-set_same bounds k h limit in_k) in
     elim which [
       | inl e ↦ omega (arith, there x e in_x, ap (bound_at limit bounds) e, less, at_y, fuel)
       | inr e ↦ omega (arith, there y e in_y, ap (bound_at limit bounds) e, less, at_x, fuel)

@@ -28,7 +28,8 @@ pub residues-with_words : (m : ℕ) (vs xs : List ℕ) (i : ℕ) →
     with_words (residues m xs) i (residues m vs) ≡ residues m (with_words xs i vs)
 residues-with_words m [] xs i = refl
 residues-with_words m (v ∷ vs) xs i =
-    ap (λ ys. with_words ys (i + 1) (residues m vs)) (sym (map-set (λ w. w % m) xs i v)) ∙ residues-with_words m vs (slice_set xs i v) (i + 1)
+    ap (λ ys. with_words ys (i + 1) (residues m vs)) (sym (map-set (λ w. w % m) xs i v))
+    ∙ residues-with_words m vs (slice_set xs i v) (i + 1)
 
 pub residues-zeros : (m n : ℕ) → residues m (replicate n 0) ≡ replicate n 0
 residues-zeros m zero = refl

@@ -38,7 +38,8 @@ module _ (m limit times x y target of_left of_right register b : ℕ) (bounds ne
   step : settled m limit times x y target bounds ≡ then_settled made (settled m limit (times - 1) x y target next)
   step =
       let done : ℕ → ℕ → Settled =
-      λ r h. then_settled (record { register = r; amount = h * m }) (settled m limit (times - 1) x y target (slice_set bounds r h)) in
+      λ r h. then_settled (record { register = r; amount = h * m })
+      (settled m limit (times - 1) x y target (slice_set bounds r h)) in
       let same : b ≡ bound_at limit bounds (greater limit x y bounds) = at ∙ ap (bound_at limit bounds) which in
       settled_goes m limit times x y target bounds some (omega (arith, over, left, right))
       ∙ ap₂ done (sym which) (ap half_up (sym same))

@@ -1,5 +1,6 @@
 -- Runs on words go with runs on residues, turn by turn.
-use Rattle.std.proofs.Common.{◌≡◌, ℕ, zero, suc, ◌+◌, ◌-◌, ◌*◌, ◌%◌, ◌<◌, ◌≤◌, ◌≢◌, List, [], ◌∷◌, ◌++◌, Bool, true, false}
+use Rattle.std.proofs.Common.{◌≡◌, ℕ, zero, suc, ◌+◌, ◌-◌, ◌*◌, ◌%◌, ◌<◌, ◌≤◌, ◌≢◌, List, [], ◌∷◌, ◌++◌, Bool, true}
+use Rattle.std.proofs.Common.{false}
 use Rattle.std.proofs.Common.{cond, Option, Some, None, length, map, drop, replicate, refl, sym, ap, ap₂, ◌∙◌, subst}
 use Rattle.std.proofs.Common.{arith, ⊎_elim, get_or-set_same, get_or-set_other, mul-le-mul_left}
 use Rattle.std.specs.Prelude.{slice_get, slice_index, slice_index_or, slice_set, option_map}
@@ -150,7 +151,9 @@ module _ (code : WordCode) (kept : Kept) (limit : ℕ) (quick : IsQuickCode (sca
               bounds = top s;
               sane = λ r. omega arith;
               below = weaker s.modulus s.lanes ready.bounds (top s) (slice_index_or t.registers q []) ready.sane ready.below;
-              goes = subst (λ i. AreQuick s (top s) (drop i (word_acts code (first_open (under code) (phases_after (under code) t.phase) (t.phase + 1)) q)) (top s)) (sym (slice_index-zeros code.procs q)) (quick.each _ q);
+              goes = subst (λ i. AreQuick s (top s) (drop i
+                  (word_acts code (first_open (under code) (phases_after (under code) t.phase) (t.phase + 1)) q))
+                  (top s)) (sym (slice_index-zeros code.procs q)) (quick.each _ q);
             };
       }
 
@@ -304,7 +307,9 @@ module _ (code : WordCode) (kept : Kept) (limit : ℕ) (quick : IsQuickCode (sca
             bounds = top s;
             sane = λ r. omega arith;
             below = starts_low code.modulus code.lanes (top s) code.procs (code.regs * code.lanes) q pos (λ r. some);
-            goes = subst (λ i. AreQuick s (top s) (drop i (word_acts code (first_open (under code) (length (under code).lists) 0) q)) (top s)) (sym (slice_index-zeros code.procs q)) (quick.each _ q);
+            goes = subst (λ i. AreQuick s (top s) (drop i
+                (word_acts code (first_open (under code) (length (under code).lists) 0) q)) (top s))
+                (sym (slice_index-zeros code.procs q)) (quick.each _ q);
           };
         };
       }
@@ -328,7 +333,8 @@ module _ (code : WordCode) (kept : Kept) (limit : ℕ) (quick : IsQuickCode (sca
       let t = word_runs code x turns in
       let n = padded (under code) in
       let within = size_within code.size code.line line in
-      let words : AllBelow code.modulus (words_at code.size t.memory n) = below-words_at code.modulus code.size t.memory n (λ l lt. outer_below s t.memory (n + l) go.steady.memory (omega arith)) in
+      let words : AllBelow code.modulus (words_at code.size t.memory n) = below-words_at code.modulus code.size t.memory
+      n (λ l lt. outer_below s t.memory (n + l) go.steady.memory (omega arith)) in
       sym (
       ap (λ (r : State). words_at code.size r.memory n) go.same
       ∙ residues-words_at code.modulus code.size t.memory n

@@ -18,7 +18,8 @@ use Rattle.word_code.specs.WordProgram.{Note, WordStmt, WordBody, PlainWordProgr
 use Rattle.word_code.specs.WordProgram.{word_actions_of_body, word_code}
 use Rattle.word_code.proofs.Bare.{quickened_apart, code_under_is, one_is_apart}
 use Rattle.word_code.proofs.Flow.{with_phases, op_same}
-use Rattle.word_code.proofs.Leaves.{Pairwise, pairwise-append, pairwise-turns, pairwise-length, pairwise-all, Leaf, leaf}
+use Rattle.word_code.proofs.Leaves.{Pairwise, pairwise-append, pairwise-turns, pairwise-length, pairwise-all, Leaf}
+use Rattle.word_code.proofs.Leaves.{leaf}
 use Rattle.word_code.proofs.Leaves.{leaves_of_stmt, leaves_of_body, act_at, step_at, body-acts, body-steps}
 use Rattle.word_code.proofs.Rows.{acts_are, lists_have}
 use Rattle.word_code.specs.declared.in_place.routes.Route.{Route}
@@ -74,7 +75,8 @@ module _ (w : PlainWordProgram) (others : List WordBody) (q : ℕ) where
     stmt_kept : (route : Route) (stmt : WordStmt) (vs : List ℕ) →
         AreKept (leaves_of_stmt stmt vs) (leaves_of_stmt (rerouted_stmt route stmt) vs)
     stmt_kept route (Loop count body) vs =
-        pairwise-turns IsKept (λ i. leaves_of_body body (vs ++ i ∷ [])) (λ i. leaves_of_body (rerouted_body route body) (vs ++ i ∷ []))
+        pairwise-turns IsKept (λ i. leaves_of_body body (vs ++ i ∷ []))
+        (λ i. leaves_of_body (rerouted_body route body) (vs ++ i ∷ []))
         (λ i. body_kept route body (vs ++ i ∷ [])) (range_with_len 0 count)
     stmt_kept route (Do note op) vs = (goes_by route note op vs, tt)
 
@@ -82,7 +84,8 @@ module _ (w : PlainWordProgram) (others : List WordBody) (q : ℕ) where
         AreKept (leaves_of_body body vs) (leaves_of_body (rerouted_body route body) vs)
     body_kept route NoStmts vs = tt
     body_kept route (AndStmts stmt rest) vs =
-        pairwise-append IsKept (leaves_of_stmt stmt vs) (leaves_of_body rest vs) (leaves_of_stmt (rerouted_stmt route stmt) vs)
+        pairwise-append IsKept (leaves_of_stmt stmt vs) (leaves_of_body rest vs)
+        (leaves_of_stmt (rerouted_stmt route stmt) vs)
         (leaves_of_body (rerouted_body route rest) vs) (stmt_kept route stmt vs) (body_kept route rest vs)
 
   phase_kept : (routes : List Route) (body : WordBody) →
@@ -91,7 +94,8 @@ module _ (w : PlainWordProgram) (others : List WordBody) (q : ℕ) where
   phase_kept [] (AndStmts stmt rest) = all_stay (leaves_of_body (AndStmts stmt rest) [])
   phase_kept (route ∷ routes) NoStmts = tt
   phase_kept (route ∷ routes) (AndStmts stmt rest) =
-      pairwise-append IsKept (leaves_of_stmt stmt []) (leaves_of_body rest []) (leaves_of_stmt (rerouted_stmt route stmt) [])
+      pairwise-append IsKept (leaves_of_stmt stmt []) (leaves_of_body rest [])
+      (leaves_of_stmt (rerouted_stmt route stmt) [])
       (leaves_of_body (rerouted_phase routes rest) []) (stmt_kept route stmt []) (phase_kept routes rest)
 
 no_phase : (routes : List Route) → rerouted_phase routes NoStmts ≡ NoStmts
@@ -121,7 +125,8 @@ module _ (routes : List Route) (w : PlainWordProgram) where
       ap (slice_index_or by_them.phases phase) (sym (no_phase routes))
       ∙ get_or-map (rerouted_phase routes) w.phases phase NoStmts
 
-  kept : (phase q : ℕ) → AreKept w by_them.phases q (leaves_of_body (body_at phase) []) (leaves_of_body (goes_at phase) [])
+  kept : (phase q : ℕ) → AreKept w by_them.phases q (leaves_of_body (body_at phase) [])
+      (leaves_of_body (goes_at phase) [])
   kept phase q = phase_kept w by_them.phases q routes (body_at phase)
 
   -- the steps of a phase, and of it by routes
@@ -152,7 +157,8 @@ module _ (routes : List Route) (w : PlainWordProgram) where
         few = let bound = fits.few in subst (λ n. n < 2 ^ 59) (sym as_many) bound;
         each = λ phase q lt.
             subst (All (StepFits (bare by_them))) (sym (steps_there phase q))
-            (pairwise-all (IsKept w by_them.phases q) (step_at (bare w) q) (step_at (bare by_them) q) (StepFits (bare w))
+            (pairwise-all (IsKept w by_them.phases q) (step_at (bare w) q) (step_at (bare by_them) q)
+            (StepFits (bare w))
             (StepFits (bare by_them)) (λ one other keeps. keeps.fits) (leaves_of_body (body_at phase) [])
             (leaves_of_body (goes_at phase) []) (kept phase q)
             (subst (All (StepFits (bare w))) (steps_here phase q) (fits.each phase q lt)));
@@ -189,7 +195,8 @@ module _ (routes : List Route) (w : PlainWordProgram) where
           ap (λ b. word_actions_of_body by_them b [] q) (goes_there phase)
           ∙ body-acts by_them q (goes_at phase) [] in
           subst (All Fit) (sym after)
-          (pairwise-all (IsKept w by_them.phases q) (act_at w q) (act_at by_them q) Fit Fit (λ one other keeps. keeps.numbers)
+          (pairwise-all (IsKept w by_them.phases q) (act_at w q) (act_at by_them q) Fit Fit
+          (λ one other keeps. keeps.numbers)
           (leaves_of_body (body_at phase) []) (leaves_of_body (goes_at phase) []) (kept phase q)
           (subst (All Fit) here (fit.numbers phase q)))
 

@@ -83,13 +83,6 @@ start_long words size x le =
     let zeros = length-replicate {A = ℕ} (4 * words - size) 0 in
     omega (arith, le, both, zeros)
 
-second_array : (words size : ℕ) → size ≤ words → words + size ≤ 4 * words
-second_array words size le = omega (arith, le)
-
-phase_fits : (p : PlainProgram) (phases : List PlainBody) (body : PlainBody) → phases ≡ body ∷ [] →
-    All (StepFits p) (steps_of_body p (slice_index_or phases 0 NoStmts) [] 0) → BodyFits p body []
-phase_fits p phases body only fits = subst (λ phases. All (StepFits p) (steps_of_body p (slice_index_or phases 0 NoStmts) [] 0)) only fits
-
 -- by its chosen routes the program leaves what it left
 goes_alike : (z : Laziness) (p : PlainProgram) (g : Goes p p.phases) → PlainFits p → 1 ≤ p.line →
     LeavesAlike (rerouted (chosen g.body) (quickened z p)) (quickened z p)
@@ -110,12 +103,14 @@ goes_alike z p g fits line x turns long =
     let at_start = own_homes (4 * words) in
     let at_end = homes_after_all p.lanes accesses at_start in
     let s : Local = start_alone (word_code one) x in
-    let fitting : BodyFits p g.body [] = phase_fits p p.phases g.body g.only (fits.each 0 0 (let a = g.alone in omega (arith, a))) in
+    let fitting : BodyFits p g.body [] =
+    subst (λ phases. All (StepFits p) (steps_of_body p (slice_index_or phases 0 NoStmts) [] 0)) g.only
+    (fits.each 0 0 (let a = g.alone in omega (arith, a))) in
     let pairs = phase_pairs z p routes routes g.body (loosest z (header_of p)) (chosen_reach g.body) fitting in
     let found = both_true (are_right p.lanes accesses at_start) _ g.may in
     let first = stands_first (4 * words) s.memory (start_long words p.size x long) in
     let last = effects_alike z.width p.modulus p.lanes (4 * words) fs gs accesses at_start s.memory s.memory s.registers pairs found.0 first in
-    let inside = second_array words p.size (size_within p.size p.line line) in
+    let inside : words + p.size ≤ 4 * words = let le = size_within p.size p.line line in omega (arith, le) in
     let after : List WordAction → Local = λ actions. word_effects z.width p.modulus p.lanes actions s in
     results_alone (word_code other) gs g.alone other_lists x turns
     ∙ sym (stands_read (4 * words) p.size words words at_end (after fs).memory (after gs).memory inside inside found.1 last)

@@ -137,8 +137,10 @@ module _ (z : Laziness) (p : PlainProgram) (all : List Route) where
         pairs-append p.lanes span_of (word_actions_of_stmt words_of one.stmt vs 0) (word_actions_of_stmt other_of (rerouted_stmt route one.stmt) vs 0)
         (word_actions_of_body words_of after vs 0) (word_actions_of_body other_of (rerouted_body route after) vs 0)
         (accesses_of_stmt p route stmt vs) (accesses_of_body p route rest vs)
-        (stmt_pairs y route stmt bounds vs (all-left (StepFits p) (steps_of_stmt p stmt vs 0) (steps_of_body p rest vs 0) fits))
-        (body_pairs y route rest one.bounds vs (all-right (StepFits p) (steps_of_stmt p stmt vs 0) (steps_of_body p rest vs 0) fits))
+        (stmt_pairs y route stmt bounds vs (all-left (StepFits p) (steps_of_stmt p stmt vs 0)
+        (steps_of_body p rest vs 0) fits))
+        (body_pairs y route rest one.bounds vs (all-right (StepFits p) (steps_of_stmt p stmt vs 0)
+        (steps_of_body p rest vs 0) fits))
 
   pub phase_pairs : (routes : List Route) (body : PlainBody) (bounds : List ℕ) → ReachAll routes body →
       BodyFits p body [] →
@@ -155,5 +157,7 @@ module _ (z : Laziness) (p : PlainProgram) (all : List Route) where
       pairs-append p.lanes span_of (word_actions_of_stmt words_of one.stmt [] 0) (word_actions_of_stmt other_of (rerouted_stmt route one.stmt) [] 0)
       (word_actions_of_body words_of after [] 0) (word_actions_of_body other_of (rerouted_phase routes after) [] 0)
       (accesses_of_stmt p route stmt []) (accesses_of_phase p routes rest)
-      (stmt_pairs y route stmt bounds [] (all-left (StepFits p) (steps_of_stmt p stmt [] 0) (steps_of_body p rest [] 0) fits))
-      (phase_pairs routes rest one.bounds reach (all-right (StepFits p) (steps_of_stmt p stmt [] 0) (steps_of_body p rest [] 0) fits))
+      (stmt_pairs y route stmt bounds [] (all-left (StepFits p) (steps_of_stmt p stmt [] 0) (steps_of_body p rest [] 0)
+      fits))
+      (phase_pairs routes rest one.bounds reach (all-right (StepFits p) (steps_of_stmt p stmt [] 0)
+      (steps_of_body p rest [] 0) fits))

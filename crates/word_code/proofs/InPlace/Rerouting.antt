@@ -73,7 +73,8 @@ rerouted-more routes i old now other x y short lt is new h =
     let olds = map plain_word_stmt old in
     let route = get_or routes i other in
     let small : i < length olds = omega (arith, lt, h.same, length-map old plain_word_stmt) in
-    let seen = ap plain_word_stmt is ∙ sym (get_or-map plain_word_stmt now i x) ∙ ap (λ ss. get_or ss i (plain_word_stmt x)) h.so_far in
+    let seen = ap plain_word_stmt is ∙ sym (get_or-map plain_word_stmt now i x)
+    ∙ ap (λ ss. get_or ss i (plain_word_stmt x)) h.so_far in
     record {
       same = length-set now i y ∙ h.same;
       so_far =

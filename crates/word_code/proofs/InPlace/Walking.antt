@@ -27,7 +27,8 @@ pub record IsLed (lanes : ℕ) (whole left : List Access) (h h0 : Homes) : Type 
 
 module _ (lanes : ℕ) (whole left first rest : List Access) (h h0 : Homes) (e : left ≡ first ++ rest)
     (led : IsLed lanes whole left h h0) where
-  led_on : (h1 : Homes) → true ≡ are_right lanes first h → h1 ≡ homes_after_all lanes first h → IsLed lanes whole rest h1 h0
+  led_on : (h1 : Homes) → true ≡ are_right lanes first h → h1 ≡ homes_after_all lanes first h →
+      IsLed lanes whole rest h1 h0
   led_on h1 found after =
       record {
         right = led.right
@@ -140,7 +141,8 @@ module _ (p : PlainProgram) (route : Route) (s : PlainStmt) (body : PlainBody) (
   told_turns : turns_left p route body vs turn end ≡ of_turn ++ turns_left p route body vs (turn + 1) end
   told_turns =
       turns_split (λ i. accesses_of_body p route body (vs ++ i ∷ [])) turn end lt
-      ∙ ap (λ first. first ++ turns_left p route body vs (turn + 1) end) (sym (ap₂ (accesses_of_body p route) same opened))
+      ∙ ap (λ first. first ++ turns_left p route body vs (turn + 1) end)
+      (sym (ap₂ (accesses_of_body p route) same opened))
 
   turns_fit : All (StepFits p) (steps_of_body p body (vs ++ turn ∷ []) 0 ++ steps_left p body vs (turn + 1) end)
   turns_fit = subst (All (StepFits p)) (turns_split (λ i. steps_of_body p body (vs ++ i ∷ []) 0) turn end lt) at.fits
@@ -149,7 +151,8 @@ module _ (p : PlainProgram) (route : Route) (s : PlainStmt) (body : PlainBody) (
   turn_fits =
       subst (λ b. BodyFits p b us) (sym same)
       (subst (BodyFits p body) (sym opened)
-      (all-left (StepFits p) (steps_of_body p body (vs ++ turn ∷ []) 0) (steps_left p body vs (turn + 1) end) turns_fit))
+      (all-left (StepFits p) (steps_of_body p body (vs ++ turn ∷ []) 0) (steps_left p body vs (turn + 1) end)
+      turns_fit))
 
   pub turn_stops : false ≡ are_right p.lanes of_turn h → false ≡ are_right p.lanes (accesses_of_stmt p route s vs) h0
   turn_stops =
@@ -162,7 +165,8 @@ module _ (p : PlainProgram) (route : Route) (s : PlainStmt) (body : PlainBody) (
       record {
         led = led_on p.lanes (accesses_of_stmt p route s vs) (turns_left p route body vs turn end) of_turn
             (turns_left p route body vs (turn + 1) end) h h0 told_turns at.led h1 found after;
-        fits = all-right (StepFits p) (steps_of_body p body (vs ++ turn ∷ []) 0) (steps_left p body vs (turn + 1) end) turns_fit;
+        fits = all-right (StepFits p) (steps_of_body p body (vs ++ turn ∷ []) 0) (steps_left p body vs (turn + 1) end)
+            turns_fit;
       }
 
 -- the values of the open loops, with a turn of the loop that these statements stand in
@@ -187,36 +191,39 @@ pub record IsInPhase (p : PlainProgram) (whole : List Access) (routes : List Rou
 -- a statement of a phase with its route
 module _ (p : PlainProgram) (routes : List Route) (items : List Stmt) (i : ℕ) (x : Stmt) (d : Route) (h h0 : Homes)
     (routed : i < length routes) (lt : i < length items) (is : x ≡ get_or items i x)
-    (at : IsInPhase p (accesses_of_phase p routes (plain_body items)) (drop i routes) (plain_body (drop i items)) h h0) where
-  abbrev of_phase : List Access
-  of_phase = accesses_of_phase p routes (plain_body items)
+    (at : IsInPhase p (accesses_of_phase p routes (plain_body items)) (drop i routes) (plain_body (drop i items)) h h0)
+  where
+    abbrev of_phase : List Access
+    of_phase = accesses_of_phase p routes (plain_body items)
 
-  abbrev routed_first : List Access
-  routed_first = accesses_of_stmt p (get_or routes i d) (plain_stmt x) []
+    abbrev routed_first : List Access
+    routed_first = accesses_of_stmt p (get_or routes i d) (plain_stmt x) []
 
-  abbrev routed_rest : List Access
-  routed_rest = accesses_of_phase p (drop (i + 1) routes) (plain_body (drop (i + 1) items))
+    abbrev routed_rest : List Access
+    routed_rest = accesses_of_phase p (drop (i + 1) routes) (plain_body (drop (i + 1) items))
 
-  told_phase : accesses_of_phase p (drop i routes) (plain_body (drop i items)) ≡ routed_first ++ routed_rest
-  told_phase =
-      let next : drop i routes ≡ get_or routes i d ∷ drop (i + 1) routes = rw (add-one, drop-cons routes i d) refl in
-      ap₂ (λ rs ss. accesses_of_phase p rs (plain_body ss)) next (drop_item items i x lt is)
+    told_phase : accesses_of_phase p (drop i routes) (plain_body (drop i items)) ≡ routed_first ++ routed_rest
+    told_phase =
+        let next : drop i routes ≡ get_or routes i d ∷ drop (i + 1) routes = rw (add-one, drop-cons routes i d) refl in
+        ap₂ (λ rs ss. accesses_of_phase p rs (plain_body ss)) next (drop_item items i x lt is)
 
-  pub routed_stops : false ≡ are_right p.lanes routed_first h → false ≡ are_right p.lanes of_phase h0
-  routed_stops =
-      led_wrong p.lanes of_phase (accesses_of_phase p (drop i routes) (plain_body (drop i items))) routed_first routed_rest
-      h h0 told_phase at.led
+    pub routed_stops : false ≡ are_right p.lanes routed_first h → false ≡ are_right p.lanes of_phase h0
+    routed_stops =
+        led_wrong p.lanes of_phase (accesses_of_phase p (drop i routes) (plain_body (drop i items))) routed_first
+        routed_rest
+        h h0 told_phase at.led
 
-  pub routed_goes_on : (h1 : Homes) → true ≡ are_right p.lanes routed_first h →
-      h1 ≡ homes_after_all p.lanes routed_first h →
-      IsInPhase p of_phase (drop (i + 1) routes) (plain_body (drop (i + 1) items)) h1 h0
-  routed_goes_on h1 found after =
-      record {
-        led = led_on p.lanes of_phase (accesses_of_phase p (drop i routes) (plain_body (drop i items))) routed_first routed_rest
-            h h0 told_phase at.led h1 found after;
-        fits = rest_fits p items i x [] lt is at.fits;
-        within = (parts_within p items i x [] lt is 0 at.within).1;
-      }
+    pub routed_goes_on : (h1 : Homes) → true ≡ are_right p.lanes routed_first h →
+        h1 ≡ homes_after_all p.lanes routed_first h →
+        IsInPhase p of_phase (drop (i + 1) routes) (plain_body (drop (i + 1) items)) h1 h0
+    routed_goes_on h1 found after =
+        record {
+          led = led_on p.lanes of_phase (accesses_of_phase p (drop i routes) (plain_body (drop i items))) routed_first
+              routed_rest
+              h h0 told_phase at.led h1 found after;
+          fits = rest_fits p items i x [] lt is at.fits;
+          within = (parts_within p items i x [] lt is 0 at.within).1;
+        }
 
 no_stmts : (p : PlainProgram) (routes : List Route) → accesses_of_phase p routes NoStmts ≡ []
 no_stmts p [] = refl

@@ -9,7 +9,8 @@ pub right-append : (lanes : ℕ) (xs ys : List Access) (h : Homes) →
 right-append lanes [] ys h = refl
 right-append lanes (a ∷ xs) ys h =
     ap (λ (rest : Bool). is_right lanes a h && rest) (right-append lanes xs ys (homes_after lanes a h))
-    ∙ sym (and_assoc (is_right lanes a h) (are_right lanes xs (homes_after lanes a h)) (are_right lanes ys (homes_after_all lanes xs (homes_after lanes a h))))
+    ∙ sym (and_assoc (is_right lanes a h) (are_right lanes xs (homes_after lanes a h))
+    (are_right lanes ys (homes_after_all lanes xs (homes_after lanes a h))))
 
 pub after-append : (lanes : ℕ) (xs ys : List Access) (h : Homes) →
     homes_after_all lanes (xs ++ ys) h ≡ homes_after_all lanes ys (homes_after_all lanes xs h)

@@ -67,7 +67,8 @@ all_nest : (z : Laziness) (head : Header) (m procs : ℕ) (phases : List PlainBo
 all_nest z head m procs phases h =
     phases_cases z head procs phases (λ bodies. are_word_phases_within bodies ≡ true)
     (λ body one is.
-    let within = (and_parts (is_body_within m body 0) true (sym (ap (list_all (λ b. is_body_within m b 0)) is) ∙ h)).0 in
+    let within = (and_parts (is_body_within m body 0) true
+    (sym (ap (list_all (λ b. is_body_within m b 0)) is) ∙ h)).0 in
     and_from (are_word_nests_within (quick_alone z head body (loosest z head)).body 0) true
     (alone_nests z head m body (loosest z head) within) refl)
     (phases_nest z head m phases h)

@@ -14,7 +14,8 @@ use Rattle.word_code.proofs.quicken.+quicken_stmt.Goals as goal
 pub quicken_stmt-requires : goal.quicken_stmt-requires
 quicken_stmt-requires t c =
     let is : plain_stmt c.args.stmt.now ≡ Loop c.in-Loop.count (plain_body c.in-Loop.body.items) = ap plain_stmt c.in-Loop.is ∙ plain_stmt-Loop c.in-Loop.count c.in-Loop.body in
-    let parts = within_loop c.args.setting.modulus c.args.depth c.in-Loop.count (plain_body c.in-Loop.body.items) (plain_stmt c.args.stmt.now) is c.requires.within in
+    let parts = within_loop c.args.setting.modulus c.args.depth c.in-Loop.count (plain_body c.in-Loop.body.items)
+    (plain_stmt c.args.stmt.now) is c.requires.within in
     let items = c.deref-inner-items.ensures.value in
     let d = c.decreases in
     let w = c.in-Loop.is in (
@@ -33,13 +34,16 @@ loop-inner-preserved t c =
     let ends = c.in_ok-inner-in-Loop.ensures.after in
     record {
       is =
-          made-more (quick_body z h) c.loop-inner.inner-index c.deref-inner-items.result.now (loosest z h) c.inner-item.result
-          (quick_stmt z h (plain_stmt c.inner-item.result) c.loop-inner.bounds) c.loop-inner.made.items c.push.new.self.items
+          made-more (quick_body z h) c.loop-inner.inner-index c.deref-inner-items.result.now (loosest z h)
+          c.inner-item.result
+          (quick_stmt z h (plain_stmt c.inner-item.result) c.loop-inner.bounds) c.loop-inner.made.items
+          c.push.new.self.items
           c.in_ok-inner-in-Loop.inner c.loop-inner.bounds c.quicken_stmt.new.bounds (omega arith) c.inner-item.is refl
           c.loop-inner.invariant.is c.in_ok-inner-in-Loop.ensures.stmt ends c.in_ok-push-in-Loop.ensures.items;
       sane =
           subst (AreBoundsWithin c.args.setting) (sym ends)
-          (stmt_sane z c.requires.setting.some c.requires.setting.keep_a c.requires.setting.keep_b c.requires.setting.product h
+          (stmt_sane z c.requires.setting.some c.requires.setting.keep_a c.requires.setting.keep_b
+          c.requires.setting.product h
           (plain_stmt c.inner-item.result) c.loop-inner.bounds c.loop-inner.invariant.sane);
     }
 
@@ -48,5 +52,7 @@ returns-after-loop-inner-clause-stmt t c =
     let z = lazy_of c.args.setting.slack in
     let h = header_in c.args.setting in
     let is : plain_stmt c.args.stmt.now ≡ Loop c.in-Loop.count (plain_body c.in-Loop.body.items) = ap plain_stmt c.in-Loop.is ∙ plain_stmt-Loop c.in-Loop.count c.in-Loop.body in
-    loop_made z h c.in-Loop.count c.loop-inner.inner-index c.in-Loop.body.items c.deref-inner-items.result.now c.args.stmt.now
-    c.args.bounds.now c.loop-inner.made c.loop-inner.bounds is c.deref-inner-items.ensures.value (omega arith) c.loop-inner.invariant.is
+    loop_made z h c.in-Loop.count c.loop-inner.inner-index c.in-Loop.body.items c.deref-inner-items.result.now
+    c.args.stmt.now
+    c.args.bounds.now c.loop-inner.made c.loop-inner.bounds is c.deref-inner-items.ensures.value (omega arith)
+    c.loop-inner.invariant.is

@@ -18,12 +18,14 @@ loop-stmt-preserved c =
     record {
       is =
           made-more (quick_body z h) c.loop-stmt.stmt-index c.args.body.now (loosest z h) c.stmt-item.result
-          (quick_stmt z h (plain_stmt c.stmt-item.result) c.loop-stmt.bounds) c.loop-stmt.made.items c.push.new.self.items
+          (quick_stmt z h (plain_stmt c.stmt-item.result) c.loop-stmt.bounds) c.loop-stmt.made.items
+          c.push.new.self.items
           c.in_ok-stmt.stmt c.loop-stmt.bounds c.quicken_stmt.new.bounds (omega arith) c.stmt-item.is refl
           c.loop-stmt.invariant.is c.in_ok-stmt.ensures.stmt ends c.in_ok-push.ensures.items;
       sane =
           subst (AreBoundsWithin c.args.setting) (sym ends)
-          (stmt_sane z c.requires.setting.some c.requires.setting.keep_a c.requires.setting.keep_b c.requires.setting.product h
+          (stmt_sane z c.requires.setting.some c.requires.setting.keep_a c.requires.setting.keep_b
+          c.requires.setting.product h
           (plain_stmt c.stmt-item.result) c.loop-stmt.bounds c.loop-stmt.invariant.sane);
       long = c.quicken_stmt.auto.bounds ∙ c.loop-stmt.invariant.long;
     }
@@ -33,5 +35,6 @@ returns c =
     let z = lazy_of c.args.setting.slack in
     let h = header_in c.args.setting in
     ap (λ (b : QuickBody). b.body)
-    (sym (made-all (quick_body z h) c.loop-stmt.stmt-index c.args.body.now (loosest z h) c.loop-stmt.made.items c.loop-stmt.bounds
+    (sym (made-all (quick_body z h) c.loop-stmt.stmt-index c.args.body.now (loosest z h) c.loop-stmt.made.items
+    c.loop-stmt.bounds
     (omega arith) refl c.loop-stmt.invariant.is))

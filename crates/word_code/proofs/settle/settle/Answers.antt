@@ -32,7 +32,9 @@ loop-preserved c =
           turn s.modulus limit (2 * limit - c.loop.counter) c.args.left c.args.right c.args.target c.bound_of.result
           c.bound_of-in-loop.result c.greater_of-register.result c.bound_of-in-loop-2.result c.loop.bounds
           c.put_bound.new.bounds (omega arith) c.if-bound_of-target.false c.bound_of.ensures c.bound_of-in-loop.ensures
-          c.greater_of-register.ensures c.bound_of-in-loop-2.ensures c.put_bound.ensures (2 * limit - (c.loop.counter + 1))
-          c.loop.before.items c.push.new.self.items whole (omega arith) c.in_ok-push.ensures.items c.loop.invariant.goes;
+          c.greater_of-register.ensures c.bound_of-in-loop-2.ensures c.put_bound.ensures
+          (2 * limit - (c.loop.counter + 1))
+          c.loop.before.items c.push.new.self.items whole (omega arith) c.in_ok-push.ensures.items
+          c.loop.invariant.goes;
       sane = halved_sane limit c.greater_of-register.result c.bound_of-in-loop-2.result c.loop.bounds c.put_bound.new.bounds c.bound_of-in-loop-2.ensures c.put_bound.ensures c.loop.invariant.sane;
     }

@@ -28,9 +28,11 @@ loop-index-preserved c =
       is =
           made-more (quick_alone z h) c.loop-index.index c.args.body.now (loosest z h) c.index-body-index.result
           (quick_stmt (loosened z c.index.result.now) h (plain_stmt c.index-body-index.result) c.loop-index.bounds)
-          c.loop-index.made.items c.push.new.self.items c.in_ok-stmt.stmt c.loop-index.bounds c.quicken_needed.new.bounds
+          c.loop-index.made.items c.push.new.self.items c.in_ok-stmt.stmt c.loop-index.bounds
+          c.quicken_needed.new.bounds
           c.loop-index-test.true c.index-body-index.is
-          (alone_splits z h c.loop-index.index c.args.body.now c.index-body-index.result c.index.result.now c.loop-index.bounds
+          (alone_splits z h c.loop-index.index c.args.body.now c.index-body-index.result c.index.result.now
+          c.loop-index.bounds
           c.loop-index-test.true c.index-body-index.is needed)
           c.loop-index.invariant.is c.in_ok-stmt.ensures.stmt ends c.in_ok-push.ensures.items;
       sane =
@@ -44,5 +46,6 @@ returns c =
     let z = lazy_of c.args.setting.slack in
     let h = header_in c.args.setting in
     ap (λ (b : QuickBody). b.body)
-    (sym (made-all (quick_alone z h) c.loop-index.index c.args.body.now (loosest z h) c.loop-index.made.items c.loop-index.bounds
+    (sym (made-all (quick_alone z h) c.loop-index.index c.args.body.now (loosest z h) c.loop-index.made.items
+    c.loop-index.bounds
     c.loop-index-test.false refl c.loop-index.invariant.is))

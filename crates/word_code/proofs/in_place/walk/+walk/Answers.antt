@@ -32,8 +32,10 @@ pub walk_body-loop-stmt-preserved : goal.walk_body-loop-stmt-preserved
 walk_body-loop-stmt-preserved t c = record {
   values = c.if-not-walk_stmt.ensures.values ∙ c.loop-stmt.invariant.values;
   table = c.if-not-walk_stmt.ensures.table;
-  walk = item_goes_on (plain_program c.args.program.now) c.args.route c.args.body.now c.loop-stmt.stmt-index c.stmt-item.result _ _ _ _ _
-      c.loop-stmt-test.true c.stmt-item.is c.loop-stmt.invariant.values c.loop-stmt.invariant.walk _ c.if-not-walk_stmt.ensures.right (c.if-not-walk_stmt.ensures.after refl);
+  walk = item_goes_on (plain_program c.args.program.now) c.args.route c.args.body.now c.loop-stmt.stmt-index
+      c.stmt-item.result _ _ _ _ _
+      c.loop-stmt-test.true c.stmt-item.is c.loop-stmt.invariant.values c.loop-stmt.invariant.walk _
+      c.if-not-walk_stmt.ensures.right (c.if-not-walk_stmt.ensures.after refl);
 }
 
 pub walk_stmt-walk_body-requires : goal.walk_stmt-walk_body-requires
@@ -47,7 +49,8 @@ walk_stmt-walk_body-requires t c =
     let now = opened p.modulus c.args.depth c.in-Loop.count c.loop-turn.turn body (plain_stmt c.args.stmt.now) c.loop-turn.values c.args.values.now is c.requires.within inv.long inv.values in
     let same : plain_body c.deref.result.now ≡ body = ap plain_body c.deref.ensures.value in
     let fits =
-    turn_fits p c.args.route (plain_stmt c.args.stmt.now) body c.deref.result.now vs _ c.loop-turn.turn c.in-Loop.count _ _ same now
+    turn_fits p c.args.route (plain_stmt c.args.stmt.now) body c.deref.result.now vs _ c.loop-turn.turn c.in-Loop.count
+    _ _ same now
     c.loop-turn-test.true inv.walk in
     let d = c.decreases in
     let w = c.in-Loop.is in
@@ -86,8 +89,10 @@ walk_stmt-loop-turn-preserved t c =
       long = c.walk_body.array_long;
       values = without_variable c.walk_body.new.values c.loop-turn.values c.args.depth c.loop-turn.turn c.if-not-walk_body.ensures.values ∙ inv.values;
       table = c.if-not-walk_body.ensures.table;
-      walk = turn_goes_on p c.args.route (plain_stmt c.args.stmt.now) (plain_body c.in-Loop.body.items) c.deref.result.now _ _ c.loop-turn.turn c.in-Loop.count _ _
-          (ap plain_body c.deref.ensures.value) now c.loop-turn-test.true inv.walk (homes_of c.walk_body.new.table) c.if-not-walk_body.ensures.right (c.if-not-walk_body.ensures.after refl);
+      walk = turn_goes_on p c.args.route (plain_stmt c.args.stmt.now) (plain_body c.in-Loop.body.items)
+          c.deref.result.now _ _ c.loop-turn.turn c.in-Loop.count _ _
+          (ap plain_body c.deref.ensures.value) now c.loop-turn-test.true inv.walk (homes_of c.walk_body.new.table)
+          c.if-not-walk_body.ensures.right (c.if-not-walk_body.ensures.after refl);
     }
 
 pub walk_stmt-visit-requires-clause-fits : goal.walk_stmt-visit-requires-clause-fits

@@ -10,7 +10,8 @@ walk_stmt-requires-clause-fits c =
     let p = plain_program c.args.program.now in
     let i = c.loop-index.index in
     let inside : i < length c.args.body.now = omega (arith, c.loop-index-test.true, c.min-index-end.ensures) in
-    first_fits p c.args.body.now i c.index-body-index.result [] inside c.index-body-index.is c.loop-index.invariant.walk.fits
+    first_fits p c.args.body.now i c.index-body-index.result [] inside c.index-body-index.is
+    c.loop-index.invariant.walk.fits
 
 pub returns-then-not-walk_stmt-clause-right : goal.returns-then-not-walk_stmt-clause-right
 returns-then-not-walk_stmt-clause-right c =
@@ -20,7 +21,8 @@ returns-then-not-walk_stmt-clause-right c =
 pub loop-index-preserved : goal.loop-index-preserved
 loop-index-preserved c = record {
   table = c.if-not-walk_stmt.ensures.table;
-  walk = routed_goes_on (plain_program c.args.program.now) c.args.routes.now c.args.body.now c.loop-index.index c.index-body-index.result (record { source = X; target = X }) _ _
+  walk = routed_goes_on (plain_program c.args.program.now) c.args.routes.now c.args.body.now c.loop-index.index
+      c.index-body-index.result (record { source = X; target = X }) _ _
       (omega (arith, c.loop-index-test.true, c.min-index-end.ensures)) (omega (arith, c.loop-index-test.true, c.min-index-end.ensures)) c.index-body-index.is c.loop-index.invariant.walk
       (homes_of c.walk_stmt.new.table) c.if-not-walk_stmt.ensures.right (c.if-not-walk_stmt.ensures.after refl);
 }

@@ -6,4 +6,6 @@ use Rattle.word_code.proofs.word_print.printing.put_register.Goals as goal
 pub returns : goal.returns
 returns c =
     IfOk-equal c.put_numbered-2.result _ _ _ c.put_numbered-2.ensures
-    (rw c.in_ok-put_numbered.ensures (append_assoc c.args.out.now.items (numbered_text (codes "vec r") c.args.register (codes " = splat(0); ")) (numbered_text (codes "(void)r") c.args.register (codes ";\n"))))
+    (rw c.in_ok-put_numbered.ensures (append_assoc c.args.out.now.items
+    (numbered_text (codes "vec r") c.args.register (codes " = splat(0); "))
+    (numbered_text (codes "(void)r") c.args.register (codes ";\n"))))
