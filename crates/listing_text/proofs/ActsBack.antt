@@ -1,12 +1,14 @@
 -- The text of a phase's line is read back.
-use Rattle.std.proofs.Common.{◌≡◌, ℕ, ◌<◌, ◌≤◌, true, false, eqb, ltb, leb, ◌&&◌, List, [], ◌∷◌, ◌++◌, codes, decimal, Ok, refl, sym, ap, ◌∙◌, append_assoc, arith, inl, inr}
+use Rattle.std.proofs.Common.{◌≡◌, ℕ, ◌<◌, ◌≤◌, true, false, eqb, ltb, leb, ◌&&◌, List, [], ◌∷◌, ◌++◌, codes, decimal}
+use Rattle.std.proofs.Common.{Ok, refl, sym, ap, ◌∙◌, append_assoc, arith, inl, inr}
 use Rattle.std.proofs.lemmas.Bool.{ltb-true, leb-true, and_parts, ne_eqb}
 use Rattle.icode.specs.declared.program.Array.{Array}
 use Rattle.icode.specs.declared.program.Array.TheVariants as arrays
 use Rattle.icode.specs.Plain.{PlainExpr, PlainOp, Load, Store, Zero, Add, Sub, Neg, MulConst, MulTable, Tile}
 use Rattle.icode.specs.Limits.{is_small, is_sum_within, is_expr_within, is_op_within, sum_parts, sum_depth}
 use Rattle.grammar.specs.Grammar.{one_of}
-use Rattle.grammar.specs.Reading.{Place, start, whole, placed, word_at, number_at, named_number_at, one_of_in, one_of_at}
+use Rattle.grammar.specs.Reading.{Place, start, whole, placed, word_at, number_at, named_number_at, one_of_in}
+use Rattle.grammar.specs.Reading.{one_of_at}
 use Rattle.grammar.proofs.Parts.{Anything, one_of_reader}
 use Rattle.grammar.proofs.Whole.{again}
 use Rattle.listing_text.specs.declared.acts.Word.{Word}
@@ -15,7 +17,8 @@ use Rattle.listing_text.specs.Listing.{sum_text, array_text, place_text, act_tex
 use Rattle.listing_text.specs.Reading.{above_all, sum_at}
 use Rattle.listing_text.specs.Wording.{PlainAct, Open, Close, Do}
 use Rattle.listing_text.specs.Acts.{act_words, array_words, factor_words, operands_at, act_at, act_line_at}
-use Rattle.listing_text.proofs.ReadBack.{Back, then_back, first_digit, word_back, number_back, named_back, small_fits, place_back}
+use Rattle.listing_text.proofs.ReadBack.{Back, then_back, first_digit, word_back, number_back, named_back, small_fits}
+use Rattle.listing_text.proofs.ReadBack.{place_back}
 
 -- the act may stand inside so many loops
 abbrev pub IsActWithin : ℕ → ℕ → PlainAct → Type 0
@@ -23,7 +26,8 @@ IsActWithin m open_loops (Open depth count) = (depth < above_all) × (count < ab
 IsActWithin m open_loops Close = Unit {0}
 IsActWithin m open_loops (Do op) = is_op_within m op open_loops ≡ true
 
-key_back : (w : List ℕ) (word : Word) (place : Place ℕ) (rest : List ℕ) → one_of act_words w word → place.rest ≡ w ++ rest → Back (one_of_at act_words) word place rest
+key_back : (w : List ℕ) (word : Word) (place : Place ℕ) (rest : List ℕ) → one_of act_words w word →
+    place.rest ≡ w ++ rest → Back (one_of_at act_words) word place rest
 key_back w word place rest l e =
     again Anything (one_of act_words) (one_of_at act_words)
     (one_of_reader Anything (codes "for v", words.For)
@@ -37,13 +41,16 @@ array_spells arrays.Y = inr (inl (refl, refl))
 array_spells arrays.A = inr (inr (inl (refl, refl)))
 array_spells arrays.B = inr (inr (inr (inl (refl, refl))))
 
-array_back : (array : Array) (place : Place ℕ) (rest : List ℕ) → place.rest ≡ array_text array ++ (codes "[" ++ rest) → Back (one_of_at array_words) array place rest
+array_back : (array : Array) (place : Place ℕ) (rest : List ℕ) → place.rest ≡ array_text array ++ (codes "[" ++ rest) →
+    Back (one_of_at array_words) array place rest
 array_back array place rest e =
     again Anything (one_of array_words) (one_of_at array_words)
     (one_of_reader Anything (codes "X[", arrays.X) ((codes "Y[", arrays.Y) ∷ (codes "A[", arrays.A) ∷ (codes "B[", arrays.B) ∷ []) refl)
     place (array_text array ++ codes "[") rest array (array_spells array) tt (e ∙ sym (append_assoc (array_text array) (codes "[") rest))
 
-expr_back : (e : PlainExpr) (open_loops : ℕ) → is_expr_within e open_loops ≡ true → open_loops ≤ 64 → (place : Place ℕ) (rest : List ℕ) → place.rest ≡ sum_text e ++ (codes "]" ++ rest) → Back (sum_at 64) e place (codes "]" ++ rest)
+expr_back : (e : PlainExpr) (open_loops : ℕ) → is_expr_within e open_loops ≡ true → open_loops ≤ 64 →
+    (place : Place ℕ) (rest : List ℕ) → place.rest ≡ sum_text e ++ (codes "]" ++ rest) →
+    Back (sum_at 64) e place (codes "]" ++ rest)
 expr_back e open_loops w few_open place rest is =
     let limits = and_parts (is_sum_within e open_loops) (leb (sum_parts e) 64 && leb (sum_depth e) 64) w in
     let counts = and_parts (leb (sum_parts e) 64) (leb (sum_depth e) 64) limits.1 in
@@ -56,7 +63,8 @@ no_table n rest far fits =
     let other : eqb 116 first.digit ≡ false = ne_eqb 116 first.digit (λ same. omega (arith, first.high, same)) in
     rw first.whole (rw other refl)
 
-for_back : (depth count : ℕ) → depth < above_all → count < above_all → (place : Place ℕ) (rest : List ℕ) → place.rest ≡ act_text (Open depth count) ++ (10 ∷ rest) → Back act_at (Open depth count) place (10 ∷ rest)
+for_back : (depth count : ℕ) → depth < above_all → count < above_all → (place : Place ℕ) (rest : List ℕ) →
+    place.rest ≡ act_text (Open depth count) ++ (10 ∷ rest) → Back act_at (Open depth count) place (10 ∷ rest)
 unfolding act_at
 for_back depth count d k place rest e =
     let h = key_back (codes "for v") words.For place (decimal depth ++ (codes " " ++ (decimal count ++ (10 ∷ rest)))) (inl (refl, refl)) (e ∙ simp append_assoc) in
@@ -64,21 +72,26 @@ for_back depth count d k place rest e =
     let m = named_back (codes " ") count n.0 (10 ∷ rest) k refl n.2 in
     (m.0, rw (h.1, n.1, m.1) refl, m.2)
 
-end_back : (place : Place ℕ) (rest : List ℕ) → place.rest ≡ act_text Close ++ (10 ∷ rest) → Back act_at Close place (10 ∷ rest)
+end_back : (place : Place ℕ) (rest : List ℕ) → place.rest ≡ act_text Close ++ (10 ∷ rest) →
+    Back act_at Close place (10 ∷ rest)
 unfolding act_at
 end_back place rest e =
     let h = key_back (codes "end") words.End place (10 ∷ rest) (inr (inl (refl, refl))) e in
     (h.0, rw h.1 refl, h.2)
 
 -- a place with its array, and what stands before and behind it
-place_right : (array : Array) (at : PlainExpr) (rest : List ℕ) → place_text array at ++ rest ≡ array_text array ++ (codes "[" ++ (sum_text at ++ (codes "]" ++ rest)))
+place_right : (array : Array) (at : PlainExpr) (rest : List ℕ) →
+    place_text array at ++ rest ≡ array_text array ++ (codes "[" ++ (sum_text at ++ (codes "]" ++ rest)))
 place_right array at rest = simp append_assoc
 
-load_right : (register : ℕ) (place rest : List ℕ) → (codes "ld r" ++ decimal register ++ codes " " ++ place) ++ rest ≡ codes "ld r" ++ (decimal register ++ (codes " " ++ (place ++ rest)))
+load_right : (register : ℕ) (place rest : List ℕ) → (codes "ld r" ++ decimal register ++ codes " " ++ place) ++ rest
+    ≡ codes "ld r" ++ (decimal register ++ (codes " " ++ (place ++ rest)))
 load_right register place rest = simp append_assoc
 
-load_back : (m open_loops register : ℕ) (array : Array) (at : PlainExpr) → is_op_within m (Load register array at) open_loops ≡ true → open_loops ≤ 64
-    → (place : Place ℕ) (rest : List ℕ) → place.rest ≡ act_text (Do (Load register array at)) ++ (10 ∷ rest) → Back act_at (Do (Load register array at)) place (10 ∷ rest)
+load_back : (m open_loops register : ℕ) (array : Array) (at : PlainExpr) →
+    is_op_within m (Load register array at) open_loops ≡ true → open_loops ≤ 64
+    → (place : Place ℕ) (rest : List ℕ) → place.rest ≡ act_text (Do (Load register array at)) ++ (10 ∷ rest) →
+    Back act_at (Do (Load register array at)) place (10 ∷ rest)
 unfolding act_at
 load_back m open_loops register array at w few_open place rest e =
     let limits = and_parts (is_small register) (is_expr_within at open_loops) w in
@@ -93,11 +106,15 @@ load_back m open_loops register array at w few_open place rest e =
     then_back (sum_at 64) _ at _ q4 r3 (10 ∷ rest) (expr_back at open_loops limits.1 few_open q4 (10 ∷ rest) e4) (λ q5 e5.
     then_back (word_at (codes "]")) _ tt _ q5 (10 ∷ rest) (10 ∷ rest) (word_back (codes "]") q5 (10 ∷ rest) e5) (λ q6 e6. (q6, refl, e6)))))))
 
-store_right : (place : List ℕ) (register : ℕ) (rest : List ℕ) → (codes "st " ++ place ++ codes " r" ++ decimal register) ++ rest ≡ codes "st " ++ (place ++ (codes " r" ++ (decimal register ++ rest)))
+store_right : (place : List ℕ) (register : ℕ) (rest : List ℕ) →
+    (codes "st " ++ place ++ codes " r" ++ decimal register) ++ rest ≡ codes "st "
+    ++ (place ++ (codes " r" ++ (decimal register ++ rest)))
 store_right place register rest = simp append_assoc
 
-store_back : (m open_loops : ℕ) (array : Array) (at : PlainExpr) (register : ℕ) → is_op_within m (Store array at register) open_loops ≡ true → open_loops ≤ 64
-    → (place : Place ℕ) (rest : List ℕ) → place.rest ≡ act_text (Do (Store array at register)) ++ (10 ∷ rest) → Back act_at (Do (Store array at register)) place (10 ∷ rest)
+store_back : (m open_loops : ℕ) (array : Array) (at : PlainExpr) (register : ℕ) →
+    is_op_within m (Store array at register) open_loops ≡ true → open_loops ≤ 64
+    → (place : Place ℕ) (rest : List ℕ) → place.rest ≡ act_text (Do (Store array at register)) ++ (10 ∷ rest) →
+    Back act_at (Do (Store array at register)) place (10 ∷ rest)
 unfolding act_at
 store_back m open_loops array at register w few_open place rest e =
     let limits = and_parts (is_small register) (is_expr_within at open_loops) w in
@@ -109,14 +126,17 @@ store_back m open_loops array at register w few_open place rest e =
     then_back (sum_at 64) _ at _ q2 (codes "]" ++ last) (10 ∷ rest) (expr_back at open_loops limits.1 few_open q2 last e2) (λ q3 e3.
     then_back (named_number_at (codes "] r") above_all) _ register _ q3 (10 ∷ rest) (10 ∷ rest) (named_back (codes "] r") register q3 (10 ∷ rest) (small_fits register limits.0) refl e3) (λ q4 e4. (q4, refl, e4)))))
 
-zero_back : (register : ℕ) → is_small register ≡ true → (place : Place ℕ) (rest : List ℕ) → place.rest ≡ act_text (Do (Zero register)) ++ (10 ∷ rest) → Back act_at (Do (Zero register)) place (10 ∷ rest)
+zero_back : (register : ℕ) → is_small register ≡ true → (place : Place ℕ) (rest : List ℕ) →
+    place.rest ≡ act_text (Do (Zero register)) ++ (10 ∷ rest) → Back act_at (Do (Zero register)) place (10 ∷ rest)
 unfolding act_at
 zero_back register w place rest e =
     let h = key_back (codes "zero r") words.Zero place (decimal register ++ (10 ∷ rest)) (inr (inr (inr (inr (inl (refl, refl)))))) (e ∙ simp append_assoc) in
     let n = number_back register h.0 (10 ∷ rest) (small_fits register w) refl h.2 in
     (n.0, rw (h.1, n.1) refl, n.2)
 
-add_back : (register left right : ℕ) → (is_small register && (is_small left && is_small right)) ≡ true → (place : Place ℕ) (rest : List ℕ) → place.rest ≡ act_text (Do (Add register left right)) ++ (10 ∷ rest) → Back act_at (Do (Add register left right)) place (10 ∷ rest)
+add_back : (register left right : ℕ) → (is_small register && (is_small left && is_small right)) ≡ true →
+    (place : Place ℕ) (rest : List ℕ) → place.rest ≡ act_text (Do (Add register left right)) ++ (10 ∷ rest) →
+    Back act_at (Do (Add register left right)) place (10 ∷ rest)
 unfolding act_at
 add_back register left right w place rest e =
     let limits = and_parts (is_small register) (is_small left && is_small right) w in
@@ -127,7 +147,9 @@ add_back register left right w place rest e =
     let b = named_back (codes " r") right a.0 (10 ∷ rest) (small_fits right others.1) refl a.2 in
     (b.0, rw (h.1, n.1, a.1, b.1) refl, b.2)
 
-sub_back : (register left right : ℕ) → (is_small register && (is_small left && is_small right)) ≡ true → (place : Place ℕ) (rest : List ℕ) → place.rest ≡ act_text (Do (Sub register left right)) ++ (10 ∷ rest) → Back act_at (Do (Sub register left right)) place (10 ∷ rest)
+sub_back : (register left right : ℕ) → (is_small register && (is_small left && is_small right)) ≡ true →
+    (place : Place ℕ) (rest : List ℕ) → place.rest ≡ act_text (Do (Sub register left right)) ++ (10 ∷ rest) →
+    Back act_at (Do (Sub register left right)) place (10 ∷ rest)
 unfolding act_at
 sub_back register left right w place rest e =
     let limits = and_parts (is_small register) (is_small left && is_small right) w in
@@ -138,7 +160,9 @@ sub_back register left right w place rest e =
     let b = named_back (codes " r") right a.0 (10 ∷ rest) (small_fits right others.1) refl a.2 in
     (b.0, rw (h.1, n.1, a.1, b.1) refl, b.2)
 
-neg_back : (register source : ℕ) → (is_small register && is_small source) ≡ true → (place : Place ℕ) (rest : List ℕ) → place.rest ≡ act_text (Do (Neg register source)) ++ (10 ∷ rest) → Back act_at (Do (Neg register source)) place (10 ∷ rest)
+neg_back : (register source : ℕ) → (is_small register && is_small source) ≡ true → (place : Place ℕ) (rest : List ℕ) →
+    place.rest ≡ act_text (Do (Neg register source)) ++ (10 ∷ rest) →
+    Back act_at (Do (Neg register source)) place (10 ∷ rest)
 unfolding act_at
 neg_back register source w place rest e =
     let limits = and_parts (is_small register) (is_small source) w in
@@ -147,7 +171,9 @@ neg_back register source w place rest e =
     let a = named_back (codes " r") source n.0 (10 ∷ rest) (small_fits source limits.1) refl n.2 in
     (a.0, rw (h.1, n.1, a.1) refl, a.2)
 
-tile_back : (register source : ℕ) → (is_small register && is_small source) ≡ true → (place : Place ℕ) (rest : List ℕ) → place.rest ≡ act_text (Do (Tile register source)) ++ (10 ∷ rest) → Back act_at (Do (Tile register source)) place (10 ∷ rest)
+tile_back : (register source : ℕ) → (is_small register && is_small source) ≡ true → (place : Place ℕ) (rest : List ℕ) →
+    place.rest ≡ act_text (Do (Tile register source)) ++ (10 ∷ rest) →
+    Back act_at (Do (Tile register source)) place (10 ∷ rest)
 unfolding act_at
 tile_back register source w place rest e =
     let limits = and_parts (is_small register) (is_small source) w in
@@ -156,8 +182,10 @@ tile_back register source w place rest e =
     let a = named_back (codes " r") source n.0 (10 ∷ rest) (small_fits source limits.1) refl n.2 in
     (a.0, rw (h.1, n.1, a.1) refl, a.2)
 
-constant_back : (m register source factor : ℕ) → m ≤ above_all → (is_small register && (is_small source && ltb factor m)) ≡ true
-    → (place : Place ℕ) (rest : List ℕ) → place.rest ≡ act_text (Do (MulConst register source factor)) ++ (10 ∷ rest) → Back act_at (Do (MulConst register source factor)) place (10 ∷ rest)
+constant_back : (m register source factor : ℕ) → m ≤ above_all →
+    (is_small register && (is_small source && ltb factor m)) ≡ true
+    → (place : Place ℕ) (rest : List ℕ) → place.rest ≡ act_text (Do (MulConst register source factor)) ++ (10 ∷ rest) →
+    Back act_at (Do (MulConst register source factor)) place (10 ∷ rest)
 unfolding act_at
 constant_back m register source factor below w place rest e =
     let limits = and_parts (is_small register) (is_small source && ltb factor m) w in
@@ -173,12 +201,18 @@ constant_back m register source factor below w place rest e =
     (z.0, rw (h.1, n.1, a.1, k, z.1) refl, z.2)
 
 table_right : (register source table : ℕ) (place : List ℕ) (step : ℕ) (rest : List ℕ)
-    → (codes "mul r" ++ decimal register ++ codes " r" ++ decimal source ++ codes " t" ++ decimal table ++ codes "[" ++ place ++ codes "] step " ++ decimal step) ++ rest
-    ≡ codes "mul r" ++ (decimal register ++ (codes " r" ++ (decimal source ++ (codes " t" ++ (decimal table ++ (codes "[" ++ (place ++ (codes "]" ++ (codes " step " ++ (decimal step ++ rest))))))))))
+    → (codes "mul r" ++ decimal register ++ codes " r" ++ decimal source ++ codes " t" ++ decimal table ++ codes "["
+    ++ place ++ codes "] step " ++ decimal step) ++ rest
+    ≡ codes "mul r" ++ (decimal register
+    ++ (codes " r" ++ (decimal source
+    ++ (codes " t" ++ (decimal table
+    ++ (codes "[" ++ (place ++ (codes "]" ++ (codes " step " ++ (decimal step ++ rest))))))))))
 table_right register source table place step rest = simp append_assoc
 
-table_back : (m open_loops register source table : ℕ) (at : PlainExpr) (step : ℕ) → is_op_within m (MulTable register source table at step) open_loops ≡ true → open_loops ≤ 64
-    → (place : Place ℕ) (rest : List ℕ) → place.rest ≡ act_text (Do (MulTable register source table at step)) ++ (10 ∷ rest) → Back act_at (Do (MulTable register source table at step)) place (10 ∷ rest)
+table_back : (m open_loops register source table : ℕ) (at : PlainExpr) (step : ℕ) →
+    is_op_within m (MulTable register source table at step) open_loops ≡ true → open_loops ≤ 64
+    → (place : Place ℕ) (rest : List ℕ) → place.rest ≡ act_text (Do (MulTable register source table at step))
+    ++ (10 ∷ rest) → Back act_at (Do (MulTable register source table at step)) place (10 ∷ rest)
 unfolding act_at
 table_back m open_loops register source table at step w few_open place rest e =
     let l1 = and_parts (is_small register) (is_small source && (is_small table && (ltb step 2 && is_expr_within at open_loops))) w in
@@ -201,7 +235,8 @@ table_back m open_loops register source table at step w few_open place rest e =
     then_back (named_number_at (codes "] step ") above_all) _ step _ q7 (10 ∷ rest) (10 ∷ rest) (named_back (codes "] step ") step q7 (10 ∷ rest) fits refl e7) (λ q8 e8. (q8, refl, e8)))))))))
 
 op_back : (m open_loops : ℕ) (op : PlainOp) → m ≤ above_all → open_loops ≤ 64 → is_op_within m op open_loops ≡ true
-    → (place : Place ℕ) (rest : List ℕ) → place.rest ≡ act_text (Do op) ++ (10 ∷ rest) → Back act_at (Do op) place (10 ∷ rest)
+    → (place : Place ℕ) (rest : List ℕ) → place.rest ≡ act_text (Do op) ++ (10 ∷ rest) →
+    Back act_at (Do op) place (10 ∷ rest)
 op_back m open_loops (Load register array at) below few_open w place rest e = load_back m open_loops register array at w few_open place rest e
 op_back m open_loops (Store array at register) below few_open w place rest e = store_back m open_loops array at register w few_open place rest e
 op_back m open_loops (Zero register) below few_open w place rest e = zero_back register w place rest e
@@ -212,12 +247,14 @@ op_back m open_loops (MulConst register source factor) below few_open w place re
 op_back m open_loops (MulTable register source table at step) below few_open w place rest e = table_back m open_loops register source table at step w few_open place rest e
 op_back m open_loops (Tile register source) below few_open w place rest e = tile_back register source w place rest e
 
-act_back : (m open_loops : ℕ) (act : PlainAct) → m ≤ above_all → open_loops ≤ 64 → IsActWithin m open_loops act → (place : Place ℕ) (rest : List ℕ) → place.rest ≡ act_text act ++ (10 ∷ rest) → Back act_at act place (10 ∷ rest)
+act_back : (m open_loops : ℕ) (act : PlainAct) → m ≤ above_all → open_loops ≤ 64 → IsActWithin m open_loops act →
+    (place : Place ℕ) (rest : List ℕ) → place.rest ≡ act_text act ++ (10 ∷ rest) → Back act_at act place (10 ∷ rest)
 act_back m open_loops (Open depth count) below few_open w place rest e = for_back depth count w.0 w.1 place rest e
 act_back m open_loops Close below few_open w place rest e = end_back place rest e
 act_back m open_loops (Do op) below few_open w place rest e = op_back m open_loops op below few_open w place rest e
 
-pub line_back : (m open_loops : ℕ) (act : PlainAct) → m ≤ above_all → open_loops ≤ 64 → IsActWithin m open_loops act → whole act_line_at (line_text act) ≡ Ok act
+pub line_back : (m open_loops : ℕ) (act : PlainAct) → m ≤ above_all → open_loops ≤ 64 → IsActWithin m open_loops act →
+    whole act_line_at (line_text act) ≡ Ok act
 unfolding act_line_at
 line_back m open_loops act below few_open w =
     let h = act_back m open_loops act below few_open w (start (line_text act)) [] refl in

@@ -1,5 +1,6 @@
 -- The entries of a table, with a separator between two of them.
-use Rattle.std.proofs.Common.{◌≡◌, ℕ, zero, suc, ◌<◌, ◌≤◌, true, ltb, List, [], ◌∷◌, ◌++◌, length, flat_map, decimal, refl, sym, ap, ◌∙◌, arith, inl, inr}
+use Rattle.std.proofs.Common.{◌≡◌, ℕ, zero, suc, ◌<◌, ◌≤◌, true, ltb, List, [], ◌∷◌, ◌++◌, length, flat_map, decimal}
+use Rattle.std.proofs.Common.{refl, sym, ap, ◌∙◌, arith, inl, inr}
 use Rattle.std.specs.List.{list_all}
 use Rattle.std.proofs.lemmas.Bool.{ltb-true, and_parts}
 use Rattle.std.proofs.lemmas.List.{append-nil, length-append}
@@ -15,7 +16,8 @@ module _ (separator : List ℕ) where
   joined_text [] = []
   joined_text (c ∷ entries) = decimal c ++ more_text entries
 
-  more_spelt : (count : ℕ) (text entries : List ℕ) → more_numbers separator above_all count text entries → text ≡ more_text entries
+  more_spelt : (count : ℕ) (text entries : List ℕ) → more_numbers separator above_all count text entries →
+      text ≡ more_text entries
   unfolding more_numbers
   more_spelt zero text entries l = l.0 ∙ ap more_text (sym l.1)
   more_spelt (suc count) text entries (inl l) = l.0 ∙ ap more_text (sym l.1)
@@ -24,7 +26,8 @@ module _ (separator : List ℕ) where
       ∙ ap (λ y. (separator ++ decimal l.spelt) ++ y) (l.ends.whole ∙ ap (λ y. l.ends.front ++ y) l.ends.ends.0 ∙ append-nil l.ends.front ∙ more_spelt count l.ends.front l.ends.spelt l.ends.begins)
       ∙ ap more_text (sym l.ends.ends.1)
 
-  pub all_spelt : (count : ℕ) (text entries : List ℕ) → numbers separator above_all count text entries → (0 < length entries) × (text ≡ joined_text entries)
+  pub all_spelt : (count : ℕ) (text entries : List ℕ) → numbers separator above_all count text entries →
+      (0 < length entries) × (text ≡ joined_text entries)
   all_spelt count text entries l = (
     omega (arith, ap length l.ends.ends.1),
     l.whole ∙ ap (λ y. y ++ l.rest) l.begins.1
@@ -32,7 +35,8 @@ module _ (separator : List ℕ) where
         ∙ ap joined_text (sym l.ends.ends.1),
   )
 
-  more_spells : (count : ℕ) (entries : List ℕ) → list_all (λ c. ltb c above_all) entries ≡ true → length entries ≤ count → more_numbers separator above_all count (more_text entries) entries
+  more_spells : (count : ℕ) (entries : List ℕ) → list_all (λ c. ltb c above_all) entries ≡ true →
+      length entries ≤ count → more_numbers separator above_all count (more_text entries) entries
   unfolding more_numbers
   more_spells zero [] h le = (refl, refl)
   more_spells zero (c ∷ entries) h le = absurd (omega arith)
@@ -48,7 +52,8 @@ module _ (separator : List ℕ) where
         ends = record { front = more_text entries; rest = []; spelt = entries; whole = sym (append-nil (more_text entries)); begins = more_spells count entries limits.1 (omega arith); ends = (refl, refl) };
       }
 
-  pub all_spells : (count c : ℕ) (entries : List ℕ) → c < above_all → list_all (λ c. ltb c above_all) entries ≡ true → length entries ≤ count → numbers separator above_all count (decimal c ++ more_text entries) (c ∷ entries)
+  pub all_spells : (count c : ℕ) (entries : List ℕ) → c < above_all → list_all (λ c. ltb c above_all) entries ≡ true →
+      length entries ≤ count → numbers separator above_all count (decimal c ++ more_text entries) (c ∷ entries)
   all_spells count c entries fits h le = record {
     front = decimal c;
     rest = more_text entries;
@@ -63,6 +68,7 @@ module _ (separator : List ℕ) where
   longer some (c ∷ entries) = omega (arith, some, longer some entries, length-append (separator ++ decimal c) (more_text entries), length-append separator (decimal c))
 
   -- there are no more of them than bytes in a text that has them
-  pub few_entries : 0 < length separator → (front : List ℕ) (c : ℕ) (entries back : List ℕ) → length entries ≤ length (front ++ (decimal c ++ more_text entries) ++ back)
+  pub few_entries : 0 < length separator → (front : List ℕ) (c : ℕ) (entries back : List ℕ) →
+      length entries ≤ length (front ++ (decimal c ++ more_text entries) ++ back)
   few_entries some front c entries back =
       omega (arith, length-append (front ++ (decimal c ++ more_text entries)) back, length-append front (decimal c ++ more_text entries), length-append (decimal c) (more_text entries), longer some entries)

@@ -1,20 +1,26 @@
 -- Reading line by line reads the texts of a language: what was read so far is the front of one.
-use Rattle.std.proofs.Common.{◌≡◌, ℕ, ◌-◌, ◌≤◌, ◌^◌, Bool, true, false, cond, ◌||◌, List, [], ◌∷◌, ◌++◌, length, take, Option, Some, None, Result, Ok, Err, refl, sym, ap, subst, ◌∙◌, append_assoc, arith}
+use Rattle.std.proofs.Common.{◌≡◌, ℕ, ◌-◌, ◌≤◌, ◌^◌, Bool, true, false, cond, ◌||◌, List, [], ◌∷◌, ◌++◌, length, take}
+use Rattle.std.proofs.Common.{Option, Some, None, Result, Ok, Err, refl, sym, ap, subst, ◌∙◌, append_assoc, arith}
 use Rattle.std.specs.List.{list_all}
 use Rattle.std.specs.Option.{option_map}
-use Rattle.std.proofs.lemmas.List.{append-nil, length-append}
+use Rattle.std.proofs.lemmas.List.{append-nil, length-append, take_at}
 use Rattle.icode.specs.Plain.{PlainProgram, NoStmts}
 use Rattle.icode.specs.Limits.{IsWithinLimits}
 use Rattle.grammar.specs.Grammar.{Begins}
 use Rattle.grammar.specs.Reading.{word_in, whole}
 use Rattle.listing_text.specs.declared.draft.Header.{Header}
 use Rattle.listing_text.specs.Wording.{Close, Wording, program_of, text_of}
-use Rattle.listing_text.specs.Drafts.{PlainDraft, blank, act_step, read_step, is_empty, table_step, entered, header_step}
-use Rattle.listing_text.specs.Progress.{Grammar, PlainProgress, free, owing, begin_text, phase_or_table, progress_step, begun, kept, step, draft_ends, finish}
+use Rattle.listing_text.specs.Drafts.{PlainDraft, blank, act_step, read_step, is_empty, table_step, entered}
+use Rattle.listing_text.specs.Drafts.{header_step}
+use Rattle.listing_text.specs.Progress.{Grammar, PlainProgress, free, owing, begin_text, phase_or_table, progress_step}
+use Rattle.listing_text.specs.Progress.{begun, kept, step, draft_ends, finish}
 use Rattle.listing_text.proofs.Owed.{word_is}
-use Rattle.listing_text.proofs.GoodDrafts.{GoodDraft, table_taken, closed_body, all-push, act_frame, good_act, good_table, good_entered, good_blank, blank_is, good_program, with_phase, with_ends}
+use Rattle.listing_text.proofs.GoodDrafts.{GoodDraft, table_taken, closed_body, all-push, act_frame, good_act}
+use Rattle.listing_text.proofs.GoodDrafts.{good_table, good_entered, good_blank, blank_is, good_program, with_phase}
+use Rattle.listing_text.proofs.GoodDrafts.{with_ends}
 use Rattle.listing_text.proofs.Languages.{IsLanguage}
-use Rattle.listing_text.proofs.NestTexts.{ends_lines, draft_text, phase_pushed, whole_text, act_grows, ends_behind, outside_is, text_blank, text_entered, table_grows}
+use Rattle.listing_text.proofs.NestTexts.{ends_lines, draft_text, phase_pushed, whole_text, act_grows, ends_behind}
+use Rattle.listing_text.proofs.NestTexts.{outside_is, text_blank, text_entered, table_grows}
 use Rattle.listing_text.proofs.NestReads.{some_pushed}
 
 -- the text is that of a program, which stays in its limits, and whose tables pass the test
@@ -52,15 +58,11 @@ owing_some d text line t e =
     let r = read_some (λ rest. Some (owed_after d rest.1)) (word_in line text) t e in
     (r.0.1, word_is line text r.0 r.1, some_is r.2)
 
-take_front : (front owed : List ℕ) → take (length front) (front ++ owed) ≡ front
-take_front [] owed = refl
-take_front (b ∷ front) owed = ap (λ y. b ∷ y) (take_front front owed)
-
 -- what stands before the text that is owed
 front_is : (front owed full : List ℕ) → front ++ owed ≡ full → take (length full - length owed) full ≡ front
 front_is front owed full e =
     let n : length (front ++ owed) - length owed ≡ length front = omega (arith, length-append front owed) in
-    subst (λ t. take (length t - length owed) t ≡ front) e (ap (λ k. take k (front ++ owed)) n ∙ take_front front owed)
+    subst (λ t. take (length t - length owed) t ≡ front) e (ap (λ k. take k (front ++ owed)) n ∙ take_at front owed (length front) refl)
 
 unfoldable some_header : Header
 some_header = record { size = 1; modulus = 2; procs = 1; line = 1; lanes = 1; regs = 0 }

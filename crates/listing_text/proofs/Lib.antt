@@ -7,7 +7,6 @@ pub mod Spelt
 pub mod ReadBack
 pub mod ActsSpelt
 pub mod ActsBack
-pub mod Within
 pub mod Owed
 pub mod GoodDrafts
 pub mod NestTexts

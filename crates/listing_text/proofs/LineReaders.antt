@@ -1,5 +1,6 @@
 -- What reading line by line says of a text.
-use Rattle.std.proofs.Common.{◌≡◌, ℕ, zero, suc, ◌+◌, ◌-◌, ◌<◌, ◌≤◌, Bool, true, false, cond, eqb, List, [], ◌∷◌, ◌++◌, Option, Some, None, Result, Ok, Err, refl, sym, ap, subst, ◌∙◌, append_assoc, arith}
+use Rattle.std.proofs.Common.{◌≡◌, ℕ, zero, suc, ◌+◌, ◌-◌, ◌<◌, ◌≤◌, Bool, true, false, cond, eqb, List, [], ◌∷◌, ◌++◌}
+use Rattle.std.proofs.Common.{Option, Some, None, Result, Ok, Err, refl, sym, ap, subst, ◌∙◌, append_assoc, arith}
 use Rattle.std.proofs.lemmas.List.{append-nil}
 use Rattle.std.proofs.lemmas.List.Sums.{sum_by-cons}
 use Rattle.grammar.specs.Grammar.{Begins, first_lines, line_ends}
@@ -46,8 +47,11 @@ more_err : {A : Type 0} (r : Result A ℕ) (n : ℕ) → one_more r ≡ Err n �
 more_err (Ok x) n e = absurd cc
 more_err (Err m) n e = (m, refl, (let same : n ≡ suc m = cc in same))
 
-module _ {T A : Type 0} (IsGood : T → Type 0) (written : T → List ℕ) (step : T → List ℕ → Option T) (finish : T → Option A) (start : T) (spells : List ℕ → A → Type 0) (h : IsLineReader IsGood written step finish start spells) where
-  all_spelt_end : (s : T) (line : List ℕ) (a : A) (found : Option A) → finish s ≡ found → IsGood s → ended line (valued found) ≡ Ok a → spells (written s ++ (line ++ [])) a
+module _ {T A : Type 0} (IsGood : T → Type 0) (written : T → List ℕ) (step : T → List ℕ → Option T)
+    (finish : T → Option A) (start : T) (spells : List ℕ → A → Type 0)
+    (h : IsLineReader IsGood written step finish start spells) where
+  all_spelt_end : (s : T) (line : List ℕ) (a : A) (found : Option A) → finish s ≡ found → IsGood s →
+      ended line (valued found) ≡ Ok a → spells (written s ++ (line ++ [])) a
   all_spelt_end s [] a (Some x) f g e = subst (λ y. spells y a) (sym (append-nil (written s))) (h.spelt s a g (f ∙ (let same : x ≡ a = cc in ap (λ z. Some z) same)))
   all_spelt_end s [] a None f g e = absurd cc
   all_spelt_end s (b ∷ line) a found f g e = absurd cc
@@ -56,7 +60,8 @@ module _ {T A : Type 0} (IsGood : T → Type 0) (written : T → List ℕ) (step
   AllSpelt : List ℕ → Type 0
   AllSpelt text = (line : List ℕ) (s : T) (a : A) → IsGood s → read_lines step finish s line text ≡ Ok a → spells (written s ++ (line ++ text)) a
 
-  spelt_taken : (b : ℕ) (text line : List ℕ) (s : T) (a : A) (next : Option T) → AllSpelt text → step s (line ++ b ∷ []) ≡ next → IsGood s
+  spelt_taken : (b : ℕ) (text line : List ℕ) (s : T) (a : A) (next : Option T) → AllSpelt text →
+      step s (line ++ b ∷ []) ≡ next → IsGood s
       → taken next (λ next. read_lines step finish next [] text) ≡ Ok a → spells (written s ++ (line ++ b ∷ text)) a
   unfolding AllSpelt
   spelt_taken b text line s a None again f g e = absurd cc
@@ -66,7 +71,8 @@ module _ {T A : Type 0} (IsGood : T → Type 0) (written : T → List ℕ) (step
       (again [] t a kept.0 (more_ok _ a e))
 
   spelt_cases : (b : ℕ) (text line : List ℕ) (s : T) (a : A) (k : Bool) → AllSpelt text → IsGood s
-      → cond k (taken (step s (line ++ b ∷ [])) (λ next. read_lines step finish next [] text)) (read_lines step finish s (line ++ b ∷ []) text) ≡ Ok a → spells (written s ++ (line ++ b ∷ text)) a
+      → cond k (taken (step s (line ++ b ∷ [])) (λ next. read_lines step finish next [] text))
+      (read_lines step finish s (line ++ b ∷ []) text) ≡ Ok a → spells (written s ++ (line ++ b ∷ text)) a
   unfolding AllSpelt
   spelt_cases b text line s a true again g e = spelt_taken b text line s a (step s (line ++ b ∷ [])) again refl g e
   spelt_cases b text line s a false again g e = subst (λ y. spells (written s ++ y) a) (append_assoc line (b ∷ []) text) (again (line ++ b ∷ []) s a g e)
@@ -80,7 +86,8 @@ module _ {T A : Type 0} (IsGood : T → Type 0) (written : T → List ℕ) (step
   record Lost (s : T) (line text : List ℕ) (lines : ℕ) : Type 0 where
     pub counted : lines ≤ ends text
     pub before : Begins spells (written s ++ from_line line lines text)
-    pub here : lines < ends text → (more : List ℕ) → read_lines step finish s line (first_lines (suc lines) text ++ more) ≡ Err lines
+    pub here : lines < ends text → (more : List ℕ) → read_lines step finish s line
+        (first_lines (suc lines) text ++ more) ≡ Err lines
 
   AllLost : List ℕ → Type 0
   AllLost text = (line : List ℕ) (s : T) (lines : ℕ) → IsGood s → read_lines step finish s line text ≡ Err lines → Lost s line text lines
@@ -88,7 +95,8 @@ module _ {T A : Type 0} (IsGood : T → Type 0) (written : T → List ℕ) (step
   none_read : (s : T) → IsGood s → Begins spells (written s ++ [])
   none_read s g = subst (λ y. Begins spells y) (sym (append-nil (written s))) (h.goes_on s g)
 
-  lost_end : (s : T) (line : List ℕ) (lines : ℕ) → IsGood s → (found : Option A) → ended line (valued found) ≡ Err lines → Lost s line [] lines
+  lost_end : (s : T) (line : List ℕ) (lines : ℕ) → IsGood s → (found : Option A) →
+      ended line (valued found) ≡ Err lines → Lost s line [] lines
   unfolding from_line ends
   lost_end s [] lines g (Some x) e = absurd cc
   lost_end s [] lines g None e =
@@ -98,7 +106,8 @@ module _ {T A : Type 0} (IsGood : T → Type 0) (written : T → List ℕ) (step
       let is : lines ≡ 0 = cc in
       subst (Lost s (b ∷ line) []) (sym is) record { counted = omega arith; before = none_read s g; here = λ lt more. absurd (omega arith) }
 
-  lost_taken : (b : ℕ) (text line : List ℕ) (s : T) (lines : ℕ) (next : Option T) → eqb b 10 ≡ true → AllLost text → step s (line ++ b ∷ []) ≡ next → IsGood s
+  lost_taken : (b : ℕ) (text line : List ℕ) (s : T) (lines : ℕ) (next : Option T) → eqb b 10 ≡ true → AllLost text →
+      step s (line ++ b ∷ []) ≡ next → IsGood s
       → taken next (λ next. read_lines step finish next [] text) ≡ Err lines → Lost s line (b ∷ text) lines
   unfolding AllLost from_line ends read_lines
   lost_taken b text line s lines None k again f g e =
@@ -118,7 +127,8 @@ module _ {T A : Type 0} (IsGood : T → Type 0) (written : T → List ℕ) (step
       }
 
   lost_cases : (b : ℕ) (text line : List ℕ) (s : T) (lines : ℕ) (k : Bool) → eqb b 10 ≡ k → AllLost text → IsGood s
-      → cond k (taken (step s (line ++ b ∷ [])) (λ next. read_lines step finish next [] text)) (read_lines step finish s (line ++ b ∷ []) text) ≡ Err lines → Lost s line (b ∷ text) lines
+      → cond k (taken (step s (line ++ b ∷ [])) (λ next. read_lines step finish next [] text))
+      (read_lines step finish s (line ++ b ∷ []) text) ≡ Err lines → Lost s line (b ∷ text) lines
   unfolding AllLost from_line ends read_lines
   lost_cases b text line s lines true k again g e = lost_taken b text line s lines (step s (line ++ b ∷ [])) k again refl g e
   lost_cases b text line s lines false k again g e =
@@ -165,29 +175,38 @@ module _ {T A : Type 0} (IsGood : T → Type 0) (written : T → List ℕ) (step
 -- ---- lines
 
 -- the front of a line goes into it
-read-append : {T A : Type 0} (step : T → List ℕ → Option T) (finish : T → Option A) (s : T) (front line rest : List ℕ) → is_open front ≡ true → read_lines step finish s line (front ++ rest) ≡ read_lines step finish s (line ++ front) rest
+read-append : {T A : Type 0} (step : T → List ℕ → Option T) (finish : T → Option A) (s : T) (front line rest : List ℕ) →
+    is_open front ≡ true → read_lines step finish s line (front ++ rest) ≡ read_lines step finish s (line ++ front) rest
 unfolding read_lines
 read-append step finish s [] line rest h = ap (λ y. read_lines step finish s y rest) (sym (append-nil line))
 read-append {T} {A} step finish s (b ∷ front) line rest h = cases (eqb b 10) refl (λ o. read-append step finish s front (line ++ b ∷ []) rest o) h
   where
-    cases : (k : Bool) → eqb b 10 ≡ k → (is_open front ≡ true → read_lines step finish s (line ++ b ∷ []) (front ++ rest) ≡ read_lines step finish s ((line ++ b ∷ []) ++ front) rest)
-        → cond k false (is_open front) ≡ true → read_lines step finish s line (b ∷ (front ++ rest)) ≡ read_lines step finish s (line ++ b ∷ front) rest
+    cases : (k : Bool) → eqb b 10 ≡ k → (is_open front ≡ true →
+        read_lines step finish s (line ++ b ∷ []) (front ++ rest)
+        ≡ read_lines step finish s ((line ++ b ∷ []) ++ front) rest)
+        → cond k false (is_open front) ≡ true → read_lines step finish s line (b ∷ (front ++ rest))
+        ≡ read_lines step finish s (line ++ b ∷ front) rest
     cases true k again o = absurd cc
     cases false k again o = rw k (again o ∙ ap (λ y. read_lines step finish s y rest) (append_assoc line (b ∷ []) front))
 
 -- a line
-pub read_line : {T A : Type 0} (step : T → List ℕ → Option T) (finish : T → Option A) (s : T) (line rest : List ℕ) → IsLine line → read_lines step finish s [] (line ++ rest) ≡ taken (step s line) (λ next. read_lines step finish next [] rest)
+pub read_line : {T A : Type 0} (step : T → List ℕ → Option T) (finish : T → Option A) (s : T) (line rest : List ℕ) →
+    IsLine line → read_lines step finish s [] (line ++ rest) ≡ taken (step s line)
+    (λ next. read_lines step finish next [] rest)
 unfolding read_lines
 read_line {T} {A} step finish s line rest l =
     ap (λ y. read_lines step finish s [] (y ++ rest)) l.whole ∙ ap (λ y. read_lines step finish s [] y) (append_assoc l.front (10 ∷ []) rest)
     ∙ read-append step finish s l.front [] (10 ∷ rest) l.open_front ∙ ap (λ y. taken (step s y) (λ next. read_lines step finish next [] rest)) (sym l.whole)
 
 -- a line that leads to a state
-pub line_leads : {T A : Type 0} (step : T → List ℕ → Option T) (finish : T → Option A) (s t : T) (line rest : List ℕ) (a : A) → IsLine line → step s line ≡ Some t → read_lines step finish t [] rest ≡ Ok a → read_lines step finish s [] (line ++ rest) ≡ Ok a
+pub line_leads : {T A : Type 0} (step : T → List ℕ → Option T) (finish : T → Option A) (s t : T) (line rest : List ℕ)
+    (a : A) → IsLine line → step s line ≡ Some t → read_lines step finish t [] rest ≡ Ok a →
+    read_lines step finish s [] (line ++ rest) ≡ Ok a
 line_leads step finish s t line rest a l e r = read_line step finish s line rest l ∙ ap (λ next. taken next (λ next. read_lines step finish next [] rest)) e ∙ ap one_more r
 
 -- the end of a line, and no end
-pub read_rest : {T A : Type 0} (step : T → List ℕ → Option T) (finish : T → Option A) (s : T) (rest : List ℕ) → is_open rest ≡ true → read_lines step finish s [] rest ≡ ended rest (valued (finish s))
+pub read_rest : {T A : Type 0} (step : T → List ℕ → Option T) (finish : T → Option A) (s : T) (rest : List ℕ) →
+    is_open rest ≡ true → read_lines step finish s [] rest ≡ ended rest (valued (finish s))
 unfolding read_lines
 read_rest step finish s rest h = ap (λ y. read_lines step finish s [] y) (sym (append-nil rest)) ∙ read-append step finish s rest [] [] h
 

@@ -1,5 +1,6 @@
 -- The lines of a phase lead from its begin to its end, and those of all phases and tables to a program, in any language.
-use Rattle.std.proofs.Common.{◌≡◌, ℕ, suc, ◌+◌, ◌<◌, ◌≤◌, true, false, eqb, ltb, ◌&&◌, List, [], ◌∷◌, ◌++◌, length, Option, Some, Ok, refl, sym, ap, subst, ◌∙◌, append_assoc, arith}
+use Rattle.std.proofs.Common.{◌≡◌, ℕ, suc, ◌+◌, ◌<◌, ◌≤◌, true, false, eqb, ltb, ◌&&◌, List, [], ◌∷◌, ◌++◌, length}
+use Rattle.std.proofs.Common.{Option, Some, Ok, refl, sym, ap, subst, ◌∙◌, append_assoc, arith}
 use Rattle.std.specs.Prelude.{Bool}
 use Rattle.std.specs.List.{list_all}
 use Rattle.std.proofs.lemmas.Bool.{ltb-true, lt-ltb, eq-eqb, and_parts, and_from}
@@ -10,7 +11,8 @@ use Rattle.icode.specs.Limits.{is_small_positive, is_stmt_within, is_body_within
 use Rattle.listing_text.specs.declared.draft.Header.{Header}
 use Rattle.listing_text.specs.Lines.{read_lines, valued}
 use Rattle.listing_text.specs.Reading.{above_all}
-use Rattle.listing_text.specs.Wording.{PlainAct, Open, Close, Do, Wording, stmt_lines, body_lines, tables_text, phases_text}
+use Rattle.listing_text.specs.Wording.{PlainAct, Open, Close, Do, Wording, stmt_lines, body_lines, tables_text}
+use Rattle.listing_text.specs.Wording.{phases_text}
 use Rattle.listing_text.specs.Drafts.{PlainLevel, PlainDraft, may_open, act_step, is_empty}
 use Rattle.listing_text.specs.Progress.{between_if, begin_text}
 use Rattle.listing_text.proofs.LineReaders.{read_rest}
@@ -38,33 +40,43 @@ some_pushed [] b = refl
 some_pushed (x ∷ phases) b = refl
 
 -- the line of what may stand in a draft leads to what it makes of it
-abbrev pub LeadsOn : {T A : Type 0} → (T → List ℕ → Option T) → (T → Option A) → (PlainAct → List ℕ) → (PlainDraft → T) → Type 0
+abbrev pub LeadsOn : {T A : Type 0} → (T → List ℕ → Option T) → (T → Option A) → (PlainAct → List ℕ) →
+    (PlainDraft → T) → Type 0
 LeadsOn {T} {A} step finish line state =
     (d t : PlainDraft) (act : PlainAct) (rest : List ℕ) (p : A) → d.is_inside ≡ true → d.header.modulus ≤ above_all → length d.open_loops ≤ 64 → IsActWithin d.header.modulus (length d.open_loops) act → act_step d act ≡ Some t
     → read_lines step finish (state t) [] rest ≡ Ok p → read_lines step finish (state d) [] (line act ++ rest) ≡ Ok p
 
-module _ {T A : Type 0} (step : T → List ℕ → Option T) (finish : T → Option A) (line : PlainAct → List ℕ) (state : PlainDraft → T) (leads : LeadsOn step finish line state) (h : Header) (tables : List (List ℕ)) (phases : List PlainBody) (below : h.modulus ≤ above_all) where
+module _ {T A : Type 0} (step : T → List ℕ → Option T) (finish : T → Option A) (line : PlainAct → List ℕ)
+    (state : PlainDraft → T) (leads : LeadsOn step finish line state) (h : Header) (tables : List (List ℕ))
+    (phases : List PlainBody) (below : h.modulus ≤ above_all) where
   Reads : PlainDraft → List ℕ → A → Type 0
   Reads d text p = read_lines step finish (state d) [] text ≡ Ok p
 
-  act_leads : (levels : List PlainLevel) (body : List PlainStmt) (act : PlainAct) (t : PlainDraft) (rest : List ℕ) (p : A) → length levels ≤ 64 → IsActWithin h.modulus (length levels) act
-      → act_step (inside h tables phases levels body) act ≡ Some t → Reads t rest p → Reads (inside h tables phases levels body) (line act ++ rest) p
+  act_leads : (levels : List PlainLevel) (body : List PlainStmt) (act : PlainAct) (t : PlainDraft) (rest : List ℕ)
+      (p : A) → length levels ≤ 64 → IsActWithin h.modulus (length levels) act
+      → act_step (inside h tables phases levels body) act ≡ Some t → Reads t rest p →
+      Reads (inside h tables phases levels body) (line act ++ rest) p
   unfolding Reads
   act_leads levels body act t rest p few within e r = leads (inside h tables phases levels body) t act rest p refl below few within e r
 
-  op_reads : (op : PlainOp) (levels : List PlainLevel) (body : List PlainStmt) (rest : List ℕ) (p : A) → is_op_within h.modulus op (length levels) ≡ true → length levels ≤ 64
-      → Reads (inside h tables phases levels (body ++ plain.Do op ∷ [])) rest p → Reads (inside h tables phases levels body) (stmt_lines line (length levels) (plain.Do op) ++ rest) p
+  op_reads : (op : PlainOp) (levels : List PlainLevel) (body : List PlainStmt) (rest : List ℕ) (p : A) →
+      is_op_within h.modulus op (length levels) ≡ true → length levels ≤ 64
+      → Reads (inside h tables phases levels (body ++ plain.Do op ∷ [])) rest p →
+      Reads (inside h tables phases levels body) (stmt_lines line (length levels) (plain.Do op) ++ rest) p
   op_reads op levels body rest p w few r = act_leads levels body (Do op) (inside h tables phases levels (body ++ plain.Do op ∷ [])) rest p few w (rw w refl) r
 
-  open_reads : (count : ℕ) (levels : List PlainLevel) (body : List PlainStmt) (rest : List ℕ) (p : A) → is_small_positive count ≡ true → length levels < 64
+  open_reads : (count : ℕ) (levels : List PlainLevel) (body : List PlainStmt) (rest : List ℕ) (p : A) →
+      is_small_positive count ≡ true → length levels < 64
       → Reads (inside h tables phases (record { count = count; before = body } ∷ levels) []) rest p → Reads (inside h tables phases levels body) (line (Open (length levels) count) ++ rest) p
   open_reads count levels body rest p w few r =
       let n = length levels in
       let test : may_open n n count ≡ true = and_from (eqb n n) (ltb n 64 && is_small_positive count) (eq-eqb n n refl) (and_from (ltb n 64) (is_small_positive count) (lt-ltb n 64 few) w) in
       act_leads levels body (Open n count) (inside h tables phases (record { count = count; before = body } ∷ levels) []) rest p (omega arith) (omega (arith, few), positive_fits count w) (rw test refl) r
 
-  close_reads : (level : PlainLevel) (levels : List PlainLevel) (body : List PlainStmt) (rest : List ℕ) (p : A) → suc (length levels) ≤ 64
-      → Reads (inside h tables phases levels (level.before ++ Loop level.count (body_of body) ∷ [])) rest p → Reads (inside h tables phases (level ∷ levels) body) (line Close ++ rest) p
+  close_reads : (level : PlainLevel) (levels : List PlainLevel) (body : List PlainStmt) (rest : List ℕ) (p : A) →
+      suc (length levels) ≤ 64
+      → Reads (inside h tables phases levels (level.before ++ Loop level.count (body_of body) ∷ [])) rest p →
+      Reads (inside h tables phases (level ∷ levels) body) (line Close ++ rest) p
   close_reads level levels body rest p few r = act_leads (level ∷ levels) body Close (inside h tables phases levels (level.before ++ Loop level.count (body_of body) ∷ [])) rest p few tt refl r
 
   loop_right : (for body end rest : List ℕ) → (for ++ body ++ end) ++ rest ≡ for ++ (body ++ (end ++ rest))
@@ -74,8 +86,10 @@ module _ {T A : Type 0} (step : T → List ℕ → Option T) (finish : T → Opt
   AllRead b = (levels : List PlainLevel) (body : List PlainStmt) (rest : List ℕ) (p : A) → is_body_within h.modulus b (length levels) ≡ true → length levels ≤ 64
       → Reads (inside h tables phases levels (body ++ stmts_of b)) rest p → Reads (inside h tables phases levels body) (body_lines line (length levels) b ++ rest) p
 
-  loop_reads : (count : ℕ) (b : PlainBody) → AllRead b → (levels : List PlainLevel) (body : List PlainStmt) (rest : List ℕ) (p : A) → is_stmt_within h.modulus (Loop count b) (length levels) ≡ true → length levels ≤ 64
-      → Reads (inside h tables phases levels (body ++ Loop count b ∷ [])) rest p → Reads (inside h tables phases levels body) (stmt_lines line (length levels) (Loop count b) ++ rest) p
+  loop_reads : (count : ℕ) (b : PlainBody) → AllRead b → (levels : List PlainLevel) (body : List PlainStmt)
+      (rest : List ℕ) (p : A) → is_stmt_within h.modulus (Loop count b) (length levels) ≡ true → length levels ≤ 64
+      → Reads (inside h tables phases levels (body ++ Loop count b ∷ [])) rest p →
+      Reads (inside h tables phases levels body) (stmt_lines line (length levels) (Loop count b) ++ rest) p
   unfolding AllRead
   loop_reads count b again levels body rest p w few r =
       let n = length levels in
@@ -104,14 +118,18 @@ module _ {T A : Type 0} (step : T → List ℕ → Option T) (finish : T → Opt
         (stmt_reads s levels body (body_lines line n b ++ rest) p limits.0 few
         (body_reads b levels (body ++ s ∷ []) rest p limits.1 few (subst (λ x. Reads (inside h tables phases levels x) rest p) (sym (append_assoc body (s ∷ []) (stmts_of b))) r)))
 
-    stmt_reads : (s : PlainStmt) (levels : List PlainLevel) (body : List PlainStmt) (rest : List ℕ) (p : A) → is_stmt_within h.modulus s (length levels) ≡ true → length levels ≤ 64
-        → Reads (inside h tables phases levels (body ++ s ∷ [])) rest p → Reads (inside h tables phases levels body) (stmt_lines line (length levels) s ++ rest) p
+    stmt_reads : (s : PlainStmt) (levels : List PlainLevel) (body : List PlainStmt) (rest : List ℕ) (p : A) →
+        is_stmt_within h.modulus s (length levels) ≡ true → length levels ≤ 64
+        → Reads (inside h tables phases levels (body ++ s ∷ [])) rest p →
+        Reads (inside h tables phases levels body) (stmt_lines line (length levels) s ++ rest) p
     stmt_reads (Loop count b) levels body rest p w few r = loop_reads count b (body_reads b) levels body rest p w few r
     stmt_reads (plain.Do op) levels body rest p w few r = op_reads op levels body rest p w few r
 
   -- from the begin of a phase to its end
-  pub phase_lines_read : (b : PlainBody) (rest : List ℕ) (p : A) → is_body_within h.modulus b 0 ≡ true → read_lines step finish (state (between h tables (phases ++ b ∷ []))) [] rest ≡ Ok p
-      → read_lines step finish (state (inside h tables phases [] [])) [] (body_lines line 0 b ++ (line Close ++ rest)) ≡ Ok p
+  pub phase_lines_read : (b : PlainBody) (rest : List ℕ) (p : A) → is_body_within h.modulus b 0 ≡ true →
+      read_lines step finish (state (between h tables (phases ++ b ∷ []))) [] rest ≡ Ok p
+      → read_lines step finish (state (inside h tables phases [] [])) [] (body_lines line 0 b ++ (line Close ++ rest))
+      ≡ Ok p
   unfolding AllRead Reads
   phase_lines_read b rest p w r =
       body_reads b [] [] (line Close ++ rest) p w (omega arith)

@@ -1,11 +1,13 @@
 -- The text that leads to a draft, in any language.
-use Rattle.std.proofs.Common.{◌≡◌, ℕ, suc, ◌+◌, Bool, true, false, List, [], ◌∷◌, ◌++◌, length, Some, refl, sym, ap, subst, ◌∙◌, append_assoc, arith}
+use Rattle.std.proofs.Common.{◌≡◌, ℕ, suc, ◌+◌, Bool, true, false, List, [], ◌∷◌, ◌++◌, length, Some, refl, sym, ap}
+use Rattle.std.proofs.Common.{subst, ◌∙◌, append_assoc, arith}
 use Rattle.std.proofs.lemmas.List.{append-nil}
 use Rattle.icode.specs.Plain.{PlainOp, PlainStmt, PlainBody, Loop, body_of}
 use Rattle.icode.specs.Plain as plain
 use Rattle.icode.specs.Limits.{is_op_within}
 use Rattle.listing_text.specs.declared.draft.Header.{Header}
-use Rattle.listing_text.specs.Wording.{PlainAct, Open, Close, Do, Wording, program_of, stmt_lines, body_lines, tables_text, phases_text, text_of}
+use Rattle.listing_text.specs.Wording.{PlainAct, Open, Close, Do, Wording, program_of, stmt_lines, body_lines}
+use Rattle.listing_text.specs.Wording.{tables_text, phases_text, text_of}
 use Rattle.listing_text.specs.Drafts.{PlainLevel, PlainDraft, blank, is_empty, entered, with_body, closed, act_step}
 use Rattle.listing_text.specs.Progress.{begin_text}
 use Rattle.listing_text.proofs.GoodDrafts.{closed_body, guard_some, opened_is, with_table}
@@ -39,33 +41,43 @@ abbrev pub draft_text : Wording → PlainDraft → List ℕ
 draft_text w d =
     outside_text w d.header d.tables d.phases ++ inside_text w d.header d.phases d.is_inside d.open_loops d.body
 
-open_more : (front phase opens body line : List ℕ) → front ++ (phase ++ ((opens ++ (body ++ line)) ++ [])) ≡ (front ++ (phase ++ (opens ++ body))) ++ line
+open_more : (front phase opens body line : List ℕ) → front ++ (phase ++ ((opens ++ (body ++ line)) ++ []))
+    ≡ (front ++ (phase ++ (opens ++ body))) ++ line
 open_more front phase opens body line = ap (λ y. front ++ (phase ++ y)) (append-nil (opens ++ (body ++ line))) ∙ simp append_assoc
 
-op_more : (front phase opens body line : List ℕ) → front ++ (phase ++ (opens ++ (body ++ line))) ≡ (front ++ (phase ++ (opens ++ body))) ++ line
+op_more : (front phase opens body line : List ℕ) → front ++ (phase ++ (opens ++ (body ++ line)))
+    ≡ (front ++ (phase ++ (opens ++ body))) ++ line
 op_more front phase opens body line = simp append_assoc
 
-loop_more : (front phase opens before for body end : List ℕ) → front ++ (phase ++ (opens ++ (before ++ (for ++ body ++ end)))) ≡ (front ++ (phase ++ ((opens ++ (before ++ for)) ++ body))) ++ end
+loop_more : (front phase opens before for body end : List ℕ) →
+    front ++ (phase ++ (opens ++ (before ++ (for ++ body ++ end))))
+    ≡ (front ++ (phase ++ ((opens ++ (before ++ for)) ++ body))) ++ end
 loop_more front phase opens before for body end = simp append_assoc
 
-phase_more : (front phase body end : List ℕ) → (front ++ (phase ++ body ++ end)) ++ [] ≡ (front ++ (phase ++ ([] ++ body))) ++ end
+phase_more : (front phase body end : List ℕ) → (front ++ (phase ++ body ++ end)) ++ []
+    ≡ (front ++ (phase ++ ([] ++ body))) ++ end
 phase_more front phase body end = append-nil (front ++ (phase ++ body ++ end)) ∙ simp append_assoc
 
-ends_more : (opens before for body end more : List ℕ) → ((opens ++ (before ++ for)) ++ body) ++ (end ++ more) ≡ (opens ++ (before ++ (for ++ body ++ end))) ++ more
+ends_more : (opens before for body end more : List ℕ) → ((opens ++ (before ++ for)) ++ body) ++ (end ++ more)
+    ≡ (opens ++ (before ++ (for ++ body ++ end))) ++ more
 ends_more opens before for body end more = simp append_assoc
 
-phase_behind : (front phase opens ends body end : List ℕ) → opens ++ ends ≡ body ++ end → (front ++ (phase ++ opens)) ++ ends ≡ front ++ (phase ++ body ++ end)
+phase_behind : (front phase opens ends body end : List ℕ) → opens ++ ends ≡ body ++ end →
+    (front ++ (phase ++ opens)) ++ ends ≡ front ++ (phase ++ body ++ end)
 phase_behind front phase opens ends body end e =
     let moved : (front ++ (phase ++ opens)) ++ ends ≡ front ++ (phase ++ (opens ++ ends)) = simp append_assoc in
     moved ∙ ap (λ y. front ++ (phase ++ y)) e ∙ ap (λ y. front ++ y) (sym (append_assoc phase body end))
 
 module _ (line : PlainAct → List ℕ) where
-  body_lines-push : (depth : ℕ) (xs : List PlainStmt) (s : PlainStmt) → body_lines line depth (body_of (xs ++ s ∷ [])) ≡ body_lines line depth (body_of xs) ++ stmt_lines line depth s
+  body_lines-push : (depth : ℕ) (xs : List PlainStmt) (s : PlainStmt) →
+      body_lines line depth (body_of (xs ++ s ∷ [])) ≡ body_lines line depth (body_of xs) ++ stmt_lines line depth s
   body_lines-push depth [] s = append-nil (stmt_lines line depth s)
   body_lines-push depth (x ∷ xs) s =
       ap (λ y. stmt_lines line depth x ++ y) (body_lines-push depth xs s) ∙ sym (append_assoc (stmt_lines line depth x) (body_lines line depth (body_of xs)) (stmt_lines line depth s))
 
-  lines_ended : (levels : List PlainLevel) (body : List PlainStmt) → (open_lines line levels ++ body_lines line (length levels) (body_of body)) ++ ends_lines line levels ≡ body_lines line 0 (closed_body levels body) ++ line Close
+  lines_ended : (levels : List PlainLevel) (body : List PlainStmt) →
+      (open_lines line levels ++ body_lines line (length levels) (body_of body)) ++ ends_lines line levels
+      ≡ body_lines line 0 (closed_body levels body) ++ line Close
   lines_ended [] body = refl
   lines_ended (level ∷ levels) body =
       let n = length levels in
@@ -149,7 +161,8 @@ module _ (w : Wording) where
   Grows : PlainDraft → PlainAct → PlainDraft → Type 0
   Grows d act t = text t ≡ text d ++ w.line act
 
-  open_grows : (d : PlainDraft) (depth count : ℕ) (t : PlainDraft) → d.is_inside ≡ true → act_step d (Open depth count) ≡ Some t → Grows d (Open depth count) t
+  open_grows : (d : PlainDraft) (depth count : ℕ) (t : PlainDraft) → d.is_inside ≡ true →
+      act_step d (Open depth count) ≡ Some t → Grows d (Open depth count) t
   unfolding text Grows
   open_grows d depth count t i e =
       let n = length d.open_loops in
@@ -160,7 +173,8 @@ module _ (w : Wording) where
       ∙ ap (λ y. (outside_text w d.header d.tables d.phases ++ inside_text w d.header d.phases true d.open_loops d.body) ++ w.line (Open y count)) is.0
       ∙ ap (λ y. y ++ w.line (Open depth count)) (sym (inside_is d true i)))
 
-  op_grows : (d : PlainDraft) (op : PlainOp) (t : PlainDraft) → d.is_inside ≡ true → act_step d (Do op) ≡ Some t → Grows d (Do op) t
+  op_grows : (d : PlainDraft) (op : PlainOp) (t : PlainDraft) → d.is_inside ≡ true → act_step d (Do op) ≡ Some t →
+      Grows d (Do op) t
   unfolding text Grows
   op_grows d op t i e =
       let n = length d.open_loops in

@@ -1,21 +1,25 @@
 -- No line ends inside the text of a line.
-use Rattle.std.proofs.Common.{◌≡◌, ℕ, zero, suc, ◌+◌, ◌/◌, ◌%◌, ◌<◌, Bool, true, false, cond, eqb, List, [], ◌∷◌, ◌++◌, flat_map, codes, decimal, refl, sym, ap, subst, ◌∙◌, append_assoc, arith}
+use Rattle.std.proofs.Common.{◌≡◌, ℕ, zero, suc, ◌+◌, ◌/◌, ◌%◌, ◌<◌, Bool, true, false, cond, eqb, List, [], ◌∷◌, ◌++◌}
+use Rattle.std.proofs.Common.{flat_map, codes, decimal, refl, sym, ap, subst, ◌∙◌, append_assoc, arith}
 use Rattle.std.specs.Fmt.{digits, digits_onto, digit_glyph}
 use Rattle.std.proofs.lemmas.Bool.{ne_eqb, lt-ltb}
 use Rattle.icode.specs.declared.program.Array.{Array}
 use Rattle.icode.specs.declared.program.Array.TheVariants as arrays
-use Rattle.icode.specs.Plain.{PlainExpr, PlainPart, PlainParts, PlainOp, Sum, NoParts, AndParts, Proc, Var, Product, Rem, Quot, Load, Store, Zero, Add, Sub, Neg, MulConst, MulTable, Tile}
+use Rattle.icode.specs.Plain.{PlainExpr, PlainPart, PlainParts, PlainOp, Sum, NoParts, AndParts, Proc, Var, Product}
+use Rattle.icode.specs.Plain.{Rem, Quot, Load, Store, Zero, Add, Sub, Neg, MulConst, MulTable, Tile}
 use Rattle.listing_text.specs.Lines.{is_open, IsLine}
 use Rattle.listing_text.specs.declared.draft.Header.{Header}
 use Rattle.listing_text.specs.Wording.{PlainAct, Open, Close, Do}
 use Rattle.listing_text.proofs.OutsideLines.{header_line}
-use Rattle.listing_text.specs.Listing.{sum_text, parts_text, part_text, array_text, place_text, op_text, act_text, line_text}
+use Rattle.listing_text.specs.Listing.{sum_text, parts_text, part_text, array_text, place_text, op_text, act_text}
+use Rattle.listing_text.specs.Listing.{line_text}
 
 -- texts in which no line ends
 pub record IsOpen (text : List ℕ) : Type 0 where
   pub is : is_open text ≡ true
 
-open_cases : (b : ℕ) (u v : List ℕ) (k : Bool) → eqb b 10 ≡ k → cond k false (is_open u) ≡ true → (is_open u ≡ true → is_open (u ++ v) ≡ true) → cond k false (is_open (u ++ v)) ≡ true
+open_cases : (b : ℕ) (u v : List ℕ) (k : Bool) → eqb b 10 ≡ k → cond k false (is_open u) ≡ true →
+    (is_open u ≡ true → is_open (u ++ v) ≡ true) → cond k false (is_open (u ++ v)) ≡ true
 open_cases b u v true e h again = absurd cc
 open_cases b u v false e h again = again h
 
@@ -33,8 +37,11 @@ digit_open d text lt h =
     let other : eqb (48 + d) 10 ≡ false = ne_eqb (48 + d) 10 (λ same. omega (arith, same)) in
     rw (small, other) h
 
-digits_cases : (k n : ℕ) (text : List ℕ) (last : Bool) → is_open (digit_glyph false (n % 10) ∷ text) ≡ true → (is_open (digit_glyph false (n % 10) ∷ text) ≡ true → is_open (digits_onto k 10 false (n / 10) (digit_glyph false (n % 10) ∷ text)) ≡ true)
-    → is_open (cond last (digit_glyph false (n % 10) ∷ text) (digits_onto k 10 false (n / 10) (digit_glyph false (n % 10) ∷ text))) ≡ true
+digits_cases : (k n : ℕ) (text : List ℕ) (last : Bool) → is_open (digit_glyph false (n % 10) ∷ text) ≡ true →
+    (is_open (digit_glyph false (n % 10) ∷ text) ≡ true → is_open
+    (digits_onto k 10 false (n / 10) (digit_glyph false (n % 10) ∷ text)) ≡ true)
+    → is_open (cond last (digit_glyph false (n % 10) ∷ text)
+    (digits_onto k 10 false (n / 10) (digit_glyph false (n % 10) ∷ text))) ≡ true
 digits_cases k n text true h again = h
 digits_cases k n text false h again = again h
 
@@ -99,14 +106,17 @@ act_is_line act = ends_line (act_text act) (act_open act)
 
 -- ---- the other lines
 
-pub numbers_open : (separator : List ℕ) → IsOpen separator → (entries : List ℕ) → IsOpen (flat_map (λ c. separator ++ decimal c) entries)
+pub numbers_open : (separator : List ℕ) → IsOpen separator → (entries : List ℕ) →
+    IsOpen (flat_map (λ c. separator ++ decimal c) entries)
 numbers_open separator h [] = literal [] refl
 numbers_open separator h (c ∷ entries) = h & number_open c & numbers_open separator h entries
 
-pub table_open : (number : ℕ) (entries : List ℕ) → IsLine (codes "table " ++ decimal number ++ codes " values" ++ flat_map (λ c. codes " " ++ decimal c) entries ++ codes "\n")
+pub table_open : (number : ℕ) (entries : List ℕ) → IsLine (codes "table " ++ decimal number ++ codes " values"
+    ++ flat_map (λ c. codes " " ++ decimal c) entries ++ codes "\n")
 table_open number entries = ends_line _ (literal (codes "table ") refl & number_open number & literal (codes " values") refl & numbers_open (codes " ") (literal (codes " ") refl) entries)
 
-pub header_open : (before behind : List ℕ) (h : Header) → IsOpen before → IsOpen behind → IsLine (header_line before (behind ++ codes "\n") h)
+pub header_open : (before behind : List ℕ) (h : Header) → IsOpen before → IsOpen behind →
+    IsLine (header_line before (behind ++ codes "\n") h)
 header_open before behind h first last =
     subst IsLine (append_assoc _ behind (codes "\n"))
     (ends_line _

@@ -1,5 +1,6 @@
 -- The lines outside of phases: what is read is spelt, and what is spelt is read back.
-use Rattle.std.proofs.Common.{◌≡◌, ℕ, ◌<◌, ◌≤◌, true, ltb, List, [], ◌∷◌, ◌++◌, length, codes, decimal, Result, Ok, refl, sym, ap, subst, ◌∙◌, append_assoc, arith}
+use Rattle.std.proofs.Common.{◌≡◌, ℕ, ◌<◌, ◌≤◌, true, ltb, List, [], ◌∷◌, ◌++◌, length, codes, decimal, Result, Ok}
+use Rattle.std.proofs.Common.{refl, sym, ap, subst, ◌∙◌, append_assoc, arith}
 use Rattle.std.specs.List.{list_all}
 use Rattle.std.proofs.lemmas.Bool.{ltb-true, and_parts}
 use Rattle.std.proofs.lemmas.List.{append-nil}
@@ -28,15 +29,18 @@ header_line before behind h =
     ++ decimal h.line ++ codes " lanes " ++ decimal h.lanes ++ codes " regs " ++ decimal h.regs ++ behind
 
 header_left : (a b c d e f g s m p l v r rest : List ℕ)
-    → a ++ (s ++ (b ++ (m ++ (c ++ (p ++ (d ++ (l ++ (e ++ (v ++ (f ++ (r ++ (g ++ rest)))))))))))) ≡ (a ++ s ++ b ++ m ++ c ++ p ++ d ++ l ++ e ++ v ++ f ++ r ++ g) ++ rest
+    → a ++ (s ++ (b ++ (m ++ (c ++ (p ++ (d ++ (l ++ (e ++ (v ++ (f ++ (r ++ (g ++ rest))))))))))))
+    ≡ (a ++ s ++ b ++ m ++ c ++ p ++ d ++ l ++ e ++ v ++ f ++ r ++ g) ++ rest
 header_left a b c d e f g s m p l v r rest = simp append_assoc
 
 header_right : (a b c d e f g s m p l v r : List ℕ)
-    → a ++ s ++ b ++ m ++ c ++ p ++ d ++ l ++ e ++ v ++ f ++ r ++ g ≡ a ++ (s ++ (b ++ (m ++ (c ++ (p ++ (d ++ (l ++ (e ++ (v ++ (f ++ (r ++ g)))))))))))
+    → a ++ s ++ b ++ m ++ c ++ p ++ d ++ l ++ e ++ v ++ f ++ r ++ g ≡ a
+    ++ (s ++ (b ++ (m ++ (c ++ (p ++ (d ++ (l ++ (e ++ (v ++ (f ++ (r ++ g)))))))))))
 header_right a b c d e f g s m p l v r = simp append_assoc
 
 -- a whole line that is read back
-pub whole_back : {A : Type 0} (read : Place ℕ → Result (A × Place ℕ) ℕ) (x : A) (line : List ℕ) → Back read x (start line) [] → whole read line ≡ Ok x
+pub whole_back : {A : Type 0} (read : Place ℕ → Result (A × Place ℕ) ℕ) (x : A) (line : List ℕ) →
+    Back read x (start line) [] → whole read line ≡ Ok x
 whole_back read x line h = rw (h.1, h.2) refl
 
 module _ (before behind : List ℕ) where
@@ -63,7 +67,8 @@ module _ (before behind : List ℕ) where
             (decimal size) (decimal modulus) (decimal procs) (decimal line) (decimal lanes) (decimal regs) q7.rest,
       ))))))))
 
-  pub header_is : (line : List ℕ) (h : Header) → whole (header_at before behind) line ≡ Ok h → line ≡ header_line before behind h
+  pub header_is : (line : List ℕ) (h : Header) → whole (header_at before behind) line ≡ Ok h →
+      line ≡ header_line before behind h
   unfolding text
   header_is line h e = (whole_spelt Any text line (header_at before behind (start line)) h (header_spelt (start line)) e).1
 
@@ -102,17 +107,23 @@ TableFits table = (table.0 < above_all) × (0 < length table.1)
 abbrev line_of : ℕ × List ℕ → List ℕ
 line_of table = table_text table.0 table.1
 
-table_shape : (word number values entries end : List ℕ) → word ++ number ++ values ++ entries ++ end ≡ word ++ (number ++ (values ++ (entries ++ end)))
+table_shape : (word number values entries end : List ℕ) → word ++ number ++ values ++ entries ++ end ≡ word
+    ++ (number ++ (values ++ (entries ++ end)))
 table_shape word number values entries end = simp append_assoc
 
-table_right : (number first others : List ℕ) → codes "table " ++ number ++ codes " values" ++ ((codes " " ++ first) ++ others) ++ codes "\n" ≡ codes "table " ++ (number ++ (codes " values " ++ ((first ++ others) ++ codes "\n")))
+table_right : (number first others : List ℕ) → codes "table " ++ number ++ codes " values"
+    ++ ((codes " " ++ first) ++ others) ++ codes "\n" ≡ codes "table "
+    ++ (number ++ (codes " values " ++ ((first ++ others) ++ codes "\n")))
 table_right number first others = table_shape (codes "table ") number (codes " values") ((codes " " ++ first) ++ others) (codes "\n")
 
-table_left : (number values entries rest : List ℕ) → codes "table " ++ (number ++ (codes " values" ++ (entries ++ (codes "\n" ++ rest)))) ≡ (codes "table " ++ number ++ codes " values" ++ entries ++ codes "\n") ++ rest
+table_left : (number values entries rest : List ℕ) → codes "table "
+    ++ (number ++ (codes " values" ++ (entries ++ (codes "\n" ++ rest))))
+    ≡ (codes "table " ++ number ++ codes " values" ++ entries ++ codes "\n") ++ rest
 table_left number values entries rest = simp append_assoc
 
 entries_left : (number : ℕ) (entries rest : List ℕ) → 0 < length entries
-    → codes "table " ++ (decimal number ++ (codes " values " ++ (joined_text (codes " ") entries ++ (codes "\n" ++ rest)))) ≡ table_text number entries ++ rest
+    → codes "table " ++ (decimal number ++ (codes " values "
+    ++ (joined_text (codes " ") entries ++ (codes "\n" ++ rest)))) ≡ table_text number entries ++ rest
 entries_left number [] rest some = absurd (omega (arith, some))
 entries_left number (c ∷ entries) rest some = table_left (decimal number) [] (more_text (codes " ") (c ∷ entries)) rest
 
@@ -130,7 +141,8 @@ table_spelt most place =
           ∙ entries_left number entries q4.rest all.0,
     )))))
 
-pub table_is : (most : ℕ) (line : List ℕ) (table : ℕ × List ℕ) → whole (table_at most) line ≡ Ok table → TableFits table × (line ≡ table_text table.0 table.1)
+pub table_is : (most : ℕ) (line : List ℕ) (table : ℕ × List ℕ) → whole (table_at most) line ≡ Ok table →
+    TableFits table × (line ≡ table_text table.0 table.1)
 table_is most line table e = whole_spelt TableFits line_of line (table_at most (start line)) table (table_spelt most (start line)) e
 
 few : (number c : ℕ) (entries : List ℕ) → length entries ≤ length (table_text number (c ∷ entries))
@@ -138,10 +150,12 @@ few number c entries =
     subst (λ line. length entries ≤ length line) (few_shape (codes "table " ++ decimal number ++ codes " values") (codes " ") (decimal c) (more_text (codes " ") entries) (codes "\n"))
     (few_entries (codes " ") (omega arith) (codes "table " ++ decimal number ++ codes " values" ++ codes " ") c entries (codes "\n"))
   where
-    few_shape : (a space first others end : List ℕ) → (a ++ space) ++ (first ++ others) ++ end ≡ a ++ ((space ++ first) ++ others) ++ end
+    few_shape : (a space first others end : List ℕ) → (a ++ space) ++ (first ++ others) ++ end ≡ a
+        ++ ((space ++ first) ++ others) ++ end
     few_shape a space first others end = simp append_assoc
 
-pub table_back : (number : ℕ) (entries : List ℕ) → number < above_all → 0 < length entries → list_all (λ c. ltb c above_all) entries ≡ true
+pub table_back : (number : ℕ) (entries : List ℕ) → number < above_all → 0 < length entries →
+    list_all (λ c. ltb c above_all) entries ≡ true
     → whole (table_at (length (table_text number entries))) (table_text number entries) ≡ Ok (number, entries)
 table_back number [] fits some all = absurd (omega (arith, some))
 table_back number (c ∷ entries) fits some all =

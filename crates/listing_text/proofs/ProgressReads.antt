@@ -1,5 +1,6 @@
 -- Every text of a language is read.
-use Rattle.std.proofs.Common.{◌≡◌, ℕ, ◌<◌, ◌≤◌, Bool, true, false, cond, eqb, ltb, ◌&&◌, List, [], ◌∷◌, ◌++◌, length, Option, Some, None, Result, Ok, refl, sym, ap, subst, ◌∙◌, append_assoc, arith}
+use Rattle.std.proofs.Common.{◌≡◌, ℕ, ◌<◌, ◌≤◌, Bool, true, false, cond, eqb, ltb, ◌&&◌, List, [], ◌∷◌, ◌++◌, length}
+use Rattle.std.proofs.Common.{Option, Some, None, Result, Ok, refl, sym, ap, subst, ◌∙◌, append_assoc, arith}
 use Rattle.std.specs.List.{list_all}
 use Rattle.std.specs.Option.{option_map}
 use Rattle.std.proofs.lemmas.Bool.{ltb-true, lt-ltb, eq-eqb, and_parts, and_from}
@@ -11,7 +12,8 @@ use Rattle.listing_text.specs.Lines.{IsLine, read_lines, Judges}
 use Rattle.listing_text.specs.Reading.{above_all}
 use Rattle.listing_text.specs.Wording.{Wording, header_of, program_of, tables_text, phases_text}
 use Rattle.listing_text.specs.Drafts.{PlainDraft, blank, act_step, read_step, is_empty, table_step, header_step}
-use Rattle.listing_text.specs.Progress.{Grammar, PlainProgress, free, begin_text, phase_or_table, begun, kept, step, finish}
+use Rattle.listing_text.specs.Progress.{Grammar, PlainProgress, free, begin_text, phase_or_table, begun, kept, step}
+use Rattle.listing_text.specs.Progress.{finish}
 use Rattle.listing_text.proofs.LineReaders.{line_leads, IsLineReader, lines_judge}
 use Rattle.listing_text.proofs.GoodDrafts.{within_from}
 use Rattle.listing_text.proofs.OpenLines.{joined, AreLines}

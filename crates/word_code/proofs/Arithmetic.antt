@@ -1,17 +1,14 @@
 -- Lazy residues: words below a multiple of m that stand for residues.
 use Rattle.std.proofs.Common.{◌≡◌, ℕ, ◌+◌, ◌-◌, ◌*◌, ◌/◌, ◌%◌, ◌<◌, ◌≤◌, arith, refl, sym, ap, ◌∙◌, subst}
-use Rattle.std.proofs.Common.{mul-le-mul_left, ⊎_elim, min, cond, true, false, ap₂}
+use Rattle.std.proofs.Common.{mul-le-mul_left, ⊎_elim, inl, inr, min, cond, true, false, ap₂}
 use Rattle.std.proofs.Math.Nat.{add-mod, add-mul-mod_self_left, mul-add-mod_self_right, mod-eq_of_lt, mod-mod}
-use Rattle.std.proofs.Math.Nat.{min-eq_left, min-eq_right}
+use Rattle.std.proofs.Math.Nat.{min-eq_left, min-eq_right, div-mul-le_self}
 use Rattle.std.proofs.lemmas.Nat.{div-add-mod', mul-lt, mul-mod_first, mod_below, div_below, le-div}
 use Rattle.std.proofs.lemmas.Bool.{cases_lt}
 use Rattle.ring_mod.specs.Residue.{sum_mod, difference_mod, negation_mod, product_mod}
 use Rattle.ring_mod.proofs.Congruence.{same-add}
 use Rattle.word_code.specs.Words.{Width, base_of, wrapped_sum, wrapped_difference, high, rough_high, high_of}
 use Rattle.word_code.specs.Words.{quotient_of, lazy_product, product_bound, biased_difference, reduced}
-
-div_under : (n k : ℕ) → n / k * k ≤ n
-div_under n k = omega (arith, div-add-mod' n k)
 
 div_over : (n k : ℕ) → 0 < k → n < (n / k + 1) * k
 div_over n k pos = omega (arith, div-add-mod' n k, mod_below n k pos)
@@ -61,6 +58,11 @@ plain_difference base x y le small =
 
 -- The high half of a product, or what may be 2 below it
 
+-- a product by its four parts
+by_parts : (half a1 a0 b1 b0 a b : ℕ) → a1 * half + a0 ≡ a → b1 * half + b0 ≡ b →
+    a * b ≡ a1 * b1 * (half * half) + half * (a1 * b0) + half * (a0 * b1) + a0 * b0
+by_parts half a1 a0 b1 b0 a b ea eb = ap₂ (λ x y. x * y) (sym ea) (sym eb) ∙ omega arith
+
 rough_under : (half a b : ℕ) → 0 < half → rough_high half a b ≤ high (half * half) a b
 rough_under half a b pos =
     le-div (rough_high half a b) (a * b) (half * half) (mul-lt 0 0 half half pos pos) enough
@@ -71,12 +73,12 @@ rough_under half a b pos =
         let eb = div-add-mod' b half in
         parts (a / half) (a % half) (b / half) (b % half) a b ea eb
       where
-        parts : (a1 a0 b1 b0 a b : ℕ) → a1 * half + a0 ≡ a → b1 * half + b0 ≡ b → (a1 * b1 + a1 * b0 / half + a0 * b1 / half) * (half * half) ≤ a * b
+        parts : (a1 a0 b1 b0 a b : ℕ) → a1 * half + a0 ≡ a → b1 * half + b0 ≡ b →
+            (a1 * b1 + a1 * b0 / half + a0 * b1 / half) * (half * half) ≤ a * b
         parts a1 a0 b1 b0 a b ea eb =
-            let u = mul-le-mul_left half (div_under (a1 * b0) half) in
-            let v = mul-le-mul_left half (div_under (a0 * b1) half) in
-            let whole : a * b ≡ a1 * b1 * (half * half) + half * (a1 * b0) + half * (a0 * b1) + a0 * b0 = ap₂ (λ x y. x * y) (sym ea) (sym eb) ∙ omega arith in
-            omega (arith, u, v, whole)
+            let u = mul-le-mul_left half (div-mul-le_self (a1 * b0) half) in
+            let v = mul-le-mul_left half (div-mul-le_self (a0 * b1) half) in
+            omega (arith, u, v, by_parts half a1 a0 b1 b0 a b ea eb)
 
 rough_over : (half a b : ℕ) → 0 < half → high (half * half) a b ≤ rough_high half a b + 2
 rough_over half a b pos =
@@ -87,17 +89,18 @@ rough_over half a b pos =
     enough =
         parts (a / half) (a % half) (b / half) (b % half) a b (div-add-mod' a half) (div-add-mod' b half) (mod_below a half pos) (mod_below b half pos)
       where
-        parts : (a1 a0 b1 b0 a b : ℕ) → a1 * half + a0 ≡ a → b1 * half + b0 ≡ b → a0 < half → b0 < half → a * b < (a1 * b1 + a1 * b0 / half + a0 * b1 / half + 3) * (half * half)
+        parts : (a1 a0 b1 b0 a b : ℕ) → a1 * half + a0 ≡ a → b1 * half + b0 ≡ b → a0 < half → b0 < half →
+            a * b < (a1 * b1 + a1 * b0 / half + a0 * b1 / half + 3) * (half * half)
         parts a1 a0 b1 b0 a b ea eb sa sb =
             let pu : a1 * b0 ≤ (a1 * b0 / half + 1) * half = let s = div_over (a1 * b0) half pos in omega arith in
             let pv : a0 * b1 ≤ (a0 * b1 / half + 1) * half = let s = div_over (a0 * b1) half pos in omega arith in
             let u = mul-le-mul_left half pu in
             let v = mul-le-mul_left half pv in
             let low = mul-lt a0 b0 half half sa sb in
-            let whole : a * b ≡ a1 * b1 * (half * half) + half * (a1 * b0) + half * (a0 * b1) + a0 * b0 = ap₂ (λ x y. x * y) (sym ea) (sym eb) ∙ omega arith in
-            omega (arith, u, v, low, whole)
+            omega (arith, u, v, low, by_parts half a1 a0 b1 b0 a b ea eb)
 
-high_is : (w : Width) (a b : ℕ) → 0 < w.half → (high_of w a b ≤ high (base_of w) a b) × (high (base_of w) a b + 2 ≤ high_of w a b + product_bound w)
+high_is : (w : Width) (a b : ℕ) → 0 < w.half → (high_of w a b ≤ high (base_of w) a b)
+    × (high (base_of w) a b + 2 ≤ high_of w a b + product_bound w)
 high_is w a b pos =
     elim w.rough as (λ r. (cond r (rough_high w.half a b) (high (base_of w) a b) ≤ high (base_of w) a b) × (high (base_of w) a b + 2 ≤ cond r (rough_high w.half a b) (high (base_of w) a b) + cond r 4 2)) [
       | true ↦ (rough_under w.half a b pos, let h = rough_over w.half a b pos in omega arith)
@@ -114,9 +117,9 @@ module _ (base m a c h bound : ℕ) (whole : 0 < base) (positive : 0 < m) (small
 
   product_under : h ≤ high base a q → h * m ≤ a * c
   product_under le =
-      let e1 : h * base ≤ a * q = let x = mul-le-mul_left base le in omega (arith, x, div_under (a * q) base) in
+      let e1 : h * base ≤ a * q = let x = mul-le-mul_left base le in omega (arith, x, div-mul-le_self (a * q) base) in
       let e2 = mul-le-mul_left m e1 in
-      let e3 = mul-le-mul_left a (div_under (c * base) m) in
+      let e3 = mul-le-mul_left a (div-mul-le_self (c * base) m) in
       cancel_le (h * m) (a * c) base whole (omega (arith, e2, e3))
 
   product_over : high base a q + 2 ≤ h + bound → a * c < (h + bound) * m
@@ -129,7 +132,8 @@ module _ (base m a c h bound : ℕ) (whole : 0 < base) (positive : 0 < m) (small
       cancel_lt (a * c) ((h + bound) * m) base (omega (arith, f2, f4, f5, positive))
 
 -- it is congruent to the product, and below so many times m
-pub product_word : (w : Width) (m a c q : ℕ) → 0 < w.half → 0 < m → product_bound w * m ≤ base_of w → a < base_of w → q ≡ quotient_of (base_of w) m c →
+pub product_word : (w : Width) (m a c q : ℕ) → 0 < w.half → 0 < m → product_bound w * m ≤ base_of w → a < base_of w →
+    q ≡ quotient_of (base_of w) m c →
     (product_mod m (a % m) c ≡ lazy_product w m a c q % m) × (lazy_product w m a c q < product_bound w * m)
 product_word w m a c q pos positive room small is =
     let base = base_of w in
@@ -171,7 +175,8 @@ turned m k b positive below =
         omega arith
 
 pub difference_word : (base m p k a b : ℕ) → 0 < m → p + k * m ≤ base → a < p → b < k * m →
-    (difference_mod m (a % m) (b % m) ≡ biased_difference base (k * m) a b % m) × (biased_difference base (k * m) a b < p + k * m)
+    (difference_mod m (a % m) (b % m) ≡ biased_difference base (k * m) a b % m)
+    × (biased_difference base (k * m) a b < p + k * m)
 difference_word base m p k a b positive room lp lq =
     let small : a + k * m < base = omega arith in
     let value : biased_difference base (k * m) a b ≡ a + (k * m - b) =
@@ -192,16 +197,17 @@ negation_word base m k b positive room lq =
 pub reduced_word : (base m h p a : ℕ) → 0 < m → p ≤ 2 * (h * m) → h * m < base → a < base → a < p →
     (a % m ≡ reduced base (h * m) a % m) × (reduced base (h * m) a < h * m)
 reduced_word base m h p a positive enough room small lp =
-    ⊎_elim
-    (λ (lt : a < h * m).
-    let fits : a + (base - h * m) < base = omega arith in
-    let other : wrapped_difference base a (h * m) ≡ a + (base - h * m) = mod-eq_of_lt fits in
-    let value : reduced base (h * m) a ≡ a = ap (min a) other ∙ min-eq_left (omega arith) in
-    let both : (a % m ≡ reduced base (h * m) a % m) × (reduced base (h * m) a < h * m) = (ap (λ n. n % m) (sym value), subst (λ n. n < h * m) (sym value) lt) in both)
-    (λ (le : h * m ≤ a).
-    let other : wrapped_difference base a (h * m) ≡ a - h * m = plain_difference base a (h * m) le small in
-    let value : reduced base (h * m) a ≡ a - h * m = ap (min a) other ∙ min-eq_right (omega arith) in
-    let e : a ≡ h * m + (a - h * m) = omega arith in
-    let both : (a % m ≡ reduced base (h * m) a % m) × (reduced base (h * m) a < h * m) =
-    (ap (λ n. n % m) e ∙ mul-add-mod_self_right h m (a - h * m) ∙ sym (ap (λ n. n % m) value), subst (λ n. n < h * m) (sym value) (omega arith)) in both)
-    (cases_lt a (h * m))
+    elim (cases_lt a (h * m)) [
+      | inl lt ↦
+          let fits : a + (base - h * m) < base = omega arith in
+          let other : wrapped_difference base a (h * m) ≡ a + (base - h * m) = mod-eq_of_lt fits in
+          let value : reduced base (h * m) a ≡ a = ap (min a) other ∙ min-eq_left (omega arith) in
+          (ap (λ n. n % m) (sym value), subst (λ n. n < h * m) (sym value) lt)
+      | inr le ↦
+          let other : wrapped_difference base a (h * m) ≡ a - h * m = plain_difference base a (h * m) le small in
+          let value : reduced base (h * m) a ≡ a - h * m = ap (min a) other ∙ min-eq_right (omega arith) in
+          let e : a ≡ h * m + (a - h * m) = omega arith in (
+            ap (λ n. n % m) e ∙ mul-add-mod_self_right h m (a - h * m) ∙ sym (ap (λ n. n % m) value),
+            subst (λ n. n < h * m) (sym value) (omega arith),
+          )
+    ]

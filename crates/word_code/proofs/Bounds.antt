@@ -13,7 +13,8 @@ set_here (x ∷ xs) zero v bound lt = lt
 set_here (x ∷ xs) (suc i) v bound lt = set_here xs i v bound lt
 
 -- a word that is written, or 0 past the end
-pub written_below : (vs xs : List ℕ) (i l bound : ℕ) → l < length vs → AllBelow bound vs → slice_index (with_words xs i vs) (i + l) < bound
+pub written_below : (vs xs : List ℕ) (i l bound : ℕ) → l < length vs → AllBelow bound vs →
+    slice_index (with_words xs i vs) (i + l) < bound
 written_below [] xs i l bound lt low = absurd (omega arith)
 written_below (v ∷ vs) xs i zero bound lt low =
     let same : i + 0 ≡ i = omega arith in
@@ -27,11 +28,13 @@ written_below (v ∷ vs) xs i (suc l) bound lt low =
     (written_below vs (slice_set xs i v) (i + 1) l bound (omega arith) low.1)
 
 -- a word that is not
-pub left_below : (vs xs : List ℕ) (i k bound : ℕ) → (i ≤ k → k < i + length vs → ⊥) → slice_index xs k < bound → slice_index (with_words xs i vs) k < bound
+pub left_below : (vs xs : List ℕ) (i k bound : ℕ) → (i ≤ k → k < i + length vs → ⊥) → slice_index xs k < bound →
+    slice_index (with_words xs i vs) k < bound
 left_below vs xs i k bound apart lt = subst (λ n. n < bound) (sym (with_words_elsewhere vs xs i k apart)) lt
 
 -- either
-pub write_below : (vs xs : List ℕ) (i k low bound : ℕ) → AllBelow low vs → (i ≤ k → k < i + length vs → low ≤ bound) → slice_index xs k < bound → slice_index (with_words xs i vs) k < bound
+pub write_below : (vs xs : List ℕ) (i k low bound : ℕ) → AllBelow low vs → (i ≤ k → k < i + length vs → low ≤ bound) →
+    slice_index xs k < bound → slice_index (with_words xs i vs) k < bound
 write_below vs xs i k low bound are fits lt =
     ⊎_elim
     (λ (before : k < i). left_below vs xs i k bound (λ a b. omega arith) lt)
@@ -52,19 +55,24 @@ Bounds = ℕ → ℕ
 pub record AreRegistersBelow (m lanes : ℕ) (b : Bounds) (words : List ℕ) : Type 0 where
   pub each : (r l : ℕ) → l < lanes → slice_index words (r * lanes + l) < b r * m
 
-pub register_below : (m lanes : ℕ) (b : Bounds) (words : List ℕ) (r : ℕ) → AreRegistersBelow m lanes b words → AllBelow (b r * m) (register_of lanes words r)
+pub register_below : (m lanes : ℕ) (b : Bounds) (words : List ℕ) (r : ℕ) → AreRegistersBelow m lanes b words →
+    AllBelow (b r * m) (register_of lanes words r)
 register_below m lanes b words r are = below-words_at (b r * m) lanes words (r * lanes) (λ l lt. are.each r l lt)
 
-pub weaker : (m lanes : ℕ) (b c : Bounds) (words : List ℕ) → ((r : ℕ) → b r ≤ c r) → AreRegistersBelow m lanes b words → AreRegistersBelow m lanes c words
+pub weaker : (m lanes : ℕ) (b c : Bounds) (words : List ℕ) → ((r : ℕ) → b r ≤ c r) → AreRegistersBelow m lanes b words →
+    AreRegistersBelow m lanes c words
 weaker m lanes b c words le are =
     record { each = λ r l lt. let here = are.each r l lt in let up = mul-le-mul_left m (le r) in omega (arith, here, up) }
 
 -- n registers from r on get the words, and c is what they and the others are below then
-pub put_below : (m lanes n r v : ℕ) (b c : Bounds) (words vs : List ℕ) → AreRegistersBelow m lanes b words → AllBelow (v * m) vs → length vs ≡ n * lanes →
-    ((q : ℕ) → r ≤ q → q < r + n → v ≤ c q) → ((q : ℕ) → (q < r) ⊎ (r + n ≤ q) → b q ≤ c q) → AreRegistersBelow m lanes c (with_words words (r * lanes) vs)
+pub put_below : (m lanes n r v : ℕ) (b c : Bounds) (words vs : List ℕ) → AreRegistersBelow m lanes b words →
+    AllBelow (v * m) vs → length vs ≡ n * lanes →
+    ((q : ℕ) → r ≤ q → q < r + n → v ≤ c q) → ((q : ℕ) → (q < r) ⊎ (r + n ≤ q) → b q ≤ c q) →
+    AreRegistersBelow m lanes c (with_words words (r * lanes) vs)
 put_below m lanes n r v b c words vs are low long new old = record { each = at }
   where
-    kept : (q l : ℕ) → l < lanes → (q < r) ⊎ (r + n ≤ q) → slice_index (with_words words (r * lanes) vs) (q * lanes + l) < c q * m
+    kept : (q l : ℕ) → l < lanes → (q < r) ⊎ (r + n ≤ q) → slice_index (with_words words (r * lanes) vs) (q * lanes + l)
+        < c q * m
     kept q l lt apart =
         let here = are.each q l lt in
         let up = mul-le-mul_left m (old q apart) in
@@ -76,7 +84,8 @@ put_below m lanes n r v b c words vs are low long new old = record { each = at }
         ])
         bound
 
-    inside : (q l : ℕ) → l < lanes → r ≤ q → q < r + n → slice_index (with_words words (r * lanes) vs) (q * lanes + l) < c q * m
+    inside : (q l : ℕ) → l < lanes → r ≤ q → q < r + n → slice_index (with_words words (r * lanes) vs) (q * lanes + l)
+        < c q * m
     inside q l lt from to =
         let d : q ≡ r + (q - r) = omega arith in
         let place : r * lanes + ((q - r) * lanes + l) ≡ q * lanes + l = sym (ap (λ k. k * lanes + l) d ∙ spread (q - r)) in

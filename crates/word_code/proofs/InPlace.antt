@@ -1,4 +1,3 @@
-pub mod Joined
 pub mod Standing
 pub mod Pairs
 pub mod Pairing

@@ -16,6 +16,8 @@ pub mod Wholes
 pub mod OneProcessor
 pub mod Needing
 pub mod Loosening
+pub mod Leaves
+pub mod Rows
 pub mod Alone
 pub mod Flow
 pub mod Bare

@@ -4,6 +4,7 @@ use Rattle.std.proofs.Common.{replicate, refl, sym, ap, ap₂, ◌∙◌, arith}
 use Rattle.std.specs.Prelude.{slice_index, slice_set}
 use Rattle.std.specs.List.{range_with_len}
 use Rattle.std.proofs.Math.Nat.{zero-mod}
+use Rattle.std.proofs.lemmas.List.{map-set, map-append}
 use Rattle.ring_mod.specs.Residue.{product_mod}
 use Rattle.icode.specs.Machine.{words_at, with_words, lane_by_lane, transposed}
 use Rattle.word_code.specs.Words.{Width, base_of, quotient_of, lazy_product, product_bound}
@@ -14,11 +15,6 @@ use Rattle.word_code.proofs.Arithmetic.{product_word}
 abbrev pub residues : ℕ → List ℕ → List ℕ
 residues m xs = map (λ w. w % m) xs
 
-pub residues-set : (m : ℕ) (xs : List ℕ) (i v : ℕ) → residues m (slice_set xs i v) ≡ slice_set (residues m xs) i (v % m)
-residues-set m [] i v = refl
-residues-set m (x ∷ xs) zero v = refl
-residues-set m (x ∷ xs) (suc i) v = ap (λ ys. x % m ∷ ys) (residues-set m xs i v)
-
 pub residues-index : (m : ℕ) (xs : List ℕ) (i : ℕ) → slice_index (residues m xs) i ≡ slice_index xs i % m
 residues-index m [] i = sym (zero-mod m)
 residues-index m (x ∷ xs) zero = refl
@@ -28,30 +24,30 @@ pub residues-words_at : (m n : ℕ) (xs : List ℕ) (i : ℕ) → words_at n (re
 residues-words_at m zero xs i = refl
 residues-words_at m (suc n) xs i = ap₂ (λ y ys. y ∷ ys) (residues-index m xs i) (residues-words_at m n xs (i + 1))
 
-pub residues-with_words : (m : ℕ) (vs xs : List ℕ) (i : ℕ) → with_words (residues m xs) i (residues m vs) ≡ residues m (with_words xs i vs)
+pub residues-with_words : (m : ℕ) (vs xs : List ℕ) (i : ℕ) →
+    with_words (residues m xs) i (residues m vs) ≡ residues m (with_words xs i vs)
 residues-with_words m [] xs i = refl
 residues-with_words m (v ∷ vs) xs i =
-    ap (λ ys. with_words ys (i + 1) (residues m vs)) (sym (residues-set m xs i v)) ∙ residues-with_words m vs (slice_set xs i v) (i + 1)
+    ap (λ ys. with_words ys (i + 1) (residues m vs)) (sym (map-set (λ w. w % m) xs i v))
+    ∙ residues-with_words m vs (slice_set xs i v) (i + 1)
 
 pub residues-zeros : (m n : ℕ) → residues m (replicate n 0) ≡ replicate n 0
 residues-zeros m zero = refl
 residues-zeros m (suc n) = ap₂ (λ y ys. y ∷ ys) (zero-mod m) (residues-zeros m n)
 
-pub residues-append : (m : ℕ) (xs ys : List ℕ) → residues m (xs ++ ys) ≡ residues m xs ++ residues m ys
-residues-append m [] ys = refl
-residues-append m (x ∷ xs) ys = ap (λ zs. x % m ∷ zs) (residues-append m xs ys)
-
 residues-row : (m : ℕ) (f g : ℕ → ℕ) → ((l : ℕ) → f l ≡ g l % m) → (ls : List ℕ) → map f ls ≡ residues m (map g ls)
 residues-row m f g e [] = refl
 residues-row m f g e (l ∷ ls) = ap₂ (λ y ys. y ∷ ys) (e l) (residues-row m f g e ls)
 
-residues-rows : (m : ℕ) (f g : ℕ → ℕ → ℕ) → ((k l : ℕ) → f k l ≡ g k l % m) → (ks ls : List ℕ) → flat_map (λ k. map (f k) ls) ks ≡ residues m (flat_map (λ k. map (g k) ls) ks)
+residues-rows : (m : ℕ) (f g : ℕ → ℕ → ℕ) → ((k l : ℕ) → f k l ≡ g k l % m) → (ks ls : List ℕ) →
+    flat_map (λ k. map (f k) ls) ks ≡ residues m (flat_map (λ k. map (g k) ls) ks)
 residues-rows m f g e [] ls = refl
 residues-rows m f g e (k ∷ ks) ls =
     ap₂ (λ xs ys. xs ++ ys) (residues-row m (f k) (g k) (e k) ls) (residues-rows m f g e ks ls)
-    ∙ sym (residues-append m (map (g k) ls) (flat_map (λ k. map (g k) ls) ks))
+    ∙ sym (map-append (λ w. w % m) (map (g k) ls) (flat_map (λ k. map (g k) ls) ks))
 
-pub residues-transposed : (m lanes : ℕ) (registers : List ℕ) (source : ℕ) → transposed lanes (residues m registers) source ≡ residues m (transposed lanes registers source)
+pub residues-transposed : (m lanes : ℕ) (registers : List ℕ) (source : ℕ) →
+    transposed lanes (residues m registers) source ≡ residues m (transposed lanes registers source)
 residues-transposed m lanes registers source =
     residues-rows m
     (λ k l. slice_index (residues m registers) ((source + l) * lanes + k))
@@ -68,7 +64,8 @@ pub below-append : (bound : ℕ) (xs ys : List ℕ) → AllBelow bound xs → Al
 below-append bound [] ys a b = b
 below-append bound (x ∷ xs) ys a b = (a.0, below-append bound xs ys a.1 b)
 
-pub below-words_at : (bound n : ℕ) (xs : List ℕ) (i : ℕ) → ((l : ℕ) → l < n → slice_index xs (i + l) < bound) → AllBelow bound (words_at n xs i)
+pub below-words_at : (bound n : ℕ) (xs : List ℕ) (i : ℕ) → ((l : ℕ) → l < n → slice_index xs (i + l) < bound) →
+    AllBelow bound (words_at n xs i)
 below-words_at bound zero xs i h = tt
 below-words_at bound (suc n) xs i h =
     let first : slice_index xs (i + 0) < bound = h 0 (omega arith) in
@@ -84,13 +81,10 @@ pub below-zeros : (bound n : ℕ) → 0 < bound → AllBelow bound (replicate n 
 below-zeros bound zero pos = tt
 below-zeros bound (suc n) pos = (pos, below-zeros bound n pos)
 
-below-row : (bound : ℕ) (f : ℕ → ℕ) (ls : List ℕ) → ((l : ℕ) → f l < bound) → AllBelow bound (map f ls)
-below-row bound f [] h = tt
-below-row bound f (l ∷ ls) h = (h l, below-row bound f ls h)
-
 -- words that are made lane by lane
 
-pub lazy_map : (m p r : ℕ) (f g : ℕ → ℕ) → ((a : ℕ) → a < p → (f (a % m) ≡ g a % m) × (g a < r)) → (xs : List ℕ) → AllBelow p xs →
+pub lazy_map : (m p r : ℕ) (f g : ℕ → ℕ) → ((a : ℕ) → a < p → (f (a % m) ≡ g a % m) × (g a < r)) → (xs : List ℕ) →
+    AllBelow p xs →
     (map f (residues m xs) ≡ residues m (map g xs)) × AllBelow r (map g xs)
 lazy_map m p r f g h [] low = (refl, tt)
 lazy_map m p r f g h (x ∷ xs) low =
@@ -98,8 +92,10 @@ lazy_map m p r f g h (x ∷ xs) low =
     let here = h x low.0 in
     (ap₂ (λ y ys. y ∷ ys) here.0 rest.0, (here.1, rest.1))
 
-pub lazy_lanes : (m p q r : ℕ) (f g : ℕ → ℕ → ℕ) → ((a b : ℕ) → a < p → b < q → (f (a % m) (b % m) ≡ g a b % m) × (g a b < r)) → (xs ys : List ℕ) → AllBelow p xs → AllBelow q ys →
-    (lane_by_lane f (residues m xs) (residues m ys) ≡ residues m (lane_by_lane g xs ys)) × AllBelow r (lane_by_lane g xs ys)
+pub lazy_lanes : (m p q r : ℕ) (f g : ℕ → ℕ → ℕ) → ((a b : ℕ) → a < p → b < q →
+    (f (a % m) (b % m) ≡ g a b % m) × (g a b < r)) → (xs ys : List ℕ) → AllBelow p xs → AllBelow q ys →
+    (lane_by_lane f (residues m xs) (residues m ys) ≡ residues m (lane_by_lane g xs ys))
+    × AllBelow r (lane_by_lane g xs ys)
 lazy_lanes m p q r f g h [] ys low low_too = (refl, tt)
 lazy_lanes m p q r f g h (x ∷ xs) [] low low_too = (refl, tt)
 lazy_lanes m p q r f g h (x ∷ xs) (y ∷ ys) low low_too =
@@ -114,8 +110,10 @@ AreQuotients base m [] (q ∷ qs) = ⊥
 AreQuotients base m (c ∷ cs) [] = ⊥
 AreQuotients base m (c ∷ cs) (q ∷ qs) = (q ≡ quotient_of base m c) × AreQuotients base m cs qs
 
-pub lazy_products : (w : Width) (m p : ℕ) → 0 < w.half → 0 < m → product_bound w * m ≤ base_of w → p ≤ base_of w → (xs cs qs : List ℕ) → AllBelow p xs → AreQuotients (base_of w) m cs qs →
-    (lane_by_lane (product_mod m) (residues m xs) cs ≡ residues m (lane_by_three (lazy_product w m) xs cs qs)) × AllBelow (product_bound w * m) (lane_by_three (lazy_product w m) xs cs qs)
+pub lazy_products : (w : Width) (m p : ℕ) → 0 < w.half → 0 < m → product_bound w * m ≤ base_of w → p ≤ base_of w →
+    (xs cs qs : List ℕ) → AllBelow p xs → AreQuotients (base_of w) m cs qs →
+    (lane_by_lane (product_mod m) (residues m xs) cs ≡ residues m (lane_by_three (lazy_product w m) xs cs qs))
+    × AllBelow (product_bound w * m) (lane_by_three (lazy_product w m) xs cs qs)
 lazy_products w m p pos positive room small [] cs qs low are = (refl, tt)
 lazy_products w m p pos positive room small (x ∷ xs) [] qs low are = (refl, tt)
 lazy_products w m p pos positive room small (x ∷ xs) (c ∷ cs) [] low are = absurd are
@@ -125,20 +123,26 @@ lazy_products w m p pos positive room small (x ∷ xs) (c ∷ cs) (q ∷ qs) low
     let here = product_word w m x c q pos positive room (omega (arith, first, small)) are.0 in
     (ap₂ (λ z zs. z ∷ zs) here.0 rest.0, (here.1, rest.1))
 
-pub length-three : (f : ℕ → ℕ → ℕ → ℕ) (base m : ℕ) (xs cs qs : List ℕ) → length xs ≤ length cs → AreQuotients base m cs qs → length (lane_by_three f xs cs qs) ≡ length xs
+pub length-three : (f : ℕ → ℕ → ℕ → ℕ) (base m : ℕ) (xs cs qs : List ℕ) → length xs ≤ length cs →
+    AreQuotients base m cs qs → length (lane_by_three f xs cs qs) ≡ length xs
 length-three f base m [] cs qs le are = refl
 length-three f base m (x ∷ xs) [] qs le are = absurd (omega arith)
 length-three f base m (x ∷ xs) (c ∷ cs) [] le are = absurd are
 length-three f base m (x ∷ xs) (c ∷ cs) (q ∷ qs) le are = ap suc (length-three f base m xs cs qs (omega arith) are.1)
 
-pub below-transposed : (bound lanes : ℕ) (registers : List ℕ) (source : ℕ) → ((k l : ℕ) → k < lanes → l < lanes → slice_index registers ((source + l) * lanes + k) < bound) → AllBelow bound (transposed lanes registers source)
+pub below-transposed : (bound lanes : ℕ) (registers : List ℕ) (source : ℕ) →
+    ((k l : ℕ) → k < lanes → l < lanes → slice_index registers ((source + l) * lanes + k) < bound) →
+    AllBelow bound (transposed lanes registers source)
 below-transposed bound lanes registers source h = rows lanes 0 (λ k lt. omega arith)
   where
-    row : (k n from : ℕ) → k < lanes → ((l : ℕ) → l < from + n → l < lanes) → AllBelow bound (map (λ l. slice_index registers ((source + l) * lanes + k)) (range_with_len from n))
+    row : (k n from : ℕ) → k < lanes → ((l : ℕ) → l < from + n → l < lanes) →
+        AllBelow bound (map (λ l. slice_index registers ((source + l) * lanes + k)) (range_with_len from n))
     row k zero from lt within = tt
     row k (suc n) from lt within = (h k from lt (within from (omega arith)), row k n (from + 1) lt (λ l less. within l (omega arith)))
 
-    rows : (n from : ℕ) → ((k : ℕ) → k < from + n → k < lanes) → AllBelow bound (flat_map (λ k. map (λ l. slice_index registers ((source + l) * lanes + k)) (range_with_len 0 lanes)) (range_with_len from n))
+    rows : (n from : ℕ) → ((k : ℕ) → k < from + n → k < lanes) →
+        AllBelow bound (flat_map (λ k. map (λ l. slice_index registers ((source + l) * lanes + k))
+        (range_with_len 0 lanes)) (range_with_len from n))
     rows zero from within = tt
     rows (suc n) from within =
         below-append bound (map (λ l. slice_index registers ((source + l) * lanes + from)) (range_with_len 0 lanes)) _

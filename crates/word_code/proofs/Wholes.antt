@@ -28,24 +28,30 @@ entries_below m [] e k d lt = absurd (omega arith)
 entries_below m (c ∷ entries) e zero d lt = ltb-true c m (both_true _ _ e).0
 entries_below m (c ∷ entries) e (suc k) d lt = entries_below m entries (both_true _ _ e).1 k d (omega arith)
 
-pub table_below : (m : ℕ) (tables : List (Vec ℕ Global)) (i : ℕ) (t : Vec ℕ Global) → are_tables_within m (plain_tables tables) ≡ true → i < length tables → t ≡ get_or tables i t → All (λ c. c < m) t.items
+pub table_below : (m : ℕ) (tables : List (Vec ℕ Global)) (i : ℕ) (t : Vec ℕ Global) →
+    are_tables_within m (plain_tables tables) ≡ true → i < length tables → t ≡ get_or tables i t →
+    All (λ c. c < m) t.items
 table_below m tables i t e lt is =
     let here = item_passes (λ entries. nat_lt 0 (length entries) && list_all (λ c. nat_lt c m) entries) (λ (t : Vec ℕ Global). t.items) tables i t e lt in
     let same = subst (λ (v : Vec ℕ Global). (nat_lt 0 (length v.items) && list_all (λ c. nat_lt c m) v.items) ≡ true) (sym is) here in
     entries_below m t.items (both_true _ _ same).1
 
-pub phase_within : (m : ℕ) (phases : List (Vec Stmt Global)) (i : ℕ) (body : Vec Stmt Global) → are_phases_within m (plain_phases phases) ≡ true → i < length phases → body ≡ get_or phases i body → is_body_within m (plain_body body.items) 0 ≡ true
+pub phase_within : (m : ℕ) (phases : List (Vec Stmt Global)) (i : ℕ) (body : Vec Stmt Global) →
+    are_phases_within m (plain_phases phases) ≡ true → i < length phases → body ≡ get_or phases i body →
+    is_body_within m (plain_body body.items) 0 ≡ true
 phase_within m phases i body e lt is =
     let all = (both_true (nat_lt 0 (length (plain_phases phases))) _ e).1 in
     subst (λ (b : Vec Stmt Global). is_body_within m (plain_body b.items) 0 ≡ true) (sym is)
     (item_passes (λ body. is_body_within m body 0) (λ (b : Vec Stmt Global). plain_body b.items) phases i body all lt)
 
-pub same_from : (z : Laziness) (words : WordProgram) (p : Program) → plain_word_program words ≡ quickened z (plain_program p) → IsLazyWithin z p.modulus → LeavesTheSame words p
+pub same_from : (z : Laziness) (words : WordProgram) (p : Program) →
+    plain_word_program words ≡ quickened z (plain_program p) → IsLazyWithin z p.modulus → LeavesTheSame words p
 same_from z words p made lazy fits x turns low =
     ap (λ w. word_results (word_code w) x turns) made
     ∙ quickened_is_same z (plain_program p) fits lazy (let a = p.header.of_modulus.0 in omega arith) p.header.of_line.0 x turns low
 
-pub fits_from : (z : Laziness) (words : WordProgram) (p : Program) → plain_word_program words ≡ quickened z (plain_program p) → IsLazyWithin z p.modulus → FitsAs words p
+pub fits_from : (z : Laziness) (words : WordProgram) (p : Program) →
+    plain_word_program words ≡ quickened z (plain_program p) → IsLazyWithin z p.modulus → FitsAs words p
 fits_from z words p made lazy fits =
     subst WordsFit (sym made) (quickened_fits z (plain_program p) fits lazy (let a = p.header.of_modulus.0 in omega arith))
 

@@ -18,7 +18,10 @@ pub record AreChosen (behind : ℕ) (body : List Stmt) (made : List Route) (into
   pub target : into ≡ target_before (chosen (plain_body (drop (length body - behind) body)))
 
 -- the statement before them
-pub chosen-more : (behind at : ℕ) (body : List Stmt) (routes : List Route) (target : Array) (stmt : Stmt) (route : Route) (made : List Route) (into : Array) → behind < length body → at + behind + 1 ≡ length body → stmt ≡ get_or body at stmt → route ≡ route_to target (plain_stmt stmt) → made ≡ routes ++ route ∷ [] → into ≡ not_input route.source → AreChosen behind body routes target → AreChosen (behind + 1) body made into
+pub chosen-more : (behind at : ℕ) (body : List Stmt) (routes : List Route) (target : Array) (stmt : Stmt)
+    (route : Route) (made : List Route) (into : Array) → behind < length body → at + behind + 1 ≡ length body →
+    stmt ≡ get_or body at stmt → route ≡ route_to target (plain_stmt stmt) → made ≡ routes ++ route ∷ [] →
+    into ≡ not_input route.source → AreChosen behind body routes target → AreChosen (behind + 1) body made into
 chosen-more behind at body routes target stmt route made into lt here e is put goes h =
     let rest : List Stmt = drop (length body - behind) body in
     let from_here : drop (length body - (behind + 1)) body ≡ stmt ∷ rest =
@@ -36,7 +39,8 @@ chosen-more behind at body routes target stmt route made into lt here e is put g
     }
 
 -- there are as many of the ones as of the others
-pub places-differ : (places others : List PlainExpr) → (length places ≡ length others → ⊥) → false ≡ same_places places others
+pub places-differ : (places others : List PlainExpr) → (length places ≡ length others → ⊥) →
+    false ≡ same_places places others
 places-differ [] [] e = absurd (e refl)
 places-differ [] (other ∷ others) e = refl
 places-differ (place ∷ places) [] e = refl
@@ -48,10 +52,13 @@ places-differ (place ∷ places) (other ∷ others) e =
     by_first false c h = refl
 
 -- a loop is full if it has statements and they are
-pub full-some : (count : ℕ) (items : List Stmt) (stmt : PlainStmt) (full : Bool) → stmt ≡ Loop count (plain_body items) → (length items == 0) ≡ false → full ≡ are_full (plain_body items) → full ≡ is_full stmt
+pub full-some : (count : ℕ) (items : List Stmt) (stmt : PlainStmt) (full : Bool) →
+    stmt ≡ Loop count (plain_body items) → (length items == 0) ≡ false → full ≡ are_full (plain_body items) →
+    full ≡ is_full stmt
 full-some count [] stmt full e some h = cc
 full-some count (x ∷ items) stmt full e some h = h ∙ sym (ap is_full e)
 
-pub full-none : (count : ℕ) (items : List Stmt) (stmt : PlainStmt) → stmt ≡ Loop count (plain_body items) → (length items == 0) ≡ true → false ≡ is_full stmt
+pub full-none : (count : ℕ) (items : List Stmt) (stmt : PlainStmt) → stmt ≡ Loop count (plain_body items) →
+    (length items == 0) ≡ true → false ≡ is_full stmt
 full-none count [] stmt e empty = sym (ap is_full e)
 full-none count (x ∷ items) stmt e empty = let none : length (x ∷ items) ≡ 0 = eqb-true (length (x ∷ items)) 0 empty in absurd (omega arith)

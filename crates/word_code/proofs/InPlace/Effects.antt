@@ -34,8 +34,10 @@ inner-memory lanes (Neg r x) s inner = refl
 inner-memory lanes (Mul r x factors) s inner = refl
 inner-memory lanes (Tile r x) s inner = refl
 
-inner-put : (w : Width) (m lanes bias : ℕ) (quotients : List ℕ) (a : Action) (one other registers : List ℕ) → IsInner a →
-    word_put w m lanes bias quotients a (local one registers) ≡ word_put w m lanes bias quotients a (local other registers)
+inner-put : (w : Width) (m lanes bias : ℕ) (quotients : List ℕ) (a : Action) (one other registers : List ℕ) →
+    IsInner a →
+    word_put w m lanes bias quotients a (local one registers)
+    ≡ word_put w m lanes bias quotients a (local other registers)
 inner-put w m lanes bias quotients (Load r address) one other registers inner = absurd inner
 inner-put w m lanes bias quotients (Store address r) one other registers inner = absurd inner
 inner-put w m lanes bias quotients (Zero r) one other registers inner = refl
@@ -51,7 +53,8 @@ module _ (w : Width) (m lanes words : ℕ) where
   LeaveAlike f g accesses h one other registers =
       Alike words (homes_after_all lanes accesses h) (bare_effect w m lanes f (local one registers)) (bare_effect w m lanes g (local other registers))
 
-  own_alike : (f : WordAction) (h : Homes) (one other registers : List ℕ) → IsInner f.action → Stands words h one other → LeaveAlike f f [] h one other registers
+  own_alike : (f : WordAction) (h : Homes) (one other registers : List ℕ) → IsInner f.action →
+      Stands words h one other → LeaveAlike f f [] h one other registers
   own_alike f h one other registers inner stands =
       let same = inner-memory lanes f.action (local one registers) inner in
       let same_too = inner-memory lanes f.action (local other registers) inner in
@@ -61,7 +64,8 @@ module _ (w : Width) (m lanes words : ℕ) where
         registers = ap (with_words registers (register_put f.action * lanes)) (inner-put w m lanes f.bias f.quotients f.action one other registers inner);
       }
 
-  load_alike : (f : WordAction) (register at to : ℕ) (h : Homes) (one other registers : List ℕ) → at + lanes ≤ words → to + lanes ≤ words →
+  load_alike : (f : WordAction) (register at to : ℕ) (h : Homes) (one other registers : List ℕ) → at + lanes ≤ words →
+      to + lanes ≤ words →
       are_right lanes (Reads at to ∷ []) h ≡ true → Stands words h one other →
       LeaveAlike (record f { action = Load register at }) (record f { action = Load register to }) (Reads at to ∷ []) h one other registers
   load_alike f register at to h one other registers inside inside_too right stands =
@@ -71,7 +75,8 @@ module _ (w : Width) (m lanes words : ℕ) where
         registers = ap (with_words registers (register * lanes)) (stands_read words lanes at to h one other inside inside_too home stands);
       }
 
-  store_alike : (f : WordAction) (register at to : ℕ) (h : Homes) (one other registers : List ℕ) → at + lanes ≤ words → to + lanes ≤ words →
+  store_alike : (f : WordAction) (register at to : ℕ) (h : Homes) (one other registers : List ℕ) → at + lanes ≤ words →
+      to + lanes ≤ words →
       Stands words h one other →
       LeaveAlike (record f { action = Store at register }) (record f { action = Store to register }) (Writes at to ∷ []) h one other registers
   store_alike f register at to h one other registers inside inside_too stands =
@@ -81,7 +86,8 @@ module _ (w : Width) (m lanes words : ℕ) where
         registers = refl;
       }
 
-  pair_alike : (f g : WordAction) (accesses : List Access) (h : Homes) (one other registers : List ℕ) → IsPair lanes words f g accesses →
+  pair_alike : (f g : WordAction) (accesses : List Access) (h : Homes) (one other registers : List ℕ) →
+      IsPair lanes words f g accesses →
       are_right lanes accesses h ≡ true → Stands words h one other → LeaveAlike f g accesses h one other registers
   pair_alike f g accesses h one other registers pair right stands =
       ⊎_elim own (⊎_elim load store) pair
@@ -119,14 +125,16 @@ module _ (w : Width) (m lanes words : ℕ) where
       pair
 
   step_alike : (f g : WordAction) (accesses : List Access) (h : Homes) (s t : Local) → IsPair lanes words f g accesses →
-      are_right lanes accesses h ≡ true → Alike words h s t → Alike words (homes_after_all lanes accesses h) (word_effect w m lanes f s) (word_effect w m lanes g t)
+      are_right lanes accesses h ≡ true → Alike words h s t →
+      Alike words (homes_after_all lanes accesses h) (word_effect w m lanes f s) (word_effect w m lanes g t)
   step_alike f g accesses h s t pair right alike =
       let reduced = ap₂ (λ reductions registers. reduce_registers (sums_of w) lanes reductions registers) (same_before f g accesses pair) alike.registers in
       subst (λ registers. Alike words (homes_after_all lanes accesses h) (word_effect w m lanes f s) (bare_effect w m lanes g (local t.memory registers))) reduced
       (pair_alike f g accesses h s.memory t.memory (reduce_registers (sums_of w) lanes f.before s.registers) pair right alike.stands)
 
   -- whole lists leave words and registers alike
-  lists_alike : (fs gs : List WordAction) (accesses : List Access) (h : Homes) (s t : Local) → ArePairs lanes words fs gs accesses →
+  lists_alike : (fs gs : List WordAction) (accesses : List Access) (h : Homes) (s t : Local) →
+      ArePairs lanes words fs gs accesses →
       are_right lanes accesses h ≡ true → Alike words h s t →
       Alike words (homes_after_all lanes accesses h) (word_effects w m lanes fs s) (word_effects w m lanes gs t)
   lists_alike [] [] accesses h s t none right alike = subst (λ (xs : List Access). Alike words (homes_after_all lanes xs h) s t) (sym none) alike

@@ -1,251 +1,212 @@
 -- Programs on words whose statements go by other routes fit where they did, and processors that were apart stay apart.
-use Rattle.std.proofs.Common.{◌≡◌, ℕ, zero, suc, ◌^◌, ◌+◌, ◌<◌, List, [], ◌∷◌, ◌++◌, length, map, flat_map, refl, sym}
-use Rattle.std.proofs.Common.{ap, ap₂, ◌∙◌, subst, ⊎_elim, length-append}
+use Rattle.std.proofs.Common.{◌≡◌, ℕ, ◌^◌, ◌<◌, List, [], ◌∷◌, ◌++◌, All, length, map, refl, sym, ap, ◌∙◌}
+use Rattle.std.proofs.Common.{subst, ⊎_elim}
 use Rattle.std.specs.Prelude.{slice_index_or}
 use Rattle.std.specs.List.{range_with_len}
+use Rattle.std.proofs.Math.ListN.{get_or-map}
 use Rattle.std.proofs.lemmas.List.{length-map}
+use Rattle.std.proofs.lemmas.List.Elements.{All-nil}
 use Rattle.operators.specs.Sum.{sum_below}
 use Rattle.operators.proofs.Sums.{sum_below-same}
-use Rattle.icode.specs.Actions.{Step, StepFits, PlainFits, step_of, steps_of_stmt, steps_of_body, steps_of_phase}
-use Rattle.icode.specs.Actions.{plain_code}
+use Rattle.icode.specs.Actions.{StepFits, PlainFits, steps_of_body, steps_of_phase, plain_code}
 use Rattle.icode.specs.Machine.{IsApart}
-use Rattle.icode.specs.Plain.{PlainOp, PlainBody, PlainProgram, Load, Store, Zero, Add, Sub, Neg, MulConst, MulTable}
-use Rattle.icode.specs.Plain.{Tile}
-use Rattle.icode.specs.Plain as plain
-use Rattle.word_code.specs.Bare.{bare_stmt, bare_body, bare, with_bodies, NumbersFit, WordsFit}
+use Rattle.icode.specs.Plain.{PlainOp, PlainProgram, Load, Store, Zero, Add, Sub, Neg, MulConst, MulTable, Tile}
+use Rattle.word_code.specs.Bare.{bare_body, bare, NumbersFit, WordsFit}
 use Rattle.word_code.specs.Quicken.{Laziness, quickened}
-use Rattle.word_code.specs.WordMachine.{WordAction, under, word_acts}
+use Rattle.word_code.specs.WordMachine.{WordAction, under}
 use Rattle.word_code.specs.WordProgram.{Note, WordStmt, WordBody, PlainWordProgram, Loop, Do, NoStmts, AndStmts}
-use Rattle.word_code.specs.WordProgram.{word_action_of, word_actions_of_stmt, word_actions_of_body, word_code}
+use Rattle.word_code.specs.WordProgram.{word_actions_of_body, word_code}
 use Rattle.word_code.proofs.Bare.{quickened_apart, code_under_is, one_is_apart}
-use Rattle.word_code.proofs.Numbers.{all_of_each, each_append, acts_are, lists_have}
-use Rattle.word_code.proofs.Programs.{Each, each_of_all, each_front, each_back}
+use Rattle.word_code.proofs.Flow.{with_phases, op_same}
+use Rattle.word_code.proofs.Leaves.{Pairwise, pairwise-append, pairwise-turns, pairwise-length, pairwise-all, Leaf}
+use Rattle.word_code.proofs.Leaves.{leaf}
+use Rattle.word_code.proofs.Leaves.{leaves_of_stmt, leaves_of_body, act_at, step_at, body-acts, body-steps}
+use Rattle.word_code.proofs.Rows.{acts_are, lists_have}
 use Rattle.word_code.specs.declared.in_place.routes.Route.{Route}
 use Rattle.word_code.specs.InPlace.InPlace.{routes_of, in_place}
 use Rattle.word_code.specs.InPlace.Routes.{rerouted_op, rerouted_stmt, rerouted_body, rerouted_phase, rerouted}
 use Rattle.word_code.proofs.InPlace.Law.{Goes, stays_or_goes, no_routes}
 
--- as many steps, which fit where those before did
-abbrev KeepFits : PlainProgram → PlainProgram → List Step → List Step → Type 0
-KeepFits p there ss ts = (length ts ≡ length ss) × (Each (StepFits p) ss → Each (StepFits there) ts)
+-- a program on words, and one with other phases
+module _ (w : PlainWordProgram) (others : List WordBody) (q : ℕ) where
+  abbrev there : PlainWordProgram
+  there = with_phases w others
 
--- a program with these bodies, and one with others
-module _ (frame : PlainProgram) (phases others : List PlainBody) where
-  abbrev p : PlainProgram
-  p = with_bodies frame phases
+  -- the operation of the other fits where that of the one does, and its numbers are words
+  record IsKept (one other : Leaf) : Type 0 where
+    fits : StepFits (bare w) (step_at (bare w) q one) → StepFits (bare there) (step_at (bare there) q other)
+    numbers : NumbersFit w.width w.frame.regs (act_at w q one) → NumbersFit w.width w.frame.regs (act_at there q other)
 
-  abbrev there : PlainProgram
-  there = with_bodies frame others
+  stays : (note : Note) (op : PlainOp) (vs : List ℕ) → IsKept (leaf note op vs) (leaf note op vs)
+  stays note op vs =
+      record {
+        fits = λ s. record { numbers = s.numbers; place = s.place; registers = s.registers; factors = s.factors };
+        numbers = subst (NumbersFit w.width w.frame.regs) (sym (op_same w others note op vs q));
+      }
 
-  op_fits : (route : Route) (op : PlainOp) (vs : List ℕ) (q : ℕ) → StepFits p (step_of p op vs q) → StepFits there (step_of there (rerouted_op route op) vs q)
-  op_fits route (Load r array place) vs q s = record { numbers = s.numbers; place = s.place; registers = s.registers; factors = s.factors }
-  op_fits route (Store array place r) vs q s = record { numbers = s.numbers; place = s.place; registers = s.registers; factors = s.factors }
-  op_fits route (Zero r) vs q s = record { numbers = s.numbers; place = s.place; registers = s.registers; factors = s.factors }
-  op_fits route (Add r x y) vs q s = record { numbers = s.numbers; place = s.place; registers = s.registers; factors = s.factors }
-  op_fits route (Sub r x y) vs q s = record { numbers = s.numbers; place = s.place; registers = s.registers; factors = s.factors }
-  op_fits route (Neg r x) vs q s = record { numbers = s.numbers; place = s.place; registers = s.registers; factors = s.factors }
-  op_fits route (MulConst r x factor) vs q s = record { numbers = s.numbers; place = s.place; registers = s.registers; factors = s.factors }
-  op_fits route (MulTable r x table place step) vs q s = record { numbers = s.numbers; place = s.place; registers = s.registers; factors = s.factors }
-  op_fits route (Tile r x) vs q s = record { numbers = s.numbers; place = s.place; registers = s.registers; factors = s.factors }
+  goes_by : (route : Route) (note : Note) (op : PlainOp) (vs : List ℕ) →
+      IsKept (leaf note op vs) (leaf note (rerouted_op route op) vs)
+  goes_by route note (Load r array place) vs =
+      record {
+        fits = λ s. record { numbers = s.numbers; place = s.place; registers = s.registers; factors = s.factors };
+        numbers = λ n. record { before = n.before; bias = n.bias; quotients = n.quotients };
+      }
+  goes_by route note (Store array place r) vs =
+      record {
+        fits = λ s. record { numbers = s.numbers; place = s.place; registers = s.registers; factors = s.factors };
+        numbers = λ n. record { before = n.before; bias = n.bias; quotients = n.quotients };
+      }
+  goes_by route note (Zero r) vs = stays note (Zero r) vs
+  goes_by route note (Add r x y) vs = stays note (Add r x y) vs
+  goes_by route note (Sub r x y) vs = stays note (Sub r x y) vs
+  goes_by route note (Neg r x) vs = stays note (Neg r x) vs
+  goes_by route note (MulConst r x factor) vs = stays note (MulConst r x factor) vs
+  goes_by route note (MulTable r x table place step) vs = stays note (MulTable r x table place step) vs
+  goes_by route note (Tile r x) vs = stays note (Tile r x) vs
 
-  op_stays : (op : PlainOp) (vs : List ℕ) (q : ℕ) → StepFits p (step_of p op vs q) → StepFits there (step_of there op vs q)
-  op_stays op vs q s = record { numbers = s.numbers; place = s.place; registers = s.registers; factors = s.factors }
+  abbrev AreKept : List Leaf → List Leaf → Type 0
+  AreKept = Pairwise IsKept
 
-  keep_both : (ss ts us vs : List Step) → KeepFits p there ss ts → KeepFits p there us vs → KeepFits p there (ss ++ us) (ts ++ vs)
-  keep_both ss ts us vs one rest = (
-    length-append ts vs ∙ ap₂ (λ a b. a + b) one.0 rest.0 ∙ sym (length-append ss us),
-    λ fit. each_append (StepFits there) ts vs (one.1 (each_front (StepFits p) ss us fit)) (rest.1 (each_back (StepFits p) ss us fit)),
-  )
+  all_stay : (leaves : List Leaf) → AreKept leaves leaves
+  all_stay [] = tt
+  all_stay (l ∷ leaves) = (stays l.note l.op l.values, all_stay leaves)
 
-  turns : (f g : ℕ → List Step) → ((i : ℕ) → KeepFits p there (f i) (g i)) → (is : List ℕ) → KeepFits p there (flat_map f is) (flat_map g is)
-  turns f g keep [] = (refl, λ fit. tt)
-  turns f g keep (i ∷ is) = keep_both (f i) (g i) (flat_map f is) (flat_map g is) (keep i) (turns f g keep is)
-
-  -- by this route
-  module _ (route : Route) where
-    mutual
-      stmt_keeps : (stmt : WordStmt) (vs : List ℕ) (q : ℕ) → KeepFits p there (steps_of_stmt p (bare_stmt stmt) vs q) (steps_of_stmt there (bare_stmt (rerouted_stmt route stmt)) vs q)
-      stmt_keeps (Loop count body) vs q =
-          turns (λ i. steps_of_body p (bare_body body) (vs ++ i ∷ []) q) (λ i. steps_of_body there (bare_body (rerouted_body route body)) (vs ++ i ∷ []) q)
-          (λ i. body_keeps body (vs ++ i ∷ []) q) (range_with_len 0 count)
-      stmt_keeps (Do note op) vs q = (refl, λ fit. (op_fits route op vs q fit.0, tt))
-
-      body_keeps : (body : WordBody) (vs : List ℕ) (q : ℕ) → KeepFits p there (steps_of_body p (bare_body body) vs q) (steps_of_body there (bare_body (rerouted_body route body)) vs q)
-      body_keeps NoStmts vs q = (refl, λ fit. tt)
-      body_keeps (AndStmts stmt rest) vs q =
-          keep_both (steps_of_stmt p (bare_stmt stmt) vs q) (steps_of_stmt there (bare_stmt (rerouted_stmt route stmt)) vs q)
-          (steps_of_body p (bare_body rest) vs q) (steps_of_body there (bare_body (rerouted_body route rest)) vs q)
-          (stmt_keeps stmt vs q) (body_keeps rest vs q)
-
-  -- as they are
   mutual
-    stmt_stays : (stmt : WordStmt) (vs : List ℕ) (q : ℕ) → KeepFits p there (steps_of_stmt p (bare_stmt stmt) vs q) (steps_of_stmt there (bare_stmt stmt) vs q)
-    stmt_stays (Loop count body) vs q =
-        turns (λ i. steps_of_body p (bare_body body) (vs ++ i ∷ []) q) (λ i. steps_of_body there (bare_body body) (vs ++ i ∷ []) q)
-        (λ i. body_stays body (vs ++ i ∷ []) q) (range_with_len 0 count)
-    stmt_stays (Do note op) vs q = (refl, λ fit. (op_stays op vs q fit.0, tt))
+    stmt_kept : (route : Route) (stmt : WordStmt) (vs : List ℕ) →
+        AreKept (leaves_of_stmt stmt vs) (leaves_of_stmt (rerouted_stmt route stmt) vs)
+    stmt_kept route (Loop count body) vs =
+        pairwise-turns IsKept (λ i. leaves_of_body body (vs ++ i ∷ []))
+        (λ i. leaves_of_body (rerouted_body route body) (vs ++ i ∷ []))
+        (λ i. body_kept route body (vs ++ i ∷ [])) (range_with_len 0 count)
+    stmt_kept route (Do note op) vs = (goes_by route note op vs, tt)
 
-    body_stays : (body : WordBody) (vs : List ℕ) (q : ℕ) → KeepFits p there (steps_of_body p (bare_body body) vs q) (steps_of_body there (bare_body body) vs q)
-    body_stays NoStmts vs q = (refl, λ fit. tt)
-    body_stays (AndStmts stmt rest) vs q =
-        keep_both (steps_of_stmt p (bare_stmt stmt) vs q) (steps_of_stmt there (bare_stmt stmt) vs q)
-        (steps_of_body p (bare_body rest) vs q) (steps_of_body there (bare_body rest) vs q)
-        (stmt_stays stmt vs q) (body_stays rest vs q)
+    body_kept : (route : Route) (body : WordBody) (vs : List ℕ) →
+        AreKept (leaves_of_body body vs) (leaves_of_body (rerouted_body route body) vs)
+    body_kept route NoStmts vs = tt
+    body_kept route (AndStmts stmt rest) vs =
+        pairwise-append IsKept (leaves_of_stmt stmt vs) (leaves_of_body rest vs)
+        (leaves_of_stmt (rerouted_stmt route stmt) vs)
+        (leaves_of_body (rerouted_body route rest) vs) (stmt_kept route stmt vs) (body_kept route rest vs)
 
-  phase_keeps : (routes : List Route) (body : WordBody) (q : ℕ) → KeepFits p there (steps_of_body p (bare_body body) [] q) (steps_of_body there (bare_body (rerouted_phase routes body)) [] q)
-  phase_keeps [] NoStmts q = (refl, λ fit. tt)
-  phase_keeps [] (AndStmts stmt rest) q = body_stays (AndStmts stmt rest) [] q
-  phase_keeps (route ∷ routes) NoStmts q = (refl, λ fit. tt)
-  phase_keeps (route ∷ routes) (AndStmts stmt rest) q =
-      keep_both (steps_of_stmt p (bare_stmt stmt) [] q) (steps_of_stmt there (bare_stmt (rerouted_stmt route stmt)) [] q)
-      (steps_of_body p (bare_body rest) [] q) (steps_of_body there (bare_body (rerouted_phase routes rest)) [] q)
-      (stmt_keeps route stmt [] q) (phase_keeps routes rest q)
+  phase_kept : (routes : List Route) (body : WordBody) →
+      AreKept (leaves_of_body body []) (leaves_of_body (rerouted_phase routes body) [])
+  phase_kept [] NoStmts = tt
+  phase_kept [] (AndStmts stmt rest) = all_stay (leaves_of_body (AndStmts stmt rest) [])
+  phase_kept (route ∷ routes) NoStmts = tt
+  phase_kept (route ∷ routes) (AndStmts stmt rest) =
+      pairwise-append IsKept (leaves_of_stmt stmt []) (leaves_of_body rest [])
+      (leaves_of_stmt (rerouted_stmt route stmt) [])
+      (leaves_of_body (rerouted_phase routes rest) []) (stmt_kept route stmt []) (phase_kept routes rest)
 
-  phases_keep : (routes : List Route) (bodies : List WordBody) (phase q : ℕ) →
-      KeepFits p there (steps_of_body p (slice_index_or (map bare_body bodies) phase plain.NoStmts) [] q)
-      (steps_of_body there (slice_index_or (map bare_body (map (rerouted_phase routes) bodies)) phase plain.NoStmts) [] q)
-  phases_keep routes [] phase q = (refl, λ fit. tt)
-  phases_keep routes (body ∷ bodies) zero q = phase_keeps routes body q
-  phases_keep routes (body ∷ bodies) (suc phase) q = phases_keep routes bodies phase q
+no_phase : (routes : List Route) → rerouted_phase routes NoStmts ≡ NoStmts
+no_phase [] = refl
+no_phase (route ∷ routes) = refl
 
-rerouted_fits : (routes : List Route) (w : PlainWordProgram) → PlainFits (bare w) → PlainFits (bare (rerouted routes w))
-rerouted_fits routes w fits =
-    record {
-      few = let bound = fits.few in subst (λ n. n < 2 ^ 59) (sym as_many) bound;
-      each = λ phase q lt.
-          all_of_each (StepFits there) (steps_of_phase there phase q)
-          ((keep phase q).1 (each_of_all (StepFits here) (steps_of_phase here phase q) (fits.each phase q lt)));
-    }
-  where
-    here : PlainProgram
-    here = bare w
+-- a program on words by routes
+module _ (routes : List Route) (w : PlainWordProgram) where
+  abbrev by_them : PlainWordProgram
+  by_them = rerouted routes w
 
-    there : PlainProgram
-    there = bare (rerouted routes w)
+  abbrev body_at : ℕ → WordBody
+  body_at phase = slice_index_or w.phases phase NoStmts
 
-    keep : (phase q : ℕ) → KeepFits here there (steps_of_phase here phase q) (steps_of_phase there phase q)
-    keep phase q = phases_keep w.frame here.phases there.phases routes w.phases phase q
+  abbrev goes_at : ℕ → WordBody
+  goes_at phase = rerouted_phase routes (body_at phase)
 
-    long : length there.phases ≡ length here.phases
-    long =
-        length-map (map (rerouted_phase routes) w.phases) bare_body ∙ length-map w.phases (rerouted_phase routes)
-        ∙ sym (length-map w.phases bare_body)
-
-    as_many :
-        sum_below (length there.phases) (λ phase. sum_below there.procs (λ q. length (steps_of_phase there phase q)))
-        ≡ sum_below (length here.phases) (λ phase. sum_below here.procs (λ q. length (steps_of_phase here phase q)))
-    as_many =
-        ap (λ n. sum_below n (λ phase. sum_below there.procs (λ q. length (steps_of_phase there phase q)))) long
-        ∙ sum_below-same (length here.phases) (λ phase. sum_below there.procs (λ q. length (steps_of_phase there phase q)))
-        (λ phase. sum_below here.procs (λ q. length (steps_of_phase here phase q)))
-        (λ phase _. sum_below-same there.procs (λ q. length (steps_of_phase there phase q)) (λ q. length (steps_of_phase here phase q)) (λ q _. (keep phase q).0))
-
--- Numbers beside operations stay
-
-module _ (w : PlainWordProgram) (others : List WordBody) where
-  abbrev moved : PlainWordProgram
-  moved = record { width = w.width; frame = w.frame; quotients = w.quotients; phases = others }
+  -- how many steps there are in a phase
+  abbrev steps_in : PlainProgram → ℕ → ℕ
+  steps_in p phase = sum_below w.frame.procs (λ q. length (steps_of_phase p phase q))
 
   abbrev Fit : WordAction → Type 0
-  Fit f = NumbersFit w.width w.frame.regs f
+  Fit = NumbersFit w.width w.frame.regs
 
-  abbrev KeepNumbers : List WordAction → List WordAction → Type 0
-  KeepNumbers fs gs = Each Fit fs → Each Fit gs
+  goes_there : (phase : ℕ) → slice_index_or by_them.phases phase NoStmts ≡ goes_at phase
+  goes_there phase =
+      ap (slice_index_or by_them.phases phase) (sym (no_phase routes))
+      ∙ get_or-map (rerouted_phase routes) w.phases phase NoStmts
 
-  op_numbers : (route : Route) (note : Note) (op : PlainOp) (vs : List ℕ) (q : ℕ) → Fit (word_action_of w note op vs q) → Fit (word_action_of moved note (rerouted_op route op) vs q)
-  op_numbers route note (Load r array place) vs q n = record { before = n.before; bias = n.bias; quotients = n.quotients }
-  op_numbers route note (Store array place r) vs q n = record { before = n.before; bias = n.bias; quotients = n.quotients }
-  op_numbers route note (Zero r) vs q n = record { before = n.before; bias = n.bias; quotients = n.quotients }
-  op_numbers route note (Add r x y) vs q n = record { before = n.before; bias = n.bias; quotients = n.quotients }
-  op_numbers route note (Sub r x y) vs q n = record { before = n.before; bias = n.bias; quotients = n.quotients }
-  op_numbers route note (Neg r x) vs q n = record { before = n.before; bias = n.bias; quotients = n.quotients }
-  op_numbers route note (MulConst r x factor) vs q n = record { before = n.before; bias = n.bias; quotients = n.quotients }
-  op_numbers route note (MulTable r x table place step) vs q n = record { before = n.before; bias = n.bias; quotients = n.quotients }
-  op_numbers route note (Tile r x) vs q n = record { before = n.before; bias = n.bias; quotients = n.quotients }
+  kept : (phase q : ℕ) → AreKept w by_them.phases q (leaves_of_body (body_at phase) [])
+      (leaves_of_body (goes_at phase) [])
+  kept phase q = phase_kept w by_them.phases q routes (body_at phase)
 
-  own_numbers : (note : Note) (op : PlainOp) (vs : List ℕ) (q : ℕ) → Fit (word_action_of w note op vs q) → Fit (word_action_of moved note op vs q)
-  own_numbers note (Load r array place) vs q n = record { before = n.before; bias = n.bias; quotients = n.quotients }
-  own_numbers note (Store array place r) vs q n = record { before = n.before; bias = n.bias; quotients = n.quotients }
-  own_numbers note (Zero r) vs q n = record { before = n.before; bias = n.bias; quotients = n.quotients }
-  own_numbers note (Add r x y) vs q n = record { before = n.before; bias = n.bias; quotients = n.quotients }
-  own_numbers note (Sub r x y) vs q n = record { before = n.before; bias = n.bias; quotients = n.quotients }
-  own_numbers note (Neg r x) vs q n = record { before = n.before; bias = n.bias; quotients = n.quotients }
-  own_numbers note (MulConst r x factor) vs q n = record { before = n.before; bias = n.bias; quotients = n.quotients }
-  own_numbers note (MulTable r x table place step) vs q n = record { before = n.before; bias = n.bias; quotients = n.quotients }
-  own_numbers note (Tile r x) vs q n = record { before = n.before; bias = n.bias; quotients = n.quotients }
+  -- the steps of a phase, and of it by routes
+  steps_here : (phase q : ℕ) →
+      steps_of_phase (bare w) phase q ≡ map (step_at (bare w) q) (leaves_of_body (body_at phase) [])
+  steps_here phase q =
+      ap (λ b. steps_of_body (bare w) b [] q) (get_or-map bare_body w.phases phase NoStmts)
+      ∙ body-steps (bare w) q (body_at phase) []
 
-  keep_numbers : (fs gs hs is : List WordAction) → KeepNumbers fs gs → KeepNumbers hs is → KeepNumbers (fs ++ hs) (gs ++ is)
-  keep_numbers fs gs hs is one rest fit = each_append Fit gs is (one (each_front Fit fs hs fit)) (rest (each_back Fit fs hs fit))
+  steps_there : (phase q : ℕ) →
+      steps_of_phase (bare by_them) phase q ≡ map (step_at (bare by_them) q) (leaves_of_body (goes_at phase) [])
+  steps_there phase q =
+      ap (λ b. steps_of_body (bare by_them) b [] q)
+      (get_or-map bare_body by_them.phases phase NoStmts ∙ ap bare_body (goes_there phase))
+      ∙ body-steps (bare by_them) q (goes_at phase) []
 
-  turns_keep : (f g : ℕ → List WordAction) → ((i : ℕ) → KeepNumbers (f i) (g i)) → (is : List ℕ) → KeepNumbers (flat_map f is) (flat_map g is)
-  turns_keep f g keep [] = λ fit. tt
-  turns_keep f g keep (i ∷ is) = keep_numbers (f i) (g i) (flat_map f is) (flat_map g is) (keep i) (turns_keep f g keep is)
+  as_long : (phase q : ℕ) → length (steps_of_phase (bare by_them) phase q) ≡ length (steps_of_phase (bare w) phase q)
+  as_long phase q =
+      let one = leaves_of_body (body_at phase) [] in
+      let other = leaves_of_body (goes_at phase) [] in
+      ap length (steps_there phase q) ∙ length-map other (step_at (bare by_them) q)
+      ∙ pairwise-length (IsKept w by_them.phases q) one other (kept phase q)
+      ∙ sym (ap length (steps_here phase q) ∙ length-map one (step_at (bare w) q))
 
-  module _ (route : Route) where
-    mutual
-      stmt_numbers : (stmt : WordStmt) (vs : List ℕ) (q : ℕ) → KeepNumbers (word_actions_of_stmt w stmt vs q) (word_actions_of_stmt moved (rerouted_stmt route stmt) vs q)
-      stmt_numbers (Loop count body) vs q =
-          turns_keep (λ i. word_actions_of_body w body (vs ++ i ∷ []) q) (λ i. word_actions_of_body moved (rerouted_body route body) (vs ++ i ∷ []) q)
-          (λ i. body_numbers body (vs ++ i ∷ []) q) (range_with_len 0 count)
-      stmt_numbers (Do note op) vs q = λ fit. (op_numbers route note op vs q fit.0, tt)
+  rerouted_fits : PlainFits (bare w) → PlainFits (bare by_them)
+  rerouted_fits fits =
+      record {
+        few = let bound = fits.few in subst (λ n. n < 2 ^ 59) (sym as_many) bound;
+        each = λ phase q lt.
+            subst (All (StepFits (bare by_them))) (sym (steps_there phase q))
+            (pairwise-all (IsKept w by_them.phases q) (step_at (bare w) q) (step_at (bare by_them) q)
+            (StepFits (bare w))
+            (StepFits (bare by_them)) (λ one other keeps. keeps.fits) (leaves_of_body (body_at phase) [])
+            (leaves_of_body (goes_at phase) []) (kept phase q)
+            (subst (All (StepFits (bare w))) (steps_here phase q) (fits.each phase q lt)));
+      }
+    where
+      long : length (bare by_them).phases ≡ length (bare w).phases
+      long =
+          length-map (map (rerouted_phase routes) w.phases) bare_body ∙ length-map w.phases (rerouted_phase routes)
+          ∙ sym (length-map w.phases bare_body)
 
-      body_numbers : (body : WordBody) (vs : List ℕ) (q : ℕ) → KeepNumbers (word_actions_of_body w body vs q) (word_actions_of_body moved (rerouted_body route body) vs q)
-      body_numbers NoStmts vs q = λ fit. tt
-      body_numbers (AndStmts stmt rest) vs q =
-          keep_numbers (word_actions_of_stmt w stmt vs q) (word_actions_of_stmt moved (rerouted_stmt route stmt) vs q)
-          (word_actions_of_body w rest vs q) (word_actions_of_body moved (rerouted_body route rest) vs q)
-          (stmt_numbers stmt vs q) (body_numbers rest vs q)
+      as_many : sum_below (length (bare by_them).phases) (steps_in (bare by_them))
+          ≡ sum_below (length (bare w).phases) (steps_in (bare w))
+      as_many =
+          ap (λ n. sum_below n (steps_in (bare by_them))) long
+          ∙ sum_below-same (length (bare w).phases) (steps_in (bare by_them)) (steps_in (bare w))
+          (λ phase _. sum_below-same w.frame.procs (λ q. length (steps_of_phase (bare by_them) phase q))
+          (λ q. length (steps_of_phase (bare w) phase q)) (λ q _. as_long phase q))
 
-  mutual
-    own_stmt : (stmt : WordStmt) (vs : List ℕ) (q : ℕ) → KeepNumbers (word_actions_of_stmt w stmt vs q) (word_actions_of_stmt moved stmt vs q)
-    own_stmt (Loop count body) vs q =
-        turns_keep (λ i. word_actions_of_body w body (vs ++ i ∷ []) q) (λ i. word_actions_of_body moved body (vs ++ i ∷ []) q)
-        (λ i. own_body body (vs ++ i ∷ []) q) (range_with_len 0 count)
-    own_stmt (Do note op) vs q = λ fit. (own_numbers note op vs q fit.0, tt)
-
-    own_body : (body : WordBody) (vs : List ℕ) (q : ℕ) → KeepNumbers (word_actions_of_body w body vs q) (word_actions_of_body moved body vs q)
-    own_body NoStmts vs q = λ fit. tt
-    own_body (AndStmts stmt rest) vs q =
-        keep_numbers (word_actions_of_stmt w stmt vs q) (word_actions_of_stmt moved stmt vs q)
-        (word_actions_of_body w rest vs q) (word_actions_of_body moved rest vs q)
-        (own_stmt stmt vs q) (own_body rest vs q)
-
-  phase_numbers : (routes : List Route) (body : WordBody) (q : ℕ) → KeepNumbers (word_actions_of_body w body [] q) (word_actions_of_body moved (rerouted_phase routes body) [] q)
-  phase_numbers [] NoStmts q = λ fit. tt
-  phase_numbers [] (AndStmts stmt rest) q = own_body (AndStmts stmt rest) [] q
-  phase_numbers (route ∷ routes) NoStmts q = λ fit. tt
-  phase_numbers (route ∷ routes) (AndStmts stmt rest) q =
-      keep_numbers (word_actions_of_stmt w stmt [] q) (word_actions_of_stmt moved (rerouted_stmt route stmt) [] q)
-      (word_actions_of_body w rest [] q) (word_actions_of_body moved (rerouted_phase routes rest) [] q)
-      (stmt_numbers route stmt [] q) (phase_numbers routes rest q)
-
-  phases_numbers : (routes : List Route) (bodies : List WordBody) (phase q : ℕ) →
-      KeepNumbers (word_actions_of_body w (slice_index_or bodies phase NoStmts) [] q) (word_actions_of_body moved (slice_index_or (map (rerouted_phase routes) bodies) phase NoStmts) [] q)
-  phases_numbers routes [] phase q = λ fit. tt
-  phases_numbers routes (body ∷ bodies) zero q = phase_numbers routes body q
-  phases_numbers routes (body ∷ bodies) (suc phase) q = phases_numbers routes bodies phase q
-
--- words that fit do so by other routes
-rerouted_words_fit : (routes : List Route) (w : PlainWordProgram) → WordsFit w → WordsFit (rerouted routes w)
-rerouted_words_fit routes w fit =
-    record {
-      fits = rerouted_fits routes w fit.fits;
-      quotients = fit.quotients;
-      modulus = fit.modulus;
-      numbers = λ phase q.
-          all_of_each (NumbersFit w.width w.frame.regs) (word_acts (word_code (rerouted routes w)) phase q)
-          (lists_have (rerouted routes w) (NumbersFit w.width w.frame.regs) (rerouted routes w).phases
-          (λ q lt phase. phases_numbers w (rerouted routes w).phases routes w.phases phase q
-          (subst (Each (NumbersFit w.width w.frame.regs)) (acts_are w w.phases phase q lt)
-          (each_of_all (NumbersFit w.width w.frame.regs) (word_acts (word_code w) phase q) (fit.numbers phase q)))) phase q);
-    }
+  -- words that fit do so by other routes
+  rerouted_words_fit : WordsFit w → WordsFit by_them
+  rerouted_words_fit fit =
+      record {
+        fits = rerouted_fits fit.fits;
+        quotients = fit.quotients;
+        modulus = fit.modulus;
+        numbers = lists_have by_them (All Fit) (All-nil Fit) numbers;
+      }
+    where
+      numbers : (phase q : ℕ) → q < w.frame.procs →
+          All Fit (word_actions_of_body by_them (slice_index_or by_them.phases phase NoStmts) [] q)
+      numbers phase q lt =
+          let here = acts_are w phase q lt ∙ body-acts w q (body_at phase) [] in
+          let after =
+          ap (λ b. word_actions_of_body by_them b [] q) (goes_there phase)
+          ∙ body-acts by_them q (goes_at phase) [] in
+          subst (All Fit) (sym after)
+          (pairwise-all (IsKept w by_them.phases q) (act_at w q) (act_at by_them q) Fit Fit
+          (λ one other keeps. keeps.numbers)
+          (leaves_of_body (body_at phase) []) (leaves_of_body (goes_at phase) []) (kept phase q)
+          (subst (All Fit) here (fit.numbers phase q)))
 
 -- and so in place
 pub in_place_fits : (p : PlainProgram) (words : PlainWordProgram) → WordsFit words → WordsFit (in_place p words)
 in_place_fits p words fit = rerouted_words_fit (routes_of p p.phases) words fit
 
 -- and its processors share no line: there is one alone, or nothing has changed
-pub in_place_apart : (z : Laziness) (p : PlainProgram) → ((phase : ℕ) → IsApart (plain_code p) phase) → (phase : ℕ) → IsApart (under (word_code (in_place p (quickened z p)))) phase
+pub in_place_apart : (z : Laziness) (p : PlainProgram) → ((phase : ℕ) → IsApart (plain_code p) phase) → (phase : ℕ) →
+    IsApart (under (word_code (in_place p (quickened z p)))) phase
 in_place_apart z p apart phase = ⊎_elim stays goes (stays_or_goes p p.phases)
   where
     stays : routes_of p p.phases ≡ [] → IsApart (under (word_code (in_place p (quickened z p)))) phase

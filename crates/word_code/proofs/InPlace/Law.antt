@@ -1,7 +1,6 @@
 -- The law of passes in place.
 use Rattle.std.proofs.Common.{◌≡◌, ℕ, ◌+◌, ◌*◌, ◌-◌, ◌≤◌, ◌⊎◌, List, [], ◌∷◌, ◌++◌, Bool, true, false, ◌&&◌, All}
 use Rattle.std.proofs.Common.{length, map, replicate, inl, inr, refl, sym, ap, ◌∙◌, subst, arith, ⊎_elim, length-append}
-use Rattle.std.proofs.Common.{div-add-mod', mod-lt}
 use Rattle.std.specs.Prelude.{◌==◌, if◌then◌else◌, slice_index_or}
 use Rattle.std.specs.List.{range_with_len}
 use Rattle.std.proofs.lemmas.Bool.{eqb-true}
@@ -21,6 +20,7 @@ use Rattle.word_code.specs.InPlace.Laws.{LeavesAlike, InPlaceLeavesTheSame}
 use Rattle.word_code.specs.InPlace.Routes.{rerouted_phase, rerouted}
 use Rattle.word_code.specs.InPlace.View.{BodyFits}
 use Rattle.word_code.proofs.InPlace.Effects.{effects_alike}
+use Rattle.word_code.proofs.Simulation.{size_within}
 use Rattle.word_code.proofs.OneProcessor.{word_effects, start_alone, results_alone}
 use Rattle.word_code.proofs.InPlace.Pairing.{chosen_reach, phase_pairs}
 use Rattle.word_code.proofs.InPlace.Standing.{stands_first, stands_read}
@@ -35,7 +35,8 @@ pub record Goes (p : PlainProgram) (phases : List PlainBody) : Type 0 where
   may : may_go p body (chosen body) ≡ true
   routes : routes_of p phases ≡ chosen body
 
-goes_by : (p : PlainProgram) (body : PlainBody) (test : Bool) → ((p.procs == 1) && ((are_loops body && are_full body) && may_go p body (chosen body))) ≡ test →
+goes_by : (p : PlainProgram) (body : PlainBody) (test : Bool) →
+    ((p.procs == 1) && ((are_loops body && are_full body) && may_go p body (chosen body))) ≡ test →
     (routes_of p (body ∷ []) ≡ []) ⊎ Goes p (body ∷ [])
 goes_by p body false e = inl (ap (λ (b : Bool). if b then chosen body else []) e)
 goes_by p body true e =
@@ -61,14 +62,17 @@ no_routes z p =
 
 -- One phase of one processor
 
-one_list : (w : PlainWordProgram) (body : WordBody) (bodies : List WordBody) (procs : ℕ) → bodies ≡ body ∷ [] → procs ≡ 1 →
-    map (λ body. map (λ q. word_actions_of_body w body [] q) (range_with_len 0 procs)) bodies ≡ (word_actions_of_body w body [] 0 ∷ []) ∷ []
+one_list : (w : PlainWordProgram) (body : WordBody) (bodies : List WordBody) (procs : ℕ) → bodies ≡ body ∷ [] →
+    procs ≡ 1 →
+    map (λ body. map (λ q. word_actions_of_body w body [] q) (range_with_len 0 procs)) bodies
+    ≡ (word_actions_of_body w body [] 0 ∷ []) ∷ []
 one_list w body bodies procs only alone =
     ap (λ n. map (λ body. map (λ q. word_actions_of_body w body [] q) (range_with_len 0 n)) bodies) alone
     ∙ ap (map (λ body. map (λ q. word_actions_of_body w body [] q) (range_with_len 0 1))) only
 
 -- the only phase of the only processor on words
-one_phase : (z : Laziness) (h : Header) (procs : ℕ) (phases : List PlainBody) (body : PlainBody) → phases ≡ body ∷ [] → procs ≡ 1 →
+one_phase : (z : Laziness) (h : Header) (procs : ℕ) (phases : List PlainBody) (body : PlainBody) → phases ≡ body ∷ [] →
+    procs ≡ 1 →
     quick_phases z h procs phases ≡ (quick_alone z h body (loosest z h)).body ∷ []
 one_phase z h procs phases body only alone = ap (quick_phases z h procs) only ∙ ap (λ n. quick_phases z h n (body ∷ [])) alone
 
@@ -79,20 +83,9 @@ start_long words size x le =
     let zeros = length-replicate {A = ℕ} (4 * words - size) 0 in
     omega (arith, le, both, zeros)
 
-second_array : (words size : ℕ) → size ≤ words → words + size ≤ 4 * words
-second_array words size le = omega (arith, le)
-
-whole_at_least : (size line : ℕ) → 1 ≤ line → size ≤ whole_lines size line
-whole_at_least size line pos =
-    let whole = div-add-mod' (size + (line - 1)) line in
-    let small = mod-lt (size + (line - 1)) pos in
-    omega (arith, whole, small)
-
-phase_fits : (p : PlainProgram) (phases : List PlainBody) (body : PlainBody) → phases ≡ body ∷ [] → All (StepFits p) (steps_of_body p (slice_index_or phases 0 NoStmts) [] 0) → BodyFits p body []
-phase_fits p phases body only fits = subst (λ phases. All (StepFits p) (steps_of_body p (slice_index_or phases 0 NoStmts) [] 0)) only fits
-
 -- by its chosen routes the program leaves what it left
-goes_alike : (z : Laziness) (p : PlainProgram) (g : Goes p p.phases) → PlainFits p → 1 ≤ p.line → LeavesAlike (rerouted (chosen g.body) (quickened z p)) (quickened z p)
+goes_alike : (z : Laziness) (p : PlainProgram) (g : Goes p p.phases) → PlainFits p → 1 ≤ p.line →
+    LeavesAlike (rerouted (chosen g.body) (quickened z p)) (quickened z p)
 goes_alike z p g fits line x turns long =
     let words = whole_lines p.size p.line in
     let routes = chosen g.body in
@@ -110,12 +103,14 @@ goes_alike z p g fits line x turns long =
     let at_start = own_homes (4 * words) in
     let at_end = homes_after_all p.lanes accesses at_start in
     let s : Local = start_alone (word_code one) x in
-    let fitting : BodyFits p g.body [] = phase_fits p p.phases g.body g.only (fits.each 0 0 (let a = g.alone in omega (arith, a))) in
+    let fitting : BodyFits p g.body [] =
+    subst (λ phases. All (StepFits p) (steps_of_body p (slice_index_or phases 0 NoStmts) [] 0)) g.only
+    (fits.each 0 0 (let a = g.alone in omega (arith, a))) in
     let pairs = phase_pairs z p routes routes g.body (loosest z (header_of p)) (chosen_reach g.body) fitting in
     let found = both_true (are_right p.lanes accesses at_start) _ g.may in
     let first = stands_first (4 * words) s.memory (start_long words p.size x long) in
     let last = effects_alike z.width p.modulus p.lanes (4 * words) fs gs accesses at_start s.memory s.memory s.registers pairs found.0 first in
-    let inside = second_array words p.size (whole_at_least p.size p.line line) in
+    let inside : words + p.size ≤ 4 * words = let le = size_within p.size p.line line in omega (arith, le) in
     let after : List WordAction → Local = λ actions. word_effects z.width p.modulus p.lanes actions s in
     results_alone (word_code other) gs g.alone other_lists x turns
     ∙ sym (stands_read (4 * words) p.size words words at_end (after fs).memory (after gs).memory inside inside found.1 last)
@@ -131,7 +126,8 @@ in_place_is_same z p fits line = ⊎_elim stays goes (stays_or_goes p p.phases)
     goes : Goes p p.phases → LeavesAlike (in_place p (quickened z p)) (quickened z p)
     goes g = subst (λ routes. LeavesAlike (rerouted routes (quickened z p)) (quickened z p)) (sym g.routes) (goes_alike z p g fits line)
 
-pub alike_from : (z : Laziness) (p : PlainProgram) (words made : PlainWordProgram) → PlainFits p → 1 ≤ p.line → made ≡ in_place p words → words ≡ quickened z p → LeavesAlike made words
+pub alike_from : (z : Laziness) (p : PlainProgram) (words made : PlainWordProgram) → PlainFits p → 1 ≤ p.line →
+    made ≡ in_place p words → words ≡ quickened z p → LeavesAlike made words
 alike_from z p words made fits line is quick =
     subst (λ made. LeavesAlike made words) (sym is)
     (subst (λ words. LeavesAlike (in_place p words) words) (sym quick) (in_place_is_same z p fits line))

@@ -24,11 +24,12 @@ use Rattle.word_code.specs.InPlace.Accesses.{accesses_of_phase}
 use Rattle.word_code.specs.InPlace.Choice.{chosen}
 use Rattle.word_code.specs.InPlace.Routes.{rerouted_op, rerouted_stmt, rerouted_body, rerouted_phase, rerouted}
 use Rattle.word_code.specs.InPlace.View.{StmtFits, BodyFits}
-use Rattle.word_code.proofs.InPlace.Joined.{all_front, all_back}
+use Rattle.fast_loops.proofs.TwoTables.Listed.{all-left, all-right}
 use Rattle.word_code.proofs.InPlace.Pairs.{IsInner, IsTouchPair, ArePairs, pairs-append, stored}
 
 -- what lies in an array lies in the memory
-inside_memory : (words at lanes : ℕ) (array : Array) → at + lanes ≤ words → array_start words array + at + lanes ≤ 4 * words
+inside_memory : (words at lanes : ℕ) (array : Array) → at + lanes ≤ words →
+    array_start words array + at + lanes ≤ 4 * words
 inside_memory words at lanes X le = omega (arith, le)
 inside_memory words at lanes Y le = omega (arith, le)
 inside_memory words at lanes A le = omega (arith, le)
@@ -65,7 +66,8 @@ module _ (z : Laziness) (p : PlainProgram) (all : List Route) where
   own_pair : (f : WordAction) → IsInner f.action → Alike (f ∷ []) (f ∷ []) []
   own_pair f inner = ([], [], refl, inl (record { same = refl; inner = inner; none = refl }), refl)
 
-  touch_pair : (act : ℕ → ℕ → Action) (access : ℕ → ℕ → Access) (f : WordAction) (register at : ℕ) (array target : Array) → f.action ≡ act register (array_start words array + at) → at + p.lanes ≤ words →
+  touch_pair : (act : ℕ → ℕ → Action) (access : ℕ → ℕ → Access) (f : WordAction) (register at : ℕ)
+      (array target : Array) → f.action ≡ act register (array_start words array + at) → at + p.lanes ≤ words →
       IsTouchPair act access p.lanes span_of f (record f { action = act register (array_start words target + at) }) (access (array_start words array + at) (array_start words target + at) ∷ [])
   touch_pair act access f register at array target acts inside =
       record {
@@ -80,7 +82,8 @@ module _ (z : Laziness) (p : PlainProgram) (all : List Route) where
       }
 
   op_pairs : (route : Route) (note : Note) (op : PlainOp) (vs : List ℕ) → StepFits p (step_of p op vs 0) →
-      Alike (word_action_of words_of note op vs 0 ∷ []) (word_action_of other_of note (rerouted_op route op) vs 0 ∷ []) (accesses_of p route op vs)
+      Alike (word_action_of words_of note op vs 0 ∷ []) (word_action_of other_of note (rerouted_op route op) vs 0 ∷ [])
+      (accesses_of p route op vs)
   op_pairs route note (Load register array place) vs fits =
       let load = word_action_of words_of note (Load register array place) vs 0 in
       let pair = touch_pair action.Load Reads load register (sum_numbers place vs 0).value array route.source refl fits.place in
@@ -98,17 +101,20 @@ module _ (z : Laziness) (p : PlainProgram) (all : List Route) where
   op_pairs route note (Tile r x) vs fits = own_pair (word_action_of words_of note (Tile r x) vs 0) tt
 
   -- the turns of a loop
-  turns_pairs : (f g : ℕ → List WordAction) (a : ℕ → List Access) (s : ℕ → List Step) → ((i : ℕ) → All (StepFits p) (s i) → Alike (f i) (g i) (a i)) → (is : List ℕ) → All (StepFits p) (flat_map s is) →
+  turns_pairs : (f g : ℕ → List WordAction) (a : ℕ → List Access) (s : ℕ → List Step) →
+      ((i : ℕ) → All (StepFits p) (s i) → Alike (f i) (g i) (a i)) → (is : List ℕ) → All (StepFits p) (flat_map s is) →
       Alike (flat_map f is) (flat_map g is) (flat_map a is)
   turns_pairs f g a s each [] fits = refl
   turns_pairs f g a s each (i ∷ is) fits =
       pairs-append p.lanes span_of (f i) (g i) (flat_map f is) (flat_map g is) (a i) (flat_map a is)
-      (each i (all_front (StepFits p) (s i) (flat_map s is) fits))
-      (turns_pairs f g a s each is (all_back (StepFits p) (s i) (flat_map s is) fits))
+      (each i (all-left (StepFits p) (s i) (flat_map s is) fits))
+      (turns_pairs f g a s each is (all-right (StepFits p) (s i) (flat_map s is) fits))
 
   mutual
     stmt_pairs : (y : Laziness) (route : Route) (stmt : PlainStmt) (bounds vs : List ℕ) → StmtFits p stmt vs →
-        Alike (word_actions_of_stmt words_of (quick_stmt y (header_of p) stmt bounds).stmt vs 0) (word_actions_of_stmt other_of (rerouted_stmt route (quick_stmt y (header_of p) stmt bounds).stmt) vs 0) (accesses_of_stmt p route stmt vs)
+        Alike (word_actions_of_stmt words_of (quick_stmt y (header_of p) stmt bounds).stmt vs 0)
+        (word_actions_of_stmt other_of (rerouted_stmt route (quick_stmt y (header_of p) stmt bounds).stmt) vs 0)
+        (accesses_of_stmt p route stmt vs)
     stmt_pairs y route (plain.Loop count body) bounds vs fits =
         let quick = (quick_body y (header_of p) body (loosest y (header_of p))).body in
         turns_pairs
@@ -121,7 +127,9 @@ module _ (z : Laziness) (p : PlainProgram) (all : List Route) where
     stmt_pairs y route (plain.Do op) bounds vs fits = op_pairs route _ op vs (All-head (StepFits p) (step_of p op vs 0) [] fits)
 
     body_pairs : (y : Laziness) (route : Route) (body : PlainBody) (bounds vs : List ℕ) → BodyFits p body vs →
-        Alike (word_actions_of_body words_of (quick_body y (header_of p) body bounds).body vs 0) (word_actions_of_body other_of (rerouted_body route (quick_body y (header_of p) body bounds).body) vs 0) (accesses_of_body p route body vs)
+        Alike (word_actions_of_body words_of (quick_body y (header_of p) body bounds).body vs 0)
+        (word_actions_of_body other_of (rerouted_body route (quick_body y (header_of p) body bounds).body) vs 0)
+        (accesses_of_body p route body vs)
     body_pairs y route plain.NoStmts bounds vs fits = refl
     body_pairs y route (plain.AndStmts stmt rest) bounds vs fits =
         let one = quick_stmt y (header_of p) stmt bounds in
@@ -129,11 +137,16 @@ module _ (z : Laziness) (p : PlainProgram) (all : List Route) where
         pairs-append p.lanes span_of (word_actions_of_stmt words_of one.stmt vs 0) (word_actions_of_stmt other_of (rerouted_stmt route one.stmt) vs 0)
         (word_actions_of_body words_of after vs 0) (word_actions_of_body other_of (rerouted_body route after) vs 0)
         (accesses_of_stmt p route stmt vs) (accesses_of_body p route rest vs)
-        (stmt_pairs y route stmt bounds vs (all_front (StepFits p) (steps_of_stmt p stmt vs 0) (steps_of_body p rest vs 0) fits))
-        (body_pairs y route rest one.bounds vs (all_back (StepFits p) (steps_of_stmt p stmt vs 0) (steps_of_body p rest vs 0) fits))
+        (stmt_pairs y route stmt bounds vs (all-left (StepFits p) (steps_of_stmt p stmt vs 0)
+        (steps_of_body p rest vs 0) fits))
+        (body_pairs y route rest one.bounds vs (all-right (StepFits p) (steps_of_stmt p stmt vs 0)
+        (steps_of_body p rest vs 0) fits))
 
-  pub phase_pairs : (routes : List Route) (body : PlainBody) (bounds : List ℕ) → ReachAll routes body → BodyFits p body [] →
-      Alike (word_actions_of_body words_of (quick_alone z (header_of p) body bounds).body [] 0) (word_actions_of_body other_of (rerouted_phase routes (quick_alone z (header_of p) body bounds).body) [] 0) (accesses_of_phase p routes body)
+  pub phase_pairs : (routes : List Route) (body : PlainBody) (bounds : List ℕ) → ReachAll routes body →
+      BodyFits p body [] →
+      Alike (word_actions_of_body words_of (quick_alone z (header_of p) body bounds).body [] 0)
+      (word_actions_of_body other_of (rerouted_phase routes (quick_alone z (header_of p) body bounds).body) [] 0)
+      (accesses_of_phase p routes body)
   phase_pairs [] plain.NoStmts bounds reach fits = refl
   phase_pairs [] (plain.AndStmts stmt rest) bounds reach fits = absurd reach
   phase_pairs (route ∷ routes) plain.NoStmts bounds reach fits = absurd reach
@@ -144,5 +157,7 @@ module _ (z : Laziness) (p : PlainProgram) (all : List Route) where
       pairs-append p.lanes span_of (word_actions_of_stmt words_of one.stmt [] 0) (word_actions_of_stmt other_of (rerouted_stmt route one.stmt) [] 0)
       (word_actions_of_body words_of after [] 0) (word_actions_of_body other_of (rerouted_phase routes after) [] 0)
       (accesses_of_stmt p route stmt []) (accesses_of_phase p routes rest)
-      (stmt_pairs y route stmt bounds [] (all_front (StepFits p) (steps_of_stmt p stmt [] 0) (steps_of_body p rest [] 0) fits))
-      (phase_pairs routes rest one.bounds reach (all_back (StepFits p) (steps_of_stmt p stmt [] 0) (steps_of_body p rest [] 0) fits))
+      (stmt_pairs y route stmt bounds [] (all-left (StepFits p) (steps_of_stmt p stmt [] 0) (steps_of_body p rest [] 0)
+      fits))
+      (phase_pairs routes rest one.bounds reach (all-right (StepFits p) (steps_of_stmt p stmt [] 0)
+      (steps_of_body p rest [] 0) fits))

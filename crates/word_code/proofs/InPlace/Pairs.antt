@@ -48,7 +48,8 @@ ArePairs lanes words [] (g ∷ gs) accesses = ⊥
 ArePairs lanes words (f ∷ fs) [] accesses = ⊥
 
 -- pairs behind pairs
-pub pairs-append : (lanes words : ℕ) (fs gs fs2 gs2 : List WordAction) (xs ys : List Access) → ArePairs lanes words fs gs xs → ArePairs lanes words fs2 gs2 ys →
+pub pairs-append : (lanes words : ℕ) (fs gs fs2 gs2 : List WordAction) (xs ys : List Access) →
+    ArePairs lanes words fs gs xs → ArePairs lanes words fs2 gs2 ys →
     ArePairs lanes words (fs ++ fs2) (gs ++ gs2) (xs ++ ys)
 pairs-append lanes words [] [] fs2 gs2 xs ys none others = subst (λ zs. ArePairs lanes words fs2 gs2 (zs ++ ys)) (sym none) others
 pairs-append lanes words [] (g ∷ gs) fs2 gs2 xs ys none others = absurd none

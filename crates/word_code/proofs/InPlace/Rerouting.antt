@@ -2,14 +2,16 @@
 use Rattle.std.proofs.Common.{◌≡◌, ℕ, zero, suc, ◌+◌, ◌<◌, ◌≤◌, List, [], ◌∷◌, length, take, map, get_or, refl, sym, ap}
 use Rattle.std.proofs.Common.{◌∙◌, arith, add-one, length-set}
 use Rattle.std.specs.Prelude.{slice_set, min}
-use Rattle.std.proofs.lemmas.List.{length-map}
+use Rattle.std.proofs.Math.ListN.{get_or-map}
+use Rattle.std.proofs.lemmas.List.{length-map, map-set}
 use Rattle.word_code.specs.declared.program.WordStmt.{WordStmt}
 use Rattle.word_code.specs.WordProgram as plain
 use Rattle.word_code.specs.View.{word_body_of, plain_word_stmt, plain_word_body}
 use Rattle.word_code.specs.declared.in_place.routes.Route.{Route}
 use Rattle.word_code.specs.InPlace.Routes.{rerouted_stmt, rerouted_body, rerouted_phase}
 
-pub body-map : (route : Route) (stmts : List plain.WordStmt) → rerouted_body route (word_body_of stmts) ≡ word_body_of (map (rerouted_stmt route) stmts)
+pub body-map : (route : Route) (stmts : List plain.WordStmt) →
+    rerouted_body route (word_body_of stmts) ≡ word_body_of (map (rerouted_stmt route) stmts)
 body-map route [] = refl
 body-map route (stmt ∷ rest) = ap (plain.AndStmts (rerouted_stmt route stmt)) (body-map route rest)
 
@@ -19,7 +21,8 @@ abbrev pub each_rerouted : List Route → List plain.WordStmt → List plain.Wor
 each_rerouted (route ∷ routes) (stmt ∷ rest) = rerouted_stmt route stmt ∷ each_rerouted routes rest
 each_rerouted routes stmts = stmts
 
-phase-each : (routes : List Route) (stmts : List plain.WordStmt) → rerouted_phase routes (word_body_of stmts) ≡ word_body_of (each_rerouted routes stmts)
+phase-each : (routes : List Route) (stmts : List plain.WordStmt) →
+    rerouted_phase routes (word_body_of stmts) ≡ word_body_of (each_rerouted routes stmts)
 phase-each [] [] = refl
 phase-each [] (stmt ∷ rest) = refl
 phase-each (route ∷ routes) [] = refl
@@ -29,9 +32,11 @@ each-none : (stmts : List plain.WordStmt) → each_rerouted [] stmts ≡ stmts
 each-none [] = refl
 each-none (stmt ∷ rest) = refl
 
-one-more : (routes : List Route) (stmts : List plain.WordStmt) (i : ℕ) (other : Route) (stmt : plain.WordStmt) → i < length routes → i < length stmts
+one-more : (routes : List Route) (stmts : List plain.WordStmt) (i : ℕ) (other : Route) (stmt : plain.WordStmt) →
+    i < length routes → i < length stmts
     → stmt ≡ get_or (each_rerouted (take i routes) stmts) i stmt
-    → slice_set (each_rerouted (take i routes) stmts) i (rerouted_stmt (get_or routes i other) stmt) ≡ each_rerouted (take (suc i) routes) stmts
+    → slice_set (each_rerouted (take i routes) stmts) i (rerouted_stmt (get_or routes i other) stmt)
+    ≡ each_rerouted (take (suc i) routes) stmts
 one-more [] stmts i other stmt short lt is = absurd (omega arith)
 one-more (first ∷ routes) [] i other stmt short lt is = absurd (omega arith)
 one-more (first ∷ routes) (x ∷ rest) zero other stmt short lt is =
@@ -51,16 +56,6 @@ all-of-them (route ∷ routes) [] i le = each-short (take i (route ∷ routes))
 all-of-them (route ∷ routes) (stmt ∷ rest) zero le = absurd (omega arith)
 all-of-them (route ∷ routes) (stmt ∷ rest) (suc i) le = ap (λ ss. rerouted_stmt route stmt ∷ ss) (all-of-them routes rest i (omega arith))
 
-map-set : (stmts : List WordStmt) (i : ℕ) (stmt : WordStmt) → map plain_word_stmt (slice_set stmts i stmt) ≡ slice_set (map plain_word_stmt stmts) i (plain_word_stmt stmt)
-map-set [] i stmt = refl
-map-set (x ∷ rest) zero stmt = refl
-map-set (x ∷ rest) (suc i) stmt = ap (λ ss. plain_word_stmt x ∷ ss) (map-set rest i stmt)
-
-get-map : (stmts : List WordStmt) (i : ℕ) (stmt : WordStmt) → stmt ≡ get_or stmts i stmt → plain_word_stmt stmt ≡ get_or (map plain_word_stmt stmts) i (plain_word_stmt stmt)
-get-map [] i stmt is = refl
-get-map (x ∷ rest) zero stmt is = ap plain_word_stmt is
-get-map (x ∷ rest) (suc i) stmt is = get-map rest i stmt is
-
 -- so many statements go their routes, and the others are as they were
 pub record AreRerouted (routes : List Route) (i : ℕ) (old now : List WordStmt) : Type 0 where
   pub same : length now ≡ length old
@@ -69,25 +64,29 @@ pub record AreRerouted (routes : List Route) (i : ℕ) (old now : List WordStmt)
 pub rerouted-none : (routes : List Route) (old : List WordStmt) → AreRerouted routes 0 old old
 rerouted-none routes old = record { same = refl; so_far = sym (each-none (map plain_word_stmt old)) }
 
-pub rerouted-more : (routes : List Route) (i : ℕ) (old now : List WordStmt) (other : Route) (x y : WordStmt) → i < length routes → i < length now
-    → x ≡ get_or now i x → plain_word_stmt y ≡ rerouted_stmt (get_or routes i other) (plain_word_stmt (get_or now i x)) → AreRerouted routes i old now
+pub rerouted-more : (routes : List Route) (i : ℕ) (old now : List WordStmt) (other : Route) (x y : WordStmt) →
+    i < length routes → i < length now
+    → x ≡ get_or now i x → plain_word_stmt y ≡ rerouted_stmt (get_or routes i other)
+    (plain_word_stmt (get_or now i x)) → AreRerouted routes i old now
     → AreRerouted routes (i + 1) old (slice_set now i y)
 rerouted-more routes i old now other x y short lt is new h =
     let olds = map plain_word_stmt old in
     let route = get_or routes i other in
     let small : i < length olds = omega (arith, lt, h.same, length-map old plain_word_stmt) in
-    let seen = get-map now i x is ∙ ap (λ ss. get_or ss i (plain_word_stmt x)) h.so_far in
+    let seen = ap plain_word_stmt is ∙ sym (get_or-map plain_word_stmt now i x)
+    ∙ ap (λ ss. get_or ss i (plain_word_stmt x)) h.so_far in
     record {
       same = length-set now i y ∙ h.same;
       so_far =
-          map-set now i y
+          map-set plain_word_stmt now i y
           ∙ (ap (slice_set (map plain_word_stmt now) i) (new ∙ ap (λ s. rerouted_stmt route (plain_word_stmt s)) (sym is))
           ∙ (ap (λ ss. slice_set ss i (rerouted_stmt route (plain_word_stmt x))) h.so_far
           ∙ (one-more routes olds i other (plain_word_stmt x) short small seen
           ∙ ap (λ k. each_rerouted (take k routes) olds) (sym (add-one i)))));
     }
 
-pub rerouted-all : (routes : List Route) (i : ℕ) (old now : List WordStmt) → min (length routes) (length old) ≤ i → AreRerouted routes i old now
+pub rerouted-all : (routes : List Route) (i : ℕ) (old now : List WordStmt) → min (length routes) (length old) ≤ i →
+    AreRerouted routes i old now
     → plain_word_body now ≡ rerouted_phase routes (plain_word_body old)
 rerouted-all routes i old now le h =
     let olds = map plain_word_stmt old in

@@ -56,19 +56,22 @@ stands_put words at to v h one other inside inside_too stands =
     guest : slice_index (slice_set h.guests to at) to ≡ at
     guest = get_or-set_same h.guests to at 0 (let a = stands.guests in omega arith)
 
-    here : (p q : ℕ) → p ≡ at → slice_index (slice_set h.homes at to) p ≡ q → slice_index (slice_set one at v) p ≡ slice_index (slice_set other to v) q
+    here : (p q : ℕ) → p ≡ at → slice_index (slice_set h.homes at to) p ≡ q →
+        slice_index (slice_set one at v) p ≡ slice_index (slice_set other to v) q
     here p q same there =
         let same_too : q ≡ to = sym there ∙ ap (slice_index (slice_set h.homes at to)) same ∙ home in
         ap (slice_index (slice_set one at v)) same ∙ at_it ∙ sym at_it_too ∙ sym (ap (slice_index (slice_set other to v)) same_too)
 
-    elsewhere : (p q : ℕ) → p < words → q < words → p ≢ at → q ≢ to → slice_index (slice_set h.homes at to) p ≡ q → slice_index (slice_set h.guests to at) q ≡ p →
+    elsewhere : (p q : ℕ) → p < words → q < words → p ≢ at → q ≢ to → slice_index (slice_set h.homes at to) p ≡ q →
+        slice_index (slice_set h.guests to at) q ≡ p →
         slice_index (slice_set one at v) p ≡ slice_index (slice_set other to v) q
     elsewhere p q below below_too apart apart_too there back =
         get_or-set_other one at p v 0 apart
         ∙ stands.linked p q below below_too (sym (get_or-set_other h.homes at p to 0 apart) ∙ there) (sym (get_or-set_other h.guests to q at 0 apart_too) ∙ back)
         ∙ sym (get_or-set_other other to q v 0 apart_too)
 
-    linked : (p q : ℕ) → p < words → q < words → slice_index (slice_set h.homes at to) p ≡ q → slice_index (slice_set h.guests to at) q ≡ p →
+    linked : (p q : ℕ) → p < words → q < words → slice_index (slice_set h.homes at to) p ≡ q →
+        slice_index (slice_set h.guests to at) q ≡ p →
         slice_index (slice_set one at v) p ≡ slice_index (slice_set other to v) q
     linked p q below below_too there back =
         ⊎_elim
@@ -79,7 +82,8 @@ stands_put words at to v h one other inside inside_too stands =
         (cases_eq p at)
 
 -- words are put there in both
-pub stands_housed : (words n at to : ℕ) (h : Homes) (one other vs : List ℕ) → at + n ≤ words → to + n ≤ words → length vs ≡ n → Stands words h one other →
+pub stands_housed : (words n at to : ℕ) (h : Homes) (one other vs : List ℕ) → at + n ≤ words → to + n ≤ words →
+    length vs ≡ n → Stands words h one other →
     Stands words (housed n at to h) (with_words one at vs) (with_words other to vs)
 stands_housed words zero at to h one other [] inside inside_too long stands = stands
 stands_housed words zero at to h one other (v ∷ vs) inside inside_too long stands = absurd (omega arith)
@@ -90,7 +94,8 @@ stands_housed words (suc n) at to h one other (v ∷ vs) inside inside_too long 
     (stands_put words at to v h one other (omega arith) (omega arith) stands)
 
 -- what is read where words are at home
-pub stands_read : (words n at to : ℕ) (h : Homes) (one other : List ℕ) → at + n ≤ words → to + n ≤ words → are_home h n at to ≡ true → Stands words h one other →
+pub stands_read : (words n at to : ℕ) (h : Homes) (one other : List ℕ) → at + n ≤ words → to + n ≤ words →
+    are_home h n at to ≡ true → Stands words h one other →
     words_at n one at ≡ words_at n other to
 stands_read words zero at to h one other inside inside_too right stands = refl
 stands_read words (suc n) at to h one other inside inside_too right stands =

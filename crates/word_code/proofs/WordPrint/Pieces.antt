@@ -4,9 +4,6 @@ use Rattle.listing_text.specs.Numbers.{numbered_text}
 use Rattle.word_code.specs.WordPrint.FunctionText.{each_from}
 use Rattle.word_code.specs.WordPrint.WordText.{becomes_text, sources_text, targets_text}
 
-pub two_pieces : (old a b : List ℕ) → (old ++ a) ++ b ≡ old ++ (a ++ b)
-two_pieces old a b = append_assoc old a b
-
 pub three_pieces : (old a b c : List ℕ) → ((old ++ a) ++ b) ++ c ≡ old ++ (a ++ b ++ c)
 three_pieces old a b c = simp append_assoc
 
@@ -25,18 +22,21 @@ pub pieces_between : (old a b c d : List ℕ) → (((old ++ a) ++ b) ++ c) ++ d 
 pieces_between old a b c d = simp append_assoc
 
 -- three pieces from nothing, one behind the other
-pub three_parts : (a b c start one two three : List ℕ) → start ≡ [] → one ≡ start ++ a → two ≡ one ++ b → three ≡ two ++ c
+pub three_parts : (a b c start one two three : List ℕ) → start ≡ [] → one ≡ start ++ a → two ≡ one ++ b →
+    three ≡ two ++ c
     → three ≡ a ++ b ++ c
 three_parts a b c start one two three nothing first second third =
     third ∙ ap (λ o. o ++ c) (second ∙ ap (λ o. o ++ b) (first ∙ ap (λ o. o ++ a) nothing))
 
-next_one : (text : ℕ → List ℕ) (count number : ℕ) → number < count → each_from text (count - number) number ≡ text number ++ each_from text (count - (number + 1)) (number + 1)
+next_one : (text : ℕ → List ℕ) (count number : ℕ) → number < count →
+    each_from text (count - number) number ≡ text number ++ each_from text (count - (number + 1)) (number + 1)
 next_one text count number lt =
     let k : count - number ≡ suc (count - (number + 1)) = omega (arith, lt) in
     ap (λ n. each_from text n number) k
 
 -- the text of one number more
-pub one_more : (text : ℕ → List ℕ) (out out' start : List ℕ) (count number : ℕ) → number < count → out ++ each_from text (count - number) number ≡ start
+pub one_more : (text : ℕ → List ℕ) (out out' start : List ℕ) (count number : ℕ) → number < count →
+    out ++ each_from text (count - number) number ≡ start
     → out' ≡ out ++ text number → out' ++ each_from text (count - (number + 1)) (number + 1) ≡ start
 one_more text out out' start count number lt so_far more =
     let rest = each_from text (count - (number + 1)) (number + 1) in
@@ -46,7 +46,8 @@ counted : (count : ℕ) → count ≢ 0 → count ≡ suc (count - 1)
 counted count some = omega (arith, some)
 
 -- one register more of those that a tile takes
-pub sources_on : (out out' : List ℕ) (count register : ℕ) → count ≢ 0 → out' ≡ out ++ numbered_text (codes "r") register (codes ",")
+pub sources_on : (out out' : List ℕ) (count register : ℕ) → count ≢ 0 →
+    out' ≡ out ++ numbered_text (codes "r") register (codes ",")
     → out' ++ sources_text (count - 1) (register + 1) ≡ out ++ sources_text count register
 sources_on out out' count register some more =
     let one = numbered_text (codes "r") register (codes ",") in
@@ -54,7 +55,8 @@ sources_on out out' count register some more =
     ap (λ o. o ++ rest) more ∙ append_assoc out one rest ∙ ap (λ n. out ++ sources_text n register) (sym (counted count some))
 
 -- and of those that it gives
-pub targets_on : (out out' out'' : List ℕ) (count register k : ℕ) → count ≢ 0 → out' ≡ out ++ becomes_text register → out'' ≡ out' ++ numbered_text (codes "b[") k (codes "]; ")
+pub targets_on : (out out' out'' : List ℕ) (count register k : ℕ) → count ≢ 0 → out' ≡ out ++ becomes_text register →
+    out'' ≡ out' ++ numbered_text (codes "b[") k (codes "]; ")
     → out'' ++ targets_text (count - 1) (register + 1) (k + 1) ≡ out ++ targets_text count register k
 targets_on out out' out'' count register k some first second =
     let one = becomes_text register in

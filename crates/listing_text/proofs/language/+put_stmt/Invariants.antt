@@ -9,7 +9,8 @@ abbrev pub invariant-loop-inner : goal.invariant-loop-inner
 invariant-loop-inner g l =
     let line = g.L.Language.wording.line in
     record {
-      text : l.out.items ++ (body_lines line (l.depth + 1) (plain_body (drop l.inner-index l.inner-items)) ++ line Close) ≡ l.fn.out.items ++ stmt_lines line l.depth (plain_stmt l.stmt);
+      text : l.out.items ++ (body_lines line (l.depth + 1) (plain_body (drop l.inner-index l.inner-items))
+          ++ line Close) ≡ l.fn.out.items ++ stmt_lines line l.depth (plain_stmt l.stmt);
       nests : IsTrue (are_nests_within (plain_body (drop l.inner-index l.inner-items)) (l.depth + 1));
       deep : l.depth < 64;
     }

@@ -9,6 +9,7 @@ abbrev pub invariant-loop-stmt : goal.invariant-loop-stmt
 invariant-loop-stmt g l =
     let line = g.L.Language.wording.line in
     record {
-      text : l.out.items ++ body_lines line 0 (plain_body (drop l.stmt-index l.body)) ≡ l.fn.out.items ++ body_lines line 0 (plain_body l.body);
+      text : l.out.items ++ body_lines line 0 (plain_body (drop l.stmt-index l.body)) ≡ l.fn.out.items
+          ++ body_lines line 0 (plain_body l.body);
       nests : IsTrue (are_nests_within (plain_body (drop l.stmt-index l.body)) 0);
     }

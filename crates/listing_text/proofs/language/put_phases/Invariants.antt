@@ -10,6 +10,7 @@ abbrev pub invariant-loop-number : goal.invariant-loop-number
 invariant-loop-number g l =
     let w = g.L.Language.wording in
     record {
-      text : l.out.items ++ phases_text w l.regs l.number (plain_phases (drop l.number l.phases)) ≡ l.fn.out.items ++ phases_text w l.regs 0 (plain_phases l.phases);
+      text : l.out.items ++ phases_text w l.regs l.number (plain_phases (drop l.number l.phases)) ≡ l.fn.out.items
+          ++ phases_text w l.regs 0 (plain_phases l.phases);
       nests : IsTrue (list_all (λ body. are_nests_within body 0) (plain_phases (drop l.number l.phases)));
     }

@@ -7,7 +7,8 @@ abbrev pub invariant-loop-cut : goal.invariant-loop-cut
 invariant-loop-cut g l =
     let next = step g.L.Language.wording g.L.Language.grammar in
     record {
-      so_far : later l.lines (read_lines next finish (progress_or_none l.progress) [] l.rest) ≡ read_lines next finish None [] l.fn.text;
+      so_far : later l.lines (read_lines next finish (progress_or_none l.progress) [] l.rest)
+          ≡ read_lines next finish None [] l.fn.text;
       within : l.lines + length l.rest ≤ length l.fn.text;
     }
 

@@ -1,20 +1,21 @@
-use Rattle.std.proofs.Common.{◌≡◌, ◌+◌, List, ap, sym, ◌∙◌, subst, arith, rules, true}
+use Rattle.std.proofs.Common.{◌≡◌, ◌+◌, List, refl, ap, sym, ◌∙◌, subst, arith, rules, true}
 use Rattle.std.proofs.lemmas.Grind.{common_steps}
 use Rattle.icode.specs.declared.program.Stmt.{Stmt, the_lemmas}
 use Rattle.icode.specs.Plain.{Loop, plain_stmt, plain_body}
 use Rattle.icode.specs.Limits.{is_body_within}
 use Rattle.icode.proofs.Views.{plain_stmt-Loop}
-use Rattle.word_code.specs.Quicken.{loosest}
+use Rattle.code_check.proofs.Walking.{within_loop}
+use Rattle.word_code.specs.Quicken.{loosest, quick_stmt, quick_body}
 use Rattle.word_code.specs.Setting.{AreBoundsWithin, header_in}
 use Rattle.word_code.specs.View.{lazy_of}
-use Rattle.word_code.proofs.Emitting.{IsQuickBody, quick_more, loop_parts, item_within, take_whole, loop_made}
-use Rattle.word_code.proofs.Emitting.{stmt_sane}
+use Rattle.word_code.proofs.Emitting.{made-more, item_within, loop_made, stmt_sane}
 use Rattle.word_code.proofs.quicken.+quicken_stmt.Goals as goal
 
 pub quicken_stmt-requires : goal.quicken_stmt-requires
 quicken_stmt-requires t c =
     let is : plain_stmt c.args.stmt.now ≡ Loop c.in-Loop.count (plain_body c.in-Loop.body.items) = ap plain_stmt c.in-Loop.is ∙ plain_stmt-Loop c.in-Loop.count c.in-Loop.body in
-    let parts = loop_parts c.args.setting.modulus c.args.depth c.in-Loop.count (plain_body c.in-Loop.body.items) (plain_stmt c.args.stmt.now) is c.requires.within in
+    let parts = within_loop c.args.setting.modulus c.args.depth c.in-Loop.count (plain_body c.in-Loop.body.items)
+    (plain_stmt c.args.stmt.now) is c.requires.within in
     let items = c.deref-inner-items.ensures.value in
     let d = c.decreases in
     let w = c.in-Loop.is in (
@@ -33,11 +34,17 @@ loop-inner-preserved t c =
     let ends = c.in_ok-inner-in-Loop.ensures.after in
     record {
       is =
-          quick_more z h c.loop-inner.inner-index c.deref-inner-items.result.now c.inner-item.result (loosest z h) c.loop-inner.made.items c.push.new.self.items c.in_ok-inner-in-Loop.inner
-          c.loop-inner.bounds c.quicken_stmt.new.bounds (omega arith) c.inner-item.is c.loop-inner.invariant.is c.in_ok-inner-in-Loop.ensures.stmt ends c.in_ok-push-in-Loop.ensures.items;
+          made-more (quick_body z h) c.loop-inner.inner-index c.deref-inner-items.result.now (loosest z h)
+          c.inner-item.result
+          (quick_stmt z h (plain_stmt c.inner-item.result) c.loop-inner.bounds) c.loop-inner.made.items
+          c.push.new.self.items
+          c.in_ok-inner-in-Loop.inner c.loop-inner.bounds c.quicken_stmt.new.bounds (omega arith) c.inner-item.is refl
+          c.loop-inner.invariant.is c.in_ok-inner-in-Loop.ensures.stmt ends c.in_ok-push-in-Loop.ensures.items;
       sane =
           subst (AreBoundsWithin c.args.setting) (sym ends)
-          (stmt_sane z h (plain_stmt c.inner-item.result) c.loop-inner.bounds c.requires.setting.some c.requires.setting.keep_a c.requires.setting.keep_b c.requires.setting.product c.loop-inner.invariant.sane);
+          (stmt_sane z c.requires.setting.some c.requires.setting.keep_a c.requires.setting.keep_b
+          c.requires.setting.product h
+          (plain_stmt c.inner-item.result) c.loop-inner.bounds c.loop-inner.invariant.sane);
     }
 
 pub returns-after-loop-inner-clause-stmt : goal.returns-after-loop-inner-clause-stmt
@@ -45,6 +52,7 @@ returns-after-loop-inner-clause-stmt t c =
     let z = lazy_of c.args.setting.slack in
     let h = header_in c.args.setting in
     let is : plain_stmt c.args.stmt.now ≡ Loop c.in-Loop.count (plain_body c.in-Loop.body.items) = ap plain_stmt c.in-Loop.is ∙ plain_stmt-Loop c.in-Loop.count c.in-Loop.body in
-    let items = c.deref-inner-items.ensures.value in
-    let all = subst (λ (xs : List Stmt). IsQuickBody z h xs (loosest z h) c.loop-inner.made.items c.loop-inner.bounds) (take_whole c.loop-inner.inner-index c.deref-inner-items.result.now (omega arith) ∙ items) c.loop-inner.invariant.is in
-    loop_made z h c.in-Loop.count c.in-Loop.body.items c.args.stmt.now c.args.bounds.now c.loop-inner.made c.loop-inner.bounds is all
+    loop_made z h c.in-Loop.count c.loop-inner.inner-index c.in-Loop.body.items c.deref-inner-items.result.now
+    c.args.stmt.now
+    c.args.bounds.now c.loop-inner.made c.loop-inner.bounds is c.deref-inner-items.ensures.value (omega arith)
+    c.loop-inner.invariant.is

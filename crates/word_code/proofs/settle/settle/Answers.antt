@@ -29,8 +29,12 @@ loop-preserved c =
     let whole = settled_in s c.args.left c.args.right c.args.target c.args.bounds.now in
     record {
       goes =
-          turn s.modulus limit (2 * limit - c.loop.counter) (2 * limit - (c.loop.counter + 1)) c.args.left c.args.right c.args.target c.bound_of.result c.bound_of-in-loop.result c.greater_of-register.result c.bound_of-in-loop-2.result
-          c.loop.bounds c.put_bound.new.bounds c.loop.before.items c.push.new.self.items whole (omega arith) (omega arith) c.if-bound_of-target.false
-          c.bound_of.ensures c.bound_of-in-loop.ensures c.greater_of-register.ensures c.bound_of-in-loop-2.ensures c.put_bound.ensures c.in_ok-push.ensures.items c.loop.invariant.goes;
+          turn s.modulus limit (2 * limit - c.loop.counter) c.args.left c.args.right c.args.target c.bound_of.result
+          c.bound_of-in-loop.result c.greater_of-register.result c.bound_of-in-loop-2.result c.loop.bounds
+          c.put_bound.new.bounds (omega arith) c.if-bound_of-target.false c.bound_of.ensures c.bound_of-in-loop.ensures
+          c.greater_of-register.ensures c.bound_of-in-loop-2.ensures c.put_bound.ensures
+          (2 * limit - (c.loop.counter + 1))
+          c.loop.before.items c.push.new.self.items whole (omega arith) c.in_ok-push.ensures.items
+          c.loop.invariant.goes;
       sane = halved_sane limit c.greater_of-register.result c.bound_of-in-loop-2.result c.loop.bounds c.put_bound.new.bounds c.bound_of-in-loop-2.ensures c.put_bound.ensures c.loop.invariant.sane;
     }

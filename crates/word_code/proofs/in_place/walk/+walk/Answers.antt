@@ -1,12 +1,11 @@
-use Rattle.std.proofs.Common.{◌≡◌, ◌+◌, ◌++◌, ◌∷◌, [], List, ℕ, take, ap, sym, subst, refl, ◌∙◌, arith, rules}
+use Rattle.std.proofs.Common.{◌≡◌, ◌+◌, List, ℕ, take, ap, refl, ◌∙◌, arith, rules}
 use Rattle.std.proofs.lemmas.Grind.{common_steps}
-use Rattle.std.specs.Prelude.{slice_set}
 use Rattle.icode.specs.Plain.{PlainBody, Loop, plain_op, plain_stmt, plain_body}
 use Rattle.icode.specs.Limits.{is_body_within}
 use Rattle.icode.specs.Program.{plain_program}
 use Rattle.icode.specs.declared.program.Stmt.{the_lemmas}
 use Rattle.icode.proofs.Views.{plain_stmt-Loop, plain_stmt-Do}
-use Rattle.word_code.specs.InPlace.View.{homes_of, BodyFits}
+use Rattle.word_code.specs.InPlace.View.{homes_of}
 use Rattle.code_check.proofs.Walking.{within_loop, without_variable}
 use Rattle.word_code.proofs.InPlace.Walking.{item_within, item_fits, item_stops, item_goes_on, opened, turn_fits}
 use Rattle.word_code.proofs.InPlace.Walking.{turn_stops, turn_goes_on, op_fits}
@@ -16,7 +15,8 @@ pub walk_body-walk_stmt-requires : goal.walk_body-walk_stmt-requires
 walk_body-walk_stmt-requires t c =
     let p = plain_program c.args.program.now in
     let inv = c.loop-stmt.invariant in
-    let within = item_within p c.args.route c.args.body.now c.loop-stmt.stmt-index c.stmt-item.result _ (take c.args.depth c.loop-stmt.values) _ _ _ c.loop-stmt-test.true c.stmt-item.is inv.walk in
+    let within = item_within p c.args.route c.args.body.now c.loop-stmt.stmt-index c.stmt-item.result _ _ _ _ _
+    c.loop-stmt-test.true c.stmt-item.is inv.values inv.walk in
     let fits = item_fits p c.args.route c.args.body.now c.loop-stmt.stmt-index c.stmt-item.result _ _ _ _ _ c.loop-stmt-test.true c.stmt-item.is inv.values inv.walk in
     let d = c.decreases in
     let item = c.stmt-item.is in
@@ -32,8 +32,10 @@ pub walk_body-loop-stmt-preserved : goal.walk_body-loop-stmt-preserved
 walk_body-loop-stmt-preserved t c = record {
   values = c.if-not-walk_stmt.ensures.values ∙ c.loop-stmt.invariant.values;
   table = c.if-not-walk_stmt.ensures.table;
-  walk = item_goes_on (plain_program c.args.program.now) c.args.route c.args.body.now c.loop-stmt.stmt-index c.stmt-item.result _ _ _ _ _ _
-      c.loop-stmt-test.true c.stmt-item.is c.loop-stmt.invariant.values c.loop-stmt.invariant.walk c.if-not-walk_stmt.ensures.right (c.if-not-walk_stmt.ensures.after refl);
+  walk = item_goes_on (plain_program c.args.program.now) c.args.route c.args.body.now c.loop-stmt.stmt-index
+      c.stmt-item.result _ _ _ _ _
+      c.loop-stmt-test.true c.stmt-item.is c.loop-stmt.invariant.values c.loop-stmt.invariant.walk _
+      c.if-not-walk_stmt.ensures.right (c.if-not-walk_stmt.ensures.after refl);
 }
 
 pub walk_stmt-walk_body-requires : goal.walk_stmt-walk_body-requires
@@ -45,10 +47,11 @@ walk_stmt-walk_body-requires t c =
     let is : plain_stmt c.args.stmt.now ≡ Loop c.in-Loop.count body = ap plain_stmt c.in-Loop.is ∙ plain_stmt-Loop c.in-Loop.count c.in-Loop.body in
     let inner = within_loop p.modulus c.args.depth c.in-Loop.count body (plain_stmt c.args.stmt.now) is c.requires.within in
     let now = opened p.modulus c.args.depth c.in-Loop.count c.loop-turn.turn body (plain_stmt c.args.stmt.now) c.loop-turn.values c.args.values.now is c.requires.within inv.long inv.values in
-    let fits : BodyFits p body (vs ++ c.loop-turn.turn ∷ []) =
-    turn_fits p c.args.route (plain_stmt c.args.stmt.now) body vs c.loop-turn.turn c.in-Loop.count (homes_of c.loop-turn.table) (homes_of c.args.table.now) c.loop-turn-test.true inv.walk in
     let same : plain_body c.deref.result.now ≡ body = ap plain_body c.deref.ensures.value in
-    let fits_now : BodyFits p body (take (c.args.depth + 1) (slice_set c.loop-turn.values c.args.depth c.loop-turn.turn)) = subst (λ us. BodyFits p body us) (sym now) fits in
+    let fits =
+    turn_fits p c.args.route (plain_stmt c.args.stmt.now) body c.deref.result.now vs _ c.loop-turn.turn c.in-Loop.count
+    _ _ same now
+    c.loop-turn-test.true inv.walk in
     let d = c.decreases in
     let w = c.in-Loop.is in
     let items = c.deref.ensures.value in (
@@ -57,7 +60,7 @@ walk_stmt-walk_body-requires t c =
         ap (λ b. is_body_within p.modulus b (c.args.depth + 1)) same ∙ inner.1,
         (
           omega (arith, inner.0),
-          (subst (λ b. BodyFits p b (take (c.args.depth + 1) (slice_set c.loop-turn.values c.args.depth c.loop-turn.turn))) (sym same) fits_now, inv.table),
+          (fits, inv.table),
         ),
       ),
     )
@@ -86,8 +89,10 @@ walk_stmt-loop-turn-preserved t c =
       long = c.walk_body.array_long;
       values = without_variable c.walk_body.new.values c.loop-turn.values c.args.depth c.loop-turn.turn c.if-not-walk_body.ensures.values ∙ inv.values;
       table = c.if-not-walk_body.ensures.table;
-      walk = turn_goes_on p c.args.route (plain_stmt c.args.stmt.now) (plain_body c.in-Loop.body.items) c.deref.result.now _ _ c.loop-turn.turn c.in-Loop.count _ _ (homes_of c.walk_body.new.table)
-          (ap plain_body c.deref.ensures.value) now c.loop-turn-test.true inv.walk c.if-not-walk_body.ensures.right (c.if-not-walk_body.ensures.after refl);
+      walk = turn_goes_on p c.args.route (plain_stmt c.args.stmt.now) (plain_body c.in-Loop.body.items)
+          c.deref.result.now _ _ c.loop-turn.turn c.in-Loop.count _ _
+          (ap plain_body c.deref.ensures.value) now c.loop-turn-test.true inv.walk (homes_of c.walk_body.new.table)
+          c.if-not-walk_body.ensures.right (c.if-not-walk_body.ensures.after refl);
     }
 
 pub walk_stmt-visit-requires-clause-fits : goal.walk_stmt-visit-requires-clause-fits

@@ -10,7 +10,8 @@ abbrev pub invariant-walk_body-loop-stmt : goal.invariant-walk_body-loop-stmt
 invariant-walk_body-loop-stmt l = record {
   values : take l.depth l.values ≡ take l.depth l.fn.values;
   table : IsTable (span (plain_program l.program)) l.table;
-  walk : IsInBody (plain_program l.program) l.route (plain_body l.body) (plain_body (drop l.stmt-index l.body)) (take l.depth l.fn.values) l.depth (homes_of l.table) (homes_of l.fn.table);
+  walk : IsInBody (plain_program l.program) l.route (plain_body l.body) (plain_body (drop l.stmt-index l.body))
+      (take l.depth l.fn.values) l.depth (homes_of l.table) (homes_of l.fn.table);
 }
 
 abbrev pub invariant-walk_stmt-loop-turn : goal.invariant-walk_stmt-loop-turn
@@ -18,5 +19,6 @@ invariant-walk_stmt-loop-turn l = record {
   long : length l.values ≡ 64;
   values : take l.depth l.values ≡ take l.depth l.fn.values;
   table : IsTable (span (plain_program l.program)) l.table;
-  walk : IsInLoop (plain_program l.program) l.route (plain_stmt l.stmt) (plain_body l.body.items) (take l.depth l.fn.values) l.turn l.turn-end (homes_of l.table) (homes_of l.fn.table);
+  walk : IsInLoop (plain_program l.program) l.route (plain_stmt l.stmt) (plain_body l.body.items)
+      (take l.depth l.fn.values) l.turn l.turn-end (homes_of l.table) (homes_of l.fn.table);
 }

@@ -1,20 +1,17 @@
-use Rattle.std.proofs.Common.{◌+◌, ◌<◌, [], length, drop, sym, refl, arith}
+use Rattle.std.proofs.Common.{◌<◌, [], length, sym, refl, arith}
 use Rattle.icode.specs.declared.program.Array.TheVariants.{X}
-use Rattle.icode.specs.Plain.{PlainBody, plain_stmt, plain_body}
 use Rattle.icode.specs.Program.{plain_program}
 use Rattle.word_code.specs.InPlace.View.{homes_of}
-use Rattle.word_code.proofs.InPlace.Walking.{phase_ends, routed_goes_on, routed_stops, first_fits, next_stmt}
+use Rattle.word_code.proofs.InPlace.Walking.{phase_ends, routed_goes_on, routed_stops, first_fits}
 use Rattle.word_code.proofs.in_place.walk.walk_phase.Goals as goal
 
 pub walk_stmt-requires-clause-fits : goal.walk_stmt-requires-clause-fits
 walk_stmt-requires-clause-fits c =
     let p = plain_program c.args.program.now in
     let i = c.loop-index.index in
-    let left : PlainBody = plain_body (drop i c.args.body.now) in
-    let rest : PlainBody = plain_body (drop (i + 1) c.args.body.now) in
     let inside : i < length c.args.body.now = omega (arith, c.loop-index-test.true, c.min-index-end.ensures) in
-    let next = next_stmt c.args.body.now i c.index-body-index.result inside c.index-body-index.is in
-    first_fits p left rest (plain_stmt c.index-body-index.result) [] 0 next c.loop-index.invariant.walk.fits
+    first_fits p c.args.body.now i c.index-body-index.result [] inside c.index-body-index.is
+    c.loop-index.invariant.walk.fits
 
 pub returns-then-not-walk_stmt-clause-right : goal.returns-then-not-walk_stmt-clause-right
 returns-then-not-walk_stmt-clause-right c =
@@ -24,9 +21,10 @@ returns-then-not-walk_stmt-clause-right c =
 pub loop-index-preserved : goal.loop-index-preserved
 loop-index-preserved c = record {
   table = c.if-not-walk_stmt.ensures.table;
-  walk = routed_goes_on (plain_program c.args.program.now) c.args.routes.now c.args.body.now c.loop-index.index c.index-body-index.result (record { source = X; target = X }) _ _ (homes_of c.walk_stmt.new.table)
+  walk = routed_goes_on (plain_program c.args.program.now) c.args.routes.now c.args.body.now c.loop-index.index
+      c.index-body-index.result (record { source = X; target = X }) _ _
       (omega (arith, c.loop-index-test.true, c.min-index-end.ensures)) (omega (arith, c.loop-index-test.true, c.min-index-end.ensures)) c.index-body-index.is c.loop-index.invariant.walk
-      c.if-not-walk_stmt.ensures.right (c.if-not-walk_stmt.ensures.after refl);
+      (homes_of c.walk_stmt.new.table) c.if-not-walk_stmt.ensures.right (c.if-not-walk_stmt.ensures.after refl);
 }
 
 pub returns-clause-right : goal.returns-clause-right

@@ -10,5 +10,6 @@ use Rattle.word_code.proofs.in_place.walk.walk_phase.Given as goal
 abbrev pub invariant-loop-index : goal.invariant-loop-index
 invariant-loop-index l = record {
   table : IsTable (span (plain_program l.program)) l.table;
-  walk : IsInPhase (plain_program l.program) (accesses_of_phase (plain_program l.program) l.routes (plain_body l.body)) (drop l.index l.routes) (plain_body (drop l.index l.body)) (homes_of l.table) (homes_of l.fn.table);
+  walk : IsInPhase (plain_program l.program) (accesses_of_phase (plain_program l.program) l.routes (plain_body l.body))
+      (drop l.index l.routes) (plain_body (drop l.index l.body)) (homes_of l.table) (homes_of l.fn.table);
 }

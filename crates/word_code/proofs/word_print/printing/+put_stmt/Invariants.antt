@@ -7,7 +7,8 @@ use Rattle.word_code.proofs.word_print.printing.+put_stmt.Given as goal
 
 abbrev pub invariant-loop-inner : goal.invariant-loop-inner
 invariant-loop-inner l = record {
-  text : l.out.items ++ (word_body_text l.lanes (l.depth + 1) (plain_word_body (drop l.inner-index l.inner-items)) ++ codes "}\n") ≡ l.fn.out.items ++ word_stmt_text l.lanes l.depth (plain_word_stmt l.stmt);
+  text : l.out.items ++ (word_body_text l.lanes (l.depth + 1) (plain_word_body (drop l.inner-index l.inner-items))
+      ++ codes "}\n") ≡ l.fn.out.items ++ word_stmt_text l.lanes l.depth (plain_word_stmt l.stmt);
   nests : IsTrue (are_word_nests_within (plain_word_body (drop l.inner-index l.inner-items)) (l.depth + 1));
   deep : l.depth < 64;
 }

@@ -7,6 +7,8 @@ use Rattle.word_code.proofs.word_print.printing.put_phases.Given as goal
 
 abbrev pub invariant-loop-number : goal.invariant-loop-number
 invariant-loop-number l = record {
-  text : l.out.items ++ word_phases_text l.before l.behind l.program.lanes l.program.regs l.number (plain_word_phases (drop l.number l.program.phases.items)) ≡ l.fn.out.items ++ all_phases_text l.before l.behind (plain_word_program l.program);
+  text : l.out.items ++ word_phases_text l.before l.behind l.program.lanes l.program.regs l.number
+      (plain_word_phases (drop l.number l.program.phases.items)) ≡ l.fn.out.items
+      ++ all_phases_text l.before l.behind (plain_word_program l.program);
   nests : IsTrue (are_word_phases_within (plain_word_phases (drop l.number l.program.phases.items)));
 }
