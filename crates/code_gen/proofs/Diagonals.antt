@@ -1,5 +1,6 @@
 -- The entries of diagonals under tensors.
-use Rattle.std.proofs.Common.{◌≡◌, ℕ, zero, suc, ◌*◌, ◌/◌, ◌%◌, ◌<◌, ◌≤◌, List, [], ◌∷◌, length, refl, ap, ◌∙◌, arith, mul_comm, mod-lt, zero-mul, mul-zero, suc-mul}
+use Rattle.std.proofs.Common.{◌≡◌, ℕ, zero, suc, ◌*◌, ◌/◌, ◌%◌, ◌<◌, ◌≤◌, List, [], ◌∷◌, length, refl, ap, ◌∙◌, arith}
+use Rattle.std.proofs.Common.{mul_comm, mod-lt, zero-mul, mul-zero, suc-mul}
 use Rattle.std.proofs.Math.Nat.{div-lt_iff_lt-mul}
 use Rattle.std.specs.Prelude.{slice_index}
 use Rattle.std.proofs.lemmas.List.FromFn.{fill_by_all}
@@ -51,12 +52,14 @@ inner-below (Columns c ∷ path) n i h =
     let some : 0 < c = columns-some (size_under path n) c (omega arith) in
     let inner = inner-below path n (i / c) ((div-lt_iff_lt-mul some).1 h) in omega arith
 
-pub diagonal-size : (m : ℕ) (factors : PlainFactors) (inner : List ℕ) → inner ≡ diagonal_of m factors → length inner ≡ factor_count factors
+pub diagonal-size : (m : ℕ) (factors : PlainFactors) (inner : List ℕ) → inner ≡ diagonal_of m factors →
+    length inner ≡ factor_count factors
 diagonal-size m factors inner is = ap length is ∙ length-list_below (factor_count factors) (factor_at m factors)
 
 -- the entries of a diagonal under tensors are taken from those of the diagonal
 pub spread-is : (m : ℕ) (path : Path) (factors : PlainFactors) (inner : List ℕ) → inner ≡ diagonal_of m factors →
-    list_below (size_under path (length inner)) (λ i. slice_index inner (at (inner_of path (length inner)) i)) ≡ diagonal_of m (spread path factors)
+    list_below (size_under path (length inner)) (λ i. slice_index inner (at (inner_of path (length inner)) i))
+    ≡ diagonal_of m (spread path factors)
 spread-is m path factors inner is =
     ap (λ (n : ℕ). list_below (size_under path n) (λ i. slice_index inner (at (inner_of path n) i))) (diagonal-size m factors inner is)
     ∙ list_below-same (size_under path (factor_count factors)) _ _ (λ i inside.

@@ -1,5 +1,6 @@
 -- The codes of kernels: of a node by its request, and of a short leaf by its matrix.
-use Rattle.std.proofs.Common.{◌≡◌, ◌≢◌, ℕ, zero, suc, ◌*◌, ◌-◌, ◌%◌, ◌^◌, ◌<◌, ◌≤◌, List, [], ◌∷◌, if◌then◌else◌, arith, refl, ap, ap₂, ◌∙◌, sym, pow-suc, mul-zero}
+use Rattle.std.proofs.Common.{◌≡◌, ◌≢◌, ℕ, zero, suc, ◌*◌, ◌-◌, ◌%◌, ◌^◌, ◌<◌, ◌≤◌, List, [], ◌∷◌, if◌then◌else◌, arith}
+use Rattle.std.proofs.Common.{refl, ap, ap₂, ◌∙◌, sym, pow-suc, mul-zero}
 use Rattle.std.specs.Prelude.{◌==◌}
 use lib.Count.{ones}
 use Rattle.std.proofs.Math.Nat.{mod-eq_of_lt, one-mul, pow-zero}
@@ -34,7 +35,8 @@ entry-second : (m w : ℕ) → 2 ≤ m → entry_of Dft m 2 (m - 1) 1 1 ≡ entr
 unfolding ones
 entry-second m w modulus = power-of_one m (m - 1) (omega arith)
 
-pub hadamard_code : (m w d : ℕ) → 2 ≤ m → AllowsLeaf Wht d → kernel_of m Dft (leaf d) (m - 1) ≡ kernel_of m Wht (leaf d) w
+pub hadamard_code : (m w d : ℕ) → 2 ≤ m → AllowsLeaf Wht d →
+    kernel_of m Dft (leaf d) (m - 1) ≡ kernel_of m Wht (leaf d) w
 hadamard_code m w zero modulus h = absurd (omega (arith, h.0))
 hadamard_code m w (suc zero) modulus h = refl
 hadamard_code m w (suc (suc zero)) modulus h =

@@ -1,5 +1,6 @@
 -- What is known of a nest that can be emitted.
-use Rattle.std.proofs.Common.{◌≡◌, ℕ, zero, suc, ◌+◌, ◌^◌, ◌<◌, ◌≤◌, List, [], ◌∷◌, ◌++◌, length, length-append, get_or, map, refl, sym, ap, ◌∙◌, arith, subst, All}
+use Rattle.std.proofs.Common.{◌≡◌, ℕ, zero, suc, ◌+◌, ◌^◌, ◌<◌, ◌≤◌, List, [], ◌∷◌, ◌++◌, length, length-append, get_or}
+use Rattle.std.proofs.Common.{map, refl, sym, ap, ◌∙◌, arith, subst, All}
 use Rattle.std.specs.Prelude.{Option, Some, None}
 use Rattle.std.proofs.lemmas.List.{get_or-map, length-map}
 use Rattle.kernel_gen.specs.Kernel.{trees_kernel}
@@ -12,7 +13,8 @@ use Rattle.code_gen.specs.PassCode.Contract.{CanProgram}
 use Rattle.sigma_spl.specs.Shared.Owners.{IsHost, all_passes, most_actions}
 use Rattle.code_gen.specs.PassCode.Program.{count_in}
 use Rattle.sigma_spl.specs.Merged.{PlainMerged}
-use Rattle.sigma_spl.specs.Nest.{PlainFactors, values, twiddles, repeated, spread, PlainMultiplier, PlainNest, factor_count}
+use Rattle.sigma_spl.specs.Nest.{PlainFactors, values, twiddles, repeated, spread, PlainMultiplier, PlainNest}
+use Rattle.sigma_spl.specs.Nest.{factor_count}
 use Rattle.sigma_spl.specs.Views.{plain_nest}
 use Rattle.sigma_spl.specs.Shared.Kernels.{IsMadeKernel}
 use Rattle.sigma_spl.specs.Work.{PlainKernel, PlainWork, kernel, trees_of, work_size}
@@ -26,10 +28,12 @@ use Rattle.code_gen.proofs.Diagonals.{columns-some, inner-some}
 work-of : (h : Target) (z : PlainNest) (w : PlainWork) → z.work ≡ w → CanEmit h z → CanWork h w × (work_size w < 2 ^ 32)
 work-of h z w is can = (subst (CanWork h) is can.runs.work, subst (λ (v : PlainWork). work_size v < 2 ^ 32) is can.writes.items)
 
-pub kernel-source : (h : Target) (z : PlainNest) (k : PlainKernel) → z.work ≡ kernel k → CanEmit h z → IsMadeKernel h.modulus k
+pub kernel-source : (h : Target) (z : PlainNest) (k : PlainKernel) → z.work ≡ kernel k → CanEmit h z →
+    IsMadeKernel h.modulus k
 kernel-source h z k is can = (work-of h z (kernel k) is can).0
 
-pub kernel-small : (h : Target) (z : PlainNest) (k : PlainKernel) → z.work ≡ kernel k → CanEmit h z → trees_size (trees_of k) < 2 ^ 32
+pub kernel-small : (h : Target) (z : PlainNest) (k : PlainKernel) → z.work ≡ kernel k → CanEmit h z →
+    trees_size (trees_of k) < 2 ^ 32
 kernel-small h z k is can = (work-of h z (kernel k) is can).1
 
 -- the code of a kernel has an output for each item
@@ -47,13 +51,15 @@ can-list (spread path factors) some small =
     let inner = inner-some path (factor_count factors) some in
     let low = inner.1 in (can-list factors inner.0 (omega arith), some, small)
 
-pub has-factors : (o : Option PlainMultiplier) → ((d : PlainMultiplier) → o ≡ Some d → (0 < factor_count d.factors) × (factor_count d.factors < 2 ^ 32)) → HasFactors o
+pub has-factors : (o : Option PlainMultiplier) → ((d : PlainMultiplier) → o ≡ Some d →
+    (0 < factor_count d.factors) × (factor_count d.factors < 2 ^ 32)) → HasFactors o
 has-factors None h = tt
 has-factors (Some d) h = let known = h d refl in can-list d.factors known.0 known.1
 
 -- ---- passes
 
-registers-le : (h : Target) (zs : List PlainNest) (k : ℕ) (d : PlainNest) → k < length zs → nest_registers h.modulus (get_or zs k d) (get_or zs k d).work ≤ pass_registers h.modulus zs
+registers-le : (h : Target) (zs : List PlainNest) (k : ℕ) (d : PlainNest) → k < length zs →
+    nest_registers h.modulus (get_or zs k d) (get_or zs k d).work ≤ pass_registers h.modulus zs
 registers-le h [] k d below = absurd (omega arith)
 registers-le h (z ∷ zs) zero d below = omega arith
 registers-le h (z ∷ zs) (suc k) d below = let rest = registers-le h zs k d (omega arith) in omega arith
@@ -69,7 +75,8 @@ can-pass h zs host can k d below =
     }
 
 module _ (h : Target) (host : IsHost h) where
-  first-passes : (ps qs : List (List PlainNest)) → All (CanWritePass h) (ps ++ qs) → CanEmitAll h ps × All (CanWritePass h) qs
+  first-passes : (ps qs : List (List PlainNest)) → All (CanWritePass h) (ps ++ qs) →
+      CanEmitAll h ps × All (CanWritePass h) qs
   first-passes [] qs all = (tt, all)
   first-passes (zs ∷ ps) qs all =
       let rest = first-passes ps qs (λ k d below. all (suc k) d (omega arith)) in
@@ -94,7 +101,8 @@ pub few-passes : (h : Target) (g : PlainMerged) → CanProgram h g → 0 + count
 few-passes h g can = let all = count-is g.phases in let most = most-passes h can.host (all_passes g.phases) in let few = can.few in omega (arith, all, most, few)
 
 -- a nest of a pass
-pub nest-at : (h : Target) (nests : List Nest) (i : ℕ) (z : Nest) → All (CanEmit h) (map plain_nest nests) → i < length nests → z ≡ get_or nests i z → CanEmit h (plain_nest z)
+pub nest-at : (h : Target) (nests : List Nest) (i : ℕ) (z : Nest) → All (CanEmit h) (map plain_nest nests) →
+    i < length nests → z ≡ get_or nests i z → CanEmit h (plain_nest z)
 nest-at h nests i z all below is =
     let long : length (map plain_nest nests) ≡ length nests = length-map nests plain_nest in
     subst (CanEmit h) (get_or-map plain_nest nests i z (plain_nest z) below ∙ ap plain_nest (sym is)) (all i (plain_nest z) (omega arith))

@@ -1,5 +1,6 @@
 -- The copies of a nest fill their places with what the pass makes of its array.
-use Rattle.std.proofs.Common.{◌≡◌, ℕ, zero, suc, ◌+◌, ◌*◌, ◌-◌, ◌%◌, ◌<◌, ◌≤◌, arith, refl, sym, ap, ◌∙◌, List, [], ◌∷◌, subst, mul_comm, Contains}
+use Rattle.std.proofs.Common.{◌≡◌, ℕ, zero, suc, ◌+◌, ◌*◌, ◌-◌, ◌%◌, ◌<◌, ◌≤◌, arith, refl, sym, ap, ◌∙◌, List, [], ◌∷◌}
+use Rattle.std.proofs.Common.{subst, mul_comm, Contains}
 use Rattle.std.specs.Prelude.{slice_index}
 use Rattle.icode.specs.declared.action.Action.{Action}
 use Rattle.icode.specs.declared.action.Action.TheVariants.{Tile}
@@ -17,11 +18,13 @@ use Rattle.code_gen.specs.PassActions.Acts.{load_at, copy_acts, with_multiplier,
 use Rattle.code_gen.specs.PassActions.Laws.{AreApart}
 use Rattle.sigma_spl.specs.Shared.Running.{CanRun}
 use Rattle.operators.specs.declared.target.Target.{Target}
-use Rattle.code_gen.proofs.PassActions.Copies.{facts, task_of, items, on, input-word, output-word, input-is, input-below, output-is}
+use Rattle.code_gen.proofs.PassActions.Copies.{facts, task_of, items, on, input-word, output-word, input-is}
+use Rattle.code_gen.proofs.PassActions.Copies.{input-below, output-is}
 use Rattle.code_gen.proofs.PassActions.Horner.{scaled-sum}
 use Rattle.code_gen.proofs.PassActions.Items.{items-fill}
 use Rattle.code_gen.proofs.PassActions.KernelCopies.{value_of, kernel-computes}
-use Rattle.code_gen.proofs.PassActions.Rows.{rows-fill, row_sum, scaled_sum, entry_acts, scaled_acts, terms-turn, scaled-turn}
+use Rattle.code_gen.proofs.PassActions.Rows.{rows-fill, row_sum, scaled_sum, entry_acts, scaled_acts, terms-turn}
+use Rattle.code_gen.proofs.PassActions.Rows.{scaled-turn}
 use Rattle.code_gen.proofs.PassActions.StraightCopies.{CopyWords, body-fills, finish-few}
 use Rattle.code_gen.proofs.PassActions.Tasks.{Task, IsReady}
 use Rattle.code_gen.proofs.PassActions.TileCopies.{turned, tile-computes}
@@ -34,12 +37,15 @@ abbrev pub working : PlainNest → PlainWork → PlainNest
 working p w = record { counts = p.counts; work = w; gathers = p.gathers; multiplier = p.multiplier; scatters = p.scatters }
 
 -- the registers of a nest are among those of its pass
-pub registers-le : (c : Target) (zs : List PlainNest) (p : PlainNest) → Contains zs p → nest_registers c.modulus p p.work ≤ pass_registers c.modulus zs
+pub registers-le : (c : Target) (zs : List PlainNest) (p : PlainNest) → Contains zs p →
+    nest_registers c.modulus p p.work ≤ pass_registers c.modulus zs
 registers-le c [] p one = absurd (omega (arith, one.1))
 registers-le c (z ∷ zs) p (zero, low, e) = let same : nest_registers c.modulus z z.work ≡ nest_registers c.modulus p p.work = ap (λ (y : PlainNest). nest_registers c.modulus y y.work) e in omega arith
 registers-le c (z ∷ zs) p (suc i, low, e) = let rest = registers-le c zs p (i, omega arith, e) in omega arith
 
-module _ (c : Target) (zs : List PlainNest) (can : CanRun c zs) (source target q : ℕ) (x : List ℕ) (apart : AreApart c.size source target) (part : q < c.procs) (small : (i : ℕ) → i < c.size → slice_index x i < c.modulus) where
+module _ (c : Target) (zs : List PlainNest) (can : CanRun c zs) (source target q : ℕ) (x : List ℕ)
+    (apart : AreApart c.size source target) (part : q < c.procs)
+    (small : (i : ℕ) → i < c.size → slice_index x i < c.modulus) where
   abbrev pub regs : ℕ
   regs = pass_registers c.modulus zs
 

@@ -1,5 +1,6 @@
 -- The registers and factors of nests.
-use Rattle.std.proofs.Common.{◌≡◌, ℕ, zero, suc, ◌+◌, ◌-◌, ◌*◌, ◌<◌, ◌≤◌, inr, arith, refl, List, [], ◌∷◌, ◌++◌, Contains}
+use Rattle.std.proofs.Common.{◌≡◌, ℕ, zero, suc, ◌+◌, ◌-◌, ◌*◌, ◌<◌, ◌≤◌, inr, arith, refl, List, [], ◌∷◌, ◌++◌}
+use Rattle.std.proofs.Common.{Contains}
 use Rattle.std.specs.Prelude.{slice_index, Option, Some, None, All}
 use Rattle.std.proofs.lemmas.List.Elements.{All-nil, All-cons, All-append}
 use Rattle.icode.proofs.Lines.{Contains-head, Contains-tail}
@@ -14,7 +15,9 @@ use Rattle.kernel_gen.proofs.Instructions.{factors-fit}
 use Rattle.kernel_gen.proofs.Products.{trees-does}
 use Rattle.kernel_gen.proofs.Residues.{power_below}
 use Rattle.ring_mod.specs.Residue.{power_mod}
-use Rattle.code_gen.specs.PassActions.Acts.{load_at, store_at, factors_at, finish_acts, rows_acts, items_acts, term_acts, horner_acts, copy_acts, nest_acts, pass_acts, with_multiplier, nest_registers, pass_registers}
+use Rattle.code_gen.specs.PassActions.Acts.{load_at, store_at, factors_at, finish_acts, rows_acts, items_acts}
+use Rattle.code_gen.specs.PassActions.Acts.{term_acts, horner_acts, copy_acts, nest_acts, pass_acts, with_multiplier}
+use Rattle.code_gen.specs.PassActions.Acts.{nest_registers, pass_registers}
 use Rattle.sigma_spl.specs.Shared.Running.{CanRun, CanRunNest}
 use Rattle.code_gen.specs.PassActions.Laws.{IsFit}
 use Rattle.operators.specs.declared.target.Target.{Target}
@@ -35,7 +38,8 @@ module _ (regs lanes m : ℕ) where
   pub fit-none : Fit []
   fit-none = All-nil (IsFit regs lanes m)
 
-  pub fit-cons : (action : Action) (actions : List Action) → IsFit regs lanes m action → Fit actions → Fit (action ∷ actions)
+  pub fit-cons : (action : Action) (actions : List Action) → IsFit regs lanes m action → Fit actions →
+      Fit (action ∷ actions)
   fit-cons action actions h k = All-cons (IsFit regs lanes m) action actions h k
 
   pub fit-append : (xs ys : List Action) → Fit xs → Fit ys → Fit (xs ++ ys)
@@ -45,7 +49,8 @@ module _ (regs lanes m : ℕ) where
   fit-bodies zero body each = fit-none
   fit-bodies (suc n) body each = fit-append (bodies n body) (body n) (fit-bodies n body (λ v below. each v (omega arith))) (each n (omega arith))
 
-  pub fit-nest : (counts : List ℕ) (body : List ℕ → List Action) → ((vs : List ℕ) → Fit (body vs)) → (outer : List ℕ) → Fit (nest counts body outer)
+  pub fit-nest : (counts : List ℕ) (body : List ℕ → List Action) → ((vs : List ℕ) → Fit (body vs)) → (outer : List ℕ) →
+      Fit (nest counts body outer)
   fit-nest [] body each outer = each outer
   fit-nest (count ∷ counts) body each outer = fit-bodies count (λ v. nest counts body (outer ++ v ∷ [])) (λ v below. fit-nest counts body each (outer ++ v ∷ []))
 
@@ -63,7 +68,8 @@ module _ (c : Target) (p : PlainNest) (target q regs : ℕ) (vs : List ℕ) (som
   abbrev AreResidues : Option PlainMultiplier → Type 0
   AreResidues o = (d : PlainMultiplier) → o ≡ Some d → (i : ℕ) → factor_at c.modulus d.factors i < c.modulus
 
-  fit-finish : (o : Option PlainMultiplier) (k from free used more : ℕ) → AreResidues o → from < used → free < used + more → with_multiplier o used more ≤ regs → AreFit (finish_acts c p o target q vs k from free)
+  fit-finish : (o : Option PlainMultiplier) (k from free used more : ℕ) → AreResidues o → from < used →
+      free < used + more → with_multiplier o used more ≤ regs → AreFit (finish_acts c p o target q vs k from free)
   fit-finish None k from free used more small low high few =
       fit-cons regs c.lanes c.modulus (Store (target + store_at c p q vs k) from) [] (record { registers = omega arith; factors = tt }) none
   fit-finish (Some d) k from free used more small low high few =
@@ -72,7 +78,8 @@ module _ (c : Target) (p : PlainNest) (target q regs : ℕ) (vs : List ℕ) (som
       (record { registers = (omega arith, omega arith); factors = factors-fit c.modulus c.lanes _ some (λ lane. small d refl _) })
       (fit-cons regs c.lanes c.modulus (Store (target + store_at c p q vs k) free) [] (record { registers = omega arith; factors = tt }) none)
 
-  fit-body : (o : Option PlainMultiplier) (middle : List Action) (out : ℕ → ℕ) (used n : ℕ) (from : ℕ → ℕ) → AreResidues o → n ≤ used → with_multiplier o used n ≤ regs → AreFit middle → ((k : ℕ) → k < n → out k < used) →
+  fit-body : (o : Option PlainMultiplier) (middle : List Action) (out : ℕ → ℕ) (used n : ℕ) (from : ℕ → ℕ) →
+      AreResidues o → n ≤ used → with_multiplier o used n ≤ regs → AreFit middle → ((k : ℕ) → k < n → out k < used) →
       AreFit (copy_body c p o middle out used n from target q vs)
   fit-body o middle out used n from small grows few code outs =
       let m = c.modulus in
@@ -81,7 +88,8 @@ module _ (c : Target) (p : PlainNest) (target q regs : ℕ) (vs : List ℕ) (som
       fit-append regs c.lanes m (loads n from) (middle ++ bodies n ends) (fit-loads regs c.lanes m n from (omega arith))
       (fit-append regs c.lanes m middle (bodies n ends) code (fit-bodies regs c.lanes m n ends (λ k below. fit-finish o k (out k) (used + k) used n small (outs k below) (omega arith) few)))
 
-  fit-rows : (n : ℕ) (turn : ℕ → ℕ → List Action) → AreResidues p.multiplier → with_multiplier p.multiplier 3 1 ≤ regs → ((k l : ℕ) → AreFit (turn k l)) → AreFit (rows_acts c p n turn target q vs)
+  fit-rows : (n : ℕ) (turn : ℕ → ℕ → List Action) → AreResidues p.multiplier → with_multiplier p.multiplier 3 1 ≤ regs →
+      ((k l : ℕ) → AreFit (turn k l)) → AreFit (rows_acts c p n turn target q vs)
   fit-rows n turn small few each =
       let m = c.modulus in
       let room : 3 ≤ regs = finish-few p.multiplier 3 1 regs few in
@@ -91,7 +99,8 @@ module _ (c : Target) (p : PlainNest) (target q regs : ℕ) (vs : List ℕ) (som
       (fit-bodies regs c.lanes m n (turn k) (λ l under. each k l))
       (fit-finish p.multiplier k 0 3 3 1 small (omega arith) (omega arith) few)))
 
-  fit-items : (n source : ℕ) → AreResidues p.multiplier → with_multiplier p.multiplier 1 1 ≤ regs → AreFit (items_acts c p n source target q vs)
+  fit-items : (n source : ℕ) → AreResidues p.multiplier → with_multiplier p.multiplier 1 1 ≤ regs →
+      AreFit (items_acts c p n source target q vs)
   fit-items n source small few =
       let room : 1 ≤ regs = finish-few p.multiplier 1 1 regs few in
       fit-bodies regs c.lanes c.modulus n (λ k. Load 0 (source + load_at c p q vs k) ∷ finish_acts c p p.multiplier target q vs k 0 1) (λ k below.
@@ -123,7 +132,9 @@ module _ (c : Target) (lanes : 0 < c.lanes) (modulus : 2 ≤ c.modulus) (regs so
   abbrev pub Fits : List Action → Type 0
   Fits actions = All (IsFit regs c.lanes c.modulus) actions
 
-  copy-fits : (p : PlainNest) (w : PlainWork) → CanRunNest c (working p w) → nest_registers c.modulus (working p w) w ≤ regs → (vs : List ℕ) → Fits (copy_acts c (working p w) w source target q vs)
+  copy-fits : (p : PlainNest) (w : PlainWork) → CanRunNest c (working p w) →
+      nest_registers c.modulus (working p w) w ≤ regs → (vs : List ℕ) →
+      Fits (copy_acts c (working p w) w source target q vs)
   copy-fits p (kernel k) can few vs =
       let z : PlainNest = working p (kernel k) in
       let n = trees_size (trees_of k) in
@@ -150,12 +161,15 @@ module _ (c : Target) (lanes : 0 < c.lanes) (modulus : 2 ≤ c.modulus) (regs so
       let z : PlainNest = working p (copy n) in
       fit-items c z target q regs vs some n source can.residues few
 
-  nests-fit : (zs : List PlainNest) → ((p : PlainNest) → Contains zs p → CanRunNest c p) → ((p : PlainNest) → Contains zs p → nest_registers c.modulus p p.work ≤ regs) → Fits (pass_acts c zs source target q)
+  nests-fit : (zs : List PlainNest) → ((p : PlainNest) → Contains zs p → CanRunNest c p) →
+      ((p : PlainNest) → Contains zs p → nest_registers c.modulus p p.work ≤ regs) →
+      Fits (pass_acts c zs source target q)
   nests-fit [] can few = fit-none regs c.lanes c.modulus
   nests-fit (z ∷ zs) can few =
       fit-append regs c.lanes c.modulus (nest_acts c z source target q) (pass_acts c zs source target q)
       (fit-nest regs c.lanes c.modulus (loop_counts c z) (copy_acts c z z.work source target q) (copy-fits z z.work (can z (Contains-head z zs)) (few z (Contains-head z zs))) [])
       (nests-fit zs (λ p one. can p (Contains-tail z zs p one)) (λ p one. few p (Contains-tail z zs p one)))
 
-pub pass-fits : (c : Target) (zs : List PlainNest) → CanRun c zs → (source target q : ℕ) → All (IsFit (pass_registers c.modulus zs) c.lanes c.modulus) (pass_acts c zs source target q)
+pub pass-fits : (c : Target) (zs : List PlainNest) → CanRun c zs → (source target q : ℕ) →
+    All (IsFit (pass_registers c.modulus zs) c.lanes c.modulus) (pass_acts c zs source target q)
 pass-fits c zs can source target q = nests-fit c can.lanes can.modulus (pass_registers c.modulus zs) source target q zs (nest-can c zs can) (registers-le c zs)

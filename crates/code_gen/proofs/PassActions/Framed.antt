@@ -1,5 +1,6 @@
 -- The copies of a processor and a lane.
-use Rattle.std.proofs.Common.{◌≡◌, ◌≢◌, ℕ, ◌*◌, ◌/◌, ◌%◌, ◌<◌, Bool, true, false, arith, refl, sym, ap, ◌∙◌, List, [], ◌∷◌, ◌++◌, subst, mod-lt, div-lt_iff_lt-mul, if◌then◌else◌}
+use Rattle.std.proofs.Common.{◌≡◌, ◌≢◌, ℕ, ◌*◌, ◌/◌, ◌%◌, ◌<◌, Bool, true, false, arith, refl, sym, ap, ◌∙◌, List, []}
+use Rattle.std.proofs.Common.{◌∷◌, ◌++◌, subst, mod-lt, div-lt_iff_lt-mul, if◌then◌else◌}
 use Rattle.std.proofs.Math.Nat.{div-add-mod'}
 use Rattle.std.specs.Prelude.{◌==◌, slice_index}
 use Rattle.std.proofs.lemmas.Bool.Decides.{nat_tests}
@@ -16,7 +17,8 @@ use Rattle.operators.specs.TensorPaths.Path as paths
 
 -- ---- a variable that is left out where it has one value
 
-range-several : (n : ℕ) (counts : List ℕ) (v : ℕ) (vs : List ℕ) → v < n → AreInRange counts vs → AreInRange (if_several n n ++ counts) (if_several n v ++ vs)
+range-several : (n : ℕ) (counts : List ℕ) (v : ℕ) (vs : List ℕ) → v < n → AreInRange counts vs →
+    AreInRange (if_several n n ++ counts) (if_several n v ++ vs)
 range-several n counts v vs below range =
     one_or_several n (λ b. AreInRange ((if b then [] else n ∷ []) ++ counts) ((if b then [] else v ∷ []) ++ vs))
     (λ one. range)
@@ -30,7 +32,8 @@ record IsUnder (n : ℕ) (counts us : List ℕ) : Type 0 where
   in_range : AreInRange counts rest
   joined : us ≡ if_several n value ++ rest
 
-several-under : (n : ℕ) (counts us : List ℕ) → AreInRange (n ∷ counts) us → (v : ℕ) × (vs : List ℕ) × ((v < n) × AreInRange counts vs × (us ≡ v ∷ vs))
+several-under : (n : ℕ) (counts us : List ℕ) → AreInRange (n ∷ counts) us →
+    (v : ℕ) × (vs : List ℕ) × ((v < n) × AreInRange counts vs × (us ≡ v ∷ vs))
 several-under n counts [] range = absurd range
 several-under n counts (v ∷ vs) range = (v, vs, (range.0, range.1, refl))
 
@@ -55,10 +58,12 @@ same_value n v q vs is = one_or_several n (λ b. (if b then [] else v ∷ []) ++
 
 module _ (c : Target) where
   both-range : (loops : List ℕ) (q lane : ℕ) (vs : List ℕ) → q < c.procs → lane < c.lanes → AreInRange loops vs →
-      AreInRange (if_several c.procs c.procs ++ (if_several c.lanes c.lanes ++ loops)) (if_several c.procs q ++ (if_several c.lanes lane ++ vs))
+      AreInRange (if_several c.procs c.procs ++ (if_several c.lanes c.lanes ++ loops))
+      (if_several c.procs q ++ (if_several c.lanes lane ++ vs))
   both-range loops q lane vs part there range = range-several c.procs (if_several c.lanes c.lanes ++ loops) q (if_several c.lanes lane ++ vs) part (range-several c.lanes loops lane vs there range)
 
-  range-framed : (w : PlainWork) (loops : List ℕ) (q lane : ℕ) (vs : List ℕ) → q < c.procs → lane < c.lanes → AreInRange loops vs → AreInRange (framed c w loops) (values_of c w q lane vs)
+  range-framed : (w : PlainWork) (loops : List ℕ) (q lane : ℕ) (vs : List ℕ) → q < c.procs → lane < c.lanes →
+      AreInRange loops vs → AreInRange (framed c w loops) (values_of c w q lane vs)
   range-framed (kernel trees) loops q lane vs part there range = both-range loops q lane vs part there range
   range-framed (rows root size) loops q lane vs part there range = both-range loops q lane vs part there range
   range-framed (horner root size) loops q lane vs part there range = both-range loops q lane vs part there range
@@ -72,7 +77,8 @@ module _ (c : Target) where
   first-framed (tile lanes) q lane vs several = first_value c.procs q vs several
   first-framed (copy size) q lane vs several = first_value c.procs q (if_several c.lanes lane ++ vs) several
 
-  pub item-below : (w : PlainWork) (k lane : ℕ) → CanWork c w → k < vectors_of w → lane < c.lanes → item_of w k lane < work_size w
+  pub item-below : (w : PlainWork) (k lane : ℕ) → CanWork c w → k < vectors_of w → lane < c.lanes →
+      item_of w k lane < work_size w
   item-below (kernel trees) k lane can under there = under
   item-below (rows root size) k lane can under there = under
   item-below (horner root size) k lane can under there = under
@@ -114,7 +120,9 @@ record HasLane (c : Target) (loops : List ℕ) (q : ℕ) (us : List ℕ) : Type 
   there : lane < c.lanes
   joined : us ≡ if_several c.procs q ++ (if_several c.lanes lane ++ values)
 
-has_lane : (c : Target) (loops : List ℕ) (q : ℕ) (us : List ℕ) → AreInRange (if_several c.procs c.procs ++ (if_several c.lanes c.lanes ++ loops)) us → (c.procs ≢ 1 → slice_index us 0 ≡ q) → HasLane c loops q us
+has_lane : (c : Target) (loops : List ℕ) (q : ℕ) (us : List ℕ) →
+    AreInRange (if_several c.procs c.procs ++ (if_several c.lanes c.lanes ++ loops)) us →
+    (c.procs ≢ 1 → slice_index us 0 ≡ q) → HasLane c loops q us
 has_lane c loops q us range first =
     let outer = under-several c.procs (if_several c.lanes c.lanes ++ loops) us range in
     let inner = under-several c.lanes loops outer.rest outer.in_range in
@@ -129,7 +137,9 @@ has_lane c loops q us range first =
           ∙ ap (λ vs. if_several c.procs q ++ vs) inner.joined;
     }
 
-on_lane : (c : Target) (w : PlainWork) (loops : List ℕ) (q : ℕ) (us : List ℕ) (i : ℕ) → CanWork c w → AreInRange (framed c w loops) us → (c.procs ≢ 1 → slice_index us 0 ≡ q) → i < work_size w → IsOnLane c w loops q us i
+on_lane : (c : Target) (w : PlainWork) (loops : List ℕ) (q : ℕ) (us : List ℕ) (i : ℕ) → CanWork c w →
+    AreInRange (framed c w loops) us → (c.procs ≢ 1 → slice_index us 0 ≡ q) → i < work_size w →
+    IsOnLane c w loops q us i
 on_lane c (kernel trees) loops q us i can range first below =
     let h = has_lane c loops q us range first in record { values = h.values; lane = h.lane; number = i; in_range = h.in_range; there = h.there; under = below; copy_is = h.joined; item = refl }
 on_lane c (rows root size) loops q us i can range first below =
@@ -158,14 +168,16 @@ on_lane c (tile v) loops q us i can range first below =
 
 module _ (c : Target) (p : PlainNest) (f : IsFramed c p) where
   -- the values of a processor, a lane and loops are those of a copy of the processor
-  pub copy-framed : (q lane : ℕ) (vs : List ℕ) → q < c.procs → lane < c.lanes → AreInRange f.loops vs → IsCopyOf c p q (values_of c p.work q lane vs)
+  pub copy-framed : (q lane : ℕ) (vs : List ℕ) → q < c.procs → lane < c.lanes → AreInRange f.loops vs →
+      IsCopyOf c p q (values_of c p.work q lane vs)
   copy-framed q lane vs part there range =
       record {
         in_range = in_path p.counts (values_of c p.work q lane vs) (subst (λ counts. AreInRange counts (values_of c p.work q lane vs)) (sym f.counts) (range-framed c p.work f.loops q lane vs part there range));
         processor = λ several. first-framed c p.work q lane vs several;
       }
 
-  pub copy-on_lane : (q : ℕ) (us : List ℕ) (i : ℕ) → CanWork c p.work → IsCopyOf c p q us → i < work_size p.work → IsOnLane c p.work f.loops q us i
+  pub copy-on_lane : (q : ℕ) (us : List ℕ) (i : ℕ) → CanWork c p.work → IsCopyOf c p q us → i < work_size p.work →
+      IsOnLane c p.work f.loops q us i
   copy-on_lane q us i can mine below =
       on_lane c p.work f.loops q us i can (subst (λ counts. AreInRange counts us) f.counts (in_counts p.counts us mine.in_range)) mine.processor below
 

@@ -38,7 +38,8 @@ module _ (m w k : ℕ) (large : 2 ≤ m) where
       ap (λ z. z % m) turned
       ∙ sym (same-mul m y y (power (suc l)) (power_mod m w k * power l) refl (ap (λ z. z % m) (power-more l) ∙ mod-mod (power_mod m w k * power l) m))
 
-  after : (item : ℕ → ℕ) (n : ℕ) → scaled_sum m (power_mod m w k) item n ≡ sum_below n (λ i. item i * power (n - 1 - i)) % m
+  after : (item : ℕ → ℕ) (n : ℕ) → scaled_sum m (power_mod m w k) item n
+      ≡ sum_below n (λ i. item i * power (n - 1 - i)) % m
   after item zero = sym (zero-mod m)
   after item (suc n) =
       let before : ℕ = sum_below n (λ i. item i * power (n - 1 - i)) in
@@ -55,5 +56,6 @@ module _ (m w k : ℕ) (large : 2 ≤ m) where
       (mod-mod (scaled_sum m p item n * p) m ∙ scaled ∙ shifted) (ap (λ z. z % m) one)
 
   -- the last item first
-  pub scaled-sum : (n : ℕ) (x : ℕ → ℕ) → scaled_sum m (power_mod m w k) (λ i. x (n - 1 - i)) n ≡ sum_below n (λ l. x l * power_mod m w (k * l)) % m
+  pub scaled-sum : (n : ℕ) (x : ℕ → ℕ) → scaled_sum m (power_mod m w k) (λ i. x (n - 1 - i)) n
+      ≡ sum_below n (λ l. x l * power_mod m w (k * l)) % m
   scaled-sum n x = after (λ i. x (n - 1 - i)) n ∙ ap (λ z. z % m) (sum_below-backwards n (λ l. x l * power l))

@@ -40,7 +40,8 @@ pub code-length : (lanes : ℕ) (code : List Instruction) → length (actions_by
 code-length lanes code = length-map code (action_by lanes) ∙ sym (cost-is code)
 
 -- a kernel has a register for each input and for each operation
-pub trees-registers : (m : ℕ) (trees : PlainTrees) → 2 ≤ m → CanMake m trees → (trees_kernel m trees).next ≡ trees_size trees + trees_cost 1 m trees
+pub trees-registers : (m : ℕ) (trees : PlainTrees) → 2 ≤ m → CanMake m trees →
+    (trees_kernel m trees).next ≡ trees_size trees + trees_cost 1 m trees
 trees-registers m trees large can =
     let does = trees-does m 1 trees large can in
     does.next_is ∙ ap (λ n. trees_size trees + n) (sym (cost-is (trees_kernel m trees).code) ∙ does.costs)

@@ -15,14 +15,16 @@ use Rattle.operators.specs.declared.target.Target.{Target}
 use Rattle.sigma_spl.specs.Shared.Costs.{work_cost, work_loads}
 use Rattle.sigma_spl.specs.Shared.Machine.{loop_counts}
 use Rattle.sigma_spl.specs.Shared.Names.{lanes_round, own_copies, share_of}
-use Rattle.code_gen.proofs.PassActions.Counting.{counts, tally, counts-same, products_of, counts-append, counts-nest, counts-body, counts-code, counts-rows, counts-items, plus}
+use Rattle.code_gen.proofs.PassActions.Counting.{counts, tally, counts-same, products_of, counts-append, counts-nest}
+use Rattle.code_gen.proofs.PassActions.Counting.{counts-body, counts-code, counts-rows, counts-items, plus}
 use Rattle.code_gen.proofs.PassActions.Fillings.{working}
 use Rattle.sigma_spl.specs.Counts.{copies_in, multiplier_cost}
 use Rattle.sigma_spl.specs.Nest.{PlainMultiplier, PlainNest}
 use Rattle.sigma_spl.specs.Work.{PlainWork, kernel, rows, horner, tile, copy, work_size, trees_of}
 use Rattle.tree_model.specs.Trees.{trees_size}
 
-products-are : (weight : ℕ) (o : Option PlainMultiplier) (w : PlainWork) → multiplier_cost weight o w ≡ work_size w * products_of weight o
+products-are : (weight : ℕ) (o : Option PlainMultiplier) (w : PlainWork) →
+    multiplier_cost weight o w ≡ work_size w * products_of weight o
 products-are weight None w = omega arith
 products-are weight (Some d) w = omega arith
 

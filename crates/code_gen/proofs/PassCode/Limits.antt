@@ -14,8 +14,14 @@ use Rattle.code_gen.specs.PassCode.Conditions.{AreWithin, CanWriteNest}
 use Rattle.sigma_spl.specs.Shared.Running.{CanRunNest}
 use Rattle.operators.specs.declared.target.Target.{Target}
 use Rattle.sigma_spl.specs.Shared.Machine.{PlainFrame, frame_of, loop_counts}
-use Rattle.code_gen.specs.PassCode.Statements.{diagonal_of, diagonal_number, one_factor, powers_of, finish_body, followed_by, horner_body, in_a_row, product_place, loads_body, multiplier_number, nest_body, place_at, powers_number, rows_body, straight_body, tables_of_multiplier, tables_of_nest, tables_of_work, term_body, with_diagonal, work_body}
-use Rattle.code_gen.proofs.PassCode.BodyLimits.{ArePlaces, both, finish-within, horner-within, loads-within, product-within, small-is, straight-within, term-within, within-do, within-followed, within-in_a_row, within-loop, within-nested}
+use Rattle.code_gen.specs.PassCode.Statements.{diagonal_of, diagonal_number, one_factor, powers_of, finish_body}
+use Rattle.code_gen.specs.PassCode.Statements.{followed_by, horner_body, in_a_row, product_place, loads_body}
+use Rattle.code_gen.specs.PassCode.Statements.{multiplier_number, nest_body, place_at, powers_number, rows_body}
+use Rattle.code_gen.specs.PassCode.Statements.{straight_body, tables_of_multiplier, tables_of_nest, tables_of_work}
+use Rattle.code_gen.specs.PassCode.Statements.{term_body, with_diagonal, work_body}
+use Rattle.code_gen.proofs.PassCode.BodyLimits.{ArePlaces, both, finish-within, horner-within, loads-within}
+use Rattle.code_gen.proofs.PassCode.BodyLimits.{product-within, small-is, straight-within, term-within, within-do}
+use Rattle.code_gen.proofs.PassCode.BodyLimits.{within-followed, within-in_a_row, within-loop, within-nested}
 use Rattle.code_gen.proofs.PassActions.Fillings.{working}
 use Rattle.code_gen.proofs.PassCode.OneFactor.{OneIsBelow, one-below}
 use Rattle.code_gen.proofs.PassCode.SharedTables.{number-small, with_table-longer}
@@ -25,7 +31,8 @@ use Rattle.sigma_spl.specs.Nest.{PlainMultiplier, PlainNest}
 use Rattle.sigma_spl.specs.Work.{PlainWork, kernel, rows, horner, tile, copy, trees_of}
 use Rattle.tree_model.specs.Trees.{trees_size}
 
-places-within : (cs : ℕ → ℕ) (f : PlainFrame) (n open_loops : ℕ) (sums : List Sum) → n ≤ length sums → AreWithin cs f open_loops sums → ArePlaces f n open_loops sums
+places-within : (cs : ℕ → ℕ) (f : PlainFrame) (n open_loops : ℕ) (sums : List Sum) → n ≤ length sums →
+    AreWithin cs f open_loops sums → ArePlaces f n open_loops sums
 places-within cs f n open_loops sums enough h i below = h.within i (constant 0) (omega arith)
 
 -- ---- tables
@@ -38,11 +45,13 @@ multiplier-small : (m : ℕ) (o : Option PlainMultiplier) (ts : List (List ℕ))
 multiplier-small m None ts = omega arith
 multiplier-small m (Some d) ts = diagonal-small (one_factor d.factors) ts (diagonal_of m d.factors)
 
-diagonal-longer : (o : Option ℕ) (ts : List (List ℕ)) (entries : List ℕ) → length ts ≤ length (with_diagonal o ts entries)
+diagonal-longer : (o : Option ℕ) (ts : List (List ℕ)) (entries : List ℕ) →
+    length ts ≤ length (with_diagonal o ts entries)
 diagonal-longer None ts entries = with_table-longer ts entries
 diagonal-longer (Some value) ts entries = omega arith
 
-multiplier-longer : (m : ℕ) (o : Option PlainMultiplier) (ts : List (List ℕ)) → length ts ≤ length (tables_of_multiplier m o ts)
+multiplier-longer : (m : ℕ) (o : Option PlainMultiplier) (ts : List (List ℕ)) →
+    length ts ≤ length (tables_of_multiplier m o ts)
 multiplier-longer m None ts = omega arith
 multiplier-longer m (Some d) ts = diagonal-longer (one_factor d.factors) ts (diagonal_of m d.factors)
 
@@ -65,12 +74,15 @@ nest-longer m z ts = let first = work-longer m z.work ts in let second = multipl
 
 -- ---- work
 
-module _ (c : Target) (modulus : 2 ≤ c.modulus) (source target : Array) (powers table : ℕ) (first : powers < 2 ^ 32) (second : table < 2 ^ 32) where
+module _ (c : Target) (modulus : 2 ≤ c.modulus) (source target : Array) (powers table : ℕ) (first : powers < 2 ^ 32)
+    (second : table < 2 ^ 32) where
   abbrev m : ℕ
   m = c.modulus
 
   -- straight code's places
-  alone-within : (z : PlainNest) (n : ℕ) (sums : List Sum) → n ≤ length sums → AreWithin (limits_of z) (frame_of c z.work) (length (loop_counts c z) + 0) sums → ArePlaces (frame_of c z.work) n (length (loop_counts c z)) sums
+  alone-within : (z : PlainNest) (n : ℕ) (sums : List Sum) → n ≤ length sums →
+      AreWithin (limits_of z) (frame_of c z.work) (length (loop_counts c z) + 0) sums →
+      ArePlaces (frame_of c z.work) n (length (loop_counts c z)) sums
   alone-within z n sums enough h =
       let all : length (loop_counts c z) + 0 ≡ length (loop_counts c z) = omega arith in
       subst (λ (o : ℕ). ArePlaces (frame_of c z.work) n o sums) all (places-within (limits_of z) (frame_of c z.work) n (length (loop_counts c z) + 0) sums enough h)
@@ -89,8 +101,10 @@ module _ (c : Target) (modulus : 2 ≤ c.modulus) (source target : Array) (power
       (finish-within m f 0 z.multiplier 1 (deep + 1) table 0 0 3 z.scatters target one (omega arith) (omega arith) places multiplied second (omega arith) (omega arith))))
       refl
 
-  work-within : (p : PlainNest) (w : PlainWork) → CanRunNest c (working p w) → CanWriteNest c (working p w) → nest_registers c.modulus (working p w) w < 2 ^ 20 →
-      is_body_within m (work_body c (working p w) w (length (loop_counts c (working p w))) powers table source target) (length (loop_counts c (working p w))) ≡ true
+  work-within : (p : PlainNest) (w : PlainWork) → CanRunNest c (working p w) → CanWriteNest c (working p w) →
+      nest_registers c.modulus (working p w) w < 2 ^ 20 →
+      is_body_within m (work_body c (working p w) w (length (loop_counts c (working p w))) powers table source target)
+      (length (loop_counts c (working p w))) ≡ true
   work-within p (kernel k) can writes few =
       let z : PlainNest = working p (kernel k) in
       let n = trees_size (trees_of k) in
@@ -152,7 +166,9 @@ module _ (c : Target) (modulus : 2 ≤ c.modulus) (source target : Array) (power
 
 -- ---- a nest
 
-pub nest-within : (c : Target) (z : PlainNest) (tables : List (List ℕ)) (source target : Array) → 2 ≤ c.modulus → CanRunNest c z → CanWriteNest c z → nest_registers c.modulus z z.work < 2 ^ 20 → length (tables_of_nest c.modulus z tables) < 2 ^ 32 →
+pub nest-within : (c : Target) (z : PlainNest) (tables : List (List ℕ)) (source target : Array) → 2 ≤ c.modulus →
+    CanRunNest c z → CanWriteNest c z → nest_registers c.modulus z z.work < 2 ^ 20 →
+    length (tables_of_nest c.modulus z tables) < 2 ^ 32 →
     is_body_within c.modulus (nest_body c z tables source target) 0 ≡ true
 nest-within c z tables source target modulus can writes few some =
     let powers = powers_number c.modulus z.work tables in

@@ -1,5 +1,6 @@
 -- The places of a nest are coded, and its statements are its actions.
-use Rattle.std.proofs.Common.{◌≡◌, ℕ, zero, suc, ◌+◌, ◌-◌, ◌*◌, ◌/◌, ◌%◌, ◌<◌, ◌≤◌, List, [], ◌∷◌, ◌++◌, length, refl, sym, ap, ap₂, ◌∙◌, arith, subst, length-append, append_assoc, append-nil}
+use Rattle.std.proofs.Common.{◌≡◌, ℕ, zero, suc, ◌+◌, ◌-◌, ◌*◌, ◌/◌, ◌%◌, ◌<◌, ◌≤◌, List, [], ◌∷◌, ◌++◌, length, refl}
+use Rattle.std.proofs.Common.{sym, ap, ap₂, ◌∙◌, arith, subst, length-append, append_assoc, append-nil}
 use Rattle.std.specs.Prelude.{slice_index, slice_index_or, Option, Some, None}
 use Rattle.icode.specs.declared.program.Array.{Array}
 use Rattle.icode.specs.Actions.{steps_of_body}
@@ -13,10 +14,14 @@ use Rattle.code_gen.specs.PassCode.Conditions.{AreWithin, CanWriteNest}
 use Rattle.sigma_spl.specs.Shared.Running.{CanRunNest}
 use Rattle.operators.specs.declared.target.Target.{Target}
 use Rattle.sigma_spl.specs.Shared.Machine.{frame_of, item_of, values_of, loop_counts, lane_step}
-use Rattle.code_gen.specs.PassCode.Statements.{diagonal_of, diagonal_number, one_factor, powers_of, multiplier_number, nest_body, nested, place_at, powers_number, table_number, tables_of_multiplier, tables_of_nest, tables_of_work, term_body, horner_body, with_diagonal, with_table, work_body}
+use Rattle.code_gen.specs.PassCode.Statements.{diagonal_of, diagonal_number, one_factor, powers_of, multiplier_number}
+use Rattle.code_gen.specs.PassCode.Statements.{nest_body, nested, place_at, powers_number, table_number}
+use Rattle.code_gen.specs.PassCode.Statements.{tables_of_multiplier, tables_of_nest, tables_of_work, term_body}
+use Rattle.code_gen.specs.PassCode.Statements.{horner_body, with_diagonal, with_table, work_body}
 use Rattle.code_gen.proofs.PassCode.Coded.{IsCoded, coded}
 use Rattle.code_gen.proofs.PassCode.Emits.{Emits, emits-nested}
-use Rattle.code_gen.proofs.PassCode.Emitted.{IsLoadedAt, IsStoredAt, emits-made, emits-tile, emits-rows, emits-items, emits-term, emits-horner}
+use Rattle.code_gen.proofs.PassCode.Emitted.{IsLoadedAt, IsStoredAt, emits-made, emits-tile, emits-rows, emits-items}
+use Rattle.code_gen.proofs.PassCode.Emitted.{emits-term, emits-horner}
 use Rattle.code_gen.proofs.PassActions.Fillings.{working}
 use Rattle.code_gen.proofs.PassActions.Framed.{copy-framed, in_counts, item-below, of_code}
 use Rattle.loop_nests.proofs.Frames.{loops-are}
@@ -37,11 +42,13 @@ diagonal-extends : (o : Option ℕ) (ts : List (List ℕ)) (entries : List ℕ) 
 diagonal-extends None ts entries = with_table-extends ts entries
 diagonal-extends (Some value) ts entries = record { last = []; is = sym (append-nil ts) }
 
-pub multiplier-extends : (m : ℕ) (o : Option PlainMultiplier) (ts : List (List ℕ)) → Extends (tables_of_multiplier m o ts) ts
+pub multiplier-extends : (m : ℕ) (o : Option PlainMultiplier) (ts : List (List ℕ)) →
+    Extends (tables_of_multiplier m o ts) ts
 multiplier-extends m None ts = record { last = []; is = sym (append-nil ts) }
 multiplier-extends m (Some d) ts = diagonal-extends (one_factor d.factors) ts (diagonal_of m d.factors)
 
-pub multiplier-there : (m : ℕ) (o : Option PlainMultiplier) (d : PlainMultiplier) (ts more : List (List ℕ)) → o ≡ Some d → one_factor d.factors ≡ None →
+pub multiplier-there : (m : ℕ) (o : Option PlainMultiplier) (d : PlainMultiplier) (ts more : List (List ℕ)) →
+    o ≡ Some d → one_factor d.factors ≡ None →
     slice_index_or (tables_of_multiplier m o ts ++ more) (multiplier_number m o ts) [] ≡ diagonal_of m d.factors
 multiplier-there m o d ts more is none =
     let entries = diagonal_of m d.factors in
@@ -50,15 +57,18 @@ multiplier-there m o d ts more is none =
 
 -- ---- places
 
-tile-first : (sums : List Sum) (vs : List ℕ) (k v : ℕ) → 0 < v → sum_value sums ((k * v + 0) / v) vs + (k * v + 0) % v ≡ sum_value sums k vs
+tile-first : (sums : List Sum) (vs : List ℕ) (k v : ℕ) → 0 < v →
+    sum_value sums ((k * v + 0) / v) vs + (k * v + 0) % v ≡ sum_value sums k vs
 tile-first sums vs k v some =
     let none : sum_value sums k vs + 0 ≡ sum_value sums k vs = omega arith in
     ap₂ (λ i l. sum_value sums i vs + l) (row-of k 0 v some) (column-of k 0 v some) ∙ none
 
-place-is : (c : Target) (n i : ℕ) (z : PlainNest) (sums : List Sum) (us : List ℕ) (q a b : ℕ) → a ≡ b → IsCoded (frame_of c z.work) n sums i us q a → IsCoded (frame_of c z.work) n sums i us q b
+place-is : (c : Target) (n i : ℕ) (z : PlainNest) (sums : List Sum) (us : List ℕ) (q a b : ℕ) → a ≡ b →
+    IsCoded (frame_of c z.work) n sums i us q a → IsCoded (frame_of c z.work) n sums i us q b
 place-is c n i z sums us q a b is h = subst (λ (p : ℕ). IsCoded (frame_of c z.work) n sums i us q p) is h
 
-module _ (c : Target) (lanes : 0 < c.lanes) (z : PlainNest) (can : CanRunNest c z) (writes : CanWriteNest c z) (q : ℕ) (part : q < c.procs) (vs : List ℕ) (range : AreInRange can.framed.loops vs) where
+module _ (c : Target) (lanes : 0 < c.lanes) (z : PlainNest) (can : CanRunNest c z) (writes : CanWriteNest c z) (q : ℕ)
+    (part : q < c.procs) (vs : List ℕ) (range : AreInRange can.framed.loops vs) where
   -- the values of all variables on a lane
   abbrev on : ℕ → List ℕ
   on lane = values_of c z.work q lane vs
@@ -78,7 +88,8 @@ module _ (c : Target) (lanes : 0 < c.lanes) (z : PlainNest) (can : CanRunNest c 
   abbrev IsLow : List ℕ → Type 0
   IsLow more = (d : ℕ) → slice_index more d ≤ slice_index (work_size z.work ∷ work_size z.work ∷ []) d - 1
 
-  sum-coded : (sums : List Sum) (n i : ℕ) (more : List ℕ) → AreWithin (limits_of z) (frame_of c z.work) n sums → AreSound sums → length (vs ++ more) ≡ n → IsLow more →
+  sum-coded : (sums : List Sum) (n i : ℕ) (more : List ℕ) → AreWithin (limits_of z) (frame_of c z.work) n sums →
+      AreSound sums → length (vs ++ more) ≡ n → IsLow more →
       IsCoded (frame_of c z.work) n sums i (vs ++ more) q (sum_value sums i (on 0 ++ more))
   sum-coded sums n i more within sound size low =
       let same = values-append c z.work q vs more in
@@ -87,7 +98,8 @@ module _ (c : Target) (lanes : 0 < c.lanes) (z : PlainNest) (can : CanRunNest c 
       (subst (λ (us : List ℕ). ((d : ℕ) → slice_index us d ≤ limits_of z d - 1)) same (below-limits z.counts (on 0) more (work_size z.work ∷ work_size z.work ∷ []) (in_counts z.counts (on 0) (on-range 0 lanes)) low)))
 
   -- straight code's
-  alone-coded : (sums : List Sum) (i : ℕ) → AreWithin (limits_of z) (frame_of c z.work) (deep + 0) sums → AreSound sums → IsCoded (frame_of c z.work) deep sums i vs q (sum_value sums i (on 0))
+  alone-coded : (sums : List Sum) (i : ℕ) → AreWithin (limits_of z) (frame_of c z.work) (deep + 0) sums →
+      AreSound sums → IsCoded (frame_of c z.work) deep sums i vs q (sum_value sums i (on 0))
   alone-coded sums i within sound =
       let none : deep + 0 ≡ deep = omega arith in
       let here : IsCoded (frame_of c z.work) (deep + 0) sums i (vs ++ []) q (sum_value sums i (on 0 ++ [])) =
@@ -112,13 +124,19 @@ module _ (c : Target) (lanes : 0 < c.lanes) (z : PlainNest) (can : CanRunNest c 
   two-low k l below under (suc (suc d)) = omega arith
 
   -- the sum of a row
-  row-coded : (sums : List Sum) (k : ℕ) → k < work_size z.work → AreWithin (limits_of z) (frame_of c z.work) (deep + 1) sums → AreSound sums → IsCoded (frame_of c z.work) (deep + 1) sums 0 (vs ++ k ∷ []) q (sum_value sums 0 (on 0 ++ k ∷ []))
+  row-coded : (sums : List Sum) (k : ℕ) → k < work_size z.work →
+      AreWithin (limits_of z) (frame_of c z.work) (deep + 1) sums → AreSound sums →
+      IsCoded (frame_of c z.work) (deep + 1) sums 0 (vs ++ k ∷ []) q (sum_value sums 0 (on 0 ++ k ∷ []))
   row-coded sums k below within sound = sum-coded sums (deep + 1) 0 (k ∷ []) within sound (length-one k) (one-low k below)
 
   -- the sum of a turn in a row, which does not hang on the row
-  turn-coded : (k l : ℕ) → k < work_size z.work → l < work_size z.work → AreWithin (limits_of z) (frame_of c z.work) (deep + 2) z.gathers → AreSound z.gathers →
-      ((us : List ℕ) (row j : ℕ) → paths.AreInRange (loops_of z.counts) us → row < work_size z.work → j < work_size z.work → value (slice_index_or z.gathers 0 (constant 0)) (slice_index (us ++ row ∷ j ∷ [])) ≡ value (slice_index_or z.gathers 0 (constant 0)) (slice_index (us ++ 0 ∷ j ∷ []))) →
-      IsCoded (frame_of c z.work) (deep + 2) z.gathers 0 ((vs ++ k ∷ []) ++ l ∷ []) q (sum_value z.gathers 0 (on 0 ++ 0 ∷ l ∷ []))
+  turn-coded : (k l : ℕ) → k < work_size z.work → l < work_size z.work →
+      AreWithin (limits_of z) (frame_of c z.work) (deep + 2) z.gathers → AreSound z.gathers →
+      ((us : List ℕ) (row j : ℕ) → paths.AreInRange (loops_of z.counts) us → row < work_size z.work →
+      j < work_size z.work → value (slice_index_or z.gathers 0 (constant 0)) (slice_index (us ++ row ∷ j ∷ []))
+      ≡ value (slice_index_or z.gathers 0 (constant 0)) (slice_index (us ++ 0 ∷ j ∷ []))) →
+      IsCoded (frame_of c z.work) (deep + 2) z.gathers 0 ((vs ++ k ∷ []) ++ l ∷ []) q
+      (sum_value z.gathers 0 (on 0 ++ 0 ∷ l ∷ []))
   turn-coded k l below under within sound alike =
       subst (λ (us : List ℕ). IsCoded (frame_of c z.work) (deep + 2) z.gathers 0 us q (sum_value z.gathers 0 (on 0 ++ 0 ∷ l ∷ []))) (sym (append_assoc vs (k ∷ []) (l ∷ [])))
       (place-is c (deep + 2) 0 z z.gathers (vs ++ k ∷ l ∷ []) q _ _ (alike (on 0) k l (on-range 0 lanes) below under)
@@ -143,11 +161,14 @@ module _ (c : Target) (lanes : 0 < c.lanes) (z : PlainNest) (can : CanRunNest c 
         let low = can.inside.stores (on last) (item_of z.work k last) (on-range last there) (item-below c z.work k last can.work under there) in
         omega arith
 
-    pub is-loaded : (n i : ℕ) (us : List ℕ) → IsCoded (frame_of c z.work) n z.gathers i us q (load_at c z q vs k) → IsLoadedAt c z q n i us vs k
+    pub is-loaded : (n i : ℕ) (us : List ℕ) → IsCoded (frame_of c z.work) n z.gathers i us q (load_at c z q vs k) →
+        IsLoadedAt c z q n i us vs k
     is-loaded n i us codes = record { coded = codes; inside = load-inside }
 
-    pub is-stored : (step n i : ℕ) (us : List ℕ) → lane_step z.work ≡ step → IsCoded (frame_of c z.work) n z.scatters i us q (store_at c z q vs k) →
-        ((d : PlainMultiplier) → z.multiplier ≡ Some d → IsCoded (frame_of c z.work) n d.places i us q (store_place z.work d.places (on 0) (item_of z.work k 0))) → IsStoredAt c z q step n i us vs k
+    pub is-stored : (step n i : ℕ) (us : List ℕ) → lane_step z.work ≡ step →
+        IsCoded (frame_of c z.work) n z.scatters i us q (store_at c z q vs k) →
+        ((d : PlainMultiplier) → z.multiplier ≡ Some d → IsCoded (frame_of c z.work) n d.places i us q
+        (store_place z.work d.places (on 0) (item_of z.work k 0))) → IsStoredAt c z q step n i us vs k
     is-stored step n i us same codes multiplied =
         record {
           coded = codes;
@@ -162,15 +183,21 @@ module _ (c : Target) (lanes : 0 < c.lanes) (z : PlainNest) (can : CanRunNest c 
 
 -- ---- copies
 
-module _ (c : Target) (lanes : 0 < c.lanes) (program : PlainProgram) (here : IsFor c program) (q : ℕ) (part : q < c.procs) (source target : Array) (powers table : ℕ) where
+module _ (c : Target) (lanes : 0 < c.lanes) (program : PlainProgram) (here : IsFor c program) (q : ℕ)
+    (part : q < c.procs) (source target : Array) (powers table : ℕ) where
   -- the tables of a nest
   pub record HasNestTables (z : PlainNest) : Type 0 where
-    pub diagonal : (d : PlainMultiplier) → z.multiplier ≡ Some d → one_factor d.factors ≡ None → slice_index_or program.tables table [] ≡ diagonal_of c.modulus d.factors
-    pub rows_there : (root n : ℕ) → z.work ≡ rows root n → slice_index_or program.tables powers [] ≡ powers_of c.modulus root n
-    pub horner_there : (root n : ℕ) → z.work ≡ horner root n → slice_index_or program.tables powers [] ≡ powers_of c.modulus root n
+    pub diagonal : (d : PlainMultiplier) → z.multiplier ≡ Some d → one_factor d.factors ≡ None →
+        slice_index_or program.tables table [] ≡ diagonal_of c.modulus d.factors
+    pub rows_there : (root n : ℕ) → z.work ≡ rows root n → slice_index_or program.tables powers []
+        ≡ powers_of c.modulus root n
+    pub horner_there : (root n : ℕ) → z.work ≡ horner root n →
+        slice_index_or program.tables powers [] ≡ powers_of c.modulus root n
 
-  emits-copy : (p : PlainNest) (w : PlainWork) (can : CanRunNest c (working p w)) → CanWriteNest c (working p w) → HasNestTables (working p w) → (vs : List ℕ) → AreInRange can.framed.loops vs →
-      Emits (steps_of_body program (work_body c (working p w) w (length (loop_counts c (working p w))) powers table source target) vs q) (copy_acts c (working p w) w (start_of c source) (start_of c target) q vs)
+  emits-copy : (p : PlainNest) (w : PlainWork) (can : CanRunNest c (working p w)) → CanWriteNest c (working p w) →
+      HasNestTables (working p w) → (vs : List ℕ) → AreInRange can.framed.loops vs →
+      Emits (steps_of_body program (work_body c (working p w) w (length (loop_counts c (working p w))) powers table
+      source target) vs q) (copy_acts c (working p w) w (start_of c source) (start_of c target) q vs)
   emits-copy p (kernel k) can writes has vs range =
       let z : PlainNest = working p (kernel k) in
       let deep = length (loop_counts c z) in
@@ -227,7 +254,9 @@ module _ (c : Target) (lanes : 0 < c.lanes) (program : PlainProgram) (here : IsF
       (λ d is. row-coded c lanes z can writes q part vs range d.places k row (writes.multiplier d is).1 (writes.multiplier d is).0.sound))
 
   pub emits-loops : (z : PlainNest) (can : CanRunNest c z) → CanWriteNest c z → HasNestTables z →
-      Emits (steps_of_body program (nested (loop_counts c z) (work_body c z z.work (length (loop_counts c z)) powers table source target)) [] q) (nest_acts c z (start_of c source) (start_of c target) q)
+      Emits (steps_of_body program (nested (loop_counts c z)
+      (work_body c z z.work (length (loop_counts c z)) powers table source target)) [] q)
+      (nest_acts c z (start_of c source) (start_of c target) q)
   emits-loops z can writes has =
       emits-nested program q (loop_counts c z) (work_body c z z.work (length (loop_counts c z)) powers table source target) (copy_acts c z z.work (start_of c source) (start_of c target) q) []
       (λ vs range. emits-copy z z.work can writes has vs (of_code c z can.framed vs range))
@@ -247,22 +276,30 @@ extends-more a b d h k = record { last = k.last ++ h.last; is = h.is ∙ ap (λ 
 pub nest-extends : (m : ℕ) (z : PlainNest) (ts : List (List ℕ)) → Extends (tables_of_nest m z ts) ts
 nest-extends m z ts = extends-more (tables_of_nest m z ts) (tables_of_work m z.work ts) ts (multiplier-extends m z.multiplier (tables_of_work m z.work ts)) (work-extends m z.work ts)
 
-powers-there : (m : ℕ) (o : Option PlainMultiplier) (entries : List ℕ) (ts more : List (List ℕ)) → slice_index_or (tables_of_multiplier m o (with_table ts entries) ++ more) (table_number ts entries) [] ≡ entries
+powers-there : (m : ℕ) (o : Option PlainMultiplier) (entries : List ℕ) (ts more : List (List ℕ)) →
+    slice_index_or (tables_of_multiplier m o (with_table ts entries) ++ more) (table_number ts entries) [] ≡ entries
 powers-there m o entries ts more = number-stays ts entries (tables_of_multiplier m o (with_table ts entries)) more (multiplier-extends m o (with_table ts entries))
 
-module _ (c : Target) (lanes : 0 < c.lanes) (program : PlainProgram) (here : IsFor c program) (q : ℕ) (part : q < c.procs) (source target : Array) (tables more : List (List ℕ)) where
-  rows-table : (w : PlainWork) (o : Option PlainMultiplier) (root n : ℕ) → w ≡ rows root n → slice_index_or (tables_of_multiplier c.modulus o (tables_of_work c.modulus w tables) ++ more) (powers_number c.modulus w tables) [] ≡ powers_of c.modulus root n
+module _ (c : Target) (lanes : 0 < c.lanes) (program : PlainProgram) (here : IsFor c program) (q : ℕ)
+    (part : q < c.procs) (source target : Array) (tables more : List (List ℕ)) where
+  rows-table : (w : PlainWork) (o : Option PlainMultiplier) (root n : ℕ) → w ≡ rows root n →
+      slice_index_or (tables_of_multiplier c.modulus o (tables_of_work c.modulus w tables) ++ more)
+      (powers_number c.modulus w tables) [] ≡ powers_of c.modulus root n
   rows-table w o root n is =
       subst (λ (u : PlainWork). slice_index_or (tables_of_multiplier c.modulus o (tables_of_work c.modulus u tables) ++ more) (powers_number c.modulus u tables) [] ≡ powers_of c.modulus root n) (sym is)
       (powers-there c.modulus o (powers_of c.modulus root n) tables more)
 
-  horner-table : (w : PlainWork) (o : Option PlainMultiplier) (root n : ℕ) → w ≡ horner root n → slice_index_or (tables_of_multiplier c.modulus o (tables_of_work c.modulus w tables) ++ more) (powers_number c.modulus w tables) [] ≡ powers_of c.modulus root n
+  horner-table : (w : PlainWork) (o : Option PlainMultiplier) (root n : ℕ) → w ≡ horner root n →
+      slice_index_or (tables_of_multiplier c.modulus o (tables_of_work c.modulus w tables) ++ more)
+      (powers_number c.modulus w tables) [] ≡ powers_of c.modulus root n
   horner-table w o root n is =
       subst (λ (u : PlainWork). slice_index_or (tables_of_multiplier c.modulus o (tables_of_work c.modulus u tables) ++ more) (powers_number c.modulus u tables) [] ≡ powers_of c.modulus root n) (sym is)
       (powers-there c.modulus o (powers_of c.modulus root n) tables more)
 
-  pub emits-nest : (z : PlainNest) → CanRunNest c z → CanWriteNest c z → program.tables ≡ tables_of_nest c.modulus z tables ++ more →
-      Emits (steps_of_body program (nest_body c z tables source target) [] q) (nest_acts c z (start_of c source) (start_of c target) q)
+  pub emits-nest : (z : PlainNest) → CanRunNest c z → CanWriteNest c z →
+      program.tables ≡ tables_of_nest c.modulus z tables ++ more →
+      Emits (steps_of_body program (nest_body c z tables source target) [] q)
+      (nest_acts c z (start_of c source) (start_of c target) q)
   emits-nest z can writes has =
       let powers = powers_number c.modulus z.work tables in
       let table = multiplier_number c.modulus z.multiplier (tables_of_work c.modulus z.work tables) in

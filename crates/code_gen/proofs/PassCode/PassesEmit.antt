@@ -1,5 +1,6 @@
 -- The statements of passes are their actions.
-use Rattle.std.proofs.Common.{◌≡◌, ℕ, ◌^◌, ◌<◌, ◌≤◌, List, [], ◌∷◌, ◌++◌, length, true, refl, sym, ap, ◌∙◌, arith, append_assoc, append-nil, Contains}
+use Rattle.std.proofs.Common.{◌≡◌, ℕ, ◌^◌, ◌<◌, ◌≤◌, List, [], ◌∷◌, ◌++◌, length, true, refl, sym, ap, ◌∙◌, arith}
+use Rattle.std.proofs.Common.{append_assoc, append-nil, Contains}
 use Rattle.std.proofs.lemmas.List.Elements.{All-contains}
 use Rattle.icode.proofs.Lines.{Contains-head, Contains-tail}
 use Rattle.icode.specs.declared.program.Array.{Array}
@@ -35,8 +36,10 @@ CanDo c zs = (z : PlainNest) → Contains zs z → CanRunNest c z × CanWriteNes
 
 module _ (c : Target) (lanes : 0 < c.lanes) (modulus : 2 ≤ c.modulus) (source target : Array) where
   module _ (program : PlainProgram) (here : IsFor c program) (q : ℕ) (part : q < c.procs) where
-    emits-nests : (zs : List PlainNest) → CanDo c zs → (tables more : List (List ℕ)) → program.tables ≡ tables_after c.modulus zs tables ++ more →
-        Emits (steps_of_body program (pass_body c zs tables source target) [] q) (pass_acts c zs (start_of c source) (start_of c target) q)
+    emits-nests : (zs : List PlainNest) → CanDo c zs → (tables more : List (List ℕ)) →
+        program.tables ≡ tables_after c.modulus zs tables ++ more →
+        Emits (steps_of_body program (pass_body c zs tables source target) [] q)
+        (pass_acts c zs (start_of c source) (start_of c target) q)
     emits-nests [] can tables more has = emits-none
     emits-nests (z ∷ zs) can tables more has =
         let first = can z (Contains-head z zs) in
@@ -46,7 +49,9 @@ module _ (c : Target) (lanes : 0 < c.lanes) (modulus : 2 ≤ c.modulus) (source 
         (emits-nest c lanes program here q part source target tables (later.last ++ more) z first.0 first.1 (has ∙ ap (λ (ts : List (List ℕ)). ts ++ more) later.is ∙ append_assoc so_far later.last more))
         (emits-nests zs (λ p one. can p (Contains-tail z zs p one)) so_far more has)
 
-  nests-within : (zs : List PlainNest) → CanDo c zs → (tables : List (List ℕ)) → length (tables_after c.modulus zs tables) < 2 ^ 32 → is_body_within c.modulus (pass_body c zs tables source target) 0 ≡ true
+  nests-within : (zs : List PlainNest) → CanDo c zs → (tables : List (List ℕ)) →
+      length (tables_after c.modulus zs tables) < 2 ^ 32 → is_body_within c.modulus
+      (pass_body c zs tables source target) 0 ≡ true
   nests-within [] can tables some = refl
   nests-within (z ∷ zs) can tables some =
       let first = can z (Contains-head z zs) in

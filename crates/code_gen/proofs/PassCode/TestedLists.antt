@@ -18,7 +18,8 @@ use Rattle.perm_algebra.specs.Affine.{Sum}
 
 -- ---- one by one
 
-coded-all : (room n : ℕ) (cs : ℕ → ℕ) (sums : List Sum) → room ≤ 64 → n ≤ 2 ^ 20 → list_all (is_limited room n cs) sums ≡ true → All (CanBeCoded cs) sums
+coded-all : (room n : ℕ) (cs : ℕ → ℕ) (sums : List Sum) → room ≤ 64 → n ≤ 2 ^ 20 →
+    list_all (is_limited room n cs) sums ≡ true → All (CanBeCoded cs) sums
 coded-all room n cs [] few high h = All-nil (CanBeCoded cs)
 coded-all room n cs (e ∷ es) few high h =
     All-cons (CanBeCoded cs) e es (tested_sums_are_coded room n cs e few high (and-left (is_limited room n cs e) _ h)) (coded-all room n cs es few high (and-right (is_limited room n cs e) _ h))
@@ -33,7 +34,9 @@ frame-pick false more is = omega arith
 frame-is : (h : Target) (w : PlainWork) → IsFrame (frame_of h w)
 frame-is h w is = frame-pick (h.procs == 1) (lane_variables h w) is
 
-pub sums-written : (room n : ℕ) (cs : ℕ → ℕ) (h : Target) (w : PlainWork) (open_loops : ℕ) (sums : List Sum) → open_loops ≤ 64 → room ≤ 64 → n ≤ 2 ^ 20 → list_all (is_limited room n cs) sums ≡ true → AreWithin cs (frame_of h w) open_loops sums
+pub sums-written : (room n : ℕ) (cs : ℕ → ℕ) (h : Target) (w : PlainWork) (open_loops : ℕ) (sums : List Sum) →
+    open_loops ≤ 64 → room ≤ 64 → n ≤ 2 ^ 20 → list_all (is_limited room n cs) sums ≡ true →
+    AreWithin cs (frame_of h w) open_loops sums
 sums-written room n cs h w open_loops sums shallow few high tested =
     let all = coded-all room n cs sums few high tested in
     record {

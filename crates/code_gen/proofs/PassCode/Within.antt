@@ -1,13 +1,16 @@
 -- Expressions stand within the limits of programs.
-use Rattle.std.proofs.Common.{◌≡◌, ℕ, zero, suc, ◌+◌, ◌^◌, ◌<◌, ◌≤◌, Bool, true, false, inl, inr, arith, refl, sym, ap, ap₂, ◌∙◌, if◌then◌else◌, subst, nat_lt}
+use Rattle.std.proofs.Common.{◌≡◌, ℕ, zero, suc, ◌+◌, ◌^◌, ◌<◌, ◌≤◌, Bool, true, false, inl, inr, arith, refl, sym, ap}
+use Rattle.std.proofs.Common.{ap₂, ◌∙◌, if◌then◌else◌, subst, nat_lt}
 use Rattle.std.specs.Prelude.{◌&&◌, nat_le}
 use Rattle.std.proofs.lemmas.Bool.{cases_eq}
 use Rattle.std.proofs.lemmas.Bool.Decides.{nat_tests}
-use Rattle.icode.specs.Limits.{is_small_positive, is_sum_within, are_parts_within, is_part_within, rank, next_rank, sum_parts, all_parts, part_parts, sum_depth, parts_depth, part_depth}
+use Rattle.icode.specs.Limits.{is_small_positive, is_sum_within, are_parts_within, is_part_within, rank, next_rank}
+use Rattle.icode.specs.Limits.{sum_parts, all_parts, part_parts, sum_depth, parts_depth, part_depth}
 use Rattle.icode.specs.Plain.{PlainParts, PlainPart, AndParts, Proc, Var}
 use Rattle.perm_algebra.specs.Affine.{Sum, constant, variable, remainder, quotient, levels, parts}
 use Rattle.perm_algebra.specs.Room.{constant_of}
-use Rattle.code_gen.specs.PassCode.Expressions.{factor_at, variables_of, processor_of, remainders_of, quotients_of, divisions_of, expr_of}
+use Rattle.code_gen.specs.PassCode.Expressions.{factor_at, variables_of, processor_of, remainders_of, quotients_of}
+use Rattle.code_gen.specs.PassCode.Expressions.{divisions_of, expr_of}
 use Rattle.sigma_spl.specs.Shared.Machine.{PlainFrame}
 use Rattle.code_gen.specs.PassCode.Small.{DividesSmall, ExpressionsAreWithin, HasSmall, IsFrame, IsSmallPositive}
 use Rattle.code_gen.proofs.PassCode.Numbers.{with_factor_of}
@@ -28,8 +31,10 @@ small-positive n some few = both _ _ (below 0 n some) (below n (2 ^ 32) few)
 -- ---- in their order
 
 -- a part before others, where its factor is not 0
-part-within : (g n least : ℕ) (part : PlainPart) (ps : PlainParts) → least ≤ rank part → (0 < g → is_part_within part n ≡ true) →
-    are_parts_within ps n least ≡ true → are_parts_within ps n (next_rank part) ≡ true → are_parts_within (with_factor_of g part ps) n least ≡ true
+part-within : (g n least : ℕ) (part : PlainPart) (ps : PlainParts) → least ≤ rank part →
+    (0 < g → is_part_within part n ≡ true) →
+    are_parts_within ps n least ≡ true → are_parts_within ps n (next_rank part) ≡ true →
+    are_parts_within (with_factor_of g part ps) n least ≡ true
 part-within g n least part ps low one without behind =
     elim (cases_eq g 0) [
       | inl gone ↦ ap (λ b. are_parts_within (if b then ps else AndParts part ps) n least) (is-zero g gone) ∙ without
@@ -42,7 +47,8 @@ part-within g n least part ps low one without behind =
 abbrev StandLast : ℕ → PlainParts → Type 0
 StandLast n ps = (least : ℕ) → least ≤ 5000 → are_parts_within ps n least ≡ true
 
-variables-within : (f : PlainFrame) (n k d least : ℕ) (e : Sum) (ps : PlainParts) → n ≤ 64 → d + k ≤ n → least ≤ 1 + d → ((i : ℕ) → factor_at i e < 2 ^ 32) → StandLast n ps →
+variables-within : (f : PlainFrame) (n k d least : ℕ) (e : Sum) (ps : PlainParts) → n ≤ 64 → d + k ≤ n → least ≤ 1 + d →
+    ((i : ℕ) → factor_at i e < 2 ^ 32) → StandLast n ps →
     are_parts_within (variables_of f k d e ps) n least ≡ true
 variables-within f n zero d least e ps few enough low small last = last least (omega arith)
 variables-within f n (suc k) d least e ps few enough low small last =
@@ -51,10 +57,12 @@ variables-within f n (suc k) d least e ps few enough low small last =
     (variables-within f n k (d + 1) least e ps few (omega arith) (omega arith) small last)
     (variables-within f n k (d + 1) (suc (1 + d)) e ps few (omega arith) (omega arith) small last)
 
-processor-within : (f : PlainFrame) (n : ℕ) (e : Sum) (ps : PlainParts) → ((i : ℕ) → factor_at i e < 2 ^ 32) → are_parts_within ps n 0 ≡ true → are_parts_within ps n 1 ≡ true → are_parts_within (processor_of f e ps) n 0 ≡ true
+processor-within : (f : PlainFrame) (n : ℕ) (e : Sum) (ps : PlainParts) → ((i : ℕ) → factor_at i e < 2 ^ 32) →
+    are_parts_within ps n 0 ≡ true → are_parts_within ps n 1 ≡ true → are_parts_within (processor_of f e ps) n 0 ≡ true
 processor-within f n e ps small first behind = either f.shared
   where
-    either : (b : Bool) → are_parts_within (if b then with_factor_of (factor_at 0 e) (Proc (factor_at 0 e)) ps else ps) n 0 ≡ true
+    either : (b : Bool) → are_parts_within (if b then with_factor_of (factor_at 0 e) (Proc (factor_at 0 e)) ps else ps)
+        n 0 ≡ true
     either true = part-within (factor_at 0 e) n 0 (Proc (factor_at 0 e)) ps (omega arith) (λ some. small-positive (factor_at 0 e) some (small 0)) first behind
     either false = first
 
@@ -62,7 +70,8 @@ processor-within f n e ps small first behind = either f.shared
 abbrev StandAfter : ℕ → PlainParts → Type 0
 StandAfter n ps = (least : ℕ) → least ≤ 5001 → are_parts_within ps n least ≡ true
 
-whole-within : (f : PlainFrame) (n : ℕ) (e : Sum) → n ≤ 64 → HasSmall e → StandLast n (divisions_of f n e) → is_sum_within (expr_of f n e) n ≡ true
+whole-within : (f : PlainFrame) (n : ℕ) (e : Sum) → n ≤ 64 → HasSmall e → StandLast n (divisions_of f n e) →
+    is_sum_within (expr_of f n e) n ≡ true
 whole-within f n e enough h last =
     both _ _ (below (constant_of e) (2 ^ 32) h.constant_is)
     (processor-within f n e (variables_of f n 0 e (divisions_of f n e)) h.factors
@@ -74,7 +83,8 @@ positive-is n h = small-positive n h.0 h.1
 
 module _ (f : PlainFrame) (n : ℕ) (enough : n ≤ 64) where
   mutual
-    remainders-within : (e : Sum) (ps : PlainParts) → DividesSmall e → StandAfter n ps → StandLast n (remainders_of f n e ps)
+    remainders-within : (e : Sum) (ps : PlainParts) → DividesSmall e → StandAfter n ps →
+        StandLast n (remainders_of f n e ps)
     remainders-within (constant c) ps h after = λ least low. after least (omega arith)
     remainders-within (variable k d rest) ps h after = remainders-within rest ps h after
     remainders-within (remainder k of s rest) ps h after =
@@ -96,7 +106,8 @@ module _ (f : PlainFrame) (n : ℕ) (enough : n ≤ 64) where
 
 -- ---- how many parts there are
 
-parts-with : (g : ℕ) (part : PlainPart) (after : PlainParts) → all_parts (with_factor_of g part after) ≤ part_parts part + all_parts after
+parts-with : (g : ℕ) (part : PlainPart) (after : PlainParts) →
+    all_parts (with_factor_of g part after) ≤ part_parts part + all_parts after
 parts-with g part after =
     elim (cases_eq g 0) [
       | inl gone ↦ subst (λ b. all_parts (if b then after else AndParts part after) ≤ part_parts part + all_parts after) (sym (is-zero g gone)) (omega arith)
@@ -104,14 +115,17 @@ parts-with g part after =
     ]
 
 -- so many more as after it
-parts-same : (g : ℕ) (part : PlainPart) (after others : PlainParts) (more : ℕ) → all_parts after ≤ more + all_parts others → all_parts (with_factor_of g part after) ≤ more + all_parts (with_factor_of g part others)
+parts-same : (g : ℕ) (part : PlainPart) (after others : PlainParts) (more : ℕ) →
+    all_parts after ≤ more + all_parts others → all_parts (with_factor_of g part after) ≤ more
+    + all_parts (with_factor_of g part others)
 parts-same g part after others more h =
     elim (cases_eq g 0) [
       | inl gone ↦ subst (λ b. all_parts (if b then after else AndParts part after) ≤ more + all_parts (if b then others else AndParts part others)) (sym (is-zero g gone)) h
       | inr some ↦ subst (λ b. all_parts (if b then after else AndParts part after) ≤ more + all_parts (if b then others else AndParts part others)) (sym (not-zero g (omega arith))) (omega arith)
     ]
 
-parts-least : (g : ℕ) (part : PlainPart) (after : PlainParts) → all_parts after ≤ all_parts (with_factor_of g part after)
+parts-least : (g : ℕ) (part : PlainPart) (after : PlainParts) →
+    all_parts after ≤ all_parts (with_factor_of g part after)
 parts-least g part after =
     elim (cases_eq g 0) [
       | inl gone ↦ subst (λ b. all_parts after ≤ all_parts (if b then after else AndParts part after)) (sym (is-zero g gone)) (omega arith)
@@ -119,13 +133,15 @@ parts-least g part after =
     ]
 
 -- a variable before those of the loops is none of theirs
-more-variables : (f : PlainFrame) (k d g x : ℕ) (rest : Sum) (ps : PlainParts) → x < f.first_loop + d → variables_of f k d (variable g x rest) ps ≡ variables_of f k d rest ps
+more-variables : (f : PlainFrame) (k d g x : ℕ) (rest : Sum) (ps : PlainParts) → x < f.first_loop + d →
+    variables_of f k d (variable g x rest) ps ≡ variables_of f k d rest ps
 more-variables f zero d g x rest ps h = refl
 more-variables f (suc k) d g x rest ps h =
     ap₂ (λ a after. with_factor_of a (Var d a) after) (factor-other (f.first_loop + d) x g rest (λ same. omega arith)) (more-variables f k (d + 1) g x rest ps (omega arith))
 
 -- one part more adds at most one
-one-more : (f : PlainFrame) (k d g x : ℕ) (rest : Sum) (ps : PlainParts) → all_parts (variables_of f k d (variable g x rest) ps) ≤ 1 + all_parts (variables_of f k d rest ps)
+one-more : (f : PlainFrame) (k d g x : ℕ) (rest : Sum) (ps : PlainParts) →
+    all_parts (variables_of f k d (variable g x rest) ps) ≤ 1 + all_parts (variables_of f k d rest ps)
 one-more f zero d g x rest ps = omega arith
 one-more f (suc k) d g x rest ps =
     elim (cases_eq (f.first_loop + d) x) [
@@ -142,7 +158,8 @@ one-more f (suc k) d g x rest ps =
     ]
 
 one-more-processor : (f : PlainFrame) (n g x : ℕ) (rest : Sum) (ps : PlainParts) → IsFrame f →
-    all_parts (processor_of f (variable g x rest) (variables_of f n 0 (variable g x rest) ps)) ≤ 1 + all_parts (processor_of f rest (variables_of f n 0 rest ps))
+    all_parts (processor_of f (variable g x rest) (variables_of f n 0 (variable g x rest) ps)) ≤ 1
+    + all_parts (processor_of f rest (variables_of f n 0 rest ps))
 one-more-processor f n g x rest ps apart = either f.shared apart
   where
     theirs : PlainParts
@@ -152,7 +169,8 @@ one-more-processor f n g x rest ps apart = either f.shared apart
     others = variables_of f n 0 rest ps
 
     either : (b : Bool) → (b ≡ true → 0 < f.first_loop) →
-        all_parts (if b then with_factor_of (factor_at 0 (variable g x rest)) (Proc (factor_at 0 (variable g x rest))) theirs else theirs)
+        all_parts (if b then with_factor_of (factor_at 0 (variable g x rest))
+        (Proc (factor_at 0 (variable g x rest))) theirs else theirs)
         ≤ 1 + all_parts (if b then with_factor_of (factor_at 0 rest) (Proc (factor_at 0 rest)) others else others)
     either false h = one-more f n 0 g x rest ps
     either true h =
@@ -181,12 +199,14 @@ no-processor f c ps = either f.shared
     either true = refl
     either false = refl
 
-beside-remainder : (f : PlainFrame) (k d g m : ℕ) (of rest : Sum) (ps : PlainParts) → variables_of f k d (remainder g of m rest) ps ≡ variables_of f k d rest ps
+beside-remainder : (f : PlainFrame) (k d g m : ℕ) (of rest : Sum) (ps : PlainParts) →
+    variables_of f k d (remainder g of m rest) ps ≡ variables_of f k d rest ps
 beside-remainder f zero d g m of rest ps = refl
 beside-remainder f (suc k) d g m of rest ps =
     ap (λ after. with_factor_of (factor_at (f.first_loop + d) rest) (Var d (factor_at (f.first_loop + d) rest)) after) (beside-remainder f k (d + 1) g m of rest ps)
 
-beside-quotient : (f : PlainFrame) (k d g m : ℕ) (of rest : Sum) (ps : PlainParts) → variables_of f k d (quotient g of m rest) ps ≡ variables_of f k d rest ps
+beside-quotient : (f : PlainFrame) (k d g m : ℕ) (of rest : Sum) (ps : PlainParts) →
+    variables_of f k d (quotient g of m rest) ps ≡ variables_of f k d rest ps
 beside-quotient f zero d g m of rest ps = refl
 beside-quotient f (suc k) d g m of rest ps =
     ap (λ after. with_factor_of (factor_at (f.first_loop + d) rest) (Var d (factor_at (f.first_loop + d) rest)) after) (beside-quotient f k (d + 1) g m of rest ps)
@@ -217,7 +237,8 @@ parts-are (remainder f of m rest) = let h = parts-are rest in omega arith
 parts-are (quotient f of m rest) = let h = parts-are rest in omega arith
 
 module _ (f : PlainFrame) (n : ℕ) (apart : IsFrame f) where
-  variables-parts : (e : Sum) (ps : PlainParts) → all_parts (processor_of f e (variables_of f n 0 e ps)) ≤ outer_variables e + all_parts ps
+  variables-parts : (e : Sum) (ps : PlainParts) → all_parts (processor_of f e (variables_of f n 0 e ps))
+      ≤ outer_variables e + all_parts ps
   variables-parts (constant c) ps = omega (arith, ap all_parts (no-processor f c (variables_of f n 0 (constant c) ps) ∙ no-variables f n 0 c ps))
   variables-parts (variable g x rest) ps = omega (arith, one-more-processor f n g x rest ps apart, variables-parts rest ps)
   variables-parts (remainder g of s rest) ps =
@@ -226,7 +247,8 @@ module _ (f : PlainFrame) (n : ℕ) (apart : IsFrame f) where
       omega (arith, ap (λ after. all_parts (processor_of f rest after)) (beside-quotient f n 0 g s of rest ps), variables-parts rest ps)
 
   mutual
-    remainders-parts : (e : Sum) (ps : PlainParts) → all_parts (remainders_of f n e ps) ≤ remainder_parts e + all_parts ps
+    remainders-parts : (e : Sum) (ps : PlainParts) → all_parts (remainders_of f n e ps) ≤ remainder_parts e
+        + all_parts ps
     remainders-parts (constant c) ps = omega arith
     remainders-parts (variable k d rest) ps = remainders-parts rest ps
     remainders-parts (remainder k of s rest) ps =
@@ -253,14 +275,16 @@ module _ (f : PlainFrame) (n : ℕ) (apart : IsFrame f) where
 
 -- ---- how deep they are
 
-depth-with : (g : ℕ) (part : PlainPart) (after : PlainParts) → part_depth part ≡ 0 → parts_depth (with_factor_of g part after) ≡ parts_depth after
+depth-with : (g : ℕ) (part : PlainPart) (after : PlainParts) → part_depth part ≡ 0 →
+    parts_depth (with_factor_of g part after) ≡ parts_depth after
 depth-with g part after flat =
     elim (cases_eq g 0) [
       | inl gone ↦ subst (λ b. parts_depth (if b then after else AndParts part after) ≡ parts_depth after) (sym (is-zero g gone)) refl
       | inr some ↦ subst (λ b. parts_depth (if b then after else AndParts part after) ≡ parts_depth after) (sym (not-zero g (omega arith))) (omega arith)
     ]
 
-variables-depth : (f : PlainFrame) (k d : ℕ) (e : Sum) (ps : PlainParts) → parts_depth (variables_of f k d e ps) ≡ parts_depth ps
+variables-depth : (f : PlainFrame) (k d : ℕ) (e : Sum) (ps : PlainParts) →
+    parts_depth (variables_of f k d e ps) ≡ parts_depth ps
 variables-depth f zero d e ps = refl
 variables-depth f (suc k) d e ps =
     depth-with (factor_at (f.first_loop + d) e) (Var d (factor_at (f.first_loop + d) e)) (variables_of f k (d + 1) e ps) refl ∙ variables-depth f k (d + 1) e ps
@@ -268,7 +292,8 @@ variables-depth f (suc k) d e ps =
 processor-depth : (f : PlainFrame) (e : Sum) (ps : PlainParts) → parts_depth (processor_of f e ps) ≡ parts_depth ps
 processor-depth f e ps = either f.shared
   where
-    either : (b : Bool) → parts_depth (if b then with_factor_of (factor_at 0 e) (Proc (factor_at 0 e)) ps else ps) ≡ parts_depth ps
+    either : (b : Bool) → parts_depth (if b then with_factor_of (factor_at 0 e) (Proc (factor_at 0 e)) ps else ps)
+        ≡ parts_depth ps
     either true = depth-with (factor_at 0 e) (Proc (factor_at 0 e)) ps refl
     either false = refl
 
@@ -277,7 +302,8 @@ expr-depth f n e = processor-depth f e (variables_of f n 0 e (divisions_of f n e
 
 module _ (f : PlainFrame) (n : ℕ) where
   mutual
-    remainders-depth : (e : Sum) (ps : PlainParts) (most : ℕ) → levels e ≤ most → parts_depth ps ≤ most → parts_depth (remainders_of f n e ps) ≤ most
+    remainders-depth : (e : Sum) (ps : PlainParts) (most : ℕ) → levels e ≤ most → parts_depth ps ≤ most →
+        parts_depth (remainders_of f n e ps) ≤ most
     remainders-depth (constant c) ps most h after = after
     remainders-depth (variable k d rest) ps most h after = remainders-depth rest ps most h after
     remainders-depth (remainder k of s rest) ps most h after =

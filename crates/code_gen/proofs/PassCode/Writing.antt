@@ -23,12 +23,14 @@ factor-other d e f rest other = grind (arith, nat_tests)
 -- one variable before those after it
 pub one-variable : (f : PlainFrame) (n d : ℕ) (e : Sum) (ps : PlainParts) → d < n →
     variables_of f (n - d) d e ps
-    ≡ (if factor_at (f.first_loop + d) e == 0 then variables_of f (n - (d + 1)) (d + 1) e ps else AndParts (Var d (factor_at (f.first_loop + d) e)) (variables_of f (n - (d + 1)) (d + 1) e ps))
+    ≡ (if factor_at (f.first_loop + d) e == 0 then variables_of f (n - (d + 1))
+    (d + 1) e ps else AndParts (Var d (factor_at (f.first_loop + d) e)) (variables_of f (n - (d + 1)) (d + 1) e ps))
 one-variable f n d e ps h =
     let more : n - d ≡ suc (n - (d + 1)) = omega arith in
     ap (λ k. variables_of f k d e ps) more
 
-pub next-variable : (f : PlainFrame) (n last d g : ℕ) (e : Sum) (ps olds news : PlainParts) → last ≡ d + 1 → d < n → g ≡ factor_at (f.first_loop + d) e → olds ≡ variables_of f (n - last) last e ps →
+pub next-variable : (f : PlainFrame) (n last d g : ℕ) (e : Sum) (ps olds news : PlainParts) → last ≡ d + 1 → d < n →
+    g ≡ factor_at (f.first_loop + d) e → olds ≡ variables_of f (n - last) last e ps →
     news ≡ (if g == 0 then olds else AndParts (Var d g) olds) → news ≡ variables_of f (n - d) d e ps
 next-variable f n last d g e ps olds news next h factor is made =
     made

@@ -1,5 +1,6 @@
 -- In no phase does a processor touch a line that another writes.
-use Rattle.std.proofs.Common.{◌≡◌, ◌≢◌, ℕ, zero, suc, ◌+◌, ◌*◌, ◌/◌, ◌%◌, ◌<◌, ◌≤◌, ◌⊎◌, inl, inr, List, [], ◌∷◌, length, flat_map, refl, sym, ap, ap₂, ◌∙◌, arith, subst, All, Contains, div-lt_iff_lt-mul}
+use Rattle.std.proofs.Common.{◌≡◌, ◌≢◌, ℕ, zero, suc, ◌+◌, ◌*◌, ◌/◌, ◌%◌, ◌<◌, ◌≤◌, ◌⊎◌, inl, inr, List, [], ◌∷◌}
+use Rattle.std.proofs.Common.{length, flat_map, refl, sym, ap, ap₂, ◌∙◌, arith, subst, All, Contains, div-lt_iff_lt-mul}
 use Rattle.std.specs.Prelude.{slice_index_or}
 use Rattle.std.specs.List.{range_with_len}
 use Rattle.std.proofs.Math.Nat.{mul-add-div_right}
@@ -8,7 +9,8 @@ use Rattle.std.proofs.lemmas.Bool.{cases_lt}
 use Rattle.std.proofs.lemmas.List.{get_or_past}
 use Rattle.std.proofs.lemmas.List.Elements.{All-nil, All-cons, All-append, All-contains}
 use Rattle.icode.specs.Actions.{array_start}
-use Rattle.icode.specs.Machine.{Code, IsCode, IsApart, acts, lines_of, stored_words, touched_words, written_lines, touched_lines}
+use Rattle.icode.specs.Machine.{Code, IsCode, IsApart, acts, lines_of, stored_words, touched_words, written_lines}
+use Rattle.icode.specs.Machine.{touched_lines}
 use Rattle.icode.specs.declared.action.Action.{Action}
 use Rattle.icode.specs.declared.action.Action.TheVariants.{Load, Store, Zero, Add, Sub, Neg, Mul, Tile}
 use Rattle.icode.specs.declared.program.Array.{Array}
@@ -76,8 +78,12 @@ module _ (c : Target) (words : ℕ) (enough : c.size ≤ words) (owner : ℕ →
         tile_has = λ r x. tt;
       }
 
-  module _ (p : Pass) (known : CanWritePass c p) (source target : Array) (not_first : IsOther X target) (reads : Reads c words enough owner after p source) (owns : Owns c words enough owner after p) (q : ℕ) (low : q < c.procs) where
-    module _ (z : PlainNest) (one : Contains p z) (vs : List ℕ) (k lane : ℕ) (range : AreInRange (nest-can c p known.runs z one).framed.loops vs) (below : k < vectors_of z.work) (on : lane < c.lanes) where
+  module _ (p : Pass) (known : CanWritePass c p) (source target : Array) (not_first : IsOther X target)
+      (reads : Reads c words enough owner after p source) (owns : Owns c words enough owner after p) (q : ℕ)
+      (low : q < c.procs) where
+    module _ (z : PlainNest) (one : Contains p z) (vs : List ℕ) (k lane : ℕ)
+        (range : AreInRange (nest-can c p known.runs z one).framed.loops vs) (below : k < vectors_of z.work)
+        (on : lane < c.lanes) where
       abbrev can : CanRunNest c z
       can = nest-can c p known.runs z one
 
@@ -118,7 +124,8 @@ module _ (c : Target) (words : ℕ) (enough : c.size ≤ words) (owner : ℕ →
         (λ z one vs k r range below lane on. loads-keep z one vs k lane (of_code c z (nest-can c p known.runs z one).framed vs range) below on)
         (λ z one vs k r range below lane on. stores-keep z one vs k lane (of_code c z (nest-can c p known.runs z one).framed vs range) below on)
 
-  pub parts-keep : (ps : List Pass) (t : ℕ) (source : Array) → AllKnown c ps → Owned c words enough owner after ps t source → (q : ℕ) → q < c.procs →
+  pub parts-keep : (ps : List Pass) (t : ℕ) (source : Array) → AllKnown c ps →
+      Owned c words enough owner after ps t source → (q : ℕ) → q < c.procs →
       All (Keeps q) (passes_acts c words after ps t source q)
   parts-keep [] t source known owned q low = All-nil (Keeps q)
   parts-keep (p ∷ ps) t source known owned q low =
@@ -189,13 +196,15 @@ module _ (c : Target) (words : ℕ) (enough : c.size ≤ words) (owner : ℕ →
 
     -- ---- lists of lines
 
-    words-all : (P : ℕ → Type 0) (n a : ℕ) → ((k : ℕ) → k < n → P ((a + k) / c.line)) → All P (lines_of c.line (range_with_len a n))
+    words-all : (P : ℕ → Type 0) (n a : ℕ) → ((k : ℕ) → k < n → P ((a + k) / c.line)) →
+        All P (lines_of c.line (range_with_len a n))
     words-all P zero a each = All-nil P
     words-all P (suc n) a each =
         All-cons P (a / c.line) (lines_of c.line (range_with_len (a + 1) n)) (subst (λ w. P (w / c.line)) (omega arith) (each 0 (omega arith)))
         (words-all P n (a + 1) (λ k below. subst (λ w. P (w / c.line)) (omega arith) (each (suc k) (omega (arith, below)))))
 
-    written-all : (q : ℕ) (xs : List Action) → All (Keeps q) xs → All (WritesLine q) (flat_map (λ x. lines_of c.line (stored_words c.lanes x)) xs)
+    written-all : (q : ℕ) (xs : List Action) → All (Keeps q) xs →
+        All (WritesLine q) (flat_map (λ x. lines_of c.line (stored_words c.lanes x)) xs)
     written-all q [] h = All-nil (WritesLine q)
     written-all q (x ∷ xs) h =
         All-append (WritesLine q) (lines_of c.line (stored_words c.lanes x)) (flat_map (λ y. lines_of c.line (stored_words c.lanes y)) xs) (one x (h 0 x (omega arith)))
@@ -211,7 +220,8 @@ module _ (c : Target) (words : ℕ) (enough : c.size ≤ words) (owner : ℕ →
         one (Mul r x f) keeps = All-nil (WritesLine q)
         one (Tile r x) keeps = All-nil (WritesLine q)
 
-    touched-all : (q : ℕ) (xs : List Action) → All (Keeps q) xs → All (TouchesLine q) (flat_map (λ x. lines_of c.line (touched_words c.lanes x)) xs)
+    touched-all : (q : ℕ) (xs : List Action) → All (Keeps q) xs →
+        All (TouchesLine q) (flat_map (λ x. lines_of c.line (touched_words c.lanes x)) xs)
     touched-all q [] h = All-nil (TouchesLine q)
     touched-all q (x ∷ xs) h =
         All-append (TouchesLine q) (lines_of c.line (touched_words c.lanes x)) (flat_map (λ y. lines_of c.line (touched_words c.lanes y)) xs) (one x (h 0 x (omega arith)))
@@ -227,7 +237,8 @@ module _ (c : Target) (words : ℕ) (enough : c.size ≤ words) (owner : ℕ →
         one (Mul r x f) keeps = All-nil (TouchesLine q)
         one (Tile r x) keeps = All-nil (TouchesLine q)
 
-    pub lists-apart : (q other l : ℕ) (xs ys : List Action) → All (Keeps q) xs → All (Keeps other) ys → Contains (flat_map (λ x. lines_of c.line (stored_words c.lanes x)) xs) l →
+    pub lists-apart : (q other l : ℕ) (xs ys : List Action) → All (Keeps q) xs → All (Keeps other) ys →
+        Contains (flat_map (λ x. lines_of c.line (stored_words c.lanes x)) xs) l →
         Contains (flat_map (λ x. lines_of c.line (touched_words c.lanes x)) ys) l → other ≡ q
     lists-apart q other l xs ys writes reads written touched =
         clash q other l (All-contains (WritesLine q) (flat_map (λ x. lines_of c.line (stored_words c.lanes x)) xs) l (written-all q xs writes) written)
@@ -240,15 +251,18 @@ module _ (c : Target) (words : ℕ) (enough : c.size ≤ words) (some : 0 < c.li
   none-written : (f q : ℕ) → c.procs ≤ q → acts code f q ≡ []
   none-written f q past = acts_past code is_code f q (omega (arith, past, procs_are))
 
-  lines-written : (f q l : ℕ) → Contains (written_lines code f q) l → Contains (flat_map (λ x. lines_of c.line (stored_words c.lanes x)) (acts code f q)) l
+  lines-written : (f q l : ℕ) → Contains (written_lines code f q) l →
+      Contains (flat_map (λ x. lines_of c.line (stored_words c.lanes x)) (acts code f q)) l
   lines-written f q l h =
       subst (λ (g : Action → List ℕ). Contains (flat_map g (acts code f q)) l) (ap₂ {C = Action → List ℕ} (λ (k n : ℕ) (x : Action). lines_of k (stored_words n x)) line_is lanes_are) h
 
-  lines-touched : (f q l : ℕ) → Contains (touched_lines code f q) l → Contains (flat_map (λ x. lines_of c.line (touched_words c.lanes x)) (acts code f q)) l
+  lines-touched : (f q l : ℕ) → Contains (touched_lines code f q) l →
+      Contains (flat_map (λ x. lines_of c.line (touched_words c.lanes x)) (acts code f q)) l
   lines-touched f q l h =
       subst (λ (g : Action → List ℕ). Contains (flat_map g (acts code f q)) l) (ap₂ {C = Action → List ℕ} (λ (k n : ℕ) (x : Action). lines_of k (touched_words n x)) line_is lanes_are) h
 
-  one-apart : (f : ℕ) (owner : ℕ → ℕ) (after : ℕ) → IsOwner c owner → ((q : ℕ) → q < c.procs → All (Keeps c words enough owner after q) (acts code f q)) → IsApart code f
+  one-apart : (f : ℕ) (owner : ℕ → ℕ) (after : ℕ) → IsOwner c owner →
+      ((q : ℕ) → q < c.procs → All (Keeps c words enough owner after q) (acts code f q)) → IsApart code f
   one-apart f owner after is_owner keeps = record { alone = λ q other l differs writes reads. by_range q other l differs writes reads (cases_lt q c.procs) (cases_lt other c.procs) }
     where
       empty-written : (q l : ℕ) → c.procs ≤ q → Contains (written_lines code f q) l → ⊥
@@ -257,7 +271,9 @@ module _ (c : Target) (words : ℕ) (enough : c.size ≤ words) (some : 0 < c.li
       empty-touched : (q l : ℕ) → c.procs ≤ q → Contains (touched_lines code f q) l → ⊥
       empty-touched q l past h = Contains-nil l (subst (λ (xs : List Action). Contains (flat_map (λ x. lines_of code.line (touched_words code.lanes x)) xs) l) (none-written f q past) h)
 
-      by_range : (q other l : ℕ) → other ≢ q → Contains (written_lines code f q) l → Contains (touched_lines code f other) l → (q < c.procs) ⊎ (c.procs ≤ q) → (other < c.procs) ⊎ (c.procs ≤ other) → ⊥
+      by_range : (q other l : ℕ) → other ≢ q → Contains (written_lines code f q) l →
+          Contains (touched_lines code f other) l → (q < c.procs) ⊎ (c.procs ≤ q) →
+          (other < c.procs) ⊎ (c.procs ≤ other) → ⊥
       by_range q other l differs writes reads (inr past) o = empty-written q l past writes
       by_range q other l differs writes reads (inl low) (inr past) = empty-touched other l past reads
       by_range q other l differs writes reads (inl low) (inl high) =
@@ -267,7 +283,8 @@ module _ (c : Target) (words : ℕ) (enough : c.size ≤ words) (some : 0 < c.li
   ApartPhases f [] = Unit {0}
   ApartPhases f (ps ∷ more) = IsApart code f × ApartPhases (f + 1) more
 
-  pub phases-apart : (f : ℕ) (pss : List (List Pass)) (t : ℕ) (source : Array) → PhasesKnown c pss → SharedFrom c words enough code modulus_is lanes_are procs_are pss t source →
+  pub phases-apart : (f : ℕ) (pss : List (List Pass)) (t : ℕ) (source : Array) → PhasesKnown c pss →
+      SharedFrom c words enough code modulus_is lanes_are procs_are pss t source →
       RunsPhases c words enough code modulus_is lanes_are procs_are f pss t source → ApartPhases f pss
   phases-apart f [] t source known shared runs = tt
   phases-apart f (ps ∷ more) t source known shared runs = (
@@ -293,7 +310,8 @@ module _ (c : Target) (words : ℕ) (enough : c.size ≤ words) (some : 0 < c.li
       none : (q : ℕ) → acts code f q ≡ []
       none q = ap (λ (lists : List (List Action)). slice_index_or lists q []) (get_or_past code.lists f [] past)
 
-  pub all-apart : (pss : List (List Pass)) → length code.lists ≡ length pss → ApartPhases 0 pss → (f : ℕ) → IsApart code f
+  pub all-apart : (pss : List (List Pass)) → length code.lists ≡ length pss → ApartPhases 0 pss → (f : ℕ) →
+      IsApart code f
   all-apart pss long h f =
       elim (cases_lt f (length pss)) [
         | inl low ↦ subst (IsApart code) (omega arith) (at-phase 0 pss h f low)

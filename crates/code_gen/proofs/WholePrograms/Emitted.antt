@@ -1,5 +1,6 @@
 -- The statements of passes in a row are their actions.
-use Rattle.std.proofs.Common.{◌≡◌, ℕ, suc, ◌+◌, ◌^◌, ◌<◌, ◌≤◌, All, List, [], ◌∷◌, ◌++◌, length, true, refl, sym, ap, ap₂, ◌∙◌, arith, append-nil, append_assoc, subst}
+use Rattle.std.proofs.Common.{◌≡◌, ℕ, suc, ◌+◌, ◌^◌, ◌<◌, ◌≤◌, All, List, [], ◌∷◌, ◌++◌, length, true, refl, sym, ap}
+use Rattle.std.proofs.Common.{ap₂, ◌∙◌, arith, append-nil, append_assoc, subst}
 use Rattle.std.proofs.lemmas.List.Elements.{All-append, All-nil}
 use Rattle.icode.specs.Actions.{actions_of, steps_of_body}
 use Rattle.icode.specs.Limits.{is_body_within}
@@ -30,13 +31,15 @@ pub through-longer : (m : ℕ) (ps : List Pass) (ts : List (List ℕ)) → lengt
 through-longer m [] ts = omega arith
 through-longer m (p ∷ ps) ts = let first = pass-longer m p ts in let rest = through-longer m ps (tables_after m p ts) in omega arith
 
-pub phases-longer : (m : ℕ) (pss : List (List Pass)) (ts : List (List ℕ)) → length ts ≤ length (tables_of_phases m pss ts)
+pub phases-longer : (m : ℕ) (pss : List (List Pass)) (ts : List (List ℕ)) →
+    length ts ≤ length (tables_of_phases m pss ts)
 phases-longer m [] ts = omega arith
 phases-longer m (ps ∷ more) ts = let first = through-longer m ps ts in let rest = phases-longer m more (tables_through m ps ts) in omega arith
 
 module _ (c : Target) where
   -- a program with more tables has the first ones
-  pub fewer-tables : (a b : List (List ℕ)) (program : PlainProgram) → Extends b a → HasTables c b program → HasTables c a program
+  pub fewer-tables : (a b : List (List ℕ)) (program : PlainProgram) → Extends b a → HasTables c b program →
+      HasTables c a program
   fewer-tables a b program g h =
       record {
         size = h.size;
@@ -51,8 +54,11 @@ module _ (c : Target) where
   words = whole_lines c.size c.line
 
   module _ (after : ℕ) (program : PlainProgram) (q : ℕ) (low : q < c.procs) where
-    pub passes-acts : (ps : List Pass) (t : ℕ) (tables : List (List ℕ)) (source : Array) → AllKnown c ps → length (tables_through c.modulus ps tables) < 2 ^ 32 → HasTables c (tables_through c.modulus ps tables) program →
-        actions_of (steps_of_body program (phase_body c after ps t tables source) [] q) ≡ passes_acts c words after ps t source q
+    pub passes-acts : (ps : List Pass) (t : ℕ) (tables : List (List ℕ)) (source : Array) → AllKnown c ps →
+        length (tables_through c.modulus ps tables) < 2 ^ 32 →
+        HasTables c (tables_through c.modulus ps tables) program →
+        actions_of (steps_of_body program (phase_body c after ps t tables source) [] q)
+        ≡ passes_acts c words after ps t source q
     passes-acts [] t tables source all few has = refl
     passes-acts (p ∷ ps) t tables source all few has =
         let so_far = tables_after c.modulus p tables in
@@ -65,7 +71,9 @@ module _ (c : Target) where
         ∙ actions_of-append (steps_of_body program (pass_body c p tables source target) [] q) (steps_of_body program (phase_body c after ps (suc t) so_far target) [] q)
         ∙ ap₂ (λ (xs ys : List Action). xs ++ ys) first rest
 
-    pub passes-inside : (ps : List Pass) (t : ℕ) (tables : List (List ℕ)) (source : Array) → AllKnown c ps → length (tables_through c.modulus ps tables) < 2 ^ 32 → HasTables c (tables_through c.modulus ps tables) program →
+    pub passes-inside : (ps : List Pass) (t : ℕ) (tables : List (List ℕ)) (source : Array) → AllKnown c ps →
+        length (tables_through c.modulus ps tables) < 2 ^ 32 →
+        HasTables c (tables_through c.modulus ps tables) program →
         All IsInside (steps_of_body program (phase_body c after ps t tables source) [] q)
     passes-inside [] t tables source all few has = All-nil IsInside
     passes-inside (p ∷ ps) t tables source all few has =
@@ -78,7 +86,9 @@ module _ (c : Target) where
         subst (All IsInside) (sym (steps-followed program (pass_body c p tables source target) (phase_body c after ps (suc t) so_far target) [] q))
         (All-append IsInside (steps_of_body program (pass_body c p tables source target) [] q) (steps_of_body program (phase_body c after ps (suc t) so_far target) [] q) first rest)
 
-  pub passes-within : (after : ℕ) (ps : List Pass) (t : ℕ) (tables : List (List ℕ)) (source : Array) → AllKnown c ps → length (tables_through c.modulus ps tables) < 2 ^ 32 → is_body_within c.modulus (phase_body c after ps t tables source) 0 ≡ true
+  pub passes-within : (after : ℕ) (ps : List Pass) (t : ℕ) (tables : List (List ℕ)) (source : Array) → AllKnown c ps →
+      length (tables_through c.modulus ps tables) < 2 ^ 32 →
+      is_body_within c.modulus (phase_body c after ps t tables source) 0 ≡ true
   passes-within after [] t tables source all few = refl
   passes-within after (p ∷ ps) t tables source all few =
       let so_far = tables_after c.modulus p tables in

@@ -1,5 +1,6 @@
 -- What holds of all actions of a pass on a processor.
-use Rattle.std.proofs.Common.{ℕ, zero, suc, ◌+◌, ◌-◌, ◌*◌, ◌<◌, arith, List, [], ◌∷◌, ◌++◌, sym, subst, append-nil, append_assoc, Contains}
+use Rattle.std.proofs.Common.{ℕ, zero, suc, ◌+◌, ◌-◌, ◌*◌, ◌<◌, arith, List, [], ◌∷◌, ◌++◌, sym, subst, append-nil}
+use Rattle.std.proofs.Common.{append_assoc, Contains}
 use Rattle.std.specs.Prelude.{slice_index, Option, Some, None, All}
 use Rattle.std.proofs.lemmas.List.Elements.{All-nil, All-cons, All-append}
 use Rattle.icode.proofs.Lines.{Contains-head, Contains-tail}
@@ -13,7 +14,8 @@ use Rattle.kernel_gen.specs.Making.{Made}
 use Rattle.kernel_gen.specs.declared.straight.Instruction.{Instruction}
 use Rattle.kernel_gen.specs.declared.straight.Instruction.TheVariants as instructions
 use Rattle.ring_mod.specs.Residue.{power_mod}
-use Rattle.code_gen.specs.PassActions.Acts.{load_at, store_at, factors_at, finish_acts, made_acts, tile_acts, rows_acts, items_acts, term_acts, horner_acts, copy_acts, nest_acts, pass_acts}
+use Rattle.code_gen.specs.PassActions.Acts.{load_at, store_at, factors_at, finish_acts, made_acts, tile_acts, rows_acts}
+use Rattle.code_gen.specs.PassActions.Acts.{items_acts, term_acts, horner_acts, copy_acts, nest_acts, pass_acts}
 use Rattle.operators.specs.declared.target.Target.{Target}
 use Rattle.sigma_spl.specs.Shared.Machine.{loop_counts}
 use Rattle.code_gen.proofs.PassActions.Fillings.{working}
@@ -42,7 +44,8 @@ module _ (P : Action → Type 0) (free : IsFree P) where
   in-bodies zero body each = All-nil P
   in-bodies (suc count) body each = joins (bodies count body) (body count) (in-bodies count body (λ v below. each v (omega arith))) (each count (omega arith))
 
-  in-nest : (counts : List ℕ) (body : List ℕ → List Action) (outer : List ℕ) → ((vs : List ℕ) → AreInRange counts vs → All P (body (outer ++ vs))) → All P (nest counts body outer)
+  in-nest : (counts : List ℕ) (body : List ℕ → List Action) (outer : List ℕ) →
+      ((vs : List ℕ) → AreInRange counts vs → All P (body (outer ++ vs))) → All P (nest counts body outer)
   in-nest [] body outer each = subst (λ us. All P (body us)) (append-nil outer) (each [] tt)
   in-nest (count ∷ counts) body outer each =
       in-bodies count (λ v. nest counts body (outer ++ v ∷ [])) (λ v below.
@@ -59,13 +62,15 @@ module _ (P : Action → Type 0) (free : IsFree P) where
   in-code lanes (i ∷ code) = cons (action_by lanes i) (actions_by lanes code) (action-has lanes i) (in-code lanes code)
 
   module _ (c : Target) (p : PlainNest) (source target q : ℕ) where
-    in-finish : (o : Option PlainMultiplier) (vs : List ℕ) (k from other : ℕ) → ((r : ℕ) → P (Store (target + store_at c p q vs k) r)) → All P (finish_acts c p o target q vs k from other)
+    in-finish : (o : Option PlainMultiplier) (vs : List ℕ) (k from other : ℕ) →
+        ((r : ℕ) → P (Store (target + store_at c p q vs k) r)) → All P (finish_acts c p o target q vs k from other)
     in-finish None vs k from other store = cons (Store (target + store_at c p q vs k) from) [] (store from) (All-nil P)
     in-finish (Some d) vs k from other store =
         cons (Mul other from (factors_at c p d q vs k)) (Store (target + store_at c p q vs k) other ∷ []) (free.mul_has other from (factors_at c p d q vs k))
         (cons (Store (target + store_at c p q vs k) other) [] (store other) (All-nil P))
 
-    module _ (vs : List ℕ) (n : ℕ) (load : (k r : ℕ) → k < n → P (Load r (source + load_at c p q vs k))) (store : (k r : ℕ) → k < n → P (Store (target + store_at c p q vs k) r)) where
+    module _ (vs : List ℕ) (n : ℕ) (load : (k r : ℕ) → k < n → P (Load r (source + load_at c p q vs k)))
+        (store : (k r : ℕ) → k < n → P (Store (target + store_at c p q vs k) r)) where
       in-loads : All P (loads n (λ k. source + load_at c p q vs k))
       in-loads = in-bodies n (λ k. Load k (source + load_at c p q vs k) ∷ []) (λ k below. cons (Load k (source + load_at c p q vs k)) [] (load k k below) (All-nil P))
 
@@ -83,7 +88,8 @@ module _ (P : Action → Type 0) (free : IsFree P) where
           joins (loads n (λ k. source + load_at c p q vs k)) (Tile n 0 ∷ bodies n ends) in-loads
           (cons (Tile n 0) (bodies n ends) (free.tile_has n 0) (in-bodies n ends (λ k below. in-finish p.multiplier vs k (n + k) (n + n + k) (λ r. store k r below))))
 
-      in-rows : (turn : ℕ → ℕ → List Action) → ((k l : ℕ) → l < n → All P (turn k l)) → All P (rows_acts c p n turn target q vs)
+      in-rows : (turn : ℕ → ℕ → List Action) → ((k l : ℕ) → l < n → All P (turn k l)) →
+          All P (rows_acts c p n turn target q vs)
       in-rows turn each =
           in-bodies n (λ k. row_acts c p n (turn k) target q vs k) (λ k below.
           cons (Zero 0) (bodies n (turn k) ++ finish_acts c p p.multiplier target q vs k 0 3) (free.zero_has 0)
@@ -115,7 +121,8 @@ module _ (P : Action → Type 0) (free : IsFree P) where
     abbrev pub StoresHave : PlainNest → Type 0
     StoresHave p = (vs : List ℕ) (k r : ℕ) → AreInRange (loop_counts c p) vs → k < vectors_of p.work → P (Store (target + store_at c p q vs k) r)
 
-    in-copy : (p : PlainNest) (w : PlainWork) → LoadsHave (working p w) → StoresHave (working p w) → (vs : List ℕ) → AreInRange (loop_counts c (working p w)) vs → All P (copy_acts c (working p w) w source target q vs)
+    in-copy : (p : PlainNest) (w : PlainWork) → LoadsHave (working p w) → StoresHave (working p w) → (vs : List ℕ) →
+        AreInRange (loop_counts c (working p w)) vs → All P (copy_acts c (working p w) w source target q vs)
     in-copy p (kernel k) load store vs range =
         in-made c (working p (kernel k)) source target q vs (trees_size (trees_of k)) (λ k r below. load vs k r range below) (λ k r below. store vs k r range below) (trees_kernel c.modulus (trees_of k))
     in-copy p (rows root n) load store vs range =
@@ -129,7 +136,8 @@ module _ (P : Action → Type 0) (free : IsFree P) where
     in-copy p (tile v) load store vs range = in-tile c (working p (tile v)) source target q vs v (λ k r below. load vs k r range below) (λ k r below. store vs k r range below)
     in-copy p (copy n) load store vs range = in-items c (working p (copy n)) source target q vs n (λ k r below. load vs k r range below) (λ k r below. store vs k r range below)
 
-    pub every : (zs : List PlainNest) → ((p : PlainNest) → Contains zs p → LoadsHave p) → ((p : PlainNest) → Contains zs p → StoresHave p) → All P (pass_acts c zs source target q)
+    pub every : (zs : List PlainNest) → ((p : PlainNest) → Contains zs p → LoadsHave p) →
+        ((p : PlainNest) → Contains zs p → StoresHave p) → All P (pass_acts c zs source target q)
     every [] load store = All-nil P
     every (z ∷ zs) load store =
         joins (nest_acts c z source target q) (pass_acts c zs source target q)

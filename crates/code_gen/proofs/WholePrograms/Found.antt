@@ -1,5 +1,6 @@
 -- Where merging's test holds of a nest's diagonal, its factors are found.
-use Rattle.std.proofs.Common.{◌≡◌, ℕ, zero, suc, ◌-◌, ◌<◌, ◌≤◌, true, ◌&&◌, nat_lt, arith, List, [], ◌∷◌, ◌++◌, length, subst, append-nil}
+use Rattle.std.proofs.Common.{◌≡◌, ℕ, zero, suc, ◌-◌, ◌<◌, ◌≤◌, true, ◌&&◌, nat_lt, arith, List, [], ◌∷◌, ◌++◌, length}
+use Rattle.std.proofs.Common.{subst, append-nil}
 use Rattle.std.specs.Prelude.{slice_index, slice_index_or, nat_le, Option, Some}
 use Rattle.std.specs.List.{list_all}
 use Rattle.std.proofs.lemmas.Bool.Decides.{nat_tests}
@@ -30,7 +31,8 @@ top-below room n cs e h =
     below (top e cs) n (and-left (nat_lt (top e cs) n) (nat_lt (peak e) n) (and-left (nat_lt (top e cs) n && nat_lt (peak e) n) (are_small cs e) second))
 
 -- the sum number i
-tops-below : (room n : ℕ) (cs : ℕ → ℕ) (sums : List Sum) (i : ℕ) → i < length sums → list_all (is_limited room n cs) sums ≡ true → top (slice_index_or sums i (constant 0)) cs < n
+tops-below : (room n : ℕ) (cs : ℕ → ℕ) (sums : List Sum) (i : ℕ) → i < length sums →
+    list_all (is_limited room n cs) sums ≡ true → top (slice_index_or sums i (constant 0)) cs < n
 tops-below room n cs [] i low h = absurd (omega arith)
 tops-below room n cs (e ∷ es) zero low h = top-below room n cs e (and-left (is_limited room n cs e) (list_all (is_limited room n cs) es) h)
 tops-below room n cs (e ∷ es) (suc i) low h = tops-below room n cs es i (omega arith) (and-right (is_limited room n cs e) (list_all (is_limited room n cs) es) h)
@@ -40,8 +42,11 @@ sound-at [] i h = tt
 sound-at (e ∷ es) zero h = h.0
 sound-at (e ∷ es) (suc i) h = sound-at es i h.1
 
-module _ (room count : ℕ) (counts : List ℕ) (size : ℕ) (sums : List Sum) (sound : AreSound sums) (tested : list_all (is_limited room count (slice_index (counts ++ size ∷ size ∷ []))) sums ≡ true) (vs : List ℕ) (range : AreInRange (loops_of counts) vs) where
-  sum-below : (i : ℕ) (more : List ℕ) → i < length sums → ((d : ℕ) → slice_index more d ≤ slice_index (size ∷ size ∷ []) d - 1) → sum_value sums i (vs ++ more) < count
+module _ (room count : ℕ) (counts : List ℕ) (size : ℕ) (sums : List Sum) (sound : AreSound sums)
+    (tested : list_all (is_limited room count (slice_index (counts ++ size ∷ size ∷ []))) sums ≡ true) (vs : List ℕ)
+    (range : AreInRange (loops_of counts) vs) where
+  sum-below : (i : ℕ) (more : List ℕ) → i < length sums → ((d : ℕ) →
+      slice_index more d ≤ slice_index (size ∷ size ∷ []) d - 1) → sum_value sums i (vs ++ more) < count
   sum-below i more low h =
       let most = value-le-top (slice_index_or sums i (constant 0)) (slice_index (vs ++ more)) (slice_index (counts ++ size ∷ size ∷ [])) (sound-at sums i sound) (below-limits counts vs more (size ∷ size ∷ []) (in_counts counts vs range) h) in
       let last = tops-below room count (slice_index (counts ++ size ∷ size ∷ [])) sums i low tested in omega arith
@@ -56,7 +61,9 @@ module _ (room count : ℕ) (counts : List ℕ) (size : ℕ) (sums : List Sum) (
       one zero = omega arith
       one (suc d) = omega arith
 
-place-below : (room count : ℕ) (counts : List ℕ) (w : PlainWork) (sums : List Sum) (vs : List ℕ) (k : ℕ) → IsLoose w → NamesItems w sums → list_all (is_limited room count (slice_index (counts ++ work_size w ∷ work_size w ∷ []))) sums ≡ true →
+place-below : (room count : ℕ) (counts : List ℕ) (w : PlainWork) (sums : List Sum) (vs : List ℕ) (k : ℕ) → IsLoose w →
+    NamesItems w sums → list_all (is_limited room count (slice_index (counts ++ work_size w ∷ work_size w ∷ []))) sums
+    ≡ true →
     AreInRange (loops_of counts) vs → k < work_size w → store_place w sums vs k < count
 place-below room count counts (kernel trees) sums vs k loose names tested range under = alone-below room count counts (work_size (kernel trees)) sums names.sound tested vs range k (let enough = names.enough in omega arith)
 place-below room count counts (rows root n) sums vs k loose names tested range under = row-below room count counts n sums names.sound tested vs range k under (let enough = names.enough in omega arith)
@@ -65,6 +72,8 @@ place-below room count counts (tile v) sums vs k loose names tested range under 
 place-below room count counts (copy n) sums vs k loose names tested range under = alone-below room count counts n sums names.sound tested vs range k (let enough = names.enough in omega arith)
 
 -- the places of a diagonal are tested against the number of its factors
-pub factors-found : (room : ℕ) (z : PlainNest) → IsLoose z.work → ((d : PlainMultiplier) → z.multiplier ≡ Some d → NamesItems z.work d.places) → is_multiplier_within room (limits_of z) z.multiplier ≡ true → FindsFactors z
+pub factors-found : (room : ℕ) (z : PlainNest) → IsLoose z.work →
+    ((d : PlainMultiplier) → z.multiplier ≡ Some d → NamesItems z.work d.places) →
+    is_multiplier_within room (limits_of z) z.multiplier ≡ true → FindsFactors z
 factors-found room z loose names tested d is vs k range under =
     place-below room (factor_count d.factors) z.counts z.work d.places vs k loose (names d is) (subst (λ (o : Option PlainMultiplier). is_multiplier_within room (limits_of z) o ≡ true) is tested) range under

@@ -1,5 +1,6 @@
 -- The actions of each processor are one part for each pass, between the pass's arrays.
-use Rattle.std.proofs.Common.{◌≡◌, ℕ, suc, ◌+◌, ◌-◌, ◌<◌, ◌≤◌, List, [], ◌∷◌, ◌++◌, length, flat_map, refl, sym, ap, ap₂, ◌∙◌, arith, append_assoc, length-append, subst, Contains, All}
+use Rattle.std.proofs.Common.{◌≡◌, ℕ, suc, ◌+◌, ◌-◌, ◌<◌, ◌≤◌, List, [], ◌∷◌, ◌++◌, length, flat_map, refl, sym, ap}
+use Rattle.std.proofs.Common.{ap₂, ◌∙◌, arith, append_assoc, length-append, subst, Contains, All}
 use Rattle.std.specs.List.{range_with_len}
 use Rattle.icode.specs.CodeLaws.Nests.{AreInRange}
 use Rattle.icode.specs.Actions.{array_start}
@@ -36,7 +37,8 @@ stays-free n lanes source target =
     }
 
 module _ (c : Target) (p : Pass) (known : CanWritePass c p) (q : ℕ) (low : q < c.procs) where
-  module _ (z : PlainNest) (one : Contains p z) (vs : List ℕ) (k : ℕ) (range : AreInRange (nest-can c p known.runs z one).framed.loops vs) (below : k < vectors_of z.work) where
+  module _ (z : PlainNest) (one : Contains p z) (vs : List ℕ) (k : ℕ)
+      (range : AreInRange (nest-can c p known.runs z one).framed.loops vs) (below : k < vectors_of z.work) where
     abbrev can : CanRunNest c z
     can = nest-can c p known.runs z one
 
@@ -68,7 +70,9 @@ module _ (c : Target) (p : Pass) (known : CanWritePass c p) (q : ℕ) (low : q <
 
 -- ---- all parts
 
-module _ (c : Target) (enough : c.size ≤ whole_lines c.size c.line) (code : Code) (modulus_is : code.modulus ≡ c.modulus) (lanes_are : code.lanes ≡ c.lanes) (procs_are : code.procs ≡ c.procs) (q : ℕ) (low : q < c.procs) where
+module _ (c : Target) (enough : c.size ≤ whole_lines c.size c.line) (code : Code)
+    (modulus_is : code.modulus ≡ c.modulus) (lanes_are : code.lanes ≡ c.lanes) (procs_are : code.procs ≡ c.procs)
+    (q : ℕ) (low : q < c.procs) where
   abbrev words : ℕ
   words = whole_lines c.size c.line
 
@@ -82,7 +86,8 @@ module _ (c : Target) (enough : c.size ≤ whole_lines c.size c.line) (code : Co
   all_parts [] t source = []
   all_parts (ps ∷ more) t source = parts_of (count_in more) ps t source ∷ all_parts more (t + length ps) (array_after (count_in more) ps t source)
 
-  parts-whole : (after : ℕ) (ps : List Pass) (t : ℕ) (source : Array) → joined (parts_of after ps t source) ≡ passes_acts c words after ps t source q
+  parts-whole : (after : ℕ) (ps : List Pass) (t : ℕ) (source : Array) →
+      joined (parts_of after ps t source) ≡ passes_acts c words after ps t source q
   parts-whole after [] t source = refl
   parts-whole after (p ∷ ps) t source =
       ap (λ rest. pass_acts c p (array_start words source) (array_start words (written_array t (after + length ps))) q ++ rest) (parts-whole after ps (suc t) (written_array t (after + length ps)))
@@ -105,7 +110,9 @@ module _ (c : Target) (enough : c.size ≤ whole_lines c.size c.line) (code : Co
   count-is [] = refl
   count-is (ps ∷ more) = let all = length-append ps (all_passes more) in let rest = count-is more in omega (arith, all, rest)
 
-  is-part : (p : Pass) (source target : Array) → CanWritePass c p → IsPart c p (array_start words source) (array_start words target) (pass_acts c p (array_start words source) (array_start words target) q)
+  is-part : (p : Pass) (source target : Array) → CanWritePass c p →
+      IsPart c p (array_start words source) (array_start words target)
+      (pass_acts c p (array_start words source) (array_start words target) q)
   is-part p source target known =
       let runs = runs-of c p known in
       record {
@@ -114,8 +121,10 @@ module _ (c : Target) (enough : c.size ≤ whole_lines c.size c.line) (code : Co
       }
 
   -- a phase's parts before those of later phases
-  phase-parts : (more : List (List Pass)) (rest : List (List Action)) (ps : List Pass) (t : ℕ) (source : Array) → AllKnown c ps →
-      AreParts c (t + length ps) (array_after (count_in more) ps t source) (all_passes more) rest → AreParts c t source (ps ++ all_passes more) (parts_of (count_in more) ps t source ++ rest)
+  phase-parts : (more : List (List Pass)) (rest : List (List Action)) (ps : List Pass) (t : ℕ) (source : Array) →
+      AllKnown c ps →
+      AreParts c (t + length ps) (array_after (count_in more) ps t source) (all_passes more) rest →
+      AreParts c t source (ps ++ all_passes more) (parts_of (count_in more) ps t source ++ rest)
   phase-parts more rest [] t source known h = subst (λ n. AreParts c n source (all_passes more) rest) (omega arith) h
   phase-parts more rest (p ∷ ps) t source known h =
       let target = written_array t (count_in more + length ps) in
@@ -128,7 +137,8 @@ module _ (c : Target) (enough : c.size ≤ whole_lines c.size c.line) (code : Co
         phase-parts more rest ps (suc t) target known.1 (subst (λ n. AreParts c n (array_after (count_in more) ps (suc t) target) (all_passes more) rest) (omega arith) h),
       )
 
-  pub all-are : (pss : List (List Pass)) (t : ℕ) (source : Array) → PhasesKnown c pss → AreParts c t source (all_passes pss) (in_a_row (all_parts pss t source))
+  pub all-are : (pss : List (List Pass)) (t : ℕ) (source : Array) → PhasesKnown c pss →
+      AreParts c t source (all_passes pss) (in_a_row (all_parts pss t source))
   all-are [] t source known = tt
   all-are (ps ∷ more) t source known =
       phase-parts more (in_a_row (all_parts more (t + length ps) (array_after (count_in more) ps t source))) ps t source known.0

@@ -1,5 +1,7 @@
 -- The program of merged passes does what they do.
-use Rattle.std.proofs.Common.{◌≡◌, ℕ, zero, suc, ◌+◌, ◌*◌, ◌-◌, ◌/◌, ◌^◌, ◌<◌, ◌≤◌, All, inl, inr, true, ◌&&◌, nat_lt, List, [], ◌∷◌, ◌++◌, length, map, flat_map, replicate, refl, sym, ap, ap₂, ◌∙◌, arith, append-nil, length-append, subst, mul-le-mul_right}
+use Rattle.std.proofs.Common.{◌≡◌, ℕ, zero, suc, ◌+◌, ◌*◌, ◌-◌, ◌/◌, ◌^◌, ◌<◌, ◌≤◌, All, inl, inr, true, ◌&&◌, nat_lt}
+use Rattle.std.proofs.Common.{List, [], ◌∷◌, ◌++◌, length, map, flat_map, replicate, refl, sym, ap, ap₂, ◌∙◌, arith}
+use Rattle.std.proofs.Common.{append-nil, length-append, subst, mul-le-mul_right}
 use Rattle.std.specs.Prelude.{slice_index, slice_index_or, IsTrue}
 use Rattle.std.specs.List.{list_all, range_with_len}
 use Rattle.std.proofs.Math.Nat.{lt-div-mul-add}
@@ -26,7 +28,8 @@ use Rattle.code_gen.specs.PassCode.Contract.{CanProgram, IsByPhase, Performs, Pr
 use Rattle.sigma_spl.specs.Shared.Owners.{all_passes, most_actions}
 use Rattle.code_gen.specs.PassActions.Laws.{IsFit}
 use Rattle.operators.specs.declared.target.Target.{Target}
-use Rattle.code_gen.specs.PassCode.Program.{array_after, count_in, phases_body, program_of, tables_of_phases, tables_through}
+use Rattle.code_gen.specs.PassCode.Program.{array_after, count_in, phases_body, program_of, tables_of_phases}
+use Rattle.code_gen.specs.PassCode.Program.{tables_through}
 use Rattle.sigma_spl.specs.Good.{IsVector}
 use Rattle.sigma_spl.specs.Merged.{PlainMerged, merged_on, phase_on, phases_on}
 use Rattle.sigma_spl.specs.Nest.{nests_on}
@@ -37,7 +40,8 @@ use Rattle.code_gen.proofs.WholePrograms.Fits.{length-actions, parts-fit, parts-
 use Rattle.code_gen.proofs.WholePrograms.Known.{Pass, PhasesKnown, passes_acts, phases_known}
 use Rattle.code_gen.proofs.WholePrograms.Lists.{InsidePhases, Listed, phases-listed}
 use Rattle.code_gen.proofs.WholePrograms.Parts.{all_parts, all-are, all-whole}
-use Rattle.code_gen.proofs.WholePrograms.Phases.{AllWide, Ready, RunsPhases, SharedFrom, all-phases, final_array, final-is, phases-shared}
+use Rattle.code_gen.proofs.WholePrograms.Phases.{AllWide, Ready, RunsPhases, SharedFrom, all-phases, final_array}
+use Rattle.code_gen.proofs.WholePrograms.Phases.{final-is, phases-shared}
 use Rattle.code_gen.proofs.WholePrograms.Registers.{AllBelow, all-below, few-all}
 use Rattle.code_gen.proofs.WholePrograms.Tables.{phases-tables-within}
 
@@ -104,7 +108,8 @@ module _ (c : Target) (g : PlainMerged) (can : CanProgram c g) where
   shared : SharedFrom c words enough code refl refl refl pss 0 X
   shared = phases-shared c words enough code refl refl refl pss 0 can.shared
 
-  bodies-long : (qss : List (List Pass)) (n : ℕ) (tables : List (List ℕ)) (source : Array) → length (phases_body c qss n tables source) ≡ length qss
+  bodies-long : (qss : List (List Pass)) (n : ℕ) (tables : List (List ℕ)) (source : Array) →
+      length (phases_body c qss n tables source) ≡ length qss
   bodies-long [] n tables source = refl
   bodies-long (ps ∷ more) n tables source = ap suc (bodies-long more _ _ _)
 
@@ -128,13 +133,16 @@ module _ (c : Target) (g : PlainMerged) (can : CanProgram c g) where
   steps-acts : (f q : ℕ) → f < length pss → q < c.procs → acts code f q ≡ actions_of (steps_of_phase p f q)
   steps-acts f q low high = at_phase p.phases f q (let long = phases-long in omega (arith, low, long)) high
     where
-      at-range : (n a k : ℕ) (h : ℕ → List Action) → k < n → slice_index_or (map h (range_with_len a n)) k [] ≡ h (a + k)
+      at-range : (n a k : ℕ) (h : ℕ → List Action) → k < n →
+          slice_index_or (map h (range_with_len a n)) k [] ≡ h (a + k)
       at-range zero a k h low = absurd (omega (arith, low))
       at-range (suc n) a zero h low = ap h (omega arith)
       at-range (suc n) a (suc k) h low = at-range n (a + 1) k h (omega (arith, low)) ∙ ap h (omega arith)
 
       at_phase : (bodies : List PlainBody) (f q : ℕ) → f < length bodies → q < c.procs →
-          slice_index_or (slice_index_or (map (λ b. map (λ r. actions_of (steps_of_body p b [] r)) (range_with_len 0 c.procs)) bodies) f []) q [] ≡ actions_of (steps_of_body p (slice_index_or bodies f NoStmts) [] q)
+          slice_index_or (slice_index_or (map (λ b. map (λ r. actions_of (steps_of_body p b [] r))
+          (range_with_len 0 c.procs)) bodies) f []) q [] ≡ actions_of
+          (steps_of_body p (slice_index_or bodies f NoStmts) [] q)
       at_phase [] f q low high = absurd (omega (arith, low))
       at_phase (b ∷ bodies) zero q low high = at-range c.procs 0 q (λ r. actions_of (steps_of_body p b [] r)) high ∙ ap (λ r. actions_of (steps_of_body p b [] r)) (omega arith)
       at_phase (b ∷ bodies) (suc f) q low high = at_phase bodies f q (omega (arith, low)) high
@@ -150,10 +158,14 @@ module _ (c : Target) (g : PlainMerged) (can : CanProgram c g) where
   abbrev Runs : ℕ → List (List Pass) → ℕ → Array → Type 0
   Runs f qss n source = RunsPhases c words enough code refl refl refl f qss n source
 
-  runs-acts : (f : ℕ) (ps : List Pass) (more : List (List Pass)) (n : ℕ) (source : Array) → f < length pss → Runs f (ps ∷ more) n source → (q : ℕ) → q < c.procs → passes_acts c words (count_in more) ps n source q ≡ actions_of (steps_of_phase p f q)
+  runs-acts : (f : ℕ) (ps : List Pass) (more : List (List Pass)) (n : ℕ) (source : Array) → f < length pss →
+      Runs f (ps ∷ more) n source → (q : ℕ) → q < c.procs → passes_acts c words (count_in more) ps n source q
+      ≡ actions_of (steps_of_phase p f q)
   runs-acts f ps more n source here runs q low = sym (runs.0 q low) ∙ steps-acts f q here low
 
-  all-fit : (f : ℕ) (qss : List (List Pass)) (n : ℕ) (source : Array) → f + length qss ≡ length pss → PhasesKnown c qss → AllBelow c p.regs qss → Runs f qss n source → InsidePhases c p refl refl refl enough f qss → AllFit f qss
+  all-fit : (f : ℕ) (qss : List (List Pass)) (n : ℕ) (source : Array) → f + length qss ≡ length pss →
+      PhasesKnown c qss → AllBelow c p.regs qss → Runs f qss n source → InsidePhases c p refl refl refl enough f qss →
+      AllFit f qss
   all-fit f [] n source e known below runs inside = tt
   all-fit f (ps ∷ more) n source e known below runs inside = (
     λ q low.
@@ -181,7 +193,9 @@ module _ (c : Target) (g : PlainMerged) (can : CanProgram c g) where
   abbrev phase_steps : ℕ → ℕ
   phase_steps f = sum_below c.procs (λ q. length (steps_of_phase p f q))
 
-  steps-few : (f : ℕ) (qss : List (List Pass)) (n : ℕ) (source : Array) → f + length qss ≡ length pss → PhasesKnown c qss → Runs f qss n source → sum_below (length qss) (λ k. phase_steps (f + k)) ≤ most_actions c (all_passes qss)
+  steps-few : (f : ℕ) (qss : List (List Pass)) (n : ℕ) (source : Array) → f + length qss ≡ length pss →
+      PhasesKnown c qss → Runs f qss n source → sum_below (length qss) (λ k. phase_steps (f + k))
+      ≤ most_actions c (all_passes qss)
   steps-few f [] n source e known runs = omega arith
   steps-few f (ps ∷ more) n source e known runs =
       let rest = steps-few (f + 1) more (n + length ps) (array_after (count_in more) ps n source) (omega (arith, e)) known.1 runs.1 in
@@ -198,7 +212,9 @@ module _ (c : Target) (g : PlainMerged) (can : CanProgram c g) where
       let all = most-append c ps (all_passes more) in
       most_sum _ _ _ _ _ _ _ count first next here one rest all
     where
-      most_sum : (whole parted first_one here rest next total : ℕ) → whole ≡ parted → parted ≡ 0 + first_one + rest → rest ≡ next → first_one ≡ here → here ≤ most_actions c ps → next ≤ most_actions c (all_passes more) → total ≡ most_actions c ps + most_actions c (all_passes more) → whole ≤ total
+      most_sum : (whole parted first_one here rest next total : ℕ) → whole ≡ parted → parted ≡ 0 + first_one + rest →
+          rest ≡ next → first_one ≡ here → here ≤ most_actions c ps → next ≤ most_actions c (all_passes more) →
+          total ≡ most_actions c ps + most_actions c (all_passes more) → whole ≤ total
       most_sum whole parted first_one here rest next total a b d e f g h = omega arith
 
   fits : PlainFits p
@@ -243,11 +259,13 @@ module _ (c : Target) (g : PlainMerged) (can : CanProgram c g) where
           residues = vector.residues;
         }
 
-    wide : (regs : ℕ) (qss : List (List Pass)) → AllBelow c regs qss → AllWide c words enough code refl refl refl regs qss
+    wide : (regs : ℕ) (qss : List (List Pass)) → AllBelow c regs qss →
+        AllWide c words enough code refl refl refl regs qss
     wide regs [] h = tt
     wide regs (ps ∷ more) h = (mul-le-mul_right c.lanes h.0, wide regs more h.1)
 
-    ended : Ready c words enough code refl refl refl p.regs (final_array c words enough code refl refl refl pss 0 X) made (phases_alone code (length pss) 0 begun)
+    ended : Ready c words enough code refl refl refl p.regs (final_array c words enough code refl refl refl pss 0 X)
+        made (phases_alone code (length pss) 0 begun)
     ended = all-phases c words enough code refl refl refl p.regs 0 pss 0 X x begun known (wide p.regs pss below) shared (λ some. first-other (count_in pss - 1)) listed.0 ready
 
     memory-is : (runs code x []).memory ≡ (phases_alone code (length pss) 0 begun).memory
@@ -266,7 +284,8 @@ module _ (c : Target) (g : PlainMerged) (can : CanProgram c g) where
 
   -- ---- its limits
 
-  bodies-within : (qss : List (List Pass)) (n : ℕ) (tables : List (List ℕ)) (source : Array) → PhasesKnown c qss → length (tables_of_phases c.modulus qss tables) < 2 ^ 32 →
+  bodies-within : (qss : List (List Pass)) (n : ℕ) (tables : List (List ℕ)) (source : Array) → PhasesKnown c qss →
+      length (tables_of_phases c.modulus qss tables) < 2 ^ 32 →
       IsTrue (list_all (λ body. is_body_within c.modulus body 0) (phases_body c qss n tables source))
   bodies-within [] n tables source known few = refl
   bodies-within (ps ∷ more) n tables source known few =

@@ -1,5 +1,6 @@
 -- What the processors leave, one after another, phase by phase.
-use Rattle.std.proofs.Common.{◌≡◌, ◌≢◌, ℕ, zero, suc, ◌+◌, ◌-◌, ◌*◌, ◌<◌, ◌≤◌, inl, inr, ◌⊎◌, List, [], ◌∷◌, length, refl, sym, ap, ◌∙◌, arith, subst, get_or-set_same, get_or-set_other, length-set}
+use Rattle.std.proofs.Common.{◌≡◌, ◌≢◌, ℕ, zero, suc, ◌+◌, ◌-◌, ◌*◌, ◌<◌, ◌≤◌, inl, inr, ◌⊎◌, List, [], ◌∷◌, length}
+use Rattle.std.proofs.Common.{refl, sym, ap, ◌∙◌, arith, subst, get_or-set_same, get_or-set_other, length-set}
 use Rattle.std.specs.Prelude.{slice_index, slice_index_or, slice_set}
 use Rattle.std.proofs.lemmas.Bool.{cases_eq}
 use Rattle.icode.proofs.CodeLaws.Stores.{length-memory, length-registers}
@@ -18,9 +19,11 @@ use Rattle.code_gen.proofs.WholePrograms.Known.{Pass, AllKnown, PhasesKnown, pas
 use Rattle.code_gen.proofs.WholePrograms.Stored.{made-residues}
 use Rattle.code_gen.proofs.WholePrograms.Processor.{MayRead, Owned, all-owned, first-owned, Left, parts-leave}
 
-module _ (c : Target) (words : ℕ) (enough : c.size ≤ words) (code : Code) (modulus_is : code.modulus ≡ c.modulus) (lanes_are : code.lanes ≡ c.lanes) (procs_are : code.procs ≡ c.procs) where
+module _ (c : Target) (words : ℕ) (enough : c.size ≤ words) (code : Code) (modulus_is : code.modulus ≡ c.modulus)
+    (lanes_are : code.lanes ≡ c.lanes) (procs_are : code.procs ≡ c.procs) where
   -- processor q's effects are those of the request's machine
-  alone-effects : (actions : List Action) (s : Local) → effects code.modulus code.lanes actions s ≡ effects c.modulus c.lanes actions s
+  alone-effects : (actions : List Action) (s : Local) → effects code.modulus code.lanes actions s
+      ≡ effects c.modulus c.lanes actions s
   alone-effects actions s = ap (λ m. effects m code.lanes actions s) modulus_is ∙ ap (λ l. effects c.modulus l actions s) lanes_are
 
   pub record HasFiles (regs : ℕ) (w : Whole) : Type 0 where
@@ -34,8 +37,10 @@ module _ (c : Target) (words : ℕ) (enough : c.size ≤ words) (code : Code) (m
     -- the first q processors have done the phase
     pub record During (q : ℕ) (w : Whole) : Type 0 where
       pub room : HasFiles regs w
-      pub held : (r i : ℕ) → q ≤ r → i < c.size → MayRead c words enough owner after source r i → slice_index w.memory (array_start words source + i) ≡ slice_index x i
-      pub done : (i : ℕ) → i < c.size → owner i < q → slice_index w.memory (array_start words (array_after after ps t source) + i) ≡ slice_index (phase_on c.modulus c.size ps x) i
+      pub held : (r i : ℕ) → q ≤ r → i < c.size → MayRead c words enough owner after source r i →
+          slice_index w.memory (array_start words source + i) ≡ slice_index x i
+      pub done : (i : ℕ) → i < c.size → owner i < q → slice_index w.memory
+          (array_start words (array_after after ps t source) + i) ≡ slice_index (phase_on c.modulus c.size ps x) i
 
     abbrev own : Whole → ℕ → Local
     own w q = record { memory = w.memory; registers = slice_index_or w.registers q [] }
@@ -43,10 +48,12 @@ module _ (c : Target) (words : ℕ) (enough : c.size ≤ words) (code : Code) (m
     abbrev done_by : Whole → ℕ → Local
     done_by w q = effects c.modulus c.lanes (passes_acts c words after ps t source q) (own w q)
 
-    alone-is : (q : ℕ) (w : Whole) → q < c.procs → effects code.modulus code.lanes (acts code phase q) (own w q) ≡ done_by w q
+    alone-is : (q : ℕ) (w : Whole) → q < c.procs → effects code.modulus code.lanes (acts code phase q) (own w q)
+        ≡ done_by w q
     alone-is q w low = alone-effects (acts code phase q) (own w q) ∙ ap (λ actions. effects c.modulus c.lanes actions (own w q)) (acts_are q low)
 
-    after_one : (q : ℕ) (w : Whole) → q < c.procs → During q w → Left c words enough owner after ps t source q x (own w q) (done_by w q)
+    after_one : (q : ℕ) (w : Whole) → q < c.procs → During q w →
+        Left c words enough owner after ps t source q x (own w q) (done_by w q)
     after_one q w low d =
         parts-leave c words enough owner after ps t source q x (own w q) low known owned
         (record {
@@ -58,7 +65,8 @@ module _ (c : Target) (words : ℕ) (enough : c.size ≤ words) (code : Code) (m
         })
 
     -- words that a later processor may read are as they were
-    still : (q : ℕ) (w : Whole) (low : q < c.procs) (d : During q w) (a : Array) (r i : ℕ) → q < r → i < c.size → MayRead c words enough owner after a r i →
+    still : (q : ℕ) (w : Whole) (low : q < c.procs) (d : During q w) (a : Array) (r i : ℕ) → q < r → i < c.size →
+        MayRead c words enough owner after a r i →
         slice_index (done_by w q).memory (array_start words a + i) ≡ slice_index w.memory (array_start words a + i)
     still q w low d a r i later below may = by_array a may
       where
@@ -68,7 +76,8 @@ module _ (c : Target) (words : ℕ) (enough : c.size ≤ words) (code : Code) (m
         differs : owner i ≡ r → owner i ≢ q
         differs is e = absurd (omega (arith, is, e))
 
-        by_array : (b : Array) → MayRead c words enough owner after b r i → slice_index (done_by w q).memory (array_start words b + i) ≡ slice_index w.memory (array_start words b + i)
+        by_array : (b : Array) → MayRead c words enough owner after b r i →
+            slice_index (done_by w q).memory (array_start words b + i) ≡ slice_index w.memory (array_start words b + i)
         by_array X m = left.first i below
         by_array Y m = left.kept Y i below (differs m)
         by_array Array.A m = left.kept Array.A i below (differs m)
@@ -93,10 +102,12 @@ module _ (c : Target) (words : ℕ) (enough : c.size ≤ words) (code : Code) (m
         left : Left c words enough owner after ps t source q x (own w q) (done_by w q)
         left = after_one q w low d
 
-        files-wide : (r : ℕ) → r < c.procs → regs * c.lanes ≤ length (slice_index_or (slice_set w.registers q (done_by w q).registers) r [])
+        files-wide : (r : ℕ) → r < c.procs → regs * c.lanes ≤ length
+            (slice_index_or (slice_set w.registers q (done_by w q).registers) r [])
         files-wide r under = by_file (cases_eq r q)
           where
-            by_file : (r ≡ q) ⊎ (r ≢ q) → regs * c.lanes ≤ length (slice_index_or (slice_set w.registers q (done_by w q).registers) r [])
+            by_file : (r ≡ q) ⊎ (r ≢ q) → regs * c.lanes ≤ length
+                (slice_index_or (slice_set w.registers q (done_by w q).registers) r [])
             by_file (inl e) =
                 let there : slice_index_or (slice_set w.registers q (done_by w q).registers) q [] ≡ (done_by w q).registers = get_or-set_same w.registers q (done_by w q).registers [] (omega (arith, d.room.files, low)) in
                 let same = length-registers c.modulus c.lanes (passes_acts c words after ps t source q) (own w q) in
@@ -108,7 +119,8 @@ module _ (c : Target) (words : ℕ) (enough : c.size ≤ words) (code : Code) (m
                 subst (λ (f : List ℕ). regs * c.lanes ≤ length f) (sym there) (d.room.each r under)
 
         by_owner : (i : ℕ) → i < c.size → owner i < q + 1 → (owner i ≡ q) ⊎ (owner i ≢ q) →
-            slice_index (done_by w q).memory (array_start words (array_after after ps t source) + i) ≡ slice_index (phase_on c.modulus c.size ps x) i
+            slice_index (done_by w q).memory (array_start words (array_after after ps t source) + i)
+            ≡ slice_index (phase_on c.modulus c.size ps x) i
         by_owner i below mine (inl e) = left.stored i below e
         by_owner i below mine (inr ne) = left.kept (array_after after ps t source) i below ne ∙ d.done i below (omega arith)
 
@@ -121,7 +133,9 @@ module _ (c : Target) (words : ℕ) (enough : c.size ≤ words) (code : Code) (m
 
   -- ---- all phases
 
-  pub residues-after : (ps : List Pass) (x : List ℕ) → AllKnown c ps → ((i : ℕ) → i < c.size → slice_index x i < c.modulus) → (i : ℕ) → i < c.size → slice_index (phase_on c.modulus c.size ps x) i < c.modulus
+  pub residues-after : (ps : List Pass) (x : List ℕ) → AllKnown c ps →
+      ((i : ℕ) → i < c.size → slice_index x i < c.modulus) → (i : ℕ) → i < c.size →
+      slice_index (phase_on c.modulus c.size ps x) i < c.modulus
   residues-after [] x known residues = residues
   residues-after (p ∷ ps) x known residues = residues-after ps (nests_on c.modulus c.size p x) known.1 (made-residues c p known.0.runs x)
 
@@ -176,10 +190,13 @@ module _ (c : Target) (words : ℕ) (enough : c.size ≤ words) (code : Code) (m
   abbrev pub IsOtherNext : ℕ → ℕ → Array → Type 0
   IsOtherNext count t source = 0 < count → IsOther source (written_array t (count - 1))
 
-  one-phase : (regs f : ℕ) (ps : List Pass) (more : List (List Pass)) (t : ℕ) (source : Array) (x : List ℕ) (w : Whole) → AllKnown c ps → most_of c ps * c.lanes ≤ regs * c.lanes →
+  one-phase : (regs f : ℕ) (ps : List Pass) (more : List (List Pass)) (t : ℕ) (source : Array) (x : List ℕ)
+      (w : Whole) → AllKnown c ps → most_of c ps * c.lanes ≤ regs * c.lanes →
       IsSharedFrom (count_in more) t source ps → IsOtherNext (count_in more + length ps) t source →
-      ((q : ℕ) → q < c.procs → acts code f q ≡ passes_acts c words (count_in more) ps t source q) → Ready regs source x w →
-      Ready regs (array_after (count_in more) ps t source) (phase_on c.modulus c.size ps x) (processors_alone code f code.procs 0 w)
+      ((q : ℕ) → q < c.procs → acts code f q ≡ passes_acts c words (count_in more) ps t source q) →
+      Ready regs source x w →
+      Ready regs (array_after (count_in more) ps t source) (phase_on c.modulus c.size ps x)
+      (processors_alone code f code.procs 0 w)
   one-phase regs f ps more t source x w known wide shared other acts_are ready =
       let last = all-processors shared.owner (count_in more) f ps t source x regs wide known shared.owns ready.residues (λ some. other (omega (arith, some))) acts_are w
       (record { room = ready.room; held = λ r i _ below _. ready.held i below; done = λ i below none. absurd (omega (arith, none)) }) in
@@ -191,7 +208,9 @@ module _ (c : Target) (words : ℕ) (enough : c.size ≤ words) (code : Code) (m
       }
 
   -- what the last pass of a phase writes, and others follow, is not what the next one does
-  other-last : (after : ℕ) (qs : List Pass) (u j : ℕ) (a : Array) → 0 < after → a ≡ written_array u (after + length qs) → IsOther (array_after after qs (suc u) a) (written_array (u + suc (length qs)) j)
+  other-last : (after : ℕ) (qs : List Pass) (u j : ℕ) (a : Array) → 0 < after →
+      a ≡ written_array u (after + length qs) → IsOther (array_after after qs (suc u) a)
+      (written_array (u + suc (length qs)) j)
   other-last after [] u j a some e =
       let is : after + 0 ≡ suc (after - 1) = omega (arith, some) in
       let next : u + 1 ≡ suc u = omega arith in
@@ -200,15 +219,18 @@ module _ (c : Target) (words : ℕ) (enough : c.size ≤ words) (code : Code) (m
       let shift : suc u + suc (length qs) ≡ u + suc (suc (length qs)) = omega arith in
       subst (λ n. IsOther (array_after after qs (suc (suc u)) (written_array (suc u) (after + length qs))) (written_array n j)) shift (other-last after qs (suc u) j (written_array (suc u) (after + length qs)) some refl)
 
-  other-after : (after : ℕ) (ps : List Pass) (t : ℕ) (source : Array) → IsOtherNext (after + length ps) t source → IsOtherNext after (t + length ps) (array_after after ps t source)
+  other-after : (after : ℕ) (ps : List Pass) (t : ℕ) (source : Array) → IsOtherNext (after + length ps) t source →
+      IsOtherNext after (t + length ps) (array_after after ps t source)
   other-after after [] t source other some =
       let here : t + 0 ≡ t = omega arith in
       let count : after + 0 ≡ after = omega arith in
       subst (λ n. IsOther source (written_array n (after - 1))) (sym here) (subst (λ k. IsOther source (written_array t (k - 1))) count (other (omega (arith, some))))
   other-after after (p ∷ ps) t source other some = other-last after ps t (after - 1) (written_array t (after + length ps)) some refl
 
-  pub all-phases : (regs f : ℕ) (pss : List (List Pass)) (t : ℕ) (source : Array) (x : List ℕ) (w : Whole) → PhasesKnown c pss → AllWide regs pss → SharedFrom pss t source →
-      IsOtherNext (count_in pss) t source → RunsPhases f pss t source → Ready regs source x w → Ready regs (final_array pss t source) (phases_on c.modulus c.size pss x) (phases_alone code (length pss) f w)
+  pub all-phases : (regs f : ℕ) (pss : List (List Pass)) (t : ℕ) (source : Array) (x : List ℕ) (w : Whole) →
+      PhasesKnown c pss → AllWide regs pss → SharedFrom pss t source →
+      IsOtherNext (count_in pss) t source → RunsPhases f pss t source → Ready regs source x w →
+      Ready regs (final_array pss t source) (phases_on c.modulus c.size pss x) (phases_alone code (length pss) f w)
   all-phases regs f [] t source x w known wide shared other runs ready = ready
   all-phases regs f (ps ∷ more) t source x w known wide shared other runs ready =
       all-phases regs (f + 1) more (t + length ps) (array_after (count_in more) ps t source) (phase_on c.modulus c.size ps x) (processors_alone code f code.procs 0 w) known.1 wide.1 shared.1
@@ -216,7 +238,8 @@ module _ (c : Target) (words : ℕ) (enough : c.size ≤ words) (code : Code) (m
       (one-phase regs f ps more t source x w known.0 wide.0 shared.0 other runs.0 ready)
 
   -- the last pass of all writes Y
-  last-empty : (after : ℕ) (ps : List Pass) (t : ℕ) (source : Array) → length ps ≡ 0 → array_after after ps t source ≡ source
+  last-empty : (after : ℕ) (ps : List Pass) (t : ℕ) (source : Array) → length ps ≡ 0 →
+      array_after after ps t source ≡ source
   last-empty after [] t source e = refl
   last-empty after (p ∷ ps) t source e = absurd (omega (arith, e))
 
@@ -234,7 +257,8 @@ module _ (c : Target) (words : ℕ) (enough : c.size ≤ words) (code : Code) (m
   final-is [] t source some = absurd (omega (arith, some))
   final-is (ps ∷ more) t source some = by_count (count_in more) refl (λ later. final-is more (t + length ps) (array_after (count_in more) ps t source) later)
     where
-      by_count : (n : ℕ) → count_in more ≡ n → (0 < count_in more → final_array (ps ∷ more) t source ≡ Y) → final_array (ps ∷ more) t source ≡ Y
+      by_count : (n : ℕ) → count_in more ≡ n → (0 < count_in more → final_array (ps ∷ more) t source ≡ Y) →
+          final_array (ps ∷ more) t source ≡ Y
       by_count zero e others =
           final-empty more (t + length ps) (array_after (count_in more) ps t source) e
           ∙ ap (λ n. array_after n ps t source) e

@@ -1,5 +1,6 @@
 -- What a processor's parts of the passes of a phase leave, one pass after another.
-use Rattle.std.proofs.Common.{◌≡◌, ◌≢◌, ℕ, zero, suc, ◌+◌, ◌-◌, ◌*◌, ◌<◌, ◌≤◌, inl, inr, List, [], ◌∷◌, length, refl, sym, ap, ◌∙◌, arith, subst}
+use Rattle.std.proofs.Common.{◌≡◌, ◌≢◌, ℕ, zero, suc, ◌+◌, ◌-◌, ◌*◌, ◌<◌, ◌≤◌, inl, inr, List, [], ◌∷◌, length, refl}
+use Rattle.std.proofs.Common.{sym, ap, ◌∙◌, arith, subst}
 use Rattle.std.specs.Prelude.{slice_index, max}
 use Rattle.std.proofs.Math.Nat.{le-max_left, le-max_right, mul-le-mul_right}
 use Rattle.icode.proofs.CodeLaws.ByLane.{lists_follow}
@@ -60,15 +61,19 @@ module _ (c : Target) (words : ℕ) (enough : c.size ≤ words) (owner : ℕ →
   pub record Holds (ps : List Pass) (t : ℕ) (source : Array) (q : ℕ) (x : List ℕ) (s : Local) : Type 0 where
     pub memory : length s.memory ≡ 4 * words
     pub registers : most_of c ps * c.lanes ≤ length s.registers
-    pub held : (i : ℕ) → i < c.size → MayRead source q i → slice_index s.memory (array_start words source + i) ≡ slice_index x i
+    pub held : (i : ℕ) → i < c.size → MayRead source q i → slice_index s.memory (array_start words source + i)
+        ≡ slice_index x i
     pub residues : (i : ℕ) → i < c.size → slice_index x i < c.modulus
     pub other : 0 < length ps → IsOther source (written_array t (after + length ps - 1))
 
   -- its own words of the last array have what the passes make, and what belongs to another and all of X are unchanged
   pub record Left (ps : List Pass) (t : ℕ) (source : Array) (q : ℕ) (x : List ℕ) (s end : Local) : Type 0 where
-    pub stored : (i : ℕ) → i < c.size → owner i ≡ q → slice_index end.memory (array_start words (array_after after ps t source) + i) ≡ slice_index (phase_on c.modulus c.size ps x) i
-    pub kept : (a : Array) (i : ℕ) → i < c.size → owner i ≢ q → slice_index end.memory (array_start words a + i) ≡ slice_index s.memory (array_start words a + i)
-    pub first : (i : ℕ) → i < c.size → slice_index end.memory (array_start words X + i) ≡ slice_index s.memory (array_start words X + i)
+    pub stored : (i : ℕ) → i < c.size → owner i ≡ q → slice_index end.memory
+        (array_start words (array_after after ps t source) + i) ≡ slice_index (phase_on c.modulus c.size ps x) i
+    pub kept : (a : Array) (i : ℕ) → i < c.size → owner i ≢ q →
+        slice_index end.memory (array_start words a + i) ≡ slice_index s.memory (array_start words a + i)
+    pub first : (i : ℕ) → i < c.size → slice_index end.memory (array_start words X + i)
+        ≡ slice_index s.memory (array_start words X + i)
 
   module _ (p : Pass) (ps : List Pass) (t : ℕ) (source : Array) (q : ℕ) (low : q < c.procs) (x : List ℕ) (s : Local) (known : CanWritePass c p) (reads : Reads p source)
       (owns : Owns p) (h : Holds (p ∷ ps) t source q x s) where
@@ -119,7 +124,8 @@ module _ (c : Target) (words : ℕ) (enough : c.size ≤ words) (owner : ℕ →
         let same : i ≡ w = omega (arith, e) in
         other (ap owner same ∙ owns q w low is))
 
-    other-array : (a : Array) (i : ℕ) → i < c.size → IsOther a target → slice_index next.memory (array_start words a + i) ≡ slice_index s.memory (array_start words a + i)
+    other-array : (a : Array) (i : ℕ) → i < c.size → IsOther a target →
+        slice_index next.memory (array_start words a + i) ≡ slice_index s.memory (array_start words a + i)
     other-array a i below other =
         leaves.kept (array_start words a + i) (λ w is e.
         clash (array_start words a) to i w (apart words c.size enough a target other) below (stored-below c p known.runs q w is) e)
@@ -135,10 +141,12 @@ module _ (c : Target) (words : ℕ) (enough : c.size ≤ words) (owner : ℕ →
         target-not_first t zero = λ e. let is = last-number t in absurd (omega (arith, e, is))
         target-not_first t (suc k) = λ e. let is = scratch-number t k in absurd (omega (arith, e, is))
 
-    one-kept : (a : Array) (i : ℕ) → i < c.size → owner i ≢ q → slice_index next.memory (array_start words a + i) ≡ slice_index s.memory (array_start words a + i)
+    one-kept : (a : Array) (i : ℕ) → i < c.size → owner i ≢ q →
+        slice_index next.memory (array_start words a + i) ≡ slice_index s.memory (array_start words a + i)
     one-kept a i below other = by_array a target (other-array a i below) (other-owner i below other)
       where
-        by_array : (a b : Array) → (IsOther a b → slice_index next.memory (array_start words a + i) ≡ slice_index s.memory (array_start words a + i)) →
+        by_array : (a b : Array) → (IsOther a b → slice_index next.memory (array_start words a + i)
+            ≡ slice_index s.memory (array_start words a + i)) →
             (slice_index next.memory (array_start words b + i) ≡ slice_index s.memory (array_start words b + i)) →
             slice_index next.memory (array_start words a + i) ≡ slice_index s.memory (array_start words a + i)
         by_array X X f g = g
@@ -187,7 +195,8 @@ module _ (c : Target) (words : ℕ) (enough : c.size ≤ words) (owner : ℕ →
             subst (λ (n : ℕ). IsOther (written_array t n) (written_array (suc t) (after + length ps - 1))) (sym is) (next-other t (after + k) (after + length ps - 1))
 
   -- all parts of a processor
-  pub parts-leave : (ps : List Pass) (t : ℕ) (source : Array) (q : ℕ) (x : List ℕ) (s : Local) → q < c.procs → AllKnown c ps → Owned ps t source → Holds ps t source q x s →
+  pub parts-leave : (ps : List Pass) (t : ℕ) (source : Array) (q : ℕ) (x : List ℕ) (s : Local) → q < c.procs →
+      AllKnown c ps → Owned ps t source → Holds ps t source q x s →
       Left ps t source q x s (effects c.modulus c.lanes (passes_acts c words after ps t source q) s)
   parts-leave [] t source q x s low known owned h =
       record { stored = λ i below own. h.held i below (own-read source q i own); kept = λ a i below other. refl; first = λ i below. refl }

@@ -1,18 +1,22 @@
 -- A program can be made of passes that are ready.
-use Rattle.std.proofs.Common.{◌≡◌, ℕ, suc, ◌+◌, ◌^◌, ◌<◌, ◌≤◌, Bool, true, false, arith, refl, sym, ap, ◌∙◌, List, [], ◌∷◌, ◌++◌, length, All, subst, if◌then◌else◌}
+use Rattle.std.proofs.Common.{◌≡◌, ℕ, suc, ◌+◌, ◌^◌, ◌<◌, ◌≤◌, Bool, true, false, arith, refl, sym, ap, ◌∙◌, List, []}
+use Rattle.std.proofs.Common.{◌∷◌, ◌++◌, length, All, subst, if◌then◌else◌}
 use Rattle.std.specs.Prelude.{Option, Some, None}
 use Rattle.std.proofs.lemmas.List.Elements.{All-weaker}
 use Rattle.operators.specs.declared.target.Target.{Target}
 use Rattle.sigma_spl.specs.Merged.{PlainMerged}
 use Rattle.sigma_spl.specs.Nest.{PlainMultiplier, PlainNest}
 use Rattle.sigma_spl.specs.Shared.Owners.{all_passes}
-use Rattle.sigma_spl.specs.Shared.Ready.{IsReady, IsReadyPass, diagonal_tables, nests_tables, passes_tables, work_tables}
+use Rattle.sigma_spl.specs.Shared.Ready.{IsReady, IsReadyPass, diagonal_tables, nests_tables, passes_tables}
+use Rattle.sigma_spl.specs.Shared.Ready.{work_tables}
 use Rattle.sigma_spl.specs.Work.{PlainWork, kernel, rows, horner, tile, copy}
 use Rattle.code_gen.proofs.PassCode.ReadyNests.{ready_can_write}
 use Rattle.code_gen.specs.PassCode.Conditions.{CanWritePass}
 use Rattle.code_gen.specs.PassCode.Contract.{CanProgram}
 use Rattle.code_gen.specs.PassCode.Program.{tables_of_phases, tables_through}
-use Rattle.code_gen.specs.PassCode.Statements.{diagonal_of, is_table, one_factor, powers_of, tables_after, tables_of_multiplier, tables_of_nest, tables_of_work, with_diagonal, with_table}
+use Rattle.code_gen.specs.PassCode.Statements.{diagonal_of, is_table, one_factor, powers_of, tables_after}
+use Rattle.code_gen.specs.PassCode.Statements.{tables_of_multiplier, tables_of_nest, tables_of_work, with_diagonal}
+use Rattle.code_gen.specs.PassCode.Statements.{with_table}
 
 -- ---- the tables of passes: powers and diagonals
 

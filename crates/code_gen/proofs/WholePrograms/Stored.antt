@@ -1,5 +1,6 @@
 -- Each word of the array is stored by a processor.
-use Rattle.std.proofs.Common.{◌≡◌, ◌≢◌, ℕ, zero, suc, ◌%◌, ◌<◌, ◌≤◌, Bool, true, false, refl, List, [], ◌∷◌, ◌++◌, map, sym, ◌∙◌, arith, subst, inl, inr, mod-lt, Contains, if◌then◌else◌}
+use Rattle.std.proofs.Common.{◌≡◌, ◌≢◌, ℕ, zero, suc, ◌%◌, ◌<◌, ◌≤◌, Bool, true, false, refl, List, [], ◌∷◌, ◌++◌, map}
+use Rattle.std.proofs.Common.{sym, ◌∙◌, arith, subst, inl, inr, mod-lt, Contains, if◌then◌else◌}
 use Rattle.std.specs.Prelude.{slice_index, ◌==◌}
 use Rattle.std.proofs.lemmas.Bool.{cases_eq, cases_lt}
 use Rattle.std.proofs.lemmas.Bool.Decides.{nat_tests}
@@ -45,13 +46,15 @@ pub record IsHit (z : PlainNest) (w : ℕ) : Type 0 where
   pub below : item < work_size z.work
   pub there : store_place z.work z.scatters values item ≡ w
 
-hit-of : (m : ℕ) (z : PlainNest) (w : ℕ) → 1 ≤ loop_at (loops_of z.counts) (copies_of m z).size (copies_of m z).to (λ vs k. 1) w → IsHit z w
+hit-of : (m : ℕ) (z : PlainNest) (w : ℕ) → 1 ≤ loop_at (loops_of z.counts)
+    (copies_of m z).size (copies_of m z).to (λ vs k. 1) w → IsHit z w
 hit-of m z w some =
     let copy = some-values (loops_of z.counts) _ some in
     let item = some-term (work_size z.work) _ copy.2 in
     record { values = copy.0; item = item.0; in_range = copy.1; below = item.1; there = test-met _ w item.2 }
 
-pass-hit : (m : ℕ) (zs : List PlainNest) (w : ℕ) → 1 ≤ hits (map (copies_of m) zs) w → (z : PlainNest) × Contains zs z × IsHit z w
+pass-hit : (m : ℕ) (zs : List PlainNest) (w : ℕ) → 1 ≤ hits (map (copies_of m) zs) w →
+    (z : PlainNest) × Contains zs z × IsHit z w
 pass-hit m [] w some = absurd (omega arith)
 pass-hit m (z ∷ zs) w some =
     elim (cases_lt 0 (loop_at (loops_of z.counts) (copies_of m z).size (copies_of m z).to (λ vs k. 1) w)) [
@@ -61,7 +64,8 @@ pass-hit m (z ∷ zs) w some =
 
 -- ---- its processor
 
-head-below : (n : ℕ) (counts vs : List ℕ) → n ≢ 1 → nests.AreInRange (if_several n n ++ counts) vs → slice_index vs 0 < n
+head-below : (n : ℕ) (counts vs : List ℕ) → n ≢ 1 → nests.AreInRange (if_several n n ++ counts) vs →
+    slice_index vs 0 < n
 head-below n counts vs several range = by_test (n == 1) (grind (arith, nat_tests)) range
   where
     head : (us : List ℕ) → nests.AreInRange (n ∷ counts) us → slice_index us 0 < n
@@ -95,7 +99,8 @@ module _ (c : Target) (zs : List PlainNest) (can : CanRun c zs) where
       ]
 
   -- a word that belongs to a processor is stored by it
-  pub stored-own : (owner : ℕ → ℕ) → ((q w : ℕ) → q < c.procs → IsStoredBy c zs q w → owner w ≡ q) → (q w : ℕ) → q < c.procs → w < c.size → owner w ≡ q → IsStoredBy c zs q w
+  pub stored-own : (owner : ℕ → ℕ) → ((q w : ℕ) → q < c.procs → IsStoredBy c zs q w → owner w ≡ q) → (q w : ℕ) →
+      q < c.procs → w < c.size → owner w ≡ q → IsStoredBy c zs q w
   stored-own owner owns q w low below own =
       let found = stored-by w below (omega arith) in
       subst (λ r. IsStoredBy c zs r w) (sym (owns found.0 w found.1 found.2) ∙ own) found.2

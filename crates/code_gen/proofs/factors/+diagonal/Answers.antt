@@ -12,7 +12,8 @@ use Rattle.code_gen.proofs.Diagonals.{diagonal-size, spread-is, values-are}
 use Rattle.code_gen.proofs.factors.+diagonal.Goals as goal
 
 -- the size of the whole, where these are the path and the entries that are spread
-whole-is : (m : ℕ) (value factors : Factors) (path ps : Path) (inner xs : List ℕ) → factors ≡ value → ps ≡ path → xs ≡ inner → inner ≡ diagonal_of m (plain_factors factors) →
+whole-is : (m : ℕ) (value factors : Factors) (path ps : Path) (inner xs : List ℕ) → factors ≡ value → ps ≡ path →
+    xs ≡ inner → inner ≡ diagonal_of m (plain_factors factors) →
     size_under path (factor_count (plain_factors value)) ≡ size_under ps (length xs)
 whole-is m value factors path ps inner xs is same taken made =
     ap₂ size_under (sym same) (ap (λ (fs : Factors). factor_count (plain_factors fs)) (sym is) ∙ sym (ap length taken ∙ diagonal-size m (plain_factors factors) inner made))
