@@ -2,6 +2,7 @@
 use Rattle.std.proofs.Common.{◌≡◌, ◌≢◌, ℕ, suc, ◌+◌, ◌<◌, Bool, true, false, List, [], ◌∷◌, ◌++◌, length, get_or, drop}
 use Rattle.std.proofs.Common.{Vec, Global, refl, sym, ap, ◌∙◌, arith, drop-cons}
 use Rattle.std.specs.Prelude.{if◌then◌else◌}
+use Rattle.std.proofs.lemmas.Bool.{false_from_ne_true}
 use Rattle.std.proofs.lemmas.List.{length-map, map-append}
 use Rattle.icode.specs.Plain.{plain_tables}
 use Rattle.code_gen.specs.PassCode.Statements.{is_table, table_number, with_table}
@@ -23,16 +24,12 @@ pub find-this : (ts : List (Vec ℕ Global)) (entries : List ℕ) (k : ℕ) (t :
 find-this ts entries k t below is same =
     find-step ts entries k t below is ∙ ap (λ (b : Bool). if b then 0 else suc (table_number (plain_tables (drop (k + 1) ts)) entries)) ((is_table-Decides t.items entries).1 same)
 
-not-true : (b : Bool) → (b ≡ true → ⊥) → b ≡ false
-not-true true h = absurd (h refl)
-not-true false h = refl
-
 pub find-other : (ts : List (Vec ℕ Global)) (entries : List ℕ) (k : ℕ) (t : Vec ℕ Global) → k < length ts →
     t ≡ get_or ts k t → t.items ≢ entries → table_number (plain_tables (drop k ts)) entries
     ≡ suc (table_number (plain_tables (drop (k + 1) ts)) entries)
 find-other ts entries k t below is other =
     find-step ts entries k t below is
-    ∙ ap (λ (b : Bool). if b then 0 else suc (table_number (plain_tables (drop (k + 1) ts)) entries)) (not-true (is_table t.items entries) (λ e. other ((is_table-Decides t.items entries).0 e)))
+    ∙ ap (λ (b : Bool). if b then 0 else suc (table_number (plain_tables (drop (k + 1) ts)) entries)) (false_from_ne_true (is_table t.items entries) (λ e. other ((is_table-Decides t.items entries).0 e)))
 
 -- a new table is added, and one that is there is not
 pub shared-new : (old new : List (Vec ℕ Global)) (entries : Vec ℕ Global) →

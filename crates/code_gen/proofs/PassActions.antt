@@ -15,6 +15,6 @@ pub mod Fillings
 mod Leaves
 mod Counting
 mod PassCounts
-mod Fitting
+pub mod Every
 mod Short
 pub mod PassesRun

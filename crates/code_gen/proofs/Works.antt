@@ -3,6 +3,8 @@ use Rattle.std.proofs.Common.{◌≡◌, ℕ, zero, suc, ◌+◌, ◌^◌, ◌<�
 use Rattle.std.proofs.Common.{map, refl, sym, ap, ◌∙◌, arith, subst, All}
 use Rattle.std.specs.Prelude.{Option, Some, None}
 use Rattle.std.proofs.lemmas.List.{get_or-map, length-map}
+use Rattle.std.proofs.lemmas.List.Elements.{Contains-get_or}
+use Rattle.code_gen.proofs.PassActions.Fillings.{registers-le}
 use Rattle.kernel_gen.specs.Kernel.{trees_kernel}
 use Rattle.kernel_gen.proofs.Products.{trees-does}
 use Rattle.code_gen.specs.PassActions.Acts.{nest_registers, pass_registers}
@@ -21,7 +23,9 @@ use Rattle.sigma_spl.specs.Work.{PlainKernel, PlainWork, kernel, trees_of, work_
 use Rattle.sigma_spl.specs.declared.nest.Nest.{Nest}
 use Rattle.tree_model.specs.Trees.{trees_size}
 use Rattle.code_gen.specs.Conditions.{CanEmit, CanEmitAll, CanEmitPhases, CanList, HasFactors}
-use Rattle.code_gen.proofs.Diagonals.{columns-some, inner-some}
+use Rattle.code_gen.proofs.WholePrograms.Known.{passes-count}
+use Rattle.code_gen.proofs.Diagonals.{inner-some}
+use Rattle.sigma_spl.proofs.Keeps.{right_positive}
 
 -- ---- works
 
@@ -45,7 +49,7 @@ kernel-sized h z k is can =
 
 can-list : (factors : PlainFactors) → 0 < factor_count factors → factor_count factors < 2 ^ 32 → CanList factors
 can-list (values entries) some small = tt
-can-list (twiddles r s root) some small = (columns-some r s some, small)
+can-list (twiddles r s root) some small = (right_positive r s some, small)
 can-list (repeated v n) some small = tt
 can-list (spread path factors) some small =
     let inner = inner-some path (factor_count factors) some in
@@ -58,12 +62,6 @@ has-factors (Some d) h = let known = h d refl in can-list d.factors known.0 know
 
 -- ---- passes
 
-registers-le : (h : Target) (zs : List PlainNest) (k : ℕ) (d : PlainNest) → k < length zs →
-    nest_registers h.modulus (get_or zs k d) (get_or zs k d).work ≤ pass_registers h.modulus zs
-registers-le h [] k d below = absurd (omega arith)
-registers-le h (z ∷ zs) zero d below = omega arith
-registers-le h (z ∷ zs) (suc k) d below = let rest = registers-le h zs k d (omega arith) in omega arith
-
 can-pass : (h : Target) (zs : List PlainNest) → IsHost h → CanWritePass h zs → All (CanEmit h) zs
 can-pass h zs host can k d below =
     record {
@@ -71,7 +69,7 @@ can-pass h zs host can k d below =
       lanes = host.lanes;
       runs = can.runs.nests k d below;
       writes = can.nests k d below;
-      few = let low = registers-le h zs k d below in let few = can.few in omega arith;
+      few = let low = registers-le h zs (get_or zs k d) (Contains-get_or zs k d below) in let few = can.few in omega arith;
     }
 
 module _ (h : Target) (host : IsHost h) where
@@ -90,15 +88,11 @@ module _ (h : Target) (host : IsHost h) where
   most-passes [] = omega arith
   most-passes (zs ∷ ps) = let rest = most-passes ps in let size = host.size in omega arith
 
-count-is : (pss : List (List (List PlainNest))) → count_in pss ≡ length (all_passes pss)
-count-is [] = refl
-count-is (ps ∷ more) = let all = length-append ps (all_passes more) in let rest = count-is more in omega (arith, all, rest)
-
 pub can-emit : (h : Target) (g : PlainMerged) → CanProgram h g → CanEmitPhases h g.phases
 can-emit h g can = can-phases h can.host g.phases can.passes
 
 pub few-passes : (h : Target) (g : PlainMerged) → CanProgram h g → 0 + count_in g.phases < 2 ^ 64
-few-passes h g can = let all = count-is g.phases in let most = most-passes h can.host (all_passes g.phases) in let few = can.few in omega (arith, all, most, few)
+few-passes h g can = let all = passes-count g.phases in let most = most-passes h can.host (all_passes g.phases) in let few = can.few in omega (arith, all, most, few)
 
 -- a nest of a pass
 pub nest-at : (h : Target) (nests : List Nest) (i : ℕ) (z : Nest) → All (CanEmit h) (map plain_nest nests) →

@@ -1,4 +1,4 @@
--- The actions of straight-line code: each fits, and there is one for each operation.
+-- The actions of straight-line code: there is one for each operation.
 use Rattle.std.proofs.Common.{◌≡◌, ℕ, ◌+◌, ◌<◌, ◌≤◌, arith, sym, ap, ◌∙◌, List, [], ◌∷◌, length}
 use Rattle.std.specs.Prelude.{All}
 use Rattle.std.proofs.lemmas.List.{length-map}
@@ -13,24 +13,6 @@ use Rattle.kernel_gen.proofs.Instructions.{actions-operations, factors-fit}
 use Rattle.kernel_gen.proofs.Products.{trees-does}
 use Rattle.code_gen.specs.PassActions.Laws.{IsFit}
 use Rattle.tree_model.specs.Trees.{PlainTrees, trees_size}
-
--- ---- code whose registers are among those that there are
-
-module _ (m lanes bound regs : ℕ) (some : 0 < m) (low : bound ≤ regs) where
-  wider : (r : ℕ) → r < bound → r < regs
-  wider r below = omega (arith, below, low)
-
-  instruction-fits : (i : Instruction) → IsWithin m bound i → IsFit regs lanes m (action_by lanes i)
-  instruction-fits (Add r x y) is = record { registers = (wider r is.0, wider x is.1, wider y is.2); factors = tt }
-  instruction-fits (Sub r x y) is = record { registers = (wider r is.0, wider x is.1, wider y is.2); factors = tt }
-  instruction-fits (Neg r x) is = record { registers = (wider r is.0, wider x is.1); factors = tt }
-  instruction-fits (Mul r x factor) is = record { registers = (wider r is.0, wider x is.1); factors = factors-fit m lanes (λ _. factor) some (λ _. is.2) }
-
-  pub code-fits : (code : List Instruction) → AreWithin m bound code → All (IsFit regs lanes m) (actions_by lanes code)
-  code-fits [] are = All-nil (IsFit regs lanes m)
-  code-fits (i ∷ code) are = All-cons (IsFit regs lanes m) (action_by lanes i) (actions_by lanes code) (instruction-fits i are.0) (code-fits code are.1)
-
--- ---- counts
 
 -- each instruction is an operation
 cost-is : (code : List Instruction) → code_cost 1 code ≡ length code

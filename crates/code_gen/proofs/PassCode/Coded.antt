@@ -10,6 +10,7 @@ use Rattle.code_gen.specs.PassCode.Expressions.{expr_of}
 use Rattle.operators.specs.declared.target.Target.{Target}
 use Rattle.sigma_spl.specs.Shared.Machine.{PlainFrame, frame_of, values_of}
 use Rattle.code_gen.proofs.PassCode.Numbers.{DividesLow, expr-value, expr-peak}
+use Rattle.sigma_spl.proofs.Nests.{sound-at}
 use Rattle.code_gen.proofs.PassCode.Variables.{framed-values, no-more}
 use Rattle.sigma_spl.specs.Good.{AreSound}
 use Rattle.sigma_spl.specs.Nest.{sum_value}
@@ -37,11 +38,6 @@ words-at : (cs : ℕ → ℕ) (sums : List Sum) (i : ℕ) → All (FitsWord cs) 
 words-at cs [] i h = record { whole = omega arith; divided = tt }
 words-at cs (e ∷ es) zero h = All-head (FitsWord cs) e es h
 words-at cs (e ∷ es) (suc i) h = words-at cs es i (All-tail (FitsWord cs) e es h)
-
-sound-at : (sums : List Sum) (i : ℕ) → AreSound sums → IsSound (slice_index_or sums i (constant 0))
-sound-at [] i h = tt
-sound-at (e ∷ es) zero h = h.0
-sound-at (e ∷ es) (suc i) h = sound-at es i h.1
 
 pub coded : (c : Target) (w : PlainWork) (cs : ℕ → ℕ) (n : ℕ) (sums : List Sum) (i q : ℕ) (us : List ℕ) →
     All (FitsWord cs) sums → AreSound sums → length us ≡ n →

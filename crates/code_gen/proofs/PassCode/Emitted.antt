@@ -32,6 +32,7 @@ use Rattle.code_gen.proofs.PassCode.OneFactor.{one-factor}
 use Rattle.code_gen.proofs.PassCode.Places.{IsFor, start_of, emits-load, emits-store, emits-product}
 use Rattle.code_gen.proofs.PassCode.PlaceNumbers.{loop-value, loop-peak, product-value, product-peak}
 use Rattle.code_gen.proofs.PassActions.Rows.{row_acts}
+use Rattle.code_gen.proofs.PassActions.StraightCopies.{copy_body, ends_of}
 use Rattle.sigma_spl.specs.Nest.{PlainMultiplier, PlainNest, factor_at, factor_count, store_place}
 use Rattle.ring_mod.specs.Residue.{power_mod}
 use Rattle.ring_mod.proofs.Powers.{power_mod-exponent}
@@ -127,12 +128,15 @@ module _ (c : Target) (pass : PlainNest) (p : PlainProgram) (here : IsFor c p) (
 
   -- ---- straight code
 
+  pub emits-plain : (a : Action) → Emits (plain a ∷ []) (a ∷ [])
+  emits-plain a = emits-one (plain a) a refl (inside-plain a)
+
   emits-instruction : (i : Instruction) (vs : List ℕ) → Emits (step_of p (op_of i) vs q ∷ []) (action_by c.lanes i ∷ [])
   emits-instruction i vs =
       let is : step_of p (op_of i) vs q ≡ plain (action_by c.lanes i) = step-is p i vs q ∙ ap (λ (n : ℕ). plain (action_by n i)) here.lanes in
       emits-one (step_of p (op_of i) vs q) (action_by c.lanes i) (ap (λ (s : Step). s.action) is) (subst IsInside (sym is) (inside-plain (action_by c.lanes i)))
 
-  emits-straight : (code : List Instruction) (vs : List ℕ) →
+  pub emits-straight : (code : List Instruction) (vs : List ℕ) →
       Emits (steps_of_body p (straight_body code) vs q) (actions_by c.lanes code)
   emits-straight [] vs = emits-none
   emits-straight (i ∷ code) vs = emits-then p q (op_of i) (straight_body code) vs (action_by c.lanes i) (actions_by c.lanes code) (emits-instruction i vs) (emits-straight code vs)
@@ -147,35 +151,28 @@ module _ (c : Target) (pass : PlainNest) (p : PlainProgram) (here : IsFor c p) (
         emits-in_a_row p q n (λ k. do_only (statements.Load k source (place_at (frame_of c pass.work) open_loops pass.gathers k))) vs (λ k. Load k (start_of c source + load_at c pass q vs k) ∷ [])
         (λ k below. let at = places k below in emits-load c p here q (frame_of c pass.work) open_loops source pass.gathers k k vs (load_at c pass q vs k) at.coded at.inside)
 
-    -- straight code of n registers, where its places are those of the code
-    pub emits-made : (n : ℕ) (made : Made) → ((k : ℕ) → k < n →
-        IsLoadedAt c pass q (length (loop_counts c pass)) k vs vs k) →
-        ((k : ℕ) → k < n → IsStoredAt c pass q 0 (length (loop_counts c pass)) k vs vs k) →
-        Emits (steps_of_body p (made_body (frame_of c pass.work) pass (length (loop_counts c pass)) n made table source
-        target) vs q) (made_acts c pass n made (start_of c source) (start_of c target) q vs)
-    emits-made n made inputs stores =
+    -- registers that are loaded, what is done with them, and outputs that are stored
+    pub emits-body : (n step : ℕ) (middle : PlainBody) (acts : List Action) (out : ℕ → ℕ) (used : ℕ) →
+        Emits (steps_of_body p middle vs q) acts →
+        ((k : ℕ) → k < n → IsLoadedAt c pass q (length (loop_counts c pass)) k vs vs k) →
+        ((k : ℕ) → k < n → IsStoredAt c pass q step (length (loop_counts c pass)) k vs vs k) →
+        Emits (steps_of_body p (followed_by (loads_body (frame_of c pass.work) pass (length (loop_counts c pass)) n source)
+        (followed_by middle (in_a_row n (λ k. finish_body (frame_of c pass.work) step pass.multiplier pass.scatters
+        (length (loop_counts c pass)) table target k (out k) (used + k))))) vs q)
+        (copy_body c pass pass.multiplier acts out used n (λ k. start_of c source + load_at c pass q vs k)
+        (start_of c target) q vs)
+    emits-body n step middle acts out used code inputs stores =
         let open_loops = length (loop_counts c pass) in
-        let acts : List Action = actions_by c.lanes made.code in
-        let outputs : ℕ → PlainBody = λ k. finish_body (frame_of c pass.work) 0 pass.multiplier pass.scatters open_loops table target k (slice_index made.outs k) (made.next + k) in
-        let finishes : ℕ → List Action = λ k. finish_acts c pass pass.multiplier (start_of c target) q vs k (slice_index made.outs k) (made.next + k) in
-        emits-followed p q (loads_body (frame_of c pass.work) pass open_loops n source) (followed_by (straight_body made.code) (in_a_row n outputs)) vs (loads n (λ k. start_of c source + load_at c pass q vs k)) (acts ++ bodies n finishes)
+        let outputs : ℕ → PlainBody =
+        λ k. finish_body (frame_of c pass.work) step pass.multiplier pass.scatters open_loops table target k (out k) (used + k) in
+        let finishes : ℕ → List Action = ends_of c pass pass.multiplier out used (start_of c target) q vs in
+        emits-followed p q (loads_body (frame_of c pass.work) pass open_loops n source)
+        (followed_by middle (in_a_row n outputs)) vs (loads n (λ k. start_of c source + load_at c pass q vs k))
+        (acts ++ bodies n finishes)
         (emits-loads n inputs)
-        (emits-followed p q (straight_body made.code) (in_a_row n outputs) vs acts (bodies n finishes) (emits-straight made.code vs)
-        (emits-in_a_row p q n outputs vs finishes (λ k below. emits-stored 0 open_loops table k (slice_index made.outs k) (made.next + k) vs vs k (stores k below) there)))
-
-    -- a tile of v registers
-    pub emits-tile : (v : ℕ) → ((k : ℕ) → k < v → IsLoadedAt c pass q (length (loop_counts c pass)) k vs vs k) →
-        ((k : ℕ) → k < v → IsStoredAt c pass q 1 (length (loop_counts c pass)) k vs vs k) →
-        Emits (steps_of_body p (tile_body (frame_of c pass.work) pass (length (loop_counts c pass)) v table source
-        target) vs q) (tile_acts c pass v (start_of c source) (start_of c target) q vs)
-    emits-tile v inputs stores =
-        let open_loops = length (loop_counts c pass) in
-        let outputs : ℕ → PlainBody = λ k. finish_body (frame_of c pass.work) 1 pass.multiplier pass.scatters open_loops table target k (v + k) (v + v + k) in
-        let finishes : ℕ → List Action = λ k. finish_acts c pass pass.multiplier (start_of c target) q vs k (v + k) (v + v + k) in
-        emits-followed p q (loads_body (frame_of c pass.work) pass open_loops v source) (AndStmts (Do (statements.Tile v 0)) (in_a_row v outputs)) vs (loads v (λ k. start_of c source + load_at c pass q vs k)) (Tile v 0 ∷ bodies v finishes)
-        (emits-loads v inputs)
-        (emits-then p q (statements.Tile v 0) (in_a_row v outputs) vs (Tile v 0) (bodies v finishes) (emits-one (plain (Tile v 0)) (Tile v 0) refl (inside-plain (Tile v 0)))
-        (emits-in_a_row p q v outputs vs finishes (λ k below. emits-stored 1 open_loops table k (v + k) (v + v + k) vs vs k (stores k below) there)))
+        (emits-followed p q middle (in_a_row n outputs) vs acts (bodies n finishes) code
+        (emits-in_a_row p q n outputs vs finishes (λ k below.
+        emits-stored step open_loops table k (out k) (used + k) vs vs k (stores k below) there)))
 
     -- ---- work by rows
 
@@ -210,7 +207,7 @@ module _ (c : Target) (pass : PlainNest) (p : PlainProgram) (here : IsFor c p) (
           (emits-load c p here q (frame_of c pass.work) (open_loops + 2) source pass.gathers 0 1 us (load_at c pass q vs l) loaded.coded loaded.inside)
           (emits-then p q (statements.MulTable 2 1 powers entry 0) add us (Mul 2 1 factors) (Add 0 0 2 ∷ [])
           (emits-power 2 1 entry us ((k * l) % n) (k * l) (mod-lt (k * l) (omega arith)) (sym (power_mod-exponent c.modulus root n (k * l) whole)) (product-value n open_loops k l q vs deep) (product-peak n open_loops k l q vs deep row column small))
-          (emits-one (plain (Add 0 0 2)) (Add 0 0 2) refl (inside-plain (Add 0 0 2))))
+          (emits-plain (Add 0 0 2)))
 
       pub emits-horner : (k t : ℕ) → k < n → t < n → IsLoadedAt c pass q (length (loop_counts c pass) + 2) 0
           ((vs ++ k ∷ []) ++ t ∷ []) vs (n - 1 - t) →
@@ -229,7 +226,7 @@ module _ (c : Target) (pass : PlainNest) (p : PlainProgram) (here : IsFor c p) (
           (emits-power 1 0 (loop_value open_loops) us k k row refl (loop-value open_loops k t q vs deep) (loop-peak open_loops k t q vs deep (omega arith)))
           (emits-then p q (statements.Load 2 source (place_at (frame_of c pass.work) (open_loops + 2) pass.gathers 0)) add us (Load 2 (start_of c source + from)) (Add 0 1 2 ∷ [])
           (emits-load c p here q (frame_of c pass.work) (open_loops + 2) source pass.gathers 0 2 us from loaded.coded loaded.inside)
-          (emits-one (plain (Add 0 1 2)) (Add 0 1 2) refl (inside-plain (Add 0 1 2))))
+          (emits-plain (Add 0 1 2)))
 
     -- rows, where each turn is its actions
     pub emits-rows : (n : ℕ) (turn : PlainBody) (acts : ℕ → ℕ → List Action) →
@@ -245,7 +242,7 @@ module _ (c : Target) (pass : PlainNest) (p : PlainProgram) (here : IsFor c p) (
         (λ k row.
         let us : List ℕ = vs ++ k ∷ [] in
         emits-then p q (statements.Zero 0) (AndStmts (Loop n turn) finish) us (Zero 0) (bodies n (acts k) ++ finish_acts c pass pass.multiplier (start_of c target) q vs k 0 3)
-        (emits-one (plain (Zero 0)) (Zero 0) refl (inside-plain (Zero 0)))
+        (emits-plain (Zero 0))
         (emits-append (flat_map (λ j. steps_of_body p turn (us ++ j ∷ []) q) (range_with_len 0 n)) (steps_of_body p finish us q) (bodies n (acts k)) (finish_acts c pass pass.multiplier (start_of c target) q vs k 0 3)
         (emits-loop n (λ j. steps_of_body p turn (us ++ j ∷ []) q) (acts k) (λ j column. turns k j row column))
         (emits-stored 0 (open_loops + 1) table 0 0 3 us vs k (stores k row) there)))

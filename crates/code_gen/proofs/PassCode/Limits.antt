@@ -1,6 +1,7 @@
 -- The statements of a nest stand within the limits of programs.
 use Rattle.std.proofs.Common.{◌≡◌, ℕ, ◌+◌, ◌^◌, ◌<◌, ◌≤◌, refl, arith, subst, List, length}
 use Rattle.std.specs.Prelude.{slice_index, Option, Some, None, true}
+use Rattle.std.proofs.lemmas.Bool.{and_from}
 use Rattle.icode.specs.declared.program.Array.{Array}
 use Rattle.icode.specs.Limits.{is_body_within}
 use Rattle.icode.specs.Plain.{PlainBody, AndStmts, NoStmts, Do, Loop}
@@ -19,12 +20,12 @@ use Rattle.code_gen.specs.PassCode.Statements.{followed_by, horner_body, in_a_ro
 use Rattle.code_gen.specs.PassCode.Statements.{multiplier_number, nest_body, place_at, powers_number, rows_body}
 use Rattle.code_gen.specs.PassCode.Statements.{straight_body, tables_of_multiplier, tables_of_nest, tables_of_work}
 use Rattle.code_gen.specs.PassCode.Statements.{term_body, with_diagonal, work_body}
-use Rattle.code_gen.proofs.PassCode.BodyLimits.{ArePlaces, both, finish-within, horner-within, loads-within}
+use Rattle.code_gen.proofs.PassCode.BodyLimits.{ArePlaces, finish-within, horner-within, loads-within}
 use Rattle.code_gen.proofs.PassCode.BodyLimits.{product-within, small-is, straight-within, term-within, within-do}
 use Rattle.code_gen.proofs.PassCode.BodyLimits.{within-followed, within-in_a_row, within-loop, within-nested}
 use Rattle.code_gen.proofs.PassActions.Fillings.{working}
 use Rattle.code_gen.proofs.PassCode.OneFactor.{OneIsBelow, one-below}
-use Rattle.code_gen.proofs.PassCode.SharedTables.{number-small, with_table-longer}
+use Rattle.code_gen.proofs.PassCode.SharedTables.{extends-longer, multiplier-extends, number-small, work-extends}
 use Rattle.code_gen.proofs.PassActions.StraightCopies.{finish-few}
 use Rattle.sigma_spl.specs.Merge.{limits_of}
 use Rattle.sigma_spl.specs.Nest.{PlainMultiplier, PlainNest}
@@ -45,32 +46,12 @@ multiplier-small : (m : ℕ) (o : Option PlainMultiplier) (ts : List (List ℕ))
 multiplier-small m None ts = omega arith
 multiplier-small m (Some d) ts = diagonal-small (one_factor d.factors) ts (diagonal_of m d.factors)
 
-diagonal-longer : (o : Option ℕ) (ts : List (List ℕ)) (entries : List ℕ) →
-    length ts ≤ length (with_diagonal o ts entries)
-diagonal-longer None ts entries = with_table-longer ts entries
-diagonal-longer (Some value) ts entries = omega arith
-
-multiplier-longer : (m : ℕ) (o : Option PlainMultiplier) (ts : List (List ℕ)) →
-    length ts ≤ length (tables_of_multiplier m o ts)
-multiplier-longer m None ts = omega arith
-multiplier-longer m (Some d) ts = diagonal-longer (one_factor d.factors) ts (diagonal_of m d.factors)
-
-work-longer : (m : ℕ) (w : PlainWork) (ts : List (List ℕ)) → length ts ≤ length (tables_of_work m w ts)
-work-longer m (kernel k) ts = omega arith
-work-longer m (rows root n) ts = with_table-longer ts (powers_of m root n)
-work-longer m (horner root n) ts = with_table-longer ts (powers_of m root n)
-work-longer m (tile v) ts = omega arith
-work-longer m (copy n) ts = omega arith
-
 powers-small : (m : ℕ) (w : PlainWork) (ts : List (List ℕ)) → powers_number m w ts ≤ length ts
 powers-small m (kernel k) ts = omega arith
 powers-small m (rows root n) ts = number-small ts (powers_of m root n)
 powers-small m (horner root n) ts = number-small ts (powers_of m root n)
 powers-small m (tile v) ts = omega arith
 powers-small m (copy n) ts = omega arith
-
-pub nest-longer : (m : ℕ) (z : PlainNest) (ts : List (List ℕ)) → length ts ≤ length (tables_of_nest m z ts)
-nest-longer m z ts = let first = work-longer m z.work ts in let second = multiplier-longer m z.multiplier (tables_of_work m z.work ts) in omega arith
 
 -- ---- work
 
@@ -131,7 +112,7 @@ module _ (c : Target) (modulus : 2 ≤ c.modulus) (source target : Array) (power
       let deep = length (loop_counts c z) in
       within-in_a_row m n (λ k. AndStmts (Do (statements.Load 0 source (place_at f deep z.gathers k))) (finish_body f 0 z.multiplier z.scatters deep table target k 0 1)) deep
       (λ k below.
-      within-do m (statements.Load 0 source (place_at f deep z.gathers k)) (finish_body f 0 z.multiplier z.scatters deep table target k 0 1) deep (both _ _ (small-is 0 (omega arith)) (alone-within z n z.gathers writes.gathers.0.enough writes.gathers.1 k below))
+      within-do m (statements.Load 0 source (place_at f deep z.gathers k)) (finish_body f 0 z.multiplier z.scatters deep table target k 0 1) deep (and_from _ _ (small-is 0 (omega arith)) (alone-within z n z.gathers writes.gathers.0.enough writes.gathers.1 k below))
       (finish-within m f 0 z.multiplier n deep table k 0 1 z.scatters target (one-below c z can.residues) (omega arith) below (alone-within z n z.scatters writes.scatters.0.enough writes.scatters.1)
       (λ d is. alone-within z n d.places (writes.multiplier d is).0.enough (writes.multiplier d is).1) second (omega arith) (omega arith)))
   work-within p (tile v) can writes few =
@@ -142,7 +123,7 @@ module _ (c : Target) (modulus : 2 ≤ c.modulus) (source target : Array) (power
       let outputs : ℕ → PlainBody = λ k. finish_body f 1 z.multiplier z.scatters deep table target k (v + k) (v + v + k) in
       within-followed m (loads_body f z deep v source) (AndStmts (Do (statements.Tile v 0)) (in_a_row v outputs)) deep
       (loads-within m f z v deep source (omega arith) (alone-within z v z.gathers writes.gathers.0.enough writes.gathers.1))
-      (within-do m (statements.Tile v 0) (in_a_row v outputs) deep (both _ _ (small-is v (omega arith)) (small-is 0 (omega arith)))
+      (within-do m (statements.Tile v 0) (in_a_row v outputs) deep (and_from _ _ (small-is v (omega arith)) (small-is 0 (omega arith)))
       (within-in_a_row m v outputs deep
       (λ k below.
       finish-within m f 1 z.multiplier v deep table k (v + k) (v + v + k) z.scatters target (one-below c z can.residues) (omega arith) below (alone-within z v z.scatters writes.scatters.0.enough writes.scatters.1)
@@ -176,8 +157,8 @@ nest-within c z tables source target modulus can writes few some =
     let table = multiplier_number c.modulus z.multiplier so_far in
     let first = powers-small c.modulus z.work tables in
     let second = multiplier-small c.modulus z.multiplier so_far in
-    let longer = work-longer c.modulus z.work tables in
-    let longest = multiplier-longer c.modulus z.multiplier so_far in
+    let longer = extends-longer (work-extends c.modulus z.work tables) in
+    let longest = extends-longer (multiplier-extends c.modulus z.multiplier so_far) in
     let deep = length (loop_counts c z) in
     let shallow = writes.shallow in
     within-nested c.modulus (loop_counts c z) (work_body c z z.work deep powers table source target) 0 deep writes.counts (omega arith) (omega arith)

@@ -11,7 +11,7 @@ use Rattle.perm_algebra.specs.Room.{constant_of}
 use Rattle.sigma_spl.specs.Shared.Machine.{PlainFrame}
 use Rattle.code_gen.specs.PassCode.Expressions.{factor_at, variables_of, processor_of, remainders_of, quotients_of}
 use Rattle.code_gen.specs.PassCode.Expressions.{divisions_of, expr_of}
-use Rattle.code_gen.proofs.PassCode.Writing.{is-zero, not-zero, factor-same, factor-other}
+use Rattle.code_gen.proofs.PassCode.Writing.{by_zero, factor-other, factor-same}
 
 -- the values of n variables from d on, and of the remainders
 abbrev variables_value : ℕ → ℕ → Sum → (ℕ → ℕ) → ℕ
@@ -48,11 +48,14 @@ both-values (quotient f of m rest) vs = let rest_is = both-values rest vs in ome
 
 -- ---- a sum is its constant, its variables and its divisions
 
-past : (k a f d : ℕ) (rest : Sum) (vs : ℕ → ℕ) → d < a → variables_value k a (variable f d rest) vs
-    ≡ variables_value k a rest vs
-past zero a f d rest vs h = refl
-past (suc k) a f d rest vs h =
-    ap₂ (λ x y. vs a * x + y) (factor-other a d f rest (λ same. omega arith)) (past k (a + 1) f d rest vs (omega arith))
+-- variables that have the same factors have the same values
+same-factors : (k a : ℕ) (e other : Sum) (vs : ℕ → ℕ) →
+    ((d : ℕ) → a ≤ d → d < a + k → factor_at d e ≡ factor_at d other) → variables_value k a e vs
+    ≡ variables_value k a other vs
+same-factors zero a e other vs h = refl
+same-factors (suc k) a e other vs h =
+    ap₂ (λ x y. vs a * x + y) (h a (omega arith) (omega arith))
+    (same-factors k (a + 1) e other vs (λ d low high. h d (omega arith) (omega arith)))
 
 spread : (a b f g : ℕ) → a ≡ b → a * (f + g) ≡ f * b + a * g
 spread a b f g same = mul-add a f g ∙ ap (λ x. x + a * g) (ap (λ x. x * f) same ∙ mul_comm b f)
@@ -64,39 +67,23 @@ met a d f rest vs x y same is =
     ∙ ap (λ u. u + y) (spread (vs a) (vs d) f (factor_at a rest) (ap vs same))
     ∙ omega arith
 
-passed : (a d f : ℕ) (rest : Sum) (vs : ℕ → ℕ) (x y : ℕ) → (a ≡ d → ⊥) → x ≡ f * vs d + y →
-    vs a * factor_at a (variable f d rest) + x ≡ f * vs d + (vs a * factor_at a rest + y)
-passed a d f rest vs x y other is = ap₂ (λ u w. vs a * u + w) (factor-other a d f rest other) is ∙ omega arith
-
 inside : (k a f d : ℕ) (rest : Sum) (vs : ℕ → ℕ) → a ≤ d → d < a + k →
     variables_value k a (variable f d rest) vs ≡ f * vs d + variables_value k a rest vs
 inside zero a f d rest vs h g = absurd (omega arith)
 inside (suc k) a f d rest vs h g =
     elim (cases_eq a d) [
-      | inl same ↦ met a d f rest vs _ _ same (past k (a + 1) f d rest vs (omega arith))
-      | inr other ↦ passed a d f rest vs _ _ other (inside k (a + 1) f d rest vs (omega arith) (omega arith))
+      | inl same ↦
+          met a d f rest vs _ _ same
+          (same-factors k (a + 1) (variable f d rest) rest vs (λ x low high. factor-other x d f rest (λ e. omega arith)))
+      | inr other ↦
+          ap₂ (λ u w. vs a * u + w) (factor-other a d f rest other)
+          (inside k (a + 1) f d rest vs (omega arith) (omega arith))
+          ∙ omega arith
     ]
 
 none : (k a c : ℕ) (vs : ℕ → ℕ) → variables_value k a (constant c) vs ≡ 0
 none zero a c vs = refl
 none (suc k) a c vs = omega (arith, none k (a + 1) c vs)
-
-beside : (k a f m : ℕ) (of rest : Sum) (vs : ℕ → ℕ) → variables_value k a (remainder f of m rest) vs
-    ≡ variables_value k a rest vs
-beside zero a f m of rest vs = refl
-beside (suc k) a f m of rest vs = ap (λ x. vs a * factor_at a rest + x) (beside k (a + 1) f m of rest vs)
-
-beside-quotient : (k a f m : ℕ) (of rest : Sum) (vs : ℕ → ℕ) →
-    variables_value k a (quotient f of m rest) vs ≡ variables_value k a rest vs
-beside-quotient zero a f m of rest vs = refl
-beside-quotient (suc k) a f m of rest vs = ap (λ x. vs a * factor_at a rest + x) (beside-quotient k (a + 1) f m of rest vs)
-
--- a variable after these
-beyond : (k a f d : ℕ) (rest : Sum) (vs : ℕ → ℕ) → a + k ≤ d →
-    variables_value k a (variable f d rest) vs ≡ variables_value k a rest vs
-beyond zero a f d rest vs h = refl
-beyond (suc k) a f d rest vs h =
-    ap₂ (λ x y. vs a * x + y) (factor-other a d f rest (λ same. omega arith)) (beyond k (a + 1) f d rest vs (omega arith))
 
 -- there are no more than n variables
 abbrev pub AreNoMore : ℕ → (ℕ → ℕ) → Type 0
@@ -110,14 +97,19 @@ sum-value n (variable f d rest) vs h =
       | inl low ↦ omega (arith, inside n 0 f d rest vs (omega arith) (omega arith), sum-value n rest vs h)
       | inr high ↦
           let gone : f * vs d ≡ 0 = ap (λ x. f * x) (h d (omega arith)) ∙ mul-zero f in
-          omega (arith, gone, beyond n 0 f d rest vs (omega arith), sum-value n rest vs h)
+          omega (
+            arith,
+            gone,
+            same-factors n 0 (variable f d rest) rest vs (λ x low under. factor-other x d f rest (λ e. omega arith)),
+            sum-value n rest vs h,
+          )
     ]
 sum-value n (remainder f of m rest) vs h =
     let turned : value of vs % m * f ≡ f * (value of vs % m) = mul_comm (value of vs % m) f in
-    omega (arith, turned, beside n 0 f m of rest vs, sum-value n rest vs h)
+    omega (arith, turned, same-factors n 0 (remainder f of m rest) rest vs (λ d low high. refl), sum-value n rest vs h)
 sum-value n (quotient f of m rest) vs h =
     let turned : value of vs / m * f ≡ f * (value of vs / m) = mul_comm (value of vs / m) f in
-    omega (arith, turned, beside-quotient n 0 f m of rest vs, sum-value n rest vs h)
+    omega (arith, turned, same-factors n 0 (quotient f of m rest) rest vs (λ d low high. refl), sum-value n rest vs h)
 
 -- ---- what code says of variables: the processor's and the loops', while a lane's is 0
 
@@ -187,13 +179,9 @@ part-value : (g x : ℕ) (part : PlainPart) (ps : PlainParts) (vs : List ℕ) (q
     (one_numbers part vs q).value ≡ x * g → (parts_numbers (with_factor_of g part ps) vs q).value ≡ x * g
     + (parts_numbers ps vs q).value
 part-value g x part ps vs q is =
-    elim (cases_eq g 0) [
-      | inl gone ↦
-          let product : x * g ≡ 0 = ap (λ y. x * y) gone ∙ mul-zero x in
-          ap (λ b. (parts_numbers (if b then ps else AndParts part ps) vs q).value) (is-zero g gone) ∙ omega arith
-      | inr some ↦
-          ap (λ b. (parts_numbers (if b then ps else AndParts part ps) vs q).value) (not-zero g (omega arith)) ∙ ap (λ y. y + (parts_numbers ps vs q).value) is
-    ]
+    by_zero g (λ b. (parts_numbers (if b then ps else AndParts part ps) vs q).value ≡ x * g + (parts_numbers ps vs q).value)
+    (λ gone. let product : x * g ≡ 0 = ap (λ y. x * y) gone ∙ mul-zero x in omega (arith, product))
+    (λ some. ap (λ y. y + (parts_numbers ps vs q).value) is)
 
 variables-value : (f : PlainFrame) (k d : ℕ) (e : Sum) (ps : PlainParts) (vs : List ℕ) (q : ℕ) →
     (parts_numbers (variables_of f k d e ps) vs q).value ≡ loops_value f k d e (slice_index vs)
@@ -216,16 +204,13 @@ processor-value f e ps vs q = either f.shared
 
 module _ (f : PlainFrame) (n : ℕ) (all : ℕ → ℕ) (vs : List ℕ) (q : ℕ) (no_more : AreNoMore (f.first_loop + n) all)
     (framed : IsFramedBy f all (slice_index vs) q) where
-  sum_assoc : (a b c : ℕ) → a + (b + c) ≡ a + b + c
-  sum_assoc a b c = omega arith
-
   whole-value : (e : Sum) → (parts_numbers (divisions_of f n e) vs q).value ≡ divisions_value e all →
       (sum_numbers (expr_of f n e) vs q).value ≡ value e all
   whole-value e is =
       ap (λ x. constant_of e + x)
       (processor-value f e (variables_of f n 0 e (divisions_of f n e)) vs q
       ∙ ap (λ x. processor_value f e q + x) (variables-value f n 0 e (divisions_of f n e) vs q ∙ ap (λ x. loops_value f n 0 e (slice_index vs) + x) is)
-      ∙ sum_assoc (processor_value f e q) (loops_value f n 0 e (slice_index vs)) (divisions_value e all)
+      ∙ more (processor_value f e q) (loops_value f n 0 e (slice_index vs)) (divisions_value e all)
       ∙ ap (λ x. x + divisions_value e all) (sym (framed-value f n e all (slice_index vs) q framed)))
       ∙ sym (sum-value (f.first_loop + n) e all no_more)
 
@@ -261,12 +246,8 @@ part-peak : (g x b : ℕ) (part : PlainPart) (ps : PlainParts) (vs : List ℕ) (
     (one_numbers part vs q).peak ≡ x * g → x * g ≤ b → (parts_numbers ps vs q).peak ≤ b →
     (parts_numbers (with_factor_of g part ps) vs q).peak ≤ b
 part-peak g x b part ps vs q is low after =
-    elim (cases_eq g 0) [
-      | inl gone ↦ subst (λ c. (parts_numbers (if c then ps else AndParts part ps) vs q).peak ≤ b) (sym (is-zero g gone)) after
-      | inr some ↦
-          let both : max (one_numbers part vs q).peak (parts_numbers ps vs q).peak ≤ b = omega arith in
-          subst (λ c. (parts_numbers (if c then ps else AndParts part ps) vs q).peak ≤ b) (sym (not-zero g (omega arith))) both
-    ]
+    by_zero g (λ c. (parts_numbers (if c then ps else AndParts part ps) vs q).peak ≤ b) (λ gone. after)
+    (λ some. omega (arith, is, low, after))
 
 variables-peak : (f : PlainFrame) (k d : ℕ) (e : Sum) (ps : PlainParts) (vs : List ℕ) (q b : ℕ) →
     loops_value f k d e (slice_index vs) ≤ b → (parts_numbers ps vs q).peak ≤ b →

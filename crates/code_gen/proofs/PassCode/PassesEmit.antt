@@ -16,19 +16,15 @@ use Rattle.code_gen.proofs.PassCode.BodyLimits.{within-followed}
 use Rattle.code_gen.proofs.PassActions.Copies.{nest-can}
 use Rattle.code_gen.proofs.PassCode.Emits.{Emits, emits-followed, emits-none}
 use Rattle.code_gen.proofs.PassActions.Fillings.{registers-le}
-use Rattle.code_gen.proofs.PassCode.Limits.{nest-longer, nest-within}
-use Rattle.code_gen.proofs.PassCode.NestEmits.{emits-nest, extends-more, nest-extends}
+use Rattle.code_gen.proofs.PassCode.Limits.{nest-within}
+use Rattle.code_gen.proofs.PassCode.NestEmits.{emits-nest}
 use Rattle.code_gen.proofs.PassCode.Places.{IsFor, start_of}
-use Rattle.code_gen.proofs.PassCode.SharedTables.{Extends}
+use Rattle.code_gen.proofs.PassCode.SharedTables.{Extends, extends-longer, extends-more, extends-same, nest-extends}
 use Rattle.sigma_spl.specs.Nest.{PlainNest}
 
 pub pass-extends : (m : ℕ) (zs : List PlainNest) (ts : List (List ℕ)) → Extends (tables_after m zs ts) ts
-pass-extends m [] ts = record { last = []; is = sym (append-nil ts) }
-pass-extends m (z ∷ zs) ts = extends-more (tables_after m zs (tables_of_nest m z ts)) (tables_of_nest m z ts) ts (pass-extends m zs (tables_of_nest m z ts)) (nest-extends m z ts)
-
-pub pass-longer : (m : ℕ) (zs : List PlainNest) (ts : List (List ℕ)) → length ts ≤ length (tables_after m zs ts)
-pass-longer m [] ts = omega arith
-pass-longer m (z ∷ zs) ts = let first = nest-longer m z ts in let rest = pass-longer m zs (tables_of_nest m z ts) in omega arith
+pass-extends m [] ts = extends-same ts
+pass-extends m (z ∷ zs) ts = extends-more (pass-extends m zs (tables_of_nest m z ts)) (nest-extends m z ts)
 
 -- nests that can be run and written
 abbrev CanDo : Target → List PlainNest → Type 0
@@ -56,7 +52,7 @@ module _ (c : Target) (lanes : 0 < c.lanes) (modulus : 2 ≤ c.modulus) (source 
   nests-within (z ∷ zs) can tables some =
       let first = can z (Contains-head z zs) in
       let so_far = tables_of_nest c.modulus z tables in
-      let longer = pass-longer c.modulus zs so_far in
+      let longer = extends-longer (pass-extends c.modulus zs so_far) in
       within-followed c.modulus (nest_body c z tables source target) (pass_body c zs so_far source target) 0
       (nest-within c z tables source target modulus first.0 first.1 first.2 (omega arith))
       (nests-within zs (λ p one. can p (Contains-tail z zs p one)) so_far some)

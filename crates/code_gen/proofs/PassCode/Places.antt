@@ -18,7 +18,7 @@ use Rattle.operators.proofs.Lists.{list_below-same}
 use Rattle.perm_algebra.specs.Affine.{Sum}
 
 -- whole lines hold the words
-whole-enough : (n line : ℕ) → 0 < line → n ≤ whole_lines n line
+pub whole-enough : (n line : ℕ) → 0 < line → n ≤ whole_lines n line
 whole-enough n line some = let h : n + (line - 1) < (n + (line - 1)) / line * line + line = lt-div-mul-add some in omega arith
 
 -- the program is for the machine

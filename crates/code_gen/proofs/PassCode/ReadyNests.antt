@@ -7,6 +7,7 @@ use Rattle.std.proofs.lemmas.List.Elements.{All-nil, All-cons, All-head, All-tai
 use Rattle.kernel_gen.proofs.KernelSizes.{trees-few}
 use Rattle.kernel_gen.specs.Kernel.{trees_kernel}
 use Rattle.operators.specs.declared.target.Target.{Target}
+use Rattle.sigma_spl.proofs.Small.{max-lt}
 use Rattle.sigma_spl.proofs.Walk.{and-left, and-right}
 use Rattle.sigma_spl.specs.Merge.{is_limited, is_multiplier_within, is_within, limits_of}
 use Rattle.sigma_spl.specs.Nest.{PlainMultiplier, PlainNest, factor_count}
@@ -115,14 +116,11 @@ module _ (h : Target) (host : IsHost h) where
       omega (arith, used, lanes, most)
   few-registers z (copy size) can small = let used = with-le z.multiplier 1 1 in omega (arith, used)
 
-  max-less : (a b n : ℕ) → a < n → b < n → max a b < n
-  max-less a b n first second = omega (arith, first, second)
-
   pass-registers : (zs : List PlainNest) → All (CanRunNest h) zs → All (IsReadyNest h) zs →
       pass_registers h.modulus zs < 2 ^ 20
   pass-registers [] runs ready = omega arith
   pass-registers (z ∷ zs) runs ready =
-      max-less _ _ (2 ^ 20)
+      max-lt _ _ (2 ^ 20)
       (few-registers z z.work (All-head (CanRunNest h) z zs runs).work (All-head (IsReadyNest h) z zs ready).small)
       (pass-registers zs (All-tail (CanRunNest h) z zs runs) (All-tail (IsReadyNest h) z zs ready))
 

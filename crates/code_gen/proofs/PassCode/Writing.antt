@@ -1,5 +1,5 @@
 -- How an expression is written, part by part.
-use Rattle.std.proofs.Common.{◌≡◌, ℕ, suc, ◌+◌, ◌-◌, ◌<◌, true, false, arith, sym, ap, ap₂, ◌∙◌, if◌then◌else◌}
+use Rattle.std.proofs.Common.{◌≡◌, ℕ, suc, ◌+◌, ◌-◌, ◌<◌, Bool, true, false, arith, refl, sym, ap, ap₂, ◌∙◌, if◌then◌else◌}
 use Rattle.std.specs.Prelude.{◌==◌}
 use Rattle.std.proofs.lemmas.Bool.Decides.{nat_tests}
 use Rattle.icode.specs.Plain.{PlainParts, AndParts, Var}
@@ -7,11 +7,13 @@ use Rattle.perm_algebra.specs.Affine.{Sum, variable}
 use Rattle.sigma_spl.specs.Shared.Machine.{PlainFrame}
 use Rattle.code_gen.specs.PassCode.Expressions.{factor_at, variables_of}
 
-pub is-zero : (n : ℕ) → n ≡ 0 → (n == 0) ≡ true
-is-zero n e = grind (arith, nat_tests)
-
-pub not-zero : (n : ℕ) → 0 < n → (n == 0) ≡ false
-not-zero n h = grind (arith, nat_tests)
+-- what holds of a number that is 0 and of one that is not
+pub by_zero : (n : ℕ) (P : Bool → Type 0) → (n ≡ 0 → P true) → (0 < n → P false) → P (n == 0)
+by_zero n P none some = pick (n == 0) refl
+  where
+    pick : (b : Bool) → (n == 0) ≡ b → P b
+    pick true e = none (grind (arith, nat_tests, e))
+    pick false e = some (grind (arith, nat_tests, e))
 
 -- a variable's parts, where its number is met and where it is not
 pub factor-same : (d e f : ℕ) (rest : Sum) → d ≡ e → factor_at d (variable f e rest) ≡ f + factor_at d rest

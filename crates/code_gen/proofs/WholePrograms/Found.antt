@@ -3,12 +3,11 @@ use Rattle.std.proofs.Common.{◌≡◌, ℕ, zero, suc, ◌-◌, ◌<◌, ◌�
 use Rattle.std.proofs.Common.{subst, append-nil}
 use Rattle.std.specs.Prelude.{slice_index, slice_index_or, nat_le, Option, Some}
 use Rattle.std.specs.List.{list_all}
-use Rattle.std.proofs.lemmas.Bool.Decides.{nat_tests}
 use Rattle.perm_algebra.specs.Affine.{Sum, constant, IsSound, levels, parts, peak, top}
 use Rattle.perm_algebra.proofs.AffineLaws.{value-le-top}
 use Rattle.sigma_spl.specs.Shared.Running.{FindsFactors}
-use Rattle.code_gen.proofs.PassActions.Framed.{in_counts}
-use Rattle.code_gen.proofs.PassCode.Variables.{below-limits}
+use Rattle.sigma_spl.proofs.Limited.{tested}
+use Rattle.sigma_spl.proofs.Nests.{one_below, sound-at, with_more}
 use Rattle.sigma_spl.specs.Copies.{loops_of}
 use Rattle.sigma_spl.specs.Good.{AreSound, NamesItems}
 use Rattle.sigma_spl.specs.Merge.{are_small, is_limited, is_multiplier_within, limits_of}
@@ -22,25 +21,13 @@ abbrev pub IsLoose : PlainWork → Type 0
 IsLoose (tile v) = ⊥
 IsLoose w = Unit {0}
 
-below : (a b : ℕ) → nat_lt a b ≡ true → a < b
-below a b h = grind (arith, nat_tests)
-
-top-below : (room n : ℕ) (cs : ℕ → ℕ) (e : Sum) → is_limited room n cs e ≡ true → top e cs < n
-top-below room n cs e h =
-    let second = and-right (nat_le (parts e) room && nat_le (levels e) 64) _ h in
-    below (top e cs) n (and-left (nat_lt (top e cs) n) (nat_lt (peak e) n) (and-left (nat_lt (top e cs) n && nat_lt (peak e) n) (are_small cs e) second))
-
 -- the sum number i
 tops-below : (room n : ℕ) (cs : ℕ → ℕ) (sums : List Sum) (i : ℕ) → i < length sums →
     list_all (is_limited room n cs) sums ≡ true → top (slice_index_or sums i (constant 0)) cs < n
 tops-below room n cs [] i low h = absurd (omega arith)
-tops-below room n cs (e ∷ es) zero low h = top-below room n cs e (and-left (is_limited room n cs e) (list_all (is_limited room n cs) es) h)
+tops-below room n cs (e ∷ es) zero low h =
+    (tested room n cs e (and-left (is_limited room n cs e) (list_all (is_limited room n cs) es) h)).top
 tops-below room n cs (e ∷ es) (suc i) low h = tops-below room n cs es i (omega arith) (and-right (is_limited room n cs e) (list_all (is_limited room n cs) es) h)
-
-sound-at : (sums : List Sum) (i : ℕ) → AreSound sums → IsSound (slice_index_or sums i (constant 0))
-sound-at [] i h = tt
-sound-at (e ∷ es) zero h = h.0
-sound-at (e ∷ es) (suc i) h = sound-at es i h.1
 
 module _ (room count : ℕ) (counts : List ℕ) (size : ℕ) (sums : List Sum) (sound : AreSound sums)
     (tested : list_all (is_limited room count (slice_index (counts ++ size ∷ size ∷ []))) sums ≡ true) (vs : List ℕ)
@@ -48,18 +35,14 @@ module _ (room count : ℕ) (counts : List ℕ) (size : ℕ) (sums : List Sum) (
   sum-below : (i : ℕ) (more : List ℕ) → i < length sums → ((d : ℕ) →
       slice_index more d ≤ slice_index (size ∷ size ∷ []) d - 1) → sum_value sums i (vs ++ more) < count
   sum-below i more low h =
-      let most = value-le-top (slice_index_or sums i (constant 0)) (slice_index (vs ++ more)) (slice_index (counts ++ size ∷ size ∷ [])) (sound-at sums i sound) (below-limits counts vs more (size ∷ size ∷ []) (in_counts counts vs range) h) in
+      let most = value-le-top (slice_index_or sums i (constant 0)) (slice_index (vs ++ more)) (slice_index (counts ++ size ∷ size ∷ [])) (sound-at sums i sound) (with_more counts size vs more range h) in
       let last = tops-below room count (slice_index (counts ++ size ∷ size ∷ [])) sums i low tested in omega arith
 
   alone-below : (i : ℕ) → i < length sums → sum_value sums i vs < count
   alone-below i low = subst (λ us. sum_value sums i us < count) (append-nil vs) (sum-below i [] low (λ d. omega arith))
 
   row-below : (k : ℕ) → k < size → 0 < length sums → sum_value sums 0 (vs ++ k ∷ []) < count
-  row-below k under low = sum-below 0 (k ∷ []) low one
-    where
-      one : (d : ℕ) → slice_index (k ∷ []) d ≤ slice_index (size ∷ size ∷ []) d - 1
-      one zero = omega arith
-      one (suc d) = omega arith
+  row-below k under low = sum-below 0 (k ∷ []) low (one_below size k under)
 
 place-below : (room count : ℕ) (counts : List ℕ) (w : PlainWork) (sums : List Sum) (vs : List ℕ) (k : ℕ) → IsLoose w →
     NamesItems w sums → list_all (is_limited room count (slice_index (counts ++ work_size w ∷ work_size w ∷ []))) sums

@@ -2,6 +2,7 @@
 use Rattle.std.proofs.Common.{◌≡◌, ◌≢◌, ℕ, zero, suc, ◌+◌, ◌-◌, ◌*◌, ◌<◌, ◌≤◌, inl, inr, List, [], ◌∷◌, length, refl}
 use Rattle.std.proofs.Common.{sym, ap, ◌∙◌, arith, subst}
 use Rattle.std.specs.Prelude.{slice_index, max}
+use Rattle.std.proofs.lemmas.Bool.{cases_eq}
 use Rattle.std.proofs.Math.Nat.{le-max_left, le-max_right, mul-le-mul_right}
 use Rattle.icode.proofs.CodeLaws.ByLane.{lists_follow}
 use Rattle.icode.proofs.CodeLaws.Stores.{length-memory, length-registers}
@@ -17,9 +18,10 @@ use Rattle.code_gen.specs.PassActions.Laws.{AreApart, CanBegin, Leaves}
 use Rattle.sigma_spl.specs.Shared.Running.{IsLoadedBy, IsStoredBy}
 use Rattle.code_gen.specs.PassCode.Conditions.{CanWritePass}
 use Rattle.sigma_spl.specs.Shared.Owners.{AllOwn, FirstOwns}
-use Rattle.code_gen.proofs.PassActions.Copies.{loaded-below, stored-below}
+use Rattle.code_gen.proofs.PassActions.Copies.{loaded-below, stored-below, words_apart}
 use Rattle.code_gen.specs.PassCode.Program.{written_array, array_after, most_of}
-use Rattle.code_gen.proofs.WholePrograms.Arrays.{IsOther, apart, inside-memory, last-number, scratch-number, next-other}
+use Rattle.code_gen.proofs.WholePrograms.Arrays.{number, IsOther, apart, inside-memory, next-other, start-is}
+use Rattle.code_gen.proofs.WholePrograms.Arrays.{target-other}
 use Rattle.code_gen.proofs.WholePrograms.Known.{Pass, AllKnown, passes_acts, runs-of}
 use Rattle.code_gen.proofs.WholePrograms.Stored.{made-residues, stored-own}
 
@@ -36,6 +38,12 @@ module _ (c : Target) (words : ℕ) (enough : c.size ≤ words) (owner : ℕ →
   own-read Y q i own = own
   own-read A q i own = own
   own-read B q i own = own
+
+  pub read-own : (b : Array) (q i : ℕ) → IsOther X b → MayRead b q i → owner i ≡ q
+  read-own X q i other may = absurd (other refl)
+  read-own Y q i other may = may
+  read-own A q i other may = may
+  read-own B q i other may = may
 
   abbrev pub Reads : Pass → Array → Type 0
   Reads p source = (q w : ℕ) → q < c.procs → IsLoadedBy c p q w → MayRead source q w
@@ -128,52 +136,20 @@ module _ (c : Target) (words : ℕ) (enough : c.size ≤ words) (owner : ℕ →
         slice_index next.memory (array_start words a + i) ≡ slice_index s.memory (array_start words a + i)
     other-array a i below other =
         leaves.kept (array_start words a + i) (λ w is e.
-        clash (array_start words a) to i w (apart words c.size enough a target other) below (stored-below c p known.runs q w is) e)
-      where
-        clash : (l r i k : ℕ) → AreApart c.size l r → i < c.size → k < c.size → l + i ≡ r + k → ⊥
-        clash l r i k (inl before) low high e = omega (arith, before, low, high, e)
-        clash l r i k (inr before) low high e = omega (arith, before, low, high, e)
-
-    not-first : IsOther X target
-    not-first = target-not_first t (after + length ps)
-      where
-        target-not_first : (t k : ℕ) → IsOther X (written_array t k)
-        target-not_first t zero = λ e. let is = last-number t in absurd (omega (arith, e, is))
-        target-not_first t (suc k) = λ e. let is = scratch-number t k in absurd (omega (arith, e, is))
+        words_apart c.size (array_start words a) to i w (array_start words a + i) (apart words c.size enough a target other)
+        below (stored-below c p known.runs q w is) refl e)
 
     one-kept : (a : Array) (i : ℕ) → i < c.size → owner i ≢ q →
         slice_index next.memory (array_start words a + i) ≡ slice_index s.memory (array_start words a + i)
-    one-kept a i below other = by_array a target (other-array a i below) (other-owner i below other)
-      where
-        by_array : (a b : Array) → (IsOther a b → slice_index next.memory (array_start words a + i)
-            ≡ slice_index s.memory (array_start words a + i)) →
-            (slice_index next.memory (array_start words b + i) ≡ slice_index s.memory (array_start words b + i)) →
-            slice_index next.memory (array_start words a + i) ≡ slice_index s.memory (array_start words a + i)
-        by_array X X f g = g
-        by_array X Y f g = f (λ e. absurd (omega (arith, e)))
-        by_array X A f g = f (λ e. absurd (omega (arith, e)))
-        by_array X B f g = f (λ e. absurd (omega (arith, e)))
-        by_array Y X f g = f (λ e. absurd (omega (arith, e)))
-        by_array Y Y f g = g
-        by_array Y A f g = f (λ e. absurd (omega (arith, e)))
-        by_array Y B f g = f (λ e. absurd (omega (arith, e)))
-        by_array A X f g = f (λ e. absurd (omega (arith, e)))
-        by_array A Y f g = f (λ e. absurd (omega (arith, e)))
-        by_array A A f g = g
-        by_array A B f g = f (λ e. absurd (omega (arith, e)))
-        by_array B X f g = f (λ e. absurd (omega (arith, e)))
-        by_array B Y f g = f (λ e. absurd (omega (arith, e)))
-        by_array B A f g = f (λ e. absurd (omega (arith, e)))
-        by_array B B f g = g
-
-    written-read : (i : ℕ) → MayRead target q i → owner i ≡ q
-    written-read i may = by_target target not-first may
-      where
-        by_target : (b : Array) → IsOther X b → MayRead b q i → owner i ≡ q
-        by_target X other m = absurd (other refl)
-        by_target Y other m = m
-        by_target A other m = m
-        by_target B other m = m
+    one-kept a i below other =
+        elim (cases_eq (number a) (number target)) [
+          | inl same ↦
+              let there : to ≡ array_start words a =
+              start-is words target ∙ ap (λ k. k * words) (sym same) ∙ sym (start-is words a) in
+              subst (λ start. slice_index next.memory (start + i) ≡ slice_index s.memory (start + i)) there
+              (other-owner i below other)
+          | inr differs ↦ other-array a i below differs
+        ]
 
     holds-next : (k : ℕ) → length ps ≡ suc k → Holds ps (suc t) target q made next
     holds-next k more =
@@ -184,7 +160,7 @@ module _ (c : Target) (words : ℕ) (enough : c.size ≤ words) (owner : ℕ →
               let most = h.registers in
               let rest : most_of c ps * c.lanes ≤ max (pass_registers c.modulus p) (most_of c ps) * c.lanes = mul-le-mul_right c.lanes (le-max_right (pass_registers c.modulus p) (most_of c ps)) in
               omega arith;
-          held = λ i below may. own-stored i below (written-read i may);
+          held = λ i below may. own-stored i below (read-own target q i (target-other t (after + length ps)) may);
           residues = made-residues c p known.runs x;
           other = λ some. other-next;
         }
@@ -208,7 +184,7 @@ module _ (c : Target) (words : ℕ) (enough : c.size ≤ words) (owner : ℕ →
       (record {
         stored = own-stored p [] t source q low x s known.0 owned.0 owned.1 h;
         kept = one-kept p [] t source q low x s known.0 owned.0 owned.1 h;
-        first = λ i below. other-array p [] t source q low x s known.0 owned.0 owned.1 h X i below (not-first p [] t source q low x s known.0 owned.0 owned.1 h);
+        first = λ i below. other-array p [] t source q low x s known.0 owned.0 owned.1 h X i below (target-other t (after + 0));
       })
   parts-leave (p ∷ r ∷ ps) t source q x s low known owned h =
       let more = r ∷ ps in
@@ -221,5 +197,5 @@ module _ (c : Target) (words : ℕ) (enough : c.size ≤ words) (owner : ℕ →
       (record {
         stored = rest.stored;
         kept = λ a i below other. rest.kept a i below other ∙ one-kept p more t source q low x s known.0 owned.0 owned.1 h a i below other;
-        first = λ i below. rest.first i below ∙ other-array p more t source q low x s known.0 owned.0 owned.1 h X i below (not-first p more t source q low x s known.0 owned.0 owned.1 h);
+        first = λ i below. rest.first i below ∙ other-array p more t source q low x s known.0 owned.0 owned.1 h X i below (target-other t (after + length more));
       })

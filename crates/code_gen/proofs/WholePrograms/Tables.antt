@@ -3,7 +3,8 @@ use Rattle.std.proofs.Common.{◌≡◌, ℕ, ◌<◌, List, [], ◌∷◌, leng
 use Rattle.std.proofs.Common.{None, refl, ap₂, arith, Contains}
 use Rattle.std.specs.Prelude.{if◌then◌else◌, IsTrue}
 use Rattle.std.specs.List.{list_all, range_with_len}
-use Rattle.std.proofs.lemmas.Bool.Decides.{nat_tests}
+use Rattle.std.proofs.lemmas.Bool.{and_from, lt-ltb}
+use Rattle.sigma_spl.proofs.Walk.{and-left, and-right, chosen}
 use Rattle.std.proofs.lemmas.List.Elements.{All-contains}
 use Rattle.icode.proofs.Lines.{Contains-head, Contains-tail}
 use Rattle.icode.specs.Limits.{are_tables_within}
@@ -23,16 +24,10 @@ use Rattle.sigma_spl.specs.Work.{PlainWork, kernel, rows, horner, tile, copy}
 use Rattle.code_gen.proofs.WholePrograms.Known.{Pass, AllKnown, PhasesKnown}
 use Rattle.ring_mod.specs.Residue.{power_mod}
 
-below-is : (n k : ℕ) → n < k → nat_lt n k ≡ true
-below-is n k low = grind (arith, nat_tests)
-
-both : (a b : Bool) → IsTrue a → IsTrue b → IsTrue (a && b)
-both a b x y = ap₂ (λ u v. u && v) x y
-
 module _ (m : ℕ) (some : 0 < m) where
   mapped-below : (f : ℕ → ℕ) → ((k : ℕ) → f k < m) → (xs : List ℕ) → IsTrue (list_all (λ c. nat_lt c m) (map f xs))
   mapped-below f low [] = refl
-  mapped-below f low (x ∷ xs) = both (nat_lt (f x) m) (list_all (λ c. nat_lt c m) (map f xs)) (below-is (f x) m (low x)) (mapped-below f low xs)
+  mapped-below f low (x ∷ xs) = and_from (nat_lt (f x) m) (list_all (λ c. nat_lt c m) (map f xs)) (lt-ltb (f x) m (low x)) (mapped-below f low xs)
 
   -- a table by itself
   abbrev IsTableWithin : List ℕ → Type 0
@@ -40,38 +35,17 @@ module _ (m : ℕ) (some : 0 < m) where
 
   list-within : (n : ℕ) (f : ℕ → ℕ) → 0 < n → ((k : ℕ) → f k < m) → IsTableWithin (list_below n f)
   list-within n f full low =
-      both (nat_lt 0 (length (list_below n f))) (list_all (λ c. nat_lt c m) (list_below n f))
-      (below-is 0 (length (list_below n f)) (let long = length-list_below n f in omega arith)) (mapped-below f low (range_with_len 0 n))
-
-  pick-within : (b : Bool) (xs ys : List (List ℕ)) → (b ≡ true → IsTrue (are_tables_within m xs)) →
-      (b ≡ false → IsTrue (are_tables_within m ys)) → IsTrue (are_tables_within m (if b then xs else ys))
-  pick-within true xs ys x y = x refl
-  pick-within false xs ys x y = y refl
-
-  first-within : (table : List ℕ) (tables : List (List ℕ)) → IsTrue (are_tables_within m (table ∷ tables)) →
-      IsTableWithin table
-  first-within table tables h = left (nat_lt 0 (length table) && list_all (λ c. nat_lt c m) table) (are_tables_within m tables) h
-    where
-      left : (a b : Bool) → IsTrue (a && b) → IsTrue a
-      left true b e = refl
-      left false b e = e
-
-  rest-within : (table : List ℕ) (tables : List (List ℕ)) → IsTrue (are_tables_within m (table ∷ tables)) →
-      IsTrue (are_tables_within m tables)
-  rest-within table tables h = right (nat_lt 0 (length table) && list_all (λ c. nat_lt c m) table) (are_tables_within m tables) h
-    where
-      right : (a b : Bool) → IsTrue (a && b) → IsTrue b
-      right true b e = e
-      right false b e = let clash : false ≡ true = e in grind arith
+      and_from (nat_lt 0 (length (list_below n f))) (list_all (λ c. nat_lt c m) (list_below n f))
+      (lt-ltb 0 (length (list_below n f)) (let long = length-list_below n f in omega arith)) (mapped-below f low (range_with_len 0 n))
 
   with_table-within : (tables : List (List ℕ)) (entries : List ℕ) → IsTrue (are_tables_within m tables) →
       IsTableWithin entries → IsTrue (are_tables_within m (with_table tables entries))
-  with_table-within [] entries h one = both (nat_lt 0 (length entries) && list_all (λ c. nat_lt c m) entries) true one refl
+  with_table-within [] entries h one = and_from _ _ one refl
   with_table-within (table ∷ tables) entries h one =
-      pick-within (is_table table entries) (table ∷ tables) (table ∷ with_table tables entries) (λ same. h)
-      (λ other.
-      both (nat_lt 0 (length table) && list_all (λ c. nat_lt c m) table) (are_tables_within m (with_table tables entries)) (first-within table tables h)
-      (with_table-within tables entries (rest-within table tables h) one))
+      chosen (λ us. IsTrue (are_tables_within m us)) (is_table table entries) (table ∷ tables)
+      (table ∷ with_table tables entries) (λ same. h)
+      (and_from _ (are_tables_within m (with_table tables entries)) (and-left _ (are_tables_within m tables) h)
+      (with_table-within tables entries (and-right (nat_lt 0 (length table) && list_all (λ c. nat_lt c m) table) _ h) one))
 
 module _ (c : Target) (residues : 0 < c.modulus) where
   abbrev AreWithin : List (List ℕ) → Type 0
