@@ -12,6 +12,7 @@ use Rattle.matrix_meaning.specs.declared.Kind.TheVariants.{Dft, Wht, Idft}
 use Rattle.matrix_meaning.specs.declared.Request.{Request}
 use Rattle.ring_mod.specs.Residue.{power_mod}
 use Rattle.ring_mod.proofs.Powers.{power_mod-zero}
+use Rattle.code_gen.proofs.Powers.{power_mod-one}
 use Rattle.tree_model.specs.Breakdown.{Breakdown, leaf, AllowsLeaf}
 use Rattle.tree_model.proofs.WholeTrees.{forward_itself}
 
@@ -23,9 +24,7 @@ rows-same : (m : ℕ) (e f : ℕ → ℕ → ℕ) → e 0 1 ≡ f 0 1 → e 1 1 
 rows-same m e f p q = ap₂ (λ a b. matrix_make m (λ i l. if i == 0 then a else b) 2 (0 ∷ 1 ∷ []) 2) p q
 
 power-of_one : (m w : ℕ) → w < m → power_mod m w 1 ≡ w
-unfolding power_mod
-power-of_one m w below =
-    ap (λ x. x % m) (pow-suc w 0 ∙ ap (λ x. x * w) (pow-zero w) ∙ one-mul w) ∙ mod-eq_of_lt below
+power-of_one m w below = power_mod-one m w ∙ mod-eq_of_lt below
 
 entry-first : (m w : ℕ) → 2 ≤ m → entry_of Dft m 2 (m - 1) 0 1 ≡ entry_of Wht m 2 w 0 1
 unfolding ones

@@ -14,4 +14,3 @@ pub mod PhaseParts
 pub mod Performs
 pub mod ReadyPrograms
 pub mod PartShares
-mod Found

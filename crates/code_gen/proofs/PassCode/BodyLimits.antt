@@ -36,10 +36,6 @@ module _ (m : ℕ) where
   within-in_a_row zero body open_loops h = refl
   within-in_a_row (suc n) body open_loops h = within-followed (in_a_row n body) (body n) open_loops (within-in_a_row n body open_loops (λ k below. h k (omega arith))) (h n (omega arith))
 
-  pub within-do : (op : PlainOp) (rest : PlainBody) (open_loops : ℕ) → is_op_within m op open_loops ≡ true →
-      is_body_within m rest open_loops ≡ true → is_body_within m (AndStmts (Do op) rest) open_loops ≡ true
-  within-do op rest open_loops h k = and_from _ _ h k
-
   pub within-loop : (count : ℕ) (body rest : PlainBody) (open_loops : ℕ) → 0 < count → count < 2 ^ 32 →
       open_loops < 64 → is_body_within m body (open_loops + 1) ≡ true → is_body_within m rest open_loops ≡ true →
       is_body_within m (AndStmts (Loop count body) rest) open_loops ≡ true
@@ -62,7 +58,7 @@ module _ (m : ℕ) where
         ArePlaces f n open_loops l.gathers → is_body_within m (loads_body f l open_loops n source) open_loops ≡ true
     loads-within l n open_loops source small h =
         within-in_a_row n (λ k. do_only (Load k source (place_at f open_loops l.gathers k))) open_loops
-        (λ k below. within-do (Load k source (place_at f open_loops l.gathers k)) NoStmts open_loops (and_from _ _ (small-is k (omega arith)) (h k below)) refl)
+        (λ k below. and_from _ _ (and_from _ _ (small-is k (omega arith)) (h k below)) refl)
 
     factor-within : (o : Option ℕ) (open_loops table from free step : ℕ) (place : PlainExpr) →
         ((value : ℕ) → o ≡ Some value → value < m) → step < 2 → is_expr_within place open_loops ≡ true →
@@ -76,11 +72,11 @@ module _ (m : ℕ) where
         ((d : PlainMultiplier) → o ≡ Some d → ArePlaces f n open_loops d.places) →
         table < 2 ^ 32 → from < 2 ^ 32 → free < 2 ^ 32 → is_body_within m
         (finish_body f step o scatters open_loops table target i from free) open_loops ≡ true
-    finish-within step None n open_loops table i from free scatters target one near below h k t u g = within-do (Store target (place_at f open_loops scatters i) from) NoStmts open_loops (and_from _ _ (small-is from u) (h i below)) refl
+    finish-within step None n open_loops table i from free scatters target one near below h k t u g = and_from _ _ (and_from _ _ (small-is from u) (h i below)) refl
     finish-within step (Some d) n open_loops table i from free scatters target one near below h k t u g =
-        within-do (product_op (one_factor d.factors) free from table (place_at f open_loops d.places i) step) (do_only (Store target (place_at f open_loops scatters i) free)) open_loops
+        and_from _ _
         (factor-within (one_factor d.factors) open_loops table from free step (place_at f open_loops d.places i) (λ value is. one d value refl is) near (k d refl i below) t u g)
-        (within-do (Store target (place_at f open_loops scatters i) free) NoStmts open_loops (and_from _ _ (small-is free g) (h i below)) refl)
+        (and_from _ _ (and_from _ _ (small-is free g) (h i below)) refl)
 
   pub term-within : (open_loops table : ℕ) (array : Array) (input entry : PlainExpr) → table < 2 ^ 32 →
       is_expr_within input open_loops ≡ true → is_expr_within entry open_loops ≡ true →

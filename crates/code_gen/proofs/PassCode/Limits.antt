@@ -21,7 +21,7 @@ use Rattle.code_gen.specs.PassCode.Statements.{multiplier_number, nest_body, pla
 use Rattle.code_gen.specs.PassCode.Statements.{straight_body, tables_of_multiplier, tables_of_nest, tables_of_work}
 use Rattle.code_gen.specs.PassCode.Statements.{term_body, with_diagonal, work_body}
 use Rattle.code_gen.proofs.PassCode.BodyLimits.{ArePlaces, finish-within, horner-within, loads-within}
-use Rattle.code_gen.proofs.PassCode.BodyLimits.{product-within, small-is, straight-within, term-within, within-do}
+use Rattle.code_gen.proofs.PassCode.BodyLimits.{product-within, small-is, straight-within, term-within}
 use Rattle.code_gen.proofs.PassCode.BodyLimits.{within-followed, within-in_a_row, within-loop, within-nested}
 use Rattle.code_gen.proofs.PassActions.Fillings.{working}
 use Rattle.code_gen.proofs.PassCode.OneFactor.{OneIsBelow, one-below}
@@ -76,7 +76,7 @@ module _ (c : Target) (modulus : 2 ≤ c.modulus) (source target : Array) (power
       let two : deep + 2 ≡ deep + 1 + 1 = omega arith in
       let finish : PlainBody = finish_body f 0 z.multiplier z.scatters (deep + 1) table target 0 0 3 in
       within-loop m n (AndStmts (Do (statements.Zero 0)) (AndStmts (Loop n turn) finish)) NoStmts deep some small (omega arith)
-      (within-do m (statements.Zero 0) (AndStmts (Loop n turn) finish) (deep + 1) refl
+      (and_from _ _ refl
       (within-loop m n turn finish (deep + 1) some small (omega arith)
       (subst (λ (o : ℕ). is_body_within m turn o ≡ true) two within)
       (finish-within m f 0 z.multiplier 1 (deep + 1) table 0 0 3 z.scatters target one (omega arith) (omega arith) places multiplied second (omega arith) (omega arith))))
@@ -112,7 +112,7 @@ module _ (c : Target) (modulus : 2 ≤ c.modulus) (source target : Array) (power
       let deep = length (loop_counts c z) in
       within-in_a_row m n (λ k. AndStmts (Do (statements.Load 0 source (place_at f deep z.gathers k))) (finish_body f 0 z.multiplier z.scatters deep table target k 0 1)) deep
       (λ k below.
-      within-do m (statements.Load 0 source (place_at f deep z.gathers k)) (finish_body f 0 z.multiplier z.scatters deep table target k 0 1) deep (and_from _ _ (small-is 0 (omega arith)) (alone-within z n z.gathers writes.gathers.0.enough writes.gathers.1 k below))
+      and_from _ _ (and_from _ _ (small-is 0 (omega arith)) (alone-within z n z.gathers writes.gathers.0.enough writes.gathers.1 k below))
       (finish-within m f 0 z.multiplier n deep table k 0 1 z.scatters target (one-below c z can.residues) (omega arith) below (alone-within z n z.scatters writes.scatters.0.enough writes.scatters.1)
       (λ d is. alone-within z n d.places (writes.multiplier d is).0.enough (writes.multiplier d is).1) second (omega arith) (omega arith)))
   work-within p (tile v) can writes few =
@@ -123,7 +123,7 @@ module _ (c : Target) (modulus : 2 ≤ c.modulus) (source target : Array) (power
       let outputs : ℕ → PlainBody = λ k. finish_body f 1 z.multiplier z.scatters deep table target k (v + k) (v + v + k) in
       within-followed m (loads_body f z deep v source) (AndStmts (Do (statements.Tile v 0)) (in_a_row v outputs)) deep
       (loads-within m f z v deep source (omega arith) (alone-within z v z.gathers writes.gathers.0.enough writes.gathers.1))
-      (within-do m (statements.Tile v 0) (in_a_row v outputs) deep (and_from _ _ (small-is v (omega arith)) (small-is 0 (omega arith)))
+      (and_from _ _ (and_from _ _ (small-is v (omega arith)) (small-is 0 (omega arith)))
       (within-in_a_row m v outputs deep
       (λ k below.
       finish-within m f 1 z.multiplier v deep table k (v + k) (v + v + k) z.scatters target (one-below c z can.residues) (omega arith) below (alone-within z v z.scatters writes.scatters.0.enough writes.scatters.1)

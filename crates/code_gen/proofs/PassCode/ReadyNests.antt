@@ -19,7 +19,7 @@ use Rattle.sigma_spl.specs.Work.{PlainWork, kernel, rows, horner, tile, copy, tr
 use Rattle.tree_model.specs.KernelCosts.{trees_cost}
 use Rattle.tree_model.specs.Trees.{trees_size}
 use Rattle.code_gen.proofs.PassActions.KernelActions.{trees-registers}
-use Rattle.code_gen.proofs.PassCode.TestedLists.{loads-le, stores-le, sums-written}
+use Rattle.code_gen.proofs.PassCode.TestedLists.{inside-le, sums-written}
 use Rattle.code_gen.specs.PassActions.Acts.{nest_registers, pass_registers, with_multiplier}
 use Rattle.code_gen.specs.PassCode.Conditions.{CanWriteNest, CanWritePass}
 
@@ -54,8 +54,9 @@ module _ (h : Target) (host : IsHost h) where
   writes z ready tested =
       let high = host.size.1 in
       let few = ready.shallow in
-      let loads = loads-le z.work in
-      let stores = stores-le z.work in
+      let inside = inside-le z.work in
+      let loads = inside.0 in
+      let stores = inside.1 in
       let items = ready.items in
       record {
         gathers = (
@@ -126,18 +127,11 @@ module _ (h : Target) (host : IsHost h) where
 
   -- ---- passes
 
-  all-written : (zs : List PlainNest) → All (IsReadyNest h) zs → All (IsTested h.size) zs → All (CanWriteNest h) zs
-  all-written [] ready tested = All-nil (CanWriteNest h)
-  all-written (z ∷ zs) ready tested =
-      All-cons (CanWriteNest h) z zs
-      (writes z (All-head (IsReadyNest h) z zs ready) (All-head (IsTested h.size) z zs tested))
-      (all-written zs (All-tail (IsReadyNest h) z zs ready) (All-tail (IsTested h.size) z zs tested))
-
   pub ready_can_write : (zs : List PlainNest) → IsReadyPass h zs → CanWritePass h zs
   ready_can_write zs ready =
       record {
         line = let some = host.line.0 in omega (arith, some);
         runs = ready.runs;
-        nests = all-written zs ready.nests (tested-all h.size zs ready.within);
+        nests = λ k d low. writes _ (ready.nests k d low) (tested-all h.size zs ready.within k d low);
         few = pass-registers zs ready.runs.nests ready.nests;
       }

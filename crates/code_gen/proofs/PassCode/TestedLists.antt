@@ -13,16 +13,16 @@ use Rattle.code_gen.proofs.PassCode.TestedSums.{tested_sums_are_coded}
 use Rattle.code_gen.proofs.PassCode.Within.{expressions_are_within}
 use Rattle.sigma_spl.specs.Merge.{is_limited}
 use Rattle.sigma_spl.specs.Work.{PlainWork, kernel, rows, horner, tile, copy}
-use Rattle.sigma_spl.proofs.Walk.{and-left, and-right}
+use Rattle.std.proofs.lemmas.List.Sums.{AllPass-from_list_all}
 use Rattle.perm_algebra.specs.Affine.{Sum}
 
 -- ---- one by one
 
 coded-all : (room n : ℕ) (cs : ℕ → ℕ) (sums : List Sum) → room ≤ 64 → n ≤ 2 ^ 20 →
     list_all (is_limited room n cs) sums ≡ true → All (CanBeCoded cs) sums
-coded-all room n cs [] few high h = All-nil (CanBeCoded cs)
-coded-all room n cs (e ∷ es) few high h =
-    All-cons (CanBeCoded cs) e es (tested_sums_are_coded room n cs e few high (and-left (is_limited room n cs e) _ h)) (coded-all room n cs es few high (and-right (is_limited room n cs e) _ h))
+coded-all room n cs sums few high h =
+    All-weaker (λ e. is_limited room n cs e ≡ true) (CanBeCoded cs) (λ e k. tested_sums_are_coded room n cs e few high k) sums
+    (AllPass-from_list_all (is_limited room n cs) sums h)
 
 -- ---- as statements
 
@@ -47,16 +47,9 @@ sums-written room n cs h w open_loops sums shallow few high tested =
 
 -- ---- the loops that work opens
 
-pub loads-le : (w : PlainWork) → loads_inside w ≤ 2
-loads-le (kernel trees) = omega arith
-loads-le (rows root size) = omega arith
-loads-le (horner root size) = omega arith
-loads-le (tile lanes) = omega arith
-loads-le (copy size) = omega arith
-
-pub stores-le : (w : PlainWork) → stores_inside w ≤ 2
-stores-le (kernel trees) = omega arith
-stores-le (rows root size) = omega arith
-stores-le (horner root size) = omega arith
-stores-le (tile lanes) = omega arith
-stores-le (copy size) = omega arith
+pub inside-le : (w : PlainWork) → (loads_inside w ≤ 2) × (stores_inside w ≤ 2)
+inside-le (kernel trees) = (omega arith, omega arith)
+inside-le (rows root size) = (omega arith, omega arith)
+inside-le (horner root size) = (omega arith, omega arith)
+inside-le (tile lanes) = (omega arith, omega arith)
+inside-le (copy size) = (omega arith, omega arith)

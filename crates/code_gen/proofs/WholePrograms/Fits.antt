@@ -3,7 +3,7 @@ use Rattle.std.proofs.Common.{◌≡◌, ℕ, zero, suc, ◌+◌, ◌*◌, ◌<�
 use Rattle.std.proofs.Common.{ap, arith, subst, length-append, mul-le-mul_left}
 use Rattle.std.proofs.lemmas.Bool.{cases_lt}
 use Rattle.operators.proofs.Sums.{mul-sum_below}
-use Rattle.std.proofs.lemmas.List.Elements.{All-append}
+use Rattle.std.proofs.lemmas.List.Elements.{All-append, All-cons}
 use Rattle.icode.specs.Actions.{Step, StepFits, actions_of, array_start}
 use Rattle.icode.specs.Plain.{PlainProgram}
 use Rattle.icode.specs.declared.action.Action.{Action}
@@ -37,17 +37,12 @@ all-wider : (regs more lanes m : ℕ) (xs : List Action) → regs ≤ more → A
     All (IsFit more lanes m) xs
 all-wider regs more lanes m xs le h = λ k d below. fit-wider regs more lanes m _ le (h k d below)
 
-fit-more : (program : PlainProgram) (x : Step) (xs : List Step) → StepFits program x → All (StepFits program) xs →
-    All (StepFits program) (x ∷ xs)
-fit-more program x xs first rest zero d below = first
-fit-more program x xs first rest (suc k) d below = rest k d (omega (arith, below))
-
 -- steps at places that are inside, whose actions fit, fit
 pub steps-fit : (program : PlainProgram) (xs : List Step) → All IsInside xs →
     All (IsFit program.regs program.lanes program.modulus) (actions_of xs) → All (StepFits program) xs
 steps-fit program [] inside fit = λ k d below. absurd (omega arith)
 steps-fit program (x ∷ xs) inside fit =
-    fit-more program x xs
+    All-cons (StepFits program) x xs
     (record {
       numbers = (inside 0 x (omega arith)).numbers;
       place = (inside 0 x (omega arith)).place;

@@ -151,24 +151,23 @@ module _ (c : Target) (words : ℕ) (enough : c.size ≤ words) (owner : ℕ →
           | inr differs ↦ other-array a i below differs
         ]
 
-    holds-next : (k : ℕ) → length ps ≡ suc k → Holds ps (suc t) target q made next
-    holds-next k more =
+    holds-next : Holds ps (suc t) target q made next
+    holds-next =
         record {
           memory = length-memory c.modulus c.lanes (pass_acts c p from to q) s ∙ h.memory;
           registers =
               let same = length-registers c.modulus c.lanes (pass_acts c p from to q) s in
               let most = h.registers in
-              let rest : most_of c ps * c.lanes ≤ max (pass_registers c.modulus p) (most_of c ps) * c.lanes = mul-le-mul_right c.lanes (le-max_right (pass_registers c.modulus p) (most_of c ps)) in
+              let rest : most_of c ps * c.lanes ≤ max (pass_registers c.modulus p) (most_of c ps) * c.lanes =
+              mul-le-mul_right c.lanes (le-max_right (pass_registers c.modulus p) (most_of c ps)) in
               omega arith;
           held = λ i below may. own-stored i below (read-own target q i (target-other t (after + length ps)) may);
           residues = made-residues c p known.runs x;
-          other = λ some. other-next;
+          other = λ some.
+              let more : after + length ps ≡ suc (after + length ps - 1) = omega (arith, some) in
+              subst (λ (n : ℕ). IsOther (written_array t n) (written_array (suc t) (after + length ps - 1))) (sym more)
+              (next-other t (after + length ps - 1) (after + length ps - 1));
         }
-      where
-        other-next : IsOther target (written_array (suc t) (after + length ps - 1))
-        other-next =
-            let is : after + length ps ≡ suc (after + k) = omega (arith, more) in
-            subst (λ (n : ℕ). IsOther (written_array t n) (written_array (suc t) (after + length ps - 1))) (sym is) (next-other t (after + k) (after + length ps - 1))
 
   -- all parts of a processor
   pub parts-leave : (ps : List Pass) (t : ℕ) (source : Array) (q : ℕ) (x : List ℕ) (s : Local) → q < c.procs →
@@ -176,26 +175,23 @@ module _ (c : Target) (words : ℕ) (enough : c.size ≤ words) (owner : ℕ →
       Left ps t source q x s (effects c.modulus c.lanes (passes_acts c words after ps t source q) s)
   parts-leave [] t source q x s low known owned h =
       record { stored = λ i below own. h.held i below (own-read source q i own); kept = λ a i below other. refl; first = λ i below. refl }
-  parts-leave (p ∷ []) t source q x s low known owned h =
-      let target = written_array t (after + 0) in
-      let alone : effects c.modulus c.lanes (passes_acts c words after (p ∷ []) t source q) s ≡ next p [] t source q low x s known.0 owned.0 owned.1 h =
-      lists_follow c.modulus c.lanes (pass_acts c p (array_start words source) (array_start words target) q) [] s in
-      subst (Left (p ∷ []) t source q x s) (sym alone)
-      (record {
-        stored = own-stored p [] t source q low x s known.0 owned.0 owned.1 h;
-        kept = one-kept p [] t source q low x s known.0 owned.0 owned.1 h;
-        first = λ i below. other-array p [] t source q low x s known.0 owned.0 owned.1 h X i below (target-other t (after + 0));
-      })
-  parts-leave (p ∷ r ∷ ps) t source q x s low known owned h =
-      let more = r ∷ ps in
-      let target = written_array t (after + length more) in
-      let middle = next p more t source q low x s known.0 owned.0 owned.1 h in
-      let rest = parts-leave (r ∷ ps) (suc t) target q (nests_on c.modulus c.size p x) middle low known.1 owned.2 (holds-next p more t source q low x s known.0 owned.0 owned.1 h (length ps) refl) in
-      let follow : effects c.modulus c.lanes (passes_acts c words after (p ∷ more) t source q) s ≡ effects c.modulus c.lanes (passes_acts c words after more (suc t) target q) middle =
-      lists_follow c.modulus c.lanes (pass_acts c p (array_start words source) (array_start words target) q) (passes_acts c words after more (suc t) target q) s in
-      subst (Left (p ∷ more) t source q x s) (sym follow)
+  parts-leave (p ∷ ps) t source q x s low known owned h =
+      let target = written_array t (after + length ps) in
+      let middle = next p ps t source q low x s known.0 owned.0 owned.1 h in
+      let rest =
+      parts-leave ps (suc t) target q (nests_on c.modulus c.size p x) middle low known.1 owned.2
+      (holds-next p ps t source q low x s known.0 owned.0 owned.1 h) in
+      let follow : effects c.modulus c.lanes (passes_acts c words after (p ∷ ps) t source q) s
+      ≡ effects c.modulus c.lanes (passes_acts c words after ps (suc t) target q) middle =
+      lists_follow c.modulus c.lanes (pass_acts c p (array_start words source) (array_start words target) q)
+      (passes_acts c words after ps (suc t) target q) s in
+      subst (Left (p ∷ ps) t source q x s) (sym follow)
       (record {
         stored = rest.stored;
-        kept = λ a i below other. rest.kept a i below other ∙ one-kept p more t source q low x s known.0 owned.0 owned.1 h a i below other;
-        first = λ i below. rest.first i below ∙ other-array p more t source q low x s known.0 owned.0 owned.1 h X i below (target-other t (after + length more));
+        kept = λ a i below other.
+            rest.kept a i below other
+            ∙ one-kept p ps t source q low x s known.0 owned.0 owned.1 h a i below other;
+        first = λ i below.
+            rest.first i below
+            ∙ other-array p ps t source q low x s known.0 owned.0 owned.1 h X i below (target-other t (after + length ps));
       })
