@@ -6,7 +6,6 @@ pub mod StraightCopies
 mod TileCopies
 mod KernelCopies
 pub mod Rows
-mod Horner
 mod Once
 pub mod Framed
 pub mod Copies

@@ -4,6 +4,7 @@ use Rattle.std.proofs.Common.{zero-add, zero-mul, mul-zero, suc-mul}
 use Rattle.std.specs.Prelude.{Option, Some, None}
 use Rattle.icode.specs.declared.action.Action.{Action}
 use Rattle.icode.specs.declared.action.Action.TheVariants.{Load, Store, Zero, Add, Sub, Neg, Mul, Tile}
+use Rattle.icode.proofs.Counting.{add-up}
 use Rattle.icode.specs.Machine.{counts_of}
 use Rattle.icode.specs.CodeLaws.Lanes.{weighted_operations}
 use Rattle.icode.specs.CodeLaws.Nests.{bodies, nest, loads}
@@ -48,25 +49,12 @@ products_of weight None = 0
 products_of weight (Some d) = weight
 
 module _ (weight lanes : ℕ) where
-  traffic-append : (xs ys : List Action) →
-      ((counts_of lanes (xs ++ ys)).loads ≡ (counts_of lanes xs).loads + (counts_of lanes ys).loads)
-      × ((counts_of lanes (xs ++ ys)).stores ≡ (counts_of lanes xs).stores + (counts_of lanes ys).stores)
-  traffic-append [] ys = (omega arith, omega arith)
-  traffic-append (Zero r ∷ xs) ys = traffic-append xs ys
-  traffic-append (Tile r x ∷ xs) ys = traffic-append xs ys
-  traffic-append (Load r a ∷ xs) ys = let h = traffic-append xs ys in (let more = h.0 in omega arith, h.1)
-  traffic-append (Store a r ∷ xs) ys = let h = traffic-append xs ys in (h.0, let more = h.1 in omega arith)
-  traffic-append (Add r x y ∷ xs) ys = traffic-append xs ys
-  traffic-append (Sub r x y ∷ xs) ys = traffic-append xs ys
-  traffic-append (Neg r x ∷ xs) ys = traffic-append xs ys
-  traffic-append (Mul r x c ∷ xs) ys = traffic-append xs ys
-
   pub counts-append : (xs ys : List Action) → tally weight lanes (xs ++ ys) ≡ plus (tally weight lanes xs)
       (tally weight lanes ys)
   counts-append xs ys =
-      let words = traffic-append xs ys in
+      let words = add-up lanes xs ys in
       let spread : lanes * (weighted_operations weight xs + weighted_operations weight ys) ≡ lanes * weighted_operations weight xs + lanes * weighted_operations weight ys = omega arith in
-      counts-same _ _ (ap (λ n. lanes * n) (weighted-append weight xs ys) ∙ spread) words.0 words.1
+      counts-same _ _ (ap (λ n. lanes * n) (weighted-append weight xs ys) ∙ spread) words.loads words.stores
 
   -- a register that is cleared counts nothing
   zero-free : (r : ℕ) (xs : List Action) → tally weight lanes (Zero r ∷ xs) ≡ tally weight lanes xs

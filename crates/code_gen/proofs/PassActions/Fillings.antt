@@ -1,5 +1,5 @@
 -- The copies of a nest fill their places with what the pass makes of its array.
-use Rattle.std.proofs.Common.{◌≡◌, ℕ, zero, suc, ◌+◌, ◌*◌, ◌-◌, ◌%◌, ◌<◌, ◌≤◌, arith, refl, sym, ap, ◌∙◌, List, [], ◌∷◌}
+use Rattle.std.proofs.Common.{◌≡◌, ℕ, zero, suc, ◌+◌, ◌*◌, ◌-◌, ◌%◌, ◌<◌, ◌≤◌, arith, refl, sym, ap, ap₂, ◌∙◌, List, [], ◌∷◌}
 use Rattle.std.proofs.Common.{subst, mul_comm, Contains}
 use Rattle.std.specs.Prelude.{slice_index}
 use Rattle.icode.specs.declared.action.Action.{Action}
@@ -18,9 +18,10 @@ use Rattle.code_gen.specs.PassActions.Acts.{load_at, copy_acts, with_multiplier,
 use Rattle.code_gen.specs.PassActions.Laws.{AreApart}
 use Rattle.sigma_spl.specs.Shared.Running.{CanRun}
 use Rattle.operators.specs.declared.target.Target.{Target}
-use Rattle.code_gen.proofs.PassActions.Copies.{nest-can, task_of, items, inputs, outputs, input-is, input-item}
+use Rattle.code_gen.proofs.PassActions.Copies.{modulus-some, nest-can, task_of, items, inputs, outputs, input-is, input-item}
 use Rattle.code_gen.proofs.PassActions.Copies.{input-below, output-is}
-use Rattle.code_gen.proofs.PassActions.Horner.{scaled-sum}
+use Rattle.sigma_spl.specs.Horner.{horner_sum}
+use Rattle.sigma_spl.proofs.HornerRows.{horner_row}
 use Rattle.code_gen.proofs.PassActions.Items.{items-fill}
 use Rattle.code_gen.proofs.PassActions.KernelCopies.{value_of, kernel-computes}
 use Rattle.code_gen.proofs.PassActions.Rows.{rows-fill, row_sum, scaled_sum, entry_acts, scaled_acts, terms-turn}
@@ -53,6 +54,15 @@ row-made m root n k xs input below is =
     (sum_below-same n _ (λ l. power_mod m root (k * l) * slice_index xs l) (λ l inside.
     ap (λ y. y * power_mod m root (k * l)) (is l inside) ∙ mul_comm (slice_index xs l) (power_mod m root (k * l))))
     ∙ sym (at-list_below n (λ r. sum_below n (λ l. power_mod m root (r * l) * slice_index xs l) % m) k below)
+
+-- Horner's rule after so many turns, each of which takes the item before the one that the turn before took
+scaled-is : (m factor d : ℕ) (item : ℕ → ℕ) (xs : List ℕ) (t : ℕ) →
+    ((i : ℕ) → i < t → item i ≡ slice_index xs (d - 1 - i)) →
+    scaled_sum m factor item t ≡ horner_sum m factor d (slice_index xs) t
+scaled-is m factor d item xs zero is = refl
+scaled-is m factor d item xs (suc t) is =
+    ap₂ (λ a b. ((a * factor) % m + b) % m) (scaled-is m factor d item xs t (λ i low. is i (omega arith)))
+    (is t (omega arith))
 
 module _ (c : Target) (zs : List PlainNest) (can : CanRun c zs) (source target q : ℕ) (x : List ℕ)
     (apart : AreApart c.size source target) (part : q < c.procs)
@@ -135,9 +145,9 @@ module _ (c : Target) (zs : List PlainNest) (can : CanRun c zs) (source target q
       (outputs c zs can source target q x apart part small z one vs range)
       (λ k lane under there.
       output-is c zs can source target q x apart part small z one vs range k lane under there _
-      (scaled-sum c.modulus root k can.modulus n (λ l. whole.input (at l + lane))
-      ∙ row-made c.modulus root n k _ (λ l. whole.input (at l + lane)) under (λ l inside.
-      input-item c zs can source target q x apart part small z one vs range l lane inside there)))
+      (scaled-is c.modulus (power_mod c.modulus root k) n (λ t. whole.input (from t + lane)) _ n (λ l inside.
+      input-item c zs can source target q x apart part small z one vs range (n - 1 - l) lane (omega arith) there)
+      ∙ horner_row c.modulus n root k _ (modulus-some c zs can) under))
 
   tile-filled : (p : PlainNest) (one : Contains zs (working p (tile c.lanes))) →
       CopiesFill (working p (tile c.lanes)) one

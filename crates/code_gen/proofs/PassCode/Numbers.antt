@@ -13,18 +13,12 @@ use Rattle.code_gen.specs.PassCode.Expressions.{factor_at, variables_of, process
 use Rattle.code_gen.specs.PassCode.Expressions.{divisions_of, expr_of}
 use Rattle.code_gen.proofs.PassCode.Writing.{by_zero, factor-other, factor-same}
 
--- the values of n variables from d on, and of the remainders
+-- the values of n variables from d on
 abbrev variables_value : ℕ → ℕ → Sum → (ℕ → ℕ) → ℕ
 variables_value zero d e vs = 0
 variables_value (suc k) d e vs = vs d * factor_at d e + variables_value k (d + 1) e vs
 
-abbrev divisions_value : Sum → (ℕ → ℕ) → ℕ
-divisions_value (constant c) vs = 0
-divisions_value (variable f d rest) vs = divisions_value rest vs
-divisions_value (remainder f of m rest) vs = value of vs % m * f + divisions_value rest vs
-divisions_value (quotient f of m rest) vs = value of vs / m * f + divisions_value rest vs
-
--- those of the remainders alone, and of the quotients
+-- those of the remainders, of the quotients, and of both
 abbrev remainders_value : Sum → (ℕ → ℕ) → ℕ
 remainders_value (constant c) vs = 0
 remainders_value (variable f d rest) vs = remainders_value rest vs
@@ -37,14 +31,11 @@ quotients_value (variable f d rest) vs = quotients_value rest vs
 quotients_value (remainder f of m rest) vs = quotients_value rest vs
 quotients_value (quotient f of m rest) vs = value of vs / m * f + quotients_value rest vs
 
+abbrev divisions_value : Sum → (ℕ → ℕ) → ℕ
+divisions_value e vs = remainders_value e vs + quotients_value e vs
+
 more : (a b c : ℕ) → a + (b + c) ≡ a + b + c
 more a b c = omega arith
-
-both-values : (e : Sum) (vs : ℕ → ℕ) → divisions_value e vs ≡ remainders_value e vs + quotients_value e vs
-both-values (constant c) vs = refl
-both-values (variable f d rest) vs = both-values rest vs
-both-values (remainder f of m rest) vs = ap (λ x. value of vs % m * f + x) (both-values rest vs) ∙ more (value of vs % m * f) (remainders_value rest vs) (quotients_value rest vs)
-both-values (quotient f of m rest) vs = let rest_is = both-values rest vs in omega (arith, rest_is)
 
 -- ---- a sum is its constant, its variables and its divisions
 
@@ -218,7 +209,7 @@ module _ (f : PlainFrame) (n : ℕ) (all : ℕ → ℕ) (vs : List ℕ) (q : ℕ
       + (parts_numbers (quotients_of f n e) vs q).value → (parts_numbers (quotients_of f n e) vs q).value
       ≡ quotients_value e all →
       (sum_numbers (expr_of f n e) vs q).value ≡ value e all
-  inner-value e first second = whole-value e (first ∙ ap (λ x. remainders_value e all + x) second ∙ sym (both-values e all))
+  inner-value e first second = whole-value e (first ∙ ap (λ x. remainders_value e all + x) second)
 
   mutual
     remainders-value : (e : Sum) (ps : PlainParts) → (parts_numbers (remainders_of f n e ps) vs q).value
@@ -292,8 +283,7 @@ module _ (f : PlainFrame) (n : ℕ) (all : ℕ → ℕ) (vs : List ℕ) (q : ℕ
   parts-low : (e : Sum) → value e all ≤ b → (remainders_value e all ≤ b) × (quotients_value e all ≤ b)
   parts-low e low =
       let parted : value e all ≡ constant_of e + (variables_value (f.first_loop + n) 0 e all + divisions_value e all) = sum-value (f.first_loop + n) e all no_more in
-      let both = both-values e all in
-      (omega (arith, parted, both, low), omega (arith, parted, both, low))
+      (omega (arith, parted, low), omega (arith, parted, low))
 
   mutual
     remainders-peak : (e : Sum) (ps : PlainParts) → remainders_value e all ≤ b → DividesLow b all e →

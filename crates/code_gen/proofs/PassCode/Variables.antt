@@ -80,26 +80,15 @@ module _ (c : Target) where
   values-append (tile v) q vs more = append_assoc (if_several c.procs q) vs more
   values-append (copy size) q vs more = several-append q vs more
 
-  length-several : (b : Bool) (q : ℕ) (us : List ℕ) → length ((if b then [] else q ∷ []) ++ us) ≡ (if b then 0 else 1)
-      + length us
-  length-several true q us = omega arith
-  length-several false q us = omega arith
-
-  length-both : (q : ℕ) (us : List ℕ) → length (if_several c.procs q ++ (if_several c.lanes 0 ++ us))
-      ≡ one_if_several c.procs + one_if_several c.lanes + length us
-  length-both q us = length-several (c.procs == 1) q (if_several c.lanes 0 ++ us) ∙ ap (λ n. one_if_several c.procs + n) (length-several (c.lanes == 1) 0 us) ∙ omega arith
-
-  length-values : (w : PlainWork) (q : ℕ) (us : List ℕ) → length (values_of c w q 0 us) ≡ first_loop c w + length us
-  length-values (kernel trees) q us = length-both q us
-  length-values (rows root size) q us = length-both q us
-  length-values (horner root size) q us = length-both q us
-  length-values (tile v) q us = length-several (c.procs == 1) q us ∙ omega arith
-  length-values (copy size) q us = length-both q us
-
 -- all values are those of the frame and of the open loops
 pub no-more : (c : Target) (w : PlainWork) (q n : ℕ) (us : List ℕ) → length us ≡ n →
     AreNoMore (first_loop c w + n) (slice_index (values_of c w q 0 us))
-no-more c w q n us size d high = get_or_past (values_of c w q 0 us) d 0 (let whole = length-values c w q us in omega arith)
+no-more c w q n us size d high =
+    let past : ℕ = d - first_loop c w in
+    let there : d ≡ first_loop c w + past = omega arith in
+    ap (slice_index (values_of c w q 0 us)) there
+    ∙ (framed-values c w q us).loop past
+    ∙ get_or_past us past 0 (omega (arith, size, high))
 
 pub length-range : (counts vs : List ℕ) → AreInRange counts vs → length vs ≡ length counts
 length-range [] [] h = refl

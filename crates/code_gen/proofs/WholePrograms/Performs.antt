@@ -40,7 +40,7 @@ use Rattle.code_gen.proofs.WholePrograms.Fits.{length-actions, parts-fit, parts-
 use Rattle.code_gen.proofs.WholePrograms.Known.{Pass, AllFrom, PhasesKnown, at-phase, passes-count, passes_acts, phases_known}
 use Rattle.code_gen.proofs.WholePrograms.Lists.{IsInsidePhase, Listed, phases-listed, steps-acts}
 use Rattle.code_gen.proofs.WholePrograms.Parts.{all_parts, all-are, all-whole}
-use Rattle.code_gen.proofs.WholePrograms.Phases.{AllWide, Ready, RunsPhases, SharedFrom, all-phases, final_array}
+use Rattle.code_gen.proofs.WholePrograms.Phases.{Ready, RunsPhases, SharedFrom, all-phases, final_array}
 use Rattle.code_gen.proofs.WholePrograms.Phases.{final-is, phases-shared}
 use Rattle.code_gen.proofs.WholePrograms.Registers.{AllBelow, all-below, few-all}
 use Rattle.code_gen.proofs.WholePrograms.Tables.{phases-tables-within}
@@ -217,14 +217,9 @@ module _ (c : Target) (g : PlainMerged) (can : CanProgram c g) where
           residues = vector.residues;
         }
 
-    wide : (regs : ℕ) (qss : List (List Pass)) → AllBelow c regs qss →
-        AllWide c words enough code refl refl refl regs qss
-    wide regs [] h = tt
-    wide regs (ps ∷ more) h = (mul-le-mul_right c.lanes h.0, wide regs more h.1)
-
     ended : Ready c words enough code refl refl refl p.regs (final_array c words enough code refl refl refl pss 0 X)
         made (phases_alone code (length pss) 0 begun)
-    ended = all-phases c words enough code refl refl refl p.regs 0 pss 0 X x begun known (wide p.regs pss below) shared (λ some. first-other (count_in pss - 1)) listed.0 ready
+    ended = all-phases c words enough code refl refl refl p.regs 0 pss 0 X x begun known below shared (λ some. first-other (count_in pss - 1)) listed.0 ready
 
     memory-is : (runs code x []).memory ≡ (phases_alone code (length pss) 0 begun).memory
     memory-is = memory_of_runs code (code_is p) apart x [] ∙ ap (λ n. (phases_alone code n 0 begun).memory) code-long

@@ -1,6 +1,6 @@
 -- What the processors leave, one after another, phase by phase.
 use Rattle.std.proofs.Common.{◌≡◌, ◌≢◌, ℕ, zero, suc, ◌+◌, ◌-◌, ◌*◌, ◌<◌, ◌≤◌, inl, inr, ◌⊎◌, List, [], ◌∷◌, length}
-use Rattle.std.proofs.Common.{refl, sym, ap, ◌∙◌, arith, subst, get_or-set_same, get_or-set_other, length-set}
+use Rattle.std.proofs.Common.{refl, sym, ap, ap₂, ◌∙◌, arith, subst, get_or-set_same, get_or-set_other, length-set}
 use Rattle.std.specs.Prelude.{slice_index, slice_index_or, slice_set}
 use Rattle.std.proofs.lemmas.Bool.{cases_eq}
 use Rattle.icode.proofs.CodeLaws.Stores.{length-memory, length-registers}
@@ -17,6 +17,8 @@ use Rattle.code_gen.specs.PassCode.Program.{written_array, array_after, count_in
 use Rattle.code_gen.proofs.WholePrograms.Arrays.{IsOther, next-other}
 use Rattle.code_gen.proofs.WholePrograms.Known.{Pass, AllKnown, PhasesKnown, passes_acts}
 use Rattle.code_gen.proofs.WholePrograms.Stored.{made-residues}
+use Rattle.std.proofs.Math.Nat.{mul-le-mul_right}
+use Rattle.code_gen.proofs.WholePrograms.Registers.{AllBelow}
 use Rattle.code_gen.proofs.WholePrograms.Processor.{MayRead, Owned, all-owned, first-owned, Left, parts-leave}
 
 module _ (c : Target) (words : ℕ) (enough : c.size ≤ words) (code : Code) (modulus_is : code.modulus ≡ c.modulus)
@@ -176,11 +178,6 @@ module _ (c : Target) (words : ℕ) (enough : c.size ≤ words) (code : Code) (m
     pub held : (i : ℕ) → i < c.size → slice_index w.memory (array_start words source + i) ≡ slice_index x i
     pub residues : (i : ℕ) → i < c.size → slice_index x i < c.modulus
 
-  -- every pass has few enough registers
-  abbrev pub AllWide : ℕ → List (List Pass) → Type 0
-  AllWide regs [] = Unit {0}
-  AllWide regs (ps ∷ more) = (most_of c ps * c.lanes ≤ regs * c.lanes) × AllWide regs more
-
   -- the array that the last phase leaves
   abbrev pub final_array : List (List Pass) → ℕ → Array → Array
   final_array [] t source = source
@@ -207,35 +204,42 @@ module _ (c : Target) (words : ℕ) (enough : c.size ≤ words) (code : Code) (m
         residues = residues-after ps x known ready.residues;
       }
 
-  -- what the last pass of a phase writes, and others follow, is not what the next one does
-  other-last : (after : ℕ) (qs : List Pass) (u j : ℕ) (a : Array) → 0 < after →
-      a ≡ written_array u (after + length qs) → IsOther (array_after after qs (suc u) a)
-      (written_array (u + suc (length qs)) j)
-  other-last after [] u j a some e =
-      let is : after + 0 ≡ suc (after - 1) = omega (arith, some) in
-      let next : u + 1 ≡ suc u = omega arith in
-      subst (λ n. IsOther a (written_array n j)) (sym next) (subst (λ b. IsOther b (written_array (suc u) j)) (sym (e ∙ ap (written_array u) is)) (next-other u (after - 1) j))
-  other-last after (q ∷ qs) u j a some e =
-      let shift : suc u + suc (length qs) ≡ u + suc (suc (length qs)) = omega arith in
-      subst (λ n. IsOther (array_after after qs (suc (suc u)) (written_array (suc u) (after + length qs))) (written_array n j)) shift (other-last after qs (suc u) j (written_array (suc u) (after + length qs)) some refl)
+  -- the last pass of a phase, where so many come after the phase
+  array_after-last : (after : ℕ) (p : Pass) (ps : List Pass) (t : ℕ) (source : Array) →
+      array_after after (p ∷ ps) t source ≡ written_array (t + length ps) after
+  array_after-last after p [] t source =
+      let last : after + 0 ≡ after = omega arith in
+      let number : t ≡ t + 0 = omega arith in ap₂ written_array number last
+  array_after-last after p (q ∷ ps) t source =
+      let number : suc t + length ps ≡ t + suc (length ps) = omega arith in
+      array_after-last after q ps (suc t) (written_array t (after + length (q ∷ ps)))
+      ∙ ap (λ n. written_array n after) number
 
+  -- what it writes, and others follow, is not what the next one does
   other-after : (after : ℕ) (ps : List Pass) (t : ℕ) (source : Array) → IsOtherNext (after + length ps) t source →
       IsOtherNext after (t + length ps) (array_after after ps t source)
   other-after after [] t source other some =
       let here : t + 0 ≡ t = omega arith in
       let count : after + 0 ≡ after = omega arith in
-      subst (λ n. IsOther source (written_array n (after - 1))) (sym here) (subst (λ k. IsOther source (written_array t (k - 1))) count (other (omega (arith, some))))
-  other-after after (p ∷ ps) t source other some = other-last after ps t (after - 1) (written_array t (after + length ps)) some refl
+      subst (λ n. IsOther source (written_array n (after - 1))) (sym here)
+      (subst (λ k. IsOther source (written_array t (k - 1))) count (other (omega (arith, some))))
+  other-after after (p ∷ ps) t source other some =
+      let more : suc (after - 1) ≡ after = omega (arith, some) in
+      let next : suc (t + length ps) ≡ t + suc (length ps) = omega arith in
+      let is = ap (written_array (t + length ps)) more ∙ sym (array_after-last after p ps t source) in
+      subst (λ n. IsOther (array_after after (p ∷ ps) t source) (written_array n (after - 1))) next
+      (subst (λ a. IsOther a (written_array (suc (t + length ps)) (after - 1))) is
+      (next-other (t + length ps) (after - 1) (after - 1)))
 
   pub all-phases : (regs f : ℕ) (pss : List (List Pass)) (t : ℕ) (source : Array) (x : List ℕ) (w : Whole) →
-      PhasesKnown c pss → AllWide regs pss → SharedFrom pss t source →
+      PhasesKnown c pss → AllBelow c regs pss → SharedFrom pss t source →
       IsOtherNext (count_in pss) t source → RunsPhases f pss t source → Ready regs source x w →
       Ready regs (final_array pss t source) (phases_on c.modulus c.size pss x) (phases_alone code (length pss) f w)
   all-phases regs f [] t source x w known wide shared other runs ready = ready
   all-phases regs f (ps ∷ more) t source x w known wide shared other runs ready =
       all-phases regs (f + 1) more (t + length ps) (array_after (count_in more) ps t source) (phase_on c.modulus c.size ps x) (processors_alone code f code.procs 0 w) known.1 wide.1 shared.1
       (other-after (count_in more) ps t source other) runs.1
-      (one-phase regs f ps more t source x w known.0 wide.0 shared.0 other runs.0 ready)
+      (one-phase regs f ps more t source x w known.0 (mul-le-mul_right c.lanes wide.0) shared.0 other runs.0 ready)
 
   -- the last pass of all writes Y
   last-empty : (after : ℕ) (ps : List Pass) (t : ℕ) (source : Array) → length ps ≡ 0 →
@@ -245,8 +249,7 @@ module _ (c : Target) (words : ℕ) (enough : c.size ≤ words) (code : Code) (m
 
   last-is_last : (ps : List Pass) (t : ℕ) (source : Array) → 0 < length ps → array_after 0 ps t source ≡ Y
   last-is_last [] t source some = absurd (omega (arith, some))
-  last-is_last (p ∷ []) t source some = refl
-  last-is_last (p ∷ q ∷ ps) t source some = last-is_last (q ∷ ps) (suc t) (written_array t (0 + length (q ∷ ps))) (omega arith)
+  last-is_last (p ∷ ps) t source some = array_after-last 0 p ps t source
 
   final-empty : (pss : List (List Pass)) (t : ℕ) (source : Array) → count_in pss ≡ 0 → final_array pss t source ≡ source
   final-empty [] t source e = refl

@@ -11,7 +11,8 @@ use Rattle.icode.proofs.Lines.{Contains-head, Contains-tail}
 use Rattle.sigma_spl.specs.Shared.Running.{CanRun, IsStoredBy}
 use Rattle.operators.specs.declared.target.Target.{Target}
 use Rattle.sigma_spl.specs.Shared.Machine.{framed_lanes, if_several}
-use Rattle.code_gen.proofs.PassActions.Copies.{nest-can}
+use Rattle.sigma_spl.proofs.Walk.{nests-vector}
+use Rattle.code_gen.proofs.PassActions.Copies.{modulus-some, nest-can}
 use Rattle.code_gen.proofs.PassActions.Framed.{in_counts}
 use Rattle.sigma_spl.specs.Copies.{loops_of, hits, all_stored}
 use Rattle.sigma_spl.specs.Nest.{PlainNest, copies_of, store_place, nests_on}
@@ -107,5 +108,4 @@ module _ (c : Target) (zs : List PlainNest) (can : CanRun c zs) where
 
   -- what a pass leaves are residues
   pub made-residues : (x : List ℕ) (i : ℕ) → i < c.size → slice_index (nests_on c.modulus c.size zs x) i < c.modulus
-  made-residues x i below =
-      subst (λ v. v < c.modulus) (sym (at-list_below c.size (λ w. all_stored (map (copies_of c.modulus) zs) x w % c.modulus) i below)) (mod-lt (all_stored (map (copies_of c.modulus) zs) x i) (let large = can.modulus in omega arith))
+  made-residues x = (nests-vector c.modulus c.size zs x (modulus-some c zs can)).residues
