@@ -1,10 +1,10 @@
 -- The codes of kernels: of a node by its request, and of a short leaf by its matrix.
-use Rattle.std.proofs.Common.{◌≡◌, ◌≢◌, ℕ, zero, suc, ◌*◌, ◌-◌, ◌%◌, ◌^◌, ◌<◌, ◌≤◌, List, [], ◌∷◌, if◌then◌else◌, arith}
-use Rattle.std.proofs.Common.{refl, ap, ap₂, ◌∙◌, sym, pow-suc, mul-zero}
+use Rattle.std.proofs.Common.{◌≡◌, ◌≢◌, ℕ, zero, suc, ◌-◌, ◌<◌, ◌≤◌, [], ◌∷◌, if◌then◌else◌, arith}
+use Rattle.std.proofs.Common.{refl, ap, ap₂, ◌∙◌}
 use Rattle.std.specs.Prelude.{◌==◌}
 use lib.Count.{ones}
-use Rattle.std.proofs.Math.Nat.{mod-eq_of_lt, one-mul, pow-zero}
-use Rattle.kernel_gen.specs.Kernel.{kernel_of, node_kernel, trees_kernel}
+use Rattle.std.proofs.Math.Nat.{mod-eq_of_lt}
+use Rattle.kernel_gen.specs.Kernel.{kernel_of, node_kernel}
 use Rattle.kernel_gen.specs.Making.{matrix_make}
 use Rattle.matrix_meaning.specs.Kind.{entry_of}
 use Rattle.matrix_meaning.specs.Parts.{forward_of}

@@ -1,5 +1,5 @@
 -- What is known of a nest that can be emitted.
-use Rattle.std.proofs.Common.{◌≡◌, ℕ, zero, suc, ◌+◌, ◌^◌, ◌<◌, ◌≤◌, List, [], ◌∷◌, ◌++◌, length, length-append, get_or}
+use Rattle.std.proofs.Common.{◌≡◌, ℕ, zero, suc, ◌+◌, ◌^◌, ◌<◌, ◌≤◌, List, [], ◌∷◌, ◌++◌, length, get_or}
 use Rattle.std.proofs.Common.{map, refl, sym, ap, ◌∙◌, arith, subst, All}
 use Rattle.std.specs.Prelude.{Option, Some, None}
 use Rattle.std.proofs.lemmas.List.{get_or-map, length-map}
@@ -7,7 +7,6 @@ use Rattle.std.proofs.lemmas.List.Elements.{Contains-get_or}
 use Rattle.code_gen.proofs.PassActions.Fillings.{registers-le}
 use Rattle.kernel_gen.specs.Kernel.{trees_kernel}
 use Rattle.kernel_gen.proofs.Products.{trees-does}
-use Rattle.code_gen.specs.PassActions.Acts.{nest_registers, pass_registers}
 use Rattle.sigma_spl.specs.Shared.Running.{CanWork}
 use Rattle.operators.specs.declared.target.Target.{Target}
 use Rattle.code_gen.specs.PassCode.Conditions.{CanWritePass}

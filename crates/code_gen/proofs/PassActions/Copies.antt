@@ -12,7 +12,7 @@ use Rattle.operators.proofs.Lists.{at-list_below, factor_positive, place_below}
 use Rattle.operators.proofs.Places.{turn_at}
 use Rattle.code_gen.specs.PassActions.Acts.{load_at, store_at, pass_registers}
 use Rattle.code_gen.specs.PassActions.Laws.{AreApart, CanBegin}
-use Rattle.sigma_spl.specs.Shared.Running.{CanRun, CanRunNest, IsCopyOf, IsLoadedBy, IsStoredBy}
+use Rattle.sigma_spl.specs.Shared.Running.{CanRun, CanRunNest, IsLoadedBy, IsStoredBy}
 use Rattle.operators.specs.declared.target.Target.{Target}
 use Rattle.sigma_spl.specs.Shared.Machine.{item_of, values_of}
 use Rattle.code_gen.proofs.PassActions.Finish.{finished, finished_lane}
@@ -123,12 +123,6 @@ module _ (c : Target) (zs : List PlainNest) (can : CanRun c zs) where
     abbrev pub item : ℕ
     item = lane_item c p facts q part vs range k lane under there
 
-    copy-is : IsCopyOf c p q on
-    copy-is = lane-copy c p facts q part vs range k lane under there
-
-    pub item-low : item < work_size p.work
-    item-low = item-is c p facts q part vs range k lane under there
-
     pub loaded-place : (source : ℕ) → source + load_at c p q vs k + lane ≡ source + load_place p.work p.gathers on item
     loaded-place source =
         let beside = (side_by_side c p facts q part vs range k lane under there).loads in omega arith
@@ -141,14 +135,30 @@ module _ (c : Target) (zs : List PlainNest) (can : CanRun c zs) where
     pub loaded-word : (source : ℕ) → IsWordOf source (IsLoadedBy c zs q) (source + load_at c p q vs k + lane)
     loaded-word source = (
       load_place p.work p.gathers on item,
-      record { nest = p; one = one; values = on; item = item; copy = copy-is; below = item-low; there = refl },
+      record {
+        nest = p;
+        one = one;
+        values = on;
+        item = item;
+        copy = lane-copy c p facts q part vs range k lane under there;
+        below = item-is c p facts q part vs range k lane under there;
+        there = refl;
+      },
       loaded-place source,
     )
 
     pub stored-word : (target : ℕ) → IsWordOf target (IsStoredBy c zs q) (target + store_at c p q vs k + lane)
     stored-word target = (
       store_place p.work p.scatters on item,
-      record { nest = p; one = one; values = on; item = item; copy = copy-is; below = item-low; there = refl },
+      record {
+        nest = p;
+        one = one;
+        values = on;
+        item = item;
+        copy = lane-copy c p facts q part vs range k lane under there;
+        below = item-is c p facts q part vs range k lane under there;
+        there = refl;
+      },
       stored-place target,
     )
 
@@ -212,7 +222,7 @@ module _ (c : Target) (zs : List PlainNest) (can : CanRun c zs) where
       input-item k lane under there =
           input-is k lane under there
           ∙ sym (at-list_below (work_size p.work) (λ j. slice_index x (load_place p.work p.gathers (values lane) j))
-          (item_of p.work k lane) (item-low p one q part vs range k lane under there))
+          (item_of p.work k lane) (item-is c p (nest-can p one) q part vs range k lane under there))
 
       pub input-below : (k lane : ℕ) → k < vectors_of p.work → lane < c.lanes →
           job.input (source + load_at c p q vs k + lane) < c.modulus
@@ -221,7 +231,7 @@ module _ (c : Target) (zs : List PlainNest) (can : CanRun c zs) where
           (small (load_place p.work p.gathers (values lane) (item_of p.work k lane))
           ((nest-can p one).inside.loads (values lane) (item_of p.work k lane)
           (lane-copy c p (nest-can p one) q part vs range k lane under there).in_range
-          (item-low p one q part vs range k lane under there)))
+          (item-is c p (nest-can p one) q part vs range k lane under there)))
 
       -- what is to stand at the place of a lane
       pub output-is : (k lane : ℕ) → k < vectors_of p.work → lane < c.lanes → (v : ℕ) →
@@ -230,7 +240,7 @@ module _ (c : Target) (zs : List PlainNest) (can : CanRun c zs) where
       output-is k lane under there v is =
           let us = values lane in
           let i = item_of p.work k lane in
-          let low = item-low p one q part vs range k lane under there in
+          let low = item-is c p (nest-can p one) q part vs range k lane under there in
           let made = nests_on c.modulus c.size zs x in
           ap (λ a. slice_index made (a - target)) (stored-place p one q part vs range k lane under there target)
           ∙ ap (slice_index made) (past target (store_place p.work p.scatters us i))

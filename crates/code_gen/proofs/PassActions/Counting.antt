@@ -3,7 +3,7 @@ use Rattle.std.proofs.Common.{◌≡◌, ℕ, zero, suc, ◌+◌, ◌*◌, refl,
 use Rattle.std.proofs.Common.{zero-add, zero-mul, mul-zero, suc-mul}
 use Rattle.std.specs.Prelude.{Option, Some, None}
 use Rattle.icode.specs.declared.action.Action.{Action}
-use Rattle.icode.specs.declared.action.Action.TheVariants.{Load, Store, Zero, Add, Sub, Neg, Mul, Tile}
+use Rattle.icode.specs.declared.action.Action.TheVariants.{Load, Zero}
 use Rattle.icode.proofs.Counting.{add-up}
 use Rattle.icode.specs.Machine.{counts_of}
 use Rattle.icode.specs.CodeLaws.Lanes.{weighted_operations}

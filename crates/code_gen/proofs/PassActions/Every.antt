@@ -5,7 +5,7 @@ use Rattle.std.proofs.Common.{refl}
 use Rattle.std.specs.Prelude.{◌≡◌, slice_index, Option, Some, None, All}
 use Rattle.std.proofs.lemmas.List.Elements.{All-nil, All-cons, All-append}
 use Rattle.icode.proofs.Lines.{Contains-head, Contains-tail}
-use Rattle.icode.specs.Actions.{RegistersFit, FactorsFit, lane_factors}
+use Rattle.icode.specs.Actions.{lane_factors}
 use Rattle.icode.specs.declared.action.Action.{Action}
 use Rattle.icode.specs.declared.action.Action.TheVariants.{Load, Store, Zero, Add, Sub, Neg, Mul, Tile}
 use Rattle.icode.specs.CodeLaws.Nests.{bodies, nest, loads, AreInRange}

@@ -1,5 +1,5 @@
 -- The factors of lanes.
-use Rattle.std.proofs.Common.{◌≡◌, ℕ, zero, suc, ◌-◌, ◌<◌, ◌≤◌, arith, refl, ◌∙◌, List, [], ◌∷◌, ◌++◌, length}
+use Rattle.std.proofs.Common.{◌≡◌, ℕ, ◌-◌, ◌<◌, ◌≤◌, arith, ◌∙◌, length}
 use Rattle.std.proofs.Common.{replicate, length-append}
 use Rattle.std.specs.Prelude.{slice_index}
 use Rattle.icode.specs.Actions.{lane_factors}

@@ -1,5 +1,5 @@
 -- The copies of a processor and a lane.
-use Rattle.std.proofs.Common.{◌≡◌, ◌≢◌, ℕ, ◌+◌, ◌*◌, ◌/◌, ◌%◌, ◌<◌, Bool, true, false, arith, refl, sym, ap, ◌∙◌, List, []}
+use Rattle.std.proofs.Common.{◌≡◌, ◌≢◌, ℕ, ◌+◌, ◌/◌, ◌%◌, ◌<◌, Bool, true, false, arith, refl, sym, ap, ◌∙◌, List, []}
 use Rattle.std.proofs.Common.{◌∷◌, ◌++◌, subst, mod-lt, div-lt_iff_lt-mul, if◌then◌else◌}
 use Rattle.std.proofs.Math.Nat.{div-add-mod'}
 use Rattle.std.specs.Prelude.{◌==◌, slice_index}
@@ -26,14 +26,14 @@ range-several n counts v vs below range =
     (λ several. (below, range))
 
 -- values, taken apart
-record IsUnder (n : ℕ) (counts us : List ℕ) : Type 0 where
-  value : ℕ
-  rest : List ℕ
-  below : value < n
-  in_range : AreInRange counts rest
-  joined : us ≡ if_several n value ++ rest
+pub record IsUnder (n : ℕ) (counts us : List ℕ) : Type 0 where
+  pub value : ℕ
+  pub rest : List ℕ
+  pub below : value < n
+  pub in_range : AreInRange counts rest
+  pub joined : us ≡ if_several n value ++ rest
 
-under-several : (n : ℕ) (counts us : List ℕ) → AreInRange (if_several n n ++ counts) us → IsUnder n counts us
+pub under-several : (n : ℕ) (counts us : List ℕ) → AreInRange (if_several n n ++ counts) us → IsUnder n counts us
 under-several n counts us = pick (n == 1) us refl
   where
     pick : (b : Bool) (us : List ℕ) → (n == 1) ≡ b → AreInRange ((if b then [] else n ∷ []) ++ counts) us →
@@ -56,7 +56,7 @@ under-several n counts us = pick (n == 1) us refl
           joined = ap (λ b. (if b then [] else v ∷ []) ++ vs) (sym e);
         }
 
-first_value : (n v : ℕ) (vs : List ℕ) → n ≢ 1 → slice_index (if_several n v ++ vs) 0 ≡ v
+pub first_value : (n v : ℕ) (vs : List ℕ) → n ≢ 1 → slice_index (if_several n v ++ vs) 0 ≡ v
 first_value n v vs several = one_or_several n (λ b. slice_index ((if b then [] else v ∷ []) ++ vs) 0 ≡ v) (λ one. absurd (several one)) (λ other. refl)
 
 -- the value of a processor is known where there are several, and does not matter where there is one

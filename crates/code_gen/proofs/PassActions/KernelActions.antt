@@ -1,17 +1,13 @@
 -- The actions of straight-line code: there is one for each operation.
-use Rattle.std.proofs.Common.{◌≡◌, ℕ, ◌+◌, ◌<◌, ◌≤◌, arith, sym, ap, ◌∙◌, List, [], ◌∷◌, length}
-use Rattle.std.specs.Prelude.{All}
+use Rattle.std.proofs.Common.{◌≡◌, ℕ, ◌+◌, ◌≤◌, sym, ap, ◌∙◌, List, length}
 use Rattle.std.proofs.lemmas.List.{length-map}
-use Rattle.std.proofs.lemmas.List.Elements.{All-nil, All-cons}
 use Rattle.icode.proofs.CodeLaws.ByLane.{weight_of_one}
-use Rattle.kernel_gen.specs.Instructions.{AreWithin, IsWithin, action_by, actions_by, code_cost}
+use Rattle.kernel_gen.specs.Instructions.{action_by, actions_by, code_cost}
 use Rattle.kernel_gen.specs.Kernel.{trees_kernel}
 use Rattle.tree_model.specs.KernelCosts.{CanMake, trees_cost}
 use Rattle.kernel_gen.specs.declared.straight.Instruction.{Instruction}
-use Rattle.kernel_gen.specs.declared.straight.Instruction.TheVariants.{Add, Sub, Neg, Mul}
-use Rattle.kernel_gen.proofs.Instructions.{actions-operations, factors-fit}
+use Rattle.kernel_gen.proofs.Instructions.{actions-operations}
 use Rattle.kernel_gen.proofs.Products.{trees-does}
-use Rattle.code_gen.specs.PassActions.Laws.{IsFit}
 use Rattle.tree_model.specs.Trees.{PlainTrees, trees_size}
 
 -- each instruction is an operation

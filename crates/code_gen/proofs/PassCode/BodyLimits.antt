@@ -1,11 +1,11 @@
 -- The statements of a pass stand within the limits of programs.
-use Rattle.std.proofs.Common.{◌≡◌, ℕ, zero, suc, ◌+◌, ◌*◌, ◌^◌, ◌<◌, ◌≤◌, All, Bool, true, ◌&&◌, nat_lt, nat_le, List}
-use Rattle.std.proofs.Common.{[], ◌∷◌, length, refl, ap₂, arith, subst}
+use Rattle.std.proofs.Common.{◌≡◌, ℕ, zero, suc, ◌+◌, ◌*◌, ◌^◌, ◌<◌, ◌≤◌, All, true, List}
+use Rattle.std.proofs.Common.{[], ◌∷◌, length, refl, arith, subst}
 use Rattle.std.specs.Prelude.{Option, Some, None}
 use Rattle.std.proofs.lemmas.Bool.{and_from, and_parts, le-leb, lt-ltb}
 use Rattle.icode.specs.declared.program.Array.{Array}
-use Rattle.icode.specs.Limits.{is_small, is_small_positive, is_expr_within, is_op_within, is_body_within}
-use Rattle.icode.specs.Plain.{PlainBody, PlainExpr, PlainOp, NoStmts, AndStmts, Loop, Do, Load, Store, Add, MulTable}
+use Rattle.icode.specs.Limits.{is_small, is_expr_within, is_op_within, is_body_within}
+use Rattle.icode.specs.Plain.{PlainBody, PlainExpr, NoStmts, AndStmts, Loop, Do, Load, Add, MulTable}
 use Rattle.kernel_gen.specs.Instructions.{AreWithin, IsWithin, op_of}
 use Rattle.kernel_gen.specs.declared.straight.Instruction.{Instruction}
 use Rattle.kernel_gen.specs.declared.straight.Instruction.TheVariants as instructions

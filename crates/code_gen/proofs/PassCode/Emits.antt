@@ -5,7 +5,7 @@ use Rattle.std.specs.List.{range_with_len}
 use Rattle.std.proofs.lemmas.List.Concat.{flat_map-append}
 use Rattle.std.proofs.lemmas.List.Elements.{All-nil, All-cons, All-append}
 use Rattle.icode.specs.declared.action.Action.{Action}
-use Rattle.icode.specs.Actions.{Step, step_of, steps_of_body, actions_of}
+use Rattle.icode.specs.Actions.{Step, steps_of_body, actions_of}
 use Rattle.icode.specs.Plain.{PlainBody, PlainOp, PlainProgram, NoStmts, AndStmts, Loop, Do}
 use Rattle.icode.specs.CodeLaws.Nests.{bodies, nest, AreInRange}
 use Rattle.icode.proofs.CodeLaws.Statements.{range-last}
@@ -63,10 +63,6 @@ module _ (p : PlainProgram) (q : ℕ) where
   emits-in_a_row zero body vs acts h = emits-none
   emits-in_a_row (suc n) body vs acts h =
       emits-followed (in_a_row n body) (body n) vs (bodies n acts) (acts n) (emits-in_a_row n body vs acts (λ k below. h k (omega arith))) (h n (omega arith))
-
-  pub emits-do : (op : PlainOp) (vs : List ℕ) (a : Action) → (step_of p op vs q).action ≡ a →
-      IsInside (step_of p op vs q) → Emits (steps_of_body p (do_only op) vs q) (a ∷ [])
-  emits-do op vs a is within = emits-one (step_of p op vs q) a is within
 
   -- an operation, and what follows it
   pub emits-then : (op : PlainOp) (rest : PlainBody) (vs : List ℕ) (a : Action) (acts : List Action) →

@@ -4,7 +4,7 @@ use Rattle.std.proofs.Common.{sym, ap, ◌∙◌, arith, mod-lt, subst}
 use Rattle.std.specs.Prelude.{slice_index, slice_index_or, Option, Some, None}
 use Rattle.std.specs.List.{range_with_len}
 use Rattle.icode.specs.declared.action.Action.{Action}
-use Rattle.icode.specs.declared.action.Action.TheVariants.{Load, Store, Zero, Add, Mul, Tile}
+use Rattle.icode.specs.declared.action.Action.TheVariants.{Load, Store, Zero, Add, Mul}
 use Rattle.icode.specs.declared.program.Array.{Array}
 use Rattle.icode.specs.Actions.{Step, plain, lane_factors, step_of, steps_of_body}
 use Rattle.icode.specs.Expression.{sum_numbers}
@@ -12,18 +12,17 @@ use Rattle.icode.specs.Plain.{PlainBody, PlainExpr, PlainProgram, AndStmts, Do, 
 use Rattle.icode.specs.Plain as statements
 use Rattle.icode.specs.CodeLaws.Nests.{bodies, loads}
 use Rattle.kernel_gen.specs.Instructions.{action_by, actions_by, op_of}
-use Rattle.kernel_gen.specs.Making.{Made}
 use Rattle.kernel_gen.specs.declared.straight.Instruction.{Instruction}
 use Rattle.kernel_gen.proofs.Instructions.{step-is}
 use Rattle.operators.proofs.Lists.{length-list_below, at-list_below}
-use Rattle.code_gen.specs.PassActions.Acts.{load_at, store_at, factors_at, finish_acts, made_acts, tile_acts, rows_acts}
+use Rattle.code_gen.specs.PassActions.Acts.{load_at, store_at, factors_at, finish_acts, rows_acts}
 use Rattle.code_gen.specs.PassActions.Acts.{items_acts, term_acts, horner_acts}
 use Rattle.code_gen.specs.PassCode.Conditions.{IsInside}
 use Rattle.operators.specs.declared.target.Target.{Target}
 use Rattle.sigma_spl.specs.Shared.Machine.{frame_of, item_of, values_of, loop_counts}
 use Rattle.code_gen.specs.PassCode.Statements.{diagonal_of, one_factor, powers_of, product_op, do_only, in_a_row}
-use Rattle.code_gen.specs.PassCode.Statements.{followed_by, place_at, finish_body, straight_body, loads_body, made_body}
-use Rattle.code_gen.specs.PassCode.Statements.{tile_body, rows_body, items_body, loop_value, product_place, term_body}
+use Rattle.code_gen.specs.PassCode.Statements.{followed_by, place_at, finish_body, straight_body, loads_body}
+use Rattle.code_gen.specs.PassCode.Statements.{rows_body, items_body, loop_value, product_place, term_body}
 use Rattle.code_gen.specs.PassCode.Statements.{horner_body}
 use Rattle.code_gen.proofs.PassCode.Coded.{IsCoded}
 use Rattle.code_gen.proofs.PassCode.Emits.{Emits, emits-none, emits-one, emits-append, emits-followed, emits-in_a_row}

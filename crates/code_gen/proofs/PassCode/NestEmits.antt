@@ -1,5 +1,5 @@
 -- The places of a nest are coded, and its statements are its actions.
-use Rattle.std.proofs.Common.{◌≡◌, ℕ, zero, suc, ◌+◌, ◌-◌, ◌*◌, ◌/◌, ◌%◌, ◌<◌, ◌≤◌, List, [], ◌∷◌, ◌++◌, length, refl}
+use Rattle.std.proofs.Common.{◌≡◌, ℕ, ◌+◌, ◌-◌, ◌*◌, ◌/◌, ◌%◌, ◌<◌, ◌≤◌, List, [], ◌∷◌, ◌++◌, length, refl}
 use Rattle.std.proofs.Common.{sym, ap, ap₂, ◌∙◌, arith, subst, length-append, append_assoc, append-nil, inl, inr, ◌⊎◌}
 use Rattle.std.specs.Prelude.{slice_index, slice_index_or, Option, Some, None}
 use Rattle.icode.specs.declared.program.Array.{Array}
@@ -26,7 +26,7 @@ use Rattle.code_gen.proofs.PassCode.Emits.{Emits, emits-nested}
 use Rattle.code_gen.proofs.PassCode.Emitted.{IsLoadedAt, IsStoredAt, emits-body, emits-plain, emits-rows, emits-items}
 use Rattle.code_gen.proofs.PassCode.Emitted.{emits-term, emits-horner, emits-straight}
 use Rattle.code_gen.proofs.PassActions.Fillings.{working}
-use Rattle.code_gen.proofs.PassActions.Framed.{copy-framed, in_counts, item-below, load-below, of_code, store-below}
+use Rattle.code_gen.proofs.PassActions.Framed.{copy-framed, item-below, load-below, of_code, store-below}
 use Rattle.loop_nests.proofs.Frames.{loops-are}
 use Rattle.code_gen.proofs.PassCode.Places.{IsFor, start_of}
 use Rattle.code_gen.proofs.PassCode.SharedTables.{multiplier-extends, number-stays, number-there}

@@ -1,6 +1,6 @@
 -- The numbers of expressions: the value is the sum's, and no number on the way is great.
 use Rattle.std.proofs.Common.{◌≡◌, ℕ, zero, suc, ◌+◌, ◌*◌, ◌/◌, ◌%◌, ◌<◌, ◌≤◌, Bool, true, false, inl, inr, arith, refl}
-use Rattle.std.proofs.Common.{sym, ap, ap₂, ◌∙◌, List, max, if◌then◌else◌, mul-zero, mul_comm, subst}
+use Rattle.std.proofs.Common.{sym, ap, ap₂, ◌∙◌, List, max, if◌then◌else◌, mul-zero, mul_comm}
 use Rattle.std.specs.Prelude.{slice_index, ◌==◌}
 use Rattle.std.proofs.Math.Nat.{mul-add}
 use Rattle.std.proofs.lemmas.Bool.{cases_eq, cases_lt}
@@ -185,13 +185,13 @@ variables-value f (suc k) d e ps vs q =
 
 processor-value : (f : PlainFrame) (e : Sum) (ps : PlainParts) (vs : List ℕ) (q : ℕ) →
     (parts_numbers (processor_of f e ps) vs q).value ≡ processor_value f e q + (parts_numbers ps vs q).value
-processor-value f e ps vs q = either f.shared
-  where
-    either : (b : Bool) →
-        (parts_numbers (if b then with_factor_of (factor_at 0 e) (Proc (factor_at 0 e)) ps else ps) vs q).value
-        ≡ (if b then q * factor_at 0 e else 0) + (parts_numbers ps vs q).value
-    either true = part-value (factor_at 0 e) q (Proc (factor_at 0 e)) ps vs q refl
-    either false = omega arith
+processor-value f e ps vs q =
+    elim f.shared as (λ b.
+    (parts_numbers (if b then with_factor_of (factor_at 0 e) (Proc (factor_at 0 e)) ps else ps) vs q).value
+    ≡ (if b then q * factor_at 0 e else 0) + (parts_numbers ps vs q).value) [
+      | true ↦ part-value (factor_at 0 e) q (Proc (factor_at 0 e)) ps vs q refl
+      | false ↦ omega arith
+    ]
 
 module _ (f : PlainFrame) (n : ℕ) (all : ℕ → ℕ) (vs : List ℕ) (q : ℕ) (no_more : AreNoMore (f.first_loop + n) all)
     (framed : IsFramedBy f all (slice_index vs) q) where

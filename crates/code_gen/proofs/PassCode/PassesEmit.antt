@@ -1,6 +1,6 @@
 -- The statements of passes are their actions.
-use Rattle.std.proofs.Common.{◌≡◌, ℕ, ◌^◌, ◌<◌, ◌≤◌, List, [], ◌∷◌, ◌++◌, length, true, refl, sym, ap, ◌∙◌, arith}
-use Rattle.std.proofs.Common.{append_assoc, append-nil, Contains}
+use Rattle.std.proofs.Common.{◌≡◌, ℕ, ◌^◌, ◌<◌, ◌≤◌, List, [], ◌∷◌, ◌++◌, length, true, refl, ap, ◌∙◌, arith}
+use Rattle.std.proofs.Common.{append_assoc, Contains}
 use Rattle.std.proofs.lemmas.List.Elements.{All-contains}
 use Rattle.icode.proofs.Lines.{Contains-head, Contains-tail}
 use Rattle.icode.specs.declared.program.Array.{Array}

@@ -5,12 +5,12 @@ use Rattle.std.specs.Prelude.{slice_index, slice_index_or}
 use Rattle.std.proofs.Math.Nat.{lt-div-mul-add}
 use Rattle.icode.specs.declared.action.Action.TheVariants as actions
 use Rattle.icode.specs.declared.program.Array.{Array}
-use Rattle.icode.specs.Actions.{array_start, lane_factors, steps_of_body}
+use Rattle.icode.specs.Actions.{array_start, lane_factors, step_of, steps_of_body}
 use Rattle.icode.specs.Expression.{sum_numbers}
 use Rattle.icode.specs.Machine.{whole_lines}
 use Rattle.icode.specs.Plain.{PlainExpr, PlainProgram, Load, Store, MulTable}
 use Rattle.code_gen.specs.PassCode.Statements.{do_only, place_at}
-use Rattle.code_gen.proofs.PassCode.Emits.{Emits, emits-do}
+use Rattle.code_gen.proofs.PassCode.Emits.{Emits, emits-one}
 use Rattle.operators.specs.declared.target.Target.{Target}
 use Rattle.sigma_spl.specs.Shared.Machine.{PlainFrame}
 use Rattle.code_gen.proofs.PassCode.Coded.{IsCoded}
@@ -59,14 +59,14 @@ module _ (c : Target) (p : PlainProgram) (here : IsFor c p) (q : ℕ) where
     pub emits-load : Emits (steps_of_body p (do_only (Load r array (place_at f open_loops sums i))) vs q)
         (actions.Load r (start_of c array + place) ∷ [])
     emits-load =
-        emits-do p q (Load r array (place_at f open_loops sums i)) vs (actions.Load r (start_of c array + place))
+        emits-one (step_of p (Load r array (place_at f open_loops sums i)) vs q) (actions.Load r (start_of c array + place))
         (ap (actions.Load r) (start-is array place _ coded.value_is))
         (record { numbers = coded.peak_fits; place = words-inside place _ coded.value_is inside })
 
     pub emits-store : Emits (steps_of_body p (do_only (Store array (place_at f open_loops sums i) r)) vs q)
         (actions.Store (start_of c array + place) r ∷ [])
     emits-store =
-        emits-do p q (Store array (place_at f open_loops sums i) r) vs (actions.Store (start_of c array + place) r)
+        emits-one (step_of p (Store array (place_at f open_loops sums i) r) vs q) (actions.Store (start_of c array + place) r)
         (ap (λ (a : ℕ). actions.Store a r) (start-is array place _ coded.value_is))
         (record { numbers = coded.peak_fits; place = words-inside place _ coded.value_is inside })
 
@@ -87,7 +87,7 @@ module _ (c : Target) (p : PlainProgram) (here : IsFor c p) (q : ℕ) where
   emits-product r x table step e entries vs place factor is peak there inside h =
       let size = ap (λ (us : List ℕ). length us) there in
       let lanes : step * (p.lanes - 1) ≡ step * (c.lanes - 1) = ap (λ (n : ℕ). step * (n - 1)) here.lanes in
-      emits-do p q (MulTable r x table e step) vs (actions.Mul r x (lane_factors c.lanes factor))
+      emits-one (step_of p (MulTable r x table e step) vs q) (actions.Mul r x (lane_factors c.lanes factor))
       (ap (λ (us : List ℕ). actions.Mul r x (lane_factors p.lanes (λ lane. slice_index us ((sum_numbers e vs q).value + step * lane)))) there
       ∙ ap (actions.Mul r x) (entries-are entries _ place step factor is h))
       (record { numbers = peak; place = omega (arith, size, lanes) })

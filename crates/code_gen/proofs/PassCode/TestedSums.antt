@@ -1,6 +1,6 @@
 -- Sums that pass merging's test are coded.
 use Rattle.std.proofs.Common.{◌≡◌, ℕ, ◌+◌, ◌*◌, ◌^◌, ◌<◌, ◌≤◌, true, inl, inr, arith}
-use Rattle.std.specs.Prelude.{nat_lt, nat_le, max, ◌&&◌}
+use Rattle.std.specs.Prelude.{nat_lt, max, ◌&&◌}
 use Rattle.std.proofs.Math.Nat.{mul-le-mul, mul-le-mul_right}
 use Rattle.std.proofs.lemmas.Bool.{and_parts, cases_eq, ltb-true}
 use Rattle.std.proofs.lemmas.Bool.Decides.{nat_tests}
@@ -10,7 +10,7 @@ use Rattle.code_gen.specs.PassCode.Conditions.{CanWrite, DividesWords}
 use Rattle.code_gen.specs.PassCode.Expressions.{factor_at}
 use Rattle.code_gen.specs.PassCode.Small.{DividesSmall, HasSmall, IsSmallPositive, TestedSumsAreCoded}
 use Rattle.code_gen.proofs.PassCode.Writing.{factor-same, factor-other}
-use Rattle.sigma_spl.specs.Merge.{total, is_divided, are_small, is_limited}
+use Rattle.sigma_spl.specs.Merge.{total, is_divided, are_small}
 use Rattle.sigma_spl.proofs.Limited.{tested}
 
 -- ---- what the tests say

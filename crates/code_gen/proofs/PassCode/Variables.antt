@@ -1,12 +1,12 @@
 -- The values of all variables of a nest: those of its frame, and those of its loops.
-use Rattle.std.proofs.Common.{◌≡◌, ℕ, zero, suc, ◌+◌, ◌-◌, ◌<◌, ◌≤◌, Bool, true, false, arith, refl, ap, ◌∙◌, List, []}
+use Rattle.std.proofs.Common.{◌≡◌, ℕ, zero, suc, ◌+◌, ◌-◌, ◌<◌, Bool, true, false, arith, refl, ap, ◌∙◌, List, []}
 use Rattle.std.proofs.Common.{◌∷◌, ◌++◌, length, if◌then◌else◌, append_assoc}
 use Rattle.std.specs.Prelude.{slice_index, not, ◌==◌}
 use Rattle.std.proofs.lemmas.Bool.{false≢true}
 use Rattle.std.proofs.lemmas.List.{get_or_past}
 use Rattle.icode.specs.CodeLaws.Nests.{AreInRange}
 use Rattle.operators.specs.declared.target.Target.{Target}
-use Rattle.sigma_spl.specs.Shared.Machine.{one_if_several, first_loop, frame_of, if_several, values_of}
+use Rattle.sigma_spl.specs.Shared.Machine.{first_loop, frame_of, if_several, values_of}
 use Rattle.code_gen.proofs.PassCode.Numbers.{IsFramedBy, AreNoMore}
 use Rattle.sigma_spl.specs.Work.{PlainWork, kernel, rows, horner, tile, copy}
 

@@ -1,7 +1,6 @@
 -- Expressions stand within the limits of programs.
 use Rattle.std.proofs.Common.{◌≡◌, ℕ, zero, suc, ◌+◌, ◌^◌, ◌<◌, ◌≤◌, Bool, true, false, inl, inr, arith, refl, sym, ap}
-use Rattle.std.proofs.Common.{ap₂, ◌∙◌, if◌then◌else◌, subst, nat_lt}
-use Rattle.std.specs.Prelude.{◌&&◌, nat_le}
+use Rattle.std.proofs.Common.{ap₂, ◌∙◌, if◌then◌else◌, subst}
 use Rattle.std.proofs.lemmas.Bool.{and_from, cases_eq, le-leb, lt-ltb}
 use Rattle.icode.specs.Limits.{is_small_positive, is_sum_within, are_parts_within, is_part_within, rank, next_rank}
 use Rattle.icode.specs.Limits.{sum_parts, all_parts, part_parts, sum_depth, parts_depth, part_depth}
@@ -45,12 +44,14 @@ variables-within f n (suc k) d least e ps few enough low small last =
 
 processor-within : (f : PlainFrame) (n : ℕ) (e : Sum) (ps : PlainParts) → ((i : ℕ) → factor_at i e < 2 ^ 32) →
     are_parts_within ps n 0 ≡ true → are_parts_within ps n 1 ≡ true → are_parts_within (processor_of f e ps) n 0 ≡ true
-processor-within f n e ps small first behind = either f.shared
-  where
-    either : (b : Bool) → are_parts_within (if b then with_factor_of (factor_at 0 e) (Proc (factor_at 0 e)) ps else ps)
-        n 0 ≡ true
-    either true = part-within (factor_at 0 e) n 0 (Proc (factor_at 0 e)) ps (omega arith) (λ some. small-positive (factor_at 0 e) some (small 0)) first behind
-    either false = first
+processor-within f n e ps small first behind =
+    elim f.shared as (λ b. are_parts_within
+    (if b then with_factor_of (factor_at 0 e) (Proc (factor_at 0 e)) ps else ps) n 0 ≡ true) [
+      | true ↦
+          part-within (factor_at 0 e) n 0 (Proc (factor_at 0 e)) ps (omega arith)
+          (λ some. small-positive (factor_at 0 e) some (small 0)) first behind
+      | false ↦ first
+    ]
 
 -- what is within the limits after remainders too
 abbrev StandAfter : ℕ → PlainParts → Type 0
@@ -176,11 +177,8 @@ no-variables f zero d c ps = refl
 no-variables f (suc k) d c ps = no-variables f k (d + 1) c ps
 
 no-processor : (f : PlainFrame) (c : ℕ) (ps : PlainParts) → processor_of f (constant c) ps ≡ ps
-no-processor f c ps = either f.shared
-  where
-    either : (b : Bool) → (if b then with_factor_of 0 (Proc 0) ps else ps) ≡ ps
-    either true = refl
-    either false = refl
+no-processor f c ps =
+    elim f.shared as (λ b. (if b then with_factor_of 0 (Proc 0) ps else ps) ≡ ps) [ | true ↦ refl | false ↦ refl ]
 
 -- the variables at the outer level, and the parts of remainders and of quotients
 abbrev outer_variables : Sum → ℕ
@@ -259,12 +257,12 @@ variables-depth f (suc k) d e ps =
     depth-with (factor_at (f.first_loop + d) e) (Var d (factor_at (f.first_loop + d) e)) (variables_of f k (d + 1) e ps) refl ∙ variables-depth f k (d + 1) e ps
 
 processor-depth : (f : PlainFrame) (e : Sum) (ps : PlainParts) → parts_depth (processor_of f e ps) ≡ parts_depth ps
-processor-depth f e ps = either f.shared
-  where
-    either : (b : Bool) → parts_depth (if b then with_factor_of (factor_at 0 e) (Proc (factor_at 0 e)) ps else ps)
-        ≡ parts_depth ps
-    either true = depth-with (factor_at 0 e) (Proc (factor_at 0 e)) ps refl
-    either false = refl
+processor-depth f e ps =
+    elim f.shared as (λ b. parts_depth (if b then with_factor_of (factor_at 0 e) (Proc (factor_at 0 e)) ps else ps)
+    ≡ parts_depth ps) [
+      | true ↦ depth-with (factor_at 0 e) (Proc (factor_at 0 e)) ps refl
+      | false ↦ refl
+    ]
 
 expr-depth : (f : PlainFrame) (n : ℕ) (e : Sum) → sum_depth (expr_of f n e) ≡ parts_depth (divisions_of f n e)
 expr-depth f n e = processor-depth f e (variables_of f n 0 e (divisions_of f n e)) ∙ variables-depth f n 0 e (divisions_of f n e)

@@ -14,20 +14,15 @@ use Rattle.icode.specs.Machine.{touched_lines}
 use Rattle.icode.specs.declared.action.Action.{Action}
 use Rattle.icode.specs.declared.action.Action.TheVariants.{Load, Store, Zero, Add, Sub, Neg, Mul, Tile}
 use Rattle.icode.specs.declared.program.Array.{Array}
-use Rattle.icode.specs.declared.program.Array.TheVariants.{X, Y, A, B}
+use Rattle.icode.specs.declared.program.Array.TheVariants.{X}
 use Rattle.icode.proofs.End.{acts_past}
 use Rattle.icode.proofs.Lines.{Contains-nil}
-use Rattle.icode.specs.CodeLaws.Nests.{AreInRange}
 use Rattle.code_gen.specs.PassActions.Acts.{pass_acts}
 use Rattle.code_gen.specs.PassCode.Conditions.{CanWritePass}
 use Rattle.sigma_spl.specs.Shared.Owners.{IsOwner}
-use Rattle.sigma_spl.specs.Shared.Running.{CanRunNest}
 use Rattle.operators.specs.declared.target.Target.{Target}
-use Rattle.sigma_spl.specs.Shared.Machine.{item_of, values_of}
 use Rattle.code_gen.proofs.PassActions.Copies.{loaded-below, stored-below}
 use Rattle.code_gen.proofs.PassActions.Every.{StaysInRegisters, every}
-use Rattle.sigma_spl.specs.Nest.{PlainNest, load_place, store_place}
-use Rattle.sigma_spl.specs.Work.{work_size, vectors_of}
 use Rattle.code_gen.specs.PassCode.Program.{written_array, array_after, count_in}
 use Rattle.code_gen.proofs.WholePrograms.Arrays.{number, IsOther, start-is, target-other}
 use Rattle.code_gen.proofs.WholePrograms.Known.{Pass, AllFrom, AllKnown, PhasesKnown, at-phase, passes_acts}

@@ -3,7 +3,7 @@ use Rattle.std.proofs.Common.{◌≡◌, ℕ, zero, suc, ◌+◌, ◌*◌, ◌<�
 use Rattle.std.proofs.Common.{ap, arith, subst, length-append, mul-le-mul_left}
 use Rattle.std.proofs.lemmas.Bool.{cases_lt}
 use Rattle.operators.proofs.Sums.{mul-sum_below}
-use Rattle.std.proofs.lemmas.List.Elements.{All-append, All-cons}
+use Rattle.std.proofs.lemmas.List.Elements.{All-append, All-cons, All-weaker}
 use Rattle.icode.specs.Actions.{Step, StepFits, actions_of, array_start}
 use Rattle.icode.specs.Plain.{PlainProgram}
 use Rattle.icode.specs.declared.action.Action.{Action}
@@ -32,10 +32,6 @@ fit-wider regs more lanes m (actions.Neg r x) le h = record { registers = (let l
 fit-wider regs more lanes m (actions.Mul r x f) le h = record { registers = (let low = h.registers.0 in omega (arith, low, le), let low = h.registers.1 in omega (arith, low, le)); factors = h.factors }
 fit-wider regs more lanes m (actions.Tile r x) le h =
     record { registers = (let low = h.registers.0 in omega (arith, low, le), let low = h.registers.1 in omega (arith, low, le), h.registers.2); factors = h.factors }
-
-all-wider : (regs more lanes m : ℕ) (xs : List Action) → regs ≤ more → All (IsFit regs lanes m) xs →
-    All (IsFit more lanes m) xs
-all-wider regs more lanes m xs le h = λ k d below. fit-wider regs more lanes m _ le (h k d below)
 
 -- steps at places that are inside, whose actions fit, fit
 pub steps-fit : (program : PlainProgram) (xs : List Step) → All IsInside xs →
@@ -86,7 +82,9 @@ module _ (c : Target) (words : ℕ) where
       let from = array_start words source in
       let target = written_array t (after + length ps) in
       All-append (IsFit regs c.lanes c.modulus) (pass_acts c p from (array_start words target) q) (passes_acts c words after ps (suc t) target q)
-      (all-wider (pass_registers c.modulus p) regs c.lanes c.modulus (pass_acts c p from (array_start words target) q) (omega (arith, le)) ((runs-of c p known.0).fit from (array_start words target) q low))
+      (All-weaker (IsFit (pass_registers c.modulus p) c.lanes c.modulus) (IsFit regs c.lanes c.modulus)
+      (λ x. fit-wider (pass_registers c.modulus p) regs c.lanes c.modulus x (omega (arith, le))) _
+      ((runs-of c p known.0).fit from (array_start words target) q low))
       (parts-fit regs after ps (suc t) target q low known.1 (omega (arith, le)))
 
   -- the actions of all processors together are not too many

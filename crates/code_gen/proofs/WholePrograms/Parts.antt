@@ -1,10 +1,8 @@
 -- The actions of each processor are one part for each pass, between the pass's arrays.
-use Rattle.std.proofs.Common.{◌≡◌, ℕ, suc, ◌+◌, ◌-◌, ◌<◌, ◌≤◌, List, [], ◌∷◌, ◌++◌, length, flat_map, refl, sym, ap}
-use Rattle.std.proofs.Common.{ap₂, ◌∙◌, arith, append_assoc, length-append, subst, Contains, All}
-use Rattle.std.specs.List.{range_with_len}
-use Rattle.icode.specs.CodeLaws.Nests.{AreInRange}
+use Rattle.std.proofs.Common.{◌≡◌, ℕ, suc, ◌+◌, ◌-◌, ◌<◌, ◌≤◌, List, [], ◌∷◌, ◌++◌, length, refl, sym, ap}
+use Rattle.std.proofs.Common.{◌∙◌, arith, length-append, subst, All}
 use Rattle.icode.specs.Actions.{array_start}
-use Rattle.icode.specs.Machine.{Code, acts, whole_lines}
+use Rattle.icode.specs.Machine.{Code, whole_lines}
 use Rattle.icode.specs.declared.action.Action.{Action}
 use Rattle.icode.specs.declared.action.Action.TheVariants.{Load, Store, Zero, Add, Sub, Neg, Mul, Tile}
 use Rattle.icode.specs.declared.program.Array.{Array}
@@ -12,14 +10,10 @@ use Rattle.code_gen.specs.PassActions.Acts.{pass_acts}
 use Rattle.code_gen.specs.PassCode.Conditions.{CanWritePass}
 use Rattle.code_gen.specs.PassCode.Contract.{AreParts, ArePhaseParts, IsPart, Stays, in_a_row, joined}
 use Rattle.sigma_spl.specs.Shared.Owners.{all_passes}
-use Rattle.sigma_spl.specs.Shared.Running.{CanRunNest}
 use Rattle.operators.specs.declared.target.Target.{Target}
-use Rattle.sigma_spl.specs.Shared.Machine.{item_of, values_of}
 use Rattle.code_gen.specs.PassCode.Program.{array_after, count_in, written_array}
 use Rattle.code_gen.proofs.PassActions.Copies.{loaded-below, stored-below}
 use Rattle.code_gen.proofs.PassActions.Every.{StaysInRegisters, every}
-use Rattle.sigma_spl.specs.Nest.{PlainNest}
-use Rattle.sigma_spl.specs.Work.{vectors_of}
 use Rattle.code_gen.proofs.WholePrograms.Known.{Pass, AllKnown, PhasesKnown, passes-count, passes_acts, runs-of}
 use Rattle.code_gen.proofs.WholePrograms.Phases.{RunsPhases}
 

@@ -1,18 +1,17 @@
 -- The program of merged passes does what they do.
-use Rattle.std.proofs.Common.{◌≡◌, ℕ, zero, suc, ◌+◌, ◌*◌, ◌-◌, ◌/◌, ◌^◌, ◌<◌, ◌≤◌, All, inl, inr, true, ◌&&◌, nat_lt}
-use Rattle.std.proofs.Common.{List, [], ◌∷◌, ◌++◌, length, map, flat_map, replicate, refl, sym, ap, ap₂, ◌∙◌, arith}
-use Rattle.std.proofs.Common.{append-nil, length-append, subst, mul-le-mul_right}
+use Rattle.std.proofs.Common.{◌≡◌, ℕ, suc, ◌+◌, ◌*◌, ◌-◌, ◌/◌, ◌^◌, ◌<◌, ◌≤◌, All, inl, inr, ◌&&◌}
+use Rattle.std.proofs.Common.{List, [], ◌∷◌, ◌++◌, length, replicate, refl, sym, ap, ap₂, ◌∙◌, arith}
+use Rattle.std.proofs.Common.{append-nil, length-append, subst}
 use Rattle.std.specs.Prelude.{slice_index, slice_index_or, IsTrue}
-use Rattle.std.specs.List.{list_all, range_with_len}
+use Rattle.std.specs.List.{list_all}
 use Rattle.std.proofs.lemmas.Bool.{cases_lt, lt-ltb}
 use Rattle.std.proofs.lemmas.List.{length-replicate, length-map, get_or-replicate, get_or_append_left, get_or_past}
 use Rattle.std.proofs.lemmas.List.FromFn.{fill_by_all}
 use Rattle.icode.proofs.CodeLaws.Placing.{slice_index-words_at}
 use Rattle.icode.specs.Actions.{array_start, StepFits, PlainFits, actions_of, plain_code, steps_of_body, steps_of_phase}
 use Rattle.icode.specs.Limits.{IsWithinLimits, is_body_within}
-use Rattle.icode.specs.Machine.{Code, IsApart, Whole, acts, phases_alone, results, runs, start, whole_lines, words_at}
-use Rattle.icode.specs.Plain.{PlainBody, PlainProgram, NoStmts}
-use Rattle.icode.specs.declared.action.Action.{Action}
+use Rattle.icode.specs.Machine.{Code, IsApart, Whole, phases_alone, results, runs, start, whole_lines, words_at}
+use Rattle.icode.specs.Plain.{PlainProgram, NoStmts}
 use Rattle.icode.specs.declared.program.Array.{Array}
 use Rattle.icode.specs.declared.program.Array.TheVariants.{X}
 use Rattle.icode.proofs.Lists.{code_is}

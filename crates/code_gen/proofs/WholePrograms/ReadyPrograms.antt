@@ -1,6 +1,6 @@
 -- A program can be made of passes that are ready.
-use Rattle.std.proofs.Common.{◌≡◌, ℕ, suc, ◌+◌, ◌^◌, ◌<◌, ◌≤◌, Bool, true, false, arith, refl, sym, ap, ◌∙◌, List, []}
-use Rattle.std.proofs.Common.{◌∷◌, ◌++◌, length, All, subst, if◌then◌else◌}
+use Rattle.std.proofs.Common.{◌≡◌, ℕ, ◌+◌, ◌≤◌, arith, List, []}
+use Rattle.std.proofs.Common.{◌∷◌, ◌++◌, length}
 use Rattle.std.specs.Prelude.{Option, Some, None}
 use Rattle.std.proofs.lemmas.List.Elements.{All-weaker}
 use Rattle.operators.specs.declared.target.Target.{Target}
@@ -15,9 +15,8 @@ use Rattle.code_gen.proofs.PassCode.SharedTables.{with_table-length}
 use Rattle.code_gen.specs.PassCode.Conditions.{CanWritePass}
 use Rattle.code_gen.specs.PassCode.Contract.{CanProgram}
 use Rattle.code_gen.specs.PassCode.Program.{tables_of_phases, tables_through}
-use Rattle.code_gen.specs.PassCode.Statements.{diagonal_of, is_table, one_factor, powers_of, tables_after}
+use Rattle.code_gen.specs.PassCode.Statements.{diagonal_of, one_factor, powers_of, tables_after}
 use Rattle.code_gen.specs.PassCode.Statements.{tables_of_multiplier, tables_of_nest, tables_of_work, with_diagonal}
-use Rattle.code_gen.specs.PassCode.Statements.{with_table}
 
 -- ---- the tables of passes: powers and diagonals
 

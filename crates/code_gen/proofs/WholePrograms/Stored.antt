@@ -1,20 +1,19 @@
 -- Each word of the array is stored by a processor.
-use Rattle.std.proofs.Common.{◌≡◌, ◌≢◌, ℕ, zero, suc, ◌%◌, ◌<◌, ◌≤◌, Bool, true, false, refl, List, [], ◌∷◌, ◌++◌, map}
-use Rattle.std.proofs.Common.{sym, ◌∙◌, arith, subst, inl, inr, mod-lt, Contains, if◌then◌else◌}
+use Rattle.std.proofs.Common.{◌≡◌, ◌≢◌, ℕ, zero, suc, ◌<◌, ◌≤◌, refl, List, [], ◌∷◌, ◌++◌, map}
+use Rattle.std.proofs.Common.{sym, ap, ◌∙◌, arith, subst, inl, inr, Contains, if◌then◌else◌}
 use Rattle.std.specs.Prelude.{slice_index, ◌==◌}
 use Rattle.std.proofs.lemmas.Bool.{cases_eq, cases_lt}
 use Rattle.std.proofs.lemmas.Bool.Decides.{nat_tests}
 use Rattle.icode.specs.CodeLaws.Nests as nests
 use Rattle.operators.specs.Sum.{sum_below}
-use Rattle.operators.proofs.Lists.{at-list_below}
 use Rattle.icode.proofs.Lines.{Contains-head, Contains-tail}
 use Rattle.sigma_spl.specs.Shared.Running.{CanRun, IsStoredBy}
 use Rattle.operators.specs.declared.target.Target.{Target}
 use Rattle.sigma_spl.specs.Shared.Machine.{framed_lanes, if_several}
 use Rattle.sigma_spl.proofs.Walk.{nests-vector}
 use Rattle.code_gen.proofs.PassActions.Copies.{modulus-some, nest-can}
-use Rattle.code_gen.proofs.PassActions.Framed.{in_counts}
-use Rattle.sigma_spl.specs.Copies.{loops_of, hits, all_stored}
+use Rattle.code_gen.proofs.PassActions.Framed.{first_value, in_counts, under-several}
+use Rattle.sigma_spl.specs.Copies.{loops_of, hits}
 use Rattle.sigma_spl.specs.Nest.{PlainNest, copies_of, store_place, nests_on}
 use Rattle.sigma_spl.specs.Work.{work_size}
 use Rattle.operators.specs.TensorPaths.Loop.{nest_sum, loop_at}
@@ -67,15 +66,10 @@ pass-hit m (z ∷ zs) w some =
 
 head-below : (n : ℕ) (counts vs : List ℕ) → n ≢ 1 → nests.AreInRange (if_several n n ++ counts) vs →
     slice_index vs 0 < n
-head-below n counts vs several range = by_test (n == 1) (grind (arith, nat_tests)) range
-  where
-    head : (us : List ℕ) → nests.AreInRange (n ∷ counts) us → slice_index us 0 < n
-    head [] r = absurd r
-    head (v ∷ us) r = r.0
-
-    by_test : (b : Bool) → b ≡ false → nests.AreInRange ((if b then [] else n ∷ []) ++ counts) vs → slice_index vs 0 < n
-    by_test true e r = absurd (grind (arith, e))
-    by_test false e r = head vs r
+head-below n counts vs several range =
+    let first = under-several n counts vs range in
+    subst (λ v. v < n) (sym (ap (λ us. slice_index us 0) first.joined ∙ first_value n first.value first.rest several))
+    first.below
 
 module _ (c : Target) (zs : List PlainNest) (can : CanRun c zs) where
   pub stored-by : (w : ℕ) → w < c.size → 0 < c.procs → (q : ℕ) × (q < c.procs) × IsStoredBy c zs q w

@@ -1,7 +1,7 @@
 -- The tables of passes are within the limits: each has an entry, and its entries are residues.
-use Rattle.std.proofs.Common.{◌≡◌, ℕ, ◌<◌, List, [], ◌∷◌, length, map, Bool, true, false, ◌&&◌, nat_lt, Option, Some}
-use Rattle.std.proofs.Common.{None, refl, ap₂, arith, Contains}
-use Rattle.std.specs.Prelude.{if◌then◌else◌, IsTrue}
+use Rattle.std.proofs.Common.{◌≡◌, ℕ, ◌<◌, List, [], ◌∷◌, length, map, ◌&&◌, nat_lt, Option, Some}
+use Rattle.std.proofs.Common.{None, refl, arith, Contains}
+use Rattle.std.specs.Prelude.{IsTrue}
 use Rattle.std.specs.List.{list_all, range_with_len}
 use Rattle.std.proofs.lemmas.Bool.{and_from, lt-ltb}
 use Rattle.sigma_spl.proofs.Walk.{and-left, and-right, chosen}
