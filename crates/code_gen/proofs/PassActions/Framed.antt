@@ -13,7 +13,7 @@ use Rattle.operators.specs.declared.target.Target.{Target}
 use Rattle.sigma_spl.specs.Shared.Machine.{if_several, loop_counts, item_of, values_of}
 use Rattle.sigma_spl.specs.Copies.{loops_of}
 use Rattle.sigma_spl.specs.Nest.{PlainNest}
-use Rattle.sigma_spl.specs.Work.{PlainWork, kernel, rows, horner, tile, copy, work_size, vectors_of}
+use Rattle.sigma_spl.specs.Work.{PlainWork, tile, work_size, vectors_of}
 use Rattle.operators.specs.TensorPaths.Path as paths
 
 -- ---- a variable that is left out where it has one value
@@ -81,26 +81,17 @@ module _ (c : Target) where
 
   range-framed : (w : PlainWork) (loops : List ℕ) (q lane : ℕ) (vs : List ℕ) → q < c.procs → lane < c.lanes →
       AreInRange loops vs → AreInRange (framed c w loops) (values_of c w q lane vs)
-  range-framed (kernel trees) loops q lane vs part there range = both-range loops q lane vs part there range
-  range-framed (rows root size) loops q lane vs part there range = both-range loops q lane vs part there range
-  range-framed (horner root size) loops q lane vs part there range = both-range loops q lane vs part there range
   range-framed (tile lanes) loops q lane vs part there range = range-several c.procs loops q vs part range
-  range-framed (copy size) loops q lane vs part there range = both-range loops q lane vs part there range
+  range-framed _ loops q lane vs part there range = both-range loops q lane vs part there range
 
   first-framed : (w : PlainWork) (q lane : ℕ) (vs : List ℕ) → c.procs ≢ 1 → slice_index (values_of c w q lane vs) 0 ≡ q
-  first-framed (kernel trees) q lane vs several = first_value c.procs q (if_several c.lanes lane ++ vs) several
-  first-framed (rows root size) q lane vs several = first_value c.procs q (if_several c.lanes lane ++ vs) several
-  first-framed (horner root size) q lane vs several = first_value c.procs q (if_several c.lanes lane ++ vs) several
   first-framed (tile lanes) q lane vs several = first_value c.procs q vs several
-  first-framed (copy size) q lane vs several = first_value c.procs q (if_several c.lanes lane ++ vs) several
+  first-framed _ q lane vs several = first_value c.procs q (if_several c.lanes lane ++ vs) several
 
   pub item-below : (w : PlainWork) (k lane : ℕ) → CanWork c w → k < vectors_of w → lane < c.lanes →
       item_of w k lane < work_size w
-  item-below (kernel trees) k lane can under there = under
-  item-below (rows root size) k lane can under there = under
-  item-below (horner root size) k lane can under there = under
   item-below (tile v) k lane can under there = place_below k lane v v under (omega (arith, can, there))
-  item-below (copy size) k lane can under there = under
+  item-below _ k lane can under there = under
 
 -- ---- values in range, by counts and by paths
 
@@ -155,14 +146,6 @@ beside_lane c w loops q us i under values-are item-is range first =
 on_lane : (c : Target) (w : PlainWork) (loops : List ℕ) (q : ℕ) (us : List ℕ) (i : ℕ) → CanWork c w →
     AreInRange (framed c w loops) us → (c.procs ≢ 1 → slice_index us 0 ≡ q) → i < work_size w →
     IsOnLane c w loops q us i
-on_lane c (kernel trees) loops q us i can range first below =
-    beside_lane c (kernel trees) loops q us i below (λ lane vs. refl) (λ lane. refl) range first
-on_lane c (rows root size) loops q us i can range first below =
-    beside_lane c (rows root size) loops q us i below (λ lane vs. refl) (λ lane. refl) range first
-on_lane c (horner root size) loops q us i can range first below =
-    beside_lane c (horner root size) loops q us i below (λ lane vs. refl) (λ lane. refl) range first
-on_lane c (copy size) loops q us i can range first below =
-    beside_lane c (copy size) loops q us i below (λ lane vs. refl) (λ lane. refl) range first
 on_lane c (tile v) loops q us i can range first below =
     let outer = under-several c.procs loops us range in
     let some : 0 < v = factor_positive v v i below in
@@ -176,6 +159,8 @@ on_lane c (tile v) loops q us i can range first below =
       copy_is = own_value c q us outer.value outer.rest outer.joined first;
       item = sym (div-add-mod' i v);
     }
+on_lane c w loops q us i can range first below =
+    beside_lane c w loops q us i below (λ lane vs. refl) (λ lane. refl) range first
 
 -- ---- a nest
 

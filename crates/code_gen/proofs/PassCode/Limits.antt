@@ -47,11 +47,9 @@ multiplier-small m None ts = omega arith
 multiplier-small m (Some d) ts = diagonal-small (one_factor d.factors) ts (diagonal_of m d.factors)
 
 powers-small : (m : ℕ) (w : PlainWork) (ts : List (List ℕ)) → powers_number m w ts ≤ length ts
-powers-small m (kernel k) ts = omega arith
 powers-small m (rows root n) ts = number-small ts (powers_of m root n)
 powers-small m (horner root n) ts = number-small ts (powers_of m root n)
-powers-small m (tile v) ts = omega arith
-powers-small m (copy n) ts = omega arith
+powers-small m _ ts = omega arith
 
 -- ---- work
 

@@ -4,7 +4,7 @@ use Rattle.std.proofs.Common.{inr, refl, sym, ap, ap₂, ◌∙◌, arith, appen
 use Rattle.std.specs.Prelude.{◌==◌, if◌then◌else◌, slice_index_or, Option, Some, None}
 use Rattle.std.proofs.lemmas.Bool.{cases_eq, eq-eqb, ne_eqb}
 use Rattle.sigma_spl.specs.Nest.{PlainMultiplier, PlainNest}
-use Rattle.sigma_spl.specs.Work.{PlainWork, kernel, rows, horner, tile, copy}
+use Rattle.sigma_spl.specs.Work.{PlainWork, rows, horner}
 use Rattle.sigma_spl.proofs.Walk.{chosen}
 use Rattle.code_gen.specs.PassCode.Statements.{diagonal_of, is_table, one_factor, powers_of, table_number}
 use Rattle.code_gen.specs.PassCode.Statements.{tables_of_multiplier, tables_of_nest, tables_of_work, with_diagonal}
@@ -126,11 +126,9 @@ multiplier-extends m None ts = extends-same ts
 multiplier-extends m (Some d) ts = diagonal-extends (one_factor d.factors) ts (diagonal_of m d.factors)
 
 pub work-extends : (m : ℕ) (w : PlainWork) (ts : List (List ℕ)) → Extends (tables_of_work m w ts) ts
-work-extends m (kernel k) ts = extends-same ts
 work-extends m (rows root n) ts = with_table-extends ts (powers_of m root n)
 work-extends m (horner root n) ts = with_table-extends ts (powers_of m root n)
-work-extends m (tile v) ts = extends-same ts
-work-extends m (copy n) ts = extends-same ts
+work-extends m _ ts = extends-same ts
 
 pub nest-extends : (m : ℕ) (z : PlainNest) (ts : List (List ℕ)) → Extends (tables_of_nest m z ts) ts
 nest-extends m z ts =

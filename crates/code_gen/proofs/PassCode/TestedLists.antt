@@ -12,7 +12,7 @@ use Rattle.code_gen.specs.PassCode.Small.{CanBeCoded, IsFrame}
 use Rattle.code_gen.proofs.PassCode.TestedSums.{tested_sums_are_coded}
 use Rattle.code_gen.proofs.PassCode.Within.{expressions_are_within}
 use Rattle.sigma_spl.specs.Merge.{is_limited}
-use Rattle.sigma_spl.specs.Work.{PlainWork, kernel, rows, horner, tile, copy}
+use Rattle.sigma_spl.specs.Work.{PlainWork, rows, horner}
 use Rattle.std.proofs.lemmas.List.Sums.{AllPass-from_list_all}
 use Rattle.perm_algebra.specs.Affine.{Sum}
 
@@ -48,8 +48,6 @@ sums-written room n cs h w open_loops sums shallow few high tested =
 -- ---- the loops that work opens
 
 pub inside-le : (w : PlainWork) → (loads_inside w ≤ 2) × (stores_inside w ≤ 2)
-inside-le (kernel trees) = (omega arith, omega arith)
 inside-le (rows root size) = (omega arith, omega arith)
 inside-le (horner root size) = (omega arith, omega arith)
-inside-le (tile lanes) = (omega arith, omega arith)
-inside-le (copy size) = (omega arith, omega arith)
+inside-le _ = (omega arith, omega arith)

@@ -8,7 +8,7 @@ use Rattle.icode.specs.CodeLaws.Nests.{AreInRange}
 use Rattle.operators.specs.declared.target.Target.{Target}
 use Rattle.sigma_spl.specs.Shared.Machine.{first_loop, frame_of, if_several, values_of}
 use Rattle.code_gen.proofs.PassCode.Numbers.{IsFramedBy, AreNoMore}
-use Rattle.sigma_spl.specs.Work.{PlainWork, kernel, rows, horner, tile, copy}
+use Rattle.sigma_spl.specs.Work.{PlainWork, tile}
 
 either-first : (b : Bool) (q : ℕ) (us : List ℕ) → (d : ℕ) → slice_index ((if b then [] else q ∷ []) ++ us)
     ((if b then 0 else 1) + d) ≡ slice_index us d
@@ -62,11 +62,8 @@ framed-two false g q us =
 module _ (c : Target) where
   pub framed-values : (w : PlainWork) (q : ℕ) (us : List ℕ) →
       IsFramedBy (frame_of c w) (slice_index (values_of c w q 0 us)) (slice_index us) q
-  framed-values (kernel trees) q us = framed-two (c.procs == 1) (c.lanes == 1) q us
-  framed-values (rows root size) q us = framed-two (c.procs == 1) (c.lanes == 1) q us
-  framed-values (horner root size) q us = framed-two (c.procs == 1) (c.lanes == 1) q us
   framed-values (tile v) q us = framed-two (c.procs == 1) true q us
-  framed-values (copy size) q us = framed-two (c.procs == 1) (c.lanes == 1) q us
+  framed-values _ q us = framed-two (c.procs == 1) (c.lanes == 1) q us
 
   several-append : (q : ℕ) (vs more : List ℕ) → (if_several c.procs q ++ (if_several c.lanes 0 ++ vs)) ++ more
       ≡ if_several c.procs q ++ (if_several c.lanes 0 ++ (vs ++ more))
@@ -74,11 +71,8 @@ module _ (c : Target) where
 
   pub values-append : (w : PlainWork) (q : ℕ) (vs more : List ℕ) →
       values_of c w q 0 vs ++ more ≡ values_of c w q 0 (vs ++ more)
-  values-append (kernel trees) q vs more = several-append q vs more
-  values-append (rows root size) q vs more = several-append q vs more
-  values-append (horner root size) q vs more = several-append q vs more
   values-append (tile v) q vs more = append_assoc (if_several c.procs q) vs more
-  values-append (copy size) q vs more = several-append q vs more
+  values-append _ q vs more = several-append q vs more
 
 -- all values are those of the frame and of the open loops
 pub no-more : (c : Target) (w : PlainWork) (q n : ℕ) (us : List ℕ) → length us ≡ n →

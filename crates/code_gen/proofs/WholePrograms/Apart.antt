@@ -12,7 +12,7 @@ use Rattle.icode.specs.Actions.{array_start}
 use Rattle.icode.specs.Machine.{Code, IsCode, IsApart, acts, lines_of, stored_words, touched_words, written_lines}
 use Rattle.icode.specs.Machine.{touched_lines}
 use Rattle.icode.specs.declared.action.Action.{Action}
-use Rattle.icode.specs.declared.action.Action.TheVariants.{Load, Store, Zero, Add, Sub, Neg, Mul, Tile}
+use Rattle.icode.specs.declared.action.Action.TheVariants.{Load, Store}
 use Rattle.icode.specs.declared.program.Array.{Array}
 use Rattle.icode.specs.declared.program.Array.TheVariants.{X}
 use Rattle.icode.proofs.End.{acts_past}
@@ -55,12 +55,7 @@ module _ (c : Target) (words : ℕ) (enough : c.size ≤ words) (owner : ℕ →
   keeps-still : (q : ℕ) (x : Action) → StaysInRegisters x → Keeps q x
   keeps-still q (Load r a) still = absurd still
   keeps-still q (Store a r) still = absurd still
-  keeps-still q (Zero r) still = tt
-  keeps-still q (Add r x y) still = tt
-  keeps-still q (Sub r x y) still = tt
-  keeps-still q (Neg r x) still = tt
-  keeps-still q (Mul r x factors) still = tt
-  keeps-still q (Tile r x) still = tt
+  keeps-still q _ still = tt
 
   pass-keeps : (p : Pass) → CanWritePass c p → (source target : Array) → IsOther X target →
       Reads c words enough owner after p source → Owns c words enough owner after p → (q : ℕ) → q < c.procs →
@@ -167,15 +162,9 @@ module _ (c : Target) (words : ℕ) (enough : c.size ≤ words) (owner : ℕ →
         (one x (h 0 x (omega arith))) (lines-all words_of P q one xs (λ k d below. h (suc k) d (omega (arith, below))))
 
     written-one : (q : ℕ) (x : Action) → Keeps q x → All (WritesLine q) (lines_of c.line (stored_words c.lanes x))
-    written-one q (Load r a) keeps = All-nil (WritesLine q)
     written-one q (Store a r) keeps =
         words-all (WritesLine q) c.lanes a (λ k below. record { word = a + k; own = keeps k below; line = refl })
-    written-one q (Zero r) keeps = All-nil (WritesLine q)
-    written-one q (Add r x y) keeps = All-nil (WritesLine q)
-    written-one q (Sub r x y) keeps = All-nil (WritesLine q)
-    written-one q (Neg r x) keeps = All-nil (WritesLine q)
-    written-one q (Mul r x f) keeps = All-nil (WritesLine q)
-    written-one q (Tile r x) keeps = All-nil (WritesLine q)
+    written-one q _ keeps = All-nil (WritesLine q)
 
     touched-one : (q : ℕ) (x : Action) → Keeps q x → All (TouchesLine q) (lines_of c.line (touched_words c.lanes x))
     touched-one q (Load r a) keeps =
@@ -183,12 +172,7 @@ module _ (c : Target) (words : ℕ) (enough : c.size ≤ words) (owner : ℕ →
     touched-one q (Store a r) keeps =
         words-all (TouchesLine q) c.lanes a (λ k below.
         record { word = a + k; readable = own-readable q (a + k) (keeps k below); line = refl })
-    touched-one q (Zero r) keeps = All-nil (TouchesLine q)
-    touched-one q (Add r x y) keeps = All-nil (TouchesLine q)
-    touched-one q (Sub r x y) keeps = All-nil (TouchesLine q)
-    touched-one q (Neg r x) keeps = All-nil (TouchesLine q)
-    touched-one q (Mul r x f) keeps = All-nil (TouchesLine q)
-    touched-one q (Tile r x) keeps = All-nil (TouchesLine q)
+    touched-one q _ keeps = All-nil (TouchesLine q)
 
     pub lists-apart : (q other l : ℕ) (xs ys : List Action) → All (Keeps q) xs → All (Keeps other) ys →
         Contains (flat_map (λ x. lines_of c.line (stored_words c.lanes x)) xs) l →

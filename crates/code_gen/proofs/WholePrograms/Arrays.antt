@@ -23,16 +23,12 @@ IsOther a b = number a ≢ number b
 -- they stand one after another
 pub start-is : (n : ℕ) (a : Array) → array_start n a ≡ number a * n
 start-is n X = omega arith
-start-is n Y = omega arith
-start-is n A = omega arith
-start-is n B = omega arith
+start-is n _ = omega arith
 
 -- an array is in the memory
 pub inside-memory : (n : ℕ) (a : Array) → array_start n a + n ≤ 4 * n
 inside-memory n X = omega arith
-inside-memory n Y = omega arith
-inside-memory n A = omega arith
-inside-memory n B = omega arith
+inside-memory n _ = omega arith
 
 module _ (n size : ℕ) (enough : size ≤ n) where
   ends-before : (a b : Array) → number a < number b → array_start n a + size ≤ array_start n b
@@ -61,11 +57,6 @@ last-number t = refl
 pub target-other : (t k : ℕ) → IsOther X (written_array t k)
 target-other t zero = λ e. let is = last-number t in absurd (omega (arith, e, is))
 target-other t (suc k) = λ e. let is = scratch-number t k in absurd (omega (arith, e, is))
-
--- the first pass reads X
-pub first-other : (k : ℕ) → IsOther X (written_array 0 k)
-first-other zero = λ e. absurd (omega arith)
-first-other (suc k) = λ e. absurd (omega arith)
 
 -- the next pass reads what this one wrote
 pub next-other : (t k j : ℕ) → IsOther (written_array t (suc k)) (written_array (suc t) j)

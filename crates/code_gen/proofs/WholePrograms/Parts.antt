@@ -4,7 +4,7 @@ use Rattle.std.proofs.Common.{◌∙◌, arith, length-append, subst, All}
 use Rattle.icode.specs.Actions.{array_start}
 use Rattle.icode.specs.Machine.{Code, whole_lines}
 use Rattle.icode.specs.declared.action.Action.{Action}
-use Rattle.icode.specs.declared.action.Action.TheVariants.{Load, Store, Zero, Add, Sub, Neg, Mul, Tile}
+use Rattle.icode.specs.declared.action.Action.TheVariants.{Load, Store}
 use Rattle.icode.specs.declared.program.Array.{Array}
 use Rattle.code_gen.specs.PassActions.Acts.{pass_acts}
 use Rattle.code_gen.specs.PassCode.Conditions.{CanWritePass}
@@ -22,12 +22,7 @@ use Rattle.code_gen.proofs.WholePrograms.Phases.{RunsPhases}
 stays-still : (n lanes source target : ℕ) (x : Action) → StaysInRegisters x → Stays n lanes source target x
 stays-still n lanes source target (Load r a) still = absurd still
 stays-still n lanes source target (Store a r) still = absurd still
-stays-still n lanes source target (Zero r) still = tt
-stays-still n lanes source target (Add r x y) still = tt
-stays-still n lanes source target (Sub r x y) still = tt
-stays-still n lanes source target (Neg r x) still = tt
-stays-still n lanes source target (Mul r x factors) still = tt
-stays-still n lanes source target (Tile r x) still = tt
+stays-still n lanes source target _ still = tt
 
 -- the words of all lanes are inside of an array where those of the first and of the last are
 lanes-inside : (n lanes start a first last : ℕ) → 0 < lanes → a + 0 ≡ start + first → a + (lanes - 1) ≡ start + last →

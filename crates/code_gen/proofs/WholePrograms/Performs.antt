@@ -32,7 +32,7 @@ use Rattle.sigma_spl.specs.Merged.{PlainMerged, merged_on, phase_on, phases_on}
 use Rattle.sigma_spl.specs.Nest.{nests_on}
 use Rattle.code_gen.proofs.PassCode.Places.{whole-enough}
 use Rattle.code_gen.proofs.WholePrograms.Apart.{all-apart, phases-apart}
-use Rattle.code_gen.proofs.WholePrograms.Arrays.{first-other}
+use Rattle.code_gen.proofs.WholePrograms.Arrays.{target-other}
 use Rattle.code_gen.proofs.WholePrograms.Emitted.{passes-within, phases-extend}
 use Rattle.code_gen.proofs.PassCode.SharedTables.{extends-longer}
 use Rattle.code_gen.proofs.WholePrograms.Fits.{length-actions, parts-fit, parts-short, steps-fit, sum-shares}
@@ -218,7 +218,7 @@ module _ (c : Target) (g : PlainMerged) (can : CanProgram c g) where
 
     ended : Ready c words enough code refl refl refl p.regs (final_array c words enough code refl refl refl pss 0 X)
         made (phases_alone code (length pss) 0 begun)
-    ended = all-phases c words enough code refl refl refl p.regs 0 pss 0 X x begun known below shared (λ some. first-other (count_in pss - 1)) listed.0 ready
+    ended = all-phases c words enough code refl refl refl p.regs 0 pss 0 X x begun known below shared (λ some. target-other 0 (count_in pss - 1)) listed.0 ready
 
     memory-is : (runs code x []).memory ≡ (phases_alone code (length pss) 0 begun).memory
     memory-is = memory_of_runs code (code_is p) apart x [] ∙ ap (λ n. (phases_alone code n 0 begun).memory) code-long

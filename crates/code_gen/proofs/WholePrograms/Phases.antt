@@ -81,9 +81,7 @@ module _ (c : Target) (words : ℕ) (enough : c.size ≤ words) (code : Code) (m
         by_array : (b : Array) → MayRead c words enough owner after b r i →
             slice_index (done_by w q).memory (array_start words b + i) ≡ slice_index w.memory (array_start words b + i)
         by_array X m = left.first i below
-        by_array Y m = left.kept Y i below (differs m)
-        by_array Array.A m = left.kept Array.A i below (differs m)
-        by_array Array.B m = left.kept Array.B i below (differs m)
+        by_array b m = left.kept b i below (differs m)
 
     whole-after : (q : ℕ) (w : Whole) → q < c.procs → processor_alone code phase q w ≡ (let z : Whole = record { memory = (done_by w q).memory; registers = slice_set w.registers q (done_by w q).registers } in z)
     whole-after q w low = ap (λ (l : Local). let z : Whole = record { memory = l.memory; registers = slice_set w.registers q l.registers } in z) (alone-is q w low)

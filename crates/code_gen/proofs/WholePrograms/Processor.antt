@@ -9,7 +9,7 @@ use Rattle.icode.proofs.CodeLaws.Stores.{length-memory, length-registers}
 use Rattle.icode.specs.Actions.{array_start}
 use Rattle.icode.specs.Machine.{Local, effects}
 use Rattle.icode.specs.declared.program.Array.{Array}
-use Rattle.icode.specs.declared.program.Array.TheVariants.{X, Y, A, B}
+use Rattle.icode.specs.declared.program.Array.TheVariants.{X}
 use Rattle.sigma_spl.specs.Merged.{phase_on}
 use Rattle.sigma_spl.specs.Nest.{nests_on}
 use Rattle.operators.specs.declared.target.Target.{Target}
@@ -29,21 +29,15 @@ module _ (c : Target) (words : ℕ) (enough : c.size ≤ words) (owner : ℕ →
   -- what a processor may read: all of X, which nobody writes, and its own words of the other arrays
   abbrev pub MayRead : Array → ℕ → ℕ → Type 0
   MayRead X q i = Unit {0}
-  MayRead Y q i = owner i ≡ q
-  MayRead A q i = owner i ≡ q
-  MayRead B q i = owner i ≡ q
+  MayRead _ q i = owner i ≡ q
 
   pub own-read : (source : Array) (q i : ℕ) → owner i ≡ q → MayRead source q i
   own-read X q i own = tt
-  own-read Y q i own = own
-  own-read A q i own = own
-  own-read B q i own = own
+  own-read _ q i own = own
 
   pub read-own : (b : Array) (q i : ℕ) → IsOther X b → MayRead b q i → owner i ≡ q
   read-own X q i other may = absurd (other refl)
-  read-own Y q i other may = may
-  read-own A q i other may = may
-  read-own B q i other may = may
+  read-own _ q i other may = may
 
   abbrev pub Reads : Pass → Array → Type 0
   Reads p source = (q w : ℕ) → q < c.procs → IsLoadedBy c p q w → MayRead source q w

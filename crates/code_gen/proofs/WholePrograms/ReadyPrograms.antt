@@ -9,7 +9,7 @@ use Rattle.sigma_spl.specs.Nest.{PlainMultiplier, PlainNest}
 use Rattle.sigma_spl.specs.Shared.Owners.{all_passes}
 use Rattle.sigma_spl.specs.Shared.Ready.{IsReady, IsReadyPass, diagonal_tables, nests_tables, passes_tables}
 use Rattle.sigma_spl.specs.Shared.Ready.{work_tables}
-use Rattle.sigma_spl.specs.Work.{PlainWork, kernel, rows, horner, tile, copy}
+use Rattle.sigma_spl.specs.Work.{PlainWork, rows, horner}
 use Rattle.code_gen.proofs.PassCode.ReadyNests.{ready_can_write}
 use Rattle.code_gen.proofs.PassCode.SharedTables.{with_table-length}
 use Rattle.code_gen.specs.PassCode.Conditions.{CanWritePass}
@@ -22,11 +22,9 @@ use Rattle.code_gen.specs.PassCode.Statements.{tables_of_multiplier, tables_of_n
 
 work-grown : (m : ℕ) (w : PlainWork) (tables : List (List ℕ)) →
     length (tables_of_work m w tables) ≤ length tables + work_tables w
-work-grown m (kernel trees) tables = omega arith
 work-grown m (rows root size) tables = let more = with_table-length tables (powers_of m root size) in omega (arith, more)
 work-grown m (horner root size) tables = let more = with_table-length tables (powers_of m root size) in omega (arith, more)
-work-grown m (tile lanes) tables = omega arith
-work-grown m (copy size) tables = omega arith
+work-grown m _ tables = omega arith
 
 diagonal-grown : (o : Option ℕ) (tables : List (List ℕ)) (entries : List ℕ) →
     length (with_diagonal o tables entries) ≤ length tables + 1

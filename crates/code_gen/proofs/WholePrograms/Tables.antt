@@ -20,7 +20,7 @@ use Rattle.code_gen.specs.PassCode.Statements.{diagonal_of}
 use Rattle.code_gen.proofs.PassActions.Copies.{nest-can}
 use Rattle.kernel_gen.proofs.Residues.{power_below}
 use Rattle.sigma_spl.specs.Nest.{PlainMultiplier, PlainNest, factor_at, factor_count}
-use Rattle.sigma_spl.specs.Work.{PlainWork, kernel, rows, horner, tile, copy}
+use Rattle.sigma_spl.specs.Work.{PlainWork, rows, horner}
 use Rattle.code_gen.proofs.WholePrograms.Known.{Pass, AllKnown, PhasesKnown}
 use Rattle.ring_mod.specs.Residue.{power_mod}
 
@@ -57,11 +57,9 @@ module _ (c : Target) (residues : 0 < c.modulus) where
 
   work-within : (w : PlainWork) (tables : List (List ℕ)) → CanWork c w → AreWithin tables →
       AreWithin (tables_of_work c.modulus w tables)
-  work-within (kernel trees) tables can h = h
   work-within (rows root n) tables can h = powers-within root n tables can.0 h
   work-within (horner root n) tables can h = powers-within root n tables can h
-  work-within (tile v) tables can h = h
-  work-within (copy n) tables can h = h
+  work-within _ tables can h = h
 
   diagonal-within : (o : Option ℕ) (tables : List (List ℕ)) (entries : List ℕ) →
       IsTableWithin c.modulus residues entries → AreWithin tables → AreWithin (with_diagonal o tables entries)
