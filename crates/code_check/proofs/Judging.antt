@@ -1,5 +1,6 @@
 -- What a walk says of its steps.
-use Rattle.std.proofs.Common.{◌≡◌, ℕ, suc, ◌+◌, ◌<◌, ◌≤◌, ◌^◌, ◌⊎◌, inl, inr, ◌&&◌, Bool, true, false, List, [], ◌∷◌, Option, Some, None, All, take, refl, ap, ◌∙◌, arith, ltb-true, leb-true, ⊎_elim}
+use Rattle.std.proofs.Common.{◌≡◌, ℕ, suc, ◌+◌, ◌<◌, ◌≤◌, ◌^◌, ◌⊎◌, inl, inr, ◌&&◌, Bool, true, false, List, [], ◌∷◌}
+use Rattle.std.proofs.Common.{Option, Some, None, All, take, refl, ap, ◌∙◌, arith, ltb-true, leb-true, ⊎_elim}
 use Rattle.std.proofs.lemmas.Bool.{lt-ltb, le-leb}
 use Rattle.std.specs.Prelude.{nat_lt, nat_le, slice_get, if◌then◌else◌, ◌||◌}
 use Rattle.std.proofs.lemmas.List.Elements.{All-nil, All-cons}
@@ -90,7 +91,8 @@ pub wrong_is_not_sound : (p : PlainProgram) (s : Step) (o : Offence) → IsWrong
 wrong_is_not_sound p s Place w h = w h.place
 wrong_is_not_sound p s Register w h = w.1 h
 
-sound_by : (p : PlainProgram) (s : Step) (a b : Bool) → is_there s ≡ a → registers_fit p.regs p.lanes s.action ≡ b → (if a then (if b then None else Some Register) else Some Place) ≡ None → IsSound p s
+sound_by : (p : PlainProgram) (s : Step) (a b : Bool) → is_there s ≡ a → registers_fit p.regs p.lanes s.action ≡ b →
+    (if a then (if b then None else Some Register) else Some Place) ≡ None → IsSound p s
 sound_by p s true true ea eb e = record { place = there_from_test s ea; registers = registers_from_test p.regs p.lanes s.action eb }
 sound_by p s true false ea eb e = cc
 sound_by p s false b ea eb e = cc
@@ -98,7 +100,9 @@ sound_by p s false b ea eb e = cc
 pub sound_if_none : (p : PlainProgram) (s : Step) → judged p s ≡ None → IsSound p s
 sound_if_none p s e = sound_by p s (is_there s) (registers_fit p.regs p.lanes s.action) refl refl e
 
-wrong_by : (p : PlainProgram) (s : Step) (o : Offence) (a b : Bool) → is_there s ≡ a → registers_fit p.regs p.lanes s.action ≡ b → (if a then (if b then None else Some Register) else Some Place) ≡ Some o → IsWrong p s o
+wrong_by : (p : PlainProgram) (s : Step) (o : Offence) (a b : Bool) → is_there s ≡ a →
+    registers_fit p.regs p.lanes s.action ≡ b → (if a then (if b then None else Some Register) else Some Place)
+    ≡ Some o → IsWrong p s o
 wrong_by p s o true true ea eb e = cc
 wrong_by p s Place true false ea eb e = cc
 wrong_by p s Register true false ea eb e = (there_from_test s ea, λ h. let yes = registers_test p.regs p.lanes s.action h.registers in cc)
@@ -109,12 +113,17 @@ pub wrong_if_some : (p : PlainProgram) (s : Step) (o : Offence) → judged p s �
 wrong_if_some p s o e = wrong_by p s o (is_there s) (registers_fit p.regs p.lanes s.action) refl refl e
 
 -- a walk that passes: all steps are sound, and the table has noted them
-passes_by : (p : PlainProgram) (q : ℕ) (s : Step) (steps : List Step) (n m : ℕ) (t u : List LineUse) (j : Option Offence) → judged p s ≡ j → (walked p q steps (n + 1) (noted p q s t) ≡ Passed m u → All (IsSound p) steps × (u ≡ noted_all p q steps (noted p q s t))) → goes_on j n (walked p q steps (n + 1) (noted p q s t)) ≡ Passed m u → All (IsSound p) (s ∷ steps) × (u ≡ noted_all p q steps (noted p q s t))
+passes_by : (p : PlainProgram) (q : ℕ) (s : Step) (steps : List Step) (n m : ℕ) (t u : List LineUse)
+    (j : Option Offence) → judged p s ≡ j → (walked p q steps (n + 1) (noted p q s t) ≡ Passed m u →
+    All (IsSound p) steps × (u ≡ noted_all p q steps (noted p q s t))) →
+    goes_on j n (walked p q steps (n + 1) (noted p q s t)) ≡ Passed m u →
+    All (IsSound p) (s ∷ steps) × (u ≡ noted_all p q steps (noted p q s t))
 passes_by p q s steps n m t u None ej more e =
     let rest = more e in (All-cons (IsSound p) s steps (sound_if_none p s ej) rest.0, rest.1)
 passes_by p q s steps n m t u (Some o) ej more e = cc
 
-pub passed_sound : (p : PlainProgram) (q : ℕ) (steps : List Step) (n m : ℕ) (t u : List LineUse) → walked p q steps n t ≡ Passed m u → All (IsSound p) steps × (u ≡ noted_all p q steps t)
+pub passed_sound : (p : PlainProgram) (q : ℕ) (steps : List Step) (n m : ℕ) (t u : List LineUse) →
+    walked p q steps n t ≡ Passed m u → All (IsSound p) steps × (u ≡ noted_all p q steps t)
 passed_sound p q [] n m t u e = (All-nil (IsSound p), cc)
 passed_sound p q (s ∷ steps) n m t u e =
     passes_by p q s steps n m t u (judged p s) refl (passed_sound p q steps (n + 1) m (noted p q s t) u) e
@@ -126,7 +135,9 @@ pub record StopsAt (p : PlainProgram) (steps : List Step) (i : ℕ) (o : Offence
   pub wrong : IsWrong p step o
   pub before : All (IsSound p) (take i steps)
 
-stops_by : (p : PlainProgram) (s : Step) (steps : List Step) (n m : ℕ) (o : Offence) (rest : Walk) (j : Option Offence) → judged p s ≡ j → (rest ≡ Stopped m o → (i : ℕ) × (m ≡ n + 1 + i) × StopsAt p steps i o) → goes_on j n rest ≡ Stopped m o → (i : ℕ) × (m ≡ n + i) × StopsAt p (s ∷ steps) i o
+stops_by : (p : PlainProgram) (s : Step) (steps : List Step) (n m : ℕ) (o : Offence) (rest : Walk)
+    (j : Option Offence) → judged p s ≡ j → (rest ≡ Stopped m o → (i : ℕ) × (m ≡ n + 1 + i) × StopsAt p steps i o) →
+    goes_on j n rest ≡ Stopped m o → (i : ℕ) × (m ≡ n + i) × StopsAt p (s ∷ steps) i o
 stops_by p s steps n m o rest None ej more e =
     let found = more e in (
       suc found.0,
@@ -143,7 +154,8 @@ stops_by p s steps n m o rest (Some f) ej more e =
     let none : n ≡ m = cc in
     (0, omega arith, record { step = s; here = refl; wrong = wrong_if_some p s o (ej ∙ ap Some same); before = All-nil (IsSound p) })
 
-pub stopped_at : (p : PlainProgram) (q : ℕ) (steps : List Step) (n m : ℕ) (t : List LineUse) (o : Offence) → walked p q steps n t ≡ Stopped m o → (i : ℕ) × (m ≡ n + i) × StopsAt p steps i o
+pub stopped_at : (p : PlainProgram) (q : ℕ) (steps : List Step) (n m : ℕ) (t : List LineUse) (o : Offence) →
+    walked p q steps n t ≡ Stopped m o → (i : ℕ) × (m ≡ n + i) × StopsAt p steps i o
 stopped_at p q [] n m t o e = cc
 stopped_at p q (s ∷ steps) n m t o e =
     stops_by p s steps n m o (walked p q steps (n + 1) (noted p q s t)) (judged p s) refl (stopped_at p q steps (n + 1) m (noted p q s t) o) e
