@@ -14,7 +14,7 @@ use Rattle.code_gen.specs.PassCode.Contract.{CanProgram}
 use Rattle.sigma_spl.specs.Shared.Owners.{IsHost, all_passes, most_actions}
 use Rattle.code_gen.specs.PassCode.Program.{count_in}
 use Rattle.sigma_spl.specs.Merged.{PlainMerged}
-use Rattle.sigma_spl.specs.Nest.{PlainFactors, values, twiddles, repeated, spread, PlainMultiplier, PlainNest}
+use Rattle.sigma_spl.specs.Nest.{PlainFactors, twiddles, spread, PlainMultiplier, PlainNest}
 use Rattle.sigma_spl.specs.Nest.{factor_count}
 use Rattle.sigma_spl.specs.Views.{plain_nest}
 use Rattle.sigma_spl.specs.Shared.Kernels.{IsMadeKernel}
@@ -47,12 +47,11 @@ kernel-sized h z k is can =
     (trees-does h.modulus 1 (trees_of k) can.modulus work.0.trees).sized
 
 can-list : (factors : PlainFactors) → 0 < factor_count factors → factor_count factors < 2 ^ 32 → CanList factors
-can-list (values entries) some small = tt
 can-list (twiddles r s root) some small = (right_positive r s some, small)
-can-list (repeated v n) some small = tt
 can-list (spread path factors) some small =
     let inner = inner-some path (factor_count factors) some in
     let low = inner.1 in (can-list factors inner.0 (omega arith), some, small)
+can-list _ some small = tt
 
 pub has-factors : (o : Option PlainMultiplier) → ((d : PlainMultiplier) → o ≡ Some d →
     (0 < factor_count d.factors) × (factor_count d.factors < 2 ^ 32)) → HasFactors o

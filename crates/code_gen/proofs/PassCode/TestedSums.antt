@@ -4,7 +4,7 @@ use Rattle.std.specs.Prelude.{nat_lt, max, ◌&&◌}
 use Rattle.std.proofs.Math.Nat.{mul-le-mul, mul-le-mul_right}
 use Rattle.std.proofs.lemmas.Bool.{and_parts, cases_eq, ltb-true}
 use Rattle.std.proofs.lemmas.Bool.Decides.{nat_tests}
-use Rattle.perm_algebra.specs.Affine.{Sum, constant, variable, remainder, quotient, levels, parts, peak, top}
+use Rattle.perm_algebra.specs.Affine.{Sum, constant, variable, remainder, quotient, parts, peak, top}
 use Rattle.perm_algebra.specs.Room.{constant_of}
 use Rattle.code_gen.specs.PassCode.Conditions.{CanWrite, DividesWords}
 use Rattle.code_gen.specs.PassCode.Expressions.{factor_at}

@@ -178,7 +178,7 @@ no-variables f (suc k) d c ps = no-variables f k (d + 1) c ps
 
 no-processor : (f : PlainFrame) (c : ℕ) (ps : PlainParts) → processor_of f (constant c) ps ≡ ps
 no-processor f c ps =
-    elim f.shared as (λ b. (if b then with_factor_of 0 (Proc 0) ps else ps) ≡ ps) [ | true ↦ refl | false ↦ refl ]
+    elim f.shared as (λ b. (if b then with_factor_of 0 (Proc 0) ps else ps) ≡ ps) [ true ↦ refl | false ↦ refl ]
 
 -- the variables at the outer level, and the parts of remainders and of quotients
 abbrev outer_variables : Sum → ℕ

@@ -110,14 +110,10 @@ module _ (c : Target) (words : ℕ) (enough : c.size ≤ words) (owner : ℕ →
     same-line : (k l a b : ℕ) → a < whole → b < whole → k * whole + a ≡ l * whole + b → a ≡ b
     same-line k l a b low high e = sym (mod-mul-add k whole a low) ∙ ap (λ n. n % whole) e ∙ mod-mul-add l whole b high
 
-    pub record TouchesLine (q l : ℕ) : Type 0 where
+    -- the line of such a word
+    pub record OnLine (Is : ℕ → Type 0) (l : ℕ) : Type 0 where
       pub word : ℕ
-      pub readable : IsReadable q word
-      pub line : l ≡ word / c.line
-
-    pub record WritesLine (q l : ℕ) : Type 0 where
-      pub word : ℕ
-      pub own : IsOwn q word
+      pub is : Is word
       pub line : l ≡ word / c.line
 
     own-readable : (q w : ℕ) → IsOwn q w → IsReadable q w
@@ -131,10 +127,10 @@ module _ (c : Target) (words : ℕ) (enough : c.size ≤ words) (owner : ℕ →
         }
 
     -- who touches a line that another writes is that one
-    clash : (q other l : ℕ) → WritesLine q l → TouchesLine other l → other ≡ q
+    clash : (q other l : ℕ) → OnLine (IsOwn q) l → OnLine (IsReadable other) l → other ≡ q
     clash q other l w r =
-        let o = w.own in
-        let i = r.readable in
+        let o = w.is in
+        let i = r.is in
         let equal : number o.array * whole + o.place / c.line ≡ number i.array * whole + i.place / c.line =
         sym (line-is o.array o.place) ∙ ap (λ n. n / c.line) (sym o.is) ∙ sym w.line ∙ r.line ∙ ap (λ n. n / c.line) i.is ∙ line-is i.array i.place in
         let low = line-below o.place o.below in
@@ -161,27 +157,27 @@ module _ (c : Target) (words : ℕ) (enough : c.size ≤ words) (owner : ℕ →
         All-append P (lines_of c.line (words_of x)) (flat_map (λ y. lines_of c.line (words_of y)) xs)
         (one x (h 0 x (omega arith))) (lines-all words_of P q one xs (λ k d below. h (suc k) d (omega (arith, below))))
 
-    written-one : (q : ℕ) (x : Action) → Keeps q x → All (WritesLine q) (lines_of c.line (stored_words c.lanes x))
+    written-one : (q : ℕ) (x : Action) → Keeps q x → All (OnLine (IsOwn q)) (lines_of c.line (stored_words c.lanes x))
     written-one q (Store a r) keeps =
-        words-all (WritesLine q) c.lanes a (λ k below. record { word = a + k; own = keeps k below; line = refl })
-    written-one q _ keeps = All-nil (WritesLine q)
+        words-all (OnLine (IsOwn q)) c.lanes a (λ k below. record { word = a + k; is = keeps k below; line = refl })
+    written-one q _ keeps = All-nil (OnLine (IsOwn q))
 
-    touched-one : (q : ℕ) (x : Action) → Keeps q x → All (TouchesLine q) (lines_of c.line (touched_words c.lanes x))
+    touched-one : (q : ℕ) (x : Action) → Keeps q x → All (OnLine (IsReadable q)) (lines_of c.line (touched_words c.lanes x))
     touched-one q (Load r a) keeps =
-        words-all (TouchesLine q) c.lanes a (λ k below. record { word = a + k; readable = keeps k below; line = refl })
+        words-all (OnLine (IsReadable q)) c.lanes a (λ k below. record { word = a + k; is = keeps k below; line = refl })
     touched-one q (Store a r) keeps =
-        words-all (TouchesLine q) c.lanes a (λ k below.
-        record { word = a + k; readable = own-readable q (a + k) (keeps k below); line = refl })
-    touched-one q _ keeps = All-nil (TouchesLine q)
+        words-all (OnLine (IsReadable q)) c.lanes a (λ k below.
+        record { word = a + k; is = own-readable q (a + k) (keeps k below); line = refl })
+    touched-one q _ keeps = All-nil (OnLine (IsReadable q))
 
     pub lists-apart : (q other l : ℕ) (xs ys : List Action) → All (Keeps q) xs → All (Keeps other) ys →
         Contains (flat_map (λ x. lines_of c.line (stored_words c.lanes x)) xs) l →
         Contains (flat_map (λ x. lines_of c.line (touched_words c.lanes x)) ys) l → other ≡ q
     lists-apart q other l xs ys writes reads written touched =
         clash q other l
-        (All-contains (WritesLine q) _ l (lines-all (stored_words c.lanes) (WritesLine q) q (written-one q) xs writes) written)
-        (All-contains (TouchesLine other) _ l
-        (lines-all (touched_words c.lanes) (TouchesLine other) other (touched-one other) ys reads) touched)
+        (All-contains (OnLine (IsOwn q)) _ l (lines-all (stored_words c.lanes) (OnLine (IsOwn q)) q (written-one q) xs writes) written)
+        (All-contains (OnLine (IsReadable other)) _ l
+        (lines-all (touched_words c.lanes) (OnLine (IsReadable other)) other (touched-one other) ys reads) touched)
 
 -- ---- phases of a program
 
