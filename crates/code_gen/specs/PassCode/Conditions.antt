@@ -1,5 +1,5 @@
 -- Passes that can be written as statements, and what the statements are.
-use Rattle.std.specs.Prelude.{◌≡◌, ℕ, ◌+◌, ◌^◌, ◌<◌, ◌≤◌, ◌++◌, IsTrue, List, [], length, All, Some}
+use Rattle.std.specs.Prelude.{◌≡◌, ℕ, ◌+◌, ◌^◌, ◌<◌, ◌≤◌, ◌++◌, IsTrue, List, [], ◌∷◌, length, All, Some}
 use Rattle.icode.specs.Actions.{Step, actions_of, array_start, steps_of_body}
 use Rattle.icode.specs.Limits.{is_body_within, is_expr_within}
 use Rattle.icode.specs.Machine.{whole_lines}

@@ -1,9 +1,9 @@
 -- What the program of merged passes does: the clauses of `emit`.
-use Rattle.std.specs.Prelude.{◌≡◌, ℕ, suc, ◌+◌, ◌^◌, ◌<◌, ◌≤◌, List, [], ◌∷◌, ◌++◌, flat_map, length, All}
+use Rattle.std.specs.Prelude.{◌≡◌, ℕ, suc, ◌+◌, ◌*◌, ◌^◌, ◌<◌, ◌≤◌, List, [], ◌∷◌, ◌++◌, flat_map, length, All}
 use Rattle.std.specs.List.{range_with_len}
 use Rattle.icode.specs.Actions.{PlainFits, array_start, plain_code}
 use Rattle.icode.specs.Limits.{IsWithinLimits}
-use Rattle.icode.specs.Machine.{Code, IsApart, acts, results, whole_lines}
+use Rattle.icode.specs.Machine.{Code, IsApart, acts, counts_of, results, weighted, whole_lines}
 use Rattle.icode.specs.Plain.{PlainProgram}
 use Rattle.icode.specs.declared.action.Action.{Action}
 use Rattle.icode.specs.declared.action.Action.TheVariants.{Load, Store}
