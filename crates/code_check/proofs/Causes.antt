@@ -117,10 +117,7 @@ one_cause limit p (LineShared f k a b) (LineShared g l c d) nf ng h o =
     let ea : a ≡ c = same.writer in
     let eb : b ≡ d = same.other in cc
 one_cause limit p NoMemory g nf ng h o = absurd (nf refl)
-one_cause limit p (OverSteps n) NoMemory nf ng h o = absurd (ng refl)
-one_cause limit p (Address f q i) NoMemory nf ng h o = absurd (ng refl)
-one_cause limit p (Register f q i) NoMemory nf ng h o = absurd (ng refl)
-one_cause limit p (LineShared f k a b) NoMemory nf ng h o = absurd (ng refl)
+one_cause limit p _ NoMemory nf ng h o = absurd (ng refl)
 
 pub none_if_passed : (limit : ℕ) (p : PlainProgram) (f : CheckFault) → f ≢ NoMemory → PassesCheck limit p →
     IsCause limit p f → ⊥

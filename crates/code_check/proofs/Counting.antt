@@ -1,10 +1,10 @@
 -- Counts up to a limit.
 use Rattle.std.proofs.Common.{◌≡◌, ℕ, zero, suc, ◌+◌, ◌-◌, ◌*◌, ◌^◌, ◌<◌, ◌≤◌, List, [], drop, length, min, get_or, sym}
-use Rattle.std.proofs.Common.{ap, ◌∙◌, arith, ⊎_elim, zero-mul, suc-mul, mul-zero, mul_comm, add-one}
-use Rattle.std.proofs.Math.Nat.{mul-add}
+use Rattle.std.proofs.Common.{ap, ◌∙◌, arith, ⊎_elim, zero-mul, suc-mul, mul_comm, add-one}
 use Rattle.std.proofs.lemmas.Bool.{cases_lt}
 use Rattle.std.proofs.lemmas.List.{drop_all}
 use Rattle.operators.specs.Sum.{sum_below}
+use Rattle.operators.proofs.Sums.{mul-sum_below, sum_below-same}
 use Rattle.icode.specs.declared.program.Program.{Program}
 use Rattle.icode.specs.declared.program.Stmt.{Stmt}
 use Rattle.icode.specs.Plain.{PlainProgram, NoStmts, plain_body, plain_phases}
@@ -54,23 +54,19 @@ count_all limit sum i items past h =
 abbrev pub phase_len : PlainProgram → ℕ → ℕ
 phase_len p k = len_of_body (slice_index_or p.phases k NoStmts)
 
-same_sums : (n : ℕ) (f g : ℕ → ℕ) → ((i : ℕ) → f i ≡ g i) → sum_below n f ≡ sum_below n g
-same_sums zero f g h = omega arith
-same_sums (suc n) f g h = omega (arith, same_sums n f g h, h n)
-
 constant_sum : (n k : ℕ) → sum_below n (λ i. k) ≡ n * k
 constant_sum zero k = sym (zero-mul k)
 constant_sum (suc n) k = omega (arith, constant_sum n k, suc-mul n k)
 
-times_sum : (m n : ℕ) (f : ℕ → ℕ) → sum_below n (λ i. m * f i) ≡ m * sum_below n f
-times_sum m zero f = sym (mul-zero m)
-times_sum m (suc n) f = omega (arith, times_sum m n f, mul-add m (sum_below n f) (f n))
-
 pub action_count_is : (p : PlainProgram) → action_count p ≡ p.procs * sum_below (length p.phases) (phase_len p)
 action_count_is p =
-    same_sums (length p.phases) (λ phase. sum_below p.procs (λ q. length (steps_of_phase p phase q))) (λ phase. p.procs * phase_len p phase)
-    (λ phase. same_sums p.procs (λ q. length (steps_of_phase p phase q)) (λ q. phase_len p phase) (λ q. body_length p (slice_index_or p.phases phase NoStmts) [] q) ∙ constant_sum p.procs (phase_len p phase))
-    ∙ times_sum p.procs (length p.phases) (phase_len p)
+    sum_below-same (length p.phases) (λ phase. sum_below p.procs (λ q. length (steps_of_phase p phase q)))
+    (λ phase. p.procs * phase_len p phase)
+    (λ phase _.
+    sum_below-same p.procs (λ q. length (steps_of_phase p phase q)) (λ q. phase_len p phase)
+    (λ q _. body_length p (slice_index_or p.phases phase NoStmts) [] q)
+    ∙ constant_sum p.procs (phase_len p phase))
+    ∙ sym (mul-sum_below (length p.phases) p.procs (phase_len p))
 
 -- of the phases, the first i are counted
 pub record IsPhaseCount (p : Program) (limit sum i : ℕ) : Type 0 where

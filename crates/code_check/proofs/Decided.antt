@@ -14,7 +14,7 @@ use Rattle.code_check.specs.declared.walk.Offence.TheVariants.{Place, Register}
 use Rattle.code_check.specs.Faults.{fault_of}
 use Rattle.code_check.specs.Laws.{IsRefusedFor}
 use Rattle.code_check.specs.Phases.{IsPhaseFault, IsPhaseSound}
-use Rattle.code_check.specs.Refusals.{IsCause, PassesCheck, action_count}
+use Rattle.code_check.specs.Refusals.{PassesCheck, action_count}
 use Rattle.code_check.specs.Uses.{first_sharing, line_count, sooner, unused}
 use Rattle.code_check.specs.Walk.{Passed, Stopped, Walk, walked}
 use Rattle.code_check.proofs.Phases.{IsPhaseSoFar, phase_ends, phase_goes_on, phase_starts, phase_stops}

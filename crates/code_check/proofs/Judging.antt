@@ -1,7 +1,7 @@
 -- What a walk says of its steps.
-use Rattle.std.proofs.Common.{◌≡◌, ℕ, suc, ◌+◌, ◌<◌, ◌≤◌, ◌^◌, ◌⊎◌, inl, inr, ◌&&◌, Bool, true, false, List, [], ◌∷◌}
+use Rattle.std.proofs.Common.{◌≡◌, ℕ, suc, ◌+◌, ◌≤◌, ◌^◌, ◌⊎◌, inl, inr, Bool, true, false, List, [], ◌∷◌}
 use Rattle.std.proofs.Common.{Option, Some, None, All, take, refl, ap, ◌∙◌, arith, ltb-true, leb-true, ⊎_elim}
-use Rattle.std.proofs.lemmas.Bool.{lt-ltb, le-leb}
+use Rattle.std.proofs.lemmas.Bool.{and_from, le-leb, lt-ltb, or_cases, or_left, or_right}
 use Rattle.std.specs.Prelude.{nat_lt, nat_le, slice_get, if◌then◌else◌, ◌||◌}
 use Rattle.std.proofs.lemmas.List.Elements.{All-nil, All-cons}
 use Rattle.icode.specs.declared.action.Action.{Action}
@@ -17,33 +17,13 @@ use Rattle.code_check.specs.Uses.{noted}
 use Rattle.code_check.specs.Tables.{noted_all}
 use Rattle.code_check.specs.Walk.{Walk, Passed, Stopped, registers_fit, is_there, judged, goes_on, walked}
 
-both : (a b : Bool) → a ≡ true → b ≡ true → (a && b) ≡ true
-both a b e f = cc
-
-either_true : (a b : Bool) → (a || b) ≡ true → (a ≡ true) ⊎ (b ≡ true)
-either_true true b e = inl refl
-either_true false b e = inr e
-
-either_left : (a b : Bool) → a ≡ true → (a || b) ≡ true
-either_left a b e = cc
-
-either_right : (a b : Bool) → b ≡ true → (a || b) ≡ true
-either_right true b e = refl
-either_right false b e = e
-
-less : (a b : ℕ) → a < b → nat_lt a b ≡ true
-less a b h = lt-ltb a b h
-
-at_most : (a b : ℕ) → a ≤ b → nat_le a b ≡ true
-at_most a b h = le-leb a b h
-
 there_from_test : (s : Step) → is_there s ≡ true → IsThere s
 there_from_test s h =
     let two = both_true (nat_lt s.peak (2 ^ 64)) _ h in
     record { numbers = ltb-true s.peak (2 ^ 64) two.0; inside = leb-true s.reach s.room two.1 }
 
 there_test : (s : Step) → IsThere s → is_there s ≡ true
-there_test s h = both (nat_lt s.peak (2 ^ 64)) (nat_le s.reach s.room) (less s.peak (2 ^ 64) h.numbers) (at_most s.reach s.room h.inside)
+there_test s h = and_from (nat_lt s.peak (2 ^ 64)) (nat_le s.reach s.room) (lt-ltb s.peak (2 ^ 64) h.numbers) (le-leb s.reach s.room h.inside)
 
 registers_from_test : (regs lanes : ℕ) (a : Action) → registers_fit regs lanes a ≡ true → RegistersFit regs lanes a
 registers_from_test regs lanes (Load r address) h = ltb-true r regs h
@@ -63,23 +43,23 @@ registers_from_test regs lanes (Tile r x) h =
       leb-true (r + lanes) regs one.0,
       leb-true (x + lanes) regs two.0,
       ⊎_elim (λ (a : nat_le (r + lanes) x ≡ true). inl (leb-true (r + lanes) x a)) (λ (b : nat_le (x + lanes) r ≡ true). inr (leb-true (x + lanes) r b))
-          (either_true (nat_le (r + lanes) x) _ two.1),
+          (or_cases (nat_le (r + lanes) x) _ two.1),
     )
 
 registers_test : (regs lanes : ℕ) (a : Action) → RegistersFit regs lanes a → registers_fit regs lanes a ≡ true
-registers_test regs lanes (Load r address) h = less r regs h
-registers_test regs lanes (Store address r) h = less r regs h
-registers_test regs lanes (Zero r) h = less r regs h
-registers_test regs lanes (Add r x y) h = both (nat_lt r regs) _ (less r regs h.0) (both (nat_lt x regs) (nat_lt y regs) (less x regs h.1) (less y regs h.2))
-registers_test regs lanes (Sub r x y) h = both (nat_lt r regs) _ (less r regs h.0) (both (nat_lt x regs) (nat_lt y regs) (less x regs h.1) (less y regs h.2))
-registers_test regs lanes (Neg r x) h = both (nat_lt r regs) (nat_lt x regs) (less r regs h.0) (less x regs h.1)
-registers_test regs lanes (Mul r x factors) h = both (nat_lt r regs) (nat_lt x regs) (less r regs h.0) (less x regs h.1)
+registers_test regs lanes (Load r address) h = lt-ltb r regs h
+registers_test regs lanes (Store address r) h = lt-ltb r regs h
+registers_test regs lanes (Zero r) h = lt-ltb r regs h
+registers_test regs lanes (Add r x y) h = and_from (nat_lt r regs) _ (lt-ltb r regs h.0) (and_from (nat_lt x regs) (nat_lt y regs) (lt-ltb x regs h.1) (lt-ltb y regs h.2))
+registers_test regs lanes (Sub r x y) h = and_from (nat_lt r regs) _ (lt-ltb r regs h.0) (and_from (nat_lt x regs) (nat_lt y regs) (lt-ltb x regs h.1) (lt-ltb y regs h.2))
+registers_test regs lanes (Neg r x) h = and_from (nat_lt r regs) (nat_lt x regs) (lt-ltb r regs h.0) (lt-ltb x regs h.1)
+registers_test regs lanes (Mul r x factors) h = and_from (nat_lt r regs) (nat_lt x regs) (lt-ltb r regs h.0) (lt-ltb x regs h.1)
 registers_test regs lanes (Tile r x) h =
-    both (nat_le (r + lanes) regs) _ (at_most (r + lanes) regs h.0)
-    (both (nat_le (x + lanes) regs) (nat_le (r + lanes) x || nat_le (x + lanes) r) (at_most (x + lanes) regs h.1)
+    and_from (nat_le (r + lanes) regs) _ (le-leb (r + lanes) regs h.0)
+    (and_from (nat_le (x + lanes) regs) (nat_le (r + lanes) x || nat_le (x + lanes) r) (le-leb (x + lanes) regs h.1)
     (⊎_elim
-    (λ (a : r + lanes ≤ x). either_left (nat_le (r + lanes) x) (nat_le (x + lanes) r) (at_most (r + lanes) x a))
-    (λ (b : x + lanes ≤ r). either_right (nat_le (r + lanes) x) (nat_le (x + lanes) r) (at_most (x + lanes) r b))
+    (λ (a : r + lanes ≤ x). or_left (nat_le (r + lanes) x) (nat_le (x + lanes) r) (le-leb (r + lanes) x a))
+    (λ (b : x + lanes ≤ r). or_right (nat_le (r + lanes) x) (nat_le (x + lanes) r) (le-leb (x + lanes) r b))
     h.2))
 
 -- what is wrong with a step

@@ -5,30 +5,24 @@ use Rattle.std.proofs.Common.{ltb-true}
 use Rattle.std.specs.Prelude.{nat_lt, slice_index, slice_index_or}
 use Rattle.std.specs.List.{range_with_len, list_all}
 use Rattle.std.proofs.lemmas.List.FromFn.{get_or-map-range_with_len, length-map-range_with_len}
-use Rattle.std.proofs.lemmas.List.Elements.{All-nil, All-cons, All-append, All-map, All-replicate}
+use Rattle.std.proofs.lemmas.List.Elements.{All-nil, All-cons, All-append, All-head, All-map, All-replicate, All-tail}
 use Rattle.std.proofs.lemmas.List.Elements.{Contains-append_cases}
 use Rattle.icode.specs.declared.program.Array.{Array}
-use Rattle.icode.specs.declared.program.Array.TheVariants.{X, Y, A, B}
+use Rattle.icode.specs.declared.program.Array.TheVariants.{X}
 use Rattle.icode.specs.Actions.{Step, FactorsFit, array_start, lane_factors, actions_of, step_of, steps_of_stmt}
 use Rattle.icode.specs.Actions.{steps_of_body, steps_of_phase}
 use Rattle.icode.specs.Expression.{sum_numbers}
 use Rattle.icode.specs.Limits.{is_small, is_small_positive, is_op_within, is_stmt_within, is_body_within}
 use Rattle.icode.specs.Limits.{are_tables_within, are_phases_within, IsWithinLimits}
 use Rattle.icode.specs.Machine.{whole_lines}
-use Rattle.icode.specs.Plain.{PlainOp, PlainStmt, PlainBody, PlainProgram, Load, Store, Zero, Add, Sub, Neg, MulConst}
-use Rattle.icode.specs.Plain.{MulTable, Tile, Loop, Do, NoStmts, AndStmts}
+use Rattle.icode.specs.Plain.{PlainOp, PlainStmt, PlainBody, PlainProgram, Load, Store, MulConst}
+use Rattle.icode.specs.Plain.{MulTable, Loop, Do, NoStmts, AndStmts}
 use Rattle.icode.proofs.Bools.{both_true}
 use Rattle.icode.proofs.Lines.{Contains-nil}
 use Rattle.code_check.specs.Refusals.{IsThere, IsSound}
 use Rattle.code_check.specs.Uses.{line_count}
 use Rattle.code_check.proofs.Touching.{line_inside}
 use Rattle.code_check.proofs.Tables.{lines_touched}
-
-pub All-head : {X : Type 0} (P : X → Type 0) (x : X) (xs : List X) → All P (x ∷ xs) → P x
-All-head P x xs h = h 0 x (omega arith)
-
-pub All-tail : {X : Type 0} (P : X → Type 0) (x : X) (xs : List X) → All P (x ∷ xs) → All P xs
-All-tail P x xs h = λ k d lt. h (suc k) d (omega arith)
 
 all_turns : {X : Type 0} (P : X → Type 0) (f : ℕ → List X) → ((i : ℕ) → All P (f i)) → (n first : ℕ) →
     All P (flat_map f (range_with_len first n))
@@ -88,19 +82,13 @@ lanes_small m lanes f pos h =
 op_factors : (p : PlainProgram) → 0 < p.modulus → IsTrue (are_tables_within p.modulus p.tables) →
     (op : PlainOp) (vs : List ℕ) (q n : ℕ) → is_op_within p.modulus op n ≡ true →
     FactorsFit p.modulus (step_of p op vs q).action
-op_factors p pos tables (Load r array place) vs q n h = tt
-op_factors p pos tables (Store array place r) vs q n h = tt
-op_factors p pos tables (Zero r) vs q n h = tt
-op_factors p pos tables (Add r x y) vs q n h = tt
-op_factors p pos tables (Sub r x y) vs q n h = tt
-op_factors p pos tables (Neg r x) vs q n h = tt
 op_factors p pos tables (MulConst r x factor) vs q n h =
     let small = ltb-true factor p.modulus (both_true (is_small x) _ (both_true (is_small r) _ h).1).1 in
     lanes_small p.modulus p.lanes (λ lane. factor) pos (λ lane. small)
 op_factors p pos tables (MulTable r x table place step) vs q n h =
     lanes_small p.modulus p.lanes (λ lane. slice_index (slice_index_or p.tables table []) ((sum_numbers place vs q).value + step * lane)) pos
     (λ lane. table_small p.modulus p.tables table ((sum_numbers place vs q).value + step * lane) pos tables)
-op_factors p pos tables (Tile r x) vs q n h = tt
+op_factors p pos tables _ vs q n h = tt
 
 pub factors_fit : (p : PlainProgram) → IsWithinLimits p → (phase q : ℕ) →
     All (λ (s : Step). FactorsFit p.modulus s.action) (steps_of_phase p phase q)
@@ -118,9 +106,7 @@ touched_word line address lanes k h =
 array_inside : (words value lanes : ℕ) (array : Array) → value + lanes ≤ words →
     array_start words array + value + lanes ≤ 4 * words
 array_inside words value lanes X h = omega arith
-array_inside words value lanes Y h = omega arith
-array_inside words value lanes A h = omega arith
-array_inside words value lanes B h = omega arith
+array_inside words value lanes _ h = omega arith
 
 access_inside : (p : PlainProgram) (value : ℕ) (array : Array) (k : ℕ) → 1 ≤ p.line →
     value + p.lanes ≤ whole_lines p.size p.line → Contains (map (λ j. j / p.line)
@@ -138,13 +124,7 @@ op_lines : (p : PlainProgram) → 1 ≤ p.line → (op : PlainOp) (vs : List ℕ
     is_op_within p.modulus op n ≡ true → TouchesInside p (step_of p op vs q)
 op_lines p pos (Load r array place) vs q n h there k on = access_inside p (sum_numbers place vs q).value array k pos there.inside on
 op_lines p pos (Store array place r) vs q n h there k on = access_inside p (sum_numbers place vs q).value array k pos there.inside on
-op_lines p pos (Zero r) vs q n h there k on = absurd (Contains-nil k on)
-op_lines p pos (Add r x y) vs q n h there k on = absurd (Contains-nil k on)
-op_lines p pos (Sub r x y) vs q n h there k on = absurd (Contains-nil k on)
-op_lines p pos (Neg r x) vs q n h there k on = absurd (Contains-nil k on)
-op_lines p pos (MulConst r x factor) vs q n h there k on = absurd (Contains-nil k on)
-op_lines p pos (MulTable r x table place step) vs q n h there k on = absurd (Contains-nil k on)
-op_lines p pos (Tile r x) vs q n h there k on = absurd (Contains-nil k on)
+op_lines p pos _ vs q n h there k on = absurd (Contains-nil k on)
 
 -- the lines of sound steps are in the table
 lines_in_steps : (p : PlainProgram) (steps : List Step) (k : ℕ) → All (IsSound p) steps → All (TouchesInside p) steps →

@@ -5,11 +5,11 @@ use Rattle.std.proofs.Common.{append_assoc, ⊎_elim, get_or-set_same, get_or-se
 use Rattle.std.specs.Prelude.{slice_index_or, slice_set}
 use Rattle.std.specs.List.{range_with_len}
 use Rattle.std.proofs.lemmas.Bool.{cases_eq, cases_lt}
-use Rattle.std.proofs.lemmas.List.{length-set, length-replicate, get_or-map, length-map, append-nil}
+use Rattle.std.proofs.lemmas.List.{length-set, length-replicate, get_or-map, get_or_past, length-map, append-nil}
 use Rattle.std.proofs.lemmas.List.FromFn.{get_or-map-range_with_len, length-map-range_with_len}
 use Rattle.std.proofs.lemmas.List.Elements.{Contains-append_left, Contains-append_right, Contains-append_cases}
 use Rattle.icode.specs.declared.action.Action.{Action}
-use Rattle.icode.specs.declared.action.Action.TheVariants.{Load, Store, Zero, Add, Sub, Neg, Mul, Tile}
+use Rattle.icode.specs.declared.action.Action.TheVariants.{Store}
 use Rattle.icode.specs.Actions.{Step, actions_of, steps_of_body, steps_of_phase, plain_code}
 use Rattle.icode.specs.Machine.{acts, lines_of, stored_words, touched_words, written_lines, touched_lines}
 use Rattle.icode.specs.Plain.{PlainBody, PlainProgram, NoStmts}
@@ -140,14 +140,8 @@ abbrev pub lines_touched : PlainProgram → Action → List ℕ
 lines_touched p a = lines_of p.line (touched_words p.lanes a)
 
 kept_stored : (p : PlainProgram) (a : Action) → kept (is_store a) (lines_touched p a) ≡ lines_stored p a
-kept_stored p (Load r address) = refl
 kept_stored p (Store address r) = refl
-kept_stored p (Zero r) = refl
-kept_stored p (Add r x y) = refl
-kept_stored p (Sub r x y) = refl
-kept_stored p (Neg r x) = refl
-kept_stored p (Mul r x factors) = refl
-kept_stored p (Tile r x) = refl
+kept_stored p _ = refl
 
 module _ (p : PlainProgram) (w t : ℕ → List ℕ) (q k : ℕ) where
   steps_use : (steps : List Step) (doneW doneT : List ℕ) (table : List LineUse) → k < length table →
@@ -180,22 +174,17 @@ lists_are p phase q lt small =
     ap (λ ls. slice_index_or ls q []) (get_or-map lists p.phases phase NoStmts [] lt)
     ∙ get_or-map-range_with_len (λ q. actions_of (steps_of_phase p phase q)) 0 p.procs q q [] small (omega arith)
 
-past_end : {X : Type 0} (xs : List (List X)) (i : ℕ) → length xs ≤ i → slice_index_or xs i [] ≡ []
-past_end [] i past = refl
-past_end (x ∷ xs) zero past = absurd (omega arith)
-past_end (x ∷ xs) (suc i) past = past_end xs i (omega arith)
-
 pub no_list_past_procs : (p : PlainProgram) (phase q : ℕ) → phase < length p.phases → p.procs ≤ q →
     acts (plain_code p) phase q ≡ []
 no_list_past_procs p phase q lt past =
     let lists : PlainBody → List (List Action) = λ b. map (λ q. actions_of (steps_of_body p b [] q)) (range_with_len 0 p.procs) in
     ap (λ ls. slice_index_or ls q []) (get_or-map lists p.phases phase NoStmts [] lt)
-    ∙ past_end (map (λ q. actions_of (steps_of_phase p phase q)) (range_with_len 0 p.procs)) q (omega (arith, past, length-map-range_with_len (λ q. actions_of (steps_of_phase p phase q)) 0 p.procs))
+    ∙ get_or_past (map (λ q. actions_of (steps_of_phase p phase q)) (range_with_len 0 p.procs)) q [] (omega (arith, past, length-map-range_with_len (λ q. actions_of (steps_of_phase p phase q)) 0 p.procs))
 
 pub no_list_past_phases : (p : PlainProgram) (phase q : ℕ) → length p.phases ≤ phase → acts (plain_code p) phase q ≡ []
 no_list_past_phases p phase q past =
     let lists : PlainBody → List (List Action) = λ b. map (λ q. actions_of (steps_of_body p b [] q)) (range_with_len 0 p.procs) in
-    ap (λ ls. slice_index_or ls q []) (past_end (map lists p.phases) phase (omega (arith, past, length-map p.phases lists)))
+    ap (λ ls. slice_index_or ls q []) (get_or_past (map lists p.phases) phase [] (omega (arith, past, length-map p.phases lists)))
 
 -- the table of a phase
 

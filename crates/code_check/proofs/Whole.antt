@@ -1,13 +1,14 @@
 -- The check of a whole program, phase by phase.
-use Rattle.std.proofs.Common.{◌≡◌, ◌≢◌, ℕ, zero, suc, ◌+◌, ◌<◌, ◌≤◌, List, [], ◌∷◌, Option, Some, None, All, Contains}
-use Rattle.std.proofs.Common.{length, flat_map, refl, sym, ap, subst, arith, ⊎_elim}
-use Rattle.std.specs.Prelude.{slice_index_or, MatchOption}
+use Rattle.std.proofs.Common.{◌≡◌, ◌≢◌, ℕ, ◌+◌, ◌<◌, ◌≤◌, [], Option, Some, None, All, Contains}
+use Rattle.std.proofs.Common.{length, flat_map, sym, ap, subst, arith, ⊎_elim}
+use Rattle.std.specs.Prelude.{MatchOption}
 use Rattle.std.proofs.lemmas.Bool.{cases_eq, cases_lt}
+use Rattle.std.proofs.lemmas.List.{get_or_past}
 use Rattle.std.proofs.lemmas.List.Elements.{All-nil}
 use Rattle.icode.specs.Actions.{StepFits, PlainFits, steps_of_body, steps_of_phase, plain_code}
 use Rattle.icode.specs.Limits.{IsWithinLimits}
 use Rattle.icode.specs.Machine.{IsApart}
-use Rattle.icode.specs.Plain.{PlainBody, PlainProgram, NoStmts}
+use Rattle.icode.specs.Plain.{PlainProgram, NoStmts}
 use Rattle.icode.proofs.Lines.{Contains-nil}
 use Rattle.code_check.specs.declared.fault.CheckFault.{CheckFault}
 use Rattle.code_check.specs.declared.fault.CheckFault.TheVariants.{OverSteps, Address, Register, LineShared, NoMemory}
@@ -81,19 +82,12 @@ checked_fault limit p n known (Register f q i) few before h =
 checked_fault limit p n known (LineShared f line a b) few before h = absurd h
 checked_fault limit p n known NoMemory few before h = tt
 
--- no phase comes past the last
-
-none_past : (phases : List PlainBody) (i : ℕ) → length phases ≤ i → slice_index_or phases i NoStmts ≡ NoStmts
-none_past [] i past = refl
-none_past (x ∷ xs) zero past = absurd (omega arith)
-none_past (x ∷ xs) (suc i) past = none_past xs i (omega arith)
-
 all_sound : (p : PlainProgram) (n : ℕ) (known : Option Sharing) → length p.phases ≤ n → IsCheckedTo p n known →
     AreSound p
 all_sound p n known past h phase q small =
     ⊎_elim
     (λ (lt : phase < n). h.sound phase q lt small)
-    (λ (ge : n ≤ phase). subst (λ body. All (IsSound p) (steps_of_body p body [] q)) (sym (none_past p.phases phase (omega arith))) (All-nil (IsSound p)))
+    (λ (ge : n ≤ phase). subst (λ body. All (IsSound p) (steps_of_body p body [] q)) (sym (get_or_past p.phases phase NoStmts (omega arith))) (All-nil (IsSound p)))
     (cases_lt phase n)
 
 apart_past : (p : PlainProgram) (phase : ℕ) → length p.phases ≤ phase → IsApart (plain_code p) phase
