@@ -1,5 +1,5 @@
 -- What a walk says of its steps.
-use Rattle.std.proofs.Common.{◌≡◌, ℕ, suc, ◌+◌, ◌≤◌, ◌^◌, ◌⊎◌, inl, inr, Bool, true, false, List, [], ◌∷◌}
+use Rattle.std.proofs.Common.{◌≡◌, ℕ, suc, ◌+◌, ◌≤◌, ◌^◌, inl, inr, Bool, true, false, List, [], ◌∷◌}
 use Rattle.std.proofs.Common.{Option, Some, None, All, take, refl, ap, ◌∙◌, arith, ltb-true, leb-true, ⊎_elim}
 use Rattle.std.proofs.lemmas.Bool.{and_from, le-leb, lt-ltb, or_cases, or_left, or_right}
 use Rattle.std.specs.Prelude.{nat_lt, nat_le, slice_get, if◌then◌else◌, ◌||◌}

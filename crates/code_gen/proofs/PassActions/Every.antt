@@ -95,7 +95,8 @@ module _ (c : Target) (regs : ℕ) (some : 0 < c.modulus) (P : Action → Type 0
     in-finish None k from free used more small below low high few =
         All-cons P (Store (target + store_at c p q vs k) from) [] (store k from below (omega arith)) (All-nil P)
     in-finish (Some d) k from free used more small below low high few =
-        let entry : ℕ → ℕ = λ lane. store_place p.work d.places (values_of c p.work q lane vs) (item_of p.work k lane) in
+        let entry : ℕ → ℕ =
+        λ lane. store_place p.work d.places (values_of c p.work q lane vs) (item_of p.work k lane) in
         All-cons P (Mul free from (lane_factors c.lanes (λ lane. factor_at c.modulus d.factors (entry lane))))
         (Store (target + store_at c p q vs k) free ∷ [])
         (product-has free from (λ lane. factor_at c.modulus d.factors (entry lane)) (omega arith) (omega arith) (λ lane.
@@ -113,7 +114,8 @@ module _ (c : Target) (regs : ℕ) (some : 0 < c.modulus) (P : Action → Type 0
         (in-bodies n (λ k. Load k (from k) ∷ []) (λ k below.
         All-cons P (Load k (from k)) [] (load k k below (omega arith)) (All-nil P)))
         (All-append P middle (bodies n ends) code
-        (in-bodies n ends (λ k below. in-finish o k (out k) (used + k) used n small below (outs k below) (omega arith) few)))
+        (in-bodies n ends (λ k below.
+        in-finish o k (out k) (used + k) used n small below (outs k below) (omega arith) few)))
 
     in-rows : (turn : ℕ → ℕ → List Action) → AreResidues p.multiplier → with_multiplier p.multiplier 3 1 ≤ regs →
         ((k l : ℕ) → l < n → All P (turn k l)) → All P (rows_acts c p n turn target q vs)
@@ -136,7 +138,8 @@ module _ (c : Target) (regs : ℕ) (some : 0 < c.modulus) (P : Action → Type 0
         (All-cons P (Mul 2 1 (lane_factors c.lanes factor)) (Add 0 0 2 ∷ [])
         (product-has 2 1 factor (omega arith) (omega arith) (λ _. small))
         (All-cons P (Add 0 0 2) []
-        (has (Add 0 0 2) tt (record { registers = (omega arith, omega arith, omega arith); factors = tt })) (All-nil P)))
+        (has (Add 0 0 2) tt (record { registers = (omega arith, omega arith, omega arith); factors = tt }))
+        (All-nil P)))
 
     in-horner : (root k t : ℕ) → 3 ≤ regs → t < n → All P (horner_acts c p root n source q vs k t)
     in-horner root k t room below =
@@ -147,7 +150,8 @@ module _ (c : Target) (regs : ℕ) (some : 0 < c.modulus) (P : Action → Type 0
         (product-has 1 0 factor (omega arith) (omega arith) (λ _. small))
         (All-cons P (Load 2 from) (Add 0 1 2 ∷ []) (load (n - 1 - t) 2 (omega arith) (omega arith))
         (All-cons P (Add 0 1 2) []
-        (has (Add 0 1 2) tt (record { registers = (omega arith, omega arith, omega arith); factors = tt })) (All-nil P)))
+        (has (Add 0 1 2) tt (record { registers = (omega arith, omega arith, omega arith); factors = tt }))
+        (All-nil P)))
 
     in-items : AreResidues p.multiplier → with_multiplier p.multiplier 1 1 ≤ regs →
         All P (items_acts c p n source target q vs)
@@ -229,4 +233,5 @@ pub pass-fits : (c : Target) (zs : List PlainNest) → CanRun c zs → (source t
     All (IsFit (pass_registers c.modulus zs) c.lanes c.modulus) (pass_acts c zs source target q)
 pass-fits c zs can source target q part =
     every c zs can (IsFit (pass_registers c.modulus zs) c.lanes c.modulus) (λ x stays fit. fit) source target q part
-    (λ a r words low. record { registers = low; factors = tt }) (λ a r words low. record { registers = low; factors = tt })
+    (λ a r words low. record { registers = low; factors = tt })
+    (λ a r words low. record { registers = low; factors = tt })

@@ -1,5 +1,6 @@
 -- The copies of a nest fill their places with what the pass makes of its array.
-use Rattle.std.proofs.Common.{◌≡◌, ℕ, zero, suc, ◌+◌, ◌*◌, ◌-◌, ◌%◌, ◌<◌, ◌≤◌, arith, refl, sym, ap, ap₂, ◌∙◌, List, [], ◌∷◌}
+use Rattle.std.proofs.Common.{◌≡◌, ℕ, zero, suc, ◌+◌, ◌*◌, ◌-◌, ◌%◌, ◌<◌, ◌≤◌, arith, refl, sym, ap, ap₂, ◌∙◌, List, []}
+use Rattle.std.proofs.Common.{◌∷◌}
 use Rattle.std.proofs.Common.{subst, mul_comm, Contains}
 use Rattle.std.specs.Prelude.{slice_index}
 use Rattle.icode.specs.declared.action.Action.{Action}
@@ -18,7 +19,8 @@ use Rattle.code_gen.specs.PassActions.Acts.{load_at, copy_acts, with_multiplier,
 use Rattle.code_gen.specs.PassActions.Laws.{AreApart}
 use Rattle.sigma_spl.specs.Shared.Running.{CanRun}
 use Rattle.operators.specs.declared.target.Target.{Target}
-use Rattle.code_gen.proofs.PassActions.Copies.{modulus-some, nest-can, task_of, items, inputs, outputs, input-is, input-item}
+use Rattle.code_gen.proofs.PassActions.Copies.{modulus-some, nest-can, task_of, items, inputs, outputs, input-is}
+use Rattle.code_gen.proofs.PassActions.Copies.{input-item}
 use Rattle.code_gen.proofs.PassActions.Copies.{input-below, output-is}
 use Rattle.sigma_spl.specs.Horner.{horner_sum}
 use Rattle.sigma_spl.proofs.HornerRows.{horner_row}

@@ -103,7 +103,10 @@ module _ (m : ℕ) where
 pub product-within : (depth n : ℕ) → 0 < n → n < 2 ^ 32 → is_expr_within (product_place depth n) (depth + 2) ≡ true
 product-within depth n some small =
     and_from _ _
-    (and_from _ _ (and_from _ _ (and_from _ _ (and_from _ _ (lt-ltb depth (depth + 1) (omega arith)) (and_from _ _ (lt-ltb (depth + 1) (depth + 2) (omega arith)) refl)) (and_from _ _ (le-leb 0 (65 + (depth * 64 + (depth + 1))) (omega arith)) refl)) (and_from _ _ (small-positive n some small) refl)) refl)
+    (and_from _ _ (and_from _ _ (and_from _ _ (and_from _ _ (lt-ltb depth (depth + 1) (omega arith))
+    (and_from _ _ (lt-ltb (depth + 1) (depth + 2) (omega arith)) refl))
+    (and_from _ _ (le-leb 0 (65 + (depth * 64 + (depth + 1))) (omega arith)) refl))
+    (and_from _ _ (small-positive n some small) refl)) refl)
     refl
 
 pub loop_value-within : (depth : ℕ) → is_expr_within (loop_value depth) (depth + 2) ≡ true

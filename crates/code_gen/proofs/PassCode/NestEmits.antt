@@ -18,7 +18,8 @@ use Rattle.sigma_spl.specs.Shared.Running.{CanRunNest}
 use Rattle.operators.specs.declared.target.Target.{Target}
 use Rattle.sigma_spl.specs.Shared.Machine.{frame_of, item_of, values_of, loop_counts, lane_step}
 use Rattle.code_gen.specs.PassCode.Statements.{diagonal_of, diagonal_number, one_factor, powers_of, multiplier_number}
-use Rattle.code_gen.specs.PassCode.Statements.{do_only, nest_body, nested, straight_body, place_at, powers_number, table_number}
+use Rattle.code_gen.specs.PassCode.Statements.{do_only, nest_body, nested, straight_body, place_at, powers_number}
+use Rattle.code_gen.specs.PassCode.Statements.{table_number}
 use Rattle.code_gen.specs.PassCode.Statements.{tables_of_multiplier, tables_of_nest, tables_of_work, term_body}
 use Rattle.code_gen.specs.PassCode.Statements.{horner_body, with_diagonal, with_table, work_body}
 use Rattle.code_gen.proofs.PassCode.Coded.{IsCoded, coded}
@@ -90,7 +91,8 @@ module _ (c : Target) (lanes : 0 < c.lanes) (z : PlainNest) (can : CanRunNest c 
       let same = values-append c z.work q vs more in
       place-is c n i z sums (vs ++ more) q _ _ (ap (sum_value sums i) (sym same))
       (coded c z.work (limits_of z) n sums i q (vs ++ more) within.words sound size
-      (subst (λ (us : List ℕ). ((d : ℕ) → slice_index us d ≤ limits_of z d - 1)) same (with_more z.counts (work_size z.work) (on 0) more (on-range 0 lanes) low)))
+      (subst (λ (us : List ℕ). ((d : ℕ) → slice_index us d ≤ limits_of z d - 1)) same
+      (with_more z.counts (work_size z.work) (on 0) more (on-range 0 lanes) low)))
 
   -- straight code's
   alone-coded : (sums : List Sum) (i : ℕ) → AreWithin (limits_of z) (frame_of c z.work) (deep + 0) sums →
@@ -126,7 +128,8 @@ module _ (c : Target) (lanes : 0 < c.lanes) (z : PlainNest) (can : CanRunNest c 
   turn-coded k l below under within sound alike =
       subst (λ (us : List ℕ). IsCoded (frame_of c z.work) (deep + 2) z.gathers 0 us q (sum_value z.gathers 0 (on 0 ++ 0 ∷ l ∷ []))) (sym (append_assoc vs (k ∷ []) (l ∷ [])))
       (place-is c (deep + 2) 0 z z.gathers (vs ++ k ∷ l ∷ []) q _ _ (alike (on 0) k l (on-range 0 lanes) below under)
-      (sum-coded z.gathers (deep + 2) 0 (k ∷ l ∷ []) within sound (length-two k l) (two_below (work_size z.work) k l below under)))
+      (sum-coded z.gathers (deep + 2) 0 (k ∷ l ∷ []) within sound (length-two k l)
+      (two_below (work_size z.work) k l below under)))
 
   -- ---- all lanes are inside
 

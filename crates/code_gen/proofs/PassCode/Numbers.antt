@@ -65,7 +65,8 @@ inside (suc k) a f d rest vs h g =
     elim (cases_eq a d) [
       | inl same ↦
           met a d f rest vs _ _ same
-          (same-factors k (a + 1) (variable f d rest) rest vs (λ x low high. factor-other x d f rest (λ e. omega arith)))
+          (same-factors k (a + 1) (variable f d rest) rest vs
+          (λ x low high. factor-other x d f rest (λ e. omega arith)))
       | inr other ↦
           ap₂ (λ u w. vs a * u + w) (factor-other a d f rest other)
           (inside k (a + 1) f d rest vs (omega arith) (omega arith))

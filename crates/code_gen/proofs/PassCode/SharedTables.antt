@@ -56,7 +56,8 @@ extends-more {a} {b} {d} h k =
     }
 
 pub extends-longer : {new old : List (List ℕ)} → Extends new old → length old ≤ length new
-extends-longer {new} {old} h = let all = ap length h.is in let both = length-append old h.last in omega (arith, all, both)
+extends-longer {new} {old} h =
+    let all = ap length h.is in let both = length-append old h.last in omega (arith, all, both)
 
 pub with_table-extends : (ts : List (List ℕ)) (entries : List ℕ) → Extends (with_table ts entries) ts
 with_table-extends [] entries = record { last = entries ∷ []; is = refl }
@@ -79,7 +80,8 @@ pub number-small : (ts : List (List ℕ)) (entries : List ℕ) → table_number 
 number-small [] entries = omega arith
 number-small (t ∷ ts) entries =
     let rest = number-small ts entries in
-    chosen (λ n. n ≤ suc (length ts)) (is_table t entries) 0 (suc (table_number ts entries)) (λ _. omega arith) (omega arith)
+    chosen (λ n. n ≤ suc (length ts)) (is_table t entries) 0 (suc (table_number ts entries)) (λ _. omega arith)
+    (omega arith)
 
 pub with_table-length : (ts : List (List ℕ)) (entries : List ℕ) → length (with_table ts entries) ≤ length ts + 1
 with_table-length [] entries = omega arith

@@ -21,7 +21,8 @@ use Rattle.perm_algebra.specs.Affine.{Sum}
 coded-all : (room n : ℕ) (cs : ℕ → ℕ) (sums : List Sum) → room ≤ 64 → n ≤ 2 ^ 20 →
     list_all (is_limited room n cs) sums ≡ true → All (CanBeCoded cs) sums
 coded-all room n cs sums few high h =
-    All-weaker (λ e. is_limited room n cs e ≡ true) (CanBeCoded cs) (λ e k. tested_sums_are_coded room n cs e few high k) sums
+    All-weaker (λ e. is_limited room n cs e ≡ true) (CanBeCoded cs)
+    (λ e k. tested_sums_are_coded room n cs e few high k) sums
     (AllPass-from_list_all (is_limited room n cs) sums h)
 
 -- ---- as statements

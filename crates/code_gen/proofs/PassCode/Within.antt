@@ -134,7 +134,8 @@ one-more f (suc k) d g x rest ps =
             arith,
             parts-with (factor_at (f.first_loop + d) (variable g x rest)) (Var d (factor_at (f.first_loop + d) (variable g x rest))) (variables_of f k (d + 1) (variable g x rest) ps),
             parts-least (factor_at (f.first_loop + d) rest) (Var d (factor_at (f.first_loop + d) rest)) (variables_of f k (d + 1) rest ps),
-            ap all_parts (same-variables f k (d + 1) (variable g x rest) rest ps (λ i low. factor-other i x g rest (λ e. omega arith))),
+            ap all_parts (same-variables f k (d + 1) (variable g x rest) rest ps
+                (λ i low. factor-other i x g rest (λ e. omega arith))),
           )
       | inr other ↦
           subst (λ a. all_parts (with_factor_of a (Var d a) (variables_of f k (d + 1) (variable g x rest) ps)) ≤ 1 + all_parts (variables_of f (suc k) d rest ps)) (sym (factor-other (f.first_loop + d) x g rest other))
@@ -165,7 +166,8 @@ one-more-processor f n g x rest ps apart = either f.shared apart
                 arith,
                 parts-with (factor_at 0 (variable g x rest)) (Proc (factor_at 0 (variable g x rest))) theirs,
                 parts-least (factor_at 0 rest) (Proc (factor_at 0 rest)) others,
-                ap all_parts (same-variables f n 0 (variable g x rest) rest ps (λ i low. factor-other i x g rest (λ e. omega arith))),
+                ap all_parts (same-variables f n 0 (variable g x rest) rest ps
+                    (λ i low. factor-other i x g rest (λ e. omega arith))),
               )
           | inr other ↦
               subst (λ a. all_parts (with_factor_of a (Proc a) theirs) ≤ 1 + all_parts (with_factor_of (factor_at 0 rest) (Proc (factor_at 0 rest)) others)) (sym (factor-other 0 x g rest other))

@@ -62,7 +62,8 @@ module _ (c : Target) (words : ℕ) (enough : c.size ≤ words) (owner : ℕ →
       All (Keeps q) (pass_acts c p (array_start words source) (array_start words target) q)
   pass-keeps p known source target not_first reads owns q low =
       let can = known.runs in
-      every c p can (Keeps q) (λ x still fit. keeps-still q x still) (array_start words source) (array_start words target) q low
+      every c p can (Keeps q) (λ x still fit. keeps-still q x still) (array_start words source)
+      (array_start words target) q low
       (λ a r loaded few lane on.
       let w = loaded lane on in
       record {
@@ -162,7 +163,8 @@ module _ (c : Target) (words : ℕ) (enough : c.size ≤ words) (owner : ℕ →
         words-all (OnLine (IsOwn q)) c.lanes a (λ k below. record { word = a + k; is = keeps k below; line = refl })
     written-one q _ keeps = All-nil (OnLine (IsOwn q))
 
-    touched-one : (q : ℕ) (x : Action) → Keeps q x → All (OnLine (IsReadable q)) (lines_of c.line (touched_words c.lanes x))
+    touched-one : (q : ℕ) (x : Action) → Keeps q x → All (OnLine (IsReadable q))
+        (lines_of c.line (touched_words c.lanes x))
     touched-one q (Load r a) keeps =
         words-all (OnLine (IsReadable q)) c.lanes a (λ k below. record { word = a + k; is = keeps k below; line = refl })
     touched-one q (Store a r) keeps =
@@ -175,7 +177,8 @@ module _ (c : Target) (words : ℕ) (enough : c.size ≤ words) (owner : ℕ →
         Contains (flat_map (λ x. lines_of c.line (touched_words c.lanes x)) ys) l → other ≡ q
     lists-apart q other l xs ys writes reads written touched =
         clash q other l
-        (All-contains (OnLine (IsOwn q)) _ l (lines-all (stored_words c.lanes) (OnLine (IsOwn q)) q (written-one q) xs writes) written)
+        (All-contains (OnLine (IsOwn q)) _ l
+        (lines-all (stored_words c.lanes) (OnLine (IsOwn q)) q (written-one q) xs writes) written)
         (All-contains (OnLine (IsReadable other)) _ l
         (lines-all (touched_words c.lanes) (OnLine (IsReadable other)) other (touched-one other) ys reads) touched)
 

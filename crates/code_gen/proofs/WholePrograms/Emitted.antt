@@ -46,7 +46,8 @@ module _ (c : Target) where
     pub passes-emit : (ps : List Pass) (t : ℕ) (tables : List (List ℕ)) (source : Array) → AllKnown c ps →
         length (tables_through c.modulus ps tables) < 2 ^ 32 →
         HasTables c (tables_through c.modulus ps tables) program →
-        Emits (steps_of_body program (phase_body c after ps t tables source) [] q) (passes_acts c words after ps t source q)
+        Emits (steps_of_body program (phase_body c after ps t tables source) [] q)
+        (passes_acts c words after ps t source q)
     passes-emit [] t tables source all few has = emits-none
     passes-emit (p ∷ ps) t tables source all few has =
         let so_far = tables_after c.modulus p tables in
@@ -56,7 +57,8 @@ module _ (c : Target) where
         let mine = fewer-tables so_far (tables_through c.modulus ps so_far) program later has in
         let first = passes_are_emitted c p tables source target all.0 (omega arith) in
         emits-followed program q (pass_body c p tables source target) (phase_body c after ps (suc t) so_far target) []
-        (pass_acts c p (array_start words source) (array_start words target) q) (passes_acts c words after ps (suc t) target q)
+        (pass_acts c p (array_start words source) (array_start words target) q)
+        (passes_acts c words after ps (suc t) target q)
         (record { acts = first.acts program q low mine; inside = first.inside program q low mine })
         (passes-emit ps (suc t) so_far target all.1 few has)
 

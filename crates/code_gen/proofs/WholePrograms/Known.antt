@@ -52,7 +52,8 @@ abbrev pub AllFrom : (ℕ → Type 0) → ℕ → List (List Pass) → Type 0
 AllFrom P f [] = Unit {0}
 AllFrom P f (ps ∷ more) = P f × AllFrom P (f + 1) more
 
-pub at-phase : (P : ℕ → Type 0) (f : ℕ) (pss : List (List Pass)) → AllFrom P f pss → (k : ℕ) → k < length pss → P (f + k)
+pub at-phase : (P : ℕ → Type 0) (f : ℕ) (pss : List (List Pass)) → AllFrom P f pss → (k : ℕ) → k < length pss →
+    P (f + k)
 at-phase P f [] h k low = absurd (omega (arith, low))
 at-phase P f (ps ∷ more) h zero low = subst P (omega arith) h.0
 at-phase P f (ps ∷ more) h (suc k) low = subst P (omega arith) (at-phase P (f + 1) more h.1 k (omega (arith, low)))

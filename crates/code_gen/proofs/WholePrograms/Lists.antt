@@ -29,8 +29,8 @@ module _ (p : PlainProgram) where
       let lists : PlainBody → List (List Action) =
       λ b. map (λ r. actions_of (steps_of_body p b [] r)) (range_with_len 0 p.procs) in
       ap (λ (l : List (List Action)). slice_index_or l q []) (get_or-map lists p.phases f NoStmts [] low)
-      ∙ get_or-map-range_with_len (λ r. actions_of (steps_of_body p (slice_index_or p.phases f NoStmts) [] r)) 0 p.procs q q []
-      high (omega arith)
+      ∙ get_or-map-range_with_len (λ r. actions_of (steps_of_body p (slice_index_or p.phases f NoStmts) [] r)) 0 p.procs
+      q q [] high (omega arith)
 
   steps-at : (front : List PlainBody) (body : PlainBody) (back : List PlainBody) (q : ℕ) →
       p.phases ≡ front ++ body ∷ back → steps_of_phase p (length front) q ≡ steps_of_body p body [] q
@@ -76,7 +76,8 @@ module _ (c : Target) where
         (is ∙ sym (append_assoc front (body ∷ []) later)) has few known.1 in
         let moved : Listed (length front + 1) more (t + length ps) next =
         subst (λ n. Listed n more (t + length ps) next) (length-append front (body ∷ [])) rest in
-        let emits : (q : ℕ) → q < c.procs → Emits (steps_of_phase p (length front) q) (passes_acts c words after ps t source q) =
+        let emits : (q : ℕ) → q < c.procs → Emits (steps_of_phase p (length front) q)
+        (passes_acts c words after ps t source q) =
         λ q low.
         emits-same _ _ _ (steps-at p front body later q is)
         (passes-emit c after p q low ps t tables source known.0 (omega arith) mine) in

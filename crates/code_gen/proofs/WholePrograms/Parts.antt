@@ -36,8 +36,8 @@ pass-stays c p known q low source target =
     let some = can.lanes in
     let first : 0 < c.lanes = omega arith in
     let last : c.lanes - 1 < c.lanes = omega arith in
-    every c p can (Stays c.size c.lanes source target) (λ x still fit. stays-still c.size c.lanes source target x still) source
-    target q low
+    every c p can (Stays c.size c.lanes source target) (λ x still fit. stays-still c.size c.lanes source target x still)
+    source target q low
     (λ a r words few. lanes-inside c.size c.lanes source a _ _ some (words 0 first).2 (words (c.lanes - 1) last).2
     (loaded-below c p can q _ (words (c.lanes - 1) last).1))
     (λ a r words few. lanes-inside c.size c.lanes target a _ _ some (words 0 first).2 (words (c.lanes - 1) last).2

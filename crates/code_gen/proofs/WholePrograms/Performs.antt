@@ -36,7 +36,8 @@ use Rattle.code_gen.proofs.WholePrograms.Arrays.{target-other}
 use Rattle.code_gen.proofs.WholePrograms.Emitted.{passes-within, phases-extend}
 use Rattle.code_gen.proofs.PassCode.SharedTables.{extends-longer}
 use Rattle.code_gen.proofs.WholePrograms.Fits.{length-actions, parts-fit, parts-short, steps-fit, sum-shares}
-use Rattle.code_gen.proofs.WholePrograms.Known.{Pass, AllFrom, PhasesKnown, at-phase, passes-count, passes_acts, phases_known}
+use Rattle.code_gen.proofs.WholePrograms.Known.{Pass, AllFrom, PhasesKnown, at-phase, passes-count, passes_acts}
+use Rattle.code_gen.proofs.WholePrograms.Known.{phases_known}
 use Rattle.code_gen.proofs.WholePrograms.Lists.{IsInsidePhase, Listed, phases-listed, steps-acts}
 use Rattle.code_gen.proofs.WholePrograms.Parts.{all_parts, all-are, all-whole}
 use Rattle.code_gen.proofs.WholePrograms.Phases.{Ready, RunsPhases, SharedFrom, all-phases, final_array}

@@ -130,7 +130,8 @@ module _ (c : Target) (words : ℕ) (enough : c.size ≤ words) (owner : ℕ →
         slice_index next.memory (array_start words a + i) ≡ slice_index s.memory (array_start words a + i)
     other-array a i below other =
         leaves.kept (array_start words a + i) (λ w is e.
-        words_apart c.size (array_start words a) to i w (array_start words a + i) (apart words c.size enough a target other)
+        words_apart c.size (array_start words a) to i w (array_start words a + i)
+        (apart words c.size enough a target other)
         below (stored-below c p known.runs q w is) refl e)
 
     one-kept : (a : Array) (i : ℕ) → i < c.size → owner i ≢ q →
@@ -187,5 +188,6 @@ module _ (c : Target) (words : ℕ) (enough : c.size ≤ words) (owner : ℕ →
             ∙ one-kept p ps t source q low x s known.0 owned.0 owned.1 h a i below other;
         first = λ i below.
             rest.first i below
-            ∙ other-array p ps t source q low x s known.0 owned.0 owned.1 h X i below (target-other t (after + length ps));
+            ∙ other-array p ps t source q low x s known.0 owned.0 owned.1 h X i below
+            (target-other t (after + length ps));
       })
