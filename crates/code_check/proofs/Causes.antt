@@ -1,5 +1,6 @@
 -- Each program has one cause of refusal at most.
-use Rattle.std.proofs.Common.{◌≡◌, ◌≢◌, ℕ, zero, suc, ◌<◌, ◌≤◌, List, [], ◌∷◌, Some, All, take, refl, sym, ap, ◌∙◌, subst, arith, ⊎_elim}
+use Rattle.std.proofs.Common.{◌≡◌, ◌≢◌, ℕ, zero, suc, ◌<◌, ◌≤◌, List, [], ◌∷◌, Some, All, take, refl, sym, ap, ◌∙◌}
+use Rattle.std.proofs.Common.{subst, arith, ⊎_elim}
 use Rattle.std.specs.Prelude.{slice_get}
 use Rattle.std.proofs.lemmas.Bool.{cases_lt}
 use Rattle.icode.specs.Actions.{Step, steps_of_phase, plain_code}
@@ -45,7 +46,8 @@ record AreSame (f q i g r j : ℕ) (s t : Step) : Type 0 where
   pub action : i ≡ j
   pub step : s ≡ t
 
-first_is_one : (p : PlainProgram) (f q i g r j : ℕ) (s t : Step) → IsFirstOffender p f q i s → IsFirstOffender p g r j t → AreSame f q i g r j s t
+first_is_one : (p : PlainProgram) (f q i g r j : ℕ) (s t : Step) → IsFirstOffender p f q i s →
+    IsFirstOffender p g r j t → AreSame f q i g r j s t
 first_is_one p f q i g r j s t h o =
     let same_phase : f ≡ g = equal_if_not_less f g (phase_not_before p f q i s h g r j t o) (phase_not_before p g r j t o f q i s h) in
     let o1 : IsFirstOffender p f r j t = subst (λ k. IsFirstOffender p k r j t) (sym same_phase) o in
@@ -61,7 +63,8 @@ record AreOneLine (f k a b g l c d : ℕ) : Type 0 where
   pub writer : a ≡ c
   pub other : b ≡ d
 
-shared_is_one : (code : Code) (f k a b g l c d : ℕ) → IsFirstShared code f k a b → IsFirstShared code g l c d → AreOneLine f k a b g l c d
+shared_is_one : (code : Code) (f k a b g l c d : ℕ) → IsFirstShared code f k a b → IsFirstShared code g l c d →
+    AreOneLine f k a b g l c d
 shared_is_one code f k a b g l c d h o =
     let one : f ≤ g = h.phases g l c d o.in_phase.here in
     let two : g ≤ f = o.phases f k a b h.in_phase.here in
@@ -79,7 +82,8 @@ shared_is_one code f k a b g l c d h o =
     let eight : d ≤ b = o3.in_phase.others b h.in_phase.here in
     record { phase = phase; line = line; writer = writer; other = let e : b ≡ d = omega arith in e }
 
-pub one_cause : (limit : ℕ) (p : PlainProgram) (f g : CheckFault) → f ≢ NoMemory → g ≢ NoMemory → IsCause limit p f → IsCause limit p g → f ≡ g
+pub one_cause : (limit : ℕ) (p : PlainProgram) (f g : CheckFault) → f ≢ NoMemory → g ≢ NoMemory → IsCause limit p f →
+    IsCause limit p g → f ≡ g
 one_cause limit p (OverSteps n) (OverSteps m) nf ng h o = ap OverSteps (h.0 ∙ sym o.0)
 one_cause limit p (OverSteps n) (Address f q i) nf ng h o = absurd (omega (arith, h.1, o.few))
 one_cause limit p (OverSteps n) (Register f q i) nf ng h o = absurd (omega (arith, h.1, o.few))
@@ -113,12 +117,10 @@ one_cause limit p (LineShared f k a b) (LineShared g l c d) nf ng h o =
     let ea : a ≡ c = same.writer in
     let eb : b ≡ d = same.other in cc
 one_cause limit p NoMemory g nf ng h o = absurd (nf refl)
-one_cause limit p (OverSteps n) NoMemory nf ng h o = absurd (ng refl)
-one_cause limit p (Address f q i) NoMemory nf ng h o = absurd (ng refl)
-one_cause limit p (Register f q i) NoMemory nf ng h o = absurd (ng refl)
-one_cause limit p (LineShared f k a b) NoMemory nf ng h o = absurd (ng refl)
+one_cause limit p _ NoMemory nf ng h o = absurd (ng refl)
 
-pub none_if_passed : (limit : ℕ) (p : PlainProgram) (f : CheckFault) → f ≢ NoMemory → PassesCheck limit p → IsCause limit p f → ⊥
+pub none_if_passed : (limit : ℕ) (p : PlainProgram) (f : CheckFault) → f ≢ NoMemory → PassesCheck limit p →
+    IsCause limit p f → ⊥
 none_if_passed limit p (OverSteps n) nf h o = omega (arith, o.1, h.few)
 none_if_passed limit p (Address f q i) nf h o = not_all_sound p f q i o.step o.first h.sound
 none_if_passed limit p (Register f q i) nf h o = not_all_sound p f q i o.step o.first h.sound

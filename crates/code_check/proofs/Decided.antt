@@ -1,5 +1,6 @@
 -- A program passes the check, or there is a cause to refuse it.
-use Rattle.std.proofs.Common.{◌≡◌, ◌≢◌, ◌⊎◌, ◌≤◌, ◌<◌, ◌+◌, ℕ, zero, suc, List, length, None, Some, Option, replicate, refl, subst, inl, inr, arith}
+use Rattle.std.proofs.Common.{◌≡◌, ◌≢◌, ◌⊎◌, ◌≤◌, ◌<◌, ◌+◌, ℕ, zero, suc, List, length, None, Some, Option, replicate}
+use Rattle.std.proofs.Common.{refl, subst, inl, inr, arith}
 use Rattle.std.proofs.lemmas.Bool.{cases_lt}
 use Rattle.icode.specs.Actions.{steps_of_phase}
 use Rattle.icode.specs.Limits.{IsWithinLimits}
@@ -13,11 +14,12 @@ use Rattle.code_check.specs.declared.walk.Offence.TheVariants.{Place, Register}
 use Rattle.code_check.specs.Faults.{fault_of}
 use Rattle.code_check.specs.Laws.{IsRefusedFor}
 use Rattle.code_check.specs.Phases.{IsPhaseFault, IsPhaseSound}
-use Rattle.code_check.specs.Refusals.{IsCause, PassesCheck, action_count}
+use Rattle.code_check.specs.Refusals.{PassesCheck, action_count}
 use Rattle.code_check.specs.Uses.{first_sharing, line_count, sooner, unused}
 use Rattle.code_check.specs.Walk.{Passed, Stopped, Walk, walked}
 use Rattle.code_check.proofs.Phases.{IsPhaseSoFar, phase_ends, phase_goes_on, phase_starts, phase_stops}
-use Rattle.code_check.proofs.Whole.{IsCheckedTo, checked_fault, checked_more, checked_none, checked_passes, checked_shared}
+use Rattle.code_check.proofs.Whole.{IsCheckedTo, checked_fault, checked_more, checked_none, checked_passes}
+use Rattle.code_check.proofs.Whole.{checked_shared}
 
 offence_is_none : (o : Offence) (phase q i : ℕ) → fault_of o phase q i ≢ NoMemory
 offence_is_none Place phase q i e = cc

@@ -16,12 +16,15 @@ memory_or_not (Register f q i) = inr (λ e. cc)
 memory_or_not (LineShared f k a b) = inr (λ e. cc)
 memory_or_not NoMemory = inl refl
 
-pub refused_for_memory : {X : Type 0} (limit : ℕ) (p : PlainProgram) (r : Result X CheckFault) → IfErr r (IsCause limit p) → PassesCheck limit p → IfErr r (λ fault. fault ≡ NoMemory)
+pub refused_for_memory : {X : Type 0} (limit : ℕ) (p : PlainProgram) (r : Result X CheckFault) →
+    IfErr r (IsCause limit p) → PassesCheck limit p → IfErr r (λ fault. fault ≡ NoMemory)
 refused_for_memory limit p (Ok v) cause h = tt
 refused_for_memory limit p (Err f) cause h =
     ⊎_elim (λ (e : f ≡ NoMemory). e) (λ (ne : f ≢ NoMemory). absurd (none_if_passed limit p f ne h cause)) (memory_or_not f)
 
-pub refused_for_cause : {X : Type 0} (limit : ℕ) (p : PlainProgram) (r : Result X CheckFault) → OnOk r (PassesCheck limit p) → IfErr r (IsCause limit p) → (fault : CheckFault) → fault ≢ NoMemory → IsCause limit p fault → IsErrAnd r (λ answer. (answer ≡ fault) ⊎ (answer ≡ NoMemory))
+pub refused_for_cause : {X : Type 0} (limit : ℕ) (p : PlainProgram) (r : Result X CheckFault) →
+    OnOk r (PassesCheck limit p) → IfErr r (IsCause limit p) → (fault : CheckFault) → fault ≢ NoMemory →
+    IsCause limit p fault → IsErrAnd r (λ answer. (answer ≡ fault) ⊎ (answer ≡ NoMemory))
 refused_for_cause limit p (Ok v) passes cause fault ne h = absurd (none_if_passed limit p fault ne passes h)
 refused_for_cause limit p (Err f) passes cause fault ne h =
     ⊎_elim (λ (e : f ≡ NoMemory). inr e) (λ (nf : f ≢ NoMemory). inl (one_cause limit p f fault nf ne cause h)) (memory_or_not f)
@@ -35,6 +38,7 @@ cause_fits p limits (Register f q i) h = tt
 cause_fits p limits (LineShared f k a b) h = sound_fits p limits h.few h.sound
 cause_fits p limits NoMemory h = tt
 
-pub shared_fits : {X : Type 0} (p : PlainProgram) → IsWithinLimits p → (r : Result X CheckFault) → IfErr r (IsCause 100000000 p) → IfErr r (FitsIfShared p)
+pub shared_fits : {X : Type 0} (p : PlainProgram) → IsWithinLimits p → (r : Result X CheckFault) →
+    IfErr r (IsCause 100000000 p) → IfErr r (FitsIfShared p)
 shared_fits p limits (Ok v) cause = tt
 shared_fits p limits (Err f) cause = cause_fits p limits f cause

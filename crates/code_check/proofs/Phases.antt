@@ -1,5 +1,7 @@
 -- The check of a phase, processor by processor.
-use Rattle.std.proofs.Common.{◌≡◌, ◌≢◌, ℕ, zero, suc, ◌+◌, ◌*◌, ◌<◌, ◌≤◌, ◌^◌, List, [], Option, Some, None, All, Contains, Vec, Global, true, replicate, length, flat_map, get_or, refl, sym, ap, ◌∙◌, subst, arith, ⊎_elim, mul_comm, le-mul_of_pos_right}
+use Rattle.std.proofs.Common.{◌≡◌, ◌≢◌, ℕ, zero, suc, ◌+◌, ◌*◌, ◌<◌, ◌≤◌, ◌^◌, List, [], Option, Some, None, All}
+use Rattle.std.proofs.Common.{Contains, Vec, Global, true, replicate, length, flat_map, get_or, refl, sym, ap, ◌∙◌}
+use Rattle.std.proofs.Common.{subst, arith, ⊎_elim, mul_comm, le-mul_of_pos_right}
 use Rattle.std.specs.Prelude.{slice_index_or, MatchOption}
 use Rattle.std.proofs.lemmas.Bool.{cases_eq, cases_lt}
 use Rattle.std.proofs.lemmas.List.{get_or-map, length-map}
@@ -38,11 +40,14 @@ limits_of p = record { header = p.header; constants = p.constants; statements = 
 
 -- the statements of a phase
 
-pub body_is : (p : Program) (phase : ℕ) (body : Vec Stmt Global) → phase < length p.phases.items → body ≡ get_or p.phases.items phase body → slice_index_or (plain_phases p.phases.items) phase NoStmts ≡ plain_body body.items
+pub body_is : (p : Program) (phase : ℕ) (body : Vec Stmt Global) → phase < length p.phases.items →
+    body ≡ get_or p.phases.items phase body → slice_index_or (plain_phases p.phases.items) phase NoStmts
+    ≡ plain_body body.items
 body_is p phase body lt e =
     get_or-map (λ (b : Vec Stmt Global). plain_body b.items) p.phases.items phase body NoStmts lt ∙ ap (λ (b : Vec Stmt Global). plain_body b.items) (sym e)
 
-module _ (p : Program) (phase : ℕ) (body : Vec Stmt Global) (live : PlainBody) (here : phase < length p.phases.items) (is : body ≡ get_or p.phases.items phase body) (lives : live ≡ pruned (plain_body body.items)) where
+module _ (p : Program) (phase : ℕ) (body : Vec Stmt Global) (live : PlainBody) (here : phase < length p.phases.items)
+    (is : body ≡ get_or p.phases.items phase body) (lives : live ≡ pruned (plain_body body.items)) where
   pub live_steps : (q : ℕ) → steps_of_phase (plain_program p) phase q ≡ steps_of_body (plain_program p) live [] q
   live_steps q =
       ap (λ b. steps_of_body (plain_program p) b [] q) (body_is p phase body here is)
@@ -60,7 +65,9 @@ one_of_sum f (suc n) k below =
     (λ (ne : k ≡ n → ⊥). omega (arith, one_of_sum f n k (omega arith)))
     (cases_eq k n)
 
-pub body_is_short : (p : Program) (phase : ℕ) (body : Vec Stmt Global) (live : PlainBody) → phase < length p.phases.items → body ≡ get_or p.phases.items phase body → live ≡ pruned (plain_body body.items) → action_count (plain_program p) < 2 ^ 64 → len_of_body live < 2 ^ 64
+pub body_is_short : (p : Program) (phase : ℕ) (body : Vec Stmt Global) (live : PlainBody) →
+    phase < length p.phases.items → body ≡ get_or p.phases.items phase body → live ≡ pruned (plain_body body.items) →
+    action_count (plain_program p) < 2 ^ 64 → len_of_body live < 2 ^ 64
 body_is_short p phase body live lt e lives few =
     let there : phase < length (plain_phases p.phases.items) = omega (arith, lt, length-map p.phases.items (λ (b : Vec Stmt Global). plain_body b.items)) in
     let one = one_of_sum (phase_len (plain_program p)) (length (plain_phases p.phases.items)) phase there in
@@ -75,10 +82,12 @@ pub record IsPhaseSoFar (p : PlainProgram) (phase n : ℕ) (table : List LineUse
   pub noted : table ≡ phase_table p phase n
   pub sound : (r : ℕ) → r < n → All (IsSound p) (steps_of_phase p phase r)
 
-pub phase_starts : (p : PlainProgram) (phase : ℕ) (table : List LineUse) → table ≡ replicate (line_count p) unused → IsPhaseSoFar p phase 0 table
+pub phase_starts : (p : PlainProgram) (phase : ℕ) (table : List LineUse) → table ≡ replicate (line_count p) unused →
+    IsPhaseSoFar p phase 0 table
 phase_starts p phase table e = record { noted = e; sound = λ r lt. absurd (omega arith) }
 
-pub phase_goes_on : (p : PlainProgram) (phase n m : ℕ) (t u : List LineUse) → IsPhaseSoFar p phase n t → walked p n (steps_of_phase p phase n) 0 t ≡ Passed m u → IsPhaseSoFar p phase (n + 1) u
+pub phase_goes_on : (p : PlainProgram) (phase n m : ℕ) (t u : List LineUse) → IsPhaseSoFar p phase n t →
+    walked p n (steps_of_phase p phase n) 0 t ≡ Passed m u → IsPhaseSoFar p phase (n + 1) u
 phase_goes_on p phase n m t u h e =
     let done = passed_sound p n (steps_of_phase p phase n) 0 m t u e in
     let next : n + 1 ≡ suc n = omega arith in
@@ -90,7 +99,9 @@ phase_goes_on p phase n m t u h e =
           (cases_eq r n);
     }
 
-pub phase_stops : (p : PlainProgram) (phase n m : ℕ) (t : List LineUse) (o : Offence) → n < p.procs → IsPhaseSoFar p phase n t → walked p n (steps_of_phase p phase n) 0 t ≡ Stopped m o → IsPhaseFault p phase (fault_of o phase n m)
+pub phase_stops : (p : PlainProgram) (phase n m : ℕ) (t : List LineUse) (o : Offence) → n < p.procs →
+    IsPhaseSoFar p phase n t → walked p n (steps_of_phase p phase n) 0 t ≡ Stopped m o →
+    IsPhaseFault p phase (fault_of o phase n m)
 phase_stops p phase n m t o small h e =
     let found = stopped_at p n (steps_of_phase p phase n) 0 m t o e in
     let same : found.0 ≡ m = omega (arith, found.1) in
@@ -111,7 +122,8 @@ phase_stops p phase n m t o small h e =
 
 -- at the end
 
-module _ (p : PlainProgram) (limits : IsWithinLimits p) (phase : ℕ) (here : phase < length p.phases) (sound : (r : ℕ) → r < p.procs → All (IsSound p) (steps_of_phase p phase r)) where
+module _ (p : PlainProgram) (limits : IsWithinLimits p) (phase : ℕ) (here : phase < length p.phases)
+    (sound : (r : ℕ) → r < p.procs → All (IsSound p) (steps_of_phase p phase r)) where
   abbrev writers : ℕ → List ℕ
   writers = written_lines (plain_code p) phase
 
@@ -141,7 +153,8 @@ module _ (p : PlainProgram) (limits : IsWithinLimits p) (phase : ℕ) (here : ph
         (record { writes = w; touches = t; other = ne });
   }
 
-  pub least_shared : (s : Sharing) → first_sharing phase 0 (phase_table p phase p.procs) ≡ Some s → (s.phase ≡ phase) × IsLeastShared (plain_code p) phase s.line s.a s.b
+  pub least_shared : (s : Sharing) → first_sharing phase 0 (phase_table p phase p.procs) ≡ Some s →
+      (s.phase ≡ phase) × IsLeastShared (plain_code p) phase s.line s.a s.b
   least_shared s e =
       let found = first_in_table phase 0 (phase_table p phase p.procs) s e in
       let k : ℕ = found.0 in
@@ -150,7 +163,8 @@ module _ (p : PlainProgram) (limits : IsWithinLimits p) (phase : ℕ) (here : ph
       let same : k ≡ s.line = omega (arith, at.1) in
       (at.0, subst (λ line. IsLeastShared (plain_code p) phase line s.a s.b) same (least k s.a s.b at.2 found.1.before))
     where
-      least : (k a b : ℕ) → IsSharedBy (λ r. Contains (writers r) k) (λ r. Contains (touchers r) k) a b → ((j : ℕ) → j < k → sharing_of phase (0 + j) (entry j) ≡ None) → IsLeastShared (plain_code p) phase k a b
+      least : (k a b : ℕ) → IsSharedBy (λ r. Contains (writers r) k) (λ r. Contains (touchers r) k) a b →
+          ((j : ℕ) → j < k → sharing_of phase (0 + j) (entry j) ≡ None) → IsLeastShared (plain_code p) phase k a b
       least k a b by before = record {
         here = record { writes = by.writes; touches = by.touches; other = by.other };
         lines = λ l x y sh. ⊎_elim (λ (lt : l < k). absurd (not_shared l (before l lt) x y sh)) (λ (ge : k ≤ l). ge) (cases_lt l k);
@@ -158,7 +172,9 @@ module _ (p : PlainProgram) (limits : IsWithinLimits p) (phase : ℕ) (here : ph
         others = λ y sh. by.others y sh.touches sh.other;
       }
 
-pub phase_ends : (p : PlainProgram) → IsWithinLimits p → (phase n : ℕ) (t : List LineUse) (found : Option Sharing) → phase < length p.phases → p.procs ≤ n → n ≤ p.procs → IsPhaseSoFar p phase n t → found ≡ first_sharing phase 0 t → IsPhaseSound p phase found
+pub phase_ends : (p : PlainProgram) → IsWithinLimits p → (phase n : ℕ) (t : List LineUse) (found : Option Sharing) →
+    phase < length p.phases → p.procs ≤ n → n ≤ p.procs → IsPhaseSoFar p phase n t → found ≡ first_sharing phase 0 t →
+    IsPhaseSound p phase found
 phase_ends p limits phase n t found here ge le h e =
     let same : n ≡ p.procs = omega arith in
     let sound : (r : ℕ) → r < p.procs → All (IsSound p) (steps_of_phase p phase r) = λ r lt. h.sound r (omega arith) in
@@ -166,12 +182,17 @@ phase_ends p limits phase n t found here ge le h e =
     sym (e ∙ (ap (first_sharing phase 0) h.noted ∙ ap (λ k. first_sharing phase 0 (phase_table p phase k)) same)) in
     record { sound = sound; sharing = by sound found is }
   where
-    by : ((r : ℕ) → r < p.procs → All (IsSound p) (steps_of_phase p phase r)) → (o : Option Sharing) → first_sharing phase 0 (phase_table p phase p.procs) ≡ o → MatchOption o (IsApart (plain_code p) phase) (λ (s : Sharing). (s.phase ≡ phase) × IsLeastShared (plain_code p) phase s.line s.a s.b)
+    by : ((r : ℕ) → r < p.procs → All (IsSound p) (steps_of_phase p phase r)) → (o : Option Sharing) →
+        first_sharing phase 0 (phase_table p phase p.procs) ≡ o →
+        MatchOption o (IsApart (plain_code p) phase) (λ (s : Sharing). (s.phase ≡ phase)
+        × IsLeastShared (plain_code p) phase s.line s.a s.b)
     by sound None is = nothing_shared p limits phase here sound is
     by sound (Some s) is = least_shared p limits phase here sound s is
 
 -- a phase that holds no action
-pub idle_phase : (p : Program) (phase : ℕ) (body : Vec Stmt Global) (live : PlainBody) → phase < length p.phases.items → body ≡ get_or p.phases.items phase body → live ≡ pruned (plain_body body.items) → live ≡ NoStmts → IsPhaseSound (plain_program p) phase None
+pub idle_phase : (p : Program) (phase : ℕ) (body : Vec Stmt Global) (live : PlainBody) → phase < length p.phases.items →
+    body ≡ get_or p.phases.items phase body → live ≡ pruned (plain_body body.items) → live ≡ NoStmts →
+    IsPhaseSound (plain_program p) phase None
 idle_phase p phase body live lt e lives none = record {
   sound = λ q small. subst (All (IsSound (plain_program p))) (sym (idle q)) (All-nil (IsSound (plain_program p)));
   sharing = record {

@@ -1,5 +1,6 @@
 -- What a table's first shared line says.
-use Rattle.std.proofs.Common.{◌≡◌, ◌≢◌, ℕ, zero, suc, ◌+◌, ◌<◌, ◌≤◌, Bool, true, false, List, [], ◌∷◌, Option, Some, None, length, refl, sym, ap, ◌∙◌, subst, arith, ⊎_elim}
+use Rattle.std.proofs.Common.{◌≡◌, ◌≢◌, ℕ, zero, suc, ◌+◌, ◌<◌, ◌≤◌, Bool, true, false, List, [], ◌∷◌, Option, Some}
+use Rattle.std.proofs.Common.{None, length, refl, sym, ap, ◌∙◌, subst, arith, ⊎_elim}
 use Rattle.std.specs.Prelude.{◌==◌, slice_index_or, if◌then◌else◌}
 use Rattle.std.proofs.lemmas.Bool.{cases_eq, eqb-true, eqb-false}
 use Rattle.code_check.specs.declared.lines.LineUse.{LineUse}
@@ -8,7 +9,9 @@ use Rattle.code_check.specs.Uses.{unused, sharing_with, sharing_of, sooner, firs
 use Rattle.code_check.proofs.Sharing.{IsLeast, IsUsedBy}
 
 -- a line that nobody shares
-none_with : (W T : ℕ → Type 0) (phase line : ℕ) (writer first second : Option ℕ) → IsLeast W writer → IsLeast T first → IsLeast (λ r. T r × (first ≢ Some r)) second → ((r : ℕ) → W r → T r) → sharing_with phase line writer first second ≡ None → (x y : ℕ) → W x → T y → y ≢ x → ⊥
+none_with : (W T : ℕ → Type 0) (phase line : ℕ) (writer first second : Option ℕ) → IsLeast W writer → IsLeast T first →
+    IsLeast (λ r. T r × (first ≢ Some r)) second → ((r : ℕ) → W r → T r) →
+    sharing_with phase line writer first second ≡ None → (x y : ℕ) → W x → T y → y ≢ x → ⊥
 none_with W T phase line None first second hw hf hs wt e x y wx ty ne = hw x wx
 none_with W T phase line (Some writer) None second hw hf hs wt e x y wx ty ne = hf y ty
 none_with W T phase line (Some writer) (Some first) None hw hf hs wt e x y wx ty ne =
@@ -18,7 +21,8 @@ none_with W T phase line (Some writer) (Some first) None hw hf hs wt e x y wx ty
     (cases_eq first x)
 none_with W T phase line (Some writer) (Some first) (Some second) hw hf hs wt e x y wx ty ne = cc
 
-pub nobody_shares : (W T : ℕ → Type 0) (phase line : ℕ) (u : LineUse) → IsUsedBy W T u → ((r : ℕ) → W r → T r) → sharing_of phase line u ≡ None → (x y : ℕ) → W x → T y → y ≢ x → ⊥
+pub nobody_shares : (W T : ℕ → Type 0) (phase line : ℕ) (u : LineUse) → IsUsedBy W T u → ((r : ℕ) → W r → T r) →
+    sharing_of phase line u ≡ None → (x y : ℕ) → W x → T y → y ≢ x → ⊥
 nobody_shares W T phase line u h wt e = none_with W T phase line u.writer u.first u.second h.writer h.first h.second wt e
 
 -- a line that is shared
@@ -29,7 +33,9 @@ pub record IsSharedBy (W T : ℕ → Type 0) (a b : ℕ) : Type 0 where
   pub writers : (x : ℕ) → W x → a ≤ x
   pub others : (y : ℕ) → T y → y ≢ a → b ≤ y
 
-shared_with : (W T : ℕ → Type 0) (phase line : ℕ) (s : Sharing) (writer first second : Option ℕ) → IsLeast W writer → IsLeast T first → IsLeast (λ r. T r × (first ≢ Some r)) second → sharing_with phase line writer first second ≡ Some s → (s.phase ≡ phase) × (s.line ≡ line) × IsSharedBy W T s.a s.b
+shared_with : (W T : ℕ → Type 0) (phase line : ℕ) (s : Sharing) (writer first second : Option ℕ) → IsLeast W writer →
+    IsLeast T first → IsLeast (λ r. T r × (first ≢ Some r)) second →
+    sharing_with phase line writer first second ≡ Some s → (s.phase ≡ phase) × (s.line ≡ line) × IsSharedBy W T s.a s.b
 shared_with W T phase line s None first second hw hf hs e = cc
 shared_with W T phase line s (Some writer) None second hw hf hs e = cc
 shared_with W T phase line s (Some writer) (Some first) None hw hf hs e = cc
@@ -59,7 +65,8 @@ shared_with W T phase line s (Some writer) (Some first) (Some second) hw hf hs e
           record { writes = hw.0; touches = hf.0; other = different; writers = hw.1; others = λ y ty ne. hf.1 y ty },
         )
 
-pub someone_shares : (W T : ℕ → Type 0) (phase line : ℕ) (s : Sharing) (u : LineUse) → IsUsedBy W T u → sharing_of phase line u ≡ Some s → (s.phase ≡ phase) × (s.line ≡ line) × IsSharedBy W T s.a s.b
+pub someone_shares : (W T : ℕ → Type 0) (phase line : ℕ) (s : Sharing) (u : LineUse) → IsUsedBy W T u →
+    sharing_of phase line u ≡ Some s → (s.phase ≡ phase) × (s.line ≡ line) × IsSharedBy W T s.a s.b
 someone_shares W T phase line s u h e = shared_with W T phase line s u.writer u.first u.second h.writer h.first h.second e
 
 -- the first shared line of a table
@@ -68,7 +75,8 @@ none_after : (o rest : Option Sharing) → sooner o rest ≡ None → (o ≡ Non
 none_after None rest e = (refl, e)
 none_after (Some s) rest e = cc
 
-pub none_in_table : (phase line : ℕ) (table : List LineUse) → first_sharing phase line table ≡ None → (k : ℕ) → k < length table → sharing_of phase (line + k) (slice_index_or table k unused) ≡ None
+pub none_in_table : (phase line : ℕ) (table : List LineUse) → first_sharing phase line table ≡ None → (k : ℕ) →
+    k < length table → sharing_of phase (line + k) (slice_index_or table k unused) ≡ None
 none_in_table phase line [] e k lt = absurd (omega arith)
 none_in_table phase line (u ∷ table) e zero lt =
     let same : line + 0 ≡ line = omega arith in ap (λ n. sharing_of phase n u) same ∙ (none_after (sharing_of phase line u) (first_sharing phase (line + 1) table) e).0
@@ -82,7 +90,10 @@ pub record FirstInTable (phase line : ℕ) (table : List LineUse) (s : Sharing) 
   pub here : sharing_of phase (line + k) (slice_index_or table k unused) ≡ Some s
   pub before : (j : ℕ) → j < k → sharing_of phase (line + j) (slice_index_or table j unused) ≡ None
 
-first_by : (phase line : ℕ) (u : LineUse) (table : List LineUse) (s : Sharing) (o : Option Sharing) → sharing_of phase line u ≡ o → (first_sharing phase (line + 1) table ≡ Some s → (k : ℕ) × FirstInTable phase (line + 1) table s k) → sooner o (first_sharing phase (line + 1) table) ≡ Some s → (k : ℕ) × FirstInTable phase line (u ∷ table) s k
+first_by : (phase line : ℕ) (u : LineUse) (table : List LineUse) (s : Sharing) (o : Option Sharing) →
+    sharing_of phase line u ≡ o → (first_sharing phase (line + 1) table ≡ Some s →
+    (k : ℕ) × FirstInTable phase (line + 1) table s k) → sooner o (first_sharing phase (line + 1) table) ≡ Some s →
+    (k : ℕ) × FirstInTable phase line (u ∷ table) s k
 first_by phase line u table s (Some z) eo more e =
     let same : line + 0 ≡ line = omega arith in
     (0, record { inside = omega arith; here = ap (λ n. sharing_of phase n u) same ∙ (eo ∙ e); before = λ j lt. absurd (omega arith) })
@@ -97,11 +108,14 @@ first_by phase line u table s None eo more e =
       },
     )
   where
-    none_before : (k : ℕ) → ((j : ℕ) → j < k → sharing_of phase (line + 1 + j) (slice_index_or table j unused) ≡ None) → ((j : ℕ) → line + suc j ≡ line + 1 + j) → (j : ℕ) → j < suc k → sharing_of phase (line + j) (slice_index_or (u ∷ table) j unused) ≡ None
+    none_before : (k : ℕ) → ((j : ℕ) → j < k → sharing_of phase (line + 1 + j) (slice_index_or table j unused) ≡ None) →
+        ((j : ℕ) → line + suc j ≡ line + 1 + j) → (j : ℕ) → j < suc k →
+        sharing_of phase (line + j) (slice_index_or (u ∷ table) j unused) ≡ None
     none_before k h next zero lt = let same : line + 0 ≡ line = omega arith in ap (λ n. sharing_of phase n u) same ∙ eo
     none_before k h next (suc j) lt = ap (λ n. sharing_of phase n (slice_index_or table j unused)) (next j) ∙ h j (omega arith)
 
-pub first_in_table : (phase line : ℕ) (table : List LineUse) (s : Sharing) → first_sharing phase line table ≡ Some s → (k : ℕ) × FirstInTable phase line table s k
+pub first_in_table : (phase line : ℕ) (table : List LineUse) (s : Sharing) → first_sharing phase line table ≡ Some s →
+    (k : ℕ) × FirstInTable phase line table s k
 first_in_table phase line [] s e = cc
 first_in_table phase line (u ∷ table) s e =
     first_by phase line u table s (sharing_of phase line u) refl (first_in_table phase (line + 1) table s) e

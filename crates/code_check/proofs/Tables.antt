@@ -1,13 +1,15 @@
 -- What the table of a phase says of each line.
-use Rattle.std.proofs.Common.{◌≡◌, ◌≢◌, ℕ, zero, suc, ◌<◌, ◌≤◌, ◌⊎◌, inl, inr, Bool, true, false, List, [], ◌∷◌, ◌++◌, map, replicate, Contains, flat_map, length, refl, sym, ap, ◌∙◌, subst, arith, append_assoc, ⊎_elim, get_or-set_same, get_or-set_other}
+use Rattle.std.proofs.Common.{◌≡◌, ◌≢◌, ℕ, zero, suc, ◌<◌, ◌≤◌, ◌⊎◌, inl, inr, Bool, true, false, List, [], ◌∷◌, ◌++◌}
+use Rattle.std.proofs.Common.{map, replicate, Contains, flat_map, length, refl, sym, ap, ◌∙◌, subst, arith}
+use Rattle.std.proofs.Common.{append_assoc, ⊎_elim, get_or-set_same, get_or-set_other}
 use Rattle.std.specs.Prelude.{slice_index_or, slice_set}
 use Rattle.std.specs.List.{range_with_len}
 use Rattle.std.proofs.lemmas.Bool.{cases_eq, cases_lt}
-use Rattle.std.proofs.lemmas.List.{length-set, length-replicate, get_or-map, length-map, append-nil}
+use Rattle.std.proofs.lemmas.List.{length-set, length-replicate, get_or-map, get_or_past, length-map, append-nil}
 use Rattle.std.proofs.lemmas.List.FromFn.{get_or-map-range_with_len, length-map-range_with_len}
 use Rattle.std.proofs.lemmas.List.Elements.{Contains-append_left, Contains-append_right, Contains-append_cases}
 use Rattle.icode.specs.declared.action.Action.{Action}
-use Rattle.icode.specs.declared.action.Action.TheVariants.{Load, Store, Zero, Add, Sub, Neg, Mul, Tile}
+use Rattle.icode.specs.declared.action.Action.TheVariants.{Store}
 use Rattle.icode.specs.Actions.{Step, actions_of, steps_of_body, steps_of_phase, plain_code}
 use Rattle.icode.specs.Machine.{acts, lines_of, stored_words, touched_words, written_lines, touched_lines}
 use Rattle.icode.specs.Plain.{PlainBody, PlainProgram, NoStmts}
@@ -19,12 +21,14 @@ use Rattle.code_check.proofs.Sharing.{IsUsedBy, used_same, use_more}
 
 -- a table keeps its length
 
-pub touched_length : (q : ℕ) (writes : Bool) (ks : List ℕ) (table : List LineUse) → length (touched_all q writes ks table) ≡ length table
+pub touched_length : (q : ℕ) (writes : Bool) (ks : List ℕ) (table : List LineUse) →
+    length (touched_all q writes ks table) ≡ length table
 touched_length q writes [] table = refl
 touched_length q writes (k ∷ ks) table =
     let u : LineUse = touched_by q writes (slice_index_or table k unused) in touched_length q writes ks (slice_set table k u) ∙ length-set table k u
 
-pub noted_length : (p : PlainProgram) (q : ℕ) (steps : List Step) (table : List LineUse) → length (noted_all p q steps table) ≡ length table
+pub noted_length : (p : PlainProgram) (q : ℕ) (steps : List Step) (table : List LineUse) →
+    length (noted_all p q steps table) ≡ length table
 noted_length p q [] table = refl
 noted_length p q (s ∷ steps) table =
     noted_length p q steps (noted p q s table) ∙ touched_length q (is_store s.action) (lines_of p.line (touched_words p.lanes s.action)) table
@@ -49,7 +53,8 @@ kept_all : (writes : Bool) (ks : List ℕ) (k : ℕ) → writes ≡ true → Con
 kept_all true ks k e h = h
 kept_all false ks k e h = cc
 
-kept-append : (writes : Bool) (done ks : List ℕ) (j : ℕ) → (done ++ kept writes (j ∷ [])) ++ kept writes ks ≡ done ++ kept writes (j ∷ ks)
+kept-append : (writes : Bool) (done ks : List ℕ) (j : ℕ) → (done ++ kept writes (j ∷ [])) ++ kept writes ks ≡ done
+    ++ kept writes (j ∷ ks)
 kept-append true done ks j = append_assoc done (j ∷ []) ks
 kept-append false done ks j = append-nil (done ++ [])
 
@@ -77,10 +82,14 @@ module _ (f : ℕ → List ℕ) (q : ℕ) (done more : List ℕ) (k : ℕ) where
   used_rising r u = ⊎_elim (λ (a : (r < q) × Contains (f r) k). omega (arith, a.0)) (λ (b : (r ≡ q) × Contains done k). omega (arith, b.0)) u
 
 module _ (w t : ℕ → List ℕ) (q : ℕ) (writes : Bool) (k : ℕ) where
-  one_touch : (j : ℕ) (doneW doneT : List ℕ) (table : List LineUse) → k < length table → IsUsedBy (Used w q doneW k) (Used t q doneT k) (slice_index_or table k unused) → IsUsedBy (Used w q (doneW ++ kept writes (j ∷ [])) k) (Used t q (doneT ++ j ∷ []) k) (slice_index_or (slice_set table j (touched_by q writes (slice_index_or table j unused))) k unused)
+  one_touch : (j : ℕ) (doneW doneT : List ℕ) (table : List LineUse) → k < length table →
+      IsUsedBy (Used w q doneW k) (Used t q doneT k) (slice_index_or table k unused) →
+      IsUsedBy (Used w q (doneW ++ kept writes (j ∷ [])) k) (Used t q (doneT ++ j ∷ []) k)
+      (slice_index_or (slice_set table j (touched_by q writes (slice_index_or table j unused))) k unused)
   one_touch j doneW doneT table inside h = ⊎_elim here there (cases_eq k j)
     where
-      here : k ≡ j → IsUsedBy (Used w q (doneW ++ kept writes (j ∷ [])) k) (Used t q (doneT ++ j ∷ []) k) (slice_index_or (slice_set table j (touched_by q writes (slice_index_or table j unused))) k unused)
+      here : k ≡ j → IsUsedBy (Used w q (doneW ++ kept writes (j ∷ [])) k) (Used t q (doneT ++ j ∷ []) k)
+          (slice_index_or (slice_set table j (touched_by q writes (slice_index_or table j unused))) k unused)
       here e =
           let entry : slice_index_or (slice_set table j (touched_by q writes (slice_index_or table j unused))) k unused ≡ touched_by q writes (slice_index_or table k unused) =
           ap (λ i. slice_index_or (slice_set table i (touched_by q writes (slice_index_or table i unused))) k unused) (sym e) ∙ get_or-set_same table k (touched_by q writes (slice_index_or table k unused)) unused inside in
@@ -96,7 +105,8 @@ module _ (w t : ℕ → List ℕ) (q : ℕ) (writes : Bool) (k : ℕ) where
           (λ r u. ⊎_elim (λ (a : Used t q doneT k r). inl a) (λ (b : (r ≡ q) × Contains (j ∷ []) k). inr b.0) (used_by_more t q doneT (j ∷ []) k r u))
           h)
 
-      there : k ≢ j → IsUsedBy (Used w q (doneW ++ kept writes (j ∷ [])) k) (Used t q (doneT ++ j ∷ []) k) (slice_index_or (slice_set table j (touched_by q writes (slice_index_or table j unused))) k unused)
+      there : k ≢ j → IsUsedBy (Used w q (doneW ++ kept writes (j ∷ [])) k) (Used t q (doneT ++ j ∷ []) k)
+          (slice_index_or (slice_set table j (touched_by q writes (slice_index_or table j unused))) k unused)
       there ne =
           let entry = get_or-set_other table j k (touched_by q writes (slice_index_or table j unused)) unused ne in
           subst (λ u. IsUsedBy (Used w q (doneW ++ kept writes (j ∷ [])) k) (Used t q (doneT ++ j ∷ []) k) u) (sym entry)
@@ -107,7 +117,10 @@ module _ (w t : ℕ → List ℕ) (q : ℕ) (writes : Bool) (k : ℕ) where
           (λ r u. ⊎_elim (λ (a : Used t q doneT k r). a) (λ (b : (r ≡ q) × Contains (j ∷ []) k). absurd (ne (sym (only_one j k b.1)))) (used_by_more t q doneT (j ∷ []) k r u))
           h)
 
-  touches : (ks doneW doneT : List ℕ) (table : List LineUse) → k < length table → IsUsedBy (Used w q doneW k) (Used t q doneT k) (slice_index_or table k unused) → IsUsedBy (Used w q (doneW ++ kept writes ks) k) (Used t q (doneT ++ ks) k) (slice_index_or (touched_all q writes ks table) k unused)
+  touches : (ks doneW doneT : List ℕ) (table : List LineUse) → k < length table →
+      IsUsedBy (Used w q doneW k) (Used t q doneT k) (slice_index_or table k unused) →
+      IsUsedBy (Used w q (doneW ++ kept writes ks) k) (Used t q (doneT ++ ks) k)
+      (slice_index_or (touched_all q writes ks table) k unused)
   touches [] doneW doneT table inside h =
       let ew : doneW ++ kept writes [] ≡ doneW = ap (λ xs. doneW ++ xs) (kept-nil writes) ∙ append-nil doneW in
       subst (λ x. IsUsedBy (Used w q x k) (Used t q (doneT ++ []) k) (slice_index_or table k unused)) (sym ew)
@@ -127,17 +140,15 @@ abbrev pub lines_touched : PlainProgram → Action → List ℕ
 lines_touched p a = lines_of p.line (touched_words p.lanes a)
 
 kept_stored : (p : PlainProgram) (a : Action) → kept (is_store a) (lines_touched p a) ≡ lines_stored p a
-kept_stored p (Load r address) = refl
 kept_stored p (Store address r) = refl
-kept_stored p (Zero r) = refl
-kept_stored p (Add r x y) = refl
-kept_stored p (Sub r x y) = refl
-kept_stored p (Neg r x) = refl
-kept_stored p (Mul r x factors) = refl
-kept_stored p (Tile r x) = refl
+kept_stored p _ = refl
 
 module _ (p : PlainProgram) (w t : ℕ → List ℕ) (q k : ℕ) where
-  steps_use : (steps : List Step) (doneW doneT : List ℕ) (table : List LineUse) → k < length table → IsUsedBy (Used w q doneW k) (Used t q doneT k) (slice_index_or table k unused) → IsUsedBy (Used w q (doneW ++ flat_map (lines_stored p) (actions_of steps)) k) (Used t q (doneT ++ flat_map (lines_touched p) (actions_of steps)) k) (slice_index_or (noted_all p q steps table) k unused)
+  steps_use : (steps : List Step) (doneW doneT : List ℕ) (table : List LineUse) → k < length table →
+      IsUsedBy (Used w q doneW k) (Used t q doneT k) (slice_index_or table k unused) →
+      IsUsedBy (Used w q (doneW ++ flat_map (lines_stored p) (actions_of steps)) k)
+      (Used t q (doneT ++ flat_map (lines_touched p) (actions_of steps)) k)
+      (slice_index_or (noted_all p q steps table) k unused)
   steps_use [] doneW doneT table inside h =
       subst (λ x. IsUsedBy (Used w q x k) (Used t q (doneT ++ []) k) (slice_index_or table k unused)) (sym (append-nil doneW))
       (subst (λ x. IsUsedBy (Used w q doneW k) (Used t q x k) (slice_index_or table k unused)) (sym (append-nil doneT)) h)
@@ -156,27 +167,24 @@ module _ (p : PlainProgram) (w t : ℕ → List ℕ) (q k : ℕ) where
 
 -- the lists of a program
 
-pub lists_are : (p : PlainProgram) (phase q : ℕ) → phase < length p.phases → q < p.procs → acts (plain_code p) phase q ≡ actions_of (steps_of_phase p phase q)
+pub lists_are : (p : PlainProgram) (phase q : ℕ) → phase < length p.phases → q < p.procs →
+    acts (plain_code p) phase q ≡ actions_of (steps_of_phase p phase q)
 lists_are p phase q lt small =
     let lists : PlainBody → List (List Action) = λ b. map (λ q. actions_of (steps_of_body p b [] q)) (range_with_len 0 p.procs) in
     ap (λ ls. slice_index_or ls q []) (get_or-map lists p.phases phase NoStmts [] lt)
     ∙ get_or-map-range_with_len (λ q. actions_of (steps_of_phase p phase q)) 0 p.procs q q [] small (omega arith)
 
-past_end : {X : Type 0} (xs : List (List X)) (i : ℕ) → length xs ≤ i → slice_index_or xs i [] ≡ []
-past_end [] i past = refl
-past_end (x ∷ xs) zero past = absurd (omega arith)
-past_end (x ∷ xs) (suc i) past = past_end xs i (omega arith)
-
-pub no_list_past_procs : (p : PlainProgram) (phase q : ℕ) → phase < length p.phases → p.procs ≤ q → acts (plain_code p) phase q ≡ []
+pub no_list_past_procs : (p : PlainProgram) (phase q : ℕ) → phase < length p.phases → p.procs ≤ q →
+    acts (plain_code p) phase q ≡ []
 no_list_past_procs p phase q lt past =
     let lists : PlainBody → List (List Action) = λ b. map (λ q. actions_of (steps_of_body p b [] q)) (range_with_len 0 p.procs) in
     ap (λ ls. slice_index_or ls q []) (get_or-map lists p.phases phase NoStmts [] lt)
-    ∙ past_end (map (λ q. actions_of (steps_of_phase p phase q)) (range_with_len 0 p.procs)) q (omega (arith, past, length-map-range_with_len (λ q. actions_of (steps_of_phase p phase q)) 0 p.procs))
+    ∙ get_or_past (map (λ q. actions_of (steps_of_phase p phase q)) (range_with_len 0 p.procs)) q [] (omega (arith, past, length-map-range_with_len (λ q. actions_of (steps_of_phase p phase q)) 0 p.procs))
 
 pub no_list_past_phases : (p : PlainProgram) (phase q : ℕ) → length p.phases ≤ phase → acts (plain_code p) phase q ≡ []
 no_list_past_phases p phase q past =
     let lists : PlainBody → List (List Action) = λ b. map (λ q. actions_of (steps_of_body p b [] q)) (range_with_len 0 p.procs) in
-    ap (λ ls. slice_index_or ls q []) (past_end (map lists p.phases) phase (omega (arith, past, length-map p.phases lists)))
+    ap (λ ls. slice_index_or ls q []) (get_or_past (map lists p.phases) phase [] (omega (arith, past, length-map p.phases lists)))
 
 -- the table of a phase
 
@@ -207,7 +215,8 @@ module _ (p : PlainProgram) (phase k : ℕ) where
       ⊎_elim (λ (same : r ≡ n). inr (same, subst (λ xs. Contains xs k) (ap f same ∙ e) a.1)) (λ (ne : r ≢ n). inl (omega (arith, a.0, ne), a.1)) (cases_eq r n))
       (λ (b : (r ≡ suc n) × Contains [] k). absurd (Contains-nil k b.1)) u
 
-  table_use : phase < length p.phases → (n : ℕ) → n ≤ p.procs → k < line_count p → IsUsedBy (Used writers n [] k) (Used touchers n [] k) (slice_index_or (phase_table p phase n) k unused)
+  table_use : phase < length p.phases → (n : ℕ) → n ≤ p.procs → k < line_count p →
+      IsUsedBy (Used writers n [] k) (Used touchers n [] k) (slice_index_or (phase_table p phase n) k unused)
   table_use lt zero le inside =
       subst (λ u. IsUsedBy (Used writers 0 [] k) (Used touchers 0 [] k) u) (sym (unused_entry (line_count p) k))
       (record { writer = nobody writers; first = nobody touchers; second = λ r x. nobody touchers r x.0 })
@@ -222,7 +231,9 @@ module _ (p : PlainProgram) (phase k : ℕ) where
       (next_one writers n _ ew) (one_before writers n _ ew) (next_one touchers n _ et) (one_before touchers n _ et) after
 
   -- at the end it tells who writes the line and who touches it
-  pub phase_use : phase < length p.phases → k < line_count p → IsUsedBy (λ r. Contains (writers r) k) (λ r. Contains (touchers r) k) (slice_index_or (phase_table p phase p.procs) k unused)
+  pub phase_use : phase < length p.phases → k < line_count p →
+      IsUsedBy (λ r. Contains (writers r) k) (λ r. Contains (touchers r) k)
+      (slice_index_or (phase_table p phase p.procs) k unused)
   phase_use lt inside =
       used_same (Used writers p.procs [] k) (Used touchers p.procs [] k) (λ r. Contains (writers r) k) (λ r. Contains (touchers r) k) (slice_index_or (phase_table p phase p.procs) k unused)
       (found writers) (there writers (λ r past. ap (flat_map (lines_stored p)) (no_list_past_procs p phase r lt past)))

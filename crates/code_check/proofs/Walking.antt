@@ -1,5 +1,7 @@
 -- Walks over lists that are joined.
-use Rattle.std.proofs.Common.{◌≡◌, ℕ, zero, suc, ◌+◌, ◌-◌, ◌*◌, ◌<◌, ◌≤◌, ◌^◌, List, [], ◌∷◌, ◌++◌, Option, Some, None, flat_map, length, take, drop, drop-cons, add-one, get_or, true, refl, sym, ap, ◌∙◌, arith, suc-mul, ltb-true}
+use Rattle.std.proofs.Common.{◌≡◌, ℕ, zero, suc, ◌+◌, ◌-◌, ◌*◌, ◌<◌, ◌≤◌, ◌^◌, List, [], ◌∷◌, ◌++◌, Option, Some, None}
+use Rattle.std.proofs.Common.{flat_map, length, take, drop, drop-cons, add-one, get_or, true, refl, sym, ap, ◌∙◌, arith}
+use Rattle.std.proofs.Common.{suc-mul, ltb-true}
 use Rattle.std.specs.Prelude.{nat_lt, slice_set}
 use Rattle.std.specs.List.{range_with_len}
 use Rattle.std.proofs.lemmas.Grind.{take-set_at}
@@ -17,35 +19,41 @@ use Rattle.code_check.specs.declared.walk.Offence.{Offence}
 use Rattle.code_check.specs.Uses.{noted}
 use Rattle.code_check.specs.Walk.{Walk, Passed, Stopped, judged, goes_on, walked}
 
-passed_after : (j : Option Offence) (n m : ℕ) (u : List LineUse) (rest all after : Walk) → (rest ≡ Passed m u → all ≡ after) → goes_on j n rest ≡ Passed m u → goes_on j n all ≡ after
+passed_after : (j : Option Offence) (n m : ℕ) (u : List LineUse) (rest all after : Walk) →
+    (rest ≡ Passed m u → all ≡ after) → goes_on j n rest ≡ Passed m u → goes_on j n all ≡ after
 passed_after None n m u rest all after h e = h e
 passed_after (Some o) n m u rest all after h e = cc
 
-stopped_after : (j : Option Offence) (n m : ℕ) (o : Offence) (rest all : Walk) → (rest ≡ Stopped m o → all ≡ Stopped m o) → goes_on j n rest ≡ Stopped m o → goes_on j n all ≡ Stopped m o
+stopped_after : (j : Option Offence) (n m : ℕ) (o : Offence) (rest all : Walk) →
+    (rest ≡ Stopped m o → all ≡ Stopped m o) → goes_on j n rest ≡ Stopped m o → goes_on j n all ≡ Stopped m o
 stopped_after None n m o rest all h e = h e
 stopped_after (Some f) n m o rest all h e = e
 
-count_after : (j : Option Offence) (n m len : ℕ) (u : List LineUse) (rest : Walk) → (rest ≡ Passed m u → m ≡ n + 1 + len) → goes_on j n rest ≡ Passed m u → m ≡ n + suc len
+count_after : (j : Option Offence) (n m len : ℕ) (u : List LineUse) (rest : Walk) →
+    (rest ≡ Passed m u → m ≡ n + 1 + len) → goes_on j n rest ≡ Passed m u → m ≡ n + suc len
 count_after None n m len u rest h e = omega (arith, h e)
 count_after (Some o) n m len u rest h e = cc
 
 module _ (p : PlainProgram) (q : ℕ) where
   -- what follows steps that are sound is walked from where they end
-  pub passed_on : (xs ys : List Step) (n m : ℕ) (t u : List LineUse) → walked p q xs n t ≡ Passed m u → walked p q (xs ++ ys) n t ≡ walked p q ys m u
+  pub passed_on : (xs ys : List Step) (n m : ℕ) (t u : List LineUse) → walked p q xs n t ≡ Passed m u →
+      walked p q (xs ++ ys) n t ≡ walked p q ys m u
   passed_on [] ys n m t u e = cc
   passed_on (s ∷ xs) ys n m t u e =
       let v : List LineUse = noted p q s t in
       passed_after (judged p s) n m u (walked p q xs (n + 1) v) (walked p q (xs ++ ys) (n + 1) v) (walked p q ys m u) (passed_on xs ys (n + 1) m v u) e
 
   -- where steps stop a walk, so they do with others behind them
-  pub stopped_on : (xs ys : List Step) (n m : ℕ) (t : List LineUse) (o : Offence) → walked p q xs n t ≡ Stopped m o → walked p q (xs ++ ys) n t ≡ Stopped m o
+  pub stopped_on : (xs ys : List Step) (n m : ℕ) (t : List LineUse) (o : Offence) → walked p q xs n t ≡ Stopped m o →
+      walked p q (xs ++ ys) n t ≡ Stopped m o
   stopped_on [] ys n m t o e = cc
   stopped_on (s ∷ xs) ys n m t o e =
       let v : List LineUse = noted p q s t in
       stopped_after (judged p s) n m o (walked p q xs (n + 1) v) (walked p q (xs ++ ys) (n + 1) v) (stopped_on xs ys (n + 1) m v o) e
 
   -- how many steps a walk has passed
-  pub passed_count : (xs : List Step) (n m : ℕ) (t u : List LineUse) → walked p q xs n t ≡ Passed m u → m ≡ n + length xs
+  pub passed_count : (xs : List Step) (n m : ℕ) (t u : List LineUse) → walked p q xs n t ≡ Passed m u →
+      m ≡ n + length xs
   passed_count [] n m t u e = let same : n ≡ m = cc in omega arith
   passed_count (s ∷ xs) n m t u e =
       let v : List LineUse = noted p q s t in count_after (judged p s) n m (length xs) u (walked p q xs (n + 1) v) (passed_count xs (n + 1) m v u) e
@@ -56,8 +64,10 @@ pub record IsInBody (p : PlainProgram) (q : ℕ) (whole left : PlainBody) (vs : 
   pub few : n + len_of_body left < 2 ^ 64
   pub within : is_body_within p.modulus left depth ≡ true
 
-module _ (p : PlainProgram) (q depth n n0 : ℕ) (whole left rest : PlainBody) (s : PlainStmt) (vs : List ℕ) (t t0 : List LineUse) where
-  pub body_goes_on : (m : ℕ) (u : List LineUse) → left ≡ AndStmts s rest → IsInBody p q whole left vs depth n n0 t t0 → walked p q (steps_of_stmt p s vs q) n t ≡ Passed m u → IsInBody p q whole rest vs depth m n0 u t0
+module _ (p : PlainProgram) (q depth n n0 : ℕ) (whole left rest : PlainBody) (s : PlainStmt) (vs : List ℕ)
+    (t t0 : List LineUse) where
+  pub body_goes_on : (m : ℕ) (u : List LineUse) → left ≡ AndStmts s rest → IsInBody p q whole left vs depth n n0 t t0 →
+      walked p q (steps_of_stmt p s vs q) n t ≡ Passed m u → IsInBody p q whole rest vs depth m n0 u t0
   body_goes_on m u e h passed =
       let count = passed_count p q (steps_of_stmt p s vs q) n m t u passed in
       record {
@@ -67,22 +77,28 @@ module _ (p : PlainProgram) (q depth n n0 : ℕ) (whole left rest : PlainBody) (
         within = (both_true (is_stmt_within p.modulus s depth) _ (sym (ap (λ b. is_body_within p.modulus b depth) e) ∙ h.within)).1;
       }
 
-  pub body_stops : (m : ℕ) (o : Offence) → left ≡ AndStmts s rest → IsInBody p q whole left vs depth n n0 t t0 → walked p q (steps_of_stmt p s vs q) n t ≡ Stopped m o → walked p q (steps_of_body p whole vs q) n0 t0 ≡ Stopped m o
+  pub body_stops : (m : ℕ) (o : Offence) → left ≡ AndStmts s rest → IsInBody p q whole left vs depth n n0 t t0 →
+      walked p q (steps_of_stmt p s vs q) n t ≡ Stopped m o →
+      walked p q (steps_of_body p whole vs q) n0 t0 ≡ Stopped m o
   body_stops m o e h stopped =
       sym h.leads
       ∙ (ap (λ b. walked p q (steps_of_body p b vs q) n t) e
       ∙ stopped_on p q (steps_of_stmt p s vs q) (steps_of_body p rest vs q) n m t o stopped)
 
-  pub stmt_within : left ≡ AndStmts s rest → IsInBody p q whole left vs depth n n0 t t0 → is_stmt_within p.modulus s depth ≡ true
+  pub stmt_within : left ≡ AndStmts s rest → IsInBody p q whole left vs depth n n0 t t0 →
+      is_stmt_within p.modulus s depth ≡ true
   stmt_within e h = (both_true (is_stmt_within p.modulus s depth) _ (sym (ap (λ b. is_body_within p.modulus b depth) e) ∙ h.within)).0
 
   pub stmt_few : left ≡ AndStmts s rest → IsInBody p q whole left vs depth n n0 t t0 → n + len_of_stmt s < 2 ^ 64
   stmt_few e h = omega (arith, h.few, ap len_of_body e)
 
-pub body_ends : (p : PlainProgram) (q depth n n0 : ℕ) (whole left : PlainBody) (vs : List ℕ) (t t0 : List LineUse) → left ≡ NoStmts → IsInBody p q whole left vs depth n n0 t t0 → walked p q (steps_of_body p whole vs q) n0 t0 ≡ Passed n t
+pub body_ends : (p : PlainProgram) (q depth n n0 : ℕ) (whole left : PlainBody) (vs : List ℕ) (t t0 : List LineUse) →
+    left ≡ NoStmts → IsInBody p q whole left vs depth n n0 t t0 →
+    walked p q (steps_of_body p whole vs q) n0 t0 ≡ Passed n t
 body_ends p q depth n n0 whole left vs t t0 none h = sym h.leads ∙ ap (λ b. walked p q (steps_of_body p b vs q) n t) none
 
-pub next_live : (items : List Live) (i : ℕ) (x : Live) → i < length items → x ≡ get_or items i x → plain_lives (drop i items) ≡ AndStmts (plain_live x) (plain_lives (drop (i + 1) items))
+pub next_live : (items : List Live) (i : ℕ) (x : Live) → i < length items → x ≡ get_or items i x →
+    plain_lives (drop i items) ≡ AndStmts (plain_live x) (plain_lives (drop (i + 1) items))
 next_live items i x lt e =
     let split : drop i items ≡ x ∷ drop (i + 1) items = rw (add-one, drop-cons items i x) (ap (λ y. y ∷ drop (suc i) items) (sym e)) in
     ap plain_lives split
@@ -92,10 +108,12 @@ no_live items i past = ap plain_lives (drop_all i items past)
 
 -- a walk over a loop, of which so many turns are walked
 pub record IsInLoop (p : PlainProgram) (q : ℕ) (s : PlainStmt) (body : PlainBody) (vs : List ℕ) (turn end n n0 : ℕ) (t t0 : List LineUse) : Type 0 where
-  pub leads : walked p q (flat_map (λ i. steps_of_body p body (vs ++ i ∷ []) q) (range_with_len turn (end - turn))) n t ≡ walked p q (steps_of_stmt p s vs q) n0 t0
+  pub leads : walked p q (flat_map (λ i. steps_of_body p body (vs ++ i ∷ []) q) (range_with_len turn (end - turn))) n t
+      ≡ walked p q (steps_of_stmt p s vs q) n0 t0
   pub few : n + (end - turn) * len_of_body body < 2 ^ 64
 
-pub loop_begins : (p : PlainProgram) (q count n : ℕ) (s : PlainStmt) (body : PlainBody) (vs : List ℕ) (t : List LineUse) → s ≡ Loop count body → n + len_of_stmt s < 2 ^ 64 → IsInLoop p q s body vs 0 count n n t t
+pub loop_begins : (p : PlainProgram) (q count n : ℕ) (s : PlainStmt) (body : PlainBody) (vs : List ℕ)
+    (t : List LineUse) → s ≡ Loop count body → n + len_of_stmt s < 2 ^ 64 → IsInLoop p q s body vs 0 count n n t t
 loop_begins p q count n s body vs t e few =
     let all : count - 0 ≡ count = omega arith in
     record {
@@ -104,13 +122,18 @@ loop_begins p q count n s body vs t e few =
       few = omega (arith, few, ap len_of_stmt e, ap (λ k. k * len_of_body body) all);
     }
 
-module _ (p : PlainProgram) (q turn end n n0 : ℕ) (s : PlainStmt) (body : PlainBody) (vs : List ℕ) (t t0 : List LineUse) where
-  turns_split : turn < end → flat_map (λ i. steps_of_body p body (vs ++ i ∷ []) q) (range_with_len turn (end - turn)) ≡ steps_of_body p body (vs ++ turn ∷ []) q ++ flat_map (λ i. steps_of_body p body (vs ++ i ∷ []) q) (range_with_len (turn + 1) (end - (turn + 1)))
+module _ (p : PlainProgram) (q turn end n n0 : ℕ) (s : PlainStmt) (body : PlainBody) (vs : List ℕ)
+    (t t0 : List LineUse) where
+  turns_split : turn < end → flat_map (λ i. steps_of_body p body (vs ++ i ∷ []) q) (range_with_len turn (end - turn))
+      ≡ steps_of_body p body (vs ++ turn ∷ []) q ++ flat_map (λ i. steps_of_body p body (vs ++ i ∷ []) q)
+      (range_with_len (turn + 1) (end - (turn + 1)))
   turns_split lt =
       let left : end - turn ≡ suc (end - (turn + 1)) = omega arith in
       ap (λ m. flat_map (λ i. steps_of_body p body (vs ++ i ∷ []) q) (range_with_len turn m)) left
 
-  pub loop_goes_on : (m : ℕ) (u : List LineUse) → turn < end → IsInLoop p q s body vs turn end n n0 t t0 → walked p q (steps_of_body p body (vs ++ turn ∷ []) q) n t ≡ Passed m u → IsInLoop p q s body vs (turn + 1) end m n0 u t0
+  pub loop_goes_on : (m : ℕ) (u : List LineUse) → turn < end → IsInLoop p q s body vs turn end n n0 t t0 →
+      walked p q (steps_of_body p body (vs ++ turn ∷ []) q) n t ≡ Passed m u →
+      IsInLoop p q s body vs (turn + 1) end m n0 u t0
   loop_goes_on m u lt h passed =
       let count = passed_count p q (steps_of_body p body (vs ++ turn ∷ []) q) n m t u passed in
       let rest : List Step = flat_map (λ i. steps_of_body p body (vs ++ i ∷ []) q) (range_with_len (turn + 1) (end - (turn + 1))) in
@@ -122,7 +145,9 @@ module _ (p : PlainProgram) (q turn end n n0 : ℕ) (s : PlainStmt) (body : Plai
         few = omega (arith, h.few, count, body_length p body (vs ++ turn ∷ []) q, product);
       }
 
-  pub loop_stops : (m : ℕ) (o : Offence) → turn < end → IsInLoop p q s body vs turn end n n0 t t0 → walked p q (steps_of_body p body (vs ++ turn ∷ []) q) n t ≡ Stopped m o → walked p q (steps_of_stmt p s vs q) n0 t0 ≡ Stopped m o
+  pub loop_stops : (m : ℕ) (o : Offence) → turn < end → IsInLoop p q s body vs turn end n n0 t t0 →
+      walked p q (steps_of_body p body (vs ++ turn ∷ []) q) n t ≡ Stopped m o →
+      walked p q (steps_of_stmt p s vs q) n0 t0 ≡ Stopped m o
   loop_stops m o lt h stopped =
       let rest : List Step = flat_map (λ i. steps_of_body p body (vs ++ i ∷ []) q) (range_with_len (turn + 1) (end - (turn + 1))) in
       sym h.leads
@@ -135,19 +160,23 @@ module _ (p : PlainProgram) (q turn end n n0 : ℕ) (s : PlainStmt) (body : Plai
       let product = ap (λ k. k * len_of_body body) left ∙ suc-mul (end - (turn + 1)) (len_of_body body) in
       omega (arith, h.few, product)
 
-  pub loop_ends : end ≤ turn → IsInLoop p q s body vs turn end n n0 t t0 → walked p q (steps_of_stmt p s vs q) n0 t0 ≡ Passed n t
+  pub loop_ends : end ≤ turn → IsInLoop p q s body vs turn end n n0 t t0 →
+      walked p q (steps_of_stmt p s vs q) n0 t0 ≡ Passed n t
   loop_ends past h =
       let none : end - turn ≡ 0 = omega arith in
       sym h.leads ∙ ap (λ m. walked p q (flat_map (λ i. steps_of_body p body (vs ++ i ∷ []) q) (range_with_len turn m)) n t) none
 
 -- within a loop
-pub within_loop : (m depth count : ℕ) (body : PlainBody) (s : PlainStmt) → s ≡ Loop count body → is_stmt_within m s depth ≡ true → (depth < 64) × (is_body_within m body (depth + 1) ≡ true)
+pub within_loop : (m depth count : ℕ) (body : PlainBody) (s : PlainStmt) → s ≡ Loop count body →
+    is_stmt_within m s depth ≡ true → (depth < 64) × (is_body_within m body (depth + 1) ≡ true)
 within_loop m depth count body s e h =
     let parts = both_true (is_small_positive count) _ (sym (ap (λ z. is_stmt_within m z depth) e) ∙ h) in
     let more = both_true (nat_lt depth 64) _ parts.1 in (ltb-true depth 64 more.0, more.1)
 
 -- a loop's variable behind the values of the loops around it
-pub open_now : (values before : List ℕ) (depth turn : ℕ) → depth < length values → take depth values ≡ take depth before → take (depth + 1) (slice_set values depth turn) ≡ take depth before ++ turn ∷ []
+pub open_now : (values before : List ℕ) (depth turn : ℕ) → depth < length values →
+    take depth values ≡ take depth before → take (depth + 1) (slice_set values depth turn) ≡ take depth before ++ turn
+    ∷ []
 open_now values before depth turn lt same = take-set_at values depth (depth + 1) turn refl lt ∙ ap (λ vs. vs ++ turn ∷ []) same
 
 shorter : (depth : ℕ) (xs : List ℕ) → take depth (take (suc depth) xs) ≡ take depth xs
@@ -156,7 +185,8 @@ shorter (suc depth) [] = refl
 shorter (suc depth) (x ∷ xs) = ap (λ ys. x ∷ ys) (shorter depth xs)
 
 -- without the loop's variable
-pub without_variable : (values before : List ℕ) (depth turn : ℕ) → take (depth + 1) values ≡ take (depth + 1) (slice_set before depth turn) → take depth values ≡ take depth before
+pub without_variable : (values before : List ℕ) (depth turn : ℕ) →
+    take (depth + 1) values ≡ take (depth + 1) (slice_set before depth turn) → take depth values ≡ take depth before
 without_variable values before depth turn same =
     let next : depth + 1 ≡ suc depth = omega arith in
     let cut = ap (λ n. take n values) (sym next) ∙ (same ∙ ap (λ n. take n (slice_set before depth turn)) next) in

@@ -1,11 +1,13 @@
 -- The entries of diagonals under tensors.
-use Rattle.std.proofs.Common.{◌≡◌, ℕ, zero, suc, ◌*◌, ◌/◌, ◌%◌, ◌<◌, ◌≤◌, List, [], ◌∷◌, length, refl, ap, ◌∙◌, arith, mul_comm, mod-lt, zero-mul, mul-zero, suc-mul}
+use Rattle.std.proofs.Common.{◌≡◌, ℕ, zero, suc, ◌*◌, ◌/◌, ◌%◌, ◌<◌, ◌≤◌, List, [], ◌∷◌, length, refl, ap, ◌∙◌, arith}
+use Rattle.std.proofs.Common.{mul_comm, mod-lt, zero-mul, mul-zero, suc-mul}
 use Rattle.std.proofs.Math.Nat.{div-lt_iff_lt-mul}
 use Rattle.std.specs.Prelude.{slice_index}
 use Rattle.std.proofs.lemmas.List.FromFn.{fill_by_all}
 use Rattle.index_fn.specs.Mapping.{at}
 use Rattle.operators.specs.Sum.{list_below}
 use Rattle.operators.proofs.Lists.{at-list_below, length-list_below, list_below-same}
+use Rattle.sigma_spl.proofs.Keeps.{right_positive}
 use Rattle.sigma_spl.specs.Nest.{PlainFactors, spread, factor_at, factor_count, inner_of}
 use Rattle.code_gen.specs.PassCode.Statements.{diagonal_of}
 use Rattle.operators.specs.TensorPaths.Path.{Path, count_of, grown, size_under}
@@ -37,10 +39,6 @@ inner-some (t ∷ path) n h =
     let inner = inner-some path n outer.0 in
     (inner.0, let low = inner.1 in let high = outer.1 in omega arith)
 
-pub columns-some : (r s : ℕ) → 0 < r * s → 0 < s
-columns-some r zero h = let none = mul-zero r in absurd (omega arith)
-columns-some r (suc s) h = omega arith
-
 -- a place of the whole is one of what is under the tensors
 pub inner-below : (path : Path) (n i : ℕ) → i < size_under path n → at (inner_of path n) i < n
 inner-below [] n i h = h
@@ -48,15 +46,17 @@ inner-below (Blocks c ∷ path) n i h =
     let outer = grown-some (Blocks c) (size_under path n) (omega arith) in
     let inner = inner-below path n (i % size_under path n) (mod-lt i outer.0) in omega arith
 inner-below (Columns c ∷ path) n i h =
-    let some : 0 < c = columns-some (size_under path n) c (omega arith) in
+    let some : 0 < c = right_positive (size_under path n) c (omega arith) in
     let inner = inner-below path n (i / c) ((div-lt_iff_lt-mul some).1 h) in omega arith
 
-pub diagonal-size : (m : ℕ) (factors : PlainFactors) (inner : List ℕ) → inner ≡ diagonal_of m factors → length inner ≡ factor_count factors
+pub diagonal-size : (m : ℕ) (factors : PlainFactors) (inner : List ℕ) → inner ≡ diagonal_of m factors →
+    length inner ≡ factor_count factors
 diagonal-size m factors inner is = ap length is ∙ length-list_below (factor_count factors) (factor_at m factors)
 
 -- the entries of a diagonal under tensors are taken from those of the diagonal
 pub spread-is : (m : ℕ) (path : Path) (factors : PlainFactors) (inner : List ℕ) → inner ≡ diagonal_of m factors →
-    list_below (size_under path (length inner)) (λ i. slice_index inner (at (inner_of path (length inner)) i)) ≡ diagonal_of m (spread path factors)
+    list_below (size_under path (length inner)) (λ i. slice_index inner (at (inner_of path (length inner)) i))
+    ≡ diagonal_of m (spread path factors)
 spread-is m path factors inner is =
     ap (λ (n : ℕ). list_below (size_under path n) (λ i. slice_index inner (at (inner_of path n) i))) (diagonal-size m factors inner is)
     ∙ list_below-same (size_under path (factor_count factors)) _ _ (λ i inside.

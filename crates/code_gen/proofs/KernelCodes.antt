@@ -1,9 +1,10 @@
 -- The codes of kernels: of a node by its request, and of a short leaf by its matrix.
-use Rattle.std.proofs.Common.{◌≡◌, ◌≢◌, ℕ, zero, suc, ◌*◌, ◌-◌, ◌%◌, ◌^◌, ◌<◌, ◌≤◌, List, [], ◌∷◌, if◌then◌else◌, arith, refl, ap, ap₂, ◌∙◌, sym, pow-suc, mul-zero}
+use Rattle.std.proofs.Common.{◌≡◌, ◌≢◌, ℕ, zero, suc, ◌-◌, ◌<◌, ◌≤◌, [], ◌∷◌, if◌then◌else◌, arith}
+use Rattle.std.proofs.Common.{refl, ap, ap₂, ◌∙◌}
 use Rattle.std.specs.Prelude.{◌==◌}
 use lib.Count.{ones}
-use Rattle.std.proofs.Math.Nat.{mod-eq_of_lt, one-mul, pow-zero}
-use Rattle.kernel_gen.specs.Kernel.{kernel_of, node_kernel, trees_kernel}
+use Rattle.std.proofs.Math.Nat.{mod-eq_of_lt}
+use Rattle.kernel_gen.specs.Kernel.{kernel_of, node_kernel}
 use Rattle.kernel_gen.specs.Making.{matrix_make}
 use Rattle.matrix_meaning.specs.Kind.{entry_of}
 use Rattle.matrix_meaning.specs.Parts.{forward_of}
@@ -11,6 +12,7 @@ use Rattle.matrix_meaning.specs.declared.Kind.TheVariants.{Dft, Wht, Idft}
 use Rattle.matrix_meaning.specs.declared.Request.{Request}
 use Rattle.ring_mod.specs.Residue.{power_mod}
 use Rattle.ring_mod.proofs.Powers.{power_mod-zero}
+use Rattle.code_gen.proofs.Powers.{power_mod-one}
 use Rattle.tree_model.specs.Breakdown.{Breakdown, leaf, AllowsLeaf}
 use Rattle.tree_model.proofs.WholeTrees.{forward_itself}
 
@@ -22,9 +24,7 @@ rows-same : (m : ℕ) (e f : ℕ → ℕ → ℕ) → e 0 1 ≡ f 0 1 → e 1 1 
 rows-same m e f p q = ap₂ (λ a b. matrix_make m (λ i l. if i == 0 then a else b) 2 (0 ∷ 1 ∷ []) 2) p q
 
 power-of_one : (m w : ℕ) → w < m → power_mod m w 1 ≡ w
-unfolding power_mod
-power-of_one m w below =
-    ap (λ x. x % m) (pow-suc w 0 ∙ ap (λ x. x * w) (pow-zero w) ∙ one-mul w) ∙ mod-eq_of_lt below
+power-of_one m w below = power_mod-one m w ∙ mod-eq_of_lt below
 
 entry-first : (m w : ℕ) → 2 ≤ m → entry_of Dft m 2 (m - 1) 0 1 ≡ entry_of Wht m 2 w 0 1
 unfolding ones
@@ -34,7 +34,8 @@ entry-second : (m w : ℕ) → 2 ≤ m → entry_of Dft m 2 (m - 1) 1 1 ≡ entr
 unfolding ones
 entry-second m w modulus = power-of_one m (m - 1) (omega arith)
 
-pub hadamard_code : (m w d : ℕ) → 2 ≤ m → AllowsLeaf Wht d → kernel_of m Dft (leaf d) (m - 1) ≡ kernel_of m Wht (leaf d) w
+pub hadamard_code : (m w d : ℕ) → 2 ≤ m → AllowsLeaf Wht d →
+    kernel_of m Dft (leaf d) (m - 1) ≡ kernel_of m Wht (leaf d) w
 hadamard_code m w zero modulus h = absurd (omega (arith, h.0))
 hadamard_code m w (suc zero) modulus h = refl
 hadamard_code m w (suc (suc zero)) modulus h =

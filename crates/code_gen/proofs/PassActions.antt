@@ -6,7 +6,6 @@ pub mod StraightCopies
 mod TileCopies
 mod KernelCopies
 pub mod Rows
-mod Horner
 mod Once
 pub mod Framed
 pub mod Copies
@@ -15,6 +14,6 @@ pub mod Fillings
 mod Leaves
 mod Counting
 mod PassCounts
-mod Fitting
+pub mod Every
 mod Short
 pub mod PassesRun

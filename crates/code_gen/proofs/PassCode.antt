@@ -6,7 +6,7 @@ mod Coded
 pub mod Emits
 pub mod SharedTables
 pub mod OneFactor
-mod Places
+pub mod Places
 mod PlaceNumbers
 mod Emitted
 pub mod NestEmits

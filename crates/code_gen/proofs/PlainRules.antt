@@ -15,20 +15,25 @@ plain-append [] ys = refl
 plain-append (x ∷ xs) ys = ap (AndStmts (plain_stmt x)) (plain-append xs ys)
 
 -- one more statement
-pub plain-more : (old new : List Stmt) (op : Op) → new ≡ old ++ stmts.Do op ∷ [] → plain_body new ≡ followed_by (plain_body old) (AndStmts (Do (plain_op op)) NoStmts)
+pub plain-more : (old new : List Stmt) (op : Op) → new ≡ old ++ stmts.Do op ∷ [] →
+    plain_body new ≡ followed_by (plain_body old) (AndStmts (Do (plain_op op)) NoStmts)
 plain-more old new op is =
     ap plain_body is ∙ plain-append old (stmts.Do op ∷ []) ∙ ap (λ s. followed_by (plain_body old) (AndStmts s NoStmts)) (plain_stmt-Do op)
 
 -- a statement after others, and more after it
-pub followed-one : (xs ys : PlainBody) (s : PlainStmt) → followed_by (followed_by xs (AndStmts s NoStmts)) ys ≡ followed_by xs (AndStmts s ys)
+pub followed-one : (xs ys : PlainBody) (s : PlainStmt) → followed_by (followed_by xs (AndStmts s NoStmts)) ys
+    ≡ followed_by xs (AndStmts s ys)
 followed-one NoStmts ys s = refl
 followed-one (AndStmts x xs) ys s = ap (AndStmts x) (followed-one xs ys s)
 
 -- the statements of code, and one more
-pub straight-more : (before : List Instruction) (a : Instruction) → straight_body (before ++ a ∷ []) ≡ followed_by (straight_body before) (AndStmts (Do (op_of a)) NoStmts)
+pub straight-more : (before : List Instruction) (a : Instruction) →
+    straight_body (before ++ a ∷ []) ≡ followed_by (straight_body before) (AndStmts (Do (op_of a)) NoStmts)
 straight-more [] a = refl
 straight-more (b ∷ before) a = ap (AndStmts (Do (op_of b))) (straight-more before a)
 
 -- the statements of one more instruction
-pub straight-take : (xs : List Instruction) (i : ℕ) (d : Instruction) → i < length xs → straight_body (take (i + 1) xs) ≡ followed_by (straight_body (take i xs)) (AndStmts (Do (op_of (get_or xs i d))) NoStmts)
+pub straight-take : (xs : List Instruction) (i : ℕ) (d : Instruction) → i < length xs →
+    straight_body (take (i + 1) xs) ≡ followed_by (straight_body (take i xs))
+    (AndStmts (Do (op_of (get_or xs i d))) NoStmts)
 straight-take xs i d below = ap straight_body (take_more xs i d below) ∙ straight-more (take i xs) (get_or xs i d)

@@ -4,7 +4,7 @@ use Rattle.std.proofs.Math.Nat.{pow-zero, one-mul}
 use Rattle.ring_mod.specs.Residue.{power_mod}
 use Rattle.ring_mod.proofs.Powers.{power_mod-add}
 
-power_mod-one : (m w : ℕ) → power_mod m w 1 ≡ w % m
+pub power_mod-one : (m w : ℕ) → power_mod m w 1 ≡ w % m
 unfolding power_mod
 power_mod-one m w = ap (λ x. x % m) (pow-suc w 0 ∙ ap (λ x. x * w) (pow-zero w) ∙ one-mul w)
 

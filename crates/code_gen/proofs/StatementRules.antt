@@ -15,7 +15,8 @@ use Rattle.code_gen.specs.Conditions.{HasPlaces}
 use Rattle.code_gen.proofs.PlainRules.{followed-one}
 
 -- a place of the code can be written
-pub writable-at : (sums : List Affine) (i : ℕ) (e : Affine) → HasPlaces (i + 1) (map plain_sum sums) → e ≡ get_or sums i e → CanWrite (plain_sum e)
+pub writable-at : (sums : List Affine) (i : ℕ) (e : Affine) → HasPlaces (i + 1) (map plain_sum sums) →
+    e ≡ get_or sums i e → CanWrite (plain_sum e)
 writable-at sums i e places is =
     let long : length (map plain_sum sums) ≡ length sums = length-map sums plain_sum in
     let enough : i + 1 ≤ length (map plain_sum sums) = places.enough in
@@ -24,8 +25,12 @@ writable-at sums i e places is =
 
 module _ (f : PlainFrame) where
   -- a product, and the store of it
-  pub stored-product : (old one two : PlainBody) (o : Option PlainMultiplier) (m : PlainMultiplier) (scatters : List Sum) (place : PlainExpr) (step open_loops table : ℕ) (target : Array) (item from free : ℕ) → o ≡ Some m → place ≡ place_at f open_loops scatters item →
-      one ≡ followed_by old (do_only (product_op (one_factor m.factors) free from table (place_at f open_loops m.places item) step)) → two ≡ followed_by one (do_only (Store target place free)) →
+  pub stored-product : (old one two : PlainBody) (o : Option PlainMultiplier) (m : PlainMultiplier)
+      (scatters : List Sum) (place : PlainExpr) (step open_loops table : ℕ) (target : Array) (item from free : ℕ) →
+      o ≡ Some m → place ≡ place_at f open_loops scatters item →
+      one ≡ followed_by old
+      (do_only (product_op (one_factor m.factors) free from table (place_at f open_loops m.places item) step)) →
+      two ≡ followed_by one (do_only (Store target place free)) →
       two ≡ followed_by old (finish_body f step o scatters open_loops table target item from free)
   stored-product old one two o m scatters place step open_loops table target item from free is to first second =
       let op : PlainOp = product_op (one_factor m.factors) free from table (place_at f open_loops m.places item) step in

@@ -1,9 +1,8 @@
-mod Known
+pub mod Known
 mod Arrays
 mod Stored
 mod Processor
 mod Phases
-mod Every
 mod Apart
 mod Emitted
 mod Lists
@@ -15,4 +14,3 @@ pub mod PhaseParts
 pub mod Performs
 pub mod ReadyPrograms
 pub mod PartShares
-mod Found

@@ -1,10 +1,12 @@
 -- What is known of a nest that can be emitted.
-use Rattle.std.proofs.Common.{◌≡◌, ℕ, zero, suc, ◌+◌, ◌^◌, ◌<◌, ◌≤◌, List, [], ◌∷◌, ◌++◌, length, length-append, get_or, map, refl, sym, ap, ◌∙◌, arith, subst, All}
+use Rattle.std.proofs.Common.{◌≡◌, ℕ, zero, suc, ◌+◌, ◌^◌, ◌<◌, ◌≤◌, List, [], ◌∷◌, ◌++◌, length, get_or}
+use Rattle.std.proofs.Common.{map, refl, sym, ap, ◌∙◌, arith, subst, All}
 use Rattle.std.specs.Prelude.{Option, Some, None}
 use Rattle.std.proofs.lemmas.List.{get_or-map, length-map}
+use Rattle.std.proofs.lemmas.List.Elements.{Contains-get_or}
+use Rattle.code_gen.proofs.PassActions.Fillings.{registers-le}
 use Rattle.kernel_gen.specs.Kernel.{trees_kernel}
 use Rattle.kernel_gen.proofs.Products.{trees-does}
-use Rattle.code_gen.specs.PassActions.Acts.{nest_registers, pass_registers}
 use Rattle.sigma_spl.specs.Shared.Running.{CanWork}
 use Rattle.operators.specs.declared.target.Target.{Target}
 use Rattle.code_gen.specs.PassCode.Conditions.{CanWritePass}
@@ -12,24 +14,29 @@ use Rattle.code_gen.specs.PassCode.Contract.{CanProgram}
 use Rattle.sigma_spl.specs.Shared.Owners.{IsHost, all_passes, most_actions}
 use Rattle.code_gen.specs.PassCode.Program.{count_in}
 use Rattle.sigma_spl.specs.Merged.{PlainMerged}
-use Rattle.sigma_spl.specs.Nest.{PlainFactors, values, twiddles, repeated, spread, PlainMultiplier, PlainNest, factor_count}
+use Rattle.sigma_spl.specs.Nest.{PlainFactors, twiddles, spread, PlainMultiplier, PlainNest}
+use Rattle.sigma_spl.specs.Nest.{factor_count}
 use Rattle.sigma_spl.specs.Views.{plain_nest}
 use Rattle.sigma_spl.specs.Shared.Kernels.{IsMadeKernel}
 use Rattle.sigma_spl.specs.Work.{PlainKernel, PlainWork, kernel, trees_of, work_size}
 use Rattle.sigma_spl.specs.declared.nest.Nest.{Nest}
 use Rattle.tree_model.specs.Trees.{trees_size}
 use Rattle.code_gen.specs.Conditions.{CanEmit, CanEmitAll, CanEmitPhases, CanList, HasFactors}
-use Rattle.code_gen.proofs.Diagonals.{columns-some, inner-some}
+use Rattle.code_gen.proofs.WholePrograms.Known.{passes-count}
+use Rattle.code_gen.proofs.Diagonals.{inner-some}
+use Rattle.sigma_spl.proofs.Keeps.{right_positive}
 
 -- ---- works
 
 work-of : (h : Target) (z : PlainNest) (w : PlainWork) → z.work ≡ w → CanEmit h z → CanWork h w × (work_size w < 2 ^ 32)
 work-of h z w is can = (subst (CanWork h) is can.runs.work, subst (λ (v : PlainWork). work_size v < 2 ^ 32) is can.writes.items)
 
-pub kernel-source : (h : Target) (z : PlainNest) (k : PlainKernel) → z.work ≡ kernel k → CanEmit h z → IsMadeKernel h.modulus k
+pub kernel-source : (h : Target) (z : PlainNest) (k : PlainKernel) → z.work ≡ kernel k → CanEmit h z →
+    IsMadeKernel h.modulus k
 kernel-source h z k is can = (work-of h z (kernel k) is can).0
 
-pub kernel-small : (h : Target) (z : PlainNest) (k : PlainKernel) → z.work ≡ kernel k → CanEmit h z → trees_size (trees_of k) < 2 ^ 32
+pub kernel-small : (h : Target) (z : PlainNest) (k : PlainKernel) → z.work ≡ kernel k → CanEmit h z →
+    trees_size (trees_of k) < 2 ^ 32
 kernel-small h z k is can = (work-of h z (kernel k) is can).1
 
 -- the code of a kernel has an output for each item
@@ -40,23 +47,18 @@ kernel-sized h z k is can =
     (trees-does h.modulus 1 (trees_of k) can.modulus work.0.trees).sized
 
 can-list : (factors : PlainFactors) → 0 < factor_count factors → factor_count factors < 2 ^ 32 → CanList factors
-can-list (values entries) some small = tt
-can-list (twiddles r s root) some small = (columns-some r s some, small)
-can-list (repeated v n) some small = tt
+can-list (twiddles r s root) some small = (right_positive r s some, small)
 can-list (spread path factors) some small =
     let inner = inner-some path (factor_count factors) some in
     let low = inner.1 in (can-list factors inner.0 (omega arith), some, small)
+can-list _ some small = tt
 
-pub has-factors : (o : Option PlainMultiplier) → ((d : PlainMultiplier) → o ≡ Some d → (0 < factor_count d.factors) × (factor_count d.factors < 2 ^ 32)) → HasFactors o
+pub has-factors : (o : Option PlainMultiplier) → ((d : PlainMultiplier) → o ≡ Some d →
+    (0 < factor_count d.factors) × (factor_count d.factors < 2 ^ 32)) → HasFactors o
 has-factors None h = tt
 has-factors (Some d) h = let known = h d refl in can-list d.factors known.0 known.1
 
 -- ---- passes
-
-registers-le : (h : Target) (zs : List PlainNest) (k : ℕ) (d : PlainNest) → k < length zs → nest_registers h.modulus (get_or zs k d) (get_or zs k d).work ≤ pass_registers h.modulus zs
-registers-le h [] k d below = absurd (omega arith)
-registers-le h (z ∷ zs) zero d below = omega arith
-registers-le h (z ∷ zs) (suc k) d below = let rest = registers-le h zs k d (omega arith) in omega arith
 
 can-pass : (h : Target) (zs : List PlainNest) → IsHost h → CanWritePass h zs → All (CanEmit h) zs
 can-pass h zs host can k d below =
@@ -65,11 +67,12 @@ can-pass h zs host can k d below =
       lanes = host.lanes;
       runs = can.runs.nests k d below;
       writes = can.nests k d below;
-      few = let low = registers-le h zs k d below in let few = can.few in omega arith;
+      few = let low = registers-le h zs (get_or zs k d) (Contains-get_or zs k d below) in let few = can.few in omega arith;
     }
 
 module _ (h : Target) (host : IsHost h) where
-  first-passes : (ps qs : List (List PlainNest)) → All (CanWritePass h) (ps ++ qs) → CanEmitAll h ps × All (CanWritePass h) qs
+  first-passes : (ps qs : List (List PlainNest)) → All (CanWritePass h) (ps ++ qs) →
+      CanEmitAll h ps × All (CanWritePass h) qs
   first-passes [] qs all = (tt, all)
   first-passes (zs ∷ ps) qs all =
       let rest = first-passes ps qs (λ k d below. all (suc k) d (omega arith)) in
@@ -83,18 +86,15 @@ module _ (h : Target) (host : IsHost h) where
   most-passes [] = omega arith
   most-passes (zs ∷ ps) = let rest = most-passes ps in let size = host.size in omega arith
 
-count-is : (pss : List (List (List PlainNest))) → count_in pss ≡ length (all_passes pss)
-count-is [] = refl
-count-is (ps ∷ more) = let all = length-append ps (all_passes more) in let rest = count-is more in omega (arith, all, rest)
-
 pub can-emit : (h : Target) (g : PlainMerged) → CanProgram h g → CanEmitPhases h g.phases
 can-emit h g can = can-phases h can.host g.phases can.passes
 
 pub few-passes : (h : Target) (g : PlainMerged) → CanProgram h g → 0 + count_in g.phases < 2 ^ 64
-few-passes h g can = let all = count-is g.phases in let most = most-passes h can.host (all_passes g.phases) in let few = can.few in omega (arith, all, most, few)
+few-passes h g can = let all = passes-count g.phases in let most = most-passes h can.host (all_passes g.phases) in let few = can.few in omega (arith, all, most, few)
 
 -- a nest of a pass
-pub nest-at : (h : Target) (nests : List Nest) (i : ℕ) (z : Nest) → All (CanEmit h) (map plain_nest nests) → i < length nests → z ≡ get_or nests i z → CanEmit h (plain_nest z)
+pub nest-at : (h : Target) (nests : List Nest) (i : ℕ) (z : Nest) → All (CanEmit h) (map plain_nest nests) →
+    i < length nests → z ≡ get_or nests i z → CanEmit h (plain_nest z)
 nest-at h nests i z all below is =
     let long : length (map plain_nest nests) ≡ length nests = length-map nests plain_nest in
     subst (CanEmit h) (get_or-map plain_nest nests i z (plain_nest z) below ∙ ap plain_nest (sym is)) (all i (plain_nest z) (omega arith))

@@ -1,19 +1,16 @@
 -- The factors of lanes.
-use Rattle.std.proofs.Common.{◌≡◌, ℕ, zero, suc, ◌-◌, ◌<◌, ◌≤◌, arith, refl, ◌∙◌, List, [], ◌∷◌, ◌++◌, length, replicate, length-append}
+use Rattle.std.proofs.Common.{◌≡◌, ℕ, ◌-◌, ◌<◌, ◌≤◌, arith, ◌∙◌, length}
+use Rattle.std.proofs.Common.{replicate, length-append}
 use Rattle.std.specs.Prelude.{slice_index}
 use Rattle.icode.specs.Actions.{lane_factors}
 use Rattle.operators.specs.Sum.{list_below}
+use Rattle.std.proofs.lemmas.List.{get_or_append_left}
 use Rattle.operators.proofs.Lists.{length-list_below, at-list_below}
-
-front : (xs ys : List ℕ) (i : ℕ) → i < length xs → slice_index (xs ++ ys) i ≡ slice_index xs i
-front [] ys i below = absurd (omega arith)
-front (x ∷ xs) ys zero below = refl
-front (x ∷ xs) ys (suc i) below = front xs ys i (omega arith)
 
 -- the factor of a lane
 pub factor_of : (lanes : ℕ) (x : ℕ → ℕ) (lane : ℕ) → lane < lanes → slice_index (lane_factors lanes x) lane ≡ x lane
 factor_of lanes x lane below =
-    front (list_below lanes x) (replicate (16 - lanes) 0) lane (let size = length-list_below lanes x in omega arith)
+    get_or_append_left (list_below lanes x) (replicate (16 - lanes) 0) 0 lane (let size = length-list_below lanes x in omega arith)
     ∙ at-list_below lanes x lane below
 
 pub factor_each : (lanes : ℕ) (x : ℕ → ℕ) → lanes ≤ length (lane_factors lanes x)

@@ -31,7 +31,8 @@ module _ (m lanes regs : ℕ) (t : Task) (Ready : Local → Type 0) (ready : (s 
   abbrev Has : ℕ → (ℕ → ℕ) → (Local → Type 0) → Type 0
   Has r v Known = (s : Local) → Known s → (lane : ℕ) → lane < lanes → register lanes s lane r ≡ v lane
 
-  store-fills : (to from : ℕ) (v : ℕ → ℕ) → 0 < lanes → AreOutputs m lanes regs t to → ((lane : ℕ) → lane < lanes → t.output (to + lane) ≡ v lane) → Has from v Ready →
+  store-fills : (to from : ℕ) (v : ℕ → ℕ) → 0 < lanes → AreOutputs m lanes regs t to →
+      ((lane : ℕ) → lane < lanes → t.output (to + lane) ≡ v lane) → Has from v Ready →
       Fills m lanes Ready t.IsOutput t.output (Stored lanes to) (Store to from ∷ [])
   store-fills to from v some are meant holds =
       store_fills m lanes Ready t.IsOutput t.output to from
@@ -54,7 +55,8 @@ module _ (m lanes regs : ℕ) (t : Task) (Ready : Local → Type 0) (ready : (s 
   abbrev product : (ℕ → ℕ) → ℕ → ℕ
   product x lane = product_mod m (v lane) (x lane)
 
-  product-known : (x : ℕ → ℕ) → from < regs → free < regs → (s : Local) → Ready s → Known (product x) (effect m lanes (Mul free from (lane_factors lanes x)) s)
+  product-known : (x : ℕ → ℕ) → from < regs → free < regs → (s : Local) → Ready s →
+      Known (product x) (effect m lanes (Mul free from (lane_factors lanes x)) s)
   product-known x low high s h =
       let factors = lane_factors lanes x in
       let enough = factor_each lanes x in (
@@ -65,8 +67,10 @@ module _ (m lanes regs : ℕ) (t : Task) (Ready : Local → Type 0) (ready : (s 
             ∙ ap₂ (product_mod m) (holds s h lane there) (factor_of lanes x lane there),
       )
 
-  product-fills : (x : ℕ → ℕ) (to : ℕ) → from < regs → free < regs → AreOutputs m lanes regs t to → ((lane : ℕ) → lane < lanes → t.output (to + lane) ≡ product x lane) →
-      Fills m lanes Ready t.IsOutput t.output (Stored lanes to) (Mul free from (lane_factors lanes x) ∷ Store to free ∷ [])
+  product-fills : (x : ℕ → ℕ) (to : ℕ) → from < regs → free < regs → AreOutputs m lanes regs t to →
+      ((lane : ℕ) → lane < lanes → t.output (to + lane) ≡ product x lane) →
+      Fills m lanes Ready t.IsOutput t.output (Stored lanes to)
+      (Mul free from (lane_factors lanes x) ∷ Store to free ∷ [])
   product-fills x to low high are meant =
       fills-after m lanes Ready (Known (product x)) t.IsOutput t.output (Stored lanes to) (Mul free from (lane_factors lanes x) ∷ []) (Store to free ∷ [])
       (λ s h. product-known x low high s h)
@@ -74,14 +78,20 @@ module _ (m lanes regs : ℕ) (t : Task) (Ready : Local → Type 0) (ready : (s 
       (λ s h. h.0)
       (store-fills m lanes regs t (Known (product x)) (λ s h. ready s h.0) (λ address r there s h. (after_store address r there s h.0, h.1)) to free (product x) some are meant (λ s h. h.1))
 
-pub finish-fills : (c : Target) (p : PlainNest) (o : Option PlainMultiplier) (q : ℕ) (vs : List ℕ) (k target from free used more : ℕ) (v : ℕ → ℕ) (regs : ℕ) (t : Task) (Ready : Local → Type 0) → 0 < c.lanes →
+pub finish-fills : (c : Target) (p : PlainNest) (o : Option PlainMultiplier) (q : ℕ) (vs : List ℕ)
+    (k target from free used more : ℕ) (v : ℕ → ℕ) (regs : ℕ) (t : Task) (Ready : Local → Type 0) → 0 < c.lanes →
     ((s : Local) → Ready s → IsReady c.lanes regs t s) →
-    ((address r : ℕ) → AreOutputs c.modulus c.lanes regs t address → (s : Local) → Ready s → Ready (effect c.modulus c.lanes (Store address r) s)) →
+    ((address r : ℕ) → AreOutputs c.modulus c.lanes regs t address → (s : Local) → Ready s →
+    Ready (effect c.modulus c.lanes (Store address r) s)) →
     ((s : Local) → Ready s → (lane : ℕ) → lane < c.lanes → register c.lanes s lane from ≡ v lane) →
-    ((factors : List ℕ) → free < regs → c.lanes ≤ length factors → (s : Local) → Ready s → Ready (effect c.modulus c.lanes (Mul free from factors) s)) →
-    from < used → free < used + more → with_multiplier o used more ≤ regs → AreOutputs c.modulus c.lanes regs t (target + store_at c p q vs k) →
-    ((lane : ℕ) → lane < c.lanes → t.output (target + store_at c p q vs k + lane) ≡ finished_lane c p o q vs k lane (v lane)) →
-    Fills c.modulus c.lanes Ready t.IsOutput t.output (Stored c.lanes (target + store_at c p q vs k)) (finish_acts c p o target q vs k from free)
+    ((factors : List ℕ) → free < regs → c.lanes ≤ length factors → (s : Local) → Ready s →
+    Ready (effect c.modulus c.lanes (Mul free from factors) s)) →
+    from < used → free < used + more → with_multiplier o used more ≤ regs →
+    AreOutputs c.modulus c.lanes regs t (target + store_at c p q vs k) →
+    ((lane : ℕ) → lane < c.lanes → t.output (target + store_at c p q vs k + lane)
+    ≡ finished_lane c p o q vs k lane (v lane)) →
+    Fills c.modulus c.lanes Ready t.IsOutput t.output (Stored c.lanes (target + store_at c p q vs k))
+    (finish_acts c p o target q vs k from free)
 finish-fills c p None q vs k target from free used more v regs t Ready some ready after_store holds after_product low high few are meant =
     store-fills c.modulus c.lanes regs t Ready ready after_store (target + store_at c p q vs k) from v some are meant holds
 finish-fills c p (Some d) q vs k target from free used more v regs t Ready some ready after_store holds after_product low high few are meant =

@@ -14,7 +14,9 @@ use Rattle.sigma_spl.specs.Nest.{PlainNest}
 module _ (c : Target) (p : PlainNest) (n regs source target q : ℕ) (t : Task) (vs : List ℕ) (some : 0 < c.lanes) (few : with_multiplier p.multiplier 1 1 ≤ regs)
     (inputs : (k : ℕ) → k < n → AreInputs c.modulus c.lanes regs t (source + load_at c p q vs k)) (outputs : (k : ℕ) → k < n → AreOutputs c.modulus c.lanes regs t (target + store_at c p q vs k))
     (meant : (k lane : ℕ) → k < n → lane < c.lanes → t.output (target + store_at c p q vs k + lane) ≡ finished_lane c p p.multiplier q vs k lane (t.input (source + load_at c p q vs k + lane))) where
-  item-fills : (k : ℕ) → k < n → Fills c.modulus c.lanes (IsReady c.lanes regs t) t.IsOutput t.output (Stored c.lanes (target + store_at c p q vs k)) (loads 1 (λ _. source + load_at c p q vs k) ++ finish_acts c p p.multiplier target q vs k 0 1)
+  item-fills : (k : ℕ) → k < n → Fills c.modulus c.lanes (IsReady c.lanes regs t) t.IsOutput t.output
+      (Stored c.lanes (target + store_at c p q vs k)) (loads 1 (λ _. source + load_at c p q vs k)
+      ++ finish_acts c p p.multiplier target q vs k 0 1)
   item-fills k under =
       let m = c.modulus in
       let lanes = c.lanes in
@@ -32,6 +34,7 @@ module _ (c : Target) (p : PlainNest) (n regs source target q : ℕ) (t : Task) 
       (holds-after_product m lanes regs t (λ j. j) 1 1 (λ j lane. t.input (source + load_at c p q vs k + lane)) (λ j below. below) 0 1 (omega arith) (omega arith))
       (omega arith) (omega arith) few (outputs k under) (λ lane there. meant k lane under there))
 
-  pub items-fill : Fills c.modulus c.lanes (IsReady c.lanes regs t) t.IsOutput t.output (CopyWords c p n target q vs) (items_acts c p n source target q vs)
+  pub items-fill : Fills c.modulus c.lanes (IsReady c.lanes regs t) t.IsOutput t.output (CopyWords c p n target q vs)
+      (items_acts c p n source target q vs)
   items-fill =
       fills-loop c.modulus c.lanes (IsReady c.lanes regs t) t.IsOutput t.output n (λ k a. Stored c.lanes (target + store_at c p q vs k) a) (λ k. loads 1 (λ _. source + load_at c p q vs k) ++ finish_acts c p p.multiplier target q vs k 0 1) item-fills

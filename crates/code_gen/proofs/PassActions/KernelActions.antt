@@ -1,36 +1,14 @@
--- The actions of straight-line code: each fits, and there is one for each operation.
-use Rattle.std.proofs.Common.{◌≡◌, ℕ, ◌+◌, ◌<◌, ◌≤◌, arith, sym, ap, ◌∙◌, List, [], ◌∷◌, length}
-use Rattle.std.specs.Prelude.{All}
+-- The actions of straight-line code: there is one for each operation.
+use Rattle.std.proofs.Common.{◌≡◌, ℕ, ◌+◌, ◌≤◌, sym, ap, ◌∙◌, List, length}
 use Rattle.std.proofs.lemmas.List.{length-map}
-use Rattle.std.proofs.lemmas.List.Elements.{All-nil, All-cons}
 use Rattle.icode.proofs.CodeLaws.ByLane.{weight_of_one}
-use Rattle.kernel_gen.specs.Instructions.{AreWithin, IsWithin, action_by, actions_by, code_cost}
+use Rattle.kernel_gen.specs.Instructions.{action_by, actions_by, code_cost}
 use Rattle.kernel_gen.specs.Kernel.{trees_kernel}
 use Rattle.tree_model.specs.KernelCosts.{CanMake, trees_cost}
 use Rattle.kernel_gen.specs.declared.straight.Instruction.{Instruction}
-use Rattle.kernel_gen.specs.declared.straight.Instruction.TheVariants.{Add, Sub, Neg, Mul}
-use Rattle.kernel_gen.proofs.Instructions.{actions-operations, factors-fit}
+use Rattle.kernel_gen.proofs.Instructions.{actions-operations}
 use Rattle.kernel_gen.proofs.Products.{trees-does}
-use Rattle.code_gen.specs.PassActions.Laws.{IsFit}
 use Rattle.tree_model.specs.Trees.{PlainTrees, trees_size}
-
--- ---- code whose registers are among those that there are
-
-module _ (m lanes bound regs : ℕ) (some : 0 < m) (low : bound ≤ regs) where
-  wider : (r : ℕ) → r < bound → r < regs
-  wider r below = omega (arith, below, low)
-
-  instruction-fits : (i : Instruction) → IsWithin m bound i → IsFit regs lanes m (action_by lanes i)
-  instruction-fits (Add r x y) is = record { registers = (wider r is.0, wider x is.1, wider y is.2); factors = tt }
-  instruction-fits (Sub r x y) is = record { registers = (wider r is.0, wider x is.1, wider y is.2); factors = tt }
-  instruction-fits (Neg r x) is = record { registers = (wider r is.0, wider x is.1); factors = tt }
-  instruction-fits (Mul r x factor) is = record { registers = (wider r is.0, wider x is.1); factors = factors-fit m lanes (λ _. factor) some (λ _. is.2) }
-
-  pub code-fits : (code : List Instruction) → AreWithin m bound code → All (IsFit regs lanes m) (actions_by lanes code)
-  code-fits [] are = All-nil (IsFit regs lanes m)
-  code-fits (i ∷ code) are = All-cons (IsFit regs lanes m) (action_by lanes i) (actions_by lanes code) (instruction-fits i are.0) (code-fits code are.1)
-
--- ---- counts
 
 -- each instruction is an operation
 cost-is : (code : List Instruction) → code_cost 1 code ≡ length code
@@ -40,7 +18,8 @@ pub code-length : (lanes : ℕ) (code : List Instruction) → length (actions_by
 code-length lanes code = length-map code (action_by lanes) ∙ sym (cost-is code)
 
 -- a kernel has a register for each input and for each operation
-pub trees-registers : (m : ℕ) (trees : PlainTrees) → 2 ≤ m → CanMake m trees → (trees_kernel m trees).next ≡ trees_size trees + trees_cost 1 m trees
+pub trees-registers : (m : ℕ) (trees : PlainTrees) → 2 ≤ m → CanMake m trees →
+    (trees_kernel m trees).next ≡ trees_size trees + trees_cost 1 m trees
 trees-registers m trees large can =
     let does = trees-does m 1 trees large can in
     does.next_is ∙ ap (λ n. trees_size trees + n) (sym (cost-is (trees_kernel m trees).code) ∙ does.costs)

@@ -24,7 +24,8 @@ use Rattle.code_gen.proofs.PassActions.StraightCopies.{Holds, IsLoaded, Computes
 abbrev pub value_of : Task → ℕ → (ℕ → ℕ) → Operator → ℕ → ℕ → ℕ
 value_of t n from f k lane = slice_index (f (list_below n (λ j. t.input (from j + lane)))) k
 
-module _ (c : Target) (regs : ℕ) (t : Task) (weight n price : ℕ) (from : ℕ → ℕ) (made : Made) (f : Operator) (room : made.next ≤ regs) (done : DoesAt c.modulus weight n price (firsts n) n made f) where
+module _ (c : Target) (regs : ℕ) (t : Task) (weight n price : ℕ) (from : ℕ → ℕ) (made : Made) (f : Operator)
+    (room : made.next ≤ regs) (done : DoesAt c.modulus weight n price (firsts n) n made f) where
   abbrev acts : List Action
   acts = actions_by c.lanes made.code
 
@@ -38,12 +39,14 @@ module _ (c : Target) (regs : ℕ) (t : Task) (weight n price : ℕ) (from : ℕ
   code-memory s h = (arithmetic_is_by_lane c.modulus c.lanes made.next acts s code-arithmetic (code-wide s h)).0
 
   code-registers : (s : Local) → IsReady c.lanes regs t s → (lane : ℕ) → lane < c.lanes →
-      lane_of c.lanes (effects c.modulus c.lanes acts s).registers lane ≡ code_effect c.modulus made.code (lane_of c.lanes s.registers lane)
+      lane_of c.lanes (effects c.modulus c.lanes acts s).registers lane
+      ≡ code_effect c.modulus made.code (lane_of c.lanes s.registers lane)
   code-registers s h lane there =
       (arithmetic_is_by_lane c.modulus c.lanes made.next acts s code-arithmetic (code-wide s h)).1 lane there
       ∙ actions-effect c.modulus c.lanes lane made.code (lane_of c.lanes s.registers lane) there
 
-  code-holds : ((k lane : ℕ) → k < n → lane < c.lanes → t.input (from k + lane) < c.modulus) → (s : Local) → IsLoaded c.modulus c.lanes regs t n from s →
+  code-holds : ((k lane : ℕ) → k < n → lane < c.lanes → t.input (from k + lane) < c.modulus) → (s : Local) →
+      IsLoaded c.modulus c.lanes regs t n from s →
       Holds c.modulus c.lanes regs t (slice_index made.outs) n (value_of t n from f) (effects c.modulus c.lanes acts s)
   code-holds small s h =
       record {
@@ -66,7 +69,8 @@ module _ (c : Target) (regs : ℕ) (t : Task) (weight n price : ℕ) (from : ℕ
           let inside : i < n = rw (length-list_below n (λ j. t.input (from j + lane))) at within in
           rw (at-list_below n (λ j. t.input (from j + lane)) i inside) (small i lane inside there)))
 
-  pub kernel-computes : ((k lane : ℕ) → k < n → lane < c.lanes → t.input (from k + lane) < c.modulus) → Computes c regs t n from acts (slice_index made.outs) made.next (value_of t n from f)
+  pub kernel-computes : ((k lane : ℕ) → k < n → lane < c.lanes → t.input (from k + lane) < c.modulus) →
+      Computes c regs t n from acts (slice_index made.outs) made.next (value_of t n from f)
   kernel-computes small =
       record {
         enough = let next = done.next_is in omega (arith, next);

@@ -1,5 +1,6 @@
 -- A pass leaves what it makes of its array.
-use Rattle.std.proofs.Common.{◌≡◌, ℕ, zero, suc, ◌+◌, ◌-◌, ◌<◌, arith, sym, ap, ◌∙◌, List, [], ◌∷◌, inl, inr, ◌⊎◌, subst, Contains}
+use Rattle.std.proofs.Common.{◌≡◌, ℕ, zero, suc, ◌+◌, ◌-◌, ◌<◌, arith, sym, ap, ◌∙◌, List, [], ◌∷◌, inl, inr, ◌⊎◌}
+use Rattle.std.proofs.Common.{subst, Contains}
 use Rattle.std.specs.Prelude.{slice_index}
 use Rattle.icode.proofs.Lines.{Contains-head, Contains-tail, Contains-nil}
 use Rattle.icode.specs.Machine.{Local}
@@ -20,7 +21,9 @@ use Rattle.sigma_spl.specs.Nest.{PlainNest, store_place, nests_on}
 use Rattle.sigma_spl.specs.Work.{vectors_of}
 use Rattle.operators.specs.TensorPaths.Path as paths
 
-module _ (c : Target) (zs : List PlainNest) (can : CanRun c zs) (source target q : ℕ) (x : List ℕ) (apart : AreApart c.size source target) (part : q < c.procs) (small : (i : ℕ) → i < c.size → slice_index x i < c.modulus) where
+module _ (c : Target) (zs : List PlainNest) (can : CanRun c zs) (source target q : ℕ) (x : List ℕ)
+    (apart : AreApart c.size source target) (part : q < c.procs)
+    (small : (i : ℕ) → i < c.size → slice_index x i < c.modulus) where
   -- the words of all copies of the processor in a nest, and in nests
   abbrev NestWords : PlainNest → ℕ → Type 0
   NestWords p a = (vs : List ℕ) × AreInRange (loop_counts c p) vs × CopyWords c p (vectors_of p.work) target q vs a
@@ -32,7 +35,9 @@ module _ (c : Target) (zs : List PlainNest) (can : CanRun c zs) (source target q
   DoFill Filled ys = Fills c.modulus c.lanes (IsReady c.lanes (regs c zs can source target q x apart part small) (whole c zs can source target q x apart part small)) (whole c zs can source target q x apart part small).IsOutput (whole c zs can source target q x apart part small).output Filled (pass_acts c ys source target q)
 
   nest-fills : (p : PlainNest) → Contains zs p →
-      Fills c.modulus c.lanes (IsReady c.lanes (regs c zs can source target q x apart part small) (whole c zs can source target q x apart part small)) (whole c zs can source target q x apart part small).IsOutput (whole c zs can source target q x apart part small).output (NestWords p) (nest_acts c p source target q)
+      Fills c.modulus c.lanes (IsReady c.lanes (regs c zs can source target q x apart part small)
+      (whole c zs can source target q x apart part small)) (whole c zs can source target q x apart part small).IsOutput
+      (whole c zs can source target q x apart part small).output (NestWords p) (nest_acts c p source target q)
   nest-fills p one =
       fills-nest c.modulus c.lanes (IsReady c.lanes (regs c zs can source target q x apart part small) (whole c zs can source target q x apart part small)) (whole c zs can source target q x apart part small).IsOutput (whole c zs can source target q x apart part small).output
       (loop_counts c p) (CopyWords c p (vectors_of p.work) target q) (copy_acts c p p.work source target q) []

@@ -1,5 +1,6 @@
 -- Where each word of an array is stored once, there stands what one copy and one item give.
-use Rattle.std.proofs.Common.{◌≡◌, ◌≢◌, ℕ, zero, suc, ◌+◌, ◌<◌, ◌≤◌, arith, refl, sym, ap, ap₂, ◌∙◌, List, [], ◌∷◌, inl, inr, Contains}
+use Rattle.std.proofs.Common.{◌≡◌, ◌≢◌, ℕ, zero, suc, ◌+◌, ◌<◌, ◌≤◌, arith, refl, sym, ap, ap₂, ◌∙◌, List, [], ◌∷◌, inl}
+use Rattle.std.proofs.Common.{inr, Contains}
 use Rattle.std.specs.Prelude.{slice_index, map, ◌==◌, if◌then◌else◌}
 use Rattle.std.proofs.lemmas.Bool.{cases_eq}
 use Rattle.std.proofs.lemmas.Bool.Decides.{nat_tests}
@@ -35,7 +36,8 @@ terms_le (suc n) h i j below under differ =
           ]
     ]
 
-sum-one : (n : ℕ) (h g : ℕ → ℕ) (j : ℕ) → j < n → sum_below n h ≤ 1 → 1 ≤ h j → ((i : ℕ) → i < n → h i ≡ 0 → g i ≡ 0) → sum_below n g ≡ g j
+sum-one : (n : ℕ) (h g : ℕ → ℕ) (j : ℕ) → j < n → sum_below n h ≤ 1 → 1 ≤ h j → ((i : ℕ) → i < n → h i ≡ 0 → g i ≡ 0) →
+    sum_below n g ≡ g j
 sum-one n h g j below most some none =
     sum_below-only n j g below (λ i inside other. none i inside (let two = terms_le n h i j inside below other in omega arith))
 
@@ -48,10 +50,12 @@ nest_le (t ∷ path) h (v ∷ vs) range =
     let outer = term_le (count_of t) (λ u. nest_sum path (λ us. h (u ∷ us))) v range.0 in
     omega arith
 
-nest-zero : (path : Path) (h g : List ℕ → ℕ) → ((us : List ℕ) → AreInRange path us → h us ≡ 0 → g us ≡ 0) → nest_sum path h ≡ 0 → nest_sum path g ≡ 0
+nest-zero : (path : Path) (h g : List ℕ → ℕ) → ((us : List ℕ) → AreInRange path us → h us ≡ 0 → g us ≡ 0) →
+    nest_sum path h ≡ 0 → nest_sum path g ≡ 0
 nest-zero path h g none zero_is = nest-none path g (λ us range. none us range (let le = nest_le path h us range in omega arith))
 
-nest-one : (path : Path) (h g : List ℕ → ℕ) (vs : List ℕ) → AreInRange path vs → nest_sum path h ≤ 1 → 1 ≤ h vs → ((us : List ℕ) → AreInRange path us → h us ≡ 0 → g us ≡ 0) → nest_sum path g ≡ g vs
+nest-one : (path : Path) (h g : List ℕ → ℕ) (vs : List ℕ) → AreInRange path vs → nest_sum path h ≤ 1 → 1 ≤ h vs →
+    ((us : List ℕ) → AreInRange path us → h us ≡ 0 → g us ≡ 0) → nest_sum path g ≡ g vs
 nest-one [] h g [] range most some none = refl
 nest-one [] h g (v ∷ vs) range most some none = absurd range
 nest-one (t ∷ path) h g [] range most some none = absurd range
@@ -114,7 +118,8 @@ module _ (m : ℕ) (x : List ℕ) (w : ℕ) where
       let rest : hits (map (copies_of m) zs) w ≡ 0 = omega arith in
       ap₂ (λ a b. a + b) (loop-zero (loops_of z.counts) (copies_of m z).size (copies_of m z).to (does_to m z x) w mine) (all-zero zs rest)
 
-  module _ (z : PlainNest) (vs : List ℕ) (k : ℕ) (range : AreInRange (loops_of z.counts) vs) (below : k < (copies_of m z).size) (there : (copies_of m z).to vs k ≡ w) where
+  module _ (z : PlainNest) (vs : List ℕ) (k : ℕ) (range : AreInRange (loops_of z.counts) vs)
+      (below : k < (copies_of m z).size) (there : (copies_of m z).to vs k ≡ w) where
     mine-some : 1 ≤ hits_of z
     mine-some = loop-some (loops_of z.counts) (copies_of m z).size (copies_of m z).to (λ us i. 1) w vs k range below there
 
@@ -123,7 +128,8 @@ module _ (m : ℕ) (x : List ℕ) (w : ℕ) where
     some-hit (y ∷ ys) (zero, low, e) = let same : hits_of y ≡ hits_of z = ap hits_of e in let some = mine-some in omega arith
     some-hit (y ∷ ys) (suc i, low, e) = let rest = some-hit ys (i, omega arith, e) in omega arith
 
-    pub stored-once : (zs : List PlainNest) → Contains zs z → hits (map (copies_of m) zs) w ≤ 1 → all_stored (map (copies_of m) zs) x w ≡ does_to m z x vs k
+    pub stored-once : (zs : List PlainNest) → Contains zs z → hits (map (copies_of m) zs) w ≤ 1 →
+        all_stored (map (copies_of m) zs) x w ≡ does_to m z x vs k
     stored-once [] one most = absurd (omega (arith, one.1))
     stored-once (y ∷ ys) (zero, low, e) most =
         let same : hits_of y ≡ hits_of z = ap hits_of e in

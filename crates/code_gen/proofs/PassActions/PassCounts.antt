@@ -2,6 +2,8 @@
 use Rattle.std.proofs.Common.{◌≡◌, ℕ, ◌+◌, ◌*◌, ◌<◌, ◌≤◌, arith, refl, sym, ap, ap₂, ◌∙◌, List, [], ◌∷◌, All}
 use Rattle.std.specs.Prelude.{slice_index, Option, Some, None}
 use Rattle.std.proofs.lemmas.List.Elements.{All-head, All-tail}
+use Rattle.std.proofs.Common.{mul_comm}
+use Rattle.std.proofs.Math.Nat.{one-mul}
 use Rattle.icode.specs.declared.action.Action.TheVariants.{Tile}
 use Rattle.icode.proofs.CodeLaws.ByLane.{weighted_is_by_lane}
 use Rattle.kernel_gen.specs.Instructions.{actions_by}
@@ -15,14 +17,16 @@ use Rattle.operators.specs.declared.target.Target.{Target}
 use Rattle.sigma_spl.specs.Shared.Costs.{work_cost, work_loads}
 use Rattle.sigma_spl.specs.Shared.Machine.{loop_counts}
 use Rattle.sigma_spl.specs.Shared.Names.{lanes_round, own_copies, share_of}
-use Rattle.code_gen.proofs.PassActions.Counting.{counts, tally, counts-same, products_of, counts-append, counts-nest, counts-body, counts-code, counts-rows, counts-items, plus}
+use Rattle.code_gen.proofs.PassActions.Counting.{counts, tally, counts-same, products_of, counts-append, counts-nest}
+use Rattle.code_gen.proofs.PassActions.Counting.{counts-body, counts-code, counts-rows, counts-items, plus}
 use Rattle.code_gen.proofs.PassActions.Fillings.{working}
 use Rattle.sigma_spl.specs.Counts.{copies_in, multiplier_cost}
 use Rattle.sigma_spl.specs.Nest.{PlainMultiplier, PlainNest}
 use Rattle.sigma_spl.specs.Work.{PlainWork, kernel, rows, horner, tile, copy, work_size, trees_of}
 use Rattle.tree_model.specs.Trees.{trees_size}
 
-products-are : (weight : ℕ) (o : Option PlainMultiplier) (w : PlainWork) → multiplier_cost weight o w ≡ work_size w * products_of weight o
+products-are : (weight : ℕ) (o : Option PlainMultiplier) (w : PlainWork) →
+    multiplier_cost weight o w ≡ work_size w * products_of weight o
 products-are weight None w = omega arith
 products-are weight (Some d) w = omega arith
 
@@ -44,14 +48,8 @@ items_share lanes n products = omega arith
 tile_share : (v products : ℕ) → 0 + v * (v * products) ≡ 1 * (0 + v * v * products)
 tile_share v products = omega arith
 
-swap : (a b : ℕ) → a * b ≡ b * a
-swap a b = omega arith
-
 rows_loads : (lanes n : ℕ) → n * (n * lanes) ≡ lanes * (n * n)
 rows_loads lanes n = omega arith
-
-times_one : (n : ℕ) → n ≡ 1 * n
-times_one n = omega arith
 
 module _ (weight : ℕ) (c : Target) (lanes : 0 < c.lanes) (modulus : 2 ≤ c.modulus) (source target q : ℕ) where
   -- so many for each item and lane
@@ -68,24 +66,24 @@ module _ (weight : ℕ) (c : Target) (lanes : 0 < c.lanes) (modulus : 2 ≤ c.mo
       let made = trees_kernel c.modulus (trees_of k) in
       counts-body weight c z target q vs p.multiplier (actions_by c.lanes made.code) (slice_index made.outs) made.next n (c.lanes * price) (λ k. source + load_at c z q vs k)
       (counts-code weight c.lanes price made.code (trees-does c.modulus weight (trees_of k) modulus can.trees).costs)
-      ∙ counts-same _ _ (kernel_share c.lanes price n (products_of weight p.multiplier) ∙ ap (λ m. c.lanes * (price + m)) (sym (products-are weight p.multiplier z.work))) (swap n c.lanes) (swap n c.lanes)
+      ∙ counts-same _ _ (kernel_share c.lanes price n (products_of weight p.multiplier) ∙ ap (λ m. c.lanes * (price + m)) (sym (products-are weight p.multiplier z.work))) (mul_comm n c.lanes) (mul_comm n c.lanes)
   copy-counts p (rows root n) can vs =
       let z : PlainNest = working p (rows root n) in
       counts-rows weight c z target q vs n (term_acts c z root source q vs) (λ k l. counts-same _ _ (omega arith) (omega arith) refl)
-      ∙ counts-same _ _ (rows_share c.lanes (1 + weight) n (products_of weight p.multiplier) ∙ ap (λ m. c.lanes * ((1 + weight) * n * n + m)) (sym (products-are weight p.multiplier z.work))) (rows_loads c.lanes n) (swap n c.lanes)
+      ∙ counts-same _ _ (rows_share c.lanes (1 + weight) n (products_of weight p.multiplier) ∙ ap (λ m. c.lanes * ((1 + weight) * n * n + m)) (sym (products-are weight p.multiplier z.work))) (rows_loads c.lanes n) (mul_comm n c.lanes)
   copy-counts p (horner root n) can vs =
       let z : PlainNest = working p (horner root n) in
       counts-rows weight c z target q vs n (horner_acts c z root n source q vs) (λ k l. counts-same _ _ (omega arith) (omega arith) refl)
-      ∙ counts-same _ _ (rows_share c.lanes (1 + weight) n (products_of weight p.multiplier) ∙ ap (λ m. c.lanes * ((1 + weight) * n * n + m)) (sym (products-are weight p.multiplier z.work))) (rows_loads c.lanes n) (swap n c.lanes)
+      ∙ counts-same _ _ (rows_share c.lanes (1 + weight) n (products_of weight p.multiplier) ∙ ap (λ m. c.lanes * ((1 + weight) * n * n + m)) (sym (products-are weight p.multiplier z.work))) (rows_loads c.lanes n) (mul_comm n c.lanes)
   copy-counts p (tile v) can vs =
       let z : PlainNest = working p (tile v) in
-      let words : v * c.lanes ≡ 1 * (v * v) = ap (λ l. v * l) (sym can) ∙ times_one (v * v) in
+      let words : v * c.lanes ≡ 1 * (v * v) = ap (λ l. v * l) (sym can) ∙ sym (one-mul (v * v)) in
       counts-body weight c z target q vs p.multiplier (Tile v 0 ∷ []) (λ k. v + k) (v + v) v 0 (λ k. source + load_at c z q vs k) (counts-same _ _ (omega arith) refl refl)
       ∙ counts-same _ _ (ap (λ l. 0 + v * (l * products_of weight p.multiplier)) (sym can) ∙ tile_share v (products_of weight p.multiplier) ∙ ap (λ m. 1 * (0 + m)) (sym (products-are weight p.multiplier z.work))) words words
   copy-counts p (copy n) can vs =
       let z : PlainNest = working p (copy n) in
       counts-items weight c z target q vs n source
-      ∙ counts-same _ _ (items_share c.lanes n (products_of weight p.multiplier) ∙ ap (λ m. c.lanes * (0 + m)) (sym (products-are weight p.multiplier z.work))) (swap n c.lanes) (swap n c.lanes)
+      ∙ counts-same _ _ (items_share c.lanes n (products_of weight p.multiplier) ∙ ap (λ m. c.lanes * (0 + m)) (sym (products-are weight p.multiplier z.work))) (mul_comm n c.lanes) (mul_comm n c.lanes)
 
   -- each lane has a copy for each turn of the loops
   whole : (copies beside each : ℕ) → copies * (beside * each) ≡ copies * beside * each

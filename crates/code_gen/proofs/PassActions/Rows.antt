@@ -1,5 +1,6 @@
 -- Work by rows fills its places: register 0 becomes a row's sum, turn by turn.
-use Rattle.std.proofs.Common.{◌≡◌, ℕ, zero, suc, ◌+◌, ◌*◌, ◌%◌, ◌<◌, ◌≤◌, arith, refl, sym, ap, ap₂, ◌∙◌, List, [], ◌∷◌, ◌++◌, length, subst}
+use Rattle.std.proofs.Common.{◌≡◌, ℕ, zero, suc, ◌+◌, ◌*◌, ◌%◌, ◌<◌, ◌≤◌, arith, refl, sym, ap, ap₂, ◌∙◌, List, [], ◌∷◌}
+use Rattle.std.proofs.Common.{◌++◌, length, subst}
 use Rattle.std.proofs.Math.Nat.{zero-mod, mod-mod}
 use Rattle.std.specs.Prelude.{slice_index}
 use Rattle.icode.specs.Actions.{lane_factors}
@@ -17,7 +18,8 @@ use Rattle.ring_mod.proofs.Congruence.{same-add}
 use Rattle.sigma_spl.specs.Nest.{PlainNest}
 use Rattle.code_gen.specs.PassActions.Acts.{store_at, finish_acts, rows_acts, with_multiplier}
 use Rattle.code_gen.proofs.PassActions.Factors.{factor_of, factor_each}
-use Rattle.code_gen.proofs.PassActions.Tasks.{register, Task, IsReady, AreInputs, AreOutputs, ready-after_store, ready-kept}
+use Rattle.code_gen.proofs.PassActions.Tasks.{register, Task, IsReady, AreInputs, AreOutputs, ready-after_store}
+use Rattle.code_gen.proofs.PassActions.Tasks.{ready-kept}
 use Rattle.code_gen.proofs.PassActions.Finish.{finished_lane, finish-fills}
 use Rattle.code_gen.proofs.PassActions.StraightCopies.{CopyWords}
 
@@ -50,25 +52,30 @@ module _ (m lanes regs : ℕ) (t : Task) (enough_registers : 3 ≤ regs) where
     pub more : (l : ℕ) → l < n → (s : Local) → Summed (total l) s → Summed (total (suc l)) (effects m lanes (turn l) s)
     pub memory : (l : ℕ) (s : Local) → (effects m lanes (turn l) s).memory ≡ s.memory
 
-  turns-add : (n : ℕ) (turn : ℕ → List Action) (total : ℕ → ℕ → ℕ) → AreTurns n turn total → (s : Local) → Summed (total 0) s → Summed (total n) (effects m lanes (bodies n turn) s)
+  turns-add : (n : ℕ) (turn : ℕ → List Action) (total : ℕ → ℕ → ℕ) → AreTurns n turn total → (s : Local) →
+      Summed (total 0) s → Summed (total n) (effects m lanes (bodies n turn) s)
   turns-add zero turn total h s known = known
   turns-add (suc n) turn total h s known =
       let fewer : AreTurns n turn total = record { none = h.none; more = λ l under. h.more l (omega arith); memory = h.memory } in
       subst (Summed (total (suc n))) (sym (lists_follow m lanes (bodies n turn) (turn n) s)) (h.more n (omega arith) (effects m lanes (bodies n turn) s) (turns-add n turn total fewer s known))
 
-  turns-memory : (n : ℕ) (turn : ℕ → List Action) → ((l : ℕ) (s : Local) → (effects m lanes (turn l) s).memory ≡ s.memory) → (s : Local) → (effects m lanes (bodies n turn) s).memory ≡ s.memory
+  turns-memory : (n : ℕ) (turn : ℕ → List Action) → ((l : ℕ) (s : Local) →
+      (effects m lanes (turn l) s).memory ≡ s.memory) → (s : Local) →
+      (effects m lanes (bodies n turn) s).memory ≡ s.memory
   turns-memory zero turn h s = refl
   turns-memory (suc n) turn h s =
       ap (λ (z : Local). z.memory) (lists_follow m lanes (bodies n turn) (turn n) s) ∙ h n (effects m lanes (bodies n turn) s) ∙ turns-memory n turn h s
 
-  zero-sums : (total : ℕ → ℕ) → ((lane : ℕ) → total lane ≡ 0) → (s : Local) → IsReady lanes regs t s → Summed total (effect m lanes (Zero 0) s)
+  zero-sums : (total : ℕ → ℕ) → ((lane : ℕ) → total lane ≡ 0) → (s : Local) → IsReady lanes regs t s →
+      Summed total (effect m lanes (Zero 0) s)
   zero-sums total none s h =
       record {
         ready = ready-kept m lanes regs t (Zero 0 ∷ []) s refl h;
         sum = λ lane there. ap (λ (z : Registers). z 0) (effect_by_lane m lanes regs (Zero 0) s lane (omega arith) h.wide there) ∙ sym (none lane);
       }
 
-  summed-after_product : (total : ℕ → ℕ) (factors : List ℕ) → 3 < regs → lanes ≤ length factors → (s : Local) → Summed total s → Summed total (effect m lanes (Mul 3 0 factors) s)
+  summed-after_product : (total : ℕ → ℕ) (factors : List ℕ) → 3 < regs → lanes ≤ length factors → (s : Local) →
+      Summed total s → Summed total (effect m lanes (Mul 3 0 factors) s)
   summed-after_product total factors high enough s h =
       record {
         ready = ready-kept m lanes regs t (Mul 3 0 factors ∷ []) s refl h.ready;
@@ -84,7 +91,8 @@ module _ (m lanes regs : ℕ) (t : Task) (enough_registers : 3 ≤ regs) where
     abbrev more_sum : (ℕ → ℕ) → ℕ → ℕ → ℕ
     more_sum total l lane = (total lane + (t.input (from l + lane) * entry l) % m) % m
 
-    term-adds : (l : ℕ) (total : ℕ → ℕ) (s : Local) → AreInputs m lanes regs t (from l) → Summed total s → Summed (more_sum total l) (effects m lanes (entry_acts lanes from entry l) s)
+    term-adds : (l : ℕ) (total : ℕ → ℕ) (s : Local) → AreInputs m lanes regs t (from l) → Summed total s →
+        Summed (more_sum total l) (effects m lanes (entry_acts lanes from entry l) s)
     term-adds l total s inputs h =
         record {
           ready = ready-kept m lanes regs t (entry_acts lanes from entry l) s refl h.ready;
@@ -107,7 +115,8 @@ module _ (m lanes regs : ℕ) (t : Task) (enough_registers : 3 ≤ regs) where
     abbrev pub sums : ℕ → ℕ → ℕ
     sums n lane = row_sum t from entry n lane % m
 
-    pub terms-turn : (n : ℕ) → ((l : ℕ) → l < n → AreInputs m lanes regs t (from l)) → AreTurns n (entry_acts lanes from entry) sums
+    pub terms-turn : (n : ℕ) → ((l : ℕ) → l < n → AreInputs m lanes regs t (from l)) →
+        AreTurns n (entry_acts lanes from entry) sums
     terms-turn n inputs =
         record {
           none = λ lane. zero-mod m;
@@ -128,7 +137,8 @@ module _ (m lanes regs : ℕ) (t : Task) (enough_registers : 3 ≤ regs) where
     abbrev pub scaled : ℕ → ℕ → ℕ
     scaled n lane = scaled_sum m factor (λ l. t.input (from l + lane)) n
 
-    scaled-adds : (l : ℕ) (s : Local) → AreInputs m lanes regs t (from l) → Summed (scaled l) s → Summed (scaled (suc l)) (effects m lanes (scaled_acts lanes from factor l) s)
+    scaled-adds : (l : ℕ) (s : Local) → AreInputs m lanes regs t (from l) → Summed (scaled l) s →
+        Summed (scaled (suc l)) (effects m lanes (scaled_acts lanes from factor l) s)
     scaled-adds l s inputs h =
         record {
           ready = ready-kept m lanes regs t (scaled_acts lanes from factor l) s refl h.ready;
@@ -146,7 +156,8 @@ module _ (m lanes regs : ℕ) (t : Task) (enough_registers : 3 ≤ regs) where
               ∙ ap (λ e. ((scaled l lane * e) % m + t.input (from l + lane)) % m) (factor_of lanes (λ _. factor) lane there);
         }
 
-    pub scaled-turn : (n : ℕ) → ((l : ℕ) → l < n → AreInputs m lanes regs t (from l)) → AreTurns n (scaled_acts lanes from factor) scaled
+    pub scaled-turn : (n : ℕ) → ((l : ℕ) → l < n → AreInputs m lanes regs t (from l)) →
+        AreTurns n (scaled_acts lanes from factor) scaled
     scaled-turn n inputs = record { none = λ lane. refl; more = λ l under s h. scaled-adds l s (inputs l under) h; memory = λ l s. refl }
 
 -- ---- rows
@@ -155,10 +166,15 @@ module _ (m lanes regs : ℕ) (t : Task) (enough_registers : 3 ≤ regs) where
 abbrev pub row_acts : Target → PlainNest → ℕ → (ℕ → List Action) → ℕ → ℕ → List ℕ → ℕ → List Action
 row_acts c p n turn target q vs k = Zero 0 ∷ (bodies n turn ++ finish_acts c p p.multiplier target q vs k 0 3)
 
-pub row-fills : (c : Target) (p : PlainNest) (n regs target q : ℕ) (t : Task) (turn : ℕ → List Action) (total : ℕ → ℕ → ℕ) (vs : List ℕ) (k : ℕ) → 0 < c.lanes → (room : 3 ≤ regs) → with_multiplier p.multiplier 3 1 ≤ regs →
-    AreTurns c.modulus c.lanes regs t room n turn total → AreOutputs c.modulus c.lanes regs t (target + store_at c p q vs k) →
-    ((lane : ℕ) → lane < c.lanes → t.output (target + store_at c p q vs k + lane) ≡ finished_lane c p p.multiplier q vs k lane (total n lane)) →
-    Fills c.modulus c.lanes (IsReady c.lanes regs t) t.IsOutput t.output (Stored c.lanes (target + store_at c p q vs k)) (row_acts c p n turn target q vs k)
+pub row-fills : (c : Target) (p : PlainNest) (n regs target q : ℕ) (t : Task) (turn : ℕ → List Action)
+    (total : ℕ → ℕ → ℕ) (vs : List ℕ) (k : ℕ) → 0 < c.lanes → (room : 3 ≤ regs) →
+    with_multiplier p.multiplier 3 1 ≤ regs →
+    AreTurns c.modulus c.lanes regs t room n turn total → AreOutputs c.modulus c.lanes regs t
+    (target + store_at c p q vs k) →
+    ((lane : ℕ) → lane < c.lanes → t.output (target + store_at c p q vs k + lane)
+    ≡ finished_lane c p p.multiplier q vs k lane (total n lane)) →
+    Fills c.modulus c.lanes (IsReady c.lanes regs t) t.IsOutput t.output (Stored c.lanes (target + store_at c p q vs k))
+    (row_acts c p n turn target q vs k)
 row-fills c p n regs target q t turn total vs k some room few turns are meant =
     let m = c.modulus in
     let lanes = c.lanes in
@@ -175,10 +191,14 @@ row-fills c p n regs target q t turn total vs k some room few turns are meant =
     (omega arith) (omega arith) few are meant)
 
 -- all rows
-pub rows-fill : (c : Target) (p : PlainNest) (n regs target q : ℕ) (t : Task) (turn : ℕ → ℕ → List Action) (total : ℕ → ℕ → ℕ → ℕ) (vs : List ℕ) → 0 < c.lanes → (room : 3 ≤ regs) → with_multiplier p.multiplier 3 1 ≤ regs →
-    ((k : ℕ) → k < n → AreTurns c.modulus c.lanes regs t room n (turn k) (total k)) → ((k : ℕ) → k < n → AreOutputs c.modulus c.lanes regs t (target + store_at c p q vs k)) →
-    ((k lane : ℕ) → k < n → lane < c.lanes → t.output (target + store_at c p q vs k + lane) ≡ finished_lane c p p.multiplier q vs k lane (total k n lane)) →
-    Fills c.modulus c.lanes (IsReady c.lanes regs t) t.IsOutput t.output (CopyWords c p n target q vs) (rows_acts c p n turn target q vs)
+pub rows-fill : (c : Target) (p : PlainNest) (n regs target q : ℕ) (t : Task) (turn : ℕ → ℕ → List Action)
+    (total : ℕ → ℕ → ℕ → ℕ) (vs : List ℕ) → 0 < c.lanes → (room : 3 ≤ regs) → with_multiplier p.multiplier 3 1 ≤ regs →
+    ((k : ℕ) → k < n → AreTurns c.modulus c.lanes regs t room n (turn k) (total k)) →
+    ((k : ℕ) → k < n → AreOutputs c.modulus c.lanes regs t (target + store_at c p q vs k)) →
+    ((k lane : ℕ) → k < n → lane < c.lanes → t.output (target + store_at c p q vs k + lane)
+    ≡ finished_lane c p p.multiplier q vs k lane (total k n lane)) →
+    Fills c.modulus c.lanes (IsReady c.lanes regs t) t.IsOutput t.output (CopyWords c p n target q vs)
+    (rows_acts c p n turn target q vs)
 rows-fill c p n regs target q t turn total vs some room few turns outputs meant =
     fills-loop c.modulus c.lanes (IsReady c.lanes regs t) t.IsOutput t.output n (λ k a. Stored c.lanes (target + store_at c p q vs k) a) (λ k. row_acts c p n (turn k) target q vs k)
     (λ k row. row-fills c p n regs target q t (turn k) (total k) vs k some room few (turns k row) (outputs k row) (λ lane there. meant k lane row there))

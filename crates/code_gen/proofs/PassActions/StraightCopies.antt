@@ -1,5 +1,6 @@
 -- A copy of straight code fills its places: it loads its registers, computes, and stores what registers hold then.
-use Rattle.std.proofs.Common.{◌≡◌, ℕ, ◌+◌, ◌<◌, ◌≤◌, arith, refl, sym, ap, ◌∙◌, List, [], ◌∷◌, ◌++◌, length, subst, append_assoc}
+use Rattle.std.proofs.Common.{◌≡◌, ℕ, ◌+◌, ◌<◌, ◌≤◌, arith, refl, sym, ap, ◌∙◌, List, [], ◌∷◌, ◌++◌, length, subst}
+use Rattle.std.proofs.Common.{append_assoc}
 use Rattle.std.specs.Prelude.{Option, Some, None}
 use Rattle.icode.specs.declared.action.Action.{Action}
 use Rattle.icode.specs.declared.action.Action.TheVariants.{Mul}
@@ -12,7 +13,8 @@ use Rattle.icode.proofs.CodeLaws.Stores.{Stored, loads-memory, loads-registers}
 use Rattle.operators.specs.declared.target.Target.{Target}
 use Rattle.sigma_spl.specs.Nest.{PlainMultiplier, PlainNest}
 use Rattle.code_gen.specs.PassActions.Acts.{store_at, finish_acts, with_multiplier}
-use Rattle.code_gen.proofs.PassActions.Tasks.{register, Task, IsReady, AreInputs, AreOutputs, ready-after_store, ready-kept}
+use Rattle.code_gen.proofs.PassActions.Tasks.{register, Task, IsReady, AreInputs, AreOutputs, ready-after_store}
+use Rattle.code_gen.proofs.PassActions.Tasks.{ready-kept}
 use Rattle.code_gen.proofs.PassActions.Finish.{finished_lane, finish-fills}
 
 -- what is in use before the ends of the items is there
@@ -30,7 +32,8 @@ module _ (m lanes regs : ℕ) (t : Task) where
   abbrev pub IsLoaded : ℕ → (ℕ → ℕ) → Local → Type 0
   IsLoaded n from s = Holds (λ k. k) n (λ k lane. t.input (from k + lane)) s
 
-  pub loads-load : (n : ℕ) (from : ℕ → ℕ) → n ≤ regs → ((k : ℕ) → k < n → AreInputs m lanes regs t (from k)) → (s : Local) → IsReady lanes regs t s → IsLoaded n from (effects m lanes (loads n from) s)
+  pub loads-load : (n : ℕ) (from : ℕ → ℕ) → n ≤ regs → ((k : ℕ) → k < n → AreInputs m lanes regs t (from k)) →
+      (s : Local) → IsReady lanes regs t s → IsLoaded n from (effects m lanes (loads n from) s)
   loads-load n from few inputs s h =
       record {
         ready = ready-kept m lanes regs t (loads n from) s (loads-memory m lanes n from s) h;
@@ -38,8 +41,10 @@ module _ (m lanes regs : ℕ) (t : Task) where
       }
 
   -- a product into a free register leaves the outputs
-  pub holds-after_product : (out : ℕ → ℕ) (n used : ℕ) (value : ℕ → ℕ → ℕ) → ((k : ℕ) → k < n → out k < used) → (k free : ℕ) → k < n → used ≤ free →
-      (factors : List ℕ) → free < regs → lanes ≤ length factors → (s : Local) → Holds out n value s → Holds out n value (effect m lanes (Mul free (out k) factors) s)
+  pub holds-after_product : (out : ℕ → ℕ) (n used : ℕ) (value : ℕ → ℕ → ℕ) → ((k : ℕ) → k < n → out k < used) →
+      (k free : ℕ) → k < n → used ≤ free →
+      (factors : List ℕ) → free < regs → lanes ≤ length factors → (s : Local) → Holds out n value s →
+      Holds out n value (effect m lanes (Mul free (out k) factors) s)
   holds-after_product out n used value below k free under beyond factors high enough s h =
       let source = below k under in
       record {
@@ -56,7 +61,8 @@ abbrev pub ends_of : Target → PlainNest → Option PlainMultiplier → (ℕ �
 ends_of c p o out used target q vs k = finish_acts c p o target q vs k (out k) (used + k)
 
 -- the actions of a copy, from its places
-abbrev pub copy_body : Target → PlainNest → Option PlainMultiplier → List Action → (ℕ → ℕ) → ℕ → ℕ → (ℕ → ℕ) → ℕ → ℕ → List ℕ → List Action
+abbrev pub copy_body : Target → PlainNest → Option PlainMultiplier → List Action → (ℕ → ℕ) → ℕ → ℕ → (ℕ → ℕ) → ℕ → ℕ →
+    List ℕ → List Action
 copy_body c p o middle out used n from target q vs = loads n from ++ (middle ++ bodies n (ends_of c p o out used target q vs))
 
 -- the words that a copy fills, on all lanes
@@ -68,13 +74,18 @@ pub record Computes (c : Target) (regs : ℕ) (t : Task) (n : ℕ) (from : ℕ �
   pub enough : n ≤ used
   pub below : (k : ℕ) → k < n → out k < used
   pub memory : (s : Local) → IsReady c.lanes regs t s → (effects c.modulus c.lanes middle s).memory ≡ s.memory
-  pub holds : (s : Local) → IsLoaded c.modulus c.lanes regs t n from s → Holds c.modulus c.lanes regs t out n value (effects c.modulus c.lanes middle s)
+  pub holds : (s : Local) → IsLoaded c.modulus c.lanes regs t n from s →
+      Holds c.modulus c.lanes regs t out n value (effects c.modulus c.lanes middle s)
 
-pub body-fills : (c : Target) (p : PlainNest) (o : Option PlainMultiplier) (regs target q : ℕ) (t : Task) (n : ℕ) (from : ℕ → ℕ) (middle : List Action) (out : ℕ → ℕ) (used : ℕ) (value : ℕ → ℕ → ℕ) (vs : List ℕ) →
+pub body-fills : (c : Target) (p : PlainNest) (o : Option PlainMultiplier) (regs target q : ℕ) (t : Task) (n : ℕ)
+    (from : ℕ → ℕ) (middle : List Action) (out : ℕ → ℕ) (used : ℕ) (value : ℕ → ℕ → ℕ) (vs : List ℕ) →
     0 < c.lanes → with_multiplier o used n ≤ regs → Computes c regs t n from middle out used value →
-    ((k : ℕ) → k < n → AreInputs c.modulus c.lanes regs t (from k)) → ((k : ℕ) → k < n → AreOutputs c.modulus c.lanes regs t (target + store_at c p q vs k)) →
-    ((k lane : ℕ) → k < n → lane < c.lanes → t.output (target + store_at c p q vs k + lane) ≡ finished_lane c p o q vs k lane (value k lane)) →
-    Fills c.modulus c.lanes (IsReady c.lanes regs t) t.IsOutput t.output (CopyWords c p n target q vs) (copy_body c p o middle out used n from target q vs)
+    ((k : ℕ) → k < n → AreInputs c.modulus c.lanes regs t (from k)) →
+    ((k : ℕ) → k < n → AreOutputs c.modulus c.lanes regs t (target + store_at c p q vs k)) →
+    ((k lane : ℕ) → k < n → lane < c.lanes → t.output (target + store_at c p q vs k + lane)
+    ≡ finished_lane c p o q vs k lane (value k lane)) →
+    Fills c.modulus c.lanes (IsReady c.lanes regs t) t.IsOutput t.output (CopyWords c p n target q vs)
+    (copy_body c p o middle out used n from target q vs)
 body-fills c p o regs target q t n from middle out used value vs some few does inputs outputs meant =
     let m = c.modulus in
     let lanes = c.lanes in

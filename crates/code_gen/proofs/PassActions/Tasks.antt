@@ -38,7 +38,8 @@ module _ (m lanes regs : ℕ) (t : Task) where
   AreOutputs address = (lane : ℕ) → lane < lanes → t.IsOutput (address + lane)
 
   -- a store of outputs leaves what a pass reads
-  pub ready-after_store : (address r : ℕ) → AreOutputs address → (s : Local) → IsReady lanes regs t s → IsReady lanes regs t (effect m lanes (Store address r) s)
+  pub ready-after_store : (address r : ℕ) → AreOutputs address → (s : Local) → IsReady lanes regs t s →
+      IsReady lanes regs t (effect m lanes (Store address r) s)
   ready-after_store address r outputs s h =
       record {
         wide = let e = length-registers m lanes (Store address r ∷ []) s in let w = h.wide in omega arith;
@@ -51,7 +52,8 @@ module _ (m lanes regs : ℕ) (t : Task) where
       }
 
   -- so does what leaves the memory
-  pub ready-kept : (actions : List Action) (s : Local) → (effects m lanes actions s).memory ≡ s.memory → IsReady lanes regs t s → IsReady lanes regs t (effects m lanes actions s)
+  pub ready-kept : (actions : List Action) (s : Local) → (effects m lanes actions s).memory ≡ s.memory →
+      IsReady lanes regs t s → IsReady lanes regs t (effects m lanes actions s)
   ready-kept actions s same h =
       record {
         wide = let e = length-registers m lanes actions s in let w = h.wide in omega arith;

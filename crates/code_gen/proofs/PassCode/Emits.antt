@@ -1,10 +1,11 @@
 -- Steps that are a list of actions, at places that are inside.
-use Rattle.std.proofs.Common.{◌≡◌, ℕ, zero, suc, ◌+◌, ◌<◌, All, List, [], ◌∷◌, ◌++◌, flat_map, refl, sym, ap, ap₂, ◌∙◌, arith, append-nil, append_assoc, subst}
+use Rattle.std.proofs.Common.{◌≡◌, ℕ, zero, suc, ◌+◌, ◌<◌, All, List, [], ◌∷◌, ◌++◌, flat_map, refl, sym, ap, ap₂, ◌∙◌}
+use Rattle.std.proofs.Common.{arith, append-nil, append_assoc, subst}
 use Rattle.std.specs.List.{range_with_len}
 use Rattle.std.proofs.lemmas.List.Concat.{flat_map-append}
 use Rattle.std.proofs.lemmas.List.Elements.{All-nil, All-cons, All-append}
 use Rattle.icode.specs.declared.action.Action.{Action}
-use Rattle.icode.specs.Actions.{Step, step_of, steps_of_body, actions_of}
+use Rattle.icode.specs.Actions.{Step, steps_of_body, actions_of}
 use Rattle.icode.specs.Plain.{PlainBody, PlainOp, PlainProgram, NoStmts, AndStmts, Loop, Do}
 use Rattle.icode.specs.CodeLaws.Nests.{bodies, nest, AreInRange}
 use Rattle.icode.proofs.CodeLaws.Statements.{range-last}
@@ -23,7 +24,8 @@ pub emits-one : (s : Step) (a : Action) → s.action ≡ a → IsInside s → Em
 emits-one s a is within =
     record { acts = ap (λ (b : Action). b ∷ []) is; inside = All-cons IsInside s [] within (All-nil IsInside) }
 
-pub emits-append : (xs ys : List Step) (before after : List Action) → Emits xs before → Emits ys after → Emits (xs ++ ys) (before ++ after)
+pub emits-append : (xs ys : List Step) (before after : List Action) → Emits xs before → Emits ys after →
+    Emits (xs ++ ys) (before ++ after)
 emits-append xs ys before after first second =
     record {
       acts = actions_of-append xs ys ∙ ap₂ (λ (us vs : List Action). us ++ vs) first.acts second.acts;
@@ -33,7 +35,8 @@ emits-append xs ys before after first second =
 pub emits-same : (xs ys : List Step) (before : List Action) → xs ≡ ys → Emits ys before → Emits xs before
 emits-same xs ys before is h = subst (λ (zs : List Step). Emits zs before) (sym is) h
 
-steps-last : (n : ℕ) (steps : ℕ → List Step) → flat_map steps (range_with_len 0 (suc n)) ≡ flat_map steps (range_with_len 0 n) ++ steps n
+steps-last : (n : ℕ) (steps : ℕ → List Step) → flat_map steps (range_with_len 0 (suc n))
+    ≡ flat_map steps (range_with_len 0 n) ++ steps n
 steps-last n steps =
     let same : 0 + n ≡ n = omega arith in
     ap (flat_map steps) (range-last 0 n ∙ ap (λ k. range_with_len 0 n ++ k ∷ []) same)
@@ -41,36 +44,43 @@ steps-last n steps =
     ∙ ap (λ (zs : List Step). flat_map steps (range_with_len 0 n) ++ zs) (append-nil (steps n))
 
 -- the bodies of a loop
-pub emits-loop : (n : ℕ) (steps : ℕ → List Step) (acts : ℕ → List Action) → ((v : ℕ) → v < n → Emits (steps v) (acts v)) → Emits (flat_map steps (range_with_len 0 n)) (bodies n acts)
+pub emits-loop : (n : ℕ) (steps : ℕ → List Step) (acts : ℕ → List Action) →
+    ((v : ℕ) → v < n → Emits (steps v) (acts v)) → Emits (flat_map steps (range_with_len 0 n)) (bodies n acts)
 emits-loop zero steps acts h = emits-none
 emits-loop (suc n) steps acts h =
     emits-same _ _ _ (steps-last n steps)
     (emits-append (flat_map steps (range_with_len 0 n)) (steps n) (bodies n acts) (acts n) (emits-loop n steps acts (λ v below. h v (omega arith))) (h n (omega arith)))
 
 module _ (p : PlainProgram) (q : ℕ) where
-  pub emits-followed : (xs ys : PlainBody) (vs : List ℕ) (before after : List Action) → Emits (steps_of_body p xs vs q) before → Emits (steps_of_body p ys vs q) after → Emits (steps_of_body p (followed_by xs ys) vs q) (before ++ after)
+  pub emits-followed : (xs ys : PlainBody) (vs : List ℕ) (before after : List Action) →
+      Emits (steps_of_body p xs vs q) before → Emits (steps_of_body p ys vs q) after →
+      Emits (steps_of_body p (followed_by xs ys) vs q) (before ++ after)
   emits-followed xs ys vs before after first second = emits-same _ _ _ (steps-followed p xs ys vs q) (emits-append _ _ before after first second)
 
-  pub emits-in_a_row : (n : ℕ) (body : ℕ → PlainBody) (vs : List ℕ) (acts : ℕ → List Action) → ((k : ℕ) → k < n → Emits (steps_of_body p (body k) vs q) (acts k)) → Emits (steps_of_body p (in_a_row n body) vs q) (bodies n acts)
+  pub emits-in_a_row : (n : ℕ) (body : ℕ → PlainBody) (vs : List ℕ) (acts : ℕ → List Action) →
+      ((k : ℕ) → k < n → Emits (steps_of_body p (body k) vs q) (acts k)) →
+      Emits (steps_of_body p (in_a_row n body) vs q) (bodies n acts)
   emits-in_a_row zero body vs acts h = emits-none
   emits-in_a_row (suc n) body vs acts h =
       emits-followed (in_a_row n body) (body n) vs (bodies n acts) (acts n) (emits-in_a_row n body vs acts (λ k below. h k (omega arith))) (h n (omega arith))
 
-  pub emits-do : (op : PlainOp) (vs : List ℕ) (a : Action) → (step_of p op vs q).action ≡ a → IsInside (step_of p op vs q) → Emits (steps_of_body p (do_only op) vs q) (a ∷ [])
-  emits-do op vs a is within = emits-one (step_of p op vs q) a is within
-
   -- an operation, and what follows it
-  pub emits-then : (op : PlainOp) (rest : PlainBody) (vs : List ℕ) (a : Action) (acts : List Action) → Emits (steps_of_body p (do_only op) vs q) (a ∷ []) → Emits (steps_of_body p rest vs q) acts → Emits (steps_of_body p (AndStmts (Do op) rest) vs q) (a ∷ acts)
+  pub emits-then : (op : PlainOp) (rest : PlainBody) (vs : List ℕ) (a : Action) (acts : List Action) →
+      Emits (steps_of_body p (do_only op) vs q) (a ∷ []) → Emits (steps_of_body p rest vs q) acts →
+      Emits (steps_of_body p (AndStmts (Do op) rest) vs q) (a ∷ acts)
   emits-then op rest vs a acts first second = emits-append (steps_of_body p (do_only op) vs q) (steps_of_body p rest vs q) (a ∷ []) acts first second
 
   -- one loop
-  pub emits-looped : (n : ℕ) (body : PlainBody) (vs : List ℕ) (acts : ℕ → List Action) → ((v : ℕ) → v < n → Emits (steps_of_body p body (vs ++ v ∷ []) q) (acts v)) → Emits (steps_of_body p (AndStmts (Loop n body) NoStmts) vs q) (bodies n acts)
+  pub emits-looped : (n : ℕ) (body : PlainBody) (vs : List ℕ) (acts : ℕ → List Action) →
+      ((v : ℕ) → v < n → Emits (steps_of_body p body (vs ++ v ∷ []) q) (acts v)) →
+      Emits (steps_of_body p (AndStmts (Loop n body) NoStmts) vs q) (bodies n acts)
   emits-looped n body vs acts h =
       emits-same _ _ _ (append-nil (flat_map (λ v. steps_of_body p body (vs ++ v ∷ []) q) (range_with_len 0 n)))
       (emits-loop n (λ v. steps_of_body p body (vs ++ v ∷ []) q) acts h)
 
   -- loops in one another
-  pub emits-nested : (counts : List ℕ) (body : PlainBody) (acts : List ℕ → List Action) (outer : List ℕ) → ((vs : List ℕ) → AreInRange counts vs → Emits (steps_of_body p body (outer ++ vs) q) (acts (outer ++ vs))) →
+  pub emits-nested : (counts : List ℕ) (body : PlainBody) (acts : List ℕ → List Action) (outer : List ℕ) →
+      ((vs : List ℕ) → AreInRange counts vs → Emits (steps_of_body p body (outer ++ vs) q) (acts (outer ++ vs))) →
       Emits (steps_of_body p (nested counts body) outer q) (nest counts acts outer)
   emits-nested [] body acts outer h = subst (λ (vs : List ℕ). Emits (steps_of_body p body vs q) (acts vs)) (append-nil outer) (h [] tt)
   emits-nested (count ∷ counts) body acts outer h =

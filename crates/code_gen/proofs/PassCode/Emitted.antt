@@ -1,9 +1,10 @@
 -- The statements of a nest's copies are their actions, at places that are inside.
-use Rattle.std.proofs.Common.{◌≡◌, ℕ, ◌+◌, ◌-◌, ◌*◌, ◌%◌, ◌^◌, ◌<◌, ◌≤◌, List, [], ◌∷◌, ◌++◌, flat_map, length, refl, sym, ap, ◌∙◌, arith, mod-lt, subst}
+use Rattle.std.proofs.Common.{◌≡◌, ℕ, ◌+◌, ◌-◌, ◌*◌, ◌%◌, ◌^◌, ◌<◌, ◌≤◌, List, [], ◌∷◌, ◌++◌, flat_map, length, refl}
+use Rattle.std.proofs.Common.{sym, ap, ◌∙◌, arith, mod-lt, subst}
 use Rattle.std.specs.Prelude.{slice_index, slice_index_or, Option, Some, None}
 use Rattle.std.specs.List.{range_with_len}
 use Rattle.icode.specs.declared.action.Action.{Action}
-use Rattle.icode.specs.declared.action.Action.TheVariants.{Load, Store, Zero, Add, Mul, Tile}
+use Rattle.icode.specs.declared.action.Action.TheVariants.{Load, Store, Zero, Add, Mul}
 use Rattle.icode.specs.declared.program.Array.{Array}
 use Rattle.icode.specs.Actions.{Step, plain, lane_factors, step_of, steps_of_body}
 use Rattle.icode.specs.Expression.{sum_numbers}
@@ -11,21 +12,26 @@ use Rattle.icode.specs.Plain.{PlainBody, PlainExpr, PlainProgram, AndStmts, Do, 
 use Rattle.icode.specs.Plain as statements
 use Rattle.icode.specs.CodeLaws.Nests.{bodies, loads}
 use Rattle.kernel_gen.specs.Instructions.{action_by, actions_by, op_of}
-use Rattle.kernel_gen.specs.Making.{Made}
 use Rattle.kernel_gen.specs.declared.straight.Instruction.{Instruction}
 use Rattle.kernel_gen.proofs.Instructions.{step-is}
 use Rattle.operators.proofs.Lists.{length-list_below, at-list_below}
-use Rattle.code_gen.specs.PassActions.Acts.{load_at, store_at, factors_at, finish_acts, made_acts, tile_acts, rows_acts, items_acts, term_acts, horner_acts}
+use Rattle.code_gen.specs.PassActions.Acts.{load_at, store_at, factors_at, finish_acts, rows_acts}
+use Rattle.code_gen.specs.PassActions.Acts.{items_acts, term_acts, horner_acts}
 use Rattle.code_gen.specs.PassCode.Conditions.{IsInside}
 use Rattle.operators.specs.declared.target.Target.{Target}
 use Rattle.sigma_spl.specs.Shared.Machine.{frame_of, item_of, values_of, loop_counts}
-use Rattle.code_gen.specs.PassCode.Statements.{diagonal_of, one_factor, powers_of, product_op, do_only, in_a_row, followed_by, place_at, finish_body, straight_body, loads_body, made_body, tile_body, rows_body, items_body, loop_value, product_place, term_body, horner_body}
+use Rattle.code_gen.specs.PassCode.Statements.{diagonal_of, one_factor, powers_of, product_op, do_only, in_a_row}
+use Rattle.code_gen.specs.PassCode.Statements.{followed_by, place_at, finish_body, straight_body, loads_body}
+use Rattle.code_gen.specs.PassCode.Statements.{rows_body, items_body, loop_value, product_place, term_body}
+use Rattle.code_gen.specs.PassCode.Statements.{horner_body}
 use Rattle.code_gen.proofs.PassCode.Coded.{IsCoded}
-use Rattle.code_gen.proofs.PassCode.Emits.{Emits, emits-none, emits-one, emits-append, emits-followed, emits-in_a_row, emits-looped, emits-loop, emits-then}
+use Rattle.code_gen.proofs.PassCode.Emits.{Emits, emits-none, emits-one, emits-append, emits-followed, emits-in_a_row}
+use Rattle.code_gen.proofs.PassCode.Emits.{emits-looped, emits-loop, emits-then}
 use Rattle.code_gen.proofs.PassCode.OneFactor.{one-factor}
 use Rattle.code_gen.proofs.PassCode.Places.{IsFor, start_of, emits-load, emits-store, emits-product}
 use Rattle.code_gen.proofs.PassCode.PlaceNumbers.{loop-value, loop-peak, product-value, product-peak}
 use Rattle.code_gen.proofs.PassActions.Rows.{row_acts}
+use Rattle.code_gen.proofs.PassActions.StraightCopies.{copy_body, ends_of}
 use Rattle.sigma_spl.specs.Nest.{PlainMultiplier, PlainNest, factor_at, factor_count, store_place}
 use Rattle.ring_mod.specs.Residue.{power_mod}
 use Rattle.ring_mod.proofs.Powers.{power_mod-exponent}
@@ -55,13 +61,18 @@ module _ (c : Target) (pass : PlainNest) (q : ℕ) where
     pub inside : store_at c pass q vs k + c.lanes ≤ c.size
     pub multiplied : (d : PlainMultiplier) → pass.multiplier ≡ Some d → IsMultipliedAt d step open_loops i us vs k
 
-module _ (c : Target) (pass : PlainNest) (p : PlainProgram) (here : IsFor c p) (some : 1 ≤ c.lanes) (q : ℕ) (source target : Array) where
+module _ (c : Target) (pass : PlainNest) (p : PlainProgram) (here : IsFor c p) (some : 1 ≤ c.lanes) (q : ℕ)
+    (source target : Array) where
   -- the diagonal's table, where it has one
   abbrev pub HasDiagonal : ℕ → Type 0
   HasDiagonal table = (d : PlainMultiplier) → pass.multiplier ≡ Some d → one_factor d.factors ≡ None → slice_index_or p.tables table [] ≡ diagonal_of c.modulus d.factors
 
-  emits-multiplied : (d : PlainMultiplier) (step open_loops table i from free : ℕ) (us vs : List ℕ) (k : ℕ) → IsMultipliedAt c pass q d step open_loops i us vs k → slice_index_or p.tables table [] ≡ diagonal_of c.modulus d.factors →
-      Emits (steps_of_body p (do_only (statements.MulTable free from table (place_at (frame_of c pass.work) open_loops d.places i) step)) us q) (Mul free from (factors_at c pass d q vs k) ∷ [])
+  emits-multiplied : (d : PlainMultiplier) (step open_loops table i from free : ℕ) (us vs : List ℕ) (k : ℕ) →
+      IsMultipliedAt c pass q d step open_loops i us vs k → slice_index_or p.tables table []
+      ≡ diagonal_of c.modulus d.factors →
+      Emits (steps_of_body p
+      (do_only (statements.MulTable free from table (place_at (frame_of c pass.work) open_loops d.places i) step)) us q)
+      (Mul free from (factors_at c pass d q vs k) ∷ [])
   emits-multiplied d step open_loops table i from free us vs k m there =
       let size = factor_count d.factors in
       let entry : ℕ → ℕ = factor_at c.modulus d.factors in
@@ -77,9 +88,12 @@ module _ (c : Target) (pass : PlainNest) (p : PlainProgram) (here : IsFor c p) (
       ∙ at-list_below size entry (entry_place c pass q d vs k lane) (m.below lane on))
 
   -- by one factor, or by entries of the table
-  emits-factor : (o : Option ℕ) (d : PlainMultiplier) (step open_loops table i from free : ℕ) (us vs : List ℕ) (k : ℕ) → one_factor d.factors ≡ o → IsMultipliedAt c pass q d step open_loops i us vs k →
+  emits-factor : (o : Option ℕ) (d : PlainMultiplier) (step open_loops table i from free : ℕ) (us vs : List ℕ) (k : ℕ) →
+      one_factor d.factors ≡ o → IsMultipliedAt c pass q d step open_loops i us vs k →
       (one_factor d.factors ≡ None → slice_index_or p.tables table [] ≡ diagonal_of c.modulus d.factors) →
-      Emits (steps_of_body p (do_only (product_op o free from table (place_at (frame_of c pass.work) open_loops d.places i) step)) us q) (Mul free from (factors_at c pass d q vs k) ∷ [])
+      Emits (steps_of_body p
+      (do_only (product_op o free from table (place_at (frame_of c pass.work) open_loops d.places i) step)) us q)
+      (Mul free from (factors_at c pass d q vs k) ∷ [])
   emits-factor None d step open_loops table i from free us vs k is m there = emits-multiplied d step open_loops table i from free us vs k m (there is)
   emits-factor (Some value) d step open_loops table i from free us vs k is m there =
       emits-one (step_of p (statements.MulConst free from value) us q) (Mul free from (factors_at c pass d q vs k))
@@ -88,9 +102,13 @@ module _ (c : Target) (pass : PlainNest) (p : PlainProgram) (here : IsFor c p) (
       (record { numbers = omega arith; place = omega arith })
 
   emits-finish : (o : Option PlainMultiplier) (step open_loops table i from free : ℕ) (us vs : List ℕ) (k : ℕ) →
-      IsCoded (frame_of c pass.work) open_loops pass.scatters i us q (store_at c pass q vs k) → store_at c pass q vs k + c.lanes ≤ c.size →
-      ((d : PlainMultiplier) → o ≡ Some d → IsMultipliedAt c pass q d step open_loops i us vs k) → ((d : PlainMultiplier) → o ≡ Some d → one_factor d.factors ≡ None → slice_index_or p.tables table [] ≡ diagonal_of c.modulus d.factors) →
-      Emits (steps_of_body p (finish_body (frame_of c pass.work) step o pass.scatters open_loops table target i from free) us q) (finish_acts c pass o (start_of c target) q vs k from free)
+      IsCoded (frame_of c pass.work) open_loops pass.scatters i us q (store_at c pass q vs k) →
+      store_at c pass q vs k + c.lanes ≤ c.size →
+      ((d : PlainMultiplier) → o ≡ Some d → IsMultipliedAt c pass q d step open_loops i us vs k) →
+      ((d : PlainMultiplier) → o ≡ Some d → one_factor d.factors ≡ None →
+      slice_index_or p.tables table [] ≡ diagonal_of c.modulus d.factors) →
+      Emits (steps_of_body p (finish_body (frame_of c pass.work) step o pass.scatters open_loops table target i from
+      free) us q) (finish_acts c pass o (start_of c target) q vs k from free)
   emits-finish None step open_loops table i from free us vs k coded inside multiplied there =
       emits-store c p here q (frame_of c pass.work) open_loops target pass.scatters i from us (store_at c pass q vs k) coded inside
   emits-finish (Some d) step open_loops table i from free us vs k coded inside multiplied there =
@@ -101,62 +119,70 @@ module _ (c : Target) (pass : PlainNest) (p : PlainProgram) (here : IsFor c p) (
       (emits-factor (one_factor d.factors) d step open_loops table i from free us vs k refl (multiplied d refl) (there d refl))
       (emits-store c p here q f open_loops target pass.scatters i free us (store_at c pass q vs k) coded inside)
 
-  emits-stored : (step open_loops table i from free : ℕ) (us vs : List ℕ) (k : ℕ) → IsStoredAt c pass q step open_loops i us vs k → HasDiagonal table →
-      Emits (steps_of_body p (finish_body (frame_of c pass.work) step pass.multiplier pass.scatters open_loops table target i from free) us q) (finish_acts c pass pass.multiplier (start_of c target) q vs k from free)
+  emits-stored : (step open_loops table i from free : ℕ) (us vs : List ℕ) (k : ℕ) →
+      IsStoredAt c pass q step open_loops i us vs k → HasDiagonal table →
+      Emits (steps_of_body p (finish_body (frame_of c pass.work) step pass.multiplier pass.scatters open_loops table
+      target i from free) us q) (finish_acts c pass pass.multiplier (start_of c target) q vs k from free)
   emits-stored step open_loops table i from free us vs k h there = emits-finish pass.multiplier step open_loops table i from free us vs k h.coded h.inside h.multiplied there
 
   -- ---- straight code
+
+  pub emits-plain : (a : Action) → Emits (plain a ∷ []) (a ∷ [])
+  emits-plain a = emits-one (plain a) a refl (inside-plain a)
 
   emits-instruction : (i : Instruction) (vs : List ℕ) → Emits (step_of p (op_of i) vs q ∷ []) (action_by c.lanes i ∷ [])
   emits-instruction i vs =
       let is : step_of p (op_of i) vs q ≡ plain (action_by c.lanes i) = step-is p i vs q ∙ ap (λ (n : ℕ). plain (action_by n i)) here.lanes in
       emits-one (step_of p (op_of i) vs q) (action_by c.lanes i) (ap (λ (s : Step). s.action) is) (subst IsInside (sym is) (inside-plain (action_by c.lanes i)))
 
-  emits-straight : (code : List Instruction) (vs : List ℕ) → Emits (steps_of_body p (straight_body code) vs q) (actions_by c.lanes code)
+  pub emits-straight : (code : List Instruction) (vs : List ℕ) →
+      Emits (steps_of_body p (straight_body code) vs q) (actions_by c.lanes code)
   emits-straight [] vs = emits-none
   emits-straight (i ∷ code) vs = emits-then p q (op_of i) (straight_body code) vs (action_by c.lanes i) (actions_by c.lanes code) (emits-instruction i vs) (emits-straight code vs)
 
   module _ (table : ℕ) (vs : List ℕ) (there : HasDiagonal table) where
     -- the loads of the first n registers
     emits-loads : (n : ℕ) → ((k : ℕ) → k < n → IsLoadedAt c pass q (length (loop_counts c pass)) k vs vs k) →
-        Emits (steps_of_body p (loads_body (frame_of c pass.work) pass (length (loop_counts c pass)) n source) vs q) (loads n (λ k. start_of c source + load_at c pass q vs k))
+        Emits (steps_of_body p (loads_body (frame_of c pass.work) pass (length (loop_counts c pass)) n source) vs q)
+        (loads n (λ k. start_of c source + load_at c pass q vs k))
     emits-loads n places =
         let open_loops = length (loop_counts c pass) in
         emits-in_a_row p q n (λ k. do_only (statements.Load k source (place_at (frame_of c pass.work) open_loops pass.gathers k))) vs (λ k. Load k (start_of c source + load_at c pass q vs k) ∷ [])
         (λ k below. let at = places k below in emits-load c p here q (frame_of c pass.work) open_loops source pass.gathers k k vs (load_at c pass q vs k) at.coded at.inside)
 
-    -- straight code of n registers, where its places are those of the code
-    pub emits-made : (n : ℕ) (made : Made) → ((k : ℕ) → k < n → IsLoadedAt c pass q (length (loop_counts c pass)) k vs vs k) →
-        ((k : ℕ) → k < n → IsStoredAt c pass q 0 (length (loop_counts c pass)) k vs vs k) →
-        Emits (steps_of_body p (made_body (frame_of c pass.work) pass (length (loop_counts c pass)) n made table source target) vs q) (made_acts c pass n made (start_of c source) (start_of c target) q vs)
-    emits-made n made inputs stores =
+    -- registers that are loaded, what is done with them, and outputs that are stored
+    pub emits-body : (n step : ℕ) (middle : PlainBody) (acts : List Action) (out : ℕ → ℕ) (used : ℕ) →
+        Emits (steps_of_body p middle vs q) acts →
+        ((k : ℕ) → k < n → IsLoadedAt c pass q (length (loop_counts c pass)) k vs vs k) →
+        ((k : ℕ) → k < n → IsStoredAt c pass q step (length (loop_counts c pass)) k vs vs k) →
+        Emits (steps_of_body p (followed_by (loads_body (frame_of c pass.work) pass (length (loop_counts c pass)) n source)
+        (followed_by middle (in_a_row n (λ k. finish_body (frame_of c pass.work) step pass.multiplier pass.scatters
+        (length (loop_counts c pass)) table target k (out k) (used + k))))) vs q)
+        (copy_body c pass pass.multiplier acts out used n (λ k. start_of c source + load_at c pass q vs k)
+        (start_of c target) q vs)
+    emits-body n step middle acts out used code inputs stores =
         let open_loops = length (loop_counts c pass) in
-        let acts : List Action = actions_by c.lanes made.code in
-        let outputs : ℕ → PlainBody = λ k. finish_body (frame_of c pass.work) 0 pass.multiplier pass.scatters open_loops table target k (slice_index made.outs k) (made.next + k) in
-        let finishes : ℕ → List Action = λ k. finish_acts c pass pass.multiplier (start_of c target) q vs k (slice_index made.outs k) (made.next + k) in
-        emits-followed p q (loads_body (frame_of c pass.work) pass open_loops n source) (followed_by (straight_body made.code) (in_a_row n outputs)) vs (loads n (λ k. start_of c source + load_at c pass q vs k)) (acts ++ bodies n finishes)
+        let outputs : ℕ → PlainBody =
+        λ k. finish_body (frame_of c pass.work) step pass.multiplier pass.scatters open_loops table target k (out k) (used + k) in
+        let finishes : ℕ → List Action = ends_of c pass pass.multiplier out used (start_of c target) q vs in
+        emits-followed p q (loads_body (frame_of c pass.work) pass open_loops n source)
+        (followed_by middle (in_a_row n outputs)) vs (loads n (λ k. start_of c source + load_at c pass q vs k))
+        (acts ++ bodies n finishes)
         (emits-loads n inputs)
-        (emits-followed p q (straight_body made.code) (in_a_row n outputs) vs acts (bodies n finishes) (emits-straight made.code vs)
-        (emits-in_a_row p q n outputs vs finishes (λ k below. emits-stored 0 open_loops table k (slice_index made.outs k) (made.next + k) vs vs k (stores k below) there)))
-
-    -- a tile of v registers
-    pub emits-tile : (v : ℕ) → ((k : ℕ) → k < v → IsLoadedAt c pass q (length (loop_counts c pass)) k vs vs k) → ((k : ℕ) → k < v → IsStoredAt c pass q 1 (length (loop_counts c pass)) k vs vs k) →
-        Emits (steps_of_body p (tile_body (frame_of c pass.work) pass (length (loop_counts c pass)) v table source target) vs q) (tile_acts c pass v (start_of c source) (start_of c target) q vs)
-    emits-tile v inputs stores =
-        let open_loops = length (loop_counts c pass) in
-        let outputs : ℕ → PlainBody = λ k. finish_body (frame_of c pass.work) 1 pass.multiplier pass.scatters open_loops table target k (v + k) (v + v + k) in
-        let finishes : ℕ → List Action = λ k. finish_acts c pass pass.multiplier (start_of c target) q vs k (v + k) (v + v + k) in
-        emits-followed p q (loads_body (frame_of c pass.work) pass open_loops v source) (AndStmts (Do (statements.Tile v 0)) (in_a_row v outputs)) vs (loads v (λ k. start_of c source + load_at c pass q vs k)) (Tile v 0 ∷ bodies v finishes)
-        (emits-loads v inputs)
-        (emits-then p q (statements.Tile v 0) (in_a_row v outputs) vs (Tile v 0) (bodies v finishes) (emits-one (plain (Tile v 0)) (Tile v 0) refl (inside-plain (Tile v 0)))
-        (emits-in_a_row p q v outputs vs finishes (λ k below. emits-stored 1 open_loops table k (v + k) (v + v + k) vs vs k (stores k below) there)))
+        (emits-followed p q middle (in_a_row n outputs) vs acts (bodies n finishes) code
+        (emits-in_a_row p q n outputs vs finishes (λ k below.
+        emits-stored step open_loops table k (out k) (used + k) vs vs k (stores k below) there)))
 
     -- ---- work by rows
 
-    module _ (n powers : ℕ) (small : n < 2 ^ 32) (deep : length vs ≡ length (loop_counts c pass)) (root : ℕ) (powers_there : slice_index_or p.tables powers [] ≡ powers_of c.modulus root n) where
+    module _ (n powers : ℕ) (small : n < 2 ^ 32) (deep : length vs ≡ length (loop_counts c pass)) (root : ℕ)
+        (powers_there : slice_index_or p.tables powers [] ≡ powers_of c.modulus root n) where
       -- a product by a power that stands in the table, for all lanes
-      emits-power : (r x : ℕ) (e : PlainExpr) (us : List ℕ) (at exponent : ℕ) → at < n → power_mod c.modulus root at ≡ power_mod c.modulus root exponent → (sum_numbers e us q).value ≡ at → (sum_numbers e us q).peak < 2 ^ 64 →
-          Emits (steps_of_body p (do_only (statements.MulTable r x powers e 0)) us q) (Mul r x (lane_factors c.lanes (λ _. power_mod c.modulus root exponent)) ∷ [])
+      emits-power : (r x : ℕ) (e : PlainExpr) (us : List ℕ) (at exponent : ℕ) → at < n →
+          power_mod c.modulus root at ≡ power_mod c.modulus root exponent → (sum_numbers e us q).value ≡ at →
+          (sum_numbers e us q).peak < 2 ^ 64 →
+          Emits (steps_of_body p (do_only (statements.MulTable r x powers e 0)) us q)
+          (Mul r x (lane_factors c.lanes (λ _. power_mod c.modulus root exponent)) ∷ [])
       emits-power r x e us at exponent inside same value peak =
           let g : ℕ → ℕ = power_mod c.modulus root in
           emits-product c p here q r x powers 0 e (powers_of c.modulus root n) us at (λ _. g exponent) value peak powers_there (let long = length-list_below n g in omega arith)
@@ -164,8 +190,11 @@ module _ (c : Target) (pass : PlainNest) (p : PlainProgram) (here : IsFor c p) (
           let there : at + 0 * lane ≡ at = omega arith in
           ap (slice_index (powers_of c.modulus root n)) there ∙ at-list_below n g at inside ∙ same)
 
-      pub emits-term : (k l : ℕ) → power_mod c.modulus root n ≡ 1 % c.modulus → k < n → l < n → IsLoadedAt c pass q (length (loop_counts c pass) + 2) 0 ((vs ++ k ∷ []) ++ l ∷ []) vs l →
-          Emits (steps_of_body p (term_body (place_at (frame_of c pass.work) (length (loop_counts c pass) + 2) pass.gathers 0) (length (loop_counts c pass)) source powers n) ((vs ++ k ∷ []) ++ l ∷ []) q)
+      pub emits-term : (k l : ℕ) → power_mod c.modulus root n ≡ 1 % c.modulus → k < n → l < n →
+          IsLoadedAt c pass q (length (loop_counts c pass) + 2) 0 ((vs ++ k ∷ []) ++ l ∷ []) vs l →
+          Emits (steps_of_body p (term_body (place_at (frame_of c pass.work)
+          (length (loop_counts c pass) + 2) pass.gathers 0) (length (loop_counts c pass)) source powers n)
+          ((vs ++ k ∷ []) ++ l ∷ []) q)
           (term_acts c pass root (start_of c source) q vs k l)
       emits-term k l whole row column loaded =
           let open_loops = length (loop_counts c pass) in
@@ -177,10 +206,13 @@ module _ (c : Target) (pass : PlainNest) (p : PlainProgram) (here : IsFor c p) (
           (emits-load c p here q (frame_of c pass.work) (open_loops + 2) source pass.gathers 0 1 us (load_at c pass q vs l) loaded.coded loaded.inside)
           (emits-then p q (statements.MulTable 2 1 powers entry 0) add us (Mul 2 1 factors) (Add 0 0 2 ∷ [])
           (emits-power 2 1 entry us ((k * l) % n) (k * l) (mod-lt (k * l) (omega arith)) (sym (power_mod-exponent c.modulus root n (k * l) whole)) (product-value n open_loops k l q vs deep) (product-peak n open_loops k l q vs deep row column small))
-          (emits-one (plain (Add 0 0 2)) (Add 0 0 2) refl (inside-plain (Add 0 0 2))))
+          (emits-plain (Add 0 0 2)))
 
-      pub emits-horner : (k t : ℕ) → k < n → t < n → IsLoadedAt c pass q (length (loop_counts c pass) + 2) 0 ((vs ++ k ∷ []) ++ t ∷ []) vs (n - 1 - t) →
-          Emits (steps_of_body p (horner_body (place_at (frame_of c pass.work) (length (loop_counts c pass) + 2) pass.gathers 0) (length (loop_counts c pass)) source powers) ((vs ++ k ∷ []) ++ t ∷ []) q)
+      pub emits-horner : (k t : ℕ) → k < n → t < n → IsLoadedAt c pass q (length (loop_counts c pass) + 2) 0
+          ((vs ++ k ∷ []) ++ t ∷ []) vs (n - 1 - t) →
+          Emits (steps_of_body p (horner_body (place_at (frame_of c pass.work)
+          (length (loop_counts c pass) + 2) pass.gathers 0) (length (loop_counts c pass)) source powers)
+          ((vs ++ k ∷ []) ++ t ∷ []) q)
           (horner_acts c pass root n (start_of c source) q vs k t)
       emits-horner k t row column loaded =
           let open_loops = length (loop_counts c pass) in
@@ -193,12 +225,14 @@ module _ (c : Target) (pass : PlainNest) (p : PlainProgram) (here : IsFor c p) (
           (emits-power 1 0 (loop_value open_loops) us k k row refl (loop-value open_loops k t q vs deep) (loop-peak open_loops k t q vs deep (omega arith)))
           (emits-then p q (statements.Load 2 source (place_at (frame_of c pass.work) (open_loops + 2) pass.gathers 0)) add us (Load 2 (start_of c source + from)) (Add 0 1 2 ∷ [])
           (emits-load c p here q (frame_of c pass.work) (open_loops + 2) source pass.gathers 0 2 us from loaded.coded loaded.inside)
-          (emits-one (plain (Add 0 1 2)) (Add 0 1 2) refl (inside-plain (Add 0 1 2))))
+          (emits-plain (Add 0 1 2)))
 
     -- rows, where each turn is its actions
-    pub emits-rows : (n : ℕ) (turn : PlainBody) (acts : ℕ → ℕ → List Action) → ((k l : ℕ) → k < n → l < n → Emits (steps_of_body p turn ((vs ++ k ∷ []) ++ l ∷ []) q) (acts k l)) →
+    pub emits-rows : (n : ℕ) (turn : PlainBody) (acts : ℕ → ℕ → List Action) →
+        ((k l : ℕ) → k < n → l < n → Emits (steps_of_body p turn ((vs ++ k ∷ []) ++ l ∷ []) q) (acts k l)) →
         ((k : ℕ) → k < n → IsStoredAt c pass q 0 (length (loop_counts c pass) + 1) 0 (vs ++ k ∷ []) vs k) →
-        Emits (steps_of_body p (rows_body (frame_of c pass.work) pass (length (loop_counts c pass)) n turn table target) vs q) (rows_acts c pass n acts (start_of c target) q vs)
+        Emits (steps_of_body p (rows_body (frame_of c pass.work) pass (length (loop_counts c pass)) n turn table target)
+        vs q) (rows_acts c pass n acts (start_of c target) q vs)
     emits-rows n turn acts turns stores =
         let f = frame_of c pass.work in
         let open_loops = length (loop_counts c pass) in
@@ -207,14 +241,16 @@ module _ (c : Target) (pass : PlainNest) (p : PlainProgram) (here : IsFor c p) (
         (λ k row.
         let us : List ℕ = vs ++ k ∷ [] in
         emits-then p q (statements.Zero 0) (AndStmts (Loop n turn) finish) us (Zero 0) (bodies n (acts k) ++ finish_acts c pass pass.multiplier (start_of c target) q vs k 0 3)
-        (emits-one (plain (Zero 0)) (Zero 0) refl (inside-plain (Zero 0)))
+        (emits-plain (Zero 0))
         (emits-append (flat_map (λ j. steps_of_body p turn (us ++ j ∷ []) q) (range_with_len 0 n)) (steps_of_body p finish us q) (bodies n (acts k)) (finish_acts c pass pass.multiplier (start_of c target) q vs k 0 3)
         (emits-loop n (λ j. steps_of_body p turn (us ++ j ∷ []) q) (acts k) (λ j column. turns k j row column))
         (emits-stored 0 (open_loops + 1) table 0 0 3 us vs k (stores k row) there)))
 
     -- items one by one
-    pub emits-items : (n : ℕ) → ((k : ℕ) → k < n → IsLoadedAt c pass q (length (loop_counts c pass)) k vs vs k) → ((k : ℕ) → k < n → IsStoredAt c pass q 0 (length (loop_counts c pass)) k vs vs k) →
-        Emits (steps_of_body p (items_body (frame_of c pass.work) pass (length (loop_counts c pass)) n table source target) vs q) (items_acts c pass n (start_of c source) (start_of c target) q vs)
+    pub emits-items : (n : ℕ) → ((k : ℕ) → k < n → IsLoadedAt c pass q (length (loop_counts c pass)) k vs vs k) →
+        ((k : ℕ) → k < n → IsStoredAt c pass q 0 (length (loop_counts c pass)) k vs vs k) →
+        Emits (steps_of_body p (items_body (frame_of c pass.work) pass (length (loop_counts c pass)) n table source
+        target) vs q) (items_acts c pass n (start_of c source) (start_of c target) q vs)
     emits-items n inputs stores =
         let f = frame_of c pass.work in
         let open_loops = length (loop_counts c pass) in

@@ -1,10 +1,14 @@
 -- The places of a nest are coded, and its statements are its actions.
-use Rattle.std.proofs.Common.{◌≡◌, ℕ, zero, suc, ◌+◌, ◌-◌, ◌*◌, ◌/◌, ◌%◌, ◌<◌, ◌≤◌, List, [], ◌∷◌, ◌++◌, length, refl, sym, ap, ap₂, ◌∙◌, arith, subst, length-append, append_assoc, append-nil}
+use Rattle.std.proofs.Common.{◌≡◌, ℕ, ◌+◌, ◌-◌, ◌*◌, ◌/◌, ◌%◌, ◌<◌, ◌≤◌, List, [], ◌∷◌, ◌++◌, length, refl}
+use Rattle.std.proofs.Common.{sym, ap, ap₂, ◌∙◌, arith, subst, length-append, append_assoc, append-nil, inl, inr, ◌⊎◌}
 use Rattle.std.specs.Prelude.{slice_index, slice_index_or, Option, Some, None}
 use Rattle.icode.specs.declared.program.Array.{Array}
 use Rattle.icode.specs.Actions.{steps_of_body}
+use Rattle.icode.specs.declared.action.Action.TheVariants as actions
 use Rattle.icode.specs.Plain.{PlainProgram}
+use Rattle.icode.specs.Plain as statements
 use Rattle.icode.specs.CodeLaws.Nests.{AreInRange}
+use Rattle.kernel_gen.specs.Instructions.{actions_by}
 use Rattle.kernel_gen.specs.Kernel.{trees_kernel}
 use Rattle.operators.proofs.Lists.{row-of, column-of}
 use Rattle.perm_algebra.specs.Affine.{Sum, constant, value}
@@ -13,16 +17,22 @@ use Rattle.code_gen.specs.PassCode.Conditions.{AreWithin, CanWriteNest}
 use Rattle.sigma_spl.specs.Shared.Running.{CanRunNest}
 use Rattle.operators.specs.declared.target.Target.{Target}
 use Rattle.sigma_spl.specs.Shared.Machine.{frame_of, item_of, values_of, loop_counts, lane_step}
-use Rattle.code_gen.specs.PassCode.Statements.{diagonal_of, diagonal_number, one_factor, powers_of, multiplier_number, nest_body, nested, place_at, powers_number, table_number, tables_of_multiplier, tables_of_nest, tables_of_work, term_body, horner_body, with_diagonal, with_table, work_body}
+use Rattle.code_gen.specs.PassCode.Statements.{diagonal_of, diagonal_number, one_factor, powers_of, multiplier_number}
+use Rattle.code_gen.specs.PassCode.Statements.{do_only, nest_body, nested, straight_body, place_at, powers_number}
+use Rattle.code_gen.specs.PassCode.Statements.{table_number}
+use Rattle.code_gen.specs.PassCode.Statements.{tables_of_multiplier, tables_of_nest, tables_of_work, term_body}
+use Rattle.code_gen.specs.PassCode.Statements.{horner_body, with_diagonal, with_table, work_body}
 use Rattle.code_gen.proofs.PassCode.Coded.{IsCoded, coded}
 use Rattle.code_gen.proofs.PassCode.Emits.{Emits, emits-nested}
-use Rattle.code_gen.proofs.PassCode.Emitted.{IsLoadedAt, IsStoredAt, emits-made, emits-tile, emits-rows, emits-items, emits-term, emits-horner}
+use Rattle.code_gen.proofs.PassCode.Emitted.{IsLoadedAt, IsStoredAt, emits-body, emits-plain, emits-rows, emits-items}
+use Rattle.code_gen.proofs.PassCode.Emitted.{emits-term, emits-horner, emits-straight}
 use Rattle.code_gen.proofs.PassActions.Fillings.{working}
-use Rattle.code_gen.proofs.PassActions.Framed.{copy-framed, in_counts, item-below, of_code}
+use Rattle.code_gen.proofs.PassActions.Framed.{copy-framed, item-below, load-below, of_code, store-below}
 use Rattle.loop_nests.proofs.Frames.{loops-are}
 use Rattle.code_gen.proofs.PassCode.Places.{IsFor, start_of}
-use Rattle.code_gen.proofs.PassCode.SharedTables.{Extends, number-stays, number-there, with_table-extends}
-use Rattle.code_gen.proofs.PassCode.Variables.{below-limits, length-range, values-append}
+use Rattle.code_gen.proofs.PassCode.SharedTables.{multiplier-extends, number-stays, number-there}
+use Rattle.code_gen.proofs.PassCode.Variables.{length-range, values-append}
+use Rattle.sigma_spl.proofs.Nests.{one_below, two_below, with_more}
 use Rattle.sigma_spl.specs.Copies.{loops_of}
 use Rattle.sigma_spl.specs.Good.{AreSound}
 use Rattle.sigma_spl.specs.Merge.{limits_of}
@@ -33,15 +43,8 @@ use Rattle.tree_model.specs.Trees.{trees_size}
 
 -- ---- tables
 
-diagonal-extends : (o : Option ℕ) (ts : List (List ℕ)) (entries : List ℕ) → Extends (with_diagonal o ts entries) ts
-diagonal-extends None ts entries = with_table-extends ts entries
-diagonal-extends (Some value) ts entries = record { last = []; is = sym (append-nil ts) }
-
-pub multiplier-extends : (m : ℕ) (o : Option PlainMultiplier) (ts : List (List ℕ)) → Extends (tables_of_multiplier m o ts) ts
-multiplier-extends m None ts = record { last = []; is = sym (append-nil ts) }
-multiplier-extends m (Some d) ts = diagonal-extends (one_factor d.factors) ts (diagonal_of m d.factors)
-
-pub multiplier-there : (m : ℕ) (o : Option PlainMultiplier) (d : PlainMultiplier) (ts more : List (List ℕ)) → o ≡ Some d → one_factor d.factors ≡ None →
+pub multiplier-there : (m : ℕ) (o : Option PlainMultiplier) (d : PlainMultiplier) (ts more : List (List ℕ)) →
+    o ≡ Some d → one_factor d.factors ≡ None →
     slice_index_or (tables_of_multiplier m o ts ++ more) (multiplier_number m o ts) [] ≡ diagonal_of m d.factors
 multiplier-there m o d ts more is none =
     let entries = diagonal_of m d.factors in
@@ -50,15 +53,18 @@ multiplier-there m o d ts more is none =
 
 -- ---- places
 
-tile-first : (sums : List Sum) (vs : List ℕ) (k v : ℕ) → 0 < v → sum_value sums ((k * v + 0) / v) vs + (k * v + 0) % v ≡ sum_value sums k vs
+tile-first : (sums : List Sum) (vs : List ℕ) (k v : ℕ) → 0 < v →
+    sum_value sums ((k * v + 0) / v) vs + (k * v + 0) % v ≡ sum_value sums k vs
 tile-first sums vs k v some =
     let none : sum_value sums k vs + 0 ≡ sum_value sums k vs = omega arith in
     ap₂ (λ i l. sum_value sums i vs + l) (row-of k 0 v some) (column-of k 0 v some) ∙ none
 
-place-is : (c : Target) (n i : ℕ) (z : PlainNest) (sums : List Sum) (us : List ℕ) (q a b : ℕ) → a ≡ b → IsCoded (frame_of c z.work) n sums i us q a → IsCoded (frame_of c z.work) n sums i us q b
+place-is : (c : Target) (n i : ℕ) (z : PlainNest) (sums : List Sum) (us : List ℕ) (q a b : ℕ) → a ≡ b →
+    IsCoded (frame_of c z.work) n sums i us q a → IsCoded (frame_of c z.work) n sums i us q b
 place-is c n i z sums us q a b is h = subst (λ (p : ℕ). IsCoded (frame_of c z.work) n sums i us q p) is h
 
-module _ (c : Target) (lanes : 0 < c.lanes) (z : PlainNest) (can : CanRunNest c z) (writes : CanWriteNest c z) (q : ℕ) (part : q < c.procs) (vs : List ℕ) (range : AreInRange can.framed.loops vs) where
+module _ (c : Target) (lanes : 0 < c.lanes) (z : PlainNest) (can : CanRunNest c z) (writes : CanWriteNest c z) (q : ℕ)
+    (part : q < c.procs) (vs : List ℕ) (range : AreInRange can.framed.loops vs) where
   -- the values of all variables on a lane
   abbrev on : ℕ → List ℕ
   on lane = values_of c z.work q lane vs
@@ -78,16 +84,19 @@ module _ (c : Target) (lanes : 0 < c.lanes) (z : PlainNest) (can : CanRunNest c 
   abbrev IsLow : List ℕ → Type 0
   IsLow more = (d : ℕ) → slice_index more d ≤ slice_index (work_size z.work ∷ work_size z.work ∷ []) d - 1
 
-  sum-coded : (sums : List Sum) (n i : ℕ) (more : List ℕ) → AreWithin (limits_of z) (frame_of c z.work) n sums → AreSound sums → length (vs ++ more) ≡ n → IsLow more →
+  sum-coded : (sums : List Sum) (n i : ℕ) (more : List ℕ) → AreWithin (limits_of z) (frame_of c z.work) n sums →
+      AreSound sums → length (vs ++ more) ≡ n → IsLow more →
       IsCoded (frame_of c z.work) n sums i (vs ++ more) q (sum_value sums i (on 0 ++ more))
   sum-coded sums n i more within sound size low =
       let same = values-append c z.work q vs more in
       place-is c n i z sums (vs ++ more) q _ _ (ap (sum_value sums i) (sym same))
       (coded c z.work (limits_of z) n sums i q (vs ++ more) within.words sound size
-      (subst (λ (us : List ℕ). ((d : ℕ) → slice_index us d ≤ limits_of z d - 1)) same (below-limits z.counts (on 0) more (work_size z.work ∷ work_size z.work ∷ []) (in_counts z.counts (on 0) (on-range 0 lanes)) low)))
+      (subst (λ (us : List ℕ). ((d : ℕ) → slice_index us d ≤ limits_of z d - 1)) same
+      (with_more z.counts (work_size z.work) (on 0) more (on-range 0 lanes) low)))
 
   -- straight code's
-  alone-coded : (sums : List Sum) (i : ℕ) → AreWithin (limits_of z) (frame_of c z.work) (deep + 0) sums → AreSound sums → IsCoded (frame_of c z.work) deep sums i vs q (sum_value sums i (on 0))
+  alone-coded : (sums : List Sum) (i : ℕ) → AreWithin (limits_of z) (frame_of c z.work) (deep + 0) sums →
+      AreSound sums → IsCoded (frame_of c z.work) deep sums i vs q (sum_value sums i (on 0))
   alone-coded sums i within sound =
       let none : deep + 0 ≡ deep = omega arith in
       let here : IsCoded (frame_of c z.work) (deep + 0) sums i (vs ++ []) q (sum_value sums i (on 0 ++ [])) =
@@ -102,56 +111,47 @@ module _ (c : Target) (lanes : 0 < c.lanes) (z : PlainNest) (can : CanRunNest c 
   length-two : (k l : ℕ) → length (vs ++ k ∷ l ∷ []) ≡ deep + 2
   length-two k l = let all = length-append vs (k ∷ l ∷ []) in let d = depth-is in omega arith
 
-  one-low : (k : ℕ) → k < work_size z.work → IsLow (k ∷ [])
-  one-low k below zero = omega arith
-  one-low k below (suc d) = omega arith
-
-  two-low : (k l : ℕ) → k < work_size z.work → l < work_size z.work → IsLow (k ∷ l ∷ [])
-  two-low k l below under zero = omega arith
-  two-low k l below under (suc zero) = omega arith
-  two-low k l below under (suc (suc d)) = omega arith
-
   -- the sum of a row
-  row-coded : (sums : List Sum) (k : ℕ) → k < work_size z.work → AreWithin (limits_of z) (frame_of c z.work) (deep + 1) sums → AreSound sums → IsCoded (frame_of c z.work) (deep + 1) sums 0 (vs ++ k ∷ []) q (sum_value sums 0 (on 0 ++ k ∷ []))
-  row-coded sums k below within sound = sum-coded sums (deep + 1) 0 (k ∷ []) within sound (length-one k) (one-low k below)
+  row-coded : (sums : List Sum) (k : ℕ) → k < work_size z.work →
+      AreWithin (limits_of z) (frame_of c z.work) (deep + 1) sums → AreSound sums →
+      IsCoded (frame_of c z.work) (deep + 1) sums 0 (vs ++ k ∷ []) q (sum_value sums 0 (on 0 ++ k ∷ []))
+  row-coded sums k below within sound = sum-coded sums (deep + 1) 0 (k ∷ []) within sound (length-one k) (one_below (work_size z.work) k below)
 
   -- the sum of a turn in a row, which does not hang on the row
-  turn-coded : (k l : ℕ) → k < work_size z.work → l < work_size z.work → AreWithin (limits_of z) (frame_of c z.work) (deep + 2) z.gathers → AreSound z.gathers →
-      ((us : List ℕ) (row j : ℕ) → paths.AreInRange (loops_of z.counts) us → row < work_size z.work → j < work_size z.work → value (slice_index_or z.gathers 0 (constant 0)) (slice_index (us ++ row ∷ j ∷ [])) ≡ value (slice_index_or z.gathers 0 (constant 0)) (slice_index (us ++ 0 ∷ j ∷ []))) →
-      IsCoded (frame_of c z.work) (deep + 2) z.gathers 0 ((vs ++ k ∷ []) ++ l ∷ []) q (sum_value z.gathers 0 (on 0 ++ 0 ∷ l ∷ []))
+  turn-coded : (k l : ℕ) → k < work_size z.work → l < work_size z.work →
+      AreWithin (limits_of z) (frame_of c z.work) (deep + 2) z.gathers → AreSound z.gathers →
+      ((us : List ℕ) (row j : ℕ) → paths.AreInRange (loops_of z.counts) us → row < work_size z.work →
+      j < work_size z.work → value (slice_index_or z.gathers 0 (constant 0)) (slice_index (us ++ row ∷ j ∷ []))
+      ≡ value (slice_index_or z.gathers 0 (constant 0)) (slice_index (us ++ 0 ∷ j ∷ []))) →
+      IsCoded (frame_of c z.work) (deep + 2) z.gathers 0 ((vs ++ k ∷ []) ++ l ∷ []) q
+      (sum_value z.gathers 0 (on 0 ++ 0 ∷ l ∷ []))
   turn-coded k l below under within sound alike =
       subst (λ (us : List ℕ). IsCoded (frame_of c z.work) (deep + 2) z.gathers 0 us q (sum_value z.gathers 0 (on 0 ++ 0 ∷ l ∷ []))) (sym (append_assoc vs (k ∷ []) (l ∷ [])))
       (place-is c (deep + 2) 0 z z.gathers (vs ++ k ∷ l ∷ []) q _ _ (alike (on 0) k l (on-range 0 lanes) below under)
-      (sum-coded z.gathers (deep + 2) 0 (k ∷ l ∷ []) within sound (length-two k l) (two-low k l below under)))
+      (sum-coded z.gathers (deep + 2) 0 (k ∷ l ∷ []) within sound (length-two k l)
+      (two_below (work_size z.work) k l below under)))
 
   -- ---- all lanes are inside
 
   module _ (k : ℕ) (under : k < vectors_of z.work) where
-    load-inside : load_at c z q vs k + c.lanes ≤ c.size
-    load-inside =
-        let last : ℕ = c.lanes - 1 in
-        let there : last < c.lanes = omega arith in
-        let beside = (can.vectors q vs last k (on-range last there) there under).loads in
-        let low = can.inside.loads (on last) (item_of z.work k last) (on-range last there) (item-below c z.work k last can.work under there) in
-        omega arith
+    last : c.lanes - 1 < c.lanes
+    last = omega arith
 
-    store-inside : store_at c z q vs k + c.lanes ≤ c.size
-    store-inside =
-        let last : ℕ = c.lanes - 1 in
-        let there : last < c.lanes = omega arith in
-        let beside = (can.vectors q vs last k (on-range last there) there under).stores in
-        let low = can.inside.stores (on last) (item_of z.work k last) (on-range last there) (item-below c z.work k last can.work under there) in
-        omega arith
+    pub is-loaded : (n i : ℕ) (us : List ℕ) → IsCoded (frame_of c z.work) n z.gathers i us q (load_at c z q vs k) →
+        IsLoadedAt c z q n i us vs k
+    is-loaded n i us codes =
+        let low = load-below c z can q part vs range k (c.lanes - 1) under last in
+        record { coded = codes; inside = omega arith }
 
-    pub is-loaded : (n i : ℕ) (us : List ℕ) → IsCoded (frame_of c z.work) n z.gathers i us q (load_at c z q vs k) → IsLoadedAt c z q n i us vs k
-    is-loaded n i us codes = record { coded = codes; inside = load-inside }
-
-    pub is-stored : (step n i : ℕ) (us : List ℕ) → lane_step z.work ≡ step → IsCoded (frame_of c z.work) n z.scatters i us q (store_at c z q vs k) →
-        ((d : PlainMultiplier) → z.multiplier ≡ Some d → IsCoded (frame_of c z.work) n d.places i us q (store_place z.work d.places (on 0) (item_of z.work k 0))) → IsStoredAt c z q step n i us vs k
+    pub is-stored : (step n i : ℕ) (us : List ℕ) → lane_step z.work ≡ step →
+        IsCoded (frame_of c z.work) n z.scatters i us q (store_at c z q vs k) →
+        ((d : PlainMultiplier) → z.multiplier ≡ Some d → IsCoded (frame_of c z.work) n d.places i us q
+        (store_place z.work d.places (on 0) (item_of z.work k 0))) → IsStoredAt c z q step n i us vs k
     is-stored step n i us same codes multiplied =
+        let low = store-below c z can q part vs range k (c.lanes - 1) under last in
         record {
           coded = codes;
-          inside = store-inside;
+          inside = omega arith;
           multiplied = λ d is.
               record {
                 coded = multiplied d is;
@@ -162,19 +162,26 @@ module _ (c : Target) (lanes : 0 < c.lanes) (z : PlainNest) (can : CanRunNest c 
 
 -- ---- copies
 
-module _ (c : Target) (lanes : 0 < c.lanes) (program : PlainProgram) (here : IsFor c program) (q : ℕ) (part : q < c.procs) (source target : Array) (powers table : ℕ) where
+module _ (c : Target) (lanes : 0 < c.lanes) (program : PlainProgram) (here : IsFor c program) (q : ℕ)
+    (part : q < c.procs) (source target : Array) (powers table : ℕ) where
   -- the tables of a nest
   pub record HasNestTables (z : PlainNest) : Type 0 where
-    pub diagonal : (d : PlainMultiplier) → z.multiplier ≡ Some d → one_factor d.factors ≡ None → slice_index_or program.tables table [] ≡ diagonal_of c.modulus d.factors
-    pub rows_there : (root n : ℕ) → z.work ≡ rows root n → slice_index_or program.tables powers [] ≡ powers_of c.modulus root n
-    pub horner_there : (root n : ℕ) → z.work ≡ horner root n → slice_index_or program.tables powers [] ≡ powers_of c.modulus root n
+    pub diagonal : (d : PlainMultiplier) → z.multiplier ≡ Some d → one_factor d.factors ≡ None →
+        slice_index_or program.tables table [] ≡ diagonal_of c.modulus d.factors
+    pub powers_there : (root n : ℕ) → (z.work ≡ rows root n) ⊎ (z.work ≡ horner root n) →
+        slice_index_or program.tables powers [] ≡ powers_of c.modulus root n
 
-  emits-copy : (p : PlainNest) (w : PlainWork) (can : CanRunNest c (working p w)) → CanWriteNest c (working p w) → HasNestTables (working p w) → (vs : List ℕ) → AreInRange can.framed.loops vs →
-      Emits (steps_of_body program (work_body c (working p w) w (length (loop_counts c (working p w))) powers table source target) vs q) (copy_acts c (working p w) w (start_of c source) (start_of c target) q vs)
+  emits-copy : (p : PlainNest) (w : PlainWork) (can : CanRunNest c (working p w)) → CanWriteNest c (working p w) →
+      HasNestTables (working p w) → (vs : List ℕ) → AreInRange can.framed.loops vs →
+      Emits (steps_of_body program (work_body c (working p w) w (length (loop_counts c (working p w))) powers table
+      source target) vs q) (copy_acts c (working p w) w (start_of c source) (start_of c target) q vs)
   emits-copy p (kernel k) can writes has vs range =
       let z : PlainNest = working p (kernel k) in
       let deep = length (loop_counts c z) in
-      emits-made c z program here lanes q source target table vs has.diagonal (trees_size (trees_of k)) (trees_kernel c.modulus (trees_of k))
+      let made = trees_kernel c.modulus (trees_of k) in
+      emits-body c z program here lanes q source target table vs has.diagonal (trees_size (trees_of k)) 0
+      (straight_body made.code) (actions_by c.lanes made.code) (slice_index made.outs) made.next
+      (emits-straight c z program here lanes q source target made.code vs)
       (λ k below. is-loaded c lanes z can writes q part vs range k below deep k vs (alone-coded c lanes z can writes q part vs range z.gathers k writes.gathers.1 writes.gathers.0.sound))
       (λ k below.
       is-stored c lanes z can writes q part vs range k below 0 deep k vs refl (alone-coded c lanes z can writes q part vs range z.scatters k writes.scatters.1 writes.scatters.0.sound)
@@ -192,7 +199,9 @@ module _ (c : Target) (lanes : 0 < c.lanes) (program : PlainProgram) (here : IsF
       let deep = length (loop_counts c z) in
       let values = values_of c z.work q 0 vs in
       let some : 0 < v = let same = can.work in omega arith in
-      emits-tile c z program here lanes q source target table vs has.diagonal v
+      emits-body c z program here lanes q source target table vs has.diagonal v 1 (do_only (statements.Tile v 0))
+      (actions.Tile v 0 ∷ []) (λ k. v + k) (v + v)
+      (emits-plain c z program here lanes q source target (actions.Tile v 0))
       (λ k below.
       is-loaded c lanes z can writes q part vs range k below deep k vs
       (place-is c deep k z z.gathers vs q _ _ (sym (tile-first z.gathers values k v some)) (alone-coded c lanes z can writes q part vs range z.gathers k writes.gathers.1 writes.gathers.0.sound)))
@@ -206,7 +215,7 @@ module _ (c : Target) (lanes : 0 < c.lanes) (program : PlainProgram) (here : IsF
       let deep = length (loop_counts c z) in
       emits-rows c z program here lanes q source target table vs has.diagonal n (term_body (place_at (frame_of c z.work) (deep + 2) z.gathers 0) deep source powers n) (term_acts c z root (start_of c source) q vs)
       (λ k l row column.
-      emits-term c z program here lanes q source target table vs has.diagonal n powers writes.items (depth-is c lanes z can writes q part vs range) root (has.rows_there root n refl) k l can.work.1 row column
+      emits-term c z program here lanes q source target table vs has.diagonal n powers writes.items (depth-is c lanes z can writes q part vs range) root (has.powers_there root n (inl refl)) k l can.work.1 row column
       (is-loaded c lanes z can writes q part vs range l column (deep + 2) 0 ((vs ++ k ∷ []) ++ l ∷ []) (turn-coded c lanes z can writes q part vs range k l row column writes.gathers.1 writes.gathers.0.sound writes.alike)))
       (λ k row.
       is-stored c lanes z can writes q part vs range k row 0 (deep + 1) 0 (vs ++ k ∷ []) refl (row-coded c lanes z can writes q part vs range z.scatters k row writes.scatters.1 writes.scatters.0.sound)
@@ -218,7 +227,7 @@ module _ (c : Target) (lanes : 0 < c.lanes) (program : PlainProgram) (here : IsF
       emits-rows c z program here lanes q source target table vs has.diagonal n (horner_body (place_at (frame_of c z.work) (deep + 2) z.gathers 0) deep source powers) (horner_acts c z root n (start_of c source) q vs)
       (λ k t row column.
       let back : t ≡ n - 1 - (n - 1 - t) = omega arith in
-      emits-horner c z program here lanes q source target table vs has.diagonal n powers writes.items (depth-is c lanes z can writes q part vs range) root (has.horner_there root n refl) k t row column
+      emits-horner c z program here lanes q source target table vs has.diagonal n powers writes.items (depth-is c lanes z can writes q part vs range) root (has.powers_there root n (inr refl)) k t row column
       (is-loaded c lanes z can writes q part vs range (n - 1 - t) (omega arith) (deep + 2) 0 ((vs ++ k ∷ []) ++ t ∷ [])
       (place-is c (deep + 2) 0 z z.gathers ((vs ++ k ∷ []) ++ t ∷ []) q _ _ (ap (λ j. sum_value z.gathers 0 (values ++ 0 ∷ j ∷ [])) back)
       (turn-coded c lanes z can writes q part vs range k t row column writes.gathers.1 writes.gathers.0.sound writes.alike))))
@@ -227,48 +236,43 @@ module _ (c : Target) (lanes : 0 < c.lanes) (program : PlainProgram) (here : IsF
       (λ d is. row-coded c lanes z can writes q part vs range d.places k row (writes.multiplier d is).1 (writes.multiplier d is).0.sound))
 
   pub emits-loops : (z : PlainNest) (can : CanRunNest c z) → CanWriteNest c z → HasNestTables z →
-      Emits (steps_of_body program (nested (loop_counts c z) (work_body c z z.work (length (loop_counts c z)) powers table source target)) [] q) (nest_acts c z (start_of c source) (start_of c target) q)
+      Emits (steps_of_body program (nested (loop_counts c z)
+      (work_body c z z.work (length (loop_counts c z)) powers table source target)) [] q)
+      (nest_acts c z (start_of c source) (start_of c target) q)
   emits-loops z can writes has =
       emits-nested program q (loop_counts c z) (work_body c z z.work (length (loop_counts c z)) powers table source target) (copy_acts c z z.work (start_of c source) (start_of c target) q) []
       (λ vs range. emits-copy z z.work can writes has vs (of_code c z can.framed vs range))
 
 -- ---- a nest, after these tables
 
-work-extends : (m : ℕ) (w : PlainWork) (ts : List (List ℕ)) → Extends (tables_of_work m w ts) ts
-work-extends m (kernel k) ts = record { last = []; is = sym (append-nil ts) }
-work-extends m (rows root n) ts = with_table-extends ts (powers_of m root n)
-work-extends m (horner root n) ts = with_table-extends ts (powers_of m root n)
-work-extends m (tile v) ts = record { last = []; is = sym (append-nil ts) }
-work-extends m (copy n) ts = record { last = []; is = sym (append-nil ts) }
-
-pub extends-more : (a b d : List (List ℕ)) → Extends a b → Extends b d → Extends a d
-extends-more a b d h k = record { last = k.last ++ h.last; is = h.is ∙ ap (λ (ts : List (List ℕ)). ts ++ h.last) k.is ∙ append_assoc d k.last h.last }
-
-pub nest-extends : (m : ℕ) (z : PlainNest) (ts : List (List ℕ)) → Extends (tables_of_nest m z ts) ts
-nest-extends m z ts = extends-more (tables_of_nest m z ts) (tables_of_work m z.work ts) ts (multiplier-extends m z.multiplier (tables_of_work m z.work ts)) (work-extends m z.work ts)
-
-powers-there : (m : ℕ) (o : Option PlainMultiplier) (entries : List ℕ) (ts more : List (List ℕ)) → slice_index_or (tables_of_multiplier m o (with_table ts entries) ++ more) (table_number ts entries) [] ≡ entries
+powers-there : (m : ℕ) (o : Option PlainMultiplier) (entries : List ℕ) (ts more : List (List ℕ)) →
+    slice_index_or (tables_of_multiplier m o (with_table ts entries) ++ more) (table_number ts entries) [] ≡ entries
 powers-there m o entries ts more = number-stays ts entries (tables_of_multiplier m o (with_table ts entries)) more (multiplier-extends m o (with_table ts entries))
 
-module _ (c : Target) (lanes : 0 < c.lanes) (program : PlainProgram) (here : IsFor c program) (q : ℕ) (part : q < c.procs) (source target : Array) (tables more : List (List ℕ)) where
-  rows-table : (w : PlainWork) (o : Option PlainMultiplier) (root n : ℕ) → w ≡ rows root n → slice_index_or (tables_of_multiplier c.modulus o (tables_of_work c.modulus w tables) ++ more) (powers_number c.modulus w tables) [] ≡ powers_of c.modulus root n
-  rows-table w o root n is =
-      subst (λ (u : PlainWork). slice_index_or (tables_of_multiplier c.modulus o (tables_of_work c.modulus u tables) ++ more) (powers_number c.modulus u tables) [] ≡ powers_of c.modulus root n) (sym is)
-      (powers-there c.modulus o (powers_of c.modulus root n) tables more)
+module _ (c : Target) (lanes : 0 < c.lanes) (program : PlainProgram) (here : IsFor c program) (q : ℕ)
+    (part : q < c.procs) (source target : Array) (tables more : List (List ℕ)) where
+  abbrev PowersStand : Option PlainMultiplier → ℕ → ℕ → PlainWork → Type 0
+  PowersStand o root n w =
+      slice_index_or (tables_of_multiplier c.modulus o (tables_of_work c.modulus w tables) ++ more)
+      (powers_number c.modulus w tables) [] ≡ powers_of c.modulus root n
 
-  horner-table : (w : PlainWork) (o : Option PlainMultiplier) (root n : ℕ) → w ≡ horner root n → slice_index_or (tables_of_multiplier c.modulus o (tables_of_work c.modulus w tables) ++ more) (powers_number c.modulus w tables) [] ≡ powers_of c.modulus root n
-  horner-table w o root n is =
-      subst (λ (u : PlainWork). slice_index_or (tables_of_multiplier c.modulus o (tables_of_work c.modulus u tables) ++ more) (powers_number c.modulus u tables) [] ≡ powers_of c.modulus root n) (sym is)
-      (powers-there c.modulus o (powers_of c.modulus root n) tables more)
+  powers-stand : (w : PlainWork) (o : Option PlainMultiplier) (root n : ℕ) → (w ≡ rows root n) ⊎ (w ≡ horner root n) →
+      PowersStand o root n w
+  powers-stand w o root n (inl is) =
+      subst (PowersStand o root n) (sym is) (powers-there c.modulus o (powers_of c.modulus root n) tables more)
+  powers-stand w o root n (inr is) =
+      subst (PowersStand o root n) (sym is) (powers-there c.modulus o (powers_of c.modulus root n) tables more)
 
-  pub emits-nest : (z : PlainNest) → CanRunNest c z → CanWriteNest c z → program.tables ≡ tables_of_nest c.modulus z tables ++ more →
-      Emits (steps_of_body program (nest_body c z tables source target) [] q) (nest_acts c z (start_of c source) (start_of c target) q)
+  pub emits-nest : (z : PlainNest) → CanRunNest c z → CanWriteNest c z →
+      program.tables ≡ tables_of_nest c.modulus z tables ++ more →
+      Emits (steps_of_body program (nest_body c z tables source target) [] q)
+      (nest_acts c z (start_of c source) (start_of c target) q)
   emits-nest z can writes has =
       let powers = powers_number c.modulus z.work tables in
       let table = multiplier_number c.modulus z.multiplier (tables_of_work c.modulus z.work tables) in
       emits-loops c lanes program here q part source target powers table z can writes
       (record {
         diagonal = λ d is none. ap (λ (ts : List (List ℕ)). slice_index_or ts table []) has ∙ multiplier-there c.modulus z.multiplier d (tables_of_work c.modulus z.work tables) more is none;
-        rows_there = λ root n is. ap (λ (ts : List (List ℕ)). slice_index_or ts powers []) has ∙ rows-table z.work z.multiplier root n is;
-        horner_there = λ root n is. ap (λ (ts : List (List ℕ)). slice_index_or ts powers []) has ∙ horner-table z.work z.multiplier root n is;
+        powers_there = λ root n is.
+            ap (λ (ts : List (List ℕ)). slice_index_or ts powers []) has ∙ powers-stand z.work z.multiplier root n is;
       })

@@ -1,5 +1,6 @@
 -- The numbers of expressions: the value is the sum's, and no number on the way is great.
-use Rattle.std.proofs.Common.{◌≡◌, ℕ, zero, suc, ◌+◌, ◌*◌, ◌/◌, ◌%◌, ◌<◌, ◌≤◌, Bool, true, false, inl, inr, arith, refl, sym, ap, ap₂, ◌∙◌, List, max, if◌then◌else◌, mul-zero, mul_comm, subst}
+use Rattle.std.proofs.Common.{◌≡◌, ℕ, zero, suc, ◌+◌, ◌*◌, ◌/◌, ◌%◌, ◌<◌, ◌≤◌, Bool, true, false, inl, inr, arith, refl}
+use Rattle.std.proofs.Common.{sym, ap, ap₂, ◌∙◌, List, max, if◌then◌else◌, mul-zero, mul_comm}
 use Rattle.std.specs.Prelude.{slice_index, ◌==◌}
 use Rattle.std.proofs.Math.Nat.{mul-add}
 use Rattle.std.proofs.lemmas.Bool.{cases_eq, cases_lt}
@@ -8,21 +9,16 @@ use Rattle.icode.specs.Plain.{PlainParts, PlainPart, AndParts, Proc, Var}
 use Rattle.perm_algebra.specs.Affine.{Sum, constant, variable, remainder, quotient, value}
 use Rattle.perm_algebra.specs.Room.{constant_of}
 use Rattle.sigma_spl.specs.Shared.Machine.{PlainFrame}
-use Rattle.code_gen.specs.PassCode.Expressions.{factor_at, variables_of, processor_of, remainders_of, quotients_of, divisions_of, expr_of}
-use Rattle.code_gen.proofs.PassCode.Writing.{is-zero, not-zero, factor-same, factor-other}
+use Rattle.code_gen.specs.PassCode.Expressions.{factor_at, variables_of, processor_of, remainders_of, quotients_of}
+use Rattle.code_gen.specs.PassCode.Expressions.{divisions_of, expr_of}
+use Rattle.code_gen.proofs.PassCode.Writing.{by_zero, factor-other, factor-same}
 
--- the values of n variables from d on, and of the remainders
+-- the values of n variables from d on
 abbrev variables_value : ℕ → ℕ → Sum → (ℕ → ℕ) → ℕ
 variables_value zero d e vs = 0
 variables_value (suc k) d e vs = vs d * factor_at d e + variables_value k (d + 1) e vs
 
-abbrev divisions_value : Sum → (ℕ → ℕ) → ℕ
-divisions_value (constant c) vs = 0
-divisions_value (variable f d rest) vs = divisions_value rest vs
-divisions_value (remainder f of m rest) vs = value of vs % m * f + divisions_value rest vs
-divisions_value (quotient f of m rest) vs = value of vs / m * f + divisions_value rest vs
-
--- those of the remainders alone, and of the quotients
+-- those of the remainders, of the quotients, and of both
 abbrev remainders_value : Sum → (ℕ → ℕ) → ℕ
 remainders_value (constant c) vs = 0
 remainders_value (variable f d rest) vs = remainders_value rest vs
@@ -35,79 +31,77 @@ quotients_value (variable f d rest) vs = quotients_value rest vs
 quotients_value (remainder f of m rest) vs = quotients_value rest vs
 quotients_value (quotient f of m rest) vs = value of vs / m * f + quotients_value rest vs
 
+abbrev divisions_value : Sum → (ℕ → ℕ) → ℕ
+divisions_value e vs = remainders_value e vs + quotients_value e vs
+
 more : (a b c : ℕ) → a + (b + c) ≡ a + b + c
 more a b c = omega arith
 
-both-values : (e : Sum) (vs : ℕ → ℕ) → divisions_value e vs ≡ remainders_value e vs + quotients_value e vs
-both-values (constant c) vs = refl
-both-values (variable f d rest) vs = both-values rest vs
-both-values (remainder f of m rest) vs = ap (λ x. value of vs % m * f + x) (both-values rest vs) ∙ more (value of vs % m * f) (remainders_value rest vs) (quotients_value rest vs)
-both-values (quotient f of m rest) vs = let rest_is = both-values rest vs in omega (arith, rest_is)
-
 -- ---- a sum is its constant, its variables and its divisions
 
-past : (k a f d : ℕ) (rest : Sum) (vs : ℕ → ℕ) → d < a → variables_value k a (variable f d rest) vs ≡ variables_value k a rest vs
-past zero a f d rest vs h = refl
-past (suc k) a f d rest vs h =
-    ap₂ (λ x y. vs a * x + y) (factor-other a d f rest (λ same. omega arith)) (past k (a + 1) f d rest vs (omega arith))
+-- variables that have the same factors have the same values
+same-factors : (k a : ℕ) (e other : Sum) (vs : ℕ → ℕ) →
+    ((d : ℕ) → a ≤ d → d < a + k → factor_at d e ≡ factor_at d other) → variables_value k a e vs
+    ≡ variables_value k a other vs
+same-factors zero a e other vs h = refl
+same-factors (suc k) a e other vs h =
+    ap₂ (λ x y. vs a * x + y) (h a (omega arith) (omega arith))
+    (same-factors k (a + 1) e other vs (λ d low high. h d (omega arith) (omega arith)))
 
 spread : (a b f g : ℕ) → a ≡ b → a * (f + g) ≡ f * b + a * g
 spread a b f g same = mul-add a f g ∙ ap (λ x. x + a * g) (ap (λ x. x * f) same ∙ mul_comm b f)
 
-met : (a d f : ℕ) (rest : Sum) (vs : ℕ → ℕ) (x y : ℕ) → a ≡ d → x ≡ y → vs a * factor_at a (variable f d rest) + x ≡ f * vs d + (vs a * factor_at a rest + y)
+met : (a d f : ℕ) (rest : Sum) (vs : ℕ → ℕ) (x y : ℕ) → a ≡ d → x ≡ y →
+    vs a * factor_at a (variable f d rest) + x ≡ f * vs d + (vs a * factor_at a rest + y)
 met a d f rest vs x y same is =
     ap₂ (λ u w. vs a * u + w) (factor-same a d f rest same) is
     ∙ ap (λ u. u + y) (spread (vs a) (vs d) f (factor_at a rest) (ap vs same))
     ∙ omega arith
 
-passed : (a d f : ℕ) (rest : Sum) (vs : ℕ → ℕ) (x y : ℕ) → (a ≡ d → ⊥) → x ≡ f * vs d + y → vs a * factor_at a (variable f d rest) + x ≡ f * vs d + (vs a * factor_at a rest + y)
-passed a d f rest vs x y other is = ap₂ (λ u w. vs a * u + w) (factor-other a d f rest other) is ∙ omega arith
-
-inside : (k a f d : ℕ) (rest : Sum) (vs : ℕ → ℕ) → a ≤ d → d < a + k → variables_value k a (variable f d rest) vs ≡ f * vs d + variables_value k a rest vs
+inside : (k a f d : ℕ) (rest : Sum) (vs : ℕ → ℕ) → a ≤ d → d < a + k →
+    variables_value k a (variable f d rest) vs ≡ f * vs d + variables_value k a rest vs
 inside zero a f d rest vs h g = absurd (omega arith)
 inside (suc k) a f d rest vs h g =
     elim (cases_eq a d) [
-      | inl same ↦ met a d f rest vs _ _ same (past k (a + 1) f d rest vs (omega arith))
-      | inr other ↦ passed a d f rest vs _ _ other (inside k (a + 1) f d rest vs (omega arith) (omega arith))
+      | inl same ↦
+          met a d f rest vs _ _ same
+          (same-factors k (a + 1) (variable f d rest) rest vs
+          (λ x low high. factor-other x d f rest (λ e. omega arith)))
+      | inr other ↦
+          ap₂ (λ u w. vs a * u + w) (factor-other a d f rest other)
+          (inside k (a + 1) f d rest vs (omega arith) (omega arith))
+          ∙ omega arith
     ]
 
 none : (k a c : ℕ) (vs : ℕ → ℕ) → variables_value k a (constant c) vs ≡ 0
 none zero a c vs = refl
 none (suc k) a c vs = omega (arith, none k (a + 1) c vs)
 
-beside : (k a f m : ℕ) (of rest : Sum) (vs : ℕ → ℕ) → variables_value k a (remainder f of m rest) vs ≡ variables_value k a rest vs
-beside zero a f m of rest vs = refl
-beside (suc k) a f m of rest vs = ap (λ x. vs a * factor_at a rest + x) (beside k (a + 1) f m of rest vs)
-
-beside-quotient : (k a f m : ℕ) (of rest : Sum) (vs : ℕ → ℕ) → variables_value k a (quotient f of m rest) vs ≡ variables_value k a rest vs
-beside-quotient zero a f m of rest vs = refl
-beside-quotient (suc k) a f m of rest vs = ap (λ x. vs a * factor_at a rest + x) (beside-quotient k (a + 1) f m of rest vs)
-
--- a variable after these
-beyond : (k a f d : ℕ) (rest : Sum) (vs : ℕ → ℕ) → a + k ≤ d → variables_value k a (variable f d rest) vs ≡ variables_value k a rest vs
-beyond zero a f d rest vs h = refl
-beyond (suc k) a f d rest vs h =
-    ap₂ (λ x y. vs a * x + y) (factor-other a d f rest (λ same. omega arith)) (beyond k (a + 1) f d rest vs (omega arith))
-
 -- there are no more than n variables
 abbrev pub AreNoMore : ℕ → (ℕ → ℕ) → Type 0
 AreNoMore n vs = (d : ℕ) → n ≤ d → vs d ≡ 0
 
-sum-value : (n : ℕ) (e : Sum) (vs : ℕ → ℕ) → AreNoMore n vs → value e vs ≡ constant_of e + (variables_value n 0 e vs + divisions_value e vs)
+sum-value : (n : ℕ) (e : Sum) (vs : ℕ → ℕ) → AreNoMore n vs →
+    value e vs ≡ constant_of e + (variables_value n 0 e vs + divisions_value e vs)
 sum-value n (constant c) vs h = omega (arith, none n 0 c vs)
 sum-value n (variable f d rest) vs h =
     elim (cases_lt d n) [
       | inl low ↦ omega (arith, inside n 0 f d rest vs (omega arith) (omega arith), sum-value n rest vs h)
       | inr high ↦
           let gone : f * vs d ≡ 0 = ap (λ x. f * x) (h d (omega arith)) ∙ mul-zero f in
-          omega (arith, gone, beyond n 0 f d rest vs (omega arith), sum-value n rest vs h)
+          omega (
+            arith,
+            gone,
+            same-factors n 0 (variable f d rest) rest vs (λ x low under. factor-other x d f rest (λ e. omega arith)),
+            sum-value n rest vs h,
+          )
     ]
 sum-value n (remainder f of m rest) vs h =
     let turned : value of vs % m * f ≡ f * (value of vs % m) = mul_comm (value of vs % m) f in
-    omega (arith, turned, beside n 0 f m of rest vs, sum-value n rest vs h)
+    omega (arith, turned, same-factors n 0 (remainder f of m rest) rest vs (λ d low high. refl), sum-value n rest vs h)
 sum-value n (quotient f of m rest) vs h =
     let turned : value of vs / m * f ≡ f * (value of vs / m) = mul_comm (value of vs / m) f in
-    omega (arith, turned, beside-quotient n 0 f m of rest vs, sum-value n rest vs h)
+    omega (arith, turned, same-factors n 0 (quotient f of m rest) rest vs (λ d low high. refl), sum-value n rest vs h)
 
 -- ---- what code says of variables: the processor's and the loops', while a lane's is 0
 
@@ -124,7 +118,8 @@ loops_value f (suc k) d e loops = loops d * factor_at (f.first_loop + d) e + loo
 abbrev processor_value : PlainFrame → Sum → ℕ → ℕ
 processor_value f e q = if f.shared then q * factor_at 0 e else 0
 
-split : (a k d : ℕ) (e : Sum) (all : ℕ → ℕ) → variables_value (a + k) d e all ≡ variables_value a d e all + variables_value k (d + a) e all
+split : (a k d : ℕ) (e : Sum) (all : ℕ → ℕ) → variables_value (a + k) d e all ≡ variables_value a d e all
+    + variables_value k (d + a) e all
 split zero k d e all =
     let none_more : 0 + k ≡ k = omega arith in
     let start : d ≡ d + 0 = omega arith in
@@ -142,14 +137,16 @@ all-zero (suc k) d e all h =
     let first : all d * factor_at d e ≡ 0 = ap (λ x. x * factor_at d e) (h d (omega arith) (omega arith)) ∙ omega arith in
     omega (arith, first, all-zero k (d + 1) e all (λ i low high. h i (omega arith) (omega arith)))
 
-loops-are : (f : PlainFrame) (k d : ℕ) (e : Sum) (all loops : ℕ → ℕ) (q : ℕ) → IsFramedBy f all loops q → variables_value k (f.first_loop + d) e all ≡ loops_value f k d e loops
+loops-are : (f : PlainFrame) (k d : ℕ) (e : Sum) (all loops : ℕ → ℕ) (q : ℕ) → IsFramedBy f all loops q →
+    variables_value k (f.first_loop + d) e all ≡ loops_value f k d e loops
 loops-are f zero d e all loops q h = refl
 loops-are f (suc k) d e all loops q h =
     let next : f.first_loop + d + 1 ≡ f.first_loop + (d + 1) = omega arith in
     ap₂ (λ x y. x * factor_at (f.first_loop + d) e + y) (h.loop d) (ap (λ i. variables_value k i e all) next ∙ loops-are f k (d + 1) e all loops q h)
 
 -- the variables before the loops'
-before : (shared : Bool) (a : ℕ) (e : Sum) (all : ℕ → ℕ) (q : ℕ) → (shared ≡ true → (0 < a) × (all 0 ≡ q)) → ((d : ℕ) → d < a → (shared ≡ true → 0 < d) → all d ≡ 0) →
+before : (shared : Bool) (a : ℕ) (e : Sum) (all : ℕ → ℕ) (q : ℕ) → (shared ≡ true → (0 < a) × (all 0 ≡ q)) →
+    ((d : ℕ) → d < a → (shared ≡ true → 0 < d) → all d ≡ 0) →
     variables_value a 0 e all ≡ (if shared then q * factor_at 0 e else 0)
 before false a e all q processor lane = all-zero a 0 e all (λ i low high. lane i (omega arith) (λ no. cc))
 before true zero e all q processor lane = absurd (let some = (processor refl).0 in omega arith)
@@ -157,7 +154,8 @@ before true (suc a) e all q processor lane =
     let others : variables_value a 1 e all ≡ 0 = all-zero a 1 e all (λ i low high. lane i (omega arith) (λ yes. omega arith)) in
     ap₂ (λ x y. x * factor_at 0 e + y) (processor refl).1 others ∙ omega arith
 
-framed-value : (f : PlainFrame) (n : ℕ) (e : Sum) (all loops : ℕ → ℕ) (q : ℕ) → IsFramedBy f all loops q → variables_value (f.first_loop + n) 0 e all ≡ processor_value f e q + loops_value f n 0 e loops
+framed-value : (f : PlainFrame) (n : ℕ) (e : Sum) (all loops : ℕ → ℕ) (q : ℕ) → IsFramedBy f all loops q →
+    variables_value (f.first_loop + n) 0 e all ≡ processor_value f e q + loops_value f n 0 e loops
 framed-value f n e all loops q h =
     let start : 0 + f.first_loop ≡ f.first_loop + 0 = omega arith in
     split f.first_loop n 0 e all
@@ -169,49 +167,54 @@ framed-value f n e all loops q h =
 abbrev pub with_factor_of : ℕ → PlainPart → PlainParts → PlainParts
 with_factor_of g part ps = if g == 0 then ps else AndParts part ps
 
-part-value : (g x : ℕ) (part : PlainPart) (ps : PlainParts) (vs : List ℕ) (q : ℕ) → (one_numbers part vs q).value ≡ x * g → (parts_numbers (with_factor_of g part ps) vs q).value ≡ x * g + (parts_numbers ps vs q).value
+part-value : (g x : ℕ) (part : PlainPart) (ps : PlainParts) (vs : List ℕ) (q : ℕ) →
+    (one_numbers part vs q).value ≡ x * g → (parts_numbers (with_factor_of g part ps) vs q).value ≡ x * g
+    + (parts_numbers ps vs q).value
 part-value g x part ps vs q is =
-    elim (cases_eq g 0) [
-      | inl gone ↦
-          let product : x * g ≡ 0 = ap (λ y. x * y) gone ∙ mul-zero x in
-          ap (λ b. (parts_numbers (if b then ps else AndParts part ps) vs q).value) (is-zero g gone) ∙ omega arith
-      | inr some ↦
-          ap (λ b. (parts_numbers (if b then ps else AndParts part ps) vs q).value) (not-zero g (omega arith)) ∙ ap (λ y. y + (parts_numbers ps vs q).value) is
-    ]
+    by_zero g (λ b. (parts_numbers (if b then ps else AndParts part ps) vs q).value ≡ x * g + (parts_numbers ps vs q).value)
+    (λ gone. let product : x * g ≡ 0 = ap (λ y. x * y) gone ∙ mul-zero x in omega (arith, product))
+    (λ some. ap (λ y. y + (parts_numbers ps vs q).value) is)
 
-variables-value : (f : PlainFrame) (k d : ℕ) (e : Sum) (ps : PlainParts) (vs : List ℕ) (q : ℕ) → (parts_numbers (variables_of f k d e ps) vs q).value ≡ loops_value f k d e (slice_index vs) + (parts_numbers ps vs q).value
+variables-value : (f : PlainFrame) (k d : ℕ) (e : Sum) (ps : PlainParts) (vs : List ℕ) (q : ℕ) →
+    (parts_numbers (variables_of f k d e ps) vs q).value ≡ loops_value f k d e (slice_index vs)
+    + (parts_numbers ps vs q).value
 variables-value f zero d e ps vs q = omega arith
 variables-value f (suc k) d e ps vs q =
     part-value (factor_at (f.first_loop + d) e) (slice_index vs d) (Var d (factor_at (f.first_loop + d) e)) (variables_of f k (d + 1) e ps) vs q refl
     ∙ ap (λ x. slice_index vs d * factor_at (f.first_loop + d) e + x) (variables-value f k (d + 1) e ps vs q)
     ∙ omega arith
 
-processor-value : (f : PlainFrame) (e : Sum) (ps : PlainParts) (vs : List ℕ) (q : ℕ) → (parts_numbers (processor_of f e ps) vs q).value ≡ processor_value f e q + (parts_numbers ps vs q).value
-processor-value f e ps vs q = either f.shared
-  where
-    either : (b : Bool) → (parts_numbers (if b then with_factor_of (factor_at 0 e) (Proc (factor_at 0 e)) ps else ps) vs q).value ≡ (if b then q * factor_at 0 e else 0) + (parts_numbers ps vs q).value
-    either true = part-value (factor_at 0 e) q (Proc (factor_at 0 e)) ps vs q refl
-    either false = omega arith
+processor-value : (f : PlainFrame) (e : Sum) (ps : PlainParts) (vs : List ℕ) (q : ℕ) →
+    (parts_numbers (processor_of f e ps) vs q).value ≡ processor_value f e q + (parts_numbers ps vs q).value
+processor-value f e ps vs q =
+    elim f.shared as (λ b.
+    (parts_numbers (if b then with_factor_of (factor_at 0 e) (Proc (factor_at 0 e)) ps else ps) vs q).value
+    ≡ (if b then q * factor_at 0 e else 0) + (parts_numbers ps vs q).value) [
+      | true ↦ part-value (factor_at 0 e) q (Proc (factor_at 0 e)) ps vs q refl
+      | false ↦ omega arith
+    ]
 
-module _ (f : PlainFrame) (n : ℕ) (all : ℕ → ℕ) (vs : List ℕ) (q : ℕ) (no_more : AreNoMore (f.first_loop + n) all) (framed : IsFramedBy f all (slice_index vs) q) where
-  sum_assoc : (a b c : ℕ) → a + (b + c) ≡ a + b + c
-  sum_assoc a b c = omega arith
-
-  whole-value : (e : Sum) → (parts_numbers (divisions_of f n e) vs q).value ≡ divisions_value e all → (sum_numbers (expr_of f n e) vs q).value ≡ value e all
+module _ (f : PlainFrame) (n : ℕ) (all : ℕ → ℕ) (vs : List ℕ) (q : ℕ) (no_more : AreNoMore (f.first_loop + n) all)
+    (framed : IsFramedBy f all (slice_index vs) q) where
+  whole-value : (e : Sum) → (parts_numbers (divisions_of f n e) vs q).value ≡ divisions_value e all →
+      (sum_numbers (expr_of f n e) vs q).value ≡ value e all
   whole-value e is =
       ap (λ x. constant_of e + x)
       (processor-value f e (variables_of f n 0 e (divisions_of f n e)) vs q
       ∙ ap (λ x. processor_value f e q + x) (variables-value f n 0 e (divisions_of f n e) vs q ∙ ap (λ x. loops_value f n 0 e (slice_index vs) + x) is)
-      ∙ sum_assoc (processor_value f e q) (loops_value f n 0 e (slice_index vs)) (divisions_value e all)
+      ∙ more (processor_value f e q) (loops_value f n 0 e (slice_index vs)) (divisions_value e all)
       ∙ ap (λ x. x + divisions_value e all) (sym (framed-value f n e all (slice_index vs) q framed)))
       ∙ sym (sum-value (f.first_loop + n) e all no_more)
 
-  inner-value : (e : Sum) → (parts_numbers (divisions_of f n e) vs q).value ≡ remainders_value e all + (parts_numbers (quotients_of f n e) vs q).value → (parts_numbers (quotients_of f n e) vs q).value ≡ quotients_value e all →
+  inner-value : (e : Sum) → (parts_numbers (divisions_of f n e) vs q).value ≡ remainders_value e all
+      + (parts_numbers (quotients_of f n e) vs q).value → (parts_numbers (quotients_of f n e) vs q).value
+      ≡ quotients_value e all →
       (sum_numbers (expr_of f n e) vs q).value ≡ value e all
-  inner-value e first second = whole-value e (first ∙ ap (λ x. remainders_value e all + x) second ∙ sym (both-values e all))
+  inner-value e first second = whole-value e (first ∙ ap (λ x. remainders_value e all + x) second)
 
   mutual
-    remainders-value : (e : Sum) (ps : PlainParts) → (parts_numbers (remainders_of f n e ps) vs q).value ≡ remainders_value e all + (parts_numbers ps vs q).value
+    remainders-value : (e : Sum) (ps : PlainParts) → (parts_numbers (remainders_of f n e ps) vs q).value
+        ≡ remainders_value e all + (parts_numbers ps vs q).value
     remainders-value (constant c) ps = omega arith
     remainders-value (variable k d rest) ps = remainders-value rest ps
     remainders-value (remainder k of m rest) ps =
@@ -231,25 +234,27 @@ module _ (f : PlainFrame) (n : ℕ) (all : ℕ → ℕ) (vs : List ℕ) (q : ℕ
 
 -- ---- the greatest numbers on the way
 
-part-peak : (g x b : ℕ) (part : PlainPart) (ps : PlainParts) (vs : List ℕ) (q : ℕ) → (one_numbers part vs q).peak ≡ x * g → x * g ≤ b → (parts_numbers ps vs q).peak ≤ b → (parts_numbers (with_factor_of g part ps) vs q).peak ≤ b
+part-peak : (g x b : ℕ) (part : PlainPart) (ps : PlainParts) (vs : List ℕ) (q : ℕ) →
+    (one_numbers part vs q).peak ≡ x * g → x * g ≤ b → (parts_numbers ps vs q).peak ≤ b →
+    (parts_numbers (with_factor_of g part ps) vs q).peak ≤ b
 part-peak g x b part ps vs q is low after =
-    elim (cases_eq g 0) [
-      | inl gone ↦ subst (λ c. (parts_numbers (if c then ps else AndParts part ps) vs q).peak ≤ b) (sym (is-zero g gone)) after
-      | inr some ↦
-          let both : max (one_numbers part vs q).peak (parts_numbers ps vs q).peak ≤ b = omega arith in
-          subst (λ c. (parts_numbers (if c then ps else AndParts part ps) vs q).peak ≤ b) (sym (not-zero g (omega arith))) both
-    ]
+    by_zero g (λ c. (parts_numbers (if c then ps else AndParts part ps) vs q).peak ≤ b) (λ gone. after)
+    (λ some. omega (arith, is, low, after))
 
-variables-peak : (f : PlainFrame) (k d : ℕ) (e : Sum) (ps : PlainParts) (vs : List ℕ) (q b : ℕ) → loops_value f k d e (slice_index vs) ≤ b → (parts_numbers ps vs q).peak ≤ b → (parts_numbers (variables_of f k d e ps) vs q).peak ≤ b
+variables-peak : (f : PlainFrame) (k d : ℕ) (e : Sum) (ps : PlainParts) (vs : List ℕ) (q b : ℕ) →
+    loops_value f k d e (slice_index vs) ≤ b → (parts_numbers ps vs q).peak ≤ b →
+    (parts_numbers (variables_of f k d e ps) vs q).peak ≤ b
 variables-peak f zero d e ps vs q b h g = g
 variables-peak f (suc k) d e ps vs q b h g =
     part-peak (factor_at (f.first_loop + d) e) (slice_index vs d) b (Var d (factor_at (f.first_loop + d) e)) (variables_of f k (d + 1) e ps) vs q refl (omega arith)
     (variables-peak f k (d + 1) e ps vs q b (omega arith) g)
 
-processor-peak : (f : PlainFrame) (e : Sum) (ps : PlainParts) (vs : List ℕ) (q b : ℕ) → processor_value f e q ≤ b → (parts_numbers ps vs q).peak ≤ b → (parts_numbers (processor_of f e ps) vs q).peak ≤ b
+processor-peak : (f : PlainFrame) (e : Sum) (ps : PlainParts) (vs : List ℕ) (q b : ℕ) → processor_value f e q ≤ b →
+    (parts_numbers ps vs q).peak ≤ b → (parts_numbers (processor_of f e ps) vs q).peak ≤ b
 processor-peak f e ps vs q b h g = either f.shared h
   where
-    either : (s : Bool) → (if s then q * factor_at 0 e else 0) ≤ b → (parts_numbers (if s then with_factor_of (factor_at 0 e) (Proc (factor_at 0 e)) ps else ps) vs q).peak ≤ b
+    either : (s : Bool) → (if s then q * factor_at 0 e else 0) ≤ b →
+        (parts_numbers (if s then with_factor_of (factor_at 0 e) (Proc (factor_at 0 e)) ps else ps) vs q).peak ≤ b
     either true low = part-peak (factor_at 0 e) q b (Proc (factor_at 0 e)) ps vs q refl low g
     either false low = g
 
@@ -263,8 +268,10 @@ DividesLow b vs (quotient f of m rest) = (value of vs ≤ b) × DividesLow b vs 
 one-peak : (inner x f rest b : ℕ) → inner ≤ b → x * f ≤ b → rest ≤ b → max (max inner (x * f)) rest ≤ b
 one-peak inner x f rest b h g k = omega arith
 
-module _ (f : PlainFrame) (n : ℕ) (all : ℕ → ℕ) (vs : List ℕ) (q : ℕ) (no_more : AreNoMore (f.first_loop + n) all) (framed : IsFramedBy f all (slice_index vs) q) (b : ℕ) where
-  whole-peak : (e : Sum) → value e all ≤ b → (parts_numbers (divisions_of f n e) vs q).peak ≤ b → (sum_numbers (expr_of f n e) vs q).peak ≤ b
+module _ (f : PlainFrame) (n : ℕ) (all : ℕ → ℕ) (vs : List ℕ) (q : ℕ) (no_more : AreNoMore (f.first_loop + n) all)
+    (framed : IsFramedBy f all (slice_index vs) q) (b : ℕ) where
+  whole-peak : (e : Sum) → value e all ≤ b → (parts_numbers (divisions_of f n e) vs q).peak ≤ b →
+      (sum_numbers (expr_of f n e) vs q).peak ≤ b
   whole-peak e low inner =
       let is : (sum_numbers (expr_of f n e) vs q).value ≡ value e all = expr-value f n all vs q no_more framed e in
       let parted : value e all ≡ constant_of e + (variables_value (f.first_loop + n) 0 e all + divisions_value e all) = sum-value (f.first_loop + n) e all no_more in
@@ -277,11 +284,11 @@ module _ (f : PlainFrame) (n : ℕ) (all : ℕ → ℕ) (vs : List ℕ) (q : ℕ
   parts-low : (e : Sum) → value e all ≤ b → (remainders_value e all ≤ b) × (quotients_value e all ≤ b)
   parts-low e low =
       let parted : value e all ≡ constant_of e + (variables_value (f.first_loop + n) 0 e all + divisions_value e all) = sum-value (f.first_loop + n) e all no_more in
-      let both = both-values e all in
-      (omega (arith, parted, both, low), omega (arith, parted, both, low))
+      (omega (arith, parted, low), omega (arith, parted, low))
 
   mutual
-    remainders-peak : (e : Sum) (ps : PlainParts) → remainders_value e all ≤ b → DividesLow b all e → (parts_numbers ps vs q).peak ≤ b → (parts_numbers (remainders_of f n e ps) vs q).peak ≤ b
+    remainders-peak : (e : Sum) (ps : PlainParts) → remainders_value e all ≤ b → DividesLow b all e →
+        (parts_numbers ps vs q).peak ≤ b → (parts_numbers (remainders_of f n e ps) vs q).peak ≤ b
     remainders-peak (constant c) ps low h after = after
     remainders-peak (variable k d rest) ps low h after = remainders-peak rest ps low h after
     remainders-peak (remainder k of m rest) ps low h after =
@@ -291,7 +298,8 @@ module _ (f : PlainFrame) (n : ℕ) (all : ℕ → ℕ) (vs : List ℕ) (q : ℕ
         one-peak _ ((sum_numbers (expr_of f n of) vs q).value % m) k _ b inner (omega (arith, part, low)) (remainders-peak rest ps (omega (arith, low)) h.2 after)
     remainders-peak (quotient k of m rest) ps low h after = remainders-peak rest ps low h.2 after
 
-    quotients-peak : (e : Sum) → quotients_value e all ≤ b → DividesLow b all e → (parts_numbers (quotients_of f n e) vs q).peak ≤ b
+    quotients-peak : (e : Sum) → quotients_value e all ≤ b → DividesLow b all e →
+        (parts_numbers (quotients_of f n e) vs q).peak ≤ b
     quotients-peak (constant c) low h = omega arith
     quotients-peak (variable k d rest) low h = quotients-peak rest low h
     quotients-peak (remainder k of m rest) low h = quotients-peak rest low h.2

@@ -4,10 +4,12 @@ use Rattle.std.specs.Prelude.{Option, Some}
 use Rattle.sigma_spl.specs.Shared.Running.{HasResidues}
 use Rattle.operators.specs.declared.target.Target.{Target}
 use Rattle.code_gen.specs.PassCode.Statements.{one_factor}
-use Rattle.sigma_spl.specs.Nest.{PlainFactors, values, twiddles, repeated, spread, PlainMultiplier, PlainNest, factor_at}
+use Rattle.sigma_spl.specs.Nest.{PlainFactors, values, twiddles, repeated, spread, PlainMultiplier, PlainNest}
+use Rattle.sigma_spl.specs.Nest.{factor_at}
 
 -- each factor is the one
-pub one-factor : (m : ℕ) (factors : PlainFactors) (value : ℕ) → one_factor factors ≡ Some value → (i : ℕ) → factor_at m factors i ≡ value
+pub one-factor : (m : ℕ) (factors : PlainFactors) (value : ℕ) → one_factor factors ≡ Some value → (i : ℕ) →
+    factor_at m factors i ≡ value
 one-factor m (values entries) value is i = absurd (cc)
 one-factor m (twiddles r s root) value is i = absurd (cc)
 one-factor m (repeated v n) value is i = (cc)

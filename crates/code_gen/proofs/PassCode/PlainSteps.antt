@@ -5,7 +5,8 @@ use Rattle.icode.specs.Plain.{PlainBody, PlainProgram, NoStmts, AndStmts}
 use Rattle.code_gen.specs.PassCode.Statements.{followed_by}
 
 module _ (p : PlainProgram) where
-  pub steps-followed : (xs ys : PlainBody) (vs : List ℕ) (q : ℕ) → steps_of_body p (followed_by xs ys) vs q ≡ steps_of_body p xs vs q ++ steps_of_body p ys vs q
+  pub steps-followed : (xs ys : PlainBody) (vs : List ℕ) (q : ℕ) →
+      steps_of_body p (followed_by xs ys) vs q ≡ steps_of_body p xs vs q ++ steps_of_body p ys vs q
   steps-followed NoStmts ys vs q = refl
   steps-followed (AndStmts x xs) ys vs q =
       ap (λ zs. steps_of_stmt p x vs q ++ zs) (steps-followed xs ys vs q)

@@ -1,12 +1,13 @@
 -- Passes that are ready can be written.
-use Rattle.std.proofs.Common.{◌≡◌, ℕ, ◌+◌, ◌*◌, ◌^◌, ◌<◌, ◌≤◌, true, arith, List, [], ◌∷◌, length, All, subst}
-use Rattle.std.specs.Prelude.{◌&&◌, max, Option, Some, None}
+use Rattle.std.proofs.Common.{◌≡◌, ℕ, ◌+◌, ◌*◌, ◌^◌, ◌<◌, ◌≤◌, true, arith, List, [], ◌∷◌, All, subst}
+use Rattle.std.specs.Prelude.{◌&&◌, Option, Some, None}
 use Rattle.std.specs.List.{list_all}
 use Rattle.std.proofs.Math.Nat.{mul-le-mul}
 use Rattle.std.proofs.lemmas.List.Elements.{All-nil, All-cons, All-head, All-tail, All-weaker}
 use Rattle.kernel_gen.proofs.KernelSizes.{trees-few}
 use Rattle.kernel_gen.specs.Kernel.{trees_kernel}
 use Rattle.operators.specs.declared.target.Target.{Target}
+use Rattle.sigma_spl.proofs.Small.{max-lt}
 use Rattle.sigma_spl.proofs.Walk.{and-left, and-right}
 use Rattle.sigma_spl.specs.Merge.{is_limited, is_multiplier_within, is_within, limits_of}
 use Rattle.sigma_spl.specs.Nest.{PlainMultiplier, PlainNest, factor_count}
@@ -18,7 +19,7 @@ use Rattle.sigma_spl.specs.Work.{PlainWork, kernel, rows, horner, tile, copy, tr
 use Rattle.tree_model.specs.KernelCosts.{trees_cost}
 use Rattle.tree_model.specs.Trees.{trees_size}
 use Rattle.code_gen.proofs.PassActions.KernelActions.{trees-registers}
-use Rattle.code_gen.proofs.PassCode.TestedLists.{loads-le, stores-le, sums-written}
+use Rattle.code_gen.proofs.PassCode.TestedLists.{inside-le, sums-written}
 use Rattle.code_gen.specs.PassActions.Acts.{nest_registers, pass_registers, with_multiplier}
 use Rattle.code_gen.specs.PassCode.Conditions.{CanWriteNest, CanWritePass}
 
@@ -53,8 +54,9 @@ module _ (h : Target) (host : IsHost h) where
   writes z ready tested =
       let high = host.size.1 in
       let few = ready.shallow in
-      let loads = loads-le z.work in
-      let stores = stores-le z.work in
+      let inside = inside-le z.work in
+      let loads = inside.0 in
+      let stores = inside.1 in
       let items = ready.items in
       record {
         gathers = (
@@ -115,31 +117,21 @@ module _ (h : Target) (host : IsHost h) where
       omega (arith, used, lanes, most)
   few-registers z (copy size) can small = let used = with-le z.multiplier 1 1 in omega (arith, used)
 
-  max-less : (a b n : ℕ) → a < n → b < n → max a b < n
-  max-less a b n first second = omega (arith, first, second)
-
   pass-registers : (zs : List PlainNest) → All (CanRunNest h) zs → All (IsReadyNest h) zs →
       pass_registers h.modulus zs < 2 ^ 20
   pass-registers [] runs ready = omega arith
   pass-registers (z ∷ zs) runs ready =
-      max-less _ _ (2 ^ 20)
+      max-lt _ _ (2 ^ 20)
       (few-registers z z.work (All-head (CanRunNest h) z zs runs).work (All-head (IsReadyNest h) z zs ready).small)
       (pass-registers zs (All-tail (CanRunNest h) z zs runs) (All-tail (IsReadyNest h) z zs ready))
 
   -- ---- passes
-
-  all-written : (zs : List PlainNest) → All (IsReadyNest h) zs → All (IsTested h.size) zs → All (CanWriteNest h) zs
-  all-written [] ready tested = All-nil (CanWriteNest h)
-  all-written (z ∷ zs) ready tested =
-      All-cons (CanWriteNest h) z zs
-      (writes z (All-head (IsReadyNest h) z zs ready) (All-head (IsTested h.size) z zs tested))
-      (all-written zs (All-tail (IsReadyNest h) z zs ready) (All-tail (IsTested h.size) z zs tested))
 
   pub ready_can_write : (zs : List PlainNest) → IsReadyPass h zs → CanWritePass h zs
   ready_can_write zs ready =
       record {
         line = let some = host.line.0 in omega (arith, some);
         runs = ready.runs;
-        nests = all-written zs ready.nests (tested-all h.size zs ready.within);
+        nests = λ k d low. writes _ (ready.nests k d low) (tested-all h.size zs ready.within k d low);
         few = pass-registers zs ready.runs.nests ready.nests;
       }

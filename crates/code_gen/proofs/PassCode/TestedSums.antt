@@ -1,43 +1,46 @@
 -- Sums that pass merging's test are coded.
 use Rattle.std.proofs.Common.{◌≡◌, ℕ, ◌+◌, ◌*◌, ◌^◌, ◌<◌, ◌≤◌, true, inl, inr, arith}
-use Rattle.std.specs.Prelude.{nat_lt, nat_le, max, ◌&&◌}
+use Rattle.std.specs.Prelude.{nat_lt, max, ◌&&◌}
 use Rattle.std.proofs.Math.Nat.{mul-le-mul, mul-le-mul_right}
-use Rattle.std.proofs.lemmas.Bool.{cases_eq}
+use Rattle.std.proofs.lemmas.Bool.{and_parts, cases_eq, ltb-true}
 use Rattle.std.proofs.lemmas.Bool.Decides.{nat_tests}
-use Rattle.perm_algebra.specs.Affine.{Sum, constant, variable, remainder, quotient, levels, parts, peak, top}
+use Rattle.perm_algebra.specs.Affine.{Sum, constant, variable, remainder, quotient, parts, peak, top}
 use Rattle.perm_algebra.specs.Room.{constant_of}
 use Rattle.code_gen.specs.PassCode.Conditions.{CanWrite, DividesWords}
 use Rattle.code_gen.specs.PassCode.Expressions.{factor_at}
-use Rattle.code_gen.specs.PassCode.Small.{DividesSmall, HasSmall, TestedSumsAreCoded}
+use Rattle.code_gen.specs.PassCode.Small.{DividesSmall, HasSmall, IsSmallPositive, TestedSumsAreCoded}
 use Rattle.code_gen.proofs.PassCode.Writing.{factor-same, factor-other}
-use Rattle.sigma_spl.specs.Merge.{total, is_divided, are_small, is_limited}
-use Rattle.sigma_spl.proofs.Walk.{and-left, and-right}
+use Rattle.sigma_spl.specs.Merge.{total, is_divided, are_small}
+use Rattle.sigma_spl.proofs.Limited.{tested}
 
 -- ---- what the tests say
 
-record Divided (cs : ℕ → ℕ) (f : ℕ) (of : Sum) (m : ℕ) : Type 0 where
-  pub factor : (0 < f) × (f < 2 ^ 32)
-  pub divisor : (0 < m) × (m < 2 ^ 32)
+record Divided (cs : ℕ → ℕ) (f : ℕ) (of : Sum) (m : ℕ) (rest : Sum) : Type 0 where
+  pub factor : IsSmallPositive f
+  pub divisor : IsSmallPositive m
   pub total : total of < 2 ^ 32
   pub top : top of cs < 2 ^ 64
+  pub inner : are_small cs of ≡ true
+  pub others : are_small cs rest ≡ true
 
-divided : (cs : ℕ → ℕ) (f : ℕ) (of : Sum) (m : ℕ) → is_divided cs f of m ≡ true → Divided cs f of m
-divided cs f of m h =
-    let first = nat_lt 0 f && nat_lt f (2 ^ 32) in
-    let second = nat_lt 0 m && nat_lt m (2 ^ 32) in
-    let third = nat_lt (total of) (2 ^ 32) && nat_lt (top of cs) (2 ^ 64) in
-    let a = and-left first (second && third) h in
-    let b = and-left second third (and-right first (second && third) h) in
-    let c = and-right second third (and-right first (second && third) h) in
+divided : (cs : ℕ → ℕ) (f : ℕ) (of : Sum) (m : ℕ) (rest : Sum) →
+    (is_divided cs f of m && (are_small cs of && are_small cs rest)) ≡ true → Divided cs f of m rest
+divided cs f of m rest h =
+    let all = and_parts (is_divided cs f of m) _ h in
+    let parts = and_parts (are_small cs of) (are_small cs rest) all.1 in
+    let first = and_parts (nat_lt 0 f && nat_lt f (2 ^ 32)) _ all.0 in
+    let second = and_parts (nat_lt 0 m && nat_lt m (2 ^ 32)) _ first.1 in
+    let factor = and_parts (nat_lt 0 f) (nat_lt f (2 ^ 32)) first.0 in
+    let divisor = and_parts (nat_lt 0 m) (nat_lt m (2 ^ 32)) second.0 in
+    let bounds = and_parts (nat_lt (total of) (2 ^ 32)) (nat_lt (top of cs) (2 ^ 64)) second.1 in
     record {
-      factor = (lt 0 f (and-left (nat_lt 0 f) _ a), lt f (2 ^ 32) (and-right (nat_lt 0 f) _ a));
-      divisor = (lt 0 m (and-left (nat_lt 0 m) _ b), lt m (2 ^ 32) (and-right (nat_lt 0 m) _ b));
-      total = lt (total of) (2 ^ 32) (and-left (nat_lt (total of) (2 ^ 32)) _ c);
-      top = lt (top of cs) (2 ^ 64) (and-right (nat_lt (total of) (2 ^ 32)) _ c);
+      factor = (ltb-true 0 f factor.0, ltb-true f (2 ^ 32) factor.1);
+      divisor = (ltb-true 0 m divisor.0, ltb-true m (2 ^ 32) divisor.1);
+      total = ltb-true (total of) (2 ^ 32) bounds.0;
+      top = ltb-true (top of cs) (2 ^ 64) bounds.1;
+      inner = parts.0;
+      others = parts.1;
     }
-  where
-    lt : (a b : ℕ) → nat_lt a b ≡ true → a < b
-    lt a b h = grind (arith, nat_tests)
 
 -- ---- factors
 
@@ -68,100 +71,52 @@ left-below a b n h = grind (arith, nat_tests)
 right-below : (a b n : ℕ) → max a b < n → b < n
 right-below a b n h = grind (arith, nat_tests)
 
+more-parts : (f t n p q : ℕ) → f < n → t ≤ (1 + p) * n → 2 + p ≤ q → f + t ≤ q * n
+more-parts f t n p q one inner parts =
+    let wide : (2 + p) * n ≤ q * n = mul-le-mul_right n parts in
+    let spread : (2 + p) * n ≡ n + (1 + p) * n = omega arith in
+    omega (arith, spread, one, inner, wide)
+
 total-parts : (n : ℕ) (e : Sum) → peak e < n → total e ≤ (1 + parts e) * n
 total-parts n (constant c) h = omega arith
-total-parts n (variable f d rest) h = let inner = total-parts n rest (right-below f (peak rest) n h) in let one = left-below f (peak rest) n h in more f (parts rest) (total rest) n one inner
-  where
-    more : (f p t n : ℕ) → f < n → t ≤ (1 + p) * n → f + t ≤ (1 + (1 + p)) * n
-    more f p t n one inner = let e : (1 + (1 + p)) * n ≡ n + (1 + p) * n = omega arith in omega (arith, e, one, inner)
-total-parts n (remainder f of m rest) h = let inner = total-parts n rest (right-below f (peak rest) n h) in let one = left-below f (peak rest) n h in deeper f (parts of) (parts rest) (total rest) n one inner
-  where
-    deeper : (f q p t n : ℕ) → f < n → t ≤ (1 + p) * n → f + t ≤ (1 + (1 + q + p)) * n
-    deeper f q p t n one inner =
-        let e : (1 + (1 + p)) * n ≡ n + (1 + p) * n = omega arith in
-        let wide : (1 + (1 + p)) * n ≤ (1 + (1 + q + p)) * n = mul-le-mul_right n (let w : 1 + (1 + p) ≤ 1 + (1 + q + p) = omega arith in w) in omega (arith, e, one, inner, wide)
-total-parts n (quotient f of m rest) h = let inner = total-parts n rest (right-below f (peak rest) n h) in let one = left-below f (peak rest) n h in deeper f (parts of) (parts rest) (total rest) n one inner
-  where
-    deeper : (f q p t n : ℕ) → f < n → t ≤ (1 + p) * n → f + t ≤ (1 + (1 + q + p)) * n
-    deeper f q p t n one inner =
-        let e : (1 + (1 + p)) * n ≡ n + (1 + p) * n = omega arith in
-        let wide : (1 + (1 + p)) * n ≤ (1 + (1 + q + p)) * n = mul-le-mul_right n (let w : 1 + (1 + p) ≤ 1 + (1 + q + p) = omega arith in w) in omega (arith, e, one, inner, wide)
+total-parts n (variable f d rest) h =
+    more-parts f (total rest) n (parts rest) (1 + (1 + parts rest)) (left-below f (peak rest) n h)
+    (total-parts n rest (right-below f (peak rest) n h)) (omega arith)
+total-parts n (remainder f of m rest) h =
+    more-parts f (total rest) n (parts rest) (1 + (1 + parts of + parts rest)) (left-below f (peak rest) n h)
+    (total-parts n rest (right-below f (peak rest) n h)) (omega arith)
+total-parts n (quotient f of m rest) h =
+    more-parts f (total rest) n (parts rest) (1 + (1 + parts of + parts rest)) (left-below f (peak rest) n h)
+    (total-parts n rest (right-below f (peak rest) n h)) (omega arith)
 
 -- ---- at every level
 
-module _ (cs : ℕ → ℕ) where
-  divides-small : (e : Sum) → are_small cs e ≡ true → DividesSmall e
-  divides-small (constant c) h = tt
-  divides-small (variable f d rest) h = divides-small rest (and-right (nat_lt f (2 ^ 32)) _ h)
-  divides-small (remainder f of m rest) h =
-      let d = divided cs f of m (and-left (is_divided cs f of m) _ h) in
-      let inner = and-right (is_divided cs f of m) _ h in
-      (d.factor, d.divisor, has-small of d.total, divides-small of (and-left (are_small cs of) _ inner), divides-small rest (and-right (are_small cs of) _ inner))
-  divides-small (quotient f of m rest) h =
-      let d = divided cs f of m (and-left (is_divided cs f of m) _ h) in
-      let inner = and-right (is_divided cs f of m) _ h in
-      (d.factor, d.divisor, has-small of d.total, divides-small of (and-left (are_small cs of) _ inner), divides-small rest (and-right (are_small cs of) _ inner))
-
-  divides-words : (e : Sum) → are_small cs e ≡ true → DividesWords cs e
-  divides-words (constant c) h = tt
-  divides-words (variable f d rest) h = divides-words rest (and-right (nat_lt f (2 ^ 32)) _ h)
-  divides-words (remainder f of m rest) h =
-      let d = divided cs f of m (and-left (is_divided cs f of m) _ h) in
-      let inner = and-right (is_divided cs f of m) _ h in
-      (d.top, divides-words of (and-left (are_small cs of) _ inner), divides-words rest (and-right (are_small cs of) _ inner))
-  divides-words (quotient f of m rest) h =
-      let d = divided cs f of m (and-left (is_divided cs f of m) _ h) in
-      let inner = and-right (is_divided cs f of m) _ h in
-      (d.top, divides-words of (and-left (are_small cs of) _ inner), divides-words rest (and-right (are_small cs of) _ inner))
-
-  can-write : (e : Sum) → total e < 2 ^ 32 → are_small cs e ≡ true → CanWrite e
-  can-write (constant c) low h = tt
-  can-write (variable f d rest) low h = (λ x. let le = factor-total x (variable f d rest) in omega (arith, le, low), can-write rest (omega (arith, low)) (and-right (nat_lt f (2 ^ 32)) _ h))
-  can-write (remainder f of m rest) low h =
-      let d = divided cs f of m (and-left (is_divided cs f of m) _ h) in
-      let inner = and-right (is_divided cs f of m) _ h in
-      (can-write of d.total (and-left (are_small cs of) _ inner), can-write rest (omega (arith, low)) (and-right (are_small cs of) _ inner))
-  can-write (quotient f of m rest) low h =
-      let d = divided cs f of m (and-left (is_divided cs f of m) _ h) in
-      let inner = and-right (is_divided cs f of m) _ h in
-      (can-write of d.total (and-left (are_small cs of) _ inner), can-write rest (omega (arith, low)) (and-right (are_small cs of) _ inner))
-
-record Tested (room n : ℕ) (cs : ℕ → ℕ) (e : Sum) : Type 0 where
-  pub few : parts e ≤ room
-  pub flat : levels e ≤ 64
-  pub top : top e cs < n
-  pub peak : peak e < n
-  pub small : are_small cs e ≡ true
-
-tested : (room n : ℕ) (cs : ℕ → ℕ) (e : Sum) → is_limited room n cs e ≡ true → Tested room n cs e
-tested room n cs e h =
-    let first = nat_le (parts e) room && nat_le (levels e) 64 in
-    let bounds = nat_lt (top e cs) n && nat_lt (peak e) n in
-    let one = and-left first (bounds && are_small cs e) h in
-    let two = and-right first (bounds && are_small cs e) h in
-    let three = and-left bounds (are_small cs e) two in
-    record {
-      few = le (parts e) room (and-left (nat_le (parts e) room) _ one);
-      flat = le (levels e) 64 (and-right (nat_le (parts e) room) _ one);
-      top = lt (top e cs) n (and-left (nat_lt (top e cs) n) _ three);
-      peak = lt (peak e) n (and-right (nat_lt (top e cs) n) _ three);
-      small = and-right bounds (are_small cs e) two;
-    }
-  where
-    le : (a b : ℕ) → nat_le a b ≡ true → a ≤ b
-    le a b h = grind (arith, nat_tests)
-
-    lt : (a b : ℕ) → nat_lt a b ≡ true → a < b
-    lt a b h = grind (arith, nat_tests)
+coded : (cs : ℕ → ℕ) (e : Sum) → total e < 2 ^ 32 → are_small cs e ≡ true →
+    DividesSmall e × DividesWords cs e × CanWrite e
+coded cs (constant c) low h = (tt, tt, tt)
+coded cs (variable f d rest) low h =
+    let more = coded cs rest (omega (arith, low)) (and_parts (nat_lt f (2 ^ 32)) _ h).1 in
+    (more.0, more.1, ((λ x. let le = factor-total x (variable f d rest) in omega (arith, le, low)), more.2))
+coded cs (remainder f of m rest) low h =
+    let d = divided cs f of m rest h in
+    let inner = coded cs of d.total d.inner in
+    let more = coded cs rest (omega (arith, low)) d.others in
+    ((d.factor, d.divisor, has-small of d.total, inner.0, more.0), (d.top, inner.1, more.1), (inner.2, more.2))
+coded cs (quotient f of m rest) low h =
+    let d = divided cs f of m rest h in
+    let inner = coded cs of d.total d.inner in
+    let more = coded cs rest (omega (arith, low)) d.others in
+    ((d.factor, d.divisor, has-small of d.total, inner.0, more.0), (d.top, inner.1, more.1), (inner.2, more.2))
 
 pub tested_sums_are_coded : TestedSumsAreCoded
 tested_sums_are_coded room n cs e few word h =
     let t = tested room n cs e h in
-    let many : 1 + parts e ≤ 65 = omega (arith, t.few, few) in
+    let many : 1 + parts e ≤ 65 = omega (arith, t.parts, few) in
     let most : (1 + parts e) * n ≤ 65 * 2 ^ 20 = mul-le-mul many word in
     let low : total e < 2 ^ 32 = let all = total-parts n e t.peak in omega (arith, all, most) in
+    let parts = coded cs e low t.small in
     record {
-      small = record { whole = has-small e low; divided = divides-small cs e t.small; few = omega (arith, t.few, few); flat = t.flat };
-      fits = record { whole = omega (arith, t.top, word); divided = divides-words cs e t.small };
-      writable = can-write cs e low t.small;
+      small = record { whole = has-small e low; divided = parts.0; few = omega (arith, t.parts, few); flat = t.levels };
+      fits = record { whole = omega (arith, t.top, word); divided = parts.1 };
+      writable = parts.2;
     }

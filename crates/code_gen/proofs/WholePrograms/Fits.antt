@@ -1,8 +1,9 @@
 -- The programs of merged passes fit their machines.
-use Rattle.std.proofs.Common.{◌≡◌, ℕ, zero, suc, ◌+◌, ◌*◌, ◌<◌, ◌≤◌, All, List, [], ◌∷◌, length, inl, inr, refl, sym, ap, arith, subst, length-append, mul-le-mul_left}
+use Rattle.std.proofs.Common.{◌≡◌, ℕ, zero, suc, ◌+◌, ◌*◌, ◌<◌, ◌≤◌, All, List, [], ◌∷◌, length, inl, inr, refl, sym}
+use Rattle.std.proofs.Common.{ap, arith, subst, length-append, mul-le-mul_left}
 use Rattle.std.proofs.lemmas.Bool.{cases_lt}
 use Rattle.operators.proofs.Sums.{mul-sum_below}
-use Rattle.std.proofs.lemmas.List.Elements.{All-append}
+use Rattle.std.proofs.lemmas.List.Elements.{All-append, All-cons, All-weaker}
 use Rattle.icode.specs.Actions.{Step, StepFits, actions_of, array_start}
 use Rattle.icode.specs.Plain.{PlainProgram}
 use Rattle.icode.specs.declared.action.Action.{Action}
@@ -18,7 +19,8 @@ use Rattle.code_gen.specs.PassCode.Program.{written_array, most_of}
 use Rattle.code_gen.proofs.WholePrograms.Known.{Pass, AllKnown, passes_acts, runs-of}
 
 -- a bound on registers may be greater
-fit-wider : (regs more lanes m : ℕ) (action : Action) → regs ≤ more → IsFit regs lanes m action → IsFit more lanes m action
+fit-wider : (regs more lanes m : ℕ) (action : Action) → regs ≤ more → IsFit regs lanes m action →
+    IsFit more lanes m action
 fit-wider regs more lanes m (actions.Load r a) le h = record { registers = let low = h.registers in omega (arith, low, le); factors = h.factors }
 fit-wider regs more lanes m (actions.Store a r) le h = record { registers = let low = h.registers in omega (arith, low, le); factors = h.factors }
 fit-wider regs more lanes m (actions.Zero r) le h = record { registers = let low = h.registers in omega (arith, low, le); factors = h.factors }
@@ -31,18 +33,12 @@ fit-wider regs more lanes m (actions.Mul r x f) le h = record { registers = (let
 fit-wider regs more lanes m (actions.Tile r x) le h =
     record { registers = (let low = h.registers.0 in omega (arith, low, le), let low = h.registers.1 in omega (arith, low, le), h.registers.2); factors = h.factors }
 
-all-wider : (regs more lanes m : ℕ) (xs : List Action) → regs ≤ more → All (IsFit regs lanes m) xs → All (IsFit more lanes m) xs
-all-wider regs more lanes m xs le h = λ k d below. fit-wider regs more lanes m _ le (h k d below)
-
-fit-more : (program : PlainProgram) (x : Step) (xs : List Step) → StepFits program x → All (StepFits program) xs → All (StepFits program) (x ∷ xs)
-fit-more program x xs first rest zero d below = first
-fit-more program x xs first rest (suc k) d below = rest k d (omega (arith, below))
-
 -- steps at places that are inside, whose actions fit, fit
-pub steps-fit : (program : PlainProgram) (xs : List Step) → All IsInside xs → All (IsFit program.regs program.lanes program.modulus) (actions_of xs) → All (StepFits program) xs
+pub steps-fit : (program : PlainProgram) (xs : List Step) → All IsInside xs →
+    All (IsFit program.regs program.lanes program.modulus) (actions_of xs) → All (StepFits program) xs
 steps-fit program [] inside fit = λ k d below. absurd (omega arith)
 steps-fit program (x ∷ xs) inside fit =
-    fit-more program x xs
+    All-cons (StepFits program) x xs
     (record {
       numbers = (inside 0 x (omega arith)).numbers;
       place = (inside 0 x (omega arith)).place;
@@ -78,18 +74,22 @@ sum-shares (suc n) b f each =
         omega (arith, rest, last, spread)
 
 module _ (c : Target) (words : ℕ) where
-  pub parts-fit : (regs after : ℕ) (ps : List Pass) (t : ℕ) (source : Array) (q : ℕ) → q < c.procs → AllKnown c ps → most_of c ps ≤ regs →
+  pub parts-fit : (regs after : ℕ) (ps : List Pass) (t : ℕ) (source : Array) (q : ℕ) → q < c.procs → AllKnown c ps →
+      most_of c ps ≤ regs →
       All (IsFit regs c.lanes c.modulus) (passes_acts c words after ps t source q)
   parts-fit regs after [] t source q low known le = λ k d below. absurd (omega arith)
   parts-fit regs after (p ∷ ps) t source q low known le =
       let from = array_start words source in
       let target = written_array t (after + length ps) in
       All-append (IsFit regs c.lanes c.modulus) (pass_acts c p from (array_start words target) q) (passes_acts c words after ps (suc t) target q)
-      (all-wider (pass_registers c.modulus p) regs c.lanes c.modulus (pass_acts c p from (array_start words target) q) (omega (arith, le)) ((runs-of c p known.0).fit from (array_start words target) q low))
+      (All-weaker (IsFit (pass_registers c.modulus p) c.lanes c.modulus) (IsFit regs c.lanes c.modulus)
+      (λ x. fit-wider (pass_registers c.modulus p) regs c.lanes c.modulus x (omega (arith, le))) _
+      ((runs-of c p known.0).fit from (array_start words target) q low))
       (parts-fit regs after ps (suc t) target q low known.1 (omega (arith, le)))
 
   -- the actions of all processors together are not too many
-  pub parts-short : (after : ℕ) (ps : List Pass) (t : ℕ) (source : Array) (q : ℕ) → q < c.procs → AllKnown c ps → c.procs * length (passes_acts c words after ps t source q) ≤ most_actions c ps
+  pub parts-short : (after : ℕ) (ps : List Pass) (t : ℕ) (source : Array) (q : ℕ) → q < c.procs → AllKnown c ps →
+      c.procs * length (passes_acts c words after ps t source q) ≤ most_actions c ps
   parts-short after [] t source q low known = omega arith
   parts-short after (p ∷ ps) t source q low known =
       let from = array_start words source in

@@ -1,5 +1,6 @@
 -- What is known of passes, phase by phase, and their actions.
-use Rattle.std.proofs.Common.{ℕ, suc, ◌+◌, List, [], ◌∷◌, ◌++◌, length, All}
+use Rattle.std.proofs.Common.{◌≡◌, ℕ, zero, suc, ◌+◌, ◌<◌, List, [], ◌∷◌, ◌++◌, length, All, refl, arith, length-append}
+use Rattle.std.proofs.Common.{subst}
 use Rattle.std.proofs.lemmas.List.Elements.{All-head, All-tail}
 use Rattle.icode.specs.Actions.{array_start}
 use Rattle.icode.specs.declared.action.Action.{Action}
@@ -9,7 +10,7 @@ use Rattle.code_gen.specs.PassCode.Conditions.{CanWritePass}
 use Rattle.sigma_spl.specs.Shared.Owners.{all_passes}
 use Rattle.code_gen.specs.PassActions.Laws.{Runs}
 use Rattle.operators.specs.declared.target.Target.{Target}
-use Rattle.code_gen.specs.PassCode.Program.{written_array}
+use Rattle.code_gen.specs.PassCode.Program.{count_in, written_array}
 use Rattle.code_gen.proofs.PassActions.PassesRun.{passes_run}
 use Rattle.sigma_spl.specs.Nest.{PlainNest}
 
@@ -39,6 +40,23 @@ known-parts c (ps ∷ more) h = let parts = known-split c ps (all_passes more) h
 
 pub phases_known : (c : Target) (pss : List (List Pass)) → All (CanWritePass c) (all_passes pss) → PhasesKnown c pss
 phases_known c pss h = known-parts c pss (all_known c (all_passes pss) h)
+
+-- passes are counted phase by phase
+pub passes-count : (pss : List (List Pass)) → length (all_passes pss) ≡ count_in pss
+passes-count [] = refl
+passes-count (ps ∷ more) =
+    let all = length-append ps (all_passes more) in let rest = passes-count more in omega (arith, all, rest)
+
+-- what holds of each phase, where the first has this number
+abbrev pub AllFrom : (ℕ → Type 0) → ℕ → List (List Pass) → Type 0
+AllFrom P f [] = Unit {0}
+AllFrom P f (ps ∷ more) = P f × AllFrom P (f + 1) more
+
+pub at-phase : (P : ℕ → Type 0) (f : ℕ) (pss : List (List Pass)) → AllFrom P f pss → (k : ℕ) → k < length pss →
+    P (f + k)
+at-phase P f [] h k low = absurd (omega (arith, low))
+at-phase P f (ps ∷ more) h zero low = subst P (omega arith) h.0
+at-phase P f (ps ∷ more) h (suc k) low = subst P (omega arith) (at-phase P (f + 1) more h.1 k (omega (arith, low)))
 
 pub runs-of : (c : Target) (p : Pass) → CanWritePass c p → Runs c p
 runs-of c p can = passes_run c p can.runs

@@ -1,74 +1,53 @@
 -- The actions of each processor are one part for each pass, between the pass's arrays.
-use Rattle.std.proofs.Common.{◌≡◌, ℕ, suc, ◌+◌, ◌-◌, ◌<◌, ◌≤◌, List, [], ◌∷◌, ◌++◌, length, flat_map, refl, sym, ap, ap₂, ◌∙◌, arith, append_assoc, length-append, subst, Contains, All}
-use Rattle.std.specs.List.{range_with_len}
-use Rattle.icode.specs.CodeLaws.Nests.{AreInRange}
+use Rattle.std.proofs.Common.{◌≡◌, ℕ, suc, ◌+◌, ◌-◌, ◌<◌, ◌≤◌, List, [], ◌∷◌, ◌++◌, length, refl, sym, ap}
+use Rattle.std.proofs.Common.{◌∙◌, arith, length-append, subst, All}
 use Rattle.icode.specs.Actions.{array_start}
-use Rattle.icode.specs.Machine.{Code, acts, whole_lines}
+use Rattle.icode.specs.Machine.{Code, whole_lines}
 use Rattle.icode.specs.declared.action.Action.{Action}
+use Rattle.icode.specs.declared.action.Action.TheVariants.{Load, Store}
 use Rattle.icode.specs.declared.program.Array.{Array}
-use Rattle.code_gen.specs.PassActions.Acts.{load_at, store_at, pass_acts}
+use Rattle.code_gen.specs.PassActions.Acts.{pass_acts}
 use Rattle.code_gen.specs.PassCode.Conditions.{CanWritePass}
 use Rattle.code_gen.specs.PassCode.Contract.{AreParts, ArePhaseParts, IsPart, Stays, in_a_row, joined}
 use Rattle.sigma_spl.specs.Shared.Owners.{all_passes}
-use Rattle.sigma_spl.specs.Shared.Running.{CanRunNest}
 use Rattle.operators.specs.declared.target.Target.{Target}
-use Rattle.sigma_spl.specs.Shared.Machine.{item_of, values_of}
 use Rattle.code_gen.specs.PassCode.Program.{array_after, count_in, written_array}
-use Rattle.code_gen.proofs.PassActions.Copies.{nest-can}
-use Rattle.code_gen.proofs.PassActions.Framed.{copy-framed, item-below, of_code}
-use Rattle.sigma_spl.specs.Nest.{PlainNest}
-use Rattle.sigma_spl.specs.Work.{vectors_of}
-use Rattle.code_gen.proofs.WholePrograms.Every.{IsFree, every}
-use Rattle.code_gen.proofs.WholePrograms.Known.{Pass, AllKnown, PhasesKnown, passes_acts, runs-of}
+use Rattle.code_gen.proofs.PassActions.Copies.{loaded-below, stored-below}
+use Rattle.code_gen.proofs.PassActions.Every.{StaysInRegisters, every}
+use Rattle.code_gen.proofs.WholePrograms.Known.{Pass, AllKnown, PhasesKnown, passes-count, passes_acts, runs-of}
 use Rattle.code_gen.proofs.WholePrograms.Phases.{RunsPhases}
 
 -- ---- a pass stays in its arrays
 
-stays-free : (n lanes source target : ℕ) → IsFree (Stays n lanes source target)
-stays-free n lanes source target =
-    record {
-      zero_has = λ r. tt;
-      add_has = λ r x y. tt;
-      sub_has = λ r x y. tt;
-      neg_has = λ r x. tt;
-      mul_has = λ r x factors. tt;
-      tile_has = λ r x. tt;
-    }
+stays-still : (n lanes source target : ℕ) (x : Action) → StaysInRegisters x → Stays n lanes source target x
+stays-still n lanes source target (Load r a) still = absurd still
+stays-still n lanes source target (Store a r) still = absurd still
+stays-still n lanes source target _ still = tt
 
-module _ (c : Target) (p : Pass) (known : CanWritePass c p) (q : ℕ) (low : q < c.procs) where
-  module _ (z : PlainNest) (one : Contains p z) (vs : List ℕ) (k : ℕ) (range : AreInRange (nest-can c p known.runs z one).framed.loops vs) (below : k < vectors_of z.work) where
-    abbrev can : CanRunNest c z
-    can = nest-can c p known.runs z one
+-- the words of all lanes are inside of an array where those of the first and of the last are
+lanes-inside : (n lanes start a first last : ℕ) → 0 < lanes → a + 0 ≡ start + first → a + (lanes - 1) ≡ start + last →
+    last < n → (start ≤ a) × (a + lanes ≤ start + n)
+lanes-inside n lanes start a first last some low high below = (omega arith, omega arith)
 
-    abbrev last : ℕ
-    last = c.lanes - 1
-
-    there : last < c.lanes
-    there = let some = known.runs.lanes in omega arith
-
-    loads-inside : load_at c z q vs k + c.lanes ≤ c.size
-    loads-inside =
-        let copied = copy-framed c z can.framed q last vs low there range in
-        let beside = (can.vectors q vs last k copied.in_range there below).loads in
-        let inside = can.inside.loads (values_of c z.work q last vs) (item_of z.work k last) copied.in_range (item-below c z.work k last can.work below there) in
-        let some = known.runs.lanes in omega arith
-
-    stores-inside : store_at c z q vs k + c.lanes ≤ c.size
-    stores-inside =
-        let copied = copy-framed c z can.framed q last vs low there range in
-        let beside = (can.vectors q vs last k copied.in_range there below).stores in
-        let inside = can.inside.stores (values_of c z.work q last vs) (item_of z.work k last) copied.in_range (item-below c z.work k last can.work below there) in
-        let some = known.runs.lanes in omega arith
-
-  pass-stays : (source target : ℕ) → All (Stays c.size c.lanes source target) (pass_acts c p source target q)
-  pass-stays source target =
-      every (Stays c.size c.lanes source target) (stays-free c.size c.lanes source target) c source target q p
-      (λ z one vs k r range below. let inside = loads-inside z one vs k (of_code c z (nest-can c p known.runs z one).framed vs range) below in (omega arith, omega (arith, inside)))
-      (λ z one vs k r range below. let inside = stores-inside z one vs k (of_code c z (nest-can c p known.runs z one).framed vs range) below in (omega arith, omega (arith, inside)))
+pass-stays : (c : Target) (p : Pass) → CanWritePass c p → (q : ℕ) → q < c.procs → (source target : ℕ) →
+    All (Stays c.size c.lanes source target) (pass_acts c p source target q)
+pass-stays c p known q low source target =
+    let can = known.runs in
+    let some = can.lanes in
+    let first : 0 < c.lanes = omega arith in
+    let last : c.lanes - 1 < c.lanes = omega arith in
+    every c p can (Stays c.size c.lanes source target) (λ x still fit. stays-still c.size c.lanes source target x still)
+    source target q low
+    (λ a r words few. lanes-inside c.size c.lanes source a _ _ some (words 0 first).2 (words (c.lanes - 1) last).2
+    (loaded-below c p can q _ (words (c.lanes - 1) last).1))
+    (λ a r words few. lanes-inside c.size c.lanes target a _ _ some (words 0 first).2 (words (c.lanes - 1) last).2
+    (stored-below c p can q _ (words (c.lanes - 1) last).1))
 
 -- ---- all parts
 
-module _ (c : Target) (enough : c.size ≤ whole_lines c.size c.line) (code : Code) (modulus_is : code.modulus ≡ c.modulus) (lanes_are : code.lanes ≡ c.lanes) (procs_are : code.procs ≡ c.procs) (q : ℕ) (low : q < c.procs) where
+module _ (c : Target) (enough : c.size ≤ whole_lines c.size c.line) (code : Code)
+    (modulus_is : code.modulus ≡ c.modulus) (lanes_are : code.lanes ≡ c.lanes) (procs_are : code.procs ≡ c.procs)
+    (q : ℕ) (low : q < c.procs) where
   abbrev words : ℕ
   words = whole_lines c.size c.line
 
@@ -82,7 +61,8 @@ module _ (c : Target) (enough : c.size ≤ whole_lines c.size c.line) (code : Co
   all_parts [] t source = []
   all_parts (ps ∷ more) t source = parts_of (count_in more) ps t source ∷ all_parts more (t + length ps) (array_after (count_in more) ps t source)
 
-  parts-whole : (after : ℕ) (ps : List Pass) (t : ℕ) (source : Array) → joined (parts_of after ps t source) ≡ passes_acts c words after ps t source q
+  parts-whole : (after : ℕ) (ps : List Pass) (t : ℕ) (source : Array) →
+      joined (parts_of after ps t source) ≡ passes_acts c words after ps t source q
   parts-whole after [] t source = refl
   parts-whole after (p ∷ ps) t source =
       ap (λ rest. pass_acts c p (array_start words source) (array_start words (written_array t (after + length ps))) q ++ rest) (parts-whole after ps (suc t) (written_array t (after + length ps)))
@@ -101,11 +81,9 @@ module _ (c : Target) (enough : c.size ≤ whole_lines c.size c.line) (code : Co
     all-whole (f + 1) more (t + length ps) (array_after (count_in more) ps t source) runs.1,
   )
 
-  count-is : (pss : List (List Pass)) → length (all_passes pss) ≡ count_in pss
-  count-is [] = refl
-  count-is (ps ∷ more) = let all = length-append ps (all_passes more) in let rest = count-is more in omega (arith, all, rest)
-
-  is-part : (p : Pass) (source target : Array) → CanWritePass c p → IsPart c p (array_start words source) (array_start words target) (pass_acts c p (array_start words source) (array_start words target) q)
+  is-part : (p : Pass) (source target : Array) → CanWritePass c p →
+      IsPart c p (array_start words source) (array_start words target)
+      (pass_acts c p (array_start words source) (array_start words target) q)
   is-part p source target known =
       let runs = runs-of c p known in
       record {
@@ -114,12 +92,14 @@ module _ (c : Target) (enough : c.size ≤ whole_lines c.size c.line) (code : Co
       }
 
   -- a phase's parts before those of later phases
-  phase-parts : (more : List (List Pass)) (rest : List (List Action)) (ps : List Pass) (t : ℕ) (source : Array) → AllKnown c ps →
-      AreParts c (t + length ps) (array_after (count_in more) ps t source) (all_passes more) rest → AreParts c t source (ps ++ all_passes more) (parts_of (count_in more) ps t source ++ rest)
+  phase-parts : (more : List (List Pass)) (rest : List (List Action)) (ps : List Pass) (t : ℕ) (source : Array) →
+      AllKnown c ps →
+      AreParts c (t + length ps) (array_after (count_in more) ps t source) (all_passes more) rest →
+      AreParts c t source (ps ++ all_passes more) (parts_of (count_in more) ps t source ++ rest)
   phase-parts more rest [] t source known h = subst (λ n. AreParts c n source (all_passes more) rest) (omega arith) h
   phase-parts more rest (p ∷ ps) t source known h =
       let target = written_array t (count_in more + length ps) in
-      let long : length (ps ++ all_passes more) ≡ count_in more + length ps = let both = length-append ps (all_passes more) in let last = count-is more in omega arith in
+      let long : length (ps ++ all_passes more) ≡ count_in more + length ps = let both = length-append ps (all_passes more) in let last = passes-count more in omega arith in
       subst
       (λ n. IsPart c p (array_start words source) (array_start words (written_array t n)) (pass_acts c p (array_start words source) (array_start words target) q)
       × AreParts c (suc t) (written_array t n) (ps ++ all_passes more) (parts_of (count_in more) ps (suc t) target ++ rest))
@@ -128,7 +108,8 @@ module _ (c : Target) (enough : c.size ≤ whole_lines c.size c.line) (code : Co
         phase-parts more rest ps (suc t) target known.1 (subst (λ n. AreParts c n (array_after (count_in more) ps (suc t) target) (all_passes more) rest) (omega arith) h),
       )
 
-  pub all-are : (pss : List (List Pass)) (t : ℕ) (source : Array) → PhasesKnown c pss → AreParts c t source (all_passes pss) (in_a_row (all_parts pss t source))
+  pub all-are : (pss : List (List Pass)) (t : ℕ) (source : Array) → PhasesKnown c pss →
+      AreParts c t source (all_passes pss) (in_a_row (all_parts pss t source))
   all-are [] t source known = tt
   all-are (ps ∷ more) t source known =
       phase-parts more (in_a_row (all_parts more (t + length ps) (array_after (count_in more) ps t source))) ps t source known.0

@@ -1,18 +1,17 @@
 -- The program of merged passes does what they do.
-use Rattle.std.proofs.Common.{◌≡◌, ℕ, zero, suc, ◌+◌, ◌*◌, ◌-◌, ◌/◌, ◌^◌, ◌<◌, ◌≤◌, All, inl, inr, true, ◌&&◌, nat_lt, List, [], ◌∷◌, ◌++◌, length, map, flat_map, replicate, refl, sym, ap, ap₂, ◌∙◌, arith, append-nil, length-append, subst, mul-le-mul_right}
+use Rattle.std.proofs.Common.{◌≡◌, ℕ, suc, ◌+◌, ◌*◌, ◌-◌, ◌/◌, ◌^◌, ◌<◌, ◌≤◌, All, inl, inr, ◌&&◌}
+use Rattle.std.proofs.Common.{List, [], ◌∷◌, ◌++◌, length, replicate, refl, sym, ap, ap₂, ◌∙◌, arith}
+use Rattle.std.proofs.Common.{append-nil, length-append, subst}
 use Rattle.std.specs.Prelude.{slice_index, slice_index_or, IsTrue}
-use Rattle.std.specs.List.{list_all, range_with_len}
-use Rattle.std.proofs.Math.Nat.{lt-div-mul-add}
-use Rattle.std.proofs.lemmas.Bool.{cases_lt}
-use Rattle.std.proofs.lemmas.Bool.Decides.{nat_tests}
-use Rattle.std.proofs.lemmas.List.{length-replicate, length-map, get_or_append_left, get_or_past}
+use Rattle.std.specs.List.{list_all}
+use Rattle.std.proofs.lemmas.Bool.{cases_lt, lt-ltb}
+use Rattle.std.proofs.lemmas.List.{length-replicate, length-map, get_or-replicate, get_or_append_left, get_or_past}
 use Rattle.std.proofs.lemmas.List.FromFn.{fill_by_all}
 use Rattle.icode.proofs.CodeLaws.Placing.{slice_index-words_at}
 use Rattle.icode.specs.Actions.{array_start, StepFits, PlainFits, actions_of, plain_code, steps_of_body, steps_of_phase}
 use Rattle.icode.specs.Limits.{IsWithinLimits, is_body_within}
-use Rattle.icode.specs.Machine.{Code, IsApart, Whole, acts, phases_alone, results, runs, start, whole_lines, words_at}
-use Rattle.icode.specs.Plain.{PlainBody, PlainProgram, NoStmts}
-use Rattle.icode.specs.declared.action.Action.{Action}
+use Rattle.icode.specs.Machine.{Code, IsApart, Whole, phases_alone, results, runs, start, whole_lines, words_at}
+use Rattle.icode.specs.Plain.{PlainProgram, NoStmts}
 use Rattle.icode.specs.declared.program.Array.{Array}
 use Rattle.icode.specs.declared.program.Array.TheVariants.{X}
 use Rattle.icode.proofs.Lists.{code_is}
@@ -26,36 +25,25 @@ use Rattle.code_gen.specs.PassCode.Contract.{CanProgram, IsByPhase, Performs, Pr
 use Rattle.sigma_spl.specs.Shared.Owners.{all_passes, most_actions}
 use Rattle.code_gen.specs.PassActions.Laws.{IsFit}
 use Rattle.operators.specs.declared.target.Target.{Target}
-use Rattle.code_gen.specs.PassCode.Program.{array_after, count_in, phases_body, program_of, tables_of_phases, tables_through}
+use Rattle.code_gen.specs.PassCode.Program.{array_after, count_in, phases_body, program_of, tables_of_phases}
+use Rattle.code_gen.specs.PassCode.Program.{tables_through}
 use Rattle.sigma_spl.specs.Good.{IsVector}
 use Rattle.sigma_spl.specs.Merged.{PlainMerged, merged_on, phase_on, phases_on}
 use Rattle.sigma_spl.specs.Nest.{nests_on}
+use Rattle.code_gen.proofs.PassCode.Places.{whole-enough}
 use Rattle.code_gen.proofs.WholePrograms.Apart.{all-apart, phases-apart}
-use Rattle.code_gen.proofs.WholePrograms.Arrays.{first-other}
-use Rattle.code_gen.proofs.WholePrograms.Emitted.{passes-within, phases-longer}
+use Rattle.code_gen.proofs.WholePrograms.Arrays.{target-other}
+use Rattle.code_gen.proofs.WholePrograms.Emitted.{passes-within, phases-extend}
+use Rattle.code_gen.proofs.PassCode.SharedTables.{extends-longer}
 use Rattle.code_gen.proofs.WholePrograms.Fits.{length-actions, parts-fit, parts-short, steps-fit, sum-shares}
-use Rattle.code_gen.proofs.WholePrograms.Known.{Pass, PhasesKnown, passes_acts, phases_known}
-use Rattle.code_gen.proofs.WholePrograms.Lists.{InsidePhases, Listed, phases-listed}
+use Rattle.code_gen.proofs.WholePrograms.Known.{Pass, AllFrom, PhasesKnown, at-phase, passes-count, passes_acts}
+use Rattle.code_gen.proofs.WholePrograms.Known.{phases_known}
+use Rattle.code_gen.proofs.WholePrograms.Lists.{IsInsidePhase, Listed, phases-listed, steps-acts}
 use Rattle.code_gen.proofs.WholePrograms.Parts.{all_parts, all-are, all-whole}
-use Rattle.code_gen.proofs.WholePrograms.Phases.{AllWide, Ready, RunsPhases, SharedFrom, all-phases, final_array, final-is, phases-shared}
+use Rattle.code_gen.proofs.WholePrograms.Phases.{Ready, RunsPhases, SharedFrom, all-phases, final_array}
+use Rattle.code_gen.proofs.WholePrograms.Phases.{final-is, phases-shared}
 use Rattle.code_gen.proofs.WholePrograms.Registers.{AllBelow, all-below, few-all}
 use Rattle.code_gen.proofs.WholePrograms.Tables.{phases-tables-within}
-
--- whole lines hold the words
-whole-enough : (n line : ℕ) → 0 < line → n ≤ whole_lines n line
-whole-enough n line some = let h : n + (line - 1) < (n + (line - 1)) / line * line + line = lt-div-mul-add some in omega (arith, h)
-
-passes-count : (pss : List (List Pass)) → length (all_passes pss) ≡ count_in pss
-passes-count [] = refl
-passes-count (ps ∷ more) = let all = length-append ps (all_passes more) in let rest = passes-count more in omega (arith, all, rest)
-
-replicate-at : {A : Type 0} (n : ℕ) (x : A) (d : A) (k : ℕ) → k < n → slice_index_or (replicate n x) k d ≡ x
-replicate-at zero x d k low = absurd (omega (arith, low))
-replicate-at (suc n) x d zero low = refl
-replicate-at (suc n) x d (suc k) low = replicate-at n x d k (omega (arith, low))
-
-some-phases : (n : ℕ) → 0 < n → nat_lt 0 n ≡ true
-some-phases n some = grind (arith, nat_tests)
 
 most-append : (c : Target) (ps qs : List Pass) → most_actions c (ps ++ qs) ≡ most_actions c ps + most_actions c qs
 most-append c [] qs = omega arith
@@ -104,7 +92,8 @@ module _ (c : Target) (g : PlainMerged) (can : CanProgram c g) where
   shared : SharedFrom c words enough code refl refl refl pss 0 X
   shared = phases-shared c words enough code refl refl refl pss 0 can.shared
 
-  bodies-long : (qss : List (List Pass)) (n : ℕ) (tables : List (List ℕ)) (source : Array) → length (phases_body c qss n tables source) ≡ length qss
+  bodies-long : (qss : List (List Pass)) (n : ℕ) (tables : List (List ℕ)) (source : Array) →
+      length (phases_body c qss n tables source) ≡ length qss
   bodies-long [] n tables source = refl
   bodies-long (ps ∷ more) n tables source = ap suc (bodies-long more _ _ _)
 
@@ -124,36 +113,22 @@ module _ (c : Target) (g : PlainMerged) (can : CanProgram c g) where
   below : AllBelow c p.regs pss
   below = all-below c pss
 
-  -- the actions of a phase are those of its steps
-  steps-acts : (f q : ℕ) → f < length pss → q < c.procs → acts code f q ≡ actions_of (steps_of_phase p f q)
-  steps-acts f q low high = at_phase p.phases f q (let long = phases-long in omega (arith, low, long)) high
-    where
-      at-range : (n a k : ℕ) (h : ℕ → List Action) → k < n → slice_index_or (map h (range_with_len a n)) k [] ≡ h (a + k)
-      at-range zero a k h low = absurd (omega (arith, low))
-      at-range (suc n) a zero h low = ap h (omega arith)
-      at-range (suc n) a (suc k) h low = at-range n (a + 1) k h (omega (arith, low)) ∙ ap h (omega arith)
-
-      at_phase : (bodies : List PlainBody) (f q : ℕ) → f < length bodies → q < c.procs →
-          slice_index_or (slice_index_or (map (λ b. map (λ r. actions_of (steps_of_body p b [] r)) (range_with_len 0 c.procs)) bodies) f []) q [] ≡ actions_of (steps_of_body p (slice_index_or bodies f NoStmts) [] q)
-      at_phase [] f q low high = absurd (omega (arith, low))
-      at_phase (b ∷ bodies) zero q low high = at-range c.procs 0 q (λ r. actions_of (steps_of_body p b [] r)) high ∙ ap (λ r. actions_of (steps_of_body p b [] r)) (omega arith)
-      at_phase (b ∷ bodies) (suc f) q low high = at_phase bodies f q (omega (arith, low)) high
-
   -- a phase's steps fit
   abbrev PhaseFits : ℕ → Type 0
   PhaseFits f = (q : ℕ) → q < c.procs → All (StepFits p) (steps_of_phase p f q)
 
-  abbrev AllFit : ℕ → List (List Pass) → Type 0
-  AllFit f [] = Unit {0}
-  AllFit f (ps ∷ more) = PhaseFits f × AllFit (f + 1) more
-
   abbrev Runs : ℕ → List (List Pass) → ℕ → Array → Type 0
   Runs f qss n source = RunsPhases c words enough code refl refl refl f qss n source
 
-  runs-acts : (f : ℕ) (ps : List Pass) (more : List (List Pass)) (n : ℕ) (source : Array) → f < length pss → Runs f (ps ∷ more) n source → (q : ℕ) → q < c.procs → passes_acts c words (count_in more) ps n source q ≡ actions_of (steps_of_phase p f q)
-  runs-acts f ps more n source here runs q low = sym (runs.0 q low) ∙ steps-acts f q here low
+  runs-acts : (f : ℕ) (ps : List Pass) (more : List (List Pass)) (n : ℕ) (source : Array) → f < length pss →
+      Runs f (ps ∷ more) n source → (q : ℕ) → q < c.procs → passes_acts c words (count_in more) ps n source q
+      ≡ actions_of (steps_of_phase p f q)
+  runs-acts f ps more n source here runs q low =
+      sym (runs.0 q low) ∙ steps-acts p f q (let long = phases-long in omega (arith, here, long)) low
 
-  all-fit : (f : ℕ) (qss : List (List Pass)) (n : ℕ) (source : Array) → f + length qss ≡ length pss → PhasesKnown c qss → AllBelow c p.regs qss → Runs f qss n source → InsidePhases c p refl refl refl enough f qss → AllFit f qss
+  all-fit : (f : ℕ) (qss : List (List Pass)) (n : ℕ) (source : Array) → f + length qss ≡ length pss →
+      PhasesKnown c qss → AllBelow c p.regs qss → Runs f qss n source → AllFrom (IsInsidePhase c p refl refl refl enough) f qss →
+      AllFrom PhaseFits f qss
   all-fit f [] n source e known below runs inside = tt
   all-fit f (ps ∷ more) n source e known below runs inside = (
     λ q low.
@@ -162,18 +137,13 @@ module _ (c : Target) (g : PlainMerged) (can : CanProgram c g) where
     all-fit (f + 1) more (n + length ps) (array_after (count_in more) ps n source) (omega (arith, e)) known.1 below.1 runs.1 inside.1,
   )
 
-  fit-at : (f : ℕ) (qss : List (List Pass)) → AllFit f qss → (k : ℕ) → k < length qss → PhaseFits (f + k)
-  fit-at f [] h k low = absurd (omega (arith, low))
-  fit-at f (ps ∷ more) h zero low = subst PhaseFits (omega arith) h.0
-  fit-at f (ps ∷ more) h (suc k) low = subst PhaseFits (omega arith) (fit-at (f + 1) more h.1 k (omega (arith, low)))
-
   no-steps : (f q : ℕ) → length pss ≤ f → steps_of_phase p f q ≡ []
   no-steps f q past = ap (λ b. steps_of_body p b [] q) (get_or_past p.phases f NoStmts (let long = phases-long in omega (arith, past, long)))
 
   phase-fits : (f : ℕ) → PhaseFits f
   phase-fits f =
       elim (cases_lt f (length pss)) [
-        | inl low ↦ subst PhaseFits (omega arith) (fit-at 0 pss (all-fit 0 pss 0 X (omega arith) known below listed.0 listed.1) f low)
+        | inl low ↦ subst PhaseFits (omega arith) (at-phase PhaseFits 0 pss (all-fit 0 pss 0 X (omega arith) known below listed.0 listed.1) f low)
         | inr past ↦ λ q low. subst (All (StepFits p)) (sym (no-steps f q past)) (λ k d under. absurd (omega (arith, under)))
       ]
 
@@ -181,7 +151,9 @@ module _ (c : Target) (g : PlainMerged) (can : CanProgram c g) where
   abbrev phase_steps : ℕ → ℕ
   phase_steps f = sum_below c.procs (λ q. length (steps_of_phase p f q))
 
-  steps-few : (f : ℕ) (qss : List (List Pass)) (n : ℕ) (source : Array) → f + length qss ≡ length pss → PhasesKnown c qss → Runs f qss n source → sum_below (length qss) (λ k. phase_steps (f + k)) ≤ most_actions c (all_passes qss)
+  steps-few : (f : ℕ) (qss : List (List Pass)) (n : ℕ) (source : Array) → f + length qss ≡ length pss →
+      PhasesKnown c qss → Runs f qss n source → sum_below (length qss) (λ k. phase_steps (f + k))
+      ≤ most_actions c (all_passes qss)
   steps-few f [] n source e known runs = omega arith
   steps-few f (ps ∷ more) n source e known runs =
       let rest = steps-few (f + 1) more (n + length ps) (array_after (count_in more) ps n source) (omega (arith, e)) known.1 runs.1 in
@@ -198,7 +170,9 @@ module _ (c : Target) (g : PlainMerged) (can : CanProgram c g) where
       let all = most-append c ps (all_passes more) in
       most_sum _ _ _ _ _ _ _ count first next here one rest all
     where
-      most_sum : (whole parted first_one here rest next total : ℕ) → whole ≡ parted → parted ≡ 0 + first_one + rest → rest ≡ next → first_one ≡ here → here ≤ most_actions c ps → next ≤ most_actions c (all_passes more) → total ≡ most_actions c ps + most_actions c (all_passes more) → whole ≤ total
+      most_sum : (whole parted first_one here rest next total : ℕ) → whole ≡ parted → parted ≡ 0 + first_one + rest →
+          rest ≡ next → first_one ≡ here → here ≤ most_actions c ps → next ≤ most_actions c (all_passes more) →
+          total ≡ most_actions c ps + most_actions c (all_passes more) → whole ≤ total
       most_sum whole parted first_one here rest next total a b d e f g h = omega arith
 
   fits : PlainFits p
@@ -234,7 +208,7 @@ module _ (c : Target) (g : PlainMerged) (can : CanProgram c g) where
                 omega (arith, room, rest, long, size);
             files = length-replicate {A = List ℕ} c.procs (replicate {A = ℕ} (p.regs * c.lanes) 0);
             each = λ r low.
-                let there : slice_index_or (replicate c.procs (replicate {A = ℕ} (p.regs * c.lanes) 0)) r [] ≡ replicate {A = ℕ} (p.regs * c.lanes) 0 = replicate-at c.procs (replicate {A = ℕ} (p.regs * c.lanes) 0) [] r low in
+                let there : slice_index_or (replicate c.procs (replicate {A = ℕ} (p.regs * c.lanes) 0)) r [] ≡ replicate {A = ℕ} (p.regs * c.lanes) 0 = get_or-replicate c.procs r (replicate {A = ℕ} (p.regs * c.lanes) 0) [] low in
                 let long = length-replicate {A = ℕ} (p.regs * c.lanes) 0 in
                 let same = ap length there in
                 omega (arith, long, same);
@@ -243,12 +217,9 @@ module _ (c : Target) (g : PlainMerged) (can : CanProgram c g) where
           residues = vector.residues;
         }
 
-    wide : (regs : ℕ) (qss : List (List Pass)) → AllBelow c regs qss → AllWide c words enough code refl refl refl regs qss
-    wide regs [] h = tt
-    wide regs (ps ∷ more) h = (mul-le-mul_right c.lanes h.0, wide regs more h.1)
-
-    ended : Ready c words enough code refl refl refl p.regs (final_array c words enough code refl refl refl pss 0 X) made (phases_alone code (length pss) 0 begun)
-    ended = all-phases c words enough code refl refl refl p.regs 0 pss 0 X x begun known (wide p.regs pss below) shared (λ some. first-other (count_in pss - 1)) listed.0 ready
+    ended : Ready c words enough code refl refl refl p.regs (final_array c words enough code refl refl refl pss 0 X)
+        made (phases_alone code (length pss) 0 begun)
+    ended = all-phases c words enough code refl refl refl p.regs 0 pss 0 X x begun known below shared (λ some. target-other 0 (count_in pss - 1)) listed.0 ready
 
     memory-is : (runs code x []).memory ≡ (phases_alone code (length pss) 0 begun).memory
     memory-is = memory_of_runs code (code_is p) apart x [] ∙ ap (λ n. (phases_alone code n 0 begun).memory) code-long
@@ -266,12 +237,13 @@ module _ (c : Target) (g : PlainMerged) (can : CanProgram c g) where
 
   -- ---- its limits
 
-  bodies-within : (qss : List (List Pass)) (n : ℕ) (tables : List (List ℕ)) (source : Array) → PhasesKnown c qss → length (tables_of_phases c.modulus qss tables) < 2 ^ 32 →
+  bodies-within : (qss : List (List Pass)) (n : ℕ) (tables : List (List ℕ)) (source : Array) → PhasesKnown c qss →
+      length (tables_of_phases c.modulus qss tables) < 2 ^ 32 →
       IsTrue (list_all (λ body. is_body_within c.modulus body 0) (phases_body c qss n tables source))
   bodies-within [] n tables source known few = refl
   bodies-within (ps ∷ more) n tables source known few =
       let through = tables_through c.modulus ps tables in
-      let longer = phases-longer c.modulus more through in
+      let longer = extends-longer (phases-extend c.modulus more through) in
       ap₂ (λ a b. a && b) (passes-within c (count_in more) ps n tables source known.0 (omega (arith, few, longer)))
       (bodies-within more (n + length ps) through (array_after (count_in more) ps n source) known.1 few)
 
@@ -296,7 +268,7 @@ module _ (c : Target) (g : PlainMerged) (can : CanProgram c g) where
           of_regs = few-all c pss known;
         };
         constants = phases-tables-within c (omega (arith, large)) pss [] known refl;
-        statements = ap₂ (λ a b. a && b) (some-phases (length p.phases) (let long = phases-long in let some = phases-some in omega (arith, long, some))) (bodies-within pss 0 [] X known can.tables);
+        statements = ap₂ (λ a b. a && b) (lt-ltb 0 (length p.phases) (let long = phases-long in let some = phases-some in omega (arith, long, some))) (bodies-within pss 0 [] X known can.tables);
       }
 
   parts-listed : (q : ℕ) → q < c.procs → IsByPhase c g code q

@@ -1,7 +1,7 @@
 -- The parts of all phases in a row are one for each pass.
 use Rattle.std.proofs.Common.{◌≡◌, ℕ, ◌+◌, List, [], ◌∷◌, ◌++◌, length, flat_map, refl, sym, ap, ap₂, ◌∙◌, append_assoc}
 use Rattle.std.specs.List.{range_with_len}
-use Rattle.code_gen.specs.PassCode.Contract.{ArePhaseParts, IsByPhase, IsListed, PartsInARow, in_a_row, joined}
+use Rattle.code_gen.specs.PassCode.Contract.{ArePhaseParts, PartsInARow, in_a_row, joined}
 use Rattle.icode.specs.Machine.{Code, acts}
 use Rattle.icode.specs.declared.action.Action.{Action}
 use Rattle.sigma_spl.specs.Nest.{PlainNest}

@@ -1,13 +1,15 @@
 -- What a processor's parts of the passes of a phase leave, one pass after another.
-use Rattle.std.proofs.Common.{◌≡◌, ◌≢◌, ℕ, zero, suc, ◌+◌, ◌-◌, ◌*◌, ◌<◌, ◌≤◌, inl, inr, List, [], ◌∷◌, length, refl, sym, ap, ◌∙◌, arith, subst}
+use Rattle.std.proofs.Common.{◌≡◌, ◌≢◌, ℕ, suc, ◌+◌, ◌-◌, ◌*◌, ◌<◌, ◌≤◌, inl, inr, List, [], ◌∷◌, length, refl}
+use Rattle.std.proofs.Common.{sym, ap, ◌∙◌, arith, subst}
 use Rattle.std.specs.Prelude.{slice_index, max}
+use Rattle.std.proofs.lemmas.Bool.{cases_eq}
 use Rattle.std.proofs.Math.Nat.{le-max_left, le-max_right, mul-le-mul_right}
 use Rattle.icode.proofs.CodeLaws.ByLane.{lists_follow}
 use Rattle.icode.proofs.CodeLaws.Stores.{length-memory, length-registers}
 use Rattle.icode.specs.Actions.{array_start}
 use Rattle.icode.specs.Machine.{Local, effects}
 use Rattle.icode.specs.declared.program.Array.{Array}
-use Rattle.icode.specs.declared.program.Array.TheVariants.{X, Y, A, B}
+use Rattle.icode.specs.declared.program.Array.TheVariants.{X}
 use Rattle.sigma_spl.specs.Merged.{phase_on}
 use Rattle.sigma_spl.specs.Nest.{nests_on}
 use Rattle.operators.specs.declared.target.Target.{Target}
@@ -16,9 +18,10 @@ use Rattle.code_gen.specs.PassActions.Laws.{AreApart, CanBegin, Leaves}
 use Rattle.sigma_spl.specs.Shared.Running.{IsLoadedBy, IsStoredBy}
 use Rattle.code_gen.specs.PassCode.Conditions.{CanWritePass}
 use Rattle.sigma_spl.specs.Shared.Owners.{AllOwn, FirstOwns}
-use Rattle.code_gen.proofs.PassActions.Copies.{loaded-below, stored-below}
+use Rattle.code_gen.proofs.PassActions.Copies.{loaded-below, stored-below, words_apart}
 use Rattle.code_gen.specs.PassCode.Program.{written_array, array_after, most_of}
-use Rattle.code_gen.proofs.WholePrograms.Arrays.{IsOther, apart, inside-memory, last-number, scratch-number, next-other}
+use Rattle.code_gen.proofs.WholePrograms.Arrays.{number, IsOther, apart, inside-memory, next-other, start-is}
+use Rattle.code_gen.proofs.WholePrograms.Arrays.{target-other}
 use Rattle.code_gen.proofs.WholePrograms.Known.{Pass, AllKnown, passes_acts, runs-of}
 use Rattle.code_gen.proofs.WholePrograms.Stored.{made-residues, stored-own}
 
@@ -26,15 +29,15 @@ module _ (c : Target) (words : ℕ) (enough : c.size ≤ words) (owner : ℕ →
   -- what a processor may read: all of X, which nobody writes, and its own words of the other arrays
   abbrev pub MayRead : Array → ℕ → ℕ → Type 0
   MayRead X q i = Unit {0}
-  MayRead Y q i = owner i ≡ q
-  MayRead A q i = owner i ≡ q
-  MayRead B q i = owner i ≡ q
+  MayRead _ q i = owner i ≡ q
 
   pub own-read : (source : Array) (q i : ℕ) → owner i ≡ q → MayRead source q i
   own-read X q i own = tt
-  own-read Y q i own = own
-  own-read A q i own = own
-  own-read B q i own = own
+  own-read _ q i own = own
+
+  pub read-own : (b : Array) (q i : ℕ) → IsOther X b → MayRead b q i → owner i ≡ q
+  read-own X q i other may = absurd (other refl)
+  read-own _ q i other may = may
 
   abbrev pub Reads : Pass → Array → Type 0
   Reads p source = (q w : ℕ) → q < c.procs → IsLoadedBy c p q w → MayRead source q w
@@ -60,15 +63,19 @@ module _ (c : Target) (words : ℕ) (enough : c.size ≤ words) (owner : ℕ →
   pub record Holds (ps : List Pass) (t : ℕ) (source : Array) (q : ℕ) (x : List ℕ) (s : Local) : Type 0 where
     pub memory : length s.memory ≡ 4 * words
     pub registers : most_of c ps * c.lanes ≤ length s.registers
-    pub held : (i : ℕ) → i < c.size → MayRead source q i → slice_index s.memory (array_start words source + i) ≡ slice_index x i
+    pub held : (i : ℕ) → i < c.size → MayRead source q i → slice_index s.memory (array_start words source + i)
+        ≡ slice_index x i
     pub residues : (i : ℕ) → i < c.size → slice_index x i < c.modulus
     pub other : 0 < length ps → IsOther source (written_array t (after + length ps - 1))
 
   -- its own words of the last array have what the passes make, and what belongs to another and all of X are unchanged
   pub record Left (ps : List Pass) (t : ℕ) (source : Array) (q : ℕ) (x : List ℕ) (s end : Local) : Type 0 where
-    pub stored : (i : ℕ) → i < c.size → owner i ≡ q → slice_index end.memory (array_start words (array_after after ps t source) + i) ≡ slice_index (phase_on c.modulus c.size ps x) i
-    pub kept : (a : Array) (i : ℕ) → i < c.size → owner i ≢ q → slice_index end.memory (array_start words a + i) ≡ slice_index s.memory (array_start words a + i)
-    pub first : (i : ℕ) → i < c.size → slice_index end.memory (array_start words X + i) ≡ slice_index s.memory (array_start words X + i)
+    pub stored : (i : ℕ) → i < c.size → owner i ≡ q → slice_index end.memory
+        (array_start words (array_after after ps t source) + i) ≡ slice_index (phase_on c.modulus c.size ps x) i
+    pub kept : (a : Array) (i : ℕ) → i < c.size → owner i ≢ q →
+        slice_index end.memory (array_start words a + i) ≡ slice_index s.memory (array_start words a + i)
+    pub first : (i : ℕ) → i < c.size → slice_index end.memory (array_start words X + i)
+        ≡ slice_index s.memory (array_start words X + i)
 
   module _ (p : Pass) (ps : List Pass) (t : ℕ) (source : Array) (q : ℕ) (low : q < c.procs) (x : List ℕ) (s : Local) (known : CanWritePass c p) (reads : Reads p source)
       (owns : Owns p) (h : Holds (p ∷ ps) t source q x s) where
@@ -119,98 +126,68 @@ module _ (c : Target) (words : ℕ) (enough : c.size ≤ words) (owner : ℕ →
         let same : i ≡ w = omega (arith, e) in
         other (ap owner same ∙ owns q w low is))
 
-    other-array : (a : Array) (i : ℕ) → i < c.size → IsOther a target → slice_index next.memory (array_start words a + i) ≡ slice_index s.memory (array_start words a + i)
+    other-array : (a : Array) (i : ℕ) → i < c.size → IsOther a target →
+        slice_index next.memory (array_start words a + i) ≡ slice_index s.memory (array_start words a + i)
     other-array a i below other =
         leaves.kept (array_start words a + i) (λ w is e.
-        clash (array_start words a) to i w (apart words c.size enough a target other) below (stored-below c p known.runs q w is) e)
-      where
-        clash : (l r i k : ℕ) → AreApart c.size l r → i < c.size → k < c.size → l + i ≡ r + k → ⊥
-        clash l r i k (inl before) low high e = omega (arith, before, low, high, e)
-        clash l r i k (inr before) low high e = omega (arith, before, low, high, e)
+        words_apart c.size (array_start words a) to i w (array_start words a + i)
+        (apart words c.size enough a target other)
+        below (stored-below c p known.runs q w is) refl e)
 
-    not-first : IsOther X target
-    not-first = target-not_first t (after + length ps)
-      where
-        target-not_first : (t k : ℕ) → IsOther X (written_array t k)
-        target-not_first t zero = λ e. let is = last-number t in absurd (omega (arith, e, is))
-        target-not_first t (suc k) = λ e. let is = scratch-number t k in absurd (omega (arith, e, is))
+    one-kept : (a : Array) (i : ℕ) → i < c.size → owner i ≢ q →
+        slice_index next.memory (array_start words a + i) ≡ slice_index s.memory (array_start words a + i)
+    one-kept a i below other =
+        elim (cases_eq (number a) (number target)) [
+          | inl same ↦
+              let there : to ≡ array_start words a =
+              start-is words target ∙ ap (λ k. k * words) (sym same) ∙ sym (start-is words a) in
+              subst (λ start. slice_index next.memory (start + i) ≡ slice_index s.memory (start + i)) there
+              (other-owner i below other)
+          | inr differs ↦ other-array a i below differs
+        ]
 
-    one-kept : (a : Array) (i : ℕ) → i < c.size → owner i ≢ q → slice_index next.memory (array_start words a + i) ≡ slice_index s.memory (array_start words a + i)
-    one-kept a i below other = by_array a target (other-array a i below) (other-owner i below other)
-      where
-        by_array : (a b : Array) → (IsOther a b → slice_index next.memory (array_start words a + i) ≡ slice_index s.memory (array_start words a + i)) →
-            (slice_index next.memory (array_start words b + i) ≡ slice_index s.memory (array_start words b + i)) →
-            slice_index next.memory (array_start words a + i) ≡ slice_index s.memory (array_start words a + i)
-        by_array X X f g = g
-        by_array X Y f g = f (λ e. absurd (omega (arith, e)))
-        by_array X A f g = f (λ e. absurd (omega (arith, e)))
-        by_array X B f g = f (λ e. absurd (omega (arith, e)))
-        by_array Y X f g = f (λ e. absurd (omega (arith, e)))
-        by_array Y Y f g = g
-        by_array Y A f g = f (λ e. absurd (omega (arith, e)))
-        by_array Y B f g = f (λ e. absurd (omega (arith, e)))
-        by_array A X f g = f (λ e. absurd (omega (arith, e)))
-        by_array A Y f g = f (λ e. absurd (omega (arith, e)))
-        by_array A A f g = g
-        by_array A B f g = f (λ e. absurd (omega (arith, e)))
-        by_array B X f g = f (λ e. absurd (omega (arith, e)))
-        by_array B Y f g = f (λ e. absurd (omega (arith, e)))
-        by_array B A f g = f (λ e. absurd (omega (arith, e)))
-        by_array B B f g = g
-
-    written-read : (i : ℕ) → MayRead target q i → owner i ≡ q
-    written-read i may = by_target target not-first may
-      where
-        by_target : (b : Array) → IsOther X b → MayRead b q i → owner i ≡ q
-        by_target X other m = absurd (other refl)
-        by_target Y other m = m
-        by_target A other m = m
-        by_target B other m = m
-
-    holds-next : (k : ℕ) → length ps ≡ suc k → Holds ps (suc t) target q made next
-    holds-next k more =
+    holds-next : Holds ps (suc t) target q made next
+    holds-next =
         record {
           memory = length-memory c.modulus c.lanes (pass_acts c p from to q) s ∙ h.memory;
           registers =
               let same = length-registers c.modulus c.lanes (pass_acts c p from to q) s in
               let most = h.registers in
-              let rest : most_of c ps * c.lanes ≤ max (pass_registers c.modulus p) (most_of c ps) * c.lanes = mul-le-mul_right c.lanes (le-max_right (pass_registers c.modulus p) (most_of c ps)) in
+              let rest : most_of c ps * c.lanes ≤ max (pass_registers c.modulus p) (most_of c ps) * c.lanes =
+              mul-le-mul_right c.lanes (le-max_right (pass_registers c.modulus p) (most_of c ps)) in
               omega arith;
-          held = λ i below may. own-stored i below (written-read i may);
+          held = λ i below may. own-stored i below (read-own target q i (target-other t (after + length ps)) may);
           residues = made-residues c p known.runs x;
-          other = λ some. other-next;
+          other = λ some.
+              let more : after + length ps ≡ suc (after + length ps - 1) = omega (arith, some) in
+              subst (λ (n : ℕ). IsOther (written_array t n) (written_array (suc t) (after + length ps - 1))) (sym more)
+              (next-other t (after + length ps - 1) (after + length ps - 1));
         }
-      where
-        other-next : IsOther target (written_array (suc t) (after + length ps - 1))
-        other-next =
-            let is : after + length ps ≡ suc (after + k) = omega (arith, more) in
-            subst (λ (n : ℕ). IsOther (written_array t n) (written_array (suc t) (after + length ps - 1))) (sym is) (next-other t (after + k) (after + length ps - 1))
 
   -- all parts of a processor
-  pub parts-leave : (ps : List Pass) (t : ℕ) (source : Array) (q : ℕ) (x : List ℕ) (s : Local) → q < c.procs → AllKnown c ps → Owned ps t source → Holds ps t source q x s →
+  pub parts-leave : (ps : List Pass) (t : ℕ) (source : Array) (q : ℕ) (x : List ℕ) (s : Local) → q < c.procs →
+      AllKnown c ps → Owned ps t source → Holds ps t source q x s →
       Left ps t source q x s (effects c.modulus c.lanes (passes_acts c words after ps t source q) s)
   parts-leave [] t source q x s low known owned h =
       record { stored = λ i below own. h.held i below (own-read source q i own); kept = λ a i below other. refl; first = λ i below. refl }
-  parts-leave (p ∷ []) t source q x s low known owned h =
-      let target = written_array t (after + 0) in
-      let alone : effects c.modulus c.lanes (passes_acts c words after (p ∷ []) t source q) s ≡ next p [] t source q low x s known.0 owned.0 owned.1 h =
-      lists_follow c.modulus c.lanes (pass_acts c p (array_start words source) (array_start words target) q) [] s in
-      subst (Left (p ∷ []) t source q x s) (sym alone)
-      (record {
-        stored = own-stored p [] t source q low x s known.0 owned.0 owned.1 h;
-        kept = one-kept p [] t source q low x s known.0 owned.0 owned.1 h;
-        first = λ i below. other-array p [] t source q low x s known.0 owned.0 owned.1 h X i below (not-first p [] t source q low x s known.0 owned.0 owned.1 h);
-      })
-  parts-leave (p ∷ r ∷ ps) t source q x s low known owned h =
-      let more = r ∷ ps in
-      let target = written_array t (after + length more) in
-      let middle = next p more t source q low x s known.0 owned.0 owned.1 h in
-      let rest = parts-leave (r ∷ ps) (suc t) target q (nests_on c.modulus c.size p x) middle low known.1 owned.2 (holds-next p more t source q low x s known.0 owned.0 owned.1 h (length ps) refl) in
-      let follow : effects c.modulus c.lanes (passes_acts c words after (p ∷ more) t source q) s ≡ effects c.modulus c.lanes (passes_acts c words after more (suc t) target q) middle =
-      lists_follow c.modulus c.lanes (pass_acts c p (array_start words source) (array_start words target) q) (passes_acts c words after more (suc t) target q) s in
-      subst (Left (p ∷ more) t source q x s) (sym follow)
+  parts-leave (p ∷ ps) t source q x s low known owned h =
+      let target = written_array t (after + length ps) in
+      let middle = next p ps t source q low x s known.0 owned.0 owned.1 h in
+      let rest =
+      parts-leave ps (suc t) target q (nests_on c.modulus c.size p x) middle low known.1 owned.2
+      (holds-next p ps t source q low x s known.0 owned.0 owned.1 h) in
+      let follow : effects c.modulus c.lanes (passes_acts c words after (p ∷ ps) t source q) s
+      ≡ effects c.modulus c.lanes (passes_acts c words after ps (suc t) target q) middle =
+      lists_follow c.modulus c.lanes (pass_acts c p (array_start words source) (array_start words target) q)
+      (passes_acts c words after ps (suc t) target q) s in
+      subst (Left (p ∷ ps) t source q x s) (sym follow)
       (record {
         stored = rest.stored;
-        kept = λ a i below other. rest.kept a i below other ∙ one-kept p more t source q low x s known.0 owned.0 owned.1 h a i below other;
-        first = λ i below. rest.first i below ∙ other-array p more t source q low x s known.0 owned.0 owned.1 h X i below (not-first p more t source q low x s known.0 owned.0 owned.1 h);
+        kept = λ a i below other.
+            rest.kept a i below other
+            ∙ one-kept p ps t source q low x s known.0 owned.0 owned.1 h a i below other;
+        first = λ i below.
+            rest.first i below
+            ∙ other-array p ps t source q low x s known.0 owned.0 owned.1 h X i below
+            (target-other t (after + length ps));
       })

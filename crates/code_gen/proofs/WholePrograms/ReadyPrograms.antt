@@ -1,42 +1,34 @@
 -- A program can be made of passes that are ready.
-use Rattle.std.proofs.Common.{◌≡◌, ℕ, suc, ◌+◌, ◌^◌, ◌<◌, ◌≤◌, Bool, true, false, arith, refl, sym, ap, ◌∙◌, List, [], ◌∷◌, ◌++◌, length, All, subst, if◌then◌else◌}
+use Rattle.std.proofs.Common.{◌≡◌, ℕ, ◌+◌, ◌≤◌, arith, List, []}
+use Rattle.std.proofs.Common.{◌∷◌, ◌++◌, length}
 use Rattle.std.specs.Prelude.{Option, Some, None}
 use Rattle.std.proofs.lemmas.List.Elements.{All-weaker}
 use Rattle.operators.specs.declared.target.Target.{Target}
 use Rattle.sigma_spl.specs.Merged.{PlainMerged}
 use Rattle.sigma_spl.specs.Nest.{PlainMultiplier, PlainNest}
 use Rattle.sigma_spl.specs.Shared.Owners.{all_passes}
-use Rattle.sigma_spl.specs.Shared.Ready.{IsReady, IsReadyPass, diagonal_tables, nests_tables, passes_tables, work_tables}
-use Rattle.sigma_spl.specs.Work.{PlainWork, kernel, rows, horner, tile, copy}
+use Rattle.sigma_spl.specs.Shared.Ready.{IsReady, IsReadyPass, diagonal_tables, nests_tables, passes_tables}
+use Rattle.sigma_spl.specs.Shared.Ready.{work_tables}
+use Rattle.sigma_spl.specs.Work.{PlainWork, rows, horner}
 use Rattle.code_gen.proofs.PassCode.ReadyNests.{ready_can_write}
+use Rattle.code_gen.proofs.PassCode.SharedTables.{with_table-length}
 use Rattle.code_gen.specs.PassCode.Conditions.{CanWritePass}
 use Rattle.code_gen.specs.PassCode.Contract.{CanProgram}
 use Rattle.code_gen.specs.PassCode.Program.{tables_of_phases, tables_through}
-use Rattle.code_gen.specs.PassCode.Statements.{diagonal_of, is_table, one_factor, powers_of, tables_after, tables_of_multiplier, tables_of_nest, tables_of_work, with_diagonal, with_table}
+use Rattle.code_gen.specs.PassCode.Statements.{diagonal_of, one_factor, powers_of, tables_after}
+use Rattle.code_gen.specs.PassCode.Statements.{tables_of_multiplier, tables_of_nest, tables_of_work, with_diagonal}
 
 -- ---- the tables of passes: powers and diagonals
 
-grown-pick : (b : Bool) (table : List ℕ) (tables more : List (List ℕ)) → length more ≤ suc (length tables) →
-    length (if b then table ∷ tables else table ∷ more) ≤ suc (suc (length tables))
-grown-pick true table tables more h = omega arith
-grown-pick false table tables more h = omega (arith, h)
-
-with-grown : (tables : List (List ℕ)) (entries : List ℕ) → length (with_table tables entries) ≤ suc (length tables)
-with-grown [] entries = omega arith
-with-grown (table ∷ tables) entries =
-    grown-pick (is_table table entries) table tables (with_table tables entries) (with-grown tables entries)
-
 work-grown : (m : ℕ) (w : PlainWork) (tables : List (List ℕ)) →
     length (tables_of_work m w tables) ≤ length tables + work_tables w
-work-grown m (kernel trees) tables = omega arith
-work-grown m (rows root size) tables = let more = with-grown tables (powers_of m root size) in omega (arith, more)
-work-grown m (horner root size) tables = let more = with-grown tables (powers_of m root size) in omega (arith, more)
-work-grown m (tile lanes) tables = omega arith
-work-grown m (copy size) tables = omega arith
+work-grown m (rows root size) tables = let more = with_table-length tables (powers_of m root size) in omega (arith, more)
+work-grown m (horner root size) tables = let more = with_table-length tables (powers_of m root size) in omega (arith, more)
+work-grown m _ tables = omega arith
 
 diagonal-grown : (o : Option ℕ) (tables : List (List ℕ)) (entries : List ℕ) →
     length (with_diagonal o tables entries) ≤ length tables + 1
-diagonal-grown None tables entries = let more = with-grown tables entries in omega (arith, more)
+diagonal-grown None tables entries = let more = with_table-length tables entries in omega (arith, more)
 diagonal-grown (Some value) tables entries = omega arith
 
 multiplier-grown : (m : ℕ) (o : Option PlainMultiplier) (tables : List (List ℕ)) →

@@ -1,18 +1,19 @@
 -- Each word of the array is stored by a processor.
-use Rattle.std.proofs.Common.{◌≡◌, ◌≢◌, ℕ, zero, suc, ◌%◌, ◌<◌, ◌≤◌, Bool, true, false, refl, List, [], ◌∷◌, ◌++◌, map, sym, ◌∙◌, arith, subst, inl, inr, mod-lt, Contains, if◌then◌else◌}
+use Rattle.std.proofs.Common.{◌≡◌, ◌≢◌, ℕ, zero, suc, ◌<◌, ◌≤◌, refl, List, [], ◌∷◌, ◌++◌, map}
+use Rattle.std.proofs.Common.{sym, ap, ◌∙◌, arith, subst, inl, inr, Contains, if◌then◌else◌}
 use Rattle.std.specs.Prelude.{slice_index, ◌==◌}
 use Rattle.std.proofs.lemmas.Bool.{cases_eq, cases_lt}
 use Rattle.std.proofs.lemmas.Bool.Decides.{nat_tests}
 use Rattle.icode.specs.CodeLaws.Nests as nests
 use Rattle.operators.specs.Sum.{sum_below}
-use Rattle.operators.proofs.Lists.{at-list_below}
 use Rattle.icode.proofs.Lines.{Contains-head, Contains-tail}
 use Rattle.sigma_spl.specs.Shared.Running.{CanRun, IsStoredBy}
 use Rattle.operators.specs.declared.target.Target.{Target}
 use Rattle.sigma_spl.specs.Shared.Machine.{framed_lanes, if_several}
-use Rattle.code_gen.proofs.PassActions.Copies.{nest-can}
-use Rattle.code_gen.proofs.PassActions.Framed.{in_counts}
-use Rattle.sigma_spl.specs.Copies.{loops_of, hits, all_stored}
+use Rattle.sigma_spl.proofs.Walk.{nests-vector}
+use Rattle.code_gen.proofs.PassActions.Copies.{modulus-some, nest-can}
+use Rattle.code_gen.proofs.PassActions.Framed.{first_value, in_counts, under-several}
+use Rattle.sigma_spl.specs.Copies.{loops_of, hits}
 use Rattle.sigma_spl.specs.Nest.{PlainNest, copies_of, store_place, nests_on}
 use Rattle.sigma_spl.specs.Work.{work_size}
 use Rattle.operators.specs.TensorPaths.Loop.{nest_sum, loop_at}
@@ -45,13 +46,15 @@ pub record IsHit (z : PlainNest) (w : ℕ) : Type 0 where
   pub below : item < work_size z.work
   pub there : store_place z.work z.scatters values item ≡ w
 
-hit-of : (m : ℕ) (z : PlainNest) (w : ℕ) → 1 ≤ loop_at (loops_of z.counts) (copies_of m z).size (copies_of m z).to (λ vs k. 1) w → IsHit z w
+hit-of : (m : ℕ) (z : PlainNest) (w : ℕ) → 1 ≤ loop_at (loops_of z.counts)
+    (copies_of m z).size (copies_of m z).to (λ vs k. 1) w → IsHit z w
 hit-of m z w some =
     let copy = some-values (loops_of z.counts) _ some in
     let item = some-term (work_size z.work) _ copy.2 in
     record { values = copy.0; item = item.0; in_range = copy.1; below = item.1; there = test-met _ w item.2 }
 
-pass-hit : (m : ℕ) (zs : List PlainNest) (w : ℕ) → 1 ≤ hits (map (copies_of m) zs) w → (z : PlainNest) × Contains zs z × IsHit z w
+pass-hit : (m : ℕ) (zs : List PlainNest) (w : ℕ) → 1 ≤ hits (map (copies_of m) zs) w →
+    (z : PlainNest) × Contains zs z × IsHit z w
 pass-hit m [] w some = absurd (omega arith)
 pass-hit m (z ∷ zs) w some =
     elim (cases_lt 0 (loop_at (loops_of z.counts) (copies_of m z).size (copies_of m z).to (λ vs k. 1) w)) [
@@ -61,16 +64,12 @@ pass-hit m (z ∷ zs) w some =
 
 -- ---- its processor
 
-head-below : (n : ℕ) (counts vs : List ℕ) → n ≢ 1 → nests.AreInRange (if_several n n ++ counts) vs → slice_index vs 0 < n
-head-below n counts vs several range = by_test (n == 1) (grind (arith, nat_tests)) range
-  where
-    head : (us : List ℕ) → nests.AreInRange (n ∷ counts) us → slice_index us 0 < n
-    head [] r = absurd r
-    head (v ∷ us) r = r.0
-
-    by_test : (b : Bool) → b ≡ false → nests.AreInRange ((if b then [] else n ∷ []) ++ counts) vs → slice_index vs 0 < n
-    by_test true e r = absurd (grind (arith, e))
-    by_test false e r = head vs r
+head-below : (n : ℕ) (counts vs : List ℕ) → n ≢ 1 → nests.AreInRange (if_several n n ++ counts) vs →
+    slice_index vs 0 < n
+head-below n counts vs several range =
+    let first = under-several n counts vs range in
+    subst (λ v. v < n) (sym (ap (λ us. slice_index us 0) first.joined ∙ first_value n first.value first.rest several))
+    first.below
 
 module _ (c : Target) (zs : List PlainNest) (can : CanRun c zs) where
   pub stored-by : (w : ℕ) → w < c.size → 0 < c.procs → (q : ℕ) × (q < c.procs) × IsStoredBy c zs q w
@@ -95,12 +94,12 @@ module _ (c : Target) (zs : List PlainNest) (can : CanRun c zs) where
       ]
 
   -- a word that belongs to a processor is stored by it
-  pub stored-own : (owner : ℕ → ℕ) → ((q w : ℕ) → q < c.procs → IsStoredBy c zs q w → owner w ≡ q) → (q w : ℕ) → q < c.procs → w < c.size → owner w ≡ q → IsStoredBy c zs q w
+  pub stored-own : (owner : ℕ → ℕ) → ((q w : ℕ) → q < c.procs → IsStoredBy c zs q w → owner w ≡ q) → (q w : ℕ) →
+      q < c.procs → w < c.size → owner w ≡ q → IsStoredBy c zs q w
   stored-own owner owns q w low below own =
       let found = stored-by w below (omega arith) in
       subst (λ r. IsStoredBy c zs r w) (sym (owns found.0 w found.1 found.2) ∙ own) found.2
 
   -- what a pass leaves are residues
   pub made-residues : (x : List ℕ) (i : ℕ) → i < c.size → slice_index (nests_on c.modulus c.size zs x) i < c.modulus
-  made-residues x i below =
-      subst (λ v. v < c.modulus) (sym (at-list_below c.size (λ w. all_stored (map (copies_of c.modulus) zs) x w % c.modulus) i below)) (mod-lt (all_stored (map (copies_of c.modulus) zs) x i) (let large = can.modulus in omega arith))
+  made-residues x = (nests-vector c.modulus c.size zs x (modulus-some c zs can)).residues

@@ -15,7 +15,7 @@ use Rattle.code_gen.specs.PassCode.Program.{program_of, tables_of_phases, tables
 use Rattle.code_gen.specs.PassCode.Statements.{diagonal_of, followed_by, is_table, multiplier_number, pass_body}
 use Rattle.code_gen.specs.PassCode.Statements.{powers_number, table_number, tables_after, tables_of_multiplier}
 use Rattle.code_gen.specs.PassCode.Statements.{tables_of_work, with_table}
-use Rattle.code_gen.proofs.PassCode.NestEmits.{extends-more}
+use Rattle.code_gen.proofs.PassCode.SharedTables.{extends-more}
 use Rattle.code_gen.proofs.PassCode.SharedTables.{Extends, is_table-Decides, with_table-extends}
 use Rattle.icode.specs.Plain.{PlainBody, PlainProgram, body_of}
 use Rattle.icode.specs.declared.program.Array.{Array}
@@ -91,7 +91,7 @@ number-before (t ∷ ts) e more = by (number-before ts e more) (is_table t e) re
 all-extend : (ts xs : List (List ℕ)) → Extends (fold with_table ts xs) ts
 all-extend ts [] = record { last = []; is = sym (append-nil ts) }
 all-extend ts (x ∷ xs) =
-    extends-more _ (with_table ts x) ts (all-extend (with_table ts x) xs) (with_table-extends ts x)
+    extends-more (all-extend (with_table ts x) xs) (with_table-extends ts x)
 
 found : (ts : List (List ℕ)) (e : List ℕ) (xs : List (List ℕ)) →
     table_number ts e ≡ table_number (fold with_table (with_table ts e) xs) e

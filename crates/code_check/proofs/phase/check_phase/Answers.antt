@@ -12,7 +12,8 @@ use Rattle.code_check.specs.Uses.{first_sharing}
 use Rattle.code_check.specs.Walk.{walked}
 use Rattle.std.specs.Prelude.{◌==◌}
 use Rattle.code_check.proofs.Lives.{no_lives}
-use Rattle.code_check.proofs.Phases.{IsPhaseSoFar, limits_of, live_steps, live_within, idle_phase, body_is_short, phase_goes_on, phase_stops, phase_ends}
+use Rattle.code_check.proofs.Phases.{IsPhaseSoFar, limits_of, live_steps, live_within, idle_phase, body_is_short}
+use Rattle.code_check.proofs.Phases.{phase_goes_on, phase_stops, phase_ends}
 use Rattle.code_check.proofs.Tables.{table_length}
 use Rattle.code_check.proofs.phase.check_phase.Goals as goal
 

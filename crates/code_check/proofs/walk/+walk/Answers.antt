@@ -5,7 +5,8 @@ use Rattle.code_check.specs.declared.live.Live.{Live}
 use Rattle.code_check.specs.Live.{plain_live, plain_lives}
 use Rattle.code_check.specs.Walk.{Stopped, walked}
 use Rattle.code_check.proofs.Lives.{plain_live-Loop}
-use Rattle.code_check.proofs.Walking.{body_goes_on, body_stops, next_live, loop_goes_on, loop_stops, open_now, within_loop, without_variable}
+use Rattle.code_check.proofs.Walking.{body_goes_on, body_stops, next_live, loop_goes_on, loop_stops, open_now}
+use Rattle.code_check.proofs.Walking.{within_loop, without_variable}
 use Rattle.code_check.proofs.walk.+walk.Goals as goal
 
 pub walk_body-returns-in_err-walk_stmt-clause-walk : goal.walk_body-returns-in_err-walk_stmt-clause-walk
@@ -67,6 +68,7 @@ walk_stmt-loop-turn-preserved t c =
           c.walk_body.new.count c.walk_body.new.lines c.loop-turn-test.true inv.walk passed;
     }
 
-pub walk_stmt-returns-in_err-walk_body-in-Loop-clause-values : goal.walk_stmt-returns-in_err-walk_body-in-Loop-clause-values
+pub walk_stmt-returns-in_err-walk_body-in-Loop-clause-values
+    : goal.walk_stmt-returns-in_err-walk_body-in-Loop-clause-values
 walk_stmt-returns-in_err-walk_body-in-Loop-clause-values t c =
     without_variable c.walk_body.new.values c.loop-turn.values c.args.depth c.loop-turn.turn c.in_err-walk_body-in-Loop.ensures.values ∙ c.loop-turn.invariant.values

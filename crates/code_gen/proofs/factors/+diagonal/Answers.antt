@@ -12,26 +12,22 @@ use Rattle.code_gen.proofs.Diagonals.{diagonal-size, spread-is, values-are}
 use Rattle.code_gen.proofs.factors.+diagonal.Goals as goal
 
 -- the size of the whole, where these are the path and the entries that are spread
-whole-is : (m : ℕ) (value factors : Factors) (path ps : Path) (inner xs : List ℕ) → factors ≡ value → ps ≡ path → xs ≡ inner → inner ≡ diagonal_of m (plain_factors factors) →
+whole-is : (m : ℕ) (value factors : Factors) (path ps : Path) (inner xs : List ℕ) → factors ≡ value → ps ≡ path →
+    xs ≡ inner → inner ≡ diagonal_of m (plain_factors factors) →
     size_under path (factor_count (plain_factors value)) ≡ size_under ps (length xs)
 whole-is m value factors path ps inner xs is same taken made =
     ap₂ size_under (sym same) (ap (λ (fs : Factors). factor_count (plain_factors fs)) (sym is) ∙ sym (ap length taken ∙ diagonal-size m (plain_factors factors) inner made))
 
-pub spread-requires-clause-some : goal.spread-requires-clause-some
-spread-requires-clause-some t c =
-    let can : CanList (spread c.in-Spread.path.items (plain_factors c.in-Spread.factors.value)) = subst (λ (fs : Factors). CanList (plain_factors fs)) c.in-Spread.is c.requires in
-    subst (λ n. 0 < n)
-    (whole-is c.args.modulus.now c.in-Spread.factors.value c.deref-in-Spread.result.now c.in-Spread.path.items c.deref-in-Spread-2.result.now c.in_ok-inner-in-Spread.inner.items c.deref-in-Spread-3.result.now
-    c.deref-in-Spread.ensures c.deref-in-Spread-2.ensures.value c.deref-in-Spread-3.ensures.value c.in_ok-inner-in-Spread.ensures)
-    can.1
-
-pub spread-requires-clause-small : goal.spread-requires-clause-small
-spread-requires-clause-small t c =
-    let can : CanList (spread c.in-Spread.path.items (plain_factors c.in-Spread.factors.value)) = subst (λ (fs : Factors). CanList (plain_factors fs)) c.in-Spread.is c.requires in
-    subst (λ n. n < 2 ^ 32)
-    (whole-is c.args.modulus.now c.in-Spread.factors.value c.deref-in-Spread.result.now c.in-Spread.path.items c.deref-in-Spread-2.result.now c.in_ok-inner-in-Spread.inner.items c.deref-in-Spread-3.result.now
-    c.deref-in-Spread.ensures c.deref-in-Spread-2.ensures.value c.deref-in-Spread-3.ensures.value c.in_ok-inner-in-Spread.ensures)
-    can.2
+pub spread-requires : goal.spread-requires
+spread-requires t c =
+    let can : CanList (spread c.in-Spread.path.items (plain_factors c.in-Spread.factors.value)) =
+    subst (λ (fs : Factors). CanList (plain_factors fs)) c.in-Spread.is c.requires in
+    let whole =
+    whole-is c.args.modulus.now c.in-Spread.factors.value c.deref-in-Spread.result.now c.in-Spread.path.items
+    c.deref-in-Spread-2.result.now c.in_ok-inner-in-Spread.inner.items c.deref-in-Spread-3.result.now
+    c.deref-in-Spread.ensures c.deref-in-Spread-2.ensures.value c.deref-in-Spread-3.ensures.value
+    c.in_ok-inner-in-Spread.ensures in
+    record { some = subst (λ n. 0 < n) whole can.1; small = subst (λ n. n < 2 ^ 32) whole can.2 }
 
 pub returns-in_ok-entries-in-Values : goal.returns-in_ok-entries-in-Values
 returns-in_ok-entries-in-Values t c =

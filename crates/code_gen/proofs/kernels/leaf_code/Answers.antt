@@ -1,6 +1,6 @@
 use Rattle.std.proofs.Common.{ℕ, ◌-◌, ◌∙◌, ap, sym, subst}
 use Rattle.matrix_meaning.specs.declared.Kind.{Kind}
-use Rattle.matrix_meaning.specs.declared.Kind.TheVariants.{Dft, Wht}
+use Rattle.matrix_meaning.specs.declared.Kind.TheVariants.{Dft}
 use Rattle.tree_model.specs.Breakdown.{leaf, AllowsLeaf}
 use Rattle.kernel_gen.specs.Kernel.{kernel_of}
 use Rattle.code_gen.proofs.KernelCodes.{hadamard_code}
