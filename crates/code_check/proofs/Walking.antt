@@ -43,7 +43,7 @@ module _ (p : PlainProgram) (q : ℕ) where
       let v : List LineUse = noted p q s t in
       passed_after (judged p s) n m u (walked p q xs (n + 1) v) (walked p q (xs ++ ys) (n + 1) v) (walked p q ys m u) (passed_on xs ys (n + 1) m v u) e
 
-  -- where steps stop a walk, so they do with others behind them
+  -- where steps stop a walk, so they do with others after them
   pub stopped_on : (xs ys : List Step) (n m : ℕ) (t : List LineUse) (o : Offence) → walked p q xs n t ≡ Stopped m o →
       walked p q (xs ++ ys) n t ≡ Stopped m o
   stopped_on [] ys n m t o e = cc
@@ -106,7 +106,7 @@ next_live items i x lt e =
 pub no_live : (items : List Live) (i : ℕ) → length items ≤ i → plain_lives (drop i items) ≡ NoStmts
 no_live items i past = ap plain_lives (drop_all i items past)
 
--- a walk over a loop, of which so many turns are walked
+-- a walk over a loop, of which `turn` turns are walked
 pub record IsInLoop (p : PlainProgram) (q : ℕ) (s : PlainStmt) (body : PlainBody) (vs : List ℕ) (turn end n n0 : ℕ) (t t0 : List LineUse) : Type 0 where
   pub leads : walked p q (flat_map (λ i. steps_of_body p body (vs ++ i ∷ []) q) (range_with_len turn (end - turn))) n t
       ≡ walked p q (steps_of_stmt p s vs q) n0 t0
@@ -173,7 +173,7 @@ within_loop m depth count body s e h =
     let parts = both_true (is_small_positive count) _ (sym (ap (λ z. is_stmt_within m z depth) e) ∙ h) in
     let more = both_true (nat_lt depth 64) _ parts.1 in (ltb-true depth 64 more.0, more.1)
 
--- a loop's variable behind the values of the loops around it
+-- a loop's variable after the values of the loops around it
 pub open_now : (values before : List ℕ) (depth turn : ℕ) → depth < length values →
     take depth values ≡ take depth before → take (depth + 1) (slice_set values depth turn) ≡ take depth before ++ turn
     ∷ []

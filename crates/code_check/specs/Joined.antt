@@ -1,4 +1,4 @@
--- Statements behind statements.
+-- Statements after statements.
 use Rattle.icode.specs.Plain.{PlainBody, NoStmts, AndStmts}
 
 abbrev pub joined : PlainBody → PlainBody → PlainBody

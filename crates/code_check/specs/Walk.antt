@@ -36,7 +36,7 @@ abbrev pub goes_on : Option Offence → ℕ → Walk → Walk
 goes_on None count rest = rest
 goes_on (Some offence) count rest = Stopped count offence
 
--- a walk over steps of processor q, after so many, with this table of lines
+-- a walk over steps of processor q, given how many were walked before, with this table of lines
 abbrev pub walked : PlainProgram → ℕ → List Step → ℕ → List LineUse → Walk
 walked p q [] count table = Passed count table
 walked p q (s ∷ steps) count table = goes_on (judged p s) count (walked p q steps (count + 1) (noted p q s table))

@@ -11,7 +11,7 @@ pub const STEP_LIMIT: u64 = 100_000_000;
 /// Why a program is refused.
 #[derive(Clone, Copy, PartialEq, Eq, Debug, Error)]
 pub enum CheckFault {
-    /// It has more actions than so many.
+    /// It has more actions than the limit.
     #[error("more than {limit} actions")]
     OverSteps {
         limit: u64,

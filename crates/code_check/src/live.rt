@@ -16,7 +16,7 @@ pub(crate) enum Live<'a> {
     Do(&'a Op),
 }
 
-// Puts the statement behind the others, if it holds an action.
+// Puts the statement after the others, if it holds an action.
 #[cycle(live)]
 fn keep<'a>(alloc: Global, stmt: &'a Stmt, kept: &mut Vec<Live<'a>>) -> Result<(), NoMemory>
     ensures { OnOk result (plain_lives kept.new.items

@@ -85,7 +85,7 @@ module _ (h : Target) (nests : List Nest) (i : ℕ) (z : Nest) (tables : List (L
 
 -- ---- passes in a row
 
--- the statements of the first pass behind those that are there, and then those of the others
+-- the statements of the first pass after those that are there, and then those of the others
 pub first_and_more : (h : Target) (after_them : ℕ) (zs : List PlainNest) (ps all : List (List PlainNest)) (number : ℕ)
     (tables after : List (List ℕ)) (source target : Array) (before first whole : List Stmt) (final : PlainBody) →
     all ≡ zs ∷ ps → target ≡ written_array number (after_them + length ps) →
@@ -104,7 +104,7 @@ first_and_more h after_them zs ps all number tables after source target before f
     ∙ ap (λ (a : Array). followed_by (pass_body h zs tables source a) (phase_body h after_them ps (suc number) (tables_after h.modulus zs tables) a)) to
     ∙ ap (λ (qs : List (List PlainNest)). phase_body h after_them qs number tables source) (sym is))
 
--- no passes, and so nothing behind those that are there
+-- no passes, and so nothing after those that are there
 pub put_none : (h : Target) (after number : ℕ) (passes : List (Vec Nest Global)) (tables : List (List ℕ))
     (source : Array) (xs : PlainBody) → length passes ≡ 0 →
     xs ≡ followed_by xs (phase_body h after (plain_passes passes) number tables source)

@@ -38,7 +38,7 @@ abbrev pub IsFramed : Host → Nest → Site → Type 0
 IsFramed host nest site =
     plain_frame site.frame ≡ frame_of (plain_host host) (plain_nest nest).work
 
--- so many of the first registers are loaded
+-- a number of the first registers are loaded
 abbrev pub loads_at : Site → Nest → ℕ → PlainBody
 loads_at site nest count =
     loads_body (plain_frame site.frame) (plain_nest nest) site.open_loops count site.source
@@ -67,7 +67,7 @@ copied_at site nest number =
     let place = place_at (plain_frame site.frame) site.open_loops z.gathers number in
     AndStmts (Do (Load 0 site.source place)) (stored_at site 0 nest number 0 1)
 
--- so many items, one after the other
+-- a number of items, one after the other
 abbrev pub copies_at : Site → Nest → ℕ → PlainBody
 copies_at site nest size =
     let f = plain_frame site.frame in
@@ -87,7 +87,7 @@ kernel_at site nest made =
     let code = made_of made in
     made_body f z site.open_loops made.inputs code site.table site.source site.target
 
--- the registers that a tile of so many leaves are stored; those after them are free
+-- the registers that a tile leaves are stored; those after them are free
 abbrev pub tile_stores_at : Site → Nest → ℕ → PlainBody
 tile_stores_at site nest lanes =
     in_a_row lanes (λ k. stored_at site 1 nest k (lanes + k) (lanes + lanes + k))
@@ -98,7 +98,7 @@ tile_at site nest lanes =
     let f = plain_frame site.frame in
     tile_body f (plain_nest nest) site.open_loops lanes site.table site.source site.target
 
--- for each of so many rows, register 0 is zero, takes as many turns, and is stored
+-- for each of a number of rows, register 0 is zero, takes as many turns, and is stored
 abbrev pub rows_at : Site → Nest → ℕ → PlainBody → PlainBody
 rows_at site nest size turn =
     let f = plain_frame site.frame in

@@ -50,7 +50,7 @@ abbrev pub CanEmitPhases : Target → List (List (List PlainNest)) → Type 0
 CanEmitPhases h [] = Unit {0}
 CanEmitPhases h (ps ∷ more) = CanEmitAll h ps × CanEmitPhases h more
 
--- the machine of merged passes, for residues of a modulus and lines of so many words
+-- the machine of merged passes, for residues of a modulus and lines of a number of words
 abbrev pub machine_for : ℕ → ℕ → PlainMerged → Target
 machine_for modulus line g =
     record { size = g.size; modulus = modulus; procs = g.procs; line = line; lanes = g.lanes }

@@ -1,4 +1,4 @@
--- Nests, passes and phases in a row: their statements, behind these tables, and their registers.
+-- Nests, passes and phases in a row: their statements, after these tables, and their registers.
 use Rattle.std.specs.Prelude.{ℕ, List, map, Vec}
 use Rattle.std.proofs.Common.{Global}
 use Rattle.icode.specs.Plain.{PlainBody}

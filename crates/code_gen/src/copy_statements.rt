@@ -44,7 +44,7 @@ fn put_copy(
     Ok(())
 }
 
-/// The statements of so many copies: each item goes by way of register 0.
+/// The statements of copies: each item goes by way of register 0.
 pub(crate) fn statements_of_copies(
     alloc: Global,
     nest: &Nest,

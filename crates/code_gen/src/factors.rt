@@ -16,7 +16,7 @@ use ring_mod::Modulus;
 use sigma_spl::Factors;
 use std::alloc::Global;
 
-// The twiddle factors of so many columns.
+// The twiddle factors of a number of columns.
 fn twiddles(
     alloc: Global,
     modulus: &Modulus,
@@ -76,7 +76,7 @@ fn spread(alloc: Global, path: &[Tensor], inner: &[u64]) -> Result<Vec<u64>, NoM
     Ok(items)
 }
 
-// A factor, so many times.
+// A factor, `count` times.
 fn repeated(alloc: Global, factor: u64, count: u64) -> Result<Vec<u64>, NoMemory>
     ensures { IfOk result (λ y. y.items ≡ list_below count (λ _. factor)) }
 {

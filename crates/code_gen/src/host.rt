@@ -7,7 +7,7 @@ ghost use Rattle.code_gen.specs.Views.{plain_frame, plain_host};
 use ring_mod::Modulus;
 use sigma_spl::Work;
 
-/// A machine: so many words in an array, residues of this modulus, so many processors, words of a line and lanes of a
+/// A machine: the words of an array, residues of a modulus, the processors, the words of a line and the lanes of a
 /// register.
 #[derive(Drop)]
 pub(crate) struct Host {

@@ -115,7 +115,7 @@ fn put_multiplied(
 }
 
 /// Appends the store of an item, multiplied where the nest has a diagonal. The factors of two lanes that lie side by
-/// side stand so many steps apart.
+/// side stand `step` steps apart.
 pub(crate) fn put_output(
     alloc: Global,
     out: &mut Vec<Stmt>,

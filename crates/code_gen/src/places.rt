@@ -14,7 +14,7 @@ use memory::NoMemory;
 use perm_algebra::Affine;
 use std::alloc::Global;
 
-/// The expression of a sum of variables that the frame tells apart, where so many loops are open: the constant, the
+/// The expression of a sum of variables that the frame tells apart, inside `open_loops` loops: the constant, the
 /// processor, the variables of the loops by rising depth, each with its parts added up, and then the remainders and the
 /// quotients. The lane is left out, so that the place is that of the first lane.
 #[cycle(place)]
@@ -188,7 +188,7 @@ fn with_processor(frame: Frame, sum: &Affine, others: Vec<Part>) -> Result<Vec<P
     Ok(parts)
 }
 
-// The factor of a variable that stands so far behind the first one, all its parts together.
+// The factor of a variable that stands so far after the first one, all its parts together.
 fn factor_of(sum: &Affine, first: u64, behind: u64) -> u64
     requires { CanWrite (plain_sum sum.now) }
     ensures { result ≡ factor_at (first + behind) (plain_sum sum.now) }

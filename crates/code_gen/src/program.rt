@@ -29,7 +29,7 @@ struct EmittedPhases {
     registers: u64,
 }
 
-/// Where passes in a row begin: the first has this number and reads the source, and so many passes come after the last.
+/// Where passes in a row begin: the number of the first, which reads the source, and how many passes come after them.
 #[derive(Clone, Copy)]
 struct Start {
     number: u64,
@@ -37,7 +37,7 @@ struct Start {
     after: u64,
 }
 
-// The array that a pass writes, where so many passes come after it.
+// The array that a pass writes, where `after` passes come after it.
 fn written_array(number: u64, after: u64) -> Array
     ensures { result ≡ program.written_array number after }
 {
@@ -177,7 +177,7 @@ fn emit_phases(
 }
 
 /// The program of merged passes, phase by phase, from X by way of A and B to Y, on residues of this modulus, where a
-/// line has so many words. It stands within the limits of programs, and its processors share no line in a phase; run to
+/// line has `line` words. It stands within the limits of programs, and its processors share no line in a phase; run to
 /// its end, it leaves what the passes make of its input, in equal shares of what they count.
 pub fn emit_on(
     alloc: Global,

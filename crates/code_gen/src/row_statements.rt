@@ -89,7 +89,7 @@ fn horner_turn(alloc: Global, site: Site, input: Expr, place: Expr) -> Result<Ve
     Ok(body)
 }
 
-// So many turns for each of so many rows.
+// A number of turns for each of a number of rows.
 fn in_rows(
     alloc: Global,
     nest: &Nest,

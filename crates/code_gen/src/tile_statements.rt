@@ -14,7 +14,7 @@ use memory::NoMemory;
 use sigma_spl::Nest;
 use std::alloc::Global;
 
-// The stores of the registers that a tile of so many leaves. Those after them are free.
+// The stores of the registers that a tile of `lanes` rows leaves. Those after them are free.
 fn outputs(alloc: Global, nest: &Nest, lanes: u64, site: Site) -> Result<Vec<Stmt>, NoMemory>
     requires stores { CanStore lanes (plain_nest nest.now) }
     requires few { lanes ≤ 16 }

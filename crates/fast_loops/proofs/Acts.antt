@@ -17,7 +17,7 @@ IsFresh lanes next (Neg r x) = (r ≡ next) × (x < next)
 IsFresh lanes next (Mul r x factors) = (r ≡ next) × (x < next)
 IsFresh lanes next (Tile r x) = (r ≡ next) × (x + lanes ≤ next)
 
--- how many registers have been put behind it
+-- how many registers have been put after it
 abbrev pub next_after : ℕ → ℕ → Action → ℕ
 next_after lanes next (Store address r) = next
 next_after lanes next (Tile r x) = next + lanes

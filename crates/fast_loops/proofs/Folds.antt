@@ -26,7 +26,7 @@ module _ (m lanes : ℕ) where
       let all = same-trans m lanes (a ++ (b ++ c)) (a ++ (c ++ b)) (c ++ (a ++ b)) past joined in
       same-between m lanes _ _ (c ++ (a ++ b)) _ (append_assoc a b c) all refl
 
-  -- a loop whose rounds may come before or behind other actions
+  -- a loop whose rounds may come before or after other actions
   pub commute-loop : (n : ℕ) (f : ℕ → List Action) (c : List Action) → IsSure c → ((i : ℕ) → i < n → IsSure (f i)) →
       ((i : ℕ) → i < n → Commute (f i) c) →
       Commute (flat_map f (range_with_len 0 n)) c

@@ -11,7 +11,7 @@ use Rattle.fast_loops.proofs.Acts.{memory_by, registers_by}
 
 -- ---- two lists of actions
 
--- from registers that are like, on v lanes and on so many others
+-- from registers that are like, on v lanes and on other lanes
 pub record Keep (m v lanes : ℕ) (Like : List ℕ → List ℕ → Type 0) (fs gs : List Action) : Type 0 where
   pub memory : (r s memory : List ℕ) → Like r s → memory_by m v fs r memory ≡ memory_by m lanes gs s memory
   pub registers : (r s memory : List ℕ) → Like r s →
@@ -34,7 +34,7 @@ keep-many m v lanes Many fs gs same =
 -- ---- the registers of all processors
 
 module _ (Like : List ℕ → List ℕ → Type 0) where
-  -- so many files, each like the other
+  -- this number of files, each like the other
   abbrev AreLike : ℕ → List (List ℕ) → List (List ℕ) → Type 0
   AreLike zero files others = Unit {0}
   AreLike (suc n) [] others = ⊥

@@ -17,7 +17,7 @@ same_item f [] i x lt = absurd (omega arith)
 same_item f (y ∷ old) zero x lt = refl
 same_item f (y ∷ old) (suc i) x lt = same_item f old i x (omega arith)
 
--- so many items are changed, and the others are as they were
+-- the first i items are changed, and the others are as they were
 pub record AreChanged {X Y : Type 0} (view : X → Y) (f : Y → Y) (i : ℕ) (old now : List X) : Type 0 where
   pub same : length now ≡ length old
   pub so_far : map view now ≡ map f (take i (map view old)) ++ drop i (map view old)

@@ -44,14 +44,14 @@ part-is part n least rest k =
     and_three (is_part_within part n) (nat_le least (rank part)) (are_parts_within rest n (next_rank part))
     k.within (le-leb least (rank part) k.ranked) k.behind
 
--- behind another rank, as long as it is no greater
+-- after another rank, as long as it is no greater
 part-moved : (part : PlainPart) (n least other : ℕ) (rest : PlainParts) → other ≤ rank part →
     are_parts_within (AndParts part rest) n least ≡ true → are_parts_within (AndParts part rest) n other ≡ true
 part-moved part n least other rest le h =
     let k = part-within part n least rest h in
     part-is part n other rest (record { within = k.within; ranked = le; behind = k.behind })
 
--- what stands behind a rank stands behind lower ones
+-- what comes after a rank comes after lower ones
 parts-lower : (parts : PlainParts) (n least lower : ℕ) → lower ≤ least → are_parts_within parts n least ≡ true →
     are_parts_within parts n lower ≡ true
 parts-lower NoParts n least lower le h = refl
@@ -126,7 +126,7 @@ first-within loop factor n least (AndParts part rest) deep top le small h =
     one-within (loop + 1) factor n least (loop + 3) (AndParts part rest) deep (omega (arith, le)) small (omega arith)
     (part-moved part n (loop + 2) (loop + 3) rest (omega (arith, deep, top)) h)
 
--- parts stand by their ranks where no part has that of the loop behind it
+-- parts stand by their ranks where no part has that of the loop after it
 parts-within : (loop n least : ℕ) (parts : PlainParts) → loop + 1 < n → n ≤ 64 → least ≢ loop + 2 →
     are_parts_within parts n least ≡ true → are_parts_within (exchanged_parts loop parts) n least ≡ true
 parts-within loop n least NoParts deep top ne h = refl
@@ -300,7 +300,7 @@ looped-is m depth (count ∷ counts) round k =
     let more : AreLoopsWithin m (depth + 1) counts round = record { small = both.1; deep = omega (arith, deep); within = ap (λ n. is_body_within m round n) (omega arith) ∙ k.within } in
     only-is m depth (Loop count (looped counts round)) (loop-is m count depth (looped counts round) (record { small = both.0; deep = omega (arith, deep); within = looped-is m (depth + 1) counts round more }))
 
--- a nest within the limits, whose round stands in so many loops
+-- a nest within the limits, whose round stands in `many` loops
 record IsNestWithin (m n many : ℕ) (nest : Nest) : Type 0 where
   small : list_all is_small_positive (nest.outer ∷ nest.inner) ≡ true
   many_are : length nest.inner ≡ many

@@ -72,7 +72,7 @@ split_range (b ∷ bs) first second cs (v ∷ us) h =
       long = ap suc rest.long;
     }
 
--- what stands behind the same values
+-- what comes after the same values
 pub same_behind : (vs us ws : List ℕ) → vs ++ us ≡ vs ++ ws → us ≡ ws
 same_behind [] us ws e = e
 same_behind (v ∷ vs) us ws e = same_behind vs us ws (ap (λ (zs : List ℕ). drop 1 zs) e)

@@ -1,4 +1,4 @@
--- The steps of rounds in loops, one in the other: whole loops of rounds that are apart from others may come before or behind them.
+-- The steps of rounds in loops, one in the other: whole loops of rounds that are apart from others may come before or after them.
 use Rattle.std.proofs.Common.{◌≡◌, ℕ, ◌<◌, ◌≤◌, List, [], ◌∷◌, ◌++◌, true, All, Contains, flat_map, length, sym, ap}
 use Rattle.std.proofs.Common.{◌∙◌, subst, arith, append-nil, append_assoc, length-append}
 use Rattle.std.specs.Prelude.{◌-◌, replicate}
@@ -110,7 +110,7 @@ module _ (p : PlainProgram) (q : ℕ) where
       Sure (actions_of (rows counts round vs))
   rows_sure counts round vs h = (rows_itself counts round vs h).same
 
-  -- loops whose rounds may come before or behind other actions
+  -- loops whose rounds may come before or after other actions
   pub past_rows : (counts : List ℕ) (round : PlainBody) (vs : List ℕ) (b : List Action) →
       are_fresh p.lanes 0 round ≡ true → Sure b →
       ((us : List ℕ) → AreInRange counts us → EitherFirst (acts_of round (vs ++ us)) b) →

@@ -1,4 +1,4 @@
--- Lists of actions that leave the same memory: put behind one another, and in loops.
+-- Lists of actions that leave the same memory: put one after another, and in loops.
 use Rattle.std.proofs.Common.{◌≡◌, ℕ, zero, suc, ◌+◌, ◌<◌, ◌≤◌, List, [], ◌∷◌, ◌++◌, length, flat_map, refl, sym, ap}
 use Rattle.std.proofs.Common.{◌∙◌}
 use Rattle.std.proofs.Common.{subst, arith, append-nil}
@@ -11,7 +11,7 @@ use Rattle.icode.proofs.CodeLaws.Statements.{range-last}
 use Rattle.icode.proofs.CodeLaws.Stores.{length-registers}
 use Rattle.fast_loops.proofs.Acts.{memory_by, DoTheSame}
 
--- what holds of none, and of lists behind one another where it holds of each, holds of loops
+-- what holds of none, and of lists one after another where it holds of each, holds of loops
 pub in-loops : {X : Type 0} (Holds : List X → List X → Type 0) → Holds [] [] →
     ((a b c d : List X) → Holds a b → Holds c d → Holds (a ++ c) (b ++ d)) → (f g : ℕ → List X) (a n : ℕ) →
     ((i : ℕ) → a ≤ i → i < a + n → Holds (f i) (g i)) →

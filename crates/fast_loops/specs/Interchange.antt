@@ -27,7 +27,7 @@ abbrev pub are_nests : ℕ → PlainBody → Bool
 are_nests lanes NoStmts = true
 are_nests lanes (AndStmts stmt rest) = is_nest lanes stmt && are_nests lanes rest
 
--- an outermost loop of so many rounds, those in it, and the statements in the innermost
+-- how many rounds the outermost loop has, the counts of those in it, and the statements in the innermost
 pub record Nest : Type 0 where
   pub outer : ℕ
   pub inner : List ℕ
@@ -40,7 +40,7 @@ looped (count ∷ counts) round = AndStmts (Loop count (looped counts round)) No
 abbrev pub nest_stmt : Nest → PlainStmt
 nest_stmt nest = Loop nest.outer (looped nest.inner nest.round)
 
--- the nest in a loop of so many rounds
+-- the nest in a loop of this number of rounds
 abbrev pub within : ℕ → Nest → Nest
 within count nest = record { outer = count; inner = nest.outer ∷ nest.inner; round = nest.round }
 

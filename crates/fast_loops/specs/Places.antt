@@ -3,7 +3,7 @@ use Rattle.std.specs.Prelude.{ℕ, ◌+◌, ◌==◌, ◌&&◌, Bool, true, fals
 use Rattle.icode.specs.Plain.{PlainExpr, PlainParts, PlainPart, PlainOp, PlainBody, Sum, NoParts, AndParts, Proc, Var}
 use Rattle.icode.specs.Plain.{Load, Store, MulTable, Do, NoStmts, AndStmts}
 
--- multiples of the processor's number, and behind them of loops' values alone, by rising depth from the least on
+-- multiples of the processor's number, and after them of loops' values alone, by rising depth from the least on
 abbrev pub are_linear : ℕ → PlainParts → Bool
 are_linear least NoParts = true
 are_linear least (AndParts (Proc factor) rest) = (least == 0) && are_linear least rest

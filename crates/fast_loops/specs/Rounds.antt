@@ -21,7 +21,7 @@ is_fresh lanes next (MulConst r x factor) = (r == next) && nat_lt x next
 is_fresh lanes next (MulTable r x table place step) = (r == next) && nat_lt x next
 is_fresh lanes next (Tile r x) = (r == next) && nat_le (x + lanes) next
 
--- how many registers have been put behind it
+-- how many registers have been put after it
 abbrev pub put_after : ℕ → ℕ → PlainOp → ℕ
 put_after lanes next (Store array place r) = next
 put_after lanes next (Tile r x) = next + lanes

@@ -28,7 +28,7 @@ exchanged_stmt loop (Loop count body) = Loop count body
 
 -- ---- the body of a loop, with the loops in it
 
--- so many loops one in the other
+-- how many loops stand one in the other
 abbrev pub loops_in : PlainBody → ℕ
 loops_in body = length (counts_in body)
 
@@ -61,7 +61,7 @@ one_loop count body = AndStmts (Loop count body) NoStmts
 abbrev pub exchanged_in : ℕ → PlainBody → PlainBody
 exchanged_in loop body = looped (counts_in body) (exchanged_round loop (round_in body))
 
--- the loop at this depth of so many rounds of this body, gone into the others as far as is asked for
+-- the loop at this depth of a number of rounds of this body, gone into the others as far as is asked for
 abbrev pub sunk_loop : ℕ → ℕ → PlainBody → PlainStmt
 sunk_loop loop count body = nest_stmt (sunk loop count (counts_in body) (round_in body))
 

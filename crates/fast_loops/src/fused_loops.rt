@@ -1,4 +1,4 @@
-// Loop fusion: nests, one behind the other, that go over the same blocks of words become one nest.
+// Loop fusion: nests, one after the other, that go over the same blocks of words become one nest.
 mod blocks;
 mod followed;
 mod fusion;

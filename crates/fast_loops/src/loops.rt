@@ -45,7 +45,7 @@ fn are_all_nests(lanes: u64, phases: &[Vec<Stmt>]) -> bool
     true
 }
 
-// Gets loops in order, of which the outermost has so many rounds of this body, if their rounds are independent.
+// Gets loops in order, of which the outermost has `count` rounds of this body, if their rounds are independent.
 fn interchange_loop(lanes: u64, count: &mut u64, body: &mut [Stmt])
     requires { loops_in (plain_body body.old) < 64 }
     ensures { Loop count.new (plain_body body.new)

@@ -25,7 +25,7 @@ fn are_linear_from(least: u128, parts: &[Part]) -> bool
     }
 }
 
-/// Whether they are multiples of the processor's number and, behind them, of loops' values alone, by rising depth.
+/// Whether they are multiples of the processor's number and, after them, of loops' values alone, by rising depth.
 pub fn are_linear(parts: &[Part]) -> bool
     ensures { result ≡ are_linear 0 (plain_parts parts.now) }
 {

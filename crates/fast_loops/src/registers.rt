@@ -43,7 +43,7 @@ fn is_fresh(lanes: u64, next: u128, op: &Op) -> bool
     }
 }
 
-// The register behind those that have been put.
+// The register after those that have been put.
 fn put_after(lanes: u64, next: u128, op: &Op) -> u128
     requires fresh { is_fresh lanes next (plain_op op.now) ≡ true }
     requires small { next < 2 ^ 65 }

@@ -28,7 +28,7 @@ pub fn same_array(left: Array, right: Array) -> bool
     order_of(left) == order_of(right)
 }
 
-// The operation of a round that stores into the array by these parts, where the innermost loop steps so many words.
+// The operation of a round that stores into the array by these parts, where the innermost loop goes on by `step` words.
 fn is_placed(lanes: u64, array: Array, parts: &[Part], step: u64, op: &Op) -> bool
     ensures { result ≡ is_placed lanes (stored_into array parts.now) step (plain_op op.now) }
 {

@@ -20,7 +20,7 @@ use Rattle.listing_text.specs.Acts.{act_words, array_words, factor_words, operan
 use Rattle.listing_text.proofs.ReadBack.{Back, then_back, first_digit, word_back, number_back, named_back, small_fits}
 use Rattle.listing_text.proofs.ReadBack.{place_back}
 
--- the act may stand inside so many loops
+-- the act may stand inside this number of loops
 abbrev pub IsActWithin : ℕ → ℕ → PlainAct → Type 0
 IsActWithin m open_loops (Open depth count) = (depth < above_all) × (count < above_all)
 IsActWithin m open_loops Close = Unit {0}
@@ -79,7 +79,7 @@ end_back place rest e =
     let h = key_back (codes "end") words.End place (10 ∷ rest) (inr (inl (refl, refl))) e in
     (h.0, rw h.1 refl, h.2)
 
--- a place with its array, and what stands before and behind it
+-- a place with its array, and what stands before and after it
 place_right : (array : Array) (at : PlainExpr) (rest : List ℕ) →
     place_text array at ++ rest ≡ array_text array ++ (codes "[" ++ (sum_text at ++ (codes "]" ++ rest)))
 place_right array at rest = simp append_assoc

@@ -50,7 +50,7 @@ some_is same = cc
 owed_after : PlainDraft → List ℕ → PlainProgress
 owed_after d rest = record { draft = d; owed = rest }
 
--- what is left of the text behind the line
+-- what is left of the text after the line
 owing_some : (d : PlainDraft) (text line : List ℕ) (t : PlainProgress) → owing d text line ≡ Some t
     → (rest : List ℕ) × (text ≡ line ++ rest) × (owed_after d rest ≡ t)
 unfolding owed_after
@@ -90,7 +90,7 @@ module _ (w : Wording) (g : Grammar) (test : List ℕ → Bool) (laws : IsLangua
   abbrev pub written_text : PlainProgress → List ℕ
   written_text p = take (length (full_text p) - length p.owed) (full_text p)
 
-  -- this text, and behind it what is owed, is the draft's
+  -- this text, and after it what is owed, is the draft's
   abbrev pub Leads : List ℕ → PlainProgress → Type 0
   Leads front p = front ++ p.owed ≡ full_text p
 

@@ -29,7 +29,7 @@ pub record IsLineReader {T A : Type 0} (IsGood : T → Type 0) (written : T → 
   pub spelt : (s : T) (a : A) → IsGood s → finish s ≡ Some a → spells (written s) a
   pub complete : (text : List ℕ) (a : A) → spells text a → read_lines step finish start [] text ≡ Ok a
 
--- the front of a line, and so many lines of the text behind it
+-- the front of a line, and a number of lines of the text after it
 from_line : List ℕ → ℕ → List ℕ → List ℕ
 from_line line zero text = []
 from_line line (suc n) text = line ++ first_lines (suc n) text
@@ -82,7 +82,7 @@ module _ {T A : Type 0} (IsGood : T → Type 0) (written : T → List ℕ) (step
   all_spelt [] line s a g e = all_spelt_end s line a (finish s) refl g e
   all_spelt (b ∷ text) line s a g e = spelt_cases b text line s a (eqb b 10) (all_spelt text) g e
 
-  -- So many lines are read, and with the next one no spelling goes on
+  -- A number of lines is read, and with the next one no spelling goes on
   record Lost (s : T) (line text : List ℕ) (lines : ℕ) : Type 0 where
     pub counted : lines ≤ ends text
     pub before : Begins spells (written s ++ from_line line lines text)

@@ -132,7 +132,7 @@ module _ (w : Wording) where
       ap (λ y. w.between ++ y) (phases_text-push h.regs 0 all body ∙ ap (λ k. before ++ phase_text h.regs k body) n)
       ∙ sym (append_assoc w.between before (phase_text h.regs (length all) body))
 
-  -- one phase more stands behind the others
+  -- one phase more comes after the others
   pub phase_pushed : (h : Header) (tables : List (List ℕ)) (phases : List PlainBody) (body : PlainBody)
       → outside_text w h tables (phases ++ body ∷ []) ≡ outside_text w h tables phases ++
       (begin_text w h phases ++ body_lines w.line 0 body ++ w.line Close)

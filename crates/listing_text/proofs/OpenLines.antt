@@ -155,7 +155,7 @@ are-append : (xs ys : List (List ℕ)) → AreLines xs → AreLines ys → AreLi
 are-append [] ys a b = b
 are-append (x ∷ xs) ys a b = (a.0, are-append xs ys a.1 b)
 
--- one text behind another
+-- one text after another
 pub first_behind : (text more : List ℕ) → HasFirst text → HasFirst more → HasFirst (text ++ more)
 first_behind text more h k = record {
   first = h.first;

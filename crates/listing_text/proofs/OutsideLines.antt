@@ -22,7 +22,7 @@ use Rattle.listing_text.proofs.Entries.{more_text, joined_text, all_spelt, all_s
 
 -- ---- the header
 
--- the numbers of a header, behind this word and before that one
+-- the numbers of a header, after this word and before that one
 abbrev pub header_line : List ℕ → List ℕ → Header → List ℕ
 header_line before behind h =
     before ++ decimal h.size ++ codes " mod " ++ decimal h.modulus ++ codes " procs " ++ decimal h.procs ++ codes " line "

@@ -69,7 +69,7 @@ first_digit_of (x ∷ text) some all =
 pub first_digit : (n : ℕ) → n < above_all → FirstDigit (decimal n)
 first_digit n fits = first_digit_of (decimal n) (decimal_nonempty n fits) (decimal_is_IsNumeral n fits).0.1
 
--- ---- what may stand behind a place: no digit and no plus
+-- ---- what may come after a place: no digit and no plus
 
 abbrev pub goes_on : ℕ → Bool
 goes_on b = is_digit b || eqb 43 b
@@ -90,7 +90,7 @@ parts_no_digit (AndParts (Product outer inner factor) ps) rest h = refl
 parts_no_digit (AndParts (Rem of divisor factor) ps) rest h = refl
 parts_no_digit (AndParts (Quot of divisor factor) ps) rest h = refl
 
--- the number behind a star is no second variable
+-- the number after a star is no second variable
 no_second : (n : ℕ) (rest : List ℕ) (far : ℕ) → n < above_all → placed far (one_of_in second_heads (decimal n ++ rest)) ≡ Ok (false, record { rest = decimal n ++ rest; far = far })
 no_second n rest far fits =
     let first = first_digit n fits in
@@ -114,7 +114,7 @@ part_counts (Product outer inner factor) = omega arith
 part_counts (Rem of divisor factor) = omega arith
 part_counts (Quot of divisor factor) = omega arith
 
--- what stands behind parentheses that are divided: `true` for a remainder
+-- what comes after parentheses that are divided: `true` for a remainder
 abbrev sign : Bool → List ℕ
 sign k = cond k (codes ")%") (codes ")/")
 
@@ -128,7 +128,7 @@ sign_reader k place rest e =
     is true = inl (refl, refl)
     is false = inr (inl (refl, refl))
 
--- what is read back in parentheses, where so many are left to open
+-- what is read back in parentheses, given how many are left to open
 InnerBack : ℕ → PlainExpr → Type 0
 InnerBack depth e = (place : Place ℕ) (rest : List ℕ) → place.rest ≡ sum_text e ++ rest → begins goes_on rest ≡ false → Back (inner_at depth) e place rest
 

@@ -8,7 +8,7 @@ use Rattle.grammar.specs.declared.token.ReadError.{ReadError}
 use Rattle.grammar.specs.declared.token.ReadError.TheVariants as errors
 use Rattle.listing_text.specs.Reading.{up_to_at, inner_at, sum_at}
 
--- the parts so far, and those that are read behind them
+-- the parts so far, and those that are read after them
 abbrev pub in_front : {A : Type 0} → List A → Result (List A × Place ℕ) ℕ → Result (List A × Place ℕ) ℕ
 in_front front (Ok x) = Ok (front ++ x.0, x.1)
 in_front front (Err left) = Err left

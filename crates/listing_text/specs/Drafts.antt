@@ -18,7 +18,7 @@ use Rattle.operators.specs.Sizes.{max_size}
 
 -- ---- the lines outside of phases
 
--- the numbers of a header, the first behind this word and the last before that one
+-- the numbers of a header, the first after this word and the last before that one
 abbrev pub header_at : List ℕ → List ℕ → Place ℕ → Result (Header × Place ℕ) ℕ
 header_at before behind = do
   size ← named_number_at before above_all
@@ -37,7 +37,7 @@ abbrev pub is_header_within : Header → Bool
 is_header_within h =
     is_between 1 max_size h.size && (is_between 2 (2 ^ 62 - 1) h.modulus && (is_between 1 16 h.procs && (is_between 1 64 h.line && (is_between 1 16 h.lanes && nat_lt h.regs (2 ^ 20)))))
 
--- a table's number and its entries, of which there are up to so many more than one
+-- a table's number and its entries: one, and up to a given number more
 abbrev pub table_at : ℕ → Place ℕ → Result ((ℕ × List ℕ) × Place ℕ) ℕ
 table_at most = do
   number ← named_number_at (codes "table ") above_all

@@ -6,7 +6,7 @@ use Rattle.icode.specs.Plain.{PlainExpr, PlainParts, PlainPart, PlainOp, PlainPr
 use Rattle.listing_text.specs.declared.draft.Header.{Header}
 use Rattle.listing_text.specs.Wording.{PlainAct, Open, Close, Do, Wording, text_of}
 
--- a place: its constant and its parts, with a mark behind each constant
+-- a place: its constant and its parts, with a mark after each constant
 abbrev mutual
   pub sum_with : List ℕ → PlainExpr → List ℕ
   sum_with mark (Sum constant parts) = decimal constant ++ (mark ++ parts_with mark parts)

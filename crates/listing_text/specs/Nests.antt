@@ -2,7 +2,7 @@
 use Rattle.std.specs.Prelude.{ℕ, ◌+◌, Bool, true, ◌&&◌, nat_lt}
 use Rattle.icode.specs.Plain.{PlainStmt, PlainBody, Loop, Do, NoStmts, AndStmts}
 
--- inside so many loops, no more than 64 are open at once
+-- inside a number of loops, no more than 64 are open at once
 abbrev mutual
   pub is_nest_within : PlainStmt → ℕ → Bool
   is_nest_within (Loop count body) open_loops = nat_lt open_loops 64 && are_nests_within body (open_loops + 1)

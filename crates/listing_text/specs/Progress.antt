@@ -10,7 +10,7 @@ use Rattle.listing_text.specs.declared.progress.Progress.{Progress}
 use Rattle.listing_text.specs.Wording.{PlainAct, Wording, program_of}
 use Rattle.listing_text.specs.Drafts.{PlainDraft, plain_draft, act_step, read_step, is_empty, table_step, entered, header_step}
 
--- how the lines of a language are read: the first one, a table with up to so many more entries than one, and a phase's
+-- how the lines of a language are read: the first one, a table with one entry and up to a number more, and a phase's
 pub record Grammar : Type 0 where
   pub header : Place ℕ → Result (Header × Place ℕ) ℕ
   pub table : ℕ → Place ℕ → Result ((ℕ × List ℕ) × Place ℕ) ℕ
@@ -56,7 +56,7 @@ free_step w g d line =
 abbrev pub progress_step : Wording → Grammar → PlainProgress → List ℕ → Option PlainProgress
 progress_step w g p line = if is_empty p.owed then free_step w g p.draft line else owing p.draft p.owed line
 
--- behind the first line
+-- after the first line
 abbrev pub begun : Wording → PlainDraft → PlainProgress
 begun w d = record { draft = d; owed = w.front d.header }
 
@@ -71,7 +71,7 @@ abbrev pub step : Wording → Grammar → Option PlainProgress → List ℕ → 
 step w g None line = kept (option_map (begun w) (read_step header_step (whole g.header line)))
 step w g (Some p) line = kept (progress_step w g p line)
 
--- a whole program has a phase, and ends behind one
+-- a whole program has a phase, and ends after one
 abbrev pub draft_ends : PlainDraft → Option PlainProgram
 draft_ends d = if d.is_inside || is_empty d.phases then None else Some (program_of d.header d.tables d.phases)
 

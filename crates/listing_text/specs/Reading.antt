@@ -12,7 +12,7 @@ above_all = 2 ^ 64
 abbrev pub refuse : {A : Type 0} → Place ℕ → Result (A × Place ℕ) ℕ
 refuse place = Err (length place.rest)
 
--- up to so many, until there are no more
+-- up to a given number, until there are no more
 abbrev pub others_of : {A : Type 0} → Option A → (Place ℕ → Result (List A × Place ℕ) ℕ) → Place ℕ → Result (List A × Place ℕ) ℕ
 others_of None more = pure_at []
 others_of (Some x) more = do
@@ -78,11 +78,11 @@ sum_by inner = do
   parts ← up_to_at 64 (part_at inner)
   pure_at (Sum constant (parts_of parts))
 
--- what stands in one of so many parentheses that are left to open
+-- what stands in one of the parentheses that are left to open, whose number is given
 unfoldable pub inner_at : ℕ → Place ℕ → Result (PlainExpr × Place ℕ) ℕ
 inner_at zero = refuse
 inner_at (suc depth) = sum_by (inner_at depth)
 
--- a place with so many parentheses left to open
+-- a place, given how many parentheses are left to open
 abbrev pub sum_at : ℕ → Place ℕ → Result (PlainExpr × Place ℕ) ℕ
 sum_at depth = sum_by (inner_at depth)

@@ -9,7 +9,7 @@ use Rattle.listing_text.specs.Wording.{program_of}
 abbrev pub drafted_program : Draft → PlainProgram
 drafted_program d = program_of d.header (plain_tables d.tables.items) (plain_phases d.phases.items)
 
--- the program that was read, or the line behind those that were read
+-- the program that was read, or the line after those that were read
 abbrev pub Reads : Result Draft ListingFault → Result PlainProgram ℕ → Type 0
 Reads (Ok d) read = read ≡ Ok (drafted_program d)
 Reads (Err faults.NoMemory) read = Unit {0}

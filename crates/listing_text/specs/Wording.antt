@@ -20,7 +20,7 @@ pub record Wording : Type 0 where
   pub table : ℕ → List ℕ → List ℕ
   -- what stands between the tables and the phases
   pub between : List ℕ
-  -- how the phase of a number begins, in a program with so many registers
+  -- how the phase of a number begins, in a program with `regs` registers
   pub phase : (regs number : ℕ) → List ℕ
   -- a line of a phase
   pub line : PlainAct → List ℕ
@@ -32,7 +32,7 @@ header_of p =
 abbrev pub program_of : Header → List (List ℕ) → List PlainBody → PlainProgram
 program_of h tables phases = record { size = h.size; modulus = h.modulus; procs = h.procs; line = h.line; lanes = h.lanes; regs = h.regs; tables = tables; phases = phases }
 
--- statements inside so many loops
+-- statements inside a number of loops
 abbrev mutual
   pub stmt_lines : (PlainAct → List ℕ) → ℕ → PlainStmt → List ℕ
   stmt_lines line depth (Loop count body) = line (Open depth count) ++ body_lines line (depth + 1) body ++ line Close

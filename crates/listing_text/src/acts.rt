@@ -13,7 +13,7 @@ use std::alloc::Global;
 /// A line of a phase.
 #[derive(Drop)]
 pub enum Act {
-    /// A loop begins, inside so many others.
+    /// A loop begins, inside `depth` others.
     Open { depth: u64, count: u64 },
     /// The innermost loop ends, or the phase.
     Close,
@@ -165,7 +165,7 @@ fn product_of(alloc: Global, cursor: &mut Cursor) -> Result<Act, ReadError>
     factor_of(alloc, cursor, register, source, is_table)
 }
 
-// What stands behind the first word.
+// What comes after the first word.
 fn operands_of(alloc: Global, cursor: &mut Cursor, word: Word) -> Result<Act, ReadError>
     ensures { Tells plain_act result cursor.new (operands_at word cursor.old) }
 {

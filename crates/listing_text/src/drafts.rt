@@ -81,7 +81,7 @@ fn header_of(cursor: &mut Cursor, before: &[u8], behind: &[u8]) -> Result<Header
     })
 }
 
-/// The numbers in a first line, behind the one word and before the other. Their limits are not tested.
+/// The numbers in a first line, after the one word and before the other. Their limits are not tested.
 pub fn read_header(line: &[u8], before: &[u8], behind: &[u8]) -> Result<Header, Stuck>
     ensures { GivesAll result (whole (header_at before.now behind.now) line.now) }
 {

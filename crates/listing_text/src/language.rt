@@ -90,7 +90,7 @@ fn header_of(program: &Program) -> Header
     }
 }
 
-// A statement inside so many loops.
+// A statement inside `depth` loops.
 fn put_stmt<L: Language>(out: &mut Vec<u8>, stmt: &Stmt, depth: u64) -> Result<(), AllocError>
     requires { IsTrue (is_nest_within (plain_stmt stmt.now) depth) }
     ensures { OnOk result (out.new.items

@@ -34,7 +34,7 @@ fn rank(part: &Part) -> u64
     }
 }
 
-// The least rank of what may stand behind it.
+// The least rank of what may come after it.
 fn next_rank(part: &Part) -> u64
     requires { next_rank (plain_part part.now) < 2 ^ 32 }
     ensures { result ≡ next_rank (plain_part part.now) }
@@ -99,7 +99,7 @@ fn is_part_within(part: &Part, loops: u64) -> bool
     }
 }
 
-// How many of so many parts are left, if there are as many in the place.
+// How many of these parts are left, if there are as many as the place has.
 #[cycle(counts)]
 fn left_of(place: &Expr, parts: u64) -> Option<u64>
     ensures { MatchOption result (parts < sum_parts (plain_expr place.now))
@@ -138,7 +138,7 @@ fn is_expr_within(place: &Expr, loops: u64) -> bool
     is_sum_within(place, loops) && left_of(place, 64).is_some()
 }
 
-// A product with factors of a table may stand inside so many loops, whatever the modulus.
+// A product with factors of a table may stand inside this number of loops, whatever the modulus.
 fn is_product_within(
     register: u64,
     source: u64,
@@ -156,7 +156,7 @@ fn is_product_within(
         && (is_small(source) && (is_small(table) && (step < 2 && is_expr_within(place, loops))))
 }
 
-/// The operation may stand in a program with this modulus, inside so many loops.
+/// The operation may stand in a program with this modulus, inside `loops` loops.
 pub fn is_op_within(modulus: u64, op: &Op, loops: u64) -> bool
     requires loops { loops ≤ 64 }
     requires parentheses { OpFits (plain_op op.now) }

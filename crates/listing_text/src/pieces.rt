@@ -14,7 +14,7 @@ pub fn put_word(out: &mut Vec<u8>, word: &[u8]) -> Result<(), AllocError>
     out.extend_from_slice(word)
 }
 
-/// Writes a word and a number behind it.
+/// Writes a word and a number after it.
 pub fn put(out: &mut Vec<u8>, word: &[u8], number: u64) -> Result<(), AllocError>
     ensures { OnOk result (out.new.items ≡ out.old.items ++ word.now ++ decimal number) }
 {
@@ -23,7 +23,7 @@ pub fn put(out: &mut Vec<u8>, word: &[u8], number: u64) -> Result<(), AllocError
     out.extend_from_slice(buffer.format(number).as_bytes())
 }
 
-/// Writes words, each with a number behind it.
+/// Writes words, each with a number after it.
 pub fn put_numbers(out: &mut Vec<u8>, numbers: &[(&[u8], u64)]) -> Result<(), AllocError>
     ensures { OnOk result (out.new.items
         ≡ numbers_behind out.old.items (map (λ p. (p.0.now, p.1)) numbers.now)) }

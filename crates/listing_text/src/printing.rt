@@ -15,7 +15,7 @@ use icode::program::{Array, Expr, Op, Part, Program};
 use memory::NoMemory;
 use std::alloc::{AllocError, Global};
 
-/// Writes a place, with a mark behind each constant.
+/// Writes a place, with a mark after each constant.
 #[cycle(printing)]
 pub fn put_sum(out: &mut Vec<u8>, place: &Expr, mark: &[u8]) -> Result<(), AllocError>
     ensures { OnOk result (out.new.items

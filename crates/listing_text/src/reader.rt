@@ -143,7 +143,7 @@ fn with_line<L: Language>(
     with_outside_line::<L>(alloc, progress.draft, line)
 }
 
-// The first line with its end, and what stands behind it.
+// The first line with its end, and what comes after it.
 fn cut_line(text: &[u8]) -> Option<(&[u8], &[u8])>
     ensures { MatchOption result (IsTrue (is_open text.now)) (λ cut. IsLine cut.0.now
         × (text.now ≡ cut.0.now ++ cut.1.now)) }
@@ -169,7 +169,7 @@ fn stepped<L: Language>(
     }
 }
 
-// The draft, where this is left behind so many lines.
+// The draft, where this is left after `lines` lines.
 fn finished(progress: Option<Progress>, rest: &[u8], lines: u64) -> Result<Draft, ListingFault>
     requires { lines < 2 ^ 63 }
     ensures { Reads result

@@ -27,7 +27,7 @@ fn is_second(cursor: &mut Cursor) -> Result<bool, Stuck>
     cursor.one_of(&[(b"v", true), (b"", false)])
 }
 
-// What stands behind the first variable of a part.
+// What comes after the first variable of a part.
 fn variable_of(cursor: &mut Cursor, depth: u64, is_product: bool) -> Result<Option<Part>, ReadError>
     ensures { Tells (λ part. option_map plain_part part) result cursor.new
         (variable_at depth is_product cursor.old) }
@@ -95,7 +95,7 @@ fn part_of(alloc: Global, cursor: &mut Cursor, depth: u64) -> Result<Option<Part
     }
 }
 
-// What stands in one of so many parentheses that are left to open.
+// What stands in one of the `depth` parentheses that are left to open.
 #[cycle(places)]
 fn inner_of(alloc: Global, cursor: &mut Cursor, depth: u64) -> Result<Expr, ReadError>
     ensures { Tells plain_expr result cursor.new (inner_at depth cursor.old) }
@@ -124,7 +124,7 @@ fn parts_of(alloc: Global, cursor: &mut Cursor, depth: u64) -> Result<Vec<Part>,
     Ok(parts)
 }
 
-/// Reads a place, with so many parentheses left to open.
+/// Reads a place, with `depth` parentheses left to open.
 #[cycle(places)]
 pub fn read_place(alloc: Global, cursor: &mut Cursor, depth: u64) -> Result<Expr, ReadError>
     ensures { Tells plain_expr result cursor.new (sum_at depth cursor.old) }

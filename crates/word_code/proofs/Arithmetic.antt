@@ -131,7 +131,7 @@ module _ (base m a c h bound : ℕ) (whole : 0 < base) (positive : 0 < m) (small
       let f5 = mul-le-mul_left (m * base) le in
       cancel_lt (a * c) ((h + bound) * m) base (omega (arith, f2, f4, f5, positive))
 
--- it is congruent to the product, and below so many times m
+-- it is congruent to the product, and below a number of times m
 pub product_word : (w : Width) (m a c q : ℕ) → 0 < w.half → 0 < m → product_bound w * m ≤ base_of w → a < base_of w →
     q ≡ quotient_of (base_of w) m c →
     (product_mod m (a % m) c ≡ lazy_product w m a c q % m) × (lazy_product w m a c q < product_bound w * m)

@@ -87,7 +87,7 @@ action_is w note (MulTable r x table place step) vs q = refl
 action_is w note (Tile r x) vs q = refl
 
 module _ (w : PlainWordProgram) where
-  -- so are those of operations one behind the other
+  -- so are those of operations one after the other
   under_leaves : (q : ℕ) (leaves : List Leaf) →
       actions_under (map (act_at w q) leaves) ≡ actions_of (map (step_at (bare w) q) leaves)
   under_leaves q [] = refl

@@ -47,7 +47,7 @@ rest-none : (stmts : List plain_words.WordStmt) (bounds : List ℕ) →
 rest-none [] bounds = refl
 rest-none (s ∷ stmts) bounds = ap (quick_and s) (rest-none stmts bounds)
 
--- so many statements are made, and the others lead to the rest
+-- a number of statements is made, and the others lead to the rest
 pub record AreMade (go : PlainBody → List ℕ → QuickBody) (i : ℕ) (body : List Stmt) (before : List ℕ)
     (made : List WordStmt) (after : List ℕ) : Type 0 where
   pub is : go (plain_body body) before ≡ then_rest (map plain_word_stmt made) (go (plain_body (drop i body)) after)

@@ -81,7 +81,7 @@ op_same w phases note (MulConst r x factor) vs q = refl
 op_same w phases note (MulTable r x table place step) vs q = refl
 op_same w phases note (Tile r x) vs q = refl
 
--- so do those of operations one behind the other
+-- so do those of operations one after the other
 same_leaves : (w : PlainWordProgram) (phases : List WordBody) (q : ℕ) (leaves : List Leaf) →
     map (act_at (with_phases w phases) q) leaves ≡ map (act_at w q) leaves
 same_leaves w phases q [] = refl

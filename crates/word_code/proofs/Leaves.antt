@@ -1,4 +1,4 @@
--- The operations of a program on words, one behind the other: what its actions and steps are, and what is kept where
+-- The operations of a program on words, one after the other: what its actions and steps are, and what is kept where
 -- each operation has another in its place.
 use Rattle.std.proofs.Common.{◌≡◌, ℕ, suc, List, [], ◌∷◌, ◌++◌, All, length, map, flat_map, refl, sym, ap, ap₂, ◌∙◌}
 use Rattle.std.specs.List.{range_with_len}

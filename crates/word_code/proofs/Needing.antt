@@ -86,7 +86,7 @@ left-all i body last le h = sym (h.is ∙ ap (λ ss. multiply last (plain_body s
 
 -- ---- from the last statement to the first
 
--- what is needed from each of so many statements at the end on, the last one first, and from all of them
+-- what is needed from each of the last statements on, the last one first, and from all of them; `behind` come before
 pub record AreNeeded (behind : ℕ) (body : List Stmt) (each : List Needs) (last : Needs) : Type 0 where
   pub from_each : reverse each ≡ needs_of_each (plain_body (drop (length body - behind) body))
   pub from_last : last ≡ needs (plain_body (drop (length body - behind) body))

@@ -147,7 +147,7 @@ quotients_below base m (c ∷ cs) (q ∷ qs) some are low =
     (subst (λ n. n < base) (sym are.0) (quotient_below base m c some (All-head (λ c. c < m) c cs low)))
     (quotients_below base m cs qs some are.1 (All-tail (λ c. c < m) c cs low))
 
--- an action on words goes from the bounds to those behind it, and its numbers are words
+-- an action on words goes from the bounds to those after it, and its numbers are words
 pub record IsDone (z : Laziness) (p : PlainProgram) (bounds : List ℕ) (f : WordAction) (after : List ℕ) : Type 0 where
   pub quick : IsQuick (scale z p) (bound_at z.limit bounds) f (bound_at z.limit after)
   pub long : length after ≡ p.regs
@@ -202,7 +202,7 @@ module _ (z : Laziness) (p : PlainProgram) (sound : IsSound (scale z p)) where
   abbrev AreSane : List ℕ → Type 0
   AreSane bounds = (r : ℕ) → bound_at z.limit bounds r ≤ z.limit
 
-  -- reductions go from the bounds to those behind them
+  -- reductions go from the bounds to those after them
   record AreReduced (bounds : List ℕ) (rs : List Reduction) (after : List ℕ) : Type 0 where
     reductions : AreReductions (sums_of z.width) p.modulus p.lanes (bound_at z.limit bounds) rs (bound_at z.limit after)
     sane : AreSane after

@@ -79,7 +79,7 @@ module _ (z : Laziness) (p : PlainProgram) (sound : IsSound (scale z p)) where
       bound_at z.limit bounds r ≤ bound_at z.limit loose r
   loose_weak bounds sane r = let e = loosest_is z.limit p.regs r in let a = sane r in omega (arith, e, a)
 
-  -- a list of actions goes from the bounds to the bounds behind it, and the numbers beside them are words
+  -- a list of actions goes from the bounds to the bounds after it, and the numbers beside them are words
   pub record Leads (bounds : List ℕ) (fs : List WordAction) (after : List ℕ) : Type 0 where
     pub goes : AreQuick s (bound_at z.limit bounds) fs (bound_at z.limit after)
     pub sane : (r : ℕ) → bound_at z.limit after r ≤ z.limit
@@ -103,7 +103,7 @@ module _ (z : Laziness) (p : PlainProgram) (sound : IsSound (scale z p)) where
         numbers = All-append (NumbersFit z.width p.regs) fs gs one.numbers other.numbers;
       }
 
-  -- nothing more is known behind it
+  -- nothing more is known after it
   forgotten : (bounds after : List ℕ) (fs : List WordAction) → Leads bounds fs after → Leads bounds fs loose
   forgotten bounds after fs lead =
       record {

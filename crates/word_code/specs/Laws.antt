@@ -8,7 +8,7 @@ use Rattle.word_code.specs.WordMachine.{word_results}
 use Rattle.word_code.specs.WordProgram.{word_code}
 use Rattle.word_code.specs.Quicken.{Laziness, quickened}
 
--- the bounds fit words: so many times the modulus is below the
+-- the bounds fit words: this number of times the modulus is below the
 -- base, sums do not wrap before it, and products may be so large
 pub record IsLazyWithin (z : Laziness) (modulus : ℕ) : Type 0 where
   pub half : 0 < z.width.half

@@ -59,7 +59,7 @@ abbrev mutual
   product_of last (Loop count body) = None
   product_of last (Do op) = product_after last op
 
--- ---- needs: outside of loops, whatever is loaded may be added up by a statement behind it
+-- ---- needs: outside of loops, whatever is loaded may be added up by a statement after it
 
 abbrev pub needs_of_stmt : PlainStmt → Needs
 needs_of_stmt (Loop count body) = if multiply None body then no_needs else loads_of_body body

@@ -72,7 +72,7 @@ pub record Noted : Type 0 where
 abbrev pub no_note : Note
 no_note = record { before = []; bias = 0; quotient = 0 }
 
--- the note of an operation, where the registers have these bounds, and the bounds behind it
+-- the note of an operation, where the registers have these bounds, and the bounds after it
 abbrev pub noted : Laziness → ℕ → ℕ → PlainOp → List ℕ → Noted
 noted z m lanes (Load r array place) bounds = record {
   note = no_note;
@@ -172,7 +172,7 @@ quick_alone z h (plain.AndStmts stmt rest) bounds =
     let one = quick_stmt (loosened z (needs (plain.AndStmts stmt rest))) h stmt bounds in
     quick_and one.stmt (quick_alone z h rest one.bounds)
 
--- the statements of all phases on words, where there are so many processors
+-- the statements of all phases on words, given how many processors there are
 abbrev pub quick_phases : Laziness → Header → ℕ → List PlainBody → List WordBody
 quick_phases z h procs (body ∷ []) =
     (if procs == 1 then (quick_alone z h body (loosest z h)).body else quick_phase z h body) ∷ []

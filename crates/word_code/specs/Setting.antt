@@ -47,11 +47,11 @@ abbrev pub note_of_factor : Setting → ℕ → Note
 note_of_factor s factor =
     record { before = []; bias = 0; quotient = quotient_of (base_of (lazy_of s.slack).width) s.modulus factor }
 
--- the note of an operation, and the bounds behind it
+-- the note of an operation, and the bounds after it
 abbrev pub noted_in : Setting → PlainOp → List ℕ → Noted
 noted_in s op bounds = noted (lazy_of s.slack) s.modulus s.lanes op bounds
 
--- the statement on words, with the bounds of the registers behind it
+-- the statement on words, with the bounds of the registers after it
 abbrev pub quick_stmt_in : Setting → Stmt → List ℕ → QuickStmt
 quick_stmt_in s stmt bounds = quick_stmt (lazy_of s.slack) (header_in s) (plain_stmt stmt) bounds
 
@@ -68,6 +68,6 @@ abbrev pub quick_alone_in : Setting → PlainBody → WordBody
 quick_alone_in s body =
     (quick_alone (lazy_of s.slack) (header_in s) body (loosest (lazy_of s.slack) (header_in s))).body
 
--- the statements of all phases on words, where there are so many processors
+-- the statements of all phases on words, given how many processors there are
 abbrev pub quick_phases_in : Setting → ℕ → List PlainBody → List WordBody
 quick_phases_in s procs phases = quick_phases (lazy_of s.slack) (header_in s) procs phases

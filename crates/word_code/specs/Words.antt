@@ -45,7 +45,7 @@ lazy_product w m a c q =
     wrapped_difference (base_of w) (wrapped_product (base_of w) a c)
     (wrapped_product (base_of w) (high_of w (a % base_of w) q) m)
 
--- such a product is below so many times m
+-- such a product is below this number of times m
 abbrev pub product_bound : Width → ℕ
 product_bound w = if w.rough then 4 else 2
 

@@ -94,7 +94,7 @@ fn wide(modulus: u64, lanes: u64) -> Slack
     }
 }
 
-/// How lazy words of this size are in a program with this modulus and so many lanes.
+/// How lazy words of this size are in a program with this modulus and these lanes.
 pub fn slack_for(size: WordSize, modulus: u64, lanes: u64) -> Slack
     requires modulus { (2 ≤ modulus) × (modulus < 2 ^ 62) }
     requires allowed { IsTrue (allows size modulus) }

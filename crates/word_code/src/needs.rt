@@ -103,7 +103,7 @@ fn is_multiplying(last: Option<u64>, op: &Op) -> bool
     }
 }
 
-/// The register of the last product, behind a statement.
+/// The register of the last product, after a statement.
 fn product_of(last: Option<u64>, stmt: &Stmt) -> Option<u64>
     ensures { result ≡ product_of last (plain_stmt stmt.now) }
 {

@@ -280,7 +280,7 @@ fn note_without_reductions(
     }
 }
 
-/// The note of an operation, with the bounds of the registers behind it.
+/// The note of an operation, with the bounds of the registers after it.
 pub(crate) fn note_of(
     alloc: Global,
     setting: Setting,

@@ -30,7 +30,7 @@ fn loosen(bounds: &mut [u64], limit: u64)
     bounds.fill(limit);
 }
 
-/// The statement on words, with the bounds of the registers behind it.
+/// The statement on words, with the bounds of the registers after it.
 pub(crate) fn quicken_stmt(
     alloc: Global,
     setting: Setting,

@@ -72,7 +72,7 @@ pub(crate) fn settle(
     Ok(before)
 }
 
-/// The greatest bound of so many registers.
+/// The greatest bound of `count` registers.
 pub(crate) fn greatest_of(limit: u64, bounds: &[u64], count: u64, from: u64) -> u64
     requires { from + count < 2 ^ 64 }
     ensures { result ≡ greatest_bound limit bounds.now count from }

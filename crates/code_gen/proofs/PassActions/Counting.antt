@@ -99,7 +99,7 @@ module _ (weight : ℕ) (c : Target) (p : PlainNest) (target q : ℕ) (vs : List
   counts-finish None k from free = counts-same _ _ (omega arith) refl (omega arith)
   counts-finish (Some d) k from free = counts-same _ _ (omega arith) refl (omega arith)
 
-  -- straight code with so many operations
+  -- straight code with `n` operations
   pub counts-body : (o : Option PlainMultiplier) (middle : List Action) (out : ℕ → ℕ) (used n price : ℕ)
       (from : ℕ → ℕ) → tally weight c.lanes middle ≡ counts price 0 0 →
       tally weight c.lanes (copy_body c p o middle out used n from target q vs)

@@ -57,7 +57,7 @@ row-made m root n k xs input below is =
     ap (λ y. y * power_mod m root (k * l)) (is l inside) ∙ mul_comm (slice_index xs l) (power_mod m root (k * l))))
     ∙ sym (at-list_below n (λ r. sum_below n (λ l. power_mod m root (r * l) * slice_index xs l) % m) k below)
 
--- Horner's rule after so many turns, each of which takes the item before the one that the turn before took
+-- Horner's rule after a number of turns, each of which takes the item before the one that the turn before took
 scaled-is : (m factor d : ℕ) (item : ℕ → ℕ) (xs : List ℕ) (t : ℕ) →
     ((i : ℕ) → i < t → item i ≡ slice_index xs (d - 1 - i)) →
     scaled_sum m factor item t ≡ horner_sum m factor d (slice_index xs) t

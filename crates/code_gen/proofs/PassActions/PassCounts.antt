@@ -52,7 +52,7 @@ rows_loads : (lanes n : ℕ) → n * (n * lanes) ≡ lanes * (n * n)
 rows_loads lanes n = omega arith
 
 module _ (weight : ℕ) (c : Target) (lanes : 0 < c.lanes) (modulus : 2 ≤ c.modulus) (source target q : ℕ) where
-  -- so many for each item and lane
+  -- each item and lane has its number
   abbrev CopyCounts : PlainNest → Type 0
   CopyCounts p =
       (vs : List ℕ) → tally weight c.lanes (copy_acts c p p.work source target q vs)

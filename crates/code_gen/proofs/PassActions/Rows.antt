@@ -46,7 +46,7 @@ module _ (m lanes regs : ℕ) (t : Task) (enough_registers : 3 ≤ regs) where
     pub ready : IsReady lanes regs t s
     pub sum : (lane : ℕ) → lane < lanes → register lanes s lane 0 ≡ total lane
 
-  -- turns that lead from the sums of so many items to those of one more
+  -- turns that lead from the sums of n items to those of one more
   pub record AreTurns (n : ℕ) (turn : ℕ → List Action) (total : ℕ → ℕ → ℕ) : Type 0 where
     pub none : (lane : ℕ) → total 0 lane ≡ 0
     pub more : (l : ℕ) → l < n → (s : Local) → Summed (total l) s → Summed (total (suc l)) (effects m lanes (turn l) s)
@@ -111,7 +111,7 @@ module _ (m lanes regs : ℕ) (t : Task) (enough_registers : 3 ≤ regs) where
               ∙ ap (λ e. (total lane + (t.input (from l + lane) * e) % m) % m) (factor_of lanes (λ _. entry l) lane there);
         }
 
-    -- the sums of so many products
+    -- the sums of a number of products
     abbrev pub sums : ℕ → ℕ → ℕ
     sums n lane = row_sum t from entry n lane % m
 

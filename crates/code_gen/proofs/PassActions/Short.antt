@@ -33,7 +33,7 @@ module _ (lanes : ℕ) (some : 0 < lanes) where
   abbrev bound : List Action → ℕ
   bound actions = (tally 1 lanes actions).operations + (tally 1 lanes actions).loads + 2 * (tally 1 lanes actions).stores
 
-  -- so many more actions could be there
+  -- there is room for a number of actions more
   abbrev pub HasRoom : ℕ → List Action → Type 0
   HasRoom more actions = length actions + more ≤ bound actions
 

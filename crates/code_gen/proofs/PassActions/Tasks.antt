@@ -8,7 +8,7 @@ use Rattle.icode.specs.CodeLaws.Lanes.{lane_of}
 use Rattle.icode.proofs.CodeLaws.Fills.{word}
 use Rattle.icode.proofs.CodeLaws.Stores.{other_word, length-memory, length-registers}
 
--- a register, in one of so many lanes
+-- a register, in one of the lanes
 abbrev pub register : ℕ → Local → ℕ → ℕ → ℕ
 register lanes s lane r = lane_of lanes s.registers lane r
 

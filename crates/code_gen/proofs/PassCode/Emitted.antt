@@ -44,7 +44,7 @@ module _ (c : Target) (pass : PlainNest) (q : ℕ) where
   abbrev pub entry_place : PlainMultiplier → List ℕ → ℕ → ℕ → ℕ
   entry_place d vs k lane = store_place pass.work d.places (values_of c pass.work q lane vs) (item_of pass.work k lane)
 
-  -- the sum number i of so many open loops, at the values us, is where a register is loaded from
+  -- the sum number i of `open_loops` open loops, at the values us, is where a register is loaded from
   pub record IsLoadedAt (open_loops i : ℕ) (us vs : List ℕ) (k : ℕ) : Type 0 where
     pub coded : IsCoded (frame_of c pass.work) open_loops pass.gathers i us q (load_at c pass q vs k)
     pub inside : load_at c pass q vs k + c.lanes ≤ c.size

@@ -99,7 +99,7 @@ parts-with g part after =
     by_zero g (λ b. all_parts (if b then after else AndParts part after) ≤ part_parts part + all_parts after)
     (λ gone. omega arith) (λ some. omega arith)
 
--- so many more as after it
+-- `more` more than after it
 parts-same : (g : ℕ) (part : PlainPart) (after others : PlainParts) (more : ℕ) →
     all_parts after ≤ more + all_parts others → all_parts (with_factor_of g part after) ≤ more
     + all_parts (with_factor_of g part others)

@@ -61,7 +61,8 @@ at-phase P f (ps ∷ more) h (suc k) low = subst P (omega arith) (at-phase P (f 
 pub runs-of : (c : Target) (p : Pass) → CanWritePass c p → Runs c p
 runs-of c p can = passes_run c p can.runs
 
--- the actions of passes, the first of which has number t and reads the source, where so many come after them and an array has so many words
+-- the actions of passes, the first of which has number t and reads the source, given how many come after them and how
+-- many words an array has
 abbrev pub passes_acts : Target → ℕ → ℕ → List Pass → ℕ → Array → ℕ → List Action
 passes_acts c words after [] t source q = []
 passes_acts c words after (p ∷ ps) t source q =

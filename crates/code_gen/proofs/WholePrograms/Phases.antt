@@ -202,7 +202,7 @@ module _ (c : Target) (words : ℕ) (enough : c.size ≤ words) (code : Code) (m
         residues = residues-after ps x known ready.residues;
       }
 
-  -- the last pass of a phase, where so many come after the phase
+  -- the last pass of a phase, given how many come after the phase
   array_after-last : (after : ℕ) (p : Pass) (ps : List Pass) (t : ℕ) (source : Array) →
       array_after after (p ∷ ps) t source ≡ written_array (t + length ps) after
   array_after-last after p [] t source =

@@ -40,7 +40,7 @@ pub record FitsWord (cs : ℕ → ℕ) (e : Sum) : Type 0 where
   pub divided : DividesWords cs e
 
 -- the sums can be written, their numbers fit words, and their expressions
--- stand within the limits of programs where so many loops are open
+-- stand within the limits of programs where `open_loops` loops are open
 pub record AreWithin (cs : ℕ → ℕ) (f : PlainFrame) (open_loops : ℕ) (sums : List Sum) : Type 0 where
   pub writable : All CanWrite sums
   pub words : All (FitsWord cs) sums

@@ -51,6 +51,6 @@ abbrev mutual
 abbrev pub divisions_of : PlainFrame → ℕ → LoopSum → PlainParts
 divisions_of f open_loops e = remainders_of f open_loops e (quotients_of f open_loops e)
 
--- a sum as an expression, where so many loops are open
+-- a sum as an expression, given how many loops are open
 abbrev pub expr_of : PlainFrame → ℕ → LoopSum → PlainExpr
 expr_of f open_loops e = sum_of f open_loops e (divisions_of f open_loops e)

@@ -9,13 +9,13 @@ use Rattle.code_gen.specs.PassCode.Statements.{followed_by, pass_body, tables_af
 use Rattle.sigma_spl.specs.Merged.{PlainMerged}
 use Rattle.sigma_spl.specs.Nest.{PlainNest}
 
--- The array that the pass number t writes, where so many passes come after it: A, B, A, B and so on, and last Y
+-- The array that the pass number t writes, given how many passes come after it: A, B, A, B and so on, and last Y
 abbrev pub written_array : ℕ → ℕ → Array
 written_array t zero = Y
 written_array t (suc more) = if t % 2 == 0 then A else B
 
 -- the statements of passes, the first of which has number t and reads the
--- source, where so many come after them and these tables are there before
+-- source, given how many come after them and the tables before them
 abbrev pub phase_body : Target → ℕ → List (List PlainNest) → ℕ → List (List ℕ) → Array → PlainBody
 phase_body h after [] t tables source = NoStmts
 phase_body h after (zs ∷ ps) t tables source =

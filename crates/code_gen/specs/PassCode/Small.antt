@@ -48,7 +48,7 @@ pub record CanBeCoded (cs : ℕ → ℕ) (e : Sum) : Type 0 where
   pub fits : FitsWord cs e
   pub writable : CanWrite e
 
--- a place of so many parts, in an array of n words, that passes merging's test
+-- a place of few parts, in an array of n words, that passes merging's test
 abbrev pub TestedSumsAreCoded : Type 0
 TestedSumsAreCoded =
     (room n : ℕ) (cs : ℕ → ℕ) (e : Sum) → room ≤ 64 → n ≤ 2 ^ 20 → is_limited room n cs e ≡ true → CanBeCoded cs e

@@ -97,7 +97,7 @@ multiplier_number m (Some d) tables = diagonal_number (one_factor d.factors) tab
 
 -- ---- statements of a nest
 
--- the place that the sum number i is, where so many loops are open
+-- the place that the sum number i is, given how many loops are open
 abbrev pub place_at : PlainFrame → ℕ → List affine.Sum → ℕ → PlainExpr
 place_at f open_loops sums i = expr_of f open_loops (slice_index_or sums i (constant 0))
 

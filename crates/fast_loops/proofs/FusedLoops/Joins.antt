@@ -1,4 +1,4 @@
--- A nest that goes into the loops of others, whose blocks it shares: it does what it did behind them.
+-- A nest that goes into the loops of others, whose blocks it shares: it does what it did after them.
 use Rattle.std.proofs.Common.{◌≡◌, ℕ, zero, suc, ◌+◌, ◌*◌, ◌<◌, Bool, true, false, ◌&&◌, List, [], ◌∷◌, ◌++◌}
 use Rattle.std.proofs.Common.{Contains, flat_map, length, refl, sym, ap, ap₂, ◌∙◌, subst, arith, eqb-true, ⊎_elim}
 use Rattle.std.proofs.Common.{append-nil, append_assoc, length-append}
@@ -61,7 +61,7 @@ module _ (p : PlainProgram) (q : ℕ) where
         members = λ s has. k.members s (h.members s has);
       }
 
-  -- behind the same steps
+  -- after the same steps
   leaves-front : (front xs ys : List Step) → length xs ≡ length ys → For p q xs ys →
       LeavesFor (front ++ xs) (front ++ ys)
   leaves-front front xs ys as_long h =
@@ -163,7 +163,7 @@ module _ (p : PlainProgram) (q : ℕ) where
   body-sure body ws fresh =
       subst (λ b. IsSure p.modulus p.lanes (acts_of p q b ws)) (looped_is body) (rows_sure p q (counts_in body) (round_in body) ws fresh)
 
-  -- an earlier round of a nest may come behind a later round of others
+  -- an earlier round of a nest may come after a later round of others
   past-later : (base step j l : ℕ) (body inside : PlainBody) (vs : List ℕ) → j < l →
       are_fresh p.lanes 0 (round_in body) ≡ true →
       AreRoundsInside p q (base + j * step) step body (vs ++ j ∷ []) →
@@ -215,7 +215,7 @@ module _ (p : PlainProgram) (q : ℕ) where
         end.2,
       )
 
-  -- ---- a nest goes behind others
+  -- ---- a nest goes after others
 
   -- it does what it did, and stands at the end
   pub record IsGrown (n : ℕ) (body : PlainBody) (blocks : List Block) (made : PlainBody) (vs : List ℕ) (base : ℕ) : Type 0 where

@@ -15,7 +15,7 @@ use Rattle.fast_loops.specs.FusedLoops.Blocks.{blocks_with, blocks_of, shared}
 use Rattle.fast_loops.specs.FusedLoops.FusedLoops.{put_behind, with_body, in_last, joined, waiting}
 use Rattle.fast_loops.specs.FusedLoops.FusedLoops.{fused_onto}
 
--- ---- statements behind others
+-- ---- statements after others
 
 pub put-pushed : (items : List Stmt) (stmt : Stmt) → plain_body (items ++ stmt ∷ []) ≡ put_behind (plain_stmt stmt)
     (plain_body items)

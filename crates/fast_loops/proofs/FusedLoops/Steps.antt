@@ -1,11 +1,11 @@
--- The steps of statements that go behind others, or into their last loop.
+-- The steps of statements that go after others, or into their last loop.
 use Rattle.std.proofs.Common.{◌≡◌, ℕ, List, [], ◌++◌, refl, sym, ap, ◌∙◌, append-nil}
 use Rattle.std.proofs.Common.{append_assoc}
 use Rattle.icode.specs.Actions.{Step, steps_of_stmt, steps_of_body}
 use Rattle.icode.specs.Plain.{PlainStmt, PlainBody, PlainProgram, Loop, NoStmts, AndStmts}
 use Rattle.fast_loops.specs.FusedLoops.FusedLoops.{put_behind, with_body, in_last, all_joined}
 
--- the last statement is a loop of so many rounds of this body
+-- the last statement is a loop of this number of rounds of this body
 abbrev pub EndsIn : ℕ → PlainBody → PlainBody → Type 0
 EndsIn count inside NoStmts = ⊥
 EndsIn count inside (AndStmts stmt NoStmts) = stmt ≡ Loop count inside
@@ -35,7 +35,7 @@ module _ (p : PlainProgram) (q : ℕ) where
       ap (λ xs. steps_of_stmt p first vs q ++ xs) (put-steps stmt rest vs)
       ∙ sym (append_assoc (steps_of_stmt p first vs q) (steps_of_body p rest vs q) (steps_of_stmt p stmt vs q))
 
-  -- all statements behind others
+  -- all statements after others
   pub put-all : (body made : PlainBody) (vs : List ℕ) →
       steps_of_body p (all_joined 0 body made) vs q ≡ steps_of_body p made vs q ++ steps_of_body p body vs q
   put-all NoStmts made vs = sym (append-nil (steps_of_body p made vs q))

@@ -1,4 +1,4 @@
--- Actions that may come before or behind rounds that touch no words of a block.
+-- Actions that may come before or after rounds that touch no words of a block.
 use Rattle.std.proofs.Common.{◌≡◌, ◌⊎◌, ℕ, ◌+◌, ◌*◌, ◌%◌, ◌<◌, ◌≤◌, List, ◌++◌, flat_map, inl, inr}
 use Rattle.std.proofs.Common.{arith}
 use Rattle.std.proofs.Math.Nat.{mul-le-mul_right}
@@ -16,7 +16,7 @@ abbrev pub Touches : ℕ → List Action → ℕ → Type 0
 Touches lanes fs k = Loads lanes fs k ⊎ Stores lanes fs k
 
 module _ (p : PlainProgram) where
-  -- the word is one of so many from this one on, in its array
+  -- the word is one of a number of words from a first one on, in its array
   abbrev pub Lies : ℕ → ℕ → ℕ → Type 0
   Lies low step k = (low ≤ k % whole_lines p.size p.line) × (k % whole_lines p.size p.line < low + step)
 
@@ -33,7 +33,7 @@ module _ (p : PlainProgram) where
   abbrev EitherFirst : List Action → List Action → Type 0
   EitherFirst = Commute p.modulus p.lanes
 
-  -- they leave the same whatever stands in the registers, before or behind rounds outside
+  -- they leave the same whatever stands in the registers, before or after rounds outside
   pub record IsWithin (low step : ℕ) (b : List Action) : Type 0 where
     pub sure : Sure b
     pub past : (r : List Action) → IsRound p.lanes r → IsOutside low step r → EitherFirst r b

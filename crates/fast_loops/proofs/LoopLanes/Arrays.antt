@@ -33,7 +33,7 @@ array_same _ _ h = wrong h
 pub same_start : (words : ℕ) (a c : Array) → same_array a c ≡ true → array_start words a ≡ array_start words c
 same_start words a c h = ap (array_start words) (array_same a c h)
 
--- before the array or behind it
+-- before the array or after it
 abbrev pub IsOutside : ℕ → Array → ℕ → Type 0
 IsOutside words array k = (k < array_start words array) ⊎ (array_start words array + words ≤ k)
 

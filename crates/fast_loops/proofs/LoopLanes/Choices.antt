@@ -22,7 +22,7 @@ pub held : {A : Type 0} (t : Bool) (x y : A) → t ≡ true → y ≡ x → Some
 held true x y h e = ap (λ z. Some z) e
 held false x y h e = cc
 
--- of two ways, behind a test of both, the first that can be gone
+-- of two ways, after a test of both, the first that can be gone
 pub first_made : {A : Type 0} (l a t u : Bool) (x y : A) (first : Option A) (made : A) → l ≡ true → l ≡ a →
     first ≡ (if t then Some x else None) → first ≡ Some made →
     Some made ≡ (if (a && (t || u)) then Some (if t then x else y) else None)

@@ -173,7 +173,7 @@ module _ (v : ℕ) (p : PlainProgram) (to : Stored) (ops : List PlainOp) (vs : L
   tiles_of group c =
       flat_map (tile_ops v p to vs b q group.linear c.by (length c.turned)) (range_with_len 0 (length c.turned / v))
 
-  -- behind operations on the lanes that hold what the rounds put
+  -- after operations on the lanes that hold what the rounds put
   pub columns_from : (c : Columns) (front : List PlainOp) (group : IsGroup v p to ops vs b q) →
       AreTurned v (length vs) to ops c.turned → length c.turned ≤ length c.front → IsBefore p c →
       ((s : Local) → 3 * p.regs * v ≤ length s.registers →

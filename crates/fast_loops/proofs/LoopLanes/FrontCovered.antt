@@ -47,7 +47,7 @@ pub factor_fits : (m lanes : ℕ) (g : ℕ → ℕ) → lanes ≡ 1 → All (λ 
 factor_fits m lanes g alone all =
     All-head (λ c. c < m) (g 0) (replicate (16 - 1) 0) (subst (λ n. All (λ c. c < m) (lane_factors n g)) alone all)
 
--- ---- words one behind the other
+-- ---- words one after the other
 
 -- the word alone
 one_word : (a k : ℕ) → k ≡ a → Contains (range_with_len a 1) k

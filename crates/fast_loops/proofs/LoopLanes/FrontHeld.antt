@@ -186,7 +186,7 @@ module _ (v : ℕ) (p : PlainProgram) (f : ℕ → ℕ) (vs : List ℕ) (b q : �
         (h.held x l lower below) (factor_of v wide l below ∙ same l below))
         (λ l below. product_put memory (values l) r x (own l))
 
-    -- a load of words one behind the other
+    -- a load of words one after the other
     load_held : (memory : List ℕ) (s : Local) (values : ℕ → List ℕ) (r next first : ℕ) (at : ℕ → ℕ) →
         r ≡ next → next < n → IsWide s → ((l : ℕ) → l < v → at l ≡ first + l) →
         ((l : ℕ) → l < v → slice_index s.memory (at l) ≡ slice_index memory (at l)) →
@@ -290,7 +290,7 @@ module _ (v : ℕ) (p : PlainProgram) (f : ℕ → ℕ) (vs : List ℕ) (b q : �
   abbrev pub wide_acts : List PlainOp → List Action
   wide_acts ops = actions_of (steps_at (on_lanes v p) (in_lanes v (length vs) f ops) (vs ++ b ∷ []) q)
 
-  -- the values of round l behind operations
+  -- the values of round l after operations
   abbrev pub values_behind : List ℕ → (ℕ → List ℕ) → List PlainOp → ℕ → List ℕ
   values_behind memory values ops l = values_put p.modulus memory (values l) (round_acts ops l)
 

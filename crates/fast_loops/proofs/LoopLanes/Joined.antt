@@ -1,4 +1,4 @@
--- Steps of v lanes in place of steps of one: behind one another, and in loops.
+-- Steps of v lanes in place of steps of one: one after another, and in loops.
 use Rattle.std.proofs.Common.{◌≡◌, ℕ, zero, suc, ◌+◌, ◌*◌, ◌<◌, ◌≤◌, List, [], ◌++◌, Contains, flat_map, length, refl}
 use Rattle.std.proofs.Common.{sym, ap, ◌∙◌, subst, arith, ⊎_elim, length-append}
 use Rattle.std.specs.List.{range_with_len}
@@ -16,9 +16,9 @@ use Rattle.fast_loops.proofs.Changes.{actions_of-append}
 use Rattle.fast_loops.proofs.Members.{all_of_members}
 use Rattle.fast_loops.specs.LoopLanes.Layers.{AreLanesFor, memory_by, on_lanes}
 
--- ---- what stands behind other actions
+-- ---- what comes after other actions
 
--- the memory that two lists leave, one behind the other
+-- the memory that two lists leave, one after the other
 memory-append : (m lanes : ℕ) (a c : List Step) (registers memory : List ℕ) →
     memory_by m lanes (actions_of (a ++ c)) registers memory
     ≡ memory_by m lanes (actions_of c)

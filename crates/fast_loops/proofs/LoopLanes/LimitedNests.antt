@@ -176,7 +176,7 @@ module _ (m v loop n regs : ℕ) (to : Stored) (ops : List PlainOp) (lanes : Are
         let end = tile_within g v many low in
         store_within g l (regs + many + g * v + l) low lt (omega (arith, end, lt)))
 
-  -- where a row of so many words is loaded by operations that are among these
+  -- where a row of `words` words is loaded by operations that are among these
   loads_within : (ahead : List PlainOp) (from : Loaded) (words : ℕ) → IsRow v loop to ahead from words →
       ((op : PlainOp) → Contains ahead op → Contains ops op) → Within (load_tiles v (2 * regs) loop from words)
   loads_within ahead from words first among =

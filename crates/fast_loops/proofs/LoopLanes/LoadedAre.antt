@@ -1,4 +1,4 @@
--- Columns behind the loads of a row leave what v rounds write.
+-- Columns after the loads of a row leave what v rounds write.
 use Rattle.std.proofs.Common.{◌≡◌, ℕ, ◌+◌, ◌*◌, ◌<◌, ◌≤◌, Bool, true, not, List, [], ◌∷◌, ◌++◌, length, drop, sym, ap}
 use Rattle.std.proofs.Common.{◌∙◌, arith, subst}
 use Rattle.std.specs.List.{list_all}

@@ -48,14 +48,14 @@ row-taken from k (op ∷ ops) = by (is_loaded from k op) refl (row-taken from (k
     by true e rest = ap₂ (λ x xs. x ∷ xs) (loaded-is from k op e) rest
     by false e rest = refl
 
--- the row, and what is behind it
+-- the row, and what comes after it
 pub row_first : (from : Loaded) (ops : List PlainOp) →
     ops ≡ row from 0 (row_length from 0 ops) ++ drop (row_length from 0 ops) ops
 row_first from ops =
     let m : ℕ = row_length from 0 ops in
     sym (take-append-drop m ops) ∙ ap (λ xs. xs ++ drop m ops) (row-taken from 0 ops)
 
--- what is behind it puts registers behind those of the row
+-- what comes after it puts registers after those of the row
 pub row_fresh : (from : Loaded) (k n next : ℕ) (rest : List PlainOp) → k + n ≡ next →
     are_fresh 1 k (straight (row from k n ++ rest)) ≡ true → are_fresh 1 next (straight rest) ≡ true
 row_fresh from k zero next rest e h =

@@ -1,4 +1,4 @@
--- Rows behind the loads of a row leave what v rounds write.
+-- Rows after the loads of a row leave what v rounds write.
 use Rattle.std.proofs.Common.{◌≡◌, ℕ, zero, suc, ◌+◌, ◌*◌, ◌<◌, ◌≤◌, true, List, [], ◌∷◌, ◌++◌, All, length, map, drop}
 use Rattle.std.proofs.Common.{refl, sym, ap, ◌∙◌, arith, subst}
 use Rattle.std.specs.Prelude.{slice_index}
@@ -24,7 +24,7 @@ use Rattle.fast_loops.proofs.LoopLanes.RowHeld.{row_in, values_first, row_held}
 use Rattle.fast_loops.proofs.LoopLanes.RowsAre.{lane_writes, no_writes, rows_from, rows_in_lanes, rows_after}
 use Rattle.fast_loops.proofs.LoopLanes.Tiled.{wide_acts, wide_follow}
 
--- ---- what is behind a row
+-- ---- what comes after a row
 
 row_others : (from : Loaded) (k n : ℕ) (rest : List PlainOp) → n ≤ length (others (row from k n ++ rest))
 row_others from k zero rest = omega arith
@@ -79,7 +79,7 @@ module _ (v : ℕ) (p : PlainProgram) (to : Stored) (ops : List PlainOp) (vs : L
   values_behind memory l =
       values_put p.modulus memory (row_in v p from vs b q m memory l) (acts_in p (vs ++ (v * b + l) ∷ []) q rest)
 
-  -- the memory behind loads and rows
+  -- the memory after loads and rows
   left : (memory r : List ℕ) → 3 * p.regs * v ≤ length r →
       memory_by p.modulus v (wide_acts v p to vs b q (loads ++ wide)) r memory
       ≡ written memory (lane_writes v p keep vs b q (values_in v p memory ops vs b q) ops)

@@ -1,4 +1,4 @@
--- Loads by tiles: behind them each lane holds the row of its round.
+-- Loads by tiles: after them each lane holds the row of its round.
 use Rattle.std.proofs.Common.{◌≡◌, ℕ, zero, suc, ◌+◌, ◌-◌, ◌*◌, ◌/◌, ◌%◌, ◌<◌, ◌≤◌, true, List, [], ◌∷◌, ◌++◌, map}
 use Rattle.std.proofs.Common.{length, flat_map, refl, sym, ap, ◌∙◌, arith, inl, ⊎_elim, mul_comm}
 use Rattle.std.specs.Prelude.{slice_index}
@@ -163,7 +163,7 @@ module _ (v : ℕ) (p : PlainProgram) (from : Loaded) (vs : List ℕ) (b q : ℕ
             (cases_lt i ((g + 1) * v));
       }
 
-  -- behind the loads of a row of whole tiles, by way of registers behind it
+  -- after the loads of a row of whole tiles, by way of registers after it
   pub record AreRows (m : ℕ) (s after : Local) : Type 0 where
     pub memory : after.memory ≡ s.memory
     pub put : (l i : ℕ) → i < m → l < v → lane_of v after.registers l i ≡ slice_index s.memory (word_of l i)

@@ -29,7 +29,7 @@ item_more f n start before now e h =
     ∙ append_assoc start (map f (range_with_len 0 n)) (f n ∷ [])
     ∙ ap (λ (xs : List PlainOp). start ++ xs) (sym last)
 
--- ---- columns behind a row
+-- ---- columns after a row
 
 entries_same : (v loop m n : ℕ) (by : Option Factors) → m ≡ n → has_entries v loop m by ≡ true →
     has_entries v loop n by ≡ true

@@ -37,14 +37,14 @@ pub record IsRow (v loop : ℕ) (to : Stored) (front : List PlainOp) (from : Loa
   pub linear : are_linear 0 from.parts ≡ true
   pub small : is_small (m + v * stride loop from.parts) ≡ true
 
--- columns behind them
+-- columns after them
 pub record IsLoaded (v loop : ℕ) (to : Stored) (ops : List PlainOp) (c : Columns) (from : Loaded)
     (m : ℕ) : Type 0 where
   pub first : IsRow v loop to c.front from m
   pub high : list_all (nat_le m) c.turned ≡ true
   pub columns : are_columns v loop to ops (behind m c) ≡ true
 
--- rows behind them
+-- rows after them
 pub record AreLoadedRows (v loop : ℕ) (to : Stored) (ops : List PlainOp) (from : Loaded) (m : ℕ) : Type 0 where
   pub first : IsRow v loop to ops from m
   pub unit : stride loop to.parts ≡ 1
@@ -89,7 +89,7 @@ rows-told v loop to ops from m is h =
       clear = more.1;
     }
 
--- what holds of rows behind each row holds of what becomes of the round
+-- what holds of rows after each row holds of what becomes of the round
 pub of_loaded_rows : (P : List PlainOp → Type 0) (v n loop : ℕ) (to : Stored) (ops : List PlainOp) →
     are_loaded_rows v loop to ops ≡ true →
     ((from : Loaded) (m : ℕ) → AreLoadedRows v loop to ops from m →
@@ -107,7 +107,7 @@ pub from_loaded_rows : (P : Type 0) (v loop : ℕ) (to : Stored) (ops : List Pla
     ((from : Loaded) (m : ℕ) → AreLoadedRows v loop to ops from m → P) → P
 from_loaded_rows P v loop to ops h each = of_loaded_rows (λ ops. P) v 0 loop to ops h each
 
--- what holds of columns behind each row holds of what becomes of the round
+-- what holds of columns after each row holds of what becomes of the round
 pub of_loaded : (P : List PlainOp → Type 0) (v n loop : ℕ) (to : Stored) (ops : List PlainOp) (c : Columns) →
     are_loaded v loop to ops c ≡ true →
     ((from : Loaded) (m : ℕ) → IsLoaded v loop to ops c from m → P (in_tiles v n loop to c from m)) →
@@ -160,7 +160,7 @@ module _ (v loop : ℕ) (to : Stored) (front : List PlainOp) (from : Loaded) (m 
           absurd (omega (arith, e, some, none))
       at_least (suc t) e = let out : v * suc t ≡ v + v * t = omega arith in omega (arith, e, out)
 
-  -- what is behind the row puts registers behind those of the row
+  -- what comes after the row puts registers after those of the row
   pub rest_fresh : are_fresh 1 0 (straight front) ≡ true → are_fresh 1 m (straight (drop m front)) ≡ true
   rest_fresh h =
       row_fresh from 0 m m (drop m front) (omega arith)
@@ -168,7 +168,7 @@ module _ (v loop : ℕ) (to : Stored) (front : List PlainOp) (from : Loaded) (m 
 
 -- ---- columns and rows that pass the tests
 
--- what holds of rows and of columns, and of these behind a row that is loaded, holds of what becomes of the round
+-- what holds of rows and of columns, and of these after a row that is loaded, holds of what becomes of the round
 pub of_good_kinds : (P : List PlainOp → Type 0) (v n loop : ℕ) (to : Stored) (ops : List PlainOp) →
     can_lane v loop (Some to) ops ≡ true →
     (stride loop to.parts ≡ 1 → list_all (is_by_lane loop to) ops ≡ true → P (map (in_row v loop) ops)) →

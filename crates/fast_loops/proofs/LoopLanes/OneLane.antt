@@ -121,7 +121,7 @@ module _ (m : ℕ) (Into : ℕ → Type 0) (regs : ℕ) (first : List ℕ) where
   puts-next (Tile r x) xs s fresh wide placed = absurd placed
   puts-next act xs s fresh wide placed = record { is = fresh.0; low = placed; next = refl; one = refl }
 
-  -- what is known behind it
+  -- what is known after it
   record Goes (act : Action) (acts : List Action) (xs registers memory : List ℕ) : Type 0 where
     fresh : AreFresh 1 (length (xs ++ put act xs)) acts
     room : regs ≤ length (after act registers memory).registers

@@ -1,4 +1,4 @@
--- The operations of a round: those that store, and the others, which put registers one behind the other.
+-- The operations of a round: those that store, and the others, which put registers one after the other.
 use Rattle.std.proofs.Common.{◌≡◌, ℕ, zero, suc, ◌+◌, ◌<◌, ◌≤◌, Bool, true, not, List, [], ◌∷◌, All, length, take, refl}
 use Rattle.std.proofs.Common.{ap, ◌∙◌, arith, eqb-true, ltb-true}
 use Rattle.std.specs.Prelude.{slice_index, nat_lt, ◌==◌}
@@ -21,7 +21,7 @@ pub all_taken : {X : Type 0} (f : X → Bool) (xs : List X) (n : ℕ) → list_a
 all_taken f xs n h =
     list_all-from_AllPass f (take n xs) (All-take (λ x. f x ≡ true) n xs (AllPass-from_list_all f xs h))
 
--- numbers one behind the other
+-- numbers one after the other
 pub from_at : (n : ℕ) (ks : List ℕ) (j : ℕ) → are_from n ks ≡ true → j < length ks → slice_index ks j ≡ n + j
 from_at n [] j h below = absurd (omega arith)
 from_at n (k ∷ ks) zero h below = eqb-true k n (both_true (k == n) _ h).0 ∙ omega arith

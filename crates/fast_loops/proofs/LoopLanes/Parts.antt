@@ -74,7 +74,7 @@ stored-from loop to all k (Store array (Sum constant parts) r ∷ ops) has from 
 stored-from loop to all k (op ∷ ops) has from by_lane c low high =
     stored-from loop to all k ops (All-tail (Contains all) op ops has) from by_lane c low high
 
--- stores one behind the other, each into a word of its own
+-- stores one after the other, each into a word of its own
 pub stored_each : (loop : ℕ) (to : Stored) (ops : List PlainOp) → are_from 0 (stored_constants ops) ≡ true →
     list_all (is_by_lane loop to) (stores ops) ≡ true →
     (c : ℕ) → c < length (stores ops) → IsStored to ops c
@@ -117,7 +117,7 @@ multiplied-from by bound all k (MulTable r x table (Sum constant parts) step ∷
     ]
 multiplied-from by bound all k (op ∷ ops) has products c low high = wrong products
 
--- products one behind the other, each by an entry of its own
+-- products one after the other, each by an entry of its own
 pub multiplied_each : (by : Factors) (bound : ℕ) (ops products : List PlainOp) → All (Contains ops) products →
     are_products by bound 0 products ≡ true →
     (c : ℕ) → c < length products → IsMultiplied by ops c

@@ -132,7 +132,7 @@ module _ (p : PlainProgram) (us : List ℕ) (q : ℕ) where
 
   -- ---- writes
 
-  -- stores of columns from k on, one behind the other
+  -- stores of columns from k on, one after the other
   pub writes_in_order : (loop : ℕ) (to : Stored) (ops : List PlainOp) (xs : List ℕ) (y : ℕ → ℕ) (k : ℕ) →
       list_all (is_by_lane loop to) (stores ops) ≡ true → are_from k (stored_constants ops) ≡ true →
       ((j : ℕ) → j < length (stores ops) → slice_index xs (slice_index (stored_registers ops) j) ≡ y (k + j)) →

@@ -245,7 +245,7 @@ module _ (v : ℕ) (p : PlainProgram) (to : Stored) (ops : List PlainOp) (vs : L
       tile_covered v p ops vs b q some known.alone known.fits (g * v) (2 * p.regs)
       (omega (arith, within, room)) (omega (arith, within, room)) (inl (omega (arith, within, room))))
 
-  -- rows behind it
+  -- rows after it
   module _ (from : Loaded) (m : ℕ) (loaded : AreLoadedRows v loop to ops from m) where
     abbrev behind_row : List PlainOp
     behind_row = load_tiles v (2 * p.regs) loop from m ++ map (in_row v loop) (drop m ops)
@@ -271,7 +271,7 @@ module _ (v : ℕ) (p : PlainProgram) (to : Stored) (ops : List PlainOp) (vs : L
         let whole_times : v * (m + d + 0) ≡ v * length ops = ap (λ k. v * k) whole in
         omega (arith, new, loads, rest, all, whole_times)
 
-  -- columns behind it
+  -- columns after it
   module _ (c : Columns) (from : Loaded) (m : ℕ) (first : IsRow v loop to c.front from m)
       (front : All (IsOther ops) c.front) (short : length c.front ≤ length (others ops))
       (tests : AreGood v loop to ops (behind m c)) where

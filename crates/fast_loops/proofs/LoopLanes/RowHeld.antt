@@ -1,4 +1,4 @@
--- What is held behind the loads of a row.
+-- What is held after the loads of a row.
 use Rattle.std.proofs.Common.{◌≡◌, ℕ, ◌+◌, ◌*◌, ◌<◌, true, List, [], ◌∷◌, ◌++◌, length, map, sym, ap, ◌∙◌, arith}
 use Rattle.std.specs.Prelude.{slice_index}
 use Rattle.std.specs.List.{range_with_len}
@@ -26,7 +26,7 @@ module _ (v : ℕ) (p : PlainProgram) (from : Loaded) (vs : List ℕ) (b q m : �
       row_in memory l ≡ map (λ i. slice_index memory (row_word p (round_at l) q from i)) (range_with_len 0 m)
   row-is memory l = row_values p (round_at l) q from memory [] 0 m
 
-  -- and by what is behind it
+  -- and by what comes after it
   pub values_first : (memory : List ℕ) (l : ℕ) (front rest : List PlainOp) → front ≡ row from 0 m ++ rest →
       values_in v p memory front vs b q l
       ≡ values_put p.modulus memory (row_in memory l) (acts_in p (round_at l) q rest)

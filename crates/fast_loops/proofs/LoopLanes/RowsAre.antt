@@ -1,4 +1,4 @@
--- Rows: v rounds whose stores are of words one behind the other are one round of v lanes.
+-- Rows: v rounds whose stores are of words one after the other are one round of v lanes.
 use Rattle.std.proofs.Common.{◌≡◌, ℕ, zero, suc, ◌+◌, ◌*◌, ◌<◌, ◌≤◌, Bool, true, false, not, List, [], ◌∷◌, ◌++◌, All}
 use Rattle.std.proofs.Common.{Contains, map, flat_map, length, refl, sym, ap, ap₂, ◌∙◌, arith, subst, eqb-true}
 use Rattle.std.proofs.Common.{ltb-true, append-nil, ⊎_elim}
@@ -37,7 +37,7 @@ use Rattle.fast_loops.proofs.LoopLanes.Writes.{written-append}
 
 -- ---- what a store writes
 
--- n words, one behind the other, one write for each
+-- n words, one after the other, one write for each
 pub words_written : (n o : ℕ) (w : ℕ → List Write) (memory xs : List ℕ) (i j : ℕ) →
     ((l : ℕ) → l < n → w (o + l) ≡ record { word = i + l; value = slice_index xs (j + l) } ∷ []) →
     with_words memory i (words_at n xs j) ≡ written memory (flat_map w (range_with_len o n))
@@ -217,7 +217,7 @@ module _ (v : ℕ) (p : PlainProgram) (f : ℕ → ℕ) (vs : List ℕ) (b q : �
 
     module _ (some : 0 < v) (low : (r : ℕ) → r < p.regs → f r < 3 * p.regs)
         (apart : (r k : ℕ) → r < p.regs → k < p.regs → f r ≡ f k → r ≡ k) where
-      -- what is known behind operations, where so many registers are put
+      -- what is known after operations that put the registers below `next`
       pub record IsBehind (memory : List ℕ) (s : Local) (values : ℕ → List ℕ) (next : ℕ) : Type 0 where
         pub room : 3 * p.regs * v ≤ length s.registers
         pub alike : AreAlike s.memory memory

@@ -18,7 +18,7 @@ use Rattle.fast_loops.proofs.LoopLanes.TilesCovered.{IsMultiplied}
 
 -- ---- columns
 
--- the rounds multiply by so many entries of a table
+-- the rounds multiply by m entries of a table
 pub record AreFactors (v loop : ℕ) (ops : List PlainOp) (by : Factors) (m : ℕ) : Type 0 where
   pub linear : are_linear 0 by.parts ≡ true
   pub each : (k : ℕ) → k < m → IsMultiplied by ops k

@@ -36,7 +36,7 @@ pub record Leave (m v : ℕ) (acts : List Action) (IsKept : ℕ → Type 0) (s :
 pub leave_nothing : (m v : ℕ) (IsKept : ℕ → Type 0) (s : Local) → Leave m v [] IsKept s []
 leave_nothing m v IsKept s = record { memory = refl; kept = λ r l h below. refl }
 
--- one list behind the other
+-- one list after the other
 pub leave_both : (m v : ℕ) (acts more : List Action) (IsKept : ℕ → Type 0) (s : Local) (ws zs : List Write) →
     Leave m v acts IsKept s ws → Leave m v more IsKept (effects m v acts s) zs →
     Leave m v (acts ++ more) IsKept s (ws ++ zs)
@@ -109,7 +109,7 @@ module _ (v : ℕ) (p : PlainProgram) (to : Stored) (vs : List ℕ) (b q : ℕ) 
   abbrev pub wide_acts : List PlainOp → List Action
   wide_acts ops = acts_in (on_lanes v p) (vs ++ b ∷ []) q ops
 
-  -- operations behind others
+  -- operations after others
   pub wide_follow : (ops more : List PlainOp) (s : Local) →
       effects p.modulus v (wide_acts (ops ++ more)) s
       ≡ effects p.modulus v (wide_acts more) (effects p.modulus v (wide_acts ops) s)

@@ -203,7 +203,7 @@ lane_round p to ops ws q alone fresh is fits =
 
 -- ---- what a round stores
 
--- values of these registers, into the words these constants behind a place
+-- values of these registers, into the words these constants after a place
 abbrev pub stored_at : ℕ → List ℕ → List ℕ → List ℕ → List Write
 stored_at base zs [] rs = []
 stored_at base zs (c ∷ cs) [] = []

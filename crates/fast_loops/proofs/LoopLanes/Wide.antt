@@ -84,7 +84,7 @@ widened_value v loop (Sum constant parts) vs b q h deep =
     ap (λ l. with_sum constant (parts_numbers (widened_parts v l parts) (vs ++ b ∷ []) q)) (sym deep)
     ∙ ap (with_sum constant) (widened-numbers v 0 parts vs b q h)
 
--- ---- rounds behind the first
+-- ---- rounds after the first
 
 added-last : (loop : ℕ) (vs : List ℕ) (x : ℕ) (parts : PlainParts) →
     added loop (vs ++ x ∷ []) parts ≡ added loop vs parts + x * stride (loop + length vs) parts
@@ -150,7 +150,7 @@ peak-grows least (AndParts (Var depth factor) rest) vs x y q h le =
     omega (arith, more, one)
 peak-grows least (AndParts _ rest) vs x y q h le = wrong h
 
--- ---- a place of the wide step that is moved by strides is that of a round behind the first
+-- ---- a place of the wide step that is moved by strides is that of a round after the first
 
 -- from this constant on, by linear parts, in this round
 abbrev pub moved : ℕ → ℕ → ℕ → PlainParts → ℕ → PlainExpr

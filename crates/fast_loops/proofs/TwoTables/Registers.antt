@@ -1,4 +1,4 @@
--- Registers with one more behind them.
+-- Registers with one more after them.
 use Rattle.std.proofs.Common.{◌≡◌, ℕ, zero, suc, ◌+◌, ◌*◌, ◌%◌, ◌<◌, ◌≤◌, List, [], ◌∷◌, map, length}
 use Rattle.std.proofs.Common.{refl, sym, ap, ap₂, ◌∙◌, arith}
 use Rattle.std.specs.Prelude.{replicate, slice_index, slice_get, slice_set}
@@ -47,7 +47,7 @@ lanes_twice m (w ∷ ws) (x ∷ fa) (y ∷ fb) (z ∷ ft) a b t each =
     ap₂ (λ v vs. v ∷ vs) (product_twice m w x y z (each 0 (omega arith)))
     (lanes_twice m ws fa fb ft (omega arith) (omega arith) (omega arith) (λ l lt. each (suc l) (omega arith)))
 
--- the words of so many registers, and room for one more behind them
+-- the words of a number of registers, and room for one more after them
 pub record HaveOneMore (lanes regs : ℕ) (more few : List ℕ) : Type 0 where
   pub below : (k : ℕ) → k < regs * lanes → slice_get more k ≡ slice_get few k
   pub room : regs * lanes + lanes ≤ length more
@@ -114,7 +114,7 @@ module _ (m lanes regs : ℕ) where
             };
       }
 
-  -- one product, and two by way of the register behind them
+  -- one product, and two by way of the register after them
   pub like_products : (r x : ℕ) (fa fb ft : List ℕ) (s t : Local) → x < regs → lanes ≤ length fa → lanes ≤ length fb →
       lanes ≤ length ft →
       ((l : ℕ) → l < lanes → product_mod m (slice_index fa l) (slice_index fb l) ≡ slice_index ft l) → AreLike s t →

@@ -1,4 +1,4 @@
--- Steps in place of others, where registers have one more behind them.
+-- Steps in place of others, where registers have one more after them.
 use Rattle.std.proofs.Common.{◌≡◌, ℕ, ◌+◌, ◌*◌, ◌<◌, ◌≤◌, List, [], ◌++◌, All, flat_map, length, refl}
 use Rattle.std.proofs.Common.{sym, ap, ap₂, ◌∙◌, subst, arith, length-append}
 use Rattle.std.specs.List.{range_with_len}

@@ -1,4 +1,4 @@
--- Blocks: loops of which each round has words of its own, one behind the other, where all its places lie.
+-- Blocks: loops of which each round has words of its own, one after the other, where all its places lie.
 use Rattle.std.specs.Prelude.{ℕ, suc, ◌+◌, ◌-◌, ◌*◌, ◌==◌, ◌&&◌, Bool, true, false, nat_le, List, [], ◌∷◌, Option, Some}
 use Rattle.std.specs.Prelude.{None, slice_index, if◌then◌else◌}
 use Rattle.icode.specs.Plain.{PlainExpr, PlainParts, PlainPart, PlainOp, PlainStmt, PlainBody, Sum, NoParts, AndParts}
@@ -40,7 +40,7 @@ is_step loop step (Rem of divisor factor) = false
 is_step loop step (Quot of divisor factor) = false
 
 -- those of the steps, from the loop at this depth on, that a place goes, and within which it stays in the loops
--- inside. It uses so many words beside what the parts are
+-- inside. Beside what the parts are, it uses a given number of words
 abbrev pub followed : List ℕ → ℕ → ℕ → List ℕ → PlainParts → List ℕ
 followed counts words loop [] parts = []
 followed counts words loop (step ∷ steps) NoParts = []

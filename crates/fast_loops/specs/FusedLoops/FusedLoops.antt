@@ -21,7 +21,7 @@ in_last f NoStmts = NoStmts
 in_last f (AndStmts stmt NoStmts) = AndStmts (with_body f stmt) NoStmts
 in_last f (AndStmts stmt (AndStmts next rest)) = AndStmts stmt (in_last f (AndStmts next rest))
 
--- the statement goes behind others, its first n loops being those of the last of them
+-- the statement goes after others, its first n loops being those of the last of them
 abbrev mutual
   pub joined : ℕ → PlainStmt → PlainBody → PlainBody
   joined zero stmt body = put_behind stmt body
@@ -39,7 +39,7 @@ abbrev pub waiting : ℕ → PlainBody → ℕ
 waiting lanes NoStmts = 0
 waiting lanes (AndStmts stmt rest) = if is_nest lanes stmt && are_nests lanes rest then 0 else suc (waiting lanes rest)
 
--- Statements go behind others, of which the last has these blocks. So many of them stay as they are
+-- Statements go after others, of which the last has these blocks. A given number of them stay as they are
 abbrev pub fused_onto : ℕ → ℕ → List Block → PlainBody → PlainBody → PlainBody
 fused_onto lanes wait before made NoStmts = made
 fused_onto lanes (suc wait) before made (AndStmts stmt rest) = fused_onto lanes wait [] (put_behind stmt made) rest
@@ -59,7 +59,7 @@ fused_phases lanes (body ∷ next ∷ phases) = body ∷ next ∷ phases
 abbrev pub may_be_fused : ℕ → PlainProgram → Bool
 may_be_fused least p = nat_le least p.size && (p.procs == 1)
 
--- the program of one processor and one phase, if it has at least so many words
+-- the program of one processor and one phase, if it has the least number of words
 abbrev pub fused : ℕ → PlainProgram → PlainProgram
 fused least p = if may_be_fused least p then record p { phases = fused_phases p.lanes p.phases } else p
 

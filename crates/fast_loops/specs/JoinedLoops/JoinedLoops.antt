@@ -12,7 +12,7 @@ use Rattle.fast_loops.specs.LoopLanes.Rounds.{straight, ops_in}
 
 -- ---- where it can be done
 
--- a linear place goes in a step of the loop at this depth as far as in so many of the next loop
+-- a linear place goes in a step of the loop at this depth as far as in a given number of steps of the next loop
 abbrev pub place_goes_on : ℕ → ℕ → PlainExpr → Bool
 place_goes_on loop inner (Sum constant parts) =
     are_linear 0 parts && (stride loop parts == inner * stride (loop + 1) parts)
@@ -63,7 +63,7 @@ both_as_one loop count inner body =
     then Some (Loop (count * inner) (lifted_body loop body))
     else None
 
--- a loop of so many rounds of this body as one with the loop that the body is
+-- a loop of a number of rounds of this body as one with the loop that the body is
 abbrev pub as_one : ℕ → ℕ → PlainBody → Option PlainStmt
 as_one loop count (AndStmts (Loop inner body) NoStmts) = both_as_one loop count inner body
 as_one loop count body = None

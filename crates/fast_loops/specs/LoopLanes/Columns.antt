@@ -32,7 +32,7 @@ abbrev pub are_distinct : List ℕ → Bool
 are_distinct [] = true
 are_distinct (x ∷ xs) = list_all (λ y. not (x == y)) xs && are_distinct xs
 
--- ---- products that are done behind the tile
+-- ---- products that are done after the tile
 
 -- what products are by: a table, and where their entries begin
 pub record Factors : Type 0 where
@@ -45,7 +45,7 @@ first_factors (MulTable r x table (Sum constant parts) step ∷ ops) =
     Some (record { table = table; constant = constant; parts = parts })
 first_factors _ = None
 
--- products of registers below this one, by entries one behind the other from this one on
+-- products of registers below this one, by entries one after the other from this one on
 abbrev pub are_products : Factors → ℕ → ℕ → List PlainOp → Bool
 are_products by bound k [] = true
 are_products by bound k (MulTable r x table (Sum constant parts) step ∷ ops) =
@@ -66,7 +66,7 @@ pub record Columns : Type 0 where
   pub turned : List ℕ
   pub by : Option Factors
 
--- the products that are done behind the tile are as many as the stores
+-- the products that are done after the tile are as many as the stores
 abbrev pub front_length : List PlainOp → ℕ
 front_length ops = length (others ops) - length (stores ops)
 
@@ -115,7 +115,7 @@ are_factored_columns v loop to ops =
 
 -- ---- the tiles
 
--- in round l, the product by entries one behind the other, from that of the word k on
+-- in round l, the product by entries one after the other, from that of the word k on
 abbrev pub product_at : ℕ → ℕ → Option Factors → ℕ → ℕ → ℕ → List PlainOp
 product_at v loop None r k l = []
 product_at v loop (Some by) r k l =
@@ -132,7 +132,7 @@ row_at v loop to by r k l =
 abbrev pub tile_at : ℕ → ℕ → Stored → Option Factors → ℕ → ℕ → ℕ → List PlainOp
 tile_at v loop to by r x k = Tile r x ∷ flat_map (row_at v loop to by r k) (range_with_len 0 v)
 
--- registers from n on are turned into those behind them
+-- registers from n on are turned into those after them
 abbrev pub in_columns : ℕ → ℕ → ℕ → Stored → Columns → List PlainOp
 in_columns v n loop to c =
     let m = length c.turned in

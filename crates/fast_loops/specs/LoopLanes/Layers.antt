@@ -64,7 +64,7 @@ written memory (w ∷ ws) = written (slice_set memory w.word w.value) ws
 pub record AreSure (ws : List Write) : Type 0 where
   pub sure : (a b : Write) → Contains ws a → Contains ws b → a.word ≡ b.word → a.value ≡ b.value
 
--- the values of the registers that actions of one lane put, one behind the other, where loads are from this memory
+-- the values of the registers that actions of one lane put, one after the other, where loads are from this memory
 abbrev pub values_put : ℕ → List ℕ → List ℕ → List Action → List ℕ
 values_put m memory xs [] = xs
 values_put m memory xs (act ∷ acts) =

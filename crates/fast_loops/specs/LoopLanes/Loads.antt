@@ -1,4 +1,4 @@
--- Rounds that load rows: of each of v rounds, v words one behind the other are loaded, and a tile turns them, so that
+-- Rounds that load rows: of each of v rounds, v words one after the other are loaded, and a tile turns them, so that
 -- each round has its words in a lane of its own.
 use Rattle.std.specs.Prelude.{ℕ, suc, ◌+◌, ◌*◌, ◌/◌, ◌%◌, ◌==◌, ◌&&◌, ◌||◌, Bool, false, not, nat_le, nat_lt, List, []}
 use Rattle.std.specs.Prelude.{◌∷◌, ◌++◌, map, drop, flat_map, Option, Some, None, if◌then◌else◌}
@@ -28,7 +28,7 @@ is_loaded from k (Load r array (Sum constant parts)) =
     (r == k) && ((constant == k) && (same_array array from.array && same_parts parts from.parts))
 is_loaded from k op = false
 
--- how many such loads, one behind the other from this number on, the operations begin with
+-- how many such loads, one after the other from this number on, the operations begin with
 abbrev pub row_length : Loaded → ℕ → List PlainOp → ℕ
 row_length from k [] = 0
 row_length from k (op ∷ ops) = if is_loaded from k op then suc (row_length from (k + 1) ops) else 0
@@ -39,9 +39,9 @@ are_whole v loop to from m =
     (nat_lt 0 m && ((m % v == 0) && not (same_array from.array to.array)))
     && (are_linear 0 from.parts && is_small (m + v * stride loop from.parts))
 
--- ---- what stands behind so many loads
+-- ---- what stands after a number of loads
 
--- rows: stores are of words one behind the other
+-- rows: stores are of words one after the other
 abbrev pub are_rows_behind : ℕ → ℕ → Stored → List PlainOp → Loaded → ℕ → Bool
 are_rows_behind v loop to ops from m =
     are_whole v loop to from m
@@ -55,7 +55,7 @@ are_rows_from v loop to ops (Some from) = are_rows_behind v loop to ops from (ro
 abbrev pub are_loaded_rows : ℕ → ℕ → Stored → List PlainOp → Bool
 are_loaded_rows v loop to ops = are_rows_from v loop to ops (first_load ops)
 
--- columns without so many of the operations that they begin with
+-- columns without the first of their operations, of a given number
 abbrev pub behind : ℕ → Columns → Columns
 behind m c = record c { front = drop m c.front }
 
@@ -92,7 +92,7 @@ load_tile v loop x from k = map (load_at v loop x from k) (range_with_len 0 v) +
 abbrev pub load_tiles : ℕ → ℕ → ℕ → Loaded → ℕ → List PlainOp
 load_tiles v x loop from m = flat_map (λ g. load_tile v loop x from (g * v)) (range_with_len 0 (m / v))
 
--- behind them is what stands behind loads by lane. The loads go through registers that columns put only later
+-- after them is what comes after loads by lane. The loads go through registers that columns put only later
 abbrev pub in_loaded_rows_from : ℕ → ℕ → ℕ → List PlainOp → Option Loaded → List PlainOp
 in_loaded_rows_from v n loop ops None = ops
 in_loaded_rows_from v n loop ops (Some from) =

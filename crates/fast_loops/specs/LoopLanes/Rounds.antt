@@ -1,5 +1,5 @@
 -- Rounds of an innermost loop, as lists of operations. What makes
--- a number of rounds, one behind the other, one of as many lanes.
+-- a number of rounds, one after the other, one of as many lanes.
 use Rattle.std.specs.Prelude.{ℕ, ◌+◌, ◌*◌, ◌==◌, ◌&&◌, ◌||◌, Bool, true, false, not, nat_le, List, [], ◌∷◌, filter}
 use Rattle.std.specs.Prelude.{if◌then◌else◌}
 use Rattle.std.specs.List.{list_all}
@@ -47,7 +47,7 @@ stored_constants [] = []
 stored_constants (Store array (Sum constant parts) r ∷ ops) = constant ∷ stored_constants ops
 stored_constants (op ∷ ops) = stored_constants ops
 
--- numbers one behind the other, from this one on
+-- numbers one after the other, from this one on
 abbrev pub are_from : ℕ → List ℕ → Bool
 are_from n [] = true
 are_from n (k ∷ ks) = (k == n) && are_from (n + 1) ks
@@ -72,7 +72,7 @@ place_stride loop (Sum constant parts) = stride loop parts
 
 -- ---- operations that can be done in lanes
 
--- loads are of words one behind the other, from another array
+-- loads are of words one after the other, from another array
 -- than the stores; an entry of a table stays, or steps by one
 abbrev pub is_by_lane : ℕ → Stored → PlainOp → Bool
 is_by_lane loop to (Load r array place) =
@@ -86,9 +86,9 @@ is_by_lane loop to (MulConst r x factor) = true
 is_by_lane loop to (MulTable r x table place step) = is_linear place && nat_le (place_stride loop place) 1
 is_by_lane loop to (Tile r x) = false
 
--- ---- rows: stores are of words one behind the other
+-- ---- rows: stores are of words one after the other
 
--- so many words from each constant on meet those from no other
+-- the words of the lanes from each constant on meet those from no other
 abbrev pub is_clear : ℕ → ℕ → ℕ → Bool
 is_clear v a b = nat_le (a + v) b || nat_le (b + v) a
 

@@ -58,12 +58,12 @@ is_product by bound k op = false
 abbrev pub laned_front : ℕ → ℕ → ℕ → List ℕ → List PlainOp → List PlainOp
 laned_front v n loop turned ops = map (λ op. renumbered_op (renumbered n turned) (in_row v loop op)) ops
 
--- entries for so many words have small numbers
+-- the entries for this number of words have small numbers
 abbrev pub has_entries : ℕ → ℕ → ℕ → Option Factors → Bool
 has_entries v loop m None = true
 has_entries v loop m (Some by) = is_small (by.constant + (m + v * stride loop by.parts))
 
--- the numbers in tiles of so many registers are small
+-- the numbers in tiles of this number of registers are small
 abbrev pub has_words : ℕ → ℕ → ℕ → ℕ → Option Factors → Bool
 has_words v loop m step by = (is_small m && is_small (v * step)) && has_entries v loop m by
 
@@ -127,7 +127,7 @@ phases_made made = option_map (λ (phases : Vec (Vec Stmt Global) Global). plain
 abbrev pub rows_of : ℕ → ℕ → List PlainOp → List PlainOp
 rows_of v loop ops = map (in_row v loop) ops
 
--- products by the factors of registers below the bound, so many of which are stored in their order
+-- products by the factors of registers below the bound, stored in their order, and as many as asked for
 abbrev pub are_factors : ℕ → ℕ → Factors → ℕ → ℕ → List PlainOp → List ℕ → Bool
 are_factors v loop by bound m products stored =
     (are_linear 0 by.parts && is_small (by.constant + (m + v * stride loop by.parts)))

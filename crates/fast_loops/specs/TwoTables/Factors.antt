@@ -55,7 +55,7 @@ abbrev pub ones : List ℕ → ℕ
 ones [] = 0
 ones (c ∷ entries) = if c == 1 then suc (ones entries) else 0
 
--- the greatest power of two from this one on whose square the row has room for, of so many that are tried
+-- the greatest power of two, from this one on, whose square the row has room for; the first number says how many to try
 abbrev pub widest : ℕ → ℕ → ℕ → ℕ → ℕ
 widest zero width square row = width
 widest (suc tries) width square row =

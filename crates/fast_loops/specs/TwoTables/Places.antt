@@ -3,7 +3,7 @@ use Rattle.std.specs.Prelude.{ℕ, zero, suc, ◌%◌, ◌==◌, ◌&&◌, Bool,
 use Rattle.icode.specs.Plain.{PlainExpr, PlainParts, Sum, NoParts, AndParts, Proc, Var, Product, Rem, Quot}
 use Rattle.fast_loops.specs.TwoTables.Factors.{Cut}
 
--- at most so many multiples of the lanes, each of the processor's number or of loops' values
+-- at most a given number of multiples of the lanes, each of the processor's number or of loops' values
 abbrev pub are_even : ℕ → ℕ → PlainParts → Bool
 are_even lanes room NoParts = true
 are_even lanes zero (AndParts part rest) = false

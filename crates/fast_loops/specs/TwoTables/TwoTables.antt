@@ -91,7 +91,7 @@ in_factors p table cut =
 abbrev pub is_usable : PlainProgram → ℕ → Cut → Bool
 is_usable p table cut = has_room p && (is_cut p.lanes cut && list_all (is_body_even p.lanes table) p.phases)
 
--- the table has at least so many entries too
+-- the table has at least the least number of entries, too
 abbrev pub may_be_split : ℕ → PlainProgram → ℕ → Cut → Bool
 may_be_split least p table cut = nat_le least (length (slice_index_or p.tables table [])) && is_usable p table cut
 
@@ -104,18 +104,18 @@ is_cut_well p table cut =
 abbrev pub can_split : PlainProgram → ℕ → Cut → Bool
 can_split p table cut = is_usable p table cut && is_cut_well p table cut
 
--- the program with this table in two factors, if it has at least so many entries and may be split
+-- the program with this table in two factors, if it has the least number of entries and may be split
 abbrev pub factored_at : ℕ → PlainProgram → ℕ → PlainProgram
 factored_at least p table =
     let cut = cut_of (slice_index_or p.tables table []) in
     if may_be_split least p table cut && is_cut_well p table cut then in_factors p table cut else p
 
--- so many tables from this one on, one after another
+-- a number of tables from this one on, one after another
 abbrev pub factored_from : ℕ → ℕ → ℕ → PlainProgram → PlainProgram
 factored_from least zero table p = p
 factored_from least (suc n) table p = factored_from least n (table + 1) (factored_at least p table)
 
--- all tables of at least so many entries
+-- all tables of the least number of entries or more
 abbrev pub factored : ℕ → PlainProgram → PlainProgram
 factored least p = factored_from least (length p.tables) 0 p
 

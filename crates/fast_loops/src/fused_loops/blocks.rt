@@ -14,7 +14,7 @@ use icode::program::{Expr, Op, Part, Stmt};
 use memory::NoMemory;
 use std::alloc::Global;
 
-/// A loop of so many rounds, each of which has so many words of its own.
+/// A loop: how many rounds it has, and how many words of its own each round has.
 #[derive(Clone, Copy, Drop, PartialEq, Eq, Debug)]
 pub(crate) struct Block {
     pub(crate) count: u64,
@@ -99,7 +99,7 @@ fn blocks_with(alloc: Global, counts: &[u64], steps: &[u64]) -> Result<Vec<Block
     Ok(made)
 }
 
-// The blocks of the loop of so many rounds of the body, and of those in it.
+// The blocks of the loop of `count` rounds of the body, and of those in it.
 fn blocks_of_loop(
     alloc: Global,
     lanes: u64,

@@ -60,7 +60,7 @@ fn have_room(counts: &[u64], parts: &[Part], room: u64) -> bool
     width <= room as u128 && have_room(counts, rest, room - width as u64)
 }
 
-// Whether so many words, beside what the parts are, are within the step.
+// Whether `words` words, beside what the parts are, are within the step.
 fn stay_within(counts: &[u64], words: u128, parts: &[Part], step: u64) -> bool
     ensures { result ≡ nat_le (words + most counts.now (plain_parts parts.now)) step }
 {
@@ -79,8 +79,8 @@ fn is_step(depth: u64, step: u64, part: &Part) -> bool
     }
 }
 
-/// How many of the steps, from the loop at this depth on, a place of so many words goes that has these parts, and within which it stays
-/// in the loops inside.
+/// How many of the steps, from the loop at this depth on, a place of `words` words goes that has these parts, and within
+/// which it stays in the loops inside.
 pub(crate) fn followed(
     counts: &[u64],
     words: u128,

@@ -82,8 +82,8 @@ fn fuse_phases(
     Ok(phases)
 }
 
-/// The program with its nests fused, if it is of one processor and one phase and has at least so many words: nests, one behind the other,
-/// that go over the same blocks of words become one nest, and so on inward.
+/// The program with its nests fused, if it is of one processor and one phase and has at least `least` words: nests that
+/// come one after the other and go over the same blocks of words become one nest, and so on inward.
 pub fn fuse_loops(alloc: Global, least: u64, program: Program) -> Result<Program, NoMemory>
     ensures { IfOk result (λ made. plain_program made ≡ fused least (plain_program program)) }
 {

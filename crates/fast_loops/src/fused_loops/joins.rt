@@ -7,7 +7,7 @@ ghost use Rattle.fast_loops.specs.FusedLoops.FusedLoops.{put_behind, with_body, 
 use icode::program::Stmt;
 use memory::NoMemory;
 
-// The last statement goes behind others, and into it, if it is a loop, these statements, their first loops being those of the last in it.
+// The last statement goes after others, and into it, if it is a loop, these statements, their first loops being those of the last in it.
 #[cycle(joining)]
 fn join_into(
     loops: u64,
@@ -41,7 +41,7 @@ fn join_in_last(loops: u64, inside: Vec<Stmt>, made: &mut Vec<Stmt>) -> Result<(
     Ok(())
 }
 
-// The statements go behind others, one after another.
+// The statements go after others, one after another.
 #[cycle(joining)]
 fn join_all(loops: u64, inside: Vec<Stmt>, made: &mut Vec<Stmt>) -> Result<(), NoMemory>
     ensures { OnOk result (plain_body made.new.items
@@ -53,7 +53,7 @@ fn join_all(loops: u64, inside: Vec<Stmt>, made: &mut Vec<Stmt>) -> Result<(), N
     Ok(())
 }
 
-/// The statement goes behind others, so many of its first loops being those of the last of them.
+/// The statement goes after others, and its first `loops` loops are those of the last of them.
 #[cycle(joining)]
 pub(crate) fn join(loops: u64, stmt: Stmt, made: &mut Vec<Stmt>) -> Result<(), NoMemory>
     ensures { OnOk result (plain_body made.new.items

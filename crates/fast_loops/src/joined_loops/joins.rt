@@ -41,7 +41,7 @@ fn both_as_one(
     }))
 }
 
-// A loop of so many rounds of this body as one with the loop that the body is.
+// A loop of `count` rounds of this body as one with the loop that the body is.
 fn as_one(alloc: Global, depth: u64, count: u64, body: &[Stmt]) -> Result<Option<Stmt>, NoMemory>
     requires { depth ≤ 64 }
     ensures { IfOk result

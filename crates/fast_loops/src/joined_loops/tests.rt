@@ -7,7 +7,7 @@ ghost use Rattle.fast_loops.specs.JoinedLoops.JoinedLoops.{place_goes_on, op_goe
 use crate::parts::{are_linear, stride};
 use icode::program::{Expr, Op, Stmt};
 
-// Whether a linear place goes in a step of the loop at this depth as far as in so many of the next loop.
+// Whether a linear place goes in a step of the loop at this depth as far as in `inner` steps of the next loop.
 fn place_goes_on(depth: u64, inner: u64, place: &Expr) -> bool
     requires { depth + 1 < 2 ^ 64 }
     ensures { result ≡ place_goes_on depth inner (plain_expr place.now) }

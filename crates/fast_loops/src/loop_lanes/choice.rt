@@ -53,7 +53,7 @@ fn rows(alloc: Global, group: Group, target: Target<'_>, ops: &[Op]) -> Result<V
     Ok(rows)
 }
 
-// Whether these are products by the factors of registers below the bound, and are stored in their order, so many in number.
+// Whether these are products by the factors of registers below the bound, stored in their order, and `count` in number.
 fn are_factors(
     group: Group,
     by: Factors<'_>,
@@ -69,7 +69,7 @@ fn are_factors(
         && (are_products(by, bound, products) && are_from(bound as u128, stored))
 }
 
-// The operations in columns that are multiplied behind the tiles, if they can be so.
+// The operations in columns that are multiplied after the tiles, if they can be so.
 fn factored(
     alloc: Global,
     group: Group,
@@ -181,7 +181,7 @@ fn loaded_rows(
     Ok(None)
 }
 
-// The operations of rounds that load rows, and are multiplied behind the tiles, if they become lanes.
+// The operations of rounds that load rows, and are multiplied after the tiles, if they become lanes.
 fn loaded_factored(
     alloc: Global,
     group: Group,

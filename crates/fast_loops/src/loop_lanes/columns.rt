@@ -193,7 +193,7 @@ fn is_product(by: Factors<'_>, bound: u64, number: u64, op: &Op) -> bool
     }
 }
 
-/// Whether they are products of registers below the bound, by entries one behind the other.
+/// Whether they are products of registers below the bound, by entries one after the other.
 pub(crate) fn are_products(by: Factors<'_>, bound: u64, ops: &[Op]) -> bool
     ensures { result ≡ are_products (plain_factors by.entry) bound 0 (plain_ops ops.now) }
 {

@@ -66,8 +66,8 @@ fn laned_phases(
     Ok(Some(bodies))
 }
 
-/// The program on so many lanes, if it is of one lane and all its statements are loops whose innermost rounds can go so many at
-/// a time; else the program.
+/// The program on these lanes, if it is of one lane and all its statements are loops whose innermost rounds can go a vector
+/// at a time; else the program.
 pub fn lane_loops(alloc: Global, lanes: u64, program: Program) -> Result<Program, NoMemory>
     requires { IsLanes lanes }
     ensures made { IfOk result (λ p. plain_program p ≡ laned lanes (plain_program program)) }

@@ -1,4 +1,4 @@
-// Rounds that load rows: words one behind the other. Tiles turn them, so that each round has its words in a lane of its own.
+// Rounds that load rows: words one after the other. Tiles turn them, so that each round has its words in a lane of its own.
 
 ghost use Rattle.std.specs.Prelude.{◌≡◌, ◌^◌, ◌<◌, ◌≤◌, ◌++◌, [], ◌∷◌, true, nat_le, length, IfOk, OnOk, option_map};
 ghost use Rattle.std.specs.List.{list_all};
@@ -48,7 +48,7 @@ fn is_loaded(from: Target<'_>, number: u64, op: &Op) -> bool
     }
 }
 
-/// How many such loads, one behind the other from 0 on, the operations begin with.
+/// How many such loads, one after the other from 0 on, the operations begin with.
 pub(crate) fn row_length(from: Target<'_>, ops: &[Op]) -> u64
     ensures few { result ≤ length ops.now }
     ensures is { result ≡ row_length (stored_target from.entry) 0 (plain_ops ops.now) }
@@ -63,7 +63,7 @@ pub(crate) fn row_length(from: Target<'_>, ops: &[Op]) -> u64
     count
 }
 
-// Whether so many loads are whole tiles, from another array than the stores.
+// Whether `count` loads are whole tiles, from another array than the stores.
 fn are_whole(group: Group, target: Target<'_>, from: Target<'_>, count: u64) -> bool
     requires { 1 ≤ group.lanes }
     ensures { result ≡ are_whole group.lanes group.depth (stored_target target.entry) (stored_target from.entry) count }
@@ -73,7 +73,7 @@ fn are_whole(group: Group, target: Target<'_>, from: Target<'_>, count: u64) -> 
         && (are_linear(from.parts) && count as u128 + width < (1 << 32))
 }
 
-/// Whether so many loads can become tiles, and what is behind them are rows.
+/// Whether the first `count` operations are loads that can become tiles, and rows come after them.
 pub(crate) fn are_rows_behind(
     group: Group,
     target: Target<'_>,
@@ -95,9 +95,9 @@ pub(crate) fn are_rows_behind(
                 && are_clear(group.lanes, constants)))
 }
 
-// ---- columns behind them
+// ---- columns after them
 
-// The columns behind so many operations.
+// The columns after the first `count` operations.
 fn behind<'a>(count: u64, columns: Columns<'a>) -> Columns<'a>
     requires { count ≤ length columns.front.now }
     ensures { columns_of result ≡ behind count (columns_of columns.entry) }
@@ -121,7 +121,7 @@ fn are_least(least: u64, registers: &[u64]) -> bool
     true
 }
 
-// Whether so many loads can become tiles, and what is behind them are columns of other registers.
+// Whether the first `count` operations are loads that can become tiles, and columns of other registers come after them.
 fn are_behind(
     group: Group,
     target: Target<'_>,
@@ -149,7 +149,7 @@ fn are_behind(
 
 // ---- the operations
 
-// In the round of this lane, the words from this one on, into a register so far behind this one.
+// In the round of this lane, the words from this one on, into a register so far after this one.
 fn push_load(
     alloc: Global,
     tiles: Tiles<'_>,

@@ -21,7 +21,7 @@ const MOST_STORES: u64 = 256;
 
 // ---- loops one in the other
 
-// Behind these counts those of the loops that the body is, one in the other.
+// After these counts those of the loops that the body is, one in the other.
 pub(crate) fn push_counts(counts: Vec<u64>, body: &[Stmt]) -> Result<Vec<u64>, NoMemory>
     ensures { IfOk result (λ all. all.items ≡ counts.items ++ counts_in (plain_body body.now)) }
 {
@@ -50,7 +50,7 @@ fn last_count(count: u64, counts: &[u64]) -> u64
     last_count(*inner, rest)
 }
 
-// Loops of these counts, where the innermost goes so many rounds at a time.
+// Loops of these counts, where the innermost goes a group of rounds at a time.
 fn narrowed(
     alloc: Global,
     lanes: u64,
@@ -125,7 +125,7 @@ fn laned_round(
 
 // ---- nests
 
-// The loop of so many rounds of the body, on lanes, if it can be laned.
+// The loop of `count` rounds of the body, on lanes, if it can be laned.
 pub(crate) fn laned_loop(
     alloc: Global,
     lanes: u64,

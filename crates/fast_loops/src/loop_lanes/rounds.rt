@@ -1,4 +1,4 @@
-// Rounds of which a number, one behind the other, can be one round of lanes.
+// Rounds of which a number, one after the other, can be one round of lanes.
 
 ghost use Rattle.std.specs.Prelude.{◌≡◌, ◌+◌, ◌*◌, ◌^◌, ◌<◌, length, IfOk};
 ghost use Rattle.std.specs.List.{list_all};
@@ -103,7 +103,7 @@ fn is_clear_of(lanes: u64, constant: u64, others: &[u64]) -> bool
     true
 }
 
-/// Whether so many words from each constant on meet those from no other.
+/// Whether the words of the lanes from each constant on meet those from no other.
 pub(crate) fn are_clear(lanes: u64, constants: &[u64]) -> bool
     ensures { result ≡ are_clear lanes constants.now }
 {
@@ -113,7 +113,7 @@ pub(crate) fn are_clear(lanes: u64, constants: &[u64]) -> bool
     is_clear_of(lanes, *first, rest) && are_clear(lanes, rest)
 }
 
-/// Whether the numbers stand one behind the other, from this one on.
+/// Whether the numbers stand one after the other, from this one on.
 pub(crate) fn are_from(from: u128, numbers: &[u64]) -> bool
     requires { from + length numbers.now < 2 ^ 66 }
     ensures { result ≡ are_from from numbers.now }
@@ -124,7 +124,7 @@ pub(crate) fn are_from(from: u128, numbers: &[u64]) -> bool
     *first as u128 == from && are_from(from + 1, rest)
 }
 
-/// Whether so many rounds store rows.
+/// Whether rounds, one for each lane, store rows.
 pub(crate) fn are_rows(
     lanes: u64,
     depth: u64,
@@ -140,7 +140,7 @@ pub(crate) fn are_rows(
         && (are_by_lane(depth, array, parts, round) && are_clear(lanes, constants))
 }
 
-/// A step of the loop at this depth becomes as wide as so many of its rounds.
+/// A step of the loop at this depth becomes as wide as a round for each lane.
 pub(crate) fn widen_parts(lanes: u64, depth: u64, parts: &mut [Part])
     requires { lanes * stride depth (plain_parts parts.old) < 2 ^ 64 }
     ensures { plain_parts parts.new ≡ widened_parts lanes depth (plain_parts parts.old) }
@@ -157,7 +157,7 @@ pub(crate) fn widen_parts(lanes: u64, depth: u64, parts: &mut [Part])
     widen_parts(lanes, depth, rest);
 }
 
-/// The operation on the lanes of so many rounds.
+/// The operation on lanes, one for each round.
 pub(crate) fn put_in_row(lanes: u64, depth: u64, op: &mut Op)
     requires { lanes * stride_in depth (plain_op op.old) < 2 ^ 64 }
     ensures { plain_op op.new ≡ in_row lanes depth (plain_op op.old) }

@@ -108,7 +108,7 @@ fn copied_parts(alloc: Global, parts: &[Part]) -> Result<Vec<Part>, NoMemory>
     Ok(copies)
 }
 
-/// The place so many lanes behind one of this constant, where a step of the loop is as wide as the group.
+/// The place a number of lanes after one of this constant, where a step of the loop is as wide as the group.
 pub(crate) fn placed(
     alloc: Global,
     group: Group,

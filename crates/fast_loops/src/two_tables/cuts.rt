@@ -21,7 +21,7 @@ fn ones(entries: &[u64]) -> u64
     count
 }
 
-// The greatest power of two from this one on whose square the row has room for, of so many that are tried.
+// The greatest power of two, from this width on, whose square the row has room for. It tries a given number of them.
 fn widest(tries: u64, width: u64, square: u64, row: u64) -> u64
     requires some { 0 < width }
     requires square { width ≤ square }

@@ -9,7 +9,7 @@ ghost use Rattle.fast_loops.specs.TwoTables.View.{plain_parts};
 
 use icode::program::{Expr, Op, Part, Stmt};
 
-// Whether they are at most so many multiples of the lanes, each of the processor's number or of loops' values.
+// Whether they are at most `room` multiples of the lanes, each of the processor's number or of loops' values.
 fn are_even(lanes: u64, room: u64, parts: &[Part]) -> bool
     requires { 0 < lanes }
     ensures { result ≡ are_even lanes room (plain_parts parts.now) }

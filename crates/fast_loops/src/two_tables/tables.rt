@@ -65,7 +65,7 @@ fn table_at(program: &Program, table: u64) -> &[u64]
     &program.tables[table as usize]
 }
 
-// Whether the table has at least so many entries, and may be split if it is the product of its factors.
+// Whether the table has at least `least` entries, and may be split if it is the product of its factors.
 fn may_be_split(least: u64, program: &Program, table: u64, cut: Cut) -> bool
     requires fits { Fits program.now }
     requires table { table < length program.now.tables.items }
@@ -77,7 +77,7 @@ fn may_be_split(least: u64, program: &Program, table: u64, cut: Cut) -> bool
                 && are_phases_even(program.lanes, table, &program.phases)))
 }
 
-// The program with this table in two factors, if it has at least so many entries and may be split.
+// The program with this table in two factors, if it has at least `least` entries and may be split.
 fn factor_table(
     alloc: Global,
     least: u64,
@@ -104,8 +104,8 @@ fn factor_table(
     Ok(made)
 }
 
-/// The program with each table of at least so many entries in two factors, where it is the product of two small tables and its entries
-/// are used in groups of lanes: a product by an entry is one by an entry of each.
+/// The program with each table of at least `least` entries in two factors, where it is the product of two small tables and
+/// its entries are used in groups of lanes: a product by an entry is one by an entry of each.
 pub fn factor_tables(alloc: Global, least: u64, program: Program) -> Result<Program, NoMemory>
     requires fits { Fits program }
     requires apart { (phase : ℕ) → IsApart (code_of program) phase }

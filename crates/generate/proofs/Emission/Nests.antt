@@ -13,7 +13,7 @@ use Rattle.sigma_lower.specs.TreeLoops.Placed.{Fits, place_sum, AreCounts, all_s
 use Rattle.sigma_lower.specs.TreeTerms.Wrapped.{inner_of}
 use Rattle.sigma_lower.proofs.TreeLoops.LoopItems.{AllName, HaveNames, counts-from, names-of}
 use Rattle.sigma_lower.proofs.TreeLoops.PlaceSums.{all_simplified-append}
-use Rattle.sigma_lower.proofs.TreeLoops.PlaceValues.{right_positive}
+use Rattle.sigma_spl.proofs.Keeps.{right_positive}
 use Rattle.sigma_lower.proofs.TreeLoops.Shaped.{IsShaped, IsShapedWork}
 use Rattle.sigma_spl.specs.Loops.{limits_in, multiplier_of, nest_of, one_nest, places_by}
 use Rattle.sigma_spl.specs.Merge.{items_in, items_out}

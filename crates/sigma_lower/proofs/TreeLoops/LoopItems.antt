@@ -7,7 +7,7 @@ use Rattle.sigma_lower.specs.TreeLoops.Merge.{PlainDiagonal, PlainPass}
 use Rattle.sigma_lower.specs.TreeLoops.Placed.{Fits, AreCounts, IsName}
 use Rattle.sigma_lower.proofs.TreeLoops.LineMoves.{number-fits}
 use Rattle.sigma_lower.proofs.TreeLoops.PlaceSums.{variable-fits}
-use Rattle.sigma_lower.proofs.TreeLoops.PlaceValues.{right_positive}
+use Rattle.sigma_spl.proofs.Keeps.{right_positive}
 use Rattle.sigma_lower.proofs.TreeLoops.Shaped.{IsShaped, IsShapedWork}
 use Rattle.operators.proofs.Lists.{place_below}
 use Rattle.sigma_spl.specs.Limits.{AreSeveral}

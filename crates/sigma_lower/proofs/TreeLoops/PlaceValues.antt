@@ -7,7 +7,6 @@ use Rattle.perm_algebra.proofs.Values.{simplified_keeps}
 use Rattle.sigma_lower.specs.TreeLoops.Merge.{through}
 use Rattle.sigma_lower.specs.TreeLoops.Placed.{place_sum, all_simplified}
 use Rattle.sigma_spl.specs.Loops.{AreFormed}
-pub use Rattle.sigma_spl.proofs.Keeps.{right_positive}
 use Rattle.sigma_spl.proofs.Natural.{loop_values, sound-place_sum, value-place_sum}
 use Rattle.operators.specs.TensorPaths.Path.{Path, place}
 

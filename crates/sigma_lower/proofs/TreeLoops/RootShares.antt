@@ -7,7 +7,7 @@ use Rattle.smp_rewrite.specs.LayoutSteps.Layout.{Layout}
 use Rattle.perm_algebra.proofs.Sizes.{positive-product}
 use Rattle.sigma_lower.proofs.TreeLoops.PartRules.{IsSize}
 use Rattle.sigma_lower.proofs.TreeLoops.RootDealt.{dealt_parts}
-use Rattle.sigma_lower.proofs.TreeLoops.PlaceValues.{right_positive}
+use Rattle.sigma_spl.proofs.Keeps.{right_positive}
 
 -- each processor and each lane has as many rows, and as many columns
 pub record AreShares (size p v r s : ℕ) : Type 0 where

@@ -12,7 +12,7 @@ use Rattle.word_code.specs.declared.in_place.routes.Route.{Route}
 use Rattle.word_code.specs.InPlace.Choice.{same_place, same_places, not_input, target_before, route_to, chosen}
 use Rattle.word_code.specs.InPlace.InPlace.{is_full, are_full}
 
--- so many statements at the end have their routes, the last one first, and what stands before them stores there
+-- the last statements have their routes, the last one first, and the `behind` before them store there
 pub record AreChosen (behind : ℕ) (body : List Stmt) (made : List Route) (into : Array) : Type 0 where
   pub routes : reverse made ≡ chosen (plain_body (drop (length body - behind) body))
   pub target : into ≡ target_before (chosen (plain_body (drop (length body - behind) body)))

@@ -47,7 +47,7 @@ ArePairs lanes words (f ∷ fs) (g ∷ gs) accesses =
 ArePairs lanes words [] (g ∷ gs) accesses = ⊥
 ArePairs lanes words (f ∷ fs) [] accesses = ⊥
 
--- pairs behind pairs
+-- pairs after pairs
 pub pairs-append : (lanes words : ℕ) (fs gs fs2 gs2 : List WordAction) (xs ys : List Access) →
     ArePairs lanes words fs gs xs → ArePairs lanes words fs2 gs2 ys →
     ArePairs lanes words (fs ++ fs2) (gs ++ gs2) (xs ++ ys)

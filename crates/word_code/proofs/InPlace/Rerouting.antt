@@ -56,7 +56,7 @@ all-of-them (route ∷ routes) [] i le = each-short (take i (route ∷ routes))
 all-of-them (route ∷ routes) (stmt ∷ rest) zero le = absurd (omega arith)
 all-of-them (route ∷ routes) (stmt ∷ rest) (suc i) le = ap (λ ss. rerouted_stmt route stmt ∷ ss) (all-of-them routes rest i (omega arith))
 
--- so many statements go their routes, and the others are as they were
+-- the first i statements go their routes, and the others are as they were
 pub record AreRerouted (routes : List Route) (i : ℕ) (old now : List WordStmt) : Type 0 where
   pub same : length now ≡ length old
   pub so_far : map plain_word_stmt now ≡ each_rerouted (take i routes) (map plain_word_stmt old)

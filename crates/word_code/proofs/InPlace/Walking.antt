@@ -126,7 +126,7 @@ turns_split : {X : Type 0} (f : ℕ → List X) (turn end : ℕ) → turn < end 
 turns_split f turn end lt =
     let left : end - turn ≡ suc (end - (turn + 1)) = omega arith in ap (λ m. flat_map f (range_with_len turn m)) left
 
--- a walk over a loop, of which so many turns are walked
+-- a walk over a loop, of which `turn` turns are walked
 pub record IsInLoop (p : PlainProgram) (route : Route) (s : PlainStmt) (body : PlainBody) (vs : List ℕ) (turn end : ℕ) (h h0 : Homes) : Type 0 where
   pub led : IsLed p.lanes (accesses_of_stmt p route s vs) (turns_left p route body vs turn end) h h0
   pub fits : All (StepFits p) (steps_left p body vs turn end)

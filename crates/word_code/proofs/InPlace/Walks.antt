@@ -1,4 +1,4 @@
--- Accesses behind one another.
+-- Accesses one after another.
 use Rattle.std.proofs.Common.{◌≡◌, ℕ, List, [], ◌∷◌, ◌++◌, Bool, ◌&&◌, refl, sym, ap, ◌∙◌}
 use Rattle.std.proofs.Math.Bool.{and_assoc}
 use Rattle.word_code.specs.InPlace.Homes.{Homes}

@@ -1,4 +1,4 @@
--- How pieces of text are put together, one behind the other.
+-- How pieces of text are put together, one after the other.
 use Rattle.std.proofs.Common.{◌≡◌, ℕ, suc, ◌+◌, ◌-◌, ◌<◌, ◌≢◌, List, [], ◌++◌, append_assoc, codes, ap, sym, ◌∙◌, arith}
 use Rattle.listing_text.specs.Numbers.{numbered_text}
 use Rattle.word_code.specs.WordPrint.FunctionText.{each_from}
@@ -21,7 +21,7 @@ eight_pieces old a b c d e f g h = simp append_assoc
 pub pieces_between : (old a b c d : List ℕ) → (((old ++ a) ++ b) ++ c) ++ d ≡ old ++ (a ++ (b ++ c) ++ d)
 pieces_between old a b c d = simp append_assoc
 
--- three pieces from nothing, one behind the other
+-- three pieces from nothing, one after the other
 pub three_parts : (a b c start one two three : List ℕ) → start ≡ [] → one ≡ start ++ a → two ≡ one ++ b →
     three ≡ two ++ c
     → three ≡ a ++ b ++ c

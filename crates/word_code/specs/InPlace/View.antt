@@ -57,7 +57,7 @@ phase_accesses p routes body = accesses_of_phase (plain_program p) routes (plain
 abbrev pub Tells : Bool → Program → List Access → HomeTable → Type 0
 Tells answer p accesses table = answer ≡ are_right p.lanes accesses (homes_of table)
 
--- and where they are, the table is the one behind them
+-- and where they are, the table is the one after them
 abbrev pub HousesIf : Bool → Program → List Access → HomeTable → HomeTable → Type 0
 HousesIf answer p accesses before after =
     IsTrue answer → homes_of after ≡ homes_after_all p.lanes accesses (homes_of before)

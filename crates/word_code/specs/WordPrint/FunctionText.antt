@@ -3,7 +3,7 @@ use Rattle.std.specs.Prelude.{ℕ, zero, suc, ◌+◌, ◌-◌, ◌&&◌, nat_le
 use Rattle.std.specs.Prelude.{if◌then◌else◌}
 use Rattle.listing_text.specs.Numbers.{numbered_text}
 
--- a text for each of so many numbers, from this one on
+-- a text for each of a number of numbers, from this one on
 abbrev pub each_from : (ℕ → List ℕ) → ℕ → ℕ → List ℕ
 each_from text zero number = []
 each_from text (suc n) number = text number ++ each_from text n (number + 1)
@@ -14,13 +14,13 @@ each_from text (suc n) number = text number ++ each_from text n (number + 1)
 abbrev pub static_phase_text : List ℕ → List ℕ
 static_phase_text name = codes "static void " ++ name ++ codes "_phase"
 
--- and behind it: the arrays are the caller's
+-- and after it: the arrays are the caller's
 abbrev pub parameters_text : List ℕ
 parameters_text =
     codes "(uint64_t q, const word *restrict X, word *restrict Y, word *restrict A, word *restrict B) {\n"
     ++ codes "(void)q; (void)X; (void)Y; (void)A; (void)B;\n"
 
--- a phase is called: `in` is X, `out` is Y, and A and B are the halves of `work`, of so many words each
+-- a phase is called: `in` is X, `out` is Y, and A and B are the halves of `work`, of a number of words each
 abbrev pub phase_call_text : List ℕ → ℕ → ℕ → List ℕ
 phase_call_text name words number =
     name ++ numbered_text (codes "_phase") number (codes "(q, in, out, work, work + ") ++ decimal words ++ codes ");"

@@ -189,7 +189,7 @@ sizes_text width modulus lanes =
     codes "#include <stdint.h>\n" ++ numbered_text (codes "#define M ") modulus (codes "ULL\n") ++ numbered_text (codes "#define V ") lanes (codes "\n")
     ++ numbered_text (codes "#define HALF ") width.half (codes "\n") ++ rough_text width.rough
 
--- the four arrays, of so many words
+-- the four arrays, of a number of words
 unfoldable pub arrays_text : ℕ → List ℕ
 arrays_text words =
     codes "static __attribute__((aligned(64), unused)) word " ++ numbered_text (codes "X[") words (codes "]") ++ numbered_text (codes ", Y[") words (codes "]")

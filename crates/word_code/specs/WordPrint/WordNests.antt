@@ -10,7 +10,7 @@ abbrev pub is_tile_small : PlainOp → Bool
 is_tile_small (Tile register source) = is_small register && is_small source
 is_tile_small _ = true
 
--- inside so many loops, no more than 64 are open at once
+-- inside a number of loops, no more than 64 are open at once
 abbrev mutual
   pub is_word_nest_within : WordStmt → ℕ → Bool
   is_word_nest_within (Loop count body) open_loops = nat_lt open_loops 64 && are_word_nests_within body (open_loops + 1)

@@ -25,14 +25,14 @@ index_text place = sum_with (codes "ULL") place
 abbrev pub register_text : ℕ → List ℕ
 register_text register = codes "r" ++ decimal register
 
--- a register becomes what the text behind it says
+-- a register becomes what the text after it says
 abbrev pub becomes_text : ℕ → List ℕ
 becomes_text register = register_text register ++ codes " = "
 
 unfoldable pub reduction_text : Reduction → List ℕ
 reduction_text r = becomes_text r.register ++ codes "reduced(" ++ register_text r.register ++ numbered_text (codes ", ") r.amount (codes "ULL);\n")
 
--- it becomes what a function makes of another one, and of what stands behind that
+-- it becomes what a function makes of another one, and of what comes after that
 abbrev pub call_text : ℕ → List ℕ → ℕ → List ℕ
 call_text register function source = becomes_text register ++ function ++ register_text source
 
@@ -85,12 +85,12 @@ table_product_text register source table place step =
     call_text register (codes "mul(") source ++ codes ", " ++ entries_text (codes "t") table place step
     ++ codes ", " ++ entries_text (codes "u") table place step ++ codes ");\n"
 
--- so many registers from this one on
+-- a number of registers from this one on
 abbrev pub sources_text : ℕ → ℕ → List ℕ
 sources_text zero register = []
 sources_text (suc n) register = numbered_text (codes "r") register (codes ",") ++ sources_text n (register + 1)
 
--- so many registers from this one on become the vectors from number k on
+-- a number of registers from this one on become the vectors from number k on
 abbrev pub targets_text : ℕ → ℕ → ℕ → List ℕ
 targets_text zero register k = []
 targets_text (suc n) register k = becomes_text register ++ numbered_text (codes "b[") k (codes "]; ") ++ targets_text n (register + 1) (k + 1)
@@ -99,7 +99,7 @@ unfoldable pub tile_text : ℕ → ℕ → ℕ → List ℕ
 tile_text lanes register source =
     codes "{ vec b[] = {" ++ sources_text lanes source ++ codes "}; tile(b); " ++ targets_text lanes register 0 ++ codes "}\n"
 
--- an operation, for so many lanes
+-- an operation, for these lanes
 unfoldable pub word_op_text : ℕ → Note → PlainOp → List ℕ
 word_op_text lanes note (Load register array place) = load_text register array place
 word_op_text lanes note (Store array place register) = store_text array place register
@@ -113,13 +113,13 @@ word_op_text lanes note (MulTable register source table place step) =
     table_product_text register source table place step
 word_op_text lanes note (Tile register source) = tile_text lanes register source
 
--- the loop inside so many others begins
+-- the loop at this depth begins
 unfoldable pub loop_text : ℕ → ℕ → List ℕ
 loop_text depth count =
     numbered_text (codes "for (uint64_t v") depth (codes " = 0; v") ++ numbered_text [] depth (codes " < ") ++ numbered_text [] count (codes "; v")
     ++ numbered_text [] depth (codes "++) {\n")
 
--- statements inside so many loops
+-- statements inside a number of loops
 abbrev mutual
   pub word_stmt_text : ℕ → ℕ → WordStmt → List ℕ
   word_stmt_text lanes depth (Loop count body) = loop_text depth count ++ word_body_text lanes (depth + 1) body ++ codes "}\n"
@@ -146,11 +146,11 @@ word_tables_text name number (entries ∷ tables) = word_table_text name number 
 abbrev pub declared_text : ℕ → List ℕ
 declared_text register = numbered_text (codes "vec r") register (codes " = splat(0); ") ++ numbered_text (codes "(void)r") register (codes ";\n")
 
--- what a phase does, in a program with so many lanes and registers
+-- what a phase does, in a program with these lanes and registers
 abbrev pub word_phase_text : ℕ → ℕ → WordBody → List ℕ
 word_phase_text lanes regs body = each_from declared_text regs 0 ++ word_body_text lanes 0 body ++ codes "}\n"
 
--- the phases from this number on, each with a text before its number and one behind it
+-- the phases from this number on, each with a text before its number and one after it
 abbrev pub word_phases_text : List ℕ → List ℕ → ℕ → ℕ → ℕ → List WordBody → List ℕ
 word_phases_text before behind lanes regs number [] = []
 word_phases_text before behind lanes regs number (body ∷ phases) =

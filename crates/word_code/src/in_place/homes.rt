@@ -28,7 +28,7 @@ fn addresses(alloc: Global, words: u64) -> Result<Vec<u64>, NoMemory>
 }
 
 impl HomeTable {
-    /// Each of so many words at its own address.
+    /// Each of the words at its own address.
     pub(crate) fn own(alloc: Global, words: u64) -> Result<HomeTable, NoMemory>
         ensures homes { IfOk result (λ table. homes_of table ≡ own_homes words) }
         ensures table { IfOk result (IsTable words) }
@@ -47,7 +47,7 @@ impl HomeTable {
         self.homes[at as usize] == to && self.guests[to as usize] == at
     }
 
-    /// Whether so many words from there on do.
+    /// Whether `count` words from there on do.
     pub(crate) fn are_home(&self, count: u64, at: u64, to: u64) -> bool
         requires at { at + count ≤ length self.now.homes.items }
         requires to { to + count ≤ length self.now.guests.items }
@@ -61,7 +61,7 @@ impl HomeTable {
         true
     }
 
-    /// Puts so many words there.
+    /// Puts `count` words there.
     pub(crate) fn house(&mut self, count: u64, at: u64, to: u64)
         requires at { at + count ≤ length self.old.homes.items }
         requires to { to + count ≤ length self.old.guests.items }

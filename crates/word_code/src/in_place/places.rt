@@ -18,7 +18,7 @@ enum Side {
     Stores,
 }
 
-// Puts the place of the operation, if it is on this side, behind the others.
+// Puts the place of the operation, if it is on this side, after the others.
 fn put_place<'a>(side: Side, op: &'a Op, places: &mut Vec<&'a Expr>) -> Result<(), NoMemory>
     ensures { OnOk result (plain_places places.new.items
         ≡ plain_places places.old.items ++ place_of side (plain_op op.now)) }
@@ -31,7 +31,7 @@ fn put_place<'a>(side: Side, op: &'a Op, places: &mut Vec<&'a Expr>) -> Result<(
     Ok(())
 }
 
-/// Puts the places of the statement on this side behind the others, in the order of its text.
+/// Puts the places of the statement on this side after the others, in the order of its text.
 #[cycle(put)]
 fn put_places<'a>(side: Side, stmt: &'a Stmt, places: &mut Vec<&'a Expr>) -> Result<(), NoMemory>
     ensures { OnOk result (plain_places places.new.items

@@ -277,7 +277,7 @@ pub(crate) fn put_sizes(
     put_rough(out, rough)
 }
 
-/// Writes the four arrays, of so many words.
+/// Writes the four arrays, of `words` words.
 pub(crate) fn put_arrays(out: &mut Vec<u8>, words: u64) -> Result<(), AllocError>
     ensures { OnOk result (out.new.items ≡ out.old.items ++ arrays_text words) }
 {

@@ -1,4 +1,4 @@
-// The functions of a text to link, behind its phases.
+// The functions of a text to link, after its phases.
 
 ghost use Rattle.std.specs.Prelude.{◌≡◌, ◌++◌, IfOk, OnOk};
 ghost use Rattle.word_code.specs.WordPrint.FunctionText.{static_phase_text, phase_call_text, case_text, turns_text, one_phase_text, whole_text, functions_to_link_text, each_from};
@@ -49,7 +49,7 @@ fn put_turns(
     put_word(out, b"\n")
 }
 
-// So many cases.
+// The cases of the phases.
 fn put_cases(out: &mut Vec<u8>, name: &[u8], words: u64, phases: u64) -> Result<(), AllocError>
     ensures { OnOk result (out.new.items ≡ out.old.items
         ++ each_from (case_text name.now words) phases 0) }
@@ -60,7 +60,7 @@ fn put_cases(out: &mut Vec<u8>, name: &[u8], words: u64, phases: u64) -> Result<
     Ok(())
 }
 
-// The turns of so many phases.
+// The turns of all phases.
 fn put_all_turns(
     out: &mut Vec<u8>,
     name: &[u8],
@@ -109,7 +109,7 @@ fn put_whole(
     put_word(out, b"}\n")
 }
 
-/// Writes both, for arrays of so many words.
+/// Writes both, for arrays of `words` words.
 pub(crate) fn put_functions_to_link(
     out: &mut Vec<u8>,
     name: &[u8],

@@ -194,7 +194,7 @@ fn put_table_product(
     put_word(out, b");\n")
 }
 
-// So many registers from this one on.
+// `count` registers from this one on.
 fn put_sources(out: &mut Vec<u8>, count: u64, register: u64) -> Result<(), AllocError>
     requires { register + count < 2 ^ 64 }
     ensures { OnOk result (out.new.items ≡ out.old.items ++ sources_text count register) }
@@ -206,7 +206,7 @@ fn put_sources(out: &mut Vec<u8>, count: u64, register: u64) -> Result<(), Alloc
     put_sources(out, count - 1, register + 1)
 }
 
-// So many registers from this one on become the vectors from number k on.
+// `count` registers from this one on become the vectors from number k on.
 fn put_targets(out: &mut Vec<u8>, count: u64, register: u64, k: u64) -> Result<(), AllocError>
     requires registers { register + count < 2 ^ 64 }
     requires vectors { k + count < 2 ^ 64 }
@@ -234,7 +234,7 @@ fn put_tile(out: &mut Vec<u8>, lanes: u64, register: u64, source: u64) -> Result
     put_word(out, b"}\n")
 }
 
-/// Writes an operation, for so many lanes.
+/// Writes an operation, for these lanes.
 #[tactic(auto, unfolding(crate::specs::WordPrint::WordText::word_op_text))]
 pub(crate) fn put_op(out: &mut Vec<u8>, lanes: u64, note: &Note, op: &Op) -> Result<(), AllocError>
     requires lanes { lanes ≤ 16 }

@@ -30,7 +30,7 @@ fn put_loop(out: &mut Vec<u8>, depth: u64, count: u64) -> Result<(), AllocError>
     put_numbered(out, b"", depth, b"++) {\n")
 }
 
-// A statement inside so many loops.
+// A statement inside `depth` loops.
 fn put_stmt(out: &mut Vec<u8>, lanes: u64, stmt: &WordStmt, depth: u64) -> Result<(), AllocError>
     requires lanes { lanes ≤ 16 }
     requires nests { IsTrue (is_word_nest_within (plain_word_stmt stmt.now) depth) }
@@ -137,7 +137,7 @@ fn put_phase(out: &mut Vec<u8>, lanes: u64, regs: u64, body: &[WordStmt]) -> Res
     put_word(out, b"}\n")
 }
 
-// The phases, each with a text before its number and one behind it.
+// The phases, each with a text before its number and one after it.
 fn put_phases(
     out: &mut Vec<u8>,
     before: &[u8],
