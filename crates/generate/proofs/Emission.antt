@@ -10,7 +10,6 @@ pub mod PassBodies
 pub mod PassPrograms
 pub mod PlainPlaces
 pub mod PlainTrees
-pub mod PlainWorks
 pub mod Programs
 pub mod Right
 pub mod Root

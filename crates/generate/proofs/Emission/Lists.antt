@@ -6,6 +6,7 @@ use Rattle.sigma_spl.specs.Lists.{on_last}
 use Rattle.perm_algebra.specs.Affine.{Sum, constant}
 use Rattle.sigma_lower.specs.TreeLoops.Merge.{PlainPass}
 use Rattle.sigma_lower.specs.TreeLoops.Nests.{loop_of}
+use Rattle.sigma_lower.proofs.TreeLoops.Shaped.{AreShaped, IsShapedWork}
 use Rattle.sigma_spl.specs.Loops.{nest_of, one_nest}
 use Rattle.sigma_spl.specs.Nest.{PlainFactors, PlainNest, repeated}
 use Rattle.sigma_spl.specs.Work.{PlainWork}
@@ -14,12 +15,19 @@ use Rattle.generate.specs.Emission.Places.{PlaceFunction, after}
 use Rattle.generate.proofs.Emission.Closed.{closing, factors_by, firsts}
 use Rattle.generate.proofs.Emission.Matches.{ArePasses, AreSame, AreUpTo, HasDiagonal, IsLast, IsSame}
 use Rattle.generate.proofs.Emission.Nested.{bounds, each, emitted, emitted_nest, multiplier_at, nest_at, plain_work}
-use Rattle.generate.proofs.Emission.Nests.{freed, multiplied-nest, multiplying}
+use Rattle.generate.proofs.Emission.Nests.{IsLooped, IsNodeWork, freed, looped-of, multiplied-nest, multiplying}
 
 -- P holds of each pass
 abbrev pub AllPasses : (PlainPass → Type 0) → List PlainPass → Type 0
 AllPasses P [] = Unit {0}
 AllPasses P (p ∷ ps) = P p × AllPasses P ps
+
+-- passes whose works are those of nodes are loops of them
+pub looped-all : (m size : ℕ) (ps : List PlainPass) → AreShaped (IsShapedWork m) size ps →
+    AreShaped IsNodeWork size ps → AllPasses (IsLooped m size) ps
+looped-all m size [] shapes works = tt
+looped-all m size (p ∷ ps) shapes works =
+    (looped-of m size p shapes.0 works.0.work, looped-all m size ps shapes.1 works.1)
 
 -- passes as they stand in the whole
 abbrev pub nests_as : (PlainPass → PlainPass) → List PlainPass → List (List PlainNest)

@@ -40,14 +40,14 @@ multiplier_at counts w (number v) =
 multiplier_at counts w (entries diagonal place) =
     Some (record { factors = plain_factors diagonal; places = map (place (bounds counts w)) (each w (length counts)) })
 
+abbrev pub nest_with : List ℕ → PlainWork → List Sum → Option PlainMultiplier → List Sum → PlainNest
+nest_with counts w loads multiplier stores =
+    record { counts = counts; work = w; gathers = loads; multiplier = multiplier; scatters = stores }
+
 abbrev pub nest_at : List ℕ → PlainWork → PlaceFunction → Factors → PlaceFunction → PlainNest
-nest_at counts w load factors store = record {
-  counts = counts;
-  work = w;
-  gathers = map (load (bounds counts w)) (each w (length counts + 1));
-  multiplier = multiplier_at counts w factors;
-  scatters = map (store (bounds counts w)) (each w (length counts));
-}
+nest_at counts w load factors store =
+    nest_with counts w (map (load (bounds counts w)) (each w (length counts + 1))) (multiplier_at counts w factors)
+    (map (store (bounds counts w)) (each w (length counts)))
 
 abbrev pub emitted_nest : Pass → PlainNest
 emitted_nest p = nest_at p.site.counts (plain_work p.work) p.site.load p.site.factors p.site.store

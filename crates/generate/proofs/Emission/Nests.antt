@@ -25,7 +25,7 @@ use Rattle.operators.proofs.TensorPaths.Under.{size_under-copies}
 use Rattle.generate.specs.Emission.Passes.{Pass, none}
 use Rattle.generate.specs.Emission.Places.{PlaceFunction, same}
 use Rattle.generate.proofs.Emission.Matches.{HasDiagonal, IsBegun, IsSame}
-use Rattle.generate.proofs.Emission.Nested.{bounds, each, emitted_nest, multiplier_at, nest_at, plain_work}
+use Rattle.generate.proofs.Emission.Nested.{bounds, each, emitted_nest, multiplier_at, nest_at, nest_with, plain_work}
 
 -- ---- lists of sums
 
@@ -142,20 +142,9 @@ module _ (m size : ℕ) (p : PlainPass) (q : Pass) (low : 0 < size) (shape : IsL
       let first = loads h.begun in
       let second = multipliers p.diagonal h.factors in
       let third = out p.afters (q.site.store cs) (λ e fits. h.store cs e counts fits) in
-      ap₂ (λ gs us. record {
-        counts = loops;
-        work = p.work;
-        gathers = gs;
-        multiplier = us;
-        scatters = places_by (loop_of p) p.afters (items_out p.work depth);
-      }) first second
-      ∙ ap (λ ss. record {
-        counts = loops;
-        work = p.work;
-        gathers = map (q.site.load cs) (each p.work (length loops + 1));
-        multiplier = multiplier_at loops p.work q.site.factors;
-        scatters = ss;
-      }) third
+      ap₂ (λ gs us. nest_with loops p.work gs us (places_by (loop_of p) p.afters (items_out p.work depth))) first second
+      ∙ ap (nest_with loops p.work (map (q.site.load cs) (each p.work (length loops + 1)))
+      (multiplier_at loops p.work q.site.factors)) third
       ∙ with-loops h.begun
 
 -- ---- the last pass of the whole, with factors or without
@@ -166,13 +155,7 @@ freed q = record { site = record (q.site) { factors = none }; work = q.work }
 -- a nest that multiplies what it stores by factors, where f tells their places from those of the stores
 abbrev pub multiplying : PlainFactors → (List Sum → List Sum) → PlainNest → PlainNest
 multiplying ds f z =
-    record {
-      counts = z.counts;
-      work = z.work;
-      gathers = z.gathers;
-      multiplier = Some (record { factors = ds; places = f z.scatters });
-      scatters = z.scatters;
-    }
+    nest_with z.counts z.work z.gathers (Some (record { factors = ds; places = f z.scatters })) z.scatters
 
 pub multiplied-nest : (ds : PlainFactors) (place : PlaceFunction) (f : List Sum → List Sum) (q : Pass) →
     (let w = plain_work q.work in
@@ -184,20 +167,10 @@ multiplied-nest ds place f q is at =
     let w = plain_work q.work in
     let cs = bounds q.site.counts w in
     let es = each w (length q.site.counts) in
-    ap (λ ps. record {
-      counts = q.site.counts;
-      work = w;
-      gathers = map (q.site.load cs) (each w (length q.site.counts + 1));
-      multiplier = Some (record { factors = ds; places = ps });
-      scatters = map (q.site.store cs) es;
-    }) (at cs es)
-    ∙ ap (λ x. record {
-      counts = q.site.counts;
-      work = w;
-      gathers = map (q.site.load cs) (each w (length q.site.counts + 1));
-      multiplier = x;
-      scatters = map (q.site.store cs) es;
-    }) (sym is)
+    let loads = map (q.site.load cs) (each w (length q.site.counts + 1)) in
+    let stores = map (q.site.store cs) es in
+    ap (λ ps. nest_with q.site.counts w loads (Some (record { factors = ds; places = ps })) stores) (at cs es)
+    ∙ ap (λ x. nest_with q.site.counts w loads x stores) (sym is)
 
 -- ---- lists of passes
 

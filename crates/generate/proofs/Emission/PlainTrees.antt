@@ -40,11 +40,10 @@ use Rattle.generate.proofs.Emission.Layouts.{layout_emitted, passes_of_layout, t
 use Rattle.generate.proofs.Emission.Matches.{ArePasses, IsAround, IsSame}
 use Rattle.generate.proofs.Emission.Nested.{emitted, emitted_nest}
 use Rattle.generate.proofs.Emission.Nests.{IsLooped, IsNodeWork, maps-same, multiplying, nests, same-nest}
-use Rattle.generate.proofs.Emission.Lists.{AllPasses, closed-passes, factors-passes}
+use Rattle.generate.proofs.Emission.Lists.{AllPasses, closed-passes, factors-passes, looped-all}
 use Rattle.generate.proofs.Emission.PassPrograms.{programs-by-passes}
 use Rattle.generate.proofs.Emission.PlainPlaces.{plain-joined-passes, plain-passes}
 use Rattle.generate.proofs.Emission.PlainPlaces.{plain-whole}
-use Rattle.generate.proofs.Emission.PlainWorks.{looped-all}
 use Rattle.generate.proofs.Emission.Trees.{layouts_match}
 use Rattle.tree_model.proofs.WholeTrees.{forward_itself}
 

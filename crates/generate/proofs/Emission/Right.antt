@@ -22,12 +22,11 @@ use Rattle.generate.specs.Emission.Passes.{Pass, Site, entries, moved, none, twi
 use Rattle.generate.specs.Emission.Places.{after, same}
 use Rattle.generate.specs.Emission.Root.{across, along, packed, right_root, root_in, tiles, tiles_after, tiles_before}
 use Rattle.generate.proofs.Emission.Layouts.{layout_emitted}
-use Rattle.generate.proofs.Emission.Lists.{AllPasses, same-passes}
+use Rattle.generate.proofs.Emission.Lists.{AllPasses, looped-all, same-passes}
 use Rattle.generate.proofs.Emission.Matches.{ArePasses, AreSame, HasDiagonal, IsAround, IsLast, IsSame, at_last-none}
 use Rattle.generate.proofs.Emission.Matches.{last-same}
 use Rattle.generate.proofs.Emission.Nested.{emitted, emitted_nest}
 use Rattle.generate.proofs.Emission.Nests.{IsLooped, IsNodeWork, nests, same-nest}
-use Rattle.generate.proofs.Emission.PlainWorks.{looped-all}
 use Rattle.generate.proofs.Emission.Root.{packed-natural, packed_around, turned_around}
 use Rattle.generate.proofs.Emission.Tiles.{emitted-tile, lead-across, lead-along, tile-nest}
 use Rattle.generate.proofs.Emission.Trees.{layouts_match}

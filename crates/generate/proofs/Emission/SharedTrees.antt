@@ -124,13 +124,9 @@ closed-behind : (o : Option ℕ) (zs ys : List (List PlainNest)) → IsSome ys �
 closed-behind None zs ys h = refl
 closed-behind (Some v) zs ys h = last-behind (map (multiplying (repeated v 1) firsts)) zs ys h
 
-some-nests : (ps : List PlainPass) → IsFull ps → IsSome (nests ps)
-some-nests [] h = absurd h
-some-nests (p ∷ ps) h = tt
-
-some-map : (g : PlainPass → PlainPass) (ps : List PlainPass) → IsFull ps → IsFull (map g ps)
-some-map g [] h = absurd h
-some-map g (p ∷ ps) h = tt
+some-nests : (g : PlainPass → PlainPass) (ps : List PlainPass) → IsFull ps → IsSome (nests (map g ps))
+some-nests g [] h = absurd h
+some-nests g (p ∷ ps) h = tt
 
 -- ---- both parts
 
@@ -179,7 +175,7 @@ module _ (c : Request) (o : Option ℕ) where
       let dealt = shares_of (target_of c) (by rule root a b) r s can parts good.0.left good.0.right can.size in
       ap (closed-phases o) (map-phases (λ z. one_nest (loop_of z)) one right left)
       ∙ closed-parts one o (nests right) (nests left)
-      (some-nests left (some-map (left_pass c.procs c.lanes r s) (layout_passes [] [] a) (full_passes [] [] a)))
+      (some-nests (left_pass c.procs c.lanes r s) (layout_passes [] [] a) (full_passes [] [] a))
       ∙ ap₂ (in_phases one) (is dealt) (left-closed c r s dealt a good.1 works refl o)
       ∙ sym (map-phases (λ q. emitted_nest q ∷ []) one first (layout_emitted (left_root c s (factors_by o)) a))
 

@@ -29,7 +29,7 @@ use Rattle.operators.specs.TensorPaths.Path.{Path, count_of, size_under}
 use Rattle.generate.specs.Emission.Passes.{Factors, Pass, entries, none, site_by, tile, twiddles}
 use Rattle.generate.specs.Emission.Places.{PlaceFunction, inside, turn_of}
 use Rattle.generate.specs.Emission.Root.{across, along, processor_loops, tile_column, tile_row, turns}
-use Rattle.generate.proofs.Emission.Nested.{bounds, emitted_nest, nest_at}
+use Rattle.generate.proofs.Emission.Nested.{bounds, emitted_nest, nest_at, nest_with}
 use Rattle.generate.proofs.Emission.Root.{rows-each}
 use Rattle.generate.proofs.Emission.RootPlaces.{insides-are, natural-turns, spread-out, turns-are}
 
@@ -230,34 +230,20 @@ module _ (c : Request) (r s : ℕ) (h : AreShares c.size c.procs c.lanes r s) wh
             nest_of (loop_of (tile-pass befores x afters))
             ≡ nest_at loops (works.tile v) load factors store
         by None is =
-            ap₂ (λ gs ss. record {
-              counts = loops;
-              work = works.tile v;
-              gathers = gs;
-              multiplier = None;
-              scatters = ss;
-            })
+            ap₂ (λ gs ss. nest_with loops (works.tile v) gs None ss)
             (placed-by befores load into) (placed-by afters store out)
             ∙ ap (λ f. nest_at loops (works.tile v) load f store) (sym is)
         by (Some x) is =
             ap (λ d. nest_of (loop_of (tile-pass befores (Some d) afters))) is.1
-            ∙ ap₂ (λ gs ss. record {
-              counts = loops;
-              work = works.tile v;
-              gathers = gs;
-              multiplier = Some (record {
-                factors = nests.twiddles r s is.0;
-                places = map (all_simplified cs (afters ++ Same ∷ []))
-                    (map (place_sum (tile_path p v r s) (v * v) 0) (map (λ k. constant (k * v)) (range_with_len 0 v)));
-              });
-              scatters = ss;
-            }) (placed-by befores load into) (placed-by afters store out)
-            ∙ ap (λ ps. record {
-              counts = loops;
-              work = works.tile v;
-              gathers = map (load cs) (map constant (range_with_len 0 v));
-              multiplier = Some (record { factors = nests.twiddles r s is.0; places = ps });
-              scatters = map (store cs) (map constant (range_with_len 0 v));
-            })
+            ∙ ap₂ (λ gs ss. nest_with loops (works.tile v) gs
+            (Some (record {
+              factors = nests.twiddles r s is.0;
+              places = map (all_simplified cs (afters ++ Same ∷ []))
+                  (map (place_sum (tile_path p v r s) (v * v) 0) (map (λ k. constant (k * v)) (range_with_len 0 v)));
+            })) ss)
+            (placed-by befores load into) (placed-by afters store out)
+            ∙ ap (λ ps. nest_with loops (works.tile v) (map (load cs) (map constant (range_with_len 0 v)))
+            (Some (record { factors = nests.twiddles r s is.0; places = ps }))
+            (map (store cs) (map constant (range_with_len 0 v))))
             (placed-by (afters ++ Same ∷ []) store (ending afters store out))
             ∙ ap (λ f. nest_at loops (works.tile v) load f store) (sym is.2)
