@@ -103,7 +103,7 @@ touched_word line address lanes k h =
     let lt : h.0 < lanes = omega (arith, h.1, length-map-range_with_len (λ j. j / line) address lanes) in
     (h.0, lt, sym (get_or-map-range_with_len (λ j. j / line) address lanes h.0 (address + h.0) k lt refl) ∙ h.2)
 
-array_inside : (words value lanes : ℕ) (array : Array) → value + lanes ≤ words →
+pub array_inside : (words value lanes : ℕ) (array : Array) → value + lanes ≤ words →
     array_start words array + value + lanes ≤ 4 * words
 array_inside words value lanes X h = omega arith
 array_inside words value lanes _ h = omega arith

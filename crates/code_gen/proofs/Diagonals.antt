@@ -1,18 +1,17 @@
 -- The entries of diagonals under tensors.
-use Rattle.std.proofs.Common.{◌≡◌, ℕ, zero, suc, ◌*◌, ◌/◌, ◌%◌, ◌<◌, ◌≤◌, List, [], ◌∷◌, length, refl, ap, ◌∙◌, arith}
-use Rattle.std.proofs.Common.{mul_comm, mod-lt, zero-mul, mul-zero, suc-mul}
-use Rattle.std.proofs.Math.Nat.{div-lt_iff_lt-mul}
+use Rattle.std.proofs.Common.{◌≡◌, ℕ, zero, suc, ◌*◌, ◌<◌, ◌≤◌, List, [], ◌∷◌, length, refl, ap, ◌∙◌, arith}
+use Rattle.std.proofs.Common.{mul_comm, zero-mul, mul-zero, suc-mul}
 use Rattle.std.specs.Prelude.{slice_index}
 use Rattle.std.proofs.lemmas.List.FromFn.{fill_by_all}
 use Rattle.index_fn.specs.Mapping.{at}
 use Rattle.operators.specs.Sum.{list_below}
 use Rattle.operators.proofs.Lists.{at-list_below, length-list_below, list_below-same}
-use Rattle.sigma_spl.proofs.Keeps.{right_positive}
 use Rattle.sigma_spl.specs.Nest.{PlainFactors, spread, factor_at, factor_count, inner_of}
 use Rattle.code_gen.specs.PassCode.Statements.{diagonal_of}
 use Rattle.operators.specs.TensorPaths.Path.{Path, count_of, grown, size_under}
 use Rattle.operators.specs.declared.tensor_paths.Tensor.{Tensor}
 use Rattle.operators.specs.declared.tensor_paths.Tensor.TheVariants.{Blocks, Columns}
+use Rattle.loop_nests.proofs.PassPlaces.Carries.{inner-below}
 
 -- one tensor more
 pub grown-is : (t : Tensor) (n : ℕ) → count_of t * n ≡ grown t n
@@ -38,16 +37,6 @@ inner-some (t ∷ path) n h =
     let outer = grown-some t (size_under path n) h in
     let inner = inner-some path n outer.0 in
     (inner.0, let low = inner.1 in let high = outer.1 in omega arith)
-
--- a place of the whole is one of what is under the tensors
-pub inner-below : (path : Path) (n i : ℕ) → i < size_under path n → at (inner_of path n) i < n
-inner-below [] n i h = h
-inner-below (Blocks c ∷ path) n i h =
-    let outer = grown-some (Blocks c) (size_under path n) (omega arith) in
-    let inner = inner-below path n (i % size_under path n) (mod-lt i outer.0) in omega arith
-inner-below (Columns c ∷ path) n i h =
-    let some : 0 < c = right_positive (size_under path n) c (omega arith) in
-    let inner = inner-below path n (i / c) ((div-lt_iff_lt-mul some).1 h) in omega arith
 
 pub diagonal-size : (m : ℕ) (factors : PlainFactors) (inner : List ℕ) → inner ≡ diagonal_of m factors →
     length inner ≡ factor_count factors

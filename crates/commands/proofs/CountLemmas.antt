@@ -1,9 +1,9 @@
 -- What the processors of a program execute together is within 64 bits.
-use Rattle.std.proofs.Common.{◌≡◌, ◌<◌, ◌≤◌, ◌+◌, ◌-◌, ◌*◌, ◌/◌, ◌^◌, ℕ, zero, suc, List, [], length, map, flat_map}
-use Rattle.std.proofs.Common.{refl, sym, ap, ◌∙◌, arith, add-zero, add_assoc, length-append, mul_comm}
+use Rattle.std.proofs.Common.{◌≡◌, ◌<◌, ◌≤◌, ◌+◌, ◌-◌, ◌*◌, ◌^◌, ℕ, zero, suc, List, [], length, map, flat_map}
+use Rattle.std.proofs.Common.{refl, ap, ◌∙◌, arith, add-zero, add_assoc, length-append, mul_comm}
 use Rattle.std.specs.Prelude.{slice_index_or}
 use Rattle.std.specs.List.{range_with_len}
-use Rattle.std.proofs.Math.Nat.{mul-div_cancel_left, mul-le-mul_left}
+use Rattle.std.proofs.Math.Nat.{mul-le-mul_left}
 use Rattle.std.proofs.lemmas.List.{get_or-map, length-map}
 use Rattle.std.proofs.lemmas.List.FromFn.{get_or-map-range_with_len}
 use Rattle.operators.specs.Sum.{sum_below}
@@ -34,20 +34,6 @@ pub next_fits : (n k sum term : ℕ) (f : ℕ → ℕ) → k < n → sum ≡ sum
 next_fits n k sum term f low s e fits =
     let one : sum_below (suc k) f ≡ sum_below k f + f k = refl in
     omega (arith, s, e, one, fits, sum_of_fewer n (suc k) f (omega (arith, low)))
-
--- n equal shares, of which p make the whole, are n of them
-shares-sum : (p whole : ℕ) (f : ℕ → ℕ) (n : ℕ) → ((q : ℕ) → q < n → p * f q ≡ whole) → p * sum_below n f ≡ n * whole
-shares-sum p whole f zero each = omega arith
-shares-sum p whole f (suc n) each =
-    let rest = shares-sum p whole f n (λ q low. each q (omega (arith, low))) in
-    let last = each n (omega arith) in
-    let spread : p * (sum_below n f + f n) ≡ p * sum_below n f + p * f n = omega arith in
-    let more : suc n * whole ≡ n * whole + whole = omega arith in
-    omega (arith, rest, last, spread, more)
-
--- equal shares of all are the whole
-pub whole-of : (p whole : ℕ) (f : ℕ → ℕ) → 0 < p → ((q : ℕ) → q < p → p * f q ≡ whole) → sum_below p f ≡ whole
-whole-of p whole f some each = sym (mul-div_cancel_left (sum_below p f) some) ∙ ap (λ n. n / p) (shares-sum p whole f p each) ∙ mul-div_cancel_left whole some
 
 -- a list that is joined of parts is as long as all parts
 parts_length : {X : Type 0} (g : ℕ → List X) (n first : ℕ) →

@@ -32,9 +32,10 @@ use Rattle.commands.proofs.Documents.{document_of, with_tree}
 use Rattle.commands.specs.Sample.{sample_vector, weighted_sum, sample_text, AreCountable}
 use Rattle.commands.proofs.Programs.{IsGoodCode}
 use Rattle.runs.specs.Stream.{HasNoStranger}
-use Rattle.commands.proofs.CountLemmas.{whole-of, within_word}
+use Rattle.commands.proofs.CountLemmas.{within_word}
 use Rattle.commands.proofs.Requests.{limits}
 use Rattle.commands.proofs.RunLemmas.{good_turns}
+use Rattle.generate.proofs.Performed.{whole-of}
 
 -- the generator goes on
 pub state_more : (n v : ℕ) → state_after (n + 1) v ≡ next_state (state_after n v)

@@ -1,10 +1,8 @@
 -- Different rounds of loops one in the other are apart.
 use Rattle.std.proofs.Common.{◌≡◌, ◌≢◌, ◌⊎◌, ℕ, ◌+◌, ◌<◌, ◌≤◌, true, false, not, List, All, Contains, flat_map, refl}
 use Rattle.std.proofs.Common.{ap, arith, inl, inr, ⊎_elim, true≢false}
-use Rattle.std.specs.List.{range_with_len}
 use Rattle.std.proofs.lemmas.Bool.{not-true}
 use Rattle.std.proofs.lemmas.List.Elements.{All-head, All-tail, Contains-append_cases}
-use Rattle.std.proofs.lemmas.List.FromFn.{length-range_with_len, get_or-range_with_len}
 use Rattle.icode.specs.CodeLaws.Nests.{AreInRange}
 use Rattle.icode.specs.declared.action.Action.{Action}
 use Rattle.icode.specs.declared.program.Array.{Array}
@@ -21,6 +19,7 @@ use Rattle.fast_loops.specs.Rounds.{Stored, same_array, is_placed, are_placed, a
 use Rattle.fast_loops.proofs.Acts.{loaded_words, Loads, Stores, AreApart}
 use Rattle.fast_loops.proofs.Linear.{wrong, store_told}
 use Rattle.fast_loops.proofs.Strides.{added, value_by_strides, rounds_differ}
+use Rattle.fast_loops.proofs.Members.{range_item}
 
 -- ---- arrays
 
@@ -53,12 +52,6 @@ array-other words B B h = absurd (true≢false h)
 
 -- ---- what a round stores and loads
 
-pub in-range : (first n k : ℕ) → Contains (range_with_len first n) k → (first ≤ k) × (k < first + n)
-in-range first n k h =
-    let small : h.0 < n = omega (arith, h.1, length-range_with_len first n) in
-    let is = get_or-range_with_len first n h.0 k small in
-    (omega (arith, h.2, is), omega (arith, h.2, is))
-
 -- a word that is stored into: in its array, and within a step of the innermost loop
 record IsStored (p : PlainProgram) (to : Stored) (value step k : ℕ) : Type 0 where
   from : array_start (whole_lines p.size p.line) to.array + value ≤ k
@@ -81,7 +74,7 @@ stored-step p step to (Store array (Sum constant parts) r) ws q k h fits has =
     let told = store_told p.lanes to step array constant parts r h in
     let start = array-same words array to.array told.into in
     let same : (parts_numbers parts ws q).value ≡ (parts_numbers to.parts ws q).value = ap (λ parts. (parts_numbers parts ws q).value) told.by in
-    let there = in-range (array_start words array + (constant + (parts_numbers parts ws q).value)) p.lanes k has in
+    let there = range_item (array_start words array + (constant + (parts_numbers parts ws q).value)) p.lanes k has in
     let low = told.low in
     let room = fits.place in
     record {
@@ -97,7 +90,7 @@ loaded-step : (p : PlainProgram) (step : ℕ) (to : Stored) (op : PlainOp) (ws :
 loaded-step p step to (Load r array place) ws q k h fits has =
     let words : ℕ = whole_lines p.size p.line in
     let two = both_true (not (same_array array to.array)) (is_linear place) h in
-    let there = in-range (array_start words array + (sum_numbers place ws q).value) p.lanes k has in
+    let there = range_item (array_start words array + (sum_numbers place ws q).value) p.lanes k has in
     let room = fits.place in
     record {
       array = array;

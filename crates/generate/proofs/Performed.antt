@@ -35,7 +35,7 @@ use Rattle.sigma_spl.specs.Shared.Ready.{IsReady, IsReadyPass}
 -- ---- equal shares
 
 -- n equal shares, of which p make the whole, are n of them
-shares-sum : (p whole : ℕ) (f : ℕ → ℕ) (n : ℕ) → ((q : ℕ) → q < n → p * f q ≡ whole) → p * sum_below n f ≡ n * whole
+pub shares-sum : (p whole : ℕ) (f : ℕ → ℕ) (n : ℕ) → ((q : ℕ) → q < n → p * f q ≡ whole) → p * sum_below n f ≡ n * whole
 shares-sum p whole f zero each = omega arith
 shares-sum p whole f (suc n) each =
     let rest = shares-sum p whole f n (λ q low. each q (omega (arith, low))) in

@@ -21,7 +21,7 @@ use Rattle.tree_model.specs.KernelCosts.{CanMake, product_cost, products_cost, r
 
 -- ---- products
 
-sum_below-le : (n b : ℕ) (f : ℕ → ℕ) → ((i : ℕ) → f i ≤ b) → sum_below n f ≤ n * b
+pub sum_below-le : (n b : ℕ) (f : ℕ → ℕ) → ((i : ℕ) → f i ≤ b) → sum_below n f ≤ n * b
 sum_below-le zero b f each = omega arith
 sum_below-le (suc n) b f each = let rest = sum_below-le n b f each in let last = each n in omega arith
 

@@ -25,7 +25,7 @@ use Rattle.tree_model.specs.Breakdown.{Breakdown}
 
 -- ---- the passes are the loops
 
-map-turned : (ps : List PlainLoop) → reverse (map one_nest ps) ≡ map one_nest (reverse ps)
+pub map-turned : (ps : List PlainLoop) → reverse (map one_nest ps) ≡ map one_nest (reverse ps)
 map-turned [] = refl
 map-turned (p ∷ ps) =
     reverse-append (one_nest p ∷ []) (map one_nest ps)

@@ -10,7 +10,6 @@ use Rattle.sigma_spl.specs.Term.{same, nest, product}
 use Rattle.sigma_spl.specs.Work.{kernel, short}
 use Rattle.sigma_lower.specs.Terms.{one_more, halvings, hadamard_term}
 use Rattle.sigma_lower.proofs.Lowers.{halvings-power, power-above}
-use Rattle.sigma_lower.proofs.Parts.{grown-one}
 use Rattle.sigma_spl.specs.Room.{HasRoom}
 use Rattle.spl_ast.specs.Formula.{Formula, Stride, Product, TensorLeft, TensorRight, size_of}
 use Rattle.spl_ast.specs.Shape.{IsShaped}
@@ -19,6 +18,7 @@ use Rattle.operators.specs.declared.tensor_paths.Tensor.{Tensor}
 use Rattle.operators.specs.declared.tensor_paths.Tensor.TheVariants.{Blocks, Columns}
 use Rattle.operators.specs.TensorPaths.Path.{Path, count_of, grown}
 use Rattle.operators.proofs.TensorPaths.Under.{size_under-push}
+use Rattle.smp_rewrite.proofs.Tensors.{grown-one}
 
 -- ---- room
 

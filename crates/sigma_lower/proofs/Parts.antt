@@ -1,5 +1,5 @@
 -- What terms do under the tensors of a path.
-use Rattle.std.proofs.Common.{◌≡◌, ℕ, suc, ◌+◌, ◌*◌, ◌/◌, ◌%◌, ◌<◌, arith, refl, sym, ap, ap₂, ◌∙◌, List, [], ◌∷◌, ◌++◌}
+use Rattle.std.proofs.Common.{◌≡◌, ℕ, ◌+◌, ◌*◌, ◌/◌, ◌%◌, ◌<◌, arith, refl, sym, ap, ap₂, ◌∙◌, List, [], ◌∷◌, ◌++◌}
 use Rattle.std.proofs.Common.{length, inl, inr, subst, mod-lt, mod-eq_of_lt, div-lt_iff_lt-mul}
 use Rattle.std.specs.Prelude.{slice_index}
 use Rattle.std.proofs.Math.Nat.{mod-mod, div-one, mod-one, div-eq_of_lt}
@@ -14,12 +14,13 @@ use Rattle.operators.proofs.Places.{stride_below}
 use Rattle.operators.specs.Sum.{list_below}
 use Rattle.operators.proofs.Lists.{at-list_below, list_below-same, length-list_below, place_below, factor_positive}
 use Rattle.operators.proofs.Sums.{sum_below-same}
-use Rattle.sigma_spl.specs.Good.{AreBelow, CanNest, IsGoodTerm, IsVector}
+use Rattle.sigma_spl.specs.Good.{CanNest, IsGoodTerm, IsVector}
 use Rattle.sigma_spl.specs.Nest.{PlainFactors, factor_count, factor_at}
 use Rattle.sigma_spl.specs.Term.{PlainTerm, nest, move, diag, product, term_on}
 use Rattle.sigma_spl.specs.Work.{PlainWork, tile, work_size, work_on}
 use Rattle.sigma_spl.proofs.Keeps.{under-vector, vector-fill}
 use Rattle.sigma_spl.proofs.Natural.{at-natural}
+use Rattle.sigma_spl.proofs.Limited.{below-all}
 use Rattle.sigma_lower.specs.Terms.{one_more}
 use Rattle.sigma_lower.proofs.TreeTerms.Permuted.{scale-under}
 use Rattle.operators.specs.declared.tensor_paths.Tensor.{Tensor}
@@ -28,6 +29,7 @@ use Rattle.operators.specs.TensorPaths.Path.{Path, count_of, grown, size_under, 
 use Rattle.operators.proofs.TensorPaths.PathPlaces.{at-under, place-below}
 use Rattle.operators.proofs.TensorPaths.Under.{size_under-push, under-push, under-product, under-size}
 use Rattle.spl_ast.proofs.Vectors.{list_vector}
+use Rattle.smp_rewrite.proofs.Tensors.{grown-one}
 
 -- a good term that does to a vector what an operator does
 pub record Lowers (m n : ℕ) (t : PlainTerm) (a : Operator) : Type 0 where
@@ -73,10 +75,6 @@ transform-work kind m d w =
     }
 
 -- ---- copies that move their items
-
-below-all : (n : ℕ) (ks : List ℕ) → ((i : ℕ) → i < length ks → slice_index ks i < n) → AreBelow n ks
-below-all n [] h = tt
-below-all n (k ∷ ks) h = (h 0 (omega arith), below-all n ks (λ i below. h (suc i) (omega arith)))
 
 pub move-lowers : (m : ℕ) (path : Path) (ks : List ℕ) → ((i : ℕ) → i < length ks → slice_index ks i < length ks) →
     Lowers m (size_under path (length ks)) (move path ks) (under path (length ks) (gather (length ks) (slice_index ks)))
@@ -208,10 +206,6 @@ one-copy : (m : ℕ) (t : Tensor) (n : ℕ) (a : Operator) (y : List ℕ) → co
     length (a y) ≡ n → one_under t n a y ≡ a y
 one-copy m (Blocks c) n a y one v size = one-block m c n a y one v size
 one-copy m (Columns c) n a y one v size = one-column m n c a y one v size
-
-pub grown-one : (t : Tensor) (n : ℕ) → count_of t ≡ 1 → grown t n ≡ n
-grown-one (Blocks c) n one = ap (λ z. z * n) one ∙ omega arith
-grown-one (Columns c) n one = ap (λ z. n * z) one ∙ omega arith
 
 pub size-more : (path : Path) (t : Tensor) (n : ℕ) → size_under (one_more path t) n ≡ size_under path (grown t n)
 size-more path t n =

@@ -14,6 +14,7 @@ use Rattle.sigma_spl.specs.Term.{scat}
 use Rattle.sigma_spl.specs.Work.{PlainWork, kernel, rows, horner, tile, copy, work_size, work_on, trees_of}
 use Rattle.sigma_spl.proofs.Nests.{moves-no-words}
 use Rattle.sigma_spl.proofs.Keeps.{scatter-same}
+use Rattle.sigma_spl.proofs.Walk.{gather-vector}
 use Rattle.tree_model.specs.Trees.{PlainTrees, single, tensor, trees_size, trees_on}
 use Rattle.sigma_lower.specs.Trees.{core_term}
 use Rattle.sigma_lower.proofs.Lowers.{gath-lowers}
@@ -115,17 +116,13 @@ core-lowers c path (steps.twiddles r s w) some h high low = diag-lowers c.modulu
 core-lowers c path (thomas_in r s) some h high low = gath-lowers c.modulus path (r * s) (ThomasIn r s) some (in-move r s h)
 core-lowers c path (thomas_out r s) some h high low = back-lowers c.modulus path r s some h
 
-gather-keeps : (m n : ℕ) (f : ℕ → ℕ) (y : List ℕ) → ((i : ℕ) → i < n → f i < n) → IsVector m n y →
-    IsVector m n (gather n f y)
-gather-keeps m n f y stay v = list_vector m n _ (λ i below. v.residues (f i) (stay i below))
-
 core-keeps : (c : Target) (k : PlainCore) (y : List ℕ) → 0 < c.modulus → IsGoodCore k → core_size k ≤ 1048576 →
     IsVector c.modulus (core_size k) y → IsVector c.modulus (core_size k) (core_on c.modulus k y)
 core-keeps c (piece w) y positive h low v = piece-vector c.modulus w y positive h
-core-keeps c (turns r s) y positive h low v = gather-keeps c.modulus (r * s) _ y (strided-move r s (omega (arith, h.0)) (omega (arith, h.1)) low).permutes.there_below v
+core-keeps c (turns r s) y positive h low v = gather-vector c.modulus (r * s) _ y (strided-move r s (omega (arith, h.0)) (omega (arith, h.1)) low).permutes.there_below v
 core-keeps c (steps.twiddles r s w) y positive h low v = list_vector c.modulus (r * s) _ (λ i below. mod-lt _ positive)
-core-keeps c (thomas_in r s) y positive h low v = gather-keeps c.modulus (r * s) _ y (in-move r s h).permutes.there_below v
-core-keeps c (thomas_out r s) y positive h low v = gather-keeps c.modulus (r * s) _ y (out-move r s h).permutes.there_below v
+core-keeps c (thomas_in r s) y positive h low v = gather-vector c.modulus (r * s) _ y (in-move r s h).permutes.there_below v
+core-keeps c (thomas_out r s) y positive h low v = gather-vector c.modulus (r * s) _ y (out-move r s h).permutes.there_below v
 
 pub step-keeps : (c : Target) (s : PlainStep) (x : List ℕ) → IsMachine c → IsGood c.size s →
     IsVector c.modulus c.size x → IsVector c.modulus c.size (step_on c.modulus s x)

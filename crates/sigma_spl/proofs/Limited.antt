@@ -115,7 +115,7 @@ map-id : (ks : List ℕ) → map (λ k. k) ks ≡ ks
 map-id [] = refl
 map-id (k ∷ ks) = ap (λ z. k ∷ z) (map-id ks)
 
-below-all : (m : ℕ) (ks : List ℕ) → ((i : ℕ) → i < length ks → slice_index ks i < m) → AreBelow m ks
+pub below-all : (m : ℕ) (ks : List ℕ) → ((i : ℕ) → i < length ks → slice_index ks i < m) → AreBelow m ks
 below-all m [] h = tt
 below-all m (k ∷ ks) h = (h 0 (omega arith), below-all m ks (λ i below. h (suc i) (omega arith)))
 

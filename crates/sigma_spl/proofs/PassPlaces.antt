@@ -35,7 +35,7 @@ sum-two (suc n) s t f a b other =
       | inr last ↦ let e : s ≡ n = omega arith in let g = ap f e in let before : t < n = omega (arith, e, other, b) in let h = sum-least n t f before in omega (arith, h, g)
     ]
 
-nest-least : (path : Path) (f : List ℕ → ℕ) (vs : List ℕ) → AreInRange path vs → f vs ≤ nest_sum path f
+pub nest-least : (path : Path) (f : List ℕ → ℕ) (vs : List ℕ) → AreInRange path vs → f vs ≤ nest_sum path f
 nest-least [] f [] range = omega arith
 nest-least [] f (v ∷ vs) range = absurd range
 nest-least (t ∷ path) f [] range = absurd range

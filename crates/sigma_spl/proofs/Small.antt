@@ -20,10 +20,10 @@ use Rattle.operators.specs.TensorPaths.Path.{Path, count_of, size_under}
 pub max-lt : (a b n : ℕ) → a < n → b < n → max a b < n
 max-lt a b n h k = grind (arith, nat_tests)
 
-max-left : (a b n : ℕ) → max a b < n → a < n
+pub max-left : (a b n : ℕ) → max a b < n → a < n
 max-left a b n h = grind (arith, nat_tests)
 
-max-right : (a b n : ℕ) → max a b < n → b < n
+pub max-right : (a b n : ℕ) → max a b < n → b < n
 max-right a b n h = grind (arith, nat_tests)
 
 -- ---- a number more
@@ -123,7 +123,7 @@ abbrev pub HasCounts : Path → ℕ → (ℕ → ℕ) → Type 0
 HasCounts [] v cs = Unit {0}
 HasCounts (t ∷ path) v cs = (cs v ≡ count_of t) × HasCounts path (v + 1) cs
 
-size-positive : (path : Path) (d : ℕ) → AreSeveral path → 0 < d → 0 < size_under path d
+pub size-positive : (path : Path) (d : ℕ) → AreSeveral path → 0 < d → 0 < size_under path d
 size-positive [] d several h = h
 size-positive (Blocks c ∷ path) d several h = let g = times-lt c 0 (size_under path d) (omega (arith, several.0)) (size-positive path d several.1 h) in let e : size_under path d * c ≡ c * size_under path d = omega arith in omega (arith, g, e)
 size-positive (Columns c ∷ path) d several h = let g = times-lt c 0 (size_under path d) (omega (arith, several.0)) (size-positive path d several.1 h) in omega (arith, g)

@@ -50,7 +50,7 @@ pub passes-vector : (m n : ℕ) (ps : List (List PlainNest)) (x : List ℕ) → 
 passes-vector m n [] x positive v = v
 passes-vector m n (zs ∷ ps) x positive v = nests-vector m n zs (passes_on m n ps x) positive
 
-gather-vector : (m n : ℕ) (f : ℕ → ℕ) (x : List ℕ) → ((i : ℕ) → i < n → f i < n) → IsVector m n x →
+pub gather-vector : (m n : ℕ) (f : ℕ → ℕ) (x : List ℕ) → ((i : ℕ) → i < n → f i < n) → IsVector m n x →
     IsVector m n (gather n f x)
 gather-vector m n f x stay v = list_vector m n _ (λ i below. v.residues (f i) (stay i below))
 

@@ -57,7 +57,7 @@ under_gathers (t ∷ path) n a h = one_gathers t (size_under path n) (under path
 abbrev Moved : ℕ → ℕ → ℕ → PlainStep → Type 0
 Moved m line n s = (f : ℕ → ℕ) × ((x : List ℕ) → step_on m s x ≡ gather n f x) × MovesWholeLines line n f
 
-one_line : (line : ℕ) → 0 < line → 1 % line ≡ 0 → line ≡ 1
+pub one_line : (line : ℕ) → 0 < line → 1 % line ≡ 0 → line ≡ 1
 one_line zero h e = absurd (omega arith)
 one_line (suc zero) h e = refl
 one_line (suc (suc k)) h e = absurd (let one : 1 % suc (suc k) ≡ 1 = mod-eq_of_lt (omega arith) in omega (arith, one, e))

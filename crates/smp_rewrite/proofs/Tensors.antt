@@ -44,7 +44,7 @@ one_under-one : (t : Tensor) (n : ℕ) (a : Operator) (x : List ℕ) → count_o
 one_under-one (Blocks k) n a x one size reads = ap (λ k. on_blocks k n a x) one ∙ on_blocks-one n a x size reads
 one_under-one (Columns k) n a x one size reads = ap (λ k. on_columns n k a x) one ∙ on_columns-one n a x size reads
 
-grown-one : (t : Tensor) (n : ℕ) → count_of t ≡ 1 → grown t n ≡ n
+pub grown-one : (t : Tensor) (n : ℕ) → count_of t ≡ 1 → grown t n ≡ n
 grown-one (Blocks k) n one = ap (λ k. k * n) one ∙ omega arith
 grown-one (Columns k) n one = ap (λ k. n * k) one ∙ omega arith
 

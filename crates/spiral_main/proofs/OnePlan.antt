@@ -1,5 +1,5 @@
 -- A request has one chosen tree, or one first cause to be refused.
-use Rattle.std.proofs.Common.{◌≡◌, ◌≤◌, ℕ, Option, None, Some, Ok, Err, sym, ap, ap₂, ◌∙◌, refl, arith}
+use Rattle.std.proofs.Common.{◌≡◌, ◌≤◌, Ok, Err, sym, ap, ap₂, ◌∙◌, refl, arith}
 use Rattle.matrix_meaning.specs.declared.Request.{Request}
 use Rattle.plan_search.specs.declared.generating.GenerateFault.{GenerateFault}
 use Rattle.plan_search.specs.declared.generating.GenerateFault.TheVariants as generate
@@ -8,16 +8,9 @@ use Rattle.plan_search.proofs.WholeChosen.{whole_divides, whole_least_once}
 use Rattle.commands.specs.Planned.{IsAdmitted, IsBarred, IsPlanned}
 use Rattle.tree_model.specs.Breakdown.{Breakdown}
 use Rattle.tree_model.specs.Chosen.{whole_cost}
+use Rattle.commands.proofs.ConvolutionCommands.OneConvolution.{power_clash, power_once}
 
 -- ---- roots
-
--- a power is right or wrong
-none_or_some : (o : Option ℕ) (power : ℕ) → o ≡ None → o ≡ Some power → ⊥
-none_or_some o power none some = absurd (cc)
-
--- and a wrong one is one
-power_once : (o : Option ℕ) (a b : ℕ) → o ≡ Some a → o ≡ Some b → a ≡ b
-power_once o a b p q = cc
 
 -- ---- tree
 
@@ -26,7 +19,7 @@ planned_once r t u p q = whole_once r t u p.1 q.1
 
 pub plan_clash : (r : Request) (t : Breakdown) (fault : GenerateFault) → IsPlanned r (Ok t)
     → IsPlanned r (Err fault) → ⊥
-plan_clash r t (generate.Root power) p q = none_or_some _ power p.0 q
+plan_clash r t (generate.Root power) p q = power_clash _ power p.0 q
 plan_clash r t generate.NoDivide p q = q.1 (whole_divides r t p.1.tree)
 plan_clash r t (generate.OverBudget cost budget) p q =
     let least : cost ≤ whole_cost r t = q.1.bound t p.1.tree in
@@ -35,15 +28,15 @@ plan_clash r t generate.NoMemory p q = q
 
 pub refusal_once : (r : Request) (f g : GenerateFault) → IsPlanned r (Err f) → IsPlanned r (Err g) → f ≡ g
 refusal_once r (generate.Root power) (generate.Root other) p q = ap generate.Root (power_once _ power other p q)
-refusal_once r (generate.Root power) generate.NoDivide p q = absurd (none_or_some _ power q.0 p)
-refusal_once r (generate.Root power) (generate.OverBudget cost budget) p q = absurd (none_or_some _ power q.0 p)
+refusal_once r (generate.Root power) generate.NoDivide p q = absurd (power_clash _ power q.0 p)
+refusal_once r (generate.Root power) (generate.OverBudget cost budget) p q = absurd (power_clash _ power q.0 p)
 refusal_once r (generate.Root power) generate.NoMemory p q = absurd q
-refusal_once r generate.NoDivide (generate.Root power) p q = absurd (none_or_some _ power p.0 q)
+refusal_once r generate.NoDivide (generate.Root power) p q = absurd (power_clash _ power p.0 q)
 refusal_once r generate.NoDivide generate.NoDivide p q = refl
 refusal_once r generate.NoDivide (generate.OverBudget cost budget) p q =
     absurd (p.1 (whole_divides r q.1.reached.0 q.1.reached.1))
 refusal_once r generate.NoDivide generate.NoMemory p q = absurd q
-refusal_once r (generate.OverBudget cost budget) (generate.Root power) p q = absurd (none_or_some _ power p.0 q)
+refusal_once r (generate.OverBudget cost budget) (generate.Root power) p q = absurd (power_clash _ power p.0 q)
 refusal_once r (generate.OverBudget cost budget) generate.NoDivide p q =
     absurd (q.1 (whole_divides r p.1.reached.0 p.1.reached.1))
 refusal_once r (generate.OverBudget cost budget) (generate.OverBudget other limit) p q =
@@ -54,17 +47,17 @@ refusal_once r generate.NoMemory g p q = absurd p
 -- ---- whatever the budget
 
 pub bar_clash : (r : Request) (fault : GenerateFault) → IsAdmitted r → IsBarred r fault → ⊥
-bar_clash r (generate.Root power) p q = none_or_some _ power p.0 q
+bar_clash r (generate.Root power) p q = power_clash _ power p.0 q
 bar_clash r generate.NoDivide p q = q.1 p.1
 bar_clash r (generate.OverBudget cost budget) p q = q
 bar_clash r generate.NoMemory p q = q
 
 pub bar_once : (r : Request) (f g : GenerateFault) → IsBarred r f → IsBarred r g → f ≡ g
 bar_once r (generate.Root power) (generate.Root other) p q = ap generate.Root (power_once _ power other p q)
-bar_once r (generate.Root power) generate.NoDivide p q = absurd (none_or_some _ power q.0 p)
+bar_once r (generate.Root power) generate.NoDivide p q = absurd (power_clash _ power q.0 p)
 bar_once r (generate.Root power) (generate.OverBudget cost budget) p q = absurd q
 bar_once r (generate.Root power) generate.NoMemory p q = absurd q
-bar_once r generate.NoDivide (generate.Root power) p q = absurd (none_or_some _ power p.0 q)
+bar_once r generate.NoDivide (generate.Root power) p q = absurd (power_clash _ power p.0 q)
 bar_once r generate.NoDivide generate.NoDivide p q = refl
 bar_once r generate.NoDivide (generate.OverBudget cost budget) p q = absurd q
 bar_once r generate.NoDivide generate.NoMemory p q = absurd q

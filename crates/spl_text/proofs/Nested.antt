@@ -15,7 +15,7 @@ use Rattle.spl_text.specs.Reading.{heads, plain, made_at, arguments_by, two_form
 use Rattle.spl_text.specs.Reading.{ended_formula, all_of, whole_line}
 use Rattle.spl_text.specs.Spelling.{spells, spells_line, HasSpelling}
 
-go_ok : {A B : Type 0} (r : Result (A × Place ℕ) (Stop TextFault))
+pub go_ok : {A B : Type 0} (r : Result (A × Place ℕ) (Stop TextFault))
     (next : A → Place ℕ → Result (B × Place ℕ) (Stop TextFault)) (y : B × Place ℕ) → and_go_on r next ≡ Ok y →
     (x : A × Place ℕ) × (r ≡ Ok x) × (next x.0 x.1 ≡ Ok y)
 go_ok (Ok x) next y e = (x, refl, e)

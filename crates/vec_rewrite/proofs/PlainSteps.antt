@@ -26,10 +26,10 @@ plain-made n m line ss =
     let h : Target = record { size = n; modulus = m; procs = 1; line = line; lanes = 1 } in
     ap (map (factor_step 1 1)) (sym (map-append kept (cut h ss).first (cut h ss).second) ∙ ap (map kept) (cut-factors h ss)) ∙ plain-flat n ss
 
-one_proc : (h : Target) → is_alone h ≡ true → h.procs ≡ 1
+pub one_proc : (h : Target) → is_alone h ≡ true → h.procs ≡ 1
 one_proc h e = grind (arith, nat_tests)
 
-one_lane : (h : Target) → is_alone h ≡ true → h.lanes ≡ 1
+pub one_lane : (h : Target) → is_alone h ≡ true → h.lanes ≡ 1
 one_lane h e = grind (arith, nat_tests)
 
 pub plain_steps : PlainSteps

@@ -1,5 +1,5 @@
 -- Statements that are quickened one after another.
-use Rattle.std.proofs.Common.{◌≡◌, ℕ, zero, suc, ◌+◌, ◌-◌, ◌*◌, ◌<◌, ◌≤◌, List, [], ◌∷◌, ◌++◌, true, Vec, Global}
+use Rattle.std.proofs.Common.{◌≡◌, ℕ, ◌+◌, ◌-◌, ◌*◌, ◌<◌, ◌≤◌, List, [], ◌∷◌, ◌++◌, Vec, Global}
 use Rattle.std.proofs.Common.{length, drop, map, get_or, refl, sym, ap, ap₂, ◌∙◌, arith}
 use Rattle.std.proofs.lemmas.List.{drop_all, map-append}
 use Rattle.icode.specs.declared.program.Stmt.{Stmt}
@@ -20,8 +20,6 @@ use Rattle.word_code.specs.View.{word_body_of, word_stmt_view, plain_word_stmt, 
 use Rattle.word_code.proofs.Operations.{set_sane, greatest_sane, tile_sane}
 use Rattle.word_code.proofs.Reduce.{loosest_is}
 use Rattle.word_code.proofs.Settling.{settled_sane}
-use Rattle.icode.specs.Limits.{is_stmt_within, is_body_within}
-use Rattle.icode.proofs.Bools.{both_true}
 use Rattle.icode.proofs.Steps.{drop_item}
 
 pub plain_word_stmt-Loop : (count : ℕ) (body : Vec WordStmt Global) →
@@ -121,12 +119,6 @@ module _ (z : Laziness) (some : 1 ≤ z.limit) (of_a : z.kept.of_a ≤ z.limit) 
   stmt_sane h (plain.Do op) bounds sane = noted_sane h.modulus h.lanes op bounds sane
 
 -- What stands within the limits
-
-pub item_within : (m depth i : ℕ) (items : List Stmt) (x : Stmt) → is_body_within m (plain_body items) depth ≡ true →
-    i < length items → x ≡ get_or items i x → is_stmt_within m (plain_stmt x) depth ≡ true
-item_within m depth i [] x e lt is = absurd (omega arith)
-item_within m depth zero (y ∷ items) x e lt is = ap (λ s. is_stmt_within m (plain_stmt s) depth) is ∙ (both_true _ _ e).0
-item_within m depth (suc i) (y ∷ items) x e lt is = item_within m depth i items x (both_true _ _ e).1 (omega arith) is
 
 pub loop_made : (z : Laziness) (h : Header) (count i : ℕ) (body items : List Stmt) (s : Stmt) (bounds : List ℕ)
     (made : Vec WordStmt Global) (after : List ℕ) → plain_stmt s ≡ plain.Loop count (plain_body body) → items ≡ body →

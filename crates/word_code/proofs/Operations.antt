@@ -16,7 +16,6 @@ use Rattle.icode.specs.Actions.{step_of, StepFits, lane_factors, array_start}
 use Rattle.icode.specs.Expression.{sum_numbers}
 use Rattle.icode.specs.Machine.{Local, whole_lines, with_words, memory_after, register_put}
 use Rattle.icode.specs.Plain.{PlainOp, PlainProgram, Load, Store, Zero, Add, Sub, Neg, MulConst, MulTable, Tile}
-use Rattle.fast_loops.proofs.LoopLanes.FrontHeld.{factor_each}
 use Rattle.word_code.specs.declared.program.Reduction.{Reduction}
 use Rattle.word_code.specs.Bare.{ReductionFits, NumbersFit}
 use Rattle.word_code.specs.WordMachine.{WordAction}
@@ -30,6 +29,7 @@ use Rattle.word_code.proofs.Quick.{Scale, bound_outer, bound_of_a, bound_of_b, a
 use Rattle.word_code.proofs.Reduce.{AreReductions, no_reductions, settled_is, set_bound_here, kept_bound}
 use Rattle.word_code.proofs.Puts.{IsSound, IsPut, quick_put, quick_store, zero_put, load_put, add_put, sub_put, neg_put}
 use Rattle.word_code.proofs.Puts.{mul_put, tile_put}
+use Rattle.fast_loops.proofs.Rows.{factors_each}
 
 abbrev pub scale : Laziness → PlainProgram → Scale
 scale z p =
@@ -309,7 +309,7 @@ module _ (z : Laziness) (p : PlainProgram) (sound : IsSound (scale z p)) where
       quotients_of_lanes (base_of z.width) p.modulus entry quotient are p.lanes 0 (16 - p.lanes) in
       put_done bounds bounds [] (actions.Mul r x factors) 0 quotients (product_bound z.width) (product_bound z.width)
       (unreduced bounds long sane) (λ t. refl)
-      (mul_put s (bound_at z.limit bounds) r x 0 factors quotients sound (sane x) (factor_each p.lanes entry) known)
+      (mul_put s (bound_at z.limit bounds) r x 0 factors quotients sound (sane x) (factors_each p.lanes entry) known)
       (omega arith) sound.lazy.product no_bias
       (quotients_below (base_of z.width) p.modulus factors quotients (let a = sound.lazy.room in omega arith) known fit)
 

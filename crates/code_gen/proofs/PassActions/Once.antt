@@ -5,11 +5,12 @@ use Rattle.std.specs.Prelude.{slice_index, map, ◌==◌, if◌then◌else◌}
 use Rattle.std.proofs.lemmas.Bool.{cases_eq}
 use Rattle.std.proofs.lemmas.Bool.Decides.{nat_tests}
 use Rattle.operators.specs.Sum.{sum_below}
-use Rattle.operators.proofs.Scatters.{sum_below-only}
+use Rattle.operators.proofs.Scatters.{sum_below-only, hit}
 use Rattle.operators.proofs.TensorPaths.PathLoops.{sum_below-zero}
 use Rattle.sigma_spl.specs.Copies.{loops_of, taken, stored, all_stored, hits}
 use Rattle.sigma_spl.specs.Nest.{PlainNest, copies_of}
 use Rattle.sigma_spl.proofs.CopiesMerge.{nest-none}
+use Rattle.sigma_spl.proofs.PassPlaces.{nest-least}
 use Rattle.operators.specs.TensorPaths.Loop.{nest_sum, loop_at}
 use Rattle.operators.specs.TensorPaths.Path.{Path, count_of, AreInRange}
 
@@ -41,18 +42,9 @@ sum-one : (n : ℕ) (h g : ℕ → ℕ) (j : ℕ) → j < n → sum_below n h �
 sum-one n h g j below most some none =
     sum_below-only n j g below (λ i inside other. none i inside (let two = terms_le n h i j inside below other in omega arith))
 
-nest_le : (path : Path) (h : List ℕ → ℕ) (vs : List ℕ) → AreInRange path vs → h vs ≤ nest_sum path h
-nest_le [] h [] range = omega arith
-nest_le [] h (v ∷ vs) range = absurd range
-nest_le (t ∷ path) h [] range = absurd range
-nest_le (t ∷ path) h (v ∷ vs) range =
-    let inner = nest_le path (λ us. h (v ∷ us)) vs range.1 in
-    let outer = term_le (count_of t) (λ u. nest_sum path (λ us. h (u ∷ us))) v range.0 in
-    omega arith
-
 nest-zero : (path : Path) (h g : List ℕ → ℕ) → ((us : List ℕ) → AreInRange path us → h us ≡ 0 → g us ≡ 0) →
     nest_sum path h ≡ 0 → nest_sum path g ≡ 0
-nest-zero path h g none zero_is = nest-none path g (λ us range. none us range (let le = nest_le path h us range in omega arith))
+nest-zero path h g none zero_is = nest-none path g (λ us range. none us range (let le = nest-least path h us range in omega arith))
 
 nest-one : (path : Path) (h g : List ℕ → ℕ) (vs : List ℕ) → AreInRange path vs → nest_sum path h ≤ 1 → 1 ≤ h vs →
     ((us : List ℕ) → AreInRange path us → h us ≡ 0 → g us ≡ 0) → nest_sum path g ≡ g vs
@@ -61,7 +53,7 @@ nest-one [] h g (v ∷ vs) range most some none = absurd range
 nest-one (t ∷ path) h g [] range most some none = absurd range
 nest-one (t ∷ path) h g (v ∷ vs) range most some none =
     let each : ℕ → ℕ = λ u. nest_sum path (λ us. h (u ∷ us)) in
-    let inner = nest_le path (λ us. h (v ∷ us)) vs range.1 in
+    let inner = nest-least path (λ us. h (v ∷ us)) vs range.1 in
     let outer = term_le (count_of t) each v range.0 in
     sum-one (count_of t) each (λ u. nest_sum path (λ us. g (u ∷ us))) v range.0 most (omega arith)
     (λ u below is. nest-zero path (λ us. h (u ∷ us)) (λ us. g (u ∷ us)) (λ us inside. none (u ∷ us) (below, inside)) is)
@@ -71,9 +63,6 @@ nest-one (t ∷ path) h g (v ∷ vs) range most some none =
 
 test-none : (a w x : ℕ) → ◌≡◌ {A = ℕ} (if a == w then 1 else 0) 0 → (if a == w then x else 0) ≡ 0
 test-none a w x h = grind (arith, nat_tests)
-
-test-hit : (a w x : ℕ) → a ≡ w → (if a == w then x else 0) ≡ x
-test-hit a w x h = grind (arith, nat_tests)
 
 module _ (path : Path) (d : ℕ) (to : List ℕ → ℕ → ℕ) (value : List ℕ → ℕ → ℕ) (w : ℕ) where
   abbrev met : List ℕ → ℕ → ℕ
@@ -90,17 +79,17 @@ module _ (path : Path) (d : ℕ) (to : List ℕ → ℕ → ℕ) (value : List �
 
   module _ (vs : List ℕ) (k : ℕ) (range : AreInRange path vs) (below : k < d) (there : to vs k ≡ w) where
     met-some : 1 ≤ sum_below d (met vs)
-    met-some = let one : met vs k ≡ 1 = test-hit (to vs k) w 1 there in let le = term_le d (met vs) k below in omega arith
+    met-some = let one : met vs k ≡ 1 = hit (to vs k) w 1 there in let le = term_le d (met vs) k below in omega arith
 
     loop-some : 1 ≤ loop_at path d to (λ us i. 1) w
-    loop-some = let le = nest_le path (λ us. sum_below d (met us)) vs range in let some = met-some in omega arith
+    loop-some = let le = nest-least path (λ us. sum_below d (met us)) vs range in let some = met-some in omega arith
 
     loop-one : loop_at path d to (λ us i. 1) w ≤ 1 → loop_at path d to value w ≡ value vs k
     loop-one most =
-        let le = nest_le path (λ us. sum_below d (met us)) vs range in
+        let le = nest-least path (λ us. sum_below d (met us)) vs range in
         nest-one path (λ us. sum_below d (met us)) (λ us. sum_below d (put us)) vs range most met-some (λ us inside. row-zero us)
-        ∙ sum-one d (met vs) (put vs) k below (omega arith) (let one : met vs k ≡ 1 = test-hit (to vs k) w 1 there in omega arith) (λ i inside is. test-none (to vs i) w (value vs i) is)
-        ∙ test-hit (to vs k) w (value vs k) there
+        ∙ sum-one d (met vs) (put vs) k below (omega arith) (let one : met vs k ≡ 1 = hit (to vs k) w 1 there in omega arith) (λ i inside is. test-none (to vs i) w (value vs i) is)
+        ∙ hit (to vs k) w (value vs k) there
 
 -- ---- passes
 

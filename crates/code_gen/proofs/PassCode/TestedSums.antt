@@ -1,9 +1,8 @@
 -- Sums that pass merging's test are coded.
 use Rattle.std.proofs.Common.{◌≡◌, ℕ, ◌+◌, ◌*◌, ◌^◌, ◌<◌, ◌≤◌, true, inl, inr, arith}
-use Rattle.std.specs.Prelude.{nat_lt, max, ◌&&◌}
+use Rattle.std.specs.Prelude.{nat_lt, ◌&&◌}
 use Rattle.std.proofs.Math.Nat.{mul-le-mul, mul-le-mul_right}
 use Rattle.std.proofs.lemmas.Bool.{and_parts, cases_eq, ltb-true}
-use Rattle.std.proofs.lemmas.Bool.Decides.{nat_tests}
 use Rattle.perm_algebra.specs.Affine.{Sum, constant, variable, remainder, quotient, parts, peak, top}
 use Rattle.perm_algebra.specs.Room.{constant_of}
 use Rattle.code_gen.specs.PassCode.Conditions.{CanWrite, DividesWords}
@@ -12,6 +11,7 @@ use Rattle.code_gen.specs.PassCode.Small.{DividesSmall, HasSmall, IsSmallPositiv
 use Rattle.code_gen.proofs.PassCode.Writing.{factor-same, factor-other}
 use Rattle.sigma_spl.specs.Merge.{total, is_divided, are_small}
 use Rattle.sigma_spl.proofs.Limited.{tested}
+use Rattle.sigma_spl.proofs.Small.{max-left, max-right}
 
 -- ---- what the tests say
 
@@ -64,13 +64,6 @@ factor-total d (quotient f of m rest) = let below = factor-total d rest in omega
 has-small : (e : Sum) → total e < 2 ^ 32 → HasSmall e
 has-small e low = record { constant_is = let le = constant-total e in omega arith; factors = λ d. let le = factor-total d e in omega arith }
 
--- few parts with factors below n
-left-below : (a b n : ℕ) → max a b < n → a < n
-left-below a b n h = grind (arith, nat_tests)
-
-right-below : (a b n : ℕ) → max a b < n → b < n
-right-below a b n h = grind (arith, nat_tests)
-
 more-parts : (f t n p q : ℕ) → f < n → t ≤ (1 + p) * n → 2 + p ≤ q → f + t ≤ q * n
 more-parts f t n p q one inner parts =
     let wide : (2 + p) * n ≤ q * n = mul-le-mul_right n parts in
@@ -80,14 +73,14 @@ more-parts f t n p q one inner parts =
 total-parts : (n : ℕ) (e : Sum) → peak e < n → total e ≤ (1 + parts e) * n
 total-parts n (constant c) h = omega arith
 total-parts n (variable f d rest) h =
-    more-parts f (total rest) n (parts rest) (1 + (1 + parts rest)) (left-below f (peak rest) n h)
-    (total-parts n rest (right-below f (peak rest) n h)) (omega arith)
+    more-parts f (total rest) n (parts rest) (1 + (1 + parts rest)) (max-left f (peak rest) n h)
+    (total-parts n rest (max-right f (peak rest) n h)) (omega arith)
 total-parts n (remainder f of m rest) h =
-    more-parts f (total rest) n (parts rest) (1 + (1 + parts of + parts rest)) (left-below f (peak rest) n h)
-    (total-parts n rest (right-below f (peak rest) n h)) (omega arith)
+    more-parts f (total rest) n (parts rest) (1 + (1 + parts of + parts rest)) (max-left f (peak rest) n h)
+    (total-parts n rest (max-right f (peak rest) n h)) (omega arith)
 total-parts n (quotient f of m rest) h =
-    more-parts f (total rest) n (parts rest) (1 + (1 + parts of + parts rest)) (left-below f (peak rest) n h)
-    (total-parts n rest (right-below f (peak rest) n h)) (omega arith)
+    more-parts f (total rest) n (parts rest) (1 + (1 + parts of + parts rest)) (max-left f (peak rest) n h)
+    (total-parts n rest (max-right f (peak rest) n h)) (omega arith)
 
 -- ---- at every level
 

@@ -49,10 +49,10 @@ conv_spelt_decided line (Err s) (Err t) p q =
 
 -- The plan
 
-power_clash : (o : Option ℕ) (power : ℕ) → o ≡ None → o ≡ Some power → ⊥
+pub power_clash : (o : Option ℕ) (power : ℕ) → o ≡ None → o ≡ Some power → ⊥
 power_clash o power p q = absurd (cc)
 
-power_once : (o : Option ℕ) (j k : ℕ) → o ≡ Some j → o ≡ Some k → j ≡ k
+pub power_once : (o : Option ℕ) (j k : ℕ) → o ≡ Some j → o ≡ Some k → j ≡ k
 power_once o j k p q = cc
 
 plan_clash : (r : Request) (t : Breakdown) (fault : ConvFault) → IsConvPlanned r (Ok t) → IsConvPlanned r (Err fault) →

@@ -9,7 +9,7 @@ use Rattle.std.proofs.lemmas.Bool.{eqb-true, ltb-true}
 use Rattle.std.proofs.lemmas.Grind.{common_steps}
 use Rattle.grammar.specs.Reading.{Place, start, ended, placed, pure_at, one_of_at, one_of_in, valued, word_in}
 use Rattle.grammar.specs.Reading.{or_else as reading_else}
-use Rattle.grammar.specs.Stops.{Stop, and_go_on, passed, spelling_only, tested_at}
+use Rattle.grammar.specs.Stops.{Stop, passed, spelling_only, tested_at}
 use Rattle.tree_model.proofs.PowerOfTwo.{power_of_two}
 use Rattle.spl_ast.specs.Formula.{Formula, Identity, Fourier, Hadamard, Twiddles, Diagonal, Stride, Permutation}
 use Rattle.spl_ast.specs.Formula.{GoodThomasIn, GoodThomasOut, Product, TensorLeft, TensorRight, DirectSum}
@@ -26,7 +26,9 @@ use Rattle.spl_text.specs.Spelling.{spells, spells_line, AreSomeValues, AreValue
 use Rattle.spl_text.proofs.Coprime.{gcd_from_shared, multiple}
 use Rattle.spl_text.proofs.Lengths.{few_parts}
 use Rattle.spl_text.proofs.Strays.{permutation_of}
+use Rattle.spl_text.proofs.Nested.{go_ok}
 use Rattle.commands.specs.Equations.Formulas.{written}
+use Rattle.icode.proofs.Bools.{both_true}
 
 -- What is not refused
 
@@ -54,10 +56,6 @@ size_small f e = small (size_of f) (or_none (misfit f) (refused_if (ltb 1048576 
 no_stray : (k : List ℕ) (o : Option ℕ) → option_map {U = ℕ × ℕ} (λ stray. (length k, stray)) o ≡ None → o ≡ None
 no_stray k None e = refl
 no_stray k (Some stray) e = absurd (cc)
-
-both_true : (a b : Bool) → (a && b) ≡ true → (a ≡ true) × (b ≡ true)
-both_true true b e = (refl, e)
-both_true false b e = absurd (cc)
 
 not_true : (b : Bool) → not b ≡ true → b ≡ false
 not_true true e = absurd (cc)
@@ -165,12 +163,6 @@ sum_ready : (a b : Formula) → WillBe a → WillBe b → IsReady (DirectSum a b
 sum_ready a b p q h e = (p h.0, q h.1, (let low = (size_is_size a (p h.0)).0 in omega (arith, low), size_small (DirectSum a b) e))
 
 -- Reading
-
-go_ok : {A B : Type 0} (r : Result (A × Place ℕ) (Stop TextFault))
-    (next : A → Place ℕ → Result (B × Place ℕ) (Stop TextFault)) (y : B × Place ℕ)
-    → and_go_on r next ≡ Ok y → (x : A × Place ℕ) × (r ≡ Ok x) × (next x.0 x.1 ≡ Ok y)
-go_ok (Ok x) next y e = (x, refl, e)
-go_ok (Err s) next y e = absurd (cc)
 
 abbrev good : Formula × Place ℕ → Result (Formula × Place ℕ) (Stop TextFault)
 good x = Ok x

@@ -1,10 +1,11 @@
 -- What `exec` comes to.
-use Rattle.std.proofs.Common.{◌≡◌, ◌⊎◌, ◌≤◌, ◌+◌, ◌-◌, ◌&&◌, ◌||◌, ℕ, Bool, true, false, List, [], ◌∷◌, ◌++◌, None}
+use Rattle.std.proofs.Common.{◌≡◌, ◌≤◌, ◌+◌, ◌-◌, ◌&&◌, ◌||◌, ℕ, Bool, true, false, List, [], ◌∷◌, ◌++◌, None}
 use Rattle.std.proofs.Common.{Some, Ok, Err, Result, Vec, length, cond, refl, sym, ap, subst, ◌∙◌, inl, inr}
 use Rattle.std.specs.declared.option.Option.{Option}
 use Rattle.std.specs.Io.KnownBytes.{Consumes}
 use Rattle.io_edge.specs.Told.{IsOver}
 use Rattle.std.proofs.Common.{Global}
+use Rattle.std.proofs.lemmas.Bool.{cases_Bool}
 use Rattle.icode.specs.Actions.{plain_code}
 use Rattle.icode.specs.Machine.{results, words_at, padded}
 use Rattle.icode.specs.Plain.{PlainProgram}
@@ -58,16 +59,12 @@ unended_push begins (byte ∷ read) none = at (begins && ends_line byte) refl no
     at true is none later = absurd (cc)
     at false is none later = ap (λ b. cond b (read ++ 0 ∷ []) (behind_empty_line (ends_line byte) (read ++ 0 ∷ []))) is ∙ later none
 
-two_cases : (b : Bool) → (b ≡ true) ⊎ (b ≡ false)
-two_cases true = inl refl
-two_cases false = inr refl
-
 part_there : (most : ℕ) (read rest : List ℕ) → ((more : List ℕ) → (rest ≡ [] → more ≡ []) →
     second_part (read ++ more) ≡ more)
     → HasEnded (part most) read (rest ≡ [])
 part_there most read [] behind = inr refl
 part_there most read (x ∷ rest) behind =
-    elim (two_cases (has_empty_line true read)) [
+    elim (cases_Bool (has_empty_line true read)) [
       | inl there ↦ inl there
       | inr none ↦
           let byte : second_part (read ++ 0 ∷ []) ≡ 0 ∷ [] = behind (0 ∷ []) (λ e. absurd (cc)) in

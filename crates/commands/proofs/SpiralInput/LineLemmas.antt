@@ -1,10 +1,11 @@
 -- Where the first line of an input ends.
-use Rattle.std.proofs.Common.{◌≡◌, ◌⊎◌, ◌≤◌, ◌+◌, ◌-◌, ℕ, Bool, true, false, not, ◌||◌, List, [], ◌∷◌, ◌++◌, length}
+use Rattle.std.proofs.Common.{◌≡◌, ◌≤◌, ◌+◌, ◌-◌, ℕ, Bool, true, false, not, ◌||◌, List, [], ◌∷◌, ◌++◌, length}
 use Rattle.std.proofs.Common.{take, drop, cond, refl, sym, ap, ◌∙◌, arith, append_assoc, append-nil, length-append}
 use Rattle.std.proofs.Common.{add-zero, zero-add, inl, inr}
 use Rattle.std.proofs.Math.Seq.{take-append_seam, take-append-add, drop-append-add}
 use Rattle.std.proofs.lemmas.List.{take_all}
 use Rattle.std.proofs.lemmas.List.Folds.{list_any-append}
+use Rattle.std.proofs.lemmas.Bool.{cases_Bool}
 use Rattle.std.specs.List.{before_first, after_first, list_any, position_or_len}
 use Rattle.commands.specs.SpiralInput.Line.{IsWhole}
 use Rattle.commands.specs.Equations.Front.{is_line_end, line, HasEnded}
@@ -66,16 +67,12 @@ line_longer text more h =
     let count : length (first_line (text ++ more)) ≡ length text + length (take k more) = ap length same ∙ length-append text (take k more) in
     omega arith
 
-two_cases : (b : Bool) → (b ≡ true) ⊎ (b ≡ false)
-two_cases true = inl refl
-two_cases false = inr refl
-
 -- the first line has ended where what comes after it is known, whatever follows
 line_there : (most : ℕ) (read rest : List ℕ) → ((more : List ℕ) → (rest ≡ [] → more ≡ []) →
     data_of (read ++ more) ≡ more) → HasEnded (line most) read (rest ≡ [])
 line_there most read [] behind = inr refl
 line_there most read (x ∷ rest) behind =
-    elim (two_cases (list_any is_line_end read)) [
+    elim (cases_Bool (list_any is_line_end read)) [
       | inl there ↦ inl there
       | inr none ↦
           let zero_behind : data_of (read ++ 0 ∷ []) ≡ 0 ∷ [] = behind (0 ∷ []) (λ e. absurd (cc)) in

@@ -21,7 +21,6 @@ use Rattle.fast_loops.specs.Interchange.{counts_in, round_in}
 use Rattle.fast_loops.specs.Rounds.{are_fresh, put_after}
 use Rattle.fast_loops.specs.FusedLoops.Blocks.{are_values, blocks_with}
 use Rattle.fast_loops.proofs.Acts.{loaded_words}
-use Rattle.fast_loops.proofs.Apart.{in-range}
 use Rattle.fast_loops.proofs.Changes.{in-loop}
 use Rattle.fast_loops.proofs.Linear.{wrong}
 use Rattle.fast_loops.proofs.Looped.{looped_is}
@@ -30,6 +29,7 @@ use Rattle.fast_loops.proofs.Rows.{StepsFit, all_fit, acts_of, in_rows}
 use Rattle.fast_loops.proofs.FusedLoops.Follows.{AreFollowed, PlaceFollows, OpFollows, RoundFollows, IsPlaced, begin}
 use Rattle.fast_loops.proofs.FusedLoops.Follows.{begin-more, front-append, placed, round-front}
 use Rattle.fast_loops.proofs.FusedLoops.Within.{Lies, IsInside}
+use Rattle.fast_loops.proofs.Members.{range_item}
 
 -- ---- words of an array
 
@@ -58,7 +58,7 @@ module _ (p : PlainProgram) (q : ℕ) where
       Lies p low step k
   word-lies array constant value low step k has room is =
       let words : ℕ = whole_lines p.size p.line in
-      let there = in-range (array_start words array + (constant + value)) p.lanes k has in
+      let there = range_item (array_start words array + (constant + value)) p.lanes k has in
       let a = there.0 in
       let b = there.1 in
       let c = is.from in

@@ -1,5 +1,5 @@
 -- Words of different arrays.
-use Rattle.std.proofs.Common.{◌≡◌, ◌⊎◌, ℕ, ◌+◌, ◌*◌, ◌<◌, ◌≤◌, true, false, refl, ap, sym, ◌∙◌, arith, inl, inr, eq-eqb}
+use Rattle.std.proofs.Common.{◌≡◌, ◌⊎◌, ℕ, ◌+◌, ◌*◌, ◌<◌, ◌≤◌, true, false, refl, sym, ◌∙◌, arith, inl, inr, eq-eqb}
 use Rattle.std.proofs.Common.{true≢false, mul-le-mul_left}
 use Rattle.std.proofs.lemmas.Bool.{cases_order}
 use Rattle.icode.specs.declared.program.Array.{Array}
@@ -28,10 +28,6 @@ array_same Y Y h = refl
 array_same A A h = refl
 array_same B B h = refl
 array_same _ _ h = wrong h
-
--- the same array begins at the same word
-pub same_start : (words : ℕ) (a c : Array) → same_array a c ≡ true → array_start words a ≡ array_start words c
-same_start words a c h = ap (array_start words) (array_same a c h)
 
 -- before the array or after it
 abbrev pub IsOutside : ℕ → Array → ℕ → Type 0

@@ -16,13 +16,12 @@ use Rattle.icode.proofs.Bools.{both_true}
 use Rattle.icode.proofs.Lines.{Contains-nil, Contains-range}
 use Rattle.fast_loops.specs.Places.{are_linear, is_linear, stride}
 use Rattle.fast_loops.specs.Rounds.{Stored, same_array}
-use Rattle.fast_loops.proofs.Linear.{wrong}
+use Rattle.fast_loops.proofs.Linear.{wrong, parts_equal}
 use Rattle.fast_loops.proofs.Members.{range_item}
 use Rattle.fast_loops.specs.LoopLanes.Rounds.{widened, place_stride, is_store, is_by_lane, in_row}
 use Rattle.fast_loops.specs.LoopLanes.Columns.{renumbered_op}
 use Rattle.fast_loops.specs.LoopLanes.Layers.{group_at, on_lanes}
 use Rattle.fast_loops.proofs.LoopLanes.Covered.{IsCovered, IsInGroup, in_group, group}
-use Rattle.fast_loops.proofs.LoopLanes.Orders.{parts_same}
 use Rattle.fast_loops.proofs.LoopLanes.Wide.{widened_value, wide_value}
 
 -- ---- factors
@@ -216,7 +215,7 @@ module _ (v : ℕ) (p : PlainProgram) (ops : List PlainOp) (vs : List ℕ) (b q 
         (both_true (not (same_array array to.array)) _ h).1 in
         load_covered r array place two.0 (eqb-true (place_stride loop place) 1 two.1) has
     front_covered to (Store array (Sum constant parts) r) linear unit h has =
-        let same : to.parts ≡ parts = sym (parts_same parts to.parts (both_true (same_array array to.array) _ h).1) in
+        let same : to.parts ≡ parts = sym (parts_equal parts to.parts (both_true (same_array array to.array) _ h).1) in
         store_covered array (Sum constant parts) r (subst (λ parts. are_linear 0 parts ≡ true) same linear)
         (subst (λ parts. stride loop parts ≡ 1) same (unit refl)) has
     front_covered to (Zero r) linear unit h has =

@@ -1,8 +1,8 @@
 -- Operations on v lanes do in each lane what they do in a round.
 use Rattle.std.proofs.Common.{◌≡◌, ◌≢◌, ℕ, suc, ◌+◌, ◌*◌, ◌<◌, ◌≤◌, true, false, not, List, [], ◌∷◌, ◌++◌, Contains}
-use Rattle.std.proofs.Common.{length, refl, sym, ap, ap₂, ◌∙◌, arith, inl, inr, subst, eqb-true, ltb-true}
+use Rattle.std.proofs.Common.{length, refl, sym, ap, ap₂, ◌∙◌, arith, inl, inr, subst, eqb-true}
 use Rattle.std.proofs.Common.{length-append}
-use Rattle.std.specs.Prelude.{◌-◌, ◌==◌, ◌&&◌, nat_lt, replicate, slice_index, slice_index_or}
+use Rattle.std.specs.Prelude.{◌-◌, ◌==◌, slice_index, slice_index_or}
 use Rattle.std.specs.List.{list_all}
 use Rattle.std.proofs.Math.Seq.{get_or-append_seam}
 use Rattle.std.proofs.lemmas.Bool.{cases_eq, not-true, true≢false}
@@ -17,8 +17,6 @@ use Rattle.icode.specs.Plain.{PlainExpr, PlainOp, PlainProgram, Load, Store, Zer
 use Rattle.icode.specs.Plain.{Tile}
 use Rattle.icode.proofs.Bools.{both_true}
 use Rattle.icode.proofs.Lines.{Contains-head}
-use Rattle.operators.specs.Sum.{list_below}
-use Rattle.operators.proofs.Lists.{length-list_below, at-list_below}
 use Rattle.icode.specs.CodeLaws.Lanes.{Registers, lane_of, with_register, lane_effect, IsArithmetic}
 use Rattle.icode.proofs.CodeLaws.ByLane.{this_register, other_register, effect_by_lane, length-registers_after}
 use Rattle.icode.proofs.CodeLaws.Stores.{load_by_lane}
@@ -31,6 +29,9 @@ use Rattle.fast_loops.specs.LoopLanes.Layers.{on_lanes, steps_at, values_put}
 use Rattle.fast_loops.specs.LoopLanes.Rounds.{straight, is_by_lane, is_store, in_row, place_stride, widened}
 use Rattle.fast_loops.proofs.LoopLanes.Held.{AreHeld, IsFront, HoldsBy, in_lanes, values_in}
 use Rattle.fast_loops.proofs.LoopLanes.Wide.{wide_value}
+use Rattle.fast_loops.proofs.Fresh.{two-sources, one-source}
+use Rattle.fast_loops.proofs.TwoTables.Products.{factor_at}
+use Rattle.fast_loops.proofs.Rows.{factors_each}
 
 -- one more register is held
 more_held : (v : ℕ) (f : ℕ → ℕ) (registers after : List ℕ) (values more : ℕ → List ℕ) (r next : ℕ) (x : ℕ → ℕ) →
@@ -68,19 +69,6 @@ more_held v f registers after values more r next x here others h is one =
 
 -- ---- what is put
 
--- the factor of a lane
-pub factor_of : (v : ℕ) (factor : ℕ → ℕ) (lane : ℕ) → lane < v → slice_index (lane_factors v factor) lane ≡ factor lane
-factor_of v factor lane below =
-    let size = length-list_below v factor in
-    get_or_append_left (list_below v factor) (replicate (16 - v) 0) 0 lane (omega (arith, below, size))
-    ∙ at-list_below v factor lane below
-
-pub factor_each : (v : ℕ) (factor : ℕ → ℕ) → v ≤ length (lane_factors v factor)
-factor_each v factor =
-    let whole = length-append (list_below v factor) (replicate (16 - v) 0) in
-    let own = length-list_below v factor in
-    omega (arith, whole, own)
-
 two_put : (g : ℕ → ℕ → ℕ) (xs : List ℕ) (x y : ℕ) →
     xs ++ g (slice_index xs (x * 1)) (slice_index xs (y * 1)) ∷ [] ≡ xs ++ g (slice_index xs x) (slice_index xs y) ∷ []
 two_put g xs x y =
@@ -92,16 +80,6 @@ one_put : (g : ℕ → ℕ) (xs : List ℕ) (x : ℕ) → xs ++ g (slice_index x
 one_put g xs x = let same : x * 1 ≡ x = omega arith in ap (λ i. xs ++ g (slice_index xs i) ∷ []) same
 
 -- ---- what is fresh
-
-one_source : (r next x : ℕ) → ((r == next) && nat_lt x next) ≡ true → (r ≡ next) × (x < next)
-one_source r next x h = let two = both_true (r == next) _ h in (eqb-true r next two.0, ltb-true x next two.1)
-
-two_sources : (r next x y : ℕ) → ((r == next) && (nat_lt x next && nat_lt y next)) ≡ true →
-    (r ≡ next) × (x < next) × (y < next)
-two_sources r next x y h =
-    let two = both_true (r == next) _ h in
-    let both = both_true (nat_lt x next) _ two.1 in
-    (eqb-true r next two.0, ltb-true x next both.0, ltb-true y next both.1)
 
 -- one register is put
 pub put_next : (next : ℕ) (op : PlainOp) → is_store op ≡ false → put_after 1 next op ≡ next + 1
@@ -180,10 +158,10 @@ module _ (v : ℕ) (p : PlainProgram) (f : ℕ → ℕ) (vs : List ℕ) (b q : �
         arith_held (actions.Mul (f r) (f x) (lane_factors v wide)) s values
         (λ l. values_more memory (values l) (product_of r x own l)) r next
         (λ l. product_mod p.modulus (slice_index (values l) x) (own l 0)) here inside
-        (low r (omega (arith, here, inside)), low x (omega (arith, lower, inside)), factor_each v wide) room h
+        (low r (omega (arith, here, inside)), low x (omega (arith, lower, inside)), factors_each v wide) room h
         (λ l below.
         ap₂ (λ c d. with_register (lane_of v s.registers l) (f r) (product_mod p.modulus c d))
-        (h.held x l lower below) (factor_of v wide l below ∙ same l below))
+        (h.held x l lower below) (factor_at v wide l below ∙ same l below))
         (λ l below. product_put memory (values l) r x (own l))
 
     -- a load of words one after the other
@@ -234,7 +212,7 @@ module _ (v : ℕ) (p : PlainProgram) (f : ℕ → ℕ) (vs : List ℕ) (b q : �
         arith_held (actions.Zero (f r)) s values (values_after memory values (Zero r)) r next (λ l. 0) here inside
         (low r (omega (arith, here, inside))) room h (λ l below. refl) (λ l below. refl)
     op_held memory s values next (Add r x y) puts fresh by_lane inside room same h =
-        let is = two_sources r next x y fresh in
+        let is = two-sources r next x y fresh in
         arith_held (actions.Add (f r) (f x) (f y)) s values (values_after memory values (Add r x y)) r next
         (λ l. sum_mod p.modulus (slice_index (values l) x) (slice_index (values l) y)) is.0 inside
         (low r (omega (arith, is.0, inside)), low x (omega (arith, is.1, inside)), low y (omega (arith, is.2, inside)))
@@ -244,7 +222,7 @@ module _ (v : ℕ) (p : PlainProgram) (f : ℕ → ℕ) (vs : List ℕ) (b q : �
         (h.held x l is.1 below) (h.held y l is.2 below))
         (λ l below. two_put (sum_mod p.modulus) (values l) x y)
     op_held memory s values next (Sub r x y) puts fresh by_lane inside room same h =
-        let is = two_sources r next x y fresh in
+        let is = two-sources r next x y fresh in
         arith_held (actions.Sub (f r) (f x) (f y)) s values (values_after memory values (Sub r x y)) r next
         (λ l. difference_mod p.modulus (slice_index (values l) x) (slice_index (values l) y)) is.0 inside
         (low r (omega (arith, is.0, inside)), low x (omega (arith, is.1, inside)), low y (omega (arith, is.2, inside)))
@@ -254,7 +232,7 @@ module _ (v : ℕ) (p : PlainProgram) (f : ℕ → ℕ) (vs : List ℕ) (b q : �
         (h.held x l is.1 below) (h.held y l is.2 below))
         (λ l below. two_put (difference_mod p.modulus) (values l) x y)
     op_held memory s values next (Neg r x) puts fresh by_lane inside room same h =
-        let is = one_source r next x fresh in
+        let is = one-source r next x fresh in
         arith_held (actions.Neg (f r) (f x)) s values (values_after memory values (Neg r x)) r next
         (λ l. negation_mod p.modulus (slice_index (values l) x)) is.0 inside
         (low r (omega (arith, is.0, inside)), low x (omega (arith, is.1, inside))) room h
@@ -262,11 +240,11 @@ module _ (v : ℕ) (p : PlainProgram) (f : ℕ → ℕ) (vs : List ℕ) (b q : �
         ap (λ c. with_register (lane_of v s.registers l) (f r) (negation_mod p.modulus c)) (h.held x l is.1 below))
         (λ l below. one_put (negation_mod p.modulus) (values l) x)
     op_held memory s values next (MulConst r x factor) puts fresh by_lane inside room same h =
-        let is = one_source r next x fresh in
+        let is = one-source r next x fresh in
         product_held memory s values r x next (λ lane. factor) (λ l lane. factor) is.0 is.1 inside room h
         (λ l below. refl)
     op_held memory s values next (MulTable r x table place step) puts fresh by_lane inside room same h =
-        let is = one_source r next x fresh in
+        let is = one-source r next x fresh in
         let two = both_true (is_linear place) _ by_lane in
         let entries : List ℕ = slice_index_or p.tables table [] in
         product_held memory s values r x next

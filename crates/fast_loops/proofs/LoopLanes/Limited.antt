@@ -10,10 +10,10 @@ use Rattle.icode.specs.Plain.{Neg, MulConst, MulTable, Tile}
 use Rattle.icode.proofs.Bools.{both_true}
 use Rattle.fast_loops.specs.Places.{is_linear, stride}
 use Rattle.fast_loops.specs.Rounds.{Stored, same_array}
-use Rattle.fast_loops.proofs.Linear.{wrong, chosen, passed}
+use Rattle.fast_loops.proofs.Linear.{wrong, chosen, passed, parts_equal}
 use Rattle.fast_loops.specs.LoopLanes.Rounds.{is_store, widened_parts, widened, place_stride, is_by_lane, in_row}
 use Rattle.fast_loops.specs.LoopLanes.Columns.{renumbered_op}
-use Rattle.fast_loops.proofs.LoopLanes.Orders.{AreSome, parts_same}
+use Rattle.fast_loops.proofs.LoopLanes.Orders.{AreSome}
 
 -- ---- places
 
@@ -139,7 +139,7 @@ op-within m v loop n to f (Load r array place) lanes low unit by_lane h =
     (unit-small v (place_stride loop place) lanes.few (omega (arith, one))))
 op-within m v loop n to f (Store array (Sum constant parts) r) lanes low unit by_lane h =
     let both = and_parts (is_small r) (is_expr_within (Sum constant parts) n) h in
-    let same : parts ≡ to.parts = parts_same parts to.parts (both_true (same_array array to.array) _ by_lane).1 in
+    let same : parts ≡ to.parts = parts_equal parts to.parts (both_true (same_array array to.array) _ by_lane).1 in
     let one : stride loop parts ≡ 1 = ap (stride loop) same ∙ unit refl in
     and_from (is_small (f r)) _ (low r both.0)
     (wide-place v loop lanes.some n (Sum constant parts) both.1

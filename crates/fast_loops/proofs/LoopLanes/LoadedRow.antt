@@ -15,9 +15,8 @@ use Rattle.fast_loops.specs.LoopLanes.Columns.{renumbered}
 use Rattle.fast_loops.specs.LoopLanes.Layers.{values_put}
 use Rattle.fast_loops.specs.LoopLanes.Loads.{Loaded, is_loaded, row_length}
 use Rattle.fast_loops.specs.LoopLanes.Rounds.{straight}
-use Rattle.fast_loops.proofs.Linear.{wrong, passed}
+use Rattle.fast_loops.proofs.Linear.{wrong, passed, parts_equal}
 use Rattle.fast_loops.proofs.LoopLanes.Arrays.{array_same}
-use Rattle.fast_loops.proofs.LoopLanes.Orders.{parts_same}
 use Rattle.fast_loops.proofs.LoopLanes.RoundWrites.{acts_in}
 
 -- loads of n words from word k on
@@ -33,7 +32,7 @@ loaded-is from k (Load r array (Sum constant parts)) h =
     let three = both_true (constant == k) _ two.1 in
     let four = both_true (same_array array from.array) (same_parts parts from.parts) three.1 in
     ap₂ (λ i a. Load i a (Sum constant parts)) (eqb-true r k two.0) (array_same array from.array four.0)
-    ∙ ap₂ (λ c ps. Load k from.array (Sum c ps)) (eqb-true constant k three.0) (parts_same parts from.parts four.1)
+    ∙ ap₂ (λ c ps. Load k from.array (Sum c ps)) (eqb-true constant k three.0) (parts_equal parts from.parts four.1)
 loaded-is from k op h = wrong h
 
 row-taken : (from : Loaded) (k : ℕ) (ops : List PlainOp) →

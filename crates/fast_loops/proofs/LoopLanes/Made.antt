@@ -16,7 +16,7 @@ use Rattle.fast_loops.specs.LoopLanes.Rounds.{straight, place_stride, is_by_lane
 use Rattle.fast_loops.specs.LoopLanes.View.{stride_in, plain_ops}
 use Rattle.fast_loops.specs.LoopLanes.Lanes.{laned_nest, laned_body}
 use Rattle.fast_loops.proofs.LoopLanes.Arrays.{step_before}
-use Rattle.fast_loops.proofs.LoopLanes.Orders.{parts_same}
+use Rattle.fast_loops.proofs.Linear.{parts_equal}
 
 -- ---- numbers
 
@@ -45,7 +45,7 @@ narrow v loop to (Load r array place) few wide h =
     omega (arith, few, same)
 narrow v loop to (Store array (Sum constant parts) r) few wide h =
     let same : v * stride loop parts ≡ v * stride loop to.parts =
-    ap (λ ps. v * stride loop ps) (parts_same parts to.parts (both_true (same_array array to.array) _ h).1) in
+    ap (λ ps. v * stride loop ps) (parts_equal parts to.parts (both_true (same_array array to.array) _ h).1) in
     omega (arith, wide, same)
 narrow v loop to (MulTable r x table place step) few wide h =
     let low : place_stride loop place ≤ 1 = leb-true (place_stride loop place) 1 (both_true (is_linear place) _ h).1 in
@@ -56,7 +56,7 @@ narrow v loop to op few wide h = omega arith
 -- ---- lists
 
 -- one more round
-range-more : (n : ℕ) → range_with_len 0 (n + 1) ≡ range_with_len 0 n ++ n ∷ []
+pub range-more : (n : ℕ) → range_with_len 0 (n + 1) ≡ range_with_len 0 n ++ n ∷ []
 range-more n =
     let more : n + 1 ≡ suc n = omega arith in
     let same : 0 + n ≡ n = omega arith in

@@ -1,7 +1,7 @@
 -- Operations of a round in the order of the text, and in others: those that put, and those that store.
 use Rattle.std.proofs.Common.{◌≡◌, ℕ, ◌+◌, ◌*◌, ◌<◌, ◌≤◌, true, false, List, [], ◌∷◌, ◌++◌, All, Contains, flat_map}
 use Rattle.std.proofs.Common.{length, refl, ap, ◌∙◌, arith, inl, inr, eqb-true, length-append}
-use Rattle.std.specs.Prelude.{slice_index, ◌==◌, ◌&&◌, nat_le}
+use Rattle.std.specs.Prelude.{slice_index, ◌==◌}
 use Rattle.std.specs.List.{range_with_len}
 use Rattle.std.proofs.lemmas.Bool.{true≢false}
 use Rattle.std.proofs.lemmas.List.{get_or_append_left}
@@ -11,13 +11,11 @@ use Rattle.icode.specs.declared.action.Action.TheVariants as actions
 use Rattle.icode.specs.declared.program.Array.TheVariants.{X}
 use Rattle.icode.specs.Actions.{Step, StepFits, actions_of, step_of}
 use Rattle.icode.specs.Machine.{value_put}
-use Rattle.icode.specs.Plain.{PlainParts, PlainOp, PlainProgram, Load, Store, Zero, Add, Sub, Neg, MulConst, MulTable}
+use Rattle.icode.specs.Plain.{PlainOp, PlainProgram, Load, Store, Zero, Add, Sub, Neg, MulConst, MulTable}
 use Rattle.icode.specs.Plain.{Tile}
 use Rattle.icode.proofs.Bools.{both_true}
-use Rattle.fast_loops.specs.Places.{same_parts}
-use Rattle.fast_loops.specs.Rounds.{Stored, is_fresh}
+use Rattle.fast_loops.specs.Rounds.{is_fresh}
 use Rattle.fast_loops.proofs.Changes.{in-loop}
-use Rattle.fast_loops.proofs.Linear.{store_told}
 use Rattle.fast_loops.proofs.Members.{all_of_members, into_flat_map, from_flat_map}
 use Rattle.fast_loops.specs.LoopLanes.Lanes.{IsLanes}
 use Rattle.fast_loops.specs.LoopLanes.Layers.{steps_at, group_at, values_put, writes_of}
@@ -70,12 +68,6 @@ register_low p next (MulTable r x table place step) ws q alone puts fresh fits =
     omega (arith, eqb-true r next (both_true (r == next) _ fresh).0, fits.registers.0)
 register_low p next (Tile r x) ws q alone puts fresh fits =
     omega (arith, alone, eqb-true r next (both_true (r == next) _ fresh).0, fits.registers.0)
-
--- the same parts, by what the test tells of a store
-pub parts_same : (a c : PlainParts) → same_parts a c ≡ true → a ≡ c
-parts_same a c h =
-    let to : Stored = record { array = X; parts = c } in
-    (store_told 0 to 0 X 0 a 0 (ap (λ t. t && nat_le (0 + 0) 0) h)).by
 
 -- ---- values
 

@@ -11,12 +11,11 @@ use Rattle.icode.specs.Plain.{PlainParts, PlainOp, Sum, Store, MulTable}
 use Rattle.icode.proofs.Bools.{both_true}
 use Rattle.fast_loops.specs.Places.{same_parts}
 use Rattle.fast_loops.specs.Rounds.{Stored, same_array}
-use Rattle.fast_loops.proofs.Linear.{wrong}
+use Rattle.fast_loops.proofs.Linear.{wrong, parts_equal}
 use Rattle.fast_loops.proofs.Members.{all_of_members}
 use Rattle.fast_loops.specs.LoopLanes.Rounds.{is_store, stores, others, stored_constants, are_from, is_by_lane}
 use Rattle.fast_loops.specs.LoopLanes.Columns.{Factors, are_products, factored_registers}
 use Rattle.fast_loops.proofs.LoopLanes.Arrays.{array_same}
-use Rattle.fast_loops.proofs.LoopLanes.Orders.{parts_same}
 use Rattle.fast_loops.proofs.LoopLanes.Parted.{others_put}
 use Rattle.fast_loops.proofs.LoopLanes.TilesCovered.{IsStored, IsMultiplied}
 
@@ -48,7 +47,7 @@ stored-at : (loop : ℕ) (to : Stored) (array : Array) (constant : ℕ) (parts :
 stored-at loop to array constant parts r all c h same has =
     let two = both_true (same_array array to.array) (same_parts parts to.parts) h in
     let is : Store array (Sum constant parts) r ≡ Store to.array (Sum c to.parts) r =
-    ap₂ (λ a parts. Store a (Sum constant parts) r) (array_same array to.array two.0) (parts_same parts to.parts two.1)
+    ap₂ (λ a parts. Store a (Sum constant parts) r) (array_same array to.array two.0) (parts_equal parts to.parts two.1)
     ∙ ap (λ n. Store to.array (Sum n to.parts) r) same in
     record { register = r; has = subst (Contains all) is has }
 
@@ -98,7 +97,7 @@ multiplied-from by bound all k (MulTable r x table (Sum constant parts) step ∷
     let first : PlainOp = MulTable r x table (Sum constant parts) step in
     let is : first ≡ MulTable r x by.table (Sum (by.constant + k) by.parts) step =
     ap₂ (λ t parts. MulTable r x t (Sum constant parts) step)
-    (eqb-true table by.table more.0) (parts_same parts by.parts last.1)
+    (eqb-true table by.table more.0) (parts_equal parts by.parts last.1)
     ∙ ap (λ n. MulTable r x by.table (Sum n by.parts) step) (eqb-true constant (by.constant + k) last.0) in
     elim (cases_eq k c) [
       | inl same ↦

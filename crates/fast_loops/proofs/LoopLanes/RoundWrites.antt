@@ -14,12 +14,12 @@ use Rattle.icode.specs.Plain.{PlainParts, PlainOp, PlainProgram, Sum, Store, Mul
 use Rattle.icode.proofs.Bools.{both_true}
 use Rattle.fast_loops.specs.Places.{same_parts}
 use Rattle.fast_loops.specs.Rounds.{Stored, same_array}
-use Rattle.fast_loops.proofs.Linear.{wrong}
+use Rattle.fast_loops.proofs.Linear.{wrong, parts_equal}
 use Rattle.fast_loops.specs.LoopLanes.Columns.{Factors, are_products, factored_registers}
 use Rattle.fast_loops.specs.LoopLanes.Layers.{Write, steps_at, values_put, writes_of}
 use Rattle.fast_loops.specs.LoopLanes.Rounds.{is_by_lane, stores, others, stored_registers, stored_constants, are_from}
-use Rattle.fast_loops.proofs.LoopLanes.Arrays.{same_start}
-use Rattle.fast_loops.proofs.LoopLanes.Orders.{parts_same, values_stay}
+use Rattle.fast_loops.proofs.LoopLanes.Orders.{values_stay}
+use Rattle.fast_loops.proofs.Apart.{array-same}
 
 -- registers of products were put before them
 pub products_low : (by : Factors) (bound k : ℕ) (ops : List PlainOp) (j : ℕ) → are_products by bound k ops ≡ true →
@@ -94,7 +94,7 @@ module _ (p : PlainProgram) (us : List ℕ) (q : ℕ) where
       ∙ ap (λ i. times (slice_index (entries table) i)) plain
       ∙ ap (λ t. times (slice_index (entries t) at)) (eqb-true table by.table two.0)
       ∙ ap₂ (λ c ps. times (slice_index (entries by.table) (sum_numbers (Sum c ps) us q).value))
-      (eqb-true constant (by.constant + k) three.0) (parts_same parts by.parts three.1)
+      (eqb-true constant (by.constant + k) three.0) (parts_equal parts by.parts three.1)
 
   -- products of registers that were put before
   pub products_put : (by : Factors) (bound k : ℕ) (ops : List PlainOp) (memory xs : List ℕ) (j : ℕ) → p.lanes ≡ 1 →
@@ -155,9 +155,9 @@ module _ (p : PlainProgram) (us : List ℕ) (q : ℕ) where
       let first : k + 0 ≡ k = omega arith in
       let word : array_start words array + (sum_numbers (Sum constant parts) us q).value
       ≡ array_start words to.array + (sum_numbers (Sum k to.parts) us q).value =
-      ap₂ (λ a n. a + n) (same_start words array to.array same.0)
+      ap₂ (λ a n. a + n) (array-same words array to.array same.0)
       (ap₂ (λ c ps. (sum_numbers (Sum c ps) us q).value) (eqb-true constant k here.0)
-      (parts_same parts to.parts same.1)) in
+      (parts_equal parts to.parts same.1)) in
       ap₂ (λ (w : Write) (ws : List Write). w ∷ ws)
       (ap₂ (λ a x. record { word = a; value = x }) word (h 0 (omega arith) ∙ ap y first))
       (writes_in_order loop to ops xs y (k + 1) two.1 here.1

@@ -21,19 +21,20 @@ use Rattle.icode.proofs.CodeLaws.Placing.{with_words_elsewhere}
 use Rattle.fast_loops.specs.Places.{are_linear, stride}
 use Rattle.fast_loops.specs.Rounds.{Stored, same_array, is_fresh, put_after, are_fresh}
 use Rattle.fast_loops.proofs.Acts.{loaded_words}
-use Rattle.fast_loops.proofs.Linear.{wrong}
+use Rattle.fast_loops.proofs.Linear.{wrong, parts_equal}
 use Rattle.fast_loops.specs.LoopLanes.Columns.{renumbered_op}
 use Rattle.fast_loops.specs.LoopLanes.Layers.{Write, IsAfter, IsGroup, LeaveWrites, written, memory_by, on_lanes}
 use Rattle.fast_loops.specs.LoopLanes.Layers.{steps_at, group_writes, writes_of}
 use Rattle.fast_loops.specs.LoopLanes.Rounds.{straight, is_by_lane, is_store, are_rows, in_row, widened}
-use Rattle.fast_loops.proofs.LoopLanes.Arrays.{IsOutside, same_start, other_outside}
+use Rattle.fast_loops.proofs.LoopLanes.Arrays.{IsOutside, other_outside}
 use Rattle.fast_loops.proofs.LoopLanes.Held.{AreHeld, in_lanes, values_in}
 use Rattle.fast_loops.proofs.LoopLanes.FrontHeld as lanes
 use Rattle.fast_loops.proofs.LoopLanes.FrontHeld.{put_next}
 use Rattle.fast_loops.proofs.LoopLanes.Orders.{group_fits, register_low, writes_split, members_turned, values_stay}
-use Rattle.fast_loops.proofs.LoopLanes.Orders.{parts_same, some_lanes}
+use Rattle.fast_loops.proofs.LoopLanes.Orders.{some_lanes}
 use Rattle.fast_loops.proofs.LoopLanes.Wide.{wide_value}
 use Rattle.fast_loops.proofs.LoopLanes.Writes.{written-append}
+use Rattle.fast_loops.proofs.Apart.{array-same}
 
 -- ---- what a store writes
 
@@ -162,7 +163,7 @@ module _ (v : ℕ) (p : PlainProgram) (f : ℕ → ℕ) (vs : List ℕ) (b q : �
         let at : k ≡ first + l = omega (arith, from) in
         let place = store_at array constant parts l by in
         let room = (fits l below).place in
-        let start = same_start words array to.array into in
+        let start = array-same words array to.array into in
         ⊎_elim
         (λ (before : k < array_start words to.array). omega (arith, before, at, place, start))
         (λ (behind : array_start words to.array + words ≤ k). omega (arith, behind, at, place, start, room, alone))
@@ -279,7 +280,7 @@ module _ (v : ℕ) (p : PlainProgram) (f : ℕ → ℕ) (vs : List ℕ) (b q : �
           }
       first_of memory s values next (Store array (Sum constant parts) r) ops true stores fresh by_lane fits h =
           let into = both_true (same_array array to.array) _ by_lane in
-          let by = parts_same parts to.parts into.1 in
+          let by = parts_equal parts to.parts into.1 in
           let lower = ltb-true r next fresh in
           let all : List PlainOp = Store array (Sum constant parts) r ∷ ops in
           let finals : ℕ → List ℕ = values_behind memory values all in

@@ -20,11 +20,12 @@ use Rattle.fast_loops.specs.Places.{are_linear}
 use Rattle.fast_loops.specs.Rounds.{Stored}
 use Rattle.fast_loops.specs.LoopLanes.Columns.{Factors, row_at, tile_at}
 use Rattle.fast_loops.specs.LoopLanes.Layers.{Write, written, on_lanes}
-use Rattle.fast_loops.proofs.LoopLanes.FrontHeld.{factor_of, factor_each}
 use Rattle.fast_loops.proofs.LoopLanes.RoundWrites.{acts_in, acts-append, entry_at}
 use Rattle.fast_loops.proofs.LoopLanes.RowsAre.{words_written}
 use Rattle.fast_loops.proofs.LoopLanes.Wide.{moved, moved_value}
 use Rattle.fast_loops.proofs.LoopLanes.Writes.{written-append}
+use Rattle.fast_loops.proofs.TwoTables.Products.{factor_at}
+use Rattle.fast_loops.proofs.Rows.{factors_each}
 
 -- ---- actions that write, and leave registers as they are
 
@@ -156,7 +157,7 @@ module _ (v : ℕ) (p : PlainProgram) (to : Stored) (vs : List ℕ) (b q : ℕ) 
         ≡ with_register (lane_of v s.registers i) (r + l)
         (product_mod p.modulus (lane_of v s.registers i (r + l)) (slice_index factors i)) =
         λ i below. effect_by_lane p.modulus v (3 * p.regs) product s i
-        (low, low, factor_each v (λ lane. slice_index entries (first + 1 * lane))) room below in
+        (low, low, factors_each v (λ lane. slice_index entries (first + 1 * lane))) room below in
         let value : (i : ℕ) → i < v → lane_of v after.registers i (r + l)
         ≡ stored_in (Some by) l (k + i) (x l (k + i)) =
         λ i below.
@@ -164,7 +165,7 @@ module _ (v : ℕ) (p : PlainProgram) (to : Stored) (vs : List ℕ) (b q : ℕ) 
         ∙ this_register (lane_of v s.registers i) (r + l)
         (product_mod p.modulus (lane_of v s.registers i (r + l)) (slice_index factors i))
         ∙ ap₂ (product_mod p.modulus) (h i below)
-        (factor_of v (λ lane. slice_index entries (first + 1 * lane)) i below
+        (factor_at v (λ lane. slice_index entries (first + 1 * lane)) i below
         ∙ ap (slice_index entries) (omega (arith, at))) in
         let last =
         store_leaves p.modulus v _ (r + l) (λ n. n ≢ r + l) after (λ i. write_in (Some by) x l (k + i))

@@ -14,7 +14,7 @@ use Rattle.icode.proofs.Bools.{both_true}
 use Rattle.fast_loops.specs.Places.{stride, same_parts}
 use Rattle.fast_loops.specs.Rounds.{Stored, same_array, are_fresh}
 use Rattle.fast_loops.proofs.Acts.{IsRound}
-use Rattle.fast_loops.proofs.Linear.{wrong}
+use Rattle.fast_loops.proofs.Linear.{wrong, parts_equal}
 use Rattle.fast_loops.proofs.Rows.{round_acts}
 use Rattle.fast_loops.specs.LoopLanes.Rounds.{straight, is_by_lane, stores, others, stored_registers, stored_constants}
 use Rattle.fast_loops.specs.LoopLanes.Columns.{Columns, Factors, plain_columns, factored_columns, front_length}
@@ -22,13 +22,13 @@ use Rattle.fast_loops.specs.LoopLanes.Columns.{last_products, are_products, are_
 use Rattle.fast_loops.specs.LoopLanes.Lanes.{can_lane}
 use Rattle.fast_loops.specs.LoopLanes.Loads.{Loaded, behind, are_loaded}
 use Rattle.fast_loops.specs.LoopLanes.Layers.{Write, steps_at, writes_of}
-use Rattle.fast_loops.proofs.LoopLanes.Arrays.{IsOutside, same_start, other_outside}
+use Rattle.fast_loops.proofs.LoopLanes.Arrays.{IsOutside, other_outside}
 use Rattle.fast_loops.proofs.LoopLanes.ColumnsAre.{columns_told, by_told}
 use Rattle.fast_loops.proofs.LoopLanes.Kinds.{of_kinds}
 use Rattle.fast_loops.proofs.LoopLanes.LoadedRow.{row}
 use Rattle.fast_loops.proofs.LoopLanes.LoadsTold.{IsRow, from_loaded_rows, from_loaded}
-use Rattle.fast_loops.proofs.LoopLanes.Orders.{parts_same}
 use Rattle.fast_loops.proofs.LoopLanes.OneLane.{IsPlaced, ArePlaced, IsLaneRound}
+use Rattle.fast_loops.proofs.Apart.{array-same}
 
 -- ---- what holds of operations of all kinds
 
@@ -47,7 +47,7 @@ told-op : (loop : ℕ) (to : Stored) (op : PlainOp) → is_by_lane loop to op �
 told-op loop to (Load r array place) h = not-true (same_array array to.array) (both_true _ _ h).0
 told-op loop to (Store array (Sum constant parts) r) h =
     let two = both_true (same_array array to.array) (same_parts parts to.parts) h in
-    (two.0, parts_same parts to.parts two.1)
+    (two.0, parts_equal parts to.parts two.1)
 told-op loop to (Tile r x) h = wrong h
 told-op loop to op h = tt
 
@@ -167,7 +167,7 @@ placed-op p to (Load r array place) ws q alone is fits =
 placed-op p to (Store array (Sum constant parts) r) ws q alone is fits =
     let words : ℕ = whole_lines p.size p.line in
     let room = fits.place in
-    let start = same_start words array to.array is.0 in
+    let start = array-same words array to.array is.0 in
     (omega (arith, start), omega (arith, start, room, alone))
 placed-op p to (Zero r) ws q alone is fits = fits.registers
 placed-op p to (Tile r x) ws q alone is fits = absurd is
@@ -219,7 +219,7 @@ pub writes_are : (p : PlainProgram) (to : Stored) (ops : List PlainOp) (ws : Lis
 writes_are p to [] ws q zs is = refl
 writes_are p to (Store array (Sum constant parts) r ∷ ops) ws q zs is =
     let words : ℕ = whole_lines p.size p.line in
-    let start = same_start words array to.array is.0.0 in
+    let start = array-same words array to.array is.0.0 in
     let n : ℕ = (parts_numbers parts ws q).value in
     let by : n ≡ (parts_numbers to.parts ws q).value = ap (λ parts. (parts_numbers parts ws q).value) is.0.1 in
     let there : array_start words array + (constant + n) ≡ store_base p to ws q + constant =

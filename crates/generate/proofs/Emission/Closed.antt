@@ -1,7 +1,6 @@
 -- The merged passes of a tree: those of its layout, the last of which multiplies by the factor of an inverse.
-use Rattle.std.proofs.Common.{◌≡◌, ℕ, refl, sym, ap, ap₂, ◌∙◌, subst, List, [], ◌∷◌, ◌++◌, Option, None, Some, All}
+use Rattle.std.proofs.Common.{◌≡◌, ℕ, refl, sym, ap, ap₂, ◌∙◌, subst, List, [], ◌∷◌, Option, None, Some, All}
 use Rattle.std.specs.Prelude.{map, reverse}
-use Rattle.std.proofs.lemmas.List.{map-append, reverse-append}
 use Rattle.std.proofs.lemmas.List.Elements.{All-head, All-tail}
 use Rattle.std.proofs.lemmas.Simd.{map-map}
 use Rattle.matrix_meaning.specs.declared.Kind.{Kind}
@@ -47,6 +46,7 @@ use Rattle.generate.proofs.Emission.PassPrograms.{programs-by-passes}
 use Rattle.generate.proofs.Emission.PlainPlaces.{plain-closing, plain-phases}
 use Rattle.generate.proofs.Emission.Nests.{multiplying, nests}
 use Rattle.perm_algebra.specs.Affine.{Sum, constant}
+use Rattle.loop_merge.proofs.TreeMerge.{map-turned}
 
 abbrev pub phases-in : Request → List (List (List PlainNest)) → PlainMerged
 phases-in c phases = record { size = c.size; procs = c.procs; lanes = c.lanes; phases = phases }
@@ -85,21 +85,13 @@ closed-one (Some v) ps = refl
 
 -- ---- merging makes a nest of each loop
 
-in-order : (ps : List PlainLoop) → reverse (map one_nest ps) ≡ map one_nest (reverse ps)
-in-order [] = refl
-in-order (p ∷ ps) =
-    reverse-append (one_nest p ∷ []) (map one_nest ps)
-    ∙ ap (λ zs. zs ++ one_nest p ∷ []) (in-order ps)
-    ∙ sym (map-append one_nest (reverse ps) (p ∷ []))
-    ∙ sym (ap (map one_nest) (reverse-append (p ∷ []) ps))
-
 module _ (h : Target) where
   merged-loops : (us : List terms.PlainTerm) → All (IsPhase h) us →
       map (passes_in_order h.size) us ≡ map (map one_nest) (map (λ t. reverse (loops_in t)) us)
   merged-loops [] are = refl
   merged-loops (t ∷ us) are =
       let is = All-head (IsPhase h) t us are in
-      ap₂ (λ z zs. z ∷ zs) (ap reverse (merge_listed (most 64) h.size t is.ordered is.limited) ∙ in-order (loops_in t))
+      ap₂ (λ z zs. z ∷ zs) (ap reverse (merge_listed (most 64) h.size t is.ordered is.limited) ∙ map-turned (loops_in t))
       (merged-loops us (All-tail (IsPhase h) t us are))
 
 -- ---- the last loop takes the factor

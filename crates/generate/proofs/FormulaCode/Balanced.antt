@@ -12,8 +12,9 @@ use Rattle.spl_ast.proofs.BalancedSums.Grouping.{KnowsSums, from_right}
 use Rattle.spl_ast.specs.Formula.{Formula, Identity, Fourier, Hadamard, Twiddles, Diagonal, Stride, Permutation}
 use Rattle.spl_ast.specs.Formula.{GoodThomasIn, GoodThomasOut, Product, TensorLeft, TensorRight, DirectSum, Pending}
 use Rattle.spl_ast.specs.Formula.{size_of}
-use Rattle.spl_ast.specs.Shape.{IsShaped, IsSize}
+use Rattle.spl_ast.specs.Shape.{IsShaped}
 use Rattle.spl_ast.proofs.Vectors.{shaped_size}
+use Rattle.spl_ast.proofs.Contexts.{is_size_of}
 
 -- ---- summands
 
@@ -99,9 +100,6 @@ record AreAlike (f g : Formula) : Type 0 where
   there : IsShaped f → IsShaped g
   back : IsShaped g → IsShaped f
 
-is-size : {n k : ℕ} → k ≡ n → IsSize n → IsSize k
-is-size e h = subst IsSize (sym e) h
-
 shapes-know : KnowsSums AreAlike
 shapes-know = record {
   same = λ f. record { size = refl; there = λ s. s; back = λ s. s };
@@ -118,8 +116,8 @@ shapes-know = record {
       let size : size_of c + size_of d ≡ size_of a + size_of b = ap₂ (λ n k. n + k) r.size q.size in
       record {
         size = size;
-        there = λ s. (r.there s.0, q.there s.1, is-size size s.2);
-        back = λ s. (r.back s.0, q.back s.1, is-size (sym size) s.2);
+        there = λ s. (r.there s.0, q.there s.1, is_size_of size s.2);
+        back = λ s. (r.back s.0, q.back s.1, is_size_of (sym size) s.2);
       };
   product = λ a b c d r q. record {
     size = r.size;
@@ -130,15 +128,15 @@ shapes-know = record {
       let size : size_of c * k ≡ size_of a * k = ap (λ n. n * k) r.size in
       record {
         size = size;
-        there = λ s. (r.there s.0, s.1, is-size size s.2);
-        back = λ s. (r.back s.0, s.1, is-size (sym size) s.2);
+        there = λ s. (r.there s.0, s.1, is_size_of size s.2);
+        back = λ s. (r.back s.0, s.1, is_size_of (sym size) s.2);
       };
   right = λ k a c r.
       let size : k * size_of c ≡ k * size_of a = ap (λ n. k * n) r.size in
       record {
         size = size;
-        there = λ s. (s.0, r.there s.1, is-size size s.2);
-        back = λ s. (s.0, r.back s.1, is-size (sym size) s.2);
+        there = λ s. (s.0, r.there s.1, is_size_of size s.2);
+        back = λ s. (s.0, r.back s.1, is_size_of (sym size) s.2);
       };
   pending = λ a c r. record { size = r.size; there = r.there; back = r.back };
 }

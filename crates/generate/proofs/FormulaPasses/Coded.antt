@@ -1,12 +1,11 @@
 -- What is known of a nest of a formula's passes, with places within the limits, lets a program be made of it.
 use Rattle.std.proofs.Common.{◌≡◌, ℕ, zero, suc, ◌-◌, ◌*◌, ◌^◌, ◌<◌, ◌≤◌, true, List, [], ◌∷◌, ◌++◌, All, length, map}
 use Rattle.std.proofs.Common.{refl, sym, ap₂, arith, subst, Bool, Some, inl, inr}
-use Rattle.std.specs.Prelude.{◌&&◌, drop, nat_le, nat_lt, slice_index, slice_index_or}
+use Rattle.std.specs.Prelude.{◌&&◌, drop, slice_index, slice_index_or}
 use Rattle.std.specs.List.{list_all}
 use Rattle.std.proofs.Math.Nat.{mul-le-mul, mul-le-mul_left, mul-le-mul_right, pow-succ'}
 use Rattle.std.proofs.Math.Pow.{pow_mono}
 use Rattle.std.proofs.lemmas.Bool.{cases_lt}
-use Rattle.std.proofs.lemmas.Bool.Decides.{nat_tests}
 use Rattle.std.proofs.lemmas.List.Elements.{All-nil, All-cons}
 use Rattle.matrix_meaning.specs.declared.Kind.TheVariants.{Dft, Wht, Idft}
 use Rattle.sigma_spl.specs.Shared.Running.{CanWork}
@@ -15,29 +14,21 @@ use Rattle.sigma_spl.specs.Shared.Ready.{IsReadyNest, IsSmallWork, LoadsAlike}
 use Rattle.sigma_spl.specs.Copies.{loops_of}
 use Rattle.sigma_spl.specs.Counts.{copies_in}
 use Rattle.sigma_spl.specs.Good.{AreGoodNests, IsGoodNest, NamesItems}
-use Rattle.sigma_spl.specs.Merge.{limits_of, are_small, is_limited, is_multiplier_within, is_within}
+use Rattle.sigma_spl.specs.Merge.{limits_of, is_limited, is_multiplier_within, is_within}
 use Rattle.sigma_spl.specs.Nest.{PlainMultiplier, PlainNest, copies_of, factor_count, store_place, sum_value}
 use Rattle.sigma_spl.specs.Work.{PlainWork, kernel, rows, horner, tile, copy, node_of, short, work_size}
 use Rattle.sigma_spl.proofs.Counting.{items_of}
 use Rattle.sigma_spl.proofs.Nests.{alone, one_below, sound-at, with_more}
 use Rattle.sigma_spl.proofs.Walk.{and-left, and-right}
-use Rattle.perm_algebra.specs.Affine.{Sum, constant, levels, parts, peak, top}
+use Rattle.perm_algebra.specs.Affine.{Sum, constant}
 use Rattle.perm_algebra.proofs.AffineLaws.{value-le-top}
 use Rattle.loop_merge.specs.PlainPasses.{IsPlainNest}
 use Rattle.operators.specs.TensorPaths.Path.{AreInRange}
 use Rattle.generate.proofs.FormulaPasses.Costs.{leaf-root}
 use Rattle.generate.proofs.FormulaPasses.Made.{IsFormulaWork, IsAlike, HasDiagonal, AreMany, IsMade, AreMade}
+use Rattle.loop_nests.proofs.SumLimits.RoomFacts.{top-below}
 
 -- ---- places within the limits
-
-lt-true : (a b : ℕ) → nat_lt a b ≡ true → a < b
-lt-true a b h = grind (arith, nat_tests)
-
-top-limited : (room n : ℕ) (cs : ℕ → ℕ) (e : Sum) → is_limited room n cs e ≡ true → top e cs < n
-top-limited room n cs e h =
-    let first = nat_le (parts e) room && nat_le (levels e) 64 in
-    let bounds = nat_lt (top e cs) n && nat_lt (peak e) n in
-    lt-true _ _ (and-left (nat_lt (top e cs) n) _ (and-left bounds (are_small cs e) (and-right first (bounds && are_small cs e) h)))
 
 limited-at : (room n : ℕ) (cs : ℕ → ℕ) (sums : List Sum) (i : ℕ) → list_all (is_limited room n cs) sums ≡ true →
     i < length sums → is_limited room n cs (slice_index_or sums i (constant 0)) ≡ true
@@ -51,7 +42,7 @@ value-below : (count : ℕ) (cs : ℕ → ℕ) (sums : List Sum) (i : ℕ) (vs :
     sum_value sums i vs < count
 value-below count cs sums i vs w names h within range =
     let least = value-le-top (slice_index_or sums i (constant 0)) (slice_index vs) cs (sound-at sums i names.sound) range in
-    let below = top-limited 64 count cs (slice_index_or sums i (constant 0)) (limited-at 64 count cs sums i h within) in omega (arith, least, below)
+    let below = top-below 64 count cs (slice_index_or sums i (constant 0)) (limited-at 64 count cs sums i h within) in omega (arith, least, below)
 
 factor-below : (counts : List ℕ) (w : PlainWork) (count : ℕ) (places : List Sum) (vs : List ℕ) (k : ℕ) →
     IsFormulaWork w → NamesItems w places →

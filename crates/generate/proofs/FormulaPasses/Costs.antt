@@ -22,12 +22,9 @@ use Rattle.spl_ast.specs.Formula.{size_of, parts_of}
 use Rattle.spl_ast.specs.Shape.{IsShaped}
 use Rattle.tree_model.specs.Breakdown.{leaf}
 use Rattle.generate.proofs.FormulaPasses.Made.{IsFormulaWork, AreMade}
+use Rattle.kernel_gen.proofs.KernelSizes.{sum_below-le}
 
 -- ---- kernels of leaves
-
-sum-le : (n b : ℕ) (f : ℕ → ℕ) → ((i : ℕ) → f i ≤ b) → sum_below n f ≤ n * b
-sum-le zero b f each = omega arith
-sum-le (suc n) b f each = let rest = sum-le n b f each in let last = each n in omega (arith, rest, last)
 
 price-le : (a b : Bool) → (if a then 0 else (if b then 0 else 1)) ≤ 1
 price-le true b = omega arith
@@ -36,7 +33,7 @@ price-le false false = omega arith
 
 products-le : (m d : ℕ) (e : ℕ → ℕ → ℕ) → products_cost 1 m 0 e d d ≤ d * d
 products-le m d e =
-    sum-le d d (λ k. sum_below d (λ l. product_cost 1 m 0 (e k l))) (λ k. let row = sum-le d 1 (λ l. product_cost 1 m 0 (e k l)) (λ l. price-le (e k l == 1) (e k l == m - 1)) in omega (arith, row))
+    sum_below-le d d (λ k. sum_below d (λ l. product_cost 1 m 0 (e k l))) (λ k. let row = sum_below-le d 1 (λ l. product_cost 1 m 0 (e k l)) (λ l. price-le (e k l == 1) (e k l == m - 1)) in omega (arith, row))
 
 leaf-size : (d x : ℕ) → x ≤ d * d → d * (d - 1) + x + d ≤ 2 * (d * d)
 leaf-size zero x h = omega (arith, h)

@@ -16,6 +16,7 @@ use Rattle.sigma_spl.specs.Shared.Ready.{diagonal_tables, nests_tables, passes_t
 use Rattle.sigma_spl.specs.Term.{PlainTerm, same, gath, scat, diag, nest, move, product, beside}
 use Rattle.sigma_spl.proofs.Walk.{chosen}
 use Rattle.operators.specs.TensorPaths.Path.{Path}
+use Rattle.loop_merge.proofs.JoinedPasses.Programs.{tables-append}
 
 abbrev pub AreNarrow : ℕ → List (List PlainNest) → Type 0
 AreNarrow b [] = Unit {0}
@@ -52,10 +53,6 @@ narrow-append b (zs ∷ ps) qs h g = (h.0, narrow-append b ps qs h.1 g)
 narrow-more : (a b : ℕ) (ps : List (List PlainNest)) → a ≤ b → AreNarrow a ps → AreNarrow b ps
 narrow-more a b [] more h = tt
 narrow-more a b (zs ∷ ps) more h = (omega (arith, more, h.0), narrow-more a b ps more h.1)
-
-pub tables-append : (ps qs : List (List PlainNest)) → passes_tables (ps ++ qs) ≡ passes_tables ps + passes_tables qs
-tables-append [] qs = omega arith
-tables-append (zs ∷ ps) qs = let rest = tables-append ps qs in omega (arith, rest)
 
 tables-both : (zs ys : List PlainNest) → nests_tables (zs ++ ys) ≡ nests_tables zs + nests_tables ys
 tables-both [] ys = omega arith

@@ -15,10 +15,11 @@ use Rattle.sigma_lower.proofs.Several.{term-several}
 use Rattle.generate.specs.FormulaPasses.Laws.{FormulasAreReady}
 use Rattle.loop_merge.proofs.JoinedCopies.Passes.{joined_are_plain}
 use Rattle.loop_merge.proofs.PlainPasses.{plain_are_ready}
+use Rattle.loop_merge.proofs.JoinedPasses.Programs.{tables-append}
 use Rattle.loop_merge.specs.JoinedCopies.Joined.{all_joined}
 use Rattle.generate.proofs.FormulaPasses.Coded.{plain-nests}
 use Rattle.generate.proofs.FormulaPasses.Costs.{operations-le, pass-loads-le}
-use Rattle.generate.proofs.FormulaPasses.Counted.{tables-append, sums_in, makers_in, steps_in, passes-few}
+use Rattle.generate.proofs.FormulaPasses.Counted.{sums_in, makers_in, steps_in, passes-few}
 use Rattle.generate.proofs.FormulaPasses.Made.{AreMade, AllMade}
 use Rattle.generate.proofs.FormulaPasses.Merging.{IsFormulaTerm, passes-made}
 use Rattle.matrix_meaning.specs.declared.Kind.TheVariants.{Dft}

@@ -26,7 +26,7 @@ at-residues m ds some h i =
       | inr past ↦ subst (λ v. v < m) (sym (get_or_past ds i 0 past)) some
     ]
 
-tables-append : (ps qs : List (List PlainNest)) → passes_tables (ps ++ qs) ≡ passes_tables ps + passes_tables qs
+pub tables-append : (ps qs : List (List PlainNest)) → passes_tables (ps ++ qs) ≡ passes_tables ps + passes_tables qs
 tables-append [] qs = omega arith
 tables-append (zs ∷ ps) qs = let rest = tables-append ps qs in omega (arith, rest)
 

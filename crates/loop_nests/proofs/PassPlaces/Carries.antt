@@ -12,7 +12,7 @@ use Rattle.operators.specs.declared.tensor_paths.Tensor.TheVariants.{Blocks, Col
 use Rattle.operators.specs.TensorPaths.Path.{Path, size_under}
 use Rattle.loop_nests.specs.PassPlaces.Known.{AreSteps}
 
-inner-below : (path : Path) (n i : ℕ) → i < size_under path n → at (inner_of path n) i < n
+pub inner-below : (path : Path) (n i : ℕ) → i < size_under path n → at (inner_of path n) i < n
 inner-below [] n i below = below
 inner-below (Blocks c ∷ path) n i below =
     let positive : 0 < size_under path n = factor_positive c (size_under path n) i below in omega (arith, inner-below path n (i % size_under path n) (mod-lt i positive))

@@ -23,7 +23,7 @@ sound m cs (variable f d rest) h = sound m cs rest h.1
 sound m cs (remainder f of k rest) h = (h.0, sound m cs of h.1, sound m cs rest h.3)
 sound m cs (quotient f of k rest) h = (h.0, sound m cs of h.1, sound m cs rest h.3)
 
-top-below : (room n : ℕ) (cs : ℕ → ℕ) (e : Sum) → is_limited room n cs e ≡ true → top e cs < n
+pub top-below : (room n : ℕ) (cs : ℕ → ℕ) (e : Sum) → is_limited room n cs e ≡ true → top e cs < n
 top-below room n cs e h =
     let first = nat_le (parts e) room && nat_le (levels e) 64 in
     let bounds = nat_lt (top e cs) n && nat_lt (peak e) n in

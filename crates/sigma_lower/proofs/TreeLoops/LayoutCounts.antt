@@ -21,7 +21,7 @@ use Rattle.kernel_gen.specs.Nodes.{IsNodeTree}
 use Rattle.smp_rewrite.specs.LayoutSteps.Meaning.{FitsWhole}
 use Rattle.smp_rewrite.proofs.LayoutSteps.Layouts.{layouts_cost, layouts_have_size}
 use Rattle.kernel_gen.proofs.NodeTrees.{HasFields, left_fields, left_tree, rest_is_part, right_fields, right_tree}
-use Rattle.smp_rewrite.proofs.LayoutSteps.NodeTrees.{left_fits}
+use Rattle.smp_rewrite.proofs.LayoutSteps.NodeTrees.{left_fits, plain_fits}
 use Rattle.tree_model.specs.Breakdown.{Breakdown, leaf, node, size_of, AllowsLeaf, AllowsRule}
 use Rattle.tree_model.specs.Cost.{is_kernel, is_plain, node_root}
 use Rattle.tree_model.proofs.PassLaws.{root_no_kernel}
@@ -86,10 +86,6 @@ module _ (c : Request) where
   -- a tree that stands in a request, of one size
   flat : (p : Request) (t : Breakdown) → IsNodeTree p t → FitsWhole p t → p.dimensions ≡ One → IsFlatTree p t
   flat p t h fits one = record { one = one; tree = h; fits = fits }
-
-  -- it is fit where there is one processor and one lane
-  plain-fits : (p : Request) (t : Breakdown) → is_plain p ≡ true → FitsWhole p t
-  plain-fits p t plain is shared = absurd (let clash : true ≡ false = sym plain ∙ shared in cc)
 
   -- a node is straight-line code where it is short
   alone-kernel : (p : Request) (d : ℕ) → is_plain p ≡ true → is_kernel p d ≡ nat_le d p.unroll
@@ -167,7 +163,7 @@ module _ (c : Request) where
 
   alone-counts : (p : Request) (count : ℕ) (t : Breakdown) → HasFields c p → IsNodeTree p t → is_plain p ≡ true →
       p.dimensions ≡ One → AllCount c (passes_of count (layout_of p t)) (node_passes p count t)
-  alone-counts p count t like h plain one = node-counts p count t like (flat p t h (plain-fits p t plain) one)
+  alone-counts p count t like h plain one = node-counts p count t like (flat p t h (plain_fits p t plain) one)
 
   all-in : (p : Request) (count : ℕ) (t : Breakdown) → HasFields c p → IsNodeTree p t → is_plain p ≡ true →
       AllCount c (passes_of count (layout_of p t)) (passes_in p count t)
@@ -181,7 +177,7 @@ module _ (c : Request) where
       let rest = right_tree p Dim a b h in
       let on_first = fields-both c p (first_of p) like (left_fields p Dim a b h) in
       let on_rest = fields-both c p (rest_of p) like (right_fields p Dim a b h) in
-      let cost = layouts_cost p (node Dim a b) h (plain-fits p (node Dim a b) plain) in
+      let cost = layouts_cost p (node Dim a b) h (plain_fits p (node Dim a b) plain) in
       dim-pick p a b (layout_of (first_of p) a) (layout_of (rest_of p) b) (layouts_have_size (first_of p) a)
       (layouts_have_size (rest_of p) b)
       (λ k. node-counts (first_of p) k a on_first

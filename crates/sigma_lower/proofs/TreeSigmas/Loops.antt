@@ -11,6 +11,7 @@ use Rattle.sigma_spl.specs.Limits.{AreSeveral}
 use Rattle.operators.specs.declared.tensor_paths.Tensor.{Tensor}
 use Rattle.operators.specs.declared.tensor_paths.Tensor.TheVariants.{Blocks, Columns}
 use Rattle.operators.specs.TensorPaths.Path.{Path, count_of, size_under}
+use Rattle.sigma_spl.proofs.Small.{size-positive}
 
 pub under-least : (path : Path) (n : ℕ) → AreSeveral path → 0 < n → n ≤ size_under path n
 under-least [] n wide h = omega arith
@@ -21,9 +22,6 @@ under-least (Columns c ∷ path) n wide h =
     let inner = under-least path n wide.1 h in
     let more : size_under path n ≤ size_under path n * c = le-mul_of_pos_right {m = c} (size_under path n) (omega (arith, wide.0)) in omega arith
 
-under-positive : (path : Path) (n : ℕ) → AreSeveral path → 0 < n → 0 < size_under path n
-under-positive path n wide h = omega (arith, under-least path n wide h)
-
 -- a tensor's count, and the size under it
 record FitsUnder (t : Tensor) (path : Path) (n : ℕ) : Type 0 where
   count : count_of t ≤ 1048576
@@ -32,11 +30,11 @@ record FitsUnder (t : Tensor) (path : Path) (n : ℕ) : Type 0 where
 fits-under : (t : Tensor) (path : Path) (n : ℕ) → AreSeveral (t ∷ path) → 0 < n → size_under (t ∷ path) n ≤ 1048576 →
     FitsUnder t path n
 fits-under (Blocks c) path n wide h high =
-    let count : c ≤ c * size_under path n = le-mul_of_pos_right {m = size_under path n} c (under-positive path n wide.1 h) in
+    let count : c ≤ c * size_under path n = le-mul_of_pos_right {m = size_under path n} c (size-positive path n wide.1 h) in
     let rest : size_under path n ≤ size_under path n * c = le-mul_of_pos_right {m = c} (size_under path n) (omega (arith, wide.0)) in
     record { count = omega arith; rest = omega (arith, mul_comm c (size_under path n)) }
 fits-under (Columns c) path n wide h high =
-    let count : c ≤ c * size_under path n = le-mul_of_pos_right {m = size_under path n} c (under-positive path n wide.1 h) in
+    let count : c ≤ c * size_under path n = le-mul_of_pos_right {m = size_under path n} c (size-positive path n wide.1 h) in
     let rest : size_under path n ≤ size_under path n * c = le-mul_of_pos_right {m = c} (size_under path n) (omega (arith, wide.0)) in
     record { count = omega (arith, mul_comm c (size_under path n)); rest = omega arith }
 

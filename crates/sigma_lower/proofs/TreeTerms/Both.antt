@@ -1,9 +1,8 @@
 -- All phases: their terms do what the formula for lanes does.
-use Rattle.std.proofs.Common.{◌≡◌, ℕ, Bool, true, false, arith, refl, sym, ap, ap₂, ◌∙◌, List, [], ◌∷◌, ◌++◌}
+use Rattle.std.proofs.Common.{◌≡◌, ℕ, Bool, true, false, refl, sym, ap, ap₂, ◌∙◌, List, [], ◌∷◌, ◌++◌}
 use Rattle.std.proofs.Common.{if◌then◌else◌}
 use Rattle.std.specs.Prelude.{map, ◌==◌}
 use Rattle.std.specs.List.{flat_map}
-use Rattle.std.proofs.lemmas.Bool.Decides.{nat_tests}
 use Rattle.std.proofs.lemmas.List.{map-append}
 use Rattle.sigma_lower.specs.TreeTerms.Good.{IsVecOf}
 use Rattle.sigma_lower.specs.TreeTerms.Term.{PlainTerm, lowered, factor_term, terms_on, terms_in, lowered_of, phases_on}
@@ -19,6 +18,7 @@ use Rattle.sigma_spl.specs.Shared.Targets.{is_alone}
 use Rattle.operators.specs.declared.target.Target.{Target}
 use Rattle.vec_rewrite.specs.Turning.{kept, vec_of}
 use Rattle.vec_rewrite.specs.Vectors.{PlainVec, factor_step, vec_steps}
+use Rattle.vec_rewrite.proofs.PlainSteps.{one_proc, one_lane}
 
 -- ---- one phase after the other
 
@@ -63,12 +63,6 @@ plain-made n m line ss =
     let h : Target = record { size = n; modulus = m; procs = 1; line = line; lanes = 1 } in
     ap (λ ts. ts ∷ [])
     (ap (map (factor_term 1 1)) (sym (map-append kept (cut h ss).first (cut h ss).second) ∙ ap (map kept) (cut-factors h ss)) ∙ plain-flat n ss)
-
-pub one_proc : (h : Target) → is_alone h ≡ true → h.procs ≡ 1
-one_proc h e = grind (arith, nat_tests)
-
-pub one_lane : (h : Target) → is_alone h ≡ true → h.lanes ≡ 1
-one_lane h e = grind (arith, nat_tests)
 
 pub plain_terms : (h : Target) (l : Layout) → is_alone h ≡ true → lowered_of h l ≡ map lowered (steps_of [] l) ∷ []
 plain_terms h l e = ap₂ (λ p v. made_of h.size h.modulus p v h.line (steps_of [] l)) (one_proc h e) (one_lane h e) ∙ plain-made h.size h.modulus h.line (steps_of [] l)

@@ -1,5 +1,5 @@
 -- The terms of a layout that is shared, from its root.
-use Rattle.std.proofs.Common.{◌≡◌, ◌≢◌, ℕ, zero, suc, ◌*◌, ◌/◌, ◌%◌, ◌<◌, ◌≤◌, false, arith, refl, sym, ap, ap₂, ◌∙◌}
+use Rattle.std.proofs.Common.{◌≡◌, ◌≢◌, ℕ, suc, ◌*◌, ◌/◌, ◌%◌, ◌<◌, ◌≤◌, false, arith, refl, sym, ap, ap₂, ◌∙◌}
 use Rattle.std.proofs.Common.{List, [], ◌∷◌, ◌++◌, if◌then◌else◌, inl, inr, subst, append-nil, append_assoc}
 use Rattle.std.specs.Prelude.{map, Option, None, Some, ◌==◌, take, drop, length}
 use Rattle.std.specs.List.{flat_map}
@@ -14,6 +14,7 @@ use Rattle.smp_rewrite.specs.Cut.{factors_of, is_left, right_count, first_count,
 use Rattle.smp_rewrite.specs.Smp as smp
 use Rattle.smp_rewrite.proofs.Dealt.{IsDealt, is_dealt}
 use Rattle.smp_rewrite.proofs.Factors.{rows_of}
+use Rattle.smp_rewrite.proofs.Moves.{one_line}
 use Rattle.smp_rewrite.specs.LayoutSteps.Step.{turns, twiddles, PlainStep, step, rule_steps, steps_of}
 use Rattle.operators.specs.declared.tensor_paths.Tensor.TheVariants.{Blocks, Columns}
 use Rattle.tree_model.specs.declared.tree.Rule.{Rule}
@@ -319,15 +320,10 @@ several-part : (p line v k : ℕ) → 0 < p → 0 < line → 1 < v → 0 < k →
 several-part p line v k procs lines lanes positive fits e one =
     let dealt : IsDealt p line k = is_dealt p line k procs lines e in
     let width : 1 % line ≡ 0 = ap (λ n. n % line) (sym one) ∙ dealt.lines in
-    let unit : line ≡ 1 = unit_line line lines width in
+    let unit : line ≡ 1 = one_line line lines width in
     let left : 1 % v ≡ 0 = ap (λ n. n % v) (sym unit) ∙ fits in
     let same : 1 % v ≡ 1 = mod-eq_of_lt lanes in absurd (omega (arith, left, same))
   where
-    unit_line : (line : ℕ) → 0 < line → 1 % line ≡ 0 → line ≡ 1
-    unit_line zero h e = absurd (omega arith)
-    unit_line (suc zero) h e = refl
-    unit_line (suc (suc k)) h e = let same : 1 % suc (suc k) ≡ 1 = mod-eq_of_lt (omega arith) in absurd (omega (arith, e, same))
-
 numbers_of : (h : Target) (l : Layout) (r s : ℕ) → CanShareLayout h l → r * s ≡ h.size → 2 ≤ r → 2 ≤ s →
     HasParts h r s → AreNumbers h.size h.procs h.lanes r s
 numbers_of h l r s shares product two_r two_s fits =

@@ -20,7 +20,7 @@ use Rattle.tree_model.specs.declared.tree.Rule.TheVariants.{Gt, Ct, Split, Dim}
 smaller : (p : Request) (u t : Breakdown) → size_of u < size_of t → IsNodeTree p t → FitsWhole p u
 smaller p u t less h is shared = let high = size-le p t h in absurd (omega (arith, is, less, high))
 
-plain_fits : (p : Request) (t : Breakdown) → is_plain p ≡ true → FitsWhole p t
+pub plain_fits : (p : Request) (t : Breakdown) → is_plain p ≡ true → FitsWhole p t
 plain_fits p t plain is shared = absurd (let clash : true ≡ false = sym plain ∙ shared in cc)
 
 pub left_fits : (p : Request) (rule : Rule) (a b : Breakdown) → IsNodeTree p (node rule a b) →

@@ -1,14 +1,6 @@
 -- Whether words stand where they are looked for, one after another.
-use Rattle.std.proofs.Common.{◌≡◌, ℕ, suc, ◌+◌, ◌-◌, ◌<◌, ◌&&◌, ◌++◌, [], ◌∷◌, true, sym, ap, ◌∙◌, arith}
-use Rattle.std.specs.List.{range_with_len}
-use Rattle.std.proofs.lemmas.List.{map-id}
-use Rattle.std.proofs.lemmas.List.FromFn.{map-range_with_len_more}
+use Rattle.std.proofs.Common.{◌≡◌, ℕ, suc, ◌+◌, ◌-◌, ◌<◌, ◌&&◌, true, ap, ◌∙◌, arith}
 use Rattle.word_code.specs.InPlace.Homes.{Homes, is_home, are_home}
-
-pub range_more : (n : ℕ) → range_with_len 0 (n + 1) ≡ range_with_len 0 n ++ n ∷ []
-range_more n =
-    sym (map-id (range_with_len 0 (n + 1))) ∙ map-range_with_len_more (λ i. i) 0 n n (omega arith)
-    ∙ ap (λ is. is ++ n ∷ []) (map-id (range_with_len 0 n))
 
 module _ (h : Homes) (count at to word : ℕ) where
   words_split : word < count → are_home h (count - word) (at + word) (to + word)

@@ -1,11 +1,10 @@
 -- Actions of a program and of its statements that go by routes differ in their addresses alone.
-use Rattle.std.proofs.Common.{ℕ, ◌+◌, ◌*◌, ◌≤◌, List, [], ◌∷◌, ◌++◌, All, flat_map, inl, inr, refl, arith, ◌≡◌}
+use Rattle.std.proofs.Common.{ℕ, ◌+◌, ◌*◌, ◌≤◌, List, [], ◌∷◌, ◌++◌, All, flat_map, inl, inr, refl, ◌≡◌}
 use Rattle.std.specs.List.{range_with_len}
 use Rattle.std.proofs.lemmas.List.Elements.{All-head}
 use Rattle.icode.specs.declared.action.Action.{Action}
 use Rattle.icode.specs.declared.action.Action.TheVariants as action
 use Rattle.icode.specs.declared.program.Array.{Array}
-use Rattle.icode.specs.declared.program.Array.TheVariants.{X, Y, A, B}
 use Rattle.icode.specs.Actions.{Step, StepFits, array_start, step_of, steps_of_stmt, steps_of_body}
 use Rattle.icode.specs.Expression.{sum_numbers}
 use Rattle.icode.specs.Machine.{whole_lines}
@@ -26,14 +25,7 @@ use Rattle.word_code.specs.InPlace.Routes.{rerouted_op, rerouted_stmt, rerouted_
 use Rattle.word_code.specs.InPlace.View.{StmtFits, BodyFits}
 use Rattle.fast_loops.proofs.TwoTables.Listed.{all-left, all-right}
 use Rattle.word_code.proofs.InPlace.Pairs.{IsInner, IsTouchPair, ArePairs, pairs-append, stored}
-
--- what lies in an array lies in the memory
-inside_memory : (words at lanes : ℕ) (array : Array) → at + lanes ≤ words →
-    array_start words array + at + lanes ≤ 4 * words
-inside_memory words at lanes X le = omega (arith, le)
-inside_memory words at lanes Y le = omega (arith, le)
-inside_memory words at lanes A le = omega (arith, le)
-inside_memory words at lanes B le = omega (arith, le)
+use Rattle.code_check.proofs.Regular.{array_inside}
 
 -- as many routes as statements
 abbrev pub ReachAll : List Route → PlainBody → Type 0
@@ -77,8 +69,8 @@ module _ (z : Laziness) (p : PlainProgram) (all : List Route) where
         acts = acts;
         other = refl;
         touches = refl;
-        inside = inside_memory words at p.lanes array inside;
-        inside_other = inside_memory words at p.lanes target inside;
+        inside = array_inside words at p.lanes array inside;
+        inside_other = array_inside words at p.lanes target inside;
       }
 
   op_pairs : (route : Route) (note : Note) (op : PlainOp) (vs : List ℕ) → StepFits p (step_of p op vs 0) →

@@ -5,9 +5,9 @@ use Rattle.std.specs.Option.{option_map}
 use Rattle.icode.specs.Plain.{plain_part, plain_expr}
 use Rattle.grammar.specs.Cursor.{Tells}
 use Rattle.listing_text.specs.Reading.{part_at, inner_at}
-use Rattle.listing_text.proofs.Views.{plain_expr_is}
 use Rattle.listing_text.proofs.ReadParts.{part_pushed, no_part, part_error, parts_end, inner_none, inner_some}
 use Rattle.listing_text.proofs.reading.+places.Goals as goal
+use Rattle.icode.proofs.Views.{plain_expr_is}
 
 pub inner_of-returns-then-depth-eq0 : goal.inner_of-returns-then-depth-eq0
 inner_of-returns-then-depth-eq0 t c = rw c.left.ensures (inner_none c.args.depth c.args.cursor.now c.if-depth-eq0.true)

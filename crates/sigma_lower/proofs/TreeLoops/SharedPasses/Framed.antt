@@ -34,11 +34,12 @@ use Rattle.smp_rewrite.specs.Fits.{HasParts, RootHasParts, CanShareLayout}
 use Rattle.smp_rewrite.specs.LayoutSteps.Layout.{Layout, work, by, layout_size, IsGoodLayout, IsGoodWork}
 use Rattle.sigma_spl.proofs.Walk.{chosen}
 use Rattle.sigma_spl.specs.Shared.Targets.{is_alone}
-use Rattle.sigma_lower.proofs.TreeTerms.Both.{one_lane, one_proc, plain_terms}
+use Rattle.sigma_lower.proofs.TreeTerms.Both.{plain_terms}
 use Rattle.sigma_lower.proofs.TreeTerms.RootTerms.{shared_terms, rule-fits, rule-shared}
 use Rattle.sigma_spl.specs.Shared.Machine.{lane_step}
 use Rattle.smp_rewrite.proofs.Tensors.{blocks-within, is-one}
 use Rattle.sigma_lower.proofs.TreeTerms.Behind.{within-append}
+use Rattle.vec_rewrite.proofs.PlainSteps.{one_proc, one_lane}
 
 -- ---- the law
 

@@ -8,8 +8,9 @@ use Rattle.code_check.proofs.Walking.{within_loop}
 use Rattle.word_code.specs.Quicken.{loosest, quick_stmt, quick_body}
 use Rattle.word_code.specs.Setting.{AreBoundsWithin, header_in}
 use Rattle.word_code.specs.View.{lazy_of}
-use Rattle.word_code.proofs.Emitting.{made-more, item_within, loop_made, stmt_sane}
+use Rattle.word_code.proofs.Emitting.{made-more, loop_made, stmt_sane}
 use Rattle.word_code.proofs.quicken.+quicken_stmt.Goals as goal
+use Rattle.fast_loops.proofs.JoinedLoops.Seen.{item-within}
 
 pub quicken_stmt-requires : goal.quicken_stmt-requires
 quicken_stmt-requires t c =
@@ -21,7 +22,7 @@ quicken_stmt-requires t c =
     let w = c.in-Loop.is in (
       search (rules, the_lemmas, common_steps) depth 8,
       (
-        item_within c.args.setting.modulus (c.args.depth + 1) c.loop-inner.inner-index c.deref-inner-items.result.now c.inner-item.result
+        item-within c.args.setting.modulus (c.args.depth + 1) c.loop-inner.inner-index c.deref-inner-items.result.now c.inner-item.result
             (subst (λ (xs : List Stmt). is_body_within c.args.setting.modulus (plain_body xs) (c.args.depth + 1) ≡ true) (sym items) parts.1) (omega arith) c.inner-item.is,
         (c.requires.setting, (search rules, (omega (arith, parts.0), c.loop-inner.invariant.sane))),
       ),

@@ -3,12 +3,13 @@ use Rattle.icode.specs.Plain.{plain_stmt}
 use Rattle.word_code.specs.Quicken.{QuickBody, loosest, quick_stmt, quick_body}
 use Rattle.word_code.specs.Setting.{AreBoundsWithin, header_in}
 use Rattle.word_code.specs.View.{lazy_of}
-use Rattle.word_code.proofs.Emitting.{item_within, made-more, made-all, stmt_sane}
+use Rattle.word_code.proofs.Emitting.{made-more, made-all, stmt_sane}
 use Rattle.word_code.proofs.quicken.quicken_phase.Goals as goal
+use Rattle.fast_loops.proofs.JoinedLoops.Seen.{item-within}
 
 pub quicken_stmt-requires-clause-within : goal.quicken_stmt-requires-clause-within
 quicken_stmt-requires-clause-within c =
-    item_within c.args.setting.modulus 0 c.loop-stmt.stmt-index c.args.body.now c.stmt-item.result c.requires.within (omega arith) c.stmt-item.is
+    item-within c.args.setting.modulus 0 c.loop-stmt.stmt-index c.args.body.now c.stmt-item.result c.requires.within (omega arith) c.stmt-item.is
 
 pub loop-stmt-preserved : goal.loop-stmt-preserved
 loop-stmt-preserved c =

@@ -4,10 +4,11 @@ use Rattle.word_code.specs.Needs.{needs_of_each}
 use Rattle.word_code.specs.Quicken.{QuickBody, loosest, loosened, quick_stmt, quick_alone}
 use Rattle.word_code.specs.Setting.{AreBoundsWithin, header_in}
 use Rattle.word_code.specs.View.{lazy_of}
-use Rattle.word_code.proofs.Emitting.{item_within, made-more, made-all}
+use Rattle.word_code.proofs.Emitting.{made-more, made-all}
 use Rattle.word_code.proofs.Needing.{length-each}
 use Rattle.word_code.proofs.Loosening.{alone_splits, needed_sane}
 use Rattle.word_code.proofs.single.quicken_alone.Goals as goal
+use Rattle.fast_loops.proofs.JoinedLoops.Seen.{item-within}
 
 pub index-requires : goal.index-requires
 index-requires c =
@@ -15,7 +16,7 @@ index-requires c =
 
 pub quicken_needed-requires-clause-within : goal.quicken_needed-requires-clause-within
 quicken_needed-requires-clause-within c =
-    item_within c.args.setting.modulus 0 c.loop-index.index c.args.body.now c.index-body-index.result c.requires.within c.loop-index-test.true c.index-body-index.is
+    item-within c.args.setting.modulus 0 c.loop-index.index c.args.body.now c.index-body-index.result c.requires.within c.loop-index-test.true c.index-body-index.is
 
 pub loop-index-preserved : goal.loop-index-preserved
 loop-index-preserved c =
