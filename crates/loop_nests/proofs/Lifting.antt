@@ -1,34 +1,25 @@
 -- Nests within the limits can be made part of a larger array.
 use Rattle.std.proofs.Common.{◌≡◌, ℕ, suc, ◌+◌, ◌-◌, ◌^◌, ◌<◌, ◌≤◌, true, arith, ap, ◌∙◌, List, [], ◌∷◌, ◌++◌, length}
 use Rattle.std.proofs.Common.{Option, Some, None}
-use Rattle.std.specs.Prelude.{All, map, slice_index, nat_lt, nat_le, ◌&&◌}
+use Rattle.std.specs.Prelude.{All, map, slice_index, ◌&&◌}
 use Rattle.std.specs.List.{list_all}
 use Rattle.std.proofs.lemmas.List.Elements.{All-nil, All-cons}
-use Rattle.perm_algebra.specs.Affine.{Sum, constant, variable, remainder, quotient, top, peak, levels, parts, joined}
+use Rattle.perm_algebra.specs.Affine.{Sum, constant, variable, remainder, quotient, top, joined}
 use Rattle.perm_algebra.specs.Room.{HasCounts, IsReady}
 use Rattle.perm_algebra.specs.Views.{plain_sum}
 use Rattle.perm_algebra.specs.declared.Affine.{Affine}
 use Rattle.sigma_spl.specs.Limits.{AreSeveral}
-use Rattle.sigma_spl.specs.Merge.{are_small, is_limited, is_within, is_multiplier_within, limits_of, renumbered}
+use Rattle.sigma_spl.specs.Merge.{is_limited, is_within, is_multiplier_within, limits_of, renumbered}
 use Rattle.sigma_spl.specs.Nest.{PlainMultiplier, PlainNest}
 use Rattle.sigma_spl.specs.Work.{work_size}
 use Rattle.sigma_spl.proofs.Small.{renumbered-small, behind-small}
 use Rattle.sigma_spl.proofs.Walk.{and-left, and-right}
-use Rattle.sigma_spl.proofs.Limited.{lt-true, le-true, tested, counts-first}
+use Rattle.sigma_spl.proofs.Limited.{tested, counts-first}
 use Rattle.operators.specs.TensorPaths.Path.{Path, count_of, size_under}
 use Rattle.loop_nests.specs.Ready.{AreReady, IsReadyMultiplier, IsReadyNest}
 use Rattle.loop_nests.specs.Lifted.{AreCounted, AreRaised, CanLift, CanRaise, IsCounted}
 use Rattle.loop_nests.proofs.Naming.{can-place, constant-le-top}
 use Rattle.loop_nests.proofs.Items.{low-of, length-below}
-
--- ---- from tests
-    record {
-      parts = le-true _ _ (and-left (nat_le (parts e) room) _ one);
-      levels = le-true _ _ (and-right (nat_le (parts e) room) _ one);
-      top = lt-true _ _ (and-left (nat_lt (top e cs) n) _ three);
-      peak = lt-true _ _ (and-right (nat_lt (top e cs) n) _ three);
-      small = and-right bounds (are_small cs e) two;
-    }
 
 -- ---- counts
 

@@ -323,7 +323,7 @@ several-part p line v k procs lines lanes positive fits e one =
     let unit : line ≡ 1 = one_line line lines width in
     let left : 1 % v ≡ 0 = ap (λ n. n % v) (sym unit) ∙ fits in
     let same : 1 % v ≡ 1 = mod-eq_of_lt lanes in absurd (omega (arith, left, same))
-  where
+
 numbers_of : (h : Target) (l : Layout) (r s : ℕ) → CanShareLayout h l → r * s ≡ h.size → 2 ≤ r → 2 ≤ s →
     HasParts h r s → AreNumbers h.size h.procs h.lanes r s
 numbers_of h l r s shares product two_r two_s fits =
