@@ -1,6 +1,6 @@
 -- What a sum has by its parts, whatever their factors, it keeps where it is multiplied, added, taken apart or reduced.
 -- What may stand in a quotient and in a remainder, too, is kept by the simplification of any function.
-use Rattle.std.proofs.Common.{ℕ, ◌+◌, ◌*◌, ◌/◌, ◌%◌, ◌<◌, Bool, true, false}
+use Rattle.std.proofs.Common.{ℕ, ◌+◌, ◌*◌, ◌/◌, ◌%◌, ◌<◌, ◌≤◌, Bool, true, false}
 use Rattle.std.proofs.Common.{arith}
 use Rattle.std.specs.Prelude.{if◌then◌else◌, ◌==◌, nat_lt}
 use Rattle.std.proofs.lemmas.Nat.{mul-lt}
@@ -106,27 +106,36 @@ module _ (P : Sum → Type 0) (by : IsByParts P) where
     kept-mixed : (cs : ℕ → ℕ) (r s a b : ℕ) (e : Sum) → 1 ≤ r → 1 ≤ s → P e →
         P (reduced cs (r * s) (joined (scaled a (divided cs s e).quot) (scaled b (divided cs s e).rem)))
     kept-mixed cs r s a b e r_some s_some h =
+        let q = (divided cs s e).quot in
+        let t = (divided cs s e).rem in
         let d = kept-divided cs s e (omega (arith, s_some)) h in
-        kept-reduced cs (r * s) _ (mul-lt 0 0 r s (omega (arith, r_some)) (omega (arith, s_some)))
-        (kept-joined _ _ (kept-scaled a _ d.0) (kept-scaled b _ d.1))
+        kept-reduced cs (r * s) (joined (scaled a q) (scaled b t))
+        (mul-lt 0 0 r s (omega (arith, r_some)) (omega (arith, s_some)))
+        (kept-joined (scaled a q) (scaled b t) (kept-scaled a q d.0) (kept-scaled b t d.1))
 
     pub kept-simplified : (cs : ℕ → ℕ) (f : Mapping) (e : Sum) → IsWellFormed f → HasNoList f → P e →
         P (simplified cs f e)
     kept-simplified cs Same e formed none h = h
     kept-simplified cs (Always v) e formed none h = by.constants v
-    kept-simplified cs (Line base step) e formed none h = kept-joined _ _ (by.constants base) (kept-scaled step e h)
+    kept-simplified cs (Line base step) e formed none h = kept-joined (constant base) (scaled step e) (by.constants base) (kept-scaled step e h)
     kept-simplified cs (Strided r s) e formed none h =
-        let d = kept-divided cs s e (omega (arith, formed.1)) h in kept-joined _ _ (kept-scaled r _ d.1) d.0
+        let z = divided cs s e in
+        let d = kept-divided cs s e (omega (arith, formed.1)) h in
+        kept-joined (scaled r z.rem) z.quot (kept-scaled r z.rem d.1) d.0
     kept-simplified cs (ThomasIn r s) e formed none h = kept-mixed cs r s s r e formed.0 formed.1 h
     kept-simplified cs (ThomasOut r s) e formed none h =
-        kept-joined _ _ (kept-scaled s _ (kept-divided cs r e (omega (arith, formed.0)) h).1)
+        let y = divided cs r e in
+        let z = divided cs s e in
+        kept-joined (scaled s y.rem) z.rem (kept-scaled s y.rem (kept-divided cs r e (omega (arith, formed.0)) h).1)
         (kept-divided cs s e (omega (arith, formed.1)) h).1
     kept-simplified cs (ThomasBack r s u v) e formed none h = kept-mixed cs r s u v e formed.0 formed.1 h
     kept-simplified cs (Listed places) e formed none h = absurd none
     kept-simplified cs (Paired f c g d) e formed none h =
+        let z = divided cs d e in
         let k = kept-divided cs d e (omega (arith, formed.0)) h in
-        kept-joined _ _ (kept-scaled c _ (kept-simplified cs f _ formed.1 none.0 k.0))
-        (kept-simplified cs g _ formed.2 none.1 k.1)
+        kept-joined (scaled c (simplified cs f z.quot)) (simplified cs g z.rem)
+        (kept-scaled c (simplified cs f z.quot) (kept-simplified cs f z.quot formed.1 none.0 k.0))
+        (kept-simplified cs g z.rem formed.2 none.1 k.1)
     kept-simplified cs (After f g) e formed none h =
         kept-simplified cs f (simplified cs g e) formed.0 none.0 (kept-simplified cs g e formed.1 none.1 h)
 

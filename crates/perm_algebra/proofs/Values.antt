@@ -63,13 +63,14 @@ module _ (cs vs : ℕ → ℕ) (range : AreBelowCounts vs cs) where
       ≡ (a * (value e vs / s) + b * (value e vs % s)) % (r * s)
   value-mixed r s a b e r_some s_some sound =
       let positive : 0 < s = omega arith in
+      let q = (divided cs s e).quot in
+      let t = (divided cs s e).rem in
       let d = divides s e positive sound in
       let k = sound-divided cs s e positive sound in
-      value-reduced (r * s) _ (mul-lt 0 0 r s (omega arith) positive)
-      (sound-joined _ _ (sound-scaled a _ k.0) (sound-scaled b _ k.1))
+      value-reduced (r * s) (joined (scaled a q) (scaled b t)) (mul-lt 0 0 r s (omega arith) positive)
+      (sound-joined (scaled a q) (scaled b t) (sound-scaled a q k.0) (sound-scaled b t k.1))
       ∙ ap (λ x. x % (r * s))
-      (value-with a (divided cs s e).quot (scaled b (divided cs s e).rem) vs
-      ∙ ap₂ (λ x y. a * x + y) d.quot (value-scaled b (divided cs s e).rem vs ∙ ap (λ x. b * x) d.rem))
+      (value-with a q (scaled b t) vs ∙ ap₂ (λ x y. a * x + y) d.quot (value-scaled b t vs ∙ ap (λ x. b * x) d.rem))
 
 -- ---- each function
 
