@@ -29,6 +29,7 @@ use Rattle.sigma_spl.specs.Work.{kernel, horner, short}
 use Rattle.sigma_spl.proofs.CopiesMerge.{low, high}
 use Rattle.sigma_spl.proofs.Keeps.{under-vector, under-none, vector-fill, both-equal, front, back, front-vector}
 use Rattle.sigma_spl.proofs.Keeps.{back-vector}
+use Rattle.sigma_spl.proofs.Walk.{vector-below}
 use Rattle.sigma_lower.specs.Terms.{one_more, halvings, hadamard_term, fourier_term, term_of}
 use Rattle.sigma_lower.proofs.Moves.{left_positive, move-wrapped, strided-move, in-move, out-move}
 use Rattle.sigma_lower.proofs.Parts.{transform-work, nest-lowers, move-lowers, diag-lowers, product-lowers, lowers-as}
@@ -41,7 +42,7 @@ use Rattle.spl_ast.specs.Formula.{GoodThomasIn, GoodThomasOut, Product, TensorLe
 use Rattle.spl_ast.specs.Formula.{size_of}
 use Rattle.spl_ast.specs.Meaning.{apply}
 use Rattle.spl_ast.specs.Shape.{IsShaped}
-use Rattle.spl_ast.proofs.Vectors.{apply_vector, residue_at, vector_of, shaped_size, list_vector}
+use Rattle.spl_ast.proofs.Vectors.{apply_vector, residue_at, vector_of, shaped_size}
 use Rattle.operators.specs.declared.tensor_paths.Tensor.TheVariants.{Blocks, Columns}
 use Rattle.operators.specs.TensorPaths.Path.{Path, size_under, under}
 use Rattle.operators.proofs.TensorPaths.Under.{size_under-push, under-push}
@@ -62,7 +63,7 @@ gath-lowers m path n f positive h = record { good = move-wrapped path n f positi
 -- ---- WHT
 
 transform-vector : (m n w : ℕ) (kind : Kind) (y : List ℕ) → 0 < m → IsVector m n (transform kind m n w y)
-transform-vector m n w kind y positive = list_vector m n _ (λ i below. mod-lt _ positive)
+transform-vector m n w kind y positive = vector-below m n _ (λ i below. mod-lt _ positive)
 
 hadamard-one : (m : ℕ) (y : List ℕ) → IsVector m 1 y → y ≡ transform Wht m 1 0 y
 unfolding lib.Count.ones

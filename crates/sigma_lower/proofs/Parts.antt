@@ -21,6 +21,7 @@ use Rattle.sigma_spl.specs.Work.{PlainWork, tile, work_size, work_on}
 use Rattle.sigma_spl.proofs.Keeps.{under-vector, vector-fill}
 use Rattle.sigma_spl.proofs.Natural.{at-natural}
 use Rattle.sigma_spl.proofs.Limited.{below-all}
+use Rattle.sigma_spl.proofs.Walk.{vector-below}
 use Rattle.sigma_lower.specs.Terms.{one_more}
 use Rattle.sigma_lower.proofs.TreeTerms.Permuted.{scale-under}
 use Rattle.operators.specs.declared.tensor_paths.Tensor.{Tensor}
@@ -28,7 +29,6 @@ use Rattle.operators.specs.declared.tensor_paths.Tensor.TheVariants.{Blocks, Col
 use Rattle.operators.specs.TensorPaths.Path.{Path, count_of, grown, size_under, one_under, under, place, Reads, local}
 use Rattle.operators.proofs.TensorPaths.PathPlaces.{at-under, place-below}
 use Rattle.operators.proofs.TensorPaths.Under.{size_under-push, under-push, under-product, under-size}
-use Rattle.spl_ast.proofs.Vectors.{list_vector}
 use Rattle.smp_rewrite.proofs.Tensors.{grown-one}
 
 -- a good term that does to a vector what an operator does
@@ -134,16 +134,16 @@ pub under-keeps : (m : ℕ) (path : Path) (n : ℕ) (a : Operator) (x : List ℕ
 under-keeps m [] n a x h v = h x v
 under-keeps m (Blocks c ∷ path) n a x h v =
     let size = size_under path n in
-    list_vector m (c * size) _ (λ p below.
+    vector-below m (c * size) _ (λ p below.
     let positive : 0 < size = factor_positive c size p below in
     let copy : p / size < c = (div-lt_iff_lt-mul positive).1 below in
-    (under-keeps m path n a (block size (p / size) x) h (list_vector m size _ (λ j within. v.residues (p / size * size + j) (place_below (p / size) j c size copy within)))).residues (p % size) (mod-lt p positive))
+    (under-keeps m path n a (block size (p / size) x) h (vector-below m size _ (λ j within. v.residues (p / size * size + j) (place_below (p / size) j c size copy within)))).residues (p % size) (mod-lt p positive))
 under-keeps m (Columns c ∷ path) n a x h v =
     let size = size_under path n in
-    list_vector m (size * c) _ (λ p below.
+    vector-below m (size * c) _ (λ p below.
     let positive : 0 < c = factor_positive size c p below in
     let row : p / c < size = (div-lt_iff_lt-mul positive).1 below in
-    (under-keeps m path n a (column size c (p % c) x) h (list_vector m size _ (λ i within. v.residues (i * c + p % c) (place_below i (p % c) size c within (mod-lt p positive))))).residues (p / c) row)
+    (under-keeps m path n a (column size c (p % c) x) h (vector-below m size _ (λ i within. v.residues (i * c + p % c) (place_below i (p % c) size c within (mod-lt p positive))))).residues (p / c) row)
 
 -- a product under a path, for operators on vectors
 pub under-times : (m : ℕ) (path : Path) (n : ℕ) (a b : Operator) (x : List ℕ) →

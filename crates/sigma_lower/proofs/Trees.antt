@@ -14,7 +14,7 @@ use Rattle.sigma_spl.specs.Term.{scat}
 use Rattle.sigma_spl.specs.Work.{PlainWork, kernel, rows, horner, tile, copy, work_size, work_on, trees_of}
 use Rattle.sigma_spl.proofs.Nests.{moves-no-words}
 use Rattle.sigma_spl.proofs.Keeps.{scatter-same}
-use Rattle.sigma_spl.proofs.Walk.{gather-vector}
+use Rattle.sigma_spl.proofs.Walk.{gather-vector, vector-below}
 use Rattle.tree_model.specs.Trees.{PlainTrees, single, tensor, trees_size, trees_on}
 use Rattle.sigma_lower.specs.Trees.{core_term}
 use Rattle.sigma_lower.proofs.Lowers.{gath-lowers}
@@ -35,7 +35,6 @@ use Rattle.operators.proofs.Lists.{at-list_below, length-list_below, factor_posi
 use Rattle.smp_rewrite.proofs.Tensors.{reads-one_under}
 use Rattle.operators.specs.declared.tensor_paths.Tensor.TheVariants.{Blocks}
 use Rattle.sigma_lower.proofs.TreeTerms.Permuted.{gather-under}
-use Rattle.spl_ast.proofs.Vectors.{list_vector}
 
 -- ---- works
 
@@ -120,7 +119,7 @@ core-keeps : (c : Target) (k : PlainCore) (y : List ℕ) → 0 < c.modulus → I
     IsVector c.modulus (core_size k) y → IsVector c.modulus (core_size k) (core_on c.modulus k y)
 core-keeps c (piece w) y positive h low v = piece-vector c.modulus w y positive h
 core-keeps c (turns r s) y positive h low v = gather-vector c.modulus (r * s) _ y (strided-move r s (omega (arith, h.0)) (omega (arith, h.1)) low).permutes.there_below v
-core-keeps c (steps.twiddles r s w) y positive h low v = list_vector c.modulus (r * s) _ (λ i below. mod-lt _ positive)
+core-keeps c (steps.twiddles r s w) y positive h low v = vector-below c.modulus (r * s) _ (λ i below. mod-lt _ positive)
 core-keeps c (thomas_in r s) y positive h low v = gather-vector c.modulus (r * s) _ y (in-move r s h).permutes.there_below v
 core-keeps c (thomas_out r s) y positive h low v = gather-vector c.modulus (r * s) _ y (out-move r s h).permutes.there_below v
 

@@ -26,11 +26,10 @@ use Rattle.sigma_spl.proofs.Natural.{nest-natural, natural-good, copying-same, c
 use Rattle.sigma_spl.proofs.Moved.{moved-on, moved-good}
 use Rattle.sigma_spl.proofs.Sides.{side-on, side-good}
 use Rattle.sigma_spl.proofs.Walk.{waiting_on, gathers-end, moves-end, Stands, merging_on, Reaches, merging-vector, Copy}
-use Rattle.sigma_spl.proofs.Walk.{pass-reaches, diagonal-reaches, scatter-reaches, ended-are}
+use Rattle.sigma_spl.proofs.Walk.{pass-reaches, diagonal-reaches, scatter-reaches, ended-are, vector-below}
 use Rattle.operators.specs.declared.tensor_paths.Tensor.TheVariants.{Blocks, Columns}
 use Rattle.operators.specs.TensorPaths.Path.{Path, size_under, under}
 use Rattle.operators.proofs.TensorPaths.Under.{under-product}
-use Rattle.spl_ast.proofs.Vectors.{list_vector}
 
 -- ---- vectors under tensors and side by side
 
@@ -39,10 +38,10 @@ pub vector-fill : (m n : ℕ) (x : List ℕ) (f : ℕ → ℕ) → IsVector m n 
 vector-fill m n x f v h = list_below-same n f (slice_index x) h ∙ sym (fill_by_all (slice_index x) x n 0 v.size (λ k below. refl))
 
 block-vector : (m c n : ℕ) (v : ℕ) (x : List ℕ) → IsVector m (c * n) x → v < c → IsVector m n (block n v x)
-block-vector m c n v x h below = list_vector m n _ (λ j within. h.residues (v * n + j) (place_below v j c n below within))
+block-vector m c n v x h below = vector-below m n _ (λ j within. h.residues (v * n + j) (place_below v j c n below within))
 
 column-vector : (m n c : ℕ) (v : ℕ) (x : List ℕ) → IsVector m (n * c) x → v < c → IsVector m n (column n c v x)
-column-vector m n c v x h below = list_vector m n _ (λ i within. h.residues (i * c + v) (place_below i v n c within below))
+column-vector m n c v x h below = vector-below m n _ (λ i within. h.residues (i * c + v) (place_below i v n c within below))
 
 pub under-vector : (m : ℕ) (path : Path) (n : ℕ) (a b : Operator) (x : List ℕ) →
     ((y : List ℕ) → IsVector m n y → a y ≡ b y) → IsVector m (size_under path n) x → under path n a x ≡ under path n b x
@@ -84,10 +83,10 @@ abbrev pub back : ℕ → ℕ → List ℕ → List ℕ
 back k l x = list_below l (λ j. slice_index x (k + j))
 
 pub front-vector : (m k l : ℕ) (x : List ℕ) → IsVector m (k + l) x → IsVector m k (front k x)
-front-vector m k l x v = list_vector m k _ (λ i below. v.residues i (omega arith))
+front-vector m k l x v = vector-below m k _ (λ i below. v.residues i (omega arith))
 
 pub back-vector : (m k l : ℕ) (x : List ℕ) → IsVector m (k + l) x → IsVector m l (back k l x)
-back-vector m k l x v = list_vector m l _ (λ i below. v.residues (k + i) (omega arith))
+back-vector m k l x v = vector-below m l _ (λ i below. v.residues (k + i) (omega arith))
 
 pub both-equal : (k l : ℕ) (a b c d : Operator) (x : List ℕ) → a (front k x) ≡ c (front k x) →
     b (back k l x) ≡ d (back k l x) → both k l a b x ≡ both k l c d x

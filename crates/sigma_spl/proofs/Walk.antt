@@ -1,12 +1,13 @@
 -- Merging keeps what terms do, whatever the passes take.
 use Rattle.std.proofs.Common.{◌≡◌, ℕ, ◌*◌, ◌%◌, ◌<◌, Bool, true, false, refl, sym, ap, ◌∙◌, List, [], ◌∷◌, ◌++◌}
-use Rattle.std.proofs.Common.{Option, Some, None, mod-lt}
+use Rattle.std.proofs.Common.{Option, Some, None, mod-lt, subst}
 use Rattle.std.specs.Prelude.{slice_index, not, ◌&&◌, if◌then◌else◌}
 use Rattle.std.specs.List.{list_all}
 use Rattle.index_fn.specs.Mapping.{Mapping, at}
 use Rattle.operators.specs.Loop.{IsPermutationBelow}
+use Rattle.operators.specs.Sum.{list_below}
 use Rattle.operators.specs.Operator.{Operator, gather, scale}
-use Rattle.operators.proofs.Lists.{at-list_below, list_below-same}
+use Rattle.operators.proofs.Lists.{at-list_below, length-list_below, list_below-same}
 use Rattle.sigma_spl.specs.Good.{MovesVectors, HasLanes, AreGoodNests, IsGoodPass, AreGoodPasses, IsFormed, IsMove}
 use Rattle.sigma_spl.specs.Good.{IsVector}
 use Rattle.sigma_spl.specs.Merge.{Room, most, unbounded, Merging, Taking, can_gather, can_scatter, gathered, scattered}
@@ -22,7 +23,6 @@ use Rattle.sigma_spl.proofs.Nests.{nests-scattered, nests-multiplied, gathered-g
 use Rattle.sigma_spl.proofs.Moved.{table-good, table-on}
 use Rattle.sigma_spl.proofs.Natural.{copying-same, copying-good}
 use Rattle.operators.specs.TensorPaths.Path.{Path}
-use Rattle.spl_ast.proofs.Vectors.{list_vector}
 
 -- ---- choices
 
@@ -42,8 +42,15 @@ and-right false b h = absurd (no h) where
 
 -- ---- vectors
 
+pub vector-below : (m n : ℕ) (f : ℕ → ℕ) → ((i : ℕ) → i < n → f i < m) → IsVector m n (list_below n f)
+vector-below m n f h =
+    record {
+      size = length-list_below n f;
+      residues = λ i below. subst (λ v. v < m) (sym (at-list_below n f i below)) (h i below);
+    }
+
 pub nests-vector : (m n : ℕ) (zs : List PlainNest) (x : List ℕ) → 0 < m → IsVector m n (nests_on m n zs x)
-nests-vector m n zs x positive = list_vector m n _ (λ i below. mod-lt _ positive)
+nests-vector m n zs x positive = vector-below m n _ (λ i below. mod-lt _ positive)
 
 pub passes-vector : (m n : ℕ) (ps : List (List PlainNest)) (x : List ℕ) → 0 < m → IsVector m n x →
     IsVector m n (passes_on m n ps x)
@@ -52,7 +59,7 @@ passes-vector m n (zs ∷ ps) x positive v = nests-vector m n zs (passes_on m n 
 
 pub gather-vector : (m n : ℕ) (f : ℕ → ℕ) (x : List ℕ) → ((i : ℕ) → i < n → f i < n) → IsVector m n x →
     IsVector m n (gather n f x)
-gather-vector m n f x stay v = list_vector m n _ (λ i below. v.residues (f i) (stay i below))
+gather-vector m n f x stay v = vector-below m n _ (λ i below. v.residues (f i) (stay i below))
 
 -- ---- gathers that wait
 
