@@ -21,6 +21,7 @@ use Rattle.sigma_spl.proofs.Small.{max-lt, divided-true}
 use Rattle.sigma_spl.proofs.Within.{IsSmall, constant-small, small-true}
 use Rattle.sigma_spl.proofs.Limited.{turn-fits, counts-first}
 use Rattle.sigma_spl.proofs.Fitting.{le-times}
+use Rattle.sigma_spl.proofs.Natural.{size-one_loop}
 use Rattle.operators.specs.declared.tensor_paths.Tensor.TheVariants.{Blocks, Columns}
 use Rattle.operators.specs.TensorPaths.Path.{Path, count_of, size_under}
 use Rattle.loop_nests.specs.NewNests.{CanMove}
@@ -185,6 +186,9 @@ loop_several n some =
       | inl one ↦ let is : one_loop n ≡ [] = grind (arith, nat_tests) in subst AreSeveral (sym is) tt
       | inr several ↦ let is : one_loop n ≡ Blocks n ∷ [] = grind (arith, nat_tests) in subst AreSeveral (sym is) (omega (arith, some, several), tt)
     ]
+
+pub loop_size : (n : ℕ) → size_under (one_loop n) 1 ≡ n
+loop_size = size-one_loop
 
 -- ---- values of a function
 
