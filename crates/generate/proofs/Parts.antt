@@ -69,7 +69,8 @@ module _ (r : Request) where
       let rest = cons-tail loads in
       subst
       (λ n. IsPart r pass (start_of r source) (start_of r (written_array t n)) part
-      × AreParts r (suc t) (written_array t n) passes parts) (same-length pass_loads (loads_of_pass r.size) ps passes rest) (
+      × AreParts r (suc t) (written_array t n) passes parts) (same-length pass_loads (loads_of_pass r.size) ps passes
+      rest) (
         one-part zs pass _ _ part some (cons-head costs) (cons-head loads)
             (λ weight. All-head (HasShares (target_of r) weight) zs ps (shares weight)) h.0,
         parts-are (suc t) (written_array t (length ps)) ps passes parts some (cons-tail costs) rest

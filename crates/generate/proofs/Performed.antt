@@ -117,7 +117,8 @@ module _ (h : Target) (g : PlainMerged) (p : PlainProgram) (performs : Performs 
       let shares : (weight : ℕ) → All (HasShares h weight) ps =
       λ weight. All-weaker (IsReadyPass h) (HasShares h weight) (λ zs can. runs_have_shares h weight zs can.runs)
       ps ready.passes in
-      subst (λ lanes. CountsPasses h ps (counts_of lanes (executed q (length (plain_code p).lists)))) (sym performs.lanes)
+      subst (λ lanes. CountsPasses h ps (counts_of lanes (executed q (length (plain_code p).lists))))
+      (sym performs.lanes)
       (subst (λ n. CountsPasses h ps (counts_of h.lanes (executed q n))) (sym phases-performed)
       (subst (λ actions. CountsPasses h ps (counts_of h.lanes actions)) listed.whole
       (parts-count h 0 X ps listed.parts shares listed.each)))

@@ -83,7 +83,8 @@ module _ (outer : List ℕ) (d : ℕ) (whole : PlaceFunction) (long : length out
     left-turn = turn-inside path s o.counts h.right around.counts
 
     right_around :
-        IsAround outer d whole (path ++ Blocks r ∷ []) (rule_waiting rule path r s waiting) s (right_site rule r s root o)
+        IsAround outer d whole (path ++ Blocks r ∷ []) (rule_waiting rule path r s waiting) s
+        (right_site rule r s root o)
     right_around = record {
       counts = counts-inside path (Blocks r) o.counts h.left around.counts;
       load = λ cs e counts fits.
