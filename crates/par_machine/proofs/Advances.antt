@@ -216,6 +216,6 @@ module _ (code : Code) (is : IsCode code) where
       record {
         inside = inside;
         left = left;
-        same = sym (ap (run code s) parts ∙ run-append (replicate n q) (completion code after) s);
+        same = sym (ap (run code s) parts ∙ run-append code is (replicate n q) (completion code after) s);
         fewer = omega (arith, left, ap length parts, length-append (replicate n q) (completion code after), length-replicate n q);
       }
