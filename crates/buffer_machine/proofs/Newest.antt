@@ -1,15 +1,18 @@
 -- The newest store for each word.
 use Rattle.std.proofs.Common.{◌≡◌, ℕ, ◌+◌, ◌-◌, ◌<◌, ◌≤◌, ◌≢◌, ◌⊎◌, List, length, replicate, sym, ap, ◌∙◌, subst, arith}
-use Rattle.std.proofs.Common.{inl, inr, ⊎_elim, get_or-set_same, get_or-set_other}
+use Rattle.std.proofs.Common.{◌*◌, get_or, inl, inr, ⊎_elim, get_or-set_same, get_or-set_other}
 use Rattle.std.specs.Prelude.{slice_index, slice_set}
 use Rattle.std.proofs.lemmas.Bool.{cases_eq, cases_lt}
-use Rattle.std.proofs.lemmas.List.{length-replicate, get_or-replicate, replicate-append-replicate}
+use Rattle.std.proofs.lemmas.List.{get_or_read, length-replicate, get_or-replicate, replicate-append-replicate}
+use Rattle.icode.specs.Buffers.{overlaid}
 use Rattle.icode.specs.Machine.{with_words}
 use Rattle.icode.proofs.LaneSteps.{with_words_more}
 use Rattle.icode.proofs.Words.{with_words-other, slice_index-agree}
-use Rattle.buffer_machine.specs.Sound.{AreNewest}
-use Rattle.buffer_machine.specs.Waits.{NoneCovers}
-use Rattle.buffer_machine.proofs.Windows.{with_words-here}
+use Rattle.buffer_machine.specs.declared.queue.Queue.TheInside.{Inside}
+use Rattle.buffer_machine.specs.Backlog.{Backlog}
+use Rattle.buffer_machine.specs.Sound.{AreNewest, IsQueue, backlog_of}
+use Rattle.buffer_machine.specs.Waits.{Covers, NoneCovers}
+use Rattle.buffer_machine.proofs.Windows.{with_words-here, seen_memory, seen_store, slot_inside}
 
 -- a word is among those that were marked, or as it was
 marked : (lanes address n word : ℕ) (N : List ℕ) → address + lanes ≤ length N →
@@ -69,15 +72,53 @@ mark_step newest old address word number e =
     ∙ (ap (λ k. slice_set (with_words old address (replicate word number)) (address + k) number) (sym (length-replicate {A = ℕ} word number))
     ∙ (sym (with_words_more (replicate word number) old address number) ∙ ap (with_words old address) (replicate-append-replicate word 1 number)))
 
--- what is known of a number that was found
-pub record IsFound (lanes : ℕ) (A : List ℕ) (tail place n : ℕ) : Type 0 where
-  pub within : n ≤ tail
-  pub low : slice_index A (n - 1) ≤ place
-  pub high : place < slice_index A (n - 1) + lanes
-  pub none_newer : NoneCovers lanes A place n tail
+-- What is read of a queue, where this is the number of the newest store for a place
+module _ (memory : List ℕ) {q : Inside} {b : Backlog} {place n : ℕ} (w : IsQueue q) (view : backlog_of q ≡ b)
+    (span : b.span ≡ length memory) (inside : place < length memory) (read : n ≡ get_or q.newest.items place n) where
+  abbrev addresses : List ℕ
+  addresses = q.addresses.items
 
-pub found : (lanes : ℕ) (A N : List ℕ) (tail place n : ℕ) → AreNewest lanes A N tail → n ≡ slice_index N place → 0 < n →
-    IsFound lanes A tail place n
-found lanes A N tail place n h e some =
-    let is = h.is_for place (omega (arith, e, some)) in
-    subst (IsFound lanes A tail place) (sym e) (record { within = is.0; low = is.1.0; high = is.1.1; none_newer = h.none_newer place })
+  number_is : n ≡ slice_index q.newest.items place
+  number_is = get_or_read q.newest.items place n (omega (arith, ap (λ (b : Backlog). b.span) view)) read 0
+
+  newest_of_all : NoneCovers q.lanes addresses place n q.tail
+  newest_of_all = subst (λ k. NoneCovers q.lanes addresses place k q.tail) (sym number_is) (w.newest.none_newer place)
+
+  -- the word is memory's
+  pub seen_in_memory : n ≤ q.head → slice_index memory place ≡ slice_index (overlaid memory b.waiting) place
+  seen_in_memory old =
+      sym (seen_memory q.lanes (q.tail - q.head) q.head addresses q.words.items memory place
+      (λ k lo hi. newest_of_all k (omega arith) (omega (arith, w.order))))
+      ∙ ap (λ (b : Backlog). slice_index (overlaid memory b.waiting) place) view
+
+  -- or that of a store which waits
+  module _ (waits : q.head < n) where
+    found : (n ≤ q.tail) × Covers q.lanes addresses place (n - 1)
+    found =
+        subst (λ k. (k ≤ q.tail) × Covers q.lanes addresses place (k - 1)) (sym number_is)
+        (w.newest.is_for place (omega (arith, number_is)))
+
+    pub store_there : n - 1 < length addresses
+    store_there = omega (arith, found.0, w.inside)
+
+    module _ {address : ℕ} (told : address ≡ get_or addresses (n - 1) address) where
+      address_is : address ≡ slice_index addresses (n - 1)
+      address_is = get_or_read addresses (n - 1) address store_there told 0
+
+      pub address_below : address ≤ place
+      address_below = omega (arith, found.1.0, address_is)
+
+      pub word_there : (n - 1) * q.lanes + (place - address) < length q.words.items
+      word_there =
+          slot_inside q.lanes (n - 1) (place - address) (length addresses) (length q.words.items) store_there
+          (omega (arith, found.1.0, found.1.1, address_is)) w.size
+
+      pub seen_in_store : {word : ℕ} → word ≡ get_or q.words.items ((n - 1) * q.lanes + (place - address)) word →
+          word ≡ slice_index (overlaid memory b.waiting) place
+      seen_in_store {word} e =
+          get_or_read q.words.items _ word word_there e 0
+          ∙ (ap (λ k. slice_index q.words.items ((n - 1) * q.lanes + (place - k))) address_is
+          ∙ (sym (seen_store q.lanes (q.tail - q.head) q.head (n - 1) addresses q.words.items memory place
+          (omega arith) (omega (arith, found.0, w.order)) found.1.0 found.1.1 inside
+          (λ k lo hi. newest_of_all k (omega arith) (omega (arith, w.order))))
+          ∙ ap (λ (b : Backlog). slice_index (overlaid memory b.waiting) place) view))

@@ -1,9 +1,10 @@
 -- What a machine keeps.
 use Rattle.std.proofs.Common.{◌≡◌, ℕ, zero, suc, Bool, cond, true, false, ⊎_elim, ◌+◌, ◌-◌, ◌*◌, ◌<◌, ◌≤◌, ◌^◌, List}
 use Rattle.std.proofs.Common.{[], ◌∷◌, ◌++◌, length, map, drop, replicate, Some, refl, sym, ap, ap₂, ◌∙◌, subst, arith}
-use Rattle.std.proofs.Common.{length-append}
+use Rattle.std.proofs.Common.{length-append, get_or, ◌≢◌}
 use Rattle.std.specs.Prelude.{slice_get, slice_index, slice_index_or, slice_set}
-use Rattle.std.proofs.lemmas.List.{get_or-replicate, length-replicate, length-map, replicate-append-replicate}
+use Rattle.std.proofs.lemmas.List.{get_or_read, get_or-replicate, length-replicate, length-map}
+use Rattle.std.proofs.lemmas.List.{replicate-append-replicate}
 use Rattle.std.proofs.lemmas.Bool.{cases_eq, cases_lt, false≢true}
 use Rattle.std.proofs.lemmas.Option.{slice_get_within}
 use Rattle.icode.specs.declared.action.Action.{Action}
@@ -39,7 +40,8 @@ use Rattle.par_machine.specs.Running.{Running as Machine}
 use Rattle.par_machine.specs.Skipped.{skipped}
 use Rattle.buffer_machine.specs.Stand.{Stand, backlog_at, waits_of, buffered_of, acted_stand, cleared, first_busy}
 use Rattle.buffer_machine.specs.Stand.{settled_stand, first_stand, HasLens, AreSound, IsStanding}
-use Rattle.buffer_machine.specs.View.{IsWhole}
+use Rattle.buffer_machine.specs.Running.{Running}
+use Rattle.buffer_machine.specs.View.{IsWhole, running_of}
 use Rattle.buffer_machine.proofs.Fitting.{can_be_done, acts_steps}
 use Rattle.buffer_machine.proofs.Few.{few_step, few_start, few_events}
 use Rattle.buffer_machine.proofs.Lens.{acts_none}
@@ -104,59 +106,92 @@ whole_with a v m w same standing busy few walking =
       walking = subst (λ (c : Code). IsWalking c (buffered_of v).state m.state) (sym same) walking;
     }
 
+-- The phase, and how many actions a processor has in it
+
+module _ {a : Inside} {phase : ℕ} (w : IsWhole a) (is : phase ≡ a.values.phase)
+    (some : phase ≢ length a.lens.items) where
+  pub phase_there : a.values.phase < length a.lens.items
+  phase_there = omega (arith, w.busy.within, w.lens.count)
+
+  pub len_there : (len : ℕ) → len ≡ get_or a.lens.items phase len → len ≡ slice_index a.lens.items a.values.phase
+  len_there len e =
+      get_or_read a.lens.items phase len (omega (arith, phase_there)) e 0 ∙ ap (slice_index a.lens.items) is
+
 -- A turn
 
--- the phase is open, since the processor has an action left
-open_here : (a : Inside) (q : ℕ) → IsWhole a → q < (code_in a).procs →
-    slice_index a.values.done q < slice_index a.lens.items a.values.phase →
-    is_open (code_in a) a.values.phase a.values.done ≡ true
-open_here a q w lt left = open_at (code_in a) a.values.phase a.values.done q lt (omega (arith, w.lens.each a.values.phase q lt))
+-- the processor has an action left
+pub record HasLeft (a : Inside) (q : ℕ) : Type 0 where
+  pub whole : IsWhole a
+  pub proc : q < (code_in a).procs
+  pub phase : a.values.phase < length a.lens.items
+  pub left : slice_index a.values.done q < slice_index a.lens.items a.values.phase
 
--- so the walker does the action
-pub walker_next : (a : Inside) (q : ℕ) → IsWhole a → q < (code_in a).procs →
-    slice_index a.values.done q < slice_index a.lens.items a.values.phase →
-    next_action (code_in a) a.walker.state q ≡ next_action (code_in a) (buffered_of a.values).state q
-walker_next a q w lt left =
-    let at = w.walking.here (open_here a q w lt left) in
-    ap₂ (λ (phase : ℕ) (done : List ℕ). slice_get (acts (code_in a) phase q) (slice_index done q)) at.0 at.1
+pub has_left : {a : Inside} {r : Running} {phase len done : ℕ} (q : ℕ) → IsWhole a → running_of a ≡ r →
+    q < r.code.procs → phase ≡ a.values.phase → phase ≢ length a.lens.items → len ≡ get_or a.lens.items phase len →
+    done ≡ slice_index a.values.done q → done < len → HasLeft a q
+has_left {a} {r} {phase} {len} {done} q w view proc is some read e lt =
+    record {
+      whole = w;
+      proc = omega (arith, ap (λ (r : Running). r.code.procs) view);
+      phase = phase_there w is some;
+      left = omega (arith, len_there w is some len read);
+    }
 
-pub walker_left : (a : Inside) (q : ℕ) → IsWhole a → q < (code_in a).procs →
-    slice_index a.values.done q < slice_index a.lens.items a.values.phase →
-    slice_index a.walker.state.done q < length (acts (code_in a) a.walker.state.phase q)
-walker_left a q w lt left =
-    let at = w.walking.here (open_here a q w lt left) in
-    omega (arith, w.lens.each a.values.phase q lt, left, ap (λ (phase : ℕ). length (acts (code_in a) phase q)) at.0, ap (λ (done : List ℕ). slice_index done q) at.1)
+module _ {a : Inside} {q : ℕ} (h : HasLeft a q) where
+  -- the phase is open
+  open_here : is_open (code_in a) a.values.phase a.values.done ≡ true
+  open_here =
+      open_at (code_in a) a.values.phase a.values.done q h.proc
+      (omega (arith, h.left, h.whole.lens.each a.values.phase q h.proc))
 
-pub can_act : (a : Inside) (q : ℕ) (action : Action) → IsWhole a → q < (code_in a).procs →
-    slice_get (acts (code_in a) a.values.phase q) (slice_index a.values.done q) ≡ Some action →
-    CanAct a.shape.modulus a.shape.lanes a.shape.regs q action a.values
-can_act a q action w lt e =
-    let code : Code = code_in a in
-    let s = w.standing in
-    let can = w.good.each a.values.phase q (slice_index a.values.done q) action lt e in
-    let few = w.good.few a.values.phase q lt in
-    let room = room_for_one (acts code a.values.phase q) (slice_index a.values.done q) action e in
-    subst (λ m. CanAct m a.shape.lanes a.shape.regs q action a.values) (sym w.modulus)
-    (subst (λ lanes. CanAct code.modulus lanes a.shape.regs q action a.values) (sym w.lanes)
-    (subst (λ regs. CanAct code.modulus code.lanes regs q action a.values) (sym w.regs)
-    (record {
-      registers = omega (arith, s.files);
-      queues = omega (arith, s.lines);
-      dones = omega (arith, s.dones);
-      few = omega (arith, few, slice_get_within (acts code a.values.phase q) (slice_index a.values.done q) action e);
-      named = can.named;
-      factors = can.factors;
-      address = subst (λ span. AddressFits code.lanes span action) (sym s.memory) can.address;
-      file = s.file q lt;
-      residues = s.files_below q;
-      room = omega (arith, room, s.rooms q lt);
-      span = s.spans q lt ∙ sym s.memory;
-      lanes_are = s.lanes q lt;
-    })))
-  where
-    room_for_one : (xs : List Action) (i : ℕ) (a : Action) → slice_get xs i ≡ Some a →
-        stores_among (a ∷ []) ≤ stores_among (drop i xs)
-    room_for_one xs i a e = omega (arith, ap stores_among (drop_at xs i a e), stores_first a (drop (suc i) xs))
+  pub walker_left : slice_index a.walker.state.done q < length (acts (code_in a) a.walker.state.phase q)
+  walker_left =
+      let at = h.whole.walking.here open_here in
+      let len = h.whole.lens.each a.values.phase q h.proc in
+      omega (
+        arith,
+        len,
+        h.left,
+        ap (λ (phase : ℕ). length (acts (code_in a) phase q)) at.0,
+        ap (λ (done : List ℕ). slice_index done q) at.1,
+      )
+
+  -- it does the action that the walker tells
+  module _ {action : Action} (told : next_action (code_in a) a.walker.state q ≡ Some action) where
+    pub action_is : next_action (code_in a) (buffered_of a.values).state q ≡ Some action
+    action_is =
+        let at = h.whole.walking.here open_here in
+        sym (ap₂ (λ (phase : ℕ) (done : List ℕ). slice_get (acts (code_in a) phase q) (slice_index done q)) at.0 at.1)
+        ∙ told
+
+    pub can_act : CanAct a.shape.modulus a.shape.lanes a.shape.regs q action a.values
+    can_act =
+        let code : Code = code_in a in
+        let w = h.whole in
+        let s = w.standing in
+        let xs : List Action = acts code a.values.phase q in
+        let i : ℕ = slice_index a.values.done q in
+        let can = w.good.each a.values.phase q i action h.proc action_is in
+        let few = w.good.few a.values.phase q h.proc in
+        let room : stores_among (action ∷ []) ≤ stores_among (drop i xs) =
+        omega (arith, ap stores_among (drop_at xs i action action_is), stores_first action (drop (suc i) xs)) in
+        subst (λ m. CanAct m a.shape.lanes a.shape.regs q action a.values) (sym w.modulus)
+        (subst (λ lanes. CanAct code.modulus lanes a.shape.regs q action a.values) (sym w.lanes)
+        (subst (λ regs. CanAct code.modulus code.lanes regs q action a.values) (sym w.regs)
+        (record {
+          registers = omega (arith, h.proc, s.files);
+          queues = omega (arith, h.proc, s.lines);
+          dones = omega (arith, h.proc, s.dones);
+          few = omega (arith, few, slice_get_within xs i action action_is);
+          named = can.named;
+          factors = can.factors;
+          address = subst (λ span. AddressFits code.lanes span action) (sym s.memory) can.address;
+          file = s.file q h.proc;
+          residues = s.files_below q;
+          room = omega (arith, room, s.rooms q h.proc);
+          span = s.spans q h.proc ∙ sym s.memory;
+          lanes_are = s.lanes q h.proc;
+        })))
 
 -- The walker keeps up
 
@@ -200,31 +235,46 @@ walking_moved code is b m lt w = at (some_wait b.queues) (is_open code b.state.p
           ahead = λ low c. absurd (false≢true (sym c ∙ first_opens code is (phases_after code b.state.phase) (b.state.phase + 1) (omega (arith, low))));
         }
 
-pub turned : (a : Inside) (q : ℕ) (action : Action) (v : Stand) (m : Machine) → IsWhole a → q < (code_in a).procs →
-    a.values.phase < length a.lens.items → slice_index a.values.done q < slice_index a.lens.items a.values.phase →
-    slice_get (acts (code_in a) a.values.phase q) (slice_index a.values.done q) ≡ Some action →
+-- after an event that a stand is reached by, and the phase's move
+settled_whole : (a : Inside) (event : Event) (u v : Stand) (m : Machine) → IsWhole a → IsStanding (code_in a) u →
+    u.phase < length a.lens.items → v ≡ settled_stand a.lens.items u → m.code ≡ a.walker.code →
+    IsWalking (code_in a) (buffered_of u).state m.state → buffered_moved_on (code_in a) (buffered_of u)
+    ≡ buffered_step (code_in a) (buffered_of a.values) event →
+    IsWhole (with_values a v m) × (buffered_of v ≡ buffered_step (code_in a) (buffered_of a.values) event)
+settled_whole a event u v m w standing lt ev ec step does =
+    let code : Code = code_in a in
+    let is = w.good.lists in
+    let b : Buffered = buffered_of a.values in
+    let moved : buffered_of v ≡ buffered_moved_on code (buffered_of u) =
+    ap buffered_of ev ∙ settled_buffered code a.lens.items w.lens u w.good.procs standing.dones in
+    let same : buffered_of v ≡ buffered_step code b event = moved ∙ does in
+    let walks = walking_moved code is (buffered_of u) m.state (omega (arith, lt, w.lens.count)) step in (
+      whole_with a v m w ec (subst (IsStanding code) (sym ev) (standing_settled code a.lens.items u standing))
+          (subst (IsBusy code) (sym same) (busy_step code is b event w.busy))
+          (few_after code b (buffered_of v) event is w.busy w.few same)
+          (subst (λ (c : Buffered). IsWalking code c.state m.state) (sym moved) walks),
+      same,
+    )
+
+pub turned : {a : Inside} {q : ℕ} {action : Action} (v : Stand) (m : Machine) → HasLeft a q →
+    next_action (code_in a) a.walker.state q ≡ Some action →
     v ≡ settled_stand a.lens.items (acted_stand a.shape.modulus a.shape.lanes q action a.values) →
     m.code ≡ a.walker.code → m.state ≡ skipped (code_in a) a.walker.state q →
     IsWhole (with_values a v m) × (buffered_of v ≡ buffered_turn (code_in a) (buffered_of a.values) q)
-turned a q action v m w lt phase left e ev ec em =
+turned {a} {q} {action} v m h told ev ec em =
     let code : Code = code_in a in
+    let w = h.whole in
     let b : Buffered = buffered_of a.values in
+    let e = action_is h told in
     let acted_now : Stand = acted_stand code.modulus code.lanes q action a.values in
     let ev1 : v ≡ settled_stand a.lens.items acted_now = ev ∙ ap₂ (λ m lanes. settled_stand a.lens.items (acted_stand m lanes q action a.values)) w.modulus w.lanes in
-    let can = w.good.each a.values.phase q (slice_index a.values.done q) action lt e in
-    let standing : IsStanding code acted_now = standing_acted code a.values q action w.good.modulus w.standing lt e can.address in
-    let moved : buffered_of v ≡ buffered_moved_on code (buffered_of acted_now) = ap buffered_of ev1 ∙ settled_buffered code a.lens.items w.lens acted_now w.good.procs standing.dones in
-    let same : buffered_of v ≡ buffered_turn code b q =
-    moved
-    ∙ (ap (buffered_moved_on code) (acted_buffered code a.values q action)
-    ∙ ap (buffered_turn_with code q b) (sym e)) in
-    let low : a.values.phase < length code.lists = omega (arith, w.lens.count) in
-    let step = walking_acted code b.state a.walker.state m.state q action low (open_here a q w lt left) w.walking (walker_next a q w lt left ∙ e) em (buffered_of acted_now).state refl refl in
-    let walks : IsWalking code (buffered_of v).state m.state = subst (λ (c : Buffered). IsWalking code c.state m.state) (sym moved) (walking_moved code w.good.lists (buffered_of acted_now) m.state low step) in (
-      whole_with a v m w ec (subst (IsStanding code) (sym ev1) (standing_settled code a.lens.items acted_now standing))
-          (subst (IsBusy code) (sym same) (busy_step code w.good.lists b (Turn q) w.busy)) (few_after code b (buffered_of v) (Turn q) w.good.lists w.busy w.few same) walks,
-      same,
-    )
+    let can = w.good.each a.values.phase q (slice_index a.values.done q) action h.proc e in
+    let low : a.values.phase < length code.lists = omega (arith, h.phase, w.lens.count) in
+    let step = walking_acted code b.state a.walker.state m.state q action low (open_here h) w.walking
+    told em (buffered_of acted_now).state refl refl in
+    settled_whole a (Turn q) acted_now v m w
+    (standing_acted code a.values q action w.good.modulus w.standing h.proc e can.address) h.phase ev1 ec step
+    (ap (buffered_moved_on code) (acted_buffered code a.values q action) ∙ ap (buffered_turn_with code q b) (sym e))
 
 -- A drain
 
@@ -239,23 +289,17 @@ pub drained : (a : Inside) (q address : ℕ) (u v : Stand) → IsWhole a → q <
 drained a q address u v w lt wr ev =
     let code : Code = code_in a in
     let b : Buffered = buffered_of a.values in
-    let standing : IsStanding code u = standing_written code a.values u q address w.standing lt wr in
     let there = queue_is a.values.queues q ∙ wr.drained.splits in
-    let moved : buffered_of v ≡ buffered_moved_on code (buffered_of u) = ap buffered_of ev ∙ settled_buffered code a.lens.items w.lens u w.good.procs standing.dones in
-    let same : buffered_of v ≡ drain code b q =
-    moved
-    ∙ (ap (buffered_moved_on code) (written_buffered code a.values u q address wr)
-    ∙ ap (drain_with code q b) (sym there)) in
-    let low : u.phase < length code.lists = omega (arith, drain_within a q address u w wr, w.lens.count) in
+    let same : is_open code a.values.phase a.values.done ≡ is_open code u.phase u.done =
+    ap₂ (is_open code) (sym wr.phase) (sym wr.done) in
     let step : IsWalking code (buffered_of u).state a.walker.state = record {
-      here = subst (λ (k : ℕ). is_open code k u.done ≡ true → (a.walker.state.phase ≡ k) × (a.walker.state.done ≡ u.done)) (sym wr.phase) (subst (λ (d : List ℕ). is_open code a.values.phase d ≡ true → (a.walker.state.phase ≡ a.values.phase) × (a.walker.state.done ≡ d)) (sym wr.done) w.walking.here);
-      ahead = subst (λ (k : ℕ). k < length code.lists → is_open code k u.done ≡ false → (a.walker.state.phase ≡ first_open code (phases_after code k) (k + 1)) × (a.walker.state.done ≡ none_done code)) (sym wr.phase) (subst (λ (d : List ℕ). a.values.phase < length code.lists → is_open code a.values.phase d ≡ false → (a.walker.state.phase ≡ first_open code (phases_after code a.values.phase) (a.values.phase + 1)) × (a.walker.state.done ≡ none_done code)) (sym wr.done) w.walking.ahead);
+      here = λ o. let at = w.walking.here (same ∙ o) in (at.0 ∙ sym wr.phase, at.1 ∙ sym wr.done);
+      ahead = λ low c. let at = w.walking.ahead (omega (arith, low, wr.phase)) (same ∙ c) in
+          (at.0 ∙ ap (λ k. first_open code (phases_after code k) (k + 1)) (sym wr.phase), at.1);
     } in
-    let walks : IsWalking code (buffered_of v).state a.walker.state = subst (λ (c : Buffered). IsWalking code c.state a.walker.state) (sym moved) (walking_moved code w.good.lists (buffered_of u) a.walker.state low step) in (
-      whole_with a v a.walker w refl (subst (IsStanding code) (sym ev) (standing_settled code a.lens.items u standing))
-          (subst (IsBusy code) (sym same) (busy_step code w.good.lists b (Drain q) w.busy)) (few_after code b (buffered_of v) (Drain q) w.good.lists w.busy w.few same) walks,
-      same,
-    )
+    settled_whole a (Drain q) u v a.walker w
+    (standing_written code a.values u q address w.standing lt wr) (drain_within a q address u w wr) ev refl step
+    (ap (buffered_moved_on code) (written_buffered code a.values u q address wr) ∙ ap (drain_with code q b) (sym there))
 
 -- A beginning
 
@@ -313,10 +357,7 @@ module _ (p : Code) (lens : List ℕ) (h : HasLens p lens) (g : IsGood p) where
       state_of _ _ _ _ _ _ _ _ _ _ e registers phase done queues
     where
       state_of : (m n : List ℕ) (r s : List (List ℕ)) (i j : ℕ) (d e : List ℕ) (q k : List (List Waiting)) → m ≡ n → r ≡ s → i ≡ j → d ≡ e → q ≡ k → ◌≡◌ {A = Buffered} (record { state = record { memory = m; registers = r; phase = i; done = d }; queues = q }) (record { state = record { memory = n; registers = s; phase = j; done = e }; queues = k })
-      state_of m n r s i j d e q k em er ei ed eq =
-          ap₂ (λ (m : List ℕ) (r : List (List ℕ)). record { state = record { memory = m; registers = r; phase = i; done = d }; queues = q }) em er
-          ∙ (ap₂ (λ (i : ℕ) (d : List ℕ). record { state = record { memory = n; registers = s; phase = i; done = d }; queues = q }) ei ed
-          ∙ ap (λ (q : List (List Waiting)). record { state = record { memory = n; registers = s; phase = j; done = e }; queues = q }) eq)
+      state_of m n r s i j d e q k em er ei ed eq = cc
 
   pub put_state : (t : Stand) (x : List ℕ) → length x ≡ p.size → IsStanding p t →
       buffered_of (first_stand lens x t) ≡ buffered_start p x
@@ -451,15 +492,14 @@ idle_below a n here before q lt =
     (λ (ne : q ≡ n → ⊥). before q (omega arith))
     (cases_eq q n)
 
-pub next_turn : (a : Inside) (q : ℕ) → IsWhole a → q < (code_in a).procs →
-    slice_index a.values.done q < slice_index a.lens.items a.values.phase →
-    ((k : ℕ) → k < q → IsIdle (code_in a) (buffered_of a.values) k) →
+pub next_turn : {a : Inside} {q : ℕ} → HasLeft a q → ((k : ℕ) → k < q → IsIdle (code_in a) (buffered_of a.values) k) →
     buffered_completion (code_in a) (buffered_of a.values) ≡ Turn q ∷ buffered_completion (code_in a)
     (buffered_turn (code_in a) (buffered_of a.values) q)
-next_turn a q w lt left idle =
+next_turn {a} {q} h idle =
     let code : Code = code_in a in
+    let w = h.whole in
     let xs : List Action = acts code a.values.phase q in
-    let small : slice_index a.values.done q < length xs = omega (arith, w.lens.each a.values.phase q lt) in
+    let small : slice_index a.values.done q < length xs = omega (arith, h.left, w.lens.each a.values.phase q h.proc) in
     let some = some_action xs (slice_index a.values.done q) small in
     completion_turn code w.good.lists (buffered_of a.values) q some.0 w.busy some.1 idle
 
@@ -476,6 +516,11 @@ next_drain a q w lt over some idle =
     oldest_there : (ws : List Waiting) → is_waiting ws ≡ true → (w : Waiting) × (rest : List Waiting) × (ws ≡ w ∷ rest)
     oldest_there [] e = absurd (false≢true e)
     oldest_there (w ∷ ws) e = (w, ws, refl)
+
+-- few events are left, seen from outside
+pub few_left : {a : Inside} {r : Running} → running_of a ≡ r → IsWhole a →
+    length (buffered_completion r.code r.state) < 2 ^ 60
+few_left {a} {r} view w = subst (λ (r : Running). length (buffered_completion r.code r.state) < 2 ^ 60) view w.few
 
 pub nothing_next : (a : Inside) → IsWhole a → length a.lens.items ≤ a.values.phase →
     buffered_completion (code_in a) (buffered_of a.values) ≡ []

@@ -1,15 +1,16 @@
 -- What processors have executed so far.
 use Rattle.std.proofs.Common.{◌≡◌, ℕ, zero, suc, ◌+◌, ◌-◌, ◌*◌, ◌<◌, ◌≤◌, ◌^◌, List, [], ◌∷◌, ◌++◌, Bool, true, false}
 use Rattle.std.proofs.Common.{cond, length, take, flat_map, refl, sym, ap, ap₂, ◌∙◌, subst, arith, ⊎_elim, append_assoc}
-use Rattle.std.proofs.Common.{length-append, length-take-le}
+use Rattle.std.proofs.Common.{append-nil, length-append, length-take-le}
 use Rattle.std.specs.Prelude.{slice_index}
 use Rattle.std.specs.List.{range_with_len}
 use Rattle.std.proofs.lemmas.Bool.{cases_Bool}
+use Rattle.std.proofs.lemmas.List.{take_all}
 use Rattle.icode.specs.declared.action.Action.{Action}
 use Rattle.icode.specs.declared.action.Action.TheVariants.{Load, Store, Zero, Add, Sub, Neg, Mul, Tile}
 use Rattle.icode.specs.declared.action.Counts.{Counts}
 use Rattle.icode.specs.Machine.{Code, IsCode, State, acts, is_open, none_done, first_open, phases_after, moved_on}
-use Rattle.icode.specs.Machine.{counted, counts_of, executed}
+use Rattle.icode.specs.Machine.{counted, counts_of, executed, no_counts}
 use Rattle.par_machine.specs.Frame.{total}
 use Rattle.par_machine.specs.Performed.{HasRoom}
 use Rattle.icode.proofs.End.{none_done-zero}
@@ -17,49 +18,43 @@ use Rattle.icode.proofs.Runs.{closed_over, first_open-open, first_open-closed}
 
 -- Counts of one more action
 
-abbrev operations_in : ℕ → Action → ℕ
-operations_in lanes (Add r x y) = lanes
-operations_in lanes (Sub r x y) = lanes
-operations_in lanes (Neg r x) = lanes
-operations_in lanes (Mul r x factors) = lanes
-operations_in lanes _ = 0
+abbrev one : ℕ → Action → Counts
+one lanes a = counted lanes a no_counts
 
-abbrev muls_in : ℕ → Action → ℕ
-muls_in lanes (Mul r x factors) = lanes
-muls_in lanes _ = 0
+abbrev plus : Counts → Counts → Counts
+plus c d =
+    record {
+      operations = c.operations + d.operations;
+      muls = c.muls + d.muls;
+      loads = c.loads + d.loads;
+      stores = c.stores + d.stores;
+    }
 
-abbrev loads_in : ℕ → Action → ℕ
-loads_in lanes (Load r address) = lanes
-loads_in lanes _ = 0
+same_fields : (o m l s o' m' l' s' : ℕ) → o ≡ o' → m ≡ m' → l ≡ l' → s ≡ s' →
+    ◌≡◌ {A = Counts} (record { operations = o; muls = m; loads = l; stores = s })
+    (record { operations = o'; muls = m'; loads = l'; stores = s' })
+same_fields o m l s o' m' l' s' eo em el es = cc
 
-abbrev stores_in : ℕ → Action → ℕ
-stores_in lanes (Store address r) = lanes
-stores_in lanes _ = 0
+same_counts : (c d : Counts) → c.operations ≡ d.operations → c.muls ≡ d.muls → c.loads ≡ d.loads →
+    c.stores ≡ d.stores → c ≡ d
+same_counts c d o m l s = same_fields _ _ _ _ _ _ _ _ o m l s
 
-abbrev plus : ℕ → Action → Counts → Counts
-plus lanes a c = record { operations = c.operations + operations_in lanes a; muls = c.muls + muls_in lanes a; loads = c.loads + loads_in lanes a; stores = c.stores + stores_in lanes a }
-
-same_counts : (o m l s o' m' l' s' : ℕ) → o ≡ o' → m ≡ m' → l ≡ l' → s ≡ s' → ◌≡◌ {A = Counts} (record { operations = o; muls = m; loads = l; stores = s }) (record { operations = o'; muls = m'; loads = l'; stores = s' })
-same_counts o m l s o' m' l' s' eo em el es =
-    ap₂ (λ o m. record { operations = o; muls = m; loads = l; stores = s }) eo em
-    ∙ ap₂ (λ l s. record { operations = o'; muls = m'; loads = l; stores = s }) el es
-
-counted_is : (lanes : ℕ) (a : Action) (c : Counts) → counted lanes a c ≡ plus lanes a c
-counted_is lanes (Load r address) c = same_counts c.operations c.muls (c.loads + lanes) c.stores _ _ _ _ (omega arith) (omega arith) refl (omega arith)
-counted_is lanes (Store address r) c = same_counts c.operations c.muls c.loads (c.stores + lanes) _ _ _ _ (omega arith) (omega arith) (omega arith) refl
-counted_is lanes (Zero r) c = same_counts c.operations c.muls c.loads c.stores _ _ _ _ (omega arith) (omega arith) (omega arith) (omega arith)
-counted_is lanes (Add r x y) c = same_counts (c.operations + lanes) c.muls c.loads c.stores _ _ _ _ refl (omega arith) (omega arith) (omega arith)
-counted_is lanes (Sub r x y) c = same_counts (c.operations + lanes) c.muls c.loads c.stores _ _ _ _ refl (omega arith) (omega arith) (omega arith)
-counted_is lanes (Neg r x) c = same_counts (c.operations + lanes) c.muls c.loads c.stores _ _ _ _ refl (omega arith) (omega arith) (omega arith)
-counted_is lanes (Mul r x factors) c = same_counts (c.operations + lanes) (c.muls + lanes) c.loads c.stores _ _ _ _ refl refl (omega arith) (omega arith)
-counted_is lanes (Tile r x) c = same_counts c.operations c.muls c.loads c.stores _ _ _ _ (omega arith) (omega arith) (omega arith) (omega arith)
+counted_is : (lanes : ℕ) (a : Action) (c : Counts) → counted lanes a c ≡ plus c (one lanes a)
+counted_is lanes (Load r address) c = same_counts _ _ (omega arith) (omega arith) (omega arith) (omega arith)
+counted_is lanes (Store address r) c = same_counts _ _ (omega arith) (omega arith) (omega arith) (omega arith)
+counted_is lanes (Zero r) c = same_counts _ _ (omega arith) (omega arith) (omega arith) (omega arith)
+counted_is lanes (Add r x y) c = same_counts _ _ (omega arith) (omega arith) (omega arith) (omega arith)
+counted_is lanes (Sub r x y) c = same_counts _ _ (omega arith) (omega arith) (omega arith) (omega arith)
+counted_is lanes (Neg r x) c = same_counts _ _ (omega arith) (omega arith) (omega arith) (omega arith)
+counted_is lanes (Mul r x factors) c = same_counts _ _ (omega arith) (omega arith) (omega arith) (omega arith)
+counted_is lanes (Tile r x) c = same_counts _ _ (omega arith) (omega arith) (omega arith) (omega arith)
 
 counted_swap : (lanes : ℕ) (a b : Action) (c : Counts) → counted lanes a (counted lanes b c)
     ≡ counted lanes b (counted lanes a c)
 counted_swap lanes a b c =
-    ap (counted lanes a) (counted_is lanes b c) ∙ (counted_is lanes a (plus lanes b c)
-    ∙ (same_counts _ _ _ _ _ _ _ _ (omega arith) (omega arith) (omega arith) (omega arith)
-    ∙ (sym (counted_is lanes b (plus lanes a c)) ∙ ap (counted lanes b) (sym (counted_is lanes a c)))))
+    ap (counted lanes a) (counted_is lanes b c) ∙ (counted_is lanes a (plus c (one lanes b))
+    ∙ (same_counts _ _ (omega arith) (omega arith) (omega arith) (omega arith)
+    ∙ (sym (counted_is lanes b (plus c (one lanes a))) ∙ ap (counted lanes b) (sym (counted_is lanes a c)))))
 
 pub counts_more : (lanes : ℕ) (xs : List Action) (a : Action) →
     counts_of lanes (xs ++ a ∷ []) ≡ counted lanes a (counts_of lanes xs)
@@ -73,63 +68,47 @@ pub record AreSmall (n : ℕ) (c : Counts) : Type 0 where
   pub loads : c.loads ≤ n
   pub stores : c.stores ≤ n
 
-in_lanes : (lanes : ℕ) (a : Action) → (operations_in lanes a ≤ lanes) × (muls_in lanes a ≤ lanes)
-    × (loads_in lanes a ≤ lanes) × (stores_in lanes a ≤ lanes)
-in_lanes lanes (Load r address) = (omega arith, omega arith, omega arith, omega arith)
-in_lanes lanes (Store address r) = (omega arith, omega arith, omega arith, omega arith)
-in_lanes lanes (Zero r) = (omega arith, omega arith, omega arith, omega arith)
-in_lanes lanes (Add r x y) = (omega arith, omega arith, omega arith, omega arith)
-in_lanes lanes (Sub r x y) = (omega arith, omega arith, omega arith, omega arith)
-in_lanes lanes (Neg r x) = (omega arith, omega arith, omega arith, omega arith)
-in_lanes lanes (Mul r x factors) = (omega arith, omega arith, omega arith, omega arith)
-in_lanes lanes (Tile r x) = (omega arith, omega arith, omega arith, omega arith)
+are_small : (n : ℕ) (c : Counts) → c.operations ≤ n → c.muls ≤ n → c.loads ≤ n → c.stores ≤ n → AreSmall n c
+are_small n c o m l s = record { operations = o; muls = m; loads = l; stores = s }
+
+in_lanes : (lanes : ℕ) (a : Action) → AreSmall lanes (one lanes a)
+in_lanes lanes (Load r address) = are_small _ _ (omega arith) (omega arith) (omega arith) (omega arith)
+in_lanes lanes (Store address r) = are_small _ _ (omega arith) (omega arith) (omega arith) (omega arith)
+in_lanes lanes (Zero r) = are_small _ _ (omega arith) (omega arith) (omega arith) (omega arith)
+in_lanes lanes (Add r x y) = are_small _ _ (omega arith) (omega arith) (omega arith) (omega arith)
+in_lanes lanes (Sub r x y) = are_small _ _ (omega arith) (omega arith) (omega arith) (omega arith)
+in_lanes lanes (Neg r x) = are_small _ _ (omega arith) (omega arith) (omega arith) (omega arith)
+in_lanes lanes (Mul r x factors) = are_small _ _ (omega arith) (omega arith) (omega arith) (omega arith)
+in_lanes lanes (Tile r x) = are_small _ _ (omega arith) (omega arith) (omega arith) (omega arith)
+
+small_plus : (n k m : ℕ) (c d : Counts) → AreSmall n c → AreSmall k d → n + k ≤ m → AreSmall m (plus c d)
+small_plus n k m c d hc hd le =
+    are_small _ _ (omega arith) (omega arith) (omega arith) (omega arith)
 
 pub counts_small : (lanes : ℕ) (xs : List Action) → AreSmall (length xs * lanes) (counts_of lanes xs)
-counts_small lanes [] = record { operations = omega arith; muls = omega arith; loads = omega arith; stores = omega arith }
+counts_small lanes [] = are_small _ _ (omega arith) (omega arith) (omega arith) (omega arith)
 counts_small lanes (x ∷ xs) =
-    let rest = counts_small lanes xs in
-    let one = in_lanes lanes x in
-    let is = counted_is lanes x (counts_of lanes xs) in
-    record {
-      operations = omega (arith, rest.operations, one.0, ap (λ (c : Counts). c.operations) is);
-      muls = omega (arith, rest.muls, one.1, ap (λ (c : Counts). c.muls) is);
-      loads = omega (arith, rest.loads, one.2, ap (λ (c : Counts). c.loads) is);
-      stores = omega (arith, rest.stores, one.3, ap (λ (c : Counts). c.stores) is);
-    }
+    subst (AreSmall (length (x ∷ xs) * lanes)) (sym (counted_is lanes x (counts_of lanes xs)))
+    (small_plus (length xs * lanes) lanes _ _ _ (counts_small lanes xs) (in_lanes lanes x) (omega arith))
 
 -- room
 
 pub room_less : (n more : ℕ) (c : Counts) → n ≤ more → HasRoom more c → HasRoom n c
 room_less n more c le h =
-    record { operations = omega (arith, h.operations); muls = omega (arith, h.muls); loads = omega (arith, h.loads); stores = omega (arith, h.stores) }
+    record { operations = omega arith; muls = omega arith; loads = omega arith; stores = omega arith }
 
 pub small_has_room : (few n : ℕ) (c : Counts) → AreSmall few c → few + n < 2 ^ 64 → HasRoom n c
 small_has_room few n c h limit =
-    record { operations = omega (arith, h.operations); muls = omega (arith, h.muls); loads = omega (arith, h.loads); stores = omega (arith, h.stores) }
+    record { operations = omega arith; muls = omega arith; loads = omega arith; stores = omega arith }
 
 -- one action takes the room of its lanes
 pub room_after : (n lanes : ℕ) (a : Action) (c : Counts) → HasRoom (n + lanes) c → HasRoom n (counted lanes a c)
 room_after n lanes a c h =
-    let one = in_lanes lanes a in
-    let is = counted_is lanes a c in
-    record {
-      operations = omega (arith, h.operations, one.0, ap (λ (c : Counts). c.operations) is);
-      muls = omega (arith, h.muls, one.1, ap (λ (c : Counts). c.muls) is);
-      loads = omega (arith, h.loads, one.2, ap (λ (c : Counts). c.loads) is);
-      stores = omega (arith, h.stores, one.3, ap (λ (c : Counts). c.stores) is);
-    }
+    let few = in_lanes lanes a in
+    subst (HasRoom n) (sym (counted_is lanes a c))
+    (record { operations = omega arith; muls = omega arith; loads = omega arith; stores = omega arith })
 
 -- What is executed
-
-take_all : (n : ℕ) (xs : List Action) → length xs ≤ n → take n xs ≡ xs
-take_all zero [] le = refl
-take_all (suc n) [] le = refl
-take_all zero (x ∷ xs) le = absurd (omega arith)
-take_all (suc n) (x ∷ xs) le = ap (λ ys. x ∷ ys) (take_all n xs (omega arith))
-
-append_nil : (xs : List Action) → xs ++ [] ≡ xs
-append_nil [] = refl
-append_nil (x ∷ xs) = ap (λ ys. x ∷ ys) (append_nil xs)
 
 empty_is : (xs : List Action) → length xs ≤ 0 → xs ≡ []
 empty_is [] le = refl
@@ -201,9 +180,9 @@ module _ (code : Code) (is : IsCode code) where
           ∙ (flat_split (all_of q) 0 s.phase (suc k)
           ∙ (ap (λ j. flat_map (all_of q) (range_with_len 0 s.phase) ++ (acts code j q ++ flat_map (all_of q) (range_with_len (j + 1) k))) (zero_plus s.phase)
           ∙ (ap (λ xs. flat_map (all_of q) (range_with_len 0 s.phase) ++ (acts code s.phase q ++ xs)) rest
-          ∙ ap (λ xs. flat_map (all_of q) (range_with_len 0 s.phase) ++ xs) (append_nil (acts code s.phase q))))) in
+          ∙ ap (λ xs. flat_map (all_of q) (range_with_len 0 s.phase) ++ xs) (append-nil (acts code s.phase q))))) in
           ap₂ (λ (xs ys : List Action). xs ++ ys) there (take_none (slice_index (none_done code) q) (acts code first q) (none_done-zero code q))
-          ∙ (append_nil (flat_map (all_of q) (range_with_len 0 s.phase) ++ acts code s.phase q)
+          ∙ (append-nil (flat_map (all_of q) (range_with_len 0 s.phase) ++ acts code s.phase q)
           ∙ ap (λ xs. flat_map (all_of q) (range_with_len 0 s.phase) ++ xs) (sym (take_all (slice_index s.done q) (acts code s.phase q) over)))
         where
           zero_plus : (n : ℕ) → 0 + n ≡ n

@@ -46,9 +46,10 @@ pub counted_there : (lanes : ℕ) (code : List Instruction) (at : ℕ) (i : Inst
 counted_there lanes code at i op depth c h e is =
     sym (ap (λ o. counted_at lanes o c) (slice_get_read code (length code) at i refl (act_inside code at h) e ∙ ap (λ (x : Instruction). Some x) is))
 
-pub context_same : (p p' : Position) (r : List ℕ) (c c' : Counts) → p ≡ p' → c ≡ c' → ◌≡◌ {A = Context} (record { place = p; registers = r; counts = c }) (record { place = p'; registers = r; counts = c' })
-context_same p p' r c c' ep ec =
-    ap (λ p. record { place = p; registers = r; counts = c }) ep ∙ ap (λ c. record { place = p'; registers = r; counts = c }) ec
+pub context_same : (p p' : Position) (r : List ℕ) (c c' : Counts) → p ≡ p' → c ≡ c' →
+    ◌≡◌ {A = Context} (record { place = p; registers = r; counts = c })
+    (record { place = p'; registers = r; counts = c' })
+context_same p p' r c c' ep ec = cc
 
 -- what may run is an action, and is counted as one
 acts_if_runs : (f : Frame) (vs : List ℕ) (q : ℕ) (o : Option Instruction) → Runs f.header (step_with f.header vs q o) →

@@ -26,12 +26,10 @@ use Rattle.par_machine.proofs.Executed.{counts_more, executed_moved}
 use Rattle.par_machine.proofs.Frames.{length-positions, places_at, places_first, place_after, is_code, count_lists}
 use Rattle.par_machine.proofs.Frames.{acts_places, IsHere, hand_place}
 
-pub state_same : (m m' : List ℕ) (r r' : List (List ℕ)) (p p' : ℕ) (d d' : List ℕ) → m ≡ m' → r ≡ r' → p ≡ p' → d ≡ d' → ◌≡◌ {A = State} (record { memory = m; registers = r; phase = p; done = d }) (record { memory = m'; registers = r'; phase = p'; done = d' })
-state_same m m' r r' p p' d d' em er ep ed =
-    ap (λ m. record { memory = m; registers = r; phase = p; done = d }) em
-    ∙ (ap (λ r. record { memory = m'; registers = r; phase = p; done = d }) er
-    ∙ (ap (λ p. record { memory = m'; registers = r'; phase = p; done = d }) ep
-    ∙ ap (λ d. record { memory = m'; registers = r'; phase = p'; done = d }) ed))
+pub state_same : (m m' : List ℕ) (r r' : List (List ℕ)) (p p' : ℕ) (d d' : List ℕ) → m ≡ m' → r ≡ r' → p ≡ p' →
+    d ≡ d' → ◌≡◌ {A = State} (record { memory = m; registers = r; phase = p; done = d })
+    (record { memory = m'; registers = r'; phase = p'; done = d' })
+state_same m m' r r' p p' d d' em er ep ed = cc
 
 moved_on_is : (code : Code) (s : State) → moved_on code s ≡ record { memory = s.memory; registers = s.registers; phase = (if is_open code s.phase s.done then s.phase else first_open code (phases_after code s.phase) (s.phase + 1)); done = (if is_open code s.phase s.done then s.done else none_done code) }
 moved_on_is code s = at (is_open code s.phase s.done)

@@ -22,9 +22,9 @@ on_err (Ok v) f p = p
 on_err (Err e) f p = f p
 
 -- more steps would have followed those that are done
-pub passes_more : (code : Code) (s : Standing) (xs ys : List Event) (t : Standing) → PassesThrough code s xs t →
-    PassesThrough code s (xs ++ ys) t
-passes_more code s xs ys t p =
+pub passes_more : {code : Code} {s : Standing} {xs : List Event} {t : Standing} → PassesThrough code s xs t →
+    (ys : List Event) → PassesThrough code s (xs ++ ys) t
+passes_more p ys =
     record {
       front = p.front;
       rest = p.rest ++ ys;
@@ -84,10 +84,11 @@ module _ {code : Code} where
       }
 
 -- a machine that is the same goes on after the steps by those that complete them
-module _ (own code : Code) (same : own ≡ code) (u s : Standing) (events : List Event) (e : u ≡ walked code s events)
-    (t : Standing) where
-  pub passes_after : PassesThrough own u (completion_at own u) t → PassesThrough code s (completed code s events) t
-  passes_after p =
+module _ {own code : Code} (same : own ≡ code) {u : Standing} (s : Standing) (events : List Event)
+    (e : u ≡ walked code s events) where
+  pub passes_after : {t : Standing} → PassesThrough own u (completion_at own u) t →
+      PassesThrough code s (completed code s events) t
+  passes_after {t} p =
       let last : Standing = walked code s events in
       let here : PassesThrough code last (completion_at code last) t =
       subst (λ (v : Standing). PassesThrough code v (completion_at code v) t) e (subst (λ (k : Code). PassesThrough k u (completion_at k u) t) same p) in
@@ -98,10 +99,10 @@ module _ (own code : Code) (same : own ≡ code) (u s : Standing) (events : List
         after = here.after ∙ sym (walked-append code events here.front s);
       }
 
-  pub met_after : (count : ℕ) → count ≡ length events → (a b c : Option (List ℕ)) →
-      Appends a b (step_lines code s 0 events)
-      → FaultMet own u count (completion_at own u) t b c → FaultMet code s 0 (completed code s events) t a c
-  met_after count h a b c took m =
+  pub met_after : {count : ℕ} {t : Standing} → count ≡ length events → (a b c : Option (List ℕ)) →
+      Appends a b (step_lines code s 0 events) → FaultMet own u count (completion_at own u) t b c →
+      FaultMet code s 0 (completed code s events) t a c
+  met_after {count} {t} h a b c took m =
       met_behind s events (completion_at code (walked code s events)) t a b c took
       (subst (λ n. FaultMet code (walked code s events) n (completion_at code (walked code s events)) t b c) h
       (subst (λ (v : Standing). FaultMet code v count (completion_at code v) t b c) e

@@ -9,10 +9,10 @@ use Rattle.io_edge.specs.Taken.{AppendsPrefix}
 use Rattle.icode.specs.declared.event.Event.{Event}
 use Rattle.icode.specs.Machine.{Code}
 use Rattle.runs.specs.Faults.{FaultMet}
-use Rattle.runs.specs.Lines.{step_lines}
-use Rattle.runs.specs.Standing.{Standing}
+use Rattle.runs.specs.Lines.{step_line, step_lines}
+use Rattle.runs.specs.Standing.{Standing, stepped}
 use Rattle.runs.specs.Walks.{walked}
-use Rattle.runs.proofs.Walks.{lines-append, walked-append}
+use Rattle.runs.proofs.Walks.{lines-append, step_alone, walked-append}
 
 -- the steps before those that are left are done, and their lines are written
 pub record Goes (code : Code) (before after : Option (List ℕ)) (first : Standing) (from : ℕ) (all : List Event) (s : Standing) (number : ℕ) (left : List Event) : Type 0 where
@@ -30,17 +30,21 @@ module _ {code : Code} {a : Option (List ℕ)} {first : Standing} {from : ℕ} {
 
   module _ {b : Option (List ℕ)} {s : Standing} {number : ℕ} {left : List Event}
       (g : Goes code a b first from all s number left) where
-    -- the next step
-    module _ (c : Option (List ℕ)) (q : Event) (rest : List Event) (e : left ≡ q ∷ rest) (t : Standing)
-        (moved : t ≡ walked code s (q ∷ [])) where
+    -- the next step, of a machine of the same code
+    module _ {own : Code} (same : own ≡ code) {q : Event} {rest : List Event} (e : left ≡ q ∷ rest) {t : Standing}
+        (does : t ≡ stepped own s q) (c : Option (List ℕ)) where
       there : t ≡ walked code first (g.past ++ q ∷ [])
-      there = moved ∙ (ap (λ (u : Standing). walked code u (q ∷ [])) g.here ∙ sym (walked-append code g.past (q ∷ []) first))
+      there =
+          does ∙ (ap (λ (k : Code). stepped k s q) same
+          ∙ (ap (λ (u : Standing). stepped code u q) g.here ∙ sym (walked-append code g.past (q ∷ []) first)))
 
-      line : step_lines code s number (q ∷ []) ≡ step_lines code (walked code first g.past) (from + length g.past)
-          (q ∷ [])
-      line = ap₂ (λ (u : Standing) n. step_lines code u n (q ∷ [])) g.here g.count
+      line : (P : List ℕ → Type 0) → P (step_line own s number q) →
+          P (step_lines code (walked code first g.past) (from + length g.past) (q ∷ []))
+      line P took =
+          subst P (ap₂ (λ (u : Standing) n. step_lines code u n (q ∷ [])) g.here g.count)
+          (step_alone P own code s number q same took)
 
-      pub goes_on : Appends b c (step_lines code s number (q ∷ [])) → Goes code a c first from all t (number + 1) rest
+      pub goes_on : Appends b c (step_line own s number q) → Goes code a c first from all t (number + 1) rest
       goes_on took =
           record {
             past = g.past ++ q ∷ [];
@@ -48,10 +52,12 @@ module _ {code : Code} {a : Option (List ℕ)} {first : Standing} {from : ℕ} {
             here = there;
             count = omega (arith, g.count, length-append g.past (q ∷ []));
             took = subst (Appends a c) (sym (lines-append code g.past (q ∷ []) first from))
-                (Appends-trans a b c (step_lines code first from g.past) (step_lines code (walked code first g.past) (from + length g.past) (q ∷ [])) g.took (subst (Appends b c) line took));
+                (Appends-trans a b c (step_lines code first from g.past)
+                (step_lines code (walked code first g.past) (from + length g.past) (q ∷ [])) g.took
+                (line (Appends b c) took));
           }
 
-      pub goes_met : AppendsPrefix b c (step_lines code s number (q ∷ [])) → FaultMet code first from all t a c
+      pub goes_met : AppendsPrefix b c (step_line own s number q) → FaultMet code first from all t a c
       goes_met took =
           record {
             front = g.past;
@@ -61,5 +67,5 @@ module _ {code : Code} {a : Option (List ℕ)} {first : Standing} {from : ℕ} {
             after = there;
             before = b;
             written = g.took;
-            cut = subst (AppendsPrefix b c) line took;
+            cut = line (AppendsPrefix b c) took;
           }

@@ -10,12 +10,13 @@ use Rattle.io_edge.specs.Told.{IsOver}
 use Rattle.io_edge.specs.Feed.{Fed, limit}
 use Rattle.data_stream.specs.Data.{tokens, closed_part, is_good}
 use Rattle.data_stream.specs.Reading.{GivesVector}
-use Rattle.data_stream.specs.Vectors.{Cut}
+use Rattle.data_stream.specs.Vectors.{Cut, IsReady}
 use Rattle.data_stream.specs.declared.vectors.Next.{Next}
 use Rattle.data_stream.specs.declared.vectors.Next.TheVariants.{Vector, End}
 use Rattle.data_stream.specs.declared.DataFault.{DataFault}
 use Rattle.data_stream.specs.declared.DataFault.TheVariants as data_fault
 use Rattle.data_stream.proofs.TokenLemmas.{both_left, both_right}
+use Rattle.data_stream.proofs.TokensLemmas.{not_ended}
 use Rattle.data_stream.proofs.VectorLemmas.{closed_after}
 use Rattle.runs.specs.Progress.{StreamProgress, HasCome, ReadsData, StreamsBehind}
 use Rattle.runs.specs.Stream.{Reads, vectors_of, good_front, bad_after, vectors_seen, data_vectors, Streams, Writes}
@@ -23,6 +24,7 @@ use Rattle.runs.specs.StreamFault.{stream_fault}
 use Rattle.runs.specs.declared.stream.StreamFault.{StreamFault}
 use Rattle.runs.specs.declared.stream.StreamFault.TheVariants.{TooLong, WriteFault}
 use Rattle.runs.proofs.StreamLemmas.{Once, no_stream, stream_push, stream_end, stream_fault_at, stream_unwritten}
+use Rattle.runs.proofs.StreamLemmas.{failed_next, failed_stream}
 use Rattle.runs.proofs.StreamLemmas.{answered_with, fault_within, seen_front, state_behind-of, texts_same}
 
 -- nothing was read yet
@@ -31,6 +33,18 @@ come_none modulus size cut feed a new = record {
   progress = subst (λ (v : Cut). StreamProgress a a feed.taken feed.taken v.ended v.size modulus v.done []) (sym new) (no_stream a feed.taken false size modulus);
   begun = λ _. refl;
 }
+
+-- as the reader of vectors is then
+pub ready_none : {size : ℕ} {cut : Cut} (feed : Fed) (left : Option (List ℕ)) →
+    cut ≡ record { size = size; done = 0; ended = false } → IsReady cut feed left
+ready_none feed left new =
+    subst (λ (v : Cut). IsReady v feed left) (sym new)
+    (record {
+      few = omega arith;
+      counted = omega arith;
+      within = λ e. absurd (not_ended false refl e);
+      end = λ e. absurd (not_ended false refl e);
+    })
 
 -- a vector more
 pub come_push : (modulus : ℕ) (cut next : Cut) (old now new : Fed) (a b c : Option (List ℕ)) (seen : List (List ℕ))
@@ -71,13 +85,10 @@ come_end modulus cut ended old now new a b c seen read vector some within r once
     reads_data cut.size modulus old new a c seen (Ok tt) (h.progress.bytes ++ read)
     (stream_end a b c old now new cut.ended ended cut.size modulus cut.done seen (IsOver c) read vector some h.progress r once given end) (λ _. within)
 
-abbrev failed : DataFault → Result Next DataFault
-failed fault = Err fault
-
 -- or are faulty
 pub come_fault : (modulus : ℕ) (cut : Cut) (ended : Bool) (old now new : Fed) (a b c : Option (List ℕ))
     (seen : List (List ℕ)) (read vector : List ℕ) (fault : DataFault)
-    → 0 < cut.size → (failed fault ≢ failed data_fault.TooLong → new.taken ≤ limit) → Consumes b c read →
+    → 0 < cut.size → (failed_next fault ≢ failed_next data_fault.TooLong → new.taken ≤ limit) → Consumes b c read →
     cut.ended ≡ false
     → GivesVector cut.size modulus cut.done now new read ended vector (Err fault) → (ended ≡ true → IsOver c)
     → HasCome modulus cut old now a b seen → ReadsData cut.size modulus old new a c seen (Err (stream_fault fault))
@@ -85,9 +96,6 @@ come_fault modulus cut ended old now new a b c seen read vector fault some withi
     reads_data cut.size modulus old new a c seen (Err (stream_fault fault)) (h.progress.bytes ++ read)
     (stream_fault_at a b c old now new cut.ended ended cut.size modulus cut.done seen (IsOver c) read vector fault some h.progress h.begun r going given end)
     (fault_within fault (new.taken ≤ limit) within)
-
-abbrev failed_stream : StreamFault → Result (Unit {0}) StreamFault
-failed_stream fault = Err fault
 
 -- which is no fault of the output
 pub fault_reads : (fault : DataFault) → failed_stream (stream_fault fault) ≢ failed_stream WriteFault
@@ -105,19 +113,22 @@ come_unwritten modulus cut old new a c seen some within end h =
     (h.progress.consumed, stream_unwritten a c old new cut.ended cut.size modulus cut.done seen (IsOver c) some h.progress end) (λ _. within)
 
 -- a run from the first vector on
-pub streams_new : {S : Type 0} (text : List ℕ → List ℕ) (leaves : List ℕ → S) (size modulus : ℕ) (old new : Fed)
-    (before after out out' : Option (List ℕ)) (first last : S) (result : Result (Unit {0}) StreamFault)
-    → StreamsBehind [] text leaves size modulus old new before after out out' first last result →
-    Streams text leaves size modulus old new before after out out' first last result
-streams_new text leaves size modulus old new before after out out' first last result s = record {
-  read = s.reads.read;
-  vectors = s.later;
-  consumed = s.reads.consumed;
-  answer = s.reads.answer;
-  answers = s.reads.answers;
-  wrote = s.wrote;
-  stands = s.stands;
-}
+module _ {S : Type 0} {text : List ℕ → List ℕ} {leaves : List ℕ → S} {count size modulus : ℕ} {old new : Fed}
+    {before after out out' : Option (List ℕ)} {first last : S} {result : Result (Unit {0}) StreamFault} where
+  pub streams_new : count ≡ size →
+      StreamsBehind [] text leaves count modulus old new before after out out' first last result →
+      Streams text leaves size modulus old new before after out out' first last result
+  streams_new e s =
+      let reads = subst (λ n. ReadsData n modulus old new before after s.later result) e s.reads in
+      record {
+        read = reads.read;
+        vectors = s.later;
+        consumed = reads.consumed;
+        answer = reads.answer;
+        answers = reads.answers;
+        wrote = s.wrote;
+        stands = s.stands;
+      }
 
 -- a run told in other words
 pub streams_as : {S T : Type 0} (f : S → T) (seen : List (List ℕ)) (text text' : List ℕ → List ℕ) (leaves : List ℕ → S)

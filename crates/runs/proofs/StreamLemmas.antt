@@ -131,6 +131,13 @@ closed_or_ended : (ended : Bool) (closed end : Type 0) → (ended ≡ false → 
 closed_or_ended true closed end c e = inr (e refl)
 closed_or_ended false closed end c e = inl (c refl)
 
+-- fewer tokens than a vector has make no vector after whole ones
+vectors_still : {a b : Option (List ℕ)} {old new : ℕ} {ended : Bool} {size modulus done : ℕ} {vectors : List (List ℕ)}
+    (p : StreamProgress a b old new ended size modulus done vectors) (us : List (List ℕ)) → length us < size →
+    vectors_of size modulus (p.ts ++ us) ≡ vectors
+vectors_still {a} {b} {old} {new} {ended} {size} {modulus} {done} {vectors} p us few =
+    p.splits us ∙ ap (λ l. vectors ++ l) (vectors_few size modulus us few) ∙ append-nil vectors
+
 -- the line of a vector was not written whole
 pub stream_unwritten : (a c : Option (List ℕ)) (old new : Fed) (ended : Bool) (size modulus done : ℕ)
     (vectors : List (List ℕ)) (end : Type 0)
@@ -141,7 +148,7 @@ stream_unwritten a c old new ended size modulus done vectors end some p at_end =
       p.taken,
       ap (list_all is_good) there ∙ p.good,
       closed_or_ended ended (closed_part p.bytes ≡ p.bytes) end p.closed at_end,
-      ap (vectors_of size modulus) (there ∙ sym (append-nil p.ts)) ∙ p.splits [] ∙ ap (λ l. vectors ++ l) (vectors_few size modulus [] some) ∙ append-nil vectors,
+      ap (vectors_of size modulus) (there ∙ sym (append-nil p.ts)) ∙ vectors_still p [] some,
     )
 
 -- the data end after a whole vector
@@ -159,7 +166,7 @@ stream_end a b c old now new mid ended size modulus done vectors end read vector
         at_end given.2,
         ap (list_all is_good) there ∙ p.good,
         ap (λ l. length l % size) there ∙ ap (λ n. n % size) (p.count ∙ sym (add-zero done)) ∙ p.whole 0 ∙ mod-eq_of_lt some,
-        ap (vectors_of size modulus) (there ∙ sym (append-nil p.ts)) ∙ p.splits [] ∙ ap (λ l. vectors ++ l) (vectors_few size modulus [] some) ∙ append-nil vectors,
+        ap (vectors_of size modulus) (there ∙ sym (append-nil p.ts)) ∙ vectors_still p [] some,
       ),
     )
 
@@ -188,8 +195,9 @@ part_behind : (a b : Option (List ℕ)) (old now : ℕ) (mid : Bool) (size modul
 part_behind a b old now mid size modulus done vectors read p going part =
     let behind : (l : List ℕ) → tokens (p.bytes ++ l) ≡ p.ts ++ tokens l = λ l. p.are_tokens l (λ e. absurd (not_ended mid going e)) in (
       ap (list_all is_good) (behind read) ∙ all_good p.ts (tokens read) p.good part.good,
-      ap (λ l. vectors_of size modulus (tokens l)) (closed_after p.bytes read (p.closed going)) ∙ ap (vectors_of size modulus) (behind (closed_part read)) ∙ p.splits (tokens (closed_part read))
-          ∙ ap (λ l. vectors ++ l) (vectors_few size modulus (tokens (closed_part read)) part.few) ∙ append-nil vectors,
+      ap (λ l. vectors_of size modulus (tokens l)) (closed_after p.bytes read (p.closed going))
+          ∙ ap (vectors_of size modulus) (behind (closed_part read))
+          ∙ vectors_still p (tokens (closed_part read)) part.few,
     )
 
 no_bytes : (bytes : List ℕ) → length bytes ≡ 0 → bytes ≡ []
@@ -215,7 +223,7 @@ stream_fault_at a b c old now new mid ended size modulus done vectors end read v
         ap (λ n. n % size) (ap length there ∙ length-append p.ts (tokens read) ∙ ap (λ n. n + length (tokens read)) p.count) ∙ p.whole (length (tokens read)) ∙ mod-eq_of_lt few ∙ given.3,
         given.4,
         given.6,
-        ap (vectors_of size modulus) there ∙ p.splits (tokens read) ∙ ap (λ l. vectors ++ l) (vectors_few size modulus (tokens read) few) ∙ append-nil vectors,
+        ap (vectors_of size modulus) there ∙ vectors_still p (tokens read) few,
       ),
     )
 stream_fault_at a b c old now new mid ended size modulus done vectors end read vector (data_fault.BadNumber token) some p begun r going given at_end =
@@ -237,7 +245,7 @@ stream_fault_at a b c old now new mid ended size modulus done vectors end read v
                     ∙ ap Some (let l = length-append p.ts us in let n = p.count in let t = given.1.3 in omega arith),
                 ap good_front (shown more) ∙ front_good (p.ts ++ us) first.0 first.1 good first.3,
               )),
-          p.splits us ∙ ap (λ l. vectors ++ l) (vectors_few size modulus us given.1.2) ∙ append-nil vectors,
+          vectors_still p us given.1.2,
         ),
       ),
     )
@@ -395,10 +403,10 @@ writes_fault (data_fault.Truncated have need) a b text w = w
 writes_fault data_fault.TooLong a b text w = w
 writes_fault data_fault.ReadFault a b text w = w
 
-abbrev failed_next : DataFault → Result Next DataFault
+abbrev pub failed_next : DataFault → Result Next DataFault
 failed_next fault = Err fault
 
-abbrev failed_stream : StreamFault → Result (Unit {0}) StreamFault
+abbrev pub failed_stream : StreamFault → Result (Unit {0}) StreamFault
 failed_stream fault = Err fault
 
 -- a fault that is no long input, told as one of the stream

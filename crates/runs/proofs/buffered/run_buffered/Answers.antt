@@ -1,14 +1,12 @@
-use Rattle.std.proofs.Common.{◌≡◌, [], false, refl, sym, ap, subst, ◌∙◌, arith, length}
+use Rattle.std.proofs.Common.{◌≡◌, [], ap, ◌∙◌, arith, length}
 use Rattle.icode.specs.Buffers.{buffered_runs, buffered_start}
 use Rattle.buffer_machine.specs.Listed.{events_of}
 use Rattle.io_edge.specs.Feed.{to_come}
-use Rattle.data_stream.specs.Vectors.{Cut, IsReady}
-use Rattle.data_stream.proofs.TokensLemmas.{not_ended}
-use Rattle.runs.specs.Progress.{StreamsBehind}
+use Rattle.data_stream.specs.Vectors.{Cut}
 use Rattle.runs.specs.Standing.{queued}
 use Rattle.runs.specs.Texts.{buffered_text, text_at}
 use Rattle.runs.specs.Walks.{ended}
-use Rattle.runs.proofs.ProgressLemmas.{come_none, streams_as, streams_new}
+use Rattle.runs.proofs.ProgressLemmas.{come_none, ready_none, streams_as, streams_new}
 use Rattle.runs.proofs.TwoMachines.{buffered_at, ended_events, text_of_events}
 use Rattle.runs.proofs.buffered.run_buffered.Goals as goal
 
@@ -21,8 +19,7 @@ stream-requires g c =
       cut = size ∙ c.requires.size;
       size = c.requires.size;
       no_stranger = c.requires.no_stranger;
-      ready = subst (λ v. IsReady v c.args.feed.now start) (sym c.new-vectors.ensures)
-          (record { few = omega arith; counted = omega arith; within = λ e. absurd (not_ended false refl e); end = λ e. absurd (not_ended false refl e) });
+      ready = ready_none c.args.feed.now start c.new-vectors.ensures;
     }
 
 pub returns-clause-streams : goal.returns-clause-streams
@@ -38,7 +35,4 @@ returns-clause-streams g c =
     (λ x. ended code (queued (buffered_start code x)) events) (λ x. buffered_runs code x events) c.new-vectors.result.size code.modulus c.args.feed.now c.stream.new.feed start reached
     (taken c.args.output.now) (taken c.stream.new.output) (queued c.args.machine.now.state) (queued c.stream.new.machine.state) c.stream.result
     (λ x. text_of_events code c.args.lines events x) (λ x. ap buffered_at (ended_events code x events)) all in
-    streams_new (buffered_text c.args.lines code events) (λ x. buffered_runs code x events) code.size code.modulus c.args.feed.now c.stream.new.feed start reached
-    (taken c.args.output.now) (taken c.stream.new.output) c.args.machine.now.state c.stream.new.machine.state c.stream.result
-    (subst (λ n. StreamsBehind [] (buffered_text c.args.lines code events) (λ x. buffered_runs code x events) n code.modulus c.args.feed.now c.stream.new.feed start reached
-    (taken c.args.output.now) (taken c.stream.new.output) c.args.machine.now.state c.stream.new.machine.state c.stream.result) size told)
+    streams_new size told

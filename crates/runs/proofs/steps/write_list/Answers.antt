@@ -1,13 +1,9 @@
-use Rattle.std.proofs.Common.{◌∙◌, ◌+◌, arith, subst, sym, ap, drop}
+use Rattle.std.proofs.Common.{◌∙◌, arith, subst, sym, ap}
 use Rattle.std.proofs.lemmas.Result.{err_from_is_err_and}
-use Rattle.std.specs.Io.KnownBytes.{Appends}
 use Rattle.icode.specs.Machine.{Code}
-use Rattle.io_edge.specs.Taken.{AppendsPrefix}
 use Rattle.buffer_machine.specs.Listed.{HasNoStranger, events_of}
 use Rattle.buffer_machine.proofs.Named.{event_there, next_of}
-use Rattle.runs.specs.Standing.{stepped}
 use Rattle.runs.specs.Faults.{FaultMet}
-use Rattle.runs.proofs.Walks.{step_alone}
 use Rattle.runs.proofs.FaultLemmas.{met_passes, met_prefix}
 use Rattle.runs.proofs.Goes.{goes_met, goes_on}
 use Rattle.runs.proofs.steps.write_list.Given.{Over}
@@ -22,20 +18,14 @@ write_step-requires g c =
 
 pub loop-number-preserved : goal.loop-number-preserved
 loop-number-preserved g c =
-    let taken = g.O.Sink.taken in
-    let code = g.E.Engine.code c.args.machine.now in
     let events = events_of c.args.events c.count-procs.result in
     let before = c.loop-number.invariant in
-    let number = c.loop-number.number in
-    let now = g.E.Engine.stands c.loop-number.machine in
-    let own = g.E.Engine.code c.loop-number.machine in
-    let event = c.event_at-event.result in
+    let next = next_of events c.loop-number.number c.event_at-event.result c.event_at-event.ensures in
+    let step = c.in_ok-write_step.ensures in
     record {
-      goes = goes_on before.goes (taken c.write_step.new.output) event (drop (number + 1) events) (next_of events number event c.event_at-event.ensures) (g.E.Engine.stands c.write_step.new.machine)
-          (c.in_ok-write_step.ensures.stands ∙ ap (λ (k : Code). stepped k now event) before.code)
-          (step_alone (Appends (taken c.loop-number.output) (taken c.write_step.new.output)) own code now number event before.code c.in_ok-write_step.ensures.bytes);
-      code = c.in_ok-write_step.ensures.code ∙ before.code;
-      faults = c.in_ok-write_step.ensures.cause.ok ∙ before.faults;
+      goes = goes_on before.goes before.code next step.stands (g.O.Sink.taken c.write_step.new.output) step.bytes;
+      code = step.code ∙ before.code;
+      faults = step.cause.ok ∙ before.faults;
     }
 
 -- the fault met the line of this event
@@ -48,14 +38,12 @@ met g c =
     let code = g.E.Engine.code c.args.machine.now in
     let events = events_of c.args.events c.count-procs.result in
     let before = c.loop-number.invariant in
-    let number = c.loop-number.number in
-    let now = g.E.Engine.stands c.loop-number.machine in
-    let own = g.E.Engine.code c.loop-number.machine in
-    let event = c.event_at-event.result in
-    subst (λ n. FaultMet code (g.E.Engine.stands c.args.machine.now) 0 (events_of c.args.events n) (g.E.Engine.stands c.write_step.new.machine) (taken c.args.output.now) (taken c.write_step.new.output)) c.count-procs.ensures.value
-    (goes_met before.goes (taken c.write_step.new.output) event (drop (number + 1) events) (next_of events number event c.event_at-event.ensures) (g.E.Engine.stands c.write_step.new.machine)
-    (c.in_err-write_step.ensures.stands ∙ ap (λ (k : Code). stepped k now event) before.code)
-    (step_alone (AppendsPrefix (taken c.loop-number.output) (taken c.write_step.new.output)) own code now number event before.code c.in_err-write_step.ensures.bytes))
+    let next = next_of events c.loop-number.number c.event_at-event.result c.event_at-event.ensures in
+    let step = c.in_err-write_step.ensures in
+    subst (λ n. FaultMet code (g.E.Engine.stands c.args.machine.now) 0 (events_of c.args.events n)
+    (g.E.Engine.stands c.write_step.new.machine) (taken c.args.output.now) (taken c.write_step.new.output))
+    c.count-procs.ensures.value
+    (goes_met before.goes before.code next step.stands (taken c.write_step.new.output) step.bytes)
 
 pub returns-in_err-write_step-clause-bytes : goal.returns-in_err-write_step-clause-bytes
 returns-in_err-write_step-clause-bytes g c =

@@ -46,15 +46,14 @@ returns-in_err-write_list-clause-way g c =
     let code = g.E.Engine.code c.args.machine.now in
     let state = g.E.Engine.stands c.args.machine.now in
     let events = events_of c.args.events code.procs in
-    passes_more code state events (completion_at code (walked code state events)) (g.E.Engine.stands c.write_list.new.machine) c.in_err-write_list.ensures.way
+    passes_more c.in_err-write_list.ensures.way (completion_at code (walked code state events))
 
 pub returns-clause-way : goal.returns-clause-way
 returns-clause-way g c =
     let code = g.E.Engine.code c.args.machine.now in
     let state = g.E.Engine.stands c.args.machine.now in
     let events = events_of c.args.events code.procs in
-    passes_after (g.E.Engine.code c.write_list.new.machine) code c.in_ok-write_list.ensures.code (g.E.Engine.stands c.write_list.new.machine) state events c.in_ok-write_list.ensures.stands (g.E.Engine.stands c.write_rest.new.machine)
-    c.write_rest.ensures.way
+    passes_after c.in_ok-write_list.ensures.code state events c.in_ok-write_list.ensures.stands c.write_rest.ensures.way
 
 pub returns-in_err-write_list-clause-met : goal.returns-in_err-write_list-clause-met
 returns-in_err-write_list-clause-met g c =
@@ -73,8 +72,9 @@ returns-clause-met g c =
     let same = c.in_ok-write_list.ensures.code in
     let count : c.len-count.result ≡ length events = c.len-count.ensures.value ∙ ap (λ n. length (events_of c.args.events n)) (c.count.ensures.value ∙ ap (λ (k : Code). k.procs) same) in
     on_err c.write_rest.result
-    (met_after (g.E.Engine.code c.write_list.new.machine) code same (g.E.Engine.stands c.write_list.new.machine) state events c.in_ok-write_list.ensures.stands (g.E.Engine.stands c.write_rest.new.machine)
-    c.len-count.result count (taken c.args.output.now) (taken c.write_list.new.output) (taken c.write_rest.new.output) c.in_ok-write_list.ensures.bytes)
+    (met_after same state events c.in_ok-write_list.ensures.stands count
+    (taken c.args.output.now) (taken c.write_list.new.output) (taken c.write_rest.new.output)
+    c.in_ok-write_list.ensures.bytes)
     c.write_rest.ensures.met
 
 pub returns-clause-act : goal.returns-clause-act
@@ -83,5 +83,5 @@ returns-clause-act g c =
     let state = g.E.Engine.stands c.args.machine.now in
     let events = events_of c.args.events code.procs in
     on_ok c.write_rest.result
-    (acts_after (g.E.Engine.code c.write_list.new.machine) code c.in_ok-write_list.ensures.code (g.E.Engine.stands c.write_list.new.machine) state events c.in_ok-write_list.ensures.stands (g.E.Engine.stands c.write_rest.new.machine))
+    (acts_after c.in_ok-write_list.ensures.code state events c.in_ok-write_list.ensures.stands)
     c.write_rest.ensures.act
