@@ -21,12 +21,12 @@ use Rattle.spl_text.specs.Fault.{TextFault, TooDeep, Shape, refusal, shape_fault
 use Rattle.spl_text.specs.Reading.{heads, plain, made_at, arguments_by, two_formulas_by, tensor_left_by}
 use Rattle.spl_text.specs.Reading.{tensor_right_by, too_deep, formula_at, line_at, ended_formula, all_of, whole_line}
 use Rattle.spl_text.specs.Spelling.{spells, spelling, IsFactor, HasSpelling}
-use Rattle.spl_text.proofs.Heads.{head_word, word_of_head, from_heads}
-use Rattle.spl_text.proofs.Nested.{formula_nesting}
+use Rattle.spl_text.proofs.Heads.{head_word, word_of_head, opening, one, one_spelt, one_factor, some_arguments}
+use Rattle.spl_text.proofs.Heads.{from_heads}
+use Rattle.spl_text.proofs.Nested.{pair_by, formula_nesting}
 use Rattle.spl_text.proofs.Parentheses.{Opens, then_balanced, one_deeper, balanced, size_balanced, spelling_balanced}
 use Rattle.spl_text.proofs.Parentheses.{shallow_by_count, shallow_both, front_shallow, within_shallow, size_shallow}
-use Rattle.spl_text.proofs.Readers.{heads_reader, factors, commas, one, one_spelt, one_factor, some_arguments, Exposes}
-use Rattle.spl_text.proofs.Readers.{formula_reader}
+use Rattle.spl_text.proofs.Readers.{heads_reader, part_sizes, commas, Exposes, formula_reader}
 
 -- ---- a parenthesis so deep
 
@@ -86,6 +86,11 @@ stops : {A B : Type 0} (r : Result (A × Place ℕ) (Stop TextFault))
 stops (Ok x) next s e = inr (x, refl, e)
 stops (Err t) next s e = inl (ap (λ u. Err u) (same_stop t s e))
 
+never_faults : {A : Type 0} (r : Result (A × Place ℕ) ℕ) (fault : TextFault) →
+    spelling_only r ≡ Err (Fault fault) → ⊥
+never_faults (Ok x) fault e = ok_not_err x (Fault fault) e
+never_faults (Err left) fault e = lost_not_fault left fault (same_stop (Lost left) (Fault fault) e)
+
 -- a step that meets no fault of its own
 goes_past : {A B : Type 0} (r : Result (A × Place ℕ) ℕ) (next : A → Place ℕ → Result (B × Place ℕ) (Stop TextFault))
     (fault : TextFault) → and_go_on (spelling_only r) next ≡ Err (Fault fault)
@@ -107,10 +112,10 @@ comma_took : (place : Place ℕ) (x : Unit {0} × Place ℕ) → comma_at place 
 comma_took place x e =
     let took = subst (λ r. places.Answers Anything (word (codes ",")) place r) e (commas.each place) in took.whole ∙ ap (λ z. z ++ x.1.rest) took.spelt
 
-factor_took : (place : Place ℕ) (x : ℕ × Place ℕ) → factor_at place ≡ Ok x →
+factor_took : (place : Place ℕ) (x : ℕ × Place ℕ) → plain factor_at place ≡ Ok x →
     IsFactor x.0 × (place.rest ≡ decimal x.0 ++ x.1.rest)
 factor_took place x e =
-    let took = subst (λ r. places.Answers NoDigit (positive 1048577) place r) e (factors.each place) in
+    let took = subst (λ r. Answers Exposes NoDigit (positive 1048577) place r) e (part_sizes.each place) in
     ((took.spelt.0, took.spelt.1), took.whole ∙ ap (λ z. z ++ x.1.rest) took.spelt.2)
 
 head_took : (place : Place ℕ) (x : Head × Place ℕ) → one_of_at heads place ≡ Ok x →
@@ -127,66 +132,81 @@ formula_took depth place x e =
     let took = subst (λ r. Answers Exposes Anything spells place r) e ((formula_reader depth).each place) in
     (took.spelt.0, took.whole ∙ ap (λ z. z ++ x.1.rest) took.spelt.1)
 
+-- two pieces stop in the first one, or behind the comma
+pair_stops : {A B : Type 0} (read : Place ℕ → Result (A × Place ℕ) (Stop TextFault))
+    (read' : Place ℕ → Result (B × Place ℕ) (Stop TextFault)) (make : A → B → Formula) (place : Place ℕ)
+    (fault : TextFault) → pair_by read read' make place ≡ Err (Fault fault)
+    → (read place ≡ Err (Fault fault)) ⊎ ((a : A × Place ℕ) × (next : Place ℕ) × (read place ≡ Ok a)
+    × (a.1.rest ≡ codes "," ++ next.rest) × (read' next ≡ Err (Fault fault)))
+pair_stops read read' make place fault e =
+    ⊎_elim (λ first. inl first)
+    (λ a.
+    let c = goes_past (comma_at a.0.1) _ fault a.2 in
+    ⊎_elim (λ second. inr (a.0, c.0.1, a.1, comma_took a.0.1 c.0 c.1, second))
+    (λ b. absurd (closing_never (make a.0.0 b.0.0) b.0.1 fault b.2)) (stops (read' c.0.1) _ (Fault fault) c.2))
+    (stops (read place) _ (Fault fault) e)
+
 -- ---- formulas
 
-two_opened : (w : List ℕ) (a : Formula) → Opens 1 w → HasSpelling a → Opens 1 (w ++ (spelling a ++ codes ","))
-two_opened w a o h = then_balanced 1 w (spelling a ++ codes ",") o (balanced (spelling a) (codes ",") (spelling_balanced a h) refl)
+to_front : (w part rest : List ℕ) → w ++ (part ++ (codes "," ++ rest)) ≡ (w ++ (part ++ codes ",")) ++ rest
+to_front w part rest =
+    ap (λ z. w ++ z) (sym (append_assoc part (codes ",") rest)) ∙ sym (append_assoc w (part ++ codes ",") rest)
 
 module _ (depth : ℕ) (deep : (place : Place ℕ) (left : ℕ) → formula_at depth place ≡ Err (Fault (TooDeep left)) →
     IsDeep depth place.rest left) where
+  -- in a formula behind another piece and a comma
+  second_deep : (w part : List ℕ) (make : Formula → Formula) → opened w ≡ 1 → closed w ≡ 0 → Opens 0 part →
+      IsShallow depth part → ((g : Formula) → HasSpelling g → HasSpelling (make g))
+      → ((g : Formula) → spelling (make g) ≡ w ++ (part ++ (codes "," ++ (spelling g ++ codes ")")))) →
+      (text : List ℕ) (after next : Place ℕ) (left : ℕ) → text ≡ w ++ (part ++ after.rest)
+      → after.rest ≡ codes "," ++ next.rest → formula_at depth next ≡ Err (Fault (TooDeep left)) →
+      IsDeep (suc depth) text left
+  second_deep w part make count none flat low has spell text after next left t comma e =
+      inside depth left (w ++ (part ++ codes ",")) (codes ")") text next.rest make has
+      (λ g. spell g ∙ to_front w part (spelling g ++ codes ")"))
+      (then_balanced 1 w (part ++ codes ",") (omega (arith, count, none)) (balanced part (codes ",") flat refl))
+      (front_shallow depth w part count none flat low)
+      (t ∙ ap (λ z. w ++ (part ++ z)) comma ∙ to_front w part next.rest) (deep next left e)
+
   two_deep : (w : List ℕ) (make : Formula → Formula → Formula) → opened w ≡ 1 → closed w ≡ 0 →
       ((a b : Formula) → HasSpelling a → HasSpelling b → HasSpelling (make a b))
       → ((a b : Formula) → spelling (make a b) ≡ w ++ (spelling a ++ (codes "," ++ (spelling b ++ codes ")"))))
       → (text : List ℕ) (place : Place ℕ) (left : ℕ) → text ≡ w ++ place.rest →
       two_formulas_by (formula_at depth) make place ≡ Err (Fault (TooDeep left)) → IsDeep (suc depth) text left
   two_deep w make count none has spell text place left t e =
-      let o : Opens 1 w = omega (arith, count, none) in
       ⊎_elim
-      (λ first. inside depth left w (codes "," ++ (spelling one ++ codes ")")) text place.rest (λ g. make g one) (λ g h. has g one h one_spelt) (λ g. spell g one) o (shallow_by_count (suc depth) w (omega (arith, count))) t (deep place left first))
+      (λ first.
+      inside depth left w (codes "," ++ (spelling one ++ codes ")")) text place.rest (λ g. make g one)
+      (λ g h. has g one h one_spelt) (λ g. spell g one) (omega (arith, count, none))
+      (shallow_by_count (suc depth) w (omega (arith, count))) t (deep place left first))
       (λ a.
-      let took = formula_took depth place a.0 a.1 in
-      let c = goes_past (comma_at a.0.1) _ (TooDeep left) a.2 in
-      let comma = comma_took a.0.1 c.0 c.1 in
-      ⊎_elim
-      (λ second.
-      inside depth left (w ++ (spelling a.0.0 ++ codes ",")) (codes ")") text c.0.1.rest (λ g. make a.0.0 g) (λ g h. has a.0.0 g took.0 h)
-      (λ g. spell a.0.0 g ∙ ap (λ z. w ++ z) (sym (append_assoc (spelling a.0.0) (codes ",") (spelling g ++ codes ")"))) ∙ sym (append_assoc w (spelling a.0.0 ++ codes ",") (spelling g ++ codes ")")))
-      (two_opened w a.0.0 o took.0)
-      (front_shallow depth w (spelling a.0.0) count none (spelling_balanced a.0.0 took.0) (within_shallow depth a.0.0 (formula_nesting depth place a.0 a.1) took.0))
-      (t ∙ ap (λ z. w ++ z) (took.1 ∙ ap (λ z. spelling a.0.0 ++ z) comma ∙ sym (append_assoc (spelling a.0.0) (codes ",") c.0.1.rest)) ∙ sym (append_assoc w (spelling a.0.0 ++ codes ",") c.0.1.rest))
-      (deep c.0.1 left second))
-      (λ b. absurd (closing_never (make a.0.0 b.0.0) b.0.1 (TooDeep left) b.2))
-      (stops (formula_at depth c.0.1) _ (Fault (TooDeep left)) c.2))
-      (stops (formula_at depth place) _ (Fault (TooDeep left)) e)
+      let took = formula_took depth place a.0 a.2 in
+      second_deep w (spelling a.0.0) (make a.0.0) count none (spelling_balanced a.0.0 took.0)
+      (within_shallow depth a.0.0 (formula_nesting depth place a.0 a.2) took.0) (λ g h. has a.0.0 g took.0 h)
+      (spell a.0.0) text a.0.1 a.1 left (t ∙ ap (λ z. w ++ z) took.1) a.3 a.4)
+      (pair_stops (formula_at depth) (formula_at depth) make place (TooDeep left) e)
 
   left_deep : (text : List ℕ) (place : Place ℕ) (left : ℕ) → text ≡ codes "LEFT(" ++ place.rest →
       tensor_left_by (formula_at depth) place ≡ Err (Fault (TooDeep left)) → IsDeep (suc depth) text left
   left_deep text place left t e =
       ⊎_elim
-      (λ first. inside depth left (codes "LEFT(") (codes "," ++ (decimal 1 ++ codes ")")) text place.rest (λ g. TensorLeft g 1) (λ g h. (h, one_factor)) (λ g. refl) refl (shallow_by_count (suc depth) (codes "LEFT(") (omega arith)) t (deep place left first))
-      (λ a.
-      let c = goes_past (comma_at a.0.1) _ (TooDeep left) a.2 in
-      let k = goes_past (factor_at c.0.1) _ (TooDeep left) c.2 in
-      absurd (closing_never (TensorLeft a.0.0 k.0.0) k.0.1 (TooDeep left) k.2))
-      (stops (formula_at depth place) _ (Fault (TooDeep left)) e)
+      (λ first.
+      inside depth left (codes "LEFT(") (codes "," ++ (decimal 1 ++ codes ")")) text place.rest (λ g. TensorLeft g 1)
+      (λ g h. (h, one_factor)) (λ g. refl) refl (shallow_by_count (suc depth) (codes "LEFT(") (omega arith)) t
+      (deep place left first))
+      (λ a. absurd (never_faults (factor_at a.1) (TooDeep left) a.4))
+      (pair_stops (formula_at depth) (plain factor_at) TensorLeft place (TooDeep left) e)
 
   right_deep : (text : List ℕ) (place : Place ℕ) (left : ℕ) → text ≡ codes "RIGHT(" ++ place.rest →
       tensor_right_by (formula_at depth) place ≡ Err (Fault (TooDeep left)) → IsDeep (suc depth) text left
   right_deep text place left t e =
-      let k = goes_past (factor_at place) _ (TooDeep left) e in
-      let c = goes_past (comma_at k.0.1) _ (TooDeep left) k.2 in
-      let took = factor_took place k.0 k.1 in
-      let n = k.0.0 in
-      ⊎_elim
-      (λ inner.
-      inside depth left (codes "RIGHT(" ++ (decimal n ++ codes ",")) (codes ")") text c.0.1.rest (λ g. TensorRight n g) (λ g h. (took.0, h))
-      (λ g. ap (λ z. codes "RIGHT(" ++ z) (sym (append_assoc (decimal n) (codes ",") (spelling g ++ codes ")"))))
-      (then_balanced 1 (codes "RIGHT(") (decimal n ++ codes ",") refl (balanced (decimal n) (codes ",") (size_balanced n took.0) refl))
-      (front_shallow depth (codes "RIGHT(") (decimal n) refl refl (size_balanced n took.0) (size_shallow depth n took.0))
-      (t ∙ ap (λ z. codes "RIGHT(" ++ z) (took.1 ∙ ap (λ z. decimal n ++ z) (comma_took k.0.1 c.0 c.1) ∙ sym (append_assoc (decimal n) (codes ",") c.0.1.rest)))
-      (deep c.0.1 left inner))
-      (λ a. absurd (closing_never (TensorRight n a.0.0) a.0.1 (TooDeep left) a.2))
-      (stops (formula_at depth c.0.1) _ (Fault (TooDeep left)) c.2)
+      ⊎_elim (λ first. absurd (never_faults (factor_at place) (TooDeep left) first))
+      (λ k.
+      let took = factor_took place k.0 k.2 in
+      second_deep (codes "RIGHT(") (decimal k.0.0) (TensorRight k.0.0) refl refl (size_balanced k.0.0 took.0)
+      (size_shallow depth k.0.0 took.0) (λ g h. (took.0, h)) (λ g. refl) text k.0.1 k.1 left
+      (t ∙ ap (λ z. codes "RIGHT(" ++ z) took.1) k.3 k.4)
+      (pair_stops (plain factor_at) (formula_at depth) TensorRight place (TooDeep left) e)
 
   arguments_deep : (h : Head) (text : List ℕ) (place : Place ℕ) (left : ℕ) → text ≡ head_word h ++ place.rest →
       arguments_by (formula_at depth) h place ≡ Err (Fault (TooDeep left)) → IsDeep (suc depth) text left
@@ -203,22 +223,6 @@ module _ (depth : ℕ) (deep : (place : Place ℕ) (left : ℕ) → formula_at d
   arguments_deep head.Sum text place left t e = two_deep (codes "SUM(") DirectSum refl refl (λ a b h k. (h, k)) (λ a b. refl) text place left t e
   arguments_deep head.Left text place left t e = left_deep text place left t e
   arguments_deep head.Right text place left t e = right_deep text place left t e
-
--- a head ends with its one parenthesis
-opening : (h : Head) → (x : List ℕ) × (head_word h ≡ x ++ 40 ∷ []) × Opens 0 x × (opened x ≡ 0)
-opening head.I = (codes "I", refl, refl, refl)
-opening head.Dft = (codes "DFT", refl, refl, refl)
-opening head.Wht = (codes "WHT", refl, refl, refl)
-opening head.T = (codes "T", refl, refl, refl)
-opening head.Diag = (codes "DIAG", refl, refl, refl)
-opening head.L = (codes "L", refl, refl, refl)
-opening head.Perm = (codes "PERM", refl, refl, refl)
-opening head.GtIn = (codes "GTIN", refl, refl, refl)
-opening head.GtOut = (codes "GTOUT", refl, refl, refl)
-opening head.Times = (codes "TIMES", refl, refl, refl)
-opening head.Left = (codes "LEFT", refl, refl, refl)
-opening head.Right = (codes "RIGHT", refl, refl, refl)
-opening head.Sum = (codes "SUM", refl, refl, refl)
 
 deep_left : (n left : ℕ) → Fault (TooDeep n) ≡ Fault (TooDeep left) → n ≡ left
 deep_left n left e = cc

@@ -2,7 +2,7 @@
 use Rattle.std.proofs.Common.{◌≡◌, ℕ, zero, suc, ◌+◌, ◌≤◌, List, [], ◌∷◌, Option, Some, None, Result, Ok, Err, refl}
 use Rattle.std.proofs.Common.{sym, ap, subst, arith}
 use Rattle.grammar.specs.Reading.{Place, start, ended, pure_at, one_of_at}
-use Rattle.grammar.specs.Stops.{Stop, and_go_on, passed, tested_at}
+use Rattle.grammar.specs.Stops.{Stop, ◌>>=◌, and_go_on, passed, tested_at}
 use Rattle.spl_ast.specs.Formula.{Formula, Identity, Fourier, Hadamard, Twiddles, Diagonal, Stride, Permutation}
 use Rattle.spl_ast.specs.Formula.{GoodThomasIn, GoodThomasOut, Product, TensorLeft, TensorRight, DirectSum, Pending}
 use Rattle.spl_ast.specs.Nesting.{nesting_of, IsComplete, IsPrintable}
@@ -11,7 +11,7 @@ use Rattle.spl_text.specs.declared.reading.Head.TheVariants as head
 use Rattle.spl_text.specs.Arguments.{factor_at, comma_at, close_at, one_size_at, two_sizes_at, size_value_at}
 use Rattle.spl_text.specs.Arguments.{sizes_value_at, values_at}
 use Rattle.spl_text.specs.Fault.{TextFault, shape_fault}
-use Rattle.spl_text.specs.Reading.{heads, plain, made_at, arguments_by, two_formulas_by, too_deep, formula_at, line_at}
+use Rattle.spl_text.specs.Reading.{heads, plain, made_at, arguments_by, too_deep, formula_at, line_at}
 use Rattle.spl_text.specs.Reading.{ended_formula, all_of, whole_line}
 use Rattle.spl_text.specs.Spelling.{spells, spells_line, HasSpelling}
 
@@ -33,51 +33,66 @@ tested_ok left (Err s) y e = absurd cc
 same_ok : (x y : Formula × Place ℕ) → (let r : Result (Formula × Place ℕ) (Stop TextFault) = Ok x in r ≡ Ok y) → x.0 ≡ y.0
 same_ok x y e = let both : x ≡ y = cc in ap (λ z. z.0) both
 
-made_nesting : {A : Type 0} (read : Place ℕ → Result (A × Place ℕ) ℕ) (make : A → Formula) (place : Place ℕ)
-    (y : Formula × Place ℕ) → ((x : A) → nesting_of (make x) ≤ 1) → made_at read make place ≡ Ok y → nesting_of y.0 ≤ 1
-made_nesting read make place y h e =
-    let g = go_ok (plain read place) (λ x. plain (pure_at (make x))) y e in
-    subst (λ f. nesting_of f ≤ 1) (same_ok (make g.0.0, g.0.1) y g.2) (h g.0.0)
+-- two pieces behind a head, and what they make
+abbrev pub pair_by : {A B : Type 0} → (Place ℕ → Result (A × Place ℕ) (Stop TextFault)) →
+    (Place ℕ → Result (B × Place ℕ) (Stop TextFault)) → (A → B → Formula) → Place ℕ →
+    Result (Formula × Place ℕ) (Stop TextFault)
+pair_by read read' make = do
+  a ← read
+  _ ← plain comma_at
+  b ← read'
+  _ ← plain close_at
+  plain (pure_at (make a b))
 
-module _ (read : Place ℕ → Result (Formula × Place ℕ) (Stop TextFault)) (k : ℕ)
-    (inner : (place : Place ℕ) (x : Formula × Place ℕ) → read place ≡ Ok x → nesting_of x.0 ≤ k) where
-  two_nesting : (make : Formula → Formula → Formula) → ((a b : Formula) → nesting_of a ≤ k → nesting_of b ≤ k →
-      nesting_of (make a b) ≤ k + 1)
-      → (place : Place ℕ) (y : Formula × Place ℕ) → two_formulas_by read make place ≡ Ok y → nesting_of y.0 ≤ k + 1
-  two_nesting make h place y e =
+abbrev IsLow : ℕ → Formula → Type 0
+IsLow k f = nesting_of f ≤ k
+
+abbrev IsAny : ℕ → Type 0
+IsAny n = Unit {0}
+
+module _ (k : ℕ) where
+  made_nesting : {A : Type 0} (read : Place ℕ → Result (A × Place ℕ) ℕ) (make : A → Formula) →
+      ((x : A) → IsLow (k + 1) (make x))
+      → (place : Place ℕ) (y : Formula × Place ℕ) → made_at read make place ≡ Ok y → IsLow (k + 1) y.0
+  made_nesting read make low place y e =
+      let g = go_ok (plain read place) (λ x. plain (pure_at (make x))) y e in
+      subst (IsLow (k + 1)) (same_ok (make g.0.0, g.0.1) y g.2) (low g.0.0)
+
+  pair_nesting : {A B : Type 0} (P : A → Type 0) (Q : B → Type 0) (make : A → B → Formula) →
+      ((a : A) (b : B) → P a → Q b → IsLow (k + 1) (make a b))
+      → (read : Place ℕ → Result (A × Place ℕ) (Stop TextFault)) → ((place : Place ℕ) (x : A × Place ℕ) →
+      read place ≡ Ok x → P x.0)
+      → (read' : Place ℕ → Result (B × Place ℕ) (Stop TextFault)) → ((place : Place ℕ) (x : B × Place ℕ) →
+      read' place ≡ Ok x → Q x.0)
+      → (place : Place ℕ) (y : Formula × Place ℕ) → pair_by read read' make place ≡ Ok y → IsLow (k + 1) y.0
+  pair_nesting P Q make low read first read' second place y e =
       let g1 = go_ok (read place) _ y e in
       let g2 = go_ok (plain comma_at g1.0.1) _ y g1.2 in
-      let g3 = go_ok (read g2.0.1) _ y g2.2 in
+      let g3 = go_ok (read' g2.0.1) _ y g2.2 in
       let g4 = go_ok (plain close_at g3.0.1) _ y g3.2 in
-      subst (λ f. nesting_of f ≤ k + 1) (same_ok (make g1.0.0 g3.0.0, g4.0.1) y g4.2) (h g1.0.0 g3.0.0 (inner place g1.0 g1.1) (inner g2.0.1 g3.0 g3.1))
+      subst (IsLow (k + 1)) (same_ok (make g1.0.0 g3.0.0, g4.0.1) y g4.2)
+      (low g1.0.0 g3.0.0 (first place g1.0 g1.1) (second g2.0.1 g3.0 g3.1))
 
-  arguments_nesting : (h : Head) (place : Place ℕ) (y : Formula × Place ℕ) → arguments_by read h place ≡ Ok y →
-      nesting_of y.0 ≤ k + 1
-  arguments_nesting head.I place y e = let low = made_nesting one_size_at Identity place y (λ x. omega arith) e in omega arith
-  arguments_nesting head.Dft place y e = let low = made_nesting size_value_at (λ x. Fourier x.0 x.1) place y (λ x. omega arith) e in omega arith
-  arguments_nesting head.Wht place y e = let low = made_nesting one_size_at Hadamard place y (λ x. omega arith) e in omega arith
-  arguments_nesting head.T place y e = let low = made_nesting sizes_value_at (λ x. Twiddles x.0 x.1 x.2) place y (λ x. omega arith) e in omega arith
-  arguments_nesting head.Diag place y e = let low = made_nesting values_at Diagonal place y (λ x. omega arith) e in omega arith
-  arguments_nesting head.L place y e = let low = made_nesting two_sizes_at (λ x. Stride x.0 x.1) place y (λ x. omega arith) e in omega arith
-  arguments_nesting head.Perm place y e = let low = made_nesting values_at Permutation place y (λ x. omega arith) e in omega arith
-  arguments_nesting head.GtIn place y e = let low = made_nesting two_sizes_at (λ x. GoodThomasIn x.0 x.1) place y (λ x. omega arith) e in omega arith
-  arguments_nesting head.GtOut place y e = let low = made_nesting two_sizes_at (λ x. GoodThomasOut x.0 x.1) place y (λ x. omega arith) e in omega arith
-  arguments_nesting head.Times place y e = two_nesting Product (λ a b h g. omega arith) place y e
-  arguments_nesting head.Sum place y e = two_nesting DirectSum (λ a b h g. omega arith) place y e
-  arguments_nesting head.Left place y e =
-      let g1 = go_ok (read place) _ y e in
-      let g2 = go_ok (plain comma_at g1.0.1) _ y g1.2 in
-      let g3 = go_ok (plain factor_at g2.0.1) _ y g2.2 in
-      let g4 = go_ok (plain close_at g3.0.1) _ y g3.2 in
-      let low : nesting_of g1.0.0 ≤ k = inner place g1.0 g1.1 in
-      subst (λ f. nesting_of f ≤ k + 1) (same_ok (TensorLeft g1.0.0 g3.0.0, g4.0.1) y g4.2) (omega arith)
-  arguments_nesting head.Right place y e =
-      let g1 = go_ok (plain factor_at place) _ y e in
-      let g2 = go_ok (plain comma_at g1.0.1) _ y g1.2 in
-      let g3 = go_ok (read g2.0.1) _ y g2.2 in
-      let g4 = go_ok (plain close_at g3.0.1) _ y g3.2 in
-      let low : nesting_of g3.0.0 ≤ k = inner g2.0.1 g3.0 g3.1 in
-      subst (λ f. nesting_of f ≤ k + 1) (same_ok (TensorRight g1.0.0 g3.0.0, g4.0.1) y g4.2) (omega arith)
+  arguments_nesting : (read : Place ℕ → Result (Formula × Place ℕ) (Stop TextFault)) →
+      ((place : Place ℕ) (x : Formula × Place ℕ) → read place ≡ Ok x → IsLow k x.0)
+      → (h : Head) (place : Place ℕ) (y : Formula × Place ℕ) → arguments_by read h place ≡ Ok y → IsLow (k + 1) y.0
+  arguments_nesting read inner head.I = made_nesting one_size_at Identity (λ x. omega arith)
+  arguments_nesting read inner head.Dft = made_nesting size_value_at (λ x. Fourier x.0 x.1) (λ x. omega arith)
+  arguments_nesting read inner head.Wht = made_nesting one_size_at Hadamard (λ x. omega arith)
+  arguments_nesting read inner head.T = made_nesting sizes_value_at (λ x. Twiddles x.0 x.1 x.2) (λ x. omega arith)
+  arguments_nesting read inner head.Diag = made_nesting values_at Diagonal (λ x. omega arith)
+  arguments_nesting read inner head.L = made_nesting two_sizes_at (λ x. Stride x.0 x.1) (λ x. omega arith)
+  arguments_nesting read inner head.Perm = made_nesting values_at Permutation (λ x. omega arith)
+  arguments_nesting read inner head.GtIn = made_nesting two_sizes_at (λ x. GoodThomasIn x.0 x.1) (λ x. omega arith)
+  arguments_nesting read inner head.GtOut = made_nesting two_sizes_at (λ x. GoodThomasOut x.0 x.1) (λ x. omega arith)
+  arguments_nesting read inner head.Times =
+      pair_nesting (IsLow k) (IsLow k) Product (λ a b h g. omega arith) read inner read inner
+  arguments_nesting read inner head.Sum =
+      pair_nesting (IsLow k) (IsLow k) DirectSum (λ a b h g. omega arith) read inner read inner
+  arguments_nesting read inner head.Left =
+      pair_nesting (IsLow k) IsAny TensorLeft (λ a b h g. omega arith) read inner (plain factor_at) (λ p x e. tt)
+  arguments_nesting read inner head.Right =
+      pair_nesting IsAny (IsLow k) TensorRight (λ a b h g. omega arith) (plain factor_at) (λ p x e. tt) read inner
 
 never_too_deep : (r : Result (Head × Place ℕ) ℕ) (y : Formula × Place ℕ) → too_deep r ≡ Ok y → ⊥
 never_too_deep (Ok x) y e = cc
@@ -89,7 +104,7 @@ unfolding formula_at
 formula_nesting zero place y e = absurd (never_too_deep (one_of_at heads place) y e)
 formula_nesting (suc depth) place y e =
     let g = go_ok (plain (one_of_at heads) place) (arguments_by (formula_at depth)) y (tested_ok _ _ y e) in
-    omega (arith, arguments_nesting (formula_at depth) depth (formula_nesting depth) g.0.0 g.0.1 y g.2)
+    omega (arith, arguments_nesting depth (formula_at depth) (formula_nesting depth) g.0.0 g.0.1 y g.2)
 
 line_nesting : (place : Place ℕ) (y : Formula × Place ℕ) → line_at place ≡ Ok y → nesting_of y.0 ≤ 128
 line_nesting place y e =

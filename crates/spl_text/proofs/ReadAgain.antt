@@ -26,83 +26,61 @@ use Rattle.spl_text.specs.Reading.{heads, plain, made_at, arguments_by, two_form
 use Rattle.spl_text.specs.Reading.{tensor_right_by, formula_at, ended_formula, all_of, whole_line}
 use Rattle.spl_text.specs.Spelling.{spells, spells_line, spelling, values_text, IsFactor, HasSpelling}
 use Rattle.spl_text.proofs.Heads.{one_size, two_sizes, size_value, sizes_value, values, head_word, head_of_word}
-use Rattle.spl_text.proofs.Heads.{to_one_size, to_two_sizes, to_size_value, to_sizes_value, to_values}
-use Rattle.spl_text.proofs.Readers.{heads_reader, factors, commas, close, one_size_reader, two_sizes_reader}
+use Rattle.spl_text.proofs.Heads.{one_size_texts, two_sizes_texts, size_value_texts, sizes_value_texts, values_texts}
+use Rattle.spl_text.proofs.Readers.{heads_reader, factors, one_size_reader, two_sizes_reader}
 use Rattle.spl_text.proofs.Readers.{size_value_reader, sizes_value_reader, values_reader, no_line_end}
 use Rattle.spl_text.proofs.Fits.{not_refused}
+use Rattle.spl_text.proofs.Nested.{pair_by}
 
--- the reader gives this formula here, and stands before v then
-abbrev Gets : Result (Formula × Place ℕ) (Stop TextFault) → Formula → List ℕ → Type 0
-Gets r f v = (q : Place ℕ) × (r ≡ Ok (f, q)) × (q.rest ≡ v)
+-- the reader gives this value here, and stands before v then
+abbrev Gets : {A : Type 0} → Result (A × Place ℕ) (Stop TextFault) → A → List ℕ → Type 0
+Gets r x v = (q : Place ℕ) × (r ≡ Ok (x, q)) × (q.rest ≡ v)
 
--- the same of a reader wherever the formula's spelling stands
-abbrev Finds : (Place ℕ → Result (Formula × Place ℕ) (Stop TextFault)) → Formula → Type 0
-Finds read f = (v : List ℕ) (place : Place ℕ) → place.rest ≡ spelling f ++ v → Gets (read place) f v
+-- the same of a reader wherever this text stands before such a rest
+abbrev Finds : {A : Type 0} → (Place ℕ → Result (A × Place ℕ) (Stop TextFault)) → A → List ℕ → (List ℕ → Type 0) → Type 0
+Finds read x text C = (v : List ℕ) (place : Place ℕ) → C v → place.rest ≡ text ++ v → Gets (read place) x v
 
-comma_again : (place : Place ℕ) (v : List ℕ) → place.rest ≡ codes "," ++ v →
-    (q : Place ℕ) × (comma_at place ≡ Ok (tt, q)) × (q.rest ≡ v)
-comma_again place v e = again Anything (word (codes ",")) comma_at commas place (codes ",") v tt refl tt e
+word_again : (w : List ℕ) → Finds (plain (word_at w)) tt w Anything
+word_again w v place c e =
+    let r = again Anything (word w) (word_at w) (word_reader Anything w) place w v tt refl tt e in
+    (r.0, ap (λ y. spelling_only y) r.1, r.2)
 
-close_again : (place : Place ℕ) (v : List ℕ) → place.rest ≡ codes ")" ++ v →
-    (q : Place ℕ) × (close_at place ≡ Ok (tt, q)) × (q.rest ≡ v)
-close_again place v e = again Anything (word (codes ")")) close_at close place (codes ")") v tt refl tt e
-
-factor_again : (n : ℕ) (place : Place ℕ) (v : List ℕ) → IsFactor n → NoDigit v → place.rest ≡ decimal n ++ v →
-    (q : Place ℕ) × (factor_at place ≡ Ok (n, q)) × (q.rest ≡ v)
-factor_again n place v h c e = again NoDigit (positive 1048577) factor_at factors place (decimal n) v n (h.0, h.1, refl) c e
+factor_again : (n : ℕ) → IsFactor n → Finds (plain factor_at) n (decimal n) NoDigit
+factor_again n h v place c e =
+    let r = again NoDigit (positive 1048577) factor_at factors place (decimal n) v n (h.0, h.1, refl) c e in
+    (r.0, ap (λ y. spelling_only y) r.1, r.2)
 
 made_again : {A : Type 0} (L : List ℕ → A → Type 0) (read : Place ℕ → Result (A × Place ℕ) ℕ) (make : A → Formula) →
     IsReader Anything L read
-    → (x : A) (text v : List ℕ) (place : Place ℕ) → L text x → place.rest ≡ text ++ v →
-    Gets (made_at read make place) (make x) v
-made_again L read make reader x text v place l e =
+    → (x : A) (text : List ℕ) → L text x → Finds (made_at read make) (make x) text Anything
+made_again L read make reader x text l v place c e =
     let r = again Anything L read reader place text v x l tt e in
     (r.0, ap (λ y. and_go_on (spelling_only y) (λ z. plain (pure_at (make z)))) r.1, r.2)
 
-module _ (read : Place ℕ → Result (Formula × Place ℕ) (Stop TextFault)) where
-  two_again : (make : Formula → Formula → Formula) (a b : Formula) → Finds read a → Finds read b →
-      (v : List ℕ) (place : Place ℕ)
-      → place.rest ≡ (spelling a ++ (codes "," ++ (spelling b ++ codes ")"))) ++ v →
-      Gets (two_formulas_by read make place) (make a b) v
-  two_again make a b find_a find_b v place e =
-      let p = find_a (codes "," ++ ((spelling b ++ codes ")") ++ v)) place (e ∙ append_assoc (spelling a) (codes "," ++ (spelling b ++ codes ")")) v) in
-      let c = comma_again p.0 ((spelling b ++ codes ")") ++ v) p.2 in
-      let q = find_b (codes ")" ++ v) c.0 (c.2 ∙ append_assoc (spelling b) (codes ")") v) in
-      let w = close_again q.0 v q.2 in
-      (w.0, rw (p.1, c.1, q.1, w.1) refl, w.2)
-
-  left_again : (a : Formula) (k : ℕ) → Finds read a → IsFactor k → (v : List ℕ) (place : Place ℕ)
-      → place.rest ≡ (spelling a ++ (codes "," ++ (decimal k ++ codes ")"))) ++ v →
-      Gets (tensor_left_by read place) (TensorLeft a k) v
-  left_again a k find h v place e =
-      let p = find (codes "," ++ ((decimal k ++ codes ")") ++ v)) place (e ∙ append_assoc (spelling a) (codes "," ++ (decimal k ++ codes ")")) v) in
-      let c = comma_again p.0 ((decimal k ++ codes ")") ++ v) p.2 in
-      let q = factor_again k c.0 (codes ")" ++ v) h refl (c.2 ∙ append_assoc (decimal k) (codes ")") v) in
-      let w = close_again q.0 v q.2 in
-      (w.0, rw (p.1, c.1, q.1, w.1) refl, w.2)
-
-  right_again : (k : ℕ) (a : Formula) → IsFactor k → Finds read a → (v : List ℕ) (place : Place ℕ)
-      → place.rest ≡ (decimal k ++ (codes "," ++ (spelling a ++ codes ")"))) ++ v →
-      Gets (tensor_right_by read place) (TensorRight k a) v
-  right_again k a h find v place e =
-      let q = factor_again k place (codes "," ++ ((spelling a ++ codes ")") ++ v)) h refl (e ∙ append_assoc (decimal k) (codes "," ++ (spelling a ++ codes ")")) v) in
-      let c = comma_again q.0 ((spelling a ++ codes ")") ++ v) q.2 in
-      let p = find (codes ")" ++ v) c.0 (c.2 ∙ append_assoc (spelling a) (codes ")") v) in
-      let w = close_again p.0 v p.2 in
-      (w.0, rw (q.1, c.1, p.1, w.1) refl, w.2)
+-- two pieces; a comma comes behind the first one, and a parenthesis behind the second
+pair_again : {A B : Type 0} (C D : List ℕ → Type 0) (read : Place ℕ → Result (A × Place ℕ) (Stop TextFault))
+    (read' : Place ℕ → Result (B × Place ℕ) (Stop TextFault)) (make : A → B → Formula) (a : A) (b : B)
+    → (s t : List ℕ) → Finds read a s C → Finds read' b t D → ((v : List ℕ) → C (codes "," ++ v)) →
+    ((v : List ℕ) → D (codes ")" ++ v))
+    → Finds (pair_by read read' make) (make a b) (s ++ (codes "," ++ (t ++ codes ")"))) Anything
+pair_again C D read read' make a b s t first second commas closes v place c e =
+    let p = first (codes "," ++ ((t ++ codes ")") ++ v)) place (commas _) (e ∙ append_assoc s (codes "," ++ (t ++ codes ")")) v) in
+    let m = word_again (codes ",") ((t ++ codes ")") ++ v) p.0 tt p.2 in
+    let q = second (codes ")" ++ v) m.0 (closes v) (m.2 ∙ append_assoc t (codes ")") v) in
+    let w = word_again (codes ")") v q.0 tt q.2 in
+    (w.0, rw (p.1, m.1, q.1, w.1) refl, w.2)
 
 passes : (left : ℕ) (f : Formula) (q : Place ℕ) → refusal f ≡ None → passed (shape_fault left f) (f, q) ≡ Ok (f, q)
 passes left f q e = ap (λ o. passed (option_map (λ p. Shape left p.0 p.1) o) (f, q)) e
 
 -- a part is read when its head is and what comes after it
-behind_head : (depth : ℕ) (h : Head) (f : Formula) (text v : List ℕ) (place : Place ℕ) → IsShaped f →
-    place.rest ≡ head_word h ++ (text ++ v)
-    → ((p : Place ℕ) → p.rest ≡ text ++ v → Gets (arguments_by (formula_at depth) h p) f v) →
-    Gets (formula_at (suc depth) place) f v
+behind_head : (depth : ℕ) (h : Head) (f : Formula) (text : List ℕ) → IsShaped f → spelling f ≡ head_word h ++ text →
+    Finds (arguments_by (formula_at depth) h) f text Anything → Finds (formula_at (suc depth)) f (spelling f) Anything
 unfolding formula_at
-behind_head depth h f text v place s e inner =
-    let p = again Anything (one_of heads) (one_of_at heads) heads_reader place (head_word h) (text ++ v) h (head_of_word h) tt e in
-    let q = inner p.0 p.2 in (
+behind_head depth h f text s is inner v place c e =
+    let p = again Anything (one_of heads) (one_of_at heads) heads_reader place (head_word h) (text ++ v) h (head_of_word h) tt
+    (e ∙ ap (λ z. z ++ v) is ∙ append_assoc (head_word h) text v) in
+    let q = inner v p.0 tt p.2 in (
       q.0,
       ap (λ r. tested_at (length place.rest) shape_fault (and_go_on (spelling_only r) (arguments_by (formula_at depth)))) p.1
           ∙ ap (λ r. tested_at (length place.rest) shape_fault r) q.1
@@ -126,44 +104,53 @@ some_nesting (TensorRight k a) = omega arith
 some_nesting (DirectSum a b) = omega arith
 some_nesting (Pending a) = omega arith
 
-read_again : (depth : ℕ) (f : Formula) → nesting_of f ≤ depth → HasSpelling f → IsShaped f → Finds (formula_at depth) f
-read_again zero f n h s v place e = absurd (let some = some_nesting f in omega arith)
-read_again (suc depth) (Identity k) n h s v place e =
-    behind_head depth head.I (Identity k) (decimal k ++ codes ")") v place s e (λ p. made_again one_size one_size_at Identity one_size_reader k _ v p (to_one_size k h))
-read_again (suc depth) (Fourier k w) n h s v place e =
-    behind_head depth head.Dft (Fourier k w) (decimal k ++ (codes "," ++ (decimal w ++ codes ")"))) v place s e
-    (λ p. made_again size_value size_value_at (λ y. Fourier y.0 y.1) size_value_reader (k, w) _ v p (to_size_value k w h.0 h.1))
-read_again (suc depth) (Hadamard k) n h s v place e =
-    behind_head depth head.Wht (Hadamard k) (decimal k ++ codes ")") v place s e (λ p. made_again one_size one_size_at Hadamard one_size_reader k _ v p (to_one_size k h))
-read_again (suc depth) (Twiddles k r w) n h s v place e =
-    behind_head depth head.T (Twiddles k r w) (decimal k ++ (codes "," ++ (decimal r ++ (codes "," ++ (decimal w ++ codes ")"))))) v place s e
-    (λ p. made_again sizes_value sizes_value_at (λ y. Twiddles y.0 y.1 y.2) sizes_value_reader (k, r, w) _ v p (to_sizes_value k r w h.0 h.1 h.2))
-read_again (suc depth) (Diagonal c) n h s v place e =
-    behind_head depth head.Diag (Diagonal c) (values_text c ++ codes ")") v place s e (λ p. made_again values values_at Diagonal values_reader c _ v p (to_values c h))
-read_again (suc depth) (Stride k r) n h s v place e =
-    behind_head depth head.L (Stride k r) (decimal k ++ (codes "," ++ (decimal r ++ codes ")"))) v place s e
-    (λ p. made_again two_sizes two_sizes_at (λ y. Stride y.0 y.1) two_sizes_reader (k, r) _ v p (to_two_sizes k r h.0 h.1))
-read_again (suc depth) (Permutation k) n h s v place e =
-    behind_head depth head.Perm (Permutation k) (values_text k ++ codes ")") v place s e (λ p. made_again values values_at Permutation values_reader k _ v p (to_values k h))
-read_again (suc depth) (GoodThomasIn k r) n h s v place e =
-    behind_head depth head.GtIn (GoodThomasIn k r) (decimal k ++ (codes "," ++ (decimal r ++ codes ")"))) v place s e
-    (λ p. made_again two_sizes two_sizes_at (λ y. GoodThomasIn y.0 y.1) two_sizes_reader (k, r) _ v p (to_two_sizes k r h.0 h.1))
-read_again (suc depth) (GoodThomasOut k r) n h s v place e =
-    behind_head depth head.GtOut (GoodThomasOut k r) (decimal k ++ (codes "," ++ (decimal r ++ codes ")"))) v place s e
-    (λ p. made_again two_sizes two_sizes_at (λ y. GoodThomasOut y.0 y.1) two_sizes_reader (k, r) _ v p (to_two_sizes k r h.0 h.1))
-read_again (suc depth) (Product a b) n h s v place e =
-    behind_head depth head.Times (Product a b) (spelling a ++ (codes "," ++ (spelling b ++ codes ")"))) v place s e
-    (two_again (formula_at depth) Product a b (read_again depth a (omega arith) h.0 s.0) (read_again depth b (omega arith) h.1 s.1) v)
-read_again (suc depth) (TensorLeft a k) n h s v place e =
-    behind_head depth head.Left (TensorLeft a k) (spelling a ++ (codes "," ++ (decimal k ++ codes ")"))) v place s e
-    (left_again (formula_at depth) a k (read_again depth a (omega arith) h.0 s.0) h.1 v)
-read_again (suc depth) (TensorRight k a) n h s v place e =
-    behind_head depth head.Right (TensorRight k a) (decimal k ++ (codes "," ++ (spelling a ++ codes ")"))) v place s e
-    (right_again (formula_at depth) k a h.0 (read_again depth a (omega arith) h.1 s.1) v)
-read_again (suc depth) (DirectSum a b) n h s v place e =
-    behind_head depth head.Sum (DirectSum a b) (spelling a ++ (codes "," ++ (spelling b ++ codes ")"))) v place s e
-    (two_again (formula_at depth) DirectSum a b (read_again depth a (omega arith) h.0 s.0) (read_again depth b (omega arith) h.1 s.1) v)
-read_again (suc depth) (Pending a) n h s v place e = absurd h
+read_again : (depth : ℕ) (f : Formula) → nesting_of f ≤ depth → HasSpelling f → IsShaped f →
+    Finds (formula_at depth) f (spelling f) Anything
+read_again zero f n h s = absurd (let some = some_nesting f in omega arith)
+read_again (suc depth) (Identity k) n h s =
+    behind_head depth head.I (Identity k) _ s refl
+    (made_again one_size one_size_at Identity one_size_reader k _ (one_size_texts.back k h))
+read_again (suc depth) (Fourier k w) n h s =
+    behind_head depth head.Dft (Fourier k w) _ s refl
+    (made_again size_value size_value_at (λ y. Fourier y.0 y.1) size_value_reader (k, w) _ (size_value_texts.back (k, w) h))
+read_again (suc depth) (Hadamard k) n h s =
+    behind_head depth head.Wht (Hadamard k) _ s refl
+    (made_again one_size one_size_at Hadamard one_size_reader k _ (one_size_texts.back k h))
+read_again (suc depth) (Twiddles k r w) n h s =
+    behind_head depth head.T (Twiddles k r w) _ s refl
+    (made_again sizes_value sizes_value_at (λ y. Twiddles y.0 y.1 y.2) sizes_value_reader (k, r, w) _ (sizes_value_texts.back (k, (r, w)) (h.0, (h.1, h.2))))
+read_again (suc depth) (Diagonal c) n h s =
+    behind_head depth head.Diag (Diagonal c) _ s refl
+    (made_again values values_at Diagonal values_reader c _ (values_texts.back c h))
+read_again (suc depth) (Stride k r) n h s =
+    behind_head depth head.L (Stride k r) _ s refl
+    (made_again two_sizes two_sizes_at (λ y. Stride y.0 y.1) two_sizes_reader (k, r) _ (two_sizes_texts.back (k, r) h))
+read_again (suc depth) (Permutation k) n h s =
+    behind_head depth head.Perm (Permutation k) _ s refl
+    (made_again values values_at Permutation values_reader k _ (values_texts.back k h))
+read_again (suc depth) (GoodThomasIn k r) n h s =
+    behind_head depth head.GtIn (GoodThomasIn k r) _ s refl
+    (made_again two_sizes two_sizes_at (λ y. GoodThomasIn y.0 y.1) two_sizes_reader (k, r) _ (two_sizes_texts.back (k, r) h))
+read_again (suc depth) (GoodThomasOut k r) n h s =
+    behind_head depth head.GtOut (GoodThomasOut k r) _ s refl
+    (made_again two_sizes two_sizes_at (λ y. GoodThomasOut y.0 y.1) two_sizes_reader (k, r) _ (two_sizes_texts.back (k, r) h))
+read_again (suc depth) (Product a b) n h s =
+    behind_head depth head.Times (Product a b) _ s refl
+    (pair_again Anything Anything (formula_at depth) (formula_at depth) Product a b (spelling a) (spelling b)
+    (read_again depth a (omega arith) h.0 s.0) (read_again depth b (omega arith) h.1 s.1) (λ v. tt) (λ v. tt))
+read_again (suc depth) (TensorLeft a k) n h s =
+    behind_head depth head.Left (TensorLeft a k) _ s refl
+    (pair_again Anything NoDigit (formula_at depth) (plain factor_at) TensorLeft a k (spelling a) (decimal k)
+    (read_again depth a (omega arith) h.0 s.0) (factor_again k h.1) (λ v. tt) (λ v. refl))
+read_again (suc depth) (TensorRight k a) n h s =
+    behind_head depth head.Right (TensorRight k a) _ s refl
+    (pair_again NoDigit Anything (plain factor_at) (formula_at depth) TensorRight k a (decimal k) (spelling a)
+    (factor_again k h.0) (read_again depth a (omega arith) h.1 s.1) (λ v. refl) (λ v. tt))
+read_again (suc depth) (DirectSum a b) n h s =
+    behind_head depth head.Sum (DirectSum a b) _ s refl
+    (pair_again Anything Anything (formula_at depth) (formula_at depth) DirectSum a b (spelling a) (spelling b)
+    (read_again depth a (omega arith) h.0 s.0) (read_again depth b (omega arith) h.1 s.1) (λ v. tt) (λ v. tt))
+read_again (suc depth) (Pending a) n h s = absurd h
 
 -- ---- the line
 
@@ -177,7 +164,7 @@ line_again text f l s printable =
     let same : f ≡ l.spelt = l.ends.ends.1 in
     let spelt : HasSpelling f = subst HasSpelling (sym same) l.begins.0 in
     let front : l.front ≡ spelling f = l.begins.1 ∙ ap spelling (sym same) in
-    let p = read_again 128 f printable.shallow spelt s l.rest (start text) (l.whole ∙ ap (λ z. z ++ l.rest) front) in
+    let p = read_again 128 f printable.shallow spelt s l.rest (start text) tt (l.whole ∙ ap (λ z. z ++ l.rest) front) in
     let line = l.ends in
     let last : line.front ++ [] ≡ l.rest = ap (λ z. line.front ++ z) (sym line.ends.0) ∙ sym line.whole in
     let w = again Nothing (optional tt (word (codes "\n"))) (optional_at tt (word_at (codes "\n"))) (optional_reader Nothing (word (codes "\n")) tt (word_at (codes "\n")) (word_reader Nothing (codes "\n")) no_line_end) p.0 line.front [] line.spelt line.begins refl (p.2 ∙ sym last) in

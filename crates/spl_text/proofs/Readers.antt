@@ -5,7 +5,7 @@ use Rattle.std.proofs.Common.{arith}
 use Rattle.std.specs.Option.{option_map}
 use Rattle.std.proofs.lemmas.List.{length-append}
 use Rattle.grammar.specs.Grammar.{◌>>◌, Follows, pure, word, one_of, number, positive, many, Begins}
-use Rattle.grammar.specs.Reading.{Place, pure_at, one_of_at, word_at, number_at, positive_at, named_number_at, all_at}
+use Rattle.grammar.specs.Reading.{Place, and_then, pure_at, one_of_at, word_at, number_at, positive_at, named_number_at, all_at}
 use Rattle.grammar.specs.Stops.{Stop, and_go_on, spelling_only, tested_at, HasFault}
 use Rattle.grammar.specs.Cursor.{Gives}
 use Rattle.grammar.specs.declared.token.Stuck.{Stuck}
@@ -25,12 +25,11 @@ use Rattle.spl_text.specs.declared.reading.Head.{Head}
 use Rattle.spl_text.specs.declared.reading.Head.TheVariants as head
 use Rattle.spl_text.specs.Arguments.{one_size_at, two_sizes_at, size_value_at, sizes_value_at, values_at}
 use Rattle.spl_text.specs.Fault.{TextFault, TooDeep, Shape, refusal, shape_fault}
-use Rattle.spl_text.specs.Reading.{heads, plain, arguments_by, two_formulas_by, too_deep, formula_at, line_at}
+use Rattle.spl_text.specs.Reading.{heads, plain, made_at, arguments_by, two_formulas_by, too_deep, formula_at, line_at}
 use Rattle.spl_text.specs.Spelling.{spells, spells_line, spelling, HasSpelling}
-use Rattle.spl_text.proofs.Heads.{one_size, two_sizes, size_value, sizes_value, values, two_formulas, arguments}
-use Rattle.spl_text.proofs.Heads.{by_heads, item, head_word, word_of_head, from_heads, to_heads, to_one_size}
-use Rattle.spl_text.proofs.Heads.{to_two_sizes, to_size_value, to_sizes_value, to_values, to_two_formulas, made}
-use Rattle.spl_text.proofs.Heads.{closing, comma}
+use Rattle.spl_text.proofs.Heads.{first, last, one_size, two_sizes, size_value, sizes_value, item, values, two_formulas}
+use Rattle.spl_text.proofs.Heads.{made, arguments, by_heads, head_word, word_of_head, opening, one, one_spelt}
+use Rattle.spl_text.proofs.Heads.{some_arguments, from_heads, to_heads}
 
 any : {B : Type 0} (L : List ℕ → B → Type 0) → Leaves Anything Anything L
 any L = behind_anything Anything L
@@ -49,37 +48,39 @@ close = word_reader Anything (codes ")")
 pub commas : places.IsReader {A = Unit {0}} Anything (word (codes ",")) (word_at (codes ","))
 commas = word_reader Anything (codes ",")
 
+-- a number and the parenthesis
+last_reader : {B : Type 0} {L : List ℕ → ℕ → Type 0} {read : Place ℕ → Result (ℕ × Place ℕ) ℕ} →
+    places.IsReader NoDigit L read → (make : ℕ → B) →
+    places.IsReader Anything (last L make)
+    (λ place. and_then (read place) (λ x after. and_then (word_at (codes ")") after) (λ _. pure_at (make x))))
+last_reader reader make =
+    places.bind_reader NoDigit Anything _ _ _ _ reader
+    (λ x u l. places.bind_reader Anything Anything _ _ _ _ close (λ w u l. places.pure_reader Anything (make x)) (λ w. any _))
+    (λ x. behind_word Anything (codes ")") _ refl)
+
+-- a number, a comma and more
+first_reader : {B : Type 0} {L : List ℕ → ℕ → Type 0} {read : Place ℕ → Result (ℕ × Place ℕ) ℕ} →
+    places.IsReader NoDigit L read
+    → (next : ℕ → List ℕ → B → Type 0) (next_at : ℕ → Place ℕ → Result (B × Place ℕ) ℕ) →
+    ((x : ℕ) → places.IsReader Anything (next x) (next_at x))
+    → places.IsReader Anything (first L next)
+    (λ place. and_then (read place) (λ x after. and_then (word_at (codes ",") after) (λ _. next_at x)))
+first_reader reader next next_at others =
+    places.bind_reader NoDigit Anything _ _ _ _ reader
+    (λ x u l. places.bind_reader Anything Anything _ _ _ _ commas (λ w u l. others x) (λ w. any _))
+    (λ x. behind_word Anything (codes ",") _ refl)
+
 pub one_size_reader : places.IsReader Anything one_size one_size_at
-one_size_reader =
-    places.bind_reader NoDigit Anything _ _ _ _ factors (λ n u l.
-    places.bind_reader Anything Anything _ _ _ _ close (λ w u l. places.pure_reader Anything n) (λ w. any _)) (λ n. behind_word Anything (codes ")") _ refl)
+one_size_reader = last_reader factors (λ n. n)
 
 pub two_sizes_reader : places.IsReader Anything two_sizes two_sizes_at
-two_sizes_reader =
-    places.bind_reader NoDigit Anything _ _ _ _ factors (λ n u l.
-    places.bind_reader Anything Anything _ _ _ _ commas (λ w u l.
-    places.bind_reader NoDigit Anything _ _ _ _ factors (λ r u l.
-    places.bind_reader Anything Anything _ _ _ _ close (λ w u l. places.pure_reader Anything (n, r)) (λ w. any _)) (λ r. behind_word Anything (codes ")") _ refl))
-    (λ w. any _)) (λ n. behind_word Anything (codes ",") _ refl)
+two_sizes_reader = first_reader factors _ _ (λ n. last_reader factors (λ r. (n, r)))
 
 pub size_value_reader : places.IsReader Anything size_value size_value_at
-size_value_reader =
-    places.bind_reader NoDigit Anything _ _ _ _ factors (λ n u l.
-    places.bind_reader Anything Anything _ _ _ _ commas (λ w u l.
-    places.bind_reader NoDigit Anything _ _ _ _ ring_values (λ r u l.
-    places.bind_reader Anything Anything _ _ _ _ close (λ w u l. places.pure_reader Anything (n, r)) (λ w. any _)) (λ r. behind_word Anything (codes ")") _ refl))
-    (λ w. any _)) (λ n. behind_word Anything (codes ",") _ refl)
+size_value_reader = first_reader factors _ _ (λ n. last_reader ring_values (λ w. (n, w)))
 
 pub sizes_value_reader : places.IsReader Anything sizes_value sizes_value_at
-sizes_value_reader =
-    places.bind_reader NoDigit Anything _ _ _ _ factors (λ n u l.
-    places.bind_reader Anything Anything _ _ _ _ commas (λ w u l.
-    places.bind_reader NoDigit Anything _ _ _ _ factors (λ s u l.
-    places.bind_reader Anything Anything _ _ _ _ commas (λ w u l.
-    places.bind_reader NoDigit Anything _ _ _ _ ring_values (λ r u l.
-    places.bind_reader Anything Anything _ _ _ _ close (λ w u l. places.pure_reader Anything (n, s, r)) (λ w. any _)) (λ r. behind_word Anything (codes ")") _ refl))
-    (λ w. any _)) (λ s. behind_word Anything (codes ",") _ refl))
-    (λ w. any _)) (λ n. behind_word Anything (codes ",") _ refl)
+sizes_value_reader = first_reader factors _ _ (λ n. first_reader factors _ _ (λ s. last_reader ring_values (λ w. (n, s, w))))
 
 -- ---- lists
 
@@ -143,56 +144,56 @@ unfolding other_heads
 heads_reader = one_of_reader Anything (codes "I(", head.I) other_heads refl
 
 -- numbers after a head, and what they make
-leaf_reader : {A : Type 0} (L : List ℕ → A → Type 0) (read : Place ℕ → Result (A × Place ℕ) ℕ) (make : A → Formula) →
-    places.IsReader Anything L read
-    → IsReader Exposes Anything (Follows L (λ x. pure (make x)))
-    (λ place. and_go_on (plain read place) (λ x. plain (pure_at (make x))))
-leaf_reader L read make reader =
-    bind_reader Exposes Anything Anything _ _ _ _ persists (plain_reader Exposes Anything _ _ reader) (λ x u l. plain_reader Exposes Anything _ _ (places.pure_reader Anything (make x))) (λ x. any _)
+leaf_reader : {A : Type 0} {L : List ℕ → A → Type 0} {read : Place ℕ → Result (A × Place ℕ) ℕ} →
+    places.IsReader Anything L read → (make : A → Formula) → IsReader Exposes Anything (made L make) (made_at read make)
+leaf_reader reader make =
+    bind_reader Exposes Anything Anything _ _ _ _ persists (plain_reader Exposes Anything _ _ reader)
+    (λ x u l. plain_reader Exposes Anything _ _ (places.pure_reader Anything (make x))) (λ x. any _)
+
+-- a piece and a word, and what comes behind them
+piece_reader : {A : Type 0} (C : List ℕ → Type 0) {L : List ℕ → A → Type 0}
+    {read : Place ℕ → Result (A × Place ℕ) (Stop TextFault)} → IsReader Exposes C L read → (w : List ℕ)
+    (next : A → List ℕ → Formula → Type 0) (next_at : A → Place ℕ → Result (Formula × Place ℕ) (Stop TextFault))
+    → ((x : A) → Leaves C Anything (word w >> next x)) → ((x : A) → IsReader Exposes Anything (next x) (next_at x)) →
+    IsReader Exposes Anything (Follows L (λ x. word w >> next x))
+    (λ place. and_go_on (read place) (λ x after. and_go_on (plain (word_at w) after) (λ _. next_at x)))
+piece_reader C reader w next next_at leaves others =
+    bind_reader Exposes C Anything _ _ _ _ persists reader
+    (λ x u l. bind_reader Exposes Anything Anything _ _ _ _ persists
+    (plain_reader Exposes Anything _ _ (word_reader Anything w)) (λ e u l. others x) (λ e. any _)) leaves
+
+ends : (f : Formula) → IsReader Exposes Anything (pure f) (plain (pure_at f))
+ends f = plain_reader Exposes Anything _ _ (places.pure_reader Anything f)
+
+pub part_sizes : IsReader Exposes NoDigit (positive 1048577) (plain (positive_at 1048577))
+part_sizes = plain_reader Exposes NoDigit _ _ factors
 
 module _ (read : Place ℕ → Result (Formula × Place ℕ) (Stop TextFault))
     (inner : IsReader Exposes Anything spells read) where
-  close_with : (f : Formula) → IsReader Exposes Anything (word (codes ")") >> pure f)
-      (λ place. and_go_on (plain (word_at (codes ")")) place) (λ _. plain (pure_at f)))
-  close_with f =
-      bind_reader Exposes Anything Anything _ _ _ _ persists (plain_reader Exposes Anything _ _ close) (λ w u l. plain_reader Exposes Anything _ _ (places.pure_reader Anything f)) (λ w. any _)
-
   two_formulas_reader : (make : Formula → Formula → Formula) →
       IsReader Exposes Anything (two_formulas make) (two_formulas_by read make)
   two_formulas_reader make =
-      bind_reader Exposes Anything Anything _ _ _ _ persists inner (λ a u l.
-      bind_reader Exposes Anything Anything _ _ _ _ persists (plain_reader Exposes Anything _ _ commas) (λ w u l.
-      bind_reader Exposes Anything Anything _ _ _ _ persists inner (λ b u l. close_with (make a b)) (λ b. any _)) (λ w. any _)) (λ a. any _)
+      piece_reader Anything inner (codes ",") _ _ (λ a. any _)
+      (λ a. piece_reader Anything inner (codes ")") _ _ (λ b. any _) (λ b. ends (make a b)))
 
   arguments_reader : (h : Head) → IsReader Exposes Anything (arguments h) (arguments_by read h)
-  arguments_reader head.I = leaf_reader one_size one_size_at Identity one_size_reader
-  arguments_reader head.Dft = leaf_reader size_value size_value_at (λ y. Fourier y.0 y.1) size_value_reader
-  arguments_reader head.Wht = leaf_reader one_size one_size_at Hadamard one_size_reader
-  arguments_reader head.T = leaf_reader sizes_value sizes_value_at (λ y. Twiddles y.0 y.1 y.2) sizes_value_reader
-  arguments_reader head.Diag = leaf_reader values values_at Diagonal values_reader
-  arguments_reader head.L = leaf_reader two_sizes two_sizes_at (λ y. Stride y.0 y.1) two_sizes_reader
-  arguments_reader head.Perm = leaf_reader values values_at Permutation values_reader
-  arguments_reader head.GtIn = leaf_reader two_sizes two_sizes_at (λ y. GoodThomasIn y.0 y.1) two_sizes_reader
-  arguments_reader head.GtOut = leaf_reader two_sizes two_sizes_at (λ y. GoodThomasOut y.0 y.1) two_sizes_reader
+  arguments_reader head.I = leaf_reader one_size_reader Identity
+  arguments_reader head.Dft = leaf_reader size_value_reader (λ y. Fourier y.0 y.1)
+  arguments_reader head.Wht = leaf_reader one_size_reader Hadamard
+  arguments_reader head.T = leaf_reader sizes_value_reader (λ y. Twiddles y.0 y.1 y.2)
+  arguments_reader head.Diag = leaf_reader values_reader Diagonal
+  arguments_reader head.L = leaf_reader two_sizes_reader (λ y. Stride y.0 y.1)
+  arguments_reader head.Perm = leaf_reader values_reader Permutation
+  arguments_reader head.GtIn = leaf_reader two_sizes_reader (λ y. GoodThomasIn y.0 y.1)
+  arguments_reader head.GtOut = leaf_reader two_sizes_reader (λ y. GoodThomasOut y.0 y.1)
   arguments_reader head.Times = two_formulas_reader Product
   arguments_reader head.Left =
-      bind_reader Exposes Anything Anything _ _ _ _ persists inner (λ a u l.
-      bind_reader Exposes Anything Anything _ _ _ _ persists (plain_reader Exposes Anything _ _ commas) (λ w u l.
-      bind_reader Exposes NoDigit Anything _ _ _ _ persists (plain_reader Exposes NoDigit _ _ factors) (λ k u l. close_with (TensorLeft a k))
-      (λ k. behind_word Anything (codes ")") _ refl)) (λ w. any _)) (λ a. any _)
+      piece_reader Anything inner (codes ",") _ _ (λ a. any _) (λ a. piece_reader NoDigit part_sizes (codes ")") _ _
+      (λ k. behind_word Anything (codes ")") _ refl) (λ k. ends (TensorLeft a k)))
   arguments_reader head.Right =
-      bind_reader Exposes NoDigit Anything _ _ _ _ persists (plain_reader Exposes NoDigit _ _ factors) (λ k u l.
-      bind_reader Exposes Anything Anything _ _ _ _ persists (plain_reader Exposes Anything _ _ commas) (λ w u l.
-      bind_reader Exposes Anything Anything _ _ _ _ persists inner (λ a u l. close_with (TensorRight k a)) (λ a. any _)) (λ w. any _))
-      (λ k. behind_word Anything (codes ",") _ refl)
+      piece_reader NoDigit part_sizes (codes ",") _ _ (λ k. behind_word Anything (codes ",") _ refl)
+      (λ k. piece_reader Anything inner (codes ")") _ _ (λ a. any _) (λ a. ends (TensorRight k a)))
   arguments_reader head.Sum = two_formulas_reader DirectSum
-
-pub one : Formula
-one = Identity 1
-
-pub one_spelt : HasSpelling one
-unfolding one
-one_spelt = (omega arith, omega arith)
 
 one_formula : by_heads (spelling one) one
 unfolding spells
@@ -201,53 +202,10 @@ one_formula = to_heads (spelling one) one (one_spelt, refl)
 pub one_factor : (0 < 1) × (1 < 1048577)
 one_factor = (omega arith, omega arith)
 
--- each head has some arguments
-pub some_arguments : (h : Head) (u : List ℕ) → one_of heads u h → Begins (arguments h) []
-unfolding one spells
-some_arguments head.I u l = (_, Identity 1, made one_size Identity _ 1 (to_one_size 1 one_factor))
-some_arguments head.Dft u l = (_, Fourier 1 1, made size_value (λ y. Fourier y.0 y.1) _ (1, 1) (to_size_value 1 1 one_factor (omega arith)))
-some_arguments head.Wht u l = (_, Hadamard 1, made one_size Hadamard _ 1 (to_one_size 1 one_factor))
-some_arguments head.T u l = (_, Twiddles 1 1 1, made sizes_value (λ y. Twiddles y.0 y.1 y.2) _ (1, 1, 1) (to_sizes_value 1 1 1 one_factor one_factor (omega arith)))
-some_arguments head.Diag u l = (_, Diagonal (1 ∷ []), made values Diagonal _ (1 ∷ []) (to_values (1 ∷ []) (omega arith, tt)))
-some_arguments head.L u l = (_, Stride 1 1, made two_sizes (λ y. Stride y.0 y.1) _ (1, 1) (to_two_sizes 1 1 one_factor one_factor))
-some_arguments head.Perm u l = (_, Permutation (1 ∷ []), made values Permutation _ (1 ∷ []) (to_values (1 ∷ []) (omega arith, tt)))
-some_arguments head.GtIn u l = (_, GoodThomasIn 1 1, made two_sizes (λ y. GoodThomasIn y.0 y.1) _ (1, 1) (to_two_sizes 1 1 one_factor one_factor))
-some_arguments head.GtOut u l = (_, GoodThomasOut 1 1, made two_sizes (λ y. GoodThomasOut y.0 y.1) _ (1, 1) (to_two_sizes 1 1 one_factor one_factor))
-some_arguments head.Times u l = (_, Product one one, to_two_formulas Product one one one_spelt one_spelt)
-some_arguments head.Sum u l = (_, DirectSum one one, to_two_formulas DirectSum one one one_spelt one_spelt)
-some_arguments head.Left u l = (
-  spelling one ++ (codes "," ++ (decimal 1 ++ codes ")")),
-  TensorLeft one 1,
-  follows spells _ (spelling one) (codes "," ++ (decimal 1 ++ codes ")")) one (TensorLeft one 1) (one_spelt, refl)
-      (comma _ (decimal 1 ++ codes ")") (TensorLeft one 1) (follows (positive 1048577) _ (decimal 1) (codes ")") 1 (TensorLeft one 1) (one_factor.0, one_factor.1, refl) (closing (TensorLeft one 1)))),
-)
-some_arguments head.Right u l = (
-  decimal 1 ++ (codes "," ++ (spelling one ++ codes ")")),
-  TensorRight 1 one,
-  follows (positive 1048577) _ (decimal 1) (codes "," ++ (spelling one ++ codes ")")) 1 (TensorRight 1 one) (one_factor.0, one_factor.1, refl)
-      (comma _ (spelling one ++ codes ")") (TensorRight 1 one) (follows spells _ (spelling one) (codes ")") one (TensorRight 1 one) (one_spelt, refl) (closing (TensorRight 1 one)))),
-)
-
--- the last letter of a head is a parenthesis
-opens : (h : Head) → (x : List ℕ) × (head_word h ≡ x ++ 40 ∷ [])
-opens head.I = (codes "I", refl)
-opens head.Dft = (codes "DFT", refl)
-opens head.Wht = (codes "WHT", refl)
-opens head.T = (codes "T", refl)
-opens head.Diag = (codes "DIAG", refl)
-opens head.L = (codes "L", refl)
-opens head.Perm = (codes "PERM", refl)
-opens head.GtIn = (codes "GTIN", refl)
-opens head.GtOut = (codes "GTOUT", refl)
-opens head.Times = (codes "TIMES", refl)
-opens head.Left = (codes "LEFT", refl)
-opens head.Right = (codes "RIGHT", refl)
-opens head.Sum = (codes "SUM", refl)
-
 deep_answers : (place : Place ℕ) (r : Result (Head × Place ℕ) ℕ) → places.Answers Anything (one_of heads) place r →
     Answers Exposes Anything by_heads place (too_deep r)
 deep_answers place (Ok x) p =
-    let o = opens x.0 in
+    let o = opening x.0 in
     (o.0, x.1.rest, p.whole ∙ ap (λ y. y ++ x.1.rest) (word_of_head p.text x.0 p.spelt ∙ o.1) ∙ append_assoc o.0 (40 ∷ []) x.1.rest, refl)
 deep_answers place (Err left) p = bind_lost Anything Anything (one_of heads) arguments (λ h. any (arguments h)) some_arguments place left p
 
@@ -287,7 +245,7 @@ head_shorter : (place next : Place ℕ) (h : Head) → one_of_at heads place ≡
     length next.rest + 1 ≤ length place.rest
 head_shorter place next h e =
     let took = subst (λ r. places.Answers Anything (one_of heads) place r) e (heads_reader.each place) in
-    let o = opens h in
+    let o = opening h in
     let spelt : took.text ≡ o.0 ++ 40 ∷ [] = word_of_head took.text h took.spelt ∙ o.1 in
     omega (arith, ap length took.whole, length-append took.text next.rest, ap length spelt, length-append o.0 (40 ∷ []))
 
