@@ -11,7 +11,6 @@ use Rattle.io_edge.specs.Feed.{Fed, limit}
 use Rattle.data_stream.specs.Data.{tokens, closed_part, is_good}
 use Rattle.data_stream.specs.Reading.{GivesVector}
 use Rattle.data_stream.specs.Vectors.{Cut, IsReady}
-use Rattle.data_stream.specs.declared.vectors.Next.{Next}
 use Rattle.data_stream.specs.declared.vectors.Next.TheVariants.{Vector, End}
 use Rattle.data_stream.specs.declared.DataFault.{DataFault}
 use Rattle.data_stream.specs.declared.DataFault.TheVariants as data_fault

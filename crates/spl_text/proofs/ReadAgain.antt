@@ -19,12 +19,12 @@ use Rattle.spl_text.specs.declared.reading.Halt.{Halt}
 use Rattle.spl_text.specs.declared.reading.Halt.TheVariants as halts
 use Rattle.spl_text.specs.declared.reading.SplFault.TheVariants as faults
 use Rattle.spl_text.specs.Answer.{SaysAll, fault_of}
-use Rattle.spl_text.specs.Arguments.{factor_at, comma_at, close_at, one_size_at, two_sizes_at, size_value_at}
+use Rattle.spl_text.specs.Arguments.{factor_at, one_size_at, two_sizes_at, size_value_at}
 use Rattle.spl_text.specs.Arguments.{sizes_value_at, values_at}
 use Rattle.spl_text.specs.Fault.{TextFault, TooDeep, Shape, refusal, shape_fault}
-use Rattle.spl_text.specs.Reading.{heads, plain, made_at, arguments_by, two_formulas_by, tensor_left_by}
-use Rattle.spl_text.specs.Reading.{tensor_right_by, formula_at, ended_formula, all_of, whole_line}
-use Rattle.spl_text.specs.Spelling.{spells, spells_line, spelling, values_text, IsFactor, HasSpelling}
+use Rattle.spl_text.specs.Reading.{heads, plain, made_at, arguments_by}
+use Rattle.spl_text.specs.Reading.{formula_at, ended_formula, all_of, whole_line}
+use Rattle.spl_text.specs.Spelling.{spells, spells_line, spelling, IsFactor, HasSpelling}
 use Rattle.spl_text.proofs.Heads.{one_size, two_sizes, size_value, sizes_value, values, head_word, head_of_word}
 use Rattle.spl_text.proofs.Heads.{one_size_texts, two_sizes_texts, size_value_texts, sizes_value_texts, values_texts}
 use Rattle.spl_text.proofs.Readers.{heads_reader, factors, one_size_reader, two_sizes_reader}

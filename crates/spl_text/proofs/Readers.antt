@@ -1,10 +1,10 @@
 -- The reader of formulas.
-use Rattle.std.proofs.Common.{◌≡◌, ℕ, zero, suc, ◌+◌, ◌-◌, ◌^◌, ◌<◌, ◌≤◌, List, [], ◌∷◌, ◌++◌, length, codes, decimal}
+use Rattle.std.proofs.Common.{◌≡◌, ℕ, zero, suc, ◌+◌, ◌-◌, ◌^◌, ◌<◌, ◌≤◌, List, [], ◌∷◌, ◌++◌, length, codes}
 use Rattle.std.proofs.Common.{Result, Ok, Err, Option, Some, None, refl, sym, ap, ap₂, IfOk, subst, ◌∙◌, append_assoc}
 use Rattle.std.proofs.Common.{arith}
 use Rattle.std.specs.Option.{option_map}
 use Rattle.std.proofs.lemmas.List.{length-append}
-use Rattle.grammar.specs.Grammar.{◌>>◌, Follows, pure, word, one_of, number, positive, many, Begins}
+use Rattle.grammar.specs.Grammar.{◌>>◌, Follows, pure, word, one_of, number, positive, many}
 use Rattle.grammar.specs.Reading.{Place, and_then, pure_at, one_of_at, word_at, number_at, positive_at, named_number_at, all_at}
 use Rattle.grammar.specs.Stops.{Stop, and_go_on, spelling_only, tested_at, HasFault}
 use Rattle.grammar.specs.Cursor.{Gives}
@@ -12,7 +12,7 @@ use Rattle.grammar.specs.declared.token.Stuck.{Stuck}
 use Rattle.grammar.proofs.Numbers.{NoDigit}
 use Rattle.grammar.proofs.Parts.{Anything, Nothing, Behind, behind_anything, behind_word, named_no_digit}
 use Rattle.grammar.proofs.Parts.{named_excluded, keeps_pure, word_reader, one_of_reader, number_reader}
-use Rattle.grammar.proofs.Parts.{named_number_reader, starts, follows}
+use Rattle.grammar.proofs.Parts.{named_number_reader, starts}
 use Rattle.grammar.proofs.Many.{many_reader}
 use Rattle.grammar.proofs.Positive.{positive_reader}
 use Rattle.grammar.proofs.Places as places
@@ -26,9 +26,9 @@ use Rattle.spl_text.specs.declared.reading.Head.TheVariants as head
 use Rattle.spl_text.specs.Arguments.{one_size_at, two_sizes_at, size_value_at, sizes_value_at, values_at}
 use Rattle.spl_text.specs.Fault.{TextFault, TooDeep, Shape, refusal, shape_fault}
 use Rattle.spl_text.specs.Reading.{heads, plain, made_at, arguments_by, two_formulas_by, too_deep, formula_at, line_at}
-use Rattle.spl_text.specs.Spelling.{spells, spells_line, spelling, HasSpelling}
+use Rattle.spl_text.specs.Spelling.{spells, spells_line, spelling}
 use Rattle.spl_text.proofs.Heads.{first, last, one_size, two_sizes, size_value, sizes_value, item, values, two_formulas}
-use Rattle.spl_text.proofs.Heads.{made, arguments, by_heads, head_word, word_of_head, opening, one, one_spelt}
+use Rattle.spl_text.proofs.Heads.{made, arguments, by_heads, word_of_head, opening, one, one_spelt}
 use Rattle.spl_text.proofs.Heads.{some_arguments, from_heads, to_heads}
 
 any : {B : Type 0} (L : List ℕ → B → Type 0) → Leaves Anything Anything L

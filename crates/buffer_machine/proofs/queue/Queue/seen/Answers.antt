@@ -1,4 +1,4 @@
-use Rattle.std.proofs.Common.{◌∙◌, sym, arith}
+use Rattle.std.proofs.Common.{arith}
 use Rattle.buffer_machine.proofs.Newest.{store_there, address_below, word_there, seen_in_memory, seen_in_store}
 use Rattle.buffer_machine.proofs.queue.Queue.seen.Goals as goal
 
