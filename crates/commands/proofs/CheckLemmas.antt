@@ -122,7 +122,8 @@ cut_told request room before after out out' read text cost consumed same end sho
   read = read;
   consumed = consumed;
   meets = λ rest tells.
-      let judged_here = subst (λ l. IsVerdict request l (verdict.Least cost)) same judged in
+      let judged_here : IsVerdict request read (verdict.Least cost) =
+      subst (λ l. IsVerdict request l (verdict.Least cost)) same judged in
       cut_meets (judges request room) read rest (least_line cost) out out'
       (over_left after rest tells end, short, (verdict.Least cost, judged_here, refl, refl)) w;
 }
