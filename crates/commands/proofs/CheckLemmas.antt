@@ -25,6 +25,7 @@ use Rattle.commands.specs.SpiralInput.Outcomes.{Meets, SourceMeets}
 use Rattle.commands.proofs.Documents.{generate_refusal}
 use Rattle.commands.proofs.SpiralInput.StageLemmas.{stage_refused, stage_told}
 use Rattle.io_edge.proofs.ToldLemmas.{over_left}
+use Rattle.commands.proofs.SpiralInput.OutcomeLemmas.{answered_meets, broken_meets, cut_meets, meets_nothing}
 use Rattle.commands.proofs.SpiralInput.OutcomeLemmas.{told_nothing}
 
 abbrev pub judges : Request → Work
@@ -49,20 +50,14 @@ unread_told request room before after out read rest_fault.TooLong consumed given
   meets = λ rest tells.
       let count : length (read ++ rest) ≡ length read + length rest = length-append read rest in
       let long : certificate_limit < length (read ++ rest) = omega (arith, count, given) in
-      record {
-        answer = λ d. ([], inl (long, refl, refl), Appends-nil out);
-        read_fault = λ e. absurd (cc);
-        write_fault = λ e. absurd (cc);
-      };
+      meets_nothing (judges request room) (read ++ rest) rest out (status_of_rest rest_fault.TooLong)
+      (λ d. inl (long, refl, refl)) (λ e. cc) (λ e. cc);
 }
 unread_told request room before after out read rest_fault.ReadFault consumed given = record {
   read = read;
   consumed = consumed;
-  meets = λ rest tells. record {
-    answer = λ d. absurd (d.read refl);
-    read_fault = λ _. (read, [], refl, (given, refl), Appends-nil out);
-    write_fault = λ e. absurd (cc);
-  };
+  meets = λ rest tells.
+      broken_meets (judges request room) (read ++ rest) rest out out (read, [], refl, (given, refl), Appends-nil out);
 }
 unread_told request room before after out read rest_fault.NoMemory consumed given = told_nothing (judges request room) before after out read consumed
 
@@ -83,21 +78,15 @@ judged_of request context text seen found other c q e judged =
 judged_meets : (request : Request) (room : ℕ) (bytes left : List ℕ) (out out' : Option (List ℕ)) (found : Verdict)
     → length bytes ≤ certificate_limit → IsVerdict request bytes found → Appends out out' (verdict_text found)
     → Meets (judges request room) bytes left out out' (status_of_verdict found)
-judged_meets request room bytes left out out' (verdict.Least cost) few judged w = record {
-  answer = λ d. (least_line cost, inr (few, (verdict.Least cost, judged, refl, refl)), w);
-  read_fault = λ e. absurd (cc);
-  write_fault = λ e. absurd (cc);
-}
-judged_meets request room bytes left out out' verdict.Unread few judged w = record {
-  answer = λ d. ([], inr (few, (verdict.Unread, judged, refl, refl)), w);
-  read_fault = λ e. absurd (cc);
-  write_fault = λ e. absurd (cc);
-}
-judged_meets request room bytes left out out' (verdict.Wrong size given found) few judged w = record {
-  answer = λ d. ([], inr (few, (verdict.Wrong size given found, judged, refl, refl)), w);
-  read_fault = λ e. absurd (cc);
-  write_fault = λ e. absurd (cc);
-}
+judged_meets request room bytes left out out' (verdict.Least cost) few judged w =
+    answered_meets (judges request room) bytes left out out' (status_of_verdict (verdict.Least cost))
+    (λ d. (least_line cost, inr (few, (verdict.Least cost, judged, refl, refl)), w)) (λ e. cc) (λ e. cc)
+judged_meets request room bytes left out out' verdict.Unread few judged w =
+    answered_meets (judges request room) bytes left out out' (status_of_verdict verdict.Unread)
+    (λ d. ([], inr (few, (verdict.Unread, judged, refl, refl)), w)) (λ e. cc) (λ e. cc)
+judged_meets request room bytes left out out' (verdict.Wrong size given found) few judged w =
+    answered_meets (judges request room) bytes left out out' (status_of_verdict (verdict.Wrong size given found))
+    (λ d. ([], inr (few, (verdict.Wrong size given found, judged, refl, refl)), w)) (λ e. cc) (λ e. cc)
 
 judged_told : (request : Request) (room : ℕ) (before after out out' : Option (List ℕ)) (read text : List ℕ)
     (found : Verdict)
@@ -132,22 +121,11 @@ cut_told : (request : Request) (room : ℕ) (before after out out' : Option (Lis
 cut_told request room before after out out' read text cost consumed same end short judged w = record {
   read = read;
   consumed = consumed;
-  meets = λ rest tells. record {
-    answer = λ d. absurd (d.write refl);
-    read_fault = λ e. absurd (cc);
-    write_fault = λ _. (
-      read,
-      [],
-      least_line cost,
-      refl,
-      (
-        over_left after rest tells end,
-        short,
-        (verdict.Least cost, subst (λ l. IsVerdict request l (verdict.Least cost)) same judged, refl, refl),
-      ),
-      w,
-    );
-  };
+  meets = λ rest tells.
+      let judged_here : IsVerdict request read (verdict.Least cost) =
+      subst (λ l. IsVerdict request l (verdict.Least cost)) same judged in
+      cut_meets (judges request room) read rest (least_line cost) out out'
+      (over_left after rest tells end, short, (verdict.Least cost, judged_here, refl, refl)) w;
 }
 
 -- a rest that was judged right, and the line that says so was not written whole

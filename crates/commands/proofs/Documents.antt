@@ -25,6 +25,7 @@ use Rattle.commands.specs.Equations.Front.{staged}
 use Rattle.commands.specs.Programs.{IsProgramFor}
 use Rattle.commands.specs.SpiralInput.Outcomes.{Meets}
 use Rattle.commands.specs.SpiralInput.Refusals.{IsRefusal}
+use Rattle.commands.proofs.SpiralInput.OutcomeLemmas.{answered_meets, cut_meets}
 use Rattle.commands.proofs.SpiralInput.StageLemmas.{stage_meets}
 
 -- a fault of the making refuses the request
@@ -71,11 +72,9 @@ pub document_meets : (wanted : Document) (request : Request) (room : ℕ) (bytes
     → IsDocument wanted request text → Appends out out' text
     → Meets (staged (chosen request) (document_work wanted) room) bytes left out out' Success
 document_meets wanted request room bytes left out out' text is wrote =
-    stage_meets (chosen request) (document_work wanted) room is.0 bytes left out out' Success is.1 (record {
-      answer = λ d. (text, (refl, is.2), wrote);
-      read_fault = λ e. absurd (cc);
-      write_fault = λ e. absurd (cc);
-    })
+    stage_meets (chosen request) (document_work wanted) room is.0 bytes left out out' Success is.1
+    (answered_meets (document_work wanted is.0 room) bytes left out out' Success
+    (λ d. (text, (refl, is.2), wrote)) (λ e. cc) (λ e. cc))
 
 -- a text that is not written whole
 pub document_cut : (wanted : Document) (request : Request) (room : ℕ) (bytes : List ℕ) (out out' : Option (List ℕ))
@@ -83,8 +82,5 @@ pub document_cut : (wanted : Document) (request : Request) (room : ℕ) (bytes :
     → IsDocument wanted request text → AppendsPrefix out out' text
     → Meets (staged (chosen request) (document_work wanted) room) bytes bytes out out' WriteFault
 document_cut wanted request room bytes out out' text is wrote =
-    stage_meets (chosen request) (document_work wanted) room is.0 bytes bytes out out' WriteFault is.1 (record {
-      answer = λ d. absurd (d.write refl);
-      read_fault = λ e. absurd (cc);
-      write_fault = λ _. ([], [], text, refl, (refl, is.2), wrote);
-    })
+    stage_meets (chosen request) (document_work wanted) room is.0 bytes bytes out out' WriteFault is.1
+    (cut_meets (document_work wanted is.0 room) [] bytes text out out' (refl, is.2) wrote)

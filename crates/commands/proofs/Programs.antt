@@ -1,11 +1,11 @@
 -- What is known of the program of a request's chosen tree.
-use Rattle.std.proofs.Common.{◌≡◌, Ok, sym, ap, subst, ◌∙◌}
+use Rattle.std.proofs.Common.{◌≡◌, Ok, ap, ◌∙◌}
 use Rattle.matrix_meaning.specs.Valid.{IsInRange}
 use Rattle.matrix_meaning.specs.declared.Request.{Request}
-use Rattle.icode.specs.Actions.{PlainFits, plain_code}
+use Rattle.icode.specs.Actions.{plain_code}
 use Rattle.icode.specs.Machine.{Code}
 use Rattle.icode.specs.Plain.{PlainProgram}
-use Rattle.icode.specs.Program.{Fits, code_of}
+use Rattle.icode.specs.Program.{code_of}
 use Rattle.icode.specs.declared.program.Program.{Program}
 use Rattle.generate.proofs.GoodPrograms.{programs_are_good}
 use Rattle.generate.specs.Good.{IsGood}
@@ -32,13 +32,7 @@ pub code_made : (request : Request) (program : Program) → IsProgramFor request
     IsCodeFor request (code_of program)
 code_made request program made = (made.0, made.1, ap plain_code made.2)
 
--- the program stands within its own limits
-pub program_fits : (request : Request) (program : Program) → IsInRange request → IsProgramFor request program →
-    Fits program
-program_fits request program in_range made =
-    subst PlainFits (sym made.2) (programs_are_good request made.0 in_range made.1).0.fits
-
--- and has the numbers of its request
+-- the program has the numbers of its request
 pub program_size : (request : Request) (program : Program) → IsInRange request → IsProgramFor request program →
     program.size ≡ request.size
 program_size request program in_range made =

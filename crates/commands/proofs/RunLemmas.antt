@@ -1,8 +1,7 @@
 -- A good program's runs for its request.
-use Rattle.std.proofs.Common.{◌≡◌, ◌≢◌, ◌<◌, ◌/◌, ℕ, true, false, Vec, Global, List, [], ◌++◌, None, Ok, Err, Result}
+use Rattle.std.proofs.Common.{◌≡◌, ◌<◌, ◌/◌, ℕ, true, false, Vec, Global, List, [], ◌++◌, None}
 use Rattle.std.proofs.Common.{length, map, refl, sym, ap, subst, ◌∙◌, arith}
 use Rattle.std.proofs.Math.Nat.{div-mul-le_self}
-use Rattle.std.proofs.lemmas.List.Elements.{All-from_get_or}
 use Rattle.std.specs.List.{All}
 use Rattle.std.specs.declared.option.Option.{Option}
 use Rattle.icode.proofs.BufferedRuns.{memory_of_buffered}
@@ -18,24 +17,19 @@ use Rattle.icode.specs.declared.event.Event.TheVariants.{Turn}
 use Rattle.icode.specs.declared.program.Program.{Program}
 use Rattle.data_stream.specs.Line.{line_of}
 use Rattle.generate.specs.Emission.Whole.{emission}
-use Rattle.io_edge.specs.Faults.{Reports}
 use Rattle.listing_text.specs.Listing.{listing_of}
 use Rattle.matrix_meaning.specs.Asked.{asked_of}
 use Rattle.matrix_meaning.specs.Valid.{IsInRange}
 use Rattle.matrix_meaning.specs.declared.Request.{Request}
-use Rattle.par_machine.proofs.Schedules.{turns_there}
 use Rattle.request_text.specs.Schedule.{Plan}
 use Rattle.request_text.specs.Turns.{turns_of}
 use Rattle.runs.proofs.StreamLemmas.{texts_same}
 use Rattle.runs.specs.Stream.{HasNoStranger, lines, texts, vectors_of}
 use Rattle.runs.specs.Texts.{buffered_text}
-use Rattle.runs.specs.declared.stream.StreamFault.{StreamFault}
-use Rattle.runs.specs.declared.stream.StreamFault.TheVariants as stream
 use Rattle.spiral_words.specs.declared.Order.{Order}
 use Rattle.spiral_words.specs.declared.Order.TheVariants as order
 use Rattle.spiral_words.specs.declared.RequestCommand.TheVariants as command
 use Rattle.spiral_words.specs.declared.spiral_status.status.Status.{Status}
-use Rattle.spiral_words.specs.declared.spiral_status.status.Status.TheVariants.{Success, ReadFault, WriteFault}
 use Rattle.commands.specs.Equations.Orders.{chosen}
 use Rattle.commands.specs.Equations.Requests.{work_for}
 use Rattle.commands.specs.Equations.Run.{run_work}
@@ -45,13 +39,12 @@ use Rattle.commands.specs.OrderText.{order_text}
 use Rattle.commands.specs.Prepared.{stream_work}
 use Rattle.commands.specs.Programs.{IsProgramFor}
 use Rattle.commands.specs.SpiralInput.Commands.{first_stranger}
-use Rattle.commands.specs.SpiralInput.Ends.{EndsCleanly}
 use Rattle.commands.specs.SpiralInput.Orders.{procs_in}
 use Rattle.commands.specs.SpiralInput.Outcomes.{SourceMeets}
 use Rattle.commands.proofs.Documents.{with_tree}
 use Rattle.commands.proofs.Programs.{IsGoodCode, code_made, good_code, program_modulus, program_procs, program_size}
 use Rattle.commands.proofs.Requests.{limits}
-use Rattle.commands.proofs.SpiralInput.DataLemmas.{lines_equal}
+use Rattle.commands.proofs.SpiralInput.DataLemmas.{lines_equal, turns_below}
 use Rattle.commands.proofs.SpiralInput.StageLemmas.{stage_told}
 use Rattle.commands.proofs.SpiralInput.Within.{told_within}
 use Rattle.commands.proofs.StreamLemmas.{mapping_within}
@@ -66,8 +59,7 @@ good_procs request code good = ap (λ (k : Code). k.procs) good.is ∙ good.good
 pub good_turns : (plan : Plan) (request : Request) (code : Code) → IsGoodCode request code → IsInRange request →
     HasNoStranger plan request.procs → All (λ q. q < request.procs) (turns_of plan code.procs)
 good_turns plan request code good in_range none =
-    subst (λ p. All (λ q. q < request.procs) (turns_of plan p)) (sym (good_procs request code good))
-    (All-from_get_or (λ q. q < request.procs) (turns_of plan request.procs) 0 (turns_there plan request.procs (limits request in_range).procs none))
+    turns_below plan code.procs request.procs (good_procs request code good) (limits request in_range).procs none
 
 -- where the request has no stranger, its program has none
 pub no_stranger : (names : List ℕ) (request : Request) (program : Program) → IsInRange request →
@@ -168,31 +160,3 @@ trace_told request program front way room before after out out' status in_range 
     let vectors = vectors_of request.size request.modulus ts in
     written ∙ ap (λ l. l ++ texts text vectors) (listed ∙ ap listing_of made.2) ∙ ap (λ (f : List ℕ → List ℕ). listing_of own ++ texts f vectors) same))
     (sized request program Writes room before after out out' status in_range made p))
-
--- How it ends
-
-abbrev passed : Result (Unit {0}) StreamFault
-passed = Ok tt
-
--- a run that ends well reports no fault
-passes : (fault : StreamFault) (before now : ℕ) (status : Status) → Success ≢ status →
-    Reports before now (passed ≡ Err fault)
-    → Reports before now (Success ≡ status)
-passes fault before now status other r =
-    record { later = r.later; cause = λ e. absurd (other e); told = λ h. absurd (clash (r.told h)) }
-  where
-    clash : passed ≡ Err fault → ⊥
-    clash e = absurd (cc)
-
--- so no read and no write failed
-pub passed_ends : (held : List ℕ) (read_before read_now write_before write_now : ℕ) (out out' : Option (List ℕ))
-    → Reports read_before read_now (passed ≡ Err stream.ReadFault)
-    → Reports write_before write_now (passed ≡ Err stream.WriteFault)
-    → EndsCleanly Success held read_before read_now write_before write_now out out'
-passed_ends held read_before read_now write_before write_now out out' read write = record {
-  empty = λ e. absurd (cc);
-  usage = λ e. cc;
-  read = passes stream.ReadFault read_before read_now ReadFault (λ e. cc) read;
-  write = passes stream.WriteFault write_before write_now WriteFault (λ e. cc) write;
-  memory = λ e. absurd (cc);
-}

@@ -13,7 +13,7 @@ use Rattle.matrix_meaning.specs.Valid.{IsInRange}
 use Rattle.tree_model.specs.Chosen.{whole_cost}
 use Rattle.icode.specs.declared.action.Action.{Action}
 use Rattle.icode.specs.declared.action.Counts.{Counts}
-use Rattle.icode.specs.Machine.{Code, State, IsCode, IsApart, results, runs, counts_of, counts_so_far, weighted}
+use Rattle.icode.specs.Machine.{Code, State, IsCode, results, runs, counts_of, counts_so_far, weighted}
 use Rattle.icode.specs.Machine.{whole_counts}
 use Rattle.icode.specs.Actions.{plain_code}
 use Rattle.generate.specs.Emission.Whole.{emission}
@@ -70,25 +70,32 @@ sample_residues request code m n seed xs good in_range same is =
     let some : 0 < code.modulus = omega (arith, of_request, (limits request in_range).modulus) in
     rw (is, same) (sample_below code.modulus n seed some)
 
+-- a count of all processors together, after a finished run of a good program
+total_of_run : (request : Request) (code after : Code) (vector turns : List ℕ) (state : State) (pick : Counts → ℕ)
+    → (good : IsGoodCode request code) → after ≡ code → state ≡ runs code vector turns
+    → sum_below after.procs (λ q. pick (counts_so_far after state q))
+    ≡ sum_below (plain_code (emission request good.tree)).procs
+    (λ q. pick (whole_counts (plain_code (emission request good.tree)) q))
+total_of_run request code after vector turns state pick good same ran =
+    let is : IsCode code = subst IsCode (sym good.is) (code_is (emission request good.tree)) in
+    ap (λ (k : Code). sum_below k.procs (λ q. pick (counts_so_far k state q))) same
+    ∙ sum_below-same code.procs _ _ (λ q _.
+    ap pick (ap (λ s. counts_so_far code s q) ran ∙ counts_of_runs code is vector turns q))
+    ∙ ap (λ (k : Code). sum_below k.procs (λ q. pick (whole_counts k q))) good.is
+
 -- a finished run of a good program is counted in 64 bits
 pub good_counts : (request : Request) (code : Code) (state : State) (vector turns : List ℕ) → IsGoodCode request code →
     IsInRange request → state ≡ runs code vector turns → AreCountable code state
 good_counts request code state vector turns good in_range ran =
     let p = emission request good.tree in
-    let header = good.good.header in
-    let few : p.lanes ≤ 16 = omega (arith, header.lanes, (limits request in_range).lanes) in
-    let is : IsCode code = subst IsCode (sym good.is) (code_is p) in
-    let apart : (phase : ℕ) → IsApart code phase = λ phase. subst (λ (k : Code). IsApart k phase) (sym good.is) (good.good.apart phase) in
-    let whole : (q : ℕ) → counts_so_far code state q ≡ whole_counts (plain_code p) q = λ q.
-    ap (λ s. counts_so_far code s q) ran ∙ counts_of_runs code is vector turns q ∙ ap (λ (k : Code). whole_counts k q) good.is in
-    let same : (pick : Counts → ℕ) → sum_below code.procs (λ q. pick (counts_so_far code state q)) ≡ sum_below p.procs (λ q. pick (whole_counts (plain_code p) q)) = λ pick.
-    ap (λ (k : Code). sum_below k.procs (λ q. pick (counts_so_far code state q))) good.is ∙ sum_below-same p.procs _ _ (λ q _. ap pick (whole q)) in
+    let few : p.lanes ≤ 16 = omega (arith, good.good.header.lanes, (limits request in_range).lanes) in
+    let total = λ (pick : Counts → ℕ). total_of_run request code code vector turns state pick good refl ran in
     let small : (actions : List Action) → AreSmall (length actions * p.lanes) (counts_of p.lanes actions) = counts_small p.lanes in
     record {
-      operations = omega (arith, same (λ c. c.operations), within_word p good.good.fits few (λ c. c.operations) (λ actions. (small actions).operations));
-      muls = omega (arith, same (λ c. c.muls), within_word p good.good.fits few (λ c. c.muls) (λ actions. (small actions).muls));
-      loads = omega (arith, same (λ c. c.loads), within_word p good.good.fits few (λ c. c.loads) (λ actions. (small actions).loads));
-      stores = omega (arith, same (λ c. c.stores), within_word p good.good.fits few (λ c. c.stores) (λ actions. (small actions).stores));
+      operations = omega (arith, total (λ c. c.operations), within_word p good.good.fits few (λ c. c.operations) (λ actions. (small actions).operations));
+      muls = omega (arith, total (λ c. c.muls), within_word p good.good.fits few (λ c. c.muls) (λ actions. (small actions).muls));
+      loads = omega (arith, total (λ c. c.loads), within_word p good.good.fits few (λ c. c.loads) (λ actions. (small actions).loads));
+      stores = omega (arith, total (λ c. c.stores), within_word p good.good.fits few (λ c. c.stores) (λ actions. (small actions).stores));
     }
 
 -- the vector of a seed is one of the request
@@ -123,17 +130,12 @@ pub costs : (request : Request) (code after : Code) (vector turns : List ℕ) (s
     → weighted request.weight counts ≡ whole_cost request good.tree
 costs request code after vector turns state counts good in_range same ran operations muls =
     let program = emission request good.tree in
-    let is : IsCode code = subst IsCode (sym good.is) (code_is program) in
-    let apart : (phase : ℕ) → IsApart code phase = λ phase. subst (λ (k : Code). IsApart k phase) (sym good.is) (good.good.apart phase) in
-    let whole : (q : ℕ) → counts_so_far code state q ≡ whole_counts code q = λ q. ap (λ s. counts_so_far code s q) ran ∙ counts_of_runs code is vector turns q in
     let some : 0 < (plain_code program).procs = omega (arith, good.good.header.procs, (limits request in_range).procs) in
     let share : (q : ℕ) → q < (plain_code program).procs → (plain_code program).procs * weighted request.weight (whole_counts (plain_code program) q) ≡ whole_cost request good.tree =
     λ q below. ap (λ n. n * weighted request.weight (whole_counts (plain_code program) q)) good.good.header.procs ∙ good.good.operations q (subst (λ n. q < n) good.good.header.procs below) in
     ap₂ (λ o m. o + (request.weight - 1) * m) operations muls
     ∙ sym (sum-weighted request.weight after.procs (λ q. counts_so_far after state q))
-    ∙ ap (λ (k : Code). sum_below k.procs (λ q. weighted request.weight (counts_so_far k state q))) same
-    ∙ sum_below-same code.procs _ _ (λ q _. ap (weighted request.weight) (whole q))
-    ∙ ap (λ (k : Code). sum_below k.procs (λ q. weighted request.weight (whole_counts k q))) good.is
+    ∙ total_of_run request code after vector turns state (weighted request.weight) good same ran
     ∙ whole-of (plain_code program).procs (whole_cost request good.tree) (λ q. weighted request.weight (whole_counts (plain_code program) q)) some share
 
 -- which is counted in 64 bits
@@ -157,22 +159,17 @@ pub sampled : (request : Request) (code after : Code) (plan : Plan) (m n seed : 
 sampled request code after plan m n seed vector y state sum counts text good in_range none same modulus size v run ran s operations muls loads stores t =
     let turns = turns_of plan code.procs in
     let program = emission request good.tree in
-    let is : IsCode code = subst IsCode (sym good.is) (code_is program) in
-    let apart : (phase : ℕ) → IsApart code phase = λ phase. subst (λ (k : Code). IsApart k phase) (sym good.is) (good.good.apart phase) in
     let here : vector ≡ sample_vector request.modulus request.size seed = v ∙ sample_is request code m n seed good modulus size in
     let fits : IsVector request vector = subst (IsVector request) (sym here) (sample_fits request seed in_range) in
     let times : y ≡ asked_of request vector = run ∙ ap (λ k. results k vector turns) good.is ∙ good.good.product vector turns fits (good_turns plan request code good in_range none) in
     let of_request : m ≡ request.modulus = modulus ∙ ap (λ (k : Code). k.modulus) good.is ∙ good.good.header.modulus in
-    let whole : (q : ℕ) → counts_so_far code state q ≡ whole_counts code q = λ q. ap (λ s. counts_so_far code s q) ran ∙ counts_of_runs code is vector turns q in
     let sum_is = s ∙ ap₂ weighted_sum of_request (times ∙ ap (asked_of request) here) in
     let operations_is : weighted request.weight counts ≡ whole_cost request good.tree = costs request code after vector turns state counts good in_range same ran operations muls in
     let loads_is : counts.loads ≡ whole_loads request good.tree =
-    loads ∙ ap (λ (k : Code). sum_below k.procs (λ q. (counts_so_far k state q).loads)) same
-    ∙ sum_below-same code.procs _ _ (λ q _. ap (λ (c : Counts). c.loads) (whole q)) ∙ ap (λ (k : Code). sum_below k.procs (λ q. (whole_counts k q).loads)) good.is
+    loads ∙ total_of_run request code after vector turns state (λ c. c.loads) good same ran
     ∙ ap (λ n. sum_below n (λ q. (whole_counts (plain_code program) q).loads)) good.good.header.procs ∙ good.lean.loads in
     let stores_is : counts.stores ≡ whole_stores request good.tree =
-    stores ∙ ap (λ (k : Code). sum_below k.procs (λ q. (counts_so_far k state q).stores)) same
-    ∙ sum_below-same code.procs _ _ (λ q _. ap (λ (c : Counts). c.stores) (whole q)) ∙ ap (λ (k : Code). sum_below k.procs (λ q. (whole_counts k q).stores)) good.is
+    stores ∙ total_of_run request code after vector turns state (λ c. c.stores) good same ran
     ∙ ap (λ n. sum_below n (λ q. (whole_counts (plain_code program) q).stores)) good.good.header.procs ∙ good.lean.stores in
     let text_is =
     t ∙ ap (λ k. sample_text k (weighted request.weight counts) counts.loads counts.stores) sum_is

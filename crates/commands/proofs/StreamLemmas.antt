@@ -31,7 +31,7 @@ use Rattle.commands.specs.Prepared.{stream_text, stream_work}
 use Rattle.commands.specs.SpiralInput.Outcomes.{SourceMeets}
 use Rattle.commands.specs.declared.streams.Prepared.{Prepared}
 use Rattle.commands.proofs.SpiralInput.DataLemmas.{streams_told}
-use Rattle.commands.proofs.SpiralInput.OutcomeLemmas.{unread_meets}
+use Rattle.commands.proofs.SpiralInput.OutcomeLemmas.{cut_meets, unread_meets}
 use Rattle.commands.proofs.SpiralInput.Within.{Within}
 
 -- The front is not written whole
@@ -46,11 +46,9 @@ front_cut made way room before out out' wrote =
     let none : vectors_of size modulus [] ≡ [] = vectors_few size modulus [] some in
     let alone : made.front.items ≡ stream_text made way (vectors_of size modulus []) =
     sym (ap (stream_text made way) none ∙ append-nil made.front.items) in
-    unread_meets (stream_work made way room) before out out' WriteFault (λ bytes. record {
-      answer = λ d. absurd (d.write refl);
-      read_fault = λ e. absurd (cc);
-      write_fault = λ _. ([], [], made.front.items, refl, (record { few = omega arith; good = refl }, inl refl, alone), wrote);
-    })
+    unread_meets (stream_work made way room) before out out' WriteFault (λ bytes.
+    cut_meets (stream_work made way room) [] bytes made.front.items out out'
+    (record { few = omega arith; good = refl }, inl refl, alone) wrote)
 
 -- The machines
 

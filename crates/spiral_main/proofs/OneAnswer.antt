@@ -15,7 +15,6 @@ use Rattle.plan_cert.specs.Verdict.{IsVerdict}
 use Rattle.request_text.proofs.OneAnswer.{one_answer}
 use Rattle.request_text.specs.Schedule.{Plan as Turns}
 use Rattle.request_text.specs.Turns.{named}
-use Rattle.request_text.specs.declared.RequestFault.{RequestFault}
 use Rattle.runs.specs.Stream.{lines}
 use Rattle.spiral_words.specs.SpiralStatus.Fault.{status_of_generate, status_of_request}
 use Rattle.spiral_words.specs.declared.Command.{Command}
@@ -30,7 +29,8 @@ use Rattle.spl_ast.specs.Formula.{Formula, size_of}
 use Rattle.spl_ast.specs.Meaning as meanings
 use Rattle.spiral_words.specs.declared.spiral_status.status.Status.{Status}
 use Rattle.tree_model.specs.Breakdown.{Breakdown}
-use Rattle.commands.proofs.ConvolutionCommands.OneConvolution.{conv_planned_decided}
+use Rattle.commands.proofs.ConvolutionCommands.OneConvolution.{conv_planned_decided, request_clash, same_fault}
+use Rattle.commands.proofs.ConvolutionCommands.OneConvolution.{same_request}
 use Rattle.commands.proofs.FormulaCommands.OneFormula.{formed_decided, written_decided}
 use Rattle.commands.proofs.ListingCommands.OneExecution.{loaded_decided}
 use Rattle.commands.proofs.SpiralInput.Stages.{IsDecided, bind_decided, done, ended, given_decided}
@@ -60,27 +60,12 @@ use Rattle.spiral_main.proofs.OneWork.{HasOne, first_one, front_one, judging_one
 
 -- What the line of a request orders
 
-abbrev read : Request → Result Request RequestFault
-read request = Ok request
-
-abbrev faulty : RequestFault → Result Request RequestFault
-faulty fault = Err fault
-
-read_same : (r s : Request) → read r ≡ read s → r ≡ s
-read_same r s e = cc
-
-faulty_same : (f g : RequestFault) → faulty f ≡ faulty g → f ≡ g
-faulty_same f g e = cc
-
-read_faulty : (r : Request) (fault : RequestFault) → read r ≡ faulty fault → ⊥
-read_faulty r fault e = absurd (cc)
-
 spelt_decided : (line : List ℕ) → IsDecided (spelt line)
-spelt_decided line (Ok a) (Ok b) p q = ap done (read_same a b (one_answer line (Ok a) (Ok b) p q))
-spelt_decided line (Ok a) (Err t) p q = absurd (read_faulty a q.0 (one_answer line (Ok a) (Err q.0) p q.1))
-spelt_decided line (Err s) (Ok b) p q = absurd (read_faulty b p.0 (one_answer line (Ok b) (Err p.0) q p.1))
+spelt_decided line (Ok a) (Ok b) p q = ap done (same_request a b (one_answer line (Ok a) (Ok b) p q))
+spelt_decided line (Ok a) (Err t) p q = absurd (request_clash a q.0 (one_answer line (Ok a) (Err q.0) p q.1))
+spelt_decided line (Err s) (Ok b) p q = absurd (request_clash b p.0 (one_answer line (Ok b) (Err p.0) q p.1))
 spelt_decided line (Err s) (Err t) p q =
-    ap ended (p.2 ∙ ap status_of_request (faulty_same p.0 q.0 (one_answer line (Err p.0) (Err q.0) p.1 q.1)) ∙ sym q.2)
+    ap ended (p.2 ∙ ap status_of_request (same_fault p.0 q.0 (one_answer line (Err p.0) (Err q.0) p.1 q.1)) ∙ sym q.2)
 
 abbrev plan_of : Request → Breakdown → Result Planned Status
 plan_of request tree = Ok (record { request = request; tree = tree })

@@ -1,6 +1,6 @@
 -- A call that is right in all that its command asks of it has the outcome Success, with the text that it calls for.
-use Rattle.std.proofs.Common.{◌≡◌, ◌≢◌, ◌≤◌, ℕ, true, false, List, [], ◌∷◌, length, take, None, Ok, Err, Result, cond}
-use Rattle.std.proofs.Common.{nat_le, nat_lt, refl, sym, ap, subst, ◌∙◌, arith, append-nil, inr}
+use Rattle.std.proofs.Common.{◌≡◌, ◌≢◌, ◌≤◌, ℕ, true, false, List, [], ◌∷◌, length, take, None, Ok}
+use Rattle.std.proofs.Common.{nat_lt, refl, sym, ap, subst, ◌∙◌, arith, append-nil, inr}
 use Rattle.std.proofs.lemmas.Grind.{common_steps}
 use Rattle.std.proofs.lemmas.List.{take_all}
 use Rattle.std.specs.List.{list_all}
@@ -18,7 +18,7 @@ use Rattle.runs.proofs.StreamLemmas.{bad_behind, right_answer}
 use Rattle.spiral_words.specs.SpiralStatus.Fault.{status_of_stream}
 use Rattle.spiral_words.specs.declared.spiral_status.status.Status.{Status}
 use Rattle.spiral_words.specs.declared.spiral_status.status.Status.TheVariants.{Success, ReadFault, WriteFault}
-use Rattle.spiral_words.specs.declared.spiral_status.status.Status.TheVariants.{NoMemory, TooLong}
+use Rattle.spiral_words.specs.declared.spiral_status.status.Status.TheVariants.{NoMemory}
 use Rattle.commands.specs.FormulaCommands.Letters.{program_for}
 use Rattle.listing_text.specs.Listing.{listing_of}
 use Rattle.commands.specs.Equations.Compile.{compile_outcomes}
@@ -34,6 +34,7 @@ use Rattle.commands.specs.Equations.Convolve.{convolver_outcomes, convolver_work
 use Rattle.commands.specs.Equations.Works.{a_first, all, status_by, the_first, writing, mapping}
 use Rattle.commands.specs.Equations.Orders.{Planned, planned}
 use Rattle.commands.specs.Equations.Apply.{apply_outcomes, apply_work}
+use Rattle.commands.proofs.SpiralInput.FrontLemmas.{front_short}
 use Rattle.spiral_main.specs.Outcome.{IsOutcome, Accounts}
 use Rattle.spiral_main.specs.RightFront.{AreWholeVectors, HasWholeVectors, IsRightConvLine, IsRightLine}
 use Rattle.spiral_main.specs.RightFront.{request_vectors, vectors_behind}
@@ -51,18 +52,12 @@ right_vectors size modulus room bytes few good =
     ∙ ap (λ x. vectors_seen size modulus false (bad_after 0 (tokens x)) x) seen
     ∙ ap (λ x. vectors_seen size modulus false x bytes) none
 
-short_taken : (text : List ℕ) (most : ℕ) → length text ≤ most
-    → cond {A = Result (List ℕ) Status} (nat_le (length text) most) (Ok text) (Err (TooLong most)) ≡ Ok text
-short_taken text most short =
-    let test : nat_le (length text) most ≡ true = grind (arith, common_steps) in
-    ap (λ b. cond {A = Result (List ℕ) Status} b (Ok text) (Err (TooLong most))) test
-
 -- a front that is not too long orders what its text does
 pub front_orders : {A : Type 0} (front : Front) (orders : List ℕ → Stage A) (value : A) (bytes : List ℕ)
     → length (front.first bytes) ≤ front.most → orders (front.first bytes) (Ok value)
     → ordered front orders bytes (Ok value)
 front_orders front orders value bytes short gives =
-    record { value = front.first bytes; before = sym (short_taken (front.first bytes) front.most short); behind = gives }
+    record { value = front.first bytes; before = sym (front_short front bytes (front.first bytes) refl short); behind = gives }
 
 -- A call that is right by its front: the front is not too long, it orders a value, and the work for this answers the rest
 pub front_answer : {A : Type 0} (front : Front) (orders : List ℕ → Stage A) (work : A → Work) (value : A)

@@ -1,9 +1,8 @@
 -- A line is right exactly where it orders what it is right for.
-use Rattle.std.proofs.Common.{◌≡◌, ◌≤◌, ℕ, Bool, true, false, List, None, Some, Ok, Err, Result, length, nat_le, cond}
+use Rattle.std.proofs.Common.{◌≡◌, ◌≤◌, ℕ, Bool, true, false, List, None, Ok, Err, Result, length, nat_le, cond}
 use Rattle.std.proofs.Common.{refl, sym, subst, arith}
 use Rattle.std.proofs.lemmas.Grind.{common_steps}
-use Rattle.std.specs.declared.option.Option.{Option}
-use Rattle.commands.proofs.SpiralInput.Stages.{done, done_ended, done_same}
+use Rattle.commands.proofs.SpiralInput.Stages.{admitted_same, done, done_ended, done_same}
 use Rattle.commands.specs.ConvolutionCommands.ConvPlanned.{IsConvPlanned}
 use Rattle.commands.specs.Equations.Convolutions.{conv_planned, conv_spelt}
 use Rattle.commands.specs.Equations.Formulas.{written}
@@ -11,13 +10,13 @@ use Rattle.commands.specs.Equations.Front.{Front, line, ordered, taken_from}
 use Rattle.commands.specs.Equations.Orders.{Planned, planned, turned}
 use Rattle.commands.specs.Planned.{IsPlanned}
 use Rattle.commands.specs.SpiralInput.Asking.{spelt}
-use Rattle.commands.specs.SpiralInput.Commands.{admitted, first_stranger}
+use Rattle.commands.specs.SpiralInput.Commands.{first_stranger}
 use Rattle.commands.specs.SpiralInput.Stage.{Stage, ◌>>=◌}
 use Rattle.matrix_meaning.specs.Valid.{IsInRange}
 use Rattle.matrix_meaning.specs.declared.Request.{Request}
 use Rattle.request_text.proofs.Judged.{passed_in_range}
 use Rattle.spiral_words.specs.declared.spiral_status.status.Status.{Status}
-use Rattle.spiral_words.specs.declared.spiral_status.status.Status.TheVariants.{TooLong, Turn}
+use Rattle.spiral_words.specs.declared.spiral_status.status.Status.TheVariants.{TooLong}
 use Rattle.spl_ast.specs.Formula.{Formula}
 use Rattle.spiral_main.specs.RightFront.{IsRightConvLine, IsRightFormulaLine, IsRightLine}
 
@@ -42,11 +41,6 @@ front_taken front orders value bytes gives =
     (taken.0, subst (λ text. orders text (Ok value)) taken.1 gives.behind)
 
 -- ---- the request
-
-admitted_same : (stranger : Option ℕ) (procs : ℕ) (a b : Request) → done b ≡ admitted stranger procs a
-    → (a ≡ b) × (stranger ≡ None)
-admitted_same None procs a b is = (done_same a b (sym is), refl)
-admitted_same (Some q) procs a b is = absurd (done_ended b (Turn q procs) is)
 
 -- the request that a line spells, if it has the processors
 pub turned_spelt : (spells : List ℕ → Stage Request) (names text : List ℕ) (request : Request)

@@ -17,6 +17,7 @@ use Rattle.matrix_meaning.proofs.Requests.{valid_by_powers}
 use Rattle.matrix_meaning.proofs.Roots.{HasItsRoot}
 use Rattle.plan_search.proofs.WholeChosen.{divides_plain, whole_divides, whole_exists, whole_is_least, whole_least_once}
 use Rattle.commands.specs.Planned.{IsPlanned, IsRooted}
+use Rattle.commands.proofs.Documents.{with_tree}
 use Rattle.commands.proofs.SpiralInput.Nested.{joined, no_unit}
 use Rattle.commands.proofs.SpiralInput.Within.{ordered_map}
 use Rattle.commands.specs.Equations.Check.{fitting}
@@ -82,9 +83,6 @@ convolvable_by r able right principal pays =
     (tree.0, (right, principal, tree.1, subst (λ k. both_halves r k ≤ r.budget) same pays.2))
 
 -- ---- what the lines of right calls order
-
-abbrev with_tree : Request → Breakdown → Planned
-with_tree request tree = record { request = request; tree = tree }
 
 -- by a request
 pub orders_plan : (names bytes : List ℕ) (r : Request) → IsValid r → CanDivideWhole r → IsWithinBudget r

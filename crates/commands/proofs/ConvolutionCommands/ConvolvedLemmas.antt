@@ -1,20 +1,18 @@
 -- What `convolve` comes to.
-use Rattle.std.proofs.Common.{◌≡◌, ◌≢◌, ◌<◌, ◌≤◌, ◌+◌, ◌*◌, ◌-◌, ◌/◌, ℕ, zero, suc, Bool, true, false, ◌⊎◌, List, []}
-use Rattle.std.proofs.Common.{◌∷◌, ◌++◌, Ok, Err, Result, length, drop, refl, sym, ap, subst, ◌∙◌, arith, inl, inr}
+use Rattle.std.proofs.Common.{◌≡◌, ◌≢◌, ◌<◌, ◌≤◌, ◌+◌, ◌*◌, ◌-◌, ◌/◌, ℕ, zero, suc, Bool, true, false, List, []}
+use Rattle.std.proofs.Common.{◌∷◌, ◌++◌, Ok, Err, Result, length, drop, refl, sym, ap, subst, ◌∙◌, arith}
 use Rattle.std.proofs.KnownBytes.{Appends-nil}
 use Rattle.std.proofs.Math.Nat.{div-mul-le_self}
-use Rattle.std.proofs.lemmas.List.Elements.{All-from_get_or}
 use Rattle.std.proofs.lemmas.List.{length-drop}
 use Rattle.std.specs.List.{All}
 use Rattle.std.specs.declared.option.Option.{Option}
 use Rattle.std.specs.Io.KnownBytes.{Appends}
-use Rattle.io_edge.specs.Told.{IsOver, Tells}
+use Rattle.io_edge.specs.Told.{IsOver}
 use Rattle.matrix_meaning.specs.Convolution.{convolution}
-use Rattle.generate.specs.Emission.Whole.{conv_emission}
 use Rattle.generate.specs.ConvPlanned.{IsConvPlanned}
 use Rattle.plan_search.specs.declared.convolving.ConvFault.{ConvFault}
 use Rattle.plan_search.specs.declared.convolving.ConvFault.TheVariants as conv
-use Rattle.data_stream.specs.Data.{tokens, closed_part}
+use Rattle.data_stream.specs.Data.{tokens}
 use Rattle.data_stream.specs.Vectors.{Cut}
 use Rattle.icode.specs.Machine.{Code, results}
 use Rattle.icode.specs.Program.{plain_program, code_of}
@@ -23,22 +21,22 @@ use Rattle.io_edge.specs.Feed.{Fed, limit}
 use Rattle.io_edge.specs.Taken.{AppendsPrefix}
 use Rattle.listing_text.specs.Listing.{listing_of}
 use Rattle.matrix_meaning.specs.declared.Request.{Request}
-use Rattle.par_machine.proofs.Schedules.{turns_there}
 use Rattle.request_text.specs.Schedule.{Plan}
 use Rattle.request_text.specs.Turns.{named, turns_of}
 use Rattle.spiral_words.specs.declared.spiral_status.status.Status.TheVariants.{Success, WriteFault}
 use Rattle.spiral_words.specs.SpiralStatus.Fault.{status_of_conv, status_of_fault, status_of_stream}
 use Rattle.spiral_words.specs.SpiralStatus.Status.{IsDefined}
-use Rattle.runs.specs.Progress.{HasCome, ReadsData, StreamsBehind, StreamsOn, lacking, HasNoVector}
+use Rattle.runs.specs.Progress.{HasCome, StreamsBehind, StreamsOn, lacking, HasNoVector}
 use Rattle.runs.specs.Texts.{run_text}
 use Rattle.runs.specs.Stream.{lines, group_vectors, vectors_of, data_answer, data_vectors, Answers, HasNoStranger}
-use Rattle.runs.specs.Stream.{Writes}
+use Rattle.runs.specs.Stream.{Reads, Writes}
 use Rattle.runs.specs.declared.stream.StreamFault.{StreamFault}
 use Rattle.runs.specs.declared.stream.StreamFault.TheVariants as stream
 use Rattle.runs.proofs.ProgressLemmas.{vectors_begin, come_unwritten}
 use Rattle.commands.specs.ConvolutionCommands.Convolved.{IsListProgram, list_work, work_by_list}
 use Rattle.commands.specs.Equations.Convolutions.{conv_spelt, conv_chosen}
-use Rattle.commands.specs.Equations.Convolve.{convolve_work, convolver_work, outcomes_by_list}
+use Rattle.commands.specs.Equations.Convolve.{IsConvolveText, IsConvolverText, convolve_work, convolver_work}
+use Rattle.commands.specs.Equations.Convolve.{outcomes_by_list}
 use Rattle.commands.specs.Equations.Front.{line, by_front}
 use Rattle.commands.specs.Equations.Orders.{Planned, turned}
 use Rattle.commands.specs.Equations.Works.{Wants, a_first, the_first, by_first, mapping, status_by, ReadsOn}
@@ -47,15 +45,13 @@ use Rattle.commands.specs.SpiralInput.Refusals.{IsRefusal}
 use Rattle.commands.specs.SpiralInput.Stage.{◌>>=◌}
 use Rattle.commands.proofs.Documents.{with_tree}
 use Rattle.io_edge.proofs.ToldLemmas.{over_left}
-use Rattle.commands.proofs.SpiralInput.DataLemmas.{fine_by, reads_vectors, lines_equal}
+use Rattle.commands.proofs.SpiralInput.DataLemmas.{fine_by, reads_vectors, lines_equal, run_answers, run_meets}
+use Rattle.commands.proofs.SpiralInput.DataLemmas.{turns_below}
+use Rattle.commands.proofs.SpiralInput.OutcomeLemmas.{answered_meets, cut_meets}
+use Rattle.commands.proofs.SpiralInput.StatusLemmas.{failed}
+use Rattle.runs.proofs.StreamLemmas.{reads_more}
 use Rattle.commands.proofs.SpiralInput.StageLemmas.{stage_told}
 use Rattle.commands.proofs.SpiralInput.Within.{Within, front_join}
-
--- no token may go on, or nothing is left
-closed_or_none : (source : Option (List ℕ)) (left : List ℕ) (closed : Type 0) → Tells source left
-    → closed ⊎ IsOver source → closed ⊎ (left ≡ [])
-closed_or_none source left closed tells (inl c) = inl c
-closed_or_none source left closed tells (inr over) = inr (over_left source left tells over)
 
 -- Refusals
 
@@ -75,6 +71,15 @@ conv_refusal conv.NoMemory = record { success = λ e. cc; read = λ e. cc; write
 
 -- Data without a list
 
+-- a failed run that wrote nothing has written the texts of no vector
+nothing_written : (out : Option (List ℕ)) (fault : StreamFault) → failed fault ≢ failed stream.WriteFault →
+    Writes out out (failed fault) []
+nothing_written out (stream.Truncated have need) other = Appends-nil out
+nothing_written out (stream.BadNumber token) other = Appends-nil out
+nothing_written out stream.TooLong other = Appends-nil out
+nothing_written out stream.ReadFault other = Appends-nil out
+nothing_written out stream.WriteFault other = absurd (other refl)
+
 -- where no vector is there, a work that wants one lacks it
 pub record WantsList (wants : Wants) (size : ℕ) : Type 0 where
   pub lacks : (answer : Result (Unit {0}) StreamFault) → status_by wants size answer []
@@ -83,77 +88,37 @@ pub record WantsList (wants : Wants) (size : ℕ) : Type 0 where
 
 module _ (wants : Wants) (size modulus : ℕ) (list : WantsList wants size)
     (IsText : List ℕ → List (List ℕ) → List ℕ → Type 0) where
-  abbrev work : ℕ → Outcomes
-  work = mapping wants size modulus (by_first IsText)
-
-  lacked : (room : ℕ) (bytes : List ℕ) (answer : Result (Unit {0}) StreamFault) (out : Option (List ℕ))
-      → data_answer size room bytes ≡ answer → data_vectors size modulus room bytes ≡ []
-      → (text : List ℕ) × (work room).answer bytes (status_of_fault (lacking size answer)) text × Appends out out text
-  lacked room bytes answer out a v = (
-    [],
-    (
-      sym (list.lacks answer) ∙ sym (ap (λ r. status_by wants size r []) a) ∙ sym (ap (status_by wants size (data_answer size room bytes)) v),
-      subst (λ vectors. by_first IsText vectors []) (sym v) refl,
-    ),
-    Appends-nil out,
-  )
-
-  lacks : (old new : Fed) (before after : Option (List ℕ)) (rest : List ℕ) (out : Option (List ℕ))
-      (result : Result (Unit {0}) StreamFault)
-      → old.taken ≤ limit → (lacking size result ≢ stream.TooLong → new.taken ≤ limit) → result ≢ Err stream.WriteFault
-      → (r : ReadsData size modulus old new before after [] result)
-      → Answers size modulus (limit - old.taken) (r.read ++ rest) [] result
-      → Meets (work (limit - old.taken)) (r.read ++ rest) rest out out (status_of_fault (lacking size result))
-  lacks old new before after rest out (Ok u) start ends other r seen = record {
-    answer = λ d. lacked (limit - old.taken) (r.read ++ rest) (Ok u) out seen.0 seen.1;
-    read_fault = λ e. absurd (cc);
-    write_fault = λ e. absurd (cc);
-  }
-  lacks old new before after rest out (Err (stream.Truncated have need)) start ends other r seen = record {
-    answer = λ d. lacked (limit - old.taken) (r.read ++ rest) (Err (stream.Truncated have need)) out seen.0 seen.1;
-    read_fault = λ e. absurd (cc);
-    write_fault = λ e. absurd (cc);
-  }
-  lacks old new before after rest out (Err (stream.BadNumber token)) start ends other r seen = record {
-    answer = λ d. lacked (limit - old.taken) (r.read ++ rest) (Err (stream.BadNumber token)) out seen.0 seen.1;
-    read_fault = λ e. absurd (cc);
-    write_fault = λ e. absurd (cc);
-  }
-  lacks old new before after rest out (Err stream.TooLong) start ends other r seen = record {
-    answer = λ d. lacked (limit - old.taken) (r.read ++ rest) (Err stream.TooLong) out seen.0 seen.1;
-    read_fault = λ e. absurd (cc);
-    write_fault = λ e. absurd (cc);
-  }
-  lacks old new before after rest out (Err stream.ReadFault) start ends other r seen = record {
-    answer = λ d. absurd (d.read refl);
-    read_fault = λ _. (
-      r.read,
-      [],
-      refl,
-      (
-        fine_by old.taken new.taken r.read r.answer.0 (ends (λ e. cc)) r.answer.1,
-        subst (ReadsOn wants) (sym r.answer.2) list.on,
-        subst (λ vectors. by_first IsText vectors []) (sym r.answer.2) refl,
-      ),
-      Appends-nil out,
-    );
-    write_fault = λ e. absurd (cc);
-  }
-  lacks old new before after rest out (Err stream.WriteFault) start ends other r seen = absurd (other refl)
+  lacks : (old new : Fed) (read left : List ℕ) (out : Option (List ℕ)) (result : Result (Unit {0}) StreamFault)
+      → (lacking size result ≢ stream.TooLong → new.taken ≤ limit) → result ≢ Err stream.WriteFault
+      → Reads size modulus old new read (left ≡ []) [] result
+      → Answers size modulus (limit - old.taken) (read ++ left) [] result
+      → Meets (mapping wants size modulus (by_first IsText) (limit - old.taken)) (read ++ left) left out out
+      (status_of_fault (lacking size result))
+  lacks old new read left out (Ok u) ends other s seen =
+      run_answers wants (by_first IsText) size modulus old new read left [] [] [] refl out out out (Appends-nil out)
+      (Ok u) (status_of_fault (lacking size (Ok u))) (list.lacks (Ok u)) seen (Appends-nil out) (λ e. cc) (λ e. cc)
+  lacks old new read left out (Err fault) ends other s seen =
+      run_meets wants (by_first IsText) size modulus old new read left [] [] [] refl out out out (Appends-nil out)
+      (Err fault) (list.lacks (Err fault)) list.on s seen (nothing_written out fault other)
+      (λ short. ends (λ e. short (ap failed e)))
 
   pub list_lacking : (old new : Fed) (before after out : Option (List ℕ)) (fault : StreamFault)
       → old.taken ≤ limit → (fault ≢ stream.TooLong → new.taken ≤ limit) →
       HasNoVector size modulus old new before after fault
-      → SourceMeets (work (limit - old.taken)) before after out out (status_of_fault fault)
+      → SourceMeets (mapping wants size modulus (by_first IsText) (limit - old.taken)) before after out out
+      (status_of_fault fault)
   list_lacking old new before after out fault start ends none =
+      let result = none.0 in
       let r = none.2 in
+      let short = subst (λ (f : StreamFault). f ≢ stream.TooLong → new.taken ≤ limit) none.3 ends in
       record {
         read = r.read;
         consumed = r.consumed;
         meets = λ rest tells.
-            subst (λ f. Meets (work (limit - old.taken)) (r.read ++ rest) rest out out (status_of_fault f)) (sym none.3)
-            (lacks old new before after rest out none.0 start (subst (λ (f : StreamFault). f ≢ stream.TooLong → new.taken ≤ limit) none.3 ends) none.1 r
-            (r.answers start rest (over_left after rest tells)));
+            let goes : IsOver after → rest ≡ [] = over_left after rest tells in
+            rw none.3 (lacks old new r.read rest out result short none.1
+            (reads_more size modulus old new r.read (IsOver after) (rest ≡ []) [] result goes r.answer)
+            (r.answers start rest goes));
       }
 
 list_told : (code : Bool) (plan : Planned) (old new : Fed) (before after out : Option (List ℕ)) (fault : StreamFault)
@@ -177,35 +142,6 @@ convolves_lacking code plan request old new before after out fault chosen start 
 -- The listing
 
 -- all of it is written
-listing_told : (plan : Planned) (cut : Cut) (old new : Fed) (before after out out' : Option (List ℕ))
-    (h listing : List ℕ)
-    → cut.size ≡ plan.request.size → HasCome plan.request.modulus cut old new before after (h ∷ []) → old.taken ≤ limit
-    → new.taken ≤ limit → (cut.ended ≡ true → IsOver after)
-    → listing ≡ listing_of (conv_emission plan.request plan.tree h) → Appends out out' listing
-    → SourceMeets (convolver_work plan (limit - old.taken)) before after out out' Success
-listing_told plan cut old new before after out out' h listing size come start within end same wrote = record {
-  read = come.progress.bytes;
-  consumed = come.progress.consumed;
-  meets = λ rest tells.
-      let request : Request = plan.request in
-      let room = limit - old.taken in
-      let bytes : List ℕ = come.progress.bytes ++ rest in
-      let first = vectors_begin request.modulus cut old new before after rest (h ∷ []) come start within (λ e. over_left after rest tells (end e)) in
-      let seen : data_vectors request.size request.modulus room bytes ≡ h ∷ first.0 = ap (λ n. data_vectors n request.modulus room bytes) (sym size) ∙ first.1 in
-      record {
-        answer = λ d. (
-          listing,
-          (
-            sym (ap (status_by the_first request.size (data_answer request.size room bytes)) seen),
-            subst (λ vectors. by_first (λ x later text. text ≡ listing_of (conv_emission request plan.tree x)) vectors listing) (sym seen) same,
-          ),
-          wrote,
-        );
-        read_fault = λ e. absurd (cc);
-        write_fault = λ e. absurd (cc);
-      };
-}
-
 pub convolves_listing : (request : Request) (cut : Cut) (old new : Fed) (before after out out' : Option (List ℕ))
     (h listing : List ℕ) (program : Program)
     → cut.size ≡ request.size → HasCome request.modulus cut old new before after (h ∷ []) → old.taken ≤ limit
@@ -213,42 +149,30 @@ pub convolves_listing : (request : Request) (cut : Cut) (old new : Fed) (before 
     → IsListProgram request h program → listing ≡ listing_of (plain_program program) → Appends out out' listing
     → SourceMeets (work_by_list true request (limit - old.taken)) before after out out' Success
 convolves_listing request cut old new before after out out' h listing program size come start within end made same wrote =
-    stage_told (conv_chosen request) convolver_work (limit - old.taken) (with_tree request made.tree) before after out out' Success (refl, made.planned)
-    (listing_told (with_tree request made.tree) cut old new before after out out' h listing size come start within end (same ∙ ap listing_of made.letters) wrote)
+    let plan = with_tree request made.tree in
+    let room = limit - old.taken in
+    stage_told (conv_chosen request) convolver_work room plan before after out out' Success (refl, made.planned)
+    (record {
+      read = come.progress.bytes;
+      consumed = come.progress.consumed;
+      meets = λ rest tells.
+          let bytes : List ℕ = come.progress.bytes ++ rest in
+          let first = vectors_begin request.modulus cut old new before after rest (h ∷ []) come start within
+          (λ e. over_left after rest tells (end e)) in
+          let seen : data_vectors request.size request.modulus room bytes ≡ h ∷ first.0 =
+          ap (λ n. data_vectors n request.modulus room bytes) (sym size) ∙ first.1 in
+          answered_meets (convolver_work plan room) bytes rest out out' Success
+          (λ d. (
+            listing,
+            (
+              sym (ap (status_by the_first request.size (data_answer request.size room bytes)) seen),
+              subst (λ vectors. IsConvolverText plan vectors listing) (sym seen) (same ∙ ap listing_of made.letters),
+            ),
+            wrote,
+          )) (λ e. cc) (λ e. cc);
+    })
 
 -- a front of it is written
-listing_cut : (plan : Planned) (cut : Cut) (old new : Fed) (before after out out' : Option (List ℕ))
-    (h listing : List ℕ)
-    → cut.size ≡ plan.request.size → 0 < plan.request.size
-    → HasCome plan.request.modulus cut old new before after (h ∷ []) → new.taken ≤ limit
-    → (cut.ended ≡ true → IsOver after)
-    → listing ≡ listing_of (conv_emission plan.request plan.tree h) → AppendsPrefix out out' listing
-    → SourceMeets (convolver_work plan (limit - old.taken)) before after out out' WriteFault
-listing_cut plan cut old new before after out out' h listing size some come within end same wrote =
-    let request : Request = plan.request in
-    let r = come_unwritten request.modulus cut old new before after (h ∷ []) (omega (arith, some, size)) within end come in
-    let seen : vectors_of request.size request.modulus (tokens r.read) ≡ h ∷ [] = ap (λ n. vectors_of n request.modulus (tokens r.read)) (sym size) ∙ r.answer.3 in
-    record {
-      read = r.read;
-      consumed = r.consumed;
-      meets = λ rest tells. record {
-        answer = λ d. absurd (d.write refl);
-        read_fault = λ e. absurd (cc);
-        write_fault = λ _. (
-          r.read,
-          [],
-          listing,
-          refl,
-          (
-            fine_by old.taken new.taken r.read r.answer.0 within r.answer.1,
-            closed_or_none after rest (closed_part r.read ≡ r.read) tells r.answer.2,
-            subst (λ vectors. by_first (λ x later text. text ≡ listing_of (conv_emission request plan.tree x)) vectors listing) (sym seen) same,
-          ),
-          wrote,
-        );
-      };
-    }
-
 pub convolves_cut : (request : Request) (cut : Cut) (old new : Fed) (before after out out' : Option (List ℕ))
     (h listing : List ℕ) (program : Program)
     → cut.size ≡ request.size → 0 < request.size → HasCome request.modulus cut old new before after (h ∷ [])
@@ -256,13 +180,29 @@ pub convolves_cut : (request : Request) (cut : Cut) (old new : Fed) (before afte
     → IsListProgram request h program → listing ≡ listing_of (plain_program program) → AppendsPrefix out out' listing
     → SourceMeets (work_by_list true request (limit - old.taken)) before after out out' WriteFault
 convolves_cut request cut old new before after out out' h listing program size some come within end made same wrote =
-    stage_told (conv_chosen request) convolver_work (limit - old.taken) (with_tree request made.tree) before after out out' WriteFault (refl, made.planned)
-    (listing_cut (with_tree request made.tree) cut old new before after out out' h listing size some come within end (same ∙ ap listing_of made.letters) wrote)
+    let plan = with_tree request made.tree in
+    let room = limit - old.taken in
+    let r = come_unwritten request.modulus cut old new before after (h ∷ []) (omega (arith, some, size)) within end
+    come in
+    let seen : vectors_of request.size request.modulus (tokens r.read) ≡ h ∷ [] =
+    ap (λ n. vectors_of n request.modulus (tokens r.read)) (sym size) ∙ r.answer.3 in
+    stage_told (conv_chosen request) convolver_work room plan before after out out' WriteFault (refl, made.planned)
+    (record {
+      read = r.read;
+      consumed = r.consumed;
+      meets = λ rest tells.
+          let goes : IsOver after → rest ≡ [] = over_left after rest tells in
+          let s = reads_more cut.size request.modulus old new r.read (IsOver after) (rest ≡ []) (h ∷ [])
+          (Err stream.WriteFault) goes r.answer in
+          cut_meets (convolver_work plan room) r.read rest listing out out' (
+            fine_by old.taken new.taken r.read s.0 within s.1,
+            s.2,
+            subst (λ vectors. IsConvolverText plan vectors listing) (sym seen) (same ∙ ap listing_of made.letters),
+          )
+          wrote;
+    })
 
 -- The lines of a run
-
-abbrev conv_lines : Request → List ℕ → List (List ℕ) → List ℕ
-conv_lines request h vectors = lines (convolution request.modulus request.size h) vectors
 
 tail_same : (x y : List ℕ) (xs ys : List (List ℕ)) → x ∷ xs ≡ y ∷ ys → xs ≡ ys
 tail_same x y xs ys e = cc
@@ -283,7 +223,7 @@ convolved_lines : (request : Request) (h : List ℕ) (program : Program) (code :
     (later : List (List ℕ)) → IsListProgram request h program → code ≡ code_of program
     → 0 < request.modulus → All (λ q. q < request.procs) turns →
     (ts : List (List ℕ)) × (vectors_of request.size request.modulus ts ≡ h ∷ later)
-    → lines (λ x. results code x turns) later ≡ conv_lines request h later
+    → lines (λ x. results code x turns) later ≡ lines (convolution request.modulus request.size h) later
 convolved_lines request h program code turns later made same some there whole =
     let f : List ℕ → List ℕ = λ x. results code x turns in
     let g : List ℕ → List ℕ = convolution request.modulus request.size h in
@@ -291,111 +231,34 @@ convolved_lines request h program code turns later made same some there whole =
     λ x full below. ap (λ k. results k x turns) same ∙ made.convolver.product x turns (record { size = full; residues = below }) there in
     later_lines request.size request.modulus f g each some (length whole.0 / request.size) whole.0 h later (div-mul-le_self (length whole.0) request.size) whole.1
 
-module _ (request : Request) where
-  abbrev IsLines : List (List ℕ) → List ℕ → Type 0
-  IsLines = by_first (λ h later text. text ≡ conv_lines request h later)
-
-  abbrev convolving : ℕ → Outcomes
-  convolving = mapping a_first request.size request.modulus IsLines
-
-  -- where nothing failed
-  lines_answer : (room : ℕ) (bytes h : List ℕ) (later : List (List ℕ)) (result : Result (Unit {0}) StreamFault)
-      (text : List ℕ) (out out' : Option (List ℕ))
-      → data_answer request.size room bytes ≡ result → data_vectors request.size request.modulus room bytes ≡ h
-      ∷ later → text ≡ conv_lines request h later → Appends out out' text
-      → (written : List ℕ) × (convolving room).answer bytes (status_of_stream result) written × Appends out out' written
-  lines_answer room bytes h later result text out out' a v same wrote = (
-    text,
-    (
-      sym (ap (status_by a_first request.size (data_answer request.size room bytes)) v ∙ ap status_of_stream a),
-      subst (λ vectors. IsLines vectors text) (sym v) same,
-    ),
-    wrote,
-  )
-
-  -- by each way in which it may end
-  lines_ended : (old new : Fed) (before after : Option (List ℕ)) (rest h : List ℕ) (later : List (List ℕ))
-      (out out' : Option (List ℕ)) (text : List ℕ) (result : Result (Unit {0}) StreamFault)
-      → (result ≢ Err stream.TooLong → new.taken ≤ limit) → Tells after rest
-      → (r : ReadsData request.size request.modulus old new before after (h ∷ later) result)
-      → Answers request.size request.modulus (limit - old.taken) (r.read ++ rest) (h ∷ later) result
-      → text ≡ conv_lines request h later → Writes out out' result text
-      → Meets (convolving (limit - old.taken)) (r.read ++ rest) rest out out' (status_of_stream result)
-  lines_ended old new before after rest h later out out' text (Ok u) ends tells r seen same wrote = record {
-    answer = λ d. lines_answer (limit - old.taken) (r.read ++ rest) h later (Ok u) text out out' seen.0 seen.1 same wrote;
-    read_fault = λ e. absurd (cc);
-    write_fault = λ e. absurd (cc);
-  }
-  lines_ended old new before after rest h later out out' text (Err (stream.Truncated have need)) ends tells r seen same wrote = record {
-    answer = λ d. lines_answer (limit - old.taken) (r.read ++ rest) h later (Err (stream.Truncated have need)) text out out' seen.0 seen.1 same wrote;
-    read_fault = λ e. absurd (cc);
-    write_fault = λ e. absurd (cc);
-  }
-  lines_ended old new before after rest h later out out' text (Err (stream.BadNumber token)) ends tells r seen same wrote = record {
-    answer = λ d. lines_answer (limit - old.taken) (r.read ++ rest) h later (Err (stream.BadNumber token)) text out out' seen.0 seen.1 same wrote;
-    read_fault = λ e. absurd (cc);
-    write_fault = λ e. absurd (cc);
-  }
-  lines_ended old new before after rest h later out out' text (Err stream.TooLong) ends tells r seen same wrote = record {
-    answer = λ d. lines_answer (limit - old.taken) (r.read ++ rest) h later (Err stream.TooLong) text out out' seen.0 seen.1 same wrote;
-    read_fault = λ e. absurd (cc);
-    write_fault = λ e. absurd (cc);
-  }
-  lines_ended old new before after rest h later out out' text (Err stream.ReadFault) ends tells r seen same wrote = record {
-    answer = λ d. absurd (d.read refl);
-    read_fault = λ _. (
-      r.read,
-      text,
-      refl,
-      (fine_by old.taken new.taken r.read r.answer.0 (ends (λ e. cc)) r.answer.1, tt, subst (λ vectors. IsLines vectors text) (sym r.answer.2) same),
-      wrote,
-    );
-    write_fault = λ e. absurd (cc);
-  }
-  lines_ended old new before after rest h later out out' text (Err stream.WriteFault) ends tells r seen same wrote = record {
-    answer = λ d. absurd (d.write refl);
-    read_fault = λ e. absurd (cc);
-    write_fault = λ _. (
-      r.read,
-      [],
-      text,
-      refl,
-      (
-        fine_by old.taken new.taken r.read r.answer.0 (ends (λ e. cc)) r.answer.1,
-        closed_or_none after rest (closed_part r.read ≡ r.read) tells r.answer.2,
-        subst (λ vectors. IsLines vectors text) (sym r.answer.3) same,
-      ),
-      wrote,
-    );
-  }
-
--- the turns of the schedule are of the one processor
-conv_turns : (schedule : Plan) (request : Request) (procs : ℕ) → request.procs ≡ 1 → procs ≡ 1 →
-    HasNoStranger schedule 1 → All (λ q. q < request.procs) (turns_of schedule procs)
-conv_turns schedule request procs own one none =
-    subst (λ p. All (λ q. q < request.procs) (turns_of schedule p)) (sym one)
-    (subst (λ n. All (λ q. q < n) (turns_of schedule 1)) (sym own) (All-from_get_or (λ q. q < 1) (turns_of schedule 1) 0 (turns_there schedule 1 (omega arith) none)))
-
 run_told : {S : Type 0} (schedule : Plan) (request : Request) (code : Code) (old new : Fed)
     (before after out out' : Option (List ℕ)) (h : List ℕ) (program : Program) (leaves : List ℕ → S) (first last : S)
     (result : Result (Unit {0}) StreamFault)
-    → IsListProgram request h program → code ≡ code_of program → request.procs ≡ 1 → 0 < request.modulus →
+    → (made : IsListProgram request h program) → code ≡ code_of program → request.procs ≡ 1 → 0 < request.modulus →
     HasNoStranger schedule 1 → old.taken ≤ limit → (result ≢ Err stream.TooLong → new.taken ≤ limit)
     → StreamsBehind (h ∷ []) (run_text false code (turns_of schedule code.procs)) leaves request.size request.modulus
     old new before after out out' first last result
-    → SourceMeets (convolving request (limit - old.taken)) before after out out' (status_of_stream result)
+    → SourceMeets (convolve_work (with_tree request made.tree) (limit - old.taken)) before after out out'
+    (status_of_stream result)
 run_told schedule request code old new before after out out' h program leaves first last result made same own some none start ends s =
     let turns = turns_of schedule code.procs in
-    let one : code.procs ≡ 1 = ap (λ (k : Code). k.procs) same ∙ made.convolver.header.procs ∙ own in
+    let procs : code.procs ≡ request.procs = ap (λ (k : Code). k.procs) same ∙ made.convolver.header.procs in
+    let there = turns_below schedule code.procs request.procs procs (omega (arith, own))
+    (subst (HasNoStranger schedule) (sym own) none) in
     let r = s.reads in
     let whole = reads_vectors request.size request.modulus old new r.read (IsOver after) (h ∷ s.later) result r.answer in
+    let told = convolved_lines request h program code turns s.later made same some there whole in
     record {
       read = r.read;
       consumed = r.consumed;
       meets = λ rest tells.
-          lines_ended request old new before after rest h s.later out out' (lines (λ x. results code x turns) s.later) result ends tells r
-          (r.answers start rest (over_left after rest tells))
-          (convolved_lines request h program code turns s.later made same some (conv_turns schedule request code.procs own one none) whole) s.wrote;
+          let goes : IsOver after → rest ≡ [] = over_left after rest tells in
+          run_meets a_first (IsConvolveText (with_tree request made.tree)) request.size request.modulus old new r.read rest
+          (h ∷ s.later) []
+          (lines (λ x. results code x turns) s.later) told out out out' (Appends-nil out) result refl tt
+          (reads_more request.size request.modulus old new r.read (IsOver after) (rest ≡ []) (h ∷ s.later) result
+          goes r.answer)
+          (r.answers start rest goes) s.wrote ends;
     }
 
 -- the list has come, by what the machine's code says of the modulus

@@ -18,25 +18,26 @@ use Rattle.tree_model.specs.Breakdown.{Breakdown}
 use Rattle.tree_model.specs.Chosen.{whole_cost}
 use Rattle.commands.specs.SpiralInput.Commands.{admitted, first_stranger}
 use Rattle.commands.specs.Equations.Convolutions.{conv_spelt, conv_chosen, conv_planned}
-use Rattle.commands.specs.Equations.Orders.{Planned, turned}
+use Rattle.commands.specs.Equations.Orders.{turned}
 use Rattle.commands.specs.SpiralInput.Stage.{◌>>=◌}
+use Rattle.commands.proofs.Documents.{with_tree}
 use Rattle.commands.proofs.SpiralInput.Stages.{IsDecided, done, ended, given_decided, bind_decided}
 
 -- The line
 
-abbrev the_request : Request → Result Request RequestFault
+abbrev pub the_request : Request → Result Request RequestFault
 the_request r = Ok r
 
-abbrev the_fault : RequestFault → Result Request RequestFault
+abbrev pub the_fault : RequestFault → Result Request RequestFault
 the_fault fault = Err fault
 
-same_request : (a b : Request) → the_request a ≡ the_request b → a ≡ b
+pub same_request : (a b : Request) → the_request a ≡ the_request b → a ≡ b
 same_request a b e = cc
 
-same_fault : (f g : RequestFault) → the_fault f ≡ the_fault g → f ≡ g
+pub same_fault : (f g : RequestFault) → the_fault f ≡ the_fault g → f ≡ g
 same_fault f g e = cc
 
-request_clash : (a : Request) (f : RequestFault) → the_request a ≡ the_fault f → ⊥
+pub request_clash : (a : Request) (f : RequestFault) → the_request a ≡ the_fault f → ⊥
 request_clash a f e = absurd (cc)
 
 conv_spelt_decided : (line : List ℕ) → IsDecided (conv_spelt line)
@@ -93,12 +94,9 @@ refusal_once r (conv.Root power) conv.NoMemory p q = absurd q
 refusal_once r (conv.NotPrincipal k) conv.NoMemory p q = absurd q
 refusal_once r (conv.OverBudget cost budget) conv.NoMemory p q = absurd q
 
-abbrev plan_of : Request → Breakdown → Planned
-plan_of request tree = record { request = request; tree = tree }
-
 chosen_decided : (r : Request) → IsDecided (conv_chosen r)
 chosen_decided r (Ok a) (Ok b) p q =
-    ap done (ap₂ plan_of (p.0 ∙ sym q.0) (whole_once r a.tree b.tree p.1.2 q.1.2))
+    ap done (ap₂ with_tree (p.0 ∙ sym q.0) (whole_once r a.tree b.tree p.1.2 q.1.2))
 chosen_decided r (Ok a) (Err t) p q = absurd (plan_clash r a.tree q.0 p.1 q.1)
 chosen_decided r (Err s) (Ok b) p q = absurd (plan_clash r b.tree p.0 q.1 p.1)
 chosen_decided r (Err s) (Err t) p q = ap ended (p.2 ∙ ap status_of_conv (refusal_once r p.0 q.0 p.1 q.1) ∙ sym q.2)

@@ -4,7 +4,6 @@ use Rattle.std.proofs.Common.{refl, sym, ap, subst, ◌∙◌, arith, inr}
 use Rattle.std.proofs.Common.{Global}
 use Rattle.std.proofs.KnownBytes.{Consumes-kept}
 use Rattle.std.proofs.Math.Nat.{div-mul-le_self}
-use Rattle.std.proofs.lemmas.List.Elements.{All-from_get_or}
 use Rattle.std.specs.List.{All, list_any}
 use Rattle.std.specs.declared.option.Option.{Option}
 use Rattle.std.specs.Io.KnownBytes.{Appends, Consumes}
@@ -16,8 +15,6 @@ use Rattle.icode.specs.Program.{plain_program}
 use Rattle.icode.specs.declared.program.Program.{Program}
 use Rattle.icode.proofs.Below.{below_from_all}
 use Rattle.generate.specs.FormulaCode.Code.{IsCodeOf}
-use Rattle.generate.specs.FormulaCode.Letters.{program_for}
-use Rattle.listing_text.specs.Listing.{listing_of}
 use Rattle.spl_ast.specs.Formula.{Formula, size_of}
 use Rattle.spl_ast.specs.Meaning as formulas
 use Rattle.io_edge.specs.declared.feed.FeedFault.{FeedFault}
@@ -29,13 +26,11 @@ use Rattle.data_stream.specs.declared.input_rest.RestFault.{RestFault}
 use Rattle.data_stream.specs.declared.input_rest.RestFault.TheVariants as rest_fault
 use Rattle.request_text.specs.Schedule.{Plan}
 use Rattle.request_text.specs.Turns.{named, turns_of}
-use Rattle.par_machine.proofs.Schedules.{turns_there}
 use Rattle.spiral_words.specs.declared.Order.TheVariants as order
 use Rattle.spiral_words.specs.declared.spiral_status.status.Status.{Status}
 use Rattle.spiral_words.specs.declared.spiral_status.status.Status.TheVariants.{Success, Turn, ReadFault, WriteFault}
 use Rattle.spiral_words.specs.declared.spiral_status.status.Status.TheVariants.{TooLong}
 use Rattle.spiral_words.specs.SpiralStatus.Fault.{status_of_text}
-use Rattle.spiral_words.specs.SpiralStatus.Status.{IsDefined}
 use Rattle.runs.specs.Texts.{run_text}
 use Rattle.runs.specs.Stream.{lines, texts, vectors_of, HasNoStranger}
 use Rattle.commands.specs.Equations.Apply.{apply_outcomes, apply_work}
@@ -48,14 +43,12 @@ use Rattle.commands.specs.Prepared.{stream_work}
 use Rattle.commands.specs.SpiralInput.Commands.{admitted, first_stranger}
 use Rattle.commands.specs.SpiralInput.Line.{IsWhole}
 use Rattle.commands.specs.SpiralInput.Outcomes.{Outcomes, SourceMeets}
-use Rattle.commands.specs.SpiralInput.Refusals.{IsRefusal}
 use Rattle.commands.specs.SpiralInput.Stage.{Stage}
-use Rattle.commands.proofs.SpiralInput.DataLemmas.{lines_equal}
-use Rattle.commands.proofs.SpiralInput.FrontLemmas.{asks_read_fault, asks_too_long, asks_refused, asks_value}
-use Rattle.commands.proofs.SpiralInput.FrontLemmas.{front_refused, front_told}
+use Rattle.commands.proofs.SpiralInput.DataLemmas.{lines_equal, turns_below}
+use Rattle.commands.proofs.SpiralInput.FrontLemmas.{asks_read_fault, asks_too_long, front_refused, text_told}
 use Rattle.commands.proofs.SpiralInput.LineLemmas.{line_is_front}
 use Rattle.commands.proofs.SpiralInput.Within.{told_within}
-use Rattle.commands.proofs.SpiralInput.OutcomeLemmas.{told_nothing, unread_meets}
+use Rattle.commands.proofs.SpiralInput.OutcomeLemmas.{answered_meets, cut_meets, told_nothing, unread_meets}
 use Rattle.commands.proofs.StreamLemmas.{mapping_within}
 
 -- The line
@@ -96,67 +89,33 @@ module _ (orders : List ℕ → Stage Formula) (work : Formula → Work) where
       front_refused (line 65536) orders work before after out taken ReadFault (asks_read_fault (line 65536) orders before after taken read consumed given) (λ e. cc)
   line_unread before after out taken read rest_fault.NoMemory consumed given = told_nothing by_line before after out read consumed
 
-  -- it orders no formula
-  pub line_refused : (before after out : Option (List ℕ)) (taken : ℕ) (read text : List ℕ) (status : Status)
-      → Consumes before after read → IsWhole (line 65536) read (IsOver after) text → length text ≤ 65536
-      → (IsDefined status → orders text (Err status)) → IsRefusal status
-      → SourceMeets by_line before after out out status
-  line_refused before after out taken read text status consumed whole short refused refusal =
-      front_refused (line 65536) orders work before after out taken status
-      (asks_refused (line 65536) orders before after taken read text status consumed whole short refused refusal.read) refusal.write
-
-  -- it orders a formula, and after it this is right for the formula's work
-  pub line_told : (before mid left out out' : Option (List ℕ)) (taken : ℕ) (read text : List ℕ) (formula : Formula)
-      (status : Status)
-      → Consumes before mid read → taken ≡ length read → IsWhole (line 65536) read (IsOver mid) text
-      → length text ≤ 65536 → orders text (Ok formula)
-      → SourceMeets (work formula (limit - taken)) mid left out out' status
-      → SourceMeets by_line before left out out' status
-  line_told before mid left out out' taken read text formula status consumed count whole short gives p =
-      front_told (line 65536) (line_is_front 65536) orders work before mid left taken formula out out' status
-      (asks_value (line 65536) orders before mid taken read text formula consumed count whole short gives) p
-
 -- The listing
 
 -- it is written
-listing_told : (m : ℕ) (formula : Formula) (room : ℕ) (before out out' : Option (List ℕ)) (listing : List ℕ)
-    → listing ≡ listing_of (program_for m formula) → Appends out out' listing
-    → SourceMeets (compile_work m formula room) before before out out' Success
-listing_told m formula room before out out' listing is wrote =
-    unread_meets (compile_work m formula room) before out out' Success (λ bytes. record {
-      answer = λ d. (listing, (refl, is), wrote);
-      read_fault = λ e. absurd (cc);
-      write_fault = λ e. absurd (cc);
-    })
-
--- a front of it is written
-listing_cut : (m : ℕ) (formula : Formula) (room : ℕ) (before out out' : Option (List ℕ)) (listing : List ℕ)
-    → listing ≡ listing_of (program_for m formula) → AppendsPrefix out out' listing
-    → SourceMeets (compile_work m formula room) before before out out' WriteFault
-listing_cut m formula room before out out' listing is wrote =
-    unread_meets (compile_work m formula room) before out out' WriteFault (λ bytes. record {
-      answer = λ d. absurd (d.write refl);
-      read_fault = λ e. absurd (cc);
-      write_fault = λ _. ([], [], listing, refl, (refl, is), wrote);
-    })
-
 pub compile_told : (m : ℕ) (before after out out' : Option (List ℕ)) (taken : ℕ) (read text listing : List ℕ)
     → Consumes before after read → taken ≡ length read → IsWhole (line 65536) read (IsOver after) text
     → length text ≤ 65536
     → IsCompiledText m text listing → Appends out out' listing
     → SourceMeets (compile_outcomes m) before after out out' Success
 compile_told m before after out out' taken read text listing consumed count whole short made wrote =
-    line_told written (compile_work m) before after after out out' taken read text made.0 Success consumed count whole short made.1
-    (listing_told m made.0 (limit - taken) after out out' listing made.2 wrote)
+    let work = compile_work m made.0 (limit - taken) in
+    text_told (line 65536) written (compile_work m) (line_is_front 65536) before after after out out' taken read text
+    made.0 Success consumed count whole short made.1
+    (unread_meets work after out out' Success (λ bytes.
+    answered_meets work bytes bytes out out' Success (λ d. (listing, (refl, made.2), wrote)) (λ e. cc) (λ e. cc)))
 
+-- a front of it is written
 pub compile_cut : (m : ℕ) (before after out out' : Option (List ℕ)) (taken : ℕ) (read text listing : List ℕ)
     → Consumes before after read → taken ≡ length read → IsWhole (line 65536) read (IsOver after) text
     → length text ≤ 65536
     → IsCompiledText m text listing → AppendsPrefix out out' listing
     → SourceMeets (compile_outcomes m) before after out out' WriteFault
 compile_cut m before after out out' taken read text listing consumed count whole short made wrote =
-    line_told written (compile_work m) before after after out out' taken read text made.0 WriteFault consumed count whole short made.1
-    (listing_cut m made.0 (limit - taken) after out out' listing made.2 wrote)
+    let work = compile_work m made.0 (limit - taken) in
+    text_told (line 65536) written (compile_work m) (line_is_front 65536) before after after out out' taken read text
+    made.0 WriteFault consumed count whole short made.1
+    (unread_meets work after out out' WriteFault (λ bytes.
+    cut_meets work [] bytes listing out out' (refl, made.2) wrote))
 
 -- The formula's matrix times the vectors
 
@@ -172,13 +131,6 @@ formula_lines m formula own turns is there ts =
     λ x full below. is.product x turns (record { size = full; residues = λ i _. below_from_all m x some below i }) there in
     lines_equal (size_of formula) m f (formulas.apply m formula) same some (length ts / size_of formula) ts (div-mul-le_self (length ts) (size_of formula))
 
--- the turns of the schedule are of the one processor
-formula_turns : (schedule : Plan) (procs : ℕ) → procs ≡ 1 → HasNoStranger schedule procs →
-    All (λ q. q < 1) (turns_of schedule procs)
-formula_turns schedule procs one none =
-    subst (λ p. All (λ q. q < 1) (turns_of schedule p)) (sym one)
-    (All-from_get_or (λ q. q < 1) (turns_of schedule 1) 0 (turns_there schedule 1 (omega arith) (subst (HasNoStranger schedule) one none)))
-
 pub apply_told : (m : ℕ) (schedule : Plan) (program : Program) (front : Vec ℕ Global)
     (before mid left out out' : Option (List ℕ)) (taken : ℕ) (read text : List ℕ) (status : Status)
     → Consumes before mid read → taken ≡ length read → IsWhole (line 65536) read (IsOver mid) text → length text ≤ 65536
@@ -191,13 +143,16 @@ apply_told m schedule program front before mid left out out' taken read text sta
     let is : IsCodeOf m formula own = made.2 in
     let turns = turns_of schedule program.procs in
     let room = limit - taken in
+    let there = turns_below schedule program.procs 1 is.header.procs (omega arith)
+    (subst (HasNoStranger schedule) is.header.procs none) in
     let Writes : List (List ℕ) → List ℕ → Type 0 = λ vectors t. t ≡ front.items ++ texts (run_text false (plain_code own) turns) vectors in
     let Wanted : List (List ℕ) → List ℕ → Type 0 = λ vectors t. t ≡ lines (formulas.apply m formula) vectors in
     let sized : SourceMeets (mapping all (size_of formula) m Writes room) mid left out out' status =
     subst (λ n. SourceMeets (mapping all (size_of formula) n Writes room) mid left out out' status) is.header.modulus
     (subst (λ n. SourceMeets (mapping all n own.modulus Writes room) mid left out out' status) is.header.size p) in
-    line_told (formed (named schedule)) (apply_work m) before mid left out out' taken read text formula status consumed count whole short made.1
+    text_told (line 65536) (formed (named schedule)) (apply_work m) (line_is_front 65536) before mid left out out' taken
+    read text formula status consumed count whole short made.1
     (told_within (mapping all (size_of formula) m Writes room) (apply_work m formula room) mid left out out' status
     (mapping_within (size_of formula) m Writes Wanted room (λ ts t written.
     written ∙ ap (λ l. l ++ texts (run_text false (plain_code own) turns) (vectors_of (size_of formula) m ts)) alone
-    ∙ formula_lines m formula own turns is (formula_turns schedule program.procs is.header.procs none) ts)) sized)
+    ∙ formula_lines m formula own turns is there ts)) sized)

@@ -1,6 +1,6 @@
 -- What `exec` comes to.
 use Rattle.std.proofs.Common.{◌≡◌, ◌≤◌, ◌+◌, ◌-◌, ◌&&◌, ◌||◌, ℕ, Bool, true, false, List, [], ◌∷◌, ◌++◌, None}
-use Rattle.std.proofs.Common.{Some, Ok, Err, Result, Vec, length, cond, refl, sym, ap, subst, ◌∙◌, inl, inr}
+use Rattle.std.proofs.Common.{Some, Ok, Err, Vec, length, cond, refl, sym, ap, subst, ◌∙◌, inl, inr}
 use Rattle.std.specs.declared.option.Option.{Option}
 use Rattle.std.specs.Io.KnownBytes.{Consumes}
 use Rattle.io_edge.specs.Told.{IsOver}
@@ -25,7 +25,6 @@ use Rattle.data_stream.specs.Line.{line_of}
 use Rattle.request_text.specs.Schedule.{Plan}
 use Rattle.request_text.specs.Turns.{turns_of}
 use Rattle.spiral_words.specs.SpiralStatus.Fault.{status_of_part}
-use Rattle.spiral_words.specs.SpiralStatus.Status.{IsDefined}
 use Rattle.spiral_words.specs.declared.Order.TheVariants as order
 use Rattle.spiral_words.specs.declared.spiral_status.status.Status.{Status}
 use Rattle.spiral_words.specs.declared.spiral_status.status.Status.TheVariants.{Turn, ReadFault, TooLong}
@@ -37,9 +36,8 @@ use Rattle.commands.specs.Equations.Exec.{exec_outcomes, exec_work}
 use Rattle.commands.specs.Equations.Front.{HasEnded, part}
 use Rattle.commands.specs.SpiralInput.Commands.{stranger, admitted}
 use Rattle.commands.specs.SpiralInput.Outcomes.{SourceMeets}
-use Rattle.commands.specs.SpiralInput.Refusals.{IsRefusal}
-use Rattle.commands.proofs.SpiralInput.FrontLemmas.{IsFront, asks_read_fault, asks_too_long, asks_refused, asks_value}
-use Rattle.commands.proofs.SpiralInput.FrontLemmas.{front_refused, front_told}
+use Rattle.commands.proofs.SpiralInput.FrontLemmas.{IsFront, asks_read_fault, asks_too_long, front_refused, text_told}
+use Rattle.commands.proofs.SpiralInput.Stages.{admitted_same}
 use Rattle.commands.proofs.SpiralInput.Within.{told_within}
 use Rattle.commands.proofs.SpiralInput.OutcomeLemmas.{told_nothing}
 use Rattle.commands.proofs.StreamLemmas.{mapping_within}
@@ -101,22 +99,12 @@ loads schedule text program listed passes none = record {
   behind = record { value = program; before = (passes, refl); behind = sym (ap (λ o. admitted o program.procs program) none) };
 }
 
-abbrev done : PlainProgram → Result PlainProgram Status
-done program = Ok program
-
-done_same : (p q : PlainProgram) → done p ≡ done q → p ≡ q
-done_same p q e = cc
-
-admitted_same : (o : Option ℕ) (procs : ℕ) (p q : PlainProgram) → done q ≡ admitted o procs p → q ≡ p
-admitted_same None procs p q e = done_same q p e
-admitted_same (Some s) procs p q e = absurd (cc)
-
 -- what runs has passed the check
 pub loaded_passes : (schedule : Plan) (text : List ℕ) (program : PlainProgram) → loaded schedule text (Ok program) →
     PassesCheck action_limit program
 loaded_passes schedule text program l =
     let passed = l.behind.value in
-    subst (λ (p : PlainProgram). PassesCheck action_limit p) (sym (admitted_same (stranger schedule passed.procs) passed.procs passed program l.behind.behind ∙ l.behind.before.1)) l.behind.before.0
+    subst (λ (p : PlainProgram). PassesCheck action_limit p) (sym l.behind.before.1 ∙ (admitted_same (stranger schedule passed.procs) passed.procs passed program l.behind.behind).0) l.behind.before.0
 
 -- so every order of turns leaves the same results
 same_results : (program : PlainProgram) (x turns : List ℕ) → PassesCheck action_limit program →
@@ -147,16 +135,6 @@ exec_unread schedule before after out taken read rest_fault.ReadFault consumed g
     (asks_read_fault (part 1048576) (loaded schedule) before after taken read consumed (record { unended = given.unended; short = given.short })) (λ e. cc)
 exec_unread schedule before after out taken read rest_fault.NoMemory consumed given = told_nothing (exec_outcomes schedule) before after out read consumed
 
--- the listing orders no program to run
-pub exec_refused : (schedule : Plan) (before after out : Option (List ℕ)) (taken : ℕ) (read text : List ℕ)
-    (status : Status)
-    → Consumes before after read → IsWholePart read (IsOver after) text → length text ≤ 1048576
-    → (IsDefined status → loaded schedule text (Err status)) → IsRefusal status →
-    SourceMeets (exec_outcomes schedule) before after out out status
-exec_refused schedule before after out taken read text status consumed whole short refused refusal =
-    front_refused (part 1048576) (loaded schedule) exec_work before after out taken status
-    (asks_refused (part 1048576) (loaded schedule) before after taken read text status consumed whole.parts short refused refusal.read) refusal.write
-
 -- its program runs
 pub exec_told : (schedule : Plan) (program : Program) (front : Vec ℕ Global)
     (before mid left out out' : Option (List ℕ)) (taken : ℕ) (read text : List ℕ) (status : Status)
@@ -170,8 +148,8 @@ exec_told schedule program front before mid left out out' taken read text status
     let Writes : List (List ℕ) → List ℕ → Type 0 = λ vectors t. t ≡ front.items ++ texts (run_text false (plain_code own) turns) vectors in
     let Wanted : List (List ℕ) → List ℕ → Type 0 = λ vectors t. t ≡ lines (result_of own) vectors in
     let passes = loaded_passes schedule text own load in
-    front_told (part 1048576) (part_is_front 1048576) (loaded schedule) exec_work before mid left taken own out out' status
-    (asks_value (part 1048576) (loaded schedule) before mid taken read text own consumed count whole.parts short load)
+    text_told (part 1048576) (loaded schedule) exec_work (part_is_front 1048576) before mid left out out' taken read text
+    own status consumed count whole.parts short load
     (told_within (stream_work (record { program = program; front = front; lines = false }) (order.Turns schedule) (limit - taken)) (exec_work own (limit - taken)) mid left out out' status
     (mapping_within own.size own.modulus Writes Wanted (limit - taken) (λ ts t written.
     let vectors = vectors_of own.size own.modulus ts in

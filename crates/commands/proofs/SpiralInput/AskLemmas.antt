@@ -30,6 +30,17 @@ pub asked_line_fault : {A : Type 0} (orders : List ℕ → Stage A) (before afte
 asked_line_fault orders before after taken read buffer ended feed.ReadFault consumed given = asks_read_fault (line 256) orders before after taken read consumed given
 asked_line_fault orders before after taken read buffer ended feed.TooLong consumed given = asks_too_long (line 256) orders before after taken read consumed given
 
+take_short : (n : ℕ) (xs : List ℕ) → length (take n xs) ≤ n
+take_short zero xs = omega arith
+take_short (suc n) [] = omega arith
+take_short (suc n) (x ∷ xs) = let rest = take_short n xs in omega arith
+
+-- the first line is what was put into the buffer
+line_given : (read buffer : List ℕ) (ended : Type 0) (taken count : ℕ) → GivesLine read ended taken buffer (Ok count)
+    → IsWhole (line 256) read ended (take count buffer) × (length (take count buffer) ≤ 256)
+line_given read buffer ended taken count given =
+    (given.3, let most = take_short count buffer in let short = given.1 in omega (arith, most, short))
+
 request_fault_other : (fault : RequestFault) → status_of_request fault ≢ ReadFault
 request_fault_other (request.Syntax at) = λ e. cc
 request_fault_other (request.Range field value) = λ e. cc
@@ -39,41 +50,40 @@ request_fault_other (request.NotUnit gcd) = λ e. cc
 
 -- the line spells no request that can be served
 pub asked_request_fault : (spells : List ℕ → Stage Request) (names : List ℕ) (before after : Option (List ℕ))
-    (taken : ℕ) (read text : List ℕ) (fault : RequestFault)
-    → Consumes before after read → IsWhole (line 256) read (IsOver after) text → length text ≤ 256 →
-    spells text (Err (status_of_request fault))
+    (taken : ℕ) (read buffer : List ℕ) (count : ℕ) (fault : RequestFault)
+    → Consumes before after read → GivesLine read (IsOver after) taken buffer (Ok count)
+    → spells (take count buffer) (Err (status_of_request fault))
     → Asks (line 256) (λ text. spells text >>= turned names) before after taken (Err (status_of_request fault))
-asked_request_fault spells names before after taken read text fault consumed whole short answer =
-    asks_refused (line 256) (λ text. spells text >>= turned names) before after taken read text (status_of_request fault) consumed whole short (λ _. inl answer) (request_fault_other fault)
+asked_request_fault spells names before after taken read buffer count fault consumed given answer =
+    let whole = line_given read buffer (IsOver after) taken count given in
+    asks_refused (line 256) (λ text. spells text >>= turned names) before after taken read (take count buffer)
+    (status_of_request fault) consumed whole.0 whole.1 (λ _. inl answer) (request_fault_other fault)
 
 -- a turn is of a processor that is not there
 pub asked_turn_fault : (spells : List ℕ → Stage Request) (names : List ℕ) (before after : Option (List ℕ)) (taken : ℕ)
-    (read text : List ℕ) (wanted : Request) (q : ℕ)
-    → Consumes before after read → IsWhole (line 256) read (IsOver after) text → length text ≤ 256 →
-    spells text (Ok wanted)
-    → first_stranger names wanted.procs ≡ Some q
+    (read buffer : List ℕ) (count : ℕ) (wanted : Request) (q : ℕ)
+    → Consumes before after read → GivesLine read (IsOver after) taken buffer (Ok count)
+    → spells (take count buffer) (Ok wanted) → first_stranger names wanted.procs ≡ Some q
     → Asks (line 256) (λ text. spells text >>= turned names) before after taken (Err (Turn q wanted.procs))
-asked_turn_fault spells names before after taken read text wanted q consumed whole short answer found =
-    asks_refused (line 256) (λ text. spells text >>= turned names) before after taken read text (Turn q wanted.procs) consumed whole short
+asked_turn_fault spells names before after taken read buffer count wanted q consumed given answer found =
+    let whole = line_given read buffer (IsOver after) taken count given in
+    asks_refused (line 256) (λ text. spells text >>= turned names) before after taken read (take count buffer)
+    (Turn q wanted.procs) consumed whole.0 whole.1
     (λ _. inr (record { value = wanted; before = answer; behind = sym (ap (λ o. admitted o wanted.procs wanted) found) })) (λ e. cc)
 
 -- the request
 pub asked_request : (spells : List ℕ → Stage Request) (names : List ℕ) (before after : Option (List ℕ)) (taken : ℕ)
-    (read text : List ℕ) (wanted : Request)
-    → Consumes before after read → taken ≡ length read → IsWhole (line 256) read (IsOver after) text →
-    length text ≤ 256 → spells text (Ok wanted)
-    → first_stranger names wanted.procs ≡ None → Asks (line 256)
-    (λ text. spells text >>= turned names) before after taken (Ok wanted)
-asked_request spells names before after taken read text wanted consumed count whole short answer none =
-    asks_value (line 256) (λ text. spells text >>= turned names) before after taken read text wanted consumed count whole short
+    (read buffer : List ℕ) (count : ℕ) (wanted : Request)
+    → Consumes before after read → GivesLine read (IsOver after) taken buffer (Ok count)
+    → spells (take count buffer) (Ok wanted) → first_stranger names wanted.procs ≡ None
+    → Asks (line 256) (λ text. spells text >>= turned names) before after taken (Ok wanted)
+asked_request spells names before after taken read buffer count wanted consumed given answer none =
+    let whole = line_given read buffer (IsOver after) taken count given in
+    asks_value (line 256) (λ text. spells text >>= turned names) before after taken read (take count buffer) wanted
+    consumed given.0 whole.0 whole.1
     (record { value = wanted; before = answer; behind = sym (ap (λ o. admitted o wanted.procs wanted) none) })
 
 -- words ask for one command, so they tell whether the input is read to its end
 pub reads_same : (words : List (List ℕ)) (a b : Command) → IsAsked words a → IsAsked words b →
     reads_rest a ≡ reads_rest b
 reads_same words a b asked other = ap reads_rest (asked_once words a b asked other)
-
-pub take_short : (n : ℕ) (xs : List ℕ) → length (take n xs) ≤ n
-take_short zero xs = omega arith
-take_short (suc n) [] = omega arith
-take_short (suc n) (x ∷ xs) = let rest = take_short n xs in omega arith

@@ -1,10 +1,11 @@
 -- What a run over data answers, reads and writes, by the texts of its vectors.
 use Rattle.std.proofs.Common.{◌≡◌, ◌≢◌, ◌≤◌, ◌+◌, ◌-◌, ℕ, true, List, [], ◌++◌, Ok, Err, Result, refl, sym, ap, subst}
-use Rattle.std.proofs.Common.{◌<◌, ◌*◌, zero, suc, length, take, drop, ◌∙◌, arith}
+use Rattle.std.proofs.Common.{◌<◌, ◌*◌, zero, suc, length, take, drop, ap₂, ◌∙◌, arith}
 use Rattle.std.proofs.KnownBytes.{Appends-trans}
 use Rattle.std.specs.List.{list_all, All}
 use Rattle.std.specs.declared.option.Option.{Option}
 use Rattle.std.specs.Io.KnownBytes.{Appends}
+use Rattle.std.proofs.lemmas.List.Elements.{All-from_get_or}
 use Rattle.std.proofs.lemmas.List.{length-take-le, length-drop, length-map}
 use Rattle.io_edge.specs.Feed.{Fed, limit}
 use Rattle.io_edge.specs.Told.{IsOver}
@@ -13,14 +14,20 @@ use Rattle.data_stream.specs.Data.{tokens, closed_part, is_good}
 use Rattle.data_stream.specs.Line.{line_of}
 use Rattle.data_stream.specs.Reading.{residues}
 use Rattle.data_stream.proofs.VectorLemmas.{residues_below}
+use Rattle.par_machine.proofs.Schedules.{turns_there}
+use Rattle.request_text.specs.Schedule.{Plan}
+use Rattle.request_text.specs.Turns.{turns_of}
 use Rattle.spiral_words.specs.SpiralStatus.Fault.{status_of_stream}
-use Rattle.commands.specs.SpiralInput.Outcomes.{Meets, SourceMeets}
-use Rattle.commands.specs.Equations.Works.{all, mapping}
+use Rattle.spiral_words.specs.declared.spiral_status.status.Status.{Status}
+use Rattle.spiral_words.specs.declared.spiral_status.status.Status.TheVariants.{ReadFault, WriteFault}
+use Rattle.commands.specs.SpiralInput.Outcomes.{Outcomes, Meets, SourceMeets}
+use Rattle.commands.specs.Equations.Works.{Wants, ReadsOn, all, mapping, status_by}
+use Rattle.commands.proofs.SpiralInput.OutcomeLemmas.{answered_meets, broken_meets, cut_meets}
 use Rattle.commands.specs.SpiralInput.Fine.{IsFine}
 use Rattle.runs.specs.declared.stream.StreamFault.{StreamFault}
 use Rattle.runs.specs.declared.stream.StreamFault.TheVariants as stream
 use Rattle.runs.specs.Stream.{vectors_of, texts, data_answer, data_vectors, Answers, Reads, Streams, Writes}
-use Rattle.runs.specs.Stream.{group_vectors, lines}
+use Rattle.runs.specs.Stream.{HasNoStranger, group_vectors, lines}
 use Rattle.runs.proofs.StreamLemmas.{reads_more}
 use Rattle.io_edge.proofs.ToldLemmas.{over_left}
 
@@ -35,86 +42,68 @@ reads_vectors size modulus old new read ended vectors (Err stream.TooLong) s = (
 reads_vectors size modulus old new read ended vectors (Err stream.ReadFault) s = (tokens (closed_part read), s.2)
 reads_vectors size modulus old new read ended vectors (Err stream.WriteFault) s = (tokens read, s.3)
 
--- the text is known by what the data call for
-stream_answer : (IsText : List (List ℕ) → List ℕ → Type 0) (size modulus room : ℕ) (bytes text : List ℕ)
-    (vectors : List (List ℕ)) (out out' : Option (List ℕ)) (result : Result (Unit {0}) StreamFault)
-    → IsText vectors text → data_answer size room bytes ≡ result → data_vectors size modulus room bytes ≡ vectors →
-    Appends out out' text
-    → (text : List ℕ) × (mapping all size modulus IsText room).answer bytes (status_of_stream result) text
-    × Appends out out' text
-stream_answer IsText size modulus room bytes text vectors out out' result told answer seen w =
-    (text, (ap status_of_stream (sym answer), subst (λ (v : List (List ℕ)). IsText v text) (sym seen) told), w)
-
 -- what was read within the limit
 pub fine_by : (old new : ℕ) (read : List ℕ) → new ≡ old + length read → new ≤ limit →
     list_all is_good (tokens read) ≡ true → IsFine (limit - old) read
 fine_by old new read count within good = record { few = omega (arith, count, within); good = good }
 
--- by each way in which it may end, with the bytes that are left
-module _ (IsText : List (List ℕ) → List ℕ → Type 0) (size modulus : ℕ) (front : List ℕ) (text : List ℕ → List ℕ)
-    (old new : Fed) (read left : List ℕ) (vectors : List (List ℕ)) (start out out' : Option (List ℕ)) where
-  abbrev whole : List ℕ
-  whole = front ++ texts text vectors
+-- What a run comes to that writes a front and then a text for its vectors, with the bytes that are left
+module _ (wants : Wants) (IsText : List (List ℕ) → List ℕ → Type 0) (size modulus : ℕ) (old new : Fed)
+    (read left : List ℕ) (vectors : List (List ℕ)) (front text : List ℕ) (told : IsText vectors (front ++ text))
+    (start out out' : Option (List ℕ)) (begun : Appends start out front) where
+  abbrev work : Outcomes
+  work = mapping wants size modulus IsText (limit - old.taken)
 
-  well : (result : Result (Unit {0}) StreamFault) → IsText vectors whole → Appends start out front
-      → Appends out out' (texts text vectors)
-      → data_answer size (limit - old.taken) (read ++ left) ≡ result
-      → data_vectors size modulus (limit - old.taken) (read ++ left) ≡ vectors
-      → (written : List ℕ) × (mapping all size modulus IsText (limit - old.taken)).answer (read ++ left)
-      (status_of_stream result) written × Appends start out' written
-  well result told begun wrote answer seen =
-      stream_answer IsText size modulus (limit - old.taken) (read ++ left) whole vectors start out' result told answer seen
-      (Appends-trans start out out' front (texts text vectors) begun wrote)
+  -- where nothing failed, by what the data call for
+  pub run_answers : (result : Result (Unit {0}) StreamFault) (status : Status)
+      → status_by wants size result vectors ≡ status
+      → (data_answer size (limit - old.taken) (read ++ left) ≡ result)
+      × (data_vectors size modulus (limit - old.taken) (read ++ left) ≡ vectors)
+      → Appends out out' text → status ≢ ReadFault → status ≢ WriteFault
+      → Meets work (read ++ left) left start out' status
+  run_answers result status is seen wrote = answered_meets work (read ++ left) left start out' status (λ d. (
+    front ++ text,
+    (
+      sym (ap₂ (status_by wants size) seen.0 seen.1 ∙ is),
+      subst (λ (v : List (List ℕ)). IsText v (front ++ text)) (sym seen.1) told,
+    ),
+    Appends-trans start out out' front text begun wrote,
+  ))
 
-  ended : (result : Result (Unit {0}) StreamFault) → Reads size modulus old new read (left ≡ []) vectors result
+  -- by each way in which it may end
+  pub run_meets : (result : Result (Unit {0}) StreamFault)
+      → status_by wants size result vectors ≡ status_of_stream result → ReadsOn wants vectors
+      → Reads size modulus old new read (left ≡ []) vectors result
       → Answers size modulus (limit - old.taken) (read ++ left) vectors result
-      → Writes out out' result (texts text vectors)
-      → IsText vectors whole → Appends start out front → (result ≢ Err stream.TooLong → new.taken ≤ limit)
-      → Meets (mapping all size modulus IsText (limit - old.taken))
-      (read ++ left) left start out' (status_of_stream result)
-  ended (Ok u) s seen wrote told begun ends = record {
-    answer = λ d. well (Ok u) told begun wrote seen.0 seen.1;
-    read_fault = λ e. absurd (cc);
-    write_fault = λ e. absurd (cc);
-  }
-  ended (Err (stream.Truncated have need)) s seen wrote told begun ends = record {
-    answer = λ d. well (Err (stream.Truncated have need)) told begun wrote seen.0 seen.1;
-    read_fault = λ e. absurd (cc);
-    write_fault = λ e. absurd (cc);
-  }
-  ended (Err (stream.BadNumber token)) s seen wrote told begun ends = record {
-    answer = λ d. well (Err (stream.BadNumber token)) told begun wrote seen.0 seen.1;
-    read_fault = λ e. absurd (cc);
-    write_fault = λ e. absurd (cc);
-  }
-  ended (Err stream.TooLong) s seen wrote told begun ends = record {
-    answer = λ d. well (Err stream.TooLong) told begun wrote seen.0 seen.1;
-    read_fault = λ e. absurd (cc);
-    write_fault = λ e. absurd (cc);
-  }
-  ended (Err stream.ReadFault) s seen wrote told begun ends = record {
-    answer = λ d. absurd (d.read refl);
-    read_fault = λ _. (
-      read,
-      whole,
-      refl,
-      (fine_by old.taken new.taken read s.0 (ends (λ e. cc)) s.1, tt, subst (λ (v : List (List ℕ)). IsText v whole) (sym s.2) told),
-      Appends-trans start out out' front (texts text vectors) begun wrote,
-    );
-    write_fault = λ e. absurd (cc);
-  }
-  ended (Err stream.WriteFault) s seen wrote told begun ends = record {
-    answer = λ d. absurd (d.write refl);
-    read_fault = λ e. absurd (cc);
-    write_fault = λ _. (
-      read,
-      [],
-      whole,
-      refl,
-      (fine_by old.taken new.taken read s.0 (ends (λ e. cc)) s.1, s.2, subst (λ (v : List (List ℕ)). IsText v whole) (sym s.3) told),
-      prefix_after start out out' front (texts text vectors) begun wrote,
-    );
-  }
+      → Writes out out' result text → (result ≢ Err stream.TooLong → new.taken ≤ limit)
+      → Meets work (read ++ left) left start out' (status_of_stream result)
+  run_meets (Ok u) is on s seen wrote ends =
+      run_answers (Ok u) (status_of_stream (Ok u)) is seen wrote (λ e. cc) (λ e. cc)
+  run_meets (Err (stream.Truncated have need)) is on s seen wrote ends =
+      run_answers (Err (stream.Truncated have need)) (status_of_stream (Err (stream.Truncated have need))) is seen wrote
+      (λ e. cc) (λ e. cc)
+  run_meets (Err (stream.BadNumber token)) is on s seen wrote ends =
+      run_answers (Err (stream.BadNumber token)) (status_of_stream (Err (stream.BadNumber token))) is seen wrote
+      (λ e. cc) (λ e. cc)
+  run_meets (Err stream.TooLong) is on s seen wrote ends =
+      run_answers (Err stream.TooLong) (status_of_stream (Err stream.TooLong)) is seen wrote (λ e. cc) (λ e. cc)
+  run_meets (Err stream.ReadFault) is on s seen wrote ends = broken_meets work (read ++ left) left start out' (
+    read,
+    front ++ text,
+    refl,
+    (
+      fine_by old.taken new.taken read s.0 (ends (λ e. cc)) s.1,
+      subst (ReadsOn wants) (sym s.2) on,
+      subst (λ (v : List (List ℕ)). IsText v (front ++ text)) (sym s.2) told,
+    ),
+    Appends-trans start out out' front text begun wrote,
+  )
+  run_meets (Err stream.WriteFault) is on s seen wrote ends = cut_meets work read left (front ++ text) start out' (
+    fine_by old.taken new.taken read s.0 (ends (λ e. cc)) s.1,
+    s.2,
+    subst (λ (v : List (List ℕ)). IsText v (front ++ text)) (sym s.3) told,
+  )
+      (prefix_after start out out' front text begun wrote)
 
 -- after the front, the texts of whole vectors are texts of them
 pub streams_told : {S : Type 0} (IsText : List (List ℕ) → List ℕ → Type 0) (size modulus : ℕ) (front : List ℕ)
@@ -133,10 +122,18 @@ streams_told IsText size modulus front text leaves old new before after start ou
       let goes : IsOver after → rest ≡ [] = over_left after rest tells in
       let made = reads_vectors size modulus old new s.read (IsOver after) s.vectors result s.answer in
       let told : IsText s.vectors (front ++ texts text s.vectors) = subst (λ (v : List (List ℕ)). IsText v (front ++ texts text v)) made.1 (writes made.0) in
-      ended IsText size modulus front text old new s.read rest s.vectors start out out' result
+      run_meets all IsText size modulus old new s.read rest s.vectors front (texts text s.vectors) told start out out'
+      begun result refl tt
       (reads_more size modulus old new s.read (IsOver after) (rest ≡ []) s.vectors result goes s.answer)
-      (s.answers within rest goes) s.wrote told begun ends;
+      (s.answers within rest goes) s.wrote ends;
 }
+
+-- the turns of a schedule that names no stranger are of the processors
+pub turns_below : (schedule : Plan) (procs bound : ℕ) → procs ≡ bound → 0 < bound → HasNoStranger schedule bound →
+    All (λ q. q < bound) (turns_of schedule procs)
+turns_below schedule procs bound same some none =
+    subst (λ p. All (λ q. q < bound) (turns_of schedule p)) (sym same)
+    (All-from_get_or (λ q. q < bound) (turns_of schedule bound) 0 (turns_there schedule bound some none))
 
 -- programs that do the same to each vector write the same lines
 pub lines_equal : (size modulus : ℕ) (f h : List ℕ → List ℕ) →

@@ -13,6 +13,7 @@ use Rattle.spiral_words.specs.declared.spiral_status.status.Status.TheVariants.{
 use Rattle.commands.specs.SpiralInput.Asking.{AsksBy, Asks}
 use Rattle.commands.specs.SpiralInput.Line.{IsWhole}
 use Rattle.commands.specs.SpiralInput.Outcomes.{Meets, SourceMeets}
+use Rattle.commands.specs.SpiralInput.Refusals.{IsRefusal}
 use Rattle.commands.specs.SpiralInput.Stage.{Stage, HasGiven}
 use Rattle.commands.specs.Equations.Front.{Front, MayGoOn, HasEnded, Work, taken_from, room_behind, ordered, by_front}
 use Rattle.commands.proofs.SpiralInput.InputLemmas.{none_cut}
@@ -204,3 +205,27 @@ asks_value front orders before after taken read text value consumed count whole 
         (record { value = text; before = sym (front_short front (read ++ more) text parts.0 short); behind = gives }, parts.1),
   );
 }
+
+-- The whole input, by a front that was read whole
+
+module _ {A : Type 0} (front : Front) (orders : List ℕ → Stage A) (work : A → Work) where
+  -- its text orders nothing
+  pub text_refused : (before after out : Option (List ℕ)) (taken : ℕ) (read text : List ℕ) (status : Status)
+      → Consumes before after read → IsWhole front read (IsOver after) text → length text ≤ front.most
+      → (IsDefined status → orders text (Err status)) → IsRefusal status
+      → SourceMeets (by_front front orders work) before after out out status
+  text_refused before after out taken read text status consumed whole short refused refusal =
+      front_refused front orders work before after out taken status
+      (asks_refused front orders before after taken read text status consumed whole short refused refusal.read)
+      refusal.write
+
+  -- its text orders a value, and after it this is right for the value's work
+  pub text_told : IsFront front → (before mid left out out' : Option (List ℕ)) (taken : ℕ) (read text : List ℕ)
+      (value : A) (status : Status)
+      → Consumes before mid read → taken ≡ length read → IsWhole front read (IsOver mid) text
+      → length text ≤ front.most → orders text (Ok value)
+      → SourceMeets (work value (limit - taken)) mid left out out' status
+      → SourceMeets (by_front front orders work) before left out out' status
+  text_told is before mid left out out' taken read text value status consumed count whole short gives p =
+      front_told front is orders work before mid left taken value out out' status
+      (asks_value front orders before mid taken read text value consumed count whole short gives) p

@@ -1,7 +1,7 @@
 -- Stages one after another, and what is answered by them.
-use Rattle.std.proofs.Common.{◌≡◌, ◌⊎◌, ℕ, List, [], Ok, Err, Result, refl, subst, sym, inl, inr}
+use Rattle.std.proofs.Common.{◌≡◌, ℕ, List, Ok, Err, Result, refl, subst, sym, inl, inr}
 use Rattle.spiral_words.specs.declared.spiral_status.status.Status.{Status}
-use Rattle.commands.specs.SpiralInput.Stage.{Stage, given, GoesOn, ◌>>=◌, IsAnswerBy, IsBrokenBy, IsCutBy}
+use Rattle.commands.specs.SpiralInput.Stage.{Stage, given, ◌>>=◌, IsAnswerBy, IsBrokenBy, IsCutBy}
 
 -- Three stages
 
@@ -20,22 +20,6 @@ joined a b c (Err s) (inr p) = inr (record {
   behind = inr (record { value = p.value; before = p.before.behind; behind = p.behind });
 })
 
-refused_behind : {A B C : Type 0} (a : Stage A) (b : A → Stage B) (c : B → Stage C) (s : Status) (x : A) → a (Ok x)
-    → b x (Err s) ⊎ GoesOn (b x) c (Err s) → ((a >>= b) >>= c) (Err s)
-refused_behind a b c s x gives (inl p) = inl (inr (record { value = x; before = gives; behind = p }))
-refused_behind a b c s x gives (inr p) =
-    inr (record { value = p.value; before = record { value = x; before = gives; behind = p.before }; behind = p.behind })
-
-pub split_off : {A B C : Type 0} (a : Stage A) (b : A → Stage B) (c : B → Stage C) (r : Result C Status)
-    → (a >>= (λ (x : A). b x >>= c)) r → ((a >>= b) >>= c) r
-split_off a b c (Ok v) p = record {
-  value = p.behind.value;
-  before = record { value = p.value; before = p.before; behind = p.behind.before };
-  behind = p.behind.behind;
-}
-split_off a b c (Err s) (inl p) = inl (inl p)
-split_off a b c (Err s) (inr p) = refused_behind a b c s p.value p.before p.behind
-
 -- A stage that changes nothing
 
 ok_same : {A : Type 0} (a b : Result A Status) (x y : A) → a ≡ Ok x → b ≡ Ok y → a ≡ b → x ≡ y
@@ -44,29 +28,12 @@ ok_same a b x y e f g = cc
 ok_err : {A : Type 0} (s : Status) (a b : Result A Status) (x : A) → a ≡ Err s → b ≡ Ok x → a ≡ b → ⊥
 ok_err s a b x e f g = absurd (cc)
 
-pub with_unit : {A : Type 0} (a : Stage A) (r : Result A Status) → a r → (a >>= (λ (x : A). given (Ok x))) r
-with_unit a (Ok v) p = record { value = v; before = p; behind = refl }
-with_unit a (Err s) p = inl p
-
 pub no_unit : {A : Type 0} (a : Stage A) (r : Result A Status) → (a >>= (λ (x : A). given (Ok x))) r → a r
 no_unit {A} a (Ok v) p = subst (λ (x : A). a (Ok x)) (sym (ok_same (Ok v) (Ok p.value) v p.value refl refl p.behind)) p.before
 no_unit a (Err s) (inl p) = p
 no_unit a (Err s) (inr p) = absurd (ok_err s (Err s) (Ok p.value) p.value refl refl p.behind)
 
 -- The answer by two stages is that by the first, of answers by the second
-
-nested_refusal : {A B : Type 0} (first : Stage A) (next : A → Stage B) (Settles : B → Status → List ℕ → Type 0)
-    (s : Status) (t : List ℕ)
-    → first (Err s) ⊎ GoesOn first next (Err s) → t ≡ []
-    → IsAnswerBy first (λ (a : A). IsAnswerBy (next a) Settles) s t
-nested_refusal first next Settles s t (inl p) e = inl (p, e)
-nested_refusal first next Settles s t (inr p) e = inr (p.value, p.before, inl (p.behind, e))
-
-pub nested : {A B : Type 0} (first : Stage A) (next : A → Stage B) (Settles : B → Status → List ℕ → Type 0)
-    (s : Status) (t : List ℕ)
-    → IsAnswerBy (first >>= next) Settles s t → IsAnswerBy first (λ (a : A). IsAnswerBy (next a) Settles) s t
-nested first next Settles s t (inl p) = nested_refusal first next Settles s t p.0 p.1
-nested first next Settles s t (inr p) = inr (p.1.value, p.1.before, inr (p.0, p.1.behind, p.2))
 
 pub unnested : {A B : Type 0} (first : Stage A) (next : A → Stage B) (Settles : B → Status → List ℕ → Type 0)
     (s : Status) (t : List ℕ)

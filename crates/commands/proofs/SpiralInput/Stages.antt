@@ -1,6 +1,9 @@
 -- Stages that have one right answer.
-use Rattle.std.proofs.Common.{◌≡◌, ℕ, List, Ok, Err, Result, refl, sym, ap, subst, ◌∙◌, inl, inr}
+use Rattle.std.proofs.Common.{◌≡◌, ℕ, List, None, Some, Ok, Err, Result, refl, sym, ap, subst, ◌∙◌, inl, inr}
+use Rattle.std.specs.declared.option.Option.{Option}
 use Rattle.spiral_words.specs.declared.spiral_status.status.Status.{Status}
+use Rattle.spiral_words.specs.declared.spiral_status.status.Status.TheVariants.{Turn}
+use Rattle.commands.specs.SpiralInput.Commands.{admitted}
 use Rattle.commands.specs.SpiralInput.Stage.{Stage, given, GoesOn, ◌>>=◌, IsAnswerBy}
 
 -- at most one answer is right
@@ -21,6 +24,12 @@ ended_same s t e = cc
 
 pub done_ended : {A : Type 0} (a : A) (s : Status) → done a ≡ ended s → ⊥
 done_ended a s e = absurd (cc)
+
+-- what goes on is what was admitted, and no stranger was named
+pub admitted_same : {A : Type 0} (stranger : Option ℕ) (procs : ℕ) (a b : A) → done b ≡ admitted stranger procs a
+    → (a ≡ b) × (stranger ≡ None)
+admitted_same None procs a b is = (done_same a b (sym is), refl)
+admitted_same (Some q) procs a b is = absurd (done_ended b (Turn q procs) is)
 
 pub given_decided : {A : Type 0} (answer : Result A Status) → IsDecided (given answer)
 given_decided answer x y p q = p ∙ sym q

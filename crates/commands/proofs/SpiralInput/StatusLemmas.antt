@@ -29,14 +29,19 @@ from_write stream.TooLong e = absurd (cc)
 from_write stream.ReadFault e = absurd (cc)
 from_write stream.WriteFault e = refl
 
-fault_has_memory : (fault : StreamFault) → status_of_fault fault ≡ NoMemory → ⊥
-fault_has_memory (stream.BadNumber token) e = absurd (cc)
-fault_has_memory (stream.Truncated have need) e = absurd (cc)
-fault_has_memory stream.TooLong e = absurd (cc)
-fault_has_memory stream.ReadFault e = absurd (cc)
-fault_has_memory stream.WriteFault e = absurd (cc)
+-- and no other ends
+fault_is_other : (fault : StreamFault) → (status_of_fault fault ≢ Success) × (status_of_fault fault ≢ Usage)
+    × (status_of_fault fault ≢ NoMemory)
+fault_is_other (stream.BadNumber token) = (λ e. cc, λ e. cc, λ e. cc)
+fault_is_other (stream.Truncated have need) = (λ e. cc, λ e. cc, λ e. cc)
+fault_is_other stream.TooLong = (λ e. cc, λ e. cc, λ e. cc)
+fault_is_other stream.ReadFault = (λ e. cc, λ e. cc, λ e. cc)
+fault_is_other stream.WriteFault = (λ e. cc, λ e. cc, λ e. cc)
 
-abbrev failed : StreamFault → Result (Unit {0}) StreamFault
+pub fault_success : (fault : StreamFault) → status_of_fault fault ≢ Success
+fault_success fault = (fault_is_other fault).0
+
+abbrev pub failed : StreamFault → Result (Unit {0}) StreamFault
 failed fault = Err fault
 
 failed_same : (a b : StreamFault) → failed a ≡ failed b → a ≡ b
@@ -69,24 +74,10 @@ unreported answered now none = record { later = omega arith; cause = λ e. absur
 pub reports_after : {A : Type 0} (before mid now : ℕ) → mid ≡ before → Reports mid now A → Reports before now A
 reports_after before mid now e r = rw (sym e) r
 
-fault_usage : (fault : StreamFault) → status_of_fault fault ≢ Usage
-fault_usage (stream.BadNumber token) = λ e. cc
-fault_usage (stream.Truncated have need) = λ e. cc
-fault_usage stream.TooLong = λ e. cc
-fault_usage stream.ReadFault = λ e. cc
-fault_usage stream.WriteFault = λ e. cc
-
 pub rest_usage : (fault : RestFault) → status_of_rest fault ≢ Usage
 rest_usage rest_fault.TooLong = λ e. cc
 rest_usage rest_fault.ReadFault = λ e. cc
 rest_usage rest_fault.NoMemory = λ e. cc
-
-pub fault_success : (fault : StreamFault) → status_of_fault fault ≡ Success → ⊥
-fault_success (stream.BadNumber token) e = absurd (cc)
-fault_success (stream.Truncated have need) e = absurd (cc)
-fault_success stream.TooLong e = absurd (cc)
-fault_success stream.ReadFault e = absurd (cc)
-fault_success stream.WriteFault e = absurd (cc)
 
 -- How commands end
 
@@ -128,8 +119,8 @@ pub run_ends : (fault : StreamFault) (held : List ℕ) (read_before read_mid rea
     → EndsCleanly (status_of_fault fault) held read_before read_now write_before write_now out out'
 run_ends fault held read_before read_mid read_now write_before write_mid write_now out out' no_read no_write empty read write = record {
   empty = λ e. empty (read_alone fault e);
-  usage = fault_usage fault;
+  usage = (fault_is_other fault).1;
   read = reports_after read_before read_mid read_now no_read (reports_read read_mid read_now fault read);
   write = reports_after write_before write_mid write_now no_write (reports_write write_mid write_now fault write);
-  memory = λ e. absurd (fault_has_memory fault e);
+  memory = λ e. absurd ((fault_is_other fault).2 e);
 }

@@ -6,7 +6,7 @@ use Rattle.commands.specs.SpiralInput.Outcomes.{Outcomes, Meets, SourceMeets}
 use Rattle.commands.specs.SpiralInput.Stage.{Stage, given, ◌>>=◌}
 use Rattle.commands.specs.Equations.Front.{Front, taken_from, room_behind, MayGoOn, HasEnded, ordered, Work, by_front}
 use Rattle.commands.specs.Equations.Front.{staged}
-use Rattle.commands.proofs.SpiralInput.Nested.{joined, split_off, nested, unnested, answer_map, broken_map, cut_map}
+use Rattle.commands.proofs.SpiralInput.Nested.{joined, unnested, answer_map, broken_map, cut_map}
 
 -- all that is right for the first is right for the second
 pub record Within (a b : Outcomes) : Type 1 where
@@ -63,15 +63,6 @@ front_within {A} front orders others v w g h = record {
       (ordered_map front orders others read g) (λ a q. (h a (room_behind front read)).cut (front.behind read) left t q) p;
 }
 
-split_broken : {A B : Type 0} (front : Front) (orders : List ℕ → Stage A) (next : A → Stage B) (work : B → Work)
-    (read : List ℕ) (ended : Type 0) (t : List ℕ)
-    → (by_front front (λ text. orders text >>= next) work).broken read ended t
-    → (by_front front orders (λ (a : A). staged (next a) work)).broken read ended t
-split_broken front orders next work read ended t (inl p) = inl p
-split_broken front orders next work read ended t (inr (b, p, q)) =
-    let o = split_off (given (taken_from front read)) orders next (Ok b) p.gives in
-    inr (o.value, record { front = p.front; gives = o.before }, (b, o.behind, q))
-
 join_broken : {A B : Type 0} (front : Front) (orders : List ℕ → Stage A) (next : A → Stage B) (work : B → Work)
     (read : List ℕ) (ended : Type 0) (t : List ℕ)
     → (by_front front orders (λ (a : A). staged (next a) work)).broken read ended t
@@ -80,22 +71,7 @@ join_broken front orders next work read ended t (inl p) = inl p
 join_broken front orders next work read ended t (inr (a, p, (b, n, q))) =
     inr (b, record { front = p.front; gives = joined (given (taken_from front read)) orders next (Ok b) (record { value = a; before = p.gives; behind = n }) }, q)
 
--- the last stage of what a front orders may stand with the work
-pub front_split : {A B : Type 0} (front : Front) (orders : List ℕ → Stage A) (next : A → Stage B) (work : B → Work)
-    → Within (by_front front (λ text. orders text >>= next) work)
-    (by_front front orders (λ (a : A). staged (next a) work))
-front_split {A} {B} front orders next work = record {
-  answer = λ bytes s t p.
-      let Settles : B → Status → List ℕ → Type 0 = λ b. (work b (room_behind front bytes)).answer (front.behind bytes) in
-      nested (ordered front orders bytes) next Settles s t
-      (answer_map (ordered front (λ text. orders text >>= next) bytes) (ordered front orders bytes >>= next) Settles Settles s t
-      (λ r q. split_off (given (taken_from front bytes)) orders next r q) (λ b q. q) p);
-  broken = λ read ended t p. split_broken front orders next work read ended t p;
-  cut = λ read left t p.
-      let o = split_off (given (taken_from front read)) orders next (Ok p.0) p.1.gives in
-      (o.value, record { front = p.1.front; gives = o.before }, (p.0, o.behind, p.2));
-}
-
+-- the last stage before the work may stand with what a front orders
 pub front_join : {A B : Type 0} (front : Front) (orders : List ℕ → Stage A) (next : A → Stage B) (work : B → Work)
     → Within (by_front front orders (λ (a : A). staged (next a) work))
     (by_front front (λ text. orders text >>= next) work)

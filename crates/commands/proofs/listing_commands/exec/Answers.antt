@@ -2,7 +2,11 @@ use Rattle.std.proofs.Common.{zero-add, ◌∙◌, length}
 use Rattle.std.proofs.lemmas.Result.{err_from_is_err_and}
 use Rattle.io_edge.specs.Feed.{to_come}
 use Rattle.commands.specs.SpiralInput.Stage.{status_of}
-use Rattle.commands.proofs.ListingCommands.ListedLemmas.{exec_unread, exec_refused, exec_told}
+use Rattle.commands.specs.Equations.Exec.{exec_work}
+use Rattle.commands.specs.Equations.Front.{part}
+use Rattle.commands.specs.ListingCommands.Listed.{loaded}
+use Rattle.commands.proofs.SpiralInput.FrontLemmas.{text_refused}
+use Rattle.commands.proofs.ListingCommands.ListedLemmas.{exec_unread, exec_told}
 use Rattle.commands.proofs.listing_commands.exec.Goals as goal
 
 pub returns-in_err-text-clause-told : goal.returns-in_err-text-clause-told
@@ -20,8 +24,8 @@ returns-in_err-program-clause-told g c =
     let told = c.in_ok-text.ensures.told in
     let refused = rw c.deref.ensures.value at c.in_err-program.ensures.refused in
     let p = err_from_is_err_and c.from_residual-in_err-program.result c.from_residual-in_err-program.ensures.1 in
-    rw (p.1, p.2) (exec_refused c.args.schedule.now start reached (g.O.Sink.taken c.args.output.now) c.listing_text.new.feed.taken told.0 c.in_ok-text.text.items c.in_err-program.field-0.0
-    told.1 told.2.3 told.2.1 refused c.in_err-program.ensures.refusal)
+    rw (p.1, p.2) (text_refused (part 1048576) (loaded c.args.schedule.now) exec_work start reached (g.O.Sink.taken c.args.output.now) c.listing_text.new.feed.taken told.0 c.in_ok-text.text.items c.in_err-program.field-0.0
+    told.1 told.2.3.parts told.2.1 refused c.in_err-program.ensures.refusal)
 
 pub returns-clause-told : goal.returns-clause-told
 returns-clause-told g c =

@@ -8,7 +8,9 @@ use Rattle.commands.specs.Equations.Apply.{apply_work}
 use Rattle.commands.specs.Equations.Formulas.{formed}
 use Rattle.commands.specs.SpiralInput.Ends.{EndsCleanly}
 use Rattle.commands.specs.SpiralInput.Stage.{status_of}
-use Rattle.commands.proofs.FormulaCommands.CompiledLemmas.{line_unread, line_refused, apply_told}
+use Rattle.commands.specs.Equations.Front.{line}
+use Rattle.commands.proofs.SpiralInput.FrontLemmas.{text_refused}
+use Rattle.commands.proofs.FormulaCommands.CompiledLemmas.{line_unread, apply_told}
 use Rattle.commands.proofs.formula_commands.apply.apply.Goals as goal
 
 pub returns-in_err-text-clause-told : goal.returns-in_err-text-clause-told
@@ -26,7 +28,7 @@ returns-in_err-program-clause-told g c =
     let told = c.in_ok-text.ensures.told in
     let refused = subst (λ t. IsDefined c.in_err-program.field-0.0 → formed (named c.args.schedule.now) t (Err c.in_err-program.field-0.0)) c.deref.ensures.value c.in_err-program.ensures.refused in
     let p = err_from_is_err_and c.from_residual-in_err-program.result c.from_residual-in_err-program.ensures.1 in
-    rw (p.1, p.2) (line_refused (formed (named c.args.schedule.now)) (apply_work c.args.modulus.now) start reached (g.O.Sink.taken c.args.output.now) c.formula_line.new.feed.taken told.0 c.in_ok-text.text.items c.in_err-program.field-0.0
+    rw (p.1, p.2) (text_refused (line 65536) (formed (named c.args.schedule.now)) (apply_work c.args.modulus.now) start reached (g.O.Sink.taken c.args.output.now) c.formula_line.new.feed.taken told.0 c.in_ok-text.text.items c.in_err-program.field-0.0
     told.1 told.2.3 told.2.1 refused c.in_err-program.ensures.refusal)
 
 pub returns-clause-told : goal.returns-clause-told
