@@ -2,7 +2,7 @@
 use Rattle.std.proofs.Common.{◌≡◌, ℕ, zero, suc, ◌+◌, ◌≤◌, List, [], ◌∷◌, Option, Some, None, Result, Ok, Err, refl}
 use Rattle.std.proofs.Common.{sym, ap, subst, arith}
 use Rattle.grammar.specs.Reading.{Place, start, ended, pure_at, one_of_at}
-use Rattle.grammar.specs.Stops.{Stop, and_go_on, passed, tested_at}
+use Rattle.grammar.specs.Stops.{Stop, ◌>>=◌, and_go_on, passed, tested_at}
 use Rattle.spl_ast.specs.Formula.{Formula, Identity, Fourier, Hadamard, Twiddles, Diagonal, Stride, Permutation}
 use Rattle.spl_ast.specs.Formula.{GoodThomasIn, GoodThomasOut, Product, TensorLeft, TensorRight, DirectSum, Pending}
 use Rattle.spl_ast.specs.Nesting.{nesting_of, IsComplete, IsPrintable}
