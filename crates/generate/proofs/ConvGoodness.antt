@@ -1,50 +1,224 @@
 -- A program of a tree's joined passes is one for convolutions.
-use Rattle.std.proofs.Common.{◌≡◌, ℕ, ◌+◌, ◌*◌, ◌<◌, List, All, Ok, length, ap, ap₂, ◌∙◌, arith, mod-lt}
+use Rattle.std.proofs.Common.{◌≡◌, ◌≢◌, ℕ, List, refl, sym, ◌∙◌, subst, ◌*◌, ◌%◌, ◌<◌, ap, arith, mod-lt, slice_index}
+use Rattle.std.proofs.Common.{◌+◌, ◌++◌, length, map, append-nil, length-append, sum_by, All, Ok, ap₂, []}
+use Rattle.std.proofs.lemmas.List.Sums.{sum_by-append}
 use Rattle.std.proofs.lemmas.List.{length-map}
 use Rattle.std.proofs.lemmas.List.Elements.{All-map}
-use Rattle.std.specs.Prelude.{slice_index}
 use Rattle.std.specs.List.{range_with_len}
-use Rattle.matrix_meaning.specs.Convolution.{convolution_factor}
-use Rattle.matrix_meaning.specs.Kind.{transform}
-use Rattle.ring_mod.specs.Inverse.{inverse_mod}
-use Rattle.matrix_meaning.specs.Convolution.{IsPrincipal}
+use Rattle.std.proofs.lemmas.Simd.{map-map}
+use Rattle.matrix_meaning.specs.Asked.{asked_of}
 use Rattle.matrix_meaning.specs.Convolving.{IsConvRequest}
-use Rattle.sigma_lower.specs.Merged.{tree_merged}
-use Rattle.icode.specs.Plain.{PlainProgram}
-use Rattle.matrix_meaning.specs.Parts.{inverted}
-use Rattle.matrix_meaning.proofs.Requests.{valid_by_powers}
-use Rattle.tree_model.proofs.InverseTraffic.{inverse_loads, whole-same}
-use Rattle.loop_merge.proofs.JoinedPasses.Programs.{joined_are_ready}
-use Rattle.loop_merge.proofs.MultipliedPasses.Counts.{tables-last}
-use Rattle.loop_merge.specs.JoinedPasses.Joined.{joined}
-use Rattle.loop_merge.specs.JoinedPasses.Laws.{CanJoin}
-use Rattle.matrix_meaning.specs.declared.Kind.TheVariants.{Dft}
+use Rattle.matrix_meaning.specs.declared.Kind.TheVariants.{Dft, Wht, Idft}
 use Rattle.matrix_meaning.specs.declared.Request.{Request}
+use Rattle.matrix_meaning.specs.Parts.{inverted}
 use Rattle.matrix_meaning.specs.Valid.{IsValid}
-use Rattle.operators.proofs.Lists.{length-list_below}
+use Rattle.matrix_meaning.proofs.Asked.{asked_of_one}
+use Rattle.matrix_meaning.proofs.Requests.{inverse_is_valid, valid_by_powers}
+use Rattle.tree_model.specs.Breakdown.{Breakdown}
+use Rattle.tree_model.specs.Chosen.{IsWholeTree, whole_cost}
+use Rattle.tree_model.specs.Cost.{cost_of}
+use Rattle.tree_model.specs.Whole.{IsTreeOf}
+use Rattle.tree_model.proofs.FlatTrees.{flat_costs}
+use Rattle.tree_model.proofs.InverseCosts.{inverse_costs}
+use Rattle.tree_model.proofs.InverseTrees.{inverse_admits}
+use Rattle.tree_model.proofs.WholeTrees.{admissible_is_whole, cost_itself, forward_itself, whole_is_admissible}
+use Rattle.generate.specs.Factors.{root_transform, factors_of}
+use Rattle.matrix_meaning.specs.Convolution.{convolution, convolution_factor, IsPrincipal}
+use Rattle.matrix_meaning.proofs.ConvolutionLaw.{convolution_by_diagonal}
+use Rattle.sigma_lower.specs.Merged.{tree_merged}
+use Rattle.matrix_meaning.proofs.Roots.{root-is}
+use Rattle.loop_merge.proofs.JoinedPasses.Means.{joined_means}
+use Rattle.matrix_meaning.specs.Kind.{transform, entry_of}
+use Rattle.operators.specs.Operator.{scale}
+use Rattle.operators.specs.Sum.{list_below, sum_below}
+use Rattle.operators.proofs.Lists.{at-list_below, length-list_below, list_below-same}
+use Rattle.sigma_spl.specs.Good.{IsVector}
+use Rattle.sigma_spl.specs.Merged.{merged_on, PlainMerged}
+use Rattle.generate.specs.ConvLetters.{conv_merged}
 use Rattle.code_gen.specs.PassCode.Contract.{Performs}
+use Rattle.icode.specs.Actions.{plain_code}
+use Rattle.icode.specs.Machine.{weighted, whole_counts}
+use Rattle.icode.specs.Plain.{PlainProgram}
+use Rattle.loop_merge.proofs.MultipliedPasses.Counts.{sum-costs, sum-loads, tables-last}
+use Rattle.loop_merge.proofs.MultipliedPasses.Lasts.{length-last}
+use Rattle.loop_merge.specs.JoinedPasses.Joined.{joined}
+use Rattle.loop_merge.specs.MultipliedPasses.Multiplied.{multiplied_last, with_factors}
+use Rattle.operators.specs.declared.target.Target.{Target}
 use Rattle.sigma_spl.specs.Lists.{LastIs}
-use Rattle.sigma_spl.specs.Merged.{PlainMerged}
-use Rattle.sigma_spl.specs.Nest.{values}
+use Rattle.sigma_spl.specs.Nest.{PlainNest, values}
+use Rattle.sigma_spl.specs.Shared.Costs.{pass_cost, pass_loads}
 use Rattle.sigma_spl.specs.Shared.Owners.{all_passes}
 use Rattle.sigma_spl.specs.Shared.Ready.{IsReady}
 use Rattle.sigma_spl.specs.Trees.{IsFree, IsMergedTree}
-use Rattle.tree_model.specs.Breakdown.{Breakdown}
-use Rattle.tree_model.specs.Chosen.{IsWholeTree}
+use Rattle.ring_mod.specs.Inverse.{inverse_mod}
+use Rattle.tree_model.proofs.InverseTraffic.{inverse_loads, whole-same}
+use Rattle.loop_merge.proofs.JoinedPasses.Programs.{joined_are_ready}
+use Rattle.loop_merge.specs.JoinedPasses.Laws.{CanJoin}
 use Rattle.tree_model.specs.Passes.{whole_passes}
 use Rattle.sigma_spl.specs.Shared.Targets.{target_of}
-use Rattle.generate.proofs.TreePasses.Merged.{trees_are_merged}
-use Rattle.generate.proofs.ConvCounts.{CountsBoth, counts-both}
 use Rattle.generate.specs.Convolver.{IsConvolver}
-use Rattle.generate.specs.Factors.{factors_of}
-use Rattle.generate.specs.ConvLetters.{conv_merged}
 use Rattle.generate.specs.ConvPlanned.{IsConvPlanned}
-use Rattle.generate.proofs.ConvTrees.{conv_not_idft, conv_tree, inverse_cost, inverse_request, inverse_tree}
-use Rattle.generate.proofs.ConvTrees.{inverse_valid}
-use Rattle.generate.proofs.ConvMeaning.{joined-convolve}
-use Rattle.generate.proofs.Goodness.{header-of, items-of}
-use Rattle.generate.proofs.Performed.{any-turns}
-use Rattle.generate.proofs.Totals.{flat-loads, flat-number, tree-totals}
+use Rattle.matrix_meaning.specs.declared.Kind.{Kind}
+use Rattle.ring_mod.specs.Residue.{product_mod}
+use Rattle.generate.proofs.TreePasses.Merged.{trees_are_merged, trees_mean}
+use Rattle.generate.proofs.Performed.{CountsPasses, alone, performed-counts, any-turns, header-of, items-of, flat-loads}
+use Rattle.generate.proofs.Performed.{flat-number, tree-totals}
+
+-- ---- a program of a tree's joined passes is one for convolutions
+
+-- ---- trees of a request for convolutions, which is of one size and no inverse
+
+-- ---- one such request
+
+module _ (r : Request) (request : IsConvRequest r) where
+  pub conv_not_wht : r.kind ≢ Wht
+  conv_not_wht wht = let other : Dft ≡ Wht = sym request.kind ∙ wht in cc
+
+  pub conv_not_idft : r.kind ≢ Idft
+  conv_not_idft idft = let other : Dft ≡ Idft = sym request.kind ∙ idft in cc
+
+  -- what it asks for
+  pub conv_asked : (x : List ℕ) → asked_of r x ≡ root_transform r x
+  conv_asked x = asked_of_one r x request.dimensions
+
+  module _ (t : Breakdown) (h : IsWholeTree r t) where
+    pub conv_tree : IsTreeOf r t
+    conv_tree = subst (λ (c : Request). IsTreeOf c t) (forward_itself r conv_not_idft) h.tree
+
+    -- its tree costs the same by its words for one size
+    flat_cost : whole_cost r t ≡ cost_of r t
+    flat_cost = cost_itself r t conv_not_idft ∙ flat_costs r t request.dimensions conv_tree
+
+-- ---- the request by the inverse root
+
+module _ (r : Request) (request : IsConvRequest r) (valid : IsValid r) where
+  pub inverse_valid : IsValid (inverted r)
+  inverse_valid = inverse_is_valid r (conv_not_wht r request) request.dimensions valid
+
+  pub inverse_request : IsConvRequest (inverted r)
+  inverse_request = record {
+    in_range = inverse_valid.in_range;
+    kind = refl;
+    dimensions = request.dimensions;
+    procs = request.procs;
+    line = request.line;
+    lanes = request.lanes;
+    unit = request.unit;
+  }
+
+  -- it has the same trees, at the same cost
+  module _ (t : Breakdown) (h : IsWholeTree r t) where
+    pub inverse_tree : IsWholeTree (inverted r) t
+    inverse_tree =
+        admissible_is_whole (inverted r) t request.dimensions (conv_not_idft (inverted r) inverse_request)
+        ((inverse_admits r t request.kind).1 (whole_is_admissible r t request.dimensions (conv_not_idft r request) h))
+
+    pub inverse_cost : whole_cost (inverted r) t ≡ whole_cost r t
+    inverse_cost =
+        flat_cost (inverted r) inverse_request t inverse_tree
+        ∙ inverse_costs r t request.kind valid
+        ∙ sym (flat_cost r request t h)
+
+-- ---- joined passes of a tree compute the convolution
+
+scale-vector : (m n : ℕ) (f : ℕ → ℕ) (x : List ℕ) → 0 < m → IsVector m n (scale m n f x)
+scale-vector m n f x some =
+    record {
+      size = length-list_below n (λ i. (f i * slice_index x i) % m);
+      residues = λ i low. subst (λ v. v < m) (sym (at-list_below n (λ i. (f i * slice_index x i) % m) i low)) (mod-lt (f i * slice_index x i) some);
+    }
+
+-- listed factors
+scale-listed : (m n : ℕ) (f : ℕ → ℕ) (x : List ℕ) → scale m n (slice_index (list_below n f)) x ≡ scale m n f x
+scale-listed m n f x = list_below-same n _ _ (λ i low. ap (λ v. (v * slice_index x i) % m) (at-list_below n f i low))
+
+-- what a tree's passes do by the request's root
+tree-does : (c : Request) (t : Breakdown) (x : List ℕ) →
+    IsConvRequest c → IsValid c → IsWholeTree c t → IsVector c.modulus c.size x →
+    merged_on c.modulus (tree_merged c t) x ≡ transform Dft c.modulus c.size c.root x
+tree-does c t x request valid h vector =
+    trees_mean c t valid h x vector
+    ∙ conv_asked c request x
+    ∙ ap (λ k. transform k c.modulus c.size c.root x) request.kind
+
+module _ (r : Request) (t : Breakdown) (ls : List ℕ) (request : IsConvRequest r) (valid : IsValid r)
+    (h : IsWholeTree r t) (principal : IsPrincipal r.modulus r.size r.root) where
+  abbrev factor : ℕ → ℕ
+  factor = convolution_factor r.modulus r.size r.root ls
+
+  some : 0 < r.modulus
+  some = let two = request.in_range.modulus.0 in omega (arith, two)
+
+  pub joined-convolve : (x : List ℕ) → IsVector r.modulus r.size x →
+      merged_on r.modulus (conv_merged r t (factors_of r ls)) x ≡ convolution r.modulus r.size ls x
+  joined-convolve x vector =
+      let m = r.modulus in
+      let n = r.size in
+      let g = tree_merged r t in
+      let k = tree_merged (inverted r) t in
+      let ds = factors_of r ls in
+      let root = root-is r.kind m r.root n request.in_range.modulus.0 (conv_not_wht r request) valid.root in
+      joined_means g k ds ((trees_are_merged r t valid h).free (conv_not_idft r request)) refl m x some
+      ∙ ap (λ y. merged_on m k (scale m n (slice_index ds) y)) (tree-does r t x request valid h vector)
+      ∙ ap (merged_on m k) (scale-listed m n factor (transform Dft m n r.root x))
+      ∙ tree-does (inverted r) t (scale m n factor (transform Dft m n r.root x))
+      (inverse_request r request valid) (inverse_valid r request valid) (inverse_tree r request valid t h)
+      (scale-vector m n factor (transform Dft m n r.root x) some)
+      ∙ convolution_by_diagonal m n r.root ls x some root request.unit principal
+
+-- ---- what a program of joined passes counts on its one processor
+
+-- the operations of g and of k, and a product for each word between them; the loads of both; and a store of each word in each pass
+pub record CountsBoth (h : Target) (g k : PlainMerged) (p : PlainProgram) : Type 0 where
+  pub operations : (weight : ℕ) → 0 < weight →
+      weighted weight (whole_counts (plain_code p) 0)
+      ≡ sum_by (pass_cost weight h.modulus) (all_passes g.phases) + weight * h.size
+      + sum_by (pass_cost weight h.modulus) (all_passes k.phases)
+  pub loads : (whole_counts (plain_code p) 0).loads
+      ≡ sum_by pass_loads (all_passes g.phases) + sum_by pass_loads (all_passes k.phases)
+  pub stores : (whole_counts (plain_code p) 0).stores
+      ≡ h.size * (length (all_passes g.phases) + length (all_passes k.phases))
+
+module _ (h : Target) (g k : PlainMerged) (ds : List ℕ) (procs : h.procs ≡ 1) (ready : IsReady h g)
+    (all-ready : IsReady h (joined g ds k)) (free : LastIs IsFree (all_passes g.phases)) (p : PlainProgram)
+    (performs : Performs h (joined g ds k) p) where
+  abbrev earlier : List (List PlainNest)
+  earlier = all_passes g.phases
+
+  abbrev changed : List (List PlainNest)
+  changed = multiplied_last (values ds) earlier
+
+  abbrev later : List (List PlainNest)
+  later = all_passes k.phases
+
+  whole : all_passes (joined g ds k).phases ≡ changed ++ later
+  whole = append-nil (changed ++ later)
+
+  all : CountsPasses h (changed ++ later) (whole_counts (plain_code p) 0)
+  all =
+      subst (λ ps. CountsPasses h ps (whole_counts (plain_code p) 0)) whole
+      (performed-counts h (joined g ds k) p performs all-ready 0 (omega (arith, procs)))
+
+  pub counts-both : CountsBoth h g k p
+  counts-both =
+      record {
+        operations = λ weight some.
+            alone h.procs _ _ procs (all.operations weight some)
+            ∙ sum_by-append (pass_cost weight h.modulus) changed later
+            ∙ ap (λ n. n + sum_by (pass_cost weight h.modulus) later)
+            (sum-costs h (values ds) weight earlier ready.passes free);
+        loads =
+            alone h.procs _ _ procs all.loads
+            ∙ sum_by-append pass_loads changed later
+            ∙ ap (λ n. n + sum_by pass_loads later) (sum-loads h (values ds) earlier);
+        stores =
+            alone h.procs _ _ procs all.stores
+            ∙ ap (λ n. h.size * n)
+            (length-append changed later
+            ∙ ap (λ n. n + length later) (length-last (map (with_factors (values ds))) earlier));
+      }
+
+-- ---- a program of a tree's joined passes is one for convolutions
 
 -- a request that is planned is valid
 pub planned-valid : (r : Request) (t : Breakdown) → IsConvRequest r → IsConvPlanned r (Ok t) → IsValid r
@@ -161,3 +335,17 @@ module _ (r : Request) (t : Breakdown) (ls : List ℕ) (request : IsConvRequest 
       where
         twice : (n k : ℕ) → n * (k + k) ≡ 2 * (n * k)
         twice n k = omega arith
+
+-- ---- the factors between both transforms
+
+map-listed : (n : ℕ) (f g : ℕ → ℕ) → map f (list_below n g) ≡ list_below n (λ k. f (slice_index (list_below n g) k))
+map-listed n f g = map-map f g (range_with_len 0 n) ∙ list_below-same n _ _ (λ k low. ap f (sym (at-list_below n g k low)))
+
+-- the transform of a list, times the inverse of the size
+pub factors-are : (kind : Kind) (m n w inverse : ℕ) (ls ys zs : List ℕ) → kind ≡ Dft → ys ≡ transform kind m n w ls →
+    inverse ≡ inverse_mod m n → zs ≡ map (product_mod m inverse) ys →
+    zs ≡ list_below n (convolution_factor m n w ls)
+factors-are kind m n w inverse ls ys zs dft transformed inverts multiplied =
+    multiplied
+    ∙ ap₂ (λ i vs. map (product_mod m i) vs) inverts (transformed ∙ ap (λ k. transform k m n w ls) dft)
+    ∙ map-listed n (product_mod m (inverse_mod m n)) (λ k. sum_below n (λ l. entry_of Dft m n w k l * slice_index ls l) % m)

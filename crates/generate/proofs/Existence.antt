@@ -2,7 +2,7 @@
 use Rattle.std.proofs.Common.{◌≡◌, ◌⊎◌, ℕ, refl, inl, inr, Option, None, Some, Result, Ok, Err}
 use Rattle.std.proofs.lemmas.Bool.{cases_Bool, cases_lt}
 use Rattle.matrix_meaning.specs.declared.Dimensions.{Dimensions}
-use Rattle.matrix_meaning.specs.declared.Dimensions.TheVariants.{One, Two, Three, Four}
+use Rattle.matrix_meaning.specs.declared.Dimensions.TheVariants.{One}
 use Rattle.matrix_meaning.specs.declared.Request.{Request}
 use Rattle.matrix_meaning.specs.Parts.{bad_power, first_of, rest_of}
 use Rattle.matrix_meaning.specs.Valid.{IsInRange}
@@ -36,9 +36,7 @@ decided_whole r = by r.dimensions
   where
     by : (ds : Dimensions) → IsDecidable (CanDivideBy r ds)
     by One = decided_divide r
-    by (Two a b) = decided_shares r
-    by (Three a b c) = decided_shares r
-    by (Four a b c d) = decided_shares r
+    by _ = decided_shares r
 
 within_budget_or_not : (r : Request) (t : Breakdown) → IsRooted r → IsWholeChosen r t →
     (answer : Result Breakdown GenerateFault) × IsPlanned r answer

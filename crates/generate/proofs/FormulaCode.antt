@@ -1,4 +1,3 @@
 pub mod Balanced
-pub mod Coding
 pub mod Programs
 pub mod Regrouped

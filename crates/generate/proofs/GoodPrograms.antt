@@ -16,7 +16,7 @@ use Rattle.generate.specs.Letters.{program_for}
 use Rattle.tree_model.specs.Chosen.{whole_cost}
 use Rattle.generate.proofs.ConvGoodness.{can-convolve, is-convolver, planned-valid}
 use Rattle.generate.proofs.Emission.Programs.{conv_programs_are_emissions, programs_are_emissions}
-use Rattle.generate.proofs.Goodness.{good, lean}
+use Rattle.generate.proofs.Performed.{good, lean}
 use Rattle.generate.proofs.TreePasses.Merged.{trees_are_merged}
 
 pub programs_are_good : ProgramsAreGood

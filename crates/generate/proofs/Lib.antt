@@ -1,16 +1,9 @@
 pub mod FormulaCode
 pub mod FormulaPasses
 pub mod TreePasses
-pub mod ConvCounts
 pub mod ConvExistence
 pub mod ConvGoodness
-pub mod ConvMeaning
-pub mod ConvTrees
 pub mod Emission
 pub mod Existence
-pub mod Factors
-pub mod Goodness
 pub mod GoodPrograms
-pub mod Parts
 pub mod Performed
-pub mod Totals

@@ -1,7 +1,7 @@
 -- The passes of a tree are those of its layout.
 use Rattle.std.proofs.Common.{◌≡◌, ◌*◌, Bool, true, false, refl, sym, ap, ap₂, ◌∙◌, List, [], ◌∷◌, ◌++◌, if◌then◌else◌}
 use Rattle.matrix_meaning.specs.declared.Kind.{Kind}
-use Rattle.matrix_meaning.specs.declared.Kind.TheVariants.{Dft, Wht, Idft}
+use Rattle.matrix_meaning.specs.declared.Kind.TheVariants.{Dft}
 use Rattle.matrix_meaning.specs.declared.Request.{Request}
 use Rattle.sigma_spl.specs.Work as works
 use Rattle.sigma_spl.specs.Work.{PlainWork}
@@ -14,7 +14,7 @@ use Rattle.tree_model.specs.Whole.{left_of, right_of}
 use Rattle.generate.specs.Emission.Passes.{Pass, Site, Work, kernel, left_site, long_work, node_work, passes}
 use Rattle.generate.specs.Emission.Passes.{right_site, rows, tile}
 use Rattle.generate.proofs.Emission.Nested.{pass_at, plain_work}
-use Rattle.generate.proofs.Emission.Nests.{IsNodeWork}
+use Rattle.generate.proofs.Emission.Matches.{IsNodeWork}
 use Rattle.sigma_lower.proofs.TreeLoops.Shaped.{HasWorks}
 
 -- ---- works
@@ -30,11 +30,8 @@ named (works.copy size) = tile size
 
 pub named-plain : (w : PlainWork) → IsNodeWork w → plain_work (named w) ≡ w
 named-plain (works.kernel (works.node_of c t)) h = refl
-named-plain (works.kernel (works.short kind root size)) h = absurd h
 named-plain (works.rows root size) h = refl
-named-plain (works.horner root size) h = absurd h
-named-plain (works.tile v) h = absurd h
-named-plain (works.copy size) h = absurd h
+named-plain _ h = absurd h
 
 node-work : (c : Request) (t : Breakdown) → node_work c t ≡ named (layouts.node_work c t)
 node-work c t = kinds (is_kernel c (size_of t)) c.kind
@@ -44,8 +41,7 @@ node-work c t = kinds (is_kernel c (size_of t)) c.kind
         ≡ named (if k then works.kernel (works.node_of c t) else layouts.long_work c kind t)
     kinds true kind = refl
     kinds false Dft = refl
-    kinds false Wht = refl
-    kinds false Idft = refl
+    kinds false _ = refl
 
 is-node : (c : Request) (t : Breakdown) → IsNodeWork (layouts.node_work c t)
 is-node c t = kinds (is_kernel c (size_of t)) c.kind
@@ -54,8 +50,7 @@ is-node c t = kinds (is_kernel c (size_of t)) c.kind
         IsNodeWork (if k then works.kernel (works.node_of c t) else layouts.long_work c kind t)
     kinds true kind = tt
     kinds false Dft = tt
-    kinds false Wht = tt
-    kinds false Idft = tt
+    kinds false _ = tt
 
 -- the works of a tree's layout are those of its nodes
 pub tree_works : (c : Request) (t : Breakdown) → HasWorks IsNodeWork (layout_of c t)

@@ -1,6 +1,5 @@
 -- Passes by the rules of emission as nests, of which the generator makes a program.
-use Rattle.std.proofs.Common.{ℕ, ◌+◌, List, [], ◌∷◌, ◌++◌, length, Option, Some, None}
-use Rattle.std.specs.Prelude.{map, slice_index, if◌then◌else◌}
+use Rattle.std.proofs.Common.{ℕ, ◌+◌, List, [], ◌∷◌, ◌++◌, length, Option, Some, None, map, slice_index, if◌then◌else◌}
 use Rattle.std.specs.List.{range_with_len}
 use Rattle.perm_algebra.specs.Affine.{Sum, constant, variable}
 use Rattle.sigma_spl.specs.Nest as nests

@@ -15,8 +15,7 @@ use Rattle.code_gen.specs.PassCode.Program.{program_of, tables_of_phases, tables
 use Rattle.code_gen.specs.PassCode.Statements.{diagonal_of, followed_by, is_table, multiplier_number, pass_body}
 use Rattle.code_gen.specs.PassCode.Statements.{powers_number, table_number, tables_after, tables_of_multiplier}
 use Rattle.code_gen.specs.PassCode.Statements.{tables_of_work, with_table}
-use Rattle.code_gen.proofs.PassCode.SharedTables.{extends-more}
-use Rattle.code_gen.proofs.PassCode.SharedTables.{Extends, is_table-Decides, with_table-extends}
+use Rattle.code_gen.proofs.PassCode.SharedTables.{extends-more, Extends, is_table-Decides, with_table-extends}
 use Rattle.icode.specs.Plain.{PlainBody, PlainProgram, body_of}
 use Rattle.icode.specs.declared.program.Array.{Array}
 use Rattle.icode.specs.declared.program.Array.TheVariants.{X, Y, A, B}
@@ -29,8 +28,8 @@ use Rattle.sigma_spl.specs.Work as works
 use Rattle.tree_model.specs.Trees.{trees_size}
 use Rattle.tree_model.specs.Whole.{rooted_of}
 use Rattle.generate.specs.Emission.Bodies.{Setting, pass_code}
-use Rattle.generate.specs.Emission.Passes.{Diagonal, Factors, Pass, Work, entries, kernel, none, number, rows, tile}
-use Rattle.generate.specs.Emission.Passes.{twiddles, values}
+use Rattle.generate.specs.Emission.Passes.{Diagonal, Factors, Pass, Work, entries, kernel, none, rows, tile, twiddles}
+use Rattle.generate.specs.Emission.Passes.{values}
 use Rattle.generate.specs.Emission.Program.{phase_code, phases_code, products, program_in, read, registers, written}
 use Rattle.generate.specs.Emission.Tables.{added, entries_in, number_of, powers_in, powers_of, table_of, tables_in}
 use Rattle.generate.proofs.Emission.Nested.{emitted, emitted_nest, multiplier_at, plain_factors, plain_work}
@@ -39,15 +38,13 @@ use Rattle.generate.proofs.Emission.PassBodies.{FindsEntries, FindsPowers, IsPla
 -- ---- tables by tests of the library
 
 table-test : (xs ys : List ℕ) → is_table xs ys ≡ pointwise nat_eq xs ys
-table-test [] [] = refl
-table-test [] (y ∷ ys) = refl
-table-test (x ∷ xs) [] = refl
 table-test (x ∷ xs) (y ∷ ys) = by (x == y) (table-test xs ys)
   where
     by : (b : Bool) → is_table xs ys ≡ pointwise nat_eq xs ys →
         (if b then is_table xs ys else false) ≡ (b && pointwise nat_eq xs ys)
     by true is = is
     by false is = refl
+table-test _ _ = refl
 
 number-is : (ts : List (List ℕ)) (e : List ℕ) → table_number ts e ≡ number_of ts e
 number-is [] e = refl
@@ -109,16 +106,14 @@ module _ (m : ℕ) where
   work-tables : (v : Work) (ts : List (List ℕ)) →
       tables_of_work m (plain_work v) ts ≡ fold with_table ts (powers_in m v)
   work-tables (kernel c t) ts = refl
-  work-tables (rows root size) ts = refl
-  work-tables (tile v) ts = refl
+  work-tables _ ts = refl
 
   factor-tables : (counts : List ℕ) (w : works.PlainWork) (f : Factors) (ts : List (List ℕ)) →
       tables_of_multiplier m (multiplier_at counts w f) ts ≡ fold with_table ts (entries_in m f)
-  factor-tables counts w none ts = refl
-  factor-tables counts w (number v) ts = refl
   factor-tables counts w (entries (values table) place) ts = ap (with_table ts) (diagonal-is (values table))
   factor-tables counts w (entries (twiddles r s root) place) ts =
       ap (with_table ts) (diagonal-is (twiddles r s root))
+  factor-tables counts w _ ts = refl
 
   pass-tables : (p : Pass) (ts : List (List ℕ)) →
       tables_after m (emitted_nest p ∷ []) ts ≡ fold with_table ts (tables_in m p)
@@ -154,12 +149,11 @@ module _ (o : Setting) (ts rest : List (List ℕ)) where
 
   powers-found : (v : Work) (es : List (List ℕ)) → o.tables ≡ fold with_table ts ((powers_in m' v ++ es) ++ rest) →
       FindsPowers o v (powers_number m' (plain_work v) ts)
-  powers-found (kernel c t) es are = tt
   powers-found (rows root size) es are =
       found ts (powers_of m' root size) (es ++ rest)
       ∙ ap (λ us. table_number us (powers_of m' root size)) (sym are)
       ∙ number-is o.tables (powers_of m' root size)
-  powers-found (tile v) es are = tt
+  powers-found _ es are = tt
 
   entry-found : (v : Work) (x : Diagonal) (counts : List ℕ) → (table : List ℕ) → table ≡ table_of m' x →
       o.tables ≡ fold with_table ts ((powers_in m' v ++ table_of m' x ∷ []) ++ rest) →
@@ -177,12 +171,11 @@ module _ (o : Setting) (ts rest : List (List ℕ)) where
       o.tables ≡ fold with_table ts ((powers_in m' v ++ entries_in m' f) ++ rest) →
       FindsEntries o f
       (multiplier_number m' (multiplier_at counts (plain_work v) f) (tables_of_work m' (plain_work v) ts))
-  entries-found v counts none are = tt
-  entries-found v counts (number x) are = tt
   entries-found v counts (entries (values table) place) are =
       entry-found v (values table) counts _ (diagonal-is m' (values table)) are
   entries-found v counts (entries (twiddles r s root) place) are =
       entry-found v (twiddles r s root) counts _ (diagonal-is m' (twiddles r s root)) are
+  entries-found v counts _ are = tt
 
 -- ---- arrays
 
@@ -291,8 +284,7 @@ module _ (m : ℕ) where
   factor-registers : (f : Factors) (counts : List ℕ) (w : works.PlainWork) (used more : ℕ) →
       with_multiplier (multiplier_at counts w f) used more ≡ used + products f more
   factor-registers none counts w used more = omega arith
-  factor-registers (number v) counts w used more = refl
-  factor-registers (entries x place) counts w used more = refl
+  factor-registers _ counts w used more = refl
 
   nest-registers : (v : Work) (f : Factors) (z : PlainNest) (counts : List ℕ) (w : works.PlainWork) →
       z.multiplier ≡ multiplier_at counts w f → nest_registers m z (plain_work v) ≡ registers m f v

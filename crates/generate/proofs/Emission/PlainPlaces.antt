@@ -1,7 +1,7 @@
 -- No place of a pass by the rules of emission has a quotient.
 use Rattle.std.proofs.Common.{ℕ, ◌*◌, ◌/◌, ◌%◌, ◌==◌, List, [], ◌∷◌, ◌++◌, nat_lt}
 use Rattle.matrix_meaning.specs.declared.Kind.{Kind}
-use Rattle.matrix_meaning.specs.declared.Kind.TheVariants.{Dft, Wht, Idft}
+use Rattle.matrix_meaning.specs.declared.Kind.TheVariants.{Dft}
 use Rattle.matrix_meaning.specs.declared.Request.{Request}
 use Rattle.index_fn.specs.Back.{unit_below}
 use Rattle.perm_algebra.proofs.Kept.{plain-joined, plain-scaled}
@@ -12,9 +12,9 @@ use Rattle.tree_model.specs.Breakdown.{Breakdown, leaf, node, size_of}
 use Rattle.tree_model.specs.Cost.{is_kernel, is_plain, node_root}
 use Rattle.tree_model.specs.Whole.{left_of, right_of}
 use Rattle.tree_model.specs.declared.tree.Rule.{Rule}
-use Rattle.tree_model.specs.declared.tree.Rule.TheVariants.{Gt, Ct, Split, Dim}
-use Rattle.generate.specs.Emission.Passes.{Factors, Pass, Site, entries, left_site, moved, node_work, none, number}
-use Rattle.generate.specs.Emission.Passes.{passes, right_site, site_by, twiddled}
+use Rattle.tree_model.specs.declared.tree.Rule.TheVariants.{Gt, Ct}
+use Rattle.generate.specs.Emission.Passes.{Factors, Pass, Site, entries, left_site, moved, node_work, none, passes}
+use Rattle.generate.specs.Emission.Passes.{right_site, site_by, twiddled}
 use Rattle.generate.specs.Emission.Places.{PlaceFunction, after, blocks, columns, inside, left_out, right_in, same}
 use Rattle.generate.specs.Emission.Places.{turn_of}
 use Rattle.generate.specs.Emission.Root.{across, along, in_lanes, lane_loops, left_root, packed, processor_loops}
@@ -56,28 +56,23 @@ one a x y h k = plain-joined (scaled a x) y (plain-scaled a x h) k
 keeps-in : (rule : Rule) (r s : ℕ) (i : Sum) → HasNoQuotient i → KeepsPlain (right_in rule r s i)
 keeps-in Gt r s i h cs k p = plain-reduced cs (r * s) (joined (scaled s i) (scaled r k)) (both s r i k h p)
 keeps-in Ct r s i h cs k p = one r k i p h
-keeps-in Split r s i h cs k p = one s i k h p
-keeps-in Dim r s i h cs k p = one s i k h p
+keeps-in _ r s i h cs k p = one s i k h p
 
 keeps-out : (rule : Rule) (r s : ℕ) (j : Sum) → HasNoQuotient j → KeepsPlain (left_out rule r s j)
 keeps-out Gt r s j h cs k p =
     plain-reduced cs (r * s) (joined (scaled (unit_below r s r) k) (scaled (unit_below s r s) j))
     (both (unit_below r s r) (unit_below s r s) k j p h)
 keeps-out Ct r s j h cs k p = one s k j p h
-keeps-out Split r s j h cs k p = one s k j p h
-keeps-out Dim r s j h cs k p = one s k j p h
+keeps-out _ r s j h cs k p = one s k j p h
 
 plain-moved : (f : Factors) (g : PlaceFunction) → ArePlainFactors f → KeepsPlain g → ArePlainFactors (moved f g)
-plain-moved none g h k = tt
-plain-moved (number v) g h k = tt
 plain-moved (entries diagonal f) g h k = λ cs e p. h cs (g cs e) (k cs e p)
+plain-moved _ g h k = tt
 
 plain-twiddled : (rule : Rule) (r s root : ℕ) (f : PlaceFunction) → KeepsPlain f →
     ArePlainFactors (twiddled rule r s root f)
-plain-twiddled Gt r s root f h = tt
 plain-twiddled Ct r s root f h = h
-plain-twiddled Split r s root f h = tt
-plain-twiddled Dim r s root f h = tt
+plain-twiddled _ r s root f h = tt
 
 by-plain : (counts : List ℕ) (load : PlaceFunction) (f : Factors) (at : PlaceFunction) → KeepsPlain load →
     ArePlainFactors f → KeepsPlain at → IsPlainSite (site_by counts load f at)
@@ -142,10 +137,8 @@ module _ (c : Request) where
       plain-lanes (joined (scaled s i) k) (one s i k (plain-shared r (lane_loops c)) p)
 
   keeps-root : (rule : Rule) (r s : ℕ) → KeepsPlain (root_in rule c r s)
-  keeps-root Gt r s = keeps-packed r s
   keeps-root Ct r s = λ cs k p. one r k (in_lanes c (shared c r (lane_loops c))) p (plain-turns r)
-  keeps-root Split r s = keeps-packed r s
-  keeps-root Dim r s = keeps-packed r s
+  keeps-root _ r s = keeps-packed r s
 
   keeps-strided : (s : ℕ) → KeepsPlain (strided c s)
   keeps-strided s cs k p = one s k (in_lanes c (shared c s (lane_loops c))) p (plain-turns s)
@@ -188,10 +181,8 @@ module _ (c : Request) where
       (by-plain (inside (turns c r (processor_loops c)) (s / c.lanes)) load f store h k l, tt)
 
   plain-before : (rule : Rule) (r s : ℕ) → ArePlain (tiles_before rule c r s)
-  plain-before Gt r s = plain-tiles r s (across c r s) none (along c r s) (keeps-across r s) tt (keeps-along r s)
   plain-before Ct r s = tt
-  plain-before Split r s = plain-tiles r s (across c r s) none (along c r s) (keeps-across r s) tt (keeps-along r s)
-  plain-before Dim r s = plain-tiles r s (across c r s) none (along c r s) (keeps-across r s) tt (keeps-along r s)
+  plain-before _ r s = plain-tiles r s (across c r s) none (along c r s) (keeps-across r s) tt (keeps-along r s)
 
   plain-root : (factors : Factors) (t : Breakdown) → ArePlainFactors factors →
       ArePlainPhases (root_phases c factors t)
@@ -217,8 +208,7 @@ plain-whole f h = by-plain [] same f same (λ cs k p. p) h (λ cs k p. p)
 
 pub plain-closing : (kind : Kind) (c : Request) → ArePlainFactors (closing_factors kind c)
 plain-closing Dft c = tt
-plain-closing Wht c = tt
-plain-closing Idft c = tt
+plain-closing _ c = tt
 
 pub plain-phases : (c : Request) (f : Factors) (t : Breakdown) → ArePlainFactors f → ArePlainPhases (phases_of c f t)
 plain-phases c f t h =

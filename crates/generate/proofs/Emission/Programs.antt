@@ -4,8 +4,7 @@ use Rattle.std.proofs.lemmas.Bool.{cases_Bool}
 use Rattle.tree_model.specs.Cost.{is_plain}
 use Rattle.generate.specs.EmittedPrograms.{ConvProgramsAreEmissions, ProgramsAreEmissions}
 use Rattle.generate.proofs.ConvGoodness.{planned-valid}
-use Rattle.generate.proofs.Emission.PlainTrees.{conv_emissions, plain_emission}
-use Rattle.generate.proofs.Emission.SharedTrees.{shared_emission}
+use Rattle.generate.proofs.Emission.WholeTrees.{conv_emissions, plain_emission, shared_emission}
 
 pub programs_are_emissions : ProgramsAreEmissions
 programs_are_emissions r t valid tree = elim (cases_Bool (is_plain r)) [

@@ -1,35 +1,51 @@
 -- The passes of a shared root's right part, with the tiles beside them.
-use Rattle.std.proofs.Common.{◌≡◌, ℕ, ◌*◌, ◌/◌, ◌<◌, ◌==◌, Bool, true, false, if◌then◌else◌, arith, refl, sym, ap, ap₂}
-use Rattle.std.proofs.Common.{◌∙◌, List, [], ◌∷◌, ◌++◌, append-nil, subst, mul_comm, None, Some}
+use Rattle.std.proofs.Common.{◌≡◌, ℕ, zero, suc, ◌+◌, ◌*◌, ◌/◌, ◌%◌, ◌<◌, arith, refl, sym, ap, ap₂, ◌∙◌, List, [], ◌∷◌}
+use Rattle.std.proofs.Common.{◌++◌, subst, mul_comm, Option, None, Some, map, ◌==◌, Bool, true, false, if◌then◌else◌}
+use Rattle.std.proofs.Common.{append-nil}
+use Rattle.std.specs.List.{range_with_len}
+use Rattle.std.proofs.Math.Nat.{mul-div_cancel_left, mul-mod_left}
 use Rattle.std.proofs.lemmas.List.{map-append}
-use Rattle.index_fn.specs.Mapping.{Mapping}
+use Rattle.index_fn.specs.Mapping.{Mapping, Same}
 use Rattle.matrix_meaning.specs.declared.Request.{Request}
-use Rattle.perm_algebra.specs.Affine.{Sum}
-use Rattle.sigma_lower.specs.TreeLoops.Merge.{PlainPass, at_last, multiplied}
+use Rattle.operators.proofs.Lists.{place_below}
+use Rattle.perm_algebra.specs.Affine.{Sum, constant, scaled, joined}
+use Rattle.perm_algebra.proofs.Sizes.{joined-end, positive-product}
+use Rattle.sigma_lower.specs.TreeLoops.Merge.{PlainDiagonal, PlainPass, at_last, multiplied}
 use Rattle.sigma_lower.specs.TreeLoops.Nests.{loop_of}
-use Rattle.sigma_lower.specs.TreeTerms.Root.{right_path, vectors_grouped}
+use Rattle.sigma_lower.specs.TreeLoops.Placed.{place_sum, AreCounts, all_simplified}
+use Rattle.sigma_lower.specs.TreeTerms.Root.{tile_path, vectors_grouped, right_path}
+use Rattle.sigma_lower.proofs.TreeLoops.InCopies.{AreCopies}
+use Rattle.sigma_lower.proofs.TreeLoops.LineMoves.{grouped-leads}
+use Rattle.sigma_lower.proofs.TreeLoops.LoopItems.{counts-from}
+use Rattle.sigma_lower.proofs.TreeLoops.Moved.{joined-assoc, scaled-joined, scaled-scaled}
+use Rattle.sigma_lower.proofs.TreeLoops.PlaceSums.{all_simplified-append}
+use Rattle.sigma_lower.proofs.TreeLoops.RootShares.{AreShares, tiles_fill, tiles_product, tiles_small}
+use Rattle.sigma_lower.proofs.TreeLoops.TilePlaces.{tile_wide}
+use Rattle.sigma_lower.proofs.TreeLoops.WithinPlaces.{natural-copies}
+use Rattle.sigma_spl.specs.Loops.{nest_of, one_nest}
+use Rattle.operators.specs.declared.tensor_paths.Tensor.TheVariants.{Blocks}
+use Rattle.operators.specs.TensorPaths.Path.{Path, count_of, size_under}
+use Rattle.generate.specs.Emission.Passes.{Factors, Pass, entries, none, site_by, tile, twiddles, Site}
+use Rattle.generate.specs.Emission.Places.{PlaceFunction, inside, turn_of, same}
+use Rattle.generate.specs.Emission.Root.{across, along, processor_loops, tile_column, tile_row, turns, packed}
+use Rattle.generate.specs.Emission.Root.{right_root, root_in, tiles, tiles_after, tiles_before}
 use Rattle.sigma_lower.proofs.TreeLoops.RightPlaces.{right_fills, right_wide}
 use Rattle.sigma_lower.proofs.TreeLoops.RootPasses.{tile_after, tile_before, turned_waiting}
-use Rattle.sigma_lower.proofs.TreeLoops.RootShares.{AreShares}
 use Rattle.sigma_lower.proofs.TreeLoops.Shaped.{HasWorks, IsShapedWork, shaped_passes, shaped_works}
 use Rattle.sigma_lower.proofs.TreeLoops.TreePasses.{at_last-append, layout_passes}
-use Rattle.sigma_spl.specs.Loops.{nest_of, one_nest}
 use Rattle.smp_rewrite.specs.LayoutSteps.Layout.{IsGoodLayout, Layout, layout_size}
-use Rattle.operators.specs.TensorPaths.Path.{size_under}
 use Rattle.tree_model.specs.declared.tree.Rule.{Rule}
 use Rattle.tree_model.specs.declared.tree.Rule.TheVariants.{Ct}
-use Rattle.generate.specs.Emission.Passes.{Pass, Site, entries, moved, none, twiddles}
-use Rattle.generate.specs.Emission.Places.{after, same}
-use Rattle.generate.specs.Emission.Root.{across, along, packed, right_root, root_in, tiles, tiles_after, tiles_before}
+use Rattle.generate.proofs.Emission.Nested.{bounds, emitted_nest, nest_at, nest_with, emitted}
+use Rattle.generate.proofs.Emission.Root.{rows-each, packed-natural, packed_around, turned_around}
+use Rattle.generate.proofs.Emission.RootPlaces.{insides-are, natural-turns, spread-out, turns-are}
 use Rattle.generate.proofs.Emission.Layouts.{layout_emitted}
-use Rattle.generate.proofs.Emission.Lists.{AllPasses, looped-all, same-passes}
-use Rattle.generate.proofs.Emission.Matches.{ArePasses, AreSame, HasDiagonal, IsAround, IsLast, IsSame, at_last-none}
-use Rattle.generate.proofs.Emission.Matches.{last-same}
-use Rattle.generate.proofs.Emission.Nested.{emitted, emitted_nest}
-use Rattle.generate.proofs.Emission.Nests.{IsLooped, IsNodeWork, nests, same-nest}
-use Rattle.generate.proofs.Emission.Root.{packed-natural, packed_around, turned_around}
-use Rattle.generate.proofs.Emission.Tiles.{emitted-tile, lead-across, lead-along, tile-nest}
+use Rattle.generate.proofs.Emission.Closed.{AllPasses, looped-all, same-passes}
+use Rattle.generate.proofs.Emission.Matches.{ArePasses, IsAround, IsSame, all-free, last-same, last-twiddled}
+use Rattle.generate.proofs.Emission.Matches.{IsLooped, IsNodeWork, nests, same-nest}
 use Rattle.generate.proofs.Emission.Trees.{layouts_match}
+use Rattle.sigma_spl.specs.Nest as nests
+use Rattle.sigma_spl.specs.Work as works
 
 pub nests-append : (ps qs : List PlainPass) → nests (ps ++ qs) ≡ nests ps ++ nests qs
 nests-append ps qs = map-append (λ p. one_nest (loop_of p)) ps qs
@@ -48,186 +64,375 @@ looped-multiplied : (m size r s root : ℕ) (p : PlainPass) → IsLooped m size 
     IsLooped m size (multiplied [] r s root p)
 looped-multiplied m size r s root p h = record { wide = h.wide; fills = h.fills; work = h.work; node = h.node }
 
-module _ (c : Request) (r s root : ℕ) (h : AreShares c.size c.procs c.lanes r s) (b : Layout)
-    (good : IsGoodLayout c.modulus b) (works : HasWorks IsNodeWork b) (is : layout_size b ≡ s) where
+pub none-either : (b : Bool) → (if b then none else none) ≡ none
+none-either true = refl
+none-either false = refl
+
+-- ---- sums
+
+along-is : (v t n k : ℕ) (q g i : Sum) →
+    joined (scaled (n * (t * (v * v))) q)
+    (joined (scaled (t * (v * v)) g) (joined (scaled (v * v) i) (constant (k * v))))
+    ≡ scaled v (joined (scaled (v * t) (joined (scaled n q) g)) (joined (scaled v i) (constant k)))
+along-is v t n k q g i =
+    let s = v * t in
+    sym
+    (ap (λ z. scaled v (joined z (joined (scaled v i) (constant k))))
+    (scaled-joined s (scaled n q) g ∙ ap (λ z. joined z (scaled s g)) (scaled-scaled s n q))
+    ∙ spread-out v (s * n) q (scaled s g) (joined (scaled v i) (constant k))
+    ∙ ap₂ (λ a z. joined (scaled a q) z) (many v t n)
+    (ap₂ joined (scaled-scaled v s g ∙ ap (λ a. scaled a g) (some v t))
+    (scaled-joined v (scaled v i) (constant k)
+    ∙ ap₂ (λ x a. joined x (constant a)) (scaled-scaled v v i) (mul_comm v k))))
+  where
+    many : (v t n : ℕ) → v * (v * t * n) ≡ n * (t * (v * v))
+    many v t n = omega arith
+
+    some : (v t : ℕ) → v * (v * t) ≡ t * (v * v)
+    some v t = omega arith
+
+across-is : (v t n k : ℕ) (q g i : Sum) →
+    joined (scaled v (joined (scaled (n * (t * v)) q) (joined (scaled (t * v) g) (joined (scaled t (constant k)) i))))
+    (constant 0)
+    ≡ joined (scaled (v * t) (joined (scaled v (joined (scaled n q) g)) (constant k))) (scaled v i)
+across-is v t n k q g i =
+    let s = v * t in
+    joined-end _
+    ∙ scaled-joined v (scaled (n * (t * v)) q) (joined (scaled (t * v) g) (joined (constant (t * k)) i))
+    ∙ ap₂ joined (scaled-scaled v (n * (t * v)) q ∙ ap (λ a. scaled a q) (many v t n))
+    (scaled-joined v (scaled (t * v) g) (joined (constant (t * k)) i)
+    ∙ ap₂ joined (scaled-scaled v (t * v) g ∙ ap (λ a. scaled a g) (some v t))
+    (scaled-joined v (constant (t * k)) i ∙ ap (λ a. joined (constant a) (scaled v i)) (few v t k)))
+    ∙ sym
+    (ap (λ z. joined (scaled s (joined z (constant k))) (scaled v i))
+    (scaled-joined v (scaled n q) g ∙ ap (λ z. joined z (scaled v g)) (scaled-scaled v n q))
+    ∙ ap (λ z. joined z (scaled v i)) (spread-out s (v * n) q (scaled v g) (constant k))
+    ∙ joined-assoc (scaled (s * (v * n)) q) (joined (scaled s (scaled v g)) (constant (s * k))) (scaled v i)
+    ∙ ap (joined (scaled (s * (v * n)) q))
+    (joined-assoc (scaled s (scaled v g)) (constant (s * k)) (scaled v i)
+    ∙ ap (λ z. joined z (joined (constant (s * k)) (scaled v i))) (scaled-scaled s v g)))
+  where
+    many : (v t n : ℕ) → v * (n * (t * v)) ≡ v * t * (v * n)
+    many v t n = omega arith
+
+    some : (v t : ℕ) → v * (t * v) ≡ v * t * v
+    some v t = omega arith
+
+    few : (v t k : ℕ) → v * (t * k) ≡ v * t * k
+    few v t k = omega arith
+
+-- ---- numbers of vectors
+
+numbered : (f g : Sum → Sum) (v a n : ℕ) (h : Sum → Sum) →
+    ((k : ℕ) → k < a + n → f (g (constant (k * v))) ≡ h (constant k)) →
+    map f (map g (map (λ k. constant (k * v)) (range_with_len a n))) ≡ map h (map constant (range_with_len a n))
+numbered f g v a zero h step = refl
+numbered f g v a (suc n) h step =
+    ap₂ (λ x xs. x ∷ xs) (step a (omega arith)) (numbered f g v (a + 1) n h (λ k low. step k (omega (arith, low))))
+
+vector-row : (v k : ℕ) → 0 < v → k * v / v ≡ k
+vector-row v k some = ap (λ n. n / v) (mul_comm k v) ∙ mul-div_cancel_left k some
+
+vector-column : (v k : ℕ) → k * v % v ≡ 0
+vector-column v k = mul-mod_left k v
+
+module _ (c : Request) (r s : ℕ) (h : AreShares c.size c.procs c.lanes r s) where
   abbrev p : ℕ
   p = c.procs
 
   abbrev v : ℕ
   v = c.lanes
 
-  abbrev m : ℕ
-  m = c.modulus
+  abbrev rows : ℕ
+  rows = r / p / v
 
-  low : 0 < c.size
-  low = let some = h.whole.low in omega (arith, some)
+  abbrev t : ℕ
+  t = s / v
 
-  module _ (rule : Rule) (waiting : List Mapping)
-      (around : IsAround [] 0 same (right_path p v r) waiting s (right_root rule c r s root)) where
-    abbrev pub ps : List PlainPass
-    ps = layout_passes (right_path p v r) waiting b
+  abbrev three : Path
+  three = Blocks p ∷ Blocks rows ∷ Blocks t ∷ []
 
-    abbrev o : Site
-    o = right_root rule c r s root
+  abbrev q : Sum
+  q = turn_of [] p
 
-    abbrev pub qs : List Pass
-    qs = layout_emitted o b
+  abbrev g : Sum
+  g = turn_of (processor_loops c) rows
 
-    fills : size_under (right_path p v r) (layout_size b) ≡ c.size
-    fills = ap (size_under (right_path p v r)) is ∙ right_fills c.size p v r s h
+  abbrev i : Sum
+  i = turn_of (inside (processor_loops c) rows) t
 
-    matches : ArePasses [] 0 same (right_path p v r) s o ps qs
-    matches =
-        subst (λ n. ArePasses [] 0 same (right_path p v r) n o ps qs) is
-        (layouts_match [] 0 same refl m c.size (right_path p v r) waiting o b h.whole good works fills
-        (subst (λ n. IsAround [] 0 same (right_path p v r) waiting n o) (sym is) around))
+  each-row : r / v / p ≡ rows
+  each-row = rows-each c r s h
 
-    all : AllPasses (IsLooped m c.size) ps
-    all =
-        looped-all m c.size ps
-        (shaped_passes (IsShapedWork m) m c.size (right_path p v r) waiting b (right_wide c.size p v r s h) good
-        (shaped_works m b good) fills)
-        (shaped_passes IsNodeWork m c.size (right_path p v r) waiting b (right_wide c.size p v r s h) good
-        works fills)
+  wide : v * t ≡ s
+  wide = tiles_fill c.size p v r s h
 
-    nest : (z : PlainPass) (q : Pass) → IsLooped m c.size z → IsSame [] 0 same z q →
-        nest_of (loop_of z) ≡ emitted_nest q
-    nest z q looped equal = same-nest m c.size z q low looped equal
+  -- where emission's rows and columns stand
+  at-row : (f : ℕ → Sum → Sum → Sum) →
+      f s (tile_row c r) (tile_column c r s) ≡ f (v * t) (joined (scaled rows q) g) i
+  at-row f =
+      ap (λ n. f s (joined (scaled n q) (turn_of (processor_loops c) n)) (turn_of (inside (processor_loops c) n) t))
+      each-row
+      ∙ ap (λ n. f n (joined (scaled rows q) g) i) (sym wide)
 
-    -- the last pass stores at natural places
-    last-free : o.factors ≡ none → (z : PlainPass) (q : Pass) → IsLast [] 0 same (right_path p v r) s o z q →
-        IsSame [] 0 same z q
-    last-free free z q last = record {
-      begun = last.begun;
-      store = λ cs e counts fits. last.store cs e ∙ packed-natural c r s h cs (last.own cs e)
-          ∙ sym (last.place cs e counts fits);
-      factors = subst (HasDiagonal [] 0 same z q) (sym last.free) (last.factors ∙ ap (λ f. moved f last.own) free);
-    }
+  natural-along : (cs : ℕ → ℕ) (k : ℕ) →
+      place_sum (tile_path p v r s) (v * v) 0 (constant (k * v)) ≡ along c r s cs (constant k)
+  natural-along cs k =
+      natural-turns three (v * v) (constant (k * v))
+      ∙ along-is v t rows k q g i
+      ∙ sym (at-row (λ n x j. scaled v (joined (scaled n x) (joined (scaled v j) (constant k)))))
 
-    last-twiddled : o.factors ≡ entries (twiddles r s root) (packed c r s) → (z : PlainPass) (q : Pass) →
-        IsLast [] 0 same (right_path p v r) s o z q → IsSame [] 0 same (multiplied [] r s root z) q
-    last-twiddled has z q last = record {
-      begun = record { counts = last.begun.counts; work = last.begun.work; load = last.begun.load };
-      store = λ cs e counts fits. last.store cs e ∙ packed-natural c r s h cs (last.own cs e)
-          ∙ sym (last.place cs e counts fits);
-      factors = (
-        after (packed c r s) last.own,
-        last.factors ∙ ap (λ f. moved f last.own) has,
-        λ cs e counts fits.
-            packed-natural c r s h cs (last.own cs e) ∙ sym (last.place cs e counts fits),
-      );
-    }
+  grouped-across : (cs : ℕ → ℕ) (k n : ℕ) → n ≡ t * v → k < v → AreCounts (tile_path p v r s) (v * v) 0 cs →
+      all_simplified cs (vectors_grouped n p v r s ∷ []) (place_sum (tile_path p v r s) (v * v) 0 (constant (k * v)))
+      ≡ across c r s cs (constant k)
+  grouped-across cs k n is low counts =
+      let named = subst (λ us. AreCopies three us cs) (sym (turns-are [] three))
+      (natural-copies three (v * v) 0 cs counts) in
+      let below = place_below k 0 v v low (omega (arith, low)) in
+      let lead = grouped-leads p v rows t c.size n q g i (k * v) cs named.0 named.1.0 named.1.1.0
+      (omega (arith, below)) is tile_whole h.whole.high (tiles_small c.size p v r s h) in
+      ap (all_simplified cs (vectors_grouped n p v r s ∷ [])) (natural-turns three (v * v) (constant (k * v)))
+      ∙ lead.is
+      ∙ ap₂ (λ row column. joined
+      (scaled v (joined (scaled (rows * (t * v)) q) (joined (scaled (t * v) g) (joined (scaled t (constant row)) i))))
+      (constant column)) (vector-row v k h.lanes) (vector-column v k)
+      ∙ across-is v t rows k q g i
+      ∙ sym (at-row (λ n x j. joined (scaled n (joined (scaled v x) (constant k))) (scaled v j)))
+    where
+      tile_whole : size_under three (v * v) ≡ c.size
+      tile_whole = let all = tiles_product c.size p v r s h in omega (arith, all)
 
-    -- without the root's diagonal, and with it
-    pub free-nests : o.factors ≡ none → nests ps ≡ emitted qs
-    free-nests free =
-        same-passes [] 0 same (λ z. z) (IsLooped m c.size) nest ps qs all
-        (subst (λ zs. AreSame [] 0 same zs qs) (at_last-none ps)
-        (last-same [] 0 same (right_path p v r) s o (λ z. z) (last-free free) ps qs matches))
+  tile-counts : inside (turns c r (processor_loops c)) t ≡ map count_of (tile_path p v r s)
+  tile-counts = ap (λ n. inside (inside (processor_loops c) n) t) each-row ∙ insides-are [] three
 
-    pub twiddled-nests : o.factors ≡ entries (twiddles r s root) (packed c r s) →
-        nests (at_last (multiplied [] r s root) ps) ≡ emitted qs
-    twiddled-nests has =
-        same-passes [] 0 same (λ z. z) (IsLooped m c.size) nest (at_last (multiplied [] r s root) ps) qs
-        (looped-last m c.size (multiplied [] r s root) (looped-multiplied m c.size r s root) ps all)
-        (last-same [] 0 same (right_path p v r) s o (multiplied [] r s root) (last-twiddled has) ps qs matches)
+  -- ---- nests
 
-  -- ---- tiles
+  abbrev pub tile-pass : List Mapping → Option PlainDiagonal → List Mapping → PlainPass
+  tile-pass befores diagonal afters =
+      record { path = tile_path p v r s; work = works.tile v; befores = befores; diagonal = diagonal; afters = afters }
 
-  before : nest_of (loop_of (tile_before p v r s))
-      ≡ emitted_nest (emitted-tile c r s h (across c r s) none (along c r s))
-  before =
-      tile-nest c r s h (vectors_grouped (s / v * v) p v r s ∷ []) [] (across c r s) (along c r s)
-      (lead-across c r s h (s / v * v) refl) (lead-along c r s h) None none refl
+  abbrev pub emitted-tile : PlaceFunction → Factors → PlaceFunction → Pass
+  emitted-tile load factors store =
+      record { site = site_by (inside (turns c r (processor_loops c)) t) load factors store; work = tile v }
 
-  behind : nest_of (loop_of (tile_after p v r s))
-      ≡ emitted_nest (emitted-tile c r s h (along c r s) none (across c r s))
-  behind =
-      tile-nest c r s h [] (vectors_grouped (v * (s / v)) p v r s ∷ []) (along c r s) (across c r s)
-      (lead-along c r s h) (lead-across c r s h (v * (s / v)) (mul_comm v (s / v))) None none refl
+  -- functions lead to these places, vector by vector
+  abbrev pub LeadTo : List Mapping → PlaceFunction → Type 0
+  LeadTo fs f = (cs : ℕ → ℕ) (k : ℕ) → k < v → AreCounts (tile_path p v r s) (v * v) 0 cs →
+      all_simplified cs fs (place_sum (tile_path p v r s) (v * v) 0 (constant (k * v))) ≡ f cs (constant k)
 
-  twiddled-behind : nest_of (loop_of (multiplied [] r s root (tile_after p v r s)))
-      ≡ emitted_nest (emitted-tile c r s h (along c r s) (entries (twiddles r s root) (across c r s))
-      (across c r s))
-  twiddled-behind =
-      tile-nest c r s h [] (vectors_grouped (v * (s / v)) p v r s ∷ []) (along c r s) (across c r s)
-      (lead-along c r s h) (lead-across c r s h (v * (s / v)) (mul_comm v (s / v)))
-      (Some (record {
-        path = [];
-        rows = r;
-        cols = s;
-        root = root;
-        places = vectors_grouped (v * (s / v)) p v r s ∷ [];
-      })) (entries (twiddles r s root) (across c r s))
-      (root, refl, refl)
+  pub lead-along : LeadTo [] (along c r s)
+  lead-along cs k low counts = natural-along cs k
 
-  -- ---- a ct
+  pub lead-across : (n : ℕ) → n ≡ t * v → LeadTo (vectors_grouped n p v r s ∷ []) (across c r s)
+  lead-across n is cs k low counts = grouped-across cs k n is low counts
 
-  abbrev turned : List PlainPass
-  turned = layout_passes (right_path p v r) (turned_waiting p v r s) b
+  -- the diagonal of the root after it, or none
+  abbrev pub AreTileFactors : Option PlainDiagonal → Factors → List Mapping → PlaceFunction → Type 0
+  AreTileFactors None factors afters store = factors ≡ none
+  AreTileFactors (Some x) factors afters store =
+      (root : ℕ) × (x ≡ record { path = []; rows = r; cols = s; root = root; places = afters }) ×
+      (factors ≡ entries (twiddles r s root) store)
 
-  abbrev cts : List Pass
-  cts = layout_emitted (right_root Ct c r s root) b
+  module _ (befores afters : List Mapping) (load store : PlaceFunction) (into : LeadTo befores load)
+      (out : LeadTo afters store) where
+    abbrev loops : List ℕ
+    loops = map count_of (tile_path p v r s)
 
-  abbrev twiddled-tile : Pass
-  twiddled-tile = emitted-tile c r s h (along c r s) (entries (twiddles r s root) (across c r s)) (across c r s)
+    abbrev cs : ℕ → ℕ
+    cs = bounds loops (works.tile v)
 
-  ct-either : (one : Bool) → v == 1 ≡ one →
-      nests (at_last (multiplied [] r s root) (turned ++ (if one then [] else tile_after p v r s ∷ [])))
-      ≡ emitted (cts ++ (if one then [] else twiddled-tile ∷ []))
-  ct-either true e =
-      ap (λ zs. nests (at_last (multiplied [] r s root) zs)) (append-nil turned)
-      ∙ twiddled-nests Ct (turned_waiting p v r s) (turned_around c r s h root)
-      (ap (λ x. if x then entries (twiddles r s root) (packed c r s) else none) e)
-      ∙ ap emitted (sym (append-nil cts))
-  ct-either false e =
-      ap nests (at_last-append (multiplied [] r s root) turned (tile_after p v r s ∷ []) tt)
-      ∙ nests-append turned (multiplied [] r s root (tile_after p v r s) ∷ [])
-      ∙ ap₂ (λ xs x. xs ++ (x ∷ []) ∷ [])
-      (free-nests Ct (turned_waiting p v r s) (turned_around c r s h root)
-      (ap (λ x. if x then entries (twiddles r s root) (packed c r s) else none) e)) twiddled-behind
-      ∙ sym (emitted-append cts (twiddled-tile ∷ []))
+    counts : AreCounts (tile_path p v r s) (v * v) 0 cs
+    counts = counts-from (tile_path p v r s) (v * v) 0 cs (v * v ∷ v * v ∷ []) (tile_wide c.size p v r s h)
+        (positive-product v v h.lanes h.lanes) (λ n. ap cs (omega arith))
 
-  pub ct_right : nests (at_last (multiplied [] r s root) (turned ++ (if v == 1 then [] else tile_after p v r s ∷ [])))
-      ≡ emitted (tiles_before Ct c r s ++ (cts ++ tiles_after Ct c r s root))
-  ct_right = ct-either (v == 1) refl
+    placed-by : (fs : List Mapping) (f : PlaceFunction) → LeadTo fs f →
+        map (all_simplified cs fs)
+        (map (place_sum (tile_path p v r s) (v * v) 0) (map (λ k. constant (k * v)) (range_with_len 0 v)))
+        ≡ map (f cs) (map constant (range_with_len 0 v))
+    placed-by fs f lead =
+        numbered (all_simplified cs fs) (place_sum (tile_path p v r s) (v * v) 0) v 0 v (f cs)
+        (λ k low. lead cs k (omega (arith, low)) counts)
 
-  -- ---- a split, or a dim
+    ending : (fs : List Mapping) (f : PlaceFunction) → LeadTo fs f → LeadTo (fs ++ Same ∷ []) f
+    ending fs f lead cs k low counts = all_simplified-append cs fs Same _ ∙ lead cs k low counts
 
-  module _ (rule : Rule) (into : (cs : ℕ → ℕ) (e : Sum) → root_in rule c r s cs e ≡ packed c r s cs e)
-      (free : (right_root rule c r s root).factors ≡ none) where
-    abbrev splits : List Pass
-    splits = layout_emitted (right_root rule c r s root) b
+    pub tile-nest : (x : Option PlainDiagonal) (factors : Factors) → AreTileFactors x factors afters store →
+        nest_of (loop_of (tile-pass befores x afters)) ≡ emitted_nest (emitted-tile load factors store)
+    tile-nest x factors is = by x is
+        ∙ ap (λ ls. nest_at ls (works.tile v) load factors store) (sym tile-counts)
+      where
+        by : (x : Option PlainDiagonal) → AreTileFactors x factors afters store →
+            nest_of (loop_of (tile-pass befores x afters))
+            ≡ nest_at loops (works.tile v) load factors store
+        by None is =
+            ap₂ (λ gs ss. nest_with loops (works.tile v) gs None ss)
+            (placed-by befores load into) (placed-by afters store out)
+            ∙ ap (λ f. nest_at loops (works.tile v) load f store) (sym is)
+        by (Some x) is =
+            ap (λ d. nest_of (loop_of (tile-pass befores (Some d) afters))) is.1
+            ∙ ap₂ (λ gs ss. nest_with loops (works.tile v) gs
+            (Some (record {
+              factors = nests.twiddles r s is.0;
+              places = map (all_simplified cs (afters ++ Same ∷ []))
+                  (map (place_sum (tile_path p v r s) (v * v) 0) (map (λ k. constant (k * v)) (range_with_len 0 v)));
+            })) ss)
+            (placed-by befores load into) (placed-by afters store out)
+            ∙ ap (λ ps. nest_with loops (works.tile v) (map (load cs) (map constant (range_with_len 0 v)))
+            (Some (record { factors = nests.twiddles r s is.0; places = ps }))
+            (map (store cs) (map constant (range_with_len 0 v))))
+            (placed-by (afters ++ Same ∷ []) store (ending afters store out))
+            ∙ ap (λ f. nest_at loops (works.tile v) load f store) (sym is.2)
 
-    abbrev natural : List PlainPass
-    natural = layout_passes (right_path p v r) [] b
+  -- ---- the right part
 
-    abbrev first-tile : Pass
-    first-tile = emitted-tile c r s h (across c r s) none (along c r s)
+  module _ (root : ℕ) (b : Layout) (good : IsGoodLayout c.modulus b) (works : HasWorks IsNodeWork b)
+      (is : layout_size b ≡ s) where
+    abbrev m : ℕ
+    m = c.modulus
 
-    abbrev last-tile : Pass
-    last-tile = emitted-tile c r s h (along c r s) none (across c r s)
+    low : 0 < c.size
+    low = let some = h.whole.low in omega (arith, some)
 
-    middle : nests natural ≡ emitted splits
-    middle = free-nests rule [] (packed_around c r s h rule root into) free
+    module _ (rule : Rule) (waiting : List Mapping)
+        (around : IsAround [] 0 same (right_path p v r) waiting s (right_root rule c r s root)) where
+      abbrev pub ps : List PlainPass
+      ps = layout_passes (right_path p v r) waiting b
 
-    split-either : (one : Bool) →
-        nests ((if one then [] else tile_before p v r s ∷ []) ++
-        (natural ++ (if one then [] else tile_after p v r s ∷ [])))
-        ≡ emitted ((if one then [] else first-tile ∷ []) ++ (splits ++ (if one then [] else last-tile ∷ [])))
-    split-either true = ap nests (append-nil natural) ∙ middle ∙ ap emitted (sym (append-nil splits))
-    split-either false =
-        ap₂ (λ x xs. (x ∷ []) ∷ xs) before
-        (nests-append natural (tile_after p v r s ∷ []) ∙ ap₂ (λ xs x. xs ++ (x ∷ []) ∷ []) middle behind
-        ∙ sym (emitted-append splits (last-tile ∷ [])))
+      abbrev o : Site
+      o = right_root rule c r s root
 
-    pub split_right : nests
-        ((if v == 1 then [] else tile_before p v r s ∷ []) ++
-        (natural ++ (if v == 1 then [] else tile_after p v r s ∷ [])))
-        ≡ emitted (tiles c r s (across c r s) none
-        (along c r s) ++ (splits ++ tiles c r s (along c r s) none (across c r s)))
-    split_right = split-either (v == 1)
+      abbrev pub qs : List Pass
+      qs = layout_emitted o b
 
-pub none-either : (b : Bool) → (if b then none else none) ≡ none
-none-either true = refl
-none-either false = refl
+      fills : size_under (right_path p v r) (layout_size b) ≡ c.size
+      fills = ap (size_under (right_path p v r)) is ∙ right_fills c.size p v r s h
+
+      matches : ArePasses [] 0 same (right_path p v r) s o ps qs
+      matches =
+          subst (λ n. ArePasses [] 0 same (right_path p v r) n o ps qs) is
+          (layouts_match [] 0 same refl m c.size (right_path p v r) waiting o b h.whole good works fills
+          (subst (λ n. IsAround [] 0 same (right_path p v r) waiting n o) (sym is) around))
+
+      all : AllPasses (IsLooped m c.size) ps
+      all =
+          looped-all m c.size ps
+          (shaped_passes (IsShapedWork m) m c.size (right_path p v r) waiting b (right_wide c.size p v r s h) good
+          (shaped_works m b good) fills)
+          (shaped_passes IsNodeWork m c.size (right_path p v r) waiting b (right_wide c.size p v r s h) good
+          works fills)
+
+      nest : (z : PlainPass) (q : Pass) → IsLooped m c.size z → IsSame [] 0 same z q →
+          nest_of (loop_of z) ≡ emitted_nest q
+      nest z q looped equal = same-nest m c.size z q low looped equal
+
+      -- without the root's diagonal, and with it
+      pub free-nests : o.factors ≡ none → nests ps ≡ emitted qs
+      free-nests free =
+          same-passes [] 0 same (λ z. z) (IsLooped m c.size) nest ps qs all
+          (all-free [] 0 same (right_path p v r) s o (packed-natural c r s h) free ps qs matches)
+
+      pub twiddled-nests : o.factors ≡ entries (twiddles r s root) (packed c r s) →
+          nests (at_last (multiplied [] r s root) ps) ≡ emitted qs
+      twiddled-nests has =
+          same-passes [] 0 same (λ z. z) (IsLooped m c.size) nest (at_last (multiplied [] r s root) ps) qs
+          (looped-last m c.size (multiplied [] r s root) (looped-multiplied m c.size r s root) ps all)
+          (last-same [] 0 same (right_path p v r) s o (multiplied [] r s root) (λ z q last.
+          last-twiddled [] 0 same (right_path p v r) s o (packed-natural c r s h) [] r s root (packed c r s) has z q
+          last (λ cs e counts fits. packed-natural c r s h cs (last.own cs e) ∙ sym (last.place cs e counts fits))) ps qs
+          matches)
+
+    -- ---- tiles
+
+    before : nest_of (loop_of (tile_before p v r s))
+        ≡ emitted_nest (emitted-tile (across c r s) none (along c r s))
+    before =
+        tile-nest (vectors_grouped (s / v * v) p v r s ∷ []) [] (across c r s) (along c r s)
+        (lead-across (s / v * v) refl) (lead-along) None none refl
+
+    behind : nest_of (loop_of (tile_after p v r s))
+        ≡ emitted_nest (emitted-tile (along c r s) none (across c r s))
+    behind =
+        tile-nest [] (vectors_grouped (v * (s / v)) p v r s ∷ []) (along c r s) (across c r s)
+        (lead-along) (lead-across (v * (s / v)) (mul_comm v (s / v))) None none refl
+
+    twiddled-behind : nest_of (loop_of (multiplied [] r s root (tile_after p v r s)))
+        ≡ emitted_nest (emitted-tile (along c r s) (entries (twiddles r s root) (across c r s))
+        (across c r s))
+    twiddled-behind =
+        tile-nest [] (vectors_grouped (v * (s / v)) p v r s ∷ []) (along c r s) (across c r s)
+        (lead-along) (lead-across (v * (s / v)) (mul_comm v (s / v)))
+        (Some (record {
+          path = [];
+          rows = r;
+          cols = s;
+          root = root;
+          places = vectors_grouped (v * (s / v)) p v r s ∷ [];
+        })) (entries (twiddles r s root) (across c r s))
+        (root, refl, refl)
+
+    -- ---- a ct
+
+    abbrev turned : List PlainPass
+    turned = layout_passes (right_path p v r) (turned_waiting p v r s) b
+
+    abbrev cts : List Pass
+    cts = layout_emitted (right_root Ct c r s root) b
+
+    abbrev twiddled-tile : Pass
+    twiddled-tile = emitted-tile (along c r s) (entries (twiddles r s root) (across c r s)) (across c r s)
+
+    ct-either : (one : Bool) → v == 1 ≡ one →
+        nests (at_last (multiplied [] r s root) (turned ++ (if one then [] else tile_after p v r s ∷ [])))
+        ≡ emitted (cts ++ (if one then [] else twiddled-tile ∷ []))
+    ct-either true e =
+        ap (λ zs. nests (at_last (multiplied [] r s root) zs)) (append-nil turned)
+        ∙ twiddled-nests Ct (turned_waiting p v r s) (turned_around c r s h root)
+        (ap (λ x. if x then entries (twiddles r s root) (packed c r s) else none) e)
+        ∙ ap emitted (sym (append-nil cts))
+    ct-either false e =
+        ap nests (at_last-append (multiplied [] r s root) turned (tile_after p v r s ∷ []) tt)
+        ∙ nests-append turned (multiplied [] r s root (tile_after p v r s) ∷ [])
+        ∙ ap₂ (λ xs x. xs ++ (x ∷ []) ∷ [])
+        (free-nests Ct (turned_waiting p v r s) (turned_around c r s h root)
+        (ap (λ x. if x then entries (twiddles r s root) (packed c r s) else none) e)) twiddled-behind
+        ∙ sym (emitted-append cts (twiddled-tile ∷ []))
+
+    pub ct_right : nests (at_last (multiplied [] r s root) (turned ++ (if v == 1 then [] else tile_after p v r s ∷ [])))
+        ≡ emitted (tiles_before Ct c r s ++ (cts ++ tiles_after Ct c r s root))
+    ct_right = ct-either (v == 1) refl
+
+    -- ---- a split, or a dim
+
+    module _ (rule : Rule) (into : (cs : ℕ → ℕ) (e : Sum) → root_in rule c r s cs e ≡ packed c r s cs e)
+        (free : (right_root rule c r s root).factors ≡ none) where
+      abbrev splits : List Pass
+      splits = layout_emitted (right_root rule c r s root) b
+
+      abbrev natural : List PlainPass
+      natural = layout_passes (right_path p v r) [] b
+
+      abbrev first-tile : Pass
+      first-tile = emitted-tile (across c r s) none (along c r s)
+
+      abbrev last-tile : Pass
+      last-tile = emitted-tile (along c r s) none (across c r s)
+
+      middle : nests natural ≡ emitted splits
+      middle = free-nests rule [] (packed_around c r s h rule root into) free
+
+      split-either : (one : Bool) →
+          nests ((if one then [] else tile_before p v r s ∷ []) ++
+          (natural ++ (if one then [] else tile_after p v r s ∷ [])))
+          ≡ emitted ((if one then [] else first-tile ∷ []) ++ (splits ++ (if one then [] else last-tile ∷ [])))
+      split-either true = ap nests (append-nil natural) ∙ middle ∙ ap emitted (sym (append-nil splits))
+      split-either false =
+          ap₂ (λ x xs. (x ∷ []) ∷ xs) before
+          (nests-append natural (tile_after p v r s ∷ []) ∙ ap₂ (λ xs x. xs ++ (x ∷ []) ∷ []) middle behind
+          ∙ sym (emitted-append splits (last-tile ∷ [])))
+
+      pub split_right : nests
+          ((if v == 1 then [] else tile_before p v r s ∷ []) ++
+          (natural ++ (if v == 1 then [] else tile_after p v r s ∷ [])))
+          ≡ emitted (tiles c r s (across c r s) none
+          (along c r s) ++ (splits ++ tiles c r s (along c r s) none (across c r s)))
+      split_right = split-either (v == 1)

@@ -1,26 +1,42 @@
--- The sites of a shared root's parts are those of merging.
+-- The sites of a shared root's parts are those of merging, and the passes of its left part are those of the part alone,
+-- in all copies.
 use Rattle.std.proofs.Common.{◌≡◌, ℕ, ◌+◌, ◌*◌, ◌/◌, ◌<◌, arith, refl, sym, ap, ◌∙◌, [], ◌∷◌, length, append-nil, subst}
-use Rattle.std.specs.Prelude.{map}
+use Rattle.std.proofs.Common.{ap₂, List, ◌++◌, mul_comm, Option, None, Some, map, option_map}
 use Rattle.std.proofs.Math.Nat.{mul-div_cancel_left}
+use Rattle.std.proofs.lemmas.List.{map-append}
 use Rattle.matrix_meaning.specs.declared.Request.{Request}
-use Rattle.perm_algebra.specs.Affine.{Sum, scaled, joined}
+use Rattle.perm_algebra.specs.Affine.{Sum, scaled, joined, simplified}
 use Rattle.sigma_lower.specs.TreeLoops.Placed.{Fits, place_sum, AreCounts, all_simplified}
-use Rattle.sigma_lower.proofs.TreeLoops.InCopies.{AreCopies}
+use Rattle.sigma_lower.proofs.TreeLoops.InCopies.{AreCopies, placed}
 use Rattle.sigma_lower.proofs.TreeLoops.LineMoves.{AreThree, turned-leads}
-use Rattle.sigma_lower.proofs.TreeLoops.RootPasses.{turned_waiting}
-use Rattle.sigma_lower.proofs.TreeLoops.RootShares.{AreShares, lines_small, vectors_small}
+use Rattle.sigma_lower.proofs.TreeLoops.RootPasses.{turned_waiting, if_dealt, left_diagonal, left_pass, on_all}
+use Rattle.sigma_lower.proofs.TreeLoops.RootShares.{AreShares, lines_small, vectors_small, tiles_fill}
 use Rattle.sigma_lower.proofs.TreeLoops.WithinPlaces.{natural-copies}
 use Rattle.sigma_lower.specs.TreeTerms.Root.{left_path, right_path}
 use Rattle.operators.specs.declared.tensor_paths.Tensor.TheVariants.{Blocks, Columns}
 use Rattle.operators.specs.TensorPaths.Path.{Path, count_of, size_under}
 use Rattle.tree_model.specs.declared.tree.Rule.{Rule}
 use Rattle.tree_model.specs.declared.tree.Rule.TheVariants.{Ct}
-use Rattle.generate.specs.Emission.Passes.{Factors}
+use Rattle.generate.specs.Emission.Passes.{Factors, Pass}
 use Rattle.generate.specs.Emission.Places.{inside, same, turn_of}
 use Rattle.generate.specs.Emission.Root.{lane_loops, left_root, packed, processor_loops, right_root, root_in, shared}
 use Rattle.generate.specs.Emission.Root.{strided, turns}
-use Rattle.generate.proofs.Emission.Matches.{IsAround}
+use Rattle.index_fn.specs.Mapping.{Mapping}
+use Rattle.sigma_lower.specs.TreeLoops.Merge.{PlainDiagonal, PlainPass}
+use Rattle.sigma_lower.specs.TreeLoops.Nests.{loop_of}
+use Rattle.sigma_lower.specs.TreeTerms.Wrapped.{inner_of}
+use Rattle.sigma_lower.proofs.TreeLoops.LeftPlaces.{Spread, spread-by, item-whole, counts-append, left_fills, left_wide}
+use Rattle.sigma_lower.proofs.TreeLoops.LeftPlaces.{part-leads, size_under-append}
+use Rattle.sigma_lower.proofs.TreeLoops.Moved.{placed-columns}
+use Rattle.sigma_lower.proofs.TreeLoops.PlaceLimits.{IsPlacedPass}
+use Rattle.sigma_lower.proofs.TreeLoops.Shaped.{IsShaped, IsShapedWork}
+use Rattle.sigma_lower.proofs.TreeLoops.Staying.{StaysIn}
+use Rattle.sigma_spl.specs.Loops.{nest_of}
+use Rattle.sigma_spl.specs.Work.{work_size}
+use Rattle.sigma_spl.proofs.Several.{several-append}
+use Rattle.generate.proofs.Emission.Matches.{IsAround, HasDiagonal, IsSame, IsLooped, IsNodeWork, same-nest}
 use Rattle.generate.proofs.Emission.RootPlaces.{insides-are, natural-turns, packed-is, strided-is, turns-are}
+use Rattle.generate.proofs.Emission.Nested.{emitted_nest}
 
 -- the turns of a processor and a lane
 pub turns-each : (p v k : ℕ) → 0 < v → 0 < p → (n : ℕ) → n ≡ p * (v * k) → n / v / p ≡ k
@@ -117,3 +133,140 @@ module _ (c : Request) (r s : ℕ) (h : AreShares c.size c.procs c.lanes r s) wh
         load = λ cs e counts fits. refl;
         keep = λ cs e. refl;
       }
+
+  -- ---- the left part's passes
+
+  abbrev size : ℕ
+  size = c.size
+
+  abbrev left-turn : Sum
+  left-turn = turn_of (lane_loops c) columns
+
+  abbrev column : Sum
+  column = joined (scaled columns q) left-turn
+
+  abbrev left-three : Path
+  left-three = Blocks p ∷ Columns v ∷ Columns columns ∷ []
+
+  abbrev whole : Path
+  whole = Columns v ∷ Columns (s / v) ∷ []
+
+  abbrev us : List Sum
+  us = l ∷ column ∷ []
+
+  abbrev outer : List ℕ
+  outer = map count_of (left_path p v s)
+
+  abbrev d : ℕ
+  d = 0 + length (left_path p v s)
+
+  -- where emission's turns stand
+  strided-placed : (cs : ℕ → ℕ) (y : Sum) → strided c s cs y ≡ placed whole r us y
+  strided-placed cs y =
+      ap (λ n. joined (scaled s y) (joined (scaled v (joined (scaled n q) (turn_of (lane_loops c) n))) l))
+      columns-each
+      ∙ ap (λ n. joined (scaled n y) (joined (scaled v column) l)) (sym (tiles_fill size p v r s h))
+      ∙ sym (placed-columns v (s / v) [] r l column [] y)
+
+  -- the sums of the lane, and of the processor and the loop together
+  abbrev spread : (cs : ℕ → ℕ) → AreCounts (left_path p v s) r 0 cs → Spread size p v r s h cs 0
+  spread cs counts =
+      spread-by size p v r s h cs 0 q l left-turn
+      (subst (λ ts. AreCopies left-three ts cs) (sym (turns-are [] left-three))
+      (natural-copies left-three r 0 cs counts))
+      (natural-turns left-three r)
+
+  -- a pass of the part alone, within its limits
+  pub record IsPart (m : ℕ) (z : PlainPass) : Type 0 where
+    pub placed : IsPlacedPass r [] r z
+    pub shape : IsShaped (IsShapedWork m) r z
+    pub node : IsNodeWork z.work
+
+  module _ (m : ℕ) (z : PlainPass) (part : IsPart m z) where
+    abbrev n : ℕ
+    n = work_size z.work
+
+    -- what is known where the pass is in all copies
+    record IsSpread (cs : ℕ → ℕ) (e : Sum) : Type 0 where
+      inner : AreCounts z.path n d cs
+      sums : Spread size p v r s h cs 0
+      same_lane : sums.lane ≡ l
+      same_column : sums.column ≡ column
+
+    spread-pass : (cs : ℕ → ℕ) (e : Sum) → AreCounts (left_path p v s ++ z.path) n 0 cs → IsSpread cs e
+    spread-pass cs e counts =
+        let split = counts-append (left_path p v s) z.path n 0 cs counts in
+        record {
+          inner = split.1;
+          sums = spread cs (subst (λ i. AreCounts (left_path p v s) i 0 cs) part.shape.fills split.0);
+          same_lane = refl;
+          same_column = refl;
+        }
+
+    -- where functions of the part alone lead in all copies
+    led : (cs : ℕ → ℕ) (e : Sum) (fs : List Mapping) (i : ℕ) → AreCounts (left_path p v s ++ z.path) n 0 cs →
+        i ≡ p * r → StaysIn cs r fs (place_sum z.path n d e) →
+        all_simplified cs (if_dealt i p v r s ++ map (on_all v r s) fs) (place_sum (left_path p v s ++ z.path) n 0 e)
+        ≡ placed whole r us (all_simplified cs fs (place_sum z.path n d e))
+    led cs e fs i counts is stays =
+        let there = spread-pass cs e counts in
+        (part-leads size p v r s h cs z.path fs n i e there.sums part.shape.fills is stays).is
+        ∙ ap₂ (λ a b. placed whole r (a ∷ b ∷ []) (all_simplified cs fs (place_sum z.path n d e))) there.same_lane
+        there.same_column
+
+    fits-of : (cs : ℕ → ℕ) (e : Sum) → AreCounts (left_path p v s ++ z.path) n 0 cs →
+        Fits v l cs × Fits (s / v) column cs
+    fits-of cs e counts =
+        let there = spread-pass cs e counts in
+        let copies = there.sums.copies in
+        (subst (λ a. Fits v a cs) there.same_lane copies.0, subst (λ a. Fits (s / v) a cs) there.same_column copies.1.0)
+
+    diagonals : (q' : Pass) (x : Option PlainDiagonal) → z.diagonal ≡ x → HasDiagonal outer d (strided c s) z q' x →
+        HasDiagonal [] 0 same (left_pass p v r s z) q' (option_map (left_diagonal p v r s) x)
+    diagonals q' None is has = has
+    diagonals q' (Some x) is has = (
+      has.0,
+      has.1,
+      λ cs e counts fits.
+          let there = spread-pass cs e counts in
+          let multiplied = (part.placed.multiplies x is).0 cs d e there.inner fits in
+          let low = fits-of cs e counts in
+          has.2 cs e there.inner fits
+          ∙ sym (item-whole size p v r s h cs l column x.path (x.rows * x.cols)
+          (all_simplified cs x.places (place_sum z.path n d e)) low.0 low.1)
+          ∙ ap (simplified cs (inner_of (Columns s ∷ x.path) (x.rows * x.cols)))
+          (sym (led cs e x.places (r * p) counts (mul_comm r p) multiplied.stays)),
+    )
+
+    pub left_same : (q' : Pass) → IsSame outer d (strided c s) z q' → IsSame [] 0 same (left_pass p v r s z) q'
+    left_same q' is = record {
+      begun = record {
+        counts = is.begun.counts ∙ sym (map-append count_of (left_path p v s) z.path);
+        work = is.begun.work;
+        load = λ cs e counts fits.
+            let there = spread-pass cs e counts in
+            is.begun.load cs e there.inner fits
+            ∙ strided-placed cs _
+            ∙ sym (led cs e z.befores (p * r) counts refl (part.placed.gathers cs d e there.inner fits));
+      };
+      store = λ cs e counts fits.
+          let there = spread-pass cs e counts in
+          is.store cs e there.inner fits
+          ∙ strided-placed cs _
+          ∙ sym (led cs e z.afters (r * p) counts (mul_comm r p) (part.placed.scatters.stays cs d e there.inner fits));
+      factors = diagonals q' z.diagonal refl is.factors;
+    }
+
+    left_looped : IsLooped m size (left_pass p v r s z)
+    left_looped = record {
+      wide = several-append (left_path p v s) z.path (left_wide size p v r s h) part.shape.wide;
+      fills = size_under-append (left_path p v s) z.path n ∙ ap (size_under (left_path p v s)) part.shape.fills
+          ∙ left_fills size p v r s h;
+      work = part.shape.work;
+      node = part.node;
+    }
+
+    pub left_nest : (q' : Pass) → IsSame outer d (strided c s) z q' →
+        nest_of (loop_of (left_pass p v r s z)) ≡ emitted_nest q'
+    left_nest q' is = same-nest m size (left_pass p v r s z) q'
+        (let low = h.whole.low in omega (arith, low)) left_looped (left_same q' is)

@@ -1,7 +1,6 @@
 -- The places of a shared root, as sums: those of emission are those that merging makes.
 use Rattle.std.proofs.Common.{◌≡◌, ℕ, ◌+◌, ◌*◌, ◌==◌, Bool, true, false, if◌then◌else◌, arith, refl, sym, ap, ap₂, ◌∙◌}
-use Rattle.std.proofs.Common.{List, [], ◌∷◌, ◌++◌, length, length-append, append-nil, append_assoc}
-use Rattle.std.specs.Prelude.{map}
+use Rattle.std.proofs.Common.{List, [], ◌∷◌, ◌++◌, length, length-append, append-nil, append_assoc, map}
 use Rattle.perm_algebra.specs.Affine.{Sum, scaled, joined}
 use Rattle.sigma_lower.specs.TreeLoops.Placed.{place_sum}
 use Rattle.sigma_lower.proofs.TreeLoops.InCopies.{placed}

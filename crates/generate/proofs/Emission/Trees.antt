@@ -1,38 +1,139 @@
 -- The passes of a layout by the rules of emission are those that merging makes.
-use Rattle.std.proofs.Common.{◌≡◌, ℕ, ◌+◌, ◌*◌, ◌≤◌, ◌==◌, if◌then◌else◌, false, arith, refl, sym, ap, ap₂, ◌∙◌, List}
-use Rattle.std.proofs.Common.{[], ◌∷◌, ◌++◌, length, length-append, subst}
-use Rattle.std.specs.Prelude.{map}
+use Rattle.std.proofs.Common.{◌≡◌, ℕ, ◌+◌, ◌*◌, ◌≤◌, arith, ap, ◌∙◌, List, [], ◌∷◌, ◌++◌, length, subst, ◌==◌}
+use Rattle.std.proofs.Common.{if◌then◌else◌, false, refl, sym, ap₂, length-append, map}
 use Rattle.std.proofs.lemmas.Bool.Decides.{nat_tests}
 use Rattle.std.proofs.lemmas.List.{map-append, append_assoc, length-map}
-use Rattle.index_fn.specs.Mapping.{Mapping, ThomasBack}
-use Rattle.perm_algebra.specs.Affine.{Sum, constant, variable, simplified}
-use Rattle.sigma_lower.specs.TreeLoops.Merge.{PlainPass, multiplied, new_pass, scattered}
-use Rattle.sigma_lower.specs.TreeLoops.Placed.{Fits, place_sum, all_simplified}
-use Rattle.sigma_lower.specs.TreeTerms.Wrapped.{inner_of, unit_of, wrapped}
-use Rattle.sigma_lower.proofs.TreeLoops.InnerPlaces.{inner-place}
-use Rattle.sigma_lower.proofs.TreeLoops.PartRules.{IsSize, IsRuleIn, rule_in}
-use Rattle.sigma_lower.proofs.TreeLoops.PlaceSums.{tensor_sum, place_sum-push, counts-push, all_simplified-append}
-use Rattle.sigma_lower.proofs.TreeLoops.Shaped.{HasWorks}
+use Rattle.index_fn.specs.Mapping.{Mapping, Strided, ThomasIn, ThomasBack}
+use Rattle.perm_algebra.specs.Affine.{Sum, constant, variable, scaled, joined, Divided, reduced, simplified}
+use Rattle.perm_algebra.proofs.Shape.{divided-joined, turned-joined}
+use Rattle.sigma_lower.specs.TreeLoops.Placed.{Fits, place_sum, AreCounts, all_simplified}
+use Rattle.sigma_lower.specs.TreeTerms.Good.{AreCoprime}
+use Rattle.sigma_lower.specs.TreeTerms.Wrapped.{wrapped, unit_of, inner_of}
+use Rattle.sigma_lower.proofs.TreeLoops.InCopies.{simplified-wrapped}
+use Rattle.sigma_lower.proofs.TreeLoops.PartRules.{IsRuleIn, coprime_in, IsSize, rule_in}
+use Rattle.sigma_lower.proofs.TreeLoops.PlaceSums.{tensor_sum, place_sum-push, counts-push, variable-fits}
+use Rattle.sigma_lower.proofs.TreeLoops.PlaceSums.{all_simplified-append}
 use Rattle.sigma_lower.proofs.TreeLoops.TreePasses.{rule_waiting, rule_passes, layout_passes}
+use Rattle.operators.specs.declared.tensor_paths.Tensor.TheVariants.{Blocks, Columns}
+use Rattle.operators.specs.TensorPaths.Path.{Path, count_of, size_under}
+use Rattle.tree_model.specs.declared.tree.Rule.{Rule}
+use Rattle.tree_model.specs.declared.tree.Rule.TheVariants.{Gt, Ct}
+use Rattle.generate.specs.Emission.Places.{left_out, right_in, PlaceFunction, after, blocks, columns, inside, same}
+use Rattle.generate.specs.Emission.Places.{turn_of}
+use Rattle.sigma_lower.proofs.TreeLoops.PlaceLimits.{at-tensor, thomas_back-one, thomas_in-one, turns-one}
+use Rattle.sigma_lower.specs.TreeLoops.Merge.{PlainPass, multiplied, new_pass, scattered}
+use Rattle.sigma_lower.proofs.TreeLoops.InnerPlaces.{inner-place}
+use Rattle.sigma_lower.proofs.TreeLoops.Shaped.{HasWorks}
 use Rattle.sigma_spl.specs.Work.{PlainWork, work_size}
 use Rattle.smp_rewrite.specs.LayoutSteps.Layout.{Layout, work, by, layout_size, IsGoodLayout}
 use Rattle.operators.specs.declared.tensor_paths.Tensor.{Tensor}
-use Rattle.operators.specs.declared.tensor_paths.Tensor.TheVariants.{Blocks, Columns}
-use Rattle.operators.specs.TensorPaths.Path.{Path, count_of, size_under}
 use Rattle.operators.proofs.TensorPaths.Under.{size_under-push}
-use Rattle.tree_model.specs.declared.tree.Rule.{Rule}
-use Rattle.tree_model.specs.declared.tree.Rule.TheVariants.{Gt, Ct, Split, Dim}
-use Rattle.generate.specs.Emission.Passes.{Factors, Pass, Site, entries, left_site, moved, none, number, right_site}
-use Rattle.generate.specs.Emission.Passes.{twiddles}
-use Rattle.generate.specs.Emission.Places.{PlaceFunction, after, blocks, columns, inside, left_out, right_in, same}
-use Rattle.generate.specs.Emission.Places.{turn_of}
+use Rattle.generate.specs.Emission.Passes.{Factors, Pass, Site, entries, left_site, moved, none, right_site, twiddles}
 use Rattle.generate.proofs.Emission.Layouts.{layout_emitted, named, named-plain}
-use Rattle.generate.proofs.Emission.Matches.{Always, ArePasses, AreSame, IsAround, IsLast, IsSame, HasDiagonal}
-use Rattle.generate.proofs.Emission.Matches.{at_last-none, last-other, last-same, natural, passes-append}
+use Rattle.generate.proofs.Emission.Matches.{ArePasses, AreSame, IsAround, IsLast, IsSame, all-free, at_last-none}
+use Rattle.generate.proofs.Emission.Matches.{last-other, last-same, last-twiddled, natural, passes-append, IsNodeWork}
 use Rattle.generate.proofs.Emission.Nested.{pass_at, plain_work}
-use Rattle.generate.proofs.Emission.Nests.{IsNodeWork}
-use Rattle.generate.proofs.Emission.Steps.{loaded_by, stored_back}
-use Rattle.sigma_lower.proofs.TreeLoops.PlaceLimits.{at-tensor}
+
+-- ---- what a rule's permutations make of the places of its parts
+
+-- ---- under one tensor
+
+abbrev turn : ℕ → Sum
+turn d = variable 1 d (constant 0)
+
+-- what a permutation before a rule's right part makes of a place, and that it fits
+record Leads (cs : ℕ → ℕ) (f : Mapping) (n : ℕ) (from to : Sum) : Type 0 where
+  is : simplified cs f from ≡ to
+  fits : Fits n to cs
+
+leads-by : (cs : ℕ → ℕ) (f : Mapping) (n : ℕ) (from to : Sum) → simplified cs f from ≡ to →
+    Fits n (simplified cs f from) cs → Leads cs f n from to
+leads-by cs f n from to is fits = record { is = is; fits = subst (λ e. Fits n e cs) is fits }
+
+thomas_in-leads : (r s d : ℕ) (e : Sum) (cs : ℕ → ℕ) → cs d ≡ r → 2 ≤ r → 2 ≤ s → r * s ≤ 1048576 → Fits s e cs →
+    Leads cs (ThomasIn r s) (r * s) (tensor_sum (Blocks r) s d e) (right_in Gt r s (turn d) cs e)
+thomas_in-leads r s d e cs count two_r two_s high f =
+    leads-by cs (ThomasIn r s) (r * s) (tensor_sum (Blocks r) s d e) _
+    (ap (λ (z : Divided). reduced cs (r * s) (joined (scaled s z.quot) (scaled r z.rem)))
+    (divided-joined s (turn d) e cs (omega arith) f.proper f.small))
+    (thomas_in-one r s d e cs count two_r two_s high f)
+
+turns-leads : (r s d : ℕ) (e : Sum) (cs : ℕ → ℕ) → cs d ≡ r → 2 ≤ r → 2 ≤ s → Fits s e cs →
+    Leads cs (Strided r s) (r * s) (tensor_sum (Blocks r) s d e) (right_in Ct r s (turn d) cs e)
+turns-leads r s d e cs count two_r two_s f =
+    leads-by cs (Strided r s) (r * s) (tensor_sum (Blocks r) s d e) _
+    (turned-joined r s (turn d) e cs (omega arith) f.proper f.small) (turns-one r s d e cs count two_r two_s f)
+
+thomas_back-leads : (r s d : ℕ) (e : Sum) (cs : ℕ → ℕ) → AreCoprime r s → cs d ≡ s → 2 ≤ r → 2 ≤ s → Fits r e cs →
+    Leads cs (ThomasBack r s (unit_of r s) (unit_of s r)) (r * s) (tensor_sum (Columns s) r d e)
+    (left_out Gt r s (turn d) cs e)
+thomas_back-leads r s d e cs both count two_r two_s f =
+    let fit = variable-fits s d cs count two_s in
+    leads-by cs (ThomasBack r s (unit_of r s) (unit_of s r)) (r * s) (tensor_sum (Columns s) r d e) _
+    (ap (λ (z : Divided). reduced cs (r * s) (joined (scaled (unit_of r s) z.quot) (scaled (unit_of s r) z.rem)))
+    (divided-joined s e (turn d) cs (omega arith) fit.proper fit.small))
+    (thomas_back-one r s d e cs both count two_r two_s f)
+
+-- ---- under a path
+
+-- a permutation under the path, at a place in a part
+pub record LeadsUnder (cs : ℕ → ℕ) (f : Mapping) (path : Path) (n d : ℕ) (from to : Sum) : Type 0 where
+  pub is : simplified cs (wrapped path n f) from ≡ place_sum path n d to
+  pub fits : Fits n to cs
+
+under-path : (cs : ℕ → ℕ) (f : Mapping) (path : Path) (n d : ℕ) (from at to : Sum) → AreCounts path n d cs →
+    Fits n at cs → from ≡ place_sum path n d at → Leads cs f n at to → LeadsUnder cs f path n d from to
+under-path cs f path n d from at to counts fits is leads =
+    record {
+      is = ap (simplified cs (wrapped path n f)) is ∙ simplified-wrapped path n d f at cs counts fits
+          ∙ ap (place_sum path n d) leads.is;
+      fits = leads.fits;
+    }
+
+-- where a rule's right part loads, past the functions that wait
+pub record IsLoaded (cs : ℕ → ℕ) (rule : Rule) (path : Path) (r s d : ℕ) (waiting : List Mapping)
+    (e : Sum) : Type 0 where
+  pub is : all_simplified cs (rule_waiting rule path r s waiting) (place_sum (path ++ Blocks r ∷ []) s d e)
+      ≡ all_simplified cs waiting
+      (place_sum path (r * s) d (right_in rule r s (variable 1 (d + length path) (constant 0)) cs e))
+  pub fits : Fits (r * s) (right_in rule r s (variable 1 (d + length path) (constant 0)) cs e) cs
+
+pub loaded_by : (size : ℕ) (rule : Rule) (path : Path) (r s d : ℕ) (waiting : List Mapping) (e : Sum) (cs : ℕ → ℕ) →
+    IsRuleIn size rule path r s → AreCounts (path ++ Blocks r ∷ []) s d cs → Fits s e cs →
+    IsLoaded cs rule path r s d waiting e
+loaded_by size Gt path r s d waiting e cs h counts fits =
+    let p = counts-push path (Blocks r) s d cs counts in
+    let leads = under-path cs (ThomasIn r s) path (r * s) d (place_sum (path ++ Blocks r ∷ []) s d e)
+    (tensor_sum (Blocks r) s (d + length path) e) _ p.before (at-tensor path (Blocks r) s d e cs counts fits)
+    (place_sum-push path (Blocks r) s d e)
+    (thomas_in-leads r s (d + length path) e cs p.count h.left h.right h.small fits) in
+    record { is = ap (all_simplified cs waiting) leads.is; fits = leads.fits }
+loaded_by size Ct path r s d waiting e cs h counts fits =
+    let p = counts-push path (Blocks r) s d cs counts in
+    let leads = under-path cs (Strided r s) path (r * s) d (place_sum (path ++ Blocks r ∷ []) s d e)
+    (tensor_sum (Blocks r) s (d + length path) e) _ p.before (at-tensor path (Blocks r) s d e cs counts fits)
+    (place_sum-push path (Blocks r) s d e)
+    (turns-leads r s (d + length path) e cs p.count h.left h.right fits) in
+    record { is = ap (all_simplified cs waiting) leads.is; fits = leads.fits }
+loaded_by size _ path r s d waiting e cs h counts fits =
+    record {
+      is = ap (all_simplified cs waiting) (place_sum-push path (Blocks r) s d e);
+      fits = at-tensor path (Blocks r) s d e cs counts fits;
+    }
+
+-- where a left part by coprime factors stores
+pub stored_back : (size : ℕ) (path : Path) (r s d : ℕ) (e : Sum) (cs : ℕ → ℕ) → IsRuleIn size Gt path r s →
+    AreCounts (path ++ Columns s ∷ []) r d cs → Fits r e cs →
+    LeadsUnder cs (ThomasBack r s (unit_of r s) (unit_of s r)) path (r * s) d
+    (place_sum (path ++ Columns s ∷ []) r d e) (left_out Gt r s (variable 1 (d + length path) (constant 0)) cs e)
+stored_back size path r s d e cs h counts fits =
+    let p = counts-push path (Columns s) r d cs counts in
+    under-path cs (ThomasBack r s (unit_of r s) (unit_of s r)) path (r * s) d
+    (place_sum (path ++ Columns s ∷ []) r d e) (tensor_sum (Columns s) r (d + length path) e) _ p.before
+    (at-tensor path (Columns s) r d e cs counts fits) (place_sum-push path (Columns s) r d e)
+    (thomas_back-leads r s (d + length path) e cs (coprime_in size path r s h) p.count h.left h.right fits)
+
+-- ---- the passes of a layout by the rules of emission are those that merging makes
 
 -- ---- loops of two turns or more
 
@@ -47,13 +148,11 @@ turn-several counts n two = ap (λ b. if b then constant 0 else variable 1 (leng
 
 moved-same : (f : Factors) → moved f same ≡ f
 moved-same none = refl
-moved-same (number v) = refl
-moved-same (entries diagonal place) = refl
+moved-same _ = refl
 
 pub moved-moved : (f : Factors) (g h : PlaceFunction) → moved (moved f g) h ≡ moved f (after g h)
 moved-moved none g h = refl
-moved-moved (number v) g h = refl
-moved-moved (entries diagonal place) g h = refl
+moved-moved _ g h = refl
 
 module _ (outer : List ℕ) (d : ℕ) (whole : PlaceFunction) (long : length outer ≡ d) where
   -- one tensor more
@@ -112,58 +211,28 @@ module _ (outer : List ℕ) (d : ℕ) (whole : PlaceFunction) (long : length out
       keep = kept;
     }
 
-    -- ---- the last pass of the right part
+    -- ---- the last pass of the right part: the twiddles of a ct come with it, or it has no diagonal
 
-    abbrev IsLastRight : PlainPass → Pass → Type 0
-    IsLastRight = IsLast outer d whole (path ++ Blocks r ∷ []) s (right_site rule r s root o)
-
-    -- stores at natural places
-    stored-natural : (p : PlainPass) (q : Pass) → IsLastRight p q → Always outer d whole p
-        (λ cs e. q.site.store cs e ≡ whole cs (all_simplified cs p.afters (natural outer d whole p e)))
-    stored-natural p q last cs e counts fits =
-        last.store cs e
-        ∙ right_around.keep cs (last.own cs e)
-        ∙ ap (whole cs) (sym (last.place cs e counts fits))
-
-    -- and with no diagonal it is the same
-    right_free : (right_site rule r s root o).factors ≡ none → (p : PlainPass) (q : Pass) → IsLastRight p q →
-        IsSame outer d whole p q
-    right_free free p q last = record {
-      begun = last.begun;
-      store = stored-natural p q last;
-      factors = subst (HasDiagonal outer d whole p q) (sym last.free)
-          (last.factors ∙ ap (λ f. moved f last.own) free);
-    }
-
-    -- the twiddles of a ct come with it
     right_twiddled : (right_site rule r s root o).factors ≡ entries (twiddles r s root)
-        (blocks s (turn_of o.counts r)) →
-        (p : PlainPass) (q : Pass) → IsLastRight p q → IsSame outer d whole (multiplied path r s root p) q
-    right_twiddled has p q last = record {
-      begun = record { counts = last.begun.counts; work = last.begun.work; load = last.begun.load };
-      store = stored-natural p q last;
-      factors = (
-        after (blocks s (turn_of o.counts r)) last.own,
-        last.factors ∙ ap (λ f. moved f last.own) has,
-        λ cs e counts fits.
-            let below = last.counts cs counts in
-            let own = last.own cs e in
-            ap (λ z. blocks s z cs own) right-turn
-            ∙ sym (inner-place path (r * s) d (tensor_sum (Blocks r) s (d + length path) own) cs
-            (counts-push path (Blocks r) s d cs below).before
-            (at-tensor path (Blocks r) s d own cs below (last.fits cs e counts fits)))
-            ∙ ap (simplified cs (inner_of path (r * s)))
-            (sym (last.place cs e counts fits ∙ place_sum-push path (Blocks r) s d own)),
-      );
-    }
+        (blocks s (turn_of o.counts r)) → (p : PlainPass) (q : Pass) →
+        IsLast outer d whole (path ++ Blocks r ∷ []) s (right_site rule r s root o) p q →
+        IsSame outer d whole (multiplied path r s root p) q
+    right_twiddled has p q last =
+        last-twiddled outer d whole (path ++ Blocks r ∷ []) s (right_site rule r s root o) right_around.keep path r s
+        root (blocks s (turn_of o.counts r)) has p q last (λ cs e counts fits.
+        let below = last.counts cs counts in
+        let own = last.own cs e in
+        ap (λ z. blocks s z cs own) right-turn
+        ∙ sym (inner-place path (r * s) d (tensor_sum (Blocks r) s (d + length path) own) cs
+        (counts-push path (Blocks r) s d cs below).before
+        (at-tensor path (Blocks r) s d own cs below (last.fits cs e counts fits)))
+        ∙ ap (simplified cs (inner_of path (r * s)))
+        (sym (last.place cs e counts fits ∙ place_sum-push path (Blocks r) s d own)))
 
-    -- the right part's passes where its last one has no diagonal
     right_freed : (right_site rule r s root o).factors ≡ none → (ps : List PlainPass) (qs : List Pass) →
         ArePasses outer d whole (path ++ Blocks r ∷ []) s (right_site rule r s root o) ps qs →
         AreSame outer d whole ps qs
-    right_freed free ps qs k =
-        subst (λ zs. AreSame outer d whole zs qs) (at_last-none ps)
-        (last-same outer d whole (path ++ Blocks r ∷ []) s _ (λ p. p) (right_free free) ps qs k)
+    right_freed = all-free outer d whole (path ++ Blocks r ∷ []) s (right_site rule r s root o) right_around.keep
 
     -- ---- the last pass of the left part is that of the node
 
@@ -246,14 +315,10 @@ module _ (outer : List ℕ) (d : ℕ) (whole : PlaceFunction) (long : length out
       (last-same outer d whole (path ++ Blocks r ∷ []) s _ (multiplied path r s root)
       (right_twiddled size Ct path r s root waiting o h around refl) right rights k)
       (left_same size Ct path r s root waiting o h around (λ i cs e. refl) left lefts l)
-  by_rule size Split path r s root waiting o left right lefts rights h around l k =
+  by_rule size rule path r s root waiting o left right lefts rights h around l k =
       passes-append outer d whole path (r * s) o right left rights lefts
-      (right_freed size Split path r s root waiting o h around refl right rights k)
-      (left_same size Split path r s root waiting o h around (λ i cs e. refl) left lefts l)
-  by_rule size Dim path r s root waiting o left right lefts rights h around l k =
-      passes-append outer d whole path (r * s) o right left rights lefts
-      (right_freed size Dim path r s root waiting o h around refl right rights k)
-      (left_same size Dim path r s root waiting o h around (λ i cs e. refl) left lefts l)
+      (right_freed size rule path r s root waiting o h around refl right rights k)
+      (left_same size rule path r s root waiting o h around (λ i cs e. refl) left lefts l)
 
   one-pass : (path : Path) (waiting : List Mapping) (o : Site) (w : PlainWork) →
       plain_work (named w) ≡ w → IsAround outer d whole path waiting (work_size w) o →

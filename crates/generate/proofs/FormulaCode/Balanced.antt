@@ -1,17 +1,14 @@
 -- A formula with its direct sums in halves has the same summands, and is shaped.
 use Rattle.std.proofs.Common.{◌≡◌, ℕ, zero, suc, ◌+◌, ◌*◌, ◌/◌, ◌<◌, ◌≤◌, nat_le, if◌then◌else◌, List, [], ◌∷◌, ◌++◌}
 use Rattle.std.proofs.Common.{flat_map, take, drop, length, length-append, append-nil, refl, sym, ap, ap₂, ◌∙◌, arith}
-use Rattle.std.proofs.Common.{subst, inl, inr, add_assoc}
+use Rattle.std.proofs.Common.{subst, inl, inr, add_assoc, length-take-le, take-append-drop}
 use Rattle.std.proofs.lemmas.Bool.{cases_Bool}
 use Rattle.std.proofs.lemmas.Bool.Decides.{nat_tests}
 use Rattle.std.proofs.lemmas.Grind.{flat_map-append}
-use Rattle.std.proofs.lemmas.List.{length-take-le, take-append-drop}
 use Rattle.spl_ast.specs.BalancedSums.Halves.{halved, balanced, balanced_summands}
 use Rattle.spl_ast.specs.BalancedSums.Summands.{summands, sum_of}
 use Rattle.spl_ast.proofs.BalancedSums.Grouping.{KnowsSums, from_right}
-use Rattle.spl_ast.specs.Formula.{Formula, Identity, Fourier, Hadamard, Twiddles, Diagonal, Stride, Permutation}
-use Rattle.spl_ast.specs.Formula.{GoodThomasIn, GoodThomasOut, Product, TensorLeft, TensorRight, DirectSum, Pending}
-use Rattle.spl_ast.specs.Formula.{size_of}
+use Rattle.spl_ast.specs.Formula.{Formula, Identity, Product, TensorLeft, TensorRight, DirectSum, Pending, size_of}
 use Rattle.spl_ast.specs.Shape.{IsShaped}
 use Rattle.spl_ast.proofs.Vectors.{shaped_size}
 use Rattle.spl_ast.proofs.Contexts.{is_size_of}
@@ -50,37 +47,17 @@ summands-halved (suc depth) fs some = elim (cases_Bool (nat_le (length fs) 1)) [
 
 some-summands : (f : Formula) → 0 < length (balanced_summands f)
 some-summands (Identity n) = omega arith
-some-summands (Fourier n w) = omega arith
-some-summands (Hadamard n) = omega arith
-some-summands (Twiddles n s w) = omega arith
-some-summands (Diagonal c) = omega arith
-some-summands (Stride n r) = omega arith
-some-summands (Permutation k) = omega arith
-some-summands (GoodThomasIn r s) = omega arith
-some-summands (GoodThomasOut r s) = omega arith
-some-summands (Product a b) = omega arith
-some-summands (TensorLeft a k) = omega arith
-some-summands (TensorRight k a) = omega arith
-some-summands (Pending a) = omega arith
 some-summands (DirectSum a b) =
     let all = length-append (balanced_summands a) (balanced_summands b) in
     let some = some-summands a in
     omega (arith, all, some)
+some-summands _ = omega arith
 
 -- from what is in halves to the formula
 whole : (f : Formula) → flat_map summands (balanced_summands f) ≡ summands f → summands (balanced f) ≡ summands f
 whole f same = summands-halved (length (balanced_summands f)) (balanced_summands f) (some-summands f) ∙ same
 
 same-summands : (f : Formula) → flat_map summands (balanced_summands f) ≡ summands f
-same-summands (Identity n) = refl
-same-summands (Fourier n w) = refl
-same-summands (Hadamard n) = refl
-same-summands (Twiddles n s w) = refl
-same-summands (Diagonal c) = refl
-same-summands (Stride n r) = refl
-same-summands (Permutation k) = refl
-same-summands (GoodThomasIn r s) = refl
-same-summands (GoodThomasOut r s) = refl
 same-summands (Product a b) =
     ap₂ (λ fs gs. Product (sum_of fs) (sum_of gs) ∷ []) (whole a (same-summands a)) (whole b (same-summands b))
 same-summands (TensorLeft a k) = ap (λ fs. TensorLeft (sum_of fs) k ∷ []) (whole a (same-summands a))
@@ -88,6 +65,7 @@ same-summands (TensorRight k a) = ap (λ fs. TensorRight k (sum_of fs) ∷ []) (
 same-summands (Pending a) = ap (λ fs. Pending (sum_of fs) ∷ []) (whole a (same-summands a))
 same-summands (DirectSum a b) = flat_map-append summands (balanced_summands a) (balanced_summands b)
     ∙ ap₂ (λ fs gs. fs ++ gs) (same-summands a) (same-summands b)
+same-summands _ = refl
 
 pub balanced_alike : (f : Formula) → summands (balanced f) ≡ summands f
 balanced_alike f = whole f (same-summands f)

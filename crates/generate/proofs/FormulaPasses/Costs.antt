@@ -1,27 +1,25 @@
 -- The operations and loads of a formula's passes.
-use Rattle.std.proofs.Common.{◌≡◌, ℕ, zero, suc, ◌+◌, ◌-◌, ◌*◌, ◌/◌, ◌≤◌, Bool, true, false, List, [], ◌∷◌}
-use Rattle.std.proofs.Common.{length, map, sym, subst, ap, arith, if◌then◌else◌}
-use Rattle.std.specs.Prelude.{◌==◌, nat_le, nat_lt}
+use Rattle.std.proofs.Common.{◌≡◌, ℕ, zero, suc, ◌+◌, ◌-◌, ◌*◌, ◌/◌, ◌≤◌, Bool, true, false, List, [], ◌∷◌, length, map}
+use Rattle.std.proofs.Common.{sym, subst, ap, arith, if◌then◌else◌, ◌==◌, nat_le, nat_lt}
 use Rattle.std.proofs.Math.Nat.{mul-le-mul_left, mul-le-mul_right}
 use Rattle.sigma_lower.specs.Operations as formulas
 use Rattle.sigma_lower.specs.Terms.{halvings}
 use Rattle.tree_model.specs.KernelCosts.{AllowsRoot, product_cost, products_cost}
 use Rattle.matrix_meaning.specs.declared.Kind.{Kind}
-use Rattle.matrix_meaning.specs.declared.Kind.TheVariants.{Dft, Wht, Idft}
+use Rattle.matrix_meaning.specs.declared.Kind.TheVariants.{Dft}
 use Rattle.matrix_meaning.specs.Kind.{entry_of}
 use Rattle.operators.specs.Sum.{sum_below}
 use Rattle.sigma_spl.specs.Shared.Costs.{pass_cost, pass_loads, work_cost, work_loads}
 use Rattle.sigma_spl.specs.Counts.{copies_in, multiplier_cost}
 use Rattle.sigma_spl.specs.Nest.{PlainNest, copies_of}
-use Rattle.sigma_spl.specs.Work.{PlainWork, kernel, rows, horner, tile, copy, work_size}
+use Rattle.sigma_spl.specs.Work.{PlainWork, rows, tile, work_size}
 use Rattle.sigma_spl.proofs.Counting.{items_of}
 use Rattle.sigma_spl.proofs.Walk.{chosen}
-use Rattle.spl_ast.specs.Formula.{Formula, Identity, Fourier, Hadamard, Twiddles, Diagonal, Stride, Permutation}
-use Rattle.spl_ast.specs.Formula.{GoodThomasIn, GoodThomasOut, Product, TensorLeft, TensorRight, DirectSum, Pending}
-use Rattle.spl_ast.specs.Formula.{size_of, parts_of}
+use Rattle.spl_ast.specs.Formula.{Formula, Fourier, Hadamard, Twiddles, Diagonal, Product, TensorLeft, TensorRight}
+use Rattle.spl_ast.specs.Formula.{DirectSum, Pending, size_of, parts_of}
 use Rattle.spl_ast.specs.Shape.{IsShaped}
 use Rattle.tree_model.specs.Breakdown.{leaf}
-use Rattle.generate.proofs.FormulaPasses.Made.{IsFormulaWork, AreMade}
+use Rattle.generate.proofs.FormulaPasses.Merging.{IsFormulaWork, AreMade}
 use Rattle.kernel_gen.proofs.KernelSizes.{sum_below-le}
 
 -- ---- kernels of leaves
@@ -44,8 +42,7 @@ leaf-size (suc d) x h =
 
 pub leaf-root : (m root d : ℕ) (kind : Kind) → AllowsRoot m root kind (leaf d)
 leaf-root m root d Dft = tt
-leaf-root m root d Wht = tt
-leaf-root m root d Idft = tt
+leaf-root m root d _ = tt
 
 -- ---- operations and loads
 
@@ -55,11 +52,9 @@ square-le (suc n) = omega arith
 
 -- each copy loads at most as many words as it has operations and items
 loads-le : (m : ℕ) (w : PlainWork) → IsFormulaWork w → work_loads w ≤ work_cost 1 m w + work_size w
-loads-le m (kernel trees) work = omega arith
 loads-le m (rows root d) work = absurd work
-loads-le m (horner root d) work = omega arith
 loads-le m (tile v) work = absurd work
-loads-le m (copy d) work = omega arith
+loads-le m _ work = omega arith
 
 pub pass-loads-le : (m : ℕ) (zs : List PlainNest) → AreMade m zs →
     pass_loads zs ≤ pass_cost 1 m zs + items_of (map (copies_of m) zs)
@@ -92,7 +87,6 @@ under-le k s p x h =
 -- for each of its parts at most twice as many as a matrix of its size has entries
 pub operations-le : (m : ℕ) (f : Formula) → IsShaped f → formulas.operations 1 m f
     ≤ 2 * (size_of f * size_of f) * (parts_of f + 1)
-operations-le m (Identity n) shaped = omega arith
 operations-le m (Fourier n w) shaped =
     let short = leaf-size n (products_cost 1 m 0 (entry_of Dft m n w) n n) (products-le m n (entry_of Dft m n w)) in
     chosen (λ k. k ≤ 2 * (n * n) * (0 + 1)) (nat_le n 8) (n * (n - 1) + products_cost 1 m 0 (entry_of Dft m n w) n n)
@@ -100,10 +94,6 @@ operations-le m (Fourier n w) shaped =
 operations-le m (Hadamard n) shaped = let each : n * halvings n n ≤ n * n = mul-le-mul_left n (halvings-le n n) in omega (arith, each)
 operations-le m (Twiddles n s w) shaped = let square = square-le n in omega (arith, square)
 operations-le m (Diagonal c) shaped = let square = square-le (length c) in omega (arith, square)
-operations-le m (Stride n r) shaped = omega arith
-operations-le m (Permutation k) shaped = omega arith
-operations-le m (GoodThomasIn r s) shaped = omega arith
-operations-le m (GoodThomasOut r s) shaped = omega arith
 operations-le m (Product a b) shaped =
     let first = operations-le m a shaped.0 in
     let second = subst (λ n. formulas.operations 1 m b ≤ 2 * (n * n) * (parts_of b + 1)) (sym shaped.2) (operations-le m b shaped.1) in
@@ -115,3 +105,4 @@ operations-le m (DirectSum a b) shaped =
     let second = operations-le m b shaped.1 in
     omega (arith, first, second)
 operations-le m (Pending a) shaped = let inner = operations-le m a shaped in omega (arith, inner)
+operations-le m _ shaped = omega arith

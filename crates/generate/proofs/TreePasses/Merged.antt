@@ -1,23 +1,56 @@
 -- The merged passes of a tree do what its request asks for, and a program can be made of them.
-use Rattle.std.proofs.Common.{◌≡◌, ◌∙◌, arith, List, ℕ}
-use Rattle.loop_merge.proofs.TreeMerge.{sigmas_merge_to_trees}
-use Rattle.matrix_meaning.specs.Asked.{asked_of}
+use Rattle.std.proofs.Common.{◌≡◌, ◌%◌, ap, ◌∙◌, sym, arith, List, ℕ}
 use Rattle.matrix_meaning.specs.Valid.{IsValid}
 use Rattle.matrix_meaning.specs.declared.Request.{Request}
+use Rattle.sigma_lower.proofs.TreeLayouts.{trees_can_lower}
+use Rattle.sigma_lower.specs.Merged.{sigma_of, tree_merged, whole_sigma}
+use Rattle.sigma_lower.specs.TreeTerms.Good.{IsVecOf}
+use Rattle.sigma_spl.specs.Merged.{PlainMerged, merged_on}
+use Rattle.sigma_spl.specs.Shared.Targets.{target_of}
+use Rattle.sigma_spl.specs.Sigma.{PlainSigma, merged_of}
+use Rattle.smp_rewrite.proofs.LayoutSteps.Wholes.{forward_tree, wholes_do}
+use Rattle.smp_rewrite.specs.Cut.{smp_of}
+use Rattle.smp_rewrite.specs.LayoutSteps.Whole.{whole_of}
+use Rattle.smp_rewrite.specs.Smp.{PlainSmp}
+use Rattle.tree_model.proofs.WholeTrees.{forward_size}
+use Rattle.tree_model.specs.Breakdown.{Breakdown, size_of}
+use Rattle.tree_model.specs.Chosen.{IsWholeTree, StandsIn}
+use Rattle.vec_rewrite.specs.Laws.{IsSmpOf}
+use Rattle.vec_rewrite.specs.Turning.{vec_of}
+use Rattle.vec_rewrite.specs.Vectors.{PlainVec}
+use Rattle.loop_merge.proofs.TreeMerge.{sigmas_merge_to_trees}
+use Rattle.matrix_meaning.specs.Asked.{asked_of}
 use Rattle.sigma_lower.proofs.CanMerge.{trees_can_merge}
 use Rattle.sigma_lower.proofs.Sigmas.{sigma_transforms}
-use Rattle.sigma_lower.proofs.TreeLayouts.{trees_can_lower}
 use Rattle.sigma_lower.proofs.TreeSigmas.Laws.{trees_are_sigmas}
-use Rattle.sigma_lower.specs.Merged.{tree_merged, whole_sigma}
 use Rattle.sigma_spl.proofs.Phases.{sigma_merges}
 use Rattle.sigma_spl.specs.Good.{IsVector}
-use Rattle.sigma_spl.specs.Merged.{merged_on}
-use Rattle.sigma_spl.specs.Shared.Targets.{target_of}
 use Rattle.sigma_spl.specs.Trees.{IsMergedTree}
-use Rattle.smp_rewrite.proofs.LayoutSteps.Wholes.{wholes_do}
-use Rattle.smp_rewrite.specs.LayoutSteps.Whole.{whole_of}
-use Rattle.tree_model.specs.Breakdown.{Breakdown}
-use Rattle.tree_model.specs.Chosen.{IsWholeTree}
+
+-- ---- what each stage from a tree to its merged passes asks for
+
+module _ (c : Request) (t : Breakdown) (valid : IsValid c) (h : IsWholeTree c t) where
+  -- the whole tree stands in its request
+  pub tree-stands : StandsIn c t
+  tree-stands = (h.tree, ap (λ n. n % size_of t) (sym (forward_size c)) ∙ (forward_tree c t valid h).divides)
+
+  pub smp-is : (blocks : PlainSmp) → blocks ≡ smp_of (target_of c) (whole_of c t) → IsSmpOf (target_of c) blocks
+  smp-is blocks form = record { whole = whole_of c t; shares = (trees_can_lower c t valid h).shares; form = form }
+
+  module _ (blocks : PlainSmp) (vectors : PlainVec) (cut : blocks ≡ smp_of (target_of c) (whole_of c t))
+      (turned : vectors ≡ vec_of blocks) where
+    -- the formula for lanes is the tree's
+    pub vec-is : IsVecOf (target_of c) vectors
+    vec-is =
+        let can = trees_can_lower c t valid h in
+        record { whole = whole_of c t; shares = can.shares; good = can.good; form = turned ∙ ap vec_of cut }
+
+    -- and so are its terms, which are merged into its passes
+    pub tree-merges : (sigma : PlainSigma) (merged : PlainMerged) → sigma ≡ sigma_of vectors →
+        merged ≡ merged_of sigma → merged ≡ tree_merged c t
+    tree-merges sigma merged lowered made = made ∙ ap merged_of (lowered ∙ ap sigma_of (turned ∙ ap vec_of cut))
+
+-- ---- the merged passes of a tree do what its request asks for, and a program can be made of them
 
 module _ (c : Request) (t : Breakdown) (valid : IsValid c) (h : IsWholeTree c t) where
   pub trees_are_merged : IsMergedTree c t (tree_merged c t)

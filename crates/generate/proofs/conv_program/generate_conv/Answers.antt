@@ -9,9 +9,8 @@ use Rattle.tree_model.specs.Chosen.{IsWholeTree}
 use Rattle.sigma_spl.specs.Shared.Targets.{target_of}
 use Rattle.generate.specs.ConvLetters.{conv_merged}
 use Rattle.generate.specs.Factors.{factors_of}
-use Rattle.generate.proofs.ConvTrees.{inverse_tree, inverse_valid}
+use Rattle.generate.proofs.ConvGoodness.{inverse_tree, inverse_valid, can-convolve, joined-same, planned-valid}
 use Rattle.generate.specs.Convolver.{IsConvolver}
-use Rattle.generate.proofs.ConvGoodness.{can-convolve, joined-same, planned-valid}
 use Rattle.generate.proofs.Emission.Programs.{conv_programs_are_emissions}
 use Rattle.generate.proofs.GoodPrograms.{conv_programs_convolve}
 use Rattle.generate.proofs.conv_program.generate_conv.Goals as goal

@@ -3,7 +3,7 @@ use Rattle.std.specs.Int.{IsGcd}
 use Rattle.matrix_meaning.specs.declared.Request.{Request}
 use Rattle.ring_mod.specs.Inverse.{inverse_mod}
 use Rattle.ring_mod.specs.Residue.{product_mod}
-use Rattle.generate.proofs.Factors.{factors-are}
+use Rattle.generate.proofs.ConvGoodness.{factors-are}
 use Rattle.generate.proofs.conv_program.list_factors.Goals as goal
 use Rattle.generate.proofs.conv_program.list_factors.Goals.{After-inverse}
 

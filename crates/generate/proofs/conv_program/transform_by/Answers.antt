@@ -3,7 +3,7 @@ use Rattle.breakdown.proofs.Sizes.{whole_divides}
 use Rattle.matrix_meaning.specs.declared.Request.{Request}
 use Rattle.spl_ast.specs.Meaning.{apply}
 use Rattle.tree_model.specs.Breakdown.{breakdown_of, size_of}
-use Rattle.generate.proofs.ConvTrees.{conv_asked}
+use Rattle.generate.proofs.ConvGoodness.{conv_asked}
 use Rattle.generate.proofs.conv_program.transform_by.Goals as goal
 
 pub expand-requires : goal.expand-requires

@@ -2,8 +2,7 @@ use Rattle.icode.specs.Program.{plain_program}
 use Rattle.sigma_spl.specs.Views.{plain_merged}
 use Rattle.std.proofs.Common.{subst, sym}
 use Rattle.generate.specs.FormulaCode.Code.{IsCodeOf}
-use Rattle.generate.proofs.FormulaCode.Coding.{can_emit, has_letters}
-use Rattle.generate.proofs.FormulaCode.Programs.{as-it-stands}
+use Rattle.generate.proofs.FormulaCode.Programs.{can_emit, has_letters, as-it-stands}
 use Rattle.generate.proofs.formula_code.code_of_formula.Goals as goal
 
 pub emit_formula-requires : goal.emit_formula-requires

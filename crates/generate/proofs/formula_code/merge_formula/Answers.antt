@@ -1,6 +1,6 @@
 use Rattle.std.proofs.Common.{ap, ◌∙◌}
 use Rattle.generate.specs.FormulaCode.Joined.{phases_joined}
-use Rattle.generate.proofs.FormulaCode.Coding.{formula_joined}
+use Rattle.generate.proofs.FormulaCode.Programs.{formula_joined}
 use Rattle.sigma_spl.specs.Sigma.{merged_of}
 use Rattle.generate.proofs.formula_code.merge_formula.Goals as goal
 

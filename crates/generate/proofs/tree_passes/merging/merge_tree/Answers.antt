@@ -3,8 +3,7 @@ use Rattle.sigma_spl.specs.Views.{plain_merged, plain_sigma}
 use Rattle.smp_rewrite.specs.Views.{plain_smp}
 use Rattle.tree_model.specs.Breakdown.{breakdown_of}
 use Rattle.vec_rewrite.specs.Views.{plain_vec}
-use Rattle.generate.proofs.TreePasses.Chain.{smp-is, tree-merges, tree-stands, vec-is}
-use Rattle.generate.proofs.TreePasses.Merged.{trees_are_merged, trees_mean}
+use Rattle.generate.proofs.TreePasses.Merged.{smp-is, tree-merges, tree-stands, vec-is, trees_are_merged, trees_mean}
 use Rattle.sigma_spl.specs.Merged.{merged_on}
 use Rattle.sigma_spl.specs.Trees.{IsMergedTree}
 use Rattle.generate.proofs.tree_passes.merging.merge_tree.Goals as goal
