@@ -1,7 +1,6 @@
 -- The entries of diagonals under tensors.
-use Rattle.std.proofs.Common.{◌≡◌, ℕ, zero, suc, ◌*◌, ◌<◌, ◌≤◌, List, [], ◌∷◌, length, refl, ap, ◌∙◌, arith}
-use Rattle.std.proofs.Common.{mul_comm, zero-mul, mul-zero, suc-mul}
-use Rattle.std.specs.Prelude.{slice_index}
+use Rattle.std.proofs.Common.{◌≡◌, ℕ, zero, suc, ◌*◌, ◌<◌, ◌≤◌, List, [], ◌∷◌, length, refl, ap, ◌∙◌, arith, mul_comm}
+use Rattle.std.proofs.Common.{zero-mul, mul-zero, suc-mul, slice_index}
 use Rattle.std.proofs.lemmas.List.FromFn.{fill_by_all}
 use Rattle.index_fn.specs.Mapping.{at}
 use Rattle.operators.specs.Sum.{list_below}

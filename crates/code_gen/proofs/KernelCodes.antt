@@ -1,9 +1,7 @@
 -- The codes of kernels: of a node by its request, and of a short leaf by its matrix.
-use Rattle.std.proofs.Common.{◌≡◌, ◌≢◌, ℕ, zero, suc, ◌-◌, ◌<◌, ◌≤◌, [], ◌∷◌, if◌then◌else◌, arith}
-use Rattle.std.proofs.Common.{refl, ap, ap₂, ◌∙◌}
-use Rattle.std.specs.Prelude.{◌==◌}
+use Rattle.std.proofs.Common.{◌≡◌, ◌≢◌, ℕ, zero, suc, ◌-◌, ◌<◌, ◌≤◌, [], ◌∷◌, if◌then◌else◌, arith, refl, ap, ap₂, ◌∙◌}
+use Rattle.std.proofs.Common.{◌==◌, mod-eq_of_lt}
 use lib.Count.{ones}
-use Rattle.std.proofs.Math.Nat.{mod-eq_of_lt}
 use Rattle.kernel_gen.specs.Kernel.{kernel_of, node_kernel}
 use Rattle.kernel_gen.specs.Making.{matrix_make}
 use Rattle.matrix_meaning.specs.Kind.{entry_of}

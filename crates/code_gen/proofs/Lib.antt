@@ -6,6 +6,5 @@ mod CodeTables
 mod Powers
 mod StatementRules
 mod Diagonals
-mod Works
 mod KernelCodes
 mod Passes

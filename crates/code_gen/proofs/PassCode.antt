@@ -1,8 +1,7 @@
 pub mod Writing
 mod Numbers
-pub mod Variables
 pub mod PlainSteps
-mod Coded
+pub mod Coded
 pub mod Emits
 pub mod SharedTables
 pub mod OneFactor
@@ -12,8 +11,6 @@ mod Emitted
 pub mod NestEmits
 pub mod BodyLimits
 mod Limits
-pub mod PassesEmit
 pub mod Within
 pub mod TestedSums
-pub mod TestedLists
 pub mod ReadyNests

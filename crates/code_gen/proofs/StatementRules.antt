@@ -1,6 +1,5 @@
 -- The statements of works, put together.
-use Rattle.std.proofs.Common.{◌≡◌, ℕ, ◌+◌, ◌≤◌, List, length, get_or, map, sym, ap, ◌∙◌, arith, subst}
-use Rattle.std.specs.Prelude.{Option, Some}
+use Rattle.std.proofs.Common.{◌≡◌, ℕ, ◌+◌, ◌≤◌, List, length, get_or, map, sym, ap, ◌∙◌, arith, subst, Option, Some}
 use Rattle.std.proofs.lemmas.List.{get_or-map, length-map}
 use Rattle.icode.specs.declared.program.Array.{Array}
 use Rattle.icode.specs.Plain.{PlainBody, PlainExpr, PlainOp, AndStmts, Do, Store}

@@ -1,8 +1,6 @@
 -- What holds of all actions of a pass on a processor: of those in registers alone, of its loads, and of its stores.
 use Rattle.std.proofs.Common.{ℕ, zero, suc, ◌+◌, ◌-◌, ◌*◌, ◌<◌, ◌≤◌, arith, inr, List, [], ◌∷◌, ◌++◌, sym, subst}
-use Rattle.std.proofs.Common.{append-nil, append_assoc, Contains}
-use Rattle.std.proofs.Common.{refl}
-use Rattle.std.specs.Prelude.{◌≡◌, slice_index, Option, Some, None, All}
+use Rattle.std.proofs.Common.{append-nil, append_assoc, Contains, refl, ◌≡◌, slice_index, Option, Some, None, All}
 use Rattle.std.proofs.lemmas.List.Elements.{All-nil, All-cons, All-append}
 use Rattle.icode.proofs.Lines.{Contains-head, Contains-tail}
 use Rattle.icode.specs.Actions.{lane_factors}
@@ -24,11 +22,9 @@ use Rattle.code_gen.specs.PassActions.Laws.{IsFit}
 use Rattle.operators.specs.declared.target.Target.{Target}
 use Rattle.sigma_spl.specs.Shared.Machine.{item_of, loop_counts, values_of}
 use Rattle.sigma_spl.specs.Shared.Running.{CanRun, CanRunNest, IsLoadedBy, IsStoredBy}
-use Rattle.code_gen.proofs.PassActions.Copies.{IsWordOf, loaded-word, modulus-some, nest-can, stored-word}
+use Rattle.code_gen.proofs.PassActions.Copies.{IsWordOf, loaded-word, modulus-some, nest-can, stored-word, of_code}
 use Rattle.code_gen.proofs.PassActions.Fillings.{working, registers-le}
-use Rattle.code_gen.proofs.PassActions.Framed.{of_code}
-use Rattle.code_gen.proofs.PassActions.Rows.{row_acts}
-use Rattle.code_gen.proofs.PassActions.StraightCopies.{ends_of, copy_body, finish-few}
+use Rattle.code_gen.proofs.PassActions.StraightCopies.{row_acts, ends_of, copy_body, finish-few}
 use Rattle.sigma_spl.specs.Nest.{PlainMultiplier, PlainNest, factor_at, store_place}
 use Rattle.sigma_spl.specs.Work.{PlainWork, kernel, rows, horner, tile, copy, vectors_of, trees_of}
 use Rattle.tree_model.specs.Trees.{trees_size}

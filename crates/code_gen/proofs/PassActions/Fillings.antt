@@ -1,12 +1,10 @@
 -- The copies of a nest fill their places with what the pass makes of its array.
 use Rattle.std.proofs.Common.{◌≡◌, ℕ, zero, suc, ◌+◌, ◌*◌, ◌-◌, ◌%◌, ◌<◌, ◌≤◌, arith, refl, sym, ap, ap₂, ◌∙◌, List, []}
-use Rattle.std.proofs.Common.{◌∷◌}
-use Rattle.std.proofs.Common.{subst, mul_comm, Contains}
-use Rattle.std.specs.Prelude.{slice_index}
+use Rattle.std.proofs.Common.{◌∷◌, subst, mul_comm, Contains, slice_index, inl, inr, ◌⊎◌}
 use Rattle.icode.specs.declared.action.Action.{Action}
 use Rattle.icode.specs.declared.action.Action.TheVariants.{Tile}
 use Rattle.icode.specs.CodeLaws.Nests.{AreInRange}
-use Rattle.icode.proofs.CodeLaws.Fills.{Fills}
+use Rattle.icode.proofs.CodeLaws.Fills.{Fills, fills-none, fills-append, fills-fewer, fills-nest}
 use Rattle.kernel_gen.specs.Instructions.{actions_by}
 use Rattle.kernel_gen.specs.Kernel.{trees_kernel}
 use Rattle.kernel_gen.proofs.Products.{trees-does}
@@ -16,25 +14,29 @@ use Rattle.operators.proofs.Places.{turn_at}
 use Rattle.operators.proofs.Sums.{sum_below-same}
 use Rattle.ring_mod.specs.Residue.{power_mod}
 use Rattle.code_gen.specs.PassActions.Acts.{load_at, copy_acts, with_multiplier, nest_registers, pass_registers}
-use Rattle.code_gen.specs.PassActions.Laws.{AreApart}
-use Rattle.sigma_spl.specs.Shared.Running.{CanRun}
+use Rattle.code_gen.specs.PassActions.Acts.{store_at, nest_acts, pass_acts}
+use Rattle.code_gen.specs.PassActions.Laws.{AreApart, CanBegin, Leaves}
+use Rattle.sigma_spl.specs.Shared.Running.{CanRun, IsStoredBy}
 use Rattle.operators.specs.declared.target.Target.{Target}
-use Rattle.code_gen.proofs.PassActions.Copies.{modulus-some, nest-can, task_of, items, inputs, outputs, input-is}
-use Rattle.code_gen.proofs.PassActions.Copies.{input-item}
-use Rattle.code_gen.proofs.PassActions.Copies.{input-below, output-is}
 use Rattle.sigma_spl.specs.Horner.{horner_sum}
 use Rattle.sigma_spl.proofs.HornerRows.{horner_row}
-use Rattle.code_gen.proofs.PassActions.Items.{items-fill}
-use Rattle.code_gen.proofs.PassActions.KernelCopies.{value_of, kernel-computes}
-use Rattle.code_gen.proofs.PassActions.Rows.{rows-fill, row_sum, scaled_sum, entry_acts, scaled_acts, terms-turn}
-use Rattle.code_gen.proofs.PassActions.Rows.{scaled-turn}
-use Rattle.code_gen.proofs.PassActions.StraightCopies.{CopyWords, body-fills, finish-few}
-use Rattle.code_gen.proofs.PassActions.Tasks.{Task, IsReady}
-use Rattle.code_gen.proofs.PassActions.TileCopies.{turned, tile-computes}
-use Rattle.sigma_spl.specs.Nest.{PlainNest}
-use Rattle.sigma_spl.specs.Shared.Machine.{values_of}
+use Rattle.sigma_spl.specs.Nest.{PlainNest, store_place, nests_on}
+use Rattle.sigma_spl.specs.Shared.Machine.{values_of, loop_counts}
 use Rattle.sigma_spl.specs.Work.{PlainWork, kernel, rows, horner, tile, copy, vectors_of, trees_of, PlainKernel}
 use Rattle.tree_model.specs.Trees.{trees_size, trees_on}
+use Rattle.icode.proofs.Lines.{Contains-head, Contains-tail, Contains-nil}
+use Rattle.icode.specs.Machine.{Local}
+use Rattle.sigma_spl.specs.Copies.{loops_of}
+use Rattle.code_gen.proofs.PassActions.Copies.{modulus-some, nest-can, task_of, items, inputs, outputs, input-is}
+use Rattle.code_gen.proofs.PassActions.Copies.{input-item, input-below, output-is, ready-at}
+use Rattle.code_gen.proofs.PassActions.StraightCopies.{items-fill, value_of, kernel-computes, CopyWords, body-fills}
+use Rattle.code_gen.proofs.PassActions.StraightCopies.{finish-few, turned, tile-computes, rows-fill, row_sum}
+use Rattle.code_gen.proofs.PassActions.StraightCopies.{scaled_sum, entry_acts, scaled_acts, terms-turn, scaled-turn}
+use Rattle.code_gen.proofs.PassActions.Finish.{Task, IsReady}
+use Rattle.code_gen.proofs.PassActions.Copies.{IsOnLane, copy-on_lane, in_code, of_code}
+use Rattle.operators.specs.TensorPaths.Path as paths
+
+-- ---- the copies of a nest fill their places with what the pass makes of its array
 
 -- the same loops round other work
 abbrev pub working : PlainNest → PlainWork → PlainNest
@@ -193,3 +195,68 @@ module _ (c : Target) (zs : List PlainNest) (can : CanRun c zs) (source target q
 
   pub copies-fill : (p : PlainNest) (one : Contains zs p) → CopiesFill p one
   copies-fill p one = copies-of p p.work one
+
+-- ---- a pass leaves what it makes of its array
+
+module _ (c : Target) (zs : List PlainNest) (can : CanRun c zs) (source target q : ℕ) (x : List ℕ)
+    (apart : AreApart c.size source target) (part : q < c.procs)
+    (small : (i : ℕ) → i < c.size → slice_index x i < c.modulus) where
+  -- the words of all copies of the processor in a nest, and in nests
+  abbrev NestWords : PlainNest → ℕ → Type 0
+  NestWords p a = (vs : List ℕ) × AreInRange (loop_counts c p) vs × CopyWords c p (vectors_of p.work) target q vs a
+
+  abbrev PassWords : List PlainNest → ℕ → Type 0
+  PassWords ys a = (p : PlainNest) × Contains ys p × NestWords p a
+
+  abbrev DoFill : (ℕ → Type 0) → List PlainNest → Type 0
+  DoFill Filled ys = Fills c.modulus c.lanes (IsReady c.lanes (regs c zs can source target q x apart part small) (whole c zs can source target q x apart part small)) (whole c zs can source target q x apart part small).IsOutput (whole c zs can source target q x apart part small).output Filled (pass_acts c ys source target q)
+
+  nest-fills : (p : PlainNest) → Contains zs p →
+      Fills c.modulus c.lanes (IsReady c.lanes (regs c zs can source target q x apart part small)
+      (whole c zs can source target q x apart part small)) (whole c zs can source target q x apart part small).IsOutput
+      (whole c zs can source target q x apart part small).output (NestWords p) (nest_acts c p source target q)
+  nest-fills p one =
+      fills-nest c.modulus c.lanes (IsReady c.lanes (regs c zs can source target q x apart part small) (whole c zs can source target q x apart part small)) (whole c zs can source target q x apart part small).IsOutput (whole c zs can source target q x apart part small).output
+      (loop_counts c p) (CopyWords c p (vectors_of p.work) target q) (copy_acts c p p.work source target q) []
+      (λ vs range. copies-fill c zs can source target q x apart part small p one vs (of_code c p (nest-can c zs can p one).framed vs range))
+
+  one_of : (z : PlainNest) (ys : List PlainNest) (p : PlainNest) → Contains (z ∷ ys) p → (z ≡ p) ⊎ Contains ys p
+  one_of z ys p (zero, low, e) = inl e
+  one_of z ys p (suc i, low, e) = inr (i, omega arith, e)
+
+  pass-fills : (ys : List PlainNest) → ((p : PlainNest) → Contains ys p → Contains zs p) → DoFill (PassWords ys) ys
+  pass-fills [] within = fills-fewer c.modulus c.lanes _ _ _ (λ _. ⊥) (PassWords []) [] (λ a h. Contains-nil h.0 h.1) (fills-none c.modulus c.lanes _ _ _)
+  pass-fills (z ∷ ys) within =
+      fills-fewer c.modulus c.lanes _ _ _ (λ a. NestWords z a ⊎ PassWords ys a) (PassWords (z ∷ ys)) _ into
+      (fills-append c.modulus c.lanes _ _ _ (NestWords z) (PassWords ys) (nest_acts c z source target q) (pass_acts c ys source target q) (nest-fills z (within z (Contains-head z ys)))
+      (pass-fills ys (λ p one. within p (Contains-tail z ys p one))))
+    where
+      into : (a : ℕ) → PassWords (z ∷ ys) a → NestWords z a ⊎ PassWords ys a
+      into a h =
+          elim (one_of z ys h.0 h.1) [
+            | inl e ↦ inl (subst (λ (p : PlainNest). NestWords p a) (sym e) h.2)
+            | inr rest ↦ inr (h.0, rest, h.2)
+          ]
+
+  -- the word of an item is one of them
+  word-there : (w : ℕ) → IsStoredBy c zs q w → PassWords zs (target + w)
+  word-there w is =
+      let p : PlainNest = is.nest in
+      let facts = nest-can c zs can p is.one in
+      let h : IsOnLane c p.work facts.framed.loops q is.values is.item = copy-on_lane c p facts.framed q is.values is.item facts.work is.copy is.below in
+      let range = subst (λ (us : List ℕ). paths.AreInRange (loops_of p.counts) us) h.copy_is is.copy.in_range in
+      let beside = (facts.vectors q h.values h.lane h.number range h.there h.under).stores in
+      let same : store_place p.work p.scatters is.values is.item ≡ store_at c p q h.values h.number + h.lane =
+      ap (λ vs. store_place p.work p.scatters vs is.item) h.copy_is ∙ ap (store_place p.work p.scatters (values_of c p.work q h.lane h.values)) h.item ∙ beside in
+      let there = is.there in (p, is.one, (h.values, in_code c p facts.framed h.values h.in_range, (h.number, h.under, (h.lane, h.there, omega (arith, same, there)))))
+
+  pub pass-leaves : (s : Local) → CanBegin c zs source target q x s → Leaves c zs source target q x s
+  pass-leaves s begin =
+      let ready = ready-at c zs can source target q x apart s begin in
+      let fills = pass-fills zs (λ p one. one) in
+      record {
+        stored = λ w is.
+            let place : target + w - target ≡ w = omega arith in
+            fills.done s ready (target + w) (word-there w is) ∙ ap (slice_index (nests_on c.modulus c.size zs x)) place;
+        kept = λ a outside. fills.kept s ready a (λ is. outside is.0 is.1 is.2);
+      }

@@ -1,20 +1,93 @@
 -- The end of an item: it is multiplied, if there is a diagonal, and stored.
-use Rattle.std.proofs.Common.{◌≡◌, ℕ, ◌+◌, ◌-◌, ◌<◌, ◌≤◌, arith, refl, sym, ap, ap₂, ◌∙◌, List, [], ◌∷◌, length}
-use Rattle.std.specs.Prelude.{Option, Some, None}
-use Rattle.icode.specs.Actions.{lane_factors}
+use Rattle.std.proofs.Common.{◌≡◌, ℕ, ◌+◌, ◌-◌, ◌*◌, ◌<◌, ◌≤◌, arith, ap, ◌∙◌, List, [], ◌∷◌, length, subst, replicate}
+use Rattle.std.proofs.Common.{length-append, slice_index, refl, sym, ap₂, Option, Some, None}
+use Rattle.std.proofs.lemmas.List.{get_or_append_left}
+use Rattle.icode.specs.declared.action.Action.{Action}
 use Rattle.icode.specs.declared.action.Action.TheVariants.{Store, Mul}
-use Rattle.icode.specs.Machine.{Local, effect}
-use Rattle.icode.specs.CodeLaws.Lanes.{Registers, lane_of}
+use Rattle.icode.specs.Machine.{Local, effect, effects}
+use Rattle.icode.specs.CodeLaws.Lanes.{lane_of, Registers}
+use Rattle.icode.proofs.CodeLaws.Fills.{word, Fills, fills-after}
+use Rattle.icode.proofs.CodeLaws.Stores.{other_word, length-memory, length-registers, Stored, store_fills}
+use Rattle.icode.specs.Actions.{lane_factors}
+use Rattle.operators.specs.Sum.{list_below}
+use Rattle.operators.proofs.Lists.{length-list_below, at-list_below}
 use Rattle.icode.proofs.CodeLaws.ByLane.{effect_by_lane, this_register}
-use Rattle.icode.proofs.CodeLaws.Fills.{Fills, fills-after}
-use Rattle.icode.proofs.CodeLaws.Stores.{Stored, store_fills}
 use Rattle.operators.specs.declared.target.Target.{Target}
 use Rattle.sigma_spl.specs.Shared.Machine.{item_of, values_of}
 use Rattle.ring_mod.specs.Residue.{product_mod}
 use Rattle.sigma_spl.specs.Nest.{PlainMultiplier, PlainNest, factor_at, store_place}
 use Rattle.code_gen.specs.PassActions.Acts.{store_at, finish_acts, with_multiplier}
-use Rattle.code_gen.proofs.PassActions.Factors.{factor_of, factor_each}
-use Rattle.code_gen.proofs.PassActions.Tasks.{register, Task, IsReady, AreOutputs}
+
+-- ---- what a pass reads and writes
+
+-- a register, in one of the lanes
+abbrev pub register : ℕ → Local → ℕ → ℕ → ℕ
+register lanes s lane r = lane_of lanes s.registers lane r
+
+-- what a pass reads, what it may write, and what is to stand there
+pub record Task : Type 1 where
+  -- how many words there are
+  pub space : ℕ
+  pub IsInput : ℕ → Type 0
+  pub input : ℕ → ℕ
+  pub IsOutput : ℕ → Type 0
+  pub output : ℕ → ℕ
+  pub apart : (a : ℕ) → IsInput a → IsOutput a → ⊥
+  pub fits : (a : ℕ) → IsOutput a → a < space
+
+-- there are enough registers and words, and the inputs stand in their words
+pub record IsReady (lanes regs : ℕ) (t : Task) (s : Local) : Type 0 where
+  pub wide : regs * lanes ≤ length s.registers
+  pub room : t.space ≤ length s.memory
+  pub held : (a : ℕ) → t.IsInput a → word s a ≡ t.input a
+
+module _ (m lanes regs : ℕ) (t : Task) where
+  -- each word of a vector
+  abbrev pub AreInputs : ℕ → Type 0
+  AreInputs address = (lane : ℕ) → lane < lanes → t.IsInput (address + lane)
+
+  abbrev pub AreOutputs : ℕ → Type 0
+  AreOutputs address = (lane : ℕ) → lane < lanes → t.IsOutput (address + lane)
+
+  -- a store of outputs leaves what a pass reads
+  pub ready-after_store : (address r : ℕ) → AreOutputs address → (s : Local) → IsReady lanes regs t s →
+      IsReady lanes regs t (effect m lanes (Store address r) s)
+  ready-after_store address r outputs s h =
+      record {
+        wide = let e = length-registers m lanes (Store address r ∷ []) s in let w = h.wide in omega arith;
+        room = let e = length-memory m lanes (Store address r ∷ []) s in let w = h.room in omega arith;
+        held = λ a is.
+            other_word m lanes r address s a (λ from to.
+            let place : address + (a - address) ≡ a = omega arith in
+            t.apart a is (subst t.IsOutput place (outputs (a - address) (omega arith))))
+            ∙ h.held a is;
+      }
+
+  -- so does what leaves the memory
+  pub ready-kept : (actions : List Action) (s : Local) → (effects m lanes actions s).memory ≡ s.memory →
+      IsReady lanes regs t s → IsReady lanes regs t (effects m lanes actions s)
+  ready-kept actions s same h =
+      record {
+        wide = let e = length-registers m lanes actions s in let w = h.wide in omega arith;
+        room = let e = length-memory m lanes actions s in let w = h.room in omega arith;
+        held = λ a is. ap (λ (words : List ℕ). slice_index words a) same ∙ h.held a is;
+      }
+
+-- ---- the factors of lanes
+
+-- the factor of a lane
+pub factor_of : (lanes : ℕ) (x : ℕ → ℕ) (lane : ℕ) → lane < lanes → slice_index (lane_factors lanes x) lane ≡ x lane
+factor_of lanes x lane below =
+    get_or_append_left (list_below lanes x) (replicate (16 - lanes) 0) 0 lane (let size = length-list_below lanes x in omega arith)
+    ∙ at-list_below lanes x lane below
+
+pub factor_each : (lanes : ℕ) (x : ℕ → ℕ) → lanes ≤ length (lane_factors lanes x)
+factor_each lanes x =
+    let all = length-append (list_below lanes x) (replicate (16 - lanes) 0) in
+    let first = length-list_below lanes x in
+    omega arith
+
+-- ---- the end of an item: it is multiplied, if there is a diagonal, and stored
 
 -- what an item of a copy becomes
 abbrev pub finished : Target → PlainNest → Option PlainMultiplier → List ℕ → ℕ → ℕ → ℕ

@@ -1,7 +1,6 @@
 -- Where each word of an array is stored once, there stands what one copy and one item give.
 use Rattle.std.proofs.Common.{◌≡◌, ◌≢◌, ℕ, zero, suc, ◌+◌, ◌<◌, ◌≤◌, arith, refl, sym, ap, ap₂, ◌∙◌, List, [], ◌∷◌, inl}
-use Rattle.std.proofs.Common.{inr, Contains}
-use Rattle.std.specs.Prelude.{slice_index, map, ◌==◌, if◌then◌else◌}
+use Rattle.std.proofs.Common.{inr, Contains, slice_index, map, ◌==◌, if◌then◌else◌}
 use Rattle.std.proofs.lemmas.Bool.{cases_eq}
 use Rattle.std.proofs.lemmas.Bool.Decides.{nat_tests}
 use Rattle.operators.specs.Sum.{sum_below}
@@ -49,8 +48,6 @@ nest-zero path h g none zero_is = nest-none path g (λ us range. none us range (
 nest-one : (path : Path) (h g : List ℕ → ℕ) (vs : List ℕ) → AreInRange path vs → nest_sum path h ≤ 1 → 1 ≤ h vs →
     ((us : List ℕ) → AreInRange path us → h us ≡ 0 → g us ≡ 0) → nest_sum path g ≡ g vs
 nest-one [] h g [] range most some none = refl
-nest-one [] h g (v ∷ vs) range most some none = absurd range
-nest-one (t ∷ path) h g [] range most some none = absurd range
 nest-one (t ∷ path) h g (v ∷ vs) range most some none =
     let each : ℕ → ℕ = λ u. nest_sum path (λ us. h (u ∷ us)) in
     let inner = nest-least path (λ us. h (v ∷ us)) vs range.1 in
@@ -58,6 +55,7 @@ nest-one (t ∷ path) h g (v ∷ vs) range most some none =
     sum-one (count_of t) each (λ u. nest_sum path (λ us. g (u ∷ us))) v range.0 most (omega arith)
     (λ u below is. nest-zero path (λ us. h (u ∷ us)) (λ us. g (u ∷ us)) (λ us inside. none (u ∷ us) (below, inside)) is)
     ∙ nest-one path (λ us. h (v ∷ us)) (λ us. g (v ∷ us)) vs range.1 (omega arith) some (λ us inside. none (v ∷ us) (range.0, inside))
+nest-one _ h g _ range most some none = absurd range
 
 -- ---- loops
 

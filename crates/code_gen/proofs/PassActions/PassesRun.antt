@@ -1,9 +1,8 @@
 -- Passes run.
 use Rattle.code_gen.specs.PassActions.Laws.{PassesRun}
 use Rattle.code_gen.proofs.PassActions.Every.{pass-fits}
-use Rattle.code_gen.proofs.PassActions.Leaves.{pass-leaves}
-use Rattle.code_gen.proofs.PassActions.PassCounts.{counted-are}
-use Rattle.code_gen.proofs.PassActions.Short.{pass-short}
+use Rattle.code_gen.proofs.PassActions.Fillings.{pass-leaves}
+use Rattle.code_gen.proofs.PassActions.Counting.{counted-are, pass-short}
 
 pub passes_run : PassesRun
 passes_run c zs can =

@@ -1,7 +1,6 @@
 -- The statements of a pass stand within the limits of programs.
-use Rattle.std.proofs.Common.{◌≡◌, ℕ, zero, suc, ◌+◌, ◌*◌, ◌^◌, ◌<◌, ◌≤◌, All, true, List}
-use Rattle.std.proofs.Common.{[], ◌∷◌, length, refl, arith, subst}
-use Rattle.std.specs.Prelude.{Option, Some, None}
+use Rattle.std.proofs.Common.{◌≡◌, ℕ, zero, suc, ◌+◌, ◌*◌, ◌^◌, ◌<◌, ◌≤◌, All, true, List, [], ◌∷◌, length, refl, arith}
+use Rattle.std.proofs.Common.{subst, Option, Some, None}
 use Rattle.std.proofs.lemmas.Bool.{and_from, and_parts, le-leb, lt-ltb}
 use Rattle.icode.specs.declared.program.Array.{Array}
 use Rattle.icode.specs.Limits.{is_small, is_expr_within, is_op_within, is_body_within}

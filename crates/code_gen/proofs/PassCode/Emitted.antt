@@ -1,7 +1,6 @@
 -- The statements of a nest's copies are their actions, at places that are inside.
 use Rattle.std.proofs.Common.{◌≡◌, ℕ, ◌+◌, ◌-◌, ◌*◌, ◌%◌, ◌^◌, ◌<◌, ◌≤◌, List, [], ◌∷◌, ◌++◌, flat_map, length, refl}
-use Rattle.std.proofs.Common.{sym, ap, ◌∙◌, arith, mod-lt, subst}
-use Rattle.std.specs.Prelude.{slice_index, slice_index_or, Option, Some, None}
+use Rattle.std.proofs.Common.{sym, ap, ◌∙◌, arith, mod-lt, subst, slice_index, slice_index_or, Option, Some, None}
 use Rattle.std.specs.List.{range_with_len}
 use Rattle.icode.specs.declared.action.Action.{Action}
 use Rattle.icode.specs.declared.action.Action.TheVariants.{Load, Store, Zero, Add, Mul}
@@ -21,17 +20,15 @@ use Rattle.code_gen.specs.PassCode.Conditions.{IsInside}
 use Rattle.operators.specs.declared.target.Target.{Target}
 use Rattle.sigma_spl.specs.Shared.Machine.{frame_of, item_of, values_of, loop_counts}
 use Rattle.code_gen.specs.PassCode.Statements.{diagonal_of, one_factor, powers_of, product_op, do_only, in_a_row}
-use Rattle.code_gen.specs.PassCode.Statements.{followed_by, place_at, finish_body, straight_body, loads_body}
-use Rattle.code_gen.specs.PassCode.Statements.{rows_body, items_body, loop_value, product_place, term_body}
-use Rattle.code_gen.specs.PassCode.Statements.{horner_body}
+use Rattle.code_gen.specs.PassCode.Statements.{followed_by, place_at, finish_body, straight_body, loads_body, rows_body}
+use Rattle.code_gen.specs.PassCode.Statements.{items_body, loop_value, product_place, term_body, horner_body}
 use Rattle.code_gen.proofs.PassCode.Coded.{IsCoded}
 use Rattle.code_gen.proofs.PassCode.Emits.{Emits, emits-none, emits-one, emits-append, emits-followed, emits-in_a_row}
 use Rattle.code_gen.proofs.PassCode.Emits.{emits-looped, emits-loop, emits-then}
 use Rattle.code_gen.proofs.PassCode.OneFactor.{one-factor}
 use Rattle.code_gen.proofs.PassCode.Places.{IsFor, start_of, emits-load, emits-store, emits-product}
 use Rattle.code_gen.proofs.PassCode.PlaceNumbers.{loop-value, loop-peak, product-value, product-peak}
-use Rattle.code_gen.proofs.PassActions.Rows.{row_acts}
-use Rattle.code_gen.proofs.PassActions.StraightCopies.{copy_body, ends_of}
+use Rattle.code_gen.proofs.PassActions.StraightCopies.{row_acts, copy_body, ends_of}
 use Rattle.sigma_spl.specs.Nest.{PlainMultiplier, PlainNest, factor_at, factor_count, store_place}
 use Rattle.ring_mod.specs.Residue.{power_mod}
 use Rattle.ring_mod.proofs.Powers.{power_mod-exponent}

@@ -18,8 +18,7 @@ use Rattle.sigma_spl.specs.Shared.Machine.{PlainFrame, frame_of, loop_counts}
 use Rattle.code_gen.specs.PassCode.Statements.{diagonal_of, diagonal_number, one_factor, powers_of, finish_body}
 use Rattle.code_gen.specs.PassCode.Statements.{followed_by, horner_body, in_a_row, product_place, loads_body}
 use Rattle.code_gen.specs.PassCode.Statements.{multiplier_number, nest_body, place_at, powers_number, rows_body}
-use Rattle.code_gen.specs.PassCode.Statements.{straight_body, tables_of_nest, tables_of_work}
-use Rattle.code_gen.specs.PassCode.Statements.{term_body, work_body}
+use Rattle.code_gen.specs.PassCode.Statements.{straight_body, tables_of_nest, tables_of_work, term_body, work_body}
 use Rattle.code_gen.proofs.PassCode.BodyLimits.{ArePlaces, finish-within, horner-within, loads-within}
 use Rattle.code_gen.proofs.PassCode.BodyLimits.{product-within, small-is, straight-within, term-within}
 use Rattle.code_gen.proofs.PassCode.BodyLimits.{within-followed, within-in_a_row, within-loop, within-nested}

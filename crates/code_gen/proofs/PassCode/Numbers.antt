@@ -1,7 +1,6 @@
 -- The numbers of expressions: the value is the sum's, and no number on the way is great.
 use Rattle.std.proofs.Common.{◌≡◌, ℕ, zero, suc, ◌+◌, ◌*◌, ◌/◌, ◌%◌, ◌<◌, ◌≤◌, Bool, true, false, inl, inr, arith, refl}
-use Rattle.std.proofs.Common.{sym, ap, ap₂, ◌∙◌, List, max, if◌then◌else◌, mul-zero, mul_comm}
-use Rattle.std.specs.Prelude.{slice_index, ◌==◌}
+use Rattle.std.proofs.Common.{sym, ap, ap₂, ◌∙◌, List, max, if◌then◌else◌, mul-zero, mul_comm, slice_index, ◌==◌}
 use Rattle.std.proofs.Math.Nat.{mul-add}
 use Rattle.std.proofs.lemmas.Bool.{cases_eq, cases_lt}
 use Rattle.icode.specs.Expression.{sum_numbers, parts_numbers, one_numbers}

@@ -1,19 +1,16 @@
 -- A diagonal that repeats one factor.
-use Rattle.std.proofs.Common.{◌≡◌, ℕ, ◌<◌, subst}
-use Rattle.std.specs.Prelude.{Option, Some}
+use Rattle.std.proofs.Common.{◌≡◌, ℕ, ◌<◌, subst, Option, Some}
 use Rattle.sigma_spl.specs.Shared.Running.{HasResidues}
 use Rattle.operators.specs.declared.target.Target.{Target}
 use Rattle.code_gen.specs.PassCode.Statements.{one_factor}
-use Rattle.sigma_spl.specs.Nest.{PlainFactors, values, twiddles, repeated, spread, PlainMultiplier, PlainNest}
-use Rattle.sigma_spl.specs.Nest.{factor_at}
+use Rattle.sigma_spl.specs.Nest.{PlainFactors, repeated, spread, PlainMultiplier, PlainNest, factor_at}
 
 -- each factor is the one
 pub one-factor : (m : ℕ) (factors : PlainFactors) (value : ℕ) → one_factor factors ≡ Some value → (i : ℕ) →
     factor_at m factors i ≡ value
-one-factor m (values entries) value is i = absurd (cc)
-one-factor m (twiddles r s root) value is i = absurd (cc)
 one-factor m (repeated v n) value is i = (cc)
 one-factor m (spread path factors) value is i = one-factor m factors value is _
+one-factor m _ value is i = absurd (cc)
 
 -- it is a residue
 abbrev pub OneIsBelow : ℕ → Option PlainMultiplier → Type 0

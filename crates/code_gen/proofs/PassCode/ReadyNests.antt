@@ -1,27 +1,73 @@
 -- Passes that are ready can be written.
-use Rattle.std.proofs.Common.{◌≡◌, ℕ, ◌+◌, ◌*◌, ◌^◌, ◌<◌, ◌≤◌, true, arith, List, [], ◌∷◌, All, subst}
-use Rattle.std.specs.Prelude.{◌&&◌, Option, Some, None}
+use Rattle.std.proofs.Common.{◌≡◌, ℕ, ◌+◌, ◌^◌, ◌<◌, ◌≤◌, Bool, true, false, arith, List, All, ◌*◌, [], ◌∷◌, subst}
+use Rattle.std.proofs.Common.{mul-le-mul, ◌==◌, if◌then◌else◌, not, IsTrue, ◌&&◌, Option, Some, None}
 use Rattle.std.specs.List.{list_all}
-use Rattle.std.proofs.Math.Nat.{mul-le-mul}
-use Rattle.std.proofs.lemmas.List.Elements.{All-nil, All-cons, All-head, All-tail, All-weaker}
+use Rattle.std.proofs.lemmas.List.Elements.{All-weaker, All-nil, All-cons, All-head, All-tail}
+use Rattle.std.proofs.lemmas.List.Sums.{AllPass-from_list_all}
+use Rattle.icode.specs.Limits.{is_expr_within}
+use Rattle.operators.specs.declared.target.Target.{Target}
+use Rattle.sigma_spl.specs.Shared.Machine.{frame_of, lane_variables, loop_counts}
+use Rattle.code_gen.specs.PassCode.Conditions.{AreWithin, CanWrite, FitsWord, loads_inside, stores_inside, CanWriteNest}
+use Rattle.code_gen.specs.PassCode.Conditions.{CanWritePass}
+use Rattle.code_gen.specs.PassCode.Expressions.{expr_of}
+use Rattle.code_gen.specs.PassCode.Small.{CanBeCoded, IsFrame}
+use Rattle.sigma_spl.specs.Merge.{is_limited, is_multiplier_within, is_within, limits_of}
+use Rattle.sigma_spl.specs.Work.{PlainWork, rows, kernel, tile, copy, trees_of}
+use Rattle.perm_algebra.specs.Affine.{Sum}
 use Rattle.kernel_gen.proofs.KernelSizes.{trees-few}
 use Rattle.kernel_gen.specs.Kernel.{trees_kernel}
-use Rattle.operators.specs.declared.target.Target.{Target}
 use Rattle.sigma_spl.proofs.Small.{max-lt}
 use Rattle.sigma_spl.proofs.Walk.{and-left, and-right}
-use Rattle.sigma_spl.specs.Merge.{is_limited, is_multiplier_within, is_within, limits_of}
 use Rattle.sigma_spl.specs.Nest.{PlainMultiplier, PlainNest, factor_count}
-use Rattle.sigma_spl.specs.Shared.Machine.{loop_counts}
 use Rattle.sigma_spl.specs.Shared.Owners.{IsHost}
 use Rattle.sigma_spl.specs.Shared.Ready.{IsReadyNest, IsReadyPass, IsSmallWork}
 use Rattle.sigma_spl.specs.Shared.Running.{CanRunNest, CanWork}
-use Rattle.sigma_spl.specs.Work.{PlainWork, kernel, rows, horner, tile, copy, trees_of}
 use Rattle.tree_model.specs.KernelCosts.{trees_cost}
 use Rattle.tree_model.specs.Trees.{trees_size}
-use Rattle.code_gen.proofs.PassActions.KernelActions.{trees-registers}
-use Rattle.code_gen.proofs.PassCode.TestedLists.{inside-le, sums-written}
 use Rattle.code_gen.specs.PassActions.Acts.{nest_registers, pass_registers, with_multiplier}
-use Rattle.code_gen.specs.PassCode.Conditions.{CanWriteNest, CanWritePass}
+use Rattle.code_gen.proofs.PassCode.TestedSums.{tested_sums_are_coded}
+use Rattle.code_gen.proofs.PassCode.Within.{expressions_are_within}
+use Rattle.code_gen.proofs.PassActions.Counting.{trees-registers}
+
+-- ---- lists of sums that pass merging's test can be written
+
+-- ---- one by one
+
+coded-all : (room n : ℕ) (cs : ℕ → ℕ) (sums : List Sum) → room ≤ 64 → n ≤ 2 ^ 20 →
+    list_all (is_limited room n cs) sums ≡ true → All (CanBeCoded cs) sums
+coded-all room n cs sums few high h =
+    All-weaker (λ e. is_limited room n cs e ≡ true) (CanBeCoded cs)
+    (λ e k. tested_sums_are_coded room n cs e few high k) sums
+    (AllPass-from_list_all (is_limited room n cs) sums h)
+
+-- ---- as statements
+
+-- the processor's variable is none of the loops'
+frame-pick : (b : Bool) (more : ℕ) → not b ≡ true → 0 < (if b then 0 else 1) + more
+frame-pick true more is = absurd (cc)
+frame-pick false more is = omega arith
+
+frame-is : (h : Target) (w : PlainWork) → IsFrame (frame_of h w)
+frame-is h w is = frame-pick (h.procs == 1) (lane_variables h w) is
+
+pub sums-written : (room n : ℕ) (cs : ℕ → ℕ) (h : Target) (w : PlainWork) (open_loops : ℕ) (sums : List Sum) →
+    open_loops ≤ 64 → room ≤ 64 → n ≤ 2 ^ 20 → list_all (is_limited room n cs) sums ≡ true →
+    AreWithin cs (frame_of h w) open_loops sums
+sums-written room n cs h w open_loops sums shallow few high tested =
+    let all = coded-all room n cs sums few high tested in
+    record {
+      writable = All-weaker (CanBeCoded cs) CanWrite (λ e k. k.writable) sums all;
+      words = All-weaker (CanBeCoded cs) (FitsWord cs) (λ e k. k.fits) sums all;
+      within = All-weaker (CanBeCoded cs) (λ e. IsTrue (is_expr_within (expr_of (frame_of h w) open_loops e) open_loops)) (λ e k. expressions_are_within (frame_of h w) open_loops e (frame-is h w) shallow k.small) sums all;
+    }
+
+-- ---- the loops that work opens
+
+pub inside-le : (w : PlainWork) → (loads_inside w ≤ 2) × (stores_inside w ≤ 2)
+inside-le (rows root size) = (omega arith, omega arith)
+inside-le _ = (omega arith, omega arith)
+
+-- ---- passes that are ready can be written
 
 -- ---- merging's test of a nest
 
@@ -108,14 +154,13 @@ module _ (h : Target) (host : IsHost h) where
       let next = trees-registers h.modulus (trees_of k) host.modulus.0 can.trees in
       let used = with-le z.multiplier made.next n in
       omega (arith, used, next, price, small)
-  few-registers z (rows root size) can small = let used = with-le z.multiplier 3 1 in omega (arith, used)
-  few-registers z (horner root size) can small = let used = with-le z.multiplier 3 1 in omega (arith, used)
   few-registers z (tile v) can small =
       let used = with-le z.multiplier (v + v) v in
       let most = host.lanes.1 in
       let lanes : v ≡ h.lanes = can in
       omega (arith, used, lanes, most)
   few-registers z (copy size) can small = let used = with-le z.multiplier 1 1 in omega (arith, used)
+  few-registers z _ can small = let used = with-le z.multiplier 3 1 in omega (arith, used)
 
   pass-registers : (zs : List PlainNest) → All (CanRunNest h) zs → All (IsReadyNest h) zs →
       pass_registers h.modulus zs < 2 ^ 20

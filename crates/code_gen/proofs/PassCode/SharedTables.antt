@@ -21,9 +21,8 @@ decides-more x y xs ys h =
 -- the test tells whether two tables are equal
 pub is_table-Decides : (xs ys : List ℕ) → Decides (is_table xs ys) (xs ≡ ys)
 is_table-Decides [] [] = (λ _. refl, λ _. refl)
-is_table-Decides [] (y ∷ ys) = (λ e. (cc), λ e. (cc))
-is_table-Decides (x ∷ xs) [] = (λ e. (cc), λ e. (cc))
 is_table-Decides (x ∷ xs) (y ∷ ys) = decides-more x y xs ys (is_table-Decides xs ys)
+is_table-Decides _ _ = (λ e. (cc), λ e. (cc))
 
 -- ---- a table among others
 

@@ -1,7 +1,6 @@
 -- How an expression is written, part by part.
 use Rattle.std.proofs.Common.{◌≡◌, ℕ, suc, ◌+◌, ◌-◌, ◌<◌, Bool, true, false, arith, refl, sym, ap, ap₂, ◌∙◌}
-use Rattle.std.proofs.Common.{if◌then◌else◌}
-use Rattle.std.specs.Prelude.{◌==◌}
+use Rattle.std.proofs.Common.{if◌then◌else◌, ◌==◌}
 use Rattle.std.proofs.lemmas.Bool.Decides.{nat_tests}
 use Rattle.icode.specs.Plain.{PlainParts, AndParts, Var}
 use Rattle.perm_algebra.specs.Affine.{Sum, variable}

@@ -1,49 +1,136 @@
 -- The program of merged passes does what they do.
-use Rattle.std.proofs.Common.{◌≡◌, ℕ, suc, ◌+◌, ◌*◌, ◌-◌, ◌/◌, ◌^◌, ◌<◌, ◌≤◌, All, inl, inr, ◌&&◌}
-use Rattle.std.proofs.Common.{List, [], ◌∷◌, ◌++◌, length, replicate, refl, sym, ap, ap₂, ◌∙◌, arith}
-use Rattle.std.proofs.Common.{append-nil, length-append, subst}
-use Rattle.std.specs.Prelude.{slice_index, slice_index_or, IsTrue}
-use Rattle.std.specs.List.{list_all}
+use Rattle.std.proofs.Common.{◌≡◌, ℕ, zero, suc, ◌+◌, ◌*◌, ◌<◌, ◌≤◌, All, List, [], ◌∷◌, length, inl, inr, refl, sym}
+use Rattle.std.proofs.Common.{ap, arith, subst, length-append, mul-le-mul_left, ◌-◌, ◌/◌, ◌^◌, ◌&&◌, ◌++◌, replicate}
+use Rattle.std.proofs.Common.{ap₂, ◌∙◌, append-nil, slice_index, slice_index_or, IsTrue}
 use Rattle.std.proofs.lemmas.Bool.{cases_lt, lt-ltb}
+use Rattle.std.proofs.lemmas.List.Elements.{All-append, All-cons, All-weaker}
+use Rattle.std.specs.List.{list_all}
 use Rattle.std.proofs.lemmas.List.{length-replicate, length-map, get_or-replicate, get_or_append_left, get_or_past}
 use Rattle.std.proofs.lemmas.List.FromFn.{fill_by_all}
+use Rattle.operators.proofs.Sums.{mul-sum_below, sum_below-append, sum_below-same}
+use Rattle.icode.specs.Actions.{Step, StepFits, actions_of, array_start, PlainFits, plain_code, steps_of_body}
+use Rattle.icode.specs.Actions.{steps_of_phase}
+use Rattle.icode.specs.Plain.{PlainProgram, NoStmts}
+use Rattle.icode.specs.declared.action.Action.{Action}
+use Rattle.icode.specs.declared.program.Array.{Array}
+use Rattle.operators.specs.declared.target.Target.{Target}
+use Rattle.operators.specs.Sum.{sum_below}
+use Rattle.code_gen.specs.PassActions.Acts.{pass_acts, pass_registers}
+use Rattle.code_gen.specs.PassCode.Conditions.{IsInside, HasTables}
+use Rattle.sigma_spl.specs.Shared.Owners.{most_actions, all_passes}
+use Rattle.code_gen.specs.PassActions.Laws.{IsFit}
+use Rattle.code_gen.specs.PassCode.Program.{written_array, most_of, array_after, count_in, phases_body, program_of}
+use Rattle.code_gen.specs.PassCode.Program.{tables_of_phases, tables_through}
 use Rattle.icode.proofs.CodeLaws.Placing.{slice_index-words_at}
-use Rattle.icode.specs.Actions.{array_start, StepFits, PlainFits, actions_of, plain_code, steps_of_body, steps_of_phase}
 use Rattle.icode.specs.Limits.{IsWithinLimits, is_body_within}
 use Rattle.icode.specs.Machine.{Code, IsApart, Whole, phases_alone, results, runs, start, whole_lines, words_at}
-use Rattle.icode.specs.Plain.{PlainProgram, NoStmts}
-use Rattle.icode.specs.declared.program.Array.{Array}
 use Rattle.icode.specs.declared.program.Array.TheVariants.{X}
 use Rattle.icode.proofs.Lists.{code_is}
 use Rattle.icode.proofs.Runs.{memory_of_runs}
 use Rattle.icode.proofs.Words.{length-words_at}
-use Rattle.operators.specs.Sum.{sum_below}
 use Rattle.operators.proofs.Lists.{length-list_below}
-use Rattle.operators.proofs.Sums.{sum_below-append, sum_below-same}
-use Rattle.code_gen.specs.PassCode.Conditions.{HasTables}
 use Rattle.code_gen.specs.PassCode.Contract.{CanProgram, IsByPhase, Performs, ProgramsPerform}
-use Rattle.sigma_spl.specs.Shared.Owners.{all_passes, most_actions}
-use Rattle.code_gen.specs.PassActions.Laws.{IsFit}
-use Rattle.operators.specs.declared.target.Target.{Target}
-use Rattle.code_gen.specs.PassCode.Program.{array_after, count_in, phases_body, program_of, tables_of_phases}
-use Rattle.code_gen.specs.PassCode.Program.{tables_through}
 use Rattle.sigma_spl.specs.Good.{IsVector}
 use Rattle.sigma_spl.specs.Merged.{PlainMerged, merged_on, phase_on, phases_on}
 use Rattle.sigma_spl.specs.Nest.{nests_on}
+use Rattle.code_gen.proofs.WholePrograms.Processor.{Pass, AllKnown, passes_acts, runs-of, target-other, AllFrom}
+use Rattle.code_gen.proofs.WholePrograms.Processor.{PhasesKnown, at-phase, passes-count, phases_known}
 use Rattle.code_gen.proofs.PassCode.Places.{whole-enough}
-use Rattle.code_gen.proofs.WholePrograms.Apart.{all-apart, phases-apart}
-use Rattle.code_gen.proofs.WholePrograms.Arrays.{target-other}
-use Rattle.code_gen.proofs.WholePrograms.Emitted.{passes-within, phases-extend}
+use Rattle.code_gen.proofs.WholePrograms.Apart.{all-apart, phases-apart, all_parts, all-are, all-whole}
+use Rattle.code_gen.proofs.WholePrograms.Lists.{passes-within, phases-extend}
 use Rattle.code_gen.proofs.PassCode.SharedTables.{extends-longer}
-use Rattle.code_gen.proofs.WholePrograms.Fits.{length-actions, parts-fit, parts-short, steps-fit, sum-shares}
-use Rattle.code_gen.proofs.WholePrograms.Known.{Pass, AllFrom, PhasesKnown, at-phase, passes-count, passes_acts}
-use Rattle.code_gen.proofs.WholePrograms.Known.{phases_known}
 use Rattle.code_gen.proofs.WholePrograms.Lists.{IsInsidePhase, Listed, phases-listed, steps-acts}
-use Rattle.code_gen.proofs.WholePrograms.Parts.{all_parts, all-are, all-whole}
-use Rattle.code_gen.proofs.WholePrograms.Phases.{Ready, RunsPhases, SharedFrom, all-phases, final_array}
-use Rattle.code_gen.proofs.WholePrograms.Phases.{final-is, phases-shared}
+use Rattle.code_gen.proofs.WholePrograms.Phases.{Ready, RunsPhases, SharedFrom, all-phases, final_array, final-is}
+use Rattle.code_gen.proofs.WholePrograms.Phases.{phases-shared}
 use Rattle.code_gen.proofs.WholePrograms.Registers.{AllBelow, all-below, few-all}
-use Rattle.code_gen.proofs.WholePrograms.Tables.{phases-tables-within}
+use Rattle.code_gen.proofs.WholePrograms.ReadyPrograms.{phases-tables-within}
+use Rattle.icode.specs.declared.action.Action.TheVariants as actions
+
+-- ---- the programs of merged passes fit their machines
+
+-- a bound on registers may be greater
+fit-wider : (regs more lanes m : ℕ) (action : Action) → regs ≤ more → IsFit regs lanes m action →
+    IsFit more lanes m action
+fit-wider regs more lanes m (actions.Add r x y) le h =
+    record { registers = (let low = h.registers.0 in omega (arith, low, le), let low = h.registers.1 in omega (arith, low, le), let low = h.registers.2 in omega (arith, low, le)); factors = h.factors }
+fit-wider regs more lanes m (actions.Sub r x y) le h =
+    record { registers = (let low = h.registers.0 in omega (arith, low, le), let low = h.registers.1 in omega (arith, low, le), let low = h.registers.2 in omega (arith, low, le)); factors = h.factors }
+fit-wider regs more lanes m (actions.Neg r x) le h = record { registers = (let low = h.registers.0 in omega (arith, low, le), let low = h.registers.1 in omega (arith, low, le)); factors = h.factors }
+fit-wider regs more lanes m (actions.Mul r x f) le h = record { registers = (let low = h.registers.0 in omega (arith, low, le), let low = h.registers.1 in omega (arith, low, le)); factors = h.factors }
+fit-wider regs more lanes m (actions.Tile r x) le h =
+    record { registers = (let low = h.registers.0 in omega (arith, low, le), let low = h.registers.1 in omega (arith, low, le), h.registers.2); factors = h.factors }
+fit-wider regs more lanes m _ le h =
+    record { registers = let low = h.registers in omega (arith, low, le); factors = h.factors }
+
+-- steps at places that are inside, whose actions fit, fit
+pub steps-fit : (program : PlainProgram) (xs : List Step) → All IsInside xs →
+    All (IsFit program.regs program.lanes program.modulus) (actions_of xs) → All (StepFits program) xs
+steps-fit program [] inside fit = λ k d below. absurd (omega arith)
+steps-fit program (x ∷ xs) inside fit =
+    All-cons (StepFits program) x xs
+    (record {
+      numbers = (inside 0 x (omega arith)).numbers;
+      place = (inside 0 x (omega arith)).place;
+      registers = (fit 0 x.action (omega arith)).registers;
+      factors = (fit 0 x.action (omega arith)).factors;
+    })
+    (steps-fit program xs (λ k d below. inside (suc k) d (omega (arith, below))) (λ k d below. fit (suc k) d (omega (arith, below))))
+
+pub length-actions : (xs : List Step) → length (actions_of xs) ≡ length xs
+length-actions [] = refl
+length-actions (x ∷ xs) = ap suc (length-actions xs)
+
+-- a sum of n numbers, n times each of which is at most b
+pub sum-shares : (n b : ℕ) (f : ℕ → ℕ) → ((i : ℕ) → i < n → n * f i ≤ b) → sum_below n f ≤ b
+sum-shares zero b f each = omega arith
+sum-shares (suc n) b f each =
+    let most : sum_below (suc n) (λ i. suc n * f i) ≤ suc n * b = sum-most (suc n) b (λ i. suc n * f i) each in
+    let all : suc n * sum_below (suc n) f ≤ suc n * b = subst (λ s. s ≤ suc n * b) (sym (mul-sum_below (suc n) (suc n) f)) most in
+    elim (cases_lt b (sum_below (suc n) f)) [
+      | inr low ↦ low
+      | inl high ↦
+          let more : suc n * (b + 1) ≤ suc n * sum_below (suc n) f = mul-le-mul_left (suc n) (omega arith) in
+          let spread : suc n * (b + 1) ≡ suc n * b + suc n = omega arith in
+          absurd (omega (arith, more, spread, all))
+    ]
+  where
+    sum-most : (n k : ℕ) (f : ℕ → ℕ) → ((i : ℕ) → i < n → f i ≤ k) → sum_below n f ≤ n * k
+    sum-most zero k f most = omega arith
+    sum-most (suc n) k f most =
+        let rest = sum-most n k f (λ i low. most i (omega (arith, low))) in
+        let last = most n (omega arith) in
+        let spread : suc n * k ≡ n * k + k = omega arith in
+        omega (arith, rest, last, spread)
+
+module _ (c : Target) (words : ℕ) where
+  pub parts-fit : (regs after : ℕ) (ps : List Pass) (t : ℕ) (source : Array) (q : ℕ) → q < c.procs → AllKnown c ps →
+      most_of c ps ≤ regs →
+      All (IsFit regs c.lanes c.modulus) (passes_acts c words after ps t source q)
+  parts-fit regs after [] t source q low known le = λ k d below. absurd (omega arith)
+  parts-fit regs after (p ∷ ps) t source q low known le =
+      let from = array_start words source in
+      let target = written_array t (after + length ps) in
+      All-append (IsFit regs c.lanes c.modulus) (pass_acts c p from (array_start words target) q) (passes_acts c words after ps (suc t) target q)
+      (All-weaker (IsFit (pass_registers c.modulus p) c.lanes c.modulus) (IsFit regs c.lanes c.modulus)
+      (λ x. fit-wider (pass_registers c.modulus p) regs c.lanes c.modulus x (omega (arith, le))) _
+      ((runs-of c p known.0).fit from (array_start words target) q low))
+      (parts-fit regs after ps (suc t) target q low known.1 (omega (arith, le)))
+
+  -- the actions of all processors together are not too many
+  pub parts-short : (after : ℕ) (ps : List Pass) (t : ℕ) (source : Array) (q : ℕ) → q < c.procs → AllKnown c ps →
+      c.procs * length (passes_acts c words after ps t source q) ≤ most_actions c ps
+  parts-short after [] t source q low known = omega arith
+  parts-short after (p ∷ ps) t source q low known =
+      let from = array_start words source in
+      let target = written_array t (after + length ps) in
+      let first = (runs-of c p known.0).short from (array_start words target) q low in
+      let rest = parts-short after ps (suc t) target q low known.1 in
+      let joined = length-append (pass_acts c p from (array_start words target) q) (passes_acts c words after ps (suc t) target q) in
+      let spread : c.procs * (length (pass_acts c p from (array_start words target) q) + length (passes_acts c words after ps (suc t) target q)) ≡ c.procs * length (pass_acts c p from (array_start words target) q) + c.procs * length (passes_acts c words after ps (suc t) target q) = omega arith in
+      let all = ap (λ n. c.procs * n) joined in
+      omega (arith, first, rest, spread, all)
+
+-- ---- the program of merged passes does what they do
 
 most-append : (c : Target) (ps qs : List Pass) → most_actions c (ps ++ qs) ≡ most_actions c ps + most_actions c qs
 most-append c [] qs = omega arith

@@ -14,11 +14,10 @@ joined-rows : (code : Code) (q f : ℕ) (phases : List (List (List PlainNest))) 
     ArePhaseParts code q f phases parts →
     joined (in_a_row parts) ≡ flat_map (λ phase. acts code phase q) (range_with_len f (length phases))
 joined-rows code q f [] [] h = refl
-joined-rows code q f [] (first ∷ more) h = absurd h
-joined-rows code q f (passes ∷ phases) [] h = absurd h
 joined-rows code q f (passes ∷ phases) (first ∷ more) h =
     joined-append first (in_a_row more)
     ∙ ap₂ (λ (xs ys : List Action). xs ++ ys) h.1 (joined-rows code q (f + 1) phases more h.2)
+joined-rows code q f _ _ h = absurd h
 
 pub parts_in_a_row : PartsInARow
 parts_in_a_row h g code q listed =

@@ -1,7 +1,7 @@
 -- What the processors leave, one after another, phase by phase.
 use Rattle.std.proofs.Common.{◌≡◌, ◌≢◌, ℕ, zero, suc, ◌+◌, ◌-◌, ◌*◌, ◌<◌, ◌≤◌, inl, inr, ◌⊎◌, List, [], ◌∷◌, length}
 use Rattle.std.proofs.Common.{refl, sym, ap, ap₂, ◌∙◌, arith, subst, get_or-set_same, get_or-set_other, length-set}
-use Rattle.std.specs.Prelude.{slice_index, slice_index_or, slice_set}
+use Rattle.std.proofs.Common.{mul-le-mul_right, slice_index, slice_index_or, slice_set}
 use Rattle.std.proofs.lemmas.Bool.{cases_eq}
 use Rattle.icode.proofs.CodeLaws.Stores.{length-memory, length-registers}
 use Rattle.icode.specs.Actions.{array_start}
@@ -14,12 +14,10 @@ use Rattle.sigma_spl.specs.Nest.{nests_on}
 use Rattle.operators.specs.declared.target.Target.{Target}
 use Rattle.sigma_spl.specs.Shared.Owners.{IsOwner, AllShared, ArePhasesShared}
 use Rattle.code_gen.specs.PassCode.Program.{written_array, array_after, count_in, most_of}
-use Rattle.code_gen.proofs.WholePrograms.Arrays.{IsOther, next-other}
-use Rattle.code_gen.proofs.WholePrograms.Known.{Pass, AllKnown, PhasesKnown, passes_acts}
-use Rattle.code_gen.proofs.WholePrograms.Stored.{made-residues}
-use Rattle.std.proofs.Math.Nat.{mul-le-mul_right}
-use Rattle.code_gen.proofs.WholePrograms.Registers.{AllBelow}
+use Rattle.code_gen.proofs.WholePrograms.Processor.{IsOther, next-other, Pass, AllKnown, PhasesKnown, passes_acts}
 use Rattle.code_gen.proofs.WholePrograms.Processor.{MayRead, Owned, all-owned, first-owned, Left, parts-leave}
+use Rattle.code_gen.proofs.WholePrograms.Stored.{made-residues}
+use Rattle.code_gen.proofs.WholePrograms.Registers.{AllBelow}
 
 module _ (c : Target) (words : ℕ) (enough : c.size ≤ words) (code : Code) (modulus_is : code.modulus ≡ c.modulus)
     (lanes_are : code.lanes ≡ c.lanes) (procs_are : code.procs ≡ c.procs) where

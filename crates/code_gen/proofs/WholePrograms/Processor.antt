@@ -1,29 +1,143 @@
 -- What a processor's parts of the passes of a phase leave, one pass after another.
-use Rattle.std.proofs.Common.{◌≡◌, ◌≢◌, ℕ, suc, ◌+◌, ◌-◌, ◌*◌, ◌<◌, ◌≤◌, inl, inr, List, [], ◌∷◌, length, refl}
-use Rattle.std.proofs.Common.{sym, ap, ◌∙◌, arith, subst}
-use Rattle.std.specs.Prelude.{slice_index, max}
-use Rattle.std.proofs.lemmas.Bool.{cases_eq}
-use Rattle.std.proofs.Math.Nat.{le-max_left, le-max_right, mul-le-mul_right}
+use Rattle.std.proofs.Common.{◌≡◌, ℕ, zero, suc, ◌+◌, ◌<◌, List, [], ◌∷◌, ◌++◌, length, All, refl, arith, length-append}
+use Rattle.std.proofs.Common.{subst, ◌≢◌, ◌*◌, ◌%◌, ◌≤◌, inl, inr, if◌then◌else◌, ◌-◌, sym, ap, ◌∙◌, slice_index, max}
+use Rattle.std.proofs.lemmas.List.Elements.{All-head, All-tail}
+use Rattle.std.proofs.Math.Nat.{mul-le-mul_right, le-max_left, le-max_right}
+use Rattle.std.proofs.lemmas.Bool.{cases_lt, cases_eq}
+use Rattle.icode.specs.Actions.{array_start}
+use Rattle.icode.specs.declared.action.Action.{Action}
+use Rattle.icode.specs.declared.program.Array.{Array}
+use Rattle.code_gen.specs.PassActions.Acts.{pass_acts, pass_registers}
+use Rattle.code_gen.specs.PassCode.Conditions.{CanWritePass}
+use Rattle.sigma_spl.specs.Shared.Owners.{all_passes, AllOwn, FirstOwns}
+use Rattle.code_gen.specs.PassActions.Laws.{Runs, AreApart, CanBegin, Leaves}
+use Rattle.operators.specs.declared.target.Target.{Target}
+use Rattle.code_gen.specs.PassCode.Program.{count_in, written_array, array_after, most_of}
+use Rattle.sigma_spl.specs.Nest.{PlainNest, nests_on}
+use Rattle.icode.specs.declared.program.Array.TheVariants.{X, Y, A, B}
 use Rattle.icode.proofs.CodeLaws.ByLane.{lists_follow}
 use Rattle.icode.proofs.CodeLaws.Stores.{length-memory, length-registers}
-use Rattle.icode.specs.Actions.{array_start}
 use Rattle.icode.specs.Machine.{Local, effects}
-use Rattle.icode.specs.declared.program.Array.{Array}
-use Rattle.icode.specs.declared.program.Array.TheVariants.{X}
 use Rattle.sigma_spl.specs.Merged.{phase_on}
-use Rattle.sigma_spl.specs.Nest.{nests_on}
-use Rattle.operators.specs.declared.target.Target.{Target}
-use Rattle.code_gen.specs.PassActions.Acts.{pass_acts, pass_registers}
-use Rattle.code_gen.specs.PassActions.Laws.{AreApart, CanBegin, Leaves}
 use Rattle.sigma_spl.specs.Shared.Running.{IsLoadedBy, IsStoredBy}
-use Rattle.code_gen.specs.PassCode.Conditions.{CanWritePass}
-use Rattle.sigma_spl.specs.Shared.Owners.{AllOwn, FirstOwns}
+use Rattle.code_gen.proofs.PassActions.PassesRun.{passes_run}
+use Rattle.code_gen.proofs.PassCode.Writing.{by_zero}
 use Rattle.code_gen.proofs.PassActions.Copies.{loaded-below, stored-below, words_apart}
-use Rattle.code_gen.specs.PassCode.Program.{written_array, array_after, most_of}
-use Rattle.code_gen.proofs.WholePrograms.Arrays.{number, IsOther, apart, inside-memory, next-other, start-is}
-use Rattle.code_gen.proofs.WholePrograms.Arrays.{target-other}
-use Rattle.code_gen.proofs.WholePrograms.Known.{Pass, AllKnown, passes_acts, runs-of}
 use Rattle.code_gen.proofs.WholePrograms.Stored.{made-residues, stored-own}
+
+-- ---- what is known of passes, phase by phase, and their actions
+
+-- nests that write one array together
+abbrev pub Pass : Type 0
+Pass = List PlainNest
+
+abbrev pub AllKnown : Target → List Pass → Type 0
+AllKnown c [] = Unit {0}
+AllKnown c (p ∷ ps) = CanWritePass c p × AllKnown c ps
+
+abbrev pub PhasesKnown : Target → List (List Pass) → Type 0
+PhasesKnown c [] = Unit {0}
+PhasesKnown c (ps ∷ more) = AllKnown c ps × PhasesKnown c more
+
+all_known : (c : Target) (ps : List Pass) → All (CanWritePass c) ps → AllKnown c ps
+all_known c [] h = tt
+all_known c (p ∷ ps) h = (All-head (CanWritePass c) p ps h, all_known c ps (All-tail (CanWritePass c) p ps h))
+
+known-split : (c : Target) (ps qs : List Pass) → AllKnown c (ps ++ qs) → AllKnown c ps × AllKnown c qs
+known-split c [] qs h = (tt, h)
+known-split c (p ∷ ps) qs h = let rest = known-split c ps qs h.1 in ((h.0, rest.0), rest.1)
+
+known-parts : (c : Target) (pss : List (List Pass)) → AllKnown c (all_passes pss) → PhasesKnown c pss
+known-parts c [] h = tt
+known-parts c (ps ∷ more) h = let parts = known-split c ps (all_passes more) h in (parts.0, known-parts c more parts.1)
+
+pub phases_known : (c : Target) (pss : List (List Pass)) → All (CanWritePass c) (all_passes pss) → PhasesKnown c pss
+phases_known c pss h = known-parts c pss (all_known c (all_passes pss) h)
+
+-- passes are counted phase by phase
+pub passes-count : (pss : List (List Pass)) → length (all_passes pss) ≡ count_in pss
+passes-count [] = refl
+passes-count (ps ∷ more) =
+    let all = length-append ps (all_passes more) in let rest = passes-count more in omega (arith, all, rest)
+
+-- what holds of each phase, where the first has this number
+abbrev pub AllFrom : (ℕ → Type 0) → ℕ → List (List Pass) → Type 0
+AllFrom P f [] = Unit {0}
+AllFrom P f (ps ∷ more) = P f × AllFrom P (f + 1) more
+
+pub at-phase : (P : ℕ → Type 0) (f : ℕ) (pss : List (List Pass)) → AllFrom P f pss → (k : ℕ) → k < length pss →
+    P (f + k)
+at-phase P f [] h k low = absurd (omega (arith, low))
+at-phase P f (ps ∷ more) h zero low = subst P (omega arith) h.0
+at-phase P f (ps ∷ more) h (suc k) low = subst P (omega arith) (at-phase P (f + 1) more h.1 k (omega (arith, low)))
+
+pub runs-of : (c : Target) (p : Pass) → CanWritePass c p → Runs c p
+runs-of c p can = passes_run c p can.runs
+
+-- the actions of passes, the first of which has number t and reads the source, given how many come after them and how
+-- many words an array has
+abbrev pub passes_acts : Target → ℕ → ℕ → List Pass → ℕ → Array → ℕ → List Action
+passes_acts c words after [] t source q = []
+passes_acts c words after (p ∷ ps) t source q =
+    pass_acts c p (array_start words source) (array_start words (written_array t (after + length ps))) q
+    ++ passes_acts c words after ps (suc t) (written_array t (after + length ps)) q
+
+-- ---- no pass reads the array that it writes
+
+-- the arrays in their order
+abbrev pub number : Array → ℕ
+number X = 0
+number Y = 1
+number A = 2
+number B = 3
+
+abbrev pub IsOther : Array → Array → Type 0
+IsOther a b = number a ≢ number b
+
+-- they stand one after another
+pub start-is : (n : ℕ) (a : Array) → array_start n a ≡ number a * n
+start-is n X = omega arith
+start-is n _ = omega arith
+
+-- an array is in the memory
+pub inside-memory : (n : ℕ) (a : Array) → array_start n a + n ≤ 4 * n
+inside-memory n X = omega arith
+inside-memory n _ = omega arith
+
+module _ (n size : ℕ) (enough : size ≤ n) where
+  ends-before : (a b : Array) → number a < number b → array_start n a + size ≤ array_start n b
+  ends-before a b low =
+      let next : (number a + 1) * n ≤ number b * n = mul-le-mul_right n (omega arith) in
+      let spread : (number a + 1) * n ≡ number a * n + n = omega arith in
+      omega (arith, start-is n a, start-is n b, next, spread)
+
+  -- different arrays have no word in common
+  pub apart : (a b : Array) → IsOther a b → AreApart size (array_start n a) (array_start n b)
+  apart a b other =
+      elim (cases_lt (number a) (number b)) [
+        | inl low ↦ inl (ends-before a b low)
+        | inr high ↦ inr (ends-before b a (omega arith))
+      ]
+
+-- passes that others follow write A where their number is even, and else B
+pub scratch-number : (t k : ℕ) → number (written_array t (suc k)) ≡ 2 + t % 2
+scratch-number t k =
+    by_zero (t % 2) (λ b. number (if b then A else B) ≡ 2 + t % 2) (λ even. omega arith) (λ odd. omega arith)
+
+pub last-number : (t : ℕ) → number (written_array t zero) ≡ 1
+last-number t = refl
+
+-- no pass writes X
+pub target-other : (t k : ℕ) → IsOther X (written_array t k)
+target-other t zero = λ e. let is = last-number t in absurd (omega (arith, e, is))
+target-other t (suc k) = λ e. let is = scratch-number t k in absurd (omega (arith, e, is))
+
+-- the next pass reads what this one wrote
+pub next-other : (t k j : ℕ) → IsOther (written_array t (suc k)) (written_array (suc t) j)
+next-other t k zero = λ e. let this = scratch-number t k in absurd (omega arith)
+next-other t k (suc j) = λ e. let this = scratch-number t k in let next = scratch-number (suc t) j in absurd (omega arith)
+
+-- ---- what a processor's parts of the passes of a phase leave, one pass after another
 
 module _ (c : Target) (words : ℕ) (enough : c.size ≤ words) (owner : ℕ → ℕ) (after : ℕ) where
   -- what a processor may read: all of X, which nobody writes, and its own words of the other arrays

@@ -2,7 +2,7 @@
 use Rattle.std.proofs.Common.{ℕ, ◌^◌, ◌<◌, ◌≤◌, List, [], ◌∷◌, arith}
 use Rattle.operators.specs.declared.target.Target.{Target}
 use Rattle.code_gen.specs.PassCode.Program.{most_of, most_of_phases}
-use Rattle.code_gen.proofs.WholePrograms.Known.{Pass, AllKnown, PhasesKnown}
+use Rattle.code_gen.proofs.WholePrograms.Processor.{Pass, AllKnown, PhasesKnown}
 
 module _ (c : Target) where
   -- each phase has its registers among those of all

@@ -1,7 +1,6 @@
 -- Each word of the array is stored by a processor.
-use Rattle.std.proofs.Common.{◌≡◌, ◌≢◌, ℕ, zero, suc, ◌<◌, ◌≤◌, refl, List, [], ◌∷◌, ◌++◌, map}
-use Rattle.std.proofs.Common.{sym, ap, ◌∙◌, arith, subst, inl, inr, Contains, if◌then◌else◌}
-use Rattle.std.specs.Prelude.{slice_index, ◌==◌}
+use Rattle.std.proofs.Common.{◌≡◌, ◌≢◌, ℕ, zero, suc, ◌<◌, ◌≤◌, refl, List, [], ◌∷◌, ◌++◌, map, sym, ap, ◌∙◌, arith}
+use Rattle.std.proofs.Common.{subst, inl, inr, Contains, if◌then◌else◌, slice_index, ◌==◌}
 use Rattle.std.proofs.lemmas.Bool.{cases_eq, cases_lt}
 use Rattle.std.proofs.lemmas.Bool.Decides.{nat_tests}
 use Rattle.icode.specs.CodeLaws.Nests as nests
@@ -11,8 +10,7 @@ use Rattle.sigma_spl.specs.Shared.Running.{CanRun, IsStoredBy}
 use Rattle.operators.specs.declared.target.Target.{Target}
 use Rattle.sigma_spl.specs.Shared.Machine.{framed_lanes, if_several}
 use Rattle.sigma_spl.proofs.Walk.{nests-vector}
-use Rattle.code_gen.proofs.PassActions.Copies.{modulus-some, nest-can}
-use Rattle.code_gen.proofs.PassActions.Framed.{first_value, in_counts, under-several}
+use Rattle.code_gen.proofs.PassActions.Copies.{modulus-some, nest-can, first_value, in_counts, under-several}
 use Rattle.sigma_spl.specs.Copies.{loops_of, hits}
 use Rattle.sigma_spl.specs.Nest.{PlainNest, copies_of, store_place, nests_on}
 use Rattle.sigma_spl.specs.Work.{work_size}

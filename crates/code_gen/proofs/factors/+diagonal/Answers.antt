@@ -1,5 +1,4 @@
-use Rattle.std.proofs.Common.{◌≡◌, ℕ, ◌^◌, ◌<◌, List, length, sym, ap, ap₂, ◌∙◌, subst}
-use Rattle.std.specs.Prelude.{slice_index}
+use Rattle.std.proofs.Common.{◌≡◌, ℕ, ◌^◌, ◌<◌, List, length, sym, ap, ap₂, ◌∙◌, subst, slice_index}
 use Rattle.index_fn.specs.Mapping.{at}
 use Rattle.operators.specs.Sum.{list_below}
 use Rattle.code_gen.specs.PassCode.Statements.{diagonal_of}

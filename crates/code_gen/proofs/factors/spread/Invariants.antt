@@ -1,5 +1,4 @@
-use Rattle.std.proofs.Common.{◌≡◌, length}
-use Rattle.std.specs.Prelude.{slice_index}
+use Rattle.std.proofs.Common.{◌≡◌, length, slice_index}
 use Rattle.index_fn.specs.Mapping.{at}
 use Rattle.operators.specs.Sum.{list_below}
 use Rattle.sigma_spl.specs.Nest.{inner_of}

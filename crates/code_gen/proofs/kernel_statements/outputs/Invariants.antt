@@ -1,5 +1,4 @@
-use Rattle.std.proofs.Common.{◌≡◌, ◌+◌}
-use Rattle.std.specs.Prelude.{slice_index}
+use Rattle.std.proofs.Common.{◌≡◌, ◌+◌, slice_index}
 use Rattle.code_gen.specs.PassCode.Statements.{in_a_row}
 use Rattle.code_gen.specs.Bodies.{stored_at}
 use Rattle.code_gen.specs.Views.{body_in}

@@ -1,5 +1,4 @@
-use Rattle.std.proofs.Common.{ℕ, ◌+◌, List, ◌++◌, ap, ap₂, ◌∙◌}
-use Rattle.std.specs.Prelude.{slice_index}
+use Rattle.std.proofs.Common.{ℕ, ◌+◌, List, ◌++◌, ap, ap₂, ◌∙◌, slice_index}
 use Rattle.icode.specs.declared.program.Stmt.{Stmt}
 use Rattle.icode.specs.Plain.{PlainBody, plain_body}
 use Rattle.code_gen.specs.PassCode.Statements.{followed_by, in_a_row, straight_body}

@@ -1,7 +1,7 @@
 use Rattle.std.specs.Option.{option_map}
 use Rattle.sigma_spl.specs.Nest.{PlainMultiplier}
 use Rattle.sigma_spl.specs.Views.{plain_multiplier}
-use Rattle.code_gen.proofs.Works.{has-factors}
+use Rattle.code_gen.proofs.Passes.{has-factors}
 use Rattle.code_gen.proofs.nest.emit_nest.Goals as goal
 
 pub number_multiplier-requires : goal.number_multiplier-requires

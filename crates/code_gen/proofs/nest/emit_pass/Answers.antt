@@ -1,8 +1,7 @@
 use Rattle.std.proofs.Common.{arith}
 use Rattle.icode.specs.Plain.{plain_tables}
 use Rattle.code_gen.specs.Views.{plain_host}
-use Rattle.code_gen.proofs.Passes.{next-body, next-registers, next-tables}
-use Rattle.code_gen.proofs.Works.{nest-at}
+use Rattle.code_gen.proofs.Passes.{next-body, next-registers, next-tables, nest-at}
 use Rattle.code_gen.proofs.nest.emit_pass.Goals as goal
 
 pub emit_nest-requires : goal.emit_nest-requires

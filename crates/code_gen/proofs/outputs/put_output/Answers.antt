@@ -1,5 +1,4 @@
-use Rattle.std.proofs.Common.{List, map, ap, ◌∙◌}
-use Rattle.std.specs.Option.{option_map}
+use Rattle.std.proofs.Common.{List, map, ap, ◌∙◌, option_map}
 use Rattle.icode.specs.Plain.{plain_body, plain_expr}
 use Rattle.code_gen.specs.PassCode.Statements.{place_at}
 use Rattle.sigma_spl.specs.Views.{plain_multiplier}

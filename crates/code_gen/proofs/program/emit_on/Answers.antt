@@ -8,8 +8,7 @@ use Rattle.sigma_spl.specs.Nest.{PlainNest}
 use Rattle.sigma_spl.specs.Views.{plain_merged}
 use Rattle.code_gen.specs.Conditions.{CanEmitPhases, machine_for}
 use Rattle.code_gen.specs.Views.{plain_phases}
-use Rattle.code_gen.proofs.Passes.{written_is}
-use Rattle.code_gen.proofs.Works.{can-emit, few-passes}
+use Rattle.code_gen.proofs.Passes.{written_is, can-emit, few-passes}
 use Rattle.code_gen.proofs.WholePrograms.Performs.{programs_perform}
 use Rattle.code_gen.proofs.WholePrograms.ReadyPrograms.{ready_can_program}
 use Rattle.code_gen.proofs.program.emit_on.Goals as goal

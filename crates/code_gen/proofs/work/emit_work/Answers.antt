@@ -5,7 +5,7 @@ use Rattle.sigma_spl.specs.Work.{node_of, short, trees_of}
 use Rattle.tree_model.specs.Breakdown.{breakdown_of}
 use Rattle.code_gen.specs.Views.{plain_host}
 use Rattle.kernel_gen.specs.Kernel.{trees_kernel}
-use Rattle.code_gen.proofs.Works.{kernel-sized, kernel-source}
+use Rattle.code_gen.proofs.Passes.{kernel-sized, kernel-source}
 use Rattle.code_gen.proofs.work.emit_work.Goals as goal
 
 pub statements_of_kernel-requires-clause-outputs : goal.statements_of_kernel-requires-clause-outputs
