@@ -1,7 +1,7 @@
 -- The code of a pass by the rules of emission is that of its nest.
 use Rattle.std.proofs.Common.{◌≡◌, ℕ, zero, suc, ◌+◌, ◌==◌, Bool, true, false, refl, sym, ap, ap₂, ◌∙◌, List, [], ◌∷◌}
-use Rattle.std.proofs.Common.{◌++◌, length, append_assoc, not, if◌then◌else◌, ◌<◌, arith, append-nil, Option, map-id}
-use Rattle.std.proofs.Common.{map, drop, slice_index, slice_index_or}
+use Rattle.std.proofs.Common.{◌++◌, length, append_assoc, not, if◌then◌else◌, ◌<◌, arith, append-nil, map-id, map, drop}
+use Rattle.std.proofs.Common.{slice_index, slice_index_or}
 use Rattle.std.specs.List.{flat_map, range_with_len}
 use Rattle.std.proofs.lemmas.Grind.{flat_map-append}
 use Rattle.std.proofs.lemmas.List.Concat.{flat_map_single}
@@ -27,7 +27,7 @@ use Rattle.kernel_gen.specs.Instructions.{op_of}
 use Rattle.kernel_gen.specs.Kernel.{trees_kernel}
 use Rattle.kernel_gen.specs.declared.straight.Instruction.{Instruction}
 use Rattle.operators.specs.declared.target.Target.{Target}
-use Rattle.sigma_spl.specs.Nest.{PlainMultiplier, PlainNest}
+use Rattle.sigma_spl.specs.Nest.{PlainNest}
 use Rattle.tree_model.specs.Trees.{trees_size}
 use Rattle.tree_model.specs.Whole.{rooted_of}
 use Rattle.generate.specs.Emission.Places.{PlaceFunction}
@@ -253,24 +253,14 @@ module _ (o : Setting) where
         ≡ body_of (store o inner k r ∷ [])
     put r = ap (λ e. do_only (Store o.target e r)) (from-list scatters i inner site.store k plain.store none' stored)
 
-    finish-is : (factors : Factors) (x : Option PlainMultiplier) (table from free : ℕ) → ArePlainFactors factors →
-        FindsEntries factors table → x ≡ multiplier_at site.counts w factors →
+    finish-is : (factors : Factors) (table from free : ℕ) → ArePlainFactors factors → FindsEntries factors table →
         ((f : PlaceFunction) → slice_index_or (map (f cs) (each w (length site.counts))) i (constant 0) ≡ f cs k) →
-        finish_body frame (emission.step_of o.pass.work) x scatters (length (loops o) + inner) table o.target i from
-        free
+        finish_body frame (emission.step_of o.pass.work) (multiplier_at site.counts w factors) scatters
+        (length (loops o) + inner) table o.target i from free
         ≡ body_of (finish o inner factors k from free)
-    finish-is none x table from free keeps finds is item =
-        ap (λ y. finish_body frame (emission.step_of o.pass.work) y scatters (length (loops o) + inner) table o.target
-        i from free) is
-        ∙ put from
-    finish-is (number v) x table from free keeps finds is item =
-        ap (λ y. finish_body frame (emission.step_of o.pass.work) y scatters (length (loops o) + inner) table o.target
-        i from free) is
-        ∙ ap (AndStmts (Do (MulConst free from v))) (put free)
-    finish-is (entries diagonal f) x table from free keeps finds is item =
-        ap (λ y. finish_body frame (emission.step_of o.pass.work) y scatters (length (loops o) + inner) table o.target
-        i from free) is
-        ∙ by-diagonal diagonal finds
+    finish-is none table from free keeps finds item = put from
+    finish-is (number v) table from free keeps finds item = ap (AndStmts (Do (MulConst free from v))) (put free)
+    finish-is (entries diagonal f) table from free keeps finds item = by-diagonal diagonal finds
       where
         turns : Diagonal → PlainStmt
         turns x =
@@ -350,8 +340,7 @@ module _ (o : Setting) where
             (λ k low. ap₂ (λ s d. finish_body frame s z.multiplier z.scatters d table o.target k (outs k) (next + k))
             is open-loops
             ∙ finish-is plain 0 k (constant k) tt z.scatters (item (length site.counts) k low site.store)
-            site.factors z.multiplier table (outs k) (next + k) plain.factors finds refl
-            (item (length site.counts) k low))
+            site.factors table (outs k) (next + k) plain.factors finds (item (length site.counts) k low))
 
     rows-work : (root size powers : ℕ) → o.pass.work ≡ rows root size →
         powers ≡ number_of o.tables (powers_of o.request.modulus root size) →
@@ -367,8 +356,8 @@ module _ (o : Setting) where
         (number_of o.tables (powers_of o.request.modulus root size)) size)) end))) NoStmts)
         (ap (λ s. finish_body frame s z.multiplier z.scatters (length (loops o) + 1) table o.target 0 0 3)
         (sym (ap emission.step_of is))
-        ∙ finish-is plain 1 0 k tt z.scatters (item (length site.counts) site.store) site.factors z.multiplier
-        table 0 3 plain.factors finds refl (item (length site.counts)))
+        ∙ finish-is plain 1 0 k tt z.scatters (item (length site.counts) site.store) site.factors table 0 3
+        plain.factors finds (item (length site.counts)))
       where
         k : Sum
         k = variable 1 (length site.counts) (constant 0)
