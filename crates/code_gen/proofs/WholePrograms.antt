@@ -1,9 +1,7 @@
-mod Stored
 pub mod Processor
 mod Phases
 mod Apart
 mod Lists
-mod Registers
 pub mod PhaseParts
 pub mod Performs
 pub mod ReadyPrograms

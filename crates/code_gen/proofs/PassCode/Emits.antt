@@ -1,17 +1,32 @@
 -- Steps that are a list of actions, at places that are inside.
-use Rattle.std.proofs.Common.{◌≡◌, ℕ, zero, suc, ◌+◌, ◌<◌, All, List, [], ◌∷◌, ◌++◌, flat_map, refl, sym, ap, ap₂, ◌∙◌}
-use Rattle.std.proofs.Common.{arith, append-nil, append_assoc, subst}
+use Rattle.std.proofs.Common.{◌≡◌, ℕ, List, [], ◌∷◌, ◌++◌, refl, sym, ap, ◌∙◌, append_assoc, zero, suc, ◌+◌, ◌<◌, All}
+use Rattle.std.proofs.Common.{flat_map, ap₂, arith, append-nil, subst}
 use Rattle.std.specs.List.{range_with_len}
 use Rattle.std.proofs.lemmas.List.Concat.{flat_map-append}
 use Rattle.std.proofs.lemmas.List.Elements.{All-nil, All-cons, All-append}
+use Rattle.icode.specs.Actions.{Step, steps_of_stmt, steps_of_body, actions_of}
+use Rattle.icode.specs.Plain.{PlainBody, PlainProgram, NoStmts, AndStmts, PlainOp, Loop, Do}
+use Rattle.code_gen.specs.PassCode.Statements.{followed_by, do_only, in_a_row, nested}
 use Rattle.icode.specs.declared.action.Action.{Action}
-use Rattle.icode.specs.Actions.{Step, steps_of_body, actions_of}
-use Rattle.icode.specs.Plain.{PlainBody, PlainOp, PlainProgram, NoStmts, AndStmts, Loop, Do}
 use Rattle.icode.specs.CodeLaws.Nests.{bodies, nest, AreInRange}
 use Rattle.icode.proofs.CodeLaws.Statements.{range-last}
 use Rattle.code_gen.specs.PassCode.Conditions.{IsInside}
-use Rattle.code_gen.specs.PassCode.Statements.{do_only, followed_by, in_a_row, nested}
-use Rattle.code_gen.proofs.PassCode.PlainSteps.{steps-followed, actions_of-append}
+
+-- ---- the steps of statements in a row, and of loops
+
+module _ (p : PlainProgram) where
+  pub steps-followed : (xs ys : PlainBody) (vs : List ℕ) (q : ℕ) →
+      steps_of_body p (followed_by xs ys) vs q ≡ steps_of_body p xs vs q ++ steps_of_body p ys vs q
+  steps-followed NoStmts ys vs q = refl
+  steps-followed (AndStmts x xs) ys vs q =
+      ap (λ zs. steps_of_stmt p x vs q ++ zs) (steps-followed xs ys vs q)
+      ∙ sym (append_assoc (steps_of_stmt p x vs q) (steps_of_body p xs vs q) (steps_of_body p ys vs q))
+
+pub actions_of-append : (xs ys : List Step) → actions_of (xs ++ ys) ≡ actions_of xs ++ actions_of ys
+actions_of-append [] ys = refl
+actions_of-append (x ∷ xs) ys = ap (λ zs. x.action ∷ zs) (actions_of-append xs ys)
+
+-- ---- steps that are a list of actions, at places that are inside
 
 pub record Emits (steps : List Step) (actions : List Action) : Type 0 where
   pub acts : actions_of steps ≡ actions

@@ -35,14 +35,12 @@ use Rattle.icode.specs.Limits.{is_body_within}
 use Rattle.code_gen.proofs.PassCode.Coded.{IsCoded, coded, length-range, values-append}
 use Rattle.code_gen.proofs.PassCode.Emits.{Emits, emits-nested, emits-followed, emits-none}
 use Rattle.code_gen.proofs.PassCode.Emitted.{IsLoadedAt, IsStoredAt, emits-body, emits-plain, emits-rows, emits-items}
-use Rattle.code_gen.proofs.PassCode.Emitted.{emits-term, emits-horner, emits-straight}
+use Rattle.code_gen.proofs.PassCode.Emitted.{emits-term, emits-horner, emits-straight, IsFor, start_of}
 use Rattle.code_gen.proofs.PassActions.Fillings.{working, registers-le}
 use Rattle.code_gen.proofs.PassActions.Copies.{copy-framed, item-below, load-below, of_code, store-below, nest-can}
-use Rattle.code_gen.proofs.PassCode.Places.{IsFor, start_of}
 use Rattle.code_gen.proofs.PassCode.SharedTables.{multiplier-extends, number-stays, number-there, Extends}
 use Rattle.code_gen.proofs.PassCode.SharedTables.{extends-longer, extends-more, extends-same, nest-extends}
-use Rattle.code_gen.proofs.PassCode.BodyLimits.{within-followed}
-use Rattle.code_gen.proofs.PassCode.Limits.{nest-within}
+use Rattle.code_gen.proofs.PassCode.Limits.{within-followed, nest-within}
 use Rattle.icode.specs.declared.action.Action.TheVariants as actions
 use Rattle.icode.specs.Plain as statements
 use Rattle.operators.specs.TensorPaths.Path as paths

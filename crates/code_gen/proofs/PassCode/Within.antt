@@ -11,7 +11,7 @@ use Rattle.code_gen.specs.PassCode.Expressions.{factor_at, variables_of, process
 use Rattle.code_gen.specs.PassCode.Expressions.{divisions_of, expr_of}
 use Rattle.sigma_spl.specs.Shared.Machine.{PlainFrame}
 use Rattle.code_gen.specs.PassCode.Small.{DividesSmall, ExpressionsAreWithin, HasSmall, IsFrame, IsSmallPositive}
-use Rattle.code_gen.proofs.PassCode.Numbers.{with_factor_of}
+use Rattle.code_gen.proofs.PassCode.Coded.{with_factor_of}
 use Rattle.code_gen.proofs.PassCode.Writing.{by_zero, factor-other}
 
 pub small-positive : (n : ℕ) → 0 < n → n < 2 ^ 32 → is_small_positive n ≡ true

@@ -17,7 +17,7 @@ use Rattle.code_gen.specs.PassCode.Program.{written_array, phase_body, tables_th
 use Rattle.code_gen.specs.PassCode.Program.{count_in, array_after}
 use Rattle.code_gen.specs.PassCode.Statements.{pass_body, tables_after}
 use Rattle.icode.specs.declared.action.Action.{Action}
-use Rattle.code_gen.proofs.PassCode.BodyLimits.{within-followed}
+use Rattle.code_gen.proofs.PassCode.Limits.{within-followed}
 use Rattle.code_gen.proofs.PassCode.NestEmits.{pass-extends, passes_are_emitted}
 use Rattle.code_gen.proofs.PassCode.Emits.{Emits, emits-followed, emits-none, emits-same}
 use Rattle.code_gen.proofs.PassCode.SharedTables.{Extends, extends-longer, extends-more, extends-same}

@@ -35,14 +35,14 @@ use Rattle.sigma_spl.specs.Merged.{PlainMerged, merged_on, phase_on, phases_on}
 use Rattle.sigma_spl.specs.Nest.{nests_on}
 use Rattle.code_gen.proofs.WholePrograms.Processor.{Pass, AllKnown, passes_acts, runs-of, target-other, AllFrom}
 use Rattle.code_gen.proofs.WholePrograms.Processor.{PhasesKnown, at-phase, passes-count, phases_known}
-use Rattle.code_gen.proofs.PassCode.Places.{whole-enough}
+use Rattle.code_gen.proofs.PassCode.Emitted.{whole-enough}
 use Rattle.code_gen.proofs.WholePrograms.Apart.{all-apart, phases-apart, all_parts, all-are, all-whole}
 use Rattle.code_gen.proofs.WholePrograms.Lists.{passes-within, phases-extend}
 use Rattle.code_gen.proofs.PassCode.SharedTables.{extends-longer}
 use Rattle.code_gen.proofs.WholePrograms.Lists.{IsInsidePhase, Listed, phases-listed, steps-acts}
 use Rattle.code_gen.proofs.WholePrograms.Phases.{Ready, RunsPhases, SharedFrom, all-phases, final_array, final-is}
 use Rattle.code_gen.proofs.WholePrograms.Phases.{phases-shared}
-use Rattle.code_gen.proofs.WholePrograms.Registers.{AllBelow, all-below, few-all}
+use Rattle.code_gen.proofs.WholePrograms.Processor.{AllBelow, all-below, few-all}
 use Rattle.code_gen.proofs.WholePrograms.ReadyPrograms.{phases-tables-within}
 use Rattle.icode.specs.declared.action.Action.TheVariants as actions
 

@@ -16,8 +16,7 @@ use Rattle.sigma_spl.specs.Shared.Owners.{IsOwner, AllShared, ArePhasesShared}
 use Rattle.code_gen.specs.PassCode.Program.{written_array, array_after, count_in, most_of}
 use Rattle.code_gen.proofs.WholePrograms.Processor.{IsOther, next-other, Pass, AllKnown, PhasesKnown, passes_acts}
 use Rattle.code_gen.proofs.WholePrograms.Processor.{MayRead, Owned, all-owned, first-owned, Left, parts-leave}
-use Rattle.code_gen.proofs.WholePrograms.Stored.{made-residues}
-use Rattle.code_gen.proofs.WholePrograms.Registers.{AllBelow}
+use Rattle.code_gen.proofs.WholePrograms.Processor.{made-residues, AllBelow}
 
 module _ (c : Target) (words : ℕ) (enough : c.size ≤ words) (code : Code) (modulus_is : code.modulus ≡ c.modulus)
     (lanes_are : code.lanes ≡ c.lanes) (procs_are : code.procs ≡ c.procs) where
