@@ -33,28 +33,21 @@ named-plain (works.kernel (works.node_of c t)) h = refl
 named-plain (works.rows root size) h = refl
 named-plain _ h = absurd h
 
-node-work : (c : Request) (t : Breakdown) → node_work c t ≡ named (layouts.node_work c t)
+node-work : (c : Request) (t : Breakdown) →
+    (node_work c t ≡ named (layouts.node_work c t)) × IsNodeWork (layouts.node_work c t)
 node-work c t = kinds (is_kernel c (size_of t)) c.kind
   where
     kinds : (k : Bool) (kind : Kind) →
-        (if k then kernel c t else long_work c kind t)
-        ≡ named (if k then works.kernel (works.node_of c t) else layouts.long_work c kind t)
-    kinds true kind = refl
-    kinds false Dft = refl
-    kinds false _ = refl
-
-is-node : (c : Request) (t : Breakdown) → IsNodeWork (layouts.node_work c t)
-is-node c t = kinds (is_kernel c (size_of t)) c.kind
-  where
-    kinds : (k : Bool) (kind : Kind) →
-        IsNodeWork (if k then works.kernel (works.node_of c t) else layouts.long_work c kind t)
-    kinds true kind = tt
-    kinds false Dft = tt
-    kinds false _ = tt
+        ((if k then kernel c t else long_work c kind t)
+        ≡ named (if k then works.kernel (works.node_of c t) else layouts.long_work c kind t))
+        × IsNodeWork (if k then works.kernel (works.node_of c t) else layouts.long_work c kind t)
+    kinds true kind = (refl, tt)
+    kinds false Dft = (refl, tt)
+    kinds false _ = (refl, tt)
 
 -- the works of a tree's layout are those of its nodes
 pub tree_works : (c : Request) (t : Breakdown) → HasWorks IsNodeWork (layout_of c t)
-tree_works c (leaf d) = is-node c (leaf d)
+tree_works c (leaf d) = (node-work c (leaf d)).1
 tree_works c (node rule a b) =
     parts (is_kernel c (size_of a * size_of b)) (tree_works (left_of rule c) a) (tree_works (right_of rule c) b)
   where
@@ -63,7 +56,7 @@ tree_works c (node rule a b) =
         HasWorks IsNodeWork (if k then work (layouts.node_work c (node rule a b)) else
         layouts.by rule (node_root c (size_of a * size_of b)) (layout_of (left_of rule c) a)
         (layout_of (right_of rule c) b))
-    parts true left right = is-node c (node rule a b)
+    parts true left right = (node-work c (node rule a b)).1
     parts false left right = (left, right)
 
 -- ---- passes
@@ -82,13 +75,13 @@ either true o v w l ps same is = ap (λ x. pass_at o x ∷ []) same
 either false o v w l ps same is = is
 
 pub passes_of_layout : (c : Request) (o : Site) (t : Breakdown) → passes c o t ≡ layout_emitted o (layout_of c t)
-passes_of_layout c o (leaf d) = ap (λ w. pass_at o w ∷ []) (node-work c (leaf d))
+passes_of_layout c o (leaf d) = ap (λ w. pass_at o w ∷ []) (node-work c (leaf d)).0
 passes_of_layout c o (node rule a b) =
     let root = node_root c (size_of a * size_of b) in
     let r : size_of a ≡ layout_size (layout_of (left_of rule c) a) = sym (layouts_have_size (left_of rule c) a) in
     let s : size_of b ≡ layout_size (layout_of (right_of rule c) b) = sym (layouts_have_size (right_of rule c) b) in
     either (is_kernel c (size_of a * size_of b)) o (node_work c (node rule a b)) (layouts.node_work c (node rule a b))
-    (by rule root (layout_of (left_of rule c) a) (layout_of (right_of rule c) b)) _ (node-work c (node rule a b))
+    (by rule root (layout_of (left_of rule c) a) (layout_of (right_of rule c) b)) _ (node-work c (node rule a b)).0
     (ap₂ (λ x y. passes (right_of rule c) (right_site rule x y root o) b ++ passes (left_of rule c)
     (left_site rule x y o) a) r s
     ∙ ap₂ (λ ps qs. ps ++ qs) (passes_of_layout (right_of rule c) _ b) (passes_of_layout (left_of rule c) _ a))
