@@ -33,8 +33,6 @@ use Rattle.code_gen.proofs.PassActions.Fillings.{registers-le}
 use Rattle.code_gen.proofs.WholePrograms.Processor.{passes-count}
 use Rattle.code_gen.proofs.Diagonals.{inner-some}
 
--- ---- nests and passes that are written one after another
-
 -- ---- one nest more
 
 followed-assoc : (xs ys zs : PlainBody) → followed_by (followed_by xs ys) zs ≡ followed_by xs (followed_by ys zs)

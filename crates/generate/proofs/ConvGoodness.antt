@@ -64,8 +64,6 @@ use Rattle.generate.proofs.TreePasses.Merged.{trees_are_merged, trees_mean}
 use Rattle.generate.proofs.Performed.{CountsPasses, alone, performed-counts, any-turns, header-of, items-of, flat-loads}
 use Rattle.generate.proofs.Performed.{flat-number, tree-totals}
 
--- ---- a program of a tree's joined passes is one for convolutions
-
 -- ---- trees of a request for convolutions, which is of one size and no inverse
 
 -- ---- one such request

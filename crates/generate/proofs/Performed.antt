@@ -275,8 +275,6 @@ module _ (r : Request) (t : Breakdown) (g : PlainMerged) (p : PlainProgram) (som
         lists = lean-list;
       }
 
--- ---- the program of the chosen tree is good and lean
-
 -- ---- what the merged passes of a tree count together
 
 -- ---- what is listed alike has the same sum

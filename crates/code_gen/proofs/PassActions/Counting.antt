@@ -1,4 +1,4 @@
--- What the actions of a nest count.
+-- What the actions of nests and passes count, and that they are not too many.
 use Rattle.std.proofs.Common.{◌≡◌, ℕ, zero, suc, ◌+◌, ◌*◌, refl, sym, ap, ap₂, ◌∙◌, arith, List, [], ◌∷◌, ◌++◌}
 use Rattle.std.proofs.Common.{zero-add, zero-mul, mul-zero, suc-mul, Option, Some, None, ◌<◌, ◌≤◌, All, mul_comm}
 use Rattle.std.proofs.Common.{one-mul, slice_index, length, length-append, Contains, mul-le-mul_left}
@@ -35,8 +35,6 @@ use Rattle.loop_nests.proofs.Shares.{runs_have_shares}
 use Rattle.code_gen.proofs.PassActions.StraightCopies.{row_acts, ends_of, copy_body}
 use Rattle.code_gen.proofs.PassActions.Fillings.{working}
 use Rattle.code_gen.proofs.PassActions.Copies.{nest-can}
-
--- ---- what the actions of a nest count
 
 abbrev pub counts : ℕ → ℕ → ℕ → Share
 counts o l s = record { operations = o; loads = l; stores = s }

@@ -36,8 +36,6 @@ use Rattle.code_gen.proofs.PassActions.Finish.{Task, IsReady}
 use Rattle.code_gen.proofs.PassActions.Copies.{IsOnLane, copy-on_lane, in_code, of_code}
 use Rattle.operators.specs.TensorPaths.Path as paths
 
--- ---- the copies of a nest fill their places with what the pass makes of its array
-
 -- the same loops round other work
 abbrev pub working : PlainNest → PlainWork → PlainNest
 working p w = record { counts = p.counts; work = w; gathers = p.gathers; multiplier = p.multiplier; scatters = p.scatters }

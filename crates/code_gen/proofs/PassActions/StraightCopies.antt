@@ -1,4 +1,4 @@
--- A copy of straight code fills its places: it loads its registers, computes, and stores what registers hold then.
+-- Copies fill their places: straight code, items one by one, kernels and tiles, and work by rows.
 use Rattle.std.proofs.Common.{◌≡◌, ℕ, ◌+◌, ◌<◌, ◌≤◌, arith, refl, sym, ap, ◌∙◌, List, [], ◌∷◌, ◌++◌, length, subst}
 use Rattle.std.proofs.Common.{append_assoc, Option, Some, None, ◌*◌, map, slice_index, mul-le-mul_right, zero, suc, ◌%◌}
 use Rattle.std.proofs.Common.{ap₂}
@@ -29,10 +29,6 @@ use Rattle.icode.specs.Actions.{lane_factors}
 use Rattle.ring_mod.proofs.Congruence.{same-add}
 use Rattle.code_gen.proofs.PassActions.Finish.{register, Task, IsReady, AreInputs, AreOutputs, ready-after_store}
 use Rattle.code_gen.proofs.PassActions.Finish.{ready-kept, finished_lane, finish-fills, factor_of, factor_each}
-
--- ---- a copy of straight code fills its places: it loads its registers, computes, and stores what registers hold then
-
--- ---- a copy of straight code fills its places: it loads its registers, computes, and stores what registers hold then
 
 -- what is in use before the ends of the items is there
 pub finish-few : (o : Option PlainMultiplier) (used more regs : ℕ) → with_multiplier o used more ≤ regs → used ≤ regs

@@ -324,8 +324,6 @@ module _ (f : PlainFrame) (n : ℕ) (all : ℕ → ℕ) (vs : List ℕ) (q : ℕ
   pub expr-peak : (e : Sum) → value e all ≤ b → DividesLow b all e → (sum_numbers (expr_of f n e) vs q).peak ≤ b
   expr-peak e low h = let parts = parts-low e low in whole-peak e low (remainders-peak e (quotients_of f n e) parts.0 h (quotients-peak e parts.1 h))
 
--- ---- the expressions of a nest's places have the values of the places, on the way to which every number fits a word
-
 -- ---- the values of all variables of a nest: those of its frame, and those of its loops
 
 either-first : (b : Bool) (q : ℕ) (us : List ℕ) → (d : ℕ) → slice_index ((if b then [] else q ∷ []) ++ us)

@@ -45,8 +45,6 @@ use Rattle.icode.specs.declared.action.Action.TheVariants as actions
 use Rattle.icode.specs.Plain as statements
 use Rattle.operators.specs.TensorPaths.Path as paths
 
--- ---- the places of a nest are coded, and its statements are its actions
-
 -- ---- tables
 
 pub multiplier-there : (m : ℕ) (o : Option PlainMultiplier) (d : PlainMultiplier) (ts more : List (List ℕ)) →

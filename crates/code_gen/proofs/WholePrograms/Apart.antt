@@ -30,8 +30,6 @@ use Rattle.code_gen.proofs.WholePrograms.Processor.{PhasesKnown, at-phase, passe
 use Rattle.code_gen.proofs.WholePrograms.Processor.{Owns, Reads, Owned, own-read, read-own}
 use Rattle.code_gen.proofs.WholePrograms.Phases.{SharedFrom, RunsPhases}
 
--- ---- in no phase does a processor touch a line that another writes
-
 module _ (c : Target) (words : ℕ) (enough : c.size ≤ words) (owner : ℕ → ℕ) (after : ℕ) where
   -- a word that a processor may read, and one that is its own
   pub record IsReadable (q w : ℕ) : Type 0 where

@@ -123,8 +123,6 @@ module _ (c : Target) (zs : List PlainNest) (can : CanRun c zs) where
   pub made-residues : (x : List ℕ) (i : ℕ) → i < c.size → slice_index (nests_on c.modulus c.size zs x) i < c.modulus
   made-residues x = (nests-vector c.modulus c.size zs x (modulus-some c zs can)).residues
 
--- ---- what a processor's parts of the passes of a phase leave, one pass after another
-
 -- ---- what is known of passes, phase by phase, and their actions
 
 -- nests that write one array together

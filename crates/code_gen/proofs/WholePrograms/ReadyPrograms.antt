@@ -29,8 +29,6 @@ use Rattle.code_gen.proofs.PassCode.SharedTables.{with_table-length}
 use Rattle.code_gen.proofs.PassActions.Copies.{nest-can}
 use Rattle.code_gen.proofs.WholePrograms.Processor.{Pass, AllKnown, PhasesKnown}
 
--- ---- a program can be made of passes that are ready
-
 -- ---- the tables of passes: powers and diagonals
 
 work-grown : (m : ℕ) (w : PlainWork) (tables : List (List ℕ)) →

@@ -52,8 +52,6 @@ use Rattle.generate.proofs.Emission.Matches.{multiplying, nests, IsLooped, IsNod
 use Rattle.generate.proofs.Emission.Matches.{ArePasses, AreSame, AreUpTo, HasDiagonal, IsLast, IsSame, stored-natural}
 use Rattle.sigma_spl.specs.Term as terms
 
--- ---- the merged passes of a tree: those of its layout, the last of which multiplies by the factor of an inverse
-
 abbrev pub phases-in : Request → List (List (List PlainNest)) → PlainMerged
 phases-in c phases = record { size = c.size; procs = c.procs; lanes = c.lanes; phases = phases }
 

@@ -25,8 +25,6 @@ use Rattle.operators.proofs.TensorPaths.Under.{size_under-copies}
 use Rattle.generate.proofs.Emission.Nested.{plain_work, bounds, each, emitted_nest, multiplier_at, nest_at, nest_with}
 use Rattle.sigma_spl.specs.Nest as sums
 
--- ---- passes by the rules of emission, and passes that merging makes: what it is that they are the same
-
 -- nothing changed
 pub at_last-none : (ps : List PlainPass) → at_last (λ p. p) ps ≡ ps
 at_last-none (p ∷ q ∷ ps) = ap (λ rest. p ∷ rest) (at_last-none (q ∷ ps))

@@ -55,8 +55,6 @@ use Rattle.generate.proofs.FormulaPasses.Counted.{sums_in, makers_in, steps_in, 
 use Rattle.generate.proofs.Performed.{performed-counts}
 use Rattle.generate.proofs.Performed as performed
 
--- ---- the passes of every formula are ready
-
 -- ---- what is known of a nest of a formula's passes, with places within the limits, lets a program be made of it
 
 -- ---- places within the limits
