@@ -8,7 +8,6 @@ pub mod PlainPlaces
 pub mod Programs
 pub mod Right
 pub mod Root
-pub mod RootPlaces
 pub mod WholeTrees
 pub mod Trees
 pub mod Worked

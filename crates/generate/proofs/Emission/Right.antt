@@ -38,7 +38,7 @@ use Rattle.tree_model.specs.declared.tree.Rule.{Rule}
 use Rattle.tree_model.specs.declared.tree.Rule.TheVariants.{Ct}
 use Rattle.generate.proofs.Emission.Nested.{bounds, emitted_nest, nest_at, nest_with, emitted}
 use Rattle.generate.proofs.Emission.Root.{rows-each, packed-natural, packed_around, turned_around}
-use Rattle.generate.proofs.Emission.RootPlaces.{insides-are, natural-turns, spread-out, turns-are}
+use Rattle.generate.proofs.Emission.Root.{insides-are, natural-turns, spread-out, turns-are}
 use Rattle.generate.proofs.Emission.Layouts.{layout_emitted}
 use Rattle.generate.proofs.Emission.Closed.{AllPasses, looped-all, same-passes}
 use Rattle.generate.proofs.Emission.Matches.{ArePasses, IsAround, IsSame, all-free, last-same, last-twiddled}

@@ -1,24 +1,28 @@
 -- The sites of a shared root's parts are those of merging, and the passes of its left part are those of the part alone,
 -- in all copies.
-use Rattle.std.proofs.Common.{◌≡◌, ℕ, ◌+◌, ◌*◌, ◌/◌, ◌<◌, arith, refl, sym, ap, ◌∙◌, [], ◌∷◌, length, append-nil, subst}
-use Rattle.std.proofs.Common.{ap₂, List, ◌++◌, mul_comm, Option, None, Some, map, option_map}
+use Rattle.std.proofs.Common.{◌≡◌, ℕ, ◌+◌, ◌*◌, ◌==◌, Bool, true, false, if◌then◌else◌, arith, refl, sym, ap, ap₂, ◌∙◌}
+use Rattle.std.proofs.Common.{List, [], ◌∷◌, ◌++◌, length, length-append, append-nil, append_assoc, map, ◌/◌, ◌<◌}
+use Rattle.std.proofs.Common.{subst, mul_comm, Option, None, Some, option_map}
 use Rattle.std.proofs.Math.Nat.{mul-div_cancel_left}
 use Rattle.std.proofs.lemmas.List.{map-append}
-use Rattle.matrix_meaning.specs.declared.Request.{Request}
 use Rattle.perm_algebra.specs.Affine.{Sum, scaled, joined, simplified}
-use Rattle.sigma_lower.specs.TreeLoops.Placed.{Fits, place_sum, AreCounts, all_simplified}
-use Rattle.sigma_lower.proofs.TreeLoops.InCopies.{AreCopies, placed}
+use Rattle.sigma_lower.specs.TreeLoops.Placed.{place_sum, Fits, AreCounts, all_simplified}
+use Rattle.sigma_lower.proofs.TreeLoops.InCopies.{placed, AreCopies}
+use Rattle.sigma_lower.proofs.TreeLoops.Moved.{joined-assoc, placed-columns, scaled-joined, scaled-scaled}
+use Rattle.sigma_lower.proofs.TreeLoops.WithinPlaces.{copies_from, natural-placed, natural-copies}
+use Rattle.smp_rewrite.proofs.Tensors.{within_all}
+use Rattle.operators.specs.declared.tensor_paths.Tensor.{Tensor}
+use Rattle.operators.specs.declared.tensor_paths.Tensor.TheVariants.{Columns, Blocks}
+use Rattle.operators.specs.TensorPaths.Path.{Path, count_of, size_under}
+use Rattle.generate.specs.Emission.Places.{inside, turn_of, same}
+use Rattle.matrix_meaning.specs.declared.Request.{Request}
 use Rattle.sigma_lower.proofs.TreeLoops.LineMoves.{AreThree, turned-leads}
 use Rattle.sigma_lower.proofs.TreeLoops.RootPasses.{turned_waiting, if_dealt, left_diagonal, left_pass, on_all}
 use Rattle.sigma_lower.proofs.TreeLoops.RootShares.{AreShares, lines_small, vectors_small, tiles_fill}
-use Rattle.sigma_lower.proofs.TreeLoops.WithinPlaces.{natural-copies}
 use Rattle.sigma_lower.specs.TreeTerms.Root.{left_path, right_path}
-use Rattle.operators.specs.declared.tensor_paths.Tensor.TheVariants.{Blocks, Columns}
-use Rattle.operators.specs.TensorPaths.Path.{Path, count_of, size_under}
 use Rattle.tree_model.specs.declared.tree.Rule.{Rule}
 use Rattle.tree_model.specs.declared.tree.Rule.TheVariants.{Ct}
 use Rattle.generate.specs.Emission.Passes.{Factors, Pass}
-use Rattle.generate.specs.Emission.Places.{inside, same, turn_of}
 use Rattle.generate.specs.Emission.Root.{lane_loops, left_root, packed, processor_loops, right_root, root_in, shared}
 use Rattle.generate.specs.Emission.Root.{strided, turns}
 use Rattle.index_fn.specs.Mapping.{Mapping}
@@ -27,7 +31,6 @@ use Rattle.sigma_lower.specs.TreeLoops.Nests.{loop_of}
 use Rattle.sigma_lower.specs.TreeTerms.Wrapped.{inner_of}
 use Rattle.sigma_lower.proofs.TreeLoops.LeftPlaces.{Spread, spread-by, item-whole, counts-append, left_fills, left_wide}
 use Rattle.sigma_lower.proofs.TreeLoops.LeftPlaces.{part-leads, size_under-append}
-use Rattle.sigma_lower.proofs.TreeLoops.Moved.{placed-columns}
 use Rattle.sigma_lower.proofs.TreeLoops.PlaceLimits.{IsPlacedPass}
 use Rattle.sigma_lower.proofs.TreeLoops.Shaped.{IsShaped, IsShapedWork}
 use Rattle.sigma_lower.proofs.TreeLoops.Staying.{StaysIn}
@@ -35,9 +38,85 @@ use Rattle.sigma_spl.specs.Loops.{nest_of}
 use Rattle.sigma_spl.specs.Work.{work_size}
 use Rattle.sigma_spl.proofs.Several.{several-append}
 use Rattle.generate.proofs.Emission.Matches.{IsAround, HasDiagonal, IsSame, IsLooped, IsNodeWork, same-nest}
-use Rattle.generate.proofs.Emission.RootPlaces.{insides-are, natural-turns, packed-is, strided-is, turns-are}
 use Rattle.generate.proofs.Emission.Nested.{emitted_nest}
 
+-- ---- the places of a shared root, as sums: those of emission are those that merging makes
+
+-- ---- loops of emission, one inside of the other
+
+abbrev pub insides : List ℕ → Path → List ℕ
+insides counts [] = counts
+insides counts (t ∷ ts) = insides (inside counts (count_of t)) ts
+
+abbrev pub path-turns : List ℕ → Path → List Sum
+path-turns counts [] = []
+path-turns counts (t ∷ ts) = turn_of counts (count_of t) ∷ path-turns (inside counts (count_of t)) ts
+
+insides-pick : (b : Bool) (counts : List ℕ) (t : Tensor) (path : Path) →
+    (if b then counts else counts ++ count_of t ∷ []) ++ map count_of path
+    ≡ counts ++ map count_of (if b then path else t ∷ path)
+insides-pick true counts t path = refl
+insides-pick false counts t path = append_assoc counts (count_of t ∷ []) (map count_of path)
+
+pub insides-are : (counts : List ℕ) (ts : Path) → insides counts ts ≡ counts ++ map count_of (within_all ts [])
+insides-are counts [] = sym (append-nil counts)
+insides-are counts (t ∷ ts) = insides-are (inside counts (count_of t)) ts
+    ∙ insides-pick (count_of t == 1) counts t (within_all ts [])
+
+length-pick : (b : Bool) (counts : List ℕ) (n : ℕ) →
+    length (if b then counts else counts ++ n ∷ []) ≡ (if b then length counts else length counts + 1)
+length-pick true counts n = refl
+length-pick false counts n = length-append counts (n ∷ [])
+
+pub turns-are : (counts : List ℕ) (ts : Path) → path-turns counts ts ≡ copies_from ts (length counts)
+turns-are counts [] = refl
+turns-are counts (t ∷ ts) =
+    ap (λ us. turn_of counts (count_of t) ∷ us)
+    (turns-are (inside counts (count_of t)) ts
+    ∙ ap (copies_from ts) (length-pick (count_of t == 1) counts (count_of t)))
+
+-- the natural place by the turns of emission
+pub natural-turns : (ts : Path) (n : ℕ) (e : Sum) →
+    place_sum (within_all ts []) n 0 e ≡ placed ts n (path-turns [] ts) e
+natural-turns ts n e = natural-placed ts n 0 e ∙ ap (λ us. placed ts n us e) (sym (turns-are [] ts))
+
+-- ---- sums in another form
+
+-- a factor over two parts and a rest
+pub spread-out : (c n : ℕ) (a b e : Sum) →
+    scaled c (joined (joined (scaled n a) b) e) ≡ joined (scaled (c * n) a) (joined (scaled c b) (scaled c e))
+spread-out c n a b e =
+    scaled-joined c (joined (scaled n a) b) e
+    ∙ ap (λ z. joined z (scaled c e))
+    (scaled-joined c (scaled n a) b ∙ ap (λ z. joined z (scaled c b)) (scaled-scaled c n a))
+    ∙ joined-assoc (scaled (c * n) a) (scaled c b) (scaled c e)
+
+-- (i*s + k)*v + l, where i is q*n + j
+pub packed-is : (v s n : ℕ) (q j e l : Sum) →
+    joined (scaled (n * s * v) q) (joined (scaled v (joined (scaled s j) e)) l)
+    ≡ joined (scaled v (joined (scaled s (joined (scaled n q) j)) e)) l
+packed-is v s n q j e l =
+    sym
+    (ap (λ z. joined (scaled v (joined z e)) l)
+    (scaled-joined s (scaled n q) j ∙ ap (λ z. joined z (scaled s j)) (scaled-scaled s n q))
+    ∙ ap (λ z. joined z l) (spread-out v (s * n) q (scaled s j) e)
+    ∙ joined-assoc (scaled (v * (s * n)) q) (joined (scaled v (scaled s j)) (scaled v e)) l
+    ∙ ap₂ (λ c z. joined (scaled c q) (joined z l)) (omega arith) (sym (scaled-joined v (scaled s j) e)))
+
+-- r*e + (i*v + l), where i is q*n + j
+pub strided-is : (p v n : ℕ) (q j e l : Sum) →
+    placed (Columns v ∷ Columns n ∷ Columns p ∷ []) 0 (l ∷ j ∷ q ∷ []) e
+    ≡ joined (scaled (p * (v * n)) e) (joined (scaled v (joined (scaled n q) j)) l)
+strided-is p v n q j e l =
+    placed-columns v n (Columns p ∷ []) 0 l j (q ∷ []) e
+    ∙ placed-columns (v * n) p [] 0 (joined (scaled v j) l) q [] e
+    ∙ ap₂ (λ c z. joined (scaled c e) z) (omega arith)
+    (sym (joined-assoc (scaled (v * n) q) (scaled v j) l)
+    ∙ ap (λ z. joined z l)
+    (sym (scaled-joined v (scaled n q) j ∙ ap (λ z. joined z (scaled v j)) (scaled-scaled v n q))))
+
+-- The sites of a shared root's parts are those of merging, and the passes of its left part are those of the part alone,
+-- in all copies.
 -- the turns of a processor and a lane
 pub turns-each : (p v k : ℕ) → 0 < v → 0 < p → (n : ℕ) → n ≡ p * (v * k) → n / v / p ≡ k
 turns-each p v k some many n is =
