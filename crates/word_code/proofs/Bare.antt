@@ -51,7 +51,6 @@ alone_stays z h (plain.AndStmts stmt rest) bounds =
 pub phases_cases : (z : Laziness) (h : Header) (procs : ℕ) (phases : List PlainBody) (P : List WordBody → Type 0) →
     ((body : PlainBody) → procs ≡ 1 → phases ≡ body ∷ [] → P ((quick_alone z h body (loosest z h)).body ∷ [])) →
     P (map (quick_phase z h) phases) → P (quick_phases z h procs phases)
-phases_cases z h procs [] P alone evenly = evenly
 phases_cases z h procs (body ∷ []) P alone evenly =
     ⊎_elim
     (λ (one : procs ≡ 1). subst (λ n. P (quick_phases z h n (body ∷ []))) (sym one) (alone body one refl))
@@ -61,7 +60,7 @@ phases_cases z h procs (body ∷ []) P alone evenly =
     (quick_phase z h body) ∷ [] in
     subst (λ b. P (either b)) (sym other) evenly)
     (cases_eq procs 1)
-phases_cases z h procs (body ∷ (next ∷ phases)) P alone evenly = evenly
+phases_cases z h procs _ P alone evenly = evenly
 
 all_stay : (z : Laziness) (h : Header) (procs : ℕ) (phases : List PlainBody) →
     map bare_body (quick_phases z h procs phases) ≡ phases
@@ -77,14 +76,7 @@ bare_quickened z p = ap (with_bodies p) (all_stay z (header_of p) p.procs p.phas
 action_is : (w : PlainWordProgram) (note : Note) (op : PlainOp) (vs : List ℕ) (q : ℕ) →
     (word_action_of w note op vs q).action ≡ (step_of (bare w) op vs q).action
 action_is w note (Load r array place) vs q = refl
-action_is w note (Store array place r) vs q = refl
-action_is w note (Zero r) vs q = refl
-action_is w note (Add r x y) vs q = refl
-action_is w note (Sub r x y) vs q = refl
-action_is w note (Neg r x) vs q = refl
-action_is w note (MulConst r x factor) vs q = refl
-action_is w note (MulTable r x table place step) vs q = refl
-action_is w note (Tile r x) vs q = refl
+action_is w note _ vs q = refl
 
 module _ (w : PlainWordProgram) where
   -- so are those of operations one after the other

@@ -85,10 +85,9 @@ module _ (go : PlainBody → List ℕ → QuickBody) (i : ℕ) (body : List Stmt
 module _ (z : Laziness) (some : 1 ≤ z.limit) (of_a : z.kept.of_a ≤ z.limit) (of_b : z.kept.of_b ≤ z.limit)
     (product : product_bound z.width ≤ z.limit) where
   array_sane : (array : Array) → array_bound z.kept array ≤ z.limit
-  array_sane arrays.X = some
-  array_sane arrays.Y = some
   array_sane arrays.A = of_a
   array_sane arrays.B = of_b
+  array_sane _ = some
 
   noted_sane : (m lanes : ℕ) (op : PlainOp) (bounds : List ℕ) → ((r : ℕ) → bound_at z.limit bounds r ≤ z.limit) →
       (r : ℕ) → bound_at z.limit (noted z m lanes op bounds).bounds r ≤ z.limit

@@ -72,14 +72,7 @@ with_phases w phases = record { width = w.width; frame = w.frame; quotients = w.
 pub op_same : (w : PlainWordProgram) (phases : List WordBody) (note : Note) (op : PlainOp) (vs : List ℕ) (q : ℕ) →
     word_action_of (with_phases w phases) note op vs q ≡ word_action_of w note op vs q
 op_same w phases note (Load r array place) vs q = refl
-op_same w phases note (Store array place r) vs q = refl
-op_same w phases note (Zero r) vs q = refl
-op_same w phases note (Add r x y) vs q = refl
-op_same w phases note (Sub r x y) vs q = refl
-op_same w phases note (Neg r x) vs q = refl
-op_same w phases note (MulConst r x factor) vs q = refl
-op_same w phases note (MulTable r x table place step) vs q = refl
-op_same w phases note (Tile r x) vs q = refl
+op_same w phases note _ vs q = refl
 
 -- so do those of operations one after the other
 same_leaves : (w : PlainWordProgram) (phases : List WordBody) (q : ℕ) (leaves : List Leaf) →

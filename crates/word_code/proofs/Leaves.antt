@@ -23,9 +23,8 @@ module _ {X Y : Type 0} (R : X → Y → Type 0) where
   pub pairwise-append : (xs us : List X) (ys vs : List Y) → Pairwise R xs ys → Pairwise R us vs →
       Pairwise R (xs ++ us) (ys ++ vs)
   pairwise-append [] us [] vs none rest = rest
-  pairwise-append [] us (y ∷ ys) vs none rest = absurd none
-  pairwise-append (x ∷ xs) us [] vs none rest = absurd none
   pairwise-append (x ∷ xs) us (y ∷ ys) vs first rest = (first.0, pairwise-append xs us ys vs first.1 rest)
+  pairwise-append _ us _ vs none rest = absurd none
 
   -- the turns of a loop
   pub pairwise-turns : (f : ℕ → List X) (g : ℕ → List Y) → ((i : ℕ) → Pairwise R (f i) (g i)) → (is : List ℕ) →
@@ -36,19 +35,17 @@ module _ {X Y : Type 0} (R : X → Y → Type 0) where
 
   pub pairwise-length : (xs : List X) (ys : List Y) → Pairwise R xs ys → length ys ≡ length xs
   pairwise-length [] [] pairs = refl
-  pairwise-length [] (y ∷ ys) pairs = absurd pairs
-  pairwise-length (x ∷ xs) [] pairs = absurd pairs
   pairwise-length (x ∷ xs) (y ∷ ys) pairs = ap suc (pairwise-length xs ys pairs.1)
+  pairwise-length _ _ pairs = absurd pairs
 
   pub pairwise-all : {Z W : Type 0} (f : X → Z) (g : Y → W) (P : Z → Type 0) (Q : W → Type 0) →
       ((x : X) (y : Y) → R x y → P (f x) → Q (g y)) → (xs : List X) (ys : List Y) → Pairwise R xs ys →
       All P (map f xs) → All Q (map g ys)
   pairwise-all f g P Q leads [] [] pairs all = All-nil Q
-  pairwise-all f g P Q leads [] (y ∷ ys) pairs all = absurd pairs
-  pairwise-all f g P Q leads (x ∷ xs) [] pairs all = absurd pairs
   pairwise-all f g P Q leads (x ∷ xs) (y ∷ ys) pairs all =
       All-cons Q (g y) (map g ys) (leads x y pairs.0 (All-head P (f x) (map f xs) all))
       (pairwise-all f g P Q leads xs ys pairs.1 (All-tail P (f x) (map f xs) all))
+  pairwise-all f g P Q leads _ _ pairs all = absurd pairs
 
 -- ---- operations, with the values of the loops that they stand in
 

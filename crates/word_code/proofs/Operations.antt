@@ -127,9 +127,8 @@ quotient_entry base m (c ∷ entries) (suc i) = quotient_entry base m entries i
 pub quotient_table : (base m : ℕ) (tables : List (List ℕ)) (t : ℕ) →
     slice_index_or (map (λ entries. map (quotient_of base m) entries) tables) t [] ≡ map (quotient_of base m)
     (slice_index_or tables t [])
-quotient_table base m [] t = refl
-quotient_table base m (entries ∷ tables) zero = refl
 quotient_table base m (entries ∷ tables) (suc t) = quotient_table base m tables t
+quotient_table base m _ _ = refl
 
 quotient_below : (base m c : ℕ) → 0 < base → c < m → quotient_of base m c < base
 quotient_below base m c some lt =
@@ -140,12 +139,11 @@ quotient_below base m c some lt =
 quotients_below : (base m : ℕ) (cs qs : List ℕ) → 0 < base → AreQuotients base m cs qs → All (λ c. c < m) cs →
     All (λ q. q < base) qs
 quotients_below base m [] [] some are low = All-nil (λ q. q < base)
-quotients_below base m [] (q ∷ qs) some are low = absurd are
-quotients_below base m (c ∷ cs) [] some are low = absurd are
 quotients_below base m (c ∷ cs) (q ∷ qs) some are low =
     All-cons (λ q. q < base) q qs
     (subst (λ n. n < base) (sym are.0) (quotient_below base m c some (All-head (λ c. c < m) c cs low)))
     (quotients_below base m cs qs some are.1 (All-tail (λ c. c < m) c cs low))
+quotients_below base m _ _ some are low = absurd are
 
 -- an action on words goes from the bounds to those after it, and its numbers are words
 pub record IsDone (z : Laziness) (p : PlainProgram) (bounds : List ℕ) (f : WordAction) (after : List ℕ) : Type 0 where
@@ -185,10 +183,9 @@ module _ (z : Laziness) (p : PlainProgram) (sound : IsSound (scale z p)) where
       (kept.each k)
 
   array_sane : (array : Array) → (1 ≤ array_bound z.kept array) × (array_bound z.kept array ≤ z.limit)
-  array_sane arrays.X = let a = some in (omega arith, omega arith)
-  array_sane arrays.Y = let a = some in (omega arith, omega arith)
   array_sane arrays.A = sound.lazy.of_a
   array_sane arrays.B = sound.lazy.of_b
+  array_sane _ = let a = some in (omega arith, omega arith)
 
   bias_fits : (b : ℕ) → b ≤ z.limit → b * p.modulus < sums_of z.width
   bias_fits b le = let a = mul-le-mul_left p.modulus le in let c = roomy in omega (arith, a, c)

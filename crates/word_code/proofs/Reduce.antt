@@ -46,9 +46,8 @@ set_bound_here limit bounds r v q le from to =
     subst (λ k. v ≤ bound_at limit (slice_set bounds r v) k) (sym e) (set_bound limit bounds r v le)
 
 pub loosest_is : (limit regs r : ℕ) → bound_at limit (replicate regs limit) r ≡ limit
-loosest_is limit zero r = refl
-loosest_is limit (suc regs) zero = refl
 loosest_is limit (suc regs) (suc r) = loosest_is limit regs r
+loosest_is limit _ _ = refl
 
 half_low : (b : ℕ) → b ≤ 2 * half_up b
 half_low b = let a = div-add-mod' (b + 1) 2 in let c = mod_below (b + 1) 2 (omega arith) in omega arith

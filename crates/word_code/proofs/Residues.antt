@@ -96,12 +96,11 @@ pub lazy_lanes : (m p q r : ℕ) (f g : ℕ → ℕ → ℕ) → ((a b : ℕ) �
     (f (a % m) (b % m) ≡ g a b % m) × (g a b < r)) → (xs ys : List ℕ) → AllBelow p xs → AllBelow q ys →
     (lane_by_lane f (residues m xs) (residues m ys) ≡ residues m (lane_by_lane g xs ys))
     × AllBelow r (lane_by_lane g xs ys)
-lazy_lanes m p q r f g h [] ys low low_too = (refl, tt)
-lazy_lanes m p q r f g h (x ∷ xs) [] low low_too = (refl, tt)
 lazy_lanes m p q r f g h (x ∷ xs) (y ∷ ys) low low_too =
     let rest = lazy_lanes m p q r f g h xs ys low.1 low_too.1 in
     let here = h x y low.0 low_too.0 in
     (ap₂ (λ z zs. z ∷ zs) here.0 rest.0, (here.1, rest.1))
+lazy_lanes m p q r f g h _ _ low low_too = (refl, tt)
 
 -- the factors' quotients
 abbrev pub AreQuotients : ℕ → ℕ → List ℕ → List ℕ → Type 0
@@ -114,14 +113,13 @@ pub lazy_products : (w : Width) (m p : ℕ) → 0 < w.half → 0 < m → product
     (xs cs qs : List ℕ) → AllBelow p xs → AreQuotients (base_of w) m cs qs →
     (lane_by_lane (product_mod m) (residues m xs) cs ≡ residues m (lane_by_three (lazy_product w m) xs cs qs))
     × AllBelow (product_bound w * m) (lane_by_three (lazy_product w m) xs cs qs)
-lazy_products w m p pos positive room small [] cs qs low are = (refl, tt)
-lazy_products w m p pos positive room small (x ∷ xs) [] qs low are = (refl, tt)
 lazy_products w m p pos positive room small (x ∷ xs) (c ∷ cs) [] low are = absurd are
 lazy_products w m p pos positive room small (x ∷ xs) (c ∷ cs) (q ∷ qs) low are =
     let rest = lazy_products w m p pos positive room small xs cs qs low.1 are.1 in
     let first : x < p = low.0 in
     let here = product_word w m x c q pos positive room (omega (arith, first, small)) are.0 in
     (ap₂ (λ z zs. z ∷ zs) here.0 rest.0, (here.1, rest.1))
+lazy_products w m p pos positive room small _ _ qs low are = (refl, tt)
 
 pub length-three : (f : ℕ → ℕ → ℕ → ℕ) (base m : ℕ) (xs cs qs : List ℕ) → length xs ≤ length cs →
     AreQuotients base m cs qs → length (lane_by_three f xs cs qs) ≡ length xs

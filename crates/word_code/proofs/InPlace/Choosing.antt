@@ -42,14 +42,13 @@ chosen-more behind at body routes target stmt route made into lt here e is put g
 pub places-differ : (places others : List PlainExpr) → (length places ≡ length others → ⊥) →
     false ≡ same_places places others
 places-differ [] [] e = absurd (e refl)
-places-differ [] (other ∷ others) e = refl
-places-differ (place ∷ places) [] e = refl
 places-differ (place ∷ places) (other ∷ others) e =
     by_first (same_place place other) _ (places-differ places others (λ h. e (ap suc h)))
   where
     by_first : (b c : Bool) → false ≡ c → false ≡ (b && c)
     by_first true c h = h
     by_first false c h = refl
+places-differ _ _ e = refl
 
 -- a loop is full if it has statements and they are
 pub full-some : (count : ℕ) (items : List Stmt) (stmt : PlainStmt) (full : Bool) →

@@ -27,12 +27,7 @@ local memory registers = record { memory = memory; registers = registers }
 inner-memory : (lanes : ℕ) (a : Action) (s : Local) → IsInner a → memory_after lanes a s ≡ s.memory
 inner-memory lanes (Load r address) s inner = absurd inner
 inner-memory lanes (Store address r) s inner = absurd inner
-inner-memory lanes (Zero r) s inner = refl
-inner-memory lanes (Add r x y) s inner = refl
-inner-memory lanes (Sub r x y) s inner = refl
-inner-memory lanes (Neg r x) s inner = refl
-inner-memory lanes (Mul r x factors) s inner = refl
-inner-memory lanes (Tile r x) s inner = refl
+inner-memory lanes _ s inner = refl
 
 inner-put : (w : Width) (m lanes bias : ℕ) (quotients : List ℕ) (a : Action) (one other registers : List ℕ) →
     IsInner a →
@@ -40,12 +35,7 @@ inner-put : (w : Width) (m lanes bias : ℕ) (quotients : List ℕ) (a : Action)
     ≡ word_put w m lanes bias quotients a (local other registers)
 inner-put w m lanes bias quotients (Load r address) one other registers inner = absurd inner
 inner-put w m lanes bias quotients (Store address r) one other registers inner = absurd inner
-inner-put w m lanes bias quotients (Zero r) one other registers inner = refl
-inner-put w m lanes bias quotients (Add r x y) one other registers inner = refl
-inner-put w m lanes bias quotients (Sub r x y) one other registers inner = refl
-inner-put w m lanes bias quotients (Neg r x) one other registers inner = refl
-inner-put w m lanes bias quotients (Mul r x factors) one other registers inner = refl
-inner-put w m lanes bias quotients (Tile r x) one other registers inner = refl
+inner-put w m lanes bias quotients _ one other registers inner = refl
 
 module _ (w : Width) (m lanes words : ℕ) where
   -- both actions leave words alike
@@ -138,8 +128,6 @@ module _ (w : Width) (m lanes words : ℕ) where
       are_right lanes accesses h ≡ true → Alike words h s t →
       Alike words (homes_after_all lanes accesses h) (word_effects w m lanes fs s) (word_effects w m lanes gs t)
   lists_alike [] [] accesses h s t none right alike = subst (λ (xs : List Access). Alike words (homes_after_all lanes xs h) s t) (sym none) alike
-  lists_alike [] (g ∷ gs) accesses h s t none right alike = absurd none
-  lists_alike (f ∷ fs) [] accesses h s t none right alike = absurd none
   lists_alike (f ∷ fs) (g ∷ gs) accesses h s t (first, rest, whole, pair, pairs) right alike =
       let found = sym (right-append lanes first rest h) ∙ ap (λ (xs : List Access). are_right lanes xs h) (sym whole) ∙ right in
       let both = both_true (are_right lanes first h) (are_right lanes rest (homes_after_all lanes first h)) found in
@@ -147,6 +135,7 @@ module _ (w : Width) (m lanes words : ℕ) where
       let others = lists_alike fs gs rest (homes_after_all lanes first h) (word_effect w m lanes f s) (word_effect w m lanes g t) pairs both.1 one in
       let homes = sym (after-append lanes first rest h) ∙ ap (λ (xs : List Access). homes_after_all lanes xs h) (sym whole) in
       subst (λ (k : Homes). Alike words k (word_effects w m lanes (f ∷ fs) s) (word_effects w m lanes (g ∷ gs) t)) homes others
+  lists_alike _ _ accesses h s t none right alike = absurd none
 
   pub effects_alike : (fs gs : List WordAction) (accesses : List Access) (h : Homes) (one other registers : List ℕ) →
       ArePairs lanes words fs gs accesses → are_right lanes accesses h ≡ true → Stands words h one other →

@@ -45,9 +45,8 @@ goes_by p body true e =
     inr (record { body = body; only = refl; alone = eqb-true p.procs 1 first.0; may = second.1; routes = ap (λ (b : Bool). if b then chosen body else []) e })
 
 pub stays_or_goes : (p : PlainProgram) (phases : List PlainBody) → (routes_of p phases ≡ []) ⊎ Goes p phases
-stays_or_goes p [] = inl refl
 stays_or_goes p (body ∷ []) = goes_by p body _ refl
-stays_or_goes p (body ∷ second ∷ rest) = inl refl
+stays_or_goes p _ = inl refl
 
 -- without routes nothing changes
 

@@ -140,8 +140,6 @@ module _ (z : Laziness) (p : PlainProgram) (all : List Route) where
       (word_actions_of_body other_of (rerouted_phase routes (quick_alone z (header_of p) body bounds).body) [] 0)
       (accesses_of_phase p routes body)
   phase_pairs [] plain.NoStmts bounds reach fits = refl
-  phase_pairs [] (plain.AndStmts stmt rest) bounds reach fits = absurd reach
-  phase_pairs (route ∷ routes) plain.NoStmts bounds reach fits = absurd reach
   phase_pairs (route ∷ routes) (plain.AndStmts stmt rest) bounds reach fits =
       let y = loosened z (needs (plain.AndStmts stmt rest)) in
       let one = quick_stmt y (header_of p) stmt bounds in
@@ -153,3 +151,4 @@ module _ (z : Laziness) (p : PlainProgram) (all : List Route) where
       fits))
       (phase_pairs routes rest one.bounds reach (all-right (StepFits p) (steps_of_stmt p stmt [] 0)
       (steps_of_body p rest [] 0) fits))
+  phase_pairs _ _ bounds reach fits = absurd reach

@@ -52,8 +52,6 @@ pub pairs-append : (lanes words : ℕ) (fs gs fs2 gs2 : List WordAction) (xs ys 
     ArePairs lanes words fs gs xs → ArePairs lanes words fs2 gs2 ys →
     ArePairs lanes words (fs ++ fs2) (gs ++ gs2) (xs ++ ys)
 pairs-append lanes words [] [] fs2 gs2 xs ys none others = subst (λ zs. ArePairs lanes words fs2 gs2 (zs ++ ys)) (sym none) others
-pairs-append lanes words [] (g ∷ gs) fs2 gs2 xs ys none others = absurd none
-pairs-append lanes words (f ∷ fs) [] fs2 gs2 xs ys none others = absurd none
 pairs-append lanes words (f ∷ fs) (g ∷ gs) fs2 gs2 xs ys (first, rest, whole, pair, pairs) others = (
   first,
   rest ++ ys,
@@ -61,3 +59,4 @@ pairs-append lanes words (f ∷ fs) (g ∷ gs) fs2 gs2 xs ys (first, rest, whole
   pair,
   pairs-append lanes words fs gs fs2 gs2 rest ys pairs others,
 )
+pairs-append lanes words _ _ fs2 gs2 xs ys none others = absurd none

@@ -23,10 +23,8 @@ each_rerouted routes stmts = stmts
 
 phase-each : (routes : List Route) (stmts : List plain.WordStmt) →
     rerouted_phase routes (word_body_of stmts) ≡ word_body_of (each_rerouted routes stmts)
-phase-each [] [] = refl
-phase-each [] (stmt ∷ rest) = refl
-phase-each (route ∷ routes) [] = refl
 phase-each (route ∷ routes) (stmt ∷ rest) = ap (plain.AndStmts (rerouted_stmt route stmt)) (phase-each routes rest)
+phase-each _ _ = refl
 
 each-none : (stmts : List plain.WordStmt) → each_rerouted [] stmts ≡ stmts
 each-none [] = refl
@@ -37,12 +35,11 @@ one-more : (routes : List Route) (stmts : List plain.WordStmt) (i : ℕ) (other 
     → stmt ≡ get_or (each_rerouted (take i routes) stmts) i stmt
     → slice_set (each_rerouted (take i routes) stmts) i (rerouted_stmt (get_or routes i other) stmt)
     ≡ each_rerouted (take (suc i) routes) stmts
-one-more [] stmts i other stmt short lt is = absurd (omega arith)
-one-more (first ∷ routes) [] i other stmt short lt is = absurd (omega arith)
 one-more (first ∷ routes) (x ∷ rest) zero other stmt short lt is =
     ap (λ s. rerouted_stmt first s ∷ rest) is ∙ ap (λ ss. rerouted_stmt first x ∷ ss) (sym (each-none rest))
 one-more (first ∷ routes) (x ∷ rest) (suc i) other stmt short lt is =
     ap (λ ss. rerouted_stmt first x ∷ ss) (one-more routes rest i other stmt (omega arith) (omega arith) is)
+one-more _ _ i other stmt short lt is = absurd (omega arith)
 
 all-of-them : (routes : List Route) (stmts : List plain.WordStmt) (i : ℕ) → min (length routes) (length stmts) ≤ i
     → each_rerouted (take i routes) stmts ≡ each_rerouted routes stmts

@@ -86,12 +86,11 @@ pub stands_housed : (words n at to : ℕ) (h : Homes) (one other vs : List ℕ) 
     length vs ≡ n → Stands words h one other →
     Stands words (housed n at to h) (with_words one at vs) (with_words other to vs)
 stands_housed words zero at to h one other [] inside inside_too long stands = stands
-stands_housed words zero at to h one other (v ∷ vs) inside inside_too long stands = absurd (omega arith)
-stands_housed words (suc n) at to h one other [] inside inside_too long stands = absurd (omega arith)
 stands_housed words (suc n) at to h one other (v ∷ vs) inside inside_too long stands =
     stands_housed words n (at + 1) (to + 1) (record { homes = slice_set h.homes at to; guests = slice_set h.guests to at })
     (slice_set one at v) (slice_set other to v) vs (omega arith) (omega arith) (omega arith)
     (stands_put words at to v h one other (omega arith) (omega arith) stands)
+stands_housed words _ at to h one other _ inside inside_too long stands = absurd (omega arith)
 
 -- what is read where words are at home
 pub stands_read : (words n at to : ℕ) (h : Homes) (one other : List ℕ) → at + n ≤ words → to + n ≤ words →

@@ -14,15 +14,8 @@ use Rattle.word_code.specs.WordPrint.WordNests.{is_tile_small, is_word_nest_with
 use Rattle.word_code.specs.WordPrint.WordNests.{are_word_phases_within}
 
 tile_small : (m : ℕ) (op : PlainOp) (depth : ℕ) → is_op_within m op depth ≡ true → is_tile_small op ≡ true
-tile_small m (Load register array place) depth h = refl
-tile_small m (Store array place register) depth h = refl
-tile_small m (Zero register) depth h = refl
-tile_small m (Add register left right) depth h = refl
-tile_small m (Sub register left right) depth h = refl
-tile_small m (Neg register source) depth h = refl
-tile_small m (MulConst register source factor) depth h = refl
-tile_small m (MulTable register source table place step) depth h = refl
 tile_small m (Tile register source) depth h = h
+tile_small m _ depth h = refl
 
 module _ (z : Laziness) (head : Header) (m : ℕ) where
   mutual
