@@ -54,10 +54,6 @@ use Rattle.code_gen.specs.PassCode.Contract as contract
 use Rattle.tree_model.specs.Passes as trees
 use Rattle.sigma_spl.specs.Good as vectors
 
--- A program that performs passes leaves the same whatever turns come first, and each of its processors counts an equal
--- share of what the passes count.
--- A program that performs passes leaves the same whatever turns come first, and each of its processors counts an equal
--- share of what the passes count.
 -- ---- equal shares
 
 -- n equal shares, of which p make the whole, are n of them

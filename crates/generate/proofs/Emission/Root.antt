@@ -115,8 +115,6 @@ strided-is p v n q j e l =
     ∙ ap (λ z. joined z l)
     (sym (scaled-joined v (scaled n q) j ∙ ap (λ z. joined z (scaled v j)) (scaled-scaled v n q))))
 
--- The sites of a shared root's parts are those of merging, and the passes of its left part are those of the part alone,
--- in all copies.
 -- the turns of a processor and a lane
 pub turns-each : (p v k : ℕ) → 0 < v → 0 < p → (n : ℕ) → n ≡ p * (v * k) → n / v / p ≡ k
 turns-each p v k some many n is =
