@@ -1,9 +1,8 @@
 -- The steps of loops that print a list, or test what is left of it.
-use Rattle.std.proofs.Common.{◌≡◌, ℕ, suc, ◌+◌, ◌<◌, ◌≤◌, Bool, true, ◌&&◌, List, [], ◌∷◌, ◌++◌, length, get_or, drop, sym, ap}
+use Rattle.std.proofs.Common.{◌≡◌, ℕ, suc, ◌+◌, ◌<◌, Bool, true, ◌&&◌, List, ◌∷◌, ◌++◌, length, get_or, drop, sym, ap}
 use Rattle.std.proofs.Common.{◌∙◌, append_assoc, arith}
 use Rattle.std.proofs.Math.Seq.{drop-cons}
 use Rattle.std.proofs.lemmas.Bool.{and_parts}
-use Rattle.std.proofs.lemmas.List.{append-nil, drop_all}
 
 -- what is left of a list begins with this item
 left_is : {A : Type 0} (xs : List A) (i : ℕ) (x : A) → i < length xs → x ≡ get_or xs i x →
@@ -21,12 +20,6 @@ printed_more text one xs i x out new whole lt is parts put so_far =
     let rest = text (i + 1) (drop (i + 1) xs) in
     ap (λ y. y ++ rest) put ∙ append_assoc out (one x) rest ∙ ap (λ y. out ++ y) (sym parts)
     ∙ ap (λ ys. out ++ text i ys) (sym (left_is xs i x lt is)) ∙ so_far
-
--- all of it is printed
-pub printed_all : {A : Type 0} (text : ℕ → List A → List ℕ) (xs : List A) (i : ℕ) (out whole : List ℕ) → length xs ≤ i →
-    text i [] ≡ [] → out ++ text i (drop i xs) ≡ whole → out ≡ whole
-printed_all text xs i out whole le none so_far =
-    sym (append-nil out) ∙ ap (λ y. out ++ y) (sym none) ∙ ap (λ ys. out ++ text i ys) (sym (drop_all i xs le)) ∙ so_far
 
 -- a test that passed on what is left passes on the next item, and on what is left after it
 pub tested_more : {A : Type 0} (test : List A → Bool) (one : A → Bool) (xs : List A) (i : ℕ) (x : A) → i < length xs →
