@@ -1,11 +1,11 @@
 -- The text of a line in C is read back.
-use Rattle.std.proofs.Common.{◌≡◌, ℕ, ◌<◌, ◌≤◌, true, false, eqb, ltb, leb, ◌&&◌, List, [], ◌∷◌, ◌++◌, codes, decimal}
+use Rattle.std.proofs.Common.{◌≡◌, ℕ, ◌<◌, ◌≤◌, true, false, eqb, ltb, ◌&&◌, List, [], ◌∷◌, ◌++◌, codes, decimal}
 use Rattle.std.proofs.Common.{Option, Some, None, Ok, refl, sym, ap, ◌∙◌, append_assoc, arith, inl, inr}
-use Rattle.std.proofs.lemmas.Bool.{ltb-true, leb-true, and_parts, and_from, eq-eqb, ne_eqb}
+use Rattle.std.proofs.lemmas.Bool.{ltb-true, and_parts, and_from, eq-eqb, ne_eqb}
 use Rattle.icode.specs.declared.program.Array.{Array}
 use Rattle.icode.specs.declared.program.Array.TheVariants as arrays
 use Rattle.icode.specs.Plain.{PlainExpr, PlainOp, Load, Store, Zero, Add, Sub, Neg, MulConst, MulTable, Tile}
-use Rattle.icode.specs.Limits.{is_small, is_sum_within, is_expr_within, is_op_within, sum_parts, sum_depth}
+use Rattle.icode.specs.Limits.{is_small, is_expr_within, is_op_within}
 use Rattle.grammar.specs.Grammar.{one_of}
 use Rattle.grammar.specs.Reading.{Place, start, and_then, whole, placed, word_at, number_at, named_number_at, one_of_in}
 use Rattle.grammar.specs.Reading.{one_of_at}
