@@ -1,11 +1,11 @@
 -- The text of a line in C is read back.
-use Rattle.std.proofs.Common.{◌≡◌, ℕ, ◌<◌, ◌≤◌, true, false, eqb, ltb, leb, ◌&&◌, List, [], ◌∷◌, ◌++◌, codes, decimal}
+use Rattle.std.proofs.Common.{◌≡◌, ℕ, ◌<◌, ◌≤◌, true, false, eqb, ltb, ◌&&◌, List, [], ◌∷◌, ◌++◌, codes, decimal}
 use Rattle.std.proofs.Common.{Option, Some, None, Ok, refl, sym, ap, ◌∙◌, append_assoc, arith, inl, inr}
-use Rattle.std.proofs.lemmas.Bool.{ltb-true, leb-true, and_parts, and_from, eq-eqb, ne_eqb}
+use Rattle.std.proofs.lemmas.Bool.{ltb-true, and_parts, and_from, eq-eqb, ne_eqb}
 use Rattle.icode.specs.declared.program.Array.{Array}
 use Rattle.icode.specs.declared.program.Array.TheVariants as arrays
 use Rattle.icode.specs.Plain.{PlainExpr, PlainOp, Load, Store, Zero, Add, Sub, Neg, MulConst, MulTable, Tile}
-use Rattle.icode.specs.Limits.{is_small, is_sum_within, is_expr_within, is_op_within, sum_parts, sum_depth}
+use Rattle.icode.specs.Limits.{is_small, is_expr_within, is_op_within}
 use Rattle.grammar.specs.Grammar.{one_of}
 use Rattle.grammar.specs.Reading.{Place, start, and_then, whole, placed, word_at, number_at, named_number_at, one_of_in}
 use Rattle.grammar.specs.Reading.{one_of_at}
@@ -15,16 +15,15 @@ use Rattle.listing_text.specs.Listing.{sum_text, array_text}
 use Rattle.listing_text.specs.Reading.{above_all, sum_at}
 use Rattle.listing_text.specs.Wording.{PlainAct, Open, Close, Do}
 use Rattle.listing_text.proofs.ReadBack.{Back, then_back, first_digit, word_back, number_back, named_back, small_fits}
-use Rattle.listing_text.proofs.ReadBack.{place_back}
-use Rattle.listing_text.proofs.ActsBack.{IsActWithin}
+use Rattle.listing_text.proofs.ActsBack.{IsActWithin, expr_back, same_back}
 use Rattle.c_print.specs.declared.lines.Word.{Word}
 use Rattle.c_print.specs.declared.lines.Word.TheVariants as words
 use Rattle.c_print.specs.declared.lines.Value.{Value}
 use Rattle.c_print.specs.declared.lines.Value.TheVariants as values
-use Rattle.c_print.specs.CText.{lane_loop, tile_loops, becomes_text, c_op_text}
+use Rattle.c_print.specs.CText.{lane_loop, tile_loops, lane_text, becomes_text, c_op_text}
 use Rattle.c_print.specs.CLines.{c_words, target_words, value_words, factor_words, value_at, target_at, c_operands_at}
 use Rattle.c_print.specs.CLines.{c_act_at, c_line_at}
-use Rattle.c_print.proofs.CSpelt.{c_act_text, ended_text, shape_loop, shape_becomes, shape_call, shape_one}
+use Rattle.c_print.proofs.CSpelt.{call_at, c_act_text, ended_text, shape_loop, shape_becomes, shape_call, shape_one}
 use Rattle.c_print.proofs.CSpelt.{shape_constant, shape_table, shape_load, shape_store, shape_tile}
 
 word_key : (w : List ℕ) (word : Word) (place : Place ℕ) (rest : List ℕ) → one_of c_words w word →
@@ -49,15 +48,6 @@ value_key w value place rest l e =
     ((codes "add(r[", values.Add) ∷ (codes "sub(0, r[", values.Neg) ∷ (codes "sub(r[", values.Sub) ∷ (codes "mul(r[", values.Mul)
     ∷ (codes "X[", values.Load arrays.X) ∷ (codes "Y[", values.Load arrays.Y) ∷ (codes "A[", values.Load arrays.A) ∷ (codes "B[", values.Load arrays.B) ∷ []) refl)
     place w rest value l tt e
-
--- a place, after which this stands
-expr_back : (e : PlainExpr) (loops : ℕ) (w : List ℕ) → is_expr_within e loops ≡ true → loops ≤ 64 →
-    (place : Place ℕ) (rest : List ℕ) → place.rest ≡ sum_text e ++ (codes " + " ++ rest) →
-    Back (sum_at 64) e place (codes " + " ++ rest)
-expr_back e loops w h few place rest is =
-    let limits = and_parts (is_sum_within e loops) (leb (sum_parts e) 64 && leb (sum_depth e) 64) h in
-    let counts = and_parts (leb (sum_parts e) 64) (leb (sum_depth e) 64) limits.1 in
-    place_back e 64 loops limits.0 few (leb-true (sum_parts e) 64 counts.0) (leb-true (sum_depth e) 64 counts.1) place (codes " + " ++ rest) is refl
 
 no_table : (n : ℕ) (rest : List ℕ) (far : ℕ) → n < above_all → placed far (one_of_in factor_words (decimal n ++ rest)) ≡ Ok (false, record { rest = decimal n ++ rest; far = far })
 no_table n rest far fits =
@@ -127,35 +117,23 @@ zero_back register r place rest e =
     becomes_back register r (codes "0;" ++ (10 ∷ rest)) (Do (Zero register)) place (10 ∷ rest) (e ∙ append_assoc (becomes_text register) (codes "0;") (10 ∷ rest)) (λ q e0.
     then_back (one_of_at value_words) (value_at register) values.Zero _ q (10 ∷ rest) (10 ∷ rest) (value_key (codes "0;") values.Zero q (10 ∷ rest) (inl (refl, refl)) e0) (λ q1 e1. (q1, refl, e1)))
 
-add_back : (register left right : ℕ) → register < above_all → left < above_all → right < above_all →
-    (place : Place ℕ) (rest : List ℕ) → place.rest ≡ c_act_text (Do (Add register left right)) ++ (10 ∷ rest) →
-    Back c_act_at (Do (Add register left right)) place (10 ∷ rest)
-unfolding c_op_text
-add_back register left right r a b place rest e =
+-- a function of two registers
+call_back : (name : List ℕ) (value : Value) (op : ℕ → ℕ → ℕ → PlainOp) (register left right : ℕ) →
+    one_of value_words (name ++ codes "r[") value →
+    ((q : Place ℕ) → value_at register value q ≡ call_at register op q)
+    → register < above_all → left < above_all → right < above_all → (place : Place ℕ) (rest : List ℕ)
+    → place.rest ≡ (becomes_text register ++ name ++ lane_text left ++ codes ", " ++ lane_text right ++ codes ");")
+    ++ (10 ∷ rest) → Back c_act_at (Do (op register left right)) place (10 ∷ rest)
+call_back name value op register left right l is r a b place rest e =
     let t3 : List ℕ = codes "][l]);" ++ (10 ∷ rest) in
     let t2 : List ℕ = codes "][l], r[" ++ (decimal right ++ t3) in
     let t1 : List ℕ = decimal left ++ t2 in
-    becomes_back register r (codes "add(r[" ++ t1) (Do (Add register left right)) place (10 ∷ rest)
-    (e ∙ sym (shape_call (becomes_text register) (codes "add(") (codes "r[") (decimal left) (codes "][l]") (codes ", ") (decimal right) (codes ");") (10 ∷ rest))) (λ q e0.
-    then_back (one_of_at value_words) (value_at register) values.Add _ q t1 (10 ∷ rest) (value_key (codes "add(r[") values.Add q t1 (inr (inl (refl, refl))) e0) (λ q1 e1.
-    then_back (number_at above_all) _ left _ q1 t2 (10 ∷ rest) (number_back left q1 t2 a refl e1) (λ q2 e2.
+    becomes_back register r ((name ++ codes "r[") ++ t1) (Do (op register left right)) place (10 ∷ rest)
+    (e ∙ sym (shape_call (becomes_text register) name (codes "r[") (decimal left) (codes "][l]") (codes ", ") (decimal right) (codes ");") (10 ∷ rest)) ∙ ap (λ y. becomes_text register ++ y) (sym (append_assoc name (codes "r[") t1))) (λ q e0.
+    then_back (one_of_at value_words) (value_at register) value _ q t1 (10 ∷ rest) (value_key (name ++ codes "r[") value q t1 l e0) (λ q1 e1. same_back (value_at register value) (call_at register op) _ q1 (10 ∷ rest) (is q1)
+    (then_back (number_at above_all) _ left _ q1 t2 (10 ∷ rest) (number_back left q1 t2 a refl e1) (λ q2 e2.
     then_back (named_number_at (codes "][l], r[") above_all) _ right _ q2 t3 (10 ∷ rest) (named_back (codes "][l], r[") right q2 t3 b refl e2) (λ q3 e3.
-    then_back (word_at (codes "][l]);")) _ tt _ q3 (10 ∷ rest) (10 ∷ rest) (word_back (codes "][l]);") q3 (10 ∷ rest) e3) (λ q4 e4. (q4, refl, e4))))))
-
-sub_back : (register left right : ℕ) → register < above_all → left < above_all → right < above_all →
-    (place : Place ℕ) (rest : List ℕ) → place.rest ≡ c_act_text (Do (Sub register left right)) ++ (10 ∷ rest) →
-    Back c_act_at (Do (Sub register left right)) place (10 ∷ rest)
-unfolding c_op_text
-sub_back register left right r a b place rest e =
-    let t3 : List ℕ = codes "][l]);" ++ (10 ∷ rest) in
-    let t2 : List ℕ = codes "][l], r[" ++ (decimal right ++ t3) in
-    let t1 : List ℕ = decimal left ++ t2 in
-    becomes_back register r (codes "sub(r[" ++ t1) (Do (Sub register left right)) place (10 ∷ rest)
-    (e ∙ sym (shape_call (becomes_text register) (codes "sub(") (codes "r[") (decimal left) (codes "][l]") (codes ", ") (decimal right) (codes ");") (10 ∷ rest))) (λ q e0.
-    then_back (one_of_at value_words) (value_at register) values.Sub _ q t1 (10 ∷ rest) (value_key (codes "sub(r[") values.Sub q t1 (inr (inr (inr (inl (refl, refl))))) e0) (λ q1 e1.
-    then_back (number_at above_all) _ left _ q1 t2 (10 ∷ rest) (number_back left q1 t2 a refl e1) (λ q2 e2.
-    then_back (named_number_at (codes "][l], r[") above_all) _ right _ q2 t3 (10 ∷ rest) (named_back (codes "][l], r[") right q2 t3 b refl e2) (λ q3 e3.
-    then_back (word_at (codes "][l]);")) _ tt _ q3 (10 ∷ rest) (10 ∷ rest) (word_back (codes "][l]);") q3 (10 ∷ rest) e3) (λ q4 e4. (q4, refl, e4))))))
+    then_back (word_at (codes "][l]);")) _ tt _ q3 (10 ∷ rest) (10 ∷ rest) (word_back (codes "][l]);") q3 (10 ∷ rest) e3) (λ q4 e4. (q4, refl, e4)))))))
 
 neg_back : (register source : ℕ) → register < above_all → source < above_all → (place : Place ℕ) (rest : List ℕ) →
     place.rest ≡ c_act_text (Do (Neg register source)) ++ (10 ∷ rest) →
@@ -209,7 +187,7 @@ table_back register source table at step loops r a b d h few place rest e =
     then_back (one_of_at factor_words) _ true _ q3 t3 (10 ∷ rest) (record { rest = t3; far = q3.far }, ap (λ y. placed q3.far (one_of_in factor_words y)) e3, refl) (λ q4 e4.
     then_back (number_at above_all) _ table _ q4 (codes "[" ++ t4) (10 ∷ rest) (number_back table q4 (codes "[" ++ t4) b refl e4) (λ q5 e5.
     then_back (word_at (codes "[")) _ tt _ q5 t4 (10 ∷ rest) (word_back (codes "[") q5 t4 e5) (λ q6 e6.
-    then_back (sum_at 64) _ at _ q6 t5 (10 ∷ rest) (expr_back at loops [] h few q6 t6 e6) (λ q7 e7.
+    then_back (sum_at 64) _ at _ q6 t5 (10 ∷ rest) (expr_back at loops h few q6 t5 e6 refl) (λ q7 e7.
     then_back (named_number_at (codes " + ") above_all) _ step _ q7 t7 (10 ∷ rest) (named_back (codes " + ") step q7 t7 d refl e7) (λ q8 e8.
     then_back (word_at (codes " * l]);")) _ tt _ q8 (10 ∷ rest) (10 ∷ rest) (word_back (codes " * l]);") q8 (10 ∷ rest) e8) (λ q9 e9. (q9, refl, e9)))))))))))
 
@@ -238,7 +216,7 @@ load_back register array at loops r h few place rest e =
     becomes_back register r ((array_text array ++ codes "[") ++ t1) (Do (Load register array at)) place (10 ∷ rest)
     (e ∙ sym (shape_load (becomes_text register) (array_text array) (codes "[") (sum_text at) (codes " + l];") (10 ∷ rest))) (λ q e0.
     then_back (one_of_at value_words) (value_at register) (values.Load array) _ q t1 (10 ∷ rest) (value_key (array_text array ++ codes "[") (values.Load array) q t1 (array_value array) e0) (λ q1 e1.
-    then_back (sum_at 64) _ at _ q1 t2 (10 ∷ rest) (expr_back at loops [] h few q1 (codes "l];" ++ (10 ∷ rest)) e1) (λ q2 e2.
+    then_back (sum_at 64) _ at _ q1 t2 (10 ∷ rest) (expr_back at loops h few q1 t2 e1 refl) (λ q2 e2.
     then_back (word_at (codes " + l];")) _ tt _ q2 (10 ∷ rest) (10 ∷ rest) (word_back (codes " + l];") q2 (10 ∷ rest) e2) (λ q3 e3. (q3, refl, e3)))))
 
 store_back : (array : Array) (at : PlainExpr) (register loops : ℕ) → register < above_all →
@@ -255,7 +233,7 @@ store_back array at register loops r h few place rest e =
     e ∙ sym (shape_store lane_loop (array_text array) (codes "[") (sum_text at) (codes " + l] = ") (codes "r[") (decimal register) (codes "][l]") (codes ";") (10 ∷ rest)) in
     then_back (one_of_at c_words) c_operands_at words.Lanes _ place t1 (10 ∷ rest) (word_key (codes "for (int l = 0; l < V; l++) ") words.Lanes place t1 (inr (inr (inl (refl, refl)))) is) (λ q1 e1.
     then_back (one_of_at target_words) target_at (Some array) _ q1 t2 (10 ∷ rest) (target_key (array_text array ++ codes "[") (Some array) q1 t2 (array_target array) e1) (λ q2 e2.
-    then_back (sum_at 64) _ at _ q2 t3 (10 ∷ rest) (expr_back at loops [] h few q2 (codes "l] = r[" ++ (decimal register ++ t4)) e2) (λ q3 e3.
+    then_back (sum_at 64) _ at _ q2 t3 (10 ∷ rest) (expr_back at loops h few q2 t3 e2 refl) (λ q3 e3.
     then_back (named_number_at (codes " + l] = r[") above_all) _ register _ q3 t4 (10 ∷ rest) (named_back (codes " + l] = r[") register q3 t4 r refl e3) (λ q4 e4.
     then_back (word_at (codes "][l];")) _ tt _ q4 (10 ∷ rest) (10 ∷ rest) (word_back (codes "][l];") q4 (10 ∷ rest) e4) (λ q5 e5. (q5, refl, e5))))))
 
@@ -264,6 +242,7 @@ store_back array at register loops r h few place rest e =
 op_back : (m loops : ℕ) (op : PlainOp) → m ≤ above_all → loops ≤ 64 → is_op_within m op loops ≡ true →
     (place : Place ℕ) (rest : List ℕ) → place.rest ≡ c_act_text (Do op) ++ (10 ∷ rest) →
     Back c_act_at (Do op) place (10 ∷ rest)
+unfolding c_op_text
 op_back m loops (Load register array at) below few w place rest e =
     let limits = and_parts (is_small register) (is_expr_within at loops) w in
     load_back register array at loops (small_fits register limits.0) limits.1 few place rest e
@@ -274,11 +253,11 @@ op_back m loops (Zero register) below few w place rest e = zero_back register (s
 op_back m loops (Add register left right) below few w place rest e =
     let limits = and_parts (is_small register) (is_small left && is_small right) w in
     let others = and_parts (is_small left) (is_small right) limits.1 in
-    add_back register left right (small_fits register limits.0) (small_fits left others.0) (small_fits right others.1) place rest e
+    call_back (codes "add(") values.Add Add register left right (inr (inl (refl, refl))) (λ q. refl) (small_fits register limits.0) (small_fits left others.0) (small_fits right others.1) place rest e
 op_back m loops (Sub register left right) below few w place rest e =
     let limits = and_parts (is_small register) (is_small left && is_small right) w in
     let others = and_parts (is_small left) (is_small right) limits.1 in
-    sub_back register left right (small_fits register limits.0) (small_fits left others.0) (small_fits right others.1) place rest e
+    call_back (codes "sub(") values.Sub Sub register left right (inr (inr (inr (inl (refl, refl))))) (λ q. refl) (small_fits register limits.0) (small_fits left others.0) (small_fits right others.1) place rest e
 op_back m loops (Neg register source) below few w place rest e =
     let limits = and_parts (is_small register) (is_small source) w in
     neg_back register source (small_fits register limits.0) (small_fits source limits.1) place rest e

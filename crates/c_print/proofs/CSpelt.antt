@@ -1,23 +1,22 @@
 -- What is read of a line in C is its text.
-use Rattle.std.proofs.Common.{◌≡◌, ℕ, ◌≤◌, Bool, true, false, eqb, ◌&&◌, List, ◌++◌, codes, decimal, Option, Some, None}
-use Rattle.std.proofs.Common.{Ok, refl, sym, ap, subst, ◌∙◌, append_assoc, inl, inr}
+use Rattle.std.proofs.Common.{◌≡◌, ℕ, ◌≤◌, Bool, true, false, eqb, ◌&&◌, List, ◌++◌, codes, decimal, Some, None, Result}
+use Rattle.std.proofs.Common.{Ok, refl, sym, ap, ◌∙◌, append_assoc}
 use Rattle.std.proofs.lemmas.Bool.{and_parts, eqb-true}
 use Rattle.icode.specs.declared.program.Array.{Array}
 use Rattle.icode.specs.declared.program.Array.TheVariants as arrays
 use Rattle.icode.specs.Limits.{sum_depth}
-use Rattle.grammar.specs.Grammar.{one_of}
-use Rattle.grammar.specs.Reading.{Place, start, whole}
+use Rattle.icode.specs.Plain.{PlainOp, Add, Sub}
+use Rattle.grammar.specs.Reading.{Place, ◌>>=◌, and_then, pure_at, start, whole, word_at, one_of_at, number_at, named_number_at}
 use Rattle.listing_text.specs.Listing.{sum_text, array_text}
-use Rattle.listing_text.specs.Reading.{sum_at}
+use Rattle.listing_text.specs.Reading.{above_all, sum_at}
 use Rattle.listing_text.specs.Wording.{PlainAct, Open, Close, Do}
-use Rattle.listing_text.specs.Acts.{ActFits}
-use Rattle.listing_text.proofs.Spelt.{Spelt, spelt_then, word_then, number_then, named_then, key_then, place_spelt}
+use Rattle.listing_text.specs.Acts.{OpFits, ActFits}
+use Rattle.listing_text.proofs.Spelt.{Spelt, ◌also◌, none, spelt_then, word_then, number_then, named_then, words_then}
+use Rattle.listing_text.proofs.Spelt.{place_spelt}
 use Rattle.listing_text.proofs.ActsSpelt.{whole_spelt}
-use Rattle.c_print.specs.declared.lines.Word.{Word}
 use Rattle.c_print.specs.declared.lines.Word.TheVariants as words
-use Rattle.c_print.specs.declared.lines.Value.{Value}
 use Rattle.c_print.specs.declared.lines.Value.TheVariants as values
-use Rattle.c_print.specs.CText.{lane_loop, tile_loops, becomes_text, c_op_text}
+use Rattle.c_print.specs.CText.{lane_loop, tile_loops, lane_text, becomes_text, c_op_text}
 use Rattle.c_print.specs.CLines.{c_words, target_words, value_words, factor_words, same_loop, loop_at, tile_at}
 use Rattle.c_print.specs.CLines.{c_factor_at, value_at, target_at, c_operands_at, c_act_at, c_line_at}
 
@@ -113,35 +112,34 @@ tile_spelt s q e =
 
 -- ---- what a register becomes
 
+abbrev pub call_at : ℕ → (ℕ → ℕ → ℕ → PlainOp) → Place ℕ → Result (PlainAct × Place ℕ) ℕ
+call_at register op = do
+  left ← number_at above_all
+  right ← named_number_at (codes "][l], r[") above_all
+  _ ← word_at (codes "][l]);")
+  pure_at (Do (op register left right))
+
 module _ (s : List ℕ) (register : ℕ) where
   zero_spelt : (q : Place ℕ) → s ≡ becomes_text register ++ (codes "0;" ++ q.rest) →
       Spelt ActFits c_act_text s (value_at register values.Zero q)
   unfolding c_op_text
   zero_spelt q e = (tt, e ∙ sym (append_assoc (becomes_text register) (codes "0;") q.rest))
 
-  add_spelt : (q : Place ℕ) → s ≡ becomes_text register ++ (codes "add(r[" ++ q.rest) →
-      Spelt ActFits c_act_text s (value_at register values.Add q)
-  unfolding c_op_text
-  add_spelt q e =
+  -- a function of two registers
+  call_spelt : (name : List ℕ) (op : ℕ → ℕ → ℕ → PlainOp) → ((left right : ℕ) → OpFits (op register left right)
+      × (c_op_text (op register left right) ≡ becomes_text register ++ name ++ lane_text left ++ codes ", "
+      ++ lane_text right ++ codes ");")) → (q : Place ℕ) → s ≡ becomes_text register ++ ((name ++ codes "r[") ++ q.rest) →
+      Spelt ActFits c_act_text s (call_at register op q)
+  call_spelt name op is q e =
       number_then ActFits c_act_text s q _ (λ left q1 e1.
       named_then ActFits c_act_text s (codes "][l], r[") q1 _ (λ right q2 e2.
-      word_then ActFits c_act_text s (codes "][l]);") q2 _ (λ w q3 e3. (
-        tt,
-        e ∙ ap (λ y. becomes_text register ++ (codes "add(r[" ++ y)) (e1 ∙ ap (λ y. decimal left ++ y) (e2 ∙ ap (λ y. codes "][l], r[" ++ (decimal right ++ y)) e3))
-            ∙ shape_call (becomes_text register) (codes "add(") (codes "r[") (decimal left) (codes "][l]") (codes ", ") (decimal right) (codes ");") q3.rest,
-      ))))
-
-  sub_spelt : (q : Place ℕ) → s ≡ becomes_text register ++ (codes "sub(r[" ++ q.rest) →
-      Spelt ActFits c_act_text s (value_at register values.Sub q)
-  unfolding c_op_text
-  sub_spelt q e =
-      number_then ActFits c_act_text s q _ (λ left q1 e1.
-      named_then ActFits c_act_text s (codes "][l], r[") q1 _ (λ right q2 e2.
-      word_then ActFits c_act_text s (codes "][l]);") q2 _ (λ w q3 e3. (
-        tt,
-        e ∙ ap (λ y. becomes_text register ++ (codes "sub(r[" ++ y)) (e1 ∙ ap (λ y. decimal left ++ y) (e2 ∙ ap (λ y. codes "][l], r[" ++ (decimal right ++ y)) e3))
-            ∙ shape_call (becomes_text register) (codes "sub(") (codes "r[") (decimal left) (codes "][l]") (codes ", ") (decimal right) (codes ");") q3.rest,
-      ))))
+      word_then ActFits c_act_text s (codes "][l]);") q2 _ (λ w q3 e3.
+      let text = is left right in
+      let joined : s ≡ (becomes_text register ++ name ++ lane_text left ++ codes ", " ++ lane_text right ++ codes ");") ++ q3.rest =
+      e ∙ ap (λ y. becomes_text register ++ ((name ++ codes "r[") ++ y)) (e1 ∙ ap (λ y. decimal left ++ y) (e2 ∙ ap (λ y. codes "][l], r[" ++ (decimal right ++ y)) e3))
+      ∙ ap (λ y. becomes_text register ++ y) (append_assoc name (codes "r[") (decimal left ++ (codes "][l], r[" ++ (decimal right ++ (codes "][l]);" ++ q3.rest)))))
+      ∙ shape_call (becomes_text register) name (codes "r[") (decimal left) (codes "][l]") (codes ", ") (decimal right) (codes ");") q3.rest in
+      (text.0, joined ∙ ap (λ y. y ++ q3.rest) (sym text.1)))))
 
   neg_spelt : (q : Place ℕ) → s ≡ becomes_text register ++ (codes "sub(0, r[" ++ q.rest) →
       Spelt ActFits c_act_text s (value_at register values.Neg q)
@@ -194,38 +192,30 @@ module _ (s : List ℕ) (register : ℕ) where
             ∙ shape_table (becomes_text register) (codes "mul(") (codes "r[") (decimal source) (codes "][l]") (codes ", t") (decimal table) (codes "[") (sum_text at) (codes " + ") (decimal step) (codes " * l]);") q5.rest,
       ))))))
 
-  factor_spelt : (source : ℕ) (q q1 : Place ℕ) (t : List ℕ) (is_table : Bool) →
-      s ≡ becomes_text register ++ (codes "mul(r[" ++ (decimal source ++ (codes "][l], " ++ q.rest))) →
-      q.rest ≡ t ++ q1.rest → one_of factor_words t is_table
-      → Spelt ActFits c_act_text s (c_factor_at register source is_table q1)
-  factor_spelt source q q1 t is_table e e1 (inl l) =
-      subst (λ b. Spelt ActFits c_act_text s (c_factor_at register source b q1)) (sym l.1)
-      (table_spelt source q1 (e ∙ ap (λ y. becomes_text register ++ (codes "mul(r[" ++ (decimal source ++ (codes "][l], " ++ y)))) (e1 ∙ ap (λ y. y ++ q1.rest) l.0)))
-  factor_spelt source q q1 t is_table e e1 (inr (inl l)) =
-      subst (λ b. Spelt ActFits c_act_text s (c_factor_at register source b q1)) (sym l.1)
-      (constant_spelt source q1 (e ∙ ap (λ y. becomes_text register ++ (codes "mul(r[" ++ (decimal source ++ (codes "][l], " ++ y)))) (e1 ∙ ap (λ y. y ++ q1.rest) l.0)))
-  factor_spelt source q q1 t is_table e e1 (inr (inr l)) = absurd l
-
   mul_spelt : (q : Place ℕ) → s ≡ becomes_text register ++ (codes "mul(r[" ++ q.rest) →
       Spelt ActFits c_act_text s (value_at register values.Mul q)
   mul_spelt q e =
       number_then ActFits c_act_text s q _ (λ source q1 e1.
       word_then ActFits c_act_text s (codes "][l], ") q1 _ (λ w q2 e2.
-      key_then factor_words ActFits c_act_text s q2 _ (λ is_table q3 t3 e3 l3.
-      factor_spelt source q2 q3 t3 is_table (e ∙ ap (λ y. becomes_text register ++ (codes "mul(r[" ++ y)) (e1 ∙ ap (λ y. decimal source ++ y) e2)) e3 l3)))
+      let so_far : s ≡ becomes_text register ++ (codes "mul(r[" ++ (decimal source ++ (codes "][l], " ++ q2.rest))) = e ∙ ap (λ y. becomes_text register ++ (codes "mul(r[" ++ y)) (e1 ∙ ap (λ y. decimal source ++ y) e2) in
+      let join : (y z : List ℕ) → y ≡ z → becomes_text register ++ (codes "mul(r[" ++ (decimal source ++ (codes "][l], " ++ y))) ≡ becomes_text register ++ (codes "mul(r[" ++ (decimal source ++ (codes "][l], " ++ z))) =
+      λ y z e. ap (λ y. becomes_text register ++ (codes "mul(r[" ++ (decimal source ++ (codes "][l], " ++ y)))) e in
+      words_then factor_words ActFits c_act_text s q2 _
+      ((λ q3 e3. table_spelt source q3 (so_far ∙ join _ _ e3)) also (λ q3 e3. constant_spelt source q3 (so_far ∙ join _ _ e3)) also none)))
 
-  value_spelt : (value : Value) (q : Place ℕ) (t : List ℕ) → s ≡ becomes_text register ++ (t ++ q.rest) →
-      one_of value_words t value → Spelt ActFits c_act_text s (value_at register value q)
-  value_spelt value q t e (inl l) = subst (λ v. Spelt ActFits c_act_text s (value_at register v q)) (sym l.1) (zero_spelt q (e ∙ ap (λ y. becomes_text register ++ (y ++ q.rest)) l.0))
-  value_spelt value q t e (inr (inl l)) = subst (λ v. Spelt ActFits c_act_text s (value_at register v q)) (sym l.1) (add_spelt q (e ∙ ap (λ y. becomes_text register ++ (y ++ q.rest)) l.0))
-  value_spelt value q t e (inr (inr (inl l))) = subst (λ v. Spelt ActFits c_act_text s (value_at register v q)) (sym l.1) (neg_spelt q (e ∙ ap (λ y. becomes_text register ++ (y ++ q.rest)) l.0))
-  value_spelt value q t e (inr (inr (inr (inl l)))) = subst (λ v. Spelt ActFits c_act_text s (value_at register v q)) (sym l.1) (sub_spelt q (e ∙ ap (λ y. becomes_text register ++ (y ++ q.rest)) l.0))
-  value_spelt value q t e (inr (inr (inr (inr (inl l))))) = subst (λ v. Spelt ActFits c_act_text s (value_at register v q)) (sym l.1) (mul_spelt q (e ∙ ap (λ y. becomes_text register ++ (y ++ q.rest)) l.0))
-  value_spelt value q t e (inr (inr (inr (inr (inr (inl l)))))) = subst (λ v. Spelt ActFits c_act_text s (value_at register v q)) (sym l.1) (load_spelt arrays.X q (e ∙ ap (λ y. becomes_text register ++ (y ++ q.rest)) l.0))
-  value_spelt value q t e (inr (inr (inr (inr (inr (inr (inl l))))))) = subst (λ v. Spelt ActFits c_act_text s (value_at register v q)) (sym l.1) (load_spelt arrays.Y q (e ∙ ap (λ y. becomes_text register ++ (y ++ q.rest)) l.0))
-  value_spelt value q t e (inr (inr (inr (inr (inr (inr (inr (inl l)))))))) = subst (λ v. Spelt ActFits c_act_text s (value_at register v q)) (sym l.1) (load_spelt arrays.A q (e ∙ ap (λ y. becomes_text register ++ (y ++ q.rest)) l.0))
-  value_spelt value q t e (inr (inr (inr (inr (inr (inr (inr (inr (inl l))))))))) = subst (λ v. Spelt ActFits c_act_text s (value_at register v q)) (sym l.1) (load_spelt arrays.B q (e ∙ ap (λ y. becomes_text register ++ (y ++ q.rest)) l.0))
-  value_spelt value q t e (inr (inr (inr (inr (inr (inr (inr (inr (inr l))))))))) = absurd l
+  value_spelt : (q : Place ℕ) → s ≡ becomes_text register ++ q.rest →
+      Spelt ActFits c_act_text s (and_then (one_of_at value_words q) (value_at register))
+  unfolding c_op_text
+  value_spelt q e =
+      let join : (y z : List ℕ) → y ≡ z → becomes_text register ++ y ≡ becomes_text register ++ z = λ y z e. ap (λ y. becomes_text register ++ y) e in
+      words_then value_words ActFits c_act_text s q _
+      ((λ q1 e1. zero_spelt q1 (e ∙ join _ _ e1))
+      also (λ q1 e1. call_spelt (codes "add(") Add (λ left right. (tt, refl)) q1 (e ∙ join _ _ e1))
+      also (λ q1 e1. neg_spelt q1 (e ∙ join _ _ e1))
+      also (λ q1 e1. call_spelt (codes "sub(") Sub (λ left right. (tt, refl)) q1 (e ∙ join _ _ e1))
+      also (λ q1 e1. mul_spelt q1 (e ∙ join _ _ e1))
+      also (λ q1 e1. load_spelt arrays.X q1 (e ∙ join _ _ e1)) also (λ q1 e1. load_spelt arrays.Y q1 (e ∙ join _ _ e1))
+      also (λ q1 e1. load_spelt arrays.A q1 (e ∙ join _ _ e1)) also (λ q1 e1. load_spelt arrays.B q1 (e ∙ join _ _ e1)) also none)
 
 -- ---- what the lanes go to
 
@@ -234,9 +224,8 @@ register_spelt : (s : List ℕ) (q : Place ℕ) → s ≡ lane_loop ++ (codes "r
 register_spelt s q e =
     number_then ActFits c_act_text s q _ (λ register q1 e1.
     word_then ActFits c_act_text s (codes "][l] = ") q1 _ (λ w q2 e2.
-    key_then value_words ActFits c_act_text s q2 _ (λ value q3 t3 e3 l3.
-    value_spelt s register value q3 t3
-    (e ∙ ap (λ y. lane_loop ++ (codes "r[" ++ y)) (e1 ∙ ap (λ y. decimal register ++ y) (e2 ∙ ap (λ y. codes "][l] = " ++ y) e3)) ∙ shape_becomes lane_loop (codes "r[") (decimal register) (codes "][l]") (codes " = ") (t3 ++ q3.rest)) l3)))
+    value_spelt s register q2
+    (e ∙ ap (λ y. lane_loop ++ (codes "r[" ++ y)) (e1 ∙ ap (λ y. decimal register ++ y) e2) ∙ shape_becomes lane_loop (codes "r[") (decimal register) (codes "][l]") (codes " = ") q2.rest)))
 
 store_spelt : (s : List ℕ) (array : Array) (q : Place ℕ) → s ≡ lane_loop
     ++ ((array_text array ++ codes "[") ++ q.rest) → Spelt ActFits c_act_text s (target_at (Some array) q)
@@ -250,32 +239,21 @@ store_spelt s array q e =
           ∙ shape_store lane_loop (array_text array) (codes "[") (sum_text at) (codes " + l] = ") (codes "r[") (decimal register) (codes "][l]") (codes ";") q3.rest,
     ))))
 
-target_spelt : (s : List ℕ) (target : Option Array) (q : Place ℕ) (t : List ℕ) → s ≡ lane_loop ++ (t ++ q.rest) →
-    one_of target_words t target → Spelt ActFits c_act_text s (target_at target q)
-target_spelt s target q t e (inl l) = subst (λ x. Spelt ActFits c_act_text s (target_at x q)) (sym l.1) (register_spelt s q (e ∙ ap (λ y. lane_loop ++ (y ++ q.rest)) l.0))
-target_spelt s target q t e (inr (inl l)) = subst (λ x. Spelt ActFits c_act_text s (target_at x q)) (sym l.1) (store_spelt s arrays.X q (e ∙ ap (λ y. lane_loop ++ (y ++ q.rest)) l.0))
-target_spelt s target q t e (inr (inr (inl l))) = subst (λ x. Spelt ActFits c_act_text s (target_at x q)) (sym l.1) (store_spelt s arrays.Y q (e ∙ ap (λ y. lane_loop ++ (y ++ q.rest)) l.0))
-target_spelt s target q t e (inr (inr (inr (inl l)))) = subst (λ x. Spelt ActFits c_act_text s (target_at x q)) (sym l.1) (store_spelt s arrays.A q (e ∙ ap (λ y. lane_loop ++ (y ++ q.rest)) l.0))
-target_spelt s target q t e (inr (inr (inr (inr (inl l))))) = subst (λ x. Spelt ActFits c_act_text s (target_at x q)) (sym l.1) (store_spelt s arrays.B q (e ∙ ap (λ y. lane_loop ++ (y ++ q.rest)) l.0))
-target_spelt s target q t e (inr (inr (inr (inr (inr l))))) = absurd l
-
 lanes_spelt : (s : List ℕ) (q : Place ℕ) → s ≡ codes "for (int l = 0; l < V; l++) " ++ q.rest → Spelt ActFits c_act_text s (c_operands_at words.Lanes q)
 unfolding lane_loop
-lanes_spelt s q e = key_then target_words ActFits c_act_text s q _ (λ target q1 t1 e1 l1. target_spelt s target q1 t1 (e ∙ ap (λ y. codes "for (int l = 0; l < V; l++) " ++ y) e1) l1)
+lanes_spelt s q e =
+    let join : (y : List ℕ) → q.rest ≡ y → s ≡ lane_loop ++ y = λ y e1. e ∙ ap (λ y. codes "for (int l = 0; l < V; l++) " ++ y) e1 in
+    words_then target_words ActFits c_act_text s q _
+    ((λ q1 e1. register_spelt s q1 (join _ e1)) also (λ q1 e1. store_spelt s arrays.X q1 (join _ e1)) also (λ q1 e1. store_spelt s arrays.Y q1 (join _ e1))
+    also (λ q1 e1. store_spelt s arrays.A q1 (join _ e1)) also (λ q1 e1. store_spelt s arrays.B q1 (join _ e1)) also none)
 
 -- ---- a line
 
-operands_spelt : (s : List ℕ) (word : Word) (q : Place ℕ) (t : List ℕ) → s ≡ t ++ q.rest → one_of c_words t word →
-    Spelt ActFits c_act_text s (c_operands_at word q)
-operands_spelt s word q t e (inl l) = subst (λ w. Spelt ActFits c_act_text s (c_operands_at w q)) (sym l.1) (loop_spelt s q (e ∙ ap (λ y. y ++ q.rest) l.0))
-operands_spelt s word q t e (inr (inl l)) = subst (λ w. Spelt ActFits c_act_text s (c_operands_at w q)) (sym l.1) (tile_spelt s q (e ∙ ap (λ y. y ++ q.rest) l.0))
-operands_spelt s word q t e (inr (inr (inl l))) = subst (λ w. Spelt ActFits c_act_text s (c_operands_at w q)) (sym l.1) (lanes_spelt s q (e ∙ ap (λ y. y ++ q.rest) l.0))
-operands_spelt s word q t e (inr (inr (inr (inl l)))) = subst (λ w. Spelt ActFits c_act_text s (c_operands_at w q)) (sym l.1) (tt, e ∙ ap (λ y. y ++ q.rest) l.0)
-operands_spelt s word q t e (inr (inr (inr (inr l)))) = absurd l
-
 act_spelt : (place : Place ℕ) → Spelt ActFits c_act_text place.rest (c_act_at place)
 unfolding c_act_at
-act_spelt place = key_then c_words ActFits c_act_text place.rest place _ (λ word q t e l. operands_spelt place.rest word q t e l)
+act_spelt place =
+    let s : List ℕ = place.rest in
+    words_then c_words ActFits c_act_text s place _ (loop_spelt s also tile_spelt s also lanes_spelt s also (λ q e. (tt, e)) also none)
 
 line_spelt_at : (place : Place ℕ) → Spelt ActFits ended_text place.rest (c_line_at place)
 unfolding c_line_at

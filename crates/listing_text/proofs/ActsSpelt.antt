@@ -1,27 +1,23 @@
 -- What is read of a phase's line is its text.
-use Rattle.std.proofs.Common.{◌≡◌, ℕ, ◌≤◌, Bool, true, false, List, [], ◌∷◌, ◌++◌, codes, decimal, Result, Ok, Err}
-use Rattle.std.proofs.Common.{refl, sym, ap, subst, ◌∙◌, append_assoc, inl, inr}
+use Rattle.std.proofs.Common.{◌≡◌, ℕ, ◌≤◌, true, false, List, [], ◌∷◌, ◌++◌, codes, decimal, Result, Ok, Err}
+use Rattle.std.proofs.Common.{refl, sym, ap, subst, ◌∙◌, append_assoc}
 use Rattle.std.proofs.lemmas.List.{append-nil}
 use Rattle.icode.specs.declared.program.Array.{Array}
-use Rattle.icode.specs.Plain.{PlainExpr}
+use Rattle.icode.specs.Plain.{PlainExpr, PlainOp, Add, Sub, Neg, Tile}
 use Rattle.icode.specs.Limits.{sum_depth}
 use Rattle.grammar.specs.Grammar.{one_of}
-use Rattle.grammar.specs.Reading.{Place, start, ended, to_end, whole}
-use Rattle.listing_text.specs.declared.acts.Word.{Word}
+use Rattle.grammar.specs.Reading.{Place, ◌>>=◌, pure_at, start, ended, to_end, whole, number_at, named_number_at}
 use Rattle.listing_text.specs.declared.acts.Word.TheVariants as words
-use Rattle.listing_text.specs.Listing.{sum_text, array_text, place_text, act_text, line_text}
-use Rattle.listing_text.specs.Reading.{sum_at}
-use Rattle.listing_text.specs.Wording.{PlainAct}
-use Rattle.listing_text.specs.Acts.{ActFits, act_words, array_words, factor_words, factor_at, operands_at, act_at}
+use Rattle.listing_text.specs.Listing.{sum_text, array_text, place_text, op_text, act_text, line_text}
+use Rattle.listing_text.specs.Reading.{above_all, sum_at}
+use Rattle.listing_text.specs.Wording.{PlainAct, Do}
+use Rattle.listing_text.specs.Acts.{OpFits, ActFits, act_words, array_words, factor_words, factor_at, operands_at, act_at}
 use Rattle.listing_text.specs.Acts.{act_line_at}
-use Rattle.listing_text.proofs.Spelt.{Spelt, spelt_then, word_then, number_then, named_then, key_then, place_spelt}
+use Rattle.listing_text.proofs.Spelt.{Spelt, ◌also◌, none, spelt_then, word_then, number_then, named_then, key_then}
+use Rattle.listing_text.proofs.Spelt.{each_is, words_then, place_spelt}
 
 array_is : (t : List ℕ) (array : Array) → one_of array_words t array → t ≡ array_text array ++ codes "["
-array_is t array (inl l) = rw (l.0, l.1) refl
-array_is t array (inr (inl l)) = rw (l.0, l.1) refl
-array_is t array (inr (inr (inl l))) = rw (l.0, l.1) refl
-array_is t array (inr (inr (inr (inl l)))) = rw (l.0, l.1) refl
-array_is t array (inr (inr (inr (inr l)))) = absurd l
+array_is t array l = each_is (λ t array. t ≡ array_text array ++ codes "[") array_words t array (record { all = (refl, (refl, (refl, (refl, tt)))) }) l
 
 for_spelt : (s : List ℕ) (q : Place ℕ) → s ≡ codes "for v" ++ q.rest →
     Spelt ActFits act_text s (operands_at words.For q)
@@ -68,37 +64,41 @@ zero_spelt : (s : List ℕ) (q : Place ℕ) → s ≡ codes "zero r" ++ q.rest �
     Spelt ActFits act_text s (operands_at words.Zero q)
 zero_spelt s q e = number_then ActFits act_text s q _ (λ register q1 e1. (tt, e ∙ ap (λ y. codes "zero r" ++ y) e1 ∙ simp append_assoc))
 
-add_spelt : (s : List ℕ) (q : Place ℕ) → s ≡ codes "add r" ++ q.rest →
-    Spelt ActFits act_text s (operands_at words.Add q)
-add_spelt s q e =
+abbrev pub pair_at : (ℕ → ℕ → PlainOp) → Place ℕ → Result (PlainAct × Place ℕ) ℕ
+pair_at op = do
+  register ← number_at above_all
+  source ← named_number_at (codes " r") above_all
+  pure_at (Do (op register source))
+
+abbrev pub triple_at : (ℕ → ℕ → ℕ → PlainOp) → Place ℕ → Result (PlainAct × Place ℕ) ℕ
+triple_at op = do
+  register ← number_at above_all
+  left ← named_number_at (codes " r") above_all
+  right ← named_number_at (codes " r") above_all
+  pure_at (Do (op register left right))
+
+-- an operation on one register, and on two
+pair_spelt : (s w : List ℕ) (op : ℕ → ℕ → PlainOp) → ((register source : ℕ) → OpFits (op register source)
+    × (op_text (op register source) ≡ w ++ decimal register ++ codes " r" ++ decimal source)) → (q : Place ℕ) →
+    s ≡ w ++ q.rest → Spelt ActFits act_text s (pair_at op q)
+pair_spelt s w op is q e =
+    number_then ActFits act_text s q _ (λ register q1 e1.
+    named_then ActFits act_text s (codes " r") q1 _ (λ source q2 e2.
+    let text = is register source in
+    let joined : s ≡ (w ++ decimal register ++ codes " r" ++ decimal source) ++ q2.rest = e ∙ ap (λ y. w ++ y) (e1 ∙ ap (λ y. decimal register ++ y) e2) ∙ simp append_assoc in
+    (text.0, joined ∙ ap (λ y. y ++ q2.rest) (sym text.1))))
+
+triple_spelt : (s w : List ℕ) (op : ℕ → ℕ → ℕ → PlainOp) → ((register left right : ℕ) → OpFits (op register left right)
+    × (op_text (op register left right) ≡ w ++ decimal register ++ codes " r" ++ decimal left ++ codes " r"
+    ++ decimal right)) → (q : Place ℕ) → s ≡ w ++ q.rest → Spelt ActFits act_text s (triple_at op q)
+triple_spelt s w op is q e =
     number_then ActFits act_text s q _ (λ register q1 e1.
     named_then ActFits act_text s (codes " r") q1 _ (λ left q2 e2.
-    named_then ActFits act_text s (codes " r") q2 _ (λ right q3 e3. (
-      tt,
-      e ∙ ap (λ y. codes "add r" ++ y) (e1 ∙ ap (λ y. decimal register ++ y) (e2 ∙ ap (λ y. codes " r" ++ (decimal left ++ y)) e3)) ∙ simp append_assoc,
-    ))))
-
-sub_spelt : (s : List ℕ) (q : Place ℕ) → s ≡ codes "sub r" ++ q.rest →
-    Spelt ActFits act_text s (operands_at words.Sub q)
-sub_spelt s q e =
-    number_then ActFits act_text s q _ (λ register q1 e1.
-    named_then ActFits act_text s (codes " r") q1 _ (λ left q2 e2.
-    named_then ActFits act_text s (codes " r") q2 _ (λ right q3 e3. (
-      tt,
-      e ∙ ap (λ y. codes "sub r" ++ y) (e1 ∙ ap (λ y. decimal register ++ y) (e2 ∙ ap (λ y. codes " r" ++ (decimal left ++ y)) e3)) ∙ simp append_assoc,
-    ))))
-
-neg_spelt : (s : List ℕ) (q : Place ℕ) → s ≡ codes "neg r" ++ q.rest →
-    Spelt ActFits act_text s (operands_at words.Neg q)
-neg_spelt s q e =
-    number_then ActFits act_text s q _ (λ register q1 e1.
-    named_then ActFits act_text s (codes " r") q1 _ (λ source q2 e2. (tt, e ∙ ap (λ y. codes "neg r" ++ y) (e1 ∙ ap (λ y. decimal register ++ y) e2) ∙ simp append_assoc)))
-
-tile_spelt : (s : List ℕ) (q : Place ℕ) → s ≡ codes "tile r" ++ q.rest →
-    Spelt ActFits act_text s (operands_at words.Tile q)
-tile_spelt s q e =
-    number_then ActFits act_text s q _ (λ register q1 e1.
-    named_then ActFits act_text s (codes " r") q1 _ (λ source q2 e2. (tt, e ∙ ap (λ y. codes "tile r" ++ y) (e1 ∙ ap (λ y. decimal register ++ y) e2) ∙ simp append_assoc)))
+    named_then ActFits act_text s (codes " r") q2 _ (λ right q3 e3.
+    let text = is register left right in
+    let joined : s ≡ (w ++ decimal register ++ codes " r" ++ decimal left ++ codes " r" ++ decimal right) ++ q3.rest =
+    e ∙ ap (λ y. w ++ y) (e1 ∙ ap (λ y. decimal register ++ y) (e2 ∙ ap (λ y. codes " r" ++ (decimal left ++ y)) e3)) ∙ simp append_assoc in
+    (text.0, joined ∙ ap (λ y. y ++ q3.rest) (sym text.1)))))
 
 -- the start of a product, up to its factor
 abbrev product_start : ℕ → ℕ → List ℕ → List ℕ
@@ -122,40 +122,26 @@ constant_spelt : (s : List ℕ) (register source : ℕ) (q : Place ℕ) →
 constant_spelt s register source q e =
     number_then ActFits act_text s q _ (λ factor q1 e1. (tt, e ∙ ap (λ y. product_start register source (codes " " ++ y)) e1 ∙ simp append_assoc))
 
-factor_spelt : (s : List ℕ) (register source : ℕ) (q q1 : Place ℕ) (t : List ℕ) (is_table : Bool) →
-    s ≡ product_start register source q.rest → q.rest ≡ t ++ q1.rest → one_of factor_words t is_table →
-    Spelt ActFits act_text s (factor_at register source is_table q1)
-factor_spelt s register source q q1 t is_table e e1 (inl l) =
-    subst (λ b. Spelt ActFits act_text s (factor_at register source b q1)) (sym l.1) (table_spelt s register source q1 (e ∙ ap (λ y. product_start register source y) (e1 ∙ ap (λ y. y ++ q1.rest) l.0)))
-factor_spelt s register source q q1 t is_table e e1 (inr (inl l)) =
-    subst (λ b. Spelt ActFits act_text s (factor_at register source b q1)) (sym l.1) (constant_spelt s register source q1 (e ∙ ap (λ y. product_start register source y) (e1 ∙ ap (λ y. y ++ q1.rest) l.0)))
-factor_spelt s register source q q1 t is_table e e1 (inr (inr l)) = absurd l
-
 mul_spelt : (s : List ℕ) (q : Place ℕ) → s ≡ codes "mul r" ++ q.rest →
     Spelt ActFits act_text s (operands_at words.Mul q)
 mul_spelt s q e =
     number_then ActFits act_text s q _ (λ register q1 e1.
     named_then ActFits act_text s (codes " r") q1 _ (λ source q2 e2.
-    key_then factor_words ActFits act_text s q2 _ (λ is_table q3 t3 e3 l3.
-    factor_spelt s register source q2 q3 t3 is_table (e ∙ ap (λ y. codes "mul r" ++ y) (e1 ∙ ap (λ y. decimal register ++ y) e2)) e3 l3)))
-
-operands_spelt : (s : List ℕ) (word : Word) (q : Place ℕ) (t : List ℕ) → s ≡ t ++ q.rest → one_of act_words t word →
-    Spelt ActFits act_text s (operands_at word q)
-operands_spelt s word q t e (inl l) = subst (λ w. Spelt ActFits act_text s (operands_at w q)) (sym l.1) (for_spelt s q (e ∙ ap (λ y. y ++ q.rest) l.0))
-operands_spelt s word q t e (inr (inl l)) = subst (λ w. Spelt ActFits act_text s (operands_at w q)) (sym l.1) (tt, e ∙ ap (λ y. y ++ q.rest) l.0)
-operands_spelt s word q t e (inr (inr (inl l))) = subst (λ w. Spelt ActFits act_text s (operands_at w q)) (sym l.1) (load_spelt s q (e ∙ ap (λ y. y ++ q.rest) l.0))
-operands_spelt s word q t e (inr (inr (inr (inl l)))) = subst (λ w. Spelt ActFits act_text s (operands_at w q)) (sym l.1) (store_spelt s q (e ∙ ap (λ y. y ++ q.rest) l.0))
-operands_spelt s word q t e (inr (inr (inr (inr (inl l))))) = subst (λ w. Spelt ActFits act_text s (operands_at w q)) (sym l.1) (zero_spelt s q (e ∙ ap (λ y. y ++ q.rest) l.0))
-operands_spelt s word q t e (inr (inr (inr (inr (inr (inl l)))))) = subst (λ w. Spelt ActFits act_text s (operands_at w q)) (sym l.1) (add_spelt s q (e ∙ ap (λ y. y ++ q.rest) l.0))
-operands_spelt s word q t e (inr (inr (inr (inr (inr (inr (inl l))))))) = subst (λ w. Spelt ActFits act_text s (operands_at w q)) (sym l.1) (sub_spelt s q (e ∙ ap (λ y. y ++ q.rest) l.0))
-operands_spelt s word q t e (inr (inr (inr (inr (inr (inr (inr (inl l)))))))) = subst (λ w. Spelt ActFits act_text s (operands_at w q)) (sym l.1) (neg_spelt s q (e ∙ ap (λ y. y ++ q.rest) l.0))
-operands_spelt s word q t e (inr (inr (inr (inr (inr (inr (inr (inr (inl l))))))))) = subst (λ w. Spelt ActFits act_text s (operands_at w q)) (sym l.1) (mul_spelt s q (e ∙ ap (λ y. y ++ q.rest) l.0))
-operands_spelt s word q t e (inr (inr (inr (inr (inr (inr (inr (inr (inr (inl l)))))))))) = subst (λ w. Spelt ActFits act_text s (operands_at w q)) (sym l.1) (tile_spelt s q (e ∙ ap (λ y. y ++ q.rest) l.0))
-operands_spelt s word q t e (inr (inr (inr (inr (inr (inr (inr (inr (inr (inr l)))))))))) = absurd l
+    let so_far : s ≡ product_start register source q2.rest = e ∙ ap (λ y. codes "mul r" ++ y) (e1 ∙ ap (λ y. decimal register ++ y) e2) in
+    words_then factor_words ActFits act_text s q2 _
+    ((λ q3 e3. table_spelt s register source q3 (so_far ∙ ap (λ y. product_start register source y) e3))
+    also (λ q3 e3. constant_spelt s register source q3 (so_far ∙ ap (λ y. product_start register source y) e3)) also none)))
 
 act_spelt : (place : Place ℕ) → Spelt ActFits act_text place.rest (act_at place)
 unfolding act_at
-act_spelt place = key_then act_words ActFits act_text place.rest place _ (λ word q t e l. operands_spelt place.rest word q t e l)
+act_spelt place =
+    let s : List ℕ = place.rest in
+    words_then act_words ActFits act_text s place _
+    (for_spelt s also (λ q e. (tt, e)) also load_spelt s also store_spelt s also zero_spelt s
+    also triple_spelt s (codes "add r") Add (λ register left right. (tt, refl))
+    also triple_spelt s (codes "sub r") Sub (λ register left right. (tt, refl))
+    also pair_spelt s (codes "neg r") Neg (λ register source. (tt, refl)) also mul_spelt s
+    also pair_spelt s (codes "tile r") Tile (λ register source. (tt, refl)) also none)
 
 -- ---- a whole line
 

@@ -1,4 +1,4 @@
-pub mod Views
+pub mod PrintLoops
 pub mod Depths
 pub mod LineReaders
 pub mod LineCalls

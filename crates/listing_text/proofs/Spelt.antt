@@ -1,6 +1,6 @@
 -- What is read of a place stands in the text.
 use Rattle.std.proofs.Common.{◌≡◌, ℕ, zero, suc, ◌<◌, ◌≤◌, Bool, true, false, List, [], ◌∷◌, ◌++◌, codes, decimal}
-use Rattle.std.proofs.Common.{Option, Some, None, Result, Ok, Err, refl, sym, ap, subst, ◌∙◌, append_assoc, arith, inl}
+use Rattle.std.proofs.Common.{Option, Some, None, Result, Ok, Err, refl, sym, ap, ◌∙◌, append_assoc, arith, inl}
 use Rattle.std.proofs.Common.{inr}
 use Rattle.icode.specs.Plain.{PlainExpr, PlainPart, parts_of}
 use Rattle.icode.specs.Limits.{sum_depth, parts_depth, part_depth}
@@ -12,7 +12,7 @@ use Rattle.grammar.proofs.Words.{word_token}
 use Rattle.grammar.proofs.Numbers.{NoDigit}
 use Rattle.grammar.proofs.Parts.{Anything, word_reader, number_reader, named_number_reader}
 use Rattle.grammar.proofs.Places.{Answers}
-use Rattle.listing_text.specs.declared.reading.Head.{Head}
+use Rattle.listing_text.specs.declared.reading.Head.TheVariants as heads
 use Rattle.listing_text.specs.Listing.{sum_text, parts_text, part_text}
 use Rattle.listing_text.specs.Reading.{above_all, others_of, up_to_at, part_heads, second_heads, division_words}
 use Rattle.listing_text.specs.Reading.{variable_at, divided, part_by, part_at, sum_by, inner_at, sum_at}
@@ -98,6 +98,36 @@ pub key_then : {A B : Type 0} (ws : List (List ℕ × A)) (fits : B → Type 0) 
     → Spelt fits text start (and_then (one_of_at ws place) next)
 key_then ws fits text start place next k = key_cases ws fits text start place (one_of_in ws place.rest) next (found ws place.rest) k
 
+abbrev AllWords : {A : Type 0} → (List ℕ → A → Type 0) → List (List ℕ × A) → Type 0
+AllWords P [] = Unit {0}
+AllWords P (w ∷ ws) = P w.0 w.1 × AllWords P ws
+
+-- what holds of each word with its value
+pub record Each {A : Type 0} (P : List ℕ → A → Type 0) (ws : List (List ℕ × A)) : Type 0 where
+  pub all : AllWords P ws
+
+pub none : {A : Type 0} {P : List ℕ → A → Type 0} → Each P []
+none = record { all = tt }
+
+infixr 20 ◌also◌
+pub ◌also◌ : {A : Type 0} {P : List ℕ → A → Type 0} {w : List ℕ × A} {ws : List (List ℕ × A)} → P w.0 w.1 →
+    Each P ws → Each P (w ∷ ws)
+p also ps = record { all = (p, ps.all) }
+
+pub each_is : {A : Type 0} (P : List ℕ → A → Type 0) (ws : List (List ℕ × A)) (t : List ℕ) (x : A) → Each P ws →
+    one_of ws t x → P t x
+each_is P [] t x ps l = absurd l
+each_is P (w ∷ ws) t x ps (inl l) = rw (l.0, l.1) ps.all.0
+each_is P (w ∷ ws) t x ps (inr l) = each_is P ws t x (record { all = ps.all.1 }) l
+
+-- the same, with what follows each of the words
+pub words_then : {A B : Type 0} (ws : List (List ℕ × A)) (fits : B → Type 0) (text : B → List ℕ) (start : List ℕ)
+    (place : Place ℕ) (next : A → Place ℕ → Result (B × Place ℕ) ℕ)
+    → Each (λ t x. (q : Place ℕ) → place.rest ≡ t ++ q.rest → Spelt fits text start (next x q)) ws →
+    Spelt fits text start (and_then (one_of_at ws place) next)
+words_then ws fits text start place next ps =
+    key_then ws fits text start place next (λ x q t e l. each_is (λ t x. (q : Place ℕ) → place.rest ≡ t ++ q.rest → Spelt fits text start (next x q)) ws t x ps l q e)
+
 -- ---- places
 
 abbrev part_or_none_text : Option PlainPart → List ℕ
@@ -130,23 +160,11 @@ variable_spelt depth outer start q e =
       e ∙ ap (λ y. codes "+v" ++ (decimal outer ++ (codes "*" ++ y))) e1 ∙ simp append_assoc,
     ))
 
-second_spelt : (depth outer : ℕ) (start : List ℕ) (q q1 : Place ℕ) (t : List ℕ) (two : Bool) →
-    start ≡ codes "+v" ++ (decimal outer ++ (codes "*" ++ q.rest)) → q.rest ≡ t ++ q1.rest → one_of second_heads t two →
-    Spelt (PartFits depth) part_or_none_text start (variable_at outer two q1)
-second_spelt depth outer start q q1 t two e e1 (inl l) =
-    subst (λ two. Spelt (PartFits depth) part_or_none_text start (variable_at outer two q1)) (sym l.1)
-    (product_spelt depth outer start q1 (e ∙ ap (λ y. codes "+v" ++ (decimal outer ++ (codes "*" ++ y))) (e1 ∙ ap (λ y. y ++ q1.rest) l.0)))
-second_spelt depth outer start q q1 t two e e1 (inr (inl l)) =
-    subst (λ two. Spelt (PartFits depth) part_or_none_text start (variable_at outer two q1)) (sym l.1)
-    (variable_spelt depth outer start q1 (e ∙ ap (λ y. codes "+v" ++ (decimal outer ++ (codes "*" ++ y))) (e1 ∙ ap (λ y. y ++ q1.rest) l.0)))
-second_spelt depth outer start q q1 t two e e1 (inr (inr l)) = absurd l
-
 divided_text : (of : PlainExpr) (is_remainder : Bool) (t : List ℕ) (divisor factor : ℕ) →
     one_of division_words t is_remainder → part_text (divided of is_remainder divisor factor) ≡ codes "+("
     ++ sum_text of ++ t ++ decimal divisor ++ codes "*" ++ decimal factor
-divided_text of is_remainder t divisor factor (inl l) = rw (l.0, l.1) refl
-divided_text of is_remainder t divisor factor (inr (inl l)) = rw (l.0, l.1) refl
-divided_text of is_remainder t divisor factor (inr (inr l)) = absurd l
+divided_text of is_remainder t divisor factor l =
+    each_is (λ t k. part_text (divided of k divisor factor) ≡ codes "+(" ++ sum_text of ++ t ++ decimal divisor ++ codes "*" ++ decimal factor) division_words t is_remainder (refl also refl also none) l
 
 divided_fits : (depth : ℕ) (of : PlainExpr) (is_remainder : Bool) (divisor factor : ℕ) → SumFits depth of →
     PartFits depth (Some (divided of is_remainder divisor factor))
@@ -155,37 +173,32 @@ divided_fits depth of false divisor factor h = omega (arith, h)
 
 module _ (depth : ℕ) (inner : Place ℕ → Result (PlainExpr × Place ℕ) ℕ)
     (inner_is : (place : Place ℕ) → Spelt (SumFits depth) sum_text place.rest (inner place)) where
-  head_spelt : (start : List ℕ) (head : Head) (q : Place ℕ) (t : List ℕ) → start ≡ t ++ q.rest →
-      one_of part_heads t head → Spelt (PartFits depth) part_or_none_text start (part_by inner head q)
-  head_spelt start head q t e (inl l) =
-      subst (λ head. Spelt (PartFits depth) part_or_none_text start (part_by inner head q)) (sym l.1)
-      (number_then (PartFits depth) part_or_none_text start q _ (λ factor q1 e1. (
-        omega arith,
-        e ∙ ap (λ y. y ++ q.rest) l.0 ∙ ap (λ y. codes "+q*" ++ y) e1 ∙ simp append_assoc,
-      )))
-  head_spelt start head q t e (inr (inl l)) =
-      subst (λ head. Spelt (PartFits depth) part_or_none_text start (part_by inner head q)) (sym l.1)
-      (number_then (PartFits depth) part_or_none_text start q _ (λ outer q1 e1.
-      word_then (PartFits depth) part_or_none_text start (codes "*") q1 _ (λ w q2 e2.
-      key_then second_heads (PartFits depth) part_or_none_text start q2 _ (λ two q3 t3 e3 l3.
-      second_spelt depth outer start q2 q3 t3 two (e ∙ ap (λ y. y ++ q.rest) l.0 ∙ ap (λ y. codes "+v" ++ y) (e1 ∙ ap (λ y. decimal outer ++ y) e2)) e3 l3))))
-  head_spelt start head q t e (inr (inr (inl l))) =
-      subst (λ head. Spelt (PartFits depth) part_or_none_text start (part_by inner head q)) (sym l.1)
-      (spelt_then (SumFits depth) sum_text (PartFits depth) part_or_none_text q.rest start (inner q) _ (inner_is q) (λ of q1 f1 e1.
+  inner_part_spelt : (start : List ℕ) (q : Place ℕ) → start ≡ codes "+(" ++ q.rest →
+      Spelt (PartFits depth) part_or_none_text start (part_by inner heads.Inner q)
+  inner_part_spelt start q e =
+      spelt_then (SumFits depth) sum_text (PartFits depth) part_or_none_text q.rest start (inner q) _ (inner_is q) (λ of q1 f1 e1.
       key_then division_words (PartFits depth) part_or_none_text start q1 _ (λ is_remainder q2 t2 e2 l2.
       number_then (PartFits depth) part_or_none_text start q2 _ (λ divisor q3 e3.
       named_then (PartFits depth) part_or_none_text start (codes "*") q3 _ (λ factor q4 e4.
       let joined : start ≡ (codes "+(" ++ sum_text of ++ t2 ++ decimal divisor ++ codes "*" ++ decimal factor) ++ q4.rest =
-      e ∙ ap (λ y. y ++ q.rest) l.0 ∙ ap (λ y. codes "+(" ++ y) (e1 ∙ ap (λ y. sum_text of ++ y) (e2 ∙ ap (λ y. t2 ++ y) (e3 ∙ ap (λ y. decimal divisor ++ y) e4))) ∙ simp append_assoc in (
+      e ∙ ap (λ y. codes "+(" ++ y) (e1 ∙ ap (λ y. sum_text of ++ y) (e2 ∙ ap (λ y. t2 ++ y) (e3 ∙ ap (λ y. decimal divisor ++ y) e4))) ∙ simp append_assoc in (
         divided_fits depth of is_remainder divisor factor f1,
         joined ∙ ap (λ y. y ++ q4.rest) (sym (divided_text of is_remainder t2 divisor factor l2)),
-      ))))))
-  head_spelt start head q t e (inr (inr (inr (inl l)))) =
-      subst (λ head. Spelt (PartFits depth) part_or_none_text start (part_by inner head q)) (sym l.1) (tt, e ∙ ap (λ y. y ++ q.rest) l.0)
-  head_spelt start head q t e (inr (inr (inr (inr l)))) = absurd l
+      )))))
 
   part_spelt : (place : Place ℕ) → Spelt (PartFits depth) part_or_none_text place.rest (part_at inner place)
-  part_spelt place = key_then part_heads (PartFits depth) part_or_none_text place.rest place _ (λ head q t e l. head_spelt place.rest head q t e l)
+  part_spelt place =
+      let start : List ℕ = place.rest in
+      words_then part_heads (PartFits depth) part_or_none_text start place _
+      ((λ q e. number_then (PartFits depth) part_or_none_text start q _ (λ factor q1 e1. (omega arith, e ∙ ap (λ y. codes "+q*" ++ y) e1 ∙ simp append_assoc)))
+      also (λ q e.
+      number_then (PartFits depth) part_or_none_text start q _ (λ outer q1 e1.
+      word_then (PartFits depth) part_or_none_text start (codes "*") q1 _ (λ w q2 e2.
+      let so_far : start ≡ codes "+v" ++ (decimal outer ++ (codes "*" ++ q2.rest)) = e ∙ ap (λ y. codes "+v" ++ y) (e1 ∙ ap (λ y. decimal outer ++ y) e2) in
+      words_then second_heads (PartFits depth) part_or_none_text start q2 _
+      ((λ q3 e3. product_spelt depth outer start q3 (so_far ∙ ap (λ y. codes "+v" ++ (decimal outer ++ (codes "*" ++ y))) e3))
+      also (λ q3 e3. variable_spelt depth outer start q3 (so_far ∙ ap (λ y. codes "+v" ++ (decimal outer ++ (codes "*" ++ y))) e3)) also none))))
+      also inner_part_spelt start also (λ q e. (tt, e)) also none)
 
   others_spelt : (start : List ℕ) (first : Option PlainPart) (more : Place ℕ → Result (List PlainPart × Place ℕ) ℕ)
       (q : Place ℕ) → PartFits depth first → start ≡ part_or_none_text first ++ q.rest

@@ -51,8 +51,7 @@ fn put_part(out: &mut Vec<u8>, part: &Part, mark: &[u8]) -> Result<(), AllocErro
         } => {
             out.extend_from_slice(b"+(")?;
             put_sum(out, of, mark)?;
-            put(out, b")%", *divisor)?;
-            put(out, b"*", *factor)
+            put_numbers(out, &[(b")%", *divisor), (b"*", *factor)])
         }
         Part::Quot {
             of,
@@ -61,8 +60,7 @@ fn put_part(out: &mut Vec<u8>, part: &Part, mark: &[u8]) -> Result<(), AllocErro
         } => {
             out.extend_from_slice(b"+(")?;
             put_sum(out, of, mark)?;
-            put(out, b")/", *divisor)?;
-            put(out, b"*", *factor)
+            put_numbers(out, &[(b")/", *divisor), (b"*", *factor)])
         }
     }
 }
