@@ -10,6 +10,7 @@ use Rattle.serde_json.specs.Data.{Data, Items, no_items, item}
 use Rattle.tree_model.specs.Chosen.{CanDivideWhole, IsWholeLeast, closing_cost}
 use Rattle.tree_model.proofs.ChosenParts.{least_of_parts}
 use Rattle.tree_model.proofs.WholeTrees.{forward_size, least_of_one}
+use Rattle.plan_search.proofs.WholeChosen.{rest_divides}
 use Rattle.plan_cert.specs.declared.verdict.Verdict.TheVariants.{Least}
 use Rattle.plan_cert.specs.Certificate.{cost_at, IsClosedLeast}
 use Rattle.plan_cert.specs.Document.{document_rows}
@@ -17,7 +18,7 @@ use Rattle.plan_cert.specs.Laws.{RightCostsAreLeast}
 use Rattle.plan_cert.specs.Table.{AreTables, IsListOfTables, IsTableOf, IsTableText, IsWholeTable}
 use Rattle.plan_cert.specs.Verdict.{joined, size_of_all, IsItemsVerdict, IsListVerdict, IsValueVerdict, IsVerdict}
 use Rattle.plan_cert.specs.Verdict.{IsWholeVerdict}
-use Rattle.plan_cert.proofs.ByParts.{by_parts, one_part, rest_divides, size_of_rest}
+use Rattle.plan_cert.proofs.ByParts.{by_parts, one_part, size_of_rest}
 use Rattle.plan_cert.proofs.Least.{least_of_right}
 use Rattle.plan_cert.proofs.OneVerdict.{verdict_of_json}
 use Rattle.plan_cert.proofs.RightRows.{least_of_rows}
