@@ -15,9 +15,7 @@ one_part c e = ap (parts_in c) e
 size_of_rest_in : (c : Request) (ds : Dimensions) → ds ≢ One
     → size_of_all (parts_of (rest_in c ds)) ≡ (rest_in c ds).size
 size_of_rest_in c One some = absurd (some refl)
-size_of_rest_in c (Two p q) some = refl
-size_of_rest_in c (Three p q r) some = refl
-size_of_rest_in c (Four p q r s) some = refl
+size_of_rest_in c ds some = refl
 
 -- the product of the others' sizes is the size of the request for them
 pub size_of_rest : (c : Request) → c.dimensions ≢ One → size_of_all (parts_of (rest_of c)) ≡ (rest_of c).size
@@ -34,16 +32,12 @@ more (Four p q r s) = 3
 
 one_or_more : (ds : Dimensions) → (ds ≡ One) ⊎ (ds ≢ One)
 one_or_more One = inl refl
-one_or_more (Two p q) = inr (λ e. absurd (cc))
-one_or_more (Three p q r) = inr (λ e. absurd (cc))
-one_or_more (Four p q r s) = inr (λ e. absurd (cc))
+one_or_more ds = inr (λ e. absurd (cc))
 
 fewer_in : (c : Request) (ds : Dimensions) → ds ≢ One → more (rest_in c ds).dimensions + 1 ≡ more ds
 unfolding more
 fewer_in c One some = absurd (some refl)
-fewer_in c (Two p q) some = refl
-fewer_in c (Three p q r) some = refl
-fewer_in c (Four p q r s) some = refl
+fewer_in c ds some = refl
 
 -- what holds of one size, and of several dimensions where it holds of those after the first, holds of each request in
 -- range

@@ -1,7 +1,7 @@
 -- The certificate of a request is judged to be of its least cost.
 use Rattle.std.proofs.Common.{◌≡◌, ◌≢◌, ℕ, ◌+◌, ◌*◌, ◌≤◌, List, [], ◌∷◌, refl, sym, ap, subst, ◌∙◌, arith}
 use Rattle.matrix_meaning.specs.declared.Dimensions.{Dimensions}
-use Rattle.matrix_meaning.specs.declared.Dimensions.TheVariants.{One, Two, Three, Four}
+use Rattle.matrix_meaning.specs.declared.Dimensions.TheVariants.{One}
 use Rattle.matrix_meaning.specs.declared.Request.{Request}
 use Rattle.matrix_meaning.specs.Parts.{first_of, forward_of, parts_of, rest_of}
 use Rattle.matrix_meaning.specs.Valid.{IsInRange}
@@ -110,9 +110,7 @@ whole_right : (c : Request) (ds : Dimensions) (d : Data) → c.dimensions ≡ ds
     → IsWholeTable c ds d
     → (k : ℕ) × IsWholeVerdict c ds d (Least k) × IsWholeLeast c k
 whole_right c One d e range divides h = value_right c d range.size.0 e h
-whole_right c (Two p q) d e range divides h = list_right c d range divides h
-whole_right c (Three p q r) d e range divides h = list_right c d range divides h
-whole_right c (Four p q r s) d e range divides h = list_right c d range divides h
+whole_right c ds d e range divides h = list_right c d range divides h
 
 pub certificate_right : (c : Request) (text : List ℕ) → IsInRange c → CanDivideWhole c → IsTableText c text
     → (k : ℕ) × IsVerdict c text (Least k) × IsWholeLeast c k

@@ -1,7 +1,7 @@
 -- The text of a certificate.
 use Rattle.std.proofs.Common.{ℕ, suc, List, [], ◌∷◌, sym, subst, arith}
 use Rattle.matrix_meaning.specs.declared.Dimensions.{Dimensions}
-use Rattle.matrix_meaning.specs.declared.Dimensions.TheVariants.{One, Two, Three, Four}
+use Rattle.matrix_meaning.specs.declared.Dimensions.TheVariants.{One}
 use Rattle.matrix_meaning.specs.declared.Request.{Request}
 use Rattle.matrix_meaning.specs.Parts.{first_of, forward_of, parts_of, rest_of}
 use Rattle.matrix_meaning.specs.Valid.{IsInRange}
@@ -42,9 +42,7 @@ list_of c d range (ds, is, tables) = subst (IsWritten 4) (sym is) (list_written 
 
 pub whole_written : (c : Request) (ds : Dimensions) (d : Data) → IsInRange c → IsWholeTable c ds d → IsWritten 4 d
 whole_written c One d range h = value_written 1 c d range h
-whole_written c (Two p q) d range h = list_of c d range h
-whole_written c (Three p q r) d range h = list_of c d range h
-whole_written c (Four p q r s) d range h = list_of c d range h
+whole_written c ds d range h = list_of c d range h
 
 -- the line of the certificate is its text
 pub certificate_written : (c : Request) (d : Data) (text : List ℕ) → IsInRange c → IsWholeTable c c.dimensions d

@@ -5,7 +5,7 @@ use Rattle.std.proofs.lemmas.Bool.{cases_order}
 use Rattle.serde_json.specs.Data.{Data, Items, no_items, item}
 use Rattle.serde_json.specs.Find.{as_array}
 use Rattle.matrix_meaning.specs.declared.Dimensions.{Dimensions}
-use Rattle.matrix_meaning.specs.declared.Dimensions.TheVariants.{One, Two, Three, Four}
+use Rattle.matrix_meaning.specs.declared.Dimensions.TheVariants.{One}
 use Rattle.matrix_meaning.specs.declared.Request.{Request}
 use Rattle.matrix_meaning.specs.Parts.{forward_of, parts_of}
 use Rattle.tree_model.specs.Chosen.{closing_cost}
@@ -148,9 +148,7 @@ option_verdict ps (Some xs) v w h k = items_verdict ps xs v w h k
 whole_verdict : (c : Request) (ds : Dimensions) (d : Data) (v w : Verdict) → IsWholeVerdict c ds d v
     → IsWholeVerdict c ds d w → v ≡ w
 whole_verdict c One d v w h k = value_verdict c d v w h k
-whole_verdict c (Two p q) d v w h k = option_verdict (parts_of c) (as_array d) v w h k
-whole_verdict c (Three p q r) d v w h k = option_verdict (parts_of c) (as_array d) v w h k
-whole_verdict c (Four p q r s) d v w h k = option_verdict (parts_of c) (as_array d) v w h k
+whole_verdict c ds d v w h k = option_verdict (parts_of c) (as_array d) v w h k
 
 pub one_verdict : VerdictsAreOne
 one_verdict c text v w h k = text_verdict (IsWholeVerdict c c.dimensions) (whole_verdict c c.dimensions) text v w h k

@@ -5,7 +5,7 @@ use Rattle.std.proofs.Common.{arith}
 use Rattle.serde_json.specs.Data.{Data, Items, array, no_items, item}
 use Rattle.serde_json.specs.Written.{compact_text}
 use Rattle.matrix_meaning.specs.declared.Dimensions.{Dimensions}
-use Rattle.matrix_meaning.specs.declared.Dimensions.TheVariants.{One, Two, Three, Four}
+use Rattle.matrix_meaning.specs.declared.Dimensions.TheVariants.{One}
 use Rattle.matrix_meaning.specs.declared.Kind.TheVariants.{Idft}
 use Rattle.matrix_meaning.specs.declared.Request.{Request}
 use Rattle.matrix_meaning.specs.Parts.{first_of, forward_of, parts_of, rest_of}
@@ -200,9 +200,7 @@ some_list c valid can = let all = some_tables c valid.in_range valid can in (arr
 some_whole : (c : Request) (ds : Dimensions) → c.dimensions ≡ ds → IsValid c → CanDivideWhole c
     → (d : Data) × IsWholeTable c ds d
 some_whole c One one valid can = one_value c valid one can
-some_whole c (Two p q) is valid can = some_list c valid can
-some_whole c (Three p q r) is valid can = some_list c valid can
-some_whole c (Four p q r s) is valid can = some_list c valid can
+some_whole c ds is valid can = some_list c valid can
 
 -- ---- texts
 

@@ -8,7 +8,7 @@ use Rattle.serde_json.specs.Data.{Data, Items, no_items, item}
 use Rattle.serde_json.specs.Find.{as_array}
 use Rattle.serde_json.specs.Read.{read}
 use Rattle.matrix_meaning.specs.declared.Dimensions.{Dimensions}
-use Rattle.matrix_meaning.specs.declared.Dimensions.TheVariants.{One, Two, Three, Four}
+use Rattle.matrix_meaning.specs.declared.Dimensions.TheVariants.{One}
 use Rattle.matrix_meaning.specs.declared.Request.{Request}
 use Rattle.matrix_meaning.specs.Parts.{first_of, forward_of, parts_of, rest_of}
 use Rattle.matrix_meaning.specs.Valid.{IsInRange}
@@ -240,9 +240,7 @@ some_option c range (Some xs) = some_items c range xs
 
 some_whole : (c : Request) (ds : Dimensions) (d : Data) → IsInRange c → (v : Verdict) × IsWholeVerdict c ds d v
 some_whole c One d range = some_value c d range.size.0
-some_whole c (Two p q) d range = some_option c range (as_array d)
-some_whole c (Three p q r) d range = some_option c range (as_array d)
-some_whole c (Four p q r s) d range = some_option c range (as_array d)
+some_whole c ds d range = some_option c range (as_array d)
 
 -- ---- texts
 
