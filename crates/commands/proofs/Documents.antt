@@ -30,10 +30,8 @@ use Rattle.commands.proofs.SpiralInput.StageLemmas.{stage_meets}
 
 -- a fault of the making refuses the request
 pub generate_refusal : (fault : GenerateFault) → IsRefusal (status_of_generate fault)
-generate_refusal (generate.Root power) = record { success = λ e. cc; read = λ e. cc; write = λ e. cc; usage = λ e. cc }
 generate_refusal generate.NoDivide = record { success = λ e. cc; read = λ e. cc; write = λ e. cc; usage = λ e. cc }
-generate_refusal (generate.OverBudget cost budget) = record { success = λ e. cc; read = λ e. cc; write = λ e. cc; usage = λ e. cc }
-generate_refusal generate.NoMemory = record { success = λ e. cc; read = λ e. cc; write = λ e. cc; usage = λ e. cc }
+generate_refusal fault = record { success = λ e. cc; read = λ e. cc; write = λ e. cc; usage = λ e. cc }
 
 -- the request with its tree
 abbrev pub with_tree : Request → Breakdown → Planned

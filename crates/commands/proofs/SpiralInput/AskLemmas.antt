@@ -43,10 +43,7 @@ line_given read buffer ended taken count given =
 
 request_fault_other : (fault : RequestFault) → status_of_request fault ≢ ReadFault
 request_fault_other (request.Syntax at) = λ e. cc
-request_fault_other (request.Range field value) = λ e. cc
-request_fault_other (request.Shape size) = λ e. cc
-request_fault_other (request.LanesLine lanes line) = λ e. cc
-request_fault_other (request.NotUnit gcd) = λ e. cc
+request_fault_other fault = λ e. cc
 
 -- the line spells no request that can be served
 pub asked_request_fault : (spells : List ℕ → Stage Request) (names : List ℕ) (before after : Option (List ℕ))
