@@ -173,9 +173,8 @@ module _ (given : List (List ℕ)) (wanted : Asked) (out : Option (List ℕ)) (i
 
 -- none of the faults of the input is a word's
 pub rest_is_no_usage : (fault : RestFault) → status_of_rest fault ≢ Usage
-rest_is_no_usage rest.ReadFault e = absurd (cc)
-rest_is_no_usage rest.TooLong e = absurd (cc)
-rest_is_no_usage rest.NoMemory e = absurd (cc)
+rest_is_no_usage rest.ReadFault e = cc
+rest_is_no_usage fault e = cc
 
 -- of an input that tells its bytes
 pub told_input : (words : List (List ℕ)) (bytes : List ℕ) (left before after : Option (List ℕ)) (status : Status)
