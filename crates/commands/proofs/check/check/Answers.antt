@@ -4,7 +4,7 @@ use Rattle.std.proofs.KnownBytes.{Appends-nil}
 use Rattle.io_edge.specs.Feed.{to_come, limit}
 use Rattle.plan_cert.specs.declared.verdict.Verdict.TheVariants as verdict
 use Rattle.spiral_words.specs.SpiralStatus.Fault.{status_of_generate}
-use Rattle.commands.proofs.CheckLemmas.{check_barred, check_unread, judged_of, check_judged, check_cut}
+use Rattle.commands.proofs.CheckLemmas.{check_barred, check_unread, found_of, check_judged, check_cut}
 use Rattle.commands.proofs.Documents.{generate_refusal}
 use Rattle.commands.proofs.SpiralInput.StatusLemmas.{rest_usage, refusal_ends}
 use Rattle.commands.proofs.SpiralInput.OutcomeLemmas.{told_nothing}
@@ -28,46 +28,31 @@ returns-in_err-text-clause-told g c =
 
 pub returns-in_err-write_least-in-Least-clause-told : goal.returns-in_err-write_least-in-Least-clause-told
 returns-in_err-write_least-in-Least-clause-told g c =
-    let request = c.args.request.now in
-    let text = c.in_ok-text.text.items in
-    let answer = c.in_ok-text.ensures.answer in
-    let judged = judged_of request c.new.result text c.deref.result.now (verdict.Least c.in-Least.cost)
-    c.in_ok-cost.field-0 c.new.ensures c.deref.ensures.value c.in-Least.is c.in_ok-cost.ensures.verdict in
     let p = err_from_is_err_and c.from_residual-in_err-write_least-in-Least.result c.from_residual-in_err-write_least-in-Least.ensures.1 in
-    rw (p.1, p.2) (check_cut request (limit - c.args.feed.now.taken) _ _ _ _ answer.0 text c.in-Least.cost
-    c.in_ok-admit.ensures.admitted answer.1 answer.2.0 answer.2.1 answer.2.2 judged c.in_err-write_least-in-Least.ensures.bytes)
+    rw (p.1, p.2) (check_cut c.args.request.now (limit - c.args.feed.now.taken) _ _ _ _ c.in-Least.cost c.in_ok-admit.ensures.admitted
+    (found_of _ c.new.result _ _ c.in_ok-text.text c.deref.result.now _ c.in_ok-cost.field-0 c.in_ok-text.ensures.answer
+    c.new.ensures c.deref.ensures.value c.in-Least.is c.in_ok-cost.ensures.verdict) c.in_err-write_least-in-Least.ensures.bytes)
 
 pub returns-in-Least-clause-told : goal.returns-in-Least-clause-told
 returns-in-Least-clause-told g c =
-    let request = c.args.request.now in
-    let text = c.in_ok-text.text.items in
-    let answer = c.in_ok-text.ensures.answer in
-    let judged = judged_of request c.new.result text c.deref.result.now (verdict.Least c.in-Least.cost)
-    c.in_ok-cost.field-0 c.new.ensures c.deref.ensures.value c.in-Least.is c.in_ok-cost.ensures.verdict in
-    check_judged request (limit - c.args.feed.now.taken) _ _ _ _ answer.0 text (verdict.Least c.in-Least.cost)
-    c.in_ok-admit.ensures.admitted answer.1 answer.2.0 answer.2.1 answer.2.2 judged c.in_ok-write_least-in-Least.ensures.bytes
+    check_judged c.args.request.now (limit - c.args.feed.now.taken) _ _ _ _ (verdict.Least c.in-Least.cost) c.in_ok-admit.ensures.admitted
+    (found_of _ c.new.result _ _ c.in_ok-text.text c.deref.result.now _ c.in_ok-cost.field-0 c.in_ok-text.ensures.answer
+    c.new.ensures c.deref.ensures.value c.in-Least.is c.in_ok-cost.ensures.verdict) c.in_ok-write_least-in-Least.ensures.bytes
 
 pub returns-in-Unread-clause-told : goal.returns-in-Unread-clause-told
 returns-in-Unread-clause-told g c =
-    let request = c.args.request.now in
-    let text = c.in_ok-text.text.items in
-    let answer = c.in_ok-text.ensures.answer in
-    let judged = judged_of request c.new.result text c.deref.result.now verdict.Unread
-    c.in_ok-cost.field-0 c.new.ensures c.deref.ensures.value c.in-Unread.is c.in_ok-cost.ensures.verdict in
     let out = g.O.Sink.taken c.args.output.now in
-    check_judged request (limit - c.args.feed.now.taken) _ _ out out answer.0 text verdict.Unread
-    c.in_ok-admit.ensures.admitted answer.1 answer.2.0 answer.2.1 answer.2.2 judged (Appends-nil out)
+    check_judged c.args.request.now (limit - c.args.feed.now.taken) _ _ out out verdict.Unread c.in_ok-admit.ensures.admitted
+    (found_of _ c.new.result _ _ c.in_ok-text.text c.deref.result.now _ c.in_ok-cost.field-0 c.in_ok-text.ensures.answer
+    c.new.ensures c.deref.ensures.value c.in-Unread.is c.in_ok-cost.ensures.verdict) (Appends-nil out)
 
 pub returns-clause-told : goal.returns-clause-told
 returns-clause-told g c =
-    let request = c.args.request.now in
-    let text = c.in_ok-text.text.items in
-    let answer = c.in_ok-text.ensures.answer in
-    let judged = judged_of request c.new.result text c.deref.result.now (verdict.Wrong c.in-Wrong.size c.in-Wrong.given c.in-Wrong.found)
-    c.in_ok-cost.field-0 c.new.ensures c.deref.ensures.value c.in-Wrong.is c.in_ok-cost.ensures.verdict in
     let out = g.O.Sink.taken c.args.output.now in
-    check_judged request (limit - c.args.feed.now.taken) _ _ out out answer.0 text (verdict.Wrong c.in-Wrong.size c.in-Wrong.given c.in-Wrong.found)
-    c.in_ok-admit.ensures.admitted answer.1 answer.2.0 answer.2.1 answer.2.2 judged (Appends-nil out)
+    check_judged c.args.request.now (limit - c.args.feed.now.taken) _ _ out out (verdict.Wrong c.in-Wrong.size c.in-Wrong.given c.in-Wrong.found)
+    c.in_ok-admit.ensures.admitted
+    (found_of _ c.new.result _ _ c.in_ok-text.text c.deref.result.now _ c.in_ok-cost.field-0 c.in_ok-text.ensures.answer
+    c.new.ensures c.deref.ensures.value c.in-Wrong.is c.in_ok-cost.ensures.verdict) (Appends-nil out)
 
 pub returns-in_err-admit-clause-ends : goal.returns-in_err-admit-clause-ends
 returns-in_err-admit-clause-ends g c =
