@@ -42,35 +42,16 @@ use Rattle.plan_cert.proofs.Written.{written_line}
 -- ---- rows
 
 -- the rule of a tree's root with the sizes of its parts
-record HasRoot (t : Breakdown) : Type 0 where
-  rule : Option Rule
-  left : ℕ
-  right : ℕ
-  is : IsRootOf t rule left right
-  low : left < 2 ^ 64
-  small : right < 2 ^ 64
+abbrev HasRoot : Breakdown → Type 0
+HasRoot t = (rule : Option Rule) × (left : ℕ) × (right : ℕ) × IsRootOf t rule left right × (left < 2 ^ 64) × (right < 2 ^ 64)
 
 size_word : (t : Breakdown) → HasWordSizes t → size_of t < 2 ^ 64
 size_word (leaf d) h = h
 size_word (node rule a b) h = h.2
 
 root_of : (t : Breakdown) → HasWordSizes t → HasRoot t
-root_of (leaf d) h = record {
-  rule = None;
-  left = 0;
-  right = 0;
-  is = (refl, refl, refl);
-  low = omega arith;
-  small = omega arith;
-}
-root_of (node rule a b) h = record {
-  rule = Some rule;
-  left = size_of a;
-  right = size_of b;
-  is = (refl, refl, refl);
-  low = size_word a h.0;
-  small = size_word b h.1;
-}
+root_of (leaf d) h = (None, 0, 0, (refl, refl, refl), omega arith, omega arith)
+root_of (node rule a b) h = (Some rule, size_of a, size_of b, (refl, refl, refl), size_word a h.0, size_word b h.1)
 
 closing_low : (c : Request) (closing d : ℕ) → closing_at c closing d ≤ closing
 closing_low c closing d = of (d == c.size)
@@ -96,9 +77,9 @@ module _ (c : Request) (closing : ℕ) (valid : IsValid c) (forward : c.kind ≢
         record {
           size = d;
           cost = cost_of c t + closing_at c closing d;
-          rule = root.rule;
-          left = root.left;
-          right = root.right;
+          rule = root.0;
+          left = root.1;
+          right = root.2;
         },
         refl,
         (
@@ -106,12 +87,12 @@ module _ (c : Request) (closing : ℕ) (valid : IsValid c) (forward : c.kind ≢
           record {
             chosen = chosen;
             cost = refl;
-            root = root.is;
+            root = root.3;
             words = record {
               size = omega (arith, high, size);
               cost = omega (arith, cost, more, few, size);
-              left = root.low;
-              right = root.small;
+              left = root.4;
+              right = root.5;
             };
           },
         ),
