@@ -1,5 +1,5 @@
 -- From what comes after the line of a request to the whole input.
-use Rattle.std.proofs.Common.{◌-◌, ℕ, List, []}
+use Rattle.std.proofs.Common.{ℕ, List, []}
 use Rattle.matrix_meaning.specs.declared.Request.{Request}
 use Rattle.spiral_words.specs.declared.Document.{Document}
 use Rattle.spiral_words.specs.declared.Document.TheVariants as document

@@ -1,5 +1,4 @@
 use Rattle.std.proofs.lemmas.Result.{err_from_is_err_and}
-use Rattle.io_edge.specs.Feed.{to_come}
 use Rattle.commands.specs.Equations.Front.{line}
 use Rattle.commands.specs.Equations.Orders.{turned}
 use Rattle.commands.specs.Equations.Requests.{outcomes_by_request, work_for}

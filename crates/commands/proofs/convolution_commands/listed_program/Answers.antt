@@ -14,7 +14,6 @@ use Rattle.commands.proofs.ConvolutionCommands.ConvolvedLemmas.{conv_refused, co
 use Rattle.commands.proofs.Documents.{with_tree}
 use Rattle.commands.proofs.SpiralInput.StageLemmas.{stage_refused}
 use Rattle.commands.proofs.SpiralInput.OutcomeLemmas.{told_nothing, unread_nothing}
-use Rattle.commands.specs.ConvolutionCommands.Convolved.{work_by_list}
 use Rattle.commands.proofs.convolution_commands.listed_program.Goals as goal
 
 pub returns-in_err-plan-clause-told : goal.returns-in_err-plan-clause-told

@@ -1,6 +1,6 @@
 use Rattle.std.proofs.Common.{◌-◌}
 use Rattle.std.proofs.lemmas.Result.{err_from_is_err_and}
-use Rattle.io_edge.specs.Feed.{to_come, limit}
+use Rattle.io_edge.specs.Feed.{limit}
 use Rattle.commands.specs.Equations.Orders.{chosen}
 use Rattle.commands.specs.Equations.Run.{run_work}
 use Rattle.commands.specs.SpiralInput.Orders.{procs_in}

@@ -1,9 +1,7 @@
 use Rattle.std.proofs.Common.{◌-◌}
 use Rattle.std.proofs.lemmas.Result.{err_from_is_err_and}
-use Rattle.io_edge.specs.Feed.{to_come, limit}
-use Rattle.spiral_words.specs.declared.RequestCommand.TheVariants as command
+use Rattle.io_edge.specs.Feed.{limit}
 use Rattle.commands.specs.Equations.Orders.{chosen}
-use Rattle.commands.specs.Equations.Requests.{work_for}
 use Rattle.commands.specs.Equations.Trace.{trace_work}
 use Rattle.commands.specs.SpiralInput.Orders.{procs_in}
 use Rattle.commands.specs.SpiralInput.Stage.{status_of}

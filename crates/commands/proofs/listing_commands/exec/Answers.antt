@@ -1,6 +1,5 @@
 use Rattle.std.proofs.Common.{zero-add, ◌∙◌, length}
 use Rattle.std.proofs.lemmas.Result.{err_from_is_err_and}
-use Rattle.io_edge.specs.Feed.{to_come}
 use Rattle.commands.specs.SpiralInput.Stage.{status_of}
 use Rattle.commands.specs.Equations.Exec.{exec_work}
 use Rattle.commands.specs.Equations.Front.{part}

@@ -1,7 +1,6 @@
 use Rattle.std.proofs.Common.{Err, subst}
 use Rattle.std.proofs.lemmas.Result.{err_from_is_err_and}
 use Rattle.data_stream.proofs.TokensLemmas.{reports_none}
-use Rattle.io_edge.specs.Feed.{to_come}
 use Rattle.request_text.specs.Turns.{named}
 use Rattle.spiral_words.specs.SpiralStatus.Status.{IsDefined}
 use Rattle.commands.specs.Equations.Apply.{apply_work}

@@ -1,6 +1,5 @@
 use Rattle.std.proofs.Common.{Err, subst}
 use Rattle.std.proofs.lemmas.Result.{err_from_is_err_and}
-use Rattle.io_edge.specs.Feed.{to_come}
 use Rattle.spiral_words.specs.SpiralStatus.Status.{IsDefined}
 use Rattle.commands.specs.Equations.Compile.{compile_work}
 use Rattle.commands.specs.Equations.Formulas.{written}
