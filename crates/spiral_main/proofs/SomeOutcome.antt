@@ -32,7 +32,7 @@ use Rattle.spiral_words.specs.declared.FormulaCommand.{FormulaCommand}
 use Rattle.spiral_words.specs.declared.FormulaCommand.TheVariants as formula
 use Rattle.spiral_words.specs.declared.RequestCommand.{RequestCommand}
 use Rattle.spiral_words.specs.declared.RequestCommand.TheVariants as request
-use Rattle.spl_ast.specs.Formula.{Formula, size_of}
+use Rattle.spl_ast.specs.Formula.{size_of}
 use Rattle.spl_ast.specs.Meaning as meanings
 use Rattle.spiral_words.specs.declared.spiral_status.status.Status.{Status}
 use Rattle.spiral_words.specs.declared.spiral_status.status.Status.TheVariants.{Success, TooLong, Usage}
