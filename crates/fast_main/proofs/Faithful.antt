@@ -1,5 +1,6 @@
 -- The words of a program that passes the check leave what it leaves.
-use Rattle.std.proofs.Common.{◌≡◌, ℕ, ◌==◌, All, length, ◌<◌, ◌≤◌, Bool, true, false, inl, inr, refl, sym, ap, subst, ◌∙◌}
+use Rattle.std.proofs.Common.{◌≡◌, ℕ, ◌==◌, All, length, ◌<◌, ◌≤◌, Bool, true, false, inl, inr, refl, sym, ap}
+use Rattle.std.proofs.Common.{subst, ◌∙◌}
 use Rattle.std.specs.Prelude.{if◌then◌else◌}
 use Rattle.icode.specs.Actions.{PlainFits, plain_code}
 use Rattle.icode.specs.declared.program.Program.{Program}
@@ -44,7 +45,8 @@ Keeps q p = PlainFits p → ((phase : ℕ) → IsApart (plain_code p) phase) →
 then_keeps : (r q p : PlainProgram) → Keeps r q → Keeps q p → Keeps r p
 then_keeps r q p one two fits apart = let first = two fits apart in after r q p (one first.fits first.apart) first
 
-laned_frame : (v : ℕ) (p : PlainProgram) (b : Bool) → ((laned_by v p b).size ≡ p.size) × ((laned_by v p b).modulus ≡ p.modulus)
+laned_frame : (v : ℕ) (p : PlainProgram) (b : Bool) →
+    ((laned_by v p b).size ≡ p.size) × ((laned_by v p b).modulus ≡ p.modulus)
 laned_frame v p true = (refl, refl)
 laned_frame v p false = (refl, refl)
 

@@ -17,8 +17,8 @@ use Rattle.io_edge.specs.Feed.{Fed, to_come}
 use Rattle.io_edge.specs.Taken.{AppendsPrefix}
 use Rattle.fast_main.specs.declared.status.Status.{Status}
 use Rattle.fast_main.specs.declared.status.Status.TheVariants.{Success, Usage, ReadFault, WriteFault, NoMemory, TooLong}
-use Rattle.fast_main.specs.Outcome.{IsRefused, IsTranslated, IsDefined, IsInside, IsOutcome, IsOutcomeOfListing, IsAnswer}
-use Rattle.fast_main.specs.Outcome.{Accounts, AccountsFor, AreJudged, HasReadListing}
+use Rattle.fast_main.specs.Outcome.{IsRefused, IsTranslated, IsDefined, IsInside, IsOutcome, IsOutcomeOfListing}
+use Rattle.fast_main.specs.Outcome.{IsAnswer, Accounts, AccountsFor, AreJudged, HasReadListing}
 use Rattle.fast_main.specs.Status.{listing_limit, status_of_rest, status_of_words}
 
 -- the input gave these bytes, and a whole listing stands in them
@@ -29,7 +29,8 @@ pub record HasRead (told left : Option (List ℕ)) (feed : Fed) (listing : List 
   pub short : length listing ≤ listing_limit
 
 -- from a feed that held nothing
-pub first_fed : (told left : Option (List ℕ)) (start feed : Fed) (read : List ℕ) → start ≡ record { held = []; taken = 0 }
+pub first_fed : (told left : Option (List ℕ)) (start feed : Fed) (read : List ℕ)
+    → start ≡ record { held = []; taken = 0 }
     → Consumes (to_come start told) (to_come feed left) read → Consumes told (to_come feed left) read
 first_fed told left start feed read fresh c =
     subst (λ t. Consumes t (to_come feed left) read) (ap (λ f. to_come f told) fresh ∙ prepend_known-nil told) c
@@ -143,7 +144,8 @@ module _ (given : List (List ℕ)) (wanted : Asked) (out : Option (List ℕ)) (i
         inr (wanted, is, subst (λ l. IsOutcomeOfListing wanted l status text) (sym same) (inr (r.short, answer)))
 
     account : (out' : Option (List ℕ)) (status : Status) → ((more : List ℕ) → Tells left more →
-        Accounts given ((r.read ++ feed.held) ++ more) more out out' status) → AccountsFor given told left out out' status
+        Accounts given ((r.read ++ feed.held) ++ more) more out out' status)
+        → AccountsFor given told left out out' status
     account out' status each = record {
       read = r.read ++ feed.held;
       consumed = consumes_held told left r.read feed.held r.consumed;

@@ -43,7 +43,8 @@ use Rattle.plan_cert.proofs.Written.{written_line}
 
 -- the rule of a tree's root with the sizes of its parts
 abbrev HasRoot : Breakdown → Type 0
-HasRoot t = (rule : Option Rule) × (left : ℕ) × (right : ℕ) × IsRootOf t rule left right × (left < 2 ^ 64) × (right < 2 ^ 64)
+HasRoot t =
+    (rule : Option Rule) × (left : ℕ) × (right : ℕ) × IsRootOf t rule left right × (left < 2 ^ 64) × (right < 2 ^ 64)
 
 size_word : (t : Breakdown) → HasWordSizes t → size_of t < 2 ^ 64
 size_word (leaf d) h = h
@@ -150,7 +151,8 @@ one_value : (c : Request) → IsValid c → c.dimensions ≡ One → CanDivideWh
 one_value c valid one can =
     let few = closing_at_most c valid.in_range in
     let table =
-    some_table (forward_of c) (closing_cost c) (forward_is_valid c valid) (forward_kind c) (forward_divides c (divide_of_whole c one can))
+    some_table (forward_of c) (closing_cost c) (forward_is_valid c valid) (forward_kind c)
+    (forward_divides c (divide_of_whole c one can))
     (subst (λ n. closing_cost c ≤ 1000 * n) (sym (forward_size c)) few) in
     (table_data c.size c.weight table.0, (table.0, table.1, refl))
 

@@ -9,7 +9,8 @@ use Rattle.plan_cert.proofs.writing.table_value.Goals as goal
 
 pub table_rows-requires-clause-divides : goal.table_rows-requires-clause-divides
 table_rows-requires-clause-divides c =
-    subst CanDivide (sym c.forward.ensures.value) (forward_divides c.args.c.now (divide_of_whole c.args.c.now c.requires.one c.requires.trees))
+    subst CanDivide (sym c.forward.ensures.value)
+    (forward_divides c.args.c.now (divide_of_whole c.args.c.now c.requires.one c.requires.trees))
 
 pub returns : goal.returns
 returns c = (
