@@ -1,6 +1,6 @@
 -- What `check` comes to after the first line.
-use Rattle.std.proofs.Common.{◌≡◌, ◌<◌, ◌≤◌, ◌+◌, ℕ, List, [], ◌++◌, Err, length, refl, sym, ap, subst, ◌∙◌, arith}
-use Rattle.std.proofs.Common.{append-nil, length-append, inl, inr}
+use Rattle.std.proofs.Common.{◌≡◌, ◌<◌, ◌≤◌, ◌+◌, ℕ, List, [], ◌++◌, Ok, Err, Vec, Global, length, refl, sym, ap}
+use Rattle.std.proofs.Common.{subst, ◌∙◌, arith, append-nil, length-append, inl, inr}
 use Rattle.std.proofs.KnownBytes.{Appends-nil}
 use Rattle.std.specs.declared.option.Option.{Option}
 use Rattle.std.specs.Io.KnownBytes.{Appends, Consumes}
@@ -68,71 +68,66 @@ pub check_unread : (request : Request) (room : ℕ) (before after out : Option (
 check_unread request room before after out read fault there consumed given =
     stage_told (fitting request) judges room request before after out out (status_of_rest fault) (refl, there) (unread_told request room before after out read fault consumed given)
 
--- the verdict on the bytes, as it was found
-pub judged_of : (request context : Request) (text seen : List ℕ) (found other : Verdict)
-    → context ≡ request → seen ≡ text → other ≡ found → IsVerdict context seen other → IsVerdict request text found
-judged_of request context text seen found other c q e judged =
-    subst (λ (v : Verdict). IsVerdict request text v) e
-    (subst (λ (l : List ℕ). IsVerdict request l other) q (subst (λ (r : Request). IsVerdict r seen other) c judged))
+-- the rest of the input is a text with this verdict
+pub record IsFound (request : Request) (before after : Option (List ℕ)) (found : Verdict) : Type 0 where
+  pub read : List ℕ
+  pub consumed : Consumes before after read
+  pub end : IsOver after
+  pub short : length read ≤ certificate_limit
+  pub judged : IsVerdict request read found
+
+-- as it was read and found
+pub found_of : (request context : Request) (before after : Option (List ℕ)) (text : Vec ℕ Global) (seen : List ℕ)
+    (found other : Verdict)
+    → (read : List ℕ) × Consumes before after read × GivesRest certificate_limit read (IsOver after) (Ok text)
+    → context ≡ request → seen ≡ text.items → other ≡ found → IsVerdict context seen other
+    → IsFound request before after found
+found_of request context before after text seen found other (read, consumed, (same, end, short)) c q e judged = record {
+  read = read;
+  consumed = consumed;
+  end = end;
+  short = short;
+  judged =
+      subst (λ (l : List ℕ). IsVerdict request l found) (q ∙ same)
+      (subst (λ (v : Verdict). IsVerdict request seen v) e (subst (λ (r : Request). IsVerdict r seen other) c judged));
+}
 
 judged_meets : (request : Request) (room : ℕ) (bytes left : List ℕ) (out out' : Option (List ℕ)) (found : Verdict)
     → length bytes ≤ certificate_limit → IsVerdict request bytes found → Appends out out' (verdict_text found)
     → Meets (judges request room) bytes left out out' (status_of_verdict found)
-judged_meets request room bytes left out out' (verdict.Least cost) few judged w =
-    answered_meets (judges request room) bytes left out out' (status_of_verdict (verdict.Least cost))
-    (λ d. (least_line cost, inr (few, (verdict.Least cost, judged, refl, refl)), w)) (λ e. cc) (λ e. cc)
 judged_meets request room bytes left out out' verdict.Unread few judged w =
     answered_meets (judges request room) bytes left out out' (status_of_verdict verdict.Unread)
     (λ d. ([], inr (few, (verdict.Unread, judged, refl, refl)), w)) (λ e. cc) (λ e. cc)
-judged_meets request room bytes left out out' (verdict.Wrong size given found) few judged w =
-    answered_meets (judges request room) bytes left out out' (status_of_verdict (verdict.Wrong size given found))
-    (λ d. ([], inr (few, (verdict.Wrong size given found, judged, refl, refl)), w)) (λ e. cc) (λ e. cc)
-
-judged_told : (request : Request) (room : ℕ) (before after out out' : Option (List ℕ)) (read text : List ℕ)
-    (found : Verdict)
-    → Consumes before after read → text ≡ read → IsOver after → length read ≤ certificate_limit
-    → IsVerdict request text found → Appends out out' (verdict_text found)
-    → SourceMeets (judges request room) before after out out' (status_of_verdict found)
-judged_told request room before after out out' read text found consumed same end short judged w = record {
-  read = read;
-  consumed = consumed;
-  meets = λ rest tells.
-      let bytes : List ℕ = read ++ rest in
-      let whole : bytes ≡ read = ap (λ l. read ++ l) (over_left after rest tells end) ∙ append-nil read in
-      let few : length bytes ≤ certificate_limit = subst (λ l. length l ≤ certificate_limit) (sym whole) short in
-      let here : IsVerdict request bytes found = subst (λ l. IsVerdict request l found) (same ∙ sym whole) judged in
-      judged_meets request room bytes rest out out' found few here w;
-}
+judged_meets request room bytes left out out' found few judged w =
+    answered_meets (judges request room) bytes left out out' (status_of_verdict found)
+    (λ d. (verdict_text found, inr (few, (found, judged, refl, refl)), w)) (λ e. cc) (λ e. cc)
 
 -- a rest that was judged
-pub check_judged : (request : Request) (room : ℕ) (before after out out' : Option (List ℕ)) (read text : List ℕ)
-    (found : Verdict)
-    → IsAdmitted request → Consumes before after read → text ≡ read → IsOver after → length read ≤ certificate_limit
-    → IsVerdict request text found → Appends out out' (verdict_text found)
+pub check_judged : (request : Request) (room : ℕ) (before after out out' : Option (List ℕ)) (found : Verdict)
+    → IsAdmitted request → IsFound request before after found → Appends out out' (verdict_text found)
     → SourceMeets (checking request room) before after out out' (status_of_verdict found)
-check_judged request room before after out out' read text found there consumed same end short judged w =
+check_judged request room before after out out' found there f w =
     stage_told (fitting request) judges room request before after out out' (status_of_verdict found) (refl, there)
-    (judged_told request room before after out out' read text found consumed same end short judged w)
-
-cut_told : (request : Request) (room : ℕ) (before after out out' : Option (List ℕ)) (read text : List ℕ) (cost : ℕ)
-    → Consumes before after read → text ≡ read → IsOver after → length read ≤ certificate_limit
-    → IsVerdict request text (verdict.Least cost) → AppendsPrefix out out' (least_line cost)
-    → SourceMeets (judges request room) before after out out' WriteFault
-cut_told request room before after out out' read text cost consumed same end short judged w = record {
-  read = read;
-  consumed = consumed;
-  meets = λ rest tells.
-      let judged_here : IsVerdict request read (verdict.Least cost) =
-      subst (λ l. IsVerdict request l (verdict.Least cost)) same judged in
-      cut_meets (judges request room) read rest (least_line cost) out out'
-      (over_left after rest tells end, short, (verdict.Least cost, judged_here, refl, refl)) w;
-}
+    (record {
+      read = f.read;
+      consumed = f.consumed;
+      meets = λ rest tells.
+          let whole : f.read ++ rest ≡ f.read =
+          ap (λ l. f.read ++ l) (over_left after rest tells f.end) ∙ append-nil f.read in
+          judged_meets request room (f.read ++ rest) rest out out' found
+          (subst (λ (l : List ℕ). length l ≤ certificate_limit) (sym whole) f.short)
+          (subst (λ (l : List ℕ). IsVerdict request l found) (sym whole) f.judged) w;
+    })
 
 -- a rest that was judged right, and the line that says so was not written whole
-pub check_cut : (request : Request) (room : ℕ) (before after out out' : Option (List ℕ)) (read text : List ℕ) (cost : ℕ)
-    → IsAdmitted request → Consumes before after read → text ≡ read → IsOver after → length read ≤ certificate_limit
-    → IsVerdict request text (verdict.Least cost) → AppendsPrefix out out' (least_line cost)
+pub check_cut : (request : Request) (room : ℕ) (before after out out' : Option (List ℕ)) (cost : ℕ)
+    → IsAdmitted request → IsFound request before after (verdict.Least cost) → AppendsPrefix out out' (least_line cost)
     → SourceMeets (checking request room) before after out out' WriteFault
-check_cut request room before after out out' read text cost there consumed same end short judged w =
-    stage_told (fitting request) judges room request before after out out' WriteFault (refl, there)
-    (cut_told request room before after out out' read text cost consumed same end short judged w)
+check_cut request room before after out out' cost there f w =
+    stage_told (fitting request) judges room request before after out out' WriteFault (refl, there) (record {
+      read = f.read;
+      consumed = f.consumed;
+      meets = λ rest tells.
+          cut_meets (judges request room) f.read rest (least_line cost) out out'
+          (over_left after rest tells f.end, f.short, (verdict.Least cost, f.judged, refl, refl)) w;
+    })

@@ -1,10 +1,8 @@
 -- The texts that are written for a request alone.
-use Rattle.std.proofs.Common.{◌≡◌, ℕ, List, [], ◌∷◌, ◌++◌, Ok, refl, ap, subst, ◌∙◌}
+use Rattle.std.proofs.Common.{◌≡◌, ℕ, List, [], Ok, refl, ap, subst, ◌∙◌}
 use Rattle.std.specs.declared.option.Option.{Option}
 use Rattle.std.specs.Io.KnownBytes.{Appends}
-use Rattle.breakdown.specs.Expansion.{formula_of}
 use Rattle.plan_cert.specs.Table.{IsTableText}
-use Rattle.spl_text.specs.Spelling.{spelling}
 use Rattle.c_print.specs.CText.{c_text_of}
 use Rattle.generate.specs.Planned.{IsPlanned}
 use Rattle.icode.specs.Program.{plain_program}
@@ -30,10 +28,8 @@ use Rattle.commands.proofs.SpiralInput.StageLemmas.{stage_meets}
 
 -- a fault of the making refuses the request
 pub generate_refusal : (fault : GenerateFault) → IsRefusal (status_of_generate fault)
-generate_refusal (generate.Root power) = record { success = λ e. cc; read = λ e. cc; write = λ e. cc; usage = λ e. cc }
 generate_refusal generate.NoDivide = record { success = λ e. cc; read = λ e. cc; write = λ e. cc; usage = λ e. cc }
-generate_refusal (generate.OverBudget cost budget) = record { success = λ e. cc; read = λ e. cc; write = λ e. cc; usage = λ e. cc }
-generate_refusal generate.NoMemory = record { success = λ e. cc; read = λ e. cc; write = λ e. cc; usage = λ e. cc }
+generate_refusal fault = record { success = λ e. cc; read = λ e. cc; write = λ e. cc; usage = λ e. cc }
 
 -- the request with its tree
 abbrev pub with_tree : Request → Breakdown → Planned
@@ -42,11 +38,6 @@ with_tree request tree = record { request = request; tree = tree }
 pub document_of : (wanted : Document) (request : Request) (tree : Breakdown) (text : List ℕ)
     → IsPlanned request (Ok tree) → IsDocumentText wanted (with_tree request tree) text → IsDocument wanted request text
 document_of wanted request tree text planned told = (with_tree request tree, (refl, planned), told)
-
-pub formula_document : (request : Request) (tree : Breakdown) (text : List ℕ)
-    → IsPlanned request (Ok tree) → text ≡ spelling (formula_of request tree) ++ 10 ∷ [] →
-    IsDocument document.Formula request text
-formula_document request tree text planned told = document_of document.Formula request tree text planned told
 
 -- of a context that is the request
 pub certificate_document : (request context : Request) (tree : Breakdown) (text : List ℕ)

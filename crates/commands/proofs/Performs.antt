@@ -1,5 +1,5 @@
 -- From what comes after the line of a request to the whole input.
-use Rattle.std.proofs.Common.{◌-◌, ℕ, List, []}
+use Rattle.std.proofs.Common.{ℕ, List, []}
 use Rattle.matrix_meaning.specs.declared.Request.{Request}
 use Rattle.spiral_words.specs.declared.Document.{Document}
 use Rattle.spiral_words.specs.declared.Document.TheVariants as document
@@ -34,12 +34,8 @@ planned_within : (names : List ℕ) (work : Planned → Work)
 planned_within names work = front_join (line 256) (λ text. spelt text >>= turned names) chosen work
 
 document_within : (wanted : Document) → Within (by_line (command.Writes wanted)) (document_outcomes wanted)
-document_within document.Plan = planned_within [] (document_work document.Plan)
-document_within document.Formula = planned_within [] (document_work document.Formula)
-document_within document.Code = planned_within [] (document_work document.Code)
-document_within document.C = planned_within [] (document_work document.C)
-document_within document.Cert = planned_within [] (document_work document.Cert)
 document_within (document.Sample seed schedule) = planned_within _ (document_work (document.Sample seed schedule))
+document_within wanted = planned_within [] (document_work wanted)
 
 check_within : Within (by_line command.Judges) check_outcomes
 check_within =

@@ -1,5 +1,5 @@
 -- What is known of a request.
-use Rattle.std.proofs.Common.{ℕ, ◌<◌, ◌≤◌, arith}
+use Rattle.std.proofs.Common.{◌<◌, ◌≤◌, arith}
 use Rattle.matrix_meaning.specs.declared.Request.{Request}
 use Rattle.matrix_meaning.specs.Valid.{IsInRange}
 
@@ -12,17 +12,11 @@ pub record HasLimits (r : Request) : Type 0 where
   pub weight : 1 ≤ r.weight
   pub budget : r.budget ≤ 1000000000000
 
-above_one : (n : ℕ) → 1 ≤ n → 0 < n
-above_one n h = omega (arith, h)
-
-above_two : (n : ℕ) → 2 ≤ n → 0 < n
-above_two n h = omega (arith, h)
-
 pub limits : (r : Request) → IsInRange r → HasLimits r
 limits r h = record {
-  size = above_one _ h.size.0;
-  modulus = above_two _ h.modulus.0;
-  procs = above_one _ h.procs.0;
+  size = omega (arith, h.size.0);
+  modulus = omega (arith, h.modulus.0);
+  procs = omega (arith, h.procs.0);
   lanes = h.lanes.1;
   weight = h.weight.0;
   budget = h.budget.1;

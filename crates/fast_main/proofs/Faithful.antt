@@ -1,5 +1,5 @@
 -- The words of a program that passes the check leave what it leaves.
-use Rattle.std.proofs.Common.{◌≡◌, ℕ, ◌*◌, All, length, ◌<◌, ◌≤◌, Bool, true, false, map, inl, inr, refl, sym, ap}
+use Rattle.std.proofs.Common.{◌≡◌, ℕ, ◌==◌, All, length, ◌<◌, ◌≤◌, Bool, true, false, inl, inr, refl, sym, ap}
 use Rattle.std.proofs.Common.{subst, ◌∙◌}
 use Rattle.std.specs.Prelude.{if◌then◌else◌}
 use Rattle.icode.specs.Actions.{PlainFits, plain_code}
@@ -14,9 +14,9 @@ use Rattle.fast_loops.specs.Interchange.{interchanged}
 use Rattle.fast_loops.proofs.Programs.{interchanged_program}
 use Rattle.fast_loops.specs.JoinedLoops.JoinedLoops.{joined}
 use Rattle.fast_loops.proofs.JoinedLoops.Law.{joined_does_the_same}
-use Rattle.fast_loops.specs.LoopLanes.Lanes.{IsLanes, can_be_laned, laned, laned_body}
+use Rattle.fast_loops.specs.LoopLanes.Lanes.{IsLanes, can_be_laned, laned}
 use Rattle.fast_loops.proofs.LoopLanes.Law.{laned_leaves_the_same}
-use Rattle.fast_loops.specs.FusedLoops.FusedLoops.{fused, large_size}
+use Rattle.fast_loops.specs.FusedLoops.FusedLoops.{large_size}
 use Rattle.fast_loops.proofs.FusedLoops.Law.{fused_leaves_the_same}
 use Rattle.fast_loops.specs.TwoTables.Laws.{IsInPlaceOf}
 use Rattle.fast_loops.specs.TwoTables.TwoTables.{factored, large_table}
@@ -34,37 +34,29 @@ use Rattle.word_code.specs.WordProgram.{PlainWordProgram, word_code}
 use Rattle.fast_main.specs.FastWords.Asked.{IsLaneCount}
 use Rattle.fast_main.specs.Translation.{has_cheap_products, on_several, on_lanes, in_blocks, prepared, words_for}
 use Rattle.fast_main.specs.Translation.{IsFaithful, AreSoundWords}
+use Rattle.fast_main.proofs.Laned.{laned_by}
 
 -- ---- the prepared program
 
-laned_size : (v : ℕ) (p : PlainProgram) → (laned v p).size ≡ p.size
-laned_size v p = of_choice (can_be_laned v p)
-  where
-    of_choice : (b : Bool) → (if b then record p { lanes = v; regs = 3 * p.regs; phases = map (laned_body v p.regs) p.phases } else p).size ≡ p.size
-    of_choice true = refl
-    of_choice false = refl
+-- where p fits and is apart, so does q, of the same numbers, and it leaves what p leaves
+abbrev Keeps : PlainProgram → PlainProgram → Type 0
+Keeps q p = PlainFits p → ((phase : ℕ) → IsApart (plain_code p) phase) → IsInPlaceOf q p
 
-laned_modulus : (v : ℕ) (p : PlainProgram) → (laned v p).modulus ≡ p.modulus
-laned_modulus v p = of_choice (can_be_laned v p)
-  where
-    of_choice : (b : Bool) → (if b then record p { lanes = v; regs = 3 * p.regs; phases = map (laned_body v p.regs) p.phases } else p).modulus ≡ p.modulus
-    of_choice true = refl
-    of_choice false = refl
+then_keeps : (r q p : PlainProgram) → Keeps r q → Keeps q p → Keeps r p
+then_keeps r q p one two fits apart = let first = two fits apart in after r q p (one first.fits first.apart) first
 
-laned_is : (v : ℕ) (p : PlainProgram) → IsLanes v → PlainFits p → ((phase : ℕ) → IsApart (plain_code p) phase) →
-    IsInPlaceOf (laned v p) p
+laned_frame : (v : ℕ) (p : PlainProgram) (b : Bool) →
+    ((laned_by v p b).size ≡ p.size) × ((laned_by v p b).modulus ≡ p.modulus)
+laned_frame v p true = (refl, refl)
+laned_frame v p false = (refl, refl)
+
+laned_is : (v : ℕ) (p : PlainProgram) → IsLanes v → Keeps (laned v p) p
 laned_is v p lanes fits apart =
     let law = laned_leaves_the_same v p lanes fits apart in
-    record {
-      size = laned_size v p;
-      modulus = laned_modulus v p;
-      fits = law.fits;
-      apart = law.apart;
-      same = law.same;
-    }
+    let frame = laned_frame v p (can_be_laned v p) in
+    record { size = frame.0; modulus = frame.1; fits = law.fits; apart = law.apart; same = law.same }
 
-joined_is : (p : PlainProgram) → PlainFits p → ((phase : ℕ) → IsApart (plain_code p) phase) →
-    IsInPlaceOf (joined p) p
+joined_is : (p : PlainProgram) → Keeps (joined p) p
 joined_is p fits apart =
     let law = joined_does_the_same p in
     record {
@@ -76,56 +68,37 @@ joined_is p fits apart =
     }
 
 -- on lanes as its loops are, or with them joined, or as it is
-several_is : (v : ℕ) (p : PlainProgram) → IsLanes v → PlainFits p → ((phase : ℕ) → IsApart (plain_code p) phase) →
-    IsInPlaceOf (on_several v p) p
-several_is v p lanes fits apart = of_choice (can_be_laned v p) (can_be_laned v (joined p))
+several_is : (v : ℕ) (p : PlainProgram) → IsLanes v → Keeps (on_several v p) p
+several_is v p lanes = of_choice (can_be_laned v p) (can_be_laned v (joined p))
   where
-    first : IsInPlaceOf (joined p) p
-    first = joined_is p fits apart
+    of_choice : (b c : Bool) → Keeps (if b then laned v p else (if c then laned v (joined p) else p)) p
+    of_choice true c = laned_is v p lanes
+    of_choice false true = then_keeps (laned v (joined p)) (joined p) p (laned_is v (joined p) lanes) (joined_is p)
+    of_choice false false = itself p
 
-    of_choice : (b c : Bool) →
-        IsInPlaceOf (if b then laned v p else (if c then laned v (joined p) else p)) p
-    of_choice true c = laned_is v p lanes fits apart
-    of_choice false true =
-        after (laned v (joined p)) (joined p) p (laned_is v (joined p) lanes first.fits first.apart) first
-    of_choice false false = itself p fits apart
-
-lanes_is : (v : ℕ) (p : PlainProgram) → IsLanes v → PlainFits p → ((phase : ℕ) → IsApart (plain_code p) phase) →
-    IsInPlaceOf (on_several v (interchanged p)) p
-lanes_is v p lanes fits apart =
-    let first = interchanged_program p fits apart in
-    after (on_several v (interchanged p)) (interchanged p) p
-    (several_is v (interchanged p) lanes first.fits first.apart) first
-
-on_lanes_is : (lanes : ℕ) (p : PlainProgram) → IsLaneCount lanes → PlainFits p →
-    ((phase : ℕ) → IsApart (plain_code p) phase) → IsInPlaceOf (on_lanes lanes p) p
-on_lanes_is lanes p (inl one) fits apart = subst (λ n. IsInPlaceOf (on_lanes n p) p) (sym one) (interchanged_program p fits apart)
-on_lanes_is lanes p (inr (inl two)) fits apart =
-    subst (λ n. IsInPlaceOf (on_lanes n p) p) (sym two) (lanes_is 2 p (inl refl) fits apart)
-on_lanes_is lanes p (inr (inr (inl four))) fits apart =
-    subst (λ n. IsInPlaceOf (on_lanes n p) p) (sym four) (lanes_is 4 p (inr (inl refl)) fits apart)
-on_lanes_is lanes p (inr (inr (inr (inl eight)))) fits apart =
-    subst (λ n. IsInPlaceOf (on_lanes n p) p) (sym eight) (lanes_is 8 p (inr (inr (inl refl))) fits apart)
-on_lanes_is lanes p (inr (inr (inr (inr sixteen)))) fits apart =
-    subst (λ n. IsInPlaceOf (on_lanes n p) p) (sym sixteen) (lanes_is 16 p (inr (inr (inr refl))) fits apart)
-
-in_blocks_is : (lanes : ℕ) (p : PlainProgram) → IsLaneCount lanes → PlainFits p →
-    ((phase : ℕ) → IsApart (plain_code p) phase) → IsInPlaceOf (in_blocks lanes p) p
-in_blocks_is lanes p count fits apart =
-    let first = on_lanes_is lanes p count fits apart in
-    after (fused large_size (on_lanes lanes p)) (on_lanes lanes p) p (fused_leaves_the_same large_size (on_lanes lanes p) first.fits first.apart) first
-
-prepared_is : (size : WordSize) (lanes : ℕ) (p : PlainProgram) → IsLaneCount lanes → PlainFits p →
-    ((phase : ℕ) → IsApart (plain_code p) phase) → IsInPlaceOf (prepared size lanes p) p
-prepared_is size lanes p count fits apart = of_choice (has_cheap_products size (in_blocks lanes p).modulus)
+on_lanes_is : (lanes : ℕ) (p : PlainProgram) → IsLaneCount lanes → Keeps (on_lanes lanes p) p
+on_lanes_is lanes p (inl one) = subst (λ n. Keeps (on_lanes n p) p) (sym one) (interchanged_program p)
+on_lanes_is lanes p (inr some) = of_choice (lanes == 1)
   where
-    first : IsInPlaceOf (in_blocks lanes p) p
-    first = in_blocks_is lanes p count fits apart
+    of_choice : (b : Bool) → Keeps (if b then interchanged p else on_several lanes (interchanged p)) p
+    of_choice true = interchanged_program p
+    of_choice false =
+        then_keeps (on_several lanes (interchanged p)) (interchanged p) p
+        (several_is lanes (interchanged p) some) (interchanged_program p)
 
-    of_choice : (b : Bool) → IsInPlaceOf (if b then factored large_table (in_blocks lanes p) else in_blocks lanes p) p
+in_blocks_is : (lanes : ℕ) (p : PlainProgram) → IsLaneCount lanes → Keeps (in_blocks lanes p) p
+in_blocks_is lanes p count =
+    then_keeps (in_blocks lanes p) (on_lanes lanes p) p (fused_leaves_the_same large_size (on_lanes lanes p))
+    (on_lanes_is lanes p count)
+
+prepared_is : (size : WordSize) (lanes : ℕ) (p : PlainProgram) → IsLaneCount lanes → Keeps (prepared size lanes p) p
+prepared_is size lanes p count = of_choice (has_cheap_products size (in_blocks lanes p).modulus)
+  where
+    of_choice : (b : Bool) → Keeps (if b then factored large_table (in_blocks lanes p) else in_blocks lanes p) p
     of_choice true =
-        after (factored large_table (in_blocks lanes p)) (in_blocks lanes p) p (factored_leaves_the_same large_table (in_blocks lanes p) first.fits first.apart) first
-    of_choice false = first
+        then_keeps (factored large_table (in_blocks lanes p)) (in_blocks lanes p) p
+        (factored_leaves_the_same large_table (in_blocks lanes p)) (in_blocks_is lanes p count)
+    of_choice false = in_blocks_is lanes p count
 
 -- the program in blocks, as it goes to its tables: it fits, and is apart
 module _ (lanes : ℕ) (p there : Program) (count : IsLaneCount lanes)

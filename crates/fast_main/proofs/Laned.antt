@@ -6,7 +6,7 @@ use Rattle.fast_loops.specs.LoopLanes.Lanes.{can_be_laned, laned, laned_body}
 use Rattle.fast_main.specs.Translation.{laned_if_joined, on_several}
 
 module _ (v : ℕ) (p : PlainProgram) where
-  abbrev laned_by : Bool → PlainProgram
+  abbrev pub laned_by : Bool → PlainProgram
   laned_by b =
       if b then record p { lanes = v; regs = 3 * p.regs; phases = map (laned_body v p.regs) p.phases } else p
 

@@ -4,7 +4,7 @@ use Rattle.std.proofs.Common.{None, Ok, Err, Result, inl, inr, refl, sym, ap, su
 use Rattle.icode.specs.Plain.{PlainProgram}
 use Rattle.code_check.specs.Refusals.{PassesCheck, IsCause}
 use Rattle.code_check.proofs.Causes.{one_cause, none_if_passed}
-use Rattle.grammar.specs.Grammar.{Begins, IsLost, first_lines}
+use Rattle.grammar.specs.Grammar.{IsLost, first_lines}
 use Rattle.listing_text.specs.Lines.{read_lines}
 use Rattle.listing_text.specs.Listing.{listing_wording}
 use Rattle.listing_text.specs.ListingGrammar.{listing_grammar}
@@ -22,37 +22,26 @@ use Rattle.data_stream.specs.InputRest.Part.{first_part}
 use Rattle.word_code.specs.declared.choose.WordSize.{WordSize}
 use Rattle.word_code.specs.Choice.{allows}
 
--- The first lines are a front of the first lines and one more
+-- The first lines of a text are a front of more of them
 
-record Front (text whole : List ℕ) : Type 0 where
-  pub rest : List ℕ
-  pub is : whole ≡ text ++ rest
+fewer : (test : Bool) (a b : ℕ) → a ≤ b → cond test a (suc a) ≤ cond test b (suc b)
+fewer true a b le = le
+fewer false a b le = omega (arith, le)
 
-one_more : (x : ℕ) (text whole : List ℕ) → Front text whole → Front (x ∷ text) (x ∷ whole)
-one_more x text whole f = record { rest = f.rest; is = ap (λ l. x ∷ l) f.is }
-
-by_end : (x a b : ℕ) (text : List ℕ) (k : Bool) → Front (first_lines a text) (first_lines b text) →
-    Front (first_lines (suc a) text) (first_lines (suc b) text)
-    → Front (x ∷ first_lines (cond k a (suc a)) text) (x ∷ first_lines (cond k b (suc b)) text)
-by_end x a b text true here on = one_more x (first_lines a text) (first_lines b text) here
-by_end x a b text false here on = one_more x (first_lines (suc a) text) (first_lines (suc b) text) on
-
-fewer_lines : (text : List ℕ) (a b : ℕ) → a ≤ b → Front (first_lines a text) (first_lines b text)
-fewer_lines text zero b le = record { rest = first_lines b text; is = refl }
-fewer_lines text (suc a) zero le = absurd (omega (arith, le))
-fewer_lines [] (suc a) (suc b) le = record { rest = []; is = refl }
-fewer_lines (x ∷ text) (suc a) (suc b) le =
-    by_end x a b text (eqb x 10) (fewer_lines text a b (omega (arith, le))) (fewer_lines text (suc a) (suc b) le)
-
-begins_before : {A : Type 0} (spells : List ℕ → A → Type 0) (text whole : List ℕ) → Front text whole →
-    Begins spells whole → Begins spells text
-begins_before spells text whole f b = (f.rest ++ b.0, b.1, subst (λ l. spells l b.1) (ap (λ l. l ++ b.0) f.is ∙ append_assoc text f.rest b.0) b.2)
+front_lines : (text : List ℕ) (a b : ℕ) → a ≤ b → (more : List ℕ) × (first_lines b text ≡ first_lines a text ++ more)
+front_lines text zero b le = (first_lines b text, refl)
+front_lines text (suc a) zero le = absurd (omega (arith, le))
+front_lines [] (suc a) (suc b) le = ([], refl)
+front_lines (x ∷ text) (suc a) (suc b) le =
+    let rest = front_lines text _ _ (fewer (eqb x 10) a b (omega (arith, le))) in (rest.0, ap (λ l. x ∷ l) rest.1)
 
 not_before : {A : Type 0} (spells : List ℕ → A → Type 0) (text : List ℕ) (a b : ℕ) → IsLost spells text a →
     IsLost spells text b → a < b → ⊥
 not_before spells text a b p q lt =
-    let le : a ≤ b - 1 = omega (arith, lt) in
-    p.here (let most = q.counted.1 in omega (arith, most, lt)) (begins_before spells (first_lines a text) (first_lines (b - 1) text) (fewer_lines text a (b - 1) le) q.before)
+    let front = front_lines text a (b - 1) (omega (arith, lt)) in
+    let whole = ap (λ l. l ++ q.before.0) front.1 ∙ append_assoc (first_lines a text) front.0 q.before.0 in
+    p.here (omega (arith, q.counted.1, lt))
+    (front.0 ++ q.before.0, q.before.1, subst (λ l. spells l q.before.1) whole q.before.2)
 
 -- a text is lost in one line
 lost_once : {A : Type 0} (spells : List ℕ → A → Type 0) (text : List ℕ) (a b : ℕ) → IsLost spells text a →

@@ -1,6 +1,6 @@
 -- Programs on words whose statements go by other routes can be spelt as those that they are made of.
 use Rattle.std.proofs.Common.{◌≡◌, ℕ, ◌+◌, ltb, ◌&&◌, List, [], ◌∷◌, map, refl, ap, ap₂}
-use Rattle.icode.specs.Plain.{PlainOp, PlainProgram, Load, Store, Zero, Add, Sub, Neg, MulConst, MulTable, Tile}
+use Rattle.icode.specs.Plain.{PlainOp, PlainProgram, Load}
 use Rattle.word_code.specs.InPlace.InPlace.{in_place, routes_of}
 use Rattle.word_code.specs.InPlace.Routes.{rerouted_op, rerouted_stmt, rerouted_body, rerouted_phase}
 use Rattle.word_code.specs.WordProgram.{WordStmt, WordBody, PlainWordProgram, Loop, Do, NoStmts, AndStmts}
@@ -9,14 +9,7 @@ use Rattle.word_code.specs.WordPrint.WordNests.{are_word_phases_within}
 
 tile-same : (route : _) (op : PlainOp) → is_tile_small (rerouted_op route op) ≡ is_tile_small op
 tile-same route (Load register array place) = refl
-tile-same route (Store array place register) = refl
-tile-same route (Zero register) = refl
-tile-same route (Add register left right) = refl
-tile-same route (Sub register left right) = refl
-tile-same route (Neg register source) = refl
-tile-same route (MulConst register source factor) = refl
-tile-same route (MulTable register source table place step) = refl
-tile-same route (Tile register source) = refl
+tile-same route op = refl
 
 mutual
   stmt-same : (route : _) (stmt : WordStmt) (depth : ℕ) → is_word_nest_within (rerouted_stmt route stmt) depth

@@ -1,60 +1,88 @@
 -- What the bytes of the input account for.
-use Rattle.std.proofs.Common.{◌≡◌, ◌≢◌, ℕ, ◌<◌, ◌≤◌, List, [], ◌++◌, length, None, Some, Err, inl, inr, refl, sym, ap}
-use Rattle.std.proofs.Common.{subst, ◌∙◌, append_assoc}
+use Rattle.std.proofs.Common.{◌≡◌, ◌≢◌, ℕ, ◌<◌, ◌≤◌, List, [], ◌++◌, length, None, Some, Ok, Err, Vec, Global}
+use Rattle.std.proofs.Common.{inl, inr, refl, sym, ap, subst, ◌∙◌, append_assoc}
 use Rattle.std.specs.declared.option.Option.{Option}
-use Rattle.std.specs.Io.KnownBytes.{Appends, Consumes, prepend_known}
+use Rattle.std.specs.Io.KnownBytes.{Appends, Consumes}
 use Rattle.io_edge.specs.Told.{IsOver, Tells}
 use Rattle.io_edge.proofs.ToldLemmas.{over_left, tells_held, consumes_held, left_over}
-use Rattle.std.proofs.KnownBytes.{Appends-nil, Consumes-nil}
+use Rattle.std.proofs.KnownBytes.{Appends-nil, Consumes-nil, prepend_known-nil}
 use Rattle.fast_main.specs.FastWords.Asked.{Asked, asked}
 use Rattle.fast_main.specs.declared.fast_words.options.Refusal.{Refusal}
 use Rattle.fast_main.specs.declared.fast_words.options.Refusal.TheVariants as words
 use Rattle.data_stream.specs.declared.input_rest.RestFault.{RestFault}
 use Rattle.data_stream.specs.declared.input_rest.RestFault.TheVariants as rest
-use Rattle.data_stream.specs.InputRest.Part.{first_part, HasPartEnded, IsWholePart, GivesPart}
+use Rattle.data_stream.specs.InputRest.Part.{first_part, IsWholePart, GivesPart}
 use Rattle.data_stream.proofs.InputRest.PartLemmas.{still_ended}
 use Rattle.io_edge.specs.Feed.{Fed, to_come}
 use Rattle.io_edge.specs.Taken.{AppendsPrefix}
 use Rattle.fast_main.specs.declared.status.Status.{Status}
-use Rattle.fast_main.specs.declared.status.Status.TheVariants.{Success, Usage, WriteFault}
-use Rattle.fast_main.specs.Outcome.{IsRefused, IsTranslated, IsDefined, IsInside, IsOutcome, AreJudged, HasReadListing}
-use Rattle.fast_main.specs.Outcome.{Accounts, AccountsFor}
+use Rattle.fast_main.specs.declared.status.Status.TheVariants.{Success, Usage, ReadFault, WriteFault, NoMemory, TooLong}
+use Rattle.fast_main.specs.Outcome.{IsRefused, IsTranslated, IsDefined, IsInside, IsOutcome, IsOutcomeOfListing}
+use Rattle.fast_main.specs.Outcome.{IsAnswer, Accounts, AccountsFor, AreJudged, HasReadListing}
 use Rattle.fast_main.specs.Status.{listing_limit, status_of_rest, status_of_words}
 
--- what was read of a listing that has ended is the first part of the input
-is_first_part : (feed : Fed) (left : Option (List ℕ)) (read listing more : List ℕ)
-    → IsWholePart read (IsOver (to_come feed left)) listing → Tells left more
-    → first_part ((read ++ feed.held) ++ more) ≡ listing
-is_first_part feed left read listing more whole tells =
-    ap first_part (append_assoc read feed.held more)
-    ∙ (whole.parts (feed.held ++ more) (over_left (to_come feed left) (feed.held ++ more) (tells_held feed.held left more tells))).0
+-- the input gave these bytes, and a whole listing stands in them
+pub record HasRead (told left : Option (List ℕ)) (feed : Fed) (listing : List ℕ) : Type 0 where
+  pub read : List ℕ
+  pub consumed : Consumes told (to_come feed left) read
+  pub whole : IsWholePart read (IsOver (to_come feed left)) listing
+  pub short : length listing ≤ listing_limit
+
+-- from a feed that held nothing
+pub first_fed : (told left : Option (List ℕ)) (start feed : Fed) (read : List ℕ)
+    → start ≡ record { held = []; taken = 0 }
+    → Consumes (to_come start told) (to_come feed left) read → Consumes told (to_come feed left) read
+first_fed told left start feed read fresh c =
+    subst (λ t. Consumes t (to_come feed left) read) (ap (λ f. to_come f told) fresh ∙ prepend_known-nil told) c
+
+pub has_read : (told left : Option (List ℕ)) (start feed : Fed) (text : List ℕ) (listing : Vec ℕ Global)
+    → start ≡ record { held = []; taken = 0 } → text ≡ listing.items
+    → (read : List ℕ) × Consumes (to_come start told) (to_come feed left) read
+    × GivesPart listing_limit read (IsOver (to_come feed left)) start.taken feed.taken (Ok listing)
+    → HasRead told left feed text
+has_read told left start feed text listing fresh is (read, c, gives) = record {
+  read = read;
+  consumed = first_fed told left start feed read fresh c;
+  whole = subst (IsWholePart read (IsOver (to_come feed left))) (sym is) gives.3;
+  short = subst (λ (l : List ℕ). length l ≤ listing_limit) (sym is) gives.1;
+}
 
 -- the bytes that the feed holds have been read too
-pub listing_ended : (told left : Option (List ℕ)) (held read : List ℕ) → Consumes told (prepend_known held left) read
-    → HasPartEnded read (IsOver (prepend_known held left)) → HasReadListing told left
-listing_ended told left held read c end = (read ++ held, consumes_held told left read held c, still_ended read held _ _ end (left_over held left))
+pub listing_ended : (told left : Option (List ℕ)) (feed : Fed) (listing : List ℕ) → HasRead told left feed listing
+    → HasReadListing told left
+listing_ended told left feed listing r = (
+  r.read ++ feed.held,
+  consumes_held told left r.read feed.held r.consumed,
+  still_ended r.read feed.held _ _ r.whole.end (left_over feed.held left),
+)
+
+-- where neither a read nor a write failed, the outcome is all that is asked
+settled : (given : List (List ℕ)) (bytes left : List ℕ) (before after : Option (List ℕ)) (status : Status)
+    → status ≢ ReadFault → status ≢ WriteFault
+    → (IsDefined status → (text : List ℕ) × IsOutcome given bytes status text × Appends before after text)
+    → Accounts given bytes left before after status
+settled given bytes left before after status no_read no_write answer = record {
+  answer = answer;
+  read_fault = λ e. absurd (no_read e);
+  write_fault = λ e. absurd (no_write e);
+}
 
 -- The words ask for nothing, or memory ran out
 
+no_words : (given : List (List ℕ)) (more : List ℕ) (out : Option (List ℕ)) (refusal : Refusal)
+    → (refusal ≡ words.Usage → asked given ≡ None) → Accounts given more more out out (status_of_words refusal)
+no_words given more out words.Usage nothing =
+    settled given more more out out Usage (λ e. cc) (λ e. cc)
+    (λ d. ([], inl (nothing refl, refl, refl), Appends-nil out))
+no_words given more out words.NoMemory nothing =
+    settled given more more out out NoMemory (λ e. cc) (λ e. cc) (λ d. absurd (d.memory refl))
+
 pub told_no_words : (given : List (List ℕ)) (told out : Option (List ℕ)) (refusal : Refusal)
     → (refusal ≡ words.Usage → asked given ≡ None) → AccountsFor given told told out out (status_of_words refusal)
-told_no_words given told out words.Usage nothing = record {
+told_no_words given told out refusal nothing = record {
   read = [];
   consumed = Consumes-nil told;
-  accounts = λ more tells. record {
-    answer = λ d. ([], inl (nothing refl, refl, refl), Appends-nil out);
-    read_fault = λ e. absurd (cc);
-    write_fault = λ e. absurd (cc);
-  };
-}
-told_no_words given told out words.NoMemory nothing = record {
-  read = [];
-  consumed = Consumes-nil told;
-  accounts = λ more tells. record {
-    answer = λ d. absurd (d.memory refl);
-    read_fault = λ e. absurd (cc);
-    write_fault = λ e. absurd (cc);
-  };
+  accounts = λ more tells. no_words given more out refusal nothing;
 }
 
 pub judged_refused : (given : List (List ℕ)) (refusal : Refusal) → (refusal ≡ words.Usage → asked given ≡ None) →
@@ -66,107 +94,89 @@ judged_refused given words.NoMemory nothing = record { usage = λ e. absurd (cc)
 
 module _ (given : List (List ℕ)) (wanted : Asked) (out : Option (List ℕ)) (is : asked given ≡ Some wanted) where
   is_asked : asked given ≢ None
-  is_asked e = let wrong = sym is ∙ e in absurd (cc)
+  is_asked e = let wrong = sym is ∙ e in cc
 
   -- the words are a call's
   pub judged : (status : Status) → status ≢ Usage → AreJudged given status
   judged status other = record { usage = λ e. absurd (other e); nothing = λ e. absurd (is_asked e) }
 
+  unread : (fault : RestFault) (held read more : List ℕ) (ended : Type 0) (before taken : ℕ)
+      → GivesPart listing_limit read ended before taken (Err fault) → (fault ≡ rest.ReadFault → held ≡ [])
+      → Accounts given ((read ++ held) ++ more) more out out (status_of_rest fault)
+  unread rest.ReadFault held read more ended before taken gives empty = record {
+    answer = λ d. absurd (d.read refl);
+    read_fault = λ e. (
+      is_asked,
+      (read, append_assoc read held more ∙ ap (λ l. read ++ (l ++ more)) (empty refl), gives),
+      Appends-nil out,
+    );
+    write_fault = λ e. absurd (cc);
+  }
+  unread rest.TooLong held read more ended before taken gives empty =
+      let long : listing_limit < length (first_part ((read ++ held) ++ more)) =
+      subst (λ (l : List ℕ). listing_limit < length (first_part l)) (sym (append_assoc read held more))
+      (gives (held ++ more)) in
+      settled given _ more out out (TooLong listing_limit) (λ e. cc) (λ e. cc)
+      (λ d. ([], inr (wanted, is, inl (long, refl, refl)), Appends-nil out))
+  unread rest.NoMemory held read more ended before taken gives empty =
+      settled given _ more out out NoMemory (λ e. cc) (λ e. cc) (λ d. absurd (d.memory refl))
+
   pub told_unread : (told : Option (List ℕ)) (feed : Fed) (left : Option (List ℕ)) (read : List ℕ) (fault : RestFault)
       (ended : Type 0) (before taken : ℕ) → Consumes told (to_come feed left) read
       → GivesPart listing_limit read ended before taken (Err fault) → (fault ≡ rest.ReadFault → feed.held ≡ [])
       → AccountsFor given told left out out (status_of_rest fault)
-  told_unread told feed left read rest.ReadFault ended before taken c gives empty = record {
+  told_unread told feed left read fault ended before taken c gives empty = record {
     read = read ++ feed.held;
     consumed = consumes_held told left read feed.held c;
-    accounts = λ more tells. record {
-      answer = λ d. absurd (d.read refl);
-      read_fault = λ e. (
-        is_asked,
-        (read, append_assoc read feed.held more ∙ ap (λ l. read ++ (l ++ more)) (empty refl), gives),
-        Appends-nil out,
-      );
-      write_fault = λ e. absurd (cc);
-    };
-  }
-  told_unread told feed left read rest.TooLong ended before taken c gives empty = record {
-    read = read ++ feed.held;
-    consumed = consumes_held told left read feed.held c;
-    accounts = λ more tells.
-        let long : listing_limit < length (first_part ((read ++ feed.held) ++ more)) =
-        subst (λ (l : List ℕ). listing_limit < length (first_part l)) (sym (append_assoc read feed.held more)) (gives (feed.held ++ more)) in
-        record {
-          answer = λ d. ([], inr (wanted, is, inl (long, refl, refl)), Appends-nil out);
-          read_fault = λ e. absurd (cc);
-          write_fault = λ e. absurd (cc);
-        };
-  }
-  told_unread told feed left read rest.NoMemory ended before taken c gives empty = record {
-    read = read ++ feed.held;
-    consumed = consumes_held told left read feed.held c;
-    accounts = λ more tells. record {
-      answer = λ d. absurd (d.memory refl);
-      read_fault = λ e. absurd (cc);
-      write_fault = λ e. absurd (cc);
-    };
+    accounts = λ more tells. unread fault feed.held read more ended before taken gives empty;
   }
 
   -- The listing is read
 
-  module _ (feed : Fed) (left : Option (List ℕ)) (read listing : List ℕ)
-      (whole : IsWholePart read (IsOver (to_come feed left)) listing) (short : length listing ≤ listing_limit) where
-    pub told_refused : (told : Option (List ℕ)) (status : Status) → Consumes told (to_come feed left) read →
-        (IsDefined status → IsRefused wanted.size listing status) → IsInside status
+  module _ (told left : Option (List ℕ)) (feed : Fed) (listing : List ℕ) (r : HasRead told left feed listing) where
+    -- an outcome of the listing is one of all bytes of the input
+    outcome : (more text : List ℕ) (status : Status) → Tells left more → IsAnswer wanted listing status text
+        → IsOutcome given ((r.read ++ feed.held) ++ more) status text
+    outcome more text status tells answer =
+        let over = over_left (to_come feed left) (feed.held ++ more) (tells_held feed.held left more tells) in
+        let same : first_part ((r.read ++ feed.held) ++ more) ≡ listing =
+        ap first_part (append_assoc r.read feed.held more) ∙ (r.whole.parts (feed.held ++ more) over).0 in
+        inr (wanted, is, subst (λ l. IsOutcomeOfListing wanted l status text) (sym same) (inr (r.short, answer)))
+
+    account : (out' : Option (List ℕ)) (status : Status) → ((more : List ℕ) → Tells left more →
+        Accounts given ((r.read ++ feed.held) ++ more) more out out' status)
+        → AccountsFor given told left out out' status
+    account out' status each = record {
+      read = r.read ++ feed.held;
+      consumed = consumes_held told left r.read feed.held r.consumed;
+      accounts = each;
+    }
+
+    pub told_refused : (status : Status) → (IsDefined status → IsRefused wanted.size listing status) → IsInside status
         → AccountsFor given told left out out status
-    told_refused told status c refused inside = record {
-      read = read ++ feed.held;
-      consumed = consumes_held told left read feed.held c;
-      accounts = λ more tells.
-          let same = sym (is_first_part feed left read listing more whole tells) in
-          record {
-            answer = λ d. ([], inr (wanted, is, inr (subst (λ (l : List ℕ). length l ≤ listing_limit) same short, inl (subst (λ l. IsRefused wanted.size l status) same (refused d), refl))), Appends-nil out);
-            read_fault = λ e. absurd (inside.read e);
-            write_fault = λ e. absurd (inside.write e);
-          };
-    }
+    told_refused status refused inside =
+        account out status (λ more tells. settled given _ more out out status inside.read inside.write
+        (λ d. ([], outcome more [] status tells (inl (refused d, refl)), Appends-nil out)))
 
-    outcome : (more text : List ℕ) → Tells left more → IsTranslated wanted listing text
-        → IsOutcome given ((read ++ feed.held) ++ more) Success text
-    outcome more text tells translated =
-        let same = sym (is_first_part feed left read listing more whole tells) in
-        inr (wanted, is, inr (subst (λ (l : List ℕ). length l ≤ listing_limit) same short, inr (refl, subst (λ l. IsTranslated wanted l text) same translated)))
+    pub told_cut : (out' : Option (List ℕ)) (text : List ℕ) → IsTranslated wanted listing text
+        → AppendsPrefix out out' text → AccountsFor given told left out out' WriteFault
+    told_cut out' text translated wrote =
+        account out' WriteFault (λ more tells. record {
+          answer = λ d. absurd (d.write refl);
+          read_fault = λ e. absurd (cc);
+          write_fault = λ e. (text, outcome more text Success tells (inr (refl, translated)), wrote);
+        })
 
-    pub told_cut : (told out' : Option (List ℕ)) (text : List ℕ) → Consumes told (to_come feed left) read →
-        IsTranslated wanted listing text → AppendsPrefix out out' text
-        → AccountsFor given told left out out' WriteFault
-    told_cut told out' text c translated wrote = record {
-      read = read ++ feed.held;
-      consumed = consumes_held told left read feed.held c;
-      accounts = λ more tells. record {
-        answer = λ d. absurd (d.write refl);
-        read_fault = λ e. absurd (cc);
-        write_fault = λ e. (text, outcome more text tells translated, wrote);
-      };
-    }
-
-    pub told_whole : (told out' : Option (List ℕ)) (text : List ℕ) → Consumes told (to_come feed left) read →
-        IsTranslated wanted listing text → Appends out out' text
-        → AccountsFor given told left out out' Success
-    told_whole told out' text c translated wrote = record {
-      read = read ++ feed.held;
-      consumed = consumes_held told left read feed.held c;
-      accounts = λ more tells. record {
-        answer = λ d. (text, outcome more text tells translated, wrote);
-        read_fault = λ e. absurd (cc);
-        write_fault = λ e. absurd (cc);
-      };
-    }
+    pub told_whole : (out' : Option (List ℕ)) (text : List ℕ) → IsTranslated wanted listing text
+        → Appends out out' text → AccountsFor given told left out out' Success
+    told_whole out' text translated wrote =
+        account out' Success (λ more tells. settled given _ more out out' Success (λ e. cc) (λ e. cc)
+        (λ d. (text, outcome more text Success tells (inr (refl, translated)), wrote)))
 
 -- none of the faults of the input is a word's
 pub rest_is_no_usage : (fault : RestFault) → status_of_rest fault ≢ Usage
-rest_is_no_usage rest.ReadFault e = absurd (cc)
-rest_is_no_usage rest.TooLong e = absurd (cc)
-rest_is_no_usage rest.NoMemory e = absurd (cc)
+rest_is_no_usage rest.ReadFault e = cc
+rest_is_no_usage fault e = cc
 
 -- of an input that tells its bytes
 pub told_input : (words : List (List ℕ)) (bytes : List ℕ) (left before after : Option (List ℕ)) (status : Status)

@@ -1,56 +1,25 @@
 -- A request of several dimensions, by those for the first one and for the others.
-use Rattle.std.proofs.Common.{◌≡◌, ◌≢◌, ℕ, zero, suc, ◌+◌, ◌≤◌, ◌⊎◌, [], ◌∷◌, refl, ap, subst, inl, inr, arith}
+use Rattle.std.proofs.Common.{◌≡◌, ◌≢◌, ℕ, zero, suc, ◌+◌, ◌≤◌, ◌⊎◌, [], ◌∷◌, refl, ap, inl, inr, arith}
 use Rattle.matrix_meaning.specs.declared.Dimensions.{Dimensions}
 use Rattle.matrix_meaning.specs.declared.Dimensions.TheVariants.{One, Two, Three, Four}
-use Rattle.matrix_meaning.specs.declared.Kind.{Kind}
-use Rattle.matrix_meaning.specs.declared.Kind.TheVariants.{Dft, Wht, Idft}
 use Rattle.matrix_meaning.specs.declared.Request.{Request}
-use Rattle.matrix_meaning.specs.Parts.{forward_by, forward_of, parts_in, parts_of, rest_in, rest_of}
+use Rattle.matrix_meaning.specs.Parts.{parts_in, parts_of, rest_in, rest_of}
 use Rattle.matrix_meaning.specs.Valid.{IsInRange}
 use Rattle.matrix_meaning.proofs.Parts.{rest_in_range}
-use Rattle.tree_model.specs.Admissible.{CanDivide}
-use Rattle.tree_model.specs.Chosen.{CanDivideBy, CanDivideWhole}
 use Rattle.plan_cert.specs.Verdict.{size_of_all}
-
-one_part_in : (c : Request) (ds : Dimensions) → ds ≡ One → parts_in c ds ≡ c ∷ []
-one_part_in c ds e = ap (parts_in c) e
 
 -- of one size the one part is the request itself
 pub one_part : (c : Request) → c.dimensions ≡ One → parts_of c ≡ c ∷ []
-one_part c e = one_part_in c c.dimensions e
+one_part c e = ap (parts_in c) e
 
 size_of_rest_in : (c : Request) (ds : Dimensions) → ds ≢ One
     → size_of_all (parts_of (rest_in c ds)) ≡ (rest_in c ds).size
 size_of_rest_in c One some = absurd (some refl)
-size_of_rest_in c (Two p q) some = refl
-size_of_rest_in c (Three p q r) some = refl
-size_of_rest_in c (Four p q r s) some = refl
+size_of_rest_in c ds some = refl
 
 -- the product of the others' sizes is the size of the request for them
 pub size_of_rest : (c : Request) → c.dimensions ≢ One → size_of_all (parts_of (rest_of c)) ≡ (rest_of c).size
 size_of_rest c some = size_of_rest_in c c.dimensions some
-
--- ---- trees are admitted
-
-rest_divides_in : (c : Request) (ds : Dimensions) → ds ≢ One → CanDivideWhole (rest_in c ds)
-rest_divides_in c One some = absurd (some refl)
-rest_divides_in c (Two p q) some = inl refl
-rest_divides_in c (Three p q r) some = inl refl
-rest_divides_in c (Four p q r s) some = inl refl
-
-pub rest_divides : (c : Request) → c.dimensions ≢ One → CanDivideWhole (rest_of c)
-rest_divides c some = rest_divides_in c c.dimensions some
-
-forward_divides_by : (kind : Kind) (c : Request) → CanDivide c → CanDivide (forward_by kind c)
-forward_divides_by Dft c h = h
-forward_divides_by Wht c h = h
-forward_divides_by Idft c (inl plain) = inl plain
-forward_divides_by Idft c (inr (r, s, h)) =
-    inr (r, s, record { left = h.left; right = h.right; product = h.product; procs = h.procs; lanes = h.lanes })
-
--- of one size the forward request admits a tree where the request does
-pub forward_divides : (c : Request) → c.dimensions ≡ One → CanDivideWhole c → CanDivide (forward_of c)
-forward_divides c one h = forward_divides_by c.kind c (subst (CanDivideBy c) one h)
 
 -- ---- induction on the dimensions
 
@@ -63,16 +32,12 @@ more (Four p q r s) = 3
 
 one_or_more : (ds : Dimensions) → (ds ≡ One) ⊎ (ds ≢ One)
 one_or_more One = inl refl
-one_or_more (Two p q) = inr (λ e. absurd (cc))
-one_or_more (Three p q r) = inr (λ e. absurd (cc))
-one_or_more (Four p q r s) = inr (λ e. absurd (cc))
+one_or_more ds = inr (λ e. absurd (cc))
 
 fewer_in : (c : Request) (ds : Dimensions) → ds ≢ One → more (rest_in c ds).dimensions + 1 ≡ more ds
 unfolding more
 fewer_in c One some = absurd (some refl)
-fewer_in c (Two p q) some = refl
-fewer_in c (Three p q r) some = refl
-fewer_in c (Four p q r s) some = refl
+fewer_in c ds some = refl
 
 -- what holds of one size, and of several dimensions where it holds of those after the first, holds of each request in
 -- range

@@ -1,7 +1,7 @@
 -- The certificate of a request is judged to be of its least cost.
 use Rattle.std.proofs.Common.{◌≡◌, ◌≢◌, ℕ, ◌+◌, ◌*◌, ◌≤◌, List, [], ◌∷◌, refl, sym, ap, subst, ◌∙◌, arith}
 use Rattle.matrix_meaning.specs.declared.Dimensions.{Dimensions}
-use Rattle.matrix_meaning.specs.declared.Dimensions.TheVariants.{One, Two, Three, Four}
+use Rattle.matrix_meaning.specs.declared.Dimensions.TheVariants.{One}
 use Rattle.matrix_meaning.specs.declared.Request.{Request}
 use Rattle.matrix_meaning.specs.Parts.{first_of, forward_of, parts_of, rest_of}
 use Rattle.matrix_meaning.specs.Valid.{IsInRange}
@@ -10,6 +10,7 @@ use Rattle.serde_json.specs.Data.{Data, Items, no_items, item}
 use Rattle.tree_model.specs.Chosen.{CanDivideWhole, IsWholeLeast, closing_cost}
 use Rattle.tree_model.proofs.ChosenParts.{least_of_parts}
 use Rattle.tree_model.proofs.WholeTrees.{forward_size, least_of_one}
+use Rattle.plan_search.proofs.WholeChosen.{rest_divides}
 use Rattle.plan_cert.specs.declared.verdict.Verdict.TheVariants.{Least}
 use Rattle.plan_cert.specs.Certificate.{cost_at, IsClosedLeast}
 use Rattle.plan_cert.specs.Document.{document_rows}
@@ -17,7 +18,7 @@ use Rattle.plan_cert.specs.Laws.{RightCostsAreLeast}
 use Rattle.plan_cert.specs.Table.{AreTables, IsListOfTables, IsTableOf, IsTableText, IsWholeTable}
 use Rattle.plan_cert.specs.Verdict.{joined, size_of_all, IsItemsVerdict, IsListVerdict, IsValueVerdict, IsVerdict}
 use Rattle.plan_cert.specs.Verdict.{IsWholeVerdict}
-use Rattle.plan_cert.proofs.ByParts.{by_parts, one_part, rest_divides, size_of_rest}
+use Rattle.plan_cert.proofs.ByParts.{by_parts, one_part, size_of_rest}
 use Rattle.plan_cert.proofs.Least.{least_of_right}
 use Rattle.plan_cert.proofs.OneVerdict.{verdict_of_json}
 use Rattle.plan_cert.proofs.RightRows.{least_of_rows}
@@ -109,9 +110,7 @@ whole_right : (c : Request) (ds : Dimensions) (d : Data) → c.dimensions ≡ ds
     → IsWholeTable c ds d
     → (k : ℕ) × IsWholeVerdict c ds d (Least k) × IsWholeLeast c k
 whole_right c One d e range divides h = value_right c d range.size.0 e h
-whole_right c (Two p q) d e range divides h = list_right c d range divides h
-whole_right c (Three p q r) d e range divides h = list_right c d range divides h
-whole_right c (Four p q r s) d e range divides h = list_right c d range divides h
+whole_right c ds d e range divides h = list_right c d range divides h
 
 pub certificate_right : (c : Request) (text : List ℕ) → IsInRange c → CanDivideWhole c → IsTableText c text
     → (k : ℕ) × IsVerdict c text (Least k) × IsWholeLeast c k

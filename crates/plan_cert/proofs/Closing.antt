@@ -7,17 +7,17 @@ use Rattle.matrix_meaning.specs.declared.Request.{Request}
 use Rattle.tree_model.specs.Cost.{IsModest}
 use Rattle.plan_cert.specs.Found.{closing_at, IsFound, IsRowCost}
 
-pick_whole : (n x : ℕ) → (if n == n then x else 0) ≡ x
-pick_whole n x = let test : (n == n) ≡ true = eq-eqb n n refl in ap (λ t. if t then x else 0) test
+pub pick_same : (n x y : ℕ) → (if n == n then x else y) ≡ x
+pick_same n x y = let test : (n == n) ≡ true = eq-eqb n n refl in ap (λ t. if t then x else y) test
 
-pick_inner : (d n x : ℕ) → d < n → (if d == n then x else 0) ≡ 0
-pick_inner d n x less = grind (arith, nat_tests)
+pub pick_other : (n k x y : ℕ) → n < k → (if n == k then x else y) ≡ y
+pick_other n k x y less = grind (arith, nat_tests)
 
 pub closing_whole : (c : Request) (closing : ℕ) → closing_at c closing c.size ≡ closing
-closing_whole c closing = pick_whole c.size closing
+closing_whole c closing = pick_same c.size closing 0
 
 pub closing_inner : (c : Request) (closing d : ℕ) → d < c.size → closing_at c closing d ≡ 0
-closing_inner c closing d less = pick_inner d c.size closing less
+closing_inner c closing d less = pick_other d c.size closing 0 less
 
 -- a row of a smaller size costs what is found
 pub found_inner : (c : Request) (closing : ℕ) (costs : ℕ → ℕ) (d x : ℕ) → d < c.size → IsRowCost c closing costs d x

@@ -8,7 +8,7 @@ use Rattle.matrix_meaning.specs.declared.Request.{Request}
 use Rattle.matrix_meaning.specs.Kind.{entry_of}
 use Rattle.operators.specs.Sum.{sum_below}
 use Rattle.tree_model.specs.declared.tree.Rule.{Rule}
-use Rattle.tree_model.specs.declared.tree.Rule.TheVariants.{Gt, Ct, Split, Dim}
+use Rattle.tree_model.specs.declared.tree.Rule.TheVariants.{Ct}
 use Rattle.tree_model.specs.Breakdown.{Breakdown, leaf, node, size_of, AllowsLeaf, IsWellFormed}
 use Rattle.tree_model.specs.Cost.{IsModest, cost_of, is_kernel, leaf_cost, node_root, product_cost, products_cost}
 use Rattle.tree_model.specs.Cost.{rule_cost}
@@ -48,15 +48,13 @@ module _ (c : Request) (weight : c.weight ≤ 1000) where
       of false = modest_long d c.weight _ low weight refl
 
   rule_low : (rule : Rule) (r s : ℕ) → rule_cost c rule r s ≤ 1000 * (r * s)
-  rule_low Gt r s = omega arith
   rule_low Ct r s = of (is_kernel c (r * s))
     where
       of : (short : Bool) →
           (if short then products_cost c Dft 1 (node_root c (r * s)) r s else c.weight * (r * s)) ≤ 1000 * (r * s)
       of true = products_low Dft 1 (node_root c (r * s)) r s (omega arith)
       of false = mul-le-mul_right (r * s) weight
-  rule_low Split r s = omega arith
-  rule_low Dim r s = omega arith
+  rule_low rule r s = omega arith
 
   leaf_low : (kind : Kind) (d : ℕ) → AllowsLeaf kind d → 1 ≤ d
   leaf_low Dft d h = h

@@ -1,7 +1,7 @@
 -- A request has one certificate.
 use Rattle.std.proofs.Common.{◌≡◌, ◌++◌, List, [], ◌∷◌, refl, sym, ap, ap₂, ◌∙◌}
 use Rattle.matrix_meaning.specs.declared.Dimensions.{Dimensions}
-use Rattle.matrix_meaning.specs.declared.Dimensions.TheVariants.{One, Two, Three, Four}
+use Rattle.matrix_meaning.specs.declared.Dimensions.TheVariants.{One}
 use Rattle.matrix_meaning.specs.declared.Request.{Request}
 use Rattle.matrix_meaning.specs.Parts.{forward_of, parts_of}
 use Rattle.serde_json.specs.Data.{Data, Items, array, no_items, item}
@@ -28,9 +28,7 @@ list_once c x y (xs, is, tables) (ys, e, others) = is ∙ ap array (values_once 
 
 whole_once : (c : Request) (ds : Dimensions) (x y : Data) → IsWholeTable c ds x → IsWholeTable c ds y → x ≡ y
 whole_once c One x y p q = value_once c x y p q
-whole_once c (Two a b) x y p q = list_once c x y p q
-whole_once c (Three a b d) x y p q = list_once c x y p q
-whole_once c (Four a b d e) x y p q = list_once c x y p q
+whole_once c ds x y p q = list_once c x y p q
 
 pub one_certificate : CertificatesAreOne
 one_certificate c text other (x, table, line) (y, same, written) =

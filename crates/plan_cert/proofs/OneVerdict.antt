@@ -1,10 +1,11 @@
 -- A text has one verdict.
 use Rattle.std.proofs.Common.{◌≡◌, ℕ, ◌+◌, ◌≤◌, List, [], ◌∷◌, get_or, Option, None, Some, refl, sym, ap, ap₂, ◌∙◌}
 use Rattle.std.proofs.Common.{subst, inl, inr, arith}
+use Rattle.std.proofs.lemmas.Bool.{cases_order}
 use Rattle.serde_json.specs.Data.{Data, Items, no_items, item}
 use Rattle.serde_json.specs.Find.{as_array}
 use Rattle.matrix_meaning.specs.declared.Dimensions.{Dimensions}
-use Rattle.matrix_meaning.specs.declared.Dimensions.TheVariants.{One, Two, Three, Four}
+use Rattle.matrix_meaning.specs.declared.Dimensions.TheVariants.{One}
 use Rattle.matrix_meaning.specs.declared.Request.{Request}
 use Rattle.matrix_meaning.specs.Parts.{forward_of, parts_of}
 use Rattle.tree_model.specs.Chosen.{closing_cost}
@@ -18,7 +19,7 @@ use Rattle.plan_cert.specs.Document.{IsCertificate, IsJson}
 use Rattle.plan_cert.specs.Laws.{VerdictsAreOne}
 use Rattle.plan_cert.specs.Verdict.{joined, size_of_all, IsItemsVerdict, IsOptionVerdict, IsRightCertificate}
 use Rattle.plan_cert.specs.Verdict.{IsTextVerdict, IsValueVerdict, IsWholeVerdict, IsWrongCertificate}
-use Rattle.plan_cert.proofs.RightRows.{three_cases}
+use Rattle.plan_cert.proofs.RightRows.{blank}
 
 found_once : (c : Request) (costs : ℕ → ℕ) (d x y : ℕ) → IsFound c costs d x → IsFound c costs d y → x ≡ y
 found_once c costs d x y h k =
@@ -56,22 +57,18 @@ same_wrong v w e f g =
 
 first_once : (c : Request) (closing : ℕ) (rows : List Row) (v w : WrongRow) → HasFirstWrong c closing rows v
     → HasFirstWrong c closing rows w → v ≡ w
-first_once c closing rows v w (i, h) (j, k) =
-    let blank : Row = record { size = 0; cost = 0; rule = None; left = 0; right = 0 } in
-    elim (three_cases i j) [
-      | inl before ↦
-          absurd (not_both c closing (cost_at rows) (get_or rows i blank) v (h.here blank) (k.before i blank before))
-      | inr other ↦ elim other [
-        | inl same ↦
-            let wrong : IsWrong c closing (cost_at rows) (get_or rows i blank) w =
-            subst (λ (n : ℕ). IsWrong c closing (cost_at rows) (get_or rows n blank) w) (sym same) (k.here blank) in
-            let right = h.here blank in
-            same_wrong v w (right.0 ∙ sym wrong.0) (right.1 ∙ sym wrong.1)
-            (found_same c closing (cost_at rows) (get_or rows i blank) v w right wrong)
-        | inr after ↦
-            absurd (not_both c closing (cost_at rows) (get_or rows j blank) w (k.here blank) (h.before j blank after))
-      ]
-    ]
+first_once c closing rows v w (i, h) (j, k) = elim (cases_order i j) [
+  | inl same ↦
+      let wrong : IsWrong c closing (cost_at rows) (get_or rows i blank) w =
+      subst (λ (n : ℕ). IsWrong c closing (cost_at rows) (get_or rows n blank) w) (sym same) (k.here blank) in
+      let right = h.here blank in
+      same_wrong v w (right.0 ∙ sym wrong.0) (right.1 ∙ sym wrong.1)
+      (found_same c closing (cost_at rows) (get_or rows i blank) v w right wrong)
+  | inr (inl before) ↦
+      absurd (not_both c closing (cost_at rows) (get_or rows i blank) v (h.here blank) (k.before i blank before))
+  | inr (inr after) ↦
+      absurd (not_both c closing (cost_at rows) (get_or rows j blank) w (k.here blank) (h.before j blank after))
+]
 
 rows_once : (c : Request) (d : Data) (rows others : List Row) → IsCertificate c d rows → IsCertificate c d others →
     rows ≡ others
@@ -80,7 +77,6 @@ rows_once c d rows others h k = let same : Some rows ≡ Some others = sym h.rea
 right_not_wrong : (c : Request) (d : Data) (cost : ℕ) (w : WrongRow) (rows others : List Row) →
     IsRightCertificate c d cost rows → IsWrongCertificate c d w others → ⊥
 right_not_wrong c d cost w rows others h k =
-    let blank : Row = record { size = 0; cost = 0; rule = None; left = 0; right = 0 } in
     let first : HasFirstWrong (forward_of c) (closing_cost c) rows w =
     subst (λ (r : List Row). HasFirstWrong (forward_of c) (closing_cost c) r w)
     (sym (rows_once c d rows others h.certificate k.certificate)) k.first in
@@ -121,19 +117,18 @@ verdict_of_json judged text d (Wrong n y z) h k = (d, h, k)
 -- where a value has one verdict, so has a text
 module _ (judged : Data → Verdict → Type 0) (once : (d : Data) (v w : Verdict) → judged d v → judged d w → v ≡ w)
     (text : List ℕ) where
-  both_read : (x y : Data) (v w : Verdict) → IsJson text x → IsJson text y → judged x v → judged y w → v ≡ w
-  both_read x y v w h k p q = once x v w p (subst (λ (d : Data). judged d w) (sym (json_once text x y h k)) q)
+  -- what the text's verdict says of its value
+  of_value : (v : Verdict) (d : Data) → IsJson text d → IsTextVerdict judged text v → judged d v
+  of_value (Least x) d h (e, k, p) = subst (λ y. judged y (Least x)) (json_once text e d k h) p
+  of_value Unread d h k = k d h
+  of_value (Wrong n y z) d h (e, k, p) = subst (λ x. judged x (Wrong n y z)) (json_once text e d k h) p
 
   pub text_verdict : (v w : Verdict) → IsTextVerdict judged text v → IsTextVerdict judged text w → v ≡ w
-  text_verdict (Least x) (Least y) (d, h, p) (e, k, q) = both_read d e (Least x) (Least y) h k p q
-  text_verdict (Least x) Unread (d, h, p) k = once d (Least x) Unread p (k d h)
-  text_verdict (Least x) (Wrong n y z) (d, h, p) (e, k, q) = both_read d e (Least x) (Wrong n y z) h k p q
-  text_verdict Unread (Least y) h (e, k, q) = once e Unread (Least y) (h e k) q
+  text_verdict (Least x) w (d, h, p) k = once d (Least x) w p (of_value w d h k)
+  text_verdict (Wrong n y z) w (d, h, p) k = once d (Wrong n y z) w p (of_value w d h k)
+  text_verdict Unread (Least x) h (d, k, p) = once d Unread (Least x) (h d k) p
   text_verdict Unread Unread h k = refl
-  text_verdict Unread (Wrong n y z) h (e, k, q) = once e Unread (Wrong n y z) (h e k) q
-  text_verdict (Wrong n x z) (Least y) (d, h, p) (e, k, q) = both_read d e (Wrong n x z) (Least y) h k p q
-  text_verdict (Wrong n x z) Unread (d, h, p) k = once d (Wrong n x z) Unread p (k d h)
-  text_verdict (Wrong n x z) (Wrong n' x' z') (d, h, p) (e, k, q) = both_read d e (Wrong n x z) (Wrong n' x' z') h k p q
+  text_verdict Unread (Wrong n y z) h (d, k, p) = once d Unread (Wrong n y z) (h d k) p
 
 -- ---- of several dimensions
 
@@ -153,9 +148,7 @@ option_verdict ps (Some xs) v w h k = items_verdict ps xs v w h k
 whole_verdict : (c : Request) (ds : Dimensions) (d : Data) (v w : Verdict) → IsWholeVerdict c ds d v
     → IsWholeVerdict c ds d w → v ≡ w
 whole_verdict c One d v w h k = value_verdict c d v w h k
-whole_verdict c (Two p q) d v w h k = option_verdict (parts_of c) (as_array d) v w h k
-whole_verdict c (Three p q r) d v w h k = option_verdict (parts_of c) (as_array d) v w h k
-whole_verdict c (Four p q r s) d v w h k = option_verdict (parts_of c) (as_array d) v w h k
+whole_verdict c ds d v w h k = option_verdict (parts_of c) (as_array d) v w h k
 
 pub one_verdict : VerdictsAreOne
 one_verdict c text v w h k = text_verdict (IsWholeVerdict c c.dimensions) (whole_verdict c c.dimensions) text v w h k

@@ -1,16 +1,16 @@
 -- Each request that admits a tree has a certificate.
-use Rattle.std.proofs.Common.{◌≡◌, ◌≢◌, ℕ, zero, suc, ◌+◌, ◌*◌, ◌%◌, ◌^◌, ◌<◌, ◌≤◌, ◌==◌, ◌++◌, List, [], ◌∷◌, All}
+use Rattle.std.proofs.Common.{◌≡◌, ◌≢◌, ℕ, zero, suc, ◌+◌, ◌*◌, ◌^◌, ◌<◌, ◌≤◌, ◌==◌, ◌++◌, List, [], ◌∷◌, All}
 use Rattle.std.proofs.Common.{length, Bool, true, false, if◌then◌else◌, Option, None, Some, refl, sym, subst, inl, inr}
 use Rattle.std.proofs.Common.{arith}
 use Rattle.serde_json.specs.Data.{Data, Items, array, no_items, item}
 use Rattle.serde_json.specs.Written.{compact_text}
 use Rattle.matrix_meaning.specs.declared.Dimensions.{Dimensions}
-use Rattle.matrix_meaning.specs.declared.Dimensions.TheVariants.{One, Two, Three, Four}
+use Rattle.matrix_meaning.specs.declared.Dimensions.TheVariants.{One}
 use Rattle.matrix_meaning.specs.declared.Kind.TheVariants.{Idft}
 use Rattle.matrix_meaning.specs.declared.Request.{Request}
 use Rattle.matrix_meaning.specs.Parts.{first_of, forward_of, parts_of, rest_of}
 use Rattle.matrix_meaning.specs.Valid.{IsInRange, IsValid}
-use Rattle.matrix_meaning.proofs.Parts.{first_in_range, first_is_one, first_is_valid, parts_by_first, rest_is_valid}
+use Rattle.matrix_meaning.proofs.Parts.{first_is_one, first_is_valid, parts_by_first, rest_is_valid}
 use Rattle.matrix_meaning.proofs.Requests.{forward_is_valid, forward_kind}
 use Rattle.tree_model.specs.declared.tree.Rule.{Rule}
 use Rattle.tree_model.specs.Admissible.{CanDivide, IsChosenFor}
@@ -19,9 +19,9 @@ use Rattle.tree_model.specs.Chosen.{CanDivideWhole, closing_cost}
 use Rattle.tree_model.specs.Cost.{IsModest, cost_of}
 use Rattle.tree_model.proofs.Sizes.{word_sizes}
 use Rattle.tree_model.proofs.SeveralParts.{first_part}
+use Rattle.tree_model.proofs.Sharing.{divide_of_whole}
 use Rattle.tree_model.proofs.WholeTrees.{forward_size}
-use Rattle.plan_search.proofs.BestTrees.{chosen_at_divisor, chosen_exists}
-use Rattle.plan_search.proofs.WholeChosen.{divides_plain}
+use Rattle.plan_search.proofs.WholeChosen.{divides_plain, forward_divides, rest_divides}
 use Rattle.plan_search.proofs.WholePlans.{closing_at_most}
 use Rattle.plan_cert.specs.declared.certificate.Row.{Row}
 use Rattle.plan_cert.specs.Certificate.{HasRowsBelow, IsWanted}
@@ -29,49 +29,30 @@ use Rattle.plan_cert.specs.Found.{closing_at}
 use Rattle.plan_cert.specs.Laws.{CertificatesExist}
 use Rattle.plan_cert.specs.Table.{AreTables, IsChosenRow, IsListOfTables, IsRootOf, IsTable, IsTableOf, IsWholeTable}
 use Rattle.plan_cert.specs.Table.{table_data}
-use Rattle.plan_cert.proofs.ByParts.{by_parts, forward_divides, one_part, rest_divides}
-use Rattle.plan_cert.proofs.Chosen.{chosen_added, row_added, row_allowed}
+use Rattle.plan_cert.proofs.ByParts.{by_parts, one_part}
+use Rattle.plan_cert.proofs.Chosen.{chosen_added, row_added, row_allowed, some_chosen}
 use Rattle.plan_cert.proofs.Closing.{modest_fits}
 use Rattle.plan_cert.proofs.Decided.{decided_wanted}
-use Rattle.plan_cert.proofs.Listed.{certificate_written}
+use Rattle.plan_cert.proofs.Listed.{certificate_written, whole_written}
 use Rattle.plan_cert.proofs.Modest.{tree_modest}
 use Rattle.plan_cert.proofs.RightRows.{size_le}
-use Rattle.plan_cert.proofs.Wanted.{nat_cases, none_below, other_size, rows_below}
-use Rattle.plan_cert.proofs.Written.{AreWritten, IsWritten, list_written, more_written, none_written, table_written}
+use Rattle.plan_cert.proofs.Wanted.{none_below, other_size, rows_below}
 use Rattle.plan_cert.proofs.Written.{written_line}
 
 -- ---- rows
 
 -- the rule of a tree's root with the sizes of its parts
-record HasRoot (t : Breakdown) : Type 0 where
-  rule : Option Rule
-  left : ℕ
-  right : ℕ
-  is : IsRootOf t rule left right
-  low : left < 2 ^ 64
-  small : right < 2 ^ 64
+abbrev HasRoot : Breakdown → Type 0
+HasRoot t =
+    (rule : Option Rule) × (left : ℕ) × (right : ℕ) × IsRootOf t rule left right × (left < 2 ^ 64) × (right < 2 ^ 64)
 
 size_word : (t : Breakdown) → HasWordSizes t → size_of t < 2 ^ 64
 size_word (leaf d) h = h
 size_word (node rule a b) h = h.2
 
 root_of : (t : Breakdown) → HasWordSizes t → HasRoot t
-root_of (leaf d) h = record {
-  rule = None;
-  left = 0;
-  right = 0;
-  is = (refl, refl, refl);
-  low = omega arith;
-  small = omega arith;
-}
-root_of (node rule a b) h = record {
-  rule = Some rule;
-  left = size_of a;
-  right = size_of b;
-  is = (refl, refl, refl);
-  low = size_word a h.0;
-  small = size_word b h.1;
-}
+root_of (leaf d) h = (None, 0, 0, (refl, refl, refl), omega arith, omega arith)
+root_of (node rule a b) h = (Some rule, size_of a, size_of b, (refl, refl, refl), size_word a h.0, size_word b h.1)
 
 closing_low : (c : Request) (closing d : ℕ) → closing_at c closing d ≤ closing
 closing_low c closing d = of (d == c.size)
@@ -82,14 +63,6 @@ closing_low c closing d = of (d == c.size)
 
 module _ (c : Request) (closing : ℕ) (valid : IsValid c) (forward : c.kind ≢ Idft) (can : CanDivide c)
     (few : closing ≤ 1000 * c.size) where
-  some_chosen : (d : ℕ) → 1 ≤ d → d ≤ c.size → c.size % d ≡ 0 → (t : Breakdown) × IsChosenFor c d t
-  some_chosen d low high divides = elim (nat_cases d c.size) [
-    | inl less ↦ chosen_at_divisor c d valid forward low less divides
-    | inr past ↦
-        let same : c.size ≡ d = omega (arith, high, past) in
-        subst (λ n. (t : Breakdown) × IsChosenFor c n t) same (chosen_exists c valid forward can)
-  ]
-
   row_for : (d : ℕ) (t : Breakdown) → d ≤ c.size → IsChosenFor c d t
       → (row : Row) × (row.size ≡ d) × IsChosenRow c closing row
   row_for d t high chosen =
@@ -105,9 +78,9 @@ module _ (c : Request) (closing : ℕ) (valid : IsValid c) (forward : c.kind ≢
         record {
           size = d;
           cost = cost_of c t + closing_at c closing d;
-          rule = root.rule;
-          left = root.left;
-          right = root.right;
+          rule = root.0;
+          left = root.1;
+          right = root.2;
         },
         refl,
         (
@@ -115,12 +88,12 @@ module _ (c : Request) (closing : ℕ) (valid : IsValid c) (forward : c.kind ≢
           record {
             chosen = chosen;
             cost = refl;
-            root = root.is;
+            root = root.3;
             words = record {
               size = omega (arith, high, size);
               cost = omega (arith, cost, more, few, size);
-              left = root.low;
-              right = root.small;
+              left = root.4;
+              right = root.5;
             };
           },
         ),
@@ -135,7 +108,7 @@ module _ (c : Request) (closing : ℕ) (valid : IsValid c) (forward : c.kind ≢
   with_row : (d : ℕ) → IsWanted c d → HasTable d → HasTable (d + 1)
   with_row d wanted old =
       let high = size_le c d valid.in_range.size.0 wanted in
-      let tree = some_chosen d wanted.low high wanted.divisor in
+      let tree = some_chosen c d valid forward can wanted.low high wanted.divisor in
       let new = row_for d tree.0 high tree.1 in
       let row = new.0 in
       record {
@@ -178,7 +151,8 @@ one_value : (c : Request) → IsValid c → c.dimensions ≡ One → CanDivideWh
 one_value c valid one can =
     let few = closing_at_most c valid.in_range in
     let table =
-    some_table (forward_of c) (closing_cost c) (forward_is_valid c valid) (forward_kind c) (forward_divides c one can)
+    some_table (forward_of c) (closing_cost c) (forward_is_valid c valid) (forward_kind c)
+    (forward_divides c (divide_of_whole c one can))
     (subst (λ n. closing_cost c ≤ 1000 * n) (sym (forward_size c)) few) in
     (table_data c.size c.weight table.0, (table.0, table.1, refl))
 
@@ -209,48 +183,13 @@ some_list c valid can = let all = some_tables c valid.in_range valid can in (arr
 some_whole : (c : Request) (ds : Dimensions) → c.dimensions ≡ ds → IsValid c → CanDivideWhole c
     → (d : Data) × IsWholeTable c ds d
 some_whole c One one valid can = one_value c valid one can
-some_whole c (Two p q) is valid can = some_list c valid can
-some_whole c (Three p q r) is valid can = some_list c valid can
-some_whole c (Four p q r s) is valid can = some_list c valid can
+some_whole c ds is valid can = some_list c valid can
 
 -- ---- texts
-
-value_written : (c : Request) (d : Data) → IsInRange c → IsTableOf c d → IsWritten d
-value_written c d range (rows, table, is) =
-    subst IsWritten (sym is)
-    (table_written (forward_of c) (closing_cost c) c.size c.weight rows (omega (arith, range.size.1))
-    (omega (arith, range.weight.1)) table.chosen)
-
-abbrev AllWritten : List Request → Type 0
-AllWritten ps = (ds : Items) → AreTables ps ds → AreWritten ds
-
-none_left : AllWritten []
-none_left no_items h = none_written
-none_left (item d ds) h = absurd h
-
-one_more : (p : Request) (ps : List Request) → IsInRange p → AllWritten ps → AllWritten (p ∷ ps)
-one_more p ps range others no_items h = absurd h
-one_more p ps range others (item d ds) h = more_written d ds (value_written p d range h.0) (others ds h.1)
-
-values_written : (c : Request) → IsInRange c → AllWritten (parts_of c)
-values_written =
-    by_parts (λ c. AllWritten (parts_of c))
-    (λ c range one. subst AllWritten (sym (one_part c one)) (one_more c [] range none_left))
-    (λ c range several others. subst AllWritten (sym (parts_by_first c several))
-    (one_more (first_of c) (parts_of (rest_of c)) (first_in_range c range several) others))
-
-list_of : (c : Request) (d : Data) → IsInRange c → IsListOfTables c d → IsWritten d
-list_of c d range (ds, is, tables) = subst IsWritten (sym is) (list_written ds (values_written c range ds tables))
-
-whole_written : (c : Request) (ds : Dimensions) (d : Data) → IsInRange c → IsWholeTable c ds d → IsWritten d
-whole_written c One d range h = value_written c d range h
-whole_written c (Two p q) d range h = list_of c d range h
-whole_written c (Three p q r) d range h = list_of c d range h
-whole_written c (Four p q r s) d range h = list_of c d range h
 
 pub some_certificate : CertificatesExist
 some_certificate c valid can =
     let value = some_whole c c.dimensions refl valid can in
     let written = whole_written c c.dimensions value.0 valid.in_range value.1 in
     let text = compact_text value.0 ++ 10 ∷ [] in
-    (text, certificate_written c value.0 text valid.in_range value.1 (written_line value.0 written))
+    (text, certificate_written c value.0 text valid.in_range value.1 (written_line 4 value.0 written))

@@ -1,15 +1,14 @@
 -- Each text has a verdict.
 use Rattle.std.proofs.Common.{◌≡◌, ◌⊎◌, ℕ, zero, suc, ◌+◌, ◌/◌, ◌%◌, ◌<◌, ◌≤◌, List, [], ◌∷◌, All, length, get_or, true}
 use Rattle.std.proofs.Common.{false, true≢false, Option, None, Some, refl, sym, subst, ◌∙◌, inl, inr, arith}
-use Rattle.std.proofs.lemmas.Bool.{cases_Bool, cases_eq}
-use Rattle.std.proofs.lemmas.List.{get_or_default}
+use Rattle.std.proofs.lemmas.Bool.{cases_Bool, cases_eq, cases_lt}
 use Rattle.std.proofs.lemmas.Str.{IsUtf8-from_is_utf8, is_utf8-from_IsUtf8}
 use Rattle.std.specs.Str.{is_utf8}
 use Rattle.serde_json.specs.Data.{Data, Items, no_items, item}
 use Rattle.serde_json.specs.Find.{as_array}
 use Rattle.serde_json.specs.Read.{read}
 use Rattle.matrix_meaning.specs.declared.Dimensions.{Dimensions}
-use Rattle.matrix_meaning.specs.declared.Dimensions.TheVariants.{One, Two, Three, Four}
+use Rattle.matrix_meaning.specs.declared.Dimensions.TheVariants.{One}
 use Rattle.matrix_meaning.specs.declared.Request.{Request}
 use Rattle.matrix_meaning.specs.Parts.{first_of, forward_of, parts_of, rest_of}
 use Rattle.matrix_meaning.specs.Valid.{IsInRange}
@@ -29,56 +28,47 @@ use Rattle.plan_cert.specs.declared.verdict.Verdict.TheVariants.{Least, Unread, 
 use Rattle.plan_cert.specs.Certificate.{AllowsChoice, HasFirstWrong, HasRows, IsChoiceCostBelow, IsFoundBelow}
 use Rattle.plan_cert.specs.Certificate.{IsRightRow, IsWrong, choice_cost, chosen_cost, cost_at}
 use Rattle.plan_cert.specs.Document.{IsCertificate, IsJson, document_rows}
-use Rattle.plan_cert.specs.Found.{HasNodeCost, IsChoiceCost, IsFound, IsRowCost, closing_at}
+use Rattle.plan_cert.specs.Found.{IsChoiceCost, IsFound, IsRowCost, closing_at}
 use Rattle.plan_cert.specs.Laws.{VerdictsExist}
 use Rattle.plan_cert.specs.Verdict.{IsItemsVerdict, IsOptionVerdict, IsTextVerdict, IsValueVerdict, IsWholeVerdict}
 use Rattle.plan_cert.specs.Verdict.{joined, size_of_all}
 use Rattle.plan_cert.proofs.ByParts.{by_parts, one_part}
 use Rattle.plan_cert.proofs.Choices.{best_rule_bound, found_all, found_more, found_skip, no_rule_bound}
-use Rattle.plan_cert.proofs.Decided.{blank, decided_rows}
+use Rattle.plan_cert.proofs.Decided.{decided_rows}
 use Rattle.plan_cert.proofs.OneVerdict.{verdict_of_json}
-use Rattle.plan_cert.proofs.RightRows.{prefix_more}
-use Rattle.plan_cert.proofs.Wanted.{nat_cases}
+use Rattle.plan_cert.proofs.RightRows.{blank, first_wrong, prefix_more}
 
 -- ---- the least cost of a size that has a choice
 
 module _ (c : Request) (costs : ℕ → ℕ) (d : ℕ) where
-  HasFound : ℕ → Type 0
+  abbrev HasFound : ℕ → Type 0
   HasFound r = (x : ℕ) × IsFoundBelow c costs d r x
 
   -- a left part has two places at least
-  no_node : (y k s : ℕ) (rule : Rule) → HasNodeCost c costs d y rule k s → k < 2 → ⊥
-  no_node y k s rule h less = let two : 2 ≤ k = h.allowed.split.left in omega (arith, two, less)
-
-  below_leaf : (x : ℕ) → x ≤ leaf_cost c d → (y : ℕ) → IsChoiceCostBelow c costs d 2 y → x ≤ y
-  below_leaf x less y (inl (leaf, is)) = omega (arith, less, is)
-  below_leaf x less y (inr (rule, k, s, h, small)) = absurd (no_node y k s rule h small)
-
-  below_none : (x : ℕ) → (AllowsLeafAt c d → ⊥) → (y : ℕ) → IsChoiceCostBelow c costs d 2 y → x ≤ y
-  below_none x none y (inl (leaf, is)) = absurd (none leaf)
-  below_none x none y (inr (rule, k, s, h, small)) = absurd (no_node y k s rule h small)
+  below_leaf : (x : ℕ) → (AllowsLeafAt c d → x ≤ leaf_cost c d) → (y : ℕ) → IsChoiceCostBelow c costs d 2 y → x ≤ y
+  below_leaf x least y (inl (leaf, is)) = omega (arith, least leaf, is)
+  below_leaf x least y (inr (rule, k, s, h, small)) =
+      let two : 2 ≤ k = h.allowed.split.left in absurd (omega (arith, two, small))
 
   first_found : (x : ℕ) → IsChoiceCost c costs d x → HasFound 2
-  unfolding HasFound
   first_found x some = elim (decided_leaf c d) [
-    | inl leaf ↦ elim (nat_cases x (leaf_cost c d)) [
-      | inl less ↦ (x, record { reached = some; bound = below_leaf x (omega (arith, less)) })
+    | inl leaf ↦ elim (cases_lt x (leaf_cost c d)) [
+      | inl less ↦ (x, record { reached = some; bound = below_leaf x (λ _. omega (arith, less)) })
       | inr more ↦ (
         leaf_cost c d,
-        record { reached = inl (leaf, refl); bound = below_leaf (leaf_cost c d) (omega arith) },
+        record { reached = inl (leaf, refl); bound = below_leaf (leaf_cost c d) (λ _. omega arith) },
       )
     ]
-    | inr none ↦ (x, record { reached = some; bound = below_none x none })
+    | inr none ↦ (x, record { reached = some; bound = below_leaf x (λ leaf. absurd (none leaf)) })
   ]
 
   -- with a left part of size r
   module _ (r x : ℕ) (low : 2 ≤ r) (old : IsFoundBelow c costs d r x) where
     with_best : (rule : Rule) → d % r ≡ 0 → IsBestRule c r (d / r) rule → HasFound (r + 1)
-    unfolding HasFound
     with_best rule divides best =
         let cost : ℕ = node_cost c rule r (d / r) (costs r) (costs (d / r)) in
         let bound = best_rule_bound c costs d r rule low best in
-        elim (nat_cases cost x) [
+        elim (cases_lt cost x) [
           | inl less ↦ (
             cost,
             found_more c costs d r x cost old (omega (arith, less))
@@ -97,7 +87,6 @@ module _ (c : Request) (costs : ℕ → ℕ) (d : ℕ) where
         ]
 
     with_none : ((rule : Rule) → AllowsNodeAt c rule r (d / r) → ⊥) → HasFound (r + 1)
-    unfolding HasFound
     with_none none = (
       x,
       found_more c costs d r x x old (omega arith) (inl refl)
@@ -105,7 +94,6 @@ module _ (c : Request) (costs : ℕ → ℕ) (d : ℕ) where
     )
 
     more_found : HasFound (r + 1)
-    unfolding HasFound
     more_found = elim (cases_eq (d % r) 0) [
       | inr other ↦ (x, found_skip c costs d r x old other)
       | inl divides ↦ elim (best_rule_of c r (d / r)) [
@@ -115,7 +103,6 @@ module _ (c : Request) (costs : ℕ → ℕ) (d : ℕ) where
     ]
 
   found_below : (x : ℕ) → IsChoiceCost c costs d x → (n : ℕ) → HasFound (n + 2)
-  unfolding HasFound
   found_below x some zero = first_found x some
   found_below x some (suc n) =
       let old = found_below x some n in
@@ -123,7 +110,6 @@ module _ (c : Request) (costs : ℕ → ℕ) (d : ℕ) where
       subst HasFound next (more_found (n + 2) old.0 (omega arith) old.1)
 
   pub least_found : (x : ℕ) → IsChoiceCost c costs d x → (y : ℕ) × IsFound c costs d y
-  unfolding HasFound
   least_found x some =
       let all = found_below x some d in (all.0, found_all c costs d (d + 2) all.0 (omega arith) all.1)
 
@@ -159,43 +145,28 @@ module _ (c : Request) (closing : ℕ) (costs : ℕ → ℕ) where
 
 module _ (c : Request) (closing : ℕ) (rows : List Row)
     (allowed : All (λ (row : Row). AllowsChoice c row.size row.rule row.left row.right) rows) where
-  AreRight : ℕ → Type 0
+  abbrev AreRight : ℕ → Type 0
   AreRight n = (k : ℕ) (x : Row) → k < n → IsRightRow c closing (cost_at rows) (get_or rows k x)
 
-  HasWrong : Type 0
+  abbrev HasWrong : Type 0
   HasWrong = (size : ℕ) × (given : ℕ) × (found : ℕ) ×
       HasFirstWrong c closing rows (record { size = size; given = given; found = found })
 
   found_wrong : (n found : ℕ) → n < length rows → AreRight n →
       IsWrong c closing (cost_at rows) (get_or rows n blank)
       (record { size = (get_or rows n blank).size; given = (get_or rows n blank).cost; found = found }) → HasWrong
-  unfolding HasWrong AreRight
   found_wrong n found inside before wrong =
       let row : Row = get_or rows n blank in
-      let named : WrongRow = record { size = row.size; given = row.cost; found = found } in (
-        row.size,
-        row.cost,
-        found,
-        (
-          n,
-          record {
-            within = inside;
-            before = before;
-            here = λ x. subst (λ (other : Row). IsWrong c closing (cost_at rows) other named)
-                (get_or_default rows n blank x inside) wrong;
-          },
-        ),
-      )
+      let named : WrongRow = record { size = row.size; given = row.cost; found = found } in
+      (row.size, row.cost, found, first_wrong c closing rows named n blank inside before wrong)
 
   next_row : (n : ℕ) → n < length rows → AreRight n → AreRight (n + 1) ⊎ HasWrong
-  unfolding AreRight
   next_row n inside before = elim (judged_row c closing (cost_at rows) (get_or rows n blank) (allowed n blank inside)) [
     | inl right ↦ inl (prefix_more (λ row. IsRightRow c closing (cost_at rows) row) rows n blank inside before right)
     | inr wrong ↦ inr (found_wrong n wrong.0 inside before wrong.1)
   ]
 
   judged_below : (n : ℕ) → n ≤ length rows → AreRight n ⊎ HasWrong
-  unfolding AreRight
   judged_below zero le = inl (λ k x less. absurd (omega arith))
   judged_below (suc n) le =
       let next : n + 1 ≡ suc n = omega arith in
@@ -205,11 +176,8 @@ module _ (c : Request) (closing : ℕ) (rows : List Row)
         | inr wrong ↦ inr wrong
       ])
 
-  pub judged_rows : All (IsRightRow c closing (cost_at rows)) rows ⊎
-      ((size : ℕ) × (given : ℕ) × (found : ℕ) ×
-      HasFirstWrong c closing rows (record { size = size; given = given; found = found }))
-  unfolding AreRight HasWrong
-  judged_rows = elim (judged_below (length rows) (omega arith)) [ inl right ↦ inl right | inr wrong ↦ inr wrong ]
+  pub judged_rows : All (IsRightRow c closing (cost_at rows)) rows ⊎ HasWrong
+  judged_rows = judged_below (length rows) (omega arith)
 
 -- ---- values
 
@@ -245,16 +213,14 @@ module _ (c : Request) (d : Data) (low : 1 ≤ c.size) where
 
 -- ---- of several dimensions
 
-SomeItems : List Request → Type 0
+abbrev SomeItems : List Request → Type 0
 SomeItems ps = (xs : Items) → (v : Verdict) × IsItemsVerdict ps xs v
 
 no_more : SomeItems []
-unfolding SomeItems
 no_more no_items = (Least 0, refl)
 no_more (item x xs) = (Unread, refl)
 
 one_more : (p : Request) (ps : List Request) → 1 ≤ p.size → SomeItems ps → SomeItems (p ∷ ps)
-unfolding SomeItems
 one_more p ps low others no_items = (Unread, refl)
 one_more p ps low others (item x xs) =
     let here = some_value p x low in
@@ -269,20 +235,17 @@ some_items =
     (one_more (first_of c) (parts_of (rest_of c)) (first_in_range c range several).size.0 others))
 
 some_option : (c : Request) → IsInRange c → (o : Option Items) → (v : Verdict) × IsOptionVerdict (parts_of c) o v
-unfolding SomeItems
 some_option c range None = (Unread, refl)
 some_option c range (Some xs) = some_items c range xs
 
 some_whole : (c : Request) (ds : Dimensions) (d : Data) → IsInRange c → (v : Verdict) × IsWholeVerdict c ds d v
 some_whole c One d range = some_value c d range.size.0
-some_whole c (Two p q) d range = some_option c range (as_array d)
-some_whole c (Three p q r) d range = some_option c range (as_array d)
-some_whole c (Four p q r s) d range = some_option c range (as_array d)
+some_whole c ds d range = some_option c range (as_array d)
 
 -- ---- texts
 
 module _ (judged : Data → Verdict → Type 0) (each : (d : Data) → (v : Verdict) × judged d v) (text : List ℕ) where
-  SomeText : Type 0
+  abbrev SomeText : Type 0
   SomeText = (v : Verdict) × IsTextVerdict judged text v
 
   not_read : read text ≡ None → (d : Data) → IsJson text d → ⊥
@@ -292,7 +255,6 @@ module _ (judged : Data → Verdict → Type 0) (each : (d : Data) → (v : Verd
   not_utf8 other d h = true≢false (sym (is_utf8-from_IsUtf8 text h.utf8) ∙ other)
 
   as_read : is_utf8 text ≡ true → (o : Option Data) → read text ≡ o → SomeText
-  unfolding SomeText
   as_read utf8 None none = (Unread, λ d h. absurd (not_read none d h))
   as_read utf8 (Some d) reads =
       let found = each d in
@@ -300,7 +262,6 @@ module _ (judged : Data → Verdict → Type 0) (each : (d : Data) → (v : Verd
       (found.0, verdict_of_json judged text d found.0 json found.1)
 
   pub some_text : (v : Verdict) × IsTextVerdict judged text v
-  unfolding SomeText
   some_text = elim (cases_Bool (is_utf8 text)) [
     | inl utf8 ↦ as_read utf8 (read text) refl
     | inr other ↦ (Unread, λ d h. absurd (not_utf8 other d h))

@@ -25,12 +25,6 @@ called words wanted asked = record {
   cut = λ read left t p. (wanted, asked, p);
 }
 
-pub accounted : (words : List (List ℕ)) (wanted : Command) (before left out out' : Option (List ℕ)) (status : Status)
-    → IsAsked words wanted → SourceMeets (outcomes_of wanted) before left out out' status
-    → SourceMeets (call_outcomes words) before left out out' status
-accounted words wanted before left out out' status asked p =
-    told_within (outcomes_of wanted) (call_outcomes words) before left out out' status (called words wanted asked) p
-
 -- a command that the words ask for, whose feed held nothing at first
 pub command_told : (words : List (List ℕ)) (given wanted : Command) (first feed : Fed)
     (before left out out' : Option (List ℕ)) (status : Status)
@@ -40,7 +34,8 @@ pub command_told : (words : List (List ℕ)) (given wanted : Command) (first fee
     → SourceMeets (call_outcomes words) before left out out' status
 command_told words given wanted first feed before left out out' status fresh asked is empty told =
     let start : to_come first before ≡ before = ap (λ (f : Fed). to_come f before) fresh ∙ prepend_known-nil before in
-    accounted words wanted before left out out' status (subst (λ (k : Command). IsAsked words k) is asked)
+    told_within (outcomes_of wanted) (call_outcomes words) before left out out' status
+    (called words wanted (subst (λ (k : Command). IsAsked words k) is asked))
     (meets_by_source (outcomes_of wanted) before feed left out out' status empty
     (subst (λ b. SourceMeets (outcomes_of wanted) b (to_come feed left) out out' status) start told))
 

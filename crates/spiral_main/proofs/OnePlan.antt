@@ -10,8 +10,6 @@ use Rattle.tree_model.specs.Breakdown.{Breakdown}
 use Rattle.tree_model.specs.Chosen.{whole_cost}
 use Rattle.commands.proofs.ConvolutionCommands.OneConvolution.{power_clash, power_once}
 
--- ---- roots
-
 -- ---- tree
 
 pub planned_once : (r : Request) (t u : Breakdown) → IsPlanned r (Ok t) → IsPlanned r (Ok u) → t ≡ u
@@ -27,22 +25,18 @@ plan_clash r t (generate.OverBudget cost budget) p q =
 plan_clash r t generate.NoMemory p q = q
 
 pub refusal_once : (r : Request) (f g : GenerateFault) → IsPlanned r (Err f) → IsPlanned r (Err g) → f ≡ g
+refusal_once r generate.NoMemory g p q = absurd p
+refusal_once r f generate.NoMemory p q = absurd q
 refusal_once r (generate.Root power) (generate.Root other) p q = ap generate.Root (power_once _ power other p q)
-refusal_once r (generate.Root power) generate.NoDivide p q = absurd (power_clash _ power q.0 p)
-refusal_once r (generate.Root power) (generate.OverBudget cost budget) p q = absurd (power_clash _ power q.0 p)
-refusal_once r (generate.Root power) generate.NoMemory p q = absurd q
-refusal_once r generate.NoDivide (generate.Root power) p q = absurd (power_clash _ power p.0 q)
+refusal_once r (generate.Root power) g p q = absurd (power_clash _ power q.0 p)
+refusal_once r f (generate.Root power) p q = absurd (power_clash _ power p.0 q)
 refusal_once r generate.NoDivide generate.NoDivide p q = refl
 refusal_once r generate.NoDivide (generate.OverBudget cost budget) p q =
     absurd (p.1 (whole_divides r q.1.reached.0 q.1.reached.1))
-refusal_once r generate.NoDivide generate.NoMemory p q = absurd q
-refusal_once r (generate.OverBudget cost budget) (generate.Root power) p q = absurd (power_clash _ power p.0 q)
 refusal_once r (generate.OverBudget cost budget) generate.NoDivide p q =
     absurd (q.1 (whole_divides r p.1.reached.0 p.1.reached.1))
 refusal_once r (generate.OverBudget cost budget) (generate.OverBudget other limit) p q =
     ap₂ generate.OverBudget (whole_least_once r cost other p.1 q.1) (p.2 ∙ sym q.2)
-refusal_once r (generate.OverBudget cost budget) generate.NoMemory p q = absurd q
-refusal_once r generate.NoMemory g p q = absurd p
 
 -- ---- whatever the budget
 
@@ -53,13 +47,11 @@ bar_clash r (generate.OverBudget cost budget) p q = q
 bar_clash r generate.NoMemory p q = q
 
 pub bar_once : (r : Request) (f g : GenerateFault) → IsBarred r f → IsBarred r g → f ≡ g
+bar_once r generate.NoMemory g p q = absurd p
+bar_once r (generate.OverBudget cost budget) g p q = absurd p
+bar_once r f generate.NoMemory p q = absurd q
+bar_once r f (generate.OverBudget cost budget) p q = absurd q
 bar_once r (generate.Root power) (generate.Root other) p q = ap generate.Root (power_once _ power other p q)
 bar_once r (generate.Root power) generate.NoDivide p q = absurd (power_clash _ power q.0 p)
-bar_once r (generate.Root power) (generate.OverBudget cost budget) p q = absurd q
-bar_once r (generate.Root power) generate.NoMemory p q = absurd q
 bar_once r generate.NoDivide (generate.Root power) p q = absurd (power_clash _ power p.0 q)
 bar_once r generate.NoDivide generate.NoDivide p q = refl
-bar_once r generate.NoDivide (generate.OverBudget cost budget) p q = absurd q
-bar_once r generate.NoDivide generate.NoMemory p q = absurd q
-bar_once r (generate.OverBudget cost budget) g p q = absurd p
-bar_once r generate.NoMemory g p q = absurd p

@@ -56,25 +56,19 @@ pub first_one : (P : List ℕ → List (List ℕ) → List ℕ → Type 0) →
 first_one P same [] s t p q = p ∙ sym q
 first_one P same (h ∷ later) s t p q = same h later s t p q
 
-judged_status : (V : List ℕ → Verdict → Type 0) (room : ℕ) (bytes : List ℕ) (a b : Status) (s t : List ℕ)
+judged_once : (V : List ℕ → Verdict → Type 0) (room : ℕ) (bytes : List ℕ) (a b : Status) (s t : List ℕ)
     → ((v w : Verdict) → V bytes v → V bytes w → v ≡ w)
-    → (judging V room).answer bytes a s → (judging V room).answer bytes b t → a ≡ b
-judged_status V room bytes a b s t same (inl p) (inl q) = p.1 ∙ sym q.1
-judged_status V room bytes a b s t same (inl p) (inr q) = absurd (omega (arith, p.0, q.0))
-judged_status V room bytes a b s t same (inr p) (inl q) = absurd (omega (arith, p.0, q.0))
-judged_status V room bytes a b s t same (inr p) (inr q) = p.1.2 ∙ ap status_of_verdict (same p.1.0 q.1.0 p.1.1 q.1.1) ∙ sym q.1.2
-
-judged_text : (V : List ℕ → Verdict → Type 0) (room : ℕ) (bytes : List ℕ) (a b : Status) (s t : List ℕ)
-    → ((v w : Verdict) → V bytes v → V bytes w → v ≡ w)
-    → (judging V room).answer bytes a s → (judging V room).answer bytes b t → s ≡ t
-judged_text V room bytes a b s t same (inl p) (inl q) = p.2 ∙ sym q.2
-judged_text V room bytes a b s t same (inl p) (inr q) = absurd (omega (arith, p.0, q.0))
-judged_text V room bytes a b s t same (inr p) (inl q) = absurd (omega (arith, p.0, q.0))
-judged_text V room bytes a b s t same (inr p) (inr q) = p.1.3 ∙ ap verdict_text (same p.1.0 q.1.0 p.1.1 q.1.1) ∙ sym q.1.3
+    → (judging V room).answer bytes a s → (judging V room).answer bytes b t → (a ≡ b) × (s ≡ t)
+judged_once V room bytes a b s t same (inl p) (inl q) = (p.1 ∙ sym q.1, p.2 ∙ sym q.2)
+judged_once V room bytes a b s t same (inl p) (inr q) = absurd (omega (arith, p.0, q.0))
+judged_once V room bytes a b s t same (inr p) (inl q) = absurd (omega (arith, p.0, q.0))
+judged_once V room bytes a b s t same (inr p) (inr q) =
+    let one = same p.1.0 q.1.0 p.1.1 q.1.1 in
+    (p.1.2 ∙ ap status_of_verdict one ∙ sym q.1.2, p.1.3 ∙ ap verdict_text one ∙ sym q.1.3)
 
 pub judging_one : (V : List ℕ → Verdict → Type 0) (room : ℕ) →
     ((bytes : List ℕ) (v w : Verdict) → V bytes v → V bytes w → v ≡ w) → HasOne (judging V room)
 judging_one V room same = record {
-  status = λ bytes a b s t p q. judged_status V room bytes a b s t (same bytes) p q;
-  text = λ bytes a b s t p q. judged_text V room bytes a b s t (same bytes) p q;
+  status = λ bytes a b s t p q. (judged_once V room bytes a b s t (same bytes) p q).0;
+  text = λ bytes a b s t p q. (judged_once V room bytes a b s t (same bytes) p q).1;
 }

@@ -22,15 +22,8 @@ use Rattle.spiral_words.specs.declared.RequestCommand.{RequestCommand}
 use Rattle.spiral_words.specs.declared.RequestCommand.TheVariants as request
 use Rattle.spl_ast.specs.Formula.{Formula, size_of}
 use Rattle.spiral_words.specs.declared.spiral_status.status.Status.{Status}
-use Rattle.spiral_words.specs.declared.spiral_status.status.Status.TheVariants.{Success, Usage, Syntax, Range, Shape}
-use Rattle.spiral_words.specs.declared.spiral_status.status.Status.TheVariants.{LanesLine, NotUnit, Turn, NotPrincipal}
-use Rattle.spiral_words.specs.declared.spiral_status.status.Status.TheVariants.{NoDivide, OverBudget, BadNumber}
-use Rattle.spiral_words.specs.declared.spiral_status.status.Status.TheVariants.{Truncated, ReadFault, WriteFault}
-use Rattle.spiral_words.specs.declared.spiral_status.status.Status.TheVariants.{NoMemory, TooLong, Unread, Wrong}
-use Rattle.spiral_words.specs.declared.spiral_status.status.Status.TheVariants.{FormulaShape, TooDeep, ListingSyntax}
-use Rattle.spiral_words.specs.declared.spiral_status.status.Status.TheVariants.{Address, Register, LineShared}
-use Rattle.spiral_words.specs.declared.spiral_status.status.Status.TheVariants.{OverSteps}
-use Rattle.spiral_words.specs.declared.spiral_status.status.Status.TheVariants as status
+use Rattle.spiral_words.specs.declared.spiral_status.status.Status.TheVariants.{Success, ReadFault, WriteFault}
+use Rattle.spiral_words.specs.declared.spiral_status.status.Status.TheVariants.{NoMemory}
 use Rattle.commands.specs.Checked.{status_of_verdict}
 use Rattle.commands.specs.Equations.Apply.{apply_work}
 use Rattle.commands.specs.Equations.Check.{fitting}
@@ -79,13 +72,11 @@ front_gives {A} front orders work value bytes s t decided gives p =
 document_success : (wanted : Document) (bytes : List ℕ) (plan : Planned) (s : Status) (t : List ℕ)
     → ordered (line 256) (planned (procs_named (request.Writes wanted))) bytes (Ok plan) →
     (document_outcomes wanted).answer bytes s t → s ≡ Success
-document_success document.Plan bytes plan s t gives p = (front_gives (line 256) (planned []) (document_work document.Plan) plan bytes s t (planned_decided []) gives p).0
-document_success document.Formula bytes plan s t gives p = (front_gives (line 256) (planned []) (document_work document.Formula) plan bytes s t (planned_decided []) gives p).0
-document_success document.Code bytes plan s t gives p = (front_gives (line 256) (planned []) (document_work document.Code) plan bytes s t (planned_decided []) gives p).0
-document_success document.C bytes plan s t gives p = (front_gives (line 256) (planned []) (document_work document.C) plan bytes s t (planned_decided []) gives p).0
-document_success document.Cert bytes plan s t gives p = (front_gives (line 256) (planned []) (document_work document.Cert) plan bytes s t (planned_decided []) gives p).0
 document_success (document.Sample seed schedule) bytes plan s t gives p =
-    (front_gives (line 256) (planned (named schedule)) (document_work (document.Sample seed schedule)) plan bytes s t (planned_decided (named schedule)) gives p).0
+    (front_gives (line 256) (planned (named schedule)) (document_work (document.Sample seed schedule)) plan bytes s t
+    (planned_decided (named schedule)) gives p).0
+document_success wanted bytes plan s t gives p =
+    (front_gives (line 256) (planned []) (document_work wanted) plan bytes s t (planned_decided []) gives p).0
 
 whole_status : (size room : ℕ) (bytes : List ℕ) → AreWholeVectors size room bytes →
     status_of_stream (data_answer size room bytes) ≡ Success
@@ -176,32 +167,7 @@ right_success words bytes s t (inr (inr (inr right))) p =
 
 memory_or : (s : Status) → (s ≡ NoMemory) ⊎ (s ≢ NoMemory)
 memory_or NoMemory = inl refl
-memory_or Success = inr (λ e. cc)
-memory_or Usage = inr (λ e. cc)
-memory_or (Syntax at) = inr (λ e. cc)
-memory_or (Range field value) = inr (λ e. cc)
-memory_or (Shape size) = inr (λ e. cc)
-memory_or (LanesLine lanes line) = inr (λ e. cc)
-memory_or (Turn q p) = inr (λ e. cc)
-memory_or (status.Root power) = inr (λ e. cc)
-memory_or (NotUnit gcd) = inr (λ e. cc)
-memory_or (NotPrincipal k) = inr (λ e. cc)
-memory_or NoDivide = inr (λ e. cc)
-memory_or (OverBudget cost budget) = inr (λ e. cc)
-memory_or (BadNumber token) = inr (λ e. cc)
-memory_or (Truncated have need) = inr (λ e. cc)
-memory_or ReadFault = inr (λ e. cc)
-memory_or WriteFault = inr (λ e. cc)
-memory_or (TooLong limit) = inr (λ e. cc)
-memory_or Unread = inr (λ e. cc)
-memory_or (Wrong size given found) = inr (λ e. cc)
-memory_or (FormulaShape at left right) = inr (λ e. cc)
-memory_or (TooDeep at) = inr (λ e. cc)
-memory_or (ListingSyntax line) = inr (λ e. cc)
-memory_or (Address phase proc action) = inr (λ e. cc)
-memory_or (Register phase proc action) = inr (λ e. cc)
-memory_or (LineShared phase line a b) = inr (λ e. cc)
-memory_or (OverSteps limit) = inr (λ e. cc)
+memory_or other = inr (λ e. cc)
 
 pub right_calls : (words : List (List ℕ)) (bytes left : List ℕ) (before after : Option (List ℕ)) (s : Status) →
     IsRightCall words bytes → Accounts words bytes left before after s

@@ -8,6 +8,7 @@ use Rattle.std.specs.declared.option.Option.{Option}
 use Rattle.std.specs.Io.KnownBytes.{Appends}
 use Rattle.data_stream.specs.Data.{tokens, is_good}
 use Rattle.icode.specs.Plain.{PlainProgram}
+use Rattle.matrix_meaning.specs.declared.Request.{Request}
 use Rattle.request_text.specs.Schedule.{Plan as Turns}
 use Rattle.request_text.specs.Turns.{named}
 use Rattle.spl_ast.specs.Formula.{Formula}
@@ -22,17 +23,18 @@ use Rattle.spiral_words.specs.declared.spiral_status.status.Status.TheVariants.{
 use Rattle.commands.specs.FormulaCommands.Letters.{program_for}
 use Rattle.listing_text.specs.Listing.{listing_of}
 use Rattle.commands.specs.Equations.Compile.{compile_outcomes}
-use Rattle.commands.specs.Equations.Convolutions.{conv_planned}
+use Rattle.commands.specs.Equations.Convolutions.{conv_planned, conv_spelt}
 use Rattle.commands.specs.Equations.Exec.{exec_outcomes, exec_work}
 use Rattle.commands.specs.Equations.Formulas.{formed, written}
 use Rattle.commands.specs.ListingCommands.Listed.{loaded, result_of}
-use Rattle.commands.specs.SpiralInput.Commands.{admitted}
-use Rattle.commands.specs.SpiralInput.Stage.{Stage}
+use Rattle.commands.specs.SpiralInput.Asking.{spelt}
+use Rattle.commands.specs.SpiralInput.Commands.{admitted, first_stranger}
+use Rattle.commands.specs.SpiralInput.Stage.{Stage, ◌>>=◌}
 use Rattle.commands.specs.Equations.Front.{Front, line, ordered, part, room_behind, Work, by_front}
 use Rattle.commands.specs.Equations.Convolve.{IsConvolveText, IsConvolverText, convolve_outcomes, convolve_work}
 use Rattle.commands.specs.Equations.Convolve.{convolver_outcomes, convolver_work}
 use Rattle.commands.specs.Equations.Works.{a_first, all, status_by, the_first, writing, mapping}
-use Rattle.commands.specs.Equations.Orders.{Planned, planned}
+use Rattle.commands.specs.Equations.Orders.{Planned, planned, turned}
 use Rattle.commands.specs.Equations.Apply.{apply_outcomes, apply_work}
 use Rattle.commands.proofs.SpiralInput.FrontLemmas.{front_short}
 use Rattle.spiral_main.specs.Outcome.{IsOutcome, Accounts}
@@ -78,16 +80,18 @@ whole_answer size modulus IsText room bytes t v p = (
   subst (λ vectors. IsText vectors t) (sym (right_vectors size modulus room bytes v.few v.good)) p,
 )
 
+-- a line that spells a request, and names no stranger
+turned_gives : (spells : List ℕ → Stage Request) (names text : List ℕ) (r : Request) → spells text (Ok r)
+    → first_stranger names r.procs ≡ None → (spells text >>= turned names) (Ok r)
+turned_gives spells names text r spelt none =
+    record { value = r; before = spelt; behind = sym (ap (λ stranger. admitted stranger r.procs r) none) }
+
 -- what the line of a request orders
 pub orders_plan : (names bytes : List ℕ) (plan : Planned) → IsRightLine names bytes plan
     → planned names ((line 256).first bytes) (Ok plan)
 orders_plan names bytes plan right = record {
   value = plan.request;
-  before = record {
-    value = plan.request;
-    before = right.spells;
-    behind = sym (ap (λ stranger. admitted stranger plan.request.procs plan.request) right.turns);
-  };
+  before = turned_gives spelt names ((line 256).first bytes) plan.request right.spells right.turns;
   behind = (refl, right.planned);
 }
 
@@ -96,11 +100,7 @@ pub orders_conv_plan : (names bytes : List ℕ) (plan : Planned) → IsRightConv
     → conv_planned names ((line 256).first bytes) (Ok plan)
 orders_conv_plan names bytes plan right = record {
   value = plan.request;
-  before = record {
-    value = plan.request;
-    before = right.spells;
-    behind = sym (ap (λ stranger. admitted stranger plan.request.procs plan.request) right.turns);
-  };
+  before = turned_gives conv_spelt names ((line 256).first bytes) plan.request right.spells right.turns;
   behind = (refl, right.planned);
 }
 

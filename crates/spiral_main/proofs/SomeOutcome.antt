@@ -14,7 +14,7 @@ use Rattle.plan_cert.specs.Table.{IsTableText}
 use Rattle.plan_cert.specs.Verdict.{IsVerdict}
 use Rattle.plan_search.proofs.WholeChosen.{whole_divides}
 use Rattle.plan_search.specs.declared.generating.GenerateFault.{GenerateFault}
-use Rattle.plan_search.specs.declared.generating.GenerateFault.TheVariants.{NoDivide, NoMemory, OverBudget, Root}
+use Rattle.plan_search.specs.declared.generating.GenerateFault.TheVariants.{NoMemory, OverBudget}
 use Rattle.request_text.proofs.OneAnswer.{line_answered}
 use Rattle.request_text.specs.Answer.{Answers}
 use Rattle.request_text.specs.Schedule.{Plan as Turns}
@@ -32,7 +32,7 @@ use Rattle.spiral_words.specs.declared.FormulaCommand.{FormulaCommand}
 use Rattle.spiral_words.specs.declared.FormulaCommand.TheVariants as formula
 use Rattle.spiral_words.specs.declared.RequestCommand.{RequestCommand}
 use Rattle.spiral_words.specs.declared.RequestCommand.TheVariants as request
-use Rattle.spl_ast.specs.Formula.{Formula, size_of}
+use Rattle.spl_ast.specs.Formula.{size_of}
 use Rattle.spl_ast.specs.Meaning as meanings
 use Rattle.spiral_words.specs.declared.spiral_status.status.Status.{Status}
 use Rattle.spiral_words.specs.declared.spiral_status.status.Status.TheVariants.{Success, TooLong, Usage}
@@ -103,11 +103,10 @@ formed_has names text = both_have (written text) _ (formula_written text) (λ f 
 -- `check` goes by no budget
 fitting_has : (r : Request) (answer : Result Breakdown GenerateFault) → IsPlanned r answer → HasAnswer (fitting r)
 fitting_has r (Ok t) h = (Ok r, (refl, (h.0, whole_divides r t h.1.tree)))
-fitting_has r (Err (Root power)) h = (Err (status_of_generate (Root power)), (Root power, h, refl))
-fitting_has r (Err NoDivide) h = (Err (status_of_generate NoDivide), (NoDivide, h, refl))
 fitting_has r (Err (OverBudget cost budget)) h =
     let tree = h.1.reached in (Ok r, (refl, (h.0, whole_divides r tree.0 tree.1)))
 fitting_has r (Err NoMemory) h = absurd h
+fitting_has r (Err fault) h = (Err (status_of_generate fault), (fault, h, refl))
 
 fit_has : (text : List ℕ) → HasAnswer (spelt text >>= fitting)
 fit_has text =

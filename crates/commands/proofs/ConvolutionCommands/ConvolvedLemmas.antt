@@ -1,5 +1,5 @@
 -- What `convolve` comes to.
-use Rattle.std.proofs.Common.{◌≡◌, ◌≢◌, ◌<◌, ◌≤◌, ◌+◌, ◌*◌, ◌-◌, ◌/◌, ℕ, zero, suc, Bool, true, false, List, []}
+use Rattle.std.proofs.Common.{◌≡◌, ◌≢◌, ◌<◌, ◌≤◌, ◌*◌, ◌-◌, ◌/◌, ℕ, zero, suc, Bool, true, false, List, []}
 use Rattle.std.proofs.Common.{◌∷◌, ◌++◌, Ok, Err, Result, length, drop, refl, sym, ap, subst, ◌∙◌, arith}
 use Rattle.std.proofs.KnownBytes.{Appends-nil}
 use Rattle.std.proofs.Math.Nat.{div-mul-le_self}
@@ -58,27 +58,20 @@ use Rattle.commands.proofs.SpiralInput.Within.{Within, front_join}
 pub conv_refused : (request : Request) (fault : ConvFault) →
     (fault ≢ conv.NoMemory → IsConvPlanned request (Err fault)) → IsDefined (status_of_conv fault) →
     conv_chosen request (Err (status_of_conv fault))
-conv_refused request (conv.Root power) p d = (conv.Root power, p (λ e. cc), refl)
-conv_refused request (conv.NotPrincipal k) p d = (conv.NotPrincipal k, p (λ e. cc), refl)
-conv_refused request (conv.OverBudget cost budget) p d = (conv.OverBudget cost budget, p (λ e. cc), refl)
 conv_refused request conv.NoMemory p d = absurd (d.memory refl)
+conv_refused request fault p d = (fault, p (λ e. cc), refl)
 
 pub conv_refusal : (fault : ConvFault) → IsRefusal (status_of_conv fault)
-conv_refusal (conv.Root power) = record { success = λ e. cc; read = λ e. cc; write = λ e. cc; usage = λ e. cc }
-conv_refusal (conv.NotPrincipal k) = record { success = λ e. cc; read = λ e. cc; write = λ e. cc; usage = λ e. cc }
-conv_refusal (conv.OverBudget cost budget) = record { success = λ e. cc; read = λ e. cc; write = λ e. cc; usage = λ e. cc }
 conv_refusal conv.NoMemory = record { success = λ e. cc; read = λ e. cc; write = λ e. cc; usage = λ e. cc }
+conv_refusal fault = record { success = λ e. cc; read = λ e. cc; write = λ e. cc; usage = λ e. cc }
 
 -- Data without a list
 
 -- a failed run that wrote nothing has written the texts of no vector
 nothing_written : (out : Option (List ℕ)) (fault : StreamFault) → failed fault ≢ failed stream.WriteFault →
     Writes out out (failed fault) []
-nothing_written out (stream.Truncated have need) other = Appends-nil out
-nothing_written out (stream.BadNumber token) other = Appends-nil out
-nothing_written out stream.TooLong other = Appends-nil out
-nothing_written out stream.ReadFault other = Appends-nil out
 nothing_written out stream.WriteFault other = absurd (other refl)
+nothing_written out fault other = Appends-nil out
 
 -- where no vector is there, a work that wants one lacks it
 pub record WantsList (wants : Wants) (size : ℕ) : Type 0 where

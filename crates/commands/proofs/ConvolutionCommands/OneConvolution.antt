@@ -1,7 +1,7 @@
 -- A line orders one plan for convolutions, or is refused with one status.
-use Rattle.std.proofs.Common.{◌≡◌, ◌<◌, ◌≤◌, ℕ, Bool, true, false, List, None, Some, Ok, Err, Result, nat_lt}
-use Rattle.std.proofs.Common.{refl, sym, ap, ap₂, ◌∙◌, arith}
-use Rattle.std.proofs.lemmas.Grind.{common_steps}
+use Rattle.std.proofs.Common.{◌≡◌, ◌<◌, ◌≤◌, ℕ, List, None, Some, Ok, Err, Result, sym, ap, ap₂, ◌∙◌, arith}
+use Rattle.std.proofs.Common.{inl, inr}
+use Rattle.std.proofs.lemmas.Bool.{cases_order}
 use Rattle.std.specs.declared.option.Option.{Option}
 use Rattle.matrix_meaning.specs.Convolution.{IsFirstBadPower}
 use Rattle.generate.specs.ConvPlanned.{IsConvPlanned, both_halves}
@@ -71,28 +71,23 @@ bad_first : (m n w j k : ℕ) → IsFirstBadPower m n w j → IsFirstBadPower m 
 bad_first m n w j k p q less = p.bad (q.first j p.from less)
 
 bad_once : (m n w j k : ℕ) → IsFirstBadPower m n w j → IsFirstBadPower m n w k → j ≡ k
-bad_once m n w j k p q = cases (nat_lt j k) (nat_lt k j) refl refl
-  where
-    cases : (a b : Bool) → nat_lt j k ≡ a → nat_lt k j ≡ b → j ≡ k
-    cases true b e f = absurd (bad_first m n w j k p q (grind (arith, common_steps)))
-    cases false true e f = absurd (bad_first m n w k j q p (grind (arith, common_steps)))
-    cases false false e f = grind (arith, common_steps)
+bad_once m n w j k p q = elim (cases_order j k) [
+  | inl same ↦ same
+  | inr (inl less) ↦ absurd (bad_first m n w j k p q less)
+  | inr (inr more) ↦ absurd (bad_first m n w k j q p more)
+]
 
 refusal_once : (r : Request) (f g : ConvFault) → IsConvPlanned r (Err f) → IsConvPlanned r (Err g) → f ≡ g
+refusal_once r conv.NoMemory g p q = absurd p
+refusal_once r f conv.NoMemory p q = absurd q
 refusal_once r (conv.Root power) (conv.Root other) p q = ap conv.Root (power_once (bad_power r) power other p q)
-refusal_once r (conv.Root power) (conv.NotPrincipal k) p q = absurd (power_clash (bad_power r) power q.0 p)
-refusal_once r (conv.Root power) (conv.OverBudget cost budget) p q = absurd (power_clash (bad_power r) power q.0 p)
-refusal_once r (conv.NotPrincipal k) (conv.Root power) p q = absurd (power_clash (bad_power r) power p.0 q)
+refusal_once r (conv.Root power) g p q = absurd (power_clash (bad_power r) power q.0 p)
+refusal_once r f (conv.Root power) p q = absurd (power_clash (bad_power r) power p.0 q)
 refusal_once r (conv.NotPrincipal k) (conv.NotPrincipal j) p q = ap conv.NotPrincipal (bad_once r.modulus r.size r.root k j p.1 q.1)
 refusal_once r (conv.NotPrincipal k) (conv.OverBudget cost budget) p q = absurd (p.1.bad (q.1 k p.1.from p.1.below))
-refusal_once r (conv.OverBudget cost budget) (conv.Root power) p q = absurd (power_clash (bad_power r) power p.0 q)
 refusal_once r (conv.OverBudget cost budget) (conv.NotPrincipal k) p q = absurd (q.1.bad (p.1 k q.1.from q.1.below))
 refusal_once r (conv.OverBudget cost budget) (conv.OverBudget other limit) p q =
     ap₂ conv.OverBudget (p.2.2 ∙ ap (both_halves r) (whole_least_once r p.2.0 q.2.0 p.2.1 q.2.1) ∙ sym q.2.2) (p.3 ∙ sym q.3)
-refusal_once r conv.NoMemory g p q = absurd p
-refusal_once r (conv.Root power) conv.NoMemory p q = absurd q
-refusal_once r (conv.NotPrincipal k) conv.NoMemory p q = absurd q
-refusal_once r (conv.OverBudget cost budget) conv.NoMemory p q = absurd q
 
 chosen_decided : (r : Request) → IsDecided (conv_chosen r)
 chosen_decided r (Ok a) (Ok b) p q =

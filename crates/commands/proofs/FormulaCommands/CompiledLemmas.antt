@@ -1,5 +1,5 @@
 -- What `compile` and `apply` come to.
-use Rattle.std.proofs.Common.{◌≡◌, ◌<◌, ◌≤◌, ◌+◌, ◌-◌, ◌/◌, ℕ, false, List, [], ◌++◌, None, Some, Ok, Err, Vec, length}
+use Rattle.std.proofs.Common.{◌≡◌, ◌<◌, ◌≤◌, ◌-◌, ◌/◌, ℕ, false, List, [], ◌++◌, None, Some, Ok, Err, Vec, length}
 use Rattle.std.proofs.Common.{refl, sym, ap, subst, ◌∙◌, arith, inr}
 use Rattle.std.proofs.Common.{Global}
 use Rattle.std.proofs.KnownBytes.{Consumes-kept}

@@ -164,11 +164,12 @@ sum_ready a b p q h e = (p h.0, q h.1, (let low = (size_is_size a (p h.0)).0 in 
 
 -- Reading
 
-abbrev good : Formula × Place ℕ → Result (Formula × Place ℕ) (Stop TextFault)
+abbrev good : {A E : Type 0} → A → Result A E
 good x = Ok x
 
-same_ok : (x y : Formula × Place ℕ) → good x ≡ good y → x.0 ≡ y.0
-same_ok x y e = let both : x ≡ y = cc in ap (λ z. z.0) both
+-- what is read is one value
+front_same : {A B E : Type 0} (x y : A × B) → good {E = E} x ≡ good y → x.0 ≡ y.0
+front_same x y e = let both : x ≡ y = cc in ap (λ z. z.0) both
 
 passed_ok : (o : Option (ℕ × ℕ)) (left : ℕ) (x y : Formula × Place ℕ) →
     passed (option_map (λ p. Shape left p.0 p.1) o) x ≡ good y → (x ≡ y) × (o ≡ None)
@@ -188,44 +189,36 @@ EachHead P [] = Unit {0}
 EachHead P (row ∷ rows) = P row.1 × EachHead P rows
 
 module _ {H : Type 0} (P : H → Type 0) where
-  abbrev word_of : H × List ℕ → Result (H × List ℕ) ℕ
-  word_of x = Ok x
-
-  first_same : (x y : H × List ℕ) → word_of x ≡ word_of y → x.0 ≡ y.0
-  first_same x y e = let both : x ≡ y = cc in ap (λ z. z.0) both
-
   in_list : (rows : List (List ℕ × H)) (text : List ℕ) (x : H × List ℕ) → EachHead P rows →
-      one_of_in rows text ≡ word_of x → P x.0
+      one_of_in rows text ≡ good x → P x.0
   in_list [] text x each e = absurd (cc)
   in_list (row ∷ rows) text x each e = at (word_in row.0 text) (one_of_in rows text) e (in_list rows text x each.1)
     where
       at : (first : Result (Unit {0} × List ℕ) ℕ) (others : Result (H × List ℕ) ℕ) →
-          reading_else (valued row.1 first) others ≡ word_of x
-          → (others ≡ word_of x → P x.0) → P x.0
-      at (Ok y) others e later = subst P (first_same (row.1, y.1) x e) each.0
+          reading_else (valued row.1 first) others ≡ good x
+          → (others ≡ good x → P x.0) → P x.0
+      at (Ok y) others e later = subst P (front_same (row.1, y.1) x e) each.0
       at (Err left) (Ok z) e later = later e
       at (Err left) (Err other) e later = absurd (cc)
 
-  abbrev placed_head : H × Place ℕ → Result (H × Place ℕ) (Stop TextFault)
-  placed_head x = Ok x
-
-  head_same : (x y : H × Place ℕ) → placed_head x ≡ placed_head y → x.0 ≡ y.0
-  head_same x y e = let both : x ≡ y = cc in ap (λ z. z.0) both
-
   at_place : (rows : List (List ℕ × H)) (place : Place ℕ) (x : H × Place ℕ) → EachHead P rows →
-      plain (one_of_at rows) place ≡ placed_head x → P x.0
+      plain (one_of_at rows) place ≡ good x → P x.0
   at_place rows place x each e = at (one_of_in rows place.rest) e (λ y. in_list rows place.rest y each)
     where
-      at : (r : Result (H × List ℕ) ℕ) → spelling_only (placed place.far r) ≡ placed_head x →
-          ((y : H × List ℕ) → r ≡ word_of y → P y.0) → P x.0
-      at (Ok y) e found = subst P (head_same (y.0, record { rest = y.1; far = place.far }) x e) (found y refl)
+      at : (r : Result (H × List ℕ) ℕ) → spelling_only (placed place.far r) ≡ good {E = Stop TextFault} x →
+          ((y : H × List ℕ) → r ≡ good y → P y.0) → P x.0
+      at (Ok y) e found = subst P (front_same (y.0, record { rest = y.1; far = place.far }) x e) (found y refl)
       at (Err left) e found = absurd (cc)
 
-made_ready : {A : Type 0} (read : Place ℕ → Result (A × Place ℕ) ℕ) (make : A → Formula) (place : Place ℕ)
-    (y : Formula × Place ℕ) → ((x : A) → IsReady (make x)) → made_at read make place ≡ Ok y → IsReady y.0
-made_ready read make place y h e =
+made_ready : {A : Type 0} (read : Place ℕ → Result (A × Place ℕ) ℕ) (make : A → Formula) → ((x : A) → IsReady (make x))
+    → (place : Place ℕ) (y : Formula × Place ℕ) → made_at read make place ≡ Ok y → IsReady y.0
+made_ready read make h place y e =
     let g = go_ok (plain read place) (λ x. plain (pure_at (make x))) y e in
-    subst IsReady (same_ok (make g.0.0, g.0.1) y g.2) (h g.0.0)
+    subst IsReady (front_same (make g.0.0, g.0.1) y g.2) (h g.0.0)
+
+infixr 5 ◌&◌
+abbrev ◌&◌ : {A B : Type 0} → A → B → A × B
+a & b = (a, b)
 
 module _ (read : Place ℕ → Result (Formula × Place ℕ) (Stop TextFault))
     (inner : (place : Place ℕ) (x : Formula × Place ℕ) → read place ≡ Ok x → WillBe x.0) where
@@ -236,7 +229,7 @@ module _ (read : Place ℕ → Result (Formula × Place ℕ) (Stop TextFault))
       let g2 = go_ok (plain comma_at g1.0.1) _ y g1.2 in
       let g3 = go_ok (read g2.0.1) _ y g2.2 in
       let g4 = go_ok (plain close_at g3.0.1) _ y g3.2 in
-      subst IsReady (same_ok (make g1.0.0 g3.0.0, g4.0.1) y g4.2) (h g1.0.0 g3.0.0 (inner place g1.0 g1.1) (inner g2.0.1 g3.0 g3.1))
+      subst IsReady (front_same (make g1.0.0 g3.0.0, g4.0.1) y g4.2) (h g1.0.0 g3.0.0 (inner place g1.0 g1.1) (inner g2.0.1 g3.0 g3.1))
 
   left_read : (place : Place ℕ) (y : Formula × Place ℕ) → tensor_left_by read place ≡ Ok y → IsReady y.0
   left_read place y e =
@@ -244,7 +237,7 @@ module _ (read : Place ℕ → Result (Formula × Place ℕ) (Stop TextFault))
       let g2 = go_ok (plain comma_at g1.0.1) _ y g1.2 in
       let g3 = go_ok (plain factor_at g2.0.1) _ y g2.2 in
       let g4 = go_ok (plain close_at g3.0.1) _ y g3.2 in
-      subst IsReady (same_ok (TensorLeft g1.0.0 g3.0.0, g4.0.1) y g4.2) (left_ready g1.0.0 g3.0.0 (inner place g1.0 g1.1))
+      subst IsReady (front_same (TensorLeft g1.0.0 g3.0.0, g4.0.1) y g4.2) (left_ready g1.0.0 g3.0.0 (inner place g1.0 g1.1))
 
   right_read : (place : Place ℕ) (y : Formula × Place ℕ) → tensor_right_by read place ≡ Ok y → IsReady y.0
   right_read place y e =
@@ -252,51 +245,22 @@ module _ (read : Place ℕ → Result (Formula × Place ℕ) (Stop TextFault))
       let g2 = go_ok (plain comma_at g1.0.1) _ y g1.2 in
       let g3 = go_ok (read g2.0.1) _ y g2.2 in
       let g4 = go_ok (plain close_at g3.0.1) _ y g3.2 in
-      subst IsReady (same_ok (TensorRight g1.0.0 g3.0.0, g4.0.1) y g4.2) (right_ready g1.0.0 g3.0.0 (inner g2.0.1 g3.0 g3.1))
+      subst IsReady (front_same (TensorRight g1.0.0 g3.0.0, g4.0.1) y g4.2) (right_ready g1.0.0 g3.0.0 (inner g2.0.1 g3.0 g3.1))
 
   -- after each head of a part stands one that is ready
   heads_ready : EachHead (λ h. (place : Place ℕ) (y : Formula × Place ℕ) → arguments_by read h place ≡ Ok y →
       IsReady y.0) heads
-  heads_ready = (
-    λ place y e. made_ready one_size_at Identity place y identity_ready e,
-    (
-      λ place y e. made_ready size_value_at (λ x. Fourier x.0 x.1) place y fourier_ready e,
-      (
-        λ place y e. made_ready one_size_at Hadamard place y hadamard_ready e,
-        (
-          λ place y e. made_ready sizes_value_at (λ x. Twiddles x.0 x.1 x.2) place y twiddles_ready e,
-          (
-            λ place y e. made_ready values_at Diagonal place y diagonal_ready e,
-            (
-              λ place y e. made_ready two_sizes_at (λ x. Stride x.0 x.1) place y stride_ready e,
-              (
-                λ place y e. made_ready values_at Permutation place y permutation_ready e,
-                (
-                  λ place y e. made_ready two_sizes_at (λ x. GoodThomasIn x.0 x.1) place y into_ready e,
-                  (
-                    λ place y e. made_ready two_sizes_at (λ x. GoodThomasOut x.0 x.1) place y out_ready e,
-                    (
-                      λ place y e. two_ready Product product_ready place y e,
-                      (
-                        λ place y e. left_read place y e,
-                        (
-                          λ place y e. right_read place y e,
-                          (
-                            λ place y e. two_ready DirectSum sum_ready place y e,
-                            tt,
-                          ),
-                        ),
-                      ),
-                    ),
-                  ),
-                ),
-              ),
-            ),
-          ),
-        ),
-      ),
-    ),
-  )
+  heads_ready =
+      made_ready one_size_at Identity identity_ready
+      & (made_ready size_value_at (λ x. Fourier x.0 x.1) fourier_ready
+      & (made_ready one_size_at Hadamard hadamard_ready
+      & (made_ready sizes_value_at (λ x. Twiddles x.0 x.1 x.2) twiddles_ready
+      & (made_ready values_at Diagonal diagonal_ready
+      & (made_ready two_sizes_at (λ x. Stride x.0 x.1) stride_ready
+      & (made_ready values_at Permutation permutation_ready
+      & (made_ready two_sizes_at (λ x. GoodThomasIn x.0 x.1) into_ready
+      & (made_ready two_sizes_at (λ x. GoodThomasOut x.0 x.1) out_ready
+      & (two_ready Product product_ready & (left_read & (right_read & (two_ready DirectSum sum_ready & tt))))))))))))
 
 never_too_deep : (r : Result _ ℕ) (y : Formula × Place ℕ) → too_deep r ≡ Ok y → ⊥
 never_too_deep (Ok x) y e = absurd (cc)
@@ -315,7 +279,7 @@ line_shaped : (place : Place ℕ) (y : Formula × Place ℕ) → line_at place �
 line_shaped place y e =
     let g1 = go_ok (formula_at 128 place) _ y e in
     let g2 = go_ok _ (λ _. plain (pure_at g1.0.0)) y g1.2 in
-    subst WillBe (same_ok (g1.0.0, g2.0.1) y g2.2) (formula_shaped 128 place g1.0 g1.1)
+    subst WillBe (front_same (g1.0.0, g2.0.1) y g2.2) (formula_shaped 128 place g1.0 g1.1)
 
 abbrev whole : Formula → Result Formula (Stop TextFault)
 whole f = Ok f

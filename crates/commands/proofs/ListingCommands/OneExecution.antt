@@ -1,9 +1,9 @@
 -- A listing orders one program to run, or is refused with one status.
 use Rattle.std.proofs.Common.{◌≡◌, ◌<◌, ◌≤◌, ◌-◌, ◌==◌, ℕ, zero, suc, Bool, true, false, List, [], ◌∷◌, ◌++◌, None, Ok}
-use Rattle.std.proofs.Common.{Err, Result, nat_lt, cond, refl, sym, ap, subst, ◌∙◌, arith, append_assoc}
-use Rattle.std.proofs.lemmas.Grind.{common_steps}
+use Rattle.std.proofs.Common.{Err, Result, cond, refl, sym, ap, subst, ◌∙◌, arith, append_assoc, inl, inr}
+use Rattle.std.proofs.lemmas.Bool.{cases_order}
 use Rattle.icode.specs.Plain.{PlainProgram}
-use Rattle.grammar.specs.Grammar.{Begins, IsLost, first_lines}
+use Rattle.grammar.specs.Grammar.{IsLost, first_lines}
 use Rattle.listing_text.specs.Lines.{Judges, read_lines}
 use Rattle.listing_text.specs.Listing.{listing_wording}
 use Rattle.listing_text.specs.ListingGrammar.{listing_grammar}
@@ -33,28 +33,21 @@ front_lines (b ∷ text) (suc a) (suc c) h =
     let rest = front_lines text (cond (b == 10) a (suc a)) (cond (b == 10) c (suc c)) (fewer (b == 10) a c (omega (arith, h))) in
     (rest.0, ap (λ l. b ∷ l) rest.1)
 
-fewer_begin : {A : Type 0} (spells : List ℕ → A → Type 0) (text : List ℕ) (a c : ℕ) → a ≤ c →
-    Begins spells (first_lines c text) → Begins spells (first_lines a text)
-fewer_begin spells text a c h begins =
-    let front = front_lines text a c h in (
-      front.0 ++ begins.0,
-      begins.1,
-      subst (λ l. spells l begins.1) (ap (λ l. l ++ begins.0) front.1 ∙ append_assoc (first_lines a text) front.0 begins.0) begins.2,
-    )
-
 never_before : {A : Type 0} (spells : List ℕ → A → Type 0) (text : List ℕ) (a b : ℕ) → IsLost spells text a →
     IsLost spells text b → a < b → ⊥
 never_before spells text a b p q h =
-    p.here (omega (arith, q.counted.1, h)) (fewer_begin spells text a (b - 1) (omega (arith, h)) q.before)
+    let front = front_lines text a (b - 1) (omega (arith, h)) in
+    let whole = ap (λ l. l ++ q.before.0) front.1 ∙ append_assoc (first_lines a text) front.0 q.before.0 in
+    p.here (omega (arith, q.counted.1, h))
+    (front.0 ++ q.before.0, q.before.1, subst (λ l. spells l q.before.1) whole q.before.2)
 
 lost_once : {A : Type 0} (spells : List ℕ → A → Type 0) (text : List ℕ) (a b : ℕ) → IsLost spells text a →
     IsLost spells text b → a ≡ b
-lost_once spells text a b p q = at (nat_lt a b) (nat_lt b a) refl refl
-  where
-    at : (x y : Bool) → nat_lt a b ≡ x → nat_lt b a ≡ y → a ≡ b
-    at true y less other = let before : a < b = grind (arith, common_steps) in absurd (never_before spells text a b p q before)
-    at false true less other = let before : b < a = grind (arith, common_steps) in absurd (never_before spells text b a q p before)
-    at false false less other = grind (arith, common_steps)
+lost_once spells text a b p q = elim (cases_order a b) [
+  | inl same ↦ same
+  | inr (inl before) ↦ absurd (never_before spells text a b p q before)
+  | inr (inr after) ↦ absurd (never_before spells text b a q p after)
+]
 
 -- The stages
 

@@ -1,5 +1,5 @@
 -- From the first line to a request.
-use Rattle.std.proofs.Common.{◌≡◌, ◌≢◌, ◌≤◌, ℕ, zero, suc, List, [], ◌∷◌, take, None, Some, Ok, Err, length, sym, ap}
+use Rattle.std.proofs.Common.{◌≡◌, ◌≢◌, ◌≤◌, ℕ, List, take, None, Some, Ok, Err, length, length-take, sym, ap}
 use Rattle.std.proofs.Common.{arith, inl, inr}
 use Rattle.std.specs.declared.option.Option.{Option}
 use Rattle.std.specs.Io.KnownBytes.{Consumes}
@@ -30,23 +30,15 @@ pub asked_line_fault : {A : Type 0} (orders : List ℕ → Stage A) (before afte
 asked_line_fault orders before after taken read buffer ended feed.ReadFault consumed given = asks_read_fault (line 256) orders before after taken read consumed given
 asked_line_fault orders before after taken read buffer ended feed.TooLong consumed given = asks_too_long (line 256) orders before after taken read consumed given
 
-take_short : (n : ℕ) (xs : List ℕ) → length (take n xs) ≤ n
-take_short zero xs = omega arith
-take_short (suc n) [] = omega arith
-take_short (suc n) (x ∷ xs) = let rest = take_short n xs in omega arith
-
 -- the first line is what was put into the buffer
 line_given : (read buffer : List ℕ) (ended : Type 0) (taken count : ℕ) → GivesLine read ended taken buffer (Ok count)
     → IsWhole (line 256) read ended (take count buffer) × (length (take count buffer) ≤ 256)
 line_given read buffer ended taken count given =
-    (given.3, let most = take_short count buffer in let short = given.1 in omega (arith, most, short))
+    (given.3, let most = length-take count buffer in let short = given.1 in omega (arith, most, short))
 
 request_fault_other : (fault : RequestFault) → status_of_request fault ≢ ReadFault
 request_fault_other (request.Syntax at) = λ e. cc
-request_fault_other (request.Range field value) = λ e. cc
-request_fault_other (request.Shape size) = λ e. cc
-request_fault_other (request.LanesLine lanes line) = λ e. cc
-request_fault_other (request.NotUnit gcd) = λ e. cc
+request_fault_other fault = λ e. cc
 
 -- the line spells no request that can be served
 pub asked_request_fault : (spells : List ℕ → Stage Request) (names : List ℕ) (before after : Option (List ℕ))

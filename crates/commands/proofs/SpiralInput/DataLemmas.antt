@@ -77,16 +77,6 @@ module _ (wants : Wants) (IsText : List (List ℕ) → List ℕ → Type 0) (siz
       → Answers size modulus (limit - old.taken) (read ++ left) vectors result
       → Writes out out' result text → (result ≢ Err stream.TooLong → new.taken ≤ limit)
       → Meets work (read ++ left) left start out' (status_of_stream result)
-  run_meets (Ok u) is on s seen wrote ends =
-      run_answers (Ok u) (status_of_stream (Ok u)) is seen wrote (λ e. cc) (λ e. cc)
-  run_meets (Err (stream.Truncated have need)) is on s seen wrote ends =
-      run_answers (Err (stream.Truncated have need)) (status_of_stream (Err (stream.Truncated have need))) is seen wrote
-      (λ e. cc) (λ e. cc)
-  run_meets (Err (stream.BadNumber token)) is on s seen wrote ends =
-      run_answers (Err (stream.BadNumber token)) (status_of_stream (Err (stream.BadNumber token))) is seen wrote
-      (λ e. cc) (λ e. cc)
-  run_meets (Err stream.TooLong) is on s seen wrote ends =
-      run_answers (Err stream.TooLong) (status_of_stream (Err stream.TooLong)) is seen wrote (λ e. cc) (λ e. cc)
   run_meets (Err stream.ReadFault) is on s seen wrote ends = broken_meets work (read ++ left) left start out' (
     read,
     front ++ text,
@@ -104,6 +94,8 @@ module _ (wants : Wants) (IsText : List (List ℕ) → List ℕ → Type 0) (siz
     subst (λ (v : List (List ℕ)). IsText v (front ++ text)) (sym s.3) told,
   )
       (prefix_after start out out' front text begun wrote)
+  run_meets result is on s seen wrote ends =
+      run_answers result (status_of_stream result) is seen wrote (λ e. cc) (λ e. cc)
 
 -- after the front, the texts of whole vectors are texts of them
 pub streams_told : {S : Type 0} (IsText : List (List ℕ) → List ℕ → Type 0) (size modulus : ℕ) (front : List ℕ)

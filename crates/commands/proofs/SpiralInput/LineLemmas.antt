@@ -1,11 +1,11 @@
 -- Where the first line of an input ends.
-use Rattle.std.proofs.Common.{◌≡◌, ◌≤◌, ◌+◌, ◌-◌, ℕ, Bool, true, false, not, ◌||◌, List, [], ◌∷◌, ◌++◌, length}
+use Rattle.std.proofs.Common.{◌≡◌, ◌≤◌, ◌+◌, ℕ, Bool, true, false, not, ◌||◌, List, [], ◌∷◌, ◌++◌, length}
 use Rattle.std.proofs.Common.{take, drop, cond, refl, sym, ap, ◌∙◌, arith, append_assoc, append-nil, length-append}
 use Rattle.std.proofs.Common.{add-zero, zero-add, inl, inr}
 use Rattle.std.proofs.Math.Seq.{take-append_seam, take-append-add, drop-append-add}
 use Rattle.std.proofs.lemmas.List.{take_all}
 use Rattle.std.proofs.lemmas.List.Folds.{list_any-append}
-use Rattle.std.proofs.lemmas.Bool.{cases_Bool}
+use Rattle.std.proofs.lemmas.Bool.{cases_Bool, or_parts}
 use Rattle.std.specs.List.{before_first, after_first, list_any, position_or_len}
 use Rattle.commands.specs.SpiralInput.Line.{IsWhole}
 use Rattle.commands.specs.Equations.Front.{is_line_end, line, HasEnded}
@@ -18,16 +18,12 @@ first_line bytes = before_first is_line_end bytes
 abbrev data_of : List ℕ → List ℕ
 data_of bytes = after_first is_line_end bytes
 
-neither : (a b : Bool) → (a || b) ≡ false → (a ≡ false) × (b ≡ false)
-neither true b h = absurd (cc)
-neither false b h = (refl, h)
-
 -- the first line goes past bytes that have no line end
 pub goes_past : (text more : List ℕ) → list_any is_line_end text ≡ false →
     position_or_len is_line_end (text ++ more) ≡ length text + position_or_len is_line_end more
 goes_past [] more h = sym (zero-add (position_or_len is_line_end more))
 goes_past (x ∷ text) more h =
-    let parts = neither (is_line_end x) (list_any is_line_end text) h in
+    let parts = or_parts (is_line_end x) (list_any is_line_end text) h in
     let rest = goes_past text more parts.1 in
     ap (λ t. cond (not t) (1 + position_or_len is_line_end (text ++ more)) 0) parts.0 ∙ omega arith
 

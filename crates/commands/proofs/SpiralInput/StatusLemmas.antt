@@ -16,27 +16,18 @@ use Rattle.commands.specs.SpiralInput.Refusals.{IsRefusal}
 
 -- the faults of a run over the data, as statuses
 from_read : (fault : StreamFault) → status_of_fault fault ≡ ReadFault → fault ≡ stream.ReadFault
-from_read (stream.BadNumber token) e = absurd (cc)
-from_read (stream.Truncated have need) e = absurd (cc)
-from_read stream.TooLong e = absurd (cc)
 from_read stream.ReadFault e = refl
-from_read stream.WriteFault e = absurd (cc)
+from_read fault e = absurd (cc)
 
 from_write : (fault : StreamFault) → status_of_fault fault ≡ WriteFault → fault ≡ stream.WriteFault
-from_write (stream.BadNumber token) e = absurd (cc)
-from_write (stream.Truncated have need) e = absurd (cc)
-from_write stream.TooLong e = absurd (cc)
-from_write stream.ReadFault e = absurd (cc)
 from_write stream.WriteFault e = refl
+from_write fault e = absurd (cc)
 
 -- and no other ends
 fault_is_other : (fault : StreamFault) → (status_of_fault fault ≢ Success) × (status_of_fault fault ≢ Usage)
     × (status_of_fault fault ≢ NoMemory)
-fault_is_other (stream.BadNumber token) = (λ e. cc, λ e. cc, λ e. cc)
-fault_is_other (stream.Truncated have need) = (λ e. cc, λ e. cc, λ e. cc)
 fault_is_other stream.TooLong = (λ e. cc, λ e. cc, λ e. cc)
-fault_is_other stream.ReadFault = (λ e. cc, λ e. cc, λ e. cc)
-fault_is_other stream.WriteFault = (λ e. cc, λ e. cc, λ e. cc)
+fault_is_other fault = (λ e. cc, λ e. cc, λ e. cc)
 
 pub fault_success : (fault : StreamFault) → status_of_fault fault ≢ Success
 fault_success fault = (fault_is_other fault).0
@@ -47,37 +38,23 @@ failed fault = Err fault
 failed_same : (a b : StreamFault) → failed a ≡ failed b → a ≡ b
 failed_same a b e = cc
 
-read_alone : (fault : StreamFault) → status_of_fault fault ≡ ReadFault → failed fault ≡ failed stream.ReadFault
-read_alone fault e = ap failed (from_read fault e)
-
-reports_read : (before now : ℕ) (fault : StreamFault) → Reports before now (failed fault ≡ failed stream.ReadFault) →
-    Reports before now (status_of_fault fault ≡ ReadFault)
-reports_read before now fault r = record {
+-- a fault that alone has its status is reported as that
+reports_as : (before now : ℕ) (fault one : StreamFault)
+    → (status_of_fault fault ≡ status_of_fault one → fault ≡ one) → Reports before now (failed fault ≡ failed one)
+    → Reports before now (status_of_fault fault ≡ status_of_fault one)
+reports_as before now fault one alone r = record {
   later = r.later;
-  cause = λ e. r.cause (ap failed (from_read fault e));
-  told = λ h. ap status_of_fault (failed_same fault stream.ReadFault (r.told h));
-}
-
-reports_write : (before now : ℕ) (fault : StreamFault) → Reports before now (failed fault ≡ failed stream.WriteFault) →
-    Reports before now (status_of_fault fault ≡ WriteFault)
-reports_write before now fault r = record {
-  later = r.later;
-  cause = λ e. r.cause (ap failed (from_write fault e));
-  told = λ h. ap status_of_fault (failed_same fault stream.WriteFault (r.told h));
+  cause = λ e. r.cause (ap failed (alone e));
+  told = λ h. ap status_of_fault (failed_same fault one (r.told h));
 }
 
 -- where a count stays, no fault is reported
 unreported : (answered : Type 0) (now : ℕ) → (answered → ⊥) → Reports now now answered
 unreported answered now none = record { later = omega arith; cause = λ e. absurd (none e); told = λ h. absurd (omega (arith, h)) }
 
--- of a second call, where the first left the count as it was
-pub reports_after : {A : Type 0} (before mid now : ℕ) → mid ≡ before → Reports mid now A → Reports before now A
-reports_after before mid now e r = rw (sym e) r
-
 pub rest_usage : (fault : RestFault) → status_of_rest fault ≢ Usage
 rest_usage rest_fault.TooLong = λ e. cc
-rest_usage rest_fault.ReadFault = λ e. cc
-rest_usage rest_fault.NoMemory = λ e. cc
+rest_usage fault = λ e. cc
 
 -- How commands end
 
@@ -118,9 +95,9 @@ pub run_ends : (fault : StreamFault) (held : List ℕ) (read_before read_mid rea
     Reports write_mid write_now (failed fault ≡ failed stream.WriteFault)
     → EndsCleanly (status_of_fault fault) held read_before read_now write_before write_now out out'
 run_ends fault held read_before read_mid read_now write_before write_mid write_now out out' no_read no_write empty read write = record {
-  empty = λ e. empty (read_alone fault e);
+  empty = λ e. empty (ap failed (from_read fault e));
   usage = (fault_is_other fault).1;
-  read = reports_after read_before read_mid read_now no_read (reports_read read_mid read_now fault read);
-  write = reports_after write_before write_mid write_now no_write (reports_write write_mid write_now fault write);
+  read = rw (sym no_read) (reports_as read_mid read_now fault stream.ReadFault (from_read fault) read);
+  write = rw (sym no_write) (reports_as write_mid write_now fault stream.WriteFault (from_write fault) write);
   memory = λ e. absurd ((fault_is_other fault).2 e);
 }

@@ -1,5 +1,4 @@
 use Rattle.std.proofs.lemmas.Result.{err_from_is_err_and}
-use Rattle.io_edge.specs.Feed.{to_come}
 use Rattle.commands.specs.Equations.Front.{line}
 use Rattle.commands.specs.Equations.Orders.{turned}
 use Rattle.commands.specs.Equations.Requests.{outcomes_by_request, work_for}
@@ -15,24 +14,16 @@ use Rattle.commands.proofs.perform.Goals as goal
 pub returns-in_err-request-clause-told : goal.returns-in_err-request-clause-told
 returns-in_err-request-clause-told g c =
     let command = c.args.command.now in
-    let start = to_come c.args.feed.now (g.I.Source.left c.args.input.now) in
-    let reached = to_come c.ask.new.feed (g.I.Source.left c.ask.new.input) in
-    let out = g.O.Sink.taken c.args.output.now in
     let fault = c.in_err-request.field-0.0 in
     let p = err_from_is_err_and c.from_residual.result c.from_residual.ensures.1 in
-    rw (p.1, p.2) (told_within (by_line command) (outcomes_by_request command) start reached out out fault (request_within command)
-    (front_refused (line 256) (λ text. spelt text >>= turned (procs_named command)) (work_for command) start reached out c.ask.new.feed.taken fault
+    rw (p.1, p.2) (told_within (by_line command) (outcomes_by_request command) _ _ _ _ fault (request_within command)
+    (front_refused (line 256) (λ text. spelt text >>= turned (procs_named command)) (work_for command) _ _ _ c.ask.new.feed.taken fault
     c.in_err-request.ensures.told c.in_err-request.ensures.ends.others.write))
 
 pub returns-clause-told : goal.returns-clause-told
 returns-clause-told g c =
     let command = c.args.command.now in
-    let start = to_come c.args.feed.now (g.I.Source.left c.args.input.now) in
-    let reached = to_come c.ask.new.feed (g.I.Source.left c.ask.new.input) in
-    let last = to_come c.perform_for.new.feed (g.I.Source.left c.perform_for.new.input) in
-    let out = g.O.Sink.taken c.args.output.now in
-    let written = g.O.Sink.taken c.perform_for.new.output in
     let status = status_of c.perform_for.result in
-    told_within (by_line command) (outcomes_by_request command) start last out written status (request_within command)
-    (front_told (line 256) (line_is_front 256) (λ text. spelt text >>= turned (procs_named command)) (work_for command) start reached last c.ask.new.feed.taken c.in_ok-request.request
-    out written status c.in_ok-request.ensures.told c.perform_for.ensures.told)
+    told_within (by_line command) (outcomes_by_request command) _ _ _ _ status (request_within command)
+    (front_told (line 256) (line_is_front 256) (λ text. spelt text >>= turned (procs_named command)) (work_for command) _ _ _ c.ask.new.feed.taken c.in_ok-request.request
+    _ _ status c.in_ok-request.ensures.told c.perform_for.ensures.told)

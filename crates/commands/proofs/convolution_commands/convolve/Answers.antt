@@ -1,6 +1,5 @@
 use Rattle.std.proofs.Common.{true, false}
 use Rattle.std.proofs.lemmas.Result.{err_from_is_err_and}
-use Rattle.io_edge.specs.Feed.{to_come}
 use Rattle.request_text.specs.Turns.{named}
 use Rattle.commands.specs.ConvolutionCommands.Convolved.{work_by_list}
 use Rattle.commands.specs.Equations.Convolutions.{conv_spelt}
@@ -18,37 +17,24 @@ pub returns-in_err-request-clause-told : goal.returns-in_err-request-clause-told
 returns-in_err-request-clause-told g c =
     let schedule = c.args.schedule.now in
     let code = c.args.code in
-    let start = to_come c.args.feed.now (g.I.Source.left c.args.input.now) in
-    let reached = to_come c.ask_conv.new.feed (g.I.Source.left c.ask_conv.new.input) in
-    let out = g.O.Sink.taken c.args.output.now in
     let fault = c.in_err-request.field-0.0 in
     let p = err_from_is_err_and c.from_residual.result c.from_residual.ensures.1 in
-    rw (p.1, p.2) (told_within (by_line schedule code) (outcomes_by_list schedule code) start reached out out fault (list_within schedule code)
-    (front_refused (line 256) (λ text. conv_spelt text >>= turned (named schedule)) (work_by_list code) start reached out c.ask_conv.new.feed.taken fault
+    rw (p.1, p.2) (told_within (by_line schedule code) (outcomes_by_list schedule code) _ _ _ _ fault (list_within schedule code)
+    (front_refused (line 256) (λ text. conv_spelt text >>= turned (named schedule)) (work_by_list code) _ _ _ c.ask_conv.new.feed.taken fault
     c.in_err-request.ensures.told c.in_err-request.ensures.ends.others.write))
 
 pub returns-then-code-clause-told : goal.returns-then-code-clause-told
 returns-then-code-clause-told g c =
     let schedule = c.args.schedule.now in
-    let start = to_come c.args.feed.now (g.I.Source.left c.args.input.now) in
-    let reached = to_come c.ask_conv.new.feed (g.I.Source.left c.ask_conv.new.input) in
-    let last = to_come c.print_convolver.new.feed (g.I.Source.left c.print_convolver.new.input) in
-    let out = g.O.Sink.taken c.args.output.now in
-    let written = g.O.Sink.taken c.print_convolver.new.output in
     let status = status_of c.print_convolver.result in
-    rw c.if-code.true (told_within (by_line schedule true) (outcomes_by_list schedule true) start last out written status (list_within schedule true)
-    (front_told (line 256) (line_is_front 256) (λ text. conv_spelt text >>= turned (named schedule)) (work_by_list true) start reached last c.ask_conv.new.feed.taken c.in_ok-request.request
-    out written status c.in_ok-request.ensures.told c.print_convolver.ensures.told))
+    rw c.if-code.true (told_within (by_line schedule true) (outcomes_by_list schedule true) _ _ _ _ status (list_within schedule true)
+    (front_told (line 256) (line_is_front 256) (λ text. conv_spelt text >>= turned (named schedule)) (work_by_list true) _ _ _ c.ask_conv.new.feed.taken c.in_ok-request.request
+    _ _ status c.in_ok-request.ensures.told c.print_convolver.ensures.told))
 
 pub returns-else-code-clause-told : goal.returns-else-code-clause-told
 returns-else-code-clause-told g c =
     let schedule = c.args.schedule.now in
-    let start = to_come c.args.feed.now (g.I.Source.left c.args.input.now) in
-    let reached = to_come c.ask_conv.new.feed (g.I.Source.left c.ask_conv.new.input) in
-    let last = to_come c.run_convolver.new.feed (g.I.Source.left c.run_convolver.new.input) in
-    let out = g.O.Sink.taken c.args.output.now in
-    let written = g.O.Sink.taken c.run_convolver.new.output in
     let status = status_of c.run_convolver.result in
-    rw c.if-code.false (told_within (by_line schedule false) (outcomes_by_list schedule false) start last out written status (list_within schedule false)
-    (front_told (line 256) (line_is_front 256) (λ text. conv_spelt text >>= turned (named schedule)) (work_by_list false) start reached last c.ask_conv.new.feed.taken c.in_ok-request.request
-    out written status c.in_ok-request.ensures.told c.run_convolver.ensures.told))
+    rw c.if-code.false (told_within (by_line schedule false) (outcomes_by_list schedule false) _ _ _ _ status (list_within schedule false)
+    (front_told (line 256) (line_is_front 256) (λ text. conv_spelt text >>= turned (named schedule)) (work_by_list false) _ _ _ c.ask_conv.new.feed.taken c.in_ok-request.request
+    _ _ status c.in_ok-request.ensures.told c.run_convolver.ensures.told))

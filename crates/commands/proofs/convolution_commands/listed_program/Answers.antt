@@ -14,15 +14,13 @@ use Rattle.commands.proofs.ConvolutionCommands.ConvolvedLemmas.{conv_refused, co
 use Rattle.commands.proofs.Documents.{with_tree}
 use Rattle.commands.proofs.SpiralInput.StageLemmas.{stage_refused}
 use Rattle.commands.proofs.SpiralInput.OutcomeLemmas.{told_nothing, unread_nothing}
-use Rattle.commands.specs.ConvolutionCommands.Convolved.{work_by_list}
 use Rattle.commands.proofs.convolution_commands.listed_program.Goals as goal
 
 pub returns-in_err-plan-clause-told : goal.returns-in_err-plan-clause-told
 returns-in_err-plan-clause-told g c =
-    let start = to_come c.args.feed.now (g.I.Source.left c.args.input.now) in
     let fault = c.in_err-plan.field-0.0 in
     let p = err_from_is_err_and c.from_residual.result c.from_residual.ensures.1 in
-    rw (p.1, p.2) (λ code out. stage_refused (conv_chosen c.args.request.now) (list_work code) (limit - c.args.feed.now.taken) start out (status_of_conv fault)
+    rw (p.1, p.2) (λ code out. stage_refused (conv_chosen c.args.request.now) (list_work code) (limit - c.args.feed.now.taken) _ out (status_of_conv fault)
     (conv_refused c.args.request.now fault c.in_err-plan.ensures.refused) (conv_refusal fault))
 
 pub returns-in_err-read_first-clause-told : goal.returns-in_err-read_first-clause-told
@@ -66,14 +64,11 @@ returns-clause-program g c =
 
 pub returns-in_err-list-clause-told : goal.returns-in_err-list-clause-told
 returns-in_err-list-clause-told g c =
-    let start = to_come c.args.feed.now (g.I.Source.left c.args.input.now) in
     let p = err_from_is_err_and c.from_residual-in_err-list.result c.from_residual-in_err-list.ensures.1 in
-    rw (p.1, p.2) (λ code out. unread_nothing (work_by_list code c.args.request.now (limit - c.args.feed.now.taken)) start out)
+    rw (p.1, p.2) (λ code out. unread_nothing _ _ out)
 
 pub returns-in_err-program-clause-told : goal.returns-in_err-program-clause-told
 returns-in_err-program-clause-told g c =
-    let start = to_come c.args.feed.now (g.I.Source.left c.args.input.now) in
-    let reached = to_come c.read_first.new.feed (g.I.Source.left c.read_first.new.input) in
     let progress = c.in_ok-read_first.ensures.come.progress in
     let p = err_from_is_err_and c.from_residual-in_err-program.result c.from_residual-in_err-program.ensures.1 in
-    rw (p.1, p.2) (λ code out. told_nothing (work_by_list code c.args.request.now (limit - c.args.feed.now.taken)) start reached out progress.bytes progress.consumed)
+    rw (p.1, p.2) (λ code out. told_nothing _ _ _ out progress.bytes progress.consumed)

@@ -1,44 +1,35 @@
-use Rattle.std.proofs.Common.{◌<◌, ◌-◌, arith, true}
+use Rattle.std.proofs.Common.{◌<◌, arith, true}
 use Rattle.std.proofs.lemmas.Result.{err_from_is_err_and}
-use Rattle.io_edge.specs.Feed.{to_come, limit}
 use Rattle.commands.proofs.ConvolutionCommands.ConvolvedLemmas.{convolves_listing, convolves_cut}
 use Rattle.data_stream.proofs.TokensLemmas.{reports_none}
 use Rattle.spiral_words.specs.declared.spiral_status.status.Status.TheVariants.{NoMemory}
 use Rattle.commands.proofs.SpiralInput.StatusLemmas.{quiet_ends}
 use Rattle.commands.proofs.SpiralInput.OutcomeLemmas.{told_nothing}
-use Rattle.commands.specs.ConvolutionCommands.Convolved.{work_by_list}
 use Rattle.commands.proofs.convolution_commands.print_convolver.Goals as goal
 
 pub returns-in_err-write_all-clause-told : goal.returns-in_err-write_all-clause-told
 returns-in_err-write_all-clause-told g c =
-    let start = to_come c.args.feed.now (g.I.Source.left c.args.input.now) in
-    let reached = to_come c.listed_program.new.feed (g.I.Source.left c.listed_program.new.input) in
-    let taken = g.O.Sink.taken in
     let made = c.in_ok-program.ensures in
     let some : 0 < c.args.request.now.size = omega (arith, c.requires.request.in_range.size.0) in
     let wrote = rw c.deref.ensures.value at c.in_err-write_all.ensures.bytes in
     let p = err_from_is_err_and c.from_residual-in_err-write_all.result c.from_residual-in_err-write_all.ensures.1 in
-    rw (p.1, p.2) (convolves_cut c.args.request.now c.in_ok-program.field-0-1 c.args.feed.now c.listed_program.new.feed start reached
-    (taken c.args.output.now) (taken c.write_all.new.sink) c.in_ok-program.field-0-2.items c.in_ok-listing.listing.items c.in_ok-program.program
+    rw (p.1, p.2) (convolves_cut c.args.request.now c.in_ok-program.field-0-1 c.args.feed.now c.listed_program.new.feed _ _
+    _ _ c.in_ok-program.field-0-2.items c.in_ok-listing.listing.items c.in_ok-program.program
     made.cut some made.come made.within made.ready.end made.program c.in_ok-listing.ensures.text wrote)
 
 pub returns-clause-told : goal.returns-clause-told
 returns-clause-told g c =
-    let start = to_come c.args.feed.now (g.I.Source.left c.args.input.now) in
-    let reached = to_come c.listed_program.new.feed (g.I.Source.left c.listed_program.new.input) in
-    let taken = g.O.Sink.taken in
     let made = c.in_ok-program.ensures in
     let wrote = rw c.deref.ensures.value at c.in_ok-write_all.ensures.bytes in
-    convolves_listing c.args.request.now c.in_ok-program.field-0-1 c.args.feed.now c.listed_program.new.feed start reached
-    (taken c.args.output.now) (taken c.write_all.new.sink) c.in_ok-program.field-0-2.items c.in_ok-listing.listing.items c.in_ok-program.program
+    convolves_listing c.args.request.now c.in_ok-program.field-0-1 c.args.feed.now c.listed_program.new.feed _ _
+    _ _ c.in_ok-program.field-0-2.items c.in_ok-listing.listing.items c.in_ok-program.program
     made.cut made.come c.requires.within made.within made.ready.end made.program c.in_ok-listing.ensures.text wrote
 
 pub returns-in_err-listing-clause-ends : goal.returns-in_err-listing-clause-ends
 returns-in_err-listing-clause-ends g c =
-    let read = g.I.Source.faults in
-    let same = reports_none (read c.args.input.now) (read c.listed_program.new.input) _ c.in_ok-program.ensures.ends.read (λ e. cc) in
+    let same = reports_none _ _ _ c.in_ok-program.ensures.ends.read (λ e. cc) in
     let p = err_from_is_err_and c.from_residual-in_err-listing.result c.from_residual-in_err-listing.ensures.1 in
-    rw (p.1, p.2) (quiet_ends NoMemory c.listed_program.new.feed.held (read c.args.input.now) (read c.listed_program.new.input) (g.O.Sink.faults c.args.output.now) (g.O.Sink.taken c.args.output.now)
+    rw (p.1, p.2) (quiet_ends NoMemory _ _ _ _ _
     same (λ e. cc) (λ e. cc) (λ e. cc))
 
 pub returns-in_err-program-clause-told : goal.returns-in_err-program-clause-told
@@ -48,9 +39,6 @@ returns-in_err-program-clause-told g c =
 
 pub returns-in_err-listing-clause-told : goal.returns-in_err-listing-clause-told
 returns-in_err-listing-clause-told g c =
-    let start = to_come c.args.feed.now (g.I.Source.left c.args.input.now) in
-    let reached = to_come c.listed_program.new.feed (g.I.Source.left c.listed_program.new.input) in
     let progress = c.in_ok-program.ensures.come.progress in
     let p = err_from_is_err_and c.from_residual-in_err-listing.result c.from_residual-in_err-listing.ensures.1 in
-    rw (p.1, p.2) (told_nothing (work_by_list true c.args.request.now (limit - c.args.feed.now.taken)) start reached (g.O.Sink.taken c.args.output.now)
-    progress.bytes progress.consumed)
+    rw (p.1, p.2) (told_nothing _ _ _ _ progress.bytes progress.consumed)

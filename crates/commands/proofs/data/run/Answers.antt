@@ -1,6 +1,6 @@
 use Rattle.std.proofs.Common.{◌-◌}
 use Rattle.std.proofs.lemmas.Result.{err_from_is_err_and}
-use Rattle.io_edge.specs.Feed.{to_come, limit}
+use Rattle.io_edge.specs.Feed.{limit}
 use Rattle.commands.specs.Equations.Orders.{chosen}
 use Rattle.commands.specs.Equations.Run.{run_work}
 use Rattle.commands.specs.SpiralInput.Orders.{procs_in}
@@ -14,14 +14,13 @@ stream-requires-clause-turns g c = no_stranger (procs_in c.args.order.now) c.arg
 
 pub returns-in_err-program-clause-told : goal.returns-in_err-program-clause-told
 returns-in_err-program-clause-told g c =
-    let start = to_come c.args.feed.now (g.I.Source.left c.args.input.now) in
     let p = err_from_is_err_and c.from_residual.result c.from_residual.ensures.1 in
-    rw (p.1, p.2) (stage_refused (chosen c.args.request.now) run_work (limit - c.args.feed.now.taken) start (g.O.Sink.taken c.args.output.now) c.in_err-program.field-0.0
+    rw (p.1, p.2) (stage_refused (chosen c.args.request.now) run_work (limit - c.args.feed.now.taken) _ _ c.in_err-program.field-0.0
     c.in_err-program.ensures.refused c.in_err-program.ensures.refusal)
 
 pub returns-clause-told : goal.returns-clause-told
 returns-clause-told g c =
     run_told c.args.request.now c.in_ok-program.program c.new.result c.args.order.now (limit - c.args.feed.now.taken)
-    (to_come c.args.feed.now (g.I.Source.left c.args.input.now)) (to_come c.stream.new.feed (g.I.Source.left c.stream.new.input))
-    (g.O.Sink.taken c.args.output.now) (g.O.Sink.taken c.stream.new.output) (status_of c.stream.result)
+    _ _
+    _ _ (status_of c.stream.result)
     c.requires.in_range c.in_ok-program.ensures.program c.requires.turns c.new.ensures.items c.stream.ensures.told

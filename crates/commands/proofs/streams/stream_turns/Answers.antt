@@ -1,14 +1,13 @@
 use Rattle.std.proofs.Common.{◌-◌, Ok, Err, refl, sym, ap, subst}
 use Rattle.std.proofs.lemmas.Result.{err_from_is_err_and}
 use Rattle.icode.specs.Machine.{Code}
-use Rattle.io_edge.specs.Feed.{to_come, limit}
+use Rattle.io_edge.specs.Feed.{limit}
 use Rattle.spiral_words.specs.declared.Order.TheVariants as order
 use Rattle.runs.specs.Stream.{HasNoStranger}
 use Rattle.commands.proofs.StreamLemmas.{front_cut, turns_told}
 use Rattle.commands.proofs.SpiralInput.StatusLemmas.{fault_success, quiet_ends, run_ends, write_ends}
 use Rattle.spiral_words.specs.declared.spiral_status.status.Status.TheVariants.{NoMemory}
 use Rattle.commands.proofs.SpiralInput.OutcomeLemmas.{unread_nothing}
-use Rattle.commands.specs.Prepared.{stream_work}
 use Rattle.commands.proofs.streams.stream_turns.Goals as goal
 
 pub run_stream-requires-clause-no_stranger : goal.run_stream-requires-clause-no_stranger
@@ -17,30 +16,24 @@ run_stream-requires-clause-no_stranger g c =
 
 pub returns-in_err-write_all-clause-told : goal.returns-in_err-write_all-clause-told
 returns-in_err-write_all-clause-told g c =
-    let taken = g.O.Sink.taken in
     let p = err_from_is_err_and c.from_residual-in_err-write_all.result c.from_residual-in_err-write_all.ensures.1 in
     let wrote = rw c.deref.ensures.value at c.in_err-write_all.ensures.bytes in
-    rw (p.1, p.2) (front_cut c.args.made.now (order.Turns c.args.schedule.now) (limit - c.args.feed.now.taken)
-    (to_come c.args.feed.now (g.I.Source.left c.args.input.now)) (taken c.args.output.now) (taken c.write_all.new.sink) wrote)
+    rw (p.1, p.2) (front_cut c.args.made.now (order.Turns c.args.schedule.now) (limit - c.args.feed.now.taken) _ _ _ wrote)
 
 pub returns-in_err-run_stream-clause-told : goal.returns-in_err-run_stream-clause-told
 returns-in_err-run_stream-clause-told g c =
-    let taken = g.O.Sink.taken in
     let p = err_from_is_err_and c.from_residual-in_err-run_stream.result c.from_residual-in_err-run_stream.ensures.1 in
     let wrote = rw c.deref.ensures.value at c.in_ok-write_all.ensures.bytes in
-    rw (p.1, p.2) (turns_told c.args.made.now c.args.schedule.now c.in_ok-machine.machine.code c.args.feed.now c.run_stream.new.feed
-    (to_come c.args.feed.now (g.I.Source.left c.args.input.now)) (to_come c.run_stream.new.feed (g.I.Source.left c.run_stream.new.input))
-    (taken c.args.output.now) (taken c.write_all.new.sink) (taken c.run_stream.new.output) c.in_ok-machine.machine.state c.run_stream.new.machine.state (Err c.in_err-run_stream.field-0.0)
-    c.in_ok-machine.ensures.code wrote c.requires.within c.in_err-run_stream.ensures.within c.in_err-run_stream.ensures.streams)
+    rw (p.1, p.2) (turns_told c.args.made.now c.args.schedule.now c.in_ok-machine.machine.code c.args.feed.now
+    c.run_stream.new.feed _ _ _ _ _ _ _ (Err c.in_err-run_stream.field-0.0) c.in_ok-machine.ensures.code wrote
+    c.requires.within c.in_err-run_stream.ensures.within c.in_err-run_stream.ensures.streams)
 
 pub returns-clause-told : goal.returns-clause-told
 returns-clause-told g c =
-    let taken = g.O.Sink.taken in
     let wrote = rw c.deref.ensures.value at c.in_ok-write_all.ensures.bytes in
-    turns_told c.args.made.now c.args.schedule.now c.in_ok-machine.machine.code c.args.feed.now c.run_stream.new.feed
-    (to_come c.args.feed.now (g.I.Source.left c.args.input.now)) (to_come c.run_stream.new.feed (g.I.Source.left c.run_stream.new.input))
-    (taken c.args.output.now) (taken c.write_all.new.sink) (taken c.run_stream.new.output) c.in_ok-machine.machine.state c.run_stream.new.machine.state (Ok tt)
-    c.in_ok-machine.ensures.code wrote c.requires.within c.in_ok-run_stream.ensures.within c.in_ok-run_stream.ensures.streams
+    turns_told c.args.made.now c.args.schedule.now c.in_ok-machine.machine.code c.args.feed.now c.run_stream.new.feed _ _ _ _ _ _ _
+    (Ok tt) c.in_ok-machine.ensures.code wrote c.requires.within c.in_ok-run_stream.ensures.within
+    c.in_ok-run_stream.ensures.streams
 
 pub returns-in_err-run_stream-clause-end : goal.returns-in_err-run_stream-clause-end
 returns-in_err-run_stream-clause-end g c =
@@ -52,37 +45,26 @@ returns-clause-end g c = λ _. c.in_ok-run_stream.ensures.streams.answer.1
 
 pub returns-in_err-run_stream-clause-ends : goal.returns-in_err-run_stream-clause-ends
 returns-in_err-run_stream-clause-ends g c =
-    let read = g.I.Source.faults in
-    let write = g.O.Sink.faults in
-    let taken = g.O.Sink.taken in
     let run = c.in_err-run_stream.ensures in
     let p = err_from_is_err_and c.from_residual-in_err-run_stream.result c.from_residual-in_err-run_stream.ensures.1 in
-    rw (p.1, p.2) (run_ends c.in_err-run_stream.field-0.0 c.run_stream.new.feed.held (read c.args.input.now) (read c.args.input.now) (read c.run_stream.new.input)
-    (write c.args.output.now) (write c.write_all.new.sink) (write c.run_stream.new.output) (taken c.args.output.now) (taken c.run_stream.new.output) refl c.in_ok-write_all.ensures.cause.ok run.empty run.read run.write)
+    rw (p.1, p.2) (run_ends c.in_err-run_stream.field-0.0 _ _ _ _ _ _ _ _ _ refl c.in_ok-write_all.ensures.cause.ok run.empty run.read run.write)
 
 pub returns-in_err-write_all-clause-ends : goal.returns-in_err-write_all-clause-ends
 returns-in_err-write_all-clause-ends g c =
-    let read = g.I.Source.faults c.args.input.now in
-    let write = g.O.Sink.faults in
-    let taken = g.O.Sink.taken in
     let cause = c.in_err-write_all.ensures.cause in
     let p = err_from_is_err_and c.from_residual-in_err-write_all.result c.from_residual-in_err-write_all.ensures.1 in
-    rw (p.1, p.2) (write_ends c.args.feed.now.held read read (write c.args.output.now) (write c.write_all.new.sink) (taken c.args.output.now) (taken c.write_all.new.sink) refl cause.later cause.err)
+    rw (p.1, p.2) (write_ends _ _ _ _ _ _ _ refl cause.later cause.err)
 
 pub returns-in_err-vector-clause-ends : goal.returns-in_err-vector-clause-ends
 returns-in_err-vector-clause-ends g c =
-    let read = g.I.Source.faults c.args.input.now in
     let p = err_from_is_err_and c.from_residual-in_err-vector.result c.from_residual-in_err-vector.ensures.1 in
-    rw (p.1, p.2) (quiet_ends NoMemory c.args.feed.now.held read read (g.O.Sink.faults c.args.output.now) (g.O.Sink.taken c.args.output.now) refl (λ e. cc) (λ e. cc) (λ e. cc))
+    rw (p.1, p.2) (quiet_ends NoMemory _ _ _ _ _ refl (λ e. cc) (λ e. cc) (λ e. cc))
 
 pub returns-in_err-machine-clause-told : goal.returns-in_err-machine-clause-told
 returns-in_err-machine-clause-told g c =
-    let p = err_from_is_err_and c.from_residual.result c.from_residual.ensures.1 in
-    rw (p.1, p.2) (unread_nothing (stream_work c.args.made.now (order.Turns c.args.schedule.now) (limit - c.args.feed.now.taken))
-    (to_come c.args.feed.now (g.I.Source.left c.args.input.now)) (g.O.Sink.taken c.args.output.now))
+    let p = err_from_is_err_and c.from_residual.result c.from_residual.ensures.1 in rw (p.1, p.2) (unread_nothing _ _ _)
 
 pub returns-in_err-vector-clause-told : goal.returns-in_err-vector-clause-told
 returns-in_err-vector-clause-told g c =
     let p = err_from_is_err_and c.from_residual-in_err-vector.result c.from_residual-in_err-vector.ensures.1 in
-    rw (p.1, p.2) (unread_nothing (stream_work c.args.made.now (order.Turns c.args.schedule.now) (limit - c.args.feed.now.taken))
-    (to_come c.args.feed.now (g.I.Source.left c.args.input.now)) (g.O.Sink.taken c.args.output.now))
+    rw (p.1, p.2) (unread_nothing _ _ _)

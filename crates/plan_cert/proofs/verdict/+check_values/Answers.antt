@@ -2,7 +2,7 @@ use Rattle.std.proofs.Common.{◌≡◌, ◌≢◌, ◌+◌, ◌*◌, ◌^◌, �
 use Rattle.matrix_meaning.specs.declared.Dimensions.TheVariants.{One}
 use Rattle.matrix_meaning.specs.declared.Request.{Request}
 use Rattle.tree_model.specs.Chosen.{CanDivideWhole}
-use Rattle.plan_cert.proofs.ByParts.{rest_divides}
+use Rattle.plan_search.proofs.WholeChosen.{rest_divides}
 use Rattle.plan_cert.proofs.Members.{both_fit, joined_sizes, last_cost, least_of_both, small_of_both, verdict_of_both}
 use Rattle.plan_cert.proofs.verdict.+check_values.Goals as goal
 

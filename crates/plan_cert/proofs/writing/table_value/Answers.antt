@@ -3,12 +3,14 @@ use Rattle.matrix_meaning.specs.declared.Request.{Request}
 use Rattle.matrix_meaning.specs.Parts.{forward_of}
 use Rattle.tree_model.specs.Admissible.{CanDivide}
 use Rattle.plan_cert.specs.Table.{table_data, IsTable}
-use Rattle.plan_cert.proofs.ByParts.{forward_divides}
+use Rattle.tree_model.proofs.Sharing.{divide_of_whole}
+use Rattle.plan_search.proofs.WholeChosen.{forward_divides}
 use Rattle.plan_cert.proofs.writing.table_value.Goals as goal
 
 pub table_rows-requires-clause-divides : goal.table_rows-requires-clause-divides
 table_rows-requires-clause-divides c =
-    subst CanDivide (sym c.forward.ensures.value) (forward_divides c.args.c.now c.requires.one c.requires.trees)
+    subst CanDivide (sym c.forward.ensures.value)
+    (forward_divides c.args.c.now (divide_of_whole c.args.c.now c.requires.one c.requires.trees))
 
 pub returns : goal.returns
 returns c = (

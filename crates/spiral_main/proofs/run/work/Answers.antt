@@ -3,27 +3,22 @@ use Rattle.std.proofs.lemmas.Result.{err_from_is_err_and}
 use Rattle.spiral_words.specs.Asked.{IsAsked}
 use Rattle.spiral_words.specs.declared.Command.{Command}
 use Rattle.spiral_words.specs.declared.Command.TheVariants as command
-use Rattle.commands.specs.SpiralInput.Stage.{status_of}
 use Rattle.commands.proofs.SpiralInput.OutcomeLemmas.{unread_nothing}
 use Rattle.commands.proofs.SpiralInput.AskLemmas.{reads_same}
 use Rattle.io_edge.proofs.ToldLemmas.{left_over}
 use Rattle.spiral_main.proofs.Accounts.{accounted_words, command_told}
-use Rattle.spiral_main.specs.Outcome.{call_outcomes}
 use Rattle.spiral_main.proofs.run.work.Goals as goal
 
 pub returns-in_err-command-clause-told : goal.returns-in_err-command-clause-told
 returns-in_err-command-clause-told g c =
     let words = map (string_bytes {Z = Global}) c.args.words.now.items in
-    let left = g.I.Source.left c.args.input.now in
     let p = err_from_is_err_and c.from_residual-in_err-command.result c.from_residual-in_err-command.ensures.1 in
-    rw (p.1, p.2) (accounted_words words left (g.O.Sink.taken c.args.output.now) c.in_err-command.field-0.0 c.in_err-command.ensures.refused c.in_err-command.ensures.refusal)
+    rw (p.1, p.2) (accounted_words words _ _ c.in_err-command.field-0.0 c.in_err-command.ensures.refused c.in_err-command.ensures.refusal)
 
 pub returns-in-ByRequest-clause-told : goal.returns-in-ByRequest-clause-told
 returns-in-ByRequest-clause-told g c =
     command_told (map (string_bytes {Z = Global}) c.args.words.now.items) c.in_ok-command.command
-    (command.ByRequest c.in-ByRequest.command) c.in_ok-feed.feed c.perform.new.feed
-    (g.I.Source.left c.args.input.now) (g.I.Source.left c.perform.new.input)
-    (g.O.Sink.taken c.args.output.now) (g.O.Sink.taken c.perform.new.output) (status_of c.perform.result)
+    (command.ByRequest c.in-ByRequest.command) c.in_ok-feed.feed c.perform.new.feed _ _ _ _ _
     c.in_ok-feed.ensures c.in_ok-command.ensures.command c.in-ByRequest.is c.perform.ensures.ends.empty c.perform.ensures.told
 
 pub returns-in-ByRequest-clause-end : goal.returns-in-ByRequest-clause-end
@@ -41,9 +36,7 @@ returns-in-ByRequest-clause-words g c = inr (inr (c.perform.ensures.ends.usage, 
 pub returns-in-ByFormula-clause-told : goal.returns-in-ByFormula-clause-told
 returns-in-ByFormula-clause-told g c =
     command_told (map (string_bytes {Z = Global}) c.args.words.now.items) c.in_ok-command.command
-    (command.ByFormula c.in-ByFormula.modulus c.in-ByFormula.command) c.in_ok-feed.feed c.by_formula.new.feed
-    (g.I.Source.left c.args.input.now) (g.I.Source.left c.by_formula.new.input)
-    (g.O.Sink.taken c.args.output.now) (g.O.Sink.taken c.by_formula.new.output) (status_of c.by_formula.result)
+    (command.ByFormula c.in-ByFormula.modulus c.in-ByFormula.command) c.in_ok-feed.feed c.by_formula.new.feed _ _ _ _ _
     c.in_ok-feed.ensures c.in_ok-command.ensures.command c.in-ByFormula.is c.by_formula.ensures.ends.empty c.by_formula.ensures.told
 
 pub returns-in-ByFormula-clause-end : goal.returns-in-ByFormula-clause-end
@@ -61,9 +54,7 @@ returns-in-ByFormula-clause-words g c = inr (inr (c.by_formula.ensures.ends.usag
 pub returns-in-ByListing-clause-told : goal.returns-in-ByListing-clause-told
 returns-in-ByListing-clause-told g c =
     command_told (map (string_bytes {Z = Global}) c.args.words.now.items) c.in_ok-command.command
-    (command.ByListing c.in-ByListing.schedule) c.in_ok-feed.feed c.exec.new.feed
-    (g.I.Source.left c.args.input.now) (g.I.Source.left c.exec.new.input)
-    (g.O.Sink.taken c.args.output.now) (g.O.Sink.taken c.exec.new.output) (status_of c.exec.result)
+    (command.ByListing c.in-ByListing.schedule) c.in_ok-feed.feed c.exec.new.feed _ _ _ _ _
     c.in_ok-feed.ensures c.in_ok-command.ensures.command c.in-ByListing.is c.exec.ensures.ends.empty c.exec.ensures.told
 
 pub returns-in-ByListing-clause-end : goal.returns-in-ByListing-clause-end
@@ -79,9 +70,7 @@ returns-in-ByListing-clause-words g c = inr (inr (c.exec.ensures.ends.usage, (c.
 pub returns-clause-told : goal.returns-clause-told
 returns-clause-told g c =
     command_told (map (string_bytes {Z = Global}) c.args.words.now.items) c.in_ok-command.command
-    (command.ByList c.in-ByList.schedule c.in-ByList.code) c.in_ok-feed.feed c.convolve.new.feed
-    (g.I.Source.left c.args.input.now) (g.I.Source.left c.convolve.new.input)
-    (g.O.Sink.taken c.args.output.now) (g.O.Sink.taken c.convolve.new.output) (status_of c.convolve.result)
+    (command.ByList c.in-ByList.schedule c.in-ByList.code) c.in_ok-feed.feed c.convolve.new.feed _ _ _ _ _
     c.in_ok-feed.ensures c.in_ok-command.ensures.command c.in-ByList.is c.convolve.ensures.ends.empty c.convolve.ensures.told
 
 pub returns-clause-end : goal.returns-clause-end
@@ -98,6 +87,4 @@ returns-clause-words g c = inr (inr (c.convolve.ensures.ends.usage, (c.in_ok-com
 
 pub returns-in_err-feed-clause-told : goal.returns-in_err-feed-clause-told
 returns-in_err-feed-clause-told g c =
-    let words = map (string_bytes {Z = Global}) c.args.words.now.items in
-    let p = err_from_is_err_and c.from_residual.result c.from_residual.ensures.1 in
-    rw (p.1, p.2) (unread_nothing (call_outcomes words) (g.I.Source.left c.args.input.now) (g.O.Sink.taken c.args.output.now))
+    let p = err_from_is_err_and c.from_residual.result c.from_residual.ensures.1 in rw (p.1, p.2) (unread_nothing _ _ _)

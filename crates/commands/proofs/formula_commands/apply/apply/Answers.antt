@@ -1,7 +1,6 @@
 use Rattle.std.proofs.Common.{Err, subst}
 use Rattle.std.proofs.lemmas.Result.{err_from_is_err_and}
 use Rattle.data_stream.proofs.TokensLemmas.{reports_none}
-use Rattle.io_edge.specs.Feed.{to_come}
 use Rattle.request_text.specs.Turns.{named}
 use Rattle.spiral_words.specs.SpiralStatus.Status.{IsDefined}
 use Rattle.commands.specs.Equations.Apply.{apply_work}
@@ -15,31 +14,23 @@ use Rattle.commands.proofs.formula_commands.apply.apply.Goals as goal
 
 pub returns-in_err-text-clause-told : goal.returns-in_err-text-clause-told
 returns-in_err-text-clause-told g c =
-    let start = to_come c.args.feed.now (g.I.Source.left c.args.input.now) in
-    let reached = to_come c.formula_line.new.feed (g.I.Source.left c.formula_line.new.input) in
     let told = c.in_err-text.ensures.told in
     let p = err_from_is_err_and c.from_residual.result c.from_residual.ensures.1 in
-    rw (p.1, p.2, told.2.1) (line_unread (formed (named c.args.schedule.now)) (apply_work c.args.modulus.now) start reached (g.O.Sink.taken c.args.output.now) c.formula_line.new.feed.taken told.0 told.2.0 told.1 told.2.2)
+    rw (p.1, p.2, told.2.1) (line_unread (formed (named c.args.schedule.now)) (apply_work c.args.modulus.now) _ _ _ c.formula_line.new.feed.taken told.0 told.2.0 told.1 told.2.2)
 
 pub returns-in_err-program-clause-told : goal.returns-in_err-program-clause-told
 returns-in_err-program-clause-told g c =
-    let start = to_come c.args.feed.now (g.I.Source.left c.args.input.now) in
-    let reached = to_come c.formula_line.new.feed (g.I.Source.left c.formula_line.new.input) in
     let told = c.in_ok-text.ensures.told in
     let refused = subst (λ t. IsDefined c.in_err-program.field-0.0 → formed (named c.args.schedule.now) t (Err c.in_err-program.field-0.0)) c.deref.ensures.value c.in_err-program.ensures.refused in
     let p = err_from_is_err_and c.from_residual-in_err-program.result c.from_residual-in_err-program.ensures.1 in
-    rw (p.1, p.2) (text_refused (line 65536) (formed (named c.args.schedule.now)) (apply_work c.args.modulus.now) start reached (g.O.Sink.taken c.args.output.now) c.formula_line.new.feed.taken told.0 c.in_ok-text.text.items c.in_err-program.field-0.0
+    rw (p.1, p.2) (text_refused (line 65536) (formed (named c.args.schedule.now)) (apply_work c.args.modulus.now) _ _ _ c.formula_line.new.feed.taken told.0 c.in_ok-text.text.items c.in_err-program.field-0.0
     told.1 told.2.3 told.2.1 refused c.in_err-program.ensures.refusal)
 
 pub returns-clause-told : goal.returns-clause-told
 returns-clause-told g c =
-    let start = to_come c.args.feed.now (g.I.Source.left c.args.input.now) in
-    let mid = to_come c.formula_line.new.feed (g.I.Source.left c.formula_line.new.input) in
-    let reached = to_come c.stream_turns.new.feed (g.I.Source.left c.stream_turns.new.input) in
     let told = c.in_ok-text.ensures.told in
     let made = rw c.deref.ensures.value at c.in_ok-program.ensures.program in
-    let taken = g.O.Sink.taken in
-    apply_told c.args.modulus.now c.args.schedule.now c.in_ok-program.program c.new.result start mid reached (taken c.args.output.now) (taken c.stream_turns.new.output)
+    apply_told c.args.modulus.now c.args.schedule.now c.in_ok-program.program c.new.result _ _ _ _ _
     c.formula_line.new.feed.taken told.0 c.in_ok-text.text.items (status_of c.stream_turns.result)
     told.1 told.2.0 told.2.3 told.2.1 made c.in_ok-program.ensures.turns c.new.ensures.items c.stream_turns.ensures.told
 

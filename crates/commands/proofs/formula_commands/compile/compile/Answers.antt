@@ -1,6 +1,5 @@
 use Rattle.std.proofs.Common.{Err, subst}
 use Rattle.std.proofs.lemmas.Result.{err_from_is_err_and}
-use Rattle.io_edge.specs.Feed.{to_come}
 use Rattle.spiral_words.specs.SpiralStatus.Status.{IsDefined}
 use Rattle.commands.specs.Equations.Compile.{compile_work}
 use Rattle.commands.specs.Equations.Formulas.{written}
@@ -11,41 +10,31 @@ use Rattle.commands.proofs.formula_commands.compile.compile.Goals as goal
 
 pub returns-in_err-text-clause-told : goal.returns-in_err-text-clause-told
 returns-in_err-text-clause-told g c =
-    let start = to_come c.args.feed.now (g.I.Source.left c.args.input.now) in
-    let reached = to_come c.formula_line.new.feed (g.I.Source.left c.formula_line.new.input) in
     let told = c.in_err-text.ensures.told in
     let p = err_from_is_err_and c.from_residual.result c.from_residual.ensures.1 in
-    rw (p.1, p.2, told.2.1) (line_unread written (compile_work c.args.modulus.now) start reached (g.O.Sink.taken c.args.output.now) c.formula_line.new.feed.taken told.0 told.2.0 told.1 told.2.2)
+    rw (p.1, p.2, told.2.1) (line_unread written (compile_work c.args.modulus.now) _ _ _ c.formula_line.new.feed.taken told.0 told.2.0 told.1 told.2.2)
 
 pub returns-in_err-listing-clause-told : goal.returns-in_err-listing-clause-told
 returns-in_err-listing-clause-told g c =
-    let start = to_come c.args.feed.now (g.I.Source.left c.args.input.now) in
-    let reached = to_come c.formula_line.new.feed (g.I.Source.left c.formula_line.new.input) in
     let told = c.in_ok-text.ensures.told in
     let refused = subst (λ t. IsDefined c.in_err-listing.field-0.0 → written t (Err c.in_err-listing.field-0.0)) c.deref.ensures.value c.in_err-listing.ensures.refused in
     let p = err_from_is_err_and c.from_residual-in_err-listing.result c.from_residual-in_err-listing.ensures.1 in
-    rw (p.1, p.2) (text_refused (line 65536) written (compile_work c.args.modulus.now) start reached (g.O.Sink.taken c.args.output.now) c.formula_line.new.feed.taken told.0 c.in_ok-text.text.items c.in_err-listing.field-0.0
+    rw (p.1, p.2) (text_refused (line 65536) written (compile_work c.args.modulus.now) _ _ _ c.formula_line.new.feed.taken told.0 c.in_ok-text.text.items c.in_err-listing.field-0.0
     told.1 told.2.3 told.2.1 refused c.in_err-listing.ensures.refusal)
 
 pub returns-in_err-write_all-clause-told : goal.returns-in_err-write_all-clause-told
 returns-in_err-write_all-clause-told g c =
-    let start = to_come c.args.feed.now (g.I.Source.left c.args.input.now) in
-    let reached = to_come c.formula_line.new.feed (g.I.Source.left c.formula_line.new.input) in
     let told = c.in_ok-text.ensures.told in
     let made = rw c.deref.ensures.value at c.in_ok-listing.ensures.text in
     let wrote = rw c.deref-2.ensures.value at c.in_err-write_all.ensures.bytes in
-    let taken = g.O.Sink.taken in
     let p = err_from_is_err_and c.from_residual-in_err-write_all.result c.from_residual-in_err-write_all.ensures.1 in
-    rw (p.1, p.2) (compile_cut c.args.modulus.now start reached (taken c.args.output.now) (taken c.write_all.new.sink) c.formula_line.new.feed.taken told.0 c.in_ok-text.text.items c.in_ok-listing.listing.items
+    rw (p.1, p.2) (compile_cut c.args.modulus.now _ _ _ _ c.formula_line.new.feed.taken told.0 c.in_ok-text.text.items c.in_ok-listing.listing.items
     told.1 told.2.0 told.2.3 told.2.1 made wrote)
 
 pub returns-clause-told : goal.returns-clause-told
 returns-clause-told g c =
-    let start = to_come c.args.feed.now (g.I.Source.left c.args.input.now) in
-    let reached = to_come c.formula_line.new.feed (g.I.Source.left c.formula_line.new.input) in
     let told = c.in_ok-text.ensures.told in
     let made = rw c.deref.ensures.value at c.in_ok-listing.ensures.text in
     let wrote = rw c.deref-2.ensures.value at c.in_ok-write_all.ensures.bytes in
-    let taken = g.O.Sink.taken in
-    compile_told c.args.modulus.now start reached (taken c.args.output.now) (taken c.write_all.new.sink) c.formula_line.new.feed.taken told.0 c.in_ok-text.text.items c.in_ok-listing.listing.items
+    compile_told c.args.modulus.now _ _ _ _ c.formula_line.new.feed.taken told.0 c.in_ok-text.text.items c.in_ok-listing.listing.items
     told.1 told.2.0 told.2.3 told.2.1 made wrote
