@@ -11,3 +11,4 @@ pub mod Parts
 pub mod Depths
 pub mod Whole
 pub mod TreeMerge
+pub mod Diagonals

@@ -11,6 +11,7 @@ use crate::joined_copies::runs::{copying_run, run_of, together};
 use memory::NoMemory;
 use sigma_spl::Nest;
 use std::alloc::Global;
+use std::mem::drop;
 
 /// The same passes, with copies of words that stand side by side as one loop.
 pub fn join_copies(alloc: Global, passes: Vec<Vec<Nest>>) -> Result<Vec<Vec<Nest>>, NoMemory>
@@ -55,6 +56,8 @@ fn put_first(alloc: Global, nest: Nest, others: &mut Vec<Nest>) -> Result<(), No
                 Ok(())
             }
             Some(run) => {
+                drop(nest);
+                drop(next);
                 others.push(copying_run(alloc, run)?)?;
                 Ok(())
             }

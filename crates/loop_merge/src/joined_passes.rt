@@ -10,6 +10,7 @@ use crate::multiplied_passes::multiply_last_pass;
 use memory::NoMemory;
 use sigma_spl::{Factors, Merged, Nest};
 use std::alloc::Global;
+use std::mem::drop;
 
 /// The passes of `first`, the diagonal after the last of them, and the passes of `second`: the value at a place multiplies
 /// the item that the last pass stores there. All are in one phase, for one processor, which needs no barrier between them.
@@ -37,7 +38,9 @@ pub fn join(
     } = first;
     let before = in_one_phase(alloc, phases)?;
     let factors = Factors::Values(diagonal);
-    let mut passes = multiply_last_pass(alloc, before, &factors)?;
+    let multiplied = multiply_last_pass(alloc, before, &factors);
+    drop(factors);
+    let mut passes = multiplied?;
     let mut after = in_one_phase(alloc, second.phases)?;
     passes.append(&mut after)?;
     let mut phases = Vec::new(alloc);

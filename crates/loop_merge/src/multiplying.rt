@@ -70,20 +70,18 @@ fn multiplied_last(
         (waiting_of state.waiting.items) (from_last state.passes.items) path.items
         (plain_factors diagonal.factors)) }
 {
-    let Merging { waiting, passes } = state;
-    let mut passes = passes;
-    let Some(last) = passes.pop() else {
-        let next = with_copy(alloc, Merging { waiting, passes }, path, diagonal, limits)?;
+    let mut state = state;
+    let Some(last) = state.passes.pop() else {
+        let next = with_copy(alloc, state, path, diagonal, limits)?;
         return Ok(next);
     };
     match multiplied_if_suited(alloc, &path, &diagonal, &last, limits)? {
         Some(pass) => {
-            passes.push(pass)?;
-            Ok(Merging { waiting, passes })
+            state.passes.push(pass)?;
+            Ok(state)
         }
         None => {
-            passes.push(last)?;
-            let state = Merging { waiting, passes };
+            state.passes.push(last)?;
             let next = with_copy(alloc, state, path, diagonal, limits)?;
             Ok(next)
         }
@@ -108,23 +106,20 @@ fn with_copy(
     ensures { IfOk result (λ next. plain_merging next ≡ with_copy (most limits.room) limits.size
         (plain_merging state) path.items (plain_factors diagonal.factors)) }
 {
-    let Merging { waiting, passes } = state;
-    let mut passes = passes;
+    let mut state = state;
     let copies = copying(alloc, limits.size)?;
     match multiplied(alloc, &diagonal, &copies, limits)? {
         Some(pass) => {
-            passes.push(pass)?;
-            Ok(Merging { waiting, passes })
+            state.passes.push(pass)?;
+            Ok(state)
         }
         None => {
             let pass = multiplied_whole(alloc, path, diagonal, &copies)?;
-            let mut before = settled(alloc, &waiting, limits)?;
-            passes.append(&mut before)?;
-            passes.push(pass)?;
-            Ok(Merging {
-                waiting: Vec::new(alloc),
-                passes,
-            })
+            let mut before = settled(alloc, &state.waiting, limits)?;
+            state.passes.append(&mut before)?;
+            state.passes.push(pass)?;
+            state.waiting = Vec::new(alloc);
+            Ok(state)
         }
     }
 }

@@ -1,8 +1,11 @@
 // What a gather, a pass and a scatter do to a state of merging.
-ghost use Rattle.std.specs.Prelude.{◌≡◌, ◌∷◌, [], IfOk};
+ghost use Rattle.std.specs.Prelude.{◌≡◌, ◌∷◌, [], IfOk, false, true};
+ghost use Rattle.index_fn.specs.Back.{HasBack};
 ghost use Rattle.index_fn.specs.Index.{mapping_of};
-ghost use Rattle.sigma_spl.specs.Merge.{ended, most, with_pass, with_scatter};
+ghost use Rattle.sigma_spl.specs.Good.{IsFormed};
+ghost use Rattle.sigma_spl.specs.Merge.{back_of, can_scatter, ended, most, scattered, with_pass, with_scatter};
 ghost use Rattle.loop_merge.specs.Known.{AreKnownPasses, HasRoom, IsKnown};
+ghost use Rattle.loop_nests.specs.PassPlaces.Changes.{ForMade, ForRefused};
 ghost use Rattle.loop_nests.specs.PassPlaces.Known.{AreSteps, IsKnownPass, IsStep};
 ghost use Rattle.loop_nests.specs.PassPlaces.Views.{mappings_of, waiting_of};
 ghost use Rattle.loop_merge.specs.Views.{plain_merging};
@@ -65,42 +68,55 @@ pub(crate) fn with_scatter(
     ensures { IfOk result (λ next. plain_merging next ≡ with_scatter (most limits.room) limits.size
         (plain_merging state).waiting (plain_merging state).passes (mapping_of f.now)) }
 {
-    let Merging { waiting, passes } = state;
-    if !waiting.is_empty() {
-        let next = with_gather(Merging { waiting, passes }, f.inverse(alloc)?)?;
+    if !state.waiting.is_empty() {
+        let next = with_back(alloc, state, f)?;
         return Ok(next);
     }
-    let next = scattered_last(alloc, passes, f, limits)?;
+    let next = scattered_last(alloc, state, f, limits)?;
+    Ok(next)
+}
+
+// A scatter waits as a gather.
+fn with_back(alloc: Global, state: Merging, f: &Index) -> Result<Merging, NoMemory>
+    requires formed { IsFormed (mapping_of f.now) }
+    requires undone { HasBack (mapping_of f.now) }
+    ensures waiting { IfOk result (λ next.
+        (plain_merging next).waiting ≡ back_of (mapping_of f.now) ∷ (plain_merging state).waiting) }
+    ensures passes { IfOk result (λ next.
+        (plain_merging next).passes ≡ (plain_merging state).passes) }
+{
+    let back = f.inverse(alloc)?;
+    let next = with_gather(state, back)?;
     Ok(next)
 }
 
 // A scatter into the last pass, where no gather waits.
 fn scattered_last(
     alloc: Global,
-    passes: Vec<Vec<Nest>>,
+    state: Merging,
     f: &Index,
     limits: Limits,
 ) -> Result<Merging, NoMemory>
     requires room { HasRoom limits.room limits.size }
     requires step { IsStep limits.size (mapping_of f.now) }
-    requires known { AreKnownPasses limits.room limits.size (from_last passes.items) }
+    requires none { state.waiting.items ≡ [] }
+    requires known { AreKnownPasses limits.room limits.size (from_last state.passes.items) }
     ensures { IfOk result (λ next. plain_merging next ≡ with_scatter (most limits.room) limits.size
-        [] (from_last passes.items) (mapping_of f.now)) }
+        [] (from_last state.passes.items) (mapping_of f.now)) }
 {
-    let waiting = Vec::new(alloc);
-    let mut passes = passes;
-    let Some(last) = passes.pop() else {
-        let next = with_gather(Merging { waiting, passes }, f.inverse(alloc)?)?;
+    let mut state = state;
+    let Some(last) = state.passes.pop() else {
+        let next = with_back(alloc, state, f)?;
         return Ok(next);
     };
     match scattered(alloc, f, last, limits)? {
         Change::Made(pass) => {
-            passes.push(pass)?;
-            Ok(Merging { waiting, passes })
+            state.passes.push(pass)?;
+            Ok(state)
         }
         Change::Refused(last) => {
-            passes.push(last)?;
-            let next = with_gather(Merging { waiting, passes }, f.inverse(alloc)?)?;
+            state.passes.push(last)?;
+            let next = with_back(alloc, state, f)?;
             Ok(next)
         }
     }
@@ -128,8 +144,7 @@ pub(crate) fn ended(
         let passes = settled(alloc, waiting, limits)?;
         return Ok(passes);
     };
-    let back = f.inverse(alloc)?;
-    match scattered(alloc, &back, last, limits)? {
+    match scattered_back(alloc, f, last, limits)? {
         Change::Made(pass) => {
             passes.push(pass)?;
             let passes = ended(alloc, rest, passes, limits)?;
@@ -142,4 +157,26 @@ pub(crate) fn ended(
             Ok(passes)
         }
     }
+}
+
+// A pass with the scatter that undoes a gather in its stores, if that is within the limits.
+fn scattered_back(
+    alloc: Global,
+    f: &Index,
+    nests: Vec<Nest>,
+    limits: Limits,
+) -> Result<Change, NoMemory>
+    requires room { HasRoom limits.room limits.size }
+    requires step { IsStep limits.size (mapping_of f.now) }
+    requires known { IsKnownPass limits.room limits.size (plain_pass nests) }
+    ensures made { IfOk result (λ r. ForMade r (λ zs. (can_scatter (most limits.room) limits.size
+        (back_of (mapping_of f.now)) (plain_pass nests) ≡ true)
+        × (zs ≡ scattered (back_of (mapping_of f.now)) (plain_pass nests)))) }
+    ensures refused { IfOk result (λ r. ForRefused r (λ zs. (can_scatter (most limits.room)
+        limits.size (back_of (mapping_of f.now)) (plain_pass nests) ≡ false)
+        × (zs ≡ plain_pass nests))) }
+{
+    let back = f.inverse(alloc)?;
+    let change = scattered(alloc, &back, nests, limits)?;
+    Ok(change)
 }

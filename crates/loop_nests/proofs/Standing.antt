@@ -15,7 +15,6 @@ use Rattle.sigma_spl.specs.Limits.{AreSeveral, AreWithin}
 use Rattle.sigma_spl.specs.Merge.{is_limited, is_multiplier_within, is_within, items_in, lifted, limits_of, new_nest}
 use Rattle.sigma_spl.specs.Merge.{one_loop, renumbered, renumbered_places}
 use Rattle.sigma_spl.specs.Nest.{PlainMultiplier, PlainNest}
-use Rattle.sigma_spl.specs.Views.{plain_nest}
 use Rattle.sigma_spl.specs.declared.nest.Nest.{Nest}
 use Rattle.sigma_spl.specs.Work.{copy}
 use Rattle.sigma_spl.proofs.Walk.{and-left, and-right}
@@ -24,7 +23,7 @@ use Rattle.sigma_spl.proofs.Limited.{both-within}
 use Rattle.operators.specs.declared.tensor_paths.Tensor.TheVariants.{Blocks}
 use Rattle.operators.specs.TensorPaths.Path.{Path, size_under}
 use Rattle.loop_nests.specs.Ready.{AreReadyPasses, IsReadyNest, IsReadyPass}
-use Rattle.loop_nests.specs.Lifted.{AllFit, AllLift, AreLifted, AreRaised, CanLift, CanStand, SumsFit, behind}
+use Rattle.loop_nests.specs.Lifted.{AllFit, AllLift, AreLifted, AreRaised, CanStand, SumsFit, behind}
 use Rattle.loop_nests.specs.Parts.{IsPart}
 use Rattle.loop_nests.specs.Views.{from_last, plain_pass, plain_passes}
 use Rattle.std.proofs.Common.{Global}
@@ -135,24 +134,6 @@ shorter A xs ys x is = sym (ap length is ∙ length-append ys (x ∷ []))
 
 pub as-long : (A : Type 0) (xs ys : List A) → xs ≡ ys ++ [] → length ys ≡ length xs
 as-long A xs ys is = sym (ap length (is ∙ append-nil ys))
-
-lift-front : (path : Path) (n before : ℕ) (zs : List PlainNest) (z : PlainNest) → AllLift path n before (zs ++ z ∷ []) →
-    AllLift path n before zs
-lift-front path n before [] z h = tt
-lift-front path n before (y ∷ ys) z h = (h.0, lift-front path n before ys z h.1)
-
-lift-last : (path : Path) (n before : ℕ) (zs : List PlainNest) (z : PlainNest) → AllLift path n before (zs ++ z ∷ []) →
-    CanLift path n before z
-lift-last path n before [] z h = h.0
-lift-last path n before (y ∷ ys) z h = lift-last path n before ys z h.1
-
-pub front-lifts : (path : Path) (n before : ℕ) (xs ys : List Nest) (x : Nest) → xs ≡ ys ++ x ∷ [] →
-    AllLift path n before (map plain_nest xs) → AllLift path n before (map plain_nest ys)
-front-lifts path n before xs ys x is h = lift-front path n before (map plain_nest ys) (plain_nest x) (subst (AllLift path n before) (ap (map plain_nest) is ∙ map-append plain_nest ys (x ∷ [])) h)
-
-pub last-lifts : (path : Path) (n before : ℕ) (xs ys : List Nest) (x : Nest) → xs ≡ ys ++ x ∷ [] →
-    AllLift path n before (map plain_nest xs) → CanLift path n before (plain_nest x)
-last-lifts path n before xs ys x is h = lift-last path n before (map plain_nest ys) (plain_nest x) (subst (AllLift path n before) (ap (map plain_nest) is ∙ map-append plain_nest ys (x ∷ [])) h)
 
 -- ---- under no tensors
 

@@ -1,5 +1,5 @@
 // Passes side by side.
-ghost use Rattle.std.specs.Prelude.{◌≡◌, ◌+◌, ◌^◌, ◌<◌, ◌≤◌, ◌++◌, IfOk, OnOk, map};
+ghost use Rattle.std.specs.Prelude.{◌≡◌, ◌+◌, ◌^◌, ◌<◌, ◌≤◌, IfOk, map};
 ghost use Rattle.sigma_spl.specs.Limits.{AreSeveral};
 ghost use Rattle.sigma_spl.specs.Merge.{lifted, side, sides};
 ghost use Rattle.operators.specs.TensorPaths.Path.{size_under};
@@ -7,7 +7,7 @@ ghost use Rattle.loop_nests.specs.Lifted.{AllLift, AreLifted, CanStand};
 ghost use Rattle.loop_nests.specs.Parts.{IsPart};
 ghost use Rattle.loop_nests.specs.Views.{from_last, plain_pass};
 
-use crate::lifted::{lifted, raise_nests};
+use crate::lifted::{lift_nests, raise_nests};
 use crate::nests::copying;
 use memory::NoMemory;
 use operators::Tensor;
@@ -120,32 +120,8 @@ fn all_lifted(
             Ok(nests)
         }
         Some(_) => {
-            let mut all = Vec::new(alloc);
-            put_lifted(alloc, path, size, before, &mut nests, &mut all)?;
-            Ok(all)
-        }
-    }
-}
-
-// Appends the nests of a part.
-fn put_lifted(
-    alloc: Global,
-    path: &[Tensor],
-    size: u64,
-    before: u64,
-    nests: &mut Vec<Nest>,
-    all: &mut Vec<Nest>,
-) -> Result<(), NoMemory>
-    requires { AllLift path.now size before (plain_pass nests.old) }
-    ensures { OnOk result (plain_pass all.new
-        ≡ plain_pass all.old ++ map (lifted path.now size before) (plain_pass nests.old)) }
-{
-    match nests.pop() {
-        None => Ok(()),
-        Some(nest) => {
-            put_lifted(alloc, path, size, before, nests, all)?;
-            all.push(lifted(alloc, path, size, before, nest)?)?;
-            Ok(())
+            lift_nests(alloc, path, size, before, &mut nests)?;
+            Ok(nests)
         }
     }
 }

@@ -1,13 +1,12 @@
 // Nests of a part, under tensors after the words before it.
-ghost use Rattle.std.specs.Prelude.{◌≡◌, ◌+◌, ◌-◌, ◌^◌, ◌<◌, ◌++◌, IfOk, All, length, map};
+ghost use Rattle.std.specs.Prelude.{◌≡◌, ◌+◌, ◌-◌, ◌^◌, ◌<◌, ◌++◌, IfOk, All, OnOk, length, map};
 ghost use Rattle.std.specs.Option.{option_map};
 ghost use Rattle.sigma_spl.specs.Merge.{lifted, renumbered, renumbered_places};
 ghost use Rattle.sigma_spl.specs.Views.{plain_multiplier, plain_nest};
 ghost use Rattle.perm_algebra.specs.Affine.{constant, joined};
-ghost use Rattle.perm_algebra.specs.Room.{constant_of};
 ghost use Rattle.perm_algebra.specs.Views.{plain_sum};
 ghost use Rattle.operators.specs.TensorPaths.Path.{count_of};
-ghost use Rattle.loop_nests.specs.Lifted.{AllFit, CanLift, CanRaise, IsCounted, SumsFit, behind, raised};
+ghost use Rattle.loop_nests.specs.Lifted.{AllFit, AllLift, CanLift, CanRaise, IsCounted, SumsFit, behind, raised};
 ghost use Rattle.loop_nests.specs.Placed.{CanRenumber};
 
 use crate::placed::{placed, renumbered};
@@ -17,36 +16,46 @@ use perm_algebra::{Affine, both};
 use sigma_spl::{Multiplier, Nest, counts};
 use smallvec::SmallVec;
 use std::alloc::Global;
+use std::mem::replace;
 
-/// A nest of a part that begins `before` words later, under the tensors of a path round `size` words.
-pub(crate) fn lifted(
+/// Nests of a part that begins `before` words later, under the tensors of a path round `size` words.
+pub(crate) fn lift_nests(
     alloc: Global,
     path: &[Tensor],
     size: u64,
     before: u64,
-    nest: Nest,
-) -> Result<Nest, NoMemory>
-    requires { CanLift path.now size before (plain_nest nest) }
-    ensures { IfOk result (λ z. plain_nest z ≡ lifted path.now size before (plain_nest nest)) }
+    nests: &mut [Nest],
+) -> Result<(), NoMemory>
+    requires { AllLift path.now size before (map plain_nest nests.old) }
+    ensures { OnOk result (map plain_nest nests.new
+        ≡ map (lifted path.now size before) (map plain_nest nests.old)) }
 {
-    let counts = counts_round(alloc, path, &nest.counts)?;
-    let Nest {
-        work,
-        gathers,
-        multiplier,
-        scatters,
-        ..
-    } = nest;
-    let gathers = all_raised(alloc, path, size, before, &gathers)?;
-    let multiplier = counted_on(alloc, path.len() as u64, multiplier)?;
-    let scatters = all_raised(alloc, path, size, before, &scatters)?;
-    Ok(Nest {
-        counts,
-        work,
-        gathers,
-        multiplier,
-        scatters,
-    })
+    match nests.split_first_mut() {
+        None => Ok(()),
+        Some((nest, rest)) => {
+            lift(alloc, path, size, before, nest)?;
+            lift_nests(alloc, path, size, before, rest)?;
+            Ok(())
+        }
+    }
+}
+
+fn lift(
+    alloc: Global,
+    path: &[Tensor],
+    size: u64,
+    before: u64,
+    nest: &mut Nest,
+) -> Result<(), NoMemory>
+    requires { CanLift path.now size before (plain_nest nest.old) }
+    ensures { OnOk result
+        (plain_nest nest.new ≡ lifted path.now size before (plain_nest nest.old)) }
+{
+    nest.counts = counts_round(alloc, path, &nest.counts)?;
+    nest.gathers = all_raised(alloc, path, size, before, &nest.gathers)?;
+    count_on(alloc, path.len() as u64, &mut nest.multiplier)?;
+    nest.scatters = all_raised(alloc, path, size, before, &nest.scatters)?;
+    Ok(())
 }
 
 // The counts of the path's loops, and these.
@@ -97,21 +106,16 @@ fn raised(
 
 // The places of a diagonal's factors, whose variables have higher numbers.
 #[tactic(auto, using(crate::proofs::Lifting::all_counted))]
-fn counted_on(
-    alloc: Global,
-    by: u64,
-    multiplier: Option<Multiplier>,
-) -> Result<Option<Multiplier>, NoMemory>
-    requires { IsCounted (2 ^ 64 - by) (option_map plain_multiplier multiplier) }
-    ensures { IfOk result (λ d. option_map plain_multiplier d
-        ≡ renumbered_places by (option_map plain_multiplier multiplier)) }
+fn count_on(alloc: Global, by: u64, multiplier: &mut Option<Multiplier>) -> Result<(), NoMemory>
+    requires { IsCounted (2 ^ 64 - by) (option_map plain_multiplier multiplier.old) }
+    ensures { OnOk result (option_map plain_multiplier multiplier.new
+        ≡ renumbered_places by (option_map plain_multiplier multiplier.old)) }
 {
     match multiplier {
-        None => Ok(None),
+        None => Ok(()),
         Some(multiplier) => {
-            let places = all_renumbered(alloc, by, &multiplier.places)?;
-            let factors = multiplier.factors;
-            Ok(Some(Multiplier { factors, places }))
+            multiplier.places = all_renumbered(alloc, by, &multiplier.places)?;
+            Ok(())
         }
     }
 }
@@ -150,20 +154,9 @@ fn raise_sums(before: u64, sums: &mut [Affine])
     match sums.split_first_mut() {
         None => (),
         Some((sum, rest)) => {
-            raise(before, sum);
+            let here = replace(sum, Affine::Constant(0));
+            replace(sum, both(Affine::Constant(before), here));
             raise_sums(before, rest);
         }
-    }
-}
-
-fn raise(before: u64, sum: &mut Affine)
-    requires { before + constant_of (plain_sum sum.old) < 2 ^ 64 }
-    ensures { plain_sum sum.new ≡ joined (constant before) (plain_sum sum.old) }
-{
-    match sum {
-        Affine::Constant(c) => *c += before,
-        Affine::Variable(_, _, rest) => raise(before, rest),
-        Affine::Remainder(_, _, _, rest) => raise(before, rest),
-        Affine::Quotient(_, _, _, rest) => raise(before, rest),
     }
 }

@@ -1,5 +1,5 @@
 // New nests, and copies of nests.
-ghost use Rattle.std.specs.Prelude.{◌≡◌, ◌^◌, ◌<◌, ◌≤◌, ◌∷◌, [], IfOk, length, map};
+ghost use Rattle.std.specs.Prelude.{◌≡◌, ◌^◌, ◌<◌, ◌≤◌, ◌∷◌, [], IfOk, None, length, map};
 ghost use Rattle.std.specs.Option.{option_map};
 ghost use Rattle.index_fn.specs.Index.{mapping_of};
 ghost use Rattle.index_fn.specs.Mapping.{IsWellFormed, at};
@@ -11,7 +11,7 @@ ghost use Rattle.sigma_spl.specs.Views.{plain_multiplier, plain_nest, plain_work
 ghost use Rattle.sigma_spl.specs.Work.{HasWords, work_size};
 ghost use Rattle.perm_algebra.specs.Affine.{constant};
 ghost use Rattle.perm_algebra.specs.Views.{plain_sum};
-ghost use Rattle.operators.specs.TensorPaths.Path.{size_under};
+ghost use Rattle.operators.specs.TensorPaths.Path.{count_of, size_under};
 ghost use Rattle.sigma_spl.specs.Words.{IsDefinedBelow};
 ghost use Rattle.loop_nests.specs.NewNests.{CanMove, copied_by_word, loads_under, moved_nest, natural_nest, stores_under};
 
@@ -33,8 +33,32 @@ pub fn natural_nest(alloc: Global, path: &[Tensor], work: Work) -> Result<Nest, 
     requires high { size_under path.now (work_size (plain_work work)) ≤ 2 ^ 20 }
     ensures { IfOk result (λ z. plain_nest z ≡ natural_nest path.now (plain_work work)) }
 {
-    let counts = counts(alloc, path)?;
     let gathers = loads(alloc, path, &work)?;
+    let nest = nest_loading(alloc, path, work, gathers)?;
+    Ok(nest)
+}
+
+// Copies of some work that load from these places, and store where their tensors put them.
+fn nest_loading(
+    alloc: Global,
+    path: &[Tensor],
+    work: Work,
+    gathers: Vec<Affine>,
+) -> Result<Nest, NoMemory>
+    requires words { HasWords (plain_work work) }
+    requires rows { HasRows (plain_work work) }
+    requires several { AreSeveral path.now }
+    requires some { 0 < work_size (plain_work work) }
+    requires high { size_under path.now (work_size (plain_work work)) ≤ 2 ^ 20 }
+    ensures { IfOk result (λ z. plain_nest z ≡ record {
+      counts = map count_of path.now;
+      work = plain_work work;
+      gathers = map plain_sum gathers.items;
+      multiplier = None;
+      scatters = stores_under path.now (plain_work work);
+    }) }
+{
+    let counts = counts(alloc, path)?;
     let scatters = stores(alloc, path, &work)?;
     Ok(Nest {
         counts,
@@ -99,18 +123,10 @@ fn listed_nest(alloc: Global, path: &[Tensor], places: &[u64]) -> Result<Nest, N
     ensures { IfOk result (λ z. plain_nest z ≡ moved_nest path.now places.now) }
 {
     let size = places.len() as u64;
-    let work = Work::Copy { size };
-    let counts = counts(alloc, path)?;
     let items = numbers(alloc, places)?;
     let gathers = all_placed(alloc, path, size, &items)?;
-    let scatters = stores(alloc, path, &work)?;
-    Ok(Nest {
-        counts,
-        work,
-        gathers,
-        multiplier: None,
-        scatters,
-    })
+    let nest = nest_loading(alloc, path, Work::Copy { size }, gathers)?;
+    Ok(nest)
 }
 
 fn numbers(alloc: Global, places: &[u64]) -> Result<Vec<Affine>, NoMemory>
@@ -191,11 +207,11 @@ fn values(alloc: Global, size: u64, f: &Index) -> Result<Vec<u64>, NoMemory>
 pub fn copied_nest(alloc: Global, nest: &Nest) -> Result<Nest, NoMemory>
     ensures { IfOk result (λ z. plain_nest z ≡ plain_nest nest.now) }
 {
-    let counts = SmallVec::from_slice(alloc, &nest.counts)?;
-    let work = nest.work.copied(alloc)?;
     let gathers = copied_sums(alloc, &nest.gathers)?;
-    let multiplier = copied_multiplier(alloc, &nest.multiplier)?;
     let scatters = copied_sums(alloc, &nest.scatters)?;
+    let counts = SmallVec::from_slice(alloc, &nest.counts)?;
+    let multiplier = copied_multiplier(alloc, &nest.multiplier)?;
+    let work = nest.work.copied(alloc)?;
     Ok(Nest {
         counts,
         work,

@@ -135,14 +135,16 @@ pub(crate) fn together(first: Option<Run>, second: Option<Run>) -> Option<Run>
 pub(crate) fn copying_run(alloc: Global, run: Run) -> Result<Nest, NoMemory>
     ensures { IfOk result (λ nest. plain_nest nest ≡ copying_run (plain_run run)) }
 {
+    let gathers = counting_from(alloc, run.first)?;
+    let scatters = counting_from(alloc, run.first)?;
     let mut counts = SmallVec::new(alloc);
     counts.push(run.count)?;
     Ok(Nest {
         counts,
         work: Work::Copy { size: 1 },
-        gathers: counting_from(alloc, run.first)?,
+        gathers,
         multiplier: None,
-        scatters: counting_from(alloc, run.first)?,
+        scatters,
     })
 }
 

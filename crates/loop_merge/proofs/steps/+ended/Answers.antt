@@ -1,13 +1,12 @@
 use Rattle.std.proofs.Common.{rules, ◌≡◌, [], sym, ◌∙◌, subst, arith, map}
 use Rattle.index_fn.specs.Index.{mapping_of}
-use Rattle.sigma_spl.specs.Good.{IsFormed}
-use Rattle.sigma_spl.specs.Merge.{most}
+use Rattle.sigma_spl.specs.Merge.{back_of, most}
 use Rattle.sigma_spl.specs.Views.{plain_nest}
 use Rattle.loop_merge.specs.Known.{AreKnownPasses}
 use Rattle.loop_nests.specs.PassPlaces.Known.{AreSteps}
 use Rattle.loop_nests.proofs.Standing.{last_first}
 use Rattle.loop_merge.proofs.Readies.{known-stores}
-use Rattle.loop_merge.proofs.Waiting.{last_left, none_left, steps_wait}
+use Rattle.loop_merge.proofs.Waiting.{last_goes, last_left, none_left, steps_wait}
 use Rattle.loop_merge.proofs.steps.+ended.Goals as goal
 
 pub ended-requires : goal.ended-requires
@@ -16,11 +15,10 @@ ended-requires t c =
     let n = c.args.limits.size in
     let steps = subst (λ fs. AreSteps n (map mapping_of fs)) c.in-Some.ensures.cases.0 c.requires.steps in
     let known = subst (AreKnownPasses room n) (last_first _ _ _ c.in-Some-pop.ensures.items) c.requires.known in
-    let formed = subst IsFormed (sym (c.in_ok-back.ensures.form steps.0.numbers.undone)) steps.0.moves.back in
     let made = c.in_ok-pass.ensures.made c.in-Made.pass c.in-Made.is in
-    let changed = known-stores room n c.requires.room (mapping_of c.in_ok-back.back)
+    let changed = known-stores room n c.requires.room (back_of (mapping_of c.in-Some.f.now))
     (map plain_nest c.in-Some-pop.last.items)
-    (map plain_nest c.in-Made.pass.items) formed made.0 made.1 known.0 in (
+    (map plain_nest c.in-Made.pass.items) steps.0.moves.back made.0 made.1 known.0 in (
       omega (arith, c.decreases, c.in-Some.ensures.cases.1),
       (
         c.requires.room,
@@ -45,13 +43,18 @@ returns-in_default-pop t c =
     ∙ none_left (most c.args.limits.room) c.args.limits.size c.args.waiting.now c.in-Some.f.now c.in-Some.rest.now
     c.args.passes.items c.in-Some.ensures.cases.0 none
 
-pub returns : goal.returns
-returns t c =
-    let n = c.args.limits.size in
-    let steps = subst (λ fs. AreSteps n (map mapping_of fs)) c.in-Some.ensures.cases.0 c.requires.steps in
+pub returns-in_ok-append-in-Refused : goal.returns-in_ok-append-in-Refused
+returns-in_ok-append-in-Refused t c =
     let refused = c.in_ok-pass.ensures.refused c.in-Refused.last c.in-Refused.is in
-    last_left (most c.args.limits.room) n c.args.waiting.now c.in-Some.f.now c.in-Some.rest.now (mapping_of c.in_ok-back.back)
+    last_left (most c.args.limits.room) c.args.limits.size c.args.waiting.now c.in-Some.f.now c.in-Some.rest.now
     c.args.passes.items c.pop.new.self.items c.push-in-Refused.new.self.items c.in_ok-after-in-Refused.after.items
-    c.append.new.self.items c.in-Some-pop.last c.in-Refused.last c.in-Some.ensures.cases.0
-    (c.in_ok-back.ensures.form steps.0.numbers.undone) refused.0 c.in-Some-pop.ensures.items
-    c.in_ok-push-in-Refused.ensures.items refused.1 c.in_ok-append-in-Refused.ensures.items c.in_ok-after-in-Refused.ensures
+    c.append.new.self.items c.in-Some-pop.last c.in-Refused.last c.in-Some.ensures.cases.0 refused.0
+    c.in-Some-pop.ensures.items c.in_ok-push-in-Refused.ensures.items refused.1 c.in_ok-append-in-Refused.ensures.items
+    c.in_ok-after-in-Refused.ensures
+
+pub returns-in_ok-passes-in-Made : goal.returns-in_ok-passes-in-Made
+returns-in_ok-passes-in-Made t c =
+    let made = c.in_ok-pass.ensures.made c.in-Made.pass c.in-Made.is in
+    c.in_ok-passes-in-Made.ensures
+    ∙ last_goes (most c.args.limits.room) c.args.limits.size _ _ _ _ _ _ _ _ c.in-Some.ensures.cases.0 made.0
+    c.in-Some-pop.ensures.items c.in_ok-push-in-Made.ensures.items made.1

@@ -1,6 +1,7 @@
 use Rattle.std.proofs.Common.{sym, ap, ◌∙◌, subst, map}
 use Rattle.std.proofs.lemmas.List.{with_items_is}
 use Rattle.sigma_spl.specs.Views.{plain_nest}
+use Rattle.sigma_spl.specs.Merge.{lifted}
 use Rattle.loop_nests.specs.Lifted.{AllFit, behind}
 use Rattle.loop_nests.proofs.Standing.{all-fit, behind-lifted}
 use Rattle.loop_nests.proofs.beside.all_lifted.Goals as goal
@@ -16,3 +17,9 @@ returns-in-None c =
     ∙ c.raise_nests.ensures
     ∙ ap (λ zs. map (behind c.args.before) (map plain_nest zs)) c.deref_mut.ensures.value
     ∙ behind-lifted c.args.path.now c.args.size c.args.before (map plain_nest c.args.nests.items) c.in-None.ensures.cases
+
+pub returns-in_ok-lift_nests-in-Some : goal.returns-in_ok-lift_nests-in-Some
+returns-in_ok-lift_nests-in-Some c =
+    ap (map plain_nest) (with_items_is c.args.nests c.lift_nests.new.nests (c.lift_nests.auto.nests ∙ c.deref_mut-in-Some.ensures.len))
+    ∙ c.in_ok-lift_nests-in-Some.ensures
+    ∙ ap (λ zs. map (lifted c.args.path.now c.args.size c.args.before) (map plain_nest zs)) c.deref_mut-in-Some.ensures.value
