@@ -17,7 +17,6 @@ use perm_algebra::{
     Affine, Multiples, Parts, both, copy, divide, multiple, others, reduce, residues,
 };
 use std::alloc::Global;
-use std::mem::drop;
 
 /// The function `f` at the place `arg`, where the variable d runs below `counts[d]`, if every number on the way fits 64
 /// bits.
@@ -63,14 +62,10 @@ pub fn simplify_in_room(
             let Some(Parts { quot, rem }) = divide_in_room(alloc, counts, arg, *d)? else {
                 return Ok(None);
             };
-            let left = simplify_in_room(alloc, f, &quot, counts);
-            drop(quot);
-            let Some(left) = left? else {
+            let Some(left) = simplify_in_room(alloc, f, &quot, counts)? else {
                 return Ok(None);
             };
-            let right = simplify_in_room(alloc, g, &rem, counts);
-            drop(rem);
-            let Some(right) = right? else {
+            let Some(right) = simplify_in_room(alloc, g, &rem, counts)? else {
                 return Ok(None);
             };
             Ok(scale_and_join(*c, left, right))
