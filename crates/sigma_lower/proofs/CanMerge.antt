@@ -48,10 +48,9 @@ use Rattle.vec_rewrite.specs.Vectors.{PlainFactor, lanes, diagonals, move_before
 
 piece-words : (w : PlainWork) → IsGoodPiece w → HasWords w
 piece-words (kernel trees) h = h
-piece-words (rows root size) h = tt
-piece-words (horner root size) h = tt
 piece-words (tile v) h = absurd h
 piece-words (copy size) h = absurd h
+piece-words _ h = tt
 
 -- a scatter by a permutation under tensors
 scat-words : (path : Path) (n : ℕ) (f : Mapping) → HasNumbers (size_under path n) (wrapped path n f) →
@@ -143,11 +142,10 @@ nests-several (lowered.nest path w ∷ ts) st h =
     ((passes.1.0, rest.0), passes.0)
 
 shaped-rows : (m : ℕ) (w : PlainWork) → IsShapedWork m w → HasRows w
-shaped-rows m (kernel trees) h = tt
 shaped-rows m (rows root size) h = h.0
 shaped-rows m (horner root size) h = absurd h
-shaped-rows m (tile v) h = tt
 shaped-rows m (copy size) h = absurd h
+shaped-rows m _ h = tt
 
 shaped-several : (m size : ℕ) (ps : List PlainPass) → AreShaped (IsShapedWork m) size ps → AllPasses IsSeveral ps
 shaped-several m size = all-map (IsShaped (IsShapedWork m) size) IsSeveral (λ p h. (h.wide, shaped-rows m p.work h.work))

@@ -65,9 +65,8 @@ closed-can lanes n (Some v) ts h = close-can lanes n v ts h
 
 close-append : (n v : ℕ) (ts : List PlainTerm) (t : PlainTerm) →
     close_last n v (ts ++ t ∷ []) ≡ ts ++ product t (closing_term n v) ∷ []
-close-append n v [] t = refl
-close-append n v (u ∷ []) t = refl
 close-append n v (u ∷ w ∷ ts) t = ap (λ us. u ∷ us) (close-append n v (w ∷ ts) t)
+close-append n v _ t = refl
 
 pub closed_last : (n v : ℕ) (all made rest : List Term) (last one : Term) → all ≡ rest ++ last ∷ [] →
     made ≡ rest ++ one ∷ [] →

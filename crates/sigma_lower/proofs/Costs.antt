@@ -50,13 +50,11 @@ lane-cost weight c p v path (piece t) size = ap (λ a. a * work_cost weight c.mo
   where
     grouped : (p v k x : ℕ) → p * (v * k) * x ≡ p * (v * (k * x))
     grouped p v k x = omega arith
-lane-cost weight c p v path (turns r s) size = omega arith
 lane-cost weight c p v path (twiddles r s w) size = ap (λ n. weight * n) (sym (ap (λ n. p * (v * n)) (sym (size_under-copies path (r * s))) ∙ size)) ∙ grouped weight p v (copies_of path) (r * s)
   where
     grouped : (w p v k n : ℕ) → w * (p * (v * (k * n))) ≡ p * (v * (k * (w * n)))
     grouped w p v k n = omega arith
-lane-cost weight c p v path (thomas_in r s) size = omega arith
-lane-cost weight c p v path (thomas_out r s) size = omega arith
+lane-cost weight c p v path _ size = omega arith
 
 -- a diagonal that the processors share
 share-exact : (p w n : ℕ) → 0 < p → n % p ≡ 0 → p * (w * n / p) ≡ w * n
@@ -70,33 +68,26 @@ share-exact p w n positive rest =
 diagonal-cost : (weight : ℕ) (c : Target) (p : ℕ) (path : Path) (k : PlainCore) → 0 < p →
     size_under path (core_size k) ≡ c.size → IsDiagonal k → c.size % p ≡ 0 →
     cost_in weight c (embed (lowered_core path k)) ≡ p * (copies_of path * core_cost weight c.modulus k / p)
-diagonal-cost weight c p path (piece t) positive size is rest = absurd is
-diagonal-cost weight c p path (turns r s) positive size is rest = absurd is
 diagonal-cost weight c p path (twiddles r s w) positive size is rest =
     let all : copies_of path * (weight * (r * s)) ≡ weight * c.size = turned (copies_of path) weight (r * s) ∙ ap (λ n. weight * n) (sym (size_under-copies path (r * s)) ∙ size) in
     sym (ap (λ n. p * (n / p)) all ∙ share-exact p weight c.size positive rest)
   where
     turned : (k w n : ℕ) → k * (w * n) ≡ w * (k * n)
     turned k w n = omega arith
-diagonal-cost weight c p path (thomas_in r s) positive size is rest = absurd is
-diagonal-cost weight c p path (thomas_out r s) positive size is rest = absurd is
+diagonal-cost weight c p path _ positive size is rest = absurd is
 
 -- permutations
 before-cost : (weight : ℕ) (c : Target) (p : ℕ) (path : Path) (k : PlainCore) → IsPermutation k →
     cost_in weight c (embed (lowered_core path k)) ≡ p * 0
 before-cost weight c p path (piece t) is = absurd is
-before-cost weight c p path (turns r s) is = omega arith
 before-cost weight c p path (twiddles r s w) is = absurd is
-before-cost weight c p path (thomas_in r s) is = omega arith
-before-cost weight c p path (thomas_out r s) is = omega arith
+before-cost weight c p path _ is = omega arith
 
 after-cost : (weight : ℕ) (c : Target) (p : ℕ) (path : Path) (k : PlainCore) → IsPermutation k →
     cost_in weight c (embed (after_core path k)) ≡ p * 0
 after-cost weight c p path (piece t) is = absurd is
-after-cost weight c p path (turns r s) is = omega arith
 after-cost weight c p path (twiddles r s w) is = absurd is
-after-cost weight c p path (thomas_in r s) is = omega arith
-after-cost weight c p path (thomas_out r s) is = omega arith
+after-cost weight c p path _ is = omega arith
 
 factor-cost : (weight : ℕ) (c : Target) (p v : ℕ) (f : PlainFactor) → 0 < p → HasLanes c.size p v f →
     cost_in weight c (embed (factor_term p v f)) ≡ p * share_of weight c.modulus p v f

@@ -72,7 +72,6 @@ weighted-items weight n c k is = ap (λ x. weight * x) is ∙ omega arith
 
 lower-cost : (weight m n : ℕ) (path : Path) (f : Formula) → 0 < m → IsShaped f → n ≡ size_under path (size_of f) →
     term_cost weight (work_cost weight m) n (term_of m path f) ≡ copies_of path * operations weight m f
-lower-cost weight m n path (Identity k) positive shaped is = omega arith
 lower-cost weight m n path (Fourier k w) positive shaped is = fourier-cost weight m path n k w
 lower-cost weight m n path (Hadamard k) positive shaped is = power shaped.1 where
   power : IsPowerOfTwo k → term_cost weight (work_cost weight m) n (hadamard_term path (halvings k k))
@@ -82,10 +81,6 @@ lower-cost weight m n path (Hadamard k) positive shaped is = power shaped.1 wher
       ap (λ z. term_cost weight (work_cost weight m) n (hadamard_term path z)) steps ∙ hadamard-cost weight m n path e ∙ ap₂ (λ a b. copies_of path * (a * b)) (sym whole) (sym steps)
 lower-cost weight m n path (Twiddles k s w) positive shaped is = weighted-items weight n (copies_of path) k (is ∙ size_under-copies path k)
 lower-cost weight m n path (Diagonal c) positive shaped is = weighted-items weight n (copies_of path) (length c) (is ∙ size_under-copies path (length c))
-lower-cost weight m n path (Stride k r) positive shaped is = omega arith
-lower-cost weight m n path (Permutation k) positive shaped is = omega arith
-lower-cost weight m n path (GoodThomasIn r s) positive shaped is = omega arith
-lower-cost weight m n path (GoodThomasOut r s) positive shaped is = omega arith
 lower-cost weight m n path (Product a b) positive shaped is =
     let first = lower-cost weight m n path a positive shaped.0 is in
     let second = lower-cost weight m n path b positive shaped.1 (is ∙ ap (size_under path) shaped.2) in
@@ -101,6 +96,7 @@ lower-cost weight m n path (DirectSum a b) positive shaped is =
       one : (x : ℕ) → 1 * x ≡ x
       one x = omega arith
 lower-cost weight m n path (Pending a) positive shaped is = lower-cost weight m n path a positive shaped is
+lower-cost weight m n path _ positive shaped is = omega arith
 
 -- for each copy under the path
 pub lower_counts : (weight m : ℕ) (path : Path) (f : Formula) → 0 < m → IsShaped f →

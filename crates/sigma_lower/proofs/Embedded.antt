@@ -51,24 +51,17 @@ MovesBy v path (thomas_out r s) = HasVectors v path
 
 vectors-move : (v : ℕ) (path : Path) (k : PlainCore) → HasVectors v path → MovesBy v path k
 vectors-move v path (piece t) h = tt
-vectors-move v path (turns r s) h = h
 vectors-move v path (steps.twiddles r s w) h = tt
-vectors-move v path (thomas_in r s) h = h
-vectors-move v path (thomas_out r s) h = h
+vectors-move v path _ h = h
 
 diagonal-moves : (v : ℕ) (path : Path) (k : PlainCore) → IsDiagonal k → MovesBy v path k
 diagonal-moves v path (piece t) h = tt
-diagonal-moves v path (turns r s) h = absurd h
 diagonal-moves v path (steps.twiddles r s w) h = tt
-diagonal-moves v path (thomas_in r s) h = absurd h
-diagonal-moves v path (thomas_out r s) h = absurd h
+diagonal-moves v path _ h = absurd h
 
 pub embed-core : (path : Path) (k : PlainCore) → embed (lowered_core path k) ≡ core_term path k
 embed-core path (piece t) = refl
-embed-core path (turns r s) = refl
-embed-core path (steps.twiddles r s w) = refl
-embed-core path (thomas_in r s) = refl
-embed-core path (thomas_out r s) = refl
+embed-core path _ = refl
 
 -- a scatter by what undoes a permutation
 scat-good : (v : ℕ) (path : Path) (n : ℕ) (f : Mapping) → 0 < size_under path n → HasVectors v path →

@@ -35,11 +35,8 @@ fourier-words size path n w low =
 
 pub term-words : (m : ℕ) (path : Path) (f : Formula) → size_under path (size_of f) ≤ 1048576 → IsShaped f →
     AreWords (size_under path (size_of f)) (term_of m path f)
-term-words m path (Identity n) high shaped = tt
 term-words m path (Fourier n w) high shaped = let low = shaped.0.1 in fourier-words (size_under path n) path n w low
 term-words m path (Hadamard n) high shaped = hadamard-words (size_under path n) path (halvings n n)
-term-words m path (Twiddles n s w) high shaped = tt
-term-words m path (Diagonal c) high shaped = tt
 term-words m path (Stride n r) high shaped =
     let whole : r * (n / r) ≡ n = mul_comm r (n / r) ∙ shaped.2 in
     let count : 1 ≤ n / r = left_positive (n / r) r (omega (arith, shaped.2, shaped.0.0)) in
@@ -47,7 +44,6 @@ term-words m path (Stride n r) high shaped =
     let closed = strided-closed r (n / r) shaped.1.0 count small in
     let size : size_under path (r * (n / r)) ≡ size_under path n = ap (size_under path) whole in
     subst (λ z. HasNumbers z (wrapped path (r * (n / r)) (Strided r (n / r)))) size (numbers-wrapped path (r * (n / r)) (Strided r (n / r)) (omega (arith, size, high)) refl closed.0 closed.1)
-term-words m path (Permutation k) high shaped = tt
 term-words m path (GoodThomasIn r s) high shaped =
     let closed = in-closed r s (coprime r s shaped.1.first shaped.1.second shaped.1.coprime shaped.0.1) in
     numbers-wrapped path (r * s) (ThomasIn r s) high (let low = shaped.0.1 in lt-ltb (r * s) (2 ^ 32) (omega (arith, low))) closed.0 closed.1
@@ -65,3 +61,4 @@ term-words m path (TensorRight k a) high shaped =
     subst (λ z. AreWords z (term_of m (one_more path (Blocks k)) a)) size (term-words m (one_more path (Blocks k)) a (omega (arith, size, high)) shaped.1)
 term-words m path (DirectSum a b) high shaped = (term-words m [] a (size_is_size a shaped.0).1 shaped.0, term-words m [] b (size_is_size b shaped.1).1 shaped.1)
 term-words m path (Pending a) high shaped = term-words m path a high shaped
+term-words m path _ high shaped = tt

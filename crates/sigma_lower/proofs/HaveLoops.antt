@@ -64,8 +64,7 @@ full-right c p v Ct w a b fits =
     let path = right_path p v (layout_size a) in
     let waiting = turned_waiting p v (layout_size a) (layout_size b) in
     full-at_last _ _ (full-front (layout_passes path waiting b) _ (full_passes path waiting b))
-full-right c p v Split w a b fits = full-split p v a b
-full-right c p v Dim w a b fits = full-split p v a b
+full-right c p v _ w a b fits = full-split p v a b
 
 root-full : (c : Target) (l : Layout) → RootHasParts c l → AllFull (root_passes c l)
 root-full c (work w) fits = absurd fits

@@ -29,18 +29,13 @@ move-words n f h =
 
 -- its tiles have no words
 nest-words : (path : Path) (w : PlainWork) → CanNest 0 path w → CanNest 1 path w
-nest-words path (kernel trees) h = tt
-nest-words path (rows root size) h = tt
-nest-words path (horner root size) h = tt
 nest-words path (tile v) h = (λ some. let none : v ≡ 0 = h.0 some in absurd (omega (arith, some, none)), h.1)
-nest-words path (copy size) h = tt
+nest-words path _ h = tt
 
 pub good-words : (n : ℕ) (t : PlainTerm) → IsGoodTerm 0 n t → IsGoodTerm 1 n t
 good-words n same h = tt
 good-words n (gath f) h = move-words n f h
 good-words n (scat f) h = (move-words n f h.0, move-words n _ h.1, h.2)
-good-words n (diag path factors) h = h
 good-words n (nest path w) h = (nest-words path w h.0, h.1)
-good-words n (move path ks) h = h
 good-words n (product a b) h = (good-words n a h.0, good-words n b h.1)
-good-words n (beside path k a l b) h = h
+good-words n _ h = h

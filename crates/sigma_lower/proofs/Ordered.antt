@@ -80,9 +80,7 @@ gathers i f st is = ((tt, tt), tt)
 transforms : (m : ℕ) (path : Path) (w : PlainWork) → IsGoodWork m w → Orders ready (nest path w ∷ []) done
 transforms m path (kernel trees) good st is = ((tt, tt), (refl, refl, refl))
 transforms m path (rows root size) good st is = ((tt, tt), (refl, refl, refl))
-transforms m path (horner root size) good st is = absurd good
-transforms m path (tile v) good st is = absurd good
-transforms m path (copy size) good st is = absurd good
+transforms m path _ good st is = absurd good
 
 stored-free : (f : Mapping) (ps : List PlainLoop) → LastFree ps → HasLoop ps × LastFree (stored_last f ps)
 stored-free f [] free = absurd free

@@ -34,17 +34,12 @@ fourier-several path n w h =
     ]
 
 pub term-several : (m : ℕ) (path : Path) (f : Formula) → AreSeveral path → IsShaped f → HasSeveral (term_of m path f)
-term-several m path (Identity n) h shaped = tt
 term-several m path (Fourier n w) h shaped = fourier-several path n w h
 term-several m path (Hadamard n) h shaped = hadamard-several path (halvings n n) h
-term-several m path (Twiddles n s w) h shaped = tt
-term-several m path (Diagonal c) h shaped = tt
-term-several m path (Stride n r) h shaped = tt
 term-several m path (Permutation k) h shaped = h
-term-several m path (GoodThomasIn r s) h shaped = tt
-term-several m path (GoodThomasOut r s) h shaped = tt
 term-several m path (Product a b) h shaped = (term-several m path b h shaped.1, term-several m path a h shaped.0)
 term-several m path (TensorLeft a k) h shaped = term-several m (one_more path (Columns k)) a (several-more path (Columns k) h shaped.1.0) shaped.0
 term-several m path (TensorRight k a) h shaped = term-several m (one_more path (Blocks k)) a (several-more path (Blocks k) h shaped.0.0) shaped.1
 term-several m path (DirectSum a b) h shaped = (h, term-several m [] a tt shaped.0, term-several m [] b tt shaped.1)
 term-several m path (Pending a) h shaped = term-several m path a h shaped
+term-several m path _ h shaped = tt

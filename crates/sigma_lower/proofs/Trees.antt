@@ -59,15 +59,12 @@ pub piece-work : (m : ℕ) (w : PlainWork) → IsGoodPiece w → IsWork m (work_
 piece-work m (kernel k) h = trees-work m (trees_of k)
 piece-work m (rows root size) h = transform-work Dft m size root
 piece-work m (horner root size) h = transform-work Dft m size root
-piece-work m (tile v) h = absurd h
-piece-work m (copy size) h = absurd h
+piece-work m _ h = absurd h
 
 pub piece-nests : (v : ℕ) (path : Path) (w : PlainWork) → IsGoodPiece w → CanNest v path w
-piece-nests v path (kernel trees) h = tt
-piece-nests v path (rows root size) h = tt
-piece-nests v path (horner root size) h = tt
 piece-nests v path (tile n) h = absurd h
 piece-nests v path (copy size) h = absurd h
+piece-nests v path _ h = tt
 
 piece-vector : (m : ℕ) (w : PlainWork) (y : List ℕ) → 0 < m → IsGoodPiece w → IsVector m (work_size w) (work_on m w y)
 piece-vector m w y positive h =

@@ -47,10 +47,8 @@ more-last n (p ∷ q ∷ ps) = ap (λ rest. more n p ∷ rest) (more-last n (q �
 
 more-by : (n : ℕ) (rule : Rule) (ps : List Counted) → map (more n) (twiddle_by rule ps)
     ≡ twiddle_by rule (map (more n) ps)
-more-by n Gt ps = refl
 more-by n Ct ps = more-last n ps
-more-by n Split ps = refl
-more-by n Dim ps = refl
+more-by n _ ps = refl
 
 more-passes : (n k : ℕ) (l : Layout) → map (more n) (passes_of k l) ≡ passes_of (n * k) l
 more-passes n k (work w) = refl
@@ -70,10 +68,7 @@ copies_of-append (t ∷ outer) inner = ap (λ n. count_of t * n) (copies_of-appe
 
 more-counted : (n k : ℕ) (w : PlainWork) (b : Bool) → counted_as (n * k) w b ≡ more n (counted_as k w b)
 more-counted n k (kernel trees) b = refl
-more-counted n k (rows root size) b = refl
-more-counted n k (horner root size) b = refl
-more-counted n k (tile v) b = refl
-more-counted n k (copy size) b = refl
+more-counted n k _ b = refl
 
 same-diagonal : (f : PlainDiagonal → PlainDiagonal) (o : Option PlainDiagonal) →
     has_diagonal (option_map f o) ≡ has_diagonal o
@@ -110,9 +105,8 @@ copies-dealt p v k t is dealt =
 -- ---- the right part
 
 last-tile : (ps : List Counted) (b : Bool) → twiddle_last (ps ++ tiles b ∷ []) ≡ ps ++ tiles true ∷ []
-last-tile [] b = refl
-last-tile (p ∷ []) b = refl
 last-tile (p ∷ q ∷ ps) b = ap (λ rest. p ∷ rest) (last-tile (q ∷ ps) b)
+last-tile _ b = refl
 
 counted-lanes : (b : Bool) (p : PlainPass) → map counted (if b then [] else p ∷ []) ≡ (if b then [] else counted p ∷ [])
 counted-lanes true p = refl
@@ -150,8 +144,7 @@ counted-right_passes m p v Ct w a b h =
     (map-append counted inner (if_lanes v (tile_after p v r s))
     ∙ ap₂ (λ x y. x ++ y) (counted_passes m (right_path p v r) (turned_waiting p v r s) b h)
     (counted-lanes (v == 1) (tile_after p v r s)))
-counted-right_passes m p v Split w a b h = counted-split m p v w a b h
-counted-right_passes m p v Dim w a b h = counted-split m p v w a b h
+counted-right_passes m p v _ w a b h = counted-split m p v w a b h
 
 -- ---- the root
 
@@ -174,8 +167,7 @@ on_one_lane : (rule : Rule) (ps qs : List Counted) → IsShared rule →
     counted_right rule true ps ++ qs ≡ twiddle_by rule ps ++ qs
 on_one_lane Gt ps qs h = absurd h
 on_one_lane Ct ps qs h = ap (λ xs. twiddle_last xs ++ qs) (append-nil ps)
-on_one_lane Split ps qs h = ap (λ xs. xs ++ qs) (append-nil ps)
-on_one_lane Dim ps qs h = ap (λ xs. xs ++ qs) (append-nil ps)
+on_one_lane _ ps qs h = ap (λ xs. xs ++ qs) (append-nil ps)
 
 split_on_lanes : (a b : Layout) →
     counted_right Split false (passes_of (layout_size a) b) ++ passes_of (layout_size b) a ≡ tiled_passes (by Split 0 a b)
@@ -190,16 +182,14 @@ on_lanes Gt root a b h = absurd h
 on_lanes Ct root a b h =
     ap (λ xs. xs ++ passes_of (layout_size b) a) (last-tile (passes_of (layout_size a) b) false)
     ∙ append_assoc (passes_of (layout_size a) b) (tiles true ∷ []) (passes_of (layout_size b) a)
-on_lanes Split root a b h = split_on_lanes a b
-on_lanes Dim root a b h = split_on_lanes a b
+on_lanes _ root a b h = split_on_lanes a b
 
 as_counted : (rule : Rule) (root : ℕ) (a b : Layout) → IsShared rule → (one few : Bool) → one ≡ few →
     counted_right rule one (passes_of (layout_size a) b) ++ passes_of (layout_size b) a
     ≡ (if few then passes_of 1 (by rule root a b) else tiled_passes (by rule root a b))
 as_counted rule root a b h true true e = on_one_lane rule (passes_of (layout_size a) b) (passes_of (layout_size b) a) h ∙ sym (root_passes_of rule root a b)
 as_counted rule root a b h false false e = on_lanes rule root a b h
-as_counted rule root a b h true false e = absurd (cc)
-as_counted rule root a b h false true e = absurd (cc)
+as_counted rule root a b h _ _ e = absurd (cc)
 
 pub counted-root : (c : Target) (rule : Rule) (root : ℕ) (a b : Layout) → IsShared rule →
     IsGoodLayout c.modulus (by rule root a b) → (c.lanes == 1) ≡ nat_le c.lanes 1 →

@@ -56,32 +56,27 @@ module _ (n : ℕ) (p : Request) where
   passes-append : (zs rest : List Counted) (qs more : List trees.Pass) → ArePasses n p zs qs → ArePasses n p rest more →
       ArePasses n p (zs ++ rest) (qs ++ more)
   passes-append [] rest [] more h k = k
-  passes-append [] rest (q ∷ qs) more h k = absurd h
-  passes-append (z ∷ zs) rest [] more h k = absurd h
   passes-append (z ∷ zs) rest (q ∷ qs) more h k = (h.0, passes-append zs rest qs more h.1 k)
+  passes-append _ rest _ more h k = absurd h
 
   pass-twiddled : (z : Counted) (q : trees.Pass) → IsPass n p z q → IsPass n p (with_twiddles z) (trees.with_twiddles q)
   pass-twiddled (works k w b) (trees.nodes count t d) h = (h.0, refl)
-  pass-twiddled (works k w b) (trees.tiles d) h = absurd h
-  pass-twiddled (tiles b) (trees.nodes count t d) h = absurd h
   pass-twiddled (tiles b) (trees.tiles d) h = refl
+  pass-twiddled _ _ h = absurd h
 
   passes-last : (zs : List Counted) (qs : List trees.Pass) → ArePasses n p zs qs →
       ArePasses n p (twiddle_last zs) (trees.twiddle_last qs)
   passes-last [] [] h = tt
-  passes-last [] (q ∷ qs) h = absurd h
-  passes-last (z ∷ zs) [] h = absurd h
   passes-last (z ∷ []) (q ∷ []) h = (pass-twiddled z q h.0, tt)
   passes-last (z ∷ []) (q ∷ u ∷ qs) h = absurd h.1
   passes-last (z ∷ y ∷ zs) (q ∷ []) h = absurd h.1
   passes-last (z ∷ y ∷ zs) (q ∷ u ∷ qs) h = (h.0, passes-last (y ∷ zs) (u ∷ qs) h.1)
+  passes-last _ _ h = absurd h
 
   passes-by : (rule : Rule) (zs : List Counted) (qs : List trees.Pass) → ArePasses n p zs qs →
       ArePasses n p (twiddle_by rule zs) (trees.twiddle_by rule qs)
-  passes-by Gt zs qs h = h
   passes-by Ct zs qs h = passes-last zs qs h
-  passes-by Split zs qs h = h
-  passes-by Dim zs qs h = h
+  passes-by _ zs qs h = h
 
 -- ---- a leaf
 

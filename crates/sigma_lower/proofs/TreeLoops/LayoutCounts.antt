@@ -58,9 +58,8 @@ module _ (c : Request) where
   all-count : (p : Request) (zs : List Counted) (qs : List trees.Pass) → HasFields c p → ArePasses c.size p zs qs →
       AllCount c zs (map (pass_of p) qs)
   all-count p [] [] like h = tt
-  all-count p [] (q ∷ qs) like h = absurd h
-  all-count p (z ∷ zs) [] like h = absurd h
   all-count p (z ∷ zs) (q ∷ qs) like h = (pass-counts p z q like h.0, all-count p zs qs like h.1)
+  all-count p _ _ like h = absurd h
 
   -- a node of one size, `count` times
   node-counts : (p : Request) (count : ℕ) (t : Breakdown) → HasFields c p → IsFlatTree p t →
@@ -74,9 +73,8 @@ module _ (c : Request) where
   counts-append : (zs rest : List Counted) (qs more : List RequestPass) → AllCount c zs qs → AllCount c rest more →
       AllCount c (zs ++ rest) (qs ++ more)
   counts-append [] rest [] more h k = k
-  counts-append [] rest (q ∷ qs) more h k = absurd h
-  counts-append (z ∷ zs) rest [] more h k = absurd h
   counts-append (z ∷ zs) rest (q ∷ qs) more h k = (h.0, counts-append zs rest qs more h.1 k)
+  counts-append _ rest _ more h k = absurd h
 
   tile-counts : (p : Request) → CountsAs c (tiles false) (pass_of p (trees.tiles false))
   tile-counts p = record { operations = refl; loads = refl }
@@ -127,8 +125,7 @@ module _ (c : Request) where
         else passes_in (rest_of p) (k * size_of a) b ++ node_passes (first_of p) (k * size_of b) a)
     dim-pick k root w true true e h = (h refl, tt)
     dim-pick k root w false false e h = both (λ n. k * n)
-    dim-pick k root w true false e h = absurd (cc)
-    dim-pick k root w false true e h = absurd (cc)
+    dim-pick k root w _ _ e h = absurd (cc)
 
     -- the whole of a dim that processors or lanes share
     shared-pick : (root : ℕ) (one : Bool) →
@@ -193,9 +190,8 @@ module _ (c : Request) where
 open-passes : (kind : Kind) (p : Request) (t : Breakdown) → kind ≢ Idft →
     map (pass_of (forward_by kind p)) (closed_by kind (trees.whole_passes (forward_by kind p) t))
     ≡ map (pass_of p) (trees.whole_passes p t)
-open-passes Dft p t forward = refl
-open-passes Wht p t forward = refl
 open-passes Idft p t forward = absurd (forward refl)
+open-passes _ p t forward = refl
 
 no-inverse-leaf : (kind : Kind) (d : ℕ) → AllowsLeaf kind d → kind ≢ Idft
 no-inverse-leaf kind d h is = subst (λ k. AllowsLeaf k d) is h

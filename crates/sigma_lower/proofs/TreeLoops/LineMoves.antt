@@ -151,8 +151,6 @@ blocks-size (Columns b ∷ path) n c h = absurd h
 -- columns inside of blocks, as columns of them
 columns-outside : (path : Path) (n c : ℕ) (us : List Sum) (e w : Sum) → AreBlocks path →
     placed path (n * c) us (joined (scaled c e) w) ≡ joined (scaled c (placed path n us e)) w
-columns-outside [] n c us e w h = refl
-columns-outside (Blocks b ∷ path) n c [] e w h = refl
 columns-outside (Blocks b ∷ path) n c (u ∷ us) e w h =
     let inner = placed path n us e in
     let size = size_under path n in
@@ -161,6 +159,7 @@ columns-outside (Blocks b ∷ path) n c (u ∷ us) e w h =
     ∙ sym (joined-assoc (scaled c (scaled size u)) (scaled c inner) w)
     ∙ ap (λ g. joined g w) (sym (scaled-joined c (scaled size u) inner))
 columns-outside (Columns b ∷ path) n c us e w h = absurd h
+columns-outside _ n c _ e w h = refl
 
 -- an item of a tile is in a row and a column
 pub tile-item : (v k : ℕ) → constant k ≡ joined (scaled v (constant (k / v))) (constant (k % v))

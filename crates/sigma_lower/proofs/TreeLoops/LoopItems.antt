@@ -69,11 +69,8 @@ AllName w cs n (e ∷ es) = Names w cs n e × AllName w cs n es
 
 -- a tile names numbers, and other work anything
 pub name-constant : (w : PlainWork) (k : ℕ) → IsName w (constant k)
-name-constant (kernel trees) k = tt
-name-constant (rows root size) k = tt
-name-constant (horner root size) k = tt
 name-constant (tile v) k = (k, refl)
-name-constant (copy size) k = tt
+name-constant _ k = tt
 
 constants-name : (w : PlainWork) (cs : ℕ → ℕ) (n : ℕ) (g : ℕ → ℕ) (a len : ℕ) → ((i : ℕ) → i < a + len → g i < n) →
     AllName w cs n (map (λ i. constant (g i)) (range_with_len a len))
@@ -104,9 +101,8 @@ rows-names path root n two =
 pub names-of : (m : ℕ) (path : Path) (w : PlainWork) → IsShapedWork m w → HaveNames path w
 names-of m path (kernel trees) h = kernel-names path trees
 names-of m path (rows root size) h = rows-names path root size h.0
-names-of m path (horner root size) h = absurd h
 names-of m path (tile v) h =
     let cs : ℕ → ℕ = slice_index (map count_of path ++ v * v ∷ v * v ∷ []) in
     let all = constants-name (tile v) cs (v * v) (λ k. k * v) 0 v (λ k low. let below = place_below k 0 v v (omega (arith, low)) (omega (arith, low)) in omega (arith, below)) in
     record { loads = all; stores = all }
-names-of m path (copy size) h = absurd h
+names-of m path _ h = absurd h

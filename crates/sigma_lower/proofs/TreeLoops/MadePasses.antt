@@ -116,9 +116,7 @@ module _ (n : ℕ) (emit : Emission) (wait : Mapping → Mapping) (pass : PlainP
       (make-both left (right ++ last ∷ []) make_left make on_left
       (make-changed last (diag (over path) r s w) (multiplied path r s w) (multiplied (over path) r s w) right
       make_right (lifts.twiddled path r s w) (λ ps. refl) (lifts.multiplies path r s w) full_right on_right)))
-  make-rule Split path r s w left right make_left make_right e full_left full_right on_left on_right =
-      make-both left right make_left make_right on_left on_right
-  make-rule Dim path r s w left right make_left make_right e full_left full_right on_left on_right =
+  make-rule _ path r s w left right make_left make_right e full_left full_right on_left on_right =
       make-both left right make_left make_right on_left on_right
 
   pub make-layout : (path : Path) (l : Layout) → size_under path (layout_size l) ≡ n → (fs : List Mapping)

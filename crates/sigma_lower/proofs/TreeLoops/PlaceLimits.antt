@@ -167,8 +167,7 @@ gathering_rule size Gt path r s waiting h g =
 gathering_rule size Ct path r s waiting h g =
     gathering-mapped size path waiting (Strided r s) r s (λ d e cs count fits. turns-one r s d e cs count h.left h.right fits)
     (λ d e cs count fits. turns-room r s d e cs count h.left h.right h.small fits) h.fills h.whole.high g
-gathering_rule size Split path r s waiting h g = gathering-push size path waiting (Blocks r) s g
-gathering_rule size Dim path r s waiting h g = gathering-push size path waiting (Blocks r) s g
+gathering_rule size _ path r s waiting h g = gathering-push size path waiting (Blocks r) s g
 
 -- ---- scatters: from the pass inwards out to a node
 

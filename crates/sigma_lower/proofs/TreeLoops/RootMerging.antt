@@ -129,8 +129,7 @@ merged-right p v Ct w a b =
     (merged-both (done inner) (done (inner ++ if_lanes v (tile_after p v r s))) _ (tiled_after p v r s)
     (diag [] r s w ∷ [])
     (merged-tile (v == 1) (tile_path p v r s) (tile v) (vectors_grouped (v * (s / v)) p v r s) inner) refl))
-merged-right p v Split w a b = merged-split p v w a b
-merged-right p v Dim w a b = merged-split p v w a b
+merged-right p v _ w a b = merged-split p v w a b
 
 -- ---- the root
 

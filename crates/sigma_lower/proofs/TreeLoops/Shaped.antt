@@ -34,9 +34,7 @@ IsShapedWork m (copy size) = ⊥
 shaped-work : (m : ℕ) (w : PlainWork) → 1 ≤ work_size w → IsGoodWork m w → IsShapedWork m w
 shaped-work m (kernel trees) some h = (some, h)
 shaped-work m (rows root size) some h = h
-shaped-work m (horner root size) some h = absurd h
-shaped-work m (tile v) some h = absurd h
-shaped-work m (copy size) some h = absurd h
+shaped-work m _ some h = absurd h
 
 pub shaped_works : (m : ℕ) (l : Layout) → IsGoodLayout m l → HasWorks (IsShapedWork m) l
 shaped_works m (work w) h = shaped-work m w h.0 h.1
@@ -79,8 +77,7 @@ shaped_rule P size Gt path r s w left right fills l k =
 shaped_rule P size Ct path r s w left right fills l k =
     all-append (IsShaped P size) _ left
     (all-last (IsShaped P size) (multiplied path r s w) (λ p h. multiplied-shaped P size path r s w p fills h) right k) l
-shaped_rule P size Split path r s w left right fills l k = all-append (IsShaped P size) right left k l
-shaped_rule P size Dim path r s w left right fills l k = all-append (IsShaped P size) right left k l
+shaped_rule P size _ path r s w left right fills l k = all-append (IsShaped P size) right left k l
 
 pub shaped_passes : (P : PlainWork → Type 0) (m size : ℕ) (path : Path) (waiting : List Mapping) (l : Layout) →
     AreSeveral path → IsGoodLayout m l →

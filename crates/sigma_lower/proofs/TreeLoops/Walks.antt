@@ -87,8 +87,7 @@ module _ (T : Point → List PlainTerm → Point → Type 0) (law : IsLaw T) whe
         (steps-both ready done done right (step (pre ++ path) (twiddles r s w) ∷ left) on_right
         (law.both done ready done (emit (pre ++ path) (twiddles r s w)) (emitted emit left)
         (keeps.twiddled path r s w e) on_left))
-    rule-law Split path r s w left right e on_left on_right = parts-law left right on_left on_right
-    rule-law Dim path r s w left right e on_left on_right = parts-law left right on_left on_right
+    rule-law _ path r s w left right e on_left on_right = parts-law left right on_left on_right
 
     pub steps-law : (path : Path) (l : Layout) → IsGoodLayout m l → size_under (pre ++ path) (layout_size l) ≡ n →
         T ready (emitted emit (steps_of (pre ++ path) l)) done
@@ -134,8 +133,7 @@ module _ (T : Point → List PlainTerm → Point → Type 0) (law : IsLaw T) whe
           law.both begun ready settled (turned_in p v (layout_size a) (layout_size b)) _ keeps.turned
           (law.both ready done settled steps _ keeps.steps
           (law.both done tiled settled tiles (diag [] (layout_size a) (layout_size b) w ∷ []) keeps.after keeps.twiddled))
-      right-law Split shared = split-law
-      right-law Dim shared = split-law
+      right-law _ shared = split-law
 
 -- ---- laws of the passes that terms are merged into
 

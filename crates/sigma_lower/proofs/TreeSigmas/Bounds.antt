@@ -58,9 +58,8 @@ module _ (c : Target) where
       let price = trees-few c.modulus (trees_of k) shaped.1.trees in
       record { operations = omega (arith, price); loads = square-le (trees_size (trees_of k)) }
   modest (rows root size) shaped = record { operations = omega arith; loads = omega arith }
-  modest (horner root size) shaped = absurd shaped
   modest (tile v) shaped = record { operations = omega arith; loads = square-le (v * v) }
-  modest (copy size) shaped = absurd shaped
+  modest _ shaped = absurd shaped
 
   -- a loop over all words, of such copies
   pub record IsBounded (p : PlainLoop) : Type 0 where

@@ -38,10 +38,9 @@ more_by weight n (Some v) cs = more_last (weight * n) cs
 module _ (p : Request) (n : ℕ) where
   closed-cost : (pass : Pass) → IsPlainPass pass →
       pass_cost_in p n (with_twiddles pass) ≡ pass_cost_in p n pass + mul_cost_of p * n
-  closed-cost (nodes count tree true) h = cc
   closed-cost (nodes count tree false) h = omega arith
-  closed-cost (tiles true) h = cc
   closed-cost (tiles false) h = omega arith
+  closed-cost _ h = cc
 
   costs-last : (ps : List Pass) → IsPlainAtEnd ps →
       map (pass_cost_in p n) (twiddle_last ps) ≡ more_last (mul_cost_of p * n) (map (pass_cost_in p n) ps)
@@ -68,18 +67,12 @@ module _ (p : Request) (n : ℕ) where
 -- ---- an inverse is of one size
 
 flat-of : (p : Request) (t : Breakdown) → IsTreeOf p t → p.dimensions ≡ One → IsFlat t
-flat-of p (leaf d) h one = tt
-flat-of p (node Gt a b) h one = tt
-flat-of p (node Ct a b) h one = tt
-flat-of p (node Split a b) h one = tt
 flat-of p (node Dim a b) h one = h.2.0 one
+flat-of p _ h one = tt
 
 passes-flat : (c : Request) (t : Breakdown) → IsFlat t → request_passes c t ≡ flat_passes c t
-passes-flat c (leaf d) flat = refl
-passes-flat c (node Gt a b) flat = refl
-passes-flat c (node Ct a b) flat = refl
-passes-flat c (node Split a b) flat = refl
 passes-flat c (node Dim a b) flat = absurd flat
+passes-flat c _ flat = refl
 
 module _ (c : Request) (t : Breakdown) (valid : IsValid c) (tree : IsWholeTree c t) where
   module _ (inverse : c.kind ≡ Idft) where

@@ -42,28 +42,23 @@ abbrev all_first : List Sum → List Sum
 all_first sums = map (λ _. constant 0) sums
 
 first-sum : (sums : List Sum) (i : ℕ) → slice_index_or (all_first sums) i (constant 0) ≡ constant 0
-first-sum [] i = refl
-first-sum (e ∷ sums) zero = refl
 first-sum (e ∷ sums) (suc i) = first-sum sums i
+first-sum _ _ = refl
 
 first-value : (sums : List Sum) (i : ℕ) (vs : List ℕ) → sum_value (all_first sums) i vs ≡ 0
 first-value sums i vs = ap (λ e. value e (slice_index vs)) (first-sum sums i)
 
 first-is : (w : PlainWork) (sums : List Sum) (vs : List ℕ) (k : ℕ) → is_tile w ≡ false →
     store_place w (all_first sums) vs k ≡ 0
-first-is (kernel trees) sums vs k whole = first-value sums k vs
 first-is (rows root size) sums vs k whole = first-value sums 0 _
 first-is (horner root size) sums vs k whole = first-value sums 0 _
 first-is (tile lanes) sums vs k whole = absurd (cc)
-first-is (copy size) sums vs k whole = first-value sums k vs
+first-is _ sums vs k whole = first-value sums k vs
 
 -- all lanes of a register take one
 one-step : (w : PlainWork) (lane : ℕ) → is_tile w ≡ false → lane_step w * lane ≡ 0
-one-step (kernel trees) lane whole = omega arith
-one-step (rows root size) lane whole = omega arith
-one-step (horner root size) lane whole = omega arith
 one-step (tile lanes) lane whole = absurd (cc)
-one-step (copy size) lane whole = omega arith
+one-step _ lane whole = omega arith
 
 first-sound : (sums : List Sum) → AreSound (all_first sums)
 first-sound [] = tt
@@ -132,10 +127,7 @@ module _ (v : ℕ) where
 
     alike-closed : (z : PlainNest) (w : PlainWork) → LoadsAlike z w → LoadsAlike (closed_nest z) w
     alike-closed z (kernel trees) alike = alike
-    alike-closed z (rows root size) alike = alike
-    alike-closed z (horner root size) alike = alike
-    alike-closed z (tile lanes) alike = alike
-    alike-closed z (copy size) alike = alike
+    alike-closed z _ alike = alike
 
     closed-ready : (z : PlainNest) → IsReadyNest h z → IsReadyNest h (closed_nest z)
     closed-ready z is =

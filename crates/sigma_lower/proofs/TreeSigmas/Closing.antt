@@ -148,9 +148,8 @@ module _ (h : Target) (v : ℕ) where
       (costs-last weight (r ∷ ps) (All-tail (IsBounded h) p (r ∷ ps) all) takes)
 
   loads-last : (ps : List PlainLoop) → map pass_loads (nests (on_last closed ps)) ≡ map pass_loads (nests ps)
-  loads-last [] = refl
-  loads-last (p ∷ []) = refl
   loads-last (p ∷ r ∷ ps) = ap (λ ns. pass_loads (one_nest p) ∷ ns) (loads-last (r ∷ ps))
+  loads-last _ = refl
 
 -- ---- with the factor of a whole, if it has one
 

@@ -68,18 +68,12 @@ whole-plain lanes l = by-lanes (nat_le lanes 1)
 no-diagonal : (k : ℕ) (w : PlainWork) (o : Option PlainDiagonal) →
     EndsPlain (counted_as k w (has_diagonal o)) → o ≡ None
 no-diagonal k w None h = refl
-no-diagonal k (kernel trees) (Some d) h = absurd (cc)
-no-diagonal k (rows root size) (Some d) h = absurd (cc)
-no-diagonal k (horner root size) (Some d) h = absurd (cc)
 no-diagonal k (tile v) (Some d) h = absurd h
-no-diagonal k (copy size) (Some d) h = absurd (cc)
+no-diagonal k _ (Some d) h = absurd (cc)
 
 no-tile : (k : ℕ) (w : PlainWork) (b : Bool) → EndsPlain (counted_as k w b) → is_tile w ≡ false
-no-tile k (kernel trees) b h = refl
-no-tile k (rows root size) b h = refl
-no-tile k (horner root size) b h = refl
 no-tile k (tile v) b h = absurd h
-no-tile k (copy size) b h = refl
+no-tile k _ b h = refl
 
 last-ends : (ps : List PlainPass) → LastIs EndsPlain (map counted ps) → LastIs IsEnding ps
 last-ends [] plain = absurd plain

@@ -20,15 +20,12 @@ number (work w) = 1
 number (by rule root a b) = number b + number a
 
 length-twiddled : (ps : List Counted) → length (twiddle_last ps) ≡ length ps
-length-twiddled [] = refl
-length-twiddled (p ∷ []) = refl
 length-twiddled (p ∷ q ∷ ps) = ap suc (length-twiddled (q ∷ ps))
+length-twiddled _ = refl
 
 length-by : (rule : Rule) (ps : List Counted) → length (twiddle_by rule ps) ≡ length ps
-length-by Gt ps = refl
 length-by Ct ps = length-twiddled ps
-length-by Split ps = refl
-length-by Dim ps = refl
+length-by _ ps = refl
 
 length-passes : (n : ℕ) (l : Layout) → length (passes_of n l) ≡ number l
 length-passes n (work w) = refl

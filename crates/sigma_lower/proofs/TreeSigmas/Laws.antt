@@ -82,10 +82,7 @@ passes-flat phases = order-map one_nest phases
 
 work-one : (w : PlainWork) → work_tables w ≤ 1
 work-one (kernel trees) = omega arith
-work-one (rows root size) = omega arith
-work-one (horner root size) = omega arith
-work-one (tile v) = omega arith
-work-one (copy size) = omega arith
+work-one _ = omega arith
 
 diagonal-one : (o : Option PlainMultiplier) → diagonal_tables o ≤ 1
 diagonal-one None = omega arith
@@ -110,9 +107,8 @@ free-last n (p ∷ q ∷ ps) takes = free-last n (q ∷ ps) takes
 
 -- only an inverse has one
 no-factor : (kind : Kind) (c : Request) → kind ≢ Idft → factor_by kind c ≡ None
-no-factor Dft c other = refl
-no-factor Wht c other = refl
 no-factor Idft c other = absurd (other refl)
+no-factor _ c other = refl
 
 -- ---- one phase, or two
 

@@ -55,9 +55,8 @@ counts-drop (suc k) [] h = All-nil IsCount
 counts-drop (suc k) (x ∷ xs) h = counts-drop k xs (All-tail IsCount x xs h)
 
 pub length-drop : (k : ℕ) (xs : List ℕ) → length (drop k xs) ≤ length xs
-length-drop zero xs = omega arith
-length-drop (suc k) [] = omega arith
 length-drop (suc k) (x ∷ xs) = omega (arith, length-drop k xs)
+length-drop _ _ = omega arith
 
 pub length-tensors : (path : Path) → length (map count_of path) ≡ length path
 length-tensors [] = refl

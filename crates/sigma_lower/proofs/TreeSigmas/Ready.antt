@@ -135,11 +135,10 @@ module _ (c : Target) (p : PlainPass) (host : IsHost c) (known : IsKnown c p) wh
       at-row-of root n vs row k range below under ∙ sym (at-row-of root n vs 0 k range (omega (arith, below)) under)
 
   work-alike : (v : PlainWork) → IsShapedWork c.modulus v → LoadsAlike (with_work v) v
-  work-alike (kernel trees) shaped = tt
   work-alike (rows root n) shaped = rows-alike root n
   work-alike (horner root n) shaped = absurd shaped
-  work-alike (tile v) shaped = tt
   work-alike (copy n) shaped = absurd shaped
+  work-alike _ shaped = tt
 
   alike : LoadsAlike z w
   alike = work-alike p.work known.shaped.work

@@ -54,9 +54,8 @@ all-are : (p : Request) (f : Counted → ℕ) (g : RequestPass → ℕ) →
     ((z : Counted) (q : RequestPass) → CountsAs p z q → f z ≡ g q) → (zs : List Counted) (qs : List RequestPass) →
     AllCount p zs qs → map f zs ≡ map g qs
 all-are p f g is [] [] h = refl
-all-are p f g is [] (q ∷ qs) h = absurd h
-all-are p f g is (z ∷ zs) [] h = absurd h
 all-are p f g is (z ∷ zs) (q ∷ qs) h = ap₂ (λ x xs. x ∷ xs) (is z q h.0) (all-are p f g is zs qs h.1)
+all-are p f g is _ _ h = absurd h
 
 -- ---- the loops of the layout
 

@@ -11,14 +11,11 @@ use Rattle.operators.specs.declared.target.Target.{Target}
 pub can-work : (c : Target) (w : PlainWork) → IsShapedWork c.modulus w → HasLanes c w → CanWork c w
 can-work c (kernel trees) h lanes = h.1
 can-work c (rows root size) h lanes = (omega (arith, h.0), h.1)
-can-work c (horner root size) h lanes = absurd h
 can-work c (tile v) h lanes = lanes
-can-work c (copy size) h lanes = absurd h
+can-work c _ h lanes = absurd h
 
 -- it is no copy
 pub no-copy : (m : ℕ) (w : PlainWork) → IsShapedWork m w → IsNoCopy w
-no-copy m (kernel trees) h = tt
-no-copy m (rows root size) h = tt
 no-copy m (horner root size) h = absurd h
-no-copy m (tile v) h = tt
 no-copy m (copy size) h = absurd h
+no-copy m _ h = tt

@@ -27,8 +27,7 @@ rule-behind front Gt path r s w left right =
     let last = step path (thomas_out r s) ∷ [] in
     ap (λ ss. step (front ++ path) (thomas_in r s) ∷ ss) (ap (λ ss. map (behind front) right ++ ss) (sym (map-append (behind front) left last)) ∙ sym (map-append (behind front) right (left ++ last)))
 rule-behind front Ct path r s w left right = ap (λ ss. step (front ++ path) (turns r s) ∷ ss) (sym (map-append (behind front) right (step path (twiddles r s w) ∷ left)))
-rule-behind front Split path r s w left right = sym (map-append (behind front) right left)
-rule-behind front Dim path r s w left right = sym (map-append (behind front) right left)
+rule-behind front _ path r s w left right = sym (map-append (behind front) right left)
 
 -- more tensors round a part are more tensors round its steps
 steps-append : (front path : Path) (l : Layout) → steps_of (front ++ path) l ≡ map (behind front) (steps_of path l)
@@ -56,10 +55,9 @@ append-step (s ∷ ss) ts h = tt
 
 rule-step : (rule : Rule) (path : Path) (r s w : ℕ) (left right : List PlainStep) → HasStep right →
     HasStep (rule_steps rule path r s w left right)
-rule-step Gt path r s w left right h = tt
-rule-step Ct path r s w left right h = tt
 rule-step Split path r s w left right h = append-step right left h
 rule-step Dim path r s w left right h = append-step right left h
+rule-step _ path r s w left right h = tt
 
 pub has_step : (path : Path) (l : Layout) → HasStep (steps_of path l)
 has_step path (work w) = tt

@@ -43,22 +43,18 @@ IsApt Q (thomas_in r s) = AreCoprime r s
 IsApt Q (thomas_out r s) = AreCoprime r s
 
 apt-core : (k : PlainCore) → IsGoodCore k → IsApt IsGoodPiece k
-apt-core (piece t) h = h
 apt-core (turns r s) h = tt
 apt-core (twiddles r s w) h = tt
-apt-core (thomas_in r s) h = h
-apt-core (thomas_out r s) h = h
+apt-core _ h = h
 
 good-core : (path : Path) (k : PlainCore) (n : ℕ) → IsApt IsGoodPiece k → size_under path (core_size k) ≡ n → 0 < n →
     IsGoodCore k
-good-core path (piece t) n h e positive = h
 good-core path (turns r s) n h e positive =
     let whole : copies_of path * (r * s) ≡ n = sym (size_under-copies path (r * s)) ∙ e in
     let inside : 0 < r * s = right_positive (copies_of path) (r * s) (omega (arith, whole, positive)) in
     (right_positive s r (omega (arith, mul_comm s r, inside)), right_positive r s inside)
 good-core path (twiddles r s w) n h e positive = tt
-good-core path (thomas_in r s) n h e positive = h
-good-core path (thomas_out r s) n h e positive = h
+good-core path _ n h e positive = h
 
 apt-steps : (n : ℕ) (ss : List PlainStep) → AreGood n ss → All (λ s. IsApt IsGoodPiece s.core) ss
 apt-steps n [] h = All-nil (λ s. IsApt IsGoodPiece s.core)
@@ -173,9 +169,7 @@ module _ (Q : PlainWork → Type 0) where
 
   kept-one : (f : smp.PlainFactor) → IsAptFactor Q f → IsAptLane Q (kept f)
   kept-one (smp.blocks s) h = h
-  kept-one (smp.diagonals s) h = h
-  kept-one (smp.move_before s) h = h
-  kept-one (smp.move_after s) h = h
+  kept-one _ h = h
 
   kept-apt : (fs : List smp.PlainFactor) → All (IsAptFactor Q) fs → All (IsAptLane Q) (map kept fs)
   kept-apt [] h = All-nil (IsAptLane Q)

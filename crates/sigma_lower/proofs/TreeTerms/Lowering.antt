@@ -60,8 +60,7 @@ good_rule n Ct path r s w left right e good on_left on_right =
     let h : 2 ≤ r = good.left in
     let g : 2 ≤ s = good.right in
     (record { size = e; core = (omega (arith, h), omega (arith, g)) }, good-append n right _ on_right (record { size = e; core = tt }, on_left))
-good_rule n Split path r s w left right e good on_left on_right = good-append n right left on_right on_left
-good_rule n Dim path r s w left right e good on_left on_right = good-append n right left on_right on_left
+good_rule n _ path r s w left right e good on_left on_right = good-append n right left on_right on_left
 
 -- trees that can be made, of few items, have words for sizes
 trees-words : (m : ℕ) (trees : PlainTrees) → CanMake m trees → trees_size trees ≤ 1048576 → AreWords trees
@@ -76,9 +75,7 @@ trees-words m (tensor kind root t others) h small =
 work-words : (m : ℕ) (w : PlainWork) → IsGoodWork m w → work_size w ≤ 1048576 → IsGoodPiece w
 work-words m (kernel k) h small = trees-words m (trees_of k) h.trees small
 work-words m (rows root size) h small = tt
-work-words m (horner root size) h small = absurd h
-work-words m (tile v) h small = absurd h
-work-words m (copy size) h small = absurd h
+work-words m _ h small = absurd h
 
 pub good_steps : (m n : ℕ) (path : Path) (l : Layout) → 1 ≤ n → n ≤ 1048576 → IsGoodLayout m l →
     size_under path (layout_size l) ≡ n → AreGood n (steps_of path l)

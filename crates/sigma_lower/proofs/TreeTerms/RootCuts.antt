@@ -189,10 +189,7 @@ column-settles : (d : Deal) (o : Option Grid) (s : ℕ) (path : Path) (core : Pl
     laned d o (smp.blocks (step (Columns s ∷ path) core)) ≡ settled d o
     ++ laned d None (smp.blocks (step (Columns s ∷ path) core))
 column-settles d o s path (piece t) = refl
-column-settles d o s path (turns a b) = refl
-column-settles d o s path (twiddles a b w) = refl
-column-settles d o s path (thomas_in a b) = refl
-column-settles d o s path (thomas_out a b) = refl
+column-settles d o s path _ = refl
 
 alone-left : (b v r s : ℕ) (path : Path) (core : PlainCore) (fs : List smp.PlainFactor) →
     laned_terms 1 b v None (smp.blocks (step (Columns s ∷ path) core) ∷ fs) ≡ left_core 1 v r s path core

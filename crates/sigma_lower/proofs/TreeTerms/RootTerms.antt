@@ -55,15 +55,13 @@ right_all p v r es = map lowered (map (behind (right_path p v r)) es)
 abbrev rule_right : ℕ → ℕ → Rule → ℕ → ℕ → ℕ → List PlainStep → List PlainTerm
 rule_right p v Gt r s w es = []
 rule_right p v Ct r s w es = turned_in p v r s ++ (right_all p v r es ++ (tiled_after p v r s ++ diag [] r s w ∷ []))
-rule_right p v Split r s w es = tiled_before p v r s ++ (right_all p v r es ++ tiled_after p v r s)
-rule_right p v Dim r s w es = tiled_before p v r s ++ (right_all p v r es ++ tiled_after p v r s)
+rule_right p v _ r s w es = tiled_before p v r s ++ (right_all p v r es ++ tiled_after p v r s)
 
 -- the steps of the right part with what stands round it, before those of the left part
 abbrev rule_front : Rule → ℕ → ℕ → ℕ → List PlainStep → List PlainStep
 rule_front Gt r s w es = []
 rule_front Ct r s w es = step [] (turns r s) ∷ (rights r es ++ step [] (twiddles r s w) ∷ [])
-rule_front Split r s w es = rights r es
-rule_front Dim r s w es = rights r es
+rule_front _ r s w es = rights r es
 
 abbrev pub IsShared : Rule → Type 0
 IsShared Gt = ⊥
@@ -75,8 +73,7 @@ rule_parts : (rule : Rule) (r s w : ℕ) (es ls : List PlainStep) → IsShared r
     rule_steps rule [] r s w ls (rights r es) ≡ rule_front rule r s w es ++ ls
 rule_parts Gt r s w es ls h = absurd h
 rule_parts Ct r s w es ls h = ap (λ ss. step [] (turns r s) ∷ ss) (sym (append_assoc (rights r es) (step [] (twiddles r s w) ∷ []) ls))
-rule_parts Split r s w es ls h = refl
-rule_parts Dim r s w es ls h = refl
+rule_parts _ r s w es ls h = refl
 
 module _ (divide : Cutter) (from : Former) (g : Grid) (p v r s : ℕ) (cuts : Cuts divide from g p v r s) where
   rights-next : (es : List PlainStep) (fs : List smp.PlainFactor) →
@@ -143,8 +140,7 @@ module _ (divide : Cutter) (from : Former) (g : Grid) (p v r s : ℕ) (cuts : Cu
         ∙ sym (append_assoc (tiled_after p v r s) (diag [] r s w ∷ []) others))
         ∙ sym (append_assoc all after others))
         ∙ sym (append_assoc (turned_in p v r s) (all ++ after) others)
-    front-then Split shared = split-right
-    front-then Dim shared = split-right
+    front-then _ shared = split-right
 
   -- one phase for both parts
   both-terms : (w : ℕ) (rule : Rule) (es ls : List PlainStep) → IsShared rule → HasStep es → HasStep ls →
@@ -186,8 +182,7 @@ rights-right r (e ∷ es) rest h = (refl, rights-right r es rest h)
 front-right : (rule : Rule) (r s w : ℕ) (es : List PlainStep) → AreRight (rule_front rule r s w es)
 front-right Gt r s w es = tt
 front-right Ct r s w es = (refl, rights-right r es (step [] (twiddles r s w) ∷ []) (refl, tt))
-front-right Split r s w es = subst AreRight (append-nil (rights r es)) (rights-right r es [] tt)
-front-right Dim r s w es = subst AreRight (append-nil (rights r es)) (rights-right r es [] tt)
+front-right _ r s w es = subst AreRight (append-nil (rights r es)) (rights-right r es [] tt)
 
 count-left : (s : ℕ) (ls : List PlainStep) → right_count (lefts s ls) ≡ 0
 count-left s [] = refl
@@ -350,15 +345,11 @@ numbers_of h l r s shares product two_r two_s fits =
 
 pub rule-shared : (h : Target) (rule : Rule) (r s : ℕ) → RuleHasParts h rule r s → IsShared rule
 rule-shared h Gt r s k = k
-rule-shared h Ct r s k = tt
-rule-shared h Split r s k = tt
-rule-shared h Dim r s k = tt
+rule-shared h _ r s k = tt
 
 pub rule-fits : (h : Target) (rule : Rule) (r s : ℕ) → RuleHasParts h rule r s → HasParts h r s
 rule-fits h Gt r s k = absurd k
-rule-fits h Ct r s k = k
-rule-fits h Split r s k = k
-rule-fits h Dim r s k = k
+rule-fits h _ r s k = k
 
 right-same : (p v : ℕ) (rule : Rule) (w : ℕ) (a b : Layout) →
     rule_right p v rule (layout_size a) (layout_size b) w (steps_of [] b) ≡ right_terms p v rule w a b
@@ -366,14 +357,9 @@ right-same p v Gt w a b = refl
 right-same p v Ct w a b =
     let r = layout_size a in
     let s = layout_size b in ap (λ ss. turned_in p v r s ++ (map lowered ss ++ (tiled_after p v r s ++ diag [] r s w ∷ []))) (sym (steps-behind (right_path p v r) b))
-right-same p v Split w a b =
+right-same p v _ w a b =
     let r = layout_size a in
     let s = layout_size b in ap (λ ss. tiled_before p v r s ++ (map lowered ss ++ tiled_after p v r s)) (sym (steps-behind (right_path p v r) b))
-right-same p v Dim w a b =
-    let r = layout_size a in
-    let s = layout_size b in
-    ap (λ ss. tiled_before p v r s ++ (map lowered ss ++ tiled_after p v r s))
-    (sym (steps-behind (right_path p v r) b))
 
 -- the steps of a root
 root-steps : (rule : Rule) (w : ℕ) (a b : Layout) → IsShared rule →

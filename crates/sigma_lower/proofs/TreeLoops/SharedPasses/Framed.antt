@@ -55,11 +55,9 @@ FitsRoot c n w = HasStep c.lanes (lane_step w) [] n
 
 -- the last pass at a point
 abbrev LastAt : Target → ℕ → Point → PlainWork → Type 0
-LastAt c n begun = Whatever
-LastAt c n ready = Whatever
 LastAt c n done = Transforms
 LastAt c n tiled = FitsRoot c n
-LastAt c n settled = Whatever
+LastAt c n _ = Whatever
 
 abbrev LanedAt : Target → ℕ → Point → Merging → Type 0
 LanedAt c n i st = Laned c (LastAt c n i) st

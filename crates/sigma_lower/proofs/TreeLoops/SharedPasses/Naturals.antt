@@ -62,9 +62,7 @@ framed-loop : (m : ℕ) (c : Target) (w : PlainWork) (loops : Path) → IsGoodWo
     IsLoop c (within (Blocks c.procs) (within (Columns c.lanes) loops)) w
 framed-loop m c (kernel trees) loops good = record { loops = loops; form = refl; lanes = tt; vectors = λ vs q k below. lane-vectors c (work_size (kernel trees)) loops vs q k below }
 framed-loop m c (rows root size) loops good = record { loops = loops; form = refl; lanes = tt; vectors = λ vs q k below. lane-vectors c size loops vs q k below }
-framed-loop m c (horner root size) loops good = absurd good
-framed-loop m c (tile v) loops good = absurd good
-framed-loop m c (copy size) loops good = absurd good
+framed-loop m c _ loops good = absurd good
 
 pub transform-loop : (m : ℕ) (c : Target) (w : PlainWork) (path loops : Path) → IsGoodWork m w →
     path ≡ within (Blocks c.procs) (within (Columns c.lanes) loops) → IsLoop c path w
@@ -72,24 +70,20 @@ transform-loop m c w path loops good e = subst (λ p. IsLoop c p w) (sym e) (fra
 
 -- and its factors are one on all lanes
 pub one-step : (m : ℕ) (w : PlainWork) → IsGoodWork m w → lane_step w ≡ 0
-one-step m (kernel trees) good = refl
-one-step m (rows root size) good = refl
-one-step m (horner root size) good = refl
 one-step m (tile v) good = absurd good
-one-step m (copy size) good = refl
+one-step m _ good = refl
 
 -- ---- tiles
 
 blocks-place : (v m : ℕ) (path : Path) (vs : List ℕ) (k : ℕ) → AreBlocks path →
     (b : ℕ) × ((l : ℕ) → place path (m * v) vs (k * v + l) ≡ b * v + l)
-blocks-place v m [] vs k h = (k, λ l. refl)
 blocks-place v m (Columns c ∷ path) vs k h = absurd h
-blocks-place v m (Blocks c ∷ path) [] k h = (k, λ l. refl)
 blocks-place v m (Blocks c ∷ path) (x ∷ vs) k h =
     let inner = blocks-place v m path vs k h in (
       x * (copies_of path * m) + inner.0,
       λ l. ap₂ (λ s y. x * s + y) (size_under-copies path (m * v)) (inner.1 l) ∙ omega arith,
     )
+blocks-place v m _ _ k h = (k, λ l. refl)
 
 tile-vectors : (c : Target) (loops : Path) (vs : List ℕ) (q k : ℕ) → AreBlocks loops → q < c.procs →
     (b : ℕ) × ((lane : ℕ) → lane < c.lanes → place (framed c (tile c.lanes) loops) (c.lanes * c.lanes)

@@ -66,20 +66,14 @@ first-keeps c rest n f several low e stays =
 -- at the beginning what waits for the first pass is free
 abbrev FirstAt : Target → Point → Merging → Type 0
 FirstAt c begun st = st ≡ nothing
-FirstAt c ready st = First c (block_owner c) st
-FirstAt c done st = First c (block_owner c) st
-FirstAt c tiled st = First c (block_owner c) st
-FirstAt c settled st = First c (block_owner c) st
+FirstAt c _ st = First c (block_owner c) st
 
 abbrev Firsts : Target → Point → List PlainTerm → Point → Type 0
 Firsts c = Brings (FirstAt c)
 
 first-any : (c : Target) (i : Point) (st : Merging) → FirstAt c i st → First c (block_owner c) st
 first-any c begun st is = subst (First c (block_owner c)) (sym is) (tt, tt)
-first-any c ready st is = is
-first-any c done st is = is
-first-any c tiled st is = is
-first-any c settled st is = is
+first-any c _ st is = is
 
 first-law : (c : Target) → IsLaw (Firsts c)
 first-law c = brings-law (FirstAt c) (first-any c) (λ st is. is)
