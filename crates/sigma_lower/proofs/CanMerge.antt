@@ -1,20 +1,20 @@
 -- The terms of a whole can be merged.
-use Rattle.std.proofs.Common.{ℕ, ◌*◌, ◌^◌, ◌≤◌, ◌==◌, arith, refl, sym, List, [], ◌∷◌}
-use Rattle.std.proofs.Common.{◌++◌, subst}
-use Rattle.std.specs.Prelude.{map}
+use Rattle.sigma_lower.proofs.Words.{ℕ, ◌*◌, ◌^◌, ◌≤◌, ◌==◌, arith, refl, sym, List, [], ◌∷◌, ◌++◌, subst, map, Mapping}
+use Rattle.sigma_lower.proofs.Words.{Strided, ThomasIn, ThomasOut, ThomasBack, IsMachine, chosen, AreSeveral, back_of}
+use Rattle.sigma_lower.proofs.Words.{unit_below, HasNumbers, PlainWork, kernel, rows, horner, tile, copy, embed}
+use Rattle.sigma_lower.proofs.Words.{phase_term, core_term, PlainPass, Merging, new_pass, scattered, multiplied}
+use Rattle.sigma_lower.proofs.Words.{merge_term, merged, passes_of_terms, in_order, merged_of, IsGoodPiece, IsVecOf}
+use Rattle.sigma_lower.proofs.Words.{IsGoodCore, IsGood, AreGood, factor_term, lowered_of, wrapped, layout_smp, within}
+use Rattle.sigma_lower.proofs.Words.{core_size, PlainCore, piece, turns, thomas_in, thomas_out, PlainStep, step}
+use Rattle.sigma_lower.proofs.Words.{CanShareLayout, Layout, IsGoodLayout, only, Target, Columns, Path, size_under}
+use Rattle.sigma_lower.proofs.Words.{vec_of, PlainFactor, lanes, diagonals, move_before, move_after, factor_step}
 use Rattle.std.proofs.lemmas.Bool.{lt-ltb}
-use Rattle.index_fn.specs.Mapping.{Mapping, Strided, ThomasIn, ThomasOut, ThomasBack}
-use Rattle.sigma_lower.specs.Machine.{IsMachine}
-use Rattle.sigma_spl.proofs.Walk.{chosen}
-use Rattle.sigma_spl.specs.Limits.{AreSeveral, HasRows, HasSeveral}
-use Rattle.sigma_spl.specs.Merge.{back_of, unit_below}
+use Rattle.sigma_spl.specs.Limits.{HasRows, HasSeveral}
 use Rattle.sigma_spl.specs.Sigma.{AllCanMerge}
 use Rattle.sigma_spl.specs.Term.{scat}
-use Rattle.sigma_spl.specs.Words.{AreWords, HasNumbers}
-use Rattle.sigma_spl.specs.Work.{PlainWork, kernel, rows, horner, tile, copy, HasWords}
+use Rattle.sigma_spl.specs.Words.{AreWords}
+use Rattle.sigma_spl.specs.Work.{HasWords}
 use Rattle.sigma_lower.specs.Merged.{TreesCanMerge}
-use Rattle.sigma_lower.specs.Shared.{embed, phase_term}
-use Rattle.sigma_lower.specs.Trees.{core_term}
 use Rattle.sigma_lower.proofs.Closing.{closed-can}
 use Rattle.sigma_lower.proofs.Embedded.{embed-core, sizes-of}
 use Rattle.sigma_lower.proofs.Moves.{back-wrapped}
@@ -23,26 +23,12 @@ use Rattle.sigma_lower.proofs.SharedTrees.{AllEmbed, trees_embed}
 use Rattle.sigma_lower.proofs.TreeLoops.PassLists.{AllPasses, all-map, all-split, last-back}
 use Rattle.sigma_lower.proofs.TreeLoops.Shaped.{AreShaped, IsShaped, IsShapedWork}
 use Rattle.sigma_lower.proofs.TreeLoops.TreePlaces.{tree_good_places}
-use Rattle.sigma_lower.specs.TreeLoops.Merge.{PlainPass, Merging, new_pass, scattered, multiplied, merge_term, merged}
-use Rattle.sigma_lower.specs.TreeLoops.Merge.{passes_of_terms, in_order, merged_of}
-use Rattle.sigma_lower.specs.TreeTerms.Good.{IsGoodPiece, IsVecOf, IsGoodCore, IsGood, AreGood}
 use Rattle.sigma_lower.specs.TreeTerms.Term as lowered
-use Rattle.sigma_lower.specs.TreeTerms.Term.{lowered_after, factor_term, lowered_of}
-use Rattle.sigma_lower.specs.TreeTerms.Wrapped.{wrapped}
+use Rattle.sigma_lower.specs.TreeTerms.Term.{lowered_after}
 use Rattle.sigma_lower.proofs.TreeTerms.Goods.{vec_good, phases_good}
-use Rattle.smp_rewrite.specs.Cut.{layout_smp}
-use Rattle.smp_rewrite.specs.Smp.{within}
-use Rattle.smp_rewrite.specs.LayoutSteps.Meaning.{core_size}
 use Rattle.smp_rewrite.specs.LayoutSteps.Step as steps
-use Rattle.smp_rewrite.specs.LayoutSteps.Step.{PlainCore, piece, turns, thomas_in, thomas_out, PlainStep, step}
-use Rattle.smp_rewrite.specs.Fits.{CanShareLayout}
-use Rattle.smp_rewrite.specs.LayoutSteps.Layout.{Layout, IsGoodLayout}
-use Rattle.smp_rewrite.specs.LayoutSteps.Whole.{only, IsGoodWhole}
-use Rattle.operators.specs.declared.target.Target.{Target}
-use Rattle.operators.specs.declared.tensor_paths.Tensor.TheVariants.{Columns}
-use Rattle.operators.specs.TensorPaths.Path.{Path, size_under}
-use Rattle.vec_rewrite.specs.Turning.{vec_of}
-use Rattle.vec_rewrite.specs.Vectors.{PlainFactor, lanes, diagonals, move_before, move_after, tiles, factor_step}
+use Rattle.smp_rewrite.specs.LayoutSteps.Whole.{IsGoodWhole}
+use Rattle.vec_rewrite.specs.Vectors.{tiles}
 
 -- ---- numbers
 

@@ -1,22 +1,14 @@
 -- The products after the last phase: what they do, and that they can be merged.
-use Rattle.std.proofs.Common.{◌≡◌, ℕ, ◌==◌, Bool, true, false, arith, refl, sym, ap, ◌∙◌, List, [], ◌∷◌, ◌++◌}
-use Rattle.std.proofs.Common.{if◌then◌else◌}
-use Rattle.std.specs.Prelude.{map, Option, None, Some}
-use Rattle.std.proofs.lemmas.List.{map-append}
-use Rattle.sigma_lower.specs.Merged.{closing_term, close_last, closed_phases}
-use Rattle.sigma_lower.specs.Shared.{phase_term}
-use Rattle.operators.specs.Operator.{scale}
+use Rattle.sigma_lower.proofs.Words.{◌≡◌, ℕ, ◌==◌, Bool, true, false, arith, refl, sym, ap, ◌∙◌, List, [], ◌∷◌, ◌++◌}
+use Rattle.sigma_lower.proofs.Words.{if◌then◌else◌, map, Option, None, Some, map-append, close_last, closed_phases}
+use Rattle.sigma_lower.proofs.Words.{phase_term, scale, product, term_on, factor_term, terms_in, within, size-within}
+use Rattle.sigma_lower.proofs.Words.{Blocks, size_under, PlainFactor, PlainVec}
+use Rattle.sigma_lower.specs.Merged.{closing_term}
 use Rattle.sigma_spl.specs.Sigma.{AllCanMerge, terms_on}
-use Rattle.sigma_spl.specs.Term.{PlainTerm, product, term_on}
+use Rattle.sigma_spl.specs.Term.{PlainTerm}
 use Rattle.sigma_spl.specs.Views.{plain_term}
 use Rattle.sigma_spl.specs.declared.term.Term.{Term}
-use Rattle.sigma_lower.specs.TreeTerms.Term.{factor_term, terms_in}
-use Rattle.smp_rewrite.specs.Smp.{within}
-use Rattle.smp_rewrite.proofs.Tensors.{size-within}
 use Rattle.smp_rewrite.specs.LayoutSteps.Whole.{closed_on}
-use Rattle.operators.specs.declared.tensor_paths.Tensor.TheVariants.{Blocks}
-use Rattle.operators.specs.TensorPaths.Path.{size_under}
-use Rattle.vec_rewrite.specs.Vectors.{PlainFactor, PlainVec}
 
 -- ---- there is a last phase
 

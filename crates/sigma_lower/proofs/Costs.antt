@@ -1,34 +1,22 @@
 -- The terms of a formula for lanes have its operations: each processor has its share.
-use Rattle.std.proofs.Common.{◌≡◌, ℕ, ◌+◌, ◌*◌, ◌/◌, ◌%◌, ◌<◌, ◌==◌, Bool, true, false, arith, refl, sym, ap, ap₂, ◌∙◌}
-use Rattle.std.proofs.Common.{List, [], ◌∷◌, ◌++◌, subst, if◌then◌else◌}
-use Rattle.std.specs.Prelude.{All, map, Option, None, Some}
-use Rattle.std.proofs.Math.Nat.{mul-div_right, zero-div}
-use Rattle.std.proofs.lemmas.List.Elements.{All-head, All-tail}
-use Rattle.smp_rewrite.specs.Fits.{CanShareLayout}
-use Rattle.sigma_spl.specs.Shared.Costs.{work_cost}
-use Rattle.operators.specs.declared.target.Target.{Target}
+use Rattle.sigma_lower.proofs.Words.{◌≡◌, ℕ, ◌+◌, ◌*◌, ◌/◌, ◌%◌, ◌<◌, ◌==◌, Bool, true, false, arith, refl, sym, ap}
+use Rattle.sigma_lower.proofs.Words.{ap₂, ◌∙◌, List, [], ◌∷◌, ◌++◌, subst, if◌then◌else◌, All, map, Option, None, Some}
+use Rattle.sigma_lower.proofs.Words.{mul-div_right, All-head, All-tail, CanShareLayout, work_cost, Target}
+use Rattle.sigma_lower.proofs.Words.{closed_phases, embed, phase_term, IsVecOf, lowered_core, factor_term, smp_of}
+use Rattle.sigma_lower.proofs.Words.{within, core_size, PlainCore, piece, turns, twiddles, thomas_in, thomas_out}
+use Rattle.sigma_lower.proofs.Words.{Blocks, Columns, Path, size_under, copies_of, size_under-copies, HasLanes, vec_of}
+use Rattle.sigma_lower.proofs.Words.{PlainFactor, lanes, diagonals, move_before, move_after, PlainVec, vec_shaped}
+use Rattle.std.proofs.Math.Nat.{zero-div}
 use Rattle.sigma_spl.specs.Counts.{term_cost}
 use Rattle.sigma_spl.specs.Term.{PlainTerm}
-use Rattle.sigma_lower.specs.Merged.{closed_phases, phase_costs, sigma_of, whole_sigma}
-use Rattle.sigma_lower.specs.Shared.{embed, phase_term}
-use Rattle.sigma_lower.specs.TreeTerms.Good.{IsVecOf}
-use Rattle.sigma_lower.specs.TreeTerms.Term.{lowered_core, after_core, factor_term}
-use Rattle.smp_rewrite.specs.Cut.{smp_of}
+use Rattle.sigma_lower.specs.Merged.{phase_costs, sigma_of, whole_sigma}
+use Rattle.sigma_lower.specs.TreeTerms.Term.{after_core}
 use Rattle.smp_rewrite.specs.Laws.{HasEqualParts, IsDiagonal, IsPermutation}
-use Rattle.smp_rewrite.specs.Smp.{within}
 use Rattle.smp_rewrite.proofs.Tensors.{copies-within}
 use Rattle.smp_rewrite.specs.LayoutSteps.Whole.{Whole, closing_cost}
-use Rattle.smp_rewrite.specs.LayoutSteps.Meaning.{core_size}
-use Rattle.smp_rewrite.specs.LayoutSteps.Step.{PlainCore, piece, turns, twiddles, thomas_in, thomas_out, core_cost}
-use Rattle.operators.specs.declared.tensor_paths.Tensor.TheVariants.{Blocks, Columns}
-use Rattle.operators.specs.TensorPaths.Path.{Path, size_under, copies_of}
-use Rattle.operators.proofs.TensorPaths.Under.{size_under-copies}
+use Rattle.smp_rewrite.specs.LayoutSteps.Step.{core_cost}
 use Rattle.tree_model.proofs.Splits.{product_div}
-use Rattle.vec_rewrite.specs.Laws.{HasLanes}
-use Rattle.vec_rewrite.specs.Turning.{vec_of}
-use Rattle.vec_rewrite.specs.Vectors.{PlainFactor, lanes, diagonals, move_before, move_after, tiles, PlainVec, share_of}
-use Rattle.vec_rewrite.specs.Vectors.{shares_in, vec_shares}
-use Rattle.vec_rewrite.proofs.LaneShapes.{vec_shaped}
+use Rattle.vec_rewrite.specs.Vectors.{tiles, share_of, shares_in, vec_shares}
 use Rattle.vec_rewrite.proofs.LaneShares.{shares_in-append}
 use Rattle.sigma_lower.proofs.SharedTrees.{all-left, all-right}
 

@@ -1,27 +1,16 @@
 -- The operations of the term of a formula.
-use Rattle.std.proofs.Common.{◌≡◌, ℕ, zero, suc, ◌+◌, ◌-◌, ◌*◌, ◌^◌, ◌<◌, arith, refl, sym, ap, ap₂, ◌∙◌, [], ◌∷◌, ◌++◌}
-use Rattle.std.proofs.Common.{length, inl, inr}
-use Rattle.std.proofs.Math.Nat.{pow-succ'}
-use Rattle.std.proofs.lemmas.Bool.{cases_eq, cases_lt}
-use Rattle.std.proofs.lemmas.Bool.Decides.{nat_tests}
+use Rattle.sigma_lower.proofs.Words.{◌≡◌, ℕ, zero, suc, ◌+◌, ◌-◌, ◌*◌, ◌^◌, ◌<◌, arith, refl, sym, ap, ap₂, ◌∙◌, []}
+use Rattle.sigma_lower.proofs.Words.{◌∷◌, ◌++◌, length, inl, inr, pow-succ', cases_eq, cases_lt, nat_tests, Wht}
+use Rattle.sigma_lower.proofs.Words.{IsPowerOfTwo, work_cost, operations, one_more, halvings, hadamard_term}
+use Rattle.sigma_lower.proofs.Words.{fourier_term, term_of, Formula, Identity, Fourier, Hadamard, Twiddles, Diagonal}
+use Rattle.sigma_lower.proofs.Words.{Stride, Permutation, GoodThomasIn, GoodThomasOut, Product, TensorLeft, TensorRight}
+use Rattle.sigma_lower.proofs.Words.{DirectSum, Pending, size_of, IsShaped, Tensor, Blocks, Columns, Path, count_of}
+use Rattle.sigma_lower.proofs.Words.{copies_of, size_under, size_under-copies, leaf}
 use Rattle.tree_model.specs.KernelCosts.{kernel_cost, product_cost}
-use Rattle.matrix_meaning.specs.declared.Kind.TheVariants.{Wht}
-use Rattle.matrix_meaning.specs.Kind.{IsPowerOfTwo}
 use Rattle.sigma_spl.specs.Counts.{term_cost}
-use Rattle.sigma_spl.specs.Shared.Costs.{work_cost}
-use Rattle.sigma_lower.specs.Operations.{operations}
-use Rattle.sigma_lower.specs.Terms.{one_more, halvings, hadamard_term, fourier_term, term_of}
 use Rattle.sigma_lower.proofs.Lowers.{halvings-power, power-above}
 use Rattle.sigma_lower.proofs.Parts.{size-more}
-use Rattle.spl_ast.specs.Formula.{Formula, Identity, Fourier, Hadamard, Twiddles, Diagonal, Stride, Permutation}
-use Rattle.spl_ast.specs.Formula.{GoodThomasIn, GoodThomasOut, Product, TensorLeft, TensorRight, DirectSum, Pending}
-use Rattle.spl_ast.specs.Formula.{size_of}
-use Rattle.spl_ast.specs.Shape.{IsShaped}
-use Rattle.operators.specs.declared.tensor_paths.Tensor.{Tensor}
-use Rattle.operators.specs.declared.tensor_paths.Tensor.TheVariants.{Blocks, Columns}
-use Rattle.operators.specs.TensorPaths.Path.{Path, count_of, copies_of, size_under}
-use Rattle.operators.proofs.TensorPaths.Under.{copies_of-push, size_under-copies}
-use Rattle.tree_model.specs.Breakdown.{leaf}
+use Rattle.operators.proofs.TensorPaths.Under.{copies_of-push}
 
 copies-more : (path : Path) (t : Tensor) → copies_of (one_more path t) ≡ copies_of path * count_of t
 copies-more path t =

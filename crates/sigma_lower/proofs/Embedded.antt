@@ -1,38 +1,25 @@
 -- The terms of trees are good terms, which do what they did.
-use Rattle.std.proofs.Common.{◌≡◌, ℕ, ◌*◌, ◌<◌, ◌≤◌, arith, refl, sym, ap, ap₂, ◌∙◌, List, subst}
-use Rattle.index_fn.specs.Mapping.{Mapping, Strided, ThomasIn, ThomasOut, ThomasBack, at}
-use Rattle.operators.specs.declared.target.Target.{Target}
-use Rattle.sigma_lower.specs.Machine.{IsMachine}
-use Rattle.operators.specs.Operator.{gather}
-use Rattle.sigma_spl.specs.Good.{IsMove, IsGoodTerm, IsVector, AreBlocks}
-use Rattle.sigma_spl.specs.Merge.{unit_below, back_of}
-use Rattle.sigma_spl.specs.Term.{scat, nest, term_on}
-use Rattle.sigma_spl.specs.Work.{tile}
+use Rattle.sigma_lower.proofs.Words.{◌≡◌, ℕ, ◌*◌, ◌<◌, ◌≤◌, arith, refl, sym, ap, ap₂, ◌∙◌, List, subst, Mapping}
+use Rattle.sigma_lower.proofs.Words.{Strided, ThomasIn, ThomasOut, ThomasBack, at, Target, IsMachine, gather, IsMove}
+use Rattle.sigma_lower.proofs.Words.{IsGoodTerm, IsVector, AreBlocks, unit_below, back_of, term_on, tile}
+use Rattle.sigma_lower.proofs.Words.{moves-no-words, embed, core_term, IsGoodCore, IsGood, lowered_core, factor_term}
+use Rattle.sigma_lower.proofs.Words.{wrapped, within, core_size, step_on, PlainCore, piece, turns, thomas_in}
+use Rattle.sigma_lower.proofs.Words.{thomas_out, PlainStep, Blocks, Columns, Path, copies_of, size_under}
+use Rattle.sigma_lower.proofs.Words.{size_under-copies, PlainFactor, lanes, diagonals, move_before, move_after}
+use Rattle.sigma_lower.proofs.Words.{factor_step, HasLanes}
+use Rattle.sigma_spl.specs.Term.{scat, nest}
 use Rattle.sigma_spl.proofs.Keeps.{scatter-same}
-use Rattle.sigma_spl.proofs.Nests.{moves-no-words}
-use Rattle.sigma_lower.specs.Shared.{embed}
-use Rattle.sigma_lower.specs.Trees.{core_term}
 use Rattle.sigma_lower.proofs.Moves.{back-wrapped, strided-move, in-move, out-move}
 use Rattle.sigma_lower.proofs.Parts.{tile-under}
 use Rattle.sigma_lower.proofs.Trees.{piece-nests, core-lowers, flip}
 use Rattle.sigma_lower.proofs.Vectors.{laned-move}
 use Rattle.sigma_lower.proofs.TreeTerms.Vectors.{HasVectors, vectors-blocks, vectors-columns}
-use Rattle.sigma_lower.specs.TreeTerms.Good.{IsGoodCore, IsGood}
 use Rattle.sigma_lower.specs.TreeTerms.Term as lowered
-use Rattle.sigma_lower.specs.TreeTerms.Term.{lowered_core, factor_term}
-use Rattle.sigma_lower.specs.TreeTerms.Wrapped.{wrapped}
 use Rattle.sigma_lower.proofs.TreeTerms.Lowering.{factor_on, part-le}
 use Rattle.sigma_lower.proofs.TreeTerms.Permuted.{gather-under}
-use Rattle.smp_rewrite.specs.Smp.{within}
 use Rattle.smp_rewrite.specs.Laws.{IsDiagonal}
-use Rattle.smp_rewrite.specs.LayoutSteps.Meaning.{core_size, step_on}
-use Rattle.smp_rewrite.specs.LayoutSteps.Step.{PlainCore, piece, turns, thomas_in, thomas_out, PlainStep}
 use Rattle.smp_rewrite.specs.LayoutSteps.Step as steps
-use Rattle.operators.specs.declared.tensor_paths.Tensor.TheVariants.{Blocks, Columns}
-use Rattle.operators.specs.TensorPaths.Path.{Path, copies_of, size_under}
-use Rattle.operators.proofs.TensorPaths.Under.{size_under-copies}
-use Rattle.vec_rewrite.specs.Vectors.{PlainFactor, lanes, diagonals, move_before, move_after, tiles, factor_step}
-use Rattle.vec_rewrite.specs.Laws.{HasLanes}
+use Rattle.vec_rewrite.specs.Vectors.{tiles}
 use Rattle.smp_rewrite.proofs.Tensors.{blocks-within}
 
 -- The term of a factor is good, and does what it did

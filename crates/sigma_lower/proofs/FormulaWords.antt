@@ -1,26 +1,18 @@
 -- The numbers of a formula's term are words.
-use Rattle.std.proofs.Common.{◌≡◌, ℕ, zero, suc, ◌*◌, ◌/◌, ◌^◌, ◌≤◌, arith, refl, sym, ap, ◌∙◌, [], ◌∷◌, ◌++◌, inl, inr}
-use Rattle.std.proofs.Common.{subst, mul_comm}
-use Rattle.std.proofs.lemmas.Bool.{cases_lt, lt-ltb}
-use Rattle.std.proofs.lemmas.Bool.Decides.{nat_tests}
-use Rattle.index_fn.specs.Mapping.{Strided, ThomasIn, ThomasOut}
-use Rattle.matrix_meaning.specs.declared.Kind.TheVariants.{Dft}
+use Rattle.sigma_lower.proofs.Words.{◌≡◌, ℕ, zero, suc, ◌*◌, ◌/◌, ◌^◌, ◌≤◌, arith, refl, sym, ap, ◌∙◌, [], ◌∷◌, ◌++◌}
+use Rattle.sigma_lower.proofs.Words.{inl, inr, subst, mul_comm, cases_lt, nat_tests, Strided, ThomasIn, ThomasOut, Dft}
+use Rattle.sigma_lower.proofs.Words.{HasNumbers, kernel, horner, short, one_more, halvings, hadamard_term, fourier_term}
+use Rattle.sigma_lower.proofs.Words.{term_of, wrapped, Formula, Identity, Fourier, Hadamard, Twiddles, Diagonal, Stride}
+use Rattle.sigma_lower.proofs.Words.{Permutation, GoodThomasIn, GoodThomasOut, Product, TensorLeft, TensorRight}
+use Rattle.sigma_lower.proofs.Words.{DirectSum, Pending, size_of, IsShaped, size_is_size, Blocks, Columns, Path}
+use Rattle.sigma_lower.proofs.Words.{size_under}
+use Rattle.std.proofs.lemmas.Bool.{lt-ltb}
 use Rattle.sigma_spl.specs.Term.{nest}
-use Rattle.sigma_spl.specs.Words.{AreWords, HasNumbers}
-use Rattle.sigma_spl.specs.Work.{kernel, horner, short}
-use Rattle.sigma_lower.specs.Terms.{one_more, halvings, hadamard_term, fourier_term, term_of}
+use Rattle.sigma_spl.specs.Words.{AreWords}
 use Rattle.sigma_lower.proofs.Lowers.{coprime}
 use Rattle.sigma_lower.proofs.Moves.{left_positive}
 use Rattle.sigma_lower.proofs.Numbers.{numbers-wrapped, strided-closed, in-closed, out-closed}
 use Rattle.sigma_lower.proofs.Parts.{size-more}
-use Rattle.sigma_lower.specs.TreeTerms.Wrapped.{wrapped}
-use Rattle.spl_ast.specs.Formula.{Formula, Identity, Fourier, Hadamard, Twiddles, Diagonal, Stride, Permutation}
-use Rattle.spl_ast.specs.Formula.{GoodThomasIn, GoodThomasOut, Product, TensorLeft, TensorRight, DirectSum, Pending}
-use Rattle.spl_ast.specs.Formula.{size_of}
-use Rattle.spl_ast.specs.Shape.{IsShaped}
-use Rattle.spl_ast.proofs.Vectors.{size_is_size}
-use Rattle.operators.specs.declared.tensor_paths.Tensor.TheVariants.{Blocks, Columns}
-use Rattle.operators.specs.TensorPaths.Path.{Path, size_under}
 
 hadamard-words : (n : ℕ) (path : Path) (k : ℕ) → AreWords n (hadamard_term path k)
 hadamard-words n path zero = tt

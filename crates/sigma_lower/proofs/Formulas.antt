@@ -1,21 +1,16 @@
 -- The term of a whole formula as one phase: it does what the formula does, in its operations, and can be merged.
-use Rattle.std.proofs.Common.{◌≡◌, ℕ, ◌+◌, ◌*◌, ◌<◌, ◌∙◌, [], List, ap, arith, subst, sym}
+use Rattle.sigma_lower.proofs.Words.{◌≡◌, ℕ, ◌+◌, ◌*◌, ◌<◌, ◌∙◌, [], List, ap, arith, subst, sym, operations, work_cost}
+use Rattle.sigma_lower.proofs.Words.{term_of, IsVector, PlainSigma, Formula, size_of, IsShaped, shaped_size}
+use Rattle.sigma_lower.proofs.Words.{size_is_size}
 use Rattle.sigma_lower.specs.OnePhase.{formula_sigma}
-use Rattle.sigma_lower.specs.Operations.{operations}
-use Rattle.sigma_spl.specs.Shared.Costs.{work_cost}
-use Rattle.sigma_lower.specs.Terms.{term_of}
 use Rattle.sigma_lower.proofs.Counted.{lower_counts}
 use Rattle.sigma_lower.proofs.FormulaWords.{term-words}
 use Rattle.sigma_lower.proofs.Lowers.{lowers}
 use Rattle.sigma_lower.proofs.OneLane.{good-words}
 use Rattle.sigma_lower.proofs.Several.{term-several}
-use Rattle.sigma_spl.specs.Good.{IsVector}
-use Rattle.sigma_spl.specs.Sigma.{CanMerge, IsGoodSigma, PlainSigma, sigma_cost, sigma_on}
+use Rattle.sigma_spl.specs.Sigma.{CanMerge, IsGoodSigma, sigma_cost, sigma_on}
 use Rattle.sigma_spl.specs.Term.{PlainTerm}
-use Rattle.spl_ast.specs.Formula.{Formula, size_of}
 use Rattle.spl_ast.specs.Meaning.{apply}
-use Rattle.spl_ast.specs.Shape.{IsShaped}
-use Rattle.spl_ast.proofs.Vectors.{shaped_size, size_is_size}
 
 -- these terms, for one processor of one lane
 abbrev pub one_phase : ℕ → List PlainTerm → PlainSigma

@@ -1,23 +1,12 @@
 -- Room for the paths of a formula, and the steps of a WHT.
-use Rattle.std.proofs.Common.{◌≡◌, ℕ, zero, suc, ◌*◌, ◌/◌, ◌^◌, ◌<◌, ◌≤◌, arith, refl, sym, ap, ◌∙◌, [], ◌∷◌, ◌++◌, inl}
-use Rattle.std.proofs.Common.{inr, subst, mul_comm}
-use Rattle.std.proofs.Math.Nat.{pow-succ'}
-use Rattle.std.proofs.lemmas.Bool.{cases_eq}
-use Rattle.std.proofs.lemmas.Bool.Decides.{nat_tests}
-use Rattle.matrix_meaning.specs.declared.Kind.TheVariants.{Wht}
-use Rattle.matrix_meaning.specs.Kind.{IsPowerOfTwo}
-use Rattle.sigma_spl.specs.Term.{same, nest, product}
-use Rattle.sigma_spl.specs.Work.{kernel, short}
-use Rattle.sigma_lower.specs.Terms.{one_more, halvings, hadamard_term}
+use Rattle.sigma_lower.proofs.Words.{◌≡◌, ℕ, zero, suc, ◌*◌, ◌/◌, ◌^◌, ◌<◌, ◌≤◌, arith, refl, sym, ap, ◌∙◌, [], ◌∷◌}
+use Rattle.sigma_lower.proofs.Words.{◌++◌, inl, inr, subst, mul_comm, pow-succ', cases_eq, nat_tests, Wht, IsPowerOfTwo}
+use Rattle.sigma_lower.proofs.Words.{same, product, kernel, short, one_more, halvings, hadamard_term, Formula, Stride}
+use Rattle.sigma_lower.proofs.Words.{Product, TensorLeft, TensorRight, size_of, IsShaped, size_is_size, Tensor, Blocks}
+use Rattle.sigma_lower.proofs.Words.{Columns, Path, count_of, grown, size_under-push}
+use Rattle.sigma_spl.specs.Term.{nest}
 use Rattle.sigma_lower.proofs.Lowers.{halvings-power, power-above}
 use Rattle.sigma_spl.specs.Room.{HasRoom}
-use Rattle.spl_ast.specs.Formula.{Formula, Stride, Product, TensorLeft, TensorRight, size_of}
-use Rattle.spl_ast.specs.Shape.{IsShaped}
-use Rattle.spl_ast.proofs.Vectors.{size_is_size}
-use Rattle.operators.specs.declared.tensor_paths.Tensor.{Tensor}
-use Rattle.operators.specs.declared.tensor_paths.Tensor.TheVariants.{Blocks, Columns}
-use Rattle.operators.specs.TensorPaths.Path.{Path, count_of, grown}
-use Rattle.operators.proofs.TensorPaths.Under.{size_under-push}
 use Rattle.smp_rewrite.proofs.Tensors.{grown-one}
 
 -- ---- room

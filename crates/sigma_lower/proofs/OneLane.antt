@@ -1,10 +1,8 @@
 -- A term that is good where there are no lanes is good for one.
-use Rattle.std.proofs.Common.{◌≡◌, ℕ, ◌+◌, ◌%◌, ◌<◌, ap, ◌∙◌, arith, mod-lt}
-use Rattle.index_fn.specs.Mapping.{Mapping}
-use Rattle.sigma_spl.specs.Good.{CanNest, IsGoodTerm, IsMove, MovesVectors}
-use Rattle.sigma_spl.specs.Term.{PlainTerm, same, gath, scat, diag, nest, move, product, beside}
-use Rattle.sigma_spl.specs.Work.{PlainWork, kernel, rows, horner, tile, copy}
-use Rattle.operators.specs.TensorPaths.Path.{Path}
+use Rattle.sigma_lower.proofs.Words.{◌≡◌, ℕ, ◌+◌, ◌%◌, ◌<◌, ap, ◌∙◌, arith, mod-lt, Mapping, CanNest, IsGoodTerm}
+use Rattle.sigma_lower.proofs.Words.{IsMove, same, product, PlainWork, kernel, rows, horner, tile, copy, Path}
+use Rattle.sigma_spl.specs.Good.{MovesVectors}
+use Rattle.sigma_spl.specs.Term.{PlainTerm, gath, scat, diag, nest, move, beside}
 
 -- any permutation moves vectors of one word
 moves-words : (f : ℕ → ℕ) → MovesVectors 1 f

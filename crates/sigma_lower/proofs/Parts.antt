@@ -1,34 +1,29 @@
 -- What terms do under the tensors of a path.
-use Rattle.std.proofs.Common.{◌≡◌, ℕ, ◌+◌, ◌*◌, ◌/◌, ◌%◌, ◌<◌, arith, refl, sym, ap, ap₂, ◌∙◌, List, [], ◌∷◌, ◌++◌}
-use Rattle.std.proofs.Common.{length, inl, inr, subst, mod-lt, mod-eq_of_lt, div-lt_iff_lt-mul}
-use Rattle.std.specs.Prelude.{slice_index}
+use Rattle.sigma_lower.proofs.Words.{◌≡◌, ℕ, ◌+◌, ◌*◌, ◌/◌, ◌%◌, ◌<◌, arith, refl, sym, ap, ap₂, ◌∙◌, List, [], ◌∷◌}
+use Rattle.sigma_lower.proofs.Words.{◌++◌, length, inl, inr, subst, mod-lt, div-lt_iff_lt-mul, slice_index, cases_eq}
+use Rattle.sigma_lower.proofs.Words.{nat_tests, fill_by_all, Kind, transform, gather, scale, stride, column, on_blocks}
+use Rattle.sigma_lower.proofs.Words.{on_columns, at-list_below, list_below-same, place_below, factor_positive, CanNest}
+use Rattle.sigma_lower.proofs.Words.{IsGoodTerm, IsVector, factor_count, factor_at, product, term_on, PlainWork, tile}
+use Rattle.sigma_lower.proofs.Words.{work_size, work_on, vector-below, one_more, Tensor, Blocks, Columns, Path}
+use Rattle.sigma_lower.proofs.Words.{count_of, grown, size_under, under, place, size_under-push}
+use Rattle.std.proofs.Common.{mod-eq_of_lt}
 use Rattle.std.proofs.Math.Nat.{mod-mod, div-one, mod-one, div-eq_of_lt}
-use Rattle.std.proofs.lemmas.Bool.{cases_eq}
-use Rattle.std.proofs.lemmas.Bool.Decides.{nat_tests}
-use Rattle.std.proofs.lemmas.List.FromFn.{fill_by_all}
-use Rattle.matrix_meaning.specs.declared.Kind.{Kind}
-use Rattle.matrix_meaning.specs.Kind.{transform, entry_of}
-use Rattle.operators.specs.Operator.{Operator, gather, scale, stride, block, column, on_blocks, on_columns}
+use Rattle.matrix_meaning.specs.Kind.{entry_of}
+use Rattle.operators.specs.Operator.{Operator, block}
 use Rattle.operators.specs.Identities.{turn}
 use Rattle.operators.proofs.Places.{stride_below}
 use Rattle.operators.specs.Sum.{list_below}
-use Rattle.operators.proofs.Lists.{at-list_below, list_below-same, length-list_below, place_below, factor_positive}
+use Rattle.operators.proofs.Lists.{length-list_below}
 use Rattle.operators.proofs.Sums.{sum_below-same}
-use Rattle.sigma_spl.specs.Good.{CanNest, IsGoodTerm, IsVector}
-use Rattle.sigma_spl.specs.Nest.{PlainFactors, factor_count, factor_at}
-use Rattle.sigma_spl.specs.Term.{PlainTerm, nest, move, diag, product, term_on}
-use Rattle.sigma_spl.specs.Work.{PlainWork, tile, work_size, work_on}
+use Rattle.sigma_spl.specs.Nest.{PlainFactors}
+use Rattle.sigma_spl.specs.Term.{PlainTerm, nest, move, diag}
 use Rattle.sigma_spl.proofs.Keeps.{under-vector, vector-fill}
 use Rattle.sigma_spl.proofs.Natural.{at-natural}
 use Rattle.sigma_spl.proofs.Limited.{below-all}
-use Rattle.sigma_spl.proofs.Walk.{vector-below}
-use Rattle.sigma_lower.specs.Terms.{one_more}
 use Rattle.sigma_lower.proofs.TreeTerms.Permuted.{scale-under}
-use Rattle.operators.specs.declared.tensor_paths.Tensor.{Tensor}
-use Rattle.operators.specs.declared.tensor_paths.Tensor.TheVariants.{Blocks, Columns}
-use Rattle.operators.specs.TensorPaths.Path.{Path, count_of, grown, size_under, one_under, under, place, Reads, local}
+use Rattle.operators.specs.TensorPaths.Path.{one_under, Reads, local}
 use Rattle.operators.proofs.TensorPaths.PathPlaces.{at-under, place-below}
-use Rattle.operators.proofs.TensorPaths.Under.{size_under-push, under-push, under-product, under-size}
+use Rattle.operators.proofs.TensorPaths.Under.{under-push, under-product, under-size}
 use Rattle.smp_rewrite.proofs.Tensors.{grown-one}
 
 -- a good term that does to a vector what an operator does

@@ -1,19 +1,14 @@
 -- The tensors in the term of a formula have several copies.
-use Rattle.std.proofs.Common.{◌≡◌, ℕ, zero, suc, ◌^◌, ◌≤◌, arith, sym, [], ◌∷◌, ◌++◌, inl, inr, subst, pow_pos}
-use Rattle.std.proofs.lemmas.Bool.{cases_eq, cases_lt}
-use Rattle.std.proofs.lemmas.Bool.Decides.{nat_tests}
-use Rattle.matrix_meaning.specs.declared.Kind.TheVariants.{Dft}
-use Rattle.sigma_spl.specs.Limits.{AreSeveral, HasSeveral}
+use Rattle.sigma_lower.proofs.Words.{◌≡◌, ℕ, zero, suc, ◌^◌, ◌≤◌, arith, sym, [], ◌∷◌, ◌++◌, inl, inr, subst, cases_eq}
+use Rattle.sigma_lower.proofs.Words.{cases_lt, nat_tests, Dft, AreSeveral, kernel, horner, short, one_more, halvings}
+use Rattle.sigma_lower.proofs.Words.{hadamard_term, fourier_term, term_of, Formula, Identity, Fourier, Hadamard}
+use Rattle.sigma_lower.proofs.Words.{Twiddles, Diagonal, Stride, Permutation, GoodThomasIn, GoodThomasOut, Product}
+use Rattle.sigma_lower.proofs.Words.{TensorLeft, TensorRight, DirectSum, Pending, IsShaped, Tensor, Blocks, Columns}
+use Rattle.sigma_lower.proofs.Words.{Path, count_of}
+use Rattle.std.proofs.Common.{pow_pos}
+use Rattle.sigma_spl.specs.Limits.{HasSeveral}
 use Rattle.sigma_spl.specs.Term.{nest}
-use Rattle.sigma_spl.specs.Work.{kernel, horner, short}
 use Rattle.sigma_spl.proofs.Several.{several-push}
-use Rattle.sigma_lower.specs.Terms.{one_more, halvings, hadamard_term, fourier_term, term_of}
-use Rattle.spl_ast.specs.Formula.{Formula, Identity, Fourier, Hadamard, Twiddles, Diagonal, Stride, Permutation}
-use Rattle.spl_ast.specs.Formula.{GoodThomasIn, GoodThomasOut, Product, TensorLeft, TensorRight, DirectSum, Pending}
-use Rattle.spl_ast.specs.Shape.{IsShaped}
-use Rattle.operators.specs.declared.tensor_paths.Tensor.{Tensor}
-use Rattle.operators.specs.declared.tensor_paths.Tensor.TheVariants.{Blocks, Columns}
-use Rattle.operators.specs.TensorPaths.Path.{Path, count_of}
 
 several-more : (path : Path) (t : Tensor) → AreSeveral path → 1 ≤ count_of t → AreSeveral (one_more path t)
 several-more path t h some =

@@ -1,14 +1,10 @@
 -- Permutations under tensors move whole vectors, where the first columns are a multiple of the lanes.
-use Rattle.std.proofs.Common.{◌≡◌, ℕ, ◌+◌, ◌*◌, ◌/◌, ◌%◌, ◌<◌, arith, sym, ap, subst, ◌∙◌}
-use Rattle.std.proofs.Math.Nat.{div-add-mod'}
+use Rattle.sigma_lower.proofs.Words.{◌≡◌, ℕ, ◌+◌, ◌*◌, ◌/◌, ◌%◌, ◌<◌, arith, sym, ap, subst, ◌∙◌, div-add-mod', Mapping}
+use Rattle.sigma_lower.proofs.Words.{at, IsMove, back_of, wrapped, Path, size_under}
 use Rattle.std.proofs.lemmas.Nat.{mod-mul-add}
-use Rattle.index_fn.specs.Mapping.{Mapping, at}
-use Rattle.sigma_spl.specs.Good.{MovesVectors, IsMove}
-use Rattle.sigma_spl.specs.Merge.{back_of}
+use Rattle.sigma_spl.specs.Good.{MovesVectors}
 use Rattle.sigma_lower.proofs.Moves.{back-wrapped, move-wrapped}
 use Rattle.sigma_lower.proofs.TreeTerms.Vectors.{KeepsVectors, HasVectors, keeps-wrapped}
-use Rattle.sigma_lower.specs.TreeTerms.Wrapped.{wrapped}
-use Rattle.operators.specs.TensorPaths.Path.{Path, size_under}
 
 pub moves-vectors : (v : ℕ) (f : Mapping) → KeepsVectors v f → MovesVectors v (at f)
 moves-vectors v f h =

@@ -1,34 +1,22 @@
 -- The merged passes of a layout are its passes, one by one.
-use Rattle.std.proofs.Common.{◌≡◌, ℕ, ◌*◌, ◌/◌, ◌≤◌, ◌==◌, Bool, true, false, arith, List, [], ◌∷◌, ◌++◌, refl, sym, ap}
-use Rattle.std.proofs.Common.{ap₂, ◌∙◌, if◌then◌else◌, append_assoc}
-use Rattle.std.specs.Prelude.{map, Option, Some, None, nat_le}
-use Rattle.std.specs.Option.{option_map}
+use Rattle.sigma_lower.proofs.Words.{◌≡◌, ℕ, ◌*◌, ◌/◌, ◌≤◌, ◌==◌, Bool, true, false, arith, List, [], ◌∷◌, ◌++◌, refl}
+use Rattle.sigma_lower.proofs.Words.{sym, ap, ap₂, ◌∙◌, if◌then◌else◌, append_assoc, map, Option, Some, None, nat_le}
+use Rattle.sigma_lower.proofs.Words.{option_map, nat_tests, map-append, Target, Counted, works, tiles, with_twiddles}
+use Rattle.sigma_lower.proofs.Words.{twiddle_last, twiddle_by, passes_of, tiled_passes, whole_passes, has_diagonal}
+use Rattle.sigma_lower.proofs.Words.{counted_as, counted, PlainDiagonal, PlainPass, in_order, merged_of, right_path}
+use Rattle.sigma_lower.proofs.Words.{left_path, PlainWork, kernel, rows, horner, tile, copy, Layout, work, by}
+use Rattle.sigma_lower.proofs.Words.{layout_size, IsGoodLayout, within, Tensor, Blocks, Columns, Path, count_of}
+use Rattle.sigma_lower.proofs.Words.{copies_of, Rule, Gt, Ct, Split, Dim, CanShareLayout, is_alone}
 use Rattle.std.proofs.Math.Nat.{mul_assoc}
-use Rattle.std.proofs.lemmas.Bool.Decides.{nat_tests}
-use Rattle.std.proofs.lemmas.List.{map-append, append-nil}
-use Rattle.operators.specs.declared.target.Target.{Target}
-use Rattle.sigma_lower.specs.TreeLoops.Laws.{Counted, works, tiles, with_twiddles, twiddle_last, twiddle_by, passes_of}
-use Rattle.sigma_lower.specs.TreeLoops.Laws.{tiled_passes, whole_passes, has_diagonal, counted_as, counted}
-use Rattle.sigma_lower.specs.TreeLoops.Merge.{PlainDiagonal, PlainPass, in_order, merged_of}
+use Rattle.std.proofs.lemmas.List.{append-nil}
 use Rattle.sigma_lower.proofs.TreeLoops.RootDealt.{IsDealt, dealt_parts}
 use Rattle.sigma_lower.proofs.TreeLoops.RootMerging.{root_merged}
 use Rattle.sigma_lower.proofs.TreeLoops.RootPasses.{tile_before, tile_after, if_lanes, turned_waiting, right_passes}
 use Rattle.sigma_lower.proofs.TreeLoops.RootPasses.{left_diagonal, left_pass, left_passes, root_passes}
 use Rattle.sigma_lower.proofs.TreeLoops.TreePasses.{layout_passes, counted_passes, counted-multiplied}
 use Rattle.sigma_lower.proofs.TreeLoops.Wholes.{plain_passes}
-use Rattle.sigma_lower.specs.TreeTerms.Root.{right_path, left_path}
 use Rattle.sigma_lower.proofs.TreeTerms.RootTerms.{IsShared, rule-fits, rule-shared}
-use Rattle.sigma_spl.specs.Work.{PlainWork, kernel, rows, horner, tile, copy}
-use Rattle.smp_rewrite.specs.LayoutSteps.Layout.{Layout, work, by, layout_size, IsGoodLayout}
-use Rattle.smp_rewrite.specs.Smp.{within}
 use Rattle.smp_rewrite.proofs.Tensors.{copies-within}
-use Rattle.operators.specs.declared.tensor_paths.Tensor.{Tensor}
-use Rattle.operators.specs.declared.tensor_paths.Tensor.TheVariants.{Blocks, Columns}
-use Rattle.operators.specs.TensorPaths.Path.{Path, count_of, copies_of}
-use Rattle.tree_model.specs.declared.tree.Rule.{Rule}
-use Rattle.tree_model.specs.declared.tree.Rule.TheVariants.{Gt, Ct, Split, Dim}
-use Rattle.smp_rewrite.specs.Fits.{CanShareLayout}
-use Rattle.sigma_spl.specs.Shared.Targets.{is_alone}
 
 -- ---- n times as many copies
 

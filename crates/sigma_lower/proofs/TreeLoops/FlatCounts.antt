@@ -1,34 +1,24 @@
 -- The passes of a layout of one size count as those of the tree in the cost model.
-use Rattle.std.proofs.Common.{◌≡◌, ℕ, ◌*◌, ◌<◌, Bool, true, false, arith, refl, sym, ap, ◌∙◌, List, [], ◌∷◌, ◌++◌}
-use Rattle.std.proofs.Common.{if◌then◌else◌, inl, inr, subst}
-use Rattle.std.specs.Prelude.{nat_le}
-use Rattle.std.proofs.lemmas.Bool.{cases_lt}
-use Rattle.std.proofs.lemmas.Bool.Decides.{nat_tests}
+use Rattle.sigma_lower.proofs.Words.{◌≡◌, ℕ, ◌*◌, ◌<◌, Bool, true, false, arith, refl, sym, ap, ◌∙◌, List, [], ◌∷◌}
+use Rattle.sigma_lower.proofs.Words.{◌++◌, if◌then◌else◌, inl, inr, subst, nat_le, cases_lt, nat_tests, Counted, works}
+use Rattle.sigma_lower.proofs.Words.{tiles, with_twiddles, twiddle_last, twiddle_by, passes_of, tiled_passes}
+use Rattle.sigma_lower.proofs.Words.{whole_passes, IsValid, One, Kind, Dft, Wht, Idft, Request, PlainWork, kernel}
+use Rattle.sigma_lower.proofs.Words.{Layout, work, by, layout_size, layout_of, work_cost, IsNodeTree, left_tree}
+use Rattle.sigma_lower.proofs.Words.{right_tree, Breakdown, leaf, node, AllowsLeaf, is_kernel, node_root, Rule, Gt, Ct}
+use Rattle.sigma_lower.proofs.Words.{Split, Dim}
 use Rattle.kernel_gen.proofs.NodeCosts.{kernel-short}
-use Rattle.sigma_lower.specs.TreeLoops.Laws.{Counted, works, tiles, with_twiddles, twiddle_last, twiddle_by, passes_of}
-use Rattle.sigma_lower.specs.TreeLoops.Laws.{tiled_passes, whole_passes, loads_by}
-use Rattle.matrix_meaning.specs.Valid.{IsValid}
-use Rattle.matrix_meaning.specs.declared.Dimensions.TheVariants.{One}
-use Rattle.matrix_meaning.specs.declared.Kind.{Kind}
-use Rattle.matrix_meaning.specs.declared.Kind.TheVariants.{Dft, Wht, Idft}
-use Rattle.matrix_meaning.specs.declared.Request.{Request}
-use Rattle.sigma_spl.specs.Work.{PlainWork, kernel, node_of}
-use Rattle.smp_rewrite.specs.LayoutSteps.Layout.{Layout, work, by, layout_cost, layout_size, layout_of, long_work}
-use Rattle.smp_rewrite.specs.LayoutSteps.Layout.{node_work}
-use Rattle.sigma_spl.specs.Shared.Costs.{work_cost}
-use Rattle.kernel_gen.specs.Nodes.{IsNodeTree}
+use Rattle.sigma_lower.specs.TreeLoops.Laws.{loads_by}
+use Rattle.sigma_spl.specs.Work.{node_of}
+use Rattle.smp_rewrite.specs.LayoutSteps.Layout.{layout_cost, long_work, node_work}
 use Rattle.smp_rewrite.specs.LayoutSteps.Meaning.{FitsWhole}
 use Rattle.smp_rewrite.proofs.LayoutSteps.Layouts.{layouts_cost, layouts_have_size}
-use Rattle.kernel_gen.proofs.NodeTrees.{left_tree, right_tree}
 use Rattle.smp_rewrite.proofs.LayoutSteps.NodeTrees.{left_fits, right_fits}
 use Rattle.tree_model.specs.Admissible.{RuleFits}
-use Rattle.tree_model.specs.Breakdown.{Breakdown, leaf, node, size_of, AllowsLeaf}
-use Rattle.tree_model.specs.Cost.{is_kernel, is_plain, node_root}
+use Rattle.tree_model.specs.Breakdown.{size_of}
+use Rattle.tree_model.specs.Cost.{is_plain}
 use Rattle.tree_model.proofs.PassLaws.{root_no_kernel}
 use Rattle.tree_model.specs.Passes as trees
 use Rattle.tree_model.specs.Whole.{cost_in, left_of, right_of}
-use Rattle.tree_model.specs.declared.tree.Rule.{Rule}
-use Rattle.tree_model.specs.declared.tree.Rule.TheVariants.{Gt, Ct, Split, Dim}
 
 -- ---- one pass
 

@@ -1,16 +1,10 @@
 -- What holds of the places of a layout's passes: they are within the limits, and their copies fill the whole.
-use Rattle.std.proofs.Common.{◌≡◌, true, List, [], sym, subst}
-use Rattle.sigma_lower.specs.TreeLoops.Merge.{PlainPass, merged_of}
-use Rattle.sigma_lower.specs.TreeLoops.Placed.{AllLimited}
+use Rattle.sigma_lower.proofs.Words.{◌≡◌, true, List, [], sym, subst, PlainPass, merged_of, AllLimited, PlainWork}
+use Rattle.sigma_lower.proofs.Words.{CanShareLayout, Layout, IsGoodLayout, is_alone, Target}
 use Rattle.sigma_lower.proofs.TreeLoops.PlaceLimits.{tree_limited}
 use Rattle.sigma_lower.proofs.TreeLoops.Shaped.{AreShaped, HasWorks, shaped_passes}
 use Rattle.sigma_lower.proofs.TreeLoops.TreePasses.{layout_passes}
 use Rattle.sigma_lower.proofs.TreeLoops.Wholes.{plain_passes}
-use Rattle.sigma_spl.specs.Work.{PlainWork}
-use Rattle.smp_rewrite.specs.Fits.{CanShareLayout}
-use Rattle.smp_rewrite.specs.LayoutSteps.Layout.{Layout, IsGoodLayout}
-use Rattle.sigma_spl.specs.Shared.Targets.{is_alone}
-use Rattle.operators.specs.declared.target.Target.{Target}
 
 -- P holds of each pass's work
 pub record HaveGoodPlaces (c : Target) (P : PlainWork → Type 0) (ps : List PlainPass) : Type 0 where

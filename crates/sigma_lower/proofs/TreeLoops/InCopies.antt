@@ -1,19 +1,11 @@
 -- Places in copies that any sums name: a natural place is one where the loops' variables name the copy.
-use Rattle.std.proofs.Common.{◌≡◌, ℕ, ◌+◌, ◌*◌, ◌<◌, ◌≤◌, arith, refl, sym, ap, ◌∙◌, List, [], ◌∷◌, subst}
-use Rattle.std.proofs.Common.{le-mul_of_pos_right}
-use Rattle.index_fn.specs.Mapping.{Mapping}
-use Rattle.perm_algebra.specs.Affine.{Sum, constant, variable, top, scaled, joined, Divided, simplified}
-use Rattle.perm_algebra.specs.Room.{CanScale, CanJoin, HasRoomFor}
-use Rattle.perm_algebra.proofs.AffineLaws.{top-scaled}
-use Rattle.perm_algebra.proofs.Shape.{divided-joined}
-use Rattle.perm_algebra.proofs.Sizes.{positive-product}
-use Rattle.sigma_lower.specs.TreeTerms.Wrapped.{wrapped}
-use Rattle.sigma_lower.specs.TreeLoops.Placed.{Fits, place_sum, AreCounts}
+use Rattle.sigma_lower.proofs.Words.{◌≡◌, ℕ, ◌+◌, ◌*◌, ◌<◌, ◌≤◌, arith, refl, sym, ap, ◌∙◌, List, [], ◌∷◌, subst}
+use Rattle.sigma_lower.proofs.Words.{le-mul_of_pos_right, Mapping, Sum, constant, variable, top, scaled, joined}
+use Rattle.sigma_lower.proofs.Words.{Divided, simplified, CanScale, CanJoin, HasRoomFor, top-scaled, divided-joined}
+use Rattle.sigma_lower.proofs.Words.{positive-product, wrapped, Fits, place_sum, AreCounts, Blocks, Columns, Path}
+use Rattle.sigma_lower.proofs.Words.{count_of, size_under, le-times}
 use Rattle.sigma_lower.proofs.TreeLoops.PlaceRoom.{can_scale, can_join, can_divide, scaled-top}
 use Rattle.sigma_lower.proofs.TreeLoops.PlaceSums.{parts-fit, variable-fits}
-use Rattle.operators.specs.declared.tensor_paths.Tensor.TheVariants.{Blocks, Columns}
-use Rattle.operators.specs.TensorPaths.Path.{Path, count_of, size_under}
-use Rattle.sigma_spl.proofs.Fitting.{le-times}
 
 -- the place of e in the copy that these sums name, one for each tensor
 abbrev pub placed : Path → ℕ → List Sum → Sum → Sum

@@ -1,18 +1,11 @@
 -- The item of its copy that stands at a natural place.
-use Rattle.std.proofs.Common.{◌≡◌, ℕ, ◌+◌, ◌*◌, ◌<◌, ◌≤◌, arith, refl, sym, ap, ◌∙◌, [], ◌∷◌, subst}
-use Rattle.std.proofs.Common.{le-mul_of_pos_right}
-use Rattle.perm_algebra.specs.Affine.{Sum, constant, variable, scaled, joined, Divided, simplified}
-use Rattle.perm_algebra.specs.Room.{CanScale, CanJoin, HasRoomFor}
-use Rattle.perm_algebra.proofs.AffineLaws.{top-scaled}
-use Rattle.perm_algebra.proofs.Shape.{divided-joined, joined-zero}
-use Rattle.perm_algebra.proofs.Sizes.{joined-end, scaled-one}
-use Rattle.sigma_lower.specs.TreeTerms.Wrapped.{inner_of}
-use Rattle.sigma_lower.specs.TreeLoops.Placed.{Fits, place_sum, AreCounts}
+use Rattle.sigma_lower.proofs.Words.{◌≡◌, ℕ, ◌+◌, ◌*◌, ◌<◌, ◌≤◌, arith, refl, sym, ap, ◌∙◌, [], ◌∷◌, subst}
+use Rattle.sigma_lower.proofs.Words.{le-mul_of_pos_right, Sum, constant, variable, scaled, joined, Divided, simplified}
+use Rattle.sigma_lower.proofs.Words.{CanScale, CanJoin, HasRoomFor, top-scaled, divided-joined, joined-end, scaled-one}
+use Rattle.sigma_lower.proofs.Words.{inner_of, Fits, place_sum, AreCounts, Blocks, Columns, Path, size_under, le-times}
+use Rattle.perm_algebra.proofs.Shape.{joined-zero}
 use Rattle.sigma_lower.proofs.TreeLoops.PlaceRoom.{can_divide, can_join, can_scale}
 use Rattle.sigma_lower.proofs.TreeLoops.PlaceSums.{place_sum-fits, size-positive, variable-fits}
-use Rattle.operators.specs.declared.tensor_paths.Tensor.TheVariants.{Blocks, Columns}
-use Rattle.operators.specs.TensorPaths.Path.{Path, size_under}
-use Rattle.sigma_spl.proofs.Fitting.{le-times}
 
 -- an item's place in its copy, at a natural place
 pub inner-place : (path : Path) (n d : ℕ) (e : Sum) (cs : ℕ → ℕ) → AreCounts path n d cs → Fits n e cs →

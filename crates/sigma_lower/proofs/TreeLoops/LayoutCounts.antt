@@ -1,36 +1,28 @@
 -- The passes of the layout of a request's tree count as those of the tree in the cost model.
-use Rattle.std.proofs.Common.{◌≡◌, ◌≢◌, ℕ, ◌+◌, ◌*◌, ◌%◌, ◌==◌, Bool, true, false, arith, refl, sym, ap, ap₂, ◌∙◌, List}
-use Rattle.std.proofs.Common.{[], ◌∷◌, ◌++◌, if◌then◌else◌, subst}
-use Rattle.std.specs.Prelude.{map, nat_le}
-use Rattle.std.proofs.lemmas.Bool.Decides.{nat_tests}
+use Rattle.sigma_lower.proofs.Words.{◌≡◌, ◌≢◌, ℕ, ◌+◌, ◌*◌, ◌%◌, ◌==◌, Bool, true, false, arith, refl, sym, ap, ap₂}
+use Rattle.sigma_lower.proofs.Words.{◌∙◌, List, [], ◌∷◌, ◌++◌, if◌then◌else◌, subst, map, nat_le, nat_tests, Counted}
+use Rattle.sigma_lower.proofs.Words.{works, tiles, passes_of, tiled_passes, whole_passes, forward_by, One, Kind, Dft}
+use Rattle.sigma_lower.proofs.Words.{Wht, Idft, Request, PlainWork, Layout, work, by, layout_size, layout_of, work_cost}
+use Rattle.sigma_lower.proofs.Words.{IsNodeTree, left_tree, right_tree, Breakdown, leaf, node, AllowsLeaf, is_kernel}
+use Rattle.sigma_lower.proofs.Words.{node_root, request_passes, Rule, Gt, Ct, Split, Dim}
 use Rattle.std.proofs.Math.Nat.{mod_self, one-mul}
-use Rattle.sigma_lower.specs.TreeLoops.Laws.{Counted, works, tiles, passes_of, tiled_passes, whole_passes, CountsAs}
-use Rattle.sigma_lower.specs.TreeLoops.Laws.{AllCount, IsForwardTree}
+use Rattle.sigma_lower.specs.TreeLoops.Laws.{CountsAs, AllCount, IsForwardTree}
 use Rattle.sigma_lower.proofs.TreeLoops.FlatCounts.{ArePasses, IsFlatTree, IsPass, flat_node_passes, flat_root_passes}
 use Rattle.sigma_lower.proofs.TreeLoops.FlatCounts.{kernel-matches}
-use Rattle.matrix_meaning.specs.Parts.{first_of, forward_by, rest_of}
-use Rattle.matrix_meaning.specs.declared.Dimensions.TheVariants.{One}
-use Rattle.matrix_meaning.specs.declared.Kind.{Kind}
-use Rattle.matrix_meaning.specs.declared.Kind.TheVariants.{Dft, Wht, Idft}
-use Rattle.matrix_meaning.specs.declared.Request.{Request}
+use Rattle.matrix_meaning.specs.Parts.{first_of, rest_of}
 use Rattle.matrix_meaning.proofs.Parts.{first_is_one}
-use Rattle.sigma_spl.specs.Work.{PlainWork}
-use Rattle.smp_rewrite.specs.LayoutSteps.Layout.{Layout, work, by, layout_size, layout_of, layout_cost, node_work}
-use Rattle.sigma_spl.specs.Shared.Costs.{work_cost}
-use Rattle.kernel_gen.specs.Nodes.{IsNodeTree}
+use Rattle.smp_rewrite.specs.LayoutSteps.Layout.{layout_cost, node_work}
 use Rattle.smp_rewrite.specs.LayoutSteps.Meaning.{FitsWhole}
 use Rattle.smp_rewrite.proofs.LayoutSteps.Layouts.{layouts_cost, layouts_have_size}
-use Rattle.kernel_gen.proofs.NodeTrees.{HasFields, left_fields, left_tree, rest_is_part, right_fields, right_tree}
+use Rattle.kernel_gen.proofs.NodeTrees.{HasFields, left_fields, rest_is_part, right_fields}
 use Rattle.smp_rewrite.proofs.LayoutSteps.NodeTrees.{left_fits, plain_fits}
-use Rattle.tree_model.specs.Breakdown.{Breakdown, leaf, node, size_of, AllowsLeaf, AllowsRule}
-use Rattle.tree_model.specs.Cost.{is_kernel, is_plain, node_root}
+use Rattle.tree_model.specs.Breakdown.{size_of, AllowsRule}
+use Rattle.tree_model.specs.Cost.{is_plain}
 use Rattle.tree_model.proofs.PassLaws.{root_no_kernel}
 use Rattle.tree_model.specs.Passes as trees
 use Rattle.tree_model.specs.Whole.{cost_in}
 use Rattle.tree_model.specs.WholePasses.{RequestPass, pass_of, closed_by, flat_passes, node_passes, passes_in}
-use Rattle.tree_model.specs.WholePasses.{shared_passes, request_passes}
-use Rattle.tree_model.specs.declared.tree.Rule.{Rule}
-use Rattle.tree_model.specs.declared.tree.Rule.TheVariants.{Gt, Ct, Split, Dim}
+use Rattle.tree_model.specs.WholePasses.{shared_passes}
 
 -- fields of a request, of the request for a part, and of that for a part of the part
 fields-both : (c p q : Request) → HasFields c p → HasFields p q → HasFields c q

@@ -1,20 +1,11 @@
 -- The places of the left part of a shared root: those of the part alone, in the copies that processors, lanes and loops name.
-use Rattle.std.proofs.Common.{◌≡◌, ℕ, ◌+◌, ◌*◌, ◌/◌, ◌<◌, ◌≤◌, arith, refl, sym, ap, ap₂, ◌∙◌, List, [], ◌∷◌, ◌++◌}
-use Rattle.std.proofs.Common.{length, if◌then◌else◌, subst, mul_comm}
-use Rattle.std.specs.Prelude.{◌==◌, map, Option, None, Some}
-use Rattle.std.specs.Option.{option_map}
-use Rattle.index_fn.specs.Mapping.{Mapping}
-use Rattle.operators.specs.declared.target.Target.{Target}
-use Rattle.sigma_spl.specs.Limits.{AreSeveral}
-use Rattle.perm_algebra.specs.Affine.{Sum, constant, variable, scaled, joined, Divided, simplified}
-use Rattle.perm_algebra.specs.Room.{CanScale, CanJoin, HasRoomFor}
-use Rattle.perm_algebra.proofs.AffineLaws.{top-scaled}
-use Rattle.perm_algebra.proofs.Shape.{divided-joined}
-use Rattle.perm_algebra.proofs.Sizes.{joined-end, scaled-one}
-use Rattle.std.proofs.lemmas.Option.{same_Some}
-use Rattle.sigma_lower.specs.TreeLoops.Merge.{PlainDiagonal, PlainPass}
-use Rattle.sigma_lower.specs.TreeLoops.Placed.{Fits, IsCarried, place_sum, AreCounts, all_simplified, diagonal_places}
-use Rattle.sigma_lower.specs.TreeLoops.Placed.{IsLimitedPass}
+use Rattle.sigma_lower.proofs.Words.{◌≡◌, ℕ, ◌+◌, ◌*◌, ◌/◌, ◌<◌, ◌≤◌, arith, refl, sym, ap, ap₂, ◌∙◌, List, [], ◌∷◌}
+use Rattle.sigma_lower.proofs.Words.{◌++◌, length, if◌then◌else◌, subst, mul_comm, ◌==◌, map, Option, None, Some}
+use Rattle.sigma_lower.proofs.Words.{option_map, Mapping, Target, AreSeveral, Sum, constant, variable, scaled, joined}
+use Rattle.sigma_lower.proofs.Words.{Divided, simplified, CanScale, CanJoin, HasRoomFor, top-scaled, divided-joined}
+use Rattle.sigma_lower.proofs.Words.{joined-end, scaled-one, same_Some, PlainDiagonal, PlainPass, Fits, IsCarried}
+use Rattle.sigma_lower.proofs.Words.{place_sum, AreCounts, all_simplified, diagonal_places, IsLimitedPass, left_path}
+use Rattle.sigma_lower.proofs.Words.{work_size, inner_of, Blocks, Columns, Path, grown, size_under}
 use Rattle.sigma_lower.proofs.TreeLoops.InCopies.{placed, AreCopies, placed-fits}
 use Rattle.sigma_lower.proofs.TreeLoops.LineMoves.{LeadsTo, AreThree, leads-none, leads-step, leads-join, leads-same}
 use Rattle.sigma_lower.proofs.TreeLoops.LineMoves.{dealt-leads}
@@ -29,11 +20,6 @@ use Rattle.sigma_lower.proofs.TreeLoops.RootShares.{columns_high, rows_high}
 use Rattle.sigma_lower.proofs.TreeLoops.Staying.{StaysIn, stays-begin, carried-end, carried-push}
 use Rattle.sigma_lower.proofs.TreeLoops.WithinPlaces.{size-all, simplified-within, room-within, natural-placed}
 use Rattle.sigma_lower.proofs.TreeLoops.WithinPlaces.{natural-copies}
-use Rattle.sigma_lower.specs.TreeTerms.Root.{left_path}
-use Rattle.sigma_spl.specs.Work.{work_size}
-use Rattle.sigma_lower.specs.TreeTerms.Wrapped.{inner_of}
-use Rattle.operators.specs.declared.tensor_paths.Tensor.TheVariants.{Blocks, Columns}
-use Rattle.operators.specs.TensorPaths.Path.{Path, grown, size_under}
 
 -- ---- a longer path
 

@@ -1,26 +1,17 @@
 -- The items of a layout's loops: what their variables run below, and the sums that name an item.
-use Rattle.std.proofs.Common.{◌≡◌, ℕ, zero, suc, ◌+◌, ◌*◌, ◌<◌, ◌≤◌, arith, refl, sym, ap, ◌∙◌, List, [], ◌∷◌, ◌++◌}
-use Rattle.std.proofs.Common.{length, Some}
-use Rattle.std.specs.Prelude.{map, slice_index}
+use Rattle.sigma_lower.proofs.Words.{◌≡◌, ℕ, zero, suc, ◌+◌, ◌*◌, ◌<◌, ◌≤◌, arith, refl, sym, ap, ◌∙◌, List, [], ◌∷◌}
+use Rattle.sigma_lower.proofs.Words.{◌++◌, length, Some, map, slice_index, PlainDiagonal, PlainPass, Fits, AreCounts}
+use Rattle.sigma_lower.proofs.Words.{right_positive, place_below, AreSeveral, limits_in, loop_of, items_out, PlainWork}
+use Rattle.sigma_lower.proofs.Words.{kernel, rows, horner, tile, copy, work_size, trees_of, Sum, constant, trees_size}
+use Rattle.sigma_lower.proofs.Words.{Blocks, Columns, Path, copies_of, count_of, size_under-copies}
 use Rattle.std.specs.List.{range_with_len}
-use Rattle.sigma_lower.specs.TreeLoops.Merge.{PlainDiagonal, PlainPass}
-use Rattle.sigma_lower.specs.TreeLoops.Placed.{Fits, AreCounts, IsName}
+use Rattle.sigma_lower.specs.TreeLoops.Placed.{IsName}
 use Rattle.sigma_lower.proofs.TreeLoops.LineMoves.{number-fits}
 use Rattle.sigma_lower.proofs.TreeLoops.PlaceSums.{variable-fits}
-use Rattle.sigma_spl.proofs.Keeps.{right_positive}
 use Rattle.sigma_lower.proofs.TreeLoops.Shaped.{IsShaped, IsShapedWork}
-use Rattle.operators.proofs.Lists.{place_below}
-use Rattle.sigma_spl.specs.Limits.{AreSeveral}
-use Rattle.sigma_spl.specs.Loops.{limits_in}
-use Rattle.sigma_lower.specs.TreeLoops.Nests.{loop_of}
-use Rattle.sigma_spl.specs.Merge.{items_in, items_out}
-use Rattle.sigma_spl.specs.Work.{PlainWork, kernel, rows, horner, tile, copy, work_size, PlainKernel, trees_of}
-use Rattle.perm_algebra.specs.Affine.{Sum, constant}
-use Rattle.tree_model.specs.Trees.{trees_size}
+use Rattle.sigma_spl.specs.Merge.{items_in}
+use Rattle.sigma_spl.specs.Work.{PlainKernel}
 use Rattle.sigma_lower.proofs.TreeTerms.Lowering.{part-le}
-use Rattle.operators.specs.declared.tensor_paths.Tensor.TheVariants.{Blocks, Columns}
-use Rattle.operators.specs.TensorPaths.Path.{Path, copies_of, count_of}
-use Rattle.operators.proofs.TensorPaths.Under.{size_under-copies}
 use Rattle.sigma_spl.proofs.Limited.{at-row, at-column}
 
 -- ---- diagonals

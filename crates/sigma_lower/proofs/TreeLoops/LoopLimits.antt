@@ -1,33 +1,22 @@
 -- No place of a layout's loops is over a limit.
-use Rattle.std.proofs.Common.{◌≡◌, ℕ, ◌*◌, ◌≤◌, Bool, true, arith, refl, sym, List, [], ◌∷◌, ◌++◌, length}
-use Rattle.std.proofs.Common.{subst, Some}
-use Rattle.std.specs.Prelude.{map, reverse}
+use Rattle.sigma_lower.proofs.Words.{◌≡◌, ℕ, ◌*◌, ◌≤◌, Bool, true, arith, refl, sym, List, [], ◌∷◌, ◌++◌, length, subst}
+use Rattle.sigma_lower.proofs.Words.{Some, map, reverse, reverse-append, and_from, Mapping, PlainDiagonal, PlainPass}
+use Rattle.sigma_lower.proofs.Words.{passes_of_terms, in_order, merged_of, loop_of, taken_of, IsCarried, IsLimitedPass}
+use Rattle.sigma_lower.proofs.Words.{AllLimited, diagonal_places, place_sum, Target, IsMachine, PlainLoop, PlainTaken}
+use Rattle.sigma_lower.proofs.Words.{limits_in, IsLimitedLoop, AreLimitedLoops, most, items_out, factor_count, Sum}
+use Rattle.sigma_lower.proofs.Words.{simplified, PlainTerm, lowered_of, PlainWork, work_size, CanShareLayout, Layout}
+use Rattle.sigma_lower.proofs.Words.{IsGoodLayout}
 use Rattle.std.specs.List.{list_all}
-use Rattle.std.proofs.lemmas.List.{reverse-append}
-use Rattle.std.proofs.lemmas.Bool.{and_from}
-use Rattle.index_fn.specs.Mapping.{Mapping}
 use Rattle.sigma_lower.specs.TreeLoops.Limits.{AreLimitedPhases, LoopsAreLimited}
-use Rattle.sigma_lower.specs.TreeLoops.Merge.{PlainDiagonal, PlainPass, passes_of_terms, in_order, merged_of}
-use Rattle.sigma_lower.specs.TreeLoops.Nests.{loop_of, taken_of}
-use Rattle.sigma_lower.specs.TreeLoops.Placed.{ArePlacesLimited, IsCarried, IsLimitedPass, AllLimited, diagonal_places}
-use Rattle.sigma_lower.specs.TreeLoops.Placed.{place_sum}
+use Rattle.sigma_lower.specs.TreeLoops.Placed.{ArePlacesLimited}
 use Rattle.sigma_lower.proofs.TreeLoops.LeftPlaces.{mapped-some}
 use Rattle.sigma_lower.proofs.TreeLoops.LoopItems.{Names, AllName, HaveNames, diagonal-size, names-of, pass-counts}
 use Rattle.sigma_lower.proofs.TreeLoops.LoopNests.{loops_listed}
 use Rattle.sigma_lower.proofs.TreeLoops.Shaped.{IsShaped, IsShapedWork, AreShaped}
 use Rattle.sigma_lower.proofs.TreeLoops.TameSums.{fits-limited}
 use Rattle.sigma_lower.proofs.TreeLoops.TreePlaces.{tree_good_places}
-use Rattle.operators.specs.declared.target.Target.{Target}
-use Rattle.sigma_lower.specs.Machine.{IsMachine}
-use Rattle.sigma_spl.specs.Loops.{PlainLoop, PlainTaken, limits_in, IsLimitedLoop, AreLimitedLoops}
-use Rattle.sigma_spl.specs.Merge.{most, items_in, items_out, carries_sum}
-use Rattle.sigma_spl.specs.Nest.{factor_count}
-use Rattle.perm_algebra.specs.Affine.{Sum, simplified}
+use Rattle.sigma_spl.specs.Merge.{items_in, carries_sum}
 use Rattle.perm_algebra.proofs.RoomTests.{room_decided}
-use Rattle.sigma_lower.specs.TreeTerms.Term.{PlainTerm, lowered_of}
-use Rattle.sigma_spl.specs.Work.{PlainWork, work_size}
-use Rattle.smp_rewrite.specs.Fits.{CanShareLayout}
-use Rattle.smp_rewrite.specs.LayoutSteps.Layout.{Layout, IsGoodLayout}
 
 -- ---- the tests
 

@@ -1,24 +1,20 @@
 -- No place of a layout's passes is over a limit, nor is any on the way there.
-use Rattle.std.proofs.Common.{◌≡◌, ℕ, ◌+◌, ◌*◌, ◌<◌, ◌≤◌, arith, refl, sym, ap, ◌∙◌, List, [], ◌∷◌, ◌++◌, length, subst}
-use Rattle.std.proofs.Common.{mul_comm}
-use Rattle.std.specs.Prelude.{Some}
-use Rattle.std.proofs.Math.Nat.{mul-le-mul_right}
-use Rattle.std.proofs.lemmas.Nat.{mul-le}
-use Rattle.index_fn.specs.Mapping.{Mapping, Strided, ThomasIn, ThomasBack}
-use Rattle.operators.specs.declared.target.Target.{Target}
-use Rattle.perm_algebra.specs.Affine.{IsProper, Sum, constant, variable, top, parts, scaled, joined, Divided, reduced}
-use Rattle.perm_algebra.specs.Affine.{simplified}
-use Rattle.perm_algebra.proofs.AffineLaws.{top-scaled, top-joined}
-use Rattle.perm_algebra.proofs.Shape.{divided-joined, turned-joined}
-use Rattle.perm_algebra.proofs.Sizes.{parts-scaled, parts-joined, proper-joined, proper-scaled}
-use Rattle.std.proofs.lemmas.Option.{none-some, same_Some}
-use Rattle.sigma_lower.specs.TreeLoops.Merge.{PlainDiagonal, PlainPass, new_pass, scattered, multiplied, at_last}
-use Rattle.sigma_lower.specs.TreeLoops.Placed.{Fits, IsTame, place_sum, AreCounts, all_simplified, IsLimitedPass}
-use Rattle.sigma_lower.specs.TreeLoops.Placed.{AllLimited}
+use Rattle.sigma_lower.proofs.Words.{◌≡◌, ℕ, ◌+◌, ◌*◌, ◌<◌, ◌≤◌, arith, refl, sym, ap, ◌∙◌, List, [], ◌∷◌, ◌++◌, length}
+use Rattle.sigma_lower.proofs.Words.{subst, mul_comm, Some, mul-le-mul_right, mul-le, Mapping, Strided, ThomasIn}
+use Rattle.sigma_lower.proofs.Words.{ThomasBack, Target, IsProper, Sum, constant, variable, top, scaled, joined}
+use Rattle.sigma_lower.proofs.Words.{Divided, simplified, top-scaled, top-joined, divided-joined, proper-joined}
+use Rattle.sigma_lower.proofs.Words.{proper-scaled, none-some, same_Some, PlainDiagonal, PlainPass, new_pass, scattered}
+use Rattle.sigma_lower.proofs.Words.{multiplied, at_last, Fits, place_sum, AreCounts, all_simplified, IsLimitedPass}
+use Rattle.sigma_lower.proofs.Words.{AllLimited, HasRoomFor, PlainWork, work_size, Layout, work, by, layout_size}
+use Rattle.sigma_lower.proofs.Words.{IsGoodLayout, wrapped, inner_of, unit_of, Tensor, Blocks, Columns, Path, grown}
+use Rattle.sigma_lower.proofs.Words.{size_under, size_under-push, Rule, Gt, Ct, Split, Dim, CanShareLayout}
+use Rattle.perm_algebra.specs.Affine.{parts, reduced}
+use Rattle.perm_algebra.proofs.Shape.{turned-joined}
+use Rattle.perm_algebra.proofs.Sizes.{parts-scaled, parts-joined}
+use Rattle.sigma_lower.specs.TreeLoops.Placed.{IsTame}
 use Rattle.sigma_lower.proofs.TreeLoops.InnerPlaces.{inner-place, room-inner}
 use Rattle.sigma_lower.proofs.TreeLoops.InCopies.{simplified-wrapped, room-wrapped}
 use Rattle.sigma_lower.proofs.TreeLoops.RuleRoom.{thomas_in-room, turns-room, thomas_back-room}
-use Rattle.perm_algebra.specs.Room.{HasRoomFor}
 use Rattle.sigma_lower.proofs.TreeLoops.PlaceSums.{tensor_sum, place_sum-push, counts-push, variable-fits, parts-fit}
 use Rattle.sigma_lower.proofs.TreeLoops.PlaceSums.{tensor_sum-fits, place_sum-fits, all_simplified-append}
 use Rattle.sigma_lower.proofs.TreeLoops.PartRules.{IsSize, IsRuleIn, rule_in, coprime_in}
@@ -26,17 +22,7 @@ use Rattle.sigma_lower.proofs.TreeLoops.Staying.{StaysIn, carried-push}
 use Rattle.sigma_lower.proofs.TreeLoops.TameSums.{tame-scaled, tame-joined, reduced-fits}
 use Rattle.sigma_lower.proofs.TreeLoops.PassLists.{AllPasses, all-append, all-last, all-map, map-last}
 use Rattle.sigma_lower.proofs.TreeLoops.TreePasses.{back, rule_waiting, rule_passes, layout_passes}
-use Rattle.sigma_spl.specs.Work.{PlainWork, work_size}
-use Rattle.smp_rewrite.specs.LayoutSteps.Layout.{Layout, work, by, layout_size, IsGoodLayout}
-use Rattle.sigma_lower.specs.TreeTerms.Wrapped.{wrapped, inner_of, unit_of}
 use Rattle.sigma_lower.proofs.TreeTerms.Lowering.{AreCoprime, unit_positive, unit_small}
-use Rattle.operators.specs.declared.tensor_paths.Tensor.{Tensor}
-use Rattle.operators.specs.declared.tensor_paths.Tensor.TheVariants.{Blocks, Columns}
-use Rattle.operators.specs.TensorPaths.Path.{Path, grown, size_under}
-use Rattle.operators.proofs.TensorPaths.Under.{size_under-push}
-use Rattle.tree_model.specs.declared.tree.Rule.{Rule}
-use Rattle.tree_model.specs.declared.tree.Rule.TheVariants.{Gt, Ct, Split, Dim}
-use Rattle.smp_rewrite.specs.Fits.{CanShareLayout}
 
 -- ---- a tensor at a place, and the permutation of a rule
 

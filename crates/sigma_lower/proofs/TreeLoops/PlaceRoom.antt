@@ -1,12 +1,11 @@
 -- Where scaled, joined and divided sums fit 64 bits.
-use Rattle.std.proofs.Common.{ℕ, ◌+◌, ◌-◌, ◌*◌, ◌/◌, ◌%◌, ◌^◌, ◌<◌, ◌≤◌, inl, inr, arith, sym, ◌∙◌, subst}
-use Rattle.std.proofs.Common.{le-mul_of_pos_right}
-use Rattle.std.proofs.Math.Nat.{mul-le-mul_left, mul-le-mul_right, mod-le}
-use Rattle.std.proofs.lemmas.Bool.{cases_eq}
-use Rattle.std.proofs.lemmas.Bool.Decides.{nat_tests}
-use Rattle.perm_algebra.specs.Affine.{IsProper, Sum, constant, variable, remainder, quotient, top, peak, scaled, joined}
-use Rattle.perm_algebra.specs.Affine.{mods}
-use Rattle.perm_algebra.specs.Room.{constant_of, HasTop, CanScale, CanJoin, CanDivide}
+use Rattle.sigma_lower.proofs.Words.{ℕ, ◌+◌, ◌-◌, ◌*◌, ◌/◌, ◌%◌, ◌^◌, ◌<◌, ◌≤◌, inl, inr, arith, sym, ◌∙◌, subst}
+use Rattle.sigma_lower.proofs.Words.{le-mul_of_pos_right, mul-le-mul_right, cases_eq, nat_tests, IsProper, Sum}
+use Rattle.sigma_lower.proofs.Words.{constant, variable, remainder, quotient, top, scaled, joined, mods, CanScale}
+use Rattle.sigma_lower.proofs.Words.{CanJoin}
+use Rattle.std.proofs.Math.Nat.{mul-le-mul_left, mod-le}
+use Rattle.perm_algebra.specs.Affine.{peak}
+use Rattle.perm_algebra.specs.Room.{constant_of, HasTop, CanDivide}
 use Rattle.perm_algebra.proofs.Shape.{rest-joined, rest-small}
 
 pub has_top : (e : Sum) (cs : ℕ → ℕ) → IsProper e cs → top e cs < 2 ^ 64 → HasTop cs e

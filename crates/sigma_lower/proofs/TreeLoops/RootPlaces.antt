@@ -1,40 +1,26 @@
 -- What holds of the places of a shared layout's passes.
-use Rattle.std.proofs.Common.{◌≡◌, ℕ, ◌*◌, ◌/◌, ◌≤◌, Bool, true, false, arith, refl, sym, ap, ◌∙◌, List, [], ◌∷◌}
-use Rattle.std.proofs.Common.{◌++◌, if◌then◌else◌, subst, mul_comm, append-nil}
-use Rattle.std.specs.Prelude.{◌==◌, map, Option, None, Some}
-use Rattle.index_fn.specs.Mapping.{Mapping}
-use Rattle.operators.specs.declared.target.Target.{Target}
-use Rattle.std.proofs.lemmas.Option.{none-some, same_Some}
-use Rattle.sigma_lower.specs.TreeLoops.Merge.{PlainDiagonal, PlainPass, multiplied, at_last, in_order}
-use Rattle.sigma_lower.specs.TreeLoops.Placed.{AllLimited}
+use Rattle.sigma_lower.proofs.Words.{◌≡◌, ℕ, ◌*◌, ◌/◌, ◌≤◌, Bool, true, false, arith, refl, sym, ap, ◌∙◌, List, [], ◌∷◌}
+use Rattle.sigma_lower.proofs.Words.{◌++◌, if◌then◌else◌, subst, mul_comm, append-nil, ◌==◌, map, Option, None, Some}
+use Rattle.sigma_lower.proofs.Words.{Mapping, Target, none-some, same_Some, PlainDiagonal, PlainPass, multiplied}
+use Rattle.sigma_lower.proofs.Words.{at_last, in_order, AllLimited, right_path, left_path, vectors_grouped, PlainWork}
+use Rattle.sigma_lower.proofs.Words.{tile, work_size, Layout, work, by, layout_size, IsGoodLayout, Columns, Path}
+use Rattle.sigma_lower.proofs.Words.{size_under, Rule, Gt, Ct, Split, Dim, CanShareLayout, RuleHasParts, is_alone}
 use Rattle.sigma_spl.proofs.Several.{several-append}
 use Rattle.sigma_lower.proofs.TreeLoops.GoodPlaces.{HaveGoodPlaces}
 use Rattle.sigma_lower.proofs.TreeLoops.LeftPlaces.{size_under-append, mapped-some, left_fills, left_wide, left_limited}
 use Rattle.sigma_lower.proofs.TreeLoops.PartRules.{IsSize}
-use Rattle.sigma_lower.proofs.TreeLoops.PlaceLimits.{Gathering, gathering-natural, ArePlaced}
-use Rattle.sigma_lower.proofs.TreeLoops.PlaceLimits.{placed-multiplied, all_limited, whole_placed}
+use Rattle.sigma_lower.proofs.TreeLoops.PlaceLimits.{Gathering, gathering-natural, ArePlaced, placed-multiplied}
+use Rattle.sigma_lower.proofs.TreeLoops.PlaceLimits.{all_limited, whole_placed}
 use Rattle.sigma_lower.proofs.TreeLoops.RightPlaces.{right_fills, right_wide, gathering-turned, right_placed}
-use Rattle.sigma_lower.proofs.TreeLoops.RootPasses.{turned_waiting, tile_before, tile_after, if_lanes}
-use Rattle.sigma_lower.proofs.TreeLoops.RootPasses.{left_diagonal, left_pass, right_passes, root_passes}
-use Rattle.sigma_lower.proofs.TreeLoops.RootShares.{AreShares, shares_of}
-use Rattle.sigma_lower.proofs.TreeLoops.RootShares.{rows_size}
+use Rattle.sigma_lower.proofs.TreeLoops.RootPasses.{turned_waiting, tile_before, tile_after, if_lanes, left_diagonal}
+use Rattle.sigma_lower.proofs.TreeLoops.RootPasses.{left_pass, right_passes, root_passes}
+use Rattle.sigma_lower.proofs.TreeLoops.RootShares.{AreShares, shares_of, rows_size}
 use Rattle.sigma_lower.proofs.TreeLoops.PassLists.{all-append, all-last}
-use Rattle.sigma_lower.proofs.TreeLoops.Shaped.{IsShaped, AreShaped, HasWorks}
-use Rattle.sigma_lower.proofs.TreeLoops.Shaped.{multiplied-shaped, shaped_passes}
+use Rattle.sigma_lower.proofs.TreeLoops.Shaped.{IsShaped, AreShaped, HasWorks, multiplied-shaped, shaped_passes}
 use Rattle.sigma_lower.proofs.TreeLoops.TilePlaces.{tile_fills, tile_wide, KeepWithin, none_keep, grouped_keep}
 use Rattle.sigma_lower.proofs.TreeLoops.TilePlaces.{tile_with, tile_limited}
 use Rattle.sigma_lower.proofs.TreeLoops.TreePasses.{layout_passes, at_last-append}
-use Rattle.sigma_lower.specs.TreeTerms.Root.{right_path, left_path}
-use Rattle.sigma_lower.specs.TreeTerms.Root.{vectors_grouped}
-use Rattle.sigma_spl.specs.Work.{PlainWork, tile, work_size}
-use Rattle.smp_rewrite.specs.LayoutSteps.Layout.{Layout, work, by, layout_size, IsGoodLayout}
-use Rattle.operators.specs.declared.tensor_paths.Tensor.TheVariants.{Columns}
-use Rattle.operators.specs.TensorPaths.Path.{Path, size_under}
-use Rattle.tree_model.specs.declared.tree.Rule.{Rule}
-use Rattle.tree_model.specs.declared.tree.Rule.TheVariants.{Gt, Ct, Split, Dim}
 use Rattle.sigma_lower.proofs.TreeTerms.RootTerms.{rule-fits}
-use Rattle.smp_rewrite.specs.Fits.{CanShareLayout, RuleHasParts}
-use Rattle.sigma_spl.specs.Shared.Targets.{is_alone}
 
 -- ---- lists of passes
 

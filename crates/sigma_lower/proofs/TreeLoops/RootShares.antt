@@ -1,13 +1,10 @@
 -- The numbers of a root of r * s that p processors and v lanes share.
-use Rattle.std.proofs.Common.{◌≡◌, ℕ, ◌*◌, ◌/◌, ◌<◌, ◌≤◌, arith, sym, ap, ◌∙◌, mul_comm, le-mul_of_pos_right}
-use Rattle.std.proofs.Math.Nat.{mul-div_cancel_left, mul-le-mul_left, mul-le-mul_right}
-use Rattle.operators.specs.declared.target.Target.{Target}
-use Rattle.smp_rewrite.specs.Fits.{CanShareLayout, HasParts}
-use Rattle.smp_rewrite.specs.LayoutSteps.Layout.{Layout}
-use Rattle.perm_algebra.proofs.Sizes.{positive-product}
+use Rattle.sigma_lower.proofs.Words.{◌≡◌, ℕ, ◌*◌, ◌/◌, ◌<◌, ◌≤◌, arith, sym, ap, ◌∙◌, mul_comm, le-mul_of_pos_right}
+use Rattle.sigma_lower.proofs.Words.{mul-le-mul_right, Target, CanShareLayout, HasParts, Layout, positive-product}
+use Rattle.sigma_lower.proofs.Words.{right_positive}
+use Rattle.std.proofs.Math.Nat.{mul-div_cancel_left, mul-le-mul_left}
 use Rattle.sigma_lower.proofs.TreeLoops.PartRules.{IsSize}
 use Rattle.sigma_lower.proofs.TreeLoops.RootDealt.{dealt_parts}
-use Rattle.sigma_spl.proofs.Keeps.{right_positive}
 
 -- each processor and each lane has as many rows, and as many columns
 pub record AreShares (size p v r s : ℕ) : Type 0 where

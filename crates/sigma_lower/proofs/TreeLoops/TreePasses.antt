@@ -1,19 +1,11 @@
 -- The passes of a layout, by recursion on it, and that they are those of the cost model.
-use Rattle.std.proofs.Common.{◌≡◌, ℕ, ◌*◌, Bool, true, false, List, [], ◌∷◌, ◌++◌, refl, ap, ap₂, ◌∙◌}
-use Rattle.std.specs.Prelude.{map}
-use Rattle.std.proofs.lemmas.List.{map-append}
-use Rattle.index_fn.specs.Mapping.{Mapping, Strided, ThomasIn, ThomasBack}
-use Rattle.sigma_lower.specs.TreeLoops.Merge.{PlainPass, new_pass, scattered, multiplied, at_last}
-use Rattle.sigma_lower.specs.TreeLoops.Laws.{has_diagonal, counted_as, counted, with_twiddles, twiddle_last, twiddle_by}
-use Rattle.sigma_lower.specs.TreeLoops.Laws.{passes_of}
-use Rattle.sigma_spl.specs.Work.{PlainWork, kernel, rows, horner, tile, copy}
-use Rattle.smp_rewrite.specs.LayoutSteps.Layout.{Layout, work, by, layout_size, IsGoodLayout, IsGoodWork}
-use Rattle.sigma_lower.specs.TreeTerms.Wrapped.{wrapped, unit_of}
-use Rattle.operators.specs.declared.tensor_paths.Tensor.TheVariants.{Blocks, Columns}
-use Rattle.operators.specs.TensorPaths.Path.{Path, copies_of}
+use Rattle.sigma_lower.proofs.Words.{◌≡◌, ℕ, ◌*◌, Bool, true, false, List, [], ◌∷◌, ◌++◌, refl, ap, ap₂, ◌∙◌, map}
+use Rattle.sigma_lower.proofs.Words.{map-append, Mapping, Strided, ThomasIn, ThomasBack, PlainPass, new_pass, scattered}
+use Rattle.sigma_lower.proofs.Words.{multiplied, at_last, has_diagonal, counted_as, counted, with_twiddles}
+use Rattle.sigma_lower.proofs.Words.{twiddle_last, twiddle_by, passes_of, PlainWork, kernel, rows, horner, tile, copy}
+use Rattle.sigma_lower.proofs.Words.{Layout, work, by, layout_size, IsGoodLayout, IsGoodWork, wrapped, unit_of, Blocks}
+use Rattle.sigma_lower.proofs.Words.{Columns, Path, copies_of, Rule, Gt, Ct, Split, Dim}
 use Rattle.operators.proofs.TensorPaths.Under.{copies_of-push}
-use Rattle.tree_model.specs.declared.tree.Rule.{Rule}
-use Rattle.tree_model.specs.declared.tree.Rule.TheVariants.{Gt, Ct, Split, Dim}
 
 -- the gathers that wait when a rule's right part begins
 abbrev pub rule_waiting : Rule → Path → ℕ → ℕ → List Mapping → List Mapping

@@ -1,15 +1,10 @@
 -- The places of all passes of a layout.
-use Rattle.std.proofs.Common.{◌≡◌, Bool, true, false, refl, sym, subst}
-use Rattle.sigma_lower.specs.TreeLoops.Merge.{in_order, merged_of}
+use Rattle.sigma_lower.proofs.Words.{◌≡◌, Bool, true, false, refl, sym, subst, in_order, merged_of, PlainWork, tile}
+use Rattle.sigma_lower.proofs.Words.{CanShareLayout, Layout, IsGoodLayout, is_alone, Target}
 use Rattle.sigma_lower.proofs.TreeLoops.GoodPlaces.{HaveGoodPlaces, plain_good}
 use Rattle.sigma_lower.proofs.TreeLoops.RootMerging.{root_merged}
 use Rattle.sigma_lower.proofs.TreeLoops.RootPlaces.{root_good}
 use Rattle.sigma_lower.proofs.TreeLoops.Shaped.{HasWorks, IsShapedWork, shaped_works}
-use Rattle.sigma_spl.specs.Work.{PlainWork, tile}
-use Rattle.smp_rewrite.specs.Fits.{CanShareLayout}
-use Rattle.smp_rewrite.specs.LayoutSteps.Layout.{Layout, IsGoodLayout}
-use Rattle.sigma_spl.specs.Shared.Targets.{is_alone}
-use Rattle.operators.specs.declared.target.Target.{Target}
 
 good_either : (c : Target) (P : PlainWork → Type 0) (l : Layout) → CanShareLayout c l → IsGoodLayout c.modulus l →
     HasWorks P l → P (tile c.lanes) → (b : Bool) → is_alone c ≡ b →

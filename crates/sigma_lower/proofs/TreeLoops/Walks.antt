@@ -1,22 +1,13 @@
 -- Laws of the terms of a layout. A law says between which points terms may stand. It holds of a layout's terms if it
 -- holds of those of each step, and of the right part of a root if it holds of the pieces of that.
-use Rattle.std.proofs.Common.{◌≡◌, ℕ, ◌*◌, sym, subst, ◌∙◌, List, [], ◌∷◌, ◌++◌, append_assoc, append-nil}
-use Rattle.std.specs.Prelude.{map}
-use Rattle.sigma_lower.specs.TreeLoops.Merge.{Merging, merged}
-use Rattle.sigma_lower.specs.TreeTerms.Root.{right_path, right_terms, tiled_after, tiled_before, turned_in}
-use Rattle.sigma_lower.specs.TreeTerms.Term.{PlainTerm, diag, lowered}
+use Rattle.sigma_lower.proofs.Words.{◌≡◌, ℕ, ◌*◌, sym, subst, ◌∙◌, List, [], ◌∷◌, ◌++◌, append_assoc, append-nil, map}
+use Rattle.sigma_lower.proofs.Words.{Merging, merged, right_path, right_terms, tiled_after, tiled_before, turned_in}
+use Rattle.sigma_lower.proofs.Words.{PlainTerm, diag, lowered, PlainWork, work_size, Layout, work, by, layout_size}
+use Rattle.sigma_lower.proofs.Words.{IsGoodLayout, IsGoodWork, PlainStep, piece, step, turns, twiddles, thomas_in}
+use Rattle.sigma_lower.proofs.Words.{thomas_out, rule_steps, steps_of, Tensor, Blocks, Columns, Path, size_under}
+use Rattle.sigma_lower.proofs.Words.{size_under-push, Rule, Gt, Ct, Split, Dim}
 use Rattle.sigma_lower.proofs.TreeLoops.Emitted.{Emission, emitted, emitted-append, merged-append}
 use Rattle.sigma_lower.proofs.TreeTerms.RootTerms.{IsShared}
-use Rattle.sigma_spl.specs.Work.{PlainWork, work_size}
-use Rattle.smp_rewrite.specs.LayoutSteps.Layout.{Layout, work, by, layout_size, IsGoodLayout, IsGoodWork}
-use Rattle.smp_rewrite.specs.LayoutSteps.Step.{PlainStep, piece, step, turns, twiddles, thomas_in, thomas_out}
-use Rattle.smp_rewrite.specs.LayoutSteps.Step.{rule_steps, steps_of}
-use Rattle.operators.specs.declared.tensor_paths.Tensor.{Tensor}
-use Rattle.operators.specs.declared.tensor_paths.Tensor.TheVariants.{Blocks, Columns}
-use Rattle.operators.specs.TensorPaths.Path.{Path, size_under}
-use Rattle.operators.proofs.TensorPaths.Under.{size_under-push}
-use Rattle.tree_model.specs.declared.tree.Rule.{Rule}
-use Rattle.tree_model.specs.declared.tree.Rule.TheVariants.{Gt, Ct, Split, Dim}
 
 -- there is nothing yet; gathers may wait; a transform was the last; it, or tiles, can take a root's diagonal; none waits
 pub data Point : Type 0 where

@@ -1,25 +1,16 @@
 -- The passes of an inverse in the cost model are those of the forward request, with products more in the last.
-use Rattle.std.proofs.Common.{◌≡◌, ℕ, ◌+◌, ◌*◌, true, false, List, [], ◌∷◌, Option, None, Some, refl, sym, ap, ◌∙◌}
-use Rattle.std.proofs.Common.{arith, subst}
-use Rattle.std.specs.Prelude.{map}
+use Rattle.sigma_lower.proofs.Words.{◌≡◌, ℕ, ◌+◌, ◌*◌, true, false, List, [], ◌∷◌, Option, None, Some, refl, sym, ap}
+use Rattle.sigma_lower.proofs.Words.{◌∙◌, arith, subst, map, One, Kind, Dft, Wht, Idft, Request, forward_by, forward_of}
+use Rattle.sigma_lower.proofs.Words.{IsValid, on_last, Gt, Ct, Split, Dim, Breakdown, leaf, node, IsWholeTree}
+use Rattle.sigma_lower.proofs.Words.{request_passes}
 use Rattle.std.proofs.lemmas.Simd.{map-map}
-use Rattle.matrix_meaning.specs.declared.Dimensions.TheVariants.{One}
-use Rattle.matrix_meaning.specs.declared.Kind.{Kind}
-use Rattle.matrix_meaning.specs.declared.Kind.TheVariants.{Dft, Wht, Idft}
-use Rattle.matrix_meaning.specs.declared.Request.{Request}
-use Rattle.matrix_meaning.specs.Parts.{forward_by, forward_of, inverted}
-use Rattle.matrix_meaning.specs.Valid.{IsValid}
+use Rattle.matrix_meaning.specs.Parts.{inverted}
 use Rattle.matrix_meaning.proofs.Parts.{is_of_one_size}
-use Rattle.sigma_spl.specs.Lists.{on_last}
 use Rattle.smp_rewrite.specs.LayoutSteps.Whole.{factor_by}
-use Rattle.tree_model.specs.declared.tree.Rule.TheVariants.{Gt, Ct, Split, Dim}
-use Rattle.tree_model.specs.Breakdown.{Breakdown, leaf, node}
-use Rattle.tree_model.specs.Chosen.{IsWholeTree}
 use Rattle.tree_model.specs.Cost.{mul_cost_of}
 use Rattle.tree_model.specs.Passes.{Pass, nodes, tiles, pass_loads, twiddle_last, whole_passes, with_twiddles}
 use Rattle.tree_model.specs.Whole.{IsTreeOf}
 use Rattle.tree_model.specs.WholePasses.{closed_by, cost_of_pass, flat_passes, loads_of_pass, pass_cost_in, pass_of}
-use Rattle.tree_model.specs.WholePasses.{request_passes}
 use Rattle.tree_model.proofs.PassLaws.{IsPlainAtEnd, IsPlainPass}
 use Rattle.tree_model.proofs.WholeCosts.{whole_plain}
 use Rattle.tree_model.proofs.WholeTraffic.{IsFlat}

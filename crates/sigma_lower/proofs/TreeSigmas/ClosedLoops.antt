@@ -1,22 +1,19 @@
 -- The closing diagonal of a term is taken into its last loop, each item of which then takes the first entry.
-use Rattle.std.proofs.Common.{◌≡◌, ℕ, zero, suc, ◌+◌, ◌*◌, ◌<◌, ◌≤◌, Bool, true, false, List, [], ◌∷◌, ◌++◌, length}
-use Rattle.std.proofs.Common.{refl, sym, ap, ◌∙◌, arith, subst, Some, None, if◌then◌else◌}
-use Rattle.std.specs.Prelude.{map, not, reverse, slice_index, slice_index_or, ◌==◌, ◌&&◌}
-use Rattle.std.proofs.lemmas.List.{length-map, reverse-append, reverse-reverse}
-use Rattle.operators.specs.declared.target.Target.{Target}
-use Rattle.operators.specs.declared.tensor_paths.Tensor.TheVariants.{Blocks}
-use Rattle.perm_algebra.specs.Affine.{Sum, constant, value}
+use Rattle.sigma_lower.proofs.Words.{◌≡◌, ℕ, zero, suc, ◌+◌, ◌*◌, ◌<◌, ◌≤◌, Bool, true, false, List, [], ◌∷◌, ◌++◌}
+use Rattle.sigma_lower.proofs.Words.{length, refl, sym, ap, ◌∙◌, arith, subst, Some, None, if◌then◌else◌, map, not}
+use Rattle.sigma_lower.proofs.Words.{reverse, slice_index, ◌==◌, ◌&&◌, length-map, reverse-append, reverse-reverse}
+use Rattle.sigma_lower.proofs.Words.{Target, Blocks, Sum, constant, value, on_last, PlainLoop, PlainTaken, limits_in}
+use Rattle.sigma_lower.proofs.Words.{nest_of, one_nest, scaled_last, AreLimitedLoops, HasLoop, IsLimitedLoop, is_tile}
+use Rattle.sigma_lower.proofs.Words.{items_out, most, PlainMultiplier, PlainNest, factor_at, factor_count, store_place}
+use Rattle.sigma_lower.proofs.Words.{item_of, lane_step, values_of, IsReadyLoop, PlainWork, kernel, rows, horner, tile}
+use Rattle.sigma_lower.proofs.Words.{copy, work_size}
+use Rattle.std.proofs.Common.{slice_index_or}
 use Rattle.sigma_spl.specs.Good.{AreSound, NamesItems, named}
-use Rattle.sigma_spl.specs.Lists.{on_last}
-use Rattle.sigma_spl.specs.Loops.{PlainLoop, PlainTaken, limits_in, nest_of, one_nest, places_by, scaled_last}
-use Rattle.sigma_spl.specs.Loops.{AreCarried, AreLimitedLoops, CanScale, HasLoop, IsLimitedLoop}
-use Rattle.sigma_spl.specs.Merge.{is_tile, items_out, most, place_sum, suits}
-use Rattle.sigma_spl.specs.Nest.{PlainMultiplier, PlainNest, factor_at, factor_count, repeated, store_place, sum_value}
-use Rattle.sigma_spl.specs.Shared.Machine.{item_of, lane_step, values_of}
+use Rattle.sigma_spl.specs.Loops.{places_by, AreCarried, CanScale}
+use Rattle.sigma_spl.specs.Merge.{place_sum, suits}
+use Rattle.sigma_spl.specs.Nest.{repeated, sum_value}
 use Rattle.sigma_spl.specs.Shared.Ready.{IsReadyMultiplier, IsReadyNest, LoadsAlike}
 use Rattle.sigma_spl.specs.Shared.Running.{CanRunNest}
-use Rattle.sigma_spl.specs.Trees.{IsReadyLoop}
-use Rattle.sigma_spl.specs.Work.{PlainWork, kernel, rows, horner, tile, copy, work_size}
 use Rattle.sigma_lower.proofs.TreeSigmas.ClosedPlaces.{AllAlone, all-carried, all-first, closing_path, closing_place}
 use Rattle.sigma_lower.proofs.TreeSigmas.Lasts.{last-append}
 

@@ -1,31 +1,17 @@
 -- The phases of a whole: those of its layout, the last loop of which takes the closing diagonal.
-use Rattle.std.proofs.Common.{◌≡◌, ℕ, List, [], ◌∷◌, ◌++◌, length, refl, sym, ap, ap₂, ◌∙◌, arith, subst}
-use Rattle.std.proofs.Common.{Option, None, Some}
-use Rattle.std.specs.Prelude.{All, map, reverse}
-use Rattle.std.specs.Option.{option_map}
-use Rattle.std.proofs.lemmas.List.{reverse-append, reverse-reverse}
-use Rattle.std.proofs.lemmas.List.Elements.{All-nil, All-cons}
-use Rattle.operators.specs.declared.target.Target.{Target}
-use Rattle.perm_algebra.specs.Affine.{Sum}
-use Rattle.sigma_spl.specs.Lists.{LastIs, on_last}
-use Rattle.sigma_spl.specs.Loops.{PlainLoop, limits_in, loops_in, scaled_last, AreLimitedLoops, HasLoop, IsLimitedLoop}
-use Rattle.sigma_spl.specs.Loops.{IsOrdered}
-use Rattle.sigma_spl.specs.Merge.{all_simplified, items_out, most, place_sum}
+use Rattle.sigma_lower.proofs.Words.{◌≡◌, ℕ, List, [], ◌∷◌, ◌++◌, length, refl, sym, ap, ap₂, ◌∙◌, arith, subst, Option}
+use Rattle.sigma_lower.proofs.Words.{None, Some, All, map, reverse, option_map, reverse-append, reverse-reverse}
+use Rattle.sigma_lower.proofs.Words.{All-nil, All-cons, Target, Sum, LastIs, on_last, PlainLoop, limits_in, loops_in}
+use Rattle.sigma_lower.proofs.Words.{scaled_last, AreLimitedLoops, HasLoop, IsLimitedLoop, IsOrdered, items_out, most}
+use Rattle.sigma_lower.proofs.Words.{work_size, CanShareLayout, Layout, IsGoodLayout, IsMachine, AllHaveLoops}
+use Rattle.sigma_lower.proofs.Words.{close_last, closed_phases, AllOrdered, phase_term, PlainPass, passes_of_terms}
+use Rattle.sigma_lower.proofs.Words.{loop_of, taken_of, AllLimited, AreCounts, Fits, IsLimitedPass, PlainTerm}
+use Rattle.sigma_spl.specs.Merge.{all_simplified, place_sum}
 use Rattle.sigma_spl.specs.Nest.{repeated}
 use Rattle.sigma_spl.specs.Term as terms
-use Rattle.sigma_spl.specs.Work.{work_size}
-use Rattle.smp_rewrite.specs.Fits.{CanShareLayout}
-use Rattle.smp_rewrite.specs.LayoutSteps.Layout.{Layout, IsGoodLayout}
-use Rattle.sigma_lower.specs.Machine.{IsMachine}
-use Rattle.sigma_lower.specs.Merged.{AllHaveLoops, close_last, closed_phases, closing_term}
-use Rattle.sigma_lower.specs.Order.{AllOrdered}
-use Rattle.sigma_lower.specs.Shared.{phase_term}
+use Rattle.sigma_lower.specs.Merged.{closing_term}
 use Rattle.sigma_lower.specs.TreeLoops.Limits.{AreLimitedPhases}
-use Rattle.sigma_lower.specs.TreeLoops.Merge.{PlainPass, passes_of_terms}
 use Rattle.sigma_lower.specs.TreeLoops.Merge as passes
-use Rattle.sigma_lower.specs.TreeLoops.Nests.{loop_of, taken_of}
-use Rattle.sigma_lower.specs.TreeLoops.Placed.{AllLimited, AreCounts, Fits, IsLimitedPass}
-use Rattle.sigma_lower.specs.TreeTerms.Term.{PlainTerm}
 use Rattle.sigma_lower.proofs.TreeLoops.LoopItems.{AllName, names-of, pass-counts}
 use Rattle.sigma_lower.proofs.TreeLoops.LoopLimits.{tree_loops}
 use Rattle.sigma_lower.proofs.TreeLoops.LoopNests.{loops_listed}

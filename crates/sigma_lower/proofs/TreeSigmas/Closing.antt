@@ -1,21 +1,12 @@
 -- Loops of which the last one takes the closing diagonal: who owns their lines, what they count, and that they are ready.
-use Rattle.std.proofs.Common.{◌≡◌, ℕ, ◌+◌, ◌*◌, ◌<◌, List, [], ◌∷◌, refl, sym, ap, ◌∙◌, arith, subst, Option, None}
-use Rattle.std.proofs.Common.{Some}
-use Rattle.std.specs.Prelude.{All, length, map}
-use Rattle.std.proofs.lemmas.List.Elements.{All-head, All-tail}
-use Rattle.operators.specs.declared.target.Target.{Target}
-use Rattle.operators.specs.TensorPaths.Path.{count_of}
-use Rattle.sigma_spl.specs.Counts.{copies_in, multiplier_cost}
-use Rattle.sigma_spl.specs.Lists.{LastIs, on_last}
-use Rattle.sigma_spl.specs.Loops.{PlainLoop, PlainTaken, multiplier_of, nest_of, one_nest}
-use Rattle.sigma_spl.specs.Nest.{PlainNest, load_place, store_place}
-use Rattle.sigma_spl.specs.Shared.Costs.{pass_cost, pass_loads, work_cost}
-use Rattle.sigma_spl.specs.Shared.Owners.{AllOwn, AllShared, ArePhasesShared, FirstOwns}
+use Rattle.sigma_lower.proofs.Words.{◌≡◌, ℕ, ◌+◌, ◌*◌, ◌<◌, List, [], ◌∷◌, refl, sym, ap, ◌∙◌, arith, subst, Option}
+use Rattle.sigma_lower.proofs.Words.{None, Some, All, length, map, All-head, All-tail, Target, count_of, copies_in}
+use Rattle.sigma_lower.proofs.Words.{multiplier_cost, LastIs, on_last, PlainLoop, PlainTaken, multiplier_of, nest_of}
+use Rattle.sigma_lower.proofs.Words.{one_nest, PlainNest, load_place, store_place, pass_cost, pass_loads, work_cost}
+use Rattle.sigma_lower.proofs.Words.{ArePhasesShared, IsReadyLoop, work_size, in_order}
+use Rattle.sigma_spl.specs.Shared.Owners.{AllOwn, AllShared, FirstOwns}
 use Rattle.sigma_spl.specs.Shared.Running.{IsCopyOf, IsLoadedBy, IsStoredBy}
-use Rattle.sigma_spl.specs.Trees.{IsReadyLoop}
-use Rattle.sigma_spl.specs.Work.{work_size}
 use Rattle.smp_rewrite.specs.LayoutSteps.Whole.{IsGoodFactor}
-use Rattle.sigma_lower.specs.TreeLoops.Merge.{in_order}
 use Rattle.sigma_lower.proofs.TreeSigmas.Bounds.{IsBounded}
 use Rattle.sigma_lower.proofs.TreeSigmas.ClosedCounts.{more_by, more_last}
 use Rattle.sigma_lower.proofs.TreeSigmas.ClosedLoops.{TakesClosing, closed_loop, ready-closed}

@@ -1,17 +1,11 @@
 -- The last pass of a layout has no diagonal, and its work is no tile.
-use Rattle.std.proofs.Common.{◌≡◌, ℕ, ◌*◌, Bool, true, false, List, [], ◌∷◌, ◌++◌, map, refl, sym, subst, Option, Some}
-use Rattle.std.proofs.Common.{None, if◌then◌else◌, nat_le}
-use Rattle.sigma_lower.specs.TreeLoops.Laws.{Counted, works, tiles, counted, counted_as, has_diagonal, passes_of}
-use Rattle.sigma_lower.specs.TreeLoops.Laws.{tiled_passes, twiddle_by, whole_passes}
-use Rattle.sigma_lower.specs.TreeLoops.Merge.{PlainDiagonal, PlainPass, merged_of}
+use Rattle.sigma_lower.proofs.Words.{◌≡◌, ℕ, ◌*◌, Bool, true, false, List, [], ◌∷◌, ◌++◌, map, refl, sym, subst, Option}
+use Rattle.sigma_lower.proofs.Words.{Some, None, if◌then◌else◌, nat_le, Counted, works, tiles, counted, counted_as}
+use Rattle.sigma_lower.proofs.Words.{has_diagonal, passes_of, tiled_passes, twiddle_by, whole_passes, PlainDiagonal}
+use Rattle.sigma_lower.proofs.Words.{PlainPass, merged_of, LastIs, is_tile, PlainWork, kernel, rows, horner, tile, copy}
+use Rattle.sigma_lower.proofs.Words.{CanShareLayout, Layout, work, by, layout_size, IsGoodLayout, Target, Gt, Ct, Split}
+use Rattle.sigma_lower.proofs.Words.{Dim}
 use Rattle.sigma_lower.proofs.TreeLoops.Counts.{merge_counts}
-use Rattle.sigma_spl.specs.Lists.{LastIs}
-use Rattle.sigma_spl.specs.Merge.{is_tile}
-use Rattle.sigma_spl.specs.Work.{PlainWork, kernel, rows, horner, tile, copy}
-use Rattle.smp_rewrite.specs.Fits.{CanShareLayout}
-use Rattle.smp_rewrite.specs.LayoutSteps.Layout.{Layout, work, by, layout_size, IsGoodLayout}
-use Rattle.operators.specs.declared.target.Target.{Target}
-use Rattle.tree_model.specs.declared.tree.Rule.TheVariants.{Gt, Ct, Split, Dim}
 
 -- a pass that can take a diagonal of one entry
 pub record IsEnding (p : PlainPass) : Type 0 where

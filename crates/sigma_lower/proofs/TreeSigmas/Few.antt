@@ -1,17 +1,11 @@
 -- A layout has at least one pass, and few.
-use Rattle.std.proofs.Common.{◌≡◌, ℕ, ◌+◌, ◌*◌, ◌^◌, ◌≤◌, Bool, true, false, List, [], ◌∷◌, ◌++◌, length, map, suc}
-use Rattle.std.proofs.Common.{refl, sym, ap, ap₂, ◌∙◌, inl, inr, arith, subst, nat_le, length-append}
-use Rattle.std.proofs.lemmas.Bool.{cases_lt}
-use Rattle.std.proofs.lemmas.List.{length-map}
-use Rattle.std.proofs.lemmas.Nat.{mul-le, pow-add}
-use Rattle.std.proofs.Math.Pow.{pow_mono}
-use Rattle.sigma_spl.proofs.Walk.{chosen}
-use Rattle.sigma_lower.specs.TreeLoops.Laws.{Counted, tiles, counted, passes_of, tiled_passes, twiddle_by, twiddle_last}
-use Rattle.sigma_lower.specs.TreeLoops.Laws.{whole_passes}
-use Rattle.sigma_lower.specs.TreeLoops.Merge.{PlainPass}
-use Rattle.smp_rewrite.specs.LayoutSteps.Layout.{Layout, work, by, layout_size, IsGoodLayout}
-use Rattle.tree_model.specs.declared.tree.Rule.{Rule}
-use Rattle.tree_model.specs.declared.tree.Rule.TheVariants.{Gt, Ct, Split, Dim}
+use Rattle.sigma_lower.proofs.Words.{◌≡◌, ℕ, ◌+◌, ◌*◌, ◌^◌, ◌≤◌, Bool, true, false, List, [], ◌∷◌, ◌++◌, length, map}
+use Rattle.sigma_lower.proofs.Words.{suc, refl, sym, ap, ap₂, ◌∙◌, inl, inr, arith, subst, nat_le, cases_lt, length-map}
+use Rattle.sigma_lower.proofs.Words.{mul-le, pow_mono, chosen, Counted, tiles, counted, passes_of, tiled_passes}
+use Rattle.sigma_lower.proofs.Words.{twiddle_by, twiddle_last, whole_passes, PlainPass, Layout, work, by, layout_size}
+use Rattle.sigma_lower.proofs.Words.{IsGoodLayout, Rule, Gt, Ct, Split, Dim}
+use Rattle.std.proofs.Common.{length-append}
+use Rattle.std.proofs.lemmas.Nat.{pow-add}
 
 -- ---- how many passes a layout has
 

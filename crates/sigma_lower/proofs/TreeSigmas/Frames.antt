@@ -1,20 +1,12 @@
 -- The nest of a pass that processors and lanes share: its counts, its variables, and what they name.
-use Rattle.std.proofs.Common.{◌≡◌, ℕ, ◌<◌, Bool, true, false, List, [], ◌∷◌, ◌++◌, map, refl, sym, ap, ◌∙◌, arith}
-use Rattle.std.proofs.Common.{subst}
-use Rattle.std.specs.Prelude.{◌==◌, if◌then◌else◌}
-use Rattle.sigma_lower.specs.TreeLoops.Merge.{PlainPass}
-use Rattle.sigma_lower.specs.TreeLoops.Nests.{loop_of}
-use Rattle.operators.specs.declared.target.Target.{Target}
-use Rattle.operators.proofs.Lists.{place_below}
-use Rattle.sigma_spl.specs.Shared.Machine.{framed_lanes, if_several, item_of, values_of}
+use Rattle.sigma_lower.proofs.Words.{◌≡◌, ℕ, ◌<◌, Bool, true, false, List, [], ◌∷◌, ◌++◌, map, refl, sym, ap, ◌∙◌}
+use Rattle.sigma_lower.proofs.Words.{arith, subst, ◌==◌, if◌then◌else◌, PlainPass, loop_of, Target, place_below}
+use Rattle.sigma_lower.proofs.Words.{item_of, values_of, nest_of, PlainWork, kernel, rows, horner, tile, copy}
+use Rattle.sigma_lower.proofs.Words.{work_size, IsFramed, within, Tensor, Blocks, Columns, Path, count_of, AreInRange}
+use Rattle.sigma_spl.specs.Shared.Machine.{framed_lanes, if_several}
 use Rattle.sigma_spl.specs.Shared.Running as running
-use Rattle.sigma_spl.specs.Loops.{nest_of}
-use Rattle.sigma_spl.specs.Work.{PlainWork, kernel, rows, horner, tile, copy, vectors_of, work_size}
-use Rattle.sigma_lower.specs.TreeLoops.SharedPasses.Shared.{framed, HasLanes, IsFramed}
-use Rattle.smp_rewrite.specs.Smp.{within}
-use Rattle.operators.specs.declared.tensor_paths.Tensor.{Tensor}
-use Rattle.operators.specs.declared.tensor_paths.Tensor.TheVariants.{Blocks, Columns}
-use Rattle.operators.specs.TensorPaths.Path.{Path, count_of, AreInRange}
+use Rattle.sigma_spl.specs.Work.{vectors_of}
+use Rattle.sigma_lower.specs.TreeLoops.SharedPasses.Shared.{framed, HasLanes}
 
 -- ---- counts
 

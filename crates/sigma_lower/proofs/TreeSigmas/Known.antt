@@ -1,36 +1,25 @@
 -- What is known of each pass of a layout.
-use Rattle.std.proofs.Common.{List, [], ◌∷◌, ◌++◌, map, sym, arith, subst, ◌≡◌, ◌<◌}
-use Rattle.std.specs.Prelude.{reverse}
-use Rattle.std.proofs.lemmas.List.{map-append, reverse-append, reverse-reverse}
-use Rattle.sigma_lower.specs.Merged.{AllHaveLoops}
-use Rattle.sigma_lower.specs.Order.{AllOrdered}
-use Rattle.sigma_lower.specs.Shared.{phase_term}
+use Rattle.sigma_lower.proofs.Words.{List, [], ◌∷◌, ◌++◌, map, sym, arith, subst, ◌≡◌, ◌<◌, reverse, map-append}
+use Rattle.sigma_lower.proofs.Words.{reverse-append, reverse-reverse, AllHaveLoops, AllOrdered, phase_term, PlainPass}
+use Rattle.sigma_lower.proofs.Words.{passes_of_terms, in_order, merged_of, loop_of, AllLimited, IsLimitedPass}
+use Rattle.sigma_lower.proofs.Words.{IsSmallWork, PlainLoop, AreLimitedLoops, IsLimitedLoop, loops_in, one_nest}
+use Rattle.sigma_lower.proofs.Words.{IsOrdered, most, AllFramed, IsFramed, PlainTerm, lowered_of, Layout, Target}
+use Rattle.sigma_lower.proofs.Words.{IsMachine, merge_keeps}
 use Rattle.sigma_lower.proofs.HaveLoops.{phases_have_loops}
 use Rattle.sigma_lower.proofs.Ordered.{trees_ordered}
 use Rattle.sigma_lower.proofs.SharedTrees.{AllEmbed, trees_embed}
-use Rattle.sigma_lower.specs.TreeLoops.Merge.{PlainPass, passes_of_terms, in_order, merged_of}
-use Rattle.sigma_lower.specs.TreeLoops.Nests.{loop_of}
-use Rattle.sigma_lower.specs.TreeLoops.Placed.{AllLimited, IsLimitedPass}
 use Rattle.sigma_lower.proofs.TreeLoops.PassLists.{AllPasses}
 use Rattle.sigma_lower.proofs.TreeLoops.GoodPlaces.{HaveGoodPlaces}
 use Rattle.sigma_lower.proofs.TreeLoops.LoopLimits.{tree_loops}
 use Rattle.sigma_lower.proofs.TreeLoops.LoopNests.{loops_listed}
 use Rattle.sigma_lower.proofs.TreeLoops.Shaped.{AreShaped, IsShaped, IsShapedWork}
 use Rattle.sigma_lower.proofs.TreeLoops.TreePlaces.{good_places, tree_good_places}
-use Rattle.sigma_spl.specs.Shared.Ready.{IsSmallWork}
 use Rattle.sigma_spl.specs.Good.{AreGoodPasses, IsGoodPass}
-use Rattle.sigma_spl.specs.Loops.{PlainLoop, AreGoodLoops, AreLimitedLoops, IsGoodLoop, IsLimitedLoop, loops_in}
-use Rattle.sigma_spl.specs.Loops.{one_nest, IsOrdered}
-use Rattle.sigma_spl.specs.Merge.{most, unbounded, passes_within}
+use Rattle.sigma_spl.specs.Loops.{AreGoodLoops, IsGoodLoop}
+use Rattle.sigma_spl.specs.Merge.{unbounded, passes_within}
 use Rattle.sigma_spl.proofs.GoodLoops.{loops_are_good}
-use Rattle.sigma_lower.specs.TreeLoops.SharedPasses.Shared.{AllFramed, IsFramed}
 use Rattle.sigma_lower.proofs.TreeLoops.SharedPasses.Framed.{passes_are_framed}
-use Rattle.sigma_lower.specs.TreeTerms.Term.{PlainTerm, lowered_of}
-use Rattle.smp_rewrite.specs.LayoutSteps.Layout.{Layout}
-use Rattle.operators.specs.declared.target.Target.{Target}
 use Rattle.sigma_lower.proofs.TreeSigmas.Hosted.{IsHosted}
-use Rattle.sigma_lower.specs.Machine.{IsMachine}
-use Rattle.sigma_spl.proofs.Keeps.{merge_keeps}
 use Rattle.sigma_spl.proofs.Listed.{merge_listed}
 
 pub record IsKnown (c : Target) (p : PlainPass) : Type 0 where

@@ -1,10 +1,7 @@
 -- The last item of lists, exchanged; and lists one after another.
-use Rattle.std.proofs.Common.{◌≡◌, suc, ◌<◌, List, [], ◌∷◌, ◌++◌, length, refl, sym, ap, ◌∙◌, arith, subst, append-nil}
-use Rattle.std.specs.Prelude.{All, map}
-use Rattle.std.proofs.lemmas.List.{map-append}
-use Rattle.std.proofs.lemmas.List.Elements.{All-nil, All-cons, All-head, All-tail}
-use Rattle.sigma_spl.specs.Lists.{LastIs, on_last}
-use Rattle.sigma_lower.specs.TreeLoops.Merge.{in_order}
+use Rattle.sigma_lower.proofs.Words.{◌≡◌, suc, ◌<◌, List, [], ◌∷◌, ◌++◌, length, refl, sym, ap, ◌∙◌, arith, subst}
+use Rattle.sigma_lower.proofs.Words.{append-nil, All, map, map-append, All-nil, All-cons, All-head, All-tail, LastIs}
+use Rattle.sigma_lower.proofs.Words.{on_last, in_order}
 
 pub length-last : {A : Type 0} (f : A → A) (xs : List A) → length (on_last f xs) ≡ length xs
 length-last f (x ∷ y ∷ xs) = ap suc (length-last f (y ∷ xs))

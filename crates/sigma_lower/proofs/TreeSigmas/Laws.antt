@@ -1,40 +1,22 @@
 -- The terms of each tree that a valid request admits are a tree's.
-use Rattle.std.proofs.Common.{◌≡◌, ◌≢◌, ℕ, ◌*◌, ◌^◌, ◌<◌, ◌≤◌, ◌==◌, Bool, true, false, List, [], ◌∷◌, length, suc}
-use Rattle.std.proofs.Common.{refl, sym, ap, ◌∙◌, arith, subst, Option, None, Some, if◌then◌else◌}
-use Rattle.std.specs.Prelude.{All, map}
-use Rattle.std.proofs.lemmas.List.{length-map}
-use Rattle.std.proofs.lemmas.List.Elements.{All-nil, All-cons, All-weaker}
-use Rattle.matrix_meaning.specs.declared.Kind.{Kind}
-use Rattle.matrix_meaning.specs.declared.Kind.TheVariants.{Dft, Wht, Idft}
-use Rattle.matrix_meaning.specs.declared.Request.{Request}
-use Rattle.matrix_meaning.specs.Parts.{forward_of}
-use Rattle.matrix_meaning.specs.Valid.{IsValid}
-use Rattle.operators.specs.declared.target.Target.{Target}
-use Rattle.sigma_spl.specs.Lists.{LastIs}
-use Rattle.sigma_spl.specs.Loops.{AreLimitedLoops, IsOrdered, PlainLoop, loops_in, multiplier_of, nest_of, one_nest}
-use Rattle.sigma_spl.specs.Merge.{most}
-use Rattle.sigma_spl.specs.Nest.{PlainMultiplier, PlainNest}
-use Rattle.sigma_spl.specs.Shared.Costs.{pass_cost, pass_loads}
-use Rattle.sigma_spl.specs.Shared.Owners.{ArePhasesShared, all_passes, most_actions}
+use Rattle.sigma_lower.proofs.Words.{◌≡◌, ◌≢◌, ℕ, ◌*◌, ◌^◌, ◌<◌, ◌≤◌, ◌==◌, Bool, true, false, List, [], ◌∷◌, length}
+use Rattle.sigma_lower.proofs.Words.{suc, refl, sym, ap, ◌∙◌, arith, subst, Option, None, Some, if◌then◌else◌, All, map}
+use Rattle.sigma_lower.proofs.Words.{length-map, All-nil, All-cons, Kind, Dft, Wht, Idft, Request, forward_of, IsValid}
+use Rattle.sigma_lower.proofs.Words.{Target, LastIs, AreLimitedLoops, IsOrdered, PlainLoop, loops_in, multiplier_of}
+use Rattle.sigma_lower.proofs.Words.{nest_of, one_nest, most, PlainMultiplier, PlainNest, pass_cost, pass_loads}
+use Rattle.sigma_lower.proofs.Words.{ArePhasesShared, target_of, PlainSigma, IsReadyLoop, PlainWork, kernel, rows}
+use Rattle.sigma_lower.proofs.Words.{horner, tile, copy, smp_of, Layout, layout_of, layout_size, Breakdown, IsWholeTree}
+use Rattle.sigma_lower.proofs.Words.{vec_of, PlainFactor, CanLower, close_last, closed_phases, phase_term, PlainPass}
+use Rattle.sigma_lower.proofs.Words.{in_order, merged_of, merged_phases, loop_of, PlainTerm, factor_term, lowered_of}
+use Rattle.sigma_lower.proofs.Words.{terms_in}
+use Rattle.std.proofs.lemmas.List.Elements.{All-weaker}
+use Rattle.sigma_spl.specs.Shared.Owners.{all_passes, most_actions}
 use Rattle.sigma_spl.specs.Shared.Ready.{diagonal_tables, passes_tables, work_tables}
-use Rattle.sigma_spl.specs.Shared.Targets.{target_of}
-use Rattle.sigma_spl.specs.Sigma.{PlainSigma}
 use Rattle.sigma_spl.specs.Term as terms
-use Rattle.sigma_spl.specs.Trees.{CountsTree, IsFree, IsReadyLoop, IsTreeSigma, loops_of_phases, phases_for}
-use Rattle.sigma_spl.specs.Work.{PlainWork, kernel, rows, horner, tile, copy}
-use Rattle.smp_rewrite.specs.Cut.{smp_of}
-use Rattle.smp_rewrite.specs.LayoutSteps.Layout.{Layout, layout_of, layout_size}
+use Rattle.sigma_spl.specs.Trees.{CountsTree, IsFree, IsTreeSigma, loops_of_phases, phases_for}
 use Rattle.smp_rewrite.specs.LayoutSteps.Whole.{factor_by, whole_of}
-use Rattle.tree_model.specs.Breakdown.{Breakdown}
-use Rattle.tree_model.specs.Chosen.{IsWholeTree}
-use Rattle.vec_rewrite.specs.Turning.{vec_of}
-use Rattle.vec_rewrite.specs.Vectors.{PlainFactor}
-use Rattle.sigma_lower.specs.Merged.{CanLower, close_last, closed_phases, whole_sigma}
-use Rattle.sigma_lower.specs.Shared.{phase_term}
-use Rattle.sigma_lower.specs.TreeLoops.Merge.{PlainPass, in_order, merged_of, merged_phases}
-use Rattle.sigma_lower.specs.TreeLoops.Nests.{loop_of}
+use Rattle.sigma_lower.specs.Merged.{whole_sigma}
 use Rattle.sigma_lower.specs.TreeSigmas.{TreesAreSigmas}
-use Rattle.sigma_lower.specs.TreeTerms.Term.{PlainTerm, factor_term, lowered_of, terms_in}
 use Rattle.sigma_lower.proofs.HaveLoops.{phases_have_loops}
 use Rattle.sigma_lower.proofs.Ordered.{trees_ordered}
 use Rattle.sigma_lower.proofs.TreeLayouts.{trees_can_lower}

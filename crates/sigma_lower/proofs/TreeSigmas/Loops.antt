@@ -1,16 +1,8 @@
 -- The loops of a pass: how often they run, and how many they are.
-use Rattle.std.proofs.Common.{◌≡◌, ℕ, zero, suc, ◌*◌, ◌^◌, ◌<◌, ◌≤◌, arith, refl, sym, ap, List, [], ◌∷◌, length, inl}
-use Rattle.std.proofs.Common.{inr, subst, le-mul_of_pos_right, mul_comm}
-use Rattle.std.specs.Prelude.{All, map, drop}
-use Rattle.std.proofs.Math.Nat.{pow-succ'}
-use Rattle.std.proofs.Math.Pow.{pow_mono}
-use Rattle.std.proofs.lemmas.Bool.{cases_lt}
-use Rattle.std.proofs.lemmas.List.Elements.{All-nil, All-cons, All-tail}
-use Rattle.std.proofs.lemmas.Nat.{mul-le}
-use Rattle.sigma_spl.specs.Limits.{AreSeveral}
-use Rattle.operators.specs.declared.tensor_paths.Tensor.{Tensor}
-use Rattle.operators.specs.declared.tensor_paths.Tensor.TheVariants.{Blocks, Columns}
-use Rattle.operators.specs.TensorPaths.Path.{Path, count_of, size_under}
+use Rattle.sigma_lower.proofs.Words.{◌≡◌, ℕ, zero, suc, ◌*◌, ◌^◌, ◌<◌, ◌≤◌, arith, refl, sym, ap, List, [], ◌∷◌, length}
+use Rattle.sigma_lower.proofs.Words.{inl, inr, subst, le-mul_of_pos_right, mul_comm, All, map, drop, pow-succ'}
+use Rattle.sigma_lower.proofs.Words.{pow_mono, cases_lt, All-nil, All-cons, All-tail, mul-le, AreSeveral, Tensor}
+use Rattle.sigma_lower.proofs.Words.{Blocks, Columns, Path, count_of, size_under}
 use Rattle.sigma_spl.proofs.Small.{size-positive}
 
 pub under-least : (path : Path) (n : ℕ) → AreSeveral path → 0 < n → n ≤ size_under path n

@@ -1,18 +1,12 @@
 -- In each phase of a layout every line belongs to one processor.
-use Rattle.std.proofs.Common.{◌≡◌, ℕ, zero, suc, ◌<◌, List, [], ◌∷◌, map, sym, ap, ◌∙◌, arith, subst}
-use Rattle.std.specs.Prelude.{Contains}
-use Rattle.sigma_lower.specs.TreeLoops.Merge.{PlainPass, gather_place, scatter_place, in_order}
-use Rattle.sigma_lower.specs.TreeLoops.Nests.{loop_of}
-use Rattle.operators.specs.declared.target.Target.{Target}
+use Rattle.sigma_lower.proofs.Words.{◌≡◌, ℕ, zero, suc, ◌<◌, List, [], ◌∷◌, map, sym, ap, ◌∙◌, arith, subst, PlainPass}
+use Rattle.sigma_lower.proofs.Words.{gather_place, scatter_place, in_order, loop_of, Target, ArePhasesShared, nest_of}
+use Rattle.sigma_lower.proofs.Words.{one_nest, loops_of, PlainNest, load_place, store_place, work_size, ranged}
+use Rattle.sigma_lower.proofs.Words.{AreInRange}
+use Rattle.std.proofs.Common.{Contains}
 use Rattle.sigma_spl.specs.Shared.Running.{IsCopyOf, IsLoadedBy, IsStoredBy}
-use Rattle.sigma_spl.specs.Shared.Owners.{AllOwn, AllShared, ArePhasesShared, FirstOwns}
-use Rattle.sigma_spl.specs.Loops.{nest_of, one_nest}
-use Rattle.sigma_spl.specs.Copies.{loops_of}
-use Rattle.sigma_spl.specs.Nest.{PlainNest, load_place, store_place}
-use Rattle.sigma_spl.specs.Work.{work_size}
-use Rattle.sigma_spl.proofs.Natural.{ranged}
+use Rattle.sigma_spl.specs.Shared.Owners.{AllOwn, AllShared, FirstOwns}
 use Rattle.sigma_lower.specs.TreeLoops.SharedPasses.Shared as shared
-use Rattle.operators.specs.TensorPaths.Path.{AreInRange}
 use Rattle.sigma_lower.proofs.TreeLoops.PassLists.{all-split}
 use Rattle.sigma_lower.proofs.TreeSigmas.Known.{AllKnown, IsKnown}
 use Rattle.sigma_lower.proofs.TreeSigmas.Places.{load-is, store-is}

@@ -1,34 +1,26 @@
 -- The places of a pass's nest are the pass's, and the lanes of its registers stand side by side.
-use Rattle.std.proofs.Common.{◌≡◌, ℕ, ◌+◌, ◌*◌, ◌<◌, List, [], ◌∷◌, length, map, refl, sym, ap, ◌∙◌, arith, subst}
-use Rattle.std.proofs.Common.{Option, Some, None}
-use Rattle.std.specs.Option.{option_map}
-use Rattle.std.proofs.lemmas.Option.{none-some, same_Some}
-use Rattle.std.specs.Prelude.{slice_index}
+use Rattle.sigma_lower.proofs.Words.{◌≡◌, ℕ, ◌+◌, ◌*◌, ◌<◌, List, [], ◌∷◌, length, map, refl, sym, ap, ◌∙◌, arith}
+use Rattle.sigma_lower.proofs.Words.{subst, Option, Some, None, option_map, none-some, same_Some, slice_index}
+use Rattle.sigma_lower.proofs.Words.{PlainDiagonal, PlainPass, through, gather_place, scatter_place, loop_of, taken_of}
+use Rattle.sigma_lower.proofs.Words.{AreCounts, Fits, IsLimitedPass, all_simplified, diagonal_places, place_sum, Sum}
+use Rattle.sigma_lower.proofs.Words.{constant, value, Target, IsHost, item_of, lane_step, values_of, loops_of, nest_of}
+use Rattle.sigma_lower.proofs.Words.{limits_in, multiplier_of, items_out, PlainMultiplier, load_place, store_place}
+use Rattle.sigma_lower.proofs.Words.{factor_at, factor_count, PlainWork, work_size, ranged, IsFramed, count_of, place}
+use Rattle.sigma_lower.proofs.Words.{AreInRange}
 use Rattle.sigma_lower.specs.TreeLoops.Merge.{diagonal_place}
-use Rattle.sigma_lower.specs.TreeLoops.Merge.{PlainDiagonal, PlainPass, through, gather_place, scatter_place}
-use Rattle.sigma_lower.specs.TreeLoops.Nests.{loop_of, taken_of}
-use Rattle.sigma_lower.specs.TreeLoops.Placed.{AreCounts, Fits, IsLimitedPass, all_simplified, diagonal_places, place_sum}
 use Rattle.sigma_lower.proofs.TreeLoops.LineMoves.{number-fits}
 use Rattle.sigma_lower.proofs.TreeLoops.LoopItems.{counts-from, name-constant}
 use Rattle.sigma_lower.proofs.TreeLoops.PlaceValues.{follows, through-end}
 use Rattle.sigma_lower.proofs.TreeLoops.Staying.{carried-end}
-use Rattle.perm_algebra.specs.Affine.{Sum, constant, value}
 use Rattle.perm_algebra.proofs.AffineLaws.{value-le-top}
 use Rattle.sigma_spl.proofs.Nests.{alone}
 use Rattle.sigma_lower.proofs.TreeLoops.Shaped.{IsShaped, IsShapedWork}
-use Rattle.operators.specs.declared.target.Target.{Target}
-use Rattle.sigma_spl.specs.Shared.Owners.{IsHost}
 use Rattle.sigma_spl.specs.Shared.Running.{FindsFactors, HasResidues, MovesVectors}
-use Rattle.sigma_spl.specs.Shared.Machine.{item_of, lane_step, values_of}
-use Rattle.sigma_spl.specs.Copies.{loops_of}
-use Rattle.sigma_spl.specs.Loops.{nest_of, limits_in, multiplier_of, places_by, IsGoodLoop}
-use Rattle.sigma_spl.specs.Merge.{items_out}
-use Rattle.sigma_spl.specs.Nest.{PlainMultiplier, inner_of, load_place, store_place, factor_at, factor_count}
-use Rattle.sigma_spl.specs.Work.{PlainWork, vectors_of, work_size}
-use Rattle.sigma_spl.proofs.Natural.{looped, place-alone, ranged, sound-place_sum}
+use Rattle.sigma_spl.specs.Loops.{places_by, IsGoodLoop}
+use Rattle.sigma_spl.specs.Nest.{inner_of}
+use Rattle.sigma_spl.specs.Work.{vectors_of}
+use Rattle.sigma_spl.proofs.Natural.{looped, place-alone, sound-place_sum}
 use Rattle.sigma_spl.proofs.Listed.{loops_have_places}
-use Rattle.sigma_lower.specs.TreeLoops.SharedPasses.Shared.{IsFramed}
-use Rattle.operators.specs.TensorPaths.Path.{count_of, place, AreInRange}
 use Rattle.sigma_lower.proofs.TreeSigmas.Frames.{range-of, named, values-named, IsShare, share-of, item-below}
 use Rattle.matrix_meaning.proofs.Requests.{power_below}
 

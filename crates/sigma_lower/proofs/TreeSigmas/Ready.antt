@@ -1,29 +1,21 @@
 -- Each loop of a layout can be run, and a program can be made of it.
-use Rattle.std.proofs.Common.{◌≡◌, ℕ, ◌+◌, ◌<◌, ◌≤◌, List, [], ◌∷◌, ◌++◌, All, length, map, refl, sym, ap, ap₂, ◌∙◌}
-use Rattle.std.proofs.Common.{arith, subst, Some}
-use Rattle.std.specs.Prelude.{slice_index, slice_index_or}
-use Rattle.std.specs.Option.{option_map}
+use Rattle.sigma_lower.proofs.Words.{◌≡◌, ℕ, ◌+◌, ◌<◌, ◌≤◌, List, [], ◌∷◌, ◌++◌, All, length, map, refl, sym, ap, ap₂}
+use Rattle.sigma_lower.proofs.Words.{◌∙◌, arith, subst, Some, slice_index, option_map, Mapping, Target, AreInRange}
+use Rattle.sigma_lower.proofs.Words.{count_of, place, size_under, Sum, constant, variable, value, simplified, loops_of}
+use Rattle.sigma_lower.proofs.Words.{limits_in, nest_of, items_out, PlainMultiplier, PlainNest, IsHost, IsReadyLoop}
+use Rattle.sigma_lower.proofs.Words.{PlainWork, kernel, rows, horner, tile, copy, work_size, ranged, PlainPass, through}
+use Rattle.sigma_lower.proofs.Words.{loop_of, taken_of}
+use Rattle.std.proofs.Common.{slice_index_or}
 use Rattle.std.proofs.lemmas.List.Elements.{All-weaker}
-use Rattle.index_fn.specs.Mapping.{Mapping}
 use Rattle.operators.specs.Sizes.{max_size}
-use Rattle.operators.specs.declared.target.Target.{Target}
-use Rattle.operators.specs.TensorPaths.Path.{AreInRange, count_of, place, size_under}
-use Rattle.perm_algebra.specs.Affine.{Sum, constant, variable, value, simplified}
-use Rattle.sigma_spl.specs.Copies.{loops_of}
 use Rattle.sigma_spl.specs.Good.{NamesItems}
-use Rattle.sigma_spl.specs.Loops.{AreFormed, limits_in, nest_of}
-use Rattle.sigma_spl.specs.Merge.{items_out, all_simplified, place_sum}
-use Rattle.sigma_spl.specs.Nest.{PlainMultiplier, PlainNest}
+use Rattle.sigma_spl.specs.Loops.{AreFormed}
+use Rattle.sigma_spl.specs.Merge.{all_simplified, place_sum}
 use Rattle.sigma_spl.specs.Shared.Machine.{first_loop, loop_counts}
-use Rattle.sigma_spl.specs.Shared.Owners.{IsHost}
 use Rattle.sigma_spl.specs.Shared.Ready.{IsReadyMultiplier, IsReadyNest, LoadsAlike}
 use Rattle.sigma_spl.specs.Shared.Running.{CanRunNest}
-use Rattle.sigma_spl.specs.Trees.{IsReadyLoop}
-use Rattle.sigma_spl.specs.Work.{PlainWork, kernel, rows, horner, tile, copy, work_size}
-use Rattle.sigma_spl.proofs.Natural.{names-out, ranged, values-are, at-second}
+use Rattle.sigma_spl.proofs.Natural.{names-out, values-are, at-second}
 use Rattle.sigma_spl.proofs.Nests.{names-simplified, two_below, with_more}
-use Rattle.sigma_lower.specs.TreeLoops.Merge.{PlainPass, through}
-use Rattle.sigma_lower.specs.TreeLoops.Nests.{loop_of, taken_of}
 use Rattle.sigma_lower.proofs.TreeLoops.LoopItems.{diagonal-size}
 use Rattle.sigma_lower.proofs.TreeLoops.PlaceValues.{value-at_place}
 use Rattle.sigma_lower.proofs.TreeLoops.Shaped.{IsShapedWork}

@@ -1,25 +1,15 @@
 -- The loops of the layout of a tree count what the forward request's passes do in the cost model.
-use Rattle.std.proofs.Common.{◌≡◌, ℕ, List, [], ◌∷◌, map, refl, sym, ap, ap₂, ◌∙◌}
-use Rattle.sigma_lower.specs.TreeLoops.Laws.{Counted, counted_cost, counted_loads, whole_passes, AllCount, CountsAs}
-use Rattle.sigma_lower.specs.TreeLoops.Laws.{IsForwardTree}
+use Rattle.sigma_lower.proofs.Words.{◌≡◌, ℕ, List, [], ◌∷◌, map, refl, sym, ap, ap₂, ◌∙◌, Counted, whole_passes}
+use Rattle.sigma_lower.proofs.Words.{forward_by, forward_of, IsValid, Kind, Dft, Wht, Idft, Request, pass_cost}
+use Rattle.sigma_lower.proofs.Words.{pass_loads, Layout, layout_of, target_of, Breakdown, IsWholeTree, request_passes}
+use Rattle.sigma_lower.proofs.Words.{merged_of, PlainNest}
+use Rattle.sigma_lower.specs.TreeLoops.Laws.{counted_cost, counted_loads, AllCount, CountsAs, IsForwardTree}
 use Rattle.sigma_lower.proofs.TreeLoops.LayoutCounts.{layouts_count}
-use Rattle.matrix_meaning.specs.Parts.{forward_by, forward_of}
-use Rattle.matrix_meaning.specs.Valid.{IsValid}
-use Rattle.matrix_meaning.specs.declared.Kind.{Kind}
-use Rattle.matrix_meaning.specs.declared.Kind.TheVariants.{Dft, Wht, Idft}
-use Rattle.matrix_meaning.specs.declared.Request.{Request}
 use Rattle.matrix_meaning.proofs.Requests.{forward_is_valid}
-use Rattle.sigma_spl.specs.Shared.Costs.{pass_cost, pass_loads}
-use Rattle.smp_rewrite.specs.LayoutSteps.Layout.{Layout, layout_of}
-use Rattle.sigma_spl.specs.Shared.Targets.{target_of}
 use Rattle.smp_rewrite.proofs.LayoutSteps.Wholes.{forward_fits}
-use Rattle.tree_model.specs.Breakdown.{Breakdown}
-use Rattle.tree_model.specs.Chosen.{IsWholeTree}
-use Rattle.tree_model.specs.WholePasses.{RequestPass, cost_of_pass, loads_of_pass, request_passes}
+use Rattle.tree_model.specs.WholePasses.{RequestPass, cost_of_pass, loads_of_pass}
 use Rattle.tree_model.proofs.WholeTrees.{forward_size}
 use Rattle.sigma_lower.proofs.TreeSigmas.Counting.{layout_costs, layout_loads}
-use Rattle.sigma_lower.specs.TreeLoops.Merge.{merged_of}
-use Rattle.sigma_spl.specs.Nest.{PlainNest}
 use Rattle.sigma_lower.proofs.TreeSigmas.Owned.{pass_nests}
 use Rattle.sigma_lower.proofs.TreeSigmas.TreeHosted.{tree_hosted}
 

@@ -1,11 +1,9 @@
 -- The work of a layout's loops can be done.
-use Rattle.std.proofs.Common.{ℕ, arith}
+use Rattle.sigma_lower.proofs.Words.{ℕ, arith, PlainWork, kernel, rows, horner, tile, copy, Target}
 use Rattle.sigma_lower.proofs.TreeLoops.Shaped.{IsShapedWork}
 use Rattle.sigma_lower.specs.TreeLoops.SharedPasses.Shared.{HasLanes}
 use Rattle.sigma_spl.specs.Shared.Running.{CanWork}
 use Rattle.sigma_spl.specs.Trees.{IsNoCopy}
-use Rattle.sigma_spl.specs.Work.{PlainWork, kernel, rows, horner, tile, copy}
-use Rattle.operators.specs.declared.target.Target.{Target}
 
 -- its code does what it stands for
 pub can-work : (c : Target) (w : PlainWork) → IsShapedWork c.modulus w → HasLanes c w → CanWork c w

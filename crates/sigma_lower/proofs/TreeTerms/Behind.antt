@@ -1,18 +1,9 @@
 -- Steps of a layout after more tensors, and paths of tensors that may have one copy.
-use Rattle.std.proofs.Common.{◌≡◌, ℕ, ◌/◌, Bool, true, false, arith, refl, sym, ap, ap₂, ◌∙◌, List, [], ◌∷◌, ◌++◌}
-use Rattle.std.proofs.Common.{if◌then◌else◌, append-nil, append_assoc}
-use Rattle.std.specs.Prelude.{map, ◌==◌}
-use Rattle.std.proofs.lemmas.List.{map-append}
-use Rattle.smp_rewrite.specs.Smp.{within}
-use Rattle.smp_rewrite.specs.LayoutSteps.Step.{turns, twiddles, thomas_in, thomas_out, PlainStep, step, rule_steps}
-use Rattle.smp_rewrite.specs.LayoutSteps.Step.{steps_of}
-use Rattle.operators.specs.declared.tensor_paths.Tensor.{Tensor}
-use Rattle.operators.specs.declared.tensor_paths.Tensor.TheVariants.{Blocks, Columns}
-use Rattle.operators.specs.TensorPaths.Path.{Path, count_of}
-use Rattle.tree_model.specs.declared.tree.Rule.{Rule}
-use Rattle.tree_model.specs.declared.tree.Rule.TheVariants.{Gt, Ct, Split, Dim}
-use Rattle.smp_rewrite.specs.LayoutSteps.Layout.{Layout, work, by, layout_size}
-use Rattle.sigma_lower.specs.TreeTerms.Root.{right_path, left_path, whole_path}
+use Rattle.sigma_lower.proofs.Words.{◌≡◌, ℕ, ◌/◌, Bool, true, false, arith, refl, sym, ap, ap₂, ◌∙◌, List, [], ◌∷◌}
+use Rattle.sigma_lower.proofs.Words.{◌++◌, if◌then◌else◌, append-nil, append_assoc, map, ◌==◌, map-append, within}
+use Rattle.sigma_lower.proofs.Words.{turns, twiddles, thomas_in, thomas_out, PlainStep, step, rule_steps, steps_of}
+use Rattle.sigma_lower.proofs.Words.{Tensor, Blocks, Columns, Path, count_of, Rule, Gt, Ct, Split, Dim, Layout, work}
+use Rattle.sigma_lower.proofs.Words.{by, layout_size, right_path, left_path, whole_path}
 
 -- ---- steps
 

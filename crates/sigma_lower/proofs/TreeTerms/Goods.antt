@@ -1,37 +1,20 @@
 -- The factors of an admissible tree are good: of the request's size, and with what their permutations need.
-use Rattle.std.proofs.Common.{◌≡◌, ℕ, ◌*◌, ◌/◌, ◌<◌, ◌≤◌, arith, refl, sym, ap, ◌∙◌, List, [], ◌∷◌}
-use Rattle.std.proofs.Common.{◌++◌, subst, mul_comm}
-use Rattle.std.specs.Prelude.{All, map, Option, None, Some, ◌==◌, take, drop}
-use Rattle.std.specs.List.{flat_map}
-use Rattle.std.proofs.lemmas.List.{map-append}
-use Rattle.std.proofs.lemmas.List.Elements.{All-nil, All-cons, All-head, All-tail, All-append, All-take, All-drop}
-use Rattle.smp_rewrite.specs.Cut.{whole_factor, cut_factors, factors_of, first_count, layout_smp}
+use Rattle.sigma_lower.proofs.Words.{◌≡◌, ℕ, ◌*◌, ◌/◌, ◌<◌, ◌≤◌, arith, refl, sym, ap, ◌∙◌, List, [], ◌∷◌, ◌++◌, subst}
+use Rattle.sigma_lower.proofs.Words.{mul_comm, All, map, Option, None, Some, ◌==◌, take, drop, flat_map, map-append}
+use Rattle.sigma_lower.proofs.Words.{All-nil, All-cons, All-head, All-tail, factors_of, layout_smp, within, size-within}
+use Rattle.sigma_lower.proofs.Words.{core_size, PlainCore, piece, turns, twiddles, thomas_in, thomas_out, PlainStep}
+use Rattle.sigma_lower.proofs.Words.{step, steps_of, Blocks, Columns, Path, size_under, copies_of, size_under-copies}
+use Rattle.sigma_lower.proofs.Words.{PlainWork, CanShareLayout, Layout, IsGoodLayout, only, Target, Grid, HasLanes}
+use Rattle.sigma_lower.proofs.Words.{kept, laned, laned_from, vec_of, PlainFactor, lanes, diagonals, move_before}
+use Rattle.sigma_lower.proofs.Words.{move_after, PlainVec, factor_step, vec_shaped, AreCoprime, IsGoodPiece, IsGoodCore}
+use Rattle.sigma_lower.proofs.Words.{IsGood, AreGood, IsVecOf, right_positive, chosen}
+use Rattle.std.proofs.lemmas.List.Elements.{All-append, All-take, All-drop}
+use Rattle.smp_rewrite.specs.Cut.{whole_factor, cut_factors, first_count}
 use Rattle.smp_rewrite.specs.Smp as smp
-use Rattle.smp_rewrite.specs.Smp.{within}
-use Rattle.smp_rewrite.proofs.Tensors.{size-within}
-use Rattle.smp_rewrite.specs.LayoutSteps.Meaning.{core_size}
-use Rattle.smp_rewrite.specs.LayoutSteps.Step.{PlainCore, piece, turns, twiddles, thomas_in, thomas_out, PlainStep}
-use Rattle.smp_rewrite.specs.LayoutSteps.Step.{step, steps_of}
-use Rattle.operators.specs.declared.tensor_paths.Tensor.TheVariants.{Blocks, Columns}
-use Rattle.operators.specs.TensorPaths.Path.{Path, size_under, copies_of}
-use Rattle.operators.proofs.TensorPaths.Under.{size_under-copies}
-use Rattle.sigma_spl.specs.Work.{PlainWork}
-use Rattle.smp_rewrite.specs.Fits.{CanShareLayout}
-use Rattle.smp_rewrite.specs.LayoutSteps.Layout.{Layout, IsGoodLayout}
-use Rattle.smp_rewrite.specs.LayoutSteps.Whole.{only}
-use Rattle.operators.specs.declared.target.Target.{Target}
 use Rattle.vec_rewrite.specs.declared.Deal.{Deal}
-use Rattle.vec_rewrite.specs.declared.Grid.{Grid}
-use Rattle.vec_rewrite.specs.Laws.{HasLanes}
-use Rattle.vec_rewrite.specs.Turning.{kept, settled, grouped, order_after, narrowed, block_factors, laned, laned_from}
-use Rattle.vec_rewrite.specs.Turning.{phase_of, deal_of, vec_of}
-use Rattle.vec_rewrite.specs.Vectors.{PlainFactor, lanes, diagonals, move_before, move_after, tiles, PlainVec}
-use Rattle.vec_rewrite.specs.Vectors.{factor_step, vec_steps}
-use Rattle.vec_rewrite.proofs.LaneShapes.{vec_shaped}
-use Rattle.sigma_lower.specs.TreeTerms.Good.{AreCoprime, IsGoodPiece, IsGoodCore, IsGood, AreGood, IsVecOf}
+use Rattle.vec_rewrite.specs.Turning.{settled, grouped, order_after, narrowed, block_factors, phase_of, deal_of}
+use Rattle.vec_rewrite.specs.Vectors.{tiles, vec_steps}
 use Rattle.sigma_lower.proofs.TreeTerms.Lowering.{good_steps}
-use Rattle.sigma_spl.proofs.Keeps.{right_positive}
-use Rattle.sigma_spl.proofs.Walk.{chosen}
 
 -- ---- what a core needs apart from its size, where that of a piece is said of its tree
 

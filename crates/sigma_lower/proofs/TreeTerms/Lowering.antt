@@ -1,42 +1,37 @@
 -- Each term does what its step does.
-use Rattle.std.proofs.Common.{◌≡◌, ℕ, zero, suc, ◌*◌, ◌%◌, ◌<◌, ◌≤◌, ◌+◌, ◌/◌, arith, refl, sym, ap, ap₂, ◌∙◌, List, []}
-use Rattle.std.proofs.Common.{◌∷◌, ◌++◌, mod-lt, subst, mul_comm, div-lt_iff_lt-mul, mul-le-mul_left, mul-le-mul_right}
-use Rattle.std.specs.Prelude.{map}
-use Rattle.std.proofs.Math.Nat.{zero-mod, mod-eq_of_lt, div-add-mod'}
-use Rattle.std.proofs.lemmas.List.FromFn.{fill_by_all}
-use Rattle.std.proofs.lemmas.Nat.{mul-lt, mul-mod_second}
-use Rattle.index_fn.specs.Mapping.{Strided, ThomasIn, ThomasOut, ThomasBack, at, IsUnit}
+use Rattle.sigma_lower.proofs.Words.{◌≡◌, ℕ, zero, suc, ◌*◌, ◌%◌, ◌<◌, ◌≤◌, ◌+◌, ◌/◌, arith, refl, sym, ap, ap₂, ◌∙◌}
+use Rattle.sigma_lower.proofs.Words.{List, [], ◌∷◌, ◌++◌, mod-lt, subst, mul_comm, div-lt_iff_lt-mul, mul-le-mul_left}
+use Rattle.sigma_lower.proofs.Words.{map, div-add-mod', fill_by_all, mul-lt, Strided, ThomasIn, ThomasOut, ThomasBack}
+use Rattle.sigma_lower.proofs.Words.{at, IsPermutationBelow, gather, scale, stride, at-list_below, place_below, row-of}
+use Rattle.sigma_lower.proofs.Words.{column-of, factor_positive, PlainWork, kernel, rows, horner, tile, copy, work_size}
+use Rattle.sigma_lower.proofs.Words.{work_on, trees_of, trees_size, Layout, work, by, layout_size, IsGoodWork}
+use Rattle.sigma_lower.proofs.Words.{IsGoodLayout, Target, core_size, step_on, PlainCore, piece, turns, twiddles}
+use Rattle.sigma_lower.proofs.Words.{thomas_in, thomas_out, PlainStep, rule_steps, steps_of, Blocks, Columns, Path}
+use Rattle.sigma_lower.proofs.Words.{size_under, under, place, size_under-push, Rule, Gt, Ct, Split, Dim, PlainFactor}
+use Rattle.sigma_lower.proofs.Words.{lanes, diagonals, move_before, move_after, factor_step, nest, lowered_core}
+use Rattle.sigma_lower.proofs.Words.{factor_term, wrapped, unit_of}
+use Rattle.std.proofs.Common.{mul-le-mul_right}
+use Rattle.std.proofs.Math.Nat.{zero-mod, mod-eq_of_lt}
+use Rattle.std.proofs.lemmas.Nat.{mul-mod_second}
+use Rattle.index_fn.specs.Mapping.{IsUnit}
 use Rattle.index_fn.proofs.Thomas.{thomas_out_undoes, unit_from}
-use Rattle.operators.specs.Loop.{scatter, IsPermutationBelow}
-use Rattle.operators.specs.Operator.{gather, scale, stride}
-use Rattle.operators.proofs.Lists.{at-list_below, place_below, row-of, column-of, factor_positive}
+use Rattle.operators.specs.Loop.{scatter}
 use Rattle.operators.proofs.Places.{stride_below}
 use Rattle.operators.proofs.Scatters.{gather_as_scatter}
 use Rattle.ring_mod.proofs.Inverses.{AreInverses, inverse_of_s, inverse_of_r, inverses_of}
 use Rattle.tree_model.specs.KernelCosts.{CanMake}
-use Rattle.sigma_spl.specs.Work.{PlainWork, kernel, rows, horner, tile, copy, work_size, work_on, trees_of}
-use Rattle.tree_model.specs.Trees.{PlainTrees, single, tensor, trees_size, AreWords}
-use Rattle.smp_rewrite.specs.LayoutSteps.Layout.{Layout, work, by, layout_size, IsGoodWork, IsGoodRule, IsGoodLayout}
-use Rattle.operators.specs.declared.target.Target.{Target}
+use Rattle.tree_model.specs.Trees.{PlainTrees, single, tensor, AreWords}
+use Rattle.smp_rewrite.specs.LayoutSteps.Layout.{IsGoodRule}
 use Rattle.smp_rewrite.proofs.Cores.{core-reads, core-gives}
-use Rattle.smp_rewrite.specs.LayoutSteps.Meaning.{core_size, core_on, step_on, all_on}
-use Rattle.smp_rewrite.specs.LayoutSteps.Step.{PlainCore, piece, turns, twiddles, thomas_in, thomas_out, PlainStep}
-use Rattle.smp_rewrite.specs.LayoutSteps.Step.{rule_steps, steps_of}
-use Rattle.tree_model.proofs.Sizes.{word_sizes}
-use Rattle.operators.specs.declared.tensor_paths.Tensor.TheVariants.{Blocks, Columns}
+use Rattle.smp_rewrite.specs.LayoutSteps.Meaning.{core_on, all_on}
+use Rattle.tree_model.proofs.Sizes.{word_sizes, one_le_size_of}
 use Rattle.operators.specs.TensorPaths.Loop.{loop_on}
-use Rattle.operators.specs.TensorPaths.Path.{Path, size_under, under, place}
-use Rattle.operators.proofs.TensorPaths.Under.{size_under-push, under-size}
+use Rattle.operators.proofs.TensorPaths.Under.{under-size}
 use Rattle.operators.proofs.TensorPaths.PathLoops.{loop_is_under}
-use Rattle.tree_model.specs.declared.tree.Rule.{Rule}
-use Rattle.tree_model.specs.declared.tree.Rule.TheVariants.{Gt, Ct, Split, Dim}
 use Rattle.tree_model.specs.Breakdown.{size_of}
-use Rattle.tree_model.proofs.Sizes.{one_le_size_of}
-use Rattle.vec_rewrite.specs.Vectors.{PlainFactor, lanes, diagonals, move_before, move_after, tiles, factor_step}
+use Rattle.vec_rewrite.specs.Vectors.{tiles}
 use Rattle.kernel_gen.proofs.KernelSizes.{trees-positive}
-use Rattle.sigma_lower.specs.TreeTerms.Term.{nest, lowered_core, after_core, factor_term, term_on, terms_on}
-use Rattle.sigma_lower.specs.TreeTerms.Term.{diagonal_at}
-use Rattle.sigma_lower.specs.TreeTerms.Wrapped.{wrapped, unit_of}
+use Rattle.sigma_lower.specs.TreeTerms.Term.{after_core, term_on, terms_on, diagonal_at}
 use Rattle.sigma_lower.proofs.TreeTerms.Permuted.{StaysBelow, gather-under, scale-under, wrapped-permutes}
 use Rattle.sigma_lower.proofs.TreeTerms.Sizes.{within_whole}
 -- ---- the steps of a layout are good: of the size of the whole, and with the factors that their permutations need

@@ -1,37 +1,26 @@
 -- The terms of a layout that is shared, from its root.
-use Rattle.std.proofs.Common.{◌≡◌, ◌≢◌, ℕ, suc, ◌*◌, ◌/◌, ◌%◌, ◌<◌, ◌≤◌, false, arith, refl, sym, ap, ap₂, ◌∙◌}
-use Rattle.std.proofs.Common.{List, [], ◌∷◌, ◌++◌, if◌then◌else◌, inl, inr, subst, append-nil, append_assoc}
-use Rattle.std.specs.Prelude.{map, Option, None, Some, ◌==◌, take, drop, length}
-use Rattle.std.specs.List.{flat_map}
-use Rattle.std.proofs.Math.Nat.{mul-div_right, mod-eq_of_lt}
+use Rattle.sigma_lower.proofs.Words.{◌≡◌, ◌≢◌, ℕ, suc, ◌*◌, ◌/◌, ◌%◌, ◌<◌, ◌≤◌, false, arith, refl, sym, ap, ap₂, ◌∙◌}
+use Rattle.sigma_lower.proofs.Words.{List, [], ◌∷◌, ◌++◌, if◌then◌else◌, inl, inr, subst, append-nil, append_assoc, map}
+use Rattle.sigma_lower.proofs.Words.{Option, None, Some, ◌==◌, take, drop, length, flat_map, mul-div_right, cases_eq}
+use Rattle.sigma_lower.proofs.Words.{nat_tests, map-append, factor_positive, factors_of, turns, twiddles, PlainStep}
+use Rattle.sigma_lower.proofs.Words.{step, rule_steps, steps_of, Blocks, Columns, Rule, Gt, Ct, Split, Dim, HasParts}
+use Rattle.sigma_lower.proofs.Words.{RuleHasParts, RootHasParts, CanShareLayout, Layout, work, by, layout_size}
+use Rattle.sigma_lower.proofs.Words.{IsGoodLayout, is_alone, Target, Grid, kept, laned_from, vec_of, right_path}
+use Rattle.sigma_lower.proofs.Words.{turned_in, tiled_before, tiled_after, left_core, left_terms, right_terms}
+use Rattle.sigma_lower.proofs.Words.{root_terms, PlainTerm, diag, lowered, factor_term, terms_in, lowered_of, unequal}
+use Rattle.std.proofs.Math.Nat.{mod-eq_of_lt}
 use Rattle.std.proofs.Math.Seq.{take-length, drop-length, take-append_seam, drop-append_seam}
-use Rattle.std.proofs.lemmas.Bool.{cases_eq}
-use Rattle.std.proofs.lemmas.Bool.Decides.{nat_tests}
 use Rattle.std.proofs.lemmas.Grind.{flat_map-append}
-use Rattle.std.proofs.lemmas.List.{map-append}
-use Rattle.operators.proofs.Lists.{factor_positive}
-use Rattle.smp_rewrite.specs.Cut.{factors_of, is_left, right_count, first_count, cut}
+use Rattle.smp_rewrite.specs.Cut.{is_left, right_count, first_count, cut}
 use Rattle.smp_rewrite.specs.Smp as smp
 use Rattle.smp_rewrite.proofs.Dealt.{IsDealt, is_dealt}
 use Rattle.smp_rewrite.proofs.Factors.{rows_of}
 use Rattle.smp_rewrite.proofs.Moves.{one_line}
-use Rattle.smp_rewrite.specs.LayoutSteps.Step.{turns, twiddles, PlainStep, step, rule_steps, steps_of}
-use Rattle.operators.specs.declared.tensor_paths.Tensor.TheVariants.{Blocks, Columns}
-use Rattle.tree_model.specs.declared.tree.Rule.{Rule}
-use Rattle.tree_model.specs.declared.tree.Rule.TheVariants.{Gt, Ct, Split, Dim}
-use Rattle.smp_rewrite.specs.Fits.{HasParts, RuleHasParts, RootHasParts, CanShareLayout}
-use Rattle.smp_rewrite.specs.LayoutSteps.Layout.{Layout, work, by, layout_size, IsGoodLayout}
-use Rattle.sigma_spl.specs.Shared.Targets.{is_alone}
-use Rattle.operators.specs.declared.target.Target.{Target}
-use Rattle.vec_rewrite.specs.declared.Grid.{Grid}
-use Rattle.vec_rewrite.specs.Turning.{kept, laned_from, phase_of, vec_of}
-use Rattle.sigma_lower.specs.TreeTerms.Root.{right_path, turned_in, tiled_before, tiled_after, left_core, left_terms}
-use Rattle.sigma_lower.specs.TreeTerms.Root.{right_terms, in_phases, root_terms}
-use Rattle.sigma_lower.specs.TreeTerms.Term.{PlainTerm, diag, lowered, factor_term, terms_in, lowered_of}
+use Rattle.vec_rewrite.specs.Turning.{phase_of}
+use Rattle.sigma_lower.specs.TreeTerms.Root.{in_phases}
 use Rattle.sigma_lower.proofs.TreeTerms.Behind.{behind, steps-behind, HasStep, has_step, by-one}
 use Rattle.sigma_lower.proofs.TreeTerms.RootCuts.{Cuts, Rows, deal, grid_of, kept_from, laned_terms, kept_cuts}
 use Rattle.sigma_lower.proofs.TreeTerms.RootCuts.{alone_cuts, among_cuts}
-use Rattle.vec_rewrite.proofs.StepFollows.{unequal}
 
 -- ---- lists of steps
 

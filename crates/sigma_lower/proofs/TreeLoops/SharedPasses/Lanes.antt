@@ -1,18 +1,10 @@
 -- Passes whose lanes are vectors, and what merging keeps of them.
-use Rattle.std.proofs.Common.{◌≡◌, ℕ, ◌+◌, ◌*◌, ◌<◌, arith, sym, ap, ◌∙◌, List, [], ◌∷◌, mul-zero, subst}
-use Rattle.std.specs.Prelude.{Some}
-use Rattle.std.proofs.Math.Nat.{zero-mul}
-use Rattle.index_fn.specs.Mapping.{Mapping, at}
-use Rattle.operators.specs.declared.target.Target.{Target}
-use Rattle.sigma_spl.specs.Shared.Machine.{item_of, values_of, lane_step}
-use Rattle.std.proofs.lemmas.Option.{none-some, same_Some}
-use Rattle.sigma_lower.specs.TreeLoops.Merge.{PlainDiagonal, PlainPass, Merging, through, new_pass, scattered}
-use Rattle.sigma_lower.specs.TreeLoops.Merge.{multiplied, merge_term}
-use Rattle.sigma_lower.specs.TreeTerms.Term.{gath, scat, diag, nest}
-use Rattle.sigma_spl.specs.Work.{PlainWork, work_size}
-use Rattle.sigma_lower.specs.TreeTerms.Wrapped.{inner_of}
-use Rattle.operators.specs.TensorPaths.Path.{Path, place}
-use Rattle.sigma_lower.specs.TreeLoops.SharedPasses.Shared.{IsFramed, AllFramed}
+use Rattle.sigma_lower.proofs.Words.{◌≡◌, ℕ, ◌+◌, ◌*◌, ◌<◌, arith, sym, ap, ◌∙◌, List, [], ◌∷◌, subst, Some, zero-mul}
+use Rattle.sigma_lower.proofs.Words.{Mapping, at, Target, item_of, values_of, lane_step, none-some, same_Some}
+use Rattle.sigma_lower.proofs.Words.{PlainDiagonal, PlainPass, Merging, through, new_pass, scattered, multiplied}
+use Rattle.sigma_lower.proofs.Words.{merge_term, gath, scat, diag, nest, PlainWork, work_size, inner_of, Path, place}
+use Rattle.sigma_lower.proofs.Words.{IsFramed, AllFramed}
+use Rattle.std.proofs.Common.{mul-zero}
 use Rattle.sigma_lower.proofs.TreeLoops.SharedPasses.Merging.{Ends, ends-push, ends-last, ends-weaken}
 use Rattle.sigma_lower.proofs.TreeLoops.SharedPasses.Naturals.{IsLoop}
 use Rattle.sigma_lower.proofs.TreeLoops.SharedPasses.Vectors.{AllKeepVectors, keep-append, through-keeps, inner-vectors}

@@ -1,19 +1,11 @@
 -- The natural places of framed passes: the lanes of each register are a vector.
-use Rattle.std.proofs.Common.{◌≡◌, ℕ, ◌+◌, ◌*◌, ◌<◌, Bool, true, false, arith, refl, sym, ap, ap₂, ◌∙◌, List, [], ◌∷◌}
-use Rattle.std.proofs.Common.{◌++◌, if◌then◌else◌, subst}
-use Rattle.std.specs.Prelude.{◌==◌}
-use Rattle.operators.specs.declared.target.Target.{Target}
-use Rattle.sigma_spl.specs.Shared.Machine.{if_several, item_of, values_of, lane_step}
+use Rattle.sigma_lower.proofs.Words.{◌≡◌, ℕ, ◌+◌, ◌*◌, ◌<◌, Bool, true, false, arith, refl, sym, ap, ap₂, ◌∙◌, List, []}
+use Rattle.sigma_lower.proofs.Words.{◌∷◌, ◌++◌, if◌then◌else◌, subst, ◌==◌, Target, item_of, values_of, lane_step}
+use Rattle.sigma_lower.proofs.Words.{PlainWork, kernel, rows, horner, tile, copy, work_size, IsGoodWork, within}
+use Rattle.sigma_lower.proofs.Words.{size-within, is-one, Tensor, Blocks, Columns, Path, count_of, size_under}
+use Rattle.sigma_lower.proofs.Words.{copies_of, place, size_under-copies, AreBlocks}
+use Rattle.sigma_spl.specs.Shared.Machine.{if_several}
 use Rattle.sigma_lower.specs.TreeLoops.SharedPasses.Shared.{framed, HasLanes}
-use Rattle.sigma_spl.specs.Work.{PlainWork, kernel, rows, horner, tile, copy, work_size}
-use Rattle.smp_rewrite.specs.LayoutSteps.Layout.{IsGoodWork}
-use Rattle.smp_rewrite.specs.Smp.{within}
-use Rattle.smp_rewrite.proofs.Tensors.{size-within, is-one}
-use Rattle.operators.specs.declared.tensor_paths.Tensor.{Tensor}
-use Rattle.operators.specs.declared.tensor_paths.Tensor.TheVariants.{Blocks, Columns}
-use Rattle.operators.specs.TensorPaths.Path.{Path, count_of, size_under, copies_of, place}
-use Rattle.operators.proofs.TensorPaths.Under.{size_under-copies}
-use Rattle.sigma_spl.specs.Good.{AreBlocks}
 
 -- ---- a tensor that may be left out
 

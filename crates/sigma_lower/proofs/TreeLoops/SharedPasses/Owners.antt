@@ -1,15 +1,11 @@
 -- Passes whose places belong to their processors, and what merging keeps of them.
-use Rattle.std.proofs.Common.{◌≡◌, ℕ, ◌≤◌, arith, refl, sym, ap, ◌∙◌, List, [], ◌∷◌, ◌++◌, subst}
-use Rattle.index_fn.specs.Mapping.{Mapping, at}
-use Rattle.operators.specs.declared.target.Target.{Target}
-use Rattle.sigma_lower.specs.TreeLoops.Merge.{PlainPass, Merging, through, new_pass, scattered, multiplied, at_last}
-use Rattle.sigma_lower.specs.TreeLoops.Merge.{merge_term, gather_place, scatter_place}
-use Rattle.sigma_lower.specs.TreeTerms.Term.{gath, scat, diag, nest}
-use Rattle.sigma_spl.specs.Work.{PlainWork, work_size}
+use Rattle.sigma_lower.proofs.Words.{◌≡◌, ℕ, ◌≤◌, arith, refl, sym, ap, ◌∙◌, List, [], ◌∷◌, ◌++◌, subst, Mapping, at}
+use Rattle.sigma_lower.proofs.Words.{Target, PlainPass, Merging, through, new_pass, scattered, multiplied, at_last}
+use Rattle.sigma_lower.proofs.Words.{merge_term, gather_place, scatter_place, gath, scat, diag, nest, PlainWork}
+use Rattle.sigma_lower.proofs.Words.{work_size, Path, place}
 use Rattle.sigma_lower.specs.TreeLoops.SharedPasses.Shared.{Owns, AllOwn, FirstOwns, AllShared, ArePhasesShared}
 use Rattle.sigma_lower.proofs.TreeLoops.TreePasses.{at_last-append}
 use Rattle.sigma_lower.proofs.TreeLoops.SharedPasses.Shares.{OwnsNatural}
-use Rattle.operators.specs.TensorPaths.Path.{Path, place}
 use Rattle.sigma_spl.specs.Shared.Owners.{IsOwner}
 use Rattle.sigma_lower.proofs.TreeLoops.PlaceValues.{through-end}
 

@@ -1,19 +1,15 @@
 -- In each phase of a layout every line belongs to one processor.
-use Rattle.std.proofs.Common.{◌≡◌, ℕ, ◌+◌, ◌*◌, ◌/◌, ◌%◌, ◌<◌, ◌≤◌, Bool, true, false, arith, refl, sym, ap, ◌∙◌, List, []}
-use Rattle.std.proofs.Common.{◌∷◌, ◌++◌, if◌then◌else◌, subst, inl, inr, append-nil, mod-lt, mul_comm}
-use Rattle.std.specs.Prelude.{◌==◌, map}
-use Rattle.std.proofs.lemmas.Bool.{cases_eq}
-use Rattle.index_fn.specs.Mapping.{Mapping, Strided, ThomasIn, ThomasBack, at}
-use Rattle.operators.specs.declared.target.Target.{Target}
-use Rattle.operators.specs.Operator.{stride}
-use Rattle.operators.proofs.Lists.{factor_positive}
-use Rattle.sigma_lower.specs.TreeLoops.Merge.{Merging, merge_term, merged, passes_of_terms, merged_phases}
-use Rattle.sigma_lower.specs.TreeTerms.Root.{right_path, left_path, whole_path, tile_path, turned_in, vectors_grouped}
-use Rattle.sigma_lower.specs.TreeTerms.Root.{lines_moved, vectors_turned, lines_dealt}
-use Rattle.sigma_lower.specs.TreeTerms.Root.{left_core, left_terms, right_terms, in_phases, root_terms}
-use Rattle.sigma_lower.specs.TreeTerms.Term.{PlainTerm, gath, scat, nest, lowered}
-use Rattle.sigma_spl.specs.Work.{PlainWork, tile, work_size}
-use Rattle.sigma_lower.specs.TreeTerms.Wrapped.{wrapped, unit_of}
+use Rattle.sigma_lower.proofs.Words.{◌≡◌, ℕ, ◌+◌, ◌*◌, ◌/◌, ◌%◌, ◌<◌, ◌≤◌, Bool, true, false, arith, refl, sym, ap, ◌∙◌}
+use Rattle.sigma_lower.proofs.Words.{List, [], ◌∷◌, ◌++◌, if◌then◌else◌, subst, inl, inr, append-nil, mod-lt, mul_comm}
+use Rattle.sigma_lower.proofs.Words.{◌==◌, map, cases_eq, Mapping, Strided, ThomasIn, ThomasBack, at, Target, stride}
+use Rattle.sigma_lower.proofs.Words.{factor_positive, Merging, merge_term, merged, passes_of_terms, merged_phases}
+use Rattle.sigma_lower.proofs.Words.{right_path, left_path, whole_path, tile_path, turned_in, vectors_grouped}
+use Rattle.sigma_lower.proofs.Words.{lines_moved, vectors_turned, lines_dealt, left_core, left_terms, right_terms}
+use Rattle.sigma_lower.proofs.Words.{root_terms, PlainTerm, gath, scat, nest, lowered, PlainWork, tile, work_size}
+use Rattle.sigma_lower.proofs.Words.{wrapped, unit_of, within, size-within, steps_of, Blocks, Columns, Path, size_under}
+use Rattle.sigma_lower.proofs.Words.{place, Rule, RuleHasParts, RootHasParts, CanShareLayout, Layout, work, by}
+use Rattle.sigma_lower.proofs.Words.{layout_size, IsGoodLayout, unequal}
+use Rattle.sigma_lower.specs.TreeTerms.Root.{in_phases}
 use Rattle.sigma_lower.proofs.TreeTerms.Permuted.{StaysBelow}
 use Rattle.sigma_lower.specs.TreeLoops.SharedPasses.Shared.{ArePhasesShared}
 use Rattle.sigma_lower.proofs.TreeLoops.Emitted.{as_lowered, emitted, emitted-lowered}
@@ -28,16 +24,8 @@ use Rattle.sigma_lower.proofs.TreeLoops.SharedPasses.Shares.{AreShares, shares, 
 use Rattle.sigma_lower.proofs.TreeLoops.SharedPasses.Shares.{block_owner, column_owner, block-owner, column-owner}
 use Rattle.sigma_lower.proofs.TreeLoops.SharedPasses.Shares.{OwnsNatural, block-natural, block-keeps, columns-keeps}
 use Rattle.sigma_lower.proofs.TreeLoops.SharedPasses.Shares.{both-columns, stays-in_column, dealt-owner}
-use Rattle.smp_rewrite.specs.Smp.{within}
 use Rattle.smp_rewrite.proofs.Dealt.{not_alone}
-use Rattle.smp_rewrite.proofs.Tensors.{size-within}
-use Rattle.smp_rewrite.specs.LayoutSteps.Step.{steps_of}
-use Rattle.operators.specs.declared.tensor_paths.Tensor.TheVariants.{Blocks, Columns}
-use Rattle.operators.specs.TensorPaths.Path.{Path, size_under, place}
-use Rattle.tree_model.specs.declared.tree.Rule.{Rule}
-use Rattle.smp_rewrite.specs.Fits.{RuleHasParts, RootHasParts, CanShareLayout}
-use Rattle.smp_rewrite.specs.LayoutSteps.Layout.{Layout, work, by, layout_size, IsGoodLayout}
-use Rattle.vec_rewrite.proofs.StepFollows.{unequal, within-wide}
+use Rattle.vec_rewrite.proofs.StepFollows.{within-wide}
 use Rattle.sigma_lower.proofs.TreeTerms.RootTerms.{shared_terms, rule-fits, rule-shared}
 use Rattle.sigma_lower.proofs.TreeTerms.Behind.{within-append}
 use Rattle.sigma_lower.proofs.TreeTerms.Lowering.{turns_below}

@@ -1,11 +1,7 @@
 -- Gathers that keep vectors, one after the other, and what a path leaves of them.
-use Rattle.std.proofs.Common.{◌≡◌, ℕ, ◌+◌, ◌*◌, ◌/◌, ◌%◌, ◌<◌, arith, refl, sym, ap, ◌∙◌, List, [], ◌∷◌, ◌++◌}
-use Rattle.index_fn.specs.Mapping.{Mapping, at}
-use Rattle.sigma_lower.specs.TreeLoops.Merge.{through}
-use Rattle.sigma_lower.specs.TreeTerms.Wrapped.{inner_of}
+use Rattle.sigma_lower.proofs.Words.{◌≡◌, ℕ, ◌+◌, ◌*◌, ◌/◌, ◌%◌, ◌<◌, arith, refl, sym, ap, ◌∙◌, List, [], ◌∷◌, ◌++◌}
+use Rattle.sigma_lower.proofs.Words.{Mapping, at, through, inner_of, Blocks, Columns, Path}
 use Rattle.sigma_lower.proofs.TreeTerms.Vectors.{apart, KeepsVectors, HasVectors, size-vectors}
-use Rattle.operators.specs.declared.tensor_paths.Tensor.TheVariants.{Blocks, Columns}
-use Rattle.operators.specs.TensorPaths.Path.{Path}
 
 abbrev pub AllKeepVectors : ℕ → List Mapping → Type 0
 AllKeepVectors v [] = Unit {0}
