@@ -63,24 +63,19 @@ step-words c s valid h =
 
 after-words : (c : Target) (path : Path) (k : PlainCore) → IsMachine c → IsGood c.size (step path k) →
     AreWords c.size (embed (lowered_after (step path k)))
-after-words c path (piece t) valid h = step-words c (step path (piece t)) valid h
 after-words c path (turns r s) valid h =
     let n = r * s in
     let sizes = sizes-of c (step path (turns r s)) valid h in
     let closed = strided-closed r s (omega (arith, h.core.0)) (omega (arith, h.core.1)) sizes.low in
     subst (λ m. AreWords m (scat (wrapped path n (Strided s r)))) h.size
     (scat-words path n (Strided s r) (numbers-wrapped path n (Strided s r) sizes.high refl closed.1 closed.0) (numbers-wrapped path n (Strided r s) sizes.high refl closed.0 closed.1))
-after-words c path (steps.twiddles r s w) valid h = step-words c (step path (steps.twiddles r s w)) valid h
-after-words c path (thomas_in r s) valid h = step-words c (step path (thomas_in r s)) valid h
-after-words c path (thomas_out r s) valid h = step-words c (step path (thomas_out r s)) valid h
+after-words c path k valid h = step-words c (step path k) valid h
 
 factor-words : (c : Target) (p v : ℕ) (f : PlainFactor) → IsMachine c → IsGood c.size (factor_step p v f) →
     AreWords c.size (embed (factor_term p v f))
-factor-words c p v (lanes s) valid h = step-words c (factor_step p v (lanes s)) valid h
-factor-words c p v (diagonals s) valid h = step-words c s valid h
-factor-words c p v (move_before s) valid h = step-words c (factor_step p v (move_before s)) valid h
 factor-words c p v (move_after s) valid h = after-words c (within (Columns v) s.path) s.core valid h
 factor-words c p v (tiles path) valid h = let sizes = sizes-of c (factor_step p v (tiles path)) valid h in omega (arith, sizes.low)
+factor-words c p v f valid h = step-words c (factor_step p v f) valid h
 
 abbrev AreWordPhases : Target → List (List lowered.PlainTerm) → Type 0
 AreWordPhases c [] = Unit {0}

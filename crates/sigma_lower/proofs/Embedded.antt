@@ -144,11 +144,10 @@ tile-embeds c p v path valid blocks h =
 
 after-embeds : (c : Target) (p v : ℕ) (path : Path) (k : PlainCore) → IsMachine c →
     IsGood c.size (factor_step p v (move_after (steps.step path k))) → Embeds c p v (move_after (steps.step path k))
-after-embeds c p v path (piece t) valid h = core-embeds c p v (move_after (steps.step path (piece t))) valid h refl tt
 after-embeds c p v path (turns r s) valid h = turned-embeds c p v path r s valid h
-after-embeds c p v path (steps.twiddles r s w) valid h = core-embeds c p v (move_after (steps.step path (steps.twiddles r s w))) valid h refl tt
-after-embeds c p v path (thomas_in r s) valid h = core-embeds c p v (move_after (steps.step path (thomas_in r s))) valid h refl (vectors-columns v path)
-after-embeds c p v path (thomas_out r s) valid h = core-embeds c p v (move_after (steps.step path (thomas_out r s))) valid h refl (vectors-columns v path)
+after-embeds c p v path k valid h =
+    core-embeds c p v (move_after (steps.step path k)) valid h refl
+    (vectors-move v (within (Columns v) path) k (vectors-columns v path))
 
 pub factors_embed : (h : Target) (p v : ℕ) (f : PlainFactor) → IsMachine h → HasLanes h.size p v f →
     IsGood h.size (factor_step p v f) → Embeds h p v f

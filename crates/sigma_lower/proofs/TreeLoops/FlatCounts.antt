@@ -218,10 +218,8 @@ hands_same p rule a b h left right = record {
 }
 
 hands_on : (p : Request) (rule : Rule) (a b : Breakdown) → IsFlatTree p (node rule a b) → HandsOn p rule a b
-hands_on p Gt a b h = hands_same p Gt a b h refl refl
-hands_on p Ct a b h = hands_same p Ct a b h refl refl
-hands_on p Split a b h = hands_same p Split a b h refl refl
 hands_on p Dim a b h = absurd (h.tree.tree.2.0 h.one)
+hands_on p rule a b h = hands_same p rule a b h refl refl
 
 -- the passes of a part are those under the request that its rule hands to it
 handed : (n : ℕ) (p q : Request) (t : Breakdown) → q ≡ p →

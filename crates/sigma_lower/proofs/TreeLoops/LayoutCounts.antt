@@ -156,10 +156,6 @@ module _ (c : Request) where
 
   all-in : (p : Request) (count : ℕ) (t : Breakdown) → HasFields c p → IsNodeTree p t → is_plain p ≡ true →
       AllCount c (passes_of count (layout_of p t)) (passes_in p count t)
-  all-in p count (leaf d) like h plain = alone-counts p count (leaf d) like h plain h.tree.0
-  all-in p count (node Gt a b) like h plain = alone-counts p count (node Gt a b) like h plain h.tree.2.0
-  all-in p count (node Ct a b) like h plain = alone-counts p count (node Ct a b) like h plain h.tree.2.0
-  all-in p count (node Split a b) like h plain = alone-counts p count (node Split a b) like h plain h.tree.2.0
   all-in p count (node Dim a b) like h plain =
       let d = size_of a * size_of b in
       let first = left_tree p Dim a b h in
@@ -175,6 +171,8 @@ module _ (c : Request) where
       (node_work p (node Dim a b)) (is_kernel p d) (nat_le d p.unroll) (alone-kernel p d plain)
       (λ short. dim-code p a b (by Dim (node_root p d) (layout_of (first_of p) a) (layout_of (rest_of p) b)) count like
       short cost)
+  all-in p count (node rule a b) like h plain = alone-counts p count (node rule a b) like h plain h.tree.2.0
+  all-in p count (leaf d) like h plain = alone-counts p count (leaf d) like h plain h.tree.0
 
 -- ---- the whole, of one size
 
@@ -265,10 +263,6 @@ module _ (p : Request) (a b : Breakdown) (h : IsForwardTree p (node Dim a b)) wh
 pub layouts_count : (p : Request) (t : Breakdown) → IsForwardTree p t →
     AllCount p (whole_passes p.lanes (layout_of p t)) (request_passes p t)
 layouts_count p (leaf d) h = flat-counts p (leaf d) h h.tree.0 (no-inverse-leaf p.kind d h.tree.1)
-layouts_count p (node Gt a b) h =
-    flat-counts p (node Gt a b) h h.tree.2.0 (no-inverse-rule p.kind Gt (size_of a) (size_of b) h.tree.2.1)
-layouts_count p (node Ct a b) h =
-    flat-counts p (node Ct a b) h h.tree.2.0 (no-inverse-rule p.kind Ct (size_of a) (size_of b) h.tree.2.1)
-layouts_count p (node Split a b) h =
-    flat-counts p (node Split a b) h h.tree.2.0 (no-inverse-rule p.kind Split (size_of a) (size_of b) h.tree.2.1)
 layouts_count p (node Dim a b) h = dim-whole p a b h (is_plain p) refl
+layouts_count p (node rule a b) h =
+    flat-counts p (node rule a b) h h.tree.2.0 (no-inverse-rule p.kind rule (size_of a) (size_of b) h.tree.2.1)

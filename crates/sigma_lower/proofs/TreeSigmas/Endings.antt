@@ -43,10 +43,7 @@ tiled-plain : (l : Layout) → LastIs EndsPlain (tiled_passes l)
 tiled-plain (work w) = passes-plain 1 (work w)
 tiled-plain (by Gt root a b) = passes-plain 1 (by Gt root a b)
 tiled-plain (by Ct root a b) = spread-plain a b true
-tiled-plain (by Split root a b) =
-    plain-behind (tiles false) (passes_of (layout_size a) b ++ (tiles false ∷ passes_of (layout_size b) a))
-    (spread-plain a b false)
-tiled-plain (by Dim root a b) =
+tiled-plain (by _ root a b) =
     plain-behind (tiles false) (passes_of (layout_size a) b ++ (tiles false ∷ passes_of (layout_size b) a))
     (spread-plain a b false)
 

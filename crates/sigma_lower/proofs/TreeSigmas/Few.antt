@@ -83,8 +83,7 @@ few-tiled : (l : Layout) → AreFew (number l) (tiled_passes l)
 few-tiled (work w) = few-plain (work w)
 few-tiled (by Gt root a b) = few-plain (by Gt root a b)
 few-tiled (by Ct root a b) = let is = between a b true in record { some = omega (arith, is); few = omega (arith, is) }
-few-tiled (by Split root a b) = let is = between a b false in record { some = omega arith; few = omega (arith, is) }
-few-tiled (by Dim root a b) = let is = between a b false in record { some = omega arith; few = omega (arith, is) }
+few-tiled (by _ root a b) = let is = between a b false in record { some = omega arith; few = omega (arith, is) }
 
 few-whole : (lanes : ℕ) (l : Layout) → AreFew (number l) (whole_passes lanes l)
 few-whole lanes l =

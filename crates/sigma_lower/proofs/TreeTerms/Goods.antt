@@ -64,28 +64,21 @@ module _ (Q : PlainWork → Type 0) where
 
   whole-apt : (path : Path) (k : PlainCore) → IsApt Q k → All (IsAptFactor Q) (whole_factor path k ∷ [])
   whole-apt path (piece t) h = apt-one (smp.blocks (step path (piece t))) h
-  whole-apt path (turns r s) h = apt-one (smp.move_before (step path (turns r s))) h
   whole-apt path (twiddles r s w) h = apt-one (smp.diagonals (step path (twiddles r s w))) h
-  whole-apt path (thomas_in r s) h = apt-one (smp.move_before (step path (thomas_in r s))) h
   whole-apt path (thomas_out r s) h = apt-one (smp.move_after (step path (thomas_out r s))) h
+  whole-apt path k h = apt-one (smp.move_before (step path k)) h
 
   cut-apt : (n p : ℕ) (path : Path) (k : PlainCore) → IsApt Q k → All (IsAptFactor Q) (cut_factors n p path k)
-  cut-apt n p [] (piece t) h = whole-apt [] (piece t) h
   cut-apt n p [] (turns r s) h =
       All-cons (IsAptFactor Q) (smp.move_before (step (within (Columns (r / p)) []) (turns p s))) (smp.blocks (step [] (turns (r / p) s)) ∷ []) tt (apt-one (smp.blocks (step [] (turns (r / p) s))) tt)
-  cut-apt n p [] (twiddles r s w) h = whole-apt [] (twiddles r s w) h
-  cut-apt n p [] (thomas_in r s) h = whole-apt [] (thomas_in r s) h
-  cut-apt n p [] (thomas_out r s) h = whole-apt [] (thomas_out r s) h
+  cut-apt n p [] k h = whole-apt [] k h
   cut-apt n p (Blocks r ∷ path) k h = apt-one (smp.blocks (step (within (Blocks (r / p)) path) k)) h
   cut-apt n p (Columns s ∷ path) (piece t) h =
       let before = smp.move_before (step (within (Columns (s / p)) []) (turns p (n / s))) in
       let middle = smp.blocks (step (within (Columns (s / p)) path) (piece t)) in
       let after = smp.move_after (step (within (Columns (s / p)) []) (turns (n / s) p)) in
       All-cons (IsAptFactor Q) before (middle ∷ after ∷ []) tt (All-cons (IsAptFactor Q) middle (after ∷ []) h (apt-one after tt))
-  cut-apt n p (Columns s ∷ path) (turns a b) h = whole-apt (Columns s ∷ path) (turns a b) h
-  cut-apt n p (Columns s ∷ path) (twiddles a b w) h = whole-apt (Columns s ∷ path) (twiddles a b w) h
-  cut-apt n p (Columns s ∷ path) (thomas_in a b) h = whole-apt (Columns s ∷ path) (thomas_in a b) h
-  cut-apt n p (Columns s ∷ path) (thomas_out a b) h = whole-apt (Columns s ∷ path) (thomas_out a b) h
+  cut-apt n p (Columns s ∷ path) k h = whole-apt (Columns s ∷ path) k h
 
   flat-apt : (n p : ℕ) (ss : List PlainStep) → All (λ s. IsApt Q s.core) ss →
       All (IsAptFactor Q) (flat_map (factors_of n p) ss)
@@ -123,20 +116,15 @@ module _ (Q : PlainWork → Type 0) where
 
   block-apt : (d : Deal) (o : Option Grid) (path : Path) (k : PlainCore) → IsApt Q k →
       All (IsAptLane Q) (block_factors d o path k)
-  block-apt d o [] (piece t) h = settled-then d o (lanes (step [] (piece t))) h
   block-apt d o [] (turns r s) h = settled-then d o (lanes (step [] (turns (r / d.lanes) s))) tt
   block-apt d o [] (twiddles r s w) h = settled-then d o (diagonals (step (within (Blocks d.procs) []) (twiddles r s w))) tt
-  block-apt d o [] (thomas_in r s) h = settled-then d o (lanes (step [] (thomas_in r s))) h
-  block-apt d o [] (thomas_out r s) h = settled-then d o (lanes (step [] (thomas_out r s))) h
+  block-apt d o [] k h = settled-then d o (lanes (step [] k)) h
   block-apt d o (Blocks r ∷ path) k h =
       let g : Grid = record { groups = r / d.lanes; tiles = d.block / r / d.lanes } in
       let lane = lanes (step (within (Blocks (r / d.lanes)) path) k) in
       All-append (IsAptLane Q) (grouped d o g) (lane ∷ []) (grouped-apt d o g) (lane-one lane h)
-  block-apt d o (Columns s ∷ path) (piece t) h = settled-then d o (lanes (narrowed d.lanes (Columns s ∷ path) (piece t))) h
-  block-apt d o (Columns s ∷ path) (turns a b) h = settled-then d o (lanes (narrowed d.lanes (Columns s ∷ path) (turns a b))) h
   block-apt d o (Columns s ∷ path) (twiddles a b w) h = settled-then d o (diagonals (step (within (Blocks d.procs) (Columns s ∷ path)) (twiddles a b w))) h
-  block-apt d o (Columns s ∷ path) (thomas_in a b) h = settled-then d o (lanes (narrowed d.lanes (Columns s ∷ path) (thomas_in a b))) h
-  block-apt d o (Columns s ∷ path) (thomas_out a b) h = settled-then d o (lanes (narrowed d.lanes (Columns s ∷ path) (thomas_out a b))) h
+  block-apt d o (Columns s ∷ path) k h = settled-then d o (lanes (narrowed d.lanes (Columns s ∷ path) k)) h
 
   laned-apt : (d : Deal) (o : Option Grid) (f : smp.PlainFactor) → IsAptFactor Q f → All (IsAptLane Q) (laned d o f)
   laned-apt d o (smp.blocks s) h = block-apt d o s.path s.core h

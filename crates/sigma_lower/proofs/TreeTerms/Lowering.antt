@@ -187,23 +187,18 @@ lowered_core_on h path (thomas_out r s) x e g =
 after_core_on : (h : Target) (path : Path) (k : PlainCore) (x : List ℕ) → size_under path (core_size k) ≡ h.size →
     IsGoodCore k →
     term_on h (after_core path k) x ≡ under path (core_size k) (core_on h.modulus k) x
-after_core_on h path (piece w) x e g = lowered_core_on h path (piece w) x e g
 after_core_on h path (turns r s) x e g =
     ap (λ n. scatter n n (at (wrapped path (r * s) (Strided s r))) x) (sym e)
     ∙ sym (gather_as_scatter (size_under path (r * s)) _ _ x (wrapped-permutes path (r * s) (Strided r s) (Strided s r) (turns-permute r s)))
     ∙ sym (gather-under path (r * s) (Strided r s) x (turns_below r s))
-after_core_on h path (twiddles r s w) x e g = lowered_core_on h path (twiddles r s w) x e g
-after_core_on h path (thomas_in r s) x e g = lowered_core_on h path (thomas_in r s) x e g
-after_core_on h path (thomas_out r s) x e g = lowered_core_on h path (thomas_out r s) x e g
+after_core_on h path k x e g = lowered_core_on h path k x e g
 
 -- the term of a factor does what its step does
 pub factor_on : (h : Target) (p v : ℕ) (f : PlainFactor) (x : List ℕ) → IsGood h.size (factor_step p v f) →
     term_on h (factor_term p v f) x ≡ step_on h.modulus (factor_step p v f) x
-factor_on h p v (lanes s) x g = lowered_core_on h (factor_step p v (lanes s)).path s.core x g.size g.core
-factor_on h p v (diagonals s) x g = lowered_core_on h s.path s.core x g.size g.core
-factor_on h p v (move_before s) x g = lowered_core_on h (factor_step p v (move_before s)).path s.core x g.size g.core
 factor_on h p v (move_after s) x g = after_core_on h (factor_step p v (move_after s)).path s.core x g.size g.core
 factor_on h p v (tiles path) x g = nest_on h (factor_step p v (tiles path)).path (tile v) x g.size
+factor_on h p v f x g = lowered_core_on h (factor_step p v f).path (factor_step p v f).core x g.size g.core
 
 pub factors_on : (h : Target) (p v : ℕ) (fs : List PlainFactor) (x : List ℕ) →
     AreGood h.size (map (factor_step p v) fs) → terms_on h (map (factor_term p v) fs) x
