@@ -18,8 +18,8 @@ use Rattle.sigma_lower.proofs.TreeLoops.Walks.{Brings, IsLaw, Keeps, Point, Righ
 use Rattle.sigma_lower.proofs.TreeLoops.Walks.{right-law, settled, steps-law, tiled}
 use Rattle.sigma_lower.proofs.TreeLoops.SharedPasses.Merging.{nothing}
 use Rattle.sigma_lower.proofs.TreeLoops.SharedPasses.Owners.{KeepsOwner, First, first-gath, first-scat, first-diag}
-use Rattle.sigma_lower.proofs.TreeLoops.SharedPasses.Owners.{first-nest, Shared, shared-gath, shared-scat, shared-diag}
-use Rattle.sigma_lower.proofs.TreeLoops.SharedPasses.Owners.{shared-dealt, alone-phases}
+use Rattle.sigma_lower.proofs.TreeLoops.SharedPasses.Owners.{first-nest, first-own, Shared, shared-gath, shared-scat, shared-diag}
+use Rattle.sigma_lower.proofs.TreeLoops.SharedPasses.Owners.{shared-dealt, shared-own, alone-phases}
 use Rattle.sigma_lower.proofs.TreeLoops.SharedPasses.Shares.{AreShares, shares, block-of, row-block, column-block}
 use Rattle.sigma_lower.proofs.TreeLoops.SharedPasses.Shares.{block_owner, column_owner, block-owner, column-owner}
 use Rattle.sigma_lower.proofs.TreeLoops.SharedPasses.Shares.{OwnsNatural, block-natural, block-keeps, columns-keeps}
@@ -60,7 +60,7 @@ abbrev Firsts : Target → Point → List PlainTerm → Point → Type 0
 Firsts c = Brings (FirstAt c)
 
 first-any : (c : Target) (i : Point) (st : Merging) → FirstAt c i st → First c (block_owner c) st
-first-any c begun st is = subst (First c (block_owner c)) (sym is) (tt, tt)
+first-any c begun st is = subst (First c (block_owner c)) (sym is) tt
 first-any c _ st is = is
 
 first-law : (c : Target) → IsLaw (Firsts c)
@@ -169,8 +169,8 @@ first-after c false path w f k l st h =
 
 first-turned : (c : Target) (b : Bool) (f g : Mapping) →
     First c (block_owner c) (merged nothing ((if b then [] else gath f ∷ []) ++ gath g ∷ []))
-first-turned c true f g = (tt, tt)
-first-turned c false f g = (tt, tt)
+first-turned c true f g = tt
+first-turned c false f g = tt
 
 right-keeps : (c : Target) (w r : ℕ) (b : Layout) → IsGoodLayout c.modulus b → AreShares c r (layout_size b) →
     RightKeeps (Firsts c) c.procs c.lanes r (layout_size b) w
@@ -310,15 +310,26 @@ root-phases c (by rule w a b) can good several fits =
     let phases : in_phases c.procs first second ≡ first ∷ second ∷ [] =
     ap (λ b. if b then (first ++ second) ∷ [] else first ∷ second ∷ []) (unequal c.procs (λ one. omega (arith, one, several))) in
     subst (λ ts. ArePhasesShared c (map passes_of_terms ts)) (sym phases) (
-      record { owner = block_owner c; is_owner = block-owner c r s here; owns = (first-root c rule w a b fits good.2 here).0 },
-      (record { owner = column_owner c s; is_owner = column-owner c r s can.line here; owns = (second-root c s a good.1 here).0 }, tt),
+      record {
+        owner = block_owner c;
+        is_owner = block-owner c r s here;
+        owns = first-own c (block_owner c) (merged nothing first) (first-root c rule w a b fits good.2 here);
+      },
+      (
+        record {
+          owner = column_owner c s;
+          is_owner = column-owner c r s can.line here;
+          owns = shared-own c (column_owner c s) (merged nothing second) (second-root c s a good.1 here);
+        },
+        tt,
+      ),
     )
 
 pub phases_are_shared : (c : Target) (l : Layout) → CanShareLayout c l → IsGoodLayout c.modulus l →
     ArePhasesShared c (merged_phases c l)
 phases_are_shared c l can good =
     elim (cases_eq c.procs 1) [
-      | inl one ↦ alone-phases c (merged_phases c l) can.procs one
+      | inl one ↦ alone-phases c can.procs one (merged_phases c l)
       | inr many ↦
           let low : 1 ≤ c.procs = can.procs in
           let several : 1 < c.procs = omega (arith, low, many) in
