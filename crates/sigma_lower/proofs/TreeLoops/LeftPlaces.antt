@@ -11,7 +11,8 @@ use Rattle.sigma_lower.proofs.TreeLoops.LineMoves.{LeadsTo, AreThree, leads-none
 use Rattle.sigma_lower.proofs.TreeLoops.LineMoves.{dealt-leads}
 use Rattle.sigma_lower.proofs.TreeLoops.Moved.{placed-columns}
 use Rattle.sigma_lower.proofs.TreeLoops.PlaceLimits.{IsMultiplied, IsPlacedPass}
-use Rattle.sigma_lower.proofs.TreeLoops.PlaceRoom.{can_scale, can_join, can_divide}
+use Rattle.index_fn.specs.Mapping.{Always}
+use Rattle.sigma_lower.proofs.TreeLoops.PlaceRoom.{room-paired}
 use Rattle.sigma_lower.proofs.TreeLoops.PlaceSums.{parts-fit, size-positive}
 use Rattle.sigma_lower.proofs.TreeLoops.RightPlaces.{wide-all}
 use Rattle.sigma_lower.proofs.TreeLoops.RootPasses.{on_all, if_dealt, left_diagonal, left_pass}
@@ -174,21 +175,13 @@ module _ (size p v m s : ℕ) (h : AreShares size p v m s) where
       HasRoomFor cs (inner_of path n) y → Fits n (simplified cs (inner_of path n) y) cs →
       HasRoomFor cs (inner_of (Columns s ∷ path) n) (placed whole m (sp.lane ∷ sp.column ∷ []) y)
   room-whole cs sp path n y fits low room made =
-      let u : Sum = joined (scaled v sp.column) sp.lane in
       let z : Sum = simplified cs (inner_of path n) y in
       let is = numbered cs sp.lane sp.column y sp.copies.0 sp.copies.1.0 in
-      let some : 0 < s = omega (arith, h.right) in
       let high : s ≤ 1048576 = omega (arith, columns_high size p v m s h) in
-      let apart = divided-joined s y u cs some is.fits.proper is.fits.small in
-      subst (HasRoomFor cs (inner_of (Columns s ∷ path) n)) (sym is.same) (
-        can_divide s y u cs some (omega arith) is.fits.proper is.fits.small,
-        subst (λ (d : Divided). HasRoomFor cs (inner_of path n) d.quot) (sym apart) room,
-        tt,
-        subst (λ (d : Divided). CanScale 1 (simplified cs (inner_of path n) d.quot)) (sym apart)
-            (can_scale 1 z cs made.proper (omega (arith, made.small))),
-        subst (λ (d : Divided). CanJoin (scaled 1 (simplified cs (inner_of path n) d.quot)) (constant 0)) (sym apart)
-            (can_join (scaled 1 z) (constant 0) cs (omega (arith, top-scaled 1 z cs, made.small))),
-      )
+      subst (HasRoomFor cs (inner_of (Columns s ∷ path) n)) (sym is.same)
+      (room-paired (inner_of path n) (Always 0) s 1 y (joined (scaled v sp.column) sp.lane) z (constant 0) cs
+      (omega (arith, h.right)) (omega arith) is.fits.proper is.fits.small room tt refl refl made.proper
+      (omega (arith, made.small)))
 
   -- the places of a diagonal within the part are those in all copies
   left_multiplied : (cs : ℕ → ℕ) (sp : Spread cs 0) (q : PlainPass) (e : Sum) (o : PlainDiagonal) →

@@ -2,7 +2,8 @@
 use Rattle.sigma_lower.proofs.Words.{ℕ, ◌+◌, ◌-◌, ◌*◌, ◌/◌, ◌%◌, ◌^◌, ◌<◌, ◌≤◌, inl, inr, arith, sym, ◌∙◌, subst}
 use Rattle.sigma_lower.proofs.Words.{le-mul_of_pos_right, mul-le-mul_right, cases_eq, nat_tests, IsProper, Sum}
 use Rattle.sigma_lower.proofs.Words.{constant, variable, remainder, quotient, top, scaled, joined, mods, CanScale}
-use Rattle.sigma_lower.proofs.Words.{CanJoin}
+use Rattle.sigma_lower.proofs.Words.{◌≡◌, CanJoin, HasRoomFor, Mapping, simplified, Divided, divided-joined, top-scaled}
+use Rattle.index_fn.specs.Mapping.{Paired}
 use Rattle.std.proofs.Math.Nat.{mul-le-mul_left, mod-le}
 use Rattle.perm_algebra.specs.Affine.{peak}
 use Rattle.perm_algebra.specs.Room.{constant_of, HasTop, CanDivide}
@@ -36,6 +37,21 @@ can_join a e cs below = omega (arith, constant-le-top a cs, constant-le-top e cs
 pub can_divide : (s : ℕ) (a e : Sum) (cs : ℕ → ℕ) → 0 < s → s ≤ 2 ^ 64 → IsProper e cs → top e cs < s →
     CanDivide cs s (joined (scaled s a) e)
 can_divide s a e cs positive high h small = subst (HasTop cs) (sym (rest-joined s a e positive ∙ rest-small s e cs h small)) (has_top e cs h (omega arith))
+
+-- a pair of functions at a multiple of s and a small rest, which they lead to these sums
+pub room-paired : (f g : Mapping) (s k : ℕ) (a e x y : Sum) (cs : ℕ → ℕ) → 0 < s → s ≤ 2 ^ 64 → IsProper e cs →
+    top e cs < s → HasRoomFor cs f a → HasRoomFor cs g e → simplified cs f a ≡ x → simplified cs g e ≡ y →
+    IsProper x cs → k * top x cs + top y cs < 2 ^ 64 → HasRoomFor cs (Paired f k g s) (joined (scaled s a) e)
+room-paired f g s k a e x y cs some high proper small on_left on_right left right count below =
+    let scale : CanScale k x = can_scale k x cs count (omega arith) in
+    let join : CanJoin (scaled k x) y = can_join (scaled k x) y cs (omega (arith, top-scaled k x cs)) in
+    subst
+    (λ (z : Divided).
+    CanDivide cs s (joined (scaled s a) e) × HasRoomFor cs f z.quot × HasRoomFor cs g z.rem
+    × CanScale k (simplified cs f z.quot) × CanJoin (scaled k (simplified cs f z.quot)) (simplified cs g z.rem))
+    (sym (divided-joined s a e cs some proper small))
+    (can_divide s a e cs some high proper small, on_left, on_right, subst (CanScale k) (sym left) scale,
+    subst (λ w. CanJoin (scaled k w) (simplified cs g e)) (sym left) (subst (CanJoin (scaled k x)) (sym right) join))
 
 pub scaled-top : (a t b : ℕ) → t < b → a * t ≤ b * a
 scaled-top a t b h = let more : a * t ≤ a * b = mul-le-mul_left a (omega arith) in omega arith
