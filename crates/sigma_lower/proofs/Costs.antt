@@ -1,5 +1,6 @@
 -- The terms of a formula for lanes have its operations: each processor has its share.
 use Rattle.sigma_lower.proofs.Words.{◌≡◌, ℕ, ◌+◌, ◌*◌, ◌/◌, ◌%◌, ◌<◌, ◌==◌, Bool, true, false, arith, refl, sym, ap}
+use Rattle.std.proofs.Common.{add-zero}
 use Rattle.sigma_lower.proofs.Words.{ap₂, ◌∙◌, List, [], ◌∷◌, ◌++◌, subst, if◌then◌else◌, All, map, Option, None, Some}
 use Rattle.sigma_lower.proofs.Words.{mul-div_right, All-head, All-tail, CanShareLayout, work_cost, Target}
 use Rattle.sigma_lower.proofs.Words.{closed_phases, embed, phase_term, IsVecOf, lowered_core, factor_term, smp_of}
@@ -102,23 +103,11 @@ phase-cost weight c p v (f ∷ fs) positive h =
     shared p a b = omega arith
 
 -- the products at the end, of which each processor has s
-none-more : (p a b s : ℕ) → 0 ≡ p * s → p * (a + b) ≡ p * (a + (b + s))
-none-more p a b s e =
-    let before : p * (a + b) ≡ p * a + p * b = omega arith in
-    let after : p * (a + (b + s)) ≡ p * a + p * b + p * s = omega arith in
-    omega (arith, before, after, e)
+last-more : (p b s e : ℕ) → e ≡ p * s → p * b + e ≡ p * (b + s)
+last-more p b s e is = let after : p * (b + s) ≡ p * b + p * s = omega arith in omega (arith, after, is)
 
-some-more : (p a b s e : ℕ) → e ≡ p * s → p * (a + b) + e ≡ p * (a + (b + s))
-some-more p a b s e is =
-    let before : p * (a + b) ≡ p * a + p * b = omega arith in
-    let after : p * (a + (b + s)) ≡ p * a + p * b + p * s = omega arith in
-    omega (arith, before, after, is)
-
-none-last : (p b s : ℕ) → 0 ≡ p * s → p * b ≡ p * (b + s)
-none-last p b s e = let after : p * (b + s) ≡ p * b + p * s = omega arith in omega (arith, after, e)
-
-some-last : (p b s e : ℕ) → e ≡ p * s → p * b + e ≡ p * (b + s)
-some-last p b s e is = let after : p * (b + s) ≡ p * b + p * s = omega arith in omega (arith, after, is)
+both-more : (p a b s e : ℕ) → e ≡ p * s → p * (a + b) + e ≡ p * (a + (b + s))
+both-more p a b s e is = last-more p (a + b) s e is ∙ ap (λ n. p * n) (omega arith)
 
 module _ (weight : ℕ) (c : Target) (p v : ℕ) (first second : List PlainFactor) where
   abbrev shares : List PlainFactor → ℕ
@@ -138,16 +127,16 @@ module _ (weight : ℕ) (c : Target) (p v : ℕ) (first second : List PlainFacto
   phases-cost true None s all h k e =
       ap (λ x. x ∷ [])
       (all ∙ ap (λ n. p * n) (shares_in-append weight c.modulus p v first second)
-      ∙ none-more p (shares first) (shares second) s e)
+      ∙ sym (add-zero _) ∙ both-more p (shares first) (shares second) s 0 e)
   phases-cost true (Some u) s all h k e =
       ap (λ x. x ∷ [])
       (ap (λ x. x + weight * c.size)
       (all ∙ ap (λ n. p * n) (shares_in-append weight c.modulus p v first second))
-      ∙ some-more p (shares first) (shares second) s (weight * c.size) e)
-  phases-cost false None s all h k e = ap₂ (λ x y. x ∷ y ∷ []) h (k ∙ none-last p (shares second) s e)
+      ∙ both-more p (shares first) (shares second) s (weight * c.size) e)
+  phases-cost false None s all h k e = ap₂ (λ x y. x ∷ y ∷ []) h (k ∙ sym (add-zero _) ∙ last-more p (shares second) s 0 e)
   phases-cost false (Some u) s all h k e =
       ap₂ (λ x y. x ∷ y ∷ []) h
-      (ap (λ x. x + weight * c.size) k ∙ some-last p (shares second) s (weight * c.size) e)
+      (ap (λ x. x + weight * c.size) k ∙ last-more p (shares second) s (weight * c.size) e)
 
 -- the products at the end, of which each processor has an equal part
 closing-exact : (weight n p : ℕ) (o : Option ℕ) → 0 < p → HasEqualParts n p o →

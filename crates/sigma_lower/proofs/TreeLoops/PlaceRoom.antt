@@ -49,9 +49,13 @@ room-paired f g s k a e x y cs some high proper small on_left on_right left righ
     (λ (z : Divided).
     CanDivide cs s (joined (scaled s a) e) × HasRoomFor cs f z.quot × HasRoomFor cs g z.rem
     × CanScale k (simplified cs f z.quot) × CanJoin (scaled k (simplified cs f z.quot)) (simplified cs g z.rem))
-    (sym (divided-joined s a e cs some proper small))
-    (can_divide s a e cs some high proper small, on_left, on_right, subst (CanScale k) (sym left) scale,
-    subst (λ w. CanJoin (scaled k w) (simplified cs g e)) (sym left) (subst (CanJoin (scaled k x)) (sym right) join))
+    (sym (divided-joined s a e cs some proper small)) (
+      can_divide s a e cs some high proper small,
+      on_left,
+      on_right,
+      subst (CanScale k) (sym left) scale,
+      subst (λ w. CanJoin (scaled k w) (simplified cs g e)) (sym left) (subst (CanJoin (scaled k x)) (sym right) join),
+    )
 
 pub scaled-top : (a t b : ℕ) → t < b → a * t ≤ b * a
 scaled-top a t b h = let more : a * t ≤ a * b = mul-le-mul_left a (omega arith) in omega arith

@@ -6,6 +6,7 @@ use Rattle.sigma_lower.proofs.Words.{twiddle_by, twiddle_last, whole_passes, Pla
 use Rattle.sigma_lower.proofs.Words.{IsGoodLayout, Rule, Gt, Ct, Split, Dim}
 use Rattle.std.proofs.Common.{length-append}
 use Rattle.std.proofs.lemmas.Nat.{pow-add}
+use Rattle.sigma_lower.proofs.TreeSigmas.Loops.{weight-small}
 
 -- ---- how many passes a layout has
 
@@ -45,20 +46,12 @@ number-few m (by rule root a b) h two =
     subst (λ e. 2 ^ e ≤ layout_size a * layout_size b) turned
     (subst (λ n. n ≤ layout_size a * layout_size b) (sym (pow-add 2 x y)) both)
 
--- powers of two up to 1048576
-exponent-small : (k n : ℕ) → 2 ^ k ≤ n → n ≤ 1048576 → k ≤ 20
-exponent-small k n low high =
-    elim (cases_lt 20 k) [
-      | inl large ↦ let great : 2 ^ 21 ≤ 2 ^ k = pow_mono {i = 21} {j = k} (omega arith) in absurd (omega arith)
-      | inr small ↦ small
-    ]
-
 number-small : (m : ℕ) (l : Layout) → IsGoodLayout m l → layout_size l ≤ 1048576 → number l ≤ 20
 number-small m (work w) h high = omega arith
 number-small m (by rule root a b) h high =
     let n = layout_size a * layout_size b in
     let two : 2 * 2 ≤ n = mul-le 2 2 (layout_size a) (layout_size b) h.0.left h.0.right in
-    exponent-small (number b + number a) n (number-few m (by rule root a b) h (omega (arith, two))) high
+    weight-small (number b + number a) (omega (arith, number-few m (by rule root a b) h (omega (arith, two)), high))
 
 -- ---- a layout of at most 1048576 words has at most 22 passes
 

@@ -4,9 +4,11 @@ use Rattle.sigma_lower.proofs.Words.{◌∙◌, arith, subst, Some, slice_index,
 use Rattle.sigma_lower.proofs.Words.{count_of, place, size_under, Sum, constant, variable, value, simplified, loops_of}
 use Rattle.sigma_lower.proofs.Words.{limits_in, nest_of, items_out, PlainMultiplier, PlainNest, IsHost, IsReadyLoop}
 use Rattle.sigma_lower.proofs.Words.{PlainWork, kernel, rows, horner, tile, copy, work_size, ranged, PlainPass, through}
-use Rattle.sigma_lower.proofs.Words.{loop_of, taken_of}
+use Rattle.sigma_lower.proofs.Words.{◌*◌, loop_of, taken_of, copies_of, size_under-copies, le-mul_of_pos_right}
 use Rattle.std.proofs.Common.{slice_index_or}
+use Rattle.std.proofs.lemmas.List.{map-id}
 use Rattle.std.proofs.lemmas.List.Elements.{All-weaker}
+use Rattle.std.proofs.lemmas.Simd.{map-map}
 use Rattle.operators.specs.Sizes.{max_size}
 use Rattle.sigma_spl.specs.Good.{NamesItems}
 use Rattle.sigma_spl.specs.Loops.{AreFormed}
@@ -22,27 +24,19 @@ use Rattle.sigma_lower.proofs.TreeLoops.Shaped.{IsShapedWork}
 use Rattle.sigma_lower.proofs.TreeSigmas.Frames.{nest-framed}
 use Rattle.sigma_lower.proofs.TreeSigmas.Known.{IsKnown}
 use Rattle.sigma_lower.proofs.TreeSigmas.Loops.{IsCount, counts-drop, length-drop, length-tensors, loop-counts}
-use Rattle.sigma_lower.proofs.TreeSigmas.Loops.{path-weight, under-least, weight-small}
+use Rattle.sigma_lower.proofs.TreeSigmas.Loops.{path-weight, weight-small}
 use Rattle.sigma_lower.proofs.TreeSigmas.Places.{taken-is, moves-vectors, finds-factors, residues-of}
 use Rattle.sigma_lower.proofs.TreeSigmas.Works.{can-work, no-copy}
+use Rattle.sigma_lower.proofs.TreeTerms.Sizes.{within_whole}
 
 -- ---- names
 
 pub names-all : (w : PlainWork) (cs : ℕ → ℕ) (fs : List Mapping) (sums : List Sum) → AreFormed fs → NamesItems w sums →
     NamesItems w (map (all_simplified cs fs) sums)
-names-all w cs [] sums formed h = subst (NamesItems w) (sym (map-same sums)) h
-  where
-    map-same : (sums : List Sum) → map (λ e. e) sums ≡ sums
-    map-same [] = refl
-    map-same (e ∷ es) = ap (λ rest. e ∷ rest) (map-same es)
+names-all w cs [] sums formed h = subst (NamesItems w) (sym (map-id sums)) h
 names-all w cs (f ∷ fs) sums formed h =
-    subst (NamesItems w) (map-twice sums)
+    subst (NamesItems w) (map-map (all_simplified cs fs) (simplified cs f) sums)
     (names-all w cs fs (map (simplified cs f) sums) formed.1 (names-simplified w cs f sums formed.0 h))
-  where
-    map-twice : (sums : List Sum) →
-        map (all_simplified cs fs) (map (simplified cs f) sums) ≡ map (all_simplified cs (f ∷ fs)) sums
-    map-twice [] = refl
-    map-twice (e ∷ es) = ap (λ rest. all_simplified cs fs (simplified cs f e) ∷ rest) (map-twice es)
 
 -- ---- values in range, with others after them
 
@@ -76,13 +70,17 @@ module _ (c : Target) (p : PlainPass) (host : IsHost c) (known : IsKnown c p) wh
   fills : size_under p.path (work_size w) ≡ c.size
   fills = known.shaped.fills
 
+  copies-high : copies_of p.path ≤ 1048576
+  copies-high =
+      let n = work_size w in
+      let most : copies_of p.path ≤ copies_of p.path * n = le-mul_of_pos_right {m = n} (copies_of p.path) known.loop.some in
+      omega (arith, most, size_under-copies p.path n, fills, high)
+
   all-counts : All IsCount (map count_of p.path)
-  all-counts = loop-counts p.path (work_size w) known.shaped.wide known.loop.some (omega (arith, fills, high))
+  all-counts = loop-counts p.path known.shaped.wide copies-high
 
   few-loops : length p.path ≤ 20
-  few-loops =
-      let weight = path-weight p.path (work_size w) known.shaped.wide known.loop.some in
-      weight-small (length p.path) (omega (arith, weight, fills, high))
+  few-loops = weight-small (length p.path) (omega (arith, path-weight p.path known.shaped.wide, copies-high))
 
   shallow : length (loop_counts c z) ≤ 20
   shallow =
@@ -92,9 +90,7 @@ module _ (c : Target) (p : PlainPass) (host : IsHost c) (known : IsKnown c p) wh
       omega (arith, dropped, all, few)
 
   pub n-small : work_size w ≤ 1048576
-  n-small =
-      let least = under-least p.path (work_size w) known.shaped.wide known.loop.some in omega
-      (arith, least, fills, high)
+  n-small = omega (arith, within_whole p.path (work_size w) c.size host.size.0 fills, high)
 
   -- the nest with other work
   abbrev with_work : PlainWork → PlainNest
