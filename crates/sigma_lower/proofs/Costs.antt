@@ -1,12 +1,12 @@
 -- The terms of a formula for lanes have its operations: each processor has its share.
 use Rattle.sigma_lower.proofs.Words.{◌≡◌, ℕ, ◌+◌, ◌*◌, ◌/◌, ◌%◌, ◌<◌, ◌==◌, Bool, true, false, arith, refl, sym, ap}
-use Rattle.std.proofs.Common.{add-zero}
 use Rattle.sigma_lower.proofs.Words.{ap₂, ◌∙◌, List, [], ◌∷◌, ◌++◌, subst, if◌then◌else◌, All, map, Option, None, Some}
 use Rattle.sigma_lower.proofs.Words.{mul-div_right, All-head, All-tail, CanShareLayout, work_cost, Target}
 use Rattle.sigma_lower.proofs.Words.{closed_phases, embed, phase_term, IsVecOf, lowered_core, factor_term, smp_of}
-use Rattle.sigma_lower.proofs.Words.{within, core_size, PlainCore, piece, turns, twiddles, thomas_in, thomas_out}
-use Rattle.sigma_lower.proofs.Words.{Blocks, Columns, Path, size_under, copies_of, size_under-copies, HasLanes, vec_of}
-use Rattle.sigma_lower.proofs.Words.{PlainFactor, lanes, diagonals, move_before, move_after, PlainVec, vec_shaped}
+use Rattle.sigma_lower.proofs.Words.{within, core_size, PlainCore, piece, twiddles, Blocks, Columns, Path, size_under}
+use Rattle.sigma_lower.proofs.Words.{copies_of, size_under-copies, HasLanes, vec_of, PlainFactor, lanes, diagonals}
+use Rattle.sigma_lower.proofs.Words.{move_before, move_after, PlainVec, vec_shaped}
+use Rattle.std.proofs.Common.{add-zero}
 use Rattle.std.proofs.Math.Nat.{zero-div}
 use Rattle.sigma_spl.specs.Counts.{term_cost}
 use Rattle.sigma_spl.specs.Term.{PlainTerm}

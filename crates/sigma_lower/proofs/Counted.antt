@@ -2,10 +2,9 @@
 use Rattle.sigma_lower.proofs.Words.{◌≡◌, ℕ, zero, suc, ◌+◌, ◌-◌, ◌*◌, ◌^◌, ◌<◌, arith, refl, sym, ap, ap₂, ◌∙◌, []}
 use Rattle.sigma_lower.proofs.Words.{◌∷◌, ◌++◌, length, inl, inr, pow-succ', cases_eq, cases_lt, nat_tests, Wht}
 use Rattle.sigma_lower.proofs.Words.{IsPowerOfTwo, work_cost, operations, one_more, halvings, hadamard_term}
-use Rattle.sigma_lower.proofs.Words.{fourier_term, term_of, Formula, Identity, Fourier, Hadamard, Twiddles, Diagonal}
-use Rattle.sigma_lower.proofs.Words.{Stride, Permutation, GoodThomasIn, GoodThomasOut, Product, TensorLeft, TensorRight}
-use Rattle.sigma_lower.proofs.Words.{DirectSum, Pending, size_of, IsShaped, Tensor, Blocks, Columns, Path, count_of}
-use Rattle.sigma_lower.proofs.Words.{copies_of, size_under, size_under-copies, leaf}
+use Rattle.sigma_lower.proofs.Words.{fourier_term, term_of, Formula, Fourier, Hadamard, Twiddles, Diagonal, Product}
+use Rattle.sigma_lower.proofs.Words.{TensorLeft, TensorRight, DirectSum, Pending, size_of, IsShaped, Tensor, Blocks}
+use Rattle.sigma_lower.proofs.Words.{Columns, Path, count_of, copies_of, size_under, size_under-copies, leaf}
 use Rattle.tree_model.specs.KernelCosts.{kernel_cost, product_cost}
 use Rattle.sigma_spl.specs.Counts.{term_cost}
 use Rattle.sigma_lower.proofs.Lowers.{halvings-power, power-above}

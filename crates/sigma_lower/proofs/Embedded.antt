@@ -14,13 +14,13 @@ use Rattle.sigma_lower.proofs.Parts.{tile-under}
 use Rattle.sigma_lower.proofs.Trees.{piece-nests, core-lowers, flip}
 use Rattle.sigma_lower.proofs.Vectors.{laned-move}
 use Rattle.sigma_lower.proofs.TreeTerms.Vectors.{HasVectors, vectors-blocks, vectors-columns}
-use Rattle.sigma_lower.specs.TreeTerms.Term as lowered
 use Rattle.sigma_lower.proofs.TreeTerms.Lowering.{factor_on, part-le}
 use Rattle.sigma_lower.proofs.TreeTerms.Permuted.{gather-under}
 use Rattle.smp_rewrite.specs.Laws.{IsDiagonal}
-use Rattle.smp_rewrite.specs.LayoutSteps.Step as steps
 use Rattle.vec_rewrite.specs.Vectors.{tiles}
 use Rattle.smp_rewrite.proofs.Tensors.{blocks-within}
+use Rattle.sigma_lower.specs.TreeTerms.Term as lowered
+use Rattle.smp_rewrite.specs.LayoutSteps.Step as steps
 
 -- The term of a factor is good, and does what it did
 pub record Embeds (h : Target) (p v : ℕ) (f : PlainFactor) : Type 0 where

@@ -3,7 +3,7 @@ use Rattle.sigma_lower.proofs.Words.{◌≡◌, ℕ, ◌==◌, Bool, true, false
 use Rattle.sigma_lower.proofs.Words.{reverse, reverse-append, Target, PlainLoop, HasLoop, is_alone, AllHaveLoops}
 use Rattle.sigma_lower.proofs.Words.{PlainPass, passes_of_terms, merged_phases, loop_of, right_path, PlainTerm}
 use Rattle.sigma_lower.proofs.Words.{lowered_of, chosen, RootHasParts, Layout, work, by, layout_size, Rule, Gt, Ct}
-use Rattle.sigma_lower.proofs.Words.{Split, Dim}
+use Rattle.sigma_lower.proofs.Words.{Split}
 use Rattle.sigma_lower.specs.Merged.{PhasesHaveLoops}
 use Rattle.sigma_lower.proofs.TreeLoops.LoopNests.{loops_listed}
 use Rattle.sigma_lower.proofs.TreeLoops.RootMerging.{root_merged}

@@ -7,10 +7,10 @@ use Rattle.index_fn.specs.Mapping.{Paired}
 use Rattle.index_fn.specs.Inverse.{Undoes}
 use Rattle.index_fn.proofs.StepsBefore.{in_undoes, inverse_is}
 use Rattle.sigma_spl.specs.Good.{IsFormed}
-pub use Rattle.sigma_spl.proofs.Keeps.{left_positive, right_positive}
 use Rattle.ring_mod.proofs.Inverses.{AreInverses, inverse_of_s, inverse_of_r, inverses_of}
 use Rattle.sigma_lower.proofs.TreeTerms.Lowering.{AreCoprime, turns-permute, thomas_permutes, both_units}
 use Rattle.sigma_lower.proofs.TreeTerms.Permuted.{wrapped-permutes}
+pub use Rattle.sigma_spl.proofs.Keeps.{left_positive, right_positive}
 
 -- ---- under tensors
 

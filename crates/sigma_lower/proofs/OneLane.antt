@@ -1,8 +1,8 @@
 -- A term that is good where there are no lanes is good for one.
 use Rattle.sigma_lower.proofs.Words.{◌≡◌, ℕ, ◌+◌, ◌%◌, ◌<◌, ap, ◌∙◌, arith, mod-lt, Mapping, CanNest, IsGoodTerm}
-use Rattle.sigma_lower.proofs.Words.{IsMove, same, product, PlainWork, kernel, rows, horner, tile, copy, Path}
+use Rattle.sigma_lower.proofs.Words.{IsMove, same, product, PlainWork, tile, Path}
 use Rattle.sigma_spl.specs.Good.{MovesVectors}
-use Rattle.sigma_spl.specs.Term.{PlainTerm, gath, scat, diag, nest, move, beside}
+use Rattle.sigma_spl.specs.Term.{PlainTerm, gath, scat, nest}
 
 -- any permutation moves vectors of one word
 moves-words : (f : ℕ → ℕ) → MovesVectors 1 f

@@ -1,10 +1,9 @@
 -- The tensors in the term of a formula have several copies.
 use Rattle.sigma_lower.proofs.Words.{◌≡◌, ℕ, zero, suc, ◌^◌, ◌≤◌, arith, sym, [], ◌∷◌, ◌++◌, inl, inr, subst, cases_eq}
 use Rattle.sigma_lower.proofs.Words.{cases_lt, nat_tests, Dft, AreSeveral, kernel, horner, short, one_more, halvings}
-use Rattle.sigma_lower.proofs.Words.{hadamard_term, fourier_term, term_of, Formula, Identity, Fourier, Hadamard}
-use Rattle.sigma_lower.proofs.Words.{Twiddles, Diagonal, Stride, Permutation, GoodThomasIn, GoodThomasOut, Product}
-use Rattle.sigma_lower.proofs.Words.{TensorLeft, TensorRight, DirectSum, Pending, IsShaped, Tensor, Blocks, Columns}
-use Rattle.sigma_lower.proofs.Words.{Path, count_of}
+use Rattle.sigma_lower.proofs.Words.{hadamard_term, fourier_term, term_of, Formula, Fourier, Hadamard, Permutation}
+use Rattle.sigma_lower.proofs.Words.{Product, TensorLeft, TensorRight, DirectSum, Pending, IsShaped, Tensor, Blocks}
+use Rattle.sigma_lower.proofs.Words.{Columns, Path, count_of}
 use Rattle.std.proofs.Common.{pow_pos}
 use Rattle.sigma_spl.specs.Limits.{HasSeveral}
 use Rattle.sigma_spl.specs.Term.{nest}

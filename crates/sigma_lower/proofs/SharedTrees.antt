@@ -6,10 +6,10 @@ use Rattle.sigma_lower.proofs.Words.{HasLanes, laned, vec_of, PlainFactor, facto
 use Rattle.sigma_lower.proofs.Words.{Layout, IsGoodLayout}
 use Rattle.sigma_lower.proofs.Embedded.{factors_embed}
 use Rattle.sigma_lower.proofs.Trees.{step-keeps}
-use Rattle.sigma_lower.specs.TreeTerms.Term as lowered
 use Rattle.sigma_lower.proofs.TreeTerms.Goods.{vec_good, phases_good}
 use Rattle.sigma_lower.proofs.TreeTerms.Lowering.{factor_on}
 use Rattle.smp_rewrite.specs.LayoutSteps.Whole.{IsGoodWhole}
+use Rattle.sigma_lower.specs.TreeTerms.Term as lowered
 
 -- ---- phases
 

@@ -12,7 +12,6 @@ use Rattle.sigma_lower.specs.Shared.{factors_before}
 use Rattle.sigma_lower.proofs.CanMerge.{trees_can_merge}
 use Rattle.sigma_lower.proofs.Closing.{has_phase, closed-on}
 use Rattle.sigma_lower.proofs.SharedTrees.{AllEmbed, PhaseEmbeds, trees_embed}
-use Rattle.sigma_lower.specs.TreeTerms.Term as lowered
 use Rattle.sigma_lower.specs.TreeTerms.Term.{phases_of}
 use Rattle.sigma_lower.proofs.TreeTerms.Both.{terms_mean}
 use Rattle.smp_rewrite.proofs.TreeLaws.{smp_transforms}
@@ -21,6 +20,7 @@ use Rattle.vec_rewrite.specs.declared.VecFactor.{VecFactor}
 use Rattle.vec_rewrite.specs.Vectors.{vec_on}
 use Rattle.vec_rewrite.specs.Views.{plain_vec_factor}
 use Rattle.vec_rewrite.proofs.LaneLaws.{vec_keeps}
+use Rattle.sigma_lower.specs.TreeTerms.Term as lowered
 
 -- ---- phases
 

@@ -4,9 +4,9 @@ use Rattle.sigma_lower.proofs.Words.{sym, ap, ap₂, ◌∙◌, if◌then◌else
 use Rattle.sigma_lower.proofs.Words.{option_map, nat_tests, map-append, Target, Counted, works, tiles, with_twiddles}
 use Rattle.sigma_lower.proofs.Words.{twiddle_last, twiddle_by, passes_of, tiled_passes, whole_passes, has_diagonal}
 use Rattle.sigma_lower.proofs.Words.{counted_as, counted, PlainDiagonal, PlainPass, in_order, merged_of, right_path}
-use Rattle.sigma_lower.proofs.Words.{left_path, PlainWork, kernel, rows, horner, tile, copy, Layout, work, by}
-use Rattle.sigma_lower.proofs.Words.{layout_size, IsGoodLayout, within, Tensor, Blocks, Columns, Path, count_of}
-use Rattle.sigma_lower.proofs.Words.{copies_of, Rule, Gt, Ct, Split, Dim, CanShareLayout, is_alone}
+use Rattle.sigma_lower.proofs.Words.{left_path, PlainWork, kernel, Layout, work, by, layout_size, IsGoodLayout, within}
+use Rattle.sigma_lower.proofs.Words.{Tensor, Blocks, Columns, Path, count_of, copies_of, Rule, Gt, Ct, Split, Dim}
+use Rattle.sigma_lower.proofs.Words.{CanShareLayout, is_alone}
 use Rattle.std.proofs.Math.Nat.{mul_assoc}
 use Rattle.std.proofs.lemmas.List.{append-nil}
 use Rattle.sigma_lower.proofs.TreeLoops.RootDealt.{IsDealt, dealt_parts}

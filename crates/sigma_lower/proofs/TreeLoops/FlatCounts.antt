@@ -17,8 +17,8 @@ use Rattle.tree_model.specs.Admissible.{RuleFits}
 use Rattle.tree_model.specs.Breakdown.{size_of}
 use Rattle.tree_model.specs.Cost.{is_plain}
 use Rattle.tree_model.proofs.PassLaws.{root_no_kernel}
-use Rattle.tree_model.specs.Passes as trees
 use Rattle.tree_model.specs.Whole.{cost_in, left_of, right_of}
+use Rattle.tree_model.specs.Passes as trees
 
 -- ---- one pass
 

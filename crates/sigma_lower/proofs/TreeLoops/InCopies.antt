@@ -1,9 +1,8 @@
 -- Places in copies that any sums name: a natural place is one where the loops' variables name the copy.
 use Rattle.sigma_lower.proofs.Words.{◌≡◌, ℕ, ◌+◌, ◌*◌, ◌<◌, ◌≤◌, arith, refl, sym, ap, ◌∙◌, List, [], ◌∷◌, subst}
 use Rattle.sigma_lower.proofs.Words.{le-mul_of_pos_right, Mapping, Sum, constant, variable, top, scaled, joined}
-use Rattle.sigma_lower.proofs.Words.{Divided, simplified, CanScale, CanJoin, HasRoomFor, top-scaled, divided-joined}
-use Rattle.sigma_lower.proofs.Words.{positive-product, wrapped, Fits, place_sum, AreCounts, Blocks, Columns, Path}
-use Rattle.sigma_lower.proofs.Words.{count_of, size_under, le-times, Same}
+use Rattle.sigma_lower.proofs.Words.{Divided, simplified, HasRoomFor, divided-joined, positive-product, wrapped, Fits}
+use Rattle.sigma_lower.proofs.Words.{place_sum, AreCounts, Blocks, Columns, Path, count_of, size_under, le-times, Same}
 use Rattle.sigma_lower.proofs.TreeLoops.PlaceRoom.{room-paired, scaled-top}
 use Rattle.sigma_lower.proofs.TreeLoops.PlaceSums.{parts-fit, variable-fits}
 

@@ -1,8 +1,8 @@
 -- The item of its copy that stands at a natural place.
-use Rattle.sigma_lower.proofs.Words.{◌≡◌, ℕ, ◌+◌, ◌*◌, ◌<◌, ◌≤◌, arith, refl, sym, ap, ◌∙◌, [], ◌∷◌, subst}
-use Rattle.sigma_lower.proofs.Words.{le-mul_of_pos_right, Sum, constant, variable, scaled, joined, Divided, simplified}
-use Rattle.sigma_lower.proofs.Words.{CanScale, CanJoin, HasRoomFor, top-scaled, divided-joined, joined-end, scaled-one}
-use Rattle.sigma_lower.proofs.Words.{inner_of, Fits, place_sum, AreCounts, Blocks, Columns, Path, size_under, le-times}
+use Rattle.sigma_lower.proofs.Words.{◌≡◌, ℕ, ◌+◌, ◌*◌, ◌≤◌, arith, refl, ap, ◌∙◌, [], ◌∷◌, le-mul_of_pos_right, Sum}
+use Rattle.sigma_lower.proofs.Words.{constant, variable, scaled, joined, Divided, simplified, HasRoomFor}
+use Rattle.sigma_lower.proofs.Words.{divided-joined, joined-end, scaled-one, inner_of, Fits, place_sum, AreCounts}
+use Rattle.sigma_lower.proofs.Words.{Blocks, Columns, Path, size_under, le-times}
 use Rattle.index_fn.specs.Mapping.{Always}
 use Rattle.perm_algebra.proofs.Shape.{joined-zero}
 use Rattle.sigma_lower.proofs.TreeLoops.PlaceRoom.{room-paired}

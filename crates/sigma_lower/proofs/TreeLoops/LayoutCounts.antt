@@ -1,10 +1,10 @@
 -- The passes of the layout of a request's tree count as those of the tree in the cost model.
 use Rattle.sigma_lower.proofs.Words.{◌≡◌, ◌≢◌, ℕ, ◌+◌, ◌*◌, ◌%◌, ◌==◌, Bool, true, false, arith, refl, sym, ap, ap₂}
 use Rattle.sigma_lower.proofs.Words.{◌∙◌, List, [], ◌∷◌, ◌++◌, if◌then◌else◌, subst, map, nat_le, nat_tests, Counted}
-use Rattle.sigma_lower.proofs.Words.{works, tiles, passes_of, tiled_passes, whole_passes, forward_by, One, Kind, Dft}
-use Rattle.sigma_lower.proofs.Words.{Wht, Idft, Request, PlainWork, Layout, work, by, layout_size, layout_of, work_cost}
+use Rattle.sigma_lower.proofs.Words.{works, tiles, passes_of, tiled_passes, whole_passes, forward_by, One, Kind, Idft}
+use Rattle.sigma_lower.proofs.Words.{Request, PlainWork, Layout, work, by, layout_size, layout_of, work_cost}
 use Rattle.sigma_lower.proofs.Words.{IsNodeTree, left_tree, right_tree, Breakdown, leaf, node, AllowsLeaf, is_kernel}
-use Rattle.sigma_lower.proofs.Words.{node_root, request_passes, Rule, Gt, Ct, Split, Dim}
+use Rattle.sigma_lower.proofs.Words.{node_root, request_passes, Rule, Dim}
 use Rattle.std.proofs.Math.Nat.{mod_self, one-mul}
 use Rattle.sigma_lower.specs.TreeLoops.Laws.{CountsAs, AllCount, IsForwardTree}
 use Rattle.sigma_lower.proofs.TreeLoops.FlatCounts.{ArePasses, IsFlatTree, IsPass, flat_node_passes, flat_root_passes}
@@ -19,10 +19,10 @@ use Rattle.smp_rewrite.proofs.LayoutSteps.NodeTrees.{left_fits, plain_fits}
 use Rattle.tree_model.specs.Breakdown.{size_of, AllowsRule}
 use Rattle.tree_model.specs.Cost.{is_plain}
 use Rattle.tree_model.proofs.PassLaws.{root_no_kernel}
-use Rattle.tree_model.specs.Passes as trees
 use Rattle.tree_model.specs.Whole.{cost_in}
 use Rattle.tree_model.specs.WholePasses.{RequestPass, pass_of, closed_by, flat_passes, node_passes, passes_in}
 use Rattle.tree_model.specs.WholePasses.{shared_passes}
+use Rattle.tree_model.specs.Passes as trees
 
 -- fields of a request, of the request for a part, and of that for a part of the part
 fields-both : (c p q : Request) → HasFields c p → HasFields p q → HasFields c q

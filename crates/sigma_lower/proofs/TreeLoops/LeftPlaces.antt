@@ -2,10 +2,10 @@
 use Rattle.sigma_lower.proofs.Words.{◌≡◌, ℕ, ◌+◌, ◌*◌, ◌/◌, ◌<◌, ◌≤◌, arith, refl, sym, ap, ap₂, ◌∙◌, List, [], ◌∷◌}
 use Rattle.sigma_lower.proofs.Words.{◌++◌, length, if◌then◌else◌, subst, mul_comm, ◌==◌, map, Option, None, Some}
 use Rattle.sigma_lower.proofs.Words.{option_map, Mapping, Target, AreSeveral, Sum, constant, variable, scaled, joined}
-use Rattle.sigma_lower.proofs.Words.{Divided, simplified, CanScale, CanJoin, HasRoomFor, top-scaled, divided-joined}
-use Rattle.sigma_lower.proofs.Words.{joined-end, scaled-one, same_Some, PlainDiagonal, PlainPass, Fits, IsCarried}
-use Rattle.sigma_lower.proofs.Words.{place_sum, AreCounts, all_simplified, diagonal_places, IsLimitedPass, left_path}
-use Rattle.sigma_lower.proofs.Words.{work_size, inner_of, Blocks, Columns, Path, grown, size_under}
+use Rattle.sigma_lower.proofs.Words.{Divided, simplified, HasRoomFor, divided-joined, joined-end, scaled-one, same_Some}
+use Rattle.sigma_lower.proofs.Words.{PlainDiagonal, PlainPass, Fits, IsCarried, place_sum, AreCounts, all_simplified}
+use Rattle.sigma_lower.proofs.Words.{diagonal_places, IsLimitedPass, left_path, work_size, inner_of, Blocks, Columns}
+use Rattle.sigma_lower.proofs.Words.{Path, grown, size_under}
 use Rattle.sigma_lower.proofs.TreeLoops.InCopies.{placed, AreCopies, placed-fits}
 use Rattle.sigma_lower.proofs.TreeLoops.LineMoves.{LeadsTo, AreThree, leads-none, leads-step, leads-join, leads-same}
 use Rattle.sigma_lower.proofs.TreeLoops.LineMoves.{dealt-leads}

@@ -1,8 +1,8 @@
 -- Where scaled, joined and divided sums fit 64 bits.
 use Rattle.sigma_lower.proofs.Words.{ℕ, ◌+◌, ◌-◌, ◌*◌, ◌/◌, ◌%◌, ◌^◌, ◌<◌, ◌≤◌, inl, inr, arith, sym, ◌∙◌, subst}
 use Rattle.sigma_lower.proofs.Words.{le-mul_of_pos_right, mul-le-mul_right, cases_eq, nat_tests, IsProper, Sum}
-use Rattle.sigma_lower.proofs.Words.{constant, variable, remainder, quotient, top, scaled, joined, mods, CanScale}
-use Rattle.sigma_lower.proofs.Words.{◌≡◌, CanJoin, HasRoomFor, Mapping, simplified, Divided, divided-joined, top-scaled}
+use Rattle.sigma_lower.proofs.Words.{constant, variable, remainder, quotient, top, scaled, joined, mods, CanScale, ◌≡◌}
+use Rattle.sigma_lower.proofs.Words.{CanJoin, HasRoomFor, Mapping, simplified, Divided, divided-joined, top-scaled}
 use Rattle.index_fn.specs.Mapping.{Paired}
 use Rattle.std.proofs.Math.Nat.{mul-le-mul_left, mod-le}
 use Rattle.perm_algebra.specs.Affine.{peak}

@@ -6,7 +6,7 @@ use Rattle.sigma_lower.proofs.Words.{merged, passes_of_terms, left_path, whole_p
 use Rattle.sigma_lower.proofs.Words.{tiled_before, tiled_after, lines_dealt, lines_moved, vectors_turned}
 use Rattle.sigma_lower.proofs.Words.{vectors_grouped, left_core, left_terms, right_terms, root_terms, PlainTerm, gath}
 use Rattle.sigma_lower.proofs.Words.{scat, diag, nest, lowered, PlainWork, tile, wrapped, unit_of, steps_of, Blocks}
-use Rattle.sigma_lower.proofs.Words.{Columns, Path, size_under, Rule, Gt, Ct, Split, Dim, Layout, work, by, layout_size}
+use Rattle.sigma_lower.proofs.Words.{Columns, Path, size_under, Rule, Gt, Ct, Split, Layout, work, by, layout_size}
 use Rattle.std.proofs.lemmas.List.{append-nil}
 use Rattle.index_fn.specs.Mapping.{Paired}
 use Rattle.sigma_lower.proofs.TreeLoops.RootPasses.{turned_waiting, tile_before, tile_after, if_lanes, right_passes}

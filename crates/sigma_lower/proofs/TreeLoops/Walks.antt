@@ -5,7 +5,7 @@ use Rattle.sigma_lower.proofs.Words.{Merging, merged, right_path, right_terms, t
 use Rattle.sigma_lower.proofs.Words.{PlainTerm, diag, lowered, PlainWork, work_size, Layout, work, by, layout_size}
 use Rattle.sigma_lower.proofs.Words.{IsGoodLayout, IsGoodWork, PlainStep, piece, step, turns, twiddles, thomas_in}
 use Rattle.sigma_lower.proofs.Words.{thomas_out, rule_steps, steps_of, Tensor, Blocks, Columns, Path, size_under}
-use Rattle.sigma_lower.proofs.Words.{size_under-push, Rule, Gt, Ct, Split, Dim}
+use Rattle.sigma_lower.proofs.Words.{size_under-push, Rule, Gt, Ct, Split}
 use Rattle.sigma_lower.proofs.TreeLoops.Emitted.{Emission, emitted, emitted-append, merged-append}
 use Rattle.sigma_lower.proofs.TreeTerms.RootTerms.{IsShared}
 

@@ -1,16 +1,16 @@
 -- The closing diagonal of a term is taken into its last loop, each item of which then takes the first entry.
-use Rattle.sigma_lower.proofs.Words.{◌≡◌, ℕ, zero, suc, ◌+◌, ◌*◌, ◌<◌, ◌≤◌, Bool, true, false, List, [], ◌∷◌, ◌++◌}
-use Rattle.sigma_lower.proofs.Words.{length, refl, sym, ap, ◌∙◌, arith, subst, Some, None, if◌then◌else◌, map, not}
-use Rattle.sigma_lower.proofs.Words.{reverse, slice_index, ◌==◌, ◌&&◌, length-map, reverse-append, reverse-reverse}
-use Rattle.sigma_lower.proofs.Words.{Target, Blocks, Sum, constant, value, on_last, PlainLoop, PlainTaken, limits_in}
-use Rattle.sigma_lower.proofs.Words.{nest_of, one_nest, scaled_last, AreLimitedLoops, HasLoop, IsLimitedLoop, is_tile}
-use Rattle.sigma_lower.proofs.Words.{items_out, most, PlainMultiplier, PlainNest, factor_at, factor_count, store_place}
-use Rattle.sigma_lower.proofs.Words.{item_of, lane_step, values_of, IsReadyLoop, PlainWork, kernel, rows, horner, tile}
-use Rattle.sigma_lower.proofs.Words.{copy, work_size}
+use Rattle.sigma_lower.proofs.Words.{◌≡◌, ℕ, suc, ◌+◌, ◌*◌, ◌<◌, ◌≤◌, Bool, true, false, List, [], ◌∷◌, ◌++◌, length}
+use Rattle.sigma_lower.proofs.Words.{refl, sym, ap, ◌∙◌, arith, subst, Some, None, if◌then◌else◌, map, not, reverse}
+use Rattle.sigma_lower.proofs.Words.{slice_index, ◌==◌, ◌&&◌, length-map, reverse-append, reverse-reverse, Target}
+use Rattle.sigma_lower.proofs.Words.{Blocks, Sum, constant, value, on_last, PlainLoop, PlainTaken, limits_in, nest_of}
+use Rattle.sigma_lower.proofs.Words.{one_nest, scaled_last, AreLimitedLoops, HasLoop, IsLimitedLoop, is_tile, items_out}
+use Rattle.sigma_lower.proofs.Words.{most, PlainMultiplier, PlainNest, factor_at, factor_count, store_place, item_of}
+use Rattle.sigma_lower.proofs.Words.{lane_step, values_of, IsReadyLoop, PlainWork, kernel, rows, horner, tile}
+use Rattle.sigma_lower.proofs.Words.{work_size, place_sum}
 use Rattle.std.proofs.Common.{slice_index_or}
 use Rattle.sigma_spl.specs.Good.{AreSound, NamesItems, named}
 use Rattle.sigma_spl.specs.Loops.{places_by, AreCarried, CanScale}
-use Rattle.sigma_spl.specs.Merge.{place_sum, suits}
+use Rattle.sigma_spl.specs.Merge.{suits}
 use Rattle.sigma_spl.specs.Nest.{repeated, sum_value}
 use Rattle.sigma_spl.specs.Shared.Ready.{IsReadyMultiplier, IsReadyNest, LoadsAlike}
 use Rattle.sigma_spl.specs.Shared.Running.{CanRunNest}

@@ -6,12 +6,10 @@ use Rattle.sigma_lower.proofs.Words.{scaled_last, AreLimitedLoops, HasLoop, IsLi
 use Rattle.sigma_lower.proofs.Words.{work_size, CanShareLayout, Layout, IsGoodLayout, IsMachine, AllHaveLoops}
 use Rattle.sigma_lower.proofs.Words.{close_last, closed_phases, AllOrdered, phase_term, PlainPass, passes_of_terms}
 use Rattle.sigma_lower.proofs.Words.{loop_of, taken_of, AllLimited, AreCounts, Fits, IsLimitedPass, PlainTerm}
-use Rattle.sigma_spl.specs.Merge.{all_simplified, place_sum}
+use Rattle.sigma_lower.proofs.Words.{all_simplified, place_sum}
 use Rattle.sigma_spl.specs.Nest.{repeated}
-use Rattle.sigma_spl.specs.Term as terms
 use Rattle.sigma_lower.specs.Merged.{closing_term}
 use Rattle.sigma_lower.specs.TreeLoops.Limits.{AreLimitedPhases}
-use Rattle.sigma_lower.specs.TreeLoops.Merge as passes
 use Rattle.sigma_lower.proofs.TreeLoops.LoopItems.{AllName, names-of, pass-counts}
 use Rattle.sigma_lower.proofs.TreeLoops.LoopLimits.{tree_loops}
 use Rattle.sigma_lower.proofs.TreeLoops.LoopNests.{loops_listed}
@@ -24,6 +22,8 @@ use Rattle.sigma_lower.proofs.TreeSigmas.ClosedPlaces.{AllAlone, closing_path}
 use Rattle.sigma_lower.proofs.TreeSigmas.Endings.{IsEnding, layout_ends}
 use Rattle.sigma_lower.proofs.TreeSigmas.Lasts.{HasItem}
 use Rattle.sigma_lower.proofs.TreeLoops.Moved.{fits-one}
+use Rattle.sigma_spl.specs.Term as terms
+use Rattle.sigma_lower.specs.TreeLoops.Merge as passes
 
 -- ---- the place of the only word
 

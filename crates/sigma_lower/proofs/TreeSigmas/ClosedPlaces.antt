@@ -2,11 +2,10 @@
 use Rattle.sigma_lower.proofs.Words.{◌≡◌, ℕ, ◌%◌, ◌<◌, Bool, true, false, List, [], ◌∷◌, ◌++◌, refl, sym, ap, ap₂, ◌∙◌}
 use Rattle.sigma_lower.proofs.Words.{arith, subst, mod-lt, if◌then◌else◌, map, ◌==◌, ◌&&◌, nat_tests, and_from, Mapping}
 use Rattle.sigma_lower.proofs.Words.{Sum, constant, variable, remainder, quotient, Divided, joined, simplified, top}
-use Rattle.sigma_lower.proofs.Words.{within, Blocks, Path}
+use Rattle.sigma_lower.proofs.Words.{within, Blocks, Path, all_simplified, inner_of}
 use Rattle.std.proofs.Common.{nat_lt}
 use Rattle.std.specs.List.{list_all}
-use Rattle.sigma_spl.specs.Merge.{all_simplified, carries_sum, is_limited}
-use Rattle.sigma_spl.specs.Nest.{inner_of}
+use Rattle.sigma_spl.specs.Merge.{carries_sum, is_limited}
 use Rattle.sigma_spl.proofs.Carried.{carried-next, carried-room}
 use Rattle.sigma_spl.proofs.Walk.{and-left, and-right}
 use Rattle.perm_algebra.specs.Affine.{divided, head, rest_of}

@@ -2,9 +2,8 @@
 use Rattle.sigma_lower.proofs.Words.{◌≡◌, ℕ, ◌*◌, Bool, true, false, List, [], ◌∷◌, ◌++◌, map, refl, sym, subst, Option}
 use Rattle.sigma_lower.proofs.Words.{Some, None, if◌then◌else◌, nat_le, Counted, works, tiles, counted, counted_as}
 use Rattle.sigma_lower.proofs.Words.{has_diagonal, passes_of, tiled_passes, twiddle_by, whole_passes, PlainDiagonal}
-use Rattle.sigma_lower.proofs.Words.{PlainPass, merged_of, LastIs, is_tile, PlainWork, kernel, rows, horner, tile, copy}
-use Rattle.sigma_lower.proofs.Words.{CanShareLayout, Layout, work, by, layout_size, IsGoodLayout, Target, Gt, Ct, Split}
-use Rattle.sigma_lower.proofs.Words.{Dim}
+use Rattle.sigma_lower.proofs.Words.{PlainPass, merged_of, LastIs, is_tile, PlainWork, tile, CanShareLayout, Layout}
+use Rattle.sigma_lower.proofs.Words.{work, by, layout_size, IsGoodLayout, Target, Gt, Ct}
 use Rattle.sigma_lower.proofs.TreeLoops.Counts.{merge_counts}
 
 -- a pass that can take a diagonal of one entry

@@ -1,9 +1,8 @@
 -- A layout has at least one pass, and few.
-use Rattle.sigma_lower.proofs.Words.{◌≡◌, ℕ, ◌+◌, ◌*◌, ◌^◌, ◌≤◌, Bool, true, false, List, [], ◌∷◌, ◌++◌, length, map}
-use Rattle.sigma_lower.proofs.Words.{suc, refl, sym, ap, ap₂, ◌∙◌, inl, inr, arith, subst, nat_le, cases_lt, length-map}
-use Rattle.sigma_lower.proofs.Words.{mul-le, pow_mono, chosen, Counted, tiles, counted, passes_of, tiled_passes}
-use Rattle.sigma_lower.proofs.Words.{twiddle_by, twiddle_last, whole_passes, PlainPass, Layout, work, by, layout_size}
-use Rattle.sigma_lower.proofs.Words.{IsGoodLayout, Rule, Gt, Ct, Split, Dim}
+use Rattle.sigma_lower.proofs.Words.{◌≡◌, ℕ, ◌+◌, ◌*◌, ◌^◌, ◌≤◌, Bool, true, false, List, ◌∷◌, ◌++◌, length, map, suc}
+use Rattle.sigma_lower.proofs.Words.{refl, sym, ap, ap₂, ◌∙◌, arith, subst, nat_le, length-map, mul-le, chosen, Counted}
+use Rattle.sigma_lower.proofs.Words.{tiles, counted, passes_of, tiled_passes, twiddle_by, twiddle_last, whole_passes}
+use Rattle.sigma_lower.proofs.Words.{PlainPass, Layout, work, by, layout_size, IsGoodLayout, Rule, Gt, Ct}
 use Rattle.std.proofs.Common.{length-append}
 use Rattle.std.proofs.lemmas.Nat.{pow-add}
 use Rattle.sigma_lower.proofs.TreeSigmas.Loops.{weight-small}

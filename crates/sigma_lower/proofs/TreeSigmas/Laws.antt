@@ -1,18 +1,16 @@
 -- The terms of each tree that a valid request admits are a tree's.
 use Rattle.sigma_lower.proofs.Words.{◌≡◌, ◌≢◌, ℕ, ◌*◌, ◌^◌, ◌<◌, ◌≤◌, ◌==◌, Bool, true, false, List, [], ◌∷◌, length}
 use Rattle.sigma_lower.proofs.Words.{suc, refl, sym, ap, ◌∙◌, arith, subst, Option, None, Some, if◌then◌else◌, All, map}
-use Rattle.sigma_lower.proofs.Words.{length-map, All-nil, All-cons, Kind, Dft, Wht, Idft, Request, forward_of, IsValid}
-use Rattle.sigma_lower.proofs.Words.{Target, LastIs, AreLimitedLoops, IsOrdered, PlainLoop, loops_in, multiplier_of}
-use Rattle.sigma_lower.proofs.Words.{nest_of, one_nest, most, PlainMultiplier, PlainNest, pass_cost, pass_loads}
-use Rattle.sigma_lower.proofs.Words.{ArePhasesShared, target_of, PlainSigma, IsReadyLoop, PlainWork, kernel, rows}
-use Rattle.sigma_lower.proofs.Words.{horner, tile, copy, smp_of, Layout, layout_of, layout_size, Breakdown, IsWholeTree}
-use Rattle.sigma_lower.proofs.Words.{vec_of, PlainFactor, CanLower, close_last, closed_phases, phase_term, PlainPass}
-use Rattle.sigma_lower.proofs.Words.{in_order, merged_of, merged_phases, loop_of, PlainTerm, factor_term, lowered_of}
-use Rattle.sigma_lower.proofs.Words.{terms_in}
+use Rattle.sigma_lower.proofs.Words.{length-map, All-nil, All-cons, Kind, Idft, Request, forward_of, IsValid, Target}
+use Rattle.sigma_lower.proofs.Words.{LastIs, AreLimitedLoops, IsOrdered, PlainLoop, loops_in, multiplier_of, nest_of}
+use Rattle.sigma_lower.proofs.Words.{one_nest, most, PlainMultiplier, PlainNest, pass_cost, pass_loads, ArePhasesShared}
+use Rattle.sigma_lower.proofs.Words.{target_of, PlainSigma, IsReadyLoop, PlainWork, kernel, smp_of, Layout, layout_of}
+use Rattle.sigma_lower.proofs.Words.{layout_size, Breakdown, IsWholeTree, vec_of, PlainFactor, CanLower, close_last}
+use Rattle.sigma_lower.proofs.Words.{closed_phases, phase_term, PlainPass, in_order, merged_of, merged_phases, loop_of}
+use Rattle.sigma_lower.proofs.Words.{PlainTerm, factor_term, lowered_of, terms_in}
 use Rattle.std.proofs.lemmas.List.Elements.{All-weaker}
 use Rattle.sigma_spl.specs.Shared.Owners.{all_passes, most_actions}
 use Rattle.sigma_spl.specs.Shared.Ready.{diagonal_tables, passes_tables, work_tables}
-use Rattle.sigma_spl.specs.Term as terms
 use Rattle.sigma_spl.specs.Trees.{CountsTree, IsFree, IsTreeSigma, loops_of_phases, phases_for}
 use Rattle.smp_rewrite.specs.LayoutSteps.Whole.{factor_by, whole_of}
 use Rattle.sigma_lower.specs.Merged.{whole_sigma}
@@ -39,6 +37,7 @@ use Rattle.sigma_lower.proofs.TreeSigmas.Owned.{phases-shared}
 use Rattle.sigma_lower.proofs.TreeSigmas.Ready.{ready-loop}
 use Rattle.sigma_lower.proofs.TreeSigmas.TreeCounts.{forward_costs, forward_loads}
 use Rattle.sigma_lower.proofs.TreeSigmas.TreeHosted.{tree_hosted}
+use Rattle.sigma_spl.specs.Term as terms
 
 -- ---- loops that are ready
 

@@ -1,8 +1,8 @@
 -- The loops of a pass: how often they run, and how many they are.
 use Rattle.sigma_lower.proofs.Words.{◌≡◌, ℕ, zero, suc, ◌*◌, ◌^◌, ◌<◌, ◌≤◌, arith, refl, sym, ap, List, [], ◌∷◌, length}
-use Rattle.sigma_lower.proofs.Words.{inl, inr, subst, le-mul_of_pos_right, All, map, drop, pow-succ'}
-use Rattle.sigma_lower.proofs.Words.{pow_mono, cases_lt, All-nil, All-cons, All-tail, mul-le, AreSeveral}
-use Rattle.sigma_lower.proofs.Words.{Path, copies_of, count_of, size_under-copies, le-times}
+use Rattle.sigma_lower.proofs.Words.{inl, inr, subst, le-mul_of_pos_right, All, map, drop, pow-succ', pow_mono}
+use Rattle.sigma_lower.proofs.Words.{cases_lt, All-nil, All-cons, All-tail, mul-le, AreSeveral, Path, copies_of}
+use Rattle.sigma_lower.proofs.Words.{count_of, size_under-copies, le-times}
 use Rattle.sigma_spl.proofs.Small.{size-positive}
 
 -- what a loop's count may be

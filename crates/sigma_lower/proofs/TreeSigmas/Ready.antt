@@ -1,10 +1,10 @@
 -- Each loop of a layout can be run, and a program can be made of it.
-use Rattle.sigma_lower.proofs.Words.{◌≡◌, ℕ, ◌+◌, ◌<◌, ◌≤◌, List, [], ◌∷◌, ◌++◌, All, length, map, refl, sym, ap, ap₂}
-use Rattle.sigma_lower.proofs.Words.{◌∙◌, arith, subst, Some, slice_index, option_map, Mapping, Target, AreInRange}
-use Rattle.sigma_lower.proofs.Words.{count_of, place, size_under, Sum, constant, variable, value, simplified, loops_of}
-use Rattle.sigma_lower.proofs.Words.{limits_in, nest_of, items_out, PlainMultiplier, PlainNest, IsHost, IsReadyLoop}
-use Rattle.sigma_lower.proofs.Words.{PlainWork, kernel, rows, horner, tile, copy, work_size, ranged, PlainPass, through}
-use Rattle.sigma_lower.proofs.Words.{◌*◌, loop_of, taken_of, copies_of, size_under-copies, le-mul_of_pos_right}
+use Rattle.sigma_lower.proofs.Words.{◌≡◌, ℕ, ◌+◌, ◌<◌, ◌≤◌, List, [], ◌∷◌, ◌++◌, All, length, map, sym, ap, ap₂, ◌∙◌}
+use Rattle.sigma_lower.proofs.Words.{arith, subst, Some, slice_index, option_map, Mapping, Target, AreInRange, count_of}
+use Rattle.sigma_lower.proofs.Words.{place, size_under, Sum, constant, variable, value, simplified, loops_of, limits_in}
+use Rattle.sigma_lower.proofs.Words.{nest_of, items_out, PlainMultiplier, PlainNest, IsHost, IsReadyLoop, PlainWork}
+use Rattle.sigma_lower.proofs.Words.{rows, horner, copy, work_size, ranged, PlainPass, through, ◌*◌, loop_of, taken_of}
+use Rattle.sigma_lower.proofs.Words.{copies_of, size_under-copies, le-mul_of_pos_right, all_simplified, place_sum}
 use Rattle.std.proofs.Common.{slice_index_or}
 use Rattle.std.proofs.lemmas.List.{map-id}
 use Rattle.std.proofs.lemmas.List.Elements.{All-weaker}
@@ -12,7 +12,6 @@ use Rattle.std.proofs.lemmas.Simd.{map-map}
 use Rattle.operators.specs.Sizes.{max_size}
 use Rattle.sigma_spl.specs.Good.{NamesItems}
 use Rattle.sigma_spl.specs.Loops.{AreFormed}
-use Rattle.sigma_spl.specs.Merge.{all_simplified, place_sum}
 use Rattle.sigma_spl.specs.Shared.Machine.{first_loop, loop_counts}
 use Rattle.sigma_spl.specs.Shared.Ready.{IsReadyMultiplier, IsReadyNest, LoadsAlike}
 use Rattle.sigma_spl.specs.Shared.Running.{CanRunNest}

@@ -10,11 +10,11 @@ use Rattle.sigma_lower.proofs.Words.{move_after, PlainVec, factor_step, vec_shap
 use Rattle.sigma_lower.proofs.Words.{IsGood, AreGood, IsVecOf, right_positive, chosen}
 use Rattle.std.proofs.lemmas.List.Elements.{All-append, All-take, All-drop}
 use Rattle.smp_rewrite.specs.Cut.{whole_factor, cut_factors, first_count}
-use Rattle.smp_rewrite.specs.Smp as smp
 use Rattle.vec_rewrite.specs.declared.Deal.{Deal}
 use Rattle.vec_rewrite.specs.Turning.{settled, grouped, order_after, narrowed, block_factors, phase_of, deal_of}
 use Rattle.vec_rewrite.specs.Vectors.{tiles, vec_steps}
 use Rattle.sigma_lower.proofs.TreeTerms.Lowering.{good_steps}
+use Rattle.smp_rewrite.specs.Smp as smp
 
 -- ---- what a core needs apart from its size, where that of a piece is said of its tree
 

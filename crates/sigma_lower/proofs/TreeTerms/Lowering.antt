@@ -3,13 +3,12 @@ use Rattle.sigma_lower.proofs.Words.{◌≡◌, ℕ, zero, suc, ◌*◌, ◌%◌
 use Rattle.sigma_lower.proofs.Words.{List, [], ◌∷◌, ◌++◌, mod-lt, subst, mul_comm, div-lt_iff_lt-mul, mul-le-mul_left}
 use Rattle.sigma_lower.proofs.Words.{map, div-add-mod', fill_by_all, mul-lt, Strided, ThomasIn, ThomasOut, ThomasBack}
 use Rattle.sigma_lower.proofs.Words.{at, IsPermutationBelow, gather, scale, stride, at-list_below, place_below, row-of}
-use Rattle.sigma_lower.proofs.Words.{column-of, factor_positive, PlainWork, kernel, rows, horner, tile, copy, work_size}
-use Rattle.sigma_lower.proofs.Words.{work_on, trees_of, trees_size, Layout, work, by, layout_size, IsGoodWork}
-use Rattle.sigma_lower.proofs.Words.{IsGoodLayout, Target, core_size, step_on, PlainCore, piece, turns, twiddles}
-use Rattle.sigma_lower.proofs.Words.{thomas_in, thomas_out, PlainStep, rule_steps, steps_of, Blocks, Columns, Path}
-use Rattle.sigma_lower.proofs.Words.{size_under, under, place, size_under-push, Rule, Gt, Ct, Split, Dim, PlainFactor}
-use Rattle.sigma_lower.proofs.Words.{lanes, diagonals, move_before, move_after, factor_step, nest, lowered_core}
-use Rattle.sigma_lower.proofs.Words.{factor_term, wrapped, unit_of}
+use Rattle.sigma_lower.proofs.Words.{column-of, factor_positive, PlainWork, kernel, rows, tile, work_size, work_on}
+use Rattle.sigma_lower.proofs.Words.{trees_of, trees_size, Layout, work, by, layout_size, IsGoodWork, IsGoodLayout}
+use Rattle.sigma_lower.proofs.Words.{Target, core_size, step_on, PlainCore, piece, turns, twiddles, thomas_in}
+use Rattle.sigma_lower.proofs.Words.{thomas_out, PlainStep, rule_steps, steps_of, Blocks, Columns, Path, size_under}
+use Rattle.sigma_lower.proofs.Words.{under, place, size_under-push, Rule, Gt, Ct, PlainFactor, move_after, factor_step}
+use Rattle.sigma_lower.proofs.Words.{nest, lowered_core, factor_term, wrapped, unit_of}
 use Rattle.std.proofs.Common.{mul-le-mul_right}
 use Rattle.std.proofs.Math.Nat.{zero-mod, mod-eq_of_lt}
 use Rattle.std.proofs.lemmas.Nat.{mul-mod_second}

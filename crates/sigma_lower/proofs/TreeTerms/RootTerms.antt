@@ -12,7 +12,6 @@ use Rattle.std.proofs.Math.Nat.{mod-eq_of_lt}
 use Rattle.std.proofs.Math.Seq.{take-length, drop-length, take-append_seam, drop-append_seam}
 use Rattle.std.proofs.lemmas.Grind.{flat_map-append}
 use Rattle.smp_rewrite.specs.Cut.{is_left, right_count, first_count, cut}
-use Rattle.smp_rewrite.specs.Smp as smp
 use Rattle.smp_rewrite.proofs.Dealt.{IsDealt, is_dealt}
 use Rattle.smp_rewrite.proofs.Factors.{rows_of}
 use Rattle.smp_rewrite.proofs.Moves.{one_line}
@@ -21,6 +20,7 @@ use Rattle.sigma_lower.specs.TreeTerms.Root.{in_phases}
 use Rattle.sigma_lower.proofs.TreeTerms.Behind.{behind, steps-behind, HasStep, has_step, by-one}
 use Rattle.sigma_lower.proofs.TreeTerms.RootCuts.{Cuts, Rows, deal, grid_of, kept_from, laned_terms, kept_cuts}
 use Rattle.sigma_lower.proofs.TreeTerms.RootCuts.{alone_cuts, among_cuts}
+use Rattle.smp_rewrite.specs.Smp as smp
 
 -- ---- lists of steps
 

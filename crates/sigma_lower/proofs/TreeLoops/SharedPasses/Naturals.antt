@@ -1,9 +1,9 @@
 -- The natural places of framed passes: the lanes of each register are a vector.
 use Rattle.sigma_lower.proofs.Words.{◌≡◌, ℕ, ◌+◌, ◌*◌, ◌<◌, Bool, true, false, arith, refl, sym, ap, ap₂, ◌∙◌, List, []}
 use Rattle.sigma_lower.proofs.Words.{◌∷◌, ◌++◌, if◌then◌else◌, subst, ◌==◌, Target, item_of, values_of, lane_step}
-use Rattle.sigma_lower.proofs.Words.{PlainWork, kernel, rows, horner, tile, copy, work_size, IsGoodWork, within}
-use Rattle.sigma_lower.proofs.Words.{size-within, is-one, Tensor, Blocks, Columns, Path, count_of, size_under}
-use Rattle.sigma_lower.proofs.Words.{copies_of, place, size_under-copies, AreBlocks}
+use Rattle.sigma_lower.proofs.Words.{PlainWork, kernel, rows, tile, work_size, IsGoodWork, within, size-within, is-one}
+use Rattle.sigma_lower.proofs.Words.{Tensor, Blocks, Columns, Path, count_of, size_under, copies_of, place}
+use Rattle.sigma_lower.proofs.Words.{size_under-copies, AreBlocks}
 use Rattle.sigma_spl.specs.Shared.Machine.{if_several}
 use Rattle.sigma_lower.specs.TreeLoops.SharedPasses.Shared.{framed, HasLanes}
 

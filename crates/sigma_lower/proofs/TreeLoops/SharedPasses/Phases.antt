@@ -15,11 +15,11 @@ use Rattle.sigma_lower.specs.TreeLoops.SharedPasses.Shared.{ArePhasesShared}
 use Rattle.sigma_lower.proofs.TreeLoops.Emitted.{as_lowered, emitted, emitted-lowered}
 use Rattle.sigma_lower.proofs.TreeLoops.TreePasses.{back}
 use Rattle.sigma_lower.proofs.TreeLoops.Walks.{Brings, IsLaw, Keeps, Point, RightKeeps, begun, brings-law, done, ready}
-use Rattle.sigma_lower.proofs.TreeLoops.Walks.{right-law, settled, steps-law, tiled}
+use Rattle.sigma_lower.proofs.TreeLoops.Walks.{right-law, steps-law, tiled}
 use Rattle.sigma_lower.proofs.TreeLoops.SharedPasses.Merging.{nothing}
 use Rattle.sigma_lower.proofs.TreeLoops.SharedPasses.Owners.{KeepsOwner, First, first-gath, first-scat, first-diag}
-use Rattle.sigma_lower.proofs.TreeLoops.SharedPasses.Owners.{first-nest, first-own, Shared, shared-gath, shared-scat, shared-diag}
-use Rattle.sigma_lower.proofs.TreeLoops.SharedPasses.Owners.{shared-dealt, shared-own, alone-phases}
+use Rattle.sigma_lower.proofs.TreeLoops.SharedPasses.Owners.{first-nest, first-own, Shared, shared-gath, shared-scat}
+use Rattle.sigma_lower.proofs.TreeLoops.SharedPasses.Owners.{shared-diag, shared-dealt, shared-own, alone-phases}
 use Rattle.sigma_lower.proofs.TreeLoops.SharedPasses.Shares.{AreShares, shares, block-of, row-block, column-block}
 use Rattle.sigma_lower.proofs.TreeLoops.SharedPasses.Shares.{block_owner, column_owner, block-owner, column-owner}
 use Rattle.sigma_lower.proofs.TreeLoops.SharedPasses.Shares.{OwnsNatural, block-natural, block-keeps, columns-keeps}
