@@ -6,21 +6,54 @@ use Rattle.sigma_lower.proofs.Words.{moves-no-words, embed, core_term, IsGoodCor
 use Rattle.sigma_lower.proofs.Words.{wrapped, within, core_size, step_on, PlainCore, piece, turns, thomas_in}
 use Rattle.sigma_lower.proofs.Words.{thomas_out, PlainStep, Blocks, Columns, Path, copies_of, size_under}
 use Rattle.sigma_lower.proofs.Words.{size_under-copies, PlainFactor, lanes, diagonals, move_before, move_after}
-use Rattle.sigma_lower.proofs.Words.{factor_step, HasLanes}
+use Rattle.sigma_lower.proofs.Words.{factor_step, HasLanes, ◌+◌, ◌/◌, ◌%◌, div-add-mod'}
 use Rattle.sigma_spl.specs.Term.{scat, nest}
 use Rattle.sigma_spl.proofs.Keeps.{scatter-same}
-use Rattle.sigma_lower.proofs.Moves.{back-wrapped, strided-move, in-move, out-move}
+use Rattle.sigma_lower.proofs.Moves.{back-wrapped, strided-move, in-move, out-move, move-wrapped}
 use Rattle.sigma_lower.proofs.Parts.{tile-under}
 use Rattle.sigma_lower.proofs.Trees.{piece-nests, core-lowers, flip}
-use Rattle.sigma_lower.proofs.Vectors.{laned-move}
-use Rattle.sigma_lower.proofs.TreeTerms.Vectors.{HasVectors, vectors-blocks, vectors-columns}
+use Rattle.sigma_lower.proofs.TreeTerms.Vectors.{HasVectors, vectors-blocks, vectors-columns, KeepsVectors}
+use Rattle.sigma_lower.proofs.TreeTerms.Vectors.{keeps-wrapped}
 use Rattle.sigma_lower.proofs.TreeTerms.Lowering.{factor_on, part-le}
 use Rattle.sigma_lower.proofs.TreeTerms.Permuted.{gather-under}
 use Rattle.smp_rewrite.specs.Laws.{IsDiagonal}
 use Rattle.vec_rewrite.specs.Vectors.{tiles}
 use Rattle.smp_rewrite.proofs.Tensors.{blocks-within}
+use Rattle.std.proofs.lemmas.Nat.{mod-mul-add}
+use Rattle.sigma_spl.specs.Good.{MovesVectors}
 use Rattle.sigma_lower.specs.TreeTerms.Term as lowered
 use Rattle.smp_rewrite.specs.LayoutSteps.Step as steps
+
+-- ---- permutations under tensors move whole vectors, where the first columns are a multiple of the lanes
+
+pub moves-vectors : (v : ℕ) (f : Mapping) → KeepsVectors v f → MovesVectors v (at f)
+moves-vectors v f h =
+    record {
+      together = λ i j whole below.
+          let place : i ≡ i / v * v = sym (div-add-mod' i v) ∙ omega (arith, whole) in
+          let to = h (i / v) in
+          let first : i ≡ i / v * v + 0 = omega (arith, place) in
+          let here : at f i ≡ to.0 * v + 0 = ap (at f) first ∙ to.1 0 (omega (arith, below)) in
+          ap (λ k. at f (k + j)) place ∙ to.1 j below ∙ omega (arith, here);
+      begins = λ i whole some.
+          let place : i ≡ i / v * v = sym (div-add-mod' i v) ∙ omega (arith, whole) in
+          let first : i ≡ i / v * v + 0 = omega (arith, place) in
+          let to = h (i / v) in
+          ap (λ k. k % v) (ap (at f) first ∙ to.1 0 some) ∙ mod-mul-add to.0 v 0 some;
+    }
+
+-- a permutation under tensors that move vectors
+pub laned-move : (v : ℕ) (path : Path) (n : ℕ) (f : Mapping) → 0 < size_under path n → HasVectors v path →
+    IsMove 0 n f → IsMove v (size_under path n) (wrapped path n f)
+laned-move v path n f positive vectors h =
+    let all = move-wrapped path n f positive h in
+    record {
+      there = all.there;
+      back = all.back;
+      permutes = all.permutes;
+      vectors = moves-vectors v (wrapped path n f) (keeps-wrapped v path n f vectors);
+      back_vectors = subst (λ g. MovesVectors v (at g)) (sym (back-wrapped path n f)) (moves-vectors v (wrapped path n (back_of f)) (keeps-wrapped v path n (back_of f) vectors));
+    }
 
 -- The term of a factor is good, and does what it did
 pub record Embeds (h : Target) (p v : ℕ) (f : PlainFactor) : Type 0 where

@@ -5,6 +5,7 @@ use Rattle.sigma_lower.proofs.Words.{place, size_under, Sum, constant, variable,
 use Rattle.sigma_lower.proofs.Words.{nest_of, items_out, PlainMultiplier, PlainNest, IsHost, IsReadyLoop, PlainWork}
 use Rattle.sigma_lower.proofs.Words.{rows, horner, copy, work_size, ranged, PlainPass, through, ◌*◌, loop_of, taken_of}
 use Rattle.sigma_lower.proofs.Words.{copies_of, size_under-copies, le-mul_of_pos_right, all_simplified, place_sum}
+use Rattle.sigma_lower.proofs.Words.{kernel, tile}
 use Rattle.std.proofs.Common.{slice_index_or}
 use Rattle.std.proofs.lemmas.List.{map-id}
 use Rattle.std.proofs.lemmas.List.Elements.{All-weaker}
@@ -14,7 +15,7 @@ use Rattle.sigma_spl.specs.Good.{NamesItems}
 use Rattle.sigma_spl.specs.Loops.{AreFormed}
 use Rattle.sigma_spl.specs.Shared.Machine.{first_loop, loop_counts}
 use Rattle.sigma_spl.specs.Shared.Ready.{IsReadyMultiplier, IsReadyNest, LoadsAlike}
-use Rattle.sigma_spl.specs.Shared.Running.{CanRunNest}
+use Rattle.sigma_spl.specs.Shared.Running.{CanRunNest, CanWork}
 use Rattle.sigma_spl.proofs.Natural.{names-out, values-are, at-second}
 use Rattle.sigma_spl.proofs.Nests.{names-simplified, two_below, with_more}
 use Rattle.sigma_lower.proofs.TreeLoops.LoopItems.{diagonal-size}
@@ -25,8 +26,24 @@ use Rattle.sigma_lower.proofs.TreeSigmas.Known.{IsKnown}
 use Rattle.sigma_lower.proofs.TreeSigmas.Loops.{IsCount, counts-drop, length-drop, length-tensors, loop-counts}
 use Rattle.sigma_lower.proofs.TreeSigmas.Loops.{path-weight, weight-small}
 use Rattle.sigma_lower.proofs.TreeSigmas.Places.{taken-is, moves-vectors, finds-factors, residues-of}
-use Rattle.sigma_lower.proofs.TreeSigmas.Works.{can-work, no-copy}
 use Rattle.sigma_lower.proofs.TreeTerms.Sizes.{within_whole}
+use Rattle.sigma_lower.specs.TreeLoops.SharedPasses.Shared.{HasLanes}
+use Rattle.sigma_spl.specs.Trees.{IsNoCopy}
+
+-- ---- work
+
+-- its code does what it stands for
+pub can-work : (c : Target) (w : PlainWork) → IsShapedWork c.modulus w → HasLanes c w → CanWork c w
+can-work c (kernel trees) h lanes = h.1
+can-work c (rows root size) h lanes = (omega (arith, h.0), h.1)
+can-work c (tile v) h lanes = lanes
+can-work c _ h lanes = absurd h
+
+-- it is no copy
+pub no-copy : (m : ℕ) (w : PlainWork) → IsShapedWork m w → IsNoCopy w
+no-copy m (horner root size) h = absurd h
+no-copy m (copy size) h = absurd h
+no-copy m _ h = tt
 
 -- ---- names
 
