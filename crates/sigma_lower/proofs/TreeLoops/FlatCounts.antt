@@ -181,8 +181,7 @@ module _ (n : ℕ) (p : Request) (rule : Rule) (a b : Breakdown) (root : ℕ) (w
           ArePasses n p (tiled_passes (by rule root left right)) (trees.tiled_passes p (node rule a b))
       by-rule Gt fits = absurd fits
       by-rule Ct fits = tiled-both true
-      by-rule Split fits = (refl, tiled-both false)
-      by-rule Dim fits = (refl, tiled-both false)
+      by-rule _ fits = (refl, tiled-both false)
 
 several-lanes : (p : Request) → nat_le p.lanes 1 ≡ false → is_plain p ≡ false
 several-lanes p many = grind (arith, nat_tests)
@@ -194,56 +193,28 @@ pub record IsFlatTree (p : Request) (t : Breakdown) : Type 0 where
   pub fits : FitsWhole p t
 
 -- its rule hands the request itself to both parts
-record HandsOn (p : Request) (rule : Rule) (a b : Breakdown) : Type 0 where
-  on_left : left_of rule p ≡ p
-  on_right : right_of rule p ≡ p
-  left : IsFlatTree p a
-  right : IsFlatTree p b
-
-hands_same : (p : Request) (rule : Rule) (a b : Breakdown) → IsFlatTree p (node rule a b) → left_of rule p ≡ p →
-    right_of rule p ≡ p → HandsOn p rule a b
-hands_same p rule a b h left right = record {
-  on_left = left;
-  on_right = right;
-  left = record {
-    one = h.one;
-    tree = subst (λ q. IsNodeTree q a) left (left_tree p rule a b h.tree);
-    fits = subst (λ q. FitsWhole q a) left (left_fits p rule a b h.tree);
-  };
-  right = record {
-    one = h.one;
-    tree = subst (λ q. IsNodeTree q b) right (right_tree p rule a b h.tree);
-    fits = subst (λ q. FitsWhole q b) right (right_fits p rule a b h.tree);
-  };
-}
-
-hands_on : (p : Request) (rule : Rule) (a b : Breakdown) → IsFlatTree p (node rule a b) → HandsOn p rule a b
-hands_on p Dim a b h = absurd (h.tree.tree.2.0 h.one)
-hands_on p rule a b h = hands_same p rule a b h refl refl
-
--- the passes of a part are those under the request that its rule hands to it
-handed : (n : ℕ) (p q : Request) (t : Breakdown) → q ≡ p →
-    ((k : ℕ) → ArePasses n p (passes_of k (layout_of p t)) (trees.passes_of p k t)) →
-    (k : ℕ) → ArePasses n p (passes_of k (layout_of q t)) (trees.passes_of p k t)
-handed n p q t is on k =
-    subst (λ r. ArePasses n p (passes_of k (layout_of r t)) (trees.passes_of p k t)) (sym is) (on k)
+flat-parts : (p : Request) (rule : Rule) (a b : Breakdown) → IsFlatTree p (node rule a b) →
+    IsFlatTree p a × IsFlatTree p b
+flat-parts p Dim a b h = absurd (h.tree.tree.2.0 h.one)
+flat-parts p rule a b h = (
+  record { one = h.one; tree = left_tree p rule a b h.tree; fits = left_fits p rule a b h.tree },
+  record { one = h.one; tree = right_tree p rule a b h.tree; fits = right_fits p rule a b h.tree },
+)
 
 -- a number of times, over n words
 module _ (n : ℕ) (p : Request) where
   pub flat_node_passes : (count : ℕ) (t : Breakdown) → IsFlatTree p t →
       ArePasses n p (passes_of count (layout_of p t)) (trees.passes_of p count t)
   flat_node_passes count (leaf d) h = leaf_passes n p count d h.tree h.fits
+  flat_node_passes count (node Dim a b) h = absurd (h.tree.tree.2.0 h.one)
   flat_node_passes count (node rule a b) h =
       let d = size_of a * size_of b in
-      let parts = hands_on p rule a b h in
-      let left = layout_of (left_of rule p) a in
-      let right = layout_of (right_of rule p) b in
-      node-pick n p rule a b (node_root p d) (node_work p (node rule a b)) left right
-      (layouts_have_size (left_of rule p) a) (layouts_have_size (right_of rule p) b)
-      (handed n p (left_of rule p) a parts.on_left (λ k. flat_node_passes k a parts.left))
-      (handed n p (right_of rule p) b parts.on_right (λ k. flat_node_passes k b parts.right)) count (is_kernel p d)
+      let parts = flat-parts p rule a b h in
+      node-pick n p rule a b (node_root p d) (node_work p (node rule a b)) (layout_of p a) (layout_of p b)
+      (layouts_have_size p a) (layouts_have_size p b) (λ k. flat_node_passes k a parts.0)
+      (λ k. flat_node_passes k b parts.1) count (is_kernel p d)
       (λ short.
-      kernel-matches n p rule a b (by rule (node_root p d) left right) count short
+      kernel-matches n p rule a b (by rule (node_root p d) (layout_of p a) (layout_of p b)) count short
       (layouts_cost p (node rule a b) h.tree h.fits))
 
   -- ---- the root
@@ -251,14 +222,13 @@ module _ (n : ℕ) (p : Request) where
   tiled-whole : (t : Breakdown) → IsFlatTree p t → size_of t ≡ p.size → is_plain p ≡ false →
       ArePasses n p (tiled_passes (layout_of p t)) (trees.tiled_passes p t)
   tiled-whole (leaf d) h whole shared = absurd (h.fits whole shared)
+  tiled-whole (node Dim a b) h whole shared = absurd (h.tree.tree.2.0 h.one)
   tiled-whole (node rule a b) h whole shared =
       let d = size_of a * size_of b in
-      let parts = hands_on p rule a b h in
-      tiled-pick n p rule a b (node_root p d) (node_work p (node rule a b)) (layout_of (left_of rule p) a)
-      (layout_of (right_of rule p) b) (layouts_have_size (left_of rule p) a) (layouts_have_size (right_of rule p) b)
-      (handed n p (left_of rule p) a parts.on_left (λ k. flat_node_passes k a parts.left))
-      (handed n p (right_of rule p) b parts.on_right (λ k. flat_node_passes k b parts.right)) (is_kernel p d)
-      (root_no_kernel p d whole shared) (h.fits whole shared)
+      let parts = flat-parts p rule a b h in
+      tiled-pick n p rule a b (node_root p d) (node_work p (node rule a b)) (layout_of p a) (layout_of p b)
+      (layouts_have_size p a) (layouts_have_size p b) (λ k. flat_node_passes k a parts.0)
+      (λ k. flat_node_passes k b parts.1) (is_kernel p d) (root_no_kernel p d whole shared) (h.fits whole shared)
 
   by-lanes : (t : Breakdown) → IsFlatTree p t → size_of t ≡ p.size → (one : Bool) → nat_le p.lanes 1 ≡ one →
       ArePasses n p (if one then passes_of 1 (layout_of p t) else tiled_passes (layout_of p t))

@@ -330,8 +330,7 @@ placed_rule size rule path r s w left right h l k =
     by-rule Ct h on_left on_right =
         all-append (IsPlacedPass size path (r * s)) _ left
         (placed-multiplied size path r s w right h.small (omega (arith, h.fills, h.whole.high)) h.within on_right) on_left
-    by-rule Split h on_left on_right = all-append (IsPlacedPass size path (r * s)) right left on_right on_left
-    by-rule Dim h on_left on_right = all-append (IsPlacedPass size path (r * s)) right left on_right on_left
+    by-rule _ h on_left on_right = all-append (IsPlacedPass size path (r * s)) right left on_right on_left
 
 new-placed : (size : ℕ) (path : Path) (waiting : List Mapping) (w : PlainWork) → size_under path (work_size w) ≡ size →
     Gathering size path waiting (work_size w) → IsPlacedPass size path (work_size w) (new_pass path w waiting)

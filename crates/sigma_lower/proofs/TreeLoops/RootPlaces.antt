@@ -209,7 +209,5 @@ root_good c P (by rule root a b) h good all over shared =
     right Gt fits shares = absurd fits
     right Ct fits shares =
         ct_good c P c.procs c.lanes (layout_size a) (layout_size b) shares root b over good.2 all.1 refl
-    right Split fits shares =
-        split_good c P c.procs c.lanes (layout_size a) (layout_size b) shares b over good.2 all.1 refl
-    right Dim fits shares =
+    right _ fits shares =
         split_good c P c.procs c.lanes (layout_size a) (layout_size b) shares b over good.2 all.1 refl

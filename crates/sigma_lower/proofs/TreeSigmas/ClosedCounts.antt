@@ -110,9 +110,8 @@ module _ (c : Request) (t : Breakdown) (valid : IsValid c) (tree : IsWholeTree c
           map (cost_of_pass c.size) (request_passes c t)
           ≡ more_by c.weight c.size (factor_by kind c)
           (map (cost_of_pass c.size) (request_passes (forward_by kind c) t))
-      pick Dft is = refl
-      pick Wht is = refl
       pick Idft is = inverse-costs is
+      pick _ is = refl
 
   pub closed_loads :
       map (loads_of_pass c.size) (request_passes c t) ≡ map (loads_of_pass c.size) (request_passes (forward_of c) t)
@@ -121,6 +120,5 @@ module _ (c : Request) (t : Breakdown) (valid : IsValid c) (tree : IsWholeTree c
       pick : (kind : Kind) → c.kind ≡ kind →
           map (loads_of_pass c.size) (request_passes c t)
           ≡ map (loads_of_pass c.size) (request_passes (forward_by kind c) t)
-      pick Dft is = refl
-      pick Wht is = refl
       pick Idft is = inverse-loads is
+      pick _ is = refl

@@ -23,8 +23,7 @@ record HasNumbers (c p : Request) : Type 0 where
 
 numbers : (kind : Kind) (c : Request) → HasNumbers c (forward_by kind c)
 numbers Dft c = record { weight = refl; modulus = refl; size = refl; lanes = refl }
-numbers Wht c = record { weight = refl; modulus = refl; size = refl; lanes = refl }
-numbers Idft c = record { weight = refl; modulus = refl; size = refl; lanes = refl }
+numbers _ c = record { weight = refl; modulus = refl; size = refl; lanes = refl }
 
 module _ (c p : Request) (same : HasNumbers c p) where
   costs-same : (l : Layout) →
