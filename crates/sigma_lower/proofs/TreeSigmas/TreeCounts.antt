@@ -15,27 +15,18 @@ use Rattle.sigma_lower.proofs.TreeSigmas.TreeHosted.{tree_hosted}
 
 -- ---- the forward request has the request's numbers
 
-record HasNumbers (c p : Request) : Type 0 where
-  weight : p.weight ≡ c.weight
-  modulus : p.modulus ≡ c.modulus
-  size : p.size ≡ c.size
-  lanes : p.lanes ≡ c.lanes
+costs-same : (kind : Kind) (c : Request) (l : Layout) →
+    map (counted_cost c.weight c.modulus c.size) (whole_passes c.lanes l)
+    ≡ map (counted_cost (forward_by kind c).weight (forward_by kind c).modulus (forward_by kind c).size)
+    (whole_passes (forward_by kind c).lanes l)
+costs-same Idft c l = refl
+costs-same _ c l = refl
 
-numbers : (kind : Kind) (c : Request) → HasNumbers c (forward_by kind c)
-numbers Dft c = record { weight = refl; modulus = refl; size = refl; lanes = refl }
-numbers _ c = record { weight = refl; modulus = refl; size = refl; lanes = refl }
-
-module _ (c p : Request) (same : HasNumbers c p) where
-  costs-same : (l : Layout) →
-      map (counted_cost c.weight c.modulus c.size) (whole_passes c.lanes l)
-      ≡ map (counted_cost p.weight p.modulus p.size) (whole_passes p.lanes l)
-  costs-same l =
-      sym (ap₂ (λ weight m. map (counted_cost weight m p.size) (whole_passes p.lanes l)) same.weight same.modulus
-      ∙ ap₂ (λ n v. map (counted_cost c.weight c.modulus n) (whole_passes v l)) same.size same.lanes)
-
-  loads-same : (l : Layout) →
-      map (counted_loads c.size) (whole_passes c.lanes l) ≡ map (counted_loads p.size) (whole_passes p.lanes l)
-  loads-same l = sym (ap₂ (λ n v. map (counted_loads n) (whole_passes v l)) same.size same.lanes)
+loads-same : (kind : Kind) (c : Request) (l : Layout) →
+    map (counted_loads c.size) (whole_passes c.lanes l)
+    ≡ map (counted_loads (forward_by kind c).size) (whole_passes (forward_by kind c).lanes l)
+loads-same Idft c l = refl
+loads-same _ c l = refl
 
 -- ---- pass by pass
 
@@ -72,7 +63,7 @@ module _ (c : Request) (t : Breakdown) (valid : IsValid c) (h : IsWholeTree c t)
   pub forward_costs : map (pass_cost c.weight c.modulus) nests ≡ map (cost_of_pass c.size) (request_passes p t)
   forward_costs =
       layout_costs (target_of c) l (tree_hosted c t valid h) c.weight
-      ∙ costs-same c p (numbers c.kind c) l
+      ∙ costs-same c.kind c l
       ∙ all-are p (counted_cost p.weight p.modulus p.size) (cost_of_pass p.size) (λ z q h. h.operations)
       (whole_passes p.lanes l) (request_passes p t) all
       ∙ ap (λ n. map (cost_of_pass n) (request_passes p t)) (forward_size c)
@@ -80,7 +71,7 @@ module _ (c : Request) (t : Breakdown) (valid : IsValid c) (h : IsWholeTree c t)
   pub forward_loads : map pass_loads nests ≡ map (loads_of_pass c.size) (request_passes p t)
   forward_loads =
       layout_loads (target_of c) l (tree_hosted c t valid h)
-      ∙ loads-same c p (numbers c.kind c) l
+      ∙ loads-same c.kind c l
       ∙ all-are p (counted_loads p.size) (loads_of_pass p.size) (λ z q h. h.loads) (whole_passes p.lanes l)
       (request_passes p t) all
       ∙ ap (λ n. map (loads_of_pass n) (request_passes p t)) (forward_size c)
