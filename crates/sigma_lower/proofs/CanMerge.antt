@@ -21,7 +21,8 @@ use Rattle.sigma_lower.proofs.Moves.{back-wrapped}
 use Rattle.sigma_lower.proofs.Numbers.{numbers-wrapped, strided-closed, in-closed, out-closed}
 use Rattle.sigma_lower.proofs.SharedTrees.{AllEmbed, trees_embed}
 use Rattle.sigma_lower.proofs.TreeLoops.PassLists.{AllPasses, all-map, all-split, last-back}
-use Rattle.sigma_lower.proofs.TreeLoops.Shaped.{AreShaped, IsShaped, IsShapedWork}
+use Rattle.sigma_lower.proofs.TreeLoops.Shaped.{IsShapedWork}
+use Rattle.sigma_lower.proofs.TreeLoops.RootPlaces.{IsGoodPlace}
 use Rattle.sigma_lower.proofs.TreeLoops.TreePlaces.{tree_good_places}
 use Rattle.sigma_lower.specs.TreeTerms.Term.{lowered_after}
 use Rattle.sigma_lower.proofs.TreeTerms.Goods.{vec_good, phases_good}
@@ -128,9 +129,6 @@ shaped-rows m (horner root size) h = absurd h
 shaped-rows m (copy size) h = absurd h
 shaped-rows m _ h = tt
 
-shaped-several : (m size : ℕ) (ps : List PlainPass) → AreShaped (IsShapedWork m) size ps → AllPasses IsSeveral ps
-shaped-several m size = all-map (IsShaped (IsShapedWork m) size) IsSeveral (λ p h. (h.wide, shaped-rows m p.work h.work))
-
 -- ---- phases
 
 all-can : (c : Target) (phases : List (List lowered.PlainTerm)) → IsMachine c → AllEmbed c c.lanes phases →
@@ -154,7 +152,8 @@ trees_can_merge c w can =
     let shares = can.shares in
     let good = can.good.layout in
     let embeds = trees_embed c l valid shares good in
-    let several = shaped-several c.modulus c.size (merged_of c l) (tree_good_places c l shares good).shaped in
+    let several = all-map (IsGoodPlace c (IsShapedWork c.modulus)) IsSeveral
+    (λ p h. (h.shaped.wide, shaped-rows c.modulus p.work h.shaped.work)) (merged_of c l) (tree_good_places c l shares good) in
     let phases = all-can c (lowered_of c l) valid embeds several (tree-words c l valid shares good) in
     record {
       some = valid.size.0;

@@ -101,7 +101,7 @@ pub use Rattle.sigma_lower.specs.TreeLoops.Merge.{Merging, PlainDiagonal, PlainP
 pub use Rattle.sigma_lower.specs.TreeLoops.Merge.{merge_term, merged, merged_of, merged_phases, multiplied, new_pass}
 pub use Rattle.sigma_lower.specs.TreeLoops.Merge.{passes_of_terms, scatter_place, scattered, through}
 pub use Rattle.sigma_lower.specs.TreeLoops.Nests.{loop_of, taken_of}
-pub use Rattle.sigma_lower.specs.TreeLoops.Placed.{AllLimited, AreCounts, Fits, IsCarried, IsLimitedPass}
+pub use Rattle.sigma_lower.specs.TreeLoops.Placed.{AreCounts, Fits, IsCarried, IsLimitedPass}
 pub use Rattle.sigma_lower.specs.TreeLoops.Placed.{all_simplified, diagonal_places, place_sum}
 pub use Rattle.sigma_lower.specs.TreeLoops.SharedPasses.Shared.{AllFramed, IsFramed}
 pub use Rattle.sigma_lower.specs.TreeTerms.Good.{AreCoprime, AreGood, IsGood, IsGoodCore, IsGoodPiece, IsVecOf}

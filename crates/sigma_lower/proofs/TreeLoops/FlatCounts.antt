@@ -5,7 +5,7 @@ use Rattle.sigma_lower.proofs.Words.{tiles, with_twiddles, twiddle_last, twiddle
 use Rattle.sigma_lower.proofs.Words.{whole_passes, IsValid, One, Kind, Dft, Wht, Idft, Request, PlainWork, kernel}
 use Rattle.sigma_lower.proofs.Words.{Layout, work, by, layout_size, layout_of, work_cost, IsNodeTree, left_tree}
 use Rattle.sigma_lower.proofs.Words.{right_tree, Breakdown, leaf, node, AllowsLeaf, is_kernel, node_root, Rule, Gt, Ct}
-use Rattle.sigma_lower.proofs.Words.{Split, Dim}
+use Rattle.sigma_lower.proofs.Words.{Dim}
 use Rattle.kernel_gen.proofs.NodeCosts.{kernel-short}
 use Rattle.sigma_lower.specs.TreeLoops.Laws.{loads_by}
 use Rattle.sigma_spl.specs.Work.{node_of}
@@ -17,7 +17,7 @@ use Rattle.tree_model.specs.Admissible.{RuleFits}
 use Rattle.tree_model.specs.Breakdown.{size_of}
 use Rattle.tree_model.specs.Cost.{is_plain}
 use Rattle.tree_model.proofs.PassLaws.{root_no_kernel}
-use Rattle.tree_model.specs.Whole.{cost_in, left_of, right_of}
+use Rattle.tree_model.specs.Whole.{cost_in}
 use Rattle.tree_model.specs.Passes as trees
 
 -- ---- one pass

@@ -2,18 +2,18 @@
 use Rattle.sigma_lower.proofs.Words.{◌≡◌, ℕ, ◌*◌, ◌≤◌, Bool, true, arith, refl, sym, List, [], ◌∷◌, ◌++◌, length, subst}
 use Rattle.sigma_lower.proofs.Words.{Some, map, reverse, reverse-append, and_from, Mapping, PlainDiagonal, PlainPass}
 use Rattle.sigma_lower.proofs.Words.{passes_of_terms, in_order, merged_of, loop_of, taken_of, IsCarried, IsLimitedPass}
-use Rattle.sigma_lower.proofs.Words.{AllLimited, diagonal_places, place_sum, Target, IsMachine, PlainLoop, PlainTaken}
-use Rattle.sigma_lower.proofs.Words.{limits_in, IsLimitedLoop, AreLimitedLoops, most, items_out, factor_count, Sum}
-use Rattle.sigma_lower.proofs.Words.{simplified, PlainTerm, lowered_of, PlainWork, work_size, CanShareLayout, Layout}
-use Rattle.sigma_lower.proofs.Words.{IsGoodLayout}
+use Rattle.sigma_lower.proofs.Words.{diagonal_places, place_sum, Target, IsMachine, PlainLoop, PlainTaken, limits_in}
+use Rattle.sigma_lower.proofs.Words.{IsLimitedLoop, AreLimitedLoops, most, items_out, factor_count, Sum, simplified}
+use Rattle.sigma_lower.proofs.Words.{PlainTerm, lowered_of, PlainWork, work_size, CanShareLayout, Layout, IsGoodLayout}
 use Rattle.std.specs.List.{list_all}
 use Rattle.sigma_lower.specs.TreeLoops.Limits.{AreLimitedPhases, LoopsAreLimited}
 use Rattle.sigma_lower.specs.TreeLoops.Placed.{ArePlacesLimited}
 use Rattle.sigma_lower.proofs.TreeLoops.LeftPlaces.{mapped-some}
 use Rattle.sigma_lower.proofs.TreeLoops.LoopItems.{Names, AllName, HaveNames, diagonal-size, names-of, pass-counts}
 use Rattle.sigma_lower.proofs.TreeLoops.LoopNests.{loops_listed}
-use Rattle.sigma_lower.proofs.TreeLoops.Shaped.{IsShaped, IsShapedWork, AreShaped}
+use Rattle.sigma_lower.proofs.TreeLoops.Shaped.{IsShaped, IsShapedWork}
 use Rattle.sigma_lower.proofs.TreeLoops.TameSums.{fits-limited}
+use Rattle.sigma_lower.proofs.TreeLoops.RootPlaces.{HaveGoodPlaces}
 use Rattle.sigma_lower.proofs.TreeLoops.TreePlaces.{tree_good_places}
 use Rattle.sigma_spl.specs.Merge.{items_in, carries_sum}
 use Rattle.perm_algebra.proofs.RoomTests.{room_decided}
@@ -75,14 +75,15 @@ module _ (room : ℕ) (enough : 40 ≤ room) (c : Target) (p : PlainPass) (machi
 -- ---- the passes of a tree
 
 limited_loops : (room : ℕ) (c : Target) (ps : List PlainPass) → 40 ≤ room → IsMachine c →
-    AreShaped (IsShapedWork c.modulus) c.size ps → AllLimited c ps → AreLimitedLoops (most room) c.size (map loop_of ps)
-limited_loops room c [] enough machine shapes h = tt
-limited_loops room c (p ∷ ps) enough machine shapes h = (limited_loop room enough c p machine shapes.0 h.0, limited_loops room c ps enough machine shapes.1 h.1)
+    HaveGoodPlaces c (IsShapedWork c.modulus) ps → AreLimitedLoops (most room) c.size (map loop_of ps)
+limited_loops room c [] enough machine h = tt
+limited_loops room c (p ∷ ps) enough machine h =
+    (limited_loop room enough c p machine h.0.shaped h.0.limited, limited_loops room c ps enough machine h.1)
 
 pub tree_loops : (room : ℕ) (c : Target) (l : Layout) → 40 ≤ room → IsMachine c → CanShareLayout c l →
     IsGoodLayout c.modulus l → AreLimitedLoops (most room) c.size (map loop_of (merged_of c l))
 tree_loops room c l enough machine shares good =
-    let places = tree_good_places c l shares good in limited_loops room c (merged_of c l) enough machine places.shaped places.limited
+    limited_loops room c (merged_of c l) enough machine (tree_good_places c l shares good)
 
 -- ---- the loops of a phase, the latest first
 

@@ -5,9 +5,9 @@ use Rattle.sigma_lower.proofs.Words.{ThomasBack, Target, IsProper, Sum, constant
 use Rattle.sigma_lower.proofs.Words.{Divided, simplified, top-scaled, top-joined, divided-joined, proper-joined}
 use Rattle.sigma_lower.proofs.Words.{proper-scaled, none-some, same_Some, PlainDiagonal, PlainPass, new_pass, scattered}
 use Rattle.sigma_lower.proofs.Words.{multiplied, at_last, Fits, place_sum, AreCounts, all_simplified, IsLimitedPass}
-use Rattle.sigma_lower.proofs.Words.{AllLimited, HasRoomFor, PlainWork, work_size, Layout, work, by, layout_size}
-use Rattle.sigma_lower.proofs.Words.{IsGoodLayout, wrapped, inner_of, unit_of, Tensor, Blocks, Columns, Path, grown}
-use Rattle.sigma_lower.proofs.Words.{size_under, size_under-push, Rule, Gt, Ct, Split, Dim, CanShareLayout}
+use Rattle.sigma_lower.proofs.Words.{HasRoomFor, PlainWork, work_size, Layout, work, by, layout_size, IsGoodLayout}
+use Rattle.sigma_lower.proofs.Words.{wrapped, inner_of, unit_of, Tensor, Blocks, Columns, Path, grown, size_under}
+use Rattle.sigma_lower.proofs.Words.{size_under-push, Rule, Gt, Ct, CanShareLayout}
 use Rattle.perm_algebra.specs.Affine.{parts, reduced}
 use Rattle.perm_algebra.proofs.Shape.{turned-joined}
 use Rattle.perm_algebra.proofs.Sizes.{parts-scaled, parts-joined}
@@ -355,7 +355,7 @@ pub whole_placed : (m : ℕ) (l : Layout) → IsSize (layout_size l) → IsGoodL
     ArePlaced (layout_size l) [] (layout_size l) (layout_passes [] [] l)
 whole_placed m l whole h = placed_passes m (layout_size l) [] [] l whole h refl (gathering-natural (layout_size l) [] (layout_size l) refl)
 
-limited_pass : (c : Target) (p : PlainPass) → IsPlacedPass c.size [] c.size p → IsLimitedPass c p
+pub limited_pass : (c : Target) (p : PlainPass) → IsPlacedPass c.size [] c.size p → IsLimitedPass c p
 limited_pass c p h cs e counts fits name =
     record {
       loads = h.gathers cs 0 e counts fits;
@@ -365,16 +365,5 @@ limited_pass c p h cs e counts fits name =
           carried-push cs c.size (d.rows * d.cols) d.places (inner_of d.path (d.rows * d.cols)) (place_sum p.path (work_size p.work) 0 e) m.stays m.room m.fits;
     }
 
-pub all_limited : (c : Target) (ps : List PlainPass) → ArePlaced c.size [] c.size ps → AllLimited c ps
-all_limited c [] h = tt
-all_limited c (p ∷ ps) h = (limited_pass c p h.0, all_limited c ps h.1)
-
 pub size_in : (c : Target) (l : Layout) → CanShareLayout c l → IsSize c.size
 size_in c l h = record { low = h.some; high = h.small }
-
--- the passes of a layout on one processor and one lane
-pub tree_limited : (c : Target) (l : Layout) → CanShareLayout c l → IsGoodLayout c.modulus l →
-    AllLimited c (layout_passes [] [] l)
-tree_limited c l shares good =
-    all_limited c (layout_passes [] [] l)
-    (subst (λ n. ArePlaced n [] n (layout_passes [] [] l)) shares.size (whole_placed c.modulus l (subst IsSize (sym shares.size) (size_in c l shares)) good))

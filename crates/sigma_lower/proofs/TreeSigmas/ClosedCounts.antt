@@ -1,7 +1,7 @@
 -- The passes of an inverse in the cost model are those of the forward request, with products more in the last.
 use Rattle.sigma_lower.proofs.Words.{◌≡◌, ℕ, ◌+◌, ◌*◌, false, List, [], ◌∷◌, Option, None, Some, refl, sym, ap, ◌∙◌}
-use Rattle.sigma_lower.proofs.Words.{arith, subst, map, One, Kind, Dft, Wht, Idft, Request, forward_by, forward_of}
-use Rattle.sigma_lower.proofs.Words.{IsValid, on_last, Dim, Breakdown, node, IsWholeTree, request_passes}
+use Rattle.sigma_lower.proofs.Words.{arith, subst, map, One, Kind, Dft, Idft, Request, forward_by, forward_of, IsValid}
+use Rattle.sigma_lower.proofs.Words.{on_last, Dim, Breakdown, node, IsWholeTree, request_passes}
 use Rattle.std.proofs.lemmas.Simd.{map-map}
 use Rattle.matrix_meaning.specs.Parts.{inverted}
 use Rattle.matrix_meaning.proofs.Parts.{is_of_one_size}

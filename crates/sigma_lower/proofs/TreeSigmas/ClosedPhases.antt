@@ -5,16 +5,17 @@ use Rattle.sigma_lower.proofs.Words.{All-nil, All-cons, Target, Sum, LastIs, on_
 use Rattle.sigma_lower.proofs.Words.{scaled_last, AreLimitedLoops, HasLoop, IsLimitedLoop, IsOrdered, items_out, most}
 use Rattle.sigma_lower.proofs.Words.{work_size, CanShareLayout, Layout, IsGoodLayout, IsMachine, AllHaveLoops}
 use Rattle.sigma_lower.proofs.Words.{close_last, closed_phases, AllOrdered, phase_term, PlainPass, passes_of_terms}
-use Rattle.sigma_lower.proofs.Words.{loop_of, taken_of, AllLimited, AreCounts, Fits, IsLimitedPass, PlainTerm}
-use Rattle.sigma_lower.proofs.Words.{all_simplified, place_sum}
+use Rattle.sigma_lower.proofs.Words.{loop_of, taken_of, AreCounts, Fits, IsLimitedPass, PlainTerm, all_simplified}
+use Rattle.sigma_lower.proofs.Words.{place_sum}
 use Rattle.sigma_spl.specs.Nest.{repeated}
 use Rattle.sigma_lower.specs.Merged.{closing_term}
 use Rattle.sigma_lower.specs.TreeLoops.Limits.{AreLimitedPhases}
 use Rattle.sigma_lower.proofs.TreeLoops.LoopItems.{AllName, names-of, pass-counts}
 use Rattle.sigma_lower.proofs.TreeLoops.LoopLimits.{tree_loops}
 use Rattle.sigma_lower.proofs.TreeLoops.LoopNests.{loops_listed}
-use Rattle.sigma_lower.proofs.TreeLoops.Shaped.{AreShaped, IsShaped, IsShapedWork}
+use Rattle.sigma_lower.proofs.TreeLoops.Shaped.{IsShaped, IsShapedWork}
 use Rattle.sigma_lower.proofs.TreeLoops.Staying.{carried-end}
+use Rattle.sigma_lower.proofs.TreeLoops.RootPlaces.{HaveGoodPlaces}
 use Rattle.sigma_lower.proofs.TreeLoops.TreePlaces.{tree_good_places}
 use Rattle.sigma_lower.proofs.TreeSigmas.ClosedLoops.{HasClosing, TakesClosing, can-scale, closed_loop, has-loop}
 use Rattle.sigma_lower.proofs.TreeSigmas.ClosedLoops.{limited-last, scaled-in-order}
@@ -65,19 +66,18 @@ module _ (h : Target) where
 
   -- ---- the last pass
 
-  takes-last : (ps : List PlainPass) → IsMachine h → LastIs IsEnding ps → AreShaped (IsShapedWork h.modulus) size ps →
-      AllLimited h ps → AreLimitedLoops (most 64) size (map loop_of ps) → LastIs (TakesClosing size) (map loop_of ps)
-  takes-last [] machine ends shapes limited within = absurd ends
-  takes-last (p ∷ []) machine ends shapes limited within =
-      takes-closing p machine shapes.0 limited.0 ends within.0
-  takes-last (p ∷ q ∷ ps) machine ends shapes limited within =
-      takes-last (q ∷ ps) machine ends shapes.1 limited.1 within.1
+  takes-last : (ps : List PlainPass) → IsMachine h → LastIs IsEnding ps →
+      HaveGoodPlaces h (IsShapedWork h.modulus) ps → AreLimitedLoops (most 64) size (map loop_of ps) →
+      LastIs (TakesClosing size) (map loop_of ps)
+  takes-last [] machine ends places within = absurd ends
+  takes-last (p ∷ []) machine ends places within =
+      takes-closing p machine places.0.shaped places.0.limited ends within.0
+  takes-last (p ∷ q ∷ ps) machine ends places within = takes-last (q ∷ ps) machine ends places.1 within.1
 
   pub layout-takes : (l : Layout) → IsMachine h → CanShareLayout h l → IsGoodLayout h.modulus l →
       LastIs (TakesClosing size) (map loop_of (passes.merged_of h l))
   layout-takes l machine shares good =
-      let places = tree_good_places h l shares good in
-      takes-last (passes.merged_of h l) machine (layout_ends h l shares good) places.shaped places.limited
+      takes-last (passes.merged_of h l) machine (layout_ends h l shares good) (tree_good_places h l shares good)
       (tree_loops 64 h l (omega arith) machine shares good)
 
   -- ---- the loops of phases

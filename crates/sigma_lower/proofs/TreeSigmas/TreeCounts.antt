@@ -1,8 +1,8 @@
 -- The loops of the layout of a tree count what the forward request's passes do in the cost model.
 use Rattle.sigma_lower.proofs.Words.{◌≡◌, ℕ, List, [], ◌∷◌, map, refl, sym, ap, ap₂, ◌∙◌, Counted, whole_passes}
-use Rattle.sigma_lower.proofs.Words.{forward_by, forward_of, IsValid, Kind, Dft, Wht, Idft, Request, pass_cost}
-use Rattle.sigma_lower.proofs.Words.{pass_loads, Layout, layout_of, target_of, Breakdown, IsWholeTree, request_passes}
-use Rattle.sigma_lower.proofs.Words.{merged_of, PlainNest}
+use Rattle.sigma_lower.proofs.Words.{forward_by, forward_of, IsValid, Kind, Idft, Request, pass_cost, pass_loads}
+use Rattle.sigma_lower.proofs.Words.{Layout, layout_of, target_of, Breakdown, IsWholeTree, request_passes, merged_of}
+use Rattle.sigma_lower.proofs.Words.{PlainNest}
 use Rattle.sigma_lower.specs.TreeLoops.Laws.{counted_cost, counted_loads, AllCount, CountsAs, IsForwardTree}
 use Rattle.sigma_lower.proofs.TreeLoops.LayoutCounts.{layouts_count}
 use Rattle.matrix_meaning.proofs.Requests.{forward_is_valid}
