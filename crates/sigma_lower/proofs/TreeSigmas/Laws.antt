@@ -27,7 +27,7 @@ use Rattle.sigma_lower.proofs.TreeSigmas.ClosedLoops.{TakesClosing}
 use Rattle.sigma_lower.proofs.TreeSigmas.ClosedPhases.{IsPhase, closing_loops, each-some, layout-takes, loops_by}
 use Rattle.sigma_lower.proofs.TreeSigmas.ClosedPhases.{whole-loops, whole-phases}
 use Rattle.sigma_lower.proofs.TreeSigmas.Closing.{takes-phases, whole-bounded, whole-costs, whole-length, whole-loads}
-use Rattle.sigma_lower.proofs.TreeSigmas.Closing.{whole-ready, whole-shared}
+use Rattle.sigma_lower.proofs.TreeSigmas.Closing.{closing-are, whole-ready}
 use Rattle.sigma_lower.proofs.TreeSigmas.Few.{AreFewMerged, few_merged}
 use Rattle.sigma_lower.proofs.TreeSigmas.Hosted.{IsHosted}
 use Rattle.sigma_lower.proofs.TreeSigmas.Known.{AllKnown, IsKnown, layout-known}
@@ -180,8 +180,8 @@ module _ (c : Request) (t : Breakdown) (valid : IsValid c) (whole : IsWholeTree 
 
   owned : ArePhasesShared h (map (map one_nest) closed)
   owned =
-      whole-shared h loops each takes factor
-      (phases-shared h (merged_phases h l) known (phases_are_shared h l is.shares is.good))
+      phases-shared h (merged_phases h l) closed (closing-are h factor (merged_phases h l)) known
+      (phases_are_shared h l is.shares is.good)
 
   -- ---- they are few
 
