@@ -1,8 +1,9 @@
 -- The products after the last phase: what they do, and that they can be merged.
-use Rattle.sigma_lower.proofs.Words.{◌≡◌, ℕ, ◌==◌, Bool, true, false, arith, refl, sym, ap, ◌∙◌, List, [], ◌∷◌, ◌++◌}
-use Rattle.sigma_lower.proofs.Words.{if◌then◌else◌, map, Option, None, Some, map-append, close_last, closed_phases}
-use Rattle.sigma_lower.proofs.Words.{phase_term, scale, product, term_on, factor_term, terms_in, within, size-within}
-use Rattle.sigma_lower.proofs.Words.{Blocks, size_under, PlainFactor, PlainVec}
+use Rattle.sigma_lower.proofs.Words.{on_last, ◌≡◌, ℕ, ◌==◌, Bool, true, false, arith, refl, sym, ap, ◌∙◌, List, [], ◌∷◌}
+use Rattle.sigma_lower.proofs.Words.{◌++◌, if◌then◌else◌, map, Option, None, Some, map-append, close_last}
+use Rattle.sigma_lower.proofs.Words.{closed_phases, phase_term, scale, product, term_on, factor_term, terms_in, within}
+use Rattle.sigma_lower.proofs.Words.{size-within, Blocks, size_under, PlainFactor, PlainVec}
+use Rattle.sigma_lower.proofs.TreeSigmas.Lasts.{last-append}
 use Rattle.sigma_lower.specs.Merged.{closing_term}
 use Rattle.sigma_spl.specs.Sigma.{AllCanMerge, terms_on}
 use Rattle.sigma_spl.specs.Term.{PlainTerm}
@@ -55,10 +56,9 @@ closed-can lanes n (Some v) ts h = close-can lanes n v ts h
 
 -- ---- the code takes the last phase and puts it back with them
 
-close-append : (n v : ℕ) (ts : List PlainTerm) (t : PlainTerm) →
-    close_last n v (ts ++ t ∷ []) ≡ ts ++ product t (closing_term n v) ∷ []
-close-append n v (u ∷ w ∷ ts) t = ap (λ us. u ∷ us) (close-append n v (w ∷ ts) t)
-close-append n v _ t = refl
+pub close-is : (n v : ℕ) (ts : List PlainTerm) → close_last n v ts ≡ on_last (λ t. product t (closing_term n v)) ts
+close-is n v (t ∷ u ∷ ts) = ap (λ us. t ∷ us) (close-is n v (u ∷ ts))
+close-is n v _ = refl
 
 pub closed_last : (n v : ℕ) (all made rest : List Term) (last one : Term) → all ≡ rest ++ last ∷ [] →
     made ≡ rest ++ one ∷ [] →
@@ -68,6 +68,7 @@ closed_last n v all made rest last one taken put is =
     ap (map plain_term) put
     ∙ map-append plain_term rest (one ∷ [])
     ∙ ap (λ t. map plain_term rest ++ t ∷ []) is
-    ∙ sym (close-append n v (map plain_term rest) (plain_term last))
+    ∙ sym (close-is n v (map plain_term rest ++ plain_term last ∷ [])
+    ∙ last-append (λ t. product t (closing_term n v)) (map plain_term rest) (plain_term last))
     ∙ ap (close_last n v) (sym (map-append plain_term rest (last ∷ [])))
     ∙ ap (λ ts. close_last n v (map plain_term ts)) (sym taken)

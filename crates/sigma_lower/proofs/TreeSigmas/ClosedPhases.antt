@@ -10,6 +10,7 @@ use Rattle.sigma_lower.proofs.Words.{place_sum}
 use Rattle.sigma_spl.specs.Nest.{repeated}
 use Rattle.sigma_lower.specs.Merged.{closing_term}
 use Rattle.sigma_lower.specs.TreeLoops.Limits.{AreLimitedPhases}
+use Rattle.sigma_lower.proofs.Closing.{close-is}
 use Rattle.sigma_lower.proofs.TreeLoops.LoopItems.{AllName, names-of, pass-counts}
 use Rattle.sigma_lower.proofs.TreeLoops.LoopLimits.{tree_loops}
 use Rattle.sigma_lower.proofs.TreeLoops.LoopNests.{loops_listed}
@@ -21,7 +22,7 @@ use Rattle.sigma_lower.proofs.TreeSigmas.ClosedLoops.{HasClosing, TakesClosing, 
 use Rattle.sigma_lower.proofs.TreeSigmas.ClosedLoops.{limited-last, scaled-in-order}
 use Rattle.sigma_lower.proofs.TreeSigmas.ClosedPlaces.{AllAlone, closing_path}
 use Rattle.sigma_lower.proofs.TreeSigmas.Endings.{IsEnding, layout_ends}
-use Rattle.sigma_lower.proofs.TreeSigmas.Lasts.{HasItem}
+use Rattle.sigma_lower.proofs.TreeSigmas.Lasts.{HasItem, all-last}
 use Rattle.sigma_lower.proofs.TreeLoops.Moved.{fits-one}
 use Rattle.sigma_spl.specs.Term as terms
 use Rattle.sigma_lower.specs.TreeLoops.Merge as passes
@@ -138,25 +139,14 @@ module _ (h : Target) where
     pub have : AllHaveLoops h phases
     pub limited : AreLimitedPhases h phases
 
-  first-phase : (ts : List PlainTerm) (more : List (List PlainTerm)) → ArePhases (ts ∷ more) → IsPhase (phase_term ts)
-  first-phase ts more are =
-      record {
-        ordered = record {
-          in_order = are.ordered.0.in_order;
-          none_waits = are.ordered.0.none_waits;
-          some = are.have.0;
-        };
-        limited = are.limited.0;
-      }
-
-  rest-phases : (ts : List PlainTerm) (more : List (List PlainTerm)) → ArePhases (ts ∷ more) → ArePhases more
-  rest-phases ts more are = record { ordered = are.ordered.1; have = are.have.1; limited = are.limited.1 }
-
-  open-phases : (phases : List (List PlainTerm)) → ArePhases phases → All IsPhase (map phase_term phases)
-  open-phases [] are = All-nil IsPhase
-  open-phases (ts ∷ more) are =
-      All-cons IsPhase (phase_term ts) (map phase_term more) (first-phase ts more are)
-      (open-phases more (rest-phases ts more are))
+  open-phases : (phases : List (List PlainTerm)) → AllOrdered h phases → AllHaveLoops h phases →
+      AreLimitedPhases h phases → All IsPhase (map phase_term phases)
+  open-phases [] ordered have limited = All-nil IsPhase
+  open-phases (ts ∷ more) ordered have limited =
+      let order : IsOrdered (phase_term ts) =
+      record { in_order = ordered.0.in_order; none_waits = ordered.0.none_waits; some = have.0 } in
+      All-cons IsPhase (phase_term ts) (map phase_term more) (record { ordered = order; limited = limited.0 })
+      (open-phases more ordered.1 have.1 limited.1)
 
   front-closing : (ps qs : List PlainLoop) → HasClosing size ps → HasClosing size (ps ++ qs)
   front-closing [] qs takes = absurd takes
@@ -182,21 +172,19 @@ module _ (h : Target) where
           limited = limited-last size v (loops_in t) takes is.limited;
         }
 
-    all-closed : (phases : List (List PlainTerm)) → ArePhases phases →
-        LastIs (LastIs (TakesClosing size)) (loops_by phases) →
-        All IsPhase (close_last size v (map phase_term phases))
-    all-closed [] are takes = absurd takes
-    all-closed (ts ∷ []) are takes =
-        All-cons IsPhase (terms.product (phase_term ts) (closing_term size v)) []
-        (closed-phase (phase_term ts) (first-phase ts [] are)
-        (subst (HasClosing size) (sym (loops_listed ts)) (last-closing (map loop_of (passes_of_terms ts)) takes)))
-        (All-nil IsPhase)
-    all-closed (ts ∷ us ∷ more) are takes =
-        All-cons IsPhase (phase_term ts) (close_last size v (map phase_term (us ∷ more)))
-        (first-phase ts (us ∷ more) are) (all-closed (us ∷ more) (rest-phases ts (us ∷ more) are) takes)
+  last-takes : (phases : List (List PlainTerm)) → LastIs (LastIs (TakesClosing size)) (loops_by phases) →
+      LastIs (λ t. HasClosing size (loops_in t)) (map phase_term phases)
+  last-takes [] takes = absurd takes
+  last-takes (ts ∷ []) takes =
+      subst (HasClosing size) (sym (loops_listed ts)) (last-closing (map loop_of (passes_of_terms ts)) takes)
+  last-takes (ts ∷ us ∷ more) takes = last-takes (us ∷ more) takes
 
   pub whole-phases : (o : Option ℕ) (phases : List (List PlainTerm)) → ArePhases phases →
       LastIs (LastIs (TakesClosing size)) (loops_by phases) →
       All IsPhase (closed_phases size o (map phase_term phases))
-  whole-phases None phases are takes = open-phases phases are
-  whole-phases (Some v) phases are takes = all-closed v phases are takes
+  whole-phases None phases are takes = open-phases phases are.ordered are.have are.limited
+  whole-phases (Some v) phases are takes =
+      let us = map phase_term phases in
+      subst (All IsPhase) (sym (close-is size v us))
+      (all-last IsPhase (λ t. HasClosing size (loops_in t)) (λ t. terms.product t (closing_term size v)) (closed-phase v) us
+      (open-phases phases are.ordered are.have are.limited) (last-takes phases takes))

@@ -1,21 +1,22 @@
 -- The terms of each tree that a valid request admits are a tree's.
 use Rattle.sigma_lower.proofs.Words.{◌≡◌, ◌≢◌, ℕ, ◌*◌, ◌^◌, ◌<◌, ◌≤◌, ◌==◌, Bool, true, false, List, [], ◌∷◌, length}
-use Rattle.sigma_lower.proofs.Words.{suc, refl, sym, ap, ◌∙◌, arith, subst, Option, None, Some, if◌then◌else◌, All, map}
+use Rattle.sigma_lower.proofs.Words.{refl, sym, ap, ◌∙◌, arith, subst, Option, None, Some, if◌then◌else◌, All, map}
 use Rattle.sigma_lower.proofs.Words.{length-map, All-nil, All-cons, Kind, Idft, Request, forward_of, IsValid, Target}
 use Rattle.sigma_lower.proofs.Words.{LastIs, AreLimitedLoops, IsOrdered, PlainLoop, loops_in, multiplier_of, nest_of}
 use Rattle.sigma_lower.proofs.Words.{one_nest, most, PlainMultiplier, PlainNest, pass_cost, pass_loads, ArePhasesShared}
 use Rattle.sigma_lower.proofs.Words.{target_of, PlainSigma, IsReadyLoop, PlainWork, kernel, smp_of, Layout, layout_of}
-use Rattle.sigma_lower.proofs.Words.{layout_size, Breakdown, IsWholeTree, vec_of, PlainFactor, CanLower, close_last}
-use Rattle.sigma_lower.proofs.Words.{closed_phases, phase_term, PlainPass, in_order, merged_of, merged_phases, loop_of}
-use Rattle.sigma_lower.proofs.Words.{PlainTerm, factor_term, lowered_of, terms_in}
+use Rattle.sigma_lower.proofs.Words.{layout_size, Breakdown, IsWholeTree, vec_of, PlainFactor, CanLower, closed_phases}
+use Rattle.sigma_lower.proofs.Words.{phase_term, PlainPass, in_order, merged_of, merged_phases, loop_of, PlainTerm}
+use Rattle.sigma_lower.proofs.Words.{factor_term, lowered_of, terms_in}
 use Rattle.std.proofs.lemmas.List.Elements.{All-weaker}
 use Rattle.sigma_spl.specs.Shared.Owners.{all_passes, most_actions}
 use Rattle.sigma_spl.specs.Shared.Ready.{diagonal_tables, passes_tables, work_tables}
 use Rattle.sigma_spl.specs.Trees.{CountsTree, IsFree, IsTreeSigma, loops_of_phases, phases_for}
 use Rattle.smp_rewrite.specs.LayoutSteps.Whole.{factor_by, whole_of}
-use Rattle.sigma_lower.specs.Merged.{whole_sigma}
+use Rattle.sigma_lower.specs.Merged.{whole_sigma, closing_term}
 use Rattle.sigma_lower.specs.TreeSigmas.{TreesAreSigmas}
 use Rattle.sigma_lower.proofs.HaveLoops.{phases_have_loops}
+use Rattle.sigma_lower.proofs.Closing.{close-is}
 use Rattle.sigma_lower.proofs.Ordered.{trees_ordered}
 use Rattle.sigma_lower.proofs.TreeLayouts.{trees_can_lower}
 use Rattle.sigma_lower.proofs.TreeLoops.Counts.{merge_counts}
@@ -31,7 +32,7 @@ use Rattle.sigma_lower.proofs.TreeSigmas.Closing.{closing-are, whole-ready}
 use Rattle.sigma_lower.proofs.TreeSigmas.Few.{AreFewMerged, few_merged}
 use Rattle.sigma_lower.proofs.TreeSigmas.Hosted.{IsHosted}
 use Rattle.sigma_lower.proofs.TreeSigmas.Known.{AllKnown, IsKnown, layout-known}
-use Rattle.sigma_lower.proofs.TreeSigmas.Lasts.{HasItem, order-map}
+use Rattle.sigma_lower.proofs.TreeSigmas.Lasts.{HasItem, length-last, order-map}
 use Rattle.sigma_lower.proofs.TreeLoops.PassLists.{all-split}
 use Rattle.sigma_lower.proofs.TreeSigmas.Owned.{phases-shared}
 use Rattle.sigma_lower.proofs.TreeSigmas.Ready.{ready-loop}
@@ -95,12 +96,8 @@ no-factor _ c other = refl
 
 length-closed : (n : ℕ) (o : Option ℕ) (ts : List terms.PlainTerm) → length (closed_phases n o ts) ≡ length ts
 length-closed n None ts = refl
-length-closed n (Some v) ts = length-last ts
-  where
-    length-last : (ts : List terms.PlainTerm) → length (close_last n v ts) ≡ length ts
-    length-last [] = refl
-    length-last (t ∷ []) = refl
-    length-last (t ∷ u ∷ ts) = ap suc (length-last (u ∷ ts))
+length-closed n (Some v) ts =
+    ap length (close-is n v ts) ∙ length-last (λ t. terms.product t (closing_term n v)) ts
 
 module _ (c : Request) (t : Breakdown) where
   forward-count : length (map phase_term (terms_in (vec_of (smp_of (target_of c) (whole_of c t))))) ≡ phases_for c.procs
