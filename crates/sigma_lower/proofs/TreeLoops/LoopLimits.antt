@@ -8,12 +8,13 @@ use Rattle.sigma_lower.proofs.Words.{PlainTerm, lowered_of, PlainWork, work_size
 use Rattle.std.specs.List.{list_all}
 use Rattle.sigma_lower.specs.TreeLoops.Limits.{AreLimitedPhases, LoopsAreLimited}
 use Rattle.sigma_lower.specs.TreeLoops.Placed.{ArePlacesLimited}
+use Rattle.sigma_lower.proofs.TreeLoops.PassLists.{all-split}
 use Rattle.sigma_lower.proofs.TreeLoops.LeftPlaces.{mapped-some}
 use Rattle.sigma_lower.proofs.TreeLoops.LoopItems.{Names, AllName, HaveNames, diagonal-size, names-of, pass-counts}
 use Rattle.sigma_lower.proofs.TreeLoops.LoopNests.{loops_listed}
 use Rattle.sigma_lower.proofs.TreeLoops.Shaped.{IsShaped, IsShapedWork}
 use Rattle.sigma_lower.proofs.TreeLoops.TameSums.{fits-limited}
-use Rattle.sigma_lower.proofs.TreeLoops.RootPlaces.{HaveGoodPlaces}
+use Rattle.sigma_lower.proofs.TreeLoops.RootPlaces.{HaveGoodPlaces, IsGoodPlace}
 use Rattle.sigma_lower.proofs.TreeLoops.TreePlaces.{tree_good_places}
 use Rattle.sigma_spl.specs.Merge.{items_in, carries_sum}
 use Rattle.perm_algebra.proofs.RoomTests.{room_decided}
@@ -97,18 +98,16 @@ limited-reverse : (n : ℕ) (ps : List PlainLoop) → AreLimitedLoops (most 64) 
 limited-reverse n [] h = tt
 limited-reverse n (p ∷ ps) h = subst (AreLimitedLoops (most 64) n) (sym (reverse-append (p ∷ []) ps)) (limited-append n (reverse ps) (p ∷ []) (limited-reverse n ps h.1) (h.0, tt))
 
-limited-split : (c : Target) (ps qs : List PlainPass) → AreLimitedLoops (most 64) c.size (map loop_of (ps ++ qs)) →
-    AreLimitedLoops (most 64) c.size (map loop_of ps) × AreLimitedLoops (most 64) c.size (map loop_of qs)
-limited-split c [] qs h = (tt, h)
-limited-split c (p ∷ ps) qs h = let more = limited-split c ps qs h.1 in ((h.0, more.0), more.1)
-
-limited_phases : (c : Target) (phases : List (List PlainTerm)) →
-    AreLimitedLoops (most 64) c.size (map loop_of (in_order (map passes_of_terms phases))) → AreLimitedPhases c phases
-limited_phases c [] h = tt
-limited_phases c (ts ∷ more) h =
+limited_phases : (c : Target) (phases : List (List PlainTerm)) → IsMachine c →
+    HaveGoodPlaces c (IsShapedWork c.modulus) (in_order (map passes_of_terms phases)) → AreLimitedPhases c phases
+limited_phases c [] machine h = tt
+limited_phases c (ts ∷ more) machine h =
     let ps = passes_of_terms ts in
-    let parts = limited-split c ps (in_order (map passes_of_terms more)) h in
-    (subst (AreLimitedLoops (most 64) c.size) (sym (loops_listed ts)) (limited-reverse c.size (map loop_of ps) parts.0), limited_phases c more parts.1)
+    let parts = all-split (IsGoodPlace c (IsShapedWork c.modulus)) ps (in_order (map passes_of_terms more)) h in
+    let limited = limited_loops 64 c ps (omega arith) machine parts.0 in (
+      subst (AreLimitedLoops (most 64) c.size) (sym (loops_listed ts)) (limited-reverse c.size (map loop_of ps) limited),
+      limited_phases c more machine parts.1,
+    )
 
 pub loops_are_limited : LoopsAreLimited
-loops_are_limited c l machine shares good = limited_phases c (lowered_of c l) (tree_loops 64 c l (omega arith) machine shares good)
+loops_are_limited c l machine shares good = limited_phases c (lowered_of c l) machine (tree_good_places c l shares good)
