@@ -7,12 +7,10 @@ use Rattle.sigma_lower.proofs.Words.{merge_term, merged, passes_of_terms, in_ord
 use Rattle.sigma_lower.proofs.Words.{IsGoodCore, IsGood, AreGood, factor_term, lowered_of, wrapped, layout_smp, within}
 use Rattle.sigma_lower.proofs.Words.{core_size, PlainCore, piece, turns, thomas_in, thomas_out, PlainStep, step}
 use Rattle.sigma_lower.proofs.Words.{CanShareLayout, Layout, IsGoodLayout, only, Target, Columns, Path, size_under}
-use Rattle.sigma_lower.proofs.Words.{vec_of, PlainFactor, lanes, move_after, factor_step}
-use Rattle.std.proofs.lemmas.Bool.{lt-ltb}
-use Rattle.sigma_spl.specs.Limits.{HasRows, HasSeveral}
-use Rattle.sigma_spl.specs.Sigma.{AllCanMerge}
+use Rattle.sigma_lower.proofs.Words.{vec_of, PlainFactor, lanes, move_after, factor_step, lt-ltb, HasSeveral}
+use Rattle.sigma_lower.proofs.Words.{AllCanMerge, AreWords, IsGoodWhole}
+use Rattle.sigma_spl.specs.Limits.{HasRows}
 use Rattle.sigma_spl.specs.Term.{scat}
-use Rattle.sigma_spl.specs.Words.{AreWords}
 use Rattle.sigma_spl.specs.Work.{HasWords}
 use Rattle.sigma_lower.specs.Merged.{TreesCanMerge}
 use Rattle.sigma_lower.proofs.Closing.{closed-can}
@@ -26,7 +24,6 @@ use Rattle.sigma_lower.proofs.TreeLoops.RootPlaces.{IsGoodPlace}
 use Rattle.sigma_lower.proofs.TreeLoops.TreePlaces.{tree_good_places}
 use Rattle.sigma_lower.specs.TreeTerms.Term.{lowered_after}
 use Rattle.sigma_lower.proofs.TreeTerms.Goods.{vec_good, phases_good}
-use Rattle.smp_rewrite.specs.LayoutSteps.Whole.{IsGoodWhole}
 use Rattle.vec_rewrite.specs.Vectors.{tiles}
 use Rattle.sigma_lower.specs.TreeTerms.Term as lowered
 use Rattle.smp_rewrite.specs.LayoutSteps.Step as steps

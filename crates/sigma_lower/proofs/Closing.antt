@@ -2,14 +2,12 @@
 use Rattle.sigma_lower.proofs.Words.{on_last, ◌≡◌, ℕ, ◌==◌, Bool, true, false, arith, refl, sym, ap, ◌∙◌, List, [], ◌∷◌}
 use Rattle.sigma_lower.proofs.Words.{◌++◌, if◌then◌else◌, map, Option, None, Some, map-append, close_last}
 use Rattle.sigma_lower.proofs.Words.{closed_phases, phase_term, scale, product, term_on, factor_term, terms_in, within}
-use Rattle.sigma_lower.proofs.Words.{size-within, Blocks, size_under, PlainFactor, PlainVec}
+use Rattle.sigma_lower.proofs.Words.{size-within, Blocks, size_under, PlainFactor, PlainVec, closing_term, AllCanMerge}
+use Rattle.sigma_lower.proofs.Words.{terms_on, closed_on}
 use Rattle.sigma_lower.proofs.TreeSigmas.Lasts.{last-append}
-use Rattle.sigma_lower.specs.Merged.{closing_term}
-use Rattle.sigma_spl.specs.Sigma.{AllCanMerge, terms_on}
 use Rattle.sigma_spl.specs.Term.{PlainTerm}
 use Rattle.sigma_spl.specs.Views.{plain_term}
 use Rattle.sigma_spl.specs.declared.term.Term.{Term}
-use Rattle.smp_rewrite.specs.LayoutSteps.Whole.{closed_on}
 
 -- ---- there is a last phase
 

@@ -5,15 +5,13 @@ use Rattle.sigma_lower.proofs.Words.{mul-div_right, All-head, All-tail, CanShare
 use Rattle.sigma_lower.proofs.Words.{closed_phases, embed, phase_term, IsVecOf, lowered_core, factor_term, smp_of}
 use Rattle.sigma_lower.proofs.Words.{within, core_size, PlainCore, piece, twiddles, Blocks, Columns, Path, size_under}
 use Rattle.sigma_lower.proofs.Words.{copies_of, size_under-copies, HasLanes, vec_of, PlainFactor, lanes, diagonals}
-use Rattle.sigma_lower.proofs.Words.{move_before, move_after, PlainVec, vec_shaped}
+use Rattle.sigma_lower.proofs.Words.{move_before, move_after, PlainVec, vec_shaped, term_cost, sigma_of, whole_sigma}
+use Rattle.sigma_lower.proofs.Words.{after_core, IsDiagonal, copies-within}
 use Rattle.std.proofs.Common.{add-zero}
 use Rattle.std.proofs.Math.Nat.{zero-div}
-use Rattle.sigma_spl.specs.Counts.{term_cost}
 use Rattle.sigma_spl.specs.Term.{PlainTerm}
-use Rattle.sigma_lower.specs.Merged.{phase_costs, sigma_of, whole_sigma}
-use Rattle.sigma_lower.specs.TreeTerms.Term.{after_core}
-use Rattle.smp_rewrite.specs.Laws.{HasEqualParts, IsDiagonal, IsPermutation}
-use Rattle.smp_rewrite.proofs.Tensors.{copies-within}
+use Rattle.sigma_lower.specs.Merged.{phase_costs}
+use Rattle.smp_rewrite.specs.Laws.{HasEqualParts, IsPermutation}
 use Rattle.smp_rewrite.specs.LayoutSteps.Whole.{Whole, closing_cost}
 use Rattle.smp_rewrite.specs.LayoutSteps.Step.{core_cost}
 use Rattle.tree_model.proofs.Splits.{product_div}

@@ -4,12 +4,11 @@ use Rattle.sigma_lower.proofs.Words.{◌∷◌, ◌++◌, length, inl, inr, pow-
 use Rattle.sigma_lower.proofs.Words.{IsPowerOfTwo, work_cost, operations, one_more, halvings, hadamard_term}
 use Rattle.sigma_lower.proofs.Words.{fourier_term, term_of, Formula, Fourier, Hadamard, Twiddles, Diagonal, Product}
 use Rattle.sigma_lower.proofs.Words.{TensorLeft, TensorRight, DirectSum, Pending, size_of, IsShaped, Tensor, Blocks}
-use Rattle.sigma_lower.proofs.Words.{Columns, Path, count_of, copies_of, size_under, size_under-copies, leaf}
+use Rattle.sigma_lower.proofs.Words.{Columns, Path, count_of, copies_of, size_under, size_under-copies, leaf, term_cost}
+use Rattle.sigma_lower.proofs.Words.{copies_of-push}
 use Rattle.tree_model.specs.KernelCosts.{kernel_cost, product_cost}
-use Rattle.sigma_spl.specs.Counts.{term_cost}
 use Rattle.sigma_lower.proofs.Lowers.{halvings-power, power-above}
 use Rattle.sigma_lower.proofs.Parts.{size-more}
-use Rattle.operators.proofs.TensorPaths.Under.{copies_of-push}
 
 copies-more : (path : Path) (t : Tensor) → copies_of (one_more path t) ≡ copies_of path * count_of t
 copies-more path t =

@@ -6,9 +6,9 @@ use Rattle.sigma_lower.proofs.Words.{moves-no-words, embed, core_term, IsGoodCor
 use Rattle.sigma_lower.proofs.Words.{wrapped, within, core_size, step_on, PlainCore, piece, turns, thomas_in}
 use Rattle.sigma_lower.proofs.Words.{thomas_out, PlainStep, Blocks, Columns, Path, copies_of, size_under}
 use Rattle.sigma_lower.proofs.Words.{size_under-copies, PlainFactor, lanes, diagonals, move_before, move_after}
-use Rattle.sigma_lower.proofs.Words.{factor_step, HasLanes, ◌+◌, ◌/◌, ◌%◌, div-add-mod'}
+use Rattle.sigma_lower.proofs.Words.{factor_step, HasLanes, ◌+◌, ◌/◌, ◌%◌, div-add-mod', scatter-same, IsDiagonal}
+use Rattle.sigma_lower.proofs.Words.{blocks-within, MovesVectors}
 use Rattle.sigma_spl.specs.Term.{scat, nest}
-use Rattle.sigma_spl.proofs.Keeps.{scatter-same}
 use Rattle.sigma_lower.proofs.Moves.{back-wrapped, strided-move, in-move, out-move, move-wrapped}
 use Rattle.sigma_lower.proofs.Parts.{tile-under}
 use Rattle.sigma_lower.proofs.Trees.{piece-nests, core-lowers, flip}
@@ -16,11 +16,8 @@ use Rattle.sigma_lower.proofs.TreeTerms.Vectors.{HasVectors, vectors-blocks, vec
 use Rattle.sigma_lower.proofs.TreeTerms.Vectors.{keeps-wrapped}
 use Rattle.sigma_lower.proofs.TreeTerms.Lowering.{factor_on, part-le}
 use Rattle.sigma_lower.proofs.TreeTerms.Permuted.{gather-under}
-use Rattle.smp_rewrite.specs.Laws.{IsDiagonal}
 use Rattle.vec_rewrite.specs.Vectors.{tiles}
-use Rattle.smp_rewrite.proofs.Tensors.{blocks-within}
 use Rattle.std.proofs.lemmas.Nat.{mod-mul-add}
-use Rattle.sigma_spl.specs.Good.{MovesVectors}
 use Rattle.sigma_lower.specs.TreeTerms.Term as lowered
 use Rattle.smp_rewrite.specs.LayoutSteps.Step as steps
 

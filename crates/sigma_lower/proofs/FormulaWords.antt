@@ -5,10 +5,8 @@ use Rattle.sigma_lower.proofs.Words.{HasNumbers, kernel, horner, short, one_more
 use Rattle.sigma_lower.proofs.Words.{term_of, wrapped, Formula, Identity, Fourier, Hadamard, Twiddles, Diagonal, Stride}
 use Rattle.sigma_lower.proofs.Words.{Permutation, GoodThomasIn, GoodThomasOut, Product, TensorLeft, TensorRight}
 use Rattle.sigma_lower.proofs.Words.{DirectSum, Pending, size_of, IsShaped, size_is_size, Blocks, Columns, Path}
-use Rattle.sigma_lower.proofs.Words.{size_under}
-use Rattle.std.proofs.lemmas.Bool.{lt-ltb}
+use Rattle.sigma_lower.proofs.Words.{size_under, lt-ltb, AreWords}
 use Rattle.sigma_spl.specs.Term.{nest}
-use Rattle.sigma_spl.specs.Words.{AreWords}
 use Rattle.sigma_lower.proofs.Lowers.{coprime}
 use Rattle.sigma_lower.proofs.Moves.{left_positive}
 use Rattle.sigma_lower.proofs.Numbers.{numbers-wrapped, strided-closed, in-closed, out-closed}

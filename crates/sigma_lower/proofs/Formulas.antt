@@ -2,16 +2,14 @@
 use Rattle.sigma_lower.proofs.Words.{◌≡◌, ℕ, ◌+◌, ◌*◌, ◌<◌, ◌∙◌, [], List, ap, arith, subst, sym, operations, work_cost}
 use Rattle.sigma_lower.proofs.Words.{term_of, IsVector, PlainSigma, Formula, size_of, IsShaped, shaped_size}
 use Rattle.sigma_lower.proofs.Words.{size_is_size, ◌%◌, mod-lt, Mapping, CanNest, IsGoodTerm, IsMove, same, product}
-use Rattle.sigma_lower.proofs.Words.{PlainWork, tile, Path}
+use Rattle.sigma_lower.proofs.Words.{PlainWork, tile, Path, IsGoodSigma, sigma_on, apply, MovesVectors}
 use Rattle.sigma_lower.specs.OnePhase.{formula_sigma}
 use Rattle.sigma_lower.proofs.Counted.{lower_counts}
 use Rattle.sigma_lower.proofs.FormulaWords.{term-words}
 use Rattle.sigma_lower.proofs.Lowers.{lowers}
 use Rattle.sigma_lower.proofs.Several.{term-several}
-use Rattle.sigma_spl.specs.Sigma.{CanMerge, IsGoodSigma, sigma_cost, sigma_on}
+use Rattle.sigma_spl.specs.Sigma.{CanMerge, sigma_cost}
 use Rattle.sigma_spl.specs.Term.{PlainTerm, gath, scat, nest}
-use Rattle.spl_ast.specs.Meaning.{apply}
-use Rattle.sigma_spl.specs.Good.{MovesVectors}
 
 -- ---- a term that is good where there are no lanes is good for one
 

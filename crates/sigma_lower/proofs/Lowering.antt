@@ -3,11 +3,9 @@ use Rattle.sigma_lower.proofs.Words.{◌≡◌, ℕ, zero, suc, ◌*◌, ◌/◌
 use Rattle.sigma_lower.proofs.Words.{◌++◌, inl, inr, subst, mul_comm, pow-succ', cases_eq, nat_tests, Wht, IsPowerOfTwo}
 use Rattle.sigma_lower.proofs.Words.{same, product, kernel, short, one_more, halvings, hadamard_term, Formula, Stride}
 use Rattle.sigma_lower.proofs.Words.{Product, TensorLeft, TensorRight, size_of, IsShaped, size_is_size, Tensor, Blocks}
-use Rattle.sigma_lower.proofs.Words.{Columns, Path, count_of, grown, size_under-push}
+use Rattle.sigma_lower.proofs.Words.{Columns, Path, count_of, grown, size_under-push, HasRoom, grown-one}
 use Rattle.sigma_spl.specs.Term.{nest}
 use Rattle.sigma_lower.proofs.Lowers.{halvings-power, power-above}
-use Rattle.sigma_spl.specs.Room.{HasRoom}
-use Rattle.smp_rewrite.proofs.Tensors.{grown-one}
 
 -- ---- room
 

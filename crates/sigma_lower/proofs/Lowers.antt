@@ -9,32 +9,27 @@ use Rattle.sigma_lower.proofs.Words.{vector-below, one_more, halvings, hadamard_
 use Rattle.sigma_lower.proofs.Words.{Formula, Identity, Fourier, Hadamard, Twiddles, Diagonal, Stride, Permutation}
 use Rattle.sigma_lower.proofs.Words.{GoodThomasIn, GoodThomasOut, Product, TensorLeft, TensorRight, DirectSum, Pending}
 use Rattle.sigma_lower.proofs.Words.{size_of, IsShaped, shaped_size, Blocks, Columns, Path, size_under, under}
-use Rattle.sigma_lower.proofs.Words.{size_under-push}
-use Rattle.std.proofs.Common.{mod-eq_of_lt, length-append, length-drop, nat_lt}
+use Rattle.sigma_lower.proofs.Words.{size_under-push, mod-eq_of_lt, length-append, nat_lt, entry_of, Operator}
+use Rattle.sigma_lower.proofs.Words.{list_below, under-vector, vector-fill, apply, under-push}
+use Rattle.std.proofs.Common.{length-drop}
 use Rattle.std.specs.Int.{IsGcd}
 use Rattle.std.proofs.Math.Pow.{pow_pos}
 use Rattle.std.proofs.lemmas.Nat.{mul-mod_first}
 use Rattle.std.proofs.lemmas.List.{get_or-map, length-take-le, get_or-take, get_or-drop, get_or_append_left}
 use Rattle.std.proofs.lemmas.List.{get_or-append_right}
-use Rattle.matrix_meaning.specs.Kind.{entry_of}
 use Rattle.matrix_meaning.specs.Laws.{twiddle}
 use Rattle.matrix_meaning.proofs.WalshHadamard.{split}
-use Rattle.operators.specs.Operator.{Operator}
-use Rattle.operators.specs.Sum.{list_below}
 use Rattle.sigma_spl.specs.Copies.{both}
 use Rattle.sigma_spl.specs.Nest.{values, twiddles}
 use Rattle.sigma_spl.specs.Term.{gath, diag, nest}
 use Rattle.sigma_spl.proofs.CopiesMerge.{low, high}
-use Rattle.sigma_spl.proofs.Keeps.{under-vector, under-none, vector-fill, both-equal, front, back, front-vector}
-use Rattle.sigma_spl.proofs.Keeps.{back-vector}
+use Rattle.sigma_spl.proofs.Keeps.{under-none, both-equal, front, back, front-vector, back-vector}
 use Rattle.sigma_lower.proofs.Moves.{left_positive, move-wrapped, strided-move, in-move, out-move}
 use Rattle.sigma_lower.proofs.Parts.{transform-work, nest-lowers, move-lowers, diag-lowers, product-lowers, lowers-as}
 use Rattle.sigma_lower.proofs.Parts.{size-more, more-lowers, under-keeps, Lowers}
 use Rattle.sigma_lower.proofs.TreeTerms.Lowering.{AreCoprime}
 use Rattle.sigma_lower.proofs.TreeTerms.Permuted.{gather-under}
-use Rattle.spl_ast.specs.Meaning.{apply}
 use Rattle.spl_ast.proofs.Vectors.{apply_vector, residue_at, vector_of}
-use Rattle.operators.proofs.TensorPaths.Under.{under-push}
 
 -- ---- vectors
 

@@ -2,12 +2,11 @@
 use Rattle.sigma_lower.proofs.Words.{◌≡◌, ℕ, ◌*◌, ◌<◌, ◌≤◌, arith, refl, sym, ap, [], ◌∷◌, subst, mod-lt, mul_comm}
 use Rattle.sigma_lower.proofs.Words.{mul-lt, Mapping, Same, Strided, ThomasIn, ThomasOut, ThomasBack, at}
 use Rattle.sigma_lower.proofs.Words.{IsPermutationBelow, IsMove, moves-no-words, back_of, wrapped, unit_of, Blocks}
-use Rattle.sigma_lower.proofs.Words.{Columns, Path, size_under}
-use Rattle.index_fn.specs.Mapping.{Paired}
+use Rattle.sigma_lower.proofs.Words.{Columns, Path, size_under, Paired, AreInverses, inverse_of_s, inverse_of_r}
+use Rattle.sigma_lower.proofs.Words.{inverses_of}
 use Rattle.index_fn.specs.Inverse.{Undoes}
 use Rattle.index_fn.proofs.StepsBefore.{in_undoes, inverse_is}
 use Rattle.sigma_spl.specs.Good.{IsFormed}
-use Rattle.ring_mod.proofs.Inverses.{AreInverses, inverse_of_s, inverse_of_r, inverses_of}
 use Rattle.sigma_lower.proofs.TreeTerms.Lowering.{AreCoprime, turns-permute, thomas_permutes, both_units}
 use Rattle.sigma_lower.proofs.TreeTerms.Permuted.{wrapped-permutes}
 pub use Rattle.sigma_spl.proofs.Keeps.{left_positive, right_positive}

@@ -7,7 +7,7 @@ use Rattle.sigma_lower.proofs.Words.{lines_dealt, lines_moved, right_path, right
 use Rattle.sigma_lower.proofs.Words.{vectors_grouped, vectors_turned, whole_path, PlainTerm, gath, scat, diag, nest}
 use Rattle.sigma_lower.proofs.Words.{lowered, lowered_of, wrapped, chosen, PlainLoop, HasLoop, is_tile, is_alone}
 use Rattle.sigma_lower.proofs.Words.{PlainWork, kernel, rows, tile, RootHasParts, Layout, work, by, layout_size}
-use Rattle.sigma_lower.proofs.Words.{IsGoodWork, IsGoodLayout, steps_of}
+use Rattle.sigma_lower.proofs.Words.{IsGoodWork, IsGoodLayout, steps_of, Looping, looped, stored_last, CanScale}
 use Rattle.sigma_lower.specs.Order.{IsOrderedPhase, TreesOrdered}
 use Rattle.sigma_lower.proofs.TreeLoops.Emitted.{as_lowered, emitted-lowered}
 use Rattle.sigma_lower.proofs.TreeLoops.TreePasses.{back}
@@ -15,7 +15,7 @@ use Rattle.sigma_lower.proofs.TreeLoops.Walks.{IsLaw, Keeps, Point, RightKeeps, 
 use Rattle.sigma_lower.proofs.TreeLoops.Walks.{steps-law, tiled}
 use Rattle.sigma_lower.proofs.TreeTerms.Both.{plain_terms}
 use Rattle.sigma_lower.proofs.TreeTerms.RootTerms.{rule-shared, shared_terms}
-use Rattle.sigma_spl.specs.Loops.{Looping, looped, stored_last, CanScale, InOrder}
+use Rattle.sigma_spl.specs.Loops.{InOrder}
 use Rattle.sigma_spl.specs.Loops as loops
 
 -- ---- the law

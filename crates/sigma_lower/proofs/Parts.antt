@@ -5,26 +5,20 @@ use Rattle.sigma_lower.proofs.Words.{nat_tests, fill_by_all, Kind, transform, ga
 use Rattle.sigma_lower.proofs.Words.{on_columns, at-list_below, list_below-same, place_below, factor_positive, CanNest}
 use Rattle.sigma_lower.proofs.Words.{IsGoodTerm, IsVector, factor_count, factor_at, product, term_on, PlainWork, tile}
 use Rattle.sigma_lower.proofs.Words.{work_size, work_on, vector-below, one_more, Tensor, Blocks, Columns, Path}
-use Rattle.sigma_lower.proofs.Words.{count_of, grown, size_under, under, place, size_under-push}
-use Rattle.std.proofs.Common.{mod-eq_of_lt}
-use Rattle.std.proofs.Math.Nat.{mod-mod, div-one, mod-one, div-eq_of_lt}
-use Rattle.matrix_meaning.specs.Kind.{entry_of}
-use Rattle.operators.specs.Operator.{Operator, block}
+use Rattle.sigma_lower.proofs.Words.{count_of, grown, size_under, under, place, size_under-push, mod-eq_of_lt, div-one}
+use Rattle.sigma_lower.proofs.Words.{mod-one, entry_of, Operator, block, stride_below, list_below, length-list_below}
+use Rattle.sigma_lower.proofs.Words.{PlainFactors, under-vector, vector-fill, place-below, under-push, under-size}
+use Rattle.sigma_lower.proofs.Words.{grown-one}
+use Rattle.std.proofs.Math.Nat.{mod-mod, div-eq_of_lt}
 use Rattle.operators.specs.Identities.{turn}
-use Rattle.operators.proofs.Places.{stride_below}
-use Rattle.operators.specs.Sum.{list_below}
-use Rattle.operators.proofs.Lists.{length-list_below}
 use Rattle.operators.proofs.Sums.{sum_below-same}
-use Rattle.sigma_spl.specs.Nest.{PlainFactors}
 use Rattle.sigma_spl.specs.Term.{PlainTerm, nest, move, diag}
-use Rattle.sigma_spl.proofs.Keeps.{under-vector, vector-fill}
 use Rattle.sigma_spl.proofs.Natural.{at-natural}
 use Rattle.sigma_spl.proofs.Limited.{below-all}
 use Rattle.sigma_lower.proofs.TreeTerms.Permuted.{scale-under}
 use Rattle.operators.specs.TensorPaths.Path.{one_under, Reads, local}
-use Rattle.operators.proofs.TensorPaths.PathPlaces.{at-under, place-below}
-use Rattle.operators.proofs.TensorPaths.Under.{under-push, under-product, under-size}
-use Rattle.smp_rewrite.proofs.Tensors.{grown-one}
+use Rattle.operators.proofs.TensorPaths.PathPlaces.{at-under}
+use Rattle.operators.proofs.TensorPaths.Under.{under-product}
 
 -- a good term that does to a vector what an operator does
 pub record Lowers (m n : ℕ) (t : PlainTerm) (a : Operator) : Type 0 where

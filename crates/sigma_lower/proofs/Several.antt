@@ -3,11 +3,9 @@ use Rattle.sigma_lower.proofs.Words.{◌≡◌, ℕ, zero, suc, ◌^◌, ◌≤�
 use Rattle.sigma_lower.proofs.Words.{cases_lt, nat_tests, Dft, AreSeveral, kernel, horner, short, one_more, halvings}
 use Rattle.sigma_lower.proofs.Words.{hadamard_term, fourier_term, term_of, Formula, Fourier, Hadamard, Permutation}
 use Rattle.sigma_lower.proofs.Words.{Product, TensorLeft, TensorRight, DirectSum, Pending, IsShaped, Tensor, Blocks}
-use Rattle.sigma_lower.proofs.Words.{Columns, Path, count_of}
+use Rattle.sigma_lower.proofs.Words.{Columns, Path, count_of, HasSeveral, several-push}
 use Rattle.std.proofs.Common.{pow_pos}
-use Rattle.sigma_spl.specs.Limits.{HasSeveral}
 use Rattle.sigma_spl.specs.Term.{nest}
-use Rattle.sigma_spl.proofs.Several.{several-push}
 
 several-more : (path : Path) (t : Tensor) → AreSeveral path → 1 ≤ count_of t → AreSeveral (one_more path t)
 several-more path t h some =

@@ -3,12 +3,11 @@ use Rattle.sigma_lower.proofs.Words.{◌≡◌, ℕ, ◌==◌, refl, sym, ap, �
 use Rattle.sigma_lower.proofs.Words.{All-cons, All-head, All-tail, Target, IsMachine, chosen, IsGoodTerm, IsVector}
 use Rattle.sigma_lower.proofs.Words.{term_on, phase_term, AreGood, IsVecOf, factor_term, lowered_of, layout_smp, only}
 use Rattle.sigma_lower.proofs.Words.{HasLanes, laned, vec_of, PlainFactor, factor_step, vec_shaped, CanShareLayout}
-use Rattle.sigma_lower.proofs.Words.{Layout, IsGoodLayout}
+use Rattle.sigma_lower.proofs.Words.{Layout, IsGoodLayout, IsGoodWhole}
 use Rattle.sigma_lower.proofs.Embedded.{factors_embed}
 use Rattle.sigma_lower.proofs.Trees.{step-keeps}
 use Rattle.sigma_lower.proofs.TreeTerms.Goods.{vec_good, phases_good}
 use Rattle.sigma_lower.proofs.TreeTerms.Lowering.{factor_on}
-use Rattle.smp_rewrite.specs.LayoutSteps.Whole.{IsGoodWhole}
 use Rattle.sigma_lower.specs.TreeTerms.Term as lowered
 
 -- ---- phases

@@ -2,12 +2,11 @@
 use Rattle.sigma_lower.proofs.Words.{◌≡◌, ◌≢◌, ℕ, ◌<◌, arith, refl, sym, ap, ap₂, ◌∙◌, List, [], ◌∷◌, ◌++◌, subst, map}
 use Rattle.sigma_lower.proofs.Words.{reverse, nat_tests, reverse-append, Target, IsMachine, IsVector, PlainSigma, same}
 use Rattle.sigma_lower.proofs.Words.{product, term_on, merge_keeps, CanLower, embed, phase_term, IsVecOf, factor_term}
-use Rattle.sigma_lower.proofs.Words.{terms_in, smp_of, vec_of, PlainFactor, PlainVec}
-use Rattle.sigma_spl.specs.Merge.{unbounded, passes_within}
-use Rattle.sigma_spl.specs.Sigma.{IsGoodSigma, sigma_on, terms_on}
+use Rattle.sigma_lower.proofs.Words.{terms_in, smp_of, vec_of, PlainFactor, PlainVec, unbounded, passes_within}
+use Rattle.sigma_lower.proofs.Words.{IsGoodSigma, sigma_on, terms_on, sigma_of, closed_on, VecFactor, plain_vec_factor}
 use Rattle.sigma_spl.specs.Term.{PlainTerm}
 use Rattle.sigma_spl.proofs.Walk.{passes-vector}
-use Rattle.sigma_lower.specs.Merged.{sigma_of, SigmaTransforms}
+use Rattle.sigma_lower.specs.Merged.{SigmaTransforms}
 use Rattle.sigma_lower.specs.Shared.{factors_before}
 use Rattle.sigma_lower.proofs.CanMerge.{trees_can_merge}
 use Rattle.sigma_lower.proofs.Closing.{has_phase, closed-on}
@@ -15,10 +14,7 @@ use Rattle.sigma_lower.proofs.SharedTrees.{AllEmbed, PhaseEmbeds, trees_embed}
 use Rattle.sigma_lower.specs.TreeTerms.Term.{phases_of}
 use Rattle.sigma_lower.proofs.TreeTerms.Both.{terms_mean}
 use Rattle.smp_rewrite.proofs.TreeLaws.{smp_transforms}
-use Rattle.smp_rewrite.specs.LayoutSteps.Whole.{closed_on}
-use Rattle.vec_rewrite.specs.declared.VecFactor.{VecFactor}
 use Rattle.vec_rewrite.specs.Vectors.{vec_on}
-use Rattle.vec_rewrite.specs.Views.{plain_vec_factor}
 use Rattle.vec_rewrite.proofs.LaneLaws.{vec_keeps}
 use Rattle.sigma_lower.specs.TreeTerms.Term as lowered
 

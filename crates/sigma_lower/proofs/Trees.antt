@@ -7,18 +7,16 @@ use Rattle.sigma_lower.proofs.Words.{moves-no-words, vector-below, trees_size, c
 use Rattle.sigma_lower.proofs.Words.{IsGoodCore, IsGood, wrapped, core_size, step_on, PlainCore, piece, turns}
 use Rattle.sigma_lower.proofs.Words.{thomas_in, thomas_out, PlainStep, Path, copies_of, size_under, under}
 use Rattle.sigma_lower.proofs.Words.{size_under-copies, mod-lt, div-lt_iff_lt-mul, ◌/◌, ◌%◌, slice_index, at-list_below}
-use Rattle.sigma_lower.proofs.Words.{factor_positive, Blocks}
+use Rattle.sigma_lower.proofs.Words.{factor_positive, Blocks, scatter-same, PlainTrees, single, tensor, core_on}
+use Rattle.sigma_lower.proofs.Words.{length-list_below}
 use Rattle.sigma_spl.specs.Term.{scat}
-use Rattle.sigma_spl.proofs.Keeps.{scatter-same}
 use Rattle.sigma_spl.proofs.Walk.{gather-vector}
-use Rattle.tree_model.specs.Trees.{PlainTrees, single, tensor, trees_on}
+use Rattle.tree_model.specs.Trees.{trees_on}
 use Rattle.sigma_lower.proofs.Lowers.{gath-lowers}
 use Rattle.sigma_lower.proofs.Moves.{back-wrapped, move-wrapped, strided-move, in-move, out-move}
 use Rattle.sigma_lower.proofs.Parts.{IsWork, transform-work, nest-lowers, diag-lowers, under-keeps, Lowers}
 use Rattle.sigma_lower.proofs.TreeTerms.Lowering.{part-le}
-use Rattle.smp_rewrite.specs.LayoutSteps.Meaning.{core_on}
 use Rattle.tree_model.specs.Breakdown.{size_of}
-use Rattle.operators.proofs.Lists.{length-list_below}
 use Rattle.smp_rewrite.proofs.Tensors.{reads-one_under}
 use Rattle.sigma_lower.proofs.TreeTerms.Permuted.{gather-under}
 use Rattle.sigma_spl.specs.Nest as nests

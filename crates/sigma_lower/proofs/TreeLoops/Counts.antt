@@ -6,7 +6,7 @@ use Rattle.sigma_lower.proofs.Words.{twiddle_last, twiddle_by, passes_of, tiled_
 use Rattle.sigma_lower.proofs.Words.{counted_as, counted, PlainDiagonal, PlainPass, in_order, merged_of, right_path}
 use Rattle.sigma_lower.proofs.Words.{left_path, PlainWork, kernel, Layout, work, by, layout_size, IsGoodLayout, within}
 use Rattle.sigma_lower.proofs.Words.{Tensor, Blocks, Columns, Path, count_of, copies_of, Rule, Gt, Ct, Split, Dim}
-use Rattle.sigma_lower.proofs.Words.{CanShareLayout, is_alone}
+use Rattle.sigma_lower.proofs.Words.{CanShareLayout, is_alone, copies-within}
 use Rattle.std.proofs.Math.Nat.{mul_assoc}
 use Rattle.std.proofs.lemmas.List.{append-nil}
 use Rattle.sigma_lower.proofs.TreeLoops.RootDealt.{IsDealt, dealt_parts}
@@ -16,7 +16,6 @@ use Rattle.sigma_lower.proofs.TreeLoops.RootPasses.{left_diagonal, left_pass, le
 use Rattle.sigma_lower.proofs.TreeLoops.TreePasses.{layout_passes, counted_passes, counted-multiplied}
 use Rattle.sigma_lower.proofs.TreeLoops.Wholes.{plain_passes}
 use Rattle.sigma_lower.proofs.TreeTerms.RootTerms.{IsShared, rule-fits, rule-shared}
-use Rattle.smp_rewrite.proofs.Tensors.{copies-within}
 
 -- ---- n times as many copies
 

@@ -1,7 +1,7 @@
 -- Terms that each core of a layout's steps has, and merging them one list after another.
 use Rattle.sigma_lower.proofs.Words.{◌≡◌, List, [], ◌∷◌, ◌++◌, refl, ap, ◌∙◌, map, flat_map, Merging, merge_term}
 use Rattle.sigma_lower.proofs.Words.{merged, PlainTerm, lowered, lowered_core, PlainCore, PlainStep, Path}
-use Rattle.std.proofs.lemmas.Grind.{flat_map-append}
+use Rattle.sigma_lower.proofs.Words.{flat_map-append}
 use Rattle.std.proofs.lemmas.List.Concat.{flat_map_single}
 
 -- the terms of a core under a path

@@ -5,19 +5,12 @@ use Rattle.sigma_lower.proofs.Words.{tiles, with_twiddles, twiddle_last, twiddle
 use Rattle.sigma_lower.proofs.Words.{whole_passes, IsValid, One, Kind, Dft, Wht, Idft, Request, PlainWork, kernel}
 use Rattle.sigma_lower.proofs.Words.{Layout, work, by, layout_size, layout_of, work_cost, IsNodeTree, left_tree}
 use Rattle.sigma_lower.proofs.Words.{right_tree, Breakdown, leaf, node, AllowsLeaf, is_kernel, node_root, Rule, Gt, Ct}
-use Rattle.sigma_lower.proofs.Words.{Dim}
-use Rattle.kernel_gen.proofs.NodeCosts.{kernel-short}
+use Rattle.sigma_lower.proofs.Words.{Dim, kernel-short, node_of, layout_cost, long_work, node_work, FitsWhole}
+use Rattle.sigma_lower.proofs.Words.{layouts_cost, layouts_have_size, left_fits, is_plain, root_no_kernel, cost_in}
 use Rattle.sigma_lower.specs.TreeLoops.Laws.{loads_by}
-use Rattle.sigma_spl.specs.Work.{node_of}
-use Rattle.smp_rewrite.specs.LayoutSteps.Layout.{layout_cost, long_work, node_work}
-use Rattle.smp_rewrite.specs.LayoutSteps.Meaning.{FitsWhole}
-use Rattle.smp_rewrite.proofs.LayoutSteps.Layouts.{layouts_cost, layouts_have_size}
-use Rattle.smp_rewrite.proofs.LayoutSteps.NodeTrees.{left_fits, right_fits}
+use Rattle.smp_rewrite.proofs.LayoutSteps.NodeTrees.{right_fits}
 use Rattle.tree_model.specs.Admissible.{RuleFits}
 use Rattle.tree_model.specs.Breakdown.{size_of}
-use Rattle.tree_model.specs.Cost.{is_plain}
-use Rattle.tree_model.proofs.PassLaws.{root_no_kernel}
-use Rattle.tree_model.specs.Whole.{cost_in}
 use Rattle.tree_model.specs.Passes as trees
 
 -- ---- one pass

@@ -2,9 +2,7 @@
 use Rattle.sigma_lower.proofs.Words.{◌≡◌, ℕ, ◌+◌, ◌*◌, ◌≤◌, arith, refl, ap, ◌∙◌, [], ◌∷◌, le-mul_of_pos_right, Sum}
 use Rattle.sigma_lower.proofs.Words.{constant, variable, scaled, joined, Divided, simplified, HasRoomFor}
 use Rattle.sigma_lower.proofs.Words.{divided-joined, joined-end, scaled-one, inner_of, Fits, place_sum, AreCounts}
-use Rattle.sigma_lower.proofs.Words.{Blocks, Columns, Path, size_under, le-times}
-use Rattle.index_fn.specs.Mapping.{Always}
-use Rattle.perm_algebra.proofs.Shape.{joined-zero}
+use Rattle.sigma_lower.proofs.Words.{Blocks, Columns, Path, size_under, le-times, Always, joined-zero}
 use Rattle.sigma_lower.proofs.TreeLoops.PlaceRoom.{room-paired}
 use Rattle.sigma_lower.proofs.TreeLoops.PlaceSums.{place_sum-fits, size-positive, variable-fits}
 

@@ -4,24 +4,18 @@ use Rattle.sigma_lower.proofs.Words.{◌∙◌, List, [], ◌∷◌, ◌++◌, i
 use Rattle.sigma_lower.proofs.Words.{works, tiles, passes_of, tiled_passes, whole_passes, forward_by, One, Kind, Idft}
 use Rattle.sigma_lower.proofs.Words.{Request, PlainWork, Layout, work, by, layout_size, layout_of, work_cost}
 use Rattle.sigma_lower.proofs.Words.{IsNodeTree, left_tree, right_tree, Breakdown, leaf, node, AllowsLeaf, is_kernel}
-use Rattle.sigma_lower.proofs.Words.{node_root, request_passes, Rule, Dim}
+use Rattle.sigma_lower.proofs.Words.{node_root, request_passes, Rule, Dim, CountsAs, AllCount, IsForwardTree}
+use Rattle.sigma_lower.proofs.Words.{layout_cost, node_work, FitsWhole, layouts_cost, layouts_have_size, left_fits}
+use Rattle.sigma_lower.proofs.Words.{is_plain, root_no_kernel, cost_in, RequestPass, pass_of, closed_by, flat_passes}
 use Rattle.std.proofs.Math.Nat.{mod_self, one-mul}
-use Rattle.sigma_lower.specs.TreeLoops.Laws.{CountsAs, AllCount, IsForwardTree}
 use Rattle.sigma_lower.proofs.TreeLoops.FlatCounts.{ArePasses, IsFlatTree, IsPass, flat_node_passes, flat_root_passes}
 use Rattle.sigma_lower.proofs.TreeLoops.FlatCounts.{kernel-matches}
 use Rattle.matrix_meaning.specs.Parts.{first_of, rest_of}
 use Rattle.matrix_meaning.proofs.Parts.{first_is_one}
-use Rattle.smp_rewrite.specs.LayoutSteps.Layout.{layout_cost, node_work}
-use Rattle.smp_rewrite.specs.LayoutSteps.Meaning.{FitsWhole}
-use Rattle.smp_rewrite.proofs.LayoutSteps.Layouts.{layouts_cost, layouts_have_size}
 use Rattle.kernel_gen.proofs.NodeTrees.{HasFields, left_fields, rest_is_part, right_fields}
-use Rattle.smp_rewrite.proofs.LayoutSteps.NodeTrees.{left_fits, plain_fits}
+use Rattle.smp_rewrite.proofs.LayoutSteps.NodeTrees.{plain_fits}
 use Rattle.tree_model.specs.Breakdown.{size_of, AllowsRule}
-use Rattle.tree_model.specs.Cost.{is_plain}
-use Rattle.tree_model.proofs.PassLaws.{root_no_kernel}
-use Rattle.tree_model.specs.Whole.{cost_in}
-use Rattle.tree_model.specs.WholePasses.{RequestPass, pass_of, closed_by, flat_passes, node_passes, passes_in}
-use Rattle.tree_model.specs.WholePasses.{shared_passes}
+use Rattle.tree_model.specs.WholePasses.{node_passes, passes_in, shared_passes}
 use Rattle.tree_model.specs.Passes as trees
 
 -- fields of a request, of the request for a part, and of that for a part of the part

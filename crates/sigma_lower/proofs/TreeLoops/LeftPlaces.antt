@@ -5,13 +5,12 @@ use Rattle.sigma_lower.proofs.Words.{option_map, Mapping, Target, AreSeveral, Su
 use Rattle.sigma_lower.proofs.Words.{Divided, simplified, HasRoomFor, divided-joined, joined-end, scaled-one, same_Some}
 use Rattle.sigma_lower.proofs.Words.{PlainDiagonal, PlainPass, Fits, IsCarried, place_sum, AreCounts, all_simplified}
 use Rattle.sigma_lower.proofs.Words.{diagonal_places, IsLimitedPass, left_path, work_size, inner_of, Blocks, Columns}
-use Rattle.sigma_lower.proofs.Words.{Path, grown, size_under}
+use Rattle.sigma_lower.proofs.Words.{Path, grown, size_under, Always}
 use Rattle.sigma_lower.proofs.TreeLoops.InCopies.{placed, AreCopies, placed-fits}
 use Rattle.sigma_lower.proofs.TreeLoops.LineMoves.{LeadsTo, AreThree, leads-none, leads-step, leads-join, leads-same}
 use Rattle.sigma_lower.proofs.TreeLoops.LineMoves.{dealt-leads}
 use Rattle.sigma_lower.proofs.TreeLoops.Moved.{placed-columns}
 use Rattle.sigma_lower.proofs.TreeLoops.PlaceLimits.{IsMultiplied, IsPlacedPass}
-use Rattle.index_fn.specs.Mapping.{Always}
 use Rattle.sigma_lower.proofs.TreeLoops.PlaceRoom.{room-paired}
 use Rattle.sigma_lower.proofs.TreeLoops.PlaceSums.{parts-fit, size-positive}
 use Rattle.sigma_lower.proofs.TreeLoops.RightPlaces.{wide-all}

@@ -3,8 +3,7 @@ use Rattle.sigma_lower.proofs.Words.{◌≡◌, ℕ, ◌*◌, ◌/◌, ◌%◌, 
 use Rattle.sigma_lower.proofs.Words.{List, [], ◌∷◌, ◌++◌, if◌then◌else◌, subst, mul_comm, mod-lt, div-lt_iff_lt-mul}
 use Rattle.sigma_lower.proofs.Words.{◌==◌, div-add-mod', Mapping, Strided, factor_positive, Sum, constant, scaled}
 use Rattle.sigma_lower.proofs.Words.{joined, simplified, HasRoomFor, positive-product, Fits, all_simplified, wrapped}
-use Rattle.sigma_lower.proofs.Words.{is-one, within_all, Blocks, Columns, Path, size_under, AreBlocks}
-use Rattle.perm_algebra.proofs.Shape.{turned-joined}
+use Rattle.sigma_lower.proofs.Words.{is-one, within_all, Blocks, Columns, Path, size_under, AreBlocks, turned-joined}
 use Rattle.sigma_lower.proofs.TreeLoops.InCopies.{placed, AreCopies, placed-fits}
 use Rattle.sigma_lower.proofs.TreeLoops.Moved.{joined-assoc, scaled-joined, scaled-scaled, placed-swap}
 use Rattle.sigma_lower.proofs.TreeLoops.PlaceSums.{parts-fit}

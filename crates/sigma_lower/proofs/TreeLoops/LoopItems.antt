@@ -3,13 +3,12 @@ use Rattle.sigma_lower.proofs.Words.{◌≡◌, ℕ, zero, suc, ◌+◌, ◌*◌
 use Rattle.sigma_lower.proofs.Words.{◌++◌, length, Some, map, slice_index, PlainDiagonal, PlainPass, Fits, AreCounts}
 use Rattle.sigma_lower.proofs.Words.{right_positive, place_below, AreSeveral, limits_in, loop_of, items_out, PlainWork}
 use Rattle.sigma_lower.proofs.Words.{kernel, rows, tile, work_size, trees_of, Sum, constant, trees_size, Blocks}
-use Rattle.sigma_lower.proofs.Words.{Columns, Path, copies_of, count_of, size_under-copies}
+use Rattle.sigma_lower.proofs.Words.{Columns, Path, copies_of, count_of, size_under-copies, items_in}
 use Rattle.std.specs.List.{range_with_len}
 use Rattle.sigma_lower.specs.TreeLoops.Placed.{IsName}
 use Rattle.sigma_lower.proofs.TreeLoops.LineMoves.{number-fits}
 use Rattle.sigma_lower.proofs.TreeLoops.PlaceSums.{variable-fits}
 use Rattle.sigma_lower.proofs.TreeLoops.Shaped.{IsShaped, IsShapedWork}
-use Rattle.sigma_spl.specs.Merge.{items_in}
 use Rattle.sigma_spl.specs.Work.{PlainKernel}
 use Rattle.sigma_lower.proofs.TreeTerms.Lowering.{part-le}
 use Rattle.sigma_spl.proofs.Limited.{at-row, at-column}

@@ -5,9 +5,8 @@ use Rattle.sigma_lower.proofs.Words.{passes_of_terms, in_order, merged_of, loop_
 use Rattle.sigma_lower.proofs.Words.{diagonal_places, place_sum, Target, IsMachine, PlainLoop, PlainTaken, limits_in}
 use Rattle.sigma_lower.proofs.Words.{IsLimitedLoop, AreLimitedLoops, most, items_out, factor_count, Sum, simplified}
 use Rattle.sigma_lower.proofs.Words.{PlainTerm, lowered_of, PlainWork, work_size, CanShareLayout, Layout, IsGoodLayout}
-use Rattle.std.specs.List.{list_all}
-use Rattle.sigma_lower.specs.TreeLoops.Limits.{AreLimitedPhases, LoopsAreLimited}
-use Rattle.sigma_lower.specs.TreeLoops.Placed.{ArePlacesLimited}
+use Rattle.sigma_lower.proofs.Words.{list_all, AreLimitedPhases, ArePlacesLimited, items_in, carries_sum}
+use Rattle.sigma_lower.specs.TreeLoops.Limits.{LoopsAreLimited}
 use Rattle.sigma_lower.proofs.TreeLoops.PassLists.{all-split}
 use Rattle.sigma_lower.proofs.TreeLoops.LeftPlaces.{mapped-some}
 use Rattle.sigma_lower.proofs.TreeLoops.LoopItems.{Names, AllName, HaveNames, diagonal-size, names-of, pass-counts}
@@ -16,7 +15,6 @@ use Rattle.sigma_lower.proofs.TreeLoops.Shaped.{IsShaped, IsShapedWork}
 use Rattle.sigma_lower.proofs.TreeLoops.TameSums.{fits-limited}
 use Rattle.sigma_lower.proofs.TreeLoops.RootPlaces.{HaveGoodPlaces, IsGoodPlace}
 use Rattle.sigma_lower.proofs.TreeLoops.TreePlaces.{tree_good_places}
-use Rattle.sigma_spl.specs.Merge.{items_in, carries_sum}
 use Rattle.perm_algebra.proofs.RoomTests.{room_decided}
 
 -- ---- the tests

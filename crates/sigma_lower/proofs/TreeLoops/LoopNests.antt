@@ -3,9 +3,8 @@ use Rattle.sigma_lower.proofs.Words.{◌≡◌, refl, sym, ap, ◌∙◌, List, 
 use Rattle.sigma_lower.proofs.Words.{reverse-append, embed, phase_term, Mapping, PlainPass, Merging, new_pass}
 use Rattle.sigma_lower.proofs.Words.{scattered, multiplied, at_last, merge_term, merged, passes_of_terms, loop_of}
 use Rattle.sigma_lower.proofs.Words.{PlainLoop, scaled_last, loops_in, factor_count, PlainTerm, gath, scat, diag, nest}
-use Rattle.sigma_lower.proofs.Words.{Path, inner_of}
-use Rattle.sigma_spl.specs.Loops.{Looping, stored_last, looped}
-use Rattle.sigma_spl.specs.Nest.{PlainFactors, twiddles}
+use Rattle.sigma_lower.proofs.Words.{Path, inner_of, Looping, stored_last, looped, PlainFactors}
+use Rattle.sigma_spl.specs.Nest.{twiddles}
 
 -- ---- the first of a list from its end
 

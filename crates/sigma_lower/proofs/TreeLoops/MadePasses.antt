@@ -7,8 +7,7 @@ use Rattle.sigma_lower.proofs.Words.{new_pass, scattered, multiplied, at_last, m
 use Rattle.sigma_lower.proofs.Words.{PlainTerm, gath, scat, diag, lowered, wrapped, PlainWork, Layout, work, by}
 use Rattle.sigma_lower.proofs.Words.{layout_size, PlainStep, piece, step, turns, twiddles, thomas_in, thomas_out}
 use Rattle.sigma_lower.proofs.Words.{rule_steps, steps_of, Blocks, Columns, Path, size_under, size_under-push, Rule, Gt}
-use Rattle.sigma_lower.proofs.Words.{Ct}
-use Rattle.std.proofs.lemmas.List.{map-id}
+use Rattle.sigma_lower.proofs.Words.{Ct, map-id}
 use Rattle.sigma_lower.proofs.TreeLoops.Emitted.{Emission, as_lowered, emitted, emitted-lowered, merged-steps}
 use Rattle.sigma_lower.proofs.TreeLoops.TreePasses.{IsFull, at_last-append, back, full-mapped, full_passes}
 use Rattle.sigma_lower.proofs.TreeLoops.TreePasses.{layout_passes, rule_passes, rule_waiting}

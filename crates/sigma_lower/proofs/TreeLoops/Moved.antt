@@ -1,8 +1,7 @@
 -- Sums put together in another order: tensors that trade places, two tensors of columns as one, and a tensor of one copy.
 use Rattle.sigma_lower.proofs.Words.{◌≡◌, ℕ, ◌-◌, ◌*◌, ◌≤◌, arith, sym, ap, ap₂, ◌∙◌, List, ◌∷◌, le-mul_of_pos_right}
 use Rattle.sigma_lower.proofs.Words.{Fits, Sum, constant, variable, remainder, quotient, scaled, joined, joined-end}
-use Rattle.sigma_lower.proofs.Words.{scaled-one, Blocks, Columns, Path, size_under}
-use Rattle.perm_algebra.proofs.Shape.{joined-zero}
+use Rattle.sigma_lower.proofs.Words.{scaled-one, Blocks, Columns, Path, size_under, joined-zero}
 use Rattle.sigma_lower.proofs.TreeLoops.InCopies.{placed}
 
 -- ---- the algebra of sums

@@ -7,11 +7,8 @@ use Rattle.sigma_lower.proofs.Words.{proper-scaled, none-some, same_Some, PlainD
 use Rattle.sigma_lower.proofs.Words.{multiplied, at_last, Fits, place_sum, AreCounts, all_simplified, IsLimitedPass}
 use Rattle.sigma_lower.proofs.Words.{HasRoomFor, PlainWork, work_size, Layout, work, by, layout_size, IsGoodLayout}
 use Rattle.sigma_lower.proofs.Words.{wrapped, inner_of, unit_of, Tensor, Blocks, Columns, Path, grown, size_under}
-use Rattle.sigma_lower.proofs.Words.{size_under-push, Rule, Gt, Ct, CanShareLayout}
-use Rattle.perm_algebra.specs.Affine.{parts, reduced}
-use Rattle.perm_algebra.proofs.Shape.{turned-joined}
-use Rattle.perm_algebra.proofs.Sizes.{parts-scaled, parts-joined}
-use Rattle.sigma_lower.specs.TreeLoops.Placed.{IsTame}
+use Rattle.sigma_lower.proofs.Words.{size_under-push, Rule, Gt, Ct, CanShareLayout, parts, reduced, turned-joined}
+use Rattle.sigma_lower.proofs.Words.{parts-scaled, parts-joined, IsTame}
 use Rattle.sigma_lower.proofs.TreeLoops.InnerPlaces.{inner-place, room-inner}
 use Rattle.sigma_lower.proofs.TreeLoops.InCopies.{simplified-wrapped, room-wrapped}
 use Rattle.sigma_lower.proofs.TreeLoops.RuleRoom.{thomas_in-room, turns-room, thomas_back-room}

@@ -1,12 +1,11 @@
 -- Where scaled, joined and divided sums fit 64 bits.
 use Rattle.sigma_lower.proofs.Words.{ℕ, ◌+◌, ◌-◌, ◌*◌, ◌/◌, ◌%◌, ◌^◌, ◌<◌, ◌≤◌, inl, inr, arith, sym, ◌∙◌, subst}
 use Rattle.sigma_lower.proofs.Words.{le-mul_of_pos_right, mul-le-mul_right, cases_eq, nat_tests, IsProper, Sum}
-use Rattle.sigma_lower.proofs.Words.{constant, variable, remainder, quotient, top, scaled, joined, mods, CanScale, ◌≡◌}
-use Rattle.sigma_lower.proofs.Words.{CanJoin, HasRoomFor, Mapping, simplified, Divided, divided-joined, top-scaled}
-use Rattle.index_fn.specs.Mapping.{Paired}
+use Rattle.sigma_lower.proofs.Words.{constant, variable, remainder, quotient, top, scaled, joined, mods, ◌≡◌, CanJoin}
+use Rattle.sigma_lower.proofs.Words.{HasRoomFor, Mapping, simplified, Divided, divided-joined, top-scaled, Paired}
+use Rattle.perm_algebra.specs.Room.{CanScale, constant_of, HasTop, CanDivide}
 use Rattle.std.proofs.Math.Nat.{mul-le-mul_left, mod-le}
 use Rattle.perm_algebra.specs.Affine.{peak}
-use Rattle.perm_algebra.specs.Room.{constant_of, HasTop, CanDivide}
 use Rattle.perm_algebra.proofs.Shape.{rest-joined, rest-small}
 
 pub has_top : (e : Sum) (cs : ℕ → ℕ) → IsProper e cs → top e cs < 2 ^ 64 → HasTop cs e

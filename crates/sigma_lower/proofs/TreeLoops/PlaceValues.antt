@@ -1,11 +1,10 @@
 -- The sums of a pass have the values of its places.
 use Rattle.sigma_lower.proofs.Words.{◌≡◌, ℕ, refl, ap, ◌∙◌, List, [], ◌∷◌, ◌++◌, Mapping, at, Sum, value, simplified}
-use Rattle.sigma_lower.proofs.Words.{through, place_sum, all_simplified, Path, place}
+use Rattle.sigma_lower.proofs.Words.{through, place_sum, all_simplified, Path, place, AreFormed, sound-place_sum}
 use Rattle.perm_algebra.specs.Affine.{IsSound, AreBelowCounts}
 use Rattle.perm_algebra.proofs.Kept.{sound-simplified}
 use Rattle.perm_algebra.proofs.Values.{simplified_keeps}
-use Rattle.sigma_spl.specs.Loops.{AreFormed}
-use Rattle.sigma_spl.proofs.Natural.{loop_values, sound-place_sum, value-place_sum}
+use Rattle.sigma_spl.proofs.Natural.{loop_values, value-place_sum}
 
 -- one function after the other
 pub record Follows (cs vs : ℕ → ℕ) (fs : List Mapping) (e : Sum) : Type 0 where

@@ -1,8 +1,6 @@
 -- The sizes of a shared root's parts are dealt to processors and lanes in equal parts.
 use Rattle.sigma_lower.proofs.Words.{◌≡◌, ℕ, ◌*◌, ◌/◌, ◌%◌, ◌<◌, ◌≤◌, arith, sym, ap, ◌∙◌, inl, inr, mul_comm, subst}
-use Rattle.sigma_lower.proofs.Words.{cases_eq, Target, CanShareLayout, HasParts, Layout}
-use Rattle.vec_rewrite.proofs.Following.{IsWide}
-use Rattle.vec_rewrite.proofs.StepFollows.{wide_from, wide_part}
+use Rattle.sigma_lower.proofs.Words.{cases_eq, Target, CanShareLayout, HasParts, Layout, IsWide, wide_from, wide_part}
 use Rattle.smp_rewrite.proofs.Dealt as smp
 
 -- p processors and v lanes have equal parts of k

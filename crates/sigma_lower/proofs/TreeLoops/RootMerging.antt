@@ -7,8 +7,8 @@ use Rattle.sigma_lower.proofs.Words.{tiled_before, tiled_after, lines_dealt, lin
 use Rattle.sigma_lower.proofs.Words.{vectors_grouped, left_core, left_terms, right_terms, root_terms, PlainTerm, gath}
 use Rattle.sigma_lower.proofs.Words.{scat, diag, nest, lowered, PlainWork, tile, wrapped, unit_of, steps_of, Blocks}
 use Rattle.sigma_lower.proofs.Words.{Columns, Path, size_under, Rule, Gt, Ct, Split, Layout, work, by, layout_size}
+use Rattle.sigma_lower.proofs.Words.{Paired}
 use Rattle.std.proofs.lemmas.List.{append-nil}
-use Rattle.index_fn.specs.Mapping.{Paired}
 use Rattle.sigma_lower.proofs.TreeLoops.RootPasses.{turned_waiting, tile_before, tile_after, if_lanes, right_passes}
 use Rattle.sigma_lower.proofs.TreeLoops.RootPasses.{on_all, if_dealt, left_diagonal, left_pass, left_passes}
 use Rattle.sigma_lower.proofs.TreeLoops.RootPasses.{root_passes, RootPasses}

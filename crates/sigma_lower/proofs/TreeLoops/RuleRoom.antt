@@ -1,11 +1,10 @@
 -- The permutations of a rule have room at the places under its tensor.
 use Rattle.sigma_lower.proofs.Words.{◌≡◌, ℕ, ◌+◌, ◌*◌, ◌^◌, ◌<◌, ◌≤◌, arith, sym, subst, mul-le-mul_left}
 use Rattle.sigma_lower.proofs.Words.{le-mul_of_pos_right, mul-le, Strided, ThomasIn, ThomasBack, IsProper, Sum}
-use Rattle.sigma_lower.proofs.Words.{constant, variable, top, scaled, joined, Divided, mods, CanScale, CanJoin}
-use Rattle.sigma_lower.proofs.Words.{HasRoomFor, top-scaled, top-joined, divided-joined, proper-joined, proper-scaled}
-use Rattle.sigma_lower.proofs.Words.{le-times, Fits, Blocks, Columns}
-use Rattle.perm_algebra.specs.Room.{CanMix}
-use Rattle.perm_algebra.proofs.Reduced.{mods-proper}
+use Rattle.sigma_lower.proofs.Words.{constant, variable, top, scaled, joined, Divided, mods, CanJoin, HasRoomFor}
+use Rattle.sigma_lower.proofs.Words.{top-scaled, top-joined, divided-joined, proper-joined, proper-scaled, le-times}
+use Rattle.sigma_lower.proofs.Words.{Fits, Blocks, Columns, mods-proper}
+use Rattle.perm_algebra.specs.Room.{CanScale, CanMix}
 use Rattle.sigma_lower.proofs.TreeLoops.PlaceRoom.{has_top, top-mods, can_scale, can_join, can_divide}
 use Rattle.sigma_lower.proofs.TreeLoops.PlaceSums.{tensor_sum, variable-fits}
 

@@ -3,11 +3,10 @@ use Rattle.sigma_lower.proofs.Words.{◌≡◌, ℕ, ◌*◌, ◌≤◌, ◌∙�
 use Rattle.sigma_lower.proofs.Words.{same_Some, PlainDiagonal, PlainPass, new_pass, scattered, multiplied, AreSeveral}
 use Rattle.sigma_lower.proofs.Words.{PlainWork, kernel, rows, horner, tile, copy, work_size, trees_of, trees_size}
 use Rattle.sigma_lower.proofs.Words.{Layout, work, by, layout_size, IsGoodWork, IsGoodLayout, Blocks, Columns, Path}
-use Rattle.sigma_lower.proofs.Words.{size_under, size_under-push, Rule, Gt, Ct}
+use Rattle.sigma_lower.proofs.Words.{size_under, size_under-push, Rule, Gt, Ct, several-push}
 use Rattle.sigma_lower.proofs.TreeLoops.PassLists.{AllPasses, all-append, all-last}
 use Rattle.sigma_lower.proofs.TreeLoops.TreePasses.{back, rule_waiting, rule_passes, layout_passes}
 use Rattle.sigma_spl.specs.Shared.Kernels.{IsMadeKernel}
-use Rattle.sigma_spl.proofs.Several.{several-push}
 
 -- each work of the layout is such
 abbrev pub HasWorks : (PlainWork → Type 0) → Layout → Type 0

@@ -2,15 +2,15 @@
 use Rattle.sigma_lower.proofs.Words.{◌≡◌, ℕ, suc, ◌+◌, ◌-◌, ◌*◌, ◌%◌, ◌^◌, ◌<◌, ◌≤◌, true, inl, inr, arith, sym, subst}
 use Rattle.sigma_lower.proofs.Words.{le-mul_of_pos_right, pow-succ', mul-le-mul, pow_mono, cases_eq, cases_lt, and_from}
 use Rattle.sigma_lower.proofs.Words.{nat_tests, IsProper, Sum, constant, variable, remainder, quotient, top, scaled}
-use Rattle.sigma_lower.proofs.Words.{joined, mods, Fits}
-use Rattle.std.proofs.lemmas.Nat.{pow-add}
-use Rattle.sigma_spl.specs.Merge.{total, are_small, is_limited}
+use Rattle.sigma_lower.proofs.Words.{joined, mods, Fits, pow-add, is_limited, parts, reduced, mods-proper, parts-scaled}
+use Rattle.sigma_lower.proofs.Words.{parts-joined, IsTame}
+use Rattle.sigma_spl.specs.Merge.{total, are_small}
 use Rattle.sigma_spl.proofs.Small.{divided-true}
 use Rattle.sigma_spl.proofs.Within.{limited, small-true}
-use Rattle.perm_algebra.specs.Affine.{AreBelow, HasNoQuotient, levels, parts, reduced}
-use Rattle.perm_algebra.proofs.Reduced.{mods-below, mods-proper}
-use Rattle.perm_algebra.proofs.Sizes.{is_reduced, parts-scaled, parts-joined}
-use Rattle.sigma_lower.specs.TreeLoops.Placed.{IsSmallPart, IsTame}
+use Rattle.perm_algebra.specs.Affine.{AreBelow, HasNoQuotient, levels}
+use Rattle.perm_algebra.proofs.Reduced.{mods-below}
+use Rattle.perm_algebra.proofs.Sizes.{is_reduced}
+use Rattle.sigma_lower.specs.TreeLoops.Placed.{IsSmallPart}
 use Rattle.sigma_lower.proofs.TreeLoops.PlaceRoom.{peak-le-top, top-mods}
 
 -- ---- remainders of small numbers

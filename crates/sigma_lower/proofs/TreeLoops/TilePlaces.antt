@@ -3,8 +3,7 @@ use Rattle.sigma_lower.proofs.Words.{◌≡◌, ℕ, ◌+◌, ◌*◌, ◌/◌, 
 use Rattle.sigma_lower.proofs.Words.{if◌then◌else◌, subst, ◌==◌, Option, Some, Mapping, Same, Target, AreSeveral, Sum}
 use Rattle.sigma_lower.proofs.Words.{constant, variable, PlainDiagonal, PlainPass, Fits, IsCarried, place_sum}
 use Rattle.sigma_lower.proofs.Words.{AreCounts, all_simplified, diagonal_places, IsLimitedPass, tile_path}
-use Rattle.sigma_lower.proofs.Words.{vectors_grouped, tile, Blocks, Path, size_under}
-use Rattle.sigma_lower.specs.TreeLoops.Placed.{ArePlacesLimited}
+use Rattle.sigma_lower.proofs.Words.{vectors_grouped, tile, Blocks, Path, size_under, ArePlacesLimited}
 use Rattle.sigma_lower.proofs.TreeLoops.LineMoves.{LeadsTo, leads-same, grouped-leads, number-fits}
 use Rattle.sigma_lower.proofs.TreeLoops.PlaceLimits.{natural-fits}
 use Rattle.sigma_lower.proofs.TreeLoops.RightPlaces.{wide-all}

@@ -4,8 +4,7 @@ use Rattle.sigma_lower.proofs.Words.{map-append, Mapping, Strided, ThomasIn, Tho
 use Rattle.sigma_lower.proofs.Words.{multiplied, at_last, has_diagonal, counted_as, counted, with_twiddles}
 use Rattle.sigma_lower.proofs.Words.{twiddle_last, twiddle_by, passes_of, PlainWork, kernel, rows, Layout, work, by}
 use Rattle.sigma_lower.proofs.Words.{layout_size, IsGoodLayout, IsGoodWork, wrapped, unit_of, Blocks, Columns, Path}
-use Rattle.sigma_lower.proofs.Words.{copies_of, Rule, Gt, Ct, Split, Dim}
-use Rattle.operators.proofs.TensorPaths.Under.{copies_of-push}
+use Rattle.sigma_lower.proofs.Words.{copies_of, Rule, Gt, Ct, Split, Dim, copies_of-push}
 
 -- the gathers that wait when a rule's right part begins
 abbrev pub rule_waiting : Rule → Path → ℕ → ℕ → List Mapping → List Mapping

@@ -4,10 +4,9 @@ use Rattle.sigma_lower.proofs.Words.{arith, Option, Some, None, mul-le-mul_left,
 use Rattle.sigma_lower.proofs.Words.{All-cons, All-head, All-tail, Target, Path, copies_of, count_of, size_under-copies}
 use Rattle.sigma_lower.proofs.Words.{copies_in, multiplier_cost, PlainLoop, nest_of, one_nest, PlainMultiplier}
 use Rattle.sigma_lower.proofs.Words.{pass_cost, pass_loads, work_cost, IsHost, PlainWork, kernel, rows, tile, work_size}
-use Rattle.sigma_lower.proofs.Words.{trees_of, PlainPass, loop_of, trees_size}
+use Rattle.sigma_lower.proofs.Words.{trees_of, PlainPass, loop_of, trees_size, most_actions}
 use Rattle.kernel_gen.proofs.KernelSizes.{trees-few}
 use Rattle.sigma_spl.specs.Shared.Costs.{work_loads}
-use Rattle.sigma_spl.specs.Shared.Owners.{most_actions}
 use Rattle.sigma_lower.proofs.TreeLoops.Shaped.{IsShapedWork}
 use Rattle.sigma_lower.proofs.TreeSigmas.Known.{AllKnown, IsKnown}
 use Rattle.sigma_lower.proofs.TreeSigmas.Ready.{n-small}

@@ -1,15 +1,14 @@
 -- The passes of an inverse in the cost model are those of the forward request, with products more in the last.
 use Rattle.sigma_lower.proofs.Words.{◌≡◌, ℕ, ◌+◌, ◌*◌, false, List, [], ◌∷◌, Option, None, Some, refl, sym, ap, ◌∙◌}
 use Rattle.sigma_lower.proofs.Words.{arith, subst, map, One, Kind, Dft, Idft, Request, forward_by, forward_of, IsValid}
-use Rattle.sigma_lower.proofs.Words.{on_last, Dim, Breakdown, node, IsWholeTree, request_passes}
-use Rattle.std.proofs.lemmas.Simd.{map-map}
+use Rattle.sigma_lower.proofs.Words.{on_last, Dim, Breakdown, node, IsWholeTree, request_passes, map-map, factor_by}
+use Rattle.sigma_lower.proofs.Words.{closed_by, cost_of_pass, flat_passes, loads_of_pass, pass_of}
 use Rattle.matrix_meaning.specs.Parts.{inverted}
 use Rattle.matrix_meaning.proofs.Parts.{is_of_one_size}
-use Rattle.smp_rewrite.specs.LayoutSteps.Whole.{factor_by}
 use Rattle.tree_model.specs.Cost.{mul_cost_of}
 use Rattle.tree_model.specs.Passes.{Pass, nodes, tiles, pass_loads, twiddle_last, whole_passes, with_twiddles}
 use Rattle.tree_model.specs.Whole.{IsTreeOf}
-use Rattle.tree_model.specs.WholePasses.{closed_by, cost_of_pass, flat_passes, loads_of_pass, pass_cost_in, pass_of}
+use Rattle.tree_model.specs.WholePasses.{pass_cost_in}
 use Rattle.tree_model.proofs.PassLaws.{IsPlainAtEnd, IsPlainPass}
 use Rattle.tree_model.proofs.WholeCosts.{whole_plain}
 use Rattle.tree_model.proofs.WholeTraffic.{IsFlat}

@@ -6,14 +6,12 @@ use Rattle.sigma_lower.proofs.Words.{Blocks, Sum, constant, value, on_last, Plai
 use Rattle.sigma_lower.proofs.Words.{one_nest, scaled_last, AreLimitedLoops, HasLoop, IsLimitedLoop, is_tile, items_out}
 use Rattle.sigma_lower.proofs.Words.{most, PlainMultiplier, PlainNest, factor_at, factor_count, store_place, item_of}
 use Rattle.sigma_lower.proofs.Words.{lane_step, values_of, IsReadyLoop, PlainWork, kernel, rows, horner, tile}
-use Rattle.sigma_lower.proofs.Words.{work_size, place_sum}
-use Rattle.std.proofs.Common.{slice_index_or}
-use Rattle.sigma_spl.specs.Good.{AreSound, NamesItems, named}
-use Rattle.sigma_spl.specs.Loops.{places_by, AreCarried, CanScale}
+use Rattle.sigma_lower.proofs.Words.{work_size, place_sum, slice_index_or, NamesItems, places_by, CanScale, repeated}
+use Rattle.sigma_lower.proofs.Words.{IsReadyMultiplier, IsReadyNest, LoadsAlike, CanRunNest}
+use Rattle.sigma_spl.specs.Good.{AreSound, named}
+use Rattle.sigma_spl.specs.Loops.{AreCarried}
 use Rattle.sigma_spl.specs.Merge.{suits}
-use Rattle.sigma_spl.specs.Nest.{repeated, sum_value}
-use Rattle.sigma_spl.specs.Shared.Ready.{IsReadyMultiplier, IsReadyNest, LoadsAlike}
-use Rattle.sigma_spl.specs.Shared.Running.{CanRunNest}
+use Rattle.sigma_spl.specs.Nest.{sum_value}
 use Rattle.sigma_lower.proofs.TreeSigmas.ClosedPlaces.{AllAlone, all-carried, all-first, closing_path, closing_place}
 use Rattle.sigma_lower.proofs.TreeSigmas.Lasts.{last-append}
 

@@ -6,10 +6,7 @@ use Rattle.sigma_lower.proofs.Words.{scaled_last, AreLimitedLoops, HasLoop, IsLi
 use Rattle.sigma_lower.proofs.Words.{work_size, CanShareLayout, Layout, IsGoodLayout, IsMachine, AllHaveLoops}
 use Rattle.sigma_lower.proofs.Words.{close_last, closed_phases, AllOrdered, phase_term, PlainPass, passes_of_terms}
 use Rattle.sigma_lower.proofs.Words.{loop_of, taken_of, AreCounts, Fits, IsLimitedPass, PlainTerm, all_simplified}
-use Rattle.sigma_lower.proofs.Words.{place_sum}
-use Rattle.sigma_spl.specs.Nest.{repeated}
-use Rattle.sigma_lower.specs.Merged.{closing_term}
-use Rattle.sigma_lower.specs.TreeLoops.Limits.{AreLimitedPhases}
+use Rattle.sigma_lower.proofs.Words.{place_sum, repeated, closing_term, AreLimitedPhases}
 use Rattle.sigma_lower.proofs.Closing.{close-is}
 use Rattle.sigma_lower.proofs.TreeLoops.LoopItems.{AllName, names-of, pass-counts}
 use Rattle.sigma_lower.proofs.TreeLoops.LoopLimits.{tree_loops}

@@ -2,10 +2,8 @@
 use Rattle.sigma_lower.proofs.Words.{◌≡◌, ℕ, ◌%◌, ◌<◌, Bool, true, false, List, [], ◌∷◌, ◌++◌, refl, sym, ap, ap₂, ◌∙◌}
 use Rattle.sigma_lower.proofs.Words.{arith, subst, mod-lt, if◌then◌else◌, map, ◌==◌, ◌&&◌, nat_tests, and_from, Mapping}
 use Rattle.sigma_lower.proofs.Words.{Sum, constant, variable, remainder, quotient, Divided, joined, simplified, top}
-use Rattle.sigma_lower.proofs.Words.{within, Blocks, Path, all_simplified, inner_of}
-use Rattle.std.proofs.Common.{nat_lt}
-use Rattle.std.specs.List.{list_all}
-use Rattle.sigma_spl.specs.Merge.{carries_sum, is_limited}
+use Rattle.sigma_lower.proofs.Words.{within, Blocks, Path, all_simplified, inner_of, nat_lt, list_all, carries_sum}
+use Rattle.sigma_lower.proofs.Words.{is_limited}
 use Rattle.sigma_spl.proofs.Carried.{carried-next, carried-room}
 use Rattle.sigma_spl.proofs.Walk.{and-left, and-right}
 use Rattle.perm_algebra.specs.Affine.{divided, head, rest_of}

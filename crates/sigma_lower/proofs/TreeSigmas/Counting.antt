@@ -5,8 +5,7 @@ use Rattle.sigma_lower.proofs.Words.{counted_as, has_diagonal, whole_passes, Pla
 use Rattle.sigma_lower.proofs.Words.{loop_of, taken_of, pass_cost, pass_loads, work_cost, copies_in, multiplier_cost}
 use Rattle.sigma_lower.proofs.Words.{PlainLoop, multiplier_of, one_nest, PlainNest, PlainWork, kernel, rows, horner}
 use Rattle.sigma_lower.proofs.Words.{tile, copy, work_size, Layout, Target, Path, copies_of, count_of}
-use Rattle.sigma_lower.proofs.Words.{size_under-copies}
-use Rattle.sigma_lower.specs.TreeLoops.Laws.{counted_cost, counted_loads}
+use Rattle.sigma_lower.proofs.Words.{size_under-copies, counted_cost, counted_loads}
 use Rattle.sigma_lower.proofs.TreeLoops.Counts.{merge_counts}
 use Rattle.sigma_lower.proofs.TreeSigmas.Bounds.{copies-are}
 use Rattle.sigma_lower.proofs.TreeSigmas.Hosted.{IsHosted}

@@ -3,8 +3,7 @@ use Rattle.sigma_lower.proofs.Words.{◌≡◌, ℕ, ◌+◌, ◌*◌, ◌^◌, 
 use Rattle.sigma_lower.proofs.Words.{refl, sym, ap, ap₂, ◌∙◌, arith, subst, nat_le, length-map, mul-le, chosen, Counted}
 use Rattle.sigma_lower.proofs.Words.{tiles, counted, passes_of, tiled_passes, twiddle_by, twiddle_last, whole_passes}
 use Rattle.sigma_lower.proofs.Words.{PlainPass, Layout, work, by, layout_size, IsGoodLayout, Rule, Gt, Ct}
-use Rattle.std.proofs.Common.{length-append}
-use Rattle.std.proofs.lemmas.Nat.{pow-add}
+use Rattle.sigma_lower.proofs.Words.{length-append, pow-add}
 use Rattle.sigma_lower.proofs.TreeSigmas.Loops.{weight-small}
 
 -- ---- how many passes a layout has

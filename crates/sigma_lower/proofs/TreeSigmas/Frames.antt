@@ -2,10 +2,9 @@
 use Rattle.sigma_lower.proofs.Words.{◌≡◌, ℕ, ◌<◌, Bool, true, false, List, [], ◌∷◌, ◌++◌, map, refl, sym, ap, ◌∙◌}
 use Rattle.sigma_lower.proofs.Words.{arith, subst, ◌==◌, if◌then◌else◌, PlainPass, loop_of, Target, place_below}
 use Rattle.sigma_lower.proofs.Words.{item_of, values_of, nest_of, PlainWork, tile, work_size, IsFramed, within, Tensor}
-use Rattle.sigma_lower.proofs.Words.{Blocks, Columns, Path, count_of, AreInRange}
-use Rattle.sigma_spl.specs.Shared.Machine.{framed_lanes, if_several}
-use Rattle.sigma_spl.specs.Work.{vectors_of}
-use Rattle.sigma_lower.specs.TreeLoops.SharedPasses.Shared.{framed, HasLanes}
+use Rattle.sigma_lower.proofs.Words.{Blocks, Columns, Path, count_of, AreInRange, if_several, vectors_of, framed}
+use Rattle.sigma_spl.specs.Shared.Machine.{framed_lanes}
+use Rattle.sigma_lower.specs.TreeLoops.SharedPasses.Shared.{HasLanes}
 use Rattle.sigma_spl.specs.Shared.Running as running
 
 -- ---- counts

@@ -4,6 +4,7 @@ use Rattle.sigma_lower.proofs.Words.{reverse-append, reverse-reverse, AllHaveLoo
 use Rattle.sigma_lower.proofs.Words.{passes_of_terms, in_order, merged_of, loop_of, IsLimitedPass, IsSmallWork}
 use Rattle.sigma_lower.proofs.Words.{PlainLoop, AreLimitedLoops, IsLimitedLoop, loops_in, one_nest, IsOrdered, most}
 use Rattle.sigma_lower.proofs.Words.{AllFramed, IsFramed, PlainTerm, lowered_of, Layout, Target, IsMachine, merge_keeps}
+use Rattle.sigma_lower.proofs.Words.{IsGoodLoop, unbounded, passes_within}
 use Rattle.sigma_lower.proofs.HaveLoops.{phases_have_loops}
 use Rattle.sigma_lower.proofs.Ordered.{trees_ordered}
 use Rattle.sigma_lower.proofs.SharedTrees.{AllEmbed, trees_embed}
@@ -14,8 +15,7 @@ use Rattle.sigma_lower.proofs.TreeLoops.LoopNests.{loops_listed}
 use Rattle.sigma_lower.proofs.TreeLoops.Shaped.{IsShaped, IsShapedWork}
 use Rattle.sigma_lower.proofs.TreeLoops.TreePlaces.{good_places, tree_good_places}
 use Rattle.sigma_spl.specs.Good.{AreGoodPasses, IsGoodPass}
-use Rattle.sigma_spl.specs.Loops.{AreGoodLoops, IsGoodLoop}
-use Rattle.sigma_spl.specs.Merge.{unbounded, passes_within}
+use Rattle.sigma_spl.specs.Loops.{AreGoodLoops}
 use Rattle.sigma_spl.proofs.GoodLoops.{loops_are_good}
 use Rattle.sigma_lower.proofs.TreeLoops.SharedPasses.Framed.{passes_are_framed}
 use Rattle.sigma_lower.proofs.TreeSigmas.Hosted.{IsHosted}

@@ -7,13 +7,11 @@ use Rattle.sigma_lower.proofs.Words.{one_nest, most, PlainMultiplier, PlainNest,
 use Rattle.sigma_lower.proofs.Words.{target_of, PlainSigma, IsReadyLoop, PlainWork, kernel, smp_of, Layout, layout_of}
 use Rattle.sigma_lower.proofs.Words.{layout_size, Breakdown, IsWholeTree, vec_of, PlainFactor, CanLower, closed_phases}
 use Rattle.sigma_lower.proofs.Words.{phase_term, PlainPass, in_order, merged_of, merged_phases, loop_of, PlainTerm}
-use Rattle.sigma_lower.proofs.Words.{factor_term, lowered_of, terms_in}
-use Rattle.std.proofs.lemmas.List.Elements.{All-weaker}
-use Rattle.sigma_spl.specs.Shared.Owners.{all_passes, most_actions}
+use Rattle.sigma_lower.proofs.Words.{factor_term, lowered_of, terms_in, All-weaker, most_actions, factor_by, whole_of}
+use Rattle.sigma_lower.proofs.Words.{whole_sigma, closing_term}
+use Rattle.sigma_spl.specs.Shared.Owners.{all_passes}
 use Rattle.sigma_spl.specs.Shared.Ready.{diagonal_tables, passes_tables, work_tables}
 use Rattle.sigma_spl.specs.Trees.{CountsTree, IsFree, IsTreeSigma, loops_of_phases, phases_for}
-use Rattle.smp_rewrite.specs.LayoutSteps.Whole.{factor_by, whole_of}
-use Rattle.sigma_lower.specs.Merged.{whole_sigma, closing_term}
 use Rattle.sigma_lower.specs.TreeSigmas.{TreesAreSigmas}
 use Rattle.sigma_lower.proofs.HaveLoops.{phases_have_loops}
 use Rattle.sigma_lower.proofs.Closing.{close-is}

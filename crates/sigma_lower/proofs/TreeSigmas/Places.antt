@@ -6,7 +6,7 @@ use Rattle.sigma_lower.proofs.Words.{AreCounts, Fits, IsLimitedPass, all_simplif
 use Rattle.sigma_lower.proofs.Words.{constant, value, Target, IsHost, item_of, lane_step, values_of, loops_of, nest_of}
 use Rattle.sigma_lower.proofs.Words.{limits_in, multiplier_of, items_out, PlainMultiplier, load_place, store_place}
 use Rattle.sigma_lower.proofs.Words.{factor_at, factor_count, PlainWork, work_size, ranged, IsFramed, count_of, place}
-use Rattle.sigma_lower.proofs.Words.{AreInRange, inner_of}
+use Rattle.sigma_lower.proofs.Words.{AreInRange, inner_of, places_by, IsGoodLoop, vectors_of, sound-place_sum}
 use Rattle.sigma_lower.specs.TreeLoops.Merge.{diagonal_place}
 use Rattle.sigma_lower.proofs.TreeLoops.LineMoves.{number-fits}
 use Rattle.sigma_lower.proofs.TreeLoops.LoopItems.{counts-from, name-constant}
@@ -16,9 +16,7 @@ use Rattle.perm_algebra.proofs.AffineLaws.{value-le-top}
 use Rattle.sigma_spl.proofs.Nests.{alone}
 use Rattle.sigma_lower.proofs.TreeLoops.Shaped.{IsShaped, IsShapedWork}
 use Rattle.sigma_spl.specs.Shared.Running.{FindsFactors, HasResidues, MovesVectors}
-use Rattle.sigma_spl.specs.Loops.{places_by, IsGoodLoop}
-use Rattle.sigma_spl.specs.Work.{vectors_of}
-use Rattle.sigma_spl.proofs.Natural.{looped, place-alone, sound-place_sum}
+use Rattle.sigma_spl.proofs.Natural.{looped, place-alone}
 use Rattle.sigma_spl.proofs.Listed.{loops_have_places}
 use Rattle.sigma_lower.proofs.TreeSigmas.Frames.{range-of, named, values-named, IsShare, share-of, item-below}
 use Rattle.matrix_meaning.proofs.Requests.{power_below}

@@ -5,17 +5,11 @@ use Rattle.sigma_lower.proofs.Words.{place, size_under, Sum, constant, variable,
 use Rattle.sigma_lower.proofs.Words.{nest_of, items_out, PlainMultiplier, PlainNest, IsHost, IsReadyLoop, PlainWork}
 use Rattle.sigma_lower.proofs.Words.{rows, horner, copy, work_size, ranged, PlainPass, through, ◌*◌, loop_of, taken_of}
 use Rattle.sigma_lower.proofs.Words.{copies_of, size_under-copies, le-mul_of_pos_right, all_simplified, place_sum}
-use Rattle.sigma_lower.proofs.Words.{kernel, tile}
-use Rattle.std.proofs.Common.{slice_index_or}
-use Rattle.std.proofs.lemmas.List.{map-id}
-use Rattle.std.proofs.lemmas.List.Elements.{All-weaker}
-use Rattle.std.proofs.lemmas.Simd.{map-map}
+use Rattle.sigma_lower.proofs.Words.{kernel, tile, slice_index_or, map-id, All-weaker, map-map, NamesItems, AreFormed}
+use Rattle.sigma_lower.proofs.Words.{IsReadyMultiplier, IsReadyNest, LoadsAlike, CanRunNest}
 use Rattle.operators.specs.Sizes.{max_size}
-use Rattle.sigma_spl.specs.Good.{NamesItems}
-use Rattle.sigma_spl.specs.Loops.{AreFormed}
 use Rattle.sigma_spl.specs.Shared.Machine.{first_loop, loop_counts}
-use Rattle.sigma_spl.specs.Shared.Ready.{IsReadyMultiplier, IsReadyNest, LoadsAlike}
-use Rattle.sigma_spl.specs.Shared.Running.{CanRunNest, CanWork}
+use Rattle.sigma_spl.specs.Shared.Running.{CanWork}
 use Rattle.sigma_spl.proofs.Natural.{names-out, values-are, at-second}
 use Rattle.sigma_spl.proofs.Nests.{names-simplified, two_below, with_more}
 use Rattle.sigma_lower.proofs.TreeLoops.LoopItems.{diagonal-size}

@@ -2,12 +2,11 @@
 use Rattle.sigma_lower.proofs.Words.{◌≡◌, ℕ, List, [], ◌∷◌, map, refl, sym, ap, ap₂, ◌∙◌, Counted, whole_passes}
 use Rattle.sigma_lower.proofs.Words.{forward_by, forward_of, IsValid, Kind, Idft, Request, pass_cost, pass_loads}
 use Rattle.sigma_lower.proofs.Words.{Layout, layout_of, target_of, Breakdown, IsWholeTree, request_passes, merged_of}
-use Rattle.sigma_lower.proofs.Words.{PlainNest}
-use Rattle.sigma_lower.specs.TreeLoops.Laws.{counted_cost, counted_loads, AllCount, CountsAs, IsForwardTree}
+use Rattle.sigma_lower.proofs.Words.{PlainNest, counted_cost, counted_loads, AllCount, CountsAs, IsForwardTree}
+use Rattle.sigma_lower.proofs.Words.{RequestPass, cost_of_pass, loads_of_pass}
 use Rattle.sigma_lower.proofs.TreeLoops.LayoutCounts.{layouts_count}
 use Rattle.matrix_meaning.proofs.Requests.{forward_is_valid}
 use Rattle.smp_rewrite.proofs.LayoutSteps.Wholes.{forward_fits}
-use Rattle.tree_model.specs.WholePasses.{RequestPass, cost_of_pass, loads_of_pass}
 use Rattle.tree_model.proofs.WholeTrees.{forward_size}
 use Rattle.sigma_lower.proofs.TreeSigmas.Counting.{layout_costs, layout_loads}
 use Rattle.sigma_lower.proofs.TreeSigmas.Owned.{pass_nests}

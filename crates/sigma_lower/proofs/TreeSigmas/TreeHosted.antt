@@ -3,13 +3,9 @@ use Rattle.sigma_lower.proofs.Words.{◌≡◌, ℕ, ◌*◌, ◌≤◌, Bool, t
 use Rattle.sigma_lower.proofs.Words.{nat_le, nat_tests, CanLower, forward_of, IsValid, Kind, Dft, Wht, Idft, Request}
 use Rattle.sigma_lower.proofs.Words.{IsHost, kernel, Layout, work, by, layout_of, IsNodeTree, target_of, left_tree}
 use Rattle.sigma_lower.proofs.Words.{right_tree, Breakdown, leaf, node, AllowsLeaf, IsWholeTree, is_kernel, node_root}
-use Rattle.sigma_lower.proofs.Words.{trees_size, IsSmallWork}
+use Rattle.sigma_lower.proofs.Words.{trees_size, IsSmallWork, kernel-short, node_of, long_work, whole_of}
 use Rattle.sigma_lower.proofs.TreeLayouts.{trees_can_lower}
-use Rattle.kernel_gen.proofs.NodeCosts.{kernel-short}
 use Rattle.sigma_lower.proofs.TreeLoops.Shaped.{HasWorks}
-use Rattle.sigma_spl.specs.Work.{node_of}
-use Rattle.smp_rewrite.specs.LayoutSteps.Layout.{long_work}
-use Rattle.smp_rewrite.specs.LayoutSteps.Whole.{whole_of}
 use Rattle.tree_model.proofs.RootedTrees.{rooted_size}
 use Rattle.smp_rewrite.proofs.LayoutSteps.Wholes.{forward_tree}
 use Rattle.tree_model.specs.Breakdown.{size_of}

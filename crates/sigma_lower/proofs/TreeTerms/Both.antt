@@ -2,16 +2,13 @@
 use Rattle.sigma_lower.proofs.Words.{◌≡◌, ℕ, Bool, true, false, refl, sym, ap, ap₂, ◌∙◌, List, [], ◌∷◌, ◌++◌}
 use Rattle.sigma_lower.proofs.Words.{if◌then◌else◌, map, ◌==◌, flat_map, map-append, IsVecOf, PlainTerm, lowered}
 use Rattle.sigma_lower.proofs.Words.{factor_term, terms_in, lowered_of, factors_of, PlainStep, steps_of, Layout}
-use Rattle.sigma_lower.proofs.Words.{is_alone, Target, kept, vec_of, PlainVec, factor_step}
+use Rattle.sigma_lower.proofs.Words.{is_alone, Target, kept, vec_of, PlainVec, factor_step, cut, all_on, vec_steps}
+use Rattle.sigma_lower.proofs.Words.{one_proc, one_lane}
 use Rattle.sigma_lower.specs.TreeTerms.Term.{terms_on, phases_on}
 use Rattle.sigma_lower.proofs.TreeTerms.Goods.{vec_good, phases_good}
 use Rattle.sigma_lower.proofs.TreeTerms.Lowering.{factors_on}
-use Rattle.smp_rewrite.specs.Cut.{cut}
 use Rattle.smp_rewrite.proofs.Factors.{cut-factors}
-use Rattle.smp_rewrite.specs.LayoutSteps.Meaning.{all_on}
 use Rattle.smp_rewrite.proofs.LayoutSteps.StepMeanings.{all_on-append}
-use Rattle.vec_rewrite.specs.Vectors.{vec_steps}
-use Rattle.vec_rewrite.proofs.PlainSteps.{one_proc, one_lane}
 
 -- ---- one phase after the other
 

@@ -7,12 +7,12 @@ use Rattle.sigma_lower.proofs.Words.{step, steps_of, Blocks, Columns, Path, size
 use Rattle.sigma_lower.proofs.Words.{PlainWork, CanShareLayout, Layout, IsGoodLayout, only, Target, Grid, HasLanes}
 use Rattle.sigma_lower.proofs.Words.{kept, laned, laned_from, vec_of, PlainFactor, lanes, diagonals, move_before}
 use Rattle.sigma_lower.proofs.Words.{move_after, PlainVec, factor_step, vec_shaped, AreCoprime, IsGoodPiece, IsGoodCore}
-use Rattle.sigma_lower.proofs.Words.{IsGood, AreGood, IsVecOf, right_positive, chosen}
+use Rattle.sigma_lower.proofs.Words.{IsGood, AreGood, IsVecOf, right_positive, chosen, cut_factors, first_count, Deal}
+use Rattle.sigma_lower.proofs.Words.{settled, order_after, phase_of, vec_steps}
 use Rattle.std.proofs.lemmas.List.Elements.{All-append, All-take, All-drop}
-use Rattle.smp_rewrite.specs.Cut.{whole_factor, cut_factors, first_count}
-use Rattle.vec_rewrite.specs.declared.Deal.{Deal}
-use Rattle.vec_rewrite.specs.Turning.{settled, grouped, order_after, narrowed, block_factors, phase_of, deal_of}
-use Rattle.vec_rewrite.specs.Vectors.{tiles, vec_steps}
+use Rattle.smp_rewrite.specs.Cut.{whole_factor}
+use Rattle.vec_rewrite.specs.Turning.{grouped, narrowed, block_factors, deal_of}
+use Rattle.vec_rewrite.specs.Vectors.{tiles}
 use Rattle.sigma_lower.proofs.TreeTerms.Lowering.{good_steps}
 use Rattle.smp_rewrite.specs.Smp as smp
 

@@ -8,29 +8,27 @@ use Rattle.sigma_lower.proofs.Words.{trees_of, trees_size, Layout, work, by, lay
 use Rattle.sigma_lower.proofs.Words.{Target, core_size, step_on, PlainCore, piece, turns, twiddles, thomas_in}
 use Rattle.sigma_lower.proofs.Words.{thomas_out, PlainStep, rule_steps, steps_of, Blocks, Columns, Path, size_under}
 use Rattle.sigma_lower.proofs.Words.{under, place, size_under-push, Rule, Gt, Ct, PlainFactor, move_after, factor_step}
-use Rattle.sigma_lower.proofs.Words.{nest, lowered_core, factor_term, wrapped, unit_of}
+use Rattle.sigma_lower.proofs.Words.{nest, lowered_core, factor_term, wrapped, unit_of, stride_below, AreInverses}
+use Rattle.sigma_lower.proofs.Words.{inverse_of_s, inverse_of_r, inverses_of, PlainTrees, single, tensor, core_on}
+use Rattle.sigma_lower.proofs.Words.{all_on, under-size, after_core}
 use Rattle.std.proofs.Common.{mul-le-mul_right}
 use Rattle.std.proofs.Math.Nat.{zero-mod, mod-eq_of_lt}
 use Rattle.std.proofs.lemmas.Nat.{mul-mod_second}
 use Rattle.index_fn.specs.Mapping.{IsUnit}
 use Rattle.index_fn.proofs.Thomas.{thomas_out_undoes, unit_from}
 use Rattle.operators.specs.Loop.{scatter}
-use Rattle.operators.proofs.Places.{stride_below}
 use Rattle.operators.proofs.Scatters.{gather_as_scatter}
-use Rattle.ring_mod.proofs.Inverses.{AreInverses, inverse_of_s, inverse_of_r, inverses_of}
 use Rattle.tree_model.specs.KernelCosts.{CanMake}
-use Rattle.tree_model.specs.Trees.{PlainTrees, single, tensor, AreWords}
+use Rattle.tree_model.specs.Trees.{AreWords}
 use Rattle.smp_rewrite.specs.LayoutSteps.Layout.{IsGoodRule}
 use Rattle.smp_rewrite.proofs.Cores.{core-reads, core-gives}
-use Rattle.smp_rewrite.specs.LayoutSteps.Meaning.{core_on, all_on}
 use Rattle.tree_model.proofs.Sizes.{word_sizes, one_le_size_of}
 use Rattle.operators.specs.TensorPaths.Loop.{loop_on}
-use Rattle.operators.proofs.TensorPaths.Under.{under-size}
 use Rattle.operators.proofs.TensorPaths.PathLoops.{loop_is_under}
 use Rattle.tree_model.specs.Breakdown.{size_of}
 use Rattle.vec_rewrite.specs.Vectors.{tiles}
 use Rattle.kernel_gen.proofs.KernelSizes.{trees-positive}
-use Rattle.sigma_lower.specs.TreeTerms.Term.{after_core, term_on, terms_on, diagonal_at}
+use Rattle.sigma_lower.specs.TreeTerms.Term.{term_on, terms_on, diagonal_at}
 use Rattle.sigma_lower.proofs.TreeTerms.Permuted.{StaysBelow, gather-under, scale-under, wrapped-permutes}
 use Rattle.sigma_lower.proofs.TreeTerms.Sizes.{within_whole}
 -- ---- the steps of a layout are good: of the size of the whole, and with the factors that their permutations need

@@ -3,8 +3,7 @@ use Rattle.sigma_lower.proofs.Words.{◌≡◌, ℕ, ◌+◌, ◌*◌, ◌/◌, 
 use Rattle.sigma_lower.proofs.Words.{mod-lt, div-lt_iff_lt-mul, slice_index, div-add-mod', Mapping, at}
 use Rattle.sigma_lower.proofs.Words.{IsPermutationBelow, gather, scale, on_columns, on_blocks, column, at-list_below}
 use Rattle.sigma_lower.proofs.Words.{list_below-same, row-of, column-of, place_below, factor_positive, Blocks, Columns}
-use Rattle.sigma_lower.proofs.Words.{Path, size_under, under, wrapped, inner_of}
-use Rattle.operators.specs.Operator.{block}
+use Rattle.sigma_lower.proofs.Words.{Path, size_under, under, wrapped, inner_of, block}
 use Rattle.operators.proofs.Lists.{list_below-same_rows, on_columns-same, on_blocks-same}
 use Rattle.operators.proofs.Places.{column_at, block_at}
 

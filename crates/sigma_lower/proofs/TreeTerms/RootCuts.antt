@@ -5,13 +5,10 @@ use Rattle.sigma_lower.proofs.Words.{PlainCore, piece, turns, twiddles, thomas_i
 use Rattle.sigma_lower.proofs.Words.{Columns, Path, PlainWork, tile, Grid, kept, laned, laned_from, right_path}
 use Rattle.sigma_lower.proofs.Words.{left_path, whole_path, lines_moved, vectors_turned, turned_in, tiled_before}
 use Rattle.sigma_lower.proofs.Words.{tiled_after, left_core, PlainTerm, gath, scat, diag, nest, lowered_core}
-use Rattle.sigma_lower.proofs.Words.{factor_term, wrapped, unit_of, unequal}
-use Rattle.smp_rewrite.specs.Cut.{cut_factors}
-use Rattle.vec_rewrite.specs.declared.Deal.{Deal}
-use Rattle.vec_rewrite.specs.Turning.{settled, order_after}
+use Rattle.sigma_lower.proofs.Words.{factor_term, wrapped, unit_of, unequal, cut_factors, Deal, settled, order_after}
+use Rattle.sigma_lower.proofs.Words.{within-wide}
 use Rattle.sigma_lower.specs.TreeTerms.Root.{left_piece}
 use Rattle.sigma_lower.proofs.TreeTerms.Behind.{right-behind, left-behind, whole-behind, by-one}
-use Rattle.vec_rewrite.proofs.StepFollows.{within-wide}
 use Rattle.smp_rewrite.specs.Smp as smp
 
 -- What is left of a phase, where the words may lie in groups, begins with these terms. Steps of the right part leave the words in the groups, and all others in their own order.

@@ -8,15 +8,12 @@ use Rattle.sigma_lower.proofs.Words.{RuleHasParts, RootHasParts, CanShareLayout,
 use Rattle.sigma_lower.proofs.Words.{IsGoodLayout, is_alone, Target, Grid, kept, laned_from, vec_of, right_path}
 use Rattle.sigma_lower.proofs.Words.{turned_in, tiled_before, tiled_after, left_core, left_terms, right_terms}
 use Rattle.sigma_lower.proofs.Words.{root_terms, PlainTerm, diag, lowered, factor_term, terms_in, lowered_of, unequal}
+use Rattle.sigma_lower.proofs.Words.{flat_map-append, first_count, cut, IsDealt, is_dealt, phase_of, in_phases}
 use Rattle.std.proofs.Math.Nat.{mod-eq_of_lt}
 use Rattle.std.proofs.Math.Seq.{take-length, drop-length, take-append_seam, drop-append_seam}
-use Rattle.std.proofs.lemmas.Grind.{flat_map-append}
-use Rattle.smp_rewrite.specs.Cut.{is_left, right_count, first_count, cut}
-use Rattle.smp_rewrite.proofs.Dealt.{IsDealt, is_dealt}
+use Rattle.smp_rewrite.specs.Cut.{is_left, right_count}
 use Rattle.smp_rewrite.proofs.Factors.{rows_of}
 use Rattle.smp_rewrite.proofs.Moves.{one_line}
-use Rattle.vec_rewrite.specs.Turning.{phase_of}
-use Rattle.sigma_lower.specs.TreeTerms.Root.{in_phases}
 use Rattle.sigma_lower.proofs.TreeTerms.Behind.{behind, steps-behind, HasStep, has_step, by-one}
 use Rattle.sigma_lower.proofs.TreeTerms.RootCuts.{Cuts, Rows, deal, grid_of, kept_from, laned_terms, kept_cuts}
 use Rattle.sigma_lower.proofs.TreeTerms.RootCuts.{alone_cuts, among_cuts}

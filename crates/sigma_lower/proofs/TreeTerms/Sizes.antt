@@ -1,8 +1,8 @@
 -- Sizes of matrices under the tensors of a path, and the room that they need.
 use Rattle.sigma_lower.proofs.Words.{◌≡◌, ℕ, zero, suc, ◌*◌, ◌<◌, ◌≤◌, arith, sym, ap, ◌∙◌, [], ◌∷◌, mul_comm, zero-mul}
 use Rattle.sigma_lower.proofs.Words.{Blocks, Columns, Path, size_under, copies_of, size_under-copies, right_positive}
+use Rattle.sigma_lower.proofs.Words.{HasRoom}
 use Rattle.std.proofs.Math.Nat.{suc-mul}
-use Rattle.sigma_spl.specs.Room.{HasRoom}
 
 -- a part is at most the whole
 pub part-le : (q d n : ℕ) → q * d ≡ n → 1 ≤ n → d ≤ n

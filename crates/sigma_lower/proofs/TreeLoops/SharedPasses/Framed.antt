@@ -8,6 +8,7 @@ use Rattle.sigma_lower.proofs.Words.{left_core, left_terms, right_terms, root_te
 use Rattle.sigma_lower.proofs.Words.{lowered, PlainWork, tile, wrapped, unit_of, AllFramed, within, steps_of, Blocks}
 use Rattle.sigma_lower.proofs.Words.{Columns, Path, size_under, HasParts, RootHasParts, CanShareLayout, Layout, work}
 use Rattle.sigma_lower.proofs.Words.{by, layout_size, IsGoodLayout, IsGoodWork, chosen, is_alone, lane_step, is-one}
+use Rattle.sigma_lower.proofs.Words.{blocks-within, one_proc, one_lane}
 use Rattle.sigma_lower.proofs.TreeLoops.SharedPasses.Lanes.{HasStep, Laned, all-framed, laned-gath, laned-scat}
 use Rattle.sigma_lower.proofs.TreeLoops.SharedPasses.Lanes.{laned-diag, laned-nest, laned-weaken, single-step}
 use Rattle.sigma_lower.proofs.TreeLoops.SharedPasses.Lanes.{vectors-step}
@@ -21,9 +22,7 @@ use Rattle.sigma_lower.proofs.TreeTerms.Vectors.{KeepsVectors, HasVectors, singl
 use Rattle.sigma_lower.proofs.TreeTerms.Vectors.{vectors-blocks, vectors-columns, keeps-wrapped}
 use Rattle.sigma_lower.proofs.TreeTerms.Both.{plain_terms}
 use Rattle.sigma_lower.proofs.TreeTerms.RootTerms.{shared_terms, rule-fits, rule-shared}
-use Rattle.smp_rewrite.proofs.Tensors.{blocks-within}
 use Rattle.sigma_lower.proofs.TreeTerms.Behind.{within-append}
-use Rattle.vec_rewrite.proofs.PlainSteps.{one_proc, one_lane}
 
 -- ---- the law
 

@@ -3,9 +3,8 @@ use Rattle.sigma_lower.proofs.Words.{◌≡◌, ℕ, ◌+◌, ◌*◌, ◌<◌, 
 use Rattle.sigma_lower.proofs.Words.{◌∷◌, ◌++◌, if◌then◌else◌, subst, ◌==◌, Target, item_of, values_of, lane_step}
 use Rattle.sigma_lower.proofs.Words.{PlainWork, kernel, rows, tile, work_size, IsGoodWork, within, size-within, is-one}
 use Rattle.sigma_lower.proofs.Words.{Tensor, Blocks, Columns, Path, count_of, size_under, copies_of, place}
-use Rattle.sigma_lower.proofs.Words.{size_under-copies, AreBlocks}
-use Rattle.sigma_spl.specs.Shared.Machine.{if_several}
-use Rattle.sigma_lower.specs.TreeLoops.SharedPasses.Shared.{framed, HasLanes}
+use Rattle.sigma_lower.proofs.Words.{size_under-copies, AreBlocks, if_several, framed}
+use Rattle.sigma_lower.specs.TreeLoops.SharedPasses.Shared.{HasLanes}
 
 -- ---- a tensor that may be left out
 

@@ -2,12 +2,11 @@
 use Rattle.sigma_lower.proofs.Words.{◌≡◌, ℕ, ◌≤◌, arith, refl, sym, ap, ◌∙◌, List, [], ◌∷◌, ◌++◌, subst, Mapping, at}
 use Rattle.sigma_lower.proofs.Words.{Target, PlainPass, Merging, through, new_pass, scattered, multiplied, at_last}
 use Rattle.sigma_lower.proofs.Words.{gather_place, scatter_place, merge_term, gath, scat, diag, nest, PlainWork}
-use Rattle.sigma_lower.proofs.Words.{work_size, Path, place}
+use Rattle.sigma_lower.proofs.Words.{work_size, Path, place, IsOwner}
 use Rattle.sigma_lower.specs.TreeLoops.SharedPasses.Shared.{Owns, AllOwn, FirstOwns, AllShared, ArePhasesShared}
 use Rattle.sigma_lower.proofs.TreeLoops.PassLists.{AllPasses, all-append, all-last}
 use Rattle.sigma_lower.proofs.TreeLoops.TreePasses.{at_last-append}
 use Rattle.sigma_lower.proofs.TreeLoops.SharedPasses.Shares.{OwnsNatural}
-use Rattle.sigma_spl.specs.Shared.Owners.{IsOwner}
 use Rattle.sigma_lower.proofs.TreeLoops.PlaceValues.{through-end}
 
 -- ---- functions that keep the owner of a word

@@ -8,8 +8,7 @@ use Rattle.sigma_lower.proofs.Words.{lines_moved, vectors_turned, lines_dealt, l
 use Rattle.sigma_lower.proofs.Words.{root_terms, PlainTerm, gath, scat, nest, lowered, PlainWork, tile, work_size}
 use Rattle.sigma_lower.proofs.Words.{wrapped, unit_of, within, size-within, steps_of, Blocks, Columns, Path, size_under}
 use Rattle.sigma_lower.proofs.Words.{place, Rule, RuleHasParts, RootHasParts, CanShareLayout, Layout, work, by}
-use Rattle.sigma_lower.proofs.Words.{layout_size, IsGoodLayout, unequal}
-use Rattle.sigma_lower.specs.TreeTerms.Root.{in_phases}
+use Rattle.sigma_lower.proofs.Words.{layout_size, IsGoodLayout, unequal, in_phases, within-wide}
 use Rattle.sigma_lower.proofs.TreeTerms.Permuted.{StaysBelow}
 use Rattle.sigma_lower.specs.TreeLoops.SharedPasses.Shared.{ArePhasesShared}
 use Rattle.sigma_lower.proofs.TreeLoops.Emitted.{as_lowered, emitted, emitted-lowered}
@@ -25,7 +24,6 @@ use Rattle.sigma_lower.proofs.TreeLoops.SharedPasses.Shares.{block_owner, column
 use Rattle.sigma_lower.proofs.TreeLoops.SharedPasses.Shares.{OwnsNatural, block-natural, block-keeps, columns-keeps}
 use Rattle.sigma_lower.proofs.TreeLoops.SharedPasses.Shares.{both-columns, stays-in_column, dealt-owner}
 use Rattle.smp_rewrite.proofs.Dealt.{not_alone}
-use Rattle.vec_rewrite.proofs.StepFollows.{within-wide}
 use Rattle.sigma_lower.proofs.TreeTerms.RootTerms.{shared_terms, rule-fits, rule-shared}
 use Rattle.sigma_lower.proofs.TreeTerms.Behind.{within-append}
 use Rattle.sigma_lower.proofs.TreeTerms.Lowering.{turns_below}

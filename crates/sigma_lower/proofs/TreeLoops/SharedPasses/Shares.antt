@@ -3,15 +3,11 @@ use Rattle.sigma_lower.proofs.Words.{◌≡◌, ◌≢◌, ℕ, ◌+◌, ◌*◌
 use Rattle.sigma_lower.proofs.Words.{subst, mod-lt, div-lt_iff_lt-mul, ◌==◌, slice_index, div-add-mod', mul-div_right}
 use Rattle.sigma_lower.proofs.Words.{Mapping, at, Target, stride, row-of, column-of, place_below, factor_positive}
 use Rattle.sigma_lower.proofs.Words.{wrapped, chosen, within, Blocks, Columns, Path, size_under, place, AreInRange}
-use Rattle.sigma_lower.proofs.Words.{HasParts, CanShareLayout, Layout, is-one}
-use Rattle.std.proofs.Math.Nat.{div-div-eq-div-mul, div-one, mod-one, mul-mod_right}
+use Rattle.sigma_lower.proofs.Words.{HasParts, CanShareLayout, Layout, is-one, div-one, mod-one, IsDealt, is_dealt}
+use Rattle.sigma_lower.proofs.Words.{place-below, IsWide, wide_from, wide_part, IsOwner}
+use Rattle.std.proofs.Math.Nat.{div-div-eq-div-mul, mul-mod_right}
 use Rattle.sigma_lower.proofs.TreeTerms.Permuted.{StaysBelow, wrapped-below}
 use Rattle.sigma_lower.proofs.TreeTerms.Vectors.{apart}
-use Rattle.smp_rewrite.proofs.Dealt.{IsDealt, is_dealt}
-use Rattle.operators.proofs.TensorPaths.PathPlaces.{place-below}
-use Rattle.vec_rewrite.proofs.Following.{IsWide}
-use Rattle.vec_rewrite.proofs.StepFollows.{wide_from, wide_part}
-use Rattle.sigma_spl.specs.Shared.Owners.{IsOwner}
 
 -- several processors have equal shares of the rows and columns, each of whole lines and vectors
 pub record AreShares (c : Target) (r s : ℕ) : Type 0 where
