@@ -2,8 +2,8 @@
 use Rattle.sigma_lower.proofs.Words.{◌≡◌, ℕ, zero, suc, ◌*◌, ◌/◌, ◌^◌, ◌≤◌, arith, refl, sym, ap, ◌∙◌, [], ◌∷◌, ◌++◌}
 use Rattle.sigma_lower.proofs.Words.{inl, inr, subst, mul_comm, cases_lt, nat_tests, Strided, ThomasIn, ThomasOut, Dft}
 use Rattle.sigma_lower.proofs.Words.{HasNumbers, kernel, horner, short, one_more, halvings, hadamard_term, fourier_term}
-use Rattle.sigma_lower.proofs.Words.{term_of, wrapped, Formula, Identity, Fourier, Hadamard, Twiddles, Diagonal, Stride}
-use Rattle.sigma_lower.proofs.Words.{Permutation, GoodThomasIn, GoodThomasOut, Product, TensorLeft, TensorRight}
+use Rattle.sigma_lower.proofs.Words.{term_of, wrapped, Formula, Fourier, Hadamard, Stride}
+use Rattle.sigma_lower.proofs.Words.{GoodThomasIn, GoodThomasOut, Product, TensorLeft, TensorRight}
 use Rattle.sigma_lower.proofs.Words.{DirectSum, Pending, size_of, IsShaped, size_is_size, Blocks, Columns, Path}
 use Rattle.sigma_lower.proofs.Words.{size_under, lt-ltb, AreWords}
 use Rattle.sigma_spl.specs.Term.{nest}

@@ -34,12 +34,9 @@ module _ (c : Request) where
         (ap (λ y. if y then p.weight * c.size else 0) h.1);
     loads = h.0.loads;
   }
-  pass-counts p (works k w b) (trees.tiles d) like h = absurd h
-  pass-counts p (tiles b) (trees.nodes count t d) like h = absurd h
-  pass-counts p (tiles b) (trees.tiles d) like h = record {
-    operations = ap₂ (λ x y. if y then x * c.size else 0) (sym like.weight) h;
-    loads = refl;
-  }
+  pass-counts p (tiles b) (trees.tiles d) like h =
+      record { operations = ap₂ (λ x y. if y then x * c.size else 0) (sym like.weight) h; loads = refl }
+  pass-counts p _ _ like h = absurd h
 
   all-count : (p : Request) (zs : List Counted) (qs : List trees.Pass) → HasFields c p → ArePasses c.size p zs qs →
       AllCount c zs (map (pass_of p) qs)

@@ -75,13 +75,11 @@ module _ (size p v r s : ℕ) (h : AreShares size p v r s) where
   pub vectors_small : r / p / v * s ≤ 1048576
   vectors_small = let more : r / p / v * s ≤ r * s = mul-le-mul_right s rows_part in omega (arith, h.product, h.whole.high, more)
 
-  pub tiles_small : s / v * v ≤ 1048576
-  tiles_small =
-      let is : s / v * v ≡ s = mul_comm (s / v) v ∙ tiles_fill in
-      let more : 1 * s ≤ r * s = mul-le-mul_right s (omega (arith, h.left)) in omega (arith, is, more, h.product, h.whole.high)
-
   pub columns_high : s ≤ 1048576
   columns_high = let more : 1 * s ≤ r * s = mul-le-mul_right s (omega (arith, h.left)) in omega (arith, more, h.product, h.whole.high)
+
+  pub tiles_small : s / v * v ≤ 1048576
+  tiles_small = omega (arith, mul_comm (s / v) v ∙ tiles_fill, columns_high)
 
   pub rows_high : r ≤ 1048576
   rows_high = let more : r * 1 ≤ r * s = mul-le-mul_left r (omega (arith, h.right)) in omega (arith, more, h.product, h.whole.high)

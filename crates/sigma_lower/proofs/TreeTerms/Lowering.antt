@@ -84,21 +84,23 @@ good_steps m n path (by rule root a b) some high h e =
 pub units_of : (r s u : ℕ) → 0 < r → 0 < s → (s * u) % r ≡ 1 % r → IsUnit r s (unit_of r s)
 units_of r s u h g e = unit_from r s r (u % r) (omega arith) (omega arith) (mod-lt u h) (mul-mod_second s u r ∙ e)
 
+pub both_units : (r s : ℕ) → AreCoprime r s → IsUnit r s (unit_of r s) × IsUnit s r (unit_of s r)
+both_units r s h = from_inverses (inverses_of r s h.left h.gcd)
+  where
+    from_inverses : (u : ℕ) × (v : ℕ) × AreInverses r s u v → IsUnit r s (unit_of r s) × IsUnit s r (unit_of s r)
+    from_inverses (u, v, both) = (units_of r s u h.left h.right (inverse_of_s r s u v both), units_of s r v h.right h.left (inverse_of_r r s u v both))
+
 pub thomas_permutes : (r s : ℕ) → AreCoprime r s → IsPermutationBelow (r * s) (at (ThomasOut r s))
     (at (ThomasBack r s (unit_of r s) (unit_of s r)))
-thomas_permutes r s h = from_inverses (inverses_of r s h.left h.gcd)
-  where
-    from_inverses : (u : ℕ) × (v : ℕ) × AreInverses r s u v →
-        IsPermutationBelow (r * s) (at (ThomasOut r s)) (at (ThomasBack r s (unit_of r s) (unit_of s r)))
-    from_inverses (u, v, both) =
-        let undoes = thomas_out_undoes r s (unit_of r s) (unit_of s r) (omega (arith, h.left)) (omega (arith, h.right)) (omega (arith, h.small))
-        (units_of r s u h.left h.right (inverse_of_s r s u v both)) (units_of s r v h.right h.left (inverse_of_r r s u v both)) in
-        record {
-          there_below = λ i below. place_below (i % r) (i % s) r s (mod-lt i h.left) (mod-lt i h.right);
-          back_below = undoes.permutes.below;
-          back-there = undoes.undoes;
-          there-back = undoes.undone;
-        }
+thomas_permutes r s h =
+    let units = both_units r s h in
+    let undoes = thomas_out_undoes r s (unit_of r s) (unit_of s r) (omega (arith, h.left)) (omega (arith, h.right)) (omega (arith, h.small)) units.0 units.1 in
+    record {
+      there_below = λ i below. place_below (i % r) (i % s) r s (mod-lt i h.left) (mod-lt i h.right);
+      back_below = undoes.permutes.below;
+      back-there = undoes.undoes;
+      there-back = undoes.undone;
+    }
 
 -- a unit of a size that is at least 2 is not 0
 one-positive : (r e : ℕ) → 2 ≤ r → e % r ≡ 1 % r → 0 < e
@@ -108,27 +110,14 @@ one-positive r zero h e =
 one-positive r (suc e) h _ = omega arith
 
 pub unit_positive : (r s : ℕ) → AreCoprime r s → 2 ≤ r → 2 ≤ s → (0 < unit_of r s) × (0 < unit_of s r)
-unit_positive r s h two_r two_s = from_inverses (inverses_of r s h.left h.gcd)
-  where
-    from_inverses : (u : ℕ) × (v : ℕ) × AreInverses r s u v → (0 < unit_of r s) × (0 < unit_of s r)
-    from_inverses (u, v, both) =
-        let a = units_of r s u h.left h.right (inverse_of_s r s u v both) in
-        let b = units_of s r v h.right h.left (inverse_of_r r s u v both) in
-        (one-positive r (unit_of r s) two_r a.one, one-positive s (unit_of s r) two_s b.one)
-
-pub both_units : (r s : ℕ) → AreCoprime r s → IsUnit r s (unit_of r s) × IsUnit s r (unit_of s r)
-both_units r s h = from_inverses (inverses_of r s h.left h.gcd)
-  where
-    from_inverses : (u : ℕ) × (v : ℕ) × AreInverses r s u v → IsUnit r s (unit_of r s) × IsUnit s r (unit_of s r)
-    from_inverses (u, v, both) = (units_of r s u h.left h.right (inverse_of_s r s u v both), units_of s r v h.right h.left (inverse_of_r r s u v both))
+unit_positive r s h two_r two_s =
+    let units = both_units r s h in
+    (one-positive r (unit_of r s) two_r units.0.one, one-positive s (unit_of s r) two_s units.1.one)
 
 pub unit_small : (r s : ℕ) → AreCoprime r s → (unit_of r s < r * s) × (unit_of s r < r * s)
-unit_small r s h = from_inverses (inverses_of r s h.left h.gcd)
-  where
-    from_inverses : (u : ℕ) × (v : ℕ) × AreInverses r s u v → (unit_of r s < r * s) × (unit_of s r < r * s)
-    from_inverses (u, v, both) =
-        let a = units_of r s u h.left h.right (inverse_of_s r s u v both) in
-        let b = units_of s r v h.right h.left (inverse_of_r r s u v both) in (a.below, subst (λ n. unit_of s r < n) (mul_comm s r) b.below)
+unit_small r s h =
+    let units = both_units r s h in
+    (units.0.below, subst (λ n. unit_of s r < n) (mul_comm s r) units.1.below)
 
 -- ---- each term
 
