@@ -7,8 +7,8 @@ use Rattle.sigma_lower.proofs.Words.{merge_term, merged, passes_of_terms, in_ord
 use Rattle.sigma_lower.proofs.Words.{IsGoodCore, IsGood, AreGood, factor_term, lowered_of, wrapped, layout_smp, within}
 use Rattle.sigma_lower.proofs.Words.{core_size, PlainCore, piece, turns, thomas_in, thomas_out, PlainStep, step}
 use Rattle.sigma_lower.proofs.Words.{CanShareLayout, Layout, IsGoodLayout, only, Target, Columns, Path, size_under}
-use Rattle.sigma_lower.proofs.Words.{vec_of, PlainFactor, move_after, factor_step, lt-ltb, HasSeveral}
-use Rattle.sigma_lower.proofs.Words.{AllCanMerge, AreWords, IsGoodWhole}
+use Rattle.sigma_lower.proofs.Words.{vec_of, PlainFactor, move_after, factor_step, lt-ltb, HasSeveral, AllCanMerge}
+use Rattle.sigma_lower.proofs.Words.{AreWords, IsGoodWhole}
 use Rattle.sigma_spl.specs.Limits.{HasRows}
 use Rattle.sigma_spl.specs.Term.{scat}
 use Rattle.sigma_spl.specs.Work.{HasWords}

@@ -1,6 +1,6 @@
 -- The operations of the term of a formula.
-use Rattle.sigma_lower.proofs.Words.{◌≡◌, ℕ, zero, suc, ◌+◌, ◌-◌, ◌*◌, ◌^◌, ◌<◌, arith, refl, sym, ap, ap₂, ◌∙◌, []}
-use Rattle.sigma_lower.proofs.Words.{◌∷◌, ◌++◌, length, inl, inr, pow-succ', cases_eq, cases_lt, nat_tests, Wht}
+use Rattle.sigma_lower.proofs.Words.{chosen, is-one, ◌==◌, ◌≡◌, ℕ, zero, suc, ◌+◌, ◌-◌, ◌*◌, ◌^◌, ◌<◌, arith, refl, sym}
+use Rattle.sigma_lower.proofs.Words.{ap, ap₂, ◌∙◌, [], ◌∷◌, ◌++◌, length, inl, inr, pow-succ', cases_lt, nat_tests, Wht}
 use Rattle.sigma_lower.proofs.Words.{IsPowerOfTwo, work_cost, operations, one_more, halvings, hadamard_term}
 use Rattle.sigma_lower.proofs.Words.{fourier_term, term_of, Formula, Fourier, Hadamard, Twiddles, Diagonal, Product}
 use Rattle.sigma_lower.proofs.Words.{TensorLeft, TensorRight, DirectSum, Pending, size_of, IsShaped, Tensor, Blocks}
@@ -12,10 +12,8 @@ use Rattle.sigma_lower.proofs.Parts.{size-more}
 
 copies-more : (path : Path) (t : Tensor) → copies_of (one_more path t) ≡ copies_of path * count_of t
 copies-more path t =
-    elim (cases_eq (count_of t) 1) [
-      | inl one ↦ let is : one_more path t ≡ path = grind (arith, nat_tests) in ap copies_of is ∙ omega (arith, ap (λ c. copies_of path * c) one)
-      | inr several ↦ let is : one_more path t ≡ path ++ t ∷ [] = grind (arith, nat_tests) in ap copies_of is ∙ copies_of-push path t
-    ]
+    chosen (λ p. copies_of p ≡ copies_of path * count_of t) (count_of t == 1) path (path ++ t ∷ [])
+    (λ one. omega (arith, ap (λ c. copies_of path * c) (is-one (count_of t) one))) (copies_of-push path t)
 
 -- ---- WHT
 
