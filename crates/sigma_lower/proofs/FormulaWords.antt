@@ -1,4 +1,5 @@
 -- The numbers of a formula's term are words.
+use Rattle.sigma_lower.proofs.Words.{chosen, nat_le}
 use Rattle.sigma_lower.proofs.Words.{◌≡◌, ℕ, zero, suc, ◌*◌, ◌/◌, ◌^◌, ◌≤◌, arith, refl, sym, ap, ◌∙◌, [], ◌∷◌, ◌++◌}
 use Rattle.sigma_lower.proofs.Words.{inl, inr, subst, mul_comm, cases_lt, nat_tests, Strided, ThomasIn, ThomasOut, Dft}
 use Rattle.sigma_lower.proofs.Words.{HasNumbers, kernel, horner, short, one_more, halvings, hadamard_term, fourier_term}
@@ -18,10 +19,8 @@ hadamard-words n path (suc k) = (hadamard-words n (path ++ Blocks 2 ∷ []) k, o
 
 fourier-words : (size : ℕ) (path : Path) (n w : ℕ) → n ≤ 1048576 → AreWords size (fourier_term path n w)
 fourier-words size path n w low =
-    elim (cases_lt 8 n) [
-      | inl long ↦ let is : fourier_term path n w ≡ nest path (horner w n) = grind (arith, nat_tests) in subst (AreWords size) (sym is) tt
-      | inr few ↦ let is : fourier_term path n w ≡ nest path (kernel (short Dft w n)) = grind (arith, nat_tests) in subst (AreWords size) (sym is) (omega (arith, low))
-    ]
+    chosen (AreWords size) (nat_le n 8) (nest path (kernel (short Dft w n))) (nest path (horner w n))
+    (λ few. omega (arith, low)) tt
 
 pub term-words : (m : ℕ) (path : Path) (f : Formula) → size_under path (size_of f) ≤ 1048576 → IsShaped f →
     AreWords (size_under path (size_of f)) (term_of m path f)

@@ -1,16 +1,16 @@
 -- The term of a formula does what the formula does.
-use Rattle.sigma_lower.proofs.Words.{◌≡◌, ℕ, zero, suc, ◌+◌, ◌*◌, ◌-◌, ◌/◌, ◌%◌, ◌<◌, ◌≤◌, ◌^◌, arith, refl, sym, ap}
-use Rattle.sigma_lower.proofs.Words.{ap₂, ◌∙◌, List, [], ◌∷◌, ◌++◌, length, inl, inr, subst, mod-lt, take, drop}
-use Rattle.sigma_lower.proofs.Words.{mul_comm, map, slice_index, if◌then◌else◌, pow-succ', cases_lt, nat_tests}
-use Rattle.sigma_lower.proofs.Words.{length-map, fill_by_all, Mapping, Strided, ThomasIn, ThomasOut, at, Kind, Dft, Wht}
-use Rattle.sigma_lower.proofs.Words.{transform, IsPowerOfTwo, gather, scale, on_blocks, on_columns, stride}
-use Rattle.sigma_lower.proofs.Words.{list_below-same, IsMove, IsGoodTerm, IsVector, term_on, kernel, horner, short}
-use Rattle.sigma_lower.proofs.Words.{vector-below, one_more, halvings, hadamard_term, fourier_term, term_of, wrapped}
-use Rattle.sigma_lower.proofs.Words.{Formula, Identity, Fourier, Hadamard, Twiddles, Diagonal, Stride, Permutation}
-use Rattle.sigma_lower.proofs.Words.{GoodThomasIn, GoodThomasOut, Product, TensorLeft, TensorRight, DirectSum, Pending}
-use Rattle.sigma_lower.proofs.Words.{size_of, IsShaped, shaped_size, Blocks, Columns, Path, size_under, under}
-use Rattle.sigma_lower.proofs.Words.{size_under-push, mod-eq_of_lt, length-append, nat_lt, entry_of, Operator}
-use Rattle.sigma_lower.proofs.Words.{list_below, under-vector, vector-fill, apply, under-push}
+use Rattle.sigma_lower.proofs.Words.{chosen, nat_le, ◌≡◌, ℕ, zero, suc, ◌+◌, ◌*◌, ◌-◌, ◌/◌, ◌%◌, ◌<◌, ◌≤◌, ◌^◌, arith}
+use Rattle.sigma_lower.proofs.Words.{refl, sym, ap, ap₂, ◌∙◌, List, [], ◌∷◌, ◌++◌, length, inl, inr, subst, mod-lt}
+use Rattle.sigma_lower.proofs.Words.{take, drop, mul_comm, map, slice_index, if◌then◌else◌, pow-succ', cases_lt}
+use Rattle.sigma_lower.proofs.Words.{nat_tests, length-map, fill_by_all, Mapping, Strided, ThomasIn, ThomasOut, at}
+use Rattle.sigma_lower.proofs.Words.{Kind, Dft, Wht, transform, IsPowerOfTwo, gather, scale, on_blocks, on_columns}
+use Rattle.sigma_lower.proofs.Words.{stride, list_below-same, IsMove, IsGoodTerm, IsVector, term_on, kernel, horner}
+use Rattle.sigma_lower.proofs.Words.{short, vector-below, one_more, halvings, hadamard_term, fourier_term, term_of}
+use Rattle.sigma_lower.proofs.Words.{wrapped, Formula, Identity, Fourier, Hadamard, Twiddles, Diagonal, Stride}
+use Rattle.sigma_lower.proofs.Words.{Permutation, GoodThomasIn, GoodThomasOut, Product, TensorLeft, TensorRight}
+use Rattle.sigma_lower.proofs.Words.{DirectSum, Pending, size_of, IsShaped, shaped_size, Blocks, Columns, Path}
+use Rattle.sigma_lower.proofs.Words.{size_under, under, size_under-push, mod-eq_of_lt, length-append, nat_lt, entry_of}
+use Rattle.sigma_lower.proofs.Words.{Operator, list_below, under-vector, vector-fill, apply, under-push}
 use Rattle.std.proofs.Common.{length-drop}
 use Rattle.std.specs.Int.{IsGcd}
 use Rattle.std.proofs.Math.Pow.{pow_pos}
@@ -138,14 +138,10 @@ sum-on m k l a b x v p q =
 fourier-lowers : (m : ℕ) (path : Path) (n w : ℕ) → Lowers m (size_under path n) (fourier_term path n w)
     (under path n (transform Dft m n w))
 fourier-lowers m path n w =
-    elim (cases_lt 8 n) [
-      | inl long ↦
-          let is : fourier_term path n w ≡ nest path (horner w n) = grind (arith, nat_tests) in
-          subst (λ t. Lowers m (size_under path n) t (under path n (transform Dft m n w))) (sym is) (nest-lowers m path (horner w n) tt (transform-work Dft m n w))
-      | inr few ↦
-          let is : fourier_term path n w ≡ nest path (kernel (short Dft w n)) = grind (arith, nat_tests) in
-          subst (λ t. Lowers m (size_under path n) t (under path n (transform Dft m n w))) (sym is) (nest-lowers m path (kernel (short Dft w n)) tt (transform-work Dft m n w))
-    ]
+    chosen (λ t. Lowers m (size_under path n) t (under path n (transform Dft m n w))) (nat_le n 8)
+    (nest path (kernel (short Dft w n))) (nest path (horner w n))
+    (λ few. nest-lowers m path (kernel (short Dft w n)) tt (transform-work Dft m n w))
+    (nest-lowers m path (horner w n) tt (transform-work Dft m n w))
 
 -- a diagonal's values count modulo m
 residues-scale : (m : ℕ) (c y : List ℕ) → scale m (length c) (slice_index (map (λ v. v % m) c)) y ≡ scale m (length c)

@@ -1,8 +1,8 @@
 -- Where scaled, joined and divided sums fit 64 bits.
-use Rattle.sigma_lower.proofs.Words.{ℕ, ◌+◌, ◌-◌, ◌*◌, ◌/◌, ◌%◌, ◌^◌, ◌<◌, ◌≤◌, inl, inr, arith, sym, ◌∙◌, subst}
-use Rattle.sigma_lower.proofs.Words.{le-mul_of_pos_right, mul-le-mul_right, cases_eq, nat_tests, IsProper, Sum}
-use Rattle.sigma_lower.proofs.Words.{constant, variable, remainder, quotient, top, scaled, joined, mods, ◌≡◌, CanJoin}
-use Rattle.sigma_lower.proofs.Words.{HasRoomFor, Mapping, simplified, Divided, divided-joined, top-scaled, Paired}
+use Rattle.sigma_lower.proofs.Words.{chosen, ◌==◌, ℕ, ◌+◌, ◌-◌, ◌*◌, ◌/◌, ◌%◌, ◌^◌, ◌<◌, ◌≤◌, arith, sym, ◌∙◌, subst}
+use Rattle.sigma_lower.proofs.Words.{le-mul_of_pos_right, mul-le-mul_right, IsProper, Sum, constant, variable}
+use Rattle.sigma_lower.proofs.Words.{remainder, quotient, top, scaled, joined, mods, ◌≡◌, CanJoin, HasRoomFor, Mapping}
+use Rattle.sigma_lower.proofs.Words.{simplified, Divided, divided-joined, top-scaled, Paired}
 use Rattle.perm_algebra.specs.Room.{CanScale, constant_of, HasTop, CanDivide}
 use Rattle.std.proofs.Math.Nat.{mul-le-mul_left, mod-le}
 use Rattle.perm_algebra.specs.Affine.{peak}
@@ -65,17 +65,13 @@ factor-le f n x = mul-le-mul_right x (mod-le f n)
 pub top-mods : (n : ℕ) (e : Sum) (cs : ℕ → ℕ) → top (mods n e) cs ≤ top e cs
 top-mods n (constant c) cs = mod-le c n
 top-mods n (variable f d rest) cs =
-    elim (cases_eq (f % n) 0) [
-      | inl gone ↦ grind (arith, nat_tests, top-mods n rest cs)
-      | inr other ↦ grind (arith, nat_tests, factor-le f n (cs d - 1), top-mods n rest cs)
-    ]
+    chosen (λ e. top e cs ≤ top (variable f d rest) cs) (f % n == 0) (mods n rest) (variable (f % n) d (mods n rest))
+    (λ gone. omega (arith, top-mods n rest cs)) (omega (arith, factor-le f n (cs d - 1), top-mods n rest cs))
 top-mods n (remainder f of m rest) cs =
-    elim (cases_eq (f % n) 0) [
-      | inl gone ↦ grind (arith, nat_tests, top-mods n rest cs)
-      | inr other ↦ grind (arith, nat_tests, factor-le f n (m - 1), top-mods n rest cs)
-    ]
+    chosen (λ e. top e cs ≤ top (remainder f of m rest) cs) (f % n == 0) (mods n rest)
+    (remainder (f % n) of m (mods n rest)) (λ gone. omega (arith, top-mods n rest cs))
+    (omega (arith, factor-le f n (m - 1), top-mods n rest cs))
 top-mods n (quotient f of m rest) cs =
-    elim (cases_eq (f % n) 0) [
-      | inl gone ↦ grind (arith, nat_tests, top-mods n rest cs)
-      | inr other ↦ grind (arith, nat_tests, factor-le f n (top of cs / m), top-mods n rest cs)
-    ]
+    chosen (λ e. top e cs ≤ top (quotient f of m rest) cs) (f % n == 0) (mods n rest)
+    (quotient (f % n) of m (mods n rest)) (λ gone. omega (arith, top-mods n rest cs))
+    (omega (arith, factor-le f n (top of cs / m), top-mods n rest cs))

@@ -1,9 +1,9 @@
 -- Sums whose remainders are of small numbers, in few parts.
-use Rattle.sigma_lower.proofs.Words.{◌≡◌, ℕ, suc, ◌+◌, ◌-◌, ◌*◌, ◌%◌, ◌^◌, ◌<◌, ◌≤◌, true, inl, inr, arith, sym, subst}
-use Rattle.sigma_lower.proofs.Words.{le-mul_of_pos_right, pow-succ', mul-le-mul, pow_mono, cases_eq, cases_lt, and_from}
-use Rattle.sigma_lower.proofs.Words.{nat_tests, IsProper, Sum, constant, variable, remainder, quotient, top, scaled}
-use Rattle.sigma_lower.proofs.Words.{joined, mods, Fits, pow-add, is_limited, parts, reduced, mods-proper, parts-scaled}
-use Rattle.sigma_lower.proofs.Words.{parts-joined, IsTame}
+use Rattle.sigma_lower.proofs.Words.{chosen, ◌==◌, ◌≡◌, ℕ, suc, ◌+◌, ◌-◌, ◌*◌, ◌%◌, ◌^◌, ◌<◌, ◌≤◌, true, inl, inr}
+use Rattle.sigma_lower.proofs.Words.{arith, sym, subst, le-mul_of_pos_right, pow-succ', mul-le-mul, pow_mono, cases_lt}
+use Rattle.sigma_lower.proofs.Words.{and_from, nat_tests, IsProper, Sum, constant, variable, remainder, quotient, top}
+use Rattle.sigma_lower.proofs.Words.{scaled, joined, mods, Fits, pow-add, is_limited, parts, reduced, mods-proper}
+use Rattle.sigma_lower.proofs.Words.{parts-scaled, parts-joined, IsTame}
 use Rattle.sigma_spl.specs.Merge.{total, are_small}
 use Rattle.sigma_spl.proofs.Small.{divided-true}
 use Rattle.sigma_spl.proofs.Within.{limited, small-true}
@@ -39,15 +39,11 @@ tame-joined cs (quotient f of m rest) e h g = absurd h
 tame-mods : (cs : ℕ → ℕ) (n : ℕ) (e : Sum) → IsTame cs e → IsTame cs (mods n e)
 tame-mods cs n (constant c) h = tt
 tame-mods cs n (variable f d rest) h =
-    elim (cases_eq (f % n) 0) [
-      | inl gone ↦ grind (arith, nat_tests, tame-mods cs n rest h)
-      | inr other ↦ grind (arith, nat_tests, tame-mods cs n rest h)
-    ]
+    let more = tame-mods cs n rest h in
+    chosen (IsTame cs) (f % n == 0) (mods n rest) (variable (f % n) d (mods n rest)) (λ gone. more) more
 tame-mods cs n (remainder f of m rest) h =
-    elim (cases_eq (f % n) 0) [
-      | inl gone ↦ grind (arith, nat_tests, tame-mods cs n rest h.1)
-      | inr other ↦ grind (arith, nat_tests, h.0, tame-mods cs n rest h.1)
-    ]
+    let more = tame-mods cs n rest h.1 in
+    chosen (IsTame cs) (f % n == 0) (mods n rest) (remainder (f % n) of m (mods n rest)) (λ gone. more) (h.0, more)
 tame-mods cs n (quotient f of m rest) h = absurd h
 
 -- ---- small numbers
